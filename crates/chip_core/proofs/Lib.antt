@@ -1,0 +1,4 @@
+pub mod Greatest
+pub mod Numbers
+pub mod Places
+pub mod RegisterBits

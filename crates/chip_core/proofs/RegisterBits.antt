@@ -1,0 +1,87 @@
+-- The bits of shift registers, and sums modulo 2 of them.
+use Rattle.std.proofs.Common.{◌≡◌, ℕ, zero, suc, ◌+◌, ◌-◌, ◌*◌, ◌/◌, ◌%◌, ◌^◌, ◌<◌, Bool, true, false, not, List, [], ◌∷◌, ◌++◌, length, get_or, map, drop, refl, sym, ap, ◌∙◌, arith, bit_and, nat_eq, add-one}
+use Rattle.std.proofs.lemmas.List.{at_drop_more, get_or_append_left, get_or_push, length_push}
+use Rattle.std.proofs.lemmas.Nat.{and_mask, field_of, shr-shr}
+use Rattle.std.proofs.Math.Pow.{mod-mod-pow}
+use mathlib.Core.Bool.{beq}
+use Rattle.chip_core.specs.Bits.{xor, parity, digit, bit_of, binary}
+
+pub xor_false : (a : Bool) → xor a false ≡ a
+xor_false true = refl
+xor_false false = refl
+
+-- the code's `!=`, one bit further
+pub xor_step : (a b c : Bool) → xor (not (beq a b)) c ≡ xor a (xor b c)
+xor_step true true true = refl
+xor_step true true false = refl
+xor_step true false true = refl
+xor_step true false false = refl
+xor_step false true true = refl
+xor_step false true false = refl
+xor_step false false true = refl
+xor_step false false false = refl
+
+-- the step of a loop over the places
+pub parity_more : (n : ℕ) (sum : Bool) (at : List ℕ) (i : ℕ) → i < length at →
+    xor (not (beq sum (nat_eq (bit_and (n / 2 ^ get_or at i 0) 1) 1))) (parity (map (bit_of n) (drop (i + 1) at)))
+    ≡ xor sum (parity (map (bit_of n) (drop i at)))
+parity_more n sum at i h =
+    let bit = bit_of n (get_or at i 0) in
+    let rest = parity (map (bit_of n) (drop (i + 1) at)) in
+    let split : xor sum (parity (map (bit_of n) (drop i at))) ≡ xor sum (xor bit rest) =
+    at_drop_more (λ (ys : List ℕ). xor sum (parity (map (bit_of n) ys))) at i 0 h in
+    let read : nat_eq (bit_and (n / 2 ^ get_or at i 0) 1) 1 ≡ bit = ap (λ b. nat_eq b 1) (and_mask (n / 2 ^ get_or at i 0) 1) in
+    rw read (xor_step sum bit rest ∙ sym split)
+
+-- bit k of the low w bits
+pub low_bit : (n w k : ℕ) → k < w → bit_of (n % 2 ^ w) k ≡ bit_of n k
+low_bit n w k h =
+    let parts : w - k - 1 + 1 + k ≡ w = omega arith in
+    let e : n % 2 ^ (w - k - 1 + 1 + k) / 2 ^ k ≡ n / 2 ^ k % 2 ^ (w - k - 1 + 1) = field_of n (w - k - 1 + 1) k in
+    let f : n / 2 ^ k % 2 ^ (w - k - 1 + 1) % 2 ≡ n / 2 ^ k % 2 = mod-mod-pow (n / 2 ^ k) (w - k - 1) 1 in
+    let g : n % 2 ^ w / 2 ^ k % 2 ≡ n / 2 ^ k % 2 ^ (w - k - 1 + 1) % 2 = (rw parts at (ap (λ m. m % 2) e)) in
+    ap (λ m. nat_eq m 1) (g ∙ f)
+
+-- the bits of a register with one more bit at its low end
+pub bit_of-first : (r : ℕ) (b : Bool) → bit_of (2 * r + digit b) 0 ≡ b
+bit_of-first r true = let e : (2 * r + 1) / 2 ^ 0 % 2 ≡ 1 = omega arith in ap (λ n. nat_eq n 1) e
+bit_of-first r false = let e : (2 * r + 0) / 2 ^ 0 % 2 ≡ 0 = omega arith in ap (λ n. nat_eq n 1) e
+
+halved : (r : ℕ) (b : Bool) → (2 * r + digit b) / 2 ≡ r
+halved r true = omega arith
+halved r false = omega arith
+
+pub bit_of-half : (n k : ℕ) → bit_of n (suc k) ≡ bit_of (n / 2) k
+bit_of-half n k =
+    let place : suc k ≡ 1 + k = omega arith in
+    ap (λ m. nat_eq (m % 2) 1) (ap (λ e. n / 2 ^ e) place ∙ sym (shr-shr n 1 k))
+
+pub bit_of-next : (r : ℕ) (b : Bool) (k : ℕ) → bit_of (2 * r + digit b) (suc k) ≡ bit_of r k
+bit_of-next r b k = bit_of-half (2 * r + digit b) k ∙ ap (λ m. bit_of m k) (halved r b)
+
+-- the clauses of `binary`, which unfolds nowhere else
+pub binary-none : (n : ℕ) → binary 0 n ≡ []
+unfolding binary
+binary-none n = refl
+
+pub binary-more : (w n : ℕ) → binary (w + 1) n ≡ binary w (n / 2) ++ bit_of n 0 ∷ []
+unfolding binary
+binary-more w n = let whole : n / 2 ^ 0 ≡ n = omega arith in rw (add-one w, whole)
+
+pub length-binary : (w n : ℕ) → length (binary w n) ≡ w
+unfolding binary
+length-binary zero n = refl
+length-binary (suc w) n = length_push (binary w (n / 2)) _ ∙ omega (arith, length-binary w (n / 2))
+
+-- the digits of a number, the highest first
+pub get_or-binary : (w n k : ℕ) → k < w → get_or (binary w n) (w - 1 - k) false ≡ bit_of n k
+unfolding binary
+get_or-binary zero n k h = absurd (omega (arith, h))
+get_or-binary (suc w) n zero h =
+    let place : suc w - 1 - 0 ≡ w = omega arith in
+    let whole : n / 2 ^ 0 ≡ n = omega arith in
+    rw (place, whole) (get_or_push (binary w (n / 2)) (nat_eq (n % 2) 1) false w (length-binary w (n / 2)))
+get_or-binary (suc w) n (suc k) h =
+    let place : suc w - 1 - suc k ≡ w - 1 - k = omega arith in
+    let within : w - 1 - k < length (binary w (n / 2)) = omega (arith, h, length-binary w (n / 2)) in
+    rw place (get_or_append_left (binary w (n / 2)) _ false (w - 1 - k) within ∙ get_or-binary w (n / 2) k (omega (arith, h)) ∙ sym (bit_of-half n k))

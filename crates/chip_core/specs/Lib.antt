@@ -1,0 +1,4 @@
+pub mod Bits
+pub mod Complex
+pub mod Polynomial
+pub mod Sums

@@ -1,0 +1,12 @@
+//! How check bits are sent.
+
+/// Whether the check bits of messages are sent as they are computed, or each of them inverted.
+///
+/// A sample file tells the form of its 30-bit and of its 16-bit checks.
+#[derive(Clone, Copy, PartialEq, Eq, Debug)]
+pub enum CheckForm {
+    /// The remainder as it stands.
+    Plain,
+    /// Every bit of the remainder inverted.
+    Complemented,
+}

@@ -1,0 +1,16 @@
+//! What every layer of the forward link speaks of: samples, code phases and bits.
+#![tactic(auto)]
+
+mod bit_list;
+mod check_form;
+mod memory;
+mod parities;
+mod phase;
+mod sample;
+
+pub use bit_list::{Bits, Full};
+pub use check_form::CheckForm;
+pub use memory::OutOfMemory;
+pub use parities::parity_at;
+pub use phase::Phase;
+pub use sample::{Pair, Sample};
