@@ -2,3 +2,5 @@ pub mod Greatest
 pub mod Numbers
 pub mod Places
 pub mod RegisterBits
+pub mod Ring
+pub mod WordBits

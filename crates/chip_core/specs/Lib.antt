@@ -1,4 +1,7 @@
 pub mod Bits
 pub mod Complex
+pub mod Packed
+pub mod Packing
 pub mod Polynomial
 pub mod Sums
+pub mod Worked

@@ -3,6 +3,7 @@
 
 mod bit_list;
 mod check_form;
+mod cursor;
 mod memory;
 mod parities;
 mod phase;
@@ -10,7 +11,11 @@ mod sample;
 
 pub use bit_list::{Bits, Full};
 pub use check_form::CheckForm;
+pub use cursor::{BitReader, BitWriter, Short};
 pub use memory::OutOfMemory;
 pub use parities::parity_at;
 pub use phase::Phase;
 pub use sample::{Pair, Sample};
+
+#[cfg(test)]
+mod tests;

@@ -1,0 +1,13 @@
+use Rattle.std.proofs.Common.{append_assoc, arith}
+use Rattle.std.proofs.lemmas.Grind.{common_steps}
+use Rattle.chip_core.proofs.Numbers.{binary_more}
+use Rattle.chip_core.proofs.cursor.BitWriter.put.Goals as goal
+
+pub loop-k-preserved : goal.loop-k-preserved
+loop-k-preserved c =
+    let pushed = c.append.ensures in
+    let step = binary_more c.args.width c.loop-k.k c.args.value c.loop-k-test.true in
+    record {
+      bits = rw (pushed, c.loop-k.invariant.bits, append_assoc, step);
+      count = rw pushed (grind (arith, common_steps));
+    }

@@ -1,0 +1,53 @@
+//! What no clause says: that the calls succeed, and the printed texts.
+
+use crate::{BitReader, BitWriter, Bits, CheckForm, Full, OutOfMemory, Phase, Short, parity_at};
+use std::test::Fail;
+
+#[test]
+fn bits_fill_up_to_their_room(rt: HostRuntime) -> Result<(), Fail> {
+    let mut bits = Bits::empty();
+    assert!(rt; bits.is_empty());
+    for i in 0..1184u16 {
+        bits.push(i % 3 == 0)?;
+    }
+    let full = bits;
+    assert_eq!(rt; bits.push(true), Err(Full));
+    assert!(rt; bits == full);
+    assert_eq!(rt; bits.len(), 1184);
+    assert!(rt; bits.get(1182) && !bits.get(1183));
+    Ok(())
+}
+
+#[test]
+fn fields_come_back(rt: HostRuntime) -> Result<(), Fail> {
+    let mut writer = BitWriter::new();
+    for (width, value) in [(1, 1), (9, 511), (42, 1 << 41), (64, u64::MAX)] {
+        if width < 64 {
+            assert!(rt; value < 1 << width);
+        }
+        writer.put(width, value)?;
+    }
+    let bits = writer.done();
+    let mut reader = BitReader::new(&bits);
+    assert_eq!(rt; reader.left(), 116);
+    for (width, value) in [(1, 1), (9, 511), (42, 1 << 41), (64, u64::MAX)] {
+        assert_eq!(rt; reader.take(width), Ok(value));
+    }
+    assert_eq!(rt; reader.take(1), Err(Short));
+    Ok(())
+}
+
+#[test]
+fn small_values(rt: HostRuntime) -> Result<(), Fail> {
+    assert_eq!(rt; Phase::new(32767).ok_or("a phase")?.get(), 32767);
+    assert_eq!(rt; Phase::new(32768), None);
+    assert!(rt; parity_at(0b1011, &[0, 1, 3]));
+    assert!(rt; CheckForm::Plain != CheckForm::Complemented);
+    assert_eq!(rt;
+        OutOfMemory.to_string(rt.alloc())?.as_str(),
+        "out of memory"
+    );
+    assert_eq!(rt; Full.to_string(rt.alloc())?.as_str(), "full");
+    assert_eq!(rt; Short.to_string(rt.alloc())?.as_str(), "short");
+    Ok(())
+}
