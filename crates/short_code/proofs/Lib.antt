@@ -1,0 +1,2 @@
+pub mod RegisterChips
+pub mod Signs

@@ -1,0 +1,2 @@
+pub mod ShortCode
+pub mod Worked
