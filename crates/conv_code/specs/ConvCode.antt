@@ -1,0 +1,39 @@
+-- The convolutional code of rate 1/2 and constraint length 9 (TIA/EIA-95-B, 7.1.3.1.3.1).
+use Rattle.std.specs.Prelude.{◌≡◌, ◌≢◌, ℕ, ◌+◌, ◌-◌, Bool, false, List, [], ◌∷◌, ◌++◌, length, map, get_or, drop}
+use Rattle.std.specs.List.{flat_map}
+use Rattle.chip_core.specs.Bits.{parity, places, binary}
+
+-- the generators, by their powers of D: 753 and 561 octal
+abbrev pub g0 : List ℕ
+g0 = 0 ∷ 1 ∷ 2 ∷ 3 ∷ 5 ∷ 7 ∷ 8 ∷ []
+
+abbrev pub g1 : List ℕ
+g1 = 0 ∷ 2 ∷ 3 ∷ 4 ∷ 8 ∷ []
+
+-- Symbol j of a generator: the sum of the bits that lie its powers back from bit j. Eight start bits lie in front.
+abbrev pub symbol : List ℕ → List Bool → ℕ → Bool
+symbol generator joined j = parity (map (λ back. get_or joined (8 + j - back) false) generator)
+
+-- two symbols a bit, from eight start bits, the oldest first
+abbrev pub code_symbols : List Bool → List Bool → List Bool
+code_symbols start bits = flat_map (λ j. symbol g0 (start ++ bits) j ∷ symbol g1 (start ++ bits) j ∷ []) (places (length bits))
+
+-- the last eight bits of the start bits and the bits behind them
+abbrev pub state_after : List Bool → List Bool → List Bool
+state_after start bits = drop (length bits) (start ++ bits)
+
+-- no bits give these symbols from a start
+abbrev pub IsNoWordFrom : List Bool → List Bool → Type 0
+IsNoWordFrom start symbols = (bits : List Bool) → code_symbols start bits ≢ symbols
+
+-- no start and bits give these symbols
+abbrev pub IsNoWord : List Bool → Type 0
+IsNoWord symbols = (start : ℕ) → IsNoWordFrom (binary 8 start) symbols
+
+-- every word that gives the symbols begins at this start
+abbrev pub IsOnlyStart : List Bool → List Bool → Type 0
+IsOnlyStart symbols only = (start bits : List Bool) → length start ≡ 8 → code_symbols start bits ≡ symbols → start ≡ only
+
+-- the only bit that gives this first symbol behind eight bits
+abbrev pub IsBitFor : List Bool → Bool → Bool → Type 0
+IsBitFor state first only = (bit : Bool) → symbol g0 (state ++ bit ∷ []) 0 ≡ first → bit ≡ only

@@ -1,0 +1,3 @@
+pub mod ConvCode
+pub mod Laws
+mod Worked

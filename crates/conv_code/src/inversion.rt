@@ -1,0 +1,84 @@
+//! From symbols back to bits.
+
+ghost use Rattle.std.specs.Prelude.{◌≡◌, ◌<◌, ◌≤◌, ◌+◌, ◌*◌, ◌%◌, ℕ, Bool, false, List, [], ◌∷◌, ◌++◌, length, map, get_or, All, IfSome, IfNone};
+ghost use Rattle.chip_core.specs.Bits.{binary, parity};
+ghost use Rattle.conv_code.specs.ConvCode.{code_symbols, IsBitFor, IsOnlyStart, IsNoWordFrom, IsNoWord};
+
+use crate::encoding::Register;
+use chip_core::Bits;
+
+/// The start state and the bits whose symbols these are; `None` exactly where no start and bits give these symbols.
+///
+/// Eight pairs of symbols or more fix the start and every bit. The start is a sum of the first sixteen symbols, bit by
+/// bit. From there each bit is the one that gives its first symbol, and its second symbol has to agree.
+pub fn invert(symbols: &Bits) -> Option<(u8, Bits)>
+    requires even { length symbols.now % 2 ≡ 0 }
+    requires enough { 16 ≤ length symbols.now }
+    ensures found { IfSome result (λ word. code_symbols (binary 8 word.0) word.1 ≡ symbols.now) }
+    ensures half { IfSome result (λ word. 2 * length word.1 ≡ length symbols.now) }
+    ensures none { IfNone result (IsNoWord symbols.now) }
+{
+    let start = start_of(symbols);
+    let bits = bits_from(start, symbols)?;
+    Some((start, bits))
+}
+
+/// The bits whose symbols these are from a start state; `None` where no bits give them.
+fn bits_from(start: u8, symbols: &Bits) -> Option<Bits>
+    requires { length symbols.now % 2 ≡ 0 }
+    ensures found { IfSome result (λ bits. code_symbols (binary 8 start) bits ≡ symbols.now) }
+    ensures half { IfSome result (λ bits. 2 * length bits ≡ length symbols.now) }
+    ensures none { IfNone result (IsNoWordFrom (binary 8 start) symbols.now) }
+{
+    let mut register = Register::new(start);
+    let mut bits = Bits::empty();
+    for i in 0..symbols.len() / 2 {
+        let first = symbols.get(2 * i);
+        let second = symbols.get(2 * i + 1);
+        let bit = bit_for(register, first);
+        if register.push(bit) != (first, second) {
+            return None;
+        }
+        bits.append(bit);
+    }
+    Some(bits)
+}
+
+/// The bit that gives this first symbol from a register.
+fn bit_for(mut register: Register, first: bool) -> bool
+    ensures { IsBitFor (binary 8 register) first result }
+{
+    let (first_of_zero, _) = register.push(false);
+    first_of_zero != first
+}
+
+/// The one start state that can have given the symbols.
+///
+/// Each of its bits, the oldest first, is a sum of some of the first sixteen symbols.
+fn start_of(symbols: &Bits) -> u8
+    requires { 16 ≤ length symbols.now }
+    ensures { IsOnlyStart symbols.now (binary 8 result) }
+{
+    let mut register = Register::new(0);
+    register.push(sum_at(symbols, &[0, 2, 5, 6, 11, 12, 13]));
+    register.push(sum_at(symbols, &[2, 4, 7, 8, 13, 14, 15]));
+    register.push(sum_at(symbols, &[0, 1, 3, 4, 6, 7, 8, 9, 11, 12, 13]));
+    register.push(sum_at(symbols, &[2, 3, 5, 6, 8, 9, 10, 11, 13, 14, 15]));
+    register.push(sum_at(symbols, &[0, 1, 3, 4, 5]));
+    register.push(sum_at(symbols, &[2, 3, 5, 6, 7]));
+    register.push(sum_at(symbols, &[4, 5, 7, 8, 9]));
+    register.push(sum_at(symbols, &[6, 7, 9, 10, 11]));
+    register.state()
+}
+
+/// The sum modulo 2 of the symbols at these places.
+fn sum_at(symbols: &Bits, places: &[u16]) -> bool
+    requires { All (λ place. place < length symbols.now) places.now }
+    ensures { result ≡ parity (map (λ place. get_or symbols.now place false) places.now) }
+{
+    let mut sum = false;
+    for place in places {
+        sum = sum != symbols.get(*place);
+    }
+    sum
+}

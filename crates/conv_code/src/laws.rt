@@ -1,0 +1,14 @@
+//! Laws of the code. Each function does nothing, and its contract is the law.
+
+ghost use Rattle.conv_code.specs.Laws.{IsDistinctCode, IsContinuedCode};
+
+/// Eight pairs of symbols or more fix the start state and every bit.
+pub fn symbols_fix_the_bits()
+    ensures { IsDistinctCode }
+{}
+
+/// The symbols of two lists of bits, one behind the other, are those of the first from the start state, and then those of
+/// the second from the state that the first leaves.
+pub fn symbols_continue()
+    ensures { IsContinuedCode }
+{}
