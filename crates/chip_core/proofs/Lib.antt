@@ -1,3 +1,4 @@
+pub mod CommonParity
 pub mod Greatest
 pub mod Numbers
 pub mod Places

@@ -1,0 +1,56 @@
+-- The long code of period 2^42 - 1 (TIA/EIA-95-B, 7.1.3.1.10), as powers of x modulo its polynomial, and its masks.
+use Rattle.std.specs.Prelude.{ℕ, ◌-◌, ◌/◌, ◌%◌, ◌^◌, ◌<◌, ◌==◌, Bool, false, List, [], ◌∷◌, ◌++◌, replicate, map, reverse}
+use Rattle.std.specs.List.{list_any}
+use Rattle.chip_core.specs.Bits.{number, binary, common_parity, places, bit_of}
+use Rattle.chip_core.specs.Polynomial.{remainder}
+
+-- the polynomial is x^42 and these powers
+abbrev pub powers : List ℕ
+powers = 35 ∷ 33 ∷ 31 ∷ 27 ∷ 26 ∷ 25 ∷ 22 ∷ 21 ∷ 19 ∷ 18 ∷ 17 ∷ 16 ∷ 10 ∷ 7 ∷ 6 ∷ 5 ∷ 3 ∷ 2 ∷ 1 ∷ 0 ∷ []
+
+-- the coefficients of a polynomial of degree below n with these powers, the highest first
+abbrev pub coefficients : ℕ → List ℕ → List Bool
+coefficients n powers = map (λ k. list_any (λ p. p == n - 1 - k) powers) (places n)
+
+abbrev pub below : List Bool
+below = coefficients 42 powers
+
+-- bit k of a state is the coefficient of x^k
+abbrev pub IsState : ℕ → Type 0
+IsState state = (0 < state) × (state < 2 ^ 42)
+
+-- the state so many chips later: the product with x^chips
+unfoldable pub after : ℕ → ℕ → ℕ
+after state chips = number (remainder below (binary 42 state ++ replicate chips false))
+
+-- The state so many chips earlier: divided by x, again and again. Read from the lowest coefficient up, the polynomial is
+-- 1 and then these coefficients, and a division by x is a step of long division.
+abbrev pub above : List Bool
+above = coefficients 42 (map (λ k. 42 - k) (42 ∷ powers))
+
+unfoldable pub before : ℕ → ℕ → ℕ
+before state chips = number (reverse (remainder above (reverse (binary 42 state) ++ replicate chips false)))
+
+-- the chips after which every state returns
+abbrev pub period : ℕ
+period = 2 ^ 42 - 1
+
+-- the chip under a mask, so many chips after the state: the sum modulo 2 of the state's bits that the mask chooses
+unfoldable pub long_chip : ℕ → ℕ → ℕ → Bool
+long_chip state mask chips = common_parity (binary 42 mask) (binary 42 (after state chips))
+
+-- MASKS, each 42 bits, field after field
+
+-- of a paging channel of a base station with this pilot
+unfoldable pub paging_mask : ℕ → ℕ → ℕ
+paging_mask channel pilot = number (binary 13 0x18cd ++ replicate 5 false ++ binary 3 channel ++ replicate 12 false ++ binary 9 pilot)
+
+-- the bits of an electronic serial number, of which bit 0 is the lowest, in the order of the mask
+abbrev pub permuted : List ℕ
+permuted =
+    0 ∷ 31 ∷ 22 ∷ 13 ∷ 4 ∷ 26 ∷ 17 ∷ 8 ∷ 30 ∷ 21 ∷ 12 ∷ 3 ∷ 25 ∷ 16 ∷ 7 ∷ 29
+    ∷ 20 ∷ 11 ∷ 2 ∷ 24 ∷ 15 ∷ 6 ∷ 28 ∷ 19 ∷ 10 ∷ 1 ∷ 23 ∷ 14 ∷ 5 ∷ 27 ∷ 18 ∷ 9 ∷ []
+
+-- the public mask of a station with this electronic serial number
+unfoldable pub traffic_mask : ℕ → ℕ
+traffic_mask esn = number (binary 10 0x318 ++ map (bit_of esn) permuted)

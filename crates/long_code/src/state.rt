@@ -1,0 +1,49 @@
+//! The state of the generator.
+
+ghost use Rattle.std.specs.Prelude.{◌≡◌, ◌<◌, ◌^◌, ℕ, SomeIff};
+ghost use Rattle.long_code.specs.LongCode.{IsState, after, long_chip};
+
+use std::marker::Model;
+
+/// The coefficients of x^41 down to 1 in the long code's polynomial, behind x^42: bit k is that of x^k.
+const FEEDBACK: u64 = 0x00a_8e6f_04ef;
+
+/// A state of the long code's generator: a nonzero polynomial of degree below 42 over the field of two elements.
+/// Contracts see the number whose bit k is the coefficient of x^k.
+///
+/// TIA/EIA-95-B, 7.1.3.1.10: each chip multiplies it by x modulo x^42 + x^35 + x^33 + x^31 + x^27 + x^26 + x^25 + x^22
+/// + x^21 + x^19 + x^18 + x^17 + x^16 + x^10 + x^7 + x^6 + x^5 + x^3 + x^2 + x + 1.
+#[derive(Clone, Copy, PartialEq, Eq, Debug)]
+pub struct State {
+    value: u64,
+}
+
+impl Model for State {
+    ghost Value = { ℕ };
+
+    ghost view = { λ s. s.value };
+
+    ghost invariant = { λ s. IsState s.value };
+
+    ghost inverse = { λ n. record { value = n } };
+}
+
+impl State {
+    /// The state of this number; `None` exactly where it is 0 or has a bit above bit 41.
+    pub fn new(value: u64) -> Option<State>
+        ensures { SomeIff result (IsState value) value }
+    {
+        if value == 0 || value >> 42 != 0 {
+            return None;
+        }
+        Some(State { value })
+    }
+
+    /// The state's number.
+    pub fn value(&self) -> u64
+        ensures value { result ≡ self.now }
+        ensures state { IsState result }
+    {
+        self.value
+    }
+}
