@@ -1,6 +1,8 @@
 pub mod After
 pub mod Before
+pub mod Chips
 pub mod Digits
 pub mod Division
+pub mod Fields
 pub mod Period
 pub mod Product

@@ -63,22 +63,20 @@ digit_more u chips false h =
     rw same doubled
 
 -- the value's first digits, one digit further
-pub digits_more : (value k : ℕ) → k < 42 → value / 2 ^ (42 - (k + 1)) / 2 ≡ value / 2 ^ (42 - k)
-digits_more value k h =
-    let place : 42 - (k + 1) + 1 ≡ 42 - k = omega arith in
-    shr-shr value (42 - (k + 1)) 1 ∙ ap (λ j. value / 2 ^ j) place
+digits_more : (value place : ℕ) → 0 < place → value / 2 ^ (place - 1) / 2 ≡ value / 2 ^ place
+digits_more value place h =
+    let next : place - 1 + 1 ≡ place = omega (arith, h) in
+    shr-shr value (place - 1) 1 ∙ ap (λ (e : ℕ). value / 2 ^ e) next
 
 -- one turn of the product's loop
-pub product_more : (value k chips sum : ℕ) (bit : Bool) → k < 42 → value < 2 ^ 42 →
-    sum ≡ after (value / 2 ^ (42 - k)) chips → bit ≡ nat_eq (bit_and (value / 2 ^ (41 - k)) 1) 1 →
-    cond bit (bit_xor (after sum 1) (after 1 chips)) (after sum 1) ≡ after (value / 2 ^ (42 - (k + 1))) chips
-product_more value k chips sum bit h small is read =
-    let place : 41 - k ≡ 42 - (k + 1) = omega arith in
-    let next = value / 2 ^ (42 - (k + 1)) in
-    let half = digits_more value k h in
-    let low : value / 2 ^ (42 - k) ≤ value / 2 ^ (42 - (k + 1)) / 2 = omega (arith, half) in
-    let bound : next < 2 ^ 42 = omega (arith, shr_le value (42 - (k + 1)), small) in
-    let small_half : value / 2 ^ (42 - k) < 2 ^ 41 = omega (arith, half, bound) in
-    let digit_is : digit bit ≡ next % 2 = ap digit (rw (place, and_mask (value / 2 ^ (42 - (k + 1))) 1) at read) ∙ digit_of (next % 2) (omega arith) in
-    let whole : 2 * (value / 2 ^ (42 - k)) + digit bit ≡ next = omega (arith, half, digit_is) in
-    rw is (digit_more (value / 2 ^ (42 - k)) chips bit small_half ∙ ap (λ v. after v chips) whole)
+pub product_more : (value place chips sum : ℕ) (bit : Bool) → 0 < place → value < 2 ^ 42 →
+    sum ≡ after (value / 2 ^ place) chips → bit ≡ nat_eq (bit_and (value / 2 ^ (place - 1)) 1) 1 →
+    cond bit (bit_xor (after sum 1) (after 1 chips)) (after sum 1) ≡ after (value / 2 ^ (place - 1)) chips
+product_more value place chips sum bit h small is read =
+    let next = value / 2 ^ (place - 1) in
+    let half : next / 2 ≡ value / 2 ^ place = digits_more value place h in
+    let bound : next < 2 ^ 42 = omega (arith, shr_le value (place - 1), small) in
+    let small_half : value / 2 ^ place < 2 ^ 41 = omega (arith, half, bound) in
+    let digit_is : digit bit ≡ next % 2 = ap digit (read ∙ ap (λ (n : ℕ). nat_eq n 1) (and_mask next 1)) ∙ digit_of (next % 2) (omega arith) in
+    let whole : 2 * (value / 2 ^ place) + digit bit ≡ next = omega (arith, half, digit_is) in
+    rw is (digit_more (value / 2 ^ place) chips bit small_half ∙ ap (λ v. after v chips) whole)

@@ -4,6 +4,9 @@
 //! generator's state whose sum modulo 2 is the chip.
 #![tactic(auto)]
 
+pub mod laws;
+mod masks;
 mod state;
 
+pub use masks::{paging_mask, traffic_mask};
 pub use state::State;

@@ -46,4 +46,69 @@ impl State {
     {
         self.value
     }
+
+    /// The state one chip later.
+    pub fn step(&mut self)
+        ensures later { self.new ≡ after self.old 1 }
+        ensures state { IsState self.new }
+    {
+        self.value = times_x(self.value);
+    }
+
+    /// The state so many chips later, found by squaring: a few thousand steps for any count.
+    pub fn jump(&mut self, chips: u64)
+        ensures later { self.new ≡ after self.old chips }
+        ensures state { IsState self.new }
+    {
+        let mut value = self.value;
+        let mut power = 2;
+        let mut left = chips;
+        while left > 0 {
+            if left & 1 == 1 {
+                value = product(value, power);
+            }
+            power = product(power, power);
+            left /= 2;
+        }
+        self.value = value;
+    }
+
+    /// The chip of this state under a mask of 42 bits: the sum modulo 2 of the state's bits where the mask has a 1.
+    pub fn chip(&self, mask: u64) -> bool
+        requires { mask < 2 ^ 42 }
+        ensures { result ≡ long_chip self.now mask 0 }
+    {
+        (mask & self.value).count_ones() & 1 == 1
+    }
+}
+
+/// The product with x.
+fn times_x(value: u64) -> u64
+    requires { value < 2 ^ 42 }
+    ensures value { result ≡ after value 1 }
+    ensures below { result < 2 ^ 42 }
+{
+    let shifted = value << 1 & (1 << 42) - 1;
+    if value >> 41 & 1 == 1 {
+        shifted ^ FEEDBACK
+    } else {
+        shifted
+    }
+}
+
+/// The product with a power of x, which is given as its remainder.
+fn product(value: u64, power: u64) -> u64
+    requires value { value < 2 ^ 42 }
+    requires power { power < 2 ^ 42 }
+    ensures product { (chips : ℕ) → power ≡ after 1 chips → result ≡ after value chips }
+    ensures below { result < 2 ^ 42 }
+{
+    let mut sum = 0;
+    for place in (0..42u32).rev() {
+        sum = times_x(sum);
+        if value >> place & 1 == 1 {
+            sum ^= power;
+        }
+    }
+    sum
 }

@@ -1,0 +1,7 @@
+use Rattle.std.proofs.Common.{◌≡◌}
+use Rattle.chip_core.specs.Bits.{number}
+use Rattle.long_code.proofs.Fields.{first_bits}
+use Rattle.long_code.proofs.masks.traffic_mask.Given as goal
+
+abbrev pub invariant-loop-place : goal.invariant-loop-place
+invariant-loop-place l = l.mask ≡ number (first_bits l.esn l.place-index)
