@@ -1,4 +1,5 @@
 pub mod CommonParity
+pub mod ComplexSums
 pub mod Greatest
 pub mod Numbers
 pub mod Places

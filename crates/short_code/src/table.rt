@@ -1,6 +1,6 @@
 //! The table of both codes.
 
-ghost use Rattle.std.specs.Prelude.{◌≡◌, ◌<◌, ℕ, IfOk};
+ghost use Rattle.std.specs.Prelude.{◌≡◌, ◌<◌, ℕ, length, IfOk};
 ghost use Rattle.short_code.specs.ShortCode.{pilot_chip, chip_signs, pilot_signs};
 
 use crate::register::{I_PLACES, Q_PLACES, shifted};
@@ -75,7 +75,8 @@ impl Codes {
 
     /// The signs of all 32,768 chips, in order, for sums over many chips.
     pub fn table(&self) -> &[(i8, i8)]
-        ensures { result.now ≡ pilot_signs }
+        ensures value { result.now ≡ pilot_signs }
+        ensures len { length result.now ≡ 32768 }
     {
         &self.signs
     }

@@ -1,0 +1,8 @@
+use Rattle.std.proofs.Common.{ap, ◌∙◌}
+use Rattle.chip_core.specs.Complex.{norm}
+use Rattle.pilot_search.specs.Search.{energy}
+use Rattle.pilot_search.proofs.correlation.energy_at.Goals as goal
+
+pub returns-clause-value : goal.returns-clause-value
+unfolding energy
+returns-clause-value c = c.norm_of.ensures.value ∙ ap norm c.correlation_at.ensures.value

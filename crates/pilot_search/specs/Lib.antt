@@ -1,0 +1,3 @@
+pub mod BestIn
+pub mod BySigns
+pub mod Search

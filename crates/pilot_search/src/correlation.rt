@@ -1,0 +1,92 @@
+//! The correlation of samples with the code at one phase.
+
+ghost use Rattle.std.specs.Prelude.{◌≡◌, ◌<◌, ◌≤◌, ◌+◌, ◌*◌, ◌^◌, ℕ, length, unsigned_abs, All, ◌*ℤ◌};
+ghost use Rattle.chip_core.specs.Complex.{norm};
+ghost use Rattle.pilot_search.specs.Search.{correlation, energy};
+ghost use Rattle.pilot_search.specs.BySigns.{IsUnit, turned, correlation_with};
+
+use chip_core::{Pair, Phase, Sample};
+use short_code::Codes;
+
+/// One branch of a sample, turned by a sign.
+fn signed(branch: i16, sign: i8) -> i32
+    requires { unsigned_abs sign ≤ 1 }
+    ensures value { result ≡ branch *ℤ sign }
+    ensures bound { unsigned_abs result ≤ 32768 }
+{
+    i32::from(branch) * i32::from(sign)
+}
+
+/// A sample times the conjugate of the code's point with these signs.
+fn turn(sample: Sample, signs: (i8, i8)) -> Pair
+    requires { IsUnit signs }
+    ensures value { result ≡ turned sample signs }
+    ensures i_bound { unsigned_abs result.i ≤ 65536 }
+    ensures q_bound { unsigned_abs result.q ≤ 65536 }
+{
+    let (c, d) = signs;
+    Pair {
+        i: i64::from(signed(sample.i, c) + signed(sample.q, d)),
+        q: i64::from(signed(sample.q, c) - signed(sample.i, d)),
+    }
+}
+
+/// The sum of the samples, each times the conjugate of its point of the code.
+fn correlate(samples: &[Sample], signs: &[(i8, i8)]) -> Pair
+    requires few { length samples.now ≤ 32768 }
+    requires room { length samples.now ≤ length signs.now }
+    requires units { All IsUnit signs.now }
+    ensures value { result ≡ correlation_with samples.now signs.now }
+    ensures i_bound { unsigned_abs result.i ≤ 65536 * length samples.now }
+    ensures q_bound { unsigned_abs result.q ≤ 65536 * length samples.now }
+{
+    let mut sum = Pair { i: 0, q: 0 };
+    for (t, sample) in samples.iter().enumerate() {
+        let product = turn(*sample, signs[t]);
+        sum.i += product.i;
+        sum.q += product.q;
+    }
+    sum
+}
+
+/// The correlation with the code from the phase on, parted where the code begins again.
+fn correlation_at(samples: &[Sample], codes: &Codes, phase: Phase) -> Pair
+    requires { length samples.now ≤ 32768 }
+    ensures value { result ≡ correlation samples.now phase }
+    ensures i_bound { unsigned_abs result.i ≤ 2 ^ 31 }
+    ensures q_bound { unsigned_abs result.q ≤ 2 ^ 31 }
+{
+    let (_, ahead) = codes.table().split_at(usize::from(phase.get()));
+    let (before, after) = samples.split_at(samples.len().min(ahead.len()));
+    let first = correlate(before, ahead);
+    let rest = correlate(after, codes.table());
+    Pair {
+        i: first.i + rest.i,
+        q: first.q + rest.q,
+    }
+}
+
+/// The square of a complex number's absolute value.
+fn norm_of(sum: Pair) -> u64
+    requires i { unsigned_abs sum.i ≤ 2 ^ 31 }
+    requires q { unsigned_abs sum.q ≤ 2 ^ 31 }
+    ensures value { result ≡ norm sum }
+    ensures bound { result ≤ 2 ^ 63 }
+{
+    let i = sum.i.unsigned_abs();
+    let q = sum.q.unsigned_abs();
+    i * i + q * q
+}
+
+/// The energy of the samples at a phase: the square of the absolute value of their correlation with the
+/// code, whose chip of that phase falls on the first sample.
+///
+/// Sample t meets chip (phase + t) modulo 32,768. With I and Q of the sample i and q, and the signs of the
+/// chip c and d, the correlation has the real part Σ (i c + q d) and the imaginary part Σ (q c - i d).
+pub fn energy_at(samples: &[Sample], codes: &Codes, phase: Phase) -> u64
+    requires { length samples.now ≤ 32768 }
+    ensures value { result ≡ energy samples.now phase }
+    ensures bound { result ≤ 2 ^ 63 }
+{
+    norm_of(correlation_at(samples, codes, phase))
+}
