@@ -4,6 +4,7 @@
 mod bit_list;
 mod check_form;
 mod cursor;
+pub mod laws;
 mod memory;
 mod parities;
 mod phase;

@@ -6,6 +6,7 @@
 #![tactic(auto)]
 
 mod correlation;
+pub mod laws;
 mod sweeping;
 
 pub use correlation::energy_at;
