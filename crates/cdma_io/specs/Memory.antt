@@ -1,0 +1,45 @@
+-- What the source and the sink in memory hold.
+use Rattle.std.specs.Prelude.{◌≡◌, ℕ, ◌-◌, min, List, ◌++◌, length, take, drop}
+use Rattle.cdma_io.specs.Outside.{next_count}
+
+-- a source: the bytes left, the most that it gives a call, the numbers of the calls that fail, how
+-- many calls there were, and how many of them failed
+pub record SourceState : Type 0 where
+  pub bytes : List ℕ
+  pub piece : ℕ
+  pub failing : List ℕ
+  pub calls : ℕ
+  pub faults : ℕ
+
+-- a sink: the bytes that it was given, how many it has room for, and the rest as for a source
+pub record SinkState : Type 0 where
+  pub bytes : List ℕ
+  pub room : ℕ
+  pub piece : ℕ
+  pub failing : List ℕ
+  pub calls : ℕ
+  pub faults : ℕ
+
+-- how many bytes a source gives to a buffer of so many
+abbrev pub given_count : SourceState → ℕ → ℕ
+given_count s wanted = min (min wanted s.piece) (length s.bytes)
+
+-- a source that gave so many bytes
+abbrev pub given : SourceState → ℕ → SourceState
+given s n = record s { bytes = drop n s.bytes; calls = next_count s.calls }
+
+-- a source that failed
+abbrev pub source_failed : SourceState → SourceState
+source_failed s = record s { calls = next_count s.calls; faults = next_count s.faults }
+
+-- how many bytes of a piece of so many a sink takes
+abbrev pub taken_count : SinkState → ℕ → ℕ
+taken_count k offered = min (min offered k.piece) (k.room - length k.bytes)
+
+-- a sink that took these bytes
+abbrev pub taken : SinkState → List ℕ → SinkState
+taken k bytes = record k { bytes = k.bytes ++ bytes; calls = next_count k.calls }
+
+-- a sink that failed
+abbrev pub sink_failed : SinkState → SinkState
+sink_failed k = record k { calls = next_count k.calls; faults = next_count k.faults }

@@ -1,0 +1,32 @@
+-- What calls on the outside say: which bytes moved, where they are told, and why a call failed.
+use Rattle.std.specs.Prelude.{◌≡◌, ℕ, ◌+◌, ◌-◌, ◌^◌, ◌<◌, ◌≤◌, min, List, length, take, Option, Result, OnErr, IfOk}
+use Rattle.std.specs.Io.KnownBytes.{Appends, Consumes}
+
+-- the next number of a count that stops at the last number of 64 bits
+abbrev pub next_count : ℕ → ℕ
+next_count n = min (n + 1) (2 ^ 64 - 1)
+
+-- a count of faults rose in a call, or stands at its last number
+abbrev pub Rose : ℕ → ℕ → Type 0
+Rose before now = next_count before ≤ now
+
+-- a call leaves a count of faults as it was or higher, and fails only where it rose
+pub record HasCause {T E : Type 0} (before now : ℕ) (result : Result T E) : Type 0 where
+  pub later : before ≤ now
+  pub failed : OnErr result (Rose before now)
+
+-- a give to a sink took some of a piece that has any
+abbrev pub Progresses : {E : Type 0} → Result ℕ E → List ℕ → Type 0
+Progresses result piece = IfOk result (λ n. 0 < length piece → 1 ≤ n)
+
+-- known bytes lost at most so many at their front
+pub record ConsumesAtMost (most : ℕ) (old new : Option (List ℕ)) : Type 0 where
+  pub bytes : List ℕ
+  pub fits : length bytes ≤ most
+  pub consumed : Consumes old new bytes
+
+-- known bytes grew by the first so many of a list
+pub record AppendsPrefix (old new : Option (List ℕ)) (all : List ℕ) : Type 0 where
+  pub count : ℕ
+  pub fits : count ≤ length all
+  pub appended : Appends old new (take count all)

@@ -1,0 +1,133 @@
+-- The sample file: its header and samples as bytes, and what a reader of it answers.
+use Rattle.std.specs.Prelude.{◌≡◌, ◌≢◌, ℕ, ◌+◌, ◌*◌, ◌-◌, ◌/◌, ◌%◌, ◌<◌, ◌≤◌, ◌==◌, nat_eq, nat_lt, Bool, if◌then◌else◌, List, [], ◌∷◌, ◌++◌, length, take, drop, All, Option, None, Some, Result, Ok, Err, FitsSigned, ⊤}
+use Rattle.std.specs.Int.{cast_unsigned, w16}
+use Rattle.std.specs.List.{flat_map, starts_with}
+use Rattle.std.specs.Io.KnownBytes.{IsAtEnd}
+use Rattle.byteorder.specs.Endian.{big_bytes, big_number}
+use Rattle.chip_core.specs.declared.check_form.CheckForm.{CheckForm}
+use Rattle.chip_core.specs.declared.check_form.CheckForm.TheVariants.{Plain, Complemented}
+use Rattle.chip_core.specs.declared.sample.Sample.{Sample}
+use Rattle.cdma_io.specs.declared.file_fault.FileFault.{FileFault}
+use Rattle.cdma_io.specs.declared.file_fault.FileFault.TheVariants.{Magic, Version, Flags, Count, Short, Extra, ReadFault, TooFew}
+use Rattle.cdma_io.specs.declared.header.Header.{Header}
+
+-- ---- the bytes of a file
+
+-- "IS95"
+abbrev pub magic : List ℕ
+magic = 73 ∷ 83 ∷ 57 ∷ 53 ∷ []
+
+-- the most samples that a file has
+abbrev pub most_samples : ℕ
+most_samples = 33554432
+
+-- 1 where check bits are complemented
+abbrev pub form_flag : CheckForm → ℕ
+form_flag Plain = 0
+form_flag Complemented = 1
+
+-- bit 0 for the 30-bit checks, and bit 1 for the 16-bit checks
+abbrev pub flags_of : Header → ℕ
+flags_of header = form_flag header.check30 + 2 * form_flag header.check16
+
+-- the 16 bytes of a header: magic, version, flags, count of samples
+unfoldable pub header_spelling : Header → List ℕ
+header_spelling header = magic ++ big_bytes 2 header.version ++ big_bytes 2 (flags_of header) ++ big_bytes 8 header.count
+
+-- the 4 bytes of a sample: i, then q, each in two's complement of 16 bits
+unfoldable pub sample_spelling : Sample → List ℕ
+sample_spelling sample = big_bytes 2 (cast_unsigned w16 sample.i) ++ big_bytes 2 (cast_unsigned w16 sample.q)
+
+-- each part has 16 bits
+pub record HasSixteenBits (sample : Sample) : Type 0 where
+  pub in_phase : FitsSigned w16 sample.i
+  pub quadrature : FitsSigned w16 sample.q
+
+-- a header of version 1
+pub record IsLawfulHeader (header : Header) : Type 0 where
+  pub version_is : header.version ≡ 1
+  pub count_most : header.count ≤ most_samples
+
+-- the bytes are the file of this header and these samples
+pub record IsSampleFile (bytes : List ℕ) (header : Header) (samples : List Sample) : Type 0 where
+  pub lawful : IsLawfulHeader header
+  pub counted : length samples ≡ header.count
+  pub in_range : All HasSixteenBits samples
+  pub spelled : bytes ≡ header_spelling header ++ flat_map sample_spelling samples
+
+-- ---- what opening a file answers
+
+-- complemented where the flag is set
+abbrev pub form_of : Bool → CheckForm
+form_of flag = if flag then Complemented else Plain
+
+-- the header that 16 bytes hold, whatever they are
+abbrev pub header_of : List ℕ → Header
+header_of bytes = record {
+  version = big_number 2 (drop 4 bytes);
+  check30 = form_of (big_number 2 (drop 6 bytes) % 2 == 1);
+  check16 = form_of (big_number 2 (drop 6 bytes) / 2 % 2 == 1);
+  count = big_number 8 (drop 8 bytes);
+}
+
+-- the header that a file of these bytes has, or what is wrong with it: the first of these that is
+unfoldable pub opening : List ℕ → Result Header FileFault
+opening bytes =
+    if nat_lt (length bytes) 16 then Err (Short (length bytes))
+    else if starts_with nat_eq bytes magic then (
+    if big_number 2 (drop 4 bytes) == 1 then (
+    if nat_lt (big_number 2 (drop 6 bytes)) 4 then (
+    if nat_lt most_samples (big_number 8 (drop 8 bytes)) then Err Count else Ok (header_of bytes)
+    ) else Err Flags
+    ) else Err Version
+    ) else Err Magic
+
+-- ---- what a reader holds and answers
+
+-- a reader: the file's header, how many samples aren't read yet, and the fault that it met
+pub record Reading : Type 0 where
+  pub header : Header
+  pub left : ℕ
+  pub fault : Option FileFault
+
+-- a reader that has read no sample
+abbrev pub fresh_reading : Header → Reading
+fresh_reading header = record { header = header; left = header.count; fault = None }
+
+-- a reader that met a fault
+abbrev pub faulted : Reading → FileFault → Reading
+faulted reading e = record reading { fault = Some e }
+
+-- the place in the file of the next sample
+abbrev pub next_place : Reading → ℕ
+next_place reading = 16 + 4 * (reading.header.count - reading.left)
+
+-- what `open` answered is what is due, or a read failed
+abbrev pub Opens : Result Reading FileFault → Result Header FileFault → Type 0
+Opens (Ok reading) due = due ≡ Ok reading.header
+Opens (Err e) due = e ≢ ReadFault → due ≡ Err e
+
+-- samples of so many bytes couldn't be read: the file ends before them, or a read failed
+abbrev pub CutsShort : FileFault → ℕ → ℕ → Option (List ℕ) → Option (List ℕ) → Type 0
+CutsShort (Short place) wanted from None new = ⊤
+CutsShort (Short place) wanted from (Some bytes) new = (length bytes < wanted) × (place ≡ from + length bytes) × IsAtEnd new
+CutsShort ReadFault wanted from old new = ⊤
+CutsShort _ wanted from old new = ⊥
+
+-- the file has more bytes than its samples, or a read failed
+abbrev pub RunsOn : FileFault → ℕ → Option (List ℕ) → Type 0
+RunsOn (Extra place) end None = place ≡ end
+RunsOn (Extra place) end (Some bytes) = (0 < length bytes) × (place ≡ end)
+RunsOn ReadFault end old = ⊤
+RunsOn _ end old = ⊥
+
+-- the place in the file of what a fault is about
+abbrev pub place_of : FileFault → Option ℕ
+place_of Magic = Some 0
+place_of Version = Some 4
+place_of Flags = Some 6
+place_of Count = Some 8
+place_of (Short place) = Some place
+place_of (Extra place) = Some place
+place_of ReadFault = None
+place_of (TooFew count) = Some 8

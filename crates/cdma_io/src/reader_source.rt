@@ -1,0 +1,42 @@
+//! A source over a reader of std.
+
+ghost use Rattle.std.specs.Prelude.{◌≡◌};
+
+use crate::source::{Failed, Source};
+use std::io::Read;
+
+/// A source over a reader: it tells what the reader does, which is nothing over standard input.
+///
+/// The count of faults is 0 when it is made. Each error of the reader raises it, until it stands at
+/// the last number of 64 bits.
+#[derive(Drop)]
+pub struct ReaderSource<R: Read> {
+    reader: R,
+    faults: u64,
+}
+
+impl<R: Read> ReaderSource<R> {
+    /// A source over this reader.
+    pub fn new(reader: R) -> ReaderSource<R>
+        ensures rest { ⟦<ReaderSource<R> as Source>⟧.rest result ≡ R.remaining reader }
+        ensures faults { ⟦<ReaderSource<R> as Source>⟧.faults result ≡ 0 }
+    {
+        ReaderSource { reader, faults: 0 }
+    }
+}
+
+impl<R: Read> Source for ReaderSource<R> {
+    ghost rest = { λ s. R.remaining s.reader };
+
+    ghost faults = { λ s. s.faults };
+
+    fn take(&mut self, buf: &mut [u8]) -> Result<usize, Failed> {
+        match self.reader.read(buf) {
+            Ok(count) => Ok(count),
+            Err(_) => {
+                self.faults = self.faults.saturating_add(1);
+                Err(Failed)
+            }
+        }
+    }
+}

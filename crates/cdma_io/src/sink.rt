@@ -1,0 +1,45 @@
+//! Sinks of bytes.
+
+ghost use Rattle.std.specs.Prelude.{ℕ, List, Option, OnOk, OnErr};
+ghost use Rattle.std.specs.Io.{WritesAtMost};
+ghost use Rattle.std.specs.Io.KnownBytes.{Appends, WriteAppends};
+ghost use Rattle.cdma_io.specs.Outside.{AppendsPrefix, HasCause, Progresses};
+
+use crate::source::Failed;
+
+/// A sink of bytes that counts its faults.
+///
+/// Contracts see the bytes that it was given, where they are told, and the count of faults, which
+/// never falls and stops at the last number of 64 bits.
+pub trait Sink {
+    // The bytes that were given, where they are told.
+    ghost written: { Self → Option (List ℕ) };
+
+    // How often calls failed.
+    ghost faults: { Self → ℕ };
+
+    /// Takes the first bytes of a piece: how many, at least 1 of a piece that has any.
+    ///
+    /// [`Failed`] comes only where the count of faults rose, and then no byte was taken.
+    fn give(&mut self, piece: &[u8]) -> Result<usize, Failed>
+        ensures bound { WritesAtMost result piece.now }
+        ensures progress { Progresses result piece.now }
+        ensures bytes { WriteAppends (written self.old) (written self.new) result piece.now }
+        ensures cause { HasCause (faults self.old) (faults self.new) result };
+}
+
+/// Gives all of the bytes to the sink.
+///
+/// [`Failed`] comes only where the sink's count of faults rose, and the sink took then the first
+/// of the bytes.
+pub fn write_all<K: Sink>(sink: &mut K, bytes: &[u8]) -> Result<(), Failed>
+    ensures ok { OnOk result (Appends (K.written sink.old) (K.written sink.new) bytes.now) }
+    ensures err { OnErr result (AppendsPrefix (K.written sink.old) (K.written sink.new) bytes.now) }
+    ensures cause { HasCause (K.faults sink.old) (K.faults sink.new) result }
+{
+    let mut given = 0;
+    while given < bytes.len() {
+        given += sink.give(&bytes[given..])?;
+    }
+    Ok(())
+}

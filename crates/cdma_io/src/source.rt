@@ -1,0 +1,31 @@
+//! Sources of bytes.
+
+ghost use Rattle.std.specs.Prelude.{ℕ, List, Option};
+ghost use Rattle.std.specs.Io.{ReadsAtMost};
+ghost use Rattle.std.specs.Io.KnownBytes.{ReadConsumes};
+ghost use Rattle.cdma_io.specs.Outside.{HasCause};
+
+/// A call on the outside failed.
+#[derive(Clone, Copy, PartialEq, Eq, Debug)]
+pub struct Failed;
+
+/// A source of bytes that counts its faults.
+///
+/// Contracts see the bytes that are left, where they are told, and the count of faults, which
+/// never falls and stops at the last number of 64 bits.
+pub trait Source {
+    // The bytes that are left, where they are told.
+    ghost rest: { Self → Option (List ℕ) };
+
+    // How often calls failed.
+    ghost faults: { Self → ℕ };
+
+    /// Moves the next bytes to the front of the buffer: how many. 0 of a buffer that has room means
+    /// the end.
+    ///
+    /// [`Failed`] comes only where the count of faults rose, and then no byte moved.
+    fn take(&mut self, buf: &mut [u8]) -> Result<usize, Failed>
+        ensures bound { ReadsAtMost result buf.new }
+        ensures bytes { ReadConsumes (rest self.old) (rest self.new) result buf.new }
+        ensures cause { HasCause (faults self.old) (faults self.new) result };
+}

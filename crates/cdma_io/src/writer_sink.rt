@@ -1,0 +1,65 @@
+//! A sink over a writer of std.
+
+ghost use Rattle.std.specs.Prelude.{◌≡◌, ◌≤◌};
+ghost use Rattle.std.specs.Io.KnownBytes.{Keeps};
+ghost use Rattle.cdma_io.specs.Outside.{HasCause, Rose};
+
+use crate::sink::Sink;
+use crate::source::Failed;
+use std::io::Write;
+
+/// A sink over a writer: it tells what the writer does, which is nothing over standard output.
+///
+/// The count of faults is 0 when it is made. Each error of the writer raises it, and so does each
+/// piece of which the writer took no byte, until it stands at the last number of 64 bits.
+#[derive(Drop)]
+pub struct WriterSink<W: Write> {
+    writer: W,
+    faults: u64,
+}
+
+impl<W: Write> WriterSink<W> {
+    /// A sink over this writer.
+    pub fn new(writer: W) -> WriterSink<W>
+        ensures written { ⟦<WriterSink<W> as Sink>⟧.written result ≡ W.contents writer }
+        ensures faults { ⟦<WriterSink<W> as Sink>⟧.faults result ≡ 0 }
+    {
+        WriterSink { writer, faults: 0 }
+    }
+
+    /// Passes on what the writer holds back, as a buffered one does.
+    ///
+    /// [`Failed`] comes only where the count of faults rose.
+    pub fn flush(&mut self) -> Result<(), Failed>
+        ensures written { Keeps (⟦<WriterSink<W> as Sink>⟧.written self.old) (⟦<WriterSink<W> as Sink>⟧.written self.new) }
+        ensures cause { HasCause (⟦<WriterSink<W> as Sink>⟧.faults self.old) (⟦<WriterSink<W> as Sink>⟧.faults self.new) result }
+    {
+        match self.writer.flush() {
+            Ok(()) => Ok(()),
+            Err(_) => Err(self.fault()),
+        }
+    }
+
+    // Counts a fault.
+    fn fault(&mut self) -> Failed
+        ensures written { ⟦<WriterSink<W> as Sink>⟧.written self.new ≡ ⟦<WriterSink<W> as Sink>⟧.written self.old }
+        ensures later { ⟦<WriterSink<W> as Sink>⟧.faults self.old ≤ ⟦<WriterSink<W> as Sink>⟧.faults self.new }
+        ensures rose { Rose (⟦<WriterSink<W> as Sink>⟧.faults self.old) (⟦<WriterSink<W> as Sink>⟧.faults self.new) }
+    {
+        self.faults = self.faults.saturating_add(1);
+        Failed
+    }
+}
+
+impl<W: Write> Sink for WriterSink<W> {
+    ghost written = { λ k. W.contents k.writer };
+
+    ghost faults = { λ k. k.faults };
+
+    fn give(&mut self, piece: &[u8]) -> Result<usize, Failed> {
+        match self.writer.write(piece) {
+            Ok(count) if count > 0 || piece.is_empty() => Ok(count),
+            _ => Err(self.fault()),
+        }
+    }
+}
