@@ -33,7 +33,7 @@ impl Model for MemorySource {
       faults = s.faults;
     } };
 
-    ghost invariant = { λ s. s.at ≤ vec_len s.bytes };
+    ghost invariant = { λ s. (s.at ≤ vec_len s.bytes) × (1 ≤ s.piece) };
 }
 
 impl MemorySource {

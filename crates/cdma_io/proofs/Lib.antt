@@ -1,0 +1,4 @@
+pub mod ByteNumbers
+pub mod Moves
+pub mod Opening
+pub mod Spelling

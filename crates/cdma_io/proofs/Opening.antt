@@ -1,0 +1,2 @@
+-- Lemmas on what opening a file answers.
+use Rattle.std.proofs.Common.{◌≡◌, ℕ}

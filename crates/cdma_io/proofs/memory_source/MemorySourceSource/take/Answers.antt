@@ -1,0 +1,19 @@
+use Rattle.std.proofs.Common.{◌≡◌, ◌≤◌, ◌+◌, ◌-◌, ◌++◌, take, drop, length, ap, sym, ◌∙◌, length-append, length-drop, List, ℕ, rules}
+use Rattle.std.proofs.lemmas.List.{drop_all}
+use Rattle.cdma_io.specs.Memory.{SourceState}
+use Rattle.cdma_io.proofs.Moves.{moved}
+use Rattle.cdma_io.proofs.memory_source.MemorySourceSource.take.Goals as goal
+
+pub returns-clause-bytes : goal.returns-clause-bytes
+returns-clause-bytes c =
+    let bytes = c.self.inside.bytes.items in
+    let at = c.self.inside.at in
+    let n = c.min-count.result in
+    let copied : c.copy_from_slice.new.self ≡ take (at + n - at) (drop at bytes) =
+    c.copy_from_slice.ensures.after ∙ ap (λ (xs : List ℕ). take (at + n - at) (drop at xs)) c.deref-2.ensures.value in
+    let within : at + n ≤ length bytes = search rules in (
+      ap (λ (s : SourceState). s.bytes) (sym c.self.view_is) ∙ moved bytes c.args.buf.now c.copy_from_slice.new.self at n within copied,
+      λ none some. drop_all (at + n) bytes
+          (let long : length (c.copy_from_slice.new.self ++ drop n c.args.buf.now) ≡ length c.args.buf.now = search (rules, length-append, length-drop) in
+          search rules),
+    )
