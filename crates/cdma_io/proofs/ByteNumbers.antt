@@ -1,10 +1,13 @@
 -- Lists of bytes and the numbers that they spell, the highest byte first.
-use Rattle.std.proofs.Common.{◌≡◌, ℕ, zero, suc, ◌+◌, ◌-◌, ◌*◌, ◌/◌, ◌%◌, ◌^◌, ◌<◌, ◌≤◌, List, [], ◌∷◌, ◌++◌, length, get_or, take, drop, refl, sym, ap, ◌∙◌, arith}
+use Rattle.std.proofs.Common.{◌≡◌, ℕ, zero, suc, ◌+◌, ◌-◌, ◌*◌, ◌/◌, ◌%◌, ◌^◌, ◌<◌, ◌≤◌, List, [], ◌∷◌, ◌++◌, length, get_or, take, drop, refl, sym, ap, ◌∙◌, arith, inl, inr, All, take-append-drop}
+use Rattle.std.proofs.lemmas.List.{get_or-take, get_or-drop, get_or_past, length-take, length-take-le}
+use Rattle.std.proofs.lemmas.List.Elements.{All-get_or}
+use Rattle.std.proofs.lemmas.Bool.{cases_lt}
 use Rattle.std.proofs.Math.Nat.{div-one, one-le-pow, mul-add-div_right, mul-add-mod_self_right, mod-eq_of_lt, pow-succ'}
 use Rattle.std.proofs.lemmas.Nat.{pow-add, div-mul-add}
 use Rattle.std.specs.Int.{byte_at, bytes_high_first}
 use Rattle.byteorder.specs.Endian.{big_bytes, big_from, big_number}
-use Rattle.byteorder.specs.Numbers.{big_from-cons, big_from-lt}
+use Rattle.byteorder.specs.Numbers.{big_from-append, big_from-cons, big_from-lt}
 
 -- each is below 256
 abbrev pub AreBytes : List ℕ → Type 0
@@ -55,3 +58,37 @@ big_bytes-number (suc n) (x ∷ xs) long small =
     let others : bytes_high_first n (x * 256 ^ n + r) ≡ xs =
         bytes-above n 0 n x r (omega arith) ∙ big_bytes-number n xs (omega (arith, long)) rest in
     ap (big_bytes (suc n)) number ∙ rw (first, others) refl
+
+pub AreBytes-take : (n : ℕ) (xs : List ℕ) → AreBytes xs → AreBytes (take n xs)
+AreBytes-take n xs small k =
+    elim (cases_lt k n) [
+    | inl below ↦ rw (get_or-take n xs k 0 below) (small k)
+    | inr past ↦
+        let long : length (take n xs) ≤ k = omega (arith, length-take n xs) in
+        let none : get_or (take n xs) k 0 ≡ 0 = get_or_past (take n xs) k 0 long in
+        omega (arith, none)
+    ]
+
+pub AreBytes-drop : (n : ℕ) (xs : List ℕ) → AreBytes xs → AreBytes (drop n xs)
+AreBytes-drop n xs small k = rw (get_or-drop n xs k 0) (small (n + k))
+
+-- from the word on each element
+pub AreBytes-from_all : (xs : List ℕ) → All (λ (b : ℕ). b < 256) xs → AreBytes xs
+AreBytes-from_all xs all k =
+    elim (cases_lt k (length xs)) [
+    | inl below ↦ All-get_or (λ (b : ℕ). b < 256) xs k 0 below all
+    | inr past ↦ let none : get_or xs k 0 ≡ 0 = get_or_past xs k 0 past in omega (arith, none)
+    ]
+
+-- a number that is read ends with its bytes
+pub big_number-take : (n : ℕ) (xs : List ℕ) → n ≤ length xs → big_number n xs ≡ big_number n (take n xs)
+big_number-take n xs room =
+    let long : n ≤ length (take n xs) = omega (arith, length-take-le n xs room) in
+    ap (big_number n) (sym (take-append-drop n xs)) ∙ big_from-append n (take n xs) (drop n xs) long
+
+-- n bytes at the front of a list are those of the number that they spell
+pub big_bytes-front : (n : ℕ) (xs : List ℕ) → n ≤ length xs → AreBytes xs → xs ≡ big_bytes n (big_number n xs) ++ drop n xs
+big_bytes-front n xs room small =
+    let front : big_bytes n (big_number n xs) ≡ take n xs =
+        ap (big_bytes n) (big_number-take n xs room) ∙ big_bytes-number n (take n xs) (length-take-le n xs room) (AreBytes-take n xs small) in
+    sym (ap (λ (ys : List ℕ). ys ++ drop n xs) front ∙ take-append-drop n xs)

@@ -61,26 +61,28 @@ pub record IsSampleFile (bytes : List ℕ) (header : Header) (samples : List Sam
 abbrev pub form_of : Bool → CheckForm
 form_of flag = if flag then Complemented else Plain
 
--- the header that 16 bytes hold, whatever they are
-abbrev pub header_of : List ℕ → Header
-header_of bytes = record {
-  version = big_number 2 (drop 4 bytes);
-  check30 = form_of (big_number 2 (drop 6 bytes) % 2 == 1);
-  check16 = form_of (big_number 2 (drop 6 bytes) / 2 % 2 == 1);
-  count = big_number 8 (drop 8 bytes);
-}
+-- what is due for a header that holds these numbers: the first fault in them, or the header
+abbrev pub header_due : ℕ → ℕ → ℕ → Result Header FileFault
+header_due version flags count =
+    if version == 1 then (
+      if nat_lt flags 4 then (
+        if nat_lt most_samples count then Err Count else Ok (record {
+          version = version;
+          check30 = form_of (flags % 2 == 1);
+          check16 = form_of (flags / 2 % 2 == 1);
+          count = count;
+        })
+      ) else Err Flags
+    ) else Err Version
 
--- the header that a file of these bytes has, or what is wrong with it: the first of these that is
+-- what opening a file of these bytes answers: its header, or the first fault in the first 16 bytes
 unfoldable pub opening : List ℕ → Result Header FileFault
 opening bytes =
-    if nat_lt (length bytes) 16 then Err (Short (length bytes))
-    else if starts_with nat_eq bytes magic then (
-    if big_number 2 (drop 4 bytes) == 1 then (
-    if nat_lt (big_number 2 (drop 6 bytes)) 4 then (
-    if nat_lt most_samples (big_number 8 (drop 8 bytes)) then Err Count else Ok (header_of bytes)
-    ) else Err Flags
-    ) else Err Version
-    ) else Err Magic
+    if nat_lt (length bytes) 16 then Err (Short (length bytes)) else (
+      if starts_with nat_eq bytes magic then
+        header_due (big_number 2 (drop 4 bytes)) (big_number 2 (drop 6 bytes)) (big_number 8 (drop 8 bytes))
+      else Err Magic
+    )
 
 -- ---- what a reader holds and answers
 

@@ -1,6 +1,12 @@
-use Rattle.std.proofs.Common.{rules}
-use Rattle.cdma_io.proofs.Spelling.{four_bytes}
+use Rattle.std.proofs.Common.{◌≡◌, ◌-◌, take, drop, length, rules, arith}
+use Rattle.std.specs.Int.{w16, cast_signed}
+use Rattle.byteorder.specs.Endian.{big_number}
+use Rattle.cdma_io.proofs.ByteNumbers.{AreBytes}
+use Rattle.cdma_io.proofs.Spelling.{spelled_sample}
 use Rattle.cdma_io.proofs.samples.parse_sample.Goals as goal
 
 pub returns-clause-spelled : goal.returns-clause-spelled
-returns-clause-spelled c = let h = c.type_inv.bytes in let e = c.read_i16.ensures in let e2 = c.read_i16-2.ensures in ?
+returns-clause-spelled c =
+    let bytes = c.args.bytes.now in
+    let small : AreBytes bytes = λ k. let fits = c.type_inv.bytes k in omega arith in
+    spelled_sample bytes _ _ c.requires small (search rules) (search rules)
