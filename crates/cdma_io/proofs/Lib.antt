@@ -1,4 +1,5 @@
 pub mod ByteNumbers
 pub mod Moves
 pub mod Opening
+pub mod Reading
 pub mod Spelling

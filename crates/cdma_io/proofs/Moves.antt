@@ -21,7 +21,7 @@ moved bytes buf copied at n within is =
     rw (front, copy, ← back) (sym (take-append-drop n (drop at bytes)))
 
 -- a buffer that is filled up to a place, and n bytes further
-pub filled_more : (buf part : List ℕ) (at k n : ℕ) → at ≤ length buf → n ≤ length part →
+pub filled_more : {X : Type 0} (buf part : List X) (at k n : ℕ) → at ≤ length buf → n ≤ length part →
     take at buf ++ take n part ≡ take (at + n) (put_mid at k buf part)
 filled_more buf part at k n within fits =
     let whole = put_mid at k buf part in
