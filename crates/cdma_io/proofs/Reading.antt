@@ -1,5 +1,5 @@
 -- Lemmas on reading samples piece by piece.
-use Rattle.std.proofs.Common.{◌≡◌, ℕ, ◌+◌, ◌-◌, ◌*◌, ◌<◌, ◌≤◌, List, ◌++◌, length, take, sym, ap, ◌∙◌, subst, arith, length-append, take_all, le_refl, All, Option, None, Some}
+use Rattle.std.proofs.Common.{◌≡◌, ℕ, ◌+◌, ◌*◌, ◌≤◌, List, ◌++◌, length, take, sym, ap, ◌∙◌, subst, arith, length-append, take_all, All, Option, None, Some}
 use Rattle.std.specs.List.{flat_map}
 use Rattle.std.specs.Io.KnownBytes.{Consumes}
 use Rattle.std.proofs.KnownBytes.{Consumes-trans}
@@ -40,7 +40,7 @@ cuts_short_whole (Short cut) None mid new samples count whole from place few her
 cuts_short_whole (Short cut) (Some xs) None new samples count whole from place few here read fault = absurd read
 cuts_short_whole (Short cut) (Some xs) (Some ys) new samples count whole from place few here read fault =
     let long : length xs ≡ 4 * length samples + length ys =
-        ap length read ∙ length-append (flat_map sample_spelling samples) ys ∙ ap (λ (n : ℕ). n + length ys) (length-samples samples) in
+    ap length read ∙ length-append (flat_map sample_spelling samples) ys ∙ ap (λ (n : ℕ). n + length ys) (length-samples samples) in
     (omega (arith, fault.0), omega (arith, fault.1), fault.2)
 cuts_short_whole ReadFault old mid new samples count whole from place few here read fault = tt
 cuts_short_whole Magic old mid new samples count whole from place few here read fault = absurd fault
@@ -64,8 +64,8 @@ pub pieces_more : (old mid new : Option (List ℕ)) (out part : List Sample) (do
 pieces_more old mid new out part done k count within long before read =
     let joined = flat_map-append sample_spelling (take done out) part in
     let all : flat_map sample_spelling (take done out) ++ flat_map sample_spelling part
-        ≡ flat_map sample_spelling (take (done + count) (put_mid done k out part)) =
-        sym joined ∙ ap (flat_map sample_spelling) (piece_more out part done k count within long) in
+    ≡ flat_map sample_spelling (take (done + count) (put_mid done k out part)) =
+    sym joined ∙ ap (flat_map sample_spelling) (piece_more out part done k count within long) in
     subst (Consumes old new) all (Consumes-trans old mid new _ _ before read)
 
 pub pieces_in_range : (out part : List Sample) (done k count : ℕ) → done ≤ length out → length part ≡ count →

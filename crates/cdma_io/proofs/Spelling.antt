@@ -1,12 +1,11 @@
 -- Lemmas on the bytes of samples.
-use Rattle.std.proofs.Common.{◌≡◌, ℕ, zero, suc, ◌+◌, ◌-◌, ◌*◌, ◌^◌, ◌<◌, ◌≤◌, ℤ, List, [], ◌∷◌, ◌++◌, length, take, drop, refl, sym, ap, ◌∙◌, subst, arith, set, append-nil, length-append, length-drop, take-append-drop, drop_at, All}
+use Rattle.std.proofs.Common.{◌≡◌, ℕ, ◌+◌, ◌-◌, ◌*◌, ◌^◌, ◌<◌, ◌≤◌, ℤ, List, [], ◌∷◌, ◌++◌, length, take, drop, refl, sym, ap, ◌∙◌, subst, arith, set, append-nil, length-append, length-drop, take-append-drop, drop_at, All}
 use Rattle.std.proofs.lemmas.List.{length-take-le, take_all, take_more_set}
 use Rattle.std.proofs.lemmas.List.Concat.{flat_map-append}
 use lib.Seq.{take-add}
 use Rattle.std.proofs.lemmas.List.Elements.{All-head, All-push, All-tail}
 use Rattle.std.proofs.lemmas.Int.{of_z-to_z, to_z-of_z}
 use Rattle.std.proofs.Math.Facts.{Fits-of_z}
-use Rattle.std.proofs.Math.Nat.{mod-eq_of_lt}
 use Rattle.std.specs.Int.{w16, cast_signed, cast_unsigned}
 use Rattle.std.specs.List.{flat_map}
 use Rattle.byteorder.specs.Endian.{big_bytes, big_number}
@@ -40,15 +39,15 @@ four_bytes bytes long small =
     let back = drop 2 bytes in
     let pattern : ℕ → List ℕ = λ n. big_bytes 2 (cast_unsigned w16 (cast_signed w16 n)) in
     let first : pattern (big_number 2 front) ≡ front =
-        two_bytes front (length-take-le 2 bytes (omega (arith, long))) (AreBytes-take 2 bytes small) in
+    two_bytes front (length-take-le 2 bytes (omega (arith, long))) (AreBytes-take 2 bytes small) in
     let second : pattern (big_number 2 back) ≡ back =
-        two_bytes back (omega (arith, length-drop 2 bytes)) (AreBytes-drop 2 bytes small) in
+    two_bytes back (omega (arith, length-drop 2 bytes)) (AreBytes-drop 2 bytes small) in
     let read : big_number 2 bytes ≡ big_number 2 front = big_number-take 2 bytes (omega (arith, long)) in
     sym (
-      ap (λ (n : ℕ). pattern n ++ pattern (big_number 2 back)) read
-      ∙ ap (λ (xs : List ℕ). xs ++ pattern (big_number 2 back)) first
-      ∙ ap (λ (xs : List ℕ). front ++ xs) second
-      ∙ take-append-drop 2 bytes
+    ap (λ (n : ℕ). pattern n ++ pattern (big_number 2 back)) read
+    ∙ ap (λ (xs : List ℕ). xs ++ pattern (big_number 2 back)) first
+    ∙ ap (λ (xs : List ℕ). front ++ xs) second
+    ∙ take-append-drop 2 bytes
     )
 
 -- the sample that a reader made of four bytes, which it read at two places of a slice
@@ -72,9 +71,9 @@ sample_in-spelling sample rest small =
     let i_bits = cast_unsigned w16 sample.i in
     let q_bits = cast_unsigned w16 sample.q in
     let i_read : big_number 2 (sample_spelling sample ++ rest) ≡ i_bits =
-        big_number-reads_back 2 i_bits (big_bytes 2 q_bits ++ rest) (omega (arith, Fits-of_z small.in_phase)) in
+    big_number-reads_back 2 i_bits (big_bytes 2 q_bits ++ rest) (omega (arith, Fits-of_z small.in_phase)) in
     let q_read : big_number 2 (drop 2 (sample_spelling sample ++ rest)) ≡ q_bits =
-        big_number-reads_back 2 q_bits rest (omega (arith, Fits-of_z small.quadrature)) in
+    big_number-reads_back 2 q_bits rest (omega (arith, Fits-of_z small.quadrature)) in
     let make : ℤ → ℤ → Sample = λ i q. record { i = i; q = q } in
     ap (λ (n : ℕ). make (cast_signed w16 n) (cast_signed w16 (big_number 2 (drop 2 (sample_spelling sample ++ rest))))) i_read
     ∙ ap (λ (n : ℕ). make (cast_signed w16 i_bits) (cast_signed w16 n)) q_read
@@ -98,15 +97,15 @@ flat_map-sample_spelling (x ∷ xs) (y ∷ ys) small_x small_y same =
     let xs_bytes = flat_map sample_spelling xs in
     let ys_bytes = flat_map sample_spelling ys in
     let first : x ≡ y =
-        sym (sample_in-spelling x xs_bytes (All-head HasSixteenBits x xs small_x))
-        ∙ ap sample_in same
-        ∙ sample_in-spelling y ys_bytes (All-head HasSixteenBits y ys small_y) in
+    sym (sample_in-spelling x xs_bytes (All-head HasSixteenBits x xs small_x))
+    ∙ ap sample_in same
+    ∙ sample_in-spelling y ys_bytes (All-head HasSixteenBits y ys small_y) in
     let rest : xs_bytes ≡ ys_bytes =
-        sym (drop_at (sample_spelling x) xs_bytes 4 (length-sample_spelling x))
-        ∙ ap (drop 4) same
-        ∙ drop_at (sample_spelling y) ys_bytes 4 (length-sample_spelling y) in
+    sym (drop_at (sample_spelling x) xs_bytes 4 (length-sample_spelling x))
+    ∙ ap (drop 4) same
+    ∙ drop_at (sample_spelling y) ys_bytes 4 (length-sample_spelling y) in
     let others : xs ≡ ys =
-        flat_map-sample_spelling xs ys (All-tail HasSixteenBits x xs small_x) (All-tail HasSixteenBits y ys small_y) rest in
+    flat_map-sample_spelling xs ys (All-tail HasSixteenBits x xs small_x) (All-tail HasSixteenBits y ys small_y) rest in
     ap (λ (z : Sample). z ∷ xs) first ∙ ap (λ (zs : List Sample). y ∷ zs) others
 
 -- the step of a reader's loop over samples: four bytes more
@@ -118,10 +117,10 @@ samples_more bytes out k sample within before four =
     let place : 4 * (k + 1) ≡ 4 * k + 4 = omega arith in
     let wide : 4 * (k + 1) - 4 * k ≡ 4 = omega arith in
     let next : take 4 (drop (4 * k) bytes) ≡ sample_spelling sample =
-        ap (λ (n : ℕ). take n (drop (4 * k) bytes)) (sym wide) ∙ four in
+    ap (λ (n : ℕ). take n (drop (4 * k) bytes)) (sym wide) ∙ four in
     let front = flat_map sample_spelling (take k out) in
     let joined : flat_map sample_spelling (take (k + 1) (set out k sample)) ≡ front ++ (sample_spelling sample ++ []) =
-        ap (flat_map sample_spelling) (take_more_set out k sample within) ∙ flat_map-append sample_spelling (take k out) (sample ∷ []) in
+    ap (flat_map sample_spelling) (take_more_set out k sample within) ∙ flat_map-append sample_spelling (take k out) (sample ∷ []) in
     ap (λ (n : ℕ). take n bytes) place
     ∙ take-add (4 * k) 4 bytes
     ∙ ap (λ (xs : List ℕ). xs ++ take 4 (drop (4 * k) bytes)) before

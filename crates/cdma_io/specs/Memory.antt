@@ -1,5 +1,5 @@
 -- What the source and the sink in memory hold.
-use Rattle.std.specs.Prelude.{◌≡◌, ℕ, ◌-◌, min, List, ◌++◌, length, take, drop}
+use Rattle.std.specs.Prelude.{ℕ, ◌-◌, min, List, ◌++◌, length, drop}
 use Rattle.cdma_io.specs.Outside.{next_count}
 
 -- a source: the bytes left, the most that it gives a call, the numbers of the calls that fail, how

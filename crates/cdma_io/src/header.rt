@@ -1,7 +1,7 @@
 //! The header of a sample file.
 
-ghost use Rattle.std.specs.Prelude.{◌≡◌, ◌≢◌, length, Err};
-ghost use Rattle.cdma_io.specs.SampleFile.{form_of, opening};
+ghost use Rattle.std.specs.Prelude.{◌≡◌, ◌≢◌, length, Err, IfOk};
+ghost use Rattle.cdma_io.specs.SampleFile.{IsLawfulHeader, form_of, header_spelling, opening};
 
 use crate::file_fault::FileFault;
 use byteorder::{BigEndian, ByteOrder};
@@ -34,6 +34,8 @@ pub fn parse_header(bytes: &[u8]) -> Result<Header, FileFault>
     requires { length bytes.now ≡ HEADER_LEN }
     ensures value { result ≡ opening bytes.now }
     ensures bytes_alone { result ≢ Err FileFault.ReadFault }
+    ensures lawful { IfOk result IsLawfulHeader }
+    ensures spelled { IfOk result (λ header. bytes.now ≡ header_spelling header) }
 {
     if !bytes.starts_with(&MAGIC) {
         return Err(FileFault::Magic);

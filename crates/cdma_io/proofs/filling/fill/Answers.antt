@@ -21,4 +21,4 @@ pub returns-then-count-eq0-clause-taken : goal.returns-then-count-eq0-clause-tak
 returns-then-count-eq0-clause-taken g c =
     let long : length c.loop-filled.buf ≡ length c.args.buf.now = search rules in
     taken_to_end _ (g.S.Source.rest c.loop-filled.source) _ c.loop-filled.buf c.take.new.buf c.loop-filled.filled c.in_ok-count.count (length c.args.buf.now)
-        c.loop-filled.invariant.filled long c.if-count-eq0.true c.loop-filled.invariant.taken c.in_ok-count.ensures.bytes.0
+    c.loop-filled.invariant.filled long c.if-count-eq0.true c.loop-filled.invariant.taken c.in_ok-count.ensures.bytes.0

@@ -1,6 +1,4 @@
-use Rattle.std.proofs.Common.{◌≡◌, ◌-◌, take, drop, length, rules, arith}
-use Rattle.std.specs.Int.{w16, cast_signed}
-use Rattle.byteorder.specs.Endian.{big_number}
+use Rattle.std.proofs.Common.{rules, arith}
 use Rattle.cdma_io.proofs.ByteNumbers.{AreBytes}
 use Rattle.cdma_io.proofs.Spelling.{spelled_sample}
 use Rattle.cdma_io.proofs.samples.parse_sample.Goals as goal
