@@ -1,14 +1,13 @@
 -- A division by x undoes a step.
-use Rattle.std.proofs.Common.{◌≡◌, ℕ, zero, suc, ◌+◌, ◌-◌, ◌^◌, ◌<◌, Bool, true, false, cond, List, [], ◌∷◌, ◌++◌, length, reverse, refl, sym, ap, ◌∙◌, arith, length-append}
+use Rattle.std.proofs.Common.{◌≡◌, ℕ, zero, suc, ◌^◌, ◌<◌, Bool, true, false, List, [], ◌∷◌, ◌++◌, length, reverse, refl, sym, ap, ◌∙◌, arith, length-append}
 use Rattle.std.proofs.lemmas.List.{reverse-append, reverse-reverse, length-reverse}
-use Rattle.std.proofs.lemmas.Grind.{reverse_onto}
 use Rattle.chip_core.specs.Bits.{xor, number, binary, places}
 use Rattle.chip_core.proofs.Numbers.{binary-number_from}
-use Rattle.chip_core.proofs.RegisterBits.{length-binary, xor_false}
+use Rattle.chip_core.proofs.RegisterBits.{length-binary}
 use Rattle.long_code.specs.LongCode.{below, above, after, before}
 use Rattle.long_code.proofs.Division.{add, shifted, times_x, length_add, length_shifted, length_times_x, remainder-zeros, shifted-times_x}
 use Rattle.long_code.proofs.Digits.{number-binary, number_lt}
-use Rattle.long_code.proofs.After.{after_is, length-below}
+use Rattle.long_code.proofs.After.{after_is}
 
 -- the two middle coefficients, which both readings of the polynomial share
 add_push : (a b : List Bool) (x y : Bool) → length a ≡ length b → add (a ++ x ∷ []) (b ++ y ∷ []) ≡ add a b ++ xor x y ∷ []

@@ -1,10 +1,10 @@
 -- Numbers of so many bits, and their digits.
-use Rattle.std.proofs.Common.{◌≡◌, ℕ, zero, suc, ◌+◌, ◌*◌, ◌/◌, ◌%◌, ◌^◌, ◌<◌, Bool, true, false, List, [], ◌∷◌, ◌++◌, length, refl, sym, ap, ◌∙◌, arith, nat_eq, bit_xor}
+use Rattle.std.proofs.Common.{◌≡◌, ℕ, zero, suc, ◌+◌, ◌*◌, ◌/◌, ◌%◌, ◌^◌, ◌<◌, Bool, false, List, [], ◌∷◌, ◌++◌, length, refl, sym, ap, ◌∙◌, arith, nat_eq, bit_xor}
 use Rattle.std.proofs.lemmas.Nat.{xor_shr, pow_pos, field_of}
 use Rattle.std.proofs.Math.Nat.{lt-div-mul-add}
 use Rattle.std.proofs.lemmas.Nat.Bits.{bit_at_xor}
 use Rattle.std.proofs.Math.Pow.{mod-mod-pow}
-use Rattle.chip_core.specs.Bits.{xor, digit, number, number_from, binary, zip_with}
+use Rattle.chip_core.specs.Bits.{xor, digit, number, binary, zip_with}
 use Rattle.chip_core.proofs.Numbers.{number_from-append, number_from-front}
 use Rattle.chip_core.proofs.RegisterBits.{length-binary}
 use Rattle.long_code.proofs.Division.{add}

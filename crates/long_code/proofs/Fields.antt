@@ -1,11 +1,11 @@
 -- Masks, field after field.
-use Rattle.std.proofs.Common.{◌≡◌, ℕ, zero, suc, ◌+◌, ◌-◌, ◌*◌, ◌/◌, ◌%◌, ◌^◌, ◌<◌, ◌≤◌, Bool, true, false, List, [], ◌∷◌, ◌++◌, length, get_or, take, map, replicate, refl, sym, ap, subst, ◌∙◌, arith, nat_eq, nat_lt, bit_and, bit_or, append_assoc, length-append}
+use Rattle.std.proofs.Common.{◌≡◌, ℕ, zero, suc, ◌+◌, ◌*◌, ◌/◌, ◌%◌, ◌^◌, ◌<◌, ◌≤◌, Bool, true, false, List, [], ◌∷◌, ◌++◌, length, get_or, take, map, replicate, refl, sym, ap, ◌∙◌, arith, nat_eq, nat_lt, bit_and, bit_or, append_assoc, length-append}
 use Rattle.std.proofs.lemmas.Nat.{or_shifted, and_mask}
 use Rattle.std.proofs.lemmas.Bool.{agree_below, agree_below_at}
 use Rattle.std.proofs.lemmas.List.{take_more, map-append, length-take-le, length-map}
 use Rattle.std.proofs.Math.Pow.{pow_mono}
-use Rattle.chip_core.specs.Bits.{digit, number, number_from, binary, bit_of}
-use Rattle.chip_core.proofs.Numbers.{number_from-append, digit_le}
+use Rattle.chip_core.specs.Bits.{digit, number, binary, bit_of}
+use Rattle.chip_core.proofs.Numbers.{number_from-append}
 use Rattle.chip_core.proofs.RegisterBits.{length-binary}
 use Rattle.long_code.specs.LongCode.{paging_mask, permuted, traffic_mask}
 use Rattle.long_code.proofs.Digits.{digit_of, number-binary, number_lt}

@@ -1,7 +1,7 @@
 -- Every state returns after 2^42 - 1 chips: the checker computes that power of x by squaring.
 use Rattle.std.proofs.Common.{◌≡◌, ℕ, zero, suc, ◌+◌, ◌-◌, ◌*◌, ◌/◌, ◌^◌, ◌<◌, ◌≤◌, Bool, cond, List, [], ◌∷◌, length, refl, sym, ap, ◌∙◌, arith, bit_xor}
 use Rattle.std.proofs.lemmas.Nat.{shr_le, shr-shr, pow_pos}
-use Rattle.chip_core.specs.Bits.{digit, number_from, binary, bit_of}
+use Rattle.chip_core.specs.Bits.{digit, number_from, binary}
 use Rattle.chip_core.proofs.Numbers.{number_from-front}
 use Rattle.long_code.specs.LongCode.{IsState, after, before, period}
 use Rattle.long_code.proofs.Digits.{number-binary}

@@ -1,5 +1,5 @@
 -- Products with powers of x.
-use Rattle.std.proofs.Common.{◌≡◌, ℕ, zero, suc, ◌+◌, ◌-◌, ◌*◌, ◌/◌, ◌%◌, ◌^◌, ◌<◌, ◌≤◌, Bool, true, false, cond, length, sym, ap, ◌∙◌, arith, nat_eq, bit_xor, bit_and}
+use Rattle.std.proofs.Common.{◌≡◌, ℕ, zero, suc, ◌+◌, ◌-◌, ◌*◌, ◌/◌, ◌%◌, ◌^◌, ◌<◌, Bool, true, false, cond, length, sym, ap, ◌∙◌, arith, nat_eq, bit_xor, bit_and}
 use Rattle.std.proofs.lemmas.Nat.{xor_lt, xor_block, shr-shr, shr_le, and_mask}
 use Rattle.std.specs.Int.Bits.{xor_zero_r}
 use Rattle.chip_core.specs.Bits.{number, binary, bit_of, digit}

@@ -1,5 +1,5 @@
 -- The long code of period 2^42 - 1 (TIA/EIA-95-B, 7.1.3.1.10), as powers of x modulo its polynomial, and its masks.
-use Rattle.std.specs.Prelude.{ℕ, ◌-◌, ◌/◌, ◌%◌, ◌^◌, ◌<◌, ◌==◌, Bool, false, List, [], ◌∷◌, ◌++◌, replicate, map, reverse}
+use Rattle.std.specs.Prelude.{ℕ, ◌-◌, ◌^◌, ◌<◌, ◌==◌, Bool, false, List, [], ◌∷◌, ◌++◌, replicate, map, reverse}
 use Rattle.std.specs.List.{list_any}
 use Rattle.chip_core.specs.Bits.{number, binary, common_parity, places, bit_of}
 use Rattle.chip_core.specs.Polynomial.{remainder}

@@ -1,7 +1,7 @@
 -- Worked values, which the checker computes.
 use Rattle.std.specs.Prelude.{◌≡◌, refl, ◌^◌, [], ◌∷◌, map}
 use Rattle.chip_core.specs.Bits.{binary, places}
-use Rattle.long_code.specs.LongCode.{after, before, paging_mask, traffic_mask}
+use Rattle.long_code.specs.LongCode.{after, paging_mask, traffic_mask}
 
 one_step : after (2 ^ 41) 1 ≡ 0x00a8e6f04ef
 unfolding after binary places

@@ -11,7 +11,8 @@ const PUBLIC_HEADER: u64 = 0b11_0001_1000;
 
 /// The bits of an electronic serial number in the order of the public mask, bit 0 being the lowest.
 const SERIAL_ORDER: [u8; 32] = [
-    0, 31, 22, 13, 4, 26, 17, 8, 30, 21, 12, 3, 25, 16, 7, 29, 20, 11, 2, 24, 15, 6, 28, 19, 10, 1, 23, 14, 5, 27, 18, 9,
+    0, 31, 22, 13, 4, 26, 17, 8, 30, 21, 12, 3, 25, 16, 7, 29, 20, 11, 2, 24, 15, 6, 28, 19, 10, 1,
+    23, 14, 5, 27, 18, 9,
 ];
 
 /// The mask of a paging channel, 1 to 7, of the base station whose pilot has this offset index, 0 to 511.
@@ -40,4 +41,15 @@ pub fn traffic_mask(esn: u32) -> u64
         mask = mask << 1 | u64::from(esn >> *place & 1);
     }
     mask
+}
+
+#[cfg(test)]
+mod tests {
+    use super::*;
+
+    #[test]
+    fn worked_masks(rt: HostRuntime) {
+        assert_eq!(rt; paging_mask(1, 511), 0x319_a020_01ff);
+        assert_eq!(rt; traffic_mask(1), 0x318_8000_0000);
+    }
 }

@@ -112,3 +112,38 @@ fn product(value: u64, power: u64) -> u64
     }
     sum
 }
+
+#[cfg(test)]
+mod tests {
+    use super::*;
+    use std::test::Fail;
+
+    #[test]
+    fn numbers_of_no_state(rt: HostRuntime) {
+        assert_eq!(rt; State::new(0), None);
+        assert_eq!(rt; State::new(4_398_046_511_104), None);
+    }
+
+    #[test]
+    fn steps_and_jumps(rt: HostRuntime) -> Result<(), Fail> {
+        let mut state = State::new(0x200_0000_0000).ok_or("a state")?;
+        state.step();
+        assert_eq!(rt; state.value(), 0x00a_8e6f_04ef);
+
+        let mut state = State::new(1).ok_or("a state")?;
+        state.jump(41);
+        assert_eq!(rt; state.value(), 0x200_0000_0000);
+        state.jump(4_398_046_511_103);
+        assert_eq!(rt; state.value(), 0x200_0000_0000);
+        Ok(())
+    }
+
+    #[test]
+    fn chips_under_masks(rt: HostRuntime) -> Result<(), Fail> {
+        let state = State::new(0x00a_8e6f_04ef).ok_or("a state")?;
+        assert!(rt; state.chip(0x80));
+        assert!(rt; !state.chip(0x10));
+        assert!(rt; !state.chip(0xa0));
+        Ok(())
+    }
+}

@@ -1,4 +1,4 @@
-use Rattle.std.proofs.Common.{◌≡◌, ◌/◌, ◌%◌, ◌*◌, ◌^◌, ◌<◌, ℕ, true, false, sym, ap, ◌∙◌, arith, eq-eqb, bit_and}
+use Rattle.std.proofs.Common.{◌≡◌, ◌/◌, ◌%◌, ◌*◌, ◌^◌, ◌<◌, ℕ, true, false, sym, ◌∙◌, arith, eq-eqb, bit_and}
 use Rattle.std.proofs.lemmas.Nat.{and_mask, xor_lt}
 use Rattle.std.proofs.lemmas.Bool.{ne_eqb}
 use Rattle.chip_core.specs.Bits.{bit_of}
