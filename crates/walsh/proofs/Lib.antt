@@ -1,0 +1,2 @@
+pub mod RowTable
+pub mod SumLaws

@@ -1,0 +1,28 @@
+-- The rows: as counts of set bits, and orthogonal by a table of 4,096 sums.
+use Rattle.std.proofs.Common.{◌≡◌, ℕ, ◌^◌, ◌<◌, Bool, true, refl, arith, ℤ, pos, nat_eq, bit_and, int_eq}
+use Rattle.std.specs.Prelude.{if◌then◌else◌, ◌==◌}
+use Rattle.std.specs.Int.RustNames.{count_ones}
+use Rattle.std.proofs.lemmas.Int.{ints}
+use Rattle.std.proofs.lemmas.Bool.{agree_below, agree_below_at}
+use Rattle.chip_core.specs.Bits.{binary}
+use Rattle.chip_core.specs.Sums.{sum_below}
+use Rattle.chip_core.proofs.CommonParity.{common_parity-ones}
+use Rattle.walsh.specs.Walsh.{walsh, row_sum}
+
+pub walsh-ones : (n k : ℕ) → n < 64 → nat_eq (bit_and (count_ones (bit_and n k)) 1) 1 ≡ walsh n k
+unfolding walsh
+walsh-ones n k h = common_parity-ones 6 n k h
+
+abbrev is_right : ℕ → ℕ → Bool
+is_right m n = int_eq (row_sum m n) (if m == n then pos 64 else pos 0)
+
+all_right : agree_below (λ m. agree_below (is_right m) (λ n. true) 64) (λ m. true) 64 ≡ true
+unfolding row_sum sum_below walsh binary
+all_right = refl
+
+int_eq-true : (a b : ℤ) → int_eq a b ≡ true → a ≡ b
+int_eq-true a b e = grind (arith, ints, e)
+
+pub orthogonal : (m n : ℕ) → m < 64 → n < 64 → row_sum m n ≡ (if m == n then pos 64 else pos 0)
+orthogonal m n p q =
+    int_eq-true _ _ (agree_below_at (is_right m) (λ n. true) 64 n (agree_below_at (λ m. agree_below (is_right m) (λ n. true) 64) (λ m. true) 64 m all_right p) q)

@@ -1,0 +1,2 @@
+pub mod Walsh
+pub mod Worked

@@ -1,0 +1,8 @@
+//! Laws of the rows. Each function does nothing, and its contract is a law, which the check proves.
+
+ghost use Rattle.walsh.specs.Walsh.{AreOrthogonalRows};
+
+/// Over 64 chips a row agrees with itself everywhere, and with another row as often as not.
+pub fn rows_are_orthogonal()
+    ensures { AreOrthogonalRows }
+{}
