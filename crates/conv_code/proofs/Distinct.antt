@@ -5,7 +5,7 @@ use Rattle.std.specs.List.{list_all}
 use Rattle.std.proofs.lemmas.List.{take_at, drop_at, ext_get_or}
 use Rattle.std.proofs.lemmas.Bool.{and_parts, leb-true}
 use Rattle.chip_core.specs.Bits.{xor, parity}
-use Rattle.conv_code.specs.ConvCode.{symbol, g0, g1, code_symbols}
+use Rattle.conv_code.specs.ConvCode.{symbol, g0, g1}
 use Rattle.conv_code.specs.Laws.{IsDistinctCode}
 use Rattle.conv_code.proofs.Parities.{xor_cancel}
 use Rattle.conv_code.proofs.Pairs.{symbols_at}

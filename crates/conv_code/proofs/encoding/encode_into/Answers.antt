@@ -1,5 +1,4 @@
 use Rattle.std.proofs.Common.{◌≡◌, ◌+◌, ◌++◌, [], ◌∷◌, take, length, length-append, sym, ap, ◌∙◌, arith}
-use Rattle.std.proofs.lemmas.List.{take_all}
 use Rattle.chip_core.specs.Bits.{binary}
 use Rattle.conv_code.specs.ConvCode.{code_symbols, state_after}
 use Rattle.conv_code.proofs.Continued.{code_symbols-none, state_after-none}

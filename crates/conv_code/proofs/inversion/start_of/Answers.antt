@@ -1,4 +1,4 @@
-use Rattle.std.proofs.Common.{◌≡◌, ◌∙◌, sym, ap, arith, false, get_or, [], ◌∷◌}
+use Rattle.std.proofs.Common.{◌≡◌, ◌∙◌, sym, ap, arith, false, get_or}
 use Rattle.chip_core.specs.Bits.{binary}
 use Rattle.chip_core.proofs.RegisterBits.{length-binary}
 use Rattle.conv_code.proofs.Starts.{start_entry, eight_entries, eight_pushed}
