@@ -1,0 +1,53 @@
+-- Lists that end with their check.
+use Rattle.std.proofs.Common.{◌≡◌, ℕ, ◌+◌, ◌-◌, ◌*◌, ◌^◌, ◌<◌, ◌≤◌, Bool, true, false, not, List, [], ◌∷◌, ◌++◌, length, map, take, drop, get_or, refl, sym, ap, ◌∙◌, arith, nat_eq, Some, suc, length-append}
+use Rattle.std.specs.Prelude.{◌↔◌, IsTrue}
+use Rattle.std.specs.List.{slice_get}
+use Rattle.std.proofs.lemmas.List.{take_more, take_at, drop_at}
+use Rattle.std.proofs.lemmas.Bool.{eqb-true, eq-eqb}
+use Rattle.std.proofs.lemmas.Option.{get_or_from_slice_get, slice_get_within}
+use Rattle.chip_core.specs.Bits.{number}
+use Rattle.chip_core.specs.declared.check_form.CheckForm.{CheckForm}
+use Rattle.chip_core.specs.declared.check_form.CheckForm.TheVariants.{Plain, Complemented}
+use Rattle.quality_bits.specs.declared.kind.Kind.{Kind}
+use Rattle.quality_bits.specs.declared.kind.Kind.TheVariants.{Q6, Q8, Q10, Q12, M16, M30}
+use Rattle.quality_bits.specs.Quality.{check_bits}
+use Rattle.quality_bits.specs.Kinds.{generator_of, sent_check, body_length, IsChecked}
+use Rattle.quality_bits.proofs.Digits.{number_injective}
+use Rattle.quality_bits.proofs.Steps.{length-check_bits}
+
+-- a loop has read the first i bits of a list, and one more
+pub taken_more : (bits : List Bool) (i : ℕ) (bit : Bool) → slice_get bits i ≡ Some bit → take (i + 1) bits ≡ take i bits ++ bit ∷ []
+taken_more bits i bit read =
+    let within : i < length bits = slice_get_within bits i bit read in
+    take_more bits i false within ∙ ap (λ (b : Bool). take i bits ++ b ∷ []) (get_or_from_slice_get bits i bit false read)
+
+length-inverted : (bs : List Bool) → length (map not bs) ≡ length bs
+length-inverted [] = refl
+length-inverted (b ∷ bs) = ap suc (length-inverted bs)
+
+pub degree_positive : (kind : Kind) → 0 < (generator_of kind).degree
+degree_positive Q6 = omega arith
+degree_positive Q8 = omega arith
+degree_positive Q10 = omega arith
+degree_positive Q12 = omega arith
+degree_positive M16 = omega arith
+degree_positive M30 = omega arith
+
+pub length-sent_check : (kind : Kind) (form : CheckForm) (bits : List Bool) → length (sent_check kind form bits) ≡ (generator_of kind).degree
+length-sent_check kind Plain bits = length-check_bits (generator_of kind) bits (degree_positive kind)
+length-sent_check kind Complemented bits =
+    length-inverted (check_bits (generator_of kind) bits) ∙ length-check_bits (generator_of kind) bits (degree_positive kind)
+
+-- equal numbers of lists of one length, as the code compares them
+pub same_numbers : (xs ys : List Bool) (m n : ℕ) → length xs ≡ length ys → m ≡ number xs → n ≡ number ys → IsTrue (nat_eq m n) ↔ (xs ≡ ys)
+same_numbers xs ys m n long left right = (
+  (λ same. number_injective xs ys long (sym left ∙ eqb-true m n same ∙ right)),
+  (λ same. eq-eqb m n (left ∙ ap number same ∙ sym right)),
+)
+
+-- bits with their check behind them are checked
+pub checked-sent : (kind : Kind) (form : CheckForm) (bits : List Bool) → IsChecked kind form (bits ++ sent_check kind form bits)
+checked-sent kind form bits =
+    let sent = sent_check kind form bits in
+    let body : body_length kind (bits ++ sent) ≡ length bits = omega (arith, length-append bits sent, length-sent_check kind form bits) in
+    rw (body, drop_at bits sent (length bits) refl, take_at bits sent (length bits) refl)

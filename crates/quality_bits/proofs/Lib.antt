@@ -1,0 +1,4 @@
+pub mod Pushed
+pub mod Digits
+pub mod Steps
+pub mod Ends

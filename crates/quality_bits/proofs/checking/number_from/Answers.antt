@@ -1,0 +1,19 @@
+use Rattle.std.proofs.Common.{◌≡◌, ◌+◌, ◌-◌, ◌*◌, ◌<◌, ◌^◌, Some, sym, ap, ◌∙◌, arith, ℕ}
+use Rattle.std.specs.List.{slice_get}
+use Rattle.chip_core.specs.Bits.{digit}
+use Rattle.chip_core.proofs.Numbers.{read_more, digit_below, bool_byte-digit}
+use Rattle.quality_bits.proofs.checking.number_from.Goals as goal
+
+pub loop-i-preserved : goal.loop-i-preserved
+loop-i-preserved c =
+    let from = c.args.from in
+    let k = c.loop-i.i - from in
+    let bit = c.get.result in
+    let at : c.loop-i.i ≡ from + k = omega arith in
+    let more : c.loop-i.i + 1 - from ≡ k + 1 = omega arith in
+    let read : slice_get c.args.bits.now (from + k) ≡ Some bit = ap (slice_get c.args.bits.now) (sym at) ∙ c.get.ensures in
+    let small : 2 * c.loop-i.number + digit bit < 2 ^ (k + 1) = digit_below c.loop-i.number k bit c.loop-i.invariant.small in
+    record {
+      read = rw more (read_more c.args.bits.now from k c.loop-i.number c.from.result bit c.loop-i.invariant.read read c.from.ensures);
+      small = rw (more, c.from.ensures, bool_byte-digit bit) small;
+    }

@@ -1,0 +1,22 @@
+use Rattle.std.proofs.Common.{◌≡◌, ◌+◌, ◌≤◌, ◌<◌, ◌^◌, take, length, sym, ap, ◌∙◌, arith, ℕ, map, not}
+use Rattle.std.proofs.Math.Pow.{pow_mono}
+use Rattle.chip_core.specs.Bits.{number}
+use Rattle.quality_bits.specs.Quality.{check_bits}
+use Rattle.quality_bits.specs.Kinds.{generator_of}
+use Rattle.quality_bits.proofs.Digits.{number-inverted}
+use Rattle.quality_bits.proofs.Steps.{length-check_bits}
+use Rattle.quality_bits.proofs.checking.sent_after.Goals as goal
+
+pub returns-in-Complemented : goal.returns-in-Complemented
+returns-in-Complemented c =
+    let g = generator_of c.args.kind in
+    let d = c.divisor.result in
+    let bits = take c.args.count c.args.bits.now in
+    let checked = check_bits g bits in
+    let degree : d.degree ≡ g.degree = c.divisor.ensures.degree in
+    let some : 0 < g.degree = omega (arith, d.least, degree) in
+    let bound : 2 ^ d.degree ≤ 2 ^ 30 = pow_mono d.most in
+    let long : length checked ≡ d.degree = length-check_bits g bits some ∙ sym degree in
+    let plain : c.value-plain.result ≡ number checked = c.value-plain.ensures.value c.args.kind bits c.taken.ensures in
+    let sum : number (map not checked) + number checked + 1 ≡ 2 ^ d.degree = rw long at (number-inverted checked) in
+    rw c.in-Complemented.is (omega (arith, sum, plain, bound))

@@ -1,0 +1,39 @@
+-- The checks by their kinds, and the lists that end with one.
+use Rattle.std.specs.Prelude.{◌≡◌, ℕ, ◌-◌, Bool, List, length, take, drop}
+use Rattle.chip_core.specs.Bits.{number}
+use Rattle.chip_core.specs.declared.check_form.CheckForm.{CheckForm}
+use Rattle.chip_core.specs.declared.check_form.CheckForm.TheVariants.{Plain, Complemented}
+use Rattle.quality_bits.specs.declared.kind.Kind.{Kind}
+use Rattle.quality_bits.specs.declared.kind.Kind.TheVariants.{Q6, Q8, Q10, Q12, M16, M30}
+use Rattle.quality_bits.specs.Quality.{Generator, q6, q8, q10, q12, m16, m30, check_bits, inverted}
+
+abbrev pub generator_of : Kind → Generator
+generator_of Q6 = q6
+generator_of Q8 = q8
+generator_of Q10 = q10
+generator_of Q12 = q12
+generator_of M16 = m16
+generator_of M30 = m30
+
+-- a division under way: the generator's kind, and the remainder so far as a number
+pub record Division : Type 0 where
+  pub kind : Kind
+  pub rest : ℕ
+
+-- a register of this kind stands for these bits: it holds their check
+pub record Checks (register : Division) (kind : Kind) (bits : List Bool) : Type 0 where
+  pub same : register.kind ≡ kind
+  pub held : register.rest ≡ number (check_bits (generator_of kind) bits)
+
+-- the check of bits as it is sent: each bit inverted where the form says so
+abbrev pub sent_check : Kind → CheckForm → List Bool → List Bool
+sent_check kind Plain bits = check_bits (generator_of kind) bits
+sent_check kind Complemented bits = inverted (check_bits (generator_of kind) bits)
+
+-- how many bits lie before the check that a list ends with
+abbrev pub body_length : Kind → List Bool → ℕ
+body_length kind bits = length bits - (generator_of kind).degree
+
+-- the last bits of a list are the check of those before
+abbrev pub IsChecked : Kind → CheckForm → List Bool → Type 0
+IsChecked kind form bits = drop (body_length kind bits) bits ≡ sent_check kind form (take (body_length kind bits) bits)

@@ -1,0 +1,56 @@
+//! Whether a list ends with its check.
+
+ghost use Rattle.std.specs.Prelude.{◌≡◌, ◌<◌, ◌≤◌, ◌+◌, ◌-◌, ◌^◌, ◌↔◌, IsTrue, length, take, drop};
+ghost use Rattle.chip_core.specs.Bits.{number};
+ghost use Rattle.quality_bits.specs.Kinds.{generator_of, Checks, sent_check, IsChecked};
+
+use crate::kind::Kind;
+use crate::register::Register;
+use chip_core::{Bits, CheckForm};
+
+/// Whether the last bits of a list are the check of those before, in this form, the highest coefficient first.
+///
+/// The quality indicators of frames are always plain.
+pub fn check(kind: Kind, form: CheckForm, bits: &Bits) -> bool
+    requires { (generator_of kind).degree < length bits.now }
+    ensures { IsTrue result ↔ IsChecked kind form bits.now }
+{
+    let body = bits.len() - kind.divisor().degree as u16;
+    number_from(bits, body) == sent_after(kind, form, bits, body)
+}
+
+/// The check of the first so many bits as it is sent, as a number.
+fn sent_after(kind: Kind, form: CheckForm, bits: &Bits, count: u16) -> u32
+    requires { count ≤ length bits.now }
+    ensures { result ≡ number (sent_check kind form (take count bits.now)) }
+{
+    let plain = taken(kind, bits, count).value();
+    match form {
+        CheckForm::Plain => plain,
+        CheckForm::Complemented => (1 << kind.divisor().degree) - 1 - plain,
+    }
+}
+
+/// A register that took the first so many bits.
+fn taken(kind: Kind, bits: &Bits, count: u16) -> Register
+    requires { count ≤ length bits.now }
+    ensures { Checks result kind (take count bits.now) }
+{
+    let mut register = Register::new(kind);
+    for i in 0..count {
+        register.push(bits.get(i));
+    }
+    register
+}
+
+/// The number that the bits from a place on spell, the highest first: at most 31.
+fn number_from(bits: &Bits, from: u16) -> u32
+    requires { length bits.now < from + 32 }
+    ensures { result ≡ number (drop from bits.now) }
+{
+    let mut number = 0;
+    for i in from..bits.len() {
+        number = 2 * number + u32::from(bits.get(i));
+    }
+    number
+}
