@@ -1,10 +1,9 @@
 -- Numbers of w bits and their digits: sums, shifts and inversions.
 use Rattle.std.proofs.Common.{◌≡◌, ℕ, zero, suc, ◌+◌, ◌*◌, ◌/◌, ◌%◌, ◌^◌, ◌<◌, Bool, true, false, not, List, [], ◌∷◌, ◌++◌, length, map, replicate, refl, sym, ap, ◌∙◌, arith, nat_eq, bit_xor}
-use Rattle.std.proofs.lemmas.Nat.{xor_shr, pow_pos, field_of, shr-shr}
-use Rattle.std.proofs.Math.Nat.{lt-div-mul-add}
+use Rattle.std.proofs.lemmas.Nat.{xor_shr, field_of}
 use Rattle.std.proofs.lemmas.Nat.Bits.{bit_at_xor}
 use Rattle.std.proofs.Math.Pow.{mod-mod-pow}
-use Rattle.chip_core.specs.Bits.{xor, digit, number, number_from, binary, bit_of, zip_with}
+use Rattle.chip_core.specs.Bits.{xor, digit, number, number_from, binary}
 use Rattle.chip_core.proofs.Numbers.{number_from-append, binary-number_from}
 use Rattle.chip_core.proofs.RegisterBits.{length-binary}
 use Rattle.quality_bits.proofs.Pushed.{add}

@@ -1,15 +1,14 @@
 -- The register's number against the remainder's coefficients.
-use Rattle.std.proofs.Common.{◌≡◌, ℕ, zero, suc, ◌+◌, ◌-◌, ◌*◌, ◌/◌, ◌%◌, ◌^◌, ◌<◌, ◌≤◌, Bool, true, false, cond, not, List, [], ◌∷◌, ◌++◌, length, map, replicate, refl, sym, ap, ◌∙◌, arith, nat_eq, bit_xor, bit_and, length-append}
+use Rattle.std.proofs.Common.{◌≡◌, ℕ, zero, suc, ◌+◌, ◌-◌, ◌*◌, ◌/◌, ◌%◌, ◌^◌, ◌<◌, ◌≤◌, Bool, true, false, cond, not, List, [], ◌∷◌, ◌++◌, length, replicate, refl, sym, ap, ◌∙◌, arith, nat_eq, bit_xor, bit_and}
 use Rattle.std.proofs.lemmas.List.{length-replicate}
 use Rattle.std.proofs.lemmas.Nat.{xor_lt, and_mask, pow_pos}
 use Rattle.std.proofs.Math.Pow.{pow_mono}
 use mathlib.Core.Bool.{beq}
-use Rattle.chip_core.specs.Bits.{xor, number, binary, bit_of, places}
+use Rattle.chip_core.specs.Bits.{xor, number, binary, bit_of}
 use Rattle.chip_core.proofs.Numbers.{binary-front}
 use Rattle.chip_core.proofs.Places.{length-map-places}
-use Rattle.chip_core.proofs.RegisterBits.{length-binary}
 use Rattle.chip_core.specs.Polynomial.{plus_at_front, remainder}
-use Rattle.quality_bits.specs.Quality.{Generator, coefficients, below_of, check_bits}
+use Rattle.quality_bits.specs.Quality.{Generator, below_of, check_bits}
 use Rattle.quality_bits.proofs.Pushed.{add, pushed, pushed_all, remainder_pushed, length_pushed_all, pushed_all-push}
 use Rattle.quality_bits.proofs.Digits.{binary-xor, binary-double, binary-rest, number-binary, binary-number, number_lt, number-ones}
 

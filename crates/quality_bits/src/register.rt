@@ -32,7 +32,7 @@ impl Model for Register {
 }
 
 impl Register {
-    /// A register that took no bits: all ones, as the standard starts it.
+    /// A register that took no bits. It starts with all ones.
     pub fn new(kind: Kind) -> Register
         ensures { Checks result kind [] }
     {
@@ -43,9 +43,10 @@ impl Register {
         }
     }
 
-    /// Takes one bit.
+    /// Takes one bit: whatever bits it stood for, it stands for those and this one behind them.
     pub fn push(&mut self, bit: bool)
-        ensures { (kind : TheKind) (bits : List Bool) → Checks self.old kind bits → Checks self.new kind (bits ++ bit ∷ []) }
+        ensures { (kind : TheKind) (bits : List Bool) →
+            Checks self.old kind bits → Checks self.new kind (bits ++ bit ∷ []) }
     {
         let divisor = self.kind.divisor();
         let lead = self.value >> (divisor.degree - 1) & 1 == 1;
@@ -59,7 +60,8 @@ impl Register {
 
     /// The check of the bits that it took, not inverted; the coefficient of the highest power is the highest bit.
     pub fn value(&self) -> u32
-        ensures value { (kind : TheKind) (bits : List Bool) → Checks self.now kind bits → result ≡ number (check_bits (generator_of kind) bits) }
+        ensures value { (kind : TheKind) (bits : List Bool) →
+            Checks self.now kind bits → result ≡ number (check_bits (generator_of kind) bits) }
         ensures fits { result < 2 ^ (generator_of self.now.kind).degree }
     {
         self.value

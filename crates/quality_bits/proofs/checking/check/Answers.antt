@@ -1,7 +1,7 @@
-use Rattle.std.proofs.Common.{◌≡◌, ◌-◌, ◌<◌, ◌+◌, take, drop, length, sym, ap, ◌∙◌, arith, ℕ, List, Bool}
+use Rattle.std.proofs.Common.{◌≡◌, ◌-◌, take, drop, length, ap, ◌∙◌, arith, ℕ}
 use Rattle.std.proofs.lemmas.List.{length-drop}
 use Rattle.chip_core.specs.Bits.{number}
-use Rattle.quality_bits.specs.Kinds.{generator_of, sent_check, body_length}
+use Rattle.quality_bits.specs.Kinds.{sent_check, body_length}
 use Rattle.quality_bits.proofs.Ends.{length-sent_check, same_numbers}
 use Rattle.quality_bits.proofs.checking.check.Goals as goal
 

@@ -1,4 +1,4 @@
-use Rattle.std.proofs.Common.{◌≡◌, ◌+◌, ◌≤◌, ◌<◌, ◌^◌, take, length, sym, ap, ◌∙◌, arith, ℕ, map, not}
+use Rattle.std.proofs.Common.{◌≡◌, ◌+◌, ◌≤◌, ◌<◌, ◌^◌, take, length, sym, ◌∙◌, arith, map, not}
 use Rattle.std.proofs.Math.Pow.{pow_mono}
 use Rattle.chip_core.specs.Bits.{number}
 use Rattle.quality_bits.specs.Quality.{check_bits}

@@ -1,4 +1,4 @@
-use Rattle.std.proofs.Common.{◌≡◌, ◌+◌, ◌++◌, [], ◌∷◌, take}
+use Rattle.std.proofs.Common.{take}
 use Rattle.quality_bits.proofs.Ends.{taken_more}
 use Rattle.quality_bits.proofs.checking.taken.Goals as goal
 

@@ -1,7 +1,4 @@
-use Rattle.std.proofs.Common.{ap, sym, ◌∙◌}
-use Rattle.chip_core.specs.Bits.{number, places}
-use Rattle.quality_bits.specs.Quality.{below_of}
-use Rattle.quality_bits.specs.Kinds.{generator_of}
+use Rattle.chip_core.specs.Bits.{places}
 use Rattle.quality_bits.proofs.kind.Kind.divisor.Goals as goal
 use Rattle.quality_bits.proofs.kind.Kind.divisor.Goals.{in-Q6, in-Q8, in-Q10, in-Q12, in-M16, in-M30}
 

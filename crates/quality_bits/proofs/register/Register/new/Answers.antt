@@ -1,4 +1,4 @@
-use Rattle.std.proofs.Common.{◌≡◌, ◌^◌, ◌*◌, ◌%◌, ◌-◌, ◌≤◌, ◌<◌, ◌+◌, [], refl, arith}
+use Rattle.std.proofs.Common.{◌≡◌, ◌^◌, ◌≤◌, ◌<◌, ◌+◌, [], refl, arith}
 use Rattle.chip_core.specs.Bits.{number}
 use Rattle.quality_bits.specs.Quality.{check_bits}
 use Rattle.std.proofs.Math.Pow.{pow_mono}

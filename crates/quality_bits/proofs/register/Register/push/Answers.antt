@@ -1,10 +1,9 @@
 use Rattle.std.proofs.Common.{◌≡◌, ℕ, ◌<◌, ◌^◌, ◌++◌, [], ◌∷◌, ap, sym, ◌∙◌, arith}
 use Rattle.chip_core.specs.Bits.{number}
-use Rattle.quality_bits.specs.Quality.{below_of, check_bits}
+use Rattle.quality_bits.specs.Quality.{check_bits}
 use Rattle.quality_bits.specs.Kinds.{generator_of, Division}
 use Rattle.quality_bits.specs.declared.kind.Kind.{Kind}
-use Rattle.quality_bits.proofs.Digits.{number_lt}
-use Rattle.quality_bits.proofs.Steps.{next, next_then, next_else, next_lt, check_more, length-below_of}
+use Rattle.quality_bits.proofs.Steps.{next, next_then, next_else, next_lt, check_more}
 use Rattle.quality_bits.proofs.register.Register.push.Goals as goal
 use Rattle.quality_bits.proofs.register.Register.push.Goals.{then-lead-bit, else-lead-bit}
 
