@@ -57,8 +57,9 @@ impl Register {
     }
 }
 
-/// Encodes bits from a start state, two symbols a bit. `out` becomes the symbols, whatever it held; the answer is the
-/// last state. Bit 0 of a state is its newest bit.
+/// Encodes bits from a start state, two symbols a bit.
+///
+/// `out` becomes the symbols, whatever it held; the answer is the last state. Bit 0 of a state is its newest bit.
 ///
 /// TIA/EIA-95-B, 7.1.3.1.3.1: of a bit's two symbols that of 753 octal comes first, then that of 561 octal.
 pub fn encode_into(start: u8, bits: &Bits, out: &mut Bits) -> u8
