@@ -13,18 +13,14 @@ pub fn first_greatest_is_the_only_one()
 /// The best of two neighbouring ranges, the numbers below `m` and the `n` numbers from `m` on, is the
 /// better of the bests of both, and the lower one on a tie.
 pub fn best_of_neighbours()
-    ensures lower {
-        (f : ℕ → ℤ) (m n low high : ℕ) →
+    ensures lower { (f : ℕ → ℤ) (m n low high : ℕ) →
         IsFirstGreatest f m low →
         IsFirstGreatest (λ k. f (m + k)) n high →
         f (m + high) ≤ℤ f low →
-        IsFirstGreatest f (m + n) low
-    }
-    ensures higher {
-        (f : ℕ → ℤ) (m n low high : ℕ) →
+        IsFirstGreatest f (m + n) low }
+    ensures higher { (f : ℕ → ℤ) (m n low high : ℕ) →
         IsFirstGreatest f m low →
         IsFirstGreatest (λ k. f (m + k)) n high →
         f low <ℤ f (m + high) →
-        IsFirstGreatest f (m + n) (m + high)
-    }
+        IsFirstGreatest f (m + n) (m + high) }
 {}

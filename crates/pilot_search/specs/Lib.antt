@@ -1,3 +1,4 @@
 pub mod BestIn
 pub mod BySigns
 pub mod Search
+pub mod Worked

@@ -7,36 +7,26 @@ ghost use Rattle.pilot_search.specs.BestIn.{IsBestIn};
 
 /// What is the best of all phases is `best_phase`, with the energy there; and `best_phase` is the best.
 pub fn best_of_all_is_best_phase()
-    ensures phase {
-        (samples : List Sample) (phase most : ℕ) →
+    ensures phase { (samples : List Sample) (phase most : ℕ) →
         IsBestIn samples 0 32768 phase most →
-        phase ≡ best_phase samples
-    }
-    ensures energy {
-        (samples : List Sample) (phase most : ℕ) →
+        phase ≡ best_phase samples }
+    ensures energy { (samples : List Sample) (phase most : ℕ) →
         IsBestIn samples 0 32768 phase most →
-        most ≡ energy samples (best_phase samples)
-    }
-    ensures is {
-        (samples : List Sample) → IsBestIn samples 0 32768 (best_phase samples) (energy samples (best_phase samples))
-    }
+        most ≡ energy samples (best_phase samples) }
+    ensures is { (samples : List Sample) → IsBestIn samples 0 32768 (best_phase samples) (energy samples (best_phase samples)) }
 {}
 
 /// The best of two neighbouring ranges of phases is the better of the bests of both, and the lower one
 /// on a tie. So a range may be searched in parts, in any order.
 pub fn best_of_neighbours()
-    ensures lower {
-        (samples : List Sample) (from middle to low low_energy high high_energy : ℕ) →
+    ensures lower { (samples : List Sample) (from middle to low low_energy high high_energy : ℕ) →
         IsBestIn samples from middle low low_energy →
         IsBestIn samples middle to high high_energy →
         high_energy ≤ low_energy →
-        IsBestIn samples from to low low_energy
-    }
-    ensures higher {
-        (samples : List Sample) (from middle to low low_energy high high_energy : ℕ) →
+        IsBestIn samples from to low low_energy }
+    ensures higher { (samples : List Sample) (from middle to low low_energy high high_energy : ℕ) →
         IsBestIn samples from middle low low_energy →
         IsBestIn samples middle to high high_energy →
         low_energy < high_energy →
-        IsBestIn samples from to high high_energy
-    }
+        IsBestIn samples from to high high_energy }
 {}
