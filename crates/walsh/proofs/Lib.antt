@@ -1,2 +1,6 @@
+pub mod Carried
+pub mod Pairing
+pub mod Partial
 pub mod RowTable
+pub mod Stages
 pub mod SumLaws

@@ -1,2 +1,3 @@
+pub mod Butterfly
 pub mod Walsh
 pub mod Worked

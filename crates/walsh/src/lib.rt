@@ -6,5 +6,7 @@
 
 pub mod laws;
 mod rows;
+mod transform;
 
 pub use rows::chip;
+pub use transform::transform64;

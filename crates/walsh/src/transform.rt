@@ -1,0 +1,64 @@
+//! The fast transform over the rows.
+
+ghost use Rattle.std.specs.Prelude.{◌≡◌, ◌<◌, ◌+◌, ◌^◌, ℕ};
+ghost use Rattle.std.specs.List.{All};
+ghost use Rattle.walsh.specs.Walsh.{IsWithin, in_phase, quadrature, transform};
+ghost use Rattle.walsh.specs.Butterfly.{AreWithin, IsStage, minus};
+ghost use Rattle.chip_core.specs.Complex.{plus};
+
+use chip_core::Pair;
+
+/// Replaces 64 complex sums, one a chip, by what each row carries: entry n becomes the sum of all entries, each with the
+/// sign of its chip of row n.
+///
+/// No part may be above 2^40 or below -2^40. Six stages of butterflies do it in 384 additions of each part.
+pub fn transform64(values: &mut [Pair; 64])
+    requires { All (IsWithin (2 ^ 40)) values.old }
+    ensures in_phase { in_phase values.new ≡ transform (in_phase values.old) }
+    ensures quadrature { quadrature values.new ≡ transform (quadrature values.old) }
+{
+    for bit in 0..6 {
+        stage(values, bit);
+    }
+}
+
+/// One stage: each two entries whose places differ in this bit alone become their sum and their difference.
+fn stage(values: &mut [Pair; 64], bit: u32)
+    requires bit { bit < 6 }
+    requires small { AreWithin (2 ^ (40 + bit)) values.old }
+    ensures stage { IsStage bit values.old values.new }
+    ensures small { AreWithin (2 ^ (41 + bit)) values.new }
+{
+    let apart = 1 << bit;
+    for low in 0..64usize {
+        if low & apart == 0 {
+            let (first, second) = (values[low], values[low + apart]);
+            values[low] = sum(first, second);
+            values[low + apart] = difference(first, second);
+        }
+    }
+}
+
+/// The sum of two numbers whose parts have room for it.
+fn sum(x: Pair, y: Pair) -> Pair
+    requires first { IsWithin (2 ^ 45) x }
+    requires second { IsWithin (2 ^ 45) y }
+    ensures { result ≡ plus x y }
+{
+    Pair {
+        i: x.i + y.i,
+        q: x.q + y.q,
+    }
+}
+
+/// The difference of two such numbers.
+fn difference(x: Pair, y: Pair) -> Pair
+    requires first { IsWithin (2 ^ 45) x }
+    requires second { IsWithin (2 ^ 45) y }
+    ensures { result ≡ minus x y }
+{
+    Pair {
+        i: x.i - y.i,
+        q: x.q - y.q,
+    }
+}
