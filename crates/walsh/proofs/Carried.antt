@@ -1,11 +1,11 @@
 -- What the entries are from stage to stage, until each is what its row carries.
-use Rattle.std.proofs.Common.{◌≡◌, ℕ, suc, ◌+◌, ◌-◌, ◌^◌, ◌<◌, ◌≤◌, Bool, true, false, List, length, get_or, map, refl, sym, ap, ◌∙◌, arith, add-one}
-use Rattle.std.specs.Prelude.{if◌then◌else◌, pos, ◌+ℤ◌, ◌-ℤ◌, ℤ}
+use Rattle.std.proofs.Common.{◌≡◌, ℕ, suc, ◌+◌, ◌-◌, ◌^◌, ◌<◌, Bool, true, false, List, length, get_or, refl, sym, ap, ◌∙◌, arith, add-one}
+use Rattle.std.specs.Prelude.{if◌then◌else◌, pos, ◌+ℤ◌, ◌-ℤ◌}
 use Rattle.std.specs.List.{All}
 use Rattle.std.proofs.lemmas.List.{length-map}
 use Rattle.std.proofs.lemmas.List.Elements.{All-get_or}
 use Rattle.std.proofs.Math.ListN.{get_or-map}
-use Rattle.chip_core.specs.Bits.{bit_of, places}
+use Rattle.chip_core.specs.Bits.{bit_of}
 use Rattle.chip_core.specs.Complex.{origin, plus}
 use Rattle.chip_core.specs.declared.sample.Pair.{Pair}
 use Rattle.chip_core.proofs.Places.{map-places-all}
@@ -72,13 +72,13 @@ unfolding transform
 in_phase_is old new long h =
     map-places-all (λ n. walsh_sum_from n 0 (in_phase old)) (in_phase new) 64 (pos 0) (length-map new (λ (v : Pair). v.i) ∙ h.long)
     (λ n less.
-        at_i new n ∙ h.i_is n less ∙ partial-same 6 n (λ k. (entry old k).i) (λ k. get_or (in_phase old) k (pos 0)) (λ k. sym (at_i old k))
-        ∙ partial-all n (in_phase old) less (length-map old (λ (v : Pair). v.i) ∙ long))
+    at_i new n ∙ h.i_is n less ∙ partial-same 6 n (λ k. (entry old k).i) (λ k. get_or (in_phase old) k (pos 0)) (λ k. sym (at_i old k))
+    ∙ partial-all n (in_phase old) less (length-map old (λ (v : Pair). v.i) ∙ long))
 
 pub quadrature_is : (old new : List Pair) → length old ≡ 64 → IsCarried 6 old new → quadrature new ≡ transform (quadrature old)
 unfolding transform
 quadrature_is old new long h =
     map-places-all (λ n. walsh_sum_from n 0 (quadrature old)) (quadrature new) 64 (pos 0) (length-map new (λ (v : Pair). v.q) ∙ h.long)
     (λ n less.
-        at_q new n ∙ h.q_is n less ∙ partial-same 6 n (λ k. (entry old k).q) (λ k. get_or (quadrature old) k (pos 0)) (λ k. sym (at_q old k))
-        ∙ partial-all n (quadrature old) less (length-map old (λ (v : Pair). v.q) ∙ long))
+    at_q new n ∙ h.q_is n less ∙ partial-same 6 n (λ k. (entry old k).q) (λ k. get_or (quadrature old) k (pos 0)) (λ k. sym (at_q old k))
+    ∙ partial-all n (quadrature old) less (length-map old (λ (v : Pair). v.q) ∙ long))

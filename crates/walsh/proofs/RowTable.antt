@@ -1,5 +1,5 @@
 -- The rows: as counts of set bits, and orthogonal by a table of 4,096 sums.
-use Rattle.std.proofs.Common.{◌≡◌, ℕ, ◌^◌, ◌<◌, Bool, true, refl, arith, ℤ, pos, nat_eq, bit_and, int_eq}
+use Rattle.std.proofs.Common.{◌≡◌, ℕ, ◌<◌, Bool, true, refl, arith, ℤ, pos, nat_eq, bit_and, int_eq}
 use Rattle.std.specs.Prelude.{if◌then◌else◌, ◌==◌}
 use Rattle.std.specs.Int.RustNames.{count_ones}
 use Rattle.std.proofs.lemmas.Int.{ints}

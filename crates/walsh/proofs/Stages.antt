@@ -1,6 +1,5 @@
 -- A stage of butterflies, entry after entry.
-use Rattle.std.proofs.Common.{◌≡◌, ◌≢◌, ℕ, suc, ◌+◌, ◌-◌, ◌*◌, ◌%◌, ◌^◌, ◌<◌, ◌≤◌, Bool, true, false, List, length, get_or, set, refl, sym, ap, subst, ◌∙◌, arith, ⊎_elim, bit_and, nat_eq, get_or-set_other, get_or-set_same, length-set}
-use Rattle.std.specs.Prelude.{if◌then◌else◌, unsigned_abs, ◌+ℤ◌, ◌-ℤ◌, ℤ}
+use Rattle.std.proofs.Common.{◌≡◌, ◌≢◌, ℕ, suc, ◌+◌, ◌-◌, ◌*◌, ◌^◌, ◌<◌, ◌≤◌, Bool, true, false, List, length, set, refl, sym, ap, subst, ◌∙◌, arith, ⊎_elim, get_or-set_other, get_or-set_same, length-set}
 use Rattle.std.proofs.lemmas.Int.{ints}
 use Rattle.std.proofs.lemmas.Bool.{cases_eq}
 use Rattle.std.proofs.lemmas.Nat.{pow_pos}
@@ -10,7 +9,7 @@ use Rattle.chip_core.specs.Complex.{origin, plus}
 use Rattle.chip_core.specs.declared.sample.Pair.{Pair}
 use Rattle.walsh.specs.Walsh.{IsWithin}
 use Rattle.walsh.specs.Butterfly.{minus, entry, butterfly, IsStage, AreWithin}
-use Rattle.walsh.proofs.Pairing.{IsLow, IsHigh, low, high}
+use Rattle.walsh.proofs.Pairing.{low, high}
 
 -- the two entries of each butterfly whose lower place is below `low` are done, and the others stand as they were
 pub record IsPartway (bit low : ℕ) (old new : List Pair) : Type 0 where

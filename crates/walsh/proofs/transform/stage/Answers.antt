@@ -1,4 +1,4 @@
-use Rattle.std.proofs.Common.{◌≡◌, ◌<◌, ◌+◌, ◌*◌, ◌%◌, ◌^◌, ℕ, ap, sym, subst, ◌∙◌, arith}
+use Rattle.std.proofs.Common.{◌≡◌, ◌<◌, ◌+◌, ◌^◌, ℕ, sym, subst, arith}
 use Rattle.walsh.proofs.Pairing.{IsLow, low, is_clear, is_set, shifted}
 use Rattle.walsh.proofs.Stages.{IsPartway, starts, moves_at, skips, ends, grows, first_has_room, second_has_room}
 use Rattle.walsh.proofs.transform.stage.Goals as goal
@@ -45,14 +45,14 @@ pub loop-low-preserved : goal.loop-low-preserved
 loop-low-preserved c =
     elim c.if-low-apart-eq0.branch [
       | then-low-apart-eq0 w ↦
-        let clear = is_clear c.args.bit c.loop-low.low c.requires.bit c.loop-low-test.true w.if-low-apart-eq0.true in
-        moves_at c.args.bit c.loop-low.low _ c.args.values.now c.loop-low.values c.if-low-apart-eq0.values w.sum.result w.difference.result
-        c.requires.bit c.loop-low-test.true clear c.loop-low.invariant (shifted c.args.bit c.requires.bit) w.sum.ensures w.difference.ensures w.values-is
+          let clear = is_clear c.args.bit c.loop-low.low c.requires.bit c.loop-low-test.true w.if-low-apart-eq0.true in
+          moves_at c.args.bit c.loop-low.low _ c.args.values.now c.loop-low.values c.if-low-apart-eq0.values w.sum.result w.difference.result
+          c.requires.bit c.loop-low-test.true clear c.loop-low.invariant (shifted c.args.bit c.requires.bit) w.sum.ensures w.difference.ensures w.values-is
       | else-low-apart-eq0 w ↦
-        let P = λ (v : _). IsPartway c.args.bit (c.loop-low.low + 1) c.args.values.now v in
-        subst P (sym w.values-is)
-        (skips c.args.bit c.loop-low.low c.args.values.now c.loop-low.values c.requires.bit
-        (is_set c.args.bit c.loop-low.low c.requires.bit c.loop-low-test.true w.if-low-apart-eq0.false) c.loop-low.invariant)
+          let P = λ (v : _). IsPartway c.args.bit (c.loop-low.low + 1) c.args.values.now v in
+          subst P (sym w.values-is)
+          (skips c.args.bit c.loop-low.low c.args.values.now c.loop-low.values c.requires.bit
+          (is_set c.args.bit c.loop-low.low c.requires.bit c.loop-low-test.true w.if-low-apart-eq0.false) c.loop-low.invariant)
     ]
 
 pub returns-clause-stage : goal.returns-clause-stage
