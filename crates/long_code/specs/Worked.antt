@@ -1,7 +1,7 @@
 -- Worked values, which the checker computes.
 use Rattle.std.specs.Prelude.{◌≡◌, refl, ◌^◌, [], ◌∷◌, map}
 use Rattle.chip_core.specs.Bits.{binary, places}
-use Rattle.long_code.specs.LongCode.{after, paging_mask, traffic_mask}
+use Rattle.long_code.specs.LongCode.{after, before, paging_mask, traffic_mask}
 
 one_step : after (2 ^ 41) 1 ≡ 0x00a8e6f04ef
 unfolding after binary places
@@ -10,6 +10,10 @@ one_step = refl
 to_the_top : after 1 41 ≡ 0x20000000000
 unfolding after binary places
 to_the_top = refl
+
+one_step_back : before 0x00a8e6f04ef 1 ≡ 2 ^ 41
+unfolding before binary places
+one_step_back = refl
 
 paging : paging_mask 1 511 ≡ 0x319a02001ff
 unfolding paging_mask binary

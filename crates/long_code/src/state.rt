@@ -5,7 +5,7 @@ ghost use Rattle.long_code.specs.LongCode.{IsState, after, long_chip};
 
 use std::marker::Model;
 
-/// The coefficients of x^41 down to 1 in the long code's polynomial, behind x^42: bit k is that of x^k.
+/// The long code's polynomial below x^42: bit k is the coefficient of x^k.
 const FEEDBACK: u64 = 0x00a_8e6f_04ef;
 
 /// A state of the long code's generator: a nonzero polynomial of degree below 42 over the field of two elements.

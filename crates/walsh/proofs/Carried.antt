@@ -1,6 +1,6 @@
 -- What the entries are from stage to stage, until each is what its row carries.
 use Rattle.std.proofs.Common.{◌≡◌, ℕ, suc, ◌+◌, ◌-◌, ◌^◌, ◌<◌, Bool, true, false, List, length, get_or, refl, sym, ap, ◌∙◌, arith, add-one}
-use Rattle.std.specs.Prelude.{if◌then◌else◌, pos, ◌+ℤ◌, ◌-ℤ◌}
+use Rattle.std.specs.Prelude.{ℤ, if◌then◌else◌, pos, ◌+ℤ◌, ◌-ℤ◌}
 use Rattle.std.specs.List.{All}
 use Rattle.std.proofs.lemmas.List.{length-map}
 use Rattle.std.proofs.lemmas.List.Elements.{All-get_or}
@@ -8,7 +8,7 @@ use Rattle.std.proofs.Math.ListN.{get_or-map}
 use Rattle.chip_core.specs.Bits.{bit_of}
 use Rattle.chip_core.specs.Complex.{origin, plus}
 use Rattle.chip_core.specs.declared.sample.Pair.{Pair}
-use Rattle.chip_core.proofs.Places.{map-places-all}
+use Rattle.chip_core.proofs.Places.{get_or-map-places, map-places-all}
 use Rattle.walsh.specs.Walsh.{IsWithin, in_phase, quadrature, transform, walsh_sum_from}
 use Rattle.walsh.specs.Butterfly.{minus, entry, butterfly, IsStage, AreWithin}
 use Rattle.walsh.proofs.Partial.{partial, partial-none, partial-same, partial-more, partial-all}
@@ -82,3 +82,8 @@ quadrature_is old new long h =
     (λ n less.
     at_q new n ∙ h.q_is n less ∙ partial-same 6 n (λ k. (entry old k).q) (λ k. get_or (quadrature old) k (pos 0)) (λ k. sym (at_q old k))
     ∙ partial-all n (quadrature old) less (length-map old (λ (v : Pair). v.q) ∙ long))
+
+-- one entry of the transform, for callers
+pub get_or-transform : (xs : List ℤ) (n : ℕ) → n < 64 → get_or (transform xs) n (pos 0) ≡ walsh_sum_from n 0 xs
+unfolding transform
+get_or-transform xs n h = get_or-map-places (λ n. walsh_sum_from n 0 xs) 64 n (pos 0) h
