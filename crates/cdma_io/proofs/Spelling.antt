@@ -1,5 +1,5 @@
 -- Lemmas on the bytes of samples.
-use Rattle.std.proofs.Common.{◌≡◌, ℕ, ◌+◌, ◌-◌, ◌*◌, ◌^◌, ◌<◌, ◌≤◌, ℤ, List, [], ◌∷◌, ◌++◌, length, take, drop, refl, sym, ap, ◌∙◌, subst, arith, set, append-nil, length-append, length-drop, take-append-drop, drop_at, All}
+use Rattle.std.proofs.Common.{◌≡◌, ℕ, ◌+◌, ◌-◌, ◌*◌, ◌^◌, ◌<◌, ◌≤◌, ℤ, List, [], ◌∷◌, ◌++◌, length, take, drop, refl, sym, ap, ◌∙◌, subst, arith, set, append-nil, append_assoc, length-append, length-drop, take-append-drop, drop_at, All}
 use Rattle.std.proofs.lemmas.List.{length-take-le, take_all, take_more_set}
 use Rattle.std.proofs.lemmas.List.Concat.{flat_map-append}
 use lib.Seq.{take-add}
@@ -131,3 +131,32 @@ pub in_range_more : (out : List Sample) (k : ℕ) (sample : Sample) → k < leng
     All HasSixteenBits (take k out) → HasSixteenBits sample → All HasSixteenBits (take (k + 1) (set out k sample))
 in_range_more out k sample within before small =
     subst (All HasSixteenBits) (sym (take_more_set out k sample within)) (All-push HasSixteenBits (take k out) sample before small)
+
+-- what is read of the bytes of samples
+pub record AreNext (samples next : List Sample) (rest : List ℕ) : Type 0 where
+  pub first : next ≡ take (length next) samples
+  pub others : rest ≡ flat_map sample_spelling (drop (length next) samples)
+
+-- the samples that the bytes of samples begin with are the first of them
+pub next_samples : (next samples : List Sample) (rest : List ℕ) → All HasSixteenBits samples → All HasSixteenBits next →
+    length next ≤ length samples → flat_map sample_spelling samples ≡ flat_map sample_spelling next ++ rest → AreNext samples next rest
+next_samples [] samples rest small small_next fits same = record { first = refl; others = sym same }
+next_samples (y ∷ ys) [] rest small small_next fits same = absurd (omega arith)
+next_samples (y ∷ ys) (x ∷ xs) rest small small_next fits same =
+    let xs_bytes = flat_map sample_spelling xs in
+    let ys_bytes = flat_map sample_spelling ys ++ rest in
+    let regrouped : sample_spelling x ++ xs_bytes ≡ sample_spelling y ++ ys_bytes =
+    same ∙ append_assoc (sample_spelling y) (flat_map sample_spelling ys) rest in
+    let front : x ≡ y =
+    sym (sample_in-spelling x xs_bytes (All-head HasSixteenBits x xs small))
+    ∙ ap sample_in regrouped
+    ∙ sample_in-spelling y ys_bytes (All-head HasSixteenBits y ys small_next) in
+    let back : xs_bytes ≡ ys_bytes =
+    sym (drop_at (sample_spelling x) xs_bytes 4 (length-sample_spelling x))
+    ∙ ap (drop 4) regrouped
+    ∙ drop_at (sample_spelling y) ys_bytes 4 (length-sample_spelling y) in
+    let later = next_samples ys xs rest (All-tail HasSixteenBits x xs small) (All-tail HasSixteenBits y ys small_next) (omega arith) back in
+    record {
+      first = ap (λ (z : Sample). z ∷ ys) (sym front) ∙ ap (λ (zs : List Sample). x ∷ zs) later.first;
+      others = later.others;
+    }

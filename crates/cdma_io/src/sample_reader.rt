@@ -1,6 +1,6 @@
 //! Reading a sample file.
 
-ghost use Rattle.std.specs.Prelude.{◌≡◌, ◌<◌, ◌≤◌, ◌+◌, ◌*◌, ◌-◌, min, length, take, All, IfOk, OnOk, IfErr, OnErr, IfSome, IsSome, IsNone, Err};
+ghost use Rattle.std.specs.Prelude.{◌≡◌, ◌<◌, ◌≤◌, ◌+◌, ◌*◌, ◌-◌, min, length, take, drop, All, IfOk, OnOk, IfErr, OnErr, IfSome, IsSome, IsNone, Err};
 ghost use Rattle.std.specs.List.{flat_map};
 ghost use Rattle.std.specs.Io.KnownBytes.{Consumes, IsAtEnd, Keeps};
 ghost use Rattle.cdma_io.specs.Outside.{ConsumesAtMost, Rose};
@@ -92,6 +92,7 @@ impl SampleReader {
         ensures samples { IfOk result (λ n. Consumes (S.rest source.old) (S.rest source.new)
             (flat_map sample_spelling (take n out.new))) }
         ensures in_range { IfOk result (λ n. All HasSixteenBits (take n out.new)) }
+        ensures beyond { IfOk result (λ n. drop n out.new ≡ drop n out.old) }
         ensures ok { IfOk result (λ n. self.new ≡ record self.old { left = self.old.left - n }) }
 
         // A fault is kept, and answered by every later call.
