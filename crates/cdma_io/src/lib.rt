@@ -18,6 +18,8 @@ mod sample_reader;
 mod samples;
 mod sink;
 mod source;
+#[cfg(test)]
+mod tests;
 mod writer_sink;
 
 pub use file_fault::FileFault;

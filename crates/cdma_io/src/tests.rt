@@ -1,0 +1,214 @@
+//! What no clause says: files written by hand, the texts of faults, and std's readers and writers.
+
+use crate::{
+    Failed, FileFault, Header, MemorySink, MemorySource, ReaderSource, SampleReader, Sink, Source,
+    WriterSink, write_all,
+};
+use chip_core::{CheckForm, Sample};
+use std::alloc::{AllocError, Global};
+use std::io;
+use std::io::{ErrorKind, Read, Write};
+use std::test::Fail;
+
+// A file of three samples, whose 16-bit checks are complemented.
+const FILE: [u8; 28] = [
+    0x49, 0x53, 0x39, 0x35, 0x00, 0x01, 0x00, 0x02, 0, 0, 0, 0, 0, 0, 0, 3, // header
+    0x00, 0x01, 0xff, 0xff, 0x80, 0x00, 0x7f, 0xff, 0x12, 0x34, 0xab, 0xcd,
+];
+
+const HEADER: Header = Header {
+    version: 1,
+    check30: CheckForm::Plain,
+    check16: CheckForm::Complemented,
+    count: 3,
+};
+
+const NONE: Sample = Sample { i: 0, q: 0 };
+
+// A source over these bytes, which gives 7 a call and fails at one call.
+fn source_of(alloc: Global, bytes: &[u8], failing: u64) -> Result<MemorySource, AllocError> {
+    let bytes = bytes.to_vec(alloc)?;
+    let failing = [failing].to_vec(alloc)?;
+    Ok(MemorySource::new(bytes, 7, failing))
+}
+
+#[test]
+fn reads_a_file_in_pieces(rt: HostRuntime) -> Result<(), Fail> {
+    let mut source = source_of(rt.alloc(), &FILE, 0)?;
+    let mut reader = SampleReader::open(&mut source)?;
+    assert_eq!(rt; reader.header(), HEADER);
+    let mut out = [NONE; 2];
+    assert_eq!(rt; reader.read(&mut source, &mut out)?, 2);
+    assert_eq!(rt;
+        out,
+        [
+            Sample { i: 1, q: -1 },
+            Sample {
+                i: -32768,
+                q: 32767
+            }
+        ]
+    );
+    assert_eq!(rt; reader.left(), 1);
+    assert_eq!(rt; reader.read(&mut source, &mut out)?, 1);
+    assert_eq!(rt; out[0], Sample { i: 4660, q: -21555 });
+    assert_eq!(rt; reader.left(), 0);
+    reader.finish(&mut source)?;
+    Ok(())
+}
+
+#[test]
+fn refuses_headers(rt: HostRuntime) -> Result<(), Fail> {
+    let bad = [
+        (0, b'X', FileFault::Magic),
+        (3, b'4', FileFault::Magic),
+        (4, 1, FileFault::Version),
+        (5, 2, FileFault::Version),
+        (6, 1, FileFault::Flags),
+        (7, 4, FileFault::Flags),
+        (8, 1, FileFault::Count),
+        (12, 3, FileFault::Count),
+    ];
+    for (at, byte, fault) in bad {
+        let mut file = FILE;
+        file[at] = byte;
+        let mut source = source_of(rt.alloc(), &file, 0)?;
+        assert_eq!(rt;
+            SampleReader::open(&mut source).err(),
+            Some(fault),
+            "byte {at}"
+        );
+    }
+    let mut source = source_of(rt.alloc(), &FILE[..15], 0)?;
+    assert_eq!(rt;
+        SampleReader::open(&mut source).err(),
+        Some(FileFault::Short { at: 15 })
+    );
+    Ok(())
+}
+
+#[test]
+fn keeps_a_fault(rt: HostRuntime) -> Result<(), Fail> {
+    let mut source = source_of(rt.alloc(), &FILE[..27], 0)?;
+    let mut reader = SampleReader::open(&mut source)?;
+    let mut out = [NONE; 3];
+    for _ in 0..2 {
+        assert_eq!(rt;
+            reader.read(&mut source, &mut out),
+            Err(FileFault::Short { at: 27 })
+        );
+    }
+
+    // The fourth call fails; the first three give the header.
+    let mut source = source_of(rt.alloc(), &FILE, 4)?;
+    let mut reader = SampleReader::open(&mut source)?;
+    for _ in 0..2 {
+        assert_eq!(rt;
+            reader.read(&mut source, &mut out),
+            Err(FileFault::ReadFault)
+        );
+    }
+
+    let mut longer = FILE.to_vec(rt.alloc())?;
+    longer.push(0)?;
+    let mut source = source_of(rt.alloc(), &longer, 0)?;
+    let mut reader = SampleReader::open(&mut source)?;
+    assert_eq!(rt; reader.read(&mut source, &mut out)?, 3);
+    assert_eq!(rt; reader.left(), 0);
+    assert_eq!(rt;
+        reader.finish(&mut source),
+        Err(FileFault::Extra { at: 28 })
+    );
+    assert_eq!(rt;
+        reader.read(&mut source, &mut out),
+        Err(FileFault::Extra { at: 28 })
+    );
+    Ok(())
+}
+
+#[test]
+fn names_faults(rt: HostRuntime) -> Result<(), Fail> {
+    let all = [
+        (FileFault::Magic, "magic", Some(0)),
+        (FileFault::Version, "version", Some(4)),
+        (FileFault::Flags, "flags", Some(6)),
+        (FileFault::Count, "count", Some(8)),
+        (FileFault::Short { at: 15 }, "short", Some(15)),
+        (FileFault::Extra { at: 8208 }, "extra", Some(8208)),
+        (FileFault::ReadFault, "read fault", None),
+        (FileFault::TooFew { count: 2047 }, "too few", Some(8)),
+    ];
+    for (fault, text, place) in all {
+        let shown = format!(in rt.alloc(); "{fault}")?;
+        assert_eq!(rt; shown.as_str(), text);
+        assert_eq!(rt; fault.place(), place, "{text}");
+    }
+    Ok(())
+}
+
+#[test]
+fn fills_a_sink(rt: HostRuntime) -> Result<(), Fail> {
+    let failing = Vec::new(rt.alloc());
+    let mut sink = MemorySink::new(rt.alloc(), 4, 3, failing)?;
+    assert_eq!(rt; write_all(&mut sink, b"pilot"), Err(Failed));
+    assert_eq!(rt; sink.bytes(), b"pilo".as_slice());
+    assert_eq!(rt; sink.give(b""), Ok(0));
+    assert_eq!(rt; sink.give(b"t"), Err(Failed));
+    Ok(())
+}
+
+#[test]
+fn reads_a_reader_of_std(rt: HostRuntime) -> Result<(), Fail> {
+    let mut source = ReaderSource::new(FILE.as_slice());
+    let mut reader = SampleReader::open(&mut source)?;
+    let mut out = [NONE; 3];
+    assert_eq!(rt; reader.read(&mut source, &mut out)?, 3);
+    assert_eq!(rt; out[2], Sample { i: 4660, q: -21555 });
+    assert_eq!(rt; reader.left(), 0);
+    reader.finish(&mut source)?;
+    Ok(())
+}
+
+#[test]
+fn writes_to_a_writer_of_std(rt: HostRuntime) -> Result<(), Fail> {
+    let mut written = Vec::new(rt.alloc());
+    let mut sink = WriterSink::new(&mut written);
+    assert_eq!(rt; write_all(&mut sink, b"pilot"), Ok(()));
+    assert_eq!(rt; sink.flush(), Ok(()));
+    assert_eq!(rt; written.as_slice(), b"pilot".as_slice());
+    Ok(())
+}
+
+// A device that is broken: it neither gives nor takes a byte.
+#[derive(Drop)]
+struct Broken;
+
+impl Read for Broken {
+    fn read(&mut self, _buf: &mut [u8]) -> io::Result<usize> {
+        Err(io::Error::from(ErrorKind::Other))
+    }
+}
+
+impl Write for Broken {
+    fn write(&mut self, _buf: &[u8]) -> io::Result<usize> {
+        Ok(0)
+    }
+
+    fn flush(&mut self) -> io::Result<()> {
+        Err(io::Error::from(ErrorKind::Other))
+    }
+}
+
+#[test]
+fn answers_faults_of_std(rt: HostRuntime) {
+    let mut source = ReaderSource::new(Broken);
+    assert_eq!(rt; source.take(&mut [0]), Err(Failed));
+    assert_eq!(rt;
+        SampleReader::open(&mut source).err(),
+        Some(FileFault::ReadFault)
+    );
+    let mut sink = WriterSink::new(Broken);
+    assert_eq!(rt; sink.give(b""), Ok(0));
+    assert_eq!(rt; sink.give(b"p"), Err(Failed));
+    assert_eq!(rt; sink.flush(), Err(Failed));
+}
