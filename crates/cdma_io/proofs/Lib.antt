@@ -3,3 +3,4 @@ pub mod Moves
 pub mod Opening
 pub mod Reading
 pub mod Spelling
+pub mod Uniqueness

@@ -1,19 +1,5 @@
-use Rattle.std.proofs.Common.{◌≡◌, Ok, sym, ap, ◌∙◌, drop, drop_at}
-use Rattle.std.specs.List.{flat_map}
-use Rattle.cdma_io.specs.SampleFile.{header_spelling, opening, sample_spelling}
-use Rattle.cdma_io.proofs.Opening.{length-header_spelling, opening-spelled}
-use Rattle.cdma_io.proofs.Spelling.{flat_map-sample_spelling}
+use Rattle.cdma_io.proofs.Uniqueness.{file_unique}
 use Rattle.cdma_io.proofs.laws.file_is_unique.Goals as goal
 
 pub returns : goal.returns
-returns c bytes header other_header samples other_samples file other =
-    let first : opening bytes ≡ Ok header =
-    ap opening file.spelled ∙ opening-spelled header (flat_map sample_spelling samples) file.lawful in
-    let second : opening bytes ≡ Ok other_header =
-    ap opening other.spelled ∙ opening-spelled other_header (flat_map sample_spelling other_samples) other.lawful in
-    let headers : header ≡ other_header = cc in
-    let bodies : flat_map sample_spelling samples ≡ flat_map sample_spelling other_samples =
-    sym (drop_at (header_spelling header) (flat_map sample_spelling samples) 16 (length-header_spelling header))
-    ∙ ap (drop 16) (sym file.spelled ∙ other.spelled)
-    ∙ drop_at (header_spelling other_header) (flat_map sample_spelling other_samples) 16 (length-header_spelling other_header) in
-    (headers, flat_map-sample_spelling samples other_samples file.in_range other.in_range bodies)
+returns c = file_unique

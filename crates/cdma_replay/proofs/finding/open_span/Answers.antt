@@ -1,0 +1,19 @@
+use Rattle.std.proofs.Common.{length, rules}
+use Rattle.std.proofs.lemmas.Result.{err_from_is_err_and}
+use Rattle.cdma_replay.proofs.Files.{refused, too_few, span_fault}
+use Rattle.cdma_replay.proofs.finding.open_span.Goals as goal
+
+pub returns-in_err-reader-clause-fault : goal.returns-in_err-reader-clause-fault
+returns-in_err-reader-clause-fault g c =
+    let p = err_from_is_err_and c.from_residual.result c.from_residual.ensures.1 in
+    rw (p.1, p.2) (refused (g.S.Source.rest c.args.source.now) (length c.args.span.now) _ c.in_err-reader.ensures.told)
+
+pub returns-then-count-span-clause-fault : goal.returns-then-count-span-clause-fault
+returns-then-count-span-clause-fault g c other =
+    too_few (g.S.Source.rest c.args.source.now) (length c.args.span.now) c.in_ok-reader.reader c.in_ok-reader.ensures.told (search rules)
+
+pub returns-in_err-read-clause-fault : goal.returns-in_err-read-clause-fault
+returns-in_err-read-clause-fault g c =
+    let p = err_from_is_err_and c.from_residual-in_err-read.result c.from_residual-in_err-read.ensures.1 in
+    rw (p.1, p.2) (span_fault (g.S.Source.rest c.args.source.now) _ _ (length c.args.span.now) c.in_ok-reader.reader _ c.in_ok-reader.ensures.told c.in_ok-reader.ensures.header
+        c.in_ok-reader.ensures.fresh c.in_err-read.ensures.fault)

@@ -1,0 +1,4 @@
+pub mod Find
+pub mod PilotLine
+pub mod Status
+pub mod Words

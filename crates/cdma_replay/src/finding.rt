@@ -1,0 +1,164 @@
+//! The command `find`: the phase of the strongest pilot at the beginning of a file.
+
+ghost use Rattle.std.specs.Prelude.{◌≡◌, ◌≢◌, ◌<◌, ◌≤◌, ◌+◌, ◌*◌, ◌-◌, ◌++◌, ℕ, length, vec_len, All, Err, None, IfOk, OnOk, IfErr, OnErr, IfSome};
+ghost use Rattle.std.specs.List.{flat_map};
+ghost use Rattle.std.specs.Io.KnownBytes.{Appends, Consumes, IsAtEnd};
+ghost use Rattle.chip_core.specs.declared.sample.Sample.{Sample};
+ghost use Rattle.cdma_io.specs.declared.file_fault.FileFault.{FileFault};
+ghost use Rattle.cdma_io.specs.Outside.{AppendsPrefix, HasCause, Rose};
+ghost use Rattle.cdma_io.specs.SampleFile.{HasSixteenBits, IsLawfulHeader, header_spelling, sample_spelling};
+ghost use Rattle.cdma_replay.specs.PilotLine.{best_line};
+ghost use Rattle.cdma_replay.specs.Find.{IsHeaderFault, IsSearchable, PassesSamples, WritesBestLine, WritesNoMore, ended};
+
+use crate::pilot_line::line_of;
+use crate::status::Status;
+use cdma_io::{Failed, FileFault, SampleReader, Sink, Source, write_all};
+use chip_core::{OutOfMemory, Sample};
+use pilot_search::sweep;
+use short_code::Codes;
+use std::alloc::Global;
+
+/// How many samples the pilot is searched in, from the file's first on.
+const SPAN: usize = 2048;
+
+/// How many samples are read at once after them, at most.
+const PIECE: usize = 4096;
+
+/// How many phases there are.
+const PHASES: u16 = 32768;
+
+/// What a search works on. All of its memory is taken before anything is read.
+#[derive(Drop)]
+struct Workspace {
+    codes: Codes,
+    span: Vec<Sample>,
+    piece: Vec<Sample>,
+    ghost span_len: { vec_len span ≡ 2048 },
+    ghost piece_len: { vec_len piece ≡ 4096 },
+}
+
+impl Workspace {
+    fn new(alloc: Global) -> Result<Workspace, OutOfMemory> {
+        let codes = Codes::new(alloc)?;
+        let nothing = Sample { i: 0, q: 0 };
+        let span = vec![in alloc; nothing; SPAN]?;
+        let piece = vec![in alloc; nothing; PIECE]?;
+        Ok(Workspace { codes, span, piece })
+    }
+}
+
+/// Opens a sample file and reads its first samples, as many as `span` has room for.
+fn open_span<S: Source>(source: &mut S, span: &mut [Sample]) -> Result<SampleReader, FileFault>
+    ensures file { IfOk result (λ r. Consumes (S.rest source.old) (S.rest source.new)
+        (header_spelling r.header ++ flat_map sample_spelling span.new)) }
+    ensures in_range { OnOk result (All HasSixteenBits span.new) }
+    ensures lawful { IfOk result (λ r. IsLawfulHeader r.header) }
+    ensures reader { IfOk result (λ r. (r.left + length span.old ≡ r.header.count) × (r.fault ≡ None)) }
+    ensures fault { IfErr result (λ e. e ≢ FileFault.ReadFault →
+        IfSome (S.rest source.old) (λ bytes. IsSearchable bytes (length span.old) → ⊥)) }
+    ensures later { S.faults source.old ≤ S.faults source.new }
+    ensures cause { result ≡ Err FileFault.ReadFault → Rose (S.faults source.old) (S.faults source.new) }
+{
+    let mut reader = SampleReader::open(source)?;
+    let count = reader.header().count;
+    if count < span.len() as u64 {
+        return Err(FileFault::TooFew { count });
+    }
+    reader.read(source, span)?;
+    Ok(reader)
+}
+
+/// Reads the samples that are left in pieces, and sees that the file ends after them.
+fn pass_rest<S: Source>(
+    reader: &mut SampleReader,
+    source: &mut S,
+    piece: &mut [Sample],
+) -> Result<(), FileFault>
+    requires room { 0 < length piece.old }
+    requires good { reader.old.fault ≡ None }
+    ensures ends { OnOk result (IsAtEnd (S.rest source.new)) }
+    ensures ok { OnOk result (PassesSamples reader.old.left (S.rest source.old) (S.rest source.new)) }
+    ensures fault { IfErr result (λ e. e ≢ FileFault.ReadFault →
+        IfSome (S.rest source.old) (λ bytes. length bytes ≢ 4 * reader.old.left)) }
+    ensures sample_fault { IfErr result (λ e. IsHeaderFault e → ⊥) }
+    ensures later { S.faults source.old ≤ S.faults source.new }
+    ensures cause { result ≡ Err FileFault.ReadFault → Rose (S.faults source.old) (S.faults source.new) }
+{
+    while reader.left() > 0 {
+        reader.read(source, piece)?;
+    }
+    reader.finish(source)
+}
+
+/// Searches the pilot in the samples, and writes the line of the best phase.
+fn write_best<K: Sink>(sink: &mut K, samples: &[Sample], codes: &Codes) -> Result<(), Failed>
+    requires { length samples.now ≤ 32768 }
+    ensures ok { OnOk result (Appends (K.written sink.old) (K.written sink.new) (best_line samples.now)) }
+    ensures err { OnErr result (AppendsPrefix (K.written sink.old) (K.written sink.new) (best_line samples.now)) }
+    ensures cause { HasCause (K.faults sink.old) (K.faults sink.new) result }
+{
+    let best = sweep(samples, codes, 0, PHASES);
+    write_all(sink, line_of(&best).as_bytes())
+}
+
+/// Reads the file's first samples into `span`, searches the pilot in them and writes its line, and then
+/// reads on to the end of the file by way of `piece`.
+fn search_file<S: Source, K: Sink>(
+    codes: &Codes,
+    span: &mut [Sample],
+    piece: &mut [Sample],
+    source: &mut S,
+    sink: &mut K,
+) -> Result<(), Status>
+    requires span { length span.old ≡ SPAN }
+    requires piece { 0 < length piece.old }
+    ensures done { ended result ≡ Status.Done → IfSome (S.rest source.old) (λ bytes.
+        WritesBestLine SPAN bytes (K.written sink.old) (K.written sink.new)) }
+    ensures at_end { ended result ≡ Status.Done → IsAtEnd (S.rest source.new) }
+    ensures others { (ended result ≢ Status.BadWords) × (ended result ≢ Status.NoMemory) }
+    ensures bad_file { (fault : FileFault) → ended result ≡ Status.BadFile fault → (fault ≢ FileFault.ReadFault) ×
+        IfSome (S.rest source.old) (λ bytes. IsSearchable bytes SPAN → ⊥) }
+    ensures read_fault { ended result ≡ Status.ReadFault → Rose (S.faults source.old) (S.faults source.new) }
+    ensures write_fault { ended result ≡ Status.WriteFault → Rose (K.faults sink.old) (K.faults sink.new) }
+    ensures header { (fault : FileFault) → ended result ≡ Status.BadFile fault → IsHeaderFault fault → sink.new ≡ sink.old }
+    ensures written { WritesNoMore SPAN (S.rest source.old) (K.written sink.old) (K.written sink.new) }
+    ensures later_source { S.faults source.old ≤ S.faults source.new }
+    ensures later_sink { K.faults sink.old ≤ K.faults sink.new }
+{
+    let mut reader = open_span(source, span)?;
+    match write_best(sink, span, codes) {
+        Ok(()) => {}
+        Err(Failed) => return Err(Status::WriteFault),
+    }
+    pass_rest(&mut reader, source, piece)?;
+    Ok(())
+}
+
+/// Searches the pilot in the file's first 2,048 samples and writes its line, and then reads on to
+/// the end of the file. All memory is taken before anything is read.
+pub fn find<S: Source, K: Sink>(
+    alloc: Global,
+    source: &mut S,
+    sink: &mut K,
+) -> Result<(), Status>
+    ensures done { ended result ≡ Status.Done → IfSome (S.rest source.old) (λ bytes.
+        WritesBestLine SPAN bytes (K.written sink.old) (K.written sink.new)) }
+    ensures at_end { ended result ≡ Status.Done → IsAtEnd (S.rest source.new) }
+    ensures words { ended result ≢ Status.BadWords }
+    ensures memory { ended result ≡ Status.NoMemory → (source.new ≡ source.old) × (sink.new ≡ sink.old) }
+    ensures bad_file { (fault : FileFault) → ended result ≡ Status.BadFile fault → (fault ≢ FileFault.ReadFault) ×
+        IfSome (S.rest source.old) (λ bytes. IsSearchable bytes SPAN → ⊥) }
+    ensures read_fault { ended result ≡ Status.ReadFault → Rose (S.faults source.old) (S.faults source.new) }
+    ensures write_fault { ended result ≡ Status.WriteFault → Rose (K.faults sink.old) (K.faults sink.new) }
+    ensures header { (fault : FileFault) → ended result ≡ Status.BadFile fault → IsHeaderFault fault → sink.new ≡ sink.old }
+    ensures written { WritesNoMore SPAN (S.rest source.old) (K.written sink.old) (K.written sink.new) }
+    ensures later_source { S.faults source.old ≤ S.faults source.new }
+    ensures later_sink { K.faults sink.old ≤ K.faults sink.new }
+{
+    let Workspace {
+        codes,
+        mut span,
+        mut piece,
+    } = Workspace::new(alloc)?;
+    search_file(&codes, &mut span, &mut piece, source, sink)
+}

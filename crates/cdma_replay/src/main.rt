@@ -1,0 +1,59 @@
+//! `cdma_replay` reads a file of received samples and writes what a handset finds in it.
+//!
+//! All that the program does is [`replay`], over the words of its command line, a source and a sink.
+//! What is here makes these of the process: its arguments, standard input and standard output.
+#![tactic(auto)]
+
+mod finding;
+mod pilot_line;
+mod replaying;
+mod status;
+mod words;
+
+#[cfg(test)]
+mod tests;
+
+use cdma_io::{ReaderSource, WriterSink};
+use std::env;
+use std::io;
+use std::process::ExitCode;
+use std::rt::Env;
+
+pub use replaying::replay;
+pub use status::Status;
+
+/// How a run ends that isn't given its words.
+fn without_words(refused: io::Error) -> Status {
+    match refused.kind() {
+        io::ErrorKind::OutOfMemory => Status::NoMemory,
+        _ => Status::BadWords,
+    }
+}
+
+/// The words after the program's name.
+fn words_of_process<R: Env + AllocGlobal>(rt: &R) -> Result<Vec<String>, Status> {
+    let words = env::args(rt).map_err(without_words)?;
+    words
+        .skip(1)
+        .collect(rt.alloc())
+        .map_err(|_| Status::NoMemory)
+}
+
+/// Runs the command that the process was given, over its standard streams.
+fn run<R: Env + Input + Print + AllocGlobal>(rt: &R) -> Status {
+    let words = match words_of_process(rt) {
+        Ok(words) => words,
+        Err(status) => return status,
+    };
+    let mut source = ReaderSource::new(rt.reader());
+    let mut sink = WriterSink::new(io::writer(rt));
+    let status = replay(rt.alloc(), words.as_slice(), &mut source, &mut sink);
+    match sink.flush() {
+        Err(_) if status == Status::Done => Status::WriteFault,
+        _ => status,
+    }
+}
+
+fn main(rt: HostRuntime) -> ExitCode {
+    ExitCode::from(run(&rt).code())
+}
