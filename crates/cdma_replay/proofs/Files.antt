@@ -146,8 +146,18 @@ rest_broken (Some bytes) (Some more) header samples left span lawful counted cou
     let first = flat_map sample_spelling samples in
     let opened : opening bytes ≡ Ok header = ap opening (consumed ∙ append_assoc front first more) ∙ opening-spelled header (first ++ more) lawful in
     let same : s.header.count ≡ header.count = ap (λ (h : Header). h.count) (same_header bytes span s header opened) in
-    broken (omega (arith, same, counted, count, length-file bytes s.header s.samples s.file, ap length consumed,
-        length-append (front ++ first) more, length-append front first, length-header_spelling header, length-samples samples))
+    broken (omega (
+      arith,
+      same,
+      counted,
+      count,
+      length-file bytes s.header s.samples s.file,
+      ap length consumed,
+      length-append (front ++ first) more,
+      length-append front first,
+      length-header_spelling header,
+      length-samples samples,
+    ))
 
 -- a status that blames the file's bytes comes from a fault in them
 pub bad_file_is : (e fault : FileFault) → file_status e ≡ Status.BadFile fault → (e ≡ fault) × (fault ≢ ReadFault)

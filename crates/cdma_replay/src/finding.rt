@@ -136,11 +136,7 @@ fn search_file<S: Source, K: Sink>(
 
 /// Searches the pilot in the file's first 2,048 samples and writes its line, and then reads on to
 /// the end of the file. All memory is taken before anything is read.
-pub fn find<S: Source, K: Sink>(
-    alloc: Global,
-    source: &mut S,
-    sink: &mut K,
-) -> Result<(), Status>
+pub fn find<S: Source, K: Sink>(alloc: Global, source: &mut S, sink: &mut K) -> Result<(), Status>
     ensures done { ended result ≡ Status.Done → IfSome (S.rest source.old) (λ bytes.
         WritesBestLine SPAN bytes (K.written sink.old) (K.written sink.new)) }
     ensures at_end { ended result ≡ Status.Done → IsAtEnd (S.rest source.new) }

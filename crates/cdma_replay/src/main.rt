@@ -8,19 +8,16 @@ mod finding;
 mod pilot_line;
 mod replaying;
 mod status;
-mod words;
-
 #[cfg(test)]
 mod tests;
+mod words;
 
 use cdma_io::{ReaderSource, WriterSink};
-use std::env;
-use std::io;
-use std::process::ExitCode;
-use std::rt::Env;
-
 pub use replaying::replay;
 pub use status::Status;
+use std::process::ExitCode;
+use std::rt::Env;
+use std::{env, io};
 
 /// How a run ends that isn't given its words.
 fn without_words(refused: io::Error) -> Status {

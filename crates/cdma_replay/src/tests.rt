@@ -1,1 +1,221 @@
-//! What no clause says.
+//! Whole runs over memory: that they succeed, the printed line, and the places of faults, of which
+//! no clause of the top call speaks.
+
+ghost use Rattle.std.specs.Prelude.{◌≤◌};
+
+use crate::{Status, replay};
+use cdma_io::{FileFault, MemorySink, MemorySource};
+use short_code::Codes;
+use std::alloc::Global;
+use std::test::Fail;
+
+/// The header of a version 1 file with no flags.
+fn file_with(alloc: Global, count: u64) -> Result<Vec<u8>, Fail> {
+    let mut file = Vec::from_slice(alloc, b"IS95\x00\x01\x00\x00")?;
+    file.extend_from_slice(&count.to_be_bytes())?;
+    Ok(file)
+}
+
+/// A file of so many samples of zeros.
+fn zero_file(alloc: Global, count: u64) -> Result<Vec<u8>, Fail> {
+    let mut file = file_with(alloc, count)?;
+    for _n in 0..count {
+        file.extend_from_slice(&[0; 4])?;
+    }
+    Ok(file)
+}
+
+/// A file of so many samples of the pilot's code at a phase, with an amplitude.
+fn pilot_file(alloc: Global, count: u16, phase: u16, amplitude: i16) -> Result<Vec<u8>, Fail> {
+    let codes = Codes::new(alloc)?;
+    let mut file = file_with(alloc, u64::from(count))?;
+    for t in 0..count {
+        let n = (u32::from(phase) + u32::from(t)) % 32768;
+        let (i, q) = codes.signs(n as u16);
+        file.extend_from_slice(&amplitude.wrapping_mul(i16::from(i)).to_be_bytes())?;
+        file.extend_from_slice(&amplitude.wrapping_mul(i16::from(q)).to_be_bytes())?;
+    }
+    Ok(file)
+}
+
+/// The words of a command line, each parted from the next by a blank.
+fn words_of(alloc: Global, line: &str) -> Result<Vec<String>, Fail> {
+    let mut words = Vec::new(alloc);
+    for word in line.split_whitespace() {
+        words.push(String::from_str(alloc, word)?)?;
+    }
+    Ok(words)
+}
+
+/// The calls that fail: one, or none for 0.
+fn failing(alloc: Global, call: u64) -> Result<Vec<u64>, Fail> {
+    let mut calls = Vec::new(alloc);
+    if call > 0 {
+        calls.push(call)?;
+    }
+    Ok(calls)
+}
+
+/// How a run of `find` over a file ends, and what it writes.
+fn find(alloc: Global, file: Vec<u8>) -> Result<(Status, Vec<u8>), Fail> {
+    find_by(alloc, file, 65536, 0, 65536, 0)
+}
+
+/// The same over a source of so many bytes a call that fails at a call, into a sink of that kind.
+fn find_by(
+    alloc: Global,
+    file: Vec<u8>,
+    source_piece: usize,
+    source_fails: u64,
+    sink_piece: usize,
+    sink_fails: u64,
+) -> Result<(Status, Vec<u8>), Fail>
+    requires source { 1 ≤ source_piece }
+    requires sink { 1 ≤ sink_piece }
+{
+    let words = words_of(alloc, "find")?;
+    let mut source = MemorySource::new(file, source_piece, failing(alloc, source_fails)?);
+    let mut sink = MemorySink::new(alloc, 100, sink_piece, failing(alloc, sink_fails)?)?;
+    let status = replay(alloc, words.as_slice(), &mut source, &mut sink);
+    Ok((status, Vec::from_slice(alloc, sink.bytes())?))
+}
+
+#[test]
+fn finds_the_phase(rt: HostRuntime) -> Result<(), Fail> {
+    let alloc = rt.alloc();
+    let (status, text) = find(alloc, pilot_file(alloc, 2048, 32767, 100)?)?;
+    assert_eq!(rt; status, Status::Done);
+    assert_eq!(rt;
+        text.as_slice(),
+        b"pilot phase=32767 energy=167772160000\n".as_slice()
+    );
+
+    let (status, text) = find(alloc, pilot_file(alloc, 10000, 777, 3)?)?;
+    assert_eq!(rt; status, Status::Done);
+    assert_eq!(rt;
+        text.as_slice(),
+        b"pilot phase=777 energy=150994944\n".as_slice()
+    );
+    Ok(())
+}
+
+#[test]
+fn answers_in_any_pieces(rt: HostRuntime) -> Result<(), Fail> {
+    let alloc = rt.alloc();
+    for (source_piece, sink_piece) in [(7, 1), (1, 3), (8208, 100)] {
+        assert!(rt; source_piece > 0 && sink_piece > 0);
+        let file = zero_file(alloc, 2048)?;
+        let (status, text) = find_by(alloc, file, source_piece, 0, sink_piece, 0)?;
+        assert_eq!(rt; status, Status::Done);
+        assert_eq!(rt; text.as_slice(), b"pilot phase=0 energy=0\n".as_slice());
+    }
+    Ok(())
+}
+
+#[test]
+fn names_each_fault(rt: HostRuntime) -> Result<(), Fail> {
+    let alloc = rt.alloc();
+    let (status, text) = find(alloc, zero_file(alloc, 2047)?)?;
+    assert_eq!(rt; status, Status::BadFile(FileFault::TooFew { count: 2047 }));
+    assert_eq!(rt; text.len(), 0);
+
+    let (status, text) = find(alloc, file_with(alloc, 33_554_433)?)?;
+    assert_eq!(rt; status, Status::BadFile(FileFault::Count));
+    assert_eq!(rt; text.len(), 0);
+
+    for (place, byte, fault) in [
+        (0, b'i', FileFault::Magic),
+        (3, b'6', FileFault::Magic),
+        (5, 2, FileFault::Version),
+        (4, 1, FileFault::Version),
+        (7, 4, FileFault::Flags),
+        (6, 1, FileFault::Flags),
+    ] {
+        let mut file = zero_file(alloc, 2048)?;
+        assert!(rt; place < file.len());
+        file[place] = byte;
+        let (status, text) = find(alloc, file)?;
+        assert_eq!(rt; status, Status::BadFile(fault), "byte {place}");
+        assert_eq!(rt; text.len(), 0);
+    }
+
+    let mut longer = zero_file(alloc, 2048)?;
+    longer.push(0)?;
+    let (status, text) = find(alloc, longer)?;
+    assert_eq!(rt; status, Status::BadFile(FileFault::Extra { at: 8208 }));
+    assert_eq!(rt; text.as_slice(), b"pilot phase=0 energy=0\n".as_slice());
+    Ok(())
+}
+
+#[test]
+fn names_the_end_of_every_cut(rt: HostRuntime) -> Result<(), Fail> {
+    let alloc = rt.alloc();
+    for len in 0..8208usize {
+        let mut file = zero_file(alloc, 2048)?;
+        file.truncate(len);
+        let (status, text) = find(alloc, file)?;
+        assert_eq!(rt;
+            status,
+            Status::BadFile(FileFault::Short { at: len as u64 })
+        );
+        assert_eq!(rt; text.len(), 0, "after {len} bytes");
+    }
+    Ok(())
+}
+
+#[test]
+fn ends_where_a_call_fails(rt: HostRuntime) -> Result<(), Fail> {
+    let alloc = rt.alloc();
+    // A header, two pieces of 1,024 samples, and the look for a further byte.
+    for call in 1..5u64 {
+        let (status, text) = find_by(alloc, zero_file(alloc, 2048)?, 65536, call, 65536, 0)?;
+        assert_eq!(rt; status, Status::ReadFault, "call {call}");
+        assert_eq!(rt; text.is_empty(), call < 4, "call {call}");
+    }
+    let (status, _) = find_by(alloc, zero_file(alloc, 2048)?, 65536, 5, 65536, 0)?;
+    assert_eq!(rt; status, Status::Done);
+
+    let (status, text) = find_by(alloc, zero_file(alloc, 2048)?, 65536, 0, 65536, 1)?;
+    assert_eq!(rt; status, Status::WriteFault);
+    assert_eq!(rt; text.len(), 0);
+    let (status, text) = find_by(alloc, zero_file(alloc, 2048)?, 65536, 0, 5, 3)?;
+    assert_eq!(rt; status, Status::WriteFault);
+    assert_eq!(rt; text.as_slice(), b"pilot phas".as_slice());
+    Ok(())
+}
+
+#[test]
+fn refuses_other_words(rt: HostRuntime) -> Result<(), Fail> {
+    let alloc = rt.alloc();
+    for line in [
+        "",
+        "fin",
+        "finds",
+        "Find",
+        "find find",
+        "find --",
+        "find --help",
+    ] {
+        let words = words_of(alloc, line)?;
+        let mut source = MemorySource::new(zero_file(alloc, 2048)?, 65536, Vec::new(alloc));
+        let mut sink = MemorySink::new(alloc, 100, 65536, Vec::new(alloc))?;
+        let status = replay(alloc, words.as_slice(), &mut source, &mut sink);
+        assert_eq!(rt; status, Status::BadWords, "{line}");
+        assert_eq!(rt; status.code(), 2);
+        assert_eq!(rt; sink.bytes().len(), 0);
+    }
+    Ok(())
+}
+
+#[test]
+fn exit_statuses(rt: HostRuntime) {
+    for (status, code) in [
+        (Status::Done, 0),
+        (Status::BadFile(FileFault::Magic), 3),
+        (Status::ReadFault, 4),
+        (Status::WriteFault, 5),
+        (Status::NoMemory, 6),
+    ] {
+        assert_eq!(rt; status.code(), code);
+    }
+}

@@ -16,4 +16,4 @@ pub returns-in_err-read-clause-fault : goal.returns-in_err-read-clause-fault
 returns-in_err-read-clause-fault g c =
     let p = err_from_is_err_and c.from_residual-in_err-read.result c.from_residual-in_err-read.ensures.1 in
     rw (p.1, p.2) (span_fault (g.S.Source.rest c.args.source.now) _ _ (length c.args.span.now) c.in_ok-reader.reader _ c.in_ok-reader.ensures.told c.in_ok-reader.ensures.header
-        c.in_ok-reader.ensures.fresh c.in_err-read.ensures.fault)
+    c.in_ok-reader.ensures.fresh c.in_err-read.ensures.fault)
