@@ -1,0 +1,10 @@
+pub mod Ranks
+pub mod StateBits
+pub mod Scores
+pub mod Choices
+pub mod Steps
+pub mod Finish
+pub mod Unique
+pub mod Taps
+pub mod Made
+pub mod Rooms

@@ -1,0 +1,4 @@
+pub mod Words
+pub mod Best
+pub mod States
+pub mod Survivors
