@@ -2,3 +2,4 @@ pub mod Words
 pub mod Best
 pub mod States
 pub mod Survivors
+mod Worked

@@ -8,6 +8,8 @@
 mod decoder;
 pub mod laws;
 mod survivor;
+#[cfg(test)]
+mod tests;
 mod trellis;
 mod word;
 
