@@ -4,11 +4,9 @@ ghost use Rattle.std.specs.Prelude.{◌≡◌, ◌≤◌, ◌↔◌, IsTrue, All
 
 use crate::{Decoder, Ends, Word};
 use chip_core::Bits;
+use conv_code::encode_into;
 use std::process::Abort;
 use std::test::Fail;
-
-/// The greatest number of bits in these tests.
-const MOST: u16 = 16;
 
 /// A linear congruential generator.
 #[derive(Drop)]
@@ -93,66 +91,103 @@ fn are_small(softs: &[i64]) -> bool
     softs.iter().all(|soft| soft.unsigned_abs() <= 2)
 }
 
-/// The decoder's word, joined, and its score, on small soft values.
-fn decoded(rt: &impl Abort, decoder: &mut Decoder, softs: &[i64], ends: Ends) -> (u64, i64)
-    requires { decoder.old ≡ 16 }
-    ensures { decoder.new ≡ 16 }
+/// The decoder's word and its score, on small soft values.
+fn decoded(rt: &impl Abort, decoder: &mut Decoder, softs: &[i64], ends: Ends) -> (Word, i64)
+    requires { decoder.old ≡ 576 }
+    ensures { decoder.new ≡ 576 }
 {
     assert!(rt; are_small(softs));
     assert!(rt; softs.len() % 2 == 0);
     assert!(rt; softs.len() >= 16);
-    assert!(rt; softs.len() <= 32);
+    assert!(rt; softs.len() <= 1152);
     let mut word = Word {
         start: 0,
         bits: Bits::empty(),
     };
     let score = decoder.best_into(softs, ends, &mut word);
-    assert_eq!(rt; 2 * word.bits.len() as usize, softs.len());
-    (joined(&word), score)
+    (word, score)
 }
 
 #[test]
 fn agrees_with_all_words_between_zeros(rt: HostRuntime) -> Result<(), Fail> {
-    let mut decoder = Decoder::new(rt.alloc(), MOST)?;
+    let mut decoder = Decoder::new(rt.alloc(), 576)?;
     let mut generator = Generator(1);
     for case in 0..300usize {
         let bits = 8 + case % 5;
         let softs = generator.softs(bits);
         let softs = &softs[..2 * bits];
         let all = best_of_all(softs, 1 << (bits - 8), 256);
-        assert_eq!(rt; decoded(&rt, &mut decoder, softs, Ends::Zero), all, "case {case}");
+        let (word, score) = decoded(&rt, &mut decoder, softs, Ends::Zero);
+        assert_eq!(rt; (joined(&word), score), all, "case {case}");
     }
     Ok(())
 }
 
 #[test]
 fn agrees_with_all_free_words(rt: HostRuntime) -> Result<(), Fail> {
-    let mut decoder = Decoder::new(rt.alloc(), MOST)?;
+    let mut decoder = Decoder::new(rt.alloc(), 576)?;
     let mut generator = Generator(2);
     for case in 0..12usize {
         let bits = 8 + case % 3;
         let softs = generator.softs(bits);
         let softs = &softs[..2 * bits];
         let all = best_of_all(softs, 1 << (bits + 8), 1);
-        assert_eq!(rt; decoded(&rt, &mut decoder, softs, Ends::Free), all, "case {case}");
+        let (word, score) = decoded(&rt, &mut decoder, softs, Ends::Free);
+        assert_eq!(rt; (joined(&word), score), all, "case {case}");
     }
     Ok(())
 }
 
 #[test]
 fn a_single_one(rt: HostRuntime) -> Result<(), Fail> {
-    let mut decoder = Decoder::new(rt.alloc(), MOST)?;
+    let mut decoder = Decoder::new(rt.alloc(), 576)?;
     // 11 10 11 11 01 10 00 10 11
-    let softs = [-1, -1, -1, 1, -1, -1, -1, -1, 1, -1, -1, 1, 1, 1, -1, 1, -1, -1];
-    assert_eq!(rt; decoded(&rt, &mut decoder, &softs, Ends::Free), (256, 18));
-    assert_eq!(rt; decoded(&rt, &mut decoder, &softs, Ends::Zero), (256, 18));
+    let softs = [
+        -1, -1, -1, 1, -1, -1, -1, -1, 1, -1, -1, 1, 1, 1, -1, 1, -1, -1,
+    ];
+    for ends in [Ends::Free, Ends::Zero] {
+        let (word, score) = decoded(&rt, &mut decoder, &softs, ends);
+        assert_eq!(rt; word.start, 0);
+        assert_eq!(rt; word.bits.len(), 9);
+        assert_eq!(rt; joined(&word), 0x100);
+        assert_eq!(rt; score, 18);
+    }
     Ok(())
 }
 
 #[test]
 fn nothing_heard(rt: HostRuntime) -> Result<(), Fail> {
-    let mut decoder = Decoder::new(rt.alloc(), MOST)?;
-    assert_eq!(rt; decoded(&rt, &mut decoder, &[0; 18], Ends::Free), (0, 0));
-    assert_eq!(rt; decoded(&rt, &mut decoder, &[0; 18], Ends::Zero), (0, 0));
+    let mut decoder = Decoder::new(rt.alloc(), 576)?;
+    for ends in [Ends::Free, Ends::Zero] {
+        let (word, score) = decoded(&rt, &mut decoder, &[0; 18], ends);
+        assert_eq!(rt; word.bits.len(), 9);
+        assert_eq!(rt; joined(&word), 0);
+        assert_eq!(rt; score, 0);
+    }
+    Ok(())
+}
+
+#[test]
+fn the_longest_word_comes_back(rt: HostRuntime) -> Result<(), Fail> {
+    let mut decoder = Decoder::new(rt.alloc(), 576)?;
+    let mut generator = Generator(3);
+    let mut bits = Bits::empty();
+    for _bit in 0..576u16 {
+        let _ = bits.push(generator.next_soft() > 0);
+    }
+    assert_eq!(rt; bits.len(), 576);
+    let mut symbols = Bits::empty();
+    encode_into(0o266, &bits, &mut symbols);
+    assert_eq!(rt; symbols.len(), 1152);
+    let mut softs = [1i64; 1152];
+    for i in 0..1152u16 {
+        if symbols.get(i) {
+            softs[i as usize] = -1;
+        }
+    }
+    let (word, score) = decoded(&rt, &mut decoder, &softs, Ends::Free);
+    assert_eq!(rt; score, 1152);
+    assert_eq!(rt; word.start, 0o266);
+    assert!(rt; word.bits == bits);
     Ok(())
 }
