@@ -61,8 +61,8 @@ pub fn step(row: &[Option<Survivor>], first: i64, second: i64, next: &mut [Optio
     requires room { (t : ℕ) → t < 256 → HasRoom first second (get_or row.now t None) }
     ensures each { (t : ℕ) → t < 256 → get_or next.new t None ≡ survivor_into row.now first second t }
 {
-    for state in 0..256usize {
-        next[state] = survivor_of(row, state as u8, first, second);
+    for (state, survivor) in next.iter_mut().enumerate() {
+        *survivor = survivor_of(row, state as u8, first, second);
     }
 }
 
@@ -95,8 +95,8 @@ pub fn start_row(row: &mut [Option<Survivor>], ends: Ends)
     requires { length row.old ≡ 256 }
     ensures { (t : ℕ) → t < 256 → Start ends t (get_or row.new t None) }
 {
-    for state in 0..256usize {
-        row[state] = start_at(state as u8, ends);
+    for (state, survivor) in row.iter_mut().enumerate() {
+        *survivor = start_at(state as u8, ends);
     }
 }
 
