@@ -8,3 +8,5 @@ pub mod Unique
 pub mod Taps
 pub mod Made
 pub mod Rooms
+pub mod Agreement
+pub mod Sent

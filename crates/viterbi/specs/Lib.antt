@@ -1,5 +1,6 @@
 pub mod Words
 pub mod Best
+pub mod Laws
 pub mod States
 pub mod Survivors
 mod Worked
