@@ -4,8 +4,8 @@
 //! that of two words of equal length the one with the lesser state comes first in the order of words. State `s` is
 //! reached from the states `2 * (s % 128)` and `2 * (s % 128) + 1`, whose oldest bits are 0 and 1.
 
-ghost use Rattle.std.specs.Prelude.{◌≡◌, ◌<◌, ◌≤◌, ◌+◌, ◌*◌, ◌/◌, ◌%◌, ◌^◌, ℕ, ℤ, List, [], ◌∷◌, length, get_or, None, ◌+ℤ◌, ◌*ℤ◌, unsigned_abs, IfSome, IsTrue, ◌↔◌};
-ghost use Rattle.chip_core.specs.Bits.{binary, sign};
+ghost use Rattle.std.specs.Prelude.{◌≡◌, ◌<◌, ◌≤◌, ◌+◌, ◌^◌, ℕ, length, get_or, ◌*ℤ◌, unsigned_abs, IsTrue, ◌↔◌};
+ghost use Rattle.chip_core.specs.Bits.{sign};
 ghost use Rattle.viterbi.specs.Best.{HasStart};
 ghost use Rattle.viterbi.specs.States.{low_bits};
 ghost use Rattle.viterbi.specs.Survivors.{Start, HasRoom, gain_of, survivor_into, first_best, end_count};
