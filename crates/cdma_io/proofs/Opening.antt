@@ -1,6 +1,6 @@
 -- Lemmas on the header of a file, and on what opening a file answers.
-use Rattle.std.proofs.Common.{◌≡◌, ◌≢◌, ℕ, ◌+◌, ◌-◌, ◌*◌, ◌/◌, ◌%◌, ◌<◌, ◌≤◌, Bool, true, false, cond, eqb, ltb, List, [], ◌++◌, length, take, drop, refl, sym, ap, ◌∙◌, subst, arith, inl, inr, length-append, length-drop, append-nil, Option, None, Some, IfSome, Result, Ok, Err}
-use Rattle.std.proofs.lemmas.Bool.{cond-true, cond-false, lt-ltb, ltb-true, le-ltb, ltb-false, eqb-true, eq-eqb}
+use Rattle.std.proofs.Common.{◌≡◌, ◌≢◌, ℕ, ◌+◌, ◌-◌, ◌*◌, ◌/◌, ◌%◌, ◌<◌, ◌≤◌, Bool, true, false, cond, eqb, leb, ltb, List, [], ◌++◌, length, take, drop, refl, sym, ap, ◌∙◌, subst, arith, inl, inr, length-append, length-drop, append-nil, Option, None, Some, IfSome, Result, Ok, Err}
+use Rattle.std.proofs.lemmas.Bool.{cond-true, cond-false, lt-ltb, ltb-true, le-ltb, le-leb, leb-true, lt-leb, eqb-true, eq-eqb}
 use Rattle.std.proofs.lemmas.Bool.Decides.{Decides-eqb, eqb_tells}
 use Rattle.std.proofs.lemmas.List.{drop-append-le, drop-drop, drop_all, take_all, length-take-le}
 use Rattle.std.proofs.lemmas.Slice.Eq.{starts_is}
@@ -23,10 +23,6 @@ use Rattle.cdma_io.proofs.ByteNumbers.{AreBytes, AreBytes-drop, big_bytes-front}
 then_ok : {A B : Type 0} (b : Bool) (x : Result A B) (e : B) (y : A) → cond b x (Err e) ≡ Ok y → (b ≡ true) × (x ≡ Ok y)
 then_ok true x e y h = (refl, h)
 then_ok false x e y h = absurd (cc)
-
-else_ok : {A B : Type 0} (b : Bool) (x : Result A B) (e : B) (y : A) → cond b (Err e) x ≡ Ok y → (b ≡ false) × (x ≡ Ok y)
-else_ok true x e y h = absurd (cc)
-else_ok false x e y h = (refl, h)
 
 -- a form gives its flag, and the flag the form
 flag_of_form : (n : ℕ) → form_flag (form_of (eqb (n % 2) 1)) ≡ n % 2
@@ -60,10 +56,10 @@ header_due-lawful : (header : Header) → IsLawfulHeader header → header_due h
 header_due-lawful header lawful =
     let version : eqb header.version 1 ≡ true = eq-eqb header.version 1 lawful.version_is in
     let flags : ltb (flags_of header) 4 ≡ true = lt-ltb (flags_of header) 4 (flags_few header.check30 header.check16) in
-    let count : ltb most_samples header.count ≡ false = le-ltb most_samples header.count lawful.count_most in
+    let count : leb header.count most_samples ≡ true = le-leb header.count most_samples lawful.count_most in
     let make : CheckForm → CheckForm → Result Header FileFault =
     λ a b. Ok (record { version = header.version; check30 = a; check16 = b; count = header.count }) in
-    cond-true _ _ _ version ∙ cond-true _ _ _ flags ∙ cond-false _ _ _ count
+    cond-true _ _ _ version ∙ cond-true _ _ _ flags ∙ cond-true _ _ _ count
     ∙ ap (λ (a : CheckForm). make a (form_of (eqb (flags_of header / 2 % 2) 1))) (form30_read header.check30 header.check16)
     ∙ ap (make header.check30) (form16_read header.check30 header.check16)
 
@@ -78,7 +74,7 @@ header_due-ok : (version flags count : ℕ) (header : Header) → header_due ver
 header_due-ok version flags count header h =
     let a = then_ok (eqb version 1) _ Version header h in
     let b = then_ok (ltb flags 4) _ Flags header a.1 in
-    let c = else_ok (ltb most_samples count) _ Count header b.1 in
+    let c = then_ok (leb count most_samples) _ Count header b.1 in
     let few : flags < 4 = ltb-true flags 4 b.0 in
     let made : Header = record {
       version = version;
@@ -89,7 +85,7 @@ header_due-ok version flags count header h =
     let same : made ≡ header = cc in
     let law : IsLawfulHeader made = record {
       version_is = eqb-true version 1 a.0;
-      count_most = ltb-false most_samples count c.0;
+      count_most = leb-true count most_samples c.0;
     } in
     let back : flags_of made ≡ flags = omega (arith, flag_of_form flags, flag_of_form (flags / 2)) in
     let due : IsDue made version flags count = record { lawful = law; version_is = refl; flags_are = back; count_is = refl } in
@@ -106,8 +102,8 @@ pub opening-spelled : (header : Header) (rest : List ℕ) → IsLawfulHeader hea
 unfolding opening header_spelling
 opening-spelled header rest lawful =
     let bytes = header_spelling header ++ rest in
-    let long : ltb (length bytes) 16 ≡ false =
-    le-ltb (length bytes) 16 (omega (arith, length-append (header_spelling header) rest, length-header_spelling header)) in
+    let long : leb 16 (length bytes) ≡ true =
+    le-leb 16 (length bytes) (omega (arith, length-append (header_spelling header) rest, length-header_spelling header)) in
     let flags = flags_of header in
     let version_read : big_number 2 (drop 4 bytes) ≡ header.version =
     big_number-reads_back 2 header.version (big_bytes 2 flags ++ (big_bytes 8 header.count ++ rest)) (omega (arith, lawful.version_is)) in
@@ -115,7 +111,7 @@ opening-spelled header rest lawful =
     big_number-reads_back 2 flags (big_bytes 8 header.count ++ rest) (omega (arith, flags_few header.check30 header.check16)) in
     let count_read : big_number 8 (drop 8 bytes) ≡ header.count =
     big_number-reads_back 8 header.count rest (omega (arith, lawful.count_most)) in
-    cond-false _ _ _ long
+    cond-true _ _ _ long
     ∙ ap (λ (n : ℕ). header_due n (big_number 2 (drop 6 bytes)) (big_number 8 (drop 8 bytes))) version_read
     ∙ ap (λ (n : ℕ). header_due header.version n (big_number 8 (drop 8 bytes))) flags_read
     ∙ ap (λ (n : ℕ). header_due header.version flags n) count_read
@@ -129,10 +125,10 @@ pub record IsOpened (bytes : List ℕ) (header : Header) : Type 0 where
 pub opening-ok : (bytes : List ℕ) (header : Header) → AreBytes bytes → opening bytes ≡ Ok header → IsOpened bytes header
 unfolding opening header_spelling
 opening-ok bytes header small h =
-    let a = else_ok (ltb (length bytes) 16) _ (Short (length bytes)) header h in
+    let a = then_ok (leb 16 (length bytes)) _ (Short (length bytes)) header h in
     let b = then_ok (starts_with eqb bytes magic) _ Magic header a.1 in
     let due = header_due-ok (big_number 2 (drop 4 bytes)) (big_number 2 (drop 6 bytes)) (big_number 8 (drop 8 bytes)) header b.1 in
-    let long : 16 ≤ length bytes = ltb-false (length bytes) 16 a.0 in
+    let long : 16 ≤ length bytes = leb-true 16 (length bytes) a.0 in
     let begins : bytes ≡ magic ++ drop 4 bytes = (starts_is Decides-eqb bytes magic (starts_with eqb bytes magic) refl).0 b.0 in
     let version : drop 4 bytes ≡ big_bytes 2 header.version ++ drop 6 bytes =
     big_bytes-front 2 (drop 4 bytes) (omega (arith, length-drop 4 bytes)) (AreBytes-drop 4 bytes small)
@@ -164,23 +160,23 @@ number-front xs ys n k fits =
 opening-front : (xs ys : List ℕ) → length xs ≡ 16 → opening (xs ++ ys) ≡ opening xs
 unfolding opening
 opening-front xs ys long =
-    let whole : ltb (length (xs ++ ys)) 16 ≡ false = le-ltb (length (xs ++ ys)) 16 (omega (arith, length-append xs ys)) in
-    let alone : ltb (length xs) 16 ≡ false = le-ltb (length xs) 16 (omega arith) in
+    let whole : leb 16 (length (xs ++ ys)) ≡ true = le-leb 16 (length (xs ++ ys)) (omega (arith, length-append xs ys)) in
+    let alone : leb 16 (length xs) ≡ true = le-leb 16 (length xs) (omega arith) in
     let begins : starts_with eqb (xs ++ ys) magic ≡ starts_with eqb xs magic =
     ap (λ (zs : List ℕ). pointwise eqb magic zs) (take-append-le 4 xs ys (omega arith)) in
     let part : ℕ → ℕ → ℕ → Result Header FileFault =
     λ version flags count. cond (starts_with eqb xs magic) (header_due version flags count) (Err Magic) in
-    cond-false _ _ _ whole
+    cond-true _ _ _ whole
     ∙ ap (λ (b : Bool). cond b (header_due (big_number 2 (drop 4 (xs ++ ys))) (big_number 2 (drop 6 (xs ++ ys))) (big_number 8 (drop 8 (xs ++ ys)))) (Err Magic)) begins
     ∙ ap (λ (n : ℕ). part n (big_number 2 (drop 6 (xs ++ ys))) (big_number 8 (drop 8 (xs ++ ys)))) (number-front xs ys 4 2 (omega arith))
     ∙ ap (λ (n : ℕ). part (big_number 2 (drop 4 xs)) n (big_number 8 (drop 8 (xs ++ ys)))) (number-front xs ys 6 2 (omega arith))
     ∙ ap (part (big_number 2 (drop 4 xs)) (big_number 2 (drop 6 xs))) (number-front xs ys 8 8 (omega arith))
-    ∙ sym (cond-false _ _ _ alone)
+    ∙ sym (cond-true _ _ _ alone)
 
 -- fewer bytes than a header are short
 opening-short : (bytes : List ℕ) → length bytes < 16 → opening bytes ≡ Err (Short (length bytes))
 unfolding opening
-opening-short bytes few = cond-true _ _ _ (lt-ltb (length bytes) 16 few)
+opening-short bytes few = cond-false _ _ _ (lt-leb 16 (length bytes) few)
 
 -- ---- what a parser of 16 bytes answers
 
@@ -196,7 +192,7 @@ due_flags version flags count one many =
 
 due_count : (version flags count : ℕ) → version ≡ 1 → flags < 4 → most_samples < count → header_due version flags count ≡ Err Count
 due_count version flags count one few many =
-    cond-true _ _ _ (eq-eqb version 1 one) ∙ cond-true _ _ _ (lt-ltb flags 4 few) ∙ cond-true _ _ _ (lt-ltb most_samples count many)
+    cond-true _ _ _ (eq-eqb version 1 one) ∙ cond-true _ _ _ (lt-ltb flags 4 few) ∙ cond-false _ _ _ (lt-leb count most_samples many)
 
 due_header : (version flags count : ℕ) → version ≡ 1 → flags < 4 → count ≤ most_samples →
     header_due version flags count ≡ Ok (record {
@@ -206,7 +202,7 @@ due_header : (version flags count : ℕ) → version ≡ 1 → flags < 4 → cou
       count = count;
     })
 due_header version flags count one few fits =
-    cond-true _ _ _ (eq-eqb version 1 one) ∙ cond-true _ _ _ (lt-ltb flags 4 few) ∙ cond-false _ _ _ (le-ltb most_samples count fits)
+    cond-true _ _ _ (eq-eqb version 1 one) ∙ cond-true _ _ _ (lt-ltb flags 4 few) ∙ cond-true _ _ _ (le-leb count most_samples fits)
 
 -- the number in the first bytes of what a slice has from a place on
 abbrev number_at : ℕ → ℕ → List ℕ → ℕ
@@ -221,7 +217,7 @@ opening-due : (bytes : List ℕ) (version flags count : ℕ) → length bytes �
     opening bytes ≡ header_due version flags count
 unfolding opening
 opening-due bytes version flags count long begins version_is flags_are count_is =
-    cond-false _ _ _ (le-ltb (length bytes) 16 (omega arith)) ∙ cond-true _ _ _ begins
+    cond-true _ _ _ (le-leb 16 (length bytes) (omega arith)) ∙ cond-true _ _ _ begins
     ∙ ap (λ (n : ℕ). header_due n (big_number 2 (drop 6 bytes)) (big_number 8 (drop 8 bytes))) (sym (version_is ∙ number_at-drop 4 2 bytes))
     ∙ ap (λ (n : ℕ). header_due version n (big_number 8 (drop 8 bytes))) (sym (flags_are ∙ number_at-drop 6 2 bytes))
     ∙ ap (λ (n : ℕ). header_due version flags n) (sym (count_is ∙ number_at-drop 8 8 bytes))
@@ -229,7 +225,7 @@ opening-due bytes version flags count long begins version_is flags_are count_is 
 pub parsed_magic : (bytes : List ℕ) → length bytes ≡ 16 → starts_with eqb bytes magic ≡ false → Err Magic ≡ opening bytes
 unfolding opening
 parsed_magic bytes long begins =
-    sym (cond-false _ _ _ (le-ltb (length bytes) 16 (omega arith)) ∙ cond-false _ _ _ begins)
+    sym (cond-true _ _ _ (le-leb 16 (length bytes) (omega arith)) ∙ cond-false _ _ _ begins)
 
 pub parsed_version : (bytes : List ℕ) (version : ℕ) → length bytes ≡ 16 → starts_with eqb bytes magic ≡ true →
     version ≡ number_at 4 2 bytes → version ≢ 1 → Err Version ≡ opening bytes

@@ -1,5 +1,5 @@
 -- The sample file: its header and samples as bytes, and what a reader of it answers.
-use Rattle.std.specs.Prelude.{◌≡◌, ◌≢◌, ℕ, ◌+◌, ◌*◌, ◌-◌, ◌/◌, ◌%◌, ◌<◌, ◌≤◌, ◌==◌, nat_eq, nat_lt, Bool, if◌then◌else◌, List, [], ◌∷◌, ◌++◌, length, drop, All, Option, None, Some, Result, Ok, Err, FitsSigned, ⊤}
+use Rattle.std.specs.Prelude.{◌≡◌, ◌≢◌, ℕ, ◌+◌, ◌*◌, ◌-◌, ◌/◌, ◌%◌, ◌<◌, ◌≤◌, ◌==◌, nat_eq, nat_le, nat_lt, Bool, if◌then◌else◌, List, [], ◌∷◌, ◌++◌, length, drop, All, Option, None, Some, Result, Ok, Err, FitsSigned, ⊤}
 use Rattle.std.specs.Int.{cast_unsigned, w16}
 use Rattle.std.specs.List.{flat_map, starts_with}
 use Rattle.std.specs.Io.KnownBytes.{IsAtEnd}
@@ -61,28 +61,29 @@ pub record IsSampleFile (bytes : List ℕ) (header : Header) (samples : List Sam
 abbrev pub form_of : Bool → CheckForm
 form_of flag = if flag then Complemented else Plain
 
--- what is due for a header that holds these numbers: the first fault in them, or the header
+-- what is due where a test passes, and the fault where it fails
+abbrev pub due_if : Bool → FileFault → Result Header FileFault → Result Header FileFault
+due_if test fault due = if test then due else Err fault
+
+-- what is due for a header of these numbers: the first fault in them, or the header
 abbrev pub header_due : ℕ → ℕ → ℕ → Result Header FileFault
 header_due version flags count =
-    if version == 1 then (
-    if nat_lt flags 4 then (
-    if nat_lt most_samples count then Err Count else Ok (record {
+    due_if (version == 1) Version
+    (due_if (nat_lt flags 4) Flags
+    (due_if (nat_le count most_samples) Count
+    (Ok (record {
       version = version;
       check30 = form_of (flags % 2 == 1);
       check16 = form_of (flags / 2 % 2 == 1);
       count = count;
-    })
-    ) else Err Flags
-    ) else Err Version
+    }))))
 
 -- what opening a file of these bytes answers: its header, or the first fault in the first 16 bytes
 unfoldable pub opening : List ℕ → Result Header FileFault
 opening bytes =
-    if nat_lt (length bytes) 16 then Err (Short (length bytes)) else (
-    if starts_with nat_eq bytes magic then
-    header_due (big_number 2 (drop 4 bytes)) (big_number 2 (drop 6 bytes)) (big_number 8 (drop 8 bytes))
-    else Err Magic
-    )
+    due_if (nat_le 16 (length bytes)) (Short (length bytes))
+    (due_if (starts_with nat_eq bytes magic) Magic
+    (header_due (big_number 2 (drop 4 bytes)) (big_number 2 (drop 6 bytes)) (big_number 8 (drop 8 bytes))))
 
 -- ---- what a reader holds and answers
 
