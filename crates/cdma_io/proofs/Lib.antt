@@ -1,4 +1,5 @@
 pub mod ByteNumbers
+pub mod Files
 pub mod Moves
 pub mod Opening
 pub mod Reading

@@ -1,10 +1,12 @@
 //! Laws of the definitions alone. Each function's clause is the law, and its body is empty.
 
-ghost use Rattle.std.specs.Prelude.{◌≡◌, ◌<◌, ◌≤◌, ◌++◌, ℕ, List, All, Ok, Result, length, take, drop};
+ghost use Rattle.std.specs.Prelude.{◌≡◌, ◌<◌, ◌≤◌, ◌++◌, ℕ, ◌*◌, [], List, All, Option, Some, Ok, Result, MatchResult, length, take, drop};
 ghost use Rattle.std.specs.List.{flat_map};
+ghost use Rattle.std.specs.Io.KnownBytes.{Consumes};
 ghost use Rattle.chip_core.specs.declared.sample.Sample.{Sample};
+ghost use Rattle.cdma_io.specs.declared.file_fault.FileFault.{FileFault};
 ghost use Rattle.cdma_io.specs.declared.header.Header.{Header};
-ghost use Rattle.cdma_io.specs.SampleFile.{HasSixteenBits, IsLawfulHeader, IsSampleFile, header_spelling, opening, sample_spelling};
+ghost use Rattle.cdma_io.specs.SampleFile.{CutsShort, HasSixteenBits, IsLawfulHeader, IsSampleFile, Opens, Reading, RunsOn, header_spelling, opening, sample_spelling};
 
 /// A file's bytes fix its header and its samples.
 pub fn file_is_unique()
@@ -25,10 +27,29 @@ pub fn opened_header_is_spelled()
         IsLawfulHeader header × ((rest : List ℕ) × (bytes ≡ header_spelling header ++ rest)) }
 {}
 
-/// Samples whose bytes the bytes of a file's samples begin with are the first of these, and the
-/// bytes behind them spell the others.
-pub fn read_samples_are_the_next()
-    ensures { (samples next : List Sample) (rest : List ℕ) → All HasSixteenBits samples → All HasSixteenBits next →
-        length next ≤ length samples → flat_map sample_spelling samples ≡ flat_map sample_spelling next ++ rest →
-        (next ≡ take (length next) samples) × (rest ≡ flat_map sample_spelling (drop (length next) samples)) }
+/// A lawful file opens with its header, unless a read failed.
+pub fn file_opens()
+    ensures { (bytes : List ℕ) (header : Header) (samples : List Sample) (answer : Result Reading FileFault) →
+        IsSampleFile bytes header samples → Opens answer (opening bytes) →
+        MatchResult answer (λ reading. reading.header ≡ header) (λ e. e ≡ FileFault.ReadFault) }
+{}
+
+/// Samples that were read where the source has the bytes of samples left are the first of these, and
+/// the source has the bytes of the others left.
+pub fn file_is_read_in_order()
+    ensures { (samples next : List Sample) (new : Option (List ℕ)) → All HasSixteenBits samples → All HasSixteenBits next →
+        length next ≤ length samples →
+        Consumes (Some (flat_map sample_spelling samples)) new (flat_map sample_spelling next) →
+        (next ≡ take (length next) samples) × (new ≡ Some (flat_map sample_spelling (drop (length next) samples))) }
+{}
+
+/// No read within the samples that the source has left is cut short, unless a read failed.
+pub fn file_is_not_short()
+    ensures { (e : FileFault) (samples : List Sample) (count from : ℕ) (new : Option (List ℕ)) → count ≤ length samples →
+        CutsShort e (4 * count) from (Some (flat_map sample_spelling samples)) new → e ≡ FileFault.ReadFault }
+{}
+
+/// No further byte comes where the source has none left, unless a read failed.
+pub fn file_is_not_long()
+    ensures { (e : FileFault) (end : ℕ) → RunsOn e end (Some []) → e ≡ FileFault.ReadFault }
 {}

@@ -1,0 +1,70 @@
+-- Lemmas on a reader of a file that is lawful.
+use Rattle.std.proofs.Common.{◌≡◌, ℕ, ◌*◌, ◌≤◌, List, [], length, take, drop, refl, sym, ap, ◌∙◌, arith, All, Option, None, Some, Result, Ok, Err}
+use Rattle.std.specs.Prelude.{MatchResult}
+use Rattle.std.specs.List.{flat_map}
+use Rattle.std.specs.Io.KnownBytes.{Consumes}
+use Rattle.std.proofs.lemmas.List.{append_cancel_left}
+use Rattle.chip_core.specs.declared.sample.Sample.{Sample}
+use Rattle.cdma_io.specs.declared.file_fault.FileFault.{FileFault}
+use Rattle.cdma_io.specs.declared.file_fault.FileFault.TheVariants.{Magic, Version, Flags, Count, Short, Extra, ReadFault, TooFew}
+use Rattle.cdma_io.specs.declared.header.Header.{Header}
+use Rattle.cdma_io.specs.SampleFile.{CutsShort, HasSixteenBits, IsSampleFile, Opens, Reading, RunsOn, header_spelling, opening, sample_spelling}
+use Rattle.cdma_io.proofs.Opening.{opening-spelled}
+use Rattle.cdma_io.proofs.Spelling.{length-samples, next_samples}
+
+pub opening-file : (bytes : List ℕ) (header : Header) (samples : List Sample) → IsSampleFile bytes header samples → opening bytes ≡ Ok header
+opening-file bytes header samples file =
+    ap opening file.spelled ∙ opening-spelled header (flat_map sample_spelling samples) file.lawful
+
+-- it opens with its header, unless a read failed
+pub opens_file : (answer : Result Reading FileFault) (bytes : List ℕ) (header : Header) (samples : List Sample) →
+    IsSampleFile bytes header samples → Opens answer (opening bytes) →
+    MatchResult answer (λ reading. reading.header ≡ header) (λ e. e ≡ ReadFault)
+opens_file (Ok reading) bytes header samples file due = let opened = opening-file bytes header samples file in cc
+opens_file (Err ReadFault) bytes header samples file due = refl
+opens_file (Err Magic) bytes header samples file due = let opened = opening-file bytes header samples file in let answer = due (λ e. cc) in absurd (cc)
+opens_file (Err Version) bytes header samples file due = let opened = opening-file bytes header samples file in let answer = due (λ e. cc) in absurd (cc)
+opens_file (Err Flags) bytes header samples file due = let opened = opening-file bytes header samples file in let answer = due (λ e. cc) in absurd (cc)
+opens_file (Err Count) bytes header samples file due = let opened = opening-file bytes header samples file in let answer = due (λ e. cc) in absurd (cc)
+opens_file (Err (Short n)) bytes header samples file due = let opened = opening-file bytes header samples file in let answer = due (λ e. cc) in absurd (cc)
+opens_file (Err (Extra n)) bytes header samples file due = let opened = opening-file bytes header samples file in let answer = due (λ e. cc) in absurd (cc)
+opens_file (Err (TooFew n)) bytes header samples file due = let opened = opening-file bytes header samples file in let answer = due (λ e. cc) in absurd (cc)
+
+-- what is left after its header
+pub opened_rest : (new : Option (List ℕ)) (bytes : List ℕ) (header : Header) (samples : List Sample) →
+    IsSampleFile bytes header samples → Consumes (Some bytes) new (header_spelling header) →
+    new ≡ Some (flat_map sample_spelling samples)
+opened_rest None bytes header samples file read = absurd read
+opened_rest (Some ys) bytes header samples file read =
+    ap Some (append_cancel_left (header_spelling header) ys (flat_map sample_spelling samples) (sym read ∙ file.spelled))
+
+-- what a read of its samples gave, and what is left
+pub read_next : (new : Option (List ℕ)) (samples next : List Sample) → All HasSixteenBits samples → All HasSixteenBits next →
+    length next ≤ length samples → Consumes (Some (flat_map sample_spelling samples)) new (flat_map sample_spelling next) →
+    (next ≡ take (length next) samples) × (new ≡ Some (flat_map sample_spelling (drop (length next) samples)))
+read_next None samples next small small_next fits read = absurd read
+read_next (Some ys) samples next small small_next fits read =
+    let found = next_samples next samples ys small small_next fits read in (found.first, ap Some found.others)
+
+-- no read of its samples is cut short, unless a read failed
+pub no_short : (e : FileFault) (samples : List Sample) (count from : ℕ) (new : Option (List ℕ)) → count ≤ length samples →
+    CutsShort e (4 * count) from (Some (flat_map sample_spelling samples)) new → e ≡ ReadFault
+no_short ReadFault samples count from new few fault = refl
+no_short (Short place) samples count from new few fault = absurd (omega (arith, fault.0, length-samples samples))
+no_short Magic samples count from new few fault = absurd fault
+no_short Version samples count from new few fault = absurd fault
+no_short Flags samples count from new few fault = absurd fault
+no_short Count samples count from new few fault = absurd fault
+no_short (Extra place) samples count from new few fault = absurd fault
+no_short (TooFew n) samples count from new few fault = absurd fault
+
+-- it has no byte too many, unless a read failed
+pub no_extra : (e : FileFault) (end : ℕ) → RunsOn e end (Some []) → e ≡ ReadFault
+no_extra ReadFault end fault = refl
+no_extra (Extra place) end fault = absurd (omega (arith, fault.0))
+no_extra Magic end fault = absurd fault
+no_extra Version end fault = absurd fault
+no_extra Flags end fault = absurd fault
+no_extra Count end fault = absurd fault
+no_extra (Short place) end fault = absurd fault
+no_extra (TooFew n) end fault = absurd fault
