@@ -1,5 +1,5 @@
 -- What calls on the outside say: which bytes moved, where they are told, and why a call failed.
-use Rattle.std.specs.Prelude.{ℕ, ◌+◌, ◌-◌, ◌^◌, ◌<◌, ◌≤◌, min, List, length, take, Option, Result, OnErr, IfOk}
+use Rattle.std.specs.Prelude.{◌≡◌, ℕ, ◌+◌, ◌-◌, ◌^◌, ◌<◌, ◌≤◌, min, List, length, take, Option, Result, OnErr, IfOk, MatchResult}
 use Rattle.std.specs.Io.KnownBytes.{Appends, Consumes}
 
 -- the next number of a count that stops at the last number of 64 bits
@@ -14,6 +14,10 @@ Rose before now = next_count before ≤ now
 pub record HasCause {T E : Type 0} (before now : ℕ) (result : Result T E) : Type 0 where
   pub later : before ≤ now
   pub failed : OnErr result (Rose before now)
+
+-- a count of faults rose by one in a call that failed, up to its last number, and stayed in one that did not
+abbrev pub CountsFaults : {T E : Type 0} → ℕ → ℕ → Result T E → Type 0
+CountsFaults before now result = MatchResult result (λ _. now ≡ before) (λ _. now ≡ next_count before)
 
 -- a give to a sink took some of a piece that has any
 abbrev pub Progresses : {E : Type 0} → Result ℕ E → List ℕ → Type 0

@@ -6,10 +6,12 @@ ghost use Rattle.cdma_io.specs.Outside.{ConsumesAtMost, HasCause};
 
 use crate::source::{Failed, Source};
 
-/// Takes bytes until the buffer is full or the source ends: how many. The first failed take ends it.
+/// Takes bytes until the buffer is full or the source ends: how many. The first failed take ends
+/// it.
 pub fn fill<S: Source>(source: &mut S, buf: &mut [u8]) -> Result<usize, Failed>
     ensures bound { IfOk result (λ n. n ≤ length buf.new) }
-    ensures bytes { IfOk result (λ n. Consumes (S.rest source.old) (S.rest source.new) (take n buf.new)) }
+    ensures bytes { IfOk result (λ n. Consumes (S.rest source.old) (S.rest source.new)
+        (take n buf.new)) }
     ensures ends { IfOk result (λ n. n < length buf.new → IsAtEnd (S.rest source.new)) }
     ensures taken { ConsumesAtMost (length buf.old) (S.rest source.old) (S.rest source.new) }
     ensures cause { HasCause (S.faults source.old) (S.faults source.new) result }

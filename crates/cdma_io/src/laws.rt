@@ -10,7 +10,8 @@ ghost use Rattle.cdma_io.specs.SampleFile.{CutsShort, HasSixteenBits, IsLawfulHe
 
 /// A file's bytes fix its header and its samples.
 pub fn file_is_unique()
-    ensures { (bytes : List ℕ) (header other_header : Header) (samples other_samples : List Sample) →
+    ensures { (bytes : List ℕ) (header other_header : Header)
+        (samples other_samples : List Sample) →
         IsSampleFile bytes header samples → IsSampleFile bytes other_header other_samples →
         (header ≡ other_header) × (samples ≡ other_samples) }
 {}
@@ -23,13 +24,15 @@ pub fn spelled_header_opens()
 
 /// Bytes that open begin with the spelling of their header, which is lawful.
 pub fn opened_header_is_spelled()
-    ensures { (bytes : List ℕ) (header : Header) → All (λ b. b < 256) bytes → opening bytes ≡ Ok header →
+    ensures { (bytes : List ℕ) (header : Header) →
+        All (λ b. b < 256) bytes → opening bytes ≡ Ok header →
         IsLawfulHeader header × ((rest : List ℕ) × (bytes ≡ header_spelling header ++ rest)) }
 {}
 
 /// A lawful file opens with its header, unless a read failed.
 pub fn file_opens()
-    ensures { (bytes : List ℕ) (header : Header) (samples : List Sample) (answer : Result Reading FileFault) →
+    ensures { (bytes : List ℕ) (header : Header) (samples : List Sample)
+        (answer : Result Reading FileFault) →
         IsSampleFile bytes header samples → Opens answer (opening bytes) →
         MatchResult answer (λ reading. reading.header ≡ header) (λ e. e ≡ FileFault.ReadFault) }
 {}
@@ -37,16 +40,20 @@ pub fn file_opens()
 /// Samples that were read where the source has the bytes of samples left are the first of these, and
 /// the source has the bytes of the others left.
 pub fn file_is_read_in_order()
-    ensures { (samples next : List Sample) (new : Option (List ℕ)) → All HasSixteenBits samples → All HasSixteenBits next →
+    ensures { (samples next : List Sample) (new : Option (List ℕ)) →
+        All HasSixteenBits samples → All HasSixteenBits next →
         length next ≤ length samples →
         Consumes (Some (flat_map sample_spelling samples)) new (flat_map sample_spelling next) →
-        (next ≡ take (length next) samples) × (new ≡ Some (flat_map sample_spelling (drop (length next) samples))) }
+        (next ≡ take (length next) samples)
+        × (new ≡ Some (flat_map sample_spelling (drop (length next) samples))) }
 {}
 
 /// No read within the samples that the source has left is cut short, unless a read failed.
 pub fn file_is_not_short()
-    ensures { (e : FileFault) (samples : List Sample) (count from : ℕ) (new : Option (List ℕ)) → count ≤ length samples →
-        CutsShort e (4 * count) from (Some (flat_map sample_spelling samples)) new → e ≡ FileFault.ReadFault }
+    ensures { (e : FileFault) (samples : List Sample) (count from : ℕ) (new : Option (List ℕ)) →
+        count ≤ length samples →
+        CutsShort e (4 * count) from (Some (flat_map sample_spelling samples)) new →
+        e ≡ FileFault.ReadFault }
 {}
 
 /// No further byte comes where the source has none left, unless a read failed.

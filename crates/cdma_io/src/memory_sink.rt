@@ -38,7 +38,8 @@ impl Model for MemorySink {
       faults = k.faults;
     } };
 
-    ghost invariant = { λ k. (vec_len k.bytes ≤ k.room) × (k.room ≤ vec_capacity k.bytes) × (1 ≤ k.piece) };
+    ghost invariant = { λ k.
+        (vec_len k.bytes ≤ k.room) × (k.room ≤ vec_capacity k.bytes) × (1 ≤ k.piece) };
 }
 
 impl MemorySink {

@@ -9,7 +9,8 @@ ghost use Rattle.cdma_io.specs.Memory.{SourceState, given, given_count, source_f
 use crate::source::{Failed, Source};
 use std::marker::Model;
 
-/// A source over bytes in memory, which gives at most so many bytes a call and fails at chosen calls.
+/// A source over bytes in memory, which gives at most so many bytes a call and fails at chosen
+/// calls.
 ///
 /// It always tells what is left.
 #[derive(Drop)]

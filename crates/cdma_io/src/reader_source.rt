@@ -1,6 +1,9 @@
 //! A source over a reader of std.
 
 ghost use Rattle.std.specs.Prelude.{◌≡◌};
+ghost use Rattle.std.specs.Io.{ReadsAtMost};
+ghost use Rattle.std.specs.Io.KnownBytes.{ReadConsumes};
+ghost use Rattle.cdma_io.specs.Outside.{CountsFaults, HasCause};
 
 use crate::source::{Failed, Source};
 use std::io::Read;
@@ -30,7 +33,18 @@ impl<R: Read> Source for ReaderSource<R> {
 
     ghost faults = { λ s. s.faults };
 
-    fn take(&mut self, buf: &mut [u8]) -> Result<usize, Failed> {
+    fn take(&mut self, buf: &mut [u8]) -> Result<usize, Failed>
+        ensures bound { ReadsAtMost result buf.new }
+        ensures bytes { ReadConsumes
+            (⟦<ReaderSource<R> as Source>⟧.rest self.old)
+            (⟦<ReaderSource<R> as Source>⟧.rest self.new) result buf.new }
+        ensures cause { HasCause
+            (⟦<ReaderSource<R> as Source>⟧.faults self.old)
+            (⟦<ReaderSource<R> as Source>⟧.faults self.new) result }
+        ensures counted { CountsFaults
+            (⟦<ReaderSource<R> as Source>⟧.faults self.old)
+            (⟦<ReaderSource<R> as Source>⟧.faults self.new) result }
+    {
         match self.reader.read(buf) {
             Ok(count) => Ok(count),
             Err(_) => {

@@ -41,13 +41,15 @@ impl SampleReader {
     /// [`FileFault::Magic`], [`FileFault::Version`], [`FileFault::Flags`] and
     /// [`FileFault::Count`] by what the bytes hold.
     pub fn open<S: Source>(source: &mut S) -> Result<SampleReader, FileFault>
-        ensures header { IfOk result (λ r. Consumes (S.rest source.old) (S.rest source.new) (header_spelling r.header)) }
+        ensures header { IfOk result (λ r. Consumes (S.rest source.old) (S.rest source.new)
+            (header_spelling r.header)) }
         ensures lawful { IfOk result (λ r. IsLawfulHeader r.header) }
         ensures fresh { IfOk result (λ r. r ≡ fresh_reading r.header) }
         ensures told { IfSome (S.rest source.old) (λ bytes. Opens result (opening bytes)) }
         ensures taken { ConsumesAtMost 16 (S.rest source.old) (S.rest source.new) }
         ensures later { S.faults source.old ≤ S.faults source.new }
-        ensures cause { result ≡ Err FileFault.ReadFault → Rose (S.faults source.old) (S.faults source.new) }
+        ensures cause { result ≡ Err FileFault.ReadFault →
+            Rose (S.faults source.old) (S.faults source.new) }
     {
         let mut bytes = [0; HEADER_LEN];
         let count = fill(source, &mut bytes)?;
@@ -102,7 +104,8 @@ impl SampleReader {
         ensures fault { IfErr result (λ e. IsNone self.old.fault →
             CutsShort e (4 * min (length out.old) self.old.left) (next_place self.old)
             (S.rest source.old) (S.rest source.new)) }
-        ensures taken { ConsumesAtMost (4 * min (length out.old) self.old.left) (S.rest source.old) (S.rest source.new) }
+        ensures taken { ConsumesAtMost (4 * min (length out.old) self.old.left)
+            (S.rest source.old) (S.rest source.new) }
 
         ensures later { S.faults source.old ≤ S.faults source.new }
         ensures cause { IsNone self.old.fault → result ≡ Err FileFault.ReadFault →
@@ -168,7 +171,8 @@ fn expect_end<S: Source>(source: &mut S, end: u64) -> Result<(), FileFault>
     ensures fault { IfErr result (λ e. RunsOn e end (S.rest source.old)) }
     ensures taken { ConsumesAtMost 1 (S.rest source.old) (S.rest source.new) }
     ensures later { S.faults source.old ≤ S.faults source.new }
-    ensures cause { result ≡ Err FileFault.ReadFault → Rose (S.faults source.old) (S.faults source.new) }
+    ensures cause { result ≡ Err FileFault.ReadFault →
+        Rose (S.faults source.old) (S.faults source.new) }
 {
     let mut byte = [0];
     let count = source.take(&mut byte)?;

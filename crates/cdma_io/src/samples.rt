@@ -45,12 +45,16 @@ fn parse_samples(bytes: &[u8], out: &mut [Sample])
 fn read_piece<S: Source>(source: &mut S, place: u64, out: &mut [Sample]) -> Result<(), FileFault>
     requires few { length out.old ≤ PIECE }
     requires place_fits { place + SAMPLE_LEN * length out.old < 2 ^ 64 }
-    ensures spelled { OnOk result (Consumes (S.rest source.old) (S.rest source.new) (flat_map sample_spelling out.new)) }
+    ensures spelled { OnOk result (Consumes (S.rest source.old) (S.rest source.new)
+        (flat_map sample_spelling out.new)) }
     ensures in_range { OnOk result (All HasSixteenBits out.new) }
-    ensures fault { IfErr result (λ e. CutsShort e (SAMPLE_LEN * length out.old) place (S.rest source.old) (S.rest source.new)) }
-    ensures taken { ConsumesAtMost (SAMPLE_LEN * length out.old) (S.rest source.old) (S.rest source.new) }
+    ensures fault { IfErr result (λ e. CutsShort e (SAMPLE_LEN * length out.old) place
+        (S.rest source.old) (S.rest source.new)) }
+    ensures taken { ConsumesAtMost (SAMPLE_LEN * length out.old)
+        (S.rest source.old) (S.rest source.new) }
     ensures later { S.faults source.old ≤ S.faults source.new }
-    ensures cause { result ≡ Err FileFault.ReadFault → Rose (S.faults source.old) (S.faults source.new) }
+    ensures cause { result ≡ Err FileFault.ReadFault →
+        Rose (S.faults source.old) (S.faults source.new) }
 {
     let mut bytes = [0; SAMPLE_LEN * PIECE];
     let wanted = SAMPLE_LEN * out.len();
@@ -71,12 +75,16 @@ pub fn read_samples<S: Source>(
     out: &mut [Sample],
 ) -> Result<(), FileFault>
     requires { place + SAMPLE_LEN * length out.old < 2 ^ 64 }
-    ensures spelled { OnOk result (Consumes (S.rest source.old) (S.rest source.new) (flat_map sample_spelling out.new)) }
+    ensures spelled { OnOk result (Consumes (S.rest source.old) (S.rest source.new)
+        (flat_map sample_spelling out.new)) }
     ensures in_range { OnOk result (All HasSixteenBits out.new) }
-    ensures fault { IfErr result (λ e. CutsShort e (SAMPLE_LEN * length out.old) place (S.rest source.old) (S.rest source.new)) }
-    ensures taken { ConsumesAtMost (SAMPLE_LEN * length out.old) (S.rest source.old) (S.rest source.new) }
+    ensures fault { IfErr result (λ e. CutsShort e (SAMPLE_LEN * length out.old) place
+        (S.rest source.old) (S.rest source.new)) }
+    ensures taken { ConsumesAtMost (SAMPLE_LEN * length out.old)
+        (S.rest source.old) (S.rest source.new) }
     ensures later { S.faults source.old ≤ S.faults source.new }
-    ensures cause { result ≡ Err FileFault.ReadFault → Rose (S.faults source.old) (S.faults source.new) }
+    ensures cause { result ≡ Err FileFault.ReadFault →
+        Rose (S.faults source.old) (S.faults source.new) }
 {
     let mut done = 0;
     while done < out.len() {

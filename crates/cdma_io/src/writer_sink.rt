@@ -1,8 +1,9 @@
 //! A sink over a writer of std.
 
 ghost use Rattle.std.specs.Prelude.{◌≡◌, ◌≤◌};
-ghost use Rattle.std.specs.Io.KnownBytes.{Keeps};
-ghost use Rattle.cdma_io.specs.Outside.{HasCause, Rose};
+ghost use Rattle.std.specs.Io.{WritesAtMost};
+ghost use Rattle.std.specs.Io.KnownBytes.{Keeps, WriteAppends};
+ghost use Rattle.cdma_io.specs.Outside.{CountsFaults, HasCause, Progresses, next_count};
 
 use crate::sink::Sink;
 use crate::source::Failed;
@@ -31,8 +32,15 @@ impl<W: Write> WriterSink<W> {
     ///
     /// [`Failed`] comes only where the count of faults rose.
     pub fn flush(&mut self) -> Result<(), Failed>
-        ensures written { Keeps (⟦<WriterSink<W> as Sink>⟧.written self.old) (⟦<WriterSink<W> as Sink>⟧.written self.new) }
-        ensures cause { HasCause (⟦<WriterSink<W> as Sink>⟧.faults self.old) (⟦<WriterSink<W> as Sink>⟧.faults self.new) result }
+        ensures written { Keeps
+            (⟦<WriterSink<W> as Sink>⟧.written self.old)
+            (⟦<WriterSink<W> as Sink>⟧.written self.new) }
+        ensures cause { HasCause
+            (⟦<WriterSink<W> as Sink>⟧.faults self.old)
+            (⟦<WriterSink<W> as Sink>⟧.faults self.new) result }
+        ensures counted { CountsFaults
+            (⟦<WriterSink<W> as Sink>⟧.faults self.old)
+            (⟦<WriterSink<W> as Sink>⟧.faults self.new) result }
     {
         match self.writer.flush() {
             Ok(()) => Ok(()),
@@ -42,9 +50,12 @@ impl<W: Write> WriterSink<W> {
 
     // Counts a fault.
     fn fault(&mut self) -> Failed
-        ensures written { ⟦<WriterSink<W> as Sink>⟧.written self.new ≡ ⟦<WriterSink<W> as Sink>⟧.written self.old }
-        ensures later { ⟦<WriterSink<W> as Sink>⟧.faults self.old ≤ ⟦<WriterSink<W> as Sink>⟧.faults self.new }
-        ensures rose { Rose (⟦<WriterSink<W> as Sink>⟧.faults self.old) (⟦<WriterSink<W> as Sink>⟧.faults self.new) }
+        ensures written { ⟦<WriterSink<W> as Sink>⟧.written self.new
+            ≡ ⟦<WriterSink<W> as Sink>⟧.written self.old }
+        ensures counted { ⟦<WriterSink<W> as Sink>⟧.faults self.new ≡ next_count
+            (⟦<WriterSink<W> as Sink>⟧.faults self.old) }
+        ensures later { ⟦<WriterSink<W> as Sink>⟧.faults self.old
+            ≤ ⟦<WriterSink<W> as Sink>⟧.faults self.new }
     {
         self.faults = self.faults.saturating_add(1);
         Failed
@@ -56,7 +67,19 @@ impl<W: Write> Sink for WriterSink<W> {
 
     ghost faults = { λ k. k.faults };
 
-    fn give(&mut self, piece: &[u8]) -> Result<usize, Failed> {
+    fn give(&mut self, piece: &[u8]) -> Result<usize, Failed>
+        ensures bound { WritesAtMost result piece.now }
+        ensures progress { Progresses result piece.now }
+        ensures bytes { WriteAppends
+            (⟦<WriterSink<W> as Sink>⟧.written self.old)
+            (⟦<WriterSink<W> as Sink>⟧.written self.new) result piece.now }
+        ensures cause { HasCause
+            (⟦<WriterSink<W> as Sink>⟧.faults self.old)
+            (⟦<WriterSink<W> as Sink>⟧.faults self.new) result }
+        ensures counted { CountsFaults
+            (⟦<WriterSink<W> as Sink>⟧.faults self.old)
+            (⟦<WriterSink<W> as Sink>⟧.faults self.new) result }
+    {
         match self.writer.write(piece) {
             Ok(count) if count > 0 || piece.is_empty() => Ok(count),
             _ => Err(self.fault()),
