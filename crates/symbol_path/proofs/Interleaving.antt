@@ -1,0 +1,28 @@
+-- The code symbol that is sent as symbol i.
+use Rattle.std.proofs.Common.{◌≡◌, ℕ, zero, suc, ◌*◌, ◌/◌, ◌<◌, ◌≤◌, sym, arith}
+use Rattle.std.proofs.Math.Nat.{div-eq_of_eq-mul_left}
+use Rattle.std.proofs.lemmas.Nat.{div_below}
+use Rattle.symbol_path.specs.declared.kinds.Kind.{Kind}
+use Rattle.symbol_path.specs.declared.kinds.Kind.TheVariants.{Sync, Data}
+use Rattle.symbol_path.specs.SentOrder.{shape_of, size}
+
+pub size_some : (kind : Kind) → 0 < size (shape_of kind)
+size_some Sync = omega arith
+size_some Data = omega arith
+
+pub size_most : (kind : Kind) → size (shape_of kind) ≤ 384
+size_most Sync = omega arith
+size_most Data = omega arith
+
+-- each symbol is repeated at least once
+pub repeats_some : (count repeats total : ℕ) → count * repeats ≡ total → 0 < total → 0 < repeats
+repeats_some count zero total e some = absurd (omega (arith, e, some))
+repeats_some count (suc r) total e some = omega arith
+
+pub symbol_lt : (a count repeats total : ℕ) → count * repeats ≡ total → a < total → a / repeats < count
+symbol_lt a count repeats total e h =
+    let some : 0 < total = omega (arith, h) in
+    div_below a repeats count (repeats_some count repeats total e some) (omega (arith, e, h))
+
+pub count_is : (count repeats total : ℕ) → count * repeats ≡ total → 0 < total → total / repeats ≡ count
+count_is count repeats total e some = div-eq_of_eq-mul_left (repeats_some count repeats total e some) (sym e)

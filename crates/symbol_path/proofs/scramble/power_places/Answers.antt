@@ -1,0 +1,57 @@
+use Rattle.std.proofs.Common.{◌≡◌, ◌<◌, ◌+◌, ◌*◌, ℕ, arith, sym, ap, ◌∙◌, refl, subst, List}
+use Rattle.std.proofs.lemmas.List.Elements.{All-from_get_or}
+use Rattle.long_code.specs.LongCode.{after, before}
+use Rattle.symbol_path.specs.Scrambling.{group_scrambling, power_start, power_place}
+use Rattle.symbol_path.proofs.SymbolChips.{before_later, group_first, group_next, power_place_is}
+use Rattle.symbol_path.proofs.PowerPlaces.{ArePairs, pairs_more, pairs_all, pairs_rise, pairs_below, pairs_in_groups, pairs_neighbours, power_place_in_groups}
+use Rattle.symbol_path.proofs.scramble.power_places.Goals as goal
+
+pub loop-group-init : goal.loop-group-init
+loop-group-init c = record {
+  group = c.jump.ensures.later ∙ sym (before_later c.args.state.now 1536 (omega arith)) ∙ group_first c.args.state.now;
+  pairs = record { long = refl; first = λ g lt. absurd (omega (arith, lt)); second = λ g lt. absurd (omega (arith, lt)) };
+}
+
+pub loop-group-preserved : goal.loop-group-preserved
+loop-group-preserved c =
+    let g = c.loop-group.group in
+    let state = c.args.state.now in
+    let mask = c.args.mask in
+    let start : c.from-start.result ≡ power_start (group_scrambling (after (before state 1536) (1536 * g)) mask) =
+    c.from-start.ensures ∙ c.power_start.ensures.value ∙ ap power_start c.group_bits.ensures
+    ∙ ap (λ (s : ℕ). power_start (group_scrambling s mask)) c.loop-group.invariant.group in
+    record {
+      group = c.jump-in-loop-group.ensures.later ∙ ap (λ (s : ℕ). after s 1536) c.loop-group.invariant.group ∙ group_next state g;
+      pairs = pairs_more (power_place state mask) c.loop-group.places g c.from.result c.from-in-loop-group.result (24 * g + c.from-start.result)
+          c.from.ensures c.from-in-loop-group.ensures c.loop-group-test.true (ap (λ (k : ℕ). 24 * g + k) start ∙ sym (power_place_is state mask g)) c.loop-group.invariant.pairs;
+    }
+
+-- the pairs of all groups
+all_pairs : (f : ℕ → ℕ) (xs : List ℕ) (n : ℕ) → n ≡ 16 → ArePairs f xs n → ArePairs f xs 16
+all_pairs f xs n e pairs = let P : ℕ → Type 0 = λ n. ArePairs f xs n in subst P e pairs
+
+pub returns-clause-value : goal.returns-clause-value
+returns-clause-value c =
+    pairs_all c.args.state.now c.args.mask c.loop-group.places
+    (all_pairs (power_place c.args.state.now c.args.mask) c.loop-group.places c.loop-group.group (omega arith) c.loop-group.invariant.pairs)
+
+pub returns-clause-groups : goal.returns-clause-groups
+returns-clause-groups c =
+    pairs_in_groups (power_place c.args.state.now c.args.mask) c.loop-group.places (power_place_in_groups c.args.state.now c.args.mask)
+    (all_pairs (power_place c.args.state.now c.args.mask) c.loop-group.places c.loop-group.group (omega arith) c.loop-group.invariant.pairs)
+
+pub returns-clause-pairs : goal.returns-clause-pairs
+returns-clause-pairs c =
+    pairs_neighbours (power_place c.args.state.now c.args.mask) c.loop-group.places
+    (all_pairs (power_place c.args.state.now c.args.mask) c.loop-group.places c.loop-group.group (omega arith) c.loop-group.invariant.pairs)
+
+pub returns-clause-rising : goal.returns-clause-rising
+returns-clause-rising c =
+    pairs_rise (power_place c.args.state.now c.args.mask) c.loop-group.places (power_place_in_groups c.args.state.now c.args.mask)
+    (all_pairs (power_place c.args.state.now c.args.mask) c.loop-group.places c.loop-group.group (omega arith) c.loop-group.invariant.pairs)
+
+pub returns-clause-below : goal.returns-clause-below
+returns-clause-below c =
+    All-from_get_or (λ k. k < 384) c.loop-group.places 0
+    (pairs_below (power_place c.args.state.now c.args.mask) c.loop-group.places (power_place_in_groups c.args.state.now c.args.mask)
+    (all_pairs (power_place c.args.state.now c.args.mask) c.loop-group.places c.loop-group.group (omega arith) c.loop-group.invariant.pairs))

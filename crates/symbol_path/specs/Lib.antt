@@ -1,0 +1,3 @@
+pub mod Scrambling
+pub mod SentOrder
+pub mod Worked

@@ -1,0 +1,31 @@
+-- Data scrambling and the power control subchannel (TIA/EIA-95-B, 7.1.3.1.6 and 7.1.3.1.7).
+use Rattle.std.specs.Prelude.{ℕ, zero, suc, ◌+◌, ◌*◌, Bool, false, List, [], ◌∷◌, map, get_or}
+use Rattle.std.specs.List.{flat_map}
+use Rattle.chip_core.specs.Bits.{places, digit}
+use Rattle.long_code.specs.LongCode.{after, before, long_chip}
+
+-- the long-code chips at the first chips of so many symbols of 64 chips
+unfoldable pub symbol_chips : ℕ → ℕ → ℕ → List Bool
+symbol_chips state mask count = map (λ i. long_chip state mask (64 * i)) (places count)
+
+-- of a frame of 384 symbols
+abbrev pub scrambling : ℕ → ℕ → List Bool
+scrambling state mask = symbol_chips state mask 384
+
+-- of a power control group of 24 symbols
+abbrev pub group_scrambling : ℕ → ℕ → List Bool
+group_scrambling state mask = symbol_chips state mask 24
+
+-- where a group's power control bit begins, from the scrambling bits of the group before
+abbrev pub power_start : List Bool → ℕ
+power_start previous = 8 * digit (get_or previous 23 false) + 4 * digit (get_or previous 22 false) + 2 * digit (get_or previous 21 false) + digit (get_or previous 20 false)
+
+-- The place in the frame of the first symbol that group g's power control bit replaces. Group g begins 1,536 g chips
+-- behind the frame's state, and the group before it 1,536 chips earlier.
+abbrev pub power_place : ℕ → ℕ → ℕ → ℕ
+power_place state mask zero = power_start (group_scrambling (before state 1536) mask)
+power_place state mask (suc g) = 24 * suc g + power_start (group_scrambling (after state (1536 * g)) mask)
+
+-- the places of a frame's 16 power control bits, of two symbols each
+unfoldable pub power_places : ℕ → ℕ → List ℕ
+power_places state mask = flat_map (λ g. power_place state mask g ∷ (power_place state mask g + 1) ∷ []) (places 16)

@@ -1,0 +1,59 @@
+-- Symbol repetition and block interleaving (TIA/EIA-95-B, 7.1.3.1.4 and 7.1.3.1.5).
+use Rattle.std.specs.Prelude.{ℕ, ◌+◌, ◌*◌, ◌/◌, ◌%◌, ◌^◌, ◌==◌, Bool, false, List, map, filter, get_or, reverse, ℤ, pos, ◌*ℤ◌}
+use Rattle.chip_core.specs.Bits.{number, binary, places, sign, zip_with}
+use Rattle.chip_core.specs.Sums.{total}
+use Rattle.symbol_path.specs.declared.kinds.Kind.{Kind}
+use Rattle.symbol_path.specs.declared.kinds.Kind.TheVariants.{Sync, Data}
+use Rattle.symbol_path.specs.declared.kinds.Rate.{Rate}
+use Rattle.symbol_path.specs.declared.kinds.Rate.TheVariants.{R9600, R4800, R2400, R1200}
+
+-- the width m and the number of columns J of an interleaver
+pub record Shape : Type 0 where
+  pub width : ℕ
+  pub columns : ℕ
+
+abbrev pub sync_shape : Shape
+sync_shape = record { width = 7; columns = 1 }
+
+abbrev pub data_shape : Shape
+data_shape = record { width = 6; columns = 6 }
+
+abbrev pub shape_of : Kind → Shape
+shape_of Sync = sync_shape
+shape_of Data = data_shape
+
+-- how many symbols a frame sends
+abbrev pub size : Shape → ℕ
+size s = 2 ^ s.width * s.columns
+
+-- a number of m bits with its bits in reverse
+abbrev pub reversed : ℕ → ℕ → ℕ
+reversed m n = number (reverse (binary m n))
+
+-- which of the repeated symbols is sent as symbol i
+abbrev pub address : Shape → ℕ → ℕ
+address s i = 2 ^ s.width * (i % s.columns) + reversed s.width (i / s.columns)
+
+-- where a repeated symbol is sent
+abbrev pub place : Shape → ℕ → ℕ
+place s a = s.columns * reversed s.width (a % 2 ^ s.width) + a / 2 ^ s.width
+
+-- the code symbols in the order in which they are sent, each of them sent so many times
+unfoldable pub sent : Shape → ℕ → List Bool → List Bool
+sent s repeats symbols = map (λ i. get_or symbols (address s i / repeats) false) (places (size s))
+
+-- for each code symbol the sum of the soft values of the symbols that are sent for it
+unfoldable pub gathered : Shape → ℕ → List ℤ → List ℤ
+gathered s repeats softs =
+    map (λ c. total (map (λ i. get_or softs i (pos 0)) (filter (λ i. address s i / repeats == c) (places (size s))))) (places (size s / repeats))
+
+-- how well soft values agree with symbols: each with the sign of its symbol, added up
+abbrev pub agreement : List ℤ → List Bool → ℤ
+agreement softs symbols = total (zip_with (λ v b. v *ℤ sign b) softs symbols)
+
+-- how often each code symbol of a rate is sent
+abbrev pub repeats_of : Rate → ℕ
+repeats_of R9600 = 1
+repeats_of R4800 = 2
+repeats_of R2400 = 4
+repeats_of R1200 = 8

@@ -1,0 +1,94 @@
+//! Data scrambling, and the places of the power control bits.
+
+ghost use Rattle.std.specs.Prelude.{◌≡◌, ◌+◌, ◌*◌, ◌<◌, ◌≤◌, ◌^◌, ℕ, length, slice_index, All};
+ghost use Rattle.std.specs.List.Sorted.{IsStrictlyIncreasing};
+ghost use Rattle.long_code.specs.LongCode.{after};
+ghost use Rattle.symbol_path.specs.Scrambling.{symbol_chips, scrambling, group_scrambling, power_start, power_places};
+
+use long_code::State;
+
+/// The chips of a power control group: 24 symbols of 64 chips.
+const GROUP_CHIPS: u64 = 1536;
+
+/// The chips after which each state of the long code returns.
+const PERIOD: u64 = 4_398_046_511_103;
+
+/// Goes on by the 64 chips of a symbol.
+fn skip_symbol(state: &mut State)
+    ensures { state.new ≡ after state.old 64 }
+{
+    for _chip in 0..64u32 {
+        state.step();
+    }
+}
+
+/// The chips of a mask of 42 bits at the first chips of the symbols from a state on.
+fn symbol_chips(state: &State, mask: u64, out: &mut [bool])
+    requires { mask < 2 ^ 42 }
+    ensures { out.new ≡ symbol_chips state.now mask (length out.old) }
+{
+    let mut at = *state;
+    for chip in out.iter_mut() {
+        *chip = at.chip(mask);
+        skip_symbol(&mut at);
+    }
+}
+
+/// The scrambling bits of the frame of 384 symbols that begins at a state of the long code, under a mask of 42 bits.
+///
+/// TIA/EIA-95-B, 7.1.3.1.6: each symbol is added modulo 2 to the long code's first chip of the 64 that it lasts.
+pub fn scramble_bits(state: &State, mask: u64, out: &mut [bool; 384])
+    requires { mask < 2 ^ 42 }
+    ensures { out.new ≡ scrambling state.now mask }
+{
+    symbol_chips(state, mask, out);
+}
+
+/// Where in its group of 24 symbols a power control bit begins, 0 to 15, from the scrambling bits of the group before.
+///
+/// TIA/EIA-95-B, 7.1.3.1.7: the last four of them, the very last being the most significant.
+pub fn power_start(previous: &[bool; 24]) -> u8
+    ensures value { result ≡ power_start previous.now }
+    ensures below { result < 16 }
+{
+    8 * u8::from(previous[23])
+        + 4 * u8::from(previous[22])
+        + 2 * u8::from(previous[21])
+        + u8::from(previous[20])
+}
+
+/// The scrambling bits of the power control group that begins at a state.
+fn group_bits(state: &State, mask: u64) -> [bool; 24]
+    requires { mask < 2 ^ 42 }
+    ensures { result ≡ group_scrambling state.now mask }
+{
+    let mut bits = [false; 24];
+    symbol_chips(state, mask, &mut bits);
+    bits
+}
+
+/// Which 32 symbols of the frame that begins at a state are replaced by the 16 power control bits, in rising order.
+///
+/// TIA/EIA-95-B, 7.1.3.1.7: a frame has 16 groups of 24 symbols, and in each a power control bit takes the place of two
+/// symbols. Where it begins, the scrambling bits of the group before say; that of the first group is in the frame
+/// before.
+pub fn power_places(state: &State, mask: u64) -> [u16; 32]
+    requires { mask < 2 ^ 42 }
+    ensures value { result ≡ power_places state.now mask }
+    ensures groups { (g : ℕ) → g < 16 → (24 * g ≤ slice_index result (2 * g)) × (slice_index result (2 * g) < 24 * g + 16) }
+    ensures pairs { (g : ℕ) → g < 16 → slice_index result (2 * g + 1) ≡ slice_index result (2 * g) + 1 }
+    ensures rising { IsStrictlyIncreasing result }
+    ensures below { All (λ place. place < 384) result }
+{
+    let mut before = *state;
+    before.jump(PERIOD - GROUP_CHIPS);
+    let mut places = [0; 32];
+    for group in 0..16u16 {
+        let start = u16::from(power_start(&group_bits(&before, mask)));
+        let first = 24 * group + start;
+        places[usize::from(2 * group)] = first;
+        places[usize::from(2 * group + 1)] = first + 1;
+        before.jump(GROUP_CHIPS);
+    }
+    places
+}
