@@ -1,9 +1,9 @@
 -- Lemmas on files that are opened, searched and read to their end.
-use Rattle.std.proofs.Common.{◌≡◌, ◌≢◌, ℕ, ◌+◌, ◌-◌, ◌*◌, ◌<◌, ◌≤◌, ◌++◌, min, List, [], length, take, refl, sym, ap, ◌∙◌, subst, arith, length-take-le, length-append, append_assoc, append-nil, All, Option, None, Some, IfSome, Result, Ok, Err, IfErr, OnOk, IsNone}
+use Rattle.std.proofs.Common.{◌≡◌, ◌≢◌, ℕ, ◌+◌, ◌-◌, ◌*◌, ◌<◌, ◌≤◌, ◌++◌, min, List, [], length, take, refl, sym, ap, ◌∙◌, subst, arith, length-take-le, length-append, append_assoc, All, Option, None, Some, IfSome, Ok, Err, IsNone}
 use Rattle.std.proofs.lemmas.List.Concat.{flat_map-append}
 use Rattle.std.proofs.lemmas.List.Elements.{All-append}
 use Rattle.std.specs.List.{flat_map}
-use Rattle.std.specs.Io.KnownBytes.{Consumes, IsAtEnd, Keeps}
+use Rattle.std.specs.Io.KnownBytes.{Consumes}
 use Rattle.std.proofs.KnownBytes.{Consumes-nil, Consumes-trans}
 use Rattle.chip_core.specs.declared.sample.Sample.{Sample}
 use Rattle.cdma_io.specs.declared.file_fault.FileFault.{FileFault}

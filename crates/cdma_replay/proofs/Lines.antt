@@ -1,5 +1,5 @@
 -- Lemmas on the line that is written, and on the file whose beginning it tells of.
-use Rattle.std.proofs.Common.{◌≡◌, ℕ, ◌+◌, ◌≤◌, ◌++◌, List, [], length, take, refl, sym, ap, ◌∙◌, subst, arith, inl, inr, append_assoc, append-nil, length-append, All, Option, None, Some, IfSome}
+use Rattle.std.proofs.Common.{◌≡◌, ℕ, ◌+◌, ◌++◌, List, [], length, take, refl, sym, ap, ◌∙◌, subst, arith, inl, inr, append_assoc, append-nil, length-append, All, Option, None, Some, IfSome}
 use Rattle.std.proofs.lemmas.List.{take_all, take_at, length-take-le}
 use Rattle.std.proofs.lemmas.List.Concat.{flat_map-append}
 use Rattle.std.proofs.lemmas.List.Elements.{All-append}
@@ -10,11 +10,11 @@ use Rattle.std.proofs.KnownBytes.{Appends-nil}
 use Rattle.chip_core.specs.declared.sample.Sample.{Sample}
 use Rattle.cdma_io.specs.declared.header.Header.{Header}
 use Rattle.cdma_io.specs.Outside.{AppendsPrefix}
-use Rattle.cdma_io.specs.SampleFile.{HasSixteenBits, IsLawfulHeader, IsSampleFile, header_spelling, sample_spelling}
+use Rattle.cdma_io.specs.SampleFile.{HasSixteenBits, IsLawfulHeader, header_spelling, sample_spelling}
 use Rattle.pilot_search.specs.BestIn.{IsBestIn}
 use Rattle.pilot_search.specs.Search.{best_phase}
 use Rattle.pilot_search.proofs.BestPhase.{best_phase-only, best_energy-only}
-use Rattle.cdma_replay.specs.Find.{BeginsBestLine, IsSearchable, PassesSamples, WritesBestLine, WritesNoMore}
+use Rattle.cdma_replay.specs.Find.{PassesSamples, WritesBestLine, WritesNoMore}
 use Rattle.cdma_replay.specs.PilotLine.{best_line, pilot_line}
 
 -- the line of what a sweep over all phases found

@@ -1,12 +1,10 @@
 -- Lemmas on the answers of the top call.
-use Rattle.std.proofs.Common.{◌≡◌, ◌≢◌, ℕ, ◌≤◌, ◌<◌, ◌++◌, Bool, true, ◌⊎◌, inl, inr, List, [], ◌∷◌, length, take, map, refl, sym, ap, ◌∙◌, subst, arith, nat_eq, get_or, Option, None, Some, IfSome, String, Global, Decides}
+use Rattle.std.proofs.Common.{◌≡◌, ◌≢◌, ℕ, ◌≤◌, ◌<◌, ◌++◌, Bool, ◌⊎◌, inl, inr, List, [], ◌∷◌, length, take, map, refl, sym, ap, ◌∙◌, arith, nat_eq, get_or, Option, None, Some, IfSome, String, Global, Decides}
 use Rattle.std.proofs.lemmas.Bool.Decides.{Decides-eqb}
 use Rattle.std.proofs.lemmas.Slice.Eq.{slice_eq-Decides}
 use Rattle.std.specs.Cmp.Lexicographic.{pointwise}
 use Rattle.std.specs.Bool.{IsTrue}
 use Rattle.std.specs.String.{string_bytes}
-use Rattle.std.specs.List.{flat_map}
-use Rattle.std.specs.Io.KnownBytes.{Appends}
 use Rattle.chip_core.specs.declared.sample.Sample.{Sample}
 use Rattle.cdma_io.specs.declared.file_fault.FileFault.{FileFault}
 use Rattle.cdma_io.specs.declared.file_fault.FileFault.TheVariants.{ReadFault}
@@ -14,7 +12,6 @@ use Rattle.cdma_io.specs.declared.header.Header.{Header}
 use Rattle.cdma_io.specs.SampleFile.{IsSampleFile}
 use Rattle.cdma_io.proofs.Uniqueness.{file_unique}
 use Rattle.cdma_replay.specs.declared.status.Status.{Status}
-use Rattle.cdma_replay.specs.declared.status.Status.TheVariants as Status
 use Rattle.cdma_replay.specs.Find.{IsSearchable, WritesBestLine}
 use Rattle.cdma_replay.specs.PilotLine.{best_line}
 

@@ -1,4 +1,4 @@
-use Rattle.std.proofs.Common.{ap, ◌∙◌, rules}
+use Rattle.std.proofs.Common.{rules}
 use Rattle.cdma_replay.proofs.Lines.{pilot_line-best}
 use Rattle.cdma_replay.proofs.finding.write_best.Goals as goal
 

@@ -1,4 +1,4 @@
-use Rattle.cdma_replay.proofs.Replies.{HasCauses, good_file_ends, broken_file_ends}
+use Rattle.cdma_replay.proofs.Replies.{good_file_ends, broken_file_ends}
 use Rattle.cdma_replay.proofs.replaying.replay.Goals as goal
 
 pub returns-in-Ok-clause-exact : goal.returns-in-Ok-clause-exact
