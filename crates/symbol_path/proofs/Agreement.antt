@@ -87,19 +87,19 @@ by_key f key symbol count (suc n) low =
     ∙ sym changed
     ∙ ap (λ (m : ℕ). sum_below count (λ c. part f key m c *ℤ sign (symbol c))) next
 
-length-sent : (s : Shape) (repeats : ℕ) (code : List Bool) → length (sent s repeats code) ≡ size s
+pub length-sent : (s : Shape) (repeats : ℕ) (code : List Bool) → length (sent s repeats code) ≡ size s
 unfolding sent
 length-sent s repeats code = length-map-places (λ i. get_or code (address s i / repeats) false) (size s)
 
-get_or-sent : (s : Shape) (repeats : ℕ) (code : List Bool) (i : ℕ) → i < size s → get_or (sent s repeats code) i false ≡ get_or code (address s i / repeats) false
+pub get_or-sent : (s : Shape) (repeats : ℕ) (code : List Bool) (i : ℕ) → i < size s → get_or (sent s repeats code) i false ≡ get_or code (address s i / repeats) false
 unfolding sent
 get_or-sent s repeats code i h = get_or-map-places (λ i. get_or code (address s i / repeats) false) (size s) i false h
 
-length-gathered : (s : Shape) (repeats : ℕ) (softs : List ℤ) → length (gathered s repeats softs) ≡ size s / repeats
+pub length-gathered : (s : Shape) (repeats : ℕ) (softs : List ℤ) → length (gathered s repeats softs) ≡ size s / repeats
 unfolding gathered
 length-gathered s repeats softs = length-map-places (part (λ i. get_or softs i (pos 0)) (λ i. address s i / repeats) (size s)) (size s / repeats)
 
-get_or-gathered : (s : Shape) (repeats : ℕ) (softs : List ℤ) (c : ℕ) → c < size s / repeats →
+pub get_or-gathered : (s : Shape) (repeats : ℕ) (softs : List ℤ) (c : ℕ) → c < size s / repeats →
     get_or (gathered s repeats softs) c (pos 0) ≡ part (λ i. get_or softs i (pos 0)) (λ i. address s i / repeats) (size s) c
 unfolding gathered
 get_or-gathered s repeats softs c h = get_or-map-places (part (λ i. get_or softs i (pos 0)) (λ i. address s i / repeats) (size s)) (size s / repeats) c (pos 0) h
