@@ -1,16 +1,11 @@
 -- The long code of period 2^42 - 1 (TIA/EIA-95-B, 7.1.3.1.10), as powers of x modulo its polynomial, and its masks.
-use Rattle.std.specs.Prelude.{ℕ, ◌-◌, ◌^◌, ◌<◌, ◌==◌, Bool, false, List, [], ◌∷◌, ◌++◌, replicate, map, reverse}
-use Rattle.std.specs.List.{list_any}
-use Rattle.chip_core.specs.Bits.{number, binary, common_parity, places, bit_of}
-use Rattle.chip_core.specs.Polynomial.{remainder}
+use Rattle.std.specs.Prelude.{ℕ, ◌-◌, ◌^◌, ◌<◌, Bool, false, List, [], ◌∷◌, ◌++◌, replicate, map, reverse}
+use Rattle.chip_core.specs.Bits.{number, binary, common_parity, bit_of}
+use Rattle.chip_core.specs.Polynomial.{coefficients, remainder}
 
 -- the polynomial is x^42 and these powers
 abbrev pub powers : List ℕ
 powers = 35 ∷ 33 ∷ 31 ∷ 27 ∷ 26 ∷ 25 ∷ 22 ∷ 21 ∷ 19 ∷ 18 ∷ 17 ∷ 16 ∷ 10 ∷ 7 ∷ 6 ∷ 5 ∷ 3 ∷ 2 ∷ 1 ∷ 0 ∷ []
-
--- the coefficients of a polynomial of degree below n with these powers, the highest first
-abbrev pub coefficients : ℕ → List ℕ → List Bool
-coefficients n powers = map (λ k. list_any (λ p. p == n - 1 - k) powers) (places n)
 
 abbrev pub below : List Bool
 below = coefficients 42 powers

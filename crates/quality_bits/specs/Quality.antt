@@ -1,8 +1,6 @@
 -- Frame quality indicators and message checks, as remainders.
-use Rattle.std.specs.Prelude.{ℕ, ◌-◌, ◌==◌, Bool, true, false, not, List, [], ◌∷◌, ◌++◌, replicate, map}
-use Rattle.std.specs.List.{list_any}
-use Rattle.chip_core.specs.Bits.{places}
-use Rattle.chip_core.specs.Polynomial.{plus_at_front, remainder}
+use Rattle.std.specs.Prelude.{ℕ, Bool, true, false, not, List, [], ◌∷◌, ◌++◌, replicate, map}
+use Rattle.chip_core.specs.Polynomial.{coefficients, plus_at_front, remainder}
 
 -- a generator: its degree, and the powers below it
 pub record Generator : Type 0 where
@@ -26,10 +24,6 @@ m16 = record { degree = 16; powers = 12 ∷ 5 ∷ 0 ∷ [] }
 
 abbrev pub m30 : Generator
 m30 = record { degree = 30; powers = 29 ∷ 21 ∷ 20 ∷ 15 ∷ 13 ∷ 12 ∷ 11 ∷ 8 ∷ 7 ∷ 6 ∷ 2 ∷ 1 ∷ 0 ∷ [] }
-
--- the coefficients of a polynomial of degree below n with these powers, the highest first
-abbrev pub coefficients : ℕ → List ℕ → List Bool
-coefficients n powers = map (λ k. list_any (λ p. p == n - 1 - k) powers) (places n)
 
 -- a generator's coefficients below its degree
 abbrev pub below_of : Generator → List Bool
