@@ -1,19 +1,15 @@
 -- The parity of the bits that two numbers have in common, by a count of set bits.
-use Rattle.std.proofs.Common.{◌≡◌, ℕ, zero, suc, ◌+◌, ◌*◌, ◌/◌, ◌%◌, ◌^◌, ◌<◌, ◌≤◌, Bool, true, false, cond, List, [], ◌∷◌, ◌++◌, length, refl, sym, ap, ◌∙◌, arith, nat_eq, bit_and, min}
+use Rattle.std.proofs.Common.{◌≡◌, ℕ, zero, suc, ◌+◌, ◌*◌, ◌/◌, ◌%◌, ◌^◌, ◌<◌, Bool, true, false, cond, List, [], ◌∷◌, ◌++◌, length, refl, sym, ap, ◌∙◌, arith, nat_eq, bit_and, min}
 use Rattle.std.specs.Int.RustNames.{count_ones}
 use Rattle.std.proofs.lemmas.Nat.{and_shr, and_le_l, and_mask, ones_cat}
 use Rattle.std.proofs.lemmas.Nat.Bits.{bit_at_and}
 use Rattle.chip_core.specs.Bits.{xor, parity, binary, zip_with, common_parity}
+use Rattle.chip_core.proofs.BitLists.{xor_assoc, zip_push}
+use Rattle.chip_core.proofs.Digits.{one_bit_xor}
 use Rattle.chip_core.proofs.RegisterBits.{length-binary}
 
 abbrev both : Bool → Bool → Bool
 both a b = cond a b false
-
-both_push : (xs ys : List Bool) (x y : Bool) → length xs ≡ length ys → zip_with both (xs ++ x ∷ []) (ys ++ y ∷ []) ≡ zip_with both xs ys ++ both x y ∷ []
-both_push [] [] x y h = refl
-both_push [] (z ∷ ys) x y h = absurd (omega (arith, h))
-both_push (z ∷ xs) [] x y h = absurd (omega (arith, h))
-both_push (u ∷ xs) (v ∷ ys) x y h = ap (λ r. both u v ∷ r) (both_push xs ys x y (omega (arith, h)))
 
 least_bit : (p q : ℕ) → p < 2 → q < 2 → nat_eq (min p q) 1 ≡ both (nat_eq p 1) (nat_eq q 1)
 least_bit zero zero h k = refl
@@ -38,19 +34,12 @@ binary-and zero a b = refl
 binary-and (suc w) a b =
     let half : bit_and a b / 2 ≡ bit_and (a / 2) (b / 2) = and_shr a b 1 in
     let long : length (binary w (a / 2)) ≡ length (binary w (b / 2)) = length-binary w (a / 2) ∙ sym (length-binary w (b / 2)) in
-    rw (half, low_and a b, binary-and w (a / 2) (b / 2)) (sym (both_push (binary w (a / 2)) (binary w (b / 2)) (nat_eq (a % 2) 1) (nat_eq (b % 2) 1) long))
-
-xor_assoc : (x y z : Bool) → xor x (xor y z) ≡ xor (xor x y) z
-xor_assoc true true true = refl
-xor_assoc true true false = refl
-xor_assoc true false true = refl
-xor_assoc true false false = refl
-xor_assoc false y z = refl
+    rw (half, low_and a b, binary-and w (a / 2) (b / 2)) (sym (zip_push both (binary w (a / 2)) (binary w (b / 2)) (nat_eq (a % 2) 1) (nat_eq (b % 2) 1) long))
 
 parity-push : (bs : List Bool) (b : Bool) → parity (bs ++ b ∷ []) ≡ xor (parity bs) b
 parity-push [] true = refl
 parity-push [] false = refl
-parity-push (x ∷ bs) b = ap (xor x) (parity-push bs b) ∙ xor_assoc x (parity bs) b
+parity-push (x ∷ bs) b = ap (xor x) (parity-push bs b) ∙ sym (xor_assoc x (parity bs) b)
 
 one_digit : (p : ℕ) → p < 2 → count_ones p ≡ p
 unfolding count_ones
@@ -59,15 +48,7 @@ one_digit (suc zero) h = refl
 one_digit (suc (suc p)) h = absurd (omega (arith, h))
 
 odd_sum : (m p : ℕ) → p < 2 → nat_eq ((m + p) % 2) 1 ≡ xor (nat_eq (m % 2) 1) (nat_eq p 1)
-odd_sum m p h = ap (λ n. nat_eq n 1) (let e : (m + p) % 2 ≡ (m % 2 + p) % 2 = omega arith in e) ∙ by_bits (m % 2) p (omega arith) h
-  where
-    by_bits : (q p : ℕ) → q < 2 → p < 2 → nat_eq ((q + p) % 2) 1 ≡ xor (nat_eq q 1) (nat_eq p 1)
-    by_bits zero zero h k = refl
-    by_bits zero (suc zero) h k = refl
-    by_bits (suc zero) zero h k = refl
-    by_bits (suc zero) (suc zero) h k = refl
-    by_bits (suc (suc q)) p h k = absurd (omega (arith, h))
-    by_bits q (suc (suc p)) h k = absurd (omega (arith, k))
+odd_sum m p h = ap (λ n. nat_eq n 1) (let e : (m + p) % 2 ≡ (m % 2 + p) % 2 = omega arith in e) ∙ one_bit_xor (m % 2) p (omega arith) h
 
 -- whether a number has an odd count of set digits
 odd_ones : (w n : ℕ) → n < 2 ^ w → nat_eq (count_ones n % 2) 1 ≡ parity (binary w n)

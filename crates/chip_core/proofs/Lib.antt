@@ -1,6 +1,9 @@
+pub mod BitLists
 pub mod CommonParity
 pub mod ComplexSums
+pub mod Digits
 pub mod Greatest
+pub mod IndexSums
 pub mod Numbers
 pub mod Places
 pub mod RegisterBits

@@ -1,20 +1,14 @@
 -- Steps of the loops over bits and symbols.
 use Rattle.std.proofs.Common.{◌≡◌, ℕ, ◌+◌, ◌*◌, ◌<◌, Bool, true, false, not, List, [], ◌∷◌, ◌++◌, length, get_or, map, take, drop, sym, ap, ◌∙◌, arith, append_assoc, Some, refl, ◌&&◌, ◌/◌}
 use Rattle.std.specs.List.{slice_get}
-use Rattle.std.proofs.lemmas.List.{take_more, at_drop_more}
-use Rattle.std.proofs.lemmas.Option.{get_or_from_slice_get, slice_get_within}
+use Rattle.std.proofs.lemmas.List.{at_drop_more}
+use Rattle.std.proofs.lemmas.Option.{get_or_from_slice_get}
 use mathlib.Core.Bool.{beq}
 use Rattle.chip_core.specs.Bits.{xor, parity, binary}
 use Rattle.chip_core.proofs.RegisterBits.{length-binary, xor_step}
 use Rattle.conv_code.specs.ConvCode.{symbol, g0, g1, code_symbols, state_after}
 use Rattle.conv_code.proofs.Continued.{pair, code_symbols-push, state_after-append, length-code_symbols}
 use Rattle.conv_code.proofs.Pairs.{AreAt, symbols_at, pair_from_state}
-
--- a loop has read the first i bits of a list, and one more
-pub taken_more : (bits : List Bool) (i : ℕ) (bit : Bool) → slice_get bits i ≡ Some bit → take (i + 1) bits ≡ take i bits ++ bit ∷ []
-taken_more bits i bit read =
-    let within : i < length bits = slice_get_within bits i bit read in
-    take_more bits i false within ∙ ap (λ (b : Bool). take i bits ++ b ∷ []) (get_or_from_slice_get bits i bit false read)
 
 -- one bit more and its two symbols
 pub symbols_more : (start register : ℕ) (xs symbols : List Bool) (bit first second : Bool) →

@@ -2,11 +2,12 @@
 use Rattle.std.proofs.Common.{◌≡◌, ℕ, ◌+◌, ◌*◌, ◌/◌, ◌%◌, ◌^◌, ◌<◌, Bool, true, false, cond, [], ◌∷◌, ◌++◌, length, refl, sym, ap, ◌∙◌, arith, bit_xor}
 use Rattle.std.proofs.lemmas.Nat.{xor_lt}
 use Rattle.chip_core.specs.Bits.{number, binary, bit_of, places}
+use Rattle.chip_core.proofs.BitLists.{add}
 use Rattle.chip_core.proofs.RegisterBits.{length-binary}
 use Rattle.long_code.specs.LongCode.{below, after}
-use Rattle.long_code.proofs.Division.{add, shifted, times_x, remainder-zeros, length_times_x, times_x-times_x}
+use Rattle.long_code.proofs.Division.{shifted, times_x, remainder-zeros, length_times_x, times_x-times_x}
 use Rattle.chip_core.proofs.Numbers.{binary-front, binary-number_from}
-use Rattle.long_code.proofs.Digits.{binary-xor, binary-double, binary-low, number-binary, number_lt}
+use Rattle.chip_core.proofs.Digits.{binary-xor, binary-double, binary-low, number-binary, number_lt}
 
 pub length-below : length below ≡ 42
 unfolding places

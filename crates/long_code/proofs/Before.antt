@@ -2,19 +2,13 @@
 use Rattle.std.proofs.Common.{◌≡◌, ℕ, zero, suc, ◌^◌, ◌<◌, Bool, true, false, List, [], ◌∷◌, ◌++◌, length, reverse, refl, sym, ap, ◌∙◌, arith, length-append}
 use Rattle.std.proofs.lemmas.List.{reverse-append, reverse-reverse, length-reverse}
 use Rattle.chip_core.specs.Bits.{xor, number, binary, places}
+use Rattle.chip_core.proofs.BitLists.{add, length_add, zip_push}
 use Rattle.chip_core.proofs.Numbers.{binary-number_from}
 use Rattle.chip_core.proofs.RegisterBits.{length-binary}
 use Rattle.long_code.specs.LongCode.{below, above, after, before}
-use Rattle.long_code.proofs.Division.{add, shifted, times_x, length_add, length_shifted, length_times_x, remainder-zeros, shifted-times_x}
-use Rattle.long_code.proofs.Digits.{number-binary, number_lt}
+use Rattle.long_code.proofs.Division.{shifted, times_x, length_shifted, length_times_x, remainder-zeros, shifted-times_x}
+use Rattle.chip_core.proofs.Digits.{number-binary, number_lt}
 use Rattle.long_code.proofs.After.{after_is}
-
--- the two middle coefficients, which both readings of the polynomial share
-add_push : (a b : List Bool) (x y : Bool) → length a ≡ length b → add (a ++ x ∷ []) (b ++ y ∷ []) ≡ add a b ++ xor x y ∷ []
-add_push [] [] x y h = refl
-add_push [] (z ∷ b) x y h = absurd (omega (arith, h))
-add_push (z ∷ a) [] x y h = absurd (omega (arith, h))
-add_push (u ∷ a) (v ∷ b) x y h = ap (λ r. xor u v ∷ r) (add_push a b x y (omega (arith, h)))
 
 add_twice : (a b : List Bool) → length a ≡ length b → add (add a b) b ≡ a
 add_twice [] b h = refl
@@ -38,7 +32,7 @@ reverse-add (x ∷ a) (y ∷ b) h =
     let same : length a ≡ length b = omega (arith, h) in
     let long : length (reverse a) ≡ length (reverse b) = length-reverse a ∙ same ∙ sym (length-reverse b) in
     reverse-cons (xor x y) (add a b) ∙ ap (λ (r : List Bool). r ++ xor x y ∷ []) (reverse-add a b same)
-    ∙ sym (add_push (reverse a) (reverse b) x y long)
+    ∙ sym (zip_push xor (reverse a) (reverse b) x y long)
     ∙ ap (λ (r : List Bool). add r (reverse b ++ y ∷ [])) (sym (reverse-cons x a))
     ∙ ap (add (reverse (x ∷ a))) (sym (reverse-cons y b))
 
@@ -53,7 +47,7 @@ step_back front true rest h =
     ∙ ap (λ (r : List Bool). add r (reverse (reverse (true ∷ front)))) (reverse-append rest (false ∷ []))
     ∙ ap (λ (r : List Bool). add (false ∷ reverse rest) r) (reverse-reverse (true ∷ front)) in
     ap (shifted (front ++ true ∷ [])) turned
-    ∙ add_push (add (reverse rest) front) front false true (length_add (reverse rest) front same ∙ same)
+    ∙ zip_push xor (add (reverse rest) front) front false true (length_add (reverse rest) front same ∙ same)
     ∙ ap (λ (r : List Bool). r ++ true ∷ []) (add_twice (reverse rest) front same)
     ∙ sym (reverse-cons true rest)
 step_back front false rest h =

@@ -8,7 +8,7 @@ use Rattle.chip_core.specs.Bits.{digit, number, binary, bit_of}
 use Rattle.chip_core.proofs.Numbers.{number_from-append}
 use Rattle.chip_core.proofs.RegisterBits.{length-binary}
 use Rattle.long_code.specs.LongCode.{paging_mask, permuted, traffic_mask}
-use Rattle.long_code.proofs.Digits.{digit_of, number-binary, number_lt}
+use Rattle.chip_core.proofs.Digits.{digit_of, number-binary, number_lt}
 
 -- one bit more
 number-push : (bs : List Bool) (b : Bool) → number (bs ++ b ∷ []) ≡ 2 * number bs + digit b

@@ -1,7 +1,6 @@
 pub mod After
 pub mod Before
 pub mod Chips
-pub mod Digits
 pub mod Division
 pub mod Fields
 pub mod Period

@@ -4,7 +4,7 @@ use Rattle.std.proofs.lemmas.Nat.{shr_le, shr-shr, pow_pos}
 use Rattle.chip_core.specs.Bits.{digit, number_from, binary}
 use Rattle.chip_core.proofs.Numbers.{number_from-front}
 use Rattle.long_code.specs.LongCode.{IsState, after, before, period}
-use Rattle.long_code.proofs.Digits.{number-binary}
+use Rattle.chip_core.proofs.Digits.{number-binary}
 use Rattle.long_code.proofs.After.{stepped, after_lt, after-after, after_one, after_none}
 use Rattle.long_code.proofs.Product.{after-zero, digit_more}
 use Rattle.long_code.proofs.Before.{after-before, before_lt}

@@ -1,10 +1,8 @@
 -- Lists that end with their check.
-use Rattle.std.proofs.Common.{◌≡◌, ℕ, ◌+◌, ◌<◌, Bool, false, not, List, [], ◌∷◌, ◌++◌, length, map, take, refl, sym, ap, ◌∙◌, arith, nat_eq, Some, suc, length-append}
+use Rattle.std.proofs.Common.{◌≡◌, ℕ, ◌<◌, Bool, not, List, [], ◌∷◌, ◌++◌, length, map, refl, sym, ap, ◌∙◌, arith, nat_eq, suc, length-append}
 use Rattle.std.specs.Prelude.{◌↔◌, IsTrue}
-use Rattle.std.specs.List.{slice_get}
-use Rattle.std.proofs.lemmas.List.{take_more, take_at, drop_at}
+use Rattle.std.proofs.lemmas.List.{take_at, drop_at}
 use Rattle.std.proofs.lemmas.Bool.{eqb-true, eq-eqb}
-use Rattle.std.proofs.lemmas.Option.{get_or_from_slice_get, slice_get_within}
 use Rattle.chip_core.specs.Bits.{number}
 use Rattle.chip_core.specs.declared.check_form.CheckForm.{CheckForm}
 use Rattle.chip_core.specs.declared.check_form.CheckForm.TheVariants.{Plain, Complemented}
@@ -14,12 +12,6 @@ use Rattle.quality_bits.specs.Quality.{check_bits}
 use Rattle.quality_bits.specs.Kinds.{generator_of, sent_check, body_length, IsChecked}
 use Rattle.quality_bits.proofs.Digits.{number_injective}
 use Rattle.quality_bits.proofs.Steps.{length-check_bits}
-
--- a loop has read the first i bits of a list, and one more
-pub taken_more : (bits : List Bool) (i : ℕ) (bit : Bool) → slice_get bits i ≡ Some bit → take (i + 1) bits ≡ take i bits ++ bit ∷ []
-taken_more bits i bit read =
-    let within : i < length bits = slice_get_within bits i bit read in
-    take_more bits i false within ∙ ap (λ (b : Bool). take i bits ++ b ∷ []) (get_or_from_slice_get bits i bit false read)
 
 length-inverted : (bs : List Bool) → length (map not bs) ≡ length bs
 length-inverted [] = refl

@@ -1,11 +1,10 @@
 -- A register of coefficients that takes one bit after another, against long division.
 use Rattle.std.proofs.Common.{◌≡◌, suc, ◌-◌, ◌<◌, Bool, true, false, cond, List, [], ◌∷◌, ◌++◌, length, replicate, refl, sym, ap, ◌∙◌, arith, length-append}
 use Rattle.std.proofs.lemmas.List.{length-replicate}
-use Rattle.chip_core.specs.Bits.{xor, zip_with}
+use Rattle.chip_core.specs.Bits.{xor}
+use Rattle.chip_core.proofs.BitLists.{add, xor_assoc, length_add}
+use Rattle.chip_core.proofs.RegisterBits.{xor_false}
 use Rattle.chip_core.specs.Polynomial.{plus_at_front, divided, remainder}
-
-abbrev pub add : List Bool → List Bool → List Bool
-add a b = zip_with xor a b
 
 -- one bit into the register
 abbrev pub pushed : List Bool → List Bool → Bool → List Bool
@@ -16,21 +15,10 @@ abbrev pub pushed_all : List Bool → List Bool → List Bool → List Bool
 pushed_all below register [] = register
 pushed_all below register (bit ∷ bits) = pushed_all below (pushed below register bit) bits
 
-xor_assoc : (a b c : Bool) → xor (xor a b) c ≡ xor a (xor b c)
-xor_assoc true true true = refl
-xor_assoc true true false = refl
-xor_assoc true false true = refl
-xor_assoc true false false = refl
-xor_assoc false b c = refl
-
-xor_none : (a : Bool) → xor a false ≡ a
-xor_none true = refl
-xor_none false = refl
-
 -- a zero behind the second list changes nothing where the first is longer
 behind : (xs rest : List Bool) → length rest < length xs → plus_at_front xs (rest ++ false ∷ []) ≡ plus_at_front xs rest
 behind [] rest h = absurd (omega (arith, h))
-behind (x ∷ xs) [] h = ap (λ b. b ∷ xs) (xor_none x)
+behind (x ∷ xs) [] h = ap (λ b. b ∷ xs) (xor_false x)
 behind (x ∷ xs) (r ∷ rest) h = ap (λ (ys : List Bool). xor x r ∷ ys) (behind xs rest (omega (arith, h)))
 
 -- two sums at the front are one
@@ -49,14 +37,8 @@ no_front : (xs : List Bool) → plus_at_front xs [] ≡ xs
 no_front [] = refl
 no_front (x ∷ xs) = refl
 
-length_add : (a b : List Bool) → length a ≡ length b → length (add a b) ≡ length b
-length_add [] [] h = refl
-length_add [] (b ∷ bs) h = absurd (omega (arith, h))
-length_add (a ∷ as') [] h = refl
-length_add (a ∷ as') (b ∷ bs) h = ap suc (length_add as' bs (omega (arith, h)))
-
 length_picked : (below back : List Bool) (b : Bool) → length back ≡ length below → length (cond b (add back below) back) ≡ length below
-length_picked below back true h = length_add back below h
+length_picked below back true h = length_add back below h ∙ h
 length_picked below back false h = h
 
 zeros_part : (register : List Bool) → plus_at_front (replicate (length register) false) register ≡ register

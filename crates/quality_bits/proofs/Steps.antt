@@ -5,12 +5,14 @@ use Rattle.std.proofs.lemmas.Nat.{xor_lt, and_mask, pow_pos}
 use Rattle.std.proofs.Math.Pow.{pow_mono}
 use mathlib.Core.Bool.{beq}
 use Rattle.chip_core.specs.Bits.{xor, number, binary, bit_of}
+use Rattle.chip_core.proofs.BitLists.{add}
 use Rattle.chip_core.proofs.Numbers.{binary-front}
 use Rattle.chip_core.proofs.Places.{length-map-places}
 use Rattle.chip_core.specs.Polynomial.{plus_at_front, remainder}
 use Rattle.quality_bits.specs.Quality.{Generator, below_of, check_bits}
-use Rattle.quality_bits.proofs.Pushed.{add, pushed, pushed_all, remainder_pushed, length_pushed_all, pushed_all-push}
-use Rattle.quality_bits.proofs.Digits.{binary-xor, binary-double, binary-rest, number-binary, binary-number, number_lt, number-ones}
+use Rattle.quality_bits.proofs.Pushed.{pushed, pushed_all, remainder_pushed, length_pushed_all, pushed_all-push}
+use Rattle.chip_core.proofs.Digits.{binary-xor, binary-double, number-binary, number_lt}
+use Rattle.quality_bits.proofs.Digits.{binary-rest, binary-number, number-ones}
 
 -- one bit into the register's number
 abbrev pub next : ℕ → ℕ → ℕ → Bool → ℕ

@@ -1,10 +1,9 @@
 -- Soft values agree with what is sent as their sums agree with the code symbols.
-use Rattle.std.proofs.Common.{◌≡◌, ◌≢◌, ℕ, zero, suc, ◌+◌, ◌*◌, ◌/◌, ◌<◌, Bool, true, false, List, [], ◌∷◌, length, get_or, refl, sym, ap, ◌∙◌, arith, ⊎_elim, add-one, ℤ, pos, ◌+ℤ◌}
+use Rattle.std.proofs.Common.{◌≡◌, ℕ, zero, suc, ◌+◌, ◌*◌, ◌/◌, ◌<◌, Bool, true, false, List, [], ◌∷◌, length, get_or, refl, sym, ap, ◌∙◌, arith, add-one, ℤ, pos, ◌+ℤ◌}
 use Rattle.std.specs.Prelude.{◌*ℤ◌}
-use Rattle.std.proofs.lemmas.Int.{ints}
-use Rattle.std.proofs.lemmas.Bool.{cases_eq}
 use Rattle.chip_core.specs.Bits.{sign}
 use Rattle.chip_core.specs.Sums.{sum_below}
+use Rattle.chip_core.proofs.IndexSums.{sum_same, sum_front, sum_none, sum_changed}
 use Rattle.chip_core.proofs.Places.{length-map-places, get_or-map-places}
 use Rattle.chip_core.proofs.Ring.{distrib_right}
 use Rattle.symbol_path.specs.declared.kinds.Kind.{Kind}
@@ -12,49 +11,6 @@ use Rattle.symbol_path.specs.SentOrder.{Shape, shape_of, size, address, sent, ga
 use Rattle.symbol_path.proofs.Permutation.{address_lt}
 use Rattle.symbol_path.proofs.Interleaving.{size_some, symbol_lt, count_is}
 use Rattle.symbol_path.proofs.Gathering.{part, part-none, part_here, part_other}
-
--- SUMS by index
-
-sum_same : (n : ℕ) (f g : ℕ → ℤ) → ((k : ℕ) → k < n → f k ≡ g k) → sum_below n f ≡ sum_below n g
-unfolding sum_below
-sum_same zero f g h = refl
-sum_same (suc n) f g h =
-    let rest = sum_same n f g (λ k lt. h k (omega (arith, lt))) in
-    let here : f n ≡ g n = h n (omega arith) in
-    rw (rest, here)
-
-sum_front : (n : ℕ) (f : ℕ → ℤ) → sum_below (suc n) f ≡ f 0 +ℤ sum_below n (λ k. f (suc k))
-unfolding sum_below
-sum_front zero f = omega (arith, ints)
-sum_front (suc n) f =
-    let e = sum_front n f in
-    rw e (omega (arith, ints))
-
-sum_none : (n : ℕ) (f : ℕ → ℤ) → ((k : ℕ) → k < n → f k ≡ pos 0) → sum_below n f ≡ pos 0
-unfolding sum_below
-sum_none zero f h = refl
-sum_none (suc n) f h =
-    let rest = sum_none n f (λ k lt. h k (omega (arith, lt))) in
-    let here : f n ≡ pos 0 = h n (omega arith) in
-    rw (rest, here) refl
-
--- where one term changes by d, the sum does
-sum_changed : (n j : ℕ) (f g : ℕ → ℤ) (d : ℤ) → j < n → ((k : ℕ) → k < n → k ≢ j → g k ≡ f k) → g j ≡ f j +ℤ d → sum_below n g ≡ sum_below n f +ℤ d
-unfolding sum_below
-sum_changed zero j f g d h others here = absurd (omega (arith, h))
-sum_changed (suc n) j f g d h others here =
-    ⊎_elim
-    (λ (last : j ≡ n).
-    let rest = sum_same n g f (λ k lt. others k (omega (arith, lt)) (omega (arith, lt, last))) in
-    let end : g n ≡ f n +ℤ d = rw last at here in
-    rw (rest, end) (omega (arith, ints)))
-    (λ (other : j ≢ n).
-    let rest = sum_changed n j f g d (omega (arith, h, other)) (λ k lt ne. others k (omega (arith, lt)) ne) here in
-    let end : g n ≡ f n = others n (omega arith) (λ e. other (sym e)) in
-    rw (rest, end) (omega (arith, ints)))
-    (cases_eq j n)
-
--- AGREEMENT by index
 
 agreement_is : (n : ℕ) (softs : List ℤ) (symbols : List Bool) → length softs ≡ n → length symbols ≡ n →
     agreement softs symbols ≡ sum_below n (λ k. get_or softs k (pos 0) *ℤ sign (get_or symbols k false))

@@ -1,13 +1,9 @@
 -- Numbers with their bits in reverse.
-use Rattle.std.proofs.Common.{◌≡◌, ℕ, zero, suc, ◌+◌, ◌-◌, ◌*◌, ◌/◌, ◌%◌, ◌<◌, [], ◌∷◌, reverse, refl, sym, ap, ◌∙◌, arith, nat_eq}
+use Rattle.std.proofs.Common.{◌≡◌, ℕ, suc, ◌+◌, ◌-◌, ◌*◌, ◌/◌, ◌%◌, ◌<◌, [], ◌∷◌, reverse, sym, ap, ◌∙◌, arith, nat_eq}
 use Rattle.std.proofs.lemmas.List.{reverse-append}
-use Rattle.chip_core.specs.Bits.{digit, number_from, binary}
+use Rattle.chip_core.specs.Bits.{number_from, binary}
+use Rattle.chip_core.proofs.Digits.{digit_of}
 use Rattle.symbol_path.specs.SentOrder.{reversed}
-
-digit_of : (p : ℕ) → p < 2 → digit (nat_eq p 1) ≡ p
-digit_of zero h = refl
-digit_of (suc zero) h = refl
-digit_of (suc (suc p)) h = absurd (omega (arith, h))
 
 -- the lowest bit goes first
 reversed_first : (t w n : ℕ) → number_from t (reverse (binary (suc w) n)) ≡ number_from (2 * t + n % 2) (reverse (binary w (n / 2)))

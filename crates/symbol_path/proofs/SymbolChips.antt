@@ -6,7 +6,7 @@ use Rattle.long_code.specs.LongCode.{after, before, long_chip, period}
 use Rattle.long_code.proofs.After.{after-after, after_none}
 use Rattle.long_code.proofs.Before.{after-before, before_lt}
 use Rattle.long_code.proofs.Period.{before_is_later}
-use Rattle.long_code.proofs.Digits.{binary-low}
+use Rattle.chip_core.proofs.Digits.{binary-low}
 use Rattle.symbol_path.specs.Scrambling.{symbol_chips, group_scrambling, power_start, power_place}
 
 -- a chip of a state that is the same from then on

@@ -3,4 +3,3 @@ pub mod Pairing
 pub mod Partial
 pub mod RowTable
 pub mod Stages
-pub mod SumLaws

@@ -9,7 +9,7 @@ use Rattle.chip_core.specs.Sums.{sum_below}
 use Rattle.walsh.specs.Walsh.{walsh, walsh_sum_from}
 use Rattle.walsh.proofs.Pairing.{IsLow, IsHigh, low, high}
 use Rattle.walsh.proofs.RowTable.{walsh-ones}
-use Rattle.walsh.proofs.SumLaws.{sum_same, sum_front, sum_append, sum_turned, sum_one}
+use Rattle.chip_core.proofs.IndexSums.{sum_same, sum_front, sum_append, sum_turned, sum_one}
 
 -- whether two numbers have an odd number of bits in common
 odd : ℕ → ℕ → Bool

@@ -2,7 +2,8 @@ use Rattle.std.proofs.Common.{◌≡◌, ◌+◌, ◌++◌, [], ◌∷◌, take,
 use Rattle.chip_core.specs.Bits.{binary}
 use Rattle.conv_code.specs.ConvCode.{code_symbols, state_after}
 use Rattle.conv_code.proofs.Continued.{code_symbols-none, state_after-none}
-use Rattle.conv_code.proofs.Loops.{taken_more, symbols_more, state_more, two_appended}
+use Rattle.chip_core.proofs.BitLists.{taken_more}
+use Rattle.conv_code.proofs.Loops.{symbols_more, state_more, two_appended}
 use Rattle.conv_code.proofs.encoding.encode_into.Goals as goal
 
 pub loop-i-init : goal.loop-i-init

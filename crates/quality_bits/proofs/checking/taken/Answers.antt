@@ -1,5 +1,5 @@
 use Rattle.std.proofs.Common.{take}
-use Rattle.quality_bits.proofs.Ends.{taken_more}
+use Rattle.chip_core.proofs.BitLists.{taken_more}
 use Rattle.quality_bits.proofs.checking.taken.Goals as goal
 
 pub loop-i-preserved : goal.loop-i-preserved

@@ -1,7 +1,8 @@
 -- Sums of signed numbers by index.
-use Rattle.std.proofs.Common.{◌≡◌, ℕ, zero, suc, ◌+◌, ◌<◌, refl, arith, ℤ}
+use Rattle.std.proofs.Common.{◌≡◌, ◌≢◌, ℕ, zero, suc, ◌+◌, ◌<◌, refl, sym, arith, ⊎_elim, ℤ, pos}
 use Rattle.std.specs.Prelude.{◌+ℤ◌, neg_ℤ}
 use Rattle.std.proofs.lemmas.Int.{ints}
+use Rattle.std.proofs.lemmas.Bool.{cases_eq}
 use Rattle.chip_core.specs.Sums.{sum_below}
 
 pub sum_same : (n : ℕ) (f g : ℕ → ℤ) → ((k : ℕ) → k < n → f k ≡ g k) → sum_below n f ≡ sum_below n g
@@ -37,3 +38,27 @@ sum_turned (suc n) f =
 pub sum_one : (f : ℕ → ℤ) → sum_below 1 f ≡ f 0
 unfolding sum_below
 sum_one f = omega (arith, ints)
+
+pub sum_none : (n : ℕ) (f : ℕ → ℤ) → ((k : ℕ) → k < n → f k ≡ pos 0) → sum_below n f ≡ pos 0
+unfolding sum_below
+sum_none zero f h = refl
+sum_none (suc n) f h =
+    let rest = sum_none n f (λ k lt. h k (omega (arith, lt))) in
+    let here : f n ≡ pos 0 = h n (omega arith) in
+    rw (rest, here) refl
+
+-- where one term changes by d, the sum does
+pub sum_changed : (n j : ℕ) (f g : ℕ → ℤ) (d : ℤ) → j < n → ((k : ℕ) → k < n → k ≢ j → g k ≡ f k) → g j ≡ f j +ℤ d → sum_below n g ≡ sum_below n f +ℤ d
+unfolding sum_below
+sum_changed zero j f g d h others here = absurd (omega (arith, h))
+sum_changed (suc n) j f g d h others here =
+    ⊎_elim
+    (λ (last : j ≡ n).
+    let rest = sum_same n g f (λ k lt. others k (omega (arith, lt)) (omega (arith, lt, last))) in
+    let end : g n ≡ f n +ℤ d = rw last at here in
+    rw (rest, end) (omega (arith, ints)))
+    (λ (other : j ≢ n).
+    let rest = sum_changed n j f g d (omega (arith, h, other)) (λ k lt ne. others k (omega (arith, lt)) ne) here in
+    let end : g n ≡ f n = others n (omega arith) (λ e. other (sym e)) in
+    rw (rest, end) (omega (arith, ints)))
+    (cases_eq j n)

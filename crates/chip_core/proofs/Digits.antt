@@ -1,25 +1,19 @@
--- Numbers of so many bits, and their digits.
+-- Numbers of so many bits, and their digits: sums, shifts and the numbers again.
 use Rattle.std.proofs.Common.{◌≡◌, ℕ, zero, suc, ◌+◌, ◌*◌, ◌/◌, ◌%◌, ◌^◌, ◌<◌, Bool, false, List, [], ◌∷◌, ◌++◌, length, refl, sym, ap, ◌∙◌, arith, nat_eq, bit_xor}
 use Rattle.std.proofs.lemmas.Nat.{xor_shr, pow_pos, field_of}
 use Rattle.std.proofs.Math.Nat.{lt-div-mul-add}
 use Rattle.std.proofs.lemmas.Nat.Bits.{bit_at_xor}
 use Rattle.std.proofs.Math.Pow.{mod-mod-pow}
-use Rattle.chip_core.specs.Bits.{xor, digit, number, binary, zip_with}
+use Rattle.chip_core.specs.Bits.{xor, digit, number, binary}
 use Rattle.chip_core.proofs.Numbers.{number_from-append, number_from-front}
+use Rattle.chip_core.proofs.BitLists.{add, zip_push}
 use Rattle.chip_core.proofs.RegisterBits.{length-binary}
-use Rattle.long_code.proofs.Division.{add}
-
--- one more place at the end of both lists
-zip_push : (f : Bool → Bool → Bool) (xs ys : List Bool) (x y : Bool) → length xs ≡ length ys → zip_with f (xs ++ x ∷ []) (ys ++ y ∷ []) ≡ zip_with f xs ys ++ f x y ∷ []
-zip_push f [] [] x y h = refl
-zip_push f [] (z ∷ ys) x y h = absurd (omega (arith, h))
-zip_push f (z ∷ xs) [] x y h = absurd (omega (arith, h))
-zip_push f (u ∷ xs) (v ∷ ys) x y h = ap (λ r. f u v ∷ r) (zip_push f xs ys x y (omega (arith, h)))
 
 same_length : (w a b : ℕ) → length (binary w a) ≡ length (binary w b)
 same_length w a b = length-binary w a ∙ sym (length-binary w b)
 
-one_bit_xor : (p q : ℕ) → p < 2 → q < 2 → nat_eq ((p + q) % 2) 1 ≡ xor (nat_eq p 1) (nat_eq q 1)
+-- the sum of two digits
+pub one_bit_xor : (p q : ℕ) → p < 2 → q < 2 → nat_eq ((p + q) % 2) 1 ≡ xor (nat_eq p 1) (nat_eq q 1)
 one_bit_xor zero zero h k = refl
 one_bit_xor zero (suc zero) h k = refl
 one_bit_xor (suc zero) zero h k = refl
