@@ -2,6 +2,7 @@ pub mod BitLists
 pub mod CommonParity
 pub mod ComplexSums
 pub mod Digits
+pub mod FieldLists
 pub mod Greatest
 pub mod IndexSums
 pub mod Numbers

@@ -1,5 +1,6 @@
 pub mod Bits
 pub mod Complex
+pub mod Fields
 pub mod Packed
 pub mod Packing
 pub mod Polynomial

@@ -45,6 +45,13 @@ impl<'a> BitReader<'a> {
         self.bits.len() - self.place
     }
 
+    /// The bits that are left.
+    pub fn rest(&self) -> Bits
+        ensures { result ≡ self.now }
+    {
+        self.bits.part(self.place, self.left())
+    }
+
     /// The number that the next `width` bits spell, 1 to 64 of them.
     ///
     /// `Short` exactly where fewer bits are left; the reader is unchanged then.
@@ -53,6 +60,7 @@ impl<'a> BitReader<'a> {
         ensures enough { IsOk result ↔ (width ≤ length self.old) }
         ensures value { IfOk result (λ n. n ≡ number (take width self.old)) }
         ensures rest { OnOk result (self.new ≡ drop width self.old) }
+        ensures left { OnOk result (length self.new + width ≡ length self.old) }
         ensures spelled { IfOk result (λ n. self.old ≡ binary width n ++ self.new) }
         ensures fits { IfOk result (λ n. n < 2 ^ width) }
         ensures err { OnErr result (self.new ≡ self.old) }
@@ -95,7 +103,6 @@ impl BitWriter {
     /// Writes a number in `width` bits, 1 to 64 of them.
     ///
     /// `Full` exactly where 1,184 bits would be passed; nothing is written then.
-    #[tactic(auto, unfolding(crate::specs::Bits::binary))]
     pub fn put(&mut self, width: u8, value: u64) -> Result<(), Full>
         requires width { (1 ≤ width) × (width ≤ 64) }
         requires fits { value < 2 ^ width }
@@ -106,10 +113,7 @@ impl BitWriter {
         if 1184 - self.bits.len() < u16::from(width) {
             return Err(Full);
         }
-        for k in 0..width {
-            let bit = value >> (width - 1 - k) & 1 == 1;
-            self.bits.append(bit);
-        }
+        self.bits.append_number(width, value);
         Ok(())
     }
 

@@ -4,6 +4,7 @@
 mod bit_list;
 mod check_form;
 mod cursor;
+mod field;
 pub mod laws;
 mod memory;
 mod parities;
@@ -13,6 +14,7 @@ mod sample;
 pub use bit_list::{Bits, Full};
 pub use check_form::CheckForm;
 pub use cursor::{BitReader, BitWriter, Short};
+pub use field::Field;
 pub use memory::OutOfMemory;
 pub use parities::parity_at;
 pub use phase::Phase;

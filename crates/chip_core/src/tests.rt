@@ -1,6 +1,8 @@
 //! What no clause says: that the calls succeed, and the printed texts.
 
-use crate::{BitReader, BitWriter, Bits, CheckForm, Full, OutOfMemory, Phase, Short, parity_at};
+use crate::{
+    BitReader, BitWriter, Bits, CheckForm, Field, Full, OutOfMemory, Phase, Short, parity_at,
+};
 use std::test::Fail;
 
 #[test]
@@ -35,6 +37,29 @@ fn fields_come_back(rt: HostRuntime) -> Result<(), Fail> {
     }
     assert_eq!(rt; reader.take(1), Err(Short));
     Ok(())
+}
+
+#[test]
+fn lists_are_joined_and_parted(rt: HostRuntime) {
+    let fields = [
+        Field {
+            width: 8,
+            value: 0x19,
+        },
+        Field { width: 4, value: 3 },
+    ];
+    let mut bits = Bits::empty();
+    bits.append_fields(&fields);
+    assert_eq!(rt; bits.len(), 12);
+    let tail = bits.part(4, 8);
+    bits.append_all(&tail);
+    assert_eq!(rt; bits.len(), 20);
+    bits.append_number(2, 1);
+    assert_eq!(rt; bits.len(), 22);
+    let mut reader = BitReader::new(&bits);
+    assert_eq!(rt; reader.take(12), Ok(0x193));
+    assert!(rt; reader.rest() == bits.part(12, 10));
+    assert_eq!(rt; reader.take(10), Ok(0x24d));
 }
 
 #[test]

@@ -1,4 +1,7 @@
 pub mod Pushed
 pub mod Digits
+pub mod Opened
 pub mod Steps
 pub mod Ends
+pub mod Streams
+pub mod Wholes

@@ -1,3 +1,5 @@
+pub mod Capsules
 pub mod Kinds
+pub mod Pieces
 pub mod Quality
 mod Worked

@@ -1,7 +1,11 @@
 -- Worked values.
-use Rattle.std.specs.Prelude.{◌≡◌, refl, Bool, false, List, [], ◌∷◌}
+use Rattle.std.specs.Prelude.{◌≡◌, refl, Bool, true, false, List, [], ◌∷◌, ◌++◌, replicate, take, map, Some, None}
 use Rattle.std.specs.List.{flat_map}
 use Rattle.chip_core.specs.Bits.{number, binary, places}
+use Rattle.chip_core.specs.declared.check_form.CheckForm.TheVariants.{Plain}
+use Rattle.quality_bits.specs.declared.kind.Kind.TheVariants.{M30}
+use Rattle.quality_bits.specs.Capsules.{capsule, front_capsule, is_stated}
+use Rattle.quality_bits.specs.Pieces.{Piece, piece, capsule_ending}
 use Rattle.quality_bits.specs.Quality.{check_bits, inverted, q6, q8, q10, q12, m16, m30}
 
 -- the text 123456789 in ASCII, the highest bit of each byte first
@@ -49,3 +53,28 @@ zero_10 = refl
 zero_12 : number (check_bits q12 (false ∷ [])) ≡ 0x0ed
 unfolding places check_bits
 zero_12 = refl
+
+-- the shortest capsule in two frames, and a frame that says 149 octets
+frame : List Bool → Piece
+frame bits = piece (true ∷ bits)
+
+short_pieces : List Piece
+unfolding frame binary
+short_pieces = frame (binary 8 5 ++ replicate 23 false) ∷ map (λ k. piece (replicate 32 false)) (places 3)
+
+short_ends : map (λ n. capsule_ending (take n short_pieces)) (1 ∷ 2 ∷ 3 ∷ []) ≡ None ∷ Some (binary 8 5 ++ replicate 32 false) ∷ None ∷ []
+unfolding short_pieces binary places capsule_ending front_capsule is_stated
+short_ends = refl
+
+long_pieces : List Piece
+unfolding frame binary
+long_pieces = frame (binary 8 149 ++ replicate 23 false) ∷ map (λ k. piece (replicate 32 false)) (places 40)
+
+none_ends : map (λ n. capsule_ending (take n long_pieces)) (1 ∷ 2 ∷ 39 ∷ 41 ∷ []) ≡ None ∷ None ∷ None ∷ None ∷ []
+unfolding long_pieces binary places capsule_ending front_capsule is_stated
+none_ends = refl
+
+-- a capsule of 9 octets: its length, 34 bits, and the check of both
+nine : number (take 8 (capsule M30 Plain (replicate 34 false))) ≡ 9
+unfolding capsule binary places check_bits
+nine = refl

@@ -20,7 +20,7 @@ pub fn check(kind: Kind, form: CheckForm, bits: &Bits) -> bool
 }
 
 /// The check of the first so many bits as it is sent, as a number.
-fn sent_after(kind: Kind, form: CheckForm, bits: &Bits, count: u16) -> u32
+pub(crate) fn sent_after(kind: Kind, form: CheckForm, bits: &Bits, count: u16) -> u32
     requires { count ≤ length bits.now }
     ensures { result ≡ number (sent_check kind form (take count bits.now)) }
 {

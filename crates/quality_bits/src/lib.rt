@@ -1,13 +1,18 @@
 //! Frame quality indicators and the checks of messages (TIA/EIA-95-B, 7.1.3.4.2 and 7.7): remainders of the bits, as a
-//! polynomial over the field of two elements, by a fixed generator.
+//! polynomial over the field of two elements, by a fixed generator. And the capsules of messages, which end with one.
 #![tactic(auto)]
 
+mod capsule;
 mod checking;
 mod kind;
+pub mod laws;
+mod open_capsule;
 mod register;
 #[cfg(test)]
 mod tests;
 
+pub use capsule::{CapsuleFault, body_of, capsule_of, stated_length};
 pub use checking::check;
 pub use kind::Kind;
+pub use open_capsule::OpenCapsule;
 pub use register::Register;

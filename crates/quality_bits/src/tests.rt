@@ -2,6 +2,7 @@ ghost use Rattle.std.specs.Prelude.{◌≤◌};
 
 use super::*;
 use chip_core::{Bits, CheckForm};
+use std::test::Fail;
 
 /// The nine characters whose checks are widely published.
 const TEXT: &str = "123456789";
@@ -76,4 +77,47 @@ fn a_bit_turned(rt: HostRuntime) {
     append(&mut bits, 12, 0xd4c);
     assert_eq!(rt; bits.len(), 84);
     assert!(rt; !check(Kind::Q12, CheckForm::Plain, &bits));
+}
+
+/// A body of 34 bits makes a capsule of 9 octets.
+#[test]
+fn capsules_come_back(rt: HostRuntime) {
+    let mut body = Bits::empty();
+    append(&mut body, 32, 0x1234_5678);
+    append(&mut body, 2, 1);
+    assert_eq!(rt; body.len(), 34);
+    let capsule = capsule_of(Kind::M30, CheckForm::Complemented, &body);
+    assert_eq!(rt; capsule.len(), 72);
+    assert_eq!(rt; stated_length(&capsule), Some(72));
+    assert_eq!(rt;
+        body_of(Kind::M30, CheckForm::Complemented, &capsule),
+        Ok(body)
+    );
+    assert_eq!(rt;
+        body_of(Kind::M30, CheckForm::Plain, &capsule),
+        Err(CapsuleFault::BadCheck)
+    );
+    assert_eq!(rt;
+        body_of(Kind::M30, CheckForm::Plain, &body),
+        Err(CapsuleFault::BadLength)
+    );
+    let mut under_way = OpenCapsule::new();
+    assert_eq!(rt; under_way.push_all(&capsule, 72), None);
+    assert_eq!(rt; under_way.push(false), None);
+    assert!(rt; under_way.is_open());
+    assert_eq!(rt; under_way.push_all(&capsule, 1), Some(capsule));
+    assert!(rt; under_way == OpenCapsule::closed());
+}
+
+#[test]
+fn texts_of_faults(rt: HostRuntime) -> Result<(), Fail> {
+    assert_eq!(rt;
+        CapsuleFault::BadLength.to_string(rt.alloc())?.as_str(),
+        "bad length"
+    );
+    assert_eq!(rt;
+        CapsuleFault::BadCheck.to_string(rt.alloc())?.as_str(),
+        "bad check"
+    );
+    Ok(())
 }

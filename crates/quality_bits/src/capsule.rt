@@ -1,0 +1,79 @@
+//! Capsules of messages: MSG_LENGTH in 8 bits, the body, and the check of both (TIA/EIA-95-B, 7.7.1.2, 7.7.2.2 and 7.7.3.3).
+//!
+//! MSG_LENGTH counts octets, its own and the check's among them: 5 to 148.
+
+ghost use Rattle.std.specs.Prelude.{◌≡◌, ◌↔◌, ◌≤◌, ◌<◌, ◌+◌, Bool, List, length, IfOk, SomeIff, IsTrue};
+ghost use Rattle.quality_bits.specs.Kinds.{IsChecked, generator_of};
+ghost use Rattle.quality_bits.specs.Capsules.{FillsCapsule, capsule, IsWhole, is_stated, stated_bits};
+
+use crate::checking::{check, sent_after};
+use crate::kind::Kind;
+use chip_core::{BitReader, Bits, CheckForm};
+use thiserror::Error;
+
+/// Why a list of bits is no capsule.
+#[derive(Clone, Copy, PartialEq, Eq, Debug, Error)]
+pub enum CapsuleFault {
+    /// It doesn't have as many bits as its MSG_LENGTH says, or that is outside 5 to 148 octets.
+    #[error("bad length")]
+    BadLength,
+    /// It doesn't end with its check.
+    #[error("bad check")]
+    BadCheck,
+}
+
+/// The capsule of a body, whose length is that of whole octets.
+pub fn capsule_of(kind: Kind, form: CheckForm, body: &Bits) -> Bits
+    requires { FillsCapsule kind body.now }
+    ensures { result ≡ capsule kind form body.now }
+{
+    let degree = kind.divisor().degree;
+    let octets = (8 + body.len() + degree as u16) / 8;
+    let mut bits = Bits::empty();
+    bits.append_number(8, u64::from(octets));
+    bits.append_all(body);
+    let sent = sent_after(kind, form, &bits, bits.len());
+    bits.append_number(degree as u8, u64::from(sent));
+    bits
+}
+
+/// The body of a capsule.
+///
+/// `BadLength` exactly where the list isn't as long as it says or that length isn't lawful; else `BadCheck` exactly
+/// where its last bits aren't the check of those before.
+pub fn body_of(kind: Kind, form: CheckForm, bits: &Bits) -> Result<Bits, CapsuleFault>
+    ensures bad_length { (result ≡ Err CapsuleFault.BadLength) ↔ ¬ (IsWhole bits.now) }
+    ensures bad_check { (result ≡ Err CapsuleFault.BadCheck) ↔ (IsWhole bits.now × ¬ (IsChecked kind form bits.now)) }
+    ensures found { IfOk result (λ body. FillsCapsule kind body × (bits.now ≡ capsule kind form body)) }
+    ensures only { (body : List Bool) → FillsCapsule kind body → bits.now ≡ capsule kind form body → result ≡ Ok body }
+{
+    if !is_whole(bits) {
+        return Err(CapsuleFault::BadLength);
+    }
+    if !check(kind, form, bits) {
+        return Err(CapsuleFault::BadCheck);
+    }
+    let degree = kind.divisor().degree as u16;
+    Ok(bits.part(8, bits.len() - 8 - degree))
+}
+
+/// Whether a list is as long as it says, and that is a lawful length.
+fn is_whole(bits: &Bits) -> bool
+    ensures { IsTrue result ↔ IsWhole bits.now }
+{
+    match stated_length(bits) {
+        Some(stated) => bits.len() == stated,
+        None => false,
+    }
+}
+
+/// How many bits the capsule has that begins with these; `None` exactly where fewer than 8 are there, or where they say
+/// a length outside 5 to 148 octets.
+pub fn stated_length(bits: &Bits) -> Option<u16>
+    ensures { SomeIff result (IsTrue (is_stated bits.now)) (stated_bits bits.now) }
+{
+    match BitReader::new(bits).take(8) {
+        Ok(octets) if 5 <= octets && octets <= 148 => Some(8 * octets as u16),
+        _ => None,
+    }
+}

@@ -1,0 +1,107 @@
+//! The capsule that a stream of bits has begun.
+
+ghost use Rattle.std.specs.Prelude.{◌≡◌, ◌↔◌, Bool, true, List, [], ◌∷◌, drop, IsTrue, IsSome, Some, None, IfSome};
+ghost use Rattle.quality_bits.specs.Capsules.{front_capsule, awaits_more, continued, completed};
+
+use crate::capsule::stated_length;
+use chip_core::Bits;
+use std::marker::Model;
+
+/// The bits of a capsule that isn't complete yet, or none where no capsule is open.
+///
+/// It closes by itself: behind the capsule's last bit, and where the first 8 bits say a length outside 5 to 148 octets.
+/// Contracts see the bits since the capsule's start, where it is open.
+#[derive(Clone, Copy, PartialEq, Eq, Debug)]
+pub struct OpenCapsule {
+    bits: Option<Bits>,
+}
+
+impl Model for OpenCapsule {
+    ghost use Rattle.std.specs.Prelude.{◌≡◌, Bool, true, List, Option, IfSome};
+    ghost use Rattle.quality_bits.specs.Capsules.{awaits_more};
+
+    ghost Value = { Option (List Bool) };
+
+    ghost view = { λ c. c.bits };
+
+    ghost invariant = { λ c. IfSome c.bits (λ bits. awaits_more bits ≡ true) };
+
+    ghost inverse = { λ bits. record { bits = bits } };
+}
+
+impl OpenCapsule {
+    /// A capsule that begins with the next bit.
+    pub fn new() -> OpenCapsule
+        ensures { result ≡ Some [] }
+    {
+        OpenCapsule {
+            bits: Some(Bits::empty()),
+        }
+    }
+
+    /// No capsule.
+    pub fn closed() -> OpenCapsule
+        ensures { result ≡ None }
+    {
+        OpenCapsule { bits: None }
+    }
+
+    /// Whether a capsule is open: more bits may complete it.
+    pub fn is_open(&self) -> bool
+        ensures is_open { IsTrue result ↔ IsSome self.now }
+        ensures awaits { IfSome self.now (λ bits. awaits_more bits ≡ true) }
+    {
+        self.bits.is_some()
+    }
+
+    /// Takes the next bit, and gives the capsule that it completes.
+    ///
+    /// With that, or where a length outside 5 to 148 octets is told, it is closed. A bit is passed over where no
+    /// capsule is open.
+    pub fn push(&mut self, bit: bool) -> Option<Bits>
+        ensures goes_on { self.new ≡ continued self.old (bit ∷ []) }
+        ensures gives { result ≡ completed self.old (bit ∷ []) }
+    {
+        let mut bits = self.bits?;
+        bits.append(bit);
+        self.bits = if may_go_on(&bits) { Some(bits) } else { None };
+        front(&bits)
+    }
+
+    /// Takes the bits of a piece from place `from` on, and gives the capsule that they complete.
+    ///
+    /// What follows its last bit in the piece is passed over.
+    pub fn push_all(&mut self, piece: &Bits, from: u16) -> Option<Bits>
+        ensures goes_on { self.new ≡ continued self.old (drop from piece.now) }
+        ensures gives { result ≡ completed self.old (drop from piece.now) }
+    {
+        let mut whole = None;
+        if self.is_open() {
+            for i in from..piece.len() {
+                whole = whole.or(self.push(piece.get(i)));
+            }
+        }
+        whole
+    }
+}
+
+/// Whether more bits may complete a capsule that begins with these.
+fn may_go_on(bits: &Bits) -> bool
+    ensures { result ≡ awaits_more bits.now }
+{
+    match stated_length(bits) {
+        Some(stated) => bits.len() < stated,
+        None => bits.len() < 8,
+    }
+}
+
+/// The capsule at the front of the bits, where all of it is there.
+fn front(bits: &Bits) -> Option<Bits>
+    ensures { result ≡ front_capsule bits.now }
+{
+    let stated = stated_length(bits)?;
+    if bits.len() < stated {
+        return None;
+    }
+    Some(bits.part(0, stated))
+}
