@@ -10,8 +10,10 @@ use Rattle.chip_core.proofs.ComplexSums.{plus_assoc, plus-origin, sum_of-append,
 use Rattle.chip_core.specs.declared.sample.Pair.{Pair}
 use Rattle.chip_core.specs.declared.sample.Sample.{Sample}
 use Rattle.short_code.specs.ShortCode.{pilot_chip, chip_signs, pilot_signs}
+use Rattle.short_code.specs.Despread.{despread}
+use Rattle.short_code.proofs.Despreading.{despread-append}
 use Rattle.short_code.proofs.Signs.{length-pilot_signs, get_or-pilot_signs}
-use Rattle.pilot_search.specs.Search.{code_point, despread, correlation}
+use Rattle.pilot_search.specs.Search.{correlation}
 use Rattle.pilot_search.specs.BySigns.{IsUnit, turned, correlation_with}
 
 abbrev pub no_sample : Sample
@@ -60,12 +62,6 @@ despread_from (s ∷ samples) phase n turns at room =
     let rest : despread (phase + 1) samples ≡ zip_with turned samples (drop (suc n) pilot_signs) =
     despread_from samples (phase + 1) (suc n) turns (omega (arith, at)) (omega (arith, room)) in
     rw (entry, place, rest)
-
-despread-append : (xs ys : List Sample) (phase : ℕ) → despread phase (xs ++ ys) ≡ despread phase xs ++ despread (phase + length xs) ys
-despread-append [] ys phase = let place : phase + 0 ≡ phase = omega arith in rw place
-despread-append (x ∷ xs) ys phase =
-    let place : phase + 1 + length xs ≡ phase + suc (length xs) = omega arith in
-    ap (λ (ps : List Pair). times (of_sample x) (conjugate (code_point phase)) ∷ ps) (rw (← place) (despread-append xs ys (phase + 1)))
 
 -- the samples behind the part that ends with the code, or none
 rest_from_start : (after : List Sample) (phase : ℕ) → length after ≤ 32768 → (phase ≡ 32768) ⊎ (length after ≡ 0) →

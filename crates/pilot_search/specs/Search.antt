@@ -1,19 +1,10 @@
 -- The search for the pilot: each phase's correlation with the samples, and the best phase.
-use Rattle.std.specs.Prelude.{ℕ, ◌+◌, ◌%◌, List, [], ◌∷◌, pos}
-use Rattle.chip_core.specs.Complex.{times, conjugate, sum_of, norm, point, of_sample}
+use Rattle.std.specs.Prelude.{ℕ, List, pos}
+use Rattle.chip_core.specs.Complex.{sum_of, norm}
 use Rattle.chip_core.specs.Sums.{first_greatest}
 use Rattle.chip_core.specs.declared.sample.Pair.{Pair}
 use Rattle.chip_core.specs.declared.sample.Sample.{Sample}
-use Rattle.short_code.specs.ShortCode.{pilot_chip}
-
--- the code's point at a phase
-abbrev pub code_point : ℕ → Pair
-code_point phase = point (pilot_chip (phase % 32768))
-
--- the samples times the conjugate code, the first sample at the phase
-abbrev pub despread : ℕ → List Sample → List Pair
-despread phase [] = []
-despread phase (s ∷ samples) = times (of_sample s) (conjugate (code_point phase)) ∷ despread (phase + 1) samples
+use Rattle.short_code.specs.Despread.{despread}
 
 unfoldable pub correlation : List Sample → ℕ → Pair
 correlation samples phase = sum_of (despread phase samples)

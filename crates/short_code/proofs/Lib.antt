@@ -1,2 +1,3 @@
+pub mod Despreading
 pub mod RegisterChips
 pub mod Signs

@@ -1,2 +1,3 @@
+pub mod Despread
 pub mod ShortCode
 pub mod Worked

@@ -1,0 +1,15 @@
+-- Despreading: samples times the conjugate of the pilot's code.
+use Rattle.std.specs.Prelude.{ℕ, ◌+◌, ◌%◌, List, [], ◌∷◌}
+use Rattle.chip_core.specs.Complex.{times, conjugate, point, of_sample}
+use Rattle.chip_core.specs.declared.sample.Pair.{Pair}
+use Rattle.chip_core.specs.declared.sample.Sample.{Sample}
+use Rattle.short_code.specs.ShortCode.{pilot_chip}
+
+-- the code's point at a phase
+abbrev pub code_point : ℕ → Pair
+code_point phase = point (pilot_chip (phase % 32768))
+
+-- the samples times the conjugate code, the first sample at the phase
+abbrev pub despread : ℕ → List Sample → List Pair
+despread phase [] = []
+despread phase (s ∷ samples) = times (of_sample s) (conjugate (code_point phase)) ∷ despread (phase + 1) samples
