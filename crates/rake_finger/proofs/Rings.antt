@@ -1,0 +1,42 @@
+-- Places in a ring.
+use Rattle.std.proofs.Common.{◌≡◌, ◌≢◌, ℕ, zero, suc, ◌+◌, ◌-◌, ◌*◌, ◌/◌, ◌%◌, ◌<◌, ◌≤◌, List, [], ◌∷◌, ◌++◌, length, get_or, refl, sym, ap, ◌∙◌, arith, length-append, ◌⊎◌, inl, inr}
+use Rattle.std.proofs.Math.ListN.{set}
+use Rattle.std.proofs.lemmas.Bool.{cases_lt, cases_order}
+use Rattle.std.proofs.lemmas.Nat.{div-add-mod', mul-le}
+use Rattle.std.proofs.lemmas.List.{get_or-set_same, get_or-set_other, get_or_append_left, get_or_push}
+use Rattle.chip_core.specs.declared.sample.Sample.{Sample}
+use Rattle.rake_finger.specs.Held.{HoldsLast}
+
+-- two places that share a cell are a whole room apart
+pub apart : (i j room : ℕ) → i < j → j < i + room → i % room ≡ j % room → ⊥
+apart i j room less near same =
+    let a = div-add-mod' i room in
+    let b = div-add-mod' j room in
+    elim (cases_lt (i / room) (j / room)) [
+      | inl below ↦ let m = mul-le (i / room + 1) room (j / room) room (omega arith) (omega arith) in omega arith
+      | inr over ↦ let m = mul-le (j / room) room (i / room) room over (omega arith) in omega arith
+    ]
+
+pub held_more : {A : Type 0} (cells samples : List A) (x : A) (room : ℕ) → 1 ≤ room → length cells ≡ room →
+    ((i : ℕ) (d : A) → i < length samples → length samples ≤ i + room → get_or cells (i % room) d ≡ get_or samples i d) →
+    (i : ℕ) (d : A) → i < length samples + 1 → length samples + 1 ≤ i + room → get_or (set cells (length samples % room) x) (i % room) d ≡ get_or (samples ++ x ∷ []) i d
+held_more cells samples x room some long held i d h near =
+    let within : length samples % room < length cells = omega arith in
+    elim (cases_order i (length samples)) [
+      | inl e ↦ rw (e, get_or-set_same cells (length samples % room) x d within) (sym (get_or_push samples x d (length samples) refl))
+      | inr (inl less) ↦
+          let ne : i % room ≢ length samples % room = λ same. apart i (length samples) room less (omega arith) same in
+          rw (get_or-set_other cells (length samples % room) (i % room) x d ne, get_or_append_left samples (x ∷ []) d i less) (held i d less (omega arith))
+      | inr (inr more) ↦ absurd (omega arith)
+    ]
+
+-- what a ring holds after one more sample
+pub HoldsLast-more : (cells samples : List Sample) (x : Sample) (room taken room' : ℕ) → 1 ≤ room → length cells ≡ room → room' ≡ room →
+    HoldsLast (record { room = room; taken = taken; cells = cells }) samples →
+    HoldsLast (record { room = room'; taken = taken + 1; cells = set cells (taken % room) x }) (samples ++ x ∷ [])
+HoldsLast-more cells samples x room taken room' some long same h =
+    let more = length-append samples (x ∷ []) in
+    let t = h.taken in record {
+      taken = omega (arith, more, t);
+      last = λ i d lt near. rw (same, t) (held_more cells samples x room some long h.last i d (omega (arith, lt, more)) (omega (arith, near, more, same)));
+    }

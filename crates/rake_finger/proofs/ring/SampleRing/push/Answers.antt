@@ -1,0 +1,10 @@
+use Rattle.std.proofs.Common.{◌≡◌, ◌+◌, ◌%◌, ◌∷◌, [], ◌++◌, length, arith, vec_len, refl}
+use Rattle.rake_finger.specs.Held.{HoldsLast}
+use Rattle.rake_finger.proofs.Rings.{HoldsLast-more}
+use Rattle.rake_finger.proofs.ring.SampleRing.push.Goals as goal
+
+pub returns-clause-holds : goal.returns-clause-holds
+returns-clause-holds c = λ samples held.
+    let len : c.len.result ≡ vec_len c.self.inside.cells = c.len.ensures in
+    let before = rw (← c.self.view_is) at held in
+    rw len (HoldsLast-more c.self.inside.cells.items samples c.args.s (vec_len c.self.inside.cells) c.self.inside.taken _ (omega (arith, c.self.invariant.0)) (omega (arith, c.self.inside.cells.ok.0)) refl before)

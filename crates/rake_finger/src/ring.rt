@@ -1,0 +1,84 @@
+//! The last samples.
+
+ghost use Rattle.std.specs.Prelude.{◌≡◌, ◌<◌, ◌≤◌, ◌+◌, ◌^◌, List, [], ◌∷◌, ◌++◌, length, slice_get, Some, IfOk};
+ghost use Rattle.chip_core.specs.declared.sample.Sample.{Sample};
+ghost use Rattle.rake_finger.specs.Held.{HoldsLast};
+
+use chip_core::{OutOfMemory, Sample};
+use std::alloc::Global;
+use std::marker::Model;
+
+/// Keeps the last samples that it has taken, as many as it has room for.
+///
+/// Contracts see its room, how many samples it has taken, and its cells; `HoldsLast` says which samples these are.
+#[derive(Drop)]
+pub struct SampleRing {
+    cells: Vec<Sample>,
+    taken: u64,
+}
+
+impl Model for SampleRing {
+    ghost use Rattle.std.specs.Prelude.{◌≤◌, ◌^◌, vec_len};
+    ghost use Rattle.rake_finger.specs.Held.{Held};
+
+    ghost Value = { Held };
+
+    ghost view = { λ ring. record { room = vec_len ring.cells; taken = ring.taken; cells = ring.cells.items } };
+
+    ghost invariant = { λ ring. (1 ≤ vec_len ring.cells) × (ring.taken ≤ 2 ^ 63) };
+}
+
+impl SampleRing {
+    /// A ring that has taken no sample yet, with room for the last `room`.
+    ///
+    /// It allocates four bytes for each of them, and that is all that can fail.
+    pub fn new(alloc: Global, room: u32) -> Result<SampleRing, OutOfMemory>
+        requires { 1 ≤ room }
+        ensures room { IfOk result (λ ring. ring.room ≡ room) }
+        ensures holds { IfOk result (λ ring. HoldsLast ring []) }
+    {
+        let cells = vec![in alloc; Sample { i: 0, q: 0 }; room as usize]?;
+        Ok(SampleRing { cells, taken: 0 })
+    }
+
+    /// How many samples it has taken.
+    pub fn taken(&self) -> u64
+        ensures value { result ≡ self.now.taken }
+        ensures most { result ≤ 2 ^ 63 }
+    {
+        self.taken
+    }
+
+    /// Takes one more sample, in place of the oldest where the room is full.
+    pub fn push(&mut self, s: Sample)
+        requires { self.old.taken < 2 ^ 63 }
+        ensures room { self.new.room ≡ self.old.room }
+        ensures taken { self.new.taken ≡ self.old.taken + 1 }
+        ensures holds { (samples : List Sample) → HoldsLast self.old samples → HoldsLast self.new (samples ++ s ∷ []) }
+    {
+        let place = (self.taken % self.cells.len() as u64) as usize;
+        self.cells[place] = s;
+        self.taken += 1;
+    }
+
+    /// Takes more samples, in order.
+    pub fn push_all(&mut self, more: &[Sample])
+        requires { self.old.taken + length more.now ≤ 2 ^ 63 }
+        ensures room { self.new.room ≡ self.old.room }
+        ensures taken { self.new.taken ≡ self.old.taken + length more.now }
+        ensures holds { (samples : List Sample) → HoldsLast self.old samples → HoldsLast self.new (samples ++ more.now) }
+    {
+        for sample in more {
+            self.push(*sample);
+        }
+    }
+
+    /// The sample at a place, counted from the first that the ring has taken, where it still holds it.
+    pub(crate) fn get(&self, place: u64) -> Sample
+        requires held { self.now.taken ≤ place + self.now.room }
+        requires taken { place < self.now.taken }
+        ensures { (samples : List Sample) → HoldsLast self.now samples → slice_get samples place ≡ Some result }
+    {
+        self.cells[(place % self.cells.len() as u64) as usize]
+    }
+}
