@@ -7,6 +7,13 @@
 //! and the sum of it over all fingers.
 #![tactic(auto)]
 
+mod finger;
+mod form;
 mod ring;
+mod sums;
+mod values;
 
+pub use finger::{Finger, Fingers};
+pub use form::Form;
 pub use ring::SampleRing;
+pub use values::soft;

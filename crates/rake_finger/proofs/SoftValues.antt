@@ -1,0 +1,71 @@
+-- Soft values: from sums to the definitions, and their bounds.
+use Rattle.std.proofs.Common.{◌≡◌, ℕ, suc, ◌+◌, ◌*◌, ◌/◌, ◌^◌, ◌<◌, ◌≤◌, Bool, false, List, [], ◌∷◌, refl, sym, ap, ◌∙◌, arith, ℤ, pos, ◌+ℤ◌, ◌-ℤ◌, ◌*ℤ◌, unsigned_abs, FitsSigned, to_z, of_z, w64}
+use Rattle.std.specs.Prelude.{neg_ℤ}
+use Rattle.std.proofs.lemmas.Int.{ints, to_z-of_z, fits_signed_mul, unsigned_abs-mul}
+use Rattle.std.proofs.lemmas.Nat.{mul-le}
+use Rattle.chip_core.specs.Bits.{binary, sign}
+use Rattle.chip_core.specs.Complex.{times, sum_of}
+use Rattle.chip_core.proofs.Ring.{neg_times}
+use Rattle.chip_core.specs.declared.sample.Pair.{Pair}
+use Rattle.chip_core.specs.declared.sample.Sample.{Sample}
+use Rattle.walsh.specs.Walsh.{walsh}
+use Rattle.rake_finger.specs.declared.finger.Finger.{Finger}
+use Rattle.rake_finger.specs.declared.form.Form.{Form}
+use Rattle.rake_finger.specs.declared.form.Form.TheVariants.{Sync, Data}
+use Rattle.rake_finger.specs.Soft.{symbol_chips, window_chips, symbols, frame_chips, finger_place, covered_from, despread_at, pilot_sum, symbol_sum, turned_part, soft, soft_bound}
+use Rattle.rake_finger.proofs.CoveredSums.{row_sign, same_parts}
+
+-- the pilot's row has no 1
+row_zero : (k : ℕ) → walsh 0 k ≡ false
+unfolding walsh binary
+row_zero k = refl
+
+one_times : (p : Pair) → times (record { i = pos 1; q = pos 0 }) p ≡ p
+one_times p = same_parts _ _ p.i p.q (omega (arith, ints)) (omega (arith, ints))
+
+covered-pilot : (k : ℕ) (ps : List Pair) → covered_from 0 k ps ≡ ps
+covered-pilot k [] = refl
+covered-pilot k (p ∷ ps) = rw (row_zero, one_times p, covered-pilot (suc k) ps)
+
+pub pilot_is : (samples : List Sample) (finger : Finger) (form : Form) (start window place chips : ℕ) (sum : Pair) →
+    chips ≡ window_chips form → place ≡ finger_place finger start + chips * window →
+    sum ≡ sum_of (covered_from 0 0 (despread_at samples finger.phase place chips)) → sum ≡ pilot_sum samples finger form start window
+unfolding pilot_sum
+pilot_is samples finger form start window place chips sum size at h =
+    rw (at, size) at h ∙ ap sum_of (covered-pilot 0 (despread_at samples finger.phase (finger_place finger start + window_chips form * window) (window_chips form)))
+
+pub symbol_is : (samples : List Sample) (finger : Finger) (form : Form) (start symbol place chips : ℕ) (sum : Pair) →
+    chips ≡ symbol_chips form → place ≡ finger_place finger start + chips * symbol →
+    sum ≡ sum_of (covered_from finger.row 0 (despread_at samples finger.phase place chips)) → sum ≡ symbol_sum samples finger form start symbol
+unfolding symbol_sum
+symbol_is samples finger form start symbol place chips sum size at h = rw (at, size) at h
+
+pub turned_part-is : (pilot symbol : Pair) → (pilot.i *ℤ symbol.i) +ℤ (pilot.q *ℤ symbol.q) ≡ turned_part pilot symbol
+turned_part-is pilot symbol = rw (neg_times pilot.q symbol.q) (omega (arith, ints))
+
+pub soft_is : (samples : List Sample) (finger : Finger) (form : Form) (start j : ℕ) →
+    turned_part (pilot_sum samples finger form start (symbol_chips form * j / window_chips form)) (symbol_sum samples finger form start j) ≡ soft samples finger form start j
+unfolding soft
+soft_is samples finger form start j = refl
+
+-- the sums' bounds bound the value
+pub soft_bounded : (form : Form) (a b c d : ℕ) → a ≤ 65536 * window_chips form → b ≤ 65536 * symbol_chips form →
+    c ≤ 65536 * window_chips form → d ≤ 65536 * symbol_chips form → a * b + c * d ≤ soft_bound form
+soft_bounded Sync a b c d ha hb hc hd =
+    let m : a * b ≤ (65536 * 1024) * (65536 * 256) = mul-le a b (65536 * 1024) (65536 * 256) ha hb in
+    let n : c * d ≤ (65536 * 1024) * (65536 * 256) = mul-le c d (65536 * 1024) (65536 * 256) hc hd in
+    omega (arith, m, n)
+soft_bounded Data a b c d ha hb hc hd =
+    let m : a * b ≤ (65536 * 1536) * (65536 * 64) = mul-le a b (65536 * 1536) (65536 * 64) ha hb in
+    let n : c * d ≤ (65536 * 1536) * (65536 * 64) = mul-le c d (65536 * 1536) (65536 * 64) hc hd in
+    omega (arith, m, n)
+
+-- a product of two parts that fits
+pub product_is : (a b : ℤ) → FitsSigned w64 a → FitsSigned w64 b → unsigned_abs a ≤ 2 ^ 27 → unsigned_abs b ≤ 2 ^ 24 →
+    to_z w64 (of_z w64 (to_z w64 (of_z w64 a) *ℤ to_z w64 (of_z w64 b))) ≡ a *ℤ b
+product_is a b fa fb ha hb =
+    let fits : FitsSigned w64 (a *ℤ b) = fits_signed_mul w64 a b (2 ^ 27) (2 ^ 24) ha hb (omega arith) in
+    rw (to_z-of_z w64 a fa, to_z-of_z w64 b fb, to_z-of_z w64 (a *ℤ b) fits)
+
+pub product_most : (a b : ℤ) → unsigned_abs a ≤ 2 ^ 27 → unsigned_abs b ≤ 2 ^ 24 → unsigned_abs (a *ℤ b) ≤ 2 ^ 51
+product_most a b ha hb = rw (unsigned_abs-mul a b) (mul-le (unsigned_abs a) (unsigned_abs b) (2 ^ 27) (2 ^ 24) ha hb)

@@ -1,0 +1,16 @@
+use Rattle.std.proofs.Common.{◌≡◌, ◌+◌, ◌*◌, ◌≤◌, List, take, drop}
+use Rattle.std.specs.Prelude.{unsigned_abs}
+use Rattle.chip_core.specs.Complex.{sum_of}
+use Rattle.chip_core.specs.declared.sample.Sample.{Sample}
+use Rattle.short_code.specs.Despread.{despread}
+use Rattle.rake_finger.specs.Held.{HoldsLast}
+use Rattle.rake_finger.specs.Soft.{covered_from}
+use Rattle.rake_finger.proofs.sums.covered_sum.Given as goal
+
+abbrev pub invariant-loop-k : goal.invariant-loop-k
+invariant-loop-k l = record {
+  value : (samples : List Sample) → HoldsLast l.ring samples →
+      l.sum ≡ sum_of (covered_from l.row 0 (despread (l.fn.phase + l.place) (take l.k (drop l.place samples))));
+  i_bound : unsigned_abs l.sum.i ≤ 65536 * l.k;
+  q_bound : unsigned_abs l.sum.q ≤ 65536 * l.k;
+}

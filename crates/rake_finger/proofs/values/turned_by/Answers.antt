@@ -1,0 +1,21 @@
+use Rattle.std.proofs.Common.{◌≡◌, ◌*◌, ◌∙◌, arith, ◌*ℤ◌, unsigned_abs}
+use Rattle.std.proofs.lemmas.Int.{ints, to_z-of_z}
+use Rattle.rake_finger.proofs.SoftValues.{turned_part-is}
+use Rattle.rake_finger.proofs.values.turned_by.Goals as goal
+
+pub returns-clause-value : goal.returns-clause-value
+returns-clause-value c =
+    let p = c.args.pilot in
+    let s = c.args.symbol in
+    let i : c.product.result ≡ p.i *ℤ s.i = search (arith, ints, to_z-of_z, c.product.ensures.value) in
+    let q : c.product-2.result ≡ p.q *ℤ s.q = search (arith, ints, to_z-of_z, c.product-2.ensures.value) in
+    let is = turned_part-is p s in
+    omega (arith, ints) ∙ is
+
+pub returns-clause-bound : goal.returns-clause-bound
+returns-clause-bound c =
+    let p = c.args.pilot in
+    let s = c.args.symbol in
+    let i : unsigned_abs c.product.result ≡ unsigned_abs p.i * unsigned_abs s.i = search (arith, ints, to_z-of_z, c.product.ensures.size) in
+    let q : unsigned_abs c.product-2.result ≡ unsigned_abs p.q * unsigned_abs s.q = search (arith, ints, to_z-of_z, c.product-2.ensures.size) in
+    omega (arith, ints)

@@ -1,0 +1,16 @@
+-- Which samples a finger needs.
+use Rattle.std.specs.Prelude.{ℕ, ◌+◌, ◌≤◌, pos, ◌≤ℤ◌}
+use Rattle.rake_finger.specs.Held.{Held}
+use Rattle.rake_finger.specs.Soft.{frame_chips, finger_place}
+use Rattle.rake_finger.specs.declared.finger.Finger.{Finger}
+use Rattle.rake_finger.specs.declared.form.Form.{Form}
+
+-- the ring still holds the samples from a place on, so many, and has taken them all
+pub record IsHeld (ring : Held) (place count : ℕ) : Type 0 where
+  pub kept : ring.taken ≤ place + ring.room
+  pub taken : place + count ≤ ring.taken
+
+-- it holds the finger's samples of the frame that begins at reference sample `start`
+pub record IsInRing (ring : Held) (form : Form) (start : ℕ) (finger : Finger) : Type 0 where
+  pub begun : finger.delta ≤ℤ pos start
+  pub held : IsHeld ring (finger_place finger start) (frame_chips form)

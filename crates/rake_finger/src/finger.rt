@@ -1,0 +1,78 @@
+//! Fingers, and lists of them.
+
+ghost use Rattle.std.specs.Prelude.{◌≡◌, ◌<◌, ◌≤◌, List, [], ◌∷◌, ◌++◌, length, slice_get, Some, IsOk, OnOk, OnErr, ◌↔◌};
+
+use chip_core::{Full, Phase};
+use std::marker::Model;
+
+/// One path of one base station, and the channel on it.
+#[derive(Clone, Copy, PartialEq, Eq, Debug)]
+pub struct Finger {
+    /// The chip of the pilot's code that falls on sample 0.
+    pub phase: Phase,
+    /// How much earlier than the reference path its samples come, in chips.
+    pub delta: i16,
+    /// The channel's Walsh row, 0 to 63.
+    pub row: u8,
+}
+
+/// A list of 1 to 8 fingers, whose soft values are added up. Contracts see the list.
+#[derive(Drop)]
+pub struct Fingers {
+    items: [Finger; 8],
+    count: u8,
+}
+
+impl Model for Fingers {
+    ghost use Rattle.std.specs.Prelude.{◌≡◌, ◌≤◌, List, take, length};
+    ghost use Rattle.rake_finger.specs.declared.finger.Finger.{Finger};
+
+    ghost Value = { List Finger };
+
+    ghost view = { λ f. take f.count f.items };
+
+    ghost invariant = { λ f. (1 ≤ f.count) × (f.count ≤ 8) × (length f.items ≡ 8) };
+}
+
+impl Fingers {
+    /// The list of one finger.
+    pub fn one(first: Finger) -> Fingers
+        ensures { result ≡ first ∷ [] }
+    {
+        Fingers {
+            items: [first; 8],
+            count: 1,
+        }
+    }
+
+    /// How many fingers there are, 1 to 8.
+    pub fn len(&self) -> u8
+        ensures value { result ≡ length self.now }
+        ensures least { 1 ≤ result }
+        ensures most { result ≤ 8 }
+    {
+        self.count
+    }
+
+    /// Finger `i`, counted from 0.
+    pub fn get(&self, i: u8) -> Finger
+        requires { i < length self.now }
+        ensures { slice_get self.now i ≡ Some result }
+    {
+        self.items[i as usize]
+    }
+
+    /// Adds a finger at the end; `Full` exactly where there are 8, and the list is unchanged then.
+    pub fn push(&mut self, finger: Finger) -> Result<(), Full>
+        ensures room { IsOk result ↔ (length self.old < 8) }
+        ensures ok { OnOk result (self.new ≡ self.old ++ finger ∷ []) }
+        ensures err { OnErr result (self.new ≡ self.old) }
+    {
+        if self.count == 8 {
+            return Err(Full);
+        }
+        self.items[self.count as usize] = finger;
+        self.count += 1;
+        Ok(())
+    }
+}

@@ -1,0 +1,35 @@
+//! How frames are cut into symbols and windows.
+
+ghost use Rattle.std.specs.Prelude.{◌≡◌, ◌*◌};
+ghost use Rattle.rake_finger.specs.Soft.{symbol_chips, window_chips};
+
+/// How a channel's frame is cut into symbols, and into the windows whose pilot turns them.
+#[derive(Clone, Copy, PartialEq, Eq, Debug)]
+pub enum Form {
+    /// The sync channel: 128 symbols of 256 chips, and windows of 1,024 chips (TIA/EIA-95-B, 7.1.3.2).
+    Sync,
+    /// The paging and traffic channels: 384 symbols of 64 chips, and windows of 1,536 chips, a power control group each.
+    Data,
+}
+
+impl Form {
+    /// How many chips a symbol has.
+    pub(crate) fn symbol_chips(self) -> u16
+        ensures { result ≡ symbol_chips self }
+    {
+        match self {
+            Form::Sync => 256,
+            Form::Data => 64,
+        }
+    }
+
+    /// How many chips a window has.
+    pub(crate) fn window_chips(self) -> u16
+        ensures { result ≡ window_chips self }
+    {
+        match self {
+            Form::Sync => 1024,
+            Form::Data => 1536,
+        }
+    }
+}
