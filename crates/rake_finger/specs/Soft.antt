@@ -27,6 +27,15 @@ symbols Data = 384
 abbrev pub frame_chips : Form → ℕ
 frame_chips form = symbol_chips form * symbols form
 
+-- windows a frame, and symbols a window
+abbrev pub windows : Form → ℕ
+windows Sync = 32
+windows Data = 16
+
+abbrev pub window_symbols : Form → ℕ
+window_symbols Sync = 4
+window_symbols Data = 24
+
 -- the sample at which the finger reads what lies at reference sample u
 abbrev pub finger_place : Finger → ℕ → ℕ
 finger_place finger u = unsigned_abs (pos u -ℤ finger.delta)

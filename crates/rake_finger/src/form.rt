@@ -1,7 +1,7 @@
 //! How frames are cut into symbols and windows.
 
 ghost use Rattle.std.specs.Prelude.{◌≡◌, ◌*◌};
-ghost use Rattle.rake_finger.specs.Soft.{symbol_chips, window_chips};
+ghost use Rattle.rake_finger.specs.Soft.{symbol_chips, window_chips, windows, window_symbols};
 
 /// How a channel's frame is cut into symbols, and into the windows whose pilot turns them.
 #[derive(Clone, Copy, PartialEq, Eq, Debug)]
@@ -30,6 +30,26 @@ impl Form {
         match self {
             Form::Sync => 1024,
             Form::Data => 1536,
+        }
+    }
+
+    /// How many windows a frame has.
+    pub(crate) fn windows(self) -> u16
+        ensures { result ≡ windows self }
+    {
+        match self {
+            Form::Sync => 32,
+            Form::Data => 16,
+        }
+    }
+
+    /// How many symbols a window has.
+    pub(crate) fn window_symbols(self) -> u16
+        ensures { result ≡ window_symbols self }
+    {
+        match self {
+            Form::Sync => 4,
+            Form::Data => 24,
         }
     }
 }

@@ -7,12 +7,14 @@
 //! and the sum of it over all fingers.
 #![tactic(auto)]
 
+mod combining;
 mod finger;
 mod form;
 mod ring;
 mod sums;
 mod values;
 
+pub use combining::combine_into;
 pub use finger::{Finger, Fingers};
 pub use form::Form;
 pub use ring::SampleRing;

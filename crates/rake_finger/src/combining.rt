@@ -1,0 +1,89 @@
+//! The soft values of a frame, added up over the fingers.
+
+ghost use Rattle.std.specs.Prelude.{◌≡◌, ◌<◌, ◌≤◌, ◌+◌, ◌*◌, ◌^◌, List, ℤ, All, length, sum_by, unsigned_abs, slice_get};
+ghost use Rattle.chip_core.specs.declared.sample.Sample.{Sample};
+ghost use Rattle.rake_finger.specs.Added.{AreWithin, IsAdded};
+ghost use Rattle.rake_finger.specs.Held.{HoldsLast};
+ghost use Rattle.rake_finger.specs.InRing.{IsInRing};
+ghost use Rattle.rake_finger.specs.Soft.{symbols, window_chips, windows, window_symbols, frame_chips, soft_bound, softs};
+ghost use Rattle.rake_finger.specs.declared.finger.Finger.{Finger as FingerValue};
+
+use crate::finger::{Finger, Fingers};
+use crate::form::Form;
+use crate::ring::SampleRing;
+use crate::values::{pilot_of, value_by};
+use short_code::Codes;
+
+/// Adds the finger's soft values of one window's symbols.
+fn add_window(
+    ring: &SampleRing,
+    codes: &Codes,
+    finger: &Finger,
+    form: Form,
+    start: u64,
+    window: u16,
+    out: &mut [i64],
+)
+    requires row { finger.now.row < 64 }
+    requires ring { IsInRing ring.now form start finger.now }
+    requires window { window < windows form }
+    requires room { length out.old ≡ symbols form }
+    requires small { AreWithin (2 ^ 54) out.old }
+    ensures { (first : List ℤ) →
+        IsAdded ring.now finger.now form start (window_symbols form * window) first out.old →
+        IsAdded ring.now finger.now form start (window_symbols form * (window + 1)) first out.new }
+{
+    let pilot = pilot_of(ring, codes, finger, form, start, window);
+    let first = form.window_symbols() * window;
+    for symbol in first..first + form.window_symbols() {
+        let value = value_by(ring, codes, finger, form, start, symbol, pilot);
+        out[usize::from(symbol)] += value;
+    }
+}
+
+/// Adds the finger's soft values of the frame.
+fn add_finger(
+    ring: &SampleRing,
+    codes: &Codes,
+    finger: &Finger,
+    form: Form,
+    start: u64,
+    out: &mut [i64],
+)
+    requires row { finger.now.row < 64 }
+    requires ring { IsInRing ring.now form start finger.now }
+    requires room { length out.old ≡ symbols form }
+    requires small { AreWithin (7 * 2 ^ 51) out.old }
+    ensures { IsAdded ring.now finger.now form start (symbols form) out.old out.new }
+{
+    for window in 0..form.windows() {
+        add_window(ring, codes, finger, form, start, window, out);
+    }
+}
+
+/// Computes the soft values of all symbols of the frame that begins at reference sample `start`, each added up over the
+/// fingers.
+///
+/// `out` has an entry for each of the frame's symbols, and holds their values then, whatever it held. They aren't turned
+/// by scrambling bits. Each window's pilot is summed up once. The absolute values of a frame's entries add up to so
+/// little that those of eight fingers over a frame, or of three over three frames, add up to at most 2^62.
+pub fn combine_into(
+    ring: &SampleRing,
+    codes: &Codes,
+    fingers: &Fingers,
+    form: Form,
+    start: u64,
+    out: &mut [i64],
+)
+    requires rows { All (λ (finger : FingerValue). finger.row < 64) fingers.now }
+    requires ring { All (IsInRing ring.now form start) fingers.now }
+    requires room { length out.old ≡ symbols form }
+    ensures value { (samples : List Sample) → HoldsLast ring.now samples → out.new ≡ softs samples fingers.now form start }
+    ensures bound { sum_by unsigned_abs out.new ≤ length fingers.now * (symbols form * soft_bound form) }
+{
+    out.fill(0);
+    for i in 0..fingers.len() {
+        let finger = fingers.get(i);
+        add_finger(ring, codes, &finger, form, start, out);
+    }
+}
