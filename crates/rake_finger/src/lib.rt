@@ -10,6 +10,7 @@
 mod combining;
 mod finger;
 mod form;
+pub mod laws;
 mod ring;
 mod sums;
 mod values;
