@@ -30,28 +30,16 @@ loop-group-preserved c =
 all_pairs : (f : ℕ → ℕ) (xs : List ℕ) (n : ℕ) → n ≡ 16 → ArePairs f xs n → ArePairs f xs 16
 all_pairs f xs n e pairs = let P : ℕ → Type 0 = λ n. ArePairs f xs n in subst P e pairs
 
-pub returns-clause-value : goal.returns-clause-value
-returns-clause-value c =
-    pairs_all c.args.state.now c.args.mask c.loop-group.places
-    (all_pairs (power_place c.args.state.now c.args.mask) c.loop-group.places c.loop-group.group (omega arith) c.loop-group.invariant.pairs)
-
-pub returns-clause-groups : goal.returns-clause-groups
-returns-clause-groups c =
-    pairs_in_groups (power_place c.args.state.now c.args.mask) c.loop-group.places (power_place_in_groups c.args.state.now c.args.mask)
-    (all_pairs (power_place c.args.state.now c.args.mask) c.loop-group.places c.loop-group.group (omega arith) c.loop-group.invariant.pairs)
-
-pub returns-clause-pairs : goal.returns-clause-pairs
-returns-clause-pairs c =
-    pairs_neighbours (power_place c.args.state.now c.args.mask) c.loop-group.places
-    (all_pairs (power_place c.args.state.now c.args.mask) c.loop-group.places c.loop-group.group (omega arith) c.loop-group.invariant.pairs)
-
-pub returns-clause-rising : goal.returns-clause-rising
-returns-clause-rising c =
-    pairs_rise (power_place c.args.state.now c.args.mask) c.loop-group.places (power_place_in_groups c.args.state.now c.args.mask)
-    (all_pairs (power_place c.args.state.now c.args.mask) c.loop-group.places c.loop-group.group (omega arith) c.loop-group.invariant.pairs)
-
-pub returns-clause-below : goal.returns-clause-below
-returns-clause-below c =
-    All-from_get_or (λ k. k < 384) c.loop-group.places 0
-    (pairs_below (power_place c.args.state.now c.args.mask) c.loop-group.places (power_place_in_groups c.args.state.now c.args.mask)
-    (all_pairs (power_place c.args.state.now c.args.mask) c.loop-group.places c.loop-group.group (omega arith) c.loop-group.invariant.pairs))
+pub returns : goal.returns
+returns c =
+    let place = power_place c.args.state.now c.args.mask in
+    let xs = c.loop-group.places in
+    let groups = power_place_in_groups c.args.state.now c.args.mask in
+    let pairs = all_pairs place xs c.loop-group.group (omega arith) c.loop-group.invariant.pairs in
+    record {
+      value = pairs_all c.args.state.now c.args.mask xs pairs;
+      groups = pairs_in_groups place xs groups pairs;
+      pairs = pairs_neighbours place xs pairs;
+      rising = pairs_rise place xs groups pairs;
+      below = All-from_get_or (λ k. k < 384) xs 0 (pairs_below place xs groups pairs);
+    }
