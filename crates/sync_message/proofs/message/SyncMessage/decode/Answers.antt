@@ -1,0 +1,53 @@
+use Rattle.std.proofs.Common.{◌≡◌, refl, sym, ap, subst, ◌∙◌, Ok, Bool, List}
+use Rattle.chip_core.specs.declared.check_form.CheckForm.{CheckForm}
+use Rattle.quality_bits.specs.Capsules.{capsule, IsWhole}
+use Rattle.quality_bits.specs.Kinds.{IsChecked}
+use Rattle.quality_bits.specs.declared.kind.Kind.TheVariants.{M30}
+use Rattle.quality_bits.proofs.Wholes.{whole-capsule, checked-capsule}
+use Rattle.sync_message.specs.SyncMessage.{sync_body, sync_capsule}
+use Rattle.sync_message.proofs.Bodies.{body_injective, body_of_capsule}
+use Rattle.sync_message.proofs.message.SyncMessage.decode.Goals as goal
+
+pub returns-in_err-body-clause-only : goal.returns-in_err-body-clause-only
+unfolding sync_capsule
+returns-in_err-body-clause-only c m is same = absurd (cc (c.in_err-body.ensures.only (sync_body m) is.fills same))
+
+pub returns-in-Ok-clause-found : goal.returns-in-Ok-clause-found
+unfolding sync_capsule
+returns-in-Ok-clause-found c =
+    let read = c.in-Ok.ensures.found in
+    (read.0, c.in_ok-body.ensures.found.1 ∙ ap (capsule M30 c.args.form) read.1)
+
+pub returns-in-Ok-clause-only : goal.returns-in-Ok-clause-only
+returns-in-Ok-clause-only c m is same =
+    let read = c.in-Ok.ensures.found in
+    let body = body_of_capsule c.args.form c.args.capsule.now c.in_ok-body.body m c.in_ok-body.ensures.found.1 same in
+    ap Ok (body_injective c.in-Ok.fields m read.0 is (sym read.1 ∙ body))
+
+pub returns-in-Ok-clause-bad_body : goal.returns-in-Ok-clause-bad_body
+unfolding sync_capsule
+returns-in-Ok-clause-bad_body c =
+    let read = c.in-Ok.ensures.found in (
+      λ bad. absurd (cc bad),
+      λ none. absurd (none.2 c.in-Ok.fields read.0 (c.in_ok-body.ensures.found.1 ∙ ap (capsule M30 c.args.form) read.1)),
+    )
+
+pub returns-in-Err-clause-only : goal.returns-in-Err-clause-only
+returns-in-Err-clause-only c m is same =
+    let body = body_of_capsule c.args.form c.args.capsule.now c.in_ok-body.body m c.in_ok-body.ensures.found.1 same in
+    absurd (cc (c.in-Err.ensures.only m is body))
+
+pub returns-in-Err-clause-bad_body : goal.returns-in-Err-clause-bad_body
+returns-in-Err-clause-bad_body c =
+    let found = c.in_ok-body.ensures.found in
+    let whole = subst IsWhole (sym found.1) (whole-capsule M30 c.args.form c.in_ok-body.body found.0) in
+    let checked = subst (IsChecked M30 c.args.form) (sym found.1) (checked-capsule M30 c.args.form c.in_ok-body.body) in (
+      λ bad. (
+        whole,
+        checked,
+        λ m is same.
+            let body = body_of_capsule c.args.form c.args.capsule.now c.in_ok-body.body m found.1 same in
+            absurd (cc (c.in-Err.ensures.only m is body)),
+      ),
+      λ none. refl,
+    )

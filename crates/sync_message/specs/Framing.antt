@@ -1,0 +1,7 @@
+-- The frames of the sync channel: the SOM bit, 1 where a message starts, and 31 bits of body.
+use Rattle.std.specs.Prelude.{◌≡◌, Bool, List, map, Option}
+use Rattle.quality_bits.specs.Pieces.{piece, under_way}
+
+-- a framer that has the bits of the message under way behind these frames
+abbrev pub StandsFor : Option (List Bool) → List (List Bool) → Type 0
+StandsFor framer frames = framer ≡ under_way (map piece frames)

@@ -1,0 +1,5 @@
+pub mod Faults
+pub mod Framing
+pub mod SyncMessage
+pub mod Tails
+mod Worked

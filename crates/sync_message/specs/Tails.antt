@@ -1,0 +1,7 @@
+-- What stands behind the fields that each message has.
+use Rattle.std.specs.Prelude.{ℕ, ◌≡◌, ◌≤◌, ◌<◌, ◌%◌, ◌^◌, Bool, List, length, Option, Some, None}
+
+-- 3 bits at 25 octets; else a frequency, and whole octets
+abbrev pub IsTail : Option ℕ → List Bool → Type 0
+IsTail None rest = length rest ≡ 3
+IsTail (Some freq) rest = (freq < 2 ^ 11) × (length rest % 8 ≡ 0) × (length rest ≤ 976)

@@ -1,0 +1,30 @@
+-- Worked values.
+use Rattle.std.specs.Prelude.{◌≡◌, refl, ◌^◌, Bool, false, List, [], ◌∷◌, length, take, Some, None}
+use Rattle.chip_core.specs.Bits.{number, binary, places}
+use Rattle.chip_core.specs.declared.check_form.CheckForm.TheVariants.{Plain}
+use Rattle.quality_bits.specs.Capsules.{capsule}
+use Rattle.quality_bits.specs.Quality.{check_bits}
+use Rattle.sync_message.specs.SyncMessage.{sync_body, sync_capsule}
+use Rattle.sync_message.specs.declared.fields.SyncFields.{SyncFields}
+
+shortest : SyncFields
+shortest = record { prev = 3; min = 1; sid = 1; nid = 2; pn = 3; lc = 2 ^ 41; time = 5; lp = 13; ltm = 0; daylt = 0; prat = 0; freq = None; rest = false ∷ false ∷ false ∷ [] }
+
+first_octets : number (take 168 (sync_capsule Plain shortest)) ≡ 0x190103010002000403800000000000000000143400
+unfolding shortest sync_capsule sync_body capsule binary check_bits places
+first_octets = refl
+
+shortest_length : length (sync_capsule Plain shortest) ≡ 200
+unfolding shortest sync_capsule sync_body capsule binary check_bits places
+shortest_length = refl
+
+with_freq : SyncFields
+with_freq = record { prev = 3; min = 1; sid = 1; nid = 2; pn = 3; lc = 2 ^ 41; time = 5; lp = 13; ltm = 0; daylt = 0; prat = 0; freq = Some 283; rest = [] }
+
+with_freq_length : length (sync_capsule Plain with_freq) ≡ 208
+unfolding with_freq sync_capsule sync_body capsule binary check_bits places
+with_freq_length = refl
+
+with_freq_octets : number (take 8 (sync_capsule Plain with_freq)) ≡ 0x1a
+unfolding with_freq sync_capsule sync_body capsule binary check_bits places
+with_freq_octets = refl

@@ -1,0 +1,55 @@
+//! Capsules out of frames.
+
+ghost use Rattle.std.specs.Prelude.{◌≡◌, Bool, List, [], ◌∷◌, ◌++◌, length, map};
+ghost use Rattle.quality_bits.specs.Pieces.{piece, capsule_ending};
+ghost use Rattle.sync_message.specs.Framing.{StandsFor};
+
+use chip_core::Bits;
+use quality_bits::OpenCapsule;
+use std::marker::Model;
+
+/// Cuts capsules out of the frames of the sync channel.
+///
+/// TIA/EIA-95-B, 7.7.1.2: a frame has 32 bits, the SOM bit and 31 bits of body. A frame with SOM 1 starts a capsule, and
+/// drops one that isn't complete; one with SOM 0 goes on with the open capsule, or is passed over where there is none.
+/// Contracts see the bits of the open capsule, and say for which frames the framer stands.
+#[derive(Clone, Copy, PartialEq, Eq, Debug)]
+pub struct CapsuleFramer {
+    capsule: OpenCapsule,
+}
+
+impl Model for CapsuleFramer {
+    ghost use Rattle.std.specs.Prelude.{Bool, List, Option};
+
+    ghost Value = { Option (List Bool) };
+
+    ghost view = { λ f. f.capsule };
+
+    ghost inverse = { λ bits. record { capsule = bits } };
+}
+
+impl CapsuleFramer {
+    /// A framer that took no frames.
+    pub fn new() -> CapsuleFramer
+        ensures { StandsFor result [] }
+    {
+        CapsuleFramer {
+            capsule: OpenCapsule::closed(),
+        }
+    }
+
+    /// Takes a frame, and gives the capsule whose last bit lies in it: whatever frames the framer stood for, it stands for
+    /// those and this one behind them, and the capsule is the one that they end with.
+    pub fn push(&mut self, frame: &Bits) -> Option<Bits>
+        requires { length frame.now ≡ 32 }
+        ensures stands { (frames : List (List Bool)) →
+            StandsFor self.old frames → StandsFor self.new (frames ++ frame.now ∷ []) }
+        ensures capsule { (frames : List (List Bool)) →
+            StandsFor self.old frames → result ≡ capsule_ending (map piece (frames ++ frame.now ∷ [])) }
+    {
+        if frame.get(0) {
+            self.capsule = OpenCapsule::new();
+        }
+        self.capsule.push_all(frame, 1)
+    }
+}

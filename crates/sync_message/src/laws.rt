@@ -1,0 +1,23 @@
+//! Laws of the definitions: each function does nothing, and its contract is the law.
+
+ghost use Rattle.std.specs.Prelude.{◌≡◌, ◌≤◌, ◌*◌, ◌-◌, ◌+◌, length, IsNone, IsSome};
+ghost use Rattle.quality_bits.specs.Capsules.{octets};
+ghost use Rattle.quality_bits.specs.declared.kind.Kind.TheVariants.{M30};
+ghost use Rattle.chip_core.specs.declared.check_form.CheckForm.{CheckForm as TheForm};
+ghost use Rattle.sync_message.specs.SyncMessage.{IsSyncMessage, sync_body, sync_capsule};
+ghost use Rattle.sync_message.specs.declared.fields.SyncFields.{SyncFields as TheFields};
+
+/// Two messages with one spelling are the same.
+pub fn spelling_has_one_message()
+    ensures { (form : TheForm) (m n : TheFields) → IsSyncMessage m → IsSyncMessage n → sync_capsule form m ≡ sync_capsule form n → m ≡ n }
+{}
+
+/// A message has 25 octets, and then no frequency and 3 bits of rest; or it has 26 and more, and then a frequency and 8
+/// bits of rest for each octet past 26.
+pub fn octets_tell_the_rest()
+    ensures least { (m : TheFields) → IsSyncMessage m → 25 ≤ octets M30 (sync_body m) }
+    ensures shortest { (m : TheFields) → IsSyncMessage m → octets M30 (sync_body m) ≡ 25 →
+        IsNone m.freq × (length m.rest ≡ 3) }
+    ensures longer { (m : TheFields) → IsSyncMessage m → 26 ≤ octets M30 (sync_body m) →
+        IsSome m.freq × (length m.rest ≡ 8 * (octets M30 (sync_body m) - 26)) }
+{}

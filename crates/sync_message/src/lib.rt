@@ -1,0 +1,15 @@
+//! The Sync Channel Message (TIA/EIA-95-B, 7.7.1.3), spelled and read, and the framer that cuts its capsules out of the
+//! frames of the sync channel (7.7.1.2).
+#![tactic(auto)]
+
+mod codec;
+mod fault;
+mod fields;
+mod framer;
+pub mod laws;
+mod message;
+
+pub use fault::MessageFault;
+pub use fields::SyncFields;
+pub use framer::CapsuleFramer;
+pub use message::SyncMessage;

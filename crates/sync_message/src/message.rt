@@ -1,0 +1,83 @@
+//! The message, to and from its capsule.
+
+ghost use Rattle.std.specs.Prelude.{◌≡◌, ◌↔◌, IfOk, SomeIff};
+ghost use Rattle.quality_bits.specs.Capsules.{IsWhole};
+ghost use Rattle.quality_bits.specs.Kinds.{IsChecked};
+ghost use Rattle.quality_bits.specs.declared.kind.Kind.TheVariants.{M30};
+ghost use Rattle.sync_message.specs.SyncMessage.{IsSyncMessage, sync_capsule};
+ghost use Rattle.sync_message.specs.declared.fields.SyncFields.{SyncFields as TheFields};
+
+use crate::codec::{has_spelling, read_body, write_body};
+use crate::fault::{MessageFault, NoFields};
+use crate::fields::SyncFields;
+use chip_core::{Bits, CheckForm};
+use quality_bits::{Kind, body_of, capsule_of};
+use std::marker::Model;
+
+/// A Sync Channel Message: fields that have a spelling. Contracts see the fields.
+#[derive(Clone, Copy, PartialEq, Eq, Debug)]
+pub struct SyncMessage {
+    fields: SyncFields,
+}
+
+impl Model for SyncMessage {
+    ghost use Rattle.sync_message.specs.SyncMessage.{IsSyncMessage};
+    ghost use Rattle.sync_message.specs.declared.fields.SyncFields.{SyncFields as TheFields};
+
+    ghost Value = { TheFields };
+
+    ghost view = { λ m. m.fields };
+
+    ghost invariant = { λ m. IsSyncMessage m.fields };
+
+    ghost inverse = { λ f. record { fields = f } };
+}
+
+impl SyncMessage {
+    /// The message of these fields; `None` exactly where a value doesn't fit its width, or the rest hasn't a length that
+    /// is admitted: 3 bits without a frequency, and 0 to 976 in steps of 8 with one.
+    pub fn new(fields: SyncFields) -> Option<SyncMessage>
+        ensures { SomeIff result (IsSyncMessage fields) fields }
+    {
+        if has_spelling(&fields) {
+            Some(SyncMessage { fields })
+        } else {
+            None
+        }
+    }
+
+    /// What the message says.
+    pub fn fields(&self) -> SyncFields
+        ensures value { result ≡ self.now }
+        ensures spelled { IsSyncMessage result }
+    {
+        self.fields
+    }
+
+    /// The capsule that spells the message.
+    pub fn encode(&self, form: CheckForm) -> Bits
+        ensures { result ≡ sync_capsule form self.now }
+    {
+        capsule_of(Kind::M30, form, &write_body(&self.fields))
+    }
+
+    /// The message that a capsule spells.
+    ///
+    /// `BadLength` exactly where the list isn't as long as its MSG_LENGTH says, or that is outside 5 to 148 octets; else
+    /// `BadCheck` exactly where the check differs; else `BadBody` exactly where the body isn't that of a message.
+    pub fn decode(capsule: &Bits, form: CheckForm) -> Result<SyncMessage, MessageFault>
+        ensures found { IfOk result (λ m. IsSyncMessage m × (capsule.now ≡ sync_capsule form m)) }
+        ensures only { (m : TheFields) → IsSyncMessage m → capsule.now ≡ sync_capsule form m → result ≡ Ok m }
+
+        ensures bad_length { (result ≡ Err MessageFault.BadLength) ↔ ¬ (IsWhole capsule.now) }
+        ensures bad_check { (result ≡ Err MessageFault.BadCheck) ↔ (IsWhole capsule.now × ¬ (IsChecked M30 form capsule.now)) }
+        ensures bad_body { (result ≡ Err MessageFault.BadBody) ↔ (IsWhole capsule.now × IsChecked M30 form capsule.now
+            × ((m : TheFields) → IsSyncMessage m → ¬ (capsule.now ≡ sync_capsule form m))) }
+    {
+        let body = body_of(Kind::M30, form, capsule)?;
+        match read_body(&body) {
+            Ok(fields) => Ok(SyncMessage { fields }),
+            Err(NoFields) => Err(MessageFault::BadBody),
+        }
+    }
+}
