@@ -5,7 +5,7 @@ use Rattle.std.proofs.Math.Nat.{lt-div-mul-add}
 use Rattle.std.proofs.lemmas.Nat.Bits.{bit_at_xor}
 use Rattle.std.proofs.Math.Pow.{mod-mod-pow}
 use Rattle.chip_core.specs.Bits.{xor, digit, number, binary}
-use Rattle.chip_core.proofs.Numbers.{number_from-append, number_from-front}
+use Rattle.chip_core.proofs.Numerals.{number_from-append, number_from-front}
 use Rattle.chip_core.proofs.BitLists.{add, zip_push}
 use Rattle.chip_core.proofs.RegisterBits.{length-binary}
 

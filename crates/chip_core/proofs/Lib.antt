@@ -5,7 +5,7 @@ pub mod Digits
 pub mod FieldLists
 pub mod Greatest
 pub mod IndexSums
-pub mod Numbers
+pub mod Numerals
 pub mod Places
 pub mod RegisterBits
 pub mod Ring

@@ -1,6 +1,8 @@
 pub mod Bits
 pub mod Complex
 pub mod Fields
+pub mod Listed
+pub mod Listing
 pub mod Packed
 pub mod Packing
 pub mod Polynomial

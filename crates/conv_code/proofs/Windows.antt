@@ -7,7 +7,7 @@ use Rattle.std.proofs.lemmas.Bool.{and_parts, leb-true}
 use Rattle.chip_core.specs.Bits.{bit_of, binary, digit, parity}
 use Rattle.std.proofs.lemmas.Nat.{and_mask}
 use mir.Val.{bool_byte}
-use Rattle.chip_core.proofs.Numbers.{bool_byte-digit}
+use Rattle.chip_core.proofs.Numerals.{bool_byte-digit}
 use Rattle.chip_core.proofs.RegisterBits.{low_bit, bit_of-first, bit_of-next, length-binary, get_or-binary}
 use Rattle.conv_code.specs.ConvCode.{symbol, state_after}
 

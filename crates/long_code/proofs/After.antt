@@ -6,7 +6,7 @@ use Rattle.chip_core.proofs.BitLists.{add}
 use Rattle.chip_core.proofs.RegisterBits.{length-binary}
 use Rattle.long_code.specs.LongCode.{below, after}
 use Rattle.long_code.proofs.Division.{shifted, times_x, remainder-zeros, length_times_x, times_x-times_x}
-use Rattle.chip_core.proofs.Numbers.{binary-front, binary-number_from}
+use Rattle.chip_core.proofs.Numerals.{binary-front, binary-number_from}
 use Rattle.chip_core.proofs.Digits.{binary-xor, binary-double, binary-low, number-binary, number_lt}
 
 pub length-below : length below ≡ 42

@@ -3,7 +3,7 @@ use Rattle.std.proofs.Common.{◌≡◌, ℕ, zero, suc, ◌^◌, ◌<◌, Bool,
 use Rattle.std.proofs.lemmas.List.{reverse-append, reverse-reverse, length-reverse}
 use Rattle.chip_core.specs.Bits.{xor, number, binary, places}
 use Rattle.chip_core.proofs.BitLists.{add, length_add, zip_push}
-use Rattle.chip_core.proofs.Numbers.{binary-number_from}
+use Rattle.chip_core.proofs.Numerals.{binary-number_from}
 use Rattle.chip_core.proofs.RegisterBits.{length-binary}
 use Rattle.long_code.specs.LongCode.{below, above, after, before}
 use Rattle.long_code.proofs.Division.{shifted, times_x, length_shifted, length_times_x, remainder-zeros, shifted-times_x}

@@ -5,7 +5,7 @@ use Rattle.std.proofs.lemmas.Bool.{agree_below, agree_below_at}
 use Rattle.std.proofs.lemmas.List.{take_more, map-append, length-take-le, length-map}
 use Rattle.std.proofs.Math.Pow.{pow_mono}
 use Rattle.chip_core.specs.Bits.{digit, number, binary, bit_of}
-use Rattle.chip_core.proofs.Numbers.{number_from-append}
+use Rattle.chip_core.proofs.Numerals.{number_from-append}
 use Rattle.chip_core.proofs.RegisterBits.{length-binary}
 use Rattle.long_code.specs.LongCode.{paging_mask, permuted, traffic_mask}
 use Rattle.chip_core.proofs.Digits.{digit_of, number-binary, number_lt}

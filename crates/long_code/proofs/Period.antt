@@ -2,7 +2,7 @@
 use Rattle.std.proofs.Common.{◌≡◌, ℕ, zero, suc, ◌+◌, ◌-◌, ◌*◌, ◌/◌, ◌^◌, ◌<◌, ◌≤◌, Bool, cond, List, [], ◌∷◌, length, refl, sym, ap, ◌∙◌, arith, bit_xor}
 use Rattle.std.proofs.lemmas.Nat.{shr_le, shr-shr, pow_pos}
 use Rattle.chip_core.specs.Bits.{digit, number_from, binary}
-use Rattle.chip_core.proofs.Numbers.{number_from-front}
+use Rattle.chip_core.proofs.Numerals.{number_from-front}
 use Rattle.long_code.specs.LongCode.{IsState, after, before, period}
 use Rattle.chip_core.proofs.Digits.{number-binary}
 use Rattle.long_code.proofs.After.{stepped, after_lt, after-after, after_one, after_none}

@@ -1,7 +1,7 @@
 -- Numbers and their digits: the low ones alone, and inversions.
 use Rattle.std.proofs.Common.{◌≡◌, ℕ, zero, suc, ◌+◌, ◌*◌, ◌%◌, ◌^◌, Bool, true, false, not, List, [], ◌∷◌, length, map, replicate, sym, ap, ◌∙◌, arith}
 use Rattle.chip_core.specs.Bits.{number, number_from, binary}
-use Rattle.chip_core.proofs.Numbers.{binary-number_from}
+use Rattle.chip_core.proofs.Numerals.{binary-number_from}
 use Rattle.chip_core.proofs.Digits.{binary-low}
 
 -- only the low w bits count

@@ -6,7 +6,7 @@ use Rattle.std.proofs.Math.Pow.{pow_mono}
 use mathlib.Core.Bool.{beq}
 use Rattle.chip_core.specs.Bits.{xor, number, binary, bit_of}
 use Rattle.chip_core.proofs.BitLists.{add}
-use Rattle.chip_core.proofs.Numbers.{binary-front}
+use Rattle.chip_core.proofs.Numerals.{binary-front}
 use Rattle.chip_core.proofs.Places.{length-map-places}
 use Rattle.chip_core.specs.Polynomial.{plus_at_front, remainder}
 use Rattle.quality_bits.specs.Quality.{Generator, below_of, check_bits}

@@ -3,7 +3,7 @@ use Rattle.std.proofs.Common.{◌≡◌, ◌≢◌, ℕ, zero, suc, ◌+◌, ◌
 use Rattle.std.specs.List.{flat_map, range_with_len}
 use Rattle.std.proofs.lemmas.List.{get_or-set_same, get_or-set_other, length-set, nil_from_length}
 use Rattle.chip_core.proofs.Places.{places_is}
-use Rattle.chip_core.proofs.Numbers.{digit_le}
+use Rattle.chip_core.proofs.Numerals.{digit_le}
 use Rattle.long_code.specs.LongCode.{after, before}
 use Rattle.symbol_path.specs.Scrambling.{group_scrambling, power_start, power_place, power_places}
 

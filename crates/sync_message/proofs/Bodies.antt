@@ -4,7 +4,7 @@ use Rattle.std.proofs.lemmas.List.{take_at}
 use Rattle.chip_core.specs.Bits.{number, binary}
 use Rattle.chip_core.specs.Fields.{field, spelled, FieldsFit}
 use Rattle.chip_core.specs.declared.field.Field.{Field}
-use Rattle.chip_core.proofs.Numbers.{number-binary}
+use Rattle.chip_core.proofs.Digits.{number-binary}
 use Rattle.chip_core.proofs.FieldLists.{length-binary, spelled-append, spelled_injective}
 use Rattle.chip_core.specs.declared.check_form.CheckForm.{CheckForm}
 use Rattle.quality_bits.specs.Capsules.{octets, FillsCapsule, capsule}

@@ -1,7 +1,7 @@
 use Rattle.std.proofs.Common.{◌≡◌, ◌+◌, ◌-◌, ◌*◌, ◌<◌, ◌^◌, Some, sym, ap, ◌∙◌, arith}
 use Rattle.std.specs.List.{slice_get}
 use Rattle.chip_core.specs.Bits.{digit}
-use Rattle.chip_core.proofs.Numbers.{read_more, digit_below, bool_byte-digit}
+use Rattle.chip_core.proofs.Numerals.{read_more, digit_below, bool_byte-digit}
 use Rattle.quality_bits.proofs.checking.number_from.Goals as goal
 
 pub loop-i-preserved : goal.loop-i-preserved

@@ -1,5 +1,5 @@
 use Rattle.std.proofs.Common.{◌+◌, arith}
-use Rattle.chip_core.proofs.Numbers.{digit_fits}
+use Rattle.chip_core.proofs.Numerals.{digit_fits}
 use Rattle.symbol_path.proofs.Reversal.{reversed_more, reversed_all}
 use Rattle.symbol_path.proofs.order.reversed.Goals as goal
 

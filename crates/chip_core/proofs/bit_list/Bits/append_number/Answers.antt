@@ -1,6 +1,6 @@
 use Rattle.std.proofs.Common.{append_assoc, arith}
 use Rattle.std.proofs.lemmas.Grind.{common_steps}
-use Rattle.chip_core.proofs.Numbers.{binary_more}
+use Rattle.chip_core.proofs.Numerals.{binary_more}
 use Rattle.chip_core.proofs.bit_list.Bits.append_number.Goals as goal
 
 pub loop-k-preserved : goal.loop-k-preserved

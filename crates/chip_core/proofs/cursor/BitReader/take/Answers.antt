@@ -2,7 +2,7 @@ use Rattle.std.proofs.Common.{◌≡◌, ◌≤◌, ◌+◌, ◌++◌, ap, sym, 
 use Rattle.std.proofs.lemmas.List.{drop-drop}
 use Rattle.chip_core.specs.Bits.{number, binary}
 use Rattle.std.specs.List.{slice_get}
-use Rattle.chip_core.proofs.Numbers.{read_spelled, read_more, digit_below, bool_byte-digit}
+use Rattle.chip_core.proofs.Numerals.{read_spelled, read_more, digit_below, bool_byte-digit}
 use Rattle.chip_core.proofs.cursor.BitReader.take.Goals as goal
 
 pub loop-k-preserved : goal.loop-k-preserved

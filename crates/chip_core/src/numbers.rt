@@ -1,0 +1,81 @@
+//! A list of numbers that needs no memory of its own.
+
+ghost use Rattle.std.specs.Prelude.{◌≡◌, ◌<◌, ◌≤◌, List, [], ◌∷◌, ◌++◌, length, slice_get, Some, IsOk, OnOk, OnErr, ◌↔◌, IsTrue};
+
+use crate::bit_list::Full;
+use std::marker::Model;
+
+/// A list of at most 128 numbers: channels, pilots, or the other lists that a message of 148 octets has room for.
+///
+/// A copy is 516 bytes. Contracts see the list.
+#[derive(Clone, Copy, PartialEq, Eq, Debug)]
+pub struct Numbers {
+    places: [u32; 128],
+    count: u8,
+}
+
+impl Model for Numbers {
+    ghost use Rattle.std.specs.Prelude.{List, ℕ, length, take};
+
+    ghost Value = { List ℕ };
+
+    ghost use Rattle.chip_core.specs.Listed.{listed, IsListed};
+    ghost use Rattle.chip_core.specs.Listing.{listed-held};
+
+    ghost view = { λ n. take n.count n.places };
+
+    ghost invariant = { λ n. IsListed n.places n.count };
+
+    ghost inverse = { λ l. record { places = listed l; count = length l } };
+
+    ghost inverse_ok = { λ n h. listed-held n h };
+}
+
+impl Numbers {
+    /// The list of no numbers.
+    pub fn empty() -> Numbers
+        ensures { result ≡ [] }
+    {
+        Numbers {
+            places: [0; 128],
+            count: 0,
+        }
+    }
+
+    /// How many numbers the list has.
+    pub fn len(&self) -> u8
+        ensures value { result ≡ length self.now }
+        ensures most { result ≤ 128 }
+    {
+        self.count
+    }
+
+    /// Whether the list has no numbers.
+    pub fn is_empty(&self) -> bool
+        ensures { IsTrue result ↔ (self.now ≡ []) }
+    {
+        self.count == 0
+    }
+
+    /// Number `i`, counted from 0.
+    pub fn get(&self, i: u8) -> u32
+        requires { i < length self.now }
+        ensures { slice_get self.now i ≡ Some result }
+    {
+        self.places[i as usize]
+    }
+
+    /// Adds a number at the end; `Full` exactly where the list has 128, and it is unchanged then.
+    pub fn push(&mut self, n: u32) -> Result<(), Full>
+        ensures room { IsOk result ↔ (length self.old < 128) }
+        ensures ok { OnOk result (self.new ≡ self.old ++ n ∷ []) }
+        ensures err { OnErr result (self.new ≡ self.old) }
+    {
+        if self.len() == 128 {
+            return Err(Full);
+        }
+        self.places[self.count as usize] = n;
+        self.count += 1;
+        Ok(())
+    }
+}
