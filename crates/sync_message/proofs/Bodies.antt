@@ -1,5 +1,5 @@
 -- The fields and the bodies that they spell.
-use Rattle.std.proofs.Common.{◌≡◌, ℕ, ◌+◌, ◌-◌, ◌*◌, ◌/◌, ◌%◌, ◌^◌, ◌<◌, ◌≤◌, Bool, true, false, List, [], ◌∷◌, ◌++◌, length, get_or, take, map, refl, sym, ap, subst, ◌∙◌, arith, append_assoc, length-append, Option, Some, None, IsNone, IsSome, ◌⊎◌, inl, inr}
+use Rattle.std.proofs.Common.{◌≡◌, ℕ, ◌+◌, ◌*◌, ◌/◌, ◌%◌, ◌^◌, ◌<◌, ◌≤◌, Bool, true, false, List, [], ◌∷◌, ◌++◌, length, get_or, take, refl, sym, ap, subst, ◌∙◌, arith, append_assoc, length-append, Option, Some, None, IsNone, IsSome, ◌⊎◌, inl, inr}
 use Rattle.std.proofs.lemmas.List.{take_at}
 use Rattle.chip_core.specs.Bits.{number, binary}
 use Rattle.chip_core.specs.Fields.{field, spelled, FieldsFit}
@@ -10,7 +10,7 @@ use Rattle.chip_core.specs.declared.check_form.CheckForm.{CheckForm}
 use Rattle.quality_bits.specs.Capsules.{octets, FillsCapsule, capsule}
 use Rattle.quality_bits.proofs.Wholes.{inner, inner-capsule}
 use Rattle.quality_bits.specs.declared.kind.Kind.TheVariants.{M30}
-use Rattle.sync_message.specs.SyncMessage.{fixed_fields, freq_fields, fields, sync_body, sync_capsule, HasRest, IsSyncMessage}
+use Rattle.sync_message.specs.SyncMessage.{fixed_fields, freq_fields, sync_body, sync_capsule, HasRest, IsSyncMessage}
 use Rattle.sync_message.specs.Tails.{IsTail}
 use Rattle.sync_message.specs.declared.fields.SyncFields.{SyncFields}
 

@@ -1,5 +1,5 @@
 -- Worked values.
-use Rattle.std.specs.Prelude.{◌≡◌, refl, ◌^◌, Bool, false, List, [], ◌∷◌, length, take, Some, None}
+use Rattle.std.specs.Prelude.{◌≡◌, refl, ◌^◌, false, [], ◌∷◌, length, take, Some, None}
 use Rattle.chip_core.specs.Bits.{number, binary, places}
 use Rattle.chip_core.specs.declared.check_form.CheckForm.TheVariants.{Plain}
 use Rattle.quality_bits.specs.Capsules.{capsule}

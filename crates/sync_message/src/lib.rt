@@ -8,6 +8,8 @@ mod fields;
 mod framer;
 pub mod laws;
 mod message;
+#[cfg(test)]
+mod tests;
 
 pub use fault::MessageFault;
 pub use fields::SyncFields;

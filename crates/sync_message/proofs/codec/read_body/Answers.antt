@@ -1,4 +1,4 @@
-use Rattle.std.proofs.Common.{◌≡◌, ◌≤◌, ◌++◌, length, take, List, Bool, Ok, sym, ap, ◌∙◌}
+use Rattle.std.proofs.Common.{◌≡◌, ◌++◌, take, List, Bool, Ok, sym, ap, ◌∙◌}
 use Rattle.chip_core.specs.Bits.{number}
 use Rattle.chip_core.specs.Fields.{spelled}
 use Rattle.sync_message.specs.SyncMessage.{fixed_fields, freq_fields, sync_body, IsSyncMessage}

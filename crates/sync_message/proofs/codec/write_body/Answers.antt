@@ -2,7 +2,7 @@ use Rattle.std.proofs.Common.{◌≡◌, ◌+◌, ◌++◌, length, List, Bool, 
 use Rattle.chip_core.specs.Fields.{spelled}
 use Rattle.chip_core.specs.declared.field.Field.{Field}
 use Rattle.sync_message.specs.SyncMessage.{fixed_fields, freq_fields}
-use Rattle.sync_message.proofs.Bodies.{length-fixed, length-body, sync_body-parts, tail}
+use Rattle.sync_message.proofs.Bodies.{length-fixed, length-body, sync_body-parts}
 use Rattle.sync_message.proofs.codec.write_body.Goals as goal
 
 pub append_fields-requires-clause-room : goal.append_fields-requires-clause-room

@@ -1,4 +1,4 @@
-use Rattle.std.proofs.Common.{◌≡◌, Bool, true, false, cond, List, [], Option, Some, sym, ap, ◌∙◌}
+use Rattle.std.proofs.Common.{◌≡◌, Bool, cond, List, [], Option, Some, ap, ◌∙◌}
 use Rattle.sync_message.proofs.Frames.{frame_goes_on, frame_gives, started, gone_on}
 use Rattle.sync_message.specs.declared.framer.CapsuleFramer.TheInside.{Inside}
 use Rattle.sync_message.proofs.framer.CapsuleFramer.push.Goals as goal

@@ -1,5 +1,4 @@
-use Rattle.std.proofs.Common.{◌≡◌, refl, sym, ap, subst, ◌∙◌, Ok, Bool, List}
-use Rattle.chip_core.specs.declared.check_form.CheckForm.{CheckForm}
+use Rattle.std.proofs.Common.{refl, sym, ap, subst, ◌∙◌, Ok}
 use Rattle.quality_bits.specs.Capsules.{capsule, IsWhole}
 use Rattle.quality_bits.specs.Kinds.{IsChecked}
 use Rattle.quality_bits.specs.declared.kind.Kind.TheVariants.{M30}
