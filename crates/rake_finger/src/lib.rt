@@ -20,3 +20,6 @@ pub use finger::{Finger, Fingers};
 pub use form::Form;
 pub use ring::SampleRing;
 pub use values::soft;
+
+#[cfg(test)]
+mod tests;
