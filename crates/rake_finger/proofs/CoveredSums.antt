@@ -2,8 +2,6 @@
 use Rattle.std.proofs.Common.{◌≡◌, ℕ, zero, suc, ◌+◌, ◌-◌, ◌*◌, ◌%◌, ◌<◌, ◌≤◌, Bool, true, false, List, [], ◌∷◌, ◌++◌, length, get_or, take, drop, refl, sym, ap, ◌∙◌, arith, ℤ, pos, ◌+ℤ◌, ◌-ℤ◌, ◌*ℤ◌, Some}
 use Rattle.std.proofs.lemmas.Int.{ints}
 use Rattle.std.proofs.lemmas.List.{take_more, length-take-le, length-drop, get_or-drop}
-use Rattle.std.proofs.lemmas.Option.{get_or_from_slice_get, slice_get_within}
-use Rattle.std.specs.List.{slice_get}
 use mathlib.Core.Bool.{not, beq}
 use Rattle.chip_core.specs.Bits.{sign}
 use Rattle.chip_core.specs.Complex.{origin, plus, times, conjugate, point, sum_of, of_sample}
@@ -67,15 +65,14 @@ covered_is s false false false = same_parts _ _ _ _ (omega (arith, ints)) (omega
 
 -- one turn of the loop
 pub covered_step : (row phase place k : ℕ) (samples : List Sample) (sample : Sample) (sum product : Pair) (i q : ℤ) →
-    slice_get samples (place + k) ≡ Some sample →
+    place + k < length samples → get_or samples (place + k) sample ≡ sample →
     product ≡ times (row_sign row k) (times (of_sample sample) (conjugate (code_point (phase + place + k)))) →
     sum ≡ sum_of (covered_from row 0 (despread (phase + place) (take k (drop place samples)))) →
     i ≡ sum.i +ℤ product.i → q ≡ sum.q +ℤ product.q →
     ◌≡◌ {A = Pair} record { i = i; q = q } (sum_of (covered_from row 0 (despread (phase + place) (take (k + 1) (drop place samples)))))
-covered_step row phase place k samples sample sum product i q got is before ei eq =
-    let within : place + k < length samples = slice_get_within samples (place + k) sample got in
+covered_step row phase place k samples sample sum product i q within got is before ei eq =
     let inside : k < length (drop place samples) = omega (arith, length-drop place samples) in
-    let read : get_or (drop place samples) k sample ≡ sample = get_or-drop place samples k sample ∙ get_or_from_slice_get samples (place + k) sample sample got in
+    let read : get_or (drop place samples) k sample ≡ sample = get_or-drop place samples k sample ∙ got in
     let more = covered_sum-more row (phase + place) (drop place samples) k sample inside in
     same_parts _ _ _ _ ei eq
     ∙ ap (λ (p : Pair). plus sum p) is

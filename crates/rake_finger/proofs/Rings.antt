@@ -1,11 +1,14 @@
 -- Places in a ring.
-use Rattle.std.proofs.Common.{◌≡◌, ◌≢◌, ℕ, zero, suc, ◌+◌, ◌-◌, ◌*◌, ◌/◌, ◌%◌, ◌<◌, ◌≤◌, List, [], ◌∷◌, ◌++◌, length, get_or, refl, sym, ap, ◌∙◌, arith, length-append, ◌⊎◌, inl, inr}
+use Rattle.std.proofs.Common.{◌≡◌, ◌≢◌, ℕ, zero, suc, ◌+◌, ◌-◌, ◌*◌, ◌/◌, ◌%◌, ◌<◌, ◌≤◌, List, [], ◌∷◌, ◌++◌, length, get_or, refl, sym, ap, ◌∙◌, arith, length-append, ◌⊎◌, inl, inr, Some}
 use Rattle.std.proofs.Math.ListN.{set}
 use Rattle.std.proofs.lemmas.Bool.{cases_lt, cases_order}
 use Rattle.std.proofs.lemmas.Nat.{div-add-mod', mul-le}
 use Rattle.std.proofs.lemmas.List.{get_or-set_same, get_or-set_other, get_or_append_left, get_or_push}
 use Rattle.chip_core.specs.declared.sample.Sample.{Sample}
-use Rattle.rake_finger.specs.Held.{HoldsLast}
+use Rattle.std.specs.List.{slice_get}
+use Rattle.std.proofs.Math.Nat.{mod-add-mod}
+use Rattle.std.proofs.lemmas.Option.{get_or_from_slice_get}
+use Rattle.rake_finger.specs.Held.{Held, HoldsLast}
 
 -- two places that share a cell are a whole room apart
 pub apart : (i j room : ℕ) → i < j → j < i + room → i % room ≡ j % room → ⊥
@@ -40,3 +43,17 @@ HoldsLast-more cells samples x room taken room' some long same h =
       taken = omega (arith, more, t);
       last = λ i d lt near. rw (same, t) (held_more cells samples x room some long h.last i d (omega (arith, lt, more)) (omega (arith, near, more, same)));
     }
+
+-- what stands in the cell of a place that the ring still holds
+pub held_sample : (ring : Held) (samples : List Sample) (place cell : ℕ) (x : Sample) → HoldsLast ring samples → place < ring.taken → ring.taken ≤ place + ring.room →
+    cell ≡ place % ring.room → slice_get ring.cells cell ≡ Some x → get_or samples place x ≡ x
+held_sample ring samples place cell x h taken kept at got =
+    let t = h.taken in
+    sym (h.last place x (omega (arith, taken, t)) (omega (arith, kept, t)))
+    ∙ ap (λ (n : ℕ). get_or ring.cells n x) (sym at)
+    ∙ get_or_from_slice_get ring.cells cell x x got
+
+pub next_cell : (place k cell next room : ℕ) → cell ≡ (place + k) % room → next ≡ (cell + 1) % room → next ≡ (place + (k + 1)) % room
+next_cell place k cell next room at is =
+    let sum : place + k + 1 ≡ place + (k + 1) = omega arith in
+    is ∙ ap (λ (n : ℕ). (n + 1) % room) at ∙ mod-add-mod (place + k) room 1 ∙ ap (λ (n : ℕ). n % room) sum

@@ -1,6 +1,6 @@
 //! The last samples.
 
-ghost use Rattle.std.specs.Prelude.{◌≡◌, ◌<◌, ◌≤◌, ◌+◌, ◌^◌, List, [], ◌∷◌, ◌++◌, length, slice_get, Some, IfOk};
+ghost use Rattle.std.specs.Prelude.{◌≡◌, ◌<◌, ◌≤◌, ◌+◌, ◌%◌, ◌^◌, List, [], ◌∷◌, ◌++◌, length, slice_get, Some, IfOk};
 ghost use Rattle.chip_core.specs.declared.sample.Sample.{Sample};
 ghost use Rattle.rake_finger.specs.Held.{HoldsLast};
 
@@ -73,12 +73,29 @@ impl SampleRing {
         }
     }
 
-    /// The sample at a place, counted from the first that the ring has taken, where it still holds it.
-    pub(crate) fn get(&self, place: u64) -> Sample
-        requires held { self.now.taken ≤ place + self.now.room }
-        requires taken { place < self.now.taken }
-        ensures { (samples : List Sample) → HoldsLast self.now samples → slice_get samples place ≡ Some result }
+    /// The cell of a place, counted from the first sample that the ring has taken.
+    pub(crate) fn cell_of(&self, place: u64) -> usize
+        ensures value { result ≡ place % self.now.room }
+        ensures below { result < self.now.room }
     {
-        self.cells[(place % self.cells.len() as u64) as usize]
+        (place % self.cells.len() as u64) as usize
+    }
+
+    /// The cell behind a cell.
+    pub(crate) fn cell_behind(&self, cell: usize) -> usize
+        requires { cell < self.now.room }
+        ensures value { result ≡ (cell + 1) % self.now.room }
+        ensures below { result < self.now.room }
+    {
+        let last = self.cells.len() - 1;
+        if cell < last { cell + 1 } else { 0 }
+    }
+
+    /// The sample in a cell.
+    pub(crate) fn get(&self, cell: usize) -> Sample
+        requires { cell < self.now.room }
+        ensures { slice_get self.now.cells cell ≡ Some result }
+    {
+        self.cells[cell]
     }
 }

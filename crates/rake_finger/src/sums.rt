@@ -67,14 +67,16 @@ pub(crate) fn covered_sum(
 {
     let _taken = ring.taken();
     let first = u64::from(phase.get()) + place;
+    let mut cell = ring.cell_of(place);
     let mut sum = Pair { i: 0, q: 0 };
     for k in 0..chips {
-        let sample = ring.get(place + u64::from(k));
+        let sample = ring.get(cell);
         let code = codes.chip(((first + u64::from(k)) % 32768) as u16);
         let row_chip = walsh::chip(row, (k % 64) as u8);
         let product = covered(sample, code, row_chip);
         sum.i += product.i;
         sum.q += product.q;
+        cell = ring.cell_behind(cell);
     }
     sum
 }

@@ -1,27 +1,34 @@
-use Rattle.std.proofs.Common.{◌≡◌, ◌+◌, ◌%◌, ℕ, Bool, Some, ap, ◌∙◌, arith, pos}
-use Rattle.std.specs.List.{slice_get}
+use Rattle.std.proofs.Common.{◌≡◌, ◌+◌, ◌*◌, ◌%◌, ℕ, Bool, ap, ◌∙◌, arith, pos}
 use Rattle.std.proofs.lemmas.Int.{ints}
 use Rattle.chip_core.specs.Bits.{sign}
 use Rattle.chip_core.specs.Complex.{times, conjugate, point, of_sample}
 use Rattle.short_code.specs.ShortCode.{pilot_chip}
 use Rattle.rake_finger.proofs.CoveredSums.{row_sign, covered_step}
+use Rattle.rake_finger.proofs.Rings.{held_sample, next_cell}
 use Rattle.rake_finger.proofs.sums.covered_sum.Goals as goal
 
 pub loop-k-preserved : goal.loop-k-preserved
 loop-k-preserved c =
     let inv = c.loop-k.invariant in
+    let ring = c.args.ring.now in
     let row = c.args.row in
     let k = c.loop-k.k in
+    let place = c.args.place in
     let sample = c.get-sample.result in
-    let at : c.from-in-loop-k.result ≡ k = omega arith in
-    let phase : c.from.result + c.args.place + c.from-in-loop-k-2.result ≡ c.args.phase + c.args.place + k = omega arith in
-    let code : c.chip-code.result ≡ pilot_chip ((c.args.phase + c.args.place + k) % 32768) = c.chip-code.ensures ∙ ap (λ (n : ℕ). pilot_chip (n % 32768)) phase in
-    let is = c.covered-product.ensures.value
+    let phase : c.from.result + place + c.from-in-loop-k.result ≡ c.args.phase + place + k = omega arith in
+    let code : c.chip-code.result ≡ pilot_chip ((c.args.phase + place + k) % 32768) = c.chip-code.ensures ∙ ap (λ (n : ℕ). pilot_chip (n % 32768)) phase in
+    let is =
+    c.covered-product.ensures.value
     ∙ ap (λ (chip : Bool). times (record { i = sign chip; q = pos 0 }) (times (of_sample sample) (conjugate (point c.chip-code.result)))) c.chip-row_chip.ensures
     ∙ ap (λ (chips : Bool × Bool). times (row_sign row k) (times (of_sample sample) (conjugate (point chips)))) code in
     record {
       value = λ samples held.
-          covered_step row c.args.phase c.args.place k samples sample c.loop-k.sum c.covered-product.result _ _ (rw at at (c.get-sample.ensures samples held)) is (inv.value samples held) (omega (arith, ints)) (omega (arith, ints));
+          let t = held.taken in
+          covered_step row c.args.phase place k samples sample c.loop-k.sum c.covered-product.result _ _ (omega (arith, t))
+          (held_sample ring samples (place + k) c.loop-k.cell sample held (omega arith) (omega arith) inv.cell c.get-sample.ensures)
+          is (inv.value samples held) (omega (arith, ints)) (omega (arith, ints));
+      cell = next_cell place k c.loop-k.cell c.cell_behind-cell.result ring.room inv.cell c.cell_behind-cell.ensures.value;
+      below = c.cell_behind-cell.ensures.below;
       i_bound = omega (arith, ints);
       q_bound = omega (arith, ints);
     }

@@ -1,4 +1,4 @@
-use Rattle.std.proofs.Common.{◌≡◌, ◌+◌, ◌*◌, ◌≤◌, List, take, drop}
+use Rattle.std.proofs.Common.{◌≡◌, ◌+◌, ◌*◌, ◌%◌, ◌<◌, ◌≤◌, List, take, drop}
 use Rattle.std.specs.Prelude.{unsigned_abs}
 use Rattle.chip_core.specs.Complex.{sum_of}
 use Rattle.chip_core.specs.declared.sample.Sample.{Sample}
@@ -11,6 +11,8 @@ abbrev pub invariant-loop-k : goal.invariant-loop-k
 invariant-loop-k l = record {
   value : (samples : List Sample) → HoldsLast l.ring samples →
       l.sum ≡ sum_of (covered_from l.row 0 (despread (l.fn.phase + l.place) (take l.k (drop l.place samples))));
+  cell : l.cell ≡ (l.place + l.k) % l.ring.room;
+  below : l.cell < l.ring.room;
   i_bound : unsigned_abs l.sum.i ≤ 65536 * l.k;
   q_bound : unsigned_abs l.sum.q ≤ 65536 * l.k;
 }
