@@ -7,7 +7,11 @@
 
 mod correlation;
 pub mod laws;
+mod nearby;
+mod paths;
 mod sweeping;
 
 pub use correlation::energy_at;
+pub use nearby::near;
+pub use paths::Near;
 pub use sweeping::{Best, sweep};

@@ -18,7 +18,7 @@ pub struct Best {
 }
 
 /// The phase of a number, with the energy there.
-fn measured(samples: &[Sample], codes: &Codes, n: u16) -> Best
+pub(crate) fn measured(samples: &[Sample], codes: &Codes, n: u16) -> Best
     requires few { length samples.now ≤ 32768 }
     requires phase { n < 32768 }
     ensures phase { result.phase ≡ n }

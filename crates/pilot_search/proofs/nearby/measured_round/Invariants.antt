@@ -1,0 +1,5 @@
+use Rattle.pilot_search.specs.Ranked.{IsRound}
+use Rattle.pilot_search.proofs.nearby.measured_round.Given as goal
+
+abbrev pub invariant-loop-place : goal.invariant-loop-place
+invariant-loop-place l = IsRound l.samples l.fn.best.phase l.place l.round

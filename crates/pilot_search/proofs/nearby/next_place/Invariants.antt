@@ -1,0 +1,5 @@
+use Rattle.pilot_search.specs.Ranked.{IsNext}
+use Rattle.pilot_search.proofs.nearby.next_place.Given as goal
+
+abbrev pub invariant-loop-place : goal.invariant-loop-place
+invariant-loop-place l = IsNext l.round l.first l.second l.place l.next
