@@ -15,7 +15,9 @@ use Rattle.chip_core.specs.declared.check_form.CheckForm.TheVariants.{Plain, Com
 use Rattle.cdma_io.specs.declared.file_fault.FileFault.{FileFault}
 use Rattle.cdma_io.specs.declared.file_fault.FileFault.TheVariants.{Magic, Version, Flags, Count, Short}
 use Rattle.cdma_io.specs.declared.header.Header.{Header}
-use Rattle.cdma_io.specs.SampleFile.{IsLawfulHeader, Opens, Reading, flags_of, form_flag, form_of, header_due, header_spelling, magic, most_samples, opening}
+use Rattle.cdma_io.specs.declared.width.Width.{Width}
+use Rattle.cdma_io.specs.declared.width.Width.TheVariants.{Sixteen, Eight}
+use Rattle.cdma_io.specs.SampleFile.{IsLawfulHeader, Opens, Reading, flags_of, form_flag, form_of, header_due, header_spelling, is_version, magic, most_samples, opening, width_in, width_of}
 use Rattle.cdma_io.proofs.ByteNumbers.{AreBytes, AreBytes-drop, big_bytes-front}
 
 -- ---- the three numbers of a header
@@ -51,12 +53,31 @@ flags_few Plain Complemented = omega arith
 flags_few Complemented Plain = omega arith
 flags_few Complemented Complemented = omega arith
 
+-- the versions are 1 and 2
+is_version-between : (version : ℕ) → 1 ≤ version → version ≤ 2 → is_version version ≡ true
+is_version-between version least most = elim (eqb_tells version 1) [
+  | inl one ↦ cond-true _ _ _ one.0
+  | inr other ↦ cond-false _ _ _ other.0 ∙ eq-eqb version 2 (omega (arith, other.1))
+]
+
+between-is_version : (version : ℕ) → is_version version ≡ true → (1 ≤ version) × (version ≤ 2)
+between-is_version version known = elim (eqb_tells version 1) [
+  | inl one ↦ (omega (arith, one.1), omega (arith, one.1))
+  | inr other ↦
+      let two : version ≡ 2 = eqb-true version 2 (sym (cond-false _ _ _ other.0) ∙ known) in
+      (omega (arith, two), omega (arith, two))
+]
+
+most_samples-most : (width : Width) → most_samples width ≤ 67108864
+most_samples-most Sixteen = omega arith
+most_samples-most Eight = omega arith
+
 -- a lawful header is due where its numbers stand
 header_due-lawful : (header : Header) → IsLawfulHeader header → header_due header.version (flags_of header) header.count ≡ Ok header
 header_due-lawful header lawful =
-    let version : eqb header.version 1 ≡ true = eq-eqb header.version 1 lawful.version_is in
+    let version : is_version header.version ≡ true = is_version-between header.version lawful.version_least lawful.version_most in
     let flags : ltb (flags_of header) 4 ≡ true = lt-ltb (flags_of header) 4 (flags_few header.check30 header.check16) in
-    let count : leb header.count most_samples ≡ true = le-leb header.count most_samples lawful.count_most in
+    let count : leb header.count (most_samples (width_of header)) ≡ true = le-leb header.count (most_samples (width_of header)) lawful.count_most in
     let make : CheckForm → CheckForm → Result Header FileFault =
     λ a b. Ok (record { version = header.version; check30 = a; check16 = b; count = header.count }) in
     cond-true _ _ _ version ∙ cond-true _ _ _ flags ∙ cond-true _ _ _ count
@@ -72,9 +93,9 @@ record IsDue (header : Header) (version flags count : ℕ) : Type 0 where
 
 header_due-ok : (version flags count : ℕ) (header : Header) → header_due version flags count ≡ Ok header → IsDue header version flags count
 header_due-ok version flags count header h =
-    let a = then_ok (eqb version 1) _ Version header h in
+    let a = then_ok (is_version version) _ Version header h in
     let b = then_ok (ltb flags 4) _ Flags header a.1 in
-    let c = then_ok (leb count most_samples) _ Count header b.1 in
+    let c = then_ok (leb count (most_samples (width_in version))) _ Count header b.1 in
     let few : flags < 4 = ltb-true flags 4 b.0 in
     let made : Header = record {
       version = version;
@@ -84,8 +105,9 @@ header_due-ok version flags count header h =
     } in
     let same : made ≡ header = cc in
     let law : IsLawfulHeader made = record {
-      version_is = eqb-true version 1 a.0;
-      count_most = leb-true count most_samples c.0;
+      version_least = (between-is_version version a.0).0;
+      version_most = (between-is_version version a.0).1;
+      count_most = leb-true count (most_samples (width_in version)) c.0;
     } in
     let back : flags_of made ≡ flags = omega (arith, flag_of_form flags, flag_of_form (flags / 2)) in
     let due : IsDue made version flags count = record { lawful = law; version_is = refl; flags_are = back; count_is = refl } in
@@ -106,11 +128,11 @@ opening-spelled header rest lawful =
     le-leb 16 (length bytes) (omega (arith, length-append (header_spelling header) rest, length-header_spelling header)) in
     let flags = flags_of header in
     let version_read : big_number 2 (drop 4 bytes) ≡ header.version =
-    big_number-reads_back 2 header.version (big_bytes 2 flags ++ (big_bytes 8 header.count ++ rest)) (omega (arith, lawful.version_is)) in
+    big_number-reads_back 2 header.version (big_bytes 2 flags ++ (big_bytes 8 header.count ++ rest)) (omega (arith, lawful.version_most)) in
     let flags_read : big_number 2 (drop 6 bytes) ≡ flags =
     big_number-reads_back 2 flags (big_bytes 8 header.count ++ rest) (omega (arith, flags_few header.check30 header.check16)) in
     let count_read : big_number 8 (drop 8 bytes) ≡ header.count =
-    big_number-reads_back 8 header.count rest (omega (arith, lawful.count_most)) in
+    big_number-reads_back 8 header.count rest (omega (arith, lawful.count_most, most_samples-most (width_of header))) in
     cond-true _ _ _ long
     ∙ ap (λ (n : ℕ). header_due n (big_number 2 (drop 6 bytes)) (big_number 8 (drop 8 bytes))) version_read
     ∙ ap (λ (n : ℕ). header_due header.version n (big_number 8 (drop 8 bytes))) flags_read
@@ -180,29 +202,25 @@ opening-short bytes few = cond-false _ _ _ (lt-leb 16 (length bytes) few)
 
 -- ---- what a parser of 16 bytes answers
 
-due_version : (version flags count : ℕ) → version ≢ 1 → header_due version flags count ≡ Err Version
-due_version version flags count other = elim (eqb_tells version 1) [
-  | inl one ↦ absurd (other one.1)
-  | inr differs ↦ cond-false _ _ _ differs.0
-]
+due_version : (version flags count : ℕ) → is_version version ≡ false → header_due version flags count ≡ Err Version
+due_version version flags count other = cond-false _ _ _ other
 
-due_flags : (version flags count : ℕ) → version ≡ 1 → 4 ≤ flags → header_due version flags count ≡ Err Flags
-due_flags version flags count one many =
-    cond-true _ _ _ (eq-eqb version 1 one) ∙ cond-false _ _ _ (le-ltb flags 4 many)
+due_flags : (version flags count : ℕ) → is_version version ≡ true → 4 ≤ flags → header_due version flags count ≡ Err Flags
+due_flags version flags count known many = cond-true _ _ _ known ∙ cond-false _ _ _ (le-ltb flags 4 many)
 
-due_count : (version flags count : ℕ) → version ≡ 1 → flags < 4 → most_samples < count → header_due version flags count ≡ Err Count
-due_count version flags count one few many =
-    cond-true _ _ _ (eq-eqb version 1 one) ∙ cond-true _ _ _ (lt-ltb flags 4 few) ∙ cond-false _ _ _ (lt-leb count most_samples many)
+due_count : (version flags count : ℕ) → is_version version ≡ true → flags < 4 → most_samples (width_in version) < count → header_due version flags count ≡ Err Count
+due_count version flags count known few many =
+    cond-true _ _ _ known ∙ cond-true _ _ _ (lt-ltb flags 4 few) ∙ cond-false _ _ _ (lt-leb count (most_samples (width_in version)) many)
 
-due_header : (version flags count : ℕ) → version ≡ 1 → flags < 4 → count ≤ most_samples →
+due_header : (version flags count : ℕ) → is_version version ≡ true → flags < 4 → count ≤ most_samples (width_in version) →
     header_due version flags count ≡ Ok (record {
       version = version;
       check30 = form_of (eqb (flags % 2) 1);
       check16 = form_of (eqb (flags / 2 % 2) 1);
       count = count;
     })
-due_header version flags count one few fits =
-    cond-true _ _ _ (eq-eqb version 1 one) ∙ cond-true _ _ _ (lt-ltb flags 4 few) ∙ cond-true _ _ _ (le-leb count most_samples fits)
+due_header version flags count known few fits =
+    cond-true _ _ _ known ∙ cond-true _ _ _ (lt-ltb flags 4 few) ∙ cond-true _ _ _ (le-leb count (most_samples (width_in version)) fits)
 
 -- the number in the first bytes of what a slice has from a place on
 abbrev number_at : ℕ → ℕ → List ℕ → ℕ
@@ -228,42 +246,42 @@ parsed_magic bytes long begins =
     sym (cond-true _ _ _ (le-leb 16 (length bytes) (omega arith)) ∙ cond-false _ _ _ begins)
 
 pub parsed_version : (bytes : List ℕ) (version : ℕ) → length bytes ≡ 16 → starts_with eqb bytes magic ≡ true →
-    version ≡ number_at 4 2 bytes → version ≢ 1 → Err Version ≡ opening bytes
+    version ≡ number_at 4 2 bytes → is_version version ≡ false → Err Version ≡ opening bytes
 parsed_version bytes version long begins version_is other =
     sym (opening-due bytes version (number_at 6 2 bytes) (number_at 8 8 bytes) long begins version_is refl refl ∙ due_version version (number_at 6 2 bytes) (number_at 8 8 bytes) other)
 
 pub parsed_flags : (bytes : List ℕ) (version flags : ℕ) → length bytes ≡ 16 → starts_with eqb bytes magic ≡ true →
-    version ≡ number_at 4 2 bytes → version ≡ 1 → flags ≡ number_at 6 2 bytes → 4 ≤ flags → Err Flags ≡ opening bytes
-parsed_flags bytes version flags long begins version_is one flags_are many =
-    sym (opening-due bytes version flags _ long begins version_is flags_are refl ∙ due_flags version flags _ one many)
+    version ≡ number_at 4 2 bytes → is_version version ≡ true → flags ≡ number_at 6 2 bytes → 4 ≤ flags → Err Flags ≡ opening bytes
+parsed_flags bytes version flags long begins version_is known flags_are many =
+    sym (opening-due bytes version flags _ long begins version_is flags_are refl ∙ due_flags version flags _ known many)
 
 -- the numbers of a header that was parsed up to its count
 pub record AreParsed (bytes : List ℕ) (version flags count : ℕ) : Type 0 where
   pub long : length bytes ≡ 16
   pub begins : starts_with eqb bytes magic ≡ true
   pub version_is : version ≡ number_at 4 2 bytes
-  pub one : version ≡ 1
+  pub known : is_version version ≡ true
   pub flags_are : flags ≡ number_at 6 2 bytes
   pub few : flags < 4
   pub count_is : count ≡ number_at 8 8 bytes
 
-pub parsed_count : (bytes : List ℕ) (version flags count : ℕ) → AreParsed bytes version flags count → most_samples < count →
+pub parsed_count : (bytes : List ℕ) (version flags count : ℕ) → AreParsed bytes version flags count → (limit : ℕ) → limit ≡ most_samples (width_in version) → limit < count →
     Err Count ≡ opening bytes
-parsed_count bytes version flags count p many =
+parsed_count bytes version flags count p limit limit_is many =
     sym (
     opening-due bytes version flags count p.long p.begins p.version_is p.flags_are p.count_is
-    ∙ due_count version flags count p.one p.few many
+    ∙ due_count version flags count p.known p.few (omega (arith, limit_is, many))
     )
 
 pub parsed_header : (bytes : List ℕ) (version flags count : ℕ) (check30 check16 : CheckForm) → AreParsed bytes version flags count →
-    count ≤ most_samples → check30 ≡ form_of (eqb (flags % 2) 1) → check16 ≡ form_of (eqb (flags / 2 % 2) 1) →
+    (limit : ℕ) → limit ≡ most_samples (width_in version) → count ≤ limit → check30 ≡ form_of (eqb (flags % 2) 1) → check16 ≡ form_of (eqb (flags / 2 % 2) 1) →
     Ok (record { version = version; check30 = check30; check16 = check16; count = count }) ≡ opening bytes
-parsed_header bytes version flags count check30 check16 p fits first second =
+parsed_header bytes version flags count check30 check16 p limit limit_is fits first second =
     let make : CheckForm → CheckForm → Result Header FileFault =
     λ a b. Ok (record { version = version; check30 = a; check16 = b; count = count }) in
     sym (
     opening-due bytes version flags count p.long p.begins p.version_is p.flags_are p.count_is
-    ∙ due_header version flags count p.one p.few fits
+    ∙ due_header version flags count p.known p.few (omega (arith, limit_is, fits))
     ∙ ap (λ (a : CheckForm). make a (form_of (eqb (flags / 2 % 2) 1))) (sym first)
     ∙ ap (make check30) (sym second)
     )

@@ -1,161 +1,230 @@
 -- Lemmas on the bytes of samples.
-use Rattle.std.proofs.Common.{◌≡◌, ℕ, ◌+◌, ◌-◌, ◌*◌, ◌^◌, ◌<◌, ◌≤◌, ℤ, List, [], ◌∷◌, ◌++◌, length, take, drop, refl, sym, ap, ◌∙◌, subst, arith, set, append-nil, append_assoc, length-append, length-drop, take-append-drop, drop_at, All}
+use Rattle.std.proofs.Common.{◌≡◌, ℕ, ◌+◌, ◌-◌, ◌*◌, ◌^◌, ◌<◌, ◌≤◌, ℤ, List, [], ◌∷◌, ◌++◌, length, get_or, take, drop, refl, sym, ap, ◌∙◌, subst, arith, set, append-nil, append_assoc, length-append, length-drop, take-append-drop, drop_at, All}
 use Rattle.std.proofs.lemmas.List.{length-take-le, take_all, take_more_set}
 use Rattle.std.proofs.lemmas.List.Concat.{flat_map-append}
 use lib.Seq.{take-add}
 use Rattle.std.proofs.lemmas.List.Elements.{All-head, All-push, All-tail}
 use Rattle.std.proofs.lemmas.Int.{of_z-to_z, to_z-of_z}
 use Rattle.std.proofs.Math.Facts.{Fits-of_z}
-use Rattle.std.specs.Int.{w16, cast_signed, cast_unsigned}
+use Rattle.std.specs.Int.{w8, w16, cast_signed, cast_unsigned}
+use Rattle.std.specs.Prelude.{FitsSigned}
+use mir.Val.{bits}
+use Rattle.std.proofs.Math.Nat.{mul-le-mul_left}
 use Rattle.std.specs.List.{flat_map}
 use Rattle.byteorder.specs.Endian.{big_bytes, big_number}
-use Rattle.byteorder.specs.Numbers.{big_from-lt, big_number-reads_back}
+use Rattle.byteorder.specs.Numbers.{big_from-lt, big_number-reads_back, length-bytes_high_first}
 use Rattle.chip_core.specs.declared.sample.Sample.{Sample}
-use Rattle.cdma_io.specs.SampleFile.{HasSixteenBits, sample_spelling}
+use Rattle.cdma_io.specs.declared.width.Width.{Width}
+use Rattle.cdma_io.specs.declared.width.Width.TheVariants.{Sixteen, Eight}
+use Rattle.cdma_io.specs.SampleFile.{HasBits, bits_of, part_len, part_spelling, sample_len, sample_spelling}
 use Rattle.cdma_io.proofs.ByteNumbers.{AreBytes, AreBytes-take, AreBytes-drop, big_bytes-number, big_number-take}
 
--- the sample in the first four bytes of a list
-abbrev pub sample_in : List ℕ → Sample
-sample_in bytes = record {
-  i = cast_signed w16 (big_number 2 bytes);
-  q = cast_signed w16 (big_number 2 (drop 2 bytes));
-}
+-- the part in the first bytes of a list
+abbrev pub part_in : Width → List ℕ → ℤ
+part_in width bytes = cast_signed (bits_of width) (big_number (part_len width) bytes)
 
-pub length-sample_spelling : (sample : Sample) → length (sample_spelling sample) ≡ 4
+-- the sample in the first bytes of a list
+abbrev pub sample_in : Width → List ℕ → Sample
+sample_in width bytes = record { i = part_in width bytes; q = part_in width (drop (part_len width) bytes) }
+
+two_parts : (width : Width) → sample_len width ≡ part_len width + part_len width
+two_parts Sixteen = refl
+two_parts Eight = refl
+
+pub sample_len-most : (width : Width) → sample_len width ≤ 4
+sample_len-most Sixteen = omega arith
+sample_len-most Eight = omega arith
+
+sample_len-some : (width : Width) → 1 ≤ sample_len width
+sample_len-some Sixteen = omega arith
+sample_len-some Eight = omega arith
+
+-- a part has as many values as its bytes
+part_values : (width : Width) → 2 ^ bits (bits_of width) ≡ 256 ^ part_len width
+part_values Sixteen = refl
+part_values Eight = refl
+
+pub length-sample_spelling : (width : Width) (sample : Sample) → length (sample_spelling width sample) ≡ sample_len width
 unfolding sample_spelling
-length-sample_spelling sample = refl
+length-sample_spelling Sixteen sample = refl
+length-sample_spelling Eight sample = refl
 
--- two bytes are those of the number that they spell in two's complement
-pub two_bytes : (bytes : List ℕ) → length bytes ≡ 2 → AreBytes bytes → big_bytes 2 (cast_unsigned w16 (cast_signed w16 (big_number 2 bytes))) ≡ bytes
-two_bytes bytes long small =
-    let fits : big_number 2 bytes < 2 ^ 16 = big_from-lt 0 2 bytes small in
-    ap (big_bytes 2) (of_z-to_z w16 (big_number 2 bytes) fits) ∙ big_bytes-number 2 bytes long small
+-- the bytes of a part are those of the number that they spell in two's complement
+part_bytes : (width : Width) (bytes : List ℕ) → length bytes ≡ part_len width → AreBytes bytes → part_spelling width (part_in width bytes) ≡ bytes
+part_bytes width bytes long small =
+    let below : big_number (part_len width) bytes < 256 ^ part_len width = big_from-lt 0 (part_len width) bytes small in
+    let fits : big_number (part_len width) bytes < 2 ^ bits (bits_of width) = omega (arith, below, part_values width) in
+    ap (big_bytes (part_len width)) (of_z-to_z (bits_of width) (big_number (part_len width) bytes) fits) ∙ big_bytes-number (part_len width) bytes long small
 
--- four bytes are those of the sample in them
-pub four_bytes : (bytes : List ℕ) → length bytes ≡ 4 → AreBytes bytes → bytes ≡ sample_spelling (sample_in bytes)
+-- a part in two's complement fits its bytes
+part_below : (width : Width) (part : ℤ) → FitsSigned (bits_of width) part → cast_unsigned (bits_of width) part < 256 ^ part_len width
+part_below Sixteen part fits = omega (arith, Fits-of_z fits)
+part_below Eight part fits = omega (arith, Fits-of_z fits)
+
+-- the bytes of a part give it back
+part_in-spelling : (width : Width) (part : ℤ) (rest : List ℕ) → FitsSigned (bits_of width) part → part_in width (part_spelling width part ++ rest) ≡ part
+part_in-spelling width part rest fits =
+    ap (cast_signed (bits_of width)) (big_number-reads_back (part_len width) (cast_unsigned (bits_of width) part) rest (part_below width part fits))
+    ∙ to_z-of_z (bits_of width) part fits
+
+-- the bytes of a sample are those of the sample in them
+pub sample_bytes : (width : Width) (bytes : List ℕ) → length bytes ≡ sample_len width → AreBytes bytes → bytes ≡ sample_spelling width (sample_in width bytes)
 unfolding sample_spelling
-four_bytes bytes long small =
-    let front = take 2 bytes in
-    let back = drop 2 bytes in
-    let pattern : ℕ → List ℕ = λ n. big_bytes 2 (cast_unsigned w16 (cast_signed w16 n)) in
-    let first : pattern (big_number 2 front) ≡ front =
-    two_bytes front (length-take-le 2 bytes (omega (arith, long))) (AreBytes-take 2 bytes small) in
-    let second : pattern (big_number 2 back) ≡ back =
-    two_bytes back (omega (arith, length-drop 2 bytes)) (AreBytes-drop 2 bytes small) in
-    let read : big_number 2 bytes ≡ big_number 2 front = big_number-take 2 bytes (omega (arith, long)) in
+sample_bytes width bytes long small =
+    let n = part_len width in
+    let front = take n bytes in
+    let back = drop n bytes in
+    let both : length bytes ≡ n + n = long ∙ two_parts width in
+    let room : n ≤ length bytes = omega (arith, both) in
+    let pattern : ℕ → List ℕ = λ k. part_spelling width (cast_signed (bits_of width) k) in
+    let first : pattern (big_number n front) ≡ front = part_bytes width front (length-take-le n bytes room) (AreBytes-take n bytes small) in
+    let second : pattern (big_number n back) ≡ back = part_bytes width back (omega (arith, both, length-drop n bytes)) (AreBytes-drop n bytes small) in
+    let read : big_number n bytes ≡ big_number n front = big_number-take n bytes room in
     sym (
-    ap (λ (n : ℕ). pattern n ++ pattern (big_number 2 back)) read
-    ∙ ap (λ (xs : List ℕ). xs ++ pattern (big_number 2 back)) first
+    ap (λ (k : ℕ). pattern k ++ pattern (big_number n back)) read
+    ∙ ap (λ (xs : List ℕ). xs ++ pattern (big_number n back)) first
     ∙ ap (λ (xs : List ℕ). front ++ xs) second
-    ∙ take-append-drop 2 bytes
+    ∙ take-append-drop n bytes
     )
 
 -- the sample that a reader made of four bytes, which it read at two places of a slice
-pub spelled_sample : (bytes : List ℕ) (i q : ℤ) → length bytes ≡ 4 → AreBytes bytes →
+pub spelled_wide : (bytes : List ℕ) (i q : ℤ) → length bytes ≡ 4 → AreBytes bytes →
     i ≡ cast_signed w16 (big_number 2 bytes) →
     q ≡ cast_signed w16 (big_number 2 (take (length bytes - 2) (drop 2 bytes))) →
-    bytes ≡ sample_spelling (record { i = i; q = q })
-spelled_sample bytes i q long small i_is q_is =
+    bytes ≡ sample_spelling Sixteen (record { i = i; q = q })
+spelled_wide bytes i q long small i_is q_is =
     let room : length (drop 2 bytes) ≤ length bytes - 2 = omega (arith, length-drop 2 bytes) in
     let back : take (length bytes - 2) (drop 2 bytes) ≡ drop 2 bytes = take_all (length bytes - 2) (drop 2 bytes) room in
     let q_read : q ≡ cast_signed w16 (big_number 2 (drop 2 bytes)) = q_is ∙ ap (λ (xs : List ℕ). cast_signed w16 (big_number 2 xs)) back in
     let make : ℤ → ℤ → Sample = λ i q. record { i = i; q = q } in
-    four_bytes bytes long small
-    ∙ ap (λ (x : ℤ). sample_spelling (make x (cast_signed w16 (big_number 2 (drop 2 bytes))))) (sym i_is)
-    ∙ ap (λ (x : ℤ). sample_spelling (make i x)) (sym q_read)
+    sample_bytes Sixteen bytes long small
+    ∙ ap (λ (x : ℤ). sample_spelling Sixteen (make x (cast_signed w16 (big_number 2 (drop 2 bytes))))) (sym i_is)
+    ∙ ap (λ (x : ℤ). sample_spelling Sixteen (make i x)) (sym q_read)
+
+-- the sample that a reader made of two bytes, each of which it read at its place
+pub spelled_narrow : (bytes : List ℕ) (i q : ℤ) → length bytes ≡ 2 → AreBytes bytes →
+    i ≡ cast_signed w8 (get_or bytes 0 0) → q ≡ cast_signed w8 (get_or bytes 1 0) →
+    bytes ≡ sample_spelling Eight (record { i = i; q = q })
+spelled_narrow [] i q long small i_is q_is = absurd (omega (arith, long))
+spelled_narrow (a ∷ []) i q long small i_is q_is = absurd (omega (arith, long))
+spelled_narrow (a ∷ b ∷ c ∷ rest) i q long small i_is q_is = absurd (omega (arith, long))
+spelled_narrow (a ∷ b ∷ []) i q long small i_is q_is =
+    let first : big_number 1 (a ∷ b ∷ []) ≡ a = omega arith in
+    let second : big_number 1 (b ∷ []) ≡ b = omega arith in
+    let make : ℤ → ℤ → Sample = λ i q. record { i = i; q = q } in
+    sample_bytes Eight (a ∷ b ∷ []) refl small
+    ∙ ap (λ (n : ℕ). sample_spelling Eight (make (cast_signed w8 n) (cast_signed w8 (big_number 1 (b ∷ []))))) first
+    ∙ ap (λ (n : ℕ). sample_spelling Eight (make (cast_signed w8 a) (cast_signed w8 n))) second
+    ∙ ap (λ (x : ℤ). sample_spelling Eight (make x (cast_signed w8 b))) (sym i_is)
+    ∙ ap (λ (x : ℤ). sample_spelling Eight (make i x)) (sym q_is)
+
+-- a byte that was read as a signed number, widened and kept in 16 bits
+pub widened : (n : ℕ) (x y : ℤ) → n < 256 → x ≡ cast_signed w8 n → y ≡ cast_signed w8 (cast_unsigned w8 x) → FitsSigned w16 y →
+    cast_signed w16 (cast_unsigned w16 y) ≡ cast_signed w8 n
+widened n x y small x_is y_is fits =
+    to_z-of_z w16 y fits ∙ y_is ∙ ap (λ (z : ℤ). cast_signed w8 (cast_unsigned w8 z)) x_is ∙ ap (cast_signed w8) (of_z-to_z w8 n small)
 
 -- the bytes of a sample give it back
-pub sample_in-spelling : (sample : Sample) (rest : List ℕ) → HasSixteenBits sample → sample_in (sample_spelling sample ++ rest) ≡ sample
+pub sample_in-spelling : (width : Width) (sample : Sample) (rest : List ℕ) → HasBits width sample → sample_in width (sample_spelling width sample ++ rest) ≡ sample
 unfolding sample_spelling
-sample_in-spelling sample rest small =
-    let i_bits = cast_unsigned w16 sample.i in
-    let q_bits = cast_unsigned w16 sample.q in
-    let i_read : big_number 2 (sample_spelling sample ++ rest) ≡ i_bits =
-    big_number-reads_back 2 i_bits (big_bytes 2 q_bits ++ rest) (omega (arith, Fits-of_z small.in_phase)) in
-    let q_read : big_number 2 (drop 2 (sample_spelling sample ++ rest)) ≡ q_bits =
-    big_number-reads_back 2 q_bits rest (omega (arith, Fits-of_z small.quadrature)) in
+sample_in-spelling width sample rest small =
+    let n = part_len width in
+    let first = part_spelling width sample.i in
+    let second = part_spelling width sample.q in
+    let parted : sample_spelling width sample ++ rest ≡ first ++ (second ++ rest) = append_assoc first second rest in
+    let long : length first ≡ n = length-bytes_high_first n (cast_unsigned (bits_of width) sample.i) in
+    let i_read : part_in width (sample_spelling width sample ++ rest) ≡ sample.i =
+    ap (part_in width) parted ∙ part_in-spelling width sample.i (second ++ rest) small.in_phase in
+    let q_read : part_in width (drop n (sample_spelling width sample ++ rest)) ≡ sample.q =
+    ap (λ (xs : List ℕ). part_in width (drop n xs)) parted
+    ∙ ap (part_in width) (drop_at first (second ++ rest) n long)
+    ∙ part_in-spelling width sample.q rest small.quadrature in
     let make : ℤ → ℤ → Sample = λ i q. record { i = i; q = q } in
-    ap (λ (n : ℕ). make (cast_signed w16 n) (cast_signed w16 (big_number 2 (drop 2 (sample_spelling sample ++ rest))))) i_read
-    ∙ ap (λ (n : ℕ). make (cast_signed w16 i_bits) (cast_signed w16 n)) q_read
-    ∙ ap (λ (x : ℤ). make x (cast_signed w16 q_bits)) (to_z-of_z w16 sample.i small.in_phase)
-    ∙ ap (λ (x : ℤ). make sample.i x) (to_z-of_z w16 sample.q small.quadrature)
+    ap (λ (x : ℤ). make x (part_in width (drop n (sample_spelling width sample ++ rest)))) i_read
+    ∙ ap (make sample.i) q_read
 
-pub length-samples : (samples : List Sample) → length (flat_map sample_spelling samples) ≡ 4 * length samples
-length-samples [] = refl
-length-samples (x ∷ xs) =
-    omega (arith, length-append (sample_spelling x) (flat_map sample_spelling xs), length-sample_spelling x, length-samples xs)
+pub length-samples : (width : Width) (samples : List Sample) → length (flat_map (sample_spelling width) samples) ≡ sample_len width * length samples
+length-samples width [] = omega arith
+length-samples width (x ∷ xs) =
+    omega (arith, length-append (sample_spelling width x) (flat_map (sample_spelling width) xs), length-sample_spelling width x, length-samples width xs)
+
+-- more samples have more bytes
+pub sample_len-mono : (width : Width) (m n : ℕ) → m ≤ n → sample_len width * m ≤ sample_len width * n
+sample_len-mono width m n few = mul-le-mul_left (sample_len width) few
 
 -- the bytes of samples fix them
-pub flat_map-sample_spelling : (xs ys : List Sample) → All HasSixteenBits xs → All HasSixteenBits ys →
-    flat_map sample_spelling xs ≡ flat_map sample_spelling ys → xs ≡ ys
-flat_map-sample_spelling [] [] small_x small_y same = refl
-flat_map-sample_spelling [] (y ∷ ys) small_x small_y same =
-    absurd (omega (arith, ap length same, length-samples (y ∷ ys)))
-flat_map-sample_spelling (x ∷ xs) [] small_x small_y same =
-    absurd (omega (arith, ap length same, length-samples (x ∷ xs)))
-flat_map-sample_spelling (x ∷ xs) (y ∷ ys) small_x small_y same =
-    let xs_bytes = flat_map sample_spelling xs in
-    let ys_bytes = flat_map sample_spelling ys in
+pub flat_map-sample_spelling : (width : Width) (xs ys : List Sample) → All (HasBits width) xs → All (HasBits width) ys →
+    flat_map (sample_spelling width) xs ≡ flat_map (sample_spelling width) ys → xs ≡ ys
+flat_map-sample_spelling width [] [] small_x small_y same = refl
+flat_map-sample_spelling width [] (y ∷ ys) small_x small_y same =
+    absurd (omega (arith, ap length same, length-append (sample_spelling width y) (flat_map (sample_spelling width) ys), length-sample_spelling width y, sample_len-some width))
+flat_map-sample_spelling width (x ∷ xs) [] small_x small_y same =
+    absurd (omega (arith, ap length same, length-append (sample_spelling width x) (flat_map (sample_spelling width) xs), length-sample_spelling width x, sample_len-some width))
+flat_map-sample_spelling width (x ∷ xs) (y ∷ ys) small_x small_y same =
+    let xs_bytes = flat_map (sample_spelling width) xs in
+    let ys_bytes = flat_map (sample_spelling width) ys in
     let first : x ≡ y =
-    sym (sample_in-spelling x xs_bytes (All-head HasSixteenBits x xs small_x))
-    ∙ ap sample_in same
-    ∙ sample_in-spelling y ys_bytes (All-head HasSixteenBits y ys small_y) in
+    sym (sample_in-spelling width x xs_bytes (All-head (HasBits width) x xs small_x))
+    ∙ ap (sample_in width) same
+    ∙ sample_in-spelling width y ys_bytes (All-head (HasBits width) y ys small_y) in
     let rest : xs_bytes ≡ ys_bytes =
-    sym (drop_at (sample_spelling x) xs_bytes 4 (length-sample_spelling x))
-    ∙ ap (drop 4) same
-    ∙ drop_at (sample_spelling y) ys_bytes 4 (length-sample_spelling y) in
+    sym (drop_at (sample_spelling width x) xs_bytes (sample_len width) (length-sample_spelling width x))
+    ∙ ap (drop (sample_len width)) same
+    ∙ drop_at (sample_spelling width y) ys_bytes (sample_len width) (length-sample_spelling width y) in
     let others : xs ≡ ys =
-    flat_map-sample_spelling xs ys (All-tail HasSixteenBits x xs small_x) (All-tail HasSixteenBits y ys small_y) rest in
+    flat_map-sample_spelling width xs ys (All-tail (HasBits width) x xs small_x) (All-tail (HasBits width) y ys small_y) rest in
     ap (λ (z : Sample). z ∷ xs) first ∙ ap (λ (zs : List Sample). y ∷ zs) others
 
--- the step of a reader's loop over samples: four bytes more
-pub samples_more : (bytes : List ℕ) (out : List Sample) (k : ℕ) (sample : Sample) → k < length out →
-    take (4 * k) bytes ≡ flat_map sample_spelling (take k out) →
-    take (4 * (k + 1) - 4 * k) (drop (4 * k) bytes) ≡ sample_spelling sample →
-    take (4 * (k + 1)) bytes ≡ flat_map sample_spelling (take (k + 1) (set out k sample))
-samples_more bytes out k sample within before four =
-    let place : 4 * (k + 1) ≡ 4 * k + 4 = omega arith in
-    let wide : 4 * (k + 1) - 4 * k ≡ 4 = omega arith in
-    let next : take 4 (drop (4 * k) bytes) ≡ sample_spelling sample =
-    ap (λ (n : ℕ). take n (drop (4 * k) bytes)) (sym wide) ∙ four in
-    let front = flat_map sample_spelling (take k out) in
-    let joined : flat_map sample_spelling (take (k + 1) (set out k sample)) ≡ front ++ (sample_spelling sample ++ []) =
-    ap (flat_map sample_spelling) (take_more_set out k sample within) ∙ flat_map-append sample_spelling (take k out) (sample ∷ []) in
-    ap (λ (n : ℕ). take n bytes) place
-    ∙ take-add (4 * k) 4 bytes
-    ∙ ap (λ (xs : List ℕ). xs ++ take 4 (drop (4 * k) bytes)) before
-    ∙ ap (λ (xs : List ℕ). front ++ xs) (next ∙ sym (append-nil (sample_spelling sample)))
+-- the step of a reader's loop over samples: the bytes of one more
+pub samples_more : (width : Width) (bytes : List ℕ) (out : List Sample) (k from end : ℕ) (sample : Sample) → k < length out →
+    from ≡ sample_len width * k → end ≡ sample_len width * (k + 1) →
+    take (sample_len width * k) bytes ≡ flat_map (sample_spelling width) (take k out) →
+    take (end - from) (drop from bytes) ≡ sample_spelling width sample →
+    take (sample_len width * (k + 1)) bytes ≡ flat_map (sample_spelling width) (take (k + 1) (set out k sample))
+samples_more width bytes out k from end sample within from_is end_is before next =
+    let n = sample_len width in
+    let place : n * (k + 1) ≡ n * k + n = omega arith in
+    let wide : end - from ≡ n = omega (arith, from_is, end_is, place) in
+    let one : take n (drop (n * k) bytes) ≡ sample_spelling width sample =
+    ap (λ (m : ℕ). take n (drop m bytes)) (sym from_is) ∙ ap (λ (m : ℕ). take m (drop from bytes)) (sym wide) ∙ next in
+    let front = flat_map (sample_spelling width) (take k out) in
+    let joined : flat_map (sample_spelling width) (take (k + 1) (set out k sample)) ≡ front ++ (sample_spelling width sample ++ []) =
+    ap (flat_map (sample_spelling width)) (take_more_set out k sample within) ∙ flat_map-append (sample_spelling width) (take k out) (sample ∷ []) in
+    ap (λ (m : ℕ). take m bytes) place
+    ∙ take-add (n * k) n bytes
+    ∙ ap (λ (xs : List ℕ). xs ++ take n (drop (n * k) bytes)) before
+    ∙ ap (λ (xs : List ℕ). front ++ xs) (one ∙ sym (append-nil (sample_spelling width sample)))
     ∙ sym joined
 
-pub in_range_more : (out : List Sample) (k : ℕ) (sample : Sample) → k < length out →
-    All HasSixteenBits (take k out) → HasSixteenBits sample → All HasSixteenBits (take (k + 1) (set out k sample))
-in_range_more out k sample within before small =
-    subst (All HasSixteenBits) (sym (take_more_set out k sample within)) (All-push HasSixteenBits (take k out) sample before small)
+pub in_range_more : (width : Width) (out : List Sample) (k : ℕ) (sample : Sample) → k < length out →
+    All (HasBits width) (take k out) → (HasBits width) sample → All (HasBits width) (take (k + 1) (set out k sample))
+in_range_more width out k sample within before small =
+    subst (All (HasBits width)) (sym (take_more_set out k sample within)) (All-push (HasBits width) (take k out) sample before small)
 
 -- what is read of the bytes of samples
-pub record AreNext (samples next : List Sample) (rest : List ℕ) : Type 0 where
+pub record AreNext (width : Width) (samples next : List Sample) (rest : List ℕ) : Type 0 where
   pub first : next ≡ take (length next) samples
-  pub others : rest ≡ flat_map sample_spelling (drop (length next) samples)
+  pub others : rest ≡ flat_map (sample_spelling width) (drop (length next) samples)
 
 -- the samples that the bytes of samples begin with are the first of them
-pub next_samples : (next samples : List Sample) (rest : List ℕ) → All HasSixteenBits samples → All HasSixteenBits next →
-    length next ≤ length samples → flat_map sample_spelling samples ≡ flat_map sample_spelling next ++ rest → AreNext samples next rest
-next_samples [] samples rest small small_next fits same = record { first = refl; others = sym same }
-next_samples (y ∷ ys) [] rest small small_next fits same = absurd (omega arith)
-next_samples (y ∷ ys) (x ∷ xs) rest small small_next fits same =
-    let xs_bytes = flat_map sample_spelling xs in
-    let ys_bytes = flat_map sample_spelling ys ++ rest in
-    let regrouped : sample_spelling x ++ xs_bytes ≡ sample_spelling y ++ ys_bytes =
-    same ∙ append_assoc (sample_spelling y) (flat_map sample_spelling ys) rest in
+pub next_samples : (width : Width) (next samples : List Sample) (rest : List ℕ) → All (HasBits width) samples → All (HasBits width) next →
+    length next ≤ length samples → flat_map (sample_spelling width) samples ≡ flat_map (sample_spelling width) next ++ rest → AreNext width samples next rest
+next_samples width [] samples rest small small_next fits same = record { first = refl; others = sym same }
+next_samples width (y ∷ ys) [] rest small small_next fits same = absurd (omega arith)
+next_samples width (y ∷ ys) (x ∷ xs) rest small small_next fits same =
+    let xs_bytes = flat_map (sample_spelling width) xs in
+    let ys_bytes = flat_map (sample_spelling width) ys ++ rest in
+    let regrouped : sample_spelling width x ++ xs_bytes ≡ sample_spelling width y ++ ys_bytes =
+    same ∙ append_assoc (sample_spelling width y) (flat_map (sample_spelling width) ys) rest in
     let front : x ≡ y =
-    sym (sample_in-spelling x xs_bytes (All-head HasSixteenBits x xs small))
-    ∙ ap sample_in regrouped
-    ∙ sample_in-spelling y ys_bytes (All-head HasSixteenBits y ys small_next) in
+    sym (sample_in-spelling width x xs_bytes (All-head (HasBits width) x xs small))
+    ∙ ap (sample_in width) regrouped
+    ∙ sample_in-spelling width y ys_bytes (All-head (HasBits width) y ys small_next) in
     let back : xs_bytes ≡ ys_bytes =
-    sym (drop_at (sample_spelling x) xs_bytes 4 (length-sample_spelling x))
-    ∙ ap (drop 4) regrouped
-    ∙ drop_at (sample_spelling y) ys_bytes 4 (length-sample_spelling y) in
-    let later = next_samples ys xs rest (All-tail HasSixteenBits x xs small) (All-tail HasSixteenBits y ys small_next) (omega arith) back in
+    sym (drop_at (sample_spelling width x) xs_bytes (sample_len width) (length-sample_spelling width x))
+    ∙ ap (drop (sample_len width)) regrouped
+    ∙ drop_at (sample_spelling width y) ys_bytes (sample_len width) (length-sample_spelling width y) in
+    let later = next_samples width ys xs rest (All-tail (HasBits width) x xs small) (All-tail (HasBits width) y ys small_next) (omega arith) back in
     record {
       first = ap (λ (z : Sample). z ∷ ys) (sym front) ∙ ap (λ (zs : List Sample). x ∷ zs) later.first;
       others = later.others;

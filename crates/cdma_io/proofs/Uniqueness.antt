@@ -1,9 +1,10 @@
 -- A file's bytes fix its header and its samples.
-use Rattle.std.proofs.Common.{◌≡◌, ℕ, List, Ok, sym, ap, ◌∙◌, drop, drop_at}
+use Rattle.std.proofs.Common.{◌≡◌, ℕ, List, Ok, sym, ap, ◌∙◌, drop, drop_at, subst, All}
 use Rattle.std.specs.List.{flat_map}
 use Rattle.chip_core.specs.declared.sample.Sample.{Sample}
 use Rattle.cdma_io.specs.declared.header.Header.{Header}
-use Rattle.cdma_io.specs.SampleFile.{IsSampleFile, header_spelling, opening, sample_spelling}
+use Rattle.cdma_io.specs.declared.width.Width.{Width}
+use Rattle.cdma_io.specs.SampleFile.{HasBits, IsSampleFile, header_spelling, opening, sample_spelling, width_of}
 use Rattle.cdma_io.proofs.Opening.{length-header_spelling, opening-spelled}
 use Rattle.cdma_io.proofs.Spelling.{flat_map-sample_spelling}
 
@@ -11,12 +12,16 @@ pub file_unique : (bytes : List ℕ) (header other_header : Header) (samples oth
     IsSampleFile bytes other_header other_samples → (header ≡ other_header) × (samples ≡ other_samples)
 file_unique bytes header other_header samples other_samples file other =
     let first : opening bytes ≡ Ok header =
-    ap opening file.spelled ∙ opening-spelled header (flat_map sample_spelling samples) file.lawful in
+    ap opening file.spelled ∙ opening-spelled header (flat_map (sample_spelling (width_of header)) samples) file.lawful in
     let second : opening bytes ≡ Ok other_header =
-    ap opening other.spelled ∙ opening-spelled other_header (flat_map sample_spelling other_samples) other.lawful in
+    ap opening other.spelled ∙ opening-spelled other_header (flat_map (sample_spelling (width_of other_header)) other_samples) other.lawful in
     let headers : header ≡ other_header = cc in
-    let bodies : flat_map sample_spelling samples ≡ flat_map sample_spelling other_samples =
-    sym (drop_at (header_spelling header) (flat_map sample_spelling samples) 16 (length-header_spelling header))
+    let width = width_of header in
+    let same : width_of other_header ≡ width = ap width_of (sym headers) in
+    let bodies : flat_map (sample_spelling width) samples ≡ flat_map (sample_spelling width) other_samples =
+    sym (drop_at (header_spelling header) (flat_map (sample_spelling width) samples) 16 (length-header_spelling header))
     ∙ ap (drop 16) (sym file.spelled ∙ other.spelled)
-    ∙ drop_at (header_spelling other_header) (flat_map sample_spelling other_samples) 16 (length-header_spelling other_header) in
-    (headers, flat_map-sample_spelling samples other_samples file.in_range other.in_range bodies)
+    ∙ drop_at (header_spelling other_header) (flat_map (sample_spelling (width_of other_header)) other_samples) 16 (length-header_spelling other_header)
+    ∙ ap (λ (w : Width). flat_map (sample_spelling w) other_samples) same in
+    let in_range : All (HasBits width) other_samples = subst (λ (w : Width). All (HasBits w) other_samples) same other.in_range in
+    (headers, flat_map-sample_spelling width samples other_samples file.in_range in_range bodies)

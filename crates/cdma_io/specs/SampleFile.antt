@@ -1,6 +1,7 @@
 -- The sample file: its header and samples as bytes, and what a reader of it answers.
-use Rattle.std.specs.Prelude.{◌≡◌, ◌≢◌, ℕ, ◌+◌, ◌*◌, ◌-◌, ◌/◌, ◌%◌, ◌<◌, ◌≤◌, ◌==◌, nat_eq, nat_le, nat_lt, Bool, if◌then◌else◌, List, [], ◌∷◌, ◌++◌, length, drop, All, Option, None, Some, Result, Ok, Err, FitsSigned, ⊤}
-use Rattle.std.specs.Int.{cast_unsigned, w16}
+use Rattle.std.specs.Prelude.{◌≡◌, ◌≢◌, ℕ, ◌+◌, ◌*◌, ◌-◌, ◌/◌, ◌%◌, ◌<◌, ◌≤◌, ◌==◌, nat_eq, nat_le, nat_lt, Bool, true, if◌then◌else◌, List, [], ◌∷◌, ◌++◌, length, drop, All, Option, None, Some, Result, Ok, Err, ℤ, FitsSigned, ⊤}
+use Rattle.std.specs.Int.{cast_unsigned, w8, w16}
+use Rattle.std.specs.Int as integers
 use Rattle.std.specs.List.{flat_map, starts_with}
 use Rattle.std.specs.Io.KnownBytes.{IsAtEnd}
 use Rattle.byteorder.specs.Endian.{big_bytes, big_number}
@@ -10,6 +11,8 @@ use Rattle.chip_core.specs.declared.sample.Sample.{Sample}
 use Rattle.cdma_io.specs.declared.file_fault.FileFault.{FileFault}
 use Rattle.cdma_io.specs.declared.file_fault.FileFault.TheVariants.{Magic, Version, Flags, Count, Short, Extra, ReadFault, TooFew}
 use Rattle.cdma_io.specs.declared.header.Header.{Header}
+use Rattle.cdma_io.specs.declared.width.Width.{Width}
+use Rattle.cdma_io.specs.declared.width.Width.TheVariants.{Sixteen, Eight}
 
 -- ---- the bytes of a file
 
@@ -17,9 +20,22 @@ use Rattle.cdma_io.specs.declared.header.Header.{Header}
 abbrev pub magic : List ℕ
 magic = 73 ∷ 83 ∷ 57 ∷ 53 ∷ []
 
+-- there are versions 1 and 2
+abbrev pub is_version : ℕ → Bool
+is_version version = if version == 1 then true else version == 2
+
+-- version 1 has parts of samples of 16 bits, and version 2 of 8 bits
+abbrev pub width_in : ℕ → Width
+width_in version = if version == 2 then Eight else Sixteen
+
+-- the width of the parts of a file's samples
+abbrev pub width_of : Header → Width
+width_of header = width_in header.version
+
 -- the most samples that a file has
-abbrev pub most_samples : ℕ
-most_samples = 33554432
+abbrev pub most_samples : Width → ℕ
+most_samples Sixteen = 33554432
+most_samples Eight = 67108864
 
 -- 1 where check bits are complemented
 abbrev pub form_flag : CheckForm → ℕ
@@ -34,26 +50,46 @@ flags_of header = form_flag header.check30 + 2 * form_flag header.check16
 unfoldable pub header_spelling : Header → List ℕ
 header_spelling header = magic ++ big_bytes 2 header.version ++ big_bytes 2 (flags_of header) ++ big_bytes 8 header.count
 
--- the 4 bytes of a sample: i, then q, each in two's complement of 16 bits
-unfoldable pub sample_spelling : Sample → List ℕ
-sample_spelling sample = big_bytes 2 (cast_unsigned w16 sample.i) ++ big_bytes 2 (cast_unsigned w16 sample.q)
+-- the width of a part as a number of bits
+abbrev pub bits_of : Width → integers.Width
+bits_of Sixteen = w16
+bits_of Eight = w8
 
--- each part has 16 bits
-pub record HasSixteenBits (sample : Sample) : Type 0 where
-  pub in_phase : FitsSigned w16 sample.i
-  pub quadrature : FitsSigned w16 sample.q
+-- how many bytes a part has
+abbrev pub part_len : Width → ℕ
+part_len Sixteen = 2
+part_len Eight = 1
 
--- a header of version 1
+-- how many bytes a sample has
+abbrev pub sample_len : Width → ℕ
+sample_len Sixteen = 4
+sample_len Eight = 2
+
+-- the bytes of a part, in two's complement
+abbrev pub part_spelling : Width → ℤ → List ℕ
+part_spelling width part = big_bytes (part_len width) (cast_unsigned (bits_of width) part)
+
+-- the bytes of a sample: i, then q
+unfoldable pub sample_spelling : Width → Sample → List ℕ
+sample_spelling width sample = part_spelling width sample.i ++ part_spelling width sample.q
+
+-- each part fits the width
+pub record HasBits (width : Width) (sample : Sample) : Type 0 where
+  pub in_phase : FitsSigned (bits_of width) sample.i
+  pub quadrature : FitsSigned (bits_of width) sample.q
+
+-- a header of version 1 or 2, which counts no more samples than its version has
 pub record IsLawfulHeader (header : Header) : Type 0 where
-  pub version_is : header.version ≡ 1
-  pub count_most : header.count ≤ most_samples
+  pub version_least : 1 ≤ header.version
+  pub version_most : header.version ≤ 2
+  pub count_most : header.count ≤ most_samples (width_of header)
 
 -- the bytes are the file of this header and these samples
 pub record IsSampleFile (bytes : List ℕ) (header : Header) (samples : List Sample) : Type 0 where
   pub lawful : IsLawfulHeader header
   pub counted : length samples ≡ header.count
-  pub in_range : All HasSixteenBits samples
-  pub spelled : bytes ≡ header_spelling header ++ flat_map sample_spelling samples
+  pub in_range : All (HasBits (width_of header)) samples
+  pub spelled : bytes ≡ header_spelling header ++ flat_map (sample_spelling (width_of header)) samples
 
 -- ---- what opening a file answers
 
@@ -68,9 +104,9 @@ due_if test fault due = if test then due else Err fault
 -- what is due for a header of these numbers: the first fault in them, or the header
 abbrev pub header_due : ℕ → ℕ → ℕ → Result Header FileFault
 header_due version flags count =
-    due_if (version == 1) Version
+    due_if (is_version version) Version
     (due_if (nat_lt flags 4) Flags
-    (due_if (nat_le count most_samples) Count
+    (due_if (nat_le count (most_samples (width_in version))) Count
     (Ok (record {
       version = version;
       check30 = form_of (flags % 2 == 1);
@@ -103,7 +139,7 @@ faulted reading e = record reading { fault = Some e }
 
 -- the place in the file of the next sample
 abbrev pub next_place : Reading → ℕ
-next_place reading = 16 + 4 * (reading.header.count - reading.left)
+next_place reading = 16 + sample_len (width_of reading.header) * (reading.header.count - reading.left)
 
 -- what `open` answered is what is due, or a read failed
 abbrev pub Opens : Result Reading FileFault → Result Header FileFault → Type 0

@@ -14,13 +14,14 @@ pub enum FileFault {
     /// The first four bytes aren't `IS95`.
     #[error("magic")]
     Magic,
-    /// The version is none that is read here.
+    /// The version is neither 1 nor 2.
     #[error("version")]
     Version,
     /// A flag is set that has no meaning.
     #[error("flags")]
     Flags,
-    /// The header counts more than 33,554,432 samples.
+    /// The header counts more samples than its version has: 33,554,432 in version 1, and 67,108,864
+    /// in version 2.
     #[error("count")]
     Count,
     /// The file ends before its header or its samples do. It has `at` bytes.

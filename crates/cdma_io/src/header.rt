@@ -1,9 +1,10 @@
 //! The header of a sample file.
 
-ghost use Rattle.std.specs.Prelude.{◌≡◌, ◌≢◌, length, Err, IfOk};
-ghost use Rattle.cdma_io.specs.SampleFile.{IsLawfulHeader, form_of, header_spelling, opening};
+ghost use Rattle.std.specs.Prelude.{◌≡◌, ◌≢◌, ◌≤◌, length, Err, IfOk};
+ghost use Rattle.cdma_io.specs.SampleFile.{IsLawfulHeader, flags_of, form_flag, form_of, header_spelling, opening, width_of};
 
 use crate::file_fault::FileFault;
+use crate::width::{Width, is_known, most_for, width_for};
 use byteorder::{BigEndian, ByteOrder};
 use chip_core::CheckForm;
 
@@ -13,20 +14,56 @@ pub const HEADER_LEN: usize = 16;
 // The first bytes of a file.
 const MAGIC: [u8; 4] = [b'I', b'S', b'9', b'5'];
 
-// The most samples that a file has.
-const MOST_SAMPLES: u64 = 33_554_432;
-
 /// The header of a sample file.
 #[derive(Clone, Copy, PartialEq, Eq, Debug)]
 pub struct Header {
-    /// The version of the format, 1.
+    /// The version of the format, 1 or 2.
     pub version: u16,
     /// The form of the 30-bit checks of messages.
     pub check30: CheckForm,
     /// The form of the 16-bit checks of messages.
     pub check16: CheckForm,
-    /// How many samples follow, at most 33,554,432.
+    /// How many samples follow: at most 33,554,432 in version 1 and 67,108,864 in version 2.
     pub count: u64,
+}
+
+impl Header {
+    /// How wide each part of the samples is: 8 bits in version 2, and else 16.
+    pub fn width(&self) -> Width
+        ensures { result ≡ width_of self.now }
+    {
+        width_for(self.version)
+    }
+}
+
+/// The 16 bytes of a header.
+pub fn header_bytes(header: &Header) -> [u8; 16]
+    ensures { result ≡ header_spelling header.now }
+{
+    let mut bytes = [0; HEADER_LEN];
+    bytes[..4].copy_from_slice(&MAGIC);
+    BigEndian::write_u16(&mut bytes[4..], header.version);
+    BigEndian::write_u16(&mut bytes[6..], flags_for(header));
+    BigEndian::write_u64(&mut bytes[8..], header.count);
+    bytes
+}
+
+// The flags of a header.
+fn flags_for(header: &Header) -> u16
+    ensures { result ≡ flags_of header.now }
+{
+    flag_for(header.check30) + 2 * flag_for(header.check16)
+}
+
+// 1 where check bits are complemented.
+fn flag_for(form: CheckForm) -> u16
+    ensures value { result ≡ form_flag form }
+    ensures most { result ≤ 1 }
+{
+    match form {
+        CheckForm::Plain => 0,
+        CheckForm::Complemented => 1,
+    }
 }
 
 /// The header that 16 bytes hold, or the first fault in them.
@@ -41,7 +78,7 @@ pub fn parse_header(bytes: &[u8]) -> Result<Header, FileFault>
         return Err(FileFault::Magic);
     }
     let version = BigEndian::read_u16(&bytes[4..]);
-    if version != 1 {
+    if !is_known(version) {
         return Err(FileFault::Version);
     }
     let flags = BigEndian::read_u16(&bytes[6..]);
@@ -49,7 +86,7 @@ pub fn parse_header(bytes: &[u8]) -> Result<Header, FileFault>
         return Err(FileFault::Flags);
     }
     let count = BigEndian::read_u64(&bytes[8..]);
-    if count > MOST_SAMPLES {
+    if count > most_for(width_for(version)) {
         return Err(FileFault::Count);
     }
     Ok(Header {

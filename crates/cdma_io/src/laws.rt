@@ -6,7 +6,8 @@ ghost use Rattle.std.specs.Io.KnownBytes.{Consumes};
 ghost use Rattle.chip_core.specs.declared.sample.Sample.{Sample};
 ghost use Rattle.cdma_io.specs.declared.file_fault.FileFault.{FileFault};
 ghost use Rattle.cdma_io.specs.declared.header.Header.{Header};
-ghost use Rattle.cdma_io.specs.SampleFile.{CutsShort, HasSixteenBits, IsLawfulHeader, IsSampleFile, Opens, Reading, RunsOn, header_spelling, opening, sample_spelling};
+ghost use Rattle.cdma_io.specs.declared.width.Width.{Width};
+ghost use Rattle.cdma_io.specs.SampleFile.{CutsShort, HasBits, IsLawfulHeader, IsSampleFile, Opens, Reading, RunsOn, header_spelling, opening, sample_len, sample_spelling};
 
 /// A file's bytes fix its header and its samples.
 pub fn file_is_unique()
@@ -40,19 +41,19 @@ pub fn file_opens()
 /// Samples that were read where the source has the bytes of samples left are the first of these, and
 /// the source has the bytes of the others left.
 pub fn file_is_read_in_order()
-    ensures { (samples next : List Sample) (new : Option (List ℕ)) →
-        All HasSixteenBits samples → All HasSixteenBits next →
+    ensures { (width : Width) (samples next : List Sample) (new : Option (List ℕ)) →
+        All (HasBits width) samples → All (HasBits width) next →
         length next ≤ length samples →
-        Consumes (Some (flat_map sample_spelling samples)) new (flat_map sample_spelling next) →
+        Consumes (Some (flat_map (sample_spelling width) samples)) new (flat_map (sample_spelling width) next) →
         (next ≡ take (length next) samples)
-        × (new ≡ Some (flat_map sample_spelling (drop (length next) samples))) }
+        × (new ≡ Some (flat_map (sample_spelling width) (drop (length next) samples))) }
 {}
 
 /// No read within the samples that the source has left is cut short, unless a read failed.
 pub fn file_is_not_short()
-    ensures { (e : FileFault) (samples : List Sample) (count from : ℕ) (new : Option (List ℕ)) →
+    ensures { (e : FileFault) (width : Width) (samples : List Sample) (count from : ℕ) (new : Option (List ℕ)) →
         count ≤ length samples →
-        CutsShort e (4 * count) from (Some (flat_map sample_spelling samples)) new →
+        CutsShort e (sample_len width * count) from (Some (flat_map (sample_spelling width) samples)) new →
         e ≡ FileFault.ReadFault }
 {}
 

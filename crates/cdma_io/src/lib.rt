@@ -20,14 +20,16 @@ mod sink;
 mod source;
 #[cfg(test)]
 mod tests;
+mod width;
 mod writer_sink;
 
 pub use file_fault::FileFault;
-pub use header::Header;
+pub use header::{Header, header_bytes};
 pub use memory_sink::MemorySink;
 pub use memory_source::MemorySource;
 pub use reader_source::ReaderSource;
 pub use sample_reader::SampleReader;
 pub use sink::{Sink, write_all};
 pub use source::{Failed, Source};
+pub use width::Width;
 pub use writer_sink::WriterSink;

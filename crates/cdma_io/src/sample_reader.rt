@@ -4,13 +4,14 @@ ghost use Rattle.std.specs.Prelude.{◌≡◌, ◌<◌, ◌≤◌, ◌+◌, ◌*
 ghost use Rattle.std.specs.List.{flat_map};
 ghost use Rattle.std.specs.Io.KnownBytes.{Consumes, IsAtEnd, Keeps};
 ghost use Rattle.cdma_io.specs.Outside.{ConsumesAtMost, Rose};
-ghost use Rattle.cdma_io.specs.SampleFile.{CutsShort, HasSixteenBits, IsLawfulHeader, Opens, Reading, RunsOn, faulted, fresh_reading, header_spelling, next_place, opening, sample_spelling};
+ghost use Rattle.cdma_io.specs.SampleFile.{CutsShort, HasBits, IsLawfulHeader, Opens, Reading, RunsOn, faulted, fresh_reading, header_spelling, next_place, opening, sample_len, sample_spelling, width_of};
 
 use crate::file_fault::FileFault;
 use crate::filling::fill;
 use crate::header::{HEADER_LEN, Header, parse_header};
-use crate::samples::{SAMPLE_LEN, read_samples};
+use crate::samples::read_samples;
 use crate::source::Source;
+use crate::width::bytes_for;
 use chip_core::Sample;
 use std::marker::Model;
 
@@ -92,8 +93,8 @@ impl SampleReader {
     ) -> Result<usize, FileFault>
         ensures count { IfOk result (λ n. n ≡ min (length out.old) self.old.left) }
         ensures samples { IfOk result (λ n. Consumes (S.rest source.old) (S.rest source.new)
-            (flat_map sample_spelling (take n out.new))) }
-        ensures in_range { IfOk result (λ n. All HasSixteenBits (take n out.new)) }
+            (flat_map (sample_spelling (width_of self.old.header)) (take n out.new))) }
+        ensures in_range { IfOk result (λ n. All (HasBits (width_of self.old.header)) (take n out.new)) }
         ensures beyond { IfOk result (λ n. drop n out.new ≡ drop n out.old) }
         ensures ok { IfOk result (λ n. self.new ≡ record self.old { left = self.old.left - n }) }
 
@@ -102,9 +103,9 @@ impl SampleReader {
         ensures kept { IfSome self.old.fault (λ e. result ≡ Err e) }
         ensures untouched { IsSome self.old.fault → source.new ≡ source.old }
         ensures fault { IfErr result (λ e. IsNone self.old.fault →
-            CutsShort e (4 * min (length out.old) self.old.left) (next_place self.old)
+            CutsShort e (sample_len (width_of self.old.header) * min (length out.old) self.old.left) (next_place self.old)
             (S.rest source.old) (S.rest source.new)) }
-        ensures taken { ConsumesAtMost (4 * min (length out.old) self.old.left)
+        ensures taken { ConsumesAtMost (sample_len (width_of self.old.header) * min (length out.old) self.old.left)
             (S.rest source.old) (S.rest source.new) }
 
         ensures later { S.faults source.old ≤ S.faults source.new }
@@ -115,8 +116,9 @@ impl SampleReader {
             return Err(fault);
         }
         let wanted = self.left.min(out.len() as u64) as usize;
-        let place = HEADER_LEN as u64 + SAMPLE_LEN as u64 * (self.header.count - self.left);
-        match read_samples(source, place, &mut out[..wanted]) {
+        let width = self.header.width();
+        let place = HEADER_LEN as u64 + bytes_for(width, self.header.count - self.left);
+        match read_samples(source, width, place, &mut out[..wanted]) {
             Ok(()) => {
                 self.left -= wanted as u64;
                 Ok(wanted)
@@ -143,7 +145,7 @@ impl SampleReader {
         ensures kept { IfSome self.old.fault (λ e. result ≡ Err e) }
         ensures untouched { IsSome self.old.fault → source.new ≡ source.old }
         ensures fault { IfErr result (λ e. IsNone self.old.fault →
-            RunsOn e (16 + 4 * self.old.header.count) (S.rest source.old)) }
+            RunsOn e (16 + sample_len (width_of self.old.header) * self.old.header.count) (S.rest source.old)) }
         ensures taken { ConsumesAtMost 1 (S.rest source.old) (S.rest source.new) }
 
         ensures later { S.faults source.old ≤ S.faults source.new }
@@ -153,7 +155,7 @@ impl SampleReader {
         if let Some(fault) = self.fault {
             return Err(fault);
         }
-        let end = HEADER_LEN as u64 + SAMPLE_LEN as u64 * self.header.count;
+        let end = HEADER_LEN as u64 + bytes_for(self.header.width(), self.header.count);
         match expect_end(source, end) {
             Ok(()) => Ok(()),
             Err(fault) => {

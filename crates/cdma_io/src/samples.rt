@@ -4,25 +4,23 @@ ghost use Rattle.std.specs.Prelude.{◌≡◌, ◌<◌, ◌≤◌, ◌+◌, ◌*
 ghost use Rattle.std.specs.List.{flat_map};
 ghost use Rattle.std.specs.Io.KnownBytes.{Consumes};
 ghost use Rattle.cdma_io.specs.Outside.{ConsumesAtMost, Rose};
-ghost use Rattle.cdma_io.specs.SampleFile.{CutsShort, HasSixteenBits, sample_spelling};
+ghost use Rattle.cdma_io.specs.SampleFile.{CutsShort, HasBits, sample_len, sample_spelling};
 
 use crate::file_fault::FileFault;
 use crate::filling::fill;
 use crate::source::Source;
+use crate::width::{Width, bytes_for};
 use byteorder::{BigEndian, ByteOrder};
 use chip_core::Sample;
-
-/// How many bytes a sample has.
-pub const SAMPLE_LEN: usize = 4;
 
 // The most samples that are read at once.
 const PIECE: usize = 1024;
 
 // The sample that four bytes spell.
-fn parse_sample(bytes: &[u8]) -> Sample
-    requires { length bytes.now ≡ SAMPLE_LEN }
-    ensures spelled { bytes.now ≡ sample_spelling result }
-    ensures in_range { HasSixteenBits result }
+fn parse_wide(bytes: &[u8]) -> Sample
+    requires { length bytes.now ≡ 4 }
+    ensures spelled { bytes.now ≡ sample_spelling Width.Sixteen result }
+    ensures in_range { HasBits Width.Sixteen result }
 {
     Sample {
         i: BigEndian::read_i16(bytes),
@@ -30,57 +28,90 @@ fn parse_sample(bytes: &[u8]) -> Sample
     }
 }
 
+// The sample that two bytes spell.
+fn parse_narrow(bytes: &[u8]) -> Sample
+    requires { length bytes.now ≡ 2 }
+    ensures spelled { bytes.now ≡ sample_spelling Width.Eight result }
+    ensures in_range { HasBits Width.Eight result }
+{
+    Sample {
+        i: i16::from(bytes[0].cast_signed()),
+        q: i16::from(bytes[1].cast_signed()),
+    }
+}
+
+// The sample that the bytes spell.
+fn parse_sample(width: Width, bytes: &[u8]) -> Sample
+    requires { length bytes.now ≡ sample_len width }
+    ensures spelled { bytes.now ≡ sample_spelling width result }
+    ensures in_range { HasBits width result }
+{
+    match width {
+        Width::Sixteen => parse_wide(bytes),
+        Width::Eight => parse_narrow(bytes),
+    }
+}
+
 // The samples that the bytes spell.
-fn parse_samples(bytes: &[u8], out: &mut [Sample])
-    requires { length bytes.now ≡ SAMPLE_LEN * length out.old }
-    ensures spelled { bytes.now ≡ flat_map sample_spelling out.new }
-    ensures in_range { All HasSixteenBits out.new }
+fn parse_samples(width: Width, bytes: &[u8], out: &mut [Sample])
+    requires few { length out.old ≤ PIECE }
+    requires bytes { length bytes.now ≡ sample_len width * length out.old }
+    ensures spelled { bytes.now ≡ flat_map (sample_spelling width) out.new }
+    ensures in_range { All (HasBits width) out.new }
 {
     for k in 0..out.len() {
-        out[k] = parse_sample(&bytes[SAMPLE_LEN * k..SAMPLE_LEN * (k + 1)]);
+        let from = bytes_for(width, k as u64) as usize;
+        let end = bytes_for(width, k as u64 + 1) as usize;
+        out[k] = parse_sample(width, &bytes[from..end]);
     }
 }
 
 // Reads a piece of the samples, which begins at a place of the file.
-fn read_piece<S: Source>(source: &mut S, place: u64, out: &mut [Sample]) -> Result<(), FileFault>
+fn read_piece<S: Source>(
+    source: &mut S,
+    width: Width,
+    place: u64,
+    out: &mut [Sample],
+) -> Result<(), FileFault>
     requires few { length out.old ≤ PIECE }
-    requires place_fits { place + SAMPLE_LEN * length out.old < 2 ^ 64 }
+    requires place_fits { place + 4 * length out.old < 2 ^ 64 }
     ensures spelled { OnOk result (Consumes (S.rest source.old) (S.rest source.new)
-        (flat_map sample_spelling out.new)) }
-    ensures in_range { OnOk result (All HasSixteenBits out.new) }
-    ensures fault { IfErr result (λ e. CutsShort e (SAMPLE_LEN * length out.old) place
+        (flat_map (sample_spelling width) out.new)) }
+    ensures in_range { OnOk result (All (HasBits width) out.new) }
+    ensures fault { IfErr result (λ e. CutsShort e (sample_len width * length out.old) place
         (S.rest source.old) (S.rest source.new)) }
-    ensures taken { ConsumesAtMost (SAMPLE_LEN * length out.old)
+    ensures taken { ConsumesAtMost (sample_len width * length out.old)
         (S.rest source.old) (S.rest source.new) }
     ensures later { S.faults source.old ≤ S.faults source.new }
     ensures cause { result ≡ Err FileFault.ReadFault →
         Rose (S.faults source.old) (S.faults source.new) }
 {
-    let mut bytes = [0; SAMPLE_LEN * PIECE];
-    let wanted = SAMPLE_LEN * out.len();
+    let mut bytes = [0; 4 * PIECE];
+    let wanted = bytes_for(width, out.len() as u64) as usize;
     let count = fill(source, &mut bytes[..wanted])?;
     if count < wanted {
         return Err(FileFault::Short {
             at: place + count as u64,
         });
     }
-    parse_samples(&bytes[..wanted], out);
+    parse_samples(width, &bytes[..wanted], out);
     Ok(())
 }
 
 /// Reads as many samples as there is room for, which begin at a place of the file.
 pub fn read_samples<S: Source>(
     source: &mut S,
+    width: Width,
     place: u64,
     out: &mut [Sample],
 ) -> Result<(), FileFault>
-    requires { place + SAMPLE_LEN * length out.old < 2 ^ 64 }
+    requires { place + 4 * length out.old < 2 ^ 64 }
     ensures spelled { OnOk result (Consumes (S.rest source.old) (S.rest source.new)
-        (flat_map sample_spelling out.new)) }
-    ensures in_range { OnOk result (All HasSixteenBits out.new) }
-    ensures fault { IfErr result (λ e. CutsShort e (SAMPLE_LEN * length out.old) place
+        (flat_map (sample_spelling width) out.new)) }
+    ensures in_range { OnOk result (All (HasBits width) out.new) }
+    ensures fault { IfErr result (λ e. CutsShort e (sample_len width * length out.old) place
         (S.rest source.old) (S.rest source.new)) }
-    ensures taken { ConsumesAtMost (SAMPLE_LEN * length out.old)
+    ensures taken { ConsumesAtMost (sample_len width * length out.old)
         (S.rest source.old) (S.rest source.new) }
     ensures later { S.faults source.old ≤ S.faults source.new }
     ensures cause { result ≡ Err FileFault.ReadFault →
@@ -89,8 +120,8 @@ pub fn read_samples<S: Source>(
     let mut done = 0;
     while done < out.len() {
         let count = PIECE.min(out.len() - done);
-        let from = place + (SAMPLE_LEN * done) as u64;
-        read_piece(source, from, &mut out[done..done + count])?;
+        let from = place + bytes_for(width, done as u64);
+        read_piece(source, width, from, &mut out[done..done + count])?;
         done += count;
     }
     Ok(())

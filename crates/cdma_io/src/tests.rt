@@ -2,7 +2,7 @@
 
 use crate::{
     Failed, FileFault, Header, MemorySink, MemorySource, ReaderSource, SampleReader, Sink, Source,
-    WriterSink, write_all,
+    Width, WriterSink, header_bytes, write_all,
 };
 use chip_core::{CheckForm, Sample};
 use std::alloc::{AllocError, Global};
@@ -21,6 +21,19 @@ const HEADER: Header = Header {
     check30: CheckForm::Plain,
     check16: CheckForm::Complemented,
     count: 3,
+};
+
+// A file of the same samples but the last, in 8 bits, whose 30-bit checks are complemented.
+const NARROW_FILE: [u8; 20] = [
+    0x49, 0x53, 0x39, 0x35, 0x00, 0x02, 0x00, 0x01, 0, 0, 0, 0, 0, 0, 0, 2, // header
+    0x01, 0xff, 0x80, 0x7f,
+];
+
+const NARROW_HEADER: Header = Header {
+    version: 2,
+    check30: CheckForm::Complemented,
+    check16: CheckForm::Plain,
+    count: 2,
 };
 
 const NONE: Sample = Sample { i: 0, q: 0 };
@@ -58,12 +71,75 @@ fn reads_a_file_in_pieces(rt: HostRuntime) -> Result<(), Fail> {
 }
 
 #[test]
+fn reads_samples_of_8_bits(rt: HostRuntime) -> Result<(), Fail> {
+    let mut source = source_of(rt.alloc(), &NARROW_FILE, 0)?;
+    let mut reader = SampleReader::open(&mut source)?;
+    assert_eq!(rt; reader.header(), NARROW_HEADER);
+    assert_eq!(rt; reader.header().width(), Width::Eight);
+    let mut out = [NONE; 3];
+    assert_eq!(rt; reader.read(&mut source, &mut out)?, 2);
+    assert_eq!(rt;
+        out,
+        [Sample { i: 1, q: -1 }, Sample { i: -128, q: 127 }, NONE]
+    );
+    assert_eq!(rt; reader.left(), 0);
+    reader.finish(&mut source)?;
+
+    let mut source = source_of(rt.alloc(), &NARROW_FILE[..19], 0)?;
+    let mut reader = SampleReader::open(&mut source)?;
+    assert_eq!(rt;
+        reader.read(&mut source, &mut out),
+        Err(FileFault::Short { at: 19 })
+    );
+    Ok(())
+}
+
+#[test]
+fn counts_up_to_the_limit_of_the_version(rt: HostRuntime) -> Result<(), Fail> {
+    let headers = [
+        (1, 33_554_432, None),
+        (1, 33_554_433, Some(FileFault::Count)),
+        (2, 33_554_433, None),
+        (2, 67_108_864, None),
+        (2, 67_108_865, Some(FileFault::Count)),
+        (3, 0, Some(FileFault::Version)),
+        (0, 0, Some(FileFault::Version)),
+        (513, 0, Some(FileFault::Version)),
+    ];
+    for (version, count, fault) in headers {
+        let header = Header {
+            version,
+            count,
+            ..HEADER
+        };
+        let mut source = source_of(rt.alloc(), &header_bytes(&header), 0)?;
+        match SampleReader::open(&mut source) {
+            Ok(mut reader) => {
+                assert_eq!(rt; fault, None, "version {version}");
+                assert_eq!(rt;
+                    reader.read(&mut source, &mut [NONE]),
+                    Err(FileFault::Short { at: 16 })
+                );
+            }
+            Err(e) => assert_eq!(rt; Some(e), fault, "version {version}"),
+        }
+    }
+    Ok(())
+}
+
+#[test]
+fn writes_headers(rt: HostRuntime) {
+    assert_eq!(rt; header_bytes(&HEADER).as_slice(), &FILE[..16]);
+    assert_eq!(rt; header_bytes(&NARROW_HEADER).as_slice(), &NARROW_FILE[..16]);
+}
+
+#[test]
 fn refuses_headers(rt: HostRuntime) -> Result<(), Fail> {
     let bad = [
         (0, b'X', FileFault::Magic),
         (3, b'4', FileFault::Magic),
         (4, 1, FileFault::Version),
-        (5, 2, FileFault::Version),
+        (5, 3, FileFault::Version),
         (6, 1, FileFault::Flags),
         (7, 4, FileFault::Flags),
         (8, 1, FileFault::Count),

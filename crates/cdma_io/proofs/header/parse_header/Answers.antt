@@ -1,4 +1,5 @@
-use Rattle.std.proofs.Common.{sym, ◌∙◌, arith, rules}
+use Rattle.std.proofs.Common.{sym, ap, ◌∙◌, arith, rules}
+use Rattle.cdma_io.specs.SampleFile.{most_samples}
 use Rattle.cdma_io.proofs.ByteNumbers.{AreBytes}
 use Rattle.cdma_io.proofs.Opening.{parsed_count, parsed_flags, parsed_header, parsed_magic, parsed_spelling, parsed_version}
 use Rattle.cdma_io.proofs.header.parse_header.Goals as goal
@@ -7,29 +8,29 @@ pub returns-then-not-starts_with-clause-value : goal.returns-then-not-starts_wit
 returns-then-not-starts_with-clause-value c =
     parsed_magic c.args.bytes.now c.requires (sym c.starts_with.ensures.value ∙ c.if-not-starts_with.true)
 
-pub returns-then-version-ne1-clause-value : goal.returns-then-version-ne1-clause-value
-returns-then-version-ne1-clause-value c =
+pub returns-then-not-is_known-clause-value : goal.returns-then-not-is_known-clause-value
+returns-then-not-is_known-clause-value c =
     parsed_version c.args.bytes.now c.read_u16-version.result c.requires (sym c.starts_with.ensures.value ∙ c.if-not-starts_with.false)
-    c.read_u16-version.ensures c.if-version-ne1.true
+    c.read_u16-version.ensures (sym c.is_known.ensures ∙ c.if-not-is_known.true)
 
 pub returns-then-flags-ge4-clause-value : goal.returns-then-flags-ge4-clause-value
 returns-then-flags-ge4-clause-value c =
     parsed_flags c.args.bytes.now c.read_u16-version.result c.read_u16-flags.result c.requires (sym c.starts_with.ensures.value ∙ c.if-not-starts_with.false)
-    c.read_u16-version.ensures c.if-version-ne1.false c.read_u16-flags.ensures c.if-flags-ge4.true
+    c.read_u16-version.ensures (sym c.is_known.ensures ∙ c.if-not-is_known.false) c.read_u16-flags.ensures c.if-flags-ge4.true
 
-pub returns-then-count-gt-MOST_SAMPLES-clause-value : goal.returns-then-count-gt-MOST_SAMPLES-clause-value
-returns-then-count-gt-MOST_SAMPLES-clause-value c =
+pub returns-then-count-most_for-clause-value : goal.returns-then-count-most_for-clause-value
+returns-then-count-most_for-clause-value c =
     parsed_count c.args.bytes.now c.read_u16-version.result c.read_u16-flags.result c.read_u64-count.result
     (record {
       long = c.requires;
       begins = sym c.starts_with.ensures.value ∙ c.if-not-starts_with.false;
       version_is = c.read_u16-version.ensures;
-      one = c.if-version-ne1.false;
+      known = sym c.is_known.ensures ∙ c.if-not-is_known.false;
       flags_are = c.read_u16-flags.ensures;
       few = c.if-flags-ge4.false;
       count_is = c.read_u64-count.ensures;
     })
-    c.if-count-gt-MOST_SAMPLES.true
+    _ (c.most_for.ensures.value ∙ ap most_samples c.width_for.ensures) c.if-count-most_for.true
 
 pub returns-clause-value : goal.returns-clause-value
 returns-clause-value c =
@@ -38,12 +39,12 @@ returns-clause-value c =
       long = c.requires;
       begins = sym c.starts_with.ensures.value ∙ c.if-not-starts_with.false;
       version_is = c.read_u16-version.ensures;
-      one = c.if-version-ne1.false;
+      known = sym c.is_known.ensures ∙ c.if-not-is_known.false;
       flags_are = c.read_u16-flags.ensures;
       few = c.if-flags-ge4.false;
       count_is = c.read_u64-count.ensures;
     })
-    c.if-count-gt-MOST_SAMPLES.false (search rules) (search rules)
+    _ (c.most_for.ensures.value ∙ ap most_samples c.width_for.ensures) c.if-count-most_for.false (search rules) (search rules)
 
 pub returns-clause-spelled : goal.returns-clause-spelled
 returns-clause-spelled c =

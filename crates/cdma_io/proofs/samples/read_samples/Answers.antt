@@ -1,4 +1,5 @@
-use Rattle.std.proofs.Common.{◌≡◌, ◌+◌, ◌-◌, ◌*◌, ◌≤◌, length, take, drop, rules, arith}
+use Rattle.std.proofs.Common.{◌≡◌, ◌+◌, ◌-◌, ◌*◌, ◌≤◌, ℕ, length, take, drop, sym, ap, ◌∙◌, rules}
+use Rattle.cdma_io.specs.SampleFile.{sample_len}
 use Rattle.std.proofs.lemmas.List.{length-take-le}
 use Rattle.std.proofs.lemmas.Slice.{overwrites}
 use Rattle.std.proofs.lemmas.Result.{err_from_is_err_and}
@@ -14,9 +15,10 @@ returns-in_err-read_piece-clause-fault g c =
     let long : length (take done out) ≡ done = length-take-le done out inv.done in
     let piece : length (take (done + count - done) (drop done out)) ≡ count = search rules in
     let few : length (take done out) + length (take (done + count - done) (drop done out)) ≤ length c.args.out.now = search rules in
-    let here : c.args.place + 4 * done ≡ c.args.place + 4 * length (take done out) = omega arith in
+    let here : c.args.place + c.bytes_for.result ≡ c.args.place + sample_len c.args.width * length (take done out) =
+    ap (λ (n : ℕ). c.args.place + n) (c.bytes_for.ensures.value ∙ ap (λ (n : ℕ). sample_len c.args.width * n) (sym long)) in
     let p = err_from_is_err_and c.from_residual.result c.from_residual.ensures.1 in
-    rw (p.1, p.2) (cuts_short_whole _ _ _ _ (take done out) (length (take (done + count - done) (drop done out))) _ _ _ few here inv.taken c.in_err-read_piece.ensures.fault)
+    rw (p.1, p.2) (cuts_short_whole c.args.width _ _ _ _ (take done out) (length (take (done + count - done) (drop done out))) _ _ _ few here inv.taken c.in_err-read_piece.ensures.fault)
 
 pub returns-in_err-read_piece-clause-taken : goal.returns-in_err-read_piece-clause-taken
 returns-in_err-read_piece-clause-taken g c =
@@ -27,7 +29,7 @@ returns-in_err-read_piece-clause-taken g c =
     let long : length (take done out) ≡ done = length-take-le done out inv.done in
     let piece : length (take (done + count - done) (drop done out)) ≡ count = search rules in
     let few : length (take done out) + length (take (done + count - done) (drop done out)) ≤ length c.args.out.now = search rules in
-    samples_taken_more _ _ _ (take done out) (length (take (done + count - done) (drop done out))) _ few inv.taken c.read_piece.ensures.taken
+    samples_taken_more c.args.width _ _ _ (take done out) (length (take (done + count - done) (drop done out))) _ few inv.taken c.read_piece.ensures.taken
 
 pub loop-done-preserved : goal.loop-done-preserved
 loop-done-preserved g c =
@@ -37,8 +39,8 @@ loop-done-preserved g c =
     let long : length c.read_piece.new.out ≡ count = search rules in
     record {
       done = search (rules, overwrites, inv.done);
-      taken = pieces_more _ _ _ c.loop-done.out c.read_piece.new.out done _ count inv.done long inv.taken c.in_ok-read_piece.ensures.spelled;
-      in_range = pieces_in_range c.loop-done.out c.read_piece.new.out done _ count inv.done long inv.in_range c.in_ok-read_piece.ensures.in_range;
+      taken = pieces_more c.args.width _ _ _ c.loop-done.out c.read_piece.new.out done _ count inv.done long inv.taken c.in_ok-read_piece.ensures.spelled;
+      in_range = pieces_in_range c.args.width c.loop-done.out c.read_piece.new.out done _ count inv.done long inv.in_range c.in_ok-read_piece.ensures.in_range;
       later = search rules;
     }
 
@@ -46,4 +48,4 @@ pub returns-clause-taken : goal.returns-clause-taken
 returns-clause-taken g c =
     let inv = c.loop-done.invariant in
     let long : length (take c.loop-done.done c.loop-done.out) ≡ c.loop-done.done = length-take-le c.loop-done.done c.loop-done.out inv.done in
-    samples_taken _ _ (take c.loop-done.done c.loop-done.out) _ (search rules) inv.taken
+    samples_taken c.args.width _ _ (take c.loop-done.done c.loop-done.out) _ (search rules) inv.taken

@@ -1,10 +1,10 @@
 use Rattle.std.proofs.Common.{rules, arith}
 use Rattle.cdma_io.proofs.ByteNumbers.{AreBytes}
-use Rattle.cdma_io.proofs.Spelling.{spelled_sample}
-use Rattle.cdma_io.proofs.samples.parse_sample.Goals as goal
+use Rattle.cdma_io.proofs.Spelling.{spelled_wide}
+use Rattle.cdma_io.proofs.samples.parse_wide.Goals as goal
 
 pub returns-clause-spelled : goal.returns-clause-spelled
 returns-clause-spelled c =
     let bytes = c.args.bytes.now in
     let small : AreBytes bytes = λ k. let fits = c.type_inv.bytes k in omega arith in
-    spelled_sample bytes _ _ c.requires small (search rules) (search rules)
+    spelled_wide bytes _ _ c.requires small (search rules) (search rules)
