@@ -10,7 +10,7 @@ use Rattle.std.proofs.KnownBytes.{Appends-nil}
 use Rattle.chip_core.specs.declared.sample.Sample.{Sample}
 use Rattle.cdma_io.specs.declared.header.Header.{Header}
 use Rattle.cdma_io.specs.Outside.{AppendsPrefix}
-use Rattle.cdma_io.specs.SampleFile.{HasSixteenBits, IsLawfulHeader, header_spelling, sample_spelling}
+use Rattle.cdma_io.specs.SampleFile.{HasBits, IsLawfulHeader, header_spelling, sample_spelling, width_of}
 use Rattle.pilot_search.specs.BestIn.{IsBestIn}
 use Rattle.pilot_search.specs.Search.{best_phase}
 use Rattle.pilot_search.proofs.BestPhase.{best_phase-only, best_energy-only}
@@ -26,7 +26,7 @@ pilot_line-best samples phase energy best =
 
 -- a beginning of the line was written, after these samples were read
 pub writes_part : (rest mid old new : Option (List ℕ)) (header : Header) (samples : List Sample) (span : ℕ) → length samples ≡ span →
-    Consumes rest mid (header_spelling header ++ flat_map sample_spelling samples) → AppendsPrefix old new (best_line samples) → WritesNoMore span rest old new
+    Consumes rest mid (header_spelling header ++ flat_map (sample_spelling (width_of header)) samples) → AppendsPrefix old new (best_line samples) → WritesNoMore span rest old new
 writes_part rest mid old new header samples span counted consumed part = record {
   text = take part.count (best_line samples);
   written = part.appended;
@@ -34,7 +34,7 @@ writes_part rest mid old new header samples span counted consumed part = record 
     header = header;
     samples = samples;
     counted = counted;
-    first = first rest mid (header_spelling header ++ flat_map sample_spelling samples) consumed;
+    first = first rest mid (header_spelling header ++ flat_map (sample_spelling (width_of header)) samples) consumed;
     begins = ap (λ (n : ℕ). take n (best_line samples)) (length-take-le part.count (best_line samples) part.fits);
   });
 }
@@ -46,7 +46,7 @@ writes_part rest mid old new header samples span counted consumed part = record 
 
 -- all of it was
 pub writes_whole : (rest mid old new : Option (List ℕ)) (header : Header) (samples : List Sample) (span : ℕ) → length samples ≡ span →
-    Consumes rest mid (header_spelling header ++ flat_map sample_spelling samples) → Appends old new (best_line samples) → WritesNoMore span rest old new
+    Consumes rest mid (header_spelling header ++ flat_map (sample_spelling (width_of header)) samples) → Appends old new (best_line samples) → WritesNoMore span rest old new
 writes_whole rest mid old new header samples span counted consumed all =
     let whole : take (length (best_line samples)) (best_line samples) ≡ best_line samples = take_all (length (best_line samples)) (best_line samples) (omega arith) in
     writes_part rest mid old new header samples span counted consumed (record {
@@ -61,22 +61,22 @@ writes_none rest old span = record { text = []; written = Appends-nil old; part 
 
 -- the file was read to its end, and the line of its first samples written
 pub writes_best_line : (rest mid end old new : Option (List ℕ)) (header : Header) (samples : List Sample) (left span : ℕ) → length samples ≡ span →
-    IsLawfulHeader header → left + span ≡ header.count → All HasSixteenBits samples →
-    Consumes rest mid (header_spelling header ++ flat_map sample_spelling samples) → PassesSamples left mid end → IsAtEnd end →
+    IsLawfulHeader header → left + span ≡ header.count → All (HasBits (width_of header)) samples →
+    Consumes rest mid (header_spelling header ++ flat_map (sample_spelling (width_of header)) samples) → PassesSamples (width_of header) left mid end → IsAtEnd end →
     Appends old new (best_line samples) → IfSome rest (λ bytes. WritesBestLine span bytes old new)
 writes_best_line None mid end old new header samples left span counted lawful count range consumed p ends all = tt
 writes_best_line (Some bytes) None end old new header samples left span counted lawful count range consumed p ends all = absurd consumed
 writes_best_line (Some bytes) (Some more) None old new header samples left span counted lawful count range consumed p ends all = absurd p.consumed
 writes_best_line (Some bytes) (Some more) (Some last) old new header samples left span counted lawful count range consumed p ends all =
     let front = header_spelling header in
-    let first = flat_map sample_spelling samples in
-    let others = flat_map sample_spelling p.samples in
+    let first = flat_map (sample_spelling (width_of header)) samples in
+    let others = flat_map (sample_spelling (width_of header)) p.samples in
     let rest_is : more ≡ others = p.consumed ∙ ap (λ (bs : List ℕ). others ++ bs) ends ∙ append-nil others in
-    let spelled : bytes ≡ front ++ flat_map sample_spelling (samples ++ p.samples) =
+    let spelled : bytes ≡ front ++ flat_map (sample_spelling (width_of header)) (samples ++ p.samples) =
     consumed
     ∙ ap (λ (bs : List ℕ). (front ++ first) ++ bs) rest_is
     ∙ append_assoc front first others
-    ∙ ap (λ (bs : List ℕ). front ++ bs) (sym (flat_map-append sample_spelling samples p.samples)) in
+    ∙ ap (λ (bs : List ℕ). front ++ bs) (sym (flat_map-append (sample_spelling (width_of header)) samples p.samples)) in
     let long : length (samples ++ p.samples) ≡ header.count = omega (arith, length-append samples p.samples, counted, p.counted, count) in
     record {
       searchable = record {
@@ -85,7 +85,7 @@ writes_best_line (Some bytes) (Some more) (Some last) old new header samples lef
         file = record {
           lawful = lawful;
           counted = long;
-          in_range = All-append HasSixteenBits samples p.samples range p.in_range;
+          in_range = All-append (HasBits (width_of header)) samples p.samples range p.in_range;
           spelled = spelled;
         };
         enough = omega (arith, length-append samples p.samples, counted);

@@ -7,7 +7,8 @@ use Rattle.chip_core.specs.declared.sample.Sample.{Sample}
 use Rattle.cdma_io.specs.declared.header.Header.{Header}
 use Rattle.cdma_io.specs.declared.file_fault.FileFault.{FileFault}
 use Rattle.cdma_io.specs.declared.file_fault.FileFault.TheVariants.{Short, Extra, ReadFault}
-use Rattle.cdma_io.specs.SampleFile.{IsSampleFile, HasSixteenBits, header_spelling, sample_spelling}
+use Rattle.cdma_io.specs.SampleFile.{IsSampleFile, HasBits, header_spelling, sample_spelling, width_of}
+use Rattle.cdma_io.specs.declared.width.Width.{Width}
 use Rattle.cdma_replay.specs.declared.status.Status.{Status}
 use Rattle.cdma_replay.specs.declared.status.Status.TheVariants.{Done}
 use Rattle.cdma_replay.specs.PilotLine.{best_line}
@@ -19,12 +20,12 @@ pub record IsSearchable (bytes : List ℕ) (span : ℕ) : Type 0 where
   pub file : IsSampleFile bytes header samples
   pub enough : span ≤ length samples
 
--- known bytes lost the spellings of so many samples
-pub record PassesSamples (count : ℕ) (old new : Option (List ℕ)) : Type 0 where
+-- known bytes lost the spellings of so many samples of this width
+pub record PassesSamples (width : Width) (count : ℕ) (old new : Option (List ℕ)) : Type 0 where
   pub samples : List Sample
   pub counted : length samples ≡ count
-  pub in_range : All HasSixteenBits samples
-  pub consumed : Consumes old new (flat_map sample_spelling samples)
+  pub in_range : All (HasBits width) samples
+  pub consumed : Consumes old new (flat_map (sample_spelling width) samples)
 
 -- the file of these bytes was read, and the line of its first samples written
 pub record WritesBestLine (span : ℕ) (bytes : List ℕ) (old new : Option (List ℕ)) : Type 0 where
@@ -36,7 +37,7 @@ pub record BeginsBestLine (span : ℕ) (rest : Option (List ℕ)) (text : List �
   pub header : Header
   pub samples : List Sample
   pub counted : length samples ≡ span
-  pub first : IfSome rest (λ bytes. StartsWith bytes (header_spelling header ++ flat_map sample_spelling samples))
+  pub first : IfSome rest (λ bytes. StartsWith bytes (header_spelling header ++ flat_map (sample_spelling (width_of header)) samples))
   pub begins : StartsWith (best_line samples) text
 
 -- known bytes grew by nothing, or by a beginning of that line

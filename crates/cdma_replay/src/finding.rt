@@ -6,7 +6,7 @@ ghost use Rattle.std.specs.Io.KnownBytes.{Appends, Consumes, IsAtEnd};
 ghost use Rattle.chip_core.specs.declared.sample.Sample.{Sample};
 ghost use Rattle.cdma_io.specs.declared.file_fault.FileFault.{FileFault};
 ghost use Rattle.cdma_io.specs.Outside.{AppendsPrefix, HasCause, Rose};
-ghost use Rattle.cdma_io.specs.SampleFile.{HasSixteenBits, IsLawfulHeader, header_spelling, sample_spelling};
+ghost use Rattle.cdma_io.specs.SampleFile.{HasBits, IsLawfulHeader, header_spelling, sample_len, sample_spelling, width_of};
 ghost use Rattle.cdma_replay.specs.PilotLine.{best_line};
 ghost use Rattle.cdma_replay.specs.Find.{IsHeaderFault, IsSearchable, PassesSamples, WritesBestLine, WritesNoMore, ended};
 
@@ -50,8 +50,8 @@ impl Workspace {
 /// Opens a sample file and reads its first samples, as many as `span` has room for.
 fn open_span<S: Source>(source: &mut S, span: &mut [Sample]) -> Result<SampleReader, FileFault>
     ensures file { IfOk result (λ r. Consumes (S.rest source.old) (S.rest source.new)
-        (header_spelling r.header ++ flat_map sample_spelling span.new)) }
-    ensures in_range { OnOk result (All HasSixteenBits span.new) }
+        (header_spelling r.header ++ flat_map (sample_spelling (width_of r.header)) span.new)) }
+    ensures in_range { IfOk result (λ r. All (HasBits (width_of r.header)) span.new) }
     ensures lawful { IfOk result (λ r. IsLawfulHeader r.header) }
     ensures reader { IfOk result (λ r. (r.left + length span.old ≡ r.header.count) × (r.fault ≡ None)) }
     ensures fault { IfErr result (λ e. e ≢ FileFault.ReadFault →
@@ -77,9 +77,9 @@ fn pass_rest<S: Source>(
     requires room { 0 < length piece.old }
     requires good { reader.old.fault ≡ None }
     ensures ends { OnOk result (IsAtEnd (S.rest source.new)) }
-    ensures ok { OnOk result (PassesSamples reader.old.left (S.rest source.old) (S.rest source.new)) }
+    ensures ok { OnOk result (PassesSamples (width_of reader.old.header) reader.old.left (S.rest source.old) (S.rest source.new)) }
     ensures fault { IfErr result (λ e. e ≢ FileFault.ReadFault →
-        IfSome (S.rest source.old) (λ bytes. length bytes ≢ 4 * reader.old.left)) }
+        IfSome (S.rest source.old) (λ bytes. length bytes ≢ sample_len (width_of reader.old.header) * reader.old.left)) }
     ensures sample_fault { IfErr result (λ e. IsHeaderFault e → ⊥) }
     ensures later { S.faults source.old ≤ S.faults source.new }
     ensures cause { result ≡ Err FileFault.ReadFault → Rose (S.faults source.old) (S.faults source.new) }

@@ -100,6 +100,20 @@ fn finds_the_phase(rt: HostRuntime) -> Result<(), Fail> {
 }
 
 #[test]
+fn finds_in_samples_of_8_bits(rt: HostRuntime) -> Result<(), Fail> {
+    let alloc = rt.alloc();
+    let mut file = Vec::from_slice(
+        alloc,
+        b"IS95\x00\x02\x00\x00\x00\x00\x00\x00\x00\x00\x08\x00",
+    )?;
+    file.extend_from_slice(&[0; 4096])?;
+    let (status, text) = find(alloc, file)?;
+    assert_eq!(rt; status, Status::Done);
+    assert_eq!(rt; text.as_slice(), b"pilot phase=0 energy=0\n".as_slice());
+    Ok(())
+}
+
+#[test]
 fn answers_in_any_pieces(rt: HostRuntime) -> Result<(), Fail> {
     let alloc = rt.alloc();
     for (source_piece, sink_piece) in [(7, 1), (1, 3), (8208, 100)] {
@@ -126,7 +140,7 @@ fn names_each_fault(rt: HostRuntime) -> Result<(), Fail> {
     for (place, byte, fault) in [
         (0, b'i', FileFault::Magic),
         (3, b'6', FileFault::Magic),
-        (5, 2, FileFault::Version),
+        (5, 3, FileFault::Version),
         (4, 1, FileFault::Version),
         (7, 4, FileFault::Flags),
         (6, 1, FileFault::Flags),
