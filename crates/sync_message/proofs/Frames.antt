@@ -1,5 +1,5 @@
 -- One more frame.
-use Rattle.std.proofs.Common.{◌≡◌, Bool, true, false, cond, List, [], ◌∷◌, ◌++◌, map, drop, refl, sym, ap, ◌∙◌, Option, Some, slice_get}
+use Rattle.std.proofs.Common.{◌≡◌, Bool, cond, List, [], ◌∷◌, ◌++◌, map, drop, refl, sym, ap, ◌∙◌, Option, Some, slice_get}
 use Rattle.quality_bits.specs.Capsules.{continued, completed}
 use Rattle.quality_bits.specs.Pieces.{Piece, piece, under_way, capsule_ending}
 use Rattle.quality_bits.proofs.Streams.{under_way-more, ending-more}
@@ -38,10 +38,3 @@ frame_gives frames frame som framer capsule read stood is =
     ∙ ending-more before (piece frame)
     ∙ ap (λ (b : Bool). completed (cond b (Some []) (under_way before)) (piece frame).body) (frame_starts frame som read)
     ∙ ap (completed (cond som (Some []) (under_way before))) (frame_body frame som read))
-
--- the capsule that a frame's body goes to
-pub started : (som : Bool) (capsule framer : Option (List Bool)) → som ≡ true → capsule ≡ Some [] → capsule ≡ cond som (Some []) framer
-started som capsule framer e is = rw e is
-
-pub gone_on : (som : Bool) (capsule framer : Option (List Bool)) → som ≡ false → capsule ≡ framer → capsule ≡ cond som (Some []) framer
-gone_on som capsule framer e is = rw e is

@@ -1,6 +1,6 @@
 //! Capsules out of frames.
 
-ghost use Rattle.std.specs.Prelude.{◌≡◌, Bool, List, [], ◌∷◌, ◌++◌, length, map};
+ghost use Rattle.std.specs.Prelude.{◌≡◌, Bool, List, [], ◌∷◌, ◌++◌, length, map, cond, Some};
 ghost use Rattle.quality_bits.specs.Pieces.{piece, capsule_ending};
 ghost use Rattle.sync_message.specs.Framing.{StandsFor};
 
@@ -47,9 +47,14 @@ impl CapsuleFramer {
         ensures capsule { (frames : List (List Bool)) →
             StandsFor self.old frames → result ≡ capsule_ending (map piece (frames ++ frame.now ∷ [])) }
     {
-        if frame.get(0) {
-            self.capsule = OpenCapsule::new();
-        }
+        self.capsule = from_start(frame.get(0), self.capsule);
         self.capsule.push_all(frame, 1)
     }
+}
+
+/// The capsule that a frame's body goes to: a new one where the SOM bit is 1, else the one that is open.
+fn from_start(som: bool, capsule: OpenCapsule) -> OpenCapsule
+    ensures { result ≡ cond som (Some []) capsule }
+{
+    if som { OpenCapsule::new() } else { capsule }
 }
