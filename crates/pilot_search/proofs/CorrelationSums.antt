@@ -5,7 +5,7 @@ use Rattle.std.proofs.lemmas.List.Elements.{All-from_get_or}
 use Rattle.std.proofs.lemmas.Bool.{cases_order}
 use Rattle.std.proofs.Math.Seq.{drop-cons}
 use Rattle.chip_core.specs.Bits.{sign, zip_with}
-use Rattle.chip_core.specs.Complex.{plus, times, conjugate, sum_of, of_sample}
+use Rattle.chip_core.specs.Complex.{plus, sum_of}
 use Rattle.chip_core.proofs.ComplexSums.{plus_assoc, plus-origin, sum_of-append, real_part, imaginary_part}
 use Rattle.chip_core.specs.declared.sample.Pair.{Pair}
 use Rattle.chip_core.specs.declared.sample.Sample.{Sample}

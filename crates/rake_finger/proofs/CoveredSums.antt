@@ -1,10 +1,10 @@
 -- Sums of despread and covered samples, sample by sample.
-use Rattle.std.proofs.Common.{◌≡◌, ℕ, zero, suc, ◌+◌, ◌-◌, ◌*◌, ◌%◌, ◌<◌, ◌≤◌, Bool, true, false, List, [], ◌∷◌, ◌++◌, length, get_or, take, drop, refl, sym, ap, ◌∙◌, arith, ℤ, pos, ◌+ℤ◌, ◌-ℤ◌, ◌*ℤ◌, Some}
+use Rattle.std.proofs.Common.{◌≡◌, ℕ, suc, ◌+◌, ◌%◌, ◌<◌, Bool, true, false, List, [], ◌∷◌, ◌++◌, length, get_or, take, drop, refl, sym, ap, ◌∙◌, arith, ℤ, pos, ◌+ℤ◌, ◌-ℤ◌, ◌*ℤ◌}
 use Rattle.std.proofs.lemmas.Int.{ints}
 use Rattle.std.proofs.lemmas.List.{take_more, length-take-le, length-drop, get_or-drop}
 use mathlib.Core.Bool.{not, beq}
 use Rattle.chip_core.specs.Bits.{sign}
-use Rattle.chip_core.specs.Complex.{origin, plus, times, conjugate, point, sum_of, of_sample}
+use Rattle.chip_core.specs.Complex.{plus, times, conjugate, point, sum_of, of_sample}
 use Rattle.chip_core.proofs.ComplexSums.{sum_of-append, plus-origin, real_part, imaginary_part}
 use Rattle.chip_core.specs.declared.sample.Pair.{Pair}
 use Rattle.chip_core.specs.declared.sample.Sample.{Sample}

@@ -1,6 +1,5 @@
-use Rattle.std.proofs.Common.{◌≡◌, ◌-◌, ◌++◌, ℕ, ℤ, List, [], ◌∷◌, replicate, sym, ap, ◌∙◌, arith, pos, ◌-ℤ◌, to_z, of_z, w8}
+use Rattle.std.proofs.Common.{◌≡◌, arith, pos, ◌-ℤ◌, to_z, of_z, w8}
 use Rattle.std.proofs.lemmas.Int.{ints}
-use Rattle.pilot_search.specs.Near.{near_deltas}
 use Rattle.pilot_search.proofs.NearPlaces.{one_delta, two_deltas, three_deltas}
 use Rattle.pilot_search.proofs.nearby.near.Goals as goal
 

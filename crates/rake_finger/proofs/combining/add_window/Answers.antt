@@ -1,11 +1,11 @@
-use Rattle.std.proofs.Common.{◌≡◌, ◌≢◌, ◌+◌, ◌*◌, ◌<◌, ◌≤◌, ℕ, List, ℤ, pos, length, get_or, refl, sym, ap, ◌∙◌, arith, unsigned_abs}
+use Rattle.std.proofs.Common.{◌≡◌, ◌≢◌, ◌+◌, ◌*◌, ◌<◌, ◌≤◌, ℕ, List, ℤ, pos, length, sym, ap, ◌∙◌, arith, unsigned_abs}
 use Rattle.std.proofs.lemmas.Int.{ints, fits_signed_from_abs}
 use Rattle.std.proofs.lemmas.List.{get_or-set_other}
 use Rattle.std.specs.Int.{w64}
 use Rattle.chip_core.specs.declared.sample.Pair.{Pair}
 use Rattle.chip_core.specs.declared.sample.Sample.{Sample}
 use Rattle.rake_finger.specs.Held.{HoldsLast}
-use Rattle.rake_finger.specs.Soft.{symbols, window_symbols, pilot_sum, symbol_sum, turned_part, soft}
+use Rattle.rake_finger.specs.Soft.{window_symbols, pilot_sum, symbol_sum, turned_part, soft}
 use Rattle.rake_finger.proofs.Adding.{window_of, symbol_within, soft_bound-most, IsAdded-more}
 use Rattle.rake_finger.proofs.SoftValues.{soft_is}
 use Rattle.rake_finger.proofs.combining.add_window.Goals as goal

@@ -1,4 +1,4 @@
-use Rattle.std.proofs.Common.{◌≡◌, length, arith}
+use Rattle.std.proofs.Common.{length, arith}
 use Rattle.std.proofs.lemmas.List.{take_all}
 use Rattle.rake_finger.proofs.Adding.{IsSummed-more, softs_are, sum_within}
 use Rattle.rake_finger.proofs.combining.combine_into.Goals as goal

@@ -1,4 +1,4 @@
-use Rattle.std.proofs.Common.{◌≡◌, ◌+◌, ◌*◌, ◌%◌, ℕ, Bool, ap, ◌∙◌, arith, pos}
+use Rattle.std.proofs.Common.{◌≡◌, ◌+◌, ◌%◌, ℕ, Bool, ap, ◌∙◌, arith, pos}
 use Rattle.std.proofs.lemmas.Int.{ints}
 use Rattle.chip_core.specs.Bits.{sign}
 use Rattle.chip_core.specs.Complex.{times, conjugate, point, of_sample}

@@ -1,4 +1,4 @@
-use Rattle.std.proofs.Common.{◌≡◌, ap, ◌∙◌, ℤ, unsigned_abs, ◌≤◌, ◌^◌}
+use Rattle.std.proofs.Common.{ap, ◌∙◌, ℤ, unsigned_abs}
 use Rattle.std.proofs.lemmas.Int.{unsigned_abs-mul}
 use Rattle.rake_finger.proofs.SoftValues.{product_is, product_most}
 use Rattle.rake_finger.proofs.values.product.Goals as goal

@@ -1,7 +1,7 @@
-use Rattle.std.proofs.Common.{◌≡◌, ◌*◌, ◌/◌, ℕ, ap, ◌∙◌, arith, to_z, of_z, w64}
+use Rattle.std.proofs.Common.{◌≡◌, ap, ◌∙◌, arith, to_z, of_z, w64}
 use Rattle.std.proofs.lemmas.Int.{ints}
 use Rattle.chip_core.specs.declared.sample.Pair.{Pair}
-use Rattle.rake_finger.specs.Soft.{symbol_chips, window_chips, pilot_sum, symbol_sum, turned_part}
+use Rattle.rake_finger.specs.Soft.{symbol_sum, turned_part}
 use Rattle.rake_finger.proofs.SoftValues.{soft_is}
 use Rattle.rake_finger.proofs.values.soft.Goals as goal
 

@@ -1,7 +1,6 @@
 use Rattle.std.proofs.Common.{◌≡◌, ◌+◌, ◌*◌, ◌≤◌, ap, ◌∙◌, arith, to_z, of_z, w64}
 use Rattle.std.proofs.lemmas.Int.{ints}
 use Rattle.std.specs.Prelude.{unsigned_abs}
-use Rattle.chip_core.specs.declared.sample.Pair.{Pair}
 use Rattle.rake_finger.specs.Soft.{finger_place, turned_part, soft_bound}
 use Rattle.rake_finger.proofs.SoftValues.{symbol_is, soft_bounded}
 use Rattle.rake_finger.proofs.values.value_by.Goals as goal

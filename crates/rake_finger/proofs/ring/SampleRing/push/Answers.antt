@@ -1,5 +1,4 @@
-use Rattle.std.proofs.Common.{◌≡◌, ◌+◌, ◌%◌, ◌∷◌, [], ◌++◌, length, arith, vec_len, refl}
-use Rattle.rake_finger.specs.Held.{HoldsLast}
+use Rattle.std.proofs.Common.{◌≡◌, arith, vec_len, refl}
 use Rattle.rake_finger.proofs.Rings.{HoldsLast-more}
 use Rattle.rake_finger.proofs.ring.SampleRing.push.Goals as goal
 
