@@ -3,6 +3,7 @@
 ghost use Rattle.std.specs.Prelude.{pos, ◌≤ℤ◌};
 
 use super::*;
+use crate::{Near, near};
 use std::test::Fail;
 
 const NOTHING: Sample = Sample { i: 0, q: 0 };
@@ -72,5 +73,33 @@ fn measures_as_many_samples_as_chips(rt: HostRuntime) -> Result<(), Fail> {
         code[usize::from(n)] = shown(codes.chip(n), 32767);
     }
     assert_eq!(rt; measured(&code, &codes, 0).energy, 4611404547745644544);
+    Ok(())
+}
+
+#[test]
+fn lists_the_phases_near_the_best(rt: HostRuntime) -> Result<(), Fail> {
+    let codes = Codes::new(rt.alloc())?;
+    let zeros = [NOTHING; 64];
+    let nothing = sweep(&zeros, &codes, 0, 32768);
+    let first_three = Near {
+        count: 3,
+        deltas: [0, 1, 2],
+    };
+    assert_eq!(rt; near(&zeros, &codes, nothing, 3), first_three);
+    let mut samples = [NOTHING; 2048];
+    for t in 0..2048u16 {
+        let (first, second) = (shown(codes.chip(t), 100), shown(codes.chip(t + 3), 60));
+        samples[usize::from(t)] = Sample {
+            i: first.i.saturating_add(second.i),
+            q: first.q.saturating_add(second.q),
+        };
+    }
+    let best = sweep(&samples, &codes, 0, 32768);
+    assert_eq!(rt; best.phase.get(), 0);
+    let two_paths = Near {
+        count: 2,
+        deltas: [0, 3, 0],
+    };
+    assert_eq!(rt; near(&samples, &codes, best, 2), two_paths);
     Ok(())
 }
