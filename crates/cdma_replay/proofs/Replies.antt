@@ -15,19 +15,6 @@ use Rattle.cdma_replay.specs.declared.status.Status.{Status}
 use Rattle.cdma_replay.specs.Find.{IsSearchable, WritesBestLine}
 use Rattle.cdma_replay.specs.PilotLine.{best_line}
 
--- a list of one word is the list of the word that it is compared with, or not
-pub one_word : (words : List (String Global)) (word : String Global) (text name : List ℕ) (r : Bool) → 1 ≤ length words → length words < 2 →
-    word ≡ get_or words 0 word → text ≡ string_bytes word → r ≡ pointwise nat_eq text name →
-    (IsTrue r → map string_bytes words ≡ name ∷ []) × (map string_bytes words ≡ name ∷ [] → IsTrue r)
-one_word [] word text name r some few first is test = absurd (omega (arith, some))
-one_word (w ∷ v ∷ ws) word text name r some few first is test = absurd (omega (arith, few))
-one_word (w ∷ []) word text name r some few first is test =
-    let same : text ≡ string_bytes w = is ∙ ap string_bytes first in
-    let decides : Decides r (text ≡ name) = slice_eq-Decides Decides-eqb text name r test in (
-      λ yes. ap (λ (bytes : List ℕ). bytes ∷ []) (sym same ∙ decides.0 yes),
-      λ all. decides.1 (same ∙ ap (λ (texts : List (List ℕ)). get_or texts 0 []) all),
-    )
-
 -- what is known of a run's end from the causes of every other end
 pub record HasCauses (span : ℕ) (status : Status) (rest old new : Option (List ℕ)) (read_fails write_fails : Type 0) : Type 0 where
   pub done : status ≡ Status.Done → IfSome rest (λ bytes. WritesBestLine span bytes old new)
@@ -35,6 +22,11 @@ pub record HasCauses (span : ℕ) (status : Status) (rest old new : Option (List
   pub bad_file : (fault : FileFault) → status ≡ Status.BadFile fault → (fault ≢ ReadFault) × IfSome rest (λ bytes. IsSearchable bytes span → ⊥)
   pub read : status ≡ Status.ReadFault → read_fails
   pub write : status ≡ Status.WriteFault → write_fails
+
+-- a span has one name
+pub causes_at : (span other : ℕ) (status : Status) (rest old new : Option (List ℕ)) (R W : Type 0) → span ≡ other →
+    HasCauses span status rest old new R W → HasCauses other status rest old new R W
+causes_at span other status rest old new R W same causes = subst (λ (n : ℕ). HasCauses n status rest old new R W) same causes
 
 -- just the best line is written of a good file
 best_line_written : (span : ℕ) (bytes held : List ℕ) (header : Header) (samples : List Sample) (new : Option (List ℕ)) → IsSampleFile bytes header samples →

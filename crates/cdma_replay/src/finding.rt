@@ -18,9 +18,6 @@ use pilot_search::sweep;
 use short_code::Codes;
 use std::alloc::Global;
 
-/// How many samples the pilot is searched in, from the file's first on.
-const SPAN: usize = 2048;
-
 /// How many samples are read at once after them, at most.
 const PIECE: usize = 4096;
 
@@ -33,15 +30,17 @@ struct Workspace {
     codes: Codes,
     span: Vec<Sample>,
     piece: Vec<Sample>,
-    ghost span_len: { vec_len span ≡ 2048 },
     ghost piece_len: { vec_len piece ≡ 4096 },
 }
 
 impl Workspace {
-    fn new(alloc: Global) -> Result<Workspace, OutOfMemory> {
+    // For a span of so many samples.
+    fn new(alloc: Global, samples: usize) -> Result<Workspace, OutOfMemory>
+        ensures { IfOk result (λ w. vec_len w.span ≡ samples) }
+    {
         let codes = Codes::new(alloc)?;
         let nothing = Sample { i: 0, q: 0 };
-        let span = vec![in alloc; nothing; SPAN]?;
+        let span = vec![in alloc; nothing; samples]?;
         let piece = vec![in alloc; nothing; PIECE]?;
         Ok(Workspace { codes, span, piece })
     }
@@ -110,18 +109,18 @@ fn search_file<S: Source, K: Sink>(
     source: &mut S,
     sink: &mut K,
 ) -> Result<(), Status>
-    requires span { length span.old ≡ SPAN }
+    requires span { length span.old ≤ 32768 }
     requires piece { 0 < length piece.old }
     ensures done { ended result ≡ Status.Done → IfSome (S.rest source.old) (λ bytes.
-        WritesBestLine SPAN bytes (K.written sink.old) (K.written sink.new)) }
+        WritesBestLine (length span.old) bytes (K.written sink.old) (K.written sink.new)) }
     ensures at_end { ended result ≡ Status.Done → IsAtEnd (S.rest source.new) }
     ensures others { (ended result ≢ Status.BadWords) × (ended result ≢ Status.NoMemory) }
     ensures bad_file { (fault : FileFault) → ended result ≡ Status.BadFile fault → (fault ≢ FileFault.ReadFault) ×
-        IfSome (S.rest source.old) (λ bytes. IsSearchable bytes SPAN → ⊥) }
+        IfSome (S.rest source.old) (λ bytes. IsSearchable bytes (length span.old) → ⊥) }
     ensures read_fault { ended result ≡ Status.ReadFault → Rose (S.faults source.old) (S.faults source.new) }
     ensures write_fault { ended result ≡ Status.WriteFault → Rose (K.faults sink.old) (K.faults sink.new) }
     ensures header { (fault : FileFault) → ended result ≡ Status.BadFile fault → IsHeaderFault fault → sink.new ≡ sink.old }
-    ensures written { WritesNoMore SPAN (S.rest source.old) (K.written sink.old) (K.written sink.new) }
+    ensures written { WritesNoMore (length span.old) (S.rest source.old) (K.written sink.old) (K.written sink.new) }
     ensures later_source { S.faults source.old ≤ S.faults source.new }
     ensures later_sink { K.faults sink.old ≤ K.faults sink.new }
 {
@@ -134,27 +133,33 @@ fn search_file<S: Source, K: Sink>(
     Ok(())
 }
 
-/// Searches the pilot in the file's first 2,048 samples and writes its line, and then reads on to
+/// Searches the pilot in the file's first `span` samples and writes its line, and then reads on to
 /// the end of the file. All memory is taken before anything is read.
-pub fn find<S: Source, K: Sink>(alloc: Global, source: &mut S, sink: &mut K) -> Result<(), Status>
+pub fn find<S: Source, K: Sink>(
+    alloc: Global,
+    span: u16,
+    source: &mut S,
+    sink: &mut K,
+) -> Result<(), Status>
+    requires { span ≤ 32768 }
     ensures done { ended result ≡ Status.Done → IfSome (S.rest source.old) (λ bytes.
-        WritesBestLine SPAN bytes (K.written sink.old) (K.written sink.new)) }
+        WritesBestLine span bytes (K.written sink.old) (K.written sink.new)) }
     ensures at_end { ended result ≡ Status.Done → IsAtEnd (S.rest source.new) }
     ensures words { ended result ≢ Status.BadWords }
     ensures memory { ended result ≡ Status.NoMemory → (source.new ≡ source.old) × (sink.new ≡ sink.old) }
     ensures bad_file { (fault : FileFault) → ended result ≡ Status.BadFile fault → (fault ≢ FileFault.ReadFault) ×
-        IfSome (S.rest source.old) (λ bytes. IsSearchable bytes SPAN → ⊥) }
+        IfSome (S.rest source.old) (λ bytes. IsSearchable bytes span → ⊥) }
     ensures read_fault { ended result ≡ Status.ReadFault → Rose (S.faults source.old) (S.faults source.new) }
     ensures write_fault { ended result ≡ Status.WriteFault → Rose (K.faults sink.old) (K.faults sink.new) }
     ensures header { (fault : FileFault) → ended result ≡ Status.BadFile fault → IsHeaderFault fault → sink.new ≡ sink.old }
-    ensures written { WritesNoMore SPAN (S.rest source.old) (K.written sink.old) (K.written sink.new) }
+    ensures written { WritesNoMore span (S.rest source.old) (K.written sink.old) (K.written sink.new) }
     ensures later_source { S.faults source.old ≤ S.faults source.new }
     ensures later_sink { K.faults sink.old ≤ K.faults sink.new }
 {
     let Workspace {
         codes,
-        mut span,
+        span: mut samples,
         mut piece,
-    } = Workspace::new(alloc)?;
-    search_file(&codes, &mut span, &mut piece, source, sink)
+    } = Workspace::new(alloc, usize::from(span))?;
+    search_file(&codes, &mut samples, &mut piece, source, sink)
 }

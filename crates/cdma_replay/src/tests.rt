@@ -73,7 +73,36 @@ fn find_by(
     requires source { 1 ≤ source_piece }
     requires sink { 1 ≤ sink_piece }
 {
-    let words = words_of(alloc, "find")?;
+    run_by(
+        alloc,
+        "find",
+        file,
+        source_piece,
+        source_fails,
+        sink_piece,
+        sink_fails,
+    )
+}
+
+/// How a run of a command line over a file ends, and what it writes.
+fn run(alloc: Global, line: &str, file: Vec<u8>) -> Result<(Status, Vec<u8>), Fail> {
+    run_by(alloc, line, file, 65536, 0, 65536, 0)
+}
+
+/// The same over such a source, into such a sink.
+fn run_by(
+    alloc: Global,
+    line: &str,
+    file: Vec<u8>,
+    source_piece: usize,
+    source_fails: u64,
+    sink_piece: usize,
+    sink_fails: u64,
+) -> Result<(Status, Vec<u8>), Fail>
+    requires source { 1 ≤ source_piece }
+    requires sink { 1 ≤ sink_piece }
+{
+    let words = words_of(alloc, line)?;
     let mut source = MemorySource::new(file, source_piece, failing(alloc, source_fails)?);
     let mut sink = MemorySink::new(alloc, 100, sink_piece, failing(alloc, sink_fails)?)?;
     let status = replay(alloc, words.as_slice(), &mut source, &mut sink);
@@ -110,6 +139,49 @@ fn finds_in_samples_of_8_bits(rt: HostRuntime) -> Result<(), Fail> {
     let (status, text) = find(alloc, file)?;
     assert_eq!(rt; status, Status::Done);
     assert_eq!(rt; text.as_slice(), b"pilot phase=0 energy=0\n".as_slice());
+    Ok(())
+}
+
+#[test]
+fn finds_in_the_longest_span(rt: HostRuntime) -> Result<(), Fail> {
+    let alloc = rt.alloc();
+    let mut file = file_with(alloc, 32768)?;
+    for _n in 0..65536 {
+        file.extend_from_slice(&i16::MIN.to_be_bytes())?;
+    }
+    let (status, text) = run(alloc, "find --span 32768", file)?;
+    assert_eq!(rt; status, Status::Done);
+    assert_eq!(rt; text.as_slice(), b"pilot phase=0 energy=0\n".as_slice());
+
+    let file = pilot_file(alloc, 32768, 0, 32767)?;
+    let (status, text) = run(alloc, "find --span=32768", file)?;
+    assert_eq!(rt; status, Status::Done);
+    assert_eq!(rt;
+        text.as_slice(),
+        b"pilot phase=0 energy=4611404547745644544\n".as_slice()
+    );
+    Ok(())
+}
+
+#[test]
+fn finds_in_the_shortest_span(rt: HostRuntime) -> Result<(), Fail> {
+    let alloc = rt.alloc();
+    let mut file = file_with(alloc, 64)?;
+    file.extend_from_slice(&[0, 1, 0, 0, 0, 1, 0, 0])?;
+    for _n in 2..64 {
+        file.extend_from_slice(&[0; 4])?;
+    }
+    let (status, text) = run(alloc, "find --span 64", file)?;
+    assert_eq!(rt; status, Status::Done);
+    assert_eq!(rt; text.as_slice(), b"pilot phase=5 energy=8\n".as_slice());
+
+    for line in ["find --span=0064", "find --span 00000000000000000064"] {
+        let (status, text) = run(alloc, line, zero_file(alloc, 64)?)?;
+        assert_eq!(rt; status, Status::Done, "{line}");
+        assert_eq!(rt; text.as_slice(), b"pilot phase=0 energy=0\n".as_slice());
+    }
+    let (status, _) = run(alloc, "find --span 64", zero_file(alloc, 63)?)?;
+    assert_eq!(rt; status, Status::BadFile(FileFault::TooFew { count: 63 }));
     Ok(())
 }
 
@@ -209,6 +281,18 @@ fn refuses_other_words(rt: HostRuntime) -> Result<(), Fail> {
         "find find",
         "find --",
         "find --help",
+        "find --span",
+        "find --span=",
+        "find --span 63",
+        "find --span=32769",
+        "find --span=+64",
+        "find --span 18446744073709551680",
+        "find --span=000000000000000000064",
+        "find --span 64 --span 64",
+        "find --span=64 --span=64",
+        "find --span --",
+        "find -- --span=64",
+        "--span 64 find",
     ] {
         let words = words_of(alloc, line)?;
         let mut source = MemorySource::new(zero_file(alloc, 2048)?, 65536, Vec::new(alloc));
