@@ -1,7 +1,8 @@
--- The exit status of each end of a run, and how a fault of the file ends one.
-use Rattle.std.specs.Prelude.{ℕ}
+-- The exit status and the text of each end of a run, and how a fault of the file ends one.
+use Rattle.std.specs.Prelude.{ℕ, List, [], ◌++◌, codes, decimal, Option, None, Some}
 use Rattle.cdma_io.specs.declared.file_fault.FileFault.{FileFault}
 use Rattle.cdma_io.specs.declared.file_fault.FileFault.TheVariants as file
+use Rattle.cdma_io.specs.SampleFile.{place_of}
 use Rattle.cdma_replay.specs.declared.status.Status.{Status}
 use Rattle.cdma_replay.specs.declared.status.Status.TheVariants.{Done, BadWords, BadFile, ReadFault, WriteFault, NoMemory}
 
@@ -17,3 +18,28 @@ code_of NoMemory = 6
 abbrev pub file_status : FileFault → Status
 file_status file.ReadFault = ReadFault
 file_status fault = BadFile fault
+
+-- the kind of a fault of the file
+abbrev pub kind_of : FileFault → List ℕ
+kind_of file.Magic = codes "magic"
+kind_of file.Version = codes "version"
+kind_of file.Flags = codes "flags"
+kind_of file.Count = codes "count"
+kind_of (file.Short place) = codes "short"
+kind_of (file.Extra place) = codes "extra"
+kind_of file.ReadFault = codes "read fault"
+kind_of (file.TooFew count) = codes "too few"
+
+-- a kind, and the place in decimal where there is one
+abbrev pub located : List ℕ → Option ℕ → List ℕ
+located kind None = codes "bad file: " ++ kind
+located kind (Some place) = codes "bad file: " ++ kind ++ codes " at " ++ decimal place
+
+-- the text of each end of a run
+abbrev pub text_of : Status → List ℕ
+text_of Done = codes ""
+text_of BadWords = codes "bad words"
+text_of (BadFile fault) = located (kind_of fault) (place_of fault)
+text_of ReadFault = codes "read fault"
+text_of WriteFault = codes "write fault"
+text_of NoMemory = codes "out of memory"

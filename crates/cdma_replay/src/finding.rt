@@ -5,7 +5,7 @@ ghost use Rattle.std.specs.List.{flat_map};
 ghost use Rattle.std.specs.Io.KnownBytes.{Appends, Consumes, IsAtEnd};
 ghost use Rattle.chip_core.specs.declared.sample.Sample.{Sample};
 ghost use Rattle.cdma_io.specs.declared.file_fault.FileFault.{FileFault};
-ghost use Rattle.cdma_io.specs.Outside.{AppendsPrefix, HasCause, Rose};
+ghost use Rattle.cdma_io.specs.Outside.{AppendsPrefix, ConsumesAtMost, HasCause, Rose};
 ghost use Rattle.cdma_io.specs.SampleFile.{HasBits, IsLawfulHeader, header_spelling, sample_len, sample_spelling, width_of};
 ghost use Rattle.cdma_replay.specs.PilotLine.{best_line};
 ghost use Rattle.cdma_replay.specs.Find.{IsHeaderFault, IsSearchable, PassesSamples, WritesBestLine, WritesNoMore, ended};
@@ -55,6 +55,8 @@ fn open_span<S: Source>(source: &mut S, span: &mut [Sample]) -> Result<SampleRea
     ensures reader { IfOk result (λ r. (r.left + length span.old ≡ r.header.count) × (r.fault ≡ None)) }
     ensures fault { IfErr result (λ e. e ≢ FileFault.ReadFault →
         IfSome (S.rest source.old) (λ bytes. IsSearchable bytes (length span.old) → ⊥)) }
+    ensures header_alone { IfErr result (λ e. IsHeaderFault e →
+        ConsumesAtMost 16 (S.rest source.old) (S.rest source.new)) }
     ensures later { S.faults source.old ≤ S.faults source.new }
     ensures cause { result ≡ Err FileFault.ReadFault → Rose (S.faults source.old) (S.faults source.new) }
 {
@@ -120,6 +122,8 @@ fn search_file<S: Source, K: Sink>(
     ensures read_fault { ended result ≡ Status.ReadFault → Rose (S.faults source.old) (S.faults source.new) }
     ensures write_fault { ended result ≡ Status.WriteFault → Rose (K.faults sink.old) (K.faults sink.new) }
     ensures header { (fault : FileFault) → ended result ≡ Status.BadFile fault → IsHeaderFault fault → sink.new ≡ sink.old }
+    ensures header_alone { (fault : FileFault) → ended result ≡ Status.BadFile fault → IsHeaderFault fault →
+        ConsumesAtMost 16 (S.rest source.old) (S.rest source.new) }
     ensures written { WritesNoMore (length span.old) (S.rest source.old) (K.written sink.old) (K.written sink.new) }
     ensures later_source { S.faults source.old ≤ S.faults source.new }
     ensures later_sink { K.faults sink.old ≤ K.faults sink.new }
@@ -152,6 +156,8 @@ pub fn find<S: Source, K: Sink>(
     ensures read_fault { ended result ≡ Status.ReadFault → Rose (S.faults source.old) (S.faults source.new) }
     ensures write_fault { ended result ≡ Status.WriteFault → Rose (K.faults sink.old) (K.faults sink.new) }
     ensures header { (fault : FileFault) → ended result ≡ Status.BadFile fault → IsHeaderFault fault → sink.new ≡ sink.old }
+    ensures header_alone { (fault : FileFault) → ended result ≡ Status.BadFile fault → IsHeaderFault fault →
+        ConsumesAtMost 16 (S.rest source.old) (S.rest source.new) }
     ensures written { WritesNoMore span (S.rest source.old) (K.written sink.old) (K.written sink.new) }
     ensures later_source { S.faults source.old ≤ S.faults source.new }
     ensures later_sink { K.faults sink.old ≤ K.faults sink.new }

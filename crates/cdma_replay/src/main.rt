@@ -51,6 +51,16 @@ fn run<R: Env + Input + Print + AllocGlobal>(rt: &R) -> Status {
     }
 }
 
+/// Writes the text of a run that isn't done on standard error. Where that fails too, there is
+/// nowhere left to say so.
+fn report<R: Eprint>(rt: &R, status: Status) {
+    if status != Status::Done {
+        let _told = eprintln!(rt; "{status}");
+    }
+}
+
 fn main(rt: HostRuntime) -> ExitCode {
-    ExitCode::from(run(&rt).code())
+    let status = run(&rt);
+    report(&rt, status);
+    ExitCode::from(status.code())
 }

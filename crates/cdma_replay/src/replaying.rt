@@ -5,7 +5,7 @@ ghost use Rattle.std.specs.Io.KnownBytes.{IsAtEnd};
 ghost use Rattle.chip_core.specs.declared.sample.Sample.{Sample};
 ghost use Rattle.cdma_io.specs.declared.file_fault.FileFault.{FileFault};
 ghost use Rattle.cdma_io.specs.declared.header.Header.{Header};
-ghost use Rattle.cdma_io.specs.Outside.{Rose};
+ghost use Rattle.cdma_io.specs.Outside.{ConsumesAtMost, Rose};
 ghost use Rattle.cdma_io.specs.SampleFile.{IsSampleFile};
 ghost use Rattle.cdma_replay.specs.Find.{IsHeaderFault, IsSearchable, WritesNoMore};
 ghost use Rattle.cdma_replay.specs.PilotLine.{best_line};
@@ -54,6 +54,8 @@ pub fn replay<S: Source, K: Sink>(
     // What is written on any of them.
     ensures untouched { (result ≡ Status.BadWords) ⊎ (result ≡ Status.NoMemory) → (source.new ≡ source.old) × (sink.new ≡ sink.old) }
     ensures header { (fault : FileFault) → result ≡ Status.BadFile fault → IsHeaderFault fault → sink.new ≡ sink.old }
+    ensures header_alone { (fault : FileFault) → result ≡ Status.BadFile fault → IsHeaderFault fault →
+        ConsumesAtMost 16 (S.rest source.old) (S.rest source.new) }
     ensures written { (span : ℕ) → job_named words.now ≡ Some (Find span) →
         WritesNoMore span (S.rest source.old) (K.written sink.old) (K.written sink.new) }
     ensures later_source { S.faults source.old ≤ S.faults source.new }

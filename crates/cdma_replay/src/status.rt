@@ -1,16 +1,21 @@
 //! How a run of the program ends.
 
-ghost use Rattle.std.specs.Prelude.{◌≡◌};
-ghost use Rattle.cdma_replay.specs.Status.{code_of, file_status};
+ghost use Rattle.std.specs.Prelude.{◌≡◌, Some};
+ghost use Rattle.std.specs.Fmt.{DisplaysOnOk};
+ghost use Rattle.cdma_replay.specs.Status.{code_of, file_status, kind_of, located, text_of};
 
 use cdma_io::FileFault;
 use chip_core::OutOfMemory;
-use std::io;
+use std::fmt;
 
 /// How a run ended.
 ///
 /// A file that can't be read because a read failed is [`Status::ReadFault`]; [`Status::BadFile`]
 /// speaks of its bytes alone.
+///
+/// Its text is the line that the program writes on standard error, without the line feed: `bad words`,
+/// `bad file: KIND at PLACE` with the fault's place in decimal, `read fault`, `write fault` or
+/// `out of memory`. That of [`Status::Done`] is empty.
 #[derive(Clone, Copy, PartialEq, Eq, Debug)]
 pub enum Status {
     /// The input was read to its end, and all text was written.
@@ -40,6 +45,51 @@ impl Status {
             Status::WriteFault => 5,
             Status::NoMemory => 6,
         }
+    }
+}
+
+impl fmt::Display for Status {
+    ghost output = { λ status. Some (text_of status) };
+
+    fn fmt<W: fmt::Write>(&self, f: &mut fmt::Formatter<W>) -> fmt::Result {
+        match *self {
+            Status::Done => f.write_str(""),
+            Status::BadWords => f.write_str("bad words"),
+            Status::BadFile(fault) => write_located(f, kind(fault), fault.place()),
+            Status::ReadFault => f.write_str("read fault"),
+            Status::WriteFault => f.write_str("write fault"),
+            Status::NoMemory => f.write_str("out of memory"),
+        }
+    }
+}
+
+// The kind of a fault of the file.
+fn kind(fault: FileFault) -> &'static str
+    ensures { result.now ≡ kind_of fault }
+{
+    match fault {
+        FileFault::Magic => "magic",
+        FileFault::Version => "version",
+        FileFault::Flags => "flags",
+        FileFault::Count => "count",
+        FileFault::Short { .. } => "short",
+        FileFault::Extra { .. } => "extra",
+        FileFault::ReadFault => "read fault",
+        FileFault::TooFew { .. } => "too few",
+    }
+}
+
+// Writes a kind of fault, and its place where it has one.
+fn write_located<W: fmt::Write>(
+    f: &mut fmt::Formatter<W>,
+    kind: &str,
+    place: Option<u64>,
+) -> fmt::Result
+    ensures { DisplaysOnOk W.write_str_gives f.old result (Some (located kind.now place)) f.new }
+{
+    match place {
+        Some(place) => write!(f, "bad file: {kind} at {place}"),
+        None => write!(f, "bad file: {kind}"),
     }
 }
 

@@ -306,6 +306,33 @@ fn refuses_other_words(rt: HostRuntime) -> Result<(), Fail> {
 }
 
 #[test]
+fn says_how_a_run_ended(rt: HostRuntime) -> Result<(), Fail> {
+    for (status, text) in [
+        (Status::Done, ""),
+        (Status::BadWords, "bad words"),
+        (
+            Status::BadFile(FileFault::Version),
+            "bad file: version at 4",
+        ),
+        (
+            Status::BadFile(FileFault::Short { at: 8206 }),
+            "bad file: short at 8206",
+        ),
+        (
+            Status::BadFile(FileFault::TooFew { count: 2047 }),
+            "bad file: too few at 8",
+        ),
+        (Status::ReadFault, "read fault"),
+        (Status::WriteFault, "write fault"),
+        (Status::NoMemory, "out of memory"),
+    ] {
+        let shown = format!(in rt.alloc(); "{status}")?;
+        assert_eq!(rt; shown.as_str(), text);
+    }
+    Ok(())
+}
+
+#[test]
 fn exit_statuses(rt: HostRuntime) {
     for (status, code) in [
         (Status::Done, 0),
