@@ -1,0 +1,120 @@
+//! The best word of a span of frames.
+
+ghost use Rattle.std.specs.Prelude.{◌≡◌, ◌<◌, ◌≤◌, ◌*◌, ◌/◌, ◌%◌, ◌^◌, length, sum_by, unsigned_abs};
+ghost use Rattle.symbol_path.specs.SentOrder.{shape_of, size, repeats_of};
+ghost use Rattle.frame_decoder.specs.Spans.{sync_channel, paging_channel, channel_of, gathered_span, own_bits};
+
+use crate::layout::Layout;
+use chip_core::Bits;
+use symbol_path::{Kind, Rate, gather_into};
+use viterbi::{Decoder, Ends, Word};
+
+/// The most code symbols that a span has: three frames of 192 bits, two a bit.
+const MOST_SYMBOLS: usize = 1152;
+
+/// For each code symbol of each frame, one frame after another, the sum of the soft values that were sent for it.
+fn gather_span(layout: Layout, frames: u8, softs: &[i64], out: &mut [i64])
+    requires sent { 2 * layout.bits * layout.repeats ≡ size (shape_of layout.kind) }
+    requires most { layout.bits ≤ 192 }
+    requires softs { length softs.now ≡ size (shape_of layout.kind) * frames }
+    requires out { length out.old ≡ 2 * layout.bits * frames }
+    requires bounded { sum_by unsigned_abs softs.now ≤ 2 ^ 62 }
+    ensures value { out.new ≡ gathered_span (channel_of layout) frames softs.now }
+    ensures bounded { sum_by unsigned_abs out.new ≤ sum_by unsigned_abs softs.now }
+{
+    let symbols = layout.symbols();
+    let code = layout.code_symbols();
+    for frame in 0..usize::from(frames) {
+        let first = symbols * frame;
+        let to = code * frame;
+        gather_into(
+            layout.kind,
+            layout.repeats,
+            &softs[first..first + symbols],
+            &mut out[to..to + code],
+        );
+    }
+}
+
+/// The bits of frame `own` of the best word of a span of so many frames.
+fn bits_of(decoder: &mut Decoder, layout: Layout, frames: u8, softs: &[i64], own: u8) -> Bits
+    requires sent { 2 * layout.bits * layout.repeats ≡ size (shape_of layout.kind) }
+    requires least { 8 ≤ layout.bits }
+    requires most { layout.bits ≤ 192 }
+    requires frames { frames ≤ 3 }
+    requires own { own < frames }
+    requires softs { length softs.now ≡ size (shape_of layout.kind) * frames }
+    requires room { layout.bits * frames ≤ decoder.old }
+    requires bound { sum_by unsigned_abs softs.now ≤ 2 ^ 62 }
+    ensures value { result ≡ own_bits (channel_of layout) frames own softs.now }
+    ensures count { length result ≡ layout.bits }
+    ensures kept { decoder.new ≡ decoder.old }
+{
+    let count = layout.code_symbols() * usize::from(frames);
+    let mut gathered = [0; MOST_SYMBOLS];
+    let span = &mut gathered[..count];
+    gather_span(layout, frames, softs, span);
+    let mut word = Word {
+        start: 0,
+        bits: Bits::empty(),
+    };
+    decoder.best_into(span, Ends::Free, &mut word);
+    word.bits.part(layout.bits * u16::from(own), layout.bits)
+}
+
+/// The 32 bits of frame `own`, counted from 0, of a span of one to three sync frames.
+///
+/// `softs` has 128 soft values a frame, in the sent order, one frame after another; a soft value is positive where its
+/// symbol is more likely a 0. The bits are those of the span's best word: of all words of 32 bits a frame, with any start
+/// and any end, the one whose sent symbols agree best with the soft values of all frames together, and the first in the
+/// decoder's order where several do.
+///
+/// TIA/EIA-95-B, 7.7.1.2: a sync frame has 32 bits; 7.1.3.1: they are encoded, each code symbol is sent twice, and
+/// the symbols of each frame are interleaved by themselves.
+pub fn sync_span(decoder: &mut Decoder, softs: &[i64], own: u8) -> Bits
+    requires whole { length softs.now % 128 ≡ 0 }
+    requires most { length softs.now ≤ 384 }
+    requires own { 128 * own < length softs.now }
+    requires room { 32 * (length softs.now / 128) ≤ decoder.old }
+    requires bound { sum_by unsigned_abs softs.now ≤ 2 ^ 62 }
+    ensures value { result ≡ own_bits sync_channel (length softs.now / 128) own softs.now }
+    ensures count { length result ≡ 32 }
+    ensures kept { decoder.new ≡ decoder.old }
+{
+    let layout = Layout {
+        kind: Kind::Sync,
+        bits: 32,
+        repeats: 2,
+    };
+    let frames = (softs.len() / 128) as u8;
+    bits_of(decoder, layout, frames, softs, own)
+}
+
+/// The bits of frame `own`, counted from 0, of a span of one to three frames of a paging channel: 192 bits at 9,600
+/// bits a second, and 96 at 4,800.
+///
+/// `softs` has 384 soft values a frame, in the sent order and turned by the scrambling, one frame after another; a soft
+/// value is positive where its code symbol is more likely a 0. The bits are those of the span's best word: of all words
+/// of so many bits a frame, with any start and any end, the one whose sent symbols agree best with the soft values of all
+/// frames together, and the first in the decoder's order where several do.
+///
+/// TIA/EIA-95-B, 7.1.3.1: the bits are encoded, each code symbol is sent once at 9,600 and twice at 4,800, and the
+/// symbols of each frame are interleaved by themselves.
+pub fn paging_span(decoder: &mut Decoder, rate: Rate, softs: &[i64], own: u8) -> Bits
+    requires whole { length softs.now % 384 ≡ 0 }
+    requires most { length softs.now ≤ 1152 }
+    requires own { 384 * own < length softs.now }
+    requires room { (paging_channel rate).bits * (length softs.now / 384) ≤ decoder.old }
+    requires bound { sum_by unsigned_abs softs.now ≤ 2 ^ 62 }
+    ensures value { result ≡ own_bits (paging_channel rate) (length softs.now / 384) own softs.now }
+    ensures count { length result ≡ (paging_channel rate).bits }
+    ensures kept { decoder.new ≡ decoder.old }
+{
+    let layout = Layout {
+        kind: Kind::Data,
+        bits: rate.frame_bits(),
+        repeats: rate.repeats(),
+    };
+    let frames = (softs.len() / 384) as u8;
+    bits_of(decoder, layout, frames, softs, own)
+}
