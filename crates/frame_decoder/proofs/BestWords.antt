@@ -31,8 +31,12 @@ length-word_at n r =
     let long : length joined ≡ n + 8 = length-reverse (binary (n + 8) r) ∙ length-binary (n + 8) r in
     length-drop 8 joined ∙ omega (arith, long)
 
+pub length-best_word : (f : Word → ℤ) (n : ℕ) → length (best_word f Free n).bits ≡ n
+unfolding best_word
+length-best_word f n = length-word_at n (first_greatest (λ r. f (word_at Free n r)) (word_count Free n))
+
 -- scores that agree on the words of n bits have the same best word of n bits
-best_word-same : (f g : Word → ℤ) (n : ℕ) → ((w : Word) → length w.bits ≡ n → f w ≡ g w) → best_word f Free n ≡ best_word g Free n
+pub best_word-same : (f g : Word → ℤ) (n : ℕ) → ((w : Word) → length w.bits ≡ n → f w ≡ g w) → best_word f Free n ≡ best_word g Free n
 unfolding best_word
 best_word-same f g n h =
     ap (word_at Free n)

@@ -5,7 +5,11 @@
 //! frame is decoded as a part of a span: one, two or three frames that follow one another, as one word of the code.
 #![tactic(auto)]
 
+pub mod laws;
 mod layout;
 mod span;
 
 pub use span::{paging_span, sync_span};
+
+#[cfg(test)]
+mod tests;

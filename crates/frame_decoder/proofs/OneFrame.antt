@@ -1,0 +1,33 @@
+-- A span of one frame.
+use Rattle.std.proofs.Common.{◌≡◌, ℕ, ◌*◌, Bool, List, ◌++◌, length, take, drop, ap, ◌∙◌, arith, take_all}
+use Rattle.conv_code.specs.ConvCode.{code_symbols}
+use Rattle.conv_code.proofs.Continued.{length-code_symbols}
+use Rattle.symbol_path.specs.SentOrder.{sent}
+use Rattle.viterbi.specs.Words.{Word, correlation, best_word}
+use Rattle.viterbi.specs.declared.word.Ends.TheVariants.{Free}
+use Rattle.frame_decoder.specs.Spans.{Channel, sending, sent_frames, score}
+use Rattle.frame_decoder.specs.Laws.{frame_score, IsOneFrame}
+use Rattle.frame_decoder.proofs.Parts.{frames-none, frames-more}
+use Rattle.frame_decoder.proofs.BestWords.{length-best_word, best_word-same}
+
+sent_one : (c : Channel) (symbols : List Bool) → length symbols ≡ 2 * c.bits → sent_frames (sending c 1) symbols ≡ sent c.shape c.repeats symbols
+sent_one c symbols long =
+    let f = λ (k : ℕ). sent c.shape c.repeats (take (2 * c.bits) (drop (2 * c.bits * k) symbols)) in
+    let none : 2 * c.bits * 0 ≡ 0 = omega arith in
+    frames-more f 0
+    ∙ ap (λ (xs : List Bool). xs ++ f 0) (frames-none f)
+    ∙ ap (λ (k : ℕ). sent c.shape c.repeats (take (2 * c.bits) (drop k symbols))) none
+    ∙ ap (sent c.shape c.repeats) (take_all (2 * c.bits) symbols (omega (arith, long)))
+
+pub one_frame : IsOneFrame
+one_frame c softs =
+    let none : c.bits * 0 ≡ 0 = omega arith in
+    let one : c.bits * 1 ≡ c.bits = omega arith in
+    let best = best_word (frame_score c softs) Free c.bits in
+    let same : best_word (score softs (sending c 1)) Free c.bits ≡ best =
+    best_word-same (score softs (sending c 1)) (frame_score c softs) c.bits
+    (λ w long. ap (correlation softs) (sent_one c (code_symbols w.start w.bits) (length-code_symbols w.start w.bits ∙ ap (λ (k : ℕ). 2 * k) long))) in
+    ap (λ (n : ℕ). take c.bits (drop n (best_word (score softs (sending c 1)) Free (c.bits * 1)).bits)) none
+    ∙ ap (λ (n : ℕ). take c.bits (best_word (score softs (sending c 1)) Free n).bits) one
+    ∙ ap (λ (w : Word). take c.bits w.bits) same
+    ∙ take_all c.bits best.bits (let long = length-best_word (frame_score c softs) c.bits in omega (arith, long))
