@@ -2,6 +2,8 @@
 
 ghost use Rattle.std.specs.Prelude.{◌≡◌, ◌<◌, ◌≤◌, ◌*◌, ◌/◌, ◌%◌, ◌^◌, length, sum_by, unsigned_abs};
 ghost use Rattle.symbol_path.specs.SentOrder.{shape_of, size, repeats_of};
+ghost use Rattle.viterbi.specs.Best.{IsBestWord, spelled};
+ghost use Rattle.viterbi.specs.declared.word.Ends.TheVariants.{Free};
 ghost use Rattle.frame_decoder.specs.Spans.{sync_channel, paging_channel, channel_of, gathered_span, own_bits};
 
 use crate::layout::Layout;
@@ -36,6 +38,23 @@ fn gather_span(layout: Layout, frames: u8, softs: &[i64], out: &mut [i64])
     }
 }
 
+/// The best of all words, with any start and any end, for soft values in the order of the code symbols.
+fn best_word(decoder: &mut Decoder, softs: &[i64]) -> Word
+    requires even { length softs.now % 2 ≡ 0 }
+    requires least { 16 ≤ length softs.now }
+    requires most { length softs.now ≤ 2 * decoder.old }
+    requires bound { sum_by unsigned_abs softs.now ≤ 2 ^ 62 }
+    ensures best { IsBestWord softs.now Free (spelled result) }
+    ensures kept { decoder.new ≡ decoder.old }
+{
+    let mut word = Word {
+        start: 0,
+        bits: Bits::empty(),
+    };
+    decoder.best_into(softs, Ends::Free, &mut word);
+    word
+}
+
 /// The bits of frame `own` of the best word of a span of so many frames.
 fn bits_of(decoder: &mut Decoder, layout: Layout, frames: u8, softs: &[i64], own: u8) -> Bits
     requires sent { 2 * layout.bits * layout.repeats ≡ size (shape_of layout.kind) }
@@ -54,11 +73,7 @@ fn bits_of(decoder: &mut Decoder, layout: Layout, frames: u8, softs: &[i64], own
     let mut gathered = [0; MOST_SYMBOLS];
     let span = &mut gathered[..count];
     gather_span(layout, frames, softs, span);
-    let mut word = Word {
-        start: 0,
-        bits: Bits::empty(),
-    };
-    decoder.best_into(span, Ends::Free, &mut word);
+    let word = best_word(decoder, span);
     word.bits.part(layout.bits * u16::from(own), layout.bits)
 }
 

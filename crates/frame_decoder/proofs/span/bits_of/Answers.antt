@@ -7,8 +7,8 @@ use Rattle.frame_decoder.proofs.Gathered.{length-gathered_span}
 use Rattle.frame_decoder.proofs.BestWords.{own_within, own_is}
 use Rattle.frame_decoder.proofs.span.bits_of.Goals as goal
 
-pub best_into-requires-clause-most : goal.best_into-requires-clause-most
-best_into-requires-clause-most c =
+pub best_word-word-requires-clause-most : goal.best_word-word-requires-clause-most
+best_word-word-requires-clause-most c =
     let l = c.args.layout in
     let long : length c.gather_span.new.out ≡ 2 * l.bits * c.args.frames =
     ap length c.gather_span.ensures.value ∙ length-gathered_span l.kind l.bits l.repeats c.args.frames c.args.softs.now c.requires.sent in
@@ -18,23 +18,23 @@ best_into-requires-clause-most c =
 pub part-requires : goal.part-requires
 part-requires c =
     let l = c.args.layout in
-    let best : IsBestWord (gathered_span (channel_of l) c.args.frames c.args.softs.now) Free (spelled c.best_into.new.out) = rw c.gather_span.ensures.value at c.best_into.ensures.best in
-    rw c.from-2.ensures (own_within l.kind l.bits l.repeats c.args.frames c.args.own c.args.softs.now (spelled c.best_into.new.out) c.requires.sent c.requires.own best)
+    let best : IsBestWord (gathered_span (channel_of l) c.args.frames c.args.softs.now) Free (spelled c.best_word-word.result) = rw c.gather_span.ensures.value at c.best_word-word.ensures.best in
+    rw c.from-2.ensures (own_within l.kind l.bits l.repeats c.args.frames c.args.own c.args.softs.now (spelled c.best_word-word.result) c.requires.sent c.requires.own best)
 
 pub returns-clause-value : goal.returns-clause-value
 returns-clause-value c =
     let l = c.args.layout in
-    let best : IsBestWord (gathered_span (channel_of l) c.args.frames c.args.softs.now) Free (spelled c.best_into.new.out) = rw c.gather_span.ensures.value at c.best_into.ensures.best in
+    let best : IsBestWord (gathered_span (channel_of l) c.args.frames c.args.softs.now) Free (spelled c.best_word-word.result) = rw c.gather_span.ensures.value at c.best_word-word.ensures.best in
     c.part.ensures
-    ∙ ap (λ (k : ℕ). take l.bits (drop (l.bits * k) c.best_into.new.out.bits)) c.from-2.ensures
-    ∙ own_is l.kind l.bits l.repeats c.args.frames c.args.own c.args.softs.now (spelled c.best_into.new.out) c.requires.least c.requires.sent c.requires.softs c.requires.own best
+    ∙ ap (λ (k : ℕ). take l.bits (drop (l.bits * k) c.best_word-word.result.bits)) c.from-2.ensures
+    ∙ own_is l.kind l.bits l.repeats c.args.frames c.args.own c.args.softs.now (spelled c.best_word-word.result) c.requires.least c.requires.sent c.requires.softs c.requires.own best
 
 pub returns-clause-count : goal.returns-clause-count
 returns-clause-count c =
     let l = c.args.layout in
-    let best : IsBestWord (gathered_span (channel_of l) c.args.frames c.args.softs.now) Free (spelled c.best_into.new.out) = rw c.gather_span.ensures.value at c.best_into.ensures.best in
-    let room = own_within l.kind l.bits l.repeats c.args.frames c.args.own c.args.softs.now (spelled c.best_into.new.out) c.requires.sent c.requires.own best in
-    let word = c.best_into.new.out.bits in
+    let best : IsBestWord (gathered_span (channel_of l) c.args.frames c.args.softs.now) Free (spelled c.best_word-word.result) = rw c.gather_span.ensures.value at c.best_word-word.ensures.best in
+    let room = own_within l.kind l.bits l.repeats c.args.frames c.args.own c.args.softs.now (spelled c.best_word-word.result) c.requires.sent c.requires.own best in
+    let word = c.best_word-word.result.bits in
     let rest = length-drop (l.bits * c.from-2.result) word in
     let place : l.bits * c.from-2.result ≡ l.bits * c.args.own = ap (λ (k : ℕ). l.bits * k) c.from-2.ensures in
     ap length c.part.ensures ∙ length-take-le l.bits (drop (l.bits * c.from-2.result) word) (omega (arith, room, rest, place))
