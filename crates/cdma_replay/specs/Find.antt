@@ -1,13 +1,13 @@
 -- What the command `find` reads and writes.
-use Rattle.std.specs.Prelude.{◌≡◌, ℕ, ◌≤◌, ◌++◌, ◌⊎◌, List, [], length, take, All, Option, IfSome, Result, Ok, Err}
+use Rattle.std.specs.Prelude.{◌≡◌, ℕ, ◌+◌, ◌*◌, ◌<◌, ◌≤◌, ◌++◌, ◌⊎◌, List, [], length, take, All, Option, IfSome, Result, Ok, Err}
 use Rattle.std.specs.List.{flat_map}
 use Rattle.std.specs.Io.{StartsWith}
 use Rattle.std.specs.Io.KnownBytes.{Appends, Consumes}
 use Rattle.chip_core.specs.declared.sample.Sample.{Sample}
 use Rattle.cdma_io.specs.declared.header.Header.{Header}
 use Rattle.cdma_io.specs.declared.file_fault.FileFault.{FileFault}
-use Rattle.cdma_io.specs.declared.file_fault.FileFault.TheVariants.{Short, Extra, ReadFault}
-use Rattle.cdma_io.specs.SampleFile.{IsSampleFile, HasBits, header_spelling, sample_spelling, width_of}
+use Rattle.cdma_io.specs.declared.file_fault.FileFault.TheVariants.{Short, Extra, ReadFault, TooFew}
+use Rattle.cdma_io.specs.SampleFile.{IsSampleFile, HasBits, Reading, header_spelling, next_place, opening, sample_len, sample_spelling, width_of}
 use Rattle.cdma_io.specs.declared.width.Width.{Width}
 use Rattle.cdma_replay.specs.declared.status.Status.{Status}
 use Rattle.cdma_replay.specs.declared.status.Status.TheVariants.{Done}
@@ -52,6 +52,28 @@ IsHeaderFault (Short place) = ⊥
 IsHeaderFault (Extra place) = ⊥
 IsHeaderFault ReadFault = ⊥
 IsHeaderFault _ = Unit {0}
+
+-- where a file of this header ends
+abbrev pub file_end : Header → ℕ
+file_end header = 16 + sample_len (width_of header) * header.count
+
+-- a fault that a file of this header and of so many bytes has behind the header
+abbrev pub IsLaterFault : ℕ → Header → ℕ → FileFault → Type 0
+IsLaterFault span header len (TooFew count) = (count ≡ header.count) × (count < span)
+IsLaterFault span header len (Short place) = (span ≤ header.count) × (place ≡ len) × (len < file_end header)
+IsLaterFault span header len (Extra place) = (span ≤ header.count) × (place ≡ file_end header) × (place < len)
+IsLaterFault span header len _ = ⊥
+
+-- the one fault of these bytes as a file of so many samples or more
+abbrev pub IsFaultIn : ℕ → List ℕ → FileFault → Type 0
+IsFaultIn span bytes fault =
+    (opening bytes ≡ Err fault) ⊎ ((header : Header) × (opening bytes ≡ Ok header) × IsLaterFault span header (length bytes) fault)
+
+-- a fault that a reader meets in what it has left, so many bytes
+abbrev pub IsRestFault : Reading → ℕ → FileFault → Type 0
+IsRestFault reading len (Short place) = (place ≡ next_place reading + len) × (len < sample_len (width_of reading.header) * reading.left)
+IsRestFault reading len (Extra place) = (place ≡ file_end reading.header) × (sample_len (width_of reading.header) * reading.left < len)
+IsRestFault reading len _ = ⊥
 
 -- how a run ends that went through or not
 abbrev pub ended : {T : Type 0} → Result T Status → Status

@@ -8,7 +8,7 @@ ghost use Rattle.cdma_io.specs.declared.file_fault.FileFault.{FileFault};
 ghost use Rattle.cdma_io.specs.Outside.{AppendsPrefix, ConsumesAtMost, HasCause, Rose};
 ghost use Rattle.cdma_io.specs.SampleFile.{HasBits, IsLawfulHeader, header_spelling, sample_len, sample_spelling, width_of};
 ghost use Rattle.cdma_replay.specs.PilotLine.{best_line};
-ghost use Rattle.cdma_replay.specs.Find.{IsHeaderFault, IsSearchable, PassesSamples, WritesBestLine, WritesNoMore, ended};
+ghost use Rattle.cdma_replay.specs.Find.{IsFaultIn, IsHeaderFault, IsRestFault, IsSearchable, PassesSamples, WritesBestLine, WritesNoMore, ended};
 
 use crate::pilot_line::line_of;
 use crate::status::Status;
@@ -55,6 +55,8 @@ fn open_span<S: Source>(source: &mut S, span: &mut [Sample]) -> Result<SampleRea
     ensures reader { IfOk result (λ r. (r.left + length span.old ≡ r.header.count) × (r.fault ≡ None)) }
     ensures fault { IfErr result (λ e. e ≢ FileFault.ReadFault →
         IfSome (S.rest source.old) (λ bytes. IsSearchable bytes (length span.old) → ⊥)) }
+    ensures place { IfErr result (λ e. e ≢ FileFault.ReadFault →
+        IfSome (S.rest source.old) (λ bytes. IsFaultIn (length span.old) bytes e)) }
     ensures header_alone { IfErr result (λ e. IsHeaderFault e →
         ConsumesAtMost 16 (S.rest source.old) (S.rest source.new)) }
     ensures later { S.faults source.old ≤ S.faults source.new }
@@ -77,10 +79,13 @@ fn pass_rest<S: Source>(
 ) -> Result<(), FileFault>
     requires room { 0 < length piece.old }
     requires good { reader.old.fault ≡ None }
+    requires counted { reader.old.left ≤ reader.old.header.count }
     ensures ends { OnOk result (IsAtEnd (S.rest source.new)) }
     ensures ok { OnOk result (PassesSamples (width_of reader.old.header) reader.old.left (S.rest source.old) (S.rest source.new)) }
     ensures fault { IfErr result (λ e. e ≢ FileFault.ReadFault →
         IfSome (S.rest source.old) (λ bytes. length bytes ≢ sample_len (width_of reader.old.header) * reader.old.left)) }
+    ensures place { IfErr result (λ e. e ≢ FileFault.ReadFault →
+        IfSome (S.rest source.old) (λ bytes. IsRestFault reader.old (length bytes) e)) }
     ensures sample_fault { IfErr result (λ e. IsHeaderFault e → ⊥) }
     ensures later { S.faults source.old ≤ S.faults source.new }
     ensures cause { result ≡ Err FileFault.ReadFault → Rose (S.faults source.old) (S.faults source.new) }
@@ -119,6 +124,8 @@ fn search_file<S: Source, K: Sink>(
     ensures others { (ended result ≢ Status.BadWords) × (ended result ≢ Status.NoMemory) }
     ensures bad_file { (fault : FileFault) → ended result ≡ Status.BadFile fault → (fault ≢ FileFault.ReadFault) ×
         IfSome (S.rest source.old) (λ bytes. IsSearchable bytes (length span.old) → ⊥) }
+    ensures place { (fault : FileFault) → ended result ≡ Status.BadFile fault →
+        IfSome (S.rest source.old) (λ bytes. IsFaultIn (length span.old) bytes fault) }
     ensures read_fault { ended result ≡ Status.ReadFault → Rose (S.faults source.old) (S.faults source.new) }
     ensures write_fault { ended result ≡ Status.WriteFault → Rose (K.faults sink.old) (K.faults sink.new) }
     ensures header { (fault : FileFault) → ended result ≡ Status.BadFile fault → IsHeaderFault fault → sink.new ≡ sink.old }
@@ -153,6 +160,8 @@ pub fn find<S: Source, K: Sink>(
     ensures memory { ended result ≡ Status.NoMemory → (source.new ≡ source.old) × (sink.new ≡ sink.old) }
     ensures bad_file { (fault : FileFault) → ended result ≡ Status.BadFile fault → (fault ≢ FileFault.ReadFault) ×
         IfSome (S.rest source.old) (λ bytes. IsSearchable bytes span → ⊥) }
+    ensures place { (fault : FileFault) → ended result ≡ Status.BadFile fault →
+        IfSome (S.rest source.old) (λ bytes. IsFaultIn span bytes fault) }
     ensures read_fault { ended result ≡ Status.ReadFault → Rose (S.faults source.old) (S.faults source.new) }
     ensures write_fault { ended result ≡ Status.WriteFault → Rose (K.faults sink.old) (K.faults sink.new) }
     ensures header { (fault : FileFault) → ended result ≡ Status.BadFile fault → IsHeaderFault fault → sink.new ≡ sink.old }

@@ -7,7 +7,7 @@ ghost use Rattle.cdma_io.specs.declared.file_fault.FileFault.{FileFault};
 ghost use Rattle.cdma_io.specs.declared.header.Header.{Header};
 ghost use Rattle.cdma_io.specs.Outside.{ConsumesAtMost, Rose};
 ghost use Rattle.cdma_io.specs.SampleFile.{IsSampleFile};
-ghost use Rattle.cdma_replay.specs.Find.{IsHeaderFault, IsSearchable, WritesNoMore};
+ghost use Rattle.cdma_replay.specs.Find.{IsFaultIn, IsHeaderFault, IsSearchable, WritesNoMore};
 ghost use Rattle.cdma_replay.specs.PilotLine.{best_line};
 ghost use Rattle.cdma_replay.specs.declared.words.Job.TheVariants.{Find};
 ghost use Rattle.cdma_replay.specs.Words.{job_named};
@@ -44,6 +44,8 @@ pub fn replay<S: Source, K: Sink>(
     ensures bad_file { (fault : FileFault) → result ≡ Status.BadFile fault → (fault ≢ FileFault.ReadFault) ×
         IfSome (S.rest source.old) (λ bytes.
         (span : ℕ) → job_named words.now ≡ Some (Find span) → IsSearchable bytes span → ⊥) }
+    ensures place { (span : ℕ) (fault : FileFault) → job_named words.now ≡ Some (Find span) → result ≡ Status.BadFile fault →
+        IfSome (S.rest source.old) (λ bytes. IsFaultIn span bytes fault) }
     ensures broken_file { (span : ℕ) (bytes : List ℕ) → S.rest source.old ≡ Some bytes →
         job_named words.now ≡ Some (Find span) → (IsSearchable bytes span → ⊥) →
         (Rose (S.faults source.old) (S.faults source.new) → ⊥) → (Rose (K.faults sink.old) (K.faults sink.new) → ⊥) →

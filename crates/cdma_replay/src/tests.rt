@@ -1,5 +1,4 @@
-//! Whole runs over memory: that they succeed, the printed line, and the places of faults, of which
-//! no clause of the top call speaks.
+//! Whole runs over memory: that they succeed, and what they print.
 
 ghost use Rattle.std.specs.Prelude.{◌≤◌};
 

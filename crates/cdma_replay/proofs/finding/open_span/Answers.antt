@@ -1,5 +1,8 @@
 use Rattle.std.proofs.Common.{length, rules}
 use Rattle.std.proofs.lemmas.Result.{err_from_is_err_and}
+use Rattle.std.proofs.Common.{◌≡◌, ◌≤◌, IsNone, None, ap, refl}
+use Rattle.cdma_io.specs.SampleFile.{Reading}
+use Rattle.cdma_replay.proofs.Faults.{fault_of_opening, fault_of_count, fault_of_span}
 use Rattle.cdma_replay.proofs.Files.{refused, too_few, span_fault}
 use Rattle.cdma_replay.proofs.finding.open_span.Goals as goal
 
@@ -17,3 +20,22 @@ returns-in_err-read-clause-fault g c =
     let p = err_from_is_err_and c.from_residual-in_err-read.result c.from_residual-in_err-read.ensures.1 in
     rw (p.1, p.2) (span_fault (g.S.Source.rest c.args.source.now) _ _ (length c.args.span.now) c.in_ok-reader.reader _ c.in_ok-reader.ensures.told c.in_ok-reader.ensures.header
     c.in_ok-reader.ensures.fresh c.in_err-read.ensures.fault)
+
+pub returns-in_err-reader-clause-place : goal.returns-in_err-reader-clause-place
+returns-in_err-reader-clause-place g c =
+    let p = err_from_is_err_and c.from_residual.result c.from_residual.ensures.1 in
+    rw (p.1, p.2) (fault_of_opening (g.S.Source.rest c.args.source.now) (length c.args.span.now) _ c.in_err-reader.ensures.told)
+
+pub returns-then-count-span-clause-place : goal.returns-then-count-span-clause-place
+returns-then-count-span-clause-place g c other =
+    fault_of_count (g.S.Source.rest c.args.source.now) (length c.args.span.now) _ c.in_ok-reader.reader c.in_ok-reader.ensures.told (search rules) (search rules)
+
+pub returns-in_err-read-clause-place : goal.returns-in_err-read-clause-place
+returns-in_err-read-clause-place g c =
+    let reading = c.in_ok-reader.reader in
+    let good : reading.fault ≡ None = ap (λ (r : Reading). r.fault) c.in_ok-reader.ensures.fresh in
+    let none : IsNone reading.fault = rw good refl in
+    let enough : length c.args.span.now ≤ reading.header.count = search rules in
+    let p = err_from_is_err_and c.from_residual-in_err-read.result c.from_residual-in_err-read.ensures.1 in
+    rw (p.1, p.2) (fault_of_span _ (g.S.Source.rest c.args.source.now) _ _ (length c.args.span.now) reading c.in_ok-reader.ensures.told c.in_ok-reader.ensures.header
+    (ap (λ (r : Reading). r.left) c.in_ok-reader.ensures.fresh) enough (c.in_err-read.ensures.fault none))

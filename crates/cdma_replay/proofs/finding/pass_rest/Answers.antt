@@ -1,6 +1,8 @@
-use Rattle.std.proofs.Common.{◌≡◌, ◌≤◌, ◌+◌, ◌*◌, ◌-◌, length, ap, ◌∙◌, arith, rules}
+use Rattle.std.proofs.Common.{◌≡◌, ◌≤◌, ◌-◌, length, ap, ◌∙◌, arith, rules}
 use Rattle.cdma_io.specs.SampleFile.{Reading, width_of}
 use Rattle.std.proofs.lemmas.Result.{IfErr-weaker, err_from_is_err_and}
+use Rattle.std.proofs.Common.{IsNone, refl}
+use Rattle.cdma_replay.proofs.Faults.{rest_cut_fault, rest_extra_fault}
 use Rattle.cdma_replay.proofs.Files.{passes_none, passes_more, rest_fault, end_fault}
 use Rattle.cdma_replay.proofs.finding.pass_rest.Goals as goal
 
@@ -45,4 +47,21 @@ returns-clause-fault g c =
     let done : c.loop-reader.reader.left ≤ 0 = omega (arith, c.left.ensures.value, c.loop-reader-test.false) in
     IfErr-weaker c.finish.result _ _
     (λ e runs. end_fault _ _ _ c.args.reader.now.left _ c.loop-reader.reader e inv.passed done inv.good runs)
+    c.finish.ensures.fault
+
+pub returns-in_err-read-clause-place : goal.returns-in_err-read-clause-place
+returns-in_err-read-clause-place g c =
+    let inv = c.loop-reader.invariant in
+    let none : IsNone c.loop-reader.reader.fault = rw inv.good refl in
+    let p = err_from_is_err_and c.from_residual.result c.from_residual.ensures.1 in
+    rw (p.1, p.2) (rest_cut_fault _ c.args.reader.now c.loop-reader.reader _ _ _ (length c.loop-reader.piece) inv.same inv.passed inv.low c.requires.counted
+    (c.in_err-read.ensures.fault none))
+
+pub returns-clause-place : goal.returns-clause-place
+returns-clause-place g c =
+    let inv = c.loop-reader.invariant in
+    let none : IsNone c.loop-reader.reader.fault = rw inv.good refl in
+    let done : c.loop-reader.reader.left ≤ 0 = omega (arith, c.left.ensures.value, c.loop-reader-test.false) in
+    IfErr-weaker c.finish.result _ _
+    (λ e runs. rest_extra_fault e c.args.reader.now c.loop-reader.reader _ _ inv.same inv.passed done (runs none))
     c.finish.ensures.fault

@@ -1,4 +1,4 @@
-use Rattle.std.proofs.Common.{refl, sym, ◌∙◌, arith, rules}
+use Rattle.std.proofs.Common.{refl, sym, ◌∙◌, arith}
 use Rattle.cdma_replay.proofs.Grammar.{digit_missing, digit_more, digit_read, digits_read, few_digits}
 use Rattle.cdma_replay.proofs.words.number_of_digits.Goals as goal
 
