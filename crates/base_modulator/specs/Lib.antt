@@ -1,0 +1,4 @@
+pub mod Plan
+pub mod Sendings
+pub mod Signal
+mod Worked

@@ -1,0 +1,42 @@
+-- Which cells a script may name.
+use Rattle.std.specs.Prelude.{ℕ, ◌+◌, ◌*◌, ◌<◌, ◌≤◌, ◌^◌, Option, Some, None, unsigned_abs}
+use Rattle.long_code.specs.LongCode.{IsState}
+use Rattle.cdma_io.specs.SampleFile.{most_samples}
+use Rattle.cdma_io.specs.declared.width.Width.{Width}
+use Rattle.cdma_io.specs.declared.width.Width.TheVariants.{Sixteen, Eight}
+use Rattle.sync_message.specs.SyncMessage.{IsSyncMessage}
+use Rattle.base_modulator.specs.declared.plan.CellPlan.{CellPlan}
+use Rattle.base_modulator.specs.declared.plan.SyncPlan.{SyncPlan}
+
+-- the greatest absolute value of a part of a sample
+abbrev pub most_part : Width → ℕ
+most_part Sixteen = 32767
+most_part Eight = 127
+
+-- the sum of the channels' gains
+abbrev pub sync_gain : Option SyncPlan → ℕ
+sync_gain None = 0
+sync_gain (Some sync) = sync.gain
+
+abbrev pub gain_sum : CellPlan → ℕ
+gain_sum plan = plan.pilot_gain + sync_gain plan.sync
+
+-- a bound on the parts of the samples: the sum of the absolute values of the link's parts, times the sum of the gains
+abbrev pub loudness : CellPlan → ℕ
+loudness plan = (unsigned_abs plan.link.i + unsigned_abs plan.link.q) * gain_sum plan
+
+-- a sync channel sends what is a message, whatever stands for PILOT_PN, SYS_TIME and LC_STATE
+abbrev pub IsSyncPlan : Option SyncPlan → Type 0
+IsSyncPlan None = Unit {0}
+IsSyncPlan (Some sync) = (0 < sync.gain) × IsSyncMessage sync.message
+
+-- a cell that can be sent in samples of this width
+pub record IsLawfulPlan (width : Width) (plan : CellPlan) : Type 0 where
+  pub pn : plan.pn < 512
+  pub time : plan.time ≤ 34359738368
+  pub lc : IsState plan.lc
+  pub start : plan.start < 2 ^ 32
+  pub samples : plan.samples ≤ most_samples width
+  pub pilot : 0 < plan.pilot_gain
+  pub sync : IsSyncPlan plan.sync
+  pub loud : loudness plan ≤ most_part width

@@ -1,0 +1,8 @@
+//! The base station: a script names a cell and the link to it, and the cell's samples are what a handset would receive.
+//!
+//! TIA/EIA-95-B, 7.1.3.1: the forward channels of a cell, spread by their Walsh rows and by the pilot's codes.
+#![tactic(auto)]
+
+mod plan;
+
+pub use plan::{CellPlan, SyncPlan};

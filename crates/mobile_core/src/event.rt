@@ -1,0 +1,25 @@
+//! What a handset hears.
+
+use chip_core::{Bits, Phase};
+use sync_message::SyncMessage;
+
+/// Something that a handset found or heard in the samples.
+#[derive(Clone, Copy, PartialEq, Eq, Debug)]
+pub enum Event {
+    /// The pilot was found (TIA/EIA-95-B, 7.1.3.2).
+    Pilot {
+        /// The phase of the pilot's codes at the first sample.
+        phase: Phase,
+        /// The energy of the samples' correlation with the codes at that phase.
+        energy: u64,
+    },
+    /// A message of the sync channel was heard (TIA/EIA-95-B, 7.7.1).
+    Sync {
+        /// How many samples had been taken when the message was known.
+        at: u64,
+        /// The whole capsule: length, body and check.
+        capsule: Bits,
+        /// The message that the capsule spells.
+        message: SyncMessage,
+    },
+}
