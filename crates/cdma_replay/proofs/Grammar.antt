@@ -1,15 +1,14 @@
 -- Lemmas on words and the numbers in them.
-use Rattle.std.proofs.Common.{◌≡◌, ℕ, ◌+◌, ◌*◌, ◌-◌, ◌^◌, ◌<◌, ◌≤◌, Bool, true, false, cond, List, [], ◌∷◌, length, get_or, drop, map, refl, sym, ap, ◌∙◌, arith, Option, None, Some, String, Global}
-use Rattle.std.proofs.lemmas.Bool.{cond-true, cond-false}
-use Rattle.std.proofs.lemmas.List.{at_drop_more, drop_all}
+use Rattle.std.proofs.Common.{◌≡◌, ℕ, zero, suc, ◌+◌, ◌*◌, ◌-◌, ◌^◌, ◌<◌, ◌≤◌, Bool, true, false, cond, List, [], ◌∷◌, length, get_or, drop, map, refl, sym, ap, ◌∙◌, arith, Option, None, Some, String, Global}
+use Rattle.std.proofs.lemmas.Bool.{cond-true, cond-false, false≢true}
+use Rattle.std.proofs.lemmas.List.{at_drop_more, drop_all, length-map}
 use Rattle.std.proofs.Math.Nat.{pow-le-pow_right, pow-suc}
 use Rattle.std.specs.Char.{is_ascii_digit}
 use Rattle.std.specs.String.{string_bytes}
-use Rattle.cdma_replay.specs.declared.words.Job.{Job}
-use Rattle.cdma_replay.specs.declared.words.Job.TheVariants.{Find}
-use Rattle.std.specs.Prelude.{codes, nat_eq}
-use Rattle.std.specs.Cmp.Lexicographic.{pointwise}
-use Rattle.cdma_replay.specs.Words.{digits_from, find_job, job_in, job_named, span_of, span_setting, value_after, value_joined}
+use Rattle.std.specs.Option.{option_and_then}
+use Rattle.cdma_replay.specs.declared.words.Choices.{Choices}
+use Rattle.cdma_replay.specs.Words.{begins_with, choices_behind, command_with, digits_from, is_joined, job_in, job_named, no_choices, with_joined, with_named}
+use Rattle.std.specs.Prelude.{codes}
 
 digits_from-digit : (number digit : ℕ) (digits : List ℕ) → is_ascii_digit digit ≡ true → digits_from number (digit ∷ digits) ≡ digits_from (10 * number + (digit - 48)) digits
 unfolding digits_from
@@ -54,81 +53,112 @@ digit_more number next k below small =
     let more : 10 ^ (k + 1) ≡ 10 ^ k * 10 = ap (λ (n : ℕ). 10 ^ n) (omega arith) ∙ pow-suc 10 k in
     omega (arith, below, small, more)
 
--- ---- the strings of a command line
+-- ---- options
 
-pub one_text : (words : List (String Global)) (a : String Global) → length words ≡ 1 → a ≡ get_or words 0 a → map string_bytes words ≡ string_bytes a ∷ []
-one_text [] a long a_is = absurd (omega (arith, long))
-one_text (x ∷ y ∷ rest) a long a_is = absurd (omega (arith, long))
-one_text (x ∷ []) a long a_is = ap (λ (w : String Global). string_bytes w ∷ []) (sym a_is)
-
-pub two_texts : (words : List (String Global)) (a b : String Global) → length words ≡ 2 → a ≡ get_or words 0 a → b ≡ get_or words 1 b →
-    map string_bytes words ≡ string_bytes a ∷ string_bytes b ∷ []
-two_texts [] a b long a_is b_is = absurd (omega (arith, long))
-two_texts (x ∷ []) a b long a_is b_is = absurd (omega (arith, long))
-two_texts (x ∷ y ∷ z ∷ rest) a b long a_is b_is = absurd (omega (arith, long))
-two_texts (x ∷ y ∷ []) a b long a_is b_is =
-    ap (λ (w : String Global). string_bytes w ∷ string_bytes y ∷ []) (sym a_is) ∙ ap (λ (w : String Global). string_bytes a ∷ string_bytes w ∷ []) (sym b_is)
-
-pub three_texts : (words : List (String Global)) (a b c : String Global) → length words ≡ 3 → a ≡ get_or words 0 a → b ≡ get_or words 1 b → c ≡ get_or words 2 c →
-    map string_bytes words ≡ string_bytes a ∷ string_bytes b ∷ string_bytes c ∷ []
-three_texts [] a b c long a_is b_is c_is = absurd (omega (arith, long))
-three_texts (x ∷ []) a b c long a_is b_is c_is = absurd (omega (arith, long))
-three_texts (x ∷ y ∷ []) a b c long a_is b_is c_is = absurd (omega (arith, long))
-three_texts (x ∷ y ∷ z ∷ u ∷ rest) a b c long a_is b_is c_is = absurd (omega (arith, long))
-three_texts (x ∷ y ∷ z ∷ []) a b c long a_is b_is c_is =
-    ap (λ (w : String Global). string_bytes w ∷ string_bytes y ∷ string_bytes z ∷ []) (sym a_is)
-    ∙ ap (λ (w : String Global). string_bytes a ∷ string_bytes w ∷ string_bytes z ∷ []) (sym b_is)
-    ∙ ap (λ (w : String Global). string_bytes a ∷ string_bytes b ∷ string_bytes w ∷ []) (sym c_is)
-
--- a lone command
-pub job_alone : (words : List (String Global)) (a : String Global) (text : List ℕ) (job : Option Job) → 1 ≤ length words → length words < 2 → a ≡ get_or words 0 a →
-    text ≡ string_bytes a → job ≡ find_job text (Some 2048) → job ≡ job_named words
-unfolding job_in
-job_alone words a text job some few a_is text_is job_is =
-    job_is ∙ ap (λ (t : List ℕ). find_job t (Some 2048)) text_is ∙ sym (ap job_in (one_text words a (omega (arith, some, few)) a_is))
-
--- a command and a word behind it
-pub job_joined : (words : List (String Global)) (a b : String Global) (text word : List ℕ) (span : Option ℕ) (job : Option Job) → 2 ≤ length words → length words < 3 →
-    a ≡ get_or words 0 a → b ≡ get_or words 1 b → text ≡ string_bytes a → word ≡ string_bytes b → span ≡ value_joined span_setting word →
-    job ≡ find_job text span → job ≡ job_named words
-unfolding job_in
-job_joined words a b text word span job some few a_is b_is text_is word_is span_is job_is =
-    job_is
-    ∙ ap (λ (t : List ℕ). find_job t span) text_is
-    ∙ ap (find_job (string_bytes a)) (span_is ∙ ap (value_joined span_setting) word_is)
-    ∙ sym (ap job_in (two_texts words a b (omega (arith, some, few)) a_is b_is))
-
--- a command and two words behind it
-pub job_named_span : (words : List (String Global)) (a b c : String Global) (text name word : List ℕ) (span : Option ℕ) (job : Option Job) → 3 ≤ length words → length words < 4 →
-    a ≡ get_or words 0 a → b ≡ get_or words 1 b → c ≡ get_or words 2 c → text ≡ string_bytes a → name ≡ string_bytes b → word ≡ string_bytes c →
-    span ≡ value_after span_setting name word → job ≡ find_job text span → job ≡ job_named words
-unfolding job_in
-job_named_span words a b c text name word span job some few a_is b_is c_is text_is name_is word_is span_is job_is =
-    job_is
-    ∙ ap (λ (t : List ℕ). find_job t span) text_is
-    ∙ ap (find_job (string_bytes a)) (span_is ∙ ap (λ (n : List ℕ). value_after span_setting n word) name_is ∙ ap (value_after span_setting (string_bytes b)) word_is)
-    ∙ sym (ap job_in (three_texts words a b c (omega (arith, some, few)) a_is b_is c_is))
-
--- no word, or too many
-pub no_job : (words : List (String Global)) → length words < 1 → None ≡ job_named words
-unfolding job_in
-no_job [] few = refl
-no_job (x ∷ rest) few = absurd (omega (arith, few))
-
-pub no_job_of_many : (words : List (String Global)) → 4 ≤ length words → None ≡ job_named words
-unfolding job_in
-no_job_of_many [] many = absurd (omega (arith, many))
-no_job_of_many (x ∷ []) many = absurd (omega (arith, many))
-no_job_of_many (x ∷ y ∷ []) many = absurd (omega (arith, many))
-no_job_of_many (x ∷ y ∷ z ∷ []) many = absurd (omega (arith, many))
-no_job_of_many (x ∷ y ∷ z ∷ u ∷ rest) many = sym (none_alike (pointwise nat_eq (string_bytes x) (codes "find")))
+-- once a choice was refused, all are
+refused-all : (words : List (List ℕ)) → choices_behind None words ≡ None
+unfolding choices_behind
+refused-all [] = refl
+refused-all (word ∷ []) = refl
+refused-all (word ∷ text ∷ words) = alike (is_joined word) (refused-all (text ∷ words)) (refused-all words)
   where
-    none_alike : (b : Bool) → cond b None (let none : Option Job = None in none) ≡ None
-    none_alike true = refl
-    none_alike false = refl
+    alike : (b : Bool) → choices_behind None (text ∷ words) ≡ None → choices_behind None words ≡ None → cond b (choices_behind None (text ∷ words)) (choices_behind None words) ≡ None
+    alike true one two = one
+    alike false one two = two
 
--- two jobs that are the same have the same span
-pub same_span : (job : Option Job) (found : Job) (span : ℕ) → job ≡ Some found → job ≡ Some (Find span) → span_of found ≡ span
-same_span job found span is also =
-    let same : found ≡ Find span = cc in
-    ap span_of same
+-- a word that holds no option and text chooses nothing
+not-joined : (choices : Choices) (word : List ℕ) → is_joined word ≡ false → with_joined choices word ≡ None
+not-joined choices word not = by_tests (begins_with word (codes "--span=")) (begins_with word (codes "--fingers=")) (begins_with word (codes "--bits=")) _ _ _ not
+  where
+    by_tests : (a b c : Bool) (x y z : Option Choices) → cond a true (cond b true c) ≡ false → cond a x (cond b y (cond c z None)) ≡ None
+    by_tests true b c x y z is = absurd (false≢true (sym is))
+    by_tests false true c x y z is = absurd (false≢true (sym is))
+    by_tests false false true x y z is = absurd (false≢true (sym is))
+    by_tests false false false x y z is = refl
+
+-- a word is an option and its text
+joined-first : (choices : Choices) (word : List ℕ) (words : List (List ℕ)) → is_joined word ≡ true →
+    choices_behind (Some choices) (word ∷ words) ≡ choices_behind (with_joined choices word) words
+unfolding choices_behind
+joined-first choices word [] is = refl
+joined-first choices word (text ∷ words) is = cond-true _ _ _ is
+
+-- two words are an option and its text
+named-first : (choices : Choices) (word text : List ℕ) (words : List (List ℕ)) → is_joined word ≡ false →
+    choices_behind (Some choices) (word ∷ text ∷ words) ≡ choices_behind (with_named choices word text) words
+unfolding choices_behind
+named-first choices word text words is = cond-false _ _ _ is
+
+alone-first : (choices : Choices) (word : List ℕ) → is_joined word ≡ false → choices_behind (Some choices) (word ∷ []) ≡ None
+unfolding choices_behind
+alone-first choices word is = not-joined choices word is
+
+pub joined_read : (texts : List (List ℕ)) (whole : Option Choices) (choices next : Choices) (k : ℕ) → k < length texts → is_joined (get_or texts k []) ≡ true →
+    whole ≡ choices_behind (Some choices) (drop k texts) → with_joined choices (get_or texts k []) ≡ Some next →
+    whole ≡ choices_behind (Some next) (drop (k + 1) texts)
+joined_read texts whole choices next k inside is before with =
+    before ∙ at_drop_more (choices_behind (Some choices)) texts k [] inside ∙ joined-first choices (get_or texts k []) (drop (k + 1) texts) is
+    ∙ ap (λ (c : Option Choices). choices_behind c (drop (k + 1) texts)) with
+
+pub joined_refused : (texts : List (List ℕ)) (whole : Option Choices) (choices : Choices) (k : ℕ) → k < length texts → is_joined (get_or texts k []) ≡ true →
+    whole ≡ choices_behind (Some choices) (drop k texts) → with_joined choices (get_or texts k []) ≡ None → None ≡ whole
+joined_refused texts whole choices k inside is before with =
+    sym (before ∙ at_drop_more (choices_behind (Some choices)) texts k [] inside ∙ joined-first choices (get_or texts k []) (drop (k + 1) texts) is
+    ∙ ap (λ (c : Option Choices). choices_behind c (drop (k + 1) texts)) with ∙ refused-all (drop (k + 1) texts))
+
+two-behind : (texts : List (List ℕ)) (choices : Choices) (k : ℕ) → k + 1 < length texts → is_joined (get_or texts k []) ≡ false →
+    choices_behind (Some choices) (drop k texts) ≡ choices_behind (with_named choices (get_or texts k []) (get_or texts (k + 1) [])) (drop (k + 2) texts)
+two-behind texts choices k inside is =
+    let next : k + 1 + 1 ≡ k + 2 = omega arith in
+    at_drop_more (choices_behind (Some choices)) texts k [] (omega (arith, inside))
+    ∙ at_drop_more (λ (ws : List (List ℕ)). choices_behind (Some choices) (get_or texts k [] ∷ ws)) texts (k + 1) [] inside
+    ∙ named-first choices (get_or texts k []) (get_or texts (k + 1) []) (drop (k + 1 + 1) texts) is
+    ∙ ap (λ (n : ℕ). choices_behind (with_named choices (get_or texts k []) (get_or texts (k + 1) [])) (drop n texts)) next
+
+pub named_read : (texts : List (List ℕ)) (whole : Option Choices) (choices next : Choices) (k : ℕ) → k + 1 < length texts → is_joined (get_or texts k []) ≡ false →
+    whole ≡ choices_behind (Some choices) (drop k texts) → with_named choices (get_or texts k []) (get_or texts (k + 1) []) ≡ Some next →
+    whole ≡ choices_behind (Some next) (drop (k + 2) texts)
+named_read texts whole choices next k inside is before with =
+    before ∙ two-behind texts choices k inside is ∙ ap (λ (c : Option Choices). choices_behind c (drop (k + 2) texts)) with
+
+pub named_refused : (texts : List (List ℕ)) (whole : Option Choices) (choices : Choices) (k : ℕ) → k + 1 < length texts → is_joined (get_or texts k []) ≡ false →
+    whole ≡ choices_behind (Some choices) (drop k texts) → with_named choices (get_or texts k []) (get_or texts (k + 1) []) ≡ None → None ≡ whole
+named_refused texts whole choices k inside is before with =
+    sym (before ∙ two-behind texts choices k inside is ∙ ap (λ (c : Option Choices). choices_behind c (drop (k + 2) texts)) with ∙ refused-all (drop (k + 2) texts))
+
+pub lone_refused : (texts : List (List ℕ)) (whole : Option Choices) (choices : Choices) (k : ℕ) → k < length texts → length texts ≤ k + 1 → is_joined (get_or texts k []) ≡ false →
+    whole ≡ choices_behind (Some choices) (drop k texts) → None ≡ whole
+lone_refused texts whole choices k inside last is before =
+    sym (before ∙ at_drop_more (choices_behind (Some choices)) texts k [] inside
+    ∙ ap (λ (ws : List (List ℕ)). choices_behind (Some choices) (get_or texts k [] ∷ ws)) (drop_all (k + 1) texts last)
+    ∙ alone-first choices (get_or texts k []) is)
+
+none-behind : (choices : Choices) → choices_behind (Some choices) [] ≡ Some choices
+unfolding choices_behind
+none-behind choices = refl
+
+pub all_read : (words : List (String Global)) (whole : Option Choices) (choices : Choices) (k : ℕ) → length words ≤ k →
+    whole ≡ choices_behind (Some choices) (drop k (map string_bytes words)) → Some choices ≡ whole
+all_read words whole choices k past before =
+    let all : length (map string_bytes words) ≤ k = rw (length-map words string_bytes) past in
+    sym (before ∙ ap (choices_behind (Some choices)) (drop_all k (map string_bytes words) all) ∙ none-behind choices)
+
+-- the text of a word
+pub text_at : (words : List (String Global)) (k : ℕ) (word : String Global) (text : List ℕ) → k < length words → word ≡ get_or words k word → text ≡ string_bytes word →
+    get_or (map string_bytes words) k [] ≡ text
+text_at [] k word text inside is text_is = absurd (omega (arith, inside))
+text_at (w ∷ words) zero word text inside is text_is = ap string_bytes (sym is) ∙ sym text_is
+text_at (w ∷ words) (suc k) word text inside is text_is = text_at words k word text (omega (arith, inside)) is text_is
+
+-- ---- the command
+
+pub no_first : (words : List (String Global)) → length words ≤ 0 → None ≡ job_named words
+unfolding job_in
+no_first [] few = refl
+no_first (w ∷ words) few = absurd (omega (arith, few))
+
+pub job_first : (words : List (String Global)) (command : String Global) (options : List (String Global)) (choices : Option Choices) → words ≡ command ∷ options →
+    choices ≡ choices_behind (Some no_choices) (map string_bytes options) → job_named words ≡ option_and_then (command_with (string_bytes command)) choices
+unfolding job_in
+job_first words command options choices is choices_is =
+    ap job_named is ∙ ap (option_and_then (command_with (string_bytes command))) (sym choices_is)

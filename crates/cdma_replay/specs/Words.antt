@@ -1,12 +1,17 @@
 -- The words of the command line, as lists of bytes, and the job that they name.
-use Rattle.std.specs.Prelude.{ℕ, ◌+◌, ◌*◌, ◌-◌, ◌≤◌, nat_eq, nat_le, Bool, if◌then◌else◌, List, [], ◌∷◌, ◌++◌, length, take, drop, map, codes, string_bytes, Option, None, Some}
+use Rattle.std.specs.Prelude.{ℕ, ◌+◌, ◌*◌, ◌-◌, ◌≤◌, nat_eq, nat_le, Bool, true, false, ◌&&◌, if◌then◌else◌, List, [], ◌∷◌, ◌++◌, length, take, drop, map, codes, string_bytes, Option, None, Some, is_none, IfSome}
 use Rattle.std.specs.Char.{is_ascii_digit}
 use Rattle.std.specs.Option.{option_and_then}
 use Rattle.std.specs.Cmp.Lexicographic.{pointwise}
 use Rattle.std.specs.declared.string.String.{String}
 use Rattle.std.specs.declared.alloc.Global.{Global}
+use Rattle.cdma_io.specs.declared.width.Width.{Width}
+use Rattle.cdma_io.specs.declared.width.Width.TheVariants.{Sixteen, Eight}
 use Rattle.cdma_replay.specs.declared.words.Job.{Job}
-use Rattle.cdma_replay.specs.declared.words.Job.TheVariants.{Find}
+use Rattle.cdma_replay.specs.declared.words.Job.TheVariants.{Find, Follow, Make}
+use Rattle.cdma_replay.specs.declared.words.Setting.{Setting}
+use Rattle.cdma_replay.specs.declared.words.Setting.TheVariants.{Span, Fingers, Bits}
+use Rattle.cdma_replay.specs.declared.words.Choices.{Choices}
 
 -- ---- numbers
 
@@ -19,28 +24,13 @@ digits_from number (digit ∷ digits) = if is_ascii_digit digit then digits_from
 abbrev pub number_in : List ℕ → Option ℕ
 number_in text = if nat_le 1 (length text) then (if nat_le (length text) 20 then digits_from 0 text else None) else None
 
--- ---- the table of commands
+-- ---- the table of options
 
--- an option of a command: its name, the least and the most of its numbers, and the one without it
-pub record Setting : Type 0 where
-  pub name : List ℕ
-  pub least : ℕ
-  pub most : ℕ
-  pub default : ℕ
-
--- `--span` of `find`
-abbrev pub span_setting : Setting
-span_setting = record { name = codes "--span"; least = 64; most = 32768; default = 2048 }
-
--- ---- from words to jobs
-
--- a number within a setting's range
-abbrev pub within : Setting → ℕ → Option ℕ
-within setting number = if nat_le setting.least number then (if nat_le number setting.most then Some number else None) else None
-
--- the number of a setting that a text spells
-abbrev pub value_in : Setting → List ℕ → Option ℕ
-value_in setting text = option_and_then (within setting) (number_in text)
+-- which numbers an option admits: 64 to 32,768; 1 to 3; 8 or 16
+abbrev pub admits : Setting → ℕ → Bool
+admits Span number = if nat_le 64 number then nat_le number 32768 else false
+admits Fingers number = if nat_le 1 number then nat_le number 3 else false
+admits Bits number = if nat_eq number 8 then true else nat_eq number 16
 
 -- whether a text is a word, and whether it begins with one
 abbrev pub is_word : List ℕ → List ℕ → Bool
@@ -49,46 +39,127 @@ is_word text word = pointwise nat_eq text word
 abbrev pub begins_with : List ℕ → List ℕ → Bool
 begins_with text word = is_word (take (length word) text) word
 
--- the number of a setting in the words `--name N`, and in the word `--name=N`
-abbrev pub value_after : Setting → List ℕ → List ℕ → Option ℕ
-value_after setting name text = if is_word name setting.name then value_in setting text else None
+-- the option of a name
+abbrev pub setting_named : List ℕ → Option Setting
+setting_named word =
+    if is_word word (codes "--span") then Some Span
+    else if is_word word (codes "--fingers") then Some Fingers
+    else if is_word word (codes "--bits") then Some Bits
+    else None
 
-abbrev pub value_joined : Setting → List ℕ → Option ℕ
-value_joined setting word =
-    if begins_with word (setting.name ++ codes "=") then value_in setting (drop (length (setting.name ++ codes "=")) word) else None
+-- whether a word is an option's name and its text at once, `--name=text`
+abbrev pub is_joined : List ℕ → Bool
+is_joined word =
+    if begins_with word (codes "--span=") then true
+    else if begins_with word (codes "--fingers=") then true
+    else begins_with word (codes "--bits=")
 
--- the number of a command's one setting in the words behind the command; its default where there are none
-abbrev pub setting_in : Setting → List (List ℕ) → Option ℕ
-setting_in setting [] = Some setting.default
-setting_in setting (word ∷ []) = value_joined setting word
-setting_in setting (name ∷ text ∷ []) = value_after setting name text
-setting_in setting (name ∷ text ∷ word ∷ words) = None
+-- ---- what options choose, each at most once
 
--- the job of `find` with a span
-abbrev pub find_with : ℕ → Option Job
-find_with span = Some (Find span)
+abbrev pub no_choices : Choices
+no_choices = record { span = None; fingers = None; bits = None }
 
--- that job where the command is `find`
-abbrev pub find_job : List ℕ → Option ℕ → Option Job
-find_job command span = if is_word command (codes "find") then option_and_then find_with span else None
+-- the number that an option chooses, where none was chosen before
+abbrev pub admitted : Setting → ℕ → Option ℕ
+admitted setting number = if admits setting number then Some number else None
+
+abbrev pub chosen : Setting → Option ℕ → List ℕ → Option ℕ
+chosen setting (Some before) text = None
+chosen setting None text = option_and_then (admitted setting) (number_in text)
+
+abbrev pub with_span : Choices → ℕ → Option Choices
+with_span choices number = Some (record choices { span = Some number })
+
+abbrev pub with_fingers : Choices → ℕ → Option Choices
+with_fingers choices number = Some (record choices { fingers = Some number })
+
+abbrev pub with_bits : Choices → ℕ → Option Choices
+with_bits choices number = Some (record choices { bits = Some number })
+
+abbrev pub with_setting : Choices → Setting → List ℕ → Option Choices
+with_setting choices Span text = option_and_then (with_span choices) (chosen Span choices.span text)
+with_setting choices Fingers text = option_and_then (with_fingers choices) (chosen Fingers choices.fingers text)
+with_setting choices Bits text = option_and_then (with_bits choices) (chosen Bits choices.bits text)
+
+-- with a word `--name=text`, and with two words `--name text`
+abbrev pub with_joined : Choices → List ℕ → Option Choices
+with_joined choices word =
+    if begins_with word (codes "--span=") then with_setting choices Span (drop 7 word)
+    else if begins_with word (codes "--fingers=") then with_setting choices Fingers (drop 10 word)
+    else if begins_with word (codes "--bits=") then with_setting choices Bits (drop 7 word)
+    else None
+
+abbrev pub with_named : Choices → List ℕ → List ℕ → Option Choices
+with_named choices name text = option_and_then (λ s. with_setting choices s text) (setting_named name)
+
+-- what words choose behind what was chosen before them
+unfoldable pub choices_behind : Option Choices → List (List ℕ) → Option Choices
+choices_behind choices [] = choices
+choices_behind choices (word ∷ []) = option_and_then (λ c. with_joined c word) choices
+choices_behind choices (word ∷ text ∷ words) =
+    if is_joined word
+    then choices_behind (option_and_then (λ c. with_joined c word) choices) (text ∷ words)
+    else choices_behind (option_and_then (λ c. with_named c word text) choices) words
+
+-- ---- from words to jobs
+
+abbrev pub or_default : ℕ → Option ℕ → ℕ
+or_default number None = number
+or_default number (Some chosen) = chosen
+
+abbrev pub width_for : Option ℕ → Width
+width_for None = Sixteen
+width_for (Some bits) = if nat_eq bits 8 then Eight else Sixteen
+
+-- a job, where all of its command's words are its own
+abbrev pub only_if : Bool → Job → Option Job
+only_if test job = if test then Some job else None
+
+-- each command takes its own options alone
+abbrev pub find_with : Choices → Option Job
+find_with choices = only_if (is_none choices.fingers && is_none choices.bits) (Find (or_default 2048 choices.span))
+
+abbrev pub follow_with : Choices → Option Job
+follow_with choices = only_if (is_none choices.bits) (Follow (or_default 2048 choices.span) (or_default 1 choices.fingers))
+
+abbrev pub make_with : Choices → Option Job
+make_with choices = only_if (is_none choices.span && is_none choices.fingers) (Make (width_for choices.bits))
+
+-- the job of a command with what its options choose
+abbrev pub command_with : List ℕ → Choices → Option Job
+command_with command choices =
+    if is_word command (codes "find") then find_with choices
+    else if is_word command (codes "follow") then follow_with choices
+    else if is_word command (codes "make") then make_with choices
+    else None
 
 -- the job that the words name
 unfoldable pub job_in : List (List ℕ) → Option Job
 job_in [] = None
-job_in (command ∷ words) = find_job command (setting_in span_setting words)
+job_in (command ∷ words) = option_and_then (command_with command) (choices_behind (Some no_choices) words)
 
 -- the job that the strings of a command line name
 abbrev pub job_named : List (String Global) → Option Job
 job_named words = job_in (map string_bytes words)
 
--- a span is one that `--span` may name
+-- a job has numbers that its options admit
 abbrev pub IsSpan : ℕ → Type 0
 IsSpan span = (64 ≤ span) × (span ≤ 32768)
 
--- in how many samples a job searches the pilot
-abbrev pub span_of : Job → ℕ
-span_of (Find span) = span
+abbrev pub IsFingers : ℕ → Type 0
+IsFingers fingers = (1 ≤ fingers) × (fingers ≤ 3)
 
--- a job has a span that may be named
 abbrev pub IsLawfulJob : Job → Type 0
-IsLawfulJob job = IsSpan (span_of job)
+IsLawfulJob (Find span) = IsSpan span
+IsLawfulJob (Follow span fingers) = IsSpan span × IsFingers fingers
+IsLawfulJob (Make width) = Unit {0}
+
+-- what options admit, and what they chose
+abbrev pub IsAdmitted : Setting → ℕ → Type 0
+IsAdmitted Span number = IsSpan number
+IsAdmitted Fingers number = IsFingers number
+IsAdmitted Bits number = Unit {0}
+
+pub record AreLawful (choices : Choices) : Type 0 where
+  pub span : IfSome choices.span IsSpan
+  pub fingers : IfSome choices.fingers IsFingers

@@ -14,7 +14,7 @@ ghost use Rattle.cdma_replay.specs.Words.{job_named};
 
 use crate::finding::find;
 use crate::status::Status;
-use crate::words::job_of;
+use crate::words::{Job, job_of};
 use cdma_io::{Sink, Source};
 use std::alloc::Global;
 
@@ -66,7 +66,8 @@ pub fn replay<S: Source, K: Sink>(
     let Some(job) = job_of(words) else {
         return Status::BadWords;
     };
-    match find(alloc, job.span(), source, sink) {
+    let Job::Find { span } = job else { return Status::BadWords; };
+    match find(alloc, span, source, sink) {
         Ok(()) => Status::Done,
         Err(status) => status,
     }

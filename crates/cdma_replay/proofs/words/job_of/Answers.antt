@@ -1,23 +1,19 @@
-use Rattle.cdma_replay.proofs.Grammar.{job_alone, job_joined, job_named_span, no_job, no_job_of_many}
+use Rattle.std.proofs.Common.{rules, ℕ, ◌≡◌, List, map, string_bytes, ap, sym, ◌∙◌, refl, Some, None}
+use Rattle.cdma_replay.specs.Words.{command_with, job_in}
+use Rattle.cdma_replay.proofs.Grammar.{job_first, no_first}
 use Rattle.cdma_replay.proofs.words.job_of.Goals as goal
 
-pub returns-in-len1-clause-job : goal.returns-in-len1-clause-job
-returns-in-len1-clause-job c =
-    job_alone c.args.words.now c.command-item.result _ c.find_job.result c.in-len1.len_at_least c.in-len1.len_below c.command-item.is c.as_str.ensures.value c.find_job.ensures.job
+pub returns-in_err-command-clause-job : goal.returns-in_err-command-clause-job
+returns-in_err-command-clause-job c =
+    let is : c.from_residual.result ≡ None = search rules in
+    is ∙ no_first c.args.words.now (search rules)
 
-pub returns-in-len2-clause-job : goal.returns-in-len2-clause-job
-returns-in-len2-clause-job c =
-    job_joined c.args.words.now c.command-item-then-words-lt3.result c.word-item.result _ _ _ c.find_job-in-len2.result c.in-len2.len_at_least c.in-len2.len_below
-    c.command-item-then-words-lt3.is c.word-item.is c.as_str-in-len2.ensures.value c.as_bytes.ensures.value c.joined_span.ensures.value c.find_job-in-len2.ensures.job
+pub returns-in_err-choices-clause-job : goal.returns-in_err-choices-clause-job
+returns-in_err-choices-clause-job c =
+    let is : c.from_residual-in_err-choices.result ≡ None = search rules in
+    is ∙ sym (job_first c.args.words.now c.in_ok-command.command.now c.in_ok-command.options.now None c.in_ok-command.ensures.cases.0 (search rules))
 
-pub returns-in-len3-clause-job : goal.returns-in-len3-clause-job
-returns-in-len3-clause-job c =
-    job_named_span c.args.words.now c.command-item-then-words-lt4.result c.name-item.result c.text-item.result _ _ _ _ c.find_job-in-len3.result c.in-len3.len_at_least c.in-len3.len_below
-    c.command-item-then-words-lt4.is c.name-item.is c.text-item.is c.as_str-in-len3.ensures.value c.as_str-in-len3-2.ensures.value c.as_bytes-in-len3.ensures.value
-    c.named_span.ensures.value c.find_job-in-len3.ensures.job
-
-pub returns-in_default-clause-job : goal.returns-in_default-clause-job
-returns-in_default-clause-job c = no_job c.args.words.now c.in_default.len_below
-
-pub returns-in_default-2-clause-job : goal.returns-in_default-2-clause-job
-returns-in_default-2-clause-job c = no_job_of_many c.args.words.now c.in_default.len_at_least
+pub returns-clause-job : goal.returns-clause-job
+returns-clause-job c =
+    let is : c.as_str.result.now ≡ string_bytes c.in_ok-command.command.now = search rules in
+    c.command_with.ensures.job ∙ ap (λ (t : List ℕ). command_with t c.in_ok-choices.choices) is ∙ sym (job_first c.args.words.now c.in_ok-command.command.now c.in_ok-command.options.now (Some c.in_ok-choices.choices) c.in_ok-command.ensures.cases.0 (search rules))
