@@ -4,5 +4,8 @@
 #![tactic(auto)]
 
 mod plan;
+mod script;
+mod script_fault;
 
 pub use plan::{CellPlan, SyncPlan};
+pub use script_fault::ScriptFault;

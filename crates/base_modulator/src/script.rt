@@ -1,0 +1,3 @@
+//! Scripts of cells.
+
+mod values;
