@@ -1,1 +1,3 @@
+pub mod ScriptMessages
+pub mod ScriptSplits
 pub mod ScriptTexts
