@@ -1,3 +1,4 @@
+pub mod ScriptLaws
 pub mod ScriptMessages
 pub mod ScriptSplits
 pub mod ScriptTexts

@@ -44,7 +44,7 @@ before-more : (byte : ℕ) (bytes : List ℕ) → (byte == 10) ≡ false → len
 unfolding length_before
 before-more byte bytes other = cond-false _ _ _ other
 
-stated-none : (stage : Stage) (n : ℕ) → stated stage n [] ≡ ok_or (plan_at stage) n
+pub stated-none : (stage : Stage) (n : ℕ) → stated stage n [] ≡ ok_or (plan_at stage) n
 unfolding stated
 stated-none stage n = refl
 
@@ -65,7 +65,7 @@ stage_after-line : (stage : Stage) (line : List ℕ) → is_line line ≡ true �
 unfolding stage_after
 stage_after-line stage line is = cond-true _ _ _ is
 
-stage_after-other : (stage : Stage) (line : List ℕ) → is_line line ≡ false → stage_after stage line ≡ None
+pub stage_after-other : (stage : Stage) (line : List ℕ) → is_line line ≡ false → stage_after stage line ≡ None
 unfolding stage_after
 stage_after-other stage line is = cond-false _ _ _ is
 

@@ -3,6 +3,7 @@
 //! TIA/EIA-95-B, 7.1.3.1: the forward channels of a cell, spread by their Walsh rows and by the pilot's codes.
 #![tactic(auto)]
 
+pub mod laws;
 mod plan;
 mod script;
 mod script_fault;

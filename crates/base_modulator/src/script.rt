@@ -19,6 +19,8 @@ use cdma_io::Width;
 mod fields;
 mod stage;
 mod statements;
+#[cfg(test)]
+mod tests;
 mod values;
 
 /// The most bytes that a script has.
