@@ -28,6 +28,7 @@ const MOST_BYTES: usize = 1_048_576;
 
 /// The Walsh rows of the pilot and of the sync channel.
 const PILOT_ROW: u8 = 0;
+
 const SYNC_ROW: u8 = 32;
 
 /// The plan that a script names for samples of a width, or its fault.
