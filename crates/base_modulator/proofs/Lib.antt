@@ -1,0 +1,4 @@
+pub mod ScriptLaws
+pub mod ScriptMessages
+pub mod ScriptSplits
+pub mod ScriptTexts

@@ -1,0 +1,9 @@
+use Rattle.std.proofs.Common.{◌≡◌, ◌<◌, ◌^◌, drop}
+use Rattle.base_modulator.specs.ScriptValues.{hex_from}
+use Rattle.base_modulator.proofs.script.values.hex_in.Given as goal
+
+abbrev pub invariant-loop-digit : goal.invariant-loop-digit
+invariant-loop-digit l = record {
+  left : hex_from 0 l.text ≡ hex_from l.number (drop l.digit-index l.text);
+  below : l.number < 16 ^ l.digit-index;
+}

@@ -1,0 +1,25 @@
+//! Laws of the definitions: each function does nothing, and its contract is the law.
+
+ghost use Rattle.std.specs.Prelude.{◌≡◌, ◌≢◌, ◌↔◌, ◌≤◌, ◌<◌, ◌+◌, ℕ, List, length, take, Err, IsOk};
+ghost use Rattle.cdma_io.specs.declared.width.Width.{Width as TheWidth};
+ghost use Rattle.base_modulator.specs.Script.{lines, plan_named, stated_plan};
+ghost use Rattle.base_modulator.specs.declared.script_fault.ScriptFault.TheVariants.{Line};
+
+/// `Line { n }` is the least number n, counted from 1, such that no script whose lines state a plan begins with lines 1 to
+/// n. Where a script ends too early n is the number of the line after the last, and some script whose lines state a plan
+/// begins with all of its lines.
+pub fn line_fault_is_the_first_that_no_script_has()
+    ensures counted { (script : List ℕ) (n : ℕ) → stated_plan script ≡ Err n → 1 ≤ n }
+    ensures refused { (script other : List ℕ) (n : ℕ) → stated_plan script ≡ Err n → n ≤ length (lines script) →
+        IsOk (stated_plan other) → take n (lines other) ≢ take n (lines script) }
+    ensures missing { (script : List ℕ) (n : ℕ) → stated_plan script ≡ Err n → length (lines script) < n →
+        n ≡ length (lines script) + 1 }
+    ensures least { (script : List ℕ) (n m : ℕ) → stated_plan script ≡ Err n → m < n →
+        (other : List ℕ) × IsOk (stated_plan other) × (take m (lines other) ≡ take m (lines script)) }
+{}
+
+/// A script is answered `Line { n }` exactly where it isn't too big, and its lines state no plan with this n.
+pub fn line_faults_come_first()
+    ensures { (width : TheWidth) (script : List ℕ) (n : ℕ) → (plan_named width script ≡ Err (Line n)) ↔
+        ((length script ≤ 1048576) × (stated_plan script ≡ Err n)) }
+{}

@@ -1,0 +1,99 @@
+//! The fields of a line, read one after another.
+
+ghost use Rattle.std.specs.Prelude.{◌≡◌, ◌≤◌, ℕ, Bool, List, true, false, length, IfSome, OnSome, MatchOption, IsTrue, ◌↔◌, unsigned_abs, []};
+ghost use Rattle.long_code.specs.LongCode.{IsState};
+ghost use Rattle.base_modulator.specs.ScriptValues.{begins_with, bits_in, number_up_to, signed_in, state_in};
+ghost use Rattle.base_modulator.specs.ScriptLines.{field, past, value_of};
+
+use crate::script::values::{bits_in, length_before, number_up_to, signed_in, state_in};
+use chip_core::Bits;
+use std::marker::Model;
+
+/// Reads the fields of a line in order. A key is what stands before a value: ` name=`, with the statement's word before the
+/// first. Contracts see the text that is left.
+#[derive(Drop)]
+pub(crate) struct Fields<'a> {
+    text: &'a [u8],
+}
+
+impl<'a> Model for Fields<'a> {
+    ghost use Rattle.std.specs.Prelude.{List, ℕ};
+
+    ghost Value = { List ℕ };
+
+    ghost view = { λ f. f.text.now };
+}
+
+impl<'a> Fields<'a> {
+    /// The fields of this text.
+    pub(crate) fn new(text: &'a [u8]) -> Fields<'a>
+        ensures { result ≡ text.now }
+    {
+        Fields { text }
+    }
+
+    /// Whether all of the text was read.
+    pub(crate) fn at_end(&self) -> bool
+        ensures { IsTrue result ↔ (self.now ≡ []) }
+    {
+        self.text.is_empty()
+    }
+
+    /// Whether the next field has this key.
+    pub(crate) fn begin_with(&self, key: &[u8]) -> bool
+        ensures { result ≡ begins_with self.now key.now }
+    {
+        self.text.strip_prefix(key).is_some()
+    }
+
+    /// The text of the value behind this key.
+    #[tactic(auto, unfolding(crate::specs::ScriptLines::past))]
+    fn value(&mut self, key: &[u8]) -> Option<&'a [u8]>
+        ensures value { MatchOption result (begins_with self.old key.now ≡ false) (λ value. (begins_with self.old key.now ≡ true) × (value.now ≡ value_of key.now self.old)) }
+        ensures rest { OnSome result (self.new ≡ past key.now self.old) }
+    {
+        let text = self.text.strip_prefix(key)?;
+        let end = length_before(text, b' ');
+        self.text = &text[end..];
+        Some(&text[..end])
+    }
+
+    /// A number of at most `most`.
+    #[tactic(auto, unfolding(crate::specs::ScriptLines::field))]
+    pub(crate) fn number(&mut self, key: &[u8], most: u64) -> Option<u64>
+        ensures value { result ≡ field key.now (number_up_to most) self.old }
+        ensures range { IfSome result (λ n. n ≤ most) }
+        ensures rest { OnSome result (self.new ≡ past key.now self.old) }
+    {
+        number_up_to(self.value(key)?, most)
+    }
+
+    /// A number with a sign, from -32,768 to 32,767.
+    #[tactic(auto, unfolding(crate::specs::ScriptLines::field))]
+    pub(crate) fn signed(&mut self, key: &[u8]) -> Option<i64>
+        ensures value { result ≡ field key.now signed_in self.old }
+        ensures range { IfSome result (λ n. unsigned_abs n ≤ 32768) }
+        ensures rest { OnSome result (self.new ≡ past key.now self.old) }
+    {
+        signed_in(self.value(key)?)
+    }
+
+    /// A state of the long code.
+    #[tactic(auto, unfolding(crate::specs::ScriptLines::field))]
+    pub(crate) fn state(&mut self, key: &[u8]) -> Option<u64>
+        ensures value { result ≡ field key.now state_in self.old }
+        ensures range { IfSome result IsState }
+        ensures rest { OnSome result (self.new ≡ past key.now self.old) }
+    {
+        state_in(self.value(key)?)
+    }
+
+    /// A list of bits.
+    #[tactic(auto, unfolding(crate::specs::ScriptLines::field))]
+    pub(crate) fn bits(&mut self, key: &[u8]) -> Option<Bits>
+        ensures value { result ≡ field key.now bits_in self.old }
+        ensures rest { OnSome result (self.new ≡ past key.now self.old) }
+    {
+        bits_in(self.value(key)?)
+    }
+}
