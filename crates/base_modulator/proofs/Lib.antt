@@ -1,0 +1,5 @@
+pub mod SentMessages
+pub mod SentFrames
+pub mod Amplitudes
+pub mod MachineInts
+pub mod Pieces
