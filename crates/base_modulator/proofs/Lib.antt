@@ -2,3 +2,8 @@ pub mod ScriptLaws
 pub mod ScriptMessages
 pub mod ScriptSplits
 pub mod ScriptTexts
+pub mod SentMessages
+pub mod SentFrames
+pub mod Amplitudes
+pub mod MachineInts
+pub mod Pieces

@@ -3,10 +3,14 @@
 //! TIA/EIA-95-B, 7.1.3.1: the forward channels of a cell, spread by their Walsh rows and by the pilot's codes.
 #![tactic(auto)]
 
+mod cell;
 pub mod laws;
 mod plan;
 mod script;
 mod script_fault;
+mod sendings;
+mod sync_channel;
 
+pub use cell::Cell;
 pub use plan::{CellPlan, SyncPlan};
 pub use script_fault::ScriptFault;

@@ -1,0 +1,21 @@
+use Rattle.std.proofs.Common.{◌≡◌, ap, ◌∙◌}
+use Rattle.sync_message.specs.Framing.{superframes_of}
+use Rattle.sync_message.specs.SyncMessage.{sync_capsule}
+use Rattle.sync_message.specs.declared.fields.SyncFields.{SyncFields}
+use Rattle.base_modulator.specs.Sendings.{superframes_a_sending}
+use Rattle.base_modulator.proofs.SentMessages.{superframes_some, superframes_few}
+use Rattle.base_modulator.proofs.sendings.Sendings.new.Goals as goal
+
+pub invariant_of-result : goal.invariant_of-result
+invariant_of-result c =
+    let plan = c.args.plan.now in
+    let m = c.args.message.now in
+    let needed : c.superframes_for-superframes.result ≡ superframes_a_sending plan m =
+    c.superframes_for-superframes.ensures ∙ ap superframes_of c.capsule_for.ensures in
+    record {
+      sendable = c.requires;
+      needed = needed;
+      some = rw needed (superframes_some plan.check30 m);
+      few = rw needed (superframes_few plan.check30 m c.requires.message);
+      spelled = c.capsule_for-2.ensures ∙ ap (λ (n : SyncFields). sync_capsule plan.check30 n) c.message_for-first.ensures.value;
+    }
