@@ -2,5 +2,9 @@
 #![tactic(auto)]
 
 mod event;
+mod heard;
+mod mark;
+mod settings;
 
 pub use event::Event;
+pub use settings::Settings;
