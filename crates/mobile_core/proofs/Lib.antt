@@ -3,3 +3,8 @@ pub mod FrameTimes
 pub mod Progresses
 pub mod Sooner
 pub mod Growth
+pub mod FingerTimes
+pub mod Opened
+pub mod MarkGrowth
+pub mod SoftSums
+pub mod FingerLists

@@ -69,6 +69,16 @@ flat_map_ext_filter p f g (x ∷ xs) h =
       | inr t ↦ rw t (flat_map_ext_filter p f g xs h)
     ]
 
+flat_map_ext_filter_range : {A : Type 0} (p : ℕ → Bool) (f g : ℕ → List A) (a n : ℕ) → ((k : ℕ) → k < a + n → p k ≡ true → f k ≡ g k) →
+    flat_map f (filter p (range_with_len a n)) ≡ flat_map g (filter p (range_with_len a n))
+flat_map_ext_filter_range p f g a zero h = refl
+flat_map_ext_filter_range p f g a (suc n) h =
+    let rest = flat_map_ext_filter_range p f g (a + 1) n (λ k l e. h k (omega arith) e) in
+    elim (cases_Bool (p a)) [
+      | inl t ↦ let here : f a ≡ g a = h a (omega arith) t in rw t (cc)
+      | inr t ↦ rw t rest
+    ]
+
 pub map_ext_filter_range : {A : Type 0} (p : ℕ → Bool) (f g : ℕ → A) (a n : ℕ) → ((k : ℕ) → k < a + n → p k ≡ true → f k ≡ g k) →
     map f (filter p (range_with_len a n)) ≡ map g (filter p (range_with_len a n))
 map_ext_filter_range p f g a zero h = refl
@@ -99,6 +109,10 @@ filter_first_places p n m below here before = filter_first_range p 0 n m (omega 
 pub map_ext_filter_places : {A : Type 0} (p : ℕ → Bool) (f g : ℕ → A) (n : ℕ) → ((k : ℕ) → k < n → p k ≡ true → f k ≡ g k) → map f (filter p (places n)) ≡ map g (filter p (places n))
 unfolding places
 map_ext_filter_places p f g n h = map_ext_filter_range p f g 0 n (λ k below kept. h k (omega arith) kept)
+
+pub flat_map_ext_filter_places : {A : Type 0} (p : ℕ → Bool) (f g : ℕ → List A) (n : ℕ) → ((k : ℕ) → k < n → p k ≡ true → f k ≡ g k) → flat_map f (filter p (places n)) ≡ flat_map g (filter p (places n))
+unfolding places
+flat_map_ext_filter_places p f g n h = flat_map_ext_filter_range p f g 0 n (λ k below kept. h k (omega arith) kept)
 
 pub map_ext_places : {A : Type 0} (f g : ℕ → A) (n : ℕ) → ((k : ℕ) → k < n → f k ≡ g k) → map f (places n) ≡ map g (places n)
 unfolding places

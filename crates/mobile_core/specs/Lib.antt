@@ -6,3 +6,6 @@ pub mod Events
 pub mod Marks
 pub mod Progress
 pub mod Left
+pub mod Near
+pub mod Given
+pub mod Softs

@@ -1,10 +1,11 @@
 -- The mark: the sample at which the time lies that a sync message tells.
-use Rattle.std.specs.Prelude.{ℕ, ◌+◌, ◌-◌, ◌*◌, ◌==◌, not, Bool, false, if◌then◌else◌, List, [], ◌∷◌, length, map, Option, Some, None}
+use Rattle.std.specs.Prelude.{ℕ, ◌+◌, ◌-◌, ◌*◌, ◌==◌, not, Bool, false, if◌then◌else◌, List, [], ◌∷◌, length, map, filter, nat_lt, Option, Some, None}
 use Rattle.std.specs.List.{flat_map}
+use Rattle.chip_core.specs.Bits.{places}
 use Rattle.chip_core.specs.declared.sample.Sample.{Sample}
 use Rattle.quality_bits.specs.Pieces.{piece, from_last_start}
 use Rattle.sync_message.specs.Framing.{superframes_of}
-use Rattle.mobile_core.specs.Streams.{frame_start, known_by}
+use Rattle.mobile_core.specs.Streams.{frame_start, is_in_file, known_by}
 use Rattle.mobile_core.specs.SyncEvents.{frames_before, heard_at}
 use Rattle.mobile_core.specs.Tuning.{Tuning, sync_stream, sync_bound}
 use Rattle.mobile_core.specs.declared.event.Event.{Event}
@@ -48,3 +49,16 @@ mark t samples n = first_of (flat_map (marks_at t samples) (known_by t.count (sy
 abbrev pub sets_mark : Event → Bool
 sets_mark (Pilot phase energy) = false
 sets_mark (Sync n capsule message) = not (message.lc == 0)
+
+-- how many frames the message under way has with one frame more, whose first bit says whether a message begins there
+abbrev pub frames_with : Bool → ℕ → ℕ
+frames_with begins before = if begins then 1 else (if nat_lt 0 before then before + 1 else 0)
+
+-- the first of two where there is one, else the second
+abbrev pub or_else : {A : Type 0} → Option A → Option A → Option A
+or_else None y = y
+or_else (Some x) y = Some x
+
+-- the mark of the frames in the file before frame `next`
+unfoldable pub mark_before : Tuning → List Sample → ℕ → Option Mark
+mark_before t samples next = first_of (flat_map (marks_at t samples) (filter (is_in_file t.count (sync_stream t)) (places next)))

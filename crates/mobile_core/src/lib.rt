@@ -2,9 +2,12 @@
 #![tactic(auto)]
 
 mod event;
+mod fingers;
 mod heard;
+mod hearing;
 mod mark;
 mod settings;
+mod softs;
 
 pub use event::Event;
 pub use settings::Settings;
