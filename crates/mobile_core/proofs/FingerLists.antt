@@ -1,14 +1,14 @@
 -- Lists of fingers, gone over one by one.
-use Rattle.std.proofs.Common.{◌≡◌, ℕ, zero, suc, ◌+◌, ◌-◌, ◌<◌, ◌≤◌, Bool, true, false, ◌&&◌, List, [], ◌∷◌, ◌++◌, length, take, drop, map, refl, sym, ap, ◌∙◌, arith, ℤ, pos, negsuc, Option, Some, slice_get, max, get_or}
+use Rattle.std.proofs.Common.{◌≡◌, ℕ, zero, suc, ◌+◌, ◌-◌, ◌<◌, ◌≤◌, Bool, true, false, ◌&&◌, List, [], ◌∷◌, ◌++◌, length, take, drop, map, refl, sym, ap, ◌∙◌, arith, ℤ, pos, negsuc, Option, Some, slice_get, slice_index_or, nat_lt, All, max, get_or}
 use Rattle.std.specs.Prelude.{int_le}
 use Rattle.std.specs.List.{list_all, list_any}
-use Rattle.std.proofs.lemmas.Bool.{and_parts, and_from}
+use Rattle.std.proofs.lemmas.Bool.{and_parts, and_from, ltb-true}
 use Rattle.std.proofs.lemmas.List.{at_drop_more, take_more, map-append}
 use Rattle.std.proofs.lemmas.List.Folds.{list_all-append, list_any-append}
 use Rattle.std.proofs.lemmas.Option.{get_or_from_slice_get, slice_get_within}
 use Rattle.rake_finger.specs.declared.finger.Finger.{Finger}
 use Rattle.rake_finger.specs.declared.form.Form.TheVariants.{Sync}
-use Rattle.mobile_core.specs.Near.{is_near, all_near, has_reference, AreNear, all_begun}
+use Rattle.mobile_core.specs.Near.{is_near, all_near, has_reference, AreNear, have_rows, all_begun}
 use Rattle.mobile_core.specs.Streams.{frame_end, finger_end}
 use Rattle.mobile_core.specs.Tuning.{finger_of, fingers_of}
 
@@ -45,3 +45,14 @@ reference_more fingers f h = list_any-append _ fingers (f ∷ []) ∙ rw h refl
 
 pub fingers_more : (phase : ℕ) (deltas : List ℤ) (i : ℕ) (d : ℤ) → i < length deltas → fingers_of 32 phase (take (i + 1) deltas) ≡ fingers_of 32 phase (take i deltas) ++ finger_of 32 phase (get_or deltas i d) ∷ []
 fingers_more phase deltas i d within = ap (fingers_of 32 phase) (take_more deltas i d within) ∙ map-append (finger_of 32 phase) (take i deltas) (get_or deltas i d ∷ [])
+
+pub rows_more : (fingers : List Finger) (f : Finger) → have_rows fingers ≡ true → f.row ≡ 32 → have_rows (fingers ++ f ∷ []) ≡ true
+rows_more fingers f h row = list_all-append _ fingers (f ∷ []) ∙ rw (h, row) refl
+
+pub rows_all : (fingers : List Finger) → have_rows fingers ≡ true → All (λ (f : Finger). f.row < 64) fingers
+rows_all fingers h = λ k d less. row_at fingers k d h less
+  where
+    row_at : (fs : List Finger) (k : ℕ) (d : Finger) → have_rows fs ≡ true → k < length fs → (slice_index_or fs k d).row < 64
+    row_at [] k d h less = absurd (omega arith)
+    row_at (f ∷ fs) zero d h less = ltb-true f.row 64 (and_parts (nat_lt f.row 64) (have_rows fs) h).0
+    row_at (f ∷ fs) (suc k) d h less = row_at fs k d (and_parts (nat_lt f.row 64) (have_rows fs) h).1 (omega arith)

@@ -8,3 +8,4 @@ pub mod Opened
 pub mod MarkGrowth
 pub mod SoftSums
 pub mod FingerLists
+pub mod Stood

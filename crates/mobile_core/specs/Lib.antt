@@ -9,3 +9,4 @@ pub mod Left
 pub mod Near
 pub mod Given
 pub mod Softs
+pub mod Standing

@@ -1,5 +1,5 @@
 -- How far a handset's fingers may be from the reference path.
-use Rattle.std.specs.Prelude.{ℕ, ◌&&◌, Bool, List, ℤ, pos, negsuc, int_le, IsTrue, if◌then◌else◌}
+use Rattle.std.specs.Prelude.{ℕ, ◌&&◌, Bool, List, ℤ, pos, negsuc, int_le, nat_lt, IsTrue, if◌then◌else◌}
 use Rattle.std.specs.Ordering.{int_eq}
 use Rattle.std.specs.List.{list_all, list_any}
 use Rattle.rake_finger.specs.declared.finger.Finger.{Finger}
@@ -18,6 +18,10 @@ has_reference fingers = list_any (λ (f : Finger). int_eq f.delta (pos 0)) finge
 -- each finger is near the reference path, and one is on it
 abbrev pub AreNear : List Finger → Type 0
 AreNear fingers = IsTrue (all_near fingers && has_reference fingers)
+
+-- each has a Walsh row
+abbrev pub have_rows : List Finger → Bool
+have_rows fingers = list_all (λ (f : Finger). nat_lt f.row 64) fingers
 
 -- no finger's frame that begins at reference sample u begins before the file
 abbrev pub all_begun : ℕ → List Finger → Bool

@@ -1,7 +1,7 @@
 //! The fingers that receive the sync channel, and where their frames lie.
 
-ghost use Rattle.std.specs.Prelude.{◌≡◌, ◌<◌, ◌≤◌, ◌+◌, ◌^◌, ℕ, IsTrue, true, pos, ◌+ℤ◌, ◌-ℤ◌, int_le, slice_get, Some, take, unsigned_abs};
-ghost use Rattle.mobile_core.specs.Near.{is_near, AreNear, all_begun};
+ghost use Rattle.std.specs.Prelude.{◌≡◌, ◌<◌, ◌≤◌, ◌+◌, ◌^◌, ℕ, IsTrue, true, pos, ◌+ℤ◌, ◌-ℤ◌, int_le, slice_get, Some, length, take, unsigned_abs};
+ghost use Rattle.mobile_core.specs.Near.{is_near, AreNear, have_rows, all_begun};
 ghost use Rattle.mobile_core.specs.Streams.{frame_end};
 ghost use Rattle.mobile_core.specs.Tuning.{finger_of, fingers_of, modulo_code};
 ghost use Rattle.rake_finger.specs.declared.form.Form.TheVariants.{Sync};
@@ -28,6 +28,7 @@ fn phase_above(phase: Phase, delta: i8) -> Phase
 fn finger_at(phase: Phase, delta: i8) -> Finger
     ensures value { result ≡ finger_of 32 phase delta }
     ensures near { is_near result.delta ≡ true }
+    ensures row { result.row ≡ 32 }
 {
     Finger {
         phase: phase_above(phase, delta),
@@ -43,6 +44,8 @@ pub(crate) fn sync_fingers(phase: Phase, near: &Near) -> Fingers
     requires first { slice_get near.now.deltas 0 ≡ Some (pos 0) }
     ensures value { result ≡ fingers_of 32 phase (take near.now.count near.now.deltas) }
     ensures near { AreNear result }
+    ensures rows { have_rows result ≡ true }
+    ensures most { length result ≤ 3 }
 {
     let mut fingers = Fingers::one(finger_at(phase, near.deltas[0]));
     for i in 1..near.count {

@@ -49,22 +49,22 @@ fn mark_of(first: u64, heard: &Heard) -> Option<Mark>
 }
 
 /// The mark that is set, or else that of what is heard.
-pub(crate) fn mark_with(mark: Option<Mark>, first: u64, heard: Option<Heard>) -> Option<Mark>
+pub(crate) fn mark_with(mark: Option<Mark>, first: u64, heard: &Option<Heard>) -> Option<Mark>
     requires { first ≤ 2 ^ 40 }
-    ensures { result ≡ or_else mark (first_of (marks_of first heard)) }
+    ensures { result ≡ or_else mark (first_of (marks_of first heard.now)) }
 {
     if mark.is_some() {
         return mark;
     }
-    mark_of(first, &heard?)
+    mark_of(first, heard.as_ref()?)
 }
 
 /// The event of what is heard.
-pub(crate) fn event_of(heard: Option<Heard>, at: u64) -> Option<Event>
-    ensures value { listed result ≡ events_of at heard }
+pub(crate) fn event_of(heard: &Option<Heard>, at: u64) -> Option<Event>
+    ensures value { listed result ≡ events_of at heard.now }
     ensures ends { IfSome result (λ event. at_of event ≡ at) }
 {
-    let Heard { capsule, message } = heard?;
+    let Heard { capsule, message } = *heard.as_ref()?;
     Some(Event::Sync {
         at,
         capsule,

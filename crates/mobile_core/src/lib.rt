@@ -6,8 +6,10 @@ mod fingers;
 mod heard;
 mod hearing;
 mod mark;
+mod mobile;
 mod settings;
 mod softs;
 
 pub use event::Event;
+pub use mobile::{Mobile, Step};
 pub use settings::Settings;

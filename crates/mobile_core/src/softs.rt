@@ -23,7 +23,7 @@ pub(crate) fn shift_in(softs: &mut [i64; 384], fresh: &[i64; 128])
 pub(crate) fn bits_of(decoder: &mut Decoder, softs: &[i64; 384], frames: usize, own: u8) -> Bits
     requires frames { frames ≤ 3 }
     requires own { own < frames }
-    requires room { decoder.old ≡ 96 }
+    requires room { 96 ≤ decoder.old }
     requires small { AreSmall softs.now }
     ensures value { result ≡ own_bits sync_channel frames own (drop (384 - 128 * frames) softs.now) }
     ensures count { length result ≡ 32 }
