@@ -306,16 +306,66 @@ module _ (t : Tuning) (p : Parts) (heard : List Sample) (given : List Event) (st
   stands_taken [] ring none within most holds = stands_none ring holds
   stands_taken (x ∷ more) ring none within most holds = stands_more (x ∷ more) ring none within most holds (omega arith)
 
+-- THE MARK
+append_none : {A : Type 0} (xs ys : List A) → xs ++ ys ≡ xs → ys ≡ []
+append_none xs [] e = refl
+append_none xs (y ∷ ys) e = absurd (omega (arith, ap length e, length-append xs (y ∷ ys)))
 
-  -- THE MARK
-  -- where all events have been given, the mark is that of the definition
-  pub marked_by : (IsDuePart p → ⊥) → length heard < p.end → mark t heard (length heard) ≡ p.mark
-  marked_by none waits =
-      let end = st.end_is in
-      mark_is t st.timed heard (length heard) p.next
-      (λ k below inside. before_next (sync_stream t) st.timed p.next p.have (length heard) st.reached k below inside)
-      (λ k h inside. let after = from_next (sync_stream t) st.timed p.next p.have (length heard) (length heard + 1) st.reached (not_due none) (omega arith) k h inside in omega arith)
-      ∙ sym st.marked
+no_event : (heard : Option Heard) (n : ℕ) (rest : List Event) → events_of n heard ++ rest ≡ [] → (heard ≡ None) × (rest ≡ [])
+no_event None n rest e = (refl, e)
+no_event (Some heard) n rest e = absurd (cc)
+
+or_none : (m : Option Mark) → or_else m None ≡ m
+or_none None = refl
+or_none (Some m) = refl
+
+-- a frame that completes nothing sets no mark
+mark_unheard : (t : Tuning) (samples : List Sample) (k : ℕ) → is_in_file t.count (sync_stream t) k ≡ true → heard_at t samples k ≡ None → mark_before t samples (k + 1) ≡ mark_before t samples k
+unfolding marks_at
+mark_unheard t samples k inside none =
+    mark_before_more t samples k inside
+    ∙ ap (λ h. or_else (mark_before t samples k) (first_of (marks_of (frame_start (sync_stream t) (k + 1 - frames_open t samples (k + 1))) h))) none
+    ∙ or_none (mark_before t samples k)
+
+module _ (t : Tuning) (heard : List Sample) (low have : ℕ) (timed : IsTimed t.count (sync_stream t) low) (waits : length heard < stream_end (sync_stream t) have) where
+  settled : (next : ℕ) → IsReached t.count (sync_stream t) low next have (length heard) → (IsDue t.count (sync_stream t) next have → ⊥) → mark t heard (length heard) ≡ mark_before t heard next
+  settled next r none =
+      mark_is t timed heard (length heard) next
+      (λ k below inside. before_next (sync_stream t) timed next have (length heard) r k below inside)
+      (λ k h inside. let after = from_next (sync_stream t) timed next have (length heard) (length heard + 1) r none (omega arith) k h inside in omega arith)
+
+  due_or_not : (next : ℕ) → IsDue t.count (sync_stream t) next have ⊎ (IsDue t.count (sync_stream t) next have → ⊥)
+  due_or_not next =
+      elim (cases_lt next have) [
+        | inl less ↦
+            elim (cases_lt (next + 1) have) [
+              | inl a ↦ inl (record { ended = less; known = inl a })
+              | inr b ↦
+                  elim (cases_lt t.count (stream_end (sync_stream t) have)) [
+                    | inl over ↦ inl (record { ended = less; known = inr over })
+                    | inr fits ↦ inr (λ d. elim d.known [ inl a ↦ omega arith | inr over ↦ omega arith ])
+                  ]
+            ]
+        | inr more ↦ inr (λ d. omega (arith, d.ended))
+      ]
+
+  -- where the frames that are known but not heard yet complete nothing, the mark is that of the frames heard
+  mark_of_left : (fuel next : ℕ) → have ≤ next + fuel → IsReached t.count (sync_stream t) low next have (length heard) → sync_events_left t heard next ≡ [] → mark t heard (length heard) ≡ mark_before t heard next
+  mark_of_left zero next most r none = settled next r (λ d. omega (arith, d.ended))
+  mark_of_left (suc fuel) next most r none =
+      elim (due_or_not next) [
+        | inl d ↦
+            let inside = due_inside (sync_stream t) timed next have (length heard) r d in
+            let known = due_known (sync_stream t) timed next have (length heard) r d in
+            let parted = no_event (heard_at t heard next) (length heard) (sync_events_left t heard (next + 1)) (sym (left_next t low timed heard next inside known) ∙ none) in
+            mark_of_left fuel (next + 1) (omega arith) (reached_next (sync_stream t) timed next have (length heard) r d) parted.1 ∙ mark_unheard t heard next inside parted.0
+        | inr d ↦ settled next r d
+      ]
+
+pub marked_all : (t : Tuning) (p : Parts) (heard : List Sample) → Stands t p heard (events t heard) → length heard < p.end → mark t heard (length heard) ≡ p.mark
+marked_all t p heard st waits =
+    let end = st.end_is in
+    mark_of_left t heard p.low p.have st.timed (omega arith) (p.have - p.next) p.next (omega arith) st.reached (append_none (events t heard) (sync_events_left t heard p.next) st.told) ∙ sym st.marked
 
 first_moment : (t : Tuning) → events_at t [] 0 ≡ events t []
 unfolding events_within

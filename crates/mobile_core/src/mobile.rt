@@ -97,6 +97,7 @@ fn first_frame(phase: Phase, fingers: &Fingers) -> FirstFrame
     ensures number { result.number ≡ (if all_begun ((32768 - phase) % 32768) fingers.now then 0 else 1) }
     ensures start { result.start ≡ (32768 - phase) % 32768 + 32768 * result.number }
     ensures begun { AreBegun result.start fingers.now }
+    ensures low { result.number ≤ 1 }
 {
     let start = (FRAME_CHIPS - u64::from(phase.get())) % FRAME_CHIPS;
     if are_begun(fingers, start) {

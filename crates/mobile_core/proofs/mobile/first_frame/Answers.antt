@@ -7,4 +7,4 @@ use Rattle.mobile_core.proofs.mobile.first_frame.Goals as goal
 pub returns-clause-begun : goal.returns-clause-begun
 returns-clause-begun c =
     let fingers = c.args.fingers.now in
-    begun_far _ fingers (and_parts (all_near fingers) (has_reference fingers) c.requires).0 (omega arith)
+    begun_far _ fingers (and_parts (all_near fingers) (has_reference fingers) c.requires.near).0 (omega arith)

@@ -21,7 +21,7 @@ returns-clause-stands c = λ t heard given st.
     let order = m.order in
     let count = c.taken.ensures.value ∙ stood.ring.taken in
     stands_heard t (parts m) heard given stood c.push-capsule.new.self bits c.push-capsule.result c.with_frame-self.result c.message_start.result c.heard_in-heard.result c.mark_with-self.result (listed c.event_of.result)
-    due order.2.2 own (c.push-capsule.ensures.stands before stood.framer) (c.push-capsule.ensures.capsule before stood.framer)
+    due order.3 own (c.push-capsule.ensures.stands before stood.framer) (c.push-capsule.ensures.capsule before stood.framer)
     (c.with_frame-self.ensures ∙ ap (λ b. frames_with b m.message_frames) (starts_is bits c.get.result c.get.ensures))
     c.message_start.ensures c.heard_in-heard.ensures c.mark_with-self.ensures
     (c.event_of.ensures.value ∙ ap (λ n. events_of n c.heard_in-heard.result) count)
