@@ -9,3 +9,4 @@ pub mod MarkGrowth
 pub mod SoftSums
 pub mod FingerLists
 pub mod Stood
+pub mod Causality

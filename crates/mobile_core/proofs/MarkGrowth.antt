@@ -60,7 +60,7 @@ mark_before_more t samples next inside =
     ∙ ap first_of (flat_map-append f kept (next ∷ []) ∙ ap (λ ms. flat_map f kept ++ ms) (append-nil (f next)))
     ∙ first_of-append (flat_map f kept) (f next)
 
-marks_at_sooner : (t : Tuning) (low : ℕ) → IsTimed t.count (sync_stream t) low → (xs ys : List Sample) (k : ℕ) → is_in_file t.count (sync_stream t) k ≡ true → known_at t.count (sync_stream t) k ≤ length xs →
+pub marks_at_sooner : (t : Tuning) (low : ℕ) → IsTimed t.count (sync_stream t) low → (xs ys : List Sample) (k : ℕ) → is_in_file t.count (sync_stream t) k ≡ true → known_at t.count (sync_stream t) k ≤ length xs →
     marks_at t (xs ++ ys) k ≡ marks_at t xs k
 unfolding marks_at frames_open
 marks_at_sooner t low timed xs ys k inside known =

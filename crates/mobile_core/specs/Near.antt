@@ -1,5 +1,5 @@
 -- How far a handset's fingers may be from the reference path.
-use Rattle.std.specs.Prelude.{ℕ, ◌&&◌, Bool, List, ℤ, pos, negsuc, int_le, nat_lt, IsTrue, if◌then◌else◌}
+use Rattle.std.specs.Prelude.{◌≡◌, ◌≤◌, ℕ, ◌&&◌, Bool, List, ℤ, pos, negsuc, int_le, nat_lt, unsigned_abs, IsTrue, All, Some, slice_get, if◌then◌else◌}
 use Rattle.std.specs.Ordering.{int_eq}
 use Rattle.std.specs.List.{list_all, list_any}
 use Rattle.rake_finger.specs.declared.finger.Finger.{Finger}
@@ -33,3 +33,8 @@ AreBegun u fingers = IsTrue (all_begun u fingers)
 -- the first sync frame in a file that is long enough
 abbrev pub low_of : Tuning → ℕ
 low_of t = if all_begun (sync_stream t).first (sync_stream t).fingers then 0 else 1
+
+-- The fingers' deltas are small, and the first is the reference path's.
+pub record IsTuned (t : Tuning) : Type 0 where
+  pub near : All (λ d. unsigned_abs d ≤ 127) t.deltas
+  pub first : slice_get t.deltas 0 ≡ Some (pos 0)

@@ -5,6 +5,7 @@ mod event;
 mod fingers;
 mod heard;
 mod hearing;
+pub mod laws;
 mod mark;
 mod mobile;
 mod settings;
