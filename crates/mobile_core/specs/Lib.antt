@@ -10,3 +10,4 @@ pub mod Near
 pub mod Given
 pub mod Softs
 pub mod Standing
+mod Worked

@@ -14,3 +14,6 @@ mod softs;
 pub use event::Event;
 pub use mobile::{Mobile, Step};
 pub use settings::Settings;
+
+#[cfg(test)]
+mod tests;
