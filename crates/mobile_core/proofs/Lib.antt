@@ -1,0 +1,12 @@
+pub mod Ranges
+pub mod FrameTimes
+pub mod Progresses
+pub mod Sooner
+pub mod Growth
+pub mod FingerTimes
+pub mod Opened
+pub mod MarkGrowth
+pub mod SoftSums
+pub mod FingerLists
+pub mod Stood
+pub mod Causality

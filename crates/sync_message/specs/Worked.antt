@@ -1,9 +1,10 @@
 -- Worked values.
 use Rattle.std.specs.Prelude.{◌≡◌, refl, ◌^◌, false, [], ◌∷◌, length, take, Some, None}
 use Rattle.chip_core.specs.Bits.{number, binary, places}
-use Rattle.chip_core.specs.declared.check_form.CheckForm.TheVariants.{Plain}
+use Rattle.chip_core.specs.declared.check_form.CheckForm.TheVariants.{Plain, Complemented}
 use Rattle.quality_bits.specs.Capsules.{capsule}
 use Rattle.quality_bits.specs.Quality.{check_bits}
+use Rattle.sync_message.specs.Reading.{fields_at, is_message, sync_reading}
 use Rattle.sync_message.specs.SyncMessage.{sync_body, sync_capsule}
 use Rattle.sync_message.specs.declared.fields.SyncFields.{SyncFields}
 
@@ -28,3 +29,17 @@ with_freq_length = refl
 with_freq_octets : number (take 8 (sync_capsule Plain with_freq)) ≡ 0x1a
 unfolding with_freq sync_capsule sync_body capsule binary check_bits places
 with_freq_octets = refl
+
+-- what is read is what was spelled
+shortest_read : sync_reading Plain (sync_capsule Plain shortest) ≡ Some shortest
+unfolding shortest sync_reading fields_at is_message sync_capsule sync_body capsule binary check_bits places
+shortest_read = refl
+
+with_freq_read : sync_reading Plain (sync_capsule Plain with_freq) ≡ Some with_freq
+unfolding with_freq sync_reading fields_at is_message sync_capsule sync_body capsule binary check_bits places
+with_freq_read = refl
+
+-- a capsule whose check is of the other form spells no message
+other_form_read : sync_reading Complemented (sync_capsule Plain shortest) ≡ None
+unfolding shortest sync_reading fields_at is_message sync_capsule sync_body capsule binary check_bits places
+other_form_read = refl

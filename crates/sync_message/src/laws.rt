@@ -1,9 +1,10 @@
 //! Laws of the definitions: each function does nothing, and its contract is the law.
 
-ghost use Rattle.std.specs.Prelude.{◌≡◌, ◌≤◌, ◌*◌, ◌-◌, ◌+◌, length, IsNone, IsSome};
+ghost use Rattle.std.specs.Prelude.{◌≡◌, ◌↔◌, Bool, List, Some, ◌≤◌, ◌*◌, ◌-◌, ◌+◌, length, IsNone, IsSome};
 ghost use Rattle.quality_bits.specs.Capsules.{octets};
 ghost use Rattle.quality_bits.specs.declared.kind.Kind.TheVariants.{M30};
 ghost use Rattle.chip_core.specs.declared.check_form.CheckForm.{CheckForm as TheForm};
+ghost use Rattle.sync_message.specs.Reading.{sync_reading};
 ghost use Rattle.sync_message.specs.SyncMessage.{IsSyncMessage, sync_body, sync_capsule};
 ghost use Rattle.sync_message.specs.declared.fields.SyncFields.{SyncFields as TheFields};
 
@@ -20,4 +21,10 @@ pub fn octets_tell_the_rest()
         IsNone m.freq × (length m.rest ≡ 3) }
     ensures longer { (m : TheFields) → IsSyncMessage m → 26 ≤ octets M30 (sync_body m) →
         IsSome m.freq × (length m.rest ≡ 8 * (octets M30 (sync_body m) - 26)) }
+{}
+
+/// Reading a list by the places of the fields gives a message exactly where the list is the message's capsule.
+pub fn reading_turns_spelling_back()
+    ensures { (form : TheForm) (capsule : List Bool) (m : TheFields) →
+        (sync_reading form capsule ≡ Some m) ↔ (IsSyncMessage m × (capsule ≡ sync_capsule form m)) }
 {}

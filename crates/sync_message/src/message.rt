@@ -4,6 +4,7 @@ ghost use Rattle.std.specs.Prelude.{◌≡◌, ◌↔◌, IfOk, SomeIff};
 ghost use Rattle.quality_bits.specs.Capsules.{IsWhole};
 ghost use Rattle.quality_bits.specs.Kinds.{IsChecked};
 ghost use Rattle.quality_bits.specs.declared.kind.Kind.TheVariants.{M30};
+ghost use Rattle.sync_message.specs.Reading.{sync_reading, reading_of};
 ghost use Rattle.sync_message.specs.SyncMessage.{IsSyncMessage, sync_capsule};
 ghost use Rattle.sync_message.specs.declared.fields.SyncFields.{SyncFields as TheFields};
 
@@ -61,13 +62,14 @@ impl SyncMessage {
         capsule_of(Kind::M30, form, &write_body(&self.fields))
     }
 
-    /// The message that a capsule spells.
+    /// The message that a capsule spells, as `sync_reading` defines it.
     ///
     /// `BadLength` exactly where the list isn't as long as its MSG_LENGTH says, or that is outside 5 to 148 octets; else
     /// `BadCheck` exactly where the check differs; else `BadBody` exactly where the body isn't that of a message.
     pub fn decode(capsule: &Bits, form: CheckForm) -> Result<SyncMessage, MessageFault>
         ensures found { IfOk result (λ m. IsSyncMessage m × (capsule.now ≡ sync_capsule form m)) }
         ensures only { (m : TheFields) → IsSyncMessage m → capsule.now ≡ sync_capsule form m → result ≡ Ok m }
+        ensures reading { reading_of result ≡ sync_reading form capsule.now }
 
         ensures bad_length { (result ≡ Err MessageFault.BadLength) ↔ ¬ (IsWhole capsule.now) }
         ensures bad_check { (result ≡ Err MessageFault.BadCheck) ↔ (IsWhole capsule.now × ¬ (IsChecked M30 form capsule.now)) }

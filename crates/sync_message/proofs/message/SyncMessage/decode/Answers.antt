@@ -1,10 +1,12 @@
-use Rattle.std.proofs.Common.{refl, sym, ap, subst, ◌∙◌, Ok}
+use Rattle.std.proofs.Common.{rules, refl, sym, ap, subst, ◌∙◌, Ok, Err}
 use Rattle.quality_bits.specs.Capsules.{capsule, IsWhole}
 use Rattle.quality_bits.specs.Kinds.{IsChecked}
 use Rattle.quality_bits.specs.declared.kind.Kind.TheVariants.{M30}
 use Rattle.quality_bits.proofs.Wholes.{whole-capsule, checked-capsule}
 use Rattle.sync_message.specs.SyncMessage.{sync_body, sync_capsule}
 use Rattle.sync_message.proofs.Bodies.{body_injective, body_of_capsule}
+use Rattle.sync_message.specs.declared.fault.MessageFault.TheVariants.{BadBody}
+use Rattle.sync_message.proofs.Readings.{reading_decoded}
 use Rattle.sync_message.proofs.message.SyncMessage.decode.Goals as goal
 
 pub returns-in_err-body-clause-only : goal.returns-in_err-body-clause-only
@@ -50,3 +52,13 @@ returns-in-Err-clause-bad_body c =
       ),
       λ none. refl,
     )
+
+pub returns-in_err-body-clause-reading : goal.returns-in_err-body-clause-reading
+returns-in_err-body-clause-reading c =
+    reading_decoded c.args.form c.args.capsule.now c.from_residual.result (search rules) (returns-in_err-body-clause-only c)
+
+pub returns-in-Ok-clause-reading : goal.returns-in-Ok-clause-reading
+returns-in-Ok-clause-reading c = reading_decoded c.args.form c.args.capsule.now (Ok c.in-Ok.fields) (returns-in-Ok-clause-found c) (returns-in-Ok-clause-only c)
+
+pub returns-in-Err-clause-reading : goal.returns-in-Err-clause-reading
+returns-in-Err-clause-reading c = reading_decoded c.args.form c.args.capsule.now (Err BadBody) tt (returns-in-Err-clause-only c)

@@ -1,0 +1,6 @@
+use Rattle.std.proofs.Common.{◌≡◌, drop}
+use Rattle.mobile_core.specs.Near.{all_begun}
+use Rattle.mobile_core.proofs.fingers.are_begun.Given as goal
+
+abbrev pub invariant-loop-i : goal.invariant-loop-i
+invariant-loop-i l = all_begun l.start (drop l.i l.fingers) ≡ all_begun l.start l.fingers

@@ -1,0 +1,12 @@
+use Rattle.std.proofs.Common.{◌≡◌, ◌∙◌, sym, ap, arith}
+use Rattle.std.specs.Prelude.{is_some}
+use Rattle.mobile_core.specs.Standing.{parts}
+use Rattle.mobile_core.proofs.Stood.{marked_all}
+use Rattle.mobile_core.proofs.mobile.Mobile.synced.Goals as goal
+
+pub returns-clause-mark : goal.returns-clause-mark
+returns-clause-mark c = λ t heard st.
+    let m = c.args.self.now in
+    let few = m.few in
+    let taken = st.ring.taken in
+    c.is_some.ensures ∙ ap is_some (sym (marked_all t (parts m) heard st (omega arith)))

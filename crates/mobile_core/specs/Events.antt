@@ -1,0 +1,20 @@
+-- All that a handset hears behind the pilot.
+use Rattle.std.specs.Prelude.{ℕ, ◌+◌, List, length}
+use Rattle.std.specs.List.{flat_map}
+use Rattle.chip_core.specs.Bits.{places}
+use Rattle.chip_core.specs.declared.sample.Sample.{Sample}
+use Rattle.mobile_core.specs.SyncEvents.{sync_events_at}
+use Rattle.mobile_core.specs.Tuning.{Tuning}
+use Rattle.mobile_core.specs.declared.event.Event.{Event}
+
+-- the events that end when just n samples have been taken
+unfoldable pub events_at : Tuning → List Sample → ℕ → List Event
+events_at t samples n = sync_events_at t samples n
+
+-- the events that end within the first n samples, in order
+unfoldable pub events_within : Tuning → List Sample → ℕ → List Event
+events_within t samples n = flat_map (events_at t samples) (places (n + 1))
+
+-- all of them
+abbrev pub events : Tuning → List Sample → List Event
+events t samples = events_within t samples (length samples)

@@ -1,0 +1,14 @@
+-- Events as they are given.
+use Rattle.std.specs.Prelude.{ℕ, List, [], ◌∷◌, Option, Some, None}
+use Rattle.mobile_core.specs.declared.event.Event.{Event}
+use Rattle.mobile_core.specs.declared.event.Event.TheVariants.{Pilot, Sync}
+
+-- one or none, as a list
+abbrev pub listed : Option Event → List Event
+listed None = []
+listed (Some event) = event ∷ []
+
+-- how many samples had been taken at an event's end; the pilot is found before any is given to the handset
+abbrev pub at_of : Event → ℕ
+at_of (Pilot phase energy) = 0
+at_of (Sync at' capsule message) = at'

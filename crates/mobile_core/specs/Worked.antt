@@ -1,0 +1,68 @@
+-- A file of 1,228,800 samples whose pilot has phase 64, as the checker computes it.
+use Rattle.std.specs.Prelude.{◌≡◌, refl, ℕ, true, false, List, [], ◌∷◌, replicate, ℤ, pos, negsuc, Some, None}
+use Rattle.chip_core.specs.declared.check_form.CheckForm.TheVariants.{Plain}
+use Rattle.sync_message.specs.declared.fields.SyncFields.{SyncFields}
+use Rattle.mobile_core.specs.Marks.{mark_at, marks_of, frames_with}
+use Rattle.mobile_core.specs.Near.{low_of}
+use Rattle.mobile_core.specs.Streams.{is_in_file, known_at, span_first, span_frames}
+use Rattle.mobile_core.specs.Timing.{stream_end}
+use Rattle.mobile_core.specs.Tuning.{Tuning, sync_stream, modulo_code}
+
+tuned : ℕ → List ℤ → Tuning
+tuned phase deltas = record { count = 1228800; phase = phase; deltas = deltas; check30 = Plain }
+
+-- a message of seven frames that begins with frame 0 is known when frame 7 has ended
+seventh : known_at 1228800 (sync_stream (tuned 64 (pos 0 ∷ []))) 6 ≡ 294848
+unfolding tuned
+seventh = refl
+
+-- and 4 samples later where a path comes 4 chips later
+seventh_late : known_at 1228800 (sync_stream (tuned 64 (pos 0 ∷ pos 2 ∷ negsuc 3 ∷ []))) 6 ≡ 294852
+unfolding tuned
+seventh_late = refl
+
+-- the last two frames are known together, the one with the frame before it alone
+last_two : known_at 1228800 (sync_stream (tuned 64 (pos 0 ∷ []))) 34 ≡ 1212352
+unfolding tuned
+last_two = refl
+
+last : known_at 1228800 (sync_stream (tuned 64 (pos 0 ∷ []))) 35 ≡ 1212352
+unfolding tuned
+last = refl
+
+last_span : span_frames 1228800 (sync_stream (tuned 64 (pos 0 ∷ []))) 35 ≡ 2
+unfolding tuned
+last_span = refl
+
+none_behind : is_in_file 1228800 (sync_stream (tuned 64 (pos 0 ∷ []))) 36 ≡ false
+unfolding tuned
+none_behind = refl
+
+-- a path that comes earlier than the file begins has no frame 0
+first_frame : low_of (tuned 0 (pos 0 ∷ pos 1 ∷ [])) ≡ 1
+unfolding tuned
+first_frame = refl
+
+below_the_code : modulo_code (negsuc 2) ≡ 32765
+below_the_code = refl
+
+-- a capsule of 200 bits takes three superframes: seven from its first frame's sample on, less the pilot's offset
+sent : SyncFields
+sent = record { prev = 3; min = 1; sid = 1; nid = 2; pn = 511; lc = 0x102a1d2e508; time = 1007; lp = 13; ltm = 0; daylt = 0; prat = 0; freq = None; rest = false ∷ false ∷ false ∷ [] }
+
+told : marks_of 32704 (Some (record { capsule = replicate 200 true; message = sent })) ≡ record { sample = 688128; time = 1007; lc = 0x102a1d2e508; pn = 511; prat = 0 } ∷ []
+unfolding sent
+told = refl
+
+untold : marks_of 32704 (Some (record { capsule = replicate 200 true; message = record sent { lc = 0 } })) ≡ []
+unfolding sent
+untold = refl
+
+goes_on : frames_with false 6 ≡ 7
+goes_on = refl
+
+not_begun : frames_with false 0 ≡ 0
+not_begun = refl
+
+begins_again : frames_with true 3 ≡ 1
+begins_again = refl

@@ -1,0 +1,16 @@
+//! Where the time lies that a sync message tells.
+
+/// The sample at which a sync message's time lies, and what else it says of the channels that begin there.
+#[derive(Clone, Copy)]
+pub(crate) struct Mark {
+    /// The reference sample at which the time lies.
+    pub sample: u64,
+    /// The system's time there, in units of 80 ms.
+    pub time: u64,
+    /// The state of the long code there.
+    pub lc: u64,
+    /// The offset of the pilot code, in units of 64 chips.
+    pub pn: u16,
+    /// The data rate of the paging channel.
+    pub prat: u8,
+}

@@ -1,0 +1,16 @@
+//! How a handset is set up.
+
+use chip_core::CheckForm;
+
+/// What a handset is told about a file, and how it is to receive it.
+#[derive(Clone, Copy, PartialEq, Eq, Debug)]
+pub struct Settings {
+    /// How many paths of the base station it receives, 1 to 3.
+    pub fingers: u8,
+    /// How the 30-bit checks of the sync and paging channels' messages are sent.
+    pub check30: CheckForm,
+    /// How the 16-bit checks of the traffic channel's messages are sent.
+    pub check16: CheckForm,
+    /// How many samples the file has, 1 to 67,108,864.
+    pub count: u64,
+}
