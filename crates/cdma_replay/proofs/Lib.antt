@@ -1,3 +1,4 @@
+pub mod Hearings
 pub mod Faults
 pub mod Files
 pub mod Grammar

@@ -1,5 +1,5 @@
--- What the command `find` reads and writes.
-use Rattle.std.specs.Prelude.{◌≡◌, ℕ, ◌+◌, ◌*◌, ◌<◌, ◌≤◌, ◌++◌, ◌⊎◌, List, [], length, take, All, Option, IfSome, Result, Ok, Err}
+-- What `find` and `follow` read and write.
+use Rattle.std.specs.Prelude.{◌≡◌, ℕ, ◌+◌, ◌*◌, ◌<◌, ◌≤◌, ◌++◌, ◌⊎◌, List, [], length, All, Option, IfSome, Result, Ok, Err}
 use Rattle.std.specs.List.{flat_map}
 use Rattle.std.specs.Io.{StartsWith}
 use Rattle.std.specs.Io.KnownBytes.{Appends, Consumes}
@@ -10,8 +10,10 @@ use Rattle.cdma_io.specs.declared.file_fault.FileFault.TheVariants.{Short, Extra
 use Rattle.cdma_io.specs.SampleFile.{IsSampleFile, HasBits, Reading, header_spelling, next_place, opening, sample_len, sample_spelling, width_of}
 use Rattle.cdma_io.specs.declared.width.Width.{Width}
 use Rattle.cdma_replay.specs.declared.status.Status.{Status}
-use Rattle.cdma_replay.specs.declared.status.Status.TheVariants.{Done}
-use Rattle.cdma_replay.specs.PilotLine.{best_line}
+use Rattle.cdma_replay.specs.declared.status.Status.TheVariants as ends
+use Rattle.cdma_replay.specs.declared.status.Status.TheVariants.{Done, NoSync, BadFile, WriteFault, BadWords, BadScript}
+use Rattle.cdma_replay.specs.declared.receiving.Reception.{Reception}
+use Rattle.cdma_replay.specs.Hearing.{file_end_of, file_text}
 
 -- bytes that are a sample file of so many samples or more
 pub record IsSearchable (bytes : List ℕ) (span : ℕ) : Type 0 where
@@ -27,24 +29,31 @@ pub record PassesSamples (width : Width) (count : ℕ) (old new : Option (List �
   pub in_range : All (HasBits width) samples
   pub consumed : Consumes old new (flat_map (sample_spelling width) samples)
 
--- the file of these bytes was read, and the line of its first samples written
-pub record WritesBestLine (span : ℕ) (bytes : List ℕ) (old new : Option (List ℕ)) : Type 0 where
-  pub searchable : IsSearchable bytes span
-  pub written : Appends old new (best_line (take span searchable.samples))
+-- the file of these bytes was read, its text written, and the run ended as it should
+pub record WritesText (r : Reception) (status : Status) (bytes : List ℕ) (old new : Option (List ℕ)) : Type 0 where
+  pub searchable : IsSearchable bytes r.span
+  pub written : Appends old new (file_text r searchable.header searchable.samples)
+  pub ends : status ≡ file_end_of r searchable.header searchable.samples
 
--- a text is a beginning of the line of so many samples, with which the file of these bytes begins
-pub record BeginsBestLine (span : ℕ) (rest : Option (List ℕ)) (text : List ℕ) : Type 0 where
+-- a text is a beginning of the text of samples, as many as the span is or more, with which the file of these bytes begins
+pub record BeginsText (r : Reception) (rest : Option (List ℕ)) (text : List ℕ) : Type 0 where
   pub header : Header
   pub samples : List Sample
-  pub counted : length samples ≡ span
+  pub counted : r.span ≤ length samples
   pub first : IfSome rest (λ bytes. StartsWith bytes (header_spelling header ++ flat_map (sample_spelling (width_of header)) samples))
-  pub begins : StartsWith (best_line samples) text
+  pub begins : StartsWith (file_text r header samples) text
 
--- known bytes grew by nothing, or by a beginning of that line
-pub record WritesNoMore (span : ℕ) (rest : Option (List ℕ)) (old new : Option (List ℕ)) : Type 0 where
+-- known bytes grew by nothing, or by a beginning of that text
+pub record WritesNoMore (r : Reception) (rest : Option (List ℕ)) (old new : Option (List ℕ)) : Type 0 where
   pub text : List ℕ
   pub written : Appends old new text
-  pub part : (text ≡ []) ⊎ BeginsBestLine span rest text
+  pub part : (text ≡ []) ⊎ BeginsText r rest text
+
+-- a run that read its input to the end and wrote all of its text
+abbrev pub IsEnd : Status → Type 0
+IsEnd Done = Unit {0}
+IsEnd NoSync = Unit {0}
+IsEnd _ = ⊥
 
 -- a fault that shows before any sample is read
 abbrev pub IsHeaderFault : FileFault → Type 0
@@ -79,3 +88,16 @@ IsRestFault reading len _ = ⊥
 abbrev pub ended : {T : Type 0} → Result T Status → Status
 ended (Ok done) = Done
 ended (Err status) = status
+
+-- a fault of the file or of the outside
+abbrev pub IsFault : Status → Type 0
+IsFault (BadFile fault) = Unit {0}
+IsFault ends.ReadFault = Unit {0}
+IsFault WriteFault = Unit {0}
+IsFault _ = ⊥
+
+-- an end of a run over a sample file: no words and no script were at fault
+abbrev pub IsOfFiles : Status → Type 0
+IsOfFiles BadWords = ⊥
+IsOfFiles (BadScript fault) = ⊥
+IsOfFiles _ = Unit {0}

@@ -1,4 +1,4 @@
 pub mod Find
-pub mod PilotLine
+pub mod Hearing
 pub mod Status
 pub mod Words

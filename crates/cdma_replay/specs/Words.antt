@@ -12,6 +12,7 @@ use Rattle.cdma_replay.specs.declared.words.Job.TheVariants.{Find, Follow, Make}
 use Rattle.cdma_replay.specs.declared.words.Setting.{Setting}
 use Rattle.cdma_replay.specs.declared.words.Setting.TheVariants.{Span, Fingers, Bits}
 use Rattle.cdma_replay.specs.declared.words.Choices.{Choices}
+use Rattle.cdma_replay.specs.declared.receiving.Reception.{Reception}
 
 -- ---- numbers
 
@@ -141,6 +142,12 @@ job_in (command ∷ words) = option_and_then (command_with command) (choices_beh
 -- the job that the strings of a command line name
 abbrev pub job_named : List (String Global) → Option Job
 job_named words = job_in (map string_bytes words)
+
+-- how a job receives a sample file, where it does
+abbrev pub reception_of : Job → Option Reception
+reception_of (Find span) = Some (record { span = span; fingers = None })
+reception_of (Follow span fingers) = Some (record { span = span; fingers = Some fingers })
+reception_of (Make width) = None
 
 -- a job has numbers that its options admit
 abbrev pub IsSpan : ℕ → Type 0

@@ -4,8 +4,7 @@
 //! What is here makes these of the process: its arguments, standard input and standard output.
 #![tactic(auto)]
 
-mod finding;
-mod pilot_line;
+mod receiving;
 mod replaying;
 mod status;
 #[cfg(test)]

@@ -4,7 +4,7 @@ use Rattle.std.proofs.Common.{◌≡◌, ◌≤◌, IsNone, None, ap, refl}
 use Rattle.cdma_io.specs.SampleFile.{Reading}
 use Rattle.cdma_replay.proofs.Faults.{fault_of_opening, fault_of_count, fault_of_span}
 use Rattle.cdma_replay.proofs.Files.{refused, too_few, span_fault}
-use Rattle.cdma_replay.proofs.finding.open_span.Goals as goal
+use Rattle.cdma_replay.proofs.receiving.open_span.Goals as goal
 
 pub returns-in_err-reader-clause-fault : goal.returns-in_err-reader-clause-fault
 returns-in_err-reader-clause-fault g c =

@@ -1,0 +1,77 @@
+use Rattle.std.proofs.Common.{◌≡◌, ◌≤◌, ◌+◌, ◌-◌, ◌++◌, ◌∷◌, [], List, length, take, drop, Option, None, Some, sym, ap, ◌∙◌, subst, append-nil, rules, arith}
+use Rattle.std.proofs.lemmas.List.{take_rest}
+use Rattle.std.proofs.lemmas.Result.{err_from_is_err_and}
+use Rattle.chip_core.specs.declared.sample.Sample.{Sample}
+use Rattle.mobile_core.specs.Events.{events}
+use Rattle.mobile_core.specs.Given.{listed}
+use Rattle.mobile_core.specs.Standing.{StandsFor}
+use Rattle.mobile_core.specs.Tuning.{Tuning}
+use Rattle.mobile_core.specs.declared.event.Event.{Event}
+use Rattle.cdma_replay.specs.Hearing.{HasTold}
+use Rattle.cdma_replay.proofs.Hearings.{told_all, told_more, told_none, told_part}
+use Rattle.cdma_replay.proofs.receiving.tell.Goals as goal
+
+pub loop-event-init : goal.loop-event-init
+loop-event-init g c = record {
+  most = omega arith;
+  room = omega arith;
+  told = λ (t : Tuning) (heard : List Sample) (given : List Event) (stands : StandsFor t c.args.mobile.now heard given).
+      subst (λ (xs : List Sample). HasTold t c.args.mobile.now given xs (g.K.Sink.written c.args.sink.now) (g.K.Sink.written c.args.sink.now)) (sym (append-nil heard))
+      (told_none t c.args.mobile.now given heard (g.K.Sink.written c.args.sink.now) stands);
+  later = omega arith;
+}
+
+pub returns-in_default-clause-ok : goal.returns-in_default-clause-ok
+returns-in_default-clause-ok g c t heard given stands =
+    let inv = c.loop-event.invariant in
+    let taken = c.loop-event.taken in
+    let samples = c.args.samples.now in
+    let nothing : c.step-step.result.event ≡ None = search rules in
+    let left = take_rest samples taken in
+    let none = c.step-step.ensures.none nothing in
+    told_all t c.loop-event.mobile c.step-step.new.self given heard samples taken c.step-step.result.taken _ _ (inv.told t heard given stands)
+    (none.0 ∙ ap length left)
+    (λ (before : List Event) (is : StandsFor t c.loop-event.mobile (heard ++ take taken samples) before).
+    subst (λ (xs : List Sample). StandsFor t c.step-step.new.self ((heard ++ take taken samples) ++ take c.step-step.result.taken xs) (before ++ [])) left
+    (subst (λ (e : Option Event). StandsFor t c.step-step.new.self ((heard ++ take taken samples) ++ take c.step-step.result.taken (take (length samples - taken) (drop taken samples))) (before ++ listed e)) nothing
+    (c.step-step.ensures.stands t (heard ++ take taken samples) before is)))
+    (λ (before : List Event) (is : StandsFor t c.loop-event.mobile (heard ++ take taken samples) before).
+    subst (λ (xs : List Sample). before ≡ events t ((heard ++ take taken samples) ++ xs)) left (none.1 t (heard ++ take taken samples) before is))
+
+pub loop-event-preserved : goal.loop-event-preserved
+loop-event-preserved g c =
+    let inv = c.loop-event.invariant in
+    let taken = c.loop-event.taken in
+    let samples = c.args.samples.now in
+    let event = c.in-Some.event in
+    let something : c.step-step.result.event ≡ Some event = search rules in
+    let left = take_rest samples taken in
+    record {
+      most = search rules;
+      room = search rules;
+      told = λ (t : Tuning) (heard : List Sample) (given : List Event) (stands : StandsFor t c.args.mobile.now heard given).
+          told_more t c.loop-event.mobile c.step-step.new.self given heard samples taken c.step-step.result.taken event _ _ _ (inv.told t heard given stands)
+          (λ (before : List Event) (is : StandsFor t c.loop-event.mobile (heard ++ take taken samples) before).
+          subst (λ (xs : List Sample). StandsFor t c.step-step.new.self ((heard ++ take taken samples) ++ take c.step-step.result.taken xs) (before ++ event ∷ [])) left
+          (subst (λ (e : Option Event). StandsFor t c.step-step.new.self ((heard ++ take taken samples) ++ take c.step-step.result.taken (take (length samples - taken) (drop taken samples))) (before ++ listed e)) something
+          (c.step-step.ensures.stands t (heard ++ take taken samples) before is)))
+          (search rules);
+      later = search rules;
+    }
+
+pub returns-in_err-write_event-clause-err : goal.returns-in_err-write_event-clause-err
+returns-in_err-write_event-clause-err g c =
+    let inv = c.loop-event.invariant in
+    let taken = c.loop-event.taken in
+    let samples = c.args.samples.now in
+    let event = c.in-Some.event in
+    let something : c.step-step.result.event ≡ Some event = search rules in
+    let left = take_rest samples taken in
+    let p = err_from_is_err_and c.from_residual.result c.from_residual.ensures.1 in
+    rw p.1 (λ (t : Tuning) (heard : List Sample) (given : List Event) (stands : StandsFor t c.args.mobile.now heard given).
+    told_part t c.loop-event.mobile c.step-step.new.self given heard samples taken c.step-step.result.taken event _ _ _ (inv.told t heard given stands)
+    (λ (before : List Event) (is : StandsFor t c.loop-event.mobile (heard ++ take taken samples) before).
+    subst (λ (xs : List Sample). StandsFor t c.step-step.new.self ((heard ++ take taken samples) ++ take c.step-step.result.taken xs) (before ++ event ∷ [])) left
+    (subst (λ (e : Option Event). StandsFor t c.step-step.new.self ((heard ++ take taken samples) ++ take c.step-step.result.taken (take (length samples - taken) (drop taken samples))) (before ++ listed e)) something
+    (c.step-step.ensures.stands t (heard ++ take taken samples) before is)))
+    (search rules))

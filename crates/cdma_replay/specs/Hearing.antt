@@ -1,0 +1,127 @@
+-- What is written of a sample file, and what a handset tells on the way.
+use Rattle.std.specs.Prelude.{◌≡◌, ℕ, ◌+◌, ◌-◌, ◌≤◌, replicate, pos, slice_get, Bool, true, if◌then◌else◌, List, [], ◌++◌, length, take, All, Option, None, Some, IfSome, is_some}
+use Rattle.std.specs.List.{flat_map}
+use Rattle.std.specs.Io.{StartsWith}
+use Rattle.std.specs.Io.KnownBytes.{Appends, Consumes}
+use Rattle.chip_core.specs.declared.sample.Sample.{Sample}
+use Rattle.cdma_io.specs.declared.header.Header.{Header}
+use Rattle.cdma_io.specs.declared.width.Width.{Width}
+use Rattle.cdma_io.specs.SampleFile.{HasBits, sample_spelling}
+use Rattle.pilot_search.specs.Near.{near_deltas}
+use Rattle.pilot_search.specs.Search.{energy, best_phase}
+use Rattle.pilot_search.specs.declared.paths.Near.{Near}
+use Rattle.mobile_core.specs.Events.{events}
+use Rattle.mobile_core.specs.Marks.{mark}
+use Rattle.mobile_core.specs.Standing.{StandsFor, has_room}
+use Rattle.mobile_core.specs.Tuning.{Tuning}
+use Rattle.mobile_core.specs.declared.event.Event.{Event}
+use Rattle.mobile_core.specs.declared.mobile.Mobile.{Mobile}
+use Rattle.event_tap.specs.Lines.{pilot_line, text_of}
+use Rattle.cdma_replay.specs.declared.receiving.Reception.{Reception}
+use Rattle.cdma_replay.specs.declared.status.Status.{Status}
+use Rattle.cdma_replay.specs.declared.status.Status.TheVariants.{Done, NoSync}
+
+-- ---- the text of a file
+
+-- the line of the samples' best phase
+unfoldable pub best_line : List Sample → List ℕ
+best_line samples = pilot_line (best_phase samples) (energy samples (best_phase samples))
+
+-- a handset that follows a file of this header over so many fingers, where the pilot was searched in its first samples
+abbrev pub tuning_for : Header → List Sample → ℕ → Tuning
+tuning_for header first fingers = record { count = header.count; phase = best_phase first; deltas = near_deltas first (best_phase first) fingers; check30 = header.check30 }
+
+-- there is none without fingers
+abbrev pub tuning_of : Header → List Sample → Option ℕ → Option Tuning
+tuning_of header first None = None
+tuning_of header first (Some fingers) = Some (tuning_for header first fingers)
+
+-- the events that a handset hears in samples
+unfoldable pub events_in : Option Tuning → List Sample → List Event
+events_in None samples = []
+events_in (Some t) samples = events t samples
+
+-- the text of a file, or of one of which only so many samples are known
+unfoldable pub file_text : Reception → Header → List Sample → List ℕ
+file_text r header samples = best_line (take r.span samples) ++ text_of (events_in (tuning_of header (take r.span samples) r.fingers) samples)
+
+-- a handset ends well where a message told it the time
+abbrev pub is_told : Option Tuning → List Sample → Bool
+is_told None samples = true
+is_told (Some t) samples = is_some (mark t samples (length samples))
+
+abbrev pub end_when : Bool → Status
+end_when told = if told then Done else NoSync
+
+-- how a run over a good file ends
+unfoldable pub file_end_of : Reception → Header → List Sample → Status
+file_end_of r header samples = end_when (is_told (tuning_of header (take r.span samples) r.fingers) samples)
+
+-- ---- what the search hands on
+
+-- the paths near the best phase of samples, as many as there are fingers
+abbrev pub AreNearTo : List Sample → ℕ → Option ℕ → Option Near → Type 0
+AreNearTo samples phase None None = Unit {0}
+AreNearTo samples phase None (Some near) = ⊥
+AreNearTo samples phase (Some fingers) None = ⊥
+AreNearTo samples phase (Some fingers) (Some near) = (near.count ≡ fingers) × (near.deltas ≡ near_deltas samples phase fingers ++ replicate (3 - fingers) (pos 0))
+
+-- from one to three of them, the best phase first
+abbrev pub AreReady : Option Near → Type 0
+AreReady None = Unit {0}
+AreReady (Some near) = (1 ≤ near.count) × (near.count ≤ 3) × (slice_get near.deltas 0 ≡ Some (pos 0))
+
+-- ---- a handset on the way
+
+-- a handset, where there is one, has taken these samples, and given these events
+abbrev pub HasGiven : Option Tuning → Option Mobile → List Sample → List Event → Type 0
+HasGiven None None heard given = given ≡ []
+HasGiven None (Some mobile) heard given = ⊥
+HasGiven (Some t) None heard given = ⊥
+HasGiven (Some t) (Some mobile) heard given = StandsFor t mobile heard given
+
+-- it takes just so many samples more
+abbrev pub HasRoom : Option Mobile → ℕ → Type 0
+HasRoom None count = Unit {0}
+HasRoom (Some mobile) count = has_room mobile ≡ count
+
+-- it takes so many samples more, or others too
+abbrev pub HasRoomFor : Option Mobile → ℕ → Type 0
+HasRoomFor None count = Unit {0}
+HasRoomFor (Some mobile) count = count ≤ has_room mobile
+
+-- it has taken these samples and given all events that end within them, and a sink got the lines of those that weren't given
+-- before
+pub record Tells (t : Option Tuning) (handset : Option Mobile) (given : List Event) (heard : List Sample) (old new : Option (List ℕ)) : Type 0 where
+  pub text : List ℕ
+  pub written : Appends old new text
+  pub all : text_of given ++ text ≡ text_of (events_in t heard)
+  pub stands : HasGiven t handset heard (events_in t heard)
+
+-- a sink got a beginning of the lines of the events that end within these samples, so far as they weren't given before
+pub record TellsPart (t : Option Tuning) (given : List Event) (heard : List Sample) (old new : Option (List ℕ)) : Type 0 where
+  pub text : List ℕ
+  pub written : Appends old new text
+  pub begins : StartsWith (text_of (events_in t heard)) (text_of given ++ text)
+
+-- a handset has given these events behind others, and a sink got their lines
+pub record HasTold (t : Tuning) (mobile : Mobile) (given : List Event) (heard : List Sample) (old new : Option (List ℕ)) : Type 0 where
+  pub more : List Event
+  pub written : Appends old new (text_of more)
+  pub stands : StandsFor t mobile heard (given ++ more)
+
+-- a source lost the spellings of so many samples, and the handset heard them
+pub record HearsRest (t : Option Tuning) (width : Width) (count : ℕ) (handset : Option Mobile) (heard : List Sample) (rest left old new : Option (List ℕ)) : Type 0 where
+  pub samples : List Sample
+  pub counted : length samples ≡ count
+  pub in_range : All (HasBits width) samples
+  pub consumed : Consumes rest left (flat_map (sample_spelling width) samples)
+  pub tells : Tells t handset (events_in t heard) (heard ++ samples) old new
+
+-- a source begins with the spellings of samples, and a sink got a beginning of what a handset hears in them
+pub record HearsPart (t : Option Tuning) (width : Width) (heard : List Sample) (rest old new : Option (List ℕ)) : Type 0 where
+  pub samples : List Sample
+  pub first : IfSome rest (λ bytes. StartsWith bytes (flat_map (sample_spelling width) samples))
+  pub text : List ℕ
+  pub written : Appends old new text
+  pub begins : StartsWith (text_of (events_in t (heard ++ samples))) (text_of (events_in t heard) ++ text)

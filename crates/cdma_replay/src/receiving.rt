@@ -1,0 +1,331 @@
+//! The commands `find` and `follow`: the pilot in a sample file, and what a handset hears behind it.
+
+ghost use Rattle.std.specs.Prelude.{◌≡◌, ◌≢◌, ◌<◌, ◌≤◌, ◌+◌, ◌*◌, ◌-◌, ◌++◌, ℕ, List, [], length, vec_len, All, Err, None, Some, Option, IfOk, OnOk, IfErr, OnErr, IfSome};
+ghost use Rattle.std.specs.List.{flat_map};
+ghost use Rattle.std.specs.Io.KnownBytes.{Appends, Consumes, IsAtEnd};
+ghost use Rattle.chip_core.specs.declared.sample.Sample.{Sample};
+ghost use Rattle.cdma_io.specs.declared.file_fault.FileFault.{FileFault};
+ghost use Rattle.cdma_io.specs.Outside.{AppendsPrefix, ConsumesAtMost, HasCause, Rose};
+ghost use Rattle.cdma_io.specs.SampleFile.{HasBits, IsLawfulHeader, header_spelling, sample_len, sample_spelling, width_of};
+ghost use Rattle.pilot_search.specs.BestIn.{IsBestIn};
+ghost use Rattle.mobile_core.specs.Tuning.{Tuning};
+ghost use Rattle.mobile_core.specs.Standing.{StandsFor, has_room};
+ghost use Rattle.mobile_core.specs.declared.event.Event.{Event as TheEvent};
+ghost use Rattle.event_tap.specs.Lines.{pilot_line};
+ghost use Rattle.cdma_replay.specs.Words.{IsFingers};
+ghost use Rattle.cdma_replay.specs.Hearing.{AreNearTo, AreReady, HasGiven, HasRoom, HasRoomFor, HearsPart, HearsRest, Tells, TellsPart, best_line, end_when, events_in, is_told, tuning_of};
+ghost use Rattle.cdma_replay.specs.Find.{IsEnd, IsFault, IsFaultIn, IsOfFiles, IsHeaderFault, IsRestFault, IsSearchable, WritesNoMore, WritesText, ended};
+
+use crate::status::Status;
+use cdma_io::{Failed, FileFault, Header, SampleReader, Sink, Source};
+use chip_core::{OutOfMemory, Sample};
+use event_tap::write_event;
+use mobile_core::{Event, Mobile, Settings};
+use pilot_search::{Best, Near, near, sweep};
+use short_code::Codes;
+use std::alloc::Global;
+
+/// How many samples are read at once behind the first ones, at most.
+const PIECE: usize = 4096;
+
+/// How many phases there are.
+const PHASES: u16 = 32768;
+
+/// How a sample file is received.
+#[derive(Clone, Copy, PartialEq, Eq, Debug)]
+pub struct Reception {
+    /// In how many of the first samples the pilot is searched, 64 to 32,768.
+    pub span: u16,
+    /// Over how many fingers a handset follows the signal, 1 to 3; `None` where only the pilot is wanted.
+    pub fingers: Option<u16>,
+}
+
+/// The buffers of a run.
+#[derive(Drop)]
+struct Workspace {
+    codes: Codes,
+    span: Vec<Sample>,
+    piece: Vec<Sample>,
+    ghost piece_len: { vec_len piece ≡ 4096 },
+}
+
+impl Workspace {
+    // For a span of so many samples.
+    fn new(alloc: Global, samples: usize) -> Result<Workspace, OutOfMemory>
+        ensures { IfOk result (λ w. vec_len w.span ≡ samples) }
+    {
+        let codes = Codes::new(alloc)?;
+        let nothing = Sample { i: 0, q: 0 };
+        let span = vec![in alloc; nothing; samples]?;
+        let piece = vec![in alloc; nothing; PIECE]?;
+        Ok(Workspace { codes, span, piece })
+    }
+}
+
+/// Opens a sample file and reads its first samples, as many as `span` has room for.
+fn open_span<S: Source>(source: &mut S, span: &mut [Sample]) -> Result<SampleReader, FileFault>
+    ensures file { IfOk result (λ r. Consumes (S.rest source.old) (S.rest source.new)
+        (header_spelling r.header ++ flat_map (sample_spelling (width_of r.header)) span.new)) }
+    ensures in_range { IfOk result (λ r. All (HasBits (width_of r.header)) span.new) }
+    ensures lawful { IfOk result (λ r. IsLawfulHeader r.header) }
+    ensures reader { IfOk result (λ r. (r.left + length span.old ≡ r.header.count) × (r.fault ≡ None)) }
+    ensures fault { IfErr result (λ e. e ≢ FileFault.ReadFault →
+        IfSome (S.rest source.old) (λ bytes. IsSearchable bytes (length span.old) → ⊥)) }
+    ensures place { IfErr result (λ e. e ≢ FileFault.ReadFault →
+        IfSome (S.rest source.old) (λ bytes. IsFaultIn (length span.old) bytes e)) }
+    ensures header_alone { IfErr result (λ e. IsHeaderFault e →
+        ConsumesAtMost 16 (S.rest source.old) (S.rest source.new)) }
+    ensures later { S.faults source.old ≤ S.faults source.new }
+    ensures cause { result ≡ Err FileFault.ReadFault → Rose (S.faults source.old) (S.faults source.new) }
+{
+    let mut reader = SampleReader::open(source)?;
+    let count = reader.header().count;
+    if count < span.len() as u64 {
+        return Err(FileFault::TooFew { count });
+    }
+    reader.read(source, span)?;
+    Ok(reader)
+}
+
+/// The paths near the best phase of samples, where there are fingers.
+fn near_for(
+    codes: &Codes,
+    first: &[Sample],
+    best: Best,
+    fingers: Option<u16>,
+) -> Option<Near>
+    requires few { length first.now ≤ 32768 }
+    requires best { IsBestIn first.now 0 32768 best.phase best.energy }
+    requires fingers { IfSome fingers IsFingers }
+    ensures near { AreNearTo first.now best.phase fingers result }
+    ensures ready { AreReady result }
+{
+    let fingers = fingers?;
+    Some(near(first, codes, best, fingers as u8))
+}
+
+/// A handset for a file of this header, where there are fingers. It has a table of the codes of its own.
+fn handset_for(
+    alloc: Global,
+    header: Header,
+    best: Best,
+    near: Option<Near>,
+) -> Result<Option<Mobile>, OutOfMemory>
+    requires header { IsLawfulHeader header }
+    requires near { AreReady near }
+    ensures given { (first : List Sample) (fingers : Option ℕ) → IsBestIn first 0 32768 best.phase best.energy → AreNearTo first best.phase fingers near →
+        IfOk result (λ handset. HasGiven (tuning_of header first fingers) handset [] []) }
+    ensures room { IfOk result (λ handset. HasRoom handset header.count) }
+{
+    let Some(near) = near else {
+        return Ok(None);
+    };
+    let settings = Settings {
+        fingers: near.count,
+        check30: header.check30,
+        check16: header.check16,
+        count: header.count,
+    };
+    let codes = Codes::new(alloc)?;
+    let mobile = Mobile::new(alloc, settings, codes, best, near)?;
+    Ok(Some(mobile))
+}
+
+/// Writes the line of the pilot.
+fn write_pilot<K: Sink>(sink: &mut K, best: &Best) -> Result<(), Failed>
+    ensures ok { OnOk result (Appends (K.written sink.old) (K.written sink.new) (pilot_line best.now.phase best.now.energy)) }
+    ensures err { OnErr result (AppendsPrefix (K.written sink.old) (K.written sink.new) (pilot_line best.now.phase best.now.energy)) }
+    ensures cause { HasCause (K.faults sink.old) (K.faults sink.new) result }
+{
+    let pilot = Event::Pilot {
+        phase: best.phase,
+        energy: best.energy,
+    };
+    write_event(&pilot, sink)
+}
+
+/// Gives samples to a handset, and writes the line of each event.
+fn tell<K: Sink>(mobile: &mut Mobile, samples: &[Sample], sink: &mut K) -> Result<(), Failed>
+    requires { length samples.now ≤ has_room mobile.old }
+    ensures room { OnOk result (has_room mobile.new + length samples.now ≡ has_room mobile.old) }
+    ensures ok { OnOk result ((t : Tuning) (heard : List Sample) (given : List TheEvent) → StandsFor t mobile.old heard given →
+        Tells (Some t) (Some mobile.new) given (heard ++ samples.now) (K.written sink.old) (K.written sink.new)) }
+    ensures err { OnErr result ((t : Tuning) (heard : List Sample) (given : List TheEvent) → StandsFor t mobile.old heard given →
+        TellsPart (Some t) given (heard ++ samples.now) (K.written sink.old) (K.written sink.new)) }
+    ensures cause { HasCause (K.faults sink.old) (K.faults sink.new) result }
+{
+    let mut taken = 0;
+    loop {
+        let step = mobile.step(&samples[taken..]);
+        taken += step.taken;
+        let Some(event) = step.event else {
+            return Ok(());
+        };
+        write_event(&event, sink)?;
+    }
+}
+
+/// Gives samples to the handset, where there is one, and writes the line of each event.
+fn hear<K: Sink>(
+    handset: &mut Option<Mobile>,
+    samples: &[Sample],
+    sink: &mut K,
+) -> Result<(), Failed>
+    requires room { HasRoomFor handset.old (length samples.now) }
+    ensures room { OnOk result ((left : ℕ) → HasRoom handset.old left → HasRoom handset.new (left - length samples.now)) }
+    ensures ok { OnOk result ((t : Option Tuning) (heard : List Sample) (given : List TheEvent) → HasGiven t handset.old heard given →
+        Tells t handset.new given (heard ++ samples.now) (K.written sink.old) (K.written sink.new)) }
+    ensures err { OnErr result ((t : Option Tuning) (heard : List Sample) (given : List TheEvent) → HasGiven t handset.old heard given →
+        TellsPart t given (heard ++ samples.now) (K.written sink.old) (K.written sink.new)) }
+    ensures cause { HasCause (K.faults sink.old) (K.faults sink.new) result }
+{
+    match handset {
+        Some(mobile) => tell(mobile, samples, sink),
+        None => Ok(()),
+    }
+}
+
+/// Reads the samples that are left in pieces, gives them to the handset, and sees that the file ends
+/// behind them.
+fn hear_rest<S: Source, K: Sink>(
+    reader: &mut SampleReader,
+    source: &mut S,
+    piece: &mut [Sample],
+    handset: &mut Option<Mobile>,
+    sink: &mut K,
+) -> Result<(), Status>
+    requires piece { 0 < length piece.old }
+    requires good { reader.old.fault ≡ None }
+    requires counted { reader.old.left ≤ reader.old.header.count }
+    requires room { HasRoom handset.old reader.old.left }
+    ensures ends { OnOk result (IsAtEnd (S.rest source.new)) }
+    ensures ok { OnOk result ((t : Option Tuning) (heard : List Sample) → HasGiven t handset.old heard (events_in t heard) →
+        HearsRest t (width_of reader.old.header) reader.old.left handset.new heard
+        (S.rest source.old) (S.rest source.new) (K.written sink.old) (K.written sink.new)) }
+    ensures written { (t : Option Tuning) (heard : List Sample) → HasGiven t handset.old heard (events_in t heard) →
+        HearsPart t (width_of reader.old.header) heard (S.rest source.old) (K.written sink.old) (K.written sink.new) }
+    ensures fault { (fault : FileFault) → ended result ≡ Status.BadFile fault → (fault ≢ FileFault.ReadFault) ×
+        IfSome (S.rest source.old) (λ bytes. length bytes ≢ sample_len (width_of reader.old.header) * reader.old.left) }
+    ensures place { (fault : FileFault) → ended result ≡ Status.BadFile fault →
+        IfSome (S.rest source.old) (λ bytes. IsRestFault reader.old (length bytes) fault) }
+    ensures sample_fault { (fault : FileFault) → ended result ≡ Status.BadFile fault → IsHeaderFault fault → ⊥ }
+    ensures others { IfErr result IsFault }
+    ensures read_fault { ended result ≡ Status.ReadFault → Rose (S.faults source.old) (S.faults source.new) }
+    ensures write_fault { ended result ≡ Status.WriteFault → Rose (K.faults sink.old) (K.faults sink.new) }
+    ensures later_source { S.faults source.old ≤ S.faults source.new }
+    ensures later_sink { K.faults sink.old ≤ K.faults sink.new }
+{
+    while reader.left() > 0 {
+        let count = reader.read(source, piece)?;
+        match hear(handset, &piece[..count], sink) {
+            Ok(()) => {}
+            Err(Failed) => return Err(Status::WriteFault),
+        }
+    }
+    reader.finish(source)?;
+    Ok(())
+}
+
+/// Whether a handset was told the time, where there is one.
+fn is_told(handset: &Option<Mobile>) -> bool
+    ensures { (t : Option Tuning) (heard : List Sample) → HasGiven t handset.now heard (events_in t heard) → result ≡ is_told t heard }
+{
+    match handset {
+        Some(mobile) => mobile.synced(),
+        None => true,
+    }
+}
+
+/// How a run over a good file ends.
+fn end_when(told: bool) -> Result<(), Status>
+    ensures value { ended result ≡ end_when told }
+    ensures ends { IsEnd (ended result) }
+{
+    if told { Ok(()) } else { Err(Status::NoSync) }
+}
+
+/// Reads the file's first samples into `span`, searches the pilot in them and writes its line, and then
+/// reads on to the end of the file by way of `piece`; where there are fingers, a handset hears all samples.
+fn receive_file<S: Source, K: Sink>(
+    alloc: Global,
+    reception: Reception,
+    codes: &Codes,
+    span: &mut [Sample],
+    piece: &mut [Sample],
+    source: &mut S,
+    sink: &mut K,
+) -> Result<(), Status>
+    requires span { (length span.old ≡ reception.span) × (reception.span ≤ 32768) }
+    requires fingers { IfSome reception.fingers IsFingers }
+    requires piece { 0 < length piece.old }
+    ensures done { IsEnd (ended result) → IfSome (S.rest source.old) (λ bytes.
+        WritesText reception (ended result) bytes (K.written sink.old) (K.written sink.new)) }
+    ensures at_end { IsEnd (ended result) → IsAtEnd (S.rest source.new) }
+    ensures others { IsOfFiles (ended result) }
+    ensures memory { ended result ≡ Status.NoMemory → sink.new ≡ sink.old }
+    ensures bad_file { (fault : FileFault) → ended result ≡ Status.BadFile fault → (fault ≢ FileFault.ReadFault) ×
+        IfSome (S.rest source.old) (λ bytes. IsSearchable bytes reception.span → ⊥) }
+    ensures place { (fault : FileFault) → ended result ≡ Status.BadFile fault →
+        IfSome (S.rest source.old) (λ bytes. IsFaultIn reception.span bytes fault) }
+    ensures read_fault { ended result ≡ Status.ReadFault → Rose (S.faults source.old) (S.faults source.new) }
+    ensures write_fault { ended result ≡ Status.WriteFault → Rose (K.faults sink.old) (K.faults sink.new) }
+    ensures header { (fault : FileFault) → ended result ≡ Status.BadFile fault → IsHeaderFault fault → sink.new ≡ sink.old }
+    ensures header_alone { (fault : FileFault) → ended result ≡ Status.BadFile fault → IsHeaderFault fault →
+        ConsumesAtMost 16 (S.rest source.old) (S.rest source.new) }
+    ensures written { WritesNoMore reception (S.rest source.old) (K.written sink.old) (K.written sink.new) }
+    ensures later_source { S.faults source.old ≤ S.faults source.new }
+    ensures later_sink { K.faults sink.old ≤ K.faults sink.new }
+{
+    let mut reader = open_span(source, span)?;
+    let best = sweep(span, codes, 0, PHASES);
+    let near = near_for(codes, span, best, reception.fingers);
+    let mut handset = handset_for(alloc, reader.header(), best, near)?;
+    match write_pilot(sink, &best) {
+        Ok(()) => {}
+        Err(Failed) => return Err(Status::WriteFault),
+    }
+    match hear(&mut handset, span, sink) {
+        Ok(()) => {}
+        Err(Failed) => return Err(Status::WriteFault),
+    }
+    hear_rest(&mut reader, source, piece, &mut handset, sink)?;
+    end_when(is_told(&handset))
+}
+
+/// Searches the pilot in the file's first samples and writes its line, and then reads on to the end of
+/// the file; where there are fingers, a handset hears all samples, and the line of each event is written.
+///
+/// All memory is taken before the first line is written.
+pub fn receive<S: Source, K: Sink>(
+    alloc: Global,
+    reception: Reception,
+    source: &mut S,
+    sink: &mut K,
+) -> Result<(), Status>
+    requires span { reception.span ≤ 32768 }
+    requires fingers { IfSome reception.fingers IsFingers }
+    ensures done { IsEnd (ended result) → IfSome (S.rest source.old) (λ bytes.
+        WritesText reception (ended result) bytes (K.written sink.old) (K.written sink.new)) }
+    ensures at_end { IsEnd (ended result) → IsAtEnd (S.rest source.new) }
+    ensures others { IsOfFiles (ended result) }
+    ensures memory { ended result ≡ Status.NoMemory → sink.new ≡ sink.old }
+    ensures bad_file { (fault : FileFault) → ended result ≡ Status.BadFile fault → (fault ≢ FileFault.ReadFault) ×
+        IfSome (S.rest source.old) (λ bytes. IsSearchable bytes reception.span → ⊥) }
+    ensures place { (fault : FileFault) → ended result ≡ Status.BadFile fault →
+        IfSome (S.rest source.old) (λ bytes. IsFaultIn reception.span bytes fault) }
+    ensures read_fault { ended result ≡ Status.ReadFault → Rose (S.faults source.old) (S.faults source.new) }
+    ensures write_fault { ended result ≡ Status.WriteFault → Rose (K.faults sink.old) (K.faults sink.new) }
+    ensures header { (fault : FileFault) → ended result ≡ Status.BadFile fault → IsHeaderFault fault → sink.new ≡ sink.old }
+    ensures header_alone { (fault : FileFault) → ended result ≡ Status.BadFile fault → IsHeaderFault fault →
+        ConsumesAtMost 16 (S.rest source.old) (S.rest source.new) }
+    ensures written { WritesNoMore reception (S.rest source.old) (K.written sink.old) (K.written sink.new) }
+    ensures later_source { S.faults source.old ≤ S.faults source.new }
+    ensures later_sink { K.faults sink.old ≤ K.faults sink.new }
+{
+    let Workspace {
+        codes,
+        span: mut samples,
+        mut piece,
+    } = Workspace::new(alloc, usize::from(reception.span))?;
+    receive_file(alloc, reception, &codes, &mut samples, &mut piece, source, sink)
+}
