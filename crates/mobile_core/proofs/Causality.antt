@@ -1,10 +1,9 @@
 -- The first samples alone decide what is heard within them.
-use Rattle.std.proofs.Common.{◌≡◌, ℕ, zero, suc, ◌+◌, ◌<◌, ◌≤◌, Bool, true, ◌&&◌, ◌||◌, List, [], ◌∷◌, ◌++◌, length, take, drop, refl, sym, ap, ◌∙◌, arith, ℤ, pos, negsuc, All, Some, slice_get, nat_le, inl, inr}
+use Rattle.std.proofs.Common.{◌≡◌, ℕ, suc, ◌+◌, ◌≤◌, Bool, true, ◌&&◌, List, [], ◌∷◌, ◌++◌, length, take, drop, refl, sym, ap, ◌∙◌, arith, ℤ, pos, negsuc, All, Some, slice_get, nat_le}
 use Rattle.std.specs.Prelude.{unsigned_abs, int_le}
-use Rattle.std.specs.Ordering.{int_eq}
 use Rattle.std.specs.List.{flat_map}
 use Rattle.std.proofs.lemmas.Int.{ints}
-use Rattle.std.proofs.lemmas.Bool.{and_from, and_parts, leb-true, or_cases}
+use Rattle.std.proofs.lemmas.Bool.{and_from, and_parts, leb-true}
 use Rattle.std.proofs.lemmas.List.{take-append-drop, length-take-le}
 use Rattle.chip_core.specs.Bits.{places}
 use Rattle.chip_core.specs.declared.sample.Sample.{Sample}
@@ -13,7 +12,7 @@ use Rattle.mobile_core.specs.Marks.{first_of, marks_at, mark}
 use Rattle.mobile_core.specs.Near.{is_near, all_near, has_reference, AreNear, IsTuned, low_of}
 use Rattle.mobile_core.specs.Streams.{is_in_file, known_at}
 use Rattle.mobile_core.specs.Timing.{IsTimed}
-use Rattle.mobile_core.specs.Tuning.{Tuning, finger_of, fingers_of, sync_stream, sync_bound}
+use Rattle.mobile_core.specs.Tuning.{Tuning, fingers_of, sync_stream, sync_bound}
 use Rattle.mobile_core.proofs.FingerTimes.{timed_of}
 use Rattle.mobile_core.proofs.Growth.{events_at_sync, sync_events_sooner}
 use Rattle.mobile_core.proofs.MarkGrowth.{marks_at_sooner}

@@ -1,17 +1,16 @@
 -- Where the fingers' frames begin and end.
-use Rattle.std.proofs.Common.{◌≡◌, ℕ, zero, suc, ◌+◌, ◌-◌, ◌*◌, ◌<◌, ◌≤◌, Bool, true, false, cond, ◌&&◌, List, [], ◌∷◌, length, refl, sym, ap, ◌∙◌, arith, ◌⊎◌, inl, inr, ℤ, pos, negsuc, ◌+ℤ◌, ◌-ℤ◌, ◌≤ℤ◌, IsTrue, nat_le, All, slice_index_or}
+use Rattle.std.proofs.Common.{◌≡◌, ℕ, zero, suc, ◌+◌, ◌<◌, ◌≤◌, Bool, true, false, cond, ◌&&◌, List, [], ◌∷◌, length, refl, sym, ap, ◌∙◌, arith, inl, inr, ℤ, pos, negsuc, ◌+ℤ◌, ◌-ℤ◌, ◌≤ℤ◌, nat_le, All, slice_index_or}
 use Rattle.std.specs.Prelude.{unsigned_abs, int_le, max}
 use Rattle.std.specs.Ordering.{int_eq}
 use Rattle.std.proofs.lemmas.Int.{ints}
 use Rattle.std.proofs.lemmas.Bool.{and_parts, and_from, or_cases, cases_lt, le-leb, lt-leb}
 use Rattle.std.proofs.lemmas.Bool.Decides.{nat_tests}
 use Rattle.rake_finger.specs.Held.{Held}
-use Rattle.rake_finger.specs.InRing.{IsHeld, IsInRing}
-use Rattle.rake_finger.specs.Soft.{finger_place, frame_chips}
+use Rattle.rake_finger.specs.InRing.{IsInRing}
 use Rattle.rake_finger.specs.declared.finger.Finger.{Finger}
 use Rattle.rake_finger.specs.declared.form.Form.TheVariants.{Sync}
 use Rattle.mobile_core.specs.Near.{is_near, all_near, has_reference, AreNear, all_begun, AreBegun, low_of}
-use Rattle.mobile_core.specs.Streams.{is_within, frame_end, finger_end, frame_start, is_in_file}
+use Rattle.mobile_core.specs.Streams.{is_within, frame_end, frame_start}
 use Rattle.mobile_core.specs.Timing.{stream_end, IsTimed}
 use Rattle.mobile_core.specs.Tuning.{Tuning, sync_stream}
 

@@ -1,7 +1,7 @@
 -- When frames end and are known.
-use Rattle.std.proofs.Common.{◌≡◌, ℕ, zero, suc, ◌+◌, ◌-◌, ◌<◌, ◌≤◌, Bool, true, false, ◌&&◌, refl, sym, ap, ◌∙◌, arith, nat_le, ◌⊎◌, inl, inr, subst}
-use Rattle.std.proofs.lemmas.Bool.{and_parts, and_from, and_left, and_right, leb-true, leb-false, le-leb, lt-leb, cases_lt, cases_Bool, both_ways, cases_order}
-use Rattle.mobile_core.specs.Streams.{Stream, frame_start, frame_end, is_in_file, known_at}
+use Rattle.std.proofs.Common.{◌≡◌, ℕ, zero, suc, ◌+◌, ◌-◌, ◌<◌, ◌≤◌, true, false, refl, sym, ◌∙◌, arith, nat_le, inl, inr}
+use Rattle.std.proofs.lemmas.Bool.{and_parts, and_from, and_left, and_right, leb-true, le-leb, lt-leb, cases_lt, cases_order}
+use Rattle.mobile_core.specs.Streams.{Stream, is_in_file, known_at}
 use Rattle.rake_finger.specs.Soft.{frame_chips}
 use Rattle.mobile_core.specs.Timing.{stream_end, IsTimed}
 

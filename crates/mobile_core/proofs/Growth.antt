@@ -1,5 +1,5 @@
 -- How the events of a file grow with its samples.
-use Rattle.std.proofs.Common.{◌≡◌, ℕ, zero, suc, ◌+◌, ◌-◌, ◌*◌, ◌/◌, ◌<◌, ◌≤◌, ◌==◌, Bool, true, false, ◌&&◌, List, [], ◌∷◌, ◌++◌, map, length, length-append, refl, sym, ap, ◌∙◌, arith, nat_le, ◌⊎◌, inl, inr, Option}
+use Rattle.std.proofs.Common.{◌≡◌, ℕ, zero, suc, ◌+◌, ◌-◌, ◌<◌, ◌≤◌, ◌==◌, Bool, true, false, ◌&&◌, List, [], ◌∷◌, ◌++◌, map, length, length-append, refl, sym, ap, ◌∙◌, arith, nat_le, inl, inr}
 use Rattle.std.specs.List.{flat_map, filter}
 use Rattle.std.proofs.lemmas.Bool.{and_parts, and_from, and_left, and_right, le-leb, lt-leb, cases_lt, cases_order, eqb-true, eq-eqb, false_from_ne_true}
 use Rattle.std.proofs.lemmas.List.{map-append}
@@ -7,17 +7,15 @@ use Rattle.chip_core.specs.Bits.{places}
 use Rattle.chip_core.specs.declared.sample.Sample.{Sample}
 use Rattle.frame_decoder.specs.Spans.{own_bits}
 use Rattle.quality_bits.specs.Pieces.{piece, capsule_ending}
-use Rattle.rake_finger.specs.Soft.{frame_chips}
 use Rattle.mobile_core.specs.Streams.{Stream, frame_start, is_in_file, known_at, span_first, span_frames, frame_softs, frame_own_bits}
 use Rattle.mobile_core.specs.Timing.{stream_end, IsTimed}
 use Rattle.mobile_core.specs.Tuning.{Tuning, sync_stream, sync_bound}
 use Rattle.mobile_core.specs.SyncEvents.{frames_before, sync_capsule_at, heard_in, heard_at, events_of, sync_events_at}
 use Rattle.mobile_core.specs.Events.{events_at, events_within, events}
 use Rattle.mobile_core.specs.Left.{sync_events_left}
-use Rattle.mobile_core.specs.declared.event.Event.{Event}
 use Rattle.mobile_core.proofs.Ranges.{flat_map_ext_places, filter_ext_places, filter_none_places, filter_first_places, flat_map_ext_filter, map_ext_filter_places, filter-places-more, flat_map_grown}
 use Rattle.mobile_core.proofs.Sooner.{softs_sooner, all_fit}
-use Rattle.mobile_core.proofs.FrameTimes.{ends_le, ends_lt, inside_from, inside_to, outside_from, outside_low, known_more, known_last, KnownBetween, known_between, known_le}
+use Rattle.mobile_core.proofs.FrameTimes.{ends_le, ends_lt, inside_from, inside_to, outside_from, outside_low, known_more, known_last, known_between, known_le}
 
 -- SPANS
 pub span_first_low : {count low : ℕ} (s : Stream) → IsTimed count s low → (k : ℕ) → k ≡ low → span_first count s k ≡ k

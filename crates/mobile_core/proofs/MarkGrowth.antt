@@ -1,18 +1,15 @@
 -- The mark, as frames are heard.
-use Rattle.std.proofs.Common.{◌≡◌, ℕ, zero, suc, ◌+◌, ◌-◌, ◌*◌, ◌/◌, ◌<◌, ◌≤◌, ◌==◌, Bool, true, false, not, ◌&&◌, List, [], ◌∷◌, ◌++◌, map, length, refl, sym, ap, ◌∙◌, arith, nat_le, ◌⊎◌, inl, inr, Option, Some, None}
-use Rattle.std.specs.List.{flat_map, filter, list_any}
+use Rattle.std.proofs.Common.{◌≡◌, ℕ, ◌+◌, ◌<◌, ◌≤◌, Bool, true, false, ◌&&◌, List, [], ◌∷◌, ◌++◌, length, refl, ap, ◌∙◌, arith, nat_le, inl, inr, None}
+use Rattle.std.specs.List.{flat_map, filter}
 use Rattle.std.proofs.lemmas.Bool.{and_parts, leb-true, le-leb, cases_Bool, false_from_ne_true}
 use Rattle.std.proofs.lemmas.List.{append-nil}
 use Rattle.std.proofs.lemmas.Grind.{flat_map-append}
 use Rattle.chip_core.specs.Bits.{places}
 use Rattle.chip_core.specs.declared.sample.Sample.{Sample}
-use Rattle.quality_bits.specs.Pieces.{piece, from_last_start}
-use Rattle.mobile_core.specs.Marks.{frames_open, marks_of, marks_at, first_of, mark, or_else, mark_before}
-use Rattle.mobile_core.specs.Streams.{frame_start, is_in_file, known_at, known_by}
-use Rattle.mobile_core.specs.SyncEvents.{frames_before, heard_at}
+use Rattle.mobile_core.specs.Marks.{frames_open, marks_at, first_of, mark, or_else, mark_before}
+use Rattle.mobile_core.specs.Streams.{is_in_file, known_at, known_by}
 use Rattle.mobile_core.specs.Timing.{IsTimed}
 use Rattle.mobile_core.specs.Tuning.{Tuning, sync_stream, sync_bound}
-use Rattle.mobile_core.specs.declared.mark.Mark.{Mark}
 use Rattle.mobile_core.proofs.FrameTimes.{known_between, known_le}
 use Rattle.mobile_core.proofs.Growth.{frames_before_sooner, heard_sooner}
 use Rattle.mobile_core.proofs.Ranges.{filter_enough, filter_ext_places, filter_none_places, filter-places-more, flat_map_ext_filter_places}
@@ -25,9 +22,9 @@ known_by_is : {low : ℕ} (t : Tuning) → IsTimed t.count (sync_stream t) low �
 known_by_is t timed n next before behind =
     let p : ℕ → Bool = λ k. is_in_file t.count (sync_stream t) k && nat_le (known_at t.count (sync_stream t) k) n in
     let known : (k : ℕ) → p k ≡ true → (is_in_file t.count (sync_stream t) k ≡ true) × (known_at t.count (sync_stream t) k ≤ n) = λ k h.
-        let parts = and_parts (is_in_file t.count (sync_stream t) k) (nat_le (known_at t.count (sync_stream t) k) n) h in (parts.0, leb-true (known_at t.count (sync_stream t) k) n parts.1) in
+    let parts = and_parts (is_in_file t.count (sync_stream t) k) (nat_le (known_at t.count (sync_stream t) k) n) h in (parts.0, leb-true (known_at t.count (sync_stream t) k) n parts.1) in
     let past : (k : ℕ) → sync_bound n ≤ k → p k ≡ false = λ k l. false_from_ne_true (p k)
-        (λ h. let w = known k h in let b = known_between (sync_stream t) timed k w.0 in let early = timed.early k in omega (arith, b.low)) in
+    (λ h. let w = known k h in let b = known_between (sync_stream t) timed k w.0 in let early = timed.early k in omega (arith, b.low)) in
     let later : (k : ℕ) → next ≤ k → p k ≡ false = λ k l. false_from_ne_true (p k) (λ h. let w = known k h in let b = behind k l w.0 in omega arith) in
     filter_enough p (sync_bound n) next past later
     ∙ filter_ext_places p (is_in_file t.count (sync_stream t)) next

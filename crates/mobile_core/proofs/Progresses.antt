@@ -1,10 +1,9 @@
 -- What a step does to the progress.
-use Rattle.std.proofs.Common.{◌≡◌, ℕ, zero, suc, ◌+◌, ◌-◌, ◌*◌, ◌<◌, ◌≤◌, Bool, true, false, refl, sym, ap, ◌∙◌, arith, ◌⊎◌, inl, inr}
-use Rattle.std.proofs.lemmas.Bool.{cases_lt, cases_order, both_ways}
+use Rattle.std.proofs.Common.{◌≡◌, ℕ, ◌+◌, ◌-◌, ◌<◌, ◌≤◌, true, refl, arith, inl, inr}
+use Rattle.std.proofs.lemmas.Bool.{cases_lt}
 use Rattle.mobile_core.specs.Streams.{Stream, is_in_file, known_at}
-use Rattle.rake_finger.specs.Soft.{frame_chips}
 use Rattle.mobile_core.specs.Timing.{stream_end, IsTimed}
-use Rattle.mobile_core.proofs.FrameTimes.{ends_le, ends_lt, inside_from, inside_to, outside_from, known_more, known_last, KnownBetween, known_between, known_le}
+use Rattle.mobile_core.proofs.FrameTimes.{ends_le, ends_lt, inside_from, inside_to, known_more, known_last, known_between, known_le}
 use Rattle.mobile_core.specs.Progress.{IsReached, IsDue}
 
 pub reached_none : {count low : ℕ} (s : Stream) → IsTimed count s low → IsReached count s low low low 0

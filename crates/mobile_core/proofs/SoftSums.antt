@@ -1,5 +1,5 @@
 -- The soft values of the last frames, and what their absolute values add up to.
-use Rattle.std.proofs.Common.{◌≡◌, ℕ, zero, suc, ◌+◌, ◌-◌, ◌*◌, ◌^◌, ◌<◌, ◌≤◌, List, [], ◌++◌, length, take, drop, refl, sym, ap, ◌∙◌, arith, ℤ, pos, replicate, length-drop}
+use Rattle.std.proofs.Common.{◌≡◌, ℕ, zero, suc, ◌-◌, ◌*◌, ◌^◌, ◌<◌, ◌≤◌, List, ◌++◌, length, take, drop, ap, ◌∙◌, arith, ℤ, pos, replicate, length-drop}
 use Rattle.std.specs.Prelude.{sum_by, unsigned_abs}
 use Rattle.std.proofs.lemmas.List.{drop_at, drop-append-le, drop-drop, drop-replicate}
 use Rattle.std.proofs.lemmas.List.Folds.{sum_by-replicate}
@@ -33,5 +33,5 @@ shifted_small softs fresh long small few =
 pub zeros_small : AreSmall (replicate 384 (pos 0))
 zeros_small =
     let none : (n : ℕ) → sum_by unsigned_abs (drop n (replicate 384 (pos 0))) ≡ 0 = λ n.
-        ap (sum_by unsigned_abs) (drop-replicate n 384 (pos 0)) ∙ sum_by-replicate unsigned_abs (384 - n) (pos 0) ∙ omega arith in
+    ap (sum_by unsigned_abs) (drop-replicate n 384 (pos 0)) ∙ sum_by-replicate unsigned_abs (384 - n) (pos 0) ∙ omega arith in
     record { one = omega (arith, none 256); two = omega (arith, none 128); three = omega (arith, sum_by-replicate unsigned_abs 384 (pos 0)) }

@@ -1,9 +1,9 @@
 -- What a handset stands for after it has taken samples, has a frame's soft values, or has heard a frame.
-use Rattle.std.proofs.Common.{◌≡◌, ℕ, zero, suc, ◌+◌, ◌-◌, ◌*◌, ◌<◌, ◌≤◌, Bool, true, false, ◌||◌, ◌==◌, not, List, [], ◌∷◌, ◌++◌, map, length, length-append, take, drop, refl, sym, ap, ◌∙◌, arith, subst, ◌⊎◌, inl, inr, Option, Some, None, ℤ, slice_get}
-use Rattle.std.specs.Prelude.{is_some, if◌then◌else◌}
+use Rattle.std.proofs.Common.{◌≡◌, ℕ, zero, suc, ◌+◌, ◌-◌, ◌*◌, ◌<◌, ◌≤◌, Bool, true, false, ◌||◌, ◌==◌, List, [], ◌∷◌, ◌++◌, map, length, length-append, drop, refl, sym, ap, ◌∙◌, arith, ◌⊎◌, inl, inr, Option, Some, None, ℤ, slice_get}
+use Rattle.std.specs.Prelude.{is_some}
 use Rattle.std.specs.List.{flat_map, list_any}
-use Rattle.std.proofs.lemmas.Bool.{cases_lt, cases_order, cases_Bool, both_ways}
-use Rattle.std.proofs.lemmas.List.{take_all, append-nil, append_assoc, map-append, drop_all, drop-append-le, drop-drop, length-drop}
+use Rattle.std.proofs.lemmas.Bool.{cases_lt, cases_Bool, both_ways}
+use Rattle.std.proofs.lemmas.List.{append-nil, append_assoc, drop_all, drop-append-le, drop-drop, length-drop}
 use Rattle.std.proofs.lemmas.List.Folds.{list_any-append}
 use Rattle.chip_core.specs.Bits.{places}
 use Rattle.chip_core.specs.declared.sample.Sample.{Sample}
@@ -20,7 +20,7 @@ use Rattle.mobile_core.specs.Marks.{frames_open, frames_with, first_of, marks_of
 use Rattle.mobile_core.specs.Near.{AreNear, low_of}
 use Rattle.mobile_core.specs.Progress.{IsReached, IsDue}
 use Rattle.mobile_core.specs.Standing.{Parts, Stands, IsDuePart}
-use Rattle.mobile_core.specs.Streams.{frame_start, frame_softs, frame_own_bits, is_in_file, known_at, span_first, span_frames}
+use Rattle.mobile_core.specs.Streams.{frame_start, frame_softs, frame_own_bits, is_in_file, span_first, span_frames}
 use Rattle.mobile_core.specs.SyncEvents.{frames_before, sync_capsule_at, heard_in, heard_at, events_of}
 use Rattle.mobile_core.specs.Timing.{stream_end, IsTimed}
 use Rattle.mobile_core.specs.Tuning.{Tuning, sync_stream}
@@ -315,7 +315,7 @@ no_event : (heard : Option Heard) (n : ℕ) (rest : List Event) → events_of n 
 no_event None n rest e = (refl, e)
 no_event (Some heard) n rest e = absurd (cc)
 
-or_none : (m : Option Mark) → or_else m None ≡ m
+pub or_none : (m : Option Mark) → or_else m None ≡ m
 or_none None = refl
 or_none (Some m) = refl
 

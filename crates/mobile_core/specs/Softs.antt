@@ -1,5 +1,5 @@
 -- The soft values of three frames.
-use Rattle.std.specs.Prelude.{ℕ, ◌-◌, ◌*◌, ◌^◌, ◌≤◌, List, ℤ, drop, sum_by, unsigned_abs}
+use Rattle.std.specs.Prelude.{ℕ, ◌*◌, ◌^◌, ◌≤◌, List, ℤ, drop, sum_by, unsigned_abs}
 
 -- the greatest sum of the absolute values of a frame, over three fingers
 abbrev pub frame_most : ℕ

@@ -1,5 +1,5 @@
 -- What a handset stands for.
-use Rattle.std.specs.Prelude.{◌≡◌, ◌⊎◌, ℕ, ◌+◌, ◌-◌, ◌*◌, ◌^◌, ◌<◌, ◌≤◌, Bool, List, [], ◌∷◌, ◌++◌, length, drop, is_some, Option, ℤ}
+use Rattle.std.specs.Prelude.{◌≡◌, ◌⊎◌, ℕ, ◌+◌, ◌-◌, ◌*◌, ◌^◌, ◌<◌, ◌≤◌, Bool, List, ◌++◌, length, drop, is_some, Option, ℤ}
 use Rattle.std.specs.List.{flat_map, list_any}
 use Rattle.chip_core.specs.Bits.{places}
 use Rattle.chip_core.specs.declared.check_form.CheckForm.{CheckForm}
@@ -54,8 +54,19 @@ pub record Stands (t : Tuning) (p : Parts) (heard : List Sample) (given : List E
 
 abbrev pub parts : Mobile → Parts
 parts m = record {
-  count = m.count; check = m.check; fingers = m.fingers; low = m.low; next = m.next; have = m.have; start = m.start; end = m.end;
-  ring = m.ring; softs = m.softs; framer = m.framer; message_frames = m.message_frames; mark = m.mark;
+  count = m.count;
+  check = m.check;
+  fingers = m.fingers;
+  low = m.low;
+  next = m.next;
+  have = m.have;
+  start = m.start;
+  end = m.end;
+  ring = m.ring;
+  softs = m.softs;
+  framer = m.framer;
+  message_frames = m.message_frames;
+  mark = m.mark;
 }
 
 abbrev pub StandsFor : Tuning → Mobile → List Sample → List Event → Type 0

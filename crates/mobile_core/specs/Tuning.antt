@@ -32,7 +32,7 @@ finger_of row phase delta = record { phase = modulo_code (pos phase +ℤ delta);
 abbrev pub fingers_of : ℕ → ℕ → List ℤ → List Finger
 fingers_of row phase deltas = map (finger_of row phase) deltas
 
--- The sync channel is Walsh row 32, and its frames begin where the pilot's code does (TIA/EIA-95-B, 7.1.3.2).
+-- The sync channel is Walsh row 32, and its frames begin where the pilot's code does (TIA/EIA-95-B, 7.1.3.3).
 abbrev pub sync_stream : Tuning → Stream
 sync_stream t = record { channel = sync_channel; form = Sync; fingers = fingers_of 32 t.phase t.deltas; first = (32768 - t.phase) % 32768 }
 

@@ -2,10 +2,9 @@
 use Rattle.std.specs.Prelude.{◌≡◌, refl, ℕ, true, false, List, [], ◌∷◌, replicate, ℤ, pos, negsuc, Some, None}
 use Rattle.chip_core.specs.declared.check_form.CheckForm.TheVariants.{Plain}
 use Rattle.sync_message.specs.declared.fields.SyncFields.{SyncFields}
-use Rattle.mobile_core.specs.Marks.{mark_at, marks_of, frames_with}
+use Rattle.mobile_core.specs.Marks.{marks_of, frames_with}
 use Rattle.mobile_core.specs.Near.{low_of}
-use Rattle.mobile_core.specs.Streams.{is_in_file, known_at, span_first, span_frames}
-use Rattle.mobile_core.specs.Timing.{stream_end}
+use Rattle.mobile_core.specs.Streams.{is_in_file, known_at, span_frames}
 use Rattle.mobile_core.specs.Tuning.{Tuning, sync_stream, modulo_code}
 
 tuned : ℕ → List ℤ → Tuning

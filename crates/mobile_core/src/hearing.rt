@@ -1,10 +1,10 @@
 //! What a capsule of the sync channel says.
 
-ghost use Rattle.std.specs.Prelude.{◌≡◌, ◌≤◌, ◌+◌, ◌^◌, IfSome};
+ghost use Rattle.std.specs.Prelude.{◌≡◌, ◌≤◌, ◌+◌, ◌^◌, [], ◌∷◌, Some};
 ghost use Rattle.mobile_core.specs.Marks.{first_of, marks_of, or_else};
 ghost use Rattle.mobile_core.specs.SyncEvents.{events_of};
 ghost use Rattle.mobile_core.specs.SyncEvents.{heard_in as heard_by};
-ghost use Rattle.mobile_core.specs.Given.{listed, at_of};
+ghost use Rattle.mobile_core.specs.Given.{at_of};
 
 use crate::event::Event;
 use crate::heard::Heard;
@@ -49,25 +49,24 @@ fn mark_of(first: u64, heard: &Heard) -> Option<Mark>
 }
 
 /// The mark that is set, or else that of what is heard.
-pub(crate) fn mark_with(mark: Option<Mark>, first: u64, heard: &Option<Heard>) -> Option<Mark>
+pub(crate) fn mark_with(mark: Option<Mark>, first: u64, heard: &Heard) -> Option<Mark>
     requires { first ≤ 2 ^ 40 }
-    ensures { result ≡ or_else mark (first_of (marks_of first heard.now)) }
+    ensures { result ≡ or_else mark (first_of (marks_of first (Some heard.now))) }
 {
     if mark.is_some() {
         return mark;
     }
-    mark_of(first, heard.as_ref()?)
+    mark_of(first, heard)
 }
 
 /// The event of what is heard.
-pub(crate) fn event_of(heard: &Option<Heard>, at: u64) -> Option<Event>
-    ensures value { listed result ≡ events_of at heard.now }
-    ensures ends { IfSome result (λ event. at_of event ≡ at) }
+pub(crate) fn event_of(heard: &Heard, at: u64) -> Event
+    ensures value { result ∷ [] ≡ events_of at (Some heard.now) }
+    ensures ends { at_of result ≡ at }
 {
-    let Heard { capsule, message } = *heard.as_ref()?;
-    Some(Event::Sync {
+    Event::Sync {
         at,
-        capsule,
-        message,
-    })
+        capsule: heard.capsule,
+        message: heard.message,
+    }
 }

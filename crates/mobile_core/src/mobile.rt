@@ -234,9 +234,9 @@ impl Mobile {
         let capsule = self.framer.push(&frame);
         self.message_frames = with_frame(frame.get(0), self.message_frames);
         self.next += 1;
-        let heard = heard_in(self.check, capsule);
+        let heard = heard_in(self.check, capsule)?;
         self.mark = mark_with(self.mark, self.message_start(), &heard);
-        event_of(&heard, self.ring.taken())
+        Some(event_of(&heard, self.ring.taken()))
     }
 
     /// What the frames that are known complete, up to the first event.
@@ -275,7 +275,14 @@ impl Mobile {
         let count = left as usize;
         self.ring.push_all(&samples[..count]);
         let mut fresh = [0i64; 128];
-        combine_into(&self.ring, &self.codes, &self.fingers, Form::Sync, self.start, &mut fresh);
+        combine_into(
+            &self.ring,
+            &self.codes,
+            &self.fingers,
+            Form::Sync,
+            self.start,
+            &mut fresh,
+        );
         shift_in(&mut self.softs, &fresh);
         self.start += FRAME_CHIPS;
         self.end += FRAME_CHIPS;

@@ -1,4 +1,4 @@
-use Rattle.std.proofs.Common.{◌≡◌, ◌+◌, ◌&&◌, drop, sym, ap, ◌∙◌, false, true}
+use Rattle.std.proofs.Common.{◌+◌, ◌&&◌, drop, sym, ap, ◌∙◌}
 use Rattle.mobile_core.specs.Near.{all_begun}
 use Rattle.mobile_core.proofs.FingerLists.{begun_at}
 use Rattle.mobile_core.proofs.fingers.are_begun.Goals as goal

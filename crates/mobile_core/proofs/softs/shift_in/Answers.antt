@@ -1,6 +1,6 @@
-use Rattle.std.proofs.Common.{◌≡◌, [], ◌++◌, ◌+◌, ◌≤◌, ◌-◌, List, ℤ, length, take, drop, refl, ap, subst, sym, ◌∙◌, arith, length-drop, length-append, length-take}
+use Rattle.std.proofs.Common.{◌≡◌, [], ◌++◌, length, take, drop, refl, ap, subst, sym, ◌∙◌, arith, length-drop, length-append, length-take}
 use Rattle.std.proofs.lemmas.List.{take_at, drop_all, append-nil}
-use borrow.Rule.Slice.PartMut.{put_mid, post_of}
+use borrow.Rule.Slice.PartMut.{post_of}
 use Rattle.mobile_core.specs.Softs.{AreSmall}
 use Rattle.mobile_core.proofs.SoftSums.{shifted_small}
 use Rattle.mobile_core.proofs.softs.shift_in.Goals as goal

@@ -1,8 +1,8 @@
-use Rattle.std.proofs.Common.{rules, ◌≡◌, ◌+◌, ◌-◌, ◌≤◌, ◌<◌, ◌++◌, ◌∙◌, ap, sym, arith, length, take, drop, refl, ℕ, List, ℤ, length-take, length-append}
+use Rattle.std.proofs.Common.{rules, ◌≡◌, ◌+◌, ◌-◌, ◌++◌, ◌∙◌, ap, sym, arith, length, take, length-take, length-append}
 use Rattle.std.proofs.lemmas.List.{take_all}
 use Rattle.rake_finger.specs.Soft.{softs}
 use Rattle.rake_finger.specs.declared.form.Form.TheVariants.{Sync}
-use Rattle.mobile_core.specs.Standing.{Parts, parts}
+use Rattle.mobile_core.specs.Standing.{parts}
 use Rattle.mobile_core.proofs.FingerLists.{rows_all}
 use Rattle.mobile_core.proofs.FingerTimes.{in_ring, ends_step, begun_on}
 use Rattle.mobile_core.proofs.Stood.{stands_taken, stands_frame}

@@ -1,6 +1,5 @@
-use Rattle.std.proofs.Common.{◌≡◌, ℕ, ◌+◌, ◌-◌, ◌*◌, ◌%◌, ◌∙◌, arith, rules, refl, sym, ap, subst, length}
+use Rattle.std.proofs.Common.{◌≡◌, ℕ, ◌-◌, ◌%◌, ◌∙◌, arith, rules, refl, ap, subst}
 use Rattle.std.specs.Prelude.{if◌then◌else◌}
-use Rattle.mobile_core.specs.Standing.{parts}
 use Rattle.mobile_core.specs.Timing.{stream_end}
 use Rattle.mobile_core.specs.Near.{AreNear, all_begun, low_of}
 use Rattle.mobile_core.specs.Streams.{frame_end, frame_start}

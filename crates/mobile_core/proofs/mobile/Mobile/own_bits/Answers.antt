@@ -1,4 +1,4 @@
-use Rattle.std.proofs.Common.{◌≡◌, ◌+◌, ◌-◌, ◌∙◌, arith, inl, inr, refl}
+use Rattle.std.proofs.Common.{◌-◌, ◌∙◌, arith, inl, inr, refl}
 use Rattle.mobile_core.specs.Standing.{parts}
 use Rattle.mobile_core.proofs.Stood.{own_are}
 use Rattle.mobile_core.proofs.mobile.Mobile.own_bits.Goals as goal

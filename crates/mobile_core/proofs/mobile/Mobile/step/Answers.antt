@@ -1,4 +1,4 @@
-use Rattle.std.proofs.Common.{◌≡◌, ◌<◌, ◌≤◌, ◌+◌, ◌-◌, ◌++◌, ◌∷◌, [], ◌∙◌, arith, sym, ap, List, refl, length, take, drop, length-drop, length-append, length-take, rules}
+use Rattle.std.proofs.Common.{◌≡◌, ◌++◌, ◌∙◌, arith, take, drop, length-drop, length-append, length-take}
 use Rattle.std.proofs.lemmas.List.{append-nil, append_assoc, take_all, take_rest}
 use Rattle.std.proofs.Math.Seq.{take-add}
 use Rattle.mobile_core.specs.Standing.{parts}

@@ -1,4 +1,4 @@
-use Rattle.std.proofs.Common.{◌≡◌, ◌∙◌, sym, ap, arith}
+use Rattle.std.proofs.Common.{◌∙◌, sym, ap, arith}
 use Rattle.std.specs.Prelude.{is_some}
 use Rattle.mobile_core.specs.Standing.{parts}
 use Rattle.mobile_core.proofs.Stood.{marked_all}
