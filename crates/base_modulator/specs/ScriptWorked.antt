@@ -5,8 +5,7 @@ use Rattle.chip_core.specs.Bits.{binary}
 use Rattle.chip_core.specs.declared.check_form.CheckForm.TheVariants.{Plain}
 use Rattle.cdma_io.specs.declared.width.Width.TheVariants.{Sixteen}
 use Rattle.base_modulator.specs.declared.plan.CellPlan.{CellPlan}
-use Rattle.base_modulator.specs.declared.plan.SyncPlan.{SyncPlan}
-use Rattle.base_modulator.specs.declared.script_fault.ScriptFault.TheVariants.{Line, Gain, TooLoud, TooLong}
+use Rattle.base_modulator.specs.declared.script_fault.ScriptFault.TheVariants.{Line, TooLoud, TooLong}
 use Rattle.base_modulator.specs.ScriptValues.{bits_in, digits_from, hex_bits, hex_from, length_before, number_up_to, signed_in, state_in}
 use Rattle.base_modulator.specs.ScriptLines.{cell_in, field, freq_in, link_in, next_stage, past, past_freq, pilot_in, sync_in}
 use Rattle.base_modulator.specs.Script.{is_line, lines, plan_named, stage_after, stated, stated_plan}
