@@ -1,4 +1,5 @@
 pub mod ScriptLaws
 pub mod ScriptMessages
+pub mod ScriptNumerals
 pub mod ScriptSplits
 pub mod ScriptTexts

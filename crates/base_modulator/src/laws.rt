@@ -1,8 +1,9 @@
 //! Laws of the definitions: each function does nothing, and its contract is the law.
 
-ghost use Rattle.std.specs.Prelude.{◌≡◌, ◌≢◌, ◌↔◌, ◌≤◌, ◌<◌, ◌+◌, ℕ, List, length, take, Err, IsOk};
+ghost use Rattle.std.specs.Prelude.{◌≡◌, ◌≢◌, ◌↔◌, ◌≤◌, ◌<◌, ◌+◌, ◌^◌, ℕ, List, length, take, Some, Err, IsOk, decimal};
 ghost use Rattle.cdma_io.specs.declared.width.Width.{Width as TheWidth};
 ghost use Rattle.base_modulator.specs.Script.{lines, plan_named, stated_plan};
+ghost use Rattle.base_modulator.specs.ScriptValues.{number_up_to};
 ghost use Rattle.base_modulator.specs.declared.script_fault.ScriptFault.TheVariants.{Line};
 
 /// `Line { n }` is the least number n, counted from 1, such that no script whose lines state a plan begins with lines 1 to
@@ -22,4 +23,9 @@ pub fn line_fault_is_the_first_that_no_script_has()
 pub fn line_faults_come_first()
     ensures { (width : TheWidth) (script : List ℕ) (n : ℕ) → (plan_named width script ≡ Err (Line n)) ↔
         ((length script ≤ 1048576) × (stated_plan script ≡ Err n)) }
+{}
+
+/// A number has one spelling in a script, which is the decimal numeral that is printed.
+pub fn numbers_have_one_spelling()
+    ensures { (most n : ℕ) (text : List ℕ) → most < 2 ^ 64 → (number_up_to most text ≡ Some n) ↔ ((text ≡ decimal n) × (n ≤ most)) }
 {}
