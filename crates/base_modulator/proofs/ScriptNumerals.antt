@@ -1,12 +1,15 @@
 -- A number has one spelling in a script: the one that is printed.
 use Rattle.std.proofs.Common.{◌≡◌, ℕ, zero, suc, ◌+◌, ◌*◌, ◌-◌, ◌^◌, ◌<◌, ◌≤◌, ◌==◌, Bool, true, false, cond, not, List, [], ◌∷◌, length, get_or, refl, sym, ap, subst, ◌∙◌, arith, rules, Option, None, Some, decimal}
-use Rattle.std.specs.Prelude.{nat_le, nat_lt, option_and_then, ◌↔◌}
+use Rattle.std.specs.Prelude.{ℤ, pos, negsuc, FitsSigned, codes, nat_le, nat_lt, option_and_then, ◌↔◌}
+use Rattle.std.specs.Fmt.{signed_decimal}
+use Rattle.std.specs.Int.{w16}
 use Rattle.std.specs.Char.{is_ascii_digit}
 use Rattle.std.specs.Str.{all_ascii_digits}
 use Rattle.std.proofs.lemmas.Bool.{cond-true, cond-false, eq-eqb, eqb-true, false≢true, le-leb, leb-true, ltb-true, ltb-false, not-true, and_parts}
+use Rattle.std.proofs.Math.Dec.{eqb-suc-zero}
 use Rattle.std.proofs.lemmas.Str.Parse.{IsNumeralModel, numerals_by_fold}
 use Rattle.std.proofs.lemmas.Fmt.{decimal-digits_value, digits_decimal, digits_value-decimal, decimal_nonempty, first_decimal, length-decimal-le}
-use Rattle.base_modulator.specs.ScriptValues.{digits_from, is_plain, number_in, number_up_to, up_to}
+use Rattle.base_modulator.specs.ScriptValues.{behind, digits_from, is_plain, negative, number_in, number_up_to, positive, signed_behind, signed_in, up_to}
 
 -- the value of digits behind a number
 abbrev read_on : ℕ → List ℕ → ℕ
@@ -114,3 +117,76 @@ reads_back most n text small is =
 
 pub one_numeral : (most n : ℕ) (text : List ℕ) → most < 2 ^ 64 → (number_up_to most text ≡ Some n) ↔ ((text ≡ decimal n) × (n ≤ most))
 one_numeral most n text small = (spelled most n text small, reads_back most n text small)
+
+-- ---- numbers with a sign
+
+-- a number of one of both signs, read from what stands behind the sign
+signed_in-minus : (digits : List ℕ) → signed_in (45 ∷ digits) ≡ option_and_then negative (number_up_to 32768 digits)
+unfolding signed_in
+signed_in-minus digits = refl
+
+signed_in-other : (text : List ℕ) → behind (codes "-") text ≡ None → signed_in text ≡ option_and_then positive (number_up_to 32767 text)
+unfolding signed_in
+signed_in-other text none = ap (signed_behind text) none
+
+behind-other : (byte : ℕ) (bytes : List ℕ) → (byte == 45) ≡ false → behind (codes "-") (byte ∷ bytes) ≡ None
+behind-other byte bytes other = rw other refl
+
+abbrev Spells : List ℕ → ℤ → Type 0
+Spells text z = (text ≡ signed_decimal z) × FitsSigned w16 z
+
+positive_told : (text : List ℕ) (z : ℤ) (number : Option ℕ) → number_up_to 32767 text ≡ number → option_and_then positive number ≡ Some z → Spells text z
+positive_told text z None is some = absurd (cc some)
+positive_told text z (Some n) is some =
+    let same : pos n ≡ z = cc in
+    let told = spelled 32767 n text (omega arith) is in
+    subst (Spells text) same (told.0, record { sfits = omega (arith, told.1) })
+
+negative-suc : (n : ℕ) → negative (suc n) ≡ Some (negsuc n)
+negative-suc n = cond-false _ _ _ (eqb-suc-zero n)
+
+negative_told : (digits : List ℕ) (z : ℤ) (number : Option ℕ) → number_up_to 32768 digits ≡ number → option_and_then negative number ≡ Some z → Spells (45 ∷ digits) z
+negative_told digits z None is some = absurd (cc some)
+negative_told digits z (Some zero) is some = absurd (cc some)
+negative_told digits z (Some (suc n)) is some =
+    let read : ◌≡◌ {A = Option ℤ} (Some (negsuc n)) (Some z) = sym (negative-suc n) ∙ some in
+    let same : negsuc n ≡ z = cc in
+    let told = spelled 32768 (suc n) digits (omega arith) is in
+    subst (Spells (45 ∷ digits)) same (ap (λ (ds : List ℕ). 45 ∷ ds) told.0, record { sfits = omega (arith, told.1) })
+
+signed_told : (byte : ℕ) (bytes : List ℕ) (z : ℤ) (minus : Bool) → (byte == 45) ≡ minus → signed_in (byte ∷ bytes) ≡ Some z → Spells (byte ∷ bytes) z
+signed_told byte bytes z true minus some =
+    let is : 45 ≡ byte = sym (eqb-true byte 45 minus) in
+    let some_minus : signed_in (45 ∷ bytes) ≡ Some z = ap (λ (b : ℕ). signed_in (b ∷ bytes)) is ∙ some in
+    subst (λ (b : ℕ). Spells (b ∷ bytes) z) is (negative_told bytes z (number_up_to 32768 bytes) refl (sym (signed_in-minus bytes) ∙ some_minus))
+signed_told byte bytes z false other some =
+    positive_told (byte ∷ bytes) z (number_up_to 32767 (byte ∷ bytes)) refl (sym (signed_in-other (byte ∷ bytes) (behind-other byte bytes other)) ∙ some)
+
+signed_spelled : (text : List ℕ) (z : ℤ) → signed_in text ≡ Some z → Spells text z
+signed_spelled [] z some = positive_told [] z (number_up_to 32767 []) refl (sym (signed_in-other [] refl) ∙ some)
+signed_spelled (byte ∷ bytes) z some = signed_told byte bytes z (byte == 45) refl some
+
+no_minus_byte : (byte : ℕ) (bytes : List ℕ) (minus : Bool) → (byte == 45) ≡ minus → all_ascii_digits (byte ∷ bytes) ≡ true → behind (codes "-") (byte ∷ bytes) ≡ None
+no_minus_byte byte bytes true minus are =
+    let is : byte ≡ 45 = eqb-true byte 45 minus in
+    absurd (false≢true (ap (λ (b : ℕ). all_ascii_digits (b ∷ bytes)) (sym is) ∙ are))
+no_minus_byte byte bytes false other are = behind-other byte bytes other
+
+no_minus : (text : List ℕ) → all_ascii_digits text ≡ true → behind (codes "-") text ≡ None
+no_minus [] are = refl
+no_minus (byte ∷ bytes) are = no_minus_byte byte bytes (byte == 45) refl are
+
+signed_reads_back : (z : ℤ) (text : List ℕ) → Spells text z → signed_in text ≡ Some z
+signed_reads_back (pos n) text is =
+    let small : n < 2 ^ 64 = omega (arith, is.1.sfits) in
+    ap signed_in is.0
+    ∙ signed_in-other (decimal n) (no_minus (decimal n) (digits_decimal own n small))
+    ∙ ap (option_and_then positive) (reads_back 32767 n (decimal n) (omega arith) (refl, omega (arith, is.1.sfits)))
+signed_reads_back (negsuc n) text is =
+    ap signed_in is.0
+    ∙ signed_in-minus (decimal (suc n))
+    ∙ ap (option_and_then negative) (reads_back 32768 (suc n) (decimal (suc n)) (omega arith) (refl, omega (arith, is.1.sfits)))
+    ∙ negative-suc n
+
+pub one_signed_numeral : (z : ℤ) (text : List ℕ) → (signed_in text ≡ Some z) ↔ ((text ≡ signed_decimal z) × FitsSigned w16 z)
+one_signed_numeral z text = (signed_spelled text z, signed_reads_back z text)
