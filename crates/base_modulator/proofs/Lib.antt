@@ -1,5 +1,6 @@
 pub mod ScriptLaws
 pub mod ScriptMessages
+pub mod ScriptNumerals
 pub mod ScriptSplits
 pub mod ScriptTexts
 pub mod SentMessages

@@ -9,3 +9,4 @@ mod Worked
 pub mod ScriptLines
 pub mod ScriptPlans
 pub mod ScriptValues
+mod ScriptWorked

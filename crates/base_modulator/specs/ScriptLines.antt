@@ -1,5 +1,5 @@
 -- The lines of a script: what each kind of statement says, and which statements may follow one another.
-use Rattle.std.specs.Prelude.{ℕ, ◌+◌, ◌*◌, ◌-◌, ◌/◌, ◌%◌, ◌^◌, ◌<◌, ◌≤◌, ◌≡◌, ◌==◌, nat_le, nat_eq, nat_lt, Bool, true, false, if◌then◌else◌, ◌&&◌, List, [], ◌∷◌, length, take, drop, codes, Option, None, Some, ℤ, pos, unsigned_abs, option_and_then, option_map}
+use Rattle.std.specs.Prelude.{ℕ, ◌+◌, ◌/◌, ◌%◌, ◌==◌, nat_le, nat_lt, Bool, false, if◌then◌else◌, ◌&&◌, List, [], ◌∷◌, length, take, drop, codes, Option, None, Some, ℤ, unsigned_abs, option_map}
 use Rattle.chip_core.specs.declared.check_form.CheckForm.{CheckForm}
 use Rattle.chip_core.specs.declared.check_form.CheckForm.TheVariants.{Plain, Complemented}
 use Rattle.sync_message.specs.declared.fields.SyncFields.{SyncFields}

@@ -1,5 +1,5 @@
 -- What is known of what a script says, whatever its gains and its samples are.
-use Rattle.std.specs.Prelude.{ℕ, ◌+◌, ◌^◌, ◌<◌, ◌≤◌, Option, Some, None, unsigned_abs}
+use Rattle.std.specs.Prelude.{◌^◌, ◌<◌, ◌≤◌, Option, Some, None, unsigned_abs}
 use Rattle.long_code.specs.LongCode.{IsState}
 use Rattle.sync_message.specs.SyncMessage.{IsSyncMessage}
 use Rattle.base_modulator.specs.declared.plan.CellPlan.{CellPlan}

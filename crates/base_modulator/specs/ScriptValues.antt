@@ -1,5 +1,5 @@
 -- The texts of values in a script: numbers in decimal, states of the long code in hex digits, and lists of bits.
-use Rattle.std.specs.Prelude.{ℕ, suc, ◌+◌, ◌-◌, ◌*◌, ◌^◌, ◌==◌, nat_lt, nat_le, nat_eq, Bool, true, false, if◌then◌else◌, not, ◌&&◌, List, [], ◌∷◌, length, take, drop, get_or, codes, flat_map, Option, None, Some, Result, Ok, Err, ℤ, pos, neg_ℤ, option_and_then}
+use Rattle.std.specs.Prelude.{ℕ, suc, ◌+◌, ◌-◌, ◌*◌, ◌^◌, ◌==◌, nat_lt, nat_le, nat_eq, Bool, true, false, if◌then◌else◌, not, List, [], ◌∷◌, length, take, drop, get_or, codes, flat_map, Option, None, Some, Result, Ok, Err, ℤ, pos, neg_ℤ, option_and_then}
 use Rattle.std.specs.Char.{is_ascii_digit, digit_value}
 use Rattle.std.specs.Cmp.Lexicographic.{pointwise}
 use Rattle.hex.specs.Hex.{decode_of}

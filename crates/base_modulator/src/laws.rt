@@ -1,8 +1,11 @@
 //! Laws of the definitions: each function does nothing, and its contract is the law.
 
-ghost use Rattle.std.specs.Prelude.{◌≡◌, ◌≢◌, ◌↔◌, ◌≤◌, ◌<◌, ◌+◌, ℕ, List, length, take, Err, IsOk};
+ghost use Rattle.std.specs.Prelude.{◌≡◌, ◌≢◌, ◌↔◌, ◌≤◌, ◌<◌, ◌+◌, ◌^◌, ℕ, ℤ, List, length, take, Some, Err, IsOk, FitsSigned, decimal};
+ghost use Rattle.std.specs.Fmt.{signed_decimal};
+ghost use Rattle.std.specs.Int.{w16};
 ghost use Rattle.cdma_io.specs.declared.width.Width.{Width as TheWidth};
 ghost use Rattle.base_modulator.specs.Script.{lines, plan_named, stated_plan};
+ghost use Rattle.base_modulator.specs.ScriptValues.{number_up_to, signed_in};
 ghost use Rattle.base_modulator.specs.declared.script_fault.ScriptFault.TheVariants.{Line};
 
 /// `Line { n }` is the least number n, counted from 1, such that no script whose lines state a plan begins with lines 1 to
@@ -22,4 +25,11 @@ pub fn line_fault_is_the_first_that_no_script_has()
 pub fn line_faults_come_first()
     ensures { (width : TheWidth) (script : List ℕ) (n : ℕ) → (plan_named width script ≡ Err (Line n)) ↔
         ((length script ≤ 1048576) × (stated_plan script ≡ Err n)) }
+{}
+
+/// A number has one spelling in a script, which is the decimal numeral that is printed; so has a number with a sign, of 16
+/// bits.
+pub fn numbers_have_one_spelling()
+    ensures signed { (z : ℤ) (text : List ℕ) → (signed_in text ≡ Some z) ↔ ((text ≡ signed_decimal z) × FitsSigned w16 z) }
+    ensures unsigned { (most n : ℕ) (text : List ℕ) → most < 2 ^ 64 → (number_up_to most text ≡ Some n) ↔ ((text ≡ decimal n) × (n ≤ most)) }
 {}

@@ -357,17 +357,13 @@ const FAULTY_PLANS: [(&[&str], Width, ScriptFault); 20] = [
     ),
 ];
 
-// What the script of these lines names.
-fn named(
-    alloc: Global,
-    lines: &[&str],
-    width: Width,
-) -> Result<Result<CellPlan, ScriptFault>, AllocError> {
+// The script of these lines.
+fn script_of(alloc: Global, lines: &[&str]) -> Result<String, AllocError> {
     let mut script = String::new(alloc);
     for line in lines {
         script.push_str(*line)?;
     }
-    Ok(plan_of(script.as_bytes(), width))
+    Ok(script)
 }
 
 // Why the script of these lines names no cell.
@@ -376,12 +372,16 @@ fn fault_of(
     lines: &[&str],
     width: Width,
 ) -> Result<Option<ScriptFault>, AllocError> {
-    Ok(named(alloc, lines, width)?.err())
+    let script = script_of(alloc, lines)?;
+    match plan_of(script.as_bytes(), width) {
+        Ok(_) => Ok(None),
+        Err(fault) => Ok(Some(fault)),
+    }
 }
 
-#[test]
-fn names_a_cell(rt: HostRuntime) -> Result<(), Fail> {
-    let plan = CellPlan {
+// The plan of the lawful lines, with this sync channel.
+fn lawful_plan(sync: Option<SyncPlan>) -> CellPlan {
+    CellPlan {
         pn: 511,
         time: 1000,
         lc: 0x200_0000_0000,
@@ -391,11 +391,16 @@ fn names_a_cell(rt: HostRuntime) -> Result<(), Fail> {
         start: 0,
         samples: 1_228_800,
         pilot_gain: 100,
-        sync: None,
-    };
+        sync,
+    }
+}
+
+#[test]
+fn names_a_cell(rt: HostRuntime) -> Result<(), Fail> {
+    let script = script_of(rt.alloc(), &[CELL, LINK, PILOT])?;
     assert_eq!(rt;
-        named(rt.alloc(), &[CELL, LINK, PILOT], Width::Sixteen)?,
-        Ok(plan)
+        plan_of(script.as_bytes(), Width::Sixteen),
+        Ok(lawful_plan(None))
     );
 
     let mut rest = Bits::empty();
@@ -418,9 +423,10 @@ fn names_a_cell(rt: HostRuntime) -> Result<(), Fail> {
         rest,
     };
     let sync = Some(SyncPlan { gain: 30, message });
+    let script = script_of(rt.alloc(), &[CELL, LINK, PILOT, SYNC])?;
     assert_eq!(rt;
-        named(rt.alloc(), &[CELL, LINK, PILOT, SYNC], Width::Sixteen)?,
-        Ok(CellPlan { sync, ..plan })
+        plan_of(script.as_bytes(), Width::Sixteen),
+        Ok(lawful_plan(sync))
     );
     Ok(())
 }
@@ -462,14 +468,8 @@ fn names_what_each_word_says(rt: HostRuntime) -> Result<(), Fail> {
         pilot_gain: 7,
         sync: Some(SyncPlan { gain: 8, message }),
     };
-    assert_eq!(rt;
-        named(
-            rt.alloc(),
-            &[cell, link, "pilot gain=7\n", sync],
-            Width::Eight
-        )?,
-        Ok(plan)
-    );
+    let script = script_of(rt.alloc(), &[cell, link, "pilot gain=7\n", sync])?;
+    assert_eq!(rt; plan_of(script.as_bytes(), Width::Eight), Ok(plan));
     Ok(())
 }
 

@@ -1,4 +1,4 @@
-use Rattle.std.proofs.Common.{◌≡◌, ℕ, ◌++◌, get_or, ap, ◌∙◌}
+use Rattle.std.proofs.Common.{ℕ, ◌++◌, ap, ◌∙◌}
 use Rattle.chip_core.specs.Bits.{binary}
 use Rattle.base_modulator.proofs.ScriptTexts.{octet_added, octet_longer}
 use Rattle.base_modulator.proofs.script.values.bits_of.Goals as goal

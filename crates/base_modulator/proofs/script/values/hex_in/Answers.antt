@@ -1,4 +1,4 @@
-use Rattle.std.proofs.Common.{refl, sym, ◌∙◌, arith}
+use Rattle.std.proofs.Common.{sym, ◌∙◌, arith}
 use Rattle.base_modulator.proofs.ScriptTexts.{hex_missing, hex_digit_more, hex_read, hex_read_all, few_hex_digits}
 use Rattle.base_modulator.proofs.script.values.hex_in.Goals as goal
 

@@ -1,6 +1,6 @@
-use Rattle.std.proofs.Common.{false, sym, ◌∙◌, arith}
+use Rattle.std.proofs.Common.{false, ◌∙◌, arith}
 use Rattle.std.proofs.lemmas.Option.{get_or_from_slice_get}
-use Rattle.base_modulator.proofs.ScriptTexts.{clear_bit, set_bit, clear_to_the_end}
+use Rattle.base_modulator.proofs.ScriptTexts.{clear_bit, set_bit}
 use Rattle.base_modulator.proofs.script.values.is_clear_from.Goals as goal
 
 pub returns-then-get : goal.returns-then-get

@@ -1,4 +1,4 @@
-use Rattle.std.proofs.Common.{sym, ◌∙◌, arith}
+use Rattle.std.proofs.Common.{◌∙◌, arith}
 use Rattle.base_modulator.proofs.ScriptTexts.{mark_found, mark_later, mark_missing}
 use Rattle.base_modulator.proofs.script.values.length_before.Goals as goal
 
