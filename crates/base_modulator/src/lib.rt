@@ -4,6 +4,8 @@
 #![tactic(auto)]
 
 mod cell;
+#[cfg(test)]
+mod cell_tests;
 mod plan;
 mod sendings;
 mod sync_channel;
