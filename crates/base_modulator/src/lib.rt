@@ -8,6 +8,7 @@ mod cell;
 mod cell_tests;
 mod plan;
 mod sendings;
+mod strength;
 mod sync_channel;
 
 pub use cell::Cell;
