@@ -33,7 +33,7 @@ pub record Sent : Type 0 where
   pub plan : CellPlan
   pub message : SyncFields
 
--- what lets a cell send a message for years
+-- a cell that can send a message: what each sending fills in fits its field
 pub record IsSendable (plan : CellPlan) (m : SyncFields) : Type 0 where
   pub pn : plan.pn < 512
   pub time : plan.time ≤ 34359738368
@@ -71,10 +71,11 @@ IsChannelOf plan None None = Unit {0}
 IsChannelOf plan (Some sync) (Some channel) = (channel.plan ≡ plan) × (channel.gain ≡ sync.gain) × (channel.message ≡ sync.message)
 IsChannelOf plan _ _ = ⊥
 
--- what a sync channel adds at a local chip
+-- a sync channel among those that are sent
 abbrev pub carrier_of : CellPlan → ℕ → SyncFields → Carrier
 carrier_of plan gain m = record { gain = gain; row = 32; symbol = symbol_at (64 * plan.pn) 32768 256 (sync_symbols plan m) }
 
+-- what a sync channel adds at a local chip
 abbrev pub channel_amplitude : ChannelState → ℕ → ℤ
 channel_amplitude c chip = amplitude chip (carrier_of c.plan c.gain c.message)
 

@@ -1,22 +1,29 @@
 //! A cell's samples.
 
-ghost use Rattle.std.specs.Prelude.{◌≡◌, ◌≢◌, ◌<◌, ◌≤◌, ◌+◌, ◌-◌, ◌*◌, ◌%◌, ◌^◌, ℕ, length, map, take, drop, All, Ok, Err, IfOk, IfErr, unsigned_abs, pos, ◌+ℤ◌, ◌*ℤ◌};
-ghost use Rattle.chip_core.specs.Complex.{times, of_sample};
+ghost use Rattle.std.specs.Prelude.{◌≡◌, ◌≢◌, ◌<◌, ◌≤◌, ◌+◌, ◌%◌, ◌^◌, length, map, take, drop, All, Ok, Err, IfOk, IfErr};
+ghost use Rattle.chip_core.specs.Complex.{of_sample};
 ghost use Rattle.cdma_io.specs.SampleFile.{HasBits, IsLawfulHeader};
+ghost use Rattle.base_modulator.specs.Plan.{IsLawfulPlan};
 ghost use Rattle.base_modulator.specs.Script.{plan_named};
-ghost use Rattle.base_modulator.specs.Plan.{IsLawfulPlan, loudness};
-ghost use Rattle.base_modulator.specs.Signal.{sample_of, samples_of, scaled};
-ghost use Rattle.base_modulator.specs.Transmitter.{IsChannelOf, IsSendableSync, amplitude_sum, header_of, phase_at, sync_amplitude, IsPoint, point_of, version_of};
+ghost use Rattle.base_modulator.specs.Signal.{sample_of, samples_of};
+ghost use Rattle.base_modulator.specs.Transmitter.{IsChannelOf, IsSendableSync, header_of, phase_at, version_of};
 
 use crate::plan::CellPlan;
 use crate::script::plan_of;
 use crate::script_fault::ScriptFault;
-use crate::sync_channel::SyncChannel;
+use crate::strength::{strength_for, turned};
+use crate::sync_channel::{FRAME_CHIPS, SyncChannel};
 use cdma_io::{Header, Width};
 use chip_core::{OutOfMemory, Sample};
 use short_code::Codes;
 use std::alloc::Global;
 use std::marker::Model;
+
+/// How many chips the pilot's codes have.
+const CODE_CHIPS: u64 = 32768;
+
+/// How many chips the channels' amplitudes stay the same: half a period of the sync channel's row.
+const STEADY_CHIPS: u64 = 32;
 
 /// A cell that gives its samples in order, as a handset receives them over the cell's link.
 ///
@@ -66,7 +73,7 @@ fn phase_for(plan: &CellPlan, chip: u64) -> u16
     ensures value { result ≡ phase_at plan.now chip }
     ensures below { result < 32768 }
 {
-    ((chip + 32768 - 64 * u64::from(plan.pn)) % 32768) as u16
+    ((chip + CODE_CHIPS - 64 * u64::from(plan.pn)) % CODE_CHIPS) as u16
 }
 
 /// The phase behind a phase.
@@ -86,78 +93,7 @@ fn channel_for(plan: &CellPlan) -> Option<SyncChannel>
 {
     let sync = plan.sync?;
     let behind = plan.start.saturating_sub(64 * u64::from(plan.pn));
-    Some(SyncChannel::open(plan, &sync, behind / 32768))
-}
-
-/// What the sync channel of a plan adds at a local chip.
-fn added_by(plan: &CellPlan, channel: &mut Option<SyncChannel>, chip: u64) -> i64
-    requires of { IsChannelOf plan.now plan.now.sync channel.old }
-    requires chip { chip < 2 ^ 34 }
-    ensures value { result ≡ sync_amplitude plan.now plan.now.sync chip }
-    ensures bound { unsigned_abs result ≤ 65535 }
-    ensures of { IsChannelOf plan.now plan.now.sync channel.new }
-{
-    match channel {
-        None => 0,
-        Some(channel) => channel.amplitude(chip),
-    }
-}
-
-/// The sum of the pilot's amplitude, which is its gain, and that of the sync channel.
-fn sum_of(pilot: u16, sync: i64) -> i64
-    requires { unsigned_abs sync ≤ 65535 }
-    ensures value { result ≡ pos pilot +ℤ sync }
-    ensures bound { unsigned_abs result ≤ 131070 }
-{
-    i64::from(pilot) + sync
-}
-
-/// A part of the link times the sum of the channels' amplitudes.
-fn part_of(sum: i64, part: i64) -> i16
-    requires { unsigned_abs sum * unsigned_abs part ≤ 32767 }
-    ensures { result ≡ sum *ℤ part }
-{
-    (sum * part) as i16
-}
-
-/// The link times the sum of the channels' amplitudes at a local chip.
-fn strength_for(plan: &CellPlan, channel: &mut Option<SyncChannel>, chip: u64) -> Sample
-    requires pilot { 0 < plan.now.pilot_gain }
-    requires loud { loudness plan.now ≤ 32767 }
-    requires of { IsChannelOf plan.now plan.now.sync channel.old }
-    requires chip { chip < 2 ^ 34 }
-    ensures value { of_sample result ≡ scaled (amplitude_sum plan.now chip) plan.now.link }
-    ensures of { IsChannelOf plan.now plan.now.sync channel.new }
-{
-    let sum = sum_of(plan.pilot_gain, added_by(plan, channel, chip));
-    Sample {
-        i: part_of(sum, plan.link.i),
-        q: part_of(sum, plan.link.q),
-    }
-}
-
-/// A part of a sample with the sign of a chip.
-fn with_sign(part: i16, sign: i8) -> i16
-    requires part { unsigned_abs part ≤ 32767 }
-    requires sign { unsigned_abs sign ≤ 1 }
-    ensures value { result ≡ part *ℤ sign }
-    ensures bound { unsigned_abs result ≤ unsigned_abs part }
-{
-    part * i16::from(sign)
-}
-
-/// A sample times a point of the codes, which is given by its signs.
-fn turned(strength: Sample, signs: (i8, i8)) -> Sample
-    requires small { unsigned_abs strength.i + unsigned_abs strength.q ≤ 32767 }
-    requires point { IsPoint signs }
-    ensures value { of_sample result ≡ times (of_sample strength) (point_of signs) }
-    ensures in_phase { unsigned_abs result.i ≤ unsigned_abs strength.i + unsigned_abs strength.q }
-    ensures quadrature { unsigned_abs result.q ≤ unsigned_abs strength.i + unsigned_abs strength.q }
-{
-    Sample {
-        i: with_sign(strength.i, signs.0) - with_sign(strength.q, signs.1),
-        q: with_sign(strength.i, signs.1) + with_sign(strength.q, signs.0),
-    }
+    Some(SyncChannel::open(plan, &sync, behind / FRAME_CHIPS))
 }
 
 impl Cell {
@@ -231,7 +167,7 @@ impl Cell {
         self.given += 1;
         self.phase = next_phase(self.phase);
         let chip = self.plan.start + self.given;
-        if chip % 32 == 0 {
+        if chip % STEADY_CHIPS == 0 {
             self.strength = strength_for(&self.plan, &mut self.channel, chip);
         }
         sample

@@ -4,11 +4,14 @@
 #![tactic(auto)]
 
 mod cell;
+#[cfg(test)]
+mod cell_tests;
 pub mod laws;
 mod plan;
 mod script;
 mod script_fault;
 mod sendings;
+mod strength;
 mod sync_channel;
 
 pub use cell::Cell;

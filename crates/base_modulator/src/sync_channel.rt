@@ -13,7 +13,7 @@ use std::marker::Model;
 use symbol_path::{Kind, place_into};
 
 /// How many chips a frame lasts: 26 2/3 ms.
-const FRAME_CHIPS: u64 = 32768;
+pub const FRAME_CHIPS: u64 = 32768;
 
 /// How many chips a symbol lasts: four periods of its Walsh row.
 const SYMBOL_CHIPS: u64 = 256;

@@ -1,6 +1,6 @@
 use Rattle.std.proofs.Common.{◌≡◌, ◌≤◌, arith, unsigned_abs, ◌*ℤ◌, refl}
 use Rattle.base_modulator.proofs.MachineInts.{difference_fits, sum_fits, difference_is, sum_is, difference_most, signed_is, signed_most}
-use Rattle.base_modulator.proofs.cell.turned.Goals as goal
+use Rattle.base_modulator.proofs.strength.turned.Goals as goal
 
 pub overflow_sub-result : goal.overflow_sub-result
 overflow_sub-result c =

@@ -1,7 +1,7 @@
 use Rattle.std.proofs.Common.{◌≡◌, ◌∙◌, ◌*ℤ◌, to_z, of_z, arith}
 use Rattle.std.specs.Int.{w64}
 use Rattle.base_modulator.proofs.MachineInts.{part_small, strength_is, amplitudes_are, link_read, read64}
-use Rattle.base_modulator.proofs.cell.strength_for.Goals as goal
+use Rattle.base_modulator.proofs.strength.strength_for.Goals as goal
 
 pub part_of-requires : goal.part_of-requires
 part_of-requires c =

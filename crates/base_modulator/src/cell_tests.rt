@@ -1,0 +1,217 @@
+//! Samples of cells that were computed elsewhere, by the standard's description of each channel.
+
+ghost use Rattle.std.specs.Prelude.{◌≡◌, ◌<◌, ◌≤◌, ◌^◌, IfOk};
+ghost use Rattle.base_modulator.specs.Plan.{IsLawfulPlan, IsSyncPlan, sync_gain};
+ghost use Rattle.sync_message.specs.SyncMessage.{IsSyncMessage};
+
+use crate::Cell;
+use crate::plan::{CellPlan, SyncPlan};
+use cdma_io::{Header, Width};
+use chip_core::{Bits, CheckForm, Pair, Sample};
+use std::alloc::Global;
+use std::test::Fail;
+use sync_message::{SyncFields, SyncMessage};
+
+/// A message of 25 octets.
+fn short_message() -> SyncFields {
+    let mut rest = Bits::empty();
+    rest.append_number(3, 0);
+    SyncFields {
+        prev: 3,
+        min: 1,
+        sid: 1,
+        nid: 2,
+        pn: 0,
+        lc: 1,
+        time: 0,
+        lp: 13,
+        ltm: 0,
+        daylt: 0,
+        prat: 0,
+        freq: None,
+        rest,
+    }
+}
+
+/// A message of 27 octets, with a frequency.
+fn long_message() -> SyncFields {
+    let mut rest = Bits::empty();
+    rest.append_number(8, 0b1011_0010);
+    SyncFields {
+        sid: 16569,
+        nid: 65535,
+        ltm: 40,
+        daylt: 1,
+        prat: 1,
+        freq: Some(283),
+        rest,
+        ..short_message()
+    }
+}
+
+/// The channel of a message, with a gain of 30.
+fn channel(fields: SyncFields) -> Result<SyncPlan, Fail>
+    ensures { IfOk result (λ sync. (sync.gain ≡ 30) × IsSyncMessage sync.message) }
+{
+    let message = SyncMessage::new(fields).ok_or("no spelling")?;
+    Ok(SyncPlan {
+        gain: 30,
+        message: message.fields(),
+    })
+}
+
+/// A cell without an offset, with a pilot of gain 100.
+fn near_plan(start: u64, samples: u64, sync: Option<SyncPlan>) -> CellPlan
+    requires start { start < 2 ^ 32 }
+    requires samples { samples ≤ 33554432 }
+    requires sync { IsSyncPlan sync }
+    requires gain { sync_gain sync ≤ 30 }
+    ensures lawful { IsLawfulPlan Width.Sixteen result }
+    ensures samples { result.samples ≡ samples }
+{
+    CellPlan {
+        pn: 0,
+        time: 1000,
+        lc: 1 << 41,
+        check30: CheckForm::Plain,
+        check16: CheckForm::Complemented,
+        link: Pair { i: 0, q: -3 },
+        start,
+        samples,
+        pilot_gain: 100,
+        sync,
+    }
+}
+
+/// A cell with the greatest offset and the latest time, whose checks are complemented, with the long message.
+fn far_cell(alloc: Global, start: u64, samples: u64) -> Result<Cell, Fail>
+    requires start { start < 2 ^ 32 }
+    requires samples { samples ≤ 33554432 }
+    ensures { IfOk result (λ cell. (cell.given ≡ 0) × (cell.plan.samples ≡ samples)) }
+{
+    let plan = CellPlan {
+        pn: 511,
+        time: 34_359_738_368,
+        lc: 1,
+        check30: CheckForm::Complemented,
+        check16: CheckForm::Plain,
+        link: Pair { i: 2, q: -3 },
+        start,
+        samples,
+        pilot_gain: 100,
+        sync: Some(channel(long_message())?),
+    };
+    Ok(Cell::of_plan(alloc, Width::Sixteen, plan)?)
+}
+
+/// The first 64 symbols of a frame that begins with the next sample of a cell, the first one highest: a 0 where the
+/// sample is a multiple of 130, the sum of the gains, and a 1 where it is one of 70, their difference.
+fn next_symbols(alloc: Global, cell: &mut Cell) -> Result<u64, Fail> {
+    let mut out = vec![in alloc; Sample { i: 0, q: 0 }; 256]?;
+    let mut symbols = 0;
+    for _symbol in 0..64u8 {
+        if cell.left() < 256 {
+            return Err("no samples".into());
+        }
+        cell.fill(&mut out);
+        symbols = symbols << 1 | u64::from(out[0].i % 130 != 0);
+    }
+    Ok(symbols)
+}
+
+/// The first 64 symbols of a frame of the cell without an offset, which is opened at the frame.
+fn symbols_at(alloc: Global, frame: u64, sync: SyncPlan) -> Result<u64, Fail>
+    requires frame { frame < 2 ^ 17 }
+    requires sync { (sync.gain ≡ 30) × IsSyncMessage sync.message }
+{
+    let plan = near_plan(32768 * frame, 16384, Some(sync));
+    let mut cell = Cell::of_plan(alloc, Width::Sixteen, plan)?;
+    next_symbols(alloc, &mut cell)
+}
+
+#[test]
+fn first_samples(rt: HostRuntime) -> Result<(), Fail> {
+    let mut out = [Sample { i: 0, q: 0 }; 1];
+    let mut pilot = Cell::of_plan(rt.alloc(), Width::Sixteen, near_plan(0, 1, None))?;
+    assert_eq!(rt; pilot.left(), 1);
+    pilot.fill(&mut out);
+    assert_eq!(rt; out[0], Sample { i: -300, q: 300 });
+    assert_eq!(rt; pilot.left(), 0);
+    let sync = channel(short_message())?;
+    let mut both = Cell::of_plan(rt.alloc(), Width::Sixteen, near_plan(0, 1, Some(sync)))?;
+    both.fill(&mut out);
+    assert_eq!(rt; out[0], Sample { i: -210, q: 210 });
+    Ok(())
+}
+
+#[test]
+fn frames_of_several_sendings(rt: HostRuntime) -> Result<(), Fail> {
+    let sync = channel(short_message())?;
+    assert_eq!(rt; symbols_at(rt.alloc(), 2, sync)?, 0x9b9a_d31a_5796_80cf);
+    assert_eq!(rt; symbols_at(rt.alloc(), 3, sync)?, 0x4250_b88e_acfc_e0e2);
+    assert_eq!(rt; symbols_at(rt.alloc(), 11, sync)?, 0x8cc8_9118_01c1_95cc);
+    assert_eq!(rt; symbols_at(rt.alloc(), 12, sync)?, 0x25c8_181a_5784_aec0);
+    assert_eq!(rt; symbols_at(rt.alloc(), 1002, sync)?, 0x9c10_fdb2_232c_d340);
+    Ok(())
+}
+
+#[test]
+fn one_run_through_a_sending(rt: HostRuntime) -> Result<(), Fail> {
+    let mut cell = far_cell(rt.alloc(), 98_240, 360_448)?;
+    let frames = [
+        0x5e2b_2105_5179_fe1cu64,
+        0x6a33_be84_873f_f704,
+        0x1011_0011_1101_1001,
+        0xe288_620a_d30e_c6a8,
+        0xd6c0_5f75_1fea_f376,
+        0x0808_8800_0888_0000,
+        0,
+        0x9be3_edd0_85c8_1acf,
+        0xb35d_bb19_d5b9_d793,
+        0x587e_3250_0338_fb0a,
+        0x1ee5_a4f8_b5fd_0330,
+    ];
+    for symbols in frames {
+        assert_eq!(rt; next_symbols(rt.alloc(), &mut cell)?, symbols);
+        assert_eq!(rt; next_symbols(rt.alloc(), &mut cell)?, symbols);
+    }
+    assert_eq!(rt; cell.left(), 0);
+    let mut late = far_cell(rt.alloc(), 4_292_313_024, 16_384)?;
+    assert_eq!(rt; next_symbols(rt.alloc(), &mut late)?, 0x4311_1161_4452_4523);
+    Ok(())
+}
+
+#[test]
+fn any_cut_gives_the_same_samples(rt: HostRuntime) -> Result<(), Fail> {
+    let mut cell = far_cell(rt.alloc(), 32_001, 3_000)?;
+    let mut out = [Sample { i: 0, q: 0 }; 3000];
+    cell.fill(&mut out);
+    assert_eq!(rt; out[0], Sample { i: -100, q: -500 });
+    assert_eq!(rt; out[702], Sample { i: 500, q: -100 });
+    assert_eq!(rt; out[703], Sample { i: -350, q: 70 });
+    assert_eq!(rt; out[704], Sample { i: 350, q: -70 });
+    assert_eq!(rt; out[735], Sample { i: 650, q: -130 });
+    assert_eq!(rt; out[2999], Sample { i: -650, q: 130 });
+    let mut again = far_cell(rt.alloc(), 32_001, 3_000)?;
+    let mut piece = [Sample { i: 0, q: 0 }; 7];
+    for k in 0..428usize {
+        assert!(rt; again.left() >= 7);
+        again.fill(&mut piece);
+        assert!(rt; &piece[..] == &out[7 * k..7 * k + 7]);
+    }
+    assert_eq!(rt; again.left(), 4);
+    Ok(())
+}
+
+#[test]
+fn header_of_the_file(rt: HostRuntime) -> Result<(), Fail> {
+    let wide = Cell::of_plan(rt.alloc(), Width::Sixteen, near_plan(0, 5, None))?;
+    let header = Header {
+        version: 1,
+        check30: CheckForm::Plain,
+        check16: CheckForm::Complemented,
+        count: 5,
+    };
+    assert_eq!(rt; wide.header(), header);
+    Ok(())
+}
