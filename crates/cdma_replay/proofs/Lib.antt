@@ -2,4 +2,5 @@ pub mod Faults
 pub mod Files
 pub mod Grammar
 pub mod Lines
+pub mod MadeFiles
 pub mod Replies

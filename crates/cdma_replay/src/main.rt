@@ -5,6 +5,7 @@
 #![tactic(auto)]
 
 mod finding;
+mod making;
 mod pilot_line;
 mod replaying;
 mod status;
