@@ -162,15 +162,18 @@ pub first_none : (width : Width) (plan : CellPlan) (given : ℕ) (old : Option (
 first_none width plan given old is = subst (λ (n : ℕ). Appends old old (first_bytes width plan n)) (sym is) (Appends-nil old)
 
 -- a piece more was written
-pub piece_more : (width : Width) (plan : CellPlan) (given n : ℕ) (old mid new : Option (List ℕ)) → Appends old mid (first_bytes width plan given) →
-    Appends mid new (piece_bytes width plan given n) → Appends old new (first_bytes width plan (given + n))
-piece_more width plan given n old mid new before more =
-    subst (Appends old new) (sym (first_more width plan given n)) (Appends-trans old mid new (first_bytes width plan given) (piece_bytes width plan given n) before more)
+pub piece_more : (width : Width) (plan now : CellPlan) (given n later : ℕ) (old mid new : Option (List ℕ)) → now ≡ plan → later ≡ given + n →
+    Appends old mid (first_bytes width plan given) → Appends mid new (piece_bytes width now given n) → Appends old new (first_bytes width plan later)
+piece_more width plan now given n later old mid new same is before more =
+    let next : Appends mid new (piece_bytes width plan given n) = subst (λ (p : CellPlan). Appends mid new (piece_bytes width p given n)) same more in
+    let bytes : first_bytes width plan later ≡ first_bytes width plan given ++ piece_bytes width plan given n = ap (first_bytes width plan) is ∙ first_more width plan given n in
+    subst (Appends old new) (sym bytes) (Appends-trans old mid new (first_bytes width plan given) (piece_bytes width plan given n) before next)
 
 -- a piece was cut short
-pub piece_cut : (width : Width) (plan : CellPlan) (given n : ℕ) (old mid new : Option (List ℕ)) → Appends old mid (first_bytes width plan given) →
-    AppendsPrefix mid new (piece_bytes width plan given n) → AppendsPrefix old new (sample_bytes width plan)
-piece_cut width plan given n old mid new before part =
+pub piece_cut : (width : Width) (plan now : CellPlan) (given n : ℕ) (old mid new : Option (List ℕ)) → now ≡ plan → Appends old mid (first_bytes width plan given) →
+    AppendsPrefix mid new (piece_bytes width now given n) → AppendsPrefix old new (sample_bytes width plan)
+piece_cut width plan now given n old mid new same before cut =
+    let part : AppendsPrefix mid new (piece_bytes width plan given n) = subst (λ (p : CellPlan). AppendsPrefix mid new (piece_bytes width p given n)) same cut in
     let written : AppendsPrefix old new (first_bytes width plan (given + n)) =
     subst (AppendsPrefix old new) (sym (first_more width plan given n)) (prefix_behind old mid new (first_bytes width plan given) (piece_bytes width plan given n) before part) in
     subst (AppendsPrefix old new) (first_and_rest width plan (given + n))

@@ -59,6 +59,7 @@ fn open_cell<S: Source>(
     ensures named { IfOk result (λ cell. IfSome (S.rest source.old) (λ bytes. plan_named width bytes ≡ Ok cell.plan)) }
     ensures fresh { IfOk result (λ cell. (cell.width ≡ width) × (cell.given ≡ 0)) }
     ensures at_end { OnOk result (IsAtEnd (S.rest source.new)) }
+    ensures failed { IfErr result (λ status. status ≢ Status.Done) }
     ensures others { (ended result ≢ Status.NoSync) × (ended result ≢ Status.BadWords) × (ended result ≢ Status.WriteFault) ×
         ((fault : FileFault) → ended result ≢ Status.BadFile fault) }
     ensures bad_script { (fault : ScriptFault) → ended result ≡ Status.BadScript fault → (fault ≢ ScriptFault.OutOfMemory) ×
