@@ -3,4 +3,5 @@ pub mod Files
 pub mod Grammar
 pub mod Lines
 pub mod MadeFiles
+pub mod MakingReplies
 pub mod Replies

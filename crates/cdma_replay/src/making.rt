@@ -1,6 +1,6 @@
 //! The command `make`: the samples of the cell that a script names, as a file.
 
-ghost use Rattle.std.specs.Prelude.{◌≡◌, ◌≢◌, ◌<◌, ◌≤◌, ◌*◌, length, vec_len, Ok, Err, IfOk, IfErr, OnOk, IfSome};
+ghost use Rattle.std.specs.Prelude.{◌≡◌, ◌≢◌, ◌<◌, ◌≤◌, ◌*◌, length, vec_len, Ok, Err, IsOk, IfOk, IfErr, OnOk, IfSome};
 ghost use Rattle.std.specs.Io.KnownBytes.{IsAtEnd};
 ghost use Rattle.cdma_io.specs.declared.file_fault.FileFault.{FileFault};
 ghost use Rattle.cdma_io.specs.Outside.{Rose};
@@ -9,6 +9,8 @@ ghost use Rattle.base_modulator.specs.Script.{plan_named};
 ghost use Rattle.cdma_replay.specs.Find.{ended};
 ghost use Rattle.cdma_replay.specs.Make.{WritesMadeFile, WritesNoMoreMade};
 
+#[cfg(test)]
+mod tests;
 mod writing;
 
 use crate::status::Status;
@@ -97,6 +99,7 @@ fn make_file<S: Source, K: Sink>(
         IfSome (S.rest source.old) (λ bytes. plan_named width bytes ≡ Err fault) }
     ensures read_fault { ended result ≡ Status.ReadFault → Rose (S.faults source.old) (S.faults source.new) }
     ensures write_fault { ended result ≡ Status.WriteFault → Rose (K.faults sink.old) (K.faults sink.new) }
+    ensures lawful { ended result ≡ Status.WriteFault → IfSome (S.rest source.old) (λ bytes. IsOk (plan_named width bytes)) }
     ensures written { WritesNoMoreMade width (S.rest source.old) (K.written sink.old) (K.written sink.new) }
     ensures later_source { S.faults source.old ≤ S.faults source.new }
     ensures later_sink { K.faults sink.old ≤ K.faults sink.new }
@@ -129,6 +132,7 @@ pub fn make<S: Source, K: Sink>(
         IfSome (S.rest source.old) (λ bytes. plan_named width bytes ≡ Err fault) }
     ensures read_fault { ended result ≡ Status.ReadFault → Rose (S.faults source.old) (S.faults source.new) }
     ensures write_fault { ended result ≡ Status.WriteFault → Rose (K.faults sink.old) (K.faults sink.new) }
+    ensures lawful { ended result ≡ Status.WriteFault → IfSome (S.rest source.old) (λ bytes. IsOk (plan_named width bytes)) }
     ensures written { WritesNoMoreMade width (S.rest source.old) (K.written sink.old) (K.written sink.new) }
     ensures later_source { S.faults source.old ≤ S.faults source.new }
     ensures later_sink { K.faults sink.old ≤ K.faults sink.new }
