@@ -16,7 +16,8 @@ const PILOT_AND_SYNC: &[u8] = b"cell pn=0 time=1000 lc=20000000000 checks=0\n\
     sync gain=30 prev=3 min=1 sid=1 nid=2 lp=13 ltm=0 daylt=0 prat=0 rest=3:00\n";
 
 /// Its file: magic, version, flags, count and the sample.
-const PILOT_AND_SYNC_FILE: &[u8] = b"IS95\x00\x01\x00\x00\x00\x00\x00\x00\x00\x00\x00\x01\xff\x2e\x00\xd2";
+const PILOT_AND_SYNC_FILE: &[u8] =
+    b"IS95\x00\x01\x00\x00\x00\x00\x00\x00\x00\x00\x00\x01\xff\x2e\x00\xd2";
 
 /// The same without the sync channel.
 const PILOT: &[u8] = b"cell pn=0 time=1000 lc=20000000000 checks=0\n\
@@ -103,7 +104,10 @@ fn makes_samples_of_8_bits(rt: HostRuntime) -> Result<(), Fail> {
 #[test]
 fn refuses_a_signal_that_8_bits_cannot_hold(rt: HostRuntime) -> Result<(), Fail> {
     let (status, file) = made(rt.alloc(), PILOT_AND_SYNC, Width::Eight)?;
-    assert_eq!(rt; status, Status::BadScript(ScriptFault::TooLoud { sum: 390 }));
+    assert_eq!(rt;
+        status,
+        Status::BadScript(ScriptFault::TooLoud { sum: 390 })
+    );
     assert_eq!(rt; file.len(), 0);
     Ok(())
 }

@@ -1,4 +1,4 @@
-use Rattle.std.proofs.Common.{◌≡◌, ◌*◌, take, length}
+use Rattle.std.proofs.Common.{◌≡◌, ◌*◌, take}
 use Rattle.std.specs.List.{flat_map}
 use Rattle.cdma_io.specs.SampleFile.{sample_len, sample_spelling}
 use Rattle.cdma_io.proofs.sample_bytes.sample_bytes_into.Given as goal
