@@ -9,7 +9,7 @@ use Rattle.std.proofs.Math.Facts.{Fits-of_z}
 use Rattle.std.specs.Int.{w8, w16, cast_signed, cast_unsigned}
 use Rattle.std.specs.Prelude.{FitsSigned}
 use mir.Val.{bits}
-use Rattle.std.proofs.Math.Nat.{mul-le-mul_left}
+use Rattle.std.proofs.Math.Nat.{mod-eq_of_lt, mul-le-mul_left}
 use Rattle.std.specs.List.{flat_map}
 use Rattle.byteorder.specs.Endian.{big_bytes, big_number}
 use Rattle.byteorder.specs.Numbers.{big_from-lt, big_number-reads_back, length-bytes_high_first}
@@ -117,6 +117,19 @@ spelled_narrow (a ∷ b ∷ []) i q long small i_is q_is =
     ∙ ap (λ (n : ℕ). sample_spelling Eight (make (cast_signed w8 a) (cast_signed w8 n))) second
     ∙ ap (λ (x : ℤ). sample_spelling Eight (make x (cast_signed w8 b))) (sym i_is)
     ∙ ap (λ (x : ℤ). sample_spelling Eight (make i x)) (sym q_is)
+
+-- a byte spells itself
+one_byte : (n : ℕ) → n < 256 → big_bytes 1 n ≡ n ∷ []
+one_byte n small = ap (λ (b : ℕ). b ∷ []) (mod-eq_of_lt small)
+
+-- the two bytes of a sample's parts
+pub spelled_by_bytes : (sample : Sample) (a b : ℕ) → a < 256 → b < 256 → a ≡ cast_unsigned w8 sample.i → b ≡ cast_unsigned w8 sample.q →
+    a ∷ b ∷ [] ≡ sample_spelling Eight sample
+unfolding sample_spelling
+spelled_by_bytes sample a b small_a small_b a_is b_is =
+    let first : big_bytes 1 (cast_unsigned w8 sample.i) ≡ a ∷ [] = ap (big_bytes 1) (sym a_is) ∙ one_byte a small_a in
+    let second : big_bytes 1 (cast_unsigned w8 sample.q) ≡ b ∷ [] = ap (big_bytes 1) (sym b_is) ∙ one_byte b small_b in
+    sym (ap (λ (xs : List ℕ). xs ++ big_bytes 1 (cast_unsigned w8 sample.q)) first ∙ ap (λ (xs : List ℕ). (a ∷ []) ++ xs) second)
 
 -- a byte that was read as a signed number, widened and kept in 16 bits
 pub widened : (n : ℕ) (x y : ℤ) → n < 256 → x ≡ cast_signed w8 n → y ≡ cast_signed w8 (cast_unsigned w8 x) → FitsSigned w16 y →

@@ -6,8 +6,10 @@ ghost use Rattle.cdma_io.specs.Outside.{ConsumesAtMost, HasCause};
 
 use crate::source::{Failed, Source};
 
-/// Takes bytes until the buffer is full or the source ends: how many. The first failed take ends
-/// it.
+/// Takes bytes until the buffer is full or the source ends: how many, which then stand at the
+/// buffer's front. Fewer than there is room for means that the source is at its end.
+///
+/// The first failed take ends it with [`Failed`]; what was taken before it is lost.
 pub fn fill<S: Source>(source: &mut S, buf: &mut [u8]) -> Result<usize, Failed>
     ensures bound { IfOk result (λ n. n ≤ length buf.new) }
     ensures bytes { IfOk result (λ n. Consumes (S.rest source.old) (S.rest source.new)

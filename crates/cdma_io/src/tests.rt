@@ -2,7 +2,7 @@
 
 use crate::{
     Failed, FileFault, Header, MemorySink, MemorySource, ReaderSource, SampleReader, Sink, Source,
-    Width, WriterSink, header_bytes, write_all,
+    Width, WriterSink, header_bytes, sample_bytes_into, write_all,
 };
 use chip_core::{CheckForm, Sample};
 use std::alloc::{AllocError, Global};
@@ -243,6 +243,26 @@ fn reads_a_reader_of_std(rt: HostRuntime) -> Result<(), Fail> {
     assert_eq!(rt; reader.left(), 0);
     reader.finish(&mut source)?;
     Ok(())
+}
+
+#[test]
+fn spells_samples(rt: HostRuntime) {
+    let samples = [
+        Sample { i: 1, q: -1 },
+        Sample {
+            i: -32768,
+            q: 32767,
+        },
+        Sample { i: 4660, q: -21555 },
+    ];
+    let mut bytes = [0; 12];
+    sample_bytes_into(Width::Sixteen, &samples, &mut bytes);
+    assert_eq!(rt; bytes.as_slice(), &FILE[16..]);
+
+    let samples = [Sample { i: 1, q: -1 }, Sample { i: -128, q: 127 }];
+    let mut bytes = [0; 4];
+    sample_bytes_into(Width::Eight, &samples, &mut bytes);
+    assert_eq!(rt; bytes.as_slice(), &NARROW_FILE[16..]);
 }
 
 #[test]

@@ -1,4 +1,5 @@
 pub mod Find
 pub mod Hearing
+pub mod Make
 pub mod Status
 pub mod Words

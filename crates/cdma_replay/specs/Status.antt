@@ -44,15 +44,15 @@ abbrev pub located : List ℕ → Option ℕ → List ℕ
 located kind None = codes "bad file: " ++ kind
 located kind (Some place) = codes "bad file: " ++ kind ++ codes " at " ++ decimal place
 
--- the text of a fault of the script, its number in decimal
-abbrev pub script_text : ScriptFault → List ℕ
-script_text (script.Line n) = codes "line " ++ decimal n
-script_text (script.Walsh row) = codes "walsh " ++ decimal row
-script_text (script.Gain row) = codes "gain " ++ decimal row
-script_text (script.TooLoud sum) = codes "too loud " ++ decimal sum
-script_text (script.TooLong n) = codes "too long " ++ decimal n
-script_text script.OutOfMemory = codes "out of memory"
-script_text script.TooBig = codes "too big"
+-- what is wrong with a script, and the number in decimal where there is one
+abbrev pub script_line : ScriptFault → List ℕ
+script_line (script.Line n) = codes "bad script: line " ++ decimal n
+script_line (script.Walsh row) = codes "bad script: walsh " ++ decimal row
+script_line (script.Gain row) = codes "bad script: gain " ++ decimal row
+script_line (script.TooLoud sum) = codes "bad script: too loud " ++ decimal sum
+script_line (script.TooLong n) = codes "bad script: too long " ++ decimal n
+script_line script.OutOfMemory = codes "bad script: out of memory"
+script_line script.TooBig = codes "bad script: too big"
 
 -- the text of each end of a run
 abbrev pub text_of : Status → List ℕ
@@ -63,4 +63,4 @@ text_of (BadFile fault) = located (kind_of fault) (place_of fault)
 text_of ReadFault = codes "read fault"
 text_of WriteFault = codes "write fault"
 text_of NoMemory = codes "out of memory"
-text_of (BadScript fault) = codes "bad script: " ++ script_text fault
+text_of (BadScript fault) = script_line fault

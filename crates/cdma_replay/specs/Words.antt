@@ -9,6 +9,9 @@ use Rattle.cdma_io.specs.declared.width.Width.{Width}
 use Rattle.cdma_io.specs.declared.width.Width.TheVariants.{Sixteen, Eight}
 use Rattle.cdma_replay.specs.declared.words.Job.{Job}
 use Rattle.cdma_replay.specs.declared.words.Job.TheVariants.{Find, Follow, Make}
+use Rattle.cdma_replay.specs.declared.words.Task.{Task}
+use Rattle.cdma_replay.specs.declared.words.Task.TheVariants.{Receive}
+use Rattle.cdma_replay.specs.declared.words.Task.TheVariants as tasks
 use Rattle.cdma_replay.specs.declared.words.Setting.{Setting}
 use Rattle.cdma_replay.specs.declared.words.Setting.TheVariants.{Span, Fingers, Bits}
 use Rattle.cdma_replay.specs.declared.words.Choices.{Choices}
@@ -143,18 +146,30 @@ job_in (command ∷ words) = option_and_then (command_with command) (choices_beh
 abbrev pub job_named : List (String Global) → Option Job
 job_named words = job_in (map string_bytes words)
 
--- how a job receives a sample file, where it does
-abbrev pub reception_of : Job → Option Reception
-reception_of (Find span) = Some (record { span = span; fingers = None })
-reception_of (Follow span fingers) = Some (record { span = span; fingers = Some fingers })
-reception_of (Make width) = None
+abbrev pub IsFingers : ℕ → Type 0
+IsFingers fingers = (1 ≤ fingers) × (fingers ≤ 3)
+
+-- what a job does: `find` receives a file without a handset
+abbrev pub task_of : Job → Task
+task_of (Find span) = Receive (record { span = span; fingers = None })
+task_of (Follow span fingers) = Receive (record { span = span; fingers = Some fingers })
+task_of (Make width) = tasks.Make width
+
+abbrev pub task_in : Option Job → Option Task
+task_in None = None
+task_in (Some job) = Some (task_of job)
+
+-- what the strings of a command line ask for
+abbrev pub task_named : List (String Global) → Option Task
+task_named words = task_in (job_named words)
+
+abbrev pub IsLawfulTask : Task → Type 0
+IsLawfulTask (Receive r) = (r.span ≤ 32768) × IfSome r.fingers IsFingers
+IsLawfulTask (tasks.Make width) = Unit {0}
 
 -- a job has numbers that its options admit
 abbrev pub IsSpan : ℕ → Type 0
 IsSpan span = (64 ≤ span) × (span ≤ 32768)
-
-abbrev pub IsFingers : ℕ → Type 0
-IsFingers fingers = (1 ≤ fingers) × (fingers ≤ 3)
 
 abbrev pub IsLawfulJob : Job → Type 0
 IsLawfulJob (Find span) = IsSpan span

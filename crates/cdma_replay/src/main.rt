@@ -4,6 +4,7 @@
 //! What is here makes these of the process: its arguments, standard input and standard output.
 #![tactic(auto)]
 
+mod making;
 mod receiving;
 mod replaying;
 mod status;

@@ -2,7 +2,7 @@
 
 ghost use Rattle.std.specs.Prelude.{◌≡◌, Some};
 ghost use Rattle.std.specs.Fmt.{DisplaysOnOk};
-ghost use Rattle.cdma_replay.specs.Status.{code_of, file_status, kind_of, located, script_status, script_text, text_of};
+ghost use Rattle.cdma_replay.specs.Status.{code_of, file_status, kind_of, located, script_line, text_of};
 
 use base_modulator::ScriptFault;
 use cdma_io::FileFault;
@@ -69,7 +69,7 @@ impl fmt::Display for Status {
             Status::ReadFault => f.write_str("read fault"),
             Status::WriteFault => f.write_str("write fault"),
             Status::NoMemory => f.write_str("out of memory"),
-            Status::BadScript(fault) => write!(f, "bad script: {fault}"),
+            Status::BadScript(fault) => write_script(f, fault),
         }
     }
 }
@@ -101,6 +101,21 @@ fn write_located<W: fmt::Write>(
     match place {
         Some(place) => write!(f, "bad file: {kind} at {place}"),
         None => write!(f, "bad file: {kind}"),
+    }
+}
+
+// Writes what is wrong with a script.
+fn write_script<W: fmt::Write>(f: &mut fmt::Formatter<W>, fault: ScriptFault) -> fmt::Result
+    ensures { DisplaysOnOk W.write_str_gives f.old result (Some (script_line fault)) f.new }
+{
+    match fault {
+        ScriptFault::Line { n } => write!(f, "bad script: line {n}"),
+        ScriptFault::Walsh { row } => write!(f, "bad script: walsh {row}"),
+        ScriptFault::Gain { row } => write!(f, "bad script: gain {row}"),
+        ScriptFault::TooLoud { sum } => write!(f, "bad script: too loud {sum}"),
+        ScriptFault::TooLong { n } => write!(f, "bad script: too long {n}"),
+        ScriptFault::OutOfMemory => f.write_str("bad script: out of memory"),
+        ScriptFault::TooBig => f.write_str("bad script: too big"),
     }
 }
 

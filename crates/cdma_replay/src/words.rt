@@ -2,8 +2,9 @@
 
 ghost use Rattle.std.specs.Prelude.{◌≡◌, ◌≤◌, ◌<◌, ◌+◌, ◌*◌, ◌-◌, ◌^◌, true, length, IsTrue, map, drop, string_bytes, Some, IfSome};
 ghost use Rattle.std.specs.Char.{is_ascii_digit};
-ghost use Rattle.cdma_replay.specs.Words.{AreLawful, IsAdmitted, IsLawfulJob, admits, chosen, choices_behind, command_with as job_of_command, digits_from, find_with as job_of_find, follow_with as job_of_follow, make_with as job_of_make, job_named, no_choices, width_for, number_in, is_joined, setting_named, with_joined, with_named, with_setting as choices_with};
+ghost use Rattle.cdma_replay.specs.Words.{AreLawful, IsAdmitted, IsLawfulJob, IsLawfulTask, admits, chosen, choices_behind, command_with as job_of_command, digits_from, find_with as job_of_find, follow_with as job_of_follow, make_with as job_of_make, job_named, no_choices, task_of, width_for, number_in, is_joined, setting_named, with_joined, with_named, with_setting as choices_with};
 
+use crate::receiving::Reception;
 use cdma_io::Width;
 
 /// What the words of the command line ask for.
@@ -26,6 +27,36 @@ pub enum Job {
         /// How wide the parts of the samples are.
         width: Width,
     },
+}
+
+/// What a job does.
+#[derive(Clone, Copy, PartialEq, Eq, Debug)]
+pub enum Task {
+    /// Receives a sample file.
+    Receive(Reception),
+    /// Makes a sample file.
+    Make(Width),
+}
+
+impl Job {
+    /// What the job does.
+    pub fn task(self) -> Task
+        requires { IsLawfulJob self }
+        ensures value { result ≡ task_of self }
+        ensures lawful { IsLawfulTask result }
+    {
+        match self {
+            Job::Find { span } => Task::Receive(Reception {
+                span,
+                fingers: None,
+            }),
+            Job::Follow { span, fingers } => Task::Receive(Reception {
+                span,
+                fingers: Some(fingers),
+            }),
+            Job::Make { width } => Task::Make(width),
+        }
+    }
 }
 
 /// An option of the command line.

@@ -1,0 +1,154 @@
+//! The command `make`: the samples of the cell that a script names, as a file.
+
+ghost use Rattle.std.specs.Prelude.{◌≡◌, ◌≢◌, ◌<◌, ◌≤◌, ◌*◌, length, vec_len, Ok, Err, IsOk, IfOk, IfErr, OnOk, IfSome};
+ghost use Rattle.std.specs.Io.KnownBytes.{IsAtEnd};
+ghost use Rattle.cdma_io.specs.declared.file_fault.FileFault.{FileFault};
+ghost use Rattle.cdma_io.specs.Outside.{Rose};
+ghost use Rattle.base_modulator.specs.declared.script_fault.ScriptFault.{ScriptFault};
+ghost use Rattle.base_modulator.specs.Script.{plan_named};
+ghost use Rattle.cdma_replay.specs.Find.{ended};
+ghost use Rattle.cdma_replay.specs.Make.{WritesMadeFile, WritesNoMoreMade};
+
+#[cfg(test)]
+mod tests;
+mod writing;
+
+use crate::status::Status;
+use base_modulator::{Cell, ScriptFault};
+use cdma_io::{Failed, Sink, Source, Width, fill};
+use chip_core::{OutOfMemory, Sample};
+use std::alloc::Global;
+use writing::write_cell;
+
+/// How many bytes are read at most: one more than a script may have, so that a longer one shows.
+const MOST_READ: usize = 1_048_577;
+
+/// How many samples are written at once, at most.
+const PIECE: usize = 4096;
+
+/// What a cell is read and written with. All of its memory is taken before anything is read.
+#[derive(Drop)]
+struct Workspace {
+    script: Vec<u8>,
+    samples: Vec<Sample>,
+    bytes: Vec<u8>,
+    ghost script_len: { vec_len script ≡ 1048577 },
+    ghost samples_len: { vec_len samples ≡ 4096 },
+    ghost bytes_len: { vec_len bytes ≡ 16384 },
+}
+
+impl Workspace {
+    fn new(alloc: Global) -> Result<Workspace, OutOfMemory> {
+        let script = vec![in alloc; 0; MOST_READ]?;
+        let samples = vec![in alloc; Sample { i: 0, q: 0 }; PIECE]?;
+        let bytes = vec![in alloc; 0; 4 * PIECE]?;
+        Ok(Workspace {
+            script,
+            samples,
+            bytes,
+        })
+    }
+}
+
+/// Reads a script into `script` and makes its cell.
+fn open_cell<S: Source>(
+    alloc: Global,
+    width: Width,
+    script: &mut [u8],
+    source: &mut S,
+) -> Result<Cell, Status>
+    requires { length script.old ≡ MOST_READ }
+    ensures named { IfOk result (λ cell. IfSome (S.rest source.old) (λ bytes. plan_named width bytes ≡ Ok cell.plan)) }
+    ensures fresh { IfOk result (λ cell. (cell.width ≡ width) × (cell.given ≡ 0)) }
+    ensures at_end { OnOk result (IsAtEnd (S.rest source.new)) }
+    ensures failed { IfErr result (λ status. status ≢ Status.Done) }
+    ensures others { (ended result ≢ Status.NoSync) × (ended result ≢ Status.BadWords) × (ended result ≢ Status.WriteFault) ×
+        ((fault : FileFault) → ended result ≢ Status.BadFile fault) }
+    ensures bad_script { (fault : ScriptFault) → ended result ≡ Status.BadScript fault → (fault ≢ ScriptFault.OutOfMemory) ×
+        IfSome (S.rest source.old) (λ bytes. plan_named width bytes ≡ Err fault) }
+    ensures read_fault { ended result ≡ Status.ReadFault → Rose (S.faults source.old) (S.faults source.new) }
+    ensures later { S.faults source.old ≤ S.faults source.new }
+{
+    let Ok(count) = fill(source, script) else {
+        return Err(Status::ReadFault);
+    };
+    Ok(Cell::new(alloc, &script[..count], width)?)
+}
+
+/// Reads a script, and writes the file of its cell by way of `samples` and `bytes`.
+fn make_file<S: Source, K: Sink>(
+    alloc: Global,
+    width: Width,
+    script: &mut [u8],
+    samples: &mut [Sample],
+    bytes: &mut [u8],
+    source: &mut S,
+    sink: &mut K,
+) -> Result<(), Status>
+    requires script { length script.old ≡ MOST_READ }
+    requires samples { length samples.old ≡ PIECE }
+    requires bytes { length bytes.old ≡ 4 * PIECE }
+    ensures done { ended result ≡ Status.Done → IfSome (S.rest source.old) (λ bytes.
+        WritesMadeFile width bytes (K.written sink.old) (K.written sink.new)) }
+    ensures at_end { ended result ≡ Status.Done → IsAtEnd (S.rest source.new) }
+    ensures others { (ended result ≢ Status.NoSync) × (ended result ≢ Status.BadWords) ×
+        ((fault : FileFault) → ended result ≢ Status.BadFile fault) }
+    ensures memory { ended result ≡ Status.NoMemory → sink.new ≡ sink.old }
+    ensures bad_script { (fault : ScriptFault) → ended result ≡ Status.BadScript fault →
+        (fault ≢ ScriptFault.OutOfMemory) × (sink.new ≡ sink.old) ×
+        IfSome (S.rest source.old) (λ bytes. plan_named width bytes ≡ Err fault) }
+    ensures read_fault { ended result ≡ Status.ReadFault → Rose (S.faults source.old) (S.faults source.new) }
+    ensures write_fault { ended result ≡ Status.WriteFault → Rose (K.faults sink.old) (K.faults sink.new) }
+    ensures lawful { ended result ≡ Status.WriteFault → IfSome (S.rest source.old) (λ bytes. IsOk (plan_named width bytes)) }
+    ensures written { WritesNoMoreMade width (S.rest source.old) (K.written sink.old) (K.written sink.new) }
+    ensures later_source { S.faults source.old ≤ S.faults source.new }
+    ensures later_sink { K.faults sink.old ≤ K.faults sink.new }
+{
+    let mut cell = open_cell(alloc, width, script, source)?;
+    match write_cell(&mut cell, width, samples, bytes, sink) {
+        Ok(()) => Ok(()),
+        Err(Failed) => Err(Status::WriteFault),
+    }
+}
+
+/// Reads a script (at most one byte more than a script may have) and writes the file of the cell that it names, in samples
+/// of a width: its header, and then its samples.
+///
+/// All memory is taken before anything is written, and nothing is written of a script that names no cell.
+pub fn make<S: Source, K: Sink>(
+    alloc: Global,
+    width: Width,
+    source: &mut S,
+    sink: &mut K,
+) -> Result<(), Status>
+    ensures done { ended result ≡ Status.Done → IfSome (S.rest source.old) (λ bytes.
+        WritesMadeFile width bytes (K.written sink.old) (K.written sink.new)) }
+    ensures at_end { ended result ≡ Status.Done → IsAtEnd (S.rest source.new) }
+    ensures others { (ended result ≢ Status.NoSync) × (ended result ≢ Status.BadWords) ×
+        ((fault : FileFault) → ended result ≢ Status.BadFile fault) }
+    ensures memory { ended result ≡ Status.NoMemory → sink.new ≡ sink.old }
+    ensures bad_script { (fault : ScriptFault) → ended result ≡ Status.BadScript fault →
+        (fault ≢ ScriptFault.OutOfMemory) × (sink.new ≡ sink.old) ×
+        IfSome (S.rest source.old) (λ bytes. plan_named width bytes ≡ Err fault) }
+    ensures read_fault { ended result ≡ Status.ReadFault → Rose (S.faults source.old) (S.faults source.new) }
+    ensures write_fault { ended result ≡ Status.WriteFault → Rose (K.faults sink.old) (K.faults sink.new) }
+    ensures lawful { ended result ≡ Status.WriteFault → IfSome (S.rest source.old) (λ bytes. IsOk (plan_named width bytes)) }
+    ensures written { WritesNoMoreMade width (S.rest source.old) (K.written sink.old) (K.written sink.new) }
+    ensures later_source { S.faults source.old ≤ S.faults source.new }
+    ensures later_sink { K.faults sink.old ≤ K.faults sink.new }
+{
+    let Workspace {
+        mut script,
+        mut samples,
+        mut bytes,
+    } = Workspace::new(alloc)?;
+    make_file(
+        alloc,
+        width,
+        &mut script,
+        &mut samples,
+        &mut bytes,
+        source,
+        sink,
+    )
+}

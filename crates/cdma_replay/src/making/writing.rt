@@ -1,0 +1,99 @@
+//! Writing the file of a cell.
+
+ghost use Rattle.std.specs.Prelude.{◌≡◌, ◌<◌, ◌≤◌, ◌+◌, ◌-◌, ◌*◌, min, length, OnOk, OnErr};
+ghost use Rattle.std.specs.Io.KnownBytes.{Appends};
+ghost use Rattle.cdma_io.specs.Outside.{AppendsPrefix, HasCause};
+ghost use Rattle.cdma_io.specs.SampleFile.{sample_len};
+ghost use Rattle.cdma_replay.specs.Make.{made_file, piece_bytes, sample_bytes};
+
+use base_modulator::Cell;
+use cdma_io::{Failed, Sink, Width, header_bytes, sample_bytes_into, write_all};
+use chip_core::Sample;
+
+/// How many bytes so many samples have.
+fn bytes_for(width: Width, count: usize) -> usize
+    requires { count ≤ 4096 }
+    ensures value { result ≡ sample_len width * count }
+    ensures most { result ≤ 4 * count }
+{
+    match width {
+        Width::Sixteen => 4 * count,
+        Width::Eight => 2 * count,
+    }
+}
+
+/// Spells the cell's next samples, as many as `samples` has room for.
+fn spell_next(cell: &mut Cell, width: Width, samples: &mut [Sample], bytes: &mut [u8])
+    requires width { cell.old.width ≡ width }
+    requires left { cell.old.given + length samples.old ≤ cell.old.plan.samples }
+    requires room { length bytes.old ≡ sample_len width * length samples.old }
+    ensures spelled { bytes.new ≡ piece_bytes width cell.old.plan cell.old.given (length samples.old) }
+    ensures state { cell.new ≡ record cell.old { given = cell.old.given + length samples.old } }
+{
+    cell.fill(samples);
+    sample_bytes_into(width, samples, bytes);
+}
+
+/// Writes the cell's next samples, as many as `samples` has room for or the cell has left.
+fn write_piece<K: Sink>(
+    cell: &mut Cell,
+    width: Width,
+    samples: &mut [Sample],
+    bytes: &mut [u8],
+    sink: &mut K,
+) -> Result<(), Failed>
+    requires width { cell.old.width ≡ width }
+    requires samples { length samples.old ≡ 4096 }
+    requires bytes { length bytes.old ≡ 16384 }
+    ensures state { cell.new ≡ record cell.old { given = cell.old.given + min 4096 (cell.old.plan.samples - cell.old.given) } }
+    ensures ok { OnOk result (Appends (K.written sink.old) (K.written sink.new)
+        (piece_bytes width cell.old.plan cell.old.given (min 4096 (cell.old.plan.samples - cell.old.given)))) }
+    ensures err { OnErr result (AppendsPrefix (K.written sink.old) (K.written sink.new)
+        (piece_bytes width cell.old.plan cell.old.given (min 4096 (cell.old.plan.samples - cell.old.given)))) }
+    ensures cause { HasCause (K.faults sink.old) (K.faults sink.new) result }
+{
+    let count = cell.left().min(samples.len() as u64) as usize;
+    let len = bytes_for(width, count);
+    spell_next(cell, width, &mut samples[..count], &mut bytes[..len]);
+    write_all(sink, &bytes[..len])
+}
+
+/// Writes the samples of a cell that has given none.
+fn write_samples<K: Sink>(
+    cell: &mut Cell,
+    width: Width,
+    samples: &mut [Sample],
+    bytes: &mut [u8],
+    sink: &mut K,
+) -> Result<(), Failed>
+    requires fresh { (cell.old.width ≡ width) × (cell.old.given ≡ 0) }
+    requires samples { length samples.old ≡ 4096 }
+    requires bytes { length bytes.old ≡ 16384 }
+    ensures ok { OnOk result (Appends (K.written sink.old) (K.written sink.new) (sample_bytes width cell.old.plan)) }
+    ensures err { OnErr result (AppendsPrefix (K.written sink.old) (K.written sink.new) (sample_bytes width cell.old.plan)) }
+    ensures cause { HasCause (K.faults sink.old) (K.faults sink.new) result }
+{
+    while cell.left() > 0 {
+        write_piece(cell, width, samples, bytes, sink)?;
+    }
+    Ok(())
+}
+
+/// Writes the file of a cell that has given no sample, by way of `samples` and `bytes`.
+pub fn write_cell<K: Sink>(
+    cell: &mut Cell,
+    width: Width,
+    samples: &mut [Sample],
+    bytes: &mut [u8],
+    sink: &mut K,
+) -> Result<(), Failed>
+    requires fresh { (cell.old.width ≡ width) × (cell.old.given ≡ 0) }
+    requires samples { length samples.old ≡ 4096 }
+    requires bytes { length bytes.old ≡ 16384 }
+    ensures ok { OnOk result (Appends (K.written sink.old) (K.written sink.new) (made_file width cell.old.plan)) }
+    ensures err { OnErr result (AppendsPrefix (K.written sink.old) (K.written sink.new) (made_file width cell.old.plan)) }
+    ensures cause { HasCause (K.faults sink.old) (K.faults sink.new) result }
+{
+    write_all(sink, &header_bytes(&cell.header()))?;
+    write_samples(cell, width, samples, bytes, sink)
+}
