@@ -175,8 +175,8 @@ told_part t one other given heard samples taken n event old mid new so_far stepp
       text = text_of more ++ first;
       written = Appends-trans old mid new (text_of more) first so_far.written part.appended;
       begins = front_begins _ (text_of given ++ (text_of more ++ first)) ends (text
-      ∙ ap (λ (xs : List ℕ). (((text_of given ++ text_of more) ++ xs) ++ text_of left) ++ text_of later.0) (sym (take-append-drop part.count line))
-      ∙ regroup (text_of given) (text_of more) first back (text_of left) (text_of later.0));
+          ∙ ap (λ (xs : List ℕ). (((text_of given ++ text_of more) ++ xs) ++ text_of left) ++ text_of later.0) (sym (take-append-drop part.count line))
+          ∙ regroup (text_of given) (text_of more) first back (text_of left) (text_of later.0));
     }
   where
     regroup : (a b c d e f : List ℕ) → (((a ++ b) ++ (c ++ d)) ++ e) ++ f ≡ (a ++ (b ++ c)) ++ ((d ++ e) ++ f)

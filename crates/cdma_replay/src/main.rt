@@ -4,6 +4,8 @@
 //! What is here makes these of the process: its arguments, standard input and standard output.
 #![tactic(auto)]
 
+#[cfg(test)]
+mod link_tests;
 mod making;
 mod receiving;
 mod replaying;
@@ -46,7 +48,7 @@ fn run<R: Env + Input + Print + AllocGlobal>(rt: &R) -> Status {
     let mut sink = WriterSink::new(io::writer(rt));
     let status = replay(rt.alloc(), words.as_slice(), &mut source, &mut sink);
     match sink.flush() {
-        Err(_) if status == Status::Done => Status::WriteFault,
+        Err(_) if status == Status::Done || status == Status::NoSync => Status::WriteFault,
         _ => status,
     }
 }

@@ -88,12 +88,7 @@ fn open_span<S: Source>(source: &mut S, span: &mut [Sample]) -> Result<SampleRea
 }
 
 /// The paths near the best phase of samples, where there are fingers.
-fn near_for(
-    codes: &Codes,
-    first: &[Sample],
-    best: Best,
-    fingers: Option<u16>,
-) -> Option<Near>
+fn near_for(codes: &Codes, first: &[Sample], best: Best, fingers: Option<u16>) -> Option<Near>
     requires few { length first.now ≤ 32768 }
     requires best { IsBestIn first.now 0 32768 best.phase best.energy }
     requires fingers { IfSome fingers IsFingers }
@@ -327,5 +322,13 @@ pub fn receive<S: Source, K: Sink>(
         span: mut samples,
         mut piece,
     } = Workspace::new(alloc, usize::from(reception.span))?;
-    receive_file(alloc, reception, &codes, &mut samples, &mut piece, source, sink)
+    receive_file(
+        alloc,
+        reception,
+        &codes,
+        &mut samples,
+        &mut piece,
+        source,
+        sink,
+    )
 }

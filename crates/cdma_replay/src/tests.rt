@@ -3,6 +3,7 @@
 ghost use Rattle.std.specs.Prelude.{◌≤◌};
 
 use crate::{Status, replay};
+use base_modulator::ScriptFault;
 use cdma_io::{FileFault, MemorySink, MemorySource};
 use short_code::Codes;
 use std::alloc::Global;
@@ -292,6 +293,21 @@ fn refuses_other_words(rt: HostRuntime) -> Result<(), Fail> {
         "find --span --",
         "find -- --span=64",
         "--span 64 find",
+        "find --fingers 1",
+        "find --bits 16",
+        "follow --fingers",
+        "follow --fingers 0",
+        "follow --fingers=4",
+        "follow --fingers=1 --fingers=1",
+        "follow --bits=8",
+        "follow --span 64 --fingers",
+        "follow --span=64=64",
+        "make --bits 9",
+        "make --bits=",
+        "make --bits 8 --bits 8",
+        "make --span 64",
+        "make --fingers 1",
+        "make make",
     ] {
         let words = words_of(alloc, line)?;
         let mut source = MemorySource::new(zero_file(alloc, 2048)?, 65536, Vec::new(alloc));
@@ -308,6 +324,7 @@ fn refuses_other_words(rt: HostRuntime) -> Result<(), Fail> {
 fn says_how_a_run_ended(rt: HostRuntime) -> Result<(), Fail> {
     for (status, text) in [
         (Status::Done, ""),
+        (Status::NoSync, "no sync message"),
         (Status::BadWords, "bad words"),
         (
             Status::BadFile(FileFault::Version),
@@ -324,6 +341,14 @@ fn says_how_a_run_ended(rt: HostRuntime) -> Result<(), Fail> {
         (Status::ReadFault, "read fault"),
         (Status::WriteFault, "write fault"),
         (Status::NoMemory, "out of memory"),
+        (
+            Status::BadScript(ScriptFault::TooLoud { sum: 390 }),
+            "bad script: too loud 390",
+        ),
+        (
+            Status::BadScript(ScriptFault::Line { n: 1 }),
+            "bad script: line 1",
+        ),
     ] {
         let shown = format!(in rt.alloc(); "{status}")?;
         assert_eq!(rt; shown.as_str(), text);
@@ -335,10 +360,12 @@ fn says_how_a_run_ended(rt: HostRuntime) -> Result<(), Fail> {
 fn exit_statuses(rt: HostRuntime) {
     for (status, code) in [
         (Status::Done, 0),
+        (Status::NoSync, 1),
         (Status::BadFile(FileFault::Magic), 3),
         (Status::ReadFault, 4),
         (Status::WriteFault, 5),
         (Status::NoMemory, 6),
+        (Status::BadScript(ScriptFault::TooBig), 8),
     ] {
         assert_eq!(rt; status.code(), code);
     }

@@ -96,7 +96,6 @@ impl Setting {
     }
 }
 
-
 /// The numbers that the options of a command line choose, none where an option isn't there.
 #[derive(Clone, Copy, PartialEq, Eq, Debug)]
 pub struct Choices {
@@ -130,15 +129,24 @@ impl Choices {
         match setting {
             Setting::Span => {
                 let span = chosen(setting, self.span, text)?;
-                Some(Choices { span: Some(span), ..self })
+                Some(Choices {
+                    span: Some(span),
+                    ..self
+                })
             }
             Setting::Fingers => {
                 let fingers = chosen(setting, self.fingers, text)?;
-                Some(Choices { fingers: Some(fingers), ..self })
+                Some(Choices {
+                    fingers: Some(fingers),
+                    ..self
+                })
             }
             Setting::Bits => {
                 let bits = chosen(setting, self.bits, text)?;
-                Some(Choices { bits: Some(bits), ..self })
+                Some(Choices {
+                    bits: Some(bits),
+                    ..self
+                })
             }
         }
     }
