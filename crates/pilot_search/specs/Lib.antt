@@ -1,6 +1,9 @@
 pub mod BestIn
+pub mod Bounds
 pub mod BySigns
+pub mod Knowledge
 pub mod Near
 pub mod Ranked
 pub mod Search
+pub mod SharedRule
 pub mod Worked

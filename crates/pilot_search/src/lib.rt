@@ -6,12 +6,19 @@
 #![tactic(auto)]
 
 mod correlation;
+mod gate;
 pub mod laws;
 mod nearby;
 mod paths;
+mod rule;
+mod shared;
+mod steps;
 mod sweeping;
+mod view;
 
 pub use correlation::energy_at;
+pub use gate::{Gate, Open};
 pub use nearby::near;
 pub use paths::Near;
+pub use shared::{BestSeat, Shared};
 pub use sweeping::{Best, sweep};
