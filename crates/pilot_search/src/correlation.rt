@@ -50,11 +50,11 @@ fn correlate(samples: &[Sample], signs: &[(i8, i8)]) -> Pair
 }
 
 /// The correlation with the code from the phase on, parted where the code begins again.
-fn correlation_at(samples: &[Sample], codes: &Codes, phase: Phase) -> Pair
+pub(crate) fn correlation_at(samples: &[Sample], codes: &Codes, phase: Phase) -> Pair
     requires { length samples.now ≤ 32768 }
     ensures value { result ≡ correlation samples.now phase }
-    ensures i_bound { unsigned_abs result.i ≤ 2 ^ 31 }
-    ensures q_bound { unsigned_abs result.q ≤ 2 ^ 31 }
+    ensures i_bound { unsigned_abs result.i ≤ 65536 * length samples.now }
+    ensures q_bound { unsigned_abs result.q ≤ 65536 * length samples.now }
 {
     let (_, ahead) = codes.table().split_at(usize::from(phase.get()));
     let (before, after) = samples.split_at(samples.len().min(ahead.len()));
@@ -67,7 +67,7 @@ fn correlation_at(samples: &[Sample], codes: &Codes, phase: Phase) -> Pair
 }
 
 /// The square of a complex number's absolute value.
-fn norm_of(sum: Pair) -> u64
+pub(crate) fn norm_of(sum: Pair) -> u64
     requires i { unsigned_abs sum.i ≤ 2 ^ 31 }
     requires q { unsigned_abs sum.q ≤ 2 ^ 31 }
     ensures value { result ≡ norm sum }
