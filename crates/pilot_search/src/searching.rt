@@ -206,3 +206,6 @@ pub fn search<R: Threads + Sync, G: Gate + Sync>(
     );
     Ok(best.unwrap())
 }
+
+#[cfg(test)]
+mod tests;
