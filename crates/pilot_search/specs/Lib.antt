@@ -3,6 +3,7 @@ pub mod Bounds
 pub mod BySigns
 pub mod Found
 pub mod Knowledge
+pub mod Lanes
 pub mod Near
 pub mod Ranked
 pub mod Search

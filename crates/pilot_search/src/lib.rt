@@ -7,6 +7,7 @@
 
 mod correlation;
 mod gate;
+mod lanes;
 pub mod laws;
 mod nearby;
 mod paths;
