@@ -3,7 +3,7 @@ use Rattle.std.proofs.Common.{◌≡◌, ℕ, zero, suc, ◌+◌, ◌*◌, ◌%�
 use Rattle.std.proofs.Math.IntN.{neg_ℤ, +ℤ_assoc}
 use Rattle.std.proofs.Math.Facts.{Fits-of_z}
 use Rattle.std.specs.Int.{int_wrap}
-use Rattle.std.proofs.lemmas.Int.{ints, to_z-of_z, int_wrap_fits, wrapping_add-bits, wrapping_mul_onto, fits_signed_from_abs, fits_signed_mul, unsigned_abs-mul}
+use Rattle.std.proofs.lemmas.Int.{ints, to_z-of_z, int_wrap_fits, wrapping_add-bits, wrapping_mul_onto, fits_signed_from_abs, unsigned_abs-mul}
 use lib.Lanes.{Each1, Each2, zip2}
 use Rattle.std.proofs.lemmas.List.Elements.{All-get_or}
 use Rattle.std.proofs.lemmas.Simd.{Each2-of}

@@ -111,3 +111,6 @@ pub fn energy_at(samples: &[Sample], codes: &Codes, phase: Phase) -> u64
 {
     norm_of(correlation_at(samples, codes, phase))
 }
+
+#[cfg(test)]
+mod tests;

@@ -35,7 +35,8 @@ fn products(samples: &[Sample], signs: &[(i8, i8)], at: usize) -> (i32x8, i32x8)
         samples[at + 6].q,
         samples[at + 7].i,
         samples[at + 7].q,
-    ]).cast::<i32>();
+    ])
+    .cast::<i32>();
     let straight = i8x16::from_array([
         signs[at].0,
         signs[at].1,
@@ -53,7 +54,8 @@ fn products(samples: &[Sample], signs: &[(i8, i8)], at: usize) -> (i32x8, i32x8)
         signs[at + 6].1,
         signs[at + 7].0,
         signs[at + 7].1,
-    ]).cast::<i16>();
+    ])
+    .cast::<i16>();
     let turned = straight.swizzle([1, 0, 3, 2, 5, 4, 7, 6, 9, 8, 11, 10, 13, 12, 15, 14])
         * i16x16::from_array([-1, 1, -1, 1, -1, 1, -1, 1, -1, 1, -1, 1, -1, 1, -1, 1]);
     let real = branches * straight.cast::<i32>();

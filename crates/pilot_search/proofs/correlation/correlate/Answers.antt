@@ -1,4 +1,4 @@
-use Rattle.std.proofs.Common.{◌≡◌, ◌∙◌, arith, ap, List, ℤ}
+use Rattle.std.proofs.Common.{◌∙◌, arith, ap, List, ℤ}
 use Rattle.std.proofs.lemmas.Int.{ints}
 use Rattle.chip_core.specs.Complex.{plus}
 use Rattle.chip_core.specs.declared.sample.Sample.{Sample}

@@ -1,4 +1,4 @@
-use Rattle.pilot_search.proofs.LaneLemmas.{added_lanes, lanes_more, total_more, total_bound, lanes_fit, bounds_more}
+use Rattle.pilot_search.proofs.LaneLemmas.{added_lanes}
 use Rattle.pilot_search.proofs.lanes.added.Goals as goal
 
 pub returns : goal.returns

@@ -1,4 +1,4 @@
-use Rattle.std.proofs.Common.{◌≡◌, ◌<◌, ◌≤◌, ◌+◌, ℕ, [], ◌∷◌, get_or, length, rules, arith, FitsSigned, w16, unsigned_abs}
+use Rattle.std.proofs.Common.{◌≤◌, ◌+◌, [], ◌∷◌, get_or, rules, arith, FitsSigned, w16, unsigned_abs}
 use Rattle.pilot_search.specs.BySigns.{IsUnit}
 use Rattle.pilot_search.proofs.CorrelationSums.{no_sample}
 use Rattle.pilot_search.proofs.LaneLemmas.{no_sign, unit_at, abs_fits, real_product, imaginary_product, real_bound, imaginary_bound}

@@ -1,5 +1,5 @@
-use Rattle.std.proofs.Common.{◌≡◌, ◌<◌, ◌≤◌, ◌+◌, ◌*◌, ◌/◌, ◌∙◌, ℕ, List, ℤ, refl, sym, ap, subst, arith, length, drop, map, unsigned_abs, to_z, of_z, w32, w64}
-use lib.Lanes.{Each1, zip2}
+use Rattle.std.proofs.Common.{◌≡◌, ◌<◌, ◌≤◌, ◌+◌, ◌*◌, ◌/◌, ◌∙◌, ℕ, List, ℤ, refl, sym, ap, subst, arith, length, drop, map, unsigned_abs, to_z, w32}
+use lib.Lanes.{Each1}
 use Rattle.std.proofs.lemmas.List.{length-map}
 use Rattle.chip_core.specs.Complex.{plus}
 use Rattle.chip_core.specs.Sums.{total}

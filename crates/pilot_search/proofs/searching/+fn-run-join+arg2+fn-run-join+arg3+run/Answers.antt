@@ -1,4 +1,4 @@
-use Rattle.std.proofs.Common.{◌≡◌, ◌+◌, ◌-◌, ◌/◌, ◌≤◌, ◌<◌, ℕ, arith, subst, sym, ap}
+use Rattle.std.proofs.Common.{◌≡◌, ◌+◌, ◌-◌, ◌/◌, ◌≤◌, ◌<◌, ℕ, arith, subst, sym}
 use Rattle.std.specs.Prelude.{Option}
 use Rattle.pilot_search.specs.Found.{IsFound, start_of}
 use Rattle.pilot_search.specs.declared.sweeping.Best.{Best}

@@ -1,4 +1,4 @@
-use Rattle.std.proofs.Common.{◌+◌, ◌≤◌, rules, arith, subst, sym}
+use Rattle.std.proofs.Common.{◌+◌, ◌≤◌, arith, subst, sym}
 use Rattle.std.specs.Prelude.{Option}
 use Rattle.pilot_search.specs.Found.{IsFound}
 use Rattle.pilot_search.specs.declared.sweeping.Best.{Best}

@@ -1,5 +1,5 @@
-use Rattle.std.proofs.Common.{rules, arith, max, sym, ap, ◌∙◌}
-use Rattle.pilot_search.proofs.SharedKeeps.{moves, begins}
+use Rattle.std.proofs.Common.{arith, max, sym, ap, ◌∙◌}
+use Rattle.pilot_search.proofs.SharedKeeps.{moves}
 use Rattle.pilot_search.specs.Knowledge.{Knowledge}
 use Rattle.pilot_search.proofs.shared.Shared.fetch_max.Goals as goal
 

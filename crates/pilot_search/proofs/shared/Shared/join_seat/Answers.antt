@@ -1,4 +1,4 @@
-use Rattle.std.proofs.Common.{rules, arith, sym, ap, ◌∙◌}
+use Rattle.std.proofs.Common.{arith, sym, ap, ◌∙◌}
 use Rattle.pilot_search.proofs.SharedKeeps.{joins}
 use Rattle.pilot_search.specs.Knowledge.{Knowledge}
 use Rattle.pilot_search.proofs.shared.Shared.join_seat.Goals as goal

@@ -1,5 +1,5 @@
-use Rattle.std.proofs.Common.{rules, arith, sym, ap, ◌∙◌}
-use Rattle.pilot_search.proofs.SharedKeeps.{splits, joins}
+use Rattle.std.proofs.Common.{arith, sym, ap, ◌∙◌}
+use Rattle.pilot_search.proofs.SharedKeeps.{splits}
 use Rattle.pilot_search.specs.Knowledge.{Knowledge}
 use Rattle.pilot_search.proofs.shared.Shared.split_seat.Goals as goal
 
