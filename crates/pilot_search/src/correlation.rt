@@ -5,6 +5,7 @@ ghost use Rattle.chip_core.specs.Complex.{norm};
 ghost use Rattle.pilot_search.specs.Search.{correlation, energy};
 ghost use Rattle.pilot_search.specs.BySigns.{IsUnit, turned, correlation_with};
 
+use crate::lanes::sums_on_lanes;
 use chip_core::{Pair, Phase, Sample};
 use short_code::Codes;
 
@@ -31,8 +32,8 @@ fn turn(sample: Sample, signs: (i8, i8)) -> Pair
     }
 }
 
-/// The sum of the samples, each times the conjugate of its point of the code.
-fn correlate(samples: &[Sample], signs: &[(i8, i8)]) -> Pair
+/// The sum of the samples, each times the conjugate of its point of the code, one by one.
+fn correlate_plainly(samples: &[Sample], signs: &[(i8, i8)]) -> Pair
     requires few { length samples.now ≤ 32768 }
     requires room { length samples.now ≤ length signs.now }
     requires units { All IsUnit signs.now }
@@ -49,12 +50,32 @@ fn correlate(samples: &[Sample], signs: &[(i8, i8)]) -> Pair
     sum
 }
 
+/// The same sum, on lanes over whole groups of eight samples and one by one over the rest.
+fn correlate(samples: &[Sample], signs: &[(i8, i8)]) -> Pair
+    requires few { length samples.now ≤ 32768 }
+    requires room { length samples.now ≤ length signs.now }
+    requires units { All IsUnit signs.now }
+    ensures value { result ≡ correlation_with samples.now signs.now }
+    ensures i_bound { unsigned_abs result.i ≤ 65536 * length samples.now }
+    ensures q_bound { unsigned_abs result.q ≤ 65536 * length samples.now }
+{
+    let done = 8 * (samples.len() / 8);
+    let (_, rest) = samples.split_at(done);
+    let (_, signs_left) = signs.split_at(done);
+    let groups = sums_on_lanes(samples, signs);
+    let others = correlate_plainly(rest, signs_left);
+    Pair {
+        i: groups.i + others.i,
+        q: groups.q + others.q,
+    }
+}
+
 /// The correlation with the code from the phase on, parted where the code begins again.
-fn correlation_at(samples: &[Sample], codes: &Codes, phase: Phase) -> Pair
+pub(crate) fn correlation_at(samples: &[Sample], codes: &Codes, phase: Phase) -> Pair
     requires { length samples.now ≤ 32768 }
     ensures value { result ≡ correlation samples.now phase }
-    ensures i_bound { unsigned_abs result.i ≤ 2 ^ 31 }
-    ensures q_bound { unsigned_abs result.q ≤ 2 ^ 31 }
+    ensures i_bound { unsigned_abs result.i ≤ 65536 * length samples.now }
+    ensures q_bound { unsigned_abs result.q ≤ 65536 * length samples.now }
 {
     let (_, ahead) = codes.table().split_at(usize::from(phase.get()));
     let (before, after) = samples.split_at(samples.len().min(ahead.len()));
@@ -67,7 +88,7 @@ fn correlation_at(samples: &[Sample], codes: &Codes, phase: Phase) -> Pair
 }
 
 /// The square of a complex number's absolute value.
-fn norm_of(sum: Pair) -> u64
+pub(crate) fn norm_of(sum: Pair) -> u64
     requires i { unsigned_abs sum.i ≤ 2 ^ 31 }
     requires q { unsigned_abs sum.q ≤ 2 ^ 31 }
     ensures value { result ≡ norm sum }
@@ -90,3 +111,6 @@ pub fn energy_at(samples: &[Sample], codes: &Codes, phase: Phase) -> u64
 {
     norm_of(correlation_at(samples, codes, phase))
 }
+
+#[cfg(test)]
+mod tests;

@@ -4,6 +4,7 @@ ghost use Rattle.std.specs.Prelude.{◌≡◌, ◌<◌, ◌≤◌, ℕ, List};
 ghost use Rattle.chip_core.specs.declared.sample.Sample.{Sample};
 ghost use Rattle.pilot_search.specs.Search.{best_phase, energy};
 ghost use Rattle.pilot_search.specs.BestIn.{IsBestIn};
+ghost use Rattle.pilot_search.specs.SearchRun.{FindsBest, BestComesFirst};
 
 /// What is the best of all phases is `best_phase`, with the energy there; and `best_phase` is the best.
 pub fn best_of_all_is_best_phase()
@@ -29,4 +30,15 @@ pub fn best_of_neighbours()
         IsBestIn samples middle to high high_energy →
         low_energy < high_energy →
         IsBestIn samples from to high high_energy }
+{}
+
+/// Whatever steps workers take in whatever order, the answer is the best phase.
+///
+/// A worker evaluates a phase of its range, publishes the energy of a phase that it evaluated, reads the shared value, or
+/// skips a phase of which some bound is below the value that it read. In each run in which the ranges part all phases,
+/// and in which each phase is evaluated or skipped, the best phase is evaluated. And it comes before all others that
+/// are evaluated, by greater energy, then by lesser phase. So it is the first of them, and its energy is theirs.
+pub fn every_run_finds_the_best()
+    ensures evaluated { (samples : List Sample) → FindsBest samples }
+    ensures first { (samples : List Sample) → BestComesFirst samples }
 {}

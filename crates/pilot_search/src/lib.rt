@@ -6,12 +6,26 @@
 #![tactic(auto)]
 
 mod correlation;
+mod gate;
+mod lanes;
 pub mod laws;
 mod nearby;
 mod paths;
+mod rule;
+mod searching;
+mod shared;
+mod steps;
 mod sweeping;
+mod tails;
+mod trying;
+mod view;
 
 pub use correlation::energy_at;
+pub use gate::{Gate, Open};
 pub use nearby::near;
 pub use paths::Near;
+pub use searching::search;
+pub use shared::{BestSeat, Shared};
 pub use sweeping::{Best, sweep};
+pub use tails::Tails;
+pub use trying::try_phase;

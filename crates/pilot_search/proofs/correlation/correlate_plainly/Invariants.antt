@@ -1,7 +1,7 @@
 use Rattle.std.proofs.Common.{◌≡◌, ◌≤◌, ◌*◌, unsigned_abs, drop}
 use Rattle.chip_core.specs.Complex.{plus}
 use Rattle.pilot_search.specs.BySigns.{correlation_with}
-use Rattle.pilot_search.proofs.correlation.correlate.Given as goal
+use Rattle.pilot_search.proofs.correlation.correlate_plainly.Given as goal
 
 abbrev pub invariant-loop-t : goal.invariant-loop-t
 invariant-loop-t l = record {

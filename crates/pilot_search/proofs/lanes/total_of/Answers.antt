@@ -1,0 +1,35 @@
+use Rattle.std.proofs.Common.{◌≡◌, ◌≤◌, ◌<◌, ◌+◌, ◌*◌, ◌^◌, ◌∙◌, List, ℤ, pos, ◌+ℤ◌, arith, ap, sym, subst, length, map, get_or, to_z, of_z, w32, w64, unsigned_abs}
+use Rattle.std.proofs.lemmas.Int.{to_z-of_z, fits_signed_from_abs}
+use Rattle.std.proofs.lemmas.List.{take_all}
+use Rattle.std.proofs.lemmas.Simd.{Each1-get_or}
+use Rattle.chip_core.specs.Sums.{total}
+use Rattle.pilot_search.proofs.LaneLemmas.{total_more, kept_lanes, wide_sum, far_sum}
+use Rattle.pilot_search.proofs.lanes.total_of.Goals as goal
+
+pub loop-lane-preserved : goal.loop-lane-preserved
+loop-lane-preserved c =
+    let inv = c.loop-lane.invariant in
+    let k = c.loop-lane.lane-index in
+    let lanes = c.args.lanes in
+    let items : List ℤ = map (to_z w32) (map (of_z w32) lanes) in
+    let kept : items ≡ lanes = kept_lanes lanes c.requires.fit in
+    let long : length items ≡ 8 = ap (λ (xs : List ℤ). length xs) kept ∙ c.requires.long in
+    let small : unsigned_abs (get_or items k (pos 0)) < 2 ^ 31 =
+    subst (λ (xs : List ℤ). unsigned_abs (get_or xs k (pos 0)) < 2 ^ 31) (sym kept) (Each1-get_or (λ x. unsigned_abs x < 2 ^ 31) lanes k (pos 0) (omega (arith, c.loop-lane-test.true, c.requires.long)) c.requires.fit) in
+    let here : c.from-sum.result ≡ get_or items k (pos 0) = c.from-sum.ensures ∙ to_z-of_z w32 (get_or items k (pos 0)) (fits_signed_from_abs w32 (get_or items k (pos 0)) small) in
+    let added = subst (λ (r : ℤ). unsigned_abs r < 2 ^ 31) (sym here) small in
+    let s = to_z w64 c.loop-lane.sum-bits in
+    let near : unsigned_abs s ≤ 2 ^ 40 = omega (arith, inv.bound, c.loop-lane-test.true) in
+    let sum = wide_sum s c.from-sum.result near added in
+    record {
+      sum = sum ∙ ap (λ (z : ℤ). s +ℤ z) here ∙ ap (λ (z : ℤ). z +ℤ get_or items k (pos 0)) inv.sum ∙ sym (total_more items k (omega (arith, c.loop-lane-test.true, long)));
+      bound = subst (λ (z : ℤ). unsigned_abs z ≤ 2147483648 * (k + 1)) (sym sum) (far_sum s c.from-sum.result (2147483648 * k) (2147483648 * (k + 1)) inv.bound added (omega arith));
+    }
+
+pub returns : goal.returns
+returns c =
+    let lanes = c.args.lanes in
+    let items : List ℤ = map (to_z w32) (map (of_z w32) lanes) in
+    let kept : items ≡ lanes = kept_lanes lanes c.requires.fit in
+    let long : length items ≡ 8 = ap (λ (xs : List ℤ). length xs) kept ∙ c.requires.long in
+    c.loop-lane.invariant.sum ∙ ap total (take_all c.loop-lane.lane-index items (omega (arith, long, c.loop-lane-test.false))) ∙ ap total kept

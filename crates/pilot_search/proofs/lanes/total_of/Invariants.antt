@@ -1,0 +1,9 @@
+use Rattle.std.proofs.Common.{◌≡◌, ◌≤◌, ◌*◌, take, unsigned_abs}
+use Rattle.chip_core.specs.Sums.{total}
+use Rattle.pilot_search.proofs.lanes.total_of.Given as goal
+
+abbrev pub invariant-loop-lane : goal.invariant-loop-lane
+invariant-loop-lane l = record {
+  sum : l.sum ≡ total (take l.lane-index l.lane-items);
+  bound : unsigned_abs l.sum ≤ 2147483648 * l.lane-index;
+}

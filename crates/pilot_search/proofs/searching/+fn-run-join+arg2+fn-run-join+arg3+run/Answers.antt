@@ -1,0 +1,22 @@
+use Rattle.std.proofs.Common.{◌≡◌, ◌+◌, ◌-◌, ◌/◌, ◌≤◌, ◌<◌, ℕ, arith, subst, sym}
+use Rattle.std.specs.Prelude.{Option}
+use Rattle.pilot_search.specs.Found.{IsFound, start_of}
+use Rattle.pilot_search.specs.declared.sweeping.Best.{Best}
+use Rattle.pilot_search.proofs.FoundLemmas.{both_found, start_up, start_most}
+use Rattle.pilot_search.proofs.searching.+fn-run-join+arg2+fn-run-join+arg3+run.Goals as goal
+
+pub returns-clause-found : goal.returns-clause-found
+returns-clause-found g t c =
+    let few : ℕ = c.args.count / 2 in
+    let middle : ℕ = c.args.first + few in
+    let end : ℕ = c.args.first + c.args.count in
+    let some : 0 < c.args.workers = omega arith in
+    let low : c.args.first ≤ middle = omega arith in
+    let high : middle ≤ end = omega arith in
+    let most : end ≤ c.args.workers = omega arith in
+    let all : middle + (c.args.count - few) ≡ end = omega arith in
+    let right = subst (λ (n : ℕ). IsFound c.args.samples.now (start_of middle c.args.workers) (start_of n c.args.workers) c.join-left.result.1.0) all c.join-left.ensures.second.0 in
+    let both = both_found c.args.samples.now (start_of c.args.first c.args.workers) (start_of middle c.args.workers) (start_of end c.args.workers) c.join-left.result.0.0 c.join-left.result.1.0
+    (start_up c.args.first middle c.args.workers some low) (start_up middle end c.args.workers some high) (start_most end c.args.workers some most)
+    c.join-left.ensures.first.0 right in
+    subst (λ (o : Option Best). IsFound c.args.samples.now (start_of c.args.first c.args.workers) (start_of end c.args.workers) o) (sym c.better.ensures) both

@@ -1,0 +1,34 @@
+-- How great the energy of a phase can still become, after some of the samples.
+use Rattle.std.specs.Prelude.{◌≡◌, ◌<◌, ◌≤◌, ℕ, ◌+◌, ◌*◌, List, [], ◌∷◌, length, take, drop, unsigned_abs, slice_index}
+use Rattle.chip_core.specs.declared.sample.Sample.{Sample}
+use Rattle.pilot_search.specs.Search.{correlation, energy, best_phase}
+
+-- the greatest energy of any phase
+abbrev pub greatest : List Sample → ℕ
+greatest samples = energy samples (best_phase samples)
+
+-- what a sum of samples can gain at most, in either part
+abbrev pub magnitudes : List Sample → ℕ
+magnitudes [] = 0
+magnitudes (s ∷ samples) = unsigned_abs s.i + unsigned_abs s.q + magnitudes samples
+
+abbrev pub square_of : ℕ → ℕ
+square_of x = x * x
+
+-- no more than this can the energy become, whatever the samples behind the first `done` add
+abbrev pub bound : List Sample → ℕ → ℕ → ℕ
+bound samples phase done =
+    let partial = correlation (take done samples) phase in
+    let left = magnitudes (drop done samples) in
+    square_of (unsigned_abs partial.i + left) + square_of (unsigned_abs partial.q + left)
+
+-- after some whole chunks of 64 samples, with samples left, the bound is below the limit
+abbrev pub HasBoundBelow : List Sample → ℕ → ℕ → Type 0
+HasBoundBelow samples phase limit = (j : ℕ) × (64 * j < length samples) × (bound samples phase (64 * j) < limit)
+
+abbrev pub HasNoBoundBelow : List Sample → ℕ → ℕ → Type 0
+HasNoBoundBelow samples phase limit = (j : ℕ) → 64 * j < length samples → limit ≤ bound samples phase (64 * j)
+
+-- the magnitudes of the samples from every 64th on
+abbrev pub AreTails : List Sample → List ℕ → Type 0
+AreTails samples tails = (j : ℕ) → j < 512 → slice_index tails j ≡ magnitudes (drop (64 * j) samples)
