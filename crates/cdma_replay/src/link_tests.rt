@@ -18,6 +18,11 @@ const LATER_CELL: &str = "cell pn=511 time=1000 lc=20000000000 checks=0\n\
                           link re=0 im=-3 start=102400 samples=1228800\n\
                           pilot gain=100\n";
 
+/// The beginning of the first, with one message.
+const SHORTER_CELL: &str = "cell pn=511 time=1000 lc=20000000000 checks=0\n\
+                            link re=0 im=-3 start=0 samples=294848\n\
+                            pilot gain=100\n";
+
 /// Its sync channel.
 const SYNC: &str = "sync gain=30 prev=3 min=1 sid=1 nid=2 lp=13 ltm=0 daylt=0 prat=0 rest=3:00\n";
 
@@ -66,6 +71,18 @@ fn a_second_of_sync_comes_back(rt: HostRuntime) -> Result<(), Fail> {
         sync at=589760 prev=3 min=1 sid=1 nid=2 pn=511 lc=007dff18942 time=1010 lp=13 ltm=0 daylt=0 prat=0 rest=3:00\n\
         sync at=884672 prev=3 min=1 sid=1 nid=2 pn=511 lc=3c75269709e time=1013 lp=13 ltm=0 daylt=0 prat=0 rest=3:00\n\
         sync at=1179584 prev=3 min=1 sid=1 nid=2 pn=511 lc=3a49dd8f037 time=1016 lp=13 ltm=0 daylt=0 prat=0 rest=3:00\n";
+    let (status, text) = run(alloc, "follow", file.as_slice(), 65536)?;
+    assert_eq!(rt; status, Status::Done);
+    assert_eq!(rt; text.as_slice(), lines.as_bytes());
+    Ok(())
+}
+
+#[test]
+fn seven_bytes_a_call_change_nothing(rt: HostRuntime) -> Result<(), Fail> {
+    let alloc = rt.alloc();
+    let file = made(alloc, SHORTER_CELL, SYNC)?;
+    let lines = "pilot phase=64 energy=1509949440000\n\
+        sync at=294848 prev=3 min=1 sid=1 nid=2 pn=511 lc=102a1d2e508 time=1007 lp=13 ltm=0 daylt=0 prat=0 rest=3:00\n";
     for piece in [65536, 7] {
         let (status, text) = run(alloc, "follow", file.as_slice(), piece)?;
         assert_eq!(rt; status, Status::Done);
