@@ -120,13 +120,17 @@ fn refuses_an_empty_script(rt: HostRuntime) -> Result<(), Fail> {
     Ok(())
 }
 
+/// A text of one letter, again and again.
+fn letters(alloc: Global, count: usize) -> Result<Vec<u8>, Fail> {
+    Ok(vec![in alloc; b'x'; count]?)
+}
+
 #[test]
 fn refuses_a_script_that_is_too_big(rt: HostRuntime) -> Result<(), Fail> {
     let alloc = rt.alloc();
-    let bytes = vec![in alloc; b'x'; 1_048_577]?;
-    let (status, _) = made(alloc, &bytes[..1_048_576], Width::Sixteen)?;
+    let (status, _) = made(alloc, letters(alloc, 1_048_576)?.as_slice(), Width::Sixteen)?;
     assert_eq!(rt; status, Status::BadScript(ScriptFault::Line { n: 1 }));
-    let (status, file) = made(alloc, &bytes, Width::Sixteen)?;
+    let (status, file) = made(alloc, letters(alloc, 1_048_577)?.as_slice(), Width::Sixteen)?;
     assert_eq!(rt; status, Status::BadScript(ScriptFault::TooBig));
     assert_eq!(rt; file.len(), 0);
     Ok(())
