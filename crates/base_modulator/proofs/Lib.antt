@@ -1,3 +1,5 @@
+pub mod NamedPlans
+pub mod ScriptBounds
 pub mod ScriptLaws
 pub mod ScriptMessages
 pub mod ScriptNumerals

@@ -8,5 +8,6 @@ pub mod Transmitter
 mod Worked
 pub mod ScriptLines
 pub mod ScriptPlans
+pub mod ScriptStages
 pub mod ScriptValues
 mod ScriptWorked

@@ -1,11 +1,14 @@
 //! Laws of the definitions: each function does nothing, and its contract is the law.
 
-ghost use Rattle.std.specs.Prelude.{◌≡◌, ◌≢◌, ◌↔◌, ◌≤◌, ◌<◌, ◌+◌, ◌^◌, ℕ, ℤ, List, length, take, Some, Err, IsOk, FitsSigned, decimal};
+ghost use Rattle.std.specs.Prelude.{◌≡◌, ◌≢◌, ◌↔◌, ◌≤◌, ◌<◌, ◌+◌, ◌^◌, ℕ, ℤ, List, length, take, Some, Ok, Err, IsOk, FitsSigned, decimal};
 ghost use Rattle.std.specs.Fmt.{signed_decimal};
 ghost use Rattle.std.specs.Int.{w16};
 ghost use Rattle.cdma_io.specs.declared.width.Width.{Width as TheWidth};
+ghost use Rattle.chip_core.specs.Complex.{norm};
+ghost use Rattle.base_modulator.specs.Plan.{IsLawfulPlan};
 ghost use Rattle.base_modulator.specs.Script.{lines, plan_named, stated_plan};
 ghost use Rattle.base_modulator.specs.ScriptValues.{number_up_to, signed_in};
+ghost use Rattle.base_modulator.specs.declared.plan.CellPlan.{CellPlan};
 ghost use Rattle.base_modulator.specs.declared.script_fault.ScriptFault.TheVariants.{Line};
 
 /// `Line { n }` is the least number n, counted from 1, such that no script whose lines state a plan begins with lines 1 to
@@ -32,4 +35,10 @@ pub fn line_faults_come_first()
 pub fn numbers_have_one_spelling()
     ensures signed { (z : ℤ) (text : List ℕ) → (signed_in text ≡ Some z) ↔ ((text ≡ signed_decimal z) × FitsSigned w16 z) }
     ensures unsigned { (most n : ℕ) (text : List ℕ) → most < 2 ^ 64 → (number_up_to most text ≡ Some n) ↔ ((text ≡ decimal n) × (n ≤ most)) }
+{}
+
+/// The plan that a script names is lawful, and its link isn't 0.
+pub fn named_plan_is_lawful()
+    ensures { (width : TheWidth) (script : List ℕ) (plan : CellPlan) → plan_named width script ≡ Ok plan →
+        IsLawfulPlan width plan × (0 < norm plan.link) }
 {}
