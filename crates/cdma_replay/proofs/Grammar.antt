@@ -68,13 +68,14 @@ refused-all (word ∷ text ∷ words) = alike (is_joined word) (refused-all (tex
 
 -- a word that holds no option and text chooses nothing
 not-joined : (choices : Choices) (word : List ℕ) → is_joined word ≡ false → with_joined choices word ≡ None
-not-joined choices word not = by_tests (begins_with word (codes "--span=")) (begins_with word (codes "--fingers=")) (begins_with word (codes "--bits=")) _ _ _ not
+not-joined choices word not = by_tests (begins_with word (codes "--span=")) (begins_with word (codes "--workers=")) (begins_with word (codes "--fingers=")) (begins_with word (codes "--bits=")) _ _ _ _ not
   where
-    by_tests : (a b c : Bool) (x y z : Option Choices) → cond a true (cond b true c) ≡ false → cond a x (cond b y (cond c z None)) ≡ None
-    by_tests true b c x y z is = absurd (false≢true (sym is))
-    by_tests false true c x y z is = absurd (false≢true (sym is))
-    by_tests false false true x y z is = absurd (false≢true (sym is))
-    by_tests false false false x y z is = refl
+    by_tests : (a b c d : Bool) (w x y z : Option Choices) → cond a true (cond b true (cond c true d)) ≡ false → cond a w (cond b x (cond c y (cond d z None))) ≡ None
+    by_tests true b c d w x y z is = absurd (false≢true (sym is))
+    by_tests false true c d w x y z is = absurd (false≢true (sym is))
+    by_tests false false true d w x y z is = absurd (false≢true (sym is))
+    by_tests false false false true w x y z is = absurd (false≢true (sym is))
+    by_tests false false false false w x y z is = refl
 
 -- a word is an option and its text
 joined-first : (choices : Choices) (word : List ℕ) (words : List (List ℕ)) → is_joined word ≡ true →

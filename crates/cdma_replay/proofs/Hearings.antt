@@ -1,5 +1,5 @@
 -- Lemmas on a handset whose events are told to a sink.
-use Rattle.std.proofs.Common.{◌≡◌, ℕ, zero, suc, ◌+◌, ◌-◌, ◌≤◌, ◌<◌, ◌++◌, ◌∷◌, [], List, length, take, drop, refl, sym, ap, ◌∙◌, subst, arith, append_assoc, append-nil, length-append, length-take-le, All, IfSome, Bool, true, is_some, ℤ, pos, replicate, Option, None, Some, Result, Ok, Err, OnOk, OnErr}
+use Rattle.std.proofs.Common.{◌≡◌, ℕ, zero, suc, ◌+◌, ◌-◌, ◌≤◌, ◌++◌, ◌∷◌, [], List, length, take, drop, refl, sym, ap, ◌∙◌, subst, arith, append_assoc, append-nil, length-append, length-take-le, All, IfSome, Bool, true, is_some, ℤ, pos, replicate, Option, None, Some, Result, Ok, Err, OnOk}
 use Rattle.std.proofs.lemmas.List.{length-replicate, take_all, take_at, take-append-drop}
 use Rattle.std.proofs.lemmas.List.Concat.{flat_map-append}
 use Rattle.std.specs.List.{flat_map, range_with_len}
@@ -25,7 +25,6 @@ use Rattle.event_tap.specs.Lines.{event_line, text_of}
 use Rattle.cdma_replay.specs.declared.status.Status.{Status}
 use Rattle.cdma_replay.specs.declared.status.Status.TheVariants.{Done, NoSync, BadWords, BadFile, ReadFault, WriteFault, NoMemory, BadScript}
 use Rattle.cdma_replay.specs.Find.{IsEnd, IsFault}
-use Rattle.mobile_core.specs.Given.{listed}
 use Rattle.mobile_core.specs.Marks.{mark}
 use Rattle.mobile_core.proofs.Growth.{events_at_sync, sync_events_sooner}
 use Rattle.cdma_io.specs.declared.header.Header.{Header}
@@ -246,10 +245,6 @@ none_given header first (Some fingers) phase near = absurd near
 pub on_ok : {T E : Type 0} (r : Result T E) (P Q : Type 0) → (P → Q) → OnOk r P → OnOk r Q
 on_ok (Ok x) P Q f is = f is
 on_ok (Err e) P Q f is = is
-
-pub on_err : {T E : Type 0} (r : Result T E) (P Q : Type 0) → (P → Q) → OnErr r P → OnErr r Q
-on_err (Ok x) P Q f is = is
-on_err (Err e) P Q f is = f is
 
 pub room_some : (handset : Option Mobile) (mobile : Mobile) (n : ℕ) → handset ≡ Some mobile → HasRoomFor handset n → n ≤ has_room mobile
 room_some handset mobile n is room = subst (λ (h : Option Mobile). HasRoomFor h n) is room

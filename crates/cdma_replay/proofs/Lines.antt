@@ -1,5 +1,5 @@
 -- Lemmas on the text that is written, and on the file whose beginning it tells of.
-use Rattle.std.proofs.Common.{◌≡◌, ℕ, ◌+◌, ◌≤◌, ◌++◌, List, [], length, take, drop, refl, sym, ap, ◌∙◌, subst, arith, inl, inr, append_assoc, append-nil, length-append, All, Option, None, Some, IfSome}
+use Rattle.std.proofs.Common.{◌≡◌, ℕ, ◌+◌, ◌++◌, List, [], length, take, drop, refl, sym, ap, ◌∙◌, subst, arith, inl, inr, append_assoc, append-nil, length-append, All, Option, None, Some, IfSome}
 use Rattle.std.proofs.lemmas.List.{take-append-drop, take_at}
 use Rattle.std.proofs.lemmas.List.Concat.{flat_map-append}
 use Rattle.std.proofs.lemmas.List.Elements.{All-append}
@@ -14,12 +14,11 @@ use Rattle.cdma_io.specs.SampleFile.{HasBits, IsLawfulHeader, header_spelling, s
 use Rattle.pilot_search.specs.BestIn.{IsBestIn}
 use Rattle.pilot_search.specs.Search.{best_phase}
 use Rattle.pilot_search.proofs.BestPhase.{best_phase-only, best_energy-only}
-use Rattle.mobile_core.specs.Tuning.{Tuning}
 use Rattle.mobile_core.specs.declared.mobile.Mobile.{Mobile}
 use Rattle.event_tap.specs.Lines.{pilot_line, text_of}
 use Rattle.cdma_replay.specs.declared.receiving.Reception.{Reception}
 use Rattle.cdma_replay.specs.declared.status.Status.{Status}
-use Rattle.cdma_replay.specs.Find.{BeginsText, WritesNoMore, WritesText}
+use Rattle.cdma_replay.specs.Find.{WritesNoMore, WritesText}
 use Rattle.cdma_replay.specs.Hearing.{HearsPart, HearsRest, Tells, TellsPart, best_line, end_when, events_in, file_end_of, file_text, is_told, tuning_of}
 
 -- the line of what a sweep over all phases found

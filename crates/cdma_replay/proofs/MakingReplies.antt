@@ -1,5 +1,5 @@
 -- Lemmas on the answers of a run of `make`.
-use Rattle.std.proofs.Common.{◌≡◌, ◌≢◌, ℕ, ◌++◌, ◌⊎◌, inl, inr, List, refl, sym, ap, ◌∙◌, Option, None, Some, IfSome, IsOk, Ok, Err, subst}
+use Rattle.std.proofs.Common.{◌≡◌, ◌≢◌, ℕ, ◌++◌, ◌⊎◌, inl, inr, List, refl, ap, ◌∙◌, Option, None, Some, IfSome, IsOk, Ok, Err, subst}
 use Rattle.cdma_io.specs.declared.file_fault.FileFault.{FileFault}
 use Rattle.cdma_io.specs.declared.width.Width.{Width}
 use Rattle.base_modulator.specs.declared.plan.CellPlan.{CellPlan}

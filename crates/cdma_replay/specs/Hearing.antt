@@ -1,5 +1,5 @@
 -- What is written of a sample file, and what a handset tells on the way.
-use Rattle.std.specs.Prelude.{◌≡◌, ℕ, ◌+◌, ◌-◌, ◌≤◌, replicate, pos, slice_get, Bool, true, if◌then◌else◌, List, [], ◌++◌, length, take, All, Option, None, Some, IfSome, is_some}
+use Rattle.std.specs.Prelude.{◌≡◌, ℕ, ◌-◌, ◌≤◌, replicate, pos, slice_get, Bool, true, if◌then◌else◌, List, [], ◌++◌, length, take, All, Option, None, Some, IfSome, is_some}
 use Rattle.std.specs.List.{flat_map}
 use Rattle.std.specs.Io.{StartsWith}
 use Rattle.std.specs.Io.KnownBytes.{Appends, Consumes}

@@ -5,8 +5,10 @@ ghost use Rattle.std.specs.Prelude.{◌≤◌};
 use crate::{Status, replay};
 use base_modulator::ScriptFault;
 use cdma_io::{MemorySink, MemorySource};
+use pilot_search::Open;
 use std::alloc::Global;
 use std::test::Fail;
+use std::thread::Threads;
 
 /// The cell of the long runs: a second from its local chip 0 on.
 const CELL: &str = "cell pn=511 time=1000 lc=20000000000 checks=0\n\
@@ -32,16 +34,22 @@ const SHORT_CELL: &str = "cell pn=0 time=1000 lc=20000000000 checks=0\n\
                           pilot gain=100\n";
 
 /// How a run of a command line over an input ends, from a source of so many bytes a call, and what it writes.
-fn run(alloc: Global, line: &str, input: &[u8], piece: usize) -> Result<(Status, Vec<u8>), Fail>
+fn run<R: AllocGlobal + Threads + Sync>(
+    rt: &R,
+    line: &str,
+    input: &[u8],
+    piece: usize,
+) -> Result<(Status, Vec<u8>), Fail>
     requires { 1 ≤ piece }
 {
+    let alloc = rt.alloc();
     let mut words = Vec::new(alloc);
     for word in line.split_whitespace() {
         words.push(String::from_str(alloc, word)?)?;
     }
     let mut source = MemorySource::new(Vec::from_slice(alloc, input)?, piece, Vec::new(alloc));
     let mut sink = MemorySink::new(alloc, 5_000_000, 65536, Vec::new(alloc))?;
-    let status = replay(alloc, words.as_slice(), &mut source, &mut sink);
+    let status = replay(rt, alloc, words.as_slice(), &mut source, &mut sink, &Open);
     Ok((status, Vec::from_slice(alloc, sink.bytes())?))
 }
 
@@ -53,9 +61,9 @@ fn script_of(alloc: Global, cell: &str, sync: &str) -> Result<Vec<u8>, Fail> {
 }
 
 /// The file of a lawful script.
-fn made(alloc: Global, cell: &str, sync: &str) -> Result<Vec<u8>, Fail> {
-    let script = script_of(alloc, cell, sync)?;
-    let (status, file) = run(alloc, "make", script.as_slice(), 65536)?;
+fn made<R: AllocGlobal + Threads + Sync>(rt: &R, cell: &str, sync: &str) -> Result<Vec<u8>, Fail> {
+    let script = script_of(rt.alloc(), cell, sync)?;
+    let (status, file) = run(rt, "make", script.as_slice(), 65536)?;
     if status != Status::Done {
         return Err(Fail::from("the script isn't lawful"));
     }
@@ -64,14 +72,13 @@ fn made(alloc: Global, cell: &str, sync: &str) -> Result<Vec<u8>, Fail> {
 
 #[test]
 fn a_second_of_sync_comes_back(rt: HostRuntime) -> Result<(), Fail> {
-    let alloc = rt.alloc();
-    let file = made(alloc, CELL, SYNC)?;
+    let file = made(&rt, CELL, SYNC)?;
     let lines = "pilot phase=64 energy=1509949440000\n\
         sync at=294848 prev=3 min=1 sid=1 nid=2 pn=511 lc=102a1d2e508 time=1007 lp=13 ltm=0 daylt=0 prat=0 rest=3:00\n\
         sync at=589760 prev=3 min=1 sid=1 nid=2 pn=511 lc=007dff18942 time=1010 lp=13 ltm=0 daylt=0 prat=0 rest=3:00\n\
         sync at=884672 prev=3 min=1 sid=1 nid=2 pn=511 lc=3c75269709e time=1013 lp=13 ltm=0 daylt=0 prat=0 rest=3:00\n\
         sync at=1179584 prev=3 min=1 sid=1 nid=2 pn=511 lc=3a49dd8f037 time=1016 lp=13 ltm=0 daylt=0 prat=0 rest=3:00\n";
-    let (status, text) = run(alloc, "follow", file.as_slice(), 65536)?;
+    let (status, text) = run(&rt, "follow", file.as_slice(), 65536)?;
     assert_eq!(rt; status, Status::Done);
     assert_eq!(rt; text.as_slice(), lines.as_bytes());
     Ok(())
@@ -79,12 +86,11 @@ fn a_second_of_sync_comes_back(rt: HostRuntime) -> Result<(), Fail> {
 
 #[test]
 fn seven_bytes_a_call_change_nothing(rt: HostRuntime) -> Result<(), Fail> {
-    let alloc = rt.alloc();
-    let file = made(alloc, SHORTER_CELL, SYNC)?;
+    let file = made(&rt, SHORTER_CELL, SYNC)?;
     let lines = "pilot phase=64 energy=1509949440000\n\
         sync at=294848 prev=3 min=1 sid=1 nid=2 pn=511 lc=102a1d2e508 time=1007 lp=13 ltm=0 daylt=0 prat=0 rest=3:00\n";
     for piece in [65536, 7] {
-        let (status, text) = run(alloc, "follow", file.as_slice(), piece)?;
+        let (status, text) = run(&rt, "follow", file.as_slice(), piece)?;
         assert_eq!(rt; status, Status::Done);
         assert_eq!(rt; text.as_slice(), lines.as_bytes());
     }
@@ -94,9 +100,9 @@ fn seven_bytes_a_call_change_nothing(rt: HostRuntime) -> Result<(), Fail> {
 #[test]
 fn three_fingers_hear_it_four_samples_later(rt: HostRuntime) -> Result<(), Fail> {
     let alloc = rt.alloc();
-    let file = made(alloc, CELL, SYNC)?;
+    let file = made(&rt, CELL, SYNC)?;
     let (status, text) = run(
-        alloc,
+        &rt,
         "follow --span=2048 --fingers 3",
         file.as_slice(),
         65536,
@@ -115,9 +121,8 @@ fn three_fingers_hear_it_four_samples_later(rt: HostRuntime) -> Result<(), Fail>
 
 #[test]
 fn a_message_under_way_is_not_shown(rt: HostRuntime) -> Result<(), Fail> {
-    let alloc = rt.alloc();
-    let file = made(alloc, LATER_CELL, SYNC)?;
-    let (status, text) = run(alloc, "follow --fingers=1", file.as_slice(), 65536)?;
+    let file = made(&rt, LATER_CELL, SYNC)?;
+    let (status, text) = run(&rt, "follow --fingers=1", file.as_slice(), 65536)?;
     assert_eq!(rt; status, Status::Done);
     let start =
         "pilot phase=4160 energy=1509949440000\nsync at=487360 prev=3 min=1 sid=1 nid=2 pn=511 lc=";
@@ -133,8 +138,8 @@ fn a_message_under_way_is_not_shown(rt: HostRuntime) -> Result<(), Fail> {
 #[test]
 fn without_sync_there_is_no_message(rt: HostRuntime) -> Result<(), Fail> {
     let alloc = rt.alloc();
-    let file = made(alloc, CELL, "")?;
-    let (status, text) = run(alloc, "follow", file.as_slice(), 65536)?;
+    let file = made(&rt, CELL, "")?;
+    let (status, text) = run(&rt, "follow", file.as_slice(), 65536)?;
     assert_eq!(rt; status, Status::NoSync);
     assert_eq!(rt; status.code(), 1);
     assert_eq!(rt;
@@ -149,7 +154,7 @@ fn without_sync_there_is_no_message(rt: HostRuntime) -> Result<(), Fail> {
     for _n in 0..2048 {
         zeros.extend_from_slice(&[0; 4])?;
     }
-    let (status, text) = run(alloc, "follow", zeros.as_slice(), 65536)?;
+    let (status, text) = run(&rt, "follow", zeros.as_slice(), 65536)?;
     assert_eq!(rt; status, Status::NoSync);
     assert_eq!(rt; text.as_slice(), b"pilot phase=0 energy=0\n".as_slice());
     Ok(())
@@ -165,7 +170,7 @@ fn makes_the_first_sample(rt: HostRuntime) -> Result<(), Fail> {
     ] {
         let script = script_of(alloc, SHORT_CELL, sync)?;
         for line in ["make", "make --bits=16", "make --bits 016"] {
-            let (status, file) = run(alloc, line, script.as_slice(), 65536)?;
+            let (status, file) = run(&rt, line, script.as_slice(), 65536)?;
             assert_eq!(rt; status, Status::Done, "{line}");
             assert_eq!(rt; file.len(), 20);
             assert!(rt; file.as_slice().starts_with(header));
@@ -179,13 +184,13 @@ fn makes_the_first_sample(rt: HostRuntime) -> Result<(), Fail> {
 fn makes_nothing_of_a_faulty_script(rt: HostRuntime) -> Result<(), Fail> {
     let alloc = rt.alloc();
     let script = script_of(alloc, SHORT_CELL, SYNC)?;
-    let (status, file) = run(alloc, "make --bits 8", script.as_slice(), 65536)?;
+    let (status, file) = run(&rt, "make --bits 8", script.as_slice(), 65536)?;
     assert_eq!(rt;
         status,
         Status::BadScript(ScriptFault::TooLoud { sum: 390 })
     );
     assert!(rt; file.is_empty());
-    let (status, file) = run(alloc, "make", b"", 65536)?;
+    let (status, file) = run(&rt, "make", b"", 65536)?;
     assert_eq!(rt; status, Status::BadScript(ScriptFault::Line { n: 1 }));
     assert_eq!(rt; status.code(), 8);
     assert!(rt; file.is_empty());

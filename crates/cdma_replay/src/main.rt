@@ -13,12 +13,16 @@ mod status;
 #[cfg(test)]
 mod tests;
 mod words;
+#[cfg(test)]
+mod worker_tests;
 
 use cdma_io::{ReaderSource, WriterSink};
+use pilot_search::Open;
 pub use replaying::replay;
 pub use status::Status;
 use std::process::ExitCode;
 use std::rt::Env;
+use std::thread::Threads;
 use std::{env, io};
 
 /// How a run ends that isn't given its words.
@@ -39,14 +43,21 @@ fn words_of_process<R: Env + AllocGlobal>(rt: &R) -> Result<Vec<String>, Status>
 }
 
 /// Runs the command that the process was given, over its standard streams.
-fn run<R: Env + Input + Print + AllocGlobal>(rt: &R) -> Status {
+fn run<R: Env + Input + Print + AllocGlobal + Threads + Sync>(rt: &R) -> Status {
     let words = match words_of_process(rt) {
         Ok(words) => words,
         Err(status) => return status,
     };
     let mut source = ReaderSource::new(rt.reader());
     let mut sink = WriterSink::new(io::writer(rt));
-    let status = replay(rt.alloc(), words.as_slice(), &mut source, &mut sink);
+    let status = replay(
+        rt,
+        rt.alloc(),
+        words.as_slice(),
+        &mut source,
+        &mut sink,
+        &Open,
+    );
     match sink.flush() {
         Err(_) if status == Status::Done || status == Status::NoSync => Status::WriteFault,
         _ => status,

@@ -12,7 +12,7 @@ ghost use Rattle.mobile_core.specs.Tuning.{Tuning};
 ghost use Rattle.mobile_core.specs.Standing.{StandsFor, has_room};
 ghost use Rattle.mobile_core.specs.declared.event.Event.{Event as TheEvent};
 ghost use Rattle.event_tap.specs.Lines.{pilot_line};
-ghost use Rattle.cdma_replay.specs.Words.{IsFingers};
+ghost use Rattle.cdma_replay.specs.Words.{IsFingers, IsWorkers};
 ghost use Rattle.cdma_replay.specs.Hearing.{AreNearTo, AreReady, HasGiven, HasRoom, HasRoomFor, HearsPart, HearsRest, Tells, TellsPart, best_line, end_when, events_in, is_told, tuning_of};
 ghost use Rattle.cdma_replay.specs.Find.{IsEnd, IsFault, IsFaultIn, IsOfFiles, IsHeaderFault, IsRestFault, IsSearchable, WritesNoMore, WritesText, ended};
 
@@ -21,23 +21,23 @@ use cdma_io::{Failed, FileFault, Header, SampleReader, Sink, Source};
 use chip_core::{OutOfMemory, Sample};
 use event_tap::write_event;
 use mobile_core::{Event, Mobile, Settings};
-use pilot_search::{Best, Near, near, sweep};
+use pilot_search::{Best, Gate, Near, near, search};
 use short_code::Codes;
 use std::alloc::Global;
+use std::thread::Threads;
 
 /// How many samples are read at once behind the first ones, at most.
 const PIECE: usize = 4096;
-
-/// How many phases there are.
-const PHASES: u16 = 32768;
 
 /// How a sample file is received.
 #[derive(Clone, Copy, PartialEq, Eq, Debug)]
 pub struct Reception {
     /// In how many of the first samples the pilot is searched, 64 to 32,768.
     pub span: u16,
+    /// How many workers search, 1 to 64. What is found doesn't depend on it.
+    pub workers: u8,
     /// Over how many fingers a handset follows the signal, 1 to 3; `None` where only the pilot is wanted.
-    pub fingers: Option<u16>,
+    pub fingers: Option<u8>,
 }
 
 /// The buffers of a run.
@@ -88,7 +88,7 @@ fn open_span<S: Source>(source: &mut S, span: &mut [Sample]) -> Result<SampleRea
 }
 
 /// The paths near the best phase of samples, where there are fingers.
-fn near_for(codes: &Codes, first: &[Sample], best: Best, fingers: Option<u16>) -> Option<Near>
+fn near_for(codes: &Codes, first: &[Sample], best: Best, fingers: Option<u8>) -> Option<Near>
     requires few { length first.now ≤ 32768 }
     requires best { IsBestIn first.now 0 32768 best.phase best.energy }
     requires fingers { IfSome fingers IsFingers }
@@ -96,7 +96,7 @@ fn near_for(codes: &Codes, first: &[Sample], best: Best, fingers: Option<u16>) -
     ensures ready { AreReady result }
 {
     let fingers = fingers?;
-    Some(near(first, codes, best, fingers as u8))
+    Some(near(first, codes, best, fingers))
 }
 
 /// A handset for a file of this header, where there are fingers. It has a table of the codes of its own.
@@ -241,7 +241,8 @@ fn end_when(told: bool) -> Result<(), Status>
 
 /// Reads the file's first samples into `span`, searches the pilot in them and writes its line, and then
 /// reads on to the end of the file by way of `piece`; where there are fingers, a handset hears all samples.
-fn receive_file<S: Source, K: Sink>(
+fn receive_file<R: Threads + Sync, S: Source, K: Sink, G: Gate + Sync>(
+    rt: &R,
     alloc: Global,
     reception: Reception,
     codes: &Codes,
@@ -249,8 +250,10 @@ fn receive_file<S: Source, K: Sink>(
     piece: &mut [Sample],
     source: &mut S,
     sink: &mut K,
+    gate: &G,
 ) -> Result<(), Status>
     requires span { (length span.old ≡ reception.span) × (reception.span ≤ 32768) }
+    requires workers { IsWorkers reception.workers }
     requires fingers { IfSome reception.fingers IsFingers }
     requires piece { 0 < length piece.old }
     ensures done { IsEnd (ended result) → IfSome (S.rest source.old) (λ bytes.
@@ -272,7 +275,7 @@ fn receive_file<S: Source, K: Sink>(
     ensures later_sink { K.faults sink.old ≤ K.faults sink.new }
 {
     let mut reader = open_span(source, span)?;
-    let best = sweep(span, codes, 0, PHASES);
+    let best = search(rt, alloc, span, codes, reception.workers, gate)?;
     let near = near_for(codes, span, best, reception.fingers);
     let mut handset = handset_for(alloc, reader.header(), best, near)?;
     match write_pilot(sink, &best) {
@@ -291,13 +294,16 @@ fn receive_file<S: Source, K: Sink>(
 /// the file; where there are fingers, a handset hears all samples, and the line of each event is written.
 ///
 /// All memory is taken before the first line is written.
-pub fn receive<S: Source, K: Sink>(
+pub fn receive<R: Threads + Sync, S: Source, K: Sink, G: Gate + Sync>(
+    rt: &R,
     alloc: Global,
     reception: Reception,
     source: &mut S,
     sink: &mut K,
+    gate: &G,
 ) -> Result<(), Status>
     requires span { reception.span ≤ 32768 }
+    requires workers { IsWorkers reception.workers }
     requires fingers { IfSome reception.fingers IsFingers }
     ensures done { IsEnd (ended result) → IfSome (S.rest source.old) (λ bytes.
         WritesText reception (ended result) bytes (K.written sink.old) (K.written sink.new)) }
@@ -323,6 +329,7 @@ pub fn receive<S: Source, K: Sink>(
         mut piece,
     } = Workspace::new(alloc, usize::from(reception.span))?;
     receive_file(
+        rt,
         alloc,
         reception,
         &codes,
@@ -330,5 +337,6 @@ pub fn receive<S: Source, K: Sink>(
         &mut piece,
         source,
         sink,
+        gate,
     )
 }

@@ -23,7 +23,9 @@ use crate::receiving::receive;
 use crate::status::Status;
 use crate::words::{Task, job_of};
 use cdma_io::{Sink, Source};
+use pilot_search::Gate;
 use std::alloc::Global;
+use std::thread::Threads;
 
 /// How a run ended that went through, or not.
 fn status_of(run: Result<(), Status>) -> Status
@@ -43,13 +45,19 @@ fn status_of(run: Result<(), Status>) -> Status
 /// with `NoSync` where no message told the time. `make` reads a script, and writes the file of the cell
 /// that it names.
 ///
-/// `--span N` names a span of 64 to 32,768 samples, else 2,048; `--fingers N` over how many paths a
-/// handset follows, 1 to 3, else 1; `--bits N` how wide the samples of `make` are, 8 or 16, else 16.
-pub fn replay<S: Source, K: Sink>(
+/// `--span N` names a span of 64 to 32,768 samples, else 2,048; `--workers N` how many workers search, 1 to
+/// 64, else 4; `--fingers N` over how many paths a handset follows, 1 to 3, else 1; `--bits N` how wide the
+/// samples of `make` are, 8 or 16, else 16.
+///
+/// Each worker of the search calls the gate before its first phase and after its last. What is written
+/// doesn't depend on the number of workers, nor on how they get on.
+pub fn replay<R: Threads + Sync, S: Source, K: Sink, G: Gate + Sync>(
+    rt: &R,
     alloc: Global,
     words: &[String],
     source: &mut S,
     sink: &mut K,
+    gate: &G,
 ) -> Status
     // Where source and sink tell their bytes, the words name a command, its input is good and no call on
     // the outside failed, just its text is written, and the run ends as it should, unless memory ran out.
@@ -111,7 +119,7 @@ pub fn replay<S: Source, K: Sink>(
         return Status::BadWords;
     };
     match job.task() {
-        Task::Receive(reception) => status_of(receive(alloc, reception, source, sink)),
+        Task::Receive(reception) => { status_of(receive(rt, alloc, reception, source, sink, gate)) }
         Task::Make(width) => status_of(make(alloc, width, source, sink)),
     }
 }

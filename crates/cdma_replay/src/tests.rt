@@ -5,9 +5,11 @@ ghost use Rattle.std.specs.Prelude.{◌≤◌};
 use crate::{Status, replay};
 use base_modulator::ScriptFault;
 use cdma_io::{FileFault, MemorySink, MemorySource};
+use pilot_search::Open;
 use short_code::Codes;
 use std::alloc::Global;
 use std::test::Fail;
+use std::thread::Threads;
 
 /// The header of a version 1 file with no flags.
 fn file_with(alloc: Global, count: u64) -> Result<Vec<u8>, Fail> {
@@ -57,13 +59,13 @@ fn failing(alloc: Global, call: u64) -> Result<Vec<u64>, Fail> {
 }
 
 /// How a run of `find` over a file ends, and what it writes.
-fn find(alloc: Global, file: Vec<u8>) -> Result<(Status, Vec<u8>), Fail> {
-    find_by(alloc, file, 65536, 0, 65536, 0)
+fn find<R: AllocGlobal + Threads + Sync>(rt: &R, file: Vec<u8>) -> Result<(Status, Vec<u8>), Fail> {
+    find_by(rt, file, 65536, 0, 65536, 0)
 }
 
 /// The same over a source of so many bytes a call that fails at a call, into a sink of that kind.
-fn find_by(
-    alloc: Global,
+fn find_by<R: AllocGlobal + Threads + Sync>(
+    rt: &R,
     file: Vec<u8>,
     source_piece: usize,
     source_fails: u64,
@@ -74,7 +76,7 @@ fn find_by(
     requires sink { 1 ≤ sink_piece }
 {
     run_by(
-        alloc,
+        rt,
         "find",
         file,
         source_piece,
@@ -85,13 +87,17 @@ fn find_by(
 }
 
 /// How a run of a command line over a file ends, and what it writes.
-fn run(alloc: Global, line: &str, file: Vec<u8>) -> Result<(Status, Vec<u8>), Fail> {
-    run_by(alloc, line, file, 65536, 0, 65536, 0)
+fn run<R: AllocGlobal + Threads + Sync>(
+    rt: &R,
+    line: &str,
+    file: Vec<u8>,
+) -> Result<(Status, Vec<u8>), Fail> {
+    run_by(rt, line, file, 65536, 0, 65536, 0)
 }
 
 /// The same over such a source, into such a sink.
-fn run_by(
-    alloc: Global,
+fn run_by<R: AllocGlobal + Threads + Sync>(
+    rt: &R,
     line: &str,
     file: Vec<u8>,
     source_piece: usize,
@@ -102,24 +108,25 @@ fn run_by(
     requires source { 1 ≤ source_piece }
     requires sink { 1 ≤ sink_piece }
 {
+    let alloc = rt.alloc();
     let words = words_of(alloc, line)?;
     let mut source = MemorySource::new(file, source_piece, failing(alloc, source_fails)?);
     let mut sink = MemorySink::new(alloc, 100, sink_piece, failing(alloc, sink_fails)?)?;
-    let status = replay(alloc, words.as_slice(), &mut source, &mut sink);
+    let status = replay(rt, alloc, words.as_slice(), &mut source, &mut sink, &Open);
     Ok((status, Vec::from_slice(alloc, sink.bytes())?))
 }
 
 #[test]
 fn finds_the_phase(rt: HostRuntime) -> Result<(), Fail> {
     let alloc = rt.alloc();
-    let (status, text) = find(alloc, pilot_file(alloc, 2048, 32767, 100)?)?;
+    let (status, text) = find(&rt, pilot_file(alloc, 2048, 32767, 100)?)?;
     assert_eq!(rt; status, Status::Done);
     assert_eq!(rt;
         text.as_slice(),
         b"pilot phase=32767 energy=167772160000\n".as_slice()
     );
 
-    let (status, text) = find(alloc, pilot_file(alloc, 10000, 777, 3)?)?;
+    let (status, text) = find(&rt, pilot_file(alloc, 10000, 777, 3)?)?;
     assert_eq!(rt; status, Status::Done);
     assert_eq!(rt;
         text.as_slice(),
@@ -136,7 +143,7 @@ fn finds_in_samples_of_8_bits(rt: HostRuntime) -> Result<(), Fail> {
         b"IS95\x00\x02\x00\x00\x00\x00\x00\x00\x00\x00\x08\x00",
     )?;
     file.extend_from_slice(&[0; 4096])?;
-    let (status, text) = find(alloc, file)?;
+    let (status, text) = find(&rt, file)?;
     assert_eq!(rt; status, Status::Done);
     assert_eq!(rt; text.as_slice(), b"pilot phase=0 energy=0\n".as_slice());
     Ok(())
@@ -149,12 +156,12 @@ fn finds_in_the_longest_span(rt: HostRuntime) -> Result<(), Fail> {
     for _n in 0..65536 {
         file.extend_from_slice(&i16::MIN.to_be_bytes())?;
     }
-    let (status, text) = run(alloc, "find --span 32768", file)?;
+    let (status, text) = run(&rt, "find --span 32768", file)?;
     assert_eq!(rt; status, Status::Done);
     assert_eq!(rt; text.as_slice(), b"pilot phase=0 energy=0\n".as_slice());
 
     let file = pilot_file(alloc, 32768, 0, 32767)?;
-    let (status, text) = run(alloc, "find --span=32768", file)?;
+    let (status, text) = run(&rt, "find --span=32768", file)?;
     assert_eq!(rt; status, Status::Done);
     assert_eq!(rt;
         text.as_slice(),
@@ -171,16 +178,16 @@ fn finds_in_the_shortest_span(rt: HostRuntime) -> Result<(), Fail> {
     for _n in 2..64 {
         file.extend_from_slice(&[0; 4])?;
     }
-    let (status, text) = run(alloc, "find --span 64", file)?;
+    let (status, text) = run(&rt, "find --span 64", file)?;
     assert_eq!(rt; status, Status::Done);
     assert_eq!(rt; text.as_slice(), b"pilot phase=5 energy=8\n".as_slice());
 
     for line in ["find --span=0064", "find --span 00000000000000000064"] {
-        let (status, text) = run(alloc, line, zero_file(alloc, 64)?)?;
+        let (status, text) = run(&rt, line, zero_file(alloc, 64)?)?;
         assert_eq!(rt; status, Status::Done, "{line}");
         assert_eq!(rt; text.as_slice(), b"pilot phase=0 energy=0\n".as_slice());
     }
-    let (status, _) = run(alloc, "find --span 64", zero_file(alloc, 63)?)?;
+    let (status, _) = run(&rt, "find --span 64", zero_file(alloc, 63)?)?;
     assert_eq!(rt; status, Status::BadFile(FileFault::TooFew { count: 63 }));
     Ok(())
 }
@@ -191,7 +198,7 @@ fn answers_in_any_pieces(rt: HostRuntime) -> Result<(), Fail> {
     for (source_piece, sink_piece) in [(7, 1), (1, 3), (8208, 100)] {
         assert!(rt; source_piece > 0 && sink_piece > 0);
         let file = zero_file(alloc, 2048)?;
-        let (status, text) = find_by(alloc, file, source_piece, 0, sink_piece, 0)?;
+        let (status, text) = find_by(&rt, file, source_piece, 0, sink_piece, 0)?;
         assert_eq!(rt; status, Status::Done);
         assert_eq!(rt; text.as_slice(), b"pilot phase=0 energy=0\n".as_slice());
     }
@@ -201,11 +208,11 @@ fn answers_in_any_pieces(rt: HostRuntime) -> Result<(), Fail> {
 #[test]
 fn names_each_fault(rt: HostRuntime) -> Result<(), Fail> {
     let alloc = rt.alloc();
-    let (status, text) = find(alloc, zero_file(alloc, 2047)?)?;
+    let (status, text) = find(&rt, zero_file(alloc, 2047)?)?;
     assert_eq!(rt; status, Status::BadFile(FileFault::TooFew { count: 2047 }));
     assert_eq!(rt; text.len(), 0);
 
-    let (status, text) = find(alloc, file_with(alloc, 33_554_433)?)?;
+    let (status, text) = find(&rt, file_with(alloc, 33_554_433)?)?;
     assert_eq!(rt; status, Status::BadFile(FileFault::Count));
     assert_eq!(rt; text.len(), 0);
 
@@ -220,14 +227,14 @@ fn names_each_fault(rt: HostRuntime) -> Result<(), Fail> {
         let mut file = zero_file(alloc, 2048)?;
         assert!(rt; place < file.len());
         file[place] = byte;
-        let (status, text) = find(alloc, file)?;
+        let (status, text) = find(&rt, file)?;
         assert_eq!(rt; status, Status::BadFile(fault), "byte {place}");
         assert_eq!(rt; text.len(), 0);
     }
 
     let mut longer = zero_file(alloc, 2048)?;
     longer.push(0)?;
-    let (status, text) = find(alloc, longer)?;
+    let (status, text) = find(&rt, longer)?;
     assert_eq!(rt; status, Status::BadFile(FileFault::Extra { at: 8208 }));
     assert_eq!(rt; text.as_slice(), b"pilot phase=0 energy=0\n".as_slice());
     Ok(())
@@ -239,7 +246,7 @@ fn names_the_end_of_every_cut(rt: HostRuntime) -> Result<(), Fail> {
     for len in 0..8208usize {
         let mut file = zero_file(alloc, 2048)?;
         file.truncate(len);
-        let (status, text) = find(alloc, file)?;
+        let (status, text) = find(&rt, file)?;
         assert_eq!(rt;
             status,
             Status::BadFile(FileFault::Short { at: len as u64 })
@@ -254,17 +261,17 @@ fn ends_where_a_call_fails(rt: HostRuntime) -> Result<(), Fail> {
     let alloc = rt.alloc();
     // A header, two pieces of 1,024 samples, and the look for a further byte.
     for call in 1..5u64 {
-        let (status, text) = find_by(alloc, zero_file(alloc, 2048)?, 65536, call, 65536, 0)?;
+        let (status, text) = find_by(&rt, zero_file(alloc, 2048)?, 65536, call, 65536, 0)?;
         assert_eq!(rt; status, Status::ReadFault, "call {call}");
         assert_eq!(rt; text.is_empty(), call < 4, "call {call}");
     }
-    let (status, _) = find_by(alloc, zero_file(alloc, 2048)?, 65536, 5, 65536, 0)?;
+    let (status, _) = find_by(&rt, zero_file(alloc, 2048)?, 65536, 5, 65536, 0)?;
     assert_eq!(rt; status, Status::Done);
 
-    let (status, text) = find_by(alloc, zero_file(alloc, 2048)?, 65536, 0, 65536, 1)?;
+    let (status, text) = find_by(&rt, zero_file(alloc, 2048)?, 65536, 0, 65536, 1)?;
     assert_eq!(rt; status, Status::WriteFault);
     assert_eq!(rt; text.len(), 0);
-    let (status, text) = find_by(alloc, zero_file(alloc, 2048)?, 65536, 0, 5, 3)?;
+    let (status, text) = find_by(&rt, zero_file(alloc, 2048)?, 65536, 0, 5, 3)?;
     assert_eq!(rt; status, Status::WriteFault);
     assert_eq!(rt; text.as_slice(), b"pilot phas".as_slice());
     Ok(())
@@ -293,6 +300,10 @@ fn refuses_other_words(rt: HostRuntime) -> Result<(), Fail> {
         "find --span --",
         "find -- --span=64",
         "--span 64 find",
+        "find --workers 0",
+        "find --workers=65",
+        "find --workers",
+        "find --workers 2 --workers 2",
         "find --fingers 1",
         "find --bits 16",
         "follow --fingers",
@@ -306,13 +317,14 @@ fn refuses_other_words(rt: HostRuntime) -> Result<(), Fail> {
         "make --bits=",
         "make --bits 8 --bits 8",
         "make --span 64",
+        "make --workers 4",
         "make --fingers 1",
         "make make",
     ] {
         let words = words_of(alloc, line)?;
         let mut source = MemorySource::new(zero_file(alloc, 2048)?, 65536, Vec::new(alloc));
         let mut sink = MemorySink::new(alloc, 100, 65536, Vec::new(alloc))?;
-        let status = replay(alloc, words.as_slice(), &mut source, &mut sink);
+        let status = replay(&rt, alloc, words.as_slice(), &mut source, &mut sink, &Open);
         assert_eq!(rt; status, Status::BadWords, "{line}");
         assert_eq!(rt; status.code(), 2);
         assert_eq!(rt; sink.bytes().len(), 0);

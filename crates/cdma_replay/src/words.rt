@@ -14,13 +14,17 @@ pub enum Job {
     Find {
         /// How many samples it is searched in, 64 to 32,768.
         span: u16,
+        /// How many workers search, 1 to 64.
+        workers: u8,
     },
     /// `follow`: the pilot, and what a handset hears.
     Follow {
         /// How many samples the pilot is searched in, 64 to 32,768.
         span: u16,
+        /// How many workers search the pilot, 1 to 64.
+        workers: u8,
         /// How many paths of the signal are followed, 1 to 3.
-        fingers: u16,
+        fingers: u8,
     },
     /// `make`: the samples of a script's cell.
     Make {
@@ -46,12 +50,18 @@ impl Job {
         ensures lawful { IsLawfulTask result }
     {
         match self {
-            Job::Find { span } => Task::Receive(Reception {
+            Job::Find { span, workers } => Task::Receive(Reception {
                 span,
+                workers,
                 fingers: None,
             }),
-            Job::Follow { span, fingers } => Task::Receive(Reception {
+            Job::Follow {
                 span,
+                workers,
+                fingers,
+            } => Task::Receive(Reception {
+                span,
+                workers,
                 fingers: Some(fingers),
             }),
             Job::Make { width } => Task::Make(width),
@@ -64,6 +74,8 @@ impl Job {
 pub enum Setting {
     /// `--span`: how many samples the pilot is searched in.
     Span,
+    /// `--workers`: how many workers search it.
+    Workers,
     /// `--fingers`: how many paths are followed.
     Fingers,
     /// `--bits`: how wide the parts of samples are.
@@ -77,6 +89,7 @@ impl Setting {
     {
         match word {
             "--span" => Some(Setting::Span),
+            "--workers" => Some(Setting::Workers),
             "--fingers" => Some(Setting::Fingers),
             "--bits" => Some(Setting::Bits),
             _ => None,
@@ -90,6 +103,7 @@ impl Setting {
     {
         match self {
             Setting::Span => 64 <= number && number <= 32768,
+            Setting::Workers => 1 <= number && number <= 64,
             Setting::Fingers => 1 <= number && number <= 3,
             Setting::Bits => number == 8 || number == 16,
         }
@@ -101,6 +115,8 @@ impl Setting {
 pub struct Choices {
     /// How many samples the pilot is searched in, 64 to 32,768.
     pub span: Option<u16>,
+    /// How many workers search it, 1 to 64.
+    pub workers: Option<u16>,
     /// How many paths are followed, 1 to 3.
     pub fingers: Option<u16>,
     /// How many bits a part of a sample has, 8 or 16.
@@ -115,6 +131,7 @@ impl Choices {
     {
         Choices {
             span: None,
+            workers: None,
             fingers: None,
             bits: None,
         }
@@ -131,6 +148,13 @@ impl Choices {
                 let span = chosen(setting, self.span, text)?;
                 Some(Choices {
                     span: Some(span),
+                    ..self
+                })
+            }
+            Setting::Workers => {
+                let workers = chosen(setting, self.workers, text)?;
+                Some(Choices {
+                    workers: Some(workers),
                     ..self
                 })
             }
@@ -170,6 +194,9 @@ impl Choices {
         if let Some(text) = word.strip_prefix(b"--span=") {
             return self.with(Setting::Span, text);
         }
+        if let Some(text) = word.strip_prefix(b"--workers=") {
+            return self.with(Setting::Workers, text);
+        }
         if let Some(text) = word.strip_prefix(b"--fingers=") {
             return self.with(Setting::Fingers, text);
         }
@@ -185,6 +212,9 @@ fn is_joined(word: &[u8]) -> bool
     ensures { result ≡ is_joined word.now }
 {
     if word.strip_prefix(b"--span=").is_some() {
+        return true;
+    }
+    if word.strip_prefix(b"--workers=").is_some() {
         return true;
     }
     if word.strip_prefix(b"--fingers=").is_some() {
@@ -233,8 +263,9 @@ fn choices_of(words: &[String]) -> Option<Choices>
 /// The job that the words name, a command and then options in any order, each at most once, as
 /// `--name N` or `--name=N`. N has 1 to 20 decimal digits. All other words are `None`.
 ///
-/// `find` takes `--span`, 64 to 32,768, which is else 2,048; `follow` takes that and `--fingers`, 1 to 3,
-/// which is else 1; `make` takes `--bits`, 8 or 16, which is else 16.
+/// `find` takes `--span`, 64 to 32,768, which is else 2,048, and `--workers`, 1 to 64, which is else 4;
+/// `follow` takes these and `--fingers`, 1 to 3, which is else 1; `make` takes `--bits`, 8 or 16, which is
+/// else 16.
 pub fn job_of(words: &[String]) -> Option<Job>
     ensures job { result ≡ job_named words.now }
     ensures lawful { IfSome result IsLawfulJob }
@@ -269,6 +300,7 @@ fn find_with(choices: Choices) -> Option<Job>
     }
     Some(Job::Find {
         span: choices.span.unwrap_or(DEFAULT_SPAN),
+        workers: choices.workers.unwrap_or(DEFAULT_WORKERS) as u8,
     })
 }
 
@@ -283,7 +315,8 @@ fn follow_with(choices: Choices) -> Option<Job>
     }
     Some(Job::Follow {
         span: choices.span.unwrap_or(DEFAULT_SPAN),
-        fingers: choices.fingers.unwrap_or(1),
+        workers: choices.workers.unwrap_or(DEFAULT_WORKERS) as u8,
+        fingers: choices.fingers.unwrap_or(1) as u8,
     })
 }
 
@@ -293,7 +326,7 @@ fn make_with(choices: Choices) -> Option<Job>
     ensures job { result ≡ job_of_make choices }
     ensures lawful { IfSome result IsLawfulJob }
 {
-    if choices.span.is_some() || choices.fingers.is_some() {
+    if choices.span.is_some() || choices.workers.is_some() || choices.fingers.is_some() {
         return None;
     }
     Some(Job::Make {
@@ -313,6 +346,9 @@ fn width_for(bits: Option<u16>) -> Width
 
 /// The span where the words name none.
 const DEFAULT_SPAN: u16 = 2048;
+
+/// The number of workers where the words name none.
+const DEFAULT_WORKERS: u16 = 4;
 
 // The number that 1 to 20 digits spell.
 fn number_of(text: &[u8]) -> Option<u128>

@@ -1,5 +1,4 @@
-use Rattle.std.proofs.Common.{◌≡◌, ◌≢◌, ◌<◌, ◌≤◌, sym, ap, ◌∙◌, subst, rules, IfSome, List, ℕ, Err, take, length}
-use Rattle.std.specs.Io.KnownBytes.{IsAtEnd}
+use Rattle.std.proofs.Common.{◌≡◌, ◌≢◌, ◌≤◌, sym, ap, ◌∙◌, subst, rules, Err, take, length}
 use Rattle.std.proofs.lemmas.Result.{err_from_is_err_and}
 use Rattle.base_modulator.specs.Script.{plan_named}
 use Rattle.base_modulator.specs.declared.script_fault.ScriptFault.{ScriptFault}

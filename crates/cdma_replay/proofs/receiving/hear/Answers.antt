@@ -1,8 +1,8 @@
-use Rattle.std.proofs.Common.{rules, ◌≡◌, ◌++◌, List, ℕ, Option, Some, None, subst, sym}
+use Rattle.std.proofs.Common.{◌++◌, List, Option, Some, subst, sym}
 use Rattle.chip_core.specs.declared.sample.Sample.{Sample}
 use Rattle.mobile_core.specs.declared.event.Event.{Event}
 use Rattle.mobile_core.specs.declared.mobile.Mobile.{Mobile}
-use Rattle.mobile_core.specs.Standing.{StandsFor, has_room}
+use Rattle.mobile_core.specs.Standing.{StandsFor}
 use Rattle.mobile_core.specs.Tuning.{Tuning}
 use Rattle.cdma_replay.specs.Hearing.{HasGiven, Tells}
 use Rattle.cdma_replay.proofs.Hearings.{hears_none, hears_some, on_ok, room_some}

@@ -1,11 +1,10 @@
-use Rattle.std.proofs.Common.{◌≡◌, ◌≢◌, ◌≤◌, ◌-◌, ◌++◌, List, ℕ, IfSome, IsNone, None, Option, length, length-take-le, take, ap, sym, ◌∙◌, refl, subst, arith, rules}
-use Rattle.std.proofs.lemmas.Result.{IfErr-weaker, err_from_is_err_and}
+use Rattle.std.proofs.Common.{◌≡◌, ◌≢◌, ◌≤◌, ◌-◌, List, ℕ, IfSome, IsNone, Option, length, length-take-le, take, ap, sym, ◌∙◌, refl, subst, arith, rules}
+use Rattle.std.proofs.lemmas.Result.{err_from_is_err_and}
 use Rattle.chip_core.specs.declared.sample.Sample.{Sample}
 use Rattle.cdma_io.specs.SampleFile.{Reading, width_of}
 use Rattle.cdma_io.specs.declared.file_fault.FileFault.{FileFault}
 use Rattle.cdma_io.specs.declared.file_fault.FileFault.TheVariants.{ReadFault}
 use Rattle.mobile_core.specs.Tuning.{Tuning}
-use Rattle.mobile_core.specs.declared.event.Event.{Event}
 use Rattle.cdma_replay.specs.declared.status.Status.TheVariants.{BadFile}
 use Rattle.cdma_replay.specs.Status.{file_status}
 use Rattle.cdma_replay.specs.Find.{ended, IsRestFault}

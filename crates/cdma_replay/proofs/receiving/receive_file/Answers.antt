@@ -1,20 +1,17 @@
-use Rattle.std.proofs.Common.{◌≡◌, ◌≢◌, ◌≤◌, ◌++◌, [], ℕ, List, IfSome, Option, None, Some, length, ap, sym, ◌∙◌, subst, rules}
+use Rattle.std.proofs.Common.{◌≡◌, ◌≢◌, ◌++◌, [], ℕ, List, IfSome, length, ap, sym, ◌∙◌, subst, rules}
 use Rattle.std.proofs.lemmas.Result.{err_from_is_err_and}
 use Rattle.std.specs.Io.KnownBytes.{Appends}
-use Rattle.chip_core.specs.declared.sample.Sample.{Sample}
 use Rattle.cdma_io.specs.declared.file_fault.FileFault.{FileFault}
 use Rattle.cdma_io.specs.declared.file_fault.FileFault.TheVariants.{ReadFault}
 use Rattle.cdma_io.specs.declared.header.Header.{Header}
 use Rattle.cdma_io.specs.Outside.{AppendsPrefix}
-use Rattle.mobile_core.specs.Tuning.{Tuning}
-use Rattle.cdma_replay.specs.declared.status.Status.{Status}
 use Rattle.cdma_replay.specs.declared.status.Status.TheVariants.{BadFile}
 use Rattle.cdma_replay.specs.Status.{file_status}
 use Rattle.cdma_replay.specs.Find.{IsFaultIn, ended}
 use Rattle.cdma_replay.specs.Hearing.{HasGiven, Tells, TellsPart, best_line, tuning_of}
 use Rattle.cdma_replay.proofs.Faults.{fault_of_rest}
 use Rattle.cdma_replay.proofs.Files.{bad_file_is, rest_broken}
-use Rattle.cdma_replay.proofs.Hearings.{fault_no_end, on_err, on_ok}
+use Rattle.cdma_replay.proofs.Hearings.{fault_no_end}
 use Rattle.cdma_replay.proofs.Lines.{pilot_line-best, writes_first_part, writes_pilot_part, writes_rest_part, writes_text}
 use Rattle.cdma_replay.proofs.receiving.receive_file.Goals as goal
 
@@ -32,7 +29,7 @@ pub returns-in-Err-clause-written : goal.returns-in-Err-clause-written
 returns-in-Err-clause-written g c =
     let span = c.open_span.new.span in
     let counted : length span ≡ c.args.reception.span = search rules in
-    let line = pilot_line-best span c.sweep-best.result.phase c.sweep-best.result.energy c.sweep-best.ensures.best in
+    let line = pilot_line-best span c.in_ok-best.best.phase c.in_ok-best.best.energy c.in_ok-best.ensures in
     writes_pilot_part c.args.reception _ _ _ _ c.in_ok-reader.reader.header span counted c.in_ok-reader.ensures.file
     (subst (AppendsPrefix (g.K.Sink.written c.args.sink.now) (g.K.Sink.written c.write_pilot.new.sink)) line c.in-Err.ensures.err)
 
@@ -40,11 +37,11 @@ pub returns-in-Err-hear-clause-written : goal.returns-in-Err-hear-clause-written
 returns-in-Err-hear-clause-written g c =
     let span = c.open_span.new.span in
     let counted : length span ≡ c.args.reception.span = search rules in
-    let line = pilot_line-best span c.sweep-best.result.phase c.sweep-best.result.energy c.sweep-best.ensures.best in
+    let line = pilot_line-best span c.in_ok-best.best.phase c.in_ok-best.best.energy c.in_ok-best.ensures in
     let t = tuning_of c.in_ok-reader.reader.header span c.args.reception.fingers in
     let given : HasGiven t c.in_ok-handset.handset [] [] =
     subst (λ (h : Header). HasGiven (tuning_of h span c.args.reception.fingers) c.in_ok-handset.handset [] []) c.header.ensures.value
-    (c.in_ok-handset.ensures.given span c.args.reception.fingers c.sweep-best.ensures.best c.near_for-near.ensures.near) in
+    (c.in_ok-handset.ensures.given span c.args.reception.fingers c.in_ok-best.ensures c.near_for-near.ensures.near) in
     writes_first_part c.args.reception _ _ _ _ _ c.in_ok-reader.reader.header span counted c.in_ok-reader.ensures.file
     (subst (Appends (g.K.Sink.written c.args.sink.now) (g.K.Sink.written c.write_pilot.new.sink)) line c.in-Ok.ensures.ok)
     (c.in-Err-hear.ensures.err t [] [] given)
@@ -82,11 +79,11 @@ pub returns-in_err-hear_rest-clause-written : goal.returns-in_err-hear_rest-clau
 returns-in_err-hear_rest-clause-written g c =
     let span = c.open_span.new.span in
     let counted : length span ≡ c.args.reception.span = search rules in
-    let line = pilot_line-best span c.sweep-best.result.phase c.sweep-best.result.energy c.sweep-best.ensures.best in
+    let line = pilot_line-best span c.in_ok-best.best.phase c.in_ok-best.best.energy c.in_ok-best.ensures in
     let t = tuning_of c.in_ok-reader.reader.header span c.args.reception.fingers in
     let given : HasGiven t c.in_ok-handset.handset [] [] =
     subst (λ (h : Header). HasGiven (tuning_of h span c.args.reception.fingers) c.in_ok-handset.handset [] []) c.header.ensures.value
-    (c.in_ok-handset.ensures.given span c.args.reception.fingers c.sweep-best.ensures.best c.near_for-near.ensures.near) in
+    (c.in_ok-handset.ensures.given span c.args.reception.fingers c.in_ok-best.ensures c.near_for-near.ensures.near) in
     let first = c.in-Ok-hear.ensures.ok t [] [] given in
     writes_rest_part c.args.reception _ _ _ _ _ _ c.in_ok-reader.reader.header span c.hear.new.handset counted c.in_ok-reader.ensures.file
     (subst (Appends (g.K.Sink.written c.args.sink.now) (g.K.Sink.written c.write_pilot.new.sink)) line c.in-Ok.ensures.ok)
@@ -96,11 +93,11 @@ pub returns-clause-done : goal.returns-clause-done
 returns-clause-done g c end =
     let span = c.open_span.new.span in
     let counted : length span ≡ c.args.reception.span = search rules in
-    let line = pilot_line-best span c.sweep-best.result.phase c.sweep-best.result.energy c.sweep-best.ensures.best in
+    let line = pilot_line-best span c.in_ok-best.best.phase c.in_ok-best.best.energy c.in_ok-best.ensures in
     let t = tuning_of c.in_ok-reader.reader.header span c.args.reception.fingers in
     let given : HasGiven t c.in_ok-handset.handset [] [] =
     subst (λ (h : Header). HasGiven (tuning_of h span c.args.reception.fingers) c.in_ok-handset.handset [] []) c.header.ensures.value
-    (c.in_ok-handset.ensures.given span c.args.reception.fingers c.sweep-best.ensures.best c.near_for-near.ensures.near) in
+    (c.in_ok-handset.ensures.given span c.args.reception.fingers c.in_ok-best.ensures c.near_for-near.ensures.near) in
     let first = c.in-Ok-hear.ensures.ok t [] [] given in
     let heard = c.in_ok-hear_rest.ensures.ok t span first.stands in
     writes_text c.args.reception _ _ _ _ _ _ _ _ c.in_ok-reader.reader.header span c.in_ok-reader.reader.left c.hear.new.handset c.hear_rest.new.handset counted c.in_ok-reader.ensures.lawful (search rules)
@@ -113,11 +110,11 @@ pub returns-clause-written : goal.returns-clause-written
 returns-clause-written g c =
     let span = c.open_span.new.span in
     let counted : length span ≡ c.args.reception.span = search rules in
-    let line = pilot_line-best span c.sweep-best.result.phase c.sweep-best.result.energy c.sweep-best.ensures.best in
+    let line = pilot_line-best span c.in_ok-best.best.phase c.in_ok-best.best.energy c.in_ok-best.ensures in
     let t = tuning_of c.in_ok-reader.reader.header span c.args.reception.fingers in
     let given : HasGiven t c.in_ok-handset.handset [] [] =
     subst (λ (h : Header). HasGiven (tuning_of h span c.args.reception.fingers) c.in_ok-handset.handset [] []) c.header.ensures.value
-    (c.in_ok-handset.ensures.given span c.args.reception.fingers c.sweep-best.ensures.best c.near_for-near.ensures.near) in
+    (c.in_ok-handset.ensures.given span c.args.reception.fingers c.in_ok-best.ensures c.near_for-near.ensures.near) in
     let first = c.in-Ok-hear.ensures.ok t [] [] given in
     writes_rest_part c.args.reception _ _ _ _ _ _ c.in_ok-reader.reader.header span c.hear.new.handset counted c.in_ok-reader.ensures.file
     (subst (Appends (g.K.Sink.written c.args.sink.now) (g.K.Sink.written c.write_pilot.new.sink)) line c.in-Ok.ensures.ok)

@@ -1,11 +1,8 @@
-use Rattle.std.proofs.Common.{◌≡◌, ◌≢◌, ◌++◌, ◌⊎◌, ℕ, List, IfSome, Option, None, Some, Ok, Err, refl, sym, ap, ◌∙◌, subst}
+use Rattle.std.proofs.Common.{◌≡◌, ◌++◌, ◌⊎◌, ℕ, List, IfSome, Some, Err, sym, ◌∙◌, subst}
 use Rattle.cdma_io.specs.declared.width.Width.{Width}
 use Rattle.base_modulator.specs.declared.script_fault.ScriptFault.{ScriptFault}
-use Rattle.base_modulator.specs.declared.script_fault.ScriptFault.TheVariants.{OutOfMemory}
 use Rattle.base_modulator.specs.Script.{plan_named}
-use Rattle.cdma_replay.specs.declared.receiving.Reception.{Reception}
 use Rattle.cdma_replay.specs.declared.status.Status.{Status}
-use Rattle.cdma_replay.specs.declared.status.Status.TheVariants as Status
 use Rattle.cdma_replay.specs.declared.words.Task.TheVariants.{Receive, Make}
 use Rattle.cdma_replay.specs.Find.{ended}
 use Rattle.cdma_replay.specs.Hearing.{file_end_of, file_text}

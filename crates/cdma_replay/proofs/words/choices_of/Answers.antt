@@ -1,4 +1,4 @@
-use Rattle.std.proofs.Common.{◌≡◌, [], ◌≤◌, ◌+◌, ◌<◌, ℕ, true, false, List, map, string_bytes, length, get_or, slice_get, sym, refl, ap, ◌∙◌, rules, arith, Some, None}
+use Rattle.std.proofs.Common.{◌≡◌, [], ◌≤◌, ◌+◌, ◌<◌, true, false, map, string_bytes, length, get_or, sym, ap, ◌∙◌, rules, Some, None}
 use Rattle.std.proofs.lemmas.List.{length-map}
 use Rattle.cdma_replay.specs.Words.{is_joined, with_joined, with_named}
 use Rattle.cdma_replay.proofs.Grammar.{all_read, joined_read, joined_refused, lone_refused, named_read, named_refused, text_at}

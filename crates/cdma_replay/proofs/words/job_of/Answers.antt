@@ -1,5 +1,5 @@
-use Rattle.std.proofs.Common.{rules, ℕ, ◌≡◌, List, map, string_bytes, ap, sym, ◌∙◌, refl, Some, None}
-use Rattle.cdma_replay.specs.Words.{command_with, job_in}
+use Rattle.std.proofs.Common.{rules, ℕ, ◌≡◌, List, string_bytes, ap, sym, ◌∙◌, Some, None}
+use Rattle.cdma_replay.specs.Words.{command_with}
 use Rattle.cdma_replay.proofs.Grammar.{job_first, no_first}
 use Rattle.cdma_replay.proofs.words.job_of.Goals as goal
 
