@@ -1,16 +1,14 @@
 -- Lemmas on scripts that are read, and on files of cells that are written.
-use Rattle.std.proofs.Common.{◌≡◌, ◌≢◌, ℕ, ◌+◌, ◌-◌, ◌<◌, ◌≤◌, List, [], ◌∷◌, ◌++◌, length, map, take, drop, refl, sym, ap, ◌∙◌, subst, arith, inl, inr, append-nil, append_assoc, length-append, le_refl, Option, None, Some, IfSome, Ok, Err}
+use Rattle.std.proofs.Common.{◌≡◌, ◌≢◌, ℕ, ◌+◌, ◌<◌, ◌≤◌, List, [], ◌∷◌, ◌++◌, length, map, take, drop, refl, sym, ap, ◌∙◌, subst, arith, inl, inr, append-nil, length-append, le_refl, Option, None, Some, IfSome, Ok, Err}
 use Rattle.std.specs.List.{flat_map}
 use Rattle.std.specs.Io.KnownBytes.{Appends, Consumes, IsAtEnd}
 use Rattle.std.proofs.KnownBytes.{Appends-nil, Appends-trans}
 use Rattle.std.proofs.lemmas.Bool.{cases_lt, cond-true, lt-ltb}
-use Rattle.std.proofs.lemmas.List.{drop-map, length-map, length-take-le, take-append-le, take-append-drop, take_all, take-map}
+use Rattle.std.proofs.lemmas.List.{drop-map, length-take-le, take-append-le, take-append-drop, take_all, take-map}
 use Rattle.std.proofs.lemmas.List.Concat.{flat_map-append}
 use Rattle.std.proofs.Math.Seq.{take-add, take-append-add}
 use Rattle.chip_core.specs.Complex.{of_sample}
-use Rattle.chip_core.specs.declared.sample.Pair.{Pair}
 use Rattle.chip_core.specs.declared.sample.Sample.{Sample}
-use Rattle.chip_core.proofs.Places.{length-map-places}
 use Rattle.cdma_io.specs.declared.width.Width.{Width}
 use Rattle.cdma_io.specs.Outside.{AppendsPrefix}
 use Rattle.cdma_io.specs.SampleFile.{header_spelling, sample_spelling}
@@ -18,10 +16,11 @@ use Rattle.base_modulator.specs.declared.plan.CellPlan.{CellPlan}
 use Rattle.base_modulator.specs.declared.script_fault.ScriptFault.{ScriptFault}
 use Rattle.base_modulator.specs.declared.script_fault.ScriptFault.TheVariants.{Line, Walsh, Gain, TooLoud, TooLong, OutOfMemory, TooBig}
 use Rattle.base_modulator.specs.Script.{named, plan_named, stated_plan}
-use Rattle.base_modulator.specs.Signal.{sample_of, samples_of}
+use Rattle.base_modulator.specs.Signal.{samples_of}
 use Rattle.base_modulator.specs.Transmitter.{header_of}
 use Rattle.cdma_replay.specs.declared.status.Status.TheVariants as Status
 use Rattle.cdma_replay.specs.Status.{script_status}
+use Rattle.cdma_replay.proofs.SignalSamples.{length-made}
 use Rattle.cdma_replay.specs.Make.{WritesMadeFile, WritesNoMoreMade, made_file, made_samples, piece_bytes, sample_bytes, sample_with}
 
 -- ---- scripts
@@ -114,11 +113,6 @@ piece_spelled width plan given n out is =
     let moved : take n (drop given (map sample_with all)) ≡ map sample_with (take n (drop given all)) =
     ap (take n) (drop-map sample_with given all) ∙ take-map sample_with n (drop given all) in
     ap (flat_map (sample_spelling width)) (sym (same_samples out) ∙ ap (map sample_with) is ∙ sym moved)
-
--- how many a cell has
-length-made : (plan : CellPlan) → length (made_samples plan) ≡ plan.samples
-unfolding made_samples samples_of
-length-made plan = length-map (samples_of plan) sample_with ∙ length-map-places (sample_of plan) plan.samples
 
 -- the bytes of the first samples of a cell
 abbrev pub first_bytes : Width → CellPlan → ℕ → List ℕ

@@ -160,6 +160,70 @@ fn without_sync_there_is_no_message(rt: HostRuntime) -> Result<(), Fail> {
     Ok(())
 }
 
+/// A delay with a turned link: the first sending begins behind the file's start, and ends with the file.
+const DELAYED_CELL: &str = "cell pn=100 time=1000 lc=20000000000 checks=0\n\
+                            link re=-2 im=1 start=4992 samples=263552\n\
+                            pilot gain=50\n";
+
+/// The file is one sending of 93 octets, whose checks are complemented, and no sample more.
+const LONG_SENDING_CELL: &str = "cell pn=1 time=5 lc=20000000000 checks=1\n\
+                                 link re=0 im=7 start=64 samples=786432\n\
+                                 pilot gain=9\n";
+
+/// The same with one sample less.
+const CUT_SENDING_CELL: &str = "cell pn=1 time=5 lc=20000000000 checks=1\n\
+                                link re=0 im=7 start=64 samples=786431\n\
+                                pilot gain=9\n";
+
+/// Its sync channel.
+const LONG_SYNC: &str =
+    "sync gain=2 prev=6 min=3 sid=32767 nid=65535 lp=255 ltm=63 daylt=1 prat=1 freq=283 \
+    rest=536:5a5a5a5a5a5a5a5a5a5a5a5a5a5a5a5a5a5a5a5a5a5a5a5a5a5a5a5a5a5a5a5a5a5a5a5a5a5a5a5a5a5a5a5a5a5a5a5a5a5a5a5a5a5a5a5a5a5a5a5a5a5a5a5a5a5a5a\n";
+
+/// A pilot alone.
+const SILENT_CELL: &str = "cell pn=0 time=0 lc=20000000000 checks=0\n\
+                           link re=3 im=-4 start=0 samples=65536\n\
+                           pilot gain=11\n";
+
+#[test]
+fn clean_links_come_back(rt: HostRuntime) -> Result<(), Fail> {
+    for (cell, sync, status, lines) in [
+        (
+            DELAYED_CELL,
+            SYNC,
+            Status::Done,
+            "pilot phase=31360 energy=209715200000\n\
+            sync at=263552 prev=3 min=1 sid=1 nid=2 pn=100 lc=102a1d2e508 time=1007 lp=13 ltm=0 daylt=0 prat=0 rest=3:00\n",
+        ),
+        (
+            LONG_SENDING_CELL,
+            LONG_SYNC,
+            Status::Done,
+            "pilot phase=0 energy=66588770304\n\
+            sync at=786432 prev=6 min=3 sid=32767 nid=65535 pn=1 lc=3efd8a8753a time=17 lp=255 ltm=63 daylt=1 prat=1 freq=283 \
+            rest=536:5a5a5a5a5a5a5a5a5a5a5a5a5a5a5a5a5a5a5a5a5a5a5a5a5a5a5a5a5a5a5a5a5a5a5a5a5a5a5a5a5a5a5a5a5a5a5a5a5a5a5a5a5a5a5a5a5a5a5a5a5a5a5a5a5a5a5a\n",
+        ),
+        (
+            CUT_SENDING_CELL,
+            LONG_SYNC,
+            Status::NoSync,
+            "pilot phase=0 energy=66588770304\n",
+        ),
+        (
+            SILENT_CELL,
+            "",
+            Status::NoSync,
+            "pilot phase=0 energy=50751078400\n",
+        ),
+    ] {
+        let file = made(&rt, cell, sync)?;
+        let (ended, text) = run(&rt, "follow", file.as_slice(), 65536)?;
+        assert_eq!(rt; ended, status, "{cell}");
+        assert_eq!(rt; text.as_slice(), lines.as_bytes(), "{cell}");
+    }
+    Ok(())
+}
+
 #[test]
 fn makes_the_first_sample(rt: HostRuntime) -> Result<(), Fail> {
     let alloc = rt.alloc();

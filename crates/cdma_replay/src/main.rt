@@ -4,6 +4,7 @@
 //! What is here makes these of the process: its arguments, standard input and standard output.
 #![tactic(auto)]
 
+pub mod laws;
 #[cfg(test)]
 mod link_tests;
 mod making;

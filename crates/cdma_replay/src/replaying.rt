@@ -13,6 +13,7 @@ ghost use Rattle.base_modulator.specs.declared.script_fault.ScriptFault.{ScriptF
 ghost use Rattle.base_modulator.specs.Script.{plan_named};
 ghost use Rattle.cdma_replay.specs.declared.receiving.Reception.{Reception};
 ghost use Rattle.cdma_replay.specs.declared.words.Task.TheVariants.{Receive, Make};
+ghost use Rattle.cdma_replay.specs.CleanLink.{IsCleanLink, clean_end, clean_text};
 ghost use Rattle.cdma_replay.specs.Find.{IsEnd, IsFaultIn, IsHeaderFault, IsSearchable, WritesNoMore, WritesText, ended};
 ghost use Rattle.cdma_replay.specs.Hearing.{file_end_of, file_text};
 ghost use Rattle.cdma_replay.specs.Make.{WritesNoMoreMade, made_file};
@@ -73,6 +74,14 @@ pub fn replay<R: Threads + Sync, S: Source, K: Sink, G: Gate + Sync>(
         (Rose (S.faults source.old) (S.faults source.new) → ⊥) → (Rose (K.faults sink.old) (K.faults sink.new) → ⊥) →
         (result ≡ Status.NoMemory)
         ⊎ ((result ≡ Status.Done) × (K.written sink.new ≡ Some (held ++ made_file width plan))) }
+    // On a clean link that text is the line of the pilot at the cell's phase, and the lines of the sendings that lie in
+    // the file whole, each with its message, in order.
+    ensures clean { (width : TheWidth) (script bytes held : List ℕ) (plan : CellPlan) (r : Reception) (header : Header) (samples : List Sample) →
+        S.rest source.old ≡ Some bytes → K.written sink.old ≡ Some held → task_named words.now ≡ Some (Receive r) →
+        IsSampleFile bytes header samples → r.span ≤ length samples → IsCleanLink width script plan r header samples →
+        (Rose (S.faults source.old) (S.faults source.new) → ⊥) → (Rose (K.faults sink.old) (K.faults sink.new) → ⊥) →
+        (result ≡ Status.NoMemory)
+        ⊎ ((result ≡ clean_end plan) × (K.written sink.new ≡ Some (held ++ clean_text r.span plan))) }
 
     // `Done` and `NoSync` come only at the input's end; for a file, where it is good and all is written.
     ensures at_end { IsEnd result → IsAtEnd (S.rest source.new) }

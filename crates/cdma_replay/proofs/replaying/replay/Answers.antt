@@ -7,6 +7,7 @@ use Rattle.cdma_replay.specs.declared.words.Task.TheVariants.{Receive, Make}
 use Rattle.cdma_replay.specs.Find.{ended}
 use Rattle.cdma_replay.specs.Hearing.{file_end_of, file_text}
 use Rattle.cdma_replay.specs.Make.{made_file}
+use Rattle.cdma_replay.proofs.CleanTexts.{clean_reply}
 use Rattle.cdma_replay.proofs.MakingReplies.{bad_script_ends, good_script_ends, make_causes_at}
 use Rattle.cdma_replay.proofs.Replies.{causes_at, good_file_ends, same_reception, same_task, same_width}
 use Rattle.cdma_replay.proofs.replaying.replay.Goals as goal
@@ -55,3 +56,8 @@ pub returns-in-Make-clause-script : goal.returns-in-Make-clause-script
 returns-in-Make-clause-script g c fault blames =
     let e = c.make.ensures.bad_script fault (sym c.status_of-in-Make.ensures ∙ blames) in
     e.1
+
+pub returns-in-Receive-clause-clean : goal.returns-in-Receive-clause-clean
+returns-in-Receive-clause-clean g c width script bytes held plan r header samples is was named file enough clean read write =
+    clean_reply width script bytes held plan r header samples _ _ clean file.counted
+    (returns-in-Receive-clause-exact g c r bytes held header samples is was named file enough read write)
