@@ -8,6 +8,7 @@ pub mod Grammar
 pub mod Hearings
 pub mod Lines
 pub mod MadeFiles
+pub mod MadeLinks
 pub mod MakingReplies
 pub mod MarksTrue
 pub mod OneFinger

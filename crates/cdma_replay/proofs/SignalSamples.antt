@@ -47,7 +47,7 @@ pub length-made : (plan : CellPlan) → length (made_samples plan) ≡ plan.samp
 unfolding made_samples samples_of
 length-made plan = length-map (samples_of plan) sample_with ∙ length-map-places (sample_of plan) plan.samples
 
-made_at : (plan : CellPlan) (t : ℕ) → t < plan.samples → of_sample (get_or (made_samples plan) t no_sample) ≡ sample_of plan t
+pub made_at : (plan : CellPlan) (t : ℕ) → t < plan.samples → of_sample (get_or (made_samples plan) t no_sample) ≡ sample_of plan t
 unfolding made_samples samples_of
 made_at plan t lt =
     let long = length-map-places (sample_of plan) plan.samples in

@@ -1,8 +1,12 @@
 -- What a clean link gives back.
-use Rattle.std.specs.Prelude.{ℕ, ◌+◌, ◌<◌, ◌≡◌, true, false, nat_lt, length, replicate, pos, is_some, None, Some}
+use Rattle.std.specs.Prelude.{ℕ, ◌+◌, ◌<◌, ◌≡◌, true, false, nat_lt, List, length, take, replicate, pos, is_some, None, Some, Ok}
 use Rattle.viterbi.specs.Laws.{signed}
+use Rattle.cdma_io.specs.SampleFile.{IsSampleFile}
 use Rattle.cdma_io.specs.declared.width.Width.{Width}
+use Rattle.pilot_search.specs.Search.{best_phase}
+use Rattle.base_modulator.specs.Script.{plan_named}
 use Rattle.base_modulator.specs.Sendings.{sync_frame_bits, sync_symbols}
+use Rattle.base_modulator.specs.Transmitter.{header_of, phase_at}
 use Rattle.base_modulator.specs.declared.plan.CellPlan.{CellPlan}
 use Rattle.base_modulator.specs.declared.plan.SyncPlan.{SyncPlan}
 use Rattle.mobile_core.specs.Events.{events}
@@ -10,8 +14,9 @@ use Rattle.mobile_core.specs.Marks.{mark}
 use Rattle.mobile_core.specs.Streams.{frame_own_bits, frame_softs, is_in_file}
 use Rattle.mobile_core.specs.Tuning.{Tuning, sync_stream}
 use Rattle.mobile_core.specs.declared.mark.Mark.{Mark}
-use Rattle.cdma_replay.specs.CleanLink.{IsReceivable, IsTunedTo, IsTrueMark, first_frame, sent_events, soft_strength}
-use Rattle.cdma_replay.specs.Make.{made_samples}
+use Rattle.cdma_replay.specs.CleanLink.{IsCleanLink, IsReceivable, IsTunedTo, IsTrueMark, first_frame, sent_events, soft_strength}
+use Rattle.cdma_replay.specs.Make.{made_file, made_samples}
+use Rattle.cdma_replay.specs.declared.receiving.Reception.{Reception}
 
 -- the soft values of a received sync frame are one positive number times the signs of the symbols that were sent
 abbrev pub HaveSentSigns : Type 0
@@ -52,3 +57,14 @@ MarksAreTrue = (width : Width) (plan : CellPlan) (t : Tuning) (n : ℕ) (m : Mar
 abbrev pub IsMarkedWhereHeard : Type 0
 IsMarkedWhereHeard = (width : Width) (plan : CellPlan) (t : Tuning) →
     IsReceivable width plan → IsTunedTo plan t → is_some (mark t (made_samples plan) plan.samples) ≡ nat_lt 0 (length (sent_events plan))
+
+-- what `make` writes of a script is a sample file of the cell's samples
+abbrev pub IsReadableWhenMade : Type 0
+IsReadableWhenMade = (width : Width) (script : List ℕ) (plan : CellPlan) → plan_named width script ≡ Ok plan →
+    IsSampleFile (made_file width plan) (header_of width plan) (made_samples plan)
+
+-- and a clean link, where the search finds the cell's path and there is one finger
+abbrev pub IsCleanWhenMade : Type 0
+IsCleanWhenMade = (width : Width) (script : List ℕ) (plan : CellPlan) (r : Reception) → plan_named width script ≡ Ok plan →
+    best_phase (take r.span (made_samples plan)) ≡ phase_at plan plan.start → r.fingers ≡ Some 1 →
+    IsCleanLink width script plan r (header_of width plan) (made_samples plan)

@@ -1,6 +1,6 @@
 //! Laws of the definitions: each function does nothing, and its contract is the law.
 
-ghost use Rattle.cdma_replay.specs.CleanLaws.{AreZeroWithoutSync, FramesAreZeros, FramesComeBack, HaveSentSigns, IsMarkedWhereHeard, MarksAreTrue, WholeSendingsComeBack};
+ghost use Rattle.cdma_replay.specs.CleanLaws.{AreZeroWithoutSync, FramesAreZeros, FramesComeBack, HaveSentSigns, IsCleanWhenMade, IsMarkedWhereHeard, IsReadableWhenMade, MarksAreTrue, WholeSendingsComeBack};
 
 /// On a clean link the soft values of each sync frame in the file are `4 |h|^2 g0 g V C` times the signs of the symbols
 /// that were sent, where h is the link, g0 and g are the gains of the pilot and of the sync channel, and V and C the 1,024
@@ -26,4 +26,11 @@ pub fn whole_sendings_come_back()
 pub fn marks_are_true()
     ensures true_mark { MarksAreTrue }
     ensures set { IsMarkedWhereHeard }
+{}
+
+/// What `make` writes is a sample file of the cell's samples; where the search finds the cell's path in it, it is a clean
+/// link for one finger.
+pub fn made_files_are_clean_links()
+    ensures file { IsReadableWhenMade }
+    ensures clean { IsCleanWhenMade }
 {}

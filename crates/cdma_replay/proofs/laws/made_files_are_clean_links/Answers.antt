@@ -1,0 +1,8 @@
+use Rattle.cdma_replay.proofs.MadeLinks.{made_clean, made_readable}
+use Rattle.cdma_replay.proofs.laws.made_files_are_clean_links.Goals as goal
+
+pub returns-clause-file : goal.returns-clause-file
+returns-clause-file c = made_readable
+
+pub returns-clause-clean : goal.returns-clause-clean
+returns-clause-clean c = made_clean
