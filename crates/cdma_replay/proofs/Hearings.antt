@@ -1,5 +1,5 @@
 -- Lemmas on a handset whose events are told to a sink.
-use Rattle.std.proofs.Common.{◌≡◌, ℕ, zero, suc, ◌+◌, ◌-◌, ◌≤◌, ◌++◌, ◌∷◌, [], List, length, take, drop, refl, sym, ap, ◌∙◌, subst, arith, append_assoc, append-nil, length-append, length-take-le, All, IfSome, Bool, true, is_some, ℤ, pos, replicate, Option, None, Some, Result, Ok, Err, OnOk}
+use Rattle.std.proofs.Common.{◌≡◌, ℕ, zero, suc, ◌+◌, ◌-◌, ◌≤◌, ◌++◌, ◌∷◌, [], List, length, take, drop, refl, sym, ap, ◌∙◌, subst, arith, append_assoc, append-nil, length-append, length-take-le, All, IfSome, Bool, is_some, ℤ, pos, replicate, Option, None, Some, Result, Ok, Err, OnOk}
 use Rattle.std.proofs.lemmas.List.{length-replicate, take_all, take_at, take-append-drop}
 use Rattle.std.proofs.lemmas.List.Concat.{flat_map-append}
 use Rattle.std.specs.List.{flat_map, range_with_len}
@@ -24,7 +24,7 @@ use Rattle.mobile_core.specs.declared.mobile.Mobile.{Mobile}
 use Rattle.event_tap.specs.Lines.{event_line, text_of}
 use Rattle.cdma_replay.specs.declared.status.Status.{Status}
 use Rattle.cdma_replay.specs.declared.status.Status.TheVariants.{Done, NoSync, BadWords, BadFile, ReadFault, WriteFault, NoMemory, BadScript}
-use Rattle.cdma_replay.specs.Find.{IsEnd, IsFault}
+use Rattle.cdma_replay.specs.Find.{IsEnd, IsFault, PassesSamples}
 use Rattle.mobile_core.specs.Marks.{mark}
 use Rattle.mobile_core.proofs.Growth.{events_at_sync, sync_events_sooner}
 use Rattle.cdma_io.specs.declared.header.Header.{Header}
@@ -36,6 +36,7 @@ use Rattle.pilot_search.specs.declared.sweeping.Best.{Best}
 use Rattle.pilot_search.proofs.BestPhase.{best_phase-only}
 use Rattle.mobile_core.specs.declared.settings.Settings.{Settings}
 use Rattle.mobile_core.specs.Tuning.{tuning_of as tuning_by}
+use Rattle.cdma_replay.proofs.Prefixes.{begins_more, front_begins, prefix_before, prefix_behind, taken_begins}
 use Rattle.cdma_replay.specs.Hearing.{AreNearTo, AreReady, tuning_for, tuning_of, HasGiven, HasTold, HasRoom, HasRoomFor, HearsPart, HearsRest, Tells, TellsPart, events_in, is_told}
 
 -- ---- texts of events
@@ -51,10 +52,6 @@ text_of-none = refl
 text_of-one : (event : Event) → text_of (event ∷ []) ≡ event_line event
 unfolding text_of
 text_of-one event = append-nil (event_line event)
-
--- a list begins with what stands at its front
-front_begins : (all front back : List ℕ) → all ≡ front ++ back → StartsWith all front
-front_begins all front back is = ap (take (length front)) is ∙ take_at front back (length front) refl
 
 nil_taken : {X : Type 0} (n : ℕ) → take n (let none : List X = [] in none) ≡ []
 nil_taken zero = refl
@@ -167,19 +164,19 @@ told_part t one other given heard samples taken n event old mid new so_far stepp
     ∙ ap (λ (xs : List ℕ). xs ++ text_of left) (text_of-append (given ++ more) (event ∷ [])
     ∙ ap (λ (xs : List ℕ). xs ++ text_of (event ∷ [])) (text_of-append given more)
     ∙ ap (λ (xs : List ℕ). (text_of given ++ text_of more) ++ xs) (text_of-one event))) in
-    let first = take part.count line in
-    let back = drop part.count line in
-    let ends = (back ++ text_of left) ++ text_of later.0 in
+    let ends = text_of left ++ text_of later.0 in
+    let all = text_of more ++ (line ++ ends) in
+    let cut : AppendsPrefix old new all = prefix_behind old mid new (text_of more) (line ++ ends) so_far.written (prefix_before mid new line ends part) in
     record {
-      text = text_of more ++ first;
-      written = Appends-trans old mid new (text_of more) first so_far.written part.appended;
-      begins = front_begins _ (text_of given ++ (text_of more ++ first)) ends (text
-          ∙ ap (λ (xs : List ℕ). (((text_of given ++ text_of more) ++ xs) ++ text_of left) ++ text_of later.0) (sym (take-append-drop part.count line))
-          ∙ regroup (text_of given) (text_of more) first back (text_of left) (text_of later.0));
+      text = take cut.count all;
+      written = cut.appended;
+      begins =
+          subst (λ (xs : List ℕ). StartsWith xs (text_of given ++ take cut.count all)) (sym (text ∙ regroup (text_of given) (text_of more) line (text_of left) (text_of later.0)))
+          (begins_more (text_of given) all (take cut.count all) (taken_begins all cut.count cut.fits));
     }
   where
-    regroup : (a b c d e f : List ℕ) → (((a ++ b) ++ (c ++ d)) ++ e) ++ f ≡ (a ++ (b ++ c)) ++ ((d ++ e) ++ f)
-    regroup a b c d e f = simp append_assoc
+    regroup : (a b c d e : List ℕ) → (((a ++ b) ++ c) ++ d) ++ e ≡ a ++ (b ++ (c ++ (d ++ e)))
+    regroup a b c d e = simp append_assoc
 
 -- ---- without a handset, and with one
 
@@ -194,21 +191,11 @@ pub hears_some : (t : Option Tuning) (one other : Mobile) (given : List Event) (
 hears_some None one other given heard samples old new some tells = absurd some
 hears_some (Some t) one other given heard samples old new some tells = tells t heard given some
 
-pub hears_some_part : (t : Option Tuning) (one : Mobile) (given : List Event) (heard samples : List Sample) (old new : Option (List ℕ)) → HasGiven t (Some one) heard given →
-    ((t : Tuning) (heard : List Sample) (given : List Event) → StandsFor t one heard given → TellsPart (Some t) given (heard ++ samples) old new) →
-    TellsPart t given (heard ++ samples) old new
-hears_some_part None one given heard samples old new some tells = absurd some
-hears_some_part (Some t) one given heard samples old new some tells = tells t heard given some
-
 pub is_told_some : (t : Option Tuning) (mobile : Mobile) (heard : List Sample) (told : Bool) → HasGiven t (Some mobile) heard (events_in t heard) →
     ((t : Tuning) (heard : List Sample) → StandsFor t mobile heard (events t heard) → told ≡ is_some (mark t heard (length heard))) → told ≡ is_told t heard
 unfolding events_in
 is_told_some None mobile heard told given marked = absurd given
 is_told_some (Some t) mobile heard told given marked = marked t heard given
-
-pub is_told_none : (t : Option Tuning) (heard : List Sample) → HasGiven t None heard (events_in t heard) → true ≡ is_told t heard
-is_told_none None heard given = refl
-is_told_none (Some t) heard given = absurd given
 
 -- ---- a handset that has taken nothing
 
@@ -236,10 +223,6 @@ fresh_given settings header first (Some fingers) best near mobile found count ch
     let most : fingers ≤ 3 = omega (arith, near_is.0, ready.1) in
     subst (λ (t : Tuning). StandsFor t mobile [] []) (tuned_alike header first fingers settings best near found count check near_is.0 most long near_is.1) stands
 
-pub none_given : (header : Header) (first : List Sample) (fingers : Option ℕ) (phase : ℕ) → AreNearTo first phase fingers None → HasGiven (tuning_of header first fingers) None [] []
-none_given header first None phase near = refl
-none_given header first (Some fingers) phase near = absurd near
-
 -- ---- what follows where a call went well, or failed
 
 pub on_ok : {T E : Type 0} (r : Result T E) (P Q : Type 0) → (P → Q) → OnOk r P → OnOk r Q
@@ -255,46 +238,64 @@ room_for (Some mobile) left n room fits = omega (arith, room, fits)
 
 -- ---- reading on to the end
 
-pub rest_none : (t : Option Tuning) (width : Width) (handset : Option Mobile) (heard : List Sample) (n : ℕ) (rest old : Option (List ℕ)) → HasGiven t handset heard (events_in t heard) →
-    HearsRest t width (n - n) handset heard rest rest old old
-rest_none t width handset heard n rest old given = record {
-  samples = [];
-  counted = omega arith;
-  in_range = λ k d h. absurd (omega (arith, h));
-  consumed = Consumes-nil rest;
-  tells = rw (append-nil heard) (record { text = []; written = Appends-nil old; all = append-nil (text_of (events_in t heard)); stands = given });
+-- a source lost the spellings of so many samples, and one handset became the other by hearing them. The samples are known also
+-- where the handset stands for nothing that is known
+pub record Hears (width : Width) (count : ℕ) (one other : Option Mobile) (rest left old new : Option (List ℕ)) : Type 0 where
+  pub passed : PassesSamples width count rest left
+  pub tells : (t : Option Tuning) (heard : List Sample) → HasGiven t one heard (events_in t heard) → Tells t other (events_in t heard) (heard ++ passed.samples) old new
+
+pub hears_nothing : {width : Width} {handset : Option Mobile} {rest old : Option (List ℕ)} (n : ℕ) → Hears width (n - n) handset handset rest rest old old
+hears_nothing {width} {handset} {rest} {old} n = record {
+  passed = record { samples = []; counted = omega arith; in_range = λ k d h. absurd (omega (arith, h)); consumed = Consumes-nil rest };
+  tells = λ (t : Option Tuning) (heard : List Sample) (given : HasGiven t handset heard (events_in t heard)).
+      rw (append-nil heard) (record { text = []; written = Appends-nil old; all = append-nil (text_of (events_in t heard)); stands = given });
 }
 
+-- lines behind others
+tells_more : {t : Option Tuning} {one other : Option Mobile} {old between new : Option (List ℕ)} (heard samples more : List Sample) → Tells t one (events_in t heard) (heard ++ samples) old between →
+    ((heard : List Sample) (given : List Event) → HasGiven t one heard given → Tells t other given (heard ++ more) between new) → Tells t other (events_in t heard) (heard ++ (samples ++ more)) old new
+tells_more {t} {one} {other} {old} {between} {new} heard samples more first tells =
+    let next = tells (heard ++ samples) (events_in t (heard ++ samples)) first.stands in
+    subst (λ (xs : List Sample). Tells t other (events_in t heard) xs old new) (append_assoc heard samples more) (record {
+      text = first.text ++ next.text;
+      written = Appends-trans old between new first.text next.text first.written next.written;
+      all = sym (append_assoc (text_of (events_in t heard)) first.text next.text) ∙ ap (λ (xs : List ℕ). xs ++ next.text) first.all ∙ next.all;
+      stands = next.stands;
+    })
+
+-- spellings behind others
+consumes_more : (width same : Width) (rest mid left : Option (List ℕ)) (samples more : List Sample) → same ≡ width → Consumes rest mid (flat_map (sample_spelling width) samples) →
+    Consumes mid left (flat_map (sample_spelling same) more) → Consumes rest left (flat_map (sample_spelling width) (samples ++ more))
+consumes_more width same rest mid left samples more is consumed next =
+    subst (Consumes rest left) (sym (flat_map-append (sample_spelling width) samples more))
+    (Consumes-trans rest mid left (flat_map (sample_spelling width) samples) (flat_map (sample_spelling width) more) consumed (rw is at next))
+
 -- the next samples, of those that are left now
-pub rest_more : (t : Option Tuning) (width same : Width) (one other : Option Mobile) (heard : List Sample) (rest mid left old between new : Option (List ℕ)) (all now n : ℕ) (out : List Sample) → same ≡ width →
-    HearsRest t width (all - now) one heard rest mid old between → now ≤ all → n ≤ now → n ≤ length out →
-    All (HasBits same) (take n out) → Consumes mid left (flat_map (sample_spelling same) (take n out)) →
-    ((heard : List Sample) (given : List Event) → HasGiven t one heard given → Tells t other given (heard ++ take n out) between new) →
-    HearsRest t width (all - (now - n)) other heard rest left old new
-rest_more t width same one other heard rest mid left old between new all now n out is h low fits room range consumed tells =
-    let next = tells (heard ++ h.samples) (events_in t (heard ++ h.samples)) h.tells.stands in
-    let in_range : All (HasBits width) (take n out) = subst (λ (w : Width). All (HasBits w) (take n out)) is range in
-    let read : Consumes mid left (flat_map (sample_spelling width) (take n out)) =
-    subst (λ (w : Width). Consumes mid left (flat_map (sample_spelling w) (take n out))) is consumed in
-    let joined : (heard ++ h.samples) ++ take n out ≡ heard ++ (h.samples ++ take n out) = append_assoc heard h.samples (take n out) in
-    record {
-      samples = h.samples ++ take n out;
-      counted = omega (arith, length-append h.samples (take n out), length-take-le n out room, h.counted, low, fits);
-      in_range = All-append (HasBits width) h.samples (take n out) h.in_range in_range;
-      consumed =
-          subst (Consumes rest left) (sym (flat_map-append (sample_spelling width) h.samples (take n out)))
-          (Consumes-trans rest mid left (flat_map (sample_spelling width) h.samples) (flat_map (sample_spelling width) (take n out)) h.consumed read);
-      tells = record {
-        text = h.tells.text ++ next.text;
-        written = Appends-trans old between new h.tells.text next.text h.tells.written next.written;
-        all =
-            sym (append_assoc (text_of (events_in t heard)) h.tells.text next.text)
-            ∙ ap (λ (xs : List ℕ). xs ++ next.text) h.tells.all
-            ∙ next.all
-            ∙ ap (λ (xs : List Sample). text_of (events_in t xs)) joined;
-        stands = subst (λ (xs : List Sample). HasGiven t other xs (events_in t xs)) joined next.stands;
-      };
-    }
+pub hears_more : {width same : Width} {first one other : Option Mobile} {rest mid left old between new : Option (List ℕ)} (all now n later : ℕ) (out : List Sample) → same ≡ width → later ≡ now - n →
+    Hears width (all - now) first one rest mid old between → now ≤ all → n ≤ now → n ≤ length out → All (HasBits same) (take n out) → Consumes mid left (flat_map (sample_spelling same) (take n out)) →
+    ((t : Option Tuning) (heard : List Sample) (given : List Event) → HasGiven t one heard given → Tells t other given (heard ++ take n out) between new) →
+    Hears width (all - later) first other rest left old new
+hears_more {width} {same} {first} {one} {other} {rest} {mid} {left} {old} {between} {new} all now n later out is fewer h low fits room range consumed tells = record {
+  passed = record {
+    samples = h.passed.samples ++ take n out;
+    counted = omega (arith, length-append h.passed.samples (take n out), length-take-le n out room, h.passed.counted, fewer, low, fits);
+    in_range = All-append (HasBits width) h.passed.samples (take n out) h.passed.in_range (subst (λ (w : Width). All (HasBits w) (take n out)) is range);
+    consumed = consumes_more width same rest mid left h.passed.samples (take n out) is h.passed.consumed consumed;
+  };
+  tells = λ (t : Option Tuning) (heard : List Sample) (given : HasGiven t first heard (events_in t heard)).
+      tells_more heard h.passed.samples (take n out) (h.tells t heard given) (tells t);
+}
+
+-- the end was reached: no sample is left
+pub hears_all : {width : Width} {one other : Option Mobile} {rest mid left old new : Option (List ℕ)} (all now : ℕ) → Hears width (all - now) one other rest mid old new → now ≤ 0 → Keeps mid left →
+    (t : Option Tuning) (heard : List Sample) → HasGiven t one heard (events_in t heard) → HearsRest t width all other heard rest left old new
+hears_all {width} {one} {other} {rest} {mid} {left} all now h done keeps t heard given = record {
+  samples = h.passed.samples;
+  counted = omega (arith, h.passed.counted, done);
+  in_range = h.passed.in_range;
+  consumed = Consumes-kept rest mid left (flat_map (sample_spelling width) h.passed.samples) h.passed.consumed keeps;
+  tells = h.tells t heard given;
+}
 
 -- known bytes begin with those that were lost at their front
 consumed_first : (old new : Option (List ℕ)) (bytes : List ℕ) → Consumes old new bytes → IfSome old (λ all. StartsWith all bytes)
@@ -306,58 +307,45 @@ all_begins : (xs ys : List ℕ) → xs ≡ ys → StartsWith ys xs
 all_begins xs ys same = front_begins ys xs [] (sym same ∙ sym (append-nil xs))
 
 -- what was told so far is a part of it
-pub rest_part : (t : Option Tuning) (width : Width) (count : ℕ) (handset : Option Mobile) (heard : List Sample) (rest left old new : Option (List ℕ)) →
-    HearsRest t width count handset heard rest left old new → HearsPart t width heard rest old new
-rest_part t width count handset heard rest left old new h = record {
-  samples = h.samples;
-  first = consumed_first rest left (flat_map (sample_spelling width) h.samples) h.consumed;
-  text = h.tells.text;
-  written = h.tells.written;
-  begins = all_begins _ _ h.tells.all;
-}
-
--- a write failed behind what was told so far
-pub rest_stopped : (t : Option Tuning) (width same : Width) (count : ℕ) (one : Option Mobile) (heard : List Sample) (rest mid left old between new : Option (List ℕ)) (n : ℕ) (out : List Sample) → same ≡ width →
-    HearsRest t width count one heard rest mid old between → Consumes mid left (flat_map (sample_spelling same) (take n out)) →
-    ((heard : List Sample) (given : List Event) → HasGiven t one heard given → TellsPart t given (heard ++ take n out) between new) →
-    HearsPart t width heard rest old new
-rest_stopped t width same count one heard rest mid left old between new n out is h consumed tells =
-    let next = tells (heard ++ h.samples) (events_in t (heard ++ h.samples)) h.tells.stands in
-    let read : Consumes mid left (flat_map (sample_spelling width) (take n out)) =
-    subst (λ (w : Width). Consumes mid left (flat_map (sample_spelling w) (take n out))) is consumed in
-    let whole : Consumes rest left (flat_map (sample_spelling width) (h.samples ++ take n out)) =
-    subst (Consumes rest left) (sym (flat_map-append (sample_spelling width) h.samples (take n out)))
-    (Consumes-trans rest mid left (flat_map (sample_spelling width) h.samples) (flat_map (sample_spelling width) (take n out)) h.consumed read) in
+pub hears_part : {width : Width} {count : ℕ} {one other : Option Mobile} {rest left old new : Option (List ℕ)} → Hears width count one other rest left old new →
+    (t : Option Tuning) (heard : List Sample) → HasGiven t one heard (events_in t heard) → HearsPart t width heard rest old new
+hears_part {width} {count} {one} {other} {rest} {left} h t heard given =
+    let tells = h.tells t heard given in
     record {
-      samples = h.samples ++ take n out;
-      first = consumed_first rest left (flat_map (sample_spelling width) (h.samples ++ take n out)) whole;
-      text = h.tells.text ++ next.text;
-      written = Appends-trans old between new h.tells.text next.text h.tells.written next.written;
-      begins =
-          subst (λ (xs : List Sample). StartsWith (text_of (events_in t xs)) (text_of (events_in t heard) ++ (h.tells.text ++ next.text))) (append_assoc heard h.samples (take n out))
-          (subst (StartsWith (text_of (events_in t ((heard ++ h.samples) ++ take n out)))) (ap (λ (xs : List ℕ). xs ++ next.text) (sym h.tells.all) ∙ append_assoc (text_of (events_in t heard)) h.tells.text next.text) next.begins);
+      samples = h.passed.samples;
+      first = consumed_first rest left (flat_map (sample_spelling width) h.passed.samples) h.passed.consumed;
+      text = tells.text;
+      written = tells.written;
+      begins = all_begins _ _ tells.all;
     }
 
--- the end was reached: no sample is left
-pub rest_ended : (t : Option Tuning) (width : Width) (handset : Option Mobile) (heard : List Sample) (rest mid left old new : Option (List ℕ)) (all now : ℕ) → now ≤ 0 → Keeps mid left →
-    HearsRest t width (all - now) handset heard rest mid old new → HearsRest t width all handset heard rest left old new
-rest_ended t width handset heard rest mid left old new all now done keeps h =
-    record { samples = h.samples; counted = omega (arith, h.counted, done); in_range = h.in_range; consumed = Consumes-kept rest mid left (flat_map (sample_spelling width) h.samples) h.consumed keeps; tells = h.tells }
+-- a write failed behind what was told so far
+pub hears_stopped : {width same : Width} {count : ℕ} {one other : Option Mobile} {rest mid old between new : Option (List ℕ)} (left : Option (List ℕ)) (more : List Sample) → same ≡ width →
+    Hears width count one other rest mid old between → Consumes mid left (flat_map (sample_spelling same) more) →
+    ((t : Option Tuning) (heard : List Sample) (given : List Event) → HasGiven t other heard given → TellsPart t given (heard ++ more) between new) →
+    (t : Option Tuning) (heard : List Sample) → HasGiven t one heard (events_in t heard) → HearsPart t width heard rest old new
+hears_stopped {width} {same} {count} {one} {other} {rest} {mid} {old} {between} {new} left more is h consumed part t heard given =
+    let samples = h.passed.samples in
+    let first = h.tells t heard given in
+    let next = part t (heard ++ samples) (events_in t (heard ++ samples)) first.stands in
+    record {
+      samples = samples ++ more;
+      first = consumed_first rest left (flat_map (sample_spelling width) (samples ++ more)) (consumes_more width same rest mid left samples more is h.passed.consumed consumed);
+      text = first.text ++ next.text;
+      written = Appends-trans old between new first.text next.text first.written next.written;
+      begins =
+          subst (λ (xs : List Sample). StartsWith (text_of (events_in t xs)) (text_of (events_in t heard) ++ (first.text ++ next.text))) (append_assoc heard samples more)
+          (subst (StartsWith (text_of (events_in t ((heard ++ samples) ++ more)))) (ap (λ (xs : List ℕ). xs ++ next.text) (sym first.all) ∙ append_assoc (text_of (events_in t heard)) first.text next.text) next.begins);
+    }
 
 -- ---- a fault is no good end
 
-pub fault_no_end : (fault status : Status) → status ≡ fault → IsFault fault → IsEnd status → ⊥
-fault_no_end fault Done is faulty end = no_fault (subst IsFault (sym is) faulty)
-  where
-    no_fault : IsFault Done → ⊥
-    no_fault x = x
-fault_no_end fault NoSync is faulty end = no_fault (subst IsFault (sym is) faulty)
-  where
-    no_fault : IsFault NoSync → ⊥
-    no_fault x = x
-fault_no_end fault BadWords is faulty end = end
-fault_no_end fault (BadFile e) is faulty end = end
-fault_no_end fault ReadFault is faulty end = end
-fault_no_end fault WriteFault is faulty end = end
-fault_no_end fault NoMemory is faulty end = end
-fault_no_end fault (BadScript e) is faulty end = end
+pub fault_no_end : (status : Status) → IsFault status → IsEnd status → ⊥
+fault_no_end Done faulty end = faulty
+fault_no_end NoSync faulty end = faulty
+fault_no_end BadWords faulty end = end
+fault_no_end (BadFile e) faulty end = end
+fault_no_end ReadFault faulty end = end
+fault_no_end WriteFault faulty end = end
+fault_no_end NoMemory faulty end = end
+fault_no_end (BadScript e) faulty end = end

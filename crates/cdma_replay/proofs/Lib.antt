@@ -12,6 +12,7 @@ pub mod MadeLinks
 pub mod MakingReplies
 pub mod MarksTrue
 pub mod OneFinger
+pub mod Prefixes
 pub mod Replies
 pub mod SendingCapsules
 pub mod SendingEvents

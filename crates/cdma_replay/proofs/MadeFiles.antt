@@ -1,12 +1,12 @@
 -- Lemmas on scripts that are read, and on files of cells that are written.
-use Rattle.std.proofs.Common.{◌≡◌, ◌≢◌, ℕ, ◌+◌, ◌<◌, ◌≤◌, List, [], ◌∷◌, ◌++◌, length, map, take, drop, refl, sym, ap, ◌∙◌, subst, arith, inl, inr, append-nil, length-append, le_refl, Option, None, Some, IfSome, Ok, Err}
+use Rattle.std.proofs.Common.{◌≡◌, ◌≢◌, ℕ, ◌+◌, ◌<◌, ◌≤◌, List, [], ◌∷◌, ◌++◌, length, map, take, drop, refl, sym, ap, ◌∙◌, subst, arith, inl, inr, append-nil, le_refl, Option, None, Some, IfSome, Result, Ok, Err}
 use Rattle.std.specs.List.{flat_map}
 use Rattle.std.specs.Io.KnownBytes.{Appends, Consumes, IsAtEnd}
-use Rattle.std.proofs.KnownBytes.{Appends-nil, Appends-trans}
+use Rattle.std.proofs.KnownBytes.{Appends-trans}
 use Rattle.std.proofs.lemmas.Bool.{cases_lt, cond-true, lt-ltb}
 use Rattle.std.proofs.lemmas.List.{drop-map, length-take-le, take-append-le, take-append-drop, take_all, take-map}
 use Rattle.std.proofs.lemmas.List.Concat.{flat_map-append}
-use Rattle.std.proofs.Math.Seq.{take-add, take-append-add}
+use Rattle.std.proofs.Math.Seq.{take-add}
 use Rattle.chip_core.specs.Complex.{of_sample}
 use Rattle.chip_core.specs.declared.sample.Sample.{Sample}
 use Rattle.cdma_io.specs.declared.width.Width.{Width}
@@ -20,8 +20,9 @@ use Rattle.base_modulator.specs.Signal.{samples_of}
 use Rattle.base_modulator.specs.Transmitter.{header_of}
 use Rattle.cdma_replay.specs.declared.status.Status.TheVariants as Status
 use Rattle.cdma_replay.specs.Status.{script_status}
+use Rattle.cdma_replay.proofs.Prefixes.{prefix_before, prefix_behind, prefix_of, taken_begins}
 use Rattle.cdma_replay.proofs.SignalSamples.{length-made}
-use Rattle.cdma_replay.specs.Make.{WritesMadeFile, WritesNoMoreMade, made_file, made_samples, piece_bytes, sample_bytes, sample_with}
+use Rattle.cdma_replay.specs.Make.{WritesNoMoreMade, made_file, made_samples, piece_bytes, sample_bytes, sample_with}
 
 -- ---- scripts
 
@@ -72,15 +73,10 @@ read_names width (Some bytes) (Some rest) buf n room fits consumed ends =
     ap (plan_named width) (read_front bytes rest buf n room fits consumed ends) ∙ named_by_front width bytes
 
 -- so they name a cell where it does, and have a fault where it has it
-pub read_plan : (width : Width) (old : Option (List ℕ)) (script : List ℕ) (plan : CellPlan) → IfSome old (λ bytes. plan_named width script ≡ plan_named width bytes) →
-    plan_named width script ≡ Ok plan → IfSome old (λ bytes. plan_named width bytes ≡ Ok plan)
-read_plan width None script plan same is = tt
-read_plan width (Some bytes) script plan same is = sym same ∙ is
-
-pub read_script_fault : (width : Width) (old : Option (List ℕ)) (script : List ℕ) (fault : ScriptFault) → IfSome old (λ bytes. plan_named width script ≡ plan_named width bytes) →
-    plan_named width script ≡ Err fault → IfSome old (λ bytes. plan_named width bytes ≡ Err fault)
-read_script_fault width None script fault same is = tt
-read_script_fault width (Some bytes) script fault same is = sym same ∙ is
+pub read_named : (width : Width) (old : Option (List ℕ)) (script : List ℕ) (named : Result CellPlan ScriptFault) → IfSome old (λ bytes. plan_named width script ≡ plan_named width bytes) →
+    plan_named width script ≡ named → IfSome old (λ bytes. plan_named width bytes ≡ named)
+read_named width None script named same is = tt
+read_named width (Some bytes) script named same is = sym same ∙ is
 
 -- a script that names a cell was read to its end
 pub read_to_end : (width : Width) (new : Option (List ℕ)) (buf : List ℕ) (n : ℕ) (plan : CellPlan) → length buf ≡ 1048577 → n ≤ length buf → (n < length buf → IsAtEnd new) →
@@ -135,26 +131,6 @@ first_and_rest width plan given =
 
 -- ---- what a sink took
 
--- a beginning of a list is one of a longer list
-pub prefix_before : (old new : Option (List ℕ)) (a b : List ℕ) → AppendsPrefix old new a → AppendsPrefix old new (a ++ b)
-prefix_before old new a b part = record {
-  count = part.count;
-  fits = omega (arith, part.fits, length-append a b);
-  appended = subst (Appends old new) (sym (take-append-le part.count a b part.fits)) part.appended;
-}
-
--- a list, and a beginning of the next
-pub prefix_behind : (old mid new : Option (List ℕ)) (a b : List ℕ) → Appends old mid a → AppendsPrefix mid new b → AppendsPrefix old new (a ++ b)
-prefix_behind old mid new a b before part = record {
-  count = length a + part.count;
-  fits = omega (arith, part.fits, length-append a b);
-  appended = subst (Appends old new) (sym (take-append-add a b part.count)) (Appends-trans old mid new a (take part.count b) before part.appended);
-}
-
--- before the first sample
-pub first_none : (width : Width) (plan : CellPlan) (given : ℕ) (old : Option (List ℕ)) → given ≡ 0 → Appends old old (first_bytes width plan given)
-first_none width plan given old is = subst (λ (n : ℕ). Appends old old (first_bytes width plan n)) (sym is) (Appends-nil old)
-
 -- a piece more was written
 pub piece_more : (width : Width) (plan now : CellPlan) (given n later : ℕ) (old mid new : Option (List ℕ)) → now ≡ plan → later ≡ given + n →
     Appends old mid (first_bytes width plan given) → Appends mid new (piece_bytes width now given n) → Appends old new (first_bytes width plan later)
@@ -197,9 +173,6 @@ file_whole width plan old mid new before more = Appends-trans old mid new (heade
 
 -- ---- what was written of the script's cell
 
-pub writes_none : (width : Width) (rest old : Option (List ℕ)) → WritesNoMoreMade width rest old old
-writes_none width rest old = record { text = []; written = Appends-nil old; part = inl refl }
-
 pub writes_part : (width : Width) (plan : CellPlan) (rest old new : Option (List ℕ)) → IfSome rest (λ bytes. plan_named width bytes ≡ Ok plan) →
     AppendsPrefix old new (made_file width plan) → WritesNoMoreMade width rest old new
 writes_part width plan rest old new is part = record {
@@ -208,21 +181,11 @@ writes_part width plan rest old new is part = record {
   part = inr (record {
     plan = plan;
     named = is;
-    begins = ap (λ (n : ℕ). take n (made_file width plan)) (length-take-le part.count (made_file width plan) part.fits);
+    begins = taken_begins (made_file width plan) part.count part.fits;
   });
 }
 
 pub writes_whole : (width : Width) (plan : CellPlan) (rest old new : Option (List ℕ)) → IfSome rest (λ bytes. plan_named width bytes ≡ Ok plan) →
     Appends old new (made_file width plan) → WritesNoMoreMade width rest old new
 writes_whole width plan rest old new is all =
-    let file = made_file width plan in
-    writes_part width plan rest old new is (record {
-      count = length file;
-      fits = omega arith;
-      appended = subst (Appends old new) (sym (take_all (length file) file (omega arith))) all;
-    })
-
-pub writes_file : (width : Width) (plan : CellPlan) (rest old new : Option (List ℕ)) → IfSome rest (λ bytes. plan_named width bytes ≡ Ok plan) →
-    Appends old new (made_file width plan) → IfSome rest (λ bytes. WritesMadeFile width bytes old new)
-writes_file width plan None old new is all = tt
-writes_file width plan (Some bytes) old new is all = record { plan = plan; named = is; written = all }
+    let file = made_file width plan in writes_part width plan rest old new is (prefix_of old new file file all (take_all (length file) file (omega arith)))

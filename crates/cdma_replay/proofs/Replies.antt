@@ -50,20 +50,6 @@ good_file_ends r (Status.BadFile fault) rest old new R W causes bytes held heade
     let none = (causes.bad_file fault refl).1 in
     absurd ((rw is at none) (record { header = header; samples = samples; file = file; enough = enough }))
 
-pub broken_file_ends : (r : Reception) (status : Status) (rest old new : Option (List ℕ)) (R W : Type 0) → HasCauses r status rest old new R W →
-    (bytes : List ℕ) → rest ≡ Some bytes → (IsSearchable bytes r.span → ⊥) → (R → ⊥) → (W → ⊥) →
-    (status ≡ Status.NoMemory) ⊎ ((fault : FileFault) × (status ≡ Status.BadFile fault))
-broken_file_ends r Status.Done rest old new R W causes bytes is broken read write =
-    let written = causes.done tt in absurd (broken (rw is at written).searchable)
-broken_file_ends r Status.NoSync rest old new R W causes bytes is broken read write =
-    let written = causes.done tt in absurd (broken (rw is at written).searchable)
-broken_file_ends r Status.NoMemory rest old new R W causes bytes is broken read write = inl refl
-broken_file_ends r Status.BadWords rest old new R W causes bytes is broken read write = absurd causes.others
-broken_file_ends r (Status.BadScript fault) rest old new R W causes bytes is broken read write = absurd causes.others
-broken_file_ends r Status.ReadFault rest old new R W causes bytes is broken read write = absurd (read (causes.read refl))
-broken_file_ends r Status.WriteFault rest old new R W causes bytes is broken read write = absurd (write (causes.write refl))
-broken_file_ends r (Status.BadFile fault) rest old new R W causes bytes is broken read write = inr (fault, refl)
-
 -- ---- what was asked for
 
 pub same_task : (job : Option Job) (found : Job) (task other : Task) → job ≡ Some found → task ≡ task_of found → task_in job ≡ Some other → task ≡ other

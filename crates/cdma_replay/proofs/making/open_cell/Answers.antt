@@ -1,12 +1,10 @@
-use Rattle.std.proofs.Common.{◌≡◌, ◌≢◌, ◌≤◌, sym, ap, ◌∙◌, subst, rules, Err, take, length}
-use Rattle.std.proofs.lemmas.Result.{err_from_is_err_and}
+use Rattle.std.proofs.Common.{◌≡◌, ◌≢◌, ◌≤◌, sym, ap, ◌∙◌, subst, rules, Ok, Err, take, length}
 use Rattle.base_modulator.specs.Script.{plan_named}
 use Rattle.base_modulator.specs.declared.script_fault.ScriptFault.{ScriptFault}
 use Rattle.base_modulator.specs.declared.script_fault.ScriptFault.TheVariants.{OutOfMemory}
-use Rattle.cdma_replay.specs.declared.status.Status.TheVariants.{BadScript}
 use Rattle.cdma_replay.specs.Status.{script_status}
-use Rattle.cdma_replay.specs.Find.{ended}
-use Rattle.cdma_replay.proofs.MadeFiles.{bad_script_is, read_names, read_plan, read_script_fault, read_to_end}
+use Rattle.cdma_replay.proofs.Files.{ended_by}
+use Rattle.cdma_replay.proofs.MadeFiles.{bad_script_is, read_named, read_names, read_to_end}
 use Rattle.cdma_replay.proofs.making.open_cell.Goals as goal
 
 pub returns-in_err-new-clause-bad_script : goal.returns-in_err-new-clause-bad_script
@@ -16,12 +14,11 @@ returns-in_err-new-clause-bad_script g c fault is =
     let room : length buf ≡ 1048577 = search rules in
     let fits : count ≤ length buf = c.in-Ok.ensures.bound in
     let same = read_names c.args.width (g.S.Source.rest c.args.source.now) (g.S.Source.rest c.fill.new.source) buf count room fits c.in-Ok.ensures.bytes c.in-Ok.ensures.ends in
-    let p = err_from_is_err_and c.from_residual.result c.from_residual.ensures.1 in
-    let blames : script_status c.in_err-new.field-0.0 ≡ BadScript fault = sym (ap ended p.1 ∙ p.2) ∙ is in
+    let blames = sym (ended_by c.from_residual.result (script_status c.in_err-new.field-0.0) c.from_residual.ensures.1) ∙ is in
     let e = bad_script_is c.in_err-new.field-0.0 fault blames in
     let other = subst (λ (f : ScriptFault). f ≢ OutOfMemory) (sym e.0) e.1 in
     let faulty : plan_named c.args.width (take count buf) ≡ Err fault = c.in_err-new.ensures.fault other ∙ ap Err e.0 in
-    (e.1, read_script_fault c.args.width (g.S.Source.rest c.args.source.now) (take count buf) fault same faulty)
+    (e.1, read_named c.args.width (g.S.Source.rest c.args.source.now) (take count buf) (Err fault) same faulty)
 
 pub returns-clause-named : goal.returns-clause-named
 returns-clause-named g c =
@@ -30,7 +27,7 @@ returns-clause-named g c =
     let room : length buf ≡ 1048577 = search rules in
     let fits : count ≤ length buf = c.in-Ok.ensures.bound in
     let same = read_names c.args.width (g.S.Source.rest c.args.source.now) (g.S.Source.rest c.fill.new.source) buf count room fits c.in-Ok.ensures.bytes c.in-Ok.ensures.ends in
-    read_plan c.args.width (g.S.Source.rest c.args.source.now) (take count buf) c.in_ok-new.field-0.plan same c.in_ok-new.ensures.planned
+    read_named c.args.width (g.S.Source.rest c.args.source.now) (take count buf) (Ok c.in_ok-new.field-0.plan) same c.in_ok-new.ensures.planned
 
 pub returns-clause-at_end : goal.returns-clause-at_end
 returns-clause-at_end g c =

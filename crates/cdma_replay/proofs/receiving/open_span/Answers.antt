@@ -3,23 +3,8 @@ use Rattle.std.proofs.lemmas.Result.{err_from_is_err_and}
 use Rattle.std.proofs.Common.{◌≡◌, ◌≤◌, IsNone, None, ap, refl}
 use Rattle.cdma_io.specs.SampleFile.{Reading}
 use Rattle.cdma_replay.proofs.Faults.{fault_of_opening, fault_of_count, fault_of_span}
-use Rattle.cdma_replay.proofs.Files.{refused, too_few, span_fault}
+use Rattle.cdma_replay.proofs.Files.{no_file, unsearchable}
 use Rattle.cdma_replay.proofs.receiving.open_span.Goals as goal
-
-pub returns-in_err-reader-clause-fault : goal.returns-in_err-reader-clause-fault
-returns-in_err-reader-clause-fault g c =
-    let p = err_from_is_err_and c.from_residual.result c.from_residual.ensures.1 in
-    rw (p.1, p.2) (refused (g.S.Source.rest c.args.source.now) (length c.args.span.now) _ c.in_err-reader.ensures.told)
-
-pub returns-then-count-span-clause-fault : goal.returns-then-count-span-clause-fault
-returns-then-count-span-clause-fault g c other =
-    too_few (g.S.Source.rest c.args.source.now) (length c.args.span.now) c.in_ok-reader.reader c.in_ok-reader.ensures.told (search rules)
-
-pub returns-in_err-read-clause-fault : goal.returns-in_err-read-clause-fault
-returns-in_err-read-clause-fault g c =
-    let p = err_from_is_err_and c.from_residual-in_err-read.result c.from_residual-in_err-read.ensures.1 in
-    rw (p.1, p.2) (span_fault (g.S.Source.rest c.args.source.now) _ _ (length c.args.span.now) c.in_ok-reader.reader _ c.in_ok-reader.ensures.told c.in_ok-reader.ensures.header
-    c.in_ok-reader.ensures.fresh c.in_err-read.ensures.fault)
 
 pub returns-in_err-reader-clause-place : goal.returns-in_err-reader-clause-place
 returns-in_err-reader-clause-place g c =
@@ -39,3 +24,13 @@ returns-in_err-read-clause-place g c =
     let p = err_from_is_err_and c.from_residual-in_err-read.result c.from_residual-in_err-read.ensures.1 in
     rw (p.1, p.2) (fault_of_span _ (g.S.Source.rest c.args.source.now) _ _ (length c.args.span.now) reading c.in_ok-reader.ensures.told c.in_ok-reader.ensures.header
     (ap (λ (r : Reading). r.left) c.in_ok-reader.ensures.fresh) enough (c.in_err-read.ensures.fault none))
+
+-- bytes with a fault are no file
+pub returns-in_err-reader-clause-fault : goal.returns-in_err-reader-clause-fault
+returns-in_err-reader-clause-fault g c = no_file c.from_residual.result (g.S.Source.rest c.args.source.now) (length c.args.span.now) (returns-in_err-reader-clause-place g c)
+
+pub returns-then-count-span-clause-fault : goal.returns-then-count-span-clause-fault
+returns-then-count-span-clause-fault g c other = unsearchable (g.S.Source.rest c.args.source.now) (length c.args.span.now) _ (returns-then-count-span-clause-place g c other)
+
+pub returns-in_err-read-clause-fault : goal.returns-in_err-read-clause-fault
+returns-in_err-read-clause-fault g c = no_file c.from_residual-in_err-read.result (g.S.Source.rest c.args.source.now) (length c.args.span.now) (returns-in_err-read-clause-place g c)
