@@ -20,13 +20,13 @@ const SYMBOL_CHIPS: u64 = 256;
 
 /// The row that spreads the sync channel.
 ///
-/// TIA/EIA-95-B, 7.1.3.2.3.
+/// TIA/EIA-95-B, 7.1.3.3.
 const ROW: u8 = 32;
 
 /// The sync channel at one of its frames, whose symbols are kept. Contracts see the plan, the channel's own plan and the
 /// frame's number.
 ///
-/// TIA/EIA-95-B, 7.1.3.2: the encoder goes on from frame to frame, and each code symbol is sent twice.
+/// TIA/EIA-95-B, 7.1.3.3: the encoder goes on from frame to frame, and each code symbol is sent twice.
 #[derive(Drop)]
 pub struct SyncChannel {
     gain: u16,

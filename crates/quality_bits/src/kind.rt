@@ -8,7 +8,7 @@ ghost use Rattle.quality_bits.specs.Kinds.{generator_of};
 /// A kind of check, named by the number of its bits: Q for the quality indicator of a traffic frame, M for the check of
 /// a message.
 ///
-/// TIA/EIA-95-B: 7.1.3.4.2 for the frames, 7.7.1.2.2 (sync), 7.7.2.2.2 (paging) and 7.7.3.3.2 (traffic) for the messages.
+/// TIA/EIA-95-B: 7.1.3.5.2 for the frames, 7.7.1.2.2 (sync), 7.7.2.2.2 (paging) and 7.7.3.3.2 (traffic) for the messages.
 #[derive(Clone, Copy, PartialEq, Eq, Debug)]
 pub enum Kind {
     /// x^6 + x^2 + x + 1: rate set 2, 1800 bit/s.

@@ -6,7 +6,7 @@ ghost use Rattle.rake_finger.specs.Soft.{symbol_chips, window_chips, windows, wi
 /// How a channel's frame is cut into symbols, and into the windows whose pilot turns them.
 #[derive(Clone, Copy, PartialEq, Eq, Debug)]
 pub enum Form {
-    /// The sync channel: 128 symbols of 256 chips, and windows of 1,024 chips (TIA/EIA-95-B, 7.1.3.2).
+    /// The sync channel: 128 symbols of 256 chips, and windows of 1,024 chips (TIA/EIA-95-B, 7.1.3.3).
     Sync,
     /// The paging and traffic channels: 384 symbols of 64 chips, and windows of 1,536 chips, a power control group each.
     Data,
