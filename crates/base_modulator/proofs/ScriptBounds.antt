@@ -1,15 +1,14 @@
 -- What the statements of a script say is within its bounds.
-use Rattle.std.proofs.Common.{◌≡◌, ℕ, zero, suc, ◌+◌, ◌*◌, ◌%◌, ◌^◌, ◌<◌, ◌≤◌, Bool, true, false, cond, List, [], ◌∷◌, length, refl, subst, arith, ℤ, unsigned_abs, Option, None, Some, IfSome}
-use Rattle.std.specs.Prelude.{codes, nat_lt, nat_le, ◌==◌, option_and_then, option_map, FitsSigned}
+use Rattle.std.proofs.Common.{◌≡◌, ℕ, zero, suc, ◌+◌, ◌*◌, ◌^◌, ◌<◌, ◌≤◌, Bool, true, false, cond, List, [], ◌∷◌, length, refl, subst, arith, ℤ, unsigned_abs, Option, None, Some, IfSome}
+use Rattle.std.specs.Prelude.{codes, nat_lt, ◌==◌, option_and_then, option_map, FitsSigned}
 use Rattle.std.specs.Int.{w16}
-use Rattle.std.proofs.lemmas.Bool.{and_parts, eqb-false, eqb-true, leb-true, ltb-true}
+use Rattle.std.proofs.lemmas.Bool.{and_parts, eqb-false, ltb-true}
 use Rattle.std.proofs.lemmas.Int.{ints}
 use Rattle.std.proofs.lemmas.Option.{cond_some, same_Some}
 use Rattle.chip_core.specs.Complex.{norm}
 use Rattle.chip_core.specs.Fields.{FieldsFit}
 use Rattle.long_code.specs.LongCode.{IsState}
 use Rattle.sync_message.specs.SyncMessage.{fixed_fields, IsSyncMessage}
-use Rattle.sync_message.specs.Tails.{IsTail}
 use Rattle.sync_message.specs.declared.fields.SyncFields.{SyncFields}
 use Rattle.sync_message.proofs.Bodies.{admitted}
 use Rattle.base_modulator.specs.declared.plan.SyncPlan.{SyncPlan}
@@ -18,6 +17,7 @@ use Rattle.base_modulator.specs.declared.script.statements.LinkLine.{LinkLine}
 use Rattle.base_modulator.specs.ScriptLines.{at_end, cell_in, cell_line, field, freq_in, has_lawful_rest, is_link, link_in, link_line, sync_in, sync_message, value_of}
 use Rattle.base_modulator.specs.ScriptPlans.{IsCellLine, IsLinkLine}
 use Rattle.base_modulator.specs.ScriptValues.{as_state, begins_with, bits_in, hex_from, number_up_to, signed_in, state_in}
+use Rattle.base_modulator.proofs.ScriptMessages.{is_tail}
 use Rattle.base_modulator.proofs.ScriptNumerals.{one_numeral, one_signed_numeral}
 
 -- ---- steps that may fail
@@ -144,20 +144,10 @@ unfolding freq_in
 freq_bounds text freq e = freq_some _ _ freq (λ n is. number_field _ 2047 _ n refl is) e
 
 -- the rest has a length that the message admits
-cond_both_true : (a b : Bool) → cond a b false ≡ true → (a ≡ true) × (b ≡ true)
-cond_both_true true b e = (refl, e)
-cond_both_true false b e = absurd (cc e)
-
-tail_bounds : (freq : Option ℕ) (rest : List Bool) → IsFreq freq → has_lawful_rest freq rest ≡ true → IsTail freq rest
-tail_bounds None rest small test = eqb-true (length rest) 3 test
-tail_bounds (Some freq) rest small test =
-    let both = cond_both_true (length rest % 8 == 0) (nat_le (length rest) 976) test in
-    (small, eqb-true (length rest % 8) 0 both.0, leb-true (length rest) 976 both.1)
-
 message_bounds : (m message : SyncFields) → FieldsFit (fixed_fields m) → IsFreq m.freq → sync_message m ≡ Some message → IsSyncMessage message
 message_bounds m message fixed freq e =
     let told = cond_some (has_lawful_rest m.freq m.rest) m message e in
-    subst IsSyncMessage told.1 (admitted m m.freq refl fixed (tail_bounds m.freq m.rest freq told.0))
+    subst IsSyncMessage told.1 (admitted m m.freq refl fixed (is_tail m.freq m.rest freq told.0))
 
 -- the fields that a sync line says; its message has zeros for PILOT_PN, SYS_TIME and LC_STATE
 abbrev sync_fields : ℕ → ℕ → ℕ → ℕ → ℕ → ℕ → ℕ → ℕ → Option ℕ → List Bool → SyncFields

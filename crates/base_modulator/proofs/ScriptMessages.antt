@@ -17,7 +17,7 @@ whole_octets : (whole fits : Bool) → cond whole fits false ≡ true → (whole
 whole_octets true fits both = (refl, both)
 whole_octets false fits both = absurd (cc both)
 
-is_tail : (freq : Option ℕ) (rest : List Bool) → IfSome freq (λ n. n < 2 ^ 11) → has_lawful_rest freq rest ≡ true → IsTail freq rest
+pub is_tail : (freq : Option ℕ) (rest : List Bool) → IfSome freq (λ n. n < 2 ^ 11) → has_lawful_rest freq rest ≡ true → IsTail freq rest
 is_tail None rest small test = eqb-true (length rest) 3 test
 is_tail (Some freq) rest small test =
     let both = whole_octets (length rest % 8 == 0) (nat_le (length rest) 976) test in
