@@ -5,6 +5,7 @@ pub mod FrameSpans
 pub mod FrameWords
 pub mod FramesBack
 pub mod Grammar
+pub mod HeardRest
 pub mod Hearings
 pub mod Lines
 pub mod MadeFiles

@@ -5,7 +5,8 @@ use Rattle.cdma_replay.specs.Find.{IsRestFault}
 use Rattle.cdma_replay.specs.Hearing.{HasRoom}
 use Rattle.cdma_replay.proofs.Faults.{rest_cut_fault, rest_extra_fault}
 use Rattle.cdma_replay.proofs.Files.{blamed, wrong_length}
-use Rattle.cdma_replay.proofs.Hearings.{hears_all, hears_more, hears_nothing, hears_part, hears_stopped, room_for}
+use Rattle.cdma_replay.proofs.HeardRest.{hears_all, hears_more, hears_nothing, hears_part, hears_stopped}
+use Rattle.cdma_replay.proofs.Hearings.{room_for}
 use Rattle.cdma_replay.proofs.receiving.hear_rest.Goals as goal
 
 pub loop-reader-init : goal.loop-reader-init

@@ -1,7 +1,7 @@
 use Rattle.std.proofs.Common.{◌≡◌, ◌-◌, ◌<◌, ◌≤◌, None, length}
 use Rattle.cdma_io.specs.SampleFile.{width_of}
 use Rattle.cdma_replay.specs.Hearing.{HasRoom}
-use Rattle.cdma_replay.proofs.Hearings.{Hears}
+use Rattle.cdma_replay.proofs.HeardRest.{Hears}
 use Rattle.cdma_replay.proofs.receiving.hear_rest.Given as goal
 
 abbrev pub invariant-loop-reader : goal.invariant-loop-reader
