@@ -82,6 +82,18 @@ fn pilot_file(alloc: Global) -> Result<Vec<u8>, Fail> {
 /// Its line.
 const LINE: &[u8] = b"pilot phase=32767 energy=167772160000\n";
 
+/// A file of 64 samples, of which two aren't 0: several phases have the greatest energy.
+fn two_samples_file(alloc: Global) -> Result<Vec<u8>, Fail> {
+    let mut file = Vec::from_slice(
+        alloc,
+        b"IS95\x00\x01\x00\x00\x00\x00\x00\x00\x00\x00\x00\x40\x00\x01\x00\x00\x00\x01\x00\x00",
+    )?;
+    for _n in 2..64 {
+        file.extend_from_slice(&[0; 4])?;
+    }
+    Ok(file)
+}
+
 #[test]
 fn two_workers_meet_in_find(rt: HostRuntime) -> Result<(), Fail> {
     let file = pilot_file(rt.alloc())?;
@@ -120,6 +132,25 @@ fn any_number_of_workers_writes_the_same(rt: HostRuntime) -> Result<(), Fail> {
         let (status, text) = run(&rt, line, file.as_slice(), &Open)?;
         assert_eq!(rt; status, Status::Done, "{line}");
         assert_eq!(rt; text.as_slice(), LINE, "{line}");
+    }
+    Ok(())
+}
+
+#[test]
+fn any_number_of_workers_takes_the_least_phase(rt: HostRuntime) -> Result<(), Fail> {
+    let file = two_samples_file(rt.alloc())?;
+    for line in [
+        "find --span 64 --workers 1",
+        "find --span 64 --workers=3",
+        "find --workers 64 --span=64",
+    ] {
+        let (status, text) = run(&rt, line, file.as_slice(), &Open)?;
+        assert_eq!(rt; status, Status::Done, "{line}");
+        assert_eq!(rt;
+            text.as_slice(),
+            b"pilot phase=5 energy=8\n".as_slice(),
+            "{line}"
+        );
     }
     Ok(())
 }
