@@ -6,3 +6,4 @@ pub mod Make
 pub mod Signals
 pub mod Status
 pub mod Words
+mod Worked
