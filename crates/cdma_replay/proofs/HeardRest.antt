@@ -1,5 +1,5 @@
 -- A handset hears the samples behind the first ones, piece by piece, to the end of the file.
-use Rattle.std.proofs.Common.{◌≡◌, ℕ, ◌+◌, ◌-◌, ◌≤◌, ◌++◌, [], List, length, take, sym, ap, ◌∙◌, subst, arith, append_assoc, append-nil, length-append, length-take-le, All, IfSome, Option, None, Some}
+use Rattle.std.proofs.Common.{◌≡◌, ℕ, ◌-◌, ◌≤◌, ◌++◌, [], List, length, take, sym, ap, ◌∙◌, subst, arith, append_assoc, append-nil, length-append, length-take-le, All, IfSome, Option, None, Some}
 use Rattle.std.proofs.lemmas.List.Concat.{flat_map-append}
 use Rattle.std.specs.List.{flat_map}
 use Rattle.std.specs.Io.{StartsWith}

@@ -2,6 +2,7 @@
 
 ghost use Rattle.std.specs.Prelude.{◌≤◌};
 
+use crate::test_words::words_of;
 use crate::{Status, replay};
 use base_modulator::ScriptFault;
 use cdma_io::{MemorySink, MemorySource};
@@ -43,10 +44,7 @@ fn run<R: AllocGlobal + Threads + Sync>(
     requires { 1 ≤ piece }
 {
     let alloc = rt.alloc();
-    let mut words = Vec::new(alloc);
-    for word in line.split_whitespace() {
-        words.push(String::from_str(alloc, word)?)?;
-    }
+    let words = words_of(alloc, line)?;
     let mut source = MemorySource::new(Vec::from_slice(alloc, input)?, piece, Vec::new(alloc));
     let mut sink = MemorySink::new(alloc, 5_000_000, 65536, Vec::new(alloc))?;
     let status = replay(rt, alloc, words.as_slice(), &mut source, &mut sink, &Open);

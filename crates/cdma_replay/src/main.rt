@@ -12,6 +12,8 @@ mod receiving;
 mod replaying;
 mod status;
 #[cfg(test)]
+mod test_words;
+#[cfg(test)]
 mod tests;
 mod words;
 #[cfg(test)]

@@ -2,6 +2,7 @@
 
 ghost use Rattle.std.specs.Prelude.{◌≤◌};
 
+use crate::test_words::words_of;
 use crate::{Status, replay};
 use base_modulator::ScriptFault;
 use cdma_io::{FileFault, MemorySink, MemorySource};
@@ -38,15 +39,6 @@ fn pilot_file(alloc: Global, count: u16, phase: u16, amplitude: i16) -> Result<V
         file.extend_from_slice(&amplitude.wrapping_mul(i16::from(q)).to_be_bytes())?;
     }
     Ok(file)
-}
-
-/// The words of a command line, each parted from the next by a blank.
-fn words_of(alloc: Global, line: &str) -> Result<Vec<String>, Fail> {
-    let mut words = Vec::new(alloc);
-    for word in line.split_whitespace() {
-        words.push(String::from_str(alloc, word)?)?;
-    }
-    Ok(words)
 }
 
 /// The calls that fail: one, or none for 0.

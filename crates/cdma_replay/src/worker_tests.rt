@@ -1,5 +1,6 @@
 //! Runs by several workers: that they run at once, and that their number changes nothing.
 
+use crate::test_words::words_of;
 use crate::{Status, replay};
 use cdma_io::{MemorySink, MemorySource};
 use pilot_search::{Gate, Open};
@@ -54,10 +55,7 @@ fn run<R: AllocGlobal + Threads + Sync, G: Gate + Sync>(
     gate: &G,
 ) -> Result<(Status, Vec<u8>), Fail> {
     let alloc = rt.alloc();
-    let mut words = Vec::new(alloc);
-    for word in line.split_whitespace() {
-        words.push(String::from_str(alloc, word)?)?;
-    }
+    let words = words_of(alloc, line)?;
     let mut source = MemorySource::new(Vec::from_slice(alloc, file)?, 65536, Vec::new(alloc));
     let mut sink = MemorySink::new(alloc, 100, 65536, Vec::new(alloc))?;
     let status = replay(rt, alloc, words.as_slice(), &mut source, &mut sink, gate);
