@@ -5,7 +5,7 @@ use Rattle.std.proofs.lemmas.List.Elements.{All-from_get_or}
 use Rattle.std.proofs.lemmas.Bool.{cases_order}
 use Rattle.std.proofs.Math.Seq.{drop-cons}
 use Rattle.chip_core.specs.Bits.{sign, zip_with}
-use Rattle.chip_core.specs.Complex.{plus, sum_of}
+use Rattle.chip_core.specs.Complex.{origin, plus, sum_of}
 use Rattle.chip_core.proofs.ComplexSums.{plus_assoc, plus-origin, sum_of-append, real_part, imaginary_part}
 use Rattle.chip_core.specs.declared.sample.Pair.{Pair}
 use Rattle.chip_core.specs.declared.sample.Sample.{Sample}
@@ -97,6 +97,16 @@ parted samples phase n low few is =
     ∙ ap (λ (ps : List Pair). ps ++ despread (phase + length before) after) first
     ∙ ap (λ (ps : List Pair). zip_with turned before (drop phase pilot_signs) ++ ps) rest in
     sym (ap sum_of whole ∙ sum_of-append (zip_with turned before (drop phase pilot_signs)) (zip_with turned after pilot_signs))
+
+-- where nothing stands behind the code's end, the part before it is all
+pub all_before : (samples : List Sample) (phase n : ℕ) → phase < 32768 → length samples ≤ 32768 → n ≡ min (length samples) (32768 - phase) → length samples ≤ n →
+    correlation_with (take n samples) (drop phase pilot_signs) ≡ correlation samples phase
+unfolding correlation_with
+all_before samples phase n low few is past =
+    let none : correlation_with (drop n samples) pilot_signs ≡ origin = ap (λ (xs : List Sample). correlation_with xs pilot_signs) (drop_all n samples past) in
+    sym (plus-origin (correlation_with (take n samples) (drop phase pilot_signs)))
+    ∙ ap (plus (correlation_with (take n samples) (drop phase pilot_signs))) (sym none)
+    ∙ parted samples phase n low few is
 
 pub plus_is : (x y : Pair) (i q : ℤ) → i ≡ x.i +ℤ y.i → q ≡ x.q +ℤ y.q → ◌≡◌ {A = Pair} record { i = i; q = q } (plus x y)
 plus_is x y i q e f = rw (e, f)

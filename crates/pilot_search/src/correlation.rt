@@ -80,6 +80,9 @@ pub(crate) fn correlation_at(samples: &[Sample], codes: &Codes, phase: Phase) ->
     let (_, ahead) = codes.table().split_at(usize::from(phase.get()));
     let (before, after) = samples.split_at(samples.len().min(ahead.len()));
     let first = correlate(before, ahead);
+    if after.is_empty() {
+        return first;
+    }
     let rest = correlate(after, codes.table());
     Pair {
         i: first.i + rest.i,

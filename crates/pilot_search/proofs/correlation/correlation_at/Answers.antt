@@ -1,11 +1,11 @@
-use Rattle.std.proofs.Common.{◌≡◌, ◌<◌, ◌-◌, ◌∙◌, arith, ap, take, drop, length, min}
+use Rattle.std.proofs.Common.{◌≡◌, ◌<◌, ◌≤◌, ◌-◌, ◌∙◌, arith, rules, ap, take, drop, length, min}
 use Rattle.std.proofs.lemmas.Int.{ints}
 use Rattle.std.proofs.lemmas.List.Elements.{All-drop}
 use Rattle.chip_core.specs.Complex.{plus}
 use Rattle.chip_core.specs.declared.sample.Pair.{Pair}
 use Rattle.short_code.specs.ShortCode.{pilot_signs}
 use Rattle.pilot_search.specs.BySigns.{IsUnit, correlation_with}
-use Rattle.pilot_search.proofs.CorrelationSums.{units, parted, plus_is}
+use Rattle.pilot_search.proofs.CorrelationSums.{all_before, parted, plus_is, units}
 use Rattle.pilot_search.proofs.correlation.correlation_at.Goals as goal
 
 pub correlate-first-requires-clause-units : goal.correlate-first-requires-clause-units
@@ -14,6 +14,18 @@ correlate-first-requires-clause-units c =
 
 pub correlate-rest-requires-clause-units : goal.correlate-rest-requires-clause-units
 correlate-rest-requires-clause-units c = rw c.table-2.ensures.value units
+
+pub returns-then-is_empty-clause-value : goal.returns-then-is_empty-clause-value
+returns-then-is_empty-clause-value c =
+    let samples = c.args.samples.now in
+    let phase = c.args.phase in
+    let n = c.min.result in
+    let at : c.from.result ≡ phase = omega arith in
+    let low : phase < 32768 = omega arith in
+    let least : n ≡ min (length samples) (32768 - phase) = omega arith in
+    let past : length samples ≤ n = search rules in
+    let first : c.correlate-first.result ≡ correlation_with (take n samples) (drop phase pilot_signs) = cc in
+    first ∙ all_before samples phase n low c.requires least past
 
 pub returns-clause-value : goal.returns-clause-value
 returns-clause-value c =
