@@ -22,14 +22,17 @@ length_add (a ∷ as') [] h = absurd (omega (arith, h))
 length_add (a ∷ as') (b ∷ bs) h = ap suc (length_add as' bs (omega (arith, h)))
 
 -- one more place at the end of both lists
-pub zip_push : (f : Bool → Bool → Bool) (xs ys : List Bool) (x y : Bool) → length xs ≡ length ys → zip_with f (xs ++ x ∷ []) (ys ++ y ∷ []) ≡ zip_with f xs ys ++ f x y ∷ []
+pub zip_push : (f : Bool → Bool → Bool) (xs ys : List Bool) (x y : Bool) → length xs ≡ length ys →
+    zip_with f (xs ++ x ∷ []) (ys ++ y ∷ []) ≡ zip_with f xs ys ++ f x y ∷ []
 zip_push f [] [] x y h = refl
 zip_push f [] (z ∷ ys) x y h = absurd (omega (arith, h))
 zip_push f (z ∷ xs) [] x y h = absurd (omega (arith, h))
 zip_push f (u ∷ xs) (v ∷ ys) x y h = ap (λ r. f u v ∷ r) (zip_push f xs ys x y (omega (arith, h)))
 
 -- a loop has read the first i bits of a list, and one more
-pub taken_more : (bits : List Bool) (i : ℕ) (bit : Bool) → slice_get bits i ≡ Some bit → take (i + 1) bits ≡ take i bits ++ bit ∷ []
+pub taken_more : (bits : List Bool) (i : ℕ) (bit : Bool) → slice_get bits i ≡ Some bit →
+    take (i + 1) bits ≡ take i bits ++ bit ∷ []
 taken_more bits i bit read =
     let within : i < length bits = slice_get_within bits i bit read in
-    take_more bits i false within ∙ ap (λ (b : Bool). take i bits ++ b ∷ []) (get_or_from_slice_get bits i bit false read)
+    take_more bits i false within ∙
+    ap (λ (b : Bool). take i bits ++ b ∷ []) (get_or_from_slice_get bits i bit false read)

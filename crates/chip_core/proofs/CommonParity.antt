@@ -33,8 +33,11 @@ unfolding binary
 binary-and zero a b = refl
 binary-and (suc w) a b =
     let half : bit_and a b / 2 ≡ bit_and (a / 2) (b / 2) = and_shr a b 1 in
-    let long : length (binary w (a / 2)) ≡ length (binary w (b / 2)) = length-binary w (a / 2) ∙ sym (length-binary w (b / 2)) in
-    rw (half, low_and a b, binary-and w (a / 2) (b / 2)) (sym (zip_push both (binary w (a / 2)) (binary w (b / 2)) (nat_eq (a % 2) 1) (nat_eq (b % 2) 1) long))
+    let long : length (binary w (a / 2)) ≡ length (binary w (b / 2)) = length-binary w (a / 2) ∙
+    sym (length-binary w (b / 2)) in
+    rw (half, low_and a b, binary-and w (a / 2) (b / 2))
+    (sym (zip_push both (binary w (a / 2)) (binary w (b / 2)) (nat_eq (a % 2) 1)
+    (nat_eq (b % 2) 1) long))
 
 parity-push : (bs : List Bool) (b : Bool) → parity (bs ++ b ∷ []) ≡ xor (parity bs) b
 parity-push [] true = refl
@@ -48,7 +51,9 @@ one_digit (suc zero) h = refl
 one_digit (suc (suc p)) h = absurd (omega (arith, h))
 
 odd_sum : (m p : ℕ) → p < 2 → nat_eq ((m + p) % 2) 1 ≡ xor (nat_eq (m % 2) 1) (nat_eq p 1)
-odd_sum m p h = ap (λ n. nat_eq n 1) (let e : (m + p) % 2 ≡ (m % 2 + p) % 2 = omega arith in e) ∙ one_bit_xor (m % 2) p (omega arith) h
+odd_sum m p h =
+    ap (λ n. nat_eq n 1) (let e : (m + p) % 2 ≡ (m % 2 + p) % 2 = omega arith in e) ∙
+    one_bit_xor (m % 2) p (omega arith) h
 
 -- whether a number has an odd count of set digits
 odd_ones : (w n : ℕ) → n < 2 ^ w → nat_eq (count_ones n % 2) 1 ≡ parity (binary w n)
@@ -58,11 +63,15 @@ odd_ones (suc w) n h =
     let half : n / 2 < 2 ^ w = omega (arith, h) in
     let parts : n / 2 * 2 ^ 1 + n % 2 ≡ n = omega arith in
     let ones : count_ones n ≡ count_ones (n / 2) + n % 2 =
-    ap count_ones (sym parts) ∙ ones_cat 1 (n / 2) (n % 2) (omega arith) ∙ ap (λ k. count_ones (n / 2) + k) (one_digit (n % 2) (omega arith)) in
-    rw (ones, odd_sum (count_ones (n / 2)) (n % 2) (omega arith), odd_ones w (n / 2) half) (sym (parity-push (binary w (n / 2)) (nat_eq (n % 2) 1)))
+    ap count_ones (sym parts) ∙ ones_cat 1 (n / 2) (n % 2) (omega arith) ∙
+    ap (λ k. count_ones (n / 2) + k) (one_digit (n % 2) (omega arith)) in
+    rw (ones, odd_sum (count_ones (n / 2)) (n % 2) (omega arith), odd_ones w (n / 2) half)
+    (sym (parity-push (binary w (n / 2)) (nat_eq (n % 2) 1)))
 
 -- the code's `(a & b).count_ones() & 1 == 1`
-pub common_parity-ones : (w a b : ℕ) → a < 2 ^ w → nat_eq (bit_and (count_ones (bit_and a b)) 1) 1 ≡ common_parity (binary w a) (binary w b)
+pub common_parity-ones : (w a b : ℕ) → a < 2 ^ w →
+    nat_eq (bit_and (count_ones (bit_and a b)) 1) 1 ≡ common_parity (binary w a) (binary w b)
 common_parity-ones w a b h =
     let small : bit_and a b < 2 ^ w = omega (arith, and_le_l a b, h) in
-    ap (λ n. nat_eq n 1) (and_mask (count_ones (bit_and a b)) 1) ∙ odd_ones w (bit_and a b) small ∙ ap parity (binary-and w a b)
+    ap (λ n. nat_eq n 1) (and_mask (count_ones (bit_and a b)) 1) ∙ odd_ones w (bit_and a b) small ∙
+    ap parity (binary-and w a b)

@@ -26,7 +26,8 @@ origin-plus x =
 
 pub sum_of-append : (xs ys : List Pair) → sum_of (xs ++ ys) ≡ plus (sum_of xs) (sum_of ys)
 sum_of-append [] ys = sym (origin-plus (sum_of ys))
-sum_of-append (x ∷ xs) ys = ap (plus x) (sum_of-append xs ys) ∙ sym (plus_assoc x (sum_of xs) (sum_of ys))
+sum_of-append (x ∷ xs) ys =
+    ap (plus x) (sum_of-append xs ys) ∙ sym (plus_assoc x (sum_of xs) (sum_of ys))
 
 pub times-neg : (x y : ℤ) → x *ℤ neg_ℤ y ≡ neg_ℤ (x *ℤ y)
 times-neg (pos m) (pos zero) = rw (mul-zero m)

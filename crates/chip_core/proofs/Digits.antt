@@ -27,14 +27,17 @@ low_xor a b =
     let p : bit_xor a b / 2 ^ 0 ≡ bit_xor a b = omega arith in
     let q : a / 2 ^ 0 ≡ a = omega arith in
     let r : b / 2 ^ 0 ≡ b = omega arith in
-    ap (λ n. nat_eq n 1) (rw (p, q, r) at e) ∙ one_bit_xor (a % 2) (b % 2) (omega arith) (omega arith)
+    ap (λ n. nat_eq n 1) (rw (p, q, r) at e) ∙
+    one_bit_xor (a % 2) (b % 2) (omega arith) (omega arith)
 
 pub binary-xor : (w a b : ℕ) → binary w (bit_xor a b) ≡ add (binary w a) (binary w b)
 unfolding binary
 binary-xor zero a b = refl
 binary-xor (suc w) a b =
     let half : bit_xor a b / 2 ≡ bit_xor (a / 2) (b / 2) = xor_shr a b 1 in
-    rw (half, low_xor a b, binary-xor w (a / 2) (b / 2)) (sym (zip_push xor (binary w (a / 2)) (binary w (b / 2)) (nat_eq (a % 2) 1) (nat_eq (b % 2) 1) (same_length w (a / 2) (b / 2))))
+    rw (half, low_xor a b, binary-xor w (a / 2) (b / 2))
+    (sym (zip_push xor (binary w (a / 2)) (binary w (b / 2)) (nat_eq (a % 2) 1)
+    (nat_eq (b % 2) 1) (same_length w (a / 2) (b / 2))))
 
 pub binary-double : (w n : ℕ) → binary (suc w) (2 * n) ≡ binary w n ++ false ∷ []
 unfolding binary
@@ -67,6 +70,7 @@ number-binary (suc w) n h =
 
 pub number_lt : (bs : List Bool) → number bs < 2 ^ length bs
 number_lt bs =
-    let below : number bs < number bs / 2 ^ length bs * 2 ^ length bs + 2 ^ length bs = lt-div-mul-add (pow_pos (length bs)) in
+    let below : number bs < number bs / 2 ^ length bs * 2 ^ length bs + 2 ^ length bs =
+    lt-div-mul-add (pow_pos (length bs)) in
     let bound = rw (number_from-front 0 bs) at below in
     omega (arith, bound)

@@ -10,50 +10,67 @@ use Rattle.chip_core.specs.declared.field.Field.{Field}
 pub length-binary : (w n : ℕ) → length (binary w n) ≡ w
 unfolding binary
 length-binary zero n = refl
-length-binary (suc w) n = omega (arith, length-append (binary w (n / 2)) (nat_eq (n % 2) 1 ∷ []), length-binary w (n / 2))
+length-binary (suc w) n =
+    omega (arith, length-append (binary w (n / 2)) (nat_eq (n % 2) 1 ∷ []), length-binary w (n / 2))
 
 pub spelled-append : (fs gs : List Field) → spelled (fs ++ gs) ≡ spelled fs ++ spelled gs
 spelled-append [] gs = refl
-spelled-append (f ∷ fs) gs = ap (λ (r : List Bool). binary f.width f.value ++ r) (spelled-append fs gs) ∙ sym (append_assoc (binary f.width f.value) (spelled fs) (spelled gs))
+spelled-append (f ∷ fs) gs =
+    ap (λ (r : List Bool). binary f.width f.value ++ r) (spelled-append fs gs) ∙
+    sym (append_assoc (binary f.width f.value) (spelled fs) (spelled gs))
 
 -- one more field
 pub spelled_more : (fs : List Field) (i : ℕ) (d : Field) → i < length fs →
-    spelled (take (i + 1) fs) ≡ spelled (take i fs) ++ binary (get_or fs i d).width (get_or fs i d).value
+    spelled (take (i + 1) fs) ≡
+    spelled (take i fs) ++ binary (get_or fs i d).width (get_or fs i d).value
 spelled_more fs i d within =
     let f = get_or fs i d in
-    ap spelled (take_more fs i d within) ∙ spelled-append (take i fs) (f ∷ []) ∙ ap (λ (r : List Bool). spelled (take i fs) ++ r) (append-nil (binary f.width f.value))
+    ap spelled (take_more fs i d within) ∙ spelled-append (take i fs) (f ∷ []) ∙
+    ap (λ (r : List Bool). spelled (take i fs) ++ r) (append-nil (binary f.width f.value))
 
 -- there is room for the next field where there is for all
-pub spelled_room : (fs : List Field) (i : ℕ) (d : Field) → i < length fs → length (spelled (take i fs)) + (get_or fs i d).width ≤ length (spelled fs)
+pub spelled_room : (fs : List Field) (i : ℕ) (d : Field) → i < length fs →
+    length (spelled (take i fs)) + (get_or fs i d).width ≤ length (spelled fs)
 spelled_room fs i d within =
     let f = get_or fs i d in
     let next : length (spelled (take (i + 1) fs)) ≡ length (spelled (take i fs)) + f.width =
-    ap length (spelled_more fs i d within) ∙ length-append (spelled (take i fs)) (binary f.width f.value) ∙ ap (λ (n : ℕ). length (spelled (take i fs)) + n) (length-binary f.width f.value) in
-    let parts : length (spelled fs) ≡ length (spelled (take (i + 1) fs)) + length (spelled (drop (i + 1) fs)) =
-    ap (λ (gs : List Field). length (spelled gs)) (sym (take-append-drop (i + 1) fs)) ∙ ap length (spelled-append (take (i + 1) fs) (drop (i + 1) fs)) ∙ length-append (spelled (take (i + 1) fs)) (spelled (drop (i + 1) fs)) in
+    ap length (spelled_more fs i d within) ∙
+    length-append (spelled (take i fs)) (binary f.width f.value) ∙
+    ap (λ (n : ℕ). length (spelled (take i fs)) + n) (length-binary f.width f.value) in
+    let parts : length (spelled fs) ≡
+    length (spelled (take (i + 1) fs)) + length (spelled (drop (i + 1) fs)) =
+    ap (λ (gs : List Field). length (spelled gs)) (sym (take-append-drop (i + 1) fs)) ∙
+    ap length (spelled-append (take (i + 1) fs) (drop (i + 1) fs)) ∙
+    length-append (spelled (take (i + 1) fs)) (spelled (drop (i + 1) fs)) in
     omega (arith, next, parts)
 
-pub fit_at : (fs : List Field) (i : ℕ) (d : Field) → FieldsFit fs → i < length fs → (get_or fs i d).value < 2 ^ (get_or fs i d).width
+pub fit_at : (fs : List Field) (i : ℕ) (d : Field) → FieldsFit fs → i < length fs →
+    (get_or fs i d).value < 2 ^ (get_or fs i d).width
 fit_at [] i d fit within = absurd (omega (arith, within))
 fit_at (f ∷ fs) zero d fit within = fit.0
 fit_at (f ∷ fs) (suc i) d fit within = fit_at fs i d fit.1 (omega (arith, within))
 
-pub width_at : (fs : List Field) (i : ℕ) (d : Field) → HaveWidths fs → i < length fs → (1 ≤ (get_or fs i d).width) × ((get_or fs i d).width ≤ 64)
+pub width_at : (fs : List Field) (i : ℕ) (d : Field) → HaveWidths fs → i < length fs →
+    (1 ≤ (get_or fs i d).width) × ((get_or fs i d).width ≤ 64)
 width_at [] i d widths within = absurd (omega (arith, within))
 width_at (f ∷ fs) zero d widths within = (widths.0, widths.1)
 width_at (f ∷ fs) (suc i) d widths within = width_at fs i d widths.2 (omega (arith, within))
 
 -- a loop has gone over the first i bits of a list, and over one more
-pub bits_more : (bits : List Bool) (i : ℕ) (bit : Bool) → slice_get bits i ≡ Some bit → take (i + 1) bits ≡ take i bits ++ bit ∷ []
+pub bits_more : (bits : List Bool) (i : ℕ) (bit : Bool) → slice_get bits i ≡ Some bit →
+    take (i + 1) bits ≡ take i bits ++ bit ∷ []
 bits_more bits i bit read =
     let within : i < length bits = slice_get_within bits i bit read in
-    take_more bits i bit within ∙ ap (λ (b : Bool). take i bits ++ b ∷ []) (get_or_from_slice_get bits i bit bit read)
+    take_more bits i bit within ∙
+    ap (λ (b : Bool). take i bits ++ b ∷ []) (get_or_from_slice_get bits i bit bit read)
 
-pub slice_get-drop : (from : ℕ) (bits : List Bool) (i : ℕ) (bit : Bool) → slice_get bits (from + i) ≡ Some bit → slice_get (drop from bits) i ≡ Some bit
+pub slice_get-drop : (from : ℕ) (bits : List Bool) (i : ℕ) (bit : Bool) →
+    slice_get bits (from + i) ≡ Some bit → slice_get (drop from bits) i ≡ Some bit
 slice_get-drop from bits i bit read =
     let within : from + i < length bits = slice_get_within bits (from + i) bit read in
     let inside : i < length (drop from bits) = omega (arith, length-drop from bits) in
-    let here : get_or (drop from bits) i bit ≡ bit = get_or-drop from bits i bit ∙ get_or_from_slice_get bits (from + i) bit bit read in
+    let here : get_or (drop from bits) i bit ≡ bit = get_or-drop from bits i bit ∙
+    get_or_from_slice_get bits (from + i) bit bit read in
     slice_get-get_or (drop from bits) i bit inside ∙ ap Some here
 
 same_field : (f g : Field) → f.width ≡ g.width → f.value ≡ g.value → f ≡ g
@@ -63,7 +80,8 @@ cons_same : (f g : Field) (fs gs : List Field) → f ≡ g → fs ≡ gs → f �
 cons_same f g fs gs e h = cc
 
 -- fields of the same widths that spell the same bits are the same, and so is what follows
-pub spelled_injective : (w : List ℕ) (fs gs : List Field) (xs ys : List Bool) → map (λ (f : Field). f.width) fs ≡ w → map (λ (f : Field). f.width) gs ≡ w →
+pub spelled_injective : (w : List ℕ) (fs gs : List Field) (xs ys : List Bool) →
+    map (λ (f : Field). f.width) fs ≡ w → map (λ (f : Field). f.width) gs ≡ w →
     FieldsFit fs → FieldsFit gs → spelled fs ++ xs ≡ spelled gs ++ ys → (fs ≡ gs) × (xs ≡ ys)
 spelled_injective w [] [] xs ys a b p q same = (refl, same)
 spelled_injective w [] (g ∷ gs) xs ys a b p q same = absurd (cc)
@@ -76,13 +94,18 @@ spelled_injective (k ∷ w) (f ∷ fs) (g ∷ gs) xs ys a b p q same =
     let gr : map (λ (h : Field). h.width) gs ≡ w = cc in
     let flong : length (binary f.width f.value) ≡ k = length-binary f.width f.value ∙ fw in
     let glong : length (binary g.width g.value) ≡ k = length-binary g.width g.value ∙ gw in
-    let regrouped : binary f.width f.value ++ (spelled fs ++ xs) ≡ binary g.width g.value ++ (spelled gs ++ ys) =
-    sym (append_assoc (binary f.width f.value) (spelled fs) xs) ∙ same ∙ append_assoc (binary g.width g.value) (spelled gs) ys in
+    let regrouped : binary f.width f.value ++ (spelled fs ++ xs) ≡
+    binary g.width g.value ++ (spelled gs ++ ys) =
+    sym (append_assoc (binary f.width f.value) (spelled fs) xs) ∙ same ∙
+    append_assoc (binary g.width g.value) (spelled gs) ys in
     let heads : binary f.width f.value ≡ binary g.width g.value =
-    sym (take_at (binary f.width f.value) (spelled fs ++ xs) k flong) ∙ ap (take k) regrouped ∙ take_at (binary g.width g.value) (spelled gs ++ ys) k glong in
+    sym (take_at (binary f.width f.value) (spelled fs ++ xs) k flong) ∙ ap (take k) regrouped ∙
+    take_at (binary g.width g.value) (spelled gs ++ ys) k glong in
     let tails : spelled fs ++ xs ≡ spelled gs ++ ys =
-    sym (drop_at (binary f.width f.value) (spelled fs ++ xs) k flong) ∙ ap (drop k) regrouped ∙ drop_at (binary g.width g.value) (spelled gs ++ ys) k glong in
-    let value : f.value ≡ g.value = sym (number-binary f.width f.value p.0) ∙ ap number heads ∙ number-binary g.width g.value q.0 in
+    sym (drop_at (binary f.width f.value) (spelled fs ++ xs) k flong) ∙ ap (drop k) regrouped ∙
+    drop_at (binary g.width g.value) (spelled gs ++ ys) k glong in
+    let value : f.value ≡ g.value = sym (number-binary f.width f.value p.0) ∙ ap number heads ∙
+    number-binary g.width g.value q.0 in
     let width : f.width ≡ g.width = fw ∙ sym gw in
     let first : f ≡ g = same_field f g width value in
     let rest = spelled_injective w fs gs xs ys fr gr p.1 q.1 tails in

@@ -20,7 +20,8 @@ sum_front (suc n) f =
     let e = sum_front n f in
     rw e (omega (arith, ints))
 
-pub sum_append : (a b : ℕ) (f : ℕ → ℤ) → sum_below (a + b) f ≡ sum_below a f +ℤ sum_below b (λ k. f (a + k))
+pub sum_append : (a b : ℕ) (f : ℕ → ℤ) →
+    sum_below (a + b) f ≡ sum_below a f +ℤ sum_below b (λ k. f (a + k))
 unfolding sum_below
 sum_append a zero f = let e : a + 0 ≡ a = omega arith in rw e (omega (arith, ints))
 sum_append a (suc b) f =
@@ -48,7 +49,8 @@ sum_none (suc n) f h =
     rw (rest, here) refl
 
 -- where one term changes by d, the sum does
-pub sum_changed : (n j : ℕ) (f g : ℕ → ℤ) (d : ℤ) → j < n → ((k : ℕ) → k < n → k ≢ j → g k ≡ f k) → g j ≡ f j +ℤ d → sum_below n g ≡ sum_below n f +ℤ d
+pub sum_changed : (n j : ℕ) (f g : ℕ → ℤ) (d : ℤ) → j < n → ((k : ℕ) → k < n → k ≢ j → g k ≡ f k) →
+    g j ≡ f j +ℤ d → sum_below n g ≡ sum_below n f +ℤ d
 unfolding sum_below
 sum_changed zero j f g d h others here = absurd (omega (arith, h))
 sum_changed (suc n) j f g d h others here =
@@ -58,7 +60,9 @@ sum_changed (suc n) j f g d h others here =
     let end : g n ≡ f n +ℤ d = rw last at here in
     rw (rest, end) (omega (arith, ints)))
     (λ (other : j ≢ n).
-    let rest = sum_changed n j f g d (omega (arith, h, other)) (λ k lt ne. others k (omega (arith, lt)) ne) here in
+    let rest =
+    sum_changed n j f g d (omega (arith, h, other)) (λ k lt ne. others k (omega (arith, lt)) ne)
+    here in
     let end : g n ≡ f n = others n (omega arith) (λ e. other (sym e)) in
     rw (rest, end) (omega (arith, ints)))
     (cases_eq j n)

@@ -10,3 +10,4 @@ pub mod Places
 pub mod RegisterBits
 pub mod Ring
 pub mod WordBits
+pub mod DecimalTexts

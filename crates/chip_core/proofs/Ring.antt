@@ -1,4 +1,5 @@
--- Identities of signed numbers: each number as a difference of two naturals, and the rest by linear arithmetic.
+-- Identities of signed numbers: each number as a difference of two naturals, and the rest by linear
+-- arithmetic.
 use Rattle.std.proofs.Common.{◌≡◌, ℕ, ◌+◌, ◌*◌, arith, ℤ, ap}
 use Rattle.std.specs.Prelude.{pos, negsuc, ◌+ℤ◌, ◌*ℤ◌, neg_ℤ}
 use Rattle.std.proofs.lemmas.Int.{ints}
@@ -32,26 +33,40 @@ diff-times p q r s =
     let a = diff_is p q in
     let b = diff_is r s in
     let c = diff_is (p * r + q * s) (p * s + q * r) in
-    omega (arith, ints, c, ap (λ (n : ℕ). n * up y) a, ap (λ (n : ℕ). n * down y) a, ap (λ (n : ℕ). p * n) b, ap (λ (n : ℕ). q * n) b)
+    omega (
+      arith,
+      ints,
+      c,
+      ap (λ (n : ℕ). n * up y) a,
+      ap (λ (n : ℕ). n * down y) a,
+      ap (λ (n : ℕ). p * n) b,
+      ap (λ (n : ℕ). q * n) b,
+    )
 
 pub diff-same : (p q r s : ℕ) → p + s ≡ r + q → diff p q ≡ diff r s
 unfolding diff
 diff-same p q r s e = omega (arith, ints)
 
 pub distrib : (a b c : ℤ) → a *ℤ (b +ℤ c) ≡ (a *ℤ b) +ℤ (a *ℤ c)
-distrib a b c = rw (split a, split b, split c) (simp (diff-times, diff-plus) (diff-same _ _ _ _ (omega arith)))
+distrib a b c =
+    rw (split a, split b, split c) (simp (diff-times, diff-plus) (diff-same _ _ _ _ (omega arith)))
 
 pub mul_assoc_ℤ : (a b c : ℤ) → (a *ℤ b) *ℤ c ≡ a *ℤ (b *ℤ c)
-mul_assoc_ℤ a b c = rw (split a, split b, split c) (simp diff-times (diff-same _ _ _ _ (omega arith)))
+mul_assoc_ℤ a b c =
+    rw (split a, split b, split c) (simp diff-times (diff-same _ _ _ _ (omega arith)))
 
 pub distrib_right : (a b c : ℤ) → (a +ℤ b) *ℤ c ≡ (a *ℤ c) +ℤ (b *ℤ c)
-distrib_right a b c = rw (split a, split b, split c) (simp (diff-times, diff-plus) (diff-same _ _ _ _ (omega arith)))
+distrib_right a b c =
+    rw (split a, split b, split c) (simp (diff-times, diff-plus) (diff-same _ _ _ _ (omega arith)))
 
 pub swap_products : (a b c d : ℤ) → (a *ℤ b) *ℤ (c *ℤ d) ≡ (a *ℤ c) *ℤ (b *ℤ d)
-swap_products a b c d = rw (split a, split b, split c, split d) (simp diff-times (diff-same _ _ _ _ (omega arith)))
+swap_products a b c d =
+    rw (split a, split b, split c, split d) (simp diff-times (diff-same _ _ _ _ (omega arith)))
 
 pub times_neg : (a b : ℤ) → a *ℤ neg_ℤ b ≡ neg_ℤ (a *ℤ b)
-times_neg a b = rw (split a, split b) (simp (diff-times, diff-neg) (diff-same _ _ _ _ (omega arith)))
+times_neg a b =
+    rw (split a, split b) (simp (diff-times, diff-neg) (diff-same _ _ _ _ (omega arith)))
 
 pub neg_times : (a b : ℤ) → neg_ℤ a *ℤ b ≡ neg_ℤ (a *ℤ b)
-neg_times a b = rw (split a, split b) (simp (diff-times, diff-neg) (diff-same _ _ _ _ (omega arith)))
+neg_times a b =
+    rw (split a, split b) (simp (diff-times, diff-neg) (diff-same _ _ _ _ (omega arith)))

@@ -8,3 +8,5 @@ pub mod Packing
 pub mod Polynomial
 pub mod Sums
 pub mod Worked
+pub mod Decimals
+pub mod Agreement

@@ -22,7 +22,8 @@ highest : bit_of 32768 15 ≡ true
 highest = refl
 
 -- (3 + 4j) times its conjugate is 25
-squared : let x : Pair = record { i = pos 3; q = pos 4 } in times x (conjugate x) ≡ record { i = pos 25; q = pos 0 }
+squared : let x : Pair = record { i = pos 3; q = pos 4 } in
+    times x (conjugate x) ≡ record { i = pos 25; q = pos 0 }
 squared = refl
 
 square : norm (record { i = negsuc 2; q = pos 4 }) ≡ 25

@@ -79,6 +79,9 @@ impl<'a> BitReader<'a> {
 }
 
 /// Writes fields into a list of bits. Contracts see the bits written so far.
+///
+/// For tools that spell a message field by field, each of which may be one too many; where the room is
+/// known, [`Bits::append_fields`] writes a table of fields at once.
 #[derive(Drop)]
 pub struct BitWriter {
     bits: Bits,

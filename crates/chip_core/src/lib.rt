@@ -1,9 +1,12 @@
-//! What every layer of the forward link speaks of: samples, code phases and bits.
+//! What every layer of the forward link speaks of: samples, code phases, bits, and the numbers of the
+//! air interface.
 #![tactic(auto)]
 
+pub mod air;
 mod bit_list;
 mod check_form;
 mod cursor;
+mod decimal;
 mod field;
 pub mod laws;
 mod memory;
@@ -15,6 +18,7 @@ mod sample;
 pub use bit_list::{Bits, Full};
 pub use check_form::CheckForm;
 pub use cursor::{BitReader, BitWriter, Short};
+pub use decimal::digits_in;
 pub use field::Field;
 pub use memory::OutOfMemory;
 pub use numbers::Numbers;

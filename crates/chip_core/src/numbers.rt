@@ -5,9 +5,11 @@ ghost use Rattle.std.specs.Prelude.{◌≡◌, ◌<◌, ◌≤◌, List, [], ◌
 use crate::bit_list::Full;
 use std::marker::Model;
 
-/// A list of at most 128 numbers: channels, pilots, or the other lists that a message of 148 octets has room for.
+/// A list of at most 128 numbers: channels, pilots, or the other lists that a message of 148 octets
+/// has room for.
 ///
-/// A copy is 516 bytes. Contracts see the list.
+/// The records of paging and traffic messages are such lists, side by side. A copy is 516 bytes.
+/// Contracts see the list.
 #[derive(Clone, Copy, PartialEq, Eq, Debug)]
 pub struct Numbers {
     places: [u32; 128],

@@ -2,6 +2,7 @@
 
 ghost use Rattle.std.specs.Prelude.{◌≡◌, ◌<◌, ℕ, SomeIff};
 
+use crate::air::CODE_CHIPS;
 use std::marker::Model;
 
 /// A place in the pilot's code of 32,768 chips, 0 to 32,767. Contracts see its number.
@@ -27,7 +28,7 @@ impl Phase {
     pub fn new(n: u16) -> Option<Phase>
         ensures { SomeIff result (n < 32768) n }
     {
-        if n < 32768 {
+        if u64::from(n) < CODE_CHIPS {
             Some(Phase { number: n })
         } else {
             None

@@ -13,29 +13,35 @@ pub record AreAt (symbols : List Bool) (j : ℕ) (first second : Bool) : Type 0 
   pub even : get_or symbols (2 * j) false ≡ first
   pub odd : get_or symbols (2 * j + 1) false ≡ second
 
-pub pairs_at : (f g : ℕ → Bool) (n j : ℕ) → j < n → AreAt (flat_map (λ j. f j ∷ g j ∷ []) (places n)) j (f j) (g j)
+pub pairs_at : (f g : ℕ → Bool) (n j : ℕ) → j < n →
+    AreAt (flat_map (λ j. f j ∷ g j ∷ []) (places n)) j (f j) (g j)
 pairs_at f g zero j lt = absurd (omega (arith, lt))
 pairs_at f g (suc n) j lt =
     let h = λ (j : ℕ). f j ∷ g j ∷ [] in
     let xs = flat_map h (places n) in
     let here : suc n ≡ n + 1 = omega arith in
     let long : length xs ≡ 2 * n = length_pairs f g n in
-    let last : get_or (xs ++ f n ∷ g n ∷ []) (length xs + 0) false ≡ f n = get_or-append-add xs (f n ∷ g n ∷ []) 0 false in
-    let last' : get_or (xs ++ f n ∷ g n ∷ []) (length xs + 1) false ≡ g n = get_or-append-add xs (f n ∷ g n ∷ []) 1 false in
+    let last : get_or (xs ++ f n ∷ g n ∷ []) (length xs + 0) false ≡ f n =
+    get_or-append-add xs (f n ∷ g n ∷ []) 0 false in
+    let last' : get_or (xs ++ f n ∷ g n ∷ []) (length xs + 1) false ≡ g n =
+    get_or-append-add xs (f n ∷ g n ∷ []) 1 false in
     let first : length xs + 0 ≡ 2 * n = omega (arith, long) in
     let second : length xs + 1 ≡ 2 * n + 1 = omega (arith, long) in
     rw (here, places-more n, flat_map-append h (places n) (n ∷ []))
     (below_more (λ j. AreAt (xs ++ f n ∷ g n ∷ []) j (f j) (g j)) n
     (λ j l. let at_j = pairs_at f g n j l in record {
-      even = get_or_append_left xs (f n ∷ g n ∷ []) false (2 * j) (omega (arith, l, long)) ∙ at_j.even;
-      odd = get_or_append_left xs (f n ∷ g n ∷ []) false (2 * j + 1) (omega (arith, l, long)) ∙ at_j.odd;
+      even = get_or_append_left xs (f n ∷ g n ∷ []) false (2 * j) (omega (arith, l, long)) ∙
+          at_j.even;
+      odd = get_or_append_left xs (f n ∷ g n ∷ []) false (2 * j + 1) (omega (arith, l, long)) ∙
+          at_j.odd;
     })
     (record { even = rw first at last; odd = rw second at last' })
     j (omega (arith, lt)))
 
 pub symbols_at : (start bits : List Bool) (j : ℕ) → j < length bits →
     AreAt (code_symbols start bits) j (symbol g0 (start ++ bits) j) (symbol g1 (start ++ bits) j)
-symbols_at start bits j lt = pairs_at (symbol g0 (start ++ bits)) (symbol g1 (start ++ bits)) (length bits) j lt
+symbols_at start bits j lt =
+    pairs_at (symbol g0 (start ++ bits)) (symbol g1 (start ++ bits)) (length bits) j lt
 
 -- a place's pair comes from the state before and the bit
 pub pair_from_state : (start word : List Bool) (j : ℕ) → length start ≡ 8 → j < length word →
@@ -47,8 +53,11 @@ pair_from_state start word j eight lt =
     let state = state_after start xs in
     let long : length xs ≡ j = length-take-le j word (omega (arith, lt)) in
     let place : length xs + 0 ≡ j = omega (arith, long) in
-    let parts : xs ++ (bit ∷ rest) ≡ word = ap (λ (r : List Bool). xs ++ r) (sym (drop_more word j false lt)) ∙ take-append-drop j word in
-    let moved : pair (start ++ (xs ++ (bit ∷ rest))) (length xs + 0) ≡ pair (state ++ (bit ∷ rest)) 0 = behind start xs (bit ∷ rest) 0 eight in
+    let parts : xs ++ (bit ∷ rest) ≡ word =
+    ap (λ (r : List Bool). xs ++ r) (sym (drop_more word j false lt)) ∙
+    take-append-drop j word in
+    let moved : pair (start ++ (xs ++ (bit ∷ rest))) (length xs + 0) ≡
+    pair (state ++ (bit ∷ rest)) 0 = behind start xs (bit ∷ rest) 0 eight in
     ap (λ (r : List Bool). pair (start ++ r) j) (sym parts)
     ∙ ap (pair (start ++ (xs ++ (bit ∷ rest)))) (sym place)
     ∙ moved
@@ -56,9 +65,16 @@ pair_from_state start word j eight lt =
 
 -- two symbols more
 pub take_pair : (symbols : List Bool) (j : ℕ) (first second : Bool) → 2 * j + 1 < length symbols →
-    AreAt symbols j first second → take (2 * (j + 1)) symbols ≡ take (2 * j) symbols ++ first ∷ second ∷ []
+    AreAt symbols j first second →
+    take (2 * (j + 1)) symbols ≡ take (2 * j) symbols ++ first ∷ second ∷ []
 take_pair symbols j first second room is =
     let place : 2 * (j + 1) ≡ 2 * j + 1 + 1 = omega arith in
     let within : 2 * j < length symbols = omega (arith, room) in
-    rw (place, take_more symbols (2 * j + 1) false room, take_more symbols (2 * j) false within, is.even, is.odd)
+    rw (
+      place,
+      take_more symbols (2 * j + 1) false room,
+      take_more symbols (2 * j) false within,
+      is.even,
+      is.odd,
+    )
     (append_assoc (take (2 * j) symbols) (first ∷ []) (second ∷ []))

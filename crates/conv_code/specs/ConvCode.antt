@@ -10,13 +10,16 @@ g0 = 0 ∷ 1 ∷ 2 ∷ 3 ∷ 5 ∷ 7 ∷ 8 ∷ []
 abbrev pub g1 : List ℕ
 g1 = 0 ∷ 2 ∷ 3 ∷ 4 ∷ 8 ∷ []
 
--- Symbol j of a generator: the sum of the bits that lie its powers back from bit j. Eight start bits lie in front.
+-- Symbol j of a generator: the sum of the bits that lie its powers back from bit j. Eight start
+-- bits lie in front.
 abbrev pub symbol : List ℕ → List Bool → ℕ → Bool
 symbol generator joined j = parity (map (λ back. get_or joined (8 + j - back) false) generator)
 
 -- two symbols a bit, from eight start bits, the oldest first
 abbrev pub code_symbols : List Bool → List Bool → List Bool
-code_symbols start bits = flat_map (λ j. symbol g0 (start ++ bits) j ∷ symbol g1 (start ++ bits) j ∷ []) (places (length bits))
+code_symbols start bits =
+    flat_map (λ j. symbol g0 (start ++ bits) j ∷ symbol g1 (start ++ bits) j ∷ [])
+    (places (length bits))
 
 -- the last eight bits of the start bits and the bits behind them
 abbrev pub state_after : List Bool → List Bool → List Bool
@@ -32,7 +35,8 @@ IsNoWord symbols = (start : ℕ) → IsNoWordFrom (binary 8 start) symbols
 
 -- every word that gives the symbols begins at this start
 abbrev pub IsOnlyStart : List Bool → List Bool → Type 0
-IsOnlyStart symbols only = (start bits : List Bool) → length start ≡ 8 → code_symbols start bits ≡ symbols → start ≡ only
+IsOnlyStart symbols only =
+    (start bits : List Bool) → length start ≡ 8 → code_symbols start bits ≡ symbols → start ≡ only
 
 -- the only bit that gives this first symbol behind eight bits
 abbrev pub IsBitFor : List Bool → Bool → Bool → Type 0

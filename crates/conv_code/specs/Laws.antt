@@ -9,7 +9,8 @@ pub record AreSameWords (start start' bits bits' : List Bool) : Type 0 where
 -- eight or more pairs of symbols fix the eight start bits and every bit
 abbrev pub IsDistinctCode : Type 0
 IsDistinctCode = (start start' bits bits' : List Bool) → length start ≡ 8 → length start' ≡ 8 →
-    8 ≤ length bits → length bits ≡ length bits' → code_symbols start bits ≡ code_symbols start' bits' →
+    8 ≤ length bits → length bits ≡ length bits' →
+    code_symbols start bits ≡ code_symbols start' bits' →
     AreSameWords start start' bits bits'
 
 -- bits behind others are encoded from the state that those leave

@@ -4,16 +4,12 @@ ghost use Rattle.std.specs.Prelude.{◌≡◌, ◌≤◌, ◌+◌, ◌*◌, ◌%
 ghost use Rattle.chip_core.specs.Bits.{binary, digit};
 ghost use Rattle.conv_code.specs.ConvCode.{g0, g1, symbol, code_symbols, state_after};
 
+use chip_core::air::{FIRST_TAPS, SECOND_TAPS};
 use chip_core::{Bits, parity_at};
 use std::marker::Model;
 
-/// The powers of D in the first generator, 753 octal: how many bits back each tap lies.
-const G0: [u8; 7] = [0, 1, 2, 3, 5, 7, 8];
-
-/// The powers of D in the second generator, 561 octal.
-const G1: [u8; 5] = [0, 2, 3, 4, 8];
-
-/// The encoder's shift register: the last eight bits that it took, as a number whose bit 0 is the newest.
+/// The encoder's shift register: the last eight bits that it took, as a number whose bit 0 is the
+/// newest.
 ///
 /// Contracts see that number. TIA/EIA-95-B, 7.1.3.1.3.1: constraint length 9.
 #[derive(Clone, Copy, PartialEq, Eq, Debug)]
@@ -46,7 +42,10 @@ impl Register {
     {
         let window = 2 * u64::from(self.state) + u64::from(bit);
         self.state = (window & 0xff) as u8;
-        (parity_at(window, &G0), parity_at(window, &G1))
+        (
+            parity_at(window, &FIRST_TAPS),
+            parity_at(window, &SECOND_TAPS),
+        )
     }
 
     /// The last eight bits; bit 0 is the newest.
@@ -59,9 +58,11 @@ impl Register {
 
 /// Encodes bits from a start state, two symbols a bit.
 ///
-/// `out` becomes the symbols, whatever it held; the answer is the last state. Bit 0 of a state is its newest bit.
+/// `out` becomes the symbols, whatever it held; the answer is the last state. Bit 0 of a state is
+/// its newest bit.
 ///
-/// TIA/EIA-95-B, 7.1.3.1.3.1: of a bit's two symbols that of 753 octal comes first, then that of 561 octal.
+/// TIA/EIA-95-B, 7.1.3.1.3.1: of a bit's two symbols that of 753 octal comes first, then that of
+/// 561 octal.
 pub fn encode_into(start: u8, bits: &Bits, out: &mut Bits) -> u8
     requires { length bits.now ≤ 592 }
     ensures symbols { out.new ≡ code_symbols (binary 8 start) bits.now }

@@ -7,11 +7,15 @@ ghost use Rattle.conv_code.specs.ConvCode.{code_symbols, IsBitFor, IsOnlyStart, 
 use crate::encoding::Register;
 use chip_core::Bits;
 
-/// The start state and the bits whose symbols these are; `None` exactly where no start and bits give these symbols.
+/// The start state and the bits whose symbols these are; `None` exactly where no start and bits
+/// give these symbols.
 ///
-/// Eight pairs of symbols or more fix the start and every bit. Each bit of the start is a sum of some of the first
-/// sixteen symbols. From there each bit is the one that gives its first symbol, and its second symbol has to agree.
-/// Bit 0 of the start is its newest bit.
+/// Eight pairs of symbols or more fix the start and every bit. Each bit of the start is a sum of
+/// some of the first sixteen symbols. From there each bit is the one that gives its first symbol,
+/// and its second symbol has to agree. Bit 0 of the start is its newest bit.
+///
+/// For tools that have symbols and no soft values, as a test bench that looks at what a transmitter
+/// sends; a handset finds the best word instead.
 pub fn invert(symbols: &Bits) -> Option<(u8, Bits)>
     requires even { length symbols.now % 2 ≡ 0 }
     requires enough { 16 ≤ length symbols.now }
@@ -55,9 +59,9 @@ fn bit_for(mut register: Register, first: bool) -> bool
 
 /// The one start state that can have given the symbols.
 ///
-/// The generators have no common factor, so for each k up to 15 there are polynomials a and b of degree below 8 with
-/// a g0 + b g1 = D^k. So each of the sixteen bits behind the first eight pairs of symbols is a sum of some of these
-/// sixteen symbols, and the start is the oldest eight bits.
+/// The generators have no common factor, so for each k up to 15 there are polynomials a and b of
+/// degree below 8 with a g0 + b g1 = D^k. So each of the sixteen bits behind the first eight pairs
+/// of symbols is a sum of some of these sixteen symbols, and the start is the oldest eight bits.
 fn start_of(symbols: &Bits) -> u8
     requires { 16 ≤ length symbols.now }
     ensures { IsOnlyStart symbols.now (binary 8 result) }

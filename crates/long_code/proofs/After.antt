@@ -28,7 +28,8 @@ long : (s n : ℕ) → length (times_x n below (binary 42 s)) ≡ 42
 long s n = length_times_x n below (binary 42 s) (state_length s) ∙ length-below
 
 pub binary-after : (s n : ℕ) → binary 42 (after s n) ≡ times_x n below (binary 42 s)
-binary-after s n = rw (after_is s n) (rw (long s n) at (binary-number_from 0 (times_x n below (binary 42 s))))
+binary-after s n =
+    rw (after_is s n) (rw (long s n) at (binary-number_from 0 (times_x n below (binary 42 s))))
 
 pub after_lt : (s n : ℕ) → after s n < 2 ^ 42
 after_lt s n = rw (after_is s n) (rw (long s n) at (number_lt (times_x n below (binary 42 s))))
@@ -42,11 +43,14 @@ after-after s m n =
 abbrev pub stepped : ℕ → ℕ
 stepped v = cond (bit_of v 41) (bit_xor (2 * v % 2 ^ 42) 45339313391) (2 * v % 2 ^ 42)
 
-stepped_lt : (b : Bool) (v : ℕ) → cond b (bit_xor (2 * v % 2 ^ 42) 45339313391) (2 * v % 2 ^ 42) < 2 ^ 42
+stepped_lt : (b : Bool) (v : ℕ) →
+    cond b (bit_xor (2 * v % 2 ^ 42) 45339313391) (2 * v % 2 ^ 42) < 2 ^ 42
 stepped_lt true v = xor_lt 42 (2 * v % 2 ^ 42) 45339313391 (omega arith) (omega arith)
 stepped_lt false v = omega arith
 
-by_lead : (b : Bool) (v : ℕ) → binary 42 (cond b (bit_xor (2 * v % 2 ^ 42) 45339313391) (2 * v % 2 ^ 42)) ≡ shifted below (b ∷ binary 41 v)
+by_lead : (b : Bool) (v : ℕ) →
+    binary 42 (cond b (bit_xor (2 * v % 2 ^ 42) 45339313391) (2 * v % 2 ^ 42)) ≡
+    shifted below (b ∷ binary 41 v)
 by_lead true v =
     binary-xor 42 (2 * v % 2 ^ 42) 45339313391
     ∙ ap (λ x. add x (binary 42 45339313391)) (binary-low 42 0 (2 * v) ∙ binary-double 41 v)
@@ -58,19 +62,22 @@ binary-stepped v = by_lead (bit_of v 41) v ∙ ap (shifted below) (sym (binary-f
 
 pub after_one : (v : ℕ) → after v 1 ≡ stepped v
 after_one v =
-    after_is v 1 ∙ ap number (sym (binary-stepped v)) ∙ number-binary 42 (stepped v) (stepped_lt (bit_of v 41) v)
+    after_is v 1 ∙ ap number (sym (binary-stepped v)) ∙
+    number-binary 42 (stepped v) (stepped_lt (bit_of v 41) v)
 
 pub after_none : (v : ℕ) → v < 2 ^ 42 → after v 0 ≡ v
 after_none v h = after_is v 0 ∙ number-binary 42 v h
 
 -- the chips that are left, halved
-pub odd_left : (v v' e left total : ℕ) → left % 2 ≡ 1 → v' ≡ after v e → after v (left * e) ≡ total → after v' (left / 2 * (e + e)) ≡ total
+pub odd_left : (v v' e left total : ℕ) → left % 2 ≡ 1 → v' ≡ after v e →
+    after v (left * e) ≡ total → after v' (left / 2 * (e + e)) ≡ total
 odd_left v v' e left total odd is h =
     let whole : 2 * (left / 2) + 1 ≡ left = omega (arith, odd) in
     let parts : e + left / 2 * (e + e) ≡ (2 * (left / 2) + 1) * e = omega arith in
     rw is (after-after v e (left / 2 * (e + e)) ∙ ap (after v) (parts ∙ ap (λ n. n * e) whole) ∙ h)
 
-pub even_left : (v e left total : ℕ) → left % 2 ≡ 0 → after v (left * e) ≡ total → after v (left / 2 * (e + e)) ≡ total
+pub even_left : (v e left total : ℕ) → left % 2 ≡ 0 → after v (left * e) ≡ total →
+    after v (left / 2 * (e + e)) ≡ total
 even_left v e left total even h =
     let whole : 2 * (left / 2) ≡ left = omega (arith, even) in
     let parts : left / 2 * (e + e) ≡ 2 * (left / 2) * e = omega arith in

@@ -7,12 +7,16 @@ use Rattle.long_code.specs.LongCode.{after, long_chip}
 use Rattle.long_code.proofs.After.{after-after, after_none}
 
 -- the code's chip
-pub chip_is : (state mask : ℕ) → state < 2 ^ 42 → mask < 2 ^ 42 → nat_eq (bit_and (count_ones (bit_and mask state)) 1) 1 ≡ long_chip state mask 0
+pub chip_is : (state mask : ℕ) → state < 2 ^ 42 → mask < 2 ^ 42 →
+    nat_eq (bit_and (count_ones (bit_and mask state)) 1) 1 ≡ long_chip state mask 0
 unfolding long_chip
 chip_is state mask p q =
-    common_parity-ones 42 mask state q ∙ ap (λ (s : ℕ). common_parity (binary 42 mask) (binary 42 s)) (sym (after_none state p))
+    common_parity-ones 42 mask state q ∙
+    ap (λ (s : ℕ). common_parity (binary 42 mask) (binary 42 s)) (sym (after_none state p))
 
 -- a chip of a later state is a later chip
-pub long_chip-after : (state mask m n : ℕ) → long_chip (after state m) mask n ≡ long_chip state mask (m + n)
+pub long_chip-after : (state mask m n : ℕ) →
+    long_chip (after state m) mask n ≡ long_chip state mask (m + n)
 unfolding long_chip
-long_chip-after state mask m n = ap (λ (s : ℕ). common_parity (binary 42 mask) (binary 42 s)) (after-after state m n)
+long_chip-after state mask m n =
+    ap (λ (s : ℕ). common_parity (binary 42 mask) (binary 42 s)) (after-after state m n)

@@ -15,15 +15,19 @@ number-push : (bs : List Bool) (b : Bool) → number (bs ++ b ∷ []) ≡ 2 * nu
 number-push bs b = number_from-append 0 bs (b ∷ [])
 
 -- one field more
-number-field : (bs : List Bool) (w n : ℕ) → n < 2 ^ w → number (bs ++ binary w n) ≡ number bs * 2 ^ w + n
+number-field : (bs : List Bool) (w n : ℕ) → n < 2 ^ w →
+    number (bs ++ binary w n) ≡ number bs * 2 ^ w + n
 unfolding binary
 number-field bs zero n h = number_from-append 0 bs [] ∙ omega (arith, h)
 number-field bs (suc w) n h =
     let half : n / 2 < 2 ^ w = omega (arith, h) in
     let twice : 2 ^ (suc w) ≡ 2 * 2 ^ w = omega arith in
-    let parts : number ((bs ++ binary w (n / 2)) ++ nat_eq (n % 2) 1 ∷ []) ≡ 2 * (number bs * 2 ^ w + n / 2) + n % 2 =
-    number-push (bs ++ binary w (n / 2)) (nat_eq (n % 2) 1) ∙ rw (number-field bs w (n / 2) half, digit_of (n % 2) (omega arith)) in
-    ap number (sym (append_assoc bs (binary w (n / 2)) (nat_eq (n % 2) 1 ∷ []))) ∙ parts ∙ rw twice (omega arith)
+    let parts : number ((bs ++ binary w (n / 2)) ++ nat_eq (n % 2) 1 ∷ []) ≡
+    2 * (number bs * 2 ^ w + n / 2) + n % 2 =
+    number-push (bs ++ binary w (n / 2)) (nat_eq (n % 2) 1) ∙
+    rw (number-field bs w (n / 2) half, digit_of (n % 2) (omega arith)) in
+    ap number (sym (append_assoc bs (binary w (n / 2)) (nat_eq (n % 2) 1 ∷ []))) ∙ parts ∙
+    rw twice (omega arith)
 
 zeros : (w : ℕ) → replicate w false ≡ binary w 0
 unfolding binary
@@ -37,21 +41,33 @@ zeros w = sym (all_zero w)
     all_zero zero = refl
     all_zero (suc w) = ap (λ (r : List Bool). r ++ false ∷ []) (all_zero w) ∙ one_behind w
 
-pub paging_mask_is : (channel pilot : ℕ) → channel < 8 → pilot < 512 → paging_mask channel pilot ≡ (203168 * 8 + channel) * 2097152 + pilot
+pub paging_mask_is : (channel pilot : ℕ) → channel < 8 → pilot < 512 →
+    paging_mask channel pilot ≡ (203168 * 8 + channel) * 2097152 + pilot
 unfolding paging_mask
 paging_mask_is channel pilot p q =
     rw (zeros 12, zeros 5)
-    (number-field ((((binary 13 0x18cd) ++ binary 5 0) ++ binary 3 channel) ++ binary 12 0) 9 pilot (omega (arith, q))
-    ∙ rw (number-field (((binary 13 0x18cd) ++ binary 5 0) ++ binary 3 channel) 12 0 (omega arith), number-field ((binary 13 0x18cd) ++ binary 5 0) 3 channel (omega (arith, p)), number-field (binary 13 0x18cd) 5 0 (omega arith), number-binary 13 0x18cd (omega arith)) (omega arith))
+    (number-field ((((binary 13 0x18cd) ++ binary 5 0) ++ binary 3 channel) ++ binary 12 0) 9 pilot
+    (omega (arith, q))
+    ∙ rw (
+      number-field (((binary 13 0x18cd) ++ binary 5 0) ++ binary 3 channel) 12 0 (omega arith),
+      number-field ((binary 13 0x18cd) ++ binary 5 0) 3 channel (omega (arith, p)),
+      number-field (binary 13 0x18cd) 5 0 (omega arith),
+      number-binary 13 0x18cd (omega arith),
+    )
+    (omega arith))
 
 -- the code's word
 pub paging_word : (channel pilot : ℕ) → channel < 8 → pilot < 512 →
-    bit_or (bit_or 3408593420288 (channel * 2097152 % 18446744073709551616)) pilot ≡ (203168 * 8 + channel) * 2097152 + pilot
+    bit_or (bit_or 3408593420288 (channel * 2097152 % 18446744073709551616)) pilot ≡
+    (203168 * 8 + channel) * 2097152 + pilot
 paging_word channel pilot p q =
     let whole : channel * 2097152 % 18446744073709551616 ≡ channel * 2097152 = omega (arith, p) in
-    let head : bit_or (203168 * 2 ^ 24) (channel * 2097152) ≡ 203168 * 2 ^ 24 + channel * 2097152 = or_shifted 203168 24 (channel * 2097152) (omega (arith, p)) in
+    let head : bit_or (203168 * 2 ^ 24) (channel * 2097152) ≡ 203168 * 2 ^ 24 + channel * 2097152 =
+    or_shifted 203168 24 (channel * 2097152) (omega (arith, p)) in
     let sum : 203168 * 2 ^ 24 + channel * 2097152 ≡ (203168 * 8 + channel) * 2 ^ 21 = omega arith in
-    ap (λ (n : ℕ). bit_or (bit_or 3408593420288 n) pilot) whole ∙ ap (λ (n : ℕ). bit_or n pilot) (head ∙ sum) ∙ or_shifted (203168 * 8 + channel) 21 pilot (omega (arith, q))
+    ap (λ (n : ℕ). bit_or (bit_or 3408593420288 n) pilot) whole ∙
+    ap (λ (n : ℕ). bit_or n pilot) (head ∙ sum) ∙
+    or_shifted (203168 * 8 + channel) 21 pilot (omega (arith, q))
 
 -- THE SERIAL NUMBER's bits
 
@@ -59,7 +75,10 @@ low_places : agree_below (λ i. nat_lt (get_or permuted i 0) 32) (λ i. true) 32
 low_places = refl
 
 pub place_below : (i : ℕ) → i < 32 → get_or permuted i 0 < 32
-place_below i h = let e : nat_lt (get_or permuted i 0) 32 ≡ true = agree_below_at (λ i. nat_lt (get_or permuted i 0) 32) (λ i. true) 32 i low_places h in grind (arith, e)
+place_below i h =
+    let e : nat_lt (get_or permuted i 0) 32 ≡ true =
+    agree_below_at (λ i. nat_lt (get_or permuted i 0) 32) (λ i. true) 32 i low_places h in
+    grind (arith, e)
 
 -- the mask's first bits
 abbrev pub first_bits : ℕ → ℕ → List Bool
@@ -68,14 +87,21 @@ first_bits esn i = binary 10 792 ++ map (bit_of esn) (take i permuted)
 long : (esn i : ℕ) → i ≤ 32 → length (first_bits esn i) ≡ 10 + i
 long esn i h =
     length-append (binary 10 792) (map (bit_of esn) (take i permuted))
-    ∙ omega (arith, length-binary 10 792, length-map (take i permuted) (bit_of esn), length-take-le i permuted (omega (arith, h)))
+    ∙ omega (
+      arith,
+      length-binary 10 792,
+      length-map (take i permuted) (bit_of esn),
+      length-take-le i permuted (omega (arith, h)),
+    )
 
 pub first_bits_lt : (esn i : ℕ) → i ≤ 32 → number (first_bits esn i) < 2 ^ 42
 first_bits_lt esn i h =
-    let most : 2 ^ length (first_bits esn i) ≤ 2 ^ 42 = pow_mono {j = 42} (omega (arith, long esn i h, h)) in
+    let most : 2 ^ length (first_bits esn i) ≤ 2 ^ 42 =
+    pow_mono {j = 42} (omega (arith, long esn i h, h)) in
     omega (arith, number_lt (first_bits esn i), most)
 
-pub first_bits-more : (esn mask bit i : ℕ) → i < 32 → mask ≡ number (first_bits esn i) → bit ≡ bit_and (esn / 2 ^ get_or permuted i 0) 1 →
+pub first_bits-more : (esn mask bit i : ℕ) → i < 32 → mask ≡ number (first_bits esn i) →
+    bit ≡ bit_and (esn / 2 ^ get_or permuted i 0) 1 →
     bit_or (mask * 2 % 18446744073709551616) bit ≡ number (first_bits esn (i + 1))
 first_bits-more esn mask bit i h is read =
     let place = get_or permuted i 0 in
@@ -85,11 +111,17 @@ first_bits-more esn mask bit i h is read =
     let joined : bit_or (mask * 2 % 18446744073709551616) bit ≡ 2 * mask + bit =
     ap (λ (n : ℕ). bit_or n bit) whole ∙ or_shifted mask 1 bit (omega (arith, low)) ∙ omega arith in
     let spelled : first_bits esn (i + 1) ≡ first_bits esn i ++ bit_of esn place ∷ [] =
-    ap (λ (ps : List ℕ). binary 10 792 ++ map (bit_of esn) ps) (take_more permuted i 0 (omega (arith, h)))
-    ∙ ap (λ (bs : List Bool). binary 10 792 ++ bs) (map-append (bit_of esn) (take i permuted) (place ∷ []))
-    ∙ sym (append_assoc (binary 10 792) (map (bit_of esn) (take i permuted)) (bit_of esn place ∷ [])) in
-    let digit_is : digit (bit_of esn place) ≡ bit = digit_of (esn / 2 ^ place % 2) (omega arith) ∙ sym low in
-    joined ∙ ap (λ (n : ℕ). 2 * n + bit) is ∙ ap (λ (d : ℕ). 2 * number (first_bits esn i) + d) (sym digit_is) ∙ sym (number-push (first_bits esn i) (bit_of esn place)) ∙ ap number (sym spelled)
+    ap (λ (ps : List ℕ). binary 10 792 ++ map (bit_of esn) ps)
+    (take_more permuted i 0 (omega (arith, h)))
+    ∙ ap (λ (bs : List Bool). binary 10 792 ++ bs)
+    (map-append (bit_of esn) (take i permuted) (place ∷ []))
+    ∙ sym (append_assoc (binary 10 792) (map (bit_of esn) (take i permuted))
+    (bit_of esn place ∷ [])) in
+    let digit_is : digit (bit_of esn place) ≡ bit = digit_of (esn / 2 ^ place % 2) (omega arith) ∙
+    sym low in
+    joined ∙ ap (λ (n : ℕ). 2 * n + bit) is ∙
+    ap (λ (d : ℕ). 2 * number (first_bits esn i) + d) (sym digit_is) ∙
+    sym (number-push (first_bits esn i) (bit_of esn place)) ∙ ap number (sym spelled)
 
 pub traffic_mask_is : (esn : ℕ) → number (first_bits esn 32) ≡ traffic_mask esn
 unfolding traffic_mask

@@ -21,24 +21,31 @@ product_from power sum (bit ∷ bits) = product_from power (one_more power sum b
 abbrev product : ℕ → ℕ → ℕ
 product value power = product_from power 0 (binary 42 value)
 
-one_more_is : (u chips : ℕ) (bit : Bool) → u < 2 ^ 41 → one_more (after 1 chips) (after u chips) bit ≡ after (2 * u + digit bit) chips
+one_more_is : (u chips : ℕ) (bit : Bool) → u < 2 ^ 41 →
+    one_more (after 1 chips) (after u chips) bit ≡ after (2 * u + digit bit) chips
 one_more_is u chips bit h =
-    ap (λ (v : ℕ). cond bit (bit_xor v (after 1 chips)) v) (sym (after_one (after u chips))) ∙ digit_more u chips bit h
+    ap (λ (v : ℕ). cond bit (bit_xor v (after 1 chips)) v) (sym (after_one (after u chips))) ∙
+    digit_more u chips bit h
 
-product_from_is : (chips u : ℕ) (bits : List Bool) → number_from u bits < 2 ^ 42 → product_from (after 1 chips) (after u chips) bits ≡ after (number_from u bits) chips
+product_from_is : (chips u : ℕ) (bits : List Bool) → number_from u bits < 2 ^ 42 →
+    product_from (after 1 chips) (after u chips) bits ≡ after (number_from u bits) chips
 product_from_is chips u [] h = refl
 product_from_is chips u (bit ∷ bits) h =
     let all = number_from u (bit ∷ bits) in
     let place : suc (length bits) ≡ length bits + 1 = omega arith in
-    let front : all / 2 ^ length bits / 2 ≡ u = shr-shr all (length bits) 1 ∙ ap (λ (e : ℕ). all / 2 ^ e) (sym place) ∙ number_from-front u (bit ∷ bits) in
+    let front : all / 2 ^ length bits / 2 ≡ u = shr-shr all (length bits) 1 ∙
+    ap (λ (e : ℕ). all / 2 ^ e) (sym place) ∙ number_from-front u (bit ∷ bits) in
     let small : u < 2 ^ 41 = omega (arith, front, shr_le all (length bits), h) in
-    ap (λ (v : ℕ). product_from (after 1 chips) v bits) (one_more_is u chips bit small) ∙ product_from_is chips (2 * u + digit bit) bits h
+    ap (λ (v : ℕ). product_from (after 1 chips) v bits) (one_more_is u chips bit small) ∙
+    product_from_is chips (2 * u + digit bit) bits h
 
-product_is : (value power chips : ℕ) → value < 2 ^ 42 → power ≡ after 1 chips → product value power ≡ after value chips
+product_is : (value power chips : ℕ) → value < 2 ^ 42 → power ≡ after 1 chips →
+    product value power ≡ after value chips
 product_is value power chips h e =
     let whole : number_from 0 (binary 42 value) ≡ value = number-binary 42 value h in
     let small : number_from 0 (binary 42 value) < 2 ^ 42 = rw whole h in
-    ap (product value) e ∙ ap (λ (v : ℕ). product_from (after 1 chips) v (binary 42 value)) (sym (after-zero chips))
+    ap (product value) e ∙
+    ap (λ (v : ℕ). product_from (after 1 chips) v (binary 42 value)) (sym (after-zero chips))
     ∙ product_from_is chips 0 (binary 42 value) small ∙ ap (λ (v : ℕ). after v chips) whole
 
 -- x^(2^k - 1): squared and multiplied by x, k times
@@ -56,9 +63,11 @@ power_of_ones_is (suc k) =
     let p = power_of_ones k in
     let is : p ≡ after 1 e = power_of_ones_is k in
     let small : p < 2 ^ 42 = rw is (after_lt 1 e) in
-    let twice : product p p ≡ after 1 (e + e) = product_is p p e small is ∙ ap (λ (v : ℕ). after v e) is ∙ after-after 1 e e in
+    let twice : product p p ≡ after 1 (e + e) = product_is p p e small is ∙
+    ap (λ (v : ℕ). after v e) is ∙ after-after 1 e e in
     let count : e + e + 1 ≡ 2 ^ (suc k) - 1 = omega (arith, pow_pos k) in
-    ap stepped twice ∙ sym (after_one (after 1 (e + e))) ∙ after-after 1 (e + e) 1 ∙ ap (after 1) count
+    ap stepped twice ∙ sym (after_one (after 1 (e + e))) ∙ after-after 1 (e + e) 1 ∙
+    ap (after 1) count
 
 computed : power_of_ones 42 ≡ 1
 unfolding binary
@@ -69,14 +78,16 @@ one_returns = sym (power_of_ones_is 42) ∙ computed
 
 pub after-period : (s : ℕ) → s < 2 ^ 42 → after s period ≡ s
 after-period s h =
-    sym (product_is s 1 period h (sym one_returns)) ∙ product_is s 1 0 h (sym (after_none 1 (omega arith))) ∙ after_none s h
+    sym (product_is s 1 period h (sym one_returns)) ∙
+    product_is s 1 0 h (sym (after_none 1 (omega arith))) ∙ after_none s h
 
 -- whole periods
 after-periods : (s n : ℕ) → s < 2 ^ 42 → after s (period * n) ≡ s
 after-periods s zero h = after_none s h
 after-periods s (suc n) h =
     let count : period * suc n ≡ period + period * n = omega arith in
-    ap (after s) count ∙ sym (after-after s period (period * n)) ∙ ap (λ (v : ℕ). after v (period * n)) (after-period s h) ∙ after-periods s n h
+    ap (after s) count ∙ sym (after-after s period (period * n)) ∙
+    ap (λ (v : ℕ). after v (period * n)) (after-period s h) ∙ after-periods s n h
 
 -- back to the state by going on
 returned : (s n : ℕ) → s < 2 ^ 42 → after (after s n) (period * n - n) ≡ s
@@ -85,16 +96,21 @@ returned s n h =
     after-after s n (period * n - n) ∙ ap (after s) count ∙ after-periods s n h
 
 pub after-injective : (s t n : ℕ) → s < 2 ^ 42 → t < 2 ^ 42 → after s n ≡ after t n → s ≡ t
-after-injective s t n p q e = sym (returned s n p) ∙ ap (λ (v : ℕ). after v (period * n - n)) e ∙ returned t n q
+after-injective s t n p q e =
+    sym (returned s n p) ∙ ap (λ (v : ℕ). after v (period * n - n)) e ∙ returned t n q
 
-positive : (n : ℕ) → (n ≡ 0 → ⊥) → 0 < n
+positive : (n : ℕ) → ¬ (n ≡ 0) → 0 < n
 positive zero h = absurd (h refl)
 positive (suc n) h = omega arith
 
 -- a state stays one
 pub IsState-after : (s n : ℕ) → IsState s → IsState (after s n)
-IsState-after s n (p, q) =
-    (positive (after s n) (λ e. let none : s ≡ 0 = after-injective s 0 n q (omega arith) (e ∙ sym (after-zero n)) in omega (arith, p, none)), after_lt s n)
+IsState-after s n (p, q) = (
+  positive (after s n)
+      (λ e. let none : s ≡ 0 = after-injective s 0 n q (omega arith) (e ∙ sym (after-zero n)) in
+      omega (arith, p, none)),
+  after_lt s n,
+)
 
 -- the state so many chips earlier
 pub after-rest : (s n : ℕ) → s < 2 ^ 42 → n ≤ period → after (after s (period - n)) n ≡ s
@@ -103,8 +119,13 @@ after-rest s n h l =
     after-after s (period - n) n ∙ ap (after s) count ∙ after-period s h
 
 pub before_is_later : (s n : ℕ) → s < 2 ^ 42 → n ≤ period → before s n ≡ after s (period - n)
-before_is_later s n h l = after-injective (before s n) (after s (period - n)) n (before_lt s n) (after_lt s (period - n)) (after-before s n h ∙ sym (after-rest s n h l))
+before_is_later s n h l =
+    after-injective (before s n) (after s (period - n)) n (before_lt s n) (after_lt s (period - n))
+    (after-before s n h ∙ sym (after-rest s n h l))
 
 pub IsState-before : (s n : ℕ) → IsState s → IsState (before s n)
-IsState-before s n (p, q) =
-    (positive (before s n) (λ e. let none : s ≡ 0 = sym (after-before s n q) ∙ ap (λ (v : ℕ). after v n) e ∙ after-zero n in omega (arith, p, none)), before_lt s n)
+IsState-before s n (p, q) = (
+  positive (before s n) (λ e. let none : s ≡ 0 = sym (after-before s n q) ∙
+      ap (λ (v : ℕ). after v n) e ∙ after-zero n in omega (arith, p, none)),
+  before_lt s n,
+)

@@ -1,11 +1,13 @@
--- The long code of period 2^42 - 1 (TIA/EIA-95-B, 7.1.3.1.10), as powers of x modulo its polynomial, and its masks.
+-- The long code of period 2^42 - 1 (TIA/EIA-95-B, 7.1.3.1.10), as powers of x modulo its
+-- polynomial, and its masks.
 use Rattle.std.specs.Prelude.{ℕ, ◌-◌, ◌^◌, ◌<◌, Bool, false, List, [], ◌∷◌, ◌++◌, replicate, map, reverse}
 use Rattle.chip_core.specs.Bits.{number, binary, common_parity, bit_of}
 use Rattle.chip_core.specs.Polynomial.{coefficients, remainder}
 
 -- the polynomial is x^42 and these powers
 abbrev pub powers : List ℕ
-powers = 35 ∷ 33 ∷ 31 ∷ 27 ∷ 26 ∷ 25 ∷ 22 ∷ 21 ∷ 19 ∷ 18 ∷ 17 ∷ 16 ∷ 10 ∷ 7 ∷ 6 ∷ 5 ∷ 3 ∷ 2 ∷ 1 ∷ 0 ∷ []
+powers = 35 ∷ 33 ∷ 31 ∷ 27 ∷ 26 ∷ 25 ∷ 22 ∷ 21 ∷ 19 ∷ 18 ∷ 17 ∷ 16 ∷ 10 ∷ 7 ∷ 6 ∷ 5 ∷ 3 ∷ 2 ∷ 1 ∷ 0
+    ∷ []
 
 abbrev pub below : List Bool
 below = coefficients 42 powers
@@ -18,19 +20,22 @@ IsState state = (0 < state) × (state < 2 ^ 42)
 unfoldable pub after : ℕ → ℕ → ℕ
 after state chips = number (remainder below (binary 42 state ++ replicate chips false))
 
--- The state so many chips earlier: divided by x, again and again. Read from the lowest coefficient up, the polynomial is
--- 1 and then these coefficients, and a division by x is a step of long division.
+-- The state so many chips earlier: divided by x, again and again. Read from the lowest coefficient
+-- up, the polynomial is 1 and then these coefficients, and a division by x is a step of long
+-- division.
 abbrev pub above : List Bool
 above = coefficients 42 (map (λ k. 42 - k) (42 ∷ powers))
 
 unfoldable pub before : ℕ → ℕ → ℕ
-before state chips = number (reverse (remainder above (reverse (binary 42 state) ++ replicate chips false)))
+before state chips =
+    number (reverse (remainder above (reverse (binary 42 state) ++ replicate chips false)))
 
 -- the chips after which every state returns
 abbrev pub period : ℕ
 period = 2 ^ 42 - 1
 
--- the chip under a mask, so many chips after the state: the sum modulo 2 of the state's bits that the mask chooses
+-- the chip under a mask, so many chips after the state: the sum modulo 2 of the state's bits that
+-- the mask chooses
 unfoldable pub long_chip : ℕ → ℕ → ℕ → Bool
 long_chip state mask chips = common_parity (binary 42 mask) (binary 42 (after state chips))
 
@@ -38,7 +43,9 @@ long_chip state mask chips = common_parity (binary 42 mask) (binary 42 (after st
 
 -- of a paging channel of a base station with this pilot
 unfoldable pub paging_mask : ℕ → ℕ → ℕ
-paging_mask channel pilot = number (binary 13 0x18cd ++ replicate 5 false ++ binary 3 channel ++ replicate 12 false ++ binary 9 pilot)
+paging_mask channel pilot =
+    number (binary 13 0x18cd ++ replicate 5 false ++ binary 3 channel ++ replicate 12 false ++
+    binary 9 pilot)
 
 -- the bits of an electronic serial number, of which bit 0 is the lowest, in the order of the mask
 abbrev pub permuted : List ℕ

@@ -19,6 +19,7 @@ paging : paging_mask 1 511 ≡ 0x319a02001ff
 unfolding paging_mask binary
 paging = refl
 
-traffic : map traffic_mask (0 ∷ 1 ∷ 0x80000000 ∷ []) ≡ 0x31800000000 ∷ 0x31880000000 ∷ 0x31840000000 ∷ []
+traffic : map traffic_mask (0 ∷ 1 ∷ 0x80000000 ∷ []) ≡
+    0x31800000000 ∷ 0x31880000000 ∷ 0x31840000000 ∷ []
 unfolding traffic_mask binary
 traffic = refl

@@ -1,4 +1,5 @@
-//! Laws of the long code. Each function does nothing, and its contract is a law, which the check proves.
+//! Laws of the long code. Each function does nothing, and its contract is a law, which the check
+//! proves.
 
 ghost use Rattle.std.specs.Prelude.{◌≡◌, ◌≤◌, ◌+◌, ◌-◌, ℕ};
 ghost use Rattle.long_code.specs.LongCode.{IsState, after, before, long_chip, period};
@@ -31,11 +32,14 @@ pub fn division_goes_back()
 
 /// The state so many chips earlier is the one so many chips short of the period later.
 pub fn before()
-    ensures back { (state chips : ℕ) → IsState state → chips ≤ period → after (after state (period - chips)) chips ≡ state }
-    ensures same { (state chips : ℕ) → IsState state → chips ≤ period → before state chips ≡ after state (period - chips) }
+    ensures back { (state chips : ℕ) → IsState state → chips ≤ period →
+        after (after state (period - chips)) chips ≡ state }
+    ensures same { (state chips : ℕ) → IsState state → chips ≤ period →
+        before state chips ≡ after state (period - chips) }
 {}
 
 /// A chip of a later state is a later chip.
 pub fn chips_follow()
-    ensures { (state mask m n : ℕ) → long_chip (after state m) mask n ≡ long_chip state mask (m + n) }
+    ensures { (state mask m n : ℕ) →
+        long_chip (after state m) mask n ≡ long_chip state mask (m + n) }
 {}

@@ -15,10 +15,11 @@ const SERIAL_ORDER: [u8; 32] = [
     23, 14, 5, 27, 18, 9,
 ];
 
-/// The mask of a paging channel, 1 to 7, of the base station whose pilot has this offset index, 0 to 511.
+/// The mask of a paging channel, 1 to 7, of the base station whose pilot has this offset index, 0
+/// to 511.
 ///
-/// TIA/EIA-95-B, 7.7.2: from bit 41 down 1100011001101, five zeros, the channel in 3 bits, twelve zeros, and the pilot
-/// in 9 bits.
+/// TIA/EIA-95-B, 7.7.2: from bit 41 down 1100011001101, five zeros, the channel in 3 bits, twelve
+/// zeros, and the pilot in 9 bits.
 pub fn paging_mask(channel: u8, pilot: u16) -> u64
     requires first { 1 ≤ channel }
     requires last { channel ≤ 7 }
@@ -31,7 +32,8 @@ pub fn paging_mask(channel: u8, pilot: u16) -> u64
 
 /// The public mask of the station with this electronic serial number.
 ///
-/// TIA/EIA-95-B, 7.1.3.1.6: from bit 41 down 1100011000, and the number's 32 bits in a fixed order of their own.
+/// TIA/EIA-95-B, 7.1.3.1.6: from bit 41 down 1100011000, and the number's 32 bits in a fixed order
+/// of their own.
 pub fn traffic_mask(esn: u32) -> u64
     ensures value { result ≡ traffic_mask esn }
     ensures below { result < 2 ^ 42 }

@@ -8,11 +8,12 @@ use std::marker::Model;
 /// The long code's polynomial below x^42: bit k is the coefficient of x^k.
 const FEEDBACK: u64 = 0x00a_8e6f_04ef;
 
-/// A state of the long code's generator: a nonzero polynomial of degree below 42 over the field of two elements.
-/// Contracts see the number whose bit k is the coefficient of x^k.
+/// A state of the long code's generator: a nonzero polynomial of degree below 42 over the field of
+/// two elements. Contracts see the number whose bit k is the coefficient of x^k.
 ///
-/// TIA/EIA-95-B, 7.1.3.1.10: each chip multiplies it by x modulo x^42 + x^35 + x^33 + x^31 + x^27 + x^26 + x^25 + x^22
-/// + x^21 + x^19 + x^18 + x^17 + x^16 + x^10 + x^7 + x^6 + x^5 + x^3 + x^2 + x + 1.
+/// TIA/EIA-95-B, 7.1.3.1.10: each chip multiplies it by x modulo x^42 + x^35 + x^33 + x^31 + x^27 +
+/// x^26 + x^25 + x^22 + x^21 + x^19 + x^18 + x^17 + x^16 + x^10 + x^7 + x^6 + x^5 + x^3 + x^2 + x +
+/// 1.
 #[derive(Clone, Copy, PartialEq, Eq, Debug)]
 pub struct State {
     value: u64,
@@ -73,7 +74,8 @@ impl State {
         self.value = value;
     }
 
-    /// The chip of this state under a mask of 42 bits: the sum modulo 2 of the state's bits where the mask has a 1.
+    /// The chip of this state under a mask of 42 bits: the sum modulo 2 of the state's bits where
+    /// the mask has a 1.
     pub fn chip(&self, mask: u64) -> bool
         requires { mask < 2 ^ 42 }
         ensures { result ≡ long_chip self.now mask 0 }

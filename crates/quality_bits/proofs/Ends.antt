@@ -25,21 +25,27 @@ degree_positive Q12 = omega arith
 degree_positive M16 = omega arith
 degree_positive M30 = omega arith
 
-pub length-sent_check : (kind : Kind) (form : CheckForm) (bits : List Bool) → length (sent_check kind form bits) ≡ (generator_of kind).degree
-length-sent_check kind Plain bits = length-check_bits (generator_of kind) bits (degree_positive kind)
+pub length-sent_check : (kind : Kind) (form : CheckForm) (bits : List Bool) →
+    length (sent_check kind form bits) ≡ (generator_of kind).degree
+length-sent_check kind Plain bits =
+    length-check_bits (generator_of kind) bits (degree_positive kind)
 length-sent_check kind Complemented bits =
-    length-inverted (check_bits (generator_of kind) bits) ∙ length-check_bits (generator_of kind) bits (degree_positive kind)
+    length-inverted (check_bits (generator_of kind) bits) ∙
+    length-check_bits (generator_of kind) bits (degree_positive kind)
 
 -- equal numbers of lists of one length, as the code compares them
-pub same_numbers : (xs ys : List Bool) (m n : ℕ) → length xs ≡ length ys → m ≡ number xs → n ≡ number ys → IsTrue (nat_eq m n) ↔ (xs ≡ ys)
+pub same_numbers : (xs ys : List Bool) (m n : ℕ) → length xs ≡ length ys → m ≡ number xs →
+    n ≡ number ys → IsTrue (nat_eq m n) ↔ (xs ≡ ys)
 same_numbers xs ys m n long left right = (
   (λ same. number_injective xs ys long (sym left ∙ eqb-true m n same ∙ right)),
   (λ same. eq-eqb m n (left ∙ ap number same ∙ sym right)),
 )
 
 -- bits with their check behind them are checked
-pub checked-sent : (kind : Kind) (form : CheckForm) (bits : List Bool) → IsChecked kind form (bits ++ sent_check kind form bits)
+pub checked-sent : (kind : Kind) (form : CheckForm) (bits : List Bool) →
+    IsChecked kind form (bits ++ sent_check kind form bits)
 checked-sent kind form bits =
     let sent = sent_check kind form bits in
-    let body : body_length kind (bits ++ sent) ≡ length bits = omega (arith, length-append bits sent, length-sent_check kind form bits) in
+    let body : body_length kind (bits ++ sent) ≡ length bits =
+    omega (arith, length-append bits sent, length-sent_check kind form bits) in
     rw (body, drop_at bits sent (length bits) refl, take_at bits sent (length bits) refl)

@@ -28,7 +28,8 @@ stated_bits bits = 8 * number (take 8 bits)
 
 -- whether a capsule's length is told, and told lawfully
 unfoldable pub is_stated : List Bool → Bool
-is_stated bits = nat_le 8 (length bits) && nat_le 40 (stated_bits bits) && nat_le (stated_bits bits) 1184
+is_stated bits =
+    nat_le 8 (length bits) && nat_le 40 (stated_bits bits) && nat_le (stated_bits bits) 1184
 
 -- a list that is as long as it says, and that is a lawful length
 pub record IsWhole (bits : List Bool) : Type 0 where
@@ -39,11 +40,14 @@ pub record IsWhole (bits : List Bool) : Type 0 where
 
 -- the capsule at the front of the bits, where all of it is there
 unfoldable pub front_capsule : List Bool → Option (List Bool)
-front_capsule bits = if is_stated bits && nat_le (stated_bits bits) (length bits) then Some (take (stated_bits bits) bits) else None
+front_capsule bits =
+    if is_stated bits && nat_le (stated_bits bits) (length bits)
+    then Some (take (stated_bits bits) bits) else None
 
 -- whether more bits may complete a capsule that begins with these
 unfoldable pub awaits_more : List Bool → Bool
-awaits_more bits = not (nat_le 8 (length bits)) || (is_stated bits && nat_lt (length bits) (stated_bits bits))
+awaits_more bits =
+    not (nat_le 8 (length bits)) || (is_stated bits && nat_lt (length bits) (stated_bits bits))
 
 -- the bits of an open capsule; none where more bits can't complete one
 unfoldable pub still_open : List Bool → Option (List Bool)

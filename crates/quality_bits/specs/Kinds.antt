@@ -36,4 +36,5 @@ body_length kind bits = length bits - (generator_of kind).degree
 
 -- the last bits of a list are the check of those before
 abbrev pub IsChecked : Kind → CheckForm → List Bool → Type 0
-IsChecked kind form bits = drop (body_length kind bits) bits ≡ sent_check kind form (take (body_length kind bits) bits)
+IsChecked kind form bits =
+    drop (body_length kind bits) bits ≡ sent_check kind form (take (body_length kind bits) bits)

@@ -31,7 +31,9 @@ below_of g = coefficients g.degree g.powers
 
 -- The remainder of the bits times x^degree, with ones added to the first `degree` coefficients.
 unfoldable pub check_bits : Generator → List Bool → List Bool
-check_bits g bits = remainder (below_of g) (plus_at_front (bits ++ replicate g.degree false) (replicate g.degree true))
+check_bits g bits =
+    remainder (below_of g)
+    (plus_at_front (bits ++ replicate g.degree false) (replicate g.degree true))
 
 abbrev pub inverted : List Bool → List Bool
 inverted bits = map not bits

@@ -60,17 +60,21 @@ frame bits = piece (true ∷ bits)
 
 short_pieces : List Piece
 unfolding frame binary
-short_pieces = frame (binary 8 5 ++ replicate 23 false) ∷ map (λ k. piece (replicate 32 false)) (places 3)
+short_pieces =
+    frame (binary 8 5 ++ replicate 23 false) ∷ map (λ k. piece (replicate 32 false)) (places 3)
 
-short_ends : map (λ n. capsule_ending (take n short_pieces)) (1 ∷ 2 ∷ 3 ∷ []) ≡ None ∷ Some (binary 8 5 ++ replicate 32 false) ∷ None ∷ []
+short_ends : map (λ n. capsule_ending (take n short_pieces)) (1 ∷ 2 ∷ 3 ∷ []) ≡
+    None ∷ Some (binary 8 5 ++ replicate 32 false) ∷ None ∷ []
 unfolding short_pieces binary places capsule_ending front_capsule is_stated
 short_ends = refl
 
 long_pieces : List Piece
 unfolding frame binary
-long_pieces = frame (binary 8 149 ++ replicate 23 false) ∷ map (λ k. piece (replicate 32 false)) (places 40)
+long_pieces =
+    frame (binary 8 149 ++ replicate 23 false) ∷ map (λ k. piece (replicate 32 false)) (places 40)
 
-none_ends : map (λ n. capsule_ending (take n long_pieces)) (1 ∷ 2 ∷ 39 ∷ 41 ∷ []) ≡ None ∷ None ∷ None ∷ None ∷ []
+none_ends : map (λ n. capsule_ending (take n long_pieces)) (1 ∷ 2 ∷ 39 ∷ 41 ∷ []) ≡
+    None ∷ None ∷ None ∷ None ∷ []
 unfolding long_pieces binary places capsule_ending front_capsule is_stated
 none_ends = refl
 

@@ -1,4 +1,5 @@
-//! Capsules of messages: MSG_LENGTH in 8 bits, the body, and the check of both (TIA/EIA-95-B, 7.7.1.2, 7.7.2.2 and 7.7.3.3).
+//! Capsules of messages: MSG_LENGTH in 8 bits, the body, and the check of both (TIA/EIA-95-B,
+//! 7.7.1, 7.7.2 and 7.7.3).
 //!
 //! MSG_LENGTH counts octets, its own and the check's among them: 5 to 148.
 
@@ -39,13 +40,15 @@ pub fn capsule_of(kind: Kind, form: CheckForm, body: &Bits) -> Bits
 
 /// The body of a capsule.
 ///
-/// `BadLength` exactly where the list isn't as long as it says or that length isn't lawful; else `BadCheck` exactly
-/// where its last bits aren't the check of those before.
+/// `BadLength` exactly where the list isn't as long as it says or that length isn't lawful; else
+/// `BadCheck` exactly where its last bits aren't the check of those before.
 pub fn body_of(kind: Kind, form: CheckForm, bits: &Bits) -> Result<Bits, CapsuleFault>
     ensures bad_length { (result ≡ Err CapsuleFault.BadLength) ↔ ¬ (IsWhole bits.now) }
-    ensures bad_check { (result ≡ Err CapsuleFault.BadCheck) ↔ (IsWhole bits.now × ¬ (IsChecked kind form bits.now)) }
+    ensures bad_check { (result ≡ Err CapsuleFault.BadCheck) ↔
+        (IsWhole bits.now × ¬ (IsChecked kind form bits.now)) }
     ensures found { IfOk result (λ body. FillsCapsule kind body × (bits.now ≡ capsule kind form body)) }
-    ensures only { (body : List Bool) → FillsCapsule kind body → bits.now ≡ capsule kind form body → result ≡ Ok body }
+    ensures only { (body : List Bool) → FillsCapsule kind body → bits.now ≡ capsule kind form body →
+        result ≡ Ok body }
 {
     if !is_whole(bits) {
         return Err(CapsuleFault::BadLength);
@@ -67,8 +70,8 @@ fn is_whole(bits: &Bits) -> bool
     }
 }
 
-/// How many bits the capsule has that begins with these; `None` exactly where fewer than 8 are there, or where they say
-/// a length outside 5 to 148 octets.
+/// How many bits the capsule has that begins with these; `None` exactly where fewer than 8 are
+/// there, or where they say a length outside 5 to 148 octets.
 pub fn stated_length(bits: &Bits) -> Option<u16>
     ensures { SomeIff result (IsTrue (is_stated bits.now)) (stated_bits bits.now) }
 {

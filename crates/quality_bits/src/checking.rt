@@ -8,7 +8,8 @@ use crate::kind::Kind;
 use crate::register::Register;
 use chip_core::{Bits, CheckForm};
 
-/// Whether the last bits of a list are the check of those before, in this form, the highest coefficient first.
+/// Whether the last bits of a list are the check of those before, in this form, the highest
+/// coefficient first.
 ///
 /// The quality indicators of frames are always plain.
 pub fn check(kind: Kind, form: CheckForm, bits: &Bits) -> bool

@@ -5,10 +5,11 @@ ghost use Rattle.chip_core.specs.Bits.{number};
 ghost use Rattle.quality_bits.specs.Quality.{below_of};
 ghost use Rattle.quality_bits.specs.Kinds.{generator_of};
 
-/// A kind of check, named by the number of its bits: Q for the quality indicator of a traffic frame, M for the check of
-/// a message.
+/// A kind of check, named by the number of its bits: Q for the quality indicator of a traffic
+/// frame, M for the check of a message.
 ///
-/// TIA/EIA-95-B: 7.1.3.5.2 for the frames, 7.7.1.2.2 (sync), 7.7.2.2.2 (paging) and 7.7.3.3.2 (traffic) for the messages.
+/// TIA/EIA-95-B: 7.1.3.5 for the frames, 7.7.1 (sync), 7.7.2 (paging) and 7.7.3 (traffic) for the
+/// messages.
 #[derive(Clone, Copy, PartialEq, Eq, Debug)]
 pub enum Kind {
     /// x^6 + x^2 + x + 1: rate set 2, 1800 bit/s.
@@ -17,16 +18,18 @@ pub enum Kind {
     Q8,
     /// x^10 + x^9 + x^8 + x^7 + x^6 + x^4 + x^3 + 1: rate set 2, 7200 bit/s.
     Q10,
-    /// x^12 + x^11 + x^10 + x^9 + x^8 + x^4 + x + 1: 9600 bit/s of rate set 1, 14400 bit/s of rate set 2.
+    /// x^12 + x^11 + x^10 + x^9 + x^8 + x^4 + x + 1: 9600 bit/s of rate set 1, 14400 bit/s of rate
+    /// set 2.
     Q12,
     /// x^16 + x^12 + x^5 + 1: messages of the traffic channel.
     M16,
-    /// x^30 + x^29 + x^21 + x^20 + x^15 + x^13 + x^12 + x^11 + x^8 + x^7 + x^6 + x^2 + x + 1: messages of the sync and of
-    /// the paging channel.
+    /// x^30 + x^29 + x^21 + x^20 + x^15 + x^13 + x^12 + x^11 + x^8 + x^7 + x^6 + x^2 + x + 1:
+    /// messages of the sync and of the paging channel.
     M30,
 }
 
-/// A generator: its degree, and its coefficients below that power as a number, the highest power first.
+/// A generator: its degree, and its coefficients below that power as a number, the highest power
+/// first.
 #[derive(Clone, Copy)]
 pub(crate) struct Divisor {
     pub(crate) degree: u32,

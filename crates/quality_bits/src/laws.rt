@@ -8,14 +8,17 @@ ghost use Rattle.chip_core.specs.declared.check_form.CheckForm.{CheckForm as The
 
 /// A capsule has one body.
 pub fn capsule_has_one_body()
-    ensures { (kind : TheKind) (form : TheForm) (a b : List Bool) → capsule kind form a ≡ capsule kind form b → a ≡ b }
+    ensures { (kind : TheKind) (form : TheForm) (a b : List Bool) →
+        capsule kind form a ≡ capsule kind form b → a ≡ b }
 {}
 
-/// What one more piece does to a stream: the capsule that ends in it and what is under way behind it follow from what was
-/// under way before it, or from no bits where it starts a message.
+/// What one more piece does to a stream: the capsule that ends in it and what is under way behind
+/// it follow from what was under way before it, or from no bits where it starts a message.
 pub fn one_more_piece()
     ensures under_way { (pieces : List Piece) (p : Piece) →
-        under_way (pieces ++ p ∷ []) ≡ continued (cond p.starts (Some []) (under_way pieces)) p.body }
+        under_way (pieces ++ p ∷ []) ≡
+        continued (cond p.starts (Some []) (under_way pieces)) p.body }
     ensures capsule { (pieces : List Piece) (p : Piece) →
-        capsule_ending (pieces ++ p ∷ []) ≡ completed (cond p.starts (Some []) (under_way pieces)) p.body }
+        capsule_ending (pieces ++ p ∷ []) ≡
+        completed (cond p.starts (Some []) (under_way pieces)) p.body }
 {}

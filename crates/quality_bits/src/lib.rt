@@ -1,5 +1,6 @@
-//! Frame quality indicators and the checks of messages (TIA/EIA-95-B, 7.1.3.5.2 and 7.7): remainders of the bits, as a
-//! polynomial over the field of two elements, by a fixed generator. And the capsules of messages, which end with one.
+//! Frame quality indicators and the checks of messages (TIA/EIA-95-B, 7.1.3.5 and 7.7):
+//! remainders of the bits, as a polynomial over the field of two elements, by a fixed generator.
+//! And the capsules of messages, which end with one.
 #![tactic(auto)]
 
 mod capsule;

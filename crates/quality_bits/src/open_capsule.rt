@@ -9,8 +9,8 @@ use std::marker::Model;
 
 /// The bits of a capsule that isn't complete yet, or none where no capsule is open.
 ///
-/// It closes by itself: behind the capsule's last bit, and where the first 8 bits say a length outside 5 to 148 octets.
-/// Contracts see the bits since the capsule's start, where it is open.
+/// It closes by itself: behind the capsule's last bit, and where the first 8 bits say a length
+/// outside 5 to 148 octets. Contracts see the bits since the capsule's start, where it is open.
 #[derive(Clone, Copy, PartialEq, Eq, Debug)]
 pub struct OpenCapsule {
     bits: Option<Bits>,
@@ -56,8 +56,8 @@ impl OpenCapsule {
 
     /// Takes the next bit, and gives the capsule that it completes.
     ///
-    /// With that, or where a length outside 5 to 148 octets is told, it is closed. A bit is passed over where no
-    /// capsule is open.
+    /// With that, or where a length outside 5 to 148 octets is told, it is closed. A bit is passed
+    /// over where no capsule is open.
     pub fn push(&mut self, bit: bool) -> Option<Bits>
         ensures goes_on { self.new ≡ continued self.old (bit ∷ []) }
         ensures gives { result ≡ completed self.old (bit ∷ []) }

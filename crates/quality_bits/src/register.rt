@@ -11,7 +11,8 @@ use std::marker::Model;
 
 /// A register that computes a check while the bits go by, one shift a bit.
 ///
-/// Contracts see its kind and what it holds, and say for which bits it stands: those that it took since it was new.
+/// Contracts see its kind and what it holds, and say for which bits it stands: those that it took
+/// since it was new.
 #[derive(Clone, Copy, PartialEq, Eq, Debug)]
 pub struct Register {
     kind: Kind,
@@ -58,7 +59,8 @@ impl Register {
         };
     }
 
-    /// The check of the bits that it took, not inverted; the coefficient of the highest power is the highest bit.
+    /// The check of the bits that it took, not inverted; the coefficient of the highest power is
+    /// the highest bit.
     pub fn value(&self) -> u32
         ensures value { (kind : TheKind) (bits : List Bool) →
             Checks self.now kind bits → result ≡ number (check_bits (generator_of kind) bits) }

@@ -18,13 +18,17 @@ shifted_chips r before b h (suc j) lt =
     low_bit (2 * r + digit b) 15 (suc j) lt ∙ bit_of-next r b j ∙ h.chips j (omega (arith, lt))
 
 -- after one more chip
-pub Holds-more : (r : ℕ) (before : List Bool) (b : Bool) → Holds r before → Holds ((2 * r + digit b) % 2 ^ 15) (b ∷ before)
+pub Holds-more : (r : ℕ) (before : List Bool) (b : Bool) → Holds r before →
+    Holds ((2 * r + digit b) % 2 ^ 15) (b ∷ before)
 Holds-more r before b h = record { small = omega arith; chips = shifted_chips r before b h }
 
 -- chip 0, with zeros before it
 pub Holds-start : Holds 1 (true ∷ [])
 Holds-start =
-    let none : Holds 0 [] = record { small = omega arith; chips = λ k lt. ap (λ n. nat_eq n 1) (bit_at-zero k) } in
+    let none : Holds 0 [] = record {
+      small = omega arith;
+      chips = λ k lt. ap (λ n. nat_eq n 1) (bit_at-zero k);
+    } in
     Holds-more 0 [] true none
 
 -- the register's chips at places within it
@@ -34,15 +38,18 @@ pub map_places : (r : ℕ) (before : List Bool) (at : List ℕ) → Holds r befo
 map_places r before [] h all = refl
 map_places r before (k ∷ ks) h all =
     let here : bit_of r k ≡ get_or before k false = h.chips k (all 0 0 (omega arith)) in
-    let rest : map (bit_of r) ks ≡ map (λ k. get_or before k false) ks = map_places r before ks h (λ j d lt. all (suc j) d (omega (arith, lt))) in
+    let rest : map (bit_of r) ks ≡ map (λ k. get_or before k false) ks =
+    map_places r before ks h (λ j d lt. all (suc j) d (omega (arith, lt))) in
     cc
 
 -- the chip after chip n
-pub next_chip : (lags : List ℕ) (n : ℕ) → n < 32766 → code_chip lags (n + 1) ≡ parity (map (chip_back (chips_to lags n)) lags)
+pub next_chip : (lags : List ℕ) (n : ℕ) → n < 32766 →
+    code_chip lags (n + 1) ≡ parity (map (chip_back (chips_to lags n)) lags)
 unfolding chips_to
 next_chip lags n h = rw (add-one n, ne_eqb (suc n) 32767 (omega arith))
 
-pub chips_more : (lags : List ℕ) (n : ℕ) → chips_to lags (n + 1) ≡ parity (map (chip_back (chips_to lags n)) lags) ∷ chips_to lags n
+pub chips_more : (lags : List ℕ) (n : ℕ) →
+    chips_to lags (n + 1) ≡ parity (map (chip_back (chips_to lags n)) lags) ∷ chips_to lags n
 unfolding chips_to
 chips_more lags n = rw (add-one n)
 
@@ -53,8 +60,10 @@ pub turn : (lags at : List ℕ) (n r r' : ℕ) (b : Bool) → Holds r (chips_to 
     b ≡ parity (map (bit_of r) at) → r' ≡ (2 * r + digit b) % 2 ^ 15 →
     (b ≡ code_chip lags (n + 1)) × Holds r' (chips_to lags (n + 1))
 turn lags at n r r' b holds low all same chip next =
-    let is : b ≡ parity (map (chip_back (chips_to lags n)) lags) = chip ∙ ap parity (map_places r (chips_to lags n) at holds all ∙ same) in
-    let grown : b ∷ chips_to lags n ≡ chips_to lags (n + 1) = ap (λ x. x ∷ chips_to lags n) is ∙ sym (chips_more lags n) in (
+    let is : b ≡ parity (map (chip_back (chips_to lags n)) lags) = chip ∙
+    ap parity (map_places r (chips_to lags n) at holds all ∙ same) in
+    let grown : b ∷ chips_to lags n ≡ chips_to lags (n + 1) = ap (λ x. x ∷ chips_to lags n) is ∙
+    sym (chips_more lags n) in (
       is ∙ sym (next_chip lags n low),
       rw (next, ← grown) (Holds-more r (chips_to lags n) b holds),
     )

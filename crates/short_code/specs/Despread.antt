@@ -1,5 +1,5 @@
 -- Despreading: samples times the conjugate of the pilot's code.
-use Rattle.std.specs.Prelude.{ℕ, ◌+◌, ◌%◌, List, [], ◌∷◌}
+use Rattle.std.specs.Prelude.{ℕ, ◌+◌, ◌≤◌, ◌%◌, List, [], ◌∷◌, ℤ, unsigned_abs}
 use Rattle.chip_core.specs.Complex.{times, conjugate, point, of_sample}
 use Rattle.chip_core.specs.declared.sample.Pair.{Pair}
 use Rattle.chip_core.specs.declared.sample.Sample.{Sample}
@@ -12,4 +12,14 @@ code_point phase = point (pilot_chip (phase % 32768))
 -- the samples times the conjugate code, the first sample at the phase
 abbrev pub despread : ℕ → List Sample → List Pair
 despread phase [] = []
-despread phase (s ∷ samples) = times (of_sample s) (conjugate (code_point phase)) ∷ despread (phase + 1) samples
+despread phase (s ∷ samples) =
+    times (of_sample s) (conjugate (code_point phase)) ∷ despread (phase + 1) samples
+
+-- signs, as +1 and -1 are
+pub record IsUnit (signs : ℤ × ℤ) : Type 0 where
+  pub i : unsigned_abs signs.0 ≤ 1
+  pub q : unsigned_abs signs.1 ≤ 1
+
+-- a sample times the conjugate of the point with these signs
+abbrev pub turned : Sample → ℤ × ℤ → Pair
+turned s signs = times (of_sample s) (conjugate (record { i = signs.0; q = signs.1 }))

@@ -1,4 +1,5 @@
--- The pilot's two codes: maximal sequences of period 32,767 with one chip inserted (TIA/EIA-95-B, 7.1.3.1.9).
+-- The pilot's two codes: maximal sequences of period 32,767 with one chip inserted (TIA/EIA-95-B,
+-- 7.1.3.1.9).
 use Rattle.std.specs.Prelude.{ℕ, zero, suc, ◌-◌, Bool, true, false, cond, List, [], ◌∷◌, get_or, ◌==◌, map, ℤ}
 use Rattle.chip_core.specs.Bits.{parity, places, sign}
 
@@ -16,7 +17,8 @@ chip_back before lag = get_or before (lag - 1) false
 -- chips 0 to n, the newest first
 unfoldable pub chips_to : List ℕ → ℕ → List Bool
 chips_to lags zero = true ∷ []
-chips_to lags (suc n) = let before = chips_to lags n in parity (map (chip_back before) lags) ∷ before
+chips_to lags (suc n) = let before = chips_to lags n in
+    parity (map (chip_back before) lags) ∷ before
 
 -- chip 32,767 is inserted
 abbrev pub code_chip : List ℕ → ℕ → Bool

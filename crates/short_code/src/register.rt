@@ -5,7 +5,8 @@ ghost use Rattle.chip_core.specs.Bits.{digit};
 
 /// The places of the register whose chips are added for the next chip of the in-phase code.
 ///
-/// The newest chip stands at place 0, so a chip that lies `lag` chips back stands at place `lag - 1`.
+/// The newest chip stands at place 0, so a chip that lies `lag` chips back stands at place `lag -
+/// 1`.
 pub const I_PLACES: [u8; 6] = [14, 9, 7, 6, 5, 1];
 
 /// The places of the register whose chips are added for the next chip of the quadrature code.

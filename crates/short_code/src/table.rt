@@ -4,6 +4,7 @@ ghost use Rattle.std.specs.Prelude.{◌≡◌, ◌<◌, ℕ, length, IfOk};
 ghost use Rattle.short_code.specs.ShortCode.{pilot_chip, chip_signs, pilot_signs};
 
 use crate::register::{I_PLACES, Q_PLACES, shifted};
+use chip_core::air::CODE_CHIPS;
 use chip_core::{OutOfMemory, parity_at};
 use std::alloc::Global;
 use std::marker::Model;
@@ -27,8 +28,8 @@ impl Model for Codes {
     ghost invariant = { λ codes. codes.signs.items ≡ pilot_signs };
 }
 
-/// The signs of two chips on the air: +1 for a 0 and -1 for a 1.
-fn signs_of(i: bool, q: bool) -> (i8, i8)
+/// The signs of two chips on the air, in-phase and quadrature: +1 for a 0 and -1 for a 1.
+pub fn signs_of(i: bool, q: bool) -> (i8, i8)
     ensures { result ≡ chip_signs (i, q) }
 {
     (if i { -1 } else { 1 }, if q { -1 } else { 1 })
@@ -41,7 +42,7 @@ impl Codes {
     pub fn new(alloc: Global) -> Result<Codes, OutOfMemory>
         ensures { IfOk result (λ codes. codes ≡ pilot_signs) }
     {
-        let mut signs = Vec::with_capacity(alloc, 32768)?;
+        let mut signs = Vec::with_capacity(alloc, CODE_CHIPS as usize)?;
         signs.push(signs_of(true, true))?;
         let mut i_register = 1;
         let mut q_register = 1;

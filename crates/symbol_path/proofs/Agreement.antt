@@ -7,20 +7,24 @@ use Rattle.chip_core.proofs.IndexSums.{sum_same, sum_front, sum_none, sum_change
 use Rattle.chip_core.proofs.Places.{length-map-places, get_or-map-places}
 use Rattle.chip_core.proofs.Ring.{distrib_right}
 use Rattle.symbol_path.specs.declared.kinds.Kind.{Kind}
-use Rattle.symbol_path.specs.SentOrder.{Shape, shape_of, size, address, sent, gathered, agreement}
+use Rattle.chip_core.specs.Agreement.{agreement}
+use Rattle.symbol_path.specs.SentOrder.{Shape, shape_of, size, address, sent, gathered}
 use Rattle.symbol_path.proofs.Permutation.{address_lt}
 use Rattle.symbol_path.proofs.Interleaving.{size_some, symbol_lt, count_is}
 use Rattle.symbol_path.proofs.Gathering.{part, part-none, part_here, part_other}
 
-agreement_is : (n : ℕ) (softs : List ℤ) (symbols : List Bool) → length softs ≡ n → length symbols ≡ n →
-    agreement softs symbols ≡ sum_below n (λ k. get_or softs k (pos 0) *ℤ sign (get_or symbols k false))
+agreement_is : (n : ℕ) (softs : List ℤ) (symbols : List Bool) → length softs ≡ n →
+    length symbols ≡ n →
+    agreement softs symbols ≡
+    sum_below n (λ k. get_or softs k (pos 0) *ℤ sign (get_or symbols k false))
 unfolding sum_below
 agreement_is zero [] symbols p q = refl
 agreement_is zero (v ∷ softs) symbols p q = absurd (omega (arith, p))
 agreement_is (suc n) [] symbols p q = absurd (omega (arith, p))
 agreement_is (suc n) (v ∷ softs) [] p q = absurd (omega (arith, q))
 agreement_is (suc n) (v ∷ softs) (b ∷ symbols) p q =
-    ap (λ (z : ℤ). (v *ℤ sign b) +ℤ z) (agreement_is n softs symbols (omega (arith, p)) (omega (arith, q)))
+    ap (λ (z : ℤ). (v *ℤ sign b) +ℤ z)
+    (agreement_is n softs symbols (omega (arith, p)) (omega (arith, q)))
     ∙ sym (sum_front n (λ k. get_or (v ∷ softs) k (pos 0) *ℤ sign (get_or (b ∷ symbols) k false)))
 
 zero_times : (b : Bool) → pos 0 *ℤ sign b ≡ pos 0
@@ -28,49 +32,75 @@ zero_times true = refl
 zero_times false = refl
 
 -- by number and by key: each number's f, times what its key has
-by_key : (f : ℕ → ℤ) (key : ℕ → ℕ) (symbol : ℕ → Bool) (count n : ℕ) → ((i : ℕ) → i < n → key i < count) →
-    sum_below n (λ i. f i *ℤ sign (symbol (key i))) ≡ sum_below count (λ c. part f key n c *ℤ sign (symbol c))
+by_key : (f : ℕ → ℤ) (key : ℕ → ℕ) (symbol : ℕ → Bool) (count n : ℕ) →
+    ((i : ℕ) → i < n → key i < count) →
+    sum_below n (λ i. f i *ℤ sign (symbol (key i))) ≡
+    sum_below count (λ c. part f key n c *ℤ sign (symbol c))
 unfolding sum_below
-by_key f key symbol count zero low = sym (sum_none count (λ c. part f key 0 c *ℤ sign (symbol c)) (λ c lt. ap (λ (z : ℤ). z *ℤ sign (symbol c)) (part-none f key c) ∙ zero_times (symbol c)))
+by_key f key symbol count zero low =
+    sym (sum_none count (λ c. part f key 0 c *ℤ sign (symbol c))
+    (λ c lt. ap (λ (z : ℤ). z *ℤ sign (symbol c)) (part-none f key c) ∙ zero_times (symbol c)))
 by_key f key symbol count (suc n) low =
     let j = key n in
     let next : n + 1 ≡ suc n = add-one n in
-    let changed = sum_changed count j (λ c. part f key n c *ℤ sign (symbol c)) (λ c. part f key (n + 1) c *ℤ sign (symbol c)) (f n *ℤ sign (symbol j))
+    let changed =
+    sum_changed count j (λ c. part f key n c *ℤ sign (symbol c))
+    (λ c. part f key (n + 1) c *ℤ sign (symbol c)) (f n *ℤ sign (symbol j))
     (low n (omega arith))
     (λ c lt ne. ap (λ (z : ℤ). z *ℤ sign (symbol c)) (part_other f key n c ne))
-    (ap (λ (z : ℤ). z *ℤ sign (symbol j)) (part_here f key n j refl) ∙ distrib_right (part f key n j) (f n) (sign (symbol j))) in
-    ap (λ (z : ℤ). z +ℤ (f n *ℤ sign (symbol j))) (by_key f key symbol count n (λ i lt. low i (omega (arith, lt))))
+    (ap (λ (z : ℤ). z *ℤ sign (symbol j)) (part_here f key n j refl) ∙
+    distrib_right (part f key n j) (f n) (sign (symbol j))) in
+    ap (λ (z : ℤ). z +ℤ (f n *ℤ sign (symbol j)))
+    (by_key f key symbol count n (λ i lt. low i (omega (arith, lt))))
     ∙ sym changed
     ∙ ap (λ (m : ℕ). sum_below count (λ c. part f key m c *ℤ sign (symbol c))) next
 
-pub length-sent : (s : Shape) (repeats : ℕ) (code : List Bool) → length (sent s repeats code) ≡ size s
+pub length-sent : (s : Shape) (repeats : ℕ) (code : List Bool) →
+    length (sent s repeats code) ≡ size s
 unfolding sent
-length-sent s repeats code = length-map-places (λ i. get_or code (address s i / repeats) false) (size s)
+length-sent s repeats code =
+    length-map-places (λ i. get_or code (address s i / repeats) false) (size s)
 
-pub get_or-sent : (s : Shape) (repeats : ℕ) (code : List Bool) (i : ℕ) → i < size s → get_or (sent s repeats code) i false ≡ get_or code (address s i / repeats) false
+pub get_or-sent : (s : Shape) (repeats : ℕ) (code : List Bool) (i : ℕ) → i < size s →
+    get_or (sent s repeats code) i false ≡ get_or code (address s i / repeats) false
 unfolding sent
-get_or-sent s repeats code i h = get_or-map-places (λ i. get_or code (address s i / repeats) false) (size s) i false h
+get_or-sent s repeats code i h =
+    get_or-map-places (λ i. get_or code (address s i / repeats) false) (size s) i false h
 
-pub length-gathered : (s : Shape) (repeats : ℕ) (softs : List ℤ) → length (gathered s repeats softs) ≡ size s / repeats
+pub length-gathered : (s : Shape) (repeats : ℕ) (softs : List ℤ) →
+    length (gathered s repeats softs) ≡ size s / repeats
 unfolding gathered
-length-gathered s repeats softs = length-map-places (part (λ i. get_or softs i (pos 0)) (λ i. address s i / repeats) (size s)) (size s / repeats)
+length-gathered s repeats softs =
+    length-map-places (part (λ i. get_or softs i (pos 0)) (λ i. address s i / repeats) (size s))
+    (size s / repeats)
 
 pub get_or-gathered : (s : Shape) (repeats : ℕ) (softs : List ℤ) (c : ℕ) → c < size s / repeats →
-    get_or (gathered s repeats softs) c (pos 0) ≡ part (λ i. get_or softs i (pos 0)) (λ i. address s i / repeats) (size s) c
+    get_or (gathered s repeats softs) c (pos 0) ≡
+    part (λ i. get_or softs i (pos 0)) (λ i. address s i / repeats) (size s) c
 unfolding gathered
-get_or-gathered s repeats softs c h = get_or-map-places (part (λ i. get_or softs i (pos 0)) (λ i. address s i / repeats) (size s)) (size s / repeats) c (pos 0) h
+get_or-gathered s repeats softs c h =
+    get_or-map-places (part (λ i. get_or softs i (pos 0)) (λ i. address s i / repeats) (size s))
+    (size s / repeats) c (pos 0) h
 
-pub agreement-gathered : (kind : Kind) (repeats : ℕ) (softs : List ℤ) (code : List Bool) → length softs ≡ size (shape_of kind) → length code * repeats ≡ size (shape_of kind) →
-    agreement softs (sent (shape_of kind) repeats code) ≡ agreement (gathered (shape_of kind) repeats softs) code
+pub agreement-gathered : (kind : Kind) (repeats : ℕ) (softs : List ℤ) (code : List Bool) →
+    length softs ≡ size (shape_of kind) → length code * repeats ≡ size (shape_of kind) →
+    agreement softs (sent (shape_of kind) repeats code) ≡
+    agreement (gathered (shape_of kind) repeats softs) code
 agreement-gathered kind repeats softs code p q =
     let s = shape_of kind in
-    let count : size s / repeats ≡ length code = count_is (length code) repeats (size s) q (size_some kind) in
+    let count : size s / repeats ≡ length code =
+    count_is (length code) repeats (size s) q (size_some kind) in
     let soft = λ (i : ℕ). get_or softs i (pos 0) in
     let key = λ (i : ℕ). address s i / repeats in
     agreement_is (size s) softs (sent s repeats code) p (length-sent s repeats code)
-    ∙ sum_same (size s) (λ i. soft i *ℤ sign (get_or (sent s repeats code) i false)) (λ i. soft i *ℤ sign (get_or code (key i) false))
+    ∙ sum_same (size s) (λ i. soft i *ℤ sign (get_or (sent s repeats code) i false))
+    (λ i. soft i *ℤ sign (get_or code (key i) false))
     (λ i lt. ap (λ (b : Bool). soft i *ℤ sign b) (get_or-sent s repeats code i lt))
-    ∙ by_key soft key (λ c. get_or code c false) (length code) (size s) (λ i lt. symbol_lt (address s i) (length code) repeats (size s) q (address_lt kind i lt))
-    ∙ sum_same (length code) (λ c. part soft key (size s) c *ℤ sign (get_or code c false)) (λ c. get_or (gathered s repeats softs) c (pos 0) *ℤ sign (get_or code c false))
-    (λ c lt. ap (λ (z : ℤ). z *ℤ sign (get_or code c false)) (sym (get_or-gathered s repeats softs c (omega (arith, lt, count)))))
-    ∙ sym (agreement_is (length code) (gathered s repeats softs) code (length-gathered s repeats softs ∙ count) refl)
+    ∙ by_key soft key (λ c. get_or code c false) (length code) (size s)
+    (λ i lt. symbol_lt (address s i) (length code) repeats (size s) q (address_lt kind i lt))
+    ∙ sum_same (length code) (λ c. part soft key (size s) c *ℤ sign (get_or code c false))
+    (λ c. get_or (gathered s repeats softs) c (pos 0) *ℤ sign (get_or code c false))
+    (λ c lt. ap (λ (z : ℤ). z *ℤ sign (get_or code c false))
+    (sym (get_or-gathered s repeats softs c (omega (arith, lt, count)))))
+    ∙ sym (agreement_is (length code) (gathered s repeats softs) code
+    (length-gathered s repeats softs ∙ count) refl)

@@ -24,7 +24,8 @@ total-append (x ∷ xs) ys = let e = total-append xs ys in rw e (omega (arith, i
 pub part-none : (f : ℕ → ℤ) (key : ℕ → ℕ) (c : ℕ) → part f key 0 c ≡ pos 0
 part-none f key c = rw places-none refl
 
-part_split : (f : ℕ → ℤ) (key : ℕ → ℕ) (n c : ℕ) → part f key (n + 1) c ≡ part f key n c +ℤ total (map f (cond (key n == c) (n ∷ []) []))
+part_split : (f : ℕ → ℤ) (key : ℕ → ℕ) (n c : ℕ) →
+    part f key (n + 1) c ≡ part f key n c +ℤ total (map f (cond (key n == c) (n ∷ []) []))
 part_split f key n c =
     let test : ℕ → Bool = λ i. key i == c in
     ap (λ (is : List ℕ). total (map f (filter test is))) (places-more n)
@@ -33,12 +34,14 @@ part_split f key n c =
     ∙ total-append (map f (filter test (places n))) (map f (cond (key n == c) (n ∷ []) []))
 
 -- one number more
-pub part_here : (f : ℕ → ℤ) (key : ℕ → ℕ) (n c : ℕ) → key n ≡ c → part f key (n + 1) c ≡ part f key n c +ℤ f n
+pub part_here : (f : ℕ → ℤ) (key : ℕ → ℕ) (n c : ℕ) → key n ≡ c →
+    part f key (n + 1) c ≡ part f key n c +ℤ f n
 part_here f key n c e =
     let yes = eq-eqb (key n) c e in
     part_split f key n c ∙ rw yes (omega (arith, ints))
 
-pub part_other : (f : ℕ → ℤ) (key : ℕ → ℕ) (n c : ℕ) → c ≢ key n → part f key (n + 1) c ≡ part f key n c
+pub part_other : (f : ℕ → ℤ) (key : ℕ → ℕ) (n c : ℕ) → c ≢ key n →
+    part f key (n + 1) c ≡ part f key n c
 part_other f key n c ne =
     let other = ne_eqb (key n) c (λ e. ne (sym e)) in
     part_split f key n c ∙ rw other (omega (arith, ints))
@@ -46,7 +49,8 @@ part_other f key n c ne =
 -- one turn of the loop, for each sum
 pub part_more : (f : ℕ → ℤ) (key : ℕ → ℕ) (n : ℕ) (sums : List ℤ) → key n < length sums →
     ((c : ℕ) → get_or sums c (pos 0) ≡ part f key n c) →
-    (c : ℕ) → get_or (set sums (key n) (get_or sums (key n) (pos 0) +ℤ f n)) c (pos 0) ≡ part f key (n + 1) c
+    (c : ℕ) → get_or (set sums (key n) (get_or sums (key n) (pos 0) +ℤ f n)) c (pos 0) ≡
+    part f key (n + 1) c
 part_more f key n sums h each c =
     ⊎_elim
     (λ (e : c ≡ key n).
@@ -55,7 +59,8 @@ part_more f key n sums h each c =
     ∙ ap (λ (z : ℤ). z +ℤ f n) (each (key n))
     ∙ sym (part_here f key n (key n) refl)
     ∙ ap (part f key (n + 1)) (sym e))
-    (λ (ne : c ≢ key n). get_or-set_other sums (key n) c (get_or sums (key n) (pos 0) +ℤ f n) (pos 0) ne ∙ each c ∙ sym (part_other f key n c ne))
+    (λ (ne : c ≢ key n). get_or-set_other sums (key n) c (get_or sums (key n) (pos 0) +ℤ f n)
+    (pos 0) ne ∙ each c ∙ sym (part_other f key n c ne))
     (cases_eq c (key n))
 
 abs_plus : (a b : ℤ) → unsigned_abs (a +ℤ b) ≤ unsigned_abs a + unsigned_abs b
@@ -64,13 +69,21 @@ abs_plus a b = omega (arith, ints)
 -- and for their absolute values
 pub sizes_more : (sums softs : List ℤ) (at n : ℕ) → at < length sums → n < length softs →
     sum_by unsigned_abs sums ≤ sum_by unsigned_abs (take n softs) →
-    sum_by unsigned_abs (set sums at (get_or sums at (pos 0) +ℤ get_or softs n (pos 0))) ≤ sum_by unsigned_abs (take (n + 1) softs)
+    sum_by unsigned_abs (set sums at (get_or sums at (pos 0) +ℤ get_or softs n (pos 0))) ≤
+    sum_by unsigned_abs (take (n + 1) softs)
 sizes_more sums softs at n h l most =
     let x = get_or sums at (pos 0) in
     let v = get_or softs n (pos 0) in
-    omega (arith, sum_by-set unsigned_abs sums at (x +ℤ v) (pos 0) h, sum_by_more unsigned_abs softs n (pos 0) l, abs_plus x v, most)
+    omega (
+      arith,
+      sum_by-set unsigned_abs sums at (x +ℤ v) (pos 0) h,
+      sum_by_more unsigned_abs softs n (pos 0) l,
+      abs_plus x v,
+      most,
+    )
 
-pub sizes_none : (xs : List ℤ) → ((i : ℕ) → get_or xs i (pos 0) ≡ pos 0) → sum_by unsigned_abs xs ≡ 0
+pub sizes_none : (xs : List ℤ) → ((i : ℕ) → get_or xs i (pos 0) ≡ pos 0) →
+    sum_by unsigned_abs xs ≡ 0
 sizes_none [] each = refl
 sizes_none (x ∷ xs) each =
     let first : x ≡ pos 0 = each 0 in
@@ -79,10 +92,17 @@ sizes_none (x ∷ xs) each =
 
 -- there is room for one more
 pub sum_has_room : (sums softs : List ℤ) (at n : ℕ) → at < length sums → n < length softs →
-    sum_by unsigned_abs sums ≤ sum_by unsigned_abs (take n softs) → sum_by unsigned_abs softs ≤ 2 ^ 62 →
+    sum_by unsigned_abs sums ≤ sum_by unsigned_abs (take n softs) →
+    sum_by unsigned_abs softs ≤ 2 ^ 62 →
     unsigned_abs (get_or sums at (pos 0)) + unsigned_abs (get_or softs n (pos 0)) ≤ 2 ^ 62
 sum_has_room sums softs at n h l most bound =
-    omega (arith, get_or-le-sum_by unsigned_abs sums at (pos 0) h, sum_by_more_le unsigned_abs softs n (pos 0) l, most, bound)
+    omega (
+      arith,
+      get_or-le-sum_by unsigned_abs sums at (pos 0) h,
+      sum_by_more_le unsigned_abs softs n (pos 0) l,
+      most,
+      bound,
+    )
 
 fits : (x : ℤ) → unsigned_abs x ≤ 2 ^ 62 → SFits w64 x
 fits x h = fits_signed_from_abs w64 x (omega (arith, h))
@@ -100,14 +120,20 @@ added_is x y h =
 pub added_fits : (x y : ℤ) → unsigned_abs x + unsigned_abs y ≤ 2 ^ 62 → SFits w64 (added x y)
 added_fits x y h = rw (added_is x y h) (fits (x +ℤ y) (omega (arith, abs_plus x y, h)))
 
-pub stored_is : (x y : ℤ) → unsigned_abs x + unsigned_abs y ≤ 2 ^ 62 → to_z w64 (of_z w64 (added x y)) ≡ x +ℤ y
+pub stored_is : (x y : ℤ) → unsigned_abs x + unsigned_abs y ≤ 2 ^ 62 →
+    to_z w64 (of_z w64 (added x y)) ≡ x +ℤ y
 stored_is x y h = to_z-of_z w64 (added x y) (added_fits x y h) ∙ added_is x y h
 
 -- one turn of the loop, where the code adds soft value n at its code symbol
-pub turn : (key : ℕ → ℕ) (n at : ℕ) (sums softs : List ℤ) → at ≡ key n → at < length sums → n < length softs →
-    sum_by unsigned_abs softs ≤ 2 ^ 62 → sum_by unsigned_abs sums ≤ sum_by unsigned_abs (take n softs) →
+pub turn : (key : ℕ → ℕ) (n at : ℕ) (sums softs : List ℤ) → at ≡ key n → at < length sums →
+    n < length softs →
+    sum_by unsigned_abs softs ≤ 2 ^ 62 →
+    sum_by unsigned_abs sums ≤ sum_by unsigned_abs (take n softs) →
     ((c : ℕ) → get_or sums c (pos 0) ≡ part (λ i. get_or softs i (pos 0)) key n c) →
-    (c : ℕ) → get_or (set sums at (to_z w64 (of_z w64 (added (get_or sums at (pos 0)) (get_or softs n (pos 0)))))) c (pos 0) ≡ part (λ i. get_or softs i (pos 0)) key (n + 1) c
+    (c : ℕ) →
+    get_or (set sums at
+    (to_z w64 (of_z w64 (added (get_or sums at (pos 0)) (get_or softs n (pos 0)))))) c (pos 0) ≡
+    part (λ i. get_or softs i (pos 0)) key (n + 1) c
 turn key n at sums softs here h l bound most each c =
     let v = get_or softs n (pos 0) in
     let room = sum_has_room sums softs at n h l most bound in
@@ -117,15 +143,25 @@ turn key n at sums softs here h l bound most each c =
     ∙ part_more (λ i. get_or softs i (pos 0)) key n sums low each c
 
 pub turn_sizes : (n at : ℕ) (sums softs : List ℤ) → at < length sums → n < length softs →
-    sum_by unsigned_abs softs ≤ 2 ^ 62 → sum_by unsigned_abs sums ≤ sum_by unsigned_abs (take n softs) →
-    sum_by unsigned_abs (set sums at (to_z w64 (of_z w64 (added (get_or sums at (pos 0)) (get_or softs n (pos 0)))))) ≤ sum_by unsigned_abs (take (n + 1) softs)
+    sum_by unsigned_abs softs ≤ 2 ^ 62 →
+    sum_by unsigned_abs sums ≤ sum_by unsigned_abs (take n softs) →
+    sum_by unsigned_abs
+    (set sums at
+    (to_z w64 (of_z w64 (added (get_or sums at (pos 0)) (get_or softs n (pos 0)))))) ≤
+    sum_by unsigned_abs (take (n + 1) softs)
 turn_sizes n at sums softs h l bound most =
     let room = sum_has_room sums softs at n h l most bound in
-    rw (stored_is (get_or sums at (pos 0)) (get_or softs n (pos 0)) room) (sizes_more sums softs at n h l most)
+    rw (stored_is (get_or sums at (pos 0)) (get_or softs n (pos 0)) room)
+    (sizes_more sums softs at n h l most)
 
 -- the sums of all soft values
-pub gathered_all : (s : Shape) (repeats : ℕ) (sums softs : List ℤ) → length sums ≡ size s / repeats →
-    ((c : ℕ) → get_or sums c (pos 0) ≡ part (λ i. get_or softs i (pos 0)) (λ i. address s i / repeats) (size s) c) → sums ≡ gathered s repeats softs
+pub gathered_all : (s : Shape) (repeats : ℕ) (sums softs : List ℤ) →
+    length sums ≡ size s / repeats →
+    ((c : ℕ) →
+    get_or sums c (pos 0) ≡
+    part (λ i. get_or softs i (pos 0)) (λ i. address s i / repeats) (size s) c) →
+    sums ≡ gathered s repeats softs
 unfolding gathered
 gathered_all s repeats sums softs long each =
-    map-places-all (λ c. part (λ i. get_or softs i (pos 0)) (λ i. address s i / repeats) (size s) c) sums (size s / repeats) (pos 0) long (λ c lt. each c)
+    map-places-all (λ c. part (λ i. get_or softs i (pos 0)) (λ i. address s i / repeats) (size s) c)
+    sums (size s / repeats) (pos 0) long (λ c lt. each c)

@@ -18,14 +18,18 @@ group_scrambling state mask = symbol_chips state mask 24
 
 -- where a group's power control bit begins, from the scrambling bits of the group before
 abbrev pub power_start : List Bool → ℕ
-power_start previous = 8 * digit (get_or previous 23 false) + 4 * digit (get_or previous 22 false) + 2 * digit (get_or previous 21 false) + digit (get_or previous 20 false)
+power_start previous =
+    8 * digit (get_or previous 23 false) + 4 * digit (get_or previous 22 false) +
+    2 * digit (get_or previous 21 false) + digit (get_or previous 20 false)
 
--- The place in the frame of the first symbol that group g's power control bit replaces. Group g begins 1,536 g chips
--- behind the frame's state, and the group before it 1,536 chips earlier.
+-- The place in the frame of the first symbol that group g's power control bit replaces. Group g
+-- begins 1,536 g chips behind the frame's state, and the group before it 1,536 chips earlier.
 abbrev pub power_place : ℕ → ℕ → ℕ → ℕ
 power_place state mask zero = power_start (group_scrambling (before state 1536) mask)
-power_place state mask (suc g) = 24 * suc g + power_start (group_scrambling (after state (1536 * g)) mask)
+power_place state mask (suc g) =
+    24 * suc g + power_start (group_scrambling (after state (1536 * g)) mask)
 
 -- the places of a frame's 16 power control bits, of two symbols each
 unfoldable pub power_places : ℕ → ℕ → List ℕ
-power_places state mask = flat_map (λ g. power_place state mask g ∷ (power_place state mask g + 1) ∷ []) (places 16)
+power_places state mask =
+    flat_map (λ g. power_place state mask g ∷ (power_place state mask g + 1) ∷ []) (places 16)

@@ -45,11 +45,9 @@ sent s repeats symbols = map (λ i. get_or symbols (address s i / repeats) false
 -- for each code symbol the sum of the soft values of the symbols that are sent for it
 unfoldable pub gathered : Shape → ℕ → List ℤ → List ℤ
 gathered s repeats softs =
-    map (λ c. total (map (λ i. get_or softs i (pos 0)) (filter (λ i. address s i / repeats == c) (places (size s))))) (places (size s / repeats))
-
--- how well soft values agree with symbols: each with the sign of its symbol, added up
-abbrev pub agreement : List ℤ → List Bool → ℤ
-agreement softs symbols = total (zip_with (λ v b. v *ℤ sign b) softs symbols)
+    map (λ c. total
+    (map (λ i. get_or softs i (pos 0))
+    (filter (λ i. address s i / repeats == c) (places (size s))))) (places (size s / repeats))
 
 -- how often each code symbol of a rate is sent
 abbrev pub repeats_of : Rate → ℕ

@@ -2,6 +2,8 @@
 
 ghost use Rattle.std.specs.Prelude.{◌≡◌, ◌*◌, ◌≤◌};
 
+use chip_core::air::DATA_SYMBOLS;
+
 /// The two forms of a frame, by the interleaver that it goes through.
 ///
 /// TIA/EIA-95-B, 7.1.3.1.5.
@@ -52,7 +54,8 @@ impl Rate {
         9600 / u16::from(self.repeats())
     }
 
-    /// How many bits a frame of 20 ms has, its frame quality indicator and encoder tail included: 192, 96, 48 or 24.
+    /// How many bits a frame of 20 ms has, its frame quality indicator and encoder tail included:
+    /// 192, 96, 48 or 24.
     pub fn frame_bits(&self) -> u16
         ensures { result * repeats_of self.now ≡ 192 }
     {
@@ -63,6 +66,6 @@ impl Rate {
     pub fn code_symbols(&self) -> u16
         ensures { result * repeats_of self.now ≡ 384 }
     {
-        384 / u16::from(self.repeats())
+        DATA_SYMBOLS as u16 / u16::from(self.repeats())
     }
 }

@@ -1,13 +1,16 @@
-//! Laws of the definitions. Each function does nothing, and its contract is a law, which the check proves.
+//! Laws of the definitions. Each function does nothing, and its contract is a law, which the check
+//! proves.
 
 ghost use Rattle.std.specs.Prelude.{◌≡◌, ◌*◌, ◌<◌, ℕ, ℤ, List, Bool, length};
 ghost use Rattle.symbol_path.specs.declared.kinds.Kind.{Kind};
-ghost use Rattle.symbol_path.specs.SentOrder.{shape_of, size, address, place, sent, gathered, agreement};
+ghost use Rattle.chip_core.specs.Agreement.{agreement};
+ghost use Rattle.symbol_path.specs.SentOrder.{shape_of, size, address, place, sent, gathered};
 
-/// A frame sends each of its repeated symbols exactly once: every place of the first order is the address of one sent
-/// symbol, and of no other.
+/// A frame sends each of its repeated symbols exactly once: every place of the first order is the
+/// address of one sent symbol, and of no other.
 pub fn order_is_a_permutation()
-    ensures below { (kind : Kind) (i : ℕ) → i < size (shape_of kind) → address (shape_of kind) i < size (shape_of kind) }
+    ensures below { (kind : Kind) (i : ℕ) → i < size (shape_of kind) →
+        address (shape_of kind) i < size (shape_of kind) }
     ensures once { (kind : Kind) (i j : ℕ) →
         i < size (shape_of kind) →
         j < size (shape_of kind) →
@@ -18,7 +21,8 @@ pub fn order_is_a_permutation()
         (i : ℕ) × (i < size (shape_of kind)) × (address (shape_of kind) i ≡ a) }
 {}
 
-/// Gathered soft values agree with code symbols exactly as well as the soft values agree with what is sent for them.
+/// Gathered soft values agree with code symbols exactly as well as the soft values agree with what
+/// is sent for them.
 pub fn gathering_keeps_agreement()
     ensures { (kind : Kind) (repeats : ℕ) (softs : List ℤ) (code : List Bool) →
         length softs ≡ size (shape_of kind) →

@@ -1,8 +1,8 @@
-//! From code symbols to sent symbols, and back: repetition, interleaving, scrambling and the places of the power
-//! control bits.
+//! From code symbols to sent symbols, and back: repetition, interleaving, scrambling and the places
+//! of the power control bits.
 //!
-//! TIA/EIA-95-B, 7.1.3.1.4 to 7.1.3.1.7. A frame sends 128 symbols on the sync channel, and 384 on a paging or traffic
-//! channel.
+//! TIA/EIA-95-B, 7.1.3.1.4 to 7.1.3.1.7. A frame sends 128 symbols on the sync channel, and 384 on
+//! a paging or traffic channel.
 #![tactic(auto)]
 
 mod kinds;

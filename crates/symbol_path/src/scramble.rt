@@ -34,9 +34,11 @@ fn symbol_chips(state: &State, mask: u64, out: &mut [bool])
     }
 }
 
-/// The scrambling bits of the frame of 384 symbols that begins at a state of the long code, under a mask of 42 bits.
+/// The scrambling bits of the frame of 384 symbols that begins at a state of the long code, under a
+/// mask of 42 bits.
 ///
-/// TIA/EIA-95-B, 7.1.3.1.6: each symbol is added modulo 2 to the long code's first chip of the 64 that it lasts.
+/// TIA/EIA-95-B, 7.1.3.1.6: each symbol is added modulo 2 to the long code's first chip of the 64
+/// that it lasts.
 pub fn scramble_bits(state: &State, mask: u64, out: &mut [bool; 384])
     requires { mask < 2 ^ 42 }
     ensures { out.new ≡ scrambling state.now mask }
@@ -44,7 +46,8 @@ pub fn scramble_bits(state: &State, mask: u64, out: &mut [bool; 384])
     symbol_chips(state, mask, out);
 }
 
-/// Where in its group of 24 symbols a power control bit begins, 0 to 15, from the scrambling bits of the group before.
+/// Where in its group of 24 symbols a power control bit begins, 0 to 15, from the scrambling bits
+/// of the group before.
 ///
 /// TIA/EIA-95-B, 7.1.3.1.7: the last four of them, the very last being the most significant.
 pub fn power_start(previous: &[bool; 24]) -> u8
@@ -67,16 +70,19 @@ fn group_bits(state: &State, mask: u64) -> [bool; 24]
     bits
 }
 
-/// Which 32 symbols of the frame that begins at a state are replaced by the 16 power control bits, in rising order.
+/// Which 32 symbols of the frame that begins at a state are replaced by the 16 power control bits,
+/// in rising order.
 ///
-/// TIA/EIA-95-B, 7.1.3.1.7: a frame has 16 groups of 24 symbols, and in each a power control bit takes the place of two
-/// symbols. Where it begins, the scrambling bits of the group before say; that of the first group is in the frame
-/// before.
+/// TIA/EIA-95-B, 7.1.3.1.7: a frame has 16 groups of 24 symbols, and in each a power control bit
+/// takes the place of two symbols. Where it begins, the scrambling bits of the group before say;
+/// that of the first group is in the frame before.
 pub fn power_places(state: &State, mask: u64) -> [u16; 32]
     requires { mask < 2 ^ 42 }
     ensures value { result ≡ power_places state.now mask }
-    ensures groups { (g : ℕ) → g < 16 → (24 * g ≤ slice_index result (2 * g)) × (slice_index result (2 * g) < 24 * g + 16) }
-    ensures pairs { (g : ℕ) → g < 16 → slice_index result (2 * g + 1) ≡ slice_index result (2 * g) + 1 }
+    ensures groups { (g : ℕ) → g < 16 → (24 * g ≤ slice_index result (2 * g)) ×
+        (slice_index result (2 * g) < 24 * g + 16) }
+    ensures pairs { (g : ℕ) → g < 16 →
+        slice_index result (2 * g + 1) ≡ slice_index result (2 * g) + 1 }
     ensures rising { IsStrictlyIncreasing result }
     ensures below { All (λ place. place < 384) result }
 {

@@ -20,10 +20,17 @@ pub record IsHigh (bit n : ℕ) : Type 0 where
   pub partner_in_block : (n - 2 ^ bit) % 2 ^ bit ≡ n % 2 ^ bit
 
 abbrev is_low : ℕ → ℕ → Bool
-is_low bit n = nat_lt (n + 2 ^ bit) 64 && (bit_of (n + 2 ^ bit) bit && (nat_eq (n % 2 ^ (suc bit)) (n % 2 ^ bit) && nat_eq ((n + 2 ^ bit) % 2 ^ bit) (n % 2 ^ bit)))
+is_low bit n =
+    nat_lt (n + 2 ^ bit) 64 &&
+    (bit_of (n + 2 ^ bit) bit &&
+    (nat_eq (n % 2 ^ (suc bit)) (n % 2 ^ bit) && nat_eq ((n + 2 ^ bit) % 2 ^ bit) (n % 2 ^ bit)))
 
 abbrev is_high : ℕ → ℕ → Bool
-is_high bit n = nat_le (2 ^ bit) n && (not (bit_of (n - 2 ^ bit) bit) && (nat_eq (n % 2 ^ (suc bit)) (2 ^ bit + n % 2 ^ bit) && nat_eq ((n - 2 ^ bit) % 2 ^ bit) (n % 2 ^ bit)))
+is_high bit n =
+    nat_le (2 ^ bit) n &&
+    (not (bit_of (n - 2 ^ bit) bit) &&
+    (nat_eq (n % 2 ^ (suc bit)) (2 ^ bit + n % 2 ^ bit) &&
+    nat_eq ((n - 2 ^ bit) % 2 ^ bit) (n % 2 ^ bit)))
 
 abbrev is_paired : ℕ → ℕ → Bool
 is_paired bit n = if bit_of n bit then is_high bit n else is_low bit n
@@ -33,7 +40,9 @@ all_paired = refl
 
 paired : (bit n : ℕ) → bit < 6 → n < 64 → is_paired bit n ≡ true
 paired bit n p q =
-    agree_below_at (is_paired bit) (λ n. true) 64 n (agree_below_at (λ bit. agree_below (is_paired bit) (λ n. true) 64) (λ bit. true) 6 bit all_paired p) q
+    agree_below_at (is_paired bit) (λ n. true) 64 n
+    (agree_below_at (λ bit. agree_below (is_paired bit) (λ n. true) 64) (λ bit. true) 6 bit
+    all_paired p) q
 
 first_of_both : (a b : Bool) → (a && b) ≡ true → a ≡ true
 first_of_both true b h = refl
@@ -53,7 +62,8 @@ low_facts bit n h =
     let rest = second_of_both (nat_lt (n + 2 ^ bit) 64) _ h in
     let last = second_of_both (bit_of (n + 2 ^ bit) bit) _ rest in
     let third : nat_eq (n % 2 ^ (suc bit)) (n % 2 ^ bit) ≡ true = first_of_both _ _ last in
-    let fourth : nat_eq ((n + 2 ^ bit) % 2 ^ bit) (n % 2 ^ bit) ≡ true = second_of_both (nat_eq (n % 2 ^ (suc bit)) (n % 2 ^ bit)) _ last in
+    let fourth : nat_eq ((n + 2 ^ bit) % 2 ^ bit) (n % 2 ^ bit) ≡ true =
+    second_of_both (nat_eq (n % 2 ^ (suc bit)) (n % 2 ^ bit)) _ last in
     record {
       room = grind (arith, room);
       partner = first_of_both _ _ rest;
@@ -66,8 +76,10 @@ high_facts bit n h =
     let room : nat_le (2 ^ bit) n ≡ true = first_of_both _ _ h in
     let rest = second_of_both (nat_le (2 ^ bit) n) _ h in
     let last = second_of_both (not (bit_of (n - 2 ^ bit) bit)) _ rest in
-    let third : nat_eq (n % 2 ^ (suc bit)) (2 ^ bit + n % 2 ^ bit) ≡ true = first_of_both _ _ last in
-    let fourth : nat_eq ((n - 2 ^ bit) % 2 ^ bit) (n % 2 ^ bit) ≡ true = second_of_both (nat_eq (n % 2 ^ (suc bit)) (2 ^ bit + n % 2 ^ bit)) _ last in
+    let third : nat_eq (n % 2 ^ (suc bit)) (2 ^ bit + n % 2 ^ bit) ≡ true =
+    first_of_both _ _ last in
+    let fourth : nat_eq ((n - 2 ^ bit) % 2 ^ bit) (n % 2 ^ bit) ≡ true =
+    second_of_both (nat_eq (n % 2 ^ (suc bit)) (2 ^ bit + n % 2 ^ bit)) _ last in
     record {
       room = grind (arith, room);
       partner = clear (bit_of (n - 2 ^ bit) bit) (first_of_both _ _ rest);
@@ -76,19 +88,28 @@ high_facts bit n h =
     }
 
 pub low : (bit n : ℕ) → bit < 6 → n < 64 → bit_of n bit ≡ false → IsLow bit n
-low bit n p q e = low_facts bit n (ap (λ (b : Bool). if b then is_high bit n else is_low bit n) (sym e) ∙ paired bit n p q)
+low bit n p q e =
+    low_facts bit n (ap (λ (b : Bool). if b then is_high bit n else is_low bit n) (sym e) ∙
+    paired bit n p q)
 
 pub high : (bit n : ℕ) → bit < 6 → n < 64 → bit_of n bit ≡ true → IsHigh bit n
-high bit n p q e = high_facts bit n (ap (λ (b : Bool). if b then is_high bit n else is_low bit n) (sym e) ∙ paired bit n p q)
+high bit n p q e =
+    high_facts bit n (ap (λ (b : Bool). if b then is_high bit n else is_low bit n) (sym e) ∙
+    paired bit n p q)
 
 -- the code's `n & (1 << bit) == 0`
-all_tested : agree_below (λ bit. agree_below (λ n. nat_eq (bit_and n (2 ^ bit)) 0) (λ n. not (bit_of n bit)) 64) (λ bit. true) 6 ≡ true
+all_tested :
+    agree_below
+    (λ bit. agree_below (λ n. nat_eq (bit_and n (2 ^ bit)) 0) (λ n. not (bit_of n bit)) 64)
+    (λ bit. true) 6 ≡ true
 all_tested = refl
 
 tested : (bit n : ℕ) → bit < 6 → n < 64 → nat_eq (bit_and n (2 ^ bit)) 0 ≡ not (bit_of n bit)
 tested bit n p q =
     agree_below_at (λ n. nat_eq (bit_and n (2 ^ bit)) 0) (λ n. not (bit_of n bit)) 64 n
-    (agree_below_at (λ bit. agree_below (λ n. nat_eq (bit_and n (2 ^ bit)) 0) (λ n. not (bit_of n bit)) 64) (λ bit. true) 6 bit all_tested p) q
+    (agree_below_at
+    (λ bit. agree_below (λ n. nat_eq (bit_and n (2 ^ bit)) 0) (λ n. not (bit_of n bit)) 64)
+    (λ bit. true) 6 bit all_tested p) q
 
 pub shifted : (bit : ℕ) → bit < 6 → 1 * 2 ^ bit % 18446744073709551616 ≡ 2 ^ bit
 shifted bit h = one_shl bit 64 (omega (arith, h))
@@ -97,12 +118,15 @@ set_if_not_clear : (b : Bool) → not b ≡ false → b ≡ true
 set_if_not_clear true h = refl
 set_if_not_clear false h = cc
 
-pub is_clear : (bit n : ℕ) → bit < 6 → n < 64 → bit_and n (1 * 2 ^ bit % 18446744073709551616) ≡ 0 → bit_of n bit ≡ false
+pub is_clear : (bit n : ℕ) → bit < 6 → n < 64 → bit_and n (1 * 2 ^ bit % 18446744073709551616) ≡ 0 →
+    bit_of n bit ≡ false
 is_clear bit n p q h =
     let zero_is : bit_and n (2 ^ bit) ≡ 0 = ap (bit_and n) (sym (shifted bit p)) ∙ h in
     clear (bit_of n bit) (sym (tested bit n p q) ∙ ap (λ (m : ℕ). nat_eq m 0) zero_is)
 
-pub is_set : (bit n : ℕ) → bit < 6 → n < 64 → (bit_and n (1 * 2 ^ bit % 18446744073709551616) ≡ 0 → ⊥) → bit_of n bit ≡ true
+pub is_set : (bit n : ℕ) → bit < 6 → n < 64 →
+    ¬ (bit_and n (1 * 2 ^ bit % 18446744073709551616) ≡ 0) → bit_of n bit ≡ true
 is_set bit n p q h =
-    let some : nat_eq (bit_and n (2 ^ bit)) 0 ≡ false = ne_eqb (bit_and n (2 ^ bit)) 0 (λ e. h (ap (bit_and n) (shifted bit p) ∙ e)) in
+    let some : nat_eq (bit_and n (2 ^ bit)) 0 ≡ false =
+    ne_eqb (bit_and n (2 ^ bit)) 0 (λ e. h (ap (bit_and n) (shifted bit p) ∙ e)) in
     set_if_not_clear (bit_of n bit) (sym (tested bit n p q) ∙ some)

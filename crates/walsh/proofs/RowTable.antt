@@ -25,4 +25,7 @@ int_eq-true a b e = grind (arith, ints, e)
 
 pub orthogonal : (m n : ℕ) → m < 64 → n < 64 → row_sum m n ≡ (if m == n then pos 64 else pos 0)
 orthogonal m n p q =
-    int_eq-true _ _ (agree_below_at (is_right m) (λ n. true) 64 n (agree_below_at (λ m. agree_below (is_right m) (λ n. true) 64) (λ m. true) 64 m all_right p) q)
+    int_eq-true _ _
+    (agree_below_at (is_right m) (λ n. true) 64 n
+    (agree_below_at (λ m. agree_below (is_right m) (λ n. true) 64) (λ m. true) 64 m all_right p)
+    q)

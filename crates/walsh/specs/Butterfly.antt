@@ -1,4 +1,5 @@
--- One stage of butterflies: two entries that differ in one bit of their place become their sum and their difference.
+-- One stage of butterflies: two entries that differ in one bit of their place become their sum and
+-- their difference.
 use Rattle.std.specs.Prelude.{◌≡◌, ℕ, ◌+◌, ◌-◌, ◌^◌, ◌<◌, if◌then◌else◌, ◌-ℤ◌, List, get_or}
 use Rattle.chip_core.specs.Bits.{bit_of}
 use Rattle.chip_core.specs.Complex.{origin, plus}

@@ -1,7 +1,7 @@
 //! The orthogonal rows that keep the channels of one base station apart.
 //!
-//! TIA/EIA-95-B, 7.1.3.1.8: each channel is spread by one of 64 Walsh rows of 64 chips. Row n, chip k is the parity of
-//! the bits that n and k have in common.
+//! TIA/EIA-95-B, 7.1.3.1.8: each channel is spread by one of 64 Walsh rows of 64 chips. Row n, chip
+//! k is the parity of the bits that n and k have in common.
 #![tactic(auto)]
 
 pub mod laws;

@@ -8,10 +8,14 @@ ghost use Rattle.chip_core.specs.Complex.{plus};
 
 use chip_core::Pair;
 
-/// Replaces 64 complex sums, one a chip, by what each row carries: entry n becomes the sum of all entries, each with the
-/// sign of its chip of row n.
+/// Replaces 64 complex sums, one a chip, by what each row carries: entry n becomes the sum of all
+/// entries, each with the sign of its chip of row n.
 ///
-/// No part may be above 2^40 or below -2^40. Six stages of butterflies do it in 384 additions of each part.
+/// The base station adds its channels up by it, since the sign of row n at chip k is that of row k at
+/// chip n; a tool may look at all channels of a cell by it. A finger sums up its own row alone.
+///
+/// No part may be above 2^40 or below -2^40. Six stages of butterflies do it in 384 additions of
+/// each part.
 pub fn transform64(values: &mut [Pair; 64])
     requires { All (IsWithin (2 ^ 40)) values.old }
     ensures in_phase { in_phase values.new ≡ transform (in_phase values.old) }
@@ -22,7 +26,8 @@ pub fn transform64(values: &mut [Pair; 64])
     }
 }
 
-/// One stage: each two entries whose places differ in this bit alone become their sum and their difference.
+/// One stage: each two entries whose places differ in this bit alone become their sum and their
+/// difference.
 fn stage(values: &mut [Pair; 64], bit: u32)
     requires bit { bit < 6 }
     requires small { AreWithin (2 ^ (40 + bit)) values.old }

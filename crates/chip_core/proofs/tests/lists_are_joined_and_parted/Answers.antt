@@ -5,4 +5,11 @@ use Rattle.chip_core.proofs.tests.lists_are_joined_and_parted.Goals as goal
 
 pub append_fields-requires-clause-room : goal.append_fields-requires-clause-room
 append_fields-requires-clause-room g c =
-    omega (arith, ap length c.empty-bits.ensures, length-append (binary 8 25) (binary 4 3 ++ []), length-append (binary 4 3) [], length-binary 8 25, length-binary 4 3)
+    omega (
+      arith,
+      ap length c.empty-bits.ensures,
+      length-append (binary 8 25) (binary 4 3 ++ []),
+      length-append (binary 4 3) [],
+      length-binary 8 25,
+      length-binary 4 3,
+    )

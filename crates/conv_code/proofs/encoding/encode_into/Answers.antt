@@ -22,14 +22,19 @@ loop-i-preserved c =
     let bit = c.get.result in
     let first = c.push-first.result.0 in
     let second = c.push-first.result.1 in
-    let read : take (c.loop-i.i + 1) c.args.bits.now ≡ xs ++ bit ∷ [] = taken_more c.args.bits.now c.loop-i.i bit c.get.ensures in
+    let read : take (c.loop-i.i + 1) c.args.bits.now ≡ xs ++ bit ∷ [] =
+    taken_more c.args.bits.now c.loop-i.i bit c.get.ensures in
     let both : c.append-in-loop-i.new.self ≡ c.loop-i.out ++ first ∷ second ∷ [] =
-    two_appended c.loop-i.out c.append.new.self c.append-in-loop-i.new.self first second c.append.ensures c.append-in-loop-i.ensures in
+    two_appended c.loop-i.out c.append.new.self c.append-in-loop-i.new.self first second
+    c.append.ensures c.append-in-loop-i.ensures in
     record {
       given = both
-          ∙ symbols_more start register xs c.loop-i.out bit first second inv.given inv.state c.push-first.ensures.first c.push-first.ensures.second
+          ∙ symbols_more start register xs c.loop-i.out bit first second inv.given inv.state
+          c.push-first.ensures.first c.push-first.ensures.second
           ∙ ap (code_symbols (binary 8 start)) (sym read);
-      long = ap length both ∙ length-append c.loop-i.out (first ∷ second ∷ []) ∙ omega (arith, inv.long);
-      state = state_more start register c.push-first.new.self xs bit inv.state c.push-first.ensures.last
+      long = ap length both ∙ length-append c.loop-i.out (first ∷ second ∷ []) ∙
+          omega (arith, inv.long);
+      state = state_more start register c.push-first.new.self xs bit inv.state
+          c.push-first.ensures.last
           ∙ ap (state_after (binary 8 start)) (sym read);
     }

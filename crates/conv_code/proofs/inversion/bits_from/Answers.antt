@@ -10,9 +10,11 @@ use Rattle.conv_code.proofs.inversion.bits_from.Goals as goal
 
 pub loop-i-init : goal.loop-i-init
 loop-i-init c = record {
-  given = ap (code_symbols (binary 8 c.args.start)) c.empty-bits.ensures ∙ code_symbols-none (binary 8 c.args.start);
+  given = ap (code_symbols (binary 8 c.args.start)) c.empty-bits.ensures ∙
+      code_symbols-none (binary 8 c.args.start);
   long = rw c.empty-bits.ensures;
-  state = ap (binary 8) c.new-register.ensures ∙ sym (state_after-none (binary 8 c.args.start)) ∙ ap (state_after (binary 8 c.args.start)) (sym c.empty-bits.ensures);
+  state = ap (binary 8) c.new-register.ensures ∙ sym (state_after-none (binary 8 c.args.start)) ∙
+      ap (state_after (binary 8 c.args.start)) (sym c.empty-bits.ensures);
   only = λ word gives. c.empty-bits.ensures;
 }
 
@@ -27,21 +29,32 @@ loop-i-preserved c =
     let bit = c.bit_for-bit.result in
     let one = c.push.result.0 in
     let two = c.push.result.1 in
-    let first : get_or symbols (2 * i) false ≡ c.get-first.result = get_or_from_slice_get symbols (2 * i) c.get-first.result false c.get-first.ensures in
-    let second : get_or symbols (2 * i + 1) false ≡ c.get-second.result = get_or_from_slice_get symbols (2 * i + 1) c.get-second.result false c.get-second.ensures in
-    let same = both_same one two c.get-first.result c.get-second.result (sym c.if-ne.false ∙ c.ne.ensures) in
-    let read : AreAt symbols i one two = record { even = first ∙ sym same.0; odd = second ∙ sym same.1 } in
+    let first : get_or symbols (2 * i) false ≡ c.get-first.result =
+    get_or_from_slice_get symbols (2 * i) c.get-first.result false c.get-first.ensures in
+    let second : get_or symbols (2 * i + 1) false ≡ c.get-second.result =
+    get_or_from_slice_get symbols (2 * i + 1) c.get-second.result false c.get-second.ensures in
+    let same =
+    both_same one two c.get-first.result c.get-second.result (sym c.if-ne.false ∙ c.ne.ensures)
+    in
+    let read : AreAt symbols i one two = record {
+      even = first ∙ sym same.0;
+      odd = second ∙ sym same.1;
+    } in
     record {
       given = ap (code_symbols (binary 8 start)) c.append.ensures
-          ∙ sym (symbols_more start register bits (take (2 * i) symbols) bit one two (sym inv.given) inv.state c.push.ensures.first c.push.ensures.second)
+          ∙ sym (symbols_more start register bits (take (2 * i) symbols) bit one two (sym inv.given)
+          inv.state c.push.ensures.first c.push.ensures.second)
           ∙ sym (take_pair symbols i one two (omega (arith)) read);
       long = ap length c.append.ensures ∙ length_push bits bit ∙ ap (λ n. n + 1) inv.long;
       state = state_more start register c.push.new.self bits bit inv.state c.push.ensures.last
           ∙ ap (state_after (binary 8 start)) (sym c.append.ensures);
       only = λ word gives.
           let within : i < length word = within_word start i symbols word gives (omega arith) in
-          let here = word_at start register i bits symbols word gives within inv.state (inv.only word gives) in
-          let next : get_or word i false ≡ bit = c.bit_for-bit.ensures (get_or word i false) (sym here.even ∙ first) in
+          let here =
+          word_at start register i bits symbols word gives within inv.state
+          (inv.only word gives) in
+          let next : get_or word i false ≡ bit =
+          c.bit_for-bit.ensures (get_or word i false) (sym here.even ∙ first) in
           c.append.ensures
           ∙ ap (λ (r : List Bool). r ++ bit ∷ []) (inv.only word gives)
           ∙ ap (λ (b : Bool). take i word ++ b ∷ []) (sym next)
@@ -56,11 +69,21 @@ returns-then-ne-clause-none c word gives =
     let symbols = c.args.symbols.now in
     let register = c.loop-i.register in
     let bit = c.bit_for-bit.result in
-    let first : get_or symbols (2 * i) false ≡ c.get-first.result = get_or_from_slice_get symbols (2 * i) c.get-first.result false c.get-first.ensures in
-    let second : get_or symbols (2 * i + 1) false ≡ c.get-second.result = get_or_from_slice_get symbols (2 * i + 1) c.get-second.result false c.get-second.ensures in
+    let first : get_or symbols (2 * i) false ≡ c.get-first.result =
+    get_or_from_slice_get symbols (2 * i) c.get-first.result false c.get-first.ensures in
+    let second : get_or symbols (2 * i + 1) false ≡ c.get-second.result =
+    get_or_from_slice_get symbols (2 * i + 1) c.get-second.result false c.get-second.ensures in
     let within : i < length word = within_word start i symbols word gives (omega arith) in
-    let here = word_at start register i c.loop-i.bits symbols word gives within inv.state (inv.only word gives) in
-    let next : get_or word i false ≡ bit = c.bit_for-bit.ensures (get_or word i false) (sym here.even ∙ first) in
-    not_both c.push.result.0 c.push.result.1 c.get-first.result c.get-second.result (sym c.if-ne.true ∙ c.ne.ensures)
-    (c.push.ensures.first ∙ ap (λ (b : Bool). symbol g0 (binary 8 register ++ b ∷ []) 0) (sym next) ∙ sym here.even ∙ first)
-    (c.push.ensures.second ∙ ap (λ (b : Bool). symbol g1 (binary 8 register ++ b ∷ []) 0) (sym next) ∙ sym here.odd ∙ second)
+    let here =
+    word_at start register i c.loop-i.bits symbols word gives within inv.state
+    (inv.only word gives) in
+    let next : get_or word i false ≡ bit =
+    c.bit_for-bit.ensures (get_or word i false) (sym here.even ∙ first) in
+    not_both c.push.result.0 c.push.result.1 c.get-first.result c.get-second.result
+    (sym c.if-ne.true ∙ c.ne.ensures)
+    (c.push.ensures.first ∙
+    ap (λ (b : Bool). symbol g0 (binary 8 register ++ b ∷ []) 0) (sym next) ∙ sym here.even ∙
+    first)
+    (c.push.ensures.second ∙
+    ap (λ (b : Bool). symbol g1 (binary 8 register ++ b ∷ []) 0) (sym next) ∙ sym here.odd ∙
+    second)

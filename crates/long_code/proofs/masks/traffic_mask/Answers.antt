@@ -12,12 +12,14 @@ overflow_shr-esn c = place_below c.loop-place.place-index c.loop-place-test.true
 
 pub loop-place-preserved : goal.loop-place-preserved
 loop-place-preserved c =
-    first_bits-more c.args.esn c.loop-place.mask c.from.result c.loop-place.place-index c.loop-place-test.true c.loop-place.invariant c.from.ensures
+    first_bits-more c.args.esn c.loop-place.mask c.from.result c.loop-place.place-index
+    c.loop-place-test.true c.loop-place.invariant c.from.ensures
 
 pub returns-clause-value : goal.returns-clause-value
 returns-clause-value c =
     let all : c.loop-place.place-index ≡ 32 = omega arith in
-    c.loop-place.invariant ∙ ap (λ (i : ℕ). number (first_bits c.args.esn i)) all ∙ traffic_mask_is c.args.esn
+    c.loop-place.invariant ∙ ap (λ (i : ℕ). number (first_bits c.args.esn i)) all ∙
+    traffic_mask_is c.args.esn
 
 pub returns-clause-below : goal.returns-clause-below
 returns-clause-below c =

@@ -19,9 +19,12 @@ loop-place-preserved-then-value-place-eq1 c =
     record {
       below = xor_lt 42 c.times_x-sum.result c.args.power next.below c.requires.power;
       product = λ chips h.
-          ap (λ (s : ℕ). bit_xor s c.args.power) next.value ∙ ap (bit_xor (after c.loop-place.sum 1)) h
-          ∙ product_more c.args.value c.loop-place.place chips c.loop-place.sum true c.loop-place-test.true c.requires.value (c.loop-place.invariant.product chips h)
-          (sym (eq-eqb (bit_and (c.args.value / 2 ^ (c.loop-place.place - 1)) 1) 1 c.if-value-place-eq1.true));
+          ap (λ (s : ℕ). bit_xor s c.args.power) next.value ∙
+          ap (bit_xor (after c.loop-place.sum 1)) h
+          ∙ product_more c.args.value c.loop-place.place chips c.loop-place.sum true
+          c.loop-place-test.true c.requires.value (c.loop-place.invariant.product chips h)
+          (sym (eq-eqb (bit_and (c.args.value / 2 ^ (c.loop-place.place - 1)) 1) 1
+          c.if-value-place-eq1.true));
     }
 
 pub loop-place-preserved : goal.loop-place-preserved
@@ -31,8 +34,10 @@ loop-place-preserved c =
       below = next.below;
       product = λ chips h.
           next.value
-          ∙ product_more c.args.value c.loop-place.place chips c.loop-place.sum false c.loop-place-test.true c.requires.value (c.loop-place.invariant.product chips h)
-          (sym (ne_eqb (bit_and (c.args.value / 2 ^ (c.loop-place.place - 1)) 1) 1 c.if-value-place-eq1.false));
+          ∙ product_more c.args.value c.loop-place.place chips c.loop-place.sum false
+          c.loop-place-test.true c.requires.value (c.loop-place.invariant.product chips h)
+          (sym (ne_eqb (bit_and (c.args.value / 2 ^ (c.loop-place.place - 1)) 1) 1
+          c.if-value-place-eq1.false));
     }
 
 pub returns-clause-product : goal.returns-clause-product

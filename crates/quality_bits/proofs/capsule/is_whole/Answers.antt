@@ -19,5 +19,6 @@ returns-in-Some c =
 pub returns-in-None : goal.returns-in-None
 returns-in-None c = (
   λ none. absurd (cc),
-  λ whole. absurd (c.in-None.ensures (stated_from c.args.bits.now whole.told whole.least whole.most)),
+  λ whole. absurd
+      (c.in-None.ensures (stated_from c.args.bits.now whole.told whole.least whole.most)),
 )

@@ -7,7 +7,8 @@ pub returns-in-Ok : goal.returns-in-Ok
 returns-in-Ok c =
     let bits = c.args.bits.now in
     let read = c.in-Ok.ensures in
-    let same : 8 * c.in-Ok.octets ≡ stated_bits bits = stated_is c.new.result bits c.in-Ok.octets c.new.ensures read.value in
+    let same : 8 * c.in-Ok.octets ≡ stated_bits bits =
+    stated_is c.new.result bits c.in-Ok.octets c.new.ensures read.value in
     let told : 8 ≤ length bits = omega (arith, read.enough.0 refl, ap length c.new.ensures) in
     (stated_from bits told (omega arith) (omega arith), same)
 
@@ -15,7 +16,8 @@ pub returns-in_default : goal.returns-in_default
 returns-in_default c told =
     let bits = c.args.bits.now in
     let read = c.in-Ok.ensures in
-    let same : 8 * c.in-Ok.octets ≡ stated_bits bits = stated_is c.new.result bits c.in-Ok.octets c.new.ensures read.value in
+    let same : 8 * c.in-Ok.octets ≡ stated_bits bits =
+    stated_is c.new.result bits c.in-Ok.octets c.new.ensures read.value in
     let bounds = stated_bounds bits told in
     omega arith
 
@@ -23,7 +25,8 @@ pub returns-in_default-2 : goal.returns-in_default-2
 returns-in_default-2 c told =
     let bits = c.args.bits.now in
     let read = c.in-Ok.ensures in
-    let same : 8 * c.in-Ok.octets ≡ stated_bits bits = stated_is c.new.result bits c.in-Ok.octets c.new.ensures read.value in
+    let same : 8 * c.in-Ok.octets ≡ stated_bits bits =
+    stated_is c.new.result bits c.in-Ok.octets c.new.ensures read.value in
     let bounds = stated_bounds bits told in
     omega arith
 

@@ -11,9 +11,13 @@ loop-i-preserved c =
     let bit = c.get.result in
     let at : c.loop-i.i ≡ from + k = omega arith in
     let more : c.loop-i.i + 1 - from ≡ k + 1 = omega arith in
-    let read : slice_get c.args.bits.now (from + k) ≡ Some bit = ap (slice_get c.args.bits.now) (sym at) ∙ c.get.ensures in
-    let small : 2 * c.loop-i.number + digit bit < 2 ^ (k + 1) = digit_below c.loop-i.number k bit c.loop-i.invariant.small in
+    let read : slice_get c.args.bits.now (from + k) ≡ Some bit =
+    ap (slice_get c.args.bits.now) (sym at) ∙ c.get.ensures in
+    let small : 2 * c.loop-i.number + digit bit < 2 ^ (k + 1) =
+    digit_below c.loop-i.number k bit c.loop-i.invariant.small in
     record {
-      read = rw more (read_more c.args.bits.now from k c.loop-i.number c.from.result bit c.loop-i.invariant.read read c.from.ensures);
+      read = rw more
+          (read_more c.args.bits.now from k c.loop-i.number c.from.result bit
+          c.loop-i.invariant.read read c.from.ensures);
       small = rw (more, c.from.ensures, bool_byte-digit bit) small;
     }

@@ -6,6 +6,8 @@ use Rattle.symbol_path.proofs.order.gather_into.Given as goal
 
 abbrev pub invariant-loop-i : goal.invariant-loop-i
 invariant-loop-i l = record {
-  sums : (c : ℕ) → get_or l.out c (pos 0) ≡ part (λ i. get_or l.softs i (pos 0)) (λ i. address (shape_of l.kind) i / l.repeats) l.i c;
+  sums : (c : ℕ) →
+      get_or l.out c (pos 0) ≡
+      part (λ i. get_or l.softs i (pos 0)) (λ i. address (shape_of l.kind) i / l.repeats) l.i c;
   sizes : sum_by unsigned_abs l.out ≤ sum_by unsigned_abs (take l.i l.softs);
 }

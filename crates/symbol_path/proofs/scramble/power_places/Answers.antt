@@ -8,8 +8,13 @@ use Rattle.symbol_path.proofs.scramble.power_places.Goals as goal
 
 pub loop-group-init : goal.loop-group-init
 loop-group-init c = record {
-  group = c.jump.ensures.later ∙ sym (before_later c.args.state.now 1536 (omega arith)) ∙ group_first c.args.state.now;
-  pairs = record { long = refl; first = λ g lt. absurd (omega (arith, lt)); second = λ g lt. absurd (omega (arith, lt)) };
+  group = c.jump.ensures.later ∙ sym (before_later c.args.state.now 1536 (omega arith)) ∙
+      group_first c.args.state.now;
+  pairs = record {
+    long = refl;
+    first = λ g lt. absurd (omega (arith, lt));
+    second = λ g lt. absurd (omega (arith, lt));
+  };
 }
 
 pub loop-group-preserved : goal.loop-group-preserved
@@ -17,13 +22,18 @@ loop-group-preserved c =
     let g = c.loop-group.group in
     let state = c.args.state.now in
     let mask = c.args.mask in
-    let start : c.from-start.result ≡ power_start (group_scrambling (after (before state 1536) (1536 * g)) mask) =
+    let start : c.from-start.result ≡
+    power_start (group_scrambling (after (before state 1536) (1536 * g)) mask) =
     c.from-start.ensures ∙ c.power_start.ensures.value ∙ ap power_start c.group_bits.ensures
     ∙ ap (λ (s : ℕ). power_start (group_scrambling s mask)) c.loop-group.invariant.group in
     record {
-      group = c.jump-in-loop-group.ensures.later ∙ ap (λ (s : ℕ). after s 1536) c.loop-group.invariant.group ∙ group_next state g;
-      pairs = pairs_more (power_place state mask) c.loop-group.places g c.from.result c.from-in-loop-group.result (24 * g + c.from-start.result)
-          c.from.ensures c.from-in-loop-group.ensures c.loop-group-test.true (ap (λ (k : ℕ). 24 * g + k) start ∙ sym (power_place_is state mask g)) c.loop-group.invariant.pairs;
+      group = c.jump-in-loop-group.ensures.later ∙
+          ap (λ (s : ℕ). after s 1536) c.loop-group.invariant.group ∙ group_next state g;
+      pairs = pairs_more (power_place state mask) c.loop-group.places g c.from.result
+          c.from-in-loop-group.result (24 * g + c.from-start.result)
+          c.from.ensures c.from-in-loop-group.ensures c.loop-group-test.true
+          (ap (λ (k : ℕ). 24 * g + k) start ∙ sym (power_place_is state mask g))
+          c.loop-group.invariant.pairs;
     }
 
 -- the pairs of all groups

@@ -14,7 +14,8 @@ pub loop-chip-preserved : goal.loop-chip-preserved
 loop-chip-preserved c = record {
   later = λ n.
       ap (λ (s : ℕ). after s n) c.step.ensures.later
-      ∙ later_by_one c.args.state.now c.loop-chip.state c.loop-chip._chip n (c.loop-chip.invariant.later (1 + n));
+      ∙ later_by_one c.args.state.now c.loop-chip.state c.loop-chip._chip n
+      (c.loop-chip.invariant.later (1 + n));
   state = λ h. c.step.ensures.state;
 }
 
@@ -22,4 +23,5 @@ pub returns : goal.returns
 returns c =
     let state = c.loop-chip.invariant.state (omega arith) in
     let count : c.loop-chip._chip + 0 ≡ 64 = omega arith in
-    sym (after_none c.loop-chip.state state.1) ∙ c.loop-chip.invariant.later 0 ∙ ap (after c.args.state.now) count
+    sym (after_none c.loop-chip.state state.1) ∙ c.loop-chip.invariant.later 0 ∙
+    ap (after c.args.state.now) count

@@ -11,17 +11,22 @@ loop-chip-preserved c =
     let out = c.loop-chip.out in
     let within : i < length out = omega arith in
     let zeroth : 64 * i + 0 ≡ 64 * i = omega arith in
-    let same : after at 0 ≡ after c.args.state.now (64 * i) = c.loop-chip.invariant.later 0 ∙ ap (after c.args.state.now) zeroth in
+    let same : after at 0 ≡ after c.args.state.now (64 * i) = c.loop-chip.invariant.later 0 ∙
+    ap (after c.args.state.now) zeroth in
     record {
       later = λ n.
           ap (λ (s : ℕ). after s n) c.skip_symbol.ensures
           ∙ later_by_symbol c.args.state.now at i n (c.loop-chip.invariant.later (64 + n));
-      chips = below_more (λ k. get_or (set out i c.chip.result) k false ≡ long_chip c.args.state.now c.args.mask (64 * k)) i
-          (λ k lt. let other : k ≢ i = omega (arith, lt) in get_or-set_other out i k c.chip.result false other ∙ c.loop-chip.invariant.chips k lt)
-          (get_or-set_same out i c.chip.result false within ∙ c.chip.ensures ∙ long_chip-same at c.args.state.now c.args.mask 0 (64 * i) same);
+      chips = below_more (λ k. get_or (set out i c.chip.result) k false ≡
+          long_chip c.args.state.now c.args.mask (64 * k)) i
+          (λ k lt. let other : k ≢ i = omega (arith, lt) in
+          get_or-set_other out i k c.chip.result false other ∙ c.loop-chip.invariant.chips k lt)
+          (get_or-set_same out i c.chip.result false within ∙ c.chip.ensures ∙
+          long_chip-same at c.args.state.now c.args.mask 0 (64 * i) same);
     }
 
 pub returns : goal.returns
 returns c =
-    symbol_chips_all c.args.state.now c.args.mask (length c.args.out.now) c.loop-chip.out c.loop-chip.auto.out
+    symbol_chips_all c.args.state.now c.args.mask (length c.args.out.now) c.loop-chip.out
+    c.loop-chip.auto.out
     (λ k lt. c.loop-chip.invariant.chips k (omega (arith, lt)))

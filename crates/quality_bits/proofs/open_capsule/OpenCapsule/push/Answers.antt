@@ -16,9 +16,12 @@ returns-clause-goes_on c =
     let before = ap (λ (s : Option (List Bool)). continued s bit) was in
     elim c.if-may_go_on.branch [
       | then-may_go_on w ↦
-          let waits : awaits_more (c.in_ok-bits.bits ++ bit) ≡ true = rw c.append.ensures at (sym w.if-may_go_on.ensures) in
-          w.self-is ∙ ap Some c.append.ensures ∙ sym (before ∙ still_open-awaits (c.in_ok-bits.bits ++ bit) waits)
+          let waits : awaits_more (c.in_ok-bits.bits ++ bit) ≡ true =
+          rw c.append.ensures at (sym w.if-may_go_on.ensures) in
+          w.self-is ∙ ap Some c.append.ensures ∙
+          sym (before ∙ still_open-awaits (c.in_ok-bits.bits ++ bit) waits)
       | else-may_go_on w ↦
-          let over : awaits_more (c.in_ok-bits.bits ++ bit) ≡ false = rw c.append.ensures at (sym w.if-may_go_on.ensures) in
+          let over : awaits_more (c.in_ok-bits.bits ++ bit) ≡ false =
+          rw c.append.ensures at (sym w.if-may_go_on.ensures) in
           w.self-is ∙ sym (before ∙ still_open-over (c.in_ok-bits.bits ++ bit) over)
     ]

@@ -17,12 +17,18 @@ loop-i-preserved c =
     let s = c.args.self.now in
     let read = take (c.loop-i.i - c.args.from) (drop c.args.from c.args.piece.now) in
     let bit = c.get.result ∷ [] in
-    let more = taken_more_from c.args.piece.now c.args.from c.loop-i.i c.get.result (omega arith) c.get.ensures in
+    let more =
+    taken_more_from c.args.piece.now c.args.from c.loop-i.i c.get.result (omega arith)
+    c.get.ensures in
     rw more (record {
-      goes_on = c.push.ensures.goes_on ∙ ap (λ (t : Option (List Bool)). continued t bit) c.loop-i.invariant.goes_on ∙ continued-append s read bit;
+      goes_on =
+          c.push.ensures.goes_on ∙
+          ap (λ (t : Option (List Bool)). continued t bit) c.loop-i.invariant.goes_on ∙
+          continued-append s read bit;
       gives =
           c.or-whole.ensures
           ∙ ap (λ (w : Option (List Bool)). option_or w c.push.result) c.loop-i.invariant.gives
-          ∙ ap (option_or (completed s read)) (c.push.ensures.gives ∙ ap (λ (t : Option (List Bool)). completed t bit) c.loop-i.invariant.goes_on)
+          ∙ ap (option_or (completed s read)) (c.push.ensures.gives ∙
+          ap (λ (t : Option (List Bool)). completed t bit) c.loop-i.invariant.goes_on)
           ∙ completed-append s read bit;
     })

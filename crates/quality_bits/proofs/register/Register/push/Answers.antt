@@ -11,12 +11,15 @@ pub invariant_of-self : goal.invariant_of-self
 invariant_of-self c =
     let g = generator_of c.self.inside.kind in
     let d = c.divisor-divisor.result in
-    let fits : c.self.inside.value < 2 ^ d.degree = rw c.divisor-divisor.ensures.degree c.self.invariant in
-    let moved : c.if-lead-bit.self ≡ next d.degree d.below c.self.inside.value c.args.bit = elim c.if-lead-bit.branch [
+    let fits : c.self.inside.value < 2 ^ d.degree =
+    rw c.divisor-divisor.ensures.degree c.self.invariant in
+    let moved : c.if-lead-bit.self ≡ next d.degree d.below c.self.inside.value c.args.bit =
+    elim c.if-lead-bit.branch [
       | then-lead-bit w ↦ next_then _ _ _ _ _ d.most fits w.if-lead-bit.true w.self-is
       | else-lead-bit w ↦ next_else _ _ _ _ _ d.most fits w.if-lead-bit.false w.self-is
     ] in
-    rw (moved, ← c.divisor-divisor.ensures.degree) (next_lt d.degree d.below c.self.inside.value c.args.bit d.fits)
+    rw (moved, ← c.divisor-divisor.ensures.degree)
+    (next_lt d.degree d.below c.self.inside.value c.args.bit d.fits)
 
 pub returns : goal.returns
 returns c kind bits stands =
@@ -32,7 +35,8 @@ returns c kind bits stands =
     ] in
     let same : here ≡ kind = ap (λ (v : Division). v.kind) c.self.view_is ∙ stands.same in
     let held : value ≡ number (check_bits g bits) =
-    ap (λ (v : Division). v.rest) c.self.view_is ∙ stands.held ∙ ap (λ (k : Kind). number (check_bits (generator_of k) bits)) (sym same) in
+    ap (λ (v : Division). v.rest) c.self.view_is ∙ stands.held ∙
+    ap (λ (k : Kind). number (check_bits (generator_of k) bits)) (sym same) in
     let some : 0 < g.degree = omega (arith, d.least, c.divisor-divisor.ensures.degree) in
     record {
       same = same;

@@ -1,0 +1,31 @@
+//! Decimal numbers, in scripts and on command lines.
+
+ghost use Rattle.std.specs.Prelude.{◌≡◌, ◌≤◌, ◌<◌, ◌+◌, ◌*◌, ◌-◌, ◌^◌, true, length};
+ghost use Rattle.std.specs.Char.{is_ascii_digit};
+ghost use Rattle.chip_core.specs.Decimals.{digits_from};
+
+/// The number that at most 20 decimal digits spell, leading zeros among them; `None` exactly where a
+/// byte of the text is no digit. A text of no bytes spells 0.
+pub fn digits_in(text: &[u8]) -> Option<u128>
+    requires { length text.now ≤ 20 }
+    ensures { result ≡ digits_from 0 text.now }
+{
+    let mut number = 0;
+    for &digit in text {
+        if !digit.is_ascii_digit() {
+            return None;
+        }
+        number = with_digit(number, digit);
+    }
+    Some(number)
+}
+
+/// A number with one more digit behind it.
+fn with_digit(number: u128, digit: u8) -> u128
+    requires number { number < 10 ^ 20 }
+    requires digit { is_ascii_digit digit ≡ true }
+    ensures value { result ≡ 10 * number + (digit - 48) }
+    ensures most { result ≤ 10 * number + 9 }
+{
+    10 * number + u128::from(digit - b'0')
+}
