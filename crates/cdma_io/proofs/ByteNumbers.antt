@@ -25,7 +25,8 @@ pow_positive n = let h = one-le-pow n 256 (omega arith) in omega arith
 byte_at-above : (j d k a r : ℕ) → k ≡ d + 1 + j → byte_at j (a * 256 ^ k + r) ≡ byte_at j r
 byte_at-above j d k a r e =
     let split : 256 ^ k ≡ 256 ^ d * 256 * 256 ^ j =
-    ap (λ (n : ℕ). 256 ^ n) e ∙ pow-add 256 (d + 1) j ∙ ap (λ (p : ℕ). p * 256 ^ j) (pow-add 256 d 1) in
+    ap (λ (n : ℕ). 256 ^ n) e ∙ pow-add 256 (d + 1) j ∙
+    ap (λ (p : ℕ). p * 256 ^ j) (pow-add 256 d 1) in
     let regroup : a * (256 ^ d * 256 * 256 ^ j) ≡ a * 256 ^ d * 256 * 256 ^ j = grind arith in
     let whole : a * 256 ^ k ≡ a * 256 ^ d * 256 * 256 ^ j = ap (λ (p : ℕ). a * p) split ∙ regroup in
     let quotient : (a * 256 ^ d * 256 * 256 ^ j + r) / 256 ^ j ≡ a * 256 ^ d * 256 + r / 256 ^ j =
@@ -37,13 +38,15 @@ byte_at-above j d k a r e =
     ∙ sym (byte_at-pow j r)
 
 -- and so not in several
-bytes-above : (n d k a r : ℕ) → k ≡ d + n → bytes_high_first n (a * 256 ^ k + r) ≡ bytes_high_first n r
+bytes-above : (n d k a r : ℕ) → k ≡ d + n →
+    bytes_high_first n (a * 256 ^ k + r) ≡ bytes_high_first n r
 bytes-above zero d k a r e = refl
 bytes-above (suc n) d k a r e =
     rw (byte_at-above n d k a r (omega arith), bytes-above n (d + 1) k a r (omega arith)) refl
 
 -- the bytes of the number that n bytes spell
-pub big_bytes-number : (n : ℕ) (xs : List ℕ) → length xs ≡ n → AreBytes xs → big_bytes n (big_number n xs) ≡ xs
+pub big_bytes-number : (n : ℕ) (xs : List ℕ) → length xs ≡ n → AreBytes xs →
+    big_bytes n (big_number n xs) ≡ xs
 big_bytes-number zero [] long small = refl
 big_bytes-number zero (x ∷ xs) long small = absurd (omega (arith, long))
 big_bytes-number (suc n) [] long small = absurd (omega (arith, long))
@@ -52,9 +55,11 @@ big_bytes-number (suc n) (x ∷ xs) long small =
     let r = big_from 0 n xs in
     let below : r < 256 ^ n = big_from-lt 0 n xs rest in
     let front : x < 256 = small 0 in
-    let number : big_number (suc n) (x ∷ xs) ≡ x * 256 ^ n + r = ap (λ (m : ℕ). x * 256 ^ n + m) (big_from-cons 0 n x xs) in
+    let number : big_number (suc n) (x ∷ xs) ≡ x * 256 ^ n + r =
+    ap (λ (m : ℕ). x * 256 ^ n + m) (big_from-cons 0 n x xs) in
     let first : byte_at n (x * 256 ^ n + r) ≡ x =
-    byte_at-pow n (x * 256 ^ n + r) ∙ ap (λ (m : ℕ). m % 256) (div-mul-add x (256 ^ n) r below) ∙ mod-eq_of_lt front in
+    byte_at-pow n (x * 256 ^ n + r) ∙ ap (λ (m : ℕ). m % 256) (div-mul-add x (256 ^ n) r below) ∙
+    mod-eq_of_lt front in
     let others : bytes_high_first n (x * 256 ^ n + r) ≡ xs =
     bytes-above n 0 n x r (omega arith) ∙ big_bytes-number n xs (omega (arith, long)) rest in
     ap (big_bytes (suc n)) number ∙ rw (first, others) refl
@@ -81,14 +86,17 @@ AreBytes-from_all xs all k =
     ]
 
 -- a number that is read ends with its bytes
-pub big_number-take : (n : ℕ) (xs : List ℕ) → n ≤ length xs → big_number n xs ≡ big_number n (take n xs)
+pub big_number-take : (n : ℕ) (xs : List ℕ) → n ≤ length xs →
+    big_number n xs ≡ big_number n (take n xs)
 big_number-take n xs room =
     let long : n ≤ length (take n xs) = omega (arith, length-take-le n xs room) in
     ap (big_number n) (sym (take-append-drop n xs)) ∙ big_from-append n (take n xs) (drop n xs) long
 
 -- n bytes at the front of a list are those of the number that they spell
-pub big_bytes-front : (n : ℕ) (xs : List ℕ) → n ≤ length xs → AreBytes xs → xs ≡ big_bytes n (big_number n xs) ++ drop n xs
+pub big_bytes-front : (n : ℕ) (xs : List ℕ) → n ≤ length xs → AreBytes xs →
+    xs ≡ big_bytes n (big_number n xs) ++ drop n xs
 big_bytes-front n xs room small =
     let front : big_bytes n (big_number n xs) ≡ take n xs =
-    ap (big_bytes n) (big_number-take n xs room) ∙ big_bytes-number n (take n xs) (length-take-le n xs room) (AreBytes-take n xs small) in
+    ap (big_bytes n) (big_number-take n xs room) ∙
+    big_bytes-number n (take n xs) (length-take-le n xs room) (AreBytes-take n xs small) in
     sym (ap (λ (ys : List ℕ). ys ++ drop n xs) front ∙ take-append-drop n xs)

@@ -15,9 +15,11 @@ pub record HasCause {T E : Type 0} (before now : ℕ) (result : Result T E) : Ty
   pub later : before ≤ now
   pub failed : OnErr result (Rose before now)
 
--- a count of faults rose by one in a call that failed, up to its last number, and stayed in one that did not
+-- a count of faults rose by one in a call that failed, up to its last number, and stayed in one
+-- that did not
 abbrev pub CountsFaults : {T E : Type 0} → ℕ → ℕ → Result T E → Type 0
-CountsFaults before now result = MatchResult result (λ _. now ≡ before) (λ _. now ≡ next_count before)
+CountsFaults before now result =
+    MatchResult result (λ _. now ≡ before) (λ _. now ≡ next_count before)
 
 -- a give to a sink took some of a piece that has any
 abbrev pub Progresses : {E : Type 0} → Result ℕ E → List ℕ → Type 0

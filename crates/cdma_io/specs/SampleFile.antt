@@ -48,7 +48,8 @@ flags_of header = form_flag header.check30 + 2 * form_flag header.check16
 
 -- the 16 bytes of a header: magic, version, flags, count of samples
 unfoldable pub header_spelling : Header → List ℕ
-header_spelling header = magic ++ big_bytes 2 header.version ++ big_bytes 2 (flags_of header) ++ big_bytes 8 header.count
+header_spelling header =
+    magic ++ big_bytes 2 header.version ++ big_bytes 2 (flags_of header) ++ big_bytes 8 header.count
 
 -- the width of a part as a number of bits
 abbrev pub bits_of : Width → integers.Width
@@ -89,7 +90,8 @@ pub record IsSampleFile (bytes : List ℕ) (header : Header) (samples : List Sam
   pub lawful : IsLawfulHeader header
   pub counted : length samples ≡ header.count
   pub in_range : All (HasBits (width_of header)) samples
-  pub spelled : bytes ≡ header_spelling header ++ flat_map (sample_spelling (width_of header)) samples
+  pub spelled : bytes ≡
+      header_spelling header ++ flat_map (sample_spelling (width_of header)) samples
 
 -- ---- what opening a file answers
 
@@ -119,7 +121,8 @@ unfoldable pub opening : List ℕ → Result Header FileFault
 opening bytes =
     due_if (nat_le 16 (length bytes)) (Short (length bytes))
     (due_if (starts_with nat_eq bytes magic) Magic
-    (header_due (big_number 2 (drop 4 bytes)) (big_number 2 (drop 6 bytes)) (big_number 8 (drop 8 bytes))))
+    (header_due (big_number 2 (drop 4 bytes)) (big_number 2 (drop 6 bytes))
+    (big_number 8 (drop 8 bytes))))
 
 -- ---- what a reader holds and answers
 
@@ -139,7 +142,8 @@ faulted reading e = record reading { fault = Some e }
 
 -- the place in the file of the next sample
 abbrev pub next_place : Reading → ℕ
-next_place reading = 16 + sample_len (width_of reading.header) * (reading.header.count - reading.left)
+next_place reading =
+    16 + sample_len (width_of reading.header) * (reading.header.count - reading.left)
 
 -- what `open` answered is what is due, or a read failed
 abbrev pub Opens : Result Reading FileFault → Result Header FileFault → Type 0
@@ -149,7 +153,8 @@ Opens (Err e) due = e ≢ ReadFault → due ≡ Err e
 -- samples of so many bytes couldn't be read: the file ends before them, or a read failed
 abbrev pub CutsShort : FileFault → ℕ → ℕ → Option (List ℕ) → Option (List ℕ) → Type 0
 CutsShort (Short place) wanted from None new = ⊤
-CutsShort (Short place) wanted from (Some bytes) new = (length bytes < wanted) × (place ≡ from + length bytes) × IsAtEnd new
+CutsShort (Short place) wanted from (Some bytes) new =
+    (length bytes < wanted) × (place ≡ from + length bytes) × IsAtEnd new
 CutsShort ReadFault wanted from old new = ⊤
 CutsShort _ wanted from old new = ⊥
 

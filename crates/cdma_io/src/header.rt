@@ -11,7 +11,7 @@ use chip_core::CheckForm;
 /// How many bytes a header has.
 pub const HEADER_LEN: usize = 16;
 
-// The first bytes of a file.
+/// The first bytes of a file.
 const MAGIC: [u8; 4] = [b'I', b'S', b'9', b'5'];
 
 /// The header of a sample file.
@@ -48,14 +48,14 @@ pub fn header_bytes(header: &Header) -> [u8; 16]
     bytes
 }
 
-// The flags of a header.
+/// The flags of a header.
 fn flags_for(header: &Header) -> u16
     ensures { result ≡ flags_of header.now }
 {
     flag_for(header.check30) + 2 * flag_for(header.check16)
 }
 
-// 1 where check bits are complemented.
+/// 1 where check bits are complemented.
 fn flag_for(form: CheckForm) -> u16
     ensures value { result ≡ form_flag form }
     ensures most { result ≤ 1 }
@@ -97,7 +97,7 @@ pub fn parse_header(bytes: &[u8]) -> Result<Header, FileFault>
     })
 }
 
-// Complemented where the flag is set.
+/// Complemented where the flag is set.
 fn check_form(flag: bool) -> CheckForm
     ensures { result ≡ form_of flag }
 {

@@ -38,22 +38,25 @@ pub fn file_opens()
         MatchResult answer (λ reading. reading.header ≡ header) (λ e. e ≡ FileFault.ReadFault) }
 {}
 
-/// Samples that were read where the source has the bytes of samples left are the first of these, and
-/// the source has the bytes of the others left.
+/// Samples that were read where the source has the bytes of samples left are the first of these,
+/// and the source has the bytes of the others left.
 pub fn file_is_read_in_order()
     ensures { (width : Width) (samples next : List Sample) (new : Option (List ℕ)) →
         All (HasBits width) samples → All (HasBits width) next →
         length next ≤ length samples →
-        Consumes (Some (flat_map (sample_spelling width) samples)) new (flat_map (sample_spelling width) next) →
+        Consumes (Some (flat_map (sample_spelling width) samples)) new
+        (flat_map (sample_spelling width) next) →
         (next ≡ take (length next) samples)
         × (new ≡ Some (flat_map (sample_spelling width) (drop (length next) samples))) }
 {}
 
 /// No read within the samples that the source has left is cut short, unless a read failed.
 pub fn file_is_not_short()
-    ensures { (e : FileFault) (width : Width) (samples : List Sample) (count from : ℕ) (new : Option (List ℕ)) →
+    ensures { (e : FileFault) (width : Width) (samples : List Sample) (count from : ℕ)
+        (new : Option (List ℕ)) →
         count ≤ length samples →
-        CutsShort e (sample_len width * count) from (Some (flat_map (sample_spelling width) samples)) new →
+        CutsShort e (sample_len width * count) from
+        (Some (flat_map (sample_spelling width) samples)) new →
         e ≡ FileFault.ReadFault }
 {}
 

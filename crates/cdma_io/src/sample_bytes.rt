@@ -9,7 +9,7 @@ use crate::width::{Width, bytes_for};
 use byteorder::{BigEndian, ByteOrder};
 use chip_core::Sample;
 
-// The four bytes of a sample.
+/// The four bytes of a sample.
 fn wide_bytes(sample: Sample) -> [u8; 4]
     ensures { result ≡ sample_spelling Width.Sixteen sample }
 {
@@ -19,7 +19,7 @@ fn wide_bytes(sample: Sample) -> [u8; 4]
     bytes
 }
 
-// The byte of a part.
+/// The byte of a part.
 fn part_byte(part: i16) -> u8
     requires { FitsSigned w8 part }
     ensures { result ≡ cast_unsigned w8 part }
@@ -27,7 +27,7 @@ fn part_byte(part: i16) -> u8
     (part as i8).cast_unsigned()
 }
 
-// The two bytes of a sample.
+/// The two bytes of a sample.
 fn narrow_bytes(sample: Sample) -> [u8; 2]
     requires { HasBits Width.Eight sample }
     ensures { result ≡ sample_spelling Width.Eight sample }
@@ -35,7 +35,7 @@ fn narrow_bytes(sample: Sample) -> [u8; 2]
     [part_byte(sample.i), part_byte(sample.q)]
 }
 
-// Spells a sample in as many bytes as it has.
+/// Spells a sample in as many bytes as it has.
 fn spell_sample(width: Width, sample: Sample, bytes: &mut [u8])
     requires fits { HasBits width sample }
     requires bytes { length bytes.old ≡ sample_len width }
@@ -47,7 +47,8 @@ fn spell_sample(width: Width, sample: Sample, bytes: &mut [u8])
     }
 }
 
-/// Spells samples as a file of this width holds them: each part in two's complement, the high byte first, `i` before
+/// Spells samples as a file of this width holds them: each part in two's complement, the high byte
+/// first, `i` before
 /// `q`.
 ///
 /// `bytes` has just as many bytes as the samples: four for each with 16 bits, and two with 8 bits.

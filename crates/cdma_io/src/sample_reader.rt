@@ -84,7 +84,8 @@ impl SampleReader {
     /// Reads the next samples, as many as there is room for and are left: how many.
     ///
     /// No byte past them is taken, on a fault too. [`FileFault::Short`] comes where the source ends
-    /// before them, and [`FileFault::ReadFault`] at once where a take fails. Nothing is said of what
+    /// before them, and [`FileFault::ReadFault`] at once where a take fails. Nothing is said of
+    /// what
     /// `out` holds after a fault.
     pub fn read<S: Source>(
         &mut self,
@@ -166,7 +167,7 @@ impl SampleReader {
     }
 }
 
-// Takes a byte, of which there must be none: the file ends at this place.
+/// Takes a byte, of which there must be none: the file ends at this place.
 fn expect_end<S: Source>(source: &mut S, end: u64) -> Result<(), FileFault>
     ensures ends { OnOk result (IsAtEnd (S.rest source.new)) }
     ensures nothing_taken { OnOk result (Keeps (S.rest source.old) (S.rest source.new)) }

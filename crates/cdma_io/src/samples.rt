@@ -13,10 +13,10 @@ use crate::width::{Width, bytes_for};
 use byteorder::{BigEndian, ByteOrder};
 use chip_core::Sample;
 
-// The most samples that are read at once.
+/// The most samples that are read at once.
 const PIECE: usize = 1024;
 
-// The sample that four bytes spell.
+/// The sample that four bytes spell.
 fn parse_wide(bytes: &[u8]) -> Sample
     requires { length bytes.now ≡ 4 }
     ensures spelled { bytes.now ≡ sample_spelling Width.Sixteen result }
@@ -28,7 +28,7 @@ fn parse_wide(bytes: &[u8]) -> Sample
     }
 }
 
-// The sample that two bytes spell.
+/// The sample that two bytes spell.
 fn parse_narrow(bytes: &[u8]) -> Sample
     requires { length bytes.now ≡ 2 }
     ensures spelled { bytes.now ≡ sample_spelling Width.Eight result }
@@ -40,7 +40,7 @@ fn parse_narrow(bytes: &[u8]) -> Sample
     }
 }
 
-// The sample that the bytes spell.
+/// The sample that the bytes spell.
 fn parse_sample(width: Width, bytes: &[u8]) -> Sample
     requires { length bytes.now ≡ sample_len width }
     ensures spelled { bytes.now ≡ sample_spelling width result }
@@ -52,7 +52,7 @@ fn parse_sample(width: Width, bytes: &[u8]) -> Sample
     }
 }
 
-// The samples that the bytes spell.
+/// The samples that the bytes spell.
 fn parse_samples(width: Width, bytes: &[u8], out: &mut [Sample])
     requires few { length out.old ≤ PIECE }
     requires bytes { length bytes.now ≡ sample_len width * length out.old }
@@ -66,7 +66,7 @@ fn parse_samples(width: Width, bytes: &[u8], out: &mut [Sample])
     }
 }
 
-// Reads a piece of the samples, which begins at a place of the file.
+/// Reads a piece of the samples, which begins at a place of the file.
 fn read_piece<S: Source>(
     source: &mut S,
     width: Width,

@@ -2,7 +2,7 @@
 
 use crate::{
     Failed, FileFault, Header, MemorySink, MemorySource, ReaderSource, SampleReader, Sink, Source,
-    Width, WriterSink, header_bytes, sample_bytes_into, write_all,
+    Width, WriterSink, fill, header_bytes, sample_bytes_into, write_all,
 };
 use chip_core::{CheckForm, Sample};
 use std::alloc::{AllocError, Global};
@@ -10,7 +10,7 @@ use std::io;
 use std::io::{ErrorKind, Read, Write};
 use std::test::Fail;
 
-// A file of three samples, whose 16-bit checks are complemented.
+/// A file of three samples, whose 16-bit checks are complemented.
 const FILE: [u8; 28] = [
     0x49, 0x53, 0x39, 0x35, 0x00, 0x01, 0x00, 0x02, 0, 0, 0, 0, 0, 0, 0, 3, // header
     0x00, 0x01, 0xff, 0xff, 0x80, 0x00, 0x7f, 0xff, 0x12, 0x34, 0xab, 0xcd,
@@ -23,7 +23,7 @@ const HEADER: Header = Header {
     count: 3,
 };
 
-// A file of the same samples but the last, in 8 bits, whose 30-bit checks are complemented.
+/// A file of the same samples but the last, in 8 bits, whose 30-bit checks are complemented.
 const NARROW_FILE: [u8; 20] = [
     0x49, 0x53, 0x39, 0x35, 0x00, 0x02, 0x00, 0x01, 0, 0, 0, 0, 0, 0, 0, 2, // header
     0x01, 0xff, 0x80, 0x7f,
@@ -38,7 +38,7 @@ const NARROW_HEADER: Header = Header {
 
 const NONE: Sample = Sample { i: 0, q: 0 };
 
-// A source over these bytes, which gives 7 a call and fails at one call.
+/// A source over these bytes, which gives 7 a call and fails at one call.
 fn source_of(alloc: Global, bytes: &[u8], failing: u64) -> Result<MemorySource, AllocError> {
     let bytes = bytes.to_vec(alloc)?;
     let failing = [failing].to_vec(alloc)?;
@@ -233,6 +233,38 @@ fn fills_a_sink(rt: HostRuntime) -> Result<(), Fail> {
     Ok(())
 }
 
+// One call fails alone, so whoever tried it again would go on as if nothing had failed.
+#[test]
+fn the_first_failed_call_ends_each(rt: HostRuntime) -> Result<(), Fail> {
+    let alloc = rt.alloc();
+    for call in 1..5 {
+        let mut source = source_of(alloc, &FILE, call)?;
+        assert_eq!(rt; fill(&mut source, &mut [0; 28]), Err(Failed), "{call}");
+    }
+    for call in 1..4 {
+        let mut source = source_of(alloc, &FILE, call)?;
+        let opened = SampleReader::open(&mut source);
+        assert!(rt; matches!(&opened, Err(FileFault::ReadFault)), "{call}");
+    }
+    for call in 4..6 {
+        let mut source = source_of(alloc, &FILE, call)?;
+        let mut reader = SampleReader::open(&mut source)?;
+        let read = reader.read(&mut source, &mut [NONE; 3]);
+        assert_eq!(rt; read, Err(FileFault::ReadFault), "{call}");
+    }
+    let mut source = source_of(alloc, &FILE, 6)?;
+    let mut reader = SampleReader::open(&mut source)?;
+    assert_eq!(rt; reader.read(&mut source, &mut [NONE; 3])?, 3);
+    assert_eq!(rt; reader.left(), 0);
+    assert_eq!(rt; reader.finish(&mut source), Err(FileFault::ReadFault));
+    for (call, taken) in [(1, 0), (2, 3)] {
+        let mut sink = MemorySink::new(alloc, 5, 3, [call].to_vec(alloc)?)?;
+        assert_eq!(rt; write_all(&mut sink, b"pilot"), Err(Failed), "{call}");
+        assert_eq!(rt; sink.bytes(), &b"pilot"[..taken], "{call}");
+    }
+    Ok(())
+}
+
 #[test]
 fn reads_a_reader_of_std(rt: HostRuntime) -> Result<(), Fail> {
     let mut source = ReaderSource::new(FILE.as_slice());
@@ -275,7 +307,7 @@ fn writes_to_a_writer_of_std(rt: HostRuntime) -> Result<(), Fail> {
     Ok(())
 }
 
-// A device that is broken: it neither gives nor takes a byte.
+/// A device that is broken: it neither gives nor takes a byte.
 #[derive(Drop)]
 struct Broken;
 

@@ -48,7 +48,7 @@ impl<W: Write> WriterSink<W> {
         }
     }
 
-    // Counts a fault.
+    /// Counts a fault.
     fn fault(&mut self) -> Failed
         ensures written { ⟦<WriterSink<W> as Sink>⟧.written self.new
             ≡ ⟦<WriterSink<W> as Sink>⟧.written self.old }

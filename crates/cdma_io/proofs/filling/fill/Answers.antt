@@ -12,7 +12,9 @@ loop-filled-preserved g c =
     let buf = c.loop-filled.buf in
     record {
       filled = search (rules, overwrites, inv.filled);
-      taken = subst (Consumes _ _) (filled_more buf c.take.new.buf at (length buf - at) c.in_ok-count.count inv.filled c.in_ok-count.ensures.bound.0)
+      taken = subst (Consumes _ _)
+          (filled_more buf c.take.new.buf at (length buf - at) c.in_ok-count.count inv.filled
+          c.in_ok-count.ensures.bound.0)
           (Consumes-trans _ _ _ _ _ inv.taken c.in_ok-count.ensures.bytes.0);
       later = search (rules, c.in_ok-count.ensures.cause.later);
     }
@@ -20,5 +22,7 @@ loop-filled-preserved g c =
 pub returns-then-count-eq0-clause-taken : goal.returns-then-count-eq0-clause-taken
 returns-then-count-eq0-clause-taken g c =
     let long : length c.loop-filled.buf ≡ length c.args.buf.now = search rules in
-    taken_to_end _ (g.S.Source.rest c.loop-filled.source) _ c.loop-filled.buf c.take.new.buf c.loop-filled.filled c.in_ok-count.count (length c.args.buf.now)
-    c.loop-filled.invariant.filled long c.if-count-eq0.true c.loop-filled.invariant.taken c.in_ok-count.ensures.bytes.0
+    taken_to_end _ (g.S.Source.rest c.loop-filled.source) _ c.loop-filled.buf c.take.new.buf
+    c.loop-filled.filled c.in_ok-count.count (length c.args.buf.now)
+    c.loop-filled.invariant.filled long c.if-count-eq0.true c.loop-filled.invariant.taken
+    c.in_ok-count.ensures.bytes.0

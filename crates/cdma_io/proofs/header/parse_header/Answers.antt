@@ -6,21 +6,26 @@ use Rattle.cdma_io.proofs.header.parse_header.Goals as goal
 
 pub returns-then-not-starts_with-clause-value : goal.returns-then-not-starts_with-clause-value
 returns-then-not-starts_with-clause-value c =
-    parsed_magic c.args.bytes.now c.requires (sym c.starts_with.ensures.value ∙ c.if-not-starts_with.true)
+    parsed_magic c.args.bytes.now c.requires (sym c.starts_with.ensures.value ∙
+    c.if-not-starts_with.true)
 
 pub returns-then-not-is_known-clause-value : goal.returns-then-not-is_known-clause-value
 returns-then-not-is_known-clause-value c =
-    parsed_version c.args.bytes.now c.read_u16-version.result c.requires (sym c.starts_with.ensures.value ∙ c.if-not-starts_with.false)
+    parsed_version c.args.bytes.now c.read_u16-version.result c.requires
+    (sym c.starts_with.ensures.value ∙ c.if-not-starts_with.false)
     c.read_u16-version.ensures (sym c.is_known.ensures ∙ c.if-not-is_known.true)
 
 pub returns-then-flags-ge4-clause-value : goal.returns-then-flags-ge4-clause-value
 returns-then-flags-ge4-clause-value c =
-    parsed_flags c.args.bytes.now c.read_u16-version.result c.read_u16-flags.result c.requires (sym c.starts_with.ensures.value ∙ c.if-not-starts_with.false)
-    c.read_u16-version.ensures (sym c.is_known.ensures ∙ c.if-not-is_known.false) c.read_u16-flags.ensures c.if-flags-ge4.true
+    parsed_flags c.args.bytes.now c.read_u16-version.result c.read_u16-flags.result c.requires
+    (sym c.starts_with.ensures.value ∙ c.if-not-starts_with.false)
+    c.read_u16-version.ensures (sym c.is_known.ensures ∙ c.if-not-is_known.false)
+    c.read_u16-flags.ensures c.if-flags-ge4.true
 
 pub returns-then-count-most_for-clause-value : goal.returns-then-count-most_for-clause-value
 returns-then-count-most_for-clause-value c =
-    parsed_count c.args.bytes.now c.read_u16-version.result c.read_u16-flags.result c.read_u64-count.result
+    parsed_count c.args.bytes.now c.read_u16-version.result c.read_u16-flags.result
+    c.read_u64-count.result
     (record {
       long = c.requires;
       begins = sym c.starts_with.ensures.value ∙ c.if-not-starts_with.false;
@@ -34,7 +39,8 @@ returns-then-count-most_for-clause-value c =
 
 pub returns-clause-value : goal.returns-clause-value
 returns-clause-value c =
-    parsed_header c.args.bytes.now c.read_u16-version.result c.read_u16-flags.result c.read_u64-count.result c.check_form.result c.check_form-2.result
+    parsed_header c.args.bytes.now c.read_u16-version.result c.read_u16-flags.result
+    c.read_u64-count.result c.check_form.result c.check_form-2.result
     (record {
       long = c.requires;
       begins = sym c.starts_with.ensures.value ∙ c.if-not-starts_with.false;
@@ -44,7 +50,8 @@ returns-clause-value c =
       few = c.if-flags-ge4.false;
       count_is = c.read_u64-count.ensures;
     })
-    _ (c.most_for.ensures.value ∙ ap most_samples c.width_for.ensures) c.if-count-most_for.false (search rules) (search rules)
+    _ (c.most_for.ensures.value ∙ ap most_samples c.width_for.ensures) c.if-count-most_for.false
+    (search rules) (search rules)
 
 pub returns-clause-spelled : goal.returns-clause-spelled
 returns-clause-spelled c =

@@ -8,6 +8,10 @@ loop-k-preserved c =
     let k = c.loop-k.k in
     let within : k < length out = search rules in
     record {
-      spelled = samples_more c.args.width c.args.bytes.now out k _ _ c.parse_sample.result within (search rules) (search rules) c.loop-k.invariant.spelled c.parse_sample.ensures.spelled;
-      in_range = in_range_more c.args.width out k c.parse_sample.result within c.loop-k.invariant.in_range c.parse_sample.ensures.in_range;
+      spelled =
+          samples_more c.args.width c.args.bytes.now out k _ _ c.parse_sample.result within
+          (search rules) (search rules) c.loop-k.invariant.spelled c.parse_sample.ensures.spelled;
+      in_range =
+          in_range_more c.args.width out k c.parse_sample.result within c.loop-k.invariant.in_range
+          c.parse_sample.ensures.in_range;
     }

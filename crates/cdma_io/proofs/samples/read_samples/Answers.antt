@@ -14,11 +14,17 @@ returns-in_err-read_piece-clause-fault g c =
     let count = c.min-count.result in
     let long : length (take done out) ≡ done = length-take-le done out inv.done in
     let piece : length (take (done + count - done) (drop done out)) ≡ count = search rules in
-    let few : length (take done out) + length (take (done + count - done) (drop done out)) ≤ length c.args.out.now = search rules in
-    let here : c.args.place + c.bytes_for.result ≡ c.args.place + sample_len c.args.width * length (take done out) =
-    ap (λ (n : ℕ). c.args.place + n) (c.bytes_for.ensures.value ∙ ap (λ (n : ℕ). sample_len c.args.width * n) (sym long)) in
+    let few : length (take done out) + length (take (done + count - done) (drop done out)) ≤
+    length c.args.out.now = search rules in
+    let here : c.args.place + c.bytes_for.result ≡
+    c.args.place + sample_len c.args.width * length (take done out) =
+    ap (λ (n : ℕ). c.args.place + n) (c.bytes_for.ensures.value ∙
+    ap (λ (n : ℕ). sample_len c.args.width * n) (sym long)) in
     let p = err_from_is_err_and c.from_residual.result c.from_residual.ensures.1 in
-    rw (p.1, p.2) (cuts_short_whole c.args.width _ _ _ _ (take done out) (length (take (done + count - done) (drop done out))) _ _ _ few here inv.taken c.in_err-read_piece.ensures.fault)
+    rw (p.1, p.2)
+    (cuts_short_whole c.args.width _ _ _ _ (take done out)
+    (length (take (done + count - done) (drop done out))) _ _ _ few here inv.taken
+    c.in_err-read_piece.ensures.fault)
 
 pub returns-in_err-read_piece-clause-taken : goal.returns-in_err-read_piece-clause-taken
 returns-in_err-read_piece-clause-taken g c =
@@ -28,8 +34,11 @@ returns-in_err-read_piece-clause-taken g c =
     let count = c.min-count.result in
     let long : length (take done out) ≡ done = length-take-le done out inv.done in
     let piece : length (take (done + count - done) (drop done out)) ≡ count = search rules in
-    let few : length (take done out) + length (take (done + count - done) (drop done out)) ≤ length c.args.out.now = search rules in
-    samples_taken_more c.args.width _ _ _ (take done out) (length (take (done + count - done) (drop done out))) _ few inv.taken c.read_piece.ensures.taken
+    let few : length (take done out) + length (take (done + count - done) (drop done out)) ≤
+    length c.args.out.now = search rules in
+    samples_taken_more c.args.width _ _ _ (take done out)
+    (length (take (done + count - done) (drop done out))) _ few inv.taken
+    c.read_piece.ensures.taken
 
 pub loop-done-preserved : goal.loop-done-preserved
 loop-done-preserved g c =
@@ -39,13 +48,18 @@ loop-done-preserved g c =
     let long : length c.read_piece.new.out ≡ count = search rules in
     record {
       done = search (rules, overwrites, inv.done);
-      taken = pieces_more c.args.width _ _ _ c.loop-done.out c.read_piece.new.out done _ count inv.done long inv.taken c.in_ok-read_piece.ensures.spelled;
-      in_range = pieces_in_range c.args.width c.loop-done.out c.read_piece.new.out done _ count inv.done long inv.in_range c.in_ok-read_piece.ensures.in_range;
+      taken = pieces_more c.args.width _ _ _ c.loop-done.out c.read_piece.new.out done _ count
+          inv.done long inv.taken c.in_ok-read_piece.ensures.spelled;
+      in_range =
+          pieces_in_range c.args.width c.loop-done.out c.read_piece.new.out done _ count inv.done
+          long inv.in_range c.in_ok-read_piece.ensures.in_range;
       later = search rules;
     }
 
 pub returns-clause-taken : goal.returns-clause-taken
 returns-clause-taken g c =
     let inv = c.loop-done.invariant in
-    let long : length (take c.loop-done.done c.loop-done.out) ≡ c.loop-done.done = length-take-le c.loop-done.done c.loop-done.out inv.done in
-    samples_taken c.args.width _ _ (take c.loop-done.done c.loop-done.out) _ (search rules) inv.taken
+    let long : length (take c.loop-done.done c.loop-done.out) ≡ c.loop-done.done =
+    length-take-le c.loop-done.done c.loop-done.out inv.done in
+    samples_taken c.args.width _ _ (take c.loop-done.done c.loop-done.out) _ (search rules)
+    inv.taken

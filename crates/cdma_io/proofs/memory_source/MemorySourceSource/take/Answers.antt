@@ -10,10 +10,13 @@ returns-clause-bytes c =
     let at = c.self.inside.at in
     let n = c.min-count.result in
     let copied : c.copy_from_slice.new.self ≡ take (at + n - at) (drop at bytes) =
-    c.copy_from_slice.ensures.after ∙ ap (λ (xs : List ℕ). take (at + n - at) (drop at xs)) c.deref-2.ensures.value in
+    c.copy_from_slice.ensures.after ∙
+    ap (λ (xs : List ℕ). take (at + n - at) (drop at xs)) c.deref-2.ensures.value in
     let within : at + n ≤ length bytes = search rules in (
-      ap (λ (s : SourceState). s.bytes) (sym c.self.view_is) ∙ moved bytes c.args.buf.now c.copy_from_slice.new.self at n within copied,
+      ap (λ (s : SourceState). s.bytes) (sym c.self.view_is) ∙
+          moved bytes c.args.buf.now c.copy_from_slice.new.self at n within copied,
       λ none some. drop_all (at + n) bytes
-          (let long : length (c.copy_from_slice.new.self ++ drop n c.args.buf.now) ≡ length c.args.buf.now = search (rules, length-append, length-drop) in
+          (let long : length (c.copy_from_slice.new.self ++ drop n c.args.buf.now) ≡
+          length c.args.buf.now = search (rules, length-append, length-drop) in
           search rules),
     )
