@@ -8,25 +8,34 @@ use Rattle.chip_core.proofs.Greatest.{only, first_greatest-is}
 use Rattle.pilot_search.specs.Search.{energy, best_phase}
 use Rattle.pilot_search.specs.BestIn.{IsBestIn}
 
-first_of_all : (samples : List Sample) (phase most : ℕ) → IsBestIn samples 0 32768 phase most → IsFirstGreatest (λ k. pos (energy samples k)) 32768 phase
+first_of_all : (samples : List Sample) (phase most : ℕ) → IsBestIn samples 0 32768 phase most →
+    IsFirstGreatest (λ k. pos (energy samples k)) 32768 phase
 first_of_all samples phase most h = record {
   below = h.below;
-  greatest = λ k lt. let g = h.greatest k (omega arith) lt in let m = h.measured in omega (arith, ints, g, m);
-  first = λ k lt. let g = h.first k (omega arith) lt in let m = h.measured in omega (arith, ints, g, m);
+  greatest = λ k lt. let g = h.greatest k (omega arith) lt in
+      let m = h.measured in omega (arith, ints, g, m);
+  first = λ k lt. let g = h.first k (omega arith) lt in
+      let m = h.measured in omega (arith, ints, g, m);
 }
 
-pub best_phase-only : (samples : List Sample) (phase most : ℕ) → IsBestIn samples 0 32768 phase most → phase ≡ best_phase samples
+pub best_phase-only : (samples : List Sample) (phase most : ℕ) →
+    IsBestIn samples 0 32768 phase most → phase ≡ best_phase samples
 unfolding best_phase
-best_phase-only samples phase most h = only (λ k. pos (energy samples k)) 32768 phase (first_of_all samples phase most h)
+best_phase-only samples phase most h =
+    only (λ k. pos (energy samples k)) 32768 phase (first_of_all samples phase most h)
 
-pub best_energy-only : (samples : List Sample) (phase most : ℕ) → IsBestIn samples 0 32768 phase most → most ≡ energy samples (best_phase samples)
-best_energy-only samples phase most h = h.measured ∙ ap (energy samples) (best_phase-only samples phase most h)
+pub best_energy-only : (samples : List Sample) (phase most : ℕ) →
+    IsBestIn samples 0 32768 phase most → most ≡ energy samples (best_phase samples)
+best_energy-only samples phase most h =
+    h.measured ∙ ap (energy samples) (best_phase-only samples phase most h)
 
-pub best_phase-is : (samples : List Sample) → IsBestIn samples 0 32768 (best_phase samples) (energy samples (best_phase samples))
+pub best_phase-is : (samples : List Sample) →
+    IsBestIn samples 0 32768 (best_phase samples) (energy samples (best_phase samples))
 unfolding best_phase
 best_phase-is samples =
     let f = λ (k : ℕ). pos (energy samples k) in
-    let is : IsFirstGreatest f 32768 (first_greatest f 32768) = first_greatest-is f 32768 (omega arith) in
+    let is : IsFirstGreatest f 32768 (first_greatest f 32768) =
+    first_greatest-is f 32768 (omega arith) in
     record {
       not_below = omega arith;
       below = is.below;
@@ -35,22 +44,32 @@ best_phase-is samples =
       first = λ k _ lt. let g = is.first k lt in omega (arith, ints, g);
     }
 
-pub lower_best : (samples : List Sample) (from middle to low low_energy high high_energy : ℕ) → IsBestIn samples from middle low low_energy →
-    IsBestIn samples middle to high high_energy → high_energy ≤ low_energy → IsBestIn samples from to low low_energy
+pub lower_best : (samples : List Sample) (from middle to low low_energy high high_energy : ℕ) →
+    IsBestIn samples from middle low low_energy →
+    IsBestIn samples middle to high high_energy → high_energy ≤ low_energy →
+    IsBestIn samples from to low low_energy
 lower_best samples from middle to low low_energy high high_energy p q less = record {
   not_below = p.not_below;
   below = let a = p.below in let b = q.not_below in let c = q.below in omega (arith, a, b, c);
   measured = p.measured;
-  greatest = λ k le lt. ⊎_elim (λ below. p.greatest k le below) (λ above. let g = q.greatest k above lt in omega (arith, g, less)) (cases_lt k middle);
+  greatest =
+      λ k le lt. ⊎_elim (λ below. p.greatest k le below) (λ above. let g = q.greatest k above lt in
+      omega (arith, g, less)) (cases_lt k middle);
   first = p.first;
 }
 
-pub higher_best : (samples : List Sample) (from middle to low low_energy high high_energy : ℕ) → IsBestIn samples from middle low low_energy →
-    IsBestIn samples middle to high high_energy → low_energy < high_energy → IsBestIn samples from to high high_energy
+pub higher_best : (samples : List Sample) (from middle to low low_energy high high_energy : ℕ) →
+    IsBestIn samples from middle low low_energy →
+    IsBestIn samples middle to high high_energy → low_energy < high_energy →
+    IsBestIn samples from to high high_energy
 higher_best samples from middle to low low_energy high high_energy p q more = record {
-  not_below = let a = p.not_below in let b = p.below in let c = q.not_below in omega (arith, a, b, c);
+  not_below = let a = p.not_below in let b = p.below in
+      let c = q.not_below in omega (arith, a, b, c);
   below = q.below;
   measured = q.measured;
-  greatest = λ k le lt. ⊎_elim (λ below. let g = p.greatest k le below in omega (arith, g, more)) (λ above. q.greatest k above lt) (cases_lt k middle);
-  first = λ k le lt. ⊎_elim (λ below. let g = p.greatest k le below in omega (arith, g, more)) (λ above. q.first k above lt) (cases_lt k middle);
+  greatest =
+      λ k le lt. ⊎_elim (λ below. let g = p.greatest k le below in
+      omega (arith, g, more)) (λ above. q.greatest k above lt) (cases_lt k middle);
+  first = λ k le lt. ⊎_elim (λ below. let g = p.greatest k le below in
+      omega (arith, g, more)) (λ above. q.first k above lt) (cases_lt k middle);
 }

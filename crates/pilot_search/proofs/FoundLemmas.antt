@@ -14,14 +14,16 @@ use Rattle.pilot_search.specs.declared.sweeping.Best.{Best}
 use Rattle.pilot_search.proofs.BoundLemmas.{bounds}
 use Rattle.pilot_search.proofs.BestPhase.{best_phase-is}
 
-pub at_most_greatest : (samples : List Sample) (k : ℕ) → k < 32768 → energy samples k ≤ greatest samples
+pub at_most_greatest : (samples : List Sample) (k : ℕ) → k < 32768 →
+    energy samples k ≤ greatest samples
 at_most_greatest samples k lt = (best_phase-is samples).greatest k (omega arith) lt
 
 pub nothing_found : (samples : List Sample) (from : ℕ) → IsFound samples from from None
 nothing_found samples from = record { real = tt; first = λ k low high e. absurd (omega arith) }
 
 -- a phase whose bound is below a value of the word isn't the best
-pub left_out : (samples : List Sample) (phase limit : ℕ) → HasBoundBelow samples phase limit → limit ≤ greatest samples → IsFound samples phase (phase + 1) None
+pub left_out : (samples : List Sample) (phase limit : ℕ) → HasBoundBelow samples phase limit →
+    limit ≤ greatest samples → IsFound samples phase (phase + 1) None
 left_out samples phase limit has low = record {
   real = tt;
   first = λ k from to e.
@@ -32,46 +34,59 @@ left_out samples phase limit has low = record {
       absurd (omega arith);
 }
 
-pub one_found : (samples : List Sample) (b : Best) → b.energy ≡ energy samples b.phase → IsFound samples b.phase (b.phase + 1) (Some b)
+pub one_found : (samples : List Sample) (b : Best) → b.energy ≡ energy samples b.phase →
+    IsFound samples b.phase (b.phase + 1) (Some b)
 one_found samples b is = record {
   real = (is, omega arith, omega arith);
-  first = λ k from to e. let same : k ≡ b.phase = omega arith in (is ∙ ap (energy samples) (sym same) ∙ e, omega arith);
+  first = λ k from to e. let same : k ≡ b.phase = omega arith in
+      (is ∙ ap (energy samples) (sym same) ∙ e, omega arith);
 }
 
-pub both_found : (samples : List Sample) (from middle to : ℕ) (left right : Option Best) → from ≤ middle → middle ≤ to → to ≤ 32768
-    → IsFound samples from middle left → IsFound samples middle to right → IsFound samples from to (better_of left right)
+pub both_found : (samples : List Sample) (from middle to : ℕ) (left right : Option Best) →
+    from ≤ middle → middle ≤ to → to ≤ 32768
+    → IsFound samples from middle left → IsFound samples middle to right →
+    IsFound samples from to (better_of left right)
 both_found samples from middle to None None low high most l r = record {
   real = tt;
-  first = λ k a b e. ⊎_elim (λ (lt : k < middle). l.first k a lt e) (λ (ge : middle ≤ k). r.first k ge b e) (cases_lt k middle);
+  first = λ k a b e. ⊎_elim (λ (lt : k < middle). l.first k a lt e)
+      (λ (ge : middle ≤ k). r.first k ge b e) (cases_lt k middle);
 }
 both_found samples from middle to None (Some y) low high most l r = record {
   real = let q = r.real in (q.0, omega arith, q.2);
-  first = λ k a b e. ⊎_elim (λ (lt : k < middle). absurd (l.first k a lt e)) (λ (ge : middle ≤ k). r.first k ge b e) (cases_lt k middle);
+  first = λ k a b e. ⊎_elim (λ (lt : k < middle). absurd (l.first k a lt e))
+      (λ (ge : middle ≤ k). r.first k ge b e) (cases_lt k middle);
 }
 both_found samples from middle to (Some x) None low high most l r = record {
   real = let p = l.real in (p.0, p.1, omega arith);
-  first = λ k a b e. ⊎_elim (λ (lt : k < middle). l.first k a lt e) (λ (ge : middle ≤ k). absurd (r.first k ge b e)) (cases_lt k middle);
+  first = λ k a b e. ⊎_elim (λ (lt : k < middle). l.first k a lt e)
+      (λ (ge : middle ≤ k). absurd (r.first k ge b e)) (cases_lt k middle);
 }
-both_found samples from middle to (Some x) (Some y) low high most l r = go (nat_lt x.energy y.energy) refl
+both_found samples from middle to (Some x) (Some y) low high most l r =
+    go (nat_lt x.energy y.energy) refl
   where
-    go : (t : Bool) → nat_lt x.energy y.energy ≡ t → IsFound samples from to (if t then Some y else Some x)
+    go : (t : Bool) → nat_lt x.energy y.energy ≡ t →
+        IsFound samples from to (if t then Some y else Some x)
     go true less =
         let p = l.real in let q = r.real in
         let lt : x.energy < y.energy = grind (arith, nat_tests) in
         let top = at_most_greatest samples y.phase (omega arith) in record {
           real = (q.0, omega arith, q.2);
-          first = λ k a b e. ⊎_elim (λ (lt' : k < middle). let t = l.first k a lt' e in absurd (omega arith)) (λ (ge : middle ≤ k). r.first k ge b e) (cases_lt k middle);
+          first = λ k a b e. ⊎_elim (λ (lt' : k < middle). let t = l.first k a lt' e in
+              absurd (omega arith)) (λ (ge : middle ≤ k). r.first k ge b e) (cases_lt k middle);
         }
     go false less =
         let p = l.real in let q = r.real in
         let ge' : y.energy ≤ x.energy = grind (arith, nat_tests) in
         let top = at_most_greatest samples x.phase (omega arith) in record {
           real = (p.0, p.1, omega arith);
-          first = λ k a b e. ⊎_elim (λ (lt : k < middle). l.first k a lt e) (λ (ge : middle ≤ k). let t = r.first k ge b e in (omega arith, omega arith)) (cases_lt k middle);
+          first = λ k a b e. ⊎_elim (λ (lt : k < middle). l.first k a lt e)
+              (λ (ge : middle ≤ k). let t = r.first k ge b e in
+              (omega arith, omega arith)) (cases_lt k middle);
         }
 
 -- what is found among all phases is the best of them
-pub best_found : (samples : List Sample) (b : Best) → IsFound samples 0 32768 (Some b) → IsBestIn samples 0 32768 b.phase b.energy
+pub best_found : (samples : List Sample) (b : Best) → IsFound samples 0 32768 (Some b) →
+    IsBestIn samples 0 32768 b.phase b.energy
 best_found samples b h =
     let is = best_phase-is samples in
     let t = h.first (best_phase samples) (omega arith) is.below refl in
@@ -81,16 +96,21 @@ best_found samples b h =
       below = real.2;
       measured = real.0;
       greatest = λ k low lt. let g = is.greatest k low lt in let e = t.0 in omega (arith, g, e);
-      first = λ k low lt. let g = is.first k low (let le = t.1 in omega (arith, lt, le)) in let e = t.0 in omega (arith, g, e);
+      first = λ k low lt. let g = is.first k low (let le = t.1 in omega (arith, lt, le)) in
+          let e = t.0 in omega (arith, g, e);
     }
 
 -- all phases have a best one
-pub is_some : (samples : List Sample) (found : Option Best) → IsFound samples 0 32768 found → IsSome found
-is_some samples None h = absurd (h.first (best_phase samples) (omega arith) (best_phase-is samples).below refl)
+pub is_some : (samples : List Sample) (found : Option Best) → IsFound samples 0 32768 found →
+    IsSome found
+is_some samples None h =
+    absurd (h.first (best_phase samples) (omega arith) (best_phase-is samples).below refl)
 is_some samples (Some b) h = refl
 
 pub start_up : (a b workers : ℕ) → 0 < workers → a ≤ b → start_of a workers ≤ start_of b workers
-start_up a b workers some le = le-div (32768 * a / workers) (32768 * b) workers some (let m = div-mul-le_self (32768 * a) workers in omega arith)
+start_up a b workers some le =
+    le-div (32768 * a / workers) (32768 * b) workers some
+    (let m = div-mul-le_self (32768 * a) workers in omega arith)
 
 pub start_end : (workers : ℕ) → 0 < workers → start_of workers workers ≡ 32768
 start_end workers some = mul-div_cancel 32768 some
@@ -102,7 +122,13 @@ start_none : (workers : ℕ) → start_of 0 workers ≡ 0
 start_none workers = let l = div-le_self 0 workers in omega arith
 
 -- the whole range
-pub whole : (samples : List Sample) (workers : ℕ) (found : Option Best) → 0 < workers → IsFound samples (start_of 0 workers) (start_of (0 + workers) workers) found → IsFound samples 0 32768 found
+pub whole : (samples : List Sample) (workers : ℕ) (found : Option Best) → 0 < workers →
+    IsFound samples (start_of 0 workers) (start_of (0 + workers) workers) found →
+    IsFound samples 0 32768 found
 whole samples workers found some h =
     let e : 0 + workers ≡ workers = omega arith in
-    subst (λ (n : ℕ × ℕ). IsFound samples n.0 n.1 found) (λ i. (start_none workers i, (ap (λ (n : ℕ). start_of n workers) e ∙ start_end workers some) i)) h
+    subst (λ (n : ℕ × ℕ). IsFound samples n.0 n.1 found)
+    (λ i. (
+      start_none workers i,
+      (ap (λ (n : ℕ). start_of n workers) e ∙ start_end workers some) i,
+    )) h

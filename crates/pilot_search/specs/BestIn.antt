@@ -3,7 +3,8 @@ use Rattle.std.specs.Prelude.{ℕ, ◌<◌, ◌≤◌, ◌≡◌, List}
 use Rattle.chip_core.specs.declared.sample.Sample.{Sample}
 use Rattle.pilot_search.specs.Search.{energy}
 
--- the phase of greatest energy of those from one to before another, the least on a tie, with its energy
+-- the phase of greatest energy of those from one to before another, the least on a tie, with its
+-- energy
 pub record IsBestIn (samples : List Sample) (from to phase most : ℕ) : Type 0 where
   pub not_below : from ≤ phase
   pub below : phase < to

@@ -24,11 +24,14 @@ bound samples phase done =
 
 -- after some whole chunks of 64 samples, with samples left, the bound is below the limit
 abbrev pub HasBoundBelow : List Sample → ℕ → ℕ → Type 0
-HasBoundBelow samples phase limit = (j : ℕ) × (64 * j < length samples) × (bound samples phase (64 * j) < limit)
+HasBoundBelow samples phase limit =
+    (j : ℕ) × (64 * j < length samples) × (bound samples phase (64 * j) < limit)
 
 abbrev pub HasNoBoundBelow : List Sample → ℕ → ℕ → Type 0
-HasNoBoundBelow samples phase limit = (j : ℕ) → 64 * j < length samples → limit ≤ bound samples phase (64 * j)
+HasNoBoundBelow samples phase limit =
+    (j : ℕ) → 64 * j < length samples → limit ≤ bound samples phase (64 * j)
 
 -- the magnitudes of the samples from every 64th on
 abbrev pub AreTails : List Sample → List ℕ → Type 0
-AreTails samples tails = (j : ℕ) → j < 512 → slice_index tails j ≡ magnitudes (drop (64 * j) samples)
+AreTails samples tails =
+    (j : ℕ) → j < 512 → slice_index tails j ≡ magnitudes (drop (64 * j) samples)

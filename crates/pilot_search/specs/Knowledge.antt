@@ -11,9 +11,17 @@ pub record Knowledge : Type 0 where
   pub ceiling : ℕ
 
 abbrev pub knowledge_coded : Coded Knowledge
-knowledge_coded = coded_via (coded× table_id_coded (coded× coded_bool (coded× coded_bool (coded× coded_ℕ coded_ℕ))))
+knowledge_coded =
+    coded_via
+    (coded× table_id_coded (coded× coded_bool (coded× coded_bool (coded× coded_ℕ coded_ℕ))))
     (λ (z : Knowledge). (z.word, (z.spent, (z.fresh, (z.floor, z.ceiling)))))
-    (λ x y e i. record { word = (e i).0; spent = (e i).1.0; fresh = (e i).1.1.0; floor = (e i).1.1.1.0; ceiling = (e i).1.1.1.1 })
+    (λ x y e i. record {
+      word = (e i).0;
+      spent = (e i).1.0;
+      fresh = (e i).1.1.0;
+      floor = (e i).1.1.1.0;
+      ceiling = (e i).1.1.1.1;
+    })
 
 -- the seat is one of this word's, and isn't spent
 abbrev pub IsHeld : Knowledge → TableId → Type 0

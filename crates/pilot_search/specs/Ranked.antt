@@ -11,12 +11,14 @@ IsBefore x y = 32768 * y.energy + x.phase < 32768 * x.energy + y.phase
 
 -- the phase at a place, with its energy
 abbrev pub measured_at : List Sample → ℕ → ℕ → Best
-measured_at samples best place = record { phase = phase_at best place; energy = energy samples (phase_at best place) }
+measured_at samples best place =
+    record { phase = phase_at best place; energy = energy samples (phase_at best place) }
 
 -- the phases of the first so many places, with their energies
 pub record IsRound (samples : List Sample) (best count : ℕ) (round : List Best) : Type 0 where
   pub long : length round ≡ 65
-  pub measured : (place : ℕ) (d : Best) → place < count → get_or round place d ≡ measured_at samples best place
+  pub measured : (place : ℕ) (d : Best) → place < count →
+      get_or round place d ≡ measured_at samples best place
 
 -- of the first so many places, two of them left out, the one that comes before all others
 pub record IsNext (round : List Best) (first second count place : ℕ) : Type 0 where
@@ -24,4 +26,5 @@ pub record IsNext (round : List Best) (first second count place : ℕ) : Type 0 
   pub not_first : place ≢ first
   pub not_second : place ≢ second
   pub greatest : (other : ℕ) (d : Best) → other < count → other ≢ first → other ≢ second →
-      32768 * (get_or round other d).energy + (get_or round place d).phase ≤ 32768 * (get_or round place d).energy + (get_or round other d).phase
+      32768 * (get_or round other d).energy + (get_or round place d).phase ≤
+      32768 * (get_or round place d).energy + (get_or round other d).phase

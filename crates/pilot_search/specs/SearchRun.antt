@@ -1,4 +1,5 @@
--- Workers that share the greatest energy published so far, and leave phases that can't reach it: every run of theirs.
+-- Workers that share the greatest energy published so far, and leave phases that can't reach it:
+-- every run of theirs.
 use Rattle.std.specs.Prelude.{ℕ, ◌<◌, ◌≤◌, ◌≡◌, ◌⊎◌, max, List, [], ◌∷◌, set, Some, Contains, All, slice_get, Option, MatchOption}
 use Rattle.chip_core.specs.declared.sample.Sample.{Sample}
 use Rattle.pilot_search.specs.Search.{energy, best_phase}
@@ -22,13 +23,16 @@ pub data Step : Type 0 where
   Skip : (worker phase done : ℕ) → Step  -- after so many first samples
 
 abbrev pub IsFresh : Worker → ℕ → Type 0
-IsFresh w phase = (w.from ≤ phase) × (phase < w.to) × (Contains w.evaluated phase → ⊥) × (Contains w.skipped phase → ⊥)
+IsFresh w phase =
+    (w.from ≤ phase) × (phase < w.to) × ¬ (Contains w.evaluated phase) ×
+    ¬ (Contains w.skipped phase)
 
 -- from old, this step may lead to new
 abbrev pub Goes : List Sample → State → Step → State → Type 0
 Goes samples old (Evaluate k phase) new =
     (w : Worker) × (slice_get old.workers k ≡ Some w) × IsFresh w phase
-    × (new ≡ record old { workers = set old.workers k (record w { evaluated = phase ∷ w.evaluated }) })
+    × (new ≡ record old
+    { workers = set old.workers k (record w { evaluated = phase ∷ w.evaluated }) })
 Goes samples old (Publish k phase) new =
     (w : Worker) × (slice_get old.workers k ≡ Some w) × Contains w.evaluated phase
     × (new ≡ record old { shared = max old.shared (energy samples phase) })
@@ -36,12 +40,14 @@ Goes samples old (Read k) new =
     (w : Worker) × (slice_get old.workers k ≡ Some w)
     × (new ≡ record old { workers = set old.workers k (record w { seen = old.shared }) })
 Goes samples old (Skip k phase done) new =
-    (w : Worker) × (slice_get old.workers k ≡ Some w) × IsFresh w phase × (bound samples phase done < w.seen)
+    (w : Worker) × (slice_get old.workers k ≡ Some w) × IsFresh w phase ×
+    (bound samples phase done < w.seen)
     × (new ≡ record old { workers = set old.workers k (record w { skipped = phase ∷ w.skipped }) })
 
 abbrev pub Run : List Sample → State → List Step → State → Type 0
 Run samples old [] new = new ≡ old
-Run samples old (step ∷ steps) new = (mid : State) × Goes samples old step mid × Run samples mid steps new
+Run samples old (step ∷ steps) new =
+    (mid : State) × Goes samples old step mid × Run samples mid steps new
 
 -- the ranges part the numbers from one number to before another
 abbrev pub Parts : ℕ → ℕ → List Worker → Type 0
@@ -55,30 +61,43 @@ pub record IsStart (s : State) : Type 0 where
   pub idle : All (λ w. (w.evaluated ≡ []) × (w.skipped ≡ []) × (w.seen ≡ 0)) s.workers
 
 abbrev pub IsDone : Worker → Type 0
-IsDone w = (phase : ℕ) → w.from ≤ phase → phase < w.to → Contains w.evaluated phase ⊎ Contains w.skipped phase
+IsDone w =
+    (phase : ℕ) → w.from ≤ phase → phase < w.to → Contains w.evaluated phase ⊎
+    Contains w.skipped phase
 
 -- in each complete run some worker evaluates the best phase
 abbrev pub FindsBest : List Sample → Type 0
 FindsBest samples =
-    (start end : State) (steps : List Step) → IsStart start → Run samples start steps end → All IsDone end.workers
+    (start end : State) (steps : List Step) → IsStart start → Run samples start steps end →
+    All IsDone end.workers
     → (w : Worker) × Contains end.workers w × Contains w.evaluated (best_phase samples)
 
--- in the order of the search no phase comes before the first one: by greater energy, then by lesser phase
+-- in the order of the search no phase comes before the first one: by greater energy, then by lesser
+-- phase
 abbrev pub ComesFirst : List Sample → ℕ → ℕ → Type 0
-ComesFirst samples first phase = (energy samples phase < energy samples first) ⊎ ((energy samples phase ≡ energy samples first) × (first ≤ phase))
+ComesFirst samples first phase =
+    (energy samples phase < energy samples first) ⊎
+    ((energy samples phase ≡ energy samples first) × (first ≤ phase))
 
 -- in each run the best phase comes before all that any worker evaluates
 abbrev pub BestComesFirst : List Sample → Type 0
 BestComesFirst samples =
     (start end : State) (steps : List Step) → IsStart start → Run samples start steps end
-    → (w : Worker) (phase : ℕ) → Contains end.workers w → Contains w.evaluated phase → ComesFirst samples (best_phase samples) phase
+    → (w : Worker) (phase : ℕ) → Contains end.workers w → Contains w.evaluated phase →
+    ComesFirst samples (best_phase samples) phase
 
--- In every state of a run in which this worker last read this value and the phase is left to it, a try is lawful:
--- with no answer it skips the phase, and with an answer it evaluates and publishes it.
+-- In every state of a run in which this worker last read this value and the phase is left to it, a
+-- try is lawful: with no answer it skips the phase, and with an answer it evaluates and publishes
+-- it.
 abbrev pub IsTry : List Sample → ℕ → ℕ → Option ℕ → Type 0
 IsTry samples phase read answer =
-    (old : State) (k : ℕ) (w : Worker) → slice_get old.workers k ≡ Some w → IsFresh w phase → w.seen ≡ read
+    (old : State) (k : ℕ) (w : Worker) → slice_get old.workers k ≡ Some w → IsFresh w phase →
+    w.seen ≡ read
     → MatchOption answer
-    ((done : ℕ) × Goes samples old (Skip k phase done) (record old { workers = set old.workers k (record w { skipped = phase ∷ w.skipped }) }))
-    (λ e. let mid = record old { workers = set old.workers k (record w { evaluated = phase ∷ w.evaluated }) } in
-    Goes samples old (Evaluate k phase) mid × Goes samples mid (Publish k phase) (record mid { shared = max mid.shared e }))
+    ((done : ℕ) ×
+    Goes samples old (Skip k phase done)
+    (record old { workers = set old.workers k (record w { skipped = phase ∷ w.skipped }) }))
+    (λ e. let mid = record old
+    { workers = set old.workers k (record w { evaluated = phase ∷ w.evaluated }) } in
+    Goes samples old (Evaluate k phase) mid ×
+    Goes samples mid (Publish k phase) (record mid { shared = max mid.shared e }))

@@ -1,4 +1,5 @@
--- The rule of the shared word: it lies from the floor to the ceiling of each view that isn't spent, and all these ceilings are equal.
+-- The rule of the shared word: it lies from the floor to the ceiling of each view that isn't spent,
+-- and all these ceilings are equal.
 use Rattle.std.specs.Prelude.{◌≡◌, ◌≤◌, ◌⊎◌, ℕ, max, true, false, List, [], ◌∷◌, length, slice_index}
 use mathlib.Core.Option.{some}
 use lib.ListN.{get_elem?}
@@ -19,12 +20,14 @@ abbrev pub Lies : ℕ → ℕ → View → Type 0
 Lies word ceiling v = v.spent ≡ false → (v.floor ≤ word) × (word ≤ ceiling) × (v.ceiling ≡ ceiling)
 
 abbrev pub AllLie : ℕ → ℕ → List View → Type 0
-AllLie word ceiling views = (id : ℕ) (v : View) → get_elem? views id ≡ some v → (v.fresh ≡ false) × Lies word ceiling v
+AllLie word ceiling views =
+    (id : ℕ) (v : View) → get_elem? views id ≡ some v → (v.fresh ≡ false) × Lies word ceiling v
 
 abbrev pub IsKept : State (Unit {0}) View → Type 0
 IsKept s =
     (length s.words ≡ 1)
-    × (((s.views ≡ fresh ∷ []) × (slice_index s.words 0 ≡ 0)) ⊎ ((ceiling : ℕ) × AllLie (slice_index s.words 0) ceiling s.views))
+    × (((s.views ≡ fresh ∷ []) × (slice_index s.words 0 ≡ 0)) ⊎
+    ((ceiling : ℕ) × AllLie (slice_index s.words 0) ceiling s.views))
 
 abbrev Sat : Type 0
 Sat = Me (Unit {0}) View
@@ -37,7 +40,8 @@ abbrev pub Loaded : Step (Unit {0}) → Sat → ℕ → Sat → Type 0
 Loaded st m n m' = (m.0.floor ≤ n) × (n ≤ m.0.ceiling) × (m' ≡ (holding n m.0.ceiling, m.1))
 
 abbrev pub Raised : Step (Unit {0}) → Sat → ℕ → Sat → Type 0
-Raised st m n m' = (m.0.floor ≤ n) × (n ≤ m.0.ceiling) × (m' ≡ (holding (max n st.first) m.0.ceiling, m.1))
+Raised st m n m' =
+    (m.0.floor ≤ n) × (n ≤ m.0.ceiling) × (m' ≡ (holding (max n st.first) m.0.ceiling, m.1))
 
 abbrev pub joined : View → View → View
 joined v w = holding (max v.floor w.floor) v.ceiling

@@ -1,36 +1,14 @@
 //! The correlation of samples with the code at one phase.
 
-ghost use Rattle.std.specs.Prelude.{◌≡◌, ◌<◌, ◌≤◌, ◌+◌, ◌*◌, ◌^◌, ℕ, length, unsigned_abs, All, ◌*ℤ◌};
+ghost use Rattle.std.specs.Prelude.{◌≡◌, ◌<◌, ◌≤◌, ◌+◌, ◌*◌, ◌^◌, ℕ, length, unsigned_abs, All};
 ghost use Rattle.chip_core.specs.Complex.{norm};
 ghost use Rattle.pilot_search.specs.Search.{correlation, energy};
-ghost use Rattle.pilot_search.specs.BySigns.{IsUnit, turned, correlation_with};
+ghost use Rattle.pilot_search.specs.BySigns.{correlation_with};
+ghost use Rattle.short_code.specs.Despread.{IsUnit};
 
 use crate::lanes::sums_on_lanes;
 use chip_core::{Pair, Phase, Sample};
-use short_code::Codes;
-
-/// One branch of a sample, turned by a sign.
-fn signed(branch: i16, sign: i8) -> i32
-    requires { unsigned_abs sign ≤ 1 }
-    ensures value { result ≡ branch *ℤ sign }
-    ensures bound { unsigned_abs result ≤ 32768 }
-{
-    i32::from(branch) * i32::from(sign)
-}
-
-/// A sample times the conjugate of the code's point with these signs.
-fn turn(sample: Sample, signs: (i8, i8)) -> Pair
-    requires { IsUnit signs }
-    ensures value { result ≡ turned sample signs }
-    ensures i_bound { unsigned_abs result.i ≤ 65536 }
-    ensures q_bound { unsigned_abs result.q ≤ 65536 }
-{
-    let (c, d) = signs;
-    Pair {
-        i: i64::from(signed(sample.i, c) + signed(sample.q, d)),
-        q: i64::from(signed(sample.q, c) - signed(sample.i, d)),
-    }
-}
+use short_code::{Codes, despread};
 
 /// The sum of the samples, each times the conjugate of its point of the code, one by one.
 fn correlate_plainly(samples: &[Sample], signs: &[(i8, i8)]) -> Pair
@@ -43,7 +21,7 @@ fn correlate_plainly(samples: &[Sample], signs: &[(i8, i8)]) -> Pair
 {
     let mut sum = Pair { i: 0, q: 0 };
     for (t, sample) in samples.iter().enumerate() {
-        let product = turn(*sample, signs[t]);
+        let product = despread(*sample, signs[t]);
         sum.i += product.i;
         sum.q += product.q;
     }
@@ -102,11 +80,12 @@ pub(crate) fn norm_of(sum: Pair) -> u64
     i * i + q * q
 }
 
-/// The energy of the samples at a phase: the square of the absolute value of their correlation with the
-/// code, whose chip of that phase falls on the first sample.
+/// The energy of the samples at a phase: the square of the absolute value of their correlation with
+/// the code, whose chip of that phase falls on the first sample.
 ///
-/// Sample t meets chip (phase + t) modulo 32,768. With I and Q of the sample i and q, and the signs of the
-/// chip c and d, the correlation has the real part Σ (i c + q d) and the imaginary part Σ (q c - i d).
+/// Sample t meets chip (phase + t) modulo 32,768. With I and Q of the sample i and q, and the signs
+/// of the chip c and d, the correlation has the real part Σ (i c + q d) and the imaginary part Σ (q
+/// c - i d).
 pub fn energy_at(samples: &[Sample], codes: &Codes, phase: Phase) -> u64
     requires { length samples.now ≤ 32768 }
     ensures value { result ≡ energy samples.now phase }

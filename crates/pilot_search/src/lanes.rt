@@ -4,14 +4,15 @@ ghost use Rattle.std.specs.Prelude.{◌≡◌, ◌<◌, ◌≤◌, ◌+◌, ◌*
 ghost use lib.Lanes.{Each1, Each2, zip2};
 ghost use Rattle.chip_core.specs.Complex.{plus};
 ghost use Rattle.chip_core.specs.Sums.{total};
-ghost use Rattle.pilot_search.specs.BySigns.{IsUnit, correlation_with};
+ghost use Rattle.pilot_search.specs.BySigns.{correlation_with};
+ghost use Rattle.short_code.specs.Despread.{IsUnit};
 ghost use Rattle.pilot_search.specs.Lanes.{AreProducts};
 
 use chip_core::{Pair, Sample};
 use std::simd::prelude::*;
 
-/// The products of eight samples with the conjugates of their points of the code, the first at `at`: a lane of
-/// real parts and a lane of imaginary parts for each.
+/// The products of eight samples with the conjugates of their points of the code, the first at
+/// `at`: a lane of real parts and a lane of imaginary parts for each.
 fn products(samples: &[Sample], signs: &[(i8, i8)], at: usize) -> (i32x8, i32x8)
     requires samples { at + 8 ≤ length samples.now }
     requires signs { at + 8 ≤ length signs.now }
@@ -88,12 +89,15 @@ fn total_of(lanes: i32x8) -> i64
     sum
 }
 
-/// The sum of the products of all whole groups of eight samples with the conjugates of their points of the code.
+/// The sum of the products of all whole groups of eight samples with the conjugates of their points
+/// of the code.
 pub(crate) fn sums_on_lanes(samples: &[Sample], signs: &[(i8, i8)]) -> Pair
     requires few { length samples.now ≤ 32768 }
     requires room { length samples.now ≤ length signs.now }
     requires units { All IsUnit signs.now }
-    ensures whole { plus result (correlation_with (drop (8 * (length samples.now / 8)) samples.now) (drop (8 * (length samples.now / 8)) signs.now)) ≡ correlation_with samples.now signs.now }
+    ensures whole { plus result
+        (correlation_with (drop (8 * (length samples.now / 8)) samples.now)
+        (drop (8 * (length samples.now / 8)) signs.now)) ≡ correlation_with samples.now signs.now }
     ensures i_bound { unsigned_abs result.i ≤ 65536 * (8 * (length samples.now / 8)) }
     ensures q_bound { unsigned_abs result.q ≤ 65536 * (8 * (length samples.now / 8)) }
 {

@@ -8,6 +8,7 @@ ghost use Rattle.pilot_search.specs.Ranked.{IsBefore, IsRound, IsNext};
 use crate::paths::Near;
 use crate::sweeping::{Best, measured};
 use chip_core::Sample;
+use chip_core::air::CODE_CHIPS;
 use short_code::Codes;
 
 /// How many phases are near the best one: from 32 below it to 32 above it.
@@ -23,7 +24,7 @@ fn phase_number(best: u16, place: u8) -> u16
     ensures value { result ≡ phase_at best place }
     ensures below { result < 32768 }
 {
-    ((u32::from(best) + 32736 + u32::from(place)) % 32768) as u16
+    ((u32::from(best) + 32736 + u32::from(place)) % CODE_CHIPS as u32) as u16
 }
 
 /// The delta of a place.
@@ -73,18 +74,19 @@ fn next_place(round: &[Best], first: u8, second: u8, start: u8) -> u8
     next
 }
 
-/// The `count` phases of greatest energy near the best one, 1 to 3: the first of the 65 phases from 32 below it to 32 above
-/// it, modulo 32,768, by greater energy, then by lesser phase.
+/// The `count` phases of greatest energy near the best one, 1 to 3: the first of the 65 phases from
+/// 32 below it to 32 above it, modulo 32,768, by greater energy, then by lesser phase.
 ///
-/// `best` is what the sweep over all phases gives. It is always the first of them. Of zeros, the deltas are 0, 1 and 2
-/// where the best phase is 0.
+/// `best` is what the sweep over all phases gives. It is always the first of them. Of zeros, the
+/// deltas are 0, 1 and 2 where the best phase is 0.
 pub fn near(samples: &[Sample], codes: &Codes, best: Best, count: u8) -> Near
     requires few { length samples.now ≤ 32768 }
     requires best { IsBestIn samples.now 0 32768 best.phase best.energy }
     requires least { 1 ≤ count }
     requires most { count ≤ 3 }
     ensures count { result.count ≡ count }
-    ensures deltas { result.deltas ≡ near_deltas samples.now best.phase count ++ replicate (3 - count) (pos 0) }
+    ensures deltas { result.deltas ≡
+        near_deltas samples.now best.phase count ++ replicate (3 - count) (pos 0) }
     ensures first { slice_get result.deltas 0 ≡ Some (pos 0) }
 {
     if count == 1 {

@@ -7,7 +7,8 @@ use crate::view::View;
 use atomic_table::{Join, Play, Split, TableRule};
 use std::marker::{Brand, PhantomData};
 
-/// The word lies from the floor to the ceiling of each seat that isn't spent, and all ceilings are equal.
+/// The word lies from the floor to the ceiling of each seat that isn't spent, and all ceilings are
+/// equal.
 pub struct BestRule;
 
 impl TableRule<(), View, ()> for BestRule {

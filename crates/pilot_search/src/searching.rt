@@ -12,13 +12,14 @@ use crate::shared::{BestSeat, Shared};
 use crate::sweeping::Best;
 use crate::tails::Tails;
 use crate::trying::try_phase;
+use chip_core::air::CODE_CHIPS;
 use chip_core::{OutOfMemory, Phase, Sample};
 use short_code::Codes;
 use std::alloc::Global;
 use std::thread::{Threads, join};
 
-/// The better answer of two ranges, of which the left one has the lesser phases: that of greater energy, and the
-/// left one on a tie.
+/// The better answer of two ranges, of which the left one has the lesser phases: that of greater
+/// energy, and the left one on a tie.
 fn better(left: Option<Best>, right: Option<Best>) -> Option<Best>
     ensures { result ≡ better_of left right }
 {
@@ -42,7 +43,7 @@ fn start(worker: u8, workers: u8) -> u16
     ensures value { result ≡ start_of worker workers }
     ensures most { result ≤ 32768 }
 {
-    (32768 * u32::from(worker) / u32::from(workers)) as u16
+    (CODE_CHIPS as u32 * u32::from(worker) / u32::from(workers)) as u16
 }
 
 /// Tries the phase of this number.
@@ -68,7 +69,8 @@ fn try_number(
     Some(Best { phase, energy })
 }
 
-/// Tries the phases from `from` to before `to`, in ascending order, and counts those that it leaves.
+/// Tries the phases from `from` to before `to`, in ascending order, and counts those that it
+/// leaves.
 fn work(
     shared: &Shared,
     seat: &mut BestSeat,
@@ -176,13 +178,14 @@ fn run<R: Threads + Sync, G: Gate + Sync>(
     (better(left, right), seat)
 }
 
-/// The best of all phases, by so many workers at once: the answer of [`sweep`](crate::sweep) over all phases,
-/// whatever the number of workers and however they get on.
+/// The best of all phases, by so many workers at once: the answer of [`sweep`](crate::sweep) over
+/// all phases, whatever the number of workers and however they get on.
 ///
-/// Worker k of w tries the phases from floor(32768 k / w) to before floor(32768 (k + 1) / w) in ascending order, by
-/// [`try_phase`]. What the workers share is one word, the greatest energy that any of them has published. None waits
-/// for another, except that the call returns when all are done. Each calls [`Gate::arrive`] once before its first
-/// phase, and [`Gate::leave`] once after its last, with the number of its phases for which `try_phase` answered
+/// Worker k of w tries the phases from floor(32768 k / w) to before floor(32768 (k + 1) / w) in
+/// ascending order, by [`try_phase`]. What the workers share is one word, the greatest energy that
+/// any of them has published. None waits for another, except that the call returns when all are
+/// done. Each calls [`Gate::arrive`] once before its first phase, and [`Gate::leave`] once after
+/// its last, with the number of its phases for which `try_phase` answered
 /// `None`.
 ///
 /// [`OutOfMemory`]: there was no memory for the shared word. Nothing else allocates.

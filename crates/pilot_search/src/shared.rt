@@ -29,8 +29,8 @@ impl Model for Shared {
 
 /// A worker's leave to read and raise the shared word. It takes no memory.
 ///
-/// Contracts see which word it is for, and what its worker knows of it: a floor that the word has reached,
-/// and a ceiling that it never passes.
+/// Contracts see which word it is for, and what its worker knows of it: a floor that the word has
+/// reached, and a ceiling that it never passes.
 #[derive(Drop)]
 pub struct BestSeat {
     pub(crate) seat: Seat<(), View>,
@@ -44,7 +44,13 @@ impl Model for BestSeat {
 
     ghost coded = { knowledge_coded };
 
-    ghost view = { λ s. record { word = s.seat.table_id; spent = s.seat.me.0.spent; fresh = s.seat.me.0.fresh; floor = s.seat.me.0.floor; ceiling = s.seat.me.0.ceiling } };
+    ghost view = { λ s. record {
+      word = s.seat.table_id;
+      spent = s.seat.me.0.spent;
+      fresh = s.seat.me.0.fresh;
+      floor = s.seat.me.0.floor;
+      ceiling = s.seat.me.0.ceiling;
+    } };
 
     ghost invariant = { λ s. s.seat.me.1 ≡ [] };
 }

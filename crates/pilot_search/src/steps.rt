@@ -15,8 +15,8 @@ use std::marker::Brand;
 impl Shared {
     /// A word of 0, and its first seat.
     ///
-    /// The ceiling is the greatest energy of these samples at any phase. It stands in contracts alone, and nothing
-    /// computes it. [`OutOfMemory`]: there was no memory for the word.
+    /// The ceiling is the greatest energy of these samples at any phase. It stands in contracts
+    /// alone, and nothing computes it. [`OutOfMemory`]: there was no memory for the word.
     pub fn new(
         alloc: Global,
         samples: &[Sample],

@@ -19,16 +19,19 @@ use Rattle.rake_finger.specs.declared.form.Form.{Form}
 use Rattle.rake_finger.specs.declared.form.Form.TheVariants.{Sync, Data}
 
 -- FORMS
-pub window_within : (form : Form) (window : ℕ) → window < windows form → window_chips form * (window + 1) ≤ frame_chips form
+pub window_within : (form : Form) (window : ℕ) → window < windows form →
+    window_chips form * (window + 1) ≤ frame_chips form
 window_within Sync window lt = omega (arith, lt)
 window_within Data window lt = omega (arith, lt)
 
-pub window_of : (form : Form) (window symbol : ℕ) → window_symbols form * window ≤ symbol → symbol < window_symbols form * window + window_symbols form →
+pub window_of : (form : Form) (window symbol : ℕ) → window_symbols form * window ≤ symbol →
+    symbol < window_symbols form * window + window_symbols form →
     symbol_chips form * symbol / window_chips form ≡ window
 window_of Sync window symbol low high = omega (arith, low, high)
 window_of Data window symbol low high = omega (arith, low, high)
 
-pub symbol_within : (form : Form) (window symbol : ℕ) → window < windows form → symbol < window_symbols form * window + window_symbols form → symbol < symbols form
+pub symbol_within : (form : Form) (window symbol : ℕ) → window < windows form →
+    symbol < window_symbols form * window + window_symbols form → symbol < symbols form
 symbol_within Sync window symbol lt high = omega (arith, lt, high)
 symbol_within Data window symbol lt high = omega (arith, lt, high)
 
@@ -41,16 +44,19 @@ soft_bound-most Sync = omega arith
 soft_bound-most Data = omega arith
 
 -- ONE FINGER
-pub IsAdded-none : (ring : Held) (finger : Finger) (form : Form) (start done : ℕ) (old : List ℤ) → done ≡ 0 → IsAdded ring finger form start done old old
+pub IsAdded-none : (ring : Held) (finger : Finger) (form : Form) (start done : ℕ) (old : List ℤ) →
+    done ≡ 0 → IsAdded ring finger form start done old old
 IsAdded-none ring finger form start done old none = record {
   values = λ samples held j lt. absurd (omega (arith, lt, none));
   others = λ j le. refl;
   bound = λ j lt. absurd (omega (arith, lt, none));
 }
 
-pub IsAdded-more : (ring : Held) (finger : Finger) (form : Form) (start done : ℕ) (old new : List ℤ) (value entry : ℤ) →
+pub IsAdded-more : (ring : Held) (finger : Finger) (form : Form) (start done : ℕ) (old new : List ℤ)
+    (value entry : ℤ) →
     IsAdded ring finger form start done old new → done < length new →
-    ((samples : List Sample) → HoldsLast ring samples → value ≡ soft samples finger form start done) →
+    ((samples : List Sample) → HoldsLast ring samples →
+    value ≡ soft samples finger form start done) →
     unsigned_abs value ≤ soft_bound form → entry ≡ get_or new done (pos 0) +ℤ value →
     IsAdded ring finger form start (done + 1) old (set new done entry)
 IsAdded-more ring finger form start done old new value entry h room is small added =
@@ -58,25 +64,33 @@ IsAdded-more ring finger form start done old new value entry h room is small add
     let before = h.others done (omega arith) in
     record {
       values = λ samples held j lt. elim (cases_order j done) [
-        | inl e ↦ rw (e, same) (added ∙ ap (λ (z : ℤ). z +ℤ value) before ∙ ap (λ (z : ℤ). get_or old done (pos 0) +ℤ z) (is samples held))
-        | inr (inl less) ↦ let ne : j ≢ done = omega arith in get_or-set_other new done j entry (pos 0) ne ∙ h.values samples held j less
+        | inl e ↦ rw (e, same) (added ∙ ap (λ (z : ℤ). z +ℤ value) before ∙
+            ap (λ (z : ℤ). get_or old done (pos 0) +ℤ z) (is samples held))
+        | inr (inl less) ↦ let ne : j ≢ done = omega arith in
+            get_or-set_other new done j entry (pos 0) ne ∙ h.values samples held j less
         | inr (inr more) ↦ absurd (omega (arith, lt, more))
       ];
-      others = λ j le. let ne : j ≢ done = omega (arith, le) in get_or-set_other new done j entry (pos 0) ne ∙ h.others j (omega (arith, le));
+      others = λ j le. let ne : j ≢ done = omega (arith, le) in
+          get_or-set_other new done j entry (pos 0) ne ∙ h.others j (omega (arith, le));
       bound = λ j lt. elim (cases_order j done) [
         | inl e ↦ rw (e, same) (omega (arith, ints, added, before, small))
-        | inr (inl less) ↦ let ne : j ≢ done = omega arith in let kept = get_or-set_other new done j entry (pos 0) ne in let b = h.bound j less in omega (arith, ap (λ (z : ℤ). unsigned_abs z) kept, b)
+        | inr (inl less) ↦ let ne : j ≢ done = omega arith in
+            let kept = get_or-set_other new done j entry (pos 0) ne in
+            let b = h.bound j less in omega (arith, ap (λ (z : ℤ). unsigned_abs z) kept, b)
         | inr (inr more) ↦ absurd (omega (arith, lt, more))
       ];
     }
 
 -- every entry has grown by one value at most
-pub IsAdded-within : (ring : Held) (finger : Finger) (form : Form) (start done bound : ℕ) (old new : List ℤ) →
-    IsAdded ring finger form start done old new → AreWithin bound old → AreWithin (bound + soft_bound form) new
+pub IsAdded-within : (ring : Held) (finger : Finger) (form : Form) (start done bound : ℕ)
+    (old new : List ℤ) →
+    IsAdded ring finger form start done old new → AreWithin bound old →
+    AreWithin (bound + soft_bound form) new
 IsAdded-within ring finger form start done bound old new h small = record {
   within = λ j. ⊎_elim
       (λ lt. let b = h.bound j lt in let s = small.within j in omega (arith, b, s))
-      (λ le. let e = ap (λ (z : ℤ). unsigned_abs z) (h.others j le) in let s = small.within j in omega (arith, e, s))
+      (λ le. let e = ap (λ (z : ℤ). unsigned_abs z) (h.others j le) in
+      let s = small.within j in omega (arith, e, s))
       (cases_lt j done);
 }
 
@@ -85,44 +99,62 @@ total-push : (xs : List ℤ) (x : ℤ) → total (xs ++ x ∷ []) ≡ total xs +
 total-push [] x = omega (arith, ints)
 total-push (y ∷ xs) x = rw (total-push xs x) (omega (arith, ints))
 
-pub total_more : (f : Finger → ℤ) (xs : List Finger) (i : ℕ) (x : Finger) → slice_get xs i ≡ Some x →
+pub total_more : (f : Finger → ℤ) (xs : List Finger) (i : ℕ) (x : Finger) →
+    slice_get xs i ≡ Some x →
     total (map f (take (i + 1) xs)) ≡ total (map f (take i xs)) +ℤ f x
 total_more f xs i x got =
     let within : i < length xs = slice_get_within xs i x got in
     let read : get_or xs i x ≡ x = get_or_from_slice_get xs i x x got in
-    ap (λ (ys : List Finger). total (map f ys)) (take_more xs i x within ∙ ap (λ (y : Finger). take i xs ++ y ∷ []) read)
+    ap (λ (ys : List Finger). total (map f ys)) (take_more xs i x within ∙
+    ap (λ (y : Finger). take i xs ++ y ∷ []) read)
     ∙ ap total (map-append f (take i xs) (x ∷ [])) ∙ total-push (map f (take i xs)) (f x)
 
 -- the entries are the sums over the first so many fingers
-pub record IsSummed (ring : Held) (fingers : List Finger) (form : Form) (start count : ℕ) (out : List ℤ) : Type 0 where
-  pub values : (samples : List Sample) → HoldsLast ring samples → (j : ℕ) → j < symbols form → get_or out j (pos 0) ≡ total (map (λ f. soft samples f form start j) (take count fingers))
+pub record IsSummed (ring : Held) (fingers : List Finger) (form : Form) (start count : ℕ)
+    (out : List ℤ) : Type 0 where
+  pub values : (samples : List Sample) → HoldsLast ring samples → (j : ℕ) → j < symbols form →
+      get_or out j (pos 0) ≡ total (map (λ f. soft samples f form start j) (take count fingers))
   pub within : AreWithin (count * soft_bound form) out
 
-pub IsSummed-more : (ring : Held) (fingers : List Finger) (form : Form) (start i : ℕ) (finger : Finger) (old new : List ℤ) →
-    IsSummed ring fingers form start i old → slice_get fingers i ≡ Some finger → IsAdded ring finger form start (symbols form) old new →
+pub IsSummed-more : (ring : Held) (fingers : List Finger) (form : Form) (start i : ℕ)
+    (finger : Finger) (old new : List ℤ) →
+    IsSummed ring fingers form start i old → slice_get fingers i ≡ Some finger →
+    IsAdded ring finger form start (symbols form) old new →
     IsSummed ring fingers form start (i + 1) new
 IsSummed-more ring fingers form start i finger old new h got added = record {
   values = λ samples held j lt.
       added.values samples held j lt
       ∙ ap (λ (z : ℤ). z +ℤ soft samples finger form start j) (h.values samples held j lt)
       ∙ sym (total_more (λ f. soft samples f form start j) fingers i finger got);
-  within = let size : (i + 1) * soft_bound form ≡ i * soft_bound form + soft_bound form = omega arith in rw size (IsAdded-within ring finger form start (symbols form) (i * soft_bound form) old new added h.within);
+  within = let size : (i + 1) * soft_bound form ≡ i * soft_bound form + soft_bound form =
+      omega arith in
+      rw size (IsAdded-within ring finger form start (symbols form) (i * soft_bound form) old new
+      added h.within);
 }
 
-pub softs_are : (ring : Held) (fingers : List Finger) (form : Form) (start count : ℕ) (out : List ℤ) (samples : List Sample) →
-    IsSummed ring fingers form start count out → length out ≡ symbols form → HoldsLast ring samples → take count fingers ≡ fingers →
+pub softs_are : (ring : Held) (fingers : List Finger) (form : Form) (start count : ℕ) (out : List ℤ)
+    (samples : List Sample) →
+    IsSummed ring fingers form start count out → length out ≡ symbols form →
+    HoldsLast ring samples → take count fingers ≡ fingers →
     out ≡ softs samples fingers form start
 unfolding softs
 softs_are ring fingers form start count out samples h long held all =
-    map-places-all (λ j. total (map (λ f. soft samples f form start j) fingers)) out (symbols form) (pos 0) long
-    (λ j lt. h.values samples held j lt ∙ ap (λ (fs : List Finger). total (map (λ f. soft samples f form start j) fs)) all)
+    map-places-all (λ j. total (map (λ f. soft samples f form start j) fingers)) out (symbols form)
+    (pos 0) long
+    (λ j lt. h.values samples held j lt ∙
+    ap (λ (fs : List Finger). total (map (λ f. soft samples f form start j) fs)) all)
 
 -- so the absolute values of a frame add up to little
-pub sum_within : (form : Form) (count fingers : ℕ) (out : List ℤ) → length out ≡ symbols form → count ≡ fingers → AreWithin (count * soft_bound form) out →
+pub sum_within : (form : Form) (count fingers : ℕ) (out : List ℤ) → length out ≡ symbols form →
+    count ≡ fingers → AreWithin (count * soft_bound form) out →
     sum_by unsigned_abs out ≤ fingers * (symbols form * soft_bound form)
 sum_within form count fingers out long all h =
-    let size : fingers * (symbols form * soft_bound form) ≡ symbols form * (fingers * soft_bound form) = omega arith in
-    let most = sum_by-le unsigned_abs (count * soft_bound form) out (All-from_get_or (λ z. unsigned_abs z ≤ count * soft_bound form) out (pos 0) (λ j lt. h.within j)) in
+    let size : fingers * (symbols form * soft_bound form) ≡
+    symbols form * (fingers * soft_bound form) = omega arith in
+    let most =
+    sum_by-le unsigned_abs (count * soft_bound form) out
+    (All-from_get_or (λ z. unsigned_abs z ≤ count * soft_bound form) out (pos 0)
+    (λ j lt. h.within j)) in
     rw (size, ← all, ← long) most
 
 pub eight_fingers : (form : Form) → 8 * (symbols form * soft_bound form) ≤ 2 ^ 62

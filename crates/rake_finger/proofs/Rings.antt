@@ -11,41 +11,55 @@ use Rattle.std.proofs.lemmas.Option.{get_or_from_slice_get}
 use Rattle.rake_finger.specs.Held.{Held, HoldsLast}
 
 -- two places that share a cell are a whole room apart
-pub apart : (i j room : ℕ) → i < j → j < i + room → i % room ≡ j % room → ⊥
+pub apart : (i j room : ℕ) → i < j → j < i + room → ¬ (i % room ≡ j % room)
 apart i j room less near same =
     let a = div-add-mod' i room in
     let b = div-add-mod' j room in
     elim (cases_lt (i / room) (j / room)) [
-      | inl below ↦ let m = mul-le (i / room + 1) room (j / room) room (omega arith) (omega arith) in omega arith
+      | inl below ↦ let m =
+          mul-le (i / room + 1) room (j / room) room (omega arith) (omega arith) in omega arith
       | inr over ↦ let m = mul-le (j / room) room (i / room) room over (omega arith) in omega arith
     ]
 
-pub held_more : {A : Type 0} (cells samples : List A) (x : A) (room : ℕ) → 1 ≤ room → length cells ≡ room →
-    ((i : ℕ) (d : A) → i < length samples → length samples ≤ i + room → get_or cells (i % room) d ≡ get_or samples i d) →
-    (i : ℕ) (d : A) → i < length samples + 1 → length samples + 1 ≤ i + room → get_or (set cells (length samples % room) x) (i % room) d ≡ get_or (samples ++ x ∷ []) i d
+pub held_more : {A : Type 0} (cells samples : List A) (x : A) (room : ℕ) → 1 ≤ room →
+    length cells ≡ room →
+    ((i : ℕ) (d : A) → i < length samples → length samples ≤ i + room →
+    get_or cells (i % room) d ≡ get_or samples i d) →
+    (i : ℕ) (d : A) → i < length samples + 1 → length samples + 1 ≤ i + room →
+    get_or (set cells (length samples % room) x) (i % room) d ≡ get_or (samples ++ x ∷ []) i d
 held_more cells samples x room some long held i d h near =
     let within : length samples % room < length cells = omega arith in
     elim (cases_order i (length samples)) [
-      | inl e ↦ rw (e, get_or-set_same cells (length samples % room) x d within) (sym (get_or_push samples x d (length samples) refl))
+      | inl e ↦ rw (e, get_or-set_same cells (length samples % room) x d within)
+          (sym (get_or_push samples x d (length samples) refl))
       | inr (inl less) ↦
-          let ne : i % room ≢ length samples % room = λ same. apart i (length samples) room less (omega arith) same in
-          rw (get_or-set_other cells (length samples % room) (i % room) x d ne, get_or_append_left samples (x ∷ []) d i less) (held i d less (omega arith))
+          let ne : i % room ≢ length samples % room =
+          λ same. apart i (length samples) room less (omega arith) same in
+          rw (
+            get_or-set_other cells (length samples % room) (i % room) x d ne,
+            get_or_append_left samples (x ∷ []) d i less,
+          ) (held i d less (omega arith))
       | inr (inr more) ↦ absurd (omega arith)
     ]
 
 -- what a ring holds after one more sample
-pub HoldsLast-more : (cells samples : List Sample) (x : Sample) (room taken room' : ℕ) → 1 ≤ room → length cells ≡ room → room' ≡ room →
+pub HoldsLast-more : (cells samples : List Sample) (x : Sample) (room taken room' : ℕ) → 1 ≤ room →
+    length cells ≡ room → room' ≡ room →
     HoldsLast (record { room = room; taken = taken; cells = cells }) samples →
-    HoldsLast (record { room = room'; taken = taken + 1; cells = set cells (taken % room) x }) (samples ++ x ∷ [])
+    HoldsLast (record { room = room'; taken = taken + 1; cells = set cells (taken % room) x })
+    (samples ++ x ∷ [])
 HoldsLast-more cells samples x room taken room' some long same h =
     let more = length-append samples (x ∷ []) in
     let t = h.taken in record {
       taken = omega (arith, more, t);
-      last = λ i d lt near. rw (same, t) (held_more cells samples x room some long h.last i d (omega (arith, lt, more)) (omega (arith, near, more, same)));
+      last = λ i d lt near. rw (same, t)
+          (held_more cells samples x room some long h.last i d (omega (arith, lt, more))
+          (omega (arith, near, more, same)));
     }
 
 -- what stands in the cell of a place that the ring still holds
-pub held_sample : (ring : Held) (samples : List Sample) (place cell : ℕ) (x : Sample) → HoldsLast ring samples → place < ring.taken → ring.taken ≤ place + ring.room →
+pub held_sample : (ring : Held) (samples : List Sample) (place cell : ℕ) (x : Sample) →
+    HoldsLast ring samples → place < ring.taken → ring.taken ≤ place + ring.room →
     cell ≡ place % ring.room → slice_get ring.cells cell ≡ Some x → get_or samples place x ≡ x
 held_sample ring samples place cell x h taken kept at got =
     let t = h.taken in
@@ -53,7 +67,9 @@ held_sample ring samples place cell x h taken kept at got =
     ∙ ap (λ (n : ℕ). get_or ring.cells n x) (sym at)
     ∙ get_or_from_slice_get ring.cells cell x x got
 
-pub next_cell : (place k cell next room : ℕ) → cell ≡ (place + k) % room → next ≡ (cell + 1) % room → next ≡ (place + (k + 1)) % room
+pub next_cell : (place k cell next room : ℕ) → cell ≡ (place + k) % room →
+    next ≡ (cell + 1) % room → next ≡ (place + (k + 1)) % room
 next_cell place k cell next room at is =
     let sum : place + k + 1 ≡ place + (k + 1) = omega arith in
-    is ∙ ap (λ (n : ℕ). (n + 1) % room) at ∙ mod-add-mod (place + k) room 1 ∙ ap (λ (n : ℕ). n % room) sum
+    is ∙ ap (λ (n : ℕ). (n + 1) % room) at ∙ mod-add-mod (place + k) room 1 ∙
+    ap (λ (n : ℕ). n % room) sum

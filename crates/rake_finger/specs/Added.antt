@@ -7,10 +7,13 @@ use Rattle.rake_finger.specs.declared.finger.Finger.{Finger}
 use Rattle.rake_finger.specs.declared.form.Form.{Form}
 
 -- the new entries are the old ones, and the finger's soft values are added to the first so many
-pub record IsAdded (ring : Held) (finger : Finger) (form : Form) (start done : ℕ) (old new : List ℤ) : Type 0 where
-  pub values : (samples : List Sample) → HoldsLast ring samples → (j : ℕ) → j < done → get_or new j (pos 0) ≡ get_or old j (pos 0) +ℤ soft samples finger form start j
+pub record IsAdded (ring : Held) (finger : Finger) (form : Form) (start done : ℕ)
+    (old new : List ℤ) : Type 0 where
+  pub values : (samples : List Sample) → HoldsLast ring samples → (j : ℕ) → j < done →
+      get_or new j (pos 0) ≡ get_or old j (pos 0) +ℤ soft samples finger form start j
   pub others : (j : ℕ) → done ≤ j → get_or new j (pos 0) ≡ get_or old j (pos 0)
-  pub bound : (j : ℕ) → j < done → unsigned_abs (get_or new j (pos 0)) ≤ unsigned_abs (get_or old j (pos 0)) + soft_bound form
+  pub bound : (j : ℕ) → j < done →
+      unsigned_abs (get_or new j (pos 0)) ≤ unsigned_abs (get_or old j (pos 0)) + soft_bound form
 
 -- no entry is above a bound, whatever its sign
 pub record AreWithin (bound : ℕ) (values : List ℤ) : Type 0 where

@@ -2,7 +2,8 @@
 use Rattle.std.specs.Prelude.{◌≡◌, ℕ, ◌+◌, ◌%◌, ◌<◌, ◌≤◌, List, length, get_or}
 use Rattle.chip_core.specs.declared.sample.Sample.{Sample}
 
--- A ring with room for so many samples, which has taken so many. Sample i stands in cell i modulo the room.
+-- A ring with room for so many samples, which has taken so many. Sample i stands in cell i modulo
+-- the room.
 pub record Held : Type 0 where
   pub room : ℕ
   pub taken : ℕ
@@ -11,4 +12,5 @@ pub record Held : Type 0 where
 -- It has taken these samples, and holds the last of them, as many as it has room for.
 pub record HoldsLast (ring : Held) (samples : List Sample) : Type 0 where
   pub taken : ring.taken ≡ length samples
-  pub last : (i : ℕ) (d : Sample) → i < length samples → length samples ≤ i + ring.room → get_or ring.cells (i % ring.room) d ≡ get_or samples i d
+  pub last : (i : ℕ) (d : Sample) → i < length samples → length samples ≤ i + ring.room →
+      get_or ring.cells (i % ring.room) d ≡ get_or samples i d

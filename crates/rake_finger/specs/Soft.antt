@@ -11,7 +11,8 @@ use Rattle.rake_finger.specs.declared.finger.Finger.{Finger}
 use Rattle.rake_finger.specs.declared.form.Form.{Form}
 use Rattle.rake_finger.specs.declared.form.Form.TheVariants.{Sync, Data}
 
--- how a frame is cut: chips a symbol, chips in the aligned window whose pilot turns a symbol, and symbols a frame
+-- how a frame is cut: chips a symbol, chips in the aligned window whose pilot turns a symbol, and
+-- symbols a frame
 abbrev pub symbol_chips : Form → ℕ
 symbol_chips Sync = 256
 symbol_chips Data = 64
@@ -43,7 +44,8 @@ finger_place finger u = unsigned_abs (pos u -ℤ finger.delta)
 -- despread samples times the Walsh row, the first of them at its chip k
 abbrev pub covered_from : ℕ → ℕ → List Pair → List Pair
 covered_from row k [] = []
-covered_from row k (s ∷ samples) = times (record { i = sign (walsh row (k % 64)); q = pos 0 }) s ∷ covered_from row (suc k) samples
+covered_from row k (s ∷ samples) =
+    times (record { i = sign (walsh row (k % 64)); q = pos 0 }) s ∷ covered_from row (suc k) samples
 
 -- so many samples from a place on, despread by the code whose chip of this phase falls on sample 0
 abbrev pub despread_at : List Sample → ℕ → ℕ → ℕ → List Pair
@@ -51,12 +53,16 @@ despread_at samples phase place count = despread (phase + place) (take count (dr
 
 -- the sum of a finger's pilot over window w of the frame that begins at reference sample u
 unfoldable pub pilot_sum : List Sample → Finger → Form → ℕ → ℕ → Pair
-pilot_sum samples finger form u w = sum_of (despread_at samples finger.phase (finger_place finger u + window_chips form * w) (window_chips form))
+pilot_sum samples finger form u w =
+    sum_of (despread_at samples finger.phase (finger_place finger u + window_chips form * w)
+    (window_chips form))
 
 -- the sum of its Walsh row over symbol j, whose first chip meets the row's chip 0
 unfoldable pub symbol_sum : List Sample → Finger → Form → ℕ → ℕ → Pair
 symbol_sum samples finger form u j =
-    sum_of (covered_from finger.row 0 (despread_at samples finger.phase (finger_place finger u + symbol_chips form * j) (symbol_chips form)))
+    sum_of (covered_from finger.row 0
+    (despread_at samples finger.phase (finger_place finger u + symbol_chips form * j)
+    (symbol_chips form)))
 
 -- the real part of the conjugate of one number times another
 abbrev pub turned_part : Pair → Pair → ℤ
@@ -64,11 +70,14 @@ turned_part pilot symbol = (times (conjugate pilot) symbol).i
 
 -- the unturned soft value of symbol j of the frame that begins at reference sample u
 unfoldable pub soft : List Sample → Finger → Form → ℕ → ℕ → ℤ
-soft samples finger form u j = turned_part (pilot_sum samples finger form u (symbol_chips form * j / window_chips form)) (symbol_sum samples finger form u j)
+soft samples finger form u j =
+    turned_part (pilot_sum samples finger form u (symbol_chips form * j / window_chips form))
+    (symbol_sum samples finger form u j)
 
 -- the sum over the fingers, for each symbol of the frame
 unfoldable pub softs : List Sample → List Finger → Form → ℕ → List ℤ
-softs samples fingers form u = map (λ j. total (map (λ f. soft samples f form u j) fingers)) (places (symbols form))
+softs samples fingers form u =
+    map (λ j. total (map (λ f. soft samples f form u j) fingers)) (places (symbols form))
 
 -- the greatest absolute value of a finger's soft value
 abbrev pub soft_bound : Form → ℕ

@@ -61,12 +61,13 @@ fn add_finger(
     }
 }
 
-/// Computes the soft values of all symbols of the frame that begins at reference sample `start`, each added up over the
-/// fingers.
+/// Computes the soft values of all symbols of the frame that begins at reference sample `start`,
+/// each added up over the fingers.
 ///
-/// `out` has an entry for each of the frame's symbols, and holds their values then, whatever it held. They aren't turned
-/// by scrambling bits. Each window's pilot is summed up once. The absolute values of a frame's entries add up to so
-/// little that those of eight fingers over a frame, or of three over three frames, add up to at most 2^62.
+/// `out` has an entry for each of the frame's symbols, and holds their values then, whatever it
+/// held. They aren't turned by scrambling bits. Each window's pilot is summed up once. The absolute
+/// values of a frame's entries add up to so little that those of eight fingers over a frame, or of
+/// three over three frames, add up to at most 2^62.
 pub fn combine_into(
     ring: &SampleRing,
     codes: &Codes,
@@ -78,7 +79,8 @@ pub fn combine_into(
     requires rows { All (λ (finger : FingerValue). finger.row < 64) fingers.now }
     requires ring { All (IsInRing ring.now form start) fingers.now }
     requires room { length out.old ≡ symbols form }
-    ensures value { (samples : List Sample) → HoldsLast ring.now samples → out.new ≡ softs samples fingers.now form start }
+    ensures value { (samples : List Sample) → HoldsLast ring.now samples →
+        out.new ≡ softs samples fingers.now form start }
     ensures bound { sum_by unsigned_abs out.new ≤ length fingers.now * (symbols form * soft_bound form) }
 {
     out.fill(0);

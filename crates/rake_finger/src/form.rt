@@ -3,12 +3,16 @@
 ghost use Rattle.std.specs.Prelude.{◌≡◌, ◌*◌};
 ghost use Rattle.rake_finger.specs.Soft.{symbol_chips, window_chips, windows, window_symbols};
 
+use chip_core::air::{DATA_SYMBOL_CHIPS, SYNC_SYMBOL_CHIPS};
+
 /// How a channel's frame is cut into symbols, and into the windows whose pilot turns them.
 #[derive(Clone, Copy, PartialEq, Eq, Debug)]
 pub enum Form {
-    /// The sync channel: 128 symbols of 256 chips, and windows of 1,024 chips (TIA/EIA-95-B, 7.1.3.3).
+    /// The sync channel: 128 symbols of 256 chips, and windows of 1,024 chips (TIA/EIA-95-B,
+    /// 7.1.3.3).
     Sync,
-    /// The paging and traffic channels: 384 symbols of 64 chips, and windows of 1,536 chips, a power control group each.
+    /// The paging and traffic channels: 384 symbols of 64 chips, and windows of 1,536 chips, a
+    /// power control group each.
     Data,
 }
 
@@ -18,8 +22,8 @@ impl Form {
         ensures { result ≡ symbol_chips self }
     {
         match self {
-            Form::Sync => 256,
-            Form::Data => 64,
+            Form::Sync => SYNC_SYMBOL_CHIPS as u16,
+            Form::Data => DATA_SYMBOL_CHIPS as u16,
         }
     }
 

@@ -1,10 +1,11 @@
 //! The fingers of a rake receiver: soft values of a channel's symbols, from the last samples.
 //!
-//! A handset receives a base station on several paths, and on paths from several base stations. A finger despreads one
-//! path (TIA/EIA-95-B, 7.1.3.1.9): it multiplies the samples by the conjugate of the pilot's code. The pilot's sum over
-//! a window of chips then tells the path's strength and angle, and the sum over a symbol's chips, each with the sign of
-//! its chip of a Walsh row (7.1.3.1.8), is turned by it and weighed by it. The soft value of a symbol is the real part,
-//! and the sum of it over all fingers.
+//! A handset receives a base station on several paths, and on paths from several base stations. A
+//! finger despreads one path (TIA/EIA-95-B, 7.1.3.1.9): it multiplies the samples by the conjugate
+//! of the pilot's code. The pilot's sum over a window of chips then tells the path's strength and
+//! angle, and the sum over a symbol's chips, each with the sign of its chip of a Walsh row
+//! (7.1.3.1.8), is turned by it and weighed by it. The soft value of a symbol is the real part, and
+//! the sum of it over all fingers.
 #![tactic(auto)]
 
 mod combining;

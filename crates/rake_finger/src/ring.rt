@@ -10,7 +10,8 @@ use std::marker::Model;
 
 /// Keeps the last samples that it has taken, as many as it has room for.
 ///
-/// Contracts see its room, how many samples it has taken, and its cells; `HoldsLast` says which samples these are.
+/// Contracts see its room, how many samples it has taken, and its cells; `HoldsLast` says which
+/// samples these are.
 #[derive(Drop)]
 pub struct SampleRing {
     cells: Vec<Sample>,
@@ -23,7 +24,11 @@ impl Model for SampleRing {
 
     ghost Value = { Held };
 
-    ghost view = { λ ring. record { room = vec_len ring.cells; taken = ring.taken; cells = ring.cells.items } };
+    ghost view = { λ ring. record {
+      room = vec_len ring.cells;
+      taken = ring.taken;
+      cells = ring.cells.items;
+    } };
 
     ghost invariant = { λ ring. (1 ≤ vec_len ring.cells) × (ring.taken ≤ 2 ^ 63) };
 }
@@ -54,7 +59,8 @@ impl SampleRing {
         requires { self.old.taken < 2 ^ 63 }
         ensures room { self.new.room ≡ self.old.room }
         ensures taken { self.new.taken ≡ self.old.taken + 1 }
-        ensures holds { (samples : List Sample) → HoldsLast self.old samples → HoldsLast self.new (samples ++ s ∷ []) }
+        ensures holds { (samples : List Sample) → HoldsLast self.old samples →
+            HoldsLast self.new (samples ++ s ∷ []) }
     {
         let place = (self.taken % self.cells.len() as u64) as usize;
         self.cells[place] = s;
@@ -66,7 +72,8 @@ impl SampleRing {
         requires { self.old.taken + length more.now ≤ 2 ^ 63 }
         ensures room { self.new.room ≡ self.old.room }
         ensures taken { self.new.taken ≡ self.old.taken + length more.now }
-        ensures holds { (samples : List Sample) → HoldsLast self.old samples → HoldsLast self.new (samples ++ more.now) }
+        ensures holds { (samples : List Sample) → HoldsLast self.old samples →
+            HoldsLast self.new (samples ++ more.now) }
     {
         for sample in more {
             self.push(*sample);

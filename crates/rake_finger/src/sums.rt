@@ -9,47 +9,30 @@ ghost use Rattle.rake_finger.specs.InRing.{IsHeld};
 ghost use Rattle.rake_finger.specs.Soft.{covered_from, despread_at};
 
 use crate::ring::SampleRing;
+use chip_core::air::{CODE_CHIPS, WALSH_CHIPS};
 use chip_core::{Pair, Phase, Sample};
-use short_code::Codes;
+use short_code::{Codes, despread, signs_of};
 
-/// One branch of a sample, turned in sign where the chip is a 1.
-fn signed(branch: i16, chip: bool) -> i32
-    ensures value { result ≡ branch *ℤ sign chip }
-    ensures bound { unsigned_abs result ≤ 32768 }
-{
-    if chip {
-        -i32::from(branch)
-    } else {
-        i32::from(branch)
-    }
-}
-
-/// A sample times the conjugate of the code's point with these chips.
-fn despread(sample: Sample, chips: (bool, bool)) -> Pair
-    ensures value { result ≡ times (of_sample sample) (conjugate (point chips)) }
-    ensures i_bound { unsigned_abs result.i ≤ 65536 }
-    ensures q_bound { unsigned_abs result.q ≤ 65536 }
-{
-    let (i, q) = chips;
-    Pair {
-        i: i64::from(signed(sample.i, i) + signed(sample.q, q)),
-        q: i64::from(signed(sample.q, i) - signed(sample.i, q)),
-    }
-}
-
-/// The same, turned in sign where the chip of the Walsh row is a 1.
+/// A sample times the conjugate of the codes' point with these chips, turned in sign where the chip
+/// of the Walsh row is a 1.
 fn covered(sample: Sample, chips: (bool, bool), row_chip: bool) -> Pair
-    ensures value { result ≡ times (record { i = sign row_chip; q = pos 0 }) (times (of_sample sample) (conjugate (point chips))) }
+    ensures value { result ≡
+        times (record {
+          i = sign row_chip;
+          q = pos 0;
+        }) (times (of_sample sample) (conjugate (point chips))) }
     ensures i_bound { unsigned_abs result.i ≤ 65536 }
     ensures q_bound { unsigned_abs result.q ≤ 65536 }
 {
     let (i, q) = chips;
-    despread(sample, (i != row_chip, q != row_chip))
+    despread(sample, signs_of(i != row_chip, q != row_chip))
 }
 
-/// The sum of so many samples from a place on, despread, each with the sign of its chip of a Walsh row.
+/// The sum of so many samples from a place on, despread, each with the sign of its chip of a Walsh
+/// row.
 ///
-/// The code's chip of this phase falls on sample 0, and the row's chip 0 on the sample at the place.
+/// The code's chip of this phase falls on sample 0, and the row's chip 0 on the sample at the
+/// place.
 pub(crate) fn covered_sum(
     ring: &SampleRing,
     codes: &Codes,
@@ -71,8 +54,8 @@ pub(crate) fn covered_sum(
     let mut sum = Pair { i: 0, q: 0 };
     for k in 0..chips {
         let sample = ring.get(cell);
-        let code = codes.chip(((first + u64::from(k)) % 32768) as u16);
-        let row_chip = walsh::chip(row, (k % 64) as u8);
+        let code = codes.chip(((first + u64::from(k)) % CODE_CHIPS) as u16);
+        let row_chip = walsh::chip(row, (k % WALSH_CHIPS as u16) as u8);
         let product = covered(sample, code, row_chip);
         sum.i += product.i;
         sum.q += product.q;

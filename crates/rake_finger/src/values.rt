@@ -12,12 +12,11 @@ use crate::form::Form;
 use crate::ring::SampleRing;
 use crate::sums::covered_sum;
 use chip_core::Pair;
+use chip_core::air::PILOT_ROW;
 use short_code::Codes;
 
-/// The Walsh row of the pilot.
-const PILOT_ROW: u8 = 0;
-
-/// The place, counted from sample 0, at which the finger reads what lies at reference sample `start`.
+/// The place, counted from sample 0, at which the finger reads what lies at reference sample
+/// `start`.
 fn place_of(finger: &Finger, start: u64) -> u64
     requires begun { finger.now.delta ≤ℤ pos start }
     requires room { finger_place finger.now start ≤ 2 ^ 63 }
@@ -42,7 +41,8 @@ pub(crate) fn pilot_of(
 ) -> Pair
     requires ring { IsInRing ring.now form start finger.now }
     requires window { window_chips form * (window + 1) ≤ frame_chips form }
-    ensures value { (samples : List Sample) → HoldsLast ring.now samples → result ≡ pilot_sum samples finger.now form start window }
+    ensures value { (samples : List Sample) → HoldsLast ring.now samples →
+        result ≡ pilot_sum samples finger.now form start window }
     ensures i_bound { unsigned_abs result.i ≤ 65536 * window_chips form }
     ensures q_bound { unsigned_abs result.q ≤ 65536 * window_chips form }
 {
@@ -70,7 +70,8 @@ fn turned_by(pilot: Pair, symbol: Pair) -> i64
     requires symbol_i { unsigned_abs symbol.i ≤ 2 ^ 24 }
     requires symbol_q { unsigned_abs symbol.q ≤ 2 ^ 24 }
     ensures value { result ≡ turned_part pilot symbol }
-    ensures bound { unsigned_abs result ≤ unsigned_abs pilot.i * unsigned_abs symbol.i + unsigned_abs pilot.q * unsigned_abs symbol.q }
+    ensures bound { unsigned_abs result ≤ unsigned_abs pilot.i * unsigned_abs symbol.i +
+        unsigned_abs pilot.q * unsigned_abs symbol.q }
 {
     product(pilot.i, symbol.i) + product(pilot.q, symbol.q)
 }
@@ -103,10 +104,11 @@ pub(crate) fn value_by(
 
 /// The soft value of a symbol of the frame that begins at reference sample `start`, on one finger.
 ///
-/// It is positive where the symbol is more likely a 0. The samples are summed up over the symbol's chips, and for the
-/// pilot over the aligned window of the frame that the symbol lies in; the value is the real part of the conjugate of
-/// the pilot's sum times the symbol's. It isn't turned by scrambling bits. Its absolute value is at most 2^51 on the sync
-/// channel, and 2^50 on other channels.
+/// It is positive where the symbol is more likely a 0. The samples are summed up over the symbol's
+/// chips, and for the pilot over the aligned window of the frame that the symbol lies in; the value
+/// is the real part of the conjugate of the pilot's sum times the symbol's. It isn't turned by
+/// scrambling bits. Its absolute value is at most 2^51 on the sync channel, and 2^50 on other
+/// channels.
 pub fn soft(
     ring: &SampleRing,
     codes: &Codes,

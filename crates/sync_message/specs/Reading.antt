@@ -1,4 +1,5 @@
--- The message that a capsule spells, as a function of its bits: each field is the number that stands at its place.
+-- The message that a capsule spells, as a function of its bits: each field is the number that
+-- stands at its place.
 use Rattle.std.specs.Prelude.{ℕ, ◌-◌, ◌^◌, ◌%◌, ◌==◌, ◌&&◌, Bool, true, false, if◌then◌else◌, List, [], ◌∷◌, length, take, drop, nat_lt, nat_le, Option, Some, None, Result, Ok, Err}
 use Rattle.chip_core.specs.Bits.{number, xor}
 use Rattle.chip_core.specs.declared.field.Field.{Field}
@@ -30,7 +31,8 @@ fields_at capsule = record {
   daylt = number_at 164 1 capsule;
   prat = number_at 165 2 capsule;
   freq = if is_shortest capsule then None else Some (number_at 167 11 capsule);
-  rest = if is_shortest capsule then take 3 (drop 167 capsule) else take (length capsule - 208) (drop 178 capsule);
+  rest = if is_shortest capsule then take 3 (drop 167 capsule)
+      else take (length capsule - 208) (drop 178 capsule);
 }
 
 -- whether each number has that many bits at most
@@ -38,10 +40,12 @@ abbrev pub fields_fit : List Field → Bool
 fields_fit [] = true
 fields_fit (f ∷ fs) = nat_lt f.value (2 ^ f.width) && fields_fit fs
 
--- whether a frequency and the bits behind it make whole octets, 25 without a frequency and 26 to 148 with one
+-- whether a frequency and the bits behind it make whole octets, 25 without a frequency and 26 to
+-- 148 with one
 abbrev pub is_tail : Option ℕ → List Bool → Bool
 is_tail None rest = length rest == 3
-is_tail (Some freq) rest = nat_lt freq (2 ^ 11) && (length rest % 8 == 0 && nat_le (length rest) 976)
+is_tail (Some freq) rest =
+    nat_lt freq (2 ^ 11) && (length rest % 8 == 0 && nat_le (length rest) 976)
 
 -- whether fields have a spelling
 unfoldable pub is_message : SyncFields → Bool

@@ -10,7 +10,8 @@ use Rattle.sync_message.specs.declared.fields.SyncFields.{SyncFields}
 -- the message type, 1, and the fields that each message has
 abbrev pub fixed_fields : SyncFields → List Field
 fixed_fields m =
-    field 8 1 ∷ field 8 m.prev ∷ field 8 m.min ∷ field 15 m.sid ∷ field 16 m.nid ∷ field 9 m.pn ∷ field 42 m.lc
+    field 8 1 ∷ field 8 m.prev ∷ field 8 m.min ∷ field 15 m.sid ∷ field 16 m.nid ∷ field 9 m.pn
+    ∷ field 42 m.lc
     ∷ field 36 m.time ∷ field 8 m.lp ∷ field 6 m.ltm ∷ field 1 m.daylt ∷ field 2 m.prat ∷ []
 
 abbrev pub freq_fields : Option ℕ → List Field

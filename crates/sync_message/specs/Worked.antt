@@ -9,9 +9,25 @@ use Rattle.sync_message.specs.SyncMessage.{sync_body, sync_capsule}
 use Rattle.sync_message.specs.declared.fields.SyncFields.{SyncFields}
 
 shortest : SyncFields
-shortest = record { prev = 3; min = 1; sid = 1; nid = 2; pn = 3; lc = 2 ^ 41; time = 5; lp = 13; ltm = 0; daylt = 0; prat = 0; freq = None; rest = false ∷ false ∷ false ∷ [] }
+shortest =
+    record {
+      prev = 3;
+      min = 1;
+      sid = 1;
+      nid = 2;
+      pn = 3;
+      lc = 2 ^ 41;
+      time = 5;
+      lp = 13;
+      ltm = 0;
+      daylt = 0;
+      prat = 0;
+      freq = None;
+      rest = false ∷ false ∷ false ∷ [];
+    }
 
-first_octets : number (take 168 (sync_capsule Plain shortest)) ≡ 0x190103010002000403800000000000000000143400
+first_octets : number (take 168 (sync_capsule Plain shortest)) ≡
+    0x190103010002000403800000000000000000143400
 unfolding shortest sync_capsule sync_body capsule binary check_bits places
 first_octets = refl
 
@@ -20,7 +36,22 @@ unfolding shortest sync_capsule sync_body capsule binary check_bits places
 shortest_length = refl
 
 with_freq : SyncFields
-with_freq = record { prev = 3; min = 1; sid = 1; nid = 2; pn = 3; lc = 2 ^ 41; time = 5; lp = 13; ltm = 0; daylt = 0; prat = 0; freq = Some 283; rest = [] }
+with_freq =
+    record {
+      prev = 3;
+      min = 1;
+      sid = 1;
+      nid = 2;
+      pn = 3;
+      lc = 2 ^ 41;
+      time = 5;
+      lp = 13;
+      ltm = 0;
+      daylt = 0;
+      prat = 0;
+      freq = Some 283;
+      rest = [];
+    }
 
 with_freq_length : length (sync_capsule Plain with_freq) ≡ 208
 unfolding with_freq sync_capsule sync_body capsule binary check_bits places
@@ -32,14 +63,17 @@ with_freq_octets = refl
 
 -- what is read is what was spelled
 shortest_read : sync_reading Plain (sync_capsule Plain shortest) ≡ Some shortest
-unfolding shortest sync_reading fields_at is_message sync_capsule sync_body capsule binary check_bits places
+unfolding shortest sync_reading fields_at is_message sync_capsule sync_body capsule binary
+    check_bits places
 shortest_read = refl
 
 with_freq_read : sync_reading Plain (sync_capsule Plain with_freq) ≡ Some with_freq
-unfolding with_freq sync_reading fields_at is_message sync_capsule sync_body capsule binary check_bits places
+unfolding with_freq sync_reading fields_at is_message sync_capsule sync_body capsule binary
+    check_bits places
 with_freq_read = refl
 
 -- a capsule whose check is of the other form spells no message
 other_form_read : sync_reading Complemented (sync_capsule Plain shortest) ≡ None
-unfolding shortest sync_reading fields_at is_message sync_capsule sync_body capsule binary check_bits places
+unfolding shortest sync_reading fields_at is_message sync_capsule sync_body capsule binary
+    check_bits places
 other_form_read = refl

@@ -33,7 +33,8 @@ fn have_widths(fields: SyncFields) -> bool
         && fields.prat < 1 << 2
 }
 
-/// Whether a frequency and the bits behind it make whole octets, 25 without a frequency and 26 to 148 with one.
+/// Whether a frequency and the bits behind it make whole octets, 25 without a frequency and 26 to
+/// 148 with one.
 fn has_tail(freq: Option<u16>, rest: &Bits) -> bool
     ensures { IsTrue result ↔ IsTail freq rest.now }
 {
@@ -109,7 +110,8 @@ pub(crate) fn read_body(body: &Bits) -> Result<SyncFields, NoFields>
     })
 }
 
-/// Reads the message type and the fields that each message has; the frequency and the rest are empty.
+/// Reads the message type and the fields that each message has; the frequency and the rest are
+/// empty.
 fn read_fixed(reader: &mut BitReader<'_>) -> Result<SyncFields, NoFields>
     ensures spelled { IfOk result (λ m. reader.old ≡ spelled (fixed_fields m) ++ reader.new) }
     ensures fit { IfOk result (λ m. FieldsFit (fixed_fields m)) }

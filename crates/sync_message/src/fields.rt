@@ -2,7 +2,8 @@
 
 use chip_core::Bits;
 
-/// What a Sync Channel Message says, each field as a number of the width that the standard gives it.
+/// What a Sync Channel Message says, each field as a number of the width that the standard gives
+/// it.
 ///
 /// TIA/EIA-95-B, 7.7.1.3.
 #[derive(Clone, Copy, PartialEq, Eq, Debug)]
@@ -31,6 +32,7 @@ pub struct SyncFields {
     pub prat: u8,
     /// CDMA_FREQ, 11 bits; absent where the capsule has 25 octets.
     pub freq: Option<u16>,
-    /// The bits behind the fields: 3 where the capsule has 25 octets, else 8 for each octet past 26.
+    /// The bits behind the fields: 3 where the capsule has 25 octets, else 8 for each octet past
+    /// 26.
     pub rest: Bits,
 }

@@ -10,9 +10,10 @@ use std::marker::Model;
 
 /// Cuts capsules out of the frames of the sync channel.
 ///
-/// TIA/EIA-95-B, 7.7.1.2: a frame has 32 bits, the SOM bit and 31 bits of body. A frame with SOM 1 starts a capsule, and
-/// drops one that isn't complete; one with SOM 0 goes on with the open capsule, or is passed over where there is none.
-/// Contracts see the bits of the open capsule, and say for which frames the framer stands.
+/// TIA/EIA-95-B, 7.7.1.2: a frame has 32 bits, the SOM bit and 31 bits of body. A frame with SOM 1
+/// starts a capsule, and drops one that isn't complete; one with SOM 0 goes on with the open
+/// capsule, or is passed over where there is none. Contracts see the bits of the open capsule, and
+/// say for which frames the framer stands.
 #[derive(Clone, Copy, PartialEq, Eq, Debug)]
 pub struct CapsuleFramer {
     capsule: OpenCapsule,
@@ -38,21 +39,24 @@ impl CapsuleFramer {
         }
     }
 
-    /// Takes a frame, and gives the capsule whose last bit lies in it: whatever frames the framer stood for, it stands for
-    /// those and this one behind them, and the capsule is the one that they end with.
+    /// Takes a frame, and gives the capsule whose last bit lies in it: whatever frames the framer
+    /// stood for, it stands for those and this one behind them, and the capsule is the one that
+    /// they end with.
     pub fn push(&mut self, frame: &Bits) -> Option<Bits>
         requires { length frame.now ≡ 32 }
         ensures stands { (frames : List (List Bool)) →
             StandsFor self.old frames → StandsFor self.new (frames ++ frame.now ∷ []) }
         ensures capsule { (frames : List (List Bool)) →
-            StandsFor self.old frames → result ≡ capsule_ending (map piece (frames ++ frame.now ∷ [])) }
+            StandsFor self.old frames →
+            result ≡ capsule_ending (map piece (frames ++ frame.now ∷ [])) }
     {
         self.capsule = from_start(frame.get(0), self.capsule);
         self.capsule.push_all(frame, 1)
     }
 }
 
-/// The capsule that a frame's body goes to: a new one where the SOM bit is 1, else the one that is open.
+/// The capsule that a frame's body goes to: a new one where the SOM bit is 1, else the one that is
+/// open.
 fn from_start(som: bool, capsule: OpenCapsule) -> OpenCapsule
     ensures { result ≡ cond som (Some []) capsule }
 {

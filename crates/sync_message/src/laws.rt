@@ -10,11 +10,12 @@ ghost use Rattle.sync_message.specs.declared.fields.SyncFields.{SyncFields as Th
 
 /// Two messages with one spelling are the same.
 pub fn spelling_has_one_message()
-    ensures { (form : TheForm) (m n : TheFields) → IsSyncMessage m → IsSyncMessage n → sync_capsule form m ≡ sync_capsule form n → m ≡ n }
+    ensures { (form : TheForm) (m n : TheFields) → IsSyncMessage m → IsSyncMessage n →
+        sync_capsule form m ≡ sync_capsule form n → m ≡ n }
 {}
 
-/// A message has 25 octets, and then no frequency and 3 bits of rest; or it has 26 and more, and then a frequency and 8
-/// bits of rest for each octet past 26.
+/// A message has 25 octets, and then no frequency and 3 bits of rest; or it has 26 and more, and
+/// then a frequency and 8 bits of rest for each octet past 26.
 pub fn octets_tell_the_rest()
     ensures least { (m : TheFields) → IsSyncMessage m → 25 ≤ octets M30 (sync_body m) }
     ensures shortest { (m : TheFields) → IsSyncMessage m → octets M30 (sync_body m) ≡ 25 →
@@ -23,7 +24,8 @@ pub fn octets_tell_the_rest()
         IsSome m.freq × (length m.rest ≡ 8 * (octets M30 (sync_body m) - 26)) }
 {}
 
-/// Reading a list by the places of the fields gives a message exactly where the list is the message's capsule.
+/// Reading a list by the places of the fields gives a message exactly where the list is the
+/// message's capsule.
 pub fn reading_turns_spelling_back()
     ensures { (form : TheForm) (capsule : List Bool) (m : TheFields) →
         (sync_reading form capsule ≡ Some m) ↔ (IsSyncMessage m × (capsule ≡ sync_capsule form m)) }

@@ -16,6 +16,10 @@ use quality_bits::{Kind, body_of, capsule_of};
 use std::marker::Model;
 
 /// A Sync Channel Message: fields that have a spelling. Contracts see the fields.
+///
+/// It is made by [`SyncMessage::new`] and [`SyncMessage::decode`] alone, so whatever it says has a
+/// capsule. [`SyncMessage::fields`] gives what it says, field by field, as a [`SyncFields`], which is
+/// the same record without that promise.
 #[derive(Clone, Copy, PartialEq, Eq, Debug)]
 pub struct SyncMessage {
     fields: SyncFields,
@@ -35,8 +39,9 @@ impl Model for SyncMessage {
 }
 
 impl SyncMessage {
-    /// The message of these fields; `None` exactly where a value doesn't fit its width, or the rest hasn't a length that
-    /// is admitted: 3 bits without a frequency, and 0 to 976 in steps of 8 with one.
+    /// The message of these fields; `None` exactly where a value doesn't fit its width, or the rest
+    /// hasn't a length that is admitted: 3 bits without a frequency, and 0 to 976 in steps of 8
+    /// with one.
     pub fn new(fields: SyncFields) -> Option<SyncMessage>
         ensures { SomeIff result (IsSyncMessage fields) fields }
     {
@@ -64,16 +69,21 @@ impl SyncMessage {
 
     /// The message that a capsule spells, as `sync_reading` defines it.
     ///
-    /// `BadLength` exactly where the list isn't as long as its MSG_LENGTH says, or that is outside 5 to 148 octets; else
-    /// `BadCheck` exactly where the check differs; else `BadBody` exactly where the body isn't that of a message.
+    /// `BadLength` exactly where the list isn't as long as its MSG_LENGTH says, or that is outside
+    /// 5 to 148 octets; else
+    /// `BadCheck` exactly where the check differs; else `BadBody` exactly where the body isn't that
+    /// of a message.
     pub fn decode(capsule: &Bits, form: CheckForm) -> Result<SyncMessage, MessageFault>
         ensures found { IfOk result (λ m. IsSyncMessage m × (capsule.now ≡ sync_capsule form m)) }
-        ensures only { (m : TheFields) → IsSyncMessage m → capsule.now ≡ sync_capsule form m → result ≡ Ok m }
+        ensures only { (m : TheFields) → IsSyncMessage m → capsule.now ≡ sync_capsule form m →
+            result ≡ Ok m }
         ensures reading { reading_of result ≡ sync_reading form capsule.now }
 
         ensures bad_length { (result ≡ Err MessageFault.BadLength) ↔ ¬ (IsWhole capsule.now) }
-        ensures bad_check { (result ≡ Err MessageFault.BadCheck) ↔ (IsWhole capsule.now × ¬ (IsChecked M30 form capsule.now)) }
-        ensures bad_body { (result ≡ Err MessageFault.BadBody) ↔ (IsWhole capsule.now × IsChecked M30 form capsule.now
+        ensures bad_check { (result ≡ Err MessageFault.BadCheck) ↔
+            (IsWhole capsule.now × ¬ (IsChecked M30 form capsule.now)) }
+        ensures bad_body { (result ≡ Err MessageFault.BadBody) ↔
+            (IsWhole capsule.now × IsChecked M30 form capsule.now
             × ((m : TheFields) → IsSyncMessage m → ¬ (capsule.now ≡ sync_capsule form m))) }
     {
         let body = body_of(Kind::M30, form, capsule)?;

@@ -12,5 +12,6 @@ returns-clause-value c =
     let others = c.correlate_plainly-others.result in
     plus_is groups others _ _ (omega (arith, ints)) (omega (arith, ints))
     ∙ ap (plus groups) (c.correlate_plainly-others.ensures.value
-    ∙ ap (λ (x : List Sample × List (ℤ × ℤ)). correlation_with x.0 x.1) (λ i. (c.split_at.ensures.back i, c.split_at-2.ensures.back i)))
+    ∙ ap (λ (x : List Sample × List (ℤ × ℤ)). correlation_with x.0 x.1)
+    (λ i. (c.split_at.ensures.back i, c.split_at-2.ensures.back i)))
     ∙ c.sums_on_lanes-groups.ensures.whole

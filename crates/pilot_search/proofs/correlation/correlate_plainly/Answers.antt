@@ -8,11 +8,14 @@ loop-t-preserved c =
     let inv = c.loop-t.invariant in
     let within : c.loop-t.t < length c.args.signs.now = omega (arith, c.requires.room) in
     record {
-      whole = correlation_with-more c.args.samples.now c.args.signs.now c.loop-t.t c.loop-t.sum c.turn-product.result _ _ c.loop-t-test.true within c.turn-product.ensures.value (omega (arith, ints)) (omega (arith, ints)) ∙ inv.whole;
+      whole = correlation_with-more c.args.samples.now c.args.signs.now c.loop-t.t c.loop-t.sum
+          c.despread-product.result _ _ c.loop-t-test.true within c.despread-product.ensures.value
+          (omega (arith, ints)) (omega (arith, ints)) ∙ inv.whole;
       i_bound = omega (arith, ints);
       q_bound = omega (arith, ints);
     }
 
 pub returns-clause-value : goal.returns-clause-value
 returns-clause-value c =
-    sym (correlation_with-all c.args.samples.now c.args.signs.now c.loop-t.t c.loop-t.sum c.loop-t-test.false) ∙ c.loop-t.invariant.whole
+    sym (correlation_with-all c.args.samples.now c.args.signs.now c.loop-t.t c.loop-t.sum
+    c.loop-t-test.false) ∙ c.loop-t.invariant.whole

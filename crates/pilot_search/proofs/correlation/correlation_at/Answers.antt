@@ -4,13 +4,15 @@ use Rattle.std.proofs.lemmas.List.Elements.{All-drop}
 use Rattle.chip_core.specs.Complex.{plus}
 use Rattle.chip_core.specs.declared.sample.Pair.{Pair}
 use Rattle.short_code.specs.ShortCode.{pilot_signs}
-use Rattle.pilot_search.specs.BySigns.{IsUnit, correlation_with}
+use Rattle.pilot_search.specs.BySigns.{correlation_with}
+use Rattle.short_code.specs.Despread.{IsUnit}
 use Rattle.pilot_search.proofs.CorrelationSums.{all_before, parted, plus_is, units}
 use Rattle.pilot_search.proofs.correlation.correlation_at.Goals as goal
 
 pub correlate-first-requires-clause-units : goal.correlate-first-requires-clause-units
 correlate-first-requires-clause-units c =
-    rw (c.split_at.ensures.back, c.table.ensures.value) (All-drop IsUnit c.from.result pilot_signs units)
+    rw (c.split_at.ensures.back, c.table.ensures.value)
+    (All-drop IsUnit c.from.result pilot_signs units)
 
 pub correlate-rest-requires-clause-units : goal.correlate-rest-requires-clause-units
 correlate-rest-requires-clause-units c = rw c.table-2.ensures.value units
@@ -24,7 +26,8 @@ returns-then-is_empty-clause-value c =
     let low : phase < 32768 = omega arith in
     let least : n ≡ min (length samples) (32768 - phase) = omega arith in
     let past : length samples ≤ n = search rules in
-    let first : c.correlate-first.result ≡ correlation_with (take n samples) (drop phase pilot_signs) = cc in
+    let first : c.correlate-first.result ≡
+    correlation_with (take n samples) (drop phase pilot_signs) = cc in
     first ∙ all_before samples phase n low c.requires least past
 
 pub returns-clause-value : goal.returns-clause-value
@@ -35,9 +38,11 @@ returns-clause-value c =
     let at : c.from.result ≡ phase = omega arith in
     let low : phase < 32768 = omega arith in
     let least : n ≡ min (length samples) (32768 - phase) = omega arith in
-    let first : c.correlate-first.result ≡ correlation_with (take n samples) (drop phase pilot_signs) = cc in
+    let first : c.correlate-first.result ≡
+    correlation_with (take n samples) (drop phase pilot_signs) = cc in
     let rest : c.correlate-rest.result ≡ correlation_with (drop n samples) pilot_signs = cc in
-    plus_is c.correlate-first.result c.correlate-rest.result _ _ (omega (arith, ints)) (omega (arith, ints))
+    plus_is c.correlate-first.result c.correlate-rest.result _ _ (omega (arith, ints))
+    (omega (arith, ints))
     ∙ ap (λ (x : Pair). plus x c.correlate-rest.result) first
     ∙ ap (plus (correlation_with (take n samples) (drop phase pilot_signs))) rest
     ∙ parted samples phase n low c.requires least

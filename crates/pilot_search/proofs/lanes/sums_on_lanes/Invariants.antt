@@ -11,5 +11,10 @@ invariant-loop-k l = record {
   imaginary_long : length l.imaginary ≡ 8;
   real_bound : Each1 (λ x. unsigned_abs x ≤ 65536 * l.k) (map (to_z w32) l.real);
   imaginary_bound : Each1 (λ x. unsigned_abs x ≤ 65536 * l.k) (map (to_z w32) l.imaginary);
-  whole : plus (record { i = total (map (to_z w32) l.real); q = total (map (to_z w32) l.imaginary) }) (correlation_with (drop (8 * l.k) l.samples) (drop (8 * l.k) l.signs)) ≡ correlation_with l.samples l.signs;
+  whole : plus (record {
+    i = total (map (to_z w32) l.real);
+    q = total (map (to_z w32) l.imaginary);
+  })
+      (correlation_with (drop (8 * l.k) l.samples) (drop (8 * l.k) l.signs)) ≡
+      correlation_with l.samples l.signs;
 }

@@ -13,10 +13,16 @@ loop-n-preserved c =
     let low : c.args.from ≤ n = omega arith in
     let high : n ≤ n + 1 = omega arith in
     let most : n + 1 ≤ 32768 = omega arith in
-    let found = both_found c.args.samples.now c.args.from n (n + 1) c.loop-n.best c.try_number-found.result low high most inv.found c.try_number-found.ensures.found in
+    let found =
+    both_found c.args.samples.now c.args.from n (n + 1) c.loop-n.best c.try_number-found.result
+    low high most inv.found c.try_number-found.ensures.found in
     record {
-      count = elim c.if-is_none.branch [ then-is_none w ↦ omega arith | else-is_none w ↦ omega arith ];
+      count = elim c.if-is_none.branch [
+        | then-is_none w ↦ omega arith
+        | else-is_none w ↦ omega arith
+      ];
       held = c.try_number-found.ensures.held;
       top = c.try_number-found.ensures.ceiling;
-      found = subst (λ (o : Option Best). IsFound c.args.samples.now c.args.from (n + 1) o) (sym c.better-best.ensures) found;
+      found = subst (λ (o : Option Best). IsFound c.args.samples.now c.args.from (n + 1) o)
+          (sym c.better-best.ensures) found;
     }

@@ -40,14 +40,20 @@ loop-symbol-preserved c =
     let low : window_symbols form * window ≤ symbol = omega arith in
     let high : symbol < window_symbols form * window + window_symbols form = omega arith in
     let of : window ≡ _ = sym (window_of form window symbol low high) in
-    let within : symbol < length out = let w = symbol_within form window symbol c.requires.window high in omega arith in
-    let value_is : (samples : List Sample) → HoldsLast ring samples → value ≡ soft samples finger form start symbol =
+    let within : symbol < length out = let w =
+    symbol_within form window symbol c.requires.window high in omega arith in
+    let value_is : (samples : List Sample) → HoldsLast ring samples →
+    value ≡ soft samples finger form start symbol =
     λ samples held. c.value_by-value.ensures.value samples held
-    ∙ ap (λ (p : Pair). turned_part p (symbol_sum samples finger form start symbol)) (c.pilot_of-pilot.ensures.value samples held ∙ ap (pilot_sum samples finger form start) of)
+    ∙ ap (λ (p : Pair). turned_part p (symbol_sum samples finger form start symbol))
+    (c.pilot_of-pilot.ensures.value samples held ∙ ap (pilot_sum samples finger form start) of)
     ∙ soft_is samples finger form start symbol in
     record {
-      added = λ first h. rw at (IsAdded-more ring finger form start symbol first out value _ (inv.added first h) within value_is bound (omega (arith, ints, rest, small, bound, most)));
-      rest = λ j le. let ne : j ≢ c.from.result = omega (arith, le) in get_or-set_other out c.from.result j _ (pos 0) ne ∙ inv.rest j (omega (arith, le));
+      added = λ first h. rw at
+          (IsAdded-more ring finger form start symbol first out value _ (inv.added first h) within
+          value_is bound (omega (arith, ints, rest, small, bound, most)));
+      rest = λ j le. let ne : j ≢ c.from.result = omega (arith, le) in
+          get_or-set_other out c.from.result j _ (pos 0) ne ∙ inv.rest j (omega (arith, le));
     }
 
 pub returns : goal.returns

@@ -5,14 +5,17 @@ use Rattle.rake_finger.proofs.combining.combine_into.Goals as goal
 
 pub loop-i-preserved : goal.loop-i-preserved
 loop-i-preserved c =
-    IsSummed-more c.args.ring.now c.args.fingers.now c.args.form c.args.start c.loop-i.i c.get-finger.result c.loop-i.out c.add_finger.new.out
+    IsSummed-more c.args.ring.now c.args.fingers.now c.args.form c.args.start c.loop-i.i
+    c.get-finger.result c.loop-i.out c.add_finger.new.out
     c.loop-i.invariant c.get-finger.ensures c.add_finger.ensures
 
 pub returns-clause-value : goal.returns-clause-value
 returns-clause-value c = λ samples held.
-    softs_are c.args.ring.now c.args.fingers.now c.args.form c.args.start c.loop-i.i c.loop-i.out samples c.loop-i.invariant (omega arith) held
+    softs_are c.args.ring.now c.args.fingers.now c.args.form c.args.start c.loop-i.i c.loop-i.out
+    samples c.loop-i.invariant (omega arith) held
     (take_all c.loop-i.i c.args.fingers.now (omega arith))
 
 pub returns-clause-bound : goal.returns-clause-bound
 returns-clause-bound c =
-    sum_within c.args.form c.loop-i.i (length c.args.fingers.now) c.loop-i.out (omega arith) (omega arith) c.loop-i.invariant.within
+    sum_within c.args.form c.loop-i.i (length c.args.fingers.now) c.loop-i.out (omega arith)
+    (omega arith) c.loop-i.invariant.within

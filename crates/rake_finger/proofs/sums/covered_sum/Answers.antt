@@ -15,19 +15,29 @@ loop-k-preserved c =
     let k = c.loop-k.k in
     let place = c.args.place in
     let sample = c.get-sample.result in
-    let phase : c.from.result + place + c.from-in-loop-k.result ≡ c.args.phase + place + k = omega arith in
-    let code : c.chip-code.result ≡ pilot_chip ((c.args.phase + place + k) % 32768) = c.chip-code.ensures ∙ ap (λ (n : ℕ). pilot_chip (n % 32768)) phase in
+    let phase : c.from.result + place + c.from-in-loop-k.result ≡ c.args.phase + place + k =
+    omega arith in
+    let code : c.chip-code.result ≡ pilot_chip ((c.args.phase + place + k) % 32768) =
+    c.chip-code.ensures ∙ ap (λ (n : ℕ). pilot_chip (n % 32768)) phase in
     let is =
     c.covered-product.ensures.value
-    ∙ ap (λ (chip : Bool). times (record { i = sign chip; q = pos 0 }) (times (of_sample sample) (conjugate (point c.chip-code.result)))) c.chip-row_chip.ensures
-    ∙ ap (λ (chips : Bool × Bool). times (row_sign row k) (times (of_sample sample) (conjugate (point chips)))) code in
+    ∙ ap (λ (chip : Bool). times (record {
+      i = sign chip;
+      q = pos 0;
+    }) (times (of_sample sample) (conjugate (point c.chip-code.result))))
+    c.chip-row_chip.ensures
+    ∙ ap (λ (chips : Bool × Bool). times (row_sign row k)
+    (times (of_sample sample) (conjugate (point chips)))) code in
     record {
       value = λ samples held.
           let t = held.taken in
-          covered_step row c.args.phase place k samples sample c.loop-k.sum c.covered-product.result _ _ (omega (arith, t))
-          (held_sample ring samples (place + k) c.loop-k.cell sample held (omega arith) (omega arith) inv.cell c.get-sample.ensures)
+          covered_step row c.args.phase place k samples sample c.loop-k.sum c.covered-product.result
+          _ _ (omega (arith, t))
+          (held_sample ring samples (place + k) c.loop-k.cell sample held (omega arith)
+          (omega arith) inv.cell c.get-sample.ensures)
           is (inv.value samples held) (omega (arith, ints)) (omega (arith, ints));
-      cell = next_cell place k c.loop-k.cell c.cell_behind-cell.result ring.room inv.cell c.cell_behind-cell.ensures.value;
+      cell = next_cell place k c.loop-k.cell c.cell_behind-cell.result ring.room inv.cell
+          c.cell_behind-cell.ensures.value;
       below = c.cell_behind-cell.ensures.below;
       i_bound = omega (arith, ints);
       q_bound = omega (arith, ints);

@@ -5,5 +5,9 @@ use Rattle.rake_finger.proofs.values.pilot_of.Goals as goal
 
 pub returns-clause-value : goal.returns-clause-value
 returns-clause-value c = λ samples held.
-    let place : c.place_of.result + c.from.result ≡ finger_place c.args.finger.now c.args.start + c.window_chips-chips.result * c.args.window = omega arith in
-    pilot_is samples c.args.finger.now c.args.form c.args.start c.args.window _ _ c.covered_sum.result c.window_chips-chips.ensures place (c.covered_sum.ensures.value samples held)
+    let place : c.place_of.result + c.from.result ≡
+    finger_place c.args.finger.now c.args.start + c.window_chips-chips.result * c.args.window =
+    omega arith in
+    pilot_is samples c.args.finger.now c.args.form c.args.start c.args.window _ _
+    c.covered_sum.result c.window_chips-chips.ensures place
+    (c.covered_sum.ensures.value samples held)

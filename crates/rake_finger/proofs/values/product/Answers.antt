@@ -4,14 +4,19 @@ use Rattle.rake_finger.proofs.SoftValues.{product_is, product_most}
 use Rattle.rake_finger.proofs.values.product.Goals as goal
 
 pub returns-clause-value : goal.returns-clause-value
-returns-clause-value c = product_is c.args.pilot c.args.symbol c.ranges.pilot c.ranges.symbol c.requires.pilot c.requires.symbol
+returns-clause-value c =
+    product_is c.args.pilot c.args.symbol c.ranges.pilot c.ranges.symbol c.requires.pilot
+    c.requires.symbol
 
 pub returns-clause-size : goal.returns-clause-size
 returns-clause-size c =
-    ap (λ (z : ℤ). unsigned_abs z) (product_is c.args.pilot c.args.symbol c.ranges.pilot c.ranges.symbol c.requires.pilot c.requires.symbol)
+    ap (λ (z : ℤ). unsigned_abs z)
+    (product_is c.args.pilot c.args.symbol c.ranges.pilot c.ranges.symbol c.requires.pilot
+    c.requires.symbol)
     ∙ unsigned_abs-mul c.args.pilot c.args.symbol
 
 pub returns-clause-most : goal.returns-clause-most
 returns-clause-most c =
-    let is = product_is c.args.pilot c.args.symbol c.ranges.pilot c.ranges.symbol c.requires.pilot c.requires.symbol in
+    let is = product_is c.args.pilot c.args.symbol c.ranges.pilot c.ranges.symbol c.requires.pilot
+    c.requires.symbol in
     rw is (product_most c.args.pilot c.args.symbol c.requires.pilot c.requires.symbol)

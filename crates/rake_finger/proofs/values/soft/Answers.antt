@@ -12,5 +12,7 @@ returns-clause-value c = λ samples held.
     let chips = c.symbol_chips.ensures in
     let window = c.window_chips.ensures in
     same ∙ c.value_by.ensures.value samples held
-    ∙ ap (λ (p : Pair). turned_part p (symbol_sum samples finger c.args.form c.args.start c.args.symbol)) (c.pilot_of-pilot.ensures.value samples held)
+    ∙ ap (λ (p : Pair). turned_part p
+    (symbol_sum samples finger c.args.form c.args.start c.args.symbol))
+    (c.pilot_of-pilot.ensures.value samples held)
     ∙ rw (chips, window) (soft_is samples finger c.args.form c.args.start c.args.symbol)

@@ -7,8 +7,10 @@ pub returns-clause-value : goal.returns-clause-value
 returns-clause-value c =
     let p = c.args.pilot in
     let s = c.args.symbol in
-    let i : c.product.result ≡ p.i *ℤ s.i = search (arith, ints, to_z-of_z, c.product.ensures.value) in
-    let q : c.product-2.result ≡ p.q *ℤ s.q = search (arith, ints, to_z-of_z, c.product-2.ensures.value) in
+    let i : c.product.result ≡ p.i *ℤ s.i =
+    search (arith, ints, to_z-of_z, c.product.ensures.value) in
+    let q : c.product-2.result ≡ p.q *ℤ s.q =
+    search (arith, ints, to_z-of_z, c.product-2.ensures.value) in
     let is = turned_part-is p s in
     omega (arith, ints) ∙ is
 
@@ -16,6 +18,8 @@ pub returns-clause-bound : goal.returns-clause-bound
 returns-clause-bound c =
     let p = c.args.pilot in
     let s = c.args.symbol in
-    let i : unsigned_abs c.product.result ≡ unsigned_abs p.i * unsigned_abs s.i = search (arith, ints, to_z-of_z, c.product.ensures.size) in
-    let q : unsigned_abs c.product-2.result ≡ unsigned_abs p.q * unsigned_abs s.q = search (arith, ints, to_z-of_z, c.product-2.ensures.size) in
+    let i : unsigned_abs c.product.result ≡ unsigned_abs p.i * unsigned_abs s.i =
+    search (arith, ints, to_z-of_z, c.product.ensures.size) in
+    let q : unsigned_abs c.product-2.result ≡ unsigned_abs p.q * unsigned_abs s.q =
+    search (arith, ints, to_z-of_z, c.product-2.ensures.size) in
     omega (arith, ints)

@@ -9,7 +9,8 @@ returns-then-fields-6 c =
     let m = c.args.fields in
     let and5 : (c.if-fields-4.value ≡ true) × (m.daylt < 2) =
     elim c.if-fields-5.branch [
-      | then-fields-5 w ↦ (w.if-fields-5.true, ltb-true m.daylt 2 (sym w.value-is ∙ c.if-fields-6.true))
+      | then-fields-5 w ↦
+          (w.if-fields-5.true, ltb-true m.daylt 2 (sym w.value-is ∙ c.if-fields-6.true))
       | else-fields-5 w ↦ absurd (not_both (w.value-is ∙ w.if-fields-5.false) c.if-fields-6.true)
     ] in
     let and4 : (c.if-fields-3.value ≡ true) × (m.ltm < 64) =
@@ -33,7 +34,21 @@ returns-then-fields-6 c =
       | else-fields w ↦ absurd (not_both (w.value-is ∙ le-ltb m.sid 32768 w.if-fields.false) and2.0)
     ] in (
       λ last.
-          let prat : m.prat < 4 = ltb-true m.prat 4 last in
-          (omega arith, (omega arith, (omega arith, (and1.0, (omega arith, (and1.1, (and2.1, (and3.1, (omega arith, (and4.1, (and5.1, (prat, tt)))))))))))),
+          let prat : m.prat < 4 = ltb-true m.prat 4 last in (
+            omega arith,
+            (
+              omega arith,
+              (
+                omega arith,
+                (
+                  and1.0,
+                  (
+                    omega arith,
+                    (and1.1, (and2.1, (and3.1, (omega arith, (and4.1, (and5.1, (prat, tt))))))),
+                  ),
+                ),
+              ),
+            ),
+          ),
       λ fit. lt-ltb m.prat 4 fit.1.1.1.1.1.1.1.1.1.1.1.0,
     )

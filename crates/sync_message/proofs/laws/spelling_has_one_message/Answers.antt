@@ -8,4 +8,5 @@ use Rattle.sync_message.proofs.laws.spelling_has_one_message.Goals as goal
 pub returns : goal.returns
 unfolding sync_capsule
 returns c form m n p q same =
-    body_injective m n p q (sym (inner-capsule M30 form (sync_body m)) ∙ ap (inner M30) same ∙ inner-capsule M30 form (sync_body n))
+    body_injective m n p q (sym (inner-capsule M30 form (sync_body m)) ∙ ap (inner M30) same ∙
+    inner-capsule M30 form (sync_body n))

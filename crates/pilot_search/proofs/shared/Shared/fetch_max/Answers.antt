@@ -9,5 +9,6 @@ fetch_max-requires c =
     let top = ap (λ (k : Knowledge). k.ceiling) view in (
       ap (λ (k : Knowledge). k.word) view ∙ c.requires.seat.0 ∙ sym c.self.view_is,
       omega (arith, c.self.invariant),
-      moves _ _ _ (λ n. max n c.args.energy) (ap (λ (k : Knowledge). k.spent) view ∙ c.requires.seat.1) (λ n. omega arith) (λ n h. omega arith),
+      moves _ _ _ (λ n. max n c.args.energy) (ap (λ (k : Knowledge). k.spent) view ∙
+          c.requires.seat.1) (λ n. omega arith) (λ n h. omega arith),
     )

@@ -11,5 +11,6 @@ join_seat-requires c =
       ap (λ (k : Knowledge). k.word) theirs ∙ c.requires.other.0 ∙ sym c.self.view_is,
       c.other.invariant,
       omega (arith, c.self.invariant),
-      joins _ _ _ _ (ap (λ (k : Knowledge). k.spent) view ∙ c.requires.seat.1) (ap (λ (k : Knowledge). k.spent) theirs ∙ c.requires.other.1),
+      joins _ _ _ _ (ap (λ (k : Knowledge). k.spent) view ∙ c.requires.seat.1)
+          (ap (λ (k : Knowledge). k.spent) theirs ∙ c.requires.other.1),
     )

@@ -6,4 +6,6 @@ pub returns-clause-holds : goal.returns-clause-holds
 returns-clause-holds c = λ samples held.
     let len : c.len.result ≡ vec_len c.self.inside.cells = c.len.ensures in
     let before = rw (← c.self.view_is) at held in
-    rw len (HoldsLast-more c.self.inside.cells.items samples c.args.s (vec_len c.self.inside.cells) c.self.inside.taken _ (omega (arith, c.self.invariant.0)) (omega (arith, c.self.inside.cells.ok.0)) refl before)
+    rw len (HoldsLast-more c.self.inside.cells.items samples c.args.s (vec_len c.self.inside.cells)
+    c.self.inside.taken _ (omega (arith, c.self.invariant.0))
+    (omega (arith, c.self.inside.cells.ok.0)) refl before)

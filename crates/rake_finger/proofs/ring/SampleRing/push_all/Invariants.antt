@@ -7,5 +7,6 @@ abbrev pub invariant-loop-sample : goal.invariant-loop-sample
 invariant-loop-sample l = record {
   room : l.self.room ≡ l.fn.self.room;
   taken : l.self.taken ≡ l.fn.self.taken + l.sample-index;
-  holds : (samples : List Sample) → HoldsLast l.fn.self samples → HoldsLast l.self (samples ++ take l.sample-index l.more);
+  holds : (samples : List Sample) → HoldsLast l.fn.self samples →
+      HoldsLast l.self (samples ++ take l.sample-index l.more);
 }

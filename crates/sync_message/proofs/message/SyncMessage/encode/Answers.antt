@@ -6,4 +6,6 @@ use Rattle.sync_message.proofs.message.SyncMessage.encode.Goals as goal
 
 pub returns : goal.returns
 unfolding sync_capsule
-returns c = c.capsule_of.ensures ∙ ap (capsule M30 c.args.form) (c.write_body.ensures ∙ ap sync_body c.self.view_is)
+returns c =
+    c.capsule_of.ensures ∙
+    ap (capsule M30 c.args.form) (c.write_body.ensures ∙ ap sync_body c.self.view_is)
