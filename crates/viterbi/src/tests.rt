@@ -1,6 +1,10 @@
 //! The decoder against an enumeration of all words, and worked values.
 
-ghost use Rattle.std.specs.Prelude.{◌≡◌, ◌≤◌, ◌↔◌, IsTrue, All, unsigned_abs};
+ghost use Rattle.std.specs.Prelude.{◌≡◌, ◌<◌, ◌≤◌, ◌^◌, IsTrue, sum_by, unsigned_abs};
+
+mod bodies;
+mod timing;
+mod truncated;
 
 use crate::{Decoder, Ends, Word};
 use chip_core::Bits;
@@ -13,13 +17,20 @@ use std::test::Fail;
 struct Generator(u64);
 
 impl Generator {
-    /// The next number, from -2 to 2.
-    fn next_soft(&mut self) -> i64 {
+    /// The next number, below 2 to the 40.
+    fn next(&mut self) -> u64
+        ensures { result < 2 ^ 40 }
+    {
         self.0 = self
             .0
             .wrapping_mul(6_364_136_223_846_793_005)
             .wrapping_add(1_442_695_040_888_963_407);
-        (self.0 >> 40) as i64 % 5 - 2
+        (self.0 >> 24) % (1 << 40)
+    }
+
+    /// The next number, from -2 to 2.
+    fn next_soft(&mut self) -> i64 {
+        (self.next() >> 16) as i64 % 5 - 2
     }
 
     /// Two soft values for each of so many bits.
@@ -84,19 +95,27 @@ fn joined(word: &Word) -> u64 {
     joined
 }
 
-/// Whether no soft value is more than 2.
-fn are_small(softs: &[i64]) -> bool
-    ensures { IsTrue result ↔ All (λ soft. unsigned_abs soft ≤ 2) softs.now }
+/// Whether the absolute values add up to at most 2 to the 62.
+fn is_bounded(softs: &[i64]) -> bool
+    ensures { IsTrue result → sum_by unsigned_abs softs.now ≤ 2 ^ 62 }
 {
-    softs.iter().all(|soft| soft.unsigned_abs() <= 2)
+    let mut left = 1u64 << 62;
+    for soft in softs {
+        let size = soft.unsigned_abs();
+        if size > left {
+            return false;
+        }
+        left -= size;
+    }
+    true
 }
 
-/// The decoder's word and its score, on small soft values.
+/// The decoder's word and its score.
 fn decoded(rt: &impl Abort, decoder: &mut Decoder, softs: &[i64], ends: Ends) -> (Word, i64)
     requires { decoder.old ≡ 576 }
     ensures { decoder.new ≡ 576 }
 {
-    assert!(rt; are_small(softs));
+    assert!(rt; is_bounded(softs));
     assert!(rt; softs.len() % 2 == 0);
     assert!(rt; softs.len() >= 16);
     assert!(rt; softs.len() <= 1152);
@@ -152,6 +171,25 @@ fn a_single_one(rt: HostRuntime) -> Result<(), Fail> {
         assert_eq!(rt; joined(&word), 0x100);
         assert_eq!(rt; score, 18);
     }
+    Ok(())
+}
+
+/// The soft values of `a_single_one` in a decoder that has room for 16 bits alone.
+#[test]
+fn sixteen_bits_are_room_enough(rt: HostRuntime) -> Result<(), Fail> {
+    let mut decoder = Decoder::new(rt.alloc(), 16)?;
+    let softs = [
+        -1, -1, -1, 1, -1, -1, -1, -1, 1, -1, -1, 1, 1, 1, -1, 1, -1, -1,
+    ];
+    let mut word = Word {
+        start: 1,
+        bits: Bits::empty(),
+    };
+    assert!(rt; is_bounded(&softs));
+    assert_eq!(rt; decoder.best_into(&softs, Ends::Free, &mut word), 18);
+    assert_eq!(rt; word.start, 0);
+    assert_eq!(rt; word.bits.len(), 9);
+    assert_eq!(rt; joined(&word), 0x100);
     Ok(())
 }
 

@@ -1,16 +1,15 @@
 //! One step of the search, from the survivors of all words of some bits to those of one bit more.
-//!
-//! The state of a word is its last eight bits. Here they are numbered from the oldest, bit 0, to the newest, bit 7, so
-//! that of two words of equal length the one with the lesser state comes first in the order of words. State `s` is
-//! reached from the states `2 * (s % 128)` and `2 * (s % 128) + 1`, whose oldest bits are 0 and 1.
 
-ghost use Rattle.std.specs.Prelude.{◌≡◌, ◌<◌, ◌≤◌, ◌+◌, ◌^◌, ℕ, length, get_or, ◌*ℤ◌, unsigned_abs, IsTrue, ◌↔◌};
+ghost use Rattle.std.specs.Prelude.{◌≡◌, ◌<◌, ◌≤◌, ◌+◌, ◌^◌, ℕ, length, get_or, ◌*ℤ◌, unsigned_abs};
+ghost use Rattle.std.specs.Prelude.{IsTrue, ◌↔◌, IfSome};
 ghost use Rattle.chip_core.specs.Bits.{sign};
 ghost use Rattle.viterbi.specs.Best.{HasStart};
 ghost use Rattle.viterbi.specs.States.{low_bits};
-ghost use Rattle.viterbi.specs.Survivors.{Start, HasRoom, gain_of, survivor_into, first_best, end_count};
+ghost use Rattle.viterbi.specs.Survivors.{Start, HasRoom, extended_by, better_of, gain_of};
+ghost use Rattle.viterbi.specs.Survivors.{survivor_into, first_best, end_count};
 
-use crate::survivor::{Survivor, better, extended};
+use crate::metrics::end_states;
+use crate::survivor::Survivor;
 use crate::word::{Ends, Word};
 use chip_core::{Bits, parity_at};
 
@@ -29,7 +28,8 @@ fn signed(value: i64, symbol: bool) -> i64
     if symbol { -value } else { value }
 }
 
-/// What nine bits add to the score: their two soft values, each times the sign of its symbol. Bit 8 is the newest.
+/// What nine bits add to the score: their two soft values, each times the sign of its symbol. Bit 8
+/// is the newest.
 fn gain(first: i64, second: i64, nine: u64) -> i64
     requires { unsigned_abs first + unsigned_abs second ≤ 2 ^ 62 }
     ensures value { result ≡ gain_of first second (low_bits 9 nine) }
@@ -38,7 +38,40 @@ fn gain(first: i64, second: i64, nine: u64) -> i64
     signed(first, parity_at(nine, &G0)) + signed(second, parity_at(nine, &G1))
 }
 
-/// The survivor of a state, one bit further: the better of those that come from the two states before it.
+/// The survivor with one more bit, whose two symbols add `gain` to the score.
+fn extended(survivor: &Option<Survivor>, bit: bool, gain: i64) -> Option<Survivor>
+    requires fits { IfSome survivor.now (λ s. unsigned_abs s.score + unsigned_abs gain ≤ 2 ^ 62) }
+    requires room { IfSome survivor.now (λ s. length s.word.bits < 1184) }
+    ensures { result ≡ extended_by bit gain survivor.now }
+{
+    let Some(before) = survivor else {
+        return None;
+    };
+    let mut bits = before.word.bits;
+    bits.append(bit);
+    let word = Word {
+        start: before.word.start,
+        bits,
+    };
+    Some(Survivor {
+        score: before.score + gain,
+        word,
+    })
+}
+
+/// The survivor of greater score; the first where both have the same.
+fn better(first: &Option<Survivor>, second: &Option<Survivor>) -> Option<Survivor>
+    ensures { result ≡ better_of first.now second.now }
+{
+    match (first, second) {
+        (None, _) => *second,
+        (Some(one), Some(two)) if one.score < two.score => *second,
+        (Some(_), _) => *first,
+    }
+}
+
+/// The survivor of a state, one bit further: the better of those that come from the two states
+/// before it.
 fn survivor_of(row: &[Option<Survivor>], state: u8, first: i64, second: i64) -> Option<Survivor>
     requires whole { length row.now ≡ 256 }
     requires fits { unsigned_abs first + unsigned_abs second ≤ 2 ^ 62 }
@@ -59,7 +92,8 @@ pub fn step(row: &[Option<Survivor>], first: i64, second: i64, next: &mut [Optio
     requires whole_next { length next.old ≡ 256 }
     requires fits { unsigned_abs first + unsigned_abs second ≤ 2 ^ 62 }
     requires room { (t : ℕ) → t < 256 → HasRoom first second (get_or row.now t None) }
-    ensures each { (t : ℕ) → t < 256 → get_or next.new t None ≡ survivor_into row.now first second t }
+    ensures each { (t : ℕ) → t < 256 →
+        get_or next.new t None ≡ survivor_into row.now first second t }
 {
     for (state, survivor) in next.iter_mut().enumerate() {
         *survivor = survivor_of(row, state as u8, first, second);
@@ -100,17 +134,8 @@ pub fn start_row(row: &mut [Option<Survivor>], ends: Ends)
     }
 }
 
-/// In how many states, from the first on, a word may end.
-fn end_states(ends: Ends) -> usize
-    ensures { result ≡ end_count ends }
-{
-    match ends {
-        Ends::Zero => 1,
-        Ends::Free => 256,
-    }
-}
-
-/// The best of the survivors of the states in which a word may end, the first of them where several have the same score.
+/// The best of the survivors of the states in which a word may end, the first of them where several
+/// have the same score.
 pub fn best_end(row: &[Option<Survivor>], ends: Ends) -> Option<Survivor>
     requires { length row.now ≡ 256 }
     ensures { result ≡ first_best row.now (end_count ends) }

@@ -1,0 +1,187 @@
+-- Metrics and rows before the first bit, and the best word from those after the last.
+use Rattle.std.proofs.Common.{◌≡◌, ℕ, zero, suc, ◌*◌, ◌<◌, ◌≤◌, Bool, false, List, [], length}
+use Rattle.std.proofs.Common.{get_or, map, refl, sym, ap, subst, ◌∙◌, arith, ℤ, pos, ◌+ℤ◌, ◌<ℤ◌}
+use Rattle.std.proofs.Common.{◌≤ℤ◌, ⊎_elim, inl, inr, Option, Some, None}
+use Rattle.std.specs.Int.{reverse_bits_onto}
+use Rattle.std.specs.List.{range_with_len}
+use Rattle.std.proofs.lemmas.Int.{ints, by_lt_z}
+use Rattle.std.proofs.lemmas.List.FromFn.{get_or-map-range_with_len}
+use Rattle.std.proofs.lemmas.Bool.{cases_lt, eqb-true}
+use Rattle.std.proofs.lemmas.Bool.Decides.{nat_tests}
+use Rattle.chip_core.specs.Bits.{binary}
+use Rattle.chip_core.specs.Sums.{IsFirstGreatest}
+use Rattle.viterbi.specs.Words.{Word, score_of}
+use Rattle.viterbi.specs.Best.{spelled, IsBestWord}
+use Rattle.viterbi.specs.States.{low_bits}
+use Rattle.viterbi.specs.Survivors.{Start, end_count}
+use Rattle.viterbi.specs.Rows.{origin, path, forced_at, Agrees}
+use Rattle.viterbi.specs.declared.word.Ends.{Ends}
+use Rattle.viterbi.specs.declared.word.Ends.TheVariants.{Zero, Free}
+use Rattle.viterbi.specs.declared.survivor.Survivor.{Survivor}
+use Rattle.viterbi.proofs.StateBits.{binary-turned, low_first-low_bits}
+use Rattle.viterbi.proofs.Choices.{IsBest, IsBestOf, AtLeast, at_least_trans, words_same}
+use Rattle.viterbi.proofs.Steps.{Into, order_by_state}
+use Rattle.viterbi.proofs.Finish.{survive_start, zero_start, IntoBelow, best_is}
+use Rattle.viterbi.proofs.Made.{end_count_le}
+use Rattle.viterbi.proofs.Living.{has_survivor}
+use Rattle.viterbi.proofs.Standing.{Stands}
+
+-- BEFORE THE FIRST BIT
+abbrev begun : ℕ → Survivor
+begun t = record { score = pos 0; word = record { start = reverse_bits_onto 8 t 0; bits = [] } }
+
+first_of : Ends → ℕ → Option Survivor
+first_of Zero zero = Some (begun 0)
+first_of Zero (suc t) = None
+first_of Free t = Some (begun t)
+
+first_starts : (ends : Ends) (t : ℕ) → t < 256 → Start ends t (first_of ends t)
+unfolding first_of
+first_starts Zero zero b =
+    record {
+      begins = (zero_start 0 b).0 refl;
+      start = binary-turned 0;
+      none = refl;
+      nothing =
+          refl;
+    }
+first_starts Zero (suc t) b = λ z. absurd (none (eqb-true (suc t) 0 ((zero_start (suc t) b).1 z)))
+  where
+    none : ¬ (suc t ≡ 0)
+    none e = omega (arith, e)
+first_starts Free t b = record { begins = tt; start = binary-turned t; none = refl; nothing = refl }
+
+first_agrees : (rows : List (List ℕ)) (ends : Ends) (t : ℕ) →
+    Agrees rows 0 t (pos 0) (first_of ends t)
+unfolding first_of path origin
+first_agrees rows Zero zero = (refl, (refl, binary-turned 0))
+first_agrees rows Zero (suc t) = tt
+first_agrees rows Free t = (refl, (refl, binary-turned t))
+
+pub stands_first : (softs : List ℤ) (ends : Ends) (metrics : List ℤ) (rows : List (List ℕ)) →
+    ((t : ℕ) → t < 256 → get_or metrics t (pos 0) ≡ pos 0) →
+    Stands softs ends 0 (pos 0) metrics rows
+stands_first softs ends metrics rows zeros = record {
+  row = map (first_of ends) (range_with_len 0 256);
+  survive = survive_start softs ends (map (first_of ends) (range_with_len 0 256))
+      (λ t b. subst (Start ends t) (sym (reads t b)) (first_starts ends t b));
+  agree = λ t b. rw (reads t b, zeros t b) (first_agrees rows ends t);
+} where
+  reads : (t : ℕ) → t < 256 → get_or (map (first_of ends) (range_with_len 0 256)) t None
+      ≡ first_of ends t
+  reads t b = get_or-map-range_with_len (first_of ends) 0 256 t t None b (omega arith)
+
+-- AFTER THE LAST BIT
+-- the best word into a state, as the metric and the rows give it
+pub record IsTraced (softs : List ℤ) (ends : Ends) (n t : ℕ) (metric : ℤ) (rows : List (List ℕ)) :
+    Type 0 where
+  pub s : Survivor
+  pub best : IsBest softs (Into ends n (low_bits 8 t)) s
+  pub score : metric ≡ s.score
+  pub bits : path rows n t ≡ s.word.bits
+  pub start : binary 8 s.word.start ≡ low_bits 8 (origin rows n t)
+
+traced_of : (softs : List ℤ) (ends : Ends) (n t : ℕ) (metric : ℤ) (rows : List (List ℕ))
+    (o : Option Survivor) → forced_at ends n ≡ false →
+    IsBestOf softs (Into ends n (low_bits 8 t)) o → Agrees rows n t metric o →
+    IsTraced softs ends n t metric rows
+traced_of softs ends n t metric rows None free h a = absurd (has_survivor softs ends n t free h)
+traced_of softs ends n t metric rows (Some s) free h a =
+    record { s = s; best = h; score = a.0; bits = a.1.0; start = a.1.1 }
+
+pub traced : (softs : List ℤ) (ends : Ends) (n : ℕ) (taken : ℤ) (metrics : List ℤ)
+    (rows : List (List ℕ)) → forced_at ends n ≡ false →
+    Stands softs ends n taken metrics rows → (t : ℕ) → t < 256 →
+    IsTraced softs ends n t (get_or metrics t (pos 0) +ℤ taken) rows
+traced softs ends n taken metrics rows free h t b =
+    traced_of softs ends n t (get_or metrics t (pos 0) +ℤ taken) rows (get_or h.row t None) free
+    (h.survive t b) (h.agree t b)
+
+less_stays : (x y taken : ℤ) → x <ℤ y → (x +ℤ taken) <ℤ (y +ℤ taken)
+less_stays x y taken h = omega (arith, ints, h)
+
+most_stays : (x y taken : ℤ) → x ≤ℤ y → (x +ℤ taken) ≤ℤ (y +ℤ taken)
+most_stays x y taken h = omega (arith, ints, h)
+
+-- the first of the greatest metrics of the end states is the best word's
+pub ends_best : (softs : List ℤ) (ends : Ends) (n : ℕ) (taken : ℤ) (metrics : List ℤ)
+    (rows : List (List ℕ)) (end : ℕ) → forced_at ends n ≡ false →
+    Stands softs ends n taken metrics rows →
+    IsFirstGreatest (λ t. get_or metrics t (pos 0)) (end_count ends) end → (b : end < 256)
+    (s : IsTraced softs ends n end (get_or metrics end (pos 0) +ℤ taken) rows) →
+    IsBest softs (IntoBelow ends n (end_count ends)) s.s
+ends_best softs ends n taken metrics rows end free h g b s = record {
+  kind = record { state = end; below = g.below; into = s.best.kind };
+  score = s.best.score;
+  most = λ w k. against w k.state k.below k.into;
+} where
+  a : Word
+  a = spelled s.s.word
+
+  as_good : (u : ℕ) (v : Word) → score_of softs v ≤ℤ score_of softs a →
+      Into ends n (low_bits 8 u) v → end < u → u < 256 → AtLeast (score_of softs) a v
+  as_good u v le into lt small = by_lt_z (score_of softs v) (score_of softs a) (λ less. inl less)
+      (λ back.
+      let p = low_first-low_bits 8 end b in
+      let q = low_first-low_bits 8 u small in
+      let order = order_by_state ends n (low_bits 8 end) (low_bits 8 u) a v s.best.kind into
+      (omega (arith, p, q, lt)) in
+      let e : score_of softs v ≡ score_of softs a = omega (arith, ints, le, back) in
+      inr (e, omega (arith, order)))
+
+  against : (w : Word) (u : ℕ) → u < end_count ends → Into ends n (low_bits 8 u) w →
+      AtLeast (score_of softs) a w
+  against w u below into =
+      let few = end_count_le ends in
+      let small : u < 256 = omega (arith, below, few) in
+      let other = traced softs ends n taken metrics rows free h u small in
+      let v = spelled other.s.word in
+      let score_a : get_or metrics end (pos 0) +ℤ taken ≡ score_of softs a = s.score
+      ∙ s.best.score in
+      let score_v : get_or metrics u (pos 0) +ℤ taken ≡ score_of softs v = other.score
+      ∙ other.best.score in
+      let rest : AtLeast (score_of softs) v w = other.best.most w into in
+      ⊎_elim
+      (λ less. at_least_trans (score_of softs) a v w
+      (inl (rw (← score_a, ← score_v)
+      (less_stays (get_or metrics u (pos 0)) (get_or metrics end (pos 0)) taken (g.first u less))))
+      rest)
+      (λ ge. ⊎_elim
+      (λ lt. at_least_trans (score_of softs) a v w
+      (as_good u v
+      (rw (← score_a, ← score_v)
+      (most_stays (get_or metrics u (pos 0)) (get_or metrics end (pos 0)) taken
+      (g.greatest u below))) other.best.kind lt small) rest)
+      (λ le. let same : u ≡ end = omega (arith, ge, le) in s.best.most w
+      (subst (λ (t : ℕ). Into ends n (low_bits 8 t) w) same into))
+      (cases_lt end u))
+      (cases_lt u end)
+
+-- the decoder's word and its score
+pub word_found : (softs : List ℤ) (ends : Ends) (n : ℕ) (taken : ℤ) (metrics : List ℤ)
+    (rows : List (List ℕ)) (end start : ℕ) (bits : List Bool) → 8 ≤ n → 2 * n ≡ length softs →
+    Stands softs ends n taken metrics rows →
+    IsFirstGreatest (λ t. get_or metrics t (pos 0)) (end_count ends) end →
+    start ≡ reverse_bits_onto 8 (origin rows n end) 0 → bits ≡ path rows n end →
+    IsBestWord softs ends (spelled (record { start = start; bits = bits }))
+    × (get_or metrics end (pos 0) +ℤ taken
+    ≡ score_of softs (spelled (record { start = start; bits = bits })))
+word_found softs ends n taken metrics rows end start bits long half h g starts is =
+    let few = end_count_le ends in
+    let e = g.below in
+    let b : end < 256 = omega (arith, e, few) in
+    let s = traced softs ends n taken metrics rows (no_closed ends n long) h end b in
+    let best = best_is softs ends n s.s long half
+    (ends_best softs ends n taken metrics rows end (no_closed ends n long) h g b s) in
+    let same_start : binary 8 start ≡ binary 8 s.s.word.start = ap (binary 8) starts
+    ∙ binary-turned (origin rows n end) ∙ sym s.start in
+    let same : spelled s.s.word ≡ spelled (record { start = start; bits = bits }) =
+    words_same (spelled s.s.word) (spelled (record { start = start; bits = bits })) (sym same_start)
+    (sym (is ∙ s.bits)) in (
+      subst (λ (w : Word). IsBestWord softs ends w) same best,
+      s.score ∙ s.best.score
+          ∙ ap (score_of softs) same,
+    ) where
+      no_closed : (ends : Ends) (n : ℕ) → 8 ≤ n → forced_at ends n ≡ false
+      no_closed Zero n long = grind (arith, nat_tests, long)
+      no_closed Free n long = refl

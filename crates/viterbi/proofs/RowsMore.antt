@@ -1,0 +1,59 @@
+-- One row more.
+use Rattle.std.proofs.Common.{◌≡◌, ℕ, suc, ◌+◌, ◌*◌, ◌<◌, ◌≤◌, Bool, List, [], length, set, get_or}
+use Rattle.std.proofs.Common.{take, subst, ap, ◌∙◌, arith, ℤ, pos, ◌+ℤ◌, ◌-ℤ◌, unsigned_abs}
+use Rattle.std.specs.List.{sum_by}
+use Rattle.std.proofs.lemmas.List.{get_or-set_same, get_or-set_other, get_or-take}
+use Rattle.std.proofs.lemmas.List.Sums.{sum_by_more}
+use Rattle.viterbi.specs.Rows.{took, metric_into, choice_into, forced_at}
+use Rattle.viterbi.specs.declared.word.Ends.{Ends}
+use Rattle.viterbi.proofs.Standing.{Stands, step_stands, stands_same, next_size}
+
+pub row_stands : (softs : List ℤ) (ends : Ends) (k : ℕ) (taken top : ℤ) (metrics next : List ℤ)
+    (rows : List (List ℕ)) (choices : List ℕ) →
+    2 * k + 2 ≤ length softs → k < length rows → length metrics ≡ 256 →
+    Stands softs ends k taken metrics rows →
+    ((t : ℕ) → t < 256 →
+    get_or next t (pos 0) ≡ metric_into (forced_at ends k) metrics (get_or softs (2 * k) (pos 0))
+    (get_or softs (2 * k + 1) (pos 0)) t -ℤ top) →
+    ((t : ℕ) → t < 256 →
+    took choices t ≡ choice_into (forced_at ends k) metrics (get_or softs (2 * k) (pos 0))
+    (get_or softs (2 * k + 1) (pos 0)) t) →
+    Stands softs ends (suc k) (taken +ℤ top) next (set rows k choices)
+row_stands softs ends k taken top metrics next rows choices room within whole h nexts chosen =
+    step_stands softs ends k taken top metrics next rows (set rows k choices) room whole h
+    (λ j b. get_or-set_other rows k j choices [] (λ e. apart j b e)) nexts
+    (λ t b. ap (λ (r : List ℕ). took r t) (get_or-set_same rows k choices [] within) ∙ chosen t b)
+  where
+    apart : (j : ℕ) → j < k → ¬ (j ≡ k)
+    apart j b e = omega (arith, b, e)
+
+pub pairs_more : (softs : List ℤ) (k : ℕ) → 2 * k + 2 ≤ length softs →
+    sum_by unsigned_abs (take (2 * (k + 1)) softs)
+    ≡ sum_by unsigned_abs (take (2 * k) softs)
+    + (unsigned_abs (get_or softs (2 * k) (pos 0)) + unsigned_abs
+    (get_or softs (2 * k + 1) (pos 0)))
+pairs_more softs k room =
+    let one = sum_by_more unsigned_abs softs (2 * k) (pos 0) (omega (arith, room)) in
+    let two = sum_by_more unsigned_abs softs (2 * k + 1) (pos 0) (omega (arith, room)) in
+    let place : 2 * k + 1 + 1 ≡ 2 * (k + 1) = omega arith in
+    let both = rw place at two in
+    omega (arith, one, both)
+
+pub size_more : (softs : List ℤ) (k t : ℕ) (taken top : ℤ) (forced : Bool) (metrics : List ℤ)
+    (x : ℤ) → 2 * k + 2 ≤ length softs → length metrics ≡ 256 →
+    ((u : ℕ) → u < 256 →
+    unsigned_abs (get_or metrics u (pos 0) +ℤ taken) ≤ sum_by unsigned_abs (take (2 * k) softs)) →
+    x ≡ metric_into forced metrics (get_or softs (2 * k) (pos 0)) (get_or softs (2 * k + 1) (pos 0))
+    t -ℤ top →
+    unsigned_abs (x +ℤ (taken +ℤ top)) ≤ sum_by unsigned_abs (take (2 * (k + 1)) softs)
+size_more softs k t taken top forced metrics x room whole small is =
+    rw (pairs_more softs k room)
+    (next_size taken top metrics forced (get_or softs (2 * k) (pos 0))
+    (get_or softs (2 * k + 1) (pos 0)) x _ t whole small is)
+
+pub first_rows : (softs : List ℤ) (ends : Ends) (n m : ℕ) (taken : ℤ) (metrics : List ℤ)
+    (rows : List (List ℕ)) → n ≡ m →
+    Stands softs ends n taken metrics rows → Stands softs ends m taken metrics (take m rows)
+first_rows softs ends n m taken metrics rows is h =
+    stands_same softs ends m taken metrics rows (take m rows) (λ j b. get_or-take m rows j [] b)
+    (subst (λ (k : ℕ). Stands softs ends k taken metrics rows) is h)

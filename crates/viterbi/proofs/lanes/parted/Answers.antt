@@ -1,0 +1,22 @@
+use Rattle.std.proofs.Common.{◌+◌, ◌*◌, ℕ, get_or, ◌∙◌, arith, to_z, w64, pos}
+use mir.Val.{SFits}
+use Rattle.viterbi.proofs.Parted.{two_chunks, lane_read, evens, odds}
+use Rattle.viterbi.proofs.lanes.parted.Goals as goal
+
+pub returns-clause-even : goal.returns-clause-even
+returns-clause-even c l b =
+    let row = c.args.row.now in
+    let at = c.args.at in
+    let fits : SFits w64 (get_or row (at + 2 * l) (pos 0)) =
+    c.requires.fit _ (omega (arith, b, c.requires.room)) in
+    evens (λ (j : ℕ). to_z w64 (get_or (two_chunks row at) j 0)) l b
+    ∙ lane_read row at (2 * l) (omega (arith, c.requires.room)) (omega (arith, b)) fits
+
+pub returns-clause-odd : goal.returns-clause-odd
+returns-clause-odd c l b =
+    let row = c.args.row.now in
+    let at = c.args.at in
+    let fits : SFits w64 (get_or row (at + (2 * l + 1)) (pos 0)) =
+    c.requires.fit _ (omega (arith, b, c.requires.room)) in
+    odds (λ (j : ℕ). to_z w64 (get_or (two_chunks row at) j 0)) l b
+    ∙ lane_read row at (2 * l + 1) (omega (arith, c.requires.room)) (omega (arith, b)) fits

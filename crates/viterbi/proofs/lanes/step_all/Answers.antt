@@ -1,0 +1,165 @@
+use Rattle.std.proofs.Common.{◌≡◌, ◌+◌, ◌*◌, ◌/◌, ◌%◌, ◌<◌, ◌-ℤ◌, ◌∙◌, ℕ, get_or, pos, rules, w64}
+use Rattle.std.proofs.Common.{map, to_z, arith}
+use Rattle.std.proofs.lemmas.Int.{to_z-of_z}
+use Rattle.std.proofs.lemmas.Simd.{length-put_chunk}
+use Rattle.chip_core.specs.Bits.{bit_of}
+use Rattle.viterbi.specs.Rows.{metric_into, choice_into}
+use Rattle.viterbi.proofs.RowSteps.{metric_fits, metrics_lanes, wings_more, choices_more}
+use Rattle.viterbi.specs.contracts.lanes.step_all.{FORCED-type}
+use denote.Param.{number}
+use Rattle.viterbi.proofs.Blocks.{kept}
+use Rattle.viterbi.proofs.GreatestLanes.{IsGreaterOf, AreTops, tops_first, tops_more, row_greatest}
+use Rattle.viterbi.proofs.lanes.step_all.Goals as goal
+
+nothing_yet : {A : Type 0} (t : ℕ) → t / 8 % 16 < 0 → A
+nothing_yet t none = absurd (omega (arith, none))
+
+pub loop-k-init : goal.loop-k-init
+loop-k-init g c =
+    let forced = FORCED-type (number g.row.FORCED) in
+    let row = c.args.row.now in
+    let top = c.args.top in
+    let f = c.args.first in
+    let s = c.args.second in
+    let et = to_z-of_z w64 top c.ranges.top in
+    let ef = to_z-of_z w64 f c.ranges.first in
+    let es = to_z-of_z w64 s c.ranges.second in
+    record {
+      whole = search rules;
+      long = search rules;
+      metrics = λ t b none. nothing_yet t none;
+      chosen = λ t b none. nothing_yet t none;
+      tops = rw (et, ef, es)
+          (tops_first (λ t. metric_into forced row f s t -ℤ top)
+          (metric_fits forced row top f s 0 c.requires.pair c.requires.most c.requires.near));
+    }
+
+pub greater-requires-clause-one_fit : goal.greater-requires-clause-one_fit
+greater-requires-clause-one_fit g c =
+    let forced = FORCED-type (number g.row.FORCED) in
+    let row = c.args.row.now in
+    let top = c.args.top in
+    let f = c.args.first in
+    let s = c.args.second in
+    let k = c.loop-k.k in
+    let et = to_z-of_z w64 top c.ranges.top in
+    let ef = to_z-of_z w64 f c.ranges.first in
+    let es = to_z-of_z w64 s c.ranges.second in
+    let low = c.block_step-bits.result in
+    let metrics : (l : ℕ) → l < 8 →
+    get_or low.0 l (pos 0) ≡ metric_into forced row f s (8 * k + l) -ℤ top =
+    rw (et, ef, es) at c.block_step-bits.ensures.metrics in
+    let lower = metrics_lanes forced row top f s k low.0 c.block_step-bits.ensures.long
+    c.requires.pair c.requires.most c.requires.near metrics in
+    rw lower.0 lower.1
+
+pub greater-requires-clause-other_fit : goal.greater-requires-clause-other_fit
+greater-requires-clause-other_fit g c =
+    let forced = FORCED-type (number g.row.FORCED) in
+    let row = c.args.row.now in
+    let top = c.args.top in
+    let f = c.args.first in
+    let s = c.args.second in
+    let k = c.loop-k.k in
+    let et = to_z-of_z w64 top c.ranges.top in
+    let ef = to_z-of_z w64 f c.ranges.first in
+    let es = to_z-of_z w64 s c.ranges.second in
+    let high = c.block_step-upper_bits.result in
+    let upper_metrics : (l : ℕ) → l < 8 →
+    get_or high.0 l (pos 0) ≡ metric_into forced row f s (8 * (16 + k) + l) -ℤ top =
+    rw (et, ef, es) at c.block_step-upper_bits.ensures.metrics in
+    let upper = metrics_lanes forced row top f s (16 + k) high.0
+    c.block_step-upper_bits.ensures.long c.requires.pair c.requires.most c.requires.near
+    upper_metrics in
+    rw upper.0 upper.1
+
+pub greater-most-requires-clause-other_fit : goal.greater-most-requires-clause-other_fit
+greater-most-requires-clause-other_fit g c =
+    rw (kept c.greater.result c.greater.ensures.fit)
+    c.greater.ensures.fit
+
+pub loop-k-preserved : goal.loop-k-preserved
+loop-k-preserved g c =
+    let forced = FORCED-type (number g.row.FORCED) in
+    let row = c.args.row.now in
+    let top = c.args.top in
+    let f = c.args.first in
+    let s = c.args.second in
+    let k = c.loop-k.k in
+    let et = to_z-of_z w64 top c.ranges.top in
+    let ef = to_z-of_z w64 f c.ranges.first in
+    let es = to_z-of_z w64 s c.ranges.second in
+    let low = c.block_step-bits.result in
+    let metrics : (l : ℕ) → l < 8 →
+    get_or low.0 l (pos 0) ≡ metric_into forced row f s (8 * k + l) -ℤ top =
+    rw (et, ef, es) at c.block_step-bits.ensures.metrics in
+    let lower = metrics_lanes forced row top f s k low.0 c.block_step-bits.ensures.long
+    c.requires.pair c.requires.most c.requires.near metrics in
+    let high = c.block_step-upper_bits.result in
+    let upper_metrics : (l : ℕ) → l < 8 →
+    get_or high.0 l (pos 0) ≡ metric_into forced row f s (8 * (16 + k) + l) -ℤ top =
+    rw (et, ef, es) at c.block_step-upper_bits.ensures.metrics in
+    let upper = metrics_lanes forced row top f s (16 + k) high.0
+    c.block_step-upper_bits.ensures.long c.requires.pair c.requires.most c.requires.near
+    upper_metrics in
+    let choices : (l : ℕ) → l < 8 → bit_of low.1 l ≡ choice_into forced row f s (8 * k + l) =
+    rw (ef, es) at c.block_step-bits.ensures.choices in
+    let upper_choices : (l : ℕ) → l < 8 →
+    bit_of high.1 l ≡ choice_into forced row f s (8 * (16 + k) + l) =
+    rw (ef, es) at c.block_step-upper_bits.ensures.choices in
+    let inner = c.greater.result in
+    let next = c.greater-most.result in
+    let wings : IsGreaterOf low.0 high.0 inner = record {
+      long = c.greater.ensures.long;
+      fit = c.greater.ensures.fit;
+      one = rw lower.0 at c.greater.ensures.one;
+      other = rw upper.0 at c.greater.ensures.other;
+      least = rw (lower.0, upper.0) at c.greater.ensures.least;
+    } in
+    let same_inner = kept inner c.greater.ensures.fit in
+    let all : IsGreaterOf (map (to_z w64) c.loop-k.most) inner next = record {
+      long = c.greater-most.ensures.long;
+      fit = c.greater-most.ensures.fit;
+      one = c.greater-most.ensures.one;
+      other = rw same_inner at c.greater-most.ensures.other;
+      least = rw same_inner at c.greater-most.ensures.least;
+    } in
+    record {
+      whole = length-put_chunk (8 * (16 + k)) _ _ ∙ length-put_chunk (8 * k) c.loop-k.next _
+          ∙ c.loop-k.invariant.whole;
+      long = search rules;
+      metrics = rw (et, ef, es, lower.0, upper.0)
+          (wings_more c.loop-k.next low.0 high.0 k (λ t. metric_into forced row f s t -ℤ top)
+          c.loop-k.invariant.whole c.loop-k-test.true
+          c.block_step-bits.ensures.long c.block_step-upper_bits.ensures.long
+          (rw (et, ef, es) at c.loop-k.invariant.metrics) metrics upper_metrics);
+      chosen = rw (ef, es)
+          (choices_more c.loop-k.choices low.1 high.1 k (choice_into forced row f s)
+          c.loop-k.invariant.long c.loop-k-test.true
+          (rw (ef, es) at c.loop-k.invariant.chosen) choices upper_choices);
+      tops = rw (et, ef, es, kept next c.greater-most.ensures.fit)
+          (tops_more (λ t. metric_into forced row f s t -ℤ top) k (map (to_z w64) c.loop-k.most)
+          low.0 high.0 inner next c.loop-k-test.true
+          (rw (et, ef, es) at c.loop-k.invariant.tops) wings all metrics upper_metrics);
+    }
+
+pub returns-clause-greatest : goal.returns-clause-greatest
+returns-clause-greatest g c =
+    let forced = FORCED-type (number g.row.FORCED) in
+    let row = c.args.row.now in
+    let top = c.args.top in
+    let f = c.args.first in
+    let s = c.args.second in
+    let et = to_z-of_z w64 top c.ranges.top in
+    let ef = to_z-of_z w64 f c.ranges.first in
+    let es = to_z-of_z w64 s c.ranges.second in
+    let all : c.loop-k.k ≡ 16 = omega (arith, c.loop-k-test.false) in
+    let tops : AreTops (λ t. metric_into forced row f s t -ℤ top) 16 (map (to_z w64) c.loop-k.most)
+    = rw (et, ef, es, all) at c.loop-k.invariant.tops in
+    let metrics : (t : ℕ) → t < 256 →
+    get_or c.loop-k.next t (pos 0) ≡ metric_into forced row f s t -ℤ top =
+    λ t b. (rw (et, ef, es) at c.loop-k.invariant.metrics) t b (rw all (omega arith)) in
+    rw (to_z-of_z w64 c.greatest.result (record { sfits = c.greatest.type_inv }))
+    (row_greatest (λ t. metric_into forced row f s t -ℤ top) (map (to_z w64) c.loop-k.most)
+    c.loop-k.next c.greatest.result c.loop-k.invariant.whole tops
+    c.greatest.ensures metrics)

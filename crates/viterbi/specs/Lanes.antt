@@ -1,0 +1,39 @@
+-- What a bit adds to the score, eight states at a time.
+use Rattle.std.specs.Prelude.{ℕ, ◌+◌, ◌*◌, ◌/◌, ◌%◌, List, [], ◌∷◌, get_or}
+use Rattle.std.specs.Prelude.{ℤ, pos, ◌+ℤ◌, ◌-ℤ◌, ◌*ℤ◌, FitsSigned}
+use Rattle.std.specs.Int.{w64}
+use Rattle.chip_core.specs.Bits.{bit_of, sign}
+
+-- A code is two symbols as a number: 1 where the first is 1, plus 2 where the second is.
+
+-- what a code's two symbols add to the score
+unfoldable pub gain_by : ℤ → ℤ → ℕ → ℤ
+gain_by first second code = (first *ℤ sign (bit_of code 0)) +ℤ (second *ℤ sign (bit_of code 1))
+
+-- the codes of eight states with numbers from a multiple of eight on, of four kinds, one after
+-- another: of the symbols of the newest bit where the oldest is 0
+unfoldable pub lane_codes : List ℕ
+lane_codes =
+    0 ∷ 1 ∷ 0 ∷ 1 ∷ 1 ∷ 0 ∷ 1 ∷ 0 ∷ 1 ∷ 0 ∷ 1 ∷ 0 ∷ 0 ∷ 1 ∷ 0 ∷ 1
+    ∷ 2 ∷ 3 ∷ 2 ∷ 3 ∷ 3 ∷ 2 ∷ 3 ∷ 2 ∷ 3 ∷ 2 ∷ 3 ∷ 2 ∷ 2 ∷ 3 ∷ 2 ∷ 3 ∷ []
+
+-- the kinds of the 32 blocks of eight states
+unfoldable pub kinds : List ℕ
+kinds =
+    0 ∷ 2 ∷ 3 ∷ 1 ∷ 3 ∷ 1 ∷ 0 ∷ 2 ∷ 1 ∷ 3 ∷ 2 ∷ 0 ∷ 2 ∷ 0 ∷ 1 ∷ 3
+    ∷ 3 ∷ 1 ∷ 0 ∷ 2 ∷ 0 ∷ 2 ∷ 3 ∷ 1 ∷ 2 ∷ 0 ∷ 1 ∷ 3 ∷ 1 ∷ 3 ∷ 2 ∷ 0 ∷ []
+
+-- a state's code
+abbrev pub code_of : ℕ → ℕ
+code_of t = get_or lane_codes (8 * get_or kinds (t / 8) 0 + t % 8) 0
+
+-- three numbers of 64 bits: two and what is made of them
+abbrev pub Fit : ℤ → ℤ → ℤ → Type 0
+Fit x y made = FitsSigned w64 x × (FitsSigned w64 y × FitsSigned w64 made)
+
+-- the sum and the difference of two lanes
+abbrev pub sum_at : List ℤ → List ℤ → ℕ → ℤ
+sum_at xs ys l = get_or xs l (pos 0) +ℤ get_or ys l (pos 0)
+
+abbrev pub difference_at : List ℤ → List ℤ → ℕ → ℤ
+difference_at xs ys l = get_or xs l (pos 0) -ℤ get_or ys l (pos 0)

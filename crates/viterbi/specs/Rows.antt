@@ -1,0 +1,81 @@
+-- Rows of decisions, and the words that they lead back to.
+use Rattle.std.specs.Prelude.{ℕ, zero, suc, ◌+◌, ◌*◌, ◌/◌, ◌%◌, ◌<◌, ◌≡◌, Bool, true, false, List}
+use Rattle.std.specs.Prelude.{[], ◌∷◌, ◌++◌, length, get_or, ℤ, pos, ◌+ℤ◌, ◌≤ℤ◌, int_lt, nat_le}
+use Rattle.std.specs.Prelude.{nat_lt, if◌then◌else◌, Option, Some, None}
+use Rattle.chip_core.specs.Bits.{binary, bit_of, digit}
+use Rattle.viterbi.specs.States.{low_bits}
+use Rattle.viterbi.specs.Survivors.{gain_of}
+use Rattle.viterbi.specs.declared.word.Ends.{Ends}
+use Rattle.viterbi.specs.declared.word.Ends.TheVariants.{Zero, Free}
+use Rattle.viterbi.specs.declared.survivor.Survivor.{Survivor}
+
+-- whether a state came from the one with oldest bit 1: bit t of a row
+unfoldable pub took : List ℕ → ℕ → Bool
+took choices t = bit_of (get_or choices (t / 8) 0) (t % 8)
+
+-- the state before, by row k
+abbrev pub state_before : List (List ℕ) → ℕ → ℕ → ℕ
+state_before rows k t = 2 * (t % 128) + digit (took (get_or rows k []) t)
+
+-- the state before the first of k bits
+unfoldable pub origin : List (List ℕ) → ℕ → ℕ → ℕ
+origin rows zero t = t
+origin rows (suc k) t = origin rows k (state_before rows k t)
+
+-- the k bits that lead into a state
+unfoldable pub path : List (List ℕ) → ℕ → ℕ → List Bool
+path rows zero t = []
+path rows (suc k) t = path rows k (state_before rows k t) ++ nat_le 128 t ∷ []
+
+-- a state's metric by the state before with this oldest bit
+unfoldable pub metric_from : List ℤ → ℤ → ℤ → ℕ → ℕ → ℤ
+metric_from metrics first second t oldest =
+    get_or metrics (2 * (t % 128) + oldest) (pos 0)
+    +ℤ gain_of first second (low_bits 9 (2 * t + oldest))
+
+-- whether the state with oldest bit 1 is taken: its metric is greater, and it may be taken
+abbrev pub wants : Bool → ℤ → ℤ → Bool
+wants true even odd = false
+wants false even odd = int_lt even odd
+
+-- the metric that is taken
+abbrev pub taken_of : Bool → ℤ → ℤ → ℤ
+taken_of choice even odd = if choice then odd else even
+
+-- of both, the choice and its metric
+unfoldable pub choice_into : Bool → List ℤ → ℤ → ℤ → ℕ → Bool
+choice_into forced metrics first second t =
+    wants forced (metric_from metrics first second t 0)
+    (metric_from metrics first second t 1)
+
+unfoldable pub metric_into : Bool → List ℤ → ℤ → ℤ → ℕ → ℤ
+metric_into forced metrics first second t =
+    taken_of (choice_into forced metrics first second t) (metric_from metrics first second t 0)
+    (metric_from metrics first second t 1)
+
+-- a metric with what was taken off, and the rows so far, give the survivor of a state
+abbrev pub Agrees : List (List ℕ) → ℕ → ℕ → ℤ → Option Survivor → Type 0
+Agrees rows k t metric None = Unit {0}
+Agrees rows k t metric (Some s) =
+    (metric ≡ s.score)
+    × ((path rows k t ≡ s.word.bits) × (binary 8 s.word.start ≡ low_bits 8 (origin rows k t)))
+
+-- where the state with oldest bit 1 may not be taken it has no survivor, and else both have one
+abbrev pub Alive : Bool → Option Survivor → Option Survivor → Type 0
+Alive true one None = Unit {0}
+Alive true one (Some two) = ⊥
+Alive false None two = ⊥
+Alive false (Some one) None = ⊥
+Alive false (Some one) (Some two) = Unit {0}
+
+-- whether, after so many bits, states with oldest bit 1 may not be taken: from zeros no word leads
+-- into one
+abbrev pub forced_at : Ends → ℕ → Bool
+forced_at Zero k = nat_lt k 8
+forced_at Free k = false
+
+-- the greatest of a list's numbers: none is greater, and whatever none is greater than is at least
+-- this
+pub record IsGreatest (xs : List ℤ) (top : ℤ) : Type 0 where
+  pub most : (t : ℕ) → t < length xs → get_or xs t (pos 0) ≤ℤ top
+  pub least : (bound : ℤ) → ((t : ℕ) → t < length xs → get_or xs t (pos 0) ≤ℤ bound) → top ≤ℤ bound

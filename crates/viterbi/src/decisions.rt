@@ -1,0 +1,65 @@
+//! Rows of decisions, and the words that they lead back to.
+
+ghost use Rattle.std.specs.Prelude.{◌≡◌, ◌<◌, ◌≤◌, ◌+◌, ◌*◌, ◌%◌, ◌^◌, ℕ, length};
+ghost use Rattle.chip_core.specs.Bits.{digit};
+ghost use Rattle.viterbi.specs.Rows.{took, path, origin};
+
+use chip_core::Bits;
+
+/// A bit for each state after some bit, state `s` at bit `s % 8` of byte `s / 8`: whether the best
+/// word into it comes from the state before whose oldest bit is 1.
+pub type Decisions = [u8; 32];
+
+/// Whether a state came from the one with oldest bit 1.
+fn is_taken(decisions: &Decisions, state: u8) -> bool
+    ensures { result ≡ took decisions.now state }
+{
+    decisions[(state / 8) as usize] >> (state % 8) & 1 == 1
+}
+
+/// The state before a state.
+fn state_before(decisions: &Decisions, state: u8) -> u8
+    ensures { result ≡ 2 * (state % 128) + digit (took decisions.now state) }
+{
+    2 * (state % 128) + u8::from(is_taken(decisions, state))
+}
+
+/// The bits that the rows lead back to from a state go into `bits`; the answer is the state before
+/// them.
+fn trace_back(rows: &[Decisions], end: u8, bits: &mut [bool]) -> u8
+    requires { length bits.old ≡ length rows.now }
+    ensures start { result ≡ origin rows.now (length rows.now) end }
+    ensures bits { bits.new ≡ path rows.now (length rows.now) end }
+{
+    let mut state = end;
+    for back in 0..rows.len() {
+        let at = rows.len() - 1 - back;
+        bits[at] = state >= 128;
+        state = state_before(&rows[at], state);
+    }
+    state
+}
+
+/// A list of bits.
+fn bits_of(path: &[bool]) -> Bits
+    requires { length path.now ≤ 576 }
+    ensures { result ≡ path.now }
+{
+    let mut bits = Bits::empty();
+    for bit in path {
+        bits.append(*bit);
+    }
+    bits
+}
+
+/// The state before the bits that the rows, one for each bit, lead back to from a state, and the
+/// bits.
+pub fn traced(rows: &[Decisions], end: u8) -> (u8, Bits)
+    requires { length rows.now ≤ 576 }
+    ensures start { result.0 ≡ origin rows.now (length rows.now) end }
+    ensures bits { result.1 ≡ path rows.now (length rows.now) end }
+{
+    let mut path = [false; 576];
+    let start = trace_back(rows, end, &mut path[..rows.len()]);
+    (start, bits_of(&path[..rows.len()]))
+}

@@ -1,0 +1,288 @@
+//! One step of the search, on lanes of eight states.
+//!
+//! The states of block `k`, the eight from `8 * k` on, and those of block `16 + k` are reached from
+//! the same sixteen states, from `16 * k` on: eight butterflies of the trellis.
+
+ghost use Rattle.std.specs.Prelude.{◌≡◌, ◌<◌, ◌≤◌, ◌+◌, ◌*◌, ◌%◌, ◌^◌, ◌+ℤ◌, ◌-ℤ◌, ◌≤ℤ◌, ℕ, ℤ};
+ghost use Rattle.std.specs.Prelude.{false, length, get_or, map, pos, int_lt, unsigned_abs};
+ghost use Rattle.std.specs.Prelude.{FitsSigned};
+ghost use Rattle.std.specs.Int.{w64};
+ghost use lib.Lanes.{Each1, Each2, zip2};
+ghost use Rattle.chip_core.specs.Bits.{bit_of};
+ghost use Rattle.viterbi.specs.Lanes.{Fit, sum_at, difference_at, gain_by, lane_codes, kinds};
+ghost use Rattle.viterbi.specs.Rows.{IsGreatest, taken_of, wants, metric_into, choice_into, took};
+
+use crate::decisions::Decisions;
+use crate::metrics::greatest;
+use std::simd::prelude::*;
+
+/// The greater of each two metrics, the first on a tie, and a bit for each: whether it is the
+/// second.
+fn selected_lanes(even: i64x8, odd: i64x8) -> (i64x8, u64)
+    requires even_long { length even ≡ 8 }
+    requires odd_long { length odd ≡ 8 }
+    requires even_fit { Each1 (λ x. FitsSigned w64 x) even }
+    requires odd_fit { Each1 (λ x. FitsSigned w64 x) odd }
+    ensures metrics { result.0 ≡ zip2 (λ a b. taken_of (int_lt a b) a b) even odd }
+    ensures choices { (l : ℕ) → l < 8 → bit_of result.1 l ≡ get_or (zip2 int_lt even odd) l false }
+{
+    let less = even.simd_lt(odd);
+    (less.select(odd, even), less.to_bitmask())
+}
+
+/// Eight metrics of states with oldest bit 0 plus the gains, and eight of states with oldest bit 1
+/// minus the gains: both generators, 753 and 561 octal (TIA/EIA-95-B, 7.1.3.1.3.1), tap the oldest
+/// bit, so where it is 1 both symbols are turned.
+fn moved_lanes(a: i64x8, b: i64x8, gain: i64x8) -> (i64x8, i64x8)
+    requires even { Each2 (λ x y. Fit x y (x +ℤ y)) a gain }
+    requires odd { Each2 (λ x y. Fit x y (x -ℤ y)) b gain }
+    ensures even { result.0 ≡ zip2 (λ x y. x +ℤ y) a gain }
+    ensures odd { result.1 ≡ zip2 (λ x y. x -ℤ y) b gain }
+{
+    (a + gain, b - gain)
+}
+
+/// Lanes, each less the number.
+fn lessened(lanes: i64x8, number: i64) -> i64x8
+    requires long { length lanes ≡ 8 }
+    requires fit { Each1 (λ x. Fit x number (x -ℤ number)) lanes }
+    ensures { result ≡ map (λ x. x -ℤ number) lanes }
+{
+    lanes - i64x8::splat(number)
+}
+
+/// Eight pairs of neighbours from a place on, parted.
+fn parted(row: &[i64], at: usize) -> (i64x8, i64x8)
+    requires room { at + 16 ≤ length row.now }
+    requires fit { (t : ℕ) → t < length row.now → FitsSigned w64 (get_or row.now t (pos 0)) }
+    ensures even_long { length result.0 ≡ 8 }
+    ensures odd_long { length result.1 ≡ 8 }
+    ensures even { (l : ℕ) → l < 8 →
+        get_or result.0 l (pos 0) ≡ get_or row.now (at + 2 * l) (pos 0) }
+    ensures odd { (l : ℕ) → l < 8 →
+        get_or result.1 l (pos 0) ≡ get_or row.now (at + (2 * l + 1)) (pos 0) }
+{
+    let low = i64x8::from_slice(&row[at..]);
+    let high = i64x8::from_slice(&row[at + 8..]);
+    low.deinterleave(high)
+}
+
+/// Eight pairs of neighbours from a place on, parted, each less `top`.
+fn neighbours(row: &[i64], at: usize, top: i64) -> (i64x8, i64x8)
+    requires room { at + 16 ≤ length row.now }
+    requires fit { (t : ℕ) → t < length row.now → FitsSigned w64 (get_or row.now t (pos 0)) }
+    requires less { (t : ℕ) → t < length row.now →
+        FitsSigned w64 (get_or row.now t (pos 0) -ℤ top) }
+    ensures even_long { length result.0 ≡ 8 }
+    ensures odd_long { length result.1 ≡ 8 }
+    ensures even { (l : ℕ) → l < 8 →
+        get_or result.0 l (pos 0) ≡ get_or row.now (at + 2 * l) (pos 0) -ℤ top }
+    ensures odd { (l : ℕ) → l < 8 →
+        get_or result.1 l (pos 0) ≡ get_or row.now (at + (2 * l + 1)) (pos 0) -ℤ top }
+{
+    let (even, odd) = parted(row, at);
+    (lessened(even, top), lessened(odd, top))
+}
+
+/// One bit further for eight states, from the metrics `a` and `b` of the states before them with
+/// oldest bit 0 and 1, and what the bit adds where that is 0: their metrics, and a bit for each,
+/// whether it is reached from the one with oldest bit 1. Where `FORCED`, none is.
+fn selected_block<const FORCED: bool>(a: i64x8, b: i64x8, gain: i64x8) -> (i64x8, u64)
+    requires a_long { length a ≡ 8 }
+    requires b_long { length b ≡ 8 }
+    requires gain_long { length gain ≡ 8 }
+    requires even { Each2 (λ x y. Fit x y (x +ℤ y)) a gain }
+    requires odd { Each2 (λ x y. Fit x y (x -ℤ y)) b gain }
+    ensures long { length result.0 ≡ 8 }
+    ensures metrics { (l : ℕ) → l < 8 → get_or result.0 l (pos 0) ≡
+        taken_of (wants FORCED (sum_at a gain l) (difference_at b gain l))
+        (sum_at a gain l) (difference_at b gain l) }
+    ensures choices { (l : ℕ) → l < 8 →
+        bit_of result.1 l ≡ wants FORCED (sum_at a gain l) (difference_at b gain l) }
+{
+    let (even, odd) = moved_lanes(a, b, gain);
+    if FORCED {
+        (even, 0)
+    } else {
+        selected_lanes(even, odd)
+    }
+}
+
+/// Of which of four kinds the gains of each block are.
+const KINDS: [u8; 32] = [
+    0, 2, 3, 1, 3, 1, 0, 2, 1, 3, 2, 0, 2, 0, 1, 3, 3, 1, 0, 2, 0, 2, 3, 1, 2, 0, 1, 3, 1, 3, 2, 0,
+];
+
+/// What two symbols add to the score, both 0, only the first 1, only the second 1, both 1.
+fn gains(first: i64, second: i64) -> [i64; 4]
+    requires { unsigned_abs first + unsigned_abs second ≤ 2 ^ 62 }
+    ensures { (c : ℕ) → c < 4 → get_or result c (pos 0) ≡ gain_by first second c }
+{
+    [
+        first + second,
+        second - first,
+        first - second,
+        -first - second,
+    ]
+}
+
+/// What a bit adds where the oldest bit is 0, for the eight states of a block of each kind.
+fn lane_gains(first: i64, second: i64) -> [i64; 32]
+    requires { unsigned_abs first + unsigned_abs second ≤ 2 ^ 62 }
+    ensures { (j : ℕ) → j < 32 →
+        get_or result j (pos 0) ≡ gain_by first second (get_or lane_codes j 0) }
+{
+    let [a, b, c, d] = gains(first, second);
+    [
+        a, b, a, b, b, a, b, a, b, a, b, a, a, b, a, b, c, d, c, d, d, c, d, c, d, c, d, c, c, d,
+        c, d,
+    ]
+}
+
+/// The kind of a block's gains.
+fn kind_of(block: usize) -> usize
+    requires { block < 32 }
+    ensures value { result ≡ get_or kinds block 0 }
+    ensures small { result < 4 }
+{
+    KINDS[block] as usize
+}
+
+/// What a bit adds where the oldest bit is 0, for the eight states of a block.
+fn gains_of(gains: &[i64; 32], block: usize) -> i64x8
+    requires block { block < 32 }
+    requires fit { (j : ℕ) → j < 32 → FitsSigned w64 (get_or gains.now j (pos 0)) }
+    ensures long { length result ≡ 8 }
+    ensures lanes { (l : ℕ) → l < 8 →
+        get_or result l (pos 0) ≡ get_or gains.now (8 * get_or kinds block 0 + l) (pos 0) }
+{
+    let kind = kind_of(block);
+    i64x8::from_slice(&gains[8 * kind..])
+}
+
+/// The eight states of a block, one bit further, with `top` taken off every metric: their metrics,
+/// and a bit for each, whether it is reached from the one with oldest bit 1.
+fn block_step<const FORCED: bool>(
+    row: &[i64],
+    top: i64,
+    first: i64,
+    second: i64,
+    gains: &[i64; 32],
+    block: usize,
+) -> (i64x8, u64)
+    requires whole { length row.now ≡ 256 }
+    requires block { block < 32 }
+    requires pair { unsigned_abs first + unsigned_abs second ≤ 2 ^ 62 }
+    requires fit { (t : ℕ) → t < 256 → FitsSigned w64 (get_or row.now t (pos 0)) }
+    requires most { (t : ℕ) → t < 256 → get_or row.now t (pos 0) ≤ℤ top }
+    requires near { (t : ℕ) → t < 256 →
+        unsigned_abs (top -ℤ get_or row.now t (pos 0))
+        + (unsigned_abs first + unsigned_abs second) ≤ 2 ^ 63 }
+    requires gains { (j : ℕ) → j < 32 →
+        get_or gains.now j (pos 0) ≡ gain_by first second (get_or lane_codes j 0) }
+    ensures long { length result.0 ≡ 8 }
+    ensures metrics { (l : ℕ) → l < 8 →
+        get_or result.0 l (pos 0)
+        ≡ metric_into FORCED row.now first second (8 * block + l) -ℤ top }
+    ensures choices { (l : ℕ) → l < 8 →
+        bit_of result.1 l ≡ choice_into FORCED row.now first second (8 * block + l) }
+{
+    let (a, b) = neighbours(row, 16 * (block % 16), top);
+    selected_block::<FORCED>(a, b, gains_of(gains, block))
+}
+
+/// The greater of each two lanes.
+fn greater(one: i64x8, other: i64x8) -> i64x8
+    requires one_long { length one ≡ 8 }
+    requires other_long { length other ≡ 8 }
+    requires one_fit { Each1 (λ x. FitsSigned w64 x) one }
+    requires other_fit { Each1 (λ x. FitsSigned w64 x) other }
+    ensures long { length result ≡ 8 }
+    ensures fit { Each1 (λ x. FitsSigned w64 x) result }
+    ensures one { (l : ℕ) → l < 8 → get_or one l (pos 0) ≤ℤ get_or result l (pos 0) }
+    ensures other { (l : ℕ) → l < 8 → get_or other l (pos 0) ≤ℤ get_or result l (pos 0) }
+    ensures least { (bound : ℤ) (l : ℕ) → l < 8 → get_or one l (pos 0) ≤ℤ bound →
+        get_or other l (pos 0) ≤ℤ bound → get_or result l (pos 0) ≤ℤ bound }
+{
+    let (lanes, _) = selected_lanes(one, other);
+    lanes
+}
+
+/// All states, one bit further, by the soft values of its two symbols, with `top`, the greatest
+/// metric, taken off every metric; the answer is the greatest of the new ones. Where `FORCED`, each
+/// state is reached from the one with oldest bit 0.
+fn step_all<const FORCED: bool>(
+    row: &[i64],
+    top: i64,
+    first: i64,
+    second: i64,
+    next: &mut [i64],
+    choices: &mut Decisions,
+) -> i64
+    requires whole { length row.now ≡ 256 }
+    requires whole_next { length next.old ≡ 256 }
+    requires pair { unsigned_abs first + unsigned_abs second ≤ 2 ^ 62 }
+    requires fit { (t : ℕ) → t < 256 → FitsSigned w64 (get_or row.now t (pos 0)) }
+    requires most { (t : ℕ) → t < 256 → get_or row.now t (pos 0) ≤ℤ top }
+    requires near { (t : ℕ) → t < 256 →
+        unsigned_abs (top -ℤ get_or row.now t (pos 0))
+        + (unsigned_abs first + unsigned_abs second) ≤ 2 ^ 63 }
+    ensures whole { length next.new ≡ 256 }
+    ensures metrics { (t : ℕ) → t < 256 →
+        get_or next.new t (pos 0) ≡ metric_into FORCED row.now first second t -ℤ top }
+    ensures choices { (t : ℕ) → t < 256 →
+        took choices.new t ≡ choice_into FORCED row.now first second t }
+    ensures greatest { IsGreatest next.new result }
+{
+    let gains = lane_gains(first, second);
+    let mut most = i64x8::splat(i64::MIN);
+    for k in 0..16usize {
+        let (metrics, bits) = block_step::<FORCED>(row, top, first, second, &gains, k);
+        let (upper_metrics, upper_bits) = block_step::<FORCED>(
+            row,
+            top,
+            first,
+            second,
+            &gains,
+            16 + k,
+        );
+        most = greater(most, greater(metrics, upper_metrics));
+        metrics.copy_to_slice(&mut next[8 * k..]);
+        upper_metrics.copy_to_slice(&mut next[8 * (16 + k)..]);
+        choices[k] = (bits % 256) as u8;
+        choices[16 + k] = (upper_bits % 256) as u8;
+    }
+    greatest(&most.to_array())
+}
+
+/// All states, one bit further, as by `step_all`.
+pub fn step(
+    row: &[i64],
+    top: i64,
+    first: i64,
+    second: i64,
+    forced: bool,
+    next: &mut [i64],
+    choices: &mut Decisions,
+) -> i64
+    requires whole { length row.now ≡ 256 }
+    requires whole_next { length next.old ≡ 256 }
+    requires pair { unsigned_abs first + unsigned_abs second ≤ 2 ^ 62 }
+    requires fit { (t : ℕ) → t < 256 → FitsSigned w64 (get_or row.now t (pos 0)) }
+    requires most { (t : ℕ) → t < 256 → get_or row.now t (pos 0) ≤ℤ top }
+    requires near { (t : ℕ) → t < 256 →
+        unsigned_abs (top -ℤ get_or row.now t (pos 0))
+        + (unsigned_abs first + unsigned_abs second) ≤ 2 ^ 63 }
+    ensures whole { length next.new ≡ 256 }
+    ensures metrics { (t : ℕ) → t < 256 →
+        get_or next.new t (pos 0) ≡ metric_into forced row.now first second t -ℤ top }
+    ensures choices { (t : ℕ) → t < 256 →
+        took choices.new t ≡ choice_into forced row.now first second t }
+    ensures greatest { IsGreatest next.new result }
+{
+    if forced {
+        step_all::<true>(row, top, first, second, next, choices)
+    } else {
+        step_all::<false>(row, top, first, second, next, choices)
+    }
+}

@@ -1,0 +1,70 @@
+//! Rows of metrics. A state's metric is the score of the best word into it, less what was taken off
+//! all metrics.
+
+ghost use Rattle.std.specs.Prelude.{◌≡◌, ◌<◌, ◌≤◌, ℕ, length, get_or, pos, ◌≤ℤ◌, ◌<ℤ◌};
+ghost use Rattle.chip_core.specs.Sums.{IsFirstGreatest};
+ghost use Rattle.viterbi.specs.Rows.{IsGreatest, forced_at};
+ghost use Rattle.viterbi.specs.Survivors.{end_count};
+
+use crate::word::Ends;
+
+/// Whether the next bit, behind so many, may come only from states with oldest bit 0: no word from
+/// zeros leads into another.
+pub fn is_forced(ends: Ends, bit: usize) -> bool
+    ensures { result ≡ forced_at ends bit }
+{
+    match ends {
+        Ends::Zero => bit < 8,
+        Ends::Free => false,
+    }
+}
+
+/// The metrics before the first bit.
+pub fn clear(row: &mut [i64])
+    ensures long { length row.new ≡ length row.old }
+    ensures zeros { (t : ℕ) → t < length row.old → get_or row.new t (pos 0) ≡ pos 0 }
+{
+    for metric in row.iter_mut() {
+        *metric = 0;
+    }
+}
+
+/// In how many states, from the first on, a word may end.
+pub fn end_states(ends: Ends) -> usize
+    ensures { result ≡ end_count ends }
+{
+    match ends {
+        Ends::Zero => 1,
+        Ends::Free => 256,
+    }
+}
+
+/// Of so many states, from the first on, the one of the greatest metric, the first of several.
+pub fn best_state(metrics: &[i64], count: usize) -> u8
+    requires whole { length metrics.now ≡ 256 }
+    requires some { 1 ≤ count }
+    requires most { count ≤ 256 }
+    ensures { IsFirstGreatest (λ t. get_or metrics.now t (pos 0)) count result }
+{
+    let mut best = 0usize;
+    for state in 0..count {
+        if metrics[best] < metrics[state] {
+            best = state;
+        }
+    }
+    best as u8
+}
+
+/// The greatest of the metrics.
+pub fn greatest(metrics: &[i64]) -> i64
+    requires { 1 ≤ length metrics.now }
+    ensures { IsGreatest metrics.now result }
+{
+    let mut most = metrics[0];
+    for metric in metrics {
+        if most < *metric {
+            most = *metric;
+        }
+    }
+    most
+}
