@@ -1,5 +1,6 @@
 -- A span of one frame.
-use Rattle.std.proofs.Common.{◌≡◌, ℕ, ◌*◌, Bool, List, ◌++◌, length, take, drop, ap, ◌∙◌, arith, take_all}
+use Rattle.std.proofs.Common.{◌≡◌, ℕ, ◌*◌, Bool, List, ◌++◌, length, take, drop, ap, ◌∙◌, arith}
+use Rattle.std.proofs.Common.{take_all}
 use Rattle.conv_code.specs.ConvCode.{code_symbols}
 use Rattle.conv_code.proofs.Continued.{length-code_symbols}
 use Rattle.symbol_path.specs.SentOrder.{sent}
@@ -10,7 +11,8 @@ use Rattle.frame_decoder.specs.Laws.{frame_score, IsOneFrame}
 use Rattle.frame_decoder.proofs.Parts.{frames-none, frames-more}
 use Rattle.frame_decoder.proofs.BestWords.{length-best_word, best_word-same}
 
-sent_one : (c : Channel) (symbols : List Bool) → length symbols ≡ 2 * c.bits → sent_frames (sending c 1) symbols ≡ sent c.shape c.repeats symbols
+sent_one : (c : Channel) (symbols : List Bool) → length symbols ≡ 2 * c.bits →
+    sent_frames (sending c 1) symbols ≡ sent c.shape c.repeats symbols
 sent_one c symbols long =
     let f = λ (k : ℕ). sent c.shape c.repeats (take (2 * c.bits) (drop (2 * c.bits * k) symbols)) in
     let none : 2 * c.bits * 0 ≡ 0 = omega arith in
@@ -24,10 +26,15 @@ one_frame c softs =
     let none : c.bits * 0 ≡ 0 = omega arith in
     let one : c.bits * 1 ≡ c.bits = omega arith in
     let best = best_word (frame_score c softs) Free c.bits in
-    let same : best_word (score softs (sending c 1)) Free c.bits ≡ best =
+    let span : ℕ → Word = λ n. best_word (score softs (sending c 1)) Free n in
+    let twice : (w : Word) → length w.bits ≡ c.bits →
+    length (code_symbols w.start w.bits) ≡ 2 * c.bits = λ w long.
+    length-code_symbols w.start w.bits ∙ ap (λ (k : ℕ). 2 * k) long in
+    let same : span c.bits ≡ best =
     best_word-same (score softs (sending c 1)) (frame_score c softs) c.bits
-    (λ w long. ap (correlation softs) (sent_one c (code_symbols w.start w.bits) (length-code_symbols w.start w.bits ∙ ap (λ (k : ℕ). 2 * k) long))) in
-    ap (λ (n : ℕ). take c.bits (drop n (best_word (score softs (sending c 1)) Free (c.bits * 1)).bits)) none
-    ∙ ap (λ (n : ℕ). take c.bits (best_word (score softs (sending c 1)) Free n).bits) one
+    (λ w long. ap (correlation softs) (sent_one c (code_symbols w.start w.bits) (twice w long))) in
+    let long = length-best_word (frame_score c softs) c.bits in
+    ap (λ (n : ℕ). take c.bits (drop n (span (c.bits * 1)).bits)) none
+    ∙ ap (λ (n : ℕ). take c.bits (span n).bits) one
     ∙ ap (λ (w : Word). take c.bits w.bits) same
-    ∙ take_all c.bits best.bits (let long = length-best_word (frame_score c softs) c.bits in omega (arith, long))
+    ∙ take_all c.bits best.bits (omega (arith, long))

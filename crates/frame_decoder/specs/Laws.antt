@@ -12,4 +12,6 @@ frame_score c softs w = correlation softs (sent c.shape c.repeats (code_symbols 
 
 -- the own bits of a span of one frame are the frame's best word
 abbrev pub IsOneFrame : Type 0
-IsOneFrame = (c : Channel) (softs : List ℤ) → own_bits c 1 0 softs ≡ (best_word (frame_score c softs) Free c.bits).bits
+IsOneFrame =
+    (c : Channel) (softs : List ℤ) →
+    own_bits c 1 0 softs ≡ (best_word (frame_score c softs) Free c.bits).bits

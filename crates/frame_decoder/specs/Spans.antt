@@ -1,12 +1,16 @@
--- The best word of a span of frames, and the bits of one of its frames (TIA/EIA-95-B, 7.1.3.1 and 7.7.1.2).
+-- The best word of a span of frames, and the bits of one of its frames (TIA/EIA-95-B, 7.1.3.1 and
+-- 7.7.1.2).
 use Rattle.std.specs.Prelude.{ℕ, ◌*◌, ◌/◌, Bool, List, take, drop, ℤ}
 use Rattle.std.specs.List.{flat_map}
 use Rattle.chip_core.specs.Bits.{places}
 use Rattle.conv_code.specs.ConvCode.{code_symbols}
-use Rattle.symbol_path.specs.SentOrder.{Shape, sync_shape, data_shape, shape_of, size, sent, gathered, repeats_of}
+use Rattle.symbol_path.specs.SentOrder.{Shape, sync_shape, data_shape, shape_of, size, sent}
+use Rattle.symbol_path.specs.SentOrder.{gathered, repeats_of}
 use Rattle.symbol_path.specs.declared.kinds.Rate.{Rate}
 use Rattle.viterbi.specs.Words.{Word, correlation, best_word}
 use Rattle.viterbi.specs.declared.word.Ends.TheVariants.{Free}
+use Rattle.frame_decoder.specs.declared.layout.FrameKind.{FrameKind}
+use Rattle.frame_decoder.specs.declared.layout.FrameKind.TheVariants.{Sync, Paging}
 use Rattle.frame_decoder.specs.declared.layout.Layout.{Layout}
 
 -- how a channel's frames are sent: the order, the bits, and how often each code symbol is sent
@@ -18,9 +22,16 @@ pub record Channel : Type 0 where
 abbrev pub sync_channel : Channel
 sync_channel = record { shape = sync_shape; bits = 32; repeats = 2 }
 
--- at 9,600 bits a second 192 bits a frame, each code symbol sent once, and at 4,800 half as many, twice
+-- at 9,600 bits a second 192 bits a frame, each code symbol sent once, and at 4,800 half as many,
+-- twice
 abbrev pub paging_channel : Rate → Channel
-paging_channel rate = record { shape = data_shape; bits = 192 / repeats_of rate; repeats = repeats_of rate }
+paging_channel rate =
+    record { shape = data_shape; bits = 192 / repeats_of rate; repeats = repeats_of rate }
+
+-- the channel of each kind of frames
+abbrev pub channel_for : FrameKind → Channel
+channel_for Sync = sync_channel
+channel_for (Paging rate) = paging_channel rate
 
 abbrev pub channel_of : Layout → Channel
 channel_of l = record { shape = shape_of l.kind; bits = l.bits; repeats = l.repeats }
@@ -33,11 +44,14 @@ pub record Sending : Type 0 where
   pub code_symbols : ℕ
 
 abbrev pub sending : Channel → ℕ → Sending
-sending c frames = record { frames = frames; shape = c.shape; repeats = c.repeats; code_symbols = 2 * c.bits }
+sending c frames =
+    record { frames = frames; shape = c.shape; repeats = c.repeats; code_symbols = 2 * c.bits }
 
 -- symbols parted frame by frame, and put into the sent order in each
 abbrev pub sent_frames : Sending → List Bool → List Bool
-sent_frames s symbols = flat_map (λ k. sent s.shape s.repeats (take s.code_symbols (drop (s.code_symbols * k) symbols))) (places s.frames)
+sent_frames s symbols =
+    flat_map (λ k. sent s.shape s.repeats (take s.code_symbols (drop (s.code_symbols * k) symbols)))
+    (places s.frames)
 
 -- a word's symbols as they are sent
 abbrev pub sent_symbols : Sending → Word → List Bool
@@ -50,8 +64,11 @@ score softs s w = correlation softs (sent_symbols s w)
 -- the bits of frame number `own` of a span of frames, whose soft values follow one another
 abbrev pub own_bits : Channel → ℕ → ℕ → List ℤ → List Bool
 own_bits c frames own softs =
-    take c.bits (drop (c.bits * own) (best_word (score softs (sending c frames)) Free (c.bits * frames)).bits)
+    let best = best_word (score softs (sending c frames)) Free (c.bits * frames) in
+    take c.bits (drop (c.bits * own) best.bits)
 
 -- for each code symbol of each frame the sum of the soft values that are sent for it
 abbrev pub gathered_span : Channel → ℕ → List ℤ → List ℤ
-gathered_span c frames softs = flat_map (λ k. gathered c.shape c.repeats (take (size c.shape) (drop (size c.shape * k) softs))) (places frames)
+gathered_span c frames softs =
+    flat_map (λ k. gathered c.shape c.repeats (take (size c.shape) (drop (size c.shape * k) softs)))
+    (places frames)

@@ -16,7 +16,9 @@ small : Channel
 small = record { shape = record { width = 1; columns = 2 }; bits = 2; repeats = 1 }
 
 -- the symbols of each frame are put into order by themselves
-two_frames : sent_frames (sending small 2) (false ∷ true ∷ false ∷ false ∷ true ∷ true ∷ false ∷ false ∷ []) ≡ false ∷ false ∷ true ∷ false ∷ true ∷ false ∷ true ∷ false ∷ []
+two_frames : sent_frames (sending small 2)
+    (false ∷ true ∷ false ∷ false ∷ true ∷ true ∷ false ∷ false ∷ [])
+    ≡ false ∷ false ∷ true ∷ false ∷ true ∷ false ∷ true ∷ false ∷ []
 unfolding small sent places binary
 two_frames = refl
 
@@ -24,6 +26,8 @@ two_frames = refl
 small_twice : Channel
 small_twice = record { shape = record { width = 1; columns = 2 }; bits = 1; repeats = 2 }
 
-two_gathered : gathered_span small_twice 2 (pos 1 ∷ pos 2 ∷ pos 3 ∷ pos 4 ∷ pos 5 ∷ pos 6 ∷ pos 7 ∷ pos 8 ∷ []) ≡ pos 4 ∷ pos 6 ∷ pos 12 ∷ pos 14 ∷ []
+two_gathered : gathered_span small_twice 2
+    (pos 1 ∷ pos 2 ∷ pos 3 ∷ pos 4 ∷ pos 5 ∷ pos 6 ∷ pos 7 ∷ pos 8 ∷ [])
+    ≡ pos 4 ∷ pos 6 ∷ pos 12 ∷ pos 14 ∷ []
 unfolding small_twice gathered places binary
 two_gathered = refl

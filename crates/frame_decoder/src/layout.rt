@@ -1,9 +1,44 @@
 //! How frames of a channel are sent.
 
-ghost use Rattle.std.specs.Prelude.{◌≡◌, ◌*◌, ◌≤◌};
-ghost use Rattle.symbol_path.specs.SentOrder.{shape_of, size};
+use chip_core::air::{DATA_SYMBOLS, SYNC_SYMBOLS};
+use symbol_path::{Kind, Rate};
 
-use symbol_path::Kind;
+/// The frames of a channel, by how they are sent (TIA/EIA-95-B, 7.1.3.1).
+#[derive(Clone, Copy, PartialEq, Eq, Debug)]
+pub enum FrameKind {
+    /// Frames of the sync channel: 32 bits, each code symbol sent twice, 128 symbols.
+    Sync,
+    /// Frames of a paging channel at a rate: 384 symbols; at 9,600 bits a second 192 bits, each
+    /// code symbol sent once, and at 4,800 half as many, twice.
+    Paging(Rate),
+}
+
+impl FrameKind {
+    ghost use Rattle.std.specs.Prelude.{◌≡◌, ◌*◌, ◌≤◌};
+    ghost use Rattle.symbol_path.specs.SentOrder.{shape_of, size};
+    ghost use Rattle.frame_decoder.specs.Spans.{channel_of, channel_for};
+
+    /// How a frame's bits are sent.
+    pub(crate) fn layout(self) -> Layout
+        ensures value { channel_of result ≡ channel_for self }
+        ensures sent { 2 * result.bits * result.repeats ≡ size (shape_of result.kind) }
+        ensures least { 8 ≤ result.bits }
+        ensures most { result.bits ≤ 192 }
+    {
+        match self {
+            FrameKind::Sync => Layout {
+                kind: Kind::Sync,
+                bits: 32,
+                repeats: 2,
+            },
+            FrameKind::Paging(rate) => Layout {
+                kind: Kind::Data,
+                bits: rate.frame_bits(),
+                repeats: rate.repeats(),
+            },
+        }
+    }
+}
 
 /// How a frame's bits are sent, two code symbols a bit.
 #[derive(Clone, Copy)]
@@ -17,14 +52,17 @@ pub(crate) struct Layout {
 }
 
 impl Layout {
+    ghost use Rattle.std.specs.Prelude.{◌≡◌, ◌*◌, ◌≤◌};
+    ghost use Rattle.symbol_path.specs.SentOrder.{shape_of, size};
+
     /// How many symbols a frame sends.
     pub(crate) fn symbols(self) -> usize
         ensures value { result ≡ size (shape_of self.kind) }
         ensures most { result ≤ 384 }
     {
         match self.kind {
-            Kind::Sync => 128,
-            Kind::Data => 384,
+            Kind::Sync => SYNC_SYMBOLS,
+            Kind::Data => DATA_SYMBOLS,
         }
     }
 

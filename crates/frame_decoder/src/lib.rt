@@ -1,15 +1,17 @@
 //! From the soft values of frames to their bits.
 //!
-//! The encoders of the sync channel and of a paging channel go on from frame to frame, and no frame of theirs has a tail
-//! (TIA/EIA-95-B, 7.7.1.2 and 7.1.3.1.3). So the bits near a frame's edges are told by the frames beside it too, and a
-//! frame is decoded as a part of a span: one, two or three frames that follow one another, as one word of the code.
+//! The encoders of the sync channel and of a paging channel go on from frame to frame, and no frame
+//! of theirs has a tail (TIA/EIA-95-B, 7.7.1.2 and 7.1.3.1.3). So the bits near a frame's edges are
+//! told by the frames beside it too, and a frame is decoded as a part of a span: one, two or three
+//! frames that follow one another, as one word of the code.
 #![tactic(auto)]
 
 pub mod laws;
 mod layout;
 mod span;
 
-pub use span::{paging_span, sync_span};
+pub use layout::FrameKind;
+pub use span::{paging_span, span_bits, sync_span};
 
 #[cfg(test)]
 mod tests;

@@ -1,20 +1,24 @@
 //! The best word of a span of frames.
 
-ghost use Rattle.std.specs.Prelude.{◌≡◌, ◌<◌, ◌≤◌, ◌*◌, ◌/◌, ◌%◌, ◌^◌, length, sum_by, unsigned_abs};
+ghost use Rattle.std.specs.Prelude.{◌≡◌, ◌<◌, ◌≤◌, ◌*◌, ◌/◌, ◌%◌, ◌^◌, length, sum_by};
+ghost use Rattle.std.specs.Prelude.{unsigned_abs};
 ghost use Rattle.symbol_path.specs.SentOrder.{shape_of, size, repeats_of};
 ghost use Rattle.viterbi.specs.Best.{IsBestWord, spelled};
 ghost use Rattle.viterbi.specs.declared.word.Ends.TheVariants.{Free};
-ghost use Rattle.frame_decoder.specs.Spans.{sync_channel, paging_channel, channel_of, gathered_span, own_bits};
+ghost use Rattle.frame_decoder.specs.Spans.{sync_channel, paging_channel, channel_of, channel_for};
+ghost use Rattle.frame_decoder.specs.Spans.{gathered_span, own_bits};
 
-use crate::layout::Layout;
+use crate::layout::{FrameKind, Layout};
 use chip_core::Bits;
-use symbol_path::{Kind, Rate, gather_into};
+use chip_core::air::{DATA_SYMBOLS, SYNC_SYMBOLS};
+use symbol_path::{Rate, gather_into};
 use viterbi::{Decoder, Ends, Word};
 
 /// The most code symbols that a span has: three frames of 192 bits, two a bit.
-const MOST_SYMBOLS: usize = 1152;
+const MOST_SYMBOLS: usize = 3 * DATA_SYMBOLS;
 
-/// For each code symbol of each frame, one frame after another, the sum of the soft values that were sent for it.
+/// For each code symbol of each frame, one frame after another, the sum of the soft values that
+/// were sent for it.
 fn gather_span(layout: Layout, frames: u8, softs: &[i64], out: &mut [i64])
     requires sent { 2 * layout.bits * layout.repeats ≡ size (shape_of layout.kind) }
     requires most { layout.bits ≤ 192 }
@@ -38,7 +42,8 @@ fn gather_span(layout: Layout, frames: u8, softs: &[i64], out: &mut [i64])
     }
 }
 
-/// The best of all words, with any start and any end, for soft values in the order of the code symbols.
+/// The best of all words, with any start and any end, for soft values in the order of the code
+/// symbols.
 fn best_word(decoder: &mut Decoder, softs: &[i64]) -> Word
     requires even { length softs.now % 2 ≡ 0 }
     requires least { 16 ≤ length softs.now }
@@ -77,15 +82,34 @@ fn bits_of(decoder: &mut Decoder, layout: Layout, frames: u8, softs: &[i64], own
     word.bits.part(layout.bits * u16::from(own), layout.bits)
 }
 
-/// The 32 bits of frame `own`, counted from 0, of a span of one to three sync frames.
+/// The bits of frame `own`, counted from 0, of a span of one to three frames of a kind.
 ///
-/// `softs` has 128 soft values a frame, in the sent order, one frame after another; a soft value is positive where its
-/// symbol is more likely a 0. The bits are those of the span's best word: of all words of 32 bits a frame, with any start
-/// and any end, the one whose sent symbols agree best with the soft values of all frames together, and the first in the
-/// decoder's order where several do.
+/// `softs` has the soft values of so many frames in the sent order, one frame after another, turned
+/// by the scrambling where there is one; a soft value is positive where its symbol is more likely a
+/// 0. The bits are those of the span's best word: of all words of so many bits a frame, with any
+/// start and any end, the one whose sent symbols agree best with the soft values of all frames
+/// together, and the first in the decoder's order where several do.
 ///
-/// TIA/EIA-95-B, 7.7.1.2: a sync frame has 32 bits; 7.1.3.1: they are encoded, each code symbol is sent twice, and
-/// the symbols of each frame are interleaved by themselves.
+/// TIA/EIA-95-B, 7.1.3.1: the bits are encoded from frame to frame, each code symbol is sent so
+/// often, and the symbols of each frame are interleaved by themselves.
+pub fn span_bits(decoder: &mut Decoder, kind: FrameKind, frames: u8, softs: &[i64], own: u8) -> Bits
+    requires frames { frames ≤ 3 }
+    requires own { own < frames }
+    requires softs { length softs.now ≡ size (channel_for kind).shape * frames }
+    requires room { (channel_for kind).bits * frames ≤ decoder.old }
+    requires bound { sum_by unsigned_abs softs.now ≤ 2 ^ 62 }
+    ensures value { result ≡ own_bits (channel_for kind) frames own softs.now }
+    ensures count { length result ≡ (channel_for kind).bits }
+    ensures kept { decoder.new ≡ decoder.old }
+{
+    bits_of(decoder, kind.layout(), frames, softs, own)
+}
+
+/// The 32 bits of frame `own`, counted from 0, of a span of one to three sync frames: `span_bits`
+/// of as many as `softs` has, 128 soft values a frame.
+///
+/// TIA/EIA-95-B, 7.7.1.2: a sync frame has 32 bits; 7.1.3.1: they are encoded, each code symbol is
+/// sent twice, and the symbols of each frame are interleaved by themselves.
 pub fn sync_span(decoder: &mut Decoder, softs: &[i64], own: u8) -> Bits
     requires whole { length softs.now % 128 ≡ 0 }
     requires most { length softs.now ≤ 384 }
@@ -96,25 +120,16 @@ pub fn sync_span(decoder: &mut Decoder, softs: &[i64], own: u8) -> Bits
     ensures count { length result ≡ 32 }
     ensures kept { decoder.new ≡ decoder.old }
 {
-    let layout = Layout {
-        kind: Kind::Sync,
-        bits: 32,
-        repeats: 2,
-    };
-    let frames = (softs.len() / 128) as u8;
-    bits_of(decoder, layout, frames, softs, own)
+    let frames = (softs.len() / SYNC_SYMBOLS) as u8;
+    span_bits(decoder, FrameKind::Sync, frames, softs, own)
 }
 
-/// The bits of frame `own`, counted from 0, of a span of one to three frames of a paging channel: 192 bits at 9,600
-/// bits a second, and 96 at 4,800.
+/// The bits of frame `own`, counted from 0, of a span of one to three frames of a paging channel,
+/// 192 bits at 9,600 bits a second and 96 at 4,800: `span_bits` of as many as `softs` has, 384 soft
+/// values a frame.
 ///
-/// `softs` has 384 soft values a frame, in the sent order and turned by the scrambling, one frame after another; a soft
-/// value is positive where its code symbol is more likely a 0. The bits are those of the span's best word: of all words
-/// of so many bits a frame, with any start and any end, the one whose sent symbols agree best with the soft values of all
-/// frames together, and the first in the decoder's order where several do.
-///
-/// TIA/EIA-95-B, 7.1.3.1: the bits are encoded, each code symbol is sent once at 9,600 and twice at 4,800, and the
-/// symbols of each frame are interleaved by themselves.
+/// TIA/EIA-95-B, 7.1.3.1: the bits are encoded, each code symbol is sent once at 9,600 and twice at
+/// 4,800, and the symbols of each frame are interleaved by themselves.
 pub fn paging_span(decoder: &mut Decoder, rate: Rate, softs: &[i64], own: u8) -> Bits
     requires whole { length softs.now % 384 ≡ 0 }
     requires most { length softs.now ≤ 1152 }
@@ -125,11 +140,6 @@ pub fn paging_span(decoder: &mut Decoder, rate: Rate, softs: &[i64], own: u8) ->
     ensures count { length result ≡ (paging_channel rate).bits }
     ensures kept { decoder.new ≡ decoder.old }
 {
-    let layout = Layout {
-        kind: Kind::Data,
-        bits: rate.frame_bits(),
-        repeats: rate.repeats(),
-    };
-    let frames = (softs.len() / 384) as u8;
-    bits_of(decoder, layout, frames, softs, own)
+    let frames = (softs.len() / DATA_SYMBOLS) as u8;
+    span_bits(decoder, FrameKind::Paging(rate), frames, softs, own)
 }

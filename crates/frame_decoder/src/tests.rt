@@ -1,6 +1,7 @@
 //! Spans of frames that were encoded and sent come back, frame by frame.
 
-ghost use Rattle.std.specs.Prelude.{◌≡◌, ◌≤◌, ◌*◌, ◌^◌, ◌↔◌, IsTrue, All, length, sum_by, unsigned_abs};
+ghost use Rattle.std.specs.Prelude.{◌≡◌, ◌≤◌, ◌*◌, ◌^◌, ◌↔◌, IsTrue, All, length, sum_by};
+ghost use Rattle.std.specs.Prelude.{unsigned_abs};
 
 use crate::{paging_span, sync_span};
 use chip_core::Bits;

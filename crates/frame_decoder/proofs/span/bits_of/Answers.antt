@@ -1,6 +1,7 @@
 use Rattle.std.proofs.Common.{◌≡◌, ◌*◌, ℕ, length, take, drop, ap, ◌∙◌, arith}
 use Rattle.std.proofs.lemmas.List.{length-take-le, length-drop}
 use Rattle.viterbi.specs.Best.{IsBestWord, spelled}
+use Rattle.viterbi.specs.Words.{Word}
 use Rattle.viterbi.specs.declared.word.Ends.TheVariants.{Free}
 use Rattle.frame_decoder.specs.Spans.{channel_of, gathered_span}
 use Rattle.frame_decoder.proofs.Gathered.{length-gathered_span}
@@ -10,31 +11,47 @@ use Rattle.frame_decoder.proofs.span.bits_of.Goals as goal
 pub best_word-word-requires-clause-most : goal.best_word-word-requires-clause-most
 best_word-word-requires-clause-most c =
     let l = c.args.layout in
-    let long : length c.gather_span.new.out ≡ 2 * l.bits * c.args.frames =
-    ap length c.gather_span.ensures.value ∙ length-gathered_span l.kind l.bits l.repeats c.args.frames c.args.softs.now c.requires.sent in
+    let n = c.args.frames in
+    let long : length c.gather_span.new.out ≡ 2 * l.bits * n =
+    ap length c.gather_span.ensures.value
+    ∙ length-gathered_span l.kind l.bits l.repeats n c.args.softs.now c.requires.sent in
     let room = c.requires.room in
     omega (arith, long, room)
 
 pub part-requires : goal.part-requires
 part-requires c =
     let l = c.args.layout in
-    let best : IsBestWord (gathered_span (channel_of l) c.args.frames c.args.softs.now) Free (spelled c.best_word-word.result) = rw c.gather_span.ensures.value at c.best_word-word.ensures.best in
-    rw c.from-2.ensures (own_within l.kind l.bits l.repeats c.args.frames c.args.own c.args.softs.now (spelled c.best_word-word.result) c.requires.sent c.requires.own best)
+    let softs = c.args.softs.now in
+    let word : Word = spelled c.best_word-word.result in
+    let best : IsBestWord (gathered_span (channel_of l) c.args.frames softs) Free word =
+    rw c.gather_span.ensures.value at c.best_word-word.ensures.best in
+    rw c.from-2.ensures
+    (own_within l.kind l.bits l.repeats c.args.frames c.args.own softs word c.requires.sent
+    c.requires.own best)
 
 pub returns-clause-value : goal.returns-clause-value
 returns-clause-value c =
     let l = c.args.layout in
-    let best : IsBestWord (gathered_span (channel_of l) c.args.frames c.args.softs.now) Free (spelled c.best_word-word.result) = rw c.gather_span.ensures.value at c.best_word-word.ensures.best in
+    let softs = c.args.softs.now in
+    let word : Word = spelled c.best_word-word.result in
+    let best : IsBestWord (gathered_span (channel_of l) c.args.frames softs) Free word =
+    rw c.gather_span.ensures.value at c.best_word-word.ensures.best in
     c.part.ensures
-    ∙ ap (λ (k : ℕ). take l.bits (drop (l.bits * k) c.best_word-word.result.bits)) c.from-2.ensures
-    ∙ own_is l.kind l.bits l.repeats c.args.frames c.args.own c.args.softs.now (spelled c.best_word-word.result) c.requires.least c.requires.sent c.requires.softs c.requires.own best
+    ∙ ap (λ (k : ℕ). take l.bits (drop (l.bits * k) word.bits)) c.from-2.ensures
+    ∙ own_is l.kind l.bits l.repeats c.args.frames c.args.own softs word c.requires.least
+    c.requires.sent c.requires.softs c.requires.own best
 
 pub returns-clause-count : goal.returns-clause-count
 returns-clause-count c =
     let l = c.args.layout in
-    let best : IsBestWord (gathered_span (channel_of l) c.args.frames c.args.softs.now) Free (spelled c.best_word-word.result) = rw c.gather_span.ensures.value at c.best_word-word.ensures.best in
-    let room = own_within l.kind l.bits l.repeats c.args.frames c.args.own c.args.softs.now (spelled c.best_word-word.result) c.requires.sent c.requires.own best in
-    let word = c.best_word-word.result.bits in
-    let rest = length-drop (l.bits * c.from-2.result) word in
-    let place : l.bits * c.from-2.result ≡ l.bits * c.args.own = ap (λ (k : ℕ). l.bits * k) c.from-2.ensures in
-    ap length c.part.ensures ∙ length-take-le l.bits (drop (l.bits * c.from-2.result) word) (omega (arith, room, rest, place))
+    let softs = c.args.softs.now in
+    let word : Word = spelled c.best_word-word.result in
+    let best : IsBestWord (gathered_span (channel_of l) c.args.frames softs) Free word =
+    rw c.gather_span.ensures.value at c.best_word-word.ensures.best in
+    let room = own_within l.kind l.bits l.repeats c.args.frames c.args.own softs word
+    c.requires.sent c.requires.own best in
+    let from : ℕ = l.bits * c.from-2.result in
+    let rest = length-drop from word.bits in
+    let place : from ≡ l.bits * c.args.own = ap (λ (k : ℕ). l.bits * k) c.from-2.ensures in
+    ap length c.part.ensures
+    ∙ length-take-le l.bits (drop from word.bits) (omega (arith, room, rest, place))
