@@ -1,0 +1,17 @@
+use Rattle.std.proofs.Common.{◌≡◌, length, ◌∙◌, arith}
+use Rattle.std.proofs.lemmas.Bool.{leb-true, le-leb}
+use Rattle.paging_message.specs.HalfFrames.{bits_left}
+use Rattle.paging_message.proofs.Layings.{left_is, same_left}
+use Rattle.paging_message.proofs.layout.Layout.fits.Goals as goal
+
+pub returns : goal.returns
+returns c l bits laid =
+    let size = c.args.self.now.size in
+    let lawful = c.left.ensures.lawful in
+    let left : c.left.result ≡ bits_left size (length l.body) =
+    c.left.ensures.value
+    ∙ left_is c.args.self.now l bits (omega (arith, lawful.least)) lawful.within laid
+    ∙ same_left size (length l.body) in (
+      λ told. omega (arith, left, leb-true 8 c.left.result told),
+      λ room. le-leb 8 c.left.result (omega (arith, left, room)),
+    )

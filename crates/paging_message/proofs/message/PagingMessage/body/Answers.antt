@@ -1,0 +1,6 @@
+use Rattle.std.proofs.Common.{sym, ap, ◌∙◌}
+use Rattle.paging_message.specs.Messages.{message_body}
+use Rattle.paging_message.proofs.message.PagingMessage.body.Goals as goal
+
+pub returns-in-System-clause-value : goal.returns-in-System-clause-value
+returns-in-System-clause-value c = c.body.ensures.value ∙ ap message_body (sym c.in-System.is)

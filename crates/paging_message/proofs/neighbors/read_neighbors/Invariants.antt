@@ -1,0 +1,12 @@
+use Rattle.std.proofs.Common.{◌≡◌, ◌++◌, length}
+use Rattle.chip_core.specs.Fields.{spelled, FieldsFit}
+use Rattle.paging_message.specs.Neighbors.{neighbor_records}
+use Rattle.paging_message.proofs.neighbors.read_neighbors.Given as goal
+
+abbrev pub invariant-loop-record : goal.invariant-loop-record
+invariant-loop-record l = record {
+  spelled : l.fn.reader ≡ spelled (neighbor_records l.configs l.pns) ++ l.reader;
+  fit : FieldsFit (neighbor_records l.configs l.pns);
+  configs : length l.configs ≡ l._record;
+  pns : length l.pns ≡ l._record;
+}

@@ -1,0 +1,12 @@
+use Rattle.std.proofs.Common.{◌≡◌, ◌++◌, take, length}
+use Rattle.chip_core.specs.Fields.{spelled, FieldsFit}
+use Rattle.paging_message.specs.Widths.{in_widths, system_widths}
+use Rattle.paging_message.proofs.system.read_values.Given as goal
+
+abbrev pub invariant-loop-i : goal.invariant-loop-i
+invariant-loop-i l = record {
+  spelled : l.fn.reader ≡ spelled (in_widths (take l.i system_widths) (take l.i l.values))
+      ++ l.reader;
+  fit : FieldsFit (in_widths (take l.i system_widths) (take l.i l.values));
+  long : length l.values ≡ 37;
+}

@@ -1,0 +1,90 @@
+-- Half-frames of the paging channel (TIA/EIA-95-B, 7.7.2.1): the SCI bit, 1 where a capsule begins
+-- right behind it, and 95 bits of body at 9600 bits per second, or 47 at 4800.
+use Rattle.std.specs.Prelude.{◌≡◌, ℕ, zero, suc, ◌+◌, ◌-◌, ◌*◌, ◌/◌, ◌%◌, ◌==◌, if◌then◌else◌, ◌&&◌, Bool, List, [], ◌∷◌, length, map, take, drop, Option, Some, None, nat_le}
+use Rattle.std.specs.List.{flat_map}
+use Rattle.std.specs.Option.{option_to_list}
+use Rattle.chip_core.specs.Bits.{places}
+use Rattle.symbol_path.specs.declared.kinds.Rate.{Rate}
+use Rattle.symbol_path.specs.declared.kinds.Rate.TheVariants.{R9600, R4800, R2400, R1200}
+use Rattle.quality_bits.specs.Capsules.{stated_bits, is_stated, still_open}
+use Rattle.quality_bits.specs.Pieces.{Piece, piece, bodies, from_last_start}
+
+-- the rates of a paging channel
+abbrev pub IsPagingRate : Rate → Type 0
+IsPagingRate R9600 = Unit {0}
+IsPagingRate R4800 = Unit {0}
+IsPagingRate R2400 = ⊥
+IsPagingRate R1200 = ⊥
+
+-- the body bits of a half-frame
+abbrev pub half_frame_body : Rate → ℕ
+half_frame_body R9600 = 95
+half_frame_body R4800 = 47
+half_frame_body R2400 = 23
+half_frame_body R1200 = 11
+
+-- how many body bits of its half-frame are left behind so many body bits since a start
+unfoldable pub bits_left : ℕ → ℕ → ℕ
+bits_left size count = (size - count % size) % size
+
+-- The capsule that ends with the last of the bits, where capsules follow one another from the
+-- start: behind a capsule another one follows where 8 bits of its last half-frame are left. `count`
+-- is the number of bits before, and the fuel is a number of capsules.
+unfoldable pub ends_chain : ℕ → ℕ → ℕ → List Bool → Option (List Bool)
+ends_chain zero size count bits = None
+ends_chain (suc fuel) size count bits =
+    let behind = count + stated_bits bits in
+    let rest = drop (stated_bits bits) bits in
+    if is_stated bits && nat_le (stated_bits bits) (length bits)
+    then (if nat_le (length bits) (stated_bits bits) then Some bits
+    else (if nat_le 8 (bits_left size behind) then ends_chain fuel size behind rest else None))
+    else None
+
+-- the half-frames of a stream of bits; the last may be cut short
+unfoldable pub half_frames : ℕ → List Bool → List Piece
+half_frames size bits =
+    map (λ h. piece (take (size + 1) (drop ((size + 1) * h) bits)))
+    (places ((length bits + size) / (size + 1)))
+
+-- the capsule that ends with the last bit of the stream; none ends with an SCI bit
+unfoldable pub half_frame_capsule_ending : ℕ → List Bool → Option (List Bool)
+half_frame_capsule_ending size bits =
+    let message = bodies (from_last_start (half_frames size bits)) in
+    if length bits % (size + 1) == 1 then None else ends_chain (length message) size 0 message
+
+-- the capsules that end in a stream of bits, in order
+unfoldable pub capsules_in : ℕ → List Bool → List (List Bool)
+capsules_in size bits =
+    flat_map (λ i. option_to_list (half_frame_capsule_ending size (take (i + 1) bits)))
+    (places (length bits))
+
+-- The bits of the capsule that is under way behind these, where more bits may complete it: no bits
+-- yet behind a capsule that another one may follow.
+unfoldable pub open_chain : ℕ → ℕ → ℕ → List Bool → Option (List Bool)
+open_chain zero size count bits = None
+open_chain (suc fuel) size count bits =
+    let behind = count + stated_bits bits in
+    let rest = drop (stated_bits bits) bits in
+    if is_stated bits && nat_le (stated_bits bits) (length bits)
+    then (if nat_le 8 (bits_left size behind) then open_chain fuel size behind rest else None)
+    else still_open bits
+
+abbrev pub opened : ℕ → List Piece → Option (List Bool)
+opened size [] = None
+opened size (p ∷ pieces) =
+    open_chain (suc (length (bodies (p ∷ pieces)))) size 0 (bodies (p ∷ pieces))
+
+unfoldable pub half_under_way : ℕ → List Bool → Option (List Bool)
+half_under_way size bits = opened size (from_last_start (half_frames size bits))
+
+-- a framer: its half-frames' body bits, how many bits of its half-frame it took, and the bits of
+-- its open capsule
+pub record Framing : Type 0 where
+  pub size : ℕ
+  pub place : ℕ
+  pub open_bits : Option (List Bool)
+
+-- a framer that took these bits
+pub record StandsFor (framer : Framing) (bits : List Bool) : Type 0 where
+  pub placed : framer.place ≡ length bits % (framer.size + 1)
+  pub under_way : framer.open_bits ≡ half_under_way framer.size bits

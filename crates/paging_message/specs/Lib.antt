@@ -1,0 +1,13 @@
+pub mod Admitted
+pub mod Channels
+pub mod Faults
+pub mod HalfFrames
+pub mod Laying
+pub mod Messages
+pub mod Neighbors
+pub mod Others
+pub mod Reading
+pub mod Spelling
+pub mod System
+pub mod Widths
+mod Worked

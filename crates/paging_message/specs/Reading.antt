@@ -1,0 +1,99 @@
+-- The message that a body or a capsule spells, as a function of its bits: each field is the number
+-- that stands at its place.
+use Rattle.std.specs.Prelude.{ℕ, zero, suc, ◌+◌, ◌-◌, ◌*◌, ◌/◌, ◌%◌, ◌==◌, ◌&&◌, if◌then◌else◌, Bool, true, false, List, [], ◌∷◌, length, take, drop, nat_le, Option, Some, None, Result, Ok, Err}
+use Rattle.chip_core.specs.Bits.{number, xor}
+use Rattle.chip_core.specs.declared.check_form.CheckForm.{CheckForm}
+use Rattle.paging_message.specs.Admitted.{admits}
+use Rattle.paging_message.specs.Messages.{paging_capsule}
+use Rattle.paging_message.specs.System.{system_of}
+use Rattle.paging_message.specs.Widths.{system_widths}
+use Rattle.paging_message.specs.declared.fault.MessageFault.{MessageFault}
+use Rattle.paging_message.specs.declared.fields.ChannelFields.{ChannelFields}
+use Rattle.paging_message.specs.declared.fields.NeighborFields.{NeighborFields}
+use Rattle.paging_message.specs.declared.message.PagingMessage.{PagingMessage}
+use Rattle.paging_message.specs.declared.message.PagingMessage.TheVariants as messages
+
+-- the number of the first so many bits behind a place
+abbrev pub number_at : ℕ → ℕ → List Bool → ℕ
+number_at place width bits = number (take width (drop place bits))
+
+-- the numbers of fields of these widths, one behind another
+abbrev pub values_at : List ℕ → List Bool → List ℕ
+values_at [] bits = []
+values_at (width ∷ widths) bits = number_at 0 width bits ∷ values_at widths (drop width bits)
+
+-- the first so many frequencies
+abbrev pub freqs_at : ℕ → List Bool → List ℕ
+freqs_at zero bits = []
+freqs_at (suc n) bits = number_at 0 11 bits ∷ freqs_at n (drop 11 bits)
+
+-- the configurations and the offsets of the first so many neighbors
+abbrev pub configs_at : ℕ → List Bool → List ℕ
+configs_at zero bits = []
+configs_at (suc n) bits = number_at 0 3 bits ∷ configs_at n (drop 12 bits)
+
+abbrev pub pns_at : ℕ → List Bool → List ℕ
+pns_at zero bits = []
+pns_at (suc n) bits = number_at 3 9 bits ∷ pns_at n (drop 12 bits)
+
+-- as many neighbors as fit behind the fields before them
+unfoldable pub neighbors_at : List Bool → NeighborFields
+neighbors_at bits =
+    let n = (length bits - 19) / 12 in
+    record {
+      pn = number_at 0 9 bits;
+      seq = number_at 9 6 bits;
+      inc = number_at 15 4 bits;
+      configs = configs_at n (drop 19 bits);
+      pns = pns_at n (drop 19 bits);
+      rest = drop (19 + 12 * n) bits;
+    }
+
+unfoldable pub channels_at : List Bool → ChannelFields
+channels_at bits =
+    let n = (length bits - 15) / 11 in
+    record {
+      pn = number_at 0 9 bits;
+      seq = number_at 9 6 bits;
+      freqs = freqs_at n (drop 15 bits);
+      rest = drop (15 + 11 * n) bits;
+    }
+
+-- what stands behind a message type
+unfoldable pub message_at : ℕ → List Bool → PagingMessage
+message_at kind bits =
+    if kind == 1 then messages.System (system_of (values_at system_widths bits) (drop 214 bits))
+    else (if kind == 3 then messages.Neighbors (neighbors_at bits)
+    else (if kind == 4 then messages.Channels (channels_at bits)
+    else messages.Other (record { kind = kind; bits = bits })))
+
+-- whether the length is that of a capsule's body, and the message type admits it
+unfoldable pub is_body : List Bool → Bool
+is_body body =
+    length body % 8 == 2 && (nat_le (length body) 1146 && admits (number_at 0 8 body) (length body))
+
+-- the message whose body the list is
+unfoldable pub body_reading : List Bool → Option PagingMessage
+body_reading body = if is_body body then Some
+    (message_at (number_at 0 8 body) (drop 8 body)) else None
+
+-- whether two lists are the same
+abbrev pub are_same : List Bool → List Bool → Bool
+are_same [] [] = true
+are_same [] (y ∷ ys) = false
+are_same (x ∷ xs) [] = false
+are_same (x ∷ xs) (y ∷ ys) = if xor x y then false else are_same xs ys
+
+abbrev pub if_spelled : CheckForm → List Bool → Option PagingMessage → Option PagingMessage
+if_spelled form capsule None = None
+if_spelled form capsule (Some m) = if are_same (paging_capsule form m) capsule then Some m else None
+
+-- the message whose capsule the list is
+unfoldable pub paging_reading : CheckForm → List Bool → Option PagingMessage
+paging_reading form capsule =
+    if_spelled form capsule (body_reading (take (length capsule - 38) (drop 8 capsule)))
+
+-- what a reading that may fail gives
+abbrev pub reading_of : Result PagingMessage MessageFault → Option PagingMessage
+reading_of (Ok m) = Some m
+reading_of (Err fault) = None

@@ -1,0 +1,27 @@
+-- Numbers in fields of given widths.
+use Rattle.std.specs.Prelude.{ℕ, List, [], ◌∷◌, codes}
+use Rattle.chip_core.specs.Fields.{field}
+use Rattle.chip_core.specs.declared.field.Field.{Field}
+
+-- each number in a field of its width, as long as the shorter list
+abbrev pub in_widths : List ℕ → List ℕ → List Field
+in_widths [] values = []
+in_widths (width ∷ widths) [] = []
+in_widths (width ∷ widths) (value ∷ values) = field width value ∷ in_widths widths values
+
+-- the widths of the fields of the System Parameters Message, in their order
+abbrev pub system_widths : List ℕ
+system_widths =
+    9 ∷ 6 ∷ 15 ∷ 16 ∷ 12 ∷ 3 ∷ 3 ∷ 1 ∷ 1 ∷ 16 ∷ 4 ∷ 3 ∷ 3 ∷ 1 ∷ 1 ∷ 1 ∷ 1 ∷ 1 ∷ 1 ∷ 7 ∷ 22 ∷ 23
+    ∷ 11 ∷ 4 ∷ 4 ∷ 4 ∷ 4 ∷ 5 ∷ 4 ∷ 1 ∷ 1 ∷ 5 ∷ 1 ∷ 6 ∷ 6 ∷ 4 ∷ 4 ∷ []
+
+-- their names
+abbrev pub system_names : List (List ℕ)
+system_names =
+    codes "pn" ∷ codes "seq" ∷ codes "sid" ∷ codes "nid" ∷ codes "zone" ∷ codes "zones"
+    ∷ codes "ztimer" ∷ codes "msids" ∷ codes "mnids" ∷ codes "base" ∷ codes "bclass"
+    ∷ codes "pages" ∷ codes "cycle" ∷ codes "home" ∷ codes "fsid" ∷ codes "fnid" ∷ codes "up"
+    ∷ codes "down" ∷ codes "param" ∷ codes "prd" ∷ codes "lat" ∷ codes "long" ∷ codes "dist"
+    ∷ codes "wina" ∷ codes "winn" ∷ codes "winr" ∷ codes "age" ∷ codes "pthresh"
+    ∷ codes "pframes" ∷ codes "pthen" ∷ codes "pperen" ∷ codes "pdelay" ∷ codes "rescan"
+    ∷ codes "tadd" ∷ codes "tdrop" ∷ codes "tcomp" ∷ codes "ttdrop" ∷ []

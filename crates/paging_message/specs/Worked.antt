@@ -1,0 +1,98 @@
+-- Worked values.
+use Rattle.std.specs.Prelude.{◌≡◌, refl, ◌+◌, ◌*◌, ◌-◌, Bool, true, false, List, [], ◌∷◌, ◌++◌, replicate, length, take, map, Some, None}
+use Rattle.chip_core.specs.Bits.{number, binary, places}
+use Rattle.chip_core.specs.declared.check_form.CheckForm.TheVariants.{Plain}
+use Rattle.quality_bits.specs.Capsules.{capsule, is_stated}
+use Rattle.quality_bits.specs.declared.kind.Kind.TheVariants.{M30}
+use Rattle.quality_bits.specs.Quality.{check_bits}
+use Rattle.paging_message.specs.Channels.{channel_body}
+use Rattle.paging_message.specs.HalfFrames.{bits_left, ends_chain, half_frames, half_frame_capsule_ending}
+use Rattle.paging_message.specs.Laying.{Laid, laid_on, nothing_laid, half_frames_of, framed, fill}
+use Rattle.paging_message.specs.Messages.{paging_capsule}
+use Rattle.paging_message.specs.Admitted.{admits}
+use Rattle.paging_message.specs.Reading.{body_reading, channels_at, is_body, message_at, paging_reading}
+use Rattle.paging_message.specs.Spelling.{body_of_fields}
+use Rattle.paging_message.specs.declared.fields.ChannelFields.{ChannelFields}
+use Rattle.paging_message.specs.declared.message.PagingMessage.TheVariants.{Channels, Other}
+
+-- a CDMA Channel List: `34:04ff8046c0`, nine octets as a capsule
+one_channel : ChannelFields
+one_channel = record { pn = 511; seq = 0; freqs = 283 ∷ []; rest = [] }
+
+channel_spelled : channel_body one_channel ++ replicate 6 false ≡ binary 40 0x04ff8046c0
+unfolding one_channel body_of_fields binary
+channel_spelled = refl
+
+channel_octets : (length (paging_capsule Plain (Channels one_channel)) ≡ 72) ×
+    (number (take 8 (paging_capsule Plain (Channels one_channel))) ≡ 9)
+unfolding one_channel paging_capsule body_of_fields capsule check_bits binary places
+channel_octets = (refl, refl)
+
+-- what is read is what was spelled
+channel_read :
+    paging_reading Plain (paging_capsule Plain (Channels one_channel)) ≡ Some (Channels one_channel)
+unfolding one_channel paging_reading body_reading is_body admits message_at channels_at
+    paging_capsule body_of_fields capsule check_bits binary places
+channel_read = refl
+
+-- the longest message of type 9
+longest : length (paging_capsule Plain (Other (record { kind = 9; bits = replicate 1138 false })))
+    ≡ 1184
+unfolding paging_capsule body_of_fields capsule check_bits binary places
+longest = refl
+
+-- A capsule of 94 octets fills eight half-frames but for 8 bits, and another one of 6 octets
+-- follows it.
+first : List Bool
+unfolding capsule check_bits binary places
+first = capsule M30 Plain (binary 8 9 ++ replicate 706 false)
+
+second : List Bool
+unfolding capsule check_bits binary places
+second = capsule M30 Plain (binary 8 9 ++ replicate 2 true)
+
+both : Laid
+unfolding first second laid_on fill
+both = laid_on 95 (laid_on 95 nothing_laid false first) true second
+
+stream : List Bool
+unfolding both half_frames_of framed fill places
+stream = half_frames_of 95 both
+
+stream_length : length stream ≡ 9 * 96
+unfolding stream both first second laid_on half_frames_of framed fill capsule check_bits binary
+    places
+stream_length = refl
+
+first_heard : half_frame_capsule_ending 95 (take (8 * 96 - 8) stream) ≡ Some first
+unfolding stream both first second laid_on half_frames_of framed fill capsule check_bits binary
+    places half_frame_capsule_ending half_frames ends_chain bits_left is_stated
+first_heard = refl
+
+second_heard : half_frame_capsule_ending 95 (take (8 * 96 + 1 + 40) stream) ≡ Some second
+unfolding stream both first second laid_on half_frames_of framed fill capsule check_bits binary
+    places half_frame_capsule_ending half_frames ends_chain bits_left is_stated
+second_heard = refl
+
+nothing_earlier : half_frame_capsule_ending 95 (take (8 * 96 + 40) stream) ≡ None
+unfolding stream both first second laid_on half_frames_of framed fill capsule check_bits binary
+    places half_frame_capsule_ending half_frames ends_chain bits_left is_stated
+nothing_earlier = refl
+
+-- 8 body bits of the eighth half-frame are left behind the first, and 7 of the first one behind a
+-- capsule of 11 octets
+left : (bits_left 95 (length first) ≡ 8) × (bits_left 95 88 ≡ 7)
+unfolding first bits_left capsule check_bits binary places
+left = (refl, refl)
+
+-- a length of 4 or of 149 octets opens no capsule
+shut : map (λ octets. half_frame_capsule_ending 47
+    (true ∷ (binary 8 octets ++ replicate 24 false))) (4 ∷ 149 ∷ []) ≡ None ∷ None ∷ []
+unfolding binary places half_frame_capsule_ending half_frames ends_chain bits_left is_stated
+shut = refl
+
+-- a capsule of 5 octets is carried
+shortest : half_frame_capsule_ending 47 (true ∷ (binary 8 5 ++ replicate 32 false))
+    ≡ Some (binary 8 5 ++ replicate 32 false)
+unfolding binary places half_frame_capsule_ending half_frames ends_chain bits_left is_stated
+shortest = refl

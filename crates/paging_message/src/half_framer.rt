@@ -1,0 +1,107 @@
+//! Capsules out of half-frames.
+
+ghost use Rattle.std.specs.Prelude.{◌≡◌, ◌≤◌, Bool, List, [], ◌∷◌, ◌++◌, Some, cond, nat_le, if◌then◌else◌};
+ghost use Rattle.paging_message.specs.HalfFrames.{half_frame_body, half_frame_capsule_ending, IsPagingRate, StandsFor};
+
+use chip_core::Bits;
+use quality_bits::OpenCapsule;
+use std::marker::Model;
+use symbol_path::Rate;
+
+/// Cuts capsules out of the half-frames of a paging channel, bit by bit.
+///
+/// TIA/EIA-95-B, 7.7.2.1: a half-frame has an SCI bit and 95 bits of body at 9600 bits per second,
+/// or 47 at 4800. SCI 1 says that a capsule begins right behind it, and drops one that isn't
+/// complete. Behind a capsule another one begins at once where at least 8 body bits of its
+/// half-frame are left. Contracts see the half-frame's width, the bits of it that were taken and
+/// the bits of the open capsule, and say for which bits the framer stands.
+#[derive(Clone, Copy, PartialEq, Eq, Debug)]
+pub struct HalfFramer {
+    size: u16,
+    place: u16,
+    capsule: OpenCapsule,
+}
+
+impl Model for HalfFramer {
+    ghost use Rattle.std.specs.Prelude.{◌≤◌};
+    ghost use Rattle.paging_message.specs.HalfFrames.{Framing};
+
+    ghost Value = { Framing };
+
+    ghost view = { λ f. record { size = f.size; place = f.place; open_bits = f.capsule } };
+
+    ghost invariant = { λ f. (f.place ≤ f.size) × (8 ≤ f.size) × (f.size ≤ 95) };
+
+    ghost inverse = { λ v. record { size = v.size; place = v.place; capsule = v.open_bits } };
+}
+
+impl HalfFramer {
+    /// A framer that took no bits, for half-frames of 9600 or 4800 bits per second.
+    pub fn new(rate: Rate) -> HalfFramer
+        requires { IsPagingRate rate }
+        ensures size { result.size ≡ half_frame_body rate }
+        ensures stands { StandsFor result [] }
+    {
+        HalfFramer {
+            size: body_bits(rate),
+            place: 0,
+            capsule: OpenCapsule::closed(),
+        }
+    }
+
+    /// Takes the next bit of the half-frames, and gives the capsule that ends with it: whatever
+    /// bits the framer stood for, it stands for those and this one behind them, and the capsule is
+    /// the one that they end with.
+    pub fn push(&mut self, bit: bool) -> Option<Bits>
+        ensures size { self.new.size ≡ self.old.size }
+        ensures stands { (bits : List Bool) → StandsFor self.old bits →
+            StandsFor self.new (bits ++ bit ∷ []) }
+        ensures capsule { (bits : List Bool) →
+            StandsFor self.old bits →
+            result ≡ half_frame_capsule_ending self.old.size (bits ++ bit ∷ []) }
+    {
+        if self.place == 0 {
+            self.place = 1;
+            self.capsule = from_mark(bit, self.capsule);
+            return None;
+        }
+        let left = self.size - self.place;
+        self.place = if left == 0 { 0 } else { self.place + 1 };
+        let whole = self.capsule.push(bit);
+        self.capsule = behind(whole.is_some(), left, self.capsule);
+        whole
+    }
+}
+
+/// How many body bits a half-frame of this rate has.
+pub(crate) fn body_bits(rate: Rate) -> u16
+    requires { IsPagingRate rate }
+    ensures value { result ≡ half_frame_body rate }
+    ensures least { 47 ≤ result }
+    ensures most { result ≤ 95 }
+{
+    match rate {
+        Rate::R9600 => 95,
+        _ => 47,
+    }
+}
+
+/// The capsule that the bits behind an SCI bit go to: a new one where it is 1, else the one that is
+/// open.
+fn from_mark(sci: bool, capsule: OpenCapsule) -> OpenCapsule
+    ensures { result ≡ cond sci (Some []) capsule }
+{
+    if sci { OpenCapsule::new() } else { capsule }
+}
+
+/// The capsule that is open behind a body bit: a new one where a capsule ended and so many bits of
+/// the half-frame are left.
+fn behind(ended: bool, left: u16, capsule: OpenCapsule) -> OpenCapsule
+    ensures { result ≡ (if ended then (if nat_le 8 left then Some [] else capsule) else capsule) }
+{
+    if ended && left >= 8 {
+        OpenCapsule::new()
+    } else {
+        capsule
+    }
+}
