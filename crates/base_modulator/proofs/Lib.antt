@@ -4,9 +4,15 @@ pub mod ScriptLaws
 pub mod ScriptMessages
 pub mod ScriptNumerals
 pub mod ScriptSplits
+pub mod ScriptTables
 pub mod ScriptTexts
 pub mod SentMessages
 pub mod SentFrames
+pub mod SyncFrames
 pub mod Amplitudes
+pub mod Blocks
+pub mod Levels
 pub mod MachineInts
+pub mod LaidPages
+pub mod PageCycles
 pub mod Pieces

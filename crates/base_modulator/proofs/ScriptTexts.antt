@@ -1,5 +1,7 @@
 -- Lemmas on the texts of values in a script: what each step of a loop over a text reads.
-use Rattle.std.proofs.Common.{◌≡◌, ◌≢◌, ℕ, suc, ◌+◌, ◌*◌, ◌-◌, ◌^◌, ◌<◌, ◌≤◌, ◌==◌, Bool, true, false, List, [], ◌∷◌, ◌++◌, length, get_or, drop, refl, sym, ap, ◌∙◌, arith, append_assoc, length-append, None, Some}
+use Rattle.std.proofs.Common.{◌≡◌, ◌≢◌, ℕ, suc, ◌+◌, ◌*◌, ◌-◌, ◌^◌, ◌<◌, ◌≤◌, ◌==◌, Bool, true}
+use Rattle.std.proofs.Common.{false, List, [], ◌∷◌, ◌++◌, length, get_or, drop, refl, sym, ap, ◌∙◌}
+use Rattle.std.proofs.Common.{arith, append_assoc, length-append, None, Some}
 use Rattle.std.specs.Prelude.{flat_map, option_and_then}
 use Rattle.std.specs.Char.{is_ascii_digit}
 use Rattle.std.proofs.lemmas.Bool.{cond-true, cond-false, eq-eqb, eqb-true}
@@ -7,7 +9,8 @@ use Rattle.std.proofs.lemmas.List.{at_drop_more, drop_all}
 use Rattle.std.proofs.Math.Nat.{pow-le-pow_right, pow-suc}
 use Rattle.chip_core.specs.Bits.{binary}
 use Rattle.chip_core.proofs.FieldLists.{length-binary}
-use Rattle.base_modulator.specs.ScriptValues.{all_clear, digits_from, hex_digit, hex_from, length_before}
+use Rattle.base_modulator.specs.ScriptValues.{all_clear, hex_digit, hex_from}
+use Rattle.base_modulator.specs.ScriptValues.{length_before}
 
 -- ---- before a mark
 
@@ -15,7 +18,8 @@ before-mark : (mark byte : ℕ) (bytes : List ℕ) → byte ≡ mark → length_
 unfolding length_before
 before-mark mark byte bytes is = cond-true _ _ _ (eq-eqb byte mark is)
 
-before-other : (mark byte : ℕ) (bytes : List ℕ) → byte ≢ mark → length_before mark (byte ∷ bytes) ≡ suc (length_before mark bytes)
+before-other : (mark byte : ℕ) (bytes : List ℕ) → byte ≢ mark →
+    length_before mark (byte ∷ bytes) ≡ suc (length_before mark bytes)
 unfolding length_before
 before-other mark byte bytes other = cond-false _ _ _ (differs (byte == mark) refl)
   where
@@ -31,13 +35,24 @@ before-none mark = refl
 pub mark_found : (mark : ℕ) (text : List ℕ) (k : ℕ) → k < length text → get_or text k 0 ≡ mark →
     length_before mark text ≡ k + length_before mark (drop k text) → k ≡ length_before mark text
 mark_found mark text k inside is before =
-    omega (arith, before, at_drop_more (length_before mark) text k 0 inside, before-mark mark (get_or text k 0) (drop (k + 1) text) is)
+    omega (
+      arith,
+      before,
+      at_drop_more (length_before mark) text k 0 inside,
+      before-mark mark (get_or text k 0) (drop (k + 1) text) is,
+    )
 
 -- another byte is passed
 pub mark_later : (mark : ℕ) (text : List ℕ) (k : ℕ) → k < length text → get_or text k 0 ≢ mark →
-    length_before mark text ≡ k + length_before mark (drop k text) → length_before mark text ≡ k + 1 + length_before mark (drop (k + 1) text)
+    length_before mark text ≡ k + length_before mark (drop k text) →
+    length_before mark text ≡ k + 1 + length_before mark (drop (k + 1) text)
 mark_later mark text k inside other before =
-    omega (arith, before, at_drop_more (length_before mark) text k 0 inside, before-other mark (get_or text k 0) (drop (k + 1) text) other)
+    omega (
+      arith,
+      before,
+      at_drop_more (length_before mark) text k 0 inside,
+      before-other mark (get_or text k 0) (drop (k + 1) text) other,
+    )
 
 -- there is none
 pub mark_missing : (mark : ℕ) (text : List ℕ) (k : ℕ) → length text ≤ k →
@@ -45,66 +60,26 @@ pub mark_missing : (mark : ℕ) (text : List ℕ) (k : ℕ) → length text ≤ 
 mark_missing mark text k past before =
     omega (arith, before, ap (length_before mark) (drop_all k text past), before-none mark)
 
--- ---- decimal numbers
-
-digits_from-digit : (number digit : ℕ) (digits : List ℕ) → is_ascii_digit digit ≡ true → digits_from number (digit ∷ digits) ≡ digits_from (10 * number + (digit - 48)) digits
-unfolding digits_from
-digits_from-digit number digit digits is = cond-true _ _ _ is
-
-digits_from-other : (number digit : ℕ) (digits : List ℕ) → is_ascii_digit digit ≡ false → digits_from number (digit ∷ digits) ≡ None
-unfolding digits_from
-digits_from-other number digit digits is = cond-false _ _ _ is
-
-digits_from-none : (number : ℕ) → digits_from number [] ≡ Some number
-unfolding digits_from
-digits_from-none number = refl
-
--- one more digit is read
-pub digit_read : (text : List ℕ) (number k next : ℕ) → k < length text → is_ascii_digit (get_or text k 0) ≡ true →
-    digits_from 0 text ≡ digits_from number (drop k text) → next ≡ 10 * number + (get_or text k 0 - 48) →
-    digits_from 0 text ≡ digits_from next (drop (k + 1) text)
-digit_read text number k next inside is before next_is =
-    before
-    ∙ at_drop_more (digits_from number) text k 0 inside
-    ∙ digits_from-digit number (get_or text k 0) (drop (k + 1) text) is
-    ∙ ap (λ (n : ℕ). digits_from n (drop (k + 1) text)) (sym next_is)
-
--- the next byte is no digit
-pub digit_missing : (text : List ℕ) (number k : ℕ) → k < length text → is_ascii_digit (get_or text k 0) ≡ false →
-    digits_from 0 text ≡ digits_from number (drop k text) → None ≡ digits_from 0 text
-digit_missing text number k inside is before =
-    sym (before ∙ at_drop_more (digits_from number) text k 0 inside ∙ digits_from-other number (get_or text k 0) (drop (k + 1) text) is)
-
--- all were read
-pub digits_read : (text : List ℕ) (number k : ℕ) → length text ≤ k →
-    digits_from 0 text ≡ digits_from number (drop k text) → Some number ≡ digits_from 0 text
-digits_read text number k past before =
-    sym (before ∙ ap (digits_from number) (drop_all k text past) ∙ digits_from-none number)
-
--- a number of few digits is below the power of ten
-pub few_digits : (number k : ℕ) → number < 10 ^ k → k ≤ 20 → number < 10 ^ 20
-few_digits number k below few = let most : 10 ^ k ≤ 10 ^ 20 = pow-le-pow_right (omega arith) few in omega (arith, below, most)
-
-pub digit_more : (number next k : ℕ) → number < 10 ^ k → next ≤ 10 * number + 9 → next < 10 ^ (k + 1)
-digit_more number next k below small =
-    let more : 10 ^ (k + 1) ≡ 10 ^ k * 10 = ap (λ (n : ℕ). 10 ^ n) (omega arith) ∙ pow-suc 10 k in
-    omega (arith, below, small, more)
-
 -- ---- hex numbers
 
-hex_from-digit : (number digit value : ℕ) (digits : List ℕ) → hex_digit digit ≡ Some value → hex_from number (digit ∷ digits) ≡ hex_from (16 * number + value) digits
+hex_from-digit : (number digit value : ℕ) (digits : List ℕ) → hex_digit digit ≡ Some value →
+    hex_from number (digit ∷ digits) ≡ hex_from (16 * number + value) digits
 unfolding hex_from
-hex_from-digit number digit value digits is = ap (option_and_then (λ (v : ℕ). hex_from (16 * number + v) digits)) is
+hex_from-digit number digit value digits is =
+    ap (option_and_then (λ (v : ℕ). hex_from (16 * number + v) digits)) is
 
-hex_from-other : (number digit : ℕ) (digits : List ℕ) → hex_digit digit ≡ None → hex_from number (digit ∷ digits) ≡ None
+hex_from-other : (number digit : ℕ) (digits : List ℕ) → hex_digit digit ≡ None →
+    hex_from number (digit ∷ digits) ≡ None
 unfolding hex_from
-hex_from-other number digit digits is = ap (option_and_then (λ (v : ℕ). hex_from (16 * number + v) digits)) is
+hex_from-other number digit digits is =
+    ap (option_and_then (λ (v : ℕ). hex_from (16 * number + v) digits)) is
 
 hex_from-none : (number : ℕ) → hex_from number [] ≡ Some number
 unfolding hex_from
 hex_from-none number = refl
 
-pub hex_read : (text : List ℕ) (number k value next : ℕ) → k < length text → hex_digit (get_or text k 0) ≡ Some value →
+pub hex_read : (text : List ℕ) (number k value next : ℕ) → k < length text →
+    hex_digit (get_or text k 0) ≡ Some value →
     hex_from 0 text ≡ hex_from number (drop k text) → next ≡ 16 * number + value →
     hex_from 0 text ≡ hex_from next (drop (k + 1) text)
 hex_read text number k value next inside is before next_is =
@@ -113,10 +88,12 @@ hex_read text number k value next inside is before next_is =
     ∙ hex_from-digit number (get_or text k 0) value (drop (k + 1) text) is
     ∙ ap (λ (n : ℕ). hex_from n (drop (k + 1) text)) (sym next_is)
 
-pub hex_missing : (text : List ℕ) (number k : ℕ) → k < length text → hex_digit (get_or text k 0) ≡ None →
+pub hex_missing : (text : List ℕ) (number k : ℕ) → k < length text →
+    hex_digit (get_or text k 0) ≡ None →
     hex_from 0 text ≡ hex_from number (drop k text) → None ≡ hex_from 0 text
 hex_missing text number k inside is before =
-    sym (before ∙ at_drop_more (hex_from number) text k 0 inside ∙ hex_from-other number (get_or text k 0) (drop (k + 1) text) is)
+    sym (before ∙ at_drop_more (hex_from number) text k 0 inside
+    ∙ hex_from-other number (get_or text k 0) (drop (k + 1) text) is)
 
 pub hex_read_all : (text : List ℕ) (number k : ℕ) → length text ≤ k →
     hex_from 0 text ≡ hex_from number (drop k text) → Some number ≡ hex_from 0 text
@@ -124,31 +101,45 @@ hex_read_all text number k past before =
     sym (before ∙ ap (hex_from number) (drop_all k text past) ∙ hex_from-none number)
 
 pub few_hex_digits : (number k : ℕ) → number < 16 ^ k → k ≤ 11 → number < 16 ^ 11
-few_hex_digits number k below few = let most : 16 ^ k ≤ 16 ^ 11 = pow-le-pow_right (omega arith) few in omega (arith, below, most)
+few_hex_digits number k below few = let most : 16 ^ k ≤ 16 ^ 11 =
+    pow-le-pow_right (omega arith) few in omega (arith, below, most)
 
-pub hex_digit_more : (number next k : ℕ) → number < 16 ^ k → next ≤ 16 * number + 15 → next < 16 ^ (k + 1)
+pub hex_digit_more : (number next k : ℕ) → number < 16 ^ k → next ≤ 16 * number + 15 →
+    next < 16 ^ (k + 1)
 hex_digit_more number next k below small =
     let more : 16 ^ (k + 1) ≡ 16 ^ k * 16 = ap (λ (n : ℕ). 16 ^ n) (omega arith) ∙ pow-suc 16 k in
     omega (arith, below, small, more)
 
 -- ---- the bits of octets
 
-pub octet_added : (octets : List ℕ) (bits next : List Bool) (k : ℕ) → k < length octets → next ≡ bits ++ binary 8 (get_or octets k 0) →
-    flat_map (binary 8) octets ≡ bits ++ flat_map (binary 8) (drop k octets) → flat_map (binary 8) octets ≡ next ++ flat_map (binary 8) (drop (k + 1) octets)
+pub octet_added : (octets : List ℕ) (bits next : List Bool) (k : ℕ) → k < length octets →
+    next ≡ bits ++ binary 8 (get_or octets k 0) →
+    flat_map (binary 8) octets ≡ bits ++ flat_map (binary 8) (drop k octets) →
+    flat_map (binary 8) octets ≡ next ++ flat_map (binary 8) (drop (k + 1) octets)
 octet_added octets bits next k inside next_is before =
     before
     ∙ ap (λ (r : List Bool). bits ++ r) (at_drop_more (flat_map (binary 8)) octets k 0 inside)
-    ∙ sym (append_assoc bits (binary 8 (get_or octets k 0)) (flat_map (binary 8) (drop (k + 1) octets)))
+    ∙ sym (append_assoc bits (binary 8 (get_or octets k 0))
+    (flat_map (binary 8) (drop (k + 1) octets)))
     ∙ ap (λ (r : List Bool). r ++ flat_map (binary 8) (drop (k + 1) octets)) (sym next_is)
 
-pub octet_longer : (bits next : List Bool) (octet k : ℕ) → next ≡ bits ++ binary 8 octet → length bits ≡ 8 * k → length next ≡ 8 * (k + 1)
+pub octet_longer : (bits next : List Bool) (octet k : ℕ) → next ≡ bits ++ binary 8 octet →
+    length bits ≡ 8 * k → length next ≡ 8 * (k + 1)
 octet_longer bits next octet k next_is long =
-    omega (arith, ap length next_is, length-append bits (binary 8 octet), length-binary 8 octet, long)
+    omega (
+      arith,
+      ap length next_is,
+      length-append bits (binary 8 octet),
+      length-binary 8 octet,
+      long,
+    )
 
 pub octets_added : (octets : List ℕ) (bits : List Bool) (k : ℕ) → length octets ≤ k →
-    flat_map (binary 8) octets ≡ bits ++ flat_map (binary 8) (drop k octets) → bits ≡ flat_map (binary 8) octets
+    flat_map (binary 8) octets ≡ bits ++ flat_map (binary 8) (drop k octets) →
+    bits ≡ flat_map (binary 8) octets
 octets_added octets bits k past before =
-    sym (before ∙ ap (λ (r : List ℕ). bits ++ flat_map (binary 8) r) (drop_all k octets past) ∙ append-none bits)
+    sym (before ∙ ap (λ (r : List ℕ). bits ++ flat_map (binary 8) r) (drop_all k octets past)
+    ∙ append-none bits)
   where
     append-none : (xs : List Bool) → xs ++ [] ≡ xs
     append-none [] = refl
@@ -157,7 +148,8 @@ octets_added octets bits k past before =
 -- ---- padding
 
 pub clear_bit : (bits : List Bool) (from k : ℕ) → k < length bits → get_or bits k false ≡ false →
-    all_clear (drop from bits) ≡ all_clear (drop k bits) → all_clear (drop from bits) ≡ all_clear (drop (k + 1) bits)
+    all_clear (drop from bits) ≡ all_clear (drop k bits) →
+    all_clear (drop from bits) ≡ all_clear (drop (k + 1) bits)
 clear_bit bits from k inside clear before =
     before ∙ at_drop_more all_clear bits k false inside ∙ cond-false _ _ _ clear
 

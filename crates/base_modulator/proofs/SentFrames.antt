@@ -1,44 +1,111 @@
--- The frames of the sync channel, whose encoder goes on from one to the next.
-use Rattle.std.proofs.Common.{◌≡◌, ℕ, zero, suc, ◌+◌, ◌-◌, ◌≤◌, Bool, List, ◌++◌, length, drop, refl, sym, ap, ◌∙◌, arith, add-one}
+-- The frames of channels whose encoder goes on from one to the next.
+use Rattle.std.proofs.Common.{◌≡◌, ℕ, zero, suc, ◌+◌, ◌-◌, ◌*◌, ◌≤◌, Bool, List, ◌++◌, length, drop}
+use Rattle.std.proofs.Common.{refl, sym, ap, ◌∙◌, arith, add-one}
 use Rattle.std.proofs.Math.Seq.{drop-append-add}
 use Rattle.chip_core.specs.Bits.{binary}
 use Rattle.chip_core.proofs.FieldLists.{length-binary}
 use Rattle.conv_code.specs.ConvCode.{code_symbols, state_after}
-use Rattle.symbol_path.specs.SentOrder.{sent, sync_shape}
-use Rattle.sync_message.specs.declared.fields.SyncFields.{SyncFields}
-use Rattle.base_modulator.specs.declared.plan.CellPlan.{CellPlan}
-use Rattle.base_modulator.specs.Sendings.{sync_frame_bits, continued_symbols, sync_symbols}
-use Rattle.base_modulator.specs.Transmitter.{bits_before}
+use Rattle.symbol_path.specs.SentOrder.{data_shape, repeats_of, sent, shape_of, size}
+use Rattle.symbol_path.specs.declared.kinds.Rate.{Rate}
+use Rattle.symbol_path.specs.declared.kinds.Rate.TheVariants as rates
+use Rattle.base_modulator.specs.PageCycles.{cycle_symbols, frame_scrambling, paging_frame_size}
+use Rattle.base_modulator.specs.PageCycles.{scrambled}
+use Rattle.base_modulator.specs.declared.frame_source.FrameSource.{FrameSource}
+use Rattle.base_modulator.specs.declared.frame_source.FrameSource.TheVariants.{Sync, Paging}
+use Rattle.base_modulator.specs.Sendings.{bits_before, continued_symbols, sync_symbols}
+use Rattle.base_modulator.specs.Continued as continued
 
-pub before-first : (plan : CellPlan) (m : SyncFields) → binary 8 0 ≡ bits_before plan m 0
+pub before-first : (bits : ℕ → List Bool) → binary 8 0 ≡ bits_before bits 0
 unfolding binary bits_before
-before-first plan m = refl
+before-first bits = refl
 
-pub before-next : (plan : CellPlan) (m : SyncFields) (k : ℕ) → bits_before plan m (k + 1) ≡ drop (length (sync_frame_bits plan m k) - 8) (sync_frame_bits plan m k)
+before-next : (bits : ℕ → List Bool) (k : ℕ) →
+    bits_before bits (k + 1) ≡ drop (length (bits k) - 8) (bits k)
 unfolding bits_before
-before-next plan m k = rw add-one refl
+before-next bits k = rw add-one refl
 
 -- the encoder's state behind eight bits or more is the last eight
-pub last_eight : (start bits : List Bool) → length start ≡ 8 → 8 ≤ length bits → state_after start bits ≡ drop (length bits - 8) bits
+pub last_eight : (start bits : List Bool) → length start ≡ 8 → 8 ≤ length bits →
+    state_after start bits ≡ drop (length bits - 8) bits
 last_eight start bits eight enough =
     let n : length bits ≡ length start + (length bits - 8) = omega (arith, eight, enough) in
     ap (λ (k : ℕ). drop k (start ++ bits)) n ∙ drop-append-add start bits (length bits - 8)
 
--- behind a frame of 32 bits the encoder is in the next frame's first state
-pub last_before : (plan : CellPlan) (m : SyncFields) (k start last : ℕ) (bits : List Bool) → bits ≡ sync_frame_bits plan m k → length bits ≡ 32 →
-    binary 8 last ≡ state_after (binary 8 start) bits → binary 8 last ≡ bits_before plan m (k + 1)
-last_before plan m k start last bits is count behind =
-    behind ∙ last_eight (binary 8 start) bits (length-binary 8 start) (omega (arith, count)) ∙ ap (λ (b : List Bool). drop (length b - 8) b) is ∙ sym (before-next plan m k)
+-- behind a frame of eight bits or more the encoder is in the next frame's first state
+pub last_before : (bits : ℕ → List Bool) (k start last : ℕ) (frame : List Bool) → frame ≡ bits k →
+    8 ≤ length frame → binary 8 last ≡ state_after (binary 8 start) frame →
+    binary 8 last ≡ bits_before bits (k + 1)
+last_before bits k start last frame is enough behind =
+    behind ∙ last_eight (binary 8 start) frame (length-binary 8 start) enough
+    ∙ ap (λ (b : List Bool). drop (length b - 8) b) is ∙ sym (before-next bits k)
 
-continued_is : (plan : CellPlan) (m : SyncFields) (frame : ℕ) → continued_symbols (sync_frame_bits plan m) frame ≡ code_symbols (bits_before plan m frame) (sync_frame_bits plan m frame)
+continued_is : (bits : ℕ → List Bool) (k : ℕ) →
+    continued_symbols bits k ≡ code_symbols (bits_before bits k) (bits k)
 unfolding continued_symbols bits_before
-continued_is plan m zero = refl
-continued_is plan m (suc k) = refl
+continued_is bits zero = refl
+continued_is bits (suc k) = refl
 
-pub symbols_are : (plan : CellPlan) (m : SyncFields) (frame start : ℕ) (bits code symbols : List Bool) → bits ≡ sync_frame_bits plan m frame →
-    binary 8 start ≡ bits_before plan m frame → code ≡ code_symbols (binary 8 start) bits → symbols ≡ sent sync_shape 2 code → symbols ≡ sync_symbols plan m frame
-unfolding sync_symbols
-symbols_are plan m frame start bits code symbols is before coded placed =
-    let e : code ≡ continued_symbols (sync_frame_bits plan m) frame =
-    coded ∙ ap (λ (b : List Bool). code_symbols (binary 8 start) b) is ∙ ap (λ (s : List Bool). code_symbols s (sync_frame_bits plan m frame)) before ∙ sym (continued_is plan m frame) in
-    placed ∙ ap (λ (c : List Bool). sent sync_shape 2 c) e
+-- the code symbols of a frame
+pub coded : (bits : ℕ → List Bool) (k start : ℕ) (frame code : List Bool) → frame ≡ bits k →
+    binary 8 start ≡ bits_before bits k → code ≡ code_symbols (binary 8 start) frame →
+    code ≡ continued_symbols bits k
+coded bits k start frame code is before coded_is =
+    coded_is
+    ∙ ap (λ (b : List Bool). code_symbols (binary 8 start) b) is
+    ∙ ap (λ (s : List Bool). code_symbols s (bits k)) before
+    ∙ sym (continued_is bits k)
+
+-- ---- sources
+
+eight_of : (rate : Rate) → 8 ≤ paging_frame_size rate
+eight_of rates.R9600 = omega arith
+eight_of rates.R4800 = omega arith
+eight_of rates.R2400 = omega arith
+eight_of rates.R1200 = omega arith
+
+few_of : (rate : Rate) → paging_frame_size rate ≤ 192
+few_of rates.R9600 = omega arith
+few_of rates.R4800 = omega arith
+few_of rates.R2400 = omega arith
+few_of rates.R1200 = omega arith
+
+filled_by : (rate : Rate) → 2 * paging_frame_size rate * repeats_of rate ≡ 384
+filled_by rates.R9600 = refl
+filled_by rates.R4800 = refl
+filled_by rates.R2400 = refl
+filled_by rates.R1200 = refl
+
+pub eight_bits : (source : FrameSource) → 8 ≤ continued.frame_size source
+eight_bits (Sync sent) = omega arith
+eight_bits (Paging cycle) = eight_of cycle.rate
+
+pub few_bits : (source : FrameSource) → continued.frame_size source ≤ 192
+few_bits (Sync sent) = omega arith
+few_bits (Paging cycle) = few_of cycle.rate
+
+-- the code symbols of a frame fill it, each sent so often
+pub fills : (source : FrameSource) →
+    2 * continued.frame_size source * continued.repeats_in source
+    ≡ size (shape_of (continued.kind_of source))
+fills (Sync sent) = refl
+fills (Paging cycle) = filled_by cycle.rate
+
+pub counted : (source : FrameSource) →
+    size (shape_of (continued.kind_of source))
+    ≡ continued.symbol_count (continued.continued_form source)
+counted (Sync sent) = refl
+counted (Paging cycle) = refl
+
+-- the symbols of a frame as they are sent
+pub symbols_are : (source : FrameSource) (k : ℕ) (code symbols : List Bool) →
+    code ≡ continued_symbols (continued.frame_bits_of source) k →
+    symbols
+    ≡ continued.scrambled_by source k
+    (sent (shape_of (continued.kind_of source)) (continued.repeats_in source) code) →
+    symbols ≡ continued.continued_frames source k
+unfolding sync_symbols cycle_symbols
+symbols_are (Sync sendings) k code symbols is placed = placed ∙ ap (sent _ 2) is
+symbols_are (Paging cycle) k code symbols is placed =
+    placed
+    ∙ ap (λ (c : List Bool).
+    scrambled (frame_scrambling cycle k) (sent data_shape (repeats_of cycle.rate) c)) is

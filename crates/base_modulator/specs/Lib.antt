@@ -1,4 +1,8 @@
+pub mod Channels
+pub mod Continued
 pub mod Kept
+pub mod PageCycles
+pub mod Pages
 pub mod Plan
 pub mod Script
 pub mod Running
@@ -6,8 +10,9 @@ pub mod Sendings
 pub mod Signal
 pub mod Transmitter
 mod Worked
+pub mod ScriptFields
 pub mod ScriptLines
 pub mod ScriptPlans
-pub mod ScriptStages
 pub mod ScriptValues
 mod ScriptWorked
+pub mod Sampled

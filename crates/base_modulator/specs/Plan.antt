@@ -19,11 +19,12 @@ sync_gain None = 0
 sync_gain (Some sync) = sync.gain
 
 abbrev pub gain_sum : CellPlan → ℕ
-gain_sum plan = plan.pilot_gain + sync_gain plan.sync
+gain_sum plan = plan.pilot.gain + sync_gain plan.sync
 
--- a bound on the parts of the samples: the sum of the absolute values of the link's parts, times the sum of the gains
+-- a bound on the parts of the samples: the sum of the absolute values of the link's parts, times
+-- the sum of the gains
 abbrev pub loudness : CellPlan → ℕ
-loudness plan = (unsigned_abs plan.link.i + unsigned_abs plan.link.q) * gain_sum plan
+loudness plan = (unsigned_abs plan.link.factor.i + unsigned_abs plan.link.factor.q) * gain_sum plan
 
 -- a sync channel sends what is a message, whatever stands for PILOT_PN, SYS_TIME and LC_STATE
 abbrev pub IsSyncPlan : Option SyncPlan → Type 0
@@ -32,11 +33,11 @@ IsSyncPlan (Some sync) = (0 < sync.gain) × IsSyncMessage sync.message
 
 -- a cell that can be sent in samples of this width
 pub record IsLawfulPlan (width : Width) (plan : CellPlan) : Type 0 where
-  pub pn : plan.pn < 512
-  pub time : plan.time ≤ 34359738368
-  pub lc : IsState plan.lc
-  pub start : plan.start < 2 ^ 32
-  pub samples : plan.samples ≤ most_samples width
-  pub pilot : 0 < plan.pilot_gain
+  pub pn : plan.cell.pn < 512
+  pub time : plan.cell.time ≤ 34359738368
+  pub lc : IsState plan.cell.lc
+  pub start : plan.link.start < 2 ^ 32
+  pub samples : plan.link.samples ≤ most_samples width
+  pub pilot : 0 < plan.pilot.gain
   pub sync : IsSyncPlan plan.sync
   pub loud : loudness plan ≤ most_part width

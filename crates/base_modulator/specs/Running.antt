@@ -1,16 +1,25 @@
 -- A cell that runs: what its registers hold before the next sample.
-use Rattle.std.specs.Prelude.{◌≡◌, ℕ, ◌+◌, ◌≤◌, Option}
-use Rattle.chip_core.specs.Complex.{of_sample}
-use Rattle.chip_core.specs.declared.sample.Sample.{Sample}
+use Rattle.std.specs.Prelude.{◌≡◌, ℕ, ◌+◌, ◌-◌, ◌%◌, ◌<◌, ◌≤◌, List, map, get_or}
+use Rattle.chip_core.specs.Complex.{origin}
+use Rattle.chip_core.specs.declared.sample.Pair.{Pair}
 use Rattle.cdma_io.specs.declared.width.Width.{Width}
 use Rattle.base_modulator.specs.declared.plan.CellPlan.{CellPlan}
+use Rattle.base_modulator.specs.Channels.{ChannelState, carrier_of}
 use Rattle.base_modulator.specs.Plan.{IsLawfulPlan}
-use Rattle.base_modulator.specs.Signal.{scaled}
-use Rattle.base_modulator.specs.Transmitter.{ChannelState, IsChannelOf, amplitude_sum, phase_at}
+use Rattle.base_modulator.specs.Signal.{amplitudes, carriers, scaled}
+use Rattle.base_modulator.specs.Transmitter.{phase_at}
 
-pub record IsRunning (width : Width) (plan : CellPlan) (channel : Option ChannelState) (given phase : ℕ) (strength : Sample) : Type 0 where
+-- the channels' sum at each chip of the block of 64 that holds a local chip, times the link's
+-- factor
+abbrev pub IsBlock : CellPlan → ℕ → List Pair → Type 0
+IsBlock plan chip block = (k : ℕ) → k < 64 →
+    get_or block k origin
+    ≡ scaled (amplitudes (chip - chip % 64 + k) (carriers plan)) plan.link.factor
+
+pub record IsRunning (width : Width) (plan : CellPlan) (channels : List ChannelState)
+    (given phase : ℕ) (block : List Pair) : Type 0 where
   pub lawful : IsLawfulPlan width plan
-  pub within : given ≤ plan.samples
-  pub of : IsChannelOf plan plan.sync channel
-  pub code : phase ≡ phase_at plan (plan.start + given)
-  pub level : of_sample strength ≡ scaled (amplitude_sum plan (plan.start + given)) plan.link
+  pub within : given ≤ plan.link.samples
+  pub sent : map carrier_of channels ≡ carriers plan
+  pub code : phase ≡ phase_at plan (plan.link.start + given)
+  pub sums : IsBlock plan (plan.link.start + given) block

@@ -1,53 +1,44 @@
--- The lines of a script: what each kind of statement says, and which statements may follow one another.
-use Rattle.std.specs.Prelude.{ℕ, ◌+◌, ◌/◌, ◌%◌, ◌==◌, nat_le, nat_lt, Bool, false, if◌then◌else◌, ◌&&◌, List, [], ◌∷◌, length, take, drop, codes, Option, None, Some, ℤ, unsigned_abs, option_map}
+-- The lines of a script: what each kind of statement says, and which statements may follow one
+-- another.
+use Rattle.std.specs.Prelude.{ℕ, ◌+◌, ◌/◌, ◌%◌, ◌==◌, nat_le, nat_lt, Bool, false, if◌then◌else◌}
+use Rattle.std.specs.Prelude.{◌&&◌, List, [], ◌∷◌, length, get_or, codes, Option, None, Some, ℤ}
+use Rattle.std.specs.Prelude.{pos, unsigned_abs, option_map}
 use Rattle.chip_core.specs.declared.check_form.CheckForm.{CheckForm}
 use Rattle.chip_core.specs.declared.check_form.CheckForm.TheVariants.{Plain, Complemented}
+use Rattle.chip_core.specs.declared.sample.Pair.{Pair}
 use Rattle.sync_message.specs.declared.fields.SyncFields.{SyncFields}
 use Rattle.base_modulator.specs.declared.plan.CellPlan.{CellPlan}
+use Rattle.base_modulator.specs.declared.plan.PilotPlan.{PilotPlan}
 use Rattle.base_modulator.specs.declared.plan.SyncPlan.{SyncPlan}
-use Rattle.base_modulator.specs.declared.script.statements.CellLine.{CellLine}
-use Rattle.base_modulator.specs.declared.script.statements.LinkLine.{LinkLine}
-use Rattle.base_modulator.specs.declared.script.stage.Stage.{Stage}
-use Rattle.base_modulator.specs.declared.script.stage.Stage.TheVariants.{Cell, Link, Pilot, Sync, End}
-use Rattle.base_modulator.specs.ScriptValues.{begins_with, bits_in, length_before, number_up_to, signed_in, state_in}
-
--- ---- fields
-
--- what stands behind a key, from there up to the next space, and from that space on
-abbrev pub keyed : List ℕ → List ℕ → List ℕ
-keyed key text = drop (length key) text
-
-abbrev pub value_of : List ℕ → List ℕ → List ℕ
-value_of key text = take (length_before 32 (keyed key text)) (keyed key text)
-
-unfoldable pub past : List ℕ → List ℕ → List ℕ
-past key text = drop (length_before 32 (keyed key text)) (keyed key text)
-
--- the value of the field with which a text begins, read by a reader of values
-unfoldable pub field : {A : Type 0} → List ℕ → (List ℕ → Option A) → List ℕ → Option A
-field key read text = if begins_with text key then read (value_of key text) else None
-
-infixl 10 ◌>>=◌
-abbrev ◌>>=◌ : {A B : Type 0} → Option A → (A → Option B) → Option B
-Some x >>= f = f x
-None >>= f = None
-
--- the value, where the whole text was read
-abbrev pub at_end : {A : Type 0} → List ℕ → A → Option A
-at_end [] value = Some value
-at_end (byte ∷ bytes) value = None
+use Rattle.base_modulator.specs.declared.plan.CellIdentity.{CellIdentity}
+use Rattle.base_modulator.specs.declared.plan.LinkPlan.{LinkPlan}
+use Rattle.base_modulator.specs.declared.script.draft.Draft.{Draft}
+use Rattle.base_modulator.specs.declared.script.draft.Stage.{Stage}
+use Rattle.base_modulator.specs.declared.script.draft.Stage.TheVariants.{Cell, Link, Pilot, Sync}
+use Rattle.base_modulator.specs.declared.script.draft.Stage.TheVariants.{End}
+use Rattle.base_modulator.specs.ScriptFields.{NumberRow, ◌>>=◌, at_end, field, numbers_in, past}
+use Rattle.base_modulator.specs.ScriptFields.{past_numbers, row}
+use Rattle.base_modulator.specs.ScriptValues.{begins_with, bits_in, number_up_to, signed_in}
+use Rattle.base_modulator.specs.ScriptValues.{state_in}
 
 -- ---- statements
 
 -- the form of checks: complemented where the bit is 1
-abbrev pub form_of : ℕ → CheckForm
-form_of bit = if bit == 1 then Complemented else Plain
+abbrev pub check_form : ℕ → CheckForm
+check_form bit = if bit == 1 then Complemented else Plain
 
 -- `cell pn=P time=T lc=H checks=C`
-abbrev pub cell_line : ℕ → ℕ → ℕ → ℕ → CellLine
-cell_line pn time lc checks = record { pn = pn; time = time; lc = lc; check30 = form_of (checks % 2); check16 = form_of (checks / 2) }
+abbrev pub cell_line : ℕ → ℕ → ℕ → ℕ → CellIdentity
+cell_line pn time lc checks =
+    record {
+      pn = pn;
+      time = time;
+      lc = lc;
+      check30 = check_form (checks % 2);
+      check16 = check_form (checks / 2);
+    }
 
-unfoldable pub cell_in : List ℕ → Option CellLine
+unfoldable pub cell_in : List ℕ → Option CellIdentity
 cell_in text0 =
     let text1 = past (codes "cell pn=") text0 in
     let text2 = past (codes " time=") text1 in
@@ -64,10 +55,13 @@ cell_in text0 =
 abbrev pub is_link : ℤ → ℤ → ℕ → Bool
 is_link re im samples = nat_lt 0 (unsigned_abs re + unsigned_abs im) && nat_lt 0 samples
 
-abbrev pub link_line : ℤ → ℤ → ℕ → ℕ → Option LinkLine
-link_line re im start samples = if is_link re im samples then Some (record { factor = record { i = re; q = im }; start = start; samples = samples }) else None
+abbrev pub link_line : ℤ → ℤ → ℕ → ℕ → Option LinkPlan
+link_line re im start samples =
+    let factor : Pair = record { i = re; q = im } in
+    let link : LinkPlan = record { factor = factor; start = start; samples = samples } in
+    if is_link re im samples then Some link else None
 
-unfoldable pub link_in : List ℕ → Option LinkLine
+unfoldable pub link_in : List ℕ → Option LinkPlan
 link_in text0 =
     let text1 = past (codes "link re=") text0 in
     let text2 = past (codes " im=") text1 in
@@ -82,16 +76,19 @@ link_in text0 =
       at_end text4 line
 
 -- `pilot gain=G`
-unfoldable pub pilot_in : List ℕ → Option ℕ
+unfoldable pub pilot_in : List ℕ → Option PilotPlan
 pilot_in text = do
   gain ← field (codes "pilot gain=") (number_up_to 65535) text
-  at_end (past (codes "pilot gain=") text) gain
+  at_end (past (codes "pilot gain=") text) (record { gain = gain })
 
 -- `sync gain=G prev=.. min=.. sid=.. nid=.. lp=.. ltm=.. daylt=.. prat=.. [freq=..] rest=BITS`
 
 -- the frequency may be left out
 unfoldable pub freq_in : List ℕ → Option (Option ℕ)
-freq_in text = if begins_with text (codes " freq=") then option_map Some (field (codes " freq=") (number_up_to 2047) text) else Some None
+freq_in text =
+    if begins_with text (codes " freq=")
+    then option_map Some (field (codes " freq=") (number_up_to 2047) text)
+    else Some None
 
 unfoldable pub past_freq : List ℕ → List ℕ
 past_freq text = if begins_with text (codes " freq=") then past (codes " freq=") text else text
@@ -101,69 +98,95 @@ abbrev pub has_lawful_rest : Option ℕ → List Bool → Bool
 has_lawful_rest None rest = length rest == 3
 has_lawful_rest (Some freq) rest = if length rest % 8 == 0 then nat_le (length rest) 976 else false
 
-abbrev pub sync_message : SyncFields → Option SyncFields
-sync_message message = if has_lawful_rest message.freq message.rest then Some message else None
+abbrev pub lawful_message : SyncFields → Option SyncFields
+lawful_message message = if has_lawful_rest message.freq message.rest then Some message else None
+
+-- the numbers that the line always has
+abbrev pub sync_table : List NumberRow
+sync_table =
+    row (codes "sync gain=") 65535
+    ∷ row (codes " prev=") 255
+    ∷ row (codes " min=") 255
+    ∷ row (codes " sid=") 32767
+    ∷ row (codes " nid=") 65535
+    ∷ row (codes " lp=") 255
+    ∷ row (codes " ltm=") 63
+    ∷ row (codes " daylt=") 1
+    ∷ row (codes " prat=") 3
+    ∷ []
+
+-- what they say; its message has zeros for PILOT_PN, SYS_TIME and LC_STATE
+abbrev pub sync_fields : List ℕ → Option ℕ → List Bool → SyncFields
+sync_fields numbers freq rest = record {
+  prev = get_or numbers 1 0;
+  min = get_or numbers 2 0;
+  sid = get_or numbers 3 0;
+  nid = get_or numbers 4 0;
+  pn = 0;
+  lc = 0;
+  time = 0;
+  lp = get_or numbers 5 0;
+  ltm = get_or numbers 6 0;
+  daylt = get_or numbers 7 0;
+  prat = get_or numbers 8 0;
+  freq = freq;
+  rest = rest;
+}
+
+-- what the line says by its numbers and by the text behind them
+unfoldable pub sync_behind : List ℕ → List ℕ → Option SyncPlan
+sync_behind numbers text0 =
+    let text1 = past_freq text0 in
+    let text2 = past (codes " rest=") text1 in
+    do
+      freq ← freq_in text0
+      rest ← field (codes " rest=") bits_in text1
+      message ← lawful_message (sync_fields numbers freq rest)
+      at_end text2 (record { gain = get_or numbers 0 0; message = message })
 
 unfoldable pub sync_in : List ℕ → Option SyncPlan
-sync_in text0 =
-    let text1 = past (codes "sync gain=") text0 in
-    let text2 = past (codes " prev=") text1 in
-    let text3 = past (codes " min=") text2 in
-    let text4 = past (codes " sid=") text3 in
-    let text5 = past (codes " nid=") text4 in
-    let text6 = past (codes " lp=") text5 in
-    let text7 = past (codes " ltm=") text6 in
-    let text8 = past (codes " daylt=") text7 in
-    let text9 = past (codes " prat=") text8 in
-    let text10 = past_freq text9 in
-    let text11 = past (codes " rest=") text10 in
-    do
-      gain ← field (codes "sync gain=") (number_up_to 65535) text0
-      prev ← field (codes " prev=") (number_up_to 255) text1
-      min ← field (codes " min=") (number_up_to 255) text2
-      sid ← field (codes " sid=") (number_up_to 32767) text3
-      nid ← field (codes " nid=") (number_up_to 65535) text4
-      lp ← field (codes " lp=") (number_up_to 255) text5
-      ltm ← field (codes " ltm=") (number_up_to 63) text6
-      daylt ← field (codes " daylt=") (number_up_to 1) text7
-      prat ← field (codes " prat=") (number_up_to 3) text8
-      freq ← freq_in text9
-      rest ← field (codes " rest=") bits_in text10
-      message ← sync_message (record { prev = prev; min = min; sid = sid; nid = nid; pn = 0; lc = 0; time = 0; lp = lp; ltm = ltm; daylt = daylt; prat = prat; freq = freq; rest = rest })
-      at_end text11 (record { gain = gain; message = message })
+sync_in text =
+    numbers_in sync_table text >>= (λ numbers. sync_behind numbers (past_numbers sync_table text))
 
 -- ---- which statement stands where
 
--- a plan of what was said up to the pilot
-abbrev pub piloted : CellLine → LinkLine → ℕ → CellPlan
-piloted cell link gain = record {
-  pn = cell.pn;
-  time = cell.time;
-  lc = cell.lc;
-  check30 = cell.check30;
-  check16 = cell.check16;
-  link = link.factor;
-  start = link.start;
-  samples = link.samples;
-  pilot_gain = gain;
+-- what stands for the parts of a plan that weren't stated yet
+abbrev pub empty_plan : CellPlan
+empty_plan = record {
+  cell = record { pn = 0; time = 0; lc = 1; check30 = Plain; check16 = Plain };
+  link = record { factor = record { i = pos 1; q = pos 0 }; start = 0; samples = 1 };
+  pilot = record { gain = 1 };
   sync = None;
 }
 
-abbrev pub with_sync : CellPlan → SyncPlan → CellPlan
-with_sync plan sync = record plan { sync = Some sync }
+abbrev pub empty_draft : Draft
+empty_draft = record { stage = Cell; plan = empty_plan }
 
--- the stage behind a line's text; None where the line can't stand at this stage
-unfoldable pub next_stage : Stage → List ℕ → Option Stage
-next_stage Cell text = option_map Link (cell_in text)
-next_stage (Link cell) text = option_map (Pilot cell) (link_in text)
-next_stage (Pilot cell link) text = option_map (λ gain. Sync (piloted cell link gain)) (pilot_in text)
-next_stage (Sync plan) text = option_map (λ sync. End (with_sync plan sync)) (sync_in text)
-next_stage (End plan) text = None
+-- The draft behind a line's text; None where the line can't stand next. Each statement adds the
+-- part of the plan that it states.
+abbrev pub with_statement : Stage → CellPlan → List ℕ → Option Draft
+with_statement Cell plan text =
+    option_map (λ cell. record { stage = Link; plan = record plan { cell = cell } }) (cell_in text)
+with_statement Link plan text =
+    option_map (λ link. record { stage = Pilot; plan = record plan { link = link } }) (link_in text)
+with_statement Pilot plan text =
+    option_map (λ pilot. record { stage = Sync; plan = record plan { pilot = pilot } })
+    (pilot_in text)
+with_statement Sync plan text =
+    option_map (λ sync. record { stage = End; plan = record plan { sync = Some sync } })
+    (sync_in text)
+with_statement End plan text = None
+
+unfoldable pub with_line : Draft → List ℕ → Option Draft
+with_line draft text = with_statement draft.stage draft.plan text
 
 -- the plan, where no line is missing
-abbrev pub plan_at : Stage → Option CellPlan
-plan_at Cell = None
-plan_at (Link cell) = None
-plan_at (Pilot cell link) = None
-plan_at (Sync plan) = Some plan
-plan_at (End plan) = Some plan
+abbrev pub plan_behind : Stage → CellPlan → Option CellPlan
+plan_behind Cell plan = None
+plan_behind Link plan = None
+plan_behind Pilot plan = None
+plan_behind Sync plan = Some plan
+plan_behind End plan = Some plan
+
+abbrev pub plan_at : Draft → Option CellPlan
+plan_at draft = plan_behind draft.stage draft.plan

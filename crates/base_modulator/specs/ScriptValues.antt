@@ -1,9 +1,14 @@
--- The texts of values in a script: numbers in decimal, states of the long code in hex digits, and lists of bits.
-use Rattle.std.specs.Prelude.{ℕ, suc, ◌+◌, ◌-◌, ◌*◌, ◌^◌, ◌==◌, nat_lt, nat_le, nat_eq, Bool, true, false, if◌then◌else◌, not, List, [], ◌∷◌, length, take, drop, get_or, codes, flat_map, Option, None, Some, Result, Ok, Err, ℤ, pos, neg_ℤ, option_and_then}
+-- The texts of values in a script: numbers in decimal, states of the long code in hex digits, and
+-- lists of bits.
+use Rattle.std.specs.Prelude.{ℕ, suc, ◌+◌, ◌-◌, ◌*◌, ◌^◌, ◌==◌, nat_lt, nat_le, nat_eq, Bool, true}
+use Rattle.std.specs.Prelude.{false, if◌then◌else◌, not, List, [], ◌∷◌, length, take, drop, get_or}
+use Rattle.std.specs.Prelude.{codes, flat_map, Option, None, Some, Result, Ok, Err, ℤ, pos, neg_ℤ}
+use Rattle.std.specs.Prelude.{option_and_then}
 use Rattle.std.specs.Char.{is_ascii_digit, digit_value}
 use Rattle.std.specs.Cmp.Lexicographic.{pointwise}
 use Rattle.hex.specs.Hex.{decode_of}
 use Rattle.hex.specs.declared.error.FromHexError.{FromHexError}
+use Rattle.chip_core.specs.Decimals.{digits_from}
 use Rattle.chip_core.specs.Bits.{binary}
 
 -- how many bytes of a text stand before the first mark; all where it has none
@@ -21,14 +26,11 @@ behind front text = if begins_with text front then Some (drop (length front) tex
 
 -- ---- decimal numbers
 
--- digits behind a number
-unfoldable pub digits_from : ℕ → List ℕ → Option ℕ
-digits_from number [] = Some number
-digits_from number (digit ∷ digits) = if is_ascii_digit digit then digits_from (10 * number + (digit - 48)) digits else None
-
 -- 1 to 20 bytes, no 0 before others
 abbrev pub is_plain : List ℕ → Bool
-is_plain text = if nat_lt (length text) 2 then length text == 1 else (if nat_le (length text) 20 then not (get_or text 0 0 == 48) else false)
+is_plain text =
+    if nat_lt (length text) 2 then length text == 1
+    else (if nat_le (length text) 20 then not (get_or text 0 0 == 48) else false)
 
 -- the number that a text spells in decimal, without leading zeros
 abbrev pub number_in : List ℕ → Option ℕ
@@ -64,11 +66,13 @@ hex_digit byte = if nat_lt (digit_value byte) 16 then Some (digit_value byte) el
 -- hex digits behind a number
 unfoldable pub hex_from : ℕ → List ℕ → Option ℕ
 hex_from number [] = Some number
-hex_from number (digit ∷ digits) = option_and_then (λ value. hex_from (16 * number + value) digits) (hex_digit digit)
+hex_from number (digit ∷ digits) =
+    option_and_then (λ value. hex_from (16 * number + value) digits) (hex_digit digit)
 
 -- a state isn't 0 and has 42 bits
 abbrev pub as_state : ℕ → Option ℕ
-as_state number = if number == 0 then None else (if nat_lt number (2 ^ 42) then Some number else None)
+as_state number =
+    if number == 0 then None else (if nat_lt number (2 ^ 42) then Some number else None)
 
 -- a state in eleven hex digits
 unfoldable pub state_in : List ℕ → Option ℕ
@@ -81,7 +85,8 @@ abbrev pub all_clear : List Bool → Bool
 all_clear [] = true
 all_clear (bit ∷ bits) = if bit then false else all_clear bits
 
--- the first so many bits of whole octets; None where there aren't just as many octets as they need, or where a bit behind them is 1
+-- the first so many bits of whole octets; None where there aren't just as many octets as they need,
+-- or where a bit behind them is 1
 abbrev pub unpadded : ℕ → List Bool → Option (List Bool)
 unpadded count bits =
     if nat_lt (length bits) count then None
@@ -99,5 +104,7 @@ hex_bits digits = if nat_lt 296 (length digits) then None else octets_in (decode
 -- the bits of a text `N:HEX`
 unfoldable pub bits_in : List ℕ → Option (List Bool)
 bits_in text =
-    option_and_then (λ count. option_and_then (λ digits. option_and_then (unpadded count) (hex_bits digits)) (behind (codes ":") (drop (length_before 58 text) text)))
+    option_and_then
+    (λ count. option_and_then (λ digits. option_and_then (unpadded count) (hex_bits digits))
+    (behind (codes ":") (drop (length_before 58 text) text)))
     (number_up_to 1184 (take (length_before 58 text) text))

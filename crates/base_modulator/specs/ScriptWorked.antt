@@ -1,35 +1,51 @@
 -- Worked values of scripts, which the checker computes.
-use Rattle.std.specs.Prelude.{ℕ, ◌≡◌, refl, ◌^◌, ◌++◌, List, [], ◌∷◌, codes, replicate, false, pos, negsuc, Some, None, Ok, Err}
+use Rattle.std.specs.Prelude.{ℕ, ◌≡◌, refl, ◌^◌, ◌++◌, List, [], ◌∷◌, codes, replicate, false, pos}
+use Rattle.std.specs.Prelude.{negsuc, Some, None, Ok, Err}
 use Rattle.hex.specs.Hex.{decode_pairs}
 use Rattle.chip_core.specs.Bits.{binary}
 use Rattle.chip_core.specs.declared.check_form.CheckForm.TheVariants.{Plain}
 use Rattle.cdma_io.specs.declared.width.Width.TheVariants.{Sixteen}
 use Rattle.base_modulator.specs.declared.plan.CellPlan.{CellPlan}
-use Rattle.base_modulator.specs.declared.script_fault.ScriptFault.TheVariants.{Line, TooLoud, TooLong}
-use Rattle.base_modulator.specs.ScriptValues.{bits_in, digits_from, hex_bits, hex_from, length_before, number_up_to, signed_in, state_in}
-use Rattle.base_modulator.specs.ScriptLines.{cell_in, field, freq_in, link_in, next_stage, past, past_freq, pilot_in, sync_in}
-use Rattle.base_modulator.specs.Script.{is_line, lines, plan_named, stage_after, stated, stated_plan}
+use Rattle.base_modulator.specs.declared.script_fault.ScriptFault.TheVariants.{Line, TooLoud}
+use Rattle.base_modulator.specs.declared.script_fault.ScriptFault.TheVariants.{TooLong}
+use Rattle.chip_core.specs.Decimals.{digits_from}
+use Rattle.base_modulator.specs.ScriptValues.{bits_in, hex_bits, hex_from}
+use Rattle.base_modulator.specs.ScriptValues.{length_before, number_up_to, signed_in, state_in}
+use Rattle.base_modulator.specs.ScriptFields.{field, numbers_in, past, past_numbers}
+use Rattle.base_modulator.specs.ScriptLines.{cell_in, freq_in, link_in, with_line, past_freq}
+use Rattle.base_modulator.specs.ScriptLines.{pilot_in, sync_behind, sync_in}
+use Rattle.base_modulator.specs.Script.{is_line, lines, plan_named, draft_after, stated}
+use Rattle.base_modulator.specs.Script.{stated_plan}
 
 -- a script with this link
 script : List ℕ → List ℕ
 script link =
-    codes "cell pn=511 time=1000 lc=20000000000 checks=0" ++ 10 ∷ codes "link " ++ link ++ 10 ∷ codes "pilot gain=100" ++ 10
+    codes "cell pn=511 time=1000 lc=20000000000 checks=0" ++ 10 ∷ codes
+    "link " ++ link ++ 10 ∷ codes "pilot gain=100" ++ 10
     ∷ codes "sync gain=30 prev=3 min=1 sid=1 nid=2 lp=13 ltm=0 daylt=0 prat=0 rest=3:00" ++ 10 ∷ []
 
 plan : CellPlan
 plan = record {
-  pn = 511;
-  time = 1000;
-  lc = 2 ^ 41;
-  check30 = Plain;
-  check16 = Plain;
-  link = record { i = pos 0; q = negsuc 2 };
-  start = 0;
-  samples = 1228800;
-  pilot_gain = 100;
+  cell = record { pn = 511; time = 1000; lc = 2 ^ 41; check30 = Plain; check16 = Plain };
+  link = record { factor = record { i = pos 0; q = negsuc 2 }; start = 0; samples = 1228800 };
+  pilot = record { gain = 100 };
   sync = Some (record {
     gain = 30;
-    message = record { prev = 3; min = 1; sid = 1; nid = 2; pn = 0; lc = 0; time = 0; lp = 13; ltm = 0; daylt = 0; prat = 0; freq = None; rest = replicate 3 false };
+    message = record {
+      prev = 3;
+      min = 1;
+      sid = 1;
+      nid = 2;
+      pn = 0;
+      lc = 0;
+      time = 0;
+      lp = 13;
+      ltm = 0;
+      daylt = 0;
+      prat = 0;
+      freq = None;
+      rest = replicate 3 false;
+    };
   });
 }
 
@@ -38,25 +54,40 @@ unfolding plan_named stated_plan stated lines
 empty = refl
 
 whole : plan_named Sixteen (script (codes "re=0 im=-3 start=0 samples=1228800")) ≡ Ok plan
-unfolding script plan plan_named stated_plan stated stage_after lines is_line next_stage cell_in link_in pilot_in sync_in freq_in past_freq field past length_before number_up_to digits_from signed_in state_in hex_from bits_in hex_bits decode_pairs binary
+unfolding script plan plan_named stated_plan stated draft_after lines is_line with_line cell_in
+    link_in pilot_in sync_in sync_behind freq_in past_freq numbers_in past_numbers field past
+    length_before number_up_to digits_from signed_in state_in hex_from bits_in hex_bits decode_pairs
+    binary
 whole = refl
 
-loud : plan_named Sixteen (script (codes "re=32767 im=-3 start=0 samples=1228800")) ≡ Err (TooLoud 4260100)
-unfolding script plan_named stated_plan stated stage_after lines is_line next_stage cell_in link_in pilot_in sync_in freq_in past_freq field past length_before number_up_to digits_from signed_in state_in hex_from bits_in hex_bits decode_pairs binary
+loud : plan_named Sixteen (script (codes "re=32767 im=-3 start=0 samples=1228800"))
+    ≡ Err (TooLoud 4260100)
+unfolding script plan_named stated_plan stated draft_after lines is_line with_line cell_in link_in
+    pilot_in sync_in sync_behind freq_in past_freq numbers_in past_numbers field past length_before
+    number_up_to digits_from signed_in state_in hex_from bits_in hex_bits decode_pairs binary
 loud = refl
 
-long : plan_named Sixteen (script (codes "re=0 im=-3 start=0 samples=33554433")) ≡ Err (TooLong 33554433)
-unfolding script plan_named stated_plan stated stage_after lines is_line next_stage cell_in link_in pilot_in sync_in freq_in past_freq field past length_before number_up_to digits_from signed_in state_in hex_from bits_in hex_bits decode_pairs binary
+long : plan_named Sixteen (script (codes "re=0 im=-3 start=0 samples=33554433"))
+    ≡ Err (TooLong 33554433)
+unfolding script plan_named stated_plan stated draft_after lines is_line with_line cell_in link_in
+    pilot_in sync_in sync_behind freq_in past_freq numbers_in past_numbers field past length_before
+    number_up_to digits_from signed_in state_in hex_from bits_in hex_bits decode_pairs binary
 long = refl
 
-two_blanks : plan_named Sixteen (script (codes "re=0  im=-3 start=0 samples=1228800")) ≡ Err (Line 2)
-unfolding script plan_named stated_plan stated stage_after lines is_line next_stage cell_in link_in field past length_before number_up_to digits_from signed_in state_in hex_from
+two_blanks : plan_named Sixteen (script (codes "re=0  im=-3 start=0 samples=1228800"))
+    ≡ Err (Line 2)
+unfolding script plan_named stated_plan stated draft_after lines is_line with_line cell_in link_in
+    field past length_before number_up_to digits_from signed_in state_in hex_from
 two_blanks = refl
 
-minus_zero : plan_named Sixteen (script (codes "re=-0 im=-3 start=0 samples=1228800")) ≡ Err (Line 2)
-unfolding script plan_named stated_plan stated stage_after lines is_line next_stage cell_in link_in field past length_before number_up_to digits_from signed_in state_in hex_from
+minus_zero : plan_named Sixteen (script (codes "re=-0 im=-3 start=0 samples=1228800"))
+    ≡ Err (Line 2)
+unfolding script plan_named stated_plan stated draft_after lines is_line with_line cell_in link_in
+    field past length_before number_up_to digits_from signed_in state_in hex_from
 minus_zero = refl
 
-past_64_bits : plan_named Sixteen (script (codes "re=0 im=-3 start=0 samples=18446744073709551616")) ≡ Err (Line 2)
-unfolding script plan_named stated_plan stated stage_after lines is_line next_stage cell_in link_in field past length_before number_up_to digits_from signed_in state_in hex_from
+past_64_bits : plan_named Sixteen (script (codes "re=0 im=-3 start=0 samples=18446744073709551616"))
+    ≡ Err (Line 2)
+unfolding script plan_named stated_plan stated draft_after lines is_line with_line cell_in link_in
+    field past length_before number_up_to digits_from signed_in state_in hex_from
 past_64_bits = refl

@@ -1,25 +1,36 @@
--- The signal of a cell, chip by chip, and the samples that a handset receives of it (TIA/EIA-95-B, 7.1.3.1).
-use Rattle.std.specs.Prelude.{ℕ, ◌+◌, ◌-◌, ◌*◌, ◌/◌, ◌%◌, Bool, false, if◌then◌else◌, nat_lt, List, [], ◌∷◌, map, get_or, ℤ, pos, ◌*ℤ◌, Option, Some, None}
+-- The signal of a cell, chip by chip, and the samples that a handset receives of it
+-- (TIA/EIA-95-B, 7.1.3.1).
+use Rattle.std.specs.Prelude.{ℕ, ◌+◌, ◌-◌, ◌*◌, ◌/◌, ◌%◌, Bool, false, if◌then◌else◌, nat_lt, List}
+use Rattle.std.specs.Prelude.{[], ◌∷◌, map, get_or, ℤ, pos, ◌+ℤ◌, ◌*ℤ◌, Option, Some, None}
 use Rattle.chip_core.specs.Bits.{sign, places}
 use Rattle.chip_core.specs.Complex.{origin, plus, times}
 use Rattle.chip_core.specs.declared.sample.Pair.{Pair}
 use Rattle.short_code.specs.Despread.{code_point}
 use Rattle.walsh.specs.Walsh.{walsh}
+use Rattle.base_modulator.specs.declared.form.ChannelForm.{ChannelForm}
 use Rattle.base_modulator.specs.declared.plan.CellPlan.{CellPlan}
 use Rattle.base_modulator.specs.declared.plan.SyncPlan.{SyncPlan}
 use Rattle.base_modulator.specs.Sendings.{sync_symbols}
 
--- a channel: its gain, its Walsh row, and its symbol at a local chip, none outside its frames
+-- A channel that is sent: its gain, its Walsh row, the local chip at which its first frame begins,
+-- how long its frames and symbols are, and the symbols of each frame by the frame's number.
 pub record Carrier : Type 0 where
   pub gain : ℕ
   pub row : ℕ
-  pub symbol : ℕ → Option Bool
+  pub first : ℕ
+  pub form : ChannelForm
+  pub symbols : ℕ → List Bool
 
 -- the symbol of a channel whose frames follow one another from a first chip on
 abbrev pub symbol_at : ℕ → ℕ → ℕ → (ℕ → List Bool) → ℕ → Option Bool
 symbol_at first frame_chips symbol_chips symbols chip =
     if nat_lt chip first then None
-    else Some (get_or (symbols ((chip - first) / frame_chips)) ((chip - first) % frame_chips / symbol_chips) false)
+    else Some (get_or (symbols ((chip - first) / frame_chips))
+    ((chip - first) % frame_chips / symbol_chips) false)
+
+-- the symbol of a channel at a local chip, none before its first frame
+abbrev pub symbol_of : Carrier → ℕ → Option Bool
+symbol_of c chip = symbol_at c.first c.form.frame_chips c.form.symbol_chips c.symbols chip
 
 -- the gain with the symbol's sign, and 0 where there is no symbol
 abbrev pub level_of : ℕ → Option Bool → ℤ
@@ -27,38 +38,76 @@ level_of gain None = pos 0
 level_of gain (Some symbol) = pos gain *ℤ sign symbol
 
 abbrev pub level : ℕ → Carrier → ℤ
-level chip c = level_of c.gain (c.symbol chip)
+level chip c = level_of c.gain (symbol_of c chip)
 
--- the level with the sign of the channel's row; a row's chip 0 falls on the local chips that are multiples of 64
+-- The level with the sign of the channel's row. A row's chip 0 falls on the local chips that are
+-- multiples of 64.
 abbrev pub amplitude : ℕ → Carrier → ℤ
 amplitude chip c = level chip c *ℤ sign (walsh c.row (chip % 64))
+
+-- the sum of channels' amplitudes
+abbrev pub amplitudes : ℕ → List Carrier → ℤ
+amplitudes chip [] = pos 0
+amplitudes chip (c ∷ carriers) = amplitude chip c +ℤ amplitudes chip carriers
 
 abbrev pub scaled : ℤ → Pair → Pair
 scaled x z = record { i = x *ℤ z.i; q = x *ℤ z.q }
 
--- what channels send at a local chip, spread by the pilot's codes, which lie 64 chips later for each step of their offset
+-- What channels send at a local chip, spread by the pilot's codes, which lie 64 chips later for
+-- each step of their offset.
 unfoldable pub sent_chip : ℕ → List Carrier → ℕ → Pair
 sent_chip pn [] chip = origin
 sent_chip pn (c ∷ carriers) chip =
-    plus (scaled (amplitude chip c) (code_point (chip + 32768 - 64 * pn))) (sent_chip pn carriers chip)
+    plus (scaled (amplitude chip c) (code_point (chip + 32768 - 64 * pn)))
+    (sent_chip pn carriers chip)
 
--- the channels of a cell
+-- ---- the channels of a cell
+
+-- the pilot sends one symbol 0 after the other (7.1.3.2)
+abbrev pub pilot_form : ChannelForm
+pilot_form = record { frame_chips = 64; symbol_chips = 64 }
+
 abbrev pub pilot_carrier : CellPlan → Carrier
-pilot_carrier plan = record { gain = plan.pilot_gain; row = 0; symbol = λ chip. Some false }
+pilot_carrier plan =
+    record {
+      gain = plan.pilot.gain;
+      row = 0;
+      first = 0;
+      form = pilot_form;
+      symbols = λ k. false ∷ [];
+    }
 
--- sync frames begin where the cell's code chip is 0
+-- sync frames begin where the cell's code chip is 0 (7.1.3.3)
+abbrev pub sync_form : ChannelForm
+sync_form = record { frame_chips = 32768; symbol_chips = 256 }
+
+-- a paging channel's symbols last one period of its row (7.1.3.4)
+abbrev pub paging_form : ChannelForm
+paging_form = record { frame_chips = 24576; symbol_chips = 64 }
+
+abbrev pub sync_carrier : CellPlan → SyncPlan → Carrier
+sync_carrier plan sync = record {
+  gain = sync.gain;
+  row = 32;
+  first = 64 * plan.cell.pn;
+  form = sync_form;
+  symbols = sync_symbols plan.cell sync.message;
+}
+
 abbrev pub sync_carriers : CellPlan → Option SyncPlan → List Carrier
 sync_carriers plan None = []
-sync_carriers plan (Some sync) =
-    record { gain = sync.gain; row = 32; symbol = symbol_at (64 * plan.pn) 32768 256 (sync_symbols plan sync.message) } ∷ []
+sync_carriers plan (Some sync) = sync_carrier plan sync ∷ []
 
 unfoldable pub carriers : CellPlan → List Carrier
 carriers plan = pilot_carrier plan ∷ sync_carriers plan plan.sync
 
+-- ---- its samples
+
 -- sample t of the cell's file
 unfoldable pub sample_of : CellPlan → ℕ → Pair
-sample_of plan t = times plan.link (sent_chip plan.pn (carriers plan) (plan.start + t))
+sample_of plan t =
+    times plan.link.factor (sent_chip plan.cell.pn (carriers plan) (plan.link.start + t))
 
 -- all of them
 unfoldable pub samples_of : CellPlan → List Pair
-samples_of plan = map (sample_of plan) (places plan.samples)
+samples_of plan = map (sample_of plan) (places plan.link.samples)

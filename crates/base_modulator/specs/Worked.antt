@@ -11,30 +11,44 @@ use Rattle.sync_message.specs.SyncMessage.{sync_body, sync_capsule}
 use Rattle.walsh.specs.Walsh.{walsh}
 use Rattle.base_modulator.specs.declared.plan.CellPlan.{CellPlan}
 use Rattle.base_modulator.specs.declared.plan.SyncPlan.{SyncPlan}
-use Rattle.base_modulator.specs.Sendings.{message_of, sync_frame_bits, continued_symbols, sync_symbols}
+use Rattle.base_modulator.specs.Sendings.{message_of, sync_frame_bits, continued_symbols}
+use Rattle.base_modulator.specs.Sendings.{sync_symbols}
 use Rattle.base_modulator.specs.Signal.{carriers, sent_chip, sample_of}
 
 cell : Option SyncPlan → CellPlan
 cell sync = record {
-  pn = 0;
-  time = 1000;
-  lc = 2 ^ 41;
-  check30 = Plain;
-  check16 = Plain;
-  link = record { i = pos 0; q = negsuc 2 };
-  start = 0;
-  samples = 1;
-  pilot_gain = 100;
+  cell = record { pn = 0; time = 1000; lc = 2 ^ 41; check30 = Plain; check16 = Plain };
+  link = record { factor = record { i = pos 0; q = negsuc 2 }; start = 0; samples = 1 };
+  pilot = record { gain = 100 };
   sync = sync;
 }
 
 channel : SyncPlan
-channel = record { gain = 30; message = record { prev = 3; min = 1; sid = 1; nid = 2; pn = 0; lc = 1; time = 0; lp = 13; ltm = 0; daylt = 0; prat = 0; freq = None; rest = replicate 3 false } }
+channel = record {
+  gain = 30;
+  message = record {
+    prev = 3;
+    min = 1;
+    sid = 1;
+    nid = 2;
+    pn = 0;
+    lc = 1;
+    time = 0;
+    lp = 13;
+    ltm = 0;
+    daylt = 0;
+    prat = 0;
+    freq = None;
+    rest = replicate 3 false;
+  };
+}
 
 pilot_alone : sample_of (cell None) 0 ≡ record { i = negsuc 299; q = pos 300 }
 unfolding cell sample_of carriers sent_chip chips_to walsh binary
 pilot_alone = refl
 
 with_sync : sample_of (cell (Some channel)) 0 ≡ record { i = negsuc 209; q = pos 210 }
-unfolding cell channel sample_of carriers sent_chip chips_to walsh binary sync_symbols continued_symbols sync_frame_bits message_of after sync_capsule sync_body capsule check_bits places sent
+unfolding cell channel sample_of carriers sent_chip chips_to walsh binary sync_symbols
+    continued_symbols sync_frame_bits message_of after sync_capsule sync_body capsule check_bits
+    places sent
 with_sync = refl

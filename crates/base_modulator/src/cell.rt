@@ -1,47 +1,53 @@
 //! A cell's samples.
 
-ghost use Rattle.std.specs.Prelude.{◌≡◌, ◌≢◌, ◌<◌, ◌≤◌, ◌+◌, ◌%◌, ◌^◌, length, map, take, drop, All, Ok, Err, IfOk, IfErr};
+ghost use Rattle.std.specs.Prelude.{◌≡◌, ◌≢◌, ◌<◌, ◌≤◌, ◌+◌, ◌%◌, ◌^◌, length, map, take, drop};
+ghost use Rattle.std.specs.Prelude.{All};
+ghost use Rattle.std.specs.Prelude.{Ok, Err, IsOk, IfOk, IfErr};
 ghost use Rattle.chip_core.specs.Complex.{of_sample};
 ghost use Rattle.cdma_io.specs.SampleFile.{HasBits, IsLawfulHeader};
+ghost use Rattle.base_modulator.specs.Channels.{carrier_of};
 ghost use Rattle.base_modulator.specs.Plan.{IsLawfulPlan};
 ghost use Rattle.base_modulator.specs.Script.{plan_named};
-ghost use Rattle.base_modulator.specs.Signal.{sample_of, samples_of};
-ghost use Rattle.base_modulator.specs.Transmitter.{IsChannelOf, IsSendableSync, header_of, phase_at, version_of};
+ghost use Rattle.base_modulator.specs.Signal.{carriers, sample_of, samples_of};
+ghost use Rattle.base_modulator.specs.Transmitter.{IsSendableSync, header_of, phase_at, version_of};
 
+use crate::block::{BLOCK, fill_block, turned};
+use crate::channel::Channel;
+use crate::continued::ContinuedEncoder;
+use crate::frame_source::FrameSource;
 use crate::plan::CellPlan;
 use crate::script::plan_of;
 use crate::script_fault::ScriptFault;
-use crate::strength::{strength_for, turned};
-use crate::sync_channel::{FRAME_CHIPS, SyncChannel};
+use crate::sendings::Sendings;
+use crate::symbol_source::SymbolSource;
 use cdma_io::{Header, Width};
-use chip_core::{OutOfMemory, Sample};
+use chip_core::air::{CODE_CHIPS, OFFSET_CHIPS, PILOT_ROW, SYNC_ROW};
+use chip_core::{OutOfMemory, Pair, Sample};
 use short_code::Codes;
 use std::alloc::Global;
 use std::marker::Model;
 
-/// How many chips the pilot's codes have.
-const CODE_CHIPS: u64 = 32768;
-
-/// How many chips the channels' amplitudes stay the same: half a period of the sync channel's row.
-const STEADY_CHIPS: u64 = 32;
+/// How many channels a cell has at most: the pilot and the sync channel.
+const MOST_CHANNELS: usize = 2;
 
 /// A cell that gives its samples in order, as a handset receives them over the cell's link.
 ///
 /// Contracts see the width of the samples, the plan, and how many samples it has given.
 ///
-/// TIA/EIA-95-B, 7.1.3.1.8 and 7.1.3.1.9: each channel is spread by its Walsh row, and the sum of them by the pilot's
-/// codes.
+/// TIA/EIA-95-B, 7.1.3.1.8 and 7.1.3.1.9: each channel is spread by its Walsh row, and the sum of
+/// them by the pilot's codes.
 #[derive(Drop)]
 pub struct Cell {
     width: Width,
     plan: CellPlan,
     codes: Codes,
-    channel: Option<SyncChannel>,
+    channels: Vec<Channel>,
     given: u64,
     // The phase of the codes at the next sample.
     phase: u16,
-    // What the next sample is where the codes' point is 1: the link times the sum of the channels' amplitudes.
-    strength: Sample,
+    // What each chip of the next sample's block is where the codes' point is 1: the link times the
+    // sum of the channels' amplitudes.
+    block: [Pair; BLOCK],
 }
 
 impl Model for Cell {
@@ -53,7 +59,7 @@ impl Model for Cell {
 
     ghost view = { λ c. record { width = c.width; plan = c.plan; given = c.given } };
 
-    ghost invariant = { λ c. IsRunning c.width c.plan c.channel c.given c.phase c.strength };
+    ghost invariant = { λ c. IsRunning c.width c.plan c.channels.items c.given c.phase c.block };
 }
 
 /// The version of a file of this width.
@@ -66,14 +72,15 @@ fn version_for(width: Width) -> u16
     }
 }
 
-/// The phase of the codes at a local chip: they lie 64 chips later for each step of the pilot's offset.
+/// The phase of the codes at a local chip: they lie 64 chips later for each step of the pilot's
+/// offset (TIA/EIA-95-B, 7.1.3.2.1).
 fn phase_for(plan: &CellPlan, chip: u64) -> u16
-    requires pilot { plan.now.pn < 512 }
+    requires pilot { plan.now.cell.pn < 512 }
     requires chip { chip < 2 ^ 34 }
     ensures value { result ≡ phase_at plan.now chip }
     ensures below { result < 32768 }
 {
-    ((chip + CODE_CHIPS - 64 * u64::from(plan.pn)) % CODE_CHIPS) as u16
+    ((chip + CODE_CHIPS - OFFSET_CHIPS * u64::from(plan.cell.pn)) % CODE_CHIPS) as u16
 }
 
 /// The phase behind a phase.
@@ -85,27 +92,39 @@ fn next_phase(phase: u16) -> u16
     (phase + 1) % 32768
 }
 
-/// The sync channel of a plan, at the frame of the first sample, or at the first frame where that comes later.
-fn channel_for(plan: &CellPlan) -> Option<SyncChannel>
-    requires sendable { IsSendableSync plan.now plan.now.sync }
-    requires start { plan.now.start < 2 ^ 32 }
-    ensures { IsChannelOf plan.now plan.now.sync result }
+/// The channels of a plan: the pilot, and the sync channel where there is one, whose frames begin
+/// with the cell's code (TIA/EIA-95-B, 7.1.3.2 and 7.1.3.3).
+#[tactic(auto, unfolding(crate::specs::Signal::carriers))]
+fn channels_for(alloc: Global, plan: &CellPlan) -> Result<Vec<Channel>, OutOfMemory>
+    requires { IsSendableSync plan.now plan.now.sync }
+    ensures { IfOk result (λ channels. map carrier_of channels.items ≡ carriers plan.now) }
 {
-    let sync = plan.sync?;
-    let behind = plan.start.saturating_sub(64 * u64::from(plan.pn));
-    Some(SyncChannel::open(plan, &sync, behind / FRAME_CHIPS))
+    let mut channels = Vec::with_capacity(alloc, MOST_CHANNELS)?;
+    let pilot = Channel::open(plan.pilot.gain, PILOT_ROW, 0, SymbolSource::Pilot);
+    channels.push(pilot)?;
+    if let Some(sync) = plan.sync {
+        let sendings = FrameSource::Sync(Sendings::new(&plan.cell, &sync.message));
+        let source = SymbolSource::Continued(ContinuedEncoder::new(sendings));
+        let first = OFFSET_CHIPS * u64::from(plan.cell.pn);
+        channels.push(Channel::open(sync.gain, SYNC_ROW, first, source))?;
+    }
+    Ok(channels)
 }
 
 impl Cell {
-    /// The cell that a script names, in samples of a width, before its first sample; or why it names none.
+    /// The cell that a script names, in samples of a width, before its first sample; or why it
+    /// names none.
     ///
-    /// The faults are tried in the order of [`ScriptFault`], each over the whole script. [`ScriptFault::OutOfMemory`] may
-    /// come where there is none.
+    /// The faults are tried in the order of [`ScriptFault`], each over the whole script. Only where
+    /// there is none may [`ScriptFault::OutOfMemory`] come.
     pub fn new(alloc: Global, script: &[u8], width: Width) -> Result<Cell, ScriptFault>
         ensures planned { IfOk result (λ cell. plan_named width script.now ≡ Ok cell.plan) }
         ensures fresh { IfOk result (λ cell. (cell.width ≡ width) × (cell.given ≡ 0)) }
         ensures lawful { IfOk result (λ cell. IsLawfulPlan width cell.plan) }
-        ensures fault { IfErr result (λ fault. fault ≢ ScriptFault.OutOfMemory → plan_named width script.now ≡ Err fault) }
+        ensures fault { IfErr result (λ fault.
+            fault ≢ ScriptFault.OutOfMemory → plan_named width script.now ≡ Err fault) }
+        ensures memory { IfErr result (λ fault.
+            fault ≡ ScriptFault.OutOfMemory → IsOk (plan_named width script.now)) }
     {
         let plan = plan_of(script, width)?;
         match Cell::of_plan(alloc, width, plan) {
@@ -116,59 +135,65 @@ impl Cell {
 
     /// The cell of a plan, before its first sample.
     ///
-    /// It allocates the table of the codes, and that is all that can fail. Nothing is allocated later.
+    /// It allocates the table of the codes and the channels, and that is all that can fail. Nothing
+    /// is allocated later.
     pub(crate) fn of_plan(alloc: Global, width: Width, plan: CellPlan) -> Result<Cell, OutOfMemory>
         requires { IsLawfulPlan width plan }
         ensures { IfOk result (λ cell. cell ≡ record { width = width; plan = plan; given = 0 }) }
     {
         let codes = Codes::new(alloc)?;
-        let mut channel = channel_for(&plan);
-        let strength = strength_for(&plan, &mut channel, plan.start);
+        let mut channels = channels_for(alloc, &plan)?;
+        let start = plan.link.start;
+        let first = start - start % BLOCK as u64;
+        let mut block = [Pair { i: 0, q: 0 }; BLOCK];
+        fill_block(&mut channels, plan.link.factor, first, &mut block);
         Ok(Cell {
             width,
             plan,
             codes,
-            channel,
+            channels,
             given: 0,
-            phase: phase_for(&plan, plan.start),
-            strength,
+            phase: phase_for(&plan, start),
+            block,
         })
     }
 
-    /// The header of the cell's file: version 1 for samples of 16 bits and 2 for those of 8, the forms of the checks, and
-    /// the number of all samples.
+    /// The header of the cell's file: version 1 for samples of 16 bits and 2 for those of 8, the
+    /// forms of the checks, and the number of all samples.
     pub fn header(&self) -> Header
         ensures value { result ≡ header_of self.now.width self.now.plan }
         ensures lawful { IsLawfulHeader result }
     {
         Header {
             version: version_for(self.width),
-            check30: self.plan.check30,
-            check16: self.plan.check16,
-            count: self.plan.samples,
+            check30: self.plan.cell.check30,
+            check16: self.plan.cell.check16,
+            count: self.plan.link.samples,
         }
     }
 
     /// How many samples the cell has still to give.
     pub fn left(&self) -> u64
-        ensures { result + self.now.given ≡ self.now.plan.samples }
+        ensures { result + self.now.given ≡ self.now.plan.link.samples }
     {
-        self.plan.samples - self.given
+        self.plan.link.samples - self.given
     }
 
     /// The next sample.
     fn next(&mut self) -> Sample
-        requires { self.old.given < self.old.plan.samples }
+        requires { self.old.given < self.old.plan.link.samples }
         ensures value { of_sample result ≡ sample_of self.old.plan self.old.given }
         ensures fits { HasBits self.old.width result }
         ensures state { self.new ≡ record self.old { given = self.old.given + 1 } }
     {
-        let sample = turned(self.strength, self.codes.signs(self.phase));
+        let chip = self.plan.link.start + self.given;
+        let place = (chip % BLOCK as u64) as usize;
+        let sample = turned(self.block[place], self.codes.signs(self.phase));
         self.given += 1;
         self.phase = next_phase(self.phase);
-        let chip = self.plan.start + self.given;
-        if chip % STEADY_CHIPS == 0 {
-            self.strength = strength_for(&self.plan, &mut self.channel, chip);
+        if place + 1 == BLOCK {
+            let factor = self.plan.link.factor;
+            fill_block(&mut self.channels, factor, chip + 1, &mut self.block);
         }
         sample
     }
@@ -177,8 +202,9 @@ impl Cell {
     ///
     /// Whatever the cut, the pieces together are the samples of the definition.
     pub fn fill(&mut self, out: &mut [Sample])
-        requires { self.old.given + length out.old ≤ self.old.plan.samples }
-        ensures samples { map of_sample out.new ≡ take (length out.old) (drop self.old.given (samples_of self.old.plan)) }
+        requires { self.old.given + length out.old ≤ self.old.plan.link.samples }
+        ensures samples { map of_sample out.new ≡
+            take (length out.old) (drop self.old.given (samples_of self.old.plan)) }
         ensures fit { All (HasBits self.old.width) out.new }
         ensures state { self.new ≡ record self.old { given = self.old.given + length out.old } }
     {

@@ -5,7 +5,7 @@ ghost use Rattle.base_modulator.specs.Plan.{IsLawfulPlan, IsSyncPlan, sync_gain}
 ghost use Rattle.sync_message.specs.SyncMessage.{IsSyncMessage};
 
 use crate::Cell;
-use crate::plan::{CellPlan, SyncPlan};
+use crate::plan::{CellIdentity, CellPlan, LinkPlan, PilotPlan, SyncPlan};
 use cdma_io::{Header, Width};
 use chip_core::{Bits, CheckForm, Pair, Sample};
 use std::alloc::Global;
@@ -67,45 +67,55 @@ fn near_plan(start: u64, samples: u64, sync: Option<SyncPlan>) -> CellPlan
     requires sync { IsSyncPlan sync }
     requires gain { sync_gain sync ≤ 30 }
     ensures lawful { IsLawfulPlan Width.Sixteen result }
-    ensures samples { result.samples ≡ samples }
+    ensures samples { result.link.samples ≡ samples }
 {
     CellPlan {
-        pn: 0,
-        time: 1000,
-        lc: 1 << 41,
-        check30: CheckForm::Plain,
-        check16: CheckForm::Complemented,
-        link: Pair { i: 0, q: -3 },
-        start,
-        samples,
-        pilot_gain: 100,
+        cell: CellIdentity {
+            pn: 0,
+            time: 1000,
+            lc: 1 << 41,
+            check30: CheckForm::Plain,
+            check16: CheckForm::Complemented,
+        },
+        link: LinkPlan {
+            factor: Pair { i: 0, q: -3 },
+            start,
+            samples,
+        },
+        pilot: PilotPlan { gain: 100 },
         sync,
     }
 }
 
-/// A cell with the greatest offset and the latest time, whose checks are complemented, with the long message.
+/// A cell with the greatest offset and the latest time, whose checks are complemented, with the
+/// long message.
 fn far_cell(alloc: Global, start: u64, samples: u64) -> Result<Cell, Fail>
     requires start { start < 2 ^ 32 }
     requires samples { samples ≤ 33554432 }
-    ensures { IfOk result (λ cell. (cell.given ≡ 0) × (cell.plan.samples ≡ samples)) }
+    ensures { IfOk result (λ cell. (cell.given ≡ 0) × (cell.plan.link.samples ≡ samples)) }
 {
     let plan = CellPlan {
-        pn: 511,
-        time: 34_359_738_368,
-        lc: 1,
-        check30: CheckForm::Complemented,
-        check16: CheckForm::Plain,
-        link: Pair { i: 2, q: -3 },
-        start,
-        samples,
-        pilot_gain: 100,
+        cell: CellIdentity {
+            pn: 511,
+            time: 34_359_738_368,
+            lc: 1,
+            check30: CheckForm::Complemented,
+            check16: CheckForm::Plain,
+        },
+        link: LinkPlan {
+            factor: Pair { i: 2, q: -3 },
+            start,
+            samples,
+        },
+        pilot: PilotPlan { gain: 100 },
         sync: Some(channel(long_message())?),
     };
     Ok(Cell::of_plan(alloc, Width::Sixteen, plan)?)
 }
 
-/// The first 64 symbols of a frame that begins with the next sample of a cell, the first one highest: a 0 where the
-/// sample is a multiple of 130, the sum of the gains, and a 1 where it is one of 70, their difference.
+/// The first 64 symbols of a frame that begins with the next sample of a cell, the first one
+/// highest: a 0 where the sample is a multiple of 130, the sum of the gains, and a 1 where it is
+/// one of 70, their difference.
 fn next_symbols(alloc: Global, cell: &mut Cell) -> Result<u64, Fail> {
     let mut out = vec![in alloc; Sample { i: 0, q: 0 }; 256]?;
     let mut symbols = 0;
@@ -129,6 +139,7 @@ fn symbols_at(alloc: Global, frame: u64, sync: SyncPlan) -> Result<u64, Fail>
     next_symbols(alloc, &mut cell)
 }
 
+/// The first sample of a cell with a pilot alone, and with a sync channel too.
 #[test]
 fn first_samples(rt: HostRuntime) -> Result<(), Fail> {
     let mut out = [Sample { i: 0, q: 0 }; 1];
@@ -144,6 +155,7 @@ fn first_samples(rt: HostRuntime) -> Result<(), Fail> {
     Ok(())
 }
 
+/// Frames of the first two sendings, and of one far behind them, each opened at the frame.
 #[test]
 fn frames_of_several_sendings(rt: HostRuntime) -> Result<(), Fail> {
     let sync = channel(short_message())?;
@@ -155,6 +167,7 @@ fn frames_of_several_sendings(rt: HostRuntime) -> Result<(), Fail> {
     Ok(())
 }
 
+/// All frames of a sending with a frequency, and one at the latest start, in order.
 #[test]
 fn one_run_through_a_sending(rt: HostRuntime) -> Result<(), Fail> {
     let mut cell = far_cell(rt.alloc(), 98_240, 360_448)?;
@@ -181,6 +194,7 @@ fn one_run_through_a_sending(rt: HostRuntime) -> Result<(), Fail> {
     Ok(())
 }
 
+/// Samples in one piece and in pieces of seven, from a start within a block.
 #[test]
 fn any_cut_gives_the_same_samples(rt: HostRuntime) -> Result<(), Fail> {
     let mut cell = far_cell(rt.alloc(), 32_001, 3_000)?;
@@ -203,6 +217,7 @@ fn any_cut_gives_the_same_samples(rt: HostRuntime) -> Result<(), Fail> {
     Ok(())
 }
 
+/// The header of a cell's file.
 #[test]
 fn header_of_the_file(rt: HostRuntime) -> Result<(), Fail> {
     let wide = Cell::of_plan(rt.alloc(), Width::Sixteen, near_plan(0, 5, None))?;

@@ -1,19 +1,27 @@
-//! The base station: a script names a cell and the link to it, and the cell's samples are what a handset would receive.
+//! The base station: a script names a cell and the link to it, and the cell's samples are what a
+//! handset would receive.
 //!
-//! TIA/EIA-95-B, 7.1.3.1: the forward channels of a cell, spread by their Walsh rows and by the pilot's codes.
+//! TIA/EIA-95-B, 7.1.3.1: the forward channels of a cell, spread by their Walsh rows and by the
+//! pilot's codes.
 #![tactic(auto)]
 
+mod block;
 mod cell;
 #[cfg(test)]
 mod cell_tests;
+mod channel;
+mod continued;
+mod form;
+mod frame_source;
 pub mod laws;
+mod page_cycle;
 mod plan;
 mod script;
 mod script_fault;
 mod sendings;
-mod strength;
-mod sync_channel;
+mod symbol_source;
 
 pub use cell::Cell;
-pub use plan::{CellPlan, SyncPlan};
+pub use form::ChannelForm;
+pub use plan::{CellIdentity, CellPlan, LinkPlan, PilotPlan, SyncPlan};
 pub use script_fault::ScriptFault;

@@ -1,14 +1,27 @@
 //! What a script says of a cell.
 
-use chip_core::{CheckForm, Pair};
+use chip_core::{Bits, CheckForm, Pair};
 use sync_message::SyncFields;
 
-/// A cell, the link to it, and how much of its signal is wanted.
-///
-/// Local chip 0 of the cell is system time 98,304 times `time`, and the long code's state is `lc` there. Sample t is sent
-/// at local chip `start + t`, and the link multiplies it by a complex number.
+/// A cell, the link to it, and the channels that it sends.
 #[derive(Clone, Copy, PartialEq, Eq, Debug)]
 pub struct CellPlan {
+    /// Which cell it is.
+    pub cell: CellIdentity,
+    /// The link to it, and how much of its signal is wanted.
+    pub link: LinkPlan,
+    /// The pilot channel.
+    pub pilot: PilotPlan,
+    /// The sync channel, where the cell has one.
+    pub sync: Option<SyncPlan>,
+}
+
+/// A cell: its place among the others, and its clock.
+///
+/// Local chip 0 of the cell is system time 98,304 times `time`, and the long code's state is `lc`
+/// there.
+#[derive(Clone, Copy, PartialEq, Eq, Debug)]
+pub struct CellIdentity {
     /// The offset of the pilot's codes, in units of 64 chips (TIA/EIA-95-B, 7.1.3.2.1): 0 to 511.
     pub pn: u16,
     /// The system time of local chip 0, in units of 80 ms.
@@ -19,23 +32,43 @@ pub struct CellPlan {
     pub check30: CheckForm,
     /// The form of the 16-bit checks of messages.
     pub check16: CheckForm,
+}
+
+/// The link from a cell to a handset: sample t is the chip sent at local chip `start + t`, times a
+/// complex number.
+#[derive(Clone, Copy, PartialEq, Eq, Debug)]
+pub struct LinkPlan {
     /// What the link multiplies each sent chip by.
-    pub link: Pair,
+    pub factor: Pair,
     /// The local chip of the first sample.
     pub start: u64,
     /// How many samples are wanted.
     pub samples: u64,
-    /// The gain of the pilot channel.
-    pub pilot_gain: u16,
-    /// The sync channel, where the cell has one.
-    pub sync: Option<SyncPlan>,
 }
 
-/// A sync channel, which sends one message again and again.
+/// A pilot channel (TIA/EIA-95-B, 7.1.3.2).
+#[derive(Clone, Copy, PartialEq, Eq, Debug)]
+pub struct PilotPlan {
+    /// The gain of the channel.
+    pub gain: u16,
+}
+
+/// A sync channel, which sends one message again and again (TIA/EIA-95-B, 7.1.3.3).
 #[derive(Clone, Copy, PartialEq, Eq, Debug)]
 pub struct SyncPlan {
     /// The gain of the channel.
     pub gain: u16,
-    /// The message. Each sending has its own PILOT_PN, SYS_TIME and LC_STATE in place of those that stand here.
+    /// The message. Each sending has its own PILOT_PN, SYS_TIME and LC_STATE in place of those that
+    /// stand here.
     pub message: SyncFields,
+}
+
+/// A page of a paging channel: a message's body, and where its capsule begins (TIA/EIA-95-B,
+/// 7.7.2.1).
+#[derive(Clone, Copy, PartialEq, Eq, Debug)]
+pub struct Page {
+    /// Whether the capsule begins right behind the one before it, and not with the next half-frame.
+    pub follows: bool,
+    /// The body.
+    pub body: Bits,
 }

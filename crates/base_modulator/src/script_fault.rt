@@ -4,14 +4,16 @@ use thiserror::Error;
 
 /// Why a script names no cell.
 ///
-/// The faults are tried in the order `TooBig`, `Line`, `Walsh`, `Gain`, `TooLoud`, `TooLong`, each over the whole script.
+/// The faults are tried in the order `TooBig`, `Line`, `Walsh`, `Gain`, `TooLoud`, `TooLong`, each
+/// over the whole script.
 #[derive(Clone, Copy, PartialEq, Eq, Debug, Error)]
 pub enum ScriptFault {
     /// A line can't stand where it stands, or is missing.
     #[error("line {n}")]
     Line {
-        /// The least number, counted from 1, such that no script without this fault begins with lines 1 to `n`; the number
-        /// of the line after the last where a needed line is missing at the end.
+        /// The least number, counted from 1, such that no script without this fault begins with
+        /// lines 1 to `n`; the number of the line after the last where a needed line is missing at
+        /// the end.
         n: u32,
     },
     /// A Walsh row can't be used for traffic, or is used twice.
@@ -23,7 +25,8 @@ pub enum ScriptFault {
     /// A gain is 0.
     #[error("gain {row}")]
     Gain {
-        /// The Walsh row of the channel with this gain, the first in the script: 0 for the pilot, 32 for the sync channel.
+        /// The Walsh row of the channel with this gain, the first in the script: 0 for the pilot,
+        /// 32 for the sync channel.
         row: u8,
     },
     /// The signal may pass what the samples can hold: 32,767 with 16 bits, 127 with 8 bits.

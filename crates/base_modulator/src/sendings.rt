@@ -1,23 +1,27 @@
 //! The sendings of the sync channel's message.
 
-ghost use Rattle.std.specs.Prelude.{◌≡◌, ◌<◌, ◌≤◌, ◌+◌, ◌*◌, ◌/◌, ◌^◌, ◌==◌, Bool, false, ◌∷◌, ◌++◌, length, take, drop, replicate, get_or};
+ghost use Rattle.std.specs.Prelude.{◌≡◌, ◌<◌, ◌≤◌, ◌+◌, ◌*◌, ◌/◌, ◌^◌, ◌==◌, Bool, false, ◌∷◌};
+ghost use Rattle.std.specs.Prelude.{◌++◌, length, take, drop, replicate, get_or};
 ghost use Rattle.sync_message.specs.Framing.{superframes_of};
 ghost use Rattle.sync_message.specs.SyncMessage.{IsSyncMessage, sync_capsule};
 ghost use Rattle.base_modulator.specs.Sendings.{message_of, superframes_a_sending, sync_frame_bits};
 ghost use Rattle.base_modulator.specs.Transmitter.{IsSendable};
 
-use crate::plan::CellPlan;
+use crate::plan::CellIdentity;
 use chip_core::Bits;
+use chip_core::air::{SUPERFRAME_BITS, SUPERFRAME_CHIPS, SYNC_BODY_BITS};
 use long_code::State;
 use std::marker::Model;
 use sync_message::{SyncFields, SyncMessage};
 
-/// The sendings of a cell's message, of which one is kept as its capsule. Contracts see the plan and the message.
+/// The sendings of a cell's message, of which one is kept as its capsule. Contracts see the cell
+/// and the message.
 ///
-/// TIA/EIA-95-B, 7.7.1.2: a superframe of 80 ms has three frames, and a message takes as many superframes as it needs.
+/// TIA/EIA-95-B, 7.7.1.2: a superframe of 80 ms has three frames, and a message takes as many
+/// superframes as it needs.
 #[derive(Drop)]
 pub struct Sendings {
-    plan: CellPlan,
+    cell: CellIdentity,
     message: SyncFields,
     superframes: u64,
     kept: u64,
@@ -31,45 +35,50 @@ impl Model for Sendings {
 
     ghost use Rattle.base_modulator.specs.Kept.{IsKept};
 
-    ghost view = { λ s. record { plan = s.plan; message = s.message } };
+    ghost view = { λ s. record { cell = s.cell; message = s.message } };
 
-    ghost invariant = { λ s. IsKept s.plan s.message s.superframes s.kept s.capsule };
+    ghost invariant = { λ s. IsKept s.cell s.message s.superframes s.kept s.capsule };
 }
 
 /// How many superframes a capsule takes.
 fn superframes_for(capsule: &Bits) -> u64
     ensures { result ≡ superframes_of capsule.now }
 {
-    (u64::from(capsule.len()) + 92) / 93
+    u64::from((capsule.len() + SUPERFRAME_BITS - 1) / SUPERFRAME_BITS)
 }
 
-/// The message of a sending: it tells the time and the long code's state four superframes behind its last one, less the
-/// pilot's offset.
-fn message_for(plan: &CellPlan, message: &SyncFields, superframes: u64, sending: u64) -> SyncFields
-    requires sendable { IsSendable plan.now message.now }
-    requires superframes { superframes ≡ superframes_a_sending plan.now message.now }
+/// The message of a sending: it tells the time and the long code's state four superframes behind
+/// its last one, less the pilot's offset.
+fn message_for(
+    cell: &CellIdentity,
+    message: &SyncFields,
+    superframes: u64,
+    sending: u64,
+) -> SyncFields
+    requires sendable { IsSendable cell.now message.now }
+    requires superframes { superframes ≡ superframes_a_sending cell.now message.now }
     requires few { superframes ≤ 13 }
     requires early { sending < 2 ^ 20 }
-    ensures value { result ≡ message_of plan.now message.now sending }
+    ensures value { result ≡ message_of cell.now message.now sending }
     ensures is { IsSyncMessage result }
 {
     let told = (sending + 1) * superframes + 4;
-    let mut state = State::new(plan.lc).unwrap();
-    state.jump(98304 * told);
+    let mut state = State::new(cell.lc).unwrap();
+    state.jump(SUPERFRAME_CHIPS * told);
     SyncFields {
-        pn: plan.pn,
-        time: plan.time + told,
+        pn: cell.pn,
+        time: cell.time + told,
         lc: state.value(),
         ..*message
     }
 }
 
 /// The capsule of a message that has a spelling.
-fn capsule_for(plan: &CellPlan, message: SyncFields) -> Bits
+fn capsule_for(cell: &CellIdentity, message: SyncFields) -> Bits
     requires { IsSyncMessage message }
-    ensures { result ≡ sync_capsule plan.now.check30 message }
+    ensures { result ≡ sync_capsule cell.now.check30 message }
 {
-    SyncMessage::new(message).unwrap().encode(plan.check30)
+    SyncMessage::new(message).unwrap().encode(cell.check30)
 }
 
 /// A bit of a list, and 0 behind its end.
@@ -79,55 +88,50 @@ fn bit_or_zero(bits: &Bits, i: u16) -> bool
     i < bits.len() && bits.get(i)
 }
 
-/// The bits of a frame of a sending: the SOM bit, 1 in the first frame, and 31 bits of the capsule, with zeros behind it.
+/// The bits of a frame of a sending: the SOM bit, 1 in the first frame, and 31 bits of the capsule,
+/// with zeros behind it.
 fn piece_of(capsule: &Bits, place: u16) -> Bits
     requires { 31 * place ≤ length capsule.now + 62 }
-    ensures value { result ≡ (place == 0) ∷ take 31 (drop (31 * place) (capsule.now ++ replicate 93 false)) }
+    ensures value { result ≡
+        (place == 0) ∷ take 31 (drop (31 * place) (capsule.now ++ replicate 93 false)) }
     ensures count { length result ≡ 32 }
 {
     let _most = capsule.len();
     let mut bits = Bits::empty();
     bits.append(place == 0);
-    for k in 0..31u16 {
-        bits.append(bit_or_zero(capsule, 31 * place + k));
+    for k in 0..SYNC_BODY_BITS {
+        bits.append(bit_or_zero(capsule, SYNC_BODY_BITS * place + k));
     }
     bits
 }
 
 impl Sendings {
     /// The sendings of a message, with the first one kept.
-    pub fn new(plan: &CellPlan, message: &SyncFields) -> Sendings
-        requires { IsSendable plan.now message.now }
-        ensures { result ≡ record { plan = plan.now; message = message.now } }
+    pub fn new(cell: &CellIdentity, message: &SyncFields) -> Sendings
+        requires { IsSendable cell.now message.now }
+        ensures { result ≡ record { cell = cell.now; message = message.now } }
     {
-        let superframes = superframes_for(&capsule_for(plan, *message));
-        let first = message_for(plan, message, superframes, 0);
+        let superframes = superframes_for(&capsule_for(cell, *message));
+        let first = message_for(cell, message, superframes, 0);
         Sendings {
-            plan: *plan,
+            cell: *cell,
             message: *message,
             superframes,
             kept: 0,
-            capsule: capsule_for(plan, first),
+            capsule: capsule_for(cell, first),
         }
-    }
-
-    /// The pilot's offset.
-    pub fn pilot(&self) -> u16
-        ensures value { result ≡ self.now.plan.pn }
-        ensures below { result < 512 }
-    {
-        self.plan.pn
     }
 
     /// The capsule of a sending.
     fn capsule_of(&mut self, sending: u64) -> Bits
         requires { sending < 2 ^ 20 }
-        ensures value { result ≡ sync_capsule self.old.plan.check30 (message_of self.old.plan self.old.message sending) }
+        ensures value { result ≡ sync_capsule self.old.cell.check30
+            (message_of self.old.cell self.old.message sending) }
         ensures same { self.new ≡ self.old }
     {
         if self.kept != sending {
-            let message = message_for(&self.plan, &self.message, self.superframes, sending);
-            self.capsule = capsule_for(&self.plan, message);
+            let message = message_for(&self.cell, &self.message, self.superframes, sending);
+            self.capsule = capsule_for(&self.cell, message);
             self.kept = sending;
         }
         self.capsule
@@ -136,7 +140,7 @@ impl Sendings {
     /// The 32 bits of a frame.
     pub fn frame_bits(&mut self, frame: u64) -> Bits
         requires { frame < 2 ^ 20 }
-        ensures value { result ≡ sync_frame_bits self.old.plan self.old.message frame }
+        ensures value { result ≡ sync_frame_bits self.old.cell self.old.message frame }
         ensures count { length result ≡ 32 }
         ensures same { self.new ≡ self.old }
     {

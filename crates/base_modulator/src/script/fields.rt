@@ -1,16 +1,20 @@
 //! The fields of a line, read one after another.
 
-ghost use Rattle.std.specs.Prelude.{◌≡◌, ◌≤◌, ℕ, Bool, List, true, false, length, IfSome, OnSome, MatchOption, IsTrue, ◌↔◌, unsigned_abs, []};
+ghost use Rattle.std.specs.Prelude.{◌≡◌, ◌≤◌, ℕ, Bool, List, true, false, length, IfSome, OnSome};
+ghost use Rattle.std.specs.Prelude.{MatchOption, IsTrue, ◌↔◌, unsigned_abs, [], None, Some};
 ghost use Rattle.long_code.specs.LongCode.{IsState};
-ghost use Rattle.base_modulator.specs.ScriptValues.{begins_with, bits_in, number_up_to, signed_in, state_in};
-ghost use Rattle.base_modulator.specs.ScriptLines.{field, past, value_of};
+ghost use Rattle.base_modulator.specs.ScriptValues.{begins_with, bits_in, number_up_to, signed_in};
+ghost use Rattle.base_modulator.specs.ScriptValues.{state_in};
+ghost use Rattle.base_modulator.specs.ScriptFields.{AreUpTo, field, numbers_in, past, past_numbers};
+ghost use Rattle.base_modulator.specs.ScriptFields.{rows_of, value_of};
 
+use crate::script::tables::NumberField;
 use crate::script::values::{bits_in, length_before, number_up_to, signed_in, state_in};
 use chip_core::Bits;
 use std::marker::Model;
 
-/// Reads the fields of a line in order. A key is what stands before a value: ` name=`, with the statement's word before the
-/// first. Contracts see the text that is left.
+/// Reads the fields of a line in order. A key is what stands before a value: ` name=`, with the
+/// statement's word before the first. Contracts see the text that is left.
 #[derive(Drop)]
 pub(crate) struct Fields<'a> {
     text: &'a [u8],
@@ -47,9 +51,11 @@ impl<'a> Fields<'a> {
     }
 
     /// The text of the value behind this key.
-    #[tactic(auto, unfolding(crate::specs::ScriptLines::past))]
+    #[tactic(auto, unfolding(crate::specs::ScriptFields::past))]
     fn value(&mut self, key: &[u8]) -> Option<&'a [u8]>
-        ensures value { MatchOption result (begins_with self.old key.now ≡ false) (λ value. (begins_with self.old key.now ≡ true) × (value.now ≡ value_of key.now self.old)) }
+        ensures value { MatchOption result (begins_with self.old key.now ≡ false)
+            (λ value. (begins_with self.old key.now ≡ true) ×
+            (value.now ≡ value_of key.now self.old)) }
         ensures rest { OnSome result (self.new ≡ past key.now self.old) }
     {
         let text = self.text.strip_prefix(key)?;
@@ -59,7 +65,7 @@ impl<'a> Fields<'a> {
     }
 
     /// A number of at most `most`.
-    #[tactic(auto, unfolding(crate::specs::ScriptLines::field))]
+    #[tactic(auto, unfolding(crate::specs::ScriptFields::field))]
     pub(crate) fn number(&mut self, key: &[u8], most: u64) -> Option<u64>
         ensures value { result ≡ field key.now (number_up_to most) self.old }
         ensures range { IfSome result (λ n. n ≤ most) }
@@ -68,8 +74,22 @@ impl<'a> Fields<'a> {
         number_up_to(self.value(key)?, most)
     }
 
+    /// The numbers of fields that follow one another.
+    pub(crate) fn numbers(&mut self, table: &[NumberField], out: &mut [u64]) -> Option<()>
+        requires { length out.old ≡ length table.now }
+        ensures value { MatchOption result (numbers_in (rows_of table.now) self.old ≡ None)
+            (λ _. numbers_in (rows_of table.now) self.old ≡ Some out.new) }
+        ensures range { OnSome result (AreUpTo (rows_of table.now) out.new) }
+        ensures rest { OnSome result (self.new ≡ past_numbers (rows_of table.now) self.old) }
+    {
+        for (k, field) in table.iter().enumerate() {
+            out[k] = self.number(field.key, field.most)?;
+        }
+        Some(())
+    }
+
     /// A number with a sign, from -32,768 to 32,767.
-    #[tactic(auto, unfolding(crate::specs::ScriptLines::field))]
+    #[tactic(auto, unfolding(crate::specs::ScriptFields::field))]
     pub(crate) fn signed(&mut self, key: &[u8]) -> Option<i64>
         ensures value { result ≡ field key.now signed_in self.old }
         ensures range { IfSome result (λ n. unsigned_abs n ≤ 32768) }
@@ -79,7 +99,7 @@ impl<'a> Fields<'a> {
     }
 
     /// A state of the long code.
-    #[tactic(auto, unfolding(crate::specs::ScriptLines::field))]
+    #[tactic(auto, unfolding(crate::specs::ScriptFields::field))]
     pub(crate) fn state(&mut self, key: &[u8]) -> Option<u64>
         ensures value { result ≡ field key.now state_in self.old }
         ensures range { IfSome result IsState }
@@ -89,7 +109,7 @@ impl<'a> Fields<'a> {
     }
 
     /// A list of bits.
-    #[tactic(auto, unfolding(crate::specs::ScriptLines::field))]
+    #[tactic(auto, unfolding(crate::specs::ScriptFields::field))]
     pub(crate) fn bits(&mut self, key: &[u8]) -> Option<Bits>
         ensures value { result ≡ field key.now bits_in self.old }
         ensures rest { OnSome result (self.new ≡ past key.now self.old) }

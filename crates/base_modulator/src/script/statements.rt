@@ -1,46 +1,24 @@
 //! The statements of a script, each on a line.
 
 ghost use Rattle.std.specs.Prelude.{◌≡◌, ◌≤◌, ◌<◌, ◌^◌, IfSome, OnSome};
-ghost use Rattle.base_modulator.specs.ScriptLines.{cell_in, form_of, freq_in, link_in, past_freq, pilot_in, sync_in, sync_message};
-ghost use Rattle.base_modulator.specs.ScriptPlans.{IsCellLine, IsLinkLine};
+ghost use Rattle.base_modulator.specs.ScriptLines.{cell_in, check_form, freq_in, link_in};
+ghost use Rattle.base_modulator.specs.ScriptLines.{past_freq, pilot_in, sync_behind, sync_fields};
+ghost use Rattle.base_modulator.specs.ScriptLines.{sync_in, lawful_message, sync_table};
+ghost use Rattle.base_modulator.specs.ScriptFields.{AreUpTo};
+ghost use Rattle.base_modulator.specs.ScriptPlans.{IsStatedCell, IsStatedLink};
 ghost use Rattle.sync_message.specs.SyncMessage.{IsSyncMessage};
 ghost use Rattle.chip_core.specs.Fields.{FieldsFit};
 ghost use Rattle.sync_message.specs.SyncMessage.{fixed_fields};
 
-use crate::plan::SyncPlan;
+use crate::plan::{CellIdentity, LinkPlan, PilotPlan, SyncPlan};
 use crate::script::fields::Fields;
-use chip_core::{CheckForm, Pair};
+use crate::script::tables::SYNC_NUMBERS;
+use chip_core::{Bits, CheckForm, Pair};
 use sync_message::{SyncFields, SyncMessage};
 
-/// The statement `cell pn=P time=T lc=H checks=C`.
-#[derive(Clone, Copy)]
-pub(crate) struct CellLine {
-    /// The offset of the pilot's codes, in units of 64 chips.
-    pub(crate) pn: u16,
-    /// The system time of local chip 0, in units of 80 ms.
-    pub(crate) time: u64,
-    /// The long code's state at local chip 0.
-    pub(crate) lc: u64,
-    /// The form of the 30-bit checks.
-    pub(crate) check30: CheckForm,
-    /// The form of the 16-bit checks.
-    pub(crate) check16: CheckForm,
-}
-
-/// The statement `link re=A im=B start=S samples=N`.
-#[derive(Clone, Copy)]
-pub(crate) struct LinkLine {
-    /// What the link multiplies each sent chip by: A + jB.
-    pub(crate) factor: Pair,
-    /// The local chip of the first sample.
-    pub(crate) start: u64,
-    /// How many samples are wanted.
-    pub(crate) samples: u64,
-}
-
 /// The form of checks: complemented where the bit is 1.
-fn form_of(bit: u64) -> CheckForm
-    ensures { result ≡ form_of bit }
+fn check_form(bit: u64) -> CheckForm
+    ensures { result ≡ check_form bit }
 {
     if bit == 1 {
         CheckForm::Complemented
@@ -51,9 +29,9 @@ fn form_of(bit: u64) -> CheckForm
 
 /// What a `cell` line says.
 #[tactic(auto, unfolding(crate::specs::ScriptLines::cell_in))]
-pub(crate) fn cell_in(text: &[u8]) -> Option<CellLine>
+pub(crate) fn cell_in(text: &[u8]) -> Option<CellIdentity>
     ensures value { result ≡ cell_in text.now }
-    ensures lawful { IfSome result IsCellLine }
+    ensures lawful { IfSome result IsStatedCell }
 {
     let mut fields = Fields::new(text);
     let pn = fields.number(b"cell pn=", 511)?;
@@ -63,20 +41,20 @@ pub(crate) fn cell_in(text: &[u8]) -> Option<CellLine>
     if !fields.at_end() {
         return None;
     }
-    Some(CellLine {
+    Some(CellIdentity {
         pn: pn as u16,
         time,
         lc,
-        check30: form_of(checks % 2),
-        check16: form_of(checks / 2),
+        check30: check_form(checks % 2),
+        check16: check_form(checks / 2),
     })
 }
 
 /// What a `link` line says.
 #[tactic(auto, unfolding(crate::specs::ScriptLines::link_in))]
-pub(crate) fn link_in(text: &[u8]) -> Option<LinkLine>
+pub(crate) fn link_in(text: &[u8]) -> Option<LinkPlan>
     ensures value { result ≡ link_in text.now }
-    ensures lawful { IfSome result IsLinkLine }
+    ensures lawful { IfSome result IsStatedLink }
 {
     let mut fields = Fields::new(text);
     let re = fields.signed(b"link re=")?;
@@ -86,16 +64,16 @@ pub(crate) fn link_in(text: &[u8]) -> Option<LinkLine>
     if re.unsigned_abs() + im.unsigned_abs() == 0 || samples == 0 || !fields.at_end() {
         return None;
     }
-    Some(LinkLine {
+    Some(LinkPlan {
         factor: Pair { i: re, q: im },
         start,
         samples,
     })
 }
 
-/// The gain that a `pilot` line says.
+/// What a `pilot` line says.
 #[tactic(auto, unfolding(crate::specs::ScriptLines::pilot_in))]
-pub(crate) fn pilot_in(text: &[u8]) -> Option<u16>
+pub(crate) fn pilot_in(text: &[u8]) -> Option<PilotPlan>
     ensures { result ≡ pilot_in text.now }
 {
     let mut fields = Fields::new(text);
@@ -103,46 +81,58 @@ pub(crate) fn pilot_in(text: &[u8]) -> Option<u16>
     if !fields.at_end() {
         return None;
     }
-    Some(gain as u16)
+    Some(PilotPlan { gain: gain as u16 })
 }
 
 /// What a `sync` line says. Its message has zeros for PILOT_PN, SYS_TIME and LC_STATE.
-#[tactic(auto, unfolding(crate::specs::ScriptLines::sync_in))]
 pub(crate) fn sync_in(text: &[u8]) -> Option<SyncPlan>
     ensures value { result ≡ sync_in text.now }
     ensures lawful { IfSome result (λ sync. IsSyncMessage sync.message) }
 {
     let mut fields = Fields::new(text);
-    let gain = fields.number(b"sync gain=", 65_535)? as u16;
-    let prev = fields.number(b" prev=", 255)? as u8;
-    let min = fields.number(b" min=", 255)? as u8;
-    let sid = fields.number(b" sid=", 32_767)? as u16;
-    let nid = fields.number(b" nid=", 65_535)? as u16;
-    let lp = fields.number(b" lp=", 255)? as u8;
-    let ltm = fields.number(b" ltm=", 63)? as u8;
-    let daylt = fields.number(b" daylt=", 1)? as u8;
-    let prat = fields.number(b" prat=", 3)? as u8;
+    let mut numbers = [0; SYNC_NUMBERS.len()];
+    fields.numbers(&SYNC_NUMBERS, &mut numbers)?;
+    sync_behind(&numbers, fields)
+}
+
+/// What a `sync` line says by its numbers and by the fields behind them.
+#[tactic(auto, unfolding(crate::specs::ScriptLines::sync_behind))]
+fn sync_behind(numbers: &[u64; 9], mut fields: Fields<'_>) -> Option<SyncPlan>
+    requires { AreUpTo sync_table numbers.now }
+    ensures value { result ≡ sync_behind numbers.now fields.entry }
+    ensures lawful { IfSome result (λ sync. IsSyncMessage sync.message) }
+{
     let freq = freq_in(&mut fields)?;
     let rest = fields.bits(b" rest=")?;
-    let message = message_of(SyncFields {
-        prev,
-        min,
-        sid,
-        nid,
-        pn: 0,
-        lc: 0,
-        time: 0,
-        lp,
-        ltm,
-        daylt,
-        prat,
-        freq,
-        rest,
-    })?;
+    let message = message_with(sync_fields(numbers, freq, rest))?;
     if !fields.at_end() {
         return None;
     }
+    let gain = numbers[0] as u16;
     Some(SyncPlan { gain, message })
+}
+
+/// What the numbers of a `sync` line say.
+fn sync_fields(numbers: &[u64; 9], freq: Option<u16>, rest: Bits) -> SyncFields
+    requires { AreUpTo sync_table numbers.now }
+    ensures value { result ≡ sync_fields numbers.now freq rest }
+    ensures fixed { FieldsFit (fixed_fields result) }
+{
+    SyncFields {
+        prev: numbers[1] as u8,
+        min: numbers[2] as u8,
+        sid: numbers[3] as u16,
+        nid: numbers[4] as u16,
+        pn: 0,
+        lc: 0,
+        time: 0,
+        lp: numbers[5] as u8,
+        ltm: numbers[6] as u8,
+        daylt: numbers[7] as u8,
+        prat: numbers[8] as u8,
+        freq,
+        rest,
+    }
 }
 
 /// The frequency of a `sync` line, which may be left out.
@@ -159,10 +149,10 @@ fn freq_in(fields: &mut Fields<'_>) -> Option<Option<u16>>
 }
 
 /// The message of these fields, if its rest has a length that it admits.
-fn message_of(fields: SyncFields) -> Option<SyncFields>
+fn message_with(fields: SyncFields) -> Option<SyncFields>
     requires fixed { FieldsFit (fixed_fields fields) }
     requires freq { IfSome fields.freq (λ n. n < 2 ^ 11) }
-    ensures value { result ≡ sync_message fields }
+    ensures value { result ≡ lawful_message fields }
     ensures lawful { IfSome result IsSyncMessage }
 {
     Some(SyncMessage::new(fields)?.fields())

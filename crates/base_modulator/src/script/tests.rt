@@ -1,6 +1,6 @@
 //! Scripts written by hand, and what they name.
 
-use crate::plan::{CellPlan, SyncPlan};
+use crate::plan::{CellIdentity, CellPlan, LinkPlan, PilotPlan, SyncPlan};
 use crate::script::plan_of;
 use crate::script_fault::ScriptFault;
 use cdma_io::Width;
@@ -9,15 +9,19 @@ use std::alloc::{AllocError, Global};
 use std::test::Fail;
 use sync_message::SyncFields;
 
+/// A lawful `cell` line.
 const CELL: &str = "cell pn=511 time=1000 lc=20000000000 checks=0\n";
 
+/// A lawful `link` line.
 const LINK: &str = "link re=0 im=-3 start=0 samples=1228800\n";
 
+/// A lawful `pilot` line.
 const PILOT: &str = "pilot gain=100\n";
 
+/// A lawful `sync` line.
 const SYNC: &str = "sync gain=30 prev=3 min=1 sid=1 nid=2 lp=13 ltm=0 daylt=0 prat=0 rest=3:00\n";
 
-// Lines that can't stand in the place of a cell's.
+/// Lines that can't stand in the place of a cell's.
 const FAULTY_CELLS: [&str; 35] = [
     "\n",
     "cell\n",
@@ -56,7 +60,7 @@ const FAULTY_CELLS: [&str; 35] = [
     "cell pn=511 time=1000 lc=20000000000 checks=00\n",
 ];
 
-// Lines that can't stand in the place of the link's.
+/// Lines that can't stand in the place of the link's.
 const FAULTY_LINKS: [&str; 22] = [
     "link\n",
     "link re=0 im=-3 start=0\n",
@@ -82,7 +86,7 @@ const FAULTY_LINKS: [&str; 22] = [
     "link im=-3 re=0 start=0 samples=1228800\n",
 ];
 
-// Lines that can't stand in the place of the pilot's.
+/// Lines that can't stand in the place of the pilot's.
 const FAULTY_PILOTS: [&str; 9] = [
     "pilot\n",
     "pilot gain=\n",
@@ -95,7 +99,7 @@ const FAULTY_PILOTS: [&str; 9] = [
     "pilots gain=100\n",
 ];
 
-// Lines that can't stand in the place of the sync channel's.
+/// Lines that can't stand in the place of the sync channel's.
 const FAULTY_SYNCS: [&str; 30] = [
     "sync\n",
     "sync gain=30\n",
@@ -129,7 +133,8 @@ const FAULTY_SYNCS: [&str; 30] = [
     "cell pn=511 time=1000 lc=20000000000 checks=0 \u{e9}\n",
 ];
 
-// Scripts whose lines don't follow one another, and the number of the first that can't stand where it stands.
+/// Scripts whose lines don't follow one another, and the number of the first that can't stand where
+/// it stands.
 const FAULTY_ORDERS: [(&[&str], u32); 24] = [
     (&[], 1),
     (&[CELL], 2),
@@ -157,7 +162,7 @@ const FAULTY_ORDERS: [(&[&str], u32); 24] = [
     (&[CELL, LINK, PILOT, SYNC, PILOT, CELL], 5),
 ];
 
-// Lawful lines whose numbers are at an end of their range.
+/// Lawful lines whose numbers are at an end of their range.
 const LAWFUL_CELLS: [&str; 4] = [
     "cell pn=0 time=0 lc=00000000001 checks=0\n",
     "cell pn=511 time=34359738368 lc=3fffffffffF checks=3\n",
@@ -165,6 +170,7 @@ const LAWFUL_CELLS: [&str; 4] = [
     "cell pn=10 time=99 lc=0000000000a checks=2\n",
 ];
 
+/// Likewise `link` lines.
 const LAWFUL_LINKS: [&str; 4] = [
     "link re=1 im=0 start=0 samples=1\n",
     "link re=0 im=1 start=4294967295 samples=33554432\n",
@@ -172,6 +178,7 @@ const LAWFUL_LINKS: [&str; 4] = [
     "link re=-20 im=20 start=1 samples=9\n",
 ];
 
+/// And `sync` lines.
 const LAWFUL_SYNCS: [&str; 6] = [
     "sync gain=1 prev=0 min=0 sid=0 nid=0 lp=0 ltm=0 daylt=0 prat=0 rest=3:00\n",
     "sync gain=1 prev=255 min=255 sid=32767 nid=65535 lp=255 ltm=63 daylt=1 prat=3 rest=3:e0\n",
@@ -185,7 +192,7 @@ const LAWFUL_SYNCS: [&str; 6] = [
      00112233445566778899aabbccddeeff00112233445566778899\n",
 ];
 
-// Scripts whose lines state a plan, and its fault.
+/// Scripts whose lines state a plan, and its fault.
 const FAULTY_PLANS: [(&[&str], Width, ScriptFault); 20] = [
     (
         &[
@@ -357,7 +364,7 @@ const FAULTY_PLANS: [(&[&str], Width, ScriptFault); 20] = [
     ),
 ];
 
-// The script of these lines.
+/// The script of these lines.
 fn script_of(alloc: Global, lines: &[&str]) -> Result<String, AllocError> {
     let mut script = String::new(alloc);
     for line in lines {
@@ -366,7 +373,7 @@ fn script_of(alloc: Global, lines: &[&str]) -> Result<String, AllocError> {
     Ok(script)
 }
 
-// Why the script of these lines names no cell.
+/// Why the script of these lines names no cell.
 fn fault_of(
     alloc: Global,
     lines: &[&str],
@@ -379,22 +386,27 @@ fn fault_of(
     }
 }
 
-// The plan of the lawful lines, with this sync channel.
+/// The plan of the lawful lines, with this sync channel.
 fn lawful_plan(sync: Option<SyncPlan>) -> CellPlan {
     CellPlan {
-        pn: 511,
-        time: 1000,
-        lc: 0x200_0000_0000,
-        check30: CheckForm::Plain,
-        check16: CheckForm::Plain,
-        link: Pair { i: 0, q: -3 },
-        start: 0,
-        samples: 1_228_800,
-        pilot_gain: 100,
+        cell: CellIdentity {
+            pn: 511,
+            time: 1000,
+            lc: 0x200_0000_0000,
+            check30: CheckForm::Plain,
+            check16: CheckForm::Plain,
+        },
+        link: LinkPlan {
+            factor: Pair { i: 0, q: -3 },
+            start: 0,
+            samples: 1_228_800,
+        },
+        pilot: PilotPlan { gain: 100 },
         sync,
     }
 }
 
+/// A script without a sync channel, and one with it.
 #[test]
 fn names_a_cell(rt: HostRuntime) -> Result<(), Fail> {
     let script = script_of(rt.alloc(), &[CELL, LINK, PILOT])?;
@@ -431,6 +443,7 @@ fn names_a_cell(rt: HostRuntime) -> Result<(), Fail> {
     Ok(())
 }
 
+/// Each field of each statement goes to its own part of the plan.
 #[test]
 fn names_what_each_word_says(rt: HostRuntime) -> Result<(), Fail> {
     let cell = "cell pn=12 time=34 lc=1aB000000c0 checks=2\n";
@@ -457,15 +470,19 @@ fn names_what_each_word_says(rt: HostRuntime) -> Result<(), Fail> {
         rest,
     };
     let plan = CellPlan {
-        pn: 12,
-        time: 34,
-        lc: 0x1ab_0000_00c0,
-        check30: CheckForm::Plain,
-        check16: CheckForm::Complemented,
-        link: Pair { i: -1, q: 2 },
-        start: 5,
-        samples: 6,
-        pilot_gain: 7,
+        cell: CellIdentity {
+            pn: 12,
+            time: 34,
+            lc: 0x1ab_0000_00c0,
+            check30: CheckForm::Plain,
+            check16: CheckForm::Complemented,
+        },
+        link: LinkPlan {
+            factor: Pair { i: -1, q: 2 },
+            start: 5,
+            samples: 6,
+        },
+        pilot: PilotPlan { gain: 7 },
         sync: Some(SyncPlan { gain: 8, message }),
     };
     let script = script_of(rt.alloc(), &[cell, link, "pilot gain=7\n", sync])?;
@@ -473,6 +490,7 @@ fn names_what_each_word_says(rt: HostRuntime) -> Result<(), Fail> {
     Ok(())
 }
 
+/// Lines whose numbers are at the ends of their ranges.
 #[test]
 fn admits_the_ends_of_ranges(rt: HostRuntime) -> Result<(), Fail> {
     let alloc = rt.alloc();
@@ -520,6 +538,7 @@ fn admits_the_ends_of_ranges(rt: HostRuntime) -> Result<(), Fail> {
     Ok(())
 }
 
+/// Lines that no script has.
 #[test]
 fn refuses_lines(rt: HostRuntime) -> Result<(), Fail> {
     let alloc = rt.alloc();
@@ -542,6 +561,7 @@ fn refuses_lines(rt: HostRuntime) -> Result<(), Fail> {
     Ok(())
 }
 
+/// Lines that stand where they can't, or are missing.
 #[test]
 fn refuses_orders(rt: HostRuntime) -> Result<(), Fail> {
     for (lines, n) in FAULTY_ORDERS {
@@ -551,6 +571,7 @@ fn refuses_orders(rt: HostRuntime) -> Result<(), Fail> {
     Ok(())
 }
 
+/// Plans that can't be sent, with the first of their faults.
 #[test]
 fn refuses_plans(rt: HostRuntime) -> Result<(), Fail> {
     for (lines, width, fault) in FAULTY_PLANS {
@@ -559,6 +580,7 @@ fn refuses_plans(rt: HostRuntime) -> Result<(), Fail> {
     Ok(())
 }
 
+/// A script of just as many bytes as one may have, and one of a byte more.
 #[test]
 fn refuses_a_big_script(rt: HostRuntime) -> Result<(), Fail> {
     let mut script = vec![in rt.alloc(); b'\n'; 1_048_576]?;
@@ -571,6 +593,7 @@ fn refuses_a_big_script(rt: HostRuntime) -> Result<(), Fail> {
     Ok(())
 }
 
+/// The text of each fault.
 #[test]
 fn shows_faults(rt: HostRuntime) -> Result<(), Fail> {
     for (fault, text) in [

@@ -1,12 +1,16 @@
 //! The texts of values in a script.
 
-ghost use Rattle.std.specs.Prelude.{◌≡◌, ◌≤◌, ◌<◌, ◌+◌, ◌*◌, ◌-◌, ◌^◌, ℕ, true, length, take, drop, codes, Some, None, IfSome, unsigned_abs, flat_map};
+ghost use Rattle.std.specs.Prelude.{◌≡◌, ◌≤◌, ◌<◌, ◌+◌, ◌*◌, ◌-◌, ◌^◌, ℕ, true, length, take, drop};
+ghost use Rattle.std.specs.Prelude.{codes, Some, None, IfSome, unsigned_abs, flat_map};
 ghost use Rattle.std.specs.Char.{is_ascii_digit};
 ghost use Rattle.chip_core.specs.Bits.{binary};
 ghost use Rattle.long_code.specs.LongCode.{IsState};
-ghost use Rattle.base_modulator.specs.ScriptValues.{all_clear, behind, bits_in, digits_from, hex_bits, hex_digit, hex_from, is_plain, length_before, negative, number_in, number_up_to, signed_in, state_in, unpadded};
+ghost use Rattle.base_modulator.specs.ScriptValues.{all_clear, behind, bits_in};
+ghost use Rattle.base_modulator.specs.ScriptValues.{hex_bits, hex_digit, hex_from, is_plain};
+ghost use Rattle.base_modulator.specs.ScriptValues.{length_before, negative, number_in};
+ghost use Rattle.base_modulator.specs.ScriptValues.{number_up_to, signed_in, state_in, unpadded};
 
-use chip_core::Bits;
+use chip_core::{Bits, digits_in};
 use long_code::State;
 
 /// How many octets hold the bits of the longest list.
@@ -62,31 +66,6 @@ fn is_plain(text: &[u8]) -> bool
         return false;
     }
     text[0] != b'0'
-}
-
-/// The number that digits spell.
-fn digits_in(text: &[u8]) -> Option<u128>
-    requires { length text.now ≤ 20 }
-    ensures { result ≡ digits_from 0 text.now }
-{
-    let mut number = 0;
-    for &digit in text {
-        if !digit.is_ascii_digit() {
-            return None;
-        }
-        number = with_digit(number, digit);
-    }
-    Some(number)
-}
-
-/// A number with one more digit behind it.
-fn with_digit(number: u128, digit: u8) -> u128
-    requires number { number < 10 ^ 20 }
-    requires digit { is_ascii_digit digit ≡ true }
-    ensures value { result ≡ 10 * number + (digit - 48) }
-    ensures most { result ≤ 10 * number + 9 }
-{
-    10 * number + u128::from(digit - b'0')
 }
 
 /// The number with a sign that a text spells, from -32,768 to 32,767; `-0` isn't one.
@@ -157,8 +136,8 @@ fn with_hex_digit(number: u64, digit: u8) -> u64
     16 * number + u64::from(digit)
 }
 
-/// The bits of a text `N:HEX`: N of them, at most 1,184, in two hex digits of either case for each octet of them, padded at
-/// the end with zero bits.
+/// The bits of a text `N:HEX`: N of them, at most 1,184, in two hex digits of either case for each
+/// octet of them, padded at the end with zero bits.
 #[tactic(auto, unfolding(crate::specs::ScriptValues::bits_in))]
 pub(crate) fn bits_in(text: &[u8]) -> Option<Bits>
     ensures { result ≡ bits_in text.now }
@@ -197,7 +176,8 @@ fn bits_of(octets: &[u8]) -> Bits
     bits
 }
 
-/// The first so many bits of octets, if there are just as many octets as they need, and the bits behind them are 0.
+/// The first so many bits of octets, if there are just as many octets as they need, and the bits
+/// behind them are 0.
 fn unpadded(count: u16, bits: &Bits) -> Option<Bits>
     requires { count ≤ 1184 }
     ensures { result ≡ unpadded count bits.now }

@@ -7,6 +7,13 @@ loop-k-preserved c =
     let i = c.loop-k.invariant in
     record {
       bits = c.append-in-loop-k.ensures
-          ∙ piece_more c.args.capsule.now c.loop-k.bits c.args.place c.loop-k.k (c.args.place == 0) c.bit_or_zero.result c.requires c.loop-k-test.true i.bits c.bit_or_zero.ensures;
-      count = omega (arith, ap length c.append-in-loop-k.ensures, length-append c.loop-k.bits (c.bit_or_zero.result ∷ []), i.count);
+          ∙ piece_more c.args.capsule.now c.loop-k.bits c.args.place c.loop-k.k
+          (c.args.place == 0) c.bit_or_zero.result c.requires c.loop-k-test.true i.bits
+          c.bit_or_zero.ensures;
+      count = omega (
+        arith,
+        ap length c.append-in-loop-k.ensures,
+        length-append c.loop-k.bits (c.bit_or_zero.result ∷ []),
+        i.count,
+      );
     }

@@ -8,6 +8,7 @@ use Rattle.base_modulator.proofs.cell.Cell.fill.Given as goal
 abbrev pub invariant-loop-sample : goal.invariant-loop-sample
 invariant-loop-sample l = record {
   state : l.self ≡ record l.fn.self { given = l.fn.self.given + l.sample-index };
-  samples : (k : ℕ) → k < l.sample-index → of_sample (get_or l.out k no_sample) ≡ sample_of l.fn.self.plan (l.fn.self.given + k);
+  samples : (k : ℕ) → k < l.sample-index →
+      of_sample (get_or l.out k no_sample) ≡ sample_of l.fn.self.plan (l.fn.self.given + k);
   fit : (k : ℕ) → k < l.sample-index → HasBits l.fn.self.width (get_or l.out k no_sample);
 }

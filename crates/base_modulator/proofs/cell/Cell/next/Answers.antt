@@ -1,58 +1,101 @@
-use Rattle.std.proofs.Common.{◌≡◌, ◌≢◌, ◌+◌, ◌%◌, arith, ap, ◌∙◌, subst}
+use Rattle.std.proofs.Common.{◌≡◌, ◌+◌, ◌-◌, ◌%◌, get_or, map, length, ap, ◌∙◌, arith}
+use Rattle.std.proofs.Common.{subst}
 use Rattle.cdma_io.specs.SampleFile.{HasBits}
+use Rattle.chip_core.specs.Complex.{origin}
+use Rattle.base_modulator.specs.Channels.{carrier_of}
 use Rattle.base_modulator.specs.Signal.{sample_of}
 use Rattle.base_modulator.specs.Transmitter.{CellState}
-use Rattle.base_modulator.proofs.Amplitudes.{sample_most, most_part_small, sample_is, sample_fits, amplitude_same, phase_next}
+use Rattle.base_modulator.proofs.Amplitudes as amplitudes
+use Rattle.base_modulator.proofs.Pieces.{few_states, written_back}
 use Rattle.base_modulator.proofs.cell.Cell.next.Goals as goal
 
 pub turned-sample-requires-clause-small : goal.turned-sample-requires-clause-small
 turned-sample-requires-clause-small c =
     let s = c.self.inside in
     let i = c.self.invariant in
-    omega (arith, sample_most s.plan (s.plan.start + s.given) s.strength i.level, i.lawful.loud, most_part_small s.width)
+    let chip = s.plan.link.start + s.given in
+    omega (
+      arith,
+      amplitudes.chip_most s.plan chip (get_or s.block (chip % 64) origin)
+          (amplitudes.chip_in s.plan chip s.block i.sums),
+      i.lawful.loud,
+      amplitudes.most_part_small s.width,
+    )
 
-pub invariant_of-self-else-chip-eq0 : goal.invariant_of-self-else-chip-eq0
-invariant_of-self-else-chip-eq0 c =
+pub fill_block-requires-clause-few : goal.fill_block-requires-clause-few
+fill_block-requires-clause-few c =
+    few_states c.self.inside.plan c.deref_mut.result.now
+    (ap (map carrier_of) c.deref_mut.ensures.value ∙ c.self.invariant.sent)
+
+pub invariant_of-self : goal.invariant_of-self
+invariant_of-self c =
     let s = c.self.inside in
     let i = c.self.invariant in
-    let place : s.plan.start + (s.given + 1) ≡ s.plan.start + s.given + 1 = omega arith in
-    let other : (s.plan.start + s.given + 1) % 32 ≢ 0 = rw place at c.if-chip-eq0.false in
+    let chip = s.plan.link.start + s.given in
+    let place : s.plan.link.start + (s.given + 1) ≡ chip + 1 = omega arith in
+    let begins : chip + 1
+    ≡ s.plan.link.start + (s.given + 1) - (s.plan.link.start + (s.given + 1)) % 64 =
+    omega (arith, c.if-place-eq-BLOCK.true) in
     let given = ap (λ (v : CellState). v.given) c.self.view_is in
-    let plan = ap (λ (v : CellState). v.plan.samples) c.self.view_is in
+    let wanted = ap (λ (v : CellState). v.plan.link.samples) c.self.view_is in
+    let channels = c.deref_mut.result.now in
+    let kept : c.fill_block.new.channels ≡ s.channels.items =
+    c.fill_block.ensures.same ∙ c.deref_mut.ensures.value in
     record {
       lawful = i.lawful;
-      within = omega (arith, given, plan, c.requires);
-      of = i.of;
-      code = rw place (phase_next s.plan (s.plan.start + s.given) s.phase c.next_phase-self-inside.result i.lawful.pn i.code c.next_phase-self-inside.ensures.value);
-      level = rw (place, amplitude_same s.plan (s.plan.start + s.given) other) i.level;
+      within = omega (arith, given, wanted, c.requires);
+      sent = ap (map carrier_of) (written_back s.channels.items _ s.channels.len kept
+          (ap length c.fill_block.ensures.same ∙ c.deref_mut.ensures.len)) ∙ i.sent;
+      code = rw place
+          (amplitudes.phase_next s.plan chip s.phase c.next_phase-self-inside.result i.lawful.pn
+          i.code c.next_phase-self-inside.ensures.value);
+      sums = amplitudes.block_at s.plan (chip + 1) (s.plan.link.start + (s.given + 1))
+          (map carrier_of channels)
+          c.fill_block.new.sums
+          (ap (map carrier_of) c.deref_mut.ensures.value
+          ∙ i.sent) begins c.fill_block.ensures.value;
     }
 
-pub returns-then-chip-eq0-clause-value : goal.returns-then-chip-eq0-clause-value
-returns-then-chip-eq0-clause-value c =
+pub returns-then-place-eq-BLOCK-clause-value : goal.returns-then-place-eq-BLOCK-clause-value
+returns-then-place-eq-BLOCK-clause-value c =
     let s = c.self.inside in
     let i = c.self.invariant in
-    sample_is s.plan s.given s.phase s.strength c.turned-sample.result c.signs.result i.level i.code c.signs.ensures c.turned-sample.ensures.value
+    let chip = s.plan.link.start + s.given in
+    amplitudes.sample_is s.plan s.given s.phase
+    (get_or s.block (chip % 64) origin) c.turned-sample.result c.signs.result
+    (amplitudes.chip_in s.plan chip s.block i.sums) i.code c.signs.ensures
+    c.turned-sample.ensures.value
     ∙ ap (λ (v : CellState). sample_of v.plan v.given) c.self.view_is
 
-pub returns-then-chip-eq0-clause-fits : goal.returns-then-chip-eq0-clause-fits
-returns-then-chip-eq0-clause-fits c =
+pub returns-then-place-eq-BLOCK-clause-fits : goal.returns-then-place-eq-BLOCK-clause-fits
+returns-then-place-eq-BLOCK-clause-fits c =
     let s = c.self.inside in
     let i = c.self.invariant in
+    let chip = s.plan.link.start + s.given in
     let turned = c.turned-sample in
     subst (λ (v : CellState). HasBits v.width turned.result) c.self.view_is
-    (sample_fits s.width s.plan (s.plan.start + s.given) s.strength turned.result i.level i.lawful.loud turned.ensures.in_phase turned.ensures.quadrature)
+    (amplitudes.chip_fits s.width s.plan chip (get_or s.block (chip % 64) origin) turned.result
+    (amplitudes.chip_in s.plan chip s.block i.sums) i.lawful.loud turned.ensures.in_phase
+    turned.ensures.quadrature)
 
-pub returns-else-chip-eq0-clause-value : goal.returns-else-chip-eq0-clause-value
-returns-else-chip-eq0-clause-value c =
+pub returns-else-place-eq-BLOCK-clause-value : goal.returns-else-place-eq-BLOCK-clause-value
+returns-else-place-eq-BLOCK-clause-value c =
     let s = c.self.inside in
     let i = c.self.invariant in
-    sample_is s.plan s.given s.phase s.strength c.turned-sample.result c.signs.result i.level i.code c.signs.ensures c.turned-sample.ensures.value
+    let chip = s.plan.link.start + s.given in
+    amplitudes.sample_is s.plan s.given s.phase
+    (get_or s.block (chip % 64) origin) c.turned-sample.result c.signs.result
+    (amplitudes.chip_in s.plan chip s.block i.sums) i.code c.signs.ensures
+    c.turned-sample.ensures.value
     ∙ ap (λ (v : CellState). sample_of v.plan v.given) c.self.view_is
 
-pub returns-else-chip-eq0-clause-fits : goal.returns-else-chip-eq0-clause-fits
-returns-else-chip-eq0-clause-fits c =
+pub returns-else-place-eq-BLOCK-clause-fits : goal.returns-else-place-eq-BLOCK-clause-fits
+returns-else-place-eq-BLOCK-clause-fits c =
     let s = c.self.inside in
     let i = c.self.invariant in
+    let chip = s.plan.link.start + s.given in
     let turned = c.turned-sample in
     subst (λ (v : CellState). HasBits v.width turned.result) c.self.view_is
-    (sample_fits s.width s.plan (s.plan.start + s.given) s.strength turned.result i.level i.lawful.loud turned.ensures.in_phase turned.ensures.quadrature)
+    (amplitudes.chip_fits s.width s.plan chip (get_or s.block (chip % 64) origin) turned.result
+    (amplitudes.chip_in s.plan chip s.block i.sums) i.lawful.loud turned.ensures.in_phase
+    turned.ensures.quadrature)

@@ -1,25 +1,32 @@
 use Rattle.std.proofs.Common.{sym, ◌∙◌, arith}
-use Rattle.base_modulator.proofs.ScriptTexts.{hex_missing, hex_digit_more, hex_read, hex_read_all, few_hex_digits}
+use Rattle.base_modulator.proofs.ScriptTexts.{hex_missing, hex_digit_more, hex_read, hex_read_all}
+use Rattle.base_modulator.proofs.ScriptTexts.{few_hex_digits}
 use Rattle.base_modulator.proofs.script.values.hex_in.Goals as goal
 
 pub returns-in_err-hex_digit : goal.returns-in_err-hex_digit
 returns-in_err-hex_digit c =
     c.from_residual.ensures
-    ∙ hex_missing c.args.text.now c.loop-digit.number c.loop-digit.digit-index c.loop-digit-test.true
+    ∙ hex_missing c.args.text.now c.loop-digit.number c.loop-digit.digit-index
+    c.loop-digit-test.true
     (sym c.hex_digit.ensures.value ∙ c.in_err-hex_digit.was) c.loop-digit.invariant.left
 
 pub with_hex_digit-number-requires-clause-number : goal.with_hex_digit-number-requires-clause-number
 with_hex_digit-number-requires-clause-number c =
-    few_hex_digits c.loop-digit.number c.loop-digit.digit-index c.loop-digit.invariant.below (omega (arith, c.loop-digit-test.true, c.requires))
+    few_hex_digits c.loop-digit.number c.loop-digit.digit-index c.loop-digit.invariant.below
+    (omega (arith, c.loop-digit-test.true, c.requires))
 
 pub loop-digit-preserved : goal.loop-digit-preserved
 loop-digit-preserved c = record {
   left =
-      hex_read c.args.text.now c.loop-digit.number c.loop-digit.digit-index _ c.with_hex_digit-number.result c.loop-digit-test.true
-      (sym c.hex_digit.ensures.value ∙ c.in_ok-hex_digit.was) c.loop-digit.invariant.left c.with_hex_digit-number.ensures.value;
-  below = hex_digit_more c.loop-digit.number c.with_hex_digit-number.result c.loop-digit.digit-index c.loop-digit.invariant.below c.with_hex_digit-number.ensures.most;
+      hex_read c.args.text.now c.loop-digit.number c.loop-digit.digit-index _
+      c.with_hex_digit-number.result c.loop-digit-test.true
+      (sym c.hex_digit.ensures.value
+      ∙ c.in_ok-hex_digit.was) c.loop-digit.invariant.left c.with_hex_digit-number.ensures.value;
+  below = hex_digit_more c.loop-digit.number c.with_hex_digit-number.result c.loop-digit.digit-index
+      c.loop-digit.invariant.below c.with_hex_digit-number.ensures.most;
 }
 
 pub returns : goal.returns
 returns c =
-    hex_read_all c.args.text.now c.loop-digit.number c.loop-digit.digit-index (omega (arith, c.loop-digit-test.false)) c.loop-digit.invariant.left
+    hex_read_all c.args.text.now c.loop-digit.number c.loop-digit.digit-index
+    (omega (arith, c.loop-digit-test.false)) c.loop-digit.invariant.left

@@ -9,15 +9,27 @@ pub piece_of-requires : goal.piece_of-requires
 piece_of-requires c =
     let s = c.self.inside in
     let i = c.self.invariant in
-    let spelled : c.capsule_of-capsule.result ≡ sync_capsule s.plan.check30 (message_of s.plan s.message (c.args.frame / (3 * s.superframes))) =
-    c.capsule_of-capsule.ensures.value ∙ ap (λ (t : Sent). sync_capsule t.plan.check30 (message_of t.plan t.message (c.args.frame / (3 * s.superframes)))) (sym c.self.view_is) in
-    piece_within s.plan s.message c.args.frame s.superframes _ c.capsule_of-capsule.result i.needed i.some spelled
+    let spelled : c.capsule_of-capsule.result
+    ≡ sync_capsule s.cell.check30
+    (message_of s.cell s.message (c.args.frame / (3 * s.superframes))) =
+    c.capsule_of-capsule.ensures.value
+    ∙ ap (λ (t : Sent).
+    sync_capsule t.cell.check30
+    (message_of t.cell t.message (c.args.frame / (3 * s.superframes)))) (sym c.self.view_is) in
+    piece_within s.cell s.message c.args.frame s.superframes _ c.capsule_of-capsule.result i.needed
+    i.some spelled
 
 pub returns-clause-value : goal.returns-clause-value
 returns-clause-value c =
     let s = c.self.inside in
     let i = c.self.invariant in
-    let spelled : c.capsule_of-capsule.result ≡ sync_capsule s.plan.check30 (message_of s.plan s.message (c.args.frame / (3 * s.superframes))) =
-    c.capsule_of-capsule.ensures.value ∙ ap (λ (t : Sent). sync_capsule t.plan.check30 (message_of t.plan t.message (c.args.frame / (3 * s.superframes)))) (sym c.self.view_is) in
-    piece_is s.plan s.message c.args.frame s.superframes c.capsule_of-capsule.result c.piece_of.result i.needed spelled c.piece_of.ensures.value
-    ∙ ap (λ (t : Sent). sync_frame_bits t.plan t.message c.args.frame) c.self.view_is
+    let spelled : c.capsule_of-capsule.result
+    ≡ sync_capsule s.cell.check30
+    (message_of s.cell s.message (c.args.frame / (3 * s.superframes))) =
+    c.capsule_of-capsule.ensures.value
+    ∙ ap (λ (t : Sent).
+    sync_capsule t.cell.check30
+    (message_of t.cell t.message (c.args.frame / (3 * s.superframes)))) (sym c.self.view_is) in
+    piece_is s.cell s.message c.args.frame s.superframes c.capsule_of-capsule.result
+    c.piece_of.result i.needed spelled c.piece_of.ensures.value
+    ∙ ap (λ (t : Sent). sync_frame_bits t.cell t.message c.args.frame) c.self.view_is

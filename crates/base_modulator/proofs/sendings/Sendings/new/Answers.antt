@@ -8,14 +8,16 @@ use Rattle.base_modulator.proofs.sendings.Sendings.new.Goals as goal
 
 pub invariant_of-result : goal.invariant_of-result
 invariant_of-result c =
-    let plan = c.args.plan.now in
+    let cell = c.args.cell.now in
     let m = c.args.message.now in
-    let needed : c.superframes_for-superframes.result ≡ superframes_a_sending plan m =
+    let needed : c.superframes_for-superframes.result ≡ superframes_a_sending cell m =
     c.superframes_for-superframes.ensures ∙ ap superframes_of c.capsule_for.ensures in
     record {
       sendable = c.requires;
       needed = needed;
-      some = rw needed (superframes_some plan.check30 m);
-      few = rw needed (superframes_few plan.check30 m c.requires.message);
-      spelled = c.capsule_for-2.ensures ∙ ap (λ (n : SyncFields). sync_capsule plan.check30 n) c.message_for-first.ensures.value;
+      some = rw needed (superframes_some cell.check30 m);
+      few = rw needed (superframes_few cell.check30 m c.requires.message);
+      spelled = c.capsule_for-2.ensures
+          ∙ ap (λ (n : SyncFields). sync_capsule cell.check30 n)
+          c.message_for-first.ensures.value;
     }
