@@ -1,5 +1,8 @@
 -- The first samples alone decide what is heard within them.
-use Rattle.std.proofs.Common.{◌≡◌, ℕ, suc, ◌+◌, ◌≤◌, Bool, true, ◌&&◌, List, [], ◌∷◌, ◌++◌, length, take, drop, refl, sym, ap, ◌∙◌, arith, ℤ, pos, negsuc, All, Some, slice_get, nat_le}
+use Rattle.std.proofs.Common.{◌≡◌, ℕ, suc, ◌+◌, ◌≤◌, Bool, true, ◌&&◌, List, [], ◌∷◌, ◌++◌, length}
+use Rattle.std.proofs.Common.{take}
+use Rattle.std.proofs.Common.{drop, refl, sym, ap, ◌∙◌, arith, ℤ, pos, negsuc, All, Some, slice_get}
+use Rattle.std.proofs.Common.{nat_le}
 use Rattle.std.specs.Prelude.{unsigned_abs, int_le}
 use Rattle.std.specs.List.{flat_map}
 use Rattle.std.proofs.lemmas.Int.{ints}
@@ -10,65 +13,89 @@ use Rattle.chip_core.specs.declared.sample.Sample.{Sample}
 use Rattle.mobile_core.specs.Events.{events_at, events_within}
 use Rattle.mobile_core.specs.Marks.{first_of, marks_at, mark}
 use Rattle.mobile_core.specs.Near.{is_near, all_near, has_reference, AreNear, IsTuned, low_of}
-use Rattle.mobile_core.specs.Streams.{is_in_file, known_at}
-use Rattle.mobile_core.specs.Timing.{IsTimed}
 use Rattle.mobile_core.specs.Tuning.{Tuning, fingers_of, sync_stream, sync_bound}
 use Rattle.mobile_core.proofs.FingerTimes.{timed_of}
+use Rattle.mobile_core.proofs.Growth.{IsSyncTimed, sync_in_file, sync_known}
 use Rattle.mobile_core.proofs.Growth.{events_at_sync, sync_events_sooner}
 use Rattle.mobile_core.proofs.MarkGrowth.{marks_at_sooner}
 use Rattle.mobile_core.proofs.Ranges.{flat_map_ext_places, flat_map_ext_filter}
 
 -- FINGERS THAT ARE TUNED
 near_one : (d : ℤ) → unsigned_abs d ≤ 127 → is_near d ≡ true
-near_one d h = let a : int_le (negsuc 127) d ≡ true = grind (arith, ints) in let b : int_le d (pos 127) ≡ true = grind (arith, ints) in and_from (int_le (negsuc 127) d) (int_le d (pos 127)) a b
+near_one d h =
+    let a : int_le (negsuc 127) d ≡ true = grind (arith, ints) in
+    let b : int_le d (pos 127) ≡ true = grind (arith, ints) in
+    and_from (int_le (negsuc 127) d) (int_le d (pos 127)) a b
 
-near_all : (phase : ℕ) (deltas : List ℤ) → All (λ d. unsigned_abs d ≤ 127) deltas → all_near (fingers_of 32 phase deltas) ≡ true
+near_all : (phase : ℕ) (deltas : List ℤ) → All (λ d. unsigned_abs d ≤ 127) deltas →
+    all_near (fingers_of 32 phase deltas) ≡ true
 near_all phase [] h = refl
 near_all phase (d ∷ deltas) h =
     and_from (is_near d) (all_near (fingers_of 32 phase deltas)) (near_one d (h 0 d (omega arith)))
     (near_all phase deltas (λ k e less. h (suc k) e (omega arith)))
 
-reference_first : (phase : ℕ) (deltas : List ℤ) → slice_get deltas 0 ≡ Some (pos 0) → has_reference (fingers_of 32 phase deltas) ≡ true
+reference_first : (phase : ℕ) (deltas : List ℤ) → slice_get deltas 0 ≡ Some (pos 0) →
+    has_reference (fingers_of 32 phase deltas) ≡ true
 reference_first phase [] h = absurd (cc)
 reference_first phase (d ∷ deltas) h =
     let zero' : d ≡ pos 0 = cc in
     rw zero' refl
 
-pub tuned_near : (t : Tuning) → IsTuned t → AreNear (sync_stream t).fingers
+tuned_near : (t : Tuning) → IsTuned t → AreNear (sync_stream t).fingers
 tuned_near t is =
     let fingers = (sync_stream t).fingers in
-    and_from (all_near fingers) (has_reference fingers) (near_all t.phase t.deltas is.near) (reference_first t.phase t.deltas is.first)
+    and_from (all_near fingers) (has_reference fingers) (near_all t.phase t.deltas is.near)
+    (reference_first t.phase t.deltas is.first)
 
 -- WITHIN THE FIRST SAMPLES
 module _ (t : Tuning) (is : IsTuned t) where
-  timed : IsTimed t.count (sync_stream t) (low_of t)
+  timed : IsSyncTimed t (low_of t)
   timed = timed_of t (tuned_near t is)
 
-  events_of_first : (samples : List Sample) (n : ℕ) → n ≤ length samples → events_within t samples n ≡ events_within t (take n samples) n
+  events_of_first : (samples : List Sample) (n : ℕ) → n ≤ length samples →
+      events_within t samples n ≡ events_within t (take n samples) n
   unfolding events_within
   events_of_first samples n h =
       let first = take n samples in
       let rest = drop n samples in
       let long : length first ≡ n = length-take-le n samples h in
+      let low = low_of t in
       ap (λ s. flat_map (events_at t s) (places (n + 1))) (sym (take-append-drop n samples))
       ∙ flat_map_ext_places (events_at t (first ++ rest)) (events_at t first) (n + 1)
-      (λ k below. events_at_sync t (first ++ rest) k ∙ sync_events_sooner t (low_of t) timed first rest k (omega arith) ∙ sym (events_at_sync t first k))
+      (λ k below.
+      events_at_sync t (first ++ rest) k
+      ∙ sync_events_sooner t low timed first rest k (omega arith)
+      ∙ sym (events_at_sync t first k))
 
-  mark_of_first : (samples : List Sample) (n : ℕ) → n ≤ length samples → mark t samples n ≡ mark t (take n samples) n
+  mark_of_first : (samples : List Sample) (n : ℕ) → n ≤ length samples →
+      mark t samples n ≡ mark t (take n samples) n
   unfolding mark
   mark_of_first samples n h =
       let first = take n samples in
       let rest = drop n samples in
       let long : length first ≡ n = length-take-le n samples h in
-      let known : ℕ → Bool = λ k. is_in_file t.count (sync_stream t) k && nat_le (known_at t.count (sync_stream t) k) n in
+      let known : ℕ → Bool = λ k. sync_in_file t k && nat_le (sync_known t k) n in
+      let same : (k : ℕ) → known k ≡ true → marks_at t (first ++ rest) k ≡ marks_at t first k =
+      λ k both.
+      let parts = and_parts (sync_in_file t k) (nat_le (sync_known t k) n) both in
+      let within = leb-true (sync_known t k) n parts.1 in
+      marks_at_sooner t (low_of t) timed first rest k parts.0 (omega (arith, within)) in
       ap (λ s. mark t s n) (sym (take-append-drop n samples))
-      ∙ ap first_of (flat_map_ext_filter known (marks_at t (first ++ rest)) (marks_at t first) (places (sync_bound n))
-      (λ k both.
-      let parts = and_parts (is_in_file t.count (sync_stream t) k) (nat_le (known_at t.count (sync_stream t) k) n) both in
-      marks_at_sooner t (low_of t) timed first rest k parts.0 (omega (arith, leb-true (known_at t.count (sync_stream t) k) n parts.1))))
+      ∙ ap first_of
+      (flat_map_ext_filter known (marks_at t (first ++ rest)) (marks_at t first)
+      (places (sync_bound n)) same)
 
-pub same_events : (t : Tuning) (one other : List Sample) (n : ℕ) → IsTuned t → n ≤ length one → n ≤ length other → take n one ≡ take n other → events_within t one n ≡ events_within t other n
-same_events t one other n is few few' same = events_of_first t is one n few ∙ ap (λ s. events_within t s n) same ∙ sym (events_of_first t is other n few')
+module _ (t : Tuning) (one other : List Sample) (n : ℕ) (is : IsTuned t) where
+  pub same_events : n ≤ length one → n ≤ length other → take n one ≡ take n other →
+      events_within t one n ≡ events_within t other n
+  same_events few few' same =
+      events_of_first t is one n few
+      ∙ ap (λ s. events_within t s n) same
+      ∙ sym (events_of_first t is other n few')
 
-pub same_mark : (t : Tuning) (one other : List Sample) (n : ℕ) → IsTuned t → n ≤ length one → n ≤ length other → take n one ≡ take n other → mark t one n ≡ mark t other n
-same_mark t one other n is few few' same = mark_of_first t is one n few ∙ ap (λ s. mark t s n) same ∙ sym (mark_of_first t is other n few')
+  pub same_mark : n ≤ length one → n ≤ length other → take n one ≡ take n other →
+      mark t one n ≡ mark t other n
+  same_mark few few' same =
+      mark_of_first t is one n few
+      ∙ ap (λ s. mark t s n) same
+      ∙ sym (mark_of_first t is other n few')

@@ -1,5 +1,7 @@
 -- Where the fingers' frames begin and end.
-use Rattle.std.proofs.Common.{◌≡◌, ℕ, zero, suc, ◌+◌, ◌<◌, ◌≤◌, Bool, true, false, cond, ◌&&◌, List, [], ◌∷◌, length, refl, sym, ap, ◌∙◌, arith, inl, inr, ℤ, pos, negsuc, ◌+ℤ◌, ◌-ℤ◌, ◌≤ℤ◌, nat_le, All, slice_index_or}
+use Rattle.std.proofs.Common.{◌≡◌, ℕ, zero, suc, ◌+◌, ◌*◌, ◌<◌, ◌≤◌, Bool, true, false, cond, ◌&&◌}
+use Rattle.std.proofs.Common.{List, [], ◌∷◌, length, refl, sym, ap, ◌∙◌, arith, inl, inr, ℤ, pos}
+use Rattle.std.proofs.Common.{negsuc, ◌+ℤ◌, ◌-ℤ◌, ◌≤ℤ◌, nat_le, All, slice_index_or}
 use Rattle.std.specs.Prelude.{unsigned_abs, int_le, max}
 use Rattle.std.specs.Ordering.{int_eq}
 use Rattle.std.proofs.lemmas.Int.{ints}
@@ -7,32 +9,71 @@ use Rattle.std.proofs.lemmas.Bool.{and_parts, and_from, or_cases, cases_lt, le-l
 use Rattle.std.proofs.lemmas.Bool.Decides.{nat_tests}
 use Rattle.rake_finger.specs.Held.{Held}
 use Rattle.rake_finger.specs.InRing.{IsInRing}
+use Rattle.rake_finger.specs.Soft.{frame_chips}
 use Rattle.rake_finger.specs.declared.finger.Finger.{Finger}
-use Rattle.rake_finger.specs.declared.form.Form.TheVariants.{Sync}
-use Rattle.mobile_core.specs.Near.{is_near, all_near, has_reference, AreNear, all_begun, AreBegun, low_of}
-use Rattle.mobile_core.specs.Streams.{is_within, frame_end, frame_start}
+use Rattle.rake_finger.specs.declared.form.Form.{Form}
+use Rattle.rake_finger.specs.declared.form.Form.TheVariants.{Sync, Data}
+use Rattle.mobile_core.specs.Near as near
+use Rattle.mobile_core.specs.Near.{is_near, all_near, has_reference, AreNear, all_begun, AreBegun}
+use Rattle.mobile_core.specs.Streams.{Stream, is_within, frame_end, frame_start}
 use Rattle.mobile_core.specs.Timing.{stream_end, IsTimed}
 use Rattle.mobile_core.specs.Tuning.{Tuning, sync_stream}
 
+-- FRAMES
+pub some_chips : (form : Form) → 256 ≤ frame_chips form
+some_chips Sync = omega arith
+some_chips Data = omega arith
+
+pub most_chips : (form : Form) → frame_chips form ≤ 32768
+most_chips Sync = omega arith
+most_chips Data = omega arith
+
+pub times_one : (m frame : ℕ) → frame ≤ 1 → m * frame ≤ m
+times_one m zero h = omega arith
+times_one m (suc zero) h = omega arith
+times_one m (suc (suc n)) h = absurd (omega arith)
+
+far : (form : Form) (first k : ℕ) → 127 ≤ first + frame_chips form * suc k
+far Sync first k = omega arith
+far Data first k = omega arith
+
+pub start_step : (form : Form) (first k : ℕ) →
+    first + frame_chips form * (k + 1) ≡ first + frame_chips form * k + frame_chips form
+start_step Sync first k = omega arith
+start_step Data first k = omega arith
+
+start_early : (form : Form) (first k : ℕ) →
+    frame_chips form * (k + 1) ≤ first + frame_chips form * k + frame_chips form
+start_early Sync first k = omega arith
+start_early Data first k = omega arith
+
 -- ONE FINGER
--- the end of one finger's frame
-abbrev pub end_at : ℕ → ℤ → ℕ
-end_at u d = unsigned_abs ((pos u -ℤ d) +ℤ pos 32768)
+-- the end of one finger's frame of so many chips
+abbrev pub end_at : ℕ → ℕ → ℤ → ℕ
+end_at m u d = unsigned_abs ((pos u -ℤ d) +ℤ pos m)
 
-end_step : (u : ℕ) (d : ℤ) → int_le d (pos 127) ≡ true → end_at (u + 32768) d ≡ end_at u d + 32768
-end_step u d h = grind (arith, ints)
+end_step : (m u : ℕ) (d : ℤ) → 127 ≤ m → int_le d (pos 127) ≡ true →
+    end_at m (u + m) d ≡ end_at m u d + m
+end_step m u d few h = grind (arith, ints)
 
-place_near : (u : ℕ) (d : ℤ) → int_le (negsuc 127) d ≡ true → int_le d (pos 127) ≡ true → end_at u d ≤ u + 32896
-place_near u d h e = grind (arith, ints)
+place_near : (m u : ℕ) (d : ℤ) → int_le (negsuc 127) d ≡ true → int_le d (pos 127) ≡ true →
+    end_at m u d ≤ u + m + 128
+place_near m u d h e = grind (arith, ints)
 
-place_behind : (u : ℕ) (d : ℤ) → int_le d (pos u) ≡ true → int_le d (pos 127) ≡ true → u ≤ unsigned_abs (pos u -ℤ d) + 127
+place_behind : (u : ℕ) (d : ℤ) → int_le d (pos u) ≡ true → int_le d (pos 127) ≡ true →
+    u ≤ unsigned_abs (pos u -ℤ d) + 127
 place_behind u d h e = grind (arith, ints)
 
-place_end : (u : ℕ) (d : ℤ) → int_le d (pos u) ≡ true → unsigned_abs (pos u -ℤ d) + 32768 ≡ end_at u d
-place_end u d h = grind (arith, ints)
+place_end : (m u : ℕ) (d : ℤ) → int_le d (pos u) ≡ true →
+    unsigned_abs (pos u -ℤ d) + m ≡ end_at m u d
+place_end m u d h = grind (arith, ints)
 
-end_test : (u n : ℕ) (d : ℤ) → int_le d (pos u) ≡ true → int_le ((pos u -ℤ d) +ℤ pos 32768) (pos n) ≡ nat_le (end_at u d) n
-end_test u n d h = grind (arith, ints, nat_tests)
+end_test : (m u n : ℕ) (d : ℤ) → int_le d (pos u) ≡ true →
+    int_le ((pos u -ℤ d) +ℤ pos m) (pos n) ≡ nat_le (end_at m u d) n
+end_test m u n d h = grind (arith, ints, nat_tests)
+
+end_early : (m u : ℕ) (d : ℤ) → int_eq d (pos 0) ≡ true → u + m ≤ end_at m u d
+end_early m u d h = grind (arith, ints)
 
 begun_later : (u m : ℕ) (d : ℤ) → int_le d (pos u) ≡ true → int_le d (pos (u + m)) ≡ true
 begun_later u m d h = grind (arith, ints)
@@ -43,73 +84,107 @@ near_begun u d h l = grind (arith, ints)
 begun_is : (u : ℕ) (d : ℤ) → int_le d (pos u) ≡ true → d ≤ℤ pos u
 begun_is u d h = grind (arith, ints)
 
--- ALL FINGERS
-abbrev pub all_end : ℕ → List Finger → ℕ
-all_end u fingers = frame_end fingers Sync u
-
-pub ends_near : (u : ℕ) (fingers : List Finger) → all_near fingers ≡ true → all_end u fingers ≤ u + 32896
-ends_near u [] h = omega arith
-ends_near u (f ∷ fingers) h =
+near_parts : (f : Finger) (fingers : List Finger) → all_near (f ∷ fingers) ≡ true →
+    (int_le (negsuc 127) f.delta ≡ true) × (int_le f.delta (pos 127) ≡ true)
+    × (all_near fingers ≡ true)
+near_parts f fingers h =
     let a = and_parts (is_near f.delta) (all_near fingers) h in
     let b = and_parts (int_le (negsuc 127) f.delta) (int_le f.delta (pos 127)) a.0 in
-    omega (arith, place_near u f.delta b.0 b.1, ends_near u fingers a.1)
+    (b.0, b.1, a.1)
 
-ends_step_more : (u : ℕ) (f : Finger) (fingers : List Finger) → all_near (f ∷ fingers) ≡ true → all_end (u + 32768) (f ∷ fingers) ≡ all_end u (f ∷ fingers) + 32768
-ends_step_more u f [] h =
-    let a = and_parts (is_near f.delta) true h in
-    let b = and_parts (int_le (negsuc 127) f.delta) (int_le f.delta (pos 127)) a.0 in
-    omega (arith, end_step u f.delta b.1)
-ends_step_more u f (g ∷ fingers) h =
-    let a = and_parts (is_near f.delta) (all_near (g ∷ fingers)) h in
-    let b = and_parts (int_le (negsuc 127) f.delta) (int_le f.delta (pos 127)) a.0 in
-    let rest = ends_step_more u g fingers a.1 in
-    let one = end_step u f.delta b.1 in
-    omega arith
+-- ALL FINGERS
+ends_near : (form : Form) (u : ℕ) (fingers : List Finger) → all_near fingers ≡ true →
+    frame_end fingers form u ≤ u + frame_chips form + 128
+ends_near form u [] h = omega arith
+ends_near form u (f ∷ fingers) h =
+    let is = near_parts f fingers h in
+    let one = place_near (frame_chips form) u f.delta is.0 is.1 in
+    omega (arith, one, ends_near form u fingers is.2)
 
-pub ends_step : (u : ℕ) (fingers : List Finger) → AreNear fingers → all_end (u + 32768) fingers ≡ all_end u fingers + 32768
-ends_step u [] h = absurd (cc)
-ends_step u (f ∷ fingers) h = ends_step_more u f fingers (and_parts (all_near (f ∷ fingers)) (has_reference (f ∷ fingers)) h).0
+ends_step_more : (form : Form) (u : ℕ) (f : Finger) (fingers : List Finger) →
+    all_near (f ∷ fingers) ≡ true →
+    frame_end (f ∷ fingers) form (u + frame_chips form)
+    ≡ frame_end (f ∷ fingers) form u + frame_chips form
+ends_step_more form u f [] h =
+    let is = near_parts f [] h in
+    let m = some_chips form in
+    let one = end_step (frame_chips form) u f.delta (omega arith) is.1 in
+    omega (arith, one)
+ends_step_more form u f (g ∷ fingers) h =
+    let is = near_parts f (g ∷ fingers) h in
+    let m = some_chips form in
+    let rest = ends_step_more form u g fingers is.2 in
+    let one = end_step (frame_chips form) u f.delta (omega arith) is.1 in
+    omega (arith, one, rest)
 
-pub begun_on : (u m : ℕ) (fingers : List Finger) → all_begun u fingers ≡ true → all_begun (u + m) fingers ≡ true
+pub ends_step : (form : Form) (u : ℕ) (fingers : List Finger) → AreNear fingers →
+    frame_end fingers form (u + frame_chips form) ≡ frame_end fingers form u + frame_chips form
+ends_step form u [] h = absurd (cc)
+ends_step form u (f ∷ fingers) h =
+    ends_step_more form u f fingers
+    (and_parts (all_near (f ∷ fingers)) (has_reference (f ∷ fingers)) h).0
+
+pub begun_on : (u m : ℕ) (fingers : List Finger) → all_begun u fingers ≡ true →
+    all_begun (u + m) fingers ≡ true
 begun_on u m [] h = refl
 begun_on u m (f ∷ fingers) h =
     let a = and_parts (int_le f.delta (pos u)) (all_begun u fingers) h in
-    and_from (int_le f.delta (pos (u + m))) (all_begun (u + m) fingers) (begun_later u m f.delta a.0) (begun_on u m fingers a.1)
+    and_from (int_le f.delta (pos (u + m))) (all_begun (u + m) fingers)
+    (begun_later u m f.delta a.0) (begun_on u m fingers a.1)
 
-pub begun_far : (u : ℕ) (fingers : List Finger) → all_near fingers ≡ true → 127 ≤ u → all_begun u fingers ≡ true
+begun_far : (u : ℕ) (fingers : List Finger) → all_near fingers ≡ true → 127 ≤ u →
+    all_begun u fingers ≡ true
 begun_far u [] h l = refl
 begun_far u (f ∷ fingers) h l =
-    let a = and_parts (is_near f.delta) (all_near fingers) h in
-    let b = and_parts (int_le (negsuc 127) f.delta) (int_le f.delta (pos 127)) a.0 in
-    and_from (int_le f.delta (pos u)) (all_begun u fingers) (near_begun u f.delta b.1 l) (begun_far u fingers a.1 l)
+    let is = near_parts f fingers h in
+    and_from (int_le f.delta (pos u)) (all_begun u fingers)
+    (near_begun u f.delta is.1 l) (begun_far u fingers is.2 l)
+
+-- the second frame begins in the file, and the first too where it does so on each finger
+pub begun_first : (form : Form) (first : ℕ) (fingers : List Finger) → AreNear fingers →
+    all_begun (first + frame_chips form * 1) fingers ≡ true
+begun_first form first fingers h =
+    begun_far (first + frame_chips form * 1) fingers
+    (and_parts (all_near fingers) (has_reference fingers) h).0 (far form first 0)
 
 -- the ring still has each finger's samples when the last finger's frame ends
-in_ring_at : (ring : Held) (u : ℕ) (fingers : List Finger) → ring.room ≡ 65536 → all_near fingers ≡ true → all_begun u fingers ≡ true → all_end u fingers ≤ ring.taken → ring.taken ≤ u + 32896 →
-    All (IsInRing ring Sync u) fingers
-in_ring_at ring u [] room h b e l = λ k d less. absurd (omega arith)
-in_ring_at ring u (f ∷ fingers) room h b e l =
-    let a = and_parts (is_near f.delta) (all_near fingers) h in
-    let c = and_parts (int_le (negsuc 127) f.delta) (int_le f.delta (pos 127)) a.0 in
+in_ring_at : (ring : Held) (form : Form) (u : ℕ) (fingers : List Finger) → ring.room ≡ 65536 →
+    all_near fingers ≡ true → all_begun u fingers ≡ true →
+    frame_end fingers form u ≤ ring.taken → ring.taken ≤ u + frame_chips form + 128 →
+    All (IsInRing ring form u) fingers
+in_ring_at ring form u [] room h b e l = λ k d less. absurd (omega arith)
+in_ring_at ring form u (f ∷ fingers) room h b e l =
+    let is = near_parts f fingers h in
+    let m = most_chips form in
     let begun = and_parts (int_le f.delta (pos u)) (all_begun u fingers) b in
-    let place = place_end u f.delta begun.0 in
-    let behind = place_behind u f.delta begun.0 c.1 in
-    let one : IsInRing ring Sync u f = record { begun = begun_is u f.delta begun.0; held = record { kept = omega arith; taken = omega arith } } in
-    let rest = in_ring_at ring u fingers room a.1 begun.1 (omega arith) l in
+    let place = place_end (frame_chips form) u f.delta begun.0 in
+    let behind = place_behind u f.delta begun.0 is.1 in
+    let one : IsInRing ring form u f = record {
+      begun = begun_is u f.delta begun.0;
+      held = record { kept = omega arith; taken = omega arith };
+    } in
+    let rest = in_ring_at ring form u fingers room is.2 begun.1 (omega arith) l in
     each one rest
   where
-    each : IsInRing ring Sync u f → All (IsInRing ring Sync u) fingers → All (IsInRing ring Sync u) (f ∷ fingers)
-    each one rest = λ k d less. pick k d less
+    each : IsInRing ring form u f → All (IsInRing ring form u) fingers →
+        All (IsInRing ring form u) (f ∷ fingers)
+    each one rest = λ k d less. at_place k d less
       where
-        pick : (k : ℕ) (d : Finger) → k < length (f ∷ fingers) → IsInRing ring Sync u (slice_index_or (f ∷ fingers) k d)
-        pick zero d less = one
-        pick (suc k) d less = rest k d (omega arith)
+        at_place : (k : ℕ) (d : Finger) → k < length (f ∷ fingers) →
+            IsInRing ring form u (slice_index_or (f ∷ fingers) k d)
+        at_place zero d less = one
+        at_place (suc k) d less = rest k d (omega arith)
 
-pub in_ring : (ring : Held) (u : ℕ) (fingers : List Finger) → AreNear fingers → AreBegun u fingers → ring.room ≡ 65536 → ring.taken ≡ all_end u fingers → All (IsInRing ring Sync u) fingers
-in_ring ring u fingers h b room taken =
-    let near = (and_parts (all_near fingers) (has_reference fingers) h).0 in
-    in_ring_at ring u fingers room near b (omega arith) (omega (arith, ends_near u fingers near))
+pub in_ring : (ring : Held) (form : Form) (u : ℕ) (fingers : List Finger) → AreNear fingers →
+    AreBegun u fingers → ring.room ≡ 65536 → ring.taken ≡ frame_end fingers form u →
+    All (IsInRing ring form u) fingers
+in_ring ring form u fingers h b room e =
+    let close = (and_parts (all_near fingers) (has_reference fingers) h).0 in
+    in_ring_at ring form u fingers room close b (omega arith)
+    (omega (arith, ends_near form u fingers close))
 
-within_one : (a b c d : Bool) (x : Bool) → (a ≡ true → b ≡ x) → ((a && b) && (c && d)) ≡ ((a && c) && (x && d))
+within_one : (a b c d : Bool) (x : Bool) → (a ≡ true → b ≡ x) →
+    ((a && b) && (c && d)) ≡ ((a && c) && (x && d))
 within_one true b true d x h = rw (h refl) refl
 within_one true true false d x h = refl
 within_one true false false d x h = refl
@@ -118,36 +193,54 @@ within_one false b c d x h = refl
 max_test : (a b n : ℕ) → (nat_le a n && nat_le b n) ≡ nat_le (max a b) n
 max_test a b n =
     elim (cases_lt n a) [
-      | inl less ↦ let e = lt-leb a n less in let f = lt-leb (max a b) n (omega arith) in rw (e, f) refl
+      | inl less ↦
+          let e = lt-leb a n less in
+          let f = lt-leb (max a b) n (omega arith) in
+          rw (e, f) refl
       | inr more ↦
           let e = le-leb a n more in
           elim (cases_lt n b) [
-            | inl l ↦ let g = lt-leb b n l in let f = lt-leb (max a b) n (omega arith) in rw (e, g, f) refl
-            | inr m ↦ let g = le-leb b n m in let f = le-leb (max a b) n (omega arith) in rw (e, g, f) refl
+            | inl l ↦
+                let g = lt-leb b n l in
+                let f = lt-leb (max a b) n (omega arith) in
+                rw (e, g, f) refl
+            | inr m ↦
+                let g = le-leb b n m in
+                let f = le-leb (max a b) n (omega arith) in
+                rw (e, g, f) refl
           ]
     ]
 
-within_is : (u n : ℕ) (fingers : List Finger) → is_within n fingers Sync u ≡ (all_begun u fingers && nat_le (all_end u fingers) n)
-within_is u n [] = let e = le-leb 0 n (omega arith) in rw e refl
-within_is u n (f ∷ fingers) =
+within_is : (form : Form) (u n : ℕ) (fingers : List Finger) →
+    is_within n fingers form u ≡ (all_begun u fingers && nat_le (frame_end fingers form u) n)
+within_is form u n [] = let e = le-leb 0 n (omega arith) in rw e refl
+within_is form u n (f ∷ fingers) =
     let d = f.delta in
-    let rest = within_is u n fingers in
-    let one = within_one (int_le d (pos u)) (int_le ((pos u -ℤ d) +ℤ pos 32768) (pos n)) (all_begun u fingers) (nat_le (all_end u fingers) n) (nat_le (end_at u d) n) (end_test u n d) in
-    let last = max_test (end_at u d) (all_end u fingers) n in
-    ap (λ r. (int_le d (pos u) && int_le ((pos u -ℤ d) +ℤ pos 32768) (pos n)) && r) rest ∙ one ∙ ap (λ r. (int_le d (pos u) && all_begun u fingers) && r) last
+    let m = frame_chips form in
+    let begun = int_le d (pos u) in
+    let ends = int_le ((pos u -ℤ d) +ℤ pos m) (pos n) in
+    let others = all_begun u fingers in
+    let one = within_one begun ends others (nat_le (frame_end fingers form u) n)
+    (nat_le (end_at m u d) n) (end_test m u n d) in
+    ap (λ r. (begun && ends) && r) (within_is form u n fingers)
+    ∙ one
+    ∙ ap (λ r. (begun && others) && r) (max_test (end_at m u d) (frame_end fingers form u) n)
 
-reference_early : (u : ℕ) (fingers : List Finger) → has_reference fingers ≡ true → u + 32768 ≤ all_end u fingers
-reference_early u [] h = absurd (cc)
-reference_early u (f ∷ fingers) h =
+reference_early : (form : Form) (u : ℕ) (fingers : List Finger) → has_reference fingers ≡ true →
+    u + frame_chips form ≤ frame_end fingers form u
+reference_early form u [] h = absurd (cc)
+reference_early form u (f ∷ fingers) h =
     elim (or_cases (int_eq f.delta (pos 0)) (has_reference fingers) h) [
-      | inl a ↦ let e : u + 32768 ≤ end_at u f.delta = grind (arith, ints) in omega arith
-      | inr b ↦ let e = reference_early u fingers b in omega arith
+      | inl a ↦ let e = end_early (frame_chips form) u f.delta a in omega (arith, e)
+      | inr b ↦ let e = reference_early form u fingers b in omega (arith, e)
     ]
 
-pub ends_bounds : (u : ℕ) (fingers : List Finger) → AreNear fingers → (u + 32768 ≤ all_end u fingers) × (all_end u fingers ≤ u + 32896)
-ends_bounds u fingers h =
+pub ends_bounds : (form : Form) (u : ℕ) (fingers : List Finger) → AreNear fingers →
+    (u + frame_chips form ≤ frame_end fingers form u)
+    × (frame_end fingers form u ≤ u + frame_chips form + 128)
+ends_bounds form u fingers h =
     let both = and_parts (all_near fingers) (has_reference fingers) h in
-    (reference_early u fingers both.1, ends_near u fingers both.0)
+    (reference_early form u fingers both.1, ends_near form u fingers both.0)
 
 -- THE FIRST FRAME IN THE FILE
 low_first : (b : Bool) → b ≡ nat_le (cond b 0 1) 0
@@ -158,29 +251,45 @@ low_later : (b : Bool) (k : ℕ) → nat_le (cond b 0 1) (suc k) ≡ true
 low_later true k = le-leb 0 (suc k) (omega arith)
 low_later false k = le-leb 1 (suc k) (omega arith)
 
-low_is : (t : Tuning) → all_near (sync_stream t).fingers ≡ true → (k : ℕ) → all_begun (frame_start (sync_stream t) k) (sync_stream t).fingers ≡ nat_le (low_of t) k
-low_is t h zero =
-    let e : frame_start (sync_stream t) 0 ≡ (sync_stream t).first = omega arith in
-    ap (λ u. all_begun u (sync_stream t).fingers) e ∙ low_first (all_begun (sync_stream t).first (sync_stream t).fingers)
-low_is t h (suc k) = begun_far (frame_start (sync_stream t) (suc k)) (sync_stream t).fingers h (omega arith) ∙ sym (low_later (all_begun (sync_stream t).first (sync_stream t).fingers) k)
+low_is : (s : Stream) → all_near s.fingers ≡ true → (k : ℕ) →
+    all_begun (frame_start s k) s.fingers ≡ nat_le (near.low_in s) k
+low_is s h zero =
+    let e : frame_start s 0 ≡ s.first = omega arith in
+    ap (λ u. all_begun u s.fingers) e ∙ low_first (all_begun s.first s.fingers)
+low_is s h (suc k) =
+    begun_far (frame_start s (suc k)) s.fingers h (far s.form s.first k)
+    ∙ sym (low_later (all_begun s.first s.fingers) k)
 
-pub timed_of : (t : Tuning) → AreNear (sync_stream t).fingers → IsTimed t.count (sync_stream t) (low_of t)
+-- the frames of a stream whose fingers are near lie one behind another
+pub timed_in : (count : ℕ) (s : Stream) → AreNear s.fingers → IsTimed count s (near.low_in s)
 unfolding stream_end
-timed_of t h =
-    let fingers = (sync_stream t).fingers in
-    let both = and_parts (all_near fingers) (has_reference fingers) h in
+timed_in count s h =
+    let both = and_parts (all_near s.fingers) (has_reference s.fingers) h in
+    let ends : ℕ → ℕ = λ k. frame_end s.fingers s.form (frame_start s k) in
     record {
-      inside = λ k. within_is (frame_start (sync_stream t) k) t.count fingers
-          ∙ ap (λ r. r && nat_le (all_end (frame_start (sync_stream t) k) fingers) t.count) (low_is t both.0 k);
-      step = λ k.
-          let e : frame_start (sync_stream t) (k + 1) ≡ frame_start (sync_stream t) k + 32768 = omega arith in
-          ap (λ u. all_end u fingers) e ∙ ends_step (frame_start (sync_stream t) k) fingers h;
-      some = omega arith;
-      early = λ k. let e = reference_early (frame_start (sync_stream t) k) fingers both.1 in omega arith;
+      inside = λ k. within_is s.form (frame_start s k) count s.fingers
+          ∙ ap (λ r. r && nat_le (ends k) count) (low_is s both.0 k);
+      step = λ k. ap (frame_end s.fingers s.form) (start_step s.form s.first k)
+          ∙ ends_step s.form (frame_start s k) s.fingers h;
+      some = let m = some_chips s.form in omega arith;
+      early = λ k.
+          let e = reference_early s.form (frame_start s k) s.fingers both.1 in
+          let f = start_early s.form s.first k in
+          omega (arith, e, f);
     }
 
-pub low_from : (t : Tuning) → AreBegun (sync_stream t).first (sync_stream t).fingers → low_of t ≡ 0
+-- THE SYNC CHANNEL
+abbrev pub all_end : ℕ → List Finger → ℕ
+all_end u fingers = frame_end fingers Sync u
+
+pub timed_of : (t : Tuning) → AreNear (sync_stream t).fingers →
+    IsTimed t.count (sync_stream t) (near.low_of t)
+timed_of t h = timed_in t.count (sync_stream t) h
+
+pub low_from : (t : Tuning) → AreBegun (sync_stream t).first (sync_stream t).fingers →
+    near.low_of t ≡ 0
 low_from t h = rw h refl
 
-pub low_none : (t : Tuning) → all_begun (sync_stream t).first (sync_stream t).fingers ≡ false → low_of t ≡ 1
+pub low_none : (t : Tuning) → all_begun (sync_stream t).first (sync_stream t).fingers ≡ false →
+    near.low_of t ≡ 1
 low_none t h = rw h refl

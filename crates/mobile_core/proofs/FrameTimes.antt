@@ -1,43 +1,12 @@
--- When frames end and are known.
-use Rattle.std.proofs.Common.{◌≡◌, ℕ, zero, suc, ◌+◌, ◌-◌, ◌<◌, ◌≤◌, true, false, refl, sym, ◌∙◌, arith, nat_le, inl, inr}
-use Rattle.std.proofs.lemmas.Bool.{and_parts, and_from, and_left, and_right, leb-true, le-leb, lt-leb, cases_lt, cases_order}
+-- When frames end and are known, over any stream.
+use Rattle.std.proofs.Common.{◌≡◌, ℕ, zero, suc, ◌+◌, ◌-◌, ◌<◌, ◌≤◌, true, false, refl, sym, ◌∙◌}
+use Rattle.std.proofs.Common.{arith}
+use Rattle.std.proofs.Common.{nat_le, inl, inr}
+use Rattle.std.proofs.lemmas.Bool.{and_parts, and_from, and_left, and_right, leb-true, le-leb}
+use Rattle.std.proofs.lemmas.Bool.{lt-leb, cases_lt, cases_order}
 use Rattle.mobile_core.specs.Streams.{Stream, is_in_file, known_at}
 use Rattle.rake_finger.specs.Soft.{frame_chips}
 use Rattle.mobile_core.specs.Timing.{stream_end, IsTimed}
-
-pub ends_le : {count low : ℕ} (s : Stream) → IsTimed count s low → (k d : ℕ) → stream_end s k ≤ stream_end s (k + d)
-ends_le s t k zero = let e : k + 0 ≡ k = omega arith in rw e (omega arith)
-ends_le s t k (suc d) =
-    let e : k + suc d ≡ k + d + 1 = omega arith in
-    rw e (omega (arith, ends_le s t k d, t.step (k + d)))
-
-pub ends_lt : {count low : ℕ} (s : Stream) → IsTimed count s low → (j k : ℕ) → j < k → stream_end s j + frame_chips s.form ≤ stream_end s k
-ends_lt s t j k h =
-    let e : j + 1 + (k - (j + 1)) ≡ k = omega arith in
-    let more = ends_le s t (j + 1) (k - (j + 1)) in
-    omega (arith, t.step j, rw e at more)
-
-pub inside_from : {count low : ℕ} (s : Stream) → IsTimed count s low → (k : ℕ) → low ≤ k → stream_end s k ≤ count → is_in_file count s k ≡ true
-inside_from {count} {low} s t k l h = t.inside k ∙ and_from (nat_le low k) (nat_le (stream_end s k) count) (le-leb low k l) (le-leb (stream_end s k) count h)
-
-pub inside_to : {count low : ℕ} (s : Stream) → IsTimed count s low → (k : ℕ) → is_in_file count s k ≡ true → (low ≤ k) × (stream_end s k ≤ count)
-inside_to {count} {low} s t k h =
-    let both = and_parts (nat_le low k) (nat_le (stream_end s k) count) (sym (t.inside k) ∙ h) in
-    (leb-true low k both.0, leb-true (stream_end s k) count both.1)
-
-pub outside_from : {count low : ℕ} (s : Stream) → IsTimed count s low → (k : ℕ) → count < stream_end s k → is_in_file count s k ≡ false
-outside_from {count} {low} s t k h = t.inside k ∙ and_right (nat_le low k) (nat_le (stream_end s k) count) (lt-leb (stream_end s k) count h)
-
-pub outside_low : {count low : ℕ} (s : Stream) → IsTimed count s low → (k : ℕ) → k < low → is_in_file count s k ≡ false
-outside_low {count} {low} s t k h = t.inside k ∙ and_left (nat_le low k) (nat_le (stream_end s k) count) (lt-leb low k h)
-
-pub known_more : {count low : ℕ} (s : Stream) → IsTimed count s low → (k : ℕ) → low ≤ k → stream_end s (k + 1) ≤ count → known_at count s k ≡ stream_end s (k + 1)
-unfolding stream_end
-known_more s t k l h = let e = inside_from s t (k + 1) (omega arith) h in rw e refl
-
-pub known_last : {count low : ℕ} (s : Stream) → IsTimed count s low → (k : ℕ) → count < stream_end s (k + 1) → known_at count s k ≡ stream_end s k
-unfolding stream_end
-known_last s t k h = let e = outside_from s t (k + 1) h in rw e refl
 
 -- what the time at which a frame is known is
 pub record KnownBetween (count : ℕ) (s : Stream) (k : ℕ) : Type 0 where
@@ -45,25 +14,82 @@ pub record KnownBetween (count : ℕ) (s : Stream) (k : ℕ) : Type 0 where
   pub high : known_at count s k ≤ stream_end s (k + 1)
   pub most : known_at count s k ≤ count
 
-pub known_between : {count low : ℕ} (s : Stream) → IsTimed count s low → (k : ℕ) → is_in_file count s k ≡ true → KnownBetween count s k
-known_between {count} s t k h =
-    let i = inside_to s t k h in
-    elim (cases_lt count (stream_end s (k + 1))) [
-      | inl less ↦ let e = known_last s t k less in record { low = rw e (omega arith); high = rw e (omega (arith, t.step k)); most = rw e (omega arith) }
-      | inr more ↦ let e = known_more s t k i.0 more in record { low = rw e (omega (arith, t.step k)); high = rw e (omega arith); most = rw e (omega arith) }
-    ]
+module _ {count low : ℕ} (s : Stream) (t : IsTimed count s low) where
+  pub ends_le : (k d : ℕ) → stream_end s k ≤ stream_end s (k + d)
+  ends_le k zero = let e : k + 0 ≡ k = omega arith in rw e (omega arith)
+  ends_le k (suc d) =
+      let e : k + suc d ≡ k + d + 1 = omega arith in
+      rw e (omega (arith, ends_le k d, t.step (k + d)))
 
--- an earlier frame is known no later
-pub known_le : {count low : ℕ} (s : Stream) → IsTimed count s low → (j k : ℕ) → is_in_file count s j ≡ true → is_in_file count s k ≡ true → j ≤ k → known_at count s j ≤ known_at count s k
-known_le {count} s t j k ij ik h =
-    elim (cases_order j k) [
-      | inl e ↦ rw e (omega arith)
-      | inr (inl less) ↦
-          let a = known_between s t j ij in
-          let b = known_between s t k ik in
-          let kk = inside_to s t k ik in
-          let le : j + 1 + (k - (j + 1)) ≡ k = omega arith in
-          let more = ends_le s t (j + 1) (k - (j + 1)) in
-          omega (arith, a.high, b.low, rw le at more)
-      | inr (inr more) ↦ absurd (omega arith)
-    ]
+  pub ends_lt : (j k : ℕ) → j < k → stream_end s j + frame_chips s.form ≤ stream_end s k
+  ends_lt j k h =
+      let e : j + 1 + (k - (j + 1)) ≡ k = omega arith in
+      let more = ends_le (j + 1) (k - (j + 1)) in
+      omega (arith, t.step j, rw e at more)
+
+  pub inside_from : (k : ℕ) → low ≤ k → stream_end s k ≤ count → is_in_file count s k ≡ true
+  inside_from k l h =
+      t.inside k
+      ∙ and_from (nat_le low k) (nat_le (stream_end s k) count) (le-leb low k l)
+      (le-leb (stream_end s k) count h)
+
+  pub inside_to : (k : ℕ) → is_in_file count s k ≡ true → (low ≤ k) × (stream_end s k ≤ count)
+  inside_to k h =
+      let begun = nat_le low k in
+      let both = and_parts begun (nat_le (stream_end s k) count) (sym (t.inside k) ∙ h) in
+      (leb-true low k both.0, leb-true (stream_end s k) count both.1)
+
+  pub outside_from : (k : ℕ) → count < stream_end s k → is_in_file count s k ≡ false
+  outside_from k h =
+      t.inside k
+      ∙ and_right (nat_le low k) (nat_le (stream_end s k) count) (lt-leb (stream_end s k) count h)
+
+  pub outside_low : (k : ℕ) → k < low → is_in_file count s k ≡ false
+  outside_low k h =
+      t.inside k ∙ and_left (nat_le low k) (nat_le (stream_end s k) count) (lt-leb low k h)
+
+  pub known_more : (k : ℕ) → low ≤ k → stream_end s (k + 1) ≤ count →
+      known_at count s k ≡ stream_end s (k + 1)
+  unfolding stream_end
+  known_more k l h = let e = inside_from (k + 1) (omega arith) h in rw e refl
+
+  pub known_last : (k : ℕ) → count < stream_end s (k + 1) → known_at count s k ≡ stream_end s k
+  unfolding stream_end
+  known_last k h = let e = outside_from (k + 1) h in rw e refl
+
+  pub known_between : (k : ℕ) → is_in_file count s k ≡ true → KnownBetween count s k
+  known_between k h =
+      let i = inside_to k h in
+      let step = t.step k in
+      elim (cases_lt count (stream_end s (k + 1))) [
+        | inl less ↦
+            let e = known_last k less in
+            record {
+              low = rw e (omega arith);
+              high = rw e (omega (arith, step));
+              most = rw e (omega arith);
+            }
+        | inr more ↦
+            let e = known_more k i.0 more in
+            record {
+              low = rw e (omega (arith, step));
+              high = rw e (omega arith);
+              most = rw e (omega arith);
+            }
+      ]
+
+  -- an earlier frame is known no later
+  pub known_le : (j k : ℕ) → is_in_file count s j ≡ true → is_in_file count s k ≡ true → j ≤ k →
+      known_at count s j ≤ known_at count s k
+  known_le j k ij ik h =
+      elim (cases_order j k) [
+        | inl e ↦ rw e (omega arith)
+        | inr (inl less) ↦
+            let a = known_between j ij in
+            let b = known_between k ik in
+            let kk = inside_to k ik in
+            let le : j + 1 + (k - (j + 1)) ≡ k = omega arith in
+            let more = ends_le (j + 1) (k - (j + 1)) in
+            omega (arith, a.high, b.low, rw le at more)
+        | inr (inr more) ↦ absurd (omega arith)
+      ]

@@ -3,10 +3,12 @@ use Rattle.std.proofs.Common.{◌≡◌, ℕ, ◌+◌, ◌-◌, ◌<◌, ◌≤�
 use Rattle.std.proofs.lemmas.Bool.{cases_lt}
 use Rattle.mobile_core.specs.Streams.{Stream, is_in_file, known_at}
 use Rattle.mobile_core.specs.Timing.{stream_end, IsTimed}
-use Rattle.mobile_core.proofs.FrameTimes.{ends_le, ends_lt, inside_from, inside_to, known_more, known_last, known_between, known_le}
+use Rattle.mobile_core.proofs.FrameTimes.{ends_le, ends_lt, inside_from, inside_to, known_more}
+use Rattle.mobile_core.proofs.FrameTimes.{known_last, known_between, known_le}
 use Rattle.mobile_core.specs.Progress.{IsReached, IsDue}
 
-pub reached_none : {count low : ℕ} (s : Stream) → IsTimed count s low → IsReached count s low low low 0
+pub reached_none : {count low : ℕ} (s : Stream) → IsTimed count s low →
+    IsReached count s low low low 0
 reached_none s t = record {
   low_next = omega arith;
   next_have = omega arith;
@@ -20,12 +22,14 @@ reached_none s t = record {
 
 module _ {count low : ℕ} (s : Stream) (t : IsTimed count s low) where
   -- a frame that is due is known just now
-  pub due_inside : (next have n : ℕ) → IsReached count s low next have n → IsDue count s next have → is_in_file count s next ≡ true
+  pub due_inside : (next have n : ℕ) → IsReached count s low next have n → IsDue count s next have →
+      is_in_file count s next ≡ true
   due_inside next have n r d =
       let e = r.ended next r.low_next d.ended in
       inside_from s t next r.low_next (omega (arith, r.within))
 
-  pub due_known : (next have n : ℕ) → IsReached count s low next have n → IsDue count s next have → known_at count s next ≡ n
+  pub due_known : (next have n : ℕ) → IsReached count s low next have n → IsDue count s next have →
+      known_at count s next ≡ n
   due_known next have n r d =
       let inside = due_inside next have n r d in
       let late = r.late inside in
@@ -38,19 +42,24 @@ module _ {count low : ℕ} (s : Stream) (t : IsTimed count s low) where
               | inl a ↦ let f = r.ended (next + 1) (omega (arith, r.low_next)) a in omega arith
               | inr b ↦
                   elim (cases_lt (next + 1) have) [
-                    | inl a ↦ let f = r.ended (next + 1) (omega (arith, r.low_next)) a in omega arith
-                    | inr c ↦ let same : have ≡ next + 1 = omega (arith, d.ended) in let b' = rw same at b in absurd (omega arith)
+                    | inl a ↦ let f = r.ended (next + 1) (omega (arith, r.low_next)) a in
+                        omega arith
+                    | inr c ↦ let same : have ≡ next + 1 = omega (arith, d.ended) in
+                        let b' = rw same at b in
+                        absurd (omega arith)
                   ]
             ]
       ]
 
   -- frames before the next one have been known
-  pub before_next : (next have n : ℕ) → IsReached count s low next have n → (k : ℕ) → k < next → is_in_file count s k ≡ true → known_at count s k ≤ n
+  pub before_next : (next have n : ℕ) → IsReached count s low next have n → (k : ℕ) → k < next →
+      is_in_file count s k ≡ true → known_at count s k ≤ n
   before_next next have n r k h inside =
       let i = inside_to s t k inside in
       let between = known_between s t k inside in
       elim (cases_lt (k + 1) have) [
-        | inl less ↦ let e = r.ended (k + 1) (omega (arith, i.0)) less in omega (arith, between.high)
+        | inl less ↦ let e = r.ended (k + 1) (omega (arith, i.0)) less in
+            omega (arith, between.high)
         | inr more ↦
             let same : next ≡ have = omega (arith, r.next_have) in
             let last : have ≡ k + 1 = omega (arith, r.next_have) in
@@ -65,7 +74,8 @@ module _ {count low : ℕ} (s : Stream) (t : IsTimed count s low) where
       ]
 
   -- where the next frame isn't due, those from it on are known when frame `have` ends, or later
-  pub from_next : (next have n m : ℕ) → IsReached count s low next have n → (IsDue count s next have → ⊥) → m ≤ stream_end s have →
+  pub from_next : (next have n m : ℕ) → IsReached count s low next have n →
+      ¬ IsDue count s next have → m ≤ stream_end s have →
       (k : ℕ) → next ≤ k → is_in_file count s k ≡ true → m ≤ known_at count s k
   from_next next have n m r not_due most k h inside =
       let i = inside_to s t k inside in
@@ -80,7 +90,8 @@ module _ {count low : ℕ} (s : Stream) (t : IsTimed count s low) where
                     | inl over ↦ absurd (not_due (record { ended = less; known = inr over }))
                     | inr fits ↦
                         let first : is_in_file count s next ≡ true =
-                        let e = ends_lt s t next have less in inside_from s t next r.low_next (omega arith) in
+                        let e = ends_lt s t next have less in
+                        inside_from s t next r.low_next (omega arith) in
                         let e = known_more s t next r.low_next (rw same at fits) in
                         let le = known_le s t next k first inside h in
                         let m'' = rw same at most in
@@ -97,7 +108,8 @@ module _ {count low : ℕ} (s : Stream) (t : IsTimed count s low) where
       ]
 
   -- more samples, up to the end of frame `have`
-  pub reached_more : (next have n m : ℕ) → IsReached count s low next have n → (IsDue count s next have → ⊥) → n ≤ m → m ≤ count → m ≤ stream_end s have →
+  pub reached_more : (next have n m : ℕ) → IsReached count s low next have n →
+      ¬ IsDue count s next have → n ≤ m → m ≤ count → m ≤ stream_end s have →
       IsReached count s low next have m
   reached_more next have n m r not_due more most behind = record {
     low_next = r.low_next;
@@ -111,25 +123,36 @@ module _ {count low : ℕ} (s : Stream) (t : IsTimed count s low) where
   }
 
   -- frame `have` has ended
-  pub reached_frame : (next have n : ℕ) → IsReached count s low next have n → (IsDue count s next have → ⊥) → stream_end s have ≡ n → IsReached count s low next (have + 1) n
+  pub reached_frame : (next have n : ℕ) → IsReached count s low next have n →
+      ¬ IsDue count s next have → stream_end s have ≡ n →
+      IsReached count s low next (have + 1) n
   reached_frame next have n r not_due e =
       let step = t.step have in
       let some = t.some in
       let near : have ≤ next + 1 =
-      elim (cases_lt (next + 1) have) [ inl a ↦ absurd (not_due (record { ended = omega arith; known = inl a })) | inr b ↦ b ] in
+      elim (cases_lt (next + 1) have) [
+        | inl a ↦ absurd (not_due (record { ended = omega arith; known = inl a }))
+        | inr b ↦ b
+      ] in
       record {
         low_next = r.low_next;
         next_have = omega (arith, r.next_have);
         have_most = omega arith;
         within = r.within;
-        ended = λ k a b. elim (cases_lt k have) [ inl c ↦ r.ended k a c | inr d ↦ let same : k ≡ have = omega arith in rw same (omega arith) ];
+        ended =
+            λ k a b.
+            elim (cases_lt k have) [
+              | inl c ↦ r.ended k a c
+              | inr d ↦ let same : k ≡ have = omega arith in rw same (omega arith)
+            ];
         behind = omega arith;
         begun = λ same. absurd (omega (arith, r.next_have));
         late = r.late;
       }
 
   -- frame `next` has been heard
-  pub reached_next : (next have n : ℕ) → IsReached count s low next have n → IsDue count s next have → IsReached count s low (next + 1) have n
+  pub reached_next : (next have n : ℕ) → IsReached count s low next have n →
+      IsDue count s next have → IsReached count s low (next + 1) have n
   reached_next next have n r d =
       let known = due_known next have n r d in
       let inside = due_inside next have n r d in

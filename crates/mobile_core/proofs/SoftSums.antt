@@ -1,37 +1,105 @@
 -- The soft values of the last frames, and what their absolute values add up to.
-use Rattle.std.proofs.Common.{◌≡◌, ℕ, zero, suc, ◌-◌, ◌*◌, ◌^◌, ◌<◌, ◌≤◌, List, ◌++◌, length, take, drop, ap, ◌∙◌, arith, ℤ, pos, replicate, length-drop}
+use Rattle.std.proofs.Common.{◌≡◌, ℕ, zero, suc, ◌+◌, ◌-◌, ◌*◌, ◌^◌, ◌<◌, ◌≤◌}
+use Rattle.std.proofs.Common.{List, [], ◌∷◌, ◌++◌, length, take, drop, refl, ap, ◌∙◌, arith, ℤ}
+use Rattle.std.proofs.Common.{pos, replicate, length-drop}
 use Rattle.std.specs.Prelude.{sum_by, unsigned_abs}
-use Rattle.std.proofs.lemmas.List.{drop_at, drop-append-le, drop-drop, drop-replicate}
+use Rattle.std.proofs.lemmas.List.{drop-append-le, drop-drop, drop-replicate}
 use Rattle.std.proofs.lemmas.List.Folds.{sum_by-replicate}
 use Rattle.std.proofs.lemmas.List.Sums.{sum_by-append, sum_by-take-drop}
-use Rattle.mobile_core.specs.Softs.{AreSmall, frame_most}
+use Rattle.rake_finger.specs.Soft.{symbols, soft_bound}
+use Rattle.rake_finger.specs.declared.form.Form.{Form}
+use Rattle.rake_finger.specs.declared.form.Form.TheVariants.{Sync, Data}
+use Rattle.mobile_core.specs.Softs.{AreSmall, frame_most, last_softs}
 
-last_small : (softs : List ℤ) → AreSmall softs → (frames : ℕ) → 0 < frames → frames ≤ 3 → sum_by unsigned_abs (drop (384 - 128 * frames) softs) ≤ 2 ^ 62
-last_small softs small zero some few = absurd (omega arith)
-last_small softs small (suc zero) some few = let e = small.one in omega arith
-last_small softs small (suc (suc zero)) some few = let e = small.two in omega arith
-last_small softs small (suc (suc (suc zero))) some few = let e = small.three in omega arith
-last_small softs small (suc (suc (suc (suc n)))) some few = absurd (omega arith)
+-- a frame over three fingers
+pub frame_small : (form : Form) (fingers : ℕ) → fingers ≤ 3 →
+    fingers * (symbols form * soft_bound form) ≤ frame_most
+frame_small Sync fingers few = omega arith
+frame_small Data fingers few = omega arith
 
-pub span_small : (softs : List ℤ) (frames many : ℕ) → AreSmall softs → 0 < frames → frames ≤ 3 → sum_by unsigned_abs (take many (drop (384 - 128 * frames) softs)) ≤ 2 ^ 62
-span_small softs frames many small some few =
-    let rest : List ℤ = drop (384 - 128 * frames) softs in
-    omega (arith, sum_by-take-drop unsigned_abs rest many, last_small softs small frames some few)
+pub most_symbols : (form : Form) → symbols form ≤ 384
+most_symbols Sync = omega arith
+most_symbols Data = omega arith
 
-pub shifted_small : (softs fresh : List ℤ) → length softs ≡ 384 → AreSmall softs → sum_by unsigned_abs fresh ≤ frame_most → AreSmall (drop 128 softs ++ fresh)
-shifted_small softs fresh long small few =
-    let older : List ℤ = drop 128 softs in
-    let count : length older ≡ 256 = omega (arith, length-drop 128 softs) in
-    let one : drop 256 (older ++ fresh) ≡ fresh = drop_at older fresh 256 count in
-    let two : drop 128 (older ++ fresh) ≡ drop 256 softs ++ fresh = drop-append-le 128 older fresh (omega (arith, count)) ∙ ap (λ (xs : List ℤ). xs ++ fresh) (drop-drop 128 128 softs) in
+-- three frames have room
+pub frames_fit : (symbols frames : ℕ) → symbols ≤ 384 → frames ≤ 3 → symbols * frames ≤ 1152
+frames_fit symbols zero few most = omega arith
+frames_fit symbols (suc zero) few most = omega arith
+frames_fit symbols (suc (suc zero)) few most = omega arith
+frames_fit symbols (suc (suc (suc zero))) few most = omega arith
+frames_fit symbols (suc (suc (suc (suc n)))) few most = absurd (omega arith)
+
+pub span_small : (symbols : ℕ) (softs : List ℤ) (frames : ℕ) → AreSmall symbols softs →
+    0 < frames → frames ≤ 3 → sum_by unsigned_abs (last_softs symbols frames softs) ≤ 2 ^ 62
+span_small symbols softs zero small some few = absurd (omega arith)
+span_small symbols softs (suc zero) small some few = let e = small.one in omega arith
+span_small symbols softs (suc (suc zero)) small some few = let e = small.two in omega arith
+span_small symbols softs (suc (suc (suc zero))) small some few =
+    let e = small.three in omega arith
+span_small symbols softs (suc (suc (suc (suc n)))) small some few = absurd (omega arith)
+
+pub part_small : (symbols : ℕ) (softs : List ℤ) (frames many : ℕ) → AreSmall symbols softs →
+    0 < frames → frames ≤ 3 →
+    sum_by unsigned_abs (take many (last_softs symbols frames softs)) ≤ 2 ^ 62
+part_small symbols softs frames many small some few =
+    let rest : List ℤ = last_softs symbols frames softs in
+    let all = span_small symbols softs frames small some few in
+    omega (arith, sum_by-take-drop unsigned_abs rest many, all)
+
+-- ONE FRAME MORE
+-- the last frames, with one frame more behind them
+pub last_more : (symbols frames : ℕ) (softs fresh : List ℤ) → length softs ≡ 1152 →
+    symbols * frames + symbols ≤ 1152 →
+    last_softs symbols (suc frames) (drop symbols softs ++ fresh)
+    ≡ last_softs symbols frames softs ++ fresh
+last_more symbols frames softs fresh long room =
+    let older : List ℤ = drop symbols softs in
+    let left : ℕ = 1152 - symbols - symbols * frames in
+    let count : length older ≡ 1152 - symbols = omega (arith, length-drop symbols softs) in
+    let a : 1152 - symbols * suc frames ≡ left = omega arith in
+    let b : left ≤ length older = omega (arith, count) in
+    let c : symbols + left ≡ 1152 - symbols * frames = omega arith in
+    ap (λ n. drop n (older ++ fresh)) a
+    ∙ drop-append-le left older fresh b
+    ∙ ap (λ (xs : List ℤ). xs ++ fresh) (drop-drop left symbols softs)
+    ∙ ap (λ n. drop n softs ++ fresh) c
+
+last_none : (symbols : ℕ) (softs fresh : List ℤ) → length softs ≡ 1152 →
+    last_softs symbols 0 softs ++ fresh ≡ fresh
+last_none symbols softs fresh long =
+    let none : symbols * 0 ≡ 0 = omega arith in
+    let all : 1152 - symbols * 0 ≡ length softs = omega (arith, long, none) in
+    ap (λ n. drop n softs ++ fresh) all ∙ ap (λ (xs : List ℤ). xs ++ fresh) (drop_all' softs)
+  where
+    drop_all' : (xs : List ℤ) → drop (length xs) xs ≡ []
+    drop_all' [] = refl
+    drop_all' (x ∷ xs) = drop_all' xs
+
+pub shifted_small : (symbols : ℕ) (softs fresh : List ℤ) → symbols ≤ 384 →
+    length softs ≡ 1152 → AreSmall symbols softs → sum_by unsigned_abs fresh ≤ frame_most →
+    AreSmall symbols (drop symbols softs ++ fresh)
+shifted_small symbols softs fresh room long small few =
+    let size : List ℤ → ℕ = λ xs. sum_by unsigned_abs xs in
+    let one = last_more symbols 0 softs fresh long (omega arith) in
+    let two = last_more symbols 1 softs fresh long (omega arith) in
+    let three = last_more symbols 2 softs fresh long (omega arith) in
+    let joined : (m : ℕ) → size (last_softs symbols m softs ++ fresh)
+    ≡ size (last_softs symbols m softs) + size fresh =
+    λ m. sum_by-append unsigned_abs (last_softs symbols m softs) fresh in
     record {
-      one = rw one few;
-      two = rw two (omega (arith, sum_by-append unsigned_abs (drop 256 softs) fresh, small.one, few));
-      three = omega (arith, sum_by-append unsigned_abs older fresh, small.two, few);
+      one = rw (one ∙ last_none symbols softs fresh long) few;
+      two = rw two (omega (arith, joined 1, small.one, few));
+      three = rw three (omega (arith, joined 2, small.two, few));
     }
 
-pub zeros_small : AreSmall (replicate 384 (pos 0))
-zeros_small =
-    let none : (n : ℕ) → sum_by unsigned_abs (drop n (replicate 384 (pos 0))) ≡ 0 = λ n.
-    ap (sum_by unsigned_abs) (drop-replicate n 384 (pos 0)) ∙ sum_by-replicate unsigned_abs (384 - n) (pos 0) ∙ omega arith in
-    record { one = omega (arith, none 256); two = omega (arith, none 128); three = omega (arith, sum_by-replicate unsigned_abs 384 (pos 0)) }
+pub zeros_small : (symbols : ℕ) → AreSmall symbols (replicate 1152 (pos 0))
+zeros_small symbols =
+    let none : (n : ℕ) → sum_by unsigned_abs (drop n (replicate 1152 (pos 0))) ≡ 0 = λ n.
+    ap (sum_by unsigned_abs) (drop-replicate n 1152 (pos 0))
+    ∙ sum_by-replicate unsigned_abs (1152 - n) (pos 0)
+    ∙ omega arith in
+    record {
+      one = omega (arith, none (1152 - symbols * 1));
+      two = omega (arith, none (1152 - symbols * 2));
+      three = omega (arith, none (1152 - symbols * 3));
+    }

@@ -8,7 +8,8 @@ abbrev pub listed : Option Event → List Event
 listed None = []
 listed (Some event) = event ∷ []
 
--- how many samples had been taken at an event's end; the pilot is found before any is given to the handset
+-- how many samples had been taken at an event's end; the pilot is found before any is given to the
+-- handset
 abbrev pub at_of : Event → ℕ
 at_of (Pilot phase energy) = 0
 at_of (Sync at' capsule message) = at'

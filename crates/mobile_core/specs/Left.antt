@@ -10,9 +10,12 @@ use Rattle.mobile_core.specs.declared.event.Event.{Event}
 
 -- the frames from frame `next` on that are known when just n samples have been taken
 abbrev pub frames_left : ℕ → Stream → ℕ → ℕ → ℕ → List ℕ
-frames_left count s next n bound = filter (λ k. nat_le next k && (is_in_file count s k && known_at count s k == n)) (places bound)
+frames_left count s next n bound =
+    filter (λ k. nat_le next k && (is_in_file count s k && known_at count s k == n)) (places bound)
 
 -- the events of these samples' end whose frames come from frame `next` on
 unfoldable pub sync_events_left : Tuning → List Sample → ℕ → List Event
 sync_events_left t samples next =
-    flat_map (λ k. events_of (length samples) (heard_at t samples k)) (frames_left t.count (sync_stream t) next (length samples) (sync_bound (length samples)))
+    let n = length samples in
+    flat_map (λ k. events_of n (heard_at t samples k))
+    (frames_left t.count (sync_stream t) next n (sync_bound n))

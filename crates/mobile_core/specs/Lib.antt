@@ -1,3 +1,4 @@
+pub mod Scrambled
 pub mod Streams
 pub mod Timing
 pub mod Tuning
@@ -9,5 +10,9 @@ pub mod Left
 pub mod Near
 pub mod Given
 pub mod Softs
+pub mod Clocks
+pub mod Sound
+pub mod Receiving
+pub mod SyncReceiving
 pub mod Standing
 mod Worked

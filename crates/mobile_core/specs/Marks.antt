@@ -1,5 +1,6 @@
 -- The mark: the sample at which the time lies that a sync message tells.
-use Rattle.std.specs.Prelude.{ℕ, ◌+◌, ◌-◌, ◌*◌, ◌==◌, not, Bool, false, if◌then◌else◌, List, [], ◌∷◌, length, map, filter, nat_lt, Option, Some, None}
+use Rattle.std.specs.Prelude.{ℕ, ◌+◌, ◌-◌, ◌*◌, ◌==◌, not, Bool, false, if◌then◌else◌, List, []}
+use Rattle.std.specs.Prelude.{◌∷◌, length, map, filter, nat_lt, Option, Some, None}
 use Rattle.std.specs.List.{flat_map}
 use Rattle.chip_core.specs.Bits.{places}
 use Rattle.chip_core.specs.declared.sample.Sample.{Sample}
@@ -10,16 +11,17 @@ use Rattle.mobile_core.specs.SyncEvents.{frames_before, heard_at}
 use Rattle.mobile_core.specs.Tuning.{Tuning, sync_stream, sync_bound}
 use Rattle.mobile_core.specs.declared.event.Event.{Event}
 use Rattle.mobile_core.specs.declared.event.Event.TheVariants.{Pilot, Sync}
-use Rattle.mobile_core.specs.declared.heard.Heard.{Heard}
+use Rattle.mobile_core.specs.declared.spelled_message.SpelledMessage.{SpelledMessage}
 use Rattle.mobile_core.specs.declared.mark.Mark.{Mark}
 
 -- how many frames the message under way has behind the frames before `next`
 unfoldable pub frames_open : Tuning → List Sample → ℕ → ℕ
 frames_open t samples next = length (from_last_start (map piece (frames_before t samples next)))
 
--- Four superframes of 98,304 chips behind the last one of the message, less the pilot's offset, lies the time that it
+-- Four superframes of 98,304 chips behind the last one of the message, less the pilot's offset,
+-- lies the time that it
 -- tells. `first` is the reference sample at which its first frame begins (TIA/EIA-95-B, 7.7.1.3).
-abbrev pub mark_at : ℕ → Heard → Mark
+abbrev pub mark_at : ℕ → SpelledMessage → Mark
 mark_at first heard = record {
   sample = first + 98304 * (superframes_of heard.capsule + 4) - 64 * heard.message.pn;
   time = heard.message.time;
@@ -29,13 +31,15 @@ mark_at first heard = record {
 }
 
 -- a message whose long-code state is 0 sets none
-abbrev pub marks_of : ℕ → Option Heard → List Mark
+abbrev pub marks_of : ℕ → Option SpelledMessage → List Mark
 marks_of first None = []
 marks_of first (Some heard) = if heard.message.lc == 0 then [] else mark_at first heard ∷ []
 
 -- of the message that frame k completes
 unfoldable pub marks_at : Tuning → List Sample → ℕ → List Mark
-marks_at t samples k = marks_of (frame_start (sync_stream t) (k + 1 - frames_open t samples (k + 1))) (heard_at t samples k)
+marks_at t samples k =
+    marks_of (frame_start (sync_stream t) (k + 1 - frames_open t samples (k + 1)))
+    (heard_at t samples k)
 
 abbrev pub first_of : {A : Type 0} → List A → Option A
 first_of [] = None
@@ -43,22 +47,21 @@ first_of (x ∷ xs) = Some x
 
 -- the mark of n samples: that of the first message known within them that sets one
 unfoldable pub mark : Tuning → List Sample → ℕ → Option Mark
-mark t samples n = first_of (flat_map (marks_at t samples) (known_by t.count (sync_stream t) n (sync_bound n)))
+mark t samples n =
+    first_of (flat_map (marks_at t samples) (known_by t.count (sync_stream t) n (sync_bound n)))
 
 -- whether an event's message sets a mark
 abbrev pub sets_mark : Event → Bool
 sets_mark (Pilot phase energy) = false
 sets_mark (Sync n capsule message) = not (message.lc == 0)
 
--- how many frames the message under way has with one frame more, whose first bit says whether a message begins there
+-- how many frames the message under way has with one frame more, whose first bit says whether a
+-- message begins there
 abbrev pub frames_with : Bool → ℕ → ℕ
 frames_with begins before = if begins then 1 else (if nat_lt 0 before then before + 1 else 0)
 
--- the first of two where there is one, else the second
-abbrev pub or_else : {A : Type 0} → Option A → Option A → Option A
-or_else None y = y
-or_else (Some x) y = Some x
-
 -- the mark of the frames in the file before frame `next`
 unfoldable pub mark_before : Tuning → List Sample → ℕ → Option Mark
-mark_before t samples next = first_of (flat_map (marks_at t samples) (filter (is_in_file t.count (sync_stream t)) (places next)))
+mark_before t samples next =
+    first_of
+    (flat_map (marks_at t samples) (filter (is_in_file t.count (sync_stream t)) (places next)))

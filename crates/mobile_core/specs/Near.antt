@@ -1,8 +1,10 @@
 -- How far a handset's fingers may be from the reference path.
-use Rattle.std.specs.Prelude.{◌≡◌, ◌≤◌, ℕ, ◌&&◌, Bool, List, ℤ, pos, negsuc, int_le, nat_lt, unsigned_abs, IsTrue, All, Some, slice_get, if◌then◌else◌}
+use Rattle.std.specs.Prelude.{◌≡◌, ◌≤◌, ℕ, ◌&&◌, Bool, List, ℤ, pos, negsuc, int_le, nat_lt}
+use Rattle.std.specs.Prelude.{unsigned_abs, IsTrue, All, Some, slice_get, if◌then◌else◌}
 use Rattle.std.specs.Ordering.{int_eq}
 use Rattle.std.specs.List.{list_all, list_any}
 use Rattle.rake_finger.specs.declared.finger.Finger.{Finger}
+use Rattle.mobile_core.specs.Streams.{Stream}
 use Rattle.mobile_core.specs.Tuning.{Tuning, sync_stream}
 
 -- at most 128 chips later, and 127 earlier
@@ -30,9 +32,13 @@ all_begun u fingers = list_all (λ (f : Finger). int_le f.delta (pos u)) fingers
 abbrev pub AreBegun : ℕ → List Finger → Type 0
 AreBegun u fingers = IsTrue (all_begun u fingers)
 
--- the first sync frame in a file that is long enough
+-- the first frame of a stream in a file that is long enough
+abbrev pub low_in : Stream → ℕ
+low_in s = if all_begun s.first s.fingers then 0 else 1
+
+-- that of the sync channel
 abbrev pub low_of : Tuning → ℕ
-low_of t = if all_begun (sync_stream t).first (sync_stream t).fingers then 0 else 1
+low_of t = low_in (sync_stream t)
 
 -- The fingers' deltas are small, and the first is the reference path's.
 pub record IsTuned (t : Tuning) : Type 0 where

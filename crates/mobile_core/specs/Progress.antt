@@ -3,7 +3,8 @@ use Rattle.std.specs.Prelude.{◌≡◌, ◌⊎◌, ℕ, ◌+◌, ◌<◌, ◌�
 use Rattle.mobile_core.specs.Streams.{Stream, is_in_file, known_at}
 use Rattle.mobile_core.specs.Timing.{stream_end}
 
--- Of the frames in the file, from frame `low` on, those before `next` have been heard, and the soft values of those
+-- Of the frames in the file, from frame `low` on, those before `next` have been heard, and the soft
+-- values of those
 -- before `have` are there, after n samples. Frame `have` ends at n or later.
 pub record IsReached (count : ℕ) (s : Stream) (low next have n : ℕ) : Type 0 where
   pub low_next : low ≤ next

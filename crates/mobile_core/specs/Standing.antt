@@ -1,83 +1,55 @@
--- What a handset stands for.
-use Rattle.std.specs.Prelude.{◌≡◌, ◌⊎◌, ℕ, ◌+◌, ◌-◌, ◌*◌, ◌^◌, ◌<◌, ◌≤◌, Bool, List, ◌++◌, length, drop, is_some, Option, ℤ}
-use Rattle.std.specs.List.{flat_map, list_any}
-use Rattle.chip_core.specs.Bits.{places}
+-- What a handset stands for, and what a step does.
+use Rattle.std.specs.Prelude.{◌≡◌, ℕ, ◌+◌, ◌-◌, ◌^◌, ◌≤◌, List, ◌++◌, length, take, is_some}
+use Rattle.std.specs.Prelude.{None, IfSome}
+use Rattle.std.specs.List.{list_any}
 use Rattle.chip_core.specs.declared.check_form.CheckForm.{CheckForm}
 use Rattle.chip_core.specs.declared.sample.Sample.{Sample}
 use Rattle.rake_finger.specs.Held.{Held, HoldsLast}
-use Rattle.rake_finger.specs.declared.finger.Finger.{Finger}
-use Rattle.sync_message.specs.Framing as framing
+use Rattle.mobile_core.specs.Clocks.{IsDueAt}
 use Rattle.mobile_core.specs.Events.{events}
+use Rattle.mobile_core.specs.Given.{listed, at_of}
 use Rattle.mobile_core.specs.Left.{sync_events_left}
-use Rattle.mobile_core.specs.Marks.{frames_open, mark_before, sets_mark}
-use Rattle.mobile_core.specs.Progress.{IsReached}
-use Rattle.mobile_core.specs.Streams.{frame_start, frame_softs}
-use Rattle.mobile_core.specs.SyncEvents.{frames_before}
-use Rattle.mobile_core.specs.Timing.{stream_end, IsTimed}
-use Rattle.mobile_core.specs.Tuning.{Tuning, sync_stream}
+use Rattle.mobile_core.specs.Marks.{sets_mark}
+use Rattle.mobile_core.specs.SyncReceiving.{HearsSync}
+use Rattle.mobile_core.specs.Tuning.{Tuning}
 use Rattle.mobile_core.specs.declared.event.Event.{Event}
-use Rattle.mobile_core.specs.declared.mark.Mark.{Mark}
 use Rattle.mobile_core.specs.declared.mobile.Mobile.{Mobile}
+use Rattle.mobile_core.specs.declared.mobile.Step.{Step}
+use Rattle.mobile_core.specs.declared.sync_receiver.SyncReceiver.{SyncReceiver}
 
 -- what a handset carries from step to step
 pub record Parts : Type 0 where
   pub count : ℕ
   pub check : CheckForm
-  pub fingers : List Finger
-  pub low : ℕ
-  pub next : ℕ
-  pub have : ℕ
-  pub start : ℕ
-  pub end : ℕ
   pub ring : Held
-  pub softs : List ℤ
-  pub framer : Option (List Bool)
-  pub message_frames : ℕ
-  pub mark : Option Mark
+  pub sync : SyncReceiver
 
 -- The handset has taken these samples of a file, and given these events.
 pub record Stands (t : Tuning) (p : Parts) (heard : List Sample) (given : List Event) : Type 0 where
-  pub timed : IsTimed t.count (sync_stream t) p.low
   pub count_is : p.count ≡ t.count
   pub check_is : p.check ≡ t.check30
-  pub fingers_are : p.fingers ≡ (sync_stream t).fingers
   pub ring : HoldsLast p.ring heard
-  pub reached : IsReached t.count (sync_stream t) p.low p.next p.have (length heard)
-  pub start_is : p.start ≡ frame_start (sync_stream t) p.have
-  pub end_is : p.end ≡ stream_end (sync_stream t) p.have
-  pub softs : (m : ℕ) → m ≤ 3 → p.low + m ≤ p.have → drop (384 - 128 * m) p.softs ≡ flat_map (λ j. frame_softs heard (sync_stream t) (p.have - m + j)) (places m)
-  pub framer : framing.StandsFor p.framer (frames_before t heard p.next)
-  pub opened : p.message_frames ≡ frames_open t heard p.next
-  pub marked : p.mark ≡ mark_before t heard p.next
-  pub noted : is_some p.mark ≡ list_any sets_mark given
-  pub told : given ++ sync_events_left t heard p.next ≡ events t heard
+  pub sync : HearsSync t p.sync heard
+  pub noted : is_some p.sync.mark ≡ list_any sets_mark given
+  pub told : given ++ sync_events_left t heard p.sync.received.clock.next ≡ events t heard
 
 abbrev pub parts : Mobile → Parts
-parts m = record {
-  count = m.count;
-  check = m.check;
-  fingers = m.fingers;
-  low = m.low;
-  next = m.next;
-  have = m.have;
-  start = m.start;
-  end = m.end;
-  ring = m.ring;
-  softs = m.softs;
-  framer = m.framer;
-  message_frames = m.message_frames;
-  mark = m.mark;
-}
+parts m = record { count = m.count; check = m.check; ring = m.ring; sync = m.sync }
 
 abbrev pub StandsFor : Tuning → Mobile → List Sample → List Event → Type 0
 StandsFor t mobile heard given = Stands t (parts mobile) heard given
 
--- whether the next frame is known
-abbrev pub IsDuePart : Parts → Type 0
-IsDuePart p = (p.next < p.have) × ((p.next + 1 < p.have) ⊎ (p.count < p.end))
-
+-- whether a frame is known that hasn't been heard
 abbrev pub IsDueFor : Mobile → Type 0
-IsDueFor mobile = IsDuePart (parts mobile)
+IsDueFor mobile = IsDueAt mobile.count mobile.sync.received.clock
+
+-- how many frames have come that haven't been heard
+abbrev pub due_frames : Mobile → ℕ
+due_frames mobile = mobile.sync.received.clock.have - mobile.sync.received.clock.next
+
+-- how many samples have been taken when the next frame ends
+abbrev pub least_end : Mobile → ℕ
+least_end mobile = mobile.sync.received.clock.end
 
 -- how many samples of the file are left
 abbrev pub has_room : Mobile → ℕ
@@ -85,4 +57,29 @@ has_room mobile = mobile.count - mobile.ring.taken
 
 -- a bound on the events that are still to be given
 abbrev pub steps_left : Mobile → ℕ
-steps_left mobile = 2 ^ 63 - mobile.next
+steps_left mobile = 2 ^ 63 - mobile.sync.received.clock.next
+
+-- of how many samples the last are kept
+abbrev pub ring_room : Mobile → ℕ
+ring_room mobile = mobile.ring.room
+
+-- From one state to another a handset took the first of these samples, as many as the step says,
+-- and
+-- gave the event that it says, which ends at the last of them.
+pub record Steps (before after : Mobile) (samples : List Sample) (step : Step) : Type 0 where
+  pub most : step.taken ≤ length samples
+  pub room : has_room after + step.taken ≡ has_room before
+  pub fewer : steps_left after + length (listed step.event) ≤ steps_left before
+  pub ends : (t : Tuning) (heard : List Sample) (given : List Event) →
+      StandsFor t before heard given →
+      IfSome step.event (λ event. at_of event ≡ length heard + step.taken)
+  pub stands : (t : Tuning) (heard : List Sample) (given : List Event) →
+      StandsFor t before heard given →
+      StandsFor t after (heard ++ take step.taken samples) (given ++ listed step.event)
+
+-- Where it gave none, it took all, and nothing that ends within them is left to give.
+pub record IsStep (before after : Mobile) (samples : List Sample) (step : Step) : Type 0 where
+  pub steps : Steps before after samples step
+  pub none : step.event ≡ None → (step.taken ≡ length samples)
+      × ((t : Tuning) (heard : List Sample) (given : List Event) →
+      StandsFor t before heard given → given ≡ events t (heard ++ samples))

@@ -1,5 +1,6 @@
 -- What a handset is tuned to.
-use Rattle.std.specs.Prelude.{ℕ, ◌+◌, ◌-◌, ◌/◌, ◌%◌, List, map, take, ℤ, pos, ◌+ℤ◌, unsigned_abs}
+use Rattle.std.specs.Prelude.{ℕ, ◌+◌, ◌-◌, ◌/◌, ◌%◌, List, [], map, take, ℤ, pos, ◌+ℤ◌}
+use Rattle.std.specs.Prelude.{unsigned_abs}
 use Rattle.std.specs.Int.{int_rem_euclid}
 use Rattle.chip_core.specs.declared.check_form.CheckForm.{CheckForm}
 use Rattle.frame_decoder.specs.Spans.{sync_channel}
@@ -10,7 +11,8 @@ use Rattle.rake_finger.specs.declared.form.Form.TheVariants.{Sync}
 use Rattle.mobile_core.specs.Streams.{Stream}
 use Rattle.mobile_core.specs.declared.settings.Settings.{Settings}
 
--- the samples in the file, the best phase, how much earlier than there each finger's samples come, and how the checks of
+-- the samples in the file, the best phase, how much earlier than there each finger's samples come,
+-- and how the checks of
 -- 30 bits are sent
 pub record Tuning : Type 0 where
   pub count : ℕ
@@ -19,22 +21,36 @@ pub record Tuning : Type 0 where
   pub check30 : CheckForm
 
 -- of these settings, where the search found this phase and these deltas
-abbrev pub tuning_of : Settings → Best → Near → Tuning
-tuning_of settings best near = record { count = settings.count; phase = best.phase; deltas = take near.count near.deltas; check30 = settings.check30 }
+abbrev pub tuning_by : Settings → Best → Near → Tuning
+tuning_by settings best near =
+    record {
+      count = settings.count;
+      phase = best.phase;
+      deltas = take near.count near.deltas;
+      check30 = settings.check30;
+    }
 
 abbrev pub modulo_code : ℤ → ℕ
 modulo_code x = unsigned_abs (int_rem_euclid x (pos 32768))
 
 -- a finger so much earlier than a phase
 abbrev pub finger_of : ℕ → ℕ → ℤ → Finger
-finger_of row phase delta = record { phase = modulo_code (pos phase +ℤ delta); delta = delta; row = row }
+finger_of row phase delta =
+    record { phase = modulo_code (pos phase +ℤ delta); delta = delta; row = row }
 
 abbrev pub fingers_of : ℕ → ℕ → List ℤ → List Finger
 fingers_of row phase deltas = map (finger_of row phase) deltas
 
--- The sync channel is Walsh row 32, and its frames begin where the pilot's code does (TIA/EIA-95-B, 7.1.3.3).
+-- The sync channel is Walsh row 32, and its frames begin where the pilot's code does (TIA/EIA-95-B,
+-- 7.1.3.3).
 abbrev pub sync_stream : Tuning → Stream
-sync_stream t = record { channel = sync_channel; form = Sync; fingers = fingers_of 32 t.phase t.deltas; first = (32768 - t.phase) % 32768 }
+sync_stream t = record {
+  channel = sync_channel;
+  form = Sync;
+  fingers = fingers_of 32 t.phase t.deltas;
+  first = (32768 - t.phase) % 32768;
+  scrambling = λ k. [];
+}
 
 -- more frames than end within so many samples
 abbrev pub sync_bound : ℕ → ℕ

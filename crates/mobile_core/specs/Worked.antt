@@ -1,9 +1,11 @@
 -- A file of 1,228,800 samples whose pilot has phase 64, as the checker computes it.
-use Rattle.std.specs.Prelude.{◌≡◌, refl, ℕ, true, false, List, [], ◌∷◌, replicate, ℤ, pos, negsuc, Some, None}
+use Rattle.std.specs.Prelude.{◌≡◌, refl, ℕ, true, false, List, [], ◌∷◌, replicate, ℤ, pos, negsuc}
+use Rattle.std.specs.Prelude.{Some, None}
 use Rattle.chip_core.specs.declared.check_form.CheckForm.TheVariants.{Plain}
 use Rattle.sync_message.specs.declared.fields.SyncFields.{SyncFields}
 use Rattle.mobile_core.specs.Marks.{marks_of, frames_with}
 use Rattle.mobile_core.specs.Near.{low_of}
+use Rattle.mobile_core.specs.Scrambled.{unscrambled}
 use Rattle.mobile_core.specs.Streams.{is_in_file, known_at, span_frames}
 use Rattle.mobile_core.specs.Tuning.{Tuning, sync_stream, modulo_code}
 
@@ -45,15 +47,33 @@ first_frame = refl
 below_the_code : modulo_code (negsuc 2) ≡ 32765
 below_the_code = refl
 
--- a capsule of 200 bits takes three superframes: seven from its first frame's sample on, less the pilot's offset
+-- a capsule of 200 bits takes three superframes: seven from its first frame's sample on, less the
+-- pilot's offset
 sent : SyncFields
-sent = record { prev = 3; min = 1; sid = 1; nid = 2; pn = 511; lc = 0x102a1d2e508; time = 1007; lp = 13; ltm = 0; daylt = 0; prat = 0; freq = None; rest = false ∷ false ∷ false ∷ [] }
+sent =
+    record {
+      prev = 3;
+      min = 1;
+      sid = 1;
+      nid = 2;
+      pn = 511;
+      lc = 0x102a1d2e508;
+      time = 1007;
+      lp = 13;
+      ltm = 0;
+      daylt = 0;
+      prat = 0;
+      freq = None;
+      rest = false ∷ false ∷ false ∷ [];
+    }
 
-told : marks_of 32704 (Some (record { capsule = replicate 200 true; message = sent })) ≡ record { sample = 688128; time = 1007; lc = 0x102a1d2e508; pn = 511; prat = 0 } ∷ []
+told : marks_of 32704 (Some (record { capsule = replicate 200 true; message = sent }))
+    ≡ record { sample = 688128; time = 1007; lc = 0x102a1d2e508; pn = 511; prat = 0 } ∷ []
 unfolding sent
 told = refl
 
-untold : marks_of 32704 (Some (record { capsule = replicate 200 true; message = record sent { lc = 0 } })) ≡ []
+untold : marks_of 32704
+    (Some (record { capsule = replicate 200 true; message = record sent { lc = 0 } })) ≡ []
 unfolding sent
 untold = refl
 
@@ -65,3 +85,10 @@ not_begun = refl
 
 begins_again : frames_with true 3 ≡ 1
 begins_again = refl
+
+-- a soft value is turned where its scrambling bit is 1, and none where there are no bits
+turned_by_bits : unscrambled (true ∷ false ∷ []) (pos 3 ∷ pos 4 ∷ []) ≡ negsuc 2 ∷ pos 4 ∷ []
+turned_by_bits = refl
+
+turned_by_none : unscrambled [] (pos 3 ∷ pos 4 ∷ []) ≡ pos 3 ∷ pos 4 ∷ []
+turned_by_none = refl

@@ -1,20 +1,39 @@
-//! The fingers that receive the sync channel, and where their frames lie.
+//! The fingers that receive a channel of the reference base station, and where their frames lie.
 
-ghost use Rattle.std.specs.Prelude.{◌≡◌, ◌<◌, ◌≤◌, ◌+◌, ◌^◌, ℕ, IsTrue, true, pos, ◌+ℤ◌, ◌-ℤ◌, int_le, slice_get, Some, length, take, unsigned_abs};
+ghost use Rattle.std.specs.Prelude.{◌≡◌, ◌<◌, ◌≤◌, ◌+◌, ◌^◌, true, pos, ◌+ℤ◌};
+ghost use Rattle.std.specs.Prelude.{int_le, slice_get, Some, length, take};
 ghost use Rattle.mobile_core.specs.Near.{is_near, AreNear, have_rows, all_begun};
-ghost use Rattle.mobile_core.specs.Streams.{frame_end};
+ghost use Rattle.mobile_core.specs.Streams.{finger_end, frame_end};
 ghost use Rattle.mobile_core.specs.Tuning.{finger_of, fingers_of, modulo_code};
-ghost use Rattle.rake_finger.specs.declared.form.Form.TheVariants.{Sync};
+ghost use Rattle.rake_finger.specs.Soft.{frame_chips, symbols};
 
 use chip_core::Phase;
+use chip_core::air::{DATA_FRAME_CHIPS, DATA_SYMBOLS, SYNC_FRAME_CHIPS, SYNC_SYMBOLS};
 use pilot_search::Near;
-use rake_finger::{Finger, Fingers};
+use rake_finger::{Finger, Fingers, Form};
 
-/// The Walsh row of the sync channel.
-const SYNC_ROW: u8 = 32;
+/// How many chips a frame has.
+pub(crate) fn frame_chips(form: Form) -> u64
+    ensures value { result ≡ frame_chips form }
+    ensures least { 256 ≤ result }
+    ensures most { result ≤ 32768 }
+{
+    match form {
+        Form::Sync => SYNC_FRAME_CHIPS,
+        Form::Data => DATA_FRAME_CHIPS,
+    }
+}
 
-/// How many chips a period of the pilot's codes has, and a frame of the sync channel.
-pub(crate) const FRAME_CHIPS: u64 = 32768;
+/// How many symbols a frame has.
+pub(crate) fn frame_symbols(form: Form) -> usize
+    ensures value { result ≡ symbols form }
+    ensures most { result ≤ 384 }
+{
+    match form {
+        Form::Sync => SYNC_SYMBOLS,
+        Form::Data => DATA_SYMBOLS,
+    }
+}
 
 /// The phase so many chips above another, modulo the period of the codes.
 fn phase_above(phase: Phase, delta: i8) -> Phase
@@ -24,32 +43,33 @@ fn phase_above(phase: Phase, delta: i8) -> Phase
     Phase::new(number as u16).unwrap()
 }
 
-/// The finger that receives the sync channel so many chips earlier than at a phase.
-fn finger_at(phase: Phase, delta: i8) -> Finger
-    ensures value { result ≡ finger_of 32 phase delta }
+/// The finger that receives a row so many chips earlier than at a phase.
+fn finger_at(row: u8, phase: Phase, delta: i8) -> Finger
+    ensures value { result ≡ finger_of row phase delta }
     ensures near { is_near result.delta ≡ true }
-    ensures row { result.row ≡ 32 }
+    ensures row { result.row ≡ row }
 {
     Finger {
         phase: phase_above(phase, delta),
         delta: i16::from(delta),
-        row: SYNC_ROW,
+        row,
     }
 }
 
-/// The fingers that receive the sync channel at a phase and near it.
-pub(crate) fn sync_fingers(phase: Phase, near: &Near) -> Fingers
+/// The fingers that receive a row at a phase and near it.
+pub(crate) fn reference_fingers(row: u8, phase: Phase, near: &Near) -> Fingers
+    requires row { row < 64 }
     requires least { 1 ≤ near.now.count }
     requires most { near.now.count ≤ 3 }
     requires first { slice_get near.now.deltas 0 ≡ Some (pos 0) }
-    ensures value { result ≡ fingers_of 32 phase (take near.now.count near.now.deltas) }
+    ensures value { result ≡ fingers_of row phase (take near.now.count near.now.deltas) }
     ensures near { AreNear result }
     ensures rows { have_rows result ≡ true }
     ensures most { length result ≤ 3 }
 {
-    let mut fingers = Fingers::one(finger_at(phase, near.deltas[0]));
+    let mut fingers = Fingers::one(finger_at(row, phase, near.deltas[0]));
     for i in 1..near.count {
-        let finger = finger_at(phase, near.deltas[usize::from(i)]);
+        let finger = finger_at(row, phase, near.deltas[usize::from(i)]);
         if fingers.push(finger).is_err() {
             unreachable!()
         }
@@ -59,7 +79,7 @@ pub(crate) fn sync_fingers(phase: Phase, near: &Near) -> Fingers
 
 /// Whether a finger's frame that begins at a reference sample doesn't begin before the file.
 fn has_begun(finger: &Finger, start: u64) -> bool
-    requires { start < 2 ^ 20 }
+    requires { start < 2 ^ 30 }
     ensures { result ≡ int_le finger.now.delta (pos start) }
 {
     i64::from(finger.delta) <= start as i64
@@ -67,7 +87,7 @@ fn has_begun(finger: &Finger, start: u64) -> bool
 
 /// Whether no finger's frame that begins at a reference sample begins before the file.
 pub(crate) fn are_begun(fingers: &Fingers, start: u64) -> bool
-    requires { start < 2 ^ 20 }
+    requires { start < 2 ^ 30 }
     ensures { result ≡ all_begun start fingers.now }
 {
     for i in 0..fingers.len() {
@@ -79,23 +99,24 @@ pub(crate) fn are_begun(fingers: &Fingers, start: u64) -> bool
 }
 
 /// Where one finger's frame ends that begins at a reference sample.
-fn end_of(finger: &Finger, start: u64) -> u64
+fn end_of(finger: &Finger, form: Form, start: u64) -> u64
     requires near { is_near finger.now.delta ≡ true }
-    requires start { start < 2 ^ 20 }
-    ensures { result ≡ unsigned_abs ((pos start -ℤ finger.now.delta) +ℤ pos 32768) }
+    requires start { start < 2 ^ 30 }
+    ensures { result ≡ finger_end form start finger.now }
 {
-    (start as i64 - i64::from(finger.delta) + 32768) as u64
+    let reference = (start + frame_chips(form)) as i64;
+    (reference - i64::from(finger.delta)) as u64
 }
 
 /// Where the last of the fingers' frames ends that begin at a reference sample.
-pub(crate) fn frames_end(fingers: &Fingers, start: u64) -> u64
+pub(crate) fn frames_end(fingers: &Fingers, form: Form, start: u64) -> u64
     requires near { AreNear fingers.now }
-    requires start { start < 2 ^ 20 }
-    ensures { result ≡ frame_end fingers.now Sync start }
+    requires start { start < 2 ^ 30 }
+    ensures { result ≡ frame_end fingers.now form start }
 {
     let mut end = 0;
     for i in 0..fingers.len() {
-        end = end_of(&fingers.get(i), start).max(end);
+        end = end_of(&fingers.get(i), form, start).max(end);
     }
     end
 }

@@ -1,46 +1,57 @@
 //! What a capsule of the sync channel says.
 
-ghost use Rattle.std.specs.Prelude.{◌≡◌, ◌≤◌, ◌+◌, ◌^◌, [], ◌∷◌, Some};
-ghost use Rattle.mobile_core.specs.Marks.{first_of, marks_of, or_else};
-ghost use Rattle.mobile_core.specs.SyncEvents.{events_of};
-ghost use Rattle.mobile_core.specs.SyncEvents.{heard_in as heard_by};
+ghost use Rattle.std.specs.Prelude.{◌≡◌, ◌<◌, ◌≤◌, ◌^◌, [], ◌∷◌, Some};
+ghost use Rattle.std.specs.Option.{option_or};
 ghost use Rattle.mobile_core.specs.Given.{at_of};
+ghost use Rattle.mobile_core.specs.Marks.{first_of, marks_of, frames_with};
+ghost use Rattle.mobile_core.specs.SyncEvents.{events_of, heard_in};
 
 use crate::event::Event;
-use crate::heard::Heard;
 use crate::mark::Mark;
+use crate::spelled_message::SpelledMessage;
+use chip_core::air::{OFFSET_CHIPS, SUPERFRAME_BITS, SUPERFRAME_CHIPS};
 use chip_core::{Bits, CheckForm};
 use sync_message::SyncMessage;
 
-/// How many chips a superframe has.
-const SUPERFRAME_CHIPS: u64 = 98304;
-
-/// How many bits of body a superframe has.
-const SUPERFRAME_BITS: u64 = 93;
-
 /// A capsule with the message that it spells; `None` where there is none.
-pub(crate) fn heard_in(check: CheckForm, capsule: Option<Bits>) -> Option<Heard>
-    ensures { result ≡ heard_by check capsule }
+pub(crate) fn message_in(check: CheckForm, capsule: Option<Bits>) -> Option<SpelledMessage>
+    ensures { result ≡ heard_in check capsule }
 {
     let capsule = capsule?;
     match SyncMessage::decode(&capsule, check) {
-        Ok(message) => Some(Heard { capsule, message }),
+        Ok(message) => Some(SpelledMessage { capsule, message }),
         Err(_) => None,
     }
 }
 
-/// The mark that a message sets whose first frame begins at a reference sample.
-fn mark_of(first: u64, heard: &Heard) -> Option<Mark>
-    requires { first ≤ 2 ^ 40 }
-    ensures { result ≡ first_of (marks_of first (Some heard.now)) }
+/// How many frames the message under way has with one frame more.
+pub(crate) fn with_frame(begins: bool, message_frames: u64) -> u64
+    requires { message_frames < 2 ^ 63 }
+    ensures { result ≡ frames_with begins message_frames }
 {
-    let fields = heard.message.fields();
+    if begins {
+        1
+    } else if message_frames > 0 {
+        message_frames + 1
+    } else {
+        0
+    }
+}
+
+/// The mark that a message sets whose first frame begins at a reference sample.
+fn mark_of(first: u64, told: &SpelledMessage) -> Option<Mark>
+    requires { first ≤ 2 ^ 40 }
+    ensures { result ≡ first_of (marks_of first (Some told.now)) }
+{
+    let fields = told.message.fields();
     if fields.lc == 0 {
         return None;
     }
-    let superframes = (u64::from(heard.capsule.len()) + SUPERFRAME_BITS - 1) / SUPERFRAME_BITS;
+    let body_bits = u64::from(SUPERFRAME_BITS);
+    let superframes = (u64::from(told.capsule.len()) + body_bits - 1) / body_bits;
+    let behind = SUPERFRAME_CHIPS * (superframes + 4);
     Some(Mark {
-        sample: first + SUPERFRAME_CHIPS * (superframes + 4) - 64 * u64::from(fields.pn),
+        sample: first + behind - OFFSET_CHIPS * u64::from(fields.pn),
         time: fields.time,
         lc: fields.lc,
         pn: fields.pn,
@@ -48,25 +59,25 @@ fn mark_of(first: u64, heard: &Heard) -> Option<Mark>
     })
 }
 
-/// The mark that is set, or else that of what is heard.
-pub(crate) fn mark_with(mark: Option<Mark>, first: u64, heard: &Heard) -> Option<Mark>
+/// The mark that is set, or else that of what is told.
+pub(crate) fn mark_with(mark: Option<Mark>, first: u64, told: &SpelledMessage) -> Option<Mark>
     requires { first ≤ 2 ^ 40 }
-    ensures { result ≡ or_else mark (first_of (marks_of first (Some heard.now))) }
+    ensures { result ≡ option_or mark (first_of (marks_of first (Some told.now))) }
 {
     if mark.is_some() {
         return mark;
     }
-    mark_of(first, heard)
+    mark_of(first, told)
 }
 
-/// The event of what is heard.
-pub(crate) fn event_of(heard: &Heard, at: u64) -> Event
-    ensures value { result ∷ [] ≡ events_of at (Some heard.now) }
+/// The event of what is told when so many samples have been taken.
+pub(crate) fn event_of(told: &SpelledMessage, at: u64) -> Event
+    ensures value { result ∷ [] ≡ events_of at (Some told.now) }
     ensures ends { at_of result ≡ at }
 {
     Event::Sync {
         at,
-        capsule: heard.capsule,
-        message: heard.message,
+        capsule: told.capsule,
+        message: told.message,
     }
 }

@@ -1,15 +1,18 @@
 //! The handset: samples go in, and what it hears comes out as events.
 #![tactic(auto)]
 
+mod continued;
 mod event;
 mod fingers;
-mod heard;
+mod frame_clock;
 mod hearing;
 pub mod laws;
 mod mark;
 mod mobile;
 mod settings;
 mod softs;
+mod spelled_message;
+mod sync_receiver;
 
 pub use event::Event;
 pub use mobile::{Mobile, Step};

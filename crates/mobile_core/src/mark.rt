@@ -1,6 +1,7 @@
 //! Where the time lies that a sync message tells.
 
-/// The sample at which a sync message's time lies, and what else it says of the channels that begin there.
+/// The sample at which a sync message's time lies, and what else it says of the channels that begin
+/// there (TIA/EIA-95-B, 7.7.1.3).
 #[derive(Clone, Copy)]
 pub(crate) struct Mark {
     /// The reference sample at which the time lies.

@@ -1,33 +1,47 @@
 //! The soft values of the last three frames.
 
-ghost use Rattle.std.specs.Prelude.{◌≡◌, ◌<◌, ◌≤◌, ◌++◌, ◌-◌, ◌*◌, drop, length, sum_by, unsigned_abs};
-ghost use Rattle.frame_decoder.specs.Spans.{own_bits, sync_channel};
+ghost use Rattle.std.specs.Prelude.{◌≡◌, ◌≤◌, ◌++◌, ◌+◌, ◌-◌, ◌*◌, ◌*ℤ◌, ◌^◌, drop, length};
+ghost use Rattle.std.specs.Prelude.{sum_by, unsigned_abs};
+ghost use Rattle.chip_core.specs.Bits.{sign};
+ghost use Rattle.mobile_core.specs.Scrambled.{Scrambles, unscrambled};
 ghost use Rattle.mobile_core.specs.Softs.{AreSmall, frame_most};
 
-use chip_core::Bits;
-use frame_decoder::sync_span;
-use viterbi::Decoder;
+use chip_core::air::DATA_SYMBOLS;
 
-/// Takes the values of one frame more, in place of those of the oldest.
-pub(crate) fn shift_in(softs: &mut [i64; 384], fresh: &[i64; 128])
-    requires small { AreSmall softs.old }
-    requires fresh { sum_by unsigned_abs fresh.now ≤ frame_most }
-    ensures value { softs.new ≡ drop 128 softs.old ++ fresh.now }
-    ensures small { AreSmall softs.new }
+/// How many soft values are kept: those of three frames of 384 symbols.
+pub(crate) const MOST_SOFTS: usize = 3 * DATA_SYMBOLS;
+
+/// A soft value, turned in sign where its scrambling bit is 1.
+fn turned_value(bit: bool, soft: i64) -> i64
+    requires { unsigned_abs soft ≤ 2 ^ 62 }
+    ensures value { result ≡ sign bit *ℤ soft }
+    ensures size { unsigned_abs result ≡ unsigned_abs soft }
 {
-    softs.rotate_left(128);
-    softs[256..].copy_from_slice(fresh);
+    if bit { -soft } else { soft }
 }
 
-/// The bits of frame `own`, counted from 0, of the last so many frames.
-pub(crate) fn bits_of(decoder: &mut Decoder, softs: &[i64; 384], frames: usize, own: u8) -> Bits
-    requires frames { frames ≤ 3 }
-    requires own { own < frames }
-    requires room { 96 ≤ decoder.old }
-    requires small { AreSmall softs.now }
-    ensures value { result ≡ own_bits sync_channel frames own (drop (384 - 128 * frames) softs.now) }
-    ensures count { length result ≡ 32 }
-    ensures kept { decoder.new ≡ decoder.old }
+/// Turns each soft value in sign whose scrambling bit is 1, where there are any (TIA/EIA-95-B,
+/// 7.1.3.1.6).
+pub(crate) fn unscramble(bits: &[bool], softs: &mut [i64])
+    requires bits { Scrambles bits.now (length softs.old) }
+    requires small { sum_by unsigned_abs softs.old ≤ frame_most }
+    ensures value { softs.new ≡ unscrambled bits.now softs.old }
+    ensures small { sum_by unsigned_abs softs.new ≡ sum_by unsigned_abs softs.old }
 {
-    sync_span(decoder, &softs[384 - 128 * frames..], own)
+    for i in 0..bits.len() {
+        softs[i] = turned_value(bits[i], softs[i]);
+    }
+}
+
+/// Takes the values of one frame more, in place of the oldest.
+pub(crate) fn shift_in(softs: &mut [i64; MOST_SOFTS], fresh: &[i64])
+    requires few { length fresh.now ≤ 384 }
+    requires small { AreSmall (length fresh.now) softs.old }
+    requires fresh { sum_by unsigned_abs fresh.now ≤ frame_most }
+    ensures value { softs.new ≡ drop (length fresh.now) softs.old ++ fresh.now }
+    ensures whole { length softs.new ≡ 1152 }
+    ensures small { AreSmall (length fresh.now) softs.new }
+{
+    softs.rotate_left(fresh.len());
+    softs[MOST_SOFTS - fresh.len()..].copy_from_slice(fresh);
 }

@@ -1,6 +1,6 @@
 //! A handset that hears nothing.
 
-ghost use Rattle.std.specs.Prelude.{◌≡◌, ◌≤◌, IfOk, length};
+ghost use Rattle.std.specs.Prelude.{◌≡◌, ◌≤◌, IfOk};
 ghost use Rattle.mobile_core.specs.Standing.{has_room};
 
 use crate::{Mobile, Settings, Step};

@@ -7,10 +7,14 @@ pub returns-then-not-has_begun : goal.returns-then-not-has_begun
 returns-then-not-has_begun c =
     let u = c.args.start in
     let rest = all_begun u (drop (c.loop-i.i + 1) c.args.fingers.now) in
-    sym (sym c.loop-i.invariant ∙ begun_at u c.args.fingers.now c.loop-i.i c.get.result c.get.ensures ∙ ap (λ b. b && rest) (sym c.has_begun.ensures ∙ c.if-not-has_begun.true))
+    let here = begun_at u c.args.fingers.now c.loop-i.i c.get.result c.get.ensures in
+    let none = sym c.has_begun.ensures ∙ c.if-not-has_begun.true in
+    sym (sym c.loop-i.invariant ∙ here ∙ ap (λ b. b && rest) none)
 
 pub loop-i-preserved : goal.loop-i-preserved
 loop-i-preserved c =
     let u = c.args.start in
     let rest = all_begun u (drop (c.loop-i.i + 1) c.args.fingers.now) in
-    sym (begun_at u c.args.fingers.now c.loop-i.i c.get.result c.get.ensures ∙ ap (λ b. b && rest) (sym c.has_begun.ensures ∙ c.if-not-has_begun.false)) ∙ c.loop-i.invariant
+    let here = begun_at u c.args.fingers.now c.loop-i.i c.get.result c.get.ensures in
+    let some = sym c.has_begun.ensures ∙ c.if-not-has_begun.false in
+    sym (here ∙ ap (λ b. b && rest) some) ∙ c.loop-i.invariant

@@ -1,7 +1,7 @@
 use Rattle.std.proofs.Common.{◌≡◌, max, drop}
-use Rattle.rake_finger.specs.declared.form.Form.TheVariants.{Sync}
 use Rattle.mobile_core.specs.Streams.{frame_end}
 use Rattle.mobile_core.proofs.fingers.frames_end.Given as goal
 
 abbrev pub invariant-loop-i : goal.invariant-loop-i
-invariant-loop-i l = max l.end (frame_end (drop l.i l.fingers) Sync l.start) ≡ frame_end l.fingers Sync l.start
+invariant-loop-i l =
+    max l.end (frame_end (drop l.i l.fingers) l.form l.start) ≡ frame_end l.fingers l.form l.start

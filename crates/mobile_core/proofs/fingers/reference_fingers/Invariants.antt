@@ -1,13 +1,13 @@
 use Rattle.std.proofs.Common.{◌≡◌, ◌≤◌, take, length, true}
 use Rattle.mobile_core.specs.Near.{all_near, has_reference, have_rows}
 use Rattle.mobile_core.specs.Tuning.{fingers_of}
-use Rattle.mobile_core.proofs.fingers.sync_fingers.Given as goal
+use Rattle.mobile_core.proofs.fingers.reference_fingers.Given as goal
 
 abbrev pub invariant-loop-i : goal.invariant-loop-i
 invariant-loop-i l = record {
   least : 1 ≤ l.i;
   most : l.i ≤ l.near.count;
-  list : l.fingers ≡ fingers_of 32 l.phase (take l.i l.near.deltas);
+  list : l.fingers ≡ fingers_of l.row l.phase (take l.i l.near.deltas);
   rows : have_rows l.fingers ≡ true;
   long : length l.fingers ≡ l.i;
   near : all_near l.fingers ≡ true;

@@ -1,0 +1,72 @@
+-- Steps of a handset that follow one another.
+use Rattle.std.proofs.Common.{◌≡◌, ℕ, ◌+◌, List, [], ◌++◌, length, length-append}
+use Rattle.std.proofs.Common.{length-take, length-drop, take, drop, sym, ap, ◌∙◌, subst}
+use Rattle.std.proofs.Common.{arith, Option, None, IfSome}
+use Rattle.std.proofs.lemmas.List.{append-nil, append_assoc}
+use Rattle.std.proofs.Math.Seq.{take-add}
+use Rattle.chip_core.specs.declared.sample.Sample.{Sample}
+use Rattle.mobile_core.specs.Given.{listed, at_of}
+use Rattle.mobile_core.specs.Standing.{StandsFor, Steps}
+use Rattle.mobile_core.specs.declared.event.Event.{Event}
+use Rattle.mobile_core.specs.declared.mobile.Mobile.{Mobile}
+
+-- nothing was taken, and nothing given
+pub steps_none : (mobile : Mobile) (samples : List Sample) →
+    Steps mobile mobile samples (record { taken = 0; event = None })
+steps_none mobile samples = record {
+  most = omega arith;
+  room = omega arith;
+  fewer = omega arith;
+  ends = λ t heard given st. tt;
+  stands = λ t heard given st. rw (append-nil heard, append-nil given) st;
+}
+
+module _ {one two three : Mobile} {samples : List Sample} {n : ℕ}
+    (before : Steps one two samples (record { taken = n; event = None })) where
+  -- samples were taken, then an event may have been given
+  pub steps_heard : (event : Option Event) →
+      Steps two three [] (record { taken = 0; event = event }) →
+      Steps one three samples (record { taken = n; event = event })
+  steps_heard event next =
+      let was = before.fewer in
+      record {
+        most = before.most;
+        room = omega (arith, before.room, next.room);
+        fewer = omega (arith, was, next.fewer);
+        ends = λ t heard given st.
+            let here = subst (StandsFor t two (heard ++ take n samples)) (append-nil given)
+            (before.stands t heard given st) in
+            let long : length (heard ++ take n samples) + 0 ≡ length heard + n =
+            omega
+            (arith, length-append heard (take n samples), length-take n samples, before.most) in
+            subst (λ (k : ℕ). IfSome event (λ e. at_of e ≡ k)) long
+            (next.ends t (heard ++ take n samples) given here);
+        stands = λ t heard given st.
+            let here = subst (StandsFor t two (heard ++ take n samples)) (append-nil given)
+            (before.stands t heard given st) in
+            let after = next.stands t (heard ++ take n samples) given here in
+            subst (λ (xs : List Sample). StandsFor t three xs (given ++ listed event))
+            (append-nil (heard ++ take n samples)) after;
+      }
+
+  -- samples were taken, then more
+  pub steps_taken : (m : ℕ) →
+      Steps two three (drop n samples) (record { taken = m; event = None }) →
+      Steps one three samples (record { taken = n + m; event = None })
+  steps_taken m next =
+      let was = before.fewer in
+      record {
+        most = omega (arith, before.most, next.most, length-drop n samples);
+        room = omega (arith, before.room, next.room);
+        fewer = omega (arith, was, next.fewer);
+        ends = λ t heard given st. tt;
+        stands = λ t heard given st.
+            let here = subst (StandsFor t two (heard ++ take n samples)) (append-nil given)
+            (before.stands t heard given st) in
+            let after = next.stands t (heard ++ take n samples) given here in
+            let joined : (heard ++ take n samples) ++ take m (drop n samples)
+            ≡ heard ++ take (n + m) samples =
+            append_assoc heard (take n samples) (take m (drop n samples))
+            ∙ ap (λ (xs : List Sample). heard ++ xs) (sym (take-add n m samples)) in
+            subst (λ (xs : List Sample). StandsFor t three xs (given ++ [])) joined after;
+      }

@@ -1,0 +1,257 @@
+-- What the receiver of the sync channel stands for, step by step.
+use Rattle.std.proofs.Common.{◌≡◌, ℕ, zero, suc, ◌+◌, ◌-◌, ◌<◌, ◌≤◌, Bool, true, false, ◌||◌, ◌==◌}
+use Rattle.std.proofs.Common.{List, [], ◌∷◌, ◌++◌, map, length, refl, sym, ap, ◌∙◌, arith, ◌⊎◌, inl}
+use Rattle.std.proofs.Common.{inr, Option, Some, None, slice_get}
+use Rattle.std.specs.Prelude.{is_some}
+use Rattle.std.specs.List.{list_any}
+use Rattle.std.specs.Option.{option_or}
+use Rattle.std.proofs.lemmas.Bool.{cases_lt, cases_Bool}
+use Rattle.chip_core.specs.declared.sample.Sample.{Sample}
+use Rattle.quality_bits.specs.Pieces.{piece, capsule_ending}
+use Rattle.sync_message.specs.Framing as framing
+use Rattle.mobile_core.specs.Clocks.{IsDueAt, frame_heard}
+use Rattle.mobile_core.specs.Given.{listed}
+use Rattle.mobile_core.specs.Left.{sync_events_left}
+use Rattle.mobile_core.specs.Marks.{frames_open, frames_with, first_of, marks_of, marks_at, mark}
+use Rattle.mobile_core.specs.Marks.{mark_before, sets_mark}
+use Rattle.mobile_core.specs.Progress.{IsReached, IsDue}
+use Rattle.mobile_core.specs.Receiving.{Receives}
+use Rattle.mobile_core.specs.Streams.{frame_start, frame_own_bits, is_in_file}
+use Rattle.mobile_core.specs.SyncEvents.{frames_before, sync_capsule_at, heard_in, heard_at}
+use Rattle.mobile_core.specs.SyncEvents.{events_of}
+use Rattle.mobile_core.specs.SyncReceiving.{HearsSync, HearsNext}
+use Rattle.mobile_core.specs.Timing.{IsTimed, stream_end}
+use Rattle.mobile_core.specs.Tuning.{Tuning, sync_stream}
+use Rattle.mobile_core.specs.declared.continued.Continued.{Continued}
+use Rattle.mobile_core.specs.declared.event.Event.{Event}
+use Rattle.mobile_core.specs.declared.mark.Mark.{Mark}
+use Rattle.mobile_core.specs.declared.spelled_message.SpelledMessage.{SpelledMessage}
+use Rattle.mobile_core.specs.declared.sync_receiver.SyncReceiver.{SyncReceiver}
+use Rattle.mobile_core.proofs.ClockSteps.{due_inside, due_known, before_next}
+use Rattle.mobile_core.proofs.FrameTimes.{outside_low}
+use Rattle.mobile_core.proofs.Growth.{frames_before_sooner, frames_before_more, frames_before_none}
+use Rattle.mobile_core.proofs.Growth.{left_next}
+use Rattle.mobile_core.proofs.MarkGrowth.{mark_is, mark_before_none, mark_before_more}
+use Rattle.mobile_core.proofs.MarkGrowth.{mark_before_sooner}
+use Rattle.mobile_core.proofs.Opened.{frames_open-none, frames_open-more}
+use Rattle.mobile_core.proofs.Progresses as progress
+use Rattle.mobile_core.proofs.Received.{receives_more, receives_heard}
+
+-- what is told sets the mark exactly where its event says so
+noted_event : (told : Option SpelledMessage) (first n : ℕ) →
+    is_some (first_of (marks_of first told)) ≡ list_any sets_mark (events_of n told)
+noted_event None first n = refl
+noted_event (Some told) first n =
+    elim (cases_Bool (told.message.lc == 0)) [
+      | inl zero' ↦ rw zero' refl
+      | inr other ↦ rw other refl
+    ]
+
+either : (m n : Option Mark) → is_some (option_or m n) ≡ (is_some m || is_some n)
+either None n = refl
+either (Some m) n = refl
+
+pub or_none : (m : Option Mark) → option_or m None ≡ m
+or_none None = refl
+or_none (Some m) = refl
+
+-- the first bit of a frame
+pub starts_is : (bits : List Bool) (begins : Bool) → slice_get bits 0 ≡ Some begins →
+    begins ≡ (piece bits).starts
+starts_is [] begins read = absurd (cc)
+starts_is (b ∷ bits) begins read = cc
+
+-- before any sample is taken
+pub hears_new : (t : Tuning) (r : SyncReceiver) → Receives t.count (sync_stream t) r.received [] →
+    r.received.clock.next ≡ r.received.clock.low → framing.StandsFor r.framer [] →
+    r.message_frames ≡ 0 → r.mark ≡ None → HearsSync t r []
+hears_new t r receives next framed frames none =
+    let clock = r.received.clock in
+    let timed = receives.clocked.timed in
+    let no_frames : frames_before t [] clock.next ≡ [] =
+    frames_before_none t [] clock.low clock.next timed (omega (arith, next)) in
+    let outside : (k : ℕ) → k < clock.next → is_in_file t.count (sync_stream t) k ≡ false =
+    λ k less. outside_low (sync_stream t) timed k (omega (arith, next)) in
+    record {
+      receives = receives;
+      framed = rw no_frames framed;
+      opened = frames ∙ sym (frames_open-none t [] clock.next no_frames);
+      marked = none ∙ sym (mark_before_none t [] clock.next outside);
+    }
+
+module _ {t : Tuning} {r : SyncReceiver} {heard : List Sample} (st : HearsSync t r heard) where
+  -- more samples, up to the end of the frame that comes next
+  pub hears_more : (more : List Sample) → ¬ IsDueAt t.count r.received.clock →
+      length heard + length more ≤ t.count →
+      length heard + length more ≤ r.received.clock.end → HearsSync t r (heard ++ more)
+  unfolding frames_open
+  hears_more more none within most =
+      let clock = r.received.clock in
+      let is = st.receives.clocked in
+      let frames = frames_before_sooner t is.timed heard more clock.next (before_next is) in
+      let marks = mark_before_sooner t clock.low is.timed heard more clock.next (before_next is) in
+      record {
+        receives = receives_more st.receives more none within most;
+        framed = rw frames st.framed;
+        opened = rw frames st.opened;
+        marked = st.marked ∙ sym marks;
+      }
+
+  -- one frame more has come
+  pub hears_come : (received : Continued) →
+      received.clock.next ≡ r.received.clock.next →
+      Receives t.count (sync_stream t) received heard →
+      HearsSync t (record r { received = received }) heard
+  hears_come received next receives = record {
+    receives = receives;
+    framed = rw next st.framed;
+    opened = rw next st.opened;
+    marked = rw next st.marked;
+  }
+
+  -- the frame that is due has been heard
+  pub hears_next : (received : Continued) (framer : Option (List Bool)) (bits : List Bool)
+      (capsule : Option (List Bool)) (frames first : ℕ) (told : Option SpelledMessage)
+      (set : Option Mark) (event : Option Event) →
+      let next = r.received.clock.next in
+      let before = frames_before t heard next in
+      IsDueAt t.count r.received.clock →
+      received ≡ record r.received { clock = frame_heard r.received.clock } →
+      bits ≡ frame_own_bits t.count heard (sync_stream t) next →
+      framing.StandsFor framer (before ++ bits ∷ []) →
+      capsule ≡ capsule_ending (map piece (before ++ bits ∷ [])) →
+      frames ≡ frames_with (piece bits).starts r.message_frames →
+      told ≡ heard_in t.check30 capsule →
+      first ≡ frame_start (sync_stream t) (next + 1 - frames) →
+      set ≡ option_or r.mark (first_of (marks_of first told)) →
+      listed event ≡ events_of (length heard) told →
+      HearsNext t heard r
+      (record { received = received; framer = framer; message_frames = frames; mark = set })
+      event
+  unfolding heard_at sync_capsule_at marks_at
+  hears_next received framer bits capsule frames first told set event
+      d received_is own framed capsule_is frames_is told_is first_is set_is event_is =
+      let next : ℕ = r.received.clock.next in
+      let s = sync_stream t in
+      let is = st.receives.clocked in
+      let inside = due_inside is d in
+      let starts = (piece bits).starts in
+      let all : frames_before t heard (next + 1) ≡ frames_before t heard next ++ bits ∷ [] =
+      rw own (frames_before_more t heard next inside) in
+      let capsule_now : capsule ≡ capsule_ending (map piece (frames_before t heard (next + 1))) =
+      capsule_is ∙ ap (λ fs. capsule_ending (map piece fs)) (sym all) in
+      let here : told ≡ heard_at t heard next =
+      told_is ∙ ap (heard_in t.check30) capsule_now in
+      let open_now : frames ≡ frames_open t heard (next + 1) =
+      frames_is ∙ ap (frames_with starts) st.opened
+      ∙ sym (frames_open-more t heard next bits all) in
+      let start : ℕ → ℕ = λ n. frame_start s (next + 1 - n) in
+      let marks : marks_of first told ≡ marks_at t heard next =
+      ap (λ n. marks_of n told) (first_is ∙ ap start open_now)
+      ∙ ap (marks_of (start (frames_open t heard (next + 1)))) here in
+      let left = left_next t r.received.clock.low is.timed heard next inside (due_known is d) in
+      let later = sync_events_left t heard (next + 1) in
+      record {
+        hears = rw received_is (record {
+          receives = receives_heard st.receives d;
+          framed = rw all framed;
+          opened = open_now;
+          marked = set_is
+              ∙ ap (λ ms. option_or r.mark (first_of ms)) marks
+              ∙ ap (λ m. option_or m (first_of (marks_at t heard next))) st.marked
+              ∙ sym (mark_before_more t heard next inside);
+        });
+        left = rw received_is
+            (ap (λ (es : List Event). es ++ later)
+            (event_is ∙ ap (events_of (length heard)) here)
+            ∙ sym left);
+        noted = ap is_some set_is
+            ∙ either r.mark (first_of (marks_of first told))
+            ∙ ap (λ b. is_some r.mark || b) (noted_event told first (length heard))
+            ∙ ap (λ (es : List Event). is_some r.mark || list_any sets_mark es) (sym event_is);
+      }
+
+-- THE MARK
+no_event : (told : Option SpelledMessage) (n : ℕ) (rest : List Event) →
+    events_of n told ++ rest ≡ [] → (told ≡ None) × (rest ≡ [])
+no_event None n rest e = (refl, e)
+no_event (Some told) n rest e = absurd (cc)
+
+-- a frame that completes nothing sets no mark
+mark_unheard : (t : Tuning) (samples : List Sample) (k : ℕ) →
+    is_in_file t.count (sync_stream t) k ≡ true → heard_at t samples k ≡ None →
+    mark_before t samples (k + 1) ≡ mark_before t samples k
+unfolding marks_at
+mark_unheard t samples k inside none =
+    let start = frame_start (sync_stream t) (k + 1 - frames_open t samples (k + 1)) in
+    let before = mark_before t samples k in
+    mark_before_more t samples k inside
+    ∙ ap (λ h. option_or before (first_of (marks_of start h))) none
+    ∙ or_none before
+
+module _ (t : Tuning) (heard : List Sample) (low have : ℕ)
+    (timed : IsTimed t.count (sync_stream t) low)
+    (waits : length heard < stream_end (sync_stream t) have) where
+  settled : (next : ℕ) → IsReached t.count (sync_stream t) low next have (length heard) →
+      ¬ IsDue t.count (sync_stream t) next have →
+      mark t heard (length heard) ≡ mark_before t heard next
+  settled next r none =
+      let s = sync_stream t in
+      let n : ℕ = length heard in
+      mark_is t timed heard n next
+      (λ k below inside. progress.before_next s timed next have n r k below inside)
+      (λ k h inside.
+      let after = progress.from_next s timed next have n (n + 1) r none (omega arith) k h inside in
+      omega arith)
+
+  due_or_not : (next : ℕ) → IsDue t.count (sync_stream t) next have
+      ⊎ (¬ IsDue t.count (sync_stream t) next have)
+  due_or_not next =
+      elim (cases_lt next have) [
+        | inl less ↦
+            elim (cases_lt (next + 1) have) [
+              | inl a ↦ inl (record { ended = less; known = inl a })
+              | inr b ↦
+                  elim (cases_lt t.count (stream_end (sync_stream t) have)) [
+                    | inl over ↦ inl (record { ended = less; known = inr over })
+                    | inr fits ↦
+                        inr (λ d. elim d.known [ inl a ↦ omega arith | inr over ↦ omega arith ])
+                  ]
+            ]
+        | inr more ↦ inr (λ d. omega (arith, d.ended))
+      ]
+
+  -- where the frames that are known but not heard yet complete nothing, the mark is that of the
+  -- frames heard
+  mark_of_left : (fuel next : ℕ) → have ≤ next + fuel →
+      IsReached t.count (sync_stream t) low next have (length heard) →
+      sync_events_left t heard next ≡ [] →
+      mark t heard (length heard) ≡ mark_before t heard next
+  mark_of_left zero next most r none = settled next r (λ d. omega (arith, d.ended))
+  mark_of_left (suc fuel) next most r none =
+      let s = sync_stream t in
+      let n : ℕ = length heard in
+      elim (due_or_not next) [
+        | inl d ↦
+            let inside = progress.due_inside s timed next have n r d in
+            let known = progress.due_known s timed next have n r d in
+            let left = left_next t low timed heard next inside known in
+            let parted = no_event (heard_at t heard next) n (sync_events_left t heard (next + 1))
+            (sym left ∙ none) in
+            mark_of_left fuel (next + 1) (omega arith)
+            (progress.reached_next s timed next have n r d) parted.1
+            ∙ mark_unheard t heard next inside parted.0
+        | inr d ↦ settled next r d
+      ]
+
+-- where nothing is left to give, the mark that is set is that of all samples
+pub marked_all : (t : Tuning) (r : SyncReceiver) (heard : List Sample) → HearsSync t r heard →
+    sync_events_left t heard r.received.clock.next ≡ [] → length heard < r.received.clock.end →
+    mark t heard (length heard) ≡ r.mark
+marked_all t r heard st none waits =
+    let clock = r.received.clock in
+    let is = st.receives.clocked in
+    let end = is.end_is in
+    mark_of_left t heard clock.low clock.have is.timed (omega arith) (clock.have - clock.next)
+    clock.next (omega arith) is.reached none
+    ∙ sym st.marked

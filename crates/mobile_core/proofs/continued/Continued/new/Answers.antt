@@ -1,0 +1,19 @@
+use Rattle.std.proofs.Common.{refl, pos}
+use Rattle.std.proofs.lemmas.List.{length-replicate}
+use Rattle.rake_finger.specs.Soft.{symbols}
+use Rattle.mobile_core.proofs.SoftSums.{zeros_small}
+use Rattle.mobile_core.proofs.continued.Continued.new.Goals as goal
+
+pub returns-clause-sound : goal.returns-clause-sound
+returns-clause-sound c =
+    let value = c.new-clock.ensures.value in
+    record {
+      clocked = c.new-clock.ensures.sound;
+      near = c.requires.near;
+      begun = c.new-clock.ensures.begun;
+      ends = rw value refl;
+      few = c.requires.few;
+      rows = c.requires.rows;
+      whole = length-replicate 1152 (pos 0);
+      small = zeros_small (symbols c.new-clock.result.form);
+    }

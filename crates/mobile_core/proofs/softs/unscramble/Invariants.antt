@@ -1,0 +1,10 @@
+use Rattle.std.proofs.Common.{◌≡◌, ◌++◌, take, drop}
+use Rattle.std.specs.Prelude.{sum_by, unsigned_abs}
+use Rattle.mobile_core.specs.Scrambled.{turned}
+use Rattle.mobile_core.proofs.softs.unscramble.Given as goal
+
+abbrev pub invariant-loop-i : goal.invariant-loop-i
+invariant-loop-i l = record {
+  value : l.softs ≡ turned (take l.i l.bits) (take l.i l.fn.softs) ++ drop l.i l.fn.softs;
+  small : sum_by unsigned_abs l.softs ≡ sum_by unsigned_abs l.fn.softs;
+}

@@ -1,0 +1,29 @@
+use Rattle.std.proofs.Common.{◌≡◌, ℕ, ◌-◌, ◌%◌, ◌∙◌, sym, ap, subst, refl}
+use Rattle.rake_finger.specs.declared.form.Form.TheVariants.{Sync}
+use Rattle.mobile_core.specs.Clocks.{clock_from, first_frame}
+use Rattle.mobile_core.specs.Near.{AreNear}
+use Rattle.mobile_core.specs.Tuning.{sync_stream}
+use Rattle.mobile_core.proofs.Received.{receives_new}
+use Rattle.mobile_core.proofs.SyncHeard.{hears_new}
+use Rattle.mobile_core.proofs.sync_receiver.SyncReceiver.new.Goals as goal
+
+pub returns-clause-hears : goal.returns-clause-hears
+returns-clause-hears c = λ t phase deltas.
+    let s = sync_stream t in
+    let fingers = c.reference_fingers-fingers.result in
+    let received = c.new.result in
+    let first : ℕ = (32768 - c.from.result) % 32768 in
+    let fingers_are : fingers ≡ s.fingers =
+    c.reference_fingers-fingers.ensures.value ∙ rw (phase, deltas) refl in
+    let near : AreNear s.fingers =
+    subst AreNear fingers_are c.reference_fingers-fingers.ensures.near in
+    let first_is : first ≡ s.first =
+    ap (λ (n : ℕ). (32768 - n) % 32768) (c.from.ensures ∙ c.get.ensures.value ∙ sym phase) in
+    let frame = first_frame s.fingers s.first in
+    let clock_is : received.clock ≡ clock_from s.fingers Sync s.first frame =
+    c.new.ensures.clock
+    ∙ ap (λ fs. clock_from fs Sync first (first_frame fs first)) fingers_are
+    ∙ ap (λ n. clock_from s.fingers Sync n (first_frame s.fingers n)) first_is in
+    let receives = receives_new t.count s received near (c.new.ensures.fingers ∙ fingers_are)
+    c.new.ensures.sound.whole clock_is in
+    hears_new t _ receives (rw clock_is refl) c.new-2.ensures refl refl

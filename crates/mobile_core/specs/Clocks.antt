@@ -1,0 +1,54 @@
+-- The clock of a channel's frames, and what it stands for.
+use Rattle.std.specs.Prelude.{◌≡◌, ◌⊎◌, ℕ, ◌+◌, ◌-◌, ◌*◌, ◌<◌, if◌then◌else◌, nat_lt, List}
+use Rattle.rake_finger.specs.Soft.{frame_chips}
+use Rattle.rake_finger.specs.declared.finger.Finger.{Finger}
+use Rattle.rake_finger.specs.declared.form.Form.{Form}
+use Rattle.mobile_core.specs.Near.{all_begun}
+use Rattle.mobile_core.specs.Progress.{IsReached}
+use Rattle.mobile_core.specs.Streams.{Stream, frame_end, frame_start}
+use Rattle.mobile_core.specs.Timing.{IsTimed, stream_end}
+use Rattle.mobile_core.specs.declared.frame_clock.FrameClock.{FrameClock}
+
+-- the first frame that begins in the file on each finger, where frame 0 begins at a reference
+-- sample
+abbrev pub first_frame : List Finger → ℕ → ℕ
+first_frame fingers first = if all_begun first fingers then 0 else 1
+
+-- no frame has come yet, and the next is this one
+abbrev pub clock_from : List Finger → Form → ℕ → ℕ → FrameClock
+clock_from fingers form first frame = record {
+  form = form;
+  low = frame;
+  next = frame;
+  have = frame;
+  start = first + frame_chips form * frame;
+  end = frame_end fingers form (first + frame_chips form * frame);
+}
+
+-- one frame more has come
+abbrev pub frame_come : FrameClock → FrameClock
+frame_come c = record c {
+  have = c.have + 1;
+  start = c.start + frame_chips c.form;
+  end = c.end + frame_chips c.form;
+}
+
+-- one frame more has been heard
+abbrev pub frame_heard : FrameClock → FrameClock
+frame_heard c = record c { next = c.next + 1 }
+
+-- whether the next frame is known: the frame behind it has come, or isn't in the file
+abbrev pub IsDueAt : ℕ → FrameClock → Type 0
+IsDueAt count c = (c.next < c.have) × ((c.next + 1 < c.have) ⊎ (count < c.end))
+
+-- the first frame of the next one's span: the frame before it, where that is in the file
+abbrev pub span_from : FrameClock → ℕ
+span_from c = if nat_lt c.low c.next then c.next - 1 else c.next
+
+-- the clock shows how far the frames of a stream have come in a file, after so many samples
+pub record IsAt (count : ℕ) (s : Stream) (c : FrameClock) (taken : ℕ) : Type 0 where
+  pub timed : IsTimed count s c.low
+  pub reached : IsReached count s c.low c.next c.have taken
+  pub form_is : c.form ≡ s.form
+  pub start_is : c.start ≡ frame_start s c.have
+  pub end_is : c.end ≡ stream_end s c.have

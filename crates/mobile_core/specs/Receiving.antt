@@ -1,0 +1,19 @@
+-- What a continued channel stands for as it is received.
+use Rattle.std.specs.Prelude.{◌≡◌, ℕ, ◌+◌, ◌-◌, ◌≤◌, List, length}
+use Rattle.std.specs.List.{flat_map}
+use Rattle.chip_core.specs.Bits.{places}
+use Rattle.chip_core.specs.declared.sample.Sample.{Sample}
+use Rattle.rake_finger.specs.Soft.{symbols}
+use Rattle.mobile_core.specs.Clocks.{IsAt}
+use Rattle.mobile_core.specs.Softs.{last_softs}
+use Rattle.mobile_core.specs.Streams.{Stream, frame_softs}
+use Rattle.mobile_core.specs.declared.continued.Continued.{Continued}
+
+-- The stream's fingers have taken these samples of a file: the clock is there, and the soft values
+-- of the last frames, up to three, are those of the stream.
+pub record Receives (count : ℕ) (s : Stream) (c : Continued) (heard : List Sample) : Type 0 where
+  pub clocked : IsAt count s c.clock (length heard)
+  pub fingers_are : c.fingers ≡ s.fingers
+  pub softs_are : (m : ℕ) → m ≤ 3 → c.clock.low + m ≤ c.clock.have →
+      last_softs (symbols s.form) m c.softs
+      ≡ flat_map (λ j. frame_softs heard s (c.clock.have - m + j)) (places m)

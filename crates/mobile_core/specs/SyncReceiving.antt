@@ -1,0 +1,35 @@
+-- What the receiver of the sync channel stands for.
+use Rattle.std.specs.Prelude.{◌≡◌, ℕ, ◌-◌, ◌*◌, ◌||◌, List, ◌++◌, is_some, Option}
+use Rattle.std.specs.List.{list_any}
+use Rattle.chip_core.specs.declared.sample.Sample.{Sample}
+use Rattle.rake_finger.specs.Soft.{frame_chips}
+use Rattle.sync_message.specs.Framing as framing
+use Rattle.mobile_core.specs.Given.{listed}
+use Rattle.mobile_core.specs.Left.{sync_events_left}
+use Rattle.mobile_core.specs.Marks.{frames_open, mark_before, sets_mark}
+use Rattle.mobile_core.specs.Receiving.{Receives}
+use Rattle.mobile_core.specs.SyncEvents.{frames_before}
+use Rattle.mobile_core.specs.Tuning.{Tuning, sync_stream}
+use Rattle.mobile_core.specs.declared.event.Event.{Event}
+use Rattle.mobile_core.specs.declared.sync_receiver.SyncReceiver.{SyncReceiver}
+
+-- It has taken these samples, and of the frames in them has heard those before the next one.
+pub record HearsSync (t : Tuning) (r : SyncReceiver) (heard : List Sample) : Type 0 where
+  pub receives : Receives t.count (sync_stream t) r.received heard
+  pub framed : framing.StandsFor r.framer (frames_before t heard r.received.clock.next)
+  pub opened : r.message_frames ≡ frames_open t heard r.received.clock.next
+  pub marked : r.mark ≡ mark_before t heard r.received.clock.next
+
+-- where the message under way begins
+abbrev pub message_start : SyncReceiver → ℕ
+message_start r =
+    let clock = r.received.clock in
+    clock.start - frame_chips clock.form * (clock.have - (clock.next - r.message_frames))
+
+-- It has heard the frame that was due, and gives the event that it completes.
+pub record HearsNext (t : Tuning) (heard : List Sample) (before after : SyncReceiver)
+    (event : Option Event) : Type 0 where
+  pub hears : HearsSync t after heard
+  pub left : listed event ++ sync_events_left t heard after.received.clock.next
+      ≡ sync_events_left t heard before.received.clock.next
+  pub noted : is_some after.mark ≡ (is_some before.mark || list_any sets_mark (listed event))

@@ -1,0 +1,139 @@
+//! The sync channel as it is received.
+
+use crate::continued::Continued;
+use crate::event::Event;
+use crate::fingers::reference_fingers;
+use crate::hearing::{event_of, mark_with, message_in, with_frame};
+use crate::mark::Mark;
+use chip_core::air::{CODE_CHIPS, SYNC_ROW};
+use chip_core::{CheckForm, Phase};
+use frame_decoder::FrameKind;
+use pilot_search::Near;
+use rake_finger::{Form, SampleRing};
+use short_code::Codes;
+use sync_message::CapsuleFramer;
+use viterbi::Decoder;
+
+/// The receiver of the sync channel: frames, the message under way, and the mark that messages set
+/// (TIA/EIA-95-B, 7.7.1).
+#[derive(Drop)]
+pub(crate) struct SyncReceiver {
+    received: Continued,
+    framer: CapsuleFramer,
+    /// How many frames the message under way has, 0 where there is none.
+    message_frames: u64,
+    mark: Option<Mark>,
+}
+
+impl SyncReceiver {
+    ghost use Rattle.std.specs.Prelude.{◌≡◌, ◌<◌, ◌≤◌, ◌+◌, ◌^◌, ◌↔◌, IsTrue, List, [], length};
+    ghost use Rattle.std.specs.Prelude.{take, slice_get, Some, pos, is_some, IfSome, false};
+    ghost use Rattle.chip_core.specs.declared.sample.Sample.{Sample};
+    ghost use Rattle.mobile_core.specs.Clocks.{IsDueAt, frame_heard};
+    ghost use Rattle.mobile_core.specs.Given.{at_of};
+    ghost use Rattle.mobile_core.specs.Sound.{IsSoundSync};
+    ghost use Rattle.mobile_core.specs.SyncReceiving.{HearsNext, HearsSync, message_start};
+    ghost use Rattle.mobile_core.specs.Tuning.{Tuning};
+    ghost use Rattle.rake_finger.specs.Held.{HoldsLast};
+
+    /// A receiver that has taken no sample, for a base station at a phase and near it.
+    pub(crate) fn new(phase: Phase, near: &Near) -> SyncReceiver
+        requires least { 1 ≤ near.now.count }
+        requires most { near.now.count ≤ 3 }
+        requires first { slice_get near.now.deltas 0 ≡ Some (pos 0) }
+        ensures hears { (t : Tuning) → t.phase ≡ phase →
+            t.deltas ≡ take near.now.count near.now.deltas → HearsSync t result [] }
+        ensures fresh { result.received.clock.next ≡ result.received.clock.low }
+        ensures unmarked { is_some result.mark ≡ false }
+        ensures begins { 0 < result.received.clock.end }
+        ensures sound { IsSoundSync result }
+    {
+        let fingers = reference_fingers(SYNC_ROW, phase, near);
+        let first = (CODE_CHIPS - u64::from(phase.get())) % CODE_CHIPS;
+        SyncReceiver {
+            received: Continued::new(fingers, Form::Sync, first),
+            framer: CapsuleFramer::new(),
+            message_frames: 0,
+            mark: None,
+        }
+    }
+
+    /// How many samples have been taken when the frame ends that comes next.
+    pub(crate) fn end(&self) -> u64
+        ensures { result ≡ self.now.received.clock.end }
+    {
+        self.received.clock.end()
+    }
+
+    /// Whether a message set a mark.
+    pub(crate) fn is_marked(&self) -> bool
+        ensures { result ≡ is_some self.now.mark }
+    {
+        self.mark.is_some()
+    }
+
+    /// Whether a frame is known that hasn't been heard, in a file of so many samples.
+    pub(crate) fn is_due(&self, count: u64) -> bool
+        requires { IsSoundSync self.now }
+        ensures { IsTrue result ↔ IsDueAt count self.now.received.clock }
+    {
+        self.received.clock.is_due(count)
+    }
+
+    /// Takes the soft values of the frame whose last sample has come, where one has.
+    pub(crate) fn take_ended(&mut self, ring: &SampleRing, codes: &Codes)
+        requires sound { IsSoundSync self.old }
+        requires near { self.old.received.clock.have ≤ self.old.received.clock.next + 1 }
+        requires few { ring.now.taken ≤ 67108864 }
+        requires room { ring.now.room ≡ 65536 }
+        requires ended { ring.now.taken ≤ self.old.received.clock.end }
+        ensures next { self.new.received.clock.next ≡ self.old.received.clock.next }
+        ensures mark { self.new.mark ≡ self.old.mark }
+        ensures waits { ring.now.taken < self.new.received.clock.end }
+        ensures sound { IsSoundSync self.new }
+        ensures stands { (t : Tuning) (heard : List Sample) → HoldsLast ring.now heard →
+            ¬ IsDueAt t.count self.old.received.clock →
+            HearsSync t self.old heard → HearsSync t self.new heard }
+    {
+        if self.end() == ring.taken() {
+            self.received.take_frame(ring, codes, &[]);
+        }
+    }
+
+    /// Hears the frame that is due, and gives the event that it completes at so many samples.
+    pub(crate) fn hear_next(
+        &mut self,
+        decoder: &mut Decoder,
+        check: CheckForm,
+        at: u64,
+    ) -> Option<Event>
+        requires sound { IsSoundSync self.old }
+        requires come { self.old.received.clock.next < self.old.received.clock.have }
+        requires room { decoder.old ≡ 576 }
+        ensures clock { self.new.received.clock ≡ frame_heard self.old.received.clock }
+        ensures ends { IfSome result (λ event. at_of event ≡ at) }
+        ensures sound { IsSoundSync self.new }
+        ensures kept { decoder.new ≡ decoder.old }
+        ensures hears { (t : Tuning) (heard : List Sample) → at ≡ length heard →
+            check ≡ t.check30 → IsDueAt t.count self.old.received.clock →
+            HearsSync t self.old heard → HearsNext t heard self.old self.new result }
+    {
+        let frame = self.received.own_bits(decoder, FrameKind::Sync);
+        let capsule = self.framer.push(&frame);
+        self.message_frames = with_frame(frame.get(0), self.message_frames);
+        self.received.clock.hear();
+        let told = message_in(check, capsule)?;
+        self.mark = mark_with(self.mark, self.message_start(), &told);
+        Some(event_of(&told, at))
+    }
+
+    /// The reference sample at which the message under way begins.
+    fn message_start(&self) -> u64
+        requires sound { IsSoundSync self.now }
+        ensures value { result ≡ message_start self.now }
+        ensures most { result ≤ 2 ^ 30 }
+    {
+        let first = self.received.clock.next() - self.message_frames;
+        self.received.clock.start_of(first)
+    }
+}
