@@ -1,2 +1,4 @@
 mod Digits
+pub mod Runs
+mod TapLists
 pub mod Texts

@@ -1,16 +1,27 @@
 //! The lines of text that tell what a handset heard.
 //!
-//! Each event has one line, and each line ends with LF. [`line_into`] makes an event's line out, in a [`Text`] that needs
-//! no memory of its own, and [`write_event`] gives it to a sink.
+//! Each event has one line, and each line ends with LF. [`line_into`] makes an event's line out, in
+//! a [`Text`] that needs no memory of its own, and [`write_event`] gives it to a sink. Whoever
+//! listens to a run hands in its [`Tap`]s, boxed: each hears the events of its form's kinds up to
+//! its limit, and [`Taps`] gives what they make of an event to a sink.
 #![tactic(auto)]
 
+mod kinds;
+pub mod laws;
 mod line;
 mod sync;
+mod tap;
+#[cfg(test)]
+mod tap_tests;
+mod taps;
 #[cfg(test)]
 mod tests;
 mod text;
 mod writing;
 
+pub use kinds::{FrameTap, MessageTap, PilotTap, RawTap};
 pub use line::line_into;
+pub use tap::{Heard, Tap};
+pub use taps::{KeepsTaps, Taps};
 pub use text::Text;
 pub use writing::write_event;

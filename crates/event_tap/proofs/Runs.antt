@@ -1,0 +1,238 @@
+-- Lemmas on the text of a run: on events that follow one another, on taps that are no longer there,
+-- and on what a single tap, and the taps of a run without limits, write.
+use Rattle.std.proofs.Common.{◌≡◌, ℕ, zero, suc, ◌+◌, ◌-◌, ◌≤◌, ◌<◌, All, List, [], ◌∷◌, ◌++◌, length, take, Option, None, Some, refl, sym, ap, ◌∙◌, subst, arith, rules, append_assoc, append-nil}
+use Rattle.std.proofs.lemmas.List.Elements.{All-append, All-cons, All-nil, All-head, All-tail}
+use Rattle.mobile_core.specs.declared.event.Event.{Event}
+use Rattle.mobile_core.specs.declared.event.Event.TheVariants.{Pilot, Sync}
+use Rattle.event_tap.specs.Lines.{event_line, text_of}
+use Rattle.event_tap.specs.Taps.{IsKept, KeptTap, form_line, form_lines, heard_text, joined, kept_by, kept_with, left_behind, line_text, line_list, run_taps, run_text, tap_behind, taps_behind}
+
+-- EVENTS THAT FOLLOW ONE ANOTHER
+
+-- the text of events is the text of the first of them, and then that of the others by the taps that
+-- are kept behind the first
+pub run_text-append : (taps : List KeptTap) (events more : List Event) →
+    run_text taps (events ++ more) ≡ run_text taps events ++ run_text (run_taps taps events) more
+unfolding run_text run_taps
+run_text-append taps [] more = refl
+run_text-append taps (event ∷ events) more =
+    ap (λ (text : List ℕ). heard_text taps event ++ text)
+    (run_text-append (taps_behind taps event) events more)
+    ∙ sym (append_assoc (heard_text taps event) (run_text (taps_behind taps event) events)
+    (run_text (run_taps (taps_behind taps event) events) more))
+
+pub run_taps-append : (taps : List KeptTap) (events more : List Event) →
+    run_taps taps (events ++ more) ≡ run_taps (run_taps taps events) more
+unfolding run_taps
+run_taps-append taps [] more = refl
+run_taps-append taps (event ∷ events) more = run_taps-append (taps_behind taps event) events more
+
+-- no event
+pub run_text-none : (taps : List KeptTap) → run_text taps [] ≡ []
+unfolding run_text
+run_text-none taps = refl
+
+pub run_taps-none : (taps : List KeptTap) → run_taps taps [] ≡ taps
+unfolding run_taps
+run_taps-none taps = refl
+
+-- one event
+pub run_text-one : (taps : List KeptTap) (event : Event) →
+    run_text taps (event ∷ []) ≡ heard_text taps event
+unfolding run_text
+run_text-one taps event = append-nil (heard_text taps event)
+
+pub run_taps-one : (taps : List KeptTap) (event : Event) →
+    run_taps taps (event ∷ []) ≡ taps_behind taps event
+unfolding run_taps
+run_taps-one taps event = refl
+
+-- one event more
+pub run_text-more : (taps : List KeptTap) (events : List Event) (event : Event) →
+    run_text taps (events ++ event ∷ []) ≡
+    run_text taps events ++ heard_text (run_taps taps events) event
+run_text-more taps events event =
+    run_text-append taps events (event ∷ [])
+    ∙ ap (λ (text : List ℕ). run_text taps events ++ text)
+    (run_text-one (run_taps taps events) event)
+
+pub run_taps-more : (taps : List KeptTap) (events : List Event) (event : Event) →
+    run_taps taps (events ++ event ∷ []) ≡ taps_behind (run_taps taps events) event
+run_taps-more taps events event =
+    run_taps-append taps events (event ∷ []) ∙ run_taps-one (run_taps taps events) event
+
+-- NO TAPS
+
+-- no tap writes nothing
+pub run_text-no_taps : (events : List Event) → run_text [] events ≡ []
+unfolding run_text
+run_text-no_taps [] = refl
+run_text-no_taps (event ∷ events) = run_text-no_taps events
+
+pub run_taps-no_taps : (events : List Event) → run_taps [] events ≡ []
+unfolding run_taps
+run_taps-no_taps [] = refl
+run_taps-no_taps (event ∷ events) = run_taps-no_taps events
+
+-- TAPS THAT ARE KEPT
+
+-- a tap of this form with so many events left
+abbrev pub tap : ℕ → ℕ → KeptTap
+tap form left = record { form = form; left = left }
+
+-- a tap with events left is kept
+kept_with-left : (form left : ℕ) → 1 ≤ left → kept_with form left ≡ tap form left ∷ []
+kept_with-left form zero some = absurd (omega (arith, some))
+kept_with-left form (suc left) some = search rules
+
+kept_with-kept : (form left : ℕ) → form ≤ 3 → All IsKept (kept_with form left)
+kept_with-kept form zero within = All-nil IsKept
+kept_with-kept form (suc left) within =
+    subst (All IsKept) (sym (kept_with-left form (suc left) (omega arith)))
+    (All-cons IsKept (tap form (suc left)) [] (omega arith, within) (All-nil IsKept))
+
+-- each tap that is kept behind an event has events left
+pub taps_behind-kept : (taps : List KeptTap) (event : Event) → All IsKept taps →
+    All IsKept (taps_behind taps event)
+taps_behind-kept [] event kept = All-nil IsKept
+taps_behind-kept (t ∷ taps) event kept =
+    All-append IsKept (tap_behind event t) (taps_behind taps event)
+    (kept_with-kept t.form (left_behind (form_line t.form event) t.left)
+    (All-head IsKept t taps kept).1)
+    (taps_behind-kept taps event (All-tail IsKept t taps kept))
+
+pub run_taps-kept : (taps : List KeptTap) (events : List Event) → All IsKept taps →
+    All IsKept (run_taps taps events)
+unfolding run_taps
+run_taps-kept taps [] kept = kept
+run_taps-kept taps (event ∷ events) kept =
+    run_taps-kept (taps_behind taps event) events (taps_behind-kept taps event kept)
+
+-- A SINGLE TAP
+
+single_step : (form left : ℕ) (line : Option (List ℕ)) (events : List Event)
+    (lines : List (List ℕ)) →
+    ((n : ℕ) → run_text (kept_with form n) events ≡ joined (take n lines)) →
+    (line_text line ++ []) ++ run_text (kept_with form (left_behind line (suc left)) ++ []) events
+    ≡ joined (take (suc left) (line_list line ++ lines))
+single_step form left None events lines below =
+    ap (λ (taps : List KeptTap). run_text taps events) (append-nil (kept_with form (suc left)))
+    ∙ below (suc left)
+single_step form left (Some line) events lines below =
+    let one : suc left - 1 ≡ left = omega arith in
+    ap (λ (text : List ℕ). text ++ run_text (kept_with form (suc left - 1) ++ []) events)
+    (append-nil line)
+    ∙ ap (λ (n : ℕ). line ++ run_text (kept_with form n ++ []) events) one
+    ∙ ap (λ (taps : List KeptTap). line ++ run_text taps events) (append-nil (kept_with form left))
+    ∙ ap (λ (text : List ℕ). line ++ text) (below left)
+
+-- a tap hears just the first events of its form's kinds, as many as its limit says
+pub run_text-single : (form limit : ℕ) (events : List Event) →
+    run_text (kept_with form limit) events ≡ joined (take limit (form_lines form events))
+unfolding run_text form_lines
+run_text-single form zero [] = refl
+run_text-single form (suc limit) [] = refl
+run_text-single form zero (event ∷ events) = run_text-no_taps (event ∷ events)
+run_text-single form (suc limit) (event ∷ events) =
+    ap (λ (taps : List KeptTap). run_text taps (event ∷ events))
+    (kept_with-left form (suc limit) (omega arith))
+    ∙ single_step form limit (form_line form event) events (form_lines form events)
+    (λ n. run_text-single form n events)
+
+-- A RUN WITHOUT LIMITS
+
+-- a tap of the pilot, one of messages, and others
+abbrev pub plain_taps : ℕ → ℕ → List KeptTap → List KeptTap
+plain_taps pilots messages others = tap 0 pilots ∷ tap 1 messages ∷ others
+
+-- taps that hear nothing of events
+abbrev pub IsDeaf : List KeptTap → Type 0
+IsDeaf taps = (event : Event) → (heard_text taps event ≡ []) × (taps_behind taps event ≡ taps)
+
+plain_heard : (pilots messages : ℕ) (others : List KeptTap) (event : Event) →
+    heard_text others event ≡ [] →
+    heard_text (plain_taps pilots messages others) event ≡ event_line event
+unfolding form_line event_line
+plain_heard pilots messages others (Pilot phase energy) none =
+    ap (λ (text : List ℕ). event_line (Pilot phase energy) ++ text) none
+    ∙ append-nil (event_line (Pilot phase energy))
+plain_heard pilots messages others (Sync place capsule message) none =
+    ap (λ (text : List ℕ). event_line (Sync place capsule message) ++ text) none
+    ∙ append-nil (event_line (Sync place capsule message))
+
+left_behind-least : (line : Option (List ℕ)) (left more : ℕ) → more + 1 < left →
+    more < left_behind line left
+left_behind-least None left more few = omega (arith, few)
+left_behind-least (Some line) left more few = omega (arith, few)
+
+plain_behind : (pilots messages : ℕ) (others : List KeptTap) (event : Event) →
+    1 ≤ left_behind (form_line 0 event) pilots → 1 ≤ left_behind (form_line 1 event) messages →
+    taps_behind others event ≡ others →
+    taps_behind (plain_taps pilots messages others) event ≡
+    plain_taps (left_behind (form_line 0 event) pilots) (left_behind (form_line 1 event) messages)
+    others
+plain_behind pilots messages others event some some_more same =
+    let ahead = left_behind (form_line 0 event) pilots in
+    let behind = left_behind (form_line 1 event) messages in
+    ap (λ (taps : List KeptTap). taps ++ (kept_with 1 behind ++ taps_behind others event))
+    (kept_with-left 0 ahead some)
+    ∙ ap (λ (taps : List KeptTap). tap 0 ahead ∷ (taps ++ taps_behind others event))
+    (kept_with-left 1 behind some_more)
+    ∙ ap (λ (taps : List KeptTap). tap 0 ahead ∷ tap 1 behind ∷ taps) same
+
+-- a tap of the pilot and one of messages write the lines of fewer events than their limits, each
+-- once
+pub plain_text-others : (pilots messages : ℕ) (others : List KeptTap) (events : List Event) →
+    length events < pilots → length events < messages → IsDeaf others →
+    run_text (plain_taps pilots messages others) events ≡ text_of events
+unfolding run_text text_of
+plain_text-others pilots messages others [] few few_too deaf = refl
+plain_text-others pilots messages others (event ∷ events) few few_too deaf =
+    let ahead : length events < left_behind (form_line 0 event) pilots =
+    left_behind-least (form_line 0 event) pilots (length events) (omega (arith, few)) in
+    let behind : length events < left_behind (form_line 1 event) messages =
+    left_behind-least (form_line 1 event) messages (length events) (omega (arith, few_too)) in
+    ap (λ (text : List ℕ). text ++
+    run_text (taps_behind (plain_taps pilots messages others) event) events)
+    (plain_heard pilots messages others event (deaf event).0)
+    ∙ ap (λ (taps : List KeptTap). event_line event ++ run_text taps events)
+    (plain_behind pilots messages others event (omega (arith, ahead)) (omega (arith, behind))
+    (deaf event).1)
+    ∙ ap (λ (text : List ℕ). event_line event ++ text)
+    (plain_text-others (left_behind (form_line 0 event) pilots)
+    (left_behind (form_line 1 event) messages) others events ahead behind deaf)
+
+pub plain_text : (pilots messages : ℕ) (events : List Event) →
+    length events < pilots → length events < messages →
+    run_text (tap 0 pilots ∷ tap 1 messages ∷ []) events ≡ text_of events
+plain_text pilots messages events few few_too =
+    plain_text-others pilots messages [] events few few_too (λ event. (refl, refl))
+
+-- a tap of frames hears nothing of a pilot or a sync message
+frames_deaf : (frames : ℕ) → 1 ≤ frames → IsDeaf (tap 2 frames ∷ [])
+unfolding form_line
+frames_deaf frames some (Pilot phase energy) =
+    (refl, ap (λ (taps : List KeptTap). taps ++ []) (kept_with-left 2 frames some))
+frames_deaf frames some (Sync place capsule message) =
+    (refl, ap (λ (taps : List KeptTap). taps ++ []) (kept_with-left 2 frames some))
+
+-- the text of the taps that a run has where nothing is said of limits: each form once, in order,
+-- and none of raw messages
+pub plain_text-forms : (pilots messages frames : ℕ) (events : List Event) →
+    length events < pilots → length events < messages → 1 ≤ frames →
+    run_text (kept_by (pilots ∷ messages ∷ frames ∷ 0 ∷ []) (0 ∷ 1 ∷ 2 ∷ 3 ∷ [])) events ≡
+    text_of events
+plain_text-forms pilots messages frames events few few_too some =
+    let ahead : 1 ≤ pilots = omega (arith, few) in
+    let behind : 1 ≤ messages = omega (arith, few_too) in
+    ap (λ (taps : List KeptTap).
+    run_text (taps ++ (kept_with 1 messages ++ (kept_with 2 frames ++ []))) events)
+    (kept_with-left 0 pilots ahead)
+    ∙ ap (λ (taps : List KeptTap).
+    run_text (tap 0 pilots ∷ (taps ++ (kept_with 2 frames ++ []))) events)
+    (kept_with-left 1 messages behind)
+    ∙ ap (λ (taps : List KeptTap).
+    run_text (tap 0 pilots ∷ tap 1 messages ∷ (taps ++ [])) events)
+    (kept_with-left 2 frames some)
+    ∙ plain_text-others pilots messages (tap 2 frames ∷ []) events few few_too
+    (frames_deaf frames some)

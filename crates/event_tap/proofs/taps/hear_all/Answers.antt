@@ -1,0 +1,92 @@
+use Rattle.std.proofs.Common.{rules, ◌≤◌, ◌<◌, arith, ◌∙◌, subst, sym, length, None}
+use Rattle.std.proofs.lemmas.List.Elements.{All-get_or}
+use Rattle.std.proofs.lemmas.Result.{err_from_is_err_and}
+use Rattle.event_tap.specs.Taps.{IsKept}
+use Rattle.event_tap.proofs.TapLists.{HasHeard, hearing_kept, hearing_done, hearing_failed, hearing_none, unwritten, All-seen-back, seen}
+use Rattle.event_tap.proofs.taps.hear_all.Goals.{in-Keep, in-Done}
+use Rattle.event_tap.proofs.taps.hear_all.Goals as goal
+
+pub loop-place-init : goal.loop-place-init
+loop-place-init g c = (hearing_none _ _ _ _ _ c.requires, omega arith)
+
+pub hear-heard-requires : goal.hear-heard-requires
+hear-heard-requires g c =
+    let index : c.loop-place.place < length c.loop-place.taps.items = search rules in
+    let kept =
+    All-get_or (λ (t : g.row.T.Denot). IsKept (seen g.T.Tap.shape g.T.Tap.left t))
+    c.loop-place.taps.items c.loop-place.place c.index_mut.result.now index
+    c.loop-place.invariant.0.kept in
+    subst (λ (t : g.row.T.Denot). 1 ≤ g.T.Tap.left t) (sym c.index_mut.ensures.value) kept.0
+
+pub loop-place-preserved : goal.loop-place-preserved
+loop-place-preserved g c =
+    let inv = c.loop-place.invariant in
+    let index : c.loop-place.place < length c.loop-place.taps.items = search rules in
+    let heard : HasHeard g.T.Tap.shape g.T.Tap.left c.args.event.now c.index_mut.result.now
+    c.hear-heard.new.self c.bytes.result.now c.hear-heard.result = record {
+      line_is = c.bytes.ensures.value ∙ c.hear-heard.ensures.text;
+      form_is = c.hear-heard.ensures.form;
+      left_is = c.hear-heard.ensures.left;
+      answer_is = c.hear-heard.ensures.heard;
+    } in
+    let more = c.in_ok-gave.ensures.ok in
+    let later : g.K.Sink.faults c.args.sink.now ≤ g.K.Sink.faults c.write_all-gave.new.sink =
+    omega (arith, inv.1, c.write_all-gave.ensures.cause.later) in
+    elim c.match-heard.branch [
+      | in-Keep w ↦ (
+        rw (w.taps-is, w.place-is)
+            (hearing_kept _ _ _ _ _ _ _ _ _ _ _ _ _ inv.0 heard index c.index_mut.ensures.value
+            w.in-Keep.is more),
+        later,
+      )
+      | in-Done w ↦ (
+        rw (w.taps-is, w.place-is, w.remove.ensures.items)
+            (hearing_done _ _ _ _ _ _ _ _ _ _ _ _ _ inv.0 heard index c.index_mut.ensures.value
+            w.in-Done.is more),
+        later,
+      )
+    ]
+
+pub returns-in_err-gave-clause-kept : goal.returns-in_err-gave-clause-kept
+returns-in_err-gave-clause-kept g c =
+    let inv = c.loop-place.invariant in
+    let alone = unwritten g.T.Tap.shape g.T.Tap.left c.args.event.now _ _ _ _ _ inv.0 in
+    let index : c.loop-place.place < length c.loop-place.taps.items = search rules in
+    let heard : HasHeard g.T.Tap.shape g.T.Tap.left c.args.event.now c.index_mut.result.now
+    c.hear-heard.new.self c.bytes.result.now c.hear-heard.result = record {
+      line_is = c.bytes.ensures.value ∙ c.hear-heard.ensures.text;
+      form_is = c.hear-heard.ensures.form;
+      left_is = c.hear-heard.ensures.left;
+      answer_is = c.hear-heard.ensures.heard;
+    } in
+    elim c.match-heard.branch [
+      | in-Keep w ↦
+          rw w.taps-is
+          (All-seen-back g.T.Tap.shape g.T.Tap.left _
+          (hearing_kept _ _ _ None None None _ _ _ _ _ _ _ alone heard index
+          c.index_mut.ensures.value w.in-Keep.is tt).kept)
+      | in-Done w ↦
+          rw (w.taps-is, w.remove.ensures.items)
+          (All-seen-back g.T.Tap.shape g.T.Tap.left _
+          (hearing_done _ _ _ None None None _ _ _ _ _ _ _ alone heard index
+          c.index_mut.ensures.value w.in-Done.is tt).kept)
+    ]
+
+pub returns-in_err-gave-clause-err : goal.returns-in_err-gave-clause-err
+returns-in_err-gave-clause-err g c =
+    let inv = c.loop-place.invariant in
+    let index : c.loop-place.place < length c.loop-place.taps.items = search rules in
+    let heard : HasHeard g.T.Tap.shape g.T.Tap.left c.args.event.now c.index_mut.result.now
+    c.hear-heard.new.self c.bytes.result.now c.hear-heard.result = record {
+      line_is = c.bytes.ensures.value ∙ c.hear-heard.ensures.text;
+      form_is = c.hear-heard.ensures.form;
+      left_is = c.hear-heard.ensures.left;
+      answer_is = c.hear-heard.ensures.heard;
+    } in
+    let p = err_from_is_err_and c.from_residual.result c.from_residual.ensures.1 in
+    rw p.1 (hearing_failed _ _ _ _ _ _ _ _ _ _ _ _ _ inv.0 heard index c.index_mut.ensures.value
+    c.in_err-gave.ensures.err)
+
+pub returns-clause-kept : goal.returns-clause-kept
+returns-clause-kept g c =
+    All-seen-back g.T.Tap.shape g.T.Tap.left c.loop-place.taps.items c.loop-place.invariant.0.kept

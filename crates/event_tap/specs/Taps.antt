@@ -1,0 +1,100 @@
+-- What taps make of events. A tap has a form, which says which kinds of event it hears and how it
+-- writes them, and a number of events that it has left to hear. Contracts see taps as a list of
+-- both.
+use Rattle.std.specs.Prelude.{ℕ, ◌-◌, ◌≤◌, slice_index, nat_eq, Bool, if◌then◌else◌, List, [], ◌∷◌, ◌++◌, map, codes, decimal, Option, None, Some}
+use Rattle.std.specs.List.{flat_map}
+use Rattle.mobile_core.specs.declared.event.Event.{Event}
+use Rattle.mobile_core.specs.declared.event.Event.TheVariants.{Pilot, Sync}
+use Rattle.event_tap.specs.Lines.{bit_text, pilot_line, sync_line}
+use Rattle.event_tap.specs.declared.tap.Heard.{Heard}
+use Rattle.event_tap.specs.declared.tap.Heard.TheVariants.{Keep, Done}
+
+-- a tap that is kept: its form, and how many events it has left to hear
+pub record KeptTap : Type 0 where
+  pub form : ℕ
+  pub left : ℕ
+
+-- what contracts see of taps, by what tells a tap's form and how many events it has left
+abbrev pub kept_of : {T : Type 0} → (T → ℕ) → (T → ℕ) → List T → List KeptTap
+kept_of shape left taps = map (λ t. record { form = shape t; left = left t }) taps
+
+-- `raw at=A sync BITS` and LF
+abbrev pub raw_line : ℕ → List Bool → List ℕ
+raw_line place capsule =
+    codes "raw at=" ++ decimal place ++ codes " sync " ++ bit_text capsule ++ codes "\n"
+
+-- a message's line in form 1, and its raw line in form 3
+abbrev pub message_line : ℕ → List ℕ → List ℕ → Option (List ℕ)
+message_line form line raw =
+    if nat_eq form 1 then Some line else if nat_eq form 3 then Some raw else None
+
+-- the line that a form has for an event, and none where it doesn't hear events of this kind: form 0
+-- hears the pilot, 1 messages, 2 frames, and 3 messages as they came, bit by bit
+unfoldable pub form_line : ℕ → Event → Option (List ℕ)
+form_line form (Pilot phase energy) =
+    if nat_eq form 0 then Some (pilot_line phase energy) else None
+form_line form (Sync place capsule message) =
+    message_line form (sync_line place message) (raw_line place capsule)
+
+-- the line, or nothing where there is none
+abbrev pub line_text : Option (List ℕ) → List ℕ
+line_text None = []
+line_text (Some line) = line
+
+-- how many events are left behind one that has this line or none
+abbrev pub left_behind : Option (List ℕ) → ℕ → ℕ
+left_behind None left = left
+left_behind (Some line) left = left - 1
+
+-- what a tap answers that has so many events left
+abbrev pub heard_at : ℕ → Heard
+heard_at left = if nat_eq left 0 then Done else Keep
+
+-- a tap of this form, where it has events left
+abbrev pub kept_with : ℕ → ℕ → List KeptTap
+kept_with form left = if nat_eq left 0 then [] else record { form = form; left = left } ∷ []
+
+-- a kept tap behind an event, where it has events left
+abbrev pub tap_behind : Event → KeptTap → List KeptTap
+tap_behind event tap =
+    kept_with tap.form (left_behind (form_line tap.form event) tap.left)
+
+-- the text that kept taps make of an event, in their order
+abbrev pub heard_text : List KeptTap → Event → List ℕ
+heard_text taps event = flat_map (λ tap. line_text (form_line tap.form event)) taps
+
+-- the taps that are kept behind an event
+abbrev pub taps_behind : List KeptTap → Event → List KeptTap
+taps_behind taps event = flat_map (tap_behind event) taps
+
+-- the text of a run: what kept taps make of events, one event after the other
+unfoldable pub run_text : List KeptTap → List Event → List ℕ
+run_text taps [] = []
+run_text taps (event ∷ events) = heard_text taps event ++ run_text (taps_behind taps event) events
+
+-- the taps that are kept behind events
+unfoldable pub run_taps : List KeptTap → List Event → List KeptTap
+run_taps taps [] = taps
+run_taps taps (event ∷ events) = run_taps (taps_behind taps event) events
+
+-- the line in a list of its own, where there is one
+abbrev pub line_list : Option (List ℕ) → List (List ℕ)
+line_list None = []
+line_list (Some line) = line ∷ []
+
+-- the lines that a form has for events, in order
+unfoldable pub form_lines : ℕ → List Event → List (List ℕ)
+form_lines form [] = []
+form_lines form (event ∷ events) = line_list (form_line form event) ++ form_lines form events
+
+-- the lines, one behind the other
+abbrev pub joined : List (List ℕ) → List ℕ
+joined lines = flat_map (λ line. line) lines
+
+-- the taps that limits, one for each form, keep of taps of these forms
+abbrev pub kept_by : List ℕ → List ℕ → List KeptTap
+kept_by limits forms = flat_map (λ form. kept_with form (slice_index limits form)) forms
+
+-- a kept tap has events left, and is of a form that there is
+abbrev pub IsKept : KeptTap → Type 0
+IsKept tap = (1 ≤ tap.left) × (tap.form ≤ 3)

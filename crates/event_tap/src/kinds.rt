@@ -1,0 +1,193 @@
+//! The taps of each form.
+
+ghost use Rattle.std.specs.Prelude.{◌≡◌, []};
+ghost use Rattle.event_tap.specs.Taps.{heard_at, raw_line};
+
+use crate::line::line_into;
+use crate::tap::{Heard, Tap};
+use crate::text::Text;
+use chip_core::Bits;
+use mobile_core::Event;
+
+/// Hears the pilot, in form 0.
+#[derive(Drop)]
+pub struct PilotTap {
+    /// How many events it has left to hear.
+    left: u32,
+}
+
+impl PilotTap {
+    /// A tap that has no event left to hear, until it is given a limit.
+    pub fn new() -> PilotTap
+        ensures { result.left ≡ 0 }
+    {
+        PilotTap { left: 0 }
+    }
+}
+
+impl Tap for PilotTap {
+    ghost shape = { λ _. 0 };
+
+    ghost left = { λ t. t.left };
+
+    fn form(&self) -> u8 {
+        0
+    }
+
+    fn limit(&mut self, events: u32) {
+        self.left = events;
+    }
+
+    #[tactic(auto, unfolding(crate::specs::Lines::event_line, crate::specs::Taps::form_line))]
+    fn hear(&mut self, event: &Event, out: &mut Text) -> Heard {
+        match event {
+            Event::Pilot { .. } => {
+                line_into(event, out);
+                self.left -= 1;
+            }
+            Event::Sync { .. } => out.clear(),
+        }
+        heard_of(self.left)
+    }
+}
+
+/// Hears messages, in form 1.
+#[derive(Drop)]
+pub struct MessageTap {
+    /// How many events it has left to hear.
+    left: u32,
+}
+
+impl MessageTap {
+    /// A tap that has no event left to hear, until it is given a limit.
+    pub fn new() -> MessageTap
+        ensures { result.left ≡ 0 }
+    {
+        MessageTap { left: 0 }
+    }
+}
+
+impl Tap for MessageTap {
+    ghost shape = { λ _. 1 };
+
+    ghost left = { λ t. t.left };
+
+    fn form(&self) -> u8 {
+        1
+    }
+
+    fn limit(&mut self, events: u32) {
+        self.left = events;
+    }
+
+    #[tactic(auto, unfolding(crate::specs::Lines::event_line, crate::specs::Taps::form_line))]
+    fn hear(&mut self, event: &Event, out: &mut Text) -> Heard {
+        match event {
+            Event::Pilot { .. } => out.clear(),
+            Event::Sync { .. } => {
+                line_into(event, out);
+                self.left -= 1;
+            }
+        }
+        heard_of(self.left)
+    }
+}
+
+/// Hears frames, in form 2. No event is of this kind yet.
+#[derive(Drop)]
+pub struct FrameTap {
+    /// How many events it has left to hear.
+    left: u32,
+}
+
+impl FrameTap {
+    /// A tap that has no event left to hear, until it is given a limit.
+    pub fn new() -> FrameTap
+        ensures { result.left ≡ 0 }
+    {
+        FrameTap { left: 0 }
+    }
+}
+
+impl Tap for FrameTap {
+    ghost shape = { λ _. 2 };
+
+    ghost left = { λ t. t.left };
+
+    fn form(&self) -> u8 {
+        2
+    }
+
+    fn limit(&mut self, events: u32) {
+        self.left = events;
+    }
+
+    #[tactic(auto, unfolding(crate::specs::Taps::form_line))]
+    fn hear(&mut self, event: &Event, out: &mut Text) -> Heard {
+        match event {
+            Event::Pilot { .. } | Event::Sync { .. } => out.clear(),
+        }
+        heard_of(self.left)
+    }
+}
+
+/// Hears messages as they came, bit by bit, in form 3.
+#[derive(Drop)]
+pub struct RawTap {
+    /// How many events it has left to hear.
+    left: u32,
+}
+
+impl RawTap {
+    /// A tap that has no event left to hear, until it is given a limit.
+    pub fn new() -> RawTap
+        ensures { result.left ≡ 0 }
+    {
+        RawTap { left: 0 }
+    }
+}
+
+impl Tap for RawTap {
+    ghost shape = { λ _. 3 };
+
+    ghost left = { λ t. t.left };
+
+    fn form(&self) -> u8 {
+        3
+    }
+
+    fn limit(&mut self, events: u32) {
+        self.left = events;
+    }
+
+    #[tactic(auto, unfolding(crate::specs::Taps::form_line))]
+    fn hear(&mut self, event: &Event, out: &mut Text) -> Heard {
+        out.clear();
+        match event {
+            Event::Pilot { .. } => {}
+            Event::Sync { at, capsule, .. } => {
+                append_raw(out, *at, capsule);
+                self.left -= 1;
+            }
+        }
+        heard_of(self.left)
+    }
+}
+
+/// What a tap answers that has so many events left.
+fn heard_of(left: u32) -> Heard
+    ensures { result ≡ heard_at left }
+{
+    if left == 0 { Heard::Done } else { Heard::Keep }
+}
+
+/// Adds the line of a sync message's capsule to the empty text.
+fn append_raw(text: &mut Text, at: u64, capsule: &Bits)
+    requires { text.old ≡ [] }
+    ensures value { text.new ≡ raw_line at capsule.now }
+{
+    text.append_named("raw at=", at);
+    text.append_word(" sync ");
+    text.append_bits(capsule);
+    text.append_word("\n");
+}

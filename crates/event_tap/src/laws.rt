@@ -1,0 +1,36 @@
+//! Laws of the definitions: each function does nothing, and its contract is the law.
+
+ghost use Rattle.std.specs.Prelude.{◌≡◌, ◌≤◌, ◌<◌, ◌++◌, ◌∷◌, [], ℕ, List, length, take};
+ghost use Rattle.event_tap.specs.Lines.{text_of};
+ghost use Rattle.event_tap.specs.Taps.{KeptTap, form_lines, joined, kept_by, kept_with, run_taps, run_text};
+ghost use Rattle.mobile_core.specs.declared.event.Event.{Event as TheEvent};
+
+/// A tap hears just the first events of its form's kinds, as many as its limit says.
+pub fn taps_hear_the_first_events()
+    ensures { (form limit : ℕ) (events : List TheEvent) →
+        run_text (kept_with form limit) events ≡ joined (take limit (form_lines form events)) }
+{}
+
+/// The text of events is that of the first of them, and then that of the others by the taps that
+/// are kept behind the first.
+pub fn text_goes_on()
+    ensures text { (taps : List KeptTap) (events more : List TheEvent) →
+        run_text taps (events ++ more) ≡
+        run_text taps events ++ run_text (run_taps taps events) more }
+    ensures taps { (taps : List KeptTap) (events more : List TheEvent) →
+        run_taps taps (events ++ more) ≡ run_taps (run_taps taps events) more }
+{}
+
+/// No tap writes nothing.
+pub fn no_tap_writes_nothing()
+    ensures { (events : List TheEvent) → run_text [] events ≡ [] }
+{}
+
+/// Taps of each form once, in order, with no raw messages wanted, write the line of each of fewer
+/// events than their limits, once.
+pub fn plain_taps_write_each_line_once()
+    ensures { (pilots messages frames : ℕ) (events : List TheEvent) →
+        length events < pilots → length events < messages → 1 ≤ frames →
+        run_text (kept_by (pilots ∷ messages ∷ frames ∷ 0 ∷ []) (0 ∷ 1 ∷ 2 ∷ 3 ∷ [])) events ≡
+        text_of events }
+{}

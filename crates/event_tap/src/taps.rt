@@ -1,0 +1,138 @@
+//! The taps that hear a run's events.
+
+ghost use Rattle.std.specs.Prelude.{◌≡◌, ◌≤◌, List, map, All, nat_lt, slice_index, OnOk, OnErr};
+ghost use Rattle.std.specs.Io.KnownBytes.{Appends};
+ghost use Rattle.cdma_io.specs.Outside.{AppendsPrefix, HasCause};
+ghost use Rattle.event_tap.specs.Taps.{IsKept, KeptTap, heard_text, kept_by, kept_of, taps_behind};
+
+use crate::tap::{Heard, Tap};
+use crate::text::Text;
+use cdma_io::{Failed, Sink, write_all};
+use mobile_core::Event;
+
+impl Tap for Box<dyn Tap> {
+    ghost shape = { λ b. (Tap-box b).shape b.value };
+
+    ghost left = { λ b. (Tap-box b).left b.value };
+
+    fn form(&self) -> u8 {
+        (**self).form()
+    }
+
+    fn limit(&mut self, events: u32) {
+        (**self).limit(events);
+    }
+
+    fn hear(&mut self, event: &Event, out: &mut Text) -> Heard {
+        (**self).hear(event, out)
+    }
+}
+
+/// The boxed taps that hear a run's events.
+#[derive(Drop)]
+pub struct Taps {
+    /// Those that have events left to hear, in order.
+    taps: Vec<Box<dyn Tap>>,
+}
+
+/// What contracts see of something that keeps taps.
+pub trait KeepsTaps {
+    /// The taps that are kept, in order: the form of each, and how many events it has left to hear.
+    ghost kept: { Self → List KeptTap };
+}
+
+impl KeepsTaps for Taps {
+    ghost kept = { λ t. kept_of (λ b. (Tap-box b).shape b.value) (λ b. (Tap-box b).left b.value)
+        t.taps.items };
+}
+
+impl Taps {
+    /// Gives each tap the limit of its form, and keeps those whose limit isn't 0, in order.
+    pub fn new(taps: Vec<Box<dyn Tap>>, limits: [u32; 4]) -> Taps
+        ensures value { ⟦<Taps as KeepsTaps>⟧.kept result ≡
+            kept_by limits (map (λ b. shape b) taps.items) }
+        ensures kept { All IsKept (⟦<Taps as KeepsTaps>⟧.kept result) }
+    {
+        let mut taps = taps;
+        limit_all(&mut taps, &limits);
+        Taps { taps }
+    }
+
+    /// Lets each tap hear the event, in order, gives its text to the sink, and drops it where it
+    /// has no event left to hear.
+    ///
+    /// [`Failed`] comes only where the sink's count of faults rose, and the sink took then the
+    /// first bytes of the event's text.
+    pub fn hear<K: Sink>(&mut self, event: &Event, sink: &mut K) -> Result<(), Failed>
+        requires { All IsKept (⟦<Taps as KeepsTaps>⟧.kept self.old) }
+        ensures ok { OnOk result
+            (Appends (K.written sink.old) (K.written sink.new)
+            (heard_text (⟦<Taps as KeepsTaps>⟧.kept self.old) event.now)) }
+        ensures behind { OnOk result (⟦<Taps as KeepsTaps>⟧.kept self.new ≡
+            taps_behind (⟦<Taps as KeepsTaps>⟧.kept self.old) event.now) }
+        ensures kept { All IsKept (⟦<Taps as KeepsTaps>⟧.kept self.new) }
+        ensures err { OnErr result
+            (AppendsPrefix (K.written sink.old) (K.written sink.new)
+            (heard_text (⟦<Taps as KeepsTaps>⟧.kept self.old) event.now)) }
+        ensures cause { HasCause (K.faults sink.old) (K.faults sink.new) result }
+    {
+        hear_all(&mut self.taps, event, sink)
+    }
+}
+
+/// Gives each tap the limit of its form, and drops those whose limit is 0.
+fn limit_all<T: Tap>(taps: &mut Vec<T>, limits: &[u32; 4])
+    ensures value { kept_of T.shape T.left taps.new.items ≡
+        kept_by limits.now (map T.shape taps.old.items) }
+    ensures kept { All IsKept (kept_of T.shape T.left taps.new.items) }
+{
+    let mut place = 0;
+    while place < taps.len() {
+        if has_limit(&mut taps[place], limits) {
+            place += 1;
+        } else {
+            drop(taps.remove(place));
+        }
+    }
+}
+
+/// Gives a tap the limit of its form, and says whether that is above 0.
+fn has_limit<T: Tap>(tap: &mut T, limits: &[u32; 4]) -> bool
+    ensures form { T.shape tap.new ≡ T.shape tap.old }
+    ensures range { T.shape tap.old ≤ 3 }
+    ensures left { T.left tap.new ≡ slice_index limits.now (T.shape tap.old) }
+    ensures value { result ≡ nat_lt 0 (T.left tap.new) }
+{
+    let limit = limits[tap.form() as usize];
+    tap.limit(limit);
+    limit > 0
+}
+
+/// Lets each tap hear the event and gives its text to the sink, and drops it where it has no event
+/// left to hear.
+fn hear_all<T: Tap, K: Sink>(taps: &mut Vec<T>, event: &Event, sink: &mut K) -> Result<(), Failed>
+    requires { All IsKept (kept_of T.shape T.left taps.old.items) }
+    ensures ok { OnOk result
+        (Appends (K.written sink.old) (K.written sink.new)
+        (heard_text (kept_of T.shape T.left taps.old.items) event.now)) }
+    ensures behind { OnOk result (kept_of T.shape T.left taps.new.items ≡
+        taps_behind (kept_of T.shape T.left taps.old.items) event.now) }
+    ensures kept { All IsKept (kept_of T.shape T.left taps.new.items) }
+    ensures err { OnErr result
+        (AppendsPrefix (K.written sink.old) (K.written sink.new)
+        (heard_text (kept_of T.shape T.left taps.old.items) event.now)) }
+    ensures cause { HasCause (K.faults sink.old) (K.faults sink.new) result }
+{
+    let mut text = Text::empty();
+    let mut place = 0;
+    while place < taps.len() {
+        let heard = taps[place].hear(event, &mut text);
+        let gave = write_all(sink, text.bytes());
+        match heard {
+            Heard::Keep => place += 1,
+            Heard::Done => drop(taps.remove(place)),
+        }
+        gave?;
+    }
+    Ok(())
+}
