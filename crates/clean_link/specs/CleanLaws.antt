@@ -1,0 +1,78 @@
+-- What a clean link gives back of the sync channel.
+use Rattle.std.specs.Prelude.{ℕ, ◌+◌, ◌<◌, ◌≡◌, true, false, nat_lt, length, replicate, pos, is_some, None, Some}
+use Rattle.rake_finger.specs.declared.form.Form.TheVariants.{Sync}
+use Rattle.viterbi.specs.Laws.{signed}
+use Rattle.cdma_io.specs.declared.width.Width.{Width}
+use Rattle.base_modulator.specs.Sampled.{made_samples}
+use Rattle.base_modulator.specs.Sendings.{sync_frame_bits, sync_symbols}
+use Rattle.base_modulator.specs.declared.plan.CellPlan.{CellPlan}
+use Rattle.base_modulator.specs.declared.plan.SyncPlan.{SyncPlan}
+use Rattle.mobile_core.specs.Events.{events}
+use Rattle.mobile_core.specs.Marks.{mark}
+use Rattle.mobile_core.specs.Streams.{frame_own_bits, frame_softs, is_in_file, span_first, span_frames}
+use Rattle.mobile_core.specs.Tuning.{Tuning, sync_stream}
+use Rattle.mobile_core.specs.declared.mark.Mark.{Mark}
+use Rattle.clean_link.specs.SentWords.{IsOnlyBest, span_word}
+use Rattle.clean_link.specs.CleanLink.{IsReceivable, IsTunedTo, IsTrueMark, first_sync_frame, sent_events, soft_strength}
+
+-- the soft values of a received sync frame are one positive number times the signs of the symbols
+-- that were sent
+abbrev pub HaveSentSigns : Type 0
+HaveSentSigns = (width : Width) (plan : CellPlan) (sync : SyncPlan) (t : Tuning) (k : ℕ) →
+    IsReceivable width plan → plan.sync ≡ Some sync → IsTunedTo plan t →
+    is_in_file t.count (sync_stream t) k ≡ true →
+    (0 < soft_strength plan Sync sync.gain)
+    × (frame_softs (made_samples plan) (sync_stream t) k ≡
+    signed (soft_strength plan Sync sync.gain)
+    (sync_symbols plan.cell sync.message (first_sync_frame plan + k)))
+
+-- without a sync channel they are all 0
+abbrev pub AreZeroWithoutSync : Type 0
+AreZeroWithoutSync = (width : Width) (plan : CellPlan) (t : Tuning) (k : ℕ) →
+    IsReceivable width plan → plan.sync ≡ None → IsTunedTo plan t →
+    is_in_file t.count (sync_stream t) k ≡ true →
+    frame_softs (made_samples plan) (sync_stream t) k ≡ replicate 128 (pos 0)
+
+-- so a frame's own bits are the ones that were sent
+abbrev pub FramesComeBack : Type 0
+FramesComeBack = (width : Width) (plan : CellPlan) (sync : SyncPlan) (t : Tuning) (k : ℕ) →
+    IsReceivable width plan → plan.sync ≡ Some sync → IsTunedTo plan t →
+    is_in_file t.count (sync_stream t) k ≡ true →
+    frame_own_bits t.count (made_samples plan) (sync_stream t) k ≡
+    sync_frame_bits plan.cell sync.message (first_sync_frame plan + k)
+
+-- And the word that was sent in the frame's span, with the bits before it, is the only one of
+-- greatest score.
+abbrev pub SentWordsAreTheOnlyBest : Type 0
+SentWordsAreTheOnlyBest = (width : Width) (plan : CellPlan) (sync : SyncPlan) (t : Tuning) (k : ℕ) →
+    IsReceivable width plan → plan.sync ≡ Some sync → IsTunedTo plan t →
+    is_in_file t.count (sync_stream t) k ≡ true →
+    IsOnlyBest t.count (made_samples plan) (sync_stream t) k
+    (span_word (sync_frame_bits plan.cell sync.message)
+    (first_sync_frame plan + span_first t.count (sync_stream t) k)
+    (span_frames t.count (sync_stream t) k))
+
+-- without a sync channel a frame's bits are zeros
+abbrev pub FramesAreZeros : Type 0
+FramesAreZeros = (width : Width) (plan : CellPlan) (t : Tuning) (k : ℕ) →
+    IsReceivable width plan → plan.sync ≡ None → IsTunedTo plan t →
+    is_in_file t.count (sync_stream t) k ≡ true →
+    frame_own_bits t.count (made_samples plan) (sync_stream t) k ≡ replicate 32 false
+
+-- a handset hears the whole sendings, each with its message, in order, and nothing else
+abbrev pub WholeSendingsComeBack : Type 0
+WholeSendingsComeBack = (width : Width) (plan : CellPlan) (t : Tuning) →
+    IsReceivable width plan → IsTunedTo plan t → events t (made_samples plan) ≡ sent_events plan
+
+-- the mark, within any of the samples, has the cell's time and long code
+abbrev pub MarksAreTrue : Type 0
+MarksAreTrue = (width : Width) (plan : CellPlan) (t : Tuning) (n : ℕ) (m : Mark) →
+    IsReceivable width plan → IsTunedTo plan t → mark t (made_samples plan) n ≡ Some m →
+    (superframes : ℕ) × IsTrueMark plan m superframes
+
+-- there is one in the file just where a sending is whole
+abbrev pub IsMarkedWhereHeard : Type 0
+IsMarkedWhereHeard = (width : Width) (plan : CellPlan) (t : Tuning) →
+    IsReceivable width plan → IsTunedTo plan t →
+    is_some (mark t (made_samples plan) plan.link.samples) ≡
+    nat_lt 0 (length (sent_events plan))

@@ -1,0 +1,127 @@
+-- A clean link: a file that holds what one cell sends over one path, without noise, and what a
+-- handset has to hear in it.
+use Rattle.std.specs.Prelude.{ℕ, ◌+◌, ◌-◌, ◌*◌, ◌/◌, ◌%◌, ◌<◌, ◌≡◌, ◌&&◌, Bool, if◌then◌else◌, nat_le, List, [], ◌∷◌, ◌++◌, length, map, take, filter, pos, Option, None, Some, Ok}
+use Rattle.chip_core.specs.Bits.{places}
+use Rattle.chip_core.specs.Complex.{norm}
+use Rattle.chip_core.specs.declared.sample.Sample.{Sample}
+use Rattle.long_code.specs.LongCode.{after}
+use Rattle.cdma_io.specs.declared.header.Header.{Header}
+use Rattle.cdma_io.specs.declared.width.Width.{Width}
+use Rattle.pilot_search.specs.Search.{best_phase, energy}
+use Rattle.rake_finger.specs.Soft.{symbol_chips, window_chips}
+use Rattle.rake_finger.specs.declared.form.Form.{Form}
+use Rattle.sync_message.specs.SyncMessage.{sync_capsule}
+use Rattle.sync_message.specs.declared.fields.SyncFields.{SyncFields}
+use Rattle.base_modulator.specs.Plan.{IsLawfulPlan}
+use Rattle.base_modulator.specs.Sampled.{made_samples}
+use Rattle.base_modulator.specs.Script.{plan_named}
+use Rattle.base_modulator.specs.Sendings.{message_of, superframes_a_sending}
+use Rattle.base_modulator.specs.Transmitter.{phase_at}
+use Rattle.base_modulator.specs.declared.plan.CellPlan.{CellPlan}
+use Rattle.base_modulator.specs.declared.plan.SyncPlan.{SyncPlan}
+use Rattle.mobile_core.specs.Tuning.{Tuning}
+use Rattle.mobile_core.specs.declared.event.Event.{Event}
+use Rattle.mobile_core.specs.declared.event.Event.TheVariants.{Sync}
+use Rattle.mobile_core.specs.declared.mark.Mark.{Mark}
+use Rattle.event_tap.specs.Lines.{pilot_line, text_of}
+
+-- A file is a clean link of a script's cell: its flags and samples are the cell's, the search finds
+-- the cell's path, and there is one finger. The link's delay is in the chip at which the file
+-- starts, its rotation and strength are in the factor.
+pub record IsCleanLink (width : Width) (script : List ℕ) (plan : CellPlan) (span : ℕ)
+    (fingers : Option ℕ) (header : Header) (samples : List Sample) : Type 0 where
+  pub named : plan_named width script ≡ Ok plan
+  pub sent : samples ≡ made_samples plan
+  pub checks_of_30 : header.check30 ≡ plan.cell.check30
+  pub checks_of_16 : header.check16 ≡ plan.cell.check16
+  pub found : best_phase (take span samples) ≡ phase_at plan plan.link.start
+  pub alone : fingers ≡ Some 1
+
+-- a lawful cell, with a link
+pub record IsReceivable (width : Width) (plan : CellPlan) : Type 0 where
+  pub lawful : IsLawfulPlan width plan
+  pub link : 0 < norm plan.link.factor
+
+-- a handset with one finger, which lies on the cell's path
+pub record IsTunedTo (plan : CellPlan) (t : Tuning) : Type 0 where
+  pub count : t.count ≡ plan.link.samples
+  pub checks : t.check30 ≡ plan.cell.check30
+  pub phase : t.phase ≡ phase_at plan plan.link.start
+  pub alone : t.deltas ≡ pos 0 ∷ []
+
+-- ---- channels as they are received
+
+-- the strength of a channel's soft values: four times the link's square, the gains of the pilot and
+-- of the channel, and the chips of a window and of a symbol
+abbrev pub soft_strength : CellPlan → Form → ℕ → ℕ
+soft_strength plan form gain =
+    4 * norm plan.link.factor * (plan.pilot.gain * gain) *
+    (window_chips form * symbol_chips form)
+
+-- A frame is known at the end of the next one, or where that isn't in the file, at its own.
+abbrev pub heard_behind : ℕ → ℕ → ℕ → ℕ
+heard_behind frame count ends = if nat_le (ends + frame) count then ends + frame else ends
+
+-- which of the cell's sync frames is the first one that begins in the file
+abbrev pub first_sync_frame : CellPlan → ℕ
+first_sync_frame plan =
+    (plan.link.start + (32768 - phase_at plan plan.link.start) % 32768 - 64 * plan.cell.pn) / 32768
+
+-- ---- whole sendings
+
+-- the local chips of a sending: the first chip of its first frame, and the end of the frame that
+-- holds its capsule's last bit
+abbrev pub sending_begins : CellPlan → SyncFields → ℕ → ℕ
+sending_begins plan m sending =
+    64 * plan.cell.pn + 98304 * (sending * superframes_a_sending plan.cell m)
+
+abbrev pub sending_ends : CellPlan → SyncFields → ℕ → ℕ
+sending_ends plan m sending =
+    sending_begins plan m sending + 32768 * ((length (sync_capsule plan.cell.check30 m) + 30) / 31)
+
+-- whether all of it lies in the file
+abbrev pub is_whole : CellPlan → SyncFields → ℕ → Bool
+is_whole plan m sending =
+    nat_le plan.link.start (sending_begins plan m sending) &&
+    nat_le (sending_ends plan m sending) (plan.link.start + plan.link.samples)
+
+abbrev pub whole_sendings : CellPlan → SyncFields → List ℕ
+whole_sendings plan m =
+    filter (is_whole plan m) (places ((plan.link.start + plan.link.samples) / 98304 + 1))
+
+-- what a handset tells of a sending, when it knows the last of its frames
+abbrev pub sending_event : CellPlan → SyncFields → ℕ → Event
+sending_event plan m sending =
+    Sync
+    (heard_behind 32768 plan.link.samples (sending_ends plan m sending - plan.link.start))
+    (sync_capsule plan.cell.check30 (message_of plan.cell m sending))
+    (message_of plan.cell m sending)
+
+-- what it tells of all whole sendings, in order
+abbrev pub events_of_channel : CellPlan → Option SyncPlan → List Event
+events_of_channel plan None = []
+events_of_channel plan (Some sync) =
+    map (sending_event plan sync.message) (whole_sendings plan sync.message)
+
+unfoldable pub sent_events : CellPlan → List Event
+sent_events plan = events_of_channel plan plan.sync
+
+-- ---- the mark
+
+-- A mark at the start of one of the cell's superframes, which are counted from local chip 0: its
+-- time and its long-code state are the cell's.
+pub record IsTrueMark (plan : CellPlan) (mark : Mark) (superframes : ℕ) : Type 0 where
+  pub place : plan.link.start + mark.sample ≡ 98304 * superframes
+  pub time : mark.time ≡ plan.cell.time + superframes
+  pub pn : mark.pn ≡ plan.cell.pn
+  pub state : (chips : ℕ) → after mark.lc chips ≡ after plan.cell.lc (98304 * superframes + chips)
+
+-- ---- the text of the run
+
+-- what is written of a clean link: the line of the pilot at the cell's phase, and those of the
+-- whole sendings
+abbrev pub clean_text : ℕ → CellPlan → List ℕ
+clean_text span plan =
+    pilot_line (phase_at plan plan.link.start)
+    (energy (take span (made_samples plan)) (phase_at plan plan.link.start)) ++
+    text_of (sent_events plan)

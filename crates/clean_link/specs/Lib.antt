@@ -1,0 +1,6 @@
+pub mod ChannelLaws
+pub mod CleanLaws
+pub mod CleanLink
+pub mod SentWords
+pub mod Signals
+mod Worked

@@ -1,0 +1,50 @@
+//! Laws of the definitions: each function does nothing, and its contract is the law.
+//!
+//! Those of any channel hold of what is sent on any Walsh row, to any stream with one finger on the
+//! path; those of the sync channel are their first case.
+
+ghost use Rattle.clean_link.specs.ChannelLaws.{ChannelFramesComeBack, ChannelWordsAreTheOnlyBest, ChannelsHaveSentSigns, EarlyFramesAreZero, SilentRowsAreZero, StreamsShowSymbols, StrengthsArePositive};
+ghost use Rattle.clean_link.specs.CleanLaws.{AreZeroWithoutSync, FramesAreZeros, FramesComeBack, HaveSentSigns, IsMarkedWhereHeard, MarksAreTrue, SentWordsAreTheOnlyBest, WholeSendingsComeBack};
+
+/// On a clean link the soft values of each frame in the file are `4 |h|^2 g0 g V C` times the signs
+/// of the symbols that the channel sends in it, where h is the link, g0 and g are the gains of the
+/// pilot and of the channel, and V and C the chips of a window and of a symbol: 1,024 and 256 on
+/// the sync channel, 1,536 and 64 on the others. They are 0 on a row that no channel has, and
+/// before the channel's first frame. Turned by a stream's scrambling, they show the symbols before
+/// it.
+pub fn soft_values_have_the_sent_signs()
+    ensures channel { ChannelsHaveSentSigns }
+    ensures silent { SilentRowsAreZero }
+    ensures early { EarlyFramesAreZero }
+    ensures turned { StreamsShowSymbols }
+    ensures positive { StrengthsArePositive }
+    ensures sent { HaveSentSigns }
+    ensures none { AreZeroWithoutSync }
+{}
+
+/// So the bits of each frame come back, and zeros where nothing is sent.
+pub fn frames_come_back()
+    ensures channel { ChannelFramesComeBack }
+    ensures sent { FramesComeBack }
+    ensures none { FramesAreZeros }
+{}
+
+/// The frames of a span are one word, whose start bits are the last eight of the frame before it.
+/// Of all words of its length, with any start bits, it alone has the greatest score.
+pub fn sent_words_are_the_only_best()
+    ensures channel { ChannelWordsAreTheOnlyBest }
+    ensures sent { SentWordsAreTheOnlyBest }
+{}
+
+/// A handset hears the sendings that lie in the file whole, each with its message, in order, and
+/// nothing else.
+pub fn whole_sendings_come_back()
+    ensures { WholeSendingsComeBack }
+{}
+
+/// The mark has the system time and the long code's state that the cell has at its sample, and
+/// there is one in the file just where a sending is whole.
+pub fn marks_are_true()
+    ensures true_mark { MarksAreTrue }
+    ensures set { IsMarkedWhereHeard }
+{}

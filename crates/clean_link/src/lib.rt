@@ -1,0 +1,13 @@
+//! What a clean link gives back: laws over the definitions of what a base station sends and of what
+//! a handset hears.
+//!
+//! A clean link is a sample file that holds what one cell sends over one path, without noise. On it
+//! the frames of each channel come back from a stream that hears it, the word that was sent in a
+//! span of them alone has the greatest score, and each whole sending of the sync channel comes back
+//! with its message, in order.
+//!
+//! The steps up to a frame's bits are stated over any channel of a plan and any stream with one
+//! finger on the path (`ChannelLaws`), and the sync channel is their first case (`CleanLaws`).
+#![tactic(auto)]
+
+pub mod laws;
