@@ -15,25 +15,31 @@ use Rattle.event_tap.specs.Lines.{pilot_line, text_of}
 use Rattle.mobile_core.specs.Events.{events}
 use Rattle.mobile_core.specs.Marks.{mark}
 use Rattle.mobile_core.specs.declared.event.Event.{Event}
-use Rattle.cdma_replay.specs.CleanLink.{IsCleanLink, IsReceivable, IsTunedTo, clean_end, clean_text, sent_events}
-use Rattle.cdma_replay.specs.Hearing.{best_line, end_when, events_in, file_end_of, file_text, is_told, tuning_for, tuning_of}
+use Rattle.clean_link.specs.CleanLink.{IsCleanLink, IsReceivable, IsTunedTo, clean_text, sent_events}
+use Rattle.cdma_replay.specs.Hearing.{best_line, clean_end, end_when, events_in, file_end_of, file_text, is_told, tuning_for, tuning_of}
 use Rattle.cdma_replay.specs.declared.receiving.Reception.{Reception}
 use Rattle.cdma_replay.specs.declared.status.Status.{Status}
 use Rattle.cdma_replay.specs.declared.status.Status.TheVariants.{NoMemory}
-use Rattle.cdma_replay.proofs.MarksTrue.{marked_where_heard}
-use Rattle.cdma_replay.proofs.SendingsBack.{sendings_back}
-use Rattle.cdma_replay.proofs.SignalSamples.{length-made}
+use Rattle.clean_link.proofs.MarksTrue.{marked_where_heard}
+use Rattle.clean_link.proofs.SendingsBack.{sendings_back}
+use Rattle.clean_link.proofs.SignalSamples.{length-made}
 
 -- what a script names can be received
-receivable : (width : Width) (script : List ℕ) (plan : CellPlan) → plan_named width script ≡ Ok plan → IsReceivable width plan
-receivable width script plan named = let both = named_plan width script plan named in record { lawful = both.0; link = both.1 }
+receivable : (width : Width) (script : List ℕ) (plan : CellPlan) →
+    plan_named width script ≡ Ok plan → IsReceivable width plan
+receivable width script plan named = let both = named_plan width script plan named in
+    record { lawful = both.0; link = both.1 }
 
 -- one finger is on the best phase
-own_delta : (samples : List Sample) → Rattle.pilot_search.specs.Near.near_deltas samples (best_phase samples) 1 ≡ pos 0 ∷ []
-own_delta samples = one_delta samples (best_phase samples) (energy samples (best_phase samples)) (best_phase-is samples)
+own_delta : (samples : List Sample) →
+    Rattle.pilot_search.specs.Near.near_deltas samples (best_phase samples) 1 ≡ pos 0 ∷ []
+own_delta samples =
+    one_delta samples (best_phase samples) (energy samples (best_phase samples))
+    (best_phase-is samples)
 
 -- a handset on a clean link is tuned to the cell
-tuned : (width : Width) (script : List ℕ) (plan : CellPlan) (r : Reception) (header : Header) (samples : List Sample) → IsCleanLink width script plan r header samples →
+tuned : (width : Width) (script : List ℕ) (plan : CellPlan) (r : Reception) (header : Header)
+    (samples : List Sample) → IsCleanLink width script plan r.span r.fingers header samples →
     length samples ≡ header.count → IsTunedTo plan (tuning_for header (take r.span samples) 1)
 tuned width script plan r header samples clean counted = record {
   count = sym counted ∙ ap length clean.sent ∙ length-made plan;
@@ -42,55 +48,83 @@ tuned width script plan r header samples clean counted = record {
   alone = own_delta (take r.span samples);
 }
 
-best_line-at : (samples : List Sample) (phase : ℕ) → best_phase samples ≡ phase → best_line samples ≡ pilot_line phase (energy samples phase)
+best_line-at : (samples : List Sample) (phase : ℕ) → best_phase samples ≡ phase →
+    best_line samples ≡ pilot_line phase (energy samples phase)
 unfolding best_line
 best_line-at samples phase is = ap (λ (p : ℕ). pilot_line p (energy samples p)) is
 
 -- what one finger hears
-heard_by_one : (header : Header) (first samples : List Sample) (fingers : Option ℕ) → fingers ≡ Some 1 →
+heard_by_one : (header : Header) (first samples : List Sample) (fingers : Option ℕ) →
+    fingers ≡ Some 1 →
     events_in (tuning_of header first fingers) samples ≡ events (tuning_for header first 1) samples
 unfolding events_in
-heard_by_one header first samples fingers alone = ap (λ (f : Option ℕ). events_in (tuning_of header first f) samples) alone
+heard_by_one header first samples fingers alone =
+    ap (λ (f : Option ℕ). events_in (tuning_of header first f) samples) alone
 
-told_by_one : (header : Header) (first samples : List Sample) (fingers : Option ℕ) → fingers ≡ Some 1 →
-    is_told (tuning_of header first fingers) samples ≡ is_some (mark (tuning_for header first 1) samples (length samples))
-told_by_one header first samples fingers alone = ap (λ (f : Option ℕ). is_told (tuning_of header first f) samples) alone
+told_by_one : (header : Header) (first samples : List Sample) (fingers : Option ℕ) →
+    fingers ≡ Some 1 →
+    is_told (tuning_of header first fingers) samples ≡
+    is_some (mark (tuning_for header first 1) samples (length samples))
+told_by_one header first samples fingers alone =
+    ap (λ (f : Option ℕ). is_told (tuning_of header first f) samples) alone
 
 -- the text of the file
-pub clean_text-is : (width : Width) (script : List ℕ) (plan : CellPlan) (r : Reception) (header : Header) (samples : List Sample) →
-    IsCleanLink width script plan r header samples → length samples ≡ header.count → file_text r header samples ≡ clean_text r.span plan
+pub clean_text-is : (width : Width) (script : List ℕ) (plan : CellPlan) (r : Reception)
+    (header : Header) (samples : List Sample) →
+    IsCleanLink width script plan r.span r.fingers header samples → length samples ≡ header.count →
+    file_text r header samples ≡ clean_text r.span plan
 unfolding file_text
 clean_text-is width script plan r header samples clean counted =
     let first = take r.span samples in
     let heard : events_in (tuning_of header first r.fingers) samples ≡ sent_events plan =
     heard_by_one header first samples r.fingers clean.alone
     ∙ ap (events (tuning_for header first 1)) clean.sent
-    ∙ sendings_back width plan (tuning_for header first 1) (receivable width script plan clean.named) (tuned width script plan r header samples clean counted) in
+    ∙ sendings_back width plan (tuning_for header first 1)
+    (receivable width script plan clean.named)
+    (tuned width script plan r header samples clean counted) in
     ap (λ (e : List Event). best_line first ++ text_of e) heard
-    ∙ ap (λ (l : List ℕ). l ++ text_of (sent_events plan)) (best_line-at first (phase_at plan plan.start) clean.found)
-    ∙ ap (λ (s : List Sample). pilot_line (phase_at plan plan.start) (energy (take r.span s) (phase_at plan plan.start)) ++ text_of (sent_events plan)) clean.sent
+    ∙ ap (λ (l : List ℕ). l ++ text_of (sent_events plan))
+    (best_line-at first (phase_at plan plan.link.start) clean.found)
+    ∙ ap (λ (s : List Sample). pilot_line (phase_at plan plan.link.start)
+    (energy (take r.span s) (phase_at plan plan.link.start)) ++ text_of (sent_events plan))
+    clean.sent
 
 -- and how the run ends
-pub clean_end-is : (width : Width) (script : List ℕ) (plan : CellPlan) (r : Reception) (header : Header) (samples : List Sample) →
-    IsCleanLink width script plan r header samples → length samples ≡ header.count → file_end_of r header samples ≡ clean_end plan
+pub clean_end-is : (width : Width) (script : List ℕ) (plan : CellPlan) (r : Reception)
+    (header : Header) (samples : List Sample) →
+    IsCleanLink width script plan r.span r.fingers header samples → length samples ≡ header.count →
+    file_end_of r header samples ≡ clean_end plan
 unfolding file_end_of
 clean_end-is width script plan r header samples clean counted =
     let first = take r.span samples in
-    let size : length samples ≡ plan.samples = ap length clean.sent ∙ length-made plan in
-    let told : is_told (tuning_of header first r.fingers) samples ≡ nat_lt 0 (length (sent_events plan)) =
+    let size : length samples ≡ plan.link.samples = ap length clean.sent ∙ length-made plan in
+    let told : is_told (tuning_of header first r.fingers) samples ≡
+    nat_lt 0 (length (sent_events plan)) =
     told_by_one header first samples r.fingers clean.alone
     ∙ ap (λ (n : ℕ). is_some (mark (tuning_for header first 1) samples n)) size
-    ∙ ap (λ (s : List Sample). is_some (mark (tuning_for header first 1) s plan.samples)) clean.sent
-    ∙ marked_where_heard width plan (tuning_for header first 1) (receivable width script plan clean.named) (tuned width script plan r header samples clean counted) in
+    ∙ ap (λ (s : List Sample). is_some (mark (tuning_for header first 1) s plan.link.samples))
+    clean.sent
+    ∙ marked_where_heard width plan (tuning_for header first 1)
+    (receivable width script plan clean.named)
+    (tuned width script plan r header samples clean counted) in
     ap end_when told
 
 -- so what is written of the file is written of the cell
-pub clean_reply : (width : Width) (script bytes held : List ℕ) (plan : CellPlan) (r : Reception) (header : Header) (samples : List Sample)
-    (status : Status) (written : Option (List ℕ)) → IsCleanLink width script plan r header samples → length samples ≡ header.count →
-    (status ≡ NoMemory) ⊎ ((status ≡ file_end_of r header samples) × (written ≡ Some (held ++ file_text r header samples))) →
-    (status ≡ NoMemory) ⊎ ((status ≡ clean_end plan) × (written ≡ Some (held ++ clean_text r.span plan)))
-clean_reply width script bytes held plan r header samples status written clean counted (inl none) = inl none
-clean_reply width script bytes held plan r header samples status written clean counted (inr all) = inr (
-  all.0 ∙ clean_end-is width script plan r header samples clean counted,
-  all.1 ∙ ap (λ (t : List ℕ). Some (held ++ t)) (clean_text-is width script plan r header samples clean counted),
-)
+pub clean_reply : (width : Width) (script bytes held : List ℕ) (plan : CellPlan) (r : Reception)
+    (header : Header) (samples : List Sample)
+    (status : Status) (written : Option (List ℕ)) →
+    IsCleanLink width script plan r.span r.fingers header samples →
+    length samples ≡ header.count →
+    (status ≡ NoMemory) ⊎
+    ((status ≡ file_end_of r header samples) ×
+    (written ≡ Some (held ++ file_text r header samples))) →
+    (status ≡ NoMemory) ⊎
+    ((status ≡ clean_end plan) × (written ≡ Some (held ++ clean_text r.span plan)))
+clean_reply width script bytes held plan r header samples status written clean counted (inl none) =
+    inl none
+clean_reply width script bytes held plan r header samples status written clean counted (inr all) =
+    inr (
+      all.0 ∙ clean_end-is width script plan r header samples clean counted,
+      all.1 ∙ ap (λ (t : List ℕ). Some (held ++ t))
+          (clean_text-is width script plan r header samples clean counted),
+    )

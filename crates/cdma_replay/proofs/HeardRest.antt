@@ -17,67 +17,118 @@ use Rattle.cdma_replay.specs.Find.{PassesSamples}
 use Rattle.cdma_replay.proofs.Prefixes.{front_begins}
 use Rattle.cdma_replay.specs.Hearing.{HasGiven, HearsPart, HearsRest, Tells, TellsPart, events_in}
 
--- a source lost the spellings of so many samples, and one handset became the other by hearing them. The samples are known also
--- where the handset stands for nothing that is known
-pub record Hears (width : Width) (count : ℕ) (one other : Option Mobile) (rest left old new : Option (List ℕ)) : Type 0 where
+-- a source lost the spellings of so many samples, and one handset became the other by hearing them.
+-- The samples are known also where the handset stands for nothing that is known
+pub record Hears (width : Width) (count : ℕ) (one other : Option Mobile)
+    (rest left old new : Option (List ℕ)) : Type 0 where
   pub passed : PassesSamples width count rest left
-  pub tells : (t : Option Tuning) (heard : List Sample) → HasGiven t one heard (events_in t heard) → Tells t other (events_in t heard) (heard ++ passed.samples) old new
+  pub tells : (t : Option Tuning) (heard : List Sample) → HasGiven t one heard (events_in t heard) →
+      Tells t other (events_in t heard) (heard ++ passed.samples) old new
 
-pub hears_nothing : {width : Width} {handset : Option Mobile} {rest old : Option (List ℕ)} (n : ℕ) → Hears width (n - n) handset handset rest rest old old
+pub hears_nothing : {width : Width} {handset : Option Mobile} {rest old : Option (List ℕ)} (n : ℕ) →
+    Hears width (n - n) handset handset rest rest old old
 hears_nothing {width} {handset} {rest} {old} n = record {
-  passed = record { samples = []; counted = omega arith; in_range = λ k d h. absurd (omega (arith, h)); consumed = Consumes-nil rest };
-  tells = λ (t : Option Tuning) (heard : List Sample) (given : HasGiven t handset heard (events_in t heard)).
-      rw (append-nil heard) (record { text = []; written = Appends-nil old; all = append-nil (text_of (events_in t heard)); stands = given });
+  passed = record {
+    samples = [];
+    counted = omega arith;
+    in_range = λ k d h. absurd (omega (arith, h));
+    consumed = Consumes-nil rest;
+  };
+  tells = λ (t : Option Tuning) (heard : List Sample)
+      (given : HasGiven t handset heard (events_in t heard)).
+      rw (append-nil heard) (record {
+        text = [];
+        written = Appends-nil old;
+        all = append-nil (text_of (events_in t heard));
+        stands = given;
+      });
 }
 
 -- lines behind others
-tells_more : {t : Option Tuning} {one other : Option Mobile} {old between new : Option (List ℕ)} (heard samples more : List Sample) → Tells t one (events_in t heard) (heard ++ samples) old between →
-    ((heard : List Sample) (given : List Event) → HasGiven t one heard given → Tells t other given (heard ++ more) between new) → Tells t other (events_in t heard) (heard ++ (samples ++ more)) old new
+tells_more : {t : Option Tuning} {one other : Option Mobile} {old between new : Option (List ℕ)}
+    (heard samples more : List Sample) →
+    Tells t one (events_in t heard) (heard ++ samples) old between →
+    ((heard : List Sample) (given : List Event) → HasGiven t one heard given →
+    Tells t other given (heard ++ more) between new) →
+    Tells t other (events_in t heard) (heard ++ (samples ++ more)) old new
 tells_more {t} {one} {other} {old} {between} {new} heard samples more first tells =
     let next = tells (heard ++ samples) (events_in t (heard ++ samples)) first.stands in
-    subst (λ (xs : List Sample). Tells t other (events_in t heard) xs old new) (append_assoc heard samples more) (record {
+    subst (λ (xs : List Sample). Tells t other (events_in t heard) xs old new)
+    (append_assoc heard samples more) (record {
       text = first.text ++ next.text;
       written = Appends-trans old between new first.text next.text first.written next.written;
-      all = sym (append_assoc (text_of (events_in t heard)) first.text next.text) ∙ ap (λ (xs : List ℕ). xs ++ next.text) first.all ∙ next.all;
+      all = sym (append_assoc (text_of (events_in t heard)) first.text next.text) ∙
+          ap (λ (xs : List ℕ). xs ++ next.text) first.all ∙ next.all;
       stands = next.stands;
     })
 
 -- spellings behind others
-consumes_more : (width same : Width) (rest mid left : Option (List ℕ)) (samples more : List Sample) → same ≡ width → Consumes rest mid (flat_map (sample_spelling width) samples) →
-    Consumes mid left (flat_map (sample_spelling same) more) → Consumes rest left (flat_map (sample_spelling width) (samples ++ more))
+consumes_more : (width same : Width) (rest mid left : Option (List ℕ))
+    (samples more : List Sample) → same ≡ width →
+    Consumes rest mid (flat_map (sample_spelling width) samples) →
+    Consumes mid left (flat_map (sample_spelling same) more) →
+    Consumes rest left (flat_map (sample_spelling width) (samples ++ more))
 consumes_more width same rest mid left samples more is consumed next =
     subst (Consumes rest left) (sym (flat_map-append (sample_spelling width) samples more))
-    (Consumes-trans rest mid left (flat_map (sample_spelling width) samples) (flat_map (sample_spelling width) more) consumed (rw is at next))
+    (Consumes-trans rest mid left (flat_map (sample_spelling width) samples)
+    (flat_map (sample_spelling width) more) consumed (rw is at next))
 
 -- the next samples, of those that are left now
-pub hears_more : {width same : Width} {first one other : Option Mobile} {rest mid left old between new : Option (List ℕ)} (all now n later : ℕ) (out : List Sample) → same ≡ width → later ≡ now - n →
-    Hears width (all - now) first one rest mid old between → now ≤ all → n ≤ now → n ≤ length out → All (HasBits same) (take n out) → Consumes mid left (flat_map (sample_spelling same) (take n out)) →
-    ((t : Option Tuning) (heard : List Sample) (given : List Event) → HasGiven t one heard given → Tells t other given (heard ++ take n out) between new) →
+pub hears_more : {width same : Width} {first one other : Option Mobile}
+    {rest mid left old between new : Option (List ℕ)} (all now n later : ℕ) (out : List Sample) →
+    same ≡ width → later ≡ now - n →
+    Hears width (all - now) first one rest mid old between → now ≤ all → n ≤ now → n ≤ length out →
+    All (HasBits same) (take n out) →
+    Consumes mid left (flat_map (sample_spelling same) (take n out)) →
+    ((t : Option Tuning) (heard : List Sample) (given : List Event) → HasGiven t one heard given →
+    Tells t other given (heard ++ take n out) between new) →
     Hears width (all - later) first other rest left old new
-hears_more {width} {same} {first} {one} {other} {rest} {mid} {left} {old} {between} {new} all now n later out is fewer h low fits room range consumed tells = record {
-  passed = record {
-    samples = h.passed.samples ++ take n out;
-    counted = omega (arith, length-append h.passed.samples (take n out), length-take-le n out room, h.passed.counted, fewer, low, fits);
-    in_range = All-append (HasBits width) h.passed.samples (take n out) h.passed.in_range (subst (λ (w : Width). All (HasBits w) (take n out)) is range);
-    consumed = consumes_more width same rest mid left h.passed.samples (take n out) is h.passed.consumed consumed;
-  };
-  tells = λ (t : Option Tuning) (heard : List Sample) (given : HasGiven t first heard (events_in t heard)).
-      tells_more heard h.passed.samples (take n out) (h.tells t heard given) (tells t);
-}
+hears_more {width} {same} {first} {one} {other} {rest} {mid} {left} {old} {between} {new} all now n
+    later out is fewer h low fits room range consumed tells = record {
+      passed = record {
+        samples = h.passed.samples ++ take n out;
+        counted =
+            omega (
+              arith,
+              length-append h.passed.samples (take n out),
+              length-take-le n out room,
+              h.passed.counted,
+              fewer,
+              low,
+              fits,
+            );
+        in_range =
+            All-append (HasBits width) h.passed.samples (take n out) h.passed.in_range
+            (subst (λ (w : Width). All (HasBits w) (take n out)) is range);
+        consumed =
+            consumes_more width same rest mid left h.passed.samples (take n out) is
+            h.passed.consumed
+            consumed;
+      };
+      tells = λ (t : Option Tuning) (heard : List Sample)
+          (given : HasGiven t first heard (events_in t heard)).
+          tells_more heard h.passed.samples (take n out) (h.tells t heard given) (tells t);
+    }
 
 -- the end was reached: no sample is left
-pub hears_all : {width : Width} {one other : Option Mobile} {rest mid left old new : Option (List ℕ)} (all now : ℕ) → Hears width (all - now) one other rest mid old new → now ≤ 0 → Keeps mid left →
-    (t : Option Tuning) (heard : List Sample) → HasGiven t one heard (events_in t heard) → HearsRest t width all other heard rest left old new
+pub hears_all : {width : Width} {one other : Option Mobile}
+    {rest mid left old new : Option (List ℕ)} (all now : ℕ) →
+    Hears width (all - now) one other rest mid old new → now ≤ 0 → Keeps mid left →
+    (t : Option Tuning) (heard : List Sample) → HasGiven t one heard (events_in t heard) →
+    HearsRest t width all other heard rest left old new
 hears_all {width} {one} {other} {rest} {mid} {left} all now h done keeps t heard given = record {
   samples = h.passed.samples;
   counted = omega (arith, h.passed.counted, done);
   in_range = h.passed.in_range;
-  consumed = Consumes-kept rest mid left (flat_map (sample_spelling width) h.passed.samples) h.passed.consumed keeps;
+  consumed =
+      Consumes-kept rest mid left (flat_map (sample_spelling width) h.passed.samples)
+      h.passed.consumed keeps;
   tells = h.tells t heard given;
 }
 
 -- known bytes begin with those that were lost at their front
-consumed_first : (old new : Option (List ℕ)) (bytes : List ℕ) → Consumes old new bytes → IfSome old (λ all. StartsWith all bytes)
+consumed_first : (old new : Option (List ℕ)) (bytes : List ℕ) → Consumes old new bytes →
+    IfSome old (λ all. StartsWith all bytes)
 consumed_first None new bytes consumed = tt
 consumed_first (Some all) None bytes consumed = absurd consumed
 consumed_first (Some all) (Some rest) bytes consumed = front_begins all bytes rest consumed
@@ -86,33 +137,47 @@ all_begins : (xs ys : List ℕ) → xs ≡ ys → StartsWith ys xs
 all_begins xs ys same = front_begins ys xs [] (sym same ∙ sym (append-nil xs))
 
 -- what was told so far is a part of it
-pub hears_part : {width : Width} {count : ℕ} {one other : Option Mobile} {rest left old new : Option (List ℕ)} → Hears width count one other rest left old new →
-    (t : Option Tuning) (heard : List Sample) → HasGiven t one heard (events_in t heard) → HearsPart t width heard rest old new
+pub hears_part : {width : Width} {count : ℕ} {one other : Option Mobile}
+    {rest left old new : Option (List ℕ)} → Hears width count one other rest left old new →
+    (t : Option Tuning) (heard : List Sample) → HasGiven t one heard (events_in t heard) →
+    HearsPart t width heard rest old new
 hears_part {width} {count} {one} {other} {rest} {left} h t heard given =
     let tells = h.tells t heard given in
     record {
       samples = h.passed.samples;
-      first = consumed_first rest left (flat_map (sample_spelling width) h.passed.samples) h.passed.consumed;
+      first = consumed_first rest left (flat_map (sample_spelling width) h.passed.samples)
+          h.passed.consumed;
       text = tells.text;
       written = tells.written;
       begins = all_begins _ _ tells.all;
     }
 
 -- a write failed behind what was told so far
-pub hears_stopped : {width same : Width} {count : ℕ} {one other : Option Mobile} {rest mid old between new : Option (List ℕ)} (left : Option (List ℕ)) (more : List Sample) → same ≡ width →
-    Hears width count one other rest mid old between → Consumes mid left (flat_map (sample_spelling same) more) →
-    ((t : Option Tuning) (heard : List Sample) (given : List Event) → HasGiven t other heard given → TellsPart t given (heard ++ more) between new) →
-    (t : Option Tuning) (heard : List Sample) → HasGiven t one heard (events_in t heard) → HearsPart t width heard rest old new
-hears_stopped {width} {same} {count} {one} {other} {rest} {mid} {old} {between} {new} left more is h consumed part t heard given =
+pub hears_stopped : {width same : Width} {count : ℕ} {one other : Option Mobile}
+    {rest mid old between new : Option (List ℕ)} (left : Option (List ℕ)) (more : List Sample) →
+    same ≡ width →
+    Hears width count one other rest mid old between →
+    Consumes mid left (flat_map (sample_spelling same) more) →
+    ((t : Option Tuning) (heard : List Sample) (given : List Event) → HasGiven t other heard given →
+    TellsPart t given (heard ++ more) between new) →
+    (t : Option Tuning) (heard : List Sample) → HasGiven t one heard (events_in t heard) →
+    HearsPart t width heard rest old new
+hears_stopped {width} {same} {count} {one} {other} {rest} {mid} {old} {between} {new} left more is h
+    consumed part t heard given =
     let samples = h.passed.samples in
     let first = h.tells t heard given in
     let next = part t (heard ++ samples) (events_in t (heard ++ samples)) first.stands in
     record {
       samples = samples ++ more;
-      first = consumed_first rest left (flat_map (sample_spelling width) (samples ++ more)) (consumes_more width same rest mid left samples more is h.passed.consumed consumed);
+      first = consumed_first rest left (flat_map (sample_spelling width) (samples ++ more))
+          (consumes_more width same rest mid left samples more is h.passed.consumed consumed);
       text = first.text ++ next.text;
       written = Appends-trans old between new first.text next.text first.written next.written;
       begins =
-          subst (λ (xs : List Sample). StartsWith (text_of (events_in t xs)) (text_of (events_in t heard) ++ (first.text ++ next.text))) (append_assoc heard samples more)
-          (subst (StartsWith (text_of (events_in t ((heard ++ samples) ++ more)))) (ap (λ (xs : List ℕ). xs ++ next.text) (sym first.all) ∙ append_assoc (text_of (events_in t heard)) first.text next.text) next.begins);
+          subst (λ (xs : List Sample). StartsWith (text_of (events_in t xs))
+          (text_of (events_in t heard) ++ (first.text ++ next.text)))
+          (append_assoc heard samples more)
+          (subst (StartsWith (text_of (events_in t ((heard ++ samples) ++ more))))
+          (ap (λ (xs : List ℕ). xs ++ next.text) (sym first.all) ∙
+          append_assoc (text_of (events_in t heard)) first.text next.text) next.begins);
     }

@@ -1,4 +1,5 @@
--- The file that is made of a script can be read, and is a clean link where the search finds the cell's path.
+-- The file that is made of a script can be read, and is a clean link where the search finds the
+-- cell's path.
 use Rattle.std.proofs.Common.{◌≡◌, ℕ, ◌+◌, ◌-◌, ◌*◌, ◌%◌, ◌<◌, ◌≤◌, Bool, true, false, List, ◌++◌, get_or, take, All, refl, sym, ap, ◌∙◌, subst, arith, ℤ, ◌*ℤ◌, unsigned_abs, Some, Ok}
 use Rattle.std.specs.Prelude.{◌+ℤ◌, ◌-ℤ◌}
 use Rattle.std.specs.List.{flat_map}
@@ -21,10 +22,11 @@ use Rattle.base_modulator.specs.Transmitter.{amplitude_sum, header_of, phase_at,
 use Rattle.base_modulator.proofs.Amplitudes.{sample_fits, signal}
 use Rattle.base_modulator.proofs.NamedPlans.{named_plan}
 use Rattle.base_modulator.proofs.Pieces.{no_sample}
-use Rattle.cdma_replay.specs.CleanLink.{IsCleanLink}
-use Rattle.cdma_replay.specs.Make.{made_file, made_samples}
+use Rattle.clean_link.specs.CleanLink.{IsCleanLink}
+use Rattle.base_modulator.specs.Sampled.{made_samples}
+use Rattle.cdma_replay.specs.Make.{made_file}
 use Rattle.cdma_replay.specs.declared.receiving.Reception.{Reception}
-use Rattle.cdma_replay.proofs.SignalSamples.{length-made, made_at}
+use Rattle.clean_link.proofs.SignalSamples.{length-made, made_at}
 
 -- ---- the header
 
@@ -37,77 +39,108 @@ is_version_of : (width : Width) → (1 ≤ version_of width) × (version_of widt
 is_version_of Sixteen = (omega arith, omega arith)
 is_version_of Eight = (omega arith, omega arith)
 
-made_header : (width : Width) (plan : CellPlan) → plan.samples ≤ most_samples width → IsLawfulHeader (header_of width plan)
+made_header : (width : Width) (plan : CellPlan) → plan.link.samples ≤ most_samples width →
+    IsLawfulHeader (header_of width plan)
 made_header width plan few = record {
   version_least = (is_version_of width).0;
   version_most = (is_version_of width).1;
-  count_most = subst (λ (w : Width). plan.samples ≤ most_samples w) (sym (made_width width plan)) few;
+  count_most =
+      subst (λ (w : Width). plan.link.samples ≤ most_samples w) (sym (made_width width plan)) few;
 }
 
 -- ---- the samples
 
 -- a product with a point of the constellation
-turned_i_most : (x y : ℤ) (b c : Bool) → unsigned_abs ((x *ℤ sign b) -ℤ (y *ℤ sign c)) ≤ unsigned_abs x + unsigned_abs y
+turned_i_most : (x y : ℤ) (b c : Bool) →
+    unsigned_abs ((x *ℤ sign b) -ℤ (y *ℤ sign c)) ≤ unsigned_abs x + unsigned_abs y
 turned_i_most x y true true = omega (arith, ints)
 turned_i_most x y true false = omega (arith, ints)
 turned_i_most x y false true = omega (arith, ints)
 turned_i_most x y false false = omega (arith, ints)
 
-turned_q_most : (x y : ℤ) (b c : Bool) → unsigned_abs ((x *ℤ sign c) +ℤ (y *ℤ sign b)) ≤ unsigned_abs x + unsigned_abs y
+turned_q_most : (x y : ℤ) (b c : Bool) →
+    unsigned_abs ((x *ℤ sign c) +ℤ (y *ℤ sign b)) ≤ unsigned_abs x + unsigned_abs y
 turned_q_most x y true true = omega (arith, ints)
 turned_q_most x y true false = omega (arith, ints)
 turned_q_most x y false true = omega (arith, ints)
 turned_q_most x y false false = omega (arith, ints)
 
 -- so a sample that is such a product fits the width
-turned_fits : (width : Width) (plan : CellPlan) (chip : ℕ) (chips : Bool × Bool) (s : Sample) → loudness plan ≤ most_part width →
-    of_sample s ≡ times (scaled (amplitude_sum plan chip) plan.link) (point chips) → HasBits width s
+turned_fits : (width : Width) (plan : CellPlan) (chip : ℕ) (chips : Bool × Bool) (s : Sample) →
+    loudness plan ≤ most_part width →
+    of_sample s ≡ times (scaled (amplitude_sum plan chip) plan.link.factor) (point chips) →
+    HasBits width s
 turned_fits width plan chip chips s loud is =
-    let x = amplitude_sum plan chip *ℤ plan.link.i in
-    let y = amplitude_sum plan chip *ℤ plan.link.q in
+    let x = amplitude_sum plan chip *ℤ plan.link.factor.i in
+    let y = amplitude_sum plan chip *ℤ plan.link.factor.q in
     let i : s.i ≡ (x *ℤ sign chips.0) -ℤ (y *ℤ sign chips.1) = ap (λ (z : Pair). z.i) is in
     let q : s.q ≡ (x *ℤ sign chips.1) +ℤ (y *ℤ sign chips.0) = ap (λ (z : Pair). z.q) is in
     sample_fits width plan chip (record { i = x; q = y }) s refl loud
-    (subst (λ (part : ℤ). unsigned_abs part ≤ unsigned_abs x + unsigned_abs y) (sym i) (turned_i_most x y chips.0 chips.1))
-    (subst (λ (part : ℤ). unsigned_abs part ≤ unsigned_abs x + unsigned_abs y) (sym q) (turned_q_most x y chips.0 chips.1))
+    (subst (λ (part : ℤ). unsigned_abs part ≤ unsigned_abs x + unsigned_abs y) (sym i)
+    (turned_i_most x y chips.0 chips.1))
+    (subst (λ (part : ℤ). unsigned_abs part ≤ unsigned_abs x + unsigned_abs y) (sym q)
+    (turned_q_most x y chips.0 chips.1))
 
 -- each sample of a lawful plan is one
-made_fits : (width : Width) (plan : CellPlan) (k : ℕ) → loudness plan ≤ most_part width → k < plan.samples → HasBits width (get_or (made_samples plan) k no_sample)
+made_fits : (width : Width) (plan : CellPlan) (k : ℕ) → loudness plan ≤ most_part width →
+    k < plan.link.samples → HasBits width (get_or (made_samples plan) k no_sample)
 made_fits width plan k loud below =
-    let chip = plan.start + k in
-    turned_fits width plan chip (pilot_chip ((chip + 32768 - 64 * plan.pn) % 32768)) (get_or (made_samples plan) k no_sample) loud (made_at plan k below ∙ signal plan k)
+    let chip = plan.link.start + k in
+    turned_fits width plan chip (pilot_chip ((chip + 32768 - 64 * plan.cell.pn) % 32768))
+    (get_or (made_samples plan) k no_sample) loud (made_at plan k below ∙ signal plan k)
 
-all_made_fit : (width : Width) (plan : CellPlan) → loudness plan ≤ most_part width → All (HasBits width) (made_samples plan)
+all_made_fit : (width : Width) (plan : CellPlan) → loudness plan ≤ most_part width →
+    All (HasBits width) (made_samples plan)
 all_made_fit width plan loud =
-    All-from_get_or (HasBits width) (made_samples plan) no_sample (λ k below. made_fits width plan k loud (omega (arith, below, length-made plan)))
+    All-from_get_or (HasBits width) (made_samples plan) no_sample
+    (λ k below. made_fits width plan k loud (omega (arith, below, length-made plan)))
 
 -- ---- the file
 
-made_spelled : (width : Width) (plan : CellPlan) → made_file width plan ≡ header_spelling (header_of width plan) ++ flat_map (sample_spelling width) (made_samples plan)
+made_spelled : (width : Width) (plan : CellPlan) →
+    made_file width plan ≡
+    header_spelling (header_of width plan) ++ flat_map (sample_spelling width) (made_samples plan)
 unfolding made_file
 made_spelled width plan = refl
 
 -- the file of a lawful plan
-lawful_readable : (width : Width) (plan : CellPlan) → IsLawfulPlan width plan → IsSampleFile (made_file width plan) (header_of width plan) (made_samples plan)
+lawful_readable : (width : Width) (plan : CellPlan) → IsLawfulPlan width plan →
+    IsSampleFile (made_file width plan) (header_of width plan) (made_samples plan)
 lawful_readable width plan lawful =
     let read = sym (made_width width plan) in
     record {
       lawful = made_header width plan lawful.samples;
       counted = length-made plan;
-      in_range = subst (λ (w : Width). All (HasBits w) (made_samples plan)) read (all_made_fit width plan lawful.loud);
-      spelled = subst (λ (w : Width). made_file width plan ≡ header_spelling (header_of width plan) ++ flat_map (sample_spelling w) (made_samples plan)) read (made_spelled width plan);
+      in_range =
+          subst (λ (w : Width). All (HasBits w) (made_samples plan)) read
+          (all_made_fit width plan lawful.loud);
+      spelled =
+          subst (λ (w : Width). made_file width plan ≡
+          header_spelling (header_of width plan) ++
+          flat_map (sample_spelling w) (made_samples plan)) read (made_spelled width plan);
     }
 
 -- ---- the laws
 
 -- the file that is made of a script is a sample file of the cell's samples
-pub made_readable : (width : Width) (script : List ℕ) (plan : CellPlan) → plan_named width script ≡ Ok plan →
+pub made_readable : (width : Width) (script : List ℕ) (plan : CellPlan) →
+    plan_named width script ≡ Ok plan →
     IsSampleFile (made_file width plan) (header_of width plan) (made_samples plan)
-made_readable width script plan named = lawful_readable width plan (named_plan width script plan named).0
+made_readable width script plan named =
+    lawful_readable width plan (named_plan width script plan named).0
 
 -- and a clean link, where the search finds the cell's path and there is one finger
-pub made_clean : (width : Width) (script : List ℕ) (plan : CellPlan) (r : Reception) → plan_named width script ≡ Ok plan →
-    best_phase (take r.span (made_samples plan)) ≡ phase_at plan plan.start → r.fingers ≡ Some 1 →
-    IsCleanLink width script plan r (header_of width plan) (made_samples plan)
+pub made_clean : (width : Width) (script : List ℕ) (plan : CellPlan) (r : Reception) →
+    plan_named width script ≡ Ok plan →
+    best_phase (take r.span (made_samples plan)) ≡ phase_at plan plan.link.start →
+    r.fingers ≡ Some 1 →
+    IsCleanLink width script plan r.span r.fingers (header_of width plan) (made_samples plan)
 made_clean width script plan r named found alone =
-    record { named = named; sent = refl; checks_of_30 = refl; checks_of_16 = refl; found = found; alone = alone }
+    record {
+      named = named;
+      sent = refl;
+      checks_of_30 = refl;
+      checks_of_16 = refl;
+      found = found;
+      alone = alone;
+    }

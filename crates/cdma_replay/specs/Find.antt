@@ -7,7 +7,7 @@ use Rattle.chip_core.specs.declared.sample.Sample.{Sample}
 use Rattle.cdma_io.specs.declared.header.Header.{Header}
 use Rattle.cdma_io.specs.declared.file_fault.FileFault.{FileFault}
 use Rattle.cdma_io.specs.declared.file_fault.FileFault.TheVariants.{Short, Extra, ReadFault, TooFew}
-use Rattle.cdma_io.specs.SampleFile.{IsSampleFile, HasBits, Reading, header_spelling, next_place, opening, sample_len, sample_spelling, width_of}
+use Rattle.cdma_io.specs.SampleFile.{IsLawfulHeader, IsSampleFile, HasBits, Reading, header_spelling, next_place, opening, sample_len, sample_spelling, width_of}
 use Rattle.cdma_io.specs.declared.width.Width.{Width}
 use Rattle.cdma_replay.specs.declared.status.Status.{Status}
 use Rattle.cdma_replay.specs.declared.status.Status.TheVariants as ends
@@ -22,6 +22,16 @@ pub record IsSearchable (bytes : List ℕ) (span : ℕ) : Type 0 where
   pub file : IsSampleFile bytes header samples
   pub enough : span ≤ length samples
 
+-- bytes that begin with a lawful header that counts so many samples or more, and with so many of them
+pub record BeginsFile (span : ℕ) (bytes : List ℕ) : Type 0 where
+  pub header : Header
+  pub samples : List Sample
+  pub lawful : IsLawfulHeader header
+  pub enough : span ≤ header.count
+  pub counted : length samples ≡ span
+  pub begins : StartsWith bytes
+      (header_spelling header ++ flat_map (sample_spelling (width_of header)) samples)
+
 -- known bytes lost the spellings of so many samples of this width
 pub record PassesSamples (width : Width) (count : ℕ) (old new : Option (List ℕ)) : Type 0 where
   pub samples : List Sample
@@ -30,21 +40,27 @@ pub record PassesSamples (width : Width) (count : ℕ) (old new : Option (List �
   pub consumed : Consumes old new (flat_map (sample_spelling width) samples)
 
 -- the file of these bytes was read, its text written, and the run ended as it should
-pub record WritesText (r : Reception) (status : Status) (bytes : List ℕ) (old new : Option (List ℕ)) : Type 0 where
+pub record WritesText (r : Reception) (status : Status) (bytes : List ℕ)
+    (old new : Option (List ℕ)) : Type 0 where
   pub searchable : IsSearchable bytes r.span
   pub written : Appends old new (file_text r searchable.header searchable.samples)
   pub ends : status ≡ file_end_of r searchable.header searchable.samples
 
--- a text is a beginning of the text of samples, as many as the span is or more, with which the file of these bytes begins
+-- a text is a beginning of the text of samples, as many as the span is or more, with which the file
+-- of these bytes begins
 pub record BeginsText (r : Reception) (rest : Option (List ℕ)) (text : List ℕ) : Type 0 where
   pub header : Header
   pub samples : List Sample
   pub counted : r.span ≤ length samples
-  pub first : IfSome rest (λ bytes. StartsWith bytes (header_spelling header ++ flat_map (sample_spelling (width_of header)) samples))
+  pub first :
+      IfSome rest
+      (λ bytes. StartsWith bytes
+      (header_spelling header ++ flat_map (sample_spelling (width_of header)) samples))
   pub begins : StartsWith (file_text r header samples) text
 
 -- known bytes grew by nothing, or by a beginning of that text
-pub record WritesNoMore (r : Reception) (rest : Option (List ℕ)) (old new : Option (List ℕ)) : Type 0 where
+pub record WritesNoMore (r : Reception) (rest : Option (List ℕ)) (old new : Option (List ℕ)) :
+    Type 0 where
   pub text : List ℕ
   pub written : Appends old new text
   pub part : (text ≡ []) ⊎ BeginsText r rest text
@@ -69,19 +85,25 @@ file_end header = 16 + sample_len (width_of header) * header.count
 -- a fault that a file of this header and of so many bytes has behind the header
 abbrev pub IsLaterFault : ℕ → Header → ℕ → FileFault → Type 0
 IsLaterFault span header len (TooFew count) = (count ≡ header.count) × (count < span)
-IsLaterFault span header len (Short place) = (span ≤ header.count) × (place ≡ len) × (len < file_end header)
-IsLaterFault span header len (Extra place) = (span ≤ header.count) × (place ≡ file_end header) × (place < len)
+IsLaterFault span header len (Short place) =
+    (span ≤ header.count) × (place ≡ len) × (len < file_end header)
+IsLaterFault span header len (Extra place) =
+    (span ≤ header.count) × (place ≡ file_end header) × (place < len)
 IsLaterFault span header len _ = ⊥
 
 -- the one fault of these bytes as a file of so many samples or more
 abbrev pub IsFaultIn : ℕ → List ℕ → FileFault → Type 0
 IsFaultIn span bytes fault =
-    (opening bytes ≡ Err fault) ⊎ ((header : Header) × (opening bytes ≡ Ok header) × IsLaterFault span header (length bytes) fault)
+    (opening bytes ≡ Err fault) ⊎
+    ((header : Header) × (opening bytes ≡ Ok header) ×
+    IsLaterFault span header (length bytes) fault)
 
 -- a fault that a reader meets in what it has left, so many bytes
 abbrev pub IsRestFault : Reading → ℕ → FileFault → Type 0
-IsRestFault reading len (Short place) = (place ≡ next_place reading + len) × (len < sample_len (width_of reading.header) * reading.left)
-IsRestFault reading len (Extra place) = (place ≡ file_end reading.header) × (sample_len (width_of reading.header) * reading.left < len)
+IsRestFault reading len (Short place) =
+    (place ≡ next_place reading + len) × (len < sample_len (width_of reading.header) * reading.left)
+IsRestFault reading len (Extra place) =
+    (place ≡ file_end reading.header) × (sample_len (width_of reading.header) * reading.left < len)
 IsRestFault reading len _ = ⊥
 
 -- how a run ends that went through or not

@@ -1,5 +1,5 @@
 -- What is written of a sample file, and what a handset tells on the way.
-use Rattle.std.specs.Prelude.{◌≡◌, ℕ, ◌-◌, ◌≤◌, replicate, pos, slice_get, Bool, true, if◌then◌else◌, List, [], ◌++◌, length, take, All, Option, None, Some, IfSome, is_some}
+use Rattle.std.specs.Prelude.{◌≡◌, ℕ, ◌-◌, ◌≤◌, replicate, pos, slice_get, Bool, true, if◌then◌else◌, List, [], ◌++◌, length, take, All, Option, None, Some, IfSome, is_some, nat_lt}
 use Rattle.std.specs.List.{flat_map}
 use Rattle.std.specs.Io.{StartsWith}
 use Rattle.std.specs.Io.KnownBytes.{Appends, Consumes}
@@ -10,6 +10,7 @@ use Rattle.cdma_io.specs.SampleFile.{HasBits, sample_spelling}
 use Rattle.pilot_search.specs.Near.{near_deltas}
 use Rattle.pilot_search.specs.Search.{energy, best_phase}
 use Rattle.pilot_search.specs.declared.paths.Near.{Near}
+use Rattle.base_modulator.specs.declared.plan.CellPlan.{CellPlan}
 use Rattle.mobile_core.specs.Events.{events}
 use Rattle.mobile_core.specs.Marks.{mark}
 use Rattle.mobile_core.specs.Standing.{StandsFor, has_room}
@@ -17,6 +18,7 @@ use Rattle.mobile_core.specs.Tuning.{Tuning}
 use Rattle.mobile_core.specs.declared.event.Event.{Event}
 use Rattle.mobile_core.specs.declared.mobile.Mobile.{Mobile}
 use Rattle.event_tap.specs.Lines.{pilot_line, text_of}
+use Rattle.clean_link.specs.CleanLink.{sent_events}
 use Rattle.cdma_replay.specs.declared.receiving.Reception.{Reception}
 use Rattle.cdma_replay.specs.declared.status.Status.{Status}
 use Rattle.cdma_replay.specs.declared.status.Status.TheVariants.{Done, NoSync}
@@ -27,9 +29,16 @@ use Rattle.cdma_replay.specs.declared.status.Status.TheVariants.{Done, NoSync}
 unfoldable pub best_line : List Sample → List ℕ
 best_line samples = pilot_line (best_phase samples) (energy samples (best_phase samples))
 
--- a handset that follows a file of this header over so many fingers, where the pilot was searched in its first samples
+-- a handset that follows a file of this header over so many fingers, where the pilot was searched
+-- in its first samples
 abbrev pub tuning_for : Header → List Sample → ℕ → Tuning
-tuning_for header first fingers = record { count = header.count; phase = best_phase first; deltas = near_deltas first (best_phase first) fingers; check30 = header.check30 }
+tuning_for header first fingers =
+    record {
+      count = header.count;
+      phase = best_phase first;
+      deltas = near_deltas first (best_phase first) fingers;
+      check30 = header.check30;
+    }
 
 -- there is none without fingers
 abbrev pub tuning_of : Header → List Sample → Option ℕ → Option Tuning
@@ -43,7 +52,9 @@ events_in (Some t) samples = events t samples
 
 -- the text of a file, or of one of which only so many samples are known
 unfoldable pub file_text : Reception → Header → List Sample → List ℕ
-file_text r header samples = best_line (take r.span samples) ++ text_of (events_in (tuning_of header (take r.span samples) r.fingers) samples)
+file_text r header samples =
+    best_line (take r.span samples) ++
+    text_of (events_in (tuning_of header (take r.span samples) r.fingers) samples)
 
 -- a handset ends well where a message told it the time
 abbrev pub is_told : Option Tuning → List Sample → Bool
@@ -55,7 +66,12 @@ end_when told = if told then Done else NoSync
 
 -- how a run over a good file ends
 unfoldable pub file_end_of : Reception → Header → List Sample → Status
-file_end_of r header samples = end_when (is_told (tuning_of header (take r.span samples) r.fingers) samples)
+file_end_of r header samples =
+    end_when (is_told (tuning_of header (take r.span samples) r.fingers) samples)
+
+-- how a run over a clean link ends: each whole sending tells the time
+abbrev pub clean_end : CellPlan → Status
+clean_end plan = end_when (nat_lt 0 (length (sent_events plan)))
 
 -- ---- what the search hands on
 
@@ -64,12 +80,15 @@ abbrev pub AreNearTo : List Sample → ℕ → Option ℕ → Option Near → Ty
 AreNearTo samples phase None None = Unit {0}
 AreNearTo samples phase None (Some near) = ⊥
 AreNearTo samples phase (Some fingers) None = ⊥
-AreNearTo samples phase (Some fingers) (Some near) = (near.count ≡ fingers) × (near.deltas ≡ near_deltas samples phase fingers ++ replicate (3 - fingers) (pos 0))
+AreNearTo samples phase (Some fingers) (Some near) =
+    (near.count ≡ fingers) ×
+    (near.deltas ≡ near_deltas samples phase fingers ++ replicate (3 - fingers) (pos 0))
 
 -- from one to three of them, the best phase first
 abbrev pub AreReady : Option Near → Type 0
 AreReady None = Unit {0}
-AreReady (Some near) = (1 ≤ near.count) × (near.count ≤ 3) × (slice_get near.deltas 0 ≡ Some (pos 0))
+AreReady (Some near) =
+    (1 ≤ near.count) × (near.count ≤ 3) × (slice_get near.deltas 0 ≡ Some (pos 0))
 
 -- ---- a handset on the way
 
@@ -90,38 +109,46 @@ abbrev pub HasRoomFor : Option Mobile → ℕ → Type 0
 HasRoomFor None count = Unit {0}
 HasRoomFor (Some mobile) count = count ≤ has_room mobile
 
--- it has taken these samples and given all events that end within them, and a sink got the lines of those that weren't given
--- before
-pub record Tells (t : Option Tuning) (handset : Option Mobile) (given : List Event) (heard : List Sample) (old new : Option (List ℕ)) : Type 0 where
+-- it has taken these samples and given all events that end within them, and a sink got the lines of
+-- those that weren't given before
+pub record Tells (t : Option Tuning) (handset : Option Mobile) (given : List Event)
+    (heard : List Sample) (old new : Option (List ℕ)) : Type 0 where
   pub text : List ℕ
   pub written : Appends old new text
   pub all : text_of given ++ text ≡ text_of (events_in t heard)
   pub stands : HasGiven t handset heard (events_in t heard)
 
--- a sink got a beginning of the lines of the events that end within these samples, so far as they weren't given before
-pub record TellsPart (t : Option Tuning) (given : List Event) (heard : List Sample) (old new : Option (List ℕ)) : Type 0 where
+-- a sink got a beginning of the lines of the events that end within these samples, so far as they
+-- weren't given before
+pub record TellsPart (t : Option Tuning) (given : List Event) (heard : List Sample)
+    (old new : Option (List ℕ)) : Type 0 where
   pub text : List ℕ
   pub written : Appends old new text
   pub begins : StartsWith (text_of (events_in t heard)) (text_of given ++ text)
 
 -- a handset has given these events behind others, and a sink got their lines
-pub record HasTold (t : Tuning) (mobile : Mobile) (given : List Event) (heard : List Sample) (old new : Option (List ℕ)) : Type 0 where
+pub record HasTold (t : Tuning) (mobile : Mobile) (given : List Event) (heard : List Sample)
+    (old new : Option (List ℕ)) : Type 0 where
   pub more : List Event
   pub written : Appends old new (text_of more)
   pub stands : StandsFor t mobile heard (given ++ more)
 
 -- a source lost the spellings of so many samples, and the handset heard them
-pub record HearsRest (t : Option Tuning) (width : Width) (count : ℕ) (handset : Option Mobile) (heard : List Sample) (rest left old new : Option (List ℕ)) : Type 0 where
+pub record HearsRest (t : Option Tuning) (width : Width) (count : ℕ) (handset : Option Mobile)
+    (heard : List Sample) (rest left old new : Option (List ℕ)) : Type 0 where
   pub samples : List Sample
   pub counted : length samples ≡ count
   pub in_range : All (HasBits width) samples
   pub consumed : Consumes rest left (flat_map (sample_spelling width) samples)
   pub tells : Tells t handset (events_in t heard) (heard ++ samples) old new
 
--- a source begins with the spellings of samples, and a sink got a beginning of what a handset hears in them
-pub record HearsPart (t : Option Tuning) (width : Width) (heard : List Sample) (rest old new : Option (List ℕ)) : Type 0 where
+-- a source begins with the spellings of samples, and a sink got a beginning of what a handset hears
+-- in them
+pub record HearsPart (t : Option Tuning) (width : Width) (heard : List Sample)
+    (rest old new : Option (List ℕ)) : Type 0 where
   pub samples : List Sample
   pub first : IfSome rest (λ bytes. StartsWith bytes (flat_map (sample_spelling width) samples))
   pub text : List ℕ
   pub written : Appends old new text
-  pub begins : StartsWith (text_of (events_in t (heard ++ samples))) (text_of (events_in t heard) ++ text)
+  pub begins : StartsWith (text_of (events_in t (heard ++ samples)))
+      (text_of (events_in t heard) ++ text)

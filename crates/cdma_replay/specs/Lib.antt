@@ -1,9 +1,6 @@
-pub mod CleanLaws
-pub mod CleanLink
 pub mod Find
 pub mod Hearing
+pub mod MadeLaws
 pub mod Make
-pub mod Signals
 pub mod Status
 pub mod Words
-mod Worked

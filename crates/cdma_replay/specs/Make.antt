@@ -1,28 +1,19 @@
 -- What the command `make` reads and writes.
-use Rattle.std.specs.Prelude.{◌≡◌, ℕ, ◌++◌, ◌⊎◌, List, [], map, take, drop, Option, IfSome, Ok}
+use Rattle.std.specs.Prelude.{◌≡◌, ℕ, ◌++◌, ◌⊎◌, List, [], take, drop, Option, IfSome, Ok}
 use Rattle.std.specs.List.{flat_map}
 use Rattle.std.specs.Io.{StartsWith}
 use Rattle.std.specs.Io.KnownBytes.{Appends}
-use Rattle.chip_core.specs.declared.sample.Pair.{Pair}
-use Rattle.chip_core.specs.declared.sample.Sample.{Sample}
 use Rattle.cdma_io.specs.declared.width.Width.{Width}
 use Rattle.cdma_io.specs.SampleFile.{header_spelling, sample_spelling}
 use Rattle.base_modulator.specs.declared.plan.CellPlan.{CellPlan}
 use Rattle.base_modulator.specs.Script.{plan_named}
-use Rattle.base_modulator.specs.Signal.{samples_of}
+use Rattle.base_modulator.specs.Sampled.{made_samples}
 use Rattle.base_modulator.specs.Transmitter.{header_of}
 
--- the sample with the parts of a complex number
-abbrev pub sample_with : Pair → Sample
-sample_with z = record { i = z.i; q = z.q }
-
--- the samples of a cell
-unfoldable pub made_samples : CellPlan → List Sample
-made_samples plan = map sample_with (samples_of plan)
-
--- the bytes of so many of them from a place on
+-- the bytes of so many of a cell's samples from a place on
 abbrev pub piece_bytes : Width → CellPlan → ℕ → ℕ → List ℕ
-piece_bytes width plan given count = flat_map (sample_spelling width) (take count (drop given (made_samples plan)))
+piece_bytes width plan given count =
+    flat_map (sample_spelling width) (take count (drop given (made_samples plan)))
 
 -- the bytes of all
 abbrev pub sample_bytes : Width → CellPlan → List ℕ
@@ -33,7 +24,8 @@ unfoldable pub made_file : Width → CellPlan → List ℕ
 made_file width plan = header_spelling (header_of width plan) ++ sample_bytes width plan
 
 -- the script of these bytes names a cell, and its file was written
-pub record WritesMadeFile (width : Width) (bytes : List ℕ) (old new : Option (List ℕ)) : Type 0 where
+pub record WritesMadeFile (width : Width) (bytes : List ℕ) (old new : Option (List ℕ)) :
+    Type 0 where
   pub plan : CellPlan
   pub named : plan_named width bytes ≡ Ok plan
   pub written : Appends old new (made_file width plan)

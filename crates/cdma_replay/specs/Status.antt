@@ -1,4 +1,5 @@
--- The exit status and the text of each end of a run, and how a fault of the file or of the script ends one.
+-- The exit status and the text of each end of a run, and how a fault of the file or of the script
+-- ends one.
 use Rattle.std.specs.Prelude.{ℕ, List, ◌++◌, codes, decimal, Option, None, Some}
 use Rattle.cdma_io.specs.declared.file_fault.FileFault.{FileFault}
 use Rattle.cdma_io.specs.declared.file_fault.FileFault.TheVariants as file

@@ -1,4 +1,5 @@
 -- The words of the command line, as lists of bytes, and the job that they name.
+use Rattle.chip_core.specs.Decimals.{digits_from}
 use Rattle.std.specs.Prelude.{ℕ, ◌+◌, ◌*◌, ◌-◌, ◌≤◌, nat_eq, nat_le, Bool, true, false, ◌&&◌, if◌then◌else◌, List, [], ◌∷◌, length, take, drop, map, codes, string_bytes, Option, None, Some, is_none, IfSome}
 use Rattle.std.specs.Char.{is_ascii_digit}
 use Rattle.std.specs.Option.{option_and_then}
@@ -18,14 +19,11 @@ use Rattle.cdma_replay.specs.declared.words.Choices.{Choices}
 
 -- ---- numbers
 
--- a number in decimal behind another: digits alone, leading zeros too
-unfoldable pub digits_from : ℕ → List ℕ → Option ℕ
-digits_from number [] = Some number
-digits_from number (digit ∷ digits) = if is_ascii_digit digit then digits_from (10 * number + (digit - 48)) digits else None
-
 -- the number that 1 to 20 digits spell
 abbrev pub number_in : List ℕ → Option ℕ
-number_in text = if nat_le 1 (length text) then (if nat_le (length text) 20 then digits_from 0 text else None) else None
+number_in text =
+    if nat_le 1 (length text) then (if nat_le (length text) 20 then digits_from 0 text else None)
+    else None
 
 -- ---- the table of options
 
@@ -87,8 +85,10 @@ with_bits choices number = Some (record choices { bits = Some number })
 
 abbrev pub with_setting : Choices → Setting → List ℕ → Option Choices
 with_setting choices Span text = option_and_then (with_span choices) (chosen Span choices.span text)
-with_setting choices Workers text = option_and_then (with_workers choices) (chosen Workers choices.workers text)
-with_setting choices Fingers text = option_and_then (with_fingers choices) (chosen Fingers choices.fingers text)
+with_setting choices Workers text =
+    option_and_then (with_workers choices) (chosen Workers choices.workers text)
+with_setting choices Fingers text =
+    option_and_then (with_fingers choices) (chosen Fingers choices.fingers text)
 with_setting choices Bits text = option_and_then (with_bits choices) (chosen Bits choices.bits text)
 
 -- with a word `--name=text`, and with two words `--name text`
@@ -101,7 +101,8 @@ with_joined choices word =
     else None
 
 abbrev pub with_named : Choices → List ℕ → List ℕ → Option Choices
-with_named choices name text = option_and_then (λ s. with_setting choices s text) (setting_named name)
+with_named choices name text =
+    option_and_then (λ s. with_setting choices s text) (setting_named name)
 
 -- what words choose behind what was chosen before them
 unfoldable pub choices_behind : Option Choices → List (List ℕ) → Option Choices
@@ -128,13 +129,20 @@ only_if test job = if test then Some job else None
 
 -- each command takes its own options alone
 abbrev pub find_with : Choices → Option Job
-find_with choices = only_if (is_none choices.fingers && is_none choices.bits) (Find (or_default 2048 choices.span) (or_default 4 choices.workers))
+find_with choices =
+    only_if (is_none choices.fingers && is_none choices.bits)
+    (Find (or_default 2048 choices.span) (or_default 4 choices.workers))
 
 abbrev pub follow_with : Choices → Option Job
-follow_with choices = only_if (is_none choices.bits) (Follow (or_default 2048 choices.span) (or_default 4 choices.workers) (or_default 1 choices.fingers))
+follow_with choices =
+    only_if (is_none choices.bits)
+    (Follow (or_default 2048 choices.span) (or_default 4 choices.workers)
+    (or_default 1 choices.fingers))
 
 abbrev pub make_with : Choices → Option Job
-make_with choices = only_if (is_none choices.span && is_none choices.workers && is_none choices.fingers) (Make (width_for choices.bits))
+make_with choices =
+    only_if (is_none choices.span && is_none choices.workers && is_none choices.fingers)
+    (Make (width_for choices.bits))
 
 -- the job of a command with what its options choose
 abbrev pub command_with : List ℕ → Choices → Option Job
@@ -147,7 +155,8 @@ command_with command choices =
 -- the job that the words name
 unfoldable pub job_in : List (List ℕ) → Option Job
 job_in [] = None
-job_in (command ∷ words) = option_and_then (command_with command) (choices_behind (Some no_choices) words)
+job_in (command ∷ words) =
+    option_and_then (command_with command) (choices_behind (Some no_choices) words)
 
 -- the job that the strings of a command line name
 abbrev pub job_named : List (String Global) → Option Job
@@ -162,7 +171,8 @@ IsFingers fingers = (1 ≤ fingers) × (fingers ≤ 3)
 -- what a job does: `find` receives a file without a handset
 abbrev pub task_of : Job → Task
 task_of (Find span workers) = Receive (record { span = span; workers = workers; fingers = None })
-task_of (Follow span workers fingers) = Receive (record { span = span; workers = workers; fingers = Some fingers })
+task_of (Follow span workers fingers) =
+    Receive (record { span = span; workers = workers; fingers = Some fingers })
 task_of (Make width) = tasks.Make width
 
 abbrev pub task_in : Option Job → Option Task

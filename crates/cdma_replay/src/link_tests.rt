@@ -1,12 +1,8 @@
 //! Whole links over memory: what `make` sends, `follow` hears.
 
-ghost use Rattle.std.specs.Prelude.{◌≤◌};
-
-use crate::test_words::words_of;
-use crate::{Status, replay};
+use crate::Status;
+use crate::test_runs::{Outside, STEADY, run, zero_file};
 use base_modulator::ScriptFault;
-use cdma_io::{MemorySink, MemorySource};
-use pilot_search::Open;
 use std::alloc::Global;
 use std::test::Fail;
 use std::thread::Threads;
@@ -21,35 +17,37 @@ const LATER_CELL: &str = "cell pn=511 time=1000 lc=20000000000 checks=0\n\
                           link re=0 im=-3 start=102400 samples=1228800\n\
                           pilot gain=100\n";
 
-/// The beginning of the first, with one message.
-const SHORTER_CELL: &str = "cell pn=511 time=1000 lc=20000000000 checks=0\n\
-                            link re=0 im=-3 start=0 samples=294848\n\
-                            pilot gain=100\n";
+/// The first with gains that samples of 8 bits can hold.
+const QUIET_CELL: &str = "cell pn=511 time=1000 lc=20000000000 checks=0\n\
+                          link re=0 im=-3 start=0 samples=1228800\n\
+                          pilot gain=10\n";
 
 /// Its sync channel.
+const QUIET_SYNC: &str =
+    "sync gain=3 prev=3 min=1 sid=1 nid=2 lp=13 ltm=0 daylt=0 prat=0 rest=3:00\n";
+
+/// One frame of the sync channel lies in the file.
+const ONE_FRAME_CELL: &str = "cell pn=511 time=1000 lc=20000000000 checks=0\n\
+                              link re=0 im=-3 start=0 samples=65472\n\
+                              pilot gain=100\n";
+
+/// The link is too strong for samples of 16 bits.
+const LOUD_CELL: &str = "cell pn=511 time=1000 lc=20000000000 checks=0\n\
+                         link re=32767 im=-3 start=0 samples=1228800\n\
+                         pilot gain=100\n";
+
+/// One sample more than a file of 16 bits may have.
+const ENDLESS_CELL: &str = "cell pn=511 time=1000 lc=20000000000 checks=0\n\
+                            link re=0 im=-3 start=0 samples=33554433\n\
+                            pilot gain=100\n";
+
+/// The sync channel of the first.
 const SYNC: &str = "sync gain=30 prev=3 min=1 sid=1 nid=2 lp=13 ltm=0 daylt=0 prat=0 rest=3:00\n";
 
 /// A cell of one sample.
 const SHORT_CELL: &str = "cell pn=0 time=1000 lc=20000000000 checks=0\n\
                           link re=0 im=-3 start=0 samples=1\n\
                           pilot gain=100\n";
-
-/// How a run of a command line over an input ends, from a source of so many bytes a call, and what it writes.
-fn run<R: AllocGlobal + Threads + Sync>(
-    rt: &R,
-    line: &str,
-    input: &[u8],
-    piece: usize,
-) -> Result<(Status, Vec<u8>), Fail>
-    requires { 1 ≤ piece }
-{
-    let alloc = rt.alloc();
-    let words = words_of(alloc, line)?;
-    let mut source = MemorySource::new(Vec::from_slice(alloc, input)?, piece, Vec::new(alloc));
-    let mut sink = MemorySink::new(alloc, 5_000_000, 65536, Vec::new(alloc))?;
-    let status = replay(rt, alloc, words.as_slice(), &mut source, &mut sink, &Open);
-    Ok((status, Vec::from_slice(alloc, sink.bytes())?))
-}
 
 /// The script of two parts.
 fn script_of(alloc: Global, cell: &str, sync: &str) -> Result<Vec<u8>, Fail> {
@@ -61,34 +59,33 @@ fn script_of(alloc: Global, cell: &str, sync: &str) -> Result<Vec<u8>, Fail> {
 /// The file of a lawful script.
 fn made<R: AllocGlobal + Threads + Sync>(rt: &R, cell: &str, sync: &str) -> Result<Vec<u8>, Fail> {
     let script = script_of(rt.alloc(), cell, sync)?;
-    let (status, file) = run(rt, "make", script.as_slice(), 65536)?;
+    let (status, file) = run(rt, "make", script.as_slice(), STEADY)?;
     if status != Status::Done {
         return Err(Fail::from("the script isn't lawful"));
     }
     Ok(file)
 }
 
-#[test]
-fn a_second_of_sync_comes_back(rt: HostRuntime) -> Result<(), Fail> {
-    let file = made(&rt, CELL, SYNC)?;
-    let lines = "pilot phase=64 energy=1509949440000\n\
-        sync at=294848 prev=3 min=1 sid=1 nid=2 pn=511 lc=102a1d2e508 time=1007 lp=13 ltm=0 daylt=0 prat=0 rest=3:00\n\
-        sync at=589760 prev=3 min=1 sid=1 nid=2 pn=511 lc=007dff18942 time=1010 lp=13 ltm=0 daylt=0 prat=0 rest=3:00\n\
-        sync at=884672 prev=3 min=1 sid=1 nid=2 pn=511 lc=3c75269709e time=1013 lp=13 ltm=0 daylt=0 prat=0 rest=3:00\n\
-        sync at=1179584 prev=3 min=1 sid=1 nid=2 pn=511 lc=3a49dd8f037 time=1016 lp=13 ltm=0 daylt=0 prat=0 rest=3:00\n";
-    let (status, text) = run(&rt, "follow", file.as_slice(), 65536)?;
-    assert_eq!(rt; status, Status::Done);
-    assert_eq!(rt; text.as_slice(), lines.as_bytes());
-    Ok(())
-}
+/// The lines of the four sendings that lie in its file whole.
+const LINES: &str = "sync at=294848 prev=3 min=1 sid=1 nid=2 pn=511 lc=102a1d2e508 time=1007 \
+    lp=13 ltm=0 daylt=0 prat=0 rest=3:00\n\
+    sync at=589760 prev=3 min=1 sid=1 nid=2 pn=511 lc=007dff18942 time=1010 \
+    lp=13 ltm=0 daylt=0 prat=0 rest=3:00\n\
+    sync at=884672 prev=3 min=1 sid=1 nid=2 pn=511 lc=3c75269709e time=1013 \
+    lp=13 ltm=0 daylt=0 prat=0 rest=3:00\n\
+    sync at=1179584 prev=3 min=1 sid=1 nid=2 pn=511 lc=3a49dd8f037 time=1016 \
+    lp=13 ltm=0 daylt=0 prat=0 rest=3:00\n";
 
 #[test]
-fn seven_bytes_a_call_change_nothing(rt: HostRuntime) -> Result<(), Fail> {
-    let file = made(&rt, SHORTER_CELL, SYNC)?;
-    let lines = "pilot phase=64 energy=1509949440000\n\
-        sync at=294848 prev=3 min=1 sid=1 nid=2 pn=511 lc=102a1d2e508 time=1007 lp=13 ltm=0 daylt=0 prat=0 rest=3:00\n";
-    for piece in [65536, 7] {
-        let (status, text) = run(&rt, "follow", file.as_slice(), piece)?;
+fn a_second_of_sync_comes_back_in_any_pieces(rt: HostRuntime) -> Result<(), Fail> {
+    let file = made(&rt, CELL, SYNC)?;
+    let lines = format!(in rt.alloc(); "pilot phase=64 energy=1509949440000\n{LINES}")?;
+    for source_piece in [65536, 7] {
+        let outside = Outside {
+            source_piece,
+            ..STEADY
+        };
+        let (status, text) = run(&rt, "follow", file.as_slice(), outside)?;
         assert_eq!(rt; status, Status::Done);
         assert_eq!(rt; text.as_slice(), lines.as_bytes());
     }
@@ -96,15 +93,24 @@ fn seven_bytes_a_call_change_nothing(rt: HostRuntime) -> Result<(), Fail> {
 }
 
 #[test]
+fn samples_of_8_bits_tell_the_same(rt: HostRuntime) -> Result<(), Fail> {
+    let script = script_of(rt.alloc(), QUIET_CELL, QUIET_SYNC)?;
+    let (status, file) = run(&rt, "make --bits 8", script.as_slice(), STEADY)?;
+    assert_eq!(rt; status, Status::Done);
+    assert_eq!(rt; file.len(), 2_457_616);
+    let lines = format!(in rt.alloc(); "pilot phase=64 energy=15099494400\n{LINES}")?;
+    let (status, text) = run(&rt, "follow", file.as_slice(), STEADY)?;
+    assert_eq!(rt; status, Status::Done);
+    assert_eq!(rt; text.as_slice(), lines.as_bytes());
+    Ok(())
+}
+
+#[test]
 fn three_fingers_hear_it_four_samples_later(rt: HostRuntime) -> Result<(), Fail> {
     let alloc = rt.alloc();
     let file = made(&rt, CELL, SYNC)?;
-    let (status, text) = run(
-        &rt,
-        "follow --span=2048 --fingers 3",
-        file.as_slice(),
-        65536,
-    )?;
+    let line = "follow --span=2048 --fingers 3";
+    let (status, text) = run(&rt, line, file.as_slice(), STEADY)?;
     assert_eq!(rt; status, Status::Done);
     for place in [294852, 589764, 884676, 1179588] {
         let start = format!(in alloc; "sync at={place} prev=3 ")?;
@@ -120,24 +126,31 @@ fn three_fingers_hear_it_four_samples_later(rt: HostRuntime) -> Result<(), Fail>
 #[test]
 fn a_message_under_way_is_not_shown(rt: HostRuntime) -> Result<(), Fail> {
     let file = made(&rt, LATER_CELL, SYNC)?;
-    let (status, text) = run(&rt, "follow --fingers=1", file.as_slice(), 65536)?;
+    let (status, text) = run(&rt, "follow --fingers=1", file.as_slice(), STEADY)?;
     assert_eq!(rt; status, Status::Done);
-    let start =
-        "pilot phase=4160 energy=1509949440000\nsync at=487360 prev=3 min=1 sid=1 nid=2 pn=511 lc=";
+    let start = "pilot phase=4160 energy=1509949440000\n\
+        sync at=487360 prev=3 min=1 sid=1 nid=2 pn=511 lc=007dff18942 time=1010 \
+        lp=13 ltm=0 daylt=0 prat=0 rest=3:00\n";
     assert!(rt; text.as_slice().starts_with(start.as_bytes()));
-    assert!(rt;
-        text.as_slice()
-            .windows(10)
-            .any(|piece| piece == b" time=1010".as_slice())
+    Ok(())
+}
+
+#[test]
+fn one_frame_has_no_message(rt: HostRuntime) -> Result<(), Fail> {
+    let file = made(&rt, ONE_FRAME_CELL, SYNC)?;
+    let (status, text) = run(&rt, "follow", file.as_slice(), STEADY)?;
+    assert_eq!(rt; status, Status::NoSync);
+    assert_eq!(rt;
+        text.as_slice(),
+        b"pilot phase=64 energy=1509949440000\n".as_slice()
     );
     Ok(())
 }
 
 #[test]
 fn without_sync_there_is_no_message(rt: HostRuntime) -> Result<(), Fail> {
-    let alloc = rt.alloc();
     let file = made(&rt, CELL, "")?;
-    let (status, text) = run(&rt, "follow", file.as_slice(), 65536)?;
+    let (status, text) = run(&rt, "follow", file.as_slice(), STEADY)?;
     assert_eq!(rt; status, Status::NoSync);
     assert_eq!(rt; status.code(), 1);
     assert_eq!(rt;
@@ -145,14 +158,8 @@ fn without_sync_there_is_no_message(rt: HostRuntime) -> Result<(), Fail> {
         b"pilot phase=64 energy=1509949440000\n".as_slice()
     );
 
-    let mut zeros = Vec::from_slice(
-        alloc,
-        b"IS95\x00\x01\x00\x00\x00\x00\x00\x00\x00\x00\x08\x00",
-    )?;
-    for _n in 0..2048 {
-        zeros.extend_from_slice(&[0; 4])?;
-    }
-    let (status, text) = run(&rt, "follow", zeros.as_slice(), 65536)?;
+    let zeros = zero_file(rt.alloc(), 2048)?;
+    let (status, text) = run(&rt, "follow", zeros.as_slice(), STEADY)?;
     assert_eq!(rt; status, Status::NoSync);
     assert_eq!(rt; text.as_slice(), b"pilot phase=0 energy=0\n".as_slice());
     Ok(())
@@ -215,7 +222,7 @@ fn clean_links_come_back(rt: HostRuntime) -> Result<(), Fail> {
         ),
     ] {
         let file = made(&rt, cell, sync)?;
-        let (ended, text) = run(&rt, "follow", file.as_slice(), 65536)?;
+        let (ended, text) = run(&rt, "follow", file.as_slice(), STEADY)?;
         assert_eq!(rt; ended, status, "{cell}");
         assert_eq!(rt; text.as_slice(), lines.as_bytes(), "{cell}");
     }
@@ -232,7 +239,7 @@ fn makes_the_first_sample(rt: HostRuntime) -> Result<(), Fail> {
     ] {
         let script = script_of(alloc, SHORT_CELL, sync)?;
         for line in ["make", "make --bits=16", "make --bits 016"] {
-            let (status, file) = run(&rt, line, script.as_slice(), 65536)?;
+            let (status, file) = run(&rt, line, script.as_slice(), STEADY)?;
             assert_eq!(rt; status, Status::Done, "{line}");
             assert_eq!(rt; file.len(), 20);
             assert!(rt; file.as_slice().starts_with(header));
@@ -244,17 +251,32 @@ fn makes_the_first_sample(rt: HostRuntime) -> Result<(), Fail> {
 
 #[test]
 fn makes_nothing_of_a_faulty_script(rt: HostRuntime) -> Result<(), Fail> {
-    let alloc = rt.alloc();
-    let script = script_of(alloc, SHORT_CELL, SYNC)?;
-    let (status, file) = run(&rt, "make --bits 8", script.as_slice(), 65536)?;
-    assert_eq!(rt;
-        status,
-        Status::BadScript(ScriptFault::TooLoud { sum: 390 })
-    );
-    assert!(rt; file.is_empty());
-    let (status, file) = run(&rt, "make", b"", 65536)?;
-    assert_eq!(rt; status, Status::BadScript(ScriptFault::Line { n: 1 }));
-    assert_eq!(rt; status.code(), 8);
-    assert!(rt; file.is_empty());
+    for (line, cell, sync, fault) in [
+        (
+            "make --bits 8",
+            SHORT_CELL,
+            SYNC,
+            ScriptFault::TooLoud { sum: 390 },
+        ),
+        (
+            "make",
+            LOUD_CELL,
+            SYNC,
+            ScriptFault::TooLoud { sum: 4_260_100 },
+        ),
+        (
+            "make",
+            ENDLESS_CELL,
+            SYNC,
+            ScriptFault::TooLong { n: 33_554_433 },
+        ),
+        ("make", "", "", ScriptFault::Line { n: 1 }),
+    ] {
+        let script = script_of(rt.alloc(), cell, sync)?;
+        let (status, file) = run(&rt, line, script.as_slice(), STEADY)?;
+        assert_eq!(rt; status, Status::BadScript(fault), "{cell}");
+        assert_eq!(rt; status.code(), 8);
+        assert!(rt; file.is_empty());
+    }
     Ok(())
 }

@@ -1,8 +1,13 @@
 //! `cdma_replay` reads a file of received samples and writes what a handset finds in it.
 //!
-//! All that the program does is [`replay`], over the words of its command line, a source and a sink.
-//! What is here makes these of the process: its arguments, standard input and standard output.
+//! All that the program does is [`replay`], over the words of its command line, a source and a
+//! sink. What is here makes these of the process: its arguments, standard input and standard
+//! output.
 #![tactic(auto)]
+
+ghost use Rattle.std.specs.Prelude.{◌≡◌, ◌≢◌, OnErr, OnOk};
+ghost use Rattle.std.specs.IoError.{error_kind};
+ghost use Rattle.cdma_replay.specs.Find.{IsEnd};
 
 pub mod laws;
 #[cfg(test)]
@@ -12,26 +17,30 @@ mod receiving;
 mod replaying;
 mod status;
 #[cfg(test)]
-mod test_words;
+mod test_runs;
 #[cfg(test)]
 mod tests;
 mod words;
 #[cfg(test)]
 mod worker_tests;
 
-use cdma_io::{ReaderSource, WriterSink};
+use cdma_io::{Failed, ReaderSource, WriterSink};
 use pilot_search::Open;
 pub use replaying::replay;
 pub use status::Status;
+use std::io::ErrorKind;
 use std::process::ExitCode;
 use std::rt::Env;
 use std::thread::Threads;
 use std::{env, io};
 
 /// How a run ends that isn't given its words.
-fn without_words(refused: io::Error) -> Status {
+fn without_words(refused: io::Error) -> Status
+    ensures memory { error_kind refused ≡ ErrorKind.OutOfMemory → result ≡ Status.NoMemory }
+    ensures others { error_kind refused ≢ ErrorKind.OutOfMemory → result ≡ Status.BadWords }
+{
     match refused.kind() {
-        io::ErrorKind::OutOfMemory => Status::NoMemory,
+        ErrorKind::OutOfMemory => Status::NoMemory,
         _ => Status::BadWords,
     }
 }
@@ -61,8 +70,18 @@ fn run<R: Env + Input + Print + AllocGlobal + Threads + Sync>(rt: &R) -> Status 
         &mut sink,
         &Open,
     );
-    match sink.flush() {
-        Err(_) if status == Status::Done || status == Status::NoSync => Status::WriteFault,
+    flushed(status, sink.flush())
+}
+
+/// How a run ends whose output was then flushed: a flush that fails is a write that fails, where
+/// nothing else did.
+fn flushed(status: Status, flush: Result<(), Failed>) -> Status
+    ensures done { OnOk flush (result ≡ status) }
+    ensures lost { OnErr flush (IsEnd status → result ≡ Status.WriteFault) }
+    ensures kept { ¬ (IsEnd status) → result ≡ status }
+{
+    match (status, flush) {
+        (Status::Done | Status::NoSync, Err(Failed)) => Status::WriteFault,
         _ => status,
     }
 }

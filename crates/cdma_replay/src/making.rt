@@ -1,6 +1,6 @@
 //! The command `make`: the samples of the cell that a script names, as a file.
 
-ghost use Rattle.std.specs.Prelude.{◌≡◌, ◌≢◌, ◌<◌, ◌≤◌, ◌*◌, length, vec_len, Ok, Err, IsOk, IfOk, IfErr, OnOk, IfSome};
+ghost use Rattle.std.specs.Prelude.{◌≡◌, ◌≢◌, ◌<◌, ◌≤◌, ◌*◌, ◌⊎◌, length, vec_len, Ok, Err, IsOk, IfOk, IfErr, OnOk, IfSome};
 ghost use Rattle.std.specs.Io.KnownBytes.{IsAtEnd};
 ghost use Rattle.cdma_io.specs.declared.file_fault.FileFault.{FileFault};
 ghost use Rattle.cdma_io.specs.Outside.{Rose};
@@ -58,15 +58,21 @@ fn open_cell<S: Source>(
     source: &mut S,
 ) -> Result<Cell, Status>
     requires { length script.old ≡ MOST_READ }
-    ensures named { IfOk result (λ cell. IfSome (S.rest source.old) (λ bytes. plan_named width bytes ≡ Ok cell.plan)) }
+    ensures named { IfOk result
+        (λ cell. IfSome (S.rest source.old) (λ bytes. plan_named width bytes ≡ Ok cell.plan)) }
     ensures fresh { IfOk result (λ cell. (cell.width ≡ width) × (cell.given ≡ 0)) }
     ensures at_end { OnOk result (IsAtEnd (S.rest source.new)) }
     ensures failed { IfErr result (λ status. status ≢ Status.Done) }
-    ensures others { (ended result ≢ Status.NoSync) × (ended result ≢ Status.BadWords) × (ended result ≢ Status.WriteFault) ×
+    ensures others { (ended result ≢ Status.NoSync) × (ended result ≢ Status.BadWords) ×
+        (ended result ≢ Status.WriteFault) ×
         ((fault : FileFault) → ended result ≢ Status.BadFile fault) }
-    ensures bad_script { (fault : ScriptFault) → ended result ≡ Status.BadScript fault → (fault ≢ ScriptFault.OutOfMemory) ×
+    ensures bad_script { (fault : ScriptFault) → ended result ≡ Status.BadScript fault →
+        (fault ≢ ScriptFault.OutOfMemory) ×
         IfSome (S.rest source.old) (λ bytes. plan_named width bytes ≡ Err fault) }
-    ensures read_fault { ended result ≡ Status.ReadFault → Rose (S.faults source.old) (S.faults source.new) }
+    ensures memory { ended result ≡ Status.NoMemory →
+        IfSome (S.rest source.old) (λ bytes. IsOk (plan_named width bytes)) }
+    ensures read_fault { ended result ≡ Status.ReadFault →
+        Rose (S.faults source.old) (S.faults source.new) }
     ensures later { S.faults source.old ≤ S.faults source.new }
 {
     let Ok(count) = fill(source, script) else {
@@ -94,13 +100,19 @@ fn make_file<S: Source, K: Sink>(
     ensures others { (ended result ≢ Status.NoSync) × (ended result ≢ Status.BadWords) ×
         ((fault : FileFault) → ended result ≢ Status.BadFile fault) }
     ensures memory { ended result ≡ Status.NoMemory → sink.new ≡ sink.old }
+    ensures early { ended result ≡ Status.NoMemory →
+        IfSome (S.rest source.old) (λ bytes. IsOk (plan_named width bytes)) }
     ensures bad_script { (fault : ScriptFault) → ended result ≡ Status.BadScript fault →
         (fault ≢ ScriptFault.OutOfMemory) × (sink.new ≡ sink.old) ×
         IfSome (S.rest source.old) (λ bytes. plan_named width bytes ≡ Err fault) }
-    ensures read_fault { ended result ≡ Status.ReadFault → Rose (S.faults source.old) (S.faults source.new) }
-    ensures write_fault { ended result ≡ Status.WriteFault → Rose (K.faults sink.old) (K.faults sink.new) }
-    ensures lawful { ended result ≡ Status.WriteFault → IfSome (S.rest source.old) (λ bytes. IsOk (plan_named width bytes)) }
-    ensures written { WritesNoMoreMade width (S.rest source.old) (K.written sink.old) (K.written sink.new) }
+    ensures read_fault { ended result ≡ Status.ReadFault →
+        Rose (S.faults source.old) (S.faults source.new) }
+    ensures write_fault { ended result ≡ Status.WriteFault →
+        Rose (K.faults sink.old) (K.faults sink.new) }
+    ensures lawful { ended result ≡ Status.WriteFault →
+        IfSome (S.rest source.old) (λ bytes. IsOk (plan_named width bytes)) }
+    ensures written { WritesNoMoreMade width (S.rest source.old) (K.written sink.old)
+        (K.written sink.new) }
     ensures later_source { S.faults source.old ≤ S.faults source.new }
     ensures later_sink { K.faults sink.old ≤ K.faults sink.new }
 {
@@ -111,10 +123,11 @@ fn make_file<S: Source, K: Sink>(
     }
 }
 
-/// Reads a script (at most one byte more than a script may have) and writes the file of the cell that it names, in samples
-/// of a width: its header, and then its samples.
+/// Reads a script (at most one byte more than a script may have) and writes the file of the cell
+/// that it names, in samples of a width: its header, and then its samples.
 ///
-/// All memory is taken before anything is written, and nothing is written of a script that names no cell.
+/// All memory is taken before anything is written, and nothing is written of a script that names no
+/// cell.
 pub fn make<S: Source, K: Sink>(
     alloc: Global,
     width: Width,
@@ -127,13 +140,19 @@ pub fn make<S: Source, K: Sink>(
     ensures others { (ended result ≢ Status.NoSync) × (ended result ≢ Status.BadWords) ×
         ((fault : FileFault) → ended result ≢ Status.BadFile fault) }
     ensures memory { ended result ≡ Status.NoMemory → sink.new ≡ sink.old }
+    ensures early { ended result ≡ Status.NoMemory → (source.new ≡ source.old) ⊎
+        IfSome (S.rest source.old) (λ bytes. IsOk (plan_named width bytes)) }
     ensures bad_script { (fault : ScriptFault) → ended result ≡ Status.BadScript fault →
         (fault ≢ ScriptFault.OutOfMemory) × (sink.new ≡ sink.old) ×
         IfSome (S.rest source.old) (λ bytes. plan_named width bytes ≡ Err fault) }
-    ensures read_fault { ended result ≡ Status.ReadFault → Rose (S.faults source.old) (S.faults source.new) }
-    ensures write_fault { ended result ≡ Status.WriteFault → Rose (K.faults sink.old) (K.faults sink.new) }
-    ensures lawful { ended result ≡ Status.WriteFault → IfSome (S.rest source.old) (λ bytes. IsOk (plan_named width bytes)) }
-    ensures written { WritesNoMoreMade width (S.rest source.old) (K.written sink.old) (K.written sink.new) }
+    ensures read_fault { ended result ≡ Status.ReadFault →
+        Rose (S.faults source.old) (S.faults source.new) }
+    ensures write_fault { ended result ≡ Status.WriteFault →
+        Rose (K.faults sink.old) (K.faults sink.new) }
+    ensures lawful { ended result ≡ Status.WriteFault →
+        IfSome (S.rest source.old) (λ bytes. IsOk (plan_named width bytes)) }
+    ensures written { WritesNoMoreMade width (S.rest source.old) (K.written sink.old)
+        (K.written sink.new) }
     ensures later_source { S.faults source.old ≤ S.faults source.new }
     ensures later_sink { K.faults sink.old ≤ K.faults sink.new }
 {

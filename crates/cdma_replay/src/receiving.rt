@@ -1,6 +1,7 @@
-//! The commands `find` and `follow`: the pilot in a sample file, and what a handset hears behind it.
+//! The commands `find` and `follow`: the pilot in a sample file, and what a handset hears behind
+//! it.
 
-ghost use Rattle.std.specs.Prelude.{◌≡◌, ◌≢◌, ◌<◌, ◌≤◌, ◌+◌, ◌*◌, ◌-◌, ◌++◌, ℕ, List, [], length, vec_len, All, Err, None, Some, Option, IfOk, OnOk, IfErr, OnErr, IfSome};
+ghost use Rattle.std.specs.Prelude.{◌≡◌, ◌≢◌, ◌<◌, ◌≤◌, ◌+◌, ◌*◌, ◌-◌, ◌++◌, ◌⊎◌, ℕ, List, [], length, vec_len, All, Err, None, Some, Option, IfOk, OnOk, IfErr, OnErr, IfSome};
 ghost use Rattle.std.specs.List.{flat_map};
 ghost use Rattle.std.specs.Io.KnownBytes.{Appends, Consumes, IsAtEnd};
 ghost use Rattle.chip_core.specs.declared.sample.Sample.{Sample};
@@ -14,7 +15,7 @@ ghost use Rattle.mobile_core.specs.declared.event.Event.{Event as TheEvent};
 ghost use Rattle.event_tap.specs.Lines.{pilot_line};
 ghost use Rattle.cdma_replay.specs.Words.{IsFingers, IsWorkers};
 ghost use Rattle.cdma_replay.specs.Hearing.{AreNearTo, AreReady, HasGiven, HasRoom, HasRoomFor, HearsPart, HearsRest, Tells, TellsPart, best_line, end_when, events_in, is_told, tuning_of};
-ghost use Rattle.cdma_replay.specs.Find.{IsEnd, IsFault, IsFaultIn, IsOfFiles, IsHeaderFault, IsRestFault, IsSearchable, WritesNoMore, WritesText, ended};
+ghost use Rattle.cdma_replay.specs.Find.{BeginsFile, IsEnd, IsFault, IsFaultIn, IsOfFiles, IsHeaderFault, IsRestFault, IsSearchable, WritesNoMore, WritesText, ended};
 
 use crate::status::Status;
 use cdma_io::{Failed, FileFault, Header, SampleReader, Sink, Source};
@@ -36,7 +37,8 @@ pub struct Reception {
     pub span: u16,
     /// How many workers search, 1 to 64. What is found doesn't depend on it.
     pub workers: u8,
-    /// Over how many fingers a handset follows the signal, 1 to 3; `None` where only the pilot is wanted.
+    /// Over how many fingers a handset follows the signal, 1 to 3; `None` where only the pilot is
+    /// wanted.
     pub fingers: Option<u8>,
 }
 
@@ -68,15 +70,17 @@ fn open_span<S: Source>(source: &mut S, span: &mut [Sample]) -> Result<SampleRea
         (header_spelling r.header ++ flat_map (sample_spelling (width_of r.header)) span.new)) }
     ensures in_range { IfOk result (λ r. All (HasBits (width_of r.header)) span.new) }
     ensures lawful { IfOk result (λ r. IsLawfulHeader r.header) }
-    ensures reader { IfOk result (λ r. (r.left + length span.old ≡ r.header.count) × (r.fault ≡ None)) }
+    ensures reader { IfOk result (λ r. (r.left + length span.old ≡ r.header.count) ×
+        (r.fault ≡ None)) }
     ensures fault { IfErr result (λ e. e ≢ FileFault.ReadFault →
-        IfSome (S.rest source.old) (λ bytes. IsSearchable bytes (length span.old) → ⊥)) }
+        IfSome (S.rest source.old) (λ bytes. ¬ (IsSearchable bytes (length span.old)))) }
     ensures place { IfErr result (λ e. e ≢ FileFault.ReadFault →
         IfSome (S.rest source.old) (λ bytes. IsFaultIn (length span.old) bytes e)) }
     ensures header_alone { IfErr result (λ e. IsHeaderFault e →
         ConsumesAtMost 16 (S.rest source.old) (S.rest source.new)) }
     ensures later { S.faults source.old ≤ S.faults source.new }
-    ensures cause { result ≡ Err FileFault.ReadFault → Rose (S.faults source.old) (S.faults source.new) }
+    ensures cause { result ≡ Err FileFault.ReadFault →
+        Rose (S.faults source.old) (S.faults source.new) }
 {
     let mut reader = SampleReader::open(source)?;
     let count = reader.header().count;
@@ -99,7 +103,8 @@ fn near_for(codes: &Codes, first: &[Sample], best: Best, fingers: Option<u8>) ->
     Some(near(first, codes, best, fingers))
 }
 
-/// A handset for a file of this header, where there are fingers. It has a table of the codes of its own.
+/// A handset for a file of this header, where there are fingers. It has a table of the codes of its
+/// own.
 fn handset_for(
     alloc: Global,
     header: Header,
@@ -108,7 +113,8 @@ fn handset_for(
 ) -> Result<Option<Mobile>, OutOfMemory>
     requires header { IsLawfulHeader header }
     requires near { AreReady near }
-    ensures given { (first : List Sample) (fingers : Option ℕ) → IsBestIn first 0 32768 best.phase best.energy → AreNearTo first best.phase fingers near →
+    ensures given { (first : List Sample) (fingers : Option ℕ) →
+        IsBestIn first 0 32768 best.phase best.energy → AreNearTo first best.phase fingers near →
         IfOk result (λ handset. HasGiven (tuning_of header first fingers) handset [] []) }
     ensures room { IfOk result (λ handset. HasRoom handset header.count) }
 {
@@ -128,8 +134,12 @@ fn handset_for(
 
 /// Writes the line of the pilot.
 fn write_pilot<K: Sink>(sink: &mut K, best: &Best) -> Result<(), Failed>
-    ensures ok { OnOk result (Appends (K.written sink.old) (K.written sink.new) (pilot_line best.now.phase best.now.energy)) }
-    ensures err { OnErr result (AppendsPrefix (K.written sink.old) (K.written sink.new) (pilot_line best.now.phase best.now.energy)) }
+    ensures ok { OnOk result
+        (Appends (K.written sink.old) (K.written sink.new)
+        (pilot_line best.now.phase best.now.energy)) }
+    ensures err { OnErr result
+        (AppendsPrefix (K.written sink.old) (K.written sink.new)
+        (pilot_line best.now.phase best.now.energy)) }
     ensures cause { HasCause (K.faults sink.old) (K.faults sink.new) result }
 {
     let pilot = Event::Pilot {
@@ -143,9 +153,12 @@ fn write_pilot<K: Sink>(sink: &mut K, best: &Best) -> Result<(), Failed>
 fn tell<K: Sink>(mobile: &mut Mobile, samples: &[Sample], sink: &mut K) -> Result<(), Failed>
     requires { length samples.now ≤ has_room mobile.old }
     ensures room { OnOk result (has_room mobile.new + length samples.now ≡ has_room mobile.old) }
-    ensures ok { OnOk result ((t : Tuning) (heard : List Sample) (given : List TheEvent) → StandsFor t mobile.old heard given →
-        Tells (Some t) (Some mobile.new) given (heard ++ samples.now) (K.written sink.old) (K.written sink.new)) }
-    ensures err { OnErr result ((t : Tuning) (heard : List Sample) (given : List TheEvent) → StandsFor t mobile.old heard given →
+    ensures ok { OnOk result ((t : Tuning) (heard : List Sample) (given : List TheEvent) →
+        StandsFor t mobile.old heard given →
+        Tells (Some t) (Some mobile.new) given (heard ++ samples.now) (K.written sink.old)
+        (K.written sink.new)) }
+    ensures err { OnErr result ((t : Tuning) (heard : List Sample) (given : List TheEvent) →
+        StandsFor t mobile.old heard given →
         TellsPart (Some t) given (heard ++ samples.now) (K.written sink.old) (K.written sink.new)) }
     ensures cause { HasCause (K.faults sink.old) (K.faults sink.new) result }
 {
@@ -167,10 +180,14 @@ fn hear<K: Sink>(
     sink: &mut K,
 ) -> Result<(), Failed>
     requires room { HasRoomFor handset.old (length samples.now) }
-    ensures room { OnOk result ((left : ℕ) → HasRoom handset.old left → HasRoom handset.new (left - length samples.now)) }
-    ensures ok { OnOk result ((t : Option Tuning) (heard : List Sample) (given : List TheEvent) → HasGiven t handset.old heard given →
-        Tells t handset.new given (heard ++ samples.now) (K.written sink.old) (K.written sink.new)) }
-    ensures err { OnErr result ((t : Option Tuning) (heard : List Sample) (given : List TheEvent) → HasGiven t handset.old heard given →
+    ensures room { OnOk result ((left : ℕ) → HasRoom handset.old left →
+        HasRoom handset.new (left - length samples.now)) }
+    ensures ok { OnOk result ((t : Option Tuning) (heard : List Sample) (given : List TheEvent) →
+        HasGiven t handset.old heard given →
+        Tells t handset.new given (heard ++ samples.now) (K.written sink.old)
+        (K.written sink.new)) }
+    ensures err { OnErr result ((t : Option Tuning) (heard : List Sample) (given : List TheEvent) →
+        HasGiven t handset.old heard given →
         TellsPart t given (heard ++ samples.now) (K.written sink.old) (K.written sink.new)) }
     ensures cause { HasCause (K.faults sink.old) (K.faults sink.new) result }
 {
@@ -180,8 +197,8 @@ fn hear<K: Sink>(
     }
 }
 
-/// Reads the samples that are left in pieces, gives them to the handset, and sees that the file ends
-/// behind them.
+/// Reads the samples that are left in pieces, gives them to the handset, and sees that the file
+/// ends behind them.
 fn hear_rest<S: Source, K: Sink>(
     reader: &mut SampleReader,
     source: &mut S,
@@ -194,19 +211,27 @@ fn hear_rest<S: Source, K: Sink>(
     requires counted { reader.old.left ≤ reader.old.header.count }
     requires room { HasRoom handset.old reader.old.left }
     ensures ends { OnOk result (IsAtEnd (S.rest source.new)) }
-    ensures ok { OnOk result ((t : Option Tuning) (heard : List Sample) → HasGiven t handset.old heard (events_in t heard) →
+    ensures ok { OnOk result ((t : Option Tuning) (heard : List Sample) →
+        HasGiven t handset.old heard (events_in t heard) →
         HearsRest t (width_of reader.old.header) reader.old.left handset.new heard
         (S.rest source.old) (S.rest source.new) (K.written sink.old) (K.written sink.new)) }
-    ensures written { (t : Option Tuning) (heard : List Sample) → HasGiven t handset.old heard (events_in t heard) →
-        HearsPart t (width_of reader.old.header) heard (S.rest source.old) (K.written sink.old) (K.written sink.new) }
-    ensures fault { (fault : FileFault) → ended result ≡ Status.BadFile fault → (fault ≢ FileFault.ReadFault) ×
-        IfSome (S.rest source.old) (λ bytes. length bytes ≢ sample_len (width_of reader.old.header) * reader.old.left) }
+    ensures written { (t : Option Tuning) (heard : List Sample) →
+        HasGiven t handset.old heard (events_in t heard) →
+        HearsPart t (width_of reader.old.header) heard (S.rest source.old) (K.written sink.old)
+        (K.written sink.new) }
+    ensures fault { (fault : FileFault) → ended result ≡ Status.BadFile fault →
+        (fault ≢ FileFault.ReadFault) ×
+        IfSome (S.rest source.old)
+        (λ bytes. length bytes ≢ sample_len (width_of reader.old.header) * reader.old.left) }
     ensures place { (fault : FileFault) → ended result ≡ Status.BadFile fault →
         IfSome (S.rest source.old) (λ bytes. IsRestFault reader.old (length bytes) fault) }
-    ensures sample_fault { (fault : FileFault) → ended result ≡ Status.BadFile fault → IsHeaderFault fault → ⊥ }
+    ensures sample_fault { (fault : FileFault) → ended result ≡ Status.BadFile fault →
+        ¬ (IsHeaderFault fault) }
     ensures others { IfErr result IsFault }
-    ensures read_fault { ended result ≡ Status.ReadFault → Rose (S.faults source.old) (S.faults source.new) }
-    ensures write_fault { ended result ≡ Status.WriteFault → Rose (K.faults sink.old) (K.faults sink.new) }
+    ensures read_fault { ended result ≡ Status.ReadFault →
+        Rose (S.faults source.old) (S.faults source.new) }
+    ensures write_fault { ended result ≡ Status.WriteFault →
+        Rose (K.faults sink.old) (K.faults sink.new) }
     ensures later_source { S.faults source.old ≤ S.faults source.new }
     ensures later_sink { K.faults sink.old ≤ K.faults sink.new }
 {
@@ -223,7 +248,8 @@ fn hear_rest<S: Source, K: Sink>(
 
 /// Whether a handset was told the time, where there is one.
 fn is_told(handset: &Option<Mobile>) -> bool
-    ensures { (t : Option Tuning) (heard : List Sample) → HasGiven t handset.now heard (events_in t heard) → result ≡ is_told t heard }
+    ensures { (t : Option Tuning) (heard : List Sample) →
+        HasGiven t handset.now heard (events_in t heard) → result ≡ is_told t heard }
 {
     match handset {
         Some(mobile) => mobile.synced(),
@@ -239,8 +265,9 @@ fn end_when(told: bool) -> Result<(), Status>
     if told { Ok(()) } else { Err(Status::NoSync) }
 }
 
-/// Reads the file's first samples into `span`, searches the pilot in them and writes its line, and then
-/// reads on to the end of the file by way of `piece`; where there are fingers, a handset hears all samples.
+/// Reads the file's first samples into `span`, searches the pilot in them and writes its line, and
+/// then reads on to the end of the file by way of `piece`; where there are fingers, a handset hears
+/// all samples.
 fn receive_file<R: Threads + Sync, S: Source, K: Sink, G: Gate + Sync>(
     rt: &R,
     alloc: Global,
@@ -261,16 +288,25 @@ fn receive_file<R: Threads + Sync, S: Source, K: Sink, G: Gate + Sync>(
     ensures at_end { IsEnd (ended result) → IsAtEnd (S.rest source.new) }
     ensures others { IsOfFiles (ended result) }
     ensures memory { ended result ≡ Status.NoMemory → sink.new ≡ sink.old }
-    ensures bad_file { (fault : FileFault) → ended result ≡ Status.BadFile fault → (fault ≢ FileFault.ReadFault) ×
-        IfSome (S.rest source.old) (λ bytes. IsSearchable bytes reception.span → ⊥) }
+    ensures early { ended result ≡ Status.NoMemory →
+        IfSome (S.rest source.old) (BeginsFile reception.span) }
+    ensures alone { reception.fingers ≡ None → ended result ≢ Status.NoSync }
+    ensures bad_file { (fault : FileFault) → ended result ≡ Status.BadFile fault →
+        (fault ≢ FileFault.ReadFault) ×
+        IfSome (S.rest source.old) (λ bytes. ¬ (IsSearchable bytes reception.span)) }
     ensures place { (fault : FileFault) → ended result ≡ Status.BadFile fault →
         IfSome (S.rest source.old) (λ bytes. IsFaultIn reception.span bytes fault) }
-    ensures read_fault { ended result ≡ Status.ReadFault → Rose (S.faults source.old) (S.faults source.new) }
-    ensures write_fault { ended result ≡ Status.WriteFault → Rose (K.faults sink.old) (K.faults sink.new) }
-    ensures header { (fault : FileFault) → ended result ≡ Status.BadFile fault → IsHeaderFault fault → sink.new ≡ sink.old }
-    ensures header_alone { (fault : FileFault) → ended result ≡ Status.BadFile fault → IsHeaderFault fault →
+    ensures read_fault { ended result ≡ Status.ReadFault →
+        Rose (S.faults source.old) (S.faults source.new) }
+    ensures write_fault { ended result ≡ Status.WriteFault →
+        Rose (K.faults sink.old) (K.faults sink.new) }
+    ensures header { (fault : FileFault) → ended result ≡ Status.BadFile fault →
+        IsHeaderFault fault → sink.new ≡ sink.old }
+    ensures header_alone { (fault : FileFault) → ended result ≡ Status.BadFile fault →
+        IsHeaderFault fault →
         ConsumesAtMost 16 (S.rest source.old) (S.rest source.new) }
-    ensures written { WritesNoMore reception (S.rest source.old) (K.written sink.old) (K.written sink.new) }
+    ensures written { WritesNoMore reception (S.rest source.old) (K.written sink.old)
+        (K.written sink.new) }
     ensures later_source { S.faults source.old ≤ S.faults source.new }
     ensures later_sink { K.faults sink.old ≤ K.faults sink.new }
 {
@@ -290,8 +326,9 @@ fn receive_file<R: Threads + Sync, S: Source, K: Sink, G: Gate + Sync>(
     end_when(is_told(&handset))
 }
 
-/// Searches the pilot in the file's first samples and writes its line, and then reads on to the end of
-/// the file; where there are fingers, a handset hears all samples, and the line of each event is written.
+/// Searches the pilot in the file's first samples and writes its line, and then reads on to the end
+/// of the file; where there are fingers, a handset hears all samples, and the line of each event is
+/// written.
 ///
 /// All memory is taken before the first line is written.
 pub fn receive<R: Threads + Sync, S: Source, K: Sink, G: Gate + Sync>(
@@ -310,16 +347,25 @@ pub fn receive<R: Threads + Sync, S: Source, K: Sink, G: Gate + Sync>(
     ensures at_end { IsEnd (ended result) → IsAtEnd (S.rest source.new) }
     ensures others { IsOfFiles (ended result) }
     ensures memory { ended result ≡ Status.NoMemory → sink.new ≡ sink.old }
-    ensures bad_file { (fault : FileFault) → ended result ≡ Status.BadFile fault → (fault ≢ FileFault.ReadFault) ×
-        IfSome (S.rest source.old) (λ bytes. IsSearchable bytes reception.span → ⊥) }
+    ensures early { ended result ≡ Status.NoMemory → (source.new ≡ source.old) ⊎
+        IfSome (S.rest source.old) (BeginsFile reception.span) }
+    ensures alone { reception.fingers ≡ None → ended result ≢ Status.NoSync }
+    ensures bad_file { (fault : FileFault) → ended result ≡ Status.BadFile fault →
+        (fault ≢ FileFault.ReadFault) ×
+        IfSome (S.rest source.old) (λ bytes. ¬ (IsSearchable bytes reception.span)) }
     ensures place { (fault : FileFault) → ended result ≡ Status.BadFile fault →
         IfSome (S.rest source.old) (λ bytes. IsFaultIn reception.span bytes fault) }
-    ensures read_fault { ended result ≡ Status.ReadFault → Rose (S.faults source.old) (S.faults source.new) }
-    ensures write_fault { ended result ≡ Status.WriteFault → Rose (K.faults sink.old) (K.faults sink.new) }
-    ensures header { (fault : FileFault) → ended result ≡ Status.BadFile fault → IsHeaderFault fault → sink.new ≡ sink.old }
-    ensures header_alone { (fault : FileFault) → ended result ≡ Status.BadFile fault → IsHeaderFault fault →
+    ensures read_fault { ended result ≡ Status.ReadFault →
+        Rose (S.faults source.old) (S.faults source.new) }
+    ensures write_fault { ended result ≡ Status.WriteFault →
+        Rose (K.faults sink.old) (K.faults sink.new) }
+    ensures header { (fault : FileFault) → ended result ≡ Status.BadFile fault →
+        IsHeaderFault fault → sink.new ≡ sink.old }
+    ensures header_alone { (fault : FileFault) → ended result ≡ Status.BadFile fault →
+        IsHeaderFault fault →
         ConsumesAtMost 16 (S.rest source.old) (S.rest source.new) }
-    ensures written { WritesNoMore reception (S.rest source.old) (K.written sink.old) (K.written sink.new) }
+    ensures written { WritesNoMore reception (S.rest source.old) (K.written sink.old)
+        (K.written sink.new) }
     ensures later_source { S.faults source.old ≤ S.faults source.new }
     ensures later_sink { K.faults sink.old ≤ K.faults sink.new }
 {

@@ -17,8 +17,8 @@ use std::fmt;
 ///
 /// Its text is the line that the program writes on standard error, without the line feed:
 /// `no sync message`, `bad words`, `bad file: KIND at PLACE` with the fault's place in decimal,
-/// `read fault`, `write fault`, `out of memory` or `bad script: FAULT`, with the fault's text. That of
-/// [`Status::Done`] is empty.
+/// `read fault`, `write fault`, `out of memory` or `bad script: FAULT`, with the fault's text. That
+/// of [`Status::Done`] is empty.
 #[derive(Clone, Copy, PartialEq, Eq, Debug)]
 pub enum Status {
     /// The input was read to its end, and all text was written.

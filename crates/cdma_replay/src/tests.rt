@@ -1,124 +1,32 @@
 //! Whole runs over memory: that they succeed, and what they print.
 
-ghost use Rattle.std.specs.Prelude.{◌≤◌};
-
-use crate::test_words::words_of;
-use crate::{Status, replay};
+use crate::test_runs::{Outside, SMALL, file_with, pilot_file, run, two_samples_file, zero_file};
+use crate::{Status, flushed};
 use base_modulator::ScriptFault;
-use cdma_io::{FileFault, MemorySink, MemorySource};
-use pilot_search::Open;
-use short_code::Codes;
-use std::alloc::Global;
+use cdma_io::{Failed, FileFault};
 use std::test::Fail;
-use std::thread::Threads;
-
-/// The header of a version 1 file with no flags.
-fn file_with(alloc: Global, count: u64) -> Result<Vec<u8>, Fail> {
-    let mut file = Vec::from_slice(alloc, b"IS95\x00\x01\x00\x00")?;
-    file.extend_from_slice(&count.to_be_bytes())?;
-    Ok(file)
-}
-
-/// A file of so many samples of zeros.
-fn zero_file(alloc: Global, count: u64) -> Result<Vec<u8>, Fail> {
-    let mut file = file_with(alloc, count)?;
-    for _n in 0..count {
-        file.extend_from_slice(&[0; 4])?;
-    }
-    Ok(file)
-}
-
-/// A file of so many samples of the pilot's code at a phase, with an amplitude.
-fn pilot_file(alloc: Global, count: u16, phase: u16, amplitude: i16) -> Result<Vec<u8>, Fail> {
-    let codes = Codes::new(alloc)?;
-    let mut file = file_with(alloc, u64::from(count))?;
-    for t in 0..count {
-        let n = (u32::from(phase) + u32::from(t)) % 32768;
-        let (i, q) = codes.signs(n as u16);
-        file.extend_from_slice(&amplitude.wrapping_mul(i16::from(i)).to_be_bytes())?;
-        file.extend_from_slice(&amplitude.wrapping_mul(i16::from(q)).to_be_bytes())?;
-    }
-    Ok(file)
-}
-
-/// The calls that fail: one, or none for 0.
-fn failing(alloc: Global, call: u64) -> Result<Vec<u64>, Fail> {
-    let mut calls = Vec::new(alloc);
-    if call > 0 {
-        calls.push(call)?;
-    }
-    Ok(calls)
-}
-
-/// How a run of `find` over a file ends, and what it writes.
-fn find<R: AllocGlobal + Threads + Sync>(rt: &R, file: Vec<u8>) -> Result<(Status, Vec<u8>), Fail> {
-    find_by(rt, file, 65536, 0, 65536, 0)
-}
-
-/// The same over a source of so many bytes a call that fails at a call, into a sink of that kind.
-fn find_by<R: AllocGlobal + Threads + Sync>(
-    rt: &R,
-    file: Vec<u8>,
-    source_piece: usize,
-    source_fails: u64,
-    sink_piece: usize,
-    sink_fails: u64,
-) -> Result<(Status, Vec<u8>), Fail>
-    requires source { 1 ≤ source_piece }
-    requires sink { 1 ≤ sink_piece }
-{
-    run_by(
-        rt,
-        "find",
-        file,
-        source_piece,
-        source_fails,
-        sink_piece,
-        sink_fails,
-    )
-}
-
-/// How a run of a command line over a file ends, and what it writes.
-fn run<R: AllocGlobal + Threads + Sync>(
-    rt: &R,
-    line: &str,
-    file: Vec<u8>,
-) -> Result<(Status, Vec<u8>), Fail> {
-    run_by(rt, line, file, 65536, 0, 65536, 0)
-}
-
-/// The same over such a source, into such a sink.
-fn run_by<R: AllocGlobal + Threads + Sync>(
-    rt: &R,
-    line: &str,
-    file: Vec<u8>,
-    source_piece: usize,
-    source_fails: u64,
-    sink_piece: usize,
-    sink_fails: u64,
-) -> Result<(Status, Vec<u8>), Fail>
-    requires source { 1 ≤ source_piece }
-    requires sink { 1 ≤ sink_piece }
-{
-    let alloc = rt.alloc();
-    let words = words_of(alloc, line)?;
-    let mut source = MemorySource::new(file, source_piece, failing(alloc, source_fails)?);
-    let mut sink = MemorySink::new(alloc, 100, sink_piece, failing(alloc, sink_fails)?)?;
-    let status = replay(rt, alloc, words.as_slice(), &mut source, &mut sink, &Open);
-    Ok((status, Vec::from_slice(alloc, sink.bytes())?))
-}
 
 #[test]
 fn finds_the_phase(rt: HostRuntime) -> Result<(), Fail> {
     let alloc = rt.alloc();
-    let (status, text) = find(&rt, pilot_file(alloc, 2048, 32767, 100)?)?;
+    let (status, text) = run(
+        &rt,
+        "find",
+        pilot_file(alloc, 2048, 32767, 100)?.as_slice(),
+        SMALL,
+    )?;
     assert_eq!(rt; status, Status::Done);
     assert_eq!(rt;
         text.as_slice(),
         b"pilot phase=32767 energy=167772160000\n".as_slice()
     );
 
-    let (status, text) = find(&rt, pilot_file(alloc, 10000, 777, 3)?)?;
+    let (status, text) = run(
+        &rt,
+        "find",
+        pilot_file(alloc, 10000, 777, 3)?.as_slice(),
+        SMALL,
+    )?;
     assert_eq!(rt; status, Status::Done);
     assert_eq!(rt;
         text.as_slice(),
@@ -130,12 +38,9 @@ fn finds_the_phase(rt: HostRuntime) -> Result<(), Fail> {
 #[test]
 fn finds_in_samples_of_8_bits(rt: HostRuntime) -> Result<(), Fail> {
     let alloc = rt.alloc();
-    let mut file = Vec::from_slice(
-        alloc,
-        b"IS95\x00\x02\x00\x00\x00\x00\x00\x00\x00\x00\x08\x00",
-    )?;
+    let mut file = file_with(alloc, 2, 2048)?;
     file.extend_from_slice(&[0; 4096])?;
-    let (status, text) = find(&rt, file)?;
+    let (status, text) = run(&rt, "find", file.as_slice(), SMALL)?;
     assert_eq!(rt; status, Status::Done);
     assert_eq!(rt; text.as_slice(), b"pilot phase=0 energy=0\n".as_slice());
     Ok(())
@@ -144,53 +49,66 @@ fn finds_in_samples_of_8_bits(rt: HostRuntime) -> Result<(), Fail> {
 #[test]
 fn finds_in_the_longest_span(rt: HostRuntime) -> Result<(), Fail> {
     let alloc = rt.alloc();
-    let mut file = file_with(alloc, 32768)?;
+    let mut least = file_with(alloc, 1, 32768)?;
     for _n in 0..65536 {
-        file.extend_from_slice(&i16::MIN.to_be_bytes())?;
+        least.extend_from_slice(&i16::MIN.to_be_bytes())?;
     }
-    let (status, text) = run(&rt, "find --span 32768", file)?;
-    assert_eq!(rt; status, Status::Done);
-    assert_eq!(rt; text.as_slice(), b"pilot phase=0 energy=0\n".as_slice());
-
-    let file = pilot_file(alloc, 32768, 0, 32767)?;
-    let (status, text) = run(&rt, "find --span=32768", file)?;
-    assert_eq!(rt; status, Status::Done);
-    assert_eq!(rt;
-        text.as_slice(),
-        b"pilot phase=0 energy=4611404547745644544\n".as_slice()
-    );
+    let greatest = pilot_file(alloc, 32768, 0, 32767)?;
+    for line in [
+        "find --span 32768 --workers 1",
+        "find --span 32768 --workers=3",
+        "find --workers 64 --span=32768",
+    ] {
+        // Each code has as many ones as zeros.
+        let (status, text) = run(&rt, line, least.as_slice(), SMALL)?;
+        assert_eq!(rt; status, Status::Done, "{line}");
+        assert_eq!(rt;
+            text.as_slice(),
+            b"pilot phase=0 energy=0\n".as_slice(),
+            "{line}"
+        );
+        let (status, text) = run(&rt, line, greatest.as_slice(), SMALL)?;
+        assert_eq!(rt; status, Status::Done, "{line}");
+        assert_eq!(rt;
+            text.as_slice(),
+            b"pilot phase=0 energy=4611404547745644544\n".as_slice(),
+            "{line}"
+        );
+    }
     Ok(())
 }
 
 #[test]
 fn finds_in_the_shortest_span(rt: HostRuntime) -> Result<(), Fail> {
     let alloc = rt.alloc();
-    let mut file = file_with(alloc, 64)?;
-    file.extend_from_slice(&[0, 1, 0, 0, 0, 1, 0, 0])?;
-    for _n in 2..64 {
-        file.extend_from_slice(&[0; 4])?;
-    }
-    let (status, text) = run(&rt, "find --span 64", file)?;
+    let file = two_samples_file(alloc)?;
+    let (status, text) = run(&rt, "find --span 64", file.as_slice(), SMALL)?;
     assert_eq!(rt; status, Status::Done);
     assert_eq!(rt; text.as_slice(), b"pilot phase=5 energy=8\n".as_slice());
 
+    let file = zero_file(alloc, 64)?;
     for line in ["find --span=0064", "find --span 00000000000000000064"] {
-        let (status, text) = run(&rt, line, zero_file(alloc, 64)?)?;
+        let (status, text) = run(&rt, line, file.as_slice(), SMALL)?;
         assert_eq!(rt; status, Status::Done, "{line}");
         assert_eq!(rt; text.as_slice(), b"pilot phase=0 energy=0\n".as_slice());
     }
-    let (status, _) = run(&rt, "find --span 64", zero_file(alloc, 63)?)?;
+    let file = zero_file(alloc, 63)?;
+    let (status, _) = run(&rt, "find --span 64", file.as_slice(), SMALL)?;
     assert_eq!(rt; status, Status::BadFile(FileFault::TooFew { count: 63 }));
     Ok(())
 }
 
 #[test]
 fn answers_in_any_pieces(rt: HostRuntime) -> Result<(), Fail> {
-    let alloc = rt.alloc();
+    let file = zero_file(rt.alloc(), 2048)?;
     for (source_piece, sink_piece) in [(7, 1), (1, 3), (8208, 100)] {
         assert!(rt; source_piece > 0 && sink_piece > 0);
-        let file = zero_file(alloc, 2048)?;
-        let (status, text) = find_by(&rt, file, source_piece, 0, sink_piece, 0)?;
+        let outside = Outside {
+            source_piece,
+            sink_piece,
+            ..SMALL
+        };
+        let (status, text) = run(&rt, "find", file.as_slice(), outside)?;
         assert_eq!(rt; status, Status::Done);
         assert_eq!(rt; text.as_slice(), b"pilot phase=0 energy=0\n".as_slice());
     }
@@ -200,13 +118,28 @@ fn answers_in_any_pieces(rt: HostRuntime) -> Result<(), Fail> {
 #[test]
 fn names_each_fault(rt: HostRuntime) -> Result<(), Fail> {
     let alloc = rt.alloc();
-    let (status, text) = find(&rt, zero_file(alloc, 2047)?)?;
+    let (status, text) = run(&rt, "find", zero_file(alloc, 2047)?.as_slice(), SMALL)?;
     assert_eq!(rt; status, Status::BadFile(FileFault::TooFew { count: 2047 }));
     assert_eq!(rt; text.len(), 0);
 
-    let (status, text) = find(&rt, file_with(alloc, 33_554_433)?)?;
+    let (status, text) = run(
+        &rt,
+        "find",
+        file_with(alloc, 1, 33_554_433)?.as_slice(),
+        SMALL,
+    )?;
     assert_eq!(rt; status, Status::BadFile(FileFault::Count));
     assert_eq!(rt; text.len(), 0);
+
+    for (count, fault) in [
+        (33_554_433, FileFault::Short { at: 16 }),
+        (67_108_865, FileFault::Count),
+    ] {
+        let file = file_with(alloc, 2, count)?;
+        let (status, text) = run(&rt, "find", file.as_slice(), SMALL)?;
+        assert_eq!(rt; status, Status::BadFile(fault), "{count}");
+        assert_eq!(rt; text.len(), 0);
+    }
 
     for (place, byte, fault) in [
         (0, b'i', FileFault::Magic),
@@ -219,14 +152,14 @@ fn names_each_fault(rt: HostRuntime) -> Result<(), Fail> {
         let mut file = zero_file(alloc, 2048)?;
         assert!(rt; place < file.len());
         file[place] = byte;
-        let (status, text) = find(&rt, file)?;
+        let (status, text) = run(&rt, "find", file.as_slice(), SMALL)?;
         assert_eq!(rt; status, Status::BadFile(fault), "byte {place}");
         assert_eq!(rt; text.len(), 0);
     }
 
     let mut longer = zero_file(alloc, 2048)?;
     longer.push(0)?;
-    let (status, text) = find(&rt, longer)?;
+    let (status, text) = run(&rt, "find", longer.as_slice(), SMALL)?;
     assert_eq!(rt; status, Status::BadFile(FileFault::Extra { at: 8208 }));
     assert_eq!(rt; text.as_slice(), b"pilot phase=0 energy=0\n".as_slice());
     Ok(())
@@ -238,7 +171,7 @@ fn names_the_end_of_every_cut(rt: HostRuntime) -> Result<(), Fail> {
     for len in 0..8208usize {
         let mut file = zero_file(alloc, 2048)?;
         file.truncate(len);
-        let (status, text) = find(&rt, file)?;
+        let (status, text) = run(&rt, "find", file.as_slice(), SMALL)?;
         assert_eq!(rt;
             status,
             Status::BadFile(FileFault::Short { at: len as u64 })
@@ -250,28 +183,48 @@ fn names_the_end_of_every_cut(rt: HostRuntime) -> Result<(), Fail> {
 
 #[test]
 fn ends_where_a_call_fails(rt: HostRuntime) -> Result<(), Fail> {
-    let alloc = rt.alloc();
-    // A header, two pieces of 1,024 samples, and the look for a further byte.
-    for call in 1..5u64 {
-        let (status, text) = find_by(&rt, zero_file(alloc, 2048)?, 65536, call, 65536, 0)?;
-        assert_eq!(rt; status, Status::ReadFault, "call {call}");
-        assert_eq!(rt; text.is_empty(), call < 4, "call {call}");
+    let file = zero_file(rt.alloc(), 2048)?;
+    // A header, two pieces of 1,024 samples, and the look for a further byte. Only one call fails, so
+    // a run that tried it again would be done.
+    for source_fails in 1..6u64 {
+        let outside = Outside {
+            source_fails,
+            ..SMALL
+        };
+        let (status, text) = run(&rt, "find", file.as_slice(), outside)?;
+        let end = if source_fails < 5 {
+            Status::ReadFault
+        } else {
+            Status::Done
+        };
+        assert_eq!(rt; status, end, "call {source_fails}");
+        assert_eq!(rt; text.is_empty(), source_fails < 4, "call {source_fails}");
     }
-    let (status, _) = find_by(&rt, zero_file(alloc, 2048)?, 65536, 5, 65536, 0)?;
-    assert_eq!(rt; status, Status::Done);
-
-    let (status, text) = find_by(&rt, zero_file(alloc, 2048)?, 65536, 0, 65536, 1)?;
-    assert_eq!(rt; status, Status::WriteFault);
-    assert_eq!(rt; text.len(), 0);
-    let (status, text) = find_by(&rt, zero_file(alloc, 2048)?, 65536, 0, 5, 3)?;
-    assert_eq!(rt; status, Status::WriteFault);
-    assert_eq!(rt; text.as_slice(), b"pilot phas".as_slice());
+    for (sink_piece, sink_fails, written) in [(65536, 1, ""), (5, 3, "pilot phas")] {
+        assert!(rt; sink_piece > 0);
+        let outside = Outside {
+            sink_piece,
+            sink_fails,
+            ..SMALL
+        };
+        let (status, text) = run(&rt, "find", file.as_slice(), outside)?;
+        assert_eq!(rt; status, Status::WriteFault);
+        assert_eq!(rt; text.as_slice(), written.as_bytes());
+    }
     Ok(())
 }
 
 #[test]
+fn a_flush_that_fails_is_a_lost_write(rt: HostRuntime) {
+    assert_eq!(rt; flushed(Status::Done, Err(Failed)), Status::WriteFault);
+    assert_eq!(rt; flushed(Status::NoSync, Err(Failed)), Status::WriteFault);
+    assert_eq!(rt; flushed(Status::ReadFault, Err(Failed)), Status::ReadFault);
+    assert_eq!(rt; flushed(Status::NoSync, Ok(())), Status::NoSync);
+}
+
+#[test]
 fn refuses_other_words(rt: HostRuntime) -> Result<(), Fail> {
-    let alloc = rt.alloc();
+    let file = zero_file(rt.alloc(), 2048)?;
     for line in [
         "",
         "fin",
@@ -313,13 +266,10 @@ fn refuses_other_words(rt: HostRuntime) -> Result<(), Fail> {
         "make --fingers 1",
         "make make",
     ] {
-        let words = words_of(alloc, line)?;
-        let mut source = MemorySource::new(zero_file(alloc, 2048)?, 65536, Vec::new(alloc));
-        let mut sink = MemorySink::new(alloc, 100, 65536, Vec::new(alloc))?;
-        let status = replay(&rt, alloc, words.as_slice(), &mut source, &mut sink, &Open);
+        let (status, text) = run(&rt, line, file.as_slice(), SMALL)?;
         assert_eq!(rt; status, Status::BadWords, "{line}");
         assert_eq!(rt; status.code(), 2);
-        assert_eq!(rt; sink.bytes().len(), 0);
+        assert_eq!(rt; text.len(), 0);
     }
     Ok(())
 }

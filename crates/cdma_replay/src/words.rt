@@ -1,11 +1,11 @@
 //! The words of the command line.
 
-ghost use Rattle.std.specs.Prelude.{◌≡◌, ◌≤◌, ◌<◌, ◌+◌, ◌*◌, ◌-◌, ◌^◌, true, length, IsTrue, map, drop, string_bytes, Some, IfSome};
-ghost use Rattle.std.specs.Char.{is_ascii_digit};
-ghost use Rattle.cdma_replay.specs.Words.{AreLawful, IsAdmitted, IsLawfulJob, IsLawfulTask, admits, chosen, choices_behind, command_with as job_of_command, digits_from, find_with as job_of_find, follow_with as job_of_follow, make_with as job_of_make, job_named, no_choices, task_of, width_for, number_in, is_joined, setting_named, with_joined, with_named, with_setting as choices_with};
+ghost use Rattle.std.specs.Prelude.{◌≡◌, ◌≤◌, ◌<◌, ◌+◌, ◌*◌, ◌^◌, true, length, IsTrue, map, drop, string_bytes, Some, IfSome};
+ghost use Rattle.cdma_replay.specs.Words.{AreLawful, IsAdmitted, IsLawfulJob, IsLawfulTask, admits, chosen, choices_behind, command_with as job_of_command, find_with as job_of_find, follow_with as job_of_follow, make_with as job_of_make, job_named, no_choices, task_of, width_for, number_in, is_joined, setting_named, with_joined, with_named, with_setting as choices_with};
 
 use crate::receiving::Reception;
 use cdma_io::Width;
+use chip_core::digits_in;
 
 /// What the words of the command line ask for.
 #[derive(Clone, Copy, PartialEq, Eq, Debug)]
@@ -124,7 +124,7 @@ pub struct Choices {
 }
 
 impl Choices {
-    // Before any option.
+    /// Before any option.
     fn none() -> Choices
         ensures value { result ≡ no_choices }
         ensures lawful { AreLawful result }
@@ -137,7 +137,7 @@ impl Choices {
         }
     }
 
-    // With one more option and the text of its number.
+    /// With one more option and the text of its number.
     fn with(self, setting: Setting, text: &[u8]) -> Option<Choices>
         requires { AreLawful self }
         ensures value { result ≡ choices_with self setting text.now }
@@ -175,7 +175,7 @@ impl Choices {
         }
     }
 
-    // With the words `--name text`.
+    /// With the words `--name text`.
     fn with_named(self, name: &str, text: &[u8]) -> Option<Choices>
         requires { AreLawful self }
         ensures value { result ≡ with_named self name.now text.now }
@@ -185,7 +185,7 @@ impl Choices {
         self.with(setting, text)
     }
 
-    // With the word `--name=text`.
+    /// With the word `--name=text`.
     fn with_joined(self, word: &[u8]) -> Option<Choices>
         requires { AreLawful self }
         ensures value { result ≡ with_joined self word.now }
@@ -207,7 +207,7 @@ impl Choices {
     }
 }
 
-// Whether a word is an option's name and its text at once, `--name=text`.
+/// Whether a word is an option's name and its text at once, `--name=text`.
 fn is_joined(word: &[u8]) -> bool
     ensures { result ≡ is_joined word.now }
 {
@@ -223,7 +223,7 @@ fn is_joined(word: &[u8]) -> bool
     word.strip_prefix(b"--bits=").is_some()
 }
 
-// The number that an option chooses, where none was chosen before.
+/// The number that an option chooses, where none was chosen before.
 fn chosen(setting: Setting, before: Option<u16>, text: &[u8]) -> Option<u16>
     ensures value { result ≡ chosen setting before text.now }
     ensures range { IfSome result (IsAdmitted setting) }
@@ -239,7 +239,7 @@ fn chosen(setting: Setting, before: Option<u16>, text: &[u8]) -> Option<u16>
     }
 }
 
-// What the words behind a command choose.
+/// What the words behind a command choose.
 fn choices_of(words: &[String]) -> Option<Choices>
     ensures value { result ≡ choices_behind (Some no_choices) (map string_bytes words.now) }
     ensures lawful { IfSome result AreLawful }
@@ -263,9 +263,10 @@ fn choices_of(words: &[String]) -> Option<Choices>
 /// The job that the words name, a command and then options in any order, each at most once, as
 /// `--name N` or `--name=N`. N has 1 to 20 decimal digits. All other words are `None`.
 ///
-/// `find` takes `--span`, 64 to 32,768, which is else 2,048, and `--workers`, 1 to 64, which is else 4;
-/// `follow` takes these and `--fingers`, 1 to 3, which is else 1; `make` takes `--bits`, 8 or 16, which is
-/// else 16.
+/// `find` takes `--span`, 64 to 32,768, which is else 2,048, and `--workers`, 1 to 64, which is
+/// else 4;
+/// `follow` takes these and `--fingers`, 1 to 3, which is else 1; `make` takes `--bits`, 8 or 16,
+/// which is else 16.
 pub fn job_of(words: &[String]) -> Option<Job>
     ensures job { result ≡ job_named words.now }
     ensures lawful { IfSome result IsLawfulJob }
@@ -275,7 +276,7 @@ pub fn job_of(words: &[String]) -> Option<Job>
     command_with(command.as_str(), choices)
 }
 
-// The job of a command with what its options choose.
+/// The job of a command with what its options choose.
 fn command_with(command: &str, choices: Choices) -> Option<Job>
     requires { AreLawful choices }
     ensures job { result ≡ job_of_command command.now choices }
@@ -289,7 +290,7 @@ fn command_with(command: &str, choices: Choices) -> Option<Job>
     }
 }
 
-// The job of `find`.
+/// The job of `find`.
 fn find_with(choices: Choices) -> Option<Job>
     requires { AreLawful choices }
     ensures job { result ≡ job_of_find choices }
@@ -304,7 +305,7 @@ fn find_with(choices: Choices) -> Option<Job>
     })
 }
 
-// The job of `follow`.
+/// The job of `follow`.
 fn follow_with(choices: Choices) -> Option<Job>
     requires { AreLawful choices }
     ensures job { result ≡ job_of_follow choices }
@@ -320,7 +321,7 @@ fn follow_with(choices: Choices) -> Option<Job>
     })
 }
 
-// The job of `make`.
+/// The job of `make`.
 fn make_with(choices: Choices) -> Option<Job>
     requires { AreLawful choices }
     ensures job { result ≡ job_of_make choices }
@@ -334,7 +335,7 @@ fn make_with(choices: Choices) -> Option<Job>
     })
 }
 
-// The width of so many bits, 8 or 16.
+/// The width of so many bits, 8 or 16.
 fn width_for(bits: Option<u16>) -> Width
     ensures { result ≡ width_for bits }
 {
@@ -350,37 +351,12 @@ const DEFAULT_SPAN: u16 = 2048;
 /// The number of workers where the words name none.
 const DEFAULT_WORKERS: u16 = 4;
 
-// The number that 1 to 20 digits spell.
+/// The number that 1 to 20 digits spell.
 fn number_of(text: &[u8]) -> Option<u128>
     ensures { result ≡ number_in text.now }
 {
     if text.is_empty() || text.len() > 20 {
         return None;
     }
-    number_of_digits(text)
-}
-
-// The number that digits spell.
-fn number_of_digits(text: &[u8]) -> Option<u128>
-    requires { length text.now ≤ 20 }
-    ensures { result ≡ digits_from 0 text.now }
-{
-    let mut number = 0;
-    for &digit in text {
-        if !digit.is_ascii_digit() {
-            return None;
-        }
-        number = with_digit(number, digit);
-    }
-    Some(number)
-}
-
-// A number with one more digit behind it.
-fn with_digit(number: u128, digit: u8) -> u128
-    requires number { number < 10 ^ 20 }
-    requires digit { is_ascii_digit digit ≡ true }
-    ensures value { result ≡ 10 * number + (digit - 48) }
-    ensures most { result ≤ 10 * number + 9 }
-{
-    10 * number + u128::from(digit - b'0')
+    digits_in(text)
 }

@@ -1,14 +1,10 @@
 //! Runs by several workers: that they run at once, and that their number changes nothing.
 
-use crate::test_words::words_of;
-use crate::{Status, replay};
-use cdma_io::{MemorySink, MemorySource};
-use pilot_search::{Gate, Open};
-use short_code::Codes;
-use std::alloc::Global;
+use crate::Status;
+use crate::test_runs::{SMALL, pilot_file, run, run_through, two_samples_file, zero_file};
+use pilot_search::Gate;
 use std::sync::atomic::{AtomicU64, Ordering};
 use std::test::Fail;
-use std::thread::Threads;
 
 /// Where two workers wait until each has seen the other, or so many turns are spent.
 #[derive(Drop)]
@@ -19,6 +15,7 @@ struct Meeting {
 }
 
 impl Meeting {
+    /// Before either has come.
     fn new() -> Meeting {
         Meeting {
             flags: [AtomicU64::new(0), AtomicU64::new(0)],
@@ -47,58 +44,19 @@ impl Gate for Meeting {
     fn leave(&self, _worker: u8, _unfinished: u16) {}
 }
 
-/// How a run of a command line over a file ends, and what it writes.
-fn run<R: AllocGlobal + Threads + Sync, G: Gate + Sync>(
-    rt: &R,
-    line: &str,
-    file: &[u8],
-    gate: &G,
-) -> Result<(Status, Vec<u8>), Fail> {
-    let alloc = rt.alloc();
-    let words = words_of(alloc, line)?;
-    let mut source = MemorySource::new(Vec::from_slice(alloc, file)?, 65536, Vec::new(alloc));
-    let mut sink = MemorySink::new(alloc, 100, 65536, Vec::new(alloc))?;
-    let status = replay(rt, alloc, words.as_slice(), &mut source, &mut sink, gate);
-    Ok((status, Vec::from_slice(alloc, sink.bytes())?))
-}
-
-/// A file of 2,048 samples of the pilot's code at its last phase.
-fn pilot_file(alloc: Global) -> Result<Vec<u8>, Fail> {
-    let codes = Codes::new(alloc)?;
-    let mut file = Vec::from_slice(
-        alloc,
-        b"IS95\x00\x01\x00\x00\x00\x00\x00\x00\x00\x00\x08\x00",
-    )?;
-    for t in 0..2048u16 {
-        let (i, q) = codes.signs((32767 + t) % 32768);
-        file.extend_from_slice(&(100 * i16::from(i)).to_be_bytes())?;
-        file.extend_from_slice(&(100 * i16::from(q)).to_be_bytes())?;
-    }
-    Ok(file)
-}
-
-/// Its line.
+/// The line of 2,048 samples of the pilot's code at its last phase.
 const LINE: &[u8] = b"pilot phase=32767 energy=167772160000\n";
 
-/// A file of 64 samples, of which two aren't 0: several phases have the greatest energy.
-fn two_samples_file(alloc: Global) -> Result<Vec<u8>, Fail> {
-    let mut file = Vec::from_slice(
-        alloc,
-        b"IS95\x00\x01\x00\x00\x00\x00\x00\x00\x00\x00\x00\x40\x00\x01\x00\x00\x00\x01\x00\x00",
-    )?;
-    for _n in 2..64 {
-        file.extend_from_slice(&[0; 4])?;
-    }
-    Ok(file)
-}
+/// The line of samples of zeros.
+const ZERO_LINE: &[u8] = b"pilot phase=0 energy=0\n";
 
 #[test]
 fn two_workers_meet_in_find(rt: HostRuntime) -> Result<(), Fail> {
-    let file = pilot_file(rt.alloc())?;
+    let file = zero_file(rt.alloc(), 2048)?;
     let gate = Meeting::new();
-    let (status, text) = run(&rt, "find --workers 2", file.as_slice(), &gate)?;
+    let (status, text) = run_through(&rt, "find --workers 2", file.as_slice(), SMALL, &gate)?;
     assert_eq!(rt; status, Status::Done);
-    assert_eq!(rt; text.as_slice(), LINE);
+    assert_eq!(rt; text.as_slice(), ZERO_LINE);
     assert_eq!(rt; gate.met[0].load(Ordering::SeqCst), 1);
     assert_eq!(rt; gate.met[1].load(Ordering::SeqCst), 1);
     assert_eq!(rt; gate.others.load(Ordering::SeqCst), 0);
@@ -107,11 +65,11 @@ fn two_workers_meet_in_find(rt: HostRuntime) -> Result<(), Fail> {
 
 #[test]
 fn two_workers_meet_in_follow(rt: HostRuntime) -> Result<(), Fail> {
-    let file = pilot_file(rt.alloc())?;
+    let file = zero_file(rt.alloc(), 2048)?;
     let gate = Meeting::new();
-    let (status, text) = run(&rt, "follow --workers=2", file.as_slice(), &gate)?;
+    let (status, text) = run_through(&rt, "follow --workers=2", file.as_slice(), SMALL, &gate)?;
     assert_eq!(rt; status, Status::NoSync);
-    assert_eq!(rt; text.as_slice(), LINE);
+    assert_eq!(rt; text.as_slice(), ZERO_LINE);
     assert_eq!(rt; gate.met[0].load(Ordering::SeqCst), 1);
     assert_eq!(rt; gate.met[1].load(Ordering::SeqCst), 1);
     assert_eq!(rt; gate.others.load(Ordering::SeqCst), 0);
@@ -120,14 +78,14 @@ fn two_workers_meet_in_follow(rt: HostRuntime) -> Result<(), Fail> {
 
 #[test]
 fn any_number_of_workers_writes_the_same(rt: HostRuntime) -> Result<(), Fail> {
-    let file = pilot_file(rt.alloc())?;
+    let file = pilot_file(rt.alloc(), 2048, 32767, 100)?;
     for line in [
         "find",
         "find --workers 1",
         "find --workers=3",
         "find --span 2048 --workers 64",
     ] {
-        let (status, text) = run(&rt, line, file.as_slice(), &Open)?;
+        let (status, text) = run(&rt, line, file.as_slice(), SMALL)?;
         assert_eq!(rt; status, Status::Done, "{line}");
         assert_eq!(rt; text.as_slice(), LINE, "{line}");
     }
@@ -142,7 +100,7 @@ fn any_number_of_workers_takes_the_least_phase(rt: HostRuntime) -> Result<(), Fa
         "find --span 64 --workers=3",
         "find --workers 64 --span=64",
     ] {
-        let (status, text) = run(&rt, line, file.as_slice(), &Open)?;
+        let (status, text) = run(&rt, line, file.as_slice(), SMALL)?;
         assert_eq!(rt; status, Status::Done, "{line}");
         assert_eq!(rt;
             text.as_slice(),

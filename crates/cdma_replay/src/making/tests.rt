@@ -4,6 +4,7 @@ ghost use Rattle.std.specs.Prelude.{◌≤◌};
 
 use super::make;
 use crate::status::Status;
+use crate::test_runs::failing;
 use base_modulator::ScriptFault;
 use cdma_io::{MemorySink, MemorySource, Width};
 use std::alloc::Global;
@@ -35,15 +36,6 @@ const LAST_CHIP: &[u8] = b"cell pn=0 time=0 lc=00000000001 checks=3\n\
 const LONG: &[u8] = b"cell pn=511 time=0 lc=00000000001 checks=0\n\
     link re=1 im=2 start=0 samples=9000\n\
     pilot gain=7\n";
-
-/// The calls that fail: one, or none for 0.
-fn failing(alloc: Global, call: u64) -> Result<Vec<u64>, Fail> {
-    let mut calls = Vec::new(alloc);
-    if call > 0 {
-        calls.push(call)?;
-    }
-    Ok(calls)
-}
 
 /// How a run over a script ends, and what it writes.
 fn made(alloc: Global, script: &[u8], width: Width) -> Result<(Status, Vec<u8>), Fail> {

@@ -25,9 +25,10 @@ fn bytes_for(width: Width, count: usize) -> usize
 /// Spells the cell's next samples, as many as `samples` has room for.
 fn spell_next(cell: &mut Cell, width: Width, samples: &mut [Sample], bytes: &mut [u8])
     requires width { cell.old.width ≡ width }
-    requires left { cell.old.given + length samples.old ≤ cell.old.plan.samples }
+    requires left { cell.old.given + length samples.old ≤ cell.old.plan.link.samples }
     requires room { length bytes.old ≡ sample_len width * length samples.old }
-    ensures spelled { bytes.new ≡ piece_bytes width cell.old.plan cell.old.given (length samples.old) }
+    ensures spelled { bytes.new ≡
+        piece_bytes width cell.old.plan cell.old.given (length samples.old) }
     ensures state { cell.new ≡ record cell.old { given = cell.old.given + length samples.old } }
 {
     cell.fill(samples);
@@ -45,11 +46,15 @@ fn write_piece<K: Sink>(
     requires width { cell.old.width ≡ width }
     requires samples { length samples.old ≡ 4096 }
     requires bytes { length bytes.old ≡ 16384 }
-    ensures state { cell.new ≡ record cell.old { given = cell.old.given + min 4096 (cell.old.plan.samples - cell.old.given) } }
+    ensures state { cell.new ≡
+        record cell.old
+        { given = cell.old.given + min 4096 (cell.old.plan.link.samples - cell.old.given) } }
     ensures ok { OnOk result (Appends (K.written sink.old) (K.written sink.new)
-        (piece_bytes width cell.old.plan cell.old.given (min 4096 (cell.old.plan.samples - cell.old.given)))) }
+        (piece_bytes width cell.old.plan cell.old.given
+        (min 4096 (cell.old.plan.link.samples - cell.old.given)))) }
     ensures err { OnErr result (AppendsPrefix (K.written sink.old) (K.written sink.new)
-        (piece_bytes width cell.old.plan cell.old.given (min 4096 (cell.old.plan.samples - cell.old.given)))) }
+        (piece_bytes width cell.old.plan cell.old.given
+        (min 4096 (cell.old.plan.link.samples - cell.old.given)))) }
     ensures cause { HasCause (K.faults sink.old) (K.faults sink.new) result }
 {
     let count = cell.left().min(samples.len() as u64) as usize;
@@ -69,8 +74,11 @@ fn write_samples<K: Sink>(
     requires fresh { (cell.old.width ≡ width) × (cell.old.given ≡ 0) }
     requires samples { length samples.old ≡ 4096 }
     requires bytes { length bytes.old ≡ 16384 }
-    ensures ok { OnOk result (Appends (K.written sink.old) (K.written sink.new) (sample_bytes width cell.old.plan)) }
-    ensures err { OnErr result (AppendsPrefix (K.written sink.old) (K.written sink.new) (sample_bytes width cell.old.plan)) }
+    ensures ok { OnOk result
+        (Appends (K.written sink.old) (K.written sink.new) (sample_bytes width cell.old.plan)) }
+    ensures err { OnErr result
+        (AppendsPrefix (K.written sink.old) (K.written sink.new)
+        (sample_bytes width cell.old.plan)) }
     ensures cause { HasCause (K.faults sink.old) (K.faults sink.new) result }
 {
     while cell.left() > 0 {
@@ -90,8 +98,10 @@ pub fn write_cell<K: Sink>(
     requires fresh { (cell.old.width ≡ width) × (cell.old.given ≡ 0) }
     requires samples { length samples.old ≡ 4096 }
     requires bytes { length bytes.old ≡ 16384 }
-    ensures ok { OnOk result (Appends (K.written sink.old) (K.written sink.new) (made_file width cell.old.plan)) }
-    ensures err { OnErr result (AppendsPrefix (K.written sink.old) (K.written sink.new) (made_file width cell.old.plan)) }
+    ensures ok { OnOk result
+        (Appends (K.written sink.old) (K.written sink.new) (made_file width cell.old.plan)) }
+    ensures err { OnErr result
+        (AppendsPrefix (K.written sink.old) (K.written sink.new) (made_file width cell.old.plan)) }
     ensures cause { HasCause (K.faults sink.old) (K.faults sink.new) result }
 {
     write_all(sink, &header_bytes(&cell.header()))?;

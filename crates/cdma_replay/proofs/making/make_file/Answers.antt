@@ -21,8 +21,10 @@ returns-in_err-cell-clause-bad_script g c fault is =
 
 pub returns-in-Ok-clause-written : goal.returns-in-Ok-clause-written
 returns-in-Ok-clause-written g c =
-    writes_whole c.args.width c.in_ok-cell.cell.plan (g.S.Source.rest c.args.source.now) _ _ c.in_ok-cell.ensures.named c.in-Ok.ensures.ok
+    writes_whole c.args.width c.in_ok-cell.cell.plan (g.S.Source.rest c.args.source.now) _ _
+    c.in_ok-cell.ensures.named c.in-Ok.ensures.ok
 
 pub returns-clause-written : goal.returns-clause-written
 returns-clause-written g c =
-    writes_part c.args.width c.in_ok-cell.cell.plan (g.S.Source.rest c.args.source.now) _ _ c.in_ok-cell.ensures.named c.in-Err.ensures.err
+    writes_part c.args.width c.in_ok-cell.cell.plan (g.S.Source.rest c.args.source.now) _ _
+    c.in_ok-cell.ensures.named c.in-Err.ensures.err

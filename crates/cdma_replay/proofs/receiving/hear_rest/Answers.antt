@@ -28,23 +28,34 @@ pub returns-in_err-count-clause-place : goal.returns-in_err-count-clause-place
 returns-in_err-count-clause-place g c fault is =
     let inv = c.loop-reader.invariant in
     let none : IsNone c.loop-reader.reader.fault = rw inv.good refl in
-    let e = blamed c.from_residual.result c.in_err-count.field-0.0 fault c.from_residual.ensures.1 is in
-    subst (λ (f : FileFault). IfSome (g.S.Source.rest c.args.source.now) (λ bytes. IsRestFault c.args.reader.now (length bytes) f)) e.0
-    (rest_cut_fault c.in_err-count.field-0.0 c.args.reader.now c.loop-reader.reader _ _ _ (length c.loop-reader.piece) inv.same inv.hears.passed inv.low c.requires.counted
+    let e = blamed c.from_residual.result c.in_err-count.field-0.0 fault c.from_residual.ensures.1
+    is in
+    subst (λ (f : FileFault). IfSome (g.S.Source.rest c.args.source.now)
+    (λ bytes. IsRestFault c.args.reader.now (length bytes) f)) e.0
+    (rest_cut_fault c.in_err-count.field-0.0 c.args.reader.now c.loop-reader.reader _ _ _
+    (length c.loop-reader.piece) inv.same inv.hears.passed inv.low c.requires.counted
     (c.in_err-count.ensures.fault none) e.2)
 
 pub returns-in_err-count-clause-fault : goal.returns-in_err-count-clause-fault
 returns-in_err-count-clause-fault g c fault is =
-    let e = blamed c.from_residual.result c.in_err-count.field-0.0 fault c.from_residual.ensures.1 is in
-    (e.1, wrong_length (g.S.Source.rest c.args.source.now) c.args.reader.now fault (returns-in_err-count-clause-place g c fault is))
+    let e = blamed c.from_residual.result c.in_err-count.field-0.0 fault c.from_residual.ensures.1
+    is in (
+      e.1,
+      wrong_length (g.S.Source.rest c.args.source.now) c.args.reader.now fault
+          (returns-in_err-count-clause-place g c fault is),
+    )
 
 pub hear-requires : goal.hear-requires
 hear-requires g c =
     let n = c.in_ok-count.count in
     let long : length c.read.new.out ≡ length c.loop-reader.piece = search rules in
     let room : n ≤ length c.read.new.out = omega (arith, long, c.in_ok-count.ensures.count) in
-    let fits : length (take n c.read.new.out) ≤ c.loop-reader.reader.left = omega (arith, length-take-le n c.read.new.out room, c.in_ok-count.ensures.count) in
-    record { room = room_for c.loop-reader.handset c.loop-reader.reader.left (length (take n c.read.new.out)) c.loop-reader.invariant.taken fits }
+    let fits : length (take n c.read.new.out) ≤ c.loop-reader.reader.left =
+    omega (arith, length-take-le n c.read.new.out room, c.in_ok-count.ensures.count) in
+    record {
+      room = room_for c.loop-reader.handset c.loop-reader.reader.left
+          (length (take n c.read.new.out)) c.loop-reader.invariant.taken fits;
+    }
 
 pub loop-reader-preserved : goal.loop-reader-preserved
 loop-reader-preserved g c =
@@ -58,9 +69,12 @@ loop-reader-preserved g c =
     let fewer : c.read.new.self.left ≡ now - n = search rules in
     let taken : length (take n c.read.new.out) ≡ n = length-take-le n c.read.new.out room in
     record {
-      hears = hears_more left now n _ c.read.new.out (ap width_of inv.same) fewer inv.hears inv.low fits room
+      hears = hears_more left now n _ c.read.new.out (ap width_of inv.same) fewer inv.hears inv.low
+          fits room
           c.in_ok-count.ensures.in_range c.in_ok-count.ensures.samples c.in-Ok.ensures.ok;
-      taken = rw fewer (subst (λ (k : ℕ). HasRoom c.hear.new.handset (now - k)) taken (c.in-Ok.ensures.room now inv.taken));
+      taken = rw fewer
+          (subst (λ (k : ℕ). HasRoom c.hear.new.handset (now - k)) taken
+          (c.in-Ok.ensures.room now inv.taken));
       same = ap (λ (r : Reading). r.header) c.in_ok-count.ensures.ok ∙ inv.same;
       low = omega (arith, fewer, inv.low);
       good = search rules;
@@ -72,7 +86,8 @@ loop-reader-preserved g c =
 pub returns-in-Err-clause-written : goal.returns-in-Err-clause-written
 returns-in-Err-clause-written g c =
     let inv = c.loop-reader.invariant in
-    hears_stopped _ _ (ap width_of inv.same) inv.hears c.in_ok-count.ensures.samples c.in-Err.ensures.err
+    hears_stopped _ _ (ap width_of inv.same) inv.hears c.in_ok-count.ensures.samples
+    c.in-Err.ensures.err
 
 pub returns-in_err-finish-clause-written : goal.returns-in_err-finish-clause-written
 returns-in_err-finish-clause-written g c = hears_part c.loop-reader.invariant.hears
@@ -81,20 +96,30 @@ pub returns-in_err-finish-clause-place : goal.returns-in_err-finish-clause-place
 returns-in_err-finish-clause-place g c fault is =
     let inv = c.loop-reader.invariant in
     let none : IsNone c.loop-reader.reader.fault = rw inv.good refl in
-    let done : c.loop-reader.reader.left ≤ 0 = omega (arith, c.left.ensures.value, c.loop-reader-test.false) in
-    let e = blamed c.from_residual-in_err-finish.result c.in_err-finish.field-0.0 fault c.from_residual-in_err-finish.ensures.1 is in
-    subst (λ (f : FileFault). IfSome (g.S.Source.rest c.args.source.now) (λ bytes. IsRestFault c.args.reader.now (length bytes) f)) e.0
-    (rest_extra_fault c.in_err-finish.field-0.0 c.args.reader.now c.loop-reader.reader _ _ inv.same inv.hears.passed done (c.in_err-finish.ensures.fault none) e.2)
+    let done : c.loop-reader.reader.left ≤ 0 =
+    omega (arith, c.left.ensures.value, c.loop-reader-test.false) in
+    let e = blamed c.from_residual-in_err-finish.result c.in_err-finish.field-0.0 fault
+    c.from_residual-in_err-finish.ensures.1 is in
+    subst (λ (f : FileFault). IfSome (g.S.Source.rest c.args.source.now)
+    (λ bytes. IsRestFault c.args.reader.now (length bytes) f)) e.0
+    (rest_extra_fault c.in_err-finish.field-0.0 c.args.reader.now c.loop-reader.reader _ _ inv.same
+    inv.hears.passed done (c.in_err-finish.ensures.fault none) e.2)
 
 pub returns-in_err-finish-clause-fault : goal.returns-in_err-finish-clause-fault
 returns-in_err-finish-clause-fault g c fault is =
-    let e = blamed c.from_residual-in_err-finish.result c.in_err-finish.field-0.0 fault c.from_residual-in_err-finish.ensures.1 is in
-    (e.1, wrong_length (g.S.Source.rest c.args.source.now) c.args.reader.now fault (returns-in_err-finish-clause-place g c fault is))
+    let e = blamed c.from_residual-in_err-finish.result c.in_err-finish.field-0.0 fault
+    c.from_residual-in_err-finish.ensures.1 is in (
+      e.1,
+      wrong_length (g.S.Source.rest c.args.source.now) c.args.reader.now fault
+          (returns-in_err-finish-clause-place g c fault is),
+    )
 
 pub returns-clause-written : goal.returns-clause-written
 returns-clause-written g c = hears_part c.loop-reader.invariant.hears
 
 pub returns-clause-ok : goal.returns-clause-ok
 returns-clause-ok g c =
-    let done : c.loop-reader.reader.left ≤ 0 = omega (arith, c.left.ensures.value, c.loop-reader-test.false) in
-    hears_all c.args.reader.now.left c.loop-reader.reader.left c.loop-reader.invariant.hears done (search rules)
+    let done : c.loop-reader.reader.left ≤ 0 =
+    omega (arith, c.left.ensures.value, c.loop-reader-test.false) in
+    hears_all c.args.reader.now.left c.loop-reader.reader.left c.loop-reader.invariant.hears done
+    (search rules)

@@ -6,8 +6,10 @@ use Rattle.cdma_replay.proofs.receiving.hear_rest.Given as goal
 
 abbrev pub invariant-loop-reader : goal.invariant-loop-reader
 invariant-loop-reader g l = record {
-  hears : Hears (width_of l.initial.reader.header) (l.initial.reader.left - l.reader.left) l.fn.handset l.handset
-      (g.S.Source.rest l.fn.source) (g.S.Source.rest l.source) (g.K.Sink.written l.fn.sink) (g.K.Sink.written l.sink);
+  hears : Hears (width_of l.initial.reader.header) (l.initial.reader.left - l.reader.left)
+      l.fn.handset l.handset
+      (g.S.Source.rest l.fn.source) (g.S.Source.rest l.source) (g.K.Sink.written l.fn.sink)
+      (g.K.Sink.written l.sink);
   taken : HasRoom l.handset l.reader.left;
   same : l.reader.header ≡ l.initial.reader.header;
   low : l.reader.left ≤ l.initial.reader.left;

@@ -9,11 +9,14 @@ use Rattle.cdma_replay.proofs.receiving.open_span.Goals as goal
 pub returns-in_err-reader-clause-place : goal.returns-in_err-reader-clause-place
 returns-in_err-reader-clause-place g c =
     let p = err_from_is_err_and c.from_residual.result c.from_residual.ensures.1 in
-    rw (p.1, p.2) (fault_of_opening (g.S.Source.rest c.args.source.now) (length c.args.span.now) _ c.in_err-reader.ensures.told)
+    rw (p.1, p.2)
+    (fault_of_opening (g.S.Source.rest c.args.source.now) (length c.args.span.now) _
+    c.in_err-reader.ensures.told)
 
 pub returns-then-count-span-clause-place : goal.returns-then-count-span-clause-place
 returns-then-count-span-clause-place g c other =
-    fault_of_count (g.S.Source.rest c.args.source.now) (length c.args.span.now) _ c.in_ok-reader.reader c.in_ok-reader.ensures.told (search rules) (search rules)
+    fault_of_count (g.S.Source.rest c.args.source.now) (length c.args.span.now) _
+    c.in_ok-reader.reader c.in_ok-reader.ensures.told (search rules) (search rules)
 
 pub returns-in_err-read-clause-place : goal.returns-in_err-read-clause-place
 returns-in_err-read-clause-place g c =
@@ -21,16 +24,26 @@ returns-in_err-read-clause-place g c =
     let good : reading.fault ≡ None = ap (λ (r : Reading). r.fault) c.in_ok-reader.ensures.fresh in
     let none : IsNone reading.fault = rw good refl in
     let enough : length c.args.span.now ≤ reading.header.count = search rules in
-    let p = err_from_is_err_and c.from_residual-in_err-read.result c.from_residual-in_err-read.ensures.1 in
-    rw (p.1, p.2) (fault_of_span _ (g.S.Source.rest c.args.source.now) _ _ (length c.args.span.now) reading c.in_ok-reader.ensures.told c.in_ok-reader.ensures.header
-    (ap (λ (r : Reading). r.left) c.in_ok-reader.ensures.fresh) enough (c.in_err-read.ensures.fault none))
+    let p = err_from_is_err_and c.from_residual-in_err-read.result
+    c.from_residual-in_err-read.ensures.1 in
+    rw (p.1, p.2)
+    (fault_of_span _ (g.S.Source.rest c.args.source.now) _ _ (length c.args.span.now) reading
+    c.in_ok-reader.ensures.told c.in_ok-reader.ensures.header
+    (ap (λ (r : Reading). r.left) c.in_ok-reader.ensures.fresh) enough
+    (c.in_err-read.ensures.fault none))
 
 -- bytes with a fault are no file
 pub returns-in_err-reader-clause-fault : goal.returns-in_err-reader-clause-fault
-returns-in_err-reader-clause-fault g c = no_file c.from_residual.result (g.S.Source.rest c.args.source.now) (length c.args.span.now) (returns-in_err-reader-clause-place g c)
+returns-in_err-reader-clause-fault g c =
+    no_file c.from_residual.result (g.S.Source.rest c.args.source.now) (length c.args.span.now)
+    (returns-in_err-reader-clause-place g c)
 
 pub returns-then-count-span-clause-fault : goal.returns-then-count-span-clause-fault
-returns-then-count-span-clause-fault g c other = unsearchable (g.S.Source.rest c.args.source.now) (length c.args.span.now) _ (returns-then-count-span-clause-place g c other)
+returns-then-count-span-clause-fault g c other =
+    unsearchable (g.S.Source.rest c.args.source.now) (length c.args.span.now) _
+    (returns-then-count-span-clause-place g c other)
 
 pub returns-in_err-read-clause-fault : goal.returns-in_err-read-clause-fault
-returns-in_err-read-clause-fault g c = no_file c.from_residual-in_err-read.result (g.S.Source.rest c.args.source.now) (length c.args.span.now) (returns-in_err-read-clause-place g c)
+returns-in_err-read-clause-fault g c =
+    no_file c.from_residual-in_err-read.result (g.S.Source.rest c.args.source.now)
+    (length c.args.span.now) (returns-in_err-read-clause-place g c)

@@ -1,9 +1,10 @@
-use Rattle.std.proofs.Common.{◌≡◌, ℕ, List, Option, IfSome, length, ap, sym, ◌∙◌, subst, rules}
+use Rattle.std.proofs.Common.{◌≡◌, ℕ, List, [], Option, IfSome, length, ap, sym, ◌∙◌, subst, rules, arith}
 use Rattle.chip_core.specs.declared.sample.Sample.{Sample}
 use Rattle.cdma_io.specs.declared.file_fault.FileFault.{FileFault}
 use Rattle.mobile_core.specs.Tuning.{Tuning}
 use Rattle.cdma_replay.specs.Find.{IsFault, IsFaultIn}
-use Rattle.cdma_replay.specs.Hearing.{HasGiven, end_when, events_in}
+use Rattle.cdma_replay.specs.Hearing.{HasGiven, end_when, events_in, tuning_of}
+use Rattle.cdma_replay.proofs.Ends.{begins_file, ends_well, no_memory_told}
 use Rattle.cdma_replay.proofs.Faults.{fault_of_rest}
 use Rattle.cdma_replay.proofs.Files.{blamed, ended_by, unsearchable}
 use Rattle.cdma_replay.proofs.Hearings.{fault_no_end}
@@ -12,56 +13,122 @@ use Rattle.cdma_replay.proofs.receiving.receive_file.Goals as goal
 
 pub returns-in_err-reader-clause-place : goal.returns-in_err-reader-clause-place
 returns-in_err-reader-clause-place g c fault is =
-    let e = blamed c.from_residual.result c.in_err-reader.field-0.0 fault c.from_residual.ensures.1 is in
-    subst (λ (n : ℕ). IfSome (g.S.Source.rest c.args.source.now) (λ (bytes : List ℕ). IsFaultIn n bytes fault)) c.requires.span.0
-    (subst (λ (f : FileFault). IfSome (g.S.Source.rest c.args.source.now) (λ (bytes : List ℕ). IsFaultIn (length c.args.span.now) bytes f)) e.0
+    let e = blamed c.from_residual.result c.in_err-reader.field-0.0 fault c.from_residual.ensures.1
+    is in
+    subst (λ (n : ℕ). IfSome (g.S.Source.rest c.args.source.now)
+    (λ (bytes : List ℕ). IsFaultIn n bytes fault)) c.requires.span.0
+    (subst (λ (f : FileFault). IfSome (g.S.Source.rest c.args.source.now)
+    (λ (bytes : List ℕ). IsFaultIn (length c.args.span.now) bytes f)) e.0
     (c.in_err-reader.ensures.place e.2))
 
 pub returns-in-Err-clause-written : goal.returns-in-Err-clause-written
 returns-in-Err-clause-written g c =
-    writes_pilot_part _ c.in_ok-reader.reader.header (search rules) c.in_ok-reader.ensures.file c.in_ok-best.ensures c.in-Err.ensures.err
+    writes_pilot_part _ c.in_ok-reader.reader.header (search rules) c.in_ok-reader.ensures.file
+    c.in_ok-best.ensures c.in-Err.ensures.err
 
 pub returns-in-Err-hear-clause-written : goal.returns-in-Err-hear-clause-written
 returns-in-Err-hear-clause-written g c =
-    let begun = has_begun c.args.reception c.open_span.new.span c.in_ok-best.best _ (search rules) c.in_ok-reader.ensures.file c.in_ok-best.ensures c.near_for-near.ensures.near c.header.ensures.value c.in_ok-handset.ensures.given c.in-Ok.ensures.ok in
+    let begun =
+    has_begun c.args.reception c.open_span.new.span c.in_ok-best.best _ (search rules)
+    c.in_ok-reader.ensures.file c.in_ok-best.ensures c.near_for-near.ensures.near
+    c.header.ensures.value c.in_ok-handset.ensures.given c.in-Ok.ensures.ok in
     writes_first_part begun c.in-Err-hear.ensures.err
 
 pub returns-in_err-hear_rest-clause-done : goal.returns-in_err-hear_rest-clause-done
 returns-in_err-hear_rest-clause-done g c end =
-    absurd (fault_no_end _ (subst IsFault (sym (ended_by c.from_residual-in_err-hear_rest.result c.in_err-hear_rest.field-0.0 c.from_residual-in_err-hear_rest.ensures.1)) c.in_err-hear_rest.ensures.others) end)
+    absurd (fault_no_end _
+    (subst IsFault
+    (sym (ended_by c.from_residual-in_err-hear_rest.result c.in_err-hear_rest.field-0.0
+    c.from_residual-in_err-hear_rest.ensures.1)) c.in_err-hear_rest.ensures.others) end)
 
 pub returns-in_err-hear_rest-clause-at_end : goal.returns-in_err-hear_rest-clause-at_end
 returns-in_err-hear_rest-clause-at_end g c end =
-    absurd (fault_no_end _ (subst IsFault (sym (ended_by c.from_residual-in_err-hear_rest.result c.in_err-hear_rest.field-0.0 c.from_residual-in_err-hear_rest.ensures.1)) c.in_err-hear_rest.ensures.others) end)
+    absurd (fault_no_end _
+    (subst IsFault
+    (sym (ended_by c.from_residual-in_err-hear_rest.result c.in_err-hear_rest.field-0.0
+    c.from_residual-in_err-hear_rest.ensures.1)) c.in_err-hear_rest.ensures.others) end)
 
 pub returns-in_err-hear_rest-clause-place : goal.returns-in_err-hear_rest-clause-place
 returns-in_err-hear_rest-clause-place g c fault is =
-    let blames = sym (ended_by c.from_residual-in_err-hear_rest.result c.in_err-hear_rest.field-0.0 c.from_residual-in_err-hear_rest.ensures.1) ∙ is in
+    let blames =
+    sym (ended_by c.from_residual-in_err-hear_rest.result c.in_err-hear_rest.field-0.0
+    c.from_residual-in_err-hear_rest.ensures.1) ∙ is in
     let span = c.open_span.new.span in
     let counted : length span ≡ c.args.reception.span = search rules in
-    subst (λ (n : ℕ). IfSome (g.S.Source.rest c.args.source.now) (λ (bytes : List ℕ). IsFaultIn n bytes fault)) counted
-    (fault_of_rest fault (g.S.Source.rest c.args.source.now) _ c.in_ok-reader.reader span c.in_ok-reader.ensures.lawful (search rules)
+    subst (λ (n : ℕ). IfSome (g.S.Source.rest c.args.source.now)
+    (λ (bytes : List ℕ). IsFaultIn n bytes fault)) counted
+    (fault_of_rest fault (g.S.Source.rest c.args.source.now) _ c.in_ok-reader.reader span
+    c.in_ok-reader.ensures.lawful (search rules)
     c.in_ok-reader.ensures.file (c.in_err-hear_rest.ensures.place fault blames))
 
 pub returns-in_err-hear_rest-clause-bad_file : goal.returns-in_err-hear_rest-clause-bad_file
 returns-in_err-hear_rest-clause-bad_file g c fault is =
-    let blames = sym (ended_by c.from_residual-in_err-hear_rest.result c.in_err-hear_rest.field-0.0 c.from_residual-in_err-hear_rest.ensures.1) ∙ is in (
+    let blames =
+    sym (ended_by c.from_residual-in_err-hear_rest.result c.in_err-hear_rest.field-0.0
+    c.from_residual-in_err-hear_rest.ensures.1) ∙ is in (
       (c.in_err-hear_rest.ensures.fault fault blames).0,
-      unsearchable (g.S.Source.rest c.args.source.now) c.args.reception.span fault (returns-in_err-hear_rest-clause-place g c fault is),
+      unsearchable (g.S.Source.rest c.args.source.now) c.args.reception.span fault
+          (returns-in_err-hear_rest-clause-place g c fault is),
     )
 
 pub returns-in_err-hear_rest-clause-written : goal.returns-in_err-hear_rest-clause-written
 returns-in_err-hear_rest-clause-written g c =
-    let begun = has_begun c.args.reception c.open_span.new.span c.in_ok-best.best _ (search rules) c.in_ok-reader.ensures.file c.in_ok-best.ensures c.near_for-near.ensures.near c.header.ensures.value c.in_ok-handset.ensures.given c.in-Ok.ensures.ok in
+    let begun =
+    has_begun c.args.reception c.open_span.new.span c.in_ok-best.best _ (search rules)
+    c.in_ok-reader.ensures.file c.in_ok-best.ensures c.near_for-near.ensures.near
+    c.header.ensures.value c.in_ok-handset.ensures.given c.in-Ok.ensures.ok in
     writes_rest_part begun c.in-Ok-hear.ensures.ok c.in_err-hear_rest.ensures.written
 
 pub returns-clause-done : goal.returns-clause-done
 returns-clause-done g c end =
-    let begun = has_begun c.args.reception c.open_span.new.span c.in_ok-best.best _ (search rules) c.in_ok-reader.ensures.file c.in_ok-best.ensures c.near_for-near.ensures.near c.header.ensures.value c.in_ok-handset.ensures.given c.in-Ok.ensures.ok in
-    writes_text (g.S.Source.rest c.args.source.now) _ _ c.in_ok-reader.ensures.lawful (search rules) c.in_ok-reader.ensures.in_range begun c.in-Ok-hear.ensures.ok c.in_ok-hear_rest.ensures.ok c.in_ok-hear_rest.ensures.ends
-    (λ (t : Option Tuning) (heard : List Sample) (given : HasGiven t c.hear_rest.new.handset heard (events_in t heard)). c.end_when.ensures.value ∙ ap end_when (c.is_told.ensures t heard given))
+    let begun =
+    has_begun c.args.reception c.open_span.new.span c.in_ok-best.best _ (search rules)
+    c.in_ok-reader.ensures.file c.in_ok-best.ensures c.near_for-near.ensures.near
+    c.header.ensures.value c.in_ok-handset.ensures.given c.in-Ok.ensures.ok in
+    writes_text (g.S.Source.rest c.args.source.now) _ _ c.in_ok-reader.ensures.lawful (search rules)
+    c.in_ok-reader.ensures.in_range begun c.in-Ok-hear.ensures.ok c.in_ok-hear_rest.ensures.ok
+    c.in_ok-hear_rest.ensures.ends
+    (λ (t : Option Tuning) (heard : List Sample)
+    (given : HasGiven t c.hear_rest.new.handset heard (events_in t heard)).
+    c.end_when.ensures.value ∙ ap end_when (c.is_told.ensures t heard given))
 
 pub returns-clause-written : goal.returns-clause-written
 returns-clause-written g c =
-    let begun = has_begun c.args.reception c.open_span.new.span c.in_ok-best.best _ (search rules) c.in_ok-reader.ensures.file c.in_ok-best.ensures c.near_for-near.ensures.near c.header.ensures.value c.in_ok-handset.ensures.given c.in-Ok.ensures.ok in
+    let begun =
+    has_begun c.args.reception c.open_span.new.span c.in_ok-best.best _ (search rules)
+    c.in_ok-reader.ensures.file c.in_ok-best.ensures c.near_for-near.ensures.near
+    c.header.ensures.value c.in_ok-handset.ensures.given c.in-Ok.ensures.ok in
     writes_rest_part begun c.in-Ok-hear.ensures.ok c.in_ok-hear_rest.ensures.written
+
+pub returns-in_err-reader-clause-early : goal.returns-in_err-reader-clause-early
+returns-in_err-reader-clause-early g c none =
+    absurd (no_memory_told c.from_residual.result c.in_err-reader.field-0.0
+    c.from_residual.ensures.1 none)
+
+pub returns-in_err-best-clause-early : goal.returns-in_err-best-clause-early
+returns-in_err-best-clause-early g c none =
+    begins_file (g.S.Source.rest c.args.source.now) _ c.in_ok-reader.reader.header
+    c.open_span.new.span c.in_ok-reader.ensures.lawful (search rules)
+    (omega (arith, c.in_ok-reader.ensures.reader.0, c.requires.span.0))
+    c.in_ok-reader.ensures.file
+
+pub returns-in_err-handset-clause-early : goal.returns-in_err-handset-clause-early
+returns-in_err-handset-clause-early g c none =
+    begins_file (g.S.Source.rest c.args.source.now) _ c.in_ok-reader.reader.header
+    c.open_span.new.span c.in_ok-reader.ensures.lawful (search rules)
+    (omega (arith, c.in_ok-reader.ensures.reader.0, c.requires.span.0))
+    c.in_ok-reader.ensures.file
+
+pub returns-clause-alone : goal.returns-clause-alone
+returns-clause-alone g c none unheard =
+    let span = c.open_span.new.span in
+    let t : Option Tuning =
+    tuning_of c.in_ok-reader.reader.header span c.args.reception.fingers in
+    let begun =
+    has_begun c.args.reception span c.in_ok-best.best _ (search rules)
+    c.in_ok-reader.ensures.file c.in_ok-best.ensures c.near_for-near.ensures.near
+    c.header.ensures.value c.in_ok-handset.ensures.given c.in-Ok.ensures.ok in
+    let first = (c.in-Ok-hear.ensures.ok t [] [] begun.given).stands in
+    let last = (c.in_ok-hear_rest.ensures.ok t _ first).tells.stands in
+    ends_well t _ c.end_when.result _ (ap (tuning_of c.in_ok-reader.reader.header span) none)
+    c.end_when.ensures.value (c.is_told.ensures t _ last) unheard

@@ -15,8 +15,11 @@ pub loop-event-init : goal.loop-event-init
 loop-event-init g c = record {
   most = omega arith;
   room = omega arith;
-  told = λ (t : Tuning) (heard : List Sample) (given : List Event) (stands : StandsFor t c.args.mobile.now heard given).
-      subst (λ (xs : List Sample). HasTold t c.args.mobile.now given xs (g.K.Sink.written c.args.sink.now) (g.K.Sink.written c.args.sink.now)) (sym (append-nil heard))
+  told = λ (t : Tuning) (heard : List Sample) (given : List Event)
+      (stands : StandsFor t c.args.mobile.now heard given).
+      subst (λ (xs : List Sample). HasTold t c.args.mobile.now given xs
+      (g.K.Sink.written c.args.sink.now) (g.K.Sink.written c.args.sink.now))
+      (sym (append-nil heard))
       (told_none t c.args.mobile.now given heard (g.K.Sink.written c.args.sink.now) stands);
   later = omega arith;
 }
@@ -29,14 +32,22 @@ returns-in_default-clause-ok g c t heard given stands =
     let nothing : c.step-step.result.event ≡ None = search rules in
     let left = take_rest samples taken in
     let none = c.step-step.ensures.none nothing in
-    told_all t c.loop-event.mobile c.step-step.new.self given heard samples taken c.step-step.result.taken _ _ (inv.told t heard given stands)
+    told_all t c.loop-event.mobile c.step-step.new.self given heard samples taken
+    c.step-step.result.taken _ _ (inv.told t heard given stands)
     (none.0 ∙ ap length left)
-    (λ (before : List Event) (is : StandsFor t c.loop-event.mobile (heard ++ take taken samples) before).
-    subst (λ (xs : List Sample). StandsFor t c.step-step.new.self ((heard ++ take taken samples) ++ take c.step-step.result.taken xs) (before ++ [])) left
-    (subst (λ (e : Option Event). StandsFor t c.step-step.new.self ((heard ++ take taken samples) ++ take c.step-step.result.taken (take (length samples - taken) (drop taken samples))) (before ++ listed e)) nothing
-    (c.step-step.ensures.stands t (heard ++ take taken samples) before is)))
-    (λ (before : List Event) (is : StandsFor t c.loop-event.mobile (heard ++ take taken samples) before).
-    subst (λ (xs : List Sample). before ≡ events t ((heard ++ take taken samples) ++ xs)) left (none.1 t (heard ++ take taken samples) before is))
+    (λ (before : List Event)
+    (is : StandsFor t c.loop-event.mobile (heard ++ take taken samples) before).
+    subst (λ (xs : List Sample). StandsFor t c.step-step.new.self
+    ((heard ++ take taken samples) ++ take c.step-step.result.taken xs) (before ++ [])) left
+    (subst (λ (e : Option Event). StandsFor t c.step-step.new.self
+    ((heard ++ take taken samples) ++
+    take c.step-step.result.taken (take (length samples - taken) (drop taken samples)))
+    (before ++ listed e)) nothing
+    (c.step-step.ensures.steps.stands t (heard ++ take taken samples) before is)))
+    (λ (before : List Event)
+    (is : StandsFor t c.loop-event.mobile (heard ++ take taken samples) before).
+    subst (λ (xs : List Sample). before ≡ events t ((heard ++ take taken samples) ++ xs)) left
+    (none.1 t (heard ++ take taken samples) before is))
 
 pub loop-event-preserved : goal.loop-event-preserved
 loop-event-preserved g c =
@@ -49,12 +60,20 @@ loop-event-preserved g c =
     record {
       most = search rules;
       room = search rules;
-      told = λ (t : Tuning) (heard : List Sample) (given : List Event) (stands : StandsFor t c.args.mobile.now heard given).
-          told_more t c.loop-event.mobile c.step-step.new.self given heard samples taken c.step-step.result.taken event _ _ _ (inv.told t heard given stands)
-          (λ (before : List Event) (is : StandsFor t c.loop-event.mobile (heard ++ take taken samples) before).
-          subst (λ (xs : List Sample). StandsFor t c.step-step.new.self ((heard ++ take taken samples) ++ take c.step-step.result.taken xs) (before ++ event ∷ [])) left
-          (subst (λ (e : Option Event). StandsFor t c.step-step.new.self ((heard ++ take taken samples) ++ take c.step-step.result.taken (take (length samples - taken) (drop taken samples))) (before ++ listed e)) something
-          (c.step-step.ensures.stands t (heard ++ take taken samples) before is)))
+      told = λ (t : Tuning) (heard : List Sample) (given : List Event)
+          (stands : StandsFor t c.args.mobile.now heard given).
+          told_more t c.loop-event.mobile c.step-step.new.self given heard samples taken
+          c.step-step.result.taken event _ _ _ (inv.told t heard given stands)
+          (λ (before : List Event)
+          (is : StandsFor t c.loop-event.mobile (heard ++ take taken samples) before).
+          subst (λ (xs : List Sample). StandsFor t c.step-step.new.self
+          ((heard ++ take taken samples) ++ take c.step-step.result.taken xs)
+          (before ++ event ∷ [])) left
+          (subst (λ (e : Option Event). StandsFor t c.step-step.new.self
+          ((heard ++ take taken samples) ++
+          take c.step-step.result.taken (take (length samples - taken) (drop taken samples)))
+          (before ++ listed e)) something
+          (c.step-step.ensures.steps.stands t (heard ++ take taken samples) before is)))
           (search rules);
       later = search rules;
     }
@@ -68,10 +87,18 @@ returns-in_err-write_event-clause-err g c =
     let something : c.step-step.result.event ≡ Some event = search rules in
     let left = take_rest samples taken in
     let p = err_from_is_err_and c.from_residual.result c.from_residual.ensures.1 in
-    rw p.1 (λ (t : Tuning) (heard : List Sample) (given : List Event) (stands : StandsFor t c.args.mobile.now heard given).
-    told_part t c.loop-event.mobile c.step-step.new.self given heard samples taken c.step-step.result.taken event _ _ _ (inv.told t heard given stands)
-    (λ (before : List Event) (is : StandsFor t c.loop-event.mobile (heard ++ take taken samples) before).
-    subst (λ (xs : List Sample). StandsFor t c.step-step.new.self ((heard ++ take taken samples) ++ take c.step-step.result.taken xs) (before ++ event ∷ [])) left
-    (subst (λ (e : Option Event). StandsFor t c.step-step.new.self ((heard ++ take taken samples) ++ take c.step-step.result.taken (take (length samples - taken) (drop taken samples))) (before ++ listed e)) something
-    (c.step-step.ensures.stands t (heard ++ take taken samples) before is)))
+    rw p.1 (λ (t : Tuning) (heard : List Sample) (given : List Event)
+    (stands : StandsFor t c.args.mobile.now heard given).
+    told_part t c.loop-event.mobile c.step-step.new.self given heard samples taken
+    c.step-step.result.taken event _ _ _ (inv.told t heard given stands)
+    (λ (before : List Event)
+    (is : StandsFor t c.loop-event.mobile (heard ++ take taken samples) before).
+    subst (λ (xs : List Sample). StandsFor t c.step-step.new.self
+    ((heard ++ take taken samples) ++ take c.step-step.result.taken xs) (before ++ event ∷ []))
+    left
+    (subst (λ (e : Option Event). StandsFor t c.step-step.new.self
+    ((heard ++ take taken samples) ++
+    take c.step-step.result.taken (take (length samples - taken) (drop taken samples)))
+    (before ++ listed e)) something
+    (c.step-step.ensures.steps.stands t (heard ++ take taken samples) before is)))
     (search rules))

@@ -10,8 +10,10 @@ abbrev pub invariant-loop-event : goal.invariant-loop-event
 invariant-loop-event g l = record {
   most : l.taken ≤ length l.samples;
   room : has_room l.mobile + l.taken ≡ has_room l.fn.mobile;
-  told : (t : Tuning) (heard : List Sample) (given : List Event) → StandsFor t l.fn.mobile heard given →
-      HasTold t l.mobile given (heard ++ take l.taken l.samples) (g.K.Sink.written l.fn.sink) (g.K.Sink.written l.sink);
+  told : (t : Tuning) (heard : List Sample) (given : List Event) →
+      StandsFor t l.fn.mobile heard given →
+      HasTold t l.mobile given (heard ++ take l.taken l.samples) (g.K.Sink.written l.fn.sink)
+      (g.K.Sink.written l.sink);
   later : g.K.Sink.faults l.fn.sink ≤ g.K.Sink.faults l.sink;
 }
 

@@ -4,7 +4,8 @@ use Rattle.cdma_replay.proofs.words.choices_of.Given as goal
 
 abbrev pub invariant-loop-place : goal.invariant-loop-place
 invariant-loop-place l = record {
-  left : choices_behind (Some no_choices) (map string_bytes l.words) ≡ choices_behind (Some l.choices) (drop l.place (map string_bytes l.words));
+  left : choices_behind (Some no_choices) (map string_bytes l.words) ≡
+      choices_behind (Some l.choices) (drop l.place (map string_bytes l.words));
   lawful : AreLawful l.choices;
 }
 

@@ -12,23 +12,39 @@ pub returns-in_err-write_all-clause-err : goal.returns-in_err-write_all-clause-e
 returns-in_err-write_all-clause-err g c =
     let plan = c.args.cell.now.plan in
     let is : c.header_bytes.result ≡ header_spelling (header_of c.args.width plan) =
-    c.header_bytes.ensures ∙ ap header_spelling (c.header.ensures.value ∙ ap (λ (w : Width). header_of w plan) c.requires.fresh.0) in
+    c.header_bytes.ensures ∙
+    ap header_spelling (c.header.ensures.value ∙
+    ap (λ (w : Width). header_of w plan) c.requires.fresh.0) in
     let p = err_from_is_err_and c.from_residual.result c.from_residual.ensures.1 in
-    rw p.1 (header_cut c.args.width plan (g.K.Sink.written c.args.sink.now) (g.K.Sink.written c.write_all.new.sink)
-    (subst (AppendsPrefix (g.K.Sink.written c.args.sink.now) (g.K.Sink.written c.write_all.new.sink)) is c.in_err-write_all.ensures.err))
+    rw p.1 (header_cut c.args.width plan (g.K.Sink.written c.args.sink.now)
+    (g.K.Sink.written c.write_all.new.sink)
+    (subst (AppendsPrefix (g.K.Sink.written c.args.sink.now)
+    (g.K.Sink.written c.write_all.new.sink)) is c.in_err-write_all.ensures.err))
 
 pub returns-clause-ok : goal.returns-clause-ok
 returns-clause-ok g c =
     let plan = c.args.cell.now.plan in
     let is : c.header_bytes.result ≡ header_spelling (header_of c.args.width plan) =
-    c.header_bytes.ensures ∙ ap header_spelling (c.header.ensures.value ∙ ap (λ (w : Width). header_of w plan) c.requires.fresh.0) in
-    let before = subst (Appends (g.K.Sink.written c.args.sink.now) (g.K.Sink.written c.write_all.new.sink)) is c.in_ok-write_all.ensures.ok in
-    IfOk-weaker c.write_samples.result _ _ (λ done more. file_whole c.args.width plan _ (g.K.Sink.written c.write_all.new.sink) _ before more) c.write_samples.ensures.ok
+    c.header_bytes.ensures ∙
+    ap header_spelling (c.header.ensures.value ∙
+    ap (λ (w : Width). header_of w plan) c.requires.fresh.0) in
+    let before =
+    subst (Appends (g.K.Sink.written c.args.sink.now) (g.K.Sink.written c.write_all.new.sink))
+    is c.in_ok-write_all.ensures.ok in
+    IfOk-weaker c.write_samples.result _ _
+    (λ done more. file_whole c.args.width plan _ (g.K.Sink.written c.write_all.new.sink) _
+    before more) c.write_samples.ensures.ok
 
 pub returns-clause-err : goal.returns-clause-err
 returns-clause-err g c =
     let plan = c.args.cell.now.plan in
     let is : c.header_bytes.result ≡ header_spelling (header_of c.args.width plan) =
-    c.header_bytes.ensures ∙ ap header_spelling (c.header.ensures.value ∙ ap (λ (w : Width). header_of w plan) c.requires.fresh.0) in
-    let before = subst (Appends (g.K.Sink.written c.args.sink.now) (g.K.Sink.written c.write_all.new.sink)) is c.in_ok-write_all.ensures.ok in
-    IfErr-weaker c.write_samples.result _ _ (λ failed part. samples_cut c.args.width plan _ (g.K.Sink.written c.write_all.new.sink) _ before part) c.write_samples.ensures.err
+    c.header_bytes.ensures ∙
+    ap header_spelling (c.header.ensures.value ∙
+    ap (λ (w : Width). header_of w plan) c.requires.fresh.0) in
+    let before =
+    subst (Appends (g.K.Sink.written c.args.sink.now) (g.K.Sink.written c.write_all.new.sink))
+    is c.in_ok-write_all.ensures.ok in
+    IfErr-weaker c.write_samples.result _ _
+    (λ failed part. samples_cut c.args.width plan _ (g.K.Sink.written c.write_all.new.sink) _
+    before part) c.write_samples.ensures.err

@@ -7,11 +7,12 @@ abbrev pub invariant-loop-width : goal.invariant-loop-width
 invariant-loop-width g l = record {
   plan : l.cell.plan ≡ l.initial.cell.plan;
   width : l.cell.width ≡ l.width;
-  written : Appends (g.K.Sink.written l.fn.sink) (g.K.Sink.written l.sink) (first_bytes l.width l.initial.cell.plan l.cell.given);
+  written : Appends (g.K.Sink.written l.fn.sink) (g.K.Sink.written l.sink)
+      (first_bytes l.width l.initial.cell.plan l.cell.given);
   samples : length l.samples ≡ 4096;
   bytes : length l.bytes ≡ 16384;
   later : g.K.Sink.faults l.fn.sink ≤ g.K.Sink.faults l.sink;
 }
 
 abbrev pub decreases-loop-width : goal.decreases-loop-width
-decreases-loop-width g l = l.cell.plan.samples - l.cell.given
+decreases-loop-width g l = l.cell.plan.link.samples - l.cell.given

@@ -1,0 +1,62 @@
+-- Lemmas on runs that find no memory, and on runs without a handset.
+use Rattle.std.proofs.Common.{◌≡◌, ◌≢◌, ℕ, ◌≤◌, ◌++◌, List, length, sym, ap, ◌∙◌, true, Option, None, Some, IfSome, Result, IsErrAnd}
+use Rattle.std.specs.Prelude.{Bool}
+use Rattle.std.specs.List.{flat_map}
+use Rattle.std.specs.Io.KnownBytes.{Consumes}
+use Rattle.chip_core.specs.declared.sample.Sample.{Sample}
+use Rattle.cdma_io.specs.declared.file_fault.FileFault.{FileFault}
+use Rattle.cdma_io.specs.declared.file_fault.FileFault.TheVariants.{Magic, Version, Flags, Count, Short, Extra, ReadFault, TooFew}
+use Rattle.cdma_io.specs.declared.header.Header.{Header}
+use Rattle.cdma_io.specs.SampleFile.{IsLawfulHeader, header_spelling, sample_spelling, width_of}
+use Rattle.mobile_core.specs.Tuning.{Tuning}
+use Rattle.cdma_replay.specs.declared.status.Status.{Status}
+use Rattle.cdma_replay.specs.declared.status.Status.TheVariants.{NoMemory, NoSync}
+use Rattle.cdma_replay.specs.Status.{file_status}
+use Rattle.cdma_replay.specs.Find.{BeginsFile, ended}
+use Rattle.cdma_replay.specs.Hearing.{end_when, is_told}
+use Rattle.cdma_replay.proofs.Files.{ended_by}
+use Rattle.cdma_replay.proofs.Prefixes.{front_begins}
+
+-- a fault of the file is no want of memory
+fault_remembers : (fault : FileFault) → ¬ (file_status fault ≡ NoMemory)
+fault_remembers Magic is = cc
+fault_remembers Version is = cc
+fault_remembers Flags is = cc
+fault_remembers Count is = cc
+fault_remembers (Short place) is = cc
+fault_remembers (Extra place) is = cc
+fault_remembers ReadFault is = cc
+fault_remembers (TooFew count) is = cc
+
+pub no_memory_told : {T : Type 0} (r : Result T Status) (fault : FileFault) →
+    IsErrAnd r (λ (s : Status). s ≡ file_status fault) → ¬ (ended r ≡ NoMemory)
+no_memory_told r fault handed is =
+    fault_remembers fault (sym (ended_by r (file_status fault) handed) ∙ is)
+
+-- a header and as many samples as the span is were read
+pub begins_file : (rest mid : Option (List ℕ)) (header : Header) (samples : List Sample)
+    {span : ℕ} → IsLawfulHeader header → length samples ≡ span → span ≤ header.count →
+    Consumes rest mid
+    (header_spelling header ++ flat_map (sample_spelling (width_of header)) samples) →
+    IfSome rest (BeginsFile span)
+begins_file None mid header samples lawful counted enough consumed = tt
+begins_file (Some bytes) None header samples lawful counted enough consumed = absurd consumed
+begins_file (Some bytes) (Some behind) header samples lawful counted enough consumed = record {
+  header = header;
+  samples = samples;
+  lawful = lawful;
+  enough = enough;
+  counted = counted;
+  begins = front_begins bytes
+      (header_spelling header ++ flat_map (sample_spelling (width_of header)) samples) behind
+      consumed;
+}
+
+-- without a handset a run over a good file is done
+pub ends_well : {T : Type 0} (t : Option Tuning) (told : Bool) (r : Result T Status)
+    (heard : List Sample) → t ≡ None → ended r ≡ end_when told → told ≡ is_told t heard →
+    ¬ (ended r ≡ NoSync)
+ends_well t told r heard none ends is unheard =
+    let well : is_told t heard ≡ true = ap (λ (u : Option Tuning). is_told u heard) none in
+    let done : ended r ≡ end_when true = ends ∙ ap end_when (is ∙ well) in
+    cc

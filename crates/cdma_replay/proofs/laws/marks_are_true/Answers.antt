@@ -1,8 +1,0 @@
-use Rattle.cdma_replay.proofs.MarksTrue.{marked_where_heard, marks_true}
-use Rattle.cdma_replay.proofs.laws.marks_are_true.Goals as goal
-
-pub returns-clause-true_mark : goal.returns-clause-true_mark
-returns-clause-true_mark c = marks_true
-
-pub returns-clause-set : goal.returns-clause-set
-returns-clause-set c = marked_where_heard

@@ -1,9 +1,0 @@
-use Rattle.std.proofs.Common.{◌≡◌, ◌<◌, ◌^◌, drop}
-use Rattle.cdma_replay.specs.Words.{digits_from}
-use Rattle.cdma_replay.proofs.words.number_of_digits.Given as goal
-
-abbrev pub invariant-loop-digit : goal.invariant-loop-digit
-invariant-loop-digit l = record {
-  left : digits_from 0 l.text ≡ digits_from l.number (drop l.digit-index l.text);
-  below : l.number < 10 ^ l.digit-index;
-}
