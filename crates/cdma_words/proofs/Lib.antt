@@ -1,0 +1,5 @@
+mod WordApps
+mod WordJobs
+mod WordTests
+mod WordValues
+mod WordWalks

@@ -1,0 +1,30 @@
+use Rattle.std.proofs.Common.{◌≡◌, ◌+◌, ◌∙◌, drop, get_or, map, sym, ap, rules, arith}
+use Rattle.std.proofs.lemmas.List.{drop_all, length-map}
+use Rattle.clap.specs.Words.{App, app_of, rule_of, with_rule}
+use Rattle.cdma_words.specs.Words.{app_from, row_of, rule_by}
+use Rattle.cdma_words.proofs.WordTests.{item_first, no_rule}
+use Rattle.cdma_words.proofs.WordApps.{app-more, app-none}
+use Rattle.cdma_words.proofs.matching.command_by.Goals as goal
+
+pub loop-rule-preserved : goal.loop-rule-preserved
+loop-rule-preserved c =
+    let row = row_of (get_or c.args.rules.now c.loop-rule.rule-index no_rule) in
+    let rest = drop (c.loop-rule.rule-index + 1) (map row_of c.args.rules.now) in
+    let rule : rule_of c.action-option.result ≡ rule_by row = search rules in
+    let app : app_of c.in_ok-command.command ≡ with_rule (app_of c.loop-rule.command)
+    (rule_by row) =
+    c.in_ok-command.ensures.shape (search rules)
+    ∙ ap (with_rule (app_of c.loop-rule.command)) rule in
+    c.loop-rule.invariant
+    ∙ item_first (app_from (app_of c.loop-rule.command)) row_of c.args.rules.now
+    c.loop-rule.rule-index no_rule c.loop-rule-test.true
+    ∙ app-more (app_of c.loop-rule.command) row rest
+    ∙ ap (λ (a : App). app_from a rest) (sym app)
+
+pub returns : goal.returns
+returns c =
+    sym (c.loop-rule.invariant
+    ∙ ap (app_from (app_of c.loop-rule.command)) (drop_all c.loop-rule.rule-index
+    (map row_of c.args.rules.now)
+    (rw (length-map c.args.rules.now row_of) (omega (arith, c.loop-rule-test.false))))
+    ∙ app-none (app_of c.loop-rule.command))

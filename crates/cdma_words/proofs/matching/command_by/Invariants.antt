@@ -1,0 +1,9 @@
+use Rattle.std.proofs.Common.{◌≡◌, drop, map}
+use Rattle.clap.specs.Words.{app_of}
+use Rattle.cdma_words.specs.Words.{app_from, bare_app, row_of}
+use Rattle.cdma_words.proofs.matching.command_by.Given as goal
+
+abbrev pub invariant-loop-rule : goal.invariant-loop-rule
+invariant-loop-rule l =
+    app_from (bare_app l.fn.name) (map row_of l.rules) ≡
+    app_from (app_of l.command) (drop l.rule-index (map row_of l.rules))

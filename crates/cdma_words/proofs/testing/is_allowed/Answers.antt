@@ -1,0 +1,22 @@
+use Rattle.std.proofs.Common.{◌+◌, ◌∙◌, List, drop, map, sym}
+use Rattle.cdma_words.specs.Words.{OptionRow, is_allowed, row_of}
+use Rattle.cdma_words.proofs.WordTests.{item_first, no_rule, rule_elsewhere, rule_here}
+use Rattle.cdma_words.proofs.testing.is_allowed.Goals as goal
+
+pub returns-then-eq : goal.returns-then-eq
+returns-then-eq c =
+    c.is_value.ensures ∙ sym (c.loop-rule.invariant
+    ∙ item_first (λ (rows : List OptionRow). is_allowed rows c.args.name.now c.args.value.now)
+    row_of
+    c.args.rules.now c.loop-rule.rule-index no_rule c.loop-rule-test.true
+    ∙ rule_here _ (drop (c.loop-rule.rule-index + 1) (map row_of c.args.rules.now))
+    c.args.name.now c.args.value.now (sym c.eq.ensures ∙ c.if-eq.true))
+
+pub loop-rule-preserved : goal.loop-rule-preserved
+loop-rule-preserved c =
+    c.loop-rule.invariant
+    ∙ item_first (λ (rows : List OptionRow). is_allowed rows c.args.name.now c.args.value.now)
+    row_of
+    c.args.rules.now c.loop-rule.rule-index no_rule c.loop-rule-test.true
+    ∙ rule_elsewhere _ (drop (c.loop-rule.rule-index + 1) (map row_of c.args.rules.now))
+    c.args.name.now c.args.value.now (sym c.eq.ensures ∙ c.if-eq.false)

@@ -1,0 +1,8 @@
+use Rattle.std.proofs.Common.{◌≡◌, drop, map}
+use Rattle.cdma_words.specs.Words.{is_allowed, row_of}
+use Rattle.cdma_words.proofs.testing.is_allowed.Given as goal
+
+abbrev pub invariant-loop-rule : goal.invariant-loop-rule
+invariant-loop-rule l =
+    is_allowed (map row_of l.rules) l.fn.name l.fn.value ≡
+    is_allowed (drop l.rule-index (map row_of l.rules)) l.fn.name l.fn.value

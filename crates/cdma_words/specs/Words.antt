@@ -1,0 +1,251 @@
+-- The words of the command line, as lists of bytes, and the job that they name.
+use Rattle.std.specs.Prelude.{ℕ, ◌≤◌, nat_eq, nat_le, Bool, true}
+use Rattle.std.specs.Prelude.{false, not, ◌&&◌, ◌||◌, if◌then◌else◌, List, []}
+use Rattle.std.specs.Prelude.{◌∷◌, ◌++◌, length, map, codes, string_bytes, Option}
+use Rattle.std.specs.Prelude.{None, Some, find, option_map, option_and_then}
+use Rattle.std.specs.List.{list_any}
+use Rattle.std.specs.Option.{option_map_or}
+use Rattle.std.specs.Cmp.Lexicographic.{pointwise}
+use Rattle.std.specs.Str.{bytes_eq}
+use Rattle.std.specs.declared.string.String.{String}
+use Rattle.std.specs.declared.alloc.Global.{Global}
+use Rattle.chip_core.specs.Decimals.{digits_from}
+use Rattle.clap.specs.Lexer.{long_of}
+use Rattle.clap.specs.Words.{App, Rule, new_app, new_rule, with_rule}
+use Rattle.clap.specs.Simple.{on_top}
+use Rattle.clap.specs.declared.builder.ArgAction.TheVariants.{Set}
+use Rattle.cdma_io.specs.declared.width.Width.{Width}
+use Rattle.cdma_io.specs.declared.width.Width.TheVariants.{Sixteen, Eight}
+use Rattle.cdma_words.specs.declared.job.Job.{Job}
+use Rattle.cdma_words.specs.declared.job.Job.TheVariants.{Find, Follow, Make}
+use Rattle.cdma_words.specs.declared.grammar.Form.{Form}
+use Rattle.cdma_words.specs.declared.grammar.Form.TheVariants.{Between, Either}
+use Rattle.cdma_words.specs.declared.grammar.OptionRule.{OptionRule}
+
+abbrev pub Text : Type 0
+Text = List ℕ
+
+-- ---- the table of options
+
+-- a row of it: an option's name, which numbers it admits, and the number that stands where it isn't
+-- given, none where it has to be
+pub record OptionRow : Type 0 where
+  pub name : Text
+  pub form : Form
+  pub default : Option ℕ
+
+-- a row of the program's own table
+abbrev pub row_of : OptionRule → OptionRow
+row_of rule = record { name = rule.name.now; form = rule.form; default = rule.default }
+
+abbrev pub span_row : OptionRow
+span_row = record { name = codes "span"; form = Between 64 32768; default = Some 2048 }
+
+abbrev pub workers_row : OptionRow
+workers_row = record { name = codes "workers"; form = Between 1 64; default = Some 4 }
+
+abbrev pub fingers_row : OptionRow
+fingers_row = record { name = codes "fingers"; form = Between 1 3; default = Some 1 }
+
+-- an option that limits how often something is told
+abbrev pub limit_row : Text → ℕ → OptionRow
+limit_row name default =
+    record { name = name; form = Between 0 4294967295; default = Some default }
+
+abbrev pub bits_row : OptionRow
+bits_row = record { name = codes "bits"; form = Either 8 16; default = Some 16 }
+
+-- ---- the table of commands
+
+-- a row of it: a command's name, its options, and the job for one number of each of them
+pub record CommandRow : Type 0 where
+  pub name : Text
+  pub options : List OptionRow
+  pub job : List ℕ → Option Job
+
+abbrev pub find_with : List ℕ → Option Job
+find_with (span ∷ workers ∷ []) = Some (Find span workers)
+find_with _ = None
+
+abbrev pub follow_with : List ℕ → Option Job
+follow_with (span ∷ workers ∷ fingers ∷ limits) = Some (Follow span workers fingers limits)
+follow_with _ = None
+
+-- the width of parts of so many bits
+abbrev pub width_of : ℕ → Width
+width_of bits = if nat_eq bits 8 then Eight else Sixteen
+
+abbrev pub make_with : List ℕ → Option Job
+make_with (bits ∷ []) = Some (Make (width_of bits))
+make_with _ = None
+
+abbrev pub find_row : CommandRow
+find_row = record {
+  name = codes "find";
+  options = span_row ∷ workers_row ∷ [];
+  job = find_with;
+}
+
+abbrev pub follow_row : CommandRow
+follow_row = record {
+  name = codes "follow";
+  options = span_row ∷ workers_row ∷ fingers_row ∷ limit_row (codes "pilots") 4294967295
+      ∷ limit_row (codes "messages") 4294967295 ∷ limit_row (codes "frames") 4294967295
+      ∷ limit_row (codes "raw") 0 ∷ [];
+  job = follow_with;
+}
+
+abbrev pub make_row : CommandRow
+make_row = record { name = codes "make"; options = bits_row ∷ []; job = make_with }
+
+abbrev pub commands : List CommandRow
+commands = find_row ∷ follow_row ∷ make_row ∷ []
+
+-- ---- values
+
+-- the number that 1 to 20 decimal digits spell, leading zeros among them
+abbrev pub number_in : Text → Option ℕ
+number_in text =
+    if nat_le 1 (length text) then (if nat_le (length text) 20 then digits_from 0 text else None)
+    else None
+
+abbrev pub admits : Form → ℕ → Bool
+admits (Between least most) number = nat_le least number && nat_le number most
+admits (Either one other) number = nat_eq number one || nat_eq number other
+
+-- whether a text is a value of such an option
+abbrev pub is_value : Form → Text → Bool
+is_value form text = option_map_or (admits form) (number_in text) false
+
+-- whether there is an option of this name, which has this value
+abbrev pub is_allowed : List OptionRow → Text → Text → Bool
+is_allowed rows name text =
+    option_map_or (λ row. is_value row.form text) (find (λ row. bytes_eq row.name name) rows) false
+
+-- ---- the options behind a command
+
+-- what was given: names, each with the text of its value
+abbrev pub Given : Type 0
+Given = List (Text × Text)
+
+abbrev pub has_name : Text → Given → Bool
+has_name name given = list_any (λ p. bytes_eq p.0 name) given
+
+-- one option more, where the command has it with that value, and it wasn't given before
+abbrev pub added : List OptionRow → Text → Text → Given → Option Given
+added rows name text given =
+    if is_allowed rows name text && not (has_name name given)
+    then Some (given ++ (name, text) ∷ []) else None
+
+-- a word `--name=VALUE`, and a word `--name` with the word behind it
+abbrev pub joined : List OptionRow → Option (Text × Option Text) → Given → Option Given
+joined rows (Some (name, Some text)) given = added rows name text given
+joined rows _ given = None
+
+abbrev pub parted : List OptionRow → Option (Text × Option Text) → Text → Given → Option Given
+parted rows (Some (name, None)) text given = added rows name text given
+parted rows _ text given = None
+
+abbrev pub is_joined : Option (Text × Option Text) → Bool
+is_joined (Some (name, Some text)) = true
+is_joined _ = false
+
+-- what words give behind what was given before them; none where they aren't options of the table
+unfoldable pub given_behind : List OptionRow → Option Given → List Text → Option Given
+given_behind rows given [] = given
+given_behind rows given (word ∷ []) = option_and_then (joined rows (long_of word)) given
+given_behind rows given (word ∷ text ∷ words) =
+    if is_joined (long_of word)
+    then given_behind rows (option_and_then (joined rows (long_of word)) given) (text ∷ words)
+    else given_behind rows (option_and_then (parted rows (long_of word) text) given) words
+
+-- the text of an option
+abbrev pub text_of : Text → Given → Option Text
+text_of name given = option_map (λ p. p.1) (find (λ p. bytes_eq p.0 name) given)
+
+-- ---- from words to jobs
+
+-- the number of an option, by its text where it was given
+abbrev pub number_by : OptionRow → Option Text → Option ℕ
+number_by row None = row.default
+number_by row (Some text) = number_in text
+
+-- the numbers of all options, where each has one
+abbrev pub numbers_by : List OptionRow → Given → Option (List ℕ)
+numbers_by [] given = Some []
+numbers_by (row ∷ rows) given =
+    option_and_then (λ n. option_map (λ ns. n ∷ ns) (numbers_by rows given))
+    (number_by row (text_of row.name given))
+
+-- the job of a command with the words behind it
+unfoldable pub job_by : CommandRow → List Text → Option Job
+job_by row words =
+    option_and_then row.job
+    (option_and_then (numbers_by row.options) (given_behind row.options (Some []) words))
+
+-- the job of a command's name with the words behind it
+abbrev pub job_behind : Text → List Text → Option Job
+job_behind command words =
+    option_and_then (λ row. job_by row words)
+    (find (λ row. pointwise nat_eq command row.name) commands)
+
+-- the job of the words: a command, and what stands behind it
+unfoldable pub job_in : List Text → Option Job
+job_in [] = None
+job_in (command ∷ words) = job_behind command words
+
+-- the job that the strings of a command line name
+abbrev pub job_named : List (String Global) → Option Job
+job_named words = job_in (map string_bytes words)
+
+-- ---- the first option of words, and who names it
+
+-- the name and the value of the first option, and how many words it takes
+abbrev pub part_by : Option (Text × Option Text) → List Text → Option (Text × Text × ℕ)
+part_by None words = None
+part_by (Some (name, Some text)) words = Some (name, text, 1)
+part_by (Some (name, None)) [] = None
+part_by (Some (name, None)) (text ∷ words) = Some (name, text, 2)
+
+abbrev pub part_of : List Text → Option (Text × Text × ℕ)
+part_of [] = None
+part_of (word ∷ words) = part_by (long_of word) words
+
+-- whether one of the words names this option
+abbrev pub names : Text → Text → Bool
+names name word = option_map_or (λ p. bytes_eq p.0 name) (long_of word) false
+
+abbrev pub is_named_in : Text → List Text → Bool
+is_named_in name words = list_any (names name) words
+
+-- ---- clap's command for a command with these options
+
+abbrev pub rule_by : OptionRow → Rule
+rule_by row = record (new_rule row.name) { long = Some row.name; action = Some Set }
+
+abbrev pub bare_app : Text → App
+bare_app name =
+    on_top (λ s. record s { disable_help_flag = true })
+    (on_top (λ s. record s { no_binary_name = true }) (new_app name))
+
+unfoldable pub app_from : App → List OptionRow → App
+app_from app [] = app
+app_from app (row ∷ rows) = app_from (with_rule app (rule_by row)) rows
+
+-- ---- numbers that the options admit
+
+abbrev pub IsSpan : ℕ → Type 0
+IsSpan span = (64 ≤ span) × (span ≤ 32768)
+
+abbrev pub IsWorkers : ℕ → Type 0
+IsWorkers workers = (1 ≤ workers) × (workers ≤ 64)
+
+abbrev pub IsFingers : ℕ → Type 0
+IsFingers fingers = (1 ≤ fingers) × (fingers ≤ 3)
+
+-- a job has numbers that its options admit
+abbrev pub IsLawfulJob : Job → Type 0
+IsLawfulJob (Find span workers) = IsSpan span × IsWorkers workers
+IsLawfulJob (Follow span workers fingers limits) =
+    IsSpan span × IsWorkers workers × IsFingers fingers
+IsLawfulJob (Make width) = Unit {0}

@@ -1,0 +1,68 @@
+//! The values of options, as clap parts them.
+
+ghost use Rattle.std.specs.Prelude.{◌≡◌, IfOk, IfErr, map, true};
+ghost use Rattle.std.specs.Prelude.{is_some, Some, None, [], string_bytes};
+ghost use Rattle.clap.specs.Words.{app_of, first_value, found_of, kind_of};
+ghost use Rattle.cdma_words.specs.Words.{Given, Text, app_from, bare_app};
+ghost use Rattle.cdma_words.specs.Words.{given_behind, number_by, row_of, text_of};
+
+use crate::grammar::{OptionRule, number_in};
+use crate::job::WordFault;
+use clap::error::ErrorKind;
+use clap::{Arg, ArgAction, ArgMatches, Command, Error};
+use std::alloc::{AllocError, Global};
+
+/// What clap makes of words that are options of the rules, for a command of this name: an option's
+/// value is the text that was given. It fails for want of memory alone.
+pub fn matches_by<'a>(
+    alloc: Global,
+    name: &'a str,
+    rules: &[OptionRule],
+    words: &'a [String],
+) -> Result<ArgMatches<'a>, Error>
+    requires { is_some (given_behind (map row_of rules.now) (Some [])
+        (map string_bytes words.now)) ≡ true }
+    ensures ok { (given : Given) →
+        given_behind (map row_of rules.now) (Some []) (map string_bytes words.now) ≡ Some given →
+        IfOk result (λ m. (option : Text) →
+        first_value (found_of m) option ≡ text_of option given) }
+    ensures err { IfErr result (λ e. kind_of e ≡ ErrorKind.OutOfMemory) }
+{
+    let command = command_by(alloc, name, rules)?;
+    command.try_get_matches_from(words)
+}
+
+/// A command of clap with an option for each rule, and without help and version.
+fn command_by<'a>(
+    alloc: Global,
+    name: &'a str,
+    rules: &[OptionRule],
+) -> Result<Command<'a>, AllocError>
+    ensures { IfOk result (λ c. app_of c ≡ app_from (bare_app name.now) (map row_of rules.now)) }
+{
+    let mut command = Command::new(alloc, name)
+        .no_binary_name(true)
+        .disable_help_flag(true);
+    for rule in rules {
+        let option = Arg::new(alloc, rule.name)
+            .long(rule.name)
+            .action(ArgAction::Set);
+        command = command.arg(option)?;
+    }
+    Ok(command)
+}
+
+/// The number of a rule's option: that of its text where it was given, else the default. `Bad`
+/// where there is neither, or where the text is no number.
+pub fn number_by(matches: &ArgMatches<'_>, rule: &OptionRule) -> Result<u128, WordFault>
+    ensures ok { IfOk result (λ n. number_by (row_of rule.now)
+        (first_value (found_of matches.now) rule.now.name.now) ≡ Some n) }
+    ensures err { IfErr result (λ e. (e ≡ WordFault.Bad) × (number_by (row_of rule.now)
+        (first_value (found_of matches.now) rule.now.name.now) ≡ None)) }
+{
+    let number = match matches.get_str(rule.name) {
+        Some(text) => number_in(text),
+        None => rule.default,
+    };
+    number.ok_or(WordFault::Bad)
+}

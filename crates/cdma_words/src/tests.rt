@@ -1,0 +1,170 @@
+//! Words that are in the grammar, and words that aren't.
+
+use crate::{Job, WordFault, words_of};
+use cdma_io::Width;
+use std::alloc::Global;
+use std::test::Fail;
+
+/// What the words of a line ask for. One blank parts a word from the next, so that between two
+/// blanks stands an empty word.
+fn read(alloc: Global, line: &str) -> Result<Result<Job, WordFault>, Fail> {
+    let mut words = Vec::new(alloc);
+    for word in line.split(' ') {
+        words.push(String::from_str(alloc, word)?)?;
+    }
+    Ok(words_of(alloc, words.as_slice()))
+}
+
+#[test]
+fn takes_words_of_the_grammar(rt: HostRuntime) -> Result<(), Fail> {
+    let alloc = rt.alloc();
+    for (line, span, workers) in [
+        ("find", 2048, 4),
+        ("find --span=0064", 64, 4),
+        ("find --span 00000000000000000064", 64, 4),
+        ("find --workers 64 --span=32768", 32768, 64),
+        ("find --workers=1", 2048, 1),
+    ] {
+        assert_eq!(rt;
+            read(alloc, line)?,
+            Ok(Job::Find { span, workers }),
+            "{line}"
+        );
+    }
+    assert_eq!(rt;
+        read(
+            alloc,
+            "follow --raw=4294967295 --pilots 0 --fingers=3 --messages 7 --span 64"
+        )?,
+        Ok(Job::Follow {
+            span: 64,
+            workers: 4,
+            fingers: 3,
+            limits: [0, 7, 4294967295, 4294967295],
+        })
+    );
+    assert_eq!(rt;
+        read(alloc, "follow")?,
+        Ok(Job::Follow {
+            span: 2048,
+            workers: 4,
+            fingers: 1,
+            limits: [4294967295, 4294967295, 4294967295, 0],
+        })
+    );
+    for (line, width) in [
+        ("make", Width::Sixteen),
+        ("make --bits 016", Width::Sixteen),
+        ("make --bits=8", Width::Eight),
+    ] {
+        assert_eq!(rt; read(alloc, line)?, Ok(Job::Make { width }), "{line}");
+    }
+    Ok(())
+}
+
+#[test]
+fn refuses_no_words(rt: HostRuntime) -> Result<(), Fail> {
+    let words: Vec<String> = Vec::new(rt.alloc());
+    assert_eq!(rt; words_of(rt.alloc(), words.as_slice()), Err(WordFault::Bad));
+    Ok(())
+}
+
+#[test]
+fn refuses_other_commands(rt: HostRuntime) -> Result<(), Fail> {
+    for line in [
+        "",
+        "fin",
+        "finds",
+        "Find",
+        "help",
+        "--help",
+        "--version",
+        "--",
+        "-- find",
+        "--span 64 find",
+        " find",
+        "find find",
+        "make make",
+        "find follow",
+    ] {
+        assert_eq!(rt; read(rt.alloc(), line)?, Err(WordFault::Bad), "{line}");
+    }
+    Ok(())
+}
+
+#[test]
+fn refuses_other_options(rt: HostRuntime) -> Result<(), Fail> {
+    for line in [
+        "find ",
+        "find -",
+        "find --",
+        "find -h",
+        "find -V",
+        "find --help",
+        "find --version",
+        "find --spa 64",
+        "find --Span 64",
+        "find -span 64",
+        "find --=64",
+        "find --span 64 --span 64",
+        "find --span=64 --span=64",
+        "find --span=64 --workers=2 --span 64",
+        "find --span --",
+        "find --span 64 --",
+        "find -- --span=64",
+        "find --span=64 --help",
+        "find --fingers 1",
+        "find --bits 16",
+        "find --raw 1",
+        "follow --bits=8",
+        "follow --fingers=1 --fingers=1",
+        "follow --raw 1 --pilots 1 --raw 2",
+        "follow --pilot 1",
+        "make --span 64",
+        "make --workers 4",
+        "make --fingers 1",
+        "make --bits 8 --bits 8",
+        "make --bits 8 16",
+    ] {
+        assert_eq!(rt; read(rt.alloc(), line)?, Err(WordFault::Bad), "{line}");
+    }
+    Ok(())
+}
+
+#[test]
+fn refuses_other_values(rt: HostRuntime) -> Result<(), Fail> {
+    for line in [
+        "find --span",
+        "find --span=",
+        "find --span ",
+        "find --span= 64",
+        "find --span -",
+        "find --span=-64",
+        "find --span --workers=2",
+        "find --span 63",
+        "find --span=32769",
+        "find --span=+64",
+        "find --span +64",
+        "find --span=6_4",
+        "find --span 64.0",
+        "find --span 0x40",
+        "find --span ٦٤",
+        "find --span 18446744073709551680",
+        "find --span=000000000000000000064",
+        "find --workers 0",
+        "find --workers=65",
+        "find --workers",
+        "follow --fingers",
+        "follow --fingers 0",
+        "follow --fingers=4",
+        "follow --raw=4294967296",
+        "follow --span 64 --fingers",
+        "follow --span=64=64",
+        "make --bits 9",
+        "make --bits=",
+        "make --bits 24",
+    ] {
+        assert_eq!(rt; read(rt.alloc(), line)?, Err(WordFault::Bad), "{line}");
+    }
+    Ok(())
+}
