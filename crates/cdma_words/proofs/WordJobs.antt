@@ -4,6 +4,7 @@ use Rattle.std.proofs.Common.{refl, sym, ap, subst, ◌∙◌, arith, rules, Res
 use Rattle.std.proofs.Common.{codes, find, length, map, string_bytes, String}
 use Rattle.std.proofs.Common.{Global, Option, None, Some, is_some, unwrap_or}
 use Rattle.std.specs.Str.{bytes_eq}
+use Rattle.cdma_words.specs.declared.grammar.Form.{Form}
 use Rattle.cdma_words.specs.declared.grammar.Form.TheVariants.{Between}
 use Rattle.cdma_words.specs.declared.job.Job.{Job}
 use Rattle.cdma_words.specs.declared.job.Job.TheVariants.{Find, Follow, Make}
@@ -34,9 +35,9 @@ pub record Reads (row : CommandRow) (words : List Text) (found : Text → Option
   pub behind : given_behind row.options (Some []) words ≡ Some given
   pub texts : (option : Text) → found option ≡ text_of option given
 
-pub reads_from : (row : CommandRow) (words : List Text) (found : Text → Option Text) →
+pub reads_from : {row : CommandRow} {words : List Text} {found : Text → Option Text} →
     AreLawful row words → Finds row words found → Reads row words found
-reads_from row words found lawful finds =
+reads_from {row} {words} {found} lawful finds =
     let g = given_of (given_behind row.options (Some []) words) lawful in
     record { given = g.0; behind = g.1; texts = finds g.0 g.1 }
 
@@ -49,35 +50,42 @@ pub record IsOption (row : CommandRow) (option : OptionRow) : Type 0 where
   pub defaults : option.default ≡ Some default
   pub admitted : admits option.form default ≡ true
 
-pub number_is : (row : CommandRow) (words : List Text) (found : Text → Option Text)
-    (option : OptionRow) → Reads row words found → IsOption row option →
+pub number_is : {row : CommandRow} {words : List Text} {found : Text → Option Text}
+    {option : OptionRow} → Reads row words found → IsOption row option →
     HasNumber option (found option.name)
-number_is row words found option r o =
+number_is {row} {words} {found} {option} r o =
     subst (HasNumber option) (sym (r.texts option.name))
     (number_found row.options words r.given option o.default r.behind o.stands o.defaults
     o.admitted)
 
 -- the number that was read is one that the option admits
-pub number_admitted : (row : CommandRow) (words : List Text) (found : Text → Option Text)
-    (option : OptionRow) (n : ℕ) → Reads row words found → IsOption row option →
+number_admitted : {row : CommandRow} {words : List Text} {found : Text → Option Text}
+    {option : OptionRow} (n : ℕ) → Reads row words found → IsOption row option →
     number_by option (found option.name) ≡ Some n → admits option.form n ≡ true
-number_admitted row words found option n r o is =
-    let h = number_is row words found option r o in
+number_admitted {row} {words} {found} {option} n r o is =
+    let h = number_is r o in
     let same : h.0 ≡ n = ap (λ (m : Option ℕ). unwrap_or m 0) (sym h.1 ∙ is) in
     subst (λ (m : ℕ). admits option.form m ≡ true) same h.2
 
+in_bounds : (least most n : ℕ) → admits (Between least most) n ≡ true → (least ≤ n) × (n ≤ most)
+in_bounds least most n e = (search (rules, arith), search (rules, arith))
+
+pub number_within : (least most : ℕ) {row : CommandRow} {words : List Text}
+    {found : Text → Option Text} {option : OptionRow} {n : ℕ} → Reads row words found →
+    IsOption row option → option.form ≡ Between least most →
+    number_by option (found option.name) ≡ Some n → (least ≤ n) × (n ≤ most)
+number_within least most {row} {words} {found} {option} {n} r o form_is is =
+    in_bounds least most n
+    (subst (λ (f : Form). admits f n ≡ true) form_is (number_admitted n r o is))
+
 -- there is always a number
-pub number_missing : (row : CommandRow) (words : List Text) (found : Text → Option Text)
-    (option : OptionRow) → Reads row words found → IsOption row option →
+pub number_missing : {row : CommandRow} {words : List Text} {found : Text → Option Text}
+    {option : OptionRow} → Reads row words found → IsOption row option →
     ¬ (number_by option (found option.name) ≡ None)
-number_missing row words found option r o none =
-    let h = number_is row words found option r o in
+number_missing {row} {words} {found} {option} r o none =
+    let h = number_is r o in
     let bad : Some h.0 ≡ None = sym h.1 ∙ none in
     search rules
-
-pub in_bounds : (least most n : ℕ) → admits (Between least most) n ≡ true →
-    (least ≤ n) × (n ≤ most)
-in_bounds least most n e = (search (rules, arith), search (rules, arith))
 
 -- one number more
 more : (row : CommandRow) (words : List Text) (found : Text → Option Text)
@@ -114,8 +122,8 @@ find_has words lawful =
     let found : Text → Option Text = λ option. text_of option g.0 in
     let r : Reads find_row words found =
     record { given = g.0; behind = g.1; texts = λ option. refl } in
-    let span = number_is find_row words found span_row r find_span in
-    let workers = number_is find_row words found workers_row r find_workers in
+    let span = number_is r find_span in
+    let workers = number_is r find_workers in
     (Find span.0 workers.0, find_job words found span.0 workers.0 r span.1 workers.1)
 
 -- ---- `follow`
@@ -202,13 +210,13 @@ follow_has words lawful =
     let found : Text → Option Text = λ option. text_of option g.0 in
     let r : Reads follow_row words found =
     record { given = g.0; behind = g.1; texts = λ option. refl } in
-    let span = number_is follow_row words found span_row r follow_span in
-    let workers = number_is follow_row words found workers_row r follow_workers in
-    let fingers = number_is follow_row words found fingers_row r follow_fingers in
-    let pilots = number_is follow_row words found pilots_row r follow_pilots in
-    let messages = number_is follow_row words found messages_row r follow_messages in
-    let frames = number_is follow_row words found frames_row r follow_frames in
-    let raw = number_is follow_row words found raw_row r follow_raw in (
+    let span = number_is r follow_span in
+    let workers = number_is r follow_workers in
+    let fingers = number_is r follow_fingers in
+    let pilots = number_is r follow_pilots in
+    let messages = number_is r follow_messages in
+    let frames = number_is r follow_frames in
+    let raw = number_is r follow_raw in (
       Follow span.0 workers.0 fingers.0 (pilots.0 ∷ messages.0 ∷ frames.0 ∷ raw.0 ∷ []),
       follow_job words found span.0 workers.0 fingers.0 pilots.0 messages.0 frames.0 raw.0 r
           span.1 workers.1 fingers.1 pilots.1 messages.1 frames.1 raw.1,
@@ -234,7 +242,7 @@ make_has words lawful =
     let found : Text → Option Text = λ option. text_of option g.0 in
     let r : Reads make_row words found =
     record { given = g.0; behind = g.1; texts = λ option. refl } in
-    let bits = number_is make_row words found bits_row r make_bits in
+    let bits = number_is r make_bits in
     (Make (width_of bits.0), make_job words found bits.0 r bits.1)
 
 -- ---- jobs and refusals

@@ -3,12 +3,10 @@ use Rattle.std.proofs.Common.{Err, Ok, arith, map, refl, rules, string_bytes, sy
 use Rattle.clap.specs.Words.{first_value, found_of}
 use Rattle.cdma_words.specs.declared.job.WordFault.TheVariants.{OutOfMemory}
 use Rattle.cdma_words.specs.Words.{follow_row}
-use Rattle.cdma_words.specs.Words.{span_row, workers_row, fingers_row}
 use Rattle.cdma_words.proofs.WordJobs.{Reads, follow_fingers, follow_frames, follow_messages}
 use Rattle.cdma_words.proofs.WordJobs.{follow_pilots, follow_raw, follow_span, follow_workers}
-use Rattle.cdma_words.proofs.WordJobs.{follow_has, follow_job, in_bounds, not_bad}
-use Rattle.cdma_words.proofs.WordJobs.{number_admitted, number_missing, reads_from}
-use Rattle.cdma_words.proofs.WordJobs.{pilots_row, messages_row, frames_row, raw_row}
+use Rattle.cdma_words.proofs.WordJobs.{follow_has, follow_job, not_bad}
+use Rattle.cdma_words.proofs.WordJobs.{number_within, number_missing, reads_from}
 use Rattle.cdma_words.proofs.WordValues.{job_none}
 use Rattle.cdma_words.proofs.job.follow_of.Goals as goal
 
@@ -30,80 +28,64 @@ returns-in_err-span-clause-bad c =
     let texts = map string_bytes c.args.options.now in
     let found = first_value (found_of c.in-Ok.matches) in
     let r : Reads follow_row texts found =
-    reads_from follow_row texts found (sym c.are_lawful.ensures ∙ c.if-not-are_lawful.false)
-    c.in-Ok.ensures.ok in
-    absurd (number_missing follow_row texts found span_row r follow_span
-    c.in_err-span.ensures.err.1)
+    reads_from (sym c.are_lawful.ensures ∙ c.if-not-are_lawful.false) c.in-Ok.ensures.ok in
+    absurd (number_missing r follow_span c.in_err-span.ensures.err.1)
 
 pub returns-in_err-workers-clause-bad : goal.returns-in_err-workers-clause-bad
 returns-in_err-workers-clause-bad c =
     let texts = map string_bytes c.args.options.now in
     let found = first_value (found_of c.in-Ok.matches) in
     let r : Reads follow_row texts found =
-    reads_from follow_row texts found (sym c.are_lawful.ensures ∙ c.if-not-are_lawful.false)
-    c.in-Ok.ensures.ok in
-    absurd (number_missing follow_row texts found workers_row r follow_workers
-    c.in_err-workers.ensures.err.1)
+    reads_from (sym c.are_lawful.ensures ∙ c.if-not-are_lawful.false) c.in-Ok.ensures.ok in
+    absurd (number_missing r follow_workers c.in_err-workers.ensures.err.1)
 
 pub returns-in_err-fingers-clause-bad : goal.returns-in_err-fingers-clause-bad
 returns-in_err-fingers-clause-bad c =
     let texts = map string_bytes c.args.options.now in
     let found = first_value (found_of c.in-Ok.matches) in
     let r : Reads follow_row texts found =
-    reads_from follow_row texts found (sym c.are_lawful.ensures ∙ c.if-not-are_lawful.false)
-    c.in-Ok.ensures.ok in
-    absurd (number_missing follow_row texts found fingers_row r follow_fingers
-    c.in_err-fingers.ensures.err.1)
+    reads_from (sym c.are_lawful.ensures ∙ c.if-not-are_lawful.false) c.in-Ok.ensures.ok in
+    absurd (number_missing r follow_fingers c.in_err-fingers.ensures.err.1)
 
 pub returns-in_err-pilots-clause-bad : goal.returns-in_err-pilots-clause-bad
 returns-in_err-pilots-clause-bad c =
     let texts = map string_bytes c.args.options.now in
     let found = first_value (found_of c.in-Ok.matches) in
     let r : Reads follow_row texts found =
-    reads_from follow_row texts found (sym c.are_lawful.ensures ∙ c.if-not-are_lawful.false)
-    c.in-Ok.ensures.ok in
-    absurd (number_missing follow_row texts found pilots_row r follow_pilots
-    c.in_err-pilots.ensures.err.1)
+    reads_from (sym c.are_lawful.ensures ∙ c.if-not-are_lawful.false) c.in-Ok.ensures.ok in
+    absurd (number_missing r follow_pilots c.in_err-pilots.ensures.err.1)
 
 pub returns-in_err-messages-clause-bad : goal.returns-in_err-messages-clause-bad
 returns-in_err-messages-clause-bad c =
     let texts = map string_bytes c.args.options.now in
     let found = first_value (found_of c.in-Ok.matches) in
     let r : Reads follow_row texts found =
-    reads_from follow_row texts found (sym c.are_lawful.ensures ∙ c.if-not-are_lawful.false)
-    c.in-Ok.ensures.ok in
-    absurd (number_missing follow_row texts found messages_row r follow_messages
-    c.in_err-messages.ensures.err.1)
+    reads_from (sym c.are_lawful.ensures ∙ c.if-not-are_lawful.false) c.in-Ok.ensures.ok in
+    absurd (number_missing r follow_messages c.in_err-messages.ensures.err.1)
 
 pub returns-in_err-frames-clause-bad : goal.returns-in_err-frames-clause-bad
 returns-in_err-frames-clause-bad c =
     let texts = map string_bytes c.args.options.now in
     let found = first_value (found_of c.in-Ok.matches) in
     let r : Reads follow_row texts found =
-    reads_from follow_row texts found (sym c.are_lawful.ensures ∙ c.if-not-are_lawful.false)
-    c.in-Ok.ensures.ok in
-    absurd (number_missing follow_row texts found frames_row r follow_frames
-    c.in_err-frames.ensures.err.1)
+    reads_from (sym c.are_lawful.ensures ∙ c.if-not-are_lawful.false) c.in-Ok.ensures.ok in
+    absurd (number_missing r follow_frames c.in_err-frames.ensures.err.1)
 
 pub returns-in_err-raw-clause-bad : goal.returns-in_err-raw-clause-bad
 returns-in_err-raw-clause-bad c =
     let texts = map string_bytes c.args.options.now in
     let found = first_value (found_of c.in-Ok.matches) in
     let r : Reads follow_row texts found =
-    reads_from follow_row texts found (sym c.are_lawful.ensures ∙ c.if-not-are_lawful.false)
-    c.in-Ok.ensures.ok in
-    absurd (number_missing follow_row texts found raw_row r follow_raw c.in_err-raw.ensures.err.1)
+    reads_from (sym c.are_lawful.ensures ∙ c.if-not-are_lawful.false) c.in-Ok.ensures.ok in
+    absurd (number_missing r follow_raw c.in_err-raw.ensures.err.1)
 
 pub overflow_cast-result : goal.overflow_cast-result
 overflow_cast-result c =
     let texts = map string_bytes c.args.options.now in
     let found = first_value (found_of c.in-Ok.matches) in
     let r : Reads follow_row texts found =
-    reads_from follow_row texts found (sym c.are_lawful.ensures ∙ c.if-not-are_lawful.false)
-    c.in-Ok.ensures.ok in
-    let most =
-    (in_bounds 64 32768 c.in_ok-span.span (number_admitted follow_row texts found span_row
-    c.in_ok-span.span r follow_span c.in_ok-span.ensures.ok)).1 in
+    reads_from (sym c.are_lawful.ensures ∙ c.if-not-are_lawful.false) c.in-Ok.ensures.ok in
+    let most = (number_within 64 32768 r follow_span refl c.in_ok-span.ensures.ok).1 in
     omega (arith, most)
 
 pub overflow_cast-result-2 : goal.overflow_cast-result-2
@@ -111,11 +93,8 @@ overflow_cast-result-2 c =
     let texts = map string_bytes c.args.options.now in
     let found = first_value (found_of c.in-Ok.matches) in
     let r : Reads follow_row texts found =
-    reads_from follow_row texts found (sym c.are_lawful.ensures ∙ c.if-not-are_lawful.false)
-    c.in-Ok.ensures.ok in
-    let most =
-    (in_bounds 1 64 c.in_ok-workers.workers (number_admitted follow_row texts found workers_row
-    c.in_ok-workers.workers r follow_workers c.in_ok-workers.ensures.ok)).1 in
+    reads_from (sym c.are_lawful.ensures ∙ c.if-not-are_lawful.false) c.in-Ok.ensures.ok in
+    let most = (number_within 1 64 r follow_workers refl c.in_ok-workers.ensures.ok).1 in
     omega (arith, most)
 
 pub overflow_cast-result-3 : goal.overflow_cast-result-3
@@ -123,11 +102,8 @@ overflow_cast-result-3 c =
     let texts = map string_bytes c.args.options.now in
     let found = first_value (found_of c.in-Ok.matches) in
     let r : Reads follow_row texts found =
-    reads_from follow_row texts found (sym c.are_lawful.ensures ∙ c.if-not-are_lawful.false)
-    c.in-Ok.ensures.ok in
-    let most =
-    (in_bounds 1 3 c.in_ok-fingers.fingers (number_admitted follow_row texts found fingers_row
-    c.in_ok-fingers.fingers r follow_fingers c.in_ok-fingers.ensures.ok)).1 in
+    reads_from (sym c.are_lawful.ensures ∙ c.if-not-are_lawful.false) c.in-Ok.ensures.ok in
+    let most = (number_within 1 3 r follow_fingers refl c.in_ok-fingers.ensures.ok).1 in
     omega (arith, most)
 
 pub overflow_cast-result-4 : goal.overflow_cast-result-4
@@ -135,12 +111,8 @@ overflow_cast-result-4 c =
     let texts = map string_bytes c.args.options.now in
     let found = first_value (found_of c.in-Ok.matches) in
     let r : Reads follow_row texts found =
-    reads_from follow_row texts found (sym c.are_lawful.ensures ∙ c.if-not-are_lawful.false)
-    c.in-Ok.ensures.ok in
-    let most =
-    (in_bounds 0 4294967295 c.in_ok-pilots.pilots
-    (number_admitted follow_row texts found pilots_row
-    c.in_ok-pilots.pilots r follow_pilots c.in_ok-pilots.ensures.ok)).1 in
+    reads_from (sym c.are_lawful.ensures ∙ c.if-not-are_lawful.false) c.in-Ok.ensures.ok in
+    let most = (number_within 0 4294967295 r follow_pilots refl c.in_ok-pilots.ensures.ok).1 in
     omega (arith, most)
 
 pub overflow_cast-result-5 : goal.overflow_cast-result-5
@@ -148,12 +120,8 @@ overflow_cast-result-5 c =
     let texts = map string_bytes c.args.options.now in
     let found = first_value (found_of c.in-Ok.matches) in
     let r : Reads follow_row texts found =
-    reads_from follow_row texts found (sym c.are_lawful.ensures ∙ c.if-not-are_lawful.false)
-    c.in-Ok.ensures.ok in
-    let most =
-    (in_bounds 0 4294967295 c.in_ok-messages.messages
-    (number_admitted follow_row texts found messages_row
-    c.in_ok-messages.messages r follow_messages c.in_ok-messages.ensures.ok)).1 in
+    reads_from (sym c.are_lawful.ensures ∙ c.if-not-are_lawful.false) c.in-Ok.ensures.ok in
+    let most = (number_within 0 4294967295 r follow_messages refl c.in_ok-messages.ensures.ok).1 in
     omega (arith, most)
 
 pub overflow_cast-result-6 : goal.overflow_cast-result-6
@@ -161,12 +129,8 @@ overflow_cast-result-6 c =
     let texts = map string_bytes c.args.options.now in
     let found = first_value (found_of c.in-Ok.matches) in
     let r : Reads follow_row texts found =
-    reads_from follow_row texts found (sym c.are_lawful.ensures ∙ c.if-not-are_lawful.false)
-    c.in-Ok.ensures.ok in
-    let most =
-    (in_bounds 0 4294967295 c.in_ok-frames.frames
-    (number_admitted follow_row texts found frames_row
-    c.in_ok-frames.frames r follow_frames c.in_ok-frames.ensures.ok)).1 in
+    reads_from (sym c.are_lawful.ensures ∙ c.if-not-are_lawful.false) c.in-Ok.ensures.ok in
+    let most = (number_within 0 4294967295 r follow_frames refl c.in_ok-frames.ensures.ok).1 in
     omega (arith, most)
 
 pub overflow_cast-result-7 : goal.overflow_cast-result-7
@@ -174,11 +138,8 @@ overflow_cast-result-7 c =
     let texts = map string_bytes c.args.options.now in
     let found = first_value (found_of c.in-Ok.matches) in
     let r : Reads follow_row texts found =
-    reads_from follow_row texts found (sym c.are_lawful.ensures ∙ c.if-not-are_lawful.false)
-    c.in-Ok.ensures.ok in
-    let most =
-    (in_bounds 0 4294967295 c.in_ok-raw.raw (number_admitted follow_row texts found raw_row
-    c.in_ok-raw.raw r follow_raw c.in_ok-raw.ensures.ok)).1 in
+    reads_from (sym c.are_lawful.ensures ∙ c.if-not-are_lawful.false) c.in-Ok.ensures.ok in
+    let most = (number_within 0 4294967295 r follow_raw refl c.in_ok-raw.ensures.ok).1 in
     omega (arith, most)
 
 pub returns-clause-job : goal.returns-clause-job
@@ -186,8 +147,7 @@ returns-clause-job c =
     let texts = map string_bytes c.args.options.now in
     let found = first_value (found_of c.in-Ok.matches) in
     let r : Reads follow_row texts found =
-    reads_from follow_row texts found (sym c.are_lawful.ensures ∙ c.if-not-are_lawful.false)
-    c.in-Ok.ensures.ok in
+    reads_from (sym c.are_lawful.ensures ∙ c.if-not-are_lawful.false) c.in-Ok.ensures.ok in
     follow_job texts found c.in_ok-span.span c.in_ok-workers.workers c.in_ok-fingers.fingers
     c.in_ok-pilots.pilots c.in_ok-messages.messages c.in_ok-frames.frames c.in_ok-raw.raw r
     c.in_ok-span.ensures.ok c.in_ok-workers.ensures.ok c.in_ok-fingers.ensures.ok
@@ -205,14 +165,8 @@ returns-clause-lawful c =
     let texts = map string_bytes c.args.options.now in
     let found = first_value (found_of c.in-Ok.matches) in
     let r : Reads follow_row texts found =
-    reads_from follow_row texts found (sym c.are_lawful.ensures ∙ c.if-not-are_lawful.false)
-    c.in-Ok.ensures.ok in
-    let span = in_bounds 64 32768 c.in_ok-span.span (number_admitted follow_row texts found span_row
-    c.in_ok-span.span r follow_span c.in_ok-span.ensures.ok) in
-    let workers = in_bounds 1 64 c.in_ok-workers.workers
-    (number_admitted follow_row texts found workers_row
-    c.in_ok-workers.workers r follow_workers c.in_ok-workers.ensures.ok) in
-    let fingers = in_bounds 1 3 c.in_ok-fingers.fingers
-    (number_admitted follow_row texts found fingers_row
-    c.in_ok-fingers.fingers r follow_fingers c.in_ok-fingers.ensures.ok) in
+    reads_from (sym c.are_lawful.ensures ∙ c.if-not-are_lawful.false) c.in-Ok.ensures.ok in
+    let span = number_within 64 32768 r follow_span refl c.in_ok-span.ensures.ok in
+    let workers = number_within 1 64 r follow_workers refl c.in_ok-workers.ensures.ok in
+    let fingers = number_within 1 3 r follow_fingers refl c.in_ok-fingers.ensures.ok in
     (span, workers, fingers)

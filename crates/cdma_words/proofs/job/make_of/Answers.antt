@@ -5,7 +5,6 @@ use Rattle.cdma_io.specs.declared.width.Width.{Width}
 use Rattle.cdma_words.specs.declared.job.Job.TheVariants.{Make}
 use Rattle.cdma_words.specs.declared.job.WordFault.TheVariants.{OutOfMemory}
 use Rattle.cdma_words.specs.Words.{make_row}
-use Rattle.cdma_words.specs.Words.{bits_row}
 use Rattle.cdma_words.proofs.WordJobs.{Reads, make_bits}
 use Rattle.cdma_words.proofs.WordJobs.{make_has, make_job, not_bad}
 use Rattle.cdma_words.proofs.WordJobs.{number_missing, reads_from}
@@ -30,17 +29,15 @@ returns-in_err-bits-clause-bad c =
     let texts = map string_bytes c.args.options.now in
     let found = first_value (found_of c.in-Ok.matches) in
     let r : Reads make_row texts found =
-    reads_from make_row texts found (sym c.are_lawful.ensures ∙ c.if-not-are_lawful.false)
-    c.in-Ok.ensures.ok in
-    absurd (number_missing make_row texts found bits_row r make_bits c.in_err-bits.ensures.err.1)
+    reads_from (sym c.are_lawful.ensures ∙ c.if-not-are_lawful.false) c.in-Ok.ensures.ok in
+    absurd (number_missing r make_bits c.in_err-bits.ensures.err.1)
 
 pub returns-clause-job : goal.returns-clause-job
 returns-clause-job c =
     let texts = map string_bytes c.args.options.now in
     let found = first_value (found_of c.in-Ok.matches) in
     let r : Reads make_row texts found =
-    reads_from make_row texts found (sym c.are_lawful.ensures ∙ c.if-not-are_lawful.false)
-    c.in-Ok.ensures.ok in
+    reads_from (sym c.are_lawful.ensures ∙ c.if-not-are_lawful.false) c.in-Ok.ensures.ok in
     make_job texts found c.in_ok-bits.bits r c.in_ok-bits.ensures.ok
     ∙ ap (λ (w : Width). Some (Make w)) (sym c.width_of.ensures)
 
