@@ -35,15 +35,30 @@ pub struct Taps {
     taps: Vec<Box<dyn Tap>>,
 }
 
-/// What contracts see of something that keeps taps.
-pub trait KeepsTaps {
+/// Something that keeps taps. What goes by this trait alone sees nothing of boxes.
+pub trait KeepsTaps: Drop {
     /// The taps that are kept, in order: the form of each, and how many events it has left to hear.
     ghost kept: { Self → List KeptTap };
+
+    /// Lets each tap hear the event, in order, as [`Taps::hear`] does.
+    fn tell<K: Sink>(&mut self, event: &Event, sink: &mut K) -> Result<(), Failed>
+        requires { All IsKept (kept self.old) }
+        ensures ok { OnOk result (Appends (K.written sink.old) (K.written sink.new)
+            (heard_text (kept self.old) event.now)) }
+        ensures behind { OnOk result (kept self.new ≡ taps_behind (kept self.old) event.now) }
+        ensures kept { All IsKept (kept self.new) }
+        ensures err { OnErr result (AppendsPrefix (K.written sink.old) (K.written sink.new)
+            (heard_text (kept self.old) event.now)) }
+        ensures cause { HasCause (K.faults sink.old) (K.faults sink.new) result };
 }
 
 impl KeepsTaps for Taps {
     ghost kept = { λ t. kept_of (λ b. (Tap-box b).shape b.value) (λ b. (Tap-box b).left b.value)
         t.taps.items };
+
+    fn tell<K: Sink>(&mut self, event: &Event, sink: &mut K) -> Result<(), Failed> {
+        hear_all(&mut self.taps, event, sink)
+    }
 }
 
 impl Taps {
