@@ -1,16 +1,18 @@
 -- Lemmas on runs that find no memory, and on runs without a handset.
-use Rattle.std.proofs.Common.{◌≡◌, ◌≢◌, ℕ, ◌≤◌, ◌++◌, List, length, sym, ap, ◌∙◌, true, Option, None, Some, IfSome, Result, IsErrAnd}
+use Rattle.std.proofs.Common.{◌≡◌, ◌≢◌, ℕ, ◌≤◌, ◌++◌, List, length, sym, ap, ◌∙◌, true, Option}
+use Rattle.std.proofs.Common.{None, Some, IfSome, Result, IsErrAnd}
 use Rattle.std.specs.Prelude.{Bool}
 use Rattle.std.specs.List.{flat_map}
 use Rattle.std.specs.Io.KnownBytes.{Consumes}
 use Rattle.chip_core.specs.declared.sample.Sample.{Sample}
 use Rattle.cdma_io.specs.declared.file_fault.FileFault.{FileFault}
-use Rattle.cdma_io.specs.declared.file_fault.FileFault.TheVariants.{Magic, Version, Flags, Count, Short, Extra, ReadFault, TooFew}
+use Rattle.cdma_io.specs.declared.file_fault.FileFault.TheVariants.{Magic, Version, Flags, Count}
+use Rattle.cdma_io.specs.declared.file_fault.FileFault.TheVariants.{Short, Extra, ReadFault, TooFew}
 use Rattle.cdma_io.specs.declared.header.Header.{Header}
 use Rattle.cdma_io.specs.SampleFile.{IsLawfulHeader, header_spelling, sample_spelling, width_of}
 use Rattle.mobile_core.specs.Tuning.{Tuning}
 use Rattle.cdma_replay.specs.declared.status.Status.{Status}
-use Rattle.cdma_replay.specs.declared.status.Status.TheVariants.{NoMemory, NoSync}
+use Rattle.cdma_replay.specs.declared.status.Status.TheVariants.{NoMemory, NoSync, WriteFault}
 use Rattle.cdma_replay.specs.Status.{file_status}
 use Rattle.cdma_replay.specs.Find.{BeginsFile, ended}
 use Rattle.cdma_replay.specs.Hearing.{end_when, is_told}
@@ -32,6 +34,22 @@ pub no_memory_told : {T : Type 0} (r : Result T Status) (fault : FileFault) →
     IsErrAnd r (λ (s : Status). s ≡ file_status fault) → ¬ (ended r ≡ NoMemory)
 no_memory_told r fault handed is =
     fault_remembers fault (sym (ended_by r (file_status fault) handed) ∙ is)
+
+-- and no fault of the sink
+fault_reads : (fault : FileFault) → ¬ (file_status fault ≡ WriteFault)
+fault_reads Magic is = cc
+fault_reads Version is = cc
+fault_reads Flags is = cc
+fault_reads Count is = cc
+fault_reads (Short place) is = cc
+fault_reads (Extra place) is = cc
+fault_reads ReadFault is = cc
+fault_reads (TooFew count) is = cc
+
+pub no_write_told : {T : Type 0} (r : Result T Status) (fault : FileFault) →
+    IsErrAnd r (λ (s : Status). s ≡ file_status fault) → ¬ (ended r ≡ WriteFault)
+no_write_told r fault handed is =
+    fault_reads fault (sym (ended_by r (file_status fault) handed) ∙ is)
 
 -- a header and as many samples as the span is were read
 pub begins_file : (rest mid : Option (List ℕ)) (header : Header) (samples : List Sample)

@@ -1,12 +1,17 @@
 -- Lemmas on the one fault that a bad file has, and its place.
-use Rattle.std.proofs.Common.{◌≡◌, ◌≢◌, ℕ, ◌+◌, ◌-◌, ◌*◌, ◌<◌, ◌≤◌, ◌++◌, min, List, length, refl, ap, subst, arith, inl, inr, length-append, Option, None, Some, IfSome, Ok, Err}
+use Rattle.std.proofs.Common.{◌≡◌, ◌≢◌, ℕ, ◌+◌, ◌-◌, ◌*◌, ◌<◌, ◌≤◌, ◌++◌, min, List, length, refl}
+use Rattle.std.proofs.Common.{ap, subst, arith, inl, inr, length-append, Option, None, Some, IfSome}
+use Rattle.std.proofs.Common.{Ok, Err}
 use Rattle.std.specs.List.{flat_map}
 use Rattle.std.specs.Io.KnownBytes.{Consumes}
 use Rattle.chip_core.specs.declared.sample.Sample.{Sample}
 use Rattle.cdma_io.specs.declared.file_fault.FileFault.{FileFault}
-use Rattle.cdma_io.specs.declared.file_fault.FileFault.TheVariants.{Magic, Version, Flags, Count, Short, Extra, ReadFault, TooFew}
+use Rattle.cdma_io.specs.declared.file_fault.FileFault.TheVariants.{Magic, Version, Flags, Count}
+use Rattle.cdma_io.specs.declared.file_fault.FileFault.TheVariants.{Short, Extra, ReadFault, TooFew}
 use Rattle.cdma_io.specs.declared.header.Header.{Header}
-use Rattle.cdma_io.specs.SampleFile.{CutsShort, IsLawfulHeader, Opens, Reading, RunsOn, header_spelling, next_place, opening, sample_len, sample_spelling, width_of}
+use Rattle.cdma_io.specs.SampleFile.{CutsShort, IsLawfulHeader, Opens, Reading, RunsOn}
+use Rattle.cdma_io.specs.SampleFile.{header_spelling, next_place, opening, sample_len}
+use Rattle.cdma_io.specs.SampleFile.{sample_spelling, width_of}
 use Rattle.cdma_io.proofs.Opening.{opening-spelled, length-header_spelling}
 use Rattle.cdma_io.proofs.Spelling.{length-samples, sample_len-mono}
 use Rattle.std.proofs.Common.{append_assoc, ◌∙◌}

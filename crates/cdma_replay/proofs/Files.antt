@@ -1,11 +1,15 @@
 -- Lemmas on files with a fault, and on runs that end by it.
-use Rattle.std.proofs.Common.{◌≡◌, ◌≢◌, ℕ, ◌+◌, ◌*◌, ◌≤◌, List, length, sym, ap, ◌∙◌, subst, arith, inl, inr, length-append, Option, None, Some, IfSome, Result, Ok, Err, IfErr, IsErrAnd}
+use Rattle.std.proofs.Common.{◌≡◌, ◌≢◌, ℕ, ◌+◌, ◌*◌, ◌≤◌, List, length, sym, ap, ◌∙◌, subst, arith}
+use Rattle.std.proofs.Common.{inl, inr, length-append, Option, None, Some, IfSome, Result, Ok, Err}
+use Rattle.std.proofs.Common.{IfErr, IsErrAnd}
 use Rattle.std.specs.List.{flat_map}
 use Rattle.chip_core.specs.declared.sample.Sample.{Sample}
 use Rattle.cdma_io.specs.declared.file_fault.FileFault.{FileFault}
-use Rattle.cdma_io.specs.declared.file_fault.FileFault.TheVariants.{Magic, Version, Flags, Count, Short, Extra, ReadFault, TooFew}
+use Rattle.cdma_io.specs.declared.file_fault.FileFault.TheVariants.{Magic, Version, Flags, Count}
+use Rattle.cdma_io.specs.declared.file_fault.FileFault.TheVariants.{Short, Extra, ReadFault, TooFew}
 use Rattle.cdma_io.specs.declared.header.Header.{Header}
-use Rattle.cdma_io.specs.SampleFile.{IsSampleFile, Reading, header_spelling, opening, sample_len, sample_spelling, width_of}
+use Rattle.cdma_io.specs.SampleFile.{IsSampleFile, Reading, header_spelling, opening, sample_len}
+use Rattle.cdma_io.specs.SampleFile.{sample_spelling, width_of}
 use Rattle.cdma_io.proofs.Opening.{opening-spelled, length-header_spelling}
 use Rattle.cdma_io.proofs.Spelling.{length-samples}
 use Rattle.cdma_replay.specs.declared.status.Status.{Status}
@@ -65,7 +69,7 @@ no_later_fault span header len Flags fault enough long = fault
 no_later_fault span header len Count fault enough long = fault
 no_later_fault span header len ReadFault fault enough long = fault
 
-no_fault : (bytes : List ℕ) (span : ℕ) (e : FileFault) (s : IsSearchable bytes span) →
+pub no_fault : (bytes : List ℕ) (span : ℕ) (e : FileFault) (s : IsSearchable bytes span) →
     ¬ (IsFaultIn span bytes e)
 no_fault bytes span e s (inl refused) = let is = opens bytes span s in absurd (cc)
 no_fault bytes span e s (inr (header, opened, later)) =
@@ -74,6 +78,56 @@ no_fault bytes span e s (inr (header, opened, later)) =
     no_later_fault span header (length bytes) e later
     (omega (arith, same, s.enough, s.file.counted))
     (length-searchable bytes span s header opened)
+
+-- a header has one later fault
+one_later_fault : (span : ℕ) (header : Header) (len : ℕ) (one other : FileFault) →
+    IsLaterFault span header len one → IsLaterFault span header len other → one ≡ other
+one_later_fault span header len (TooFew n) (TooFew k) a b = ap TooFew (a.0 ∙ sym b.0)
+one_later_fault span header len (TooFew n) (Short place) a b = absurd (omega (arith, a.0, a.1, b.0))
+one_later_fault span header len (TooFew n) (Extra place) a b = absurd (omega (arith, a.0, a.1, b.0))
+one_later_fault span header len (Short place) (TooFew n) a b = absurd (omega (arith, b.0, b.1, a.0))
+one_later_fault span header len (Short place) (Short also) a b = ap Short (a.1 ∙ sym b.1)
+one_later_fault span header len (Short place) (Extra also) a b =
+    absurd (omega (arith, a.2, b.1, b.2))
+one_later_fault span header len (Extra place) (TooFew n) a b = absurd (omega (arith, b.0, b.1, a.0))
+one_later_fault span header len (Extra place) (Short also) a b =
+    absurd (omega (arith, b.2, a.1, a.2))
+one_later_fault span header len (Extra place) (Extra also) a b = ap Extra (a.1 ∙ sym b.1)
+one_later_fault span header len Magic other a b = absurd a
+one_later_fault span header len Version other a b = absurd a
+one_later_fault span header len Flags other a b = absurd a
+one_later_fault span header len Count other a b = absurd a
+one_later_fault span header len ReadFault other a b = absurd a
+one_later_fault span header len (TooFew n) Magic a b = absurd b
+one_later_fault span header len (TooFew n) Version a b = absurd b
+one_later_fault span header len (TooFew n) Flags a b = absurd b
+one_later_fault span header len (TooFew n) Count a b = absurd b
+one_later_fault span header len (TooFew n) ReadFault a b = absurd b
+one_later_fault span header len (Short place) Magic a b = absurd b
+one_later_fault span header len (Short place) Version a b = absurd b
+one_later_fault span header len (Short place) Flags a b = absurd b
+one_later_fault span header len (Short place) Count a b = absurd b
+one_later_fault span header len (Short place) ReadFault a b = absurd b
+one_later_fault span header len (Extra place) Magic a b = absurd b
+one_later_fault span header len (Extra place) Version a b = absurd b
+one_later_fault span header len (Extra place) Flags a b = absurd b
+one_later_fault span header len (Extra place) Count a b = absurd b
+one_later_fault span header len (Extra place) ReadFault a b = absurd b
+
+-- so do bytes
+pub one_fault : (span : ℕ) (bytes : List ℕ) (one other : FileFault) →
+    IsFaultIn span bytes one → IsFaultIn span bytes other → one ≡ other
+one_fault span bytes one other (inl a) (inl b) =
+    let same : Err one ≡ Err other = sym a ∙ b in cc
+one_fault span bytes one other (inl a) (inr (header, opened, later)) =
+    let never : Err one ≡ Ok header = sym a ∙ opened in absurd (cc)
+one_fault span bytes one other (inr (header, opened, later)) (inl b) =
+    let never : Err other ≡ Ok header = sym b ∙ opened in absurd (cc)
+one_fault span bytes one other (inr (header, opened, later)) (inr (also, open_too, last)) =
+    let alike : Ok header ≡ Ok also = sym opened ∙ open_too in
+    let same : header ≡ also = cc in
+    one_later_fault span also (length bytes) one other
+    (subst (λ (h : Header). IsLaterFault span h (length bytes) one) same later) last
 
 -- they are no file of so many samples
 pub unsearchable : (rest : Option (List ℕ)) (span : ℕ) (e : FileFault) →

@@ -1,10 +1,13 @@
 -- A handset hears the samples behind the first ones, piece by piece, to the end of the file.
-use Rattle.std.proofs.Common.{◌≡◌, ℕ, ◌-◌, ◌≤◌, ◌++◌, [], List, length, take, sym, ap, ◌∙◌, subst, arith, append_assoc, append-nil, length-append, length-take-le, All, IfSome, Option, None, Some}
+use Rattle.std.proofs.Common.{◌≡◌, ℕ, ◌-◌, ◌≤◌, ◌++◌, [], List, length, take, sym, ap, ◌∙◌, subst}
+use Rattle.std.proofs.Common.{arith, append_assoc, append-nil, length-append, length-take-le, All}
+use Rattle.std.proofs.Common.{IfSome, Option, None, Some}
 use Rattle.std.proofs.lemmas.List.Concat.{flat_map-append}
 use Rattle.std.specs.List.{flat_map}
 use Rattle.std.specs.Io.{StartsWith}
 use Rattle.std.specs.Io.KnownBytes.{Consumes, Keeps}
-use Rattle.std.proofs.KnownBytes.{Appends-nil, Appends-trans, Consumes-kept, Consumes-nil, Consumes-trans}
+use Rattle.std.proofs.KnownBytes.{Appends-nil, Appends-trans, Consumes-kept, Consumes-nil}
+use Rattle.std.proofs.KnownBytes.{Consumes-trans}
 use Rattle.std.proofs.lemmas.List.Elements.{All-append}
 use Rattle.cdma_io.specs.declared.width.Width.{Width}
 use Rattle.cdma_io.specs.SampleFile.{HasBits, sample_spelling}
@@ -12,52 +15,57 @@ use Rattle.chip_core.specs.declared.sample.Sample.{Sample}
 use Rattle.mobile_core.specs.Tuning.{Tuning}
 use Rattle.mobile_core.specs.declared.event.Event.{Event}
 use Rattle.mobile_core.specs.declared.mobile.Mobile.{Mobile}
-use Rattle.event_tap.specs.Lines.{text_of}
+use Rattle.event_tap.specs.Taps.{KeptTap, run_text}
 use Rattle.cdma_replay.specs.Find.{PassesSamples}
 use Rattle.cdma_replay.proofs.Prefixes.{front_begins}
 use Rattle.cdma_replay.specs.Hearing.{HasGiven, HearsPart, HearsRest, Tells, TellsPart, events_in}
 
--- a source lost the spellings of so many samples, and one handset became the other by hearing them.
--- The samples are known also where the handset stands for nothing that is known
+-- a source lost the spellings of so many samples, and one handset became the other by hearing them,
+-- as the taps that are kept did. The samples are known also where the handset stands for nothing
+-- that is known
 pub record Hears (width : Width) (count : ℕ) (one other : Option Mobile)
-    (rest left old new : Option (List ℕ)) : Type 0 where
+    (kept behind : List KeptTap) (rest left old new : Option (List ℕ)) : Type 0 where
   pub passed : PassesSamples width count rest left
-  pub tells : (t : Option Tuning) (heard : List Sample) → HasGiven t one heard (events_in t heard) →
-      Tells t other (events_in t heard) (heard ++ passed.samples) old new
+  pub tells : (t : Option Tuning) (taps : List KeptTap) (heard : List Sample) →
+      HasGiven t taps one kept heard (events_in t heard) →
+      Tells t taps other behind (events_in t heard) (heard ++ passed.samples) old new
 
-pub hears_nothing : {width : Width} {handset : Option Mobile} {rest old : Option (List ℕ)} (n : ℕ) →
-    Hears width (n - n) handset handset rest rest old old
-hears_nothing {width} {handset} {rest} {old} n = record {
+pub hears_nothing : {width : Width} {handset : Option Mobile} {kept : List KeptTap}
+    {rest old : Option (List ℕ)} (n : ℕ) →
+    Hears width (n - n) handset handset kept kept rest rest old old
+hears_nothing {width} {handset} {kept} {rest} {old} n = record {
   passed = record {
     samples = [];
     counted = omega arith;
     in_range = λ k d h. absurd (omega (arith, h));
     consumed = Consumes-nil rest;
   };
-  tells = λ (t : Option Tuning) (heard : List Sample)
-      (given : HasGiven t handset heard (events_in t heard)).
+  tells = λ (t : Option Tuning) (taps : List KeptTap) (heard : List Sample)
+      (given : HasGiven t taps handset kept heard (events_in t heard)).
       rw (append-nil heard) (record {
         text = [];
         written = Appends-nil old;
-        all = append-nil (text_of (events_in t heard));
+        all = append-nil (run_text taps (events_in t heard));
         stands = given;
       });
 }
 
--- lines behind others
-tells_more : {t : Option Tuning} {one other : Option Mobile} {old between new : Option (List ℕ)}
+-- text behind other text
+tells_more : {t : Option Tuning} {taps : List KeptTap} {one other : Option Mobile}
+    {kept behind : List KeptTap} {old between new : Option (List ℕ)}
     (heard samples more : List Sample) →
-    Tells t one (events_in t heard) (heard ++ samples) old between →
-    ((heard : List Sample) (given : List Event) → HasGiven t one heard given →
-    Tells t other given (heard ++ more) between new) →
-    Tells t other (events_in t heard) (heard ++ (samples ++ more)) old new
-tells_more {t} {one} {other} {old} {between} {new} heard samples more first tells =
+    Tells t taps one kept (events_in t heard) (heard ++ samples) old between →
+    ((heard : List Sample) (given : List Event) → HasGiven t taps one kept heard given →
+    Tells t taps other behind given (heard ++ more) between new) →
+    Tells t taps other behind (events_in t heard) (heard ++ (samples ++ more)) old new
+tells_more {t} {taps} {one} {other} {kept} {behind} {old} {between} {new} heard samples more first
+    tells =
     let next = tells (heard ++ samples) (events_in t (heard ++ samples)) first.stands in
-    subst (λ (xs : List Sample). Tells t other (events_in t heard) xs old new)
+    subst (λ (xs : List Sample). Tells t taps other behind (events_in t heard) xs old new)
     (append_assoc heard samples more) (record {
       text = first.text ++ next.text;
       written = Appends-trans old between new first.text next.text first.written next.written;
-      all = sym (append_assoc (text_of (events_in t heard)) first.text next.text) ∙
+      all = sym (append_assoc (run_text taps (events_in t heard)) first.text next.text) ∙
           ap (λ (xs : List ℕ). xs ++ next.text) first.all ∙ next.all;
       stands = next.stands;
     })
@@ -75,16 +83,18 @@ consumes_more width same rest mid left samples more is consumed next =
 
 -- the next samples, of those that are left now
 pub hears_more : {width same : Width} {first one other : Option Mobile}
-    {rest mid left old between new : Option (List ℕ)} (all now n later : ℕ) (out : List Sample) →
+    {begun kept behind : List KeptTap} {rest mid left old between new : Option (List ℕ)}
+    (all now n later : ℕ) (out : List Sample) →
     same ≡ width → later ≡ now - n →
-    Hears width (all - now) first one rest mid old between → now ≤ all → n ≤ now → n ≤ length out →
-    All (HasBits same) (take n out) →
+    Hears width (all - now) first one begun kept rest mid old between → now ≤ all → n ≤ now →
+    n ≤ length out → All (HasBits same) (take n out) →
     Consumes mid left (flat_map (sample_spelling same) (take n out)) →
-    ((t : Option Tuning) (heard : List Sample) (given : List Event) → HasGiven t one heard given →
-    Tells t other given (heard ++ take n out) between new) →
-    Hears width (all - later) first other rest left old new
-hears_more {width} {same} {first} {one} {other} {rest} {mid} {left} {old} {between} {new} all now n
-    later out is fewer h low fits room range consumed tells = record {
+    ((t : Option Tuning) (taps : List KeptTap) (heard : List Sample) (given : List Event) →
+    HasGiven t taps one kept heard given →
+    Tells t taps other behind given (heard ++ take n out) between new) →
+    Hears width (all - later) first other begun behind rest left old new
+hears_more {width} {same} {first} {one} {other} {begun} {kept} {behind} {rest} {mid} {left} {old}
+    {between} {new} all now n later out is fewer h low fits room range consumed tells = record {
       passed = record {
         samples = h.passed.samples ++ take n out;
         counted =
@@ -105,26 +115,29 @@ hears_more {width} {same} {first} {one} {other} {rest} {mid} {left} {old} {betwe
             h.passed.consumed
             consumed;
       };
-      tells = λ (t : Option Tuning) (heard : List Sample)
-          (given : HasGiven t first heard (events_in t heard)).
-          tells_more heard h.passed.samples (take n out) (h.tells t heard given) (tells t);
+      tells = λ (t : Option Tuning) (taps : List KeptTap) (heard : List Sample)
+          (given : HasGiven t taps first begun heard (events_in t heard)).
+          tells_more heard h.passed.samples (take n out) (h.tells t taps heard given)
+          (tells t taps);
     }
 
 -- the end was reached: no sample is left
-pub hears_all : {width : Width} {one other : Option Mobile}
+pub hears_all : {width : Width} {one other : Option Mobile} {kept behind : List KeptTap}
     {rest mid left old new : Option (List ℕ)} (all now : ℕ) →
-    Hears width (all - now) one other rest mid old new → now ≤ 0 → Keeps mid left →
-    (t : Option Tuning) (heard : List Sample) → HasGiven t one heard (events_in t heard) →
-    HearsRest t width all other heard rest left old new
-hears_all {width} {one} {other} {rest} {mid} {left} all now h done keeps t heard given = record {
-  samples = h.passed.samples;
-  counted = omega (arith, h.passed.counted, done);
-  in_range = h.passed.in_range;
-  consumed =
-      Consumes-kept rest mid left (flat_map (sample_spelling width) h.passed.samples)
-      h.passed.consumed keeps;
-  tells = h.tells t heard given;
-}
+    Hears width (all - now) one other kept behind rest mid old new → now ≤ 0 → Keeps mid left →
+    (t : Option Tuning) (taps : List KeptTap) (heard : List Sample) →
+    HasGiven t taps one kept heard (events_in t heard) →
+    HearsRest t taps width all other behind heard rest left old new
+hears_all {width} {one} {other} {kept} {behind} {rest} {mid} {left} all now h done keeps t taps
+    heard given = record {
+      samples = h.passed.samples;
+      counted = omega (arith, h.passed.counted, done);
+      in_range = h.passed.in_range;
+      consumed =
+          Consumes-kept rest mid left (flat_map (sample_spelling width) h.passed.samples)
+          h.passed.consumed keeps;
+      tells = h.tells t taps heard given;
+    }
 
 -- known bytes begin with those that were lost at their front
 consumed_first : (old new : Option (List ℕ)) (bytes : List ℕ) → Consumes old new bytes →
@@ -138,11 +151,13 @@ all_begins xs ys same = front_begins ys xs [] (sym same ∙ sym (append-nil xs))
 
 -- what was told so far is a part of it
 pub hears_part : {width : Width} {count : ℕ} {one other : Option Mobile}
-    {rest left old new : Option (List ℕ)} → Hears width count one other rest left old new →
-    (t : Option Tuning) (heard : List Sample) → HasGiven t one heard (events_in t heard) →
-    HearsPart t width heard rest old new
-hears_part {width} {count} {one} {other} {rest} {left} h t heard given =
-    let tells = h.tells t heard given in
+    {kept behind : List KeptTap} {rest left old new : Option (List ℕ)} →
+    Hears width count one other kept behind rest left old new →
+    (t : Option Tuning) (taps : List KeptTap) (heard : List Sample) →
+    HasGiven t taps one kept heard (events_in t heard) →
+    HearsPart t taps width heard rest old new
+hears_part {width} {count} {one} {other} {kept} {behind} {rest} {left} h t taps heard given =
+    let tells = h.tells t taps heard given in
     record {
       samples = h.passed.samples;
       first = consumed_first rest left (flat_map (sample_spelling width) h.passed.samples)
@@ -154,19 +169,21 @@ hears_part {width} {count} {one} {other} {rest} {left} h t heard given =
 
 -- a write failed behind what was told so far
 pub hears_stopped : {width same : Width} {count : ℕ} {one other : Option Mobile}
-    {rest mid old between new : Option (List ℕ)} (left : Option (List ℕ)) (more : List Sample) →
-    same ≡ width →
-    Hears width count one other rest mid old between →
+    {kept behind : List KeptTap} {rest mid old between new : Option (List ℕ)}
+    (left : Option (List ℕ)) (more : List Sample) → same ≡ width →
+    Hears width count one other kept behind rest mid old between →
     Consumes mid left (flat_map (sample_spelling same) more) →
-    ((t : Option Tuning) (heard : List Sample) (given : List Event) → HasGiven t other heard given →
-    TellsPart t given (heard ++ more) between new) →
-    (t : Option Tuning) (heard : List Sample) → HasGiven t one heard (events_in t heard) →
-    HearsPart t width heard rest old new
-hears_stopped {width} {same} {count} {one} {other} {rest} {mid} {old} {between} {new} left more is h
-    consumed part t heard given =
+    ((t : Option Tuning) (taps : List KeptTap) (heard : List Sample) (given : List Event) →
+    HasGiven t taps other behind heard given →
+    TellsPart t taps given (heard ++ more) between new) →
+    (t : Option Tuning) (taps : List KeptTap) (heard : List Sample) →
+    HasGiven t taps one kept heard (events_in t heard) →
+    HearsPart t taps width heard rest old new
+hears_stopped {width} {same} {count} {one} {other} {kept} {behind} {rest} {mid} {old} {between}
+    {new} left more is h consumed part t taps heard given =
     let samples = h.passed.samples in
-    let first = h.tells t heard given in
-    let next = part t (heard ++ samples) (events_in t (heard ++ samples)) first.stands in
+    let first = h.tells t taps heard given in
+    let next = part t taps (heard ++ samples) (events_in t (heard ++ samples)) first.stands in
     record {
       samples = samples ++ more;
       first = consumed_first rest left (flat_map (sample_spelling width) (samples ++ more))
@@ -174,10 +191,10 @@ hears_stopped {width} {same} {count} {one} {other} {rest} {mid} {old} {between} 
       text = first.text ++ next.text;
       written = Appends-trans old between new first.text next.text first.written next.written;
       begins =
-          subst (λ (xs : List Sample). StartsWith (text_of (events_in t xs))
-          (text_of (events_in t heard) ++ (first.text ++ next.text)))
+          subst (λ (xs : List Sample). StartsWith (run_text taps (events_in t xs))
+          (run_text taps (events_in t heard) ++ (first.text ++ next.text)))
           (append_assoc heard samples more)
-          (subst (StartsWith (text_of (events_in t ((heard ++ samples) ++ more))))
+          (subst (StartsWith (run_text taps (events_in t ((heard ++ samples) ++ more))))
           (ap (λ (xs : List ℕ). xs ++ next.text) (sym first.all) ∙
-          append_assoc (text_of (events_in t heard)) first.text next.text) next.begins);
+          append_assoc (run_text taps (events_in t heard)) first.text next.text) next.begins);
     }

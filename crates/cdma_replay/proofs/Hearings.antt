@@ -1,5 +1,8 @@
 -- Lemmas on a handset whose events are told to a sink.
-use Rattle.std.proofs.Common.{◌≡◌, ℕ, zero, suc, ◌+◌, ◌-◌, ◌≤◌, ◌++◌, ◌∷◌, [], List, length, take, drop, refl, sym, ap, ◌∙◌, subst, arith, append_assoc, append-nil, length-append, Bool, is_some, ℤ, pos, replicate, Option, None, Some, Result, Ok, Err, OnOk}
+use Rattle.std.proofs.Common.{◌≡◌, ℕ, zero, suc, ◌+◌, ◌-◌, ◌≤◌, ◌++◌, ◌∷◌, [], List, length, take}
+use Rattle.std.proofs.Common.{drop, refl, sym, ap, ◌∙◌, subst, arith, append_assoc, append-nil}
+use Rattle.std.proofs.Common.{length-append, Bool, is_some, ℤ, pos, replicate, Option, None, Some}
+use Rattle.std.proofs.Common.{Result, Ok, Err, OnErr, OnOk}
 use Rattle.std.proofs.lemmas.List.{length-replicate, take_all, take_at, take-append-drop}
 use Rattle.std.proofs.lemmas.List.Concat.{flat_map-append}
 use Rattle.std.specs.List.{flat_map, range_with_len}
@@ -17,10 +20,17 @@ use Rattle.mobile_core.specs.Timing.{IsTimed}
 use Rattle.mobile_core.specs.Tuning.{Tuning, sync_stream}
 use Rattle.mobile_core.specs.Left.{sync_events_left}
 use Rattle.mobile_core.specs.declared.event.Event.{Event}
+use Rattle.mobile_core.specs.declared.event.Event.TheVariants.{Pilot}
 use Rattle.mobile_core.specs.declared.mobile.Mobile.{Mobile}
-use Rattle.event_tap.specs.Lines.{event_line, text_of}
+use Rattle.event_tap.specs.Lines.{event_line, pilot_line}
+use Rattle.event_tap.specs.Taps.{KeptTap, form_line, heard_text, kept_with, run_taps, run_text}
+use Rattle.event_tap.specs.Taps.{taps_behind}
+use Rattle.event_tap.proofs.Runs.{run_taps-append, run_taps-more, run_text-append, run_text-more}
+use Rattle.event_tap.proofs.Runs.{run_text-none}
 use Rattle.cdma_replay.specs.declared.status.Status.{Status}
-use Rattle.cdma_replay.specs.declared.status.Status.TheVariants.{Done, NoSync, BadWords, BadFile, ReadFault, WriteFault, NoMemory, BadScript}
+use Rattle.cdma_replay.specs.declared.status.Status.TheVariants.{Done, NoSync, BadWords, BadFile}
+use Rattle.cdma_replay.specs.declared.status.Status.TheVariants.{ReadFault, WriteFault, NoMemory}
+use Rattle.cdma_replay.specs.declared.status.Status.TheVariants.{BadScript}
 use Rattle.cdma_replay.specs.Find.{IsEnd, IsFault}
 use Rattle.mobile_core.specs.Marks.{mark}
 use Rattle.mobile_core.proofs.Growth.{events_at_sync, sync_events_sooner}
@@ -34,21 +44,11 @@ use Rattle.pilot_search.proofs.BestPhase.{best_phase-only}
 use Rattle.mobile_core.specs.declared.settings.Settings.{Settings}
 use Rattle.mobile_core.specs.Tuning.{tuning_by}
 use Rattle.cdma_replay.proofs.Prefixes.{begins_more, prefix_before, prefix_behind, taken_begins}
-use Rattle.cdma_replay.specs.Hearing.{AreNearTo, AreReady, tuning_for, tuning_of, HasGiven, HasTold, HasRoom, HasRoomFor, Tells, TellsPart, events_in, is_told}
+use Rattle.cdma_replay.specs.Hearing.{AreNearTo, AreReady, tuning_for, tuning_of, HasGiven}
+use Rattle.cdma_replay.specs.Hearing.{HasHeard, HasTold, HasRoom, HasRoomFor, Tells, TellsPart}
+use Rattle.cdma_replay.specs.Hearing.{events_in, is_told}
 
--- ---- texts of events
-
-text_of-append : (one other : List Event) → text_of (one ++ other) ≡ text_of one ++ text_of other
-unfolding text_of
-text_of-append one other = flat_map-append event_line one other
-
-text_of-none : text_of [] ≡ []
-unfolding text_of
-text_of-none = refl
-
-text_of-one : (event : Event) → text_of (event ∷ []) ≡ event_line event
-unfolding text_of
-text_of-one event = append-nil (event_line event)
+-- ---- samples that follow one another
 
 nil_taken : {X : Type 0} (n : ℕ) → take n (let none : List X = [] in none) ≡ []
 nil_taken zero = refl
@@ -75,13 +75,21 @@ places_parted a (suc b) =
 
 -- ---- telling
 
-pub told_none : (t : Tuning) (mobile : Mobile) (given : List Event) (heard : List Sample)
-    (old : Option (List ℕ)) → StandsFor t mobile heard given →
-    HasTold t mobile given heard old old
-told_none t mobile given heard old stands = record {
+-- a tap for the pilot alone writes just its line
+pub pilot_alone : (phase energy : ℕ) →
+    heard_text (kept_with 0 1) (Pilot phase energy) ≡ event_line (Pilot phase energy)
+unfolding form_line event_line
+pilot_alone phase energy = append-nil (pilot_line phase energy)
+
+pub told_none : (t : Tuning) (taps : List KeptTap) (mobile : Mobile) (kept : List KeptTap)
+    (given : List Event) (heard : List Sample) (old : Option (List ℕ)) →
+    StandsFor t mobile heard given → kept ≡ run_taps taps given →
+    HasTold t taps mobile kept given heard old old
+told_none t taps mobile kept given heard old stands behind = record {
   more = [];
-  written = subst (Appends old old) (sym text_of-none) (Appends-nil old);
+  written = subst (Appends old old) (sym (run_text-none (run_taps taps given))) (Appends-nil old);
   stands = rw (append-nil given) stands;
+  behind = behind ∙ ap (run_taps taps) (sym (append-nil given));
 }
 
 -- the samples of a step behind those taken before
@@ -91,62 +99,77 @@ taken_more heard samples taken n =
     append_assoc heard (take taken samples) (take n (drop taken samples)) ∙
     ap (λ (xs : List Sample). heard ++ xs) (taken_joined taken n samples)
 
--- the next event was given, and its line written
-pub told_more : (t : Tuning) (one other : Mobile) (given : List Event) (heard samples : List Sample)
+-- the next event was given, and its text written
+pub told_more : (t : Tuning) (taps : List KeptTap) (one other : Mobile)
+    (kept behind : List KeptTap) (given : List Event) (heard samples : List Sample)
     (taken n : ℕ) (event : Event) (old mid new : Option (List ℕ)) →
-    HasTold t one given (heard ++ take taken samples) old mid →
+    HasTold t taps one kept given (heard ++ take taken samples) old mid →
     ((before : List Event) → StandsFor t one (heard ++ take taken samples) before →
     StandsFor t other ((heard ++ take taken samples) ++ take n (drop taken samples))
     (before ++ event ∷ [])) →
-    Appends mid new (event_line event) →
-    HasTold t other given (heard ++ take (taken + n) samples) old new
-told_more t one other given heard samples taken n event old mid new so_far stepped written =
+    Appends mid new (heard_text kept event) → behind ≡ taps_behind kept event →
+    HasTold t taps other behind given (heard ++ take (taken + n) samples) old new
+told_more t taps one other kept behind given heard samples taken n event old mid new so_far stepped
+    written next =
+    let more = so_far.more in
+    let first = run_taps taps given in
+    let now : kept ≡ run_taps first more = so_far.behind ∙ run_taps-append taps given more in
+    let text : run_text first (more ++ event ∷ []) ≡ run_text first more ++ heard_text kept event =
+    run_text-more first more event ∙
+    ap (λ (k : List KeptTap). run_text first more ++ heard_text k event) (sym now) in
     record {
-      more = so_far.more ++ event ∷ [];
+      more = more ++ event ∷ [];
       written =
-          subst (Appends old new)
-          (ap (λ (xs : List ℕ). text_of so_far.more ++ xs) (sym (text_of-one event)) ∙
-          sym (text_of-append so_far.more (event ∷ [])))
-          (Appends-trans old mid new (text_of so_far.more) (event_line event) so_far.written
+          subst (Appends old new) (sym text)
+          (Appends-trans old mid new (run_text first more) (heard_text kept event) so_far.written
           written);
       stands =
-          subst (λ (xs : List Sample). StandsFor t other xs (given ++ (so_far.more ++ event ∷ [])))
+          subst (λ (xs : List Sample). StandsFor t other xs (given ++ (more ++ event ∷ [])))
           (taken_more heard samples taken n)
           (subst (λ (es : List Event). StandsFor t other
           ((heard ++ take taken samples) ++ take n (drop taken samples)) es)
-          (append_assoc given so_far.more (event ∷ []))
-          (stepped (given ++ so_far.more) so_far.stands));
+          (append_assoc given more (event ∷ []))
+          (stepped (given ++ more) so_far.stands));
+      behind = next ∙ ap (λ (k : List KeptTap). taps_behind k event) so_far.behind
+          ∙ sym (run_taps-more taps (given ++ more) event)
+          ∙ ap (run_taps taps) (append_assoc given more (event ∷ []));
     }
 
 -- no event is left
-pub told_all : (t : Tuning) (one other : Mobile) (given : List Event) (heard samples : List Sample)
+pub told_all : (t : Tuning) (taps : List KeptTap) (one other : Mobile) (kept : List KeptTap)
+    (given : List Event) (heard samples : List Sample)
     (taken n : ℕ) (old new : Option (List ℕ)) →
-    HasTold t one given (heard ++ take taken samples) old new → n ≡ length (drop taken samples) →
+    HasTold t taps one kept given (heard ++ take taken samples) old new →
+    n ≡ length (drop taken samples) →
     ((before : List Event) → StandsFor t one (heard ++ take taken samples) before →
     StandsFor t other ((heard ++ take taken samples) ++ take n (drop taken samples))
     (before ++ [])) →
     ((before : List Event) → StandsFor t one (heard ++ take taken samples) before →
     before ≡ events t ((heard ++ take taken samples) ++ drop taken samples)) →
-    Tells (Some t) (Some other) given (heard ++ samples) old new
+    Tells (Some t) taps (Some other) kept given (heard ++ samples) old new
 unfolding events_in
-told_all t one other given heard samples taken n old new so_far all stepped last =
+told_all t taps one other kept given heard samples taken n old new so_far all stepped last =
+    let more = so_far.more in
     let joined : (heard ++ take taken samples) ++ drop taken samples ≡ heard ++ samples =
     append_assoc heard (take taken samples) (drop taken samples) ∙
     ap (λ (xs : List Sample). heard ++ xs) (take-append-drop taken samples) in
     let whole : take n (drop taken samples) ≡ drop taken samples =
     rw all (take_all (length (drop taken samples)) (drop taken samples) (omega arith)) in
-    let given_all : given ++ so_far.more ≡ events t (heard ++ samples) =
-    last (given ++ so_far.more) so_far.stands ∙ ap (events t) joined in
+    let given_all : given ++ more ≡ events t (heard ++ samples) =
+    last (given ++ more) so_far.stands ∙ ap (events t) joined in
     record {
-      text = text_of so_far.more;
+      text = run_text (run_taps taps given) more;
       written = so_far.written;
-      all = sym (text_of-append given so_far.more) ∙ ap text_of given_all;
-      stands =
-          subst (λ (es : List Event). StandsFor t other (heard ++ samples) es)
-          (append-nil (given ++ so_far.more) ∙ given_all)
-          (subst (λ (xs : List Sample). StandsFor t other xs ((given ++ so_far.more) ++ []))
-          (ap (λ (xs : List Sample). (heard ++ take taken samples) ++ xs) whole ∙ joined)
-          (stepped (given ++ so_far.more) so_far.stands));
+      all = sym (run_text-append taps given more) ∙ ap (run_text taps) given_all;
+      stands = record {
+        stands =
+            subst (λ (es : List Event). StandsFor t other (heard ++ samples) es)
+            (append-nil (given ++ more) ∙ given_all)
+            (subst (λ (xs : List Sample). StandsFor t other xs ((given ++ more) ++ []))
+            (ap (λ (xs : List Sample). (heard ++ take taken samples) ++ xs) whole ∙ joined)
+            (stepped (given ++ more) so_far.stands));
+        behind = so_far.behind ∙ ap (run_taps taps) given_all;
+      };
     }
 
 -- ---- what is heard in the first samples stays so
@@ -172,83 +195,120 @@ first_events t low timed xs ys =
           ap (λ (es : List Event). es ++ flat_map g (range_with_len (n + 1) (length ys))) sooner,
     )
 
--- a write failed in the middle of an event's line
-pub told_part : (t : Tuning) (one other : Mobile) (given : List Event) (heard samples : List Sample)
+-- the text of events behind others begins with that of the next ones, and so far as it goes of one
+-- more
+text_begins : (taps : List KeptTap) (given more : List Event) (event : Event)
+    (others : List Event) →
+    run_text taps (((given ++ more) ++ event ∷ []) ++ others) ≡
+    run_text taps given ++ (run_text (run_taps taps given) more ++
+    (heard_text (run_taps taps (given ++ more)) event ++
+    run_text (run_taps taps ((given ++ more) ++ event ∷ [])) others))
+text_begins taps given more event others =
+    let now = run_taps taps (given ++ more) in
+    let ends = run_text (run_taps taps ((given ++ more) ++ event ∷ [])) others in
+    run_text-append taps ((given ++ more) ++ event ∷ []) others
+    ∙ ap (λ (xs : List ℕ). xs ++ ends)
+    (run_text-more taps (given ++ more) event
+    ∙ ap (λ (xs : List ℕ). xs ++ heard_text now event) (run_text-append taps given more))
+    ∙ regroup (run_text taps given) (run_text (run_taps taps given) more) (heard_text now event)
+    ends
+  where
+    regroup : (a b c d : List ℕ) → ((a ++ b) ++ c) ++ d ≡ a ++ (b ++ (c ++ d))
+    regroup a b c d = simp append_assoc
+
+-- a write failed in the middle of an event's text
+pub told_part : (t : Tuning) (taps : List KeptTap) (one other : Mobile) (kept : List KeptTap)
+    (given : List Event) (heard samples : List Sample)
     (taken n : ℕ) (event : Event) (old mid new : Option (List ℕ)) →
-    HasTold t one given (heard ++ take taken samples) old mid →
+    HasTold t taps one kept given (heard ++ take taken samples) old mid →
     ((before : List Event) → StandsFor t one (heard ++ take taken samples) before →
     StandsFor t other ((heard ++ take taken samples) ++ take n (drop taken samples))
     (before ++ event ∷ [])) →
-    AppendsPrefix mid new (event_line event) → TellsPart (Some t) given (heard ++ samples) old new
+    AppendsPrefix mid new (heard_text kept event) →
+    TellsPart (Some t) taps given (heard ++ samples) old new
 unfolding events_in
-told_part t one other given heard samples taken n event old mid new so_far stepped part =
+told_part t taps one other kept given heard samples taken n event old mid new so_far stepped part =
     let more = so_far.more in
-    let line = event_line event in
+    let line = heard_text kept event in
     let now = heard ++ take (taken + n) samples in
     let stands : StandsFor t other now ((given ++ more) ++ event ∷ []) =
     subst (λ (xs : List Sample). StandsFor t other xs ((given ++ more) ++ event ∷ []))
     (taken_more heard samples taken n) (stepped (given ++ more) so_far.stands) in
-    let later = first_events t (parts other).sync.received.clock.low stands.sync.receives.clocked.timed now (drop (taken + n) samples) in
+    let later =
+    first_events t (parts other).sync.received.clock.low stands.sync.receives.clocked.timed now
+    (drop (taken + n) samples) in
     let joined : now ++ drop (taken + n) samples ≡ heard ++ samples =
     append_assoc heard (take (taken + n) samples) (drop (taken + n) samples) ∙
     ap (λ (xs : List Sample). heard ++ xs) (take-append-drop (taken + n) samples) in
     let left = sync_events_left t now (parts other).sync.received.clock.next in
-    let whole : events t (heard ++ samples) ≡ (((given ++ more) ++ event ∷ []) ++ left) ++ later.0 =
+    let others = left ++ later.0 in
+    let whole : events t (heard ++ samples) ≡ ((given ++ more) ++ event ∷ []) ++ others =
     ap (events t) (sym joined) ∙ later.1 ∙
-    ap (λ (es : List Event). es ++ later.0) (sym stands.told) in
-    let text : text_of (events t (heard ++ samples)) ≡
-    (((text_of given ++ text_of more) ++ line) ++ text_of left) ++ text_of later.0 =
-    ap text_of whole
-    ∙ text_of-append (((given ++ more) ++ event ∷ []) ++ left) later.0
-    ∙ ap (λ (xs : List ℕ). xs ++ text_of later.0)
-    (text_of-append ((given ++ more) ++ event ∷ []) left
-    ∙ ap (λ (xs : List ℕ). xs ++ text_of left) (text_of-append (given ++ more) (event ∷ [])
-    ∙ ap (λ (xs : List ℕ). xs ++ text_of (event ∷ [])) (text_of-append given more)
-    ∙ ap (λ (xs : List ℕ). (text_of given ++ text_of more) ++ xs) (text_of-one event))) in
-    let ends = text_of left ++ text_of later.0 in
-    let all = text_of more ++ (line ++ ends) in
+    ap (λ (es : List Event). es ++ later.0) (sym stands.told) ∙
+    append_assoc ((given ++ more) ++ event ∷ []) left later.0 in
+    let first = run_text (run_taps taps given) more in
+    let ends = run_text (run_taps taps ((given ++ more) ++ event ∷ [])) others in
+    let all = first ++ (line ++ ends) in
+    let text : run_text taps (events t (heard ++ samples)) ≡ run_text taps given ++ all =
+    ap (run_text taps) whole ∙ text_begins taps given more event others ∙
+    ap (λ (k : List KeptTap). run_text taps given ++ (first ++ (heard_text k event ++ ends)))
+    (sym so_far.behind) in
     let cut : AppendsPrefix old new all =
-    prefix_behind old mid new (text_of more) (line ++ ends) so_far.written
+    prefix_behind old mid new first (line ++ ends) so_far.written
     (prefix_before mid new line ends part) in
     record {
       text = take cut.count all;
       written = cut.appended;
       begins =
-          subst (λ (xs : List ℕ). StartsWith xs (text_of given ++ take cut.count all))
-          (sym (text ∙
-          regroup (text_of given) (text_of more) line (text_of left) (text_of later.0)))
-          (begins_more (text_of given) all (take cut.count all)
+          subst (λ (xs : List ℕ). StartsWith xs (run_text taps given ++ take cut.count all))
+          (sym text)
+          (begins_more (run_text taps given) all (take cut.count all)
           (taken_begins all cut.count cut.fits));
     }
-  where
-    regroup : (a b c d e : List ℕ) → (((a ++ b) ++ c) ++ d) ++ e ≡ a ++ (b ++ (c ++ (d ++ e)))
-    regroup a b c d e = simp append_assoc
 
 -- ---- without a handset, and with one
 
-pub hears_none : (t : Option Tuning) (given : List Event) (heard samples : List Sample)
-    (old : Option (List ℕ)) → HasGiven t None heard given →
-    Tells t None given (heard ++ samples) old old
+pub hears_none : (t : Option Tuning) (taps kept : List KeptTap) (given : List Event)
+    (heard samples : List Sample) (old : Option (List ℕ)) →
+    HasGiven t taps None kept heard given →
+    Tells t taps None kept given (heard ++ samples) old old
 unfolding events_in
-hears_none None given heard samples old none =
+hears_none None taps kept given heard samples old none =
     record {
       text = [];
       written = Appends-nil old;
-      all = append-nil (text_of given) ∙ ap text_of none;
-      stands = refl;
+      all = append-nil (run_text taps given) ∙ ap (run_text taps) none.stands;
+      stands = record { stands = refl; behind = tt };
     }
-hears_none (Some t) given heard samples old none = absurd none
+hears_none (Some t) taps kept given heard samples old none = absurd none.stands
 
-pub hears_some : (t : Option Tuning) (one other : Mobile) (given : List Event)
-    (heard samples : List Sample) (old new : Option (List ℕ)) → HasGiven t (Some one) heard given →
-    ((t : Tuning) (heard : List Sample) (given : List Event) → StandsFor t one heard given →
-    Tells (Some t) (Some other) given (heard ++ samples) old new) →
-    Tells t (Some other) given (heard ++ samples) old new
-hears_some None one other given heard samples old new some tells = absurd some
-hears_some (Some t) one other given heard samples old new some tells = tells t heard given some
+pub hears_some : (t : Option Tuning) (taps : List KeptTap) (one other : Mobile)
+    (kept behind : List KeptTap) (given : List Event)
+    (heard samples : List Sample) (old new : Option (List ℕ)) →
+    HasGiven t taps (Some one) kept heard given →
+    ((t : Tuning) (taps : List KeptTap) (heard : List Sample) (given : List Event) →
+    StandsFor t one heard given → kept ≡ run_taps taps given →
+    Tells (Some t) taps (Some other) behind given (heard ++ samples) old new) →
+    Tells t taps (Some other) behind given (heard ++ samples) old new
+hears_some None taps one other kept behind given heard samples old new some tells =
+    absurd some.stands
+hears_some (Some t) taps one other kept behind given heard samples old new some tells =
+    tells t taps heard given some.stands some.behind
+
+-- the same where a write failed
+pub hears_cut : (t : Option Tuning) (taps : List KeptTap) (one : Mobile) (kept : List KeptTap)
+    (given : List Event) (heard samples : List Sample) (old new : Option (List ℕ)) →
+    HasGiven t taps (Some one) kept heard given →
+    ((t : Tuning) (taps : List KeptTap) (heard : List Sample) (given : List Event) →
+    StandsFor t one heard given → kept ≡ run_taps taps given →
+    TellsPart (Some t) taps given (heard ++ samples) old new) →
+    TellsPart t taps given (heard ++ samples) old new
+hears_cut None taps one kept given heard samples old new some tells = absurd some.stands
+hears_cut (Some t) taps one kept given heard samples old new some tells =
+    tells t taps heard given some.stands some.behind
 
 pub is_told_some : (t : Option Tuning) (mobile : Mobile) (heard : List Sample) (told : Bool) →
-    HasGiven t (Some mobile) heard (events_in t heard) →
+    HasHeard t (Some mobile) heard (events_in t heard) →
     ((t : Tuning) (heard : List Sample) → StandsFor t mobile heard (events t heard) →
     told ≡ is_some (mark t heard (length heard))) → told ≡ is_told t heard
 unfolding events_in
@@ -292,7 +352,7 @@ pub fresh_given : (settings : Settings) (header : Header) (first : List Sample) 
     settings.count ≡ header.count → settings.check30 ≡ header.check30 → length near.deltas ≡ 3 →
     AreNearTo first best.phase fingers (Some near) → AreReady (Some near) →
     StandsFor (tuning_by settings best near) mobile [] [] →
-    HasGiven (tuning_of header first fingers) (Some mobile) [] []
+    HasHeard (tuning_of header first fingers) (Some mobile) [] []
 fresh_given settings header first None best near mobile found count check long near_is ready
     stands = absurd near_is
 fresh_given settings header first (Some fingers) best near mobile found count check long near_is
@@ -307,6 +367,10 @@ fresh_given settings header first (Some fingers) best near mobile found count ch
 pub on_ok : {T E : Type 0} (r : Result T E) (P Q : Type 0) → (P → Q) → OnOk r P → OnOk r Q
 on_ok (Ok x) P Q f is = f is
 on_ok (Err e) P Q f is = is
+
+pub on_err : {T E : Type 0} (r : Result T E) (P Q : Type 0) → (P → Q) → OnErr r P → OnErr r Q
+on_err (Ok x) P Q f is = is
+on_err (Err e) P Q f is = f is
 
 pub room_some : (handset : Option Mobile) (mobile : Mobile) (n : ℕ) → handset ≡ Some mobile →
     HasRoomFor handset n → n ≤ has_room mobile

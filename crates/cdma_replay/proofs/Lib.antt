@@ -2,12 +2,10 @@ pub mod CleanTexts
 pub mod Ends
 pub mod Faults
 pub mod Files
-pub mod Grammar
 pub mod HeardRest
 pub mod Hearings
 pub mod Lines
 pub mod MadeFiles
 pub mod MadeLinks
-pub mod MakingReplies
 pub mod Prefixes
 pub mod Replies

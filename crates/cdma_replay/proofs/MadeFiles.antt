@@ -1,10 +1,13 @@
 -- Lemmas on scripts that are read, and on files of cells that are written.
-use Rattle.std.proofs.Common.{◌≡◌, ◌≢◌, ℕ, ◌+◌, ◌<◌, ◌≤◌, List, [], ◌∷◌, ◌++◌, length, map, take, drop, refl, sym, ap, ◌∙◌, subst, arith, inl, inr, append-nil, le_refl, Option, None, Some, IfSome, IsOk, Result, Ok, Err}
+use Rattle.std.proofs.Common.{◌≡◌, ◌≢◌, ℕ, ◌+◌, ◌<◌, ◌≤◌, List, [], ◌∷◌, ◌++◌, length, map, take}
+use Rattle.std.proofs.Common.{drop, refl, sym, ap, ◌∙◌, subst, arith, inl, inr, append-nil, le_refl}
+use Rattle.std.proofs.Common.{Option, None, Some, IfSome, IsOk, Result, Ok, Err}
 use Rattle.std.specs.List.{flat_map}
 use Rattle.std.specs.Io.KnownBytes.{Appends, Consumes, IsAtEnd}
 use Rattle.std.proofs.KnownBytes.{Appends-trans}
 use Rattle.std.proofs.lemmas.Bool.{cases_lt, cond-true, lt-ltb}
-use Rattle.std.proofs.lemmas.List.{drop-map, length-take-le, take-append-le, take-append-drop, take_all, take-map}
+use Rattle.std.proofs.lemmas.List.{drop-map, length-take-le, take-append-le, take-append-drop}
+use Rattle.std.proofs.lemmas.List.{take_all, take-map}
 use Rattle.std.proofs.lemmas.List.Concat.{flat_map-append}
 use Rattle.std.proofs.Math.Seq.{take-add}
 use Rattle.chip_core.specs.Complex.{of_sample}
@@ -14,7 +17,9 @@ use Rattle.cdma_io.specs.Outside.{AppendsPrefix}
 use Rattle.cdma_io.specs.SampleFile.{header_spelling, sample_spelling}
 use Rattle.base_modulator.specs.declared.plan.CellPlan.{CellPlan}
 use Rattle.base_modulator.specs.declared.script_fault.ScriptFault.{ScriptFault}
-use Rattle.base_modulator.specs.declared.script_fault.ScriptFault.TheVariants.{Line, Walsh, Gain, TooLoud, TooLong, OutOfMemory, TooBig}
+use Rattle.base_modulator.specs.declared.script_fault.ScriptFault.TheVariants.{Line, Walsh, Gain}
+use Rattle.base_modulator.specs.declared.script_fault.ScriptFault.TheVariants.{TooLoud, TooLong}
+use Rattle.base_modulator.specs.declared.script_fault.ScriptFault.TheVariants.{OutOfMemory, TooBig}
 use Rattle.base_modulator.specs.Script.{named, plan_named, stated_plan}
 use Rattle.base_modulator.specs.Signal.{samples_of}
 use Rattle.base_modulator.specs.Transmitter.{header_of}

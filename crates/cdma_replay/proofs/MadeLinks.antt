@@ -1,6 +1,8 @@
 -- The file that is made of a script can be read, and is a clean link where the search finds the
 -- cell's path.
-use Rattle.std.proofs.Common.{◌≡◌, ℕ, ◌+◌, ◌-◌, ◌*◌, ◌%◌, ◌<◌, ◌≤◌, Bool, true, false, List, ◌++◌, get_or, take, All, refl, sym, ap, ◌∙◌, subst, arith, ℤ, ◌*ℤ◌, unsigned_abs, Some, Ok}
+use Rattle.std.proofs.Common.{◌≡◌, ℕ, ◌+◌, ◌-◌, ◌*◌, ◌%◌, ◌<◌, ◌≤◌, Bool, true, false, List, ◌++◌}
+use Rattle.std.proofs.Common.{get_or, take, All, refl, sym, ap, ◌∙◌, subst, arith, ℤ, ◌*ℤ◌}
+use Rattle.std.proofs.Common.{unsigned_abs, Some, Ok}
 use Rattle.std.specs.Prelude.{◌+ℤ◌, ◌-ℤ◌}
 use Rattle.std.specs.List.{flat_map}
 use Rattle.std.proofs.lemmas.Int.{ints}
@@ -10,7 +12,8 @@ use Rattle.chip_core.specs.Complex.{of_sample, point, times}
 use Rattle.chip_core.specs.declared.sample.Pair.{Pair}
 use Rattle.chip_core.specs.declared.sample.Sample.{Sample}
 use Rattle.short_code.specs.ShortCode.{pilot_chip}
-use Rattle.cdma_io.specs.SampleFile.{HasBits, IsLawfulHeader, IsSampleFile, header_spelling, most_samples, sample_spelling, width_of}
+use Rattle.cdma_io.specs.SampleFile.{HasBits, IsLawfulHeader, IsSampleFile, header_spelling}
+use Rattle.cdma_io.specs.SampleFile.{most_samples, sample_spelling, width_of}
 use Rattle.cdma_io.specs.declared.width.Width.{Width}
 use Rattle.cdma_io.specs.declared.width.Width.TheVariants.{Sixteen, Eight}
 use Rattle.pilot_search.specs.Search.{best_phase}

@@ -1,101 +1,406 @@
--- Lemmas on the answers of a run over a sample file.
-use Rattle.std.proofs.Common.{◌≡◌, ◌≢◌, ℕ, ◌≤◌, ◌++◌, ◌⊎◌, inl, inr, List, length, refl, sym, ap, ◌∙◌, subst, Option, None, Some, IfSome}
+-- Lemmas on what a run owes: what its answer says follows from the causes of each end, and no input
+-- is owed two replies.
+use Rattle.std.proofs.Common.{◌≡◌, ◌≢◌, ℕ, ◌≤◌, ◌++◌, ◌⊎◌, inl, inr, List, [], length, refl, sym}
+use Rattle.std.proofs.Common.{ap}
+use Rattle.std.proofs.Common.{◌∙◌, subst, Option, None, Some, IfSome, IsOk, Result, Ok, Err}
+use Rattle.std.specs.Io.{StartsWith}
+use Rattle.std.specs.Io.KnownBytes.{Appends}
 use Rattle.chip_core.specs.declared.sample.Sample.{Sample}
 use Rattle.cdma_io.specs.declared.file_fault.FileFault.{FileFault}
 use Rattle.cdma_io.specs.declared.file_fault.FileFault.TheVariants.{ReadFault}
 use Rattle.cdma_io.specs.declared.header.Header.{Header}
+use Rattle.cdma_io.specs.declared.width.Width.{Width}
 use Rattle.cdma_io.specs.SampleFile.{IsSampleFile}
 use Rattle.cdma_io.proofs.Uniqueness.{file_unique}
+use Rattle.base_modulator.specs.declared.plan.CellPlan.{CellPlan}
+use Rattle.base_modulator.specs.declared.script_fault.ScriptFault.{ScriptFault}
+use Rattle.base_modulator.specs.declared.script_fault.ScriptFault.TheVariants.{OutOfMemory}
+use Rattle.base_modulator.specs.Script.{plan_named}
+use Rattle.event_tap.specs.Taps.{KeptTap, kept_by}
+use Rattle.cdma_words.specs.declared.job.Job.{Job}
+use Rattle.cdma_words.specs.declared.job.Job.TheVariants.{Find, Follow, Make}
 use Rattle.cdma_replay.specs.declared.receiving.Reception.{Reception}
 use Rattle.cdma_replay.specs.declared.status.Status.{Status}
-use Rattle.cdma_replay.specs.Find.{IsEnd, IsOfFiles, IsSearchable, WritesText}
+use Rattle.cdma_replay.specs.Find.{BeginsText, IsEnd, IsFaultIn, IsOfFiles, IsSearchable}
+use Rattle.cdma_replay.specs.Find.{WritesNoMore, WritesText}
 use Rattle.cdma_replay.specs.Hearing.{file_end_of, file_text}
-use Rattle.cdma_replay.specs.declared.words.Job.{Job}
-use Rattle.cdma_replay.specs.declared.words.Task.{Task}
-use Rattle.cdma_replay.specs.declared.words.Task.TheVariants.{Receive, Make}
-use Rattle.cdma_io.specs.declared.width.Width.{Width}
-use Rattle.cdma_replay.specs.Words.{task_in, task_of}
+use Rattle.cdma_replay.specs.Make.{BeginsMadeFile, WritesMadeFile, WritesNoMoreMade, made_file}
+use Rattle.cdma_replay.specs.Replies.{Answers, AnswersBehind, IsAnswered, IsEndOf, IsFaultyFile}
+use Rattle.cdma_replay.specs.Replies.{IsFaultyScript, IsFileEnd, IsFileReply, IsReply, IsScriptEnd}
+use Rattle.cdma_replay.specs.Replies.{IsScriptReply, IsSearchEnd, IsVerdict, IsWholeFile}
+use Rattle.cdma_replay.specs.Replies.{IsEarlyFault, IsWholeScript, Reply, WritesPart, finding}
+use Rattle.cdma_replay.specs.Replies.{following}
+use Rattle.cdma_replay.proofs.Files.{no_fault, one_fault}
 
--- what is known of a run's end from the causes of every other end
-pub record HasCauses (r : Reception) (status : Status) (rest old new : Option (List ℕ))
-    (read_fails write_fails : Type 0) : Type 0 where
-  pub done : IsEnd status → IfSome rest (λ bytes. WritesText r status bytes old new)
+-- ---- a run over a sample file
+
+-- what is known of the end of a run over a sample file
+pub record HasCauses (taps : List KeptTap) (r : Reception) (status : Status)
+    (rest old new : Option (List ℕ)) : Type 0 where
+  pub done : IsEnd status → IfSome rest (λ bytes. WritesText taps r status bytes old new)
   pub others : IsOfFiles status
   pub bad_file : (fault : FileFault) → status ≡ Status.BadFile fault →
       (fault ≢ ReadFault) × IfSome rest (λ bytes. ¬ (IsSearchable bytes r.span))
-  pub read : status ≡ Status.ReadFault → read_fails
-  pub write : status ≡ Status.WriteFault → write_fails
+  pub place : (fault : FileFault) → status ≡ Status.BadFile fault →
+      IfSome rest (λ bytes. IsFaultIn r.span bytes fault)
 
--- just the text of a good file is written, and the run ends as it should
-text_written : (r : Reception) (status : Status) (bytes held : List ℕ) (header : Header)
-    (samples : List Sample) (new : Option (List ℕ)) → IsSampleFile bytes header samples →
-    WritesText r status bytes (Some held) new → (status ≡ file_end_of r header samples) ×
-    (new ≡ Some (held ++ file_text r header samples))
-text_written r status bytes held header samples None file written = absurd written.written
-text_written r status bytes held header samples (Some now) file written =
-    let same =
-    file_unique bytes written.searchable.header header written.searchable.samples samples
-    written.searchable.file file in (
-      written.ends ∙ ap (λ (h : Header). file_end_of r h written.searchable.samples) same.0 ∙
-          ap (file_end_of r header) same.1,
-      ap (λ (text : List ℕ). Some text) (written.written ∙
-          ap (λ (h : Header). held ++ file_text r h written.searchable.samples) same.0 ∙
-          ap (λ (xs : List Sample). held ++ file_text r header xs) same.1),
-    )
+-- all of the text was written
+text_owed : {taps : List KeptTap} {r : Reception} {status : Status} {bytes : List ℕ}
+    {old new : Option (List ℕ)} → WritesText taps r status bytes old new →
+    IsAnswered (IsFileReply taps r bytes) status old new
+text_owed {taps} {r} {status} w = record {
+  reply = Ok (file_text taps r w.searchable.header w.searchable.samples, status);
+  owed = record {
+    header = w.searchable.header;
+    samples = w.searchable.samples;
+    file = w.searchable.file;
+    enough = w.searchable.enough;
+    text_is = refl;
+    end_is = w.ends;
+  };
+  answers = (refl, w.written);
+}
 
-pub good_file_ends : (r : Reception) (status : Status) (rest old new : Option (List ℕ))
-    (R W : Type 0) → HasCauses r status rest old new R W →
-    (bytes held : List ℕ) (header : Header) (samples : List Sample) → rest ≡ Some bytes →
-    old ≡ Some held → IsSampleFile bytes header samples → r.span ≤ length samples →
-    ¬ R → ¬ W → (status ≡ Status.NoMemory) ⊎
-    ((status ≡ file_end_of r header samples) ×
-    (new ≡ Some (held ++ file_text r header samples)))
-good_file_ends r Status.Done rest old new R W causes bytes held header samples is was file enough
-    read write =
-    inr (text_written r Status.Done bytes held header samples new file
-    (rw (is, was) at (causes.done tt)))
-good_file_ends r Status.NoSync rest old new R W causes bytes held header samples is was file enough
-    read write =
-    inr (text_written r Status.NoSync bytes held header samples new file
-    (rw (is, was) at (causes.done tt)))
-good_file_ends r Status.NoMemory rest old new R W causes bytes held header samples is was file
-    enough read write = inl refl
-good_file_ends r Status.BadWords rest old new R W causes bytes held header samples is was file
-    enough read write = absurd causes.others
-good_file_ends r (Status.BadScript fault) rest old new R W causes bytes held header samples is was
-    file enough read write = absurd causes.others
-good_file_ends r Status.ReadFault rest old new R W causes bytes held header samples is was file
-    enough read write = absurd (read (causes.read refl))
-good_file_ends r Status.WriteFault rest old new R W causes bytes held header samples is was file
-    enough read write = absurd (write (causes.write refl))
-good_file_ends r (Status.BadFile fault) rest old new R W causes bytes held header samples is was
-    file enough read write =
-    let none = (causes.bad_file fault refl).1 in
-    absurd ((rw is at none) (record {
-      header = header;
-      samples = samples;
-      file = file;
-      enough = enough;
-    }))
+-- the file's fault was told
+fault_owed : {taps : List KeptTap} {r : Reception} {bytes : List ℕ} {old new : Option (List ℕ)}
+    (fault : FileFault) → IsFaultIn r.span bytes fault →
+    IsAnswered (IsFileReply taps r bytes) (Status.BadFile fault) old new
+fault_owed fault is = record {
+  reply = Err (Status.BadFile fault);
+  owed = record { fault = fault; is = is; end_is = refl };
+  answers = refl;
+}
+
+pub file_verdict : (taps : List KeptTap) (r : Reception) (status : Status)
+    (rest old new : Option (List ℕ)) → HasCauses taps r status rest old new → IsVerdict status →
+    IfSome rest (λ bytes. IsAnswered (IsFileReply taps r bytes) status old new)
+file_verdict taps r status None old new causes verdict = tt
+file_verdict taps r Status.Done (Some bytes) old new causes verdict = text_owed (causes.done tt)
+file_verdict taps r Status.NoSync (Some bytes) old new causes verdict = text_owed (causes.done tt)
+file_verdict taps r (Status.BadFile fault) (Some bytes) old new causes verdict =
+    fault_owed fault (causes.place fault refl)
+file_verdict taps r (Status.BadScript fault) (Some bytes) old new causes verdict =
+    absurd causes.others
+file_verdict taps r Status.BadWords (Some bytes) old new causes verdict = absurd verdict
+file_verdict taps r Status.ReadFault (Some bytes) old new causes verdict = absurd verdict
+file_verdict taps r Status.WriteFault (Some bytes) old new causes verdict = absurd verdict
+file_verdict taps r Status.NoMemory (Some bytes) old new causes verdict = absurd verdict
+
+pub file_end : (taps : List KeptTap) (r : Reception) (status : Status)
+    (rest old new : Option (List ℕ)) → HasCauses taps r status rest old new → IsFileEnd status
+file_end taps r Status.Done rest old new causes = tt
+file_end taps r Status.NoSync rest old new causes = tt
+file_end taps r (Status.BadFile fault) rest old new causes = (causes.bad_file fault refl).0
+file_end taps r (Status.BadScript fault) rest old new causes = absurd causes.others
+file_end taps r Status.BadWords rest old new causes = absurd causes.others
+file_end taps r Status.ReadFault rest old new causes = tt
+file_end taps r Status.WriteFault rest old new causes = tt
+file_end taps r Status.NoMemory rest old new causes = tt
+
+-- without a handset
+pub search_end : (status : Status) → IsFileEnd status → status ≢ Status.NoSync →
+    IsSearchEnd status
+search_end Status.Done end alone = tt
+search_end Status.NoSync end alone = absurd (alone refl)
+search_end (Status.BadFile fault) end alone = end
+search_end (Status.BadScript fault) end alone = absurd end
+search_end Status.BadWords end alone = absurd end
+search_end Status.ReadFault end alone = tt
+search_end Status.WriteFault end alone = tt
+search_end Status.NoMemory end alone = tt
+
+-- taps have one name
+pub file_verdict_by : {taps named : List KeptTap} → taps ≡ named → (r : Reception)
+    (status : Status) (rest old new : Option (List ℕ)) →
+    HasCauses taps r status rest old new → IsVerdict status →
+    IfSome rest (λ bytes. IsAnswered (IsFileReply named r bytes) status old new)
+file_verdict_by {taps} {named} same r status rest old new causes =
+    file_verdict named r status rest old new
+    (subst (λ (k : List KeptTap). HasCauses k r status rest old new) same causes)
+
+pub file_part : {taps named : List KeptTap} {r : Reception} {rest old new : Option (List ℕ)} →
+    taps ≡ named → WritesNoMore taps r rest old new →
+    WritesPart (BeginsText named r rest) old new
+file_part {taps} {named} {r} {rest} {old} {new} same wrote =
+    subst (λ (k : List KeptTap). WritesPart (BeginsText k r rest) old new) same
+    (record { text = wrote.text; written = wrote.written; part = wrote.part })
+
+-- without a handset it doesn't matter which taps were handed in
+found_text : (taps : List KeptTap) (span workers : ℕ) (header : Header) (samples : List Sample) →
+    file_text taps (finding span workers) header samples ≡
+    file_text [] (finding span workers) header samples
+unfolding file_text
+found_text taps span workers header samples = refl
+
+found_whole : (taps : List KeptTap) (span workers : ℕ) (status : Status)
+    (rest old new : Option (List ℕ)) →
+    IfSome rest (λ bytes. WritesText taps (finding span workers) status bytes old new) →
+    IfSome rest (λ bytes. WritesText [] (finding span workers) status bytes old new)
+found_whole taps span workers status None old new wrote = tt
+found_whole taps span workers status (Some bytes) old new wrote = record {
+  searchable = wrote.searchable;
+  written =
+      subst (Appends old new)
+      (found_text taps span workers wrote.searchable.header wrote.searchable.samples)
+      wrote.written;
+  ends = wrote.ends;
+}
+
+pub find_verdict : {taps : List KeptTap} (span workers : ℕ) (status : Status)
+    (rest old new : Option (List ℕ)) →
+    HasCauses taps (finding span workers) status rest old new → IsVerdict status →
+    IfSome rest (λ bytes. IsAnswered (IsFileReply [] (finding span workers) bytes) status old new)
+find_verdict {taps} span workers status rest old new causes =
+    file_verdict [] (finding span workers) status rest old new (record {
+      done = λ (end : IsEnd status).
+          found_whole taps span workers status rest old new (causes.done end);
+      others = causes.others;
+      bad_file = causes.bad_file;
+      place = causes.place;
+    })
+
+found_begins : {taps : List KeptTap} {span workers : ℕ} {rest : Option (List ℕ)}
+    {text : List ℕ} → (text ≡ []) ⊎ BeginsText taps (finding span workers) rest text →
+    (text ≡ []) ⊎ BeginsText [] (finding span workers) rest text
+found_begins (inl none) = inl none
+found_begins {taps} {span} {workers} {rest} {text} (inr part) = inr (record {
+  header = part.header;
+  samples = part.samples;
+  counted = part.counted;
+  first = part.first;
+  begins = subst (λ (all : List ℕ). StartsWith all text)
+      (found_text taps span workers part.header part.samples) part.begins;
+})
+
+pub find_part : {taps : List KeptTap} {span workers : ℕ} {rest old new : Option (List ℕ)} →
+    WritesNoMore taps (finding span workers) rest old new →
+    WritesPart (BeginsText [] (finding span workers) rest) old new
+find_part wrote =
+    record { text = wrote.text; written = wrote.written; part = found_begins wrote.part }
+
+-- ---- a run over a script
+
+pub record HasMakeCauses (width : Width) (status : Status) (rest old new : Option (List ℕ)) :
+    Type 0 where
+  pub done : status ≡ Status.Done → IfSome rest (λ bytes. WritesMadeFile width bytes old new)
+  pub others : (status ≢ Status.NoSync) × (status ≢ Status.BadWords) ×
+      ((fault : FileFault) → status ≢ Status.BadFile fault)
+  pub bad_script : (fault : ScriptFault) → status ≡ Status.BadScript fault →
+      (fault ≢ OutOfMemory) × IfSome rest (λ bytes. plan_named width bytes ≡ Err fault)
+
+made_owed : {width : Width} {bytes : List ℕ} {old new : Option (List ℕ)} →
+    WritesMadeFile width bytes old new →
+    IsAnswered (IsScriptReply width bytes) Status.Done old new
+made_owed {width} w = record {
+  reply = Ok (made_file width w.plan, Status.Done);
+  owed = record { plan = w.plan; named = w.named; text_is = refl; end_is = refl };
+  answers = (refl, w.written);
+}
+
+script_fault_owed : {width : Width} {bytes : List ℕ} {old new : Option (List ℕ)}
+    (fault : ScriptFault) → plan_named width bytes ≡ Err fault →
+    IsAnswered (IsScriptReply width bytes) (Status.BadScript fault) old new
+script_fault_owed fault is = record {
+  reply = Err (Status.BadScript fault);
+  owed = record { fault = fault; is = is; end_is = refl };
+  answers = refl;
+}
+
+pub script_verdict : (width : Width) (status : Status) (rest old new : Option (List ℕ)) →
+    HasMakeCauses width status rest old new → IsVerdict status →
+    IfSome rest (λ bytes. IsAnswered (IsScriptReply width bytes) status old new)
+script_verdict width status None old new causes verdict = tt
+script_verdict width Status.Done (Some bytes) old new causes verdict =
+    made_owed (causes.done refl)
+script_verdict width Status.NoSync (Some bytes) old new causes verdict =
+    absurd (causes.others.0 refl)
+script_verdict width (Status.BadFile fault) (Some bytes) old new causes verdict =
+    absurd (causes.others.2 fault refl)
+script_verdict width (Status.BadScript fault) (Some bytes) old new causes verdict =
+    script_fault_owed fault (causes.bad_script fault refl).1
+script_verdict width Status.BadWords (Some bytes) old new causes verdict = absurd verdict
+script_verdict width Status.ReadFault (Some bytes) old new causes verdict = absurd verdict
+script_verdict width Status.WriteFault (Some bytes) old new causes verdict = absurd verdict
+script_verdict width Status.NoMemory (Some bytes) old new causes verdict = absurd verdict
+
+pub script_end : (width : Width) (status : Status) (rest old new : Option (List ℕ)) →
+    HasMakeCauses width status rest old new → IsScriptEnd status
+script_end width Status.Done rest old new causes = tt
+script_end width Status.NoSync rest old new causes = absurd (causes.others.0 refl)
+script_end width (Status.BadFile fault) rest old new causes = absurd (causes.others.2 fault refl)
+script_end width (Status.BadScript fault) rest old new causes = (causes.bad_script fault refl).0
+script_end width Status.BadWords rest old new causes = absurd (causes.others.1 refl)
+script_end width Status.ReadFault rest old new causes = tt
+script_end width Status.WriteFault rest old new causes = tt
+script_end width Status.NoMemory rest old new causes = tt
+
+pub script_part : {width : Width} {rest old new : Option (List ℕ)} →
+    WritesNoMoreMade width rest old new → WritesPart (BeginsMadeFile width rest) old new
+script_part wrote = record { text = wrote.text; written = wrote.written; part = wrote.part }
+
+-- a faulty script leaves the sink
+pub script_early : (status : Status) {Same : Type 0} →
+    ((fault : FileFault) → status ≢ Status.BadFile fault) →
+    ((fault : ScriptFault) → status ≡ Status.BadScript fault → Same) →
+    IsEarlyFault status → Same
+script_early Status.Done never same early = absurd early
+script_early Status.NoSync never same early = absurd early
+script_early (Status.BadFile fault) never same early = absurd (never fault refl)
+script_early (Status.BadScript fault) never same early = same fault refl
+script_early Status.BadWords never same early = absurd early
+script_early Status.ReadFault never same early = absurd early
+script_early Status.WriteFault never same early = absurd early
+script_early Status.NoMemory never same early = absurd early
+
+-- ---- one reply
+
+-- a sample file has one text and one end
+whole_alike : (taps : List KeptTap) (r : Reception) (bytes : List ℕ)
+    (one other : List ℕ × Status) → IsWholeFile taps r bytes one.0 one.1 →
+    IsWholeFile taps r bytes other.0 other.1 → one ≡ other
+whole_alike taps r bytes (text, end) (also, last) a b =
+    let same = file_unique bytes a.header b.header a.samples b.samples a.file b.file in
+    let texts : text ≡ also = a.text_is
+    ∙ ap (λ (h : Header). file_text taps r h a.samples) same.0
+    ∙ ap (file_text taps r b.header) same.1 ∙ sym b.text_is in
+    let ends : end ≡ last = a.end_is
+    ∙ ap (λ (h : Header). file_end_of r h a.samples) same.0
+    ∙ ap (file_end_of r b.header) same.1 ∙ sym b.end_is in
+    ap (λ (t : List ℕ). (t, end)) texts ∙ ap (λ (s : Status). (also, s)) ends
+
+searchable_of : (taps : List KeptTap) (r : Reception) (bytes text : List ℕ) (end : Status) →
+    IsWholeFile taps r bytes text end → IsSearchable bytes r.span
+searchable_of taps r bytes text end w = record {
+  header = w.header;
+  samples = w.samples;
+  file = w.file;
+  enough = w.enough;
+}
+
+faulty_alike : (span : ℕ) (bytes : List ℕ) (one other : Status) → IsFaultyFile span bytes one →
+    IsFaultyFile span bytes other → one ≡ other
+faulty_alike span bytes one other a b =
+    a.end_is ∙ ap Status.BadFile (one_fault span bytes a.fault b.fault a.is b.is) ∙ sym b.end_is
+
+pub one_file_reply : (taps : List KeptTap) (r : Reception) (bytes : List ℕ) (one other : Reply) →
+    IsFileReply taps r bytes one → IsFileReply taps r bytes other → one ≡ other
+one_file_reply taps r bytes (Ok one) (Ok other) a b =
+    ap (λ (p : List ℕ × Status). Ok p) (whole_alike taps r bytes one other a b)
+one_file_reply taps r bytes (Ok one) (Err other) a b =
+    absurd (no_fault bytes r.span b.fault (searchable_of taps r bytes one.0 one.1 a) b.is)
+one_file_reply taps r bytes (Err one) (Ok other) a b =
+    absurd (no_fault bytes r.span a.fault (searchable_of taps r bytes other.0 other.1 b) a.is)
+one_file_reply taps r bytes (Err one) (Err other) a b =
+    ap (λ (s : Status). Err s) (faulty_alike r.span bytes one other a b)
+
+-- so has a script
+made_alike : (width : Width) (bytes : List ℕ) (one other : List ℕ × Status) →
+    IsWholeScript width bytes one.0 one.1 → IsWholeScript width bytes other.0 other.1 →
+    one ≡ other
+made_alike width bytes (text, end) (also, last) a b =
+    let plans : Ok a.plan ≡ Ok b.plan = sym a.named ∙ b.named in
+    let same : a.plan ≡ b.plan = cc in
+    let texts : text ≡ also = a.text_is ∙ ap (made_file width) same ∙ sym b.text_is in
+    let ends : end ≡ last = a.end_is ∙ sym b.end_is in
+    ap (λ (t : List ℕ). (t, end)) texts ∙ ap (λ (s : Status). (also, s)) ends
+
+script_faults_alike : (width : Width) (bytes : List ℕ) (one other : Status) →
+    IsFaultyScript width bytes one → IsFaultyScript width bytes other → one ≡ other
+script_faults_alike width bytes one other a b =
+    let faults : Err a.fault ≡ Err b.fault = sym a.is ∙ b.is in
+    let same : a.fault ≡ b.fault = cc in
+    a.end_is ∙ ap Status.BadScript same ∙ sym b.end_is
+
+never_both : (width : Width) (bytes : List ℕ) (plan : CellPlan) (fault : ScriptFault) →
+    plan_named width bytes ≡ Ok plan → ¬ (plan_named width bytes ≡ Err fault)
+never_both width bytes plan fault is faulty = cc
+
+pub one_script_reply : (width : Width) (bytes : List ℕ) (one other : Reply) →
+    IsScriptReply width bytes one → IsScriptReply width bytes other → one ≡ other
+one_script_reply width bytes (Ok one) (Ok other) a b =
+    ap (λ (p : List ℕ × Status). Ok p) (made_alike width bytes one other a b)
+one_script_reply width bytes (Ok one) (Err other) a b =
+    absurd (never_both width bytes a.plan b.fault a.named b.is)
+one_script_reply width bytes (Err one) (Ok other) a b =
+    absurd (never_both width bytes b.plan a.fault b.named a.is)
+one_script_reply width bytes (Err one) (Err other) a b =
+    ap (λ (s : Status). Err s) (script_faults_alike width bytes one other a b)
+
+-- whatever the command
+pub one_reply : (forms : List ℕ) (job : Job) (bytes : List ℕ) (one other : Reply) →
+    IsReply forms job bytes one → IsReply forms job bytes other → one ≡ other
+one_reply forms (Find span workers) bytes one other a b =
+    one_file_reply [] (finding span workers) bytes one other a b
+one_reply forms (Follow span workers fingers limits) bytes one other a b =
+    one_file_reply (kept_by limits forms) (following span workers fingers) bytes one other a b
+one_reply forms (Make width) bytes one other a b = one_script_reply width bytes one other a b
+
+-- ---- just that reply
+
+settled : (held : List ℕ) (reply : Reply) (status : Status) (new : Option (List ℕ)) →
+    Answers reply status (Some held) new → AnswersBehind held reply status new
+settled held (Ok whole) status None answers = absurd answers.1
+settled held (Ok whole) status (Some now) answers =
+    (answers.0, ap (λ (text : List ℕ). Some text) answers.1)
+settled held (Err end) status new answers = answers
+
+-- an answer is that of the reply that the input is owed
+owed_answer : (forms : List ℕ) (job : Job) (status : Status) (bytes held : List ℕ) (reply : Reply)
+    (rest old new : Option (List ℕ)) →
+    IfSome rest (λ bytes. IsAnswered (IsReply forms job bytes) status old new) →
+    rest ≡ Some bytes → old ≡ Some held → IsReply forms job bytes reply →
+    AnswersBehind held reply status new
+owed_answer forms job status bytes held reply rest old new answered is was owed =
+    let a : IsAnswered (IsReply forms job bytes) status (Some held) new =
+    rw (is, was) at answered in
+    subst (λ (r : Reply). AnswersBehind held r status new)
+    (one_reply forms job bytes a.reply reply a.owed owed)
+    (settled held a.reply status new a.answers)
+
+named_well : (job : Job) → ¬ (IsEndOf job Status.BadWords)
+named_well (Find span workers) end = end
+named_well (Follow span workers fingers limits) end = end
+named_well (Make width) end = end
+
+-- where nothing failed
+pub exact_answer : (forms : List ℕ) (job : Job) (status : Status) (rest old new : Option (List ℕ))
+    (R W : Type 0) → IsEndOf job status →
+    (IsVerdict status →
+    IfSome rest (λ bytes. IsAnswered (IsReply forms job bytes) status old new)) →
+    (status ≡ Status.ReadFault → R) → (status ≡ Status.WriteFault → W) →
+    (bytes held : List ℕ) (reply : Reply) → rest ≡ Some bytes → old ≡ Some held →
+    IsReply forms job bytes reply → ¬ R → ¬ W →
+    (status ≡ Status.NoMemory) ⊎ AnswersBehind held reply status new
+exact_answer forms job Status.Done rest old new R W end verdict read write bytes held reply is was
+    owed reads writes =
+    inr (owed_answer forms job Status.Done bytes held reply rest old new (verdict tt) is was owed)
+exact_answer forms job Status.NoSync rest old new R W end verdict read write bytes held reply is was
+    owed reads writes =
+    inr (owed_answer forms job Status.NoSync bytes held reply rest old new (verdict tt) is was owed)
+exact_answer forms job (Status.BadFile fault) rest old new R W end verdict read write bytes held
+    reply is was owed reads writes =
+    inr (owed_answer forms job (Status.BadFile fault) bytes held reply rest old new (verdict tt) is
+    was owed)
+exact_answer forms job (Status.BadScript fault) rest old new R W end verdict read write bytes held
+    reply is was owed reads writes =
+    inr (owed_answer forms job (Status.BadScript fault) bytes held reply rest old new (verdict tt)
+    is was owed)
+exact_answer forms job Status.BadWords rest old new R W end verdict read write bytes held reply is
+    was owed reads writes = absurd (named_well job end)
+exact_answer forms job Status.ReadFault rest old new R W end verdict read write bytes held reply is
+    was owed reads writes = absurd (reads (read refl))
+exact_answer forms job Status.WriteFault rest old new R W end verdict read write bytes held reply is
+    was owed reads writes = absurd (writes (write refl))
+exact_answer forms job Status.NoMemory rest old new R W end verdict read write bytes held reply is
+    was owed reads writes = inl refl
 
 -- ---- what was asked for
 
-pub same_task : (job : Option Job) (found : Job) (task other : Task) → job ≡ Some found →
-    task ≡ task_of found → task_in job ≡ Some other → task ≡ other
-same_task job found task other is task_is named =
-    let also : Some (task_of found) ≡ Some other = sym (ap task_in is) ∙ named in
-    let same : task_of found ≡ other = cc in
-    task_is ∙ same
+pub owed_at : (forms : List ℕ) (one other : Job) (bytes : List ℕ) (reply : Reply) → one ≡ other →
+    IsReply forms other bytes reply → IsReply forms one bytes reply
+owed_at forms one other bytes reply same owed =
+    subst (λ (job : Job). IsReply forms job bytes reply) (sym same) owed
 
-pub same_reception : (one other : Reception) → Receive one ≡ Receive other → one ≡ other
-same_reception one other same = cc
-
-pub same_width : (one other : Width) → Make one ≡ Make other → one ≡ other
-same_width one other same = cc
-
--- a reception has one name
-pub causes_at : (one other : Reception) (status : Status) (rest old new : Option (List ℕ))
-    (R W : Type 0) → one ≡ other →
-    HasCauses one status rest old new R W → HasCauses other status rest old new R W
-causes_at one other status rest old new R W same causes =
-    subst (λ (r : Reception). HasCauses r status rest old new R W) same causes
+pub same_job : (named : Option Job) (one other : Job) → named ≡ Some one → named ≡ Some other →
+    one ≡ other
+same_job named one other is so = cc

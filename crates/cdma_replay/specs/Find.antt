@@ -1,5 +1,6 @@
 -- What `find` and `follow` read and write.
-use Rattle.std.specs.Prelude.{◌≡◌, ℕ, ◌+◌, ◌*◌, ◌<◌, ◌≤◌, ◌++◌, ◌⊎◌, List, [], length, All, Option, IfSome, Result, Ok, Err}
+use Rattle.std.specs.Prelude.{◌≡◌, ℕ, ◌+◌, ◌*◌, ◌<◌, ◌≤◌, ◌++◌, ◌⊎◌, List, [], length, All, Option}
+use Rattle.std.specs.Prelude.{IfSome, Result, Ok, Err}
 use Rattle.std.specs.List.{flat_map}
 use Rattle.std.specs.Io.{StartsWith}
 use Rattle.std.specs.Io.KnownBytes.{Appends, Consumes}
@@ -7,12 +8,16 @@ use Rattle.chip_core.specs.declared.sample.Sample.{Sample}
 use Rattle.cdma_io.specs.declared.header.Header.{Header}
 use Rattle.cdma_io.specs.declared.file_fault.FileFault.{FileFault}
 use Rattle.cdma_io.specs.declared.file_fault.FileFault.TheVariants.{Short, Extra, ReadFault, TooFew}
-use Rattle.cdma_io.specs.SampleFile.{IsLawfulHeader, IsSampleFile, HasBits, Reading, header_spelling, next_place, opening, sample_len, sample_spelling, width_of}
+use Rattle.cdma_io.specs.SampleFile.{IsLawfulHeader, IsSampleFile, HasBits, Reading}
+use Rattle.cdma_io.specs.SampleFile.{header_spelling, next_place, opening, sample_len}
+use Rattle.cdma_io.specs.SampleFile.{sample_spelling, width_of}
 use Rattle.cdma_io.specs.declared.width.Width.{Width}
 use Rattle.cdma_replay.specs.declared.status.Status.{Status}
 use Rattle.cdma_replay.specs.declared.status.Status.TheVariants as ends
-use Rattle.cdma_replay.specs.declared.status.Status.TheVariants.{Done, NoSync, BadFile, WriteFault, BadWords, BadScript}
+use Rattle.cdma_replay.specs.declared.status.Status.TheVariants.{Done, NoSync, BadFile, WriteFault}
+use Rattle.cdma_replay.specs.declared.status.Status.TheVariants.{BadWords, BadScript}
 use Rattle.cdma_replay.specs.declared.receiving.Reception.{Reception}
+use Rattle.event_tap.specs.Taps.{KeptTap}
 use Rattle.cdma_replay.specs.Hearing.{file_end_of, file_text}
 
 -- bytes that are a sample file of so many samples or more
@@ -22,7 +27,8 @@ pub record IsSearchable (bytes : List ℕ) (span : ℕ) : Type 0 where
   pub file : IsSampleFile bytes header samples
   pub enough : span ≤ length samples
 
--- bytes that begin with a lawful header that counts so many samples or more, and with so many of them
+-- bytes that begin with a lawful header that counts so many samples or more, and with so many of
+-- them
 pub record BeginsFile (span : ℕ) (bytes : List ℕ) : Type 0 where
   pub header : Header
   pub samples : List Sample
@@ -40,15 +46,16 @@ pub record PassesSamples (width : Width) (count : ℕ) (old new : Option (List �
   pub consumed : Consumes old new (flat_map (sample_spelling width) samples)
 
 -- the file of these bytes was read, its text written, and the run ended as it should
-pub record WritesText (r : Reception) (status : Status) (bytes : List ℕ)
+pub record WritesText (taps : List KeptTap) (r : Reception) (status : Status) (bytes : List ℕ)
     (old new : Option (List ℕ)) : Type 0 where
   pub searchable : IsSearchable bytes r.span
-  pub written : Appends old new (file_text r searchable.header searchable.samples)
+  pub written : Appends old new (file_text taps r searchable.header searchable.samples)
   pub ends : status ≡ file_end_of r searchable.header searchable.samples
 
 -- a text is a beginning of the text of samples, as many as the span is or more, with which the file
 -- of these bytes begins
-pub record BeginsText (r : Reception) (rest : Option (List ℕ)) (text : List ℕ) : Type 0 where
+pub record BeginsText (taps : List KeptTap) (r : Reception) (rest : Option (List ℕ))
+    (text : List ℕ) : Type 0 where
   pub header : Header
   pub samples : List Sample
   pub counted : r.span ≤ length samples
@@ -56,14 +63,14 @@ pub record BeginsText (r : Reception) (rest : Option (List ℕ)) (text : List �
       IfSome rest
       (λ bytes. StartsWith bytes
       (header_spelling header ++ flat_map (sample_spelling (width_of header)) samples))
-  pub begins : StartsWith (file_text r header samples) text
+  pub begins : StartsWith (file_text taps r header samples) text
 
 -- known bytes grew by nothing, or by a beginning of that text
-pub record WritesNoMore (r : Reception) (rest : Option (List ℕ)) (old new : Option (List ℕ)) :
+pub record WritesNoMore (taps : List KeptTap) (r : Reception) (rest old new : Option (List ℕ)) :
     Type 0 where
   pub text : List ℕ
   pub written : Appends old new text
-  pub part : (text ≡ []) ⊎ BeginsText r rest text
+  pub part : (text ≡ []) ⊎ BeginsText taps r rest text
 
 -- a run that read its input to the end and wrote all of its text
 abbrev pub IsEnd : Status → Type 0

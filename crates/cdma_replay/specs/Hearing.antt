@@ -1,5 +1,9 @@
 -- What is written of a sample file, and what a handset tells on the way.
-use Rattle.std.specs.Prelude.{◌≡◌, ℕ, ◌-◌, ◌≤◌, replicate, pos, slice_get, Bool, true, if◌then◌else◌, List, [], ◌++◌, length, take, All, Option, None, Some, IfSome, is_some, nat_lt}
+use Rattle.std.specs.Prelude.{◌≡◌, ℕ, ◌-◌, ◌≤◌, replicate, pos, slice_get, Bool, true}
+use Rattle.std.specs.Prelude.{if◌then◌else◌}
+use Rattle.std.specs.Prelude.{List, [], ◌∷◌, ◌++◌, length, take, All, Option, None, Some, IfSome}
+use Rattle.std.specs.Prelude.{is_some}
+use Rattle.std.specs.Prelude.{nat_lt}
 use Rattle.std.specs.List.{flat_map}
 use Rattle.std.specs.Io.{StartsWith}
 use Rattle.std.specs.Io.KnownBytes.{Appends, Consumes}
@@ -11,13 +15,16 @@ use Rattle.pilot_search.specs.Near.{near_deltas}
 use Rattle.pilot_search.specs.Search.{energy, best_phase}
 use Rattle.pilot_search.specs.declared.paths.Near.{Near}
 use Rattle.base_modulator.specs.declared.plan.CellPlan.{CellPlan}
+use Rattle.base_modulator.specs.Sampled.{made_samples}
+use Rattle.base_modulator.specs.Transmitter.{phase_at}
 use Rattle.mobile_core.specs.Events.{events}
 use Rattle.mobile_core.specs.Marks.{mark}
 use Rattle.mobile_core.specs.Standing.{StandsFor, has_room}
 use Rattle.mobile_core.specs.Tuning.{Tuning}
 use Rattle.mobile_core.specs.declared.event.Event.{Event}
+use Rattle.mobile_core.specs.declared.event.Event.TheVariants.{Pilot}
 use Rattle.mobile_core.specs.declared.mobile.Mobile.{Mobile}
-use Rattle.event_tap.specs.Lines.{pilot_line, text_of}
+use Rattle.event_tap.specs.Taps.{KeptTap, kept_with, run_taps, run_text, taps_behind}
 use Rattle.clean_link.specs.CleanLink.{sent_events}
 use Rattle.cdma_replay.specs.declared.receiving.Reception.{Reception}
 use Rattle.cdma_replay.specs.declared.status.Status.{Status}
@@ -25,9 +32,14 @@ use Rattle.cdma_replay.specs.declared.status.Status.TheVariants.{Done, NoSync}
 
 -- ---- the text of a file
 
--- the line of the samples' best phase
-unfoldable pub best_line : List Sample → List ℕ
-best_line samples = pilot_line (best_phase samples) (energy samples (best_phase samples))
+-- the event of the samples' best phase
+unfoldable pub best_pilot : List Sample → Event
+best_pilot samples = Pilot (best_phase samples) (energy samples (best_phase samples))
+
+-- the taps of a run: those that it was given, and where no handset hears, one for the pilot alone
+abbrev pub taps_for : Option ℕ → List KeptTap → List KeptTap
+taps_for None taps = kept_with 0 1
+taps_for (Some fingers) taps = taps
 
 -- a handset that follows a file of this header over so many fingers, where the pilot was searched
 -- in its first samples
@@ -50,11 +62,16 @@ unfoldable pub events_in : Option Tuning → List Sample → List Event
 events_in None samples = []
 events_in (Some t) samples = events t samples
 
--- the text of a file, or of one of which only so many samples are known
-unfoldable pub file_text : Reception → Header → List Sample → List ℕ
-file_text r header samples =
-    best_line (take r.span samples) ++
-    text_of (events_in (tuning_of header (take r.span samples) r.fingers) samples)
+-- the events of a file, or of one of which only so many samples are known: the pilot of the first
+-- ones, and what a handset hears in all
+unfoldable pub file_events : Reception → Header → List Sample → List Event
+file_events r header samples =
+    best_pilot (take r.span samples)
+    ∷ events_in (tuning_of header (take r.span samples) r.fingers) samples
+
+-- the text of them, by these taps
+unfoldable pub file_text : List KeptTap → Reception → Header → List Sample → List ℕ
+file_text taps r header samples = run_text (taps_for r.fingers taps) (file_events r header samples)
 
 -- a handset ends well where a message told it the time
 abbrev pub is_told : Option Tuning → List Sample → Bool
@@ -68,6 +85,12 @@ end_when told = if told then Done else NoSync
 unfoldable pub file_end_of : Reception → Header → List Sample → Status
 file_end_of r header samples =
     end_when (is_told (tuning_of header (take r.span samples) r.fingers) samples)
+
+-- what is told of a clean link: the pilot at the cell's phase, and all whole sendings
+unfoldable pub clean_events : ℕ → CellPlan → List Event
+clean_events span plan =
+    let phase = phase_at plan plan.link.start in
+    Pilot phase (energy (take span (made_samples plan)) phase) ∷ sent_events plan
 
 -- how a run over a clean link ends: each whole sending tells the time
 abbrev pub clean_end : CellPlan → Status
@@ -93,11 +116,23 @@ AreReady (Some near) =
 -- ---- a handset on the way
 
 -- a handset, where there is one, has taken these samples, and given these events
-abbrev pub HasGiven : Option Tuning → Option Mobile → List Sample → List Event → Type 0
-HasGiven None None heard given = given ≡ []
-HasGiven None (Some mobile) heard given = ⊥
-HasGiven (Some t) None heard given = ⊥
-HasGiven (Some t) (Some mobile) heard given = StandsFor t mobile heard given
+abbrev pub HasHeard : Option Tuning → Option Mobile → List Sample → List Event → Type 0
+HasHeard None None heard given = given ≡ []
+HasHeard None (Some mobile) heard given = ⊥
+HasHeard (Some t) None heard given = ⊥
+HasHeard (Some t) (Some mobile) heard given = StandsFor t mobile heard given
+
+-- the taps that are kept behind these events, of those that heard the first of them, where a
+-- handset gives events
+abbrev pub AreBehind : Option Tuning → List KeptTap → List KeptTap → List Event → Type 0
+AreBehind None taps kept given = Unit {0}
+AreBehind (Some t) taps kept given = kept ≡ run_taps taps given
+
+-- both: a handset has given these events, and these taps are kept behind them
+pub record HasGiven (t : Option Tuning) (taps : List KeptTap) (handset : Option Mobile)
+    (kept : List KeptTap) (heard : List Sample) (given : List Event) : Type 0 where
+  pub stands : HasHeard t handset heard given
+  pub behind : AreBehind t taps kept given
 
 -- it takes just so many samples more
 abbrev pub HasRoom : Option Mobile → ℕ → Type 0
@@ -109,46 +144,49 @@ abbrev pub HasRoomFor : Option Mobile → ℕ → Type 0
 HasRoomFor None count = Unit {0}
 HasRoomFor (Some mobile) count = count ≤ has_room mobile
 
--- it has taken these samples and given all events that end within them, and a sink got the lines of
+-- it has taken these samples and given all events that end within them, and a sink got the text of
 -- those that weren't given before
-pub record Tells (t : Option Tuning) (handset : Option Mobile) (given : List Event)
+pub record Tells (t : Option Tuning) (taps : List KeptTap) (handset : Option Mobile)
+    (kept : List KeptTap) (given : List Event) (heard : List Sample)
+    (old new : Option (List ℕ)) : Type 0 where
+  pub text : List ℕ
+  pub written : Appends old new text
+  pub all : run_text taps given ++ text ≡ run_text taps (events_in t heard)
+  pub stands : HasGiven t taps handset kept heard (events_in t heard)
+
+-- a sink got a beginning of the text of the events that end within these samples, so far as they
+-- weren't given before
+pub record TellsPart (t : Option Tuning) (taps : List KeptTap) (given : List Event)
     (heard : List Sample) (old new : Option (List ℕ)) : Type 0 where
   pub text : List ℕ
   pub written : Appends old new text
-  pub all : text_of given ++ text ≡ text_of (events_in t heard)
-  pub stands : HasGiven t handset heard (events_in t heard)
+  pub begins : StartsWith (run_text taps (events_in t heard)) (run_text taps given ++ text)
 
--- a sink got a beginning of the lines of the events that end within these samples, so far as they
--- weren't given before
-pub record TellsPart (t : Option Tuning) (given : List Event) (heard : List Sample)
-    (old new : Option (List ℕ)) : Type 0 where
-  pub text : List ℕ
-  pub written : Appends old new text
-  pub begins : StartsWith (text_of (events_in t heard)) (text_of given ++ text)
-
--- a handset has given these events behind others, and a sink got their lines
-pub record HasTold (t : Tuning) (mobile : Mobile) (given : List Event) (heard : List Sample)
-    (old new : Option (List ℕ)) : Type 0 where
+-- a handset has given these events behind others, and a sink got their text
+pub record HasTold (t : Tuning) (taps : List KeptTap) (mobile : Mobile) (kept : List KeptTap)
+    (given : List Event) (heard : List Sample) (old new : Option (List ℕ)) : Type 0 where
   pub more : List Event
-  pub written : Appends old new (text_of more)
+  pub written : Appends old new (run_text (run_taps taps given) more)
   pub stands : StandsFor t mobile heard (given ++ more)
+  pub behind : kept ≡ run_taps taps (given ++ more)
 
 -- a source lost the spellings of so many samples, and the handset heard them
-pub record HearsRest (t : Option Tuning) (width : Width) (count : ℕ) (handset : Option Mobile)
-    (heard : List Sample) (rest left old new : Option (List ℕ)) : Type 0 where
+pub record HearsRest (t : Option Tuning) (taps : List KeptTap) (width : Width) (count : ℕ)
+    (handset : Option Mobile) (kept : List KeptTap) (heard : List Sample)
+    (rest left old new : Option (List ℕ)) : Type 0 where
   pub samples : List Sample
   pub counted : length samples ≡ count
   pub in_range : All (HasBits width) samples
   pub consumed : Consumes rest left (flat_map (sample_spelling width) samples)
-  pub tells : Tells t handset (events_in t heard) (heard ++ samples) old new
+  pub tells : Tells t taps handset kept (events_in t heard) (heard ++ samples) old new
 
 -- a source begins with the spellings of samples, and a sink got a beginning of what a handset hears
 -- in them
-pub record HearsPart (t : Option Tuning) (width : Width) (heard : List Sample)
-    (rest old new : Option (List ℕ)) : Type 0 where
+pub record HearsPart (t : Option Tuning) (taps : List KeptTap) (width : Width)
+    (heard : List Sample) (rest old new : Option (List ℕ)) : Type 0 where
   pub samples : List Sample
   pub first : IfSome rest (λ bytes. StartsWith bytes (flat_map (sample_spelling width) samples))
   pub text : List ℕ
   pub written : Appends old new text
-  pub begins : StartsWith (text_of (events_in t (heard ++ samples)))
-      (text_of (events_in t heard) ++ text)
+  pub begins : StartsWith (run_text taps (events_in t (heard ++ samples)))
+      (run_text taps (events_in t heard) ++ text)

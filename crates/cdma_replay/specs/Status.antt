@@ -7,7 +7,9 @@ use Rattle.cdma_io.specs.SampleFile.{place_of}
 use Rattle.base_modulator.specs.declared.script_fault.ScriptFault.{ScriptFault}
 use Rattle.base_modulator.specs.declared.script_fault.ScriptFault.TheVariants as script
 use Rattle.cdma_replay.specs.declared.status.Status.{Status}
-use Rattle.cdma_replay.specs.declared.status.Status.TheVariants.{Done, NoSync, BadWords, BadFile, ReadFault, WriteFault, NoMemory, BadScript}
+use Rattle.cdma_replay.specs.declared.status.Status.TheVariants.{Done, NoSync, BadWords, BadFile}
+use Rattle.cdma_replay.specs.declared.status.Status.TheVariants.{ReadFault, WriteFault, NoMemory}
+use Rattle.cdma_replay.specs.declared.status.Status.TheVariants.{BadScript}
 
 abbrev pub code_of : Status → ℕ
 code_of Done = 0

@@ -1,6 +1,15 @@
 //! Laws of the definitions: each function does nothing, and its contract is the law.
 
+ghost use Rattle.std.specs.Prelude.{◌≡◌, ℕ, List};
+ghost use Rattle.cdma_words.specs.declared.job.Job.{Job as TheJob};
 ghost use Rattle.cdma_replay.specs.MadeLaws.{IsCleanWhenMade, IsReadableWhenMade};
+ghost use Rattle.cdma_replay.specs.Replies.{IsReply, Reply};
+
+/// No input is owed two replies.
+pub fn inputs_are_owed_one_reply()
+    ensures { (forms : List ℕ) (job : TheJob) (bytes : List ℕ) (one other : Reply) →
+        IsReply forms job bytes one → IsReply forms job bytes other → one ≡ other }
+{}
 
 /// What `make` writes is a sample file of the cell's samples; where the search finds the cell's
 /// path in it, it is a clean link for one finger.

@@ -8,7 +8,7 @@ use std::test::Fail;
 use std::thread::Threads;
 
 /// The cell of the long runs: a second from its local chip 0 on.
-const CELL: &str = "cell pn=511 time=1000 lc=20000000000 checks=0\n\
+pub const CELL: &str = "cell pn=511 time=1000 lc=20000000000 checks=0\n\
                     link re=0 im=-3 start=0 samples=1228800\n\
                     pilot gain=100\n";
 
@@ -42,7 +42,8 @@ const ENDLESS_CELL: &str = "cell pn=511 time=1000 lc=20000000000 checks=0\n\
                             pilot gain=100\n";
 
 /// The sync channel of the first.
-const SYNC: &str = "sync gain=30 prev=3 min=1 sid=1 nid=2 lp=13 ltm=0 daylt=0 prat=0 rest=3:00\n";
+pub const SYNC: &str =
+    "sync gain=30 prev=3 min=1 sid=1 nid=2 lp=13 ltm=0 daylt=0 prat=0 rest=3:00\n";
 
 /// A cell of one sample.
 const SHORT_CELL: &str = "cell pn=0 time=1000 lc=20000000000 checks=0\n\
@@ -57,7 +58,11 @@ fn script_of(alloc: Global, cell: &str, sync: &str) -> Result<Vec<u8>, Fail> {
 }
 
 /// The file of a lawful script.
-fn made<R: AllocGlobal + Threads + Sync>(rt: &R, cell: &str, sync: &str) -> Result<Vec<u8>, Fail> {
+pub fn made<R: AllocGlobal + Threads + Sync>(
+    rt: &R,
+    cell: &str,
+    sync: &str,
+) -> Result<Vec<u8>, Fail> {
     let script = script_of(rt.alloc(), cell, sync)?;
     let (status, file) = run(rt, "make", script.as_slice(), STEADY)?;
     if status != Status::Done {
@@ -67,7 +72,7 @@ fn made<R: AllocGlobal + Threads + Sync>(rt: &R, cell: &str, sync: &str) -> Resu
 }
 
 /// The lines of the four sendings that lie in its file whole.
-const LINES: &str = "sync at=294848 prev=3 min=1 sid=1 nid=2 pn=511 lc=102a1d2e508 time=1007 \
+pub const LINES: &str = "sync at=294848 prev=3 min=1 sid=1 nid=2 pn=511 lc=102a1d2e508 time=1007 \
     lp=13 ltm=0 daylt=0 prat=0 rest=3:00\n\
     sync at=589760 prev=3 min=1 sid=1 nid=2 pn=511 lc=007dff18942 time=1010 \
     lp=13 ltm=0 daylt=0 prat=0 rest=3:00\n\

@@ -17,17 +17,20 @@ mod receiving;
 mod replaying;
 mod status;
 #[cfg(test)]
+mod tap_tests;
+#[cfg(test)]
 mod test_runs;
 #[cfg(test)]
 mod tests;
-mod words;
 #[cfg(test)]
 mod worker_tests;
 
 use cdma_io::{Failed, ReaderSource, WriterSink};
+use event_tap::{FrameTap, MessageTap, PilotTap, RawTap, Tap};
 use pilot_search::Open;
 pub use replaying::replay;
 pub use status::Status;
+use std::alloc::{AllocError, Global};
 use std::io::ErrorKind;
 use std::process::ExitCode;
 use std::rt::Env;
@@ -54,11 +57,24 @@ fn words_of_process<R: Env + AllocGlobal>(rt: &R) -> Result<Vec<String>, Status>
         .map_err(|_| Status::NoMemory)
 }
 
+/// The program's own taps, one of each form, in order.
+fn own_taps(alloc: Global) -> Result<Vec<Box<dyn Tap>>, AllocError> {
+    let mut taps: Vec<Box<dyn Tap>> = Vec::with_capacity(alloc, 4)?;
+    taps.push(Box::new(alloc, PilotTap::new())?)?;
+    taps.push(Box::new(alloc, MessageTap::new())?)?;
+    taps.push(Box::new(alloc, FrameTap::new())?)?;
+    taps.push(Box::new(alloc, RawTap::new())?)?;
+    Ok(taps)
+}
+
 /// Runs the command that the process was given, over its standard streams.
 fn run<R: Env + Input + Print + AllocGlobal + Threads + Sync>(rt: &R) -> Status {
     let words = match words_of_process(rt) {
         Ok(words) => words,
         Err(status) => return status,
+    };
+    let Ok(taps) = own_taps(rt.alloc()) else {
+        return Status::NoMemory;
     };
     let mut source = ReaderSource::new(rt.reader());
     let mut sink = WriterSink::new(io::writer(rt));
@@ -68,6 +84,7 @@ fn run<R: Env + Input + Print + AllocGlobal + Threads + Sync>(rt: &R) -> Status 
         words.as_slice(),
         &mut source,
         &mut sink,
+        taps,
         &Open,
     );
     flushed(status, sink.flush())

@@ -1,6 +1,7 @@
 //! The command `make`: the samples of the cell that a script names, as a file.
 
-ghost use Rattle.std.specs.Prelude.{◌≡◌, ◌≢◌, ◌<◌, ◌≤◌, ◌*◌, ◌⊎◌, length, vec_len, Ok, Err, IsOk, IfOk, IfErr, OnOk, IfSome};
+ghost use Rattle.std.specs.Prelude.{◌≡◌, ◌≢◌, ◌<◌, ◌≤◌, ◌*◌, ◌⊎◌, length, vec_len, Ok, Err};
+ghost use Rattle.std.specs.Prelude.{IsOk, IfOk, IfErr, OnOk, IfSome};
 ghost use Rattle.std.specs.Io.KnownBytes.{IsAtEnd};
 ghost use Rattle.cdma_io.specs.declared.file_fault.FileFault.{FileFault};
 ghost use Rattle.cdma_io.specs.Outside.{Rose};

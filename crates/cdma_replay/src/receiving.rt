@@ -1,26 +1,34 @@
 //! The commands `find` and `follow`: the pilot in a sample file, and what a handset hears behind
 //! it.
 
-ghost use Rattle.std.specs.Prelude.{◌≡◌, ◌≢◌, ◌<◌, ◌≤◌, ◌+◌, ◌*◌, ◌-◌, ◌++◌, ◌⊎◌, ℕ, List, [], length, vec_len, All, Err, None, Some, Option, IfOk, OnOk, IfErr, OnErr, IfSome};
+ghost use Rattle.std.specs.Prelude.{◌≡◌, ◌≢◌, ◌<◌, ◌≤◌, ◌+◌, ◌*◌, ◌-◌, ◌++◌, ◌⊎◌, ℕ};
+ghost use Rattle.std.specs.Prelude.{List, [], length, vec_len, All, Err, None, Some, Option, IfOk};
+ghost use Rattle.std.specs.Prelude.{OnOk, IfErr, OnErr, IfSome};
 ghost use Rattle.std.specs.List.{flat_map};
 ghost use Rattle.std.specs.Io.KnownBytes.{Appends, Consumes, IsAtEnd};
 ghost use Rattle.chip_core.specs.declared.sample.Sample.{Sample};
 ghost use Rattle.cdma_io.specs.declared.file_fault.FileFault.{FileFault};
 ghost use Rattle.cdma_io.specs.Outside.{AppendsPrefix, ConsumesAtMost, HasCause, Rose};
-ghost use Rattle.cdma_io.specs.SampleFile.{HasBits, IsLawfulHeader, header_spelling, sample_len, sample_spelling, width_of};
+ghost use Rattle.cdma_io.specs.SampleFile.{HasBits, IsLawfulHeader, header_spelling, sample_len};
+ghost use Rattle.cdma_io.specs.SampleFile.{sample_spelling, width_of};
 ghost use Rattle.pilot_search.specs.BestIn.{IsBestIn};
 ghost use Rattle.mobile_core.specs.Tuning.{Tuning};
 ghost use Rattle.mobile_core.specs.Standing.{StandsFor, has_room};
 ghost use Rattle.mobile_core.specs.declared.event.Event.{Event as TheEvent};
-ghost use Rattle.event_tap.specs.Lines.{pilot_line};
-ghost use Rattle.cdma_replay.specs.Words.{IsFingers, IsWorkers};
-ghost use Rattle.cdma_replay.specs.Hearing.{AreNearTo, AreReady, HasGiven, HasRoom, HasRoomFor, HearsPart, HearsRest, Tells, TellsPart, best_line, end_when, events_in, is_told, tuning_of};
-ghost use Rattle.cdma_replay.specs.Find.{BeginsFile, IsEnd, IsFault, IsFaultIn, IsOfFiles, IsHeaderFault, IsRestFault, IsSearchable, WritesNoMore, WritesText, ended};
+ghost use Rattle.mobile_core.specs.declared.event.Event.TheVariants.{Pilot as ThePilot};
+ghost use Rattle.event_tap.specs.Taps.{IsKept, KeptTap, heard_text, run_taps, taps_behind};
+ghost use Rattle.cdma_words.specs.Words.{IsFingers, IsWorkers};
+ghost use Rattle.cdma_replay.specs.Hearing.{AreNearTo, AreReady, HasGiven, HasHeard, HasRoom};
+ghost use Rattle.cdma_replay.specs.Hearing.{HasRoomFor, HearsPart, HearsRest, Tells, TellsPart};
+ghost use Rattle.cdma_replay.specs.Hearing.{end_when, events_in, is_told, taps_for, tuning_of};
+ghost use Rattle.cdma_replay.specs.Find.{BeginsFile, IsEnd, IsFault, IsFaultIn, IsOfFiles};
+ghost use Rattle.cdma_replay.specs.Find.{IsHeaderFault, IsRestFault, IsSearchable, WritesNoMore};
+ghost use Rattle.cdma_replay.specs.Find.{WritesText, ended};
 
 use crate::status::Status;
 use cdma_io::{Failed, FileFault, Header, SampleReader, Sink, Source};
 use chip_core::{OutOfMemory, Sample};
-use event_tap::write_event;
+use event_tap::{KeepsTaps, write_event};
 use mobile_core::{Event, Mobile, Settings};
 use pilot_search::{Best, Gate, Near, near, search};
 use short_code::Codes;
@@ -115,7 +123,7 @@ fn handset_for(
     requires near { AreReady near }
     ensures given { (first : List Sample) (fingers : Option ℕ) →
         IsBestIn first 0 32768 best.phase best.energy → AreNearTo first best.phase fingers near →
-        IfOk result (λ handset. HasGiven (tuning_of header first fingers) handset [] []) }
+        IfOk result (λ handset. HasHeard (tuning_of header first fingers) handset [] []) }
     ensures room { IfOk result (λ handset. HasRoom handset header.count) }
 {
     let Some(near) = near else {
@@ -132,34 +140,57 @@ fn handset_for(
     Ok(Some(mobile))
 }
 
-/// Writes the line of the pilot.
-fn write_pilot<K: Sink>(sink: &mut K, best: &Best) -> Result<(), Failed>
-    ensures ok { OnOk result
-        (Appends (K.written sink.old) (K.written sink.new)
-        (pilot_line best.now.phase best.now.energy)) }
-    ensures err { OnErr result
-        (AppendsPrefix (K.written sink.old) (K.written sink.new)
-        (pilot_line best.now.phase best.now.energy)) }
+/// Tells of the pilot: where there are fingers the taps hear it, and else its line is written.
+fn tell_pilot<T: KeepsTaps, K: Sink>(
+    best: &Best,
+    fingers: Option<u8>,
+    taps: &mut T,
+    sink: &mut K,
+) -> Result<(), Failed>
+    requires { All IsKept (T.kept taps.old) }
+    ensures ok { OnOk result (Appends (K.written sink.old) (K.written sink.new)
+        (heard_text (taps_for fingers (T.kept taps.old))
+        (ThePilot best.now.phase best.now.energy))) }
+    ensures behind { OnOk result (IfSome fingers (λ count. T.kept taps.new ≡
+        taps_behind (T.kept taps.old)
+        (ThePilot best.now.phase best.now.energy))) }
+    ensures kept { All IsKept (T.kept taps.new) }
+    ensures err { OnErr result (AppendsPrefix (K.written sink.old) (K.written sink.new)
+        (heard_text (taps_for fingers (T.kept taps.old))
+        (ThePilot best.now.phase best.now.energy))) }
     ensures cause { HasCause (K.faults sink.old) (K.faults sink.new) result }
 {
     let pilot = Event::Pilot {
         phase: best.phase,
         energy: best.energy,
     };
-    write_event(&pilot, sink)
+    match fingers {
+        Some(_) => taps.tell(&pilot, sink),
+        None => write_event(&pilot, sink),
+    }
 }
 
-/// Gives samples to a handset, and writes the line of each event.
-fn tell<K: Sink>(mobile: &mut Mobile, samples: &[Sample], sink: &mut K) -> Result<(), Failed>
-    requires { length samples.now ≤ has_room mobile.old }
+/// Gives samples to a handset, and lets the taps hear each event.
+fn tell<T: KeepsTaps, K: Sink>(
+    mobile: &mut Mobile,
+    samples: &[Sample],
+    taps: &mut T,
+    sink: &mut K,
+) -> Result<(), Failed>
+    requires room { length samples.now ≤ has_room mobile.old }
+    requires kept { All IsKept (T.kept taps.old) }
     ensures room { OnOk result (has_room mobile.new + length samples.now ≡ has_room mobile.old) }
-    ensures ok { OnOk result ((t : Tuning) (heard : List Sample) (given : List TheEvent) →
-        StandsFor t mobile.old heard given →
-        Tells (Some t) (Some mobile.new) given (heard ++ samples.now) (K.written sink.old)
+    ensures kept { All IsKept (T.kept taps.new) }
+    ensures ok { OnOk result ((t : Tuning) (first : List KeptTap) (heard : List Sample)
+        (given : List TheEvent) → StandsFor t mobile.old heard given →
+        T.kept taps.old ≡ run_taps first given →
+        Tells (Some t) first (Some mobile.new) (T.kept taps.new) given
+        (heard ++ samples.now) (K.written sink.old) (K.written sink.new)) }
+    ensures err { OnErr result ((t : Tuning) (first : List KeptTap) (heard : List Sample)
+        (given : List TheEvent) → StandsFor t mobile.old heard given →
+        T.kept taps.old ≡ run_taps first given →
+        TellsPart (Some t) first given (heard ++ samples.now) (K.written sink.old)
         (K.written sink.new)) }
-    ensures err { OnErr result ((t : Tuning) (heard : List Sample) (given : List TheEvent) →
-        StandsFor t mobile.old heard given →
-        TellsPart (Some t) given (heard ++ samples.now) (K.written sink.old) (K.written sink.new)) }
     ensures cause { HasCause (K.faults sink.old) (K.faults sink.new) result }
 {
     let mut taken = 0;
@@ -169,56 +200,67 @@ fn tell<K: Sink>(mobile: &mut Mobile, samples: &[Sample], sink: &mut K) -> Resul
         let Some(event) = step.event else {
             return Ok(());
         };
-        write_event(&event, sink)?;
+        taps.tell(&event, sink)?;
     }
 }
 
-/// Gives samples to the handset, where there is one, and writes the line of each event.
-fn hear<K: Sink>(
+/// Gives samples to the handset, where there is one, and lets the taps hear each event.
+fn hear<T: KeepsTaps, K: Sink>(
     handset: &mut Option<Mobile>,
     samples: &[Sample],
+    taps: &mut T,
     sink: &mut K,
 ) -> Result<(), Failed>
     requires room { HasRoomFor handset.old (length samples.now) }
+    requires kept { All IsKept (T.kept taps.old) }
     ensures room { OnOk result ((left : ℕ) → HasRoom handset.old left →
         HasRoom handset.new (left - length samples.now)) }
-    ensures ok { OnOk result ((t : Option Tuning) (heard : List Sample) (given : List TheEvent) →
-        HasGiven t handset.old heard given →
-        Tells t handset.new given (heard ++ samples.now) (K.written sink.old)
+    ensures kept { All IsKept (T.kept taps.new) }
+    ensures ok { OnOk result ((t : Option Tuning) (first : List KeptTap) (heard : List Sample)
+        (given : List TheEvent) →
+        HasGiven t first handset.old (T.kept taps.old) heard given →
+        Tells t first handset.new (T.kept taps.new) given
+        (heard ++ samples.now) (K.written sink.old) (K.written sink.new)) }
+    ensures err { OnErr result ((t : Option Tuning) (first : List KeptTap) (heard : List Sample)
+        (given : List TheEvent) →
+        HasGiven t first handset.old (T.kept taps.old) heard given →
+        TellsPart t first given (heard ++ samples.now) (K.written sink.old)
         (K.written sink.new)) }
-    ensures err { OnErr result ((t : Option Tuning) (heard : List Sample) (given : List TheEvent) →
-        HasGiven t handset.old heard given →
-        TellsPart t given (heard ++ samples.now) (K.written sink.old) (K.written sink.new)) }
     ensures cause { HasCause (K.faults sink.old) (K.faults sink.new) result }
 {
     match handset {
-        Some(mobile) => tell(mobile, samples, sink),
+        Some(mobile) => tell(mobile, samples, taps, sink),
         None => Ok(()),
     }
 }
 
 /// Reads the samples that are left in pieces, gives them to the handset, and sees that the file
 /// ends behind them.
-fn hear_rest<S: Source, K: Sink>(
+fn hear_rest<S: Source, T: KeepsTaps, K: Sink>(
     reader: &mut SampleReader,
     source: &mut S,
     piece: &mut [Sample],
     handset: &mut Option<Mobile>,
+    taps: &mut T,
     sink: &mut K,
 ) -> Result<(), Status>
     requires piece { 0 < length piece.old }
     requires good { reader.old.fault ≡ None }
     requires counted { reader.old.left ≤ reader.old.header.count }
     requires room { HasRoom handset.old reader.old.left }
+    requires kept { All IsKept (T.kept taps.old) }
     ensures ends { OnOk result (IsAtEnd (S.rest source.new)) }
-    ensures ok { OnOk result ((t : Option Tuning) (heard : List Sample) →
-        HasGiven t handset.old heard (events_in t heard) →
-        HearsRest t (width_of reader.old.header) reader.old.left handset.new heard
-        (S.rest source.old) (S.rest source.new) (K.written sink.old) (K.written sink.new)) }
-    ensures written { (t : Option Tuning) (heard : List Sample) →
-        HasGiven t handset.old heard (events_in t heard) →
-        HearsPart t (width_of reader.old.header) heard (S.rest source.old) (K.written sink.old)
-        (K.written sink.new) }
+    ensures ok { OnOk result ((t : Option Tuning) (first : List KeptTap) (heard : List Sample) →
+        HasGiven t first handset.old (T.kept taps.old) heard
+        (events_in t heard) →
+        HearsRest t first (width_of reader.old.header) reader.old.left handset.new
+        (T.kept taps.new) heard (S.rest source.old) (S.rest source.new)
+        (K.written sink.old) (K.written sink.new)) }
+    ensures written { (t : Option Tuning) (first : List KeptTap) (heard : List Sample) →
+        HasGiven t first handset.old (T.kept taps.old) heard
+        (events_in t heard) →
+        HearsPart t first (width_of reader.old.header) heard (S.rest source.old)
+        (K.written sink.old) (K.written sink.new) }
     ensures fault { (fault : FileFault) → ended result ≡ Status.BadFile fault →
         (fault ≢ FileFault.ReadFault) ×
         IfSome (S.rest source.old)
@@ -237,7 +279,7 @@ fn hear_rest<S: Source, K: Sink>(
 {
     while reader.left() > 0 {
         let count = reader.read(source, piece)?;
-        match hear(handset, &piece[..count], sink) {
+        match hear(handset, &piece[..count], taps, sink) {
             Ok(()) => {}
             Err(Failed) => return Err(Status::WriteFault),
         }
@@ -249,7 +291,7 @@ fn hear_rest<S: Source, K: Sink>(
 /// Whether a handset was told the time, where there is one.
 fn is_told(handset: &Option<Mobile>) -> bool
     ensures { (t : Option Tuning) (heard : List Sample) →
-        HasGiven t handset.now heard (events_in t heard) → result ≡ is_told t heard }
+        HasHeard t handset.now heard (events_in t heard) → result ≡ is_told t heard }
 {
     match handset {
         Some(mobile) => mobile.synced(),
@@ -265,10 +307,10 @@ fn end_when(told: bool) -> Result<(), Status>
     if told { Ok(()) } else { Err(Status::NoSync) }
 }
 
-/// Reads the file's first samples into `span`, searches the pilot in them and writes its line, and
+/// Reads the file's first samples into `span`, searches the pilot in them and tells of it, and
 /// then reads on to the end of the file by way of `piece`; where there are fingers, a handset hears
 /// all samples.
-fn receive_file<R: Threads + Sync, S: Source, K: Sink, G: Gate + Sync>(
+fn receive_file<R: Threads + Sync, S: Source, K: Sink, T: KeepsTaps, G: Gate + Sync>(
     rt: &R,
     alloc: Global,
     reception: Reception,
@@ -277,14 +319,17 @@ fn receive_file<R: Threads + Sync, S: Source, K: Sink, G: Gate + Sync>(
     piece: &mut [Sample],
     source: &mut S,
     sink: &mut K,
+    taps: T,
     gate: &G,
 ) -> Result<(), Status>
     requires span { (length span.old ≡ reception.span) × (reception.span ≤ 32768) }
     requires workers { IsWorkers reception.workers }
     requires fingers { IfSome reception.fingers IsFingers }
     requires piece { 0 < length piece.old }
+    requires kept { All IsKept (T.kept taps) }
     ensures done { IsEnd (ended result) → IfSome (S.rest source.old) (λ bytes.
-        WritesText reception (ended result) bytes (K.written sink.old) (K.written sink.new)) }
+        WritesText (T.kept taps) reception (ended result) bytes
+        (K.written sink.old) (K.written sink.new)) }
     ensures at_end { IsEnd (ended result) → IsAtEnd (S.rest source.new) }
     ensures others { IsOfFiles (ended result) }
     ensures memory { ended result ≡ Status.NoMemory → sink.new ≡ sink.old }
@@ -300,13 +345,15 @@ fn receive_file<R: Threads + Sync, S: Source, K: Sink, G: Gate + Sync>(
         Rose (S.faults source.old) (S.faults source.new) }
     ensures write_fault { ended result ≡ Status.WriteFault →
         Rose (K.faults sink.old) (K.faults sink.new) }
+    ensures begun { ended result ≡ Status.WriteFault →
+        IfSome (S.rest source.old) (BeginsFile reception.span) }
     ensures header { (fault : FileFault) → ended result ≡ Status.BadFile fault →
         IsHeaderFault fault → sink.new ≡ sink.old }
     ensures header_alone { (fault : FileFault) → ended result ≡ Status.BadFile fault →
         IsHeaderFault fault →
         ConsumesAtMost 16 (S.rest source.old) (S.rest source.new) }
-    ensures written { WritesNoMore reception (S.rest source.old) (K.written sink.old)
-        (K.written sink.new) }
+    ensures written { WritesNoMore (T.kept taps) reception (S.rest source.old)
+        (K.written sink.old) (K.written sink.new) }
     ensures later_source { S.faults source.old ≤ S.faults source.new }
     ensures later_sink { K.faults sink.old ≤ K.faults sink.new }
 {
@@ -314,36 +361,40 @@ fn receive_file<R: Threads + Sync, S: Source, K: Sink, G: Gate + Sync>(
     let best = search(rt, alloc, span, codes, reception.workers, gate)?;
     let near = near_for(codes, span, best, reception.fingers);
     let mut handset = handset_for(alloc, reader.header(), best, near)?;
-    match write_pilot(sink, &best) {
+    let mut taps = taps;
+    match tell_pilot(&best, reception.fingers, &mut taps, sink) {
         Ok(()) => {}
         Err(Failed) => return Err(Status::WriteFault),
     }
-    match hear(&mut handset, span, sink) {
+    match hear(&mut handset, span, &mut taps, sink) {
         Ok(()) => {}
         Err(Failed) => return Err(Status::WriteFault),
     }
-    hear_rest(&mut reader, source, piece, &mut handset, sink)?;
+    hear_rest(&mut reader, source, piece, &mut handset, &mut taps, sink)?;
     end_when(is_told(&handset))
 }
 
-/// Searches the pilot in the file's first samples and writes its line, and then reads on to the end
-/// of the file; where there are fingers, a handset hears all samples, and the line of each event is
-/// written.
+/// Searches the pilot in the file's first samples and tells of it, and then reads on to the end
+/// of the file; where there are fingers, a handset hears all samples, and the taps hear the pilot
+/// and each event.
 ///
 /// All memory is taken before the first line is written.
-pub fn receive<R: Threads + Sync, S: Source, K: Sink, G: Gate + Sync>(
+pub fn receive<R: Threads + Sync, S: Source, K: Sink, T: KeepsTaps, G: Gate + Sync>(
     rt: &R,
     alloc: Global,
     reception: Reception,
     source: &mut S,
     sink: &mut K,
+    taps: T,
     gate: &G,
 ) -> Result<(), Status>
     requires span { reception.span ≤ 32768 }
     requires workers { IsWorkers reception.workers }
     requires fingers { IfSome reception.fingers IsFingers }
+    requires kept { All IsKept (T.kept taps) }
     ensures done { IsEnd (ended result) → IfSome (S.rest source.old) (λ bytes.
-        WritesText reception (ended result) bytes (K.written sink.old) (K.written sink.new)) }
+        WritesText (T.kept taps) reception (ended result) bytes
+        (K.written sink.old) (K.written sink.new)) }
     ensures at_end { IsEnd (ended result) → IsAtEnd (S.rest source.new) }
     ensures others { IsOfFiles (ended result) }
     ensures memory { ended result ≡ Status.NoMemory → sink.new ≡ sink.old }
@@ -359,13 +410,15 @@ pub fn receive<R: Threads + Sync, S: Source, K: Sink, G: Gate + Sync>(
         Rose (S.faults source.old) (S.faults source.new) }
     ensures write_fault { ended result ≡ Status.WriteFault →
         Rose (K.faults sink.old) (K.faults sink.new) }
+    ensures begun { ended result ≡ Status.WriteFault →
+        IfSome (S.rest source.old) (BeginsFile reception.span) }
     ensures header { (fault : FileFault) → ended result ≡ Status.BadFile fault →
         IsHeaderFault fault → sink.new ≡ sink.old }
     ensures header_alone { (fault : FileFault) → ended result ≡ Status.BadFile fault →
         IsHeaderFault fault →
         ConsumesAtMost 16 (S.rest source.old) (S.rest source.new) }
-    ensures written { WritesNoMore reception (S.rest source.old) (K.written sink.old)
-        (K.written sink.new) }
+    ensures written { WritesNoMore (T.kept taps) reception (S.rest source.old)
+        (K.written sink.old) (K.written sink.new) }
     ensures later_source { S.faults source.old ≤ S.faults source.new }
     ensures later_sink { K.faults sink.old ≤ K.faults sink.new }
 {
@@ -383,6 +436,7 @@ pub fn receive<R: Threads + Sync, S: Source, K: Sink, G: Gate + Sync>(
         &mut piece,
         source,
         sink,
+        taps,
         gate,
     )
 }

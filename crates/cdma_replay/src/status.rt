@@ -2,7 +2,8 @@
 
 ghost use Rattle.std.specs.Prelude.{◌≡◌, Some};
 ghost use Rattle.std.specs.Fmt.{DisplaysOnOk};
-ghost use Rattle.cdma_replay.specs.Status.{code_of, file_status, kind_of, located, script_line, text_of};
+ghost use Rattle.cdma_replay.specs.Status.{code_of, file_status, kind_of, located, script_line};
+ghost use Rattle.cdma_replay.specs.Status.{text_of};
 
 use base_modulator::ScriptFault;
 use cdma_io::FileFault;

@@ -2,8 +2,9 @@
 
 ghost use Rattle.std.specs.Prelude.{◌≤◌};
 
-use crate::{Status, replay};
+use crate::{Status, own_taps, replay};
 use cdma_io::{MemorySink, MemorySource};
+use event_tap::Tap;
 use pilot_search::{Gate, Open};
 use short_code::Codes;
 use std::alloc::Global;
@@ -76,6 +77,21 @@ pub fn run_through<R: AllocGlobal + Threads + Sync, G: Gate + Sync>(
 ) -> Result<(Status, Vec<u8>), Fail>
     requires { (1 ≤ outside.source_piece) × (1 ≤ outside.sink_piece) }
 {
+    let taps = own_taps(rt.alloc())?;
+    run_tapped(rt, line, input, outside, taps, gate)
+}
+
+/// The same with other taps than the program's own.
+pub fn run_tapped<R: AllocGlobal + Threads + Sync, G: Gate + Sync>(
+    rt: &R,
+    line: &str,
+    input: &[u8],
+    outside: Outside,
+    taps: Vec<Box<dyn Tap>>,
+    gate: &G,
+) -> Result<(Status, Vec<u8>), Fail>
+    requires { (1 ≤ outside.source_piece) × (1 ≤ outside.sink_piece) }
+{
     let alloc = rt.alloc();
     let words = words_of(alloc, line)?;
     let mut source = MemorySource::new(
@@ -89,7 +105,15 @@ pub fn run_through<R: AllocGlobal + Threads + Sync, G: Gate + Sync>(
         outside.sink_piece,
         failing(alloc, outside.sink_fails)?,
     )?;
-    let status = replay(rt, alloc, words.as_slice(), &mut source, &mut sink, gate);
+    let status = replay(
+        rt,
+        alloc,
+        words.as_slice(),
+        &mut source,
+        &mut sink,
+        taps,
+        gate,
+    );
     Ok((status, Vec::from_slice(alloc, sink.bytes())?))
 }
 

@@ -4,7 +4,8 @@ use Rattle.base_modulator.specs.declared.script_fault.ScriptFault.{ScriptFault}
 use Rattle.base_modulator.specs.declared.script_fault.ScriptFault.TheVariants.{OutOfMemory}
 use Rattle.cdma_replay.specs.Status.{script_status}
 use Rattle.cdma_replay.proofs.Files.{ended_by}
-use Rattle.cdma_replay.proofs.MadeFiles.{bad_script_is, memory_is, read_lawful, read_named, read_names, read_to_end}
+use Rattle.cdma_replay.proofs.MadeFiles.{bad_script_is, memory_is, read_lawful, read_named}
+use Rattle.cdma_replay.proofs.MadeFiles.{read_names, read_to_end}
 use Rattle.cdma_replay.proofs.making.open_cell.Goals as goal
 
 pub returns-in_err-new-clause-bad_script : goal.returns-in_err-new-clause-bad_script

@@ -1,17 +1,20 @@
-use Rattle.std.proofs.Common.{◌≡◌, ◌≤◌, ◌-◌, ℕ, IfSome, IsNone, length, length-take-le, take, ap, ◌∙◌, refl, subst, arith, rules}
+use Rattle.std.proofs.Common.{◌≡◌, ◌≤◌, ◌-◌, ℕ, IfSome, IsNone, length, length-take-le, take, ap}
+use Rattle.std.proofs.Common.{◌∙◌, refl, subst, arith, rules}
 use Rattle.cdma_io.specs.SampleFile.{Reading, width_of}
 use Rattle.cdma_io.specs.declared.file_fault.FileFault.{FileFault}
 use Rattle.cdma_replay.specs.Find.{IsRestFault}
 use Rattle.cdma_replay.specs.Hearing.{HasRoom}
 use Rattle.cdma_replay.proofs.Faults.{rest_cut_fault, rest_extra_fault}
 use Rattle.cdma_replay.proofs.Files.{blamed, wrong_length}
-use Rattle.cdma_replay.proofs.HeardRest.{hears_all, hears_more, hears_nothing, hears_part, hears_stopped}
+use Rattle.cdma_replay.proofs.HeardRest.{hears_all, hears_more, hears_nothing, hears_part}
+use Rattle.cdma_replay.proofs.HeardRest.{hears_stopped}
 use Rattle.cdma_replay.proofs.Hearings.{room_for}
 use Rattle.cdma_replay.proofs.receiving.hear_rest.Goals as goal
 
 pub loop-reader-init : goal.loop-reader-init
 loop-reader-init g c = record {
   hears = hears_nothing c.args.reader.now.left;
+  kept = c.requires.kept;
   taken = search rules;
   same = search rules;
   low = search rules;
@@ -55,6 +58,7 @@ hear-requires g c =
     record {
       room = room_for c.loop-reader.handset c.loop-reader.reader.left
           (length (take n c.read.new.out)) c.loop-reader.invariant.taken fits;
+      kept = c.loop-reader.invariant.kept;
     }
 
 pub loop-reader-preserved : goal.loop-reader-preserved
@@ -72,6 +76,7 @@ loop-reader-preserved g c =
       hears = hears_more left now n _ c.read.new.out (ap width_of inv.same) fewer inv.hears inv.low
           fits room
           c.in_ok-count.ensures.in_range c.in_ok-count.ensures.samples c.in-Ok.ensures.ok;
+      kept = c.hear.ensures.kept;
       taken = rw fewer
           (subst (λ (k : ℕ). HasRoom c.hear.new.handset (now - k)) taken
           (c.in-Ok.ensures.room now inv.taken));

@@ -1,5 +1,6 @@
-use Rattle.std.proofs.Common.{◌≡◌, ◌-◌, ◌<◌, ◌≤◌, None, length}
+use Rattle.std.proofs.Common.{◌≡◌, ◌-◌, ◌<◌, ◌≤◌, All, None, length}
 use Rattle.cdma_io.specs.SampleFile.{width_of}
+use Rattle.event_tap.specs.Taps.{IsKept}
 use Rattle.cdma_replay.specs.Hearing.{HasRoom}
 use Rattle.cdma_replay.proofs.HeardRest.{Hears}
 use Rattle.cdma_replay.proofs.receiving.hear_rest.Given as goal
@@ -7,9 +8,10 @@ use Rattle.cdma_replay.proofs.receiving.hear_rest.Given as goal
 abbrev pub invariant-loop-reader : goal.invariant-loop-reader
 invariant-loop-reader g l = record {
   hears : Hears (width_of l.initial.reader.header) (l.initial.reader.left - l.reader.left)
-      l.fn.handset l.handset
+      l.fn.handset l.handset (g.T.KeepsTaps.kept l.fn.taps) (g.T.KeepsTaps.kept l.taps)
       (g.S.Source.rest l.fn.source) (g.S.Source.rest l.source) (g.K.Sink.written l.fn.sink)
       (g.K.Sink.written l.sink);
+  kept : All IsKept (g.T.KeepsTaps.kept l.taps);
   taken : HasRoom l.handset l.reader.left;
   same : l.reader.header ≡ l.initial.reader.header;
   low : l.reader.left ≤ l.initial.reader.left;

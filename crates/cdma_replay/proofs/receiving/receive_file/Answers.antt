@@ -1,14 +1,16 @@
-use Rattle.std.proofs.Common.{◌≡◌, ℕ, List, [], Option, IfSome, length, ap, sym, ◌∙◌, subst, rules, arith}
+use Rattle.std.proofs.Common.{◌≡◌, ℕ, List, [], Option, IfSome, length, ap, sym, ◌∙◌, subst, rules}
+use Rattle.std.proofs.Common.{arith}
 use Rattle.chip_core.specs.declared.sample.Sample.{Sample}
 use Rattle.cdma_io.specs.declared.file_fault.FileFault.{FileFault}
 use Rattle.mobile_core.specs.Tuning.{Tuning}
 use Rattle.cdma_replay.specs.Find.{IsFault, IsFaultIn}
-use Rattle.cdma_replay.specs.Hearing.{HasGiven, end_when, events_in, tuning_of}
-use Rattle.cdma_replay.proofs.Ends.{begins_file, ends_well, no_memory_told}
+use Rattle.cdma_replay.specs.Hearing.{HasHeard, end_when, events_in, tuning_of}
+use Rattle.cdma_replay.proofs.Ends.{begins_file, ends_well, no_memory_told, no_write_told}
 use Rattle.cdma_replay.proofs.Faults.{fault_of_rest}
 use Rattle.cdma_replay.proofs.Files.{blamed, ended_by, unsearchable}
 use Rattle.cdma_replay.proofs.Hearings.{fault_no_end}
-use Rattle.cdma_replay.proofs.Lines.{has_begun, writes_first_part, writes_pilot_part, writes_rest_part, writes_text}
+use Rattle.cdma_replay.proofs.Lines.{has_begun, writes_first_part, writes_pilot_part}
+use Rattle.cdma_replay.proofs.Lines.{writes_rest_part, writes_text}
 use Rattle.cdma_replay.proofs.receiving.receive_file.Goals as goal
 
 pub returns-in_err-reader-clause-place : goal.returns-in_err-reader-clause-place
@@ -29,9 +31,10 @@ returns-in-Err-clause-written g c =
 pub returns-in-Err-hear-clause-written : goal.returns-in-Err-hear-clause-written
 returns-in-Err-hear-clause-written g c =
     let begun =
-    has_begun c.args.reception c.open_span.new.span c.in_ok-best.best _ (search rules)
+    has_begun _ c.args.reception c.open_span.new.span c.in_ok-best.best _ (search rules)
     c.in_ok-reader.ensures.file c.in_ok-best.ensures c.near_for-near.ensures.near
-    c.header.ensures.value c.in_ok-handset.ensures.given c.in-Ok.ensures.ok in
+    c.header.ensures.value c.in_ok-handset.ensures.given c.in-Ok.ensures.ok
+    c.in-Ok.ensures.behind in
     writes_first_part begun c.in-Err-hear.ensures.err
 
 pub returns-in_err-hear_rest-clause-done : goal.returns-in_err-hear_rest-clause-done
@@ -74,30 +77,33 @@ returns-in_err-hear_rest-clause-bad_file g c fault is =
 pub returns-in_err-hear_rest-clause-written : goal.returns-in_err-hear_rest-clause-written
 returns-in_err-hear_rest-clause-written g c =
     let begun =
-    has_begun c.args.reception c.open_span.new.span c.in_ok-best.best _ (search rules)
+    has_begun _ c.args.reception c.open_span.new.span c.in_ok-best.best _ (search rules)
     c.in_ok-reader.ensures.file c.in_ok-best.ensures c.near_for-near.ensures.near
-    c.header.ensures.value c.in_ok-handset.ensures.given c.in-Ok.ensures.ok in
+    c.header.ensures.value c.in_ok-handset.ensures.given c.in-Ok.ensures.ok
+    c.in-Ok.ensures.behind in
     writes_rest_part begun c.in-Ok-hear.ensures.ok c.in_err-hear_rest.ensures.written
 
 pub returns-clause-done : goal.returns-clause-done
 returns-clause-done g c end =
     let begun =
-    has_begun c.args.reception c.open_span.new.span c.in_ok-best.best _ (search rules)
+    has_begun _ c.args.reception c.open_span.new.span c.in_ok-best.best _ (search rules)
     c.in_ok-reader.ensures.file c.in_ok-best.ensures c.near_for-near.ensures.near
-    c.header.ensures.value c.in_ok-handset.ensures.given c.in-Ok.ensures.ok in
+    c.header.ensures.value c.in_ok-handset.ensures.given c.in-Ok.ensures.ok
+    c.in-Ok.ensures.behind in
     writes_text (g.S.Source.rest c.args.source.now) _ _ c.in_ok-reader.ensures.lawful (search rules)
     c.in_ok-reader.ensures.in_range begun c.in-Ok-hear.ensures.ok c.in_ok-hear_rest.ensures.ok
     c.in_ok-hear_rest.ensures.ends
     (λ (t : Option Tuning) (heard : List Sample)
-    (given : HasGiven t c.hear_rest.new.handset heard (events_in t heard)).
+    (given : HasHeard t c.hear_rest.new.handset heard (events_in t heard)).
     c.end_when.ensures.value ∙ ap end_when (c.is_told.ensures t heard given))
 
 pub returns-clause-written : goal.returns-clause-written
 returns-clause-written g c =
     let begun =
-    has_begun c.args.reception c.open_span.new.span c.in_ok-best.best _ (search rules)
+    has_begun _ c.args.reception c.open_span.new.span c.in_ok-best.best _ (search rules)
     c.in_ok-reader.ensures.file c.in_ok-best.ensures c.near_for-near.ensures.near
-    c.header.ensures.value c.in_ok-handset.ensures.given c.in-Ok.ensures.ok in
+    c.header.ensures.value c.in_ok-handset.ensures.given c.in-Ok.ensures.ok
+    c.in-Ok.ensures.behind in
     writes_rest_part begun c.in-Ok-hear.ensures.ok c.in_ok-hear_rest.ensures.written
 
 pub returns-in_err-reader-clause-early : goal.returns-in_err-reader-clause-early
@@ -125,10 +131,37 @@ returns-clause-alone g c none unheard =
     let t : Option Tuning =
     tuning_of c.in_ok-reader.reader.header span c.args.reception.fingers in
     let begun =
-    has_begun c.args.reception span c.in_ok-best.best _ (search rules)
+    has_begun _ c.args.reception span c.in_ok-best.best _ (search rules)
     c.in_ok-reader.ensures.file c.in_ok-best.ensures c.near_for-near.ensures.near
-    c.header.ensures.value c.in_ok-handset.ensures.given c.in-Ok.ensures.ok in
-    let first = (c.in-Ok-hear.ensures.ok t [] [] begun.given).stands in
-    let last = (c.in_ok-hear_rest.ensures.ok t _ first).tells.stands in
+    c.header.ensures.value c.in_ok-handset.ensures.given c.in-Ok.ensures.ok
+    c.in-Ok.ensures.behind in
+    let first = (c.in-Ok-hear.ensures.ok t _ [] [] begun.given).stands in
+    let last = (c.in_ok-hear_rest.ensures.ok t _ _ first).tells.stands in
     ends_well t _ c.end_when.result _ (ap (tuning_of c.in_ok-reader.reader.header span) none)
-    c.end_when.ensures.value (c.is_told.ensures t _ last) unheard
+    c.end_when.ensures.value (c.is_told.ensures t _ last.stands) unheard
+
+pub returns-in-Err-clause-begun : goal.returns-in-Err-clause-begun
+returns-in-Err-clause-begun g c lost =
+    begins_file (g.S.Source.rest c.args.source.now) _ c.in_ok-reader.reader.header
+    c.open_span.new.span c.in_ok-reader.ensures.lawful (search rules)
+    (omega (arith, c.in_ok-reader.ensures.reader.0, c.requires.span.0))
+    c.in_ok-reader.ensures.file
+
+pub returns-in-Err-hear-clause-begun : goal.returns-in-Err-hear-clause-begun
+returns-in-Err-hear-clause-begun g c lost =
+    begins_file (g.S.Source.rest c.args.source.now) _ c.in_ok-reader.reader.header
+    c.open_span.new.span c.in_ok-reader.ensures.lawful (search rules)
+    (omega (arith, c.in_ok-reader.ensures.reader.0, c.requires.span.0))
+    c.in_ok-reader.ensures.file
+
+pub returns-in_err-hear_rest-clause-begun : goal.returns-in_err-hear_rest-clause-begun
+returns-in_err-hear_rest-clause-begun g c lost =
+    begins_file (g.S.Source.rest c.args.source.now) _ c.in_ok-reader.reader.header
+    c.open_span.new.span c.in_ok-reader.ensures.lawful (search rules)
+    (omega (arith, c.in_ok-reader.ensures.reader.0, c.requires.span.0))
+    c.in_ok-reader.ensures.file
+
+pub returns-in_err-reader-clause-begun : goal.returns-in_err-reader-clause-begun
+returns-in_err-reader-clause-begun g c lost =
+    absurd (no_write_told c.from_residual.result c.in_err-reader.field-0.0
+    c.from_residual.ensures.1 lost)

@@ -1,7 +1,9 @@
-use Rattle.std.proofs.Common.{◌≡◌, ◌-◌, ◌++◌, ◌∷◌, [], List, length, take, drop, Option, None, Some, sym, ap, ◌∙◌, subst, append-nil, rules, arith}
+use Rattle.std.proofs.Common.{◌≡◌, ◌-◌, ◌++◌, ◌∷◌, [], List, length, take, drop, Option, None, Some}
+use Rattle.std.proofs.Common.{sym, ap, ◌∙◌, subst, append-nil, rules, arith}
 use Rattle.std.proofs.lemmas.List.{take_rest}
 use Rattle.std.proofs.lemmas.Result.{err_from_is_err_and}
 use Rattle.chip_core.specs.declared.sample.Sample.{Sample}
+use Rattle.event_tap.specs.Taps.{KeptTap, run_taps}
 use Rattle.mobile_core.specs.Events.{events}
 use Rattle.mobile_core.specs.Given.{listed}
 use Rattle.mobile_core.specs.Standing.{StandsFor}
@@ -15,25 +17,29 @@ pub loop-event-init : goal.loop-event-init
 loop-event-init g c = record {
   most = omega arith;
   room = omega arith;
-  told = λ (t : Tuning) (heard : List Sample) (given : List Event)
-      (stands : StandsFor t c.args.mobile.now heard given).
-      subst (λ (xs : List Sample). HasTold t c.args.mobile.now given xs
+  kept = c.requires.kept;
+  told = λ (t : Tuning) (first : List KeptTap) (heard : List Sample) (given : List Event)
+      (stands : StandsFor t c.args.mobile.now heard given)
+      (behind : g.T.KeepsTaps.kept c.args.taps.now ≡ run_taps first given).
+      subst (λ (xs : List Sample). HasTold t first c.args.mobile.now
+      (g.T.KeepsTaps.kept c.args.taps.now) given xs
       (g.K.Sink.written c.args.sink.now) (g.K.Sink.written c.args.sink.now))
       (sym (append-nil heard))
-      (told_none t c.args.mobile.now given heard (g.K.Sink.written c.args.sink.now) stands);
+      (told_none t first c.args.mobile.now (g.T.KeepsTaps.kept c.args.taps.now) given heard
+      (g.K.Sink.written c.args.sink.now) stands behind);
   later = omega arith;
 }
 
 pub returns-in_default-clause-ok : goal.returns-in_default-clause-ok
-returns-in_default-clause-ok g c t heard given stands =
+returns-in_default-clause-ok g c t first heard given stands behind =
     let inv = c.loop-event.invariant in
     let taken = c.loop-event.taken in
     let samples = c.args.samples.now in
     let nothing : c.step-step.result.event ≡ None = search rules in
     let left = take_rest samples taken in
     let none = c.step-step.ensures.none nothing in
-    told_all t c.loop-event.mobile c.step-step.new.self given heard samples taken
-    c.step-step.result.taken _ _ (inv.told t heard given stands)
+    told_all t first c.loop-event.mobile c.step-step.new.self _ given heard samples taken
+    c.step-step.result.taken _ _ (inv.told t first heard given stands behind)
     (none.0 ∙ ap length left)
     (λ (before : List Event)
     (is : StandsFor t c.loop-event.mobile (heard ++ take taken samples) before).
@@ -60,10 +66,12 @@ loop-event-preserved g c =
     record {
       most = search rules;
       room = search rules;
-      told = λ (t : Tuning) (heard : List Sample) (given : List Event)
-          (stands : StandsFor t c.args.mobile.now heard given).
-          told_more t c.loop-event.mobile c.step-step.new.self given heard samples taken
-          c.step-step.result.taken event _ _ _ (inv.told t heard given stands)
+      kept = c.tell.ensures.kept;
+      told = λ (t : Tuning) (first : List KeptTap) (heard : List Sample) (given : List Event)
+          (stands : StandsFor t c.args.mobile.now heard given)
+          (behind : g.T.KeepsTaps.kept c.args.taps.now ≡ run_taps first given).
+          told_more t first c.loop-event.mobile c.step-step.new.self _ _ given heard samples taken
+          c.step-step.result.taken event _ _ _ (inv.told t first heard given stands behind)
           (λ (before : List Event)
           (is : StandsFor t c.loop-event.mobile (heard ++ take taken samples) before).
           subst (λ (xs : List Sample). StandsFor t c.step-step.new.self
@@ -74,12 +82,12 @@ loop-event-preserved g c =
           take c.step-step.result.taken (take (length samples - taken) (drop taken samples)))
           (before ++ listed e)) something
           (c.step-step.ensures.steps.stands t (heard ++ take taken samples) before is)))
-          (search rules);
+          (search rules) (search rules);
       later = search rules;
     }
 
-pub returns-in_err-write_event-clause-err : goal.returns-in_err-write_event-clause-err
-returns-in_err-write_event-clause-err g c =
+pub returns-in_err-tell-clause-err : goal.returns-in_err-tell-clause-err
+returns-in_err-tell-clause-err g c =
     let inv = c.loop-event.invariant in
     let taken = c.loop-event.taken in
     let samples = c.args.samples.now in
@@ -87,10 +95,11 @@ returns-in_err-write_event-clause-err g c =
     let something : c.step-step.result.event ≡ Some event = search rules in
     let left = take_rest samples taken in
     let p = err_from_is_err_and c.from_residual.result c.from_residual.ensures.1 in
-    rw p.1 (λ (t : Tuning) (heard : List Sample) (given : List Event)
-    (stands : StandsFor t c.args.mobile.now heard given).
-    told_part t c.loop-event.mobile c.step-step.new.self given heard samples taken
-    c.step-step.result.taken event _ _ _ (inv.told t heard given stands)
+    rw p.1 (λ (t : Tuning) (first : List KeptTap) (heard : List Sample) (given : List Event)
+    (stands : StandsFor t c.args.mobile.now heard given)
+    (behind : g.T.KeepsTaps.kept c.args.taps.now ≡ run_taps first given).
+    told_part t first c.loop-event.mobile c.step-step.new.self _ given heard samples taken
+    c.step-step.result.taken event _ _ _ (inv.told t first heard given stands behind)
     (λ (before : List Event)
     (is : StandsFor t c.loop-event.mobile (heard ++ take taken samples) before).
     subst (λ (xs : List Sample). StandsFor t c.step-step.new.self

@@ -1,5 +1,6 @@
-use Rattle.std.proofs.Common.{◌≡◌, ◌≤◌, ◌+◌, ◌++◌, List, length, take}
+use Rattle.std.proofs.Common.{◌≡◌, ◌≤◌, ◌+◌, ◌++◌, All, List, length, take}
 use Rattle.chip_core.specs.declared.sample.Sample.{Sample}
+use Rattle.event_tap.specs.Taps.{IsKept, KeptTap, run_taps}
 use Rattle.mobile_core.specs.Standing.{StandsFor, has_room, steps_left}
 use Rattle.mobile_core.specs.Tuning.{Tuning}
 use Rattle.mobile_core.specs.declared.event.Event.{Event}
@@ -10,10 +11,11 @@ abbrev pub invariant-loop-event : goal.invariant-loop-event
 invariant-loop-event g l = record {
   most : l.taken ≤ length l.samples;
   room : has_room l.mobile + l.taken ≡ has_room l.fn.mobile;
-  told : (t : Tuning) (heard : List Sample) (given : List Event) →
-      StandsFor t l.fn.mobile heard given →
-      HasTold t l.mobile given (heard ++ take l.taken l.samples) (g.K.Sink.written l.fn.sink)
-      (g.K.Sink.written l.sink);
+  kept : All IsKept (g.T.KeepsTaps.kept l.taps);
+  told : (t : Tuning) (first : List KeptTap) (heard : List Sample) (given : List Event) →
+      StandsFor t l.fn.mobile heard given → g.T.KeepsTaps.kept l.fn.taps ≡ run_taps first given →
+      HasTold t first l.mobile (g.T.KeepsTaps.kept l.taps) given (heard ++ take l.taken l.samples)
+      (g.K.Sink.written l.fn.sink) (g.K.Sink.written l.sink);
   later : g.K.Sink.faults l.fn.sink ≤ g.K.Sink.faults l.sink;
 }
 

@@ -1,0 +1,166 @@
+-- What a run owes: for each command and the bytes of its input, the text that is written of it and
+-- how the run ends, or the fault that it has.
+use Rattle.std.specs.Prelude.{◌≡◌, ◌≢◌, ℕ, ◌≤◌, ◌++◌, ◌⊎◌, List, [], length, Option, IfSome, IsOk}
+use Rattle.std.specs.Prelude.{None, Some, Result, Ok, Err}
+use Rattle.std.specs.Io.{StartsWith}
+use Rattle.std.specs.Io.KnownBytes.{Appends}
+use Rattle.chip_core.specs.declared.sample.Sample.{Sample}
+use Rattle.cdma_io.specs.declared.file_fault.FileFault.{FileFault}
+use Rattle.cdma_io.specs.declared.file_fault.FileFault.TheVariants as file
+use Rattle.cdma_io.specs.declared.header.Header.{Header}
+use Rattle.cdma_io.specs.declared.width.Width.{Width}
+use Rattle.cdma_io.specs.SampleFile.{IsSampleFile}
+use Rattle.base_modulator.specs.declared.plan.CellPlan.{CellPlan}
+use Rattle.base_modulator.specs.declared.script_fault.ScriptFault.{ScriptFault}
+use Rattle.base_modulator.specs.declared.script_fault.ScriptFault.TheVariants as script
+use Rattle.base_modulator.specs.Script.{plan_named}
+use Rattle.event_tap.specs.Taps.{KeptTap, kept_by}
+use Rattle.cdma_words.specs.declared.job.Job.{Job}
+use Rattle.cdma_words.specs.declared.job.Job.TheVariants.{Find, Follow, Make}
+use Rattle.cdma_replay.specs.declared.receiving.Reception.{Reception}
+use Rattle.cdma_replay.specs.declared.status.Status.{Status}
+use Rattle.cdma_replay.specs.declared.status.Status.TheVariants as ends
+use Rattle.cdma_replay.specs.Find.{BeginsFile, BeginsText, IsFaultIn, IsHeaderFault}
+use Rattle.cdma_replay.specs.Hearing.{file_end_of, file_text}
+use Rattle.cdma_replay.specs.Make.{BeginsMadeFile, made_file}
+
+-- ---- replies
+
+-- the whole text and how the run ends, or the fault that the run ends with
+abbrev pub Reply : Type 0
+Reply = Result (List ℕ × Status) Status
+
+-- the bytes are a sample file of as many samples as the span is or more, and this is its text and
+-- its end
+pub record IsWholeFile (taps : List KeptTap) (r : Reception) (bytes text : List ℕ)
+    (end : Status) : Type 0 where
+  pub header : Header
+  pub samples : List Sample
+  pub file : IsSampleFile bytes header samples
+  pub enough : r.span ≤ length samples
+  pub text_is : text ≡ file_text taps r header samples
+  pub end_is : end ≡ file_end_of r header samples
+
+-- the bytes have this fault as a file of so many samples or more
+pub record IsFaultyFile (span : ℕ) (bytes : List ℕ) (end : Status) : Type 0 where
+  pub fault : FileFault
+  pub is : IsFaultIn span bytes fault
+  pub end_is : end ≡ ends.BadFile fault
+
+abbrev pub IsFileReply : List KeptTap → Reception → List ℕ → Reply → Type 0
+IsFileReply taps r bytes (Ok whole) = IsWholeFile taps r bytes whole.0 whole.1
+IsFileReply taps r bytes (Err end) = IsFaultyFile r.span bytes end
+
+-- the bytes are a script that names a cell, and this is the cell's file
+pub record IsWholeScript (width : Width) (bytes text : List ℕ) (end : Status) : Type 0 where
+  pub plan : CellPlan
+  pub named : plan_named width bytes ≡ Ok plan
+  pub text_is : text ≡ made_file width plan
+  pub end_is : end ≡ ends.Done
+
+-- the bytes are a script with this fault
+pub record IsFaultyScript (width : Width) (bytes : List ℕ) (end : Status) : Type 0 where
+  pub fault : ScriptFault
+  pub is : plan_named width bytes ≡ Err fault
+  pub end_is : end ≡ ends.BadScript fault
+
+abbrev pub IsScriptReply : Width → List ℕ → Reply → Type 0
+IsScriptReply width bytes (Ok whole) = IsWholeScript width bytes whole.0 whole.1
+IsScriptReply width bytes (Err end) = IsFaultyScript width bytes end
+
+-- ---- command by command
+
+-- how `find` and `follow` receive
+abbrev pub finding : ℕ → ℕ → Reception
+finding span workers = record { span = span; workers = workers; fingers = None }
+
+abbrev pub following : ℕ → ℕ → ℕ → Reception
+following span workers fingers = record { span = span; workers = workers; fingers = Some fingers }
+
+-- what a run over these bytes owes, with taps of these forms; `find` and `make` use none of them
+abbrev pub IsReply : List ℕ → Job → List ℕ → Reply → Type 0
+IsReply forms (Find span workers) = IsFileReply [] (finding span workers)
+IsReply forms (Follow span workers fingers limits) =
+    IsFileReply (kept_by limits forms) (following span workers fingers)
+IsReply forms (Make width) = IsScriptReply width
+
+-- what memory may run out behind, or a write fail behind: a good beginning of the input
+abbrev pub IsPromising : Job → List ℕ → Type 0
+IsPromising (Find span workers) = BeginsFile span
+IsPromising (Follow span workers fingers limits) = BeginsFile span
+IsPromising (Make width) = λ bytes. IsOk (plan_named width bytes)
+
+-- what may have been written, whatever the answer: a beginning of the text of what the input begins
+-- with
+abbrev pub Begins : List ℕ → Job → Option (List ℕ) → List ℕ → Type 0
+Begins forms (Find span workers) = BeginsText [] (finding span workers)
+Begins forms (Follow span workers fingers limits) =
+    BeginsText (kept_by limits forms) (following span workers fingers)
+Begins forms (Make width) = BeginsMadeFile width
+
+-- ---- ends
+
+-- an end of a run over a sample file
+abbrev pub IsFileEnd : Status → Type 0
+IsFileEnd ends.BadWords = ⊥
+IsFileEnd (ends.BadScript fault) = ⊥
+IsFileEnd (ends.BadFile fault) = fault ≢ file.ReadFault
+IsFileEnd status = Unit {0}
+
+-- and over one without a handset
+abbrev pub IsSearchEnd : Status → Type 0
+IsSearchEnd ends.NoSync = ⊥
+IsSearchEnd status = IsFileEnd status
+
+-- and over a script
+abbrev pub IsScriptEnd : Status → Type 0
+IsScriptEnd ends.BadWords = ⊥
+IsScriptEnd ends.NoSync = ⊥
+IsScriptEnd (ends.BadFile fault) = ⊥
+IsScriptEnd (ends.BadScript fault) = fault ≢ script.OutOfMemory
+IsScriptEnd status = Unit {0}
+
+-- the ends of a command
+abbrev pub IsEndOf : Job → Status → Type 0
+IsEndOf (Find span workers) = IsSearchEnd
+IsEndOf (Follow span workers fingers limits) = IsFileEnd
+IsEndOf (Make width) = IsScriptEnd
+
+-- an end that tells of the input: of all of it, or of its fault
+abbrev pub IsVerdict : Status → Type 0
+IsVerdict ends.Done = Unit {0}
+IsVerdict ends.NoSync = Unit {0}
+IsVerdict (ends.BadFile fault) = Unit {0}
+IsVerdict (ends.BadScript fault) = Unit {0}
+IsVerdict status = ⊥
+
+-- a fault that shows before anything is written
+abbrev pub IsEarlyFault : Status → Type 0
+IsEarlyFault (ends.BadFile fault) = IsHeaderFault fault
+IsEarlyFault (ends.BadScript fault) = Unit {0}
+IsEarlyFault status = ⊥
+
+-- ---- answers
+
+-- a run answered this, and the sink's bytes grew by it; of a fault only the end is fixed
+abbrev pub Answers : Reply → Status → Option (List ℕ) → Option (List ℕ) → Type 0
+Answers (Ok whole) status old new = (status ≡ whole.1) × Appends old new whole.0
+Answers (Err end) status old new = status ≡ end
+
+-- the sink held these bytes
+abbrev pub AnswersBehind : List ℕ → Reply → Status → Option (List ℕ) → Type 0
+AnswersBehind held (Ok whole) status new = (status ≡ whole.1) × (new ≡ Some (held ++ whole.0))
+AnswersBehind held (Err end) status new = status ≡ end
+
+-- a run answered what it owes
+pub record IsAnswered (owes : Reply → Type 0) (status : Status) (old new : Option (List ℕ)) :
+    Type 0 where
+  pub reply : Reply
+  pub owed : owes reply
+  pub answers : Answers reply status old new
+
+-- known bytes grew by nothing, or by such a text
+pub record WritesPart (begins : List ℕ → Type 0) (old new : Option (List ℕ)) : Type 0 where
+  pub text : List ℕ
+  pub written : Appends old new text
+  pub part : (text ≡ []) ⊎ begins text
