@@ -1,6 +1,6 @@
 -- The fields and the bodies that they spell.
 use Rattle.std.proofs.Common.{◌≡◌, ℕ, ◌+◌, ◌*◌, ◌/◌, ◌%◌, ◌^◌, ◌<◌, ◌≤◌, Bool, true, false, List, [], ◌∷◌, ◌++◌, length, get_or, take, refl, sym, ap, subst, ◌∙◌, arith, append_assoc, length-append, Option, Some, None, IsNone, IsSome, ◌⊎◌, inl, inr}
-use Rattle.std.proofs.lemmas.List.{take_at}
+use Rattle.std.proofs.lemmas.List.{take_at, take_more}
 use Rattle.chip_core.specs.Bits.{number, binary}
 use Rattle.chip_core.specs.Fields.{field, spelled, FieldsFit}
 use Rattle.chip_core.specs.declared.field.Field.{Field}
@@ -10,6 +10,7 @@ use Rattle.chip_core.specs.declared.check_form.CheckForm.{CheckForm}
 use Rattle.quality_bits.specs.Capsules.{octets, FillsCapsule, capsule}
 use Rattle.quality_bits.proofs.Wholes.{inner, inner-capsule}
 use Rattle.quality_bits.specs.declared.kind.Kind.TheVariants.{M30}
+use Rattle.sync_message.specs.Rows.{sync_widths}
 use Rattle.sync_message.specs.SyncMessage.{fixed_fields, freq_fields, sync_body, sync_capsule, HasRest, IsSyncMessage}
 use Rattle.sync_message.specs.Tails.{IsTail}
 use Rattle.sync_message.specs.declared.fields.SyncFields.{SyncFields}
@@ -40,6 +41,13 @@ fit_front (f ∷ fs) gs p = (p.0, fit_front fs gs p.1)
 pub fit_back : (fs gs : List Field) → FieldsFit (fs ++ gs) → FieldsFit gs
 fit_back [] gs p = p
 fit_back (f ∷ fs) gs p = fit_back fs gs p.1
+
+-- one more field fits
+pub fit_more : (fs : List Field) (i : ℕ) (d : Field) → i < length fs → FieldsFit (take i fs) →
+    (get_or fs i d).value < 2 ^ (get_or fs i d).width → FieldsFit (take (i + 1) fs)
+fit_more fs i d within before fits =
+    rw (take_more fs i d within)
+    (fit_append (take i fs) (get_or fs i d ∷ []) before (fits, tt))
 
 pub length-fixed : (m : SyncFields) → length (spelled (fixed_fields m)) ≡ 159
 length-fixed m = length-spelled (fixed_fields m)
@@ -180,7 +188,7 @@ same_message m n e freq rest =
     rw (prev, min, sid, nid, pn, lc, time, lp, ltm, daylt, prat, freq, rest) refl
 
 abbrev pub fixed_widths : List ℕ
-fixed_widths = 8 ∷ 8 ∷ 8 ∷ 15 ∷ 16 ∷ 9 ∷ 42 ∷ 36 ∷ 8 ∷ 6 ∷ 1 ∷ 2 ∷ []
+fixed_widths = 8 ∷ sync_widths
 
 pub body_injective : (m n : SyncFields) → IsSyncMessage m → IsSyncMessage n →
     sync_body m ≡ sync_body n → m ≡ n

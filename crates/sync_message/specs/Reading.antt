@@ -1,9 +1,12 @@
 -- The message that a capsule spells, as a function of its bits: each field is the number that
 -- stands at its place.
-use Rattle.std.specs.Prelude.{ℕ, ◌-◌, ◌^◌, ◌%◌, ◌==◌, ◌&&◌, Bool, true, false, if◌then◌else◌, List, [], ◌∷◌, length, take, drop, nat_lt, nat_le, Option, Some, None, Result, Ok, Err}
+use Rattle.std.specs.Prelude.{ℕ, ◌+◌, ◌-◌, ◌^◌, ◌%◌, ◌==◌, ◌&&◌, Bool, true, false, if◌then◌else◌}
+use Rattle.std.specs.Prelude.{List, [], ◌∷◌, length, take, drop, get_or, nat_lt, nat_le}
+use Rattle.std.specs.Prelude.{Option, Some, None, Result, Ok, Err}
 use Rattle.chip_core.specs.Bits.{number, xor}
 use Rattle.chip_core.specs.declared.field.Field.{Field}
 use Rattle.chip_core.specs.declared.check_form.CheckForm.{CheckForm}
+use Rattle.sync_message.specs.Rows.{freq_row, sync_place, sync_widths}
 use Rattle.sync_message.specs.SyncMessage.{fixed_fields, sync_capsule}
 use Rattle.sync_message.specs.declared.fields.SyncFields.{SyncFields}
 use Rattle.sync_message.specs.declared.fault.MessageFault.{MessageFault}
@@ -12,25 +15,29 @@ use Rattle.sync_message.specs.declared.fault.MessageFault.{MessageFault}
 abbrev pub number_at : ℕ → ℕ → List Bool → ℕ
 number_at place width capsule = number (take width (drop place capsule))
 
+-- what stands at the place of field i of the table, behind the length and the message type
+abbrev pub field_at : ℕ → List Bool → ℕ
+field_at i capsule = number_at (16 + sync_place i) (get_or sync_widths i 0) capsule
+
 -- a capsule of 25 octets has no frequency
 abbrev pub is_shortest : List Bool → Bool
 is_shortest capsule = length capsule == 200
 
--- what stands at the places of the fields, behind the length and the message type
+-- what stands at the places of the fields
 unfoldable pub fields_at : List Bool → SyncFields
 fields_at capsule = record {
-  prev = number_at 16 8 capsule;
-  min = number_at 24 8 capsule;
-  sid = number_at 32 15 capsule;
-  nid = number_at 47 16 capsule;
-  pn = number_at 63 9 capsule;
-  lc = number_at 72 42 capsule;
-  time = number_at 114 36 capsule;
-  lp = number_at 150 8 capsule;
-  ltm = number_at 158 6 capsule;
-  daylt = number_at 164 1 capsule;
-  prat = number_at 165 2 capsule;
-  freq = if is_shortest capsule then None else Some (number_at 167 11 capsule);
+  prev = field_at 0 capsule;
+  min = field_at 1 capsule;
+  sid = field_at 2 capsule;
+  nid = field_at 3 capsule;
+  pn = field_at 4 capsule;
+  lc = field_at 5 capsule;
+  time = field_at 6 capsule;
+  lp = field_at 7 capsule;
+  ltm = field_at 8 capsule;
+  daylt = field_at 9 capsule;
+  prat = field_at 10 capsule;
+  freq = if is_shortest capsule then None else Some (number_at 167 freq_row.width capsule);
   rest = if is_shortest capsule then take 3 (drop 167 capsule)
       else take (length capsule - 208) (drop 178 capsule);
 }
@@ -45,7 +52,7 @@ fields_fit (f ∷ fs) = nat_lt f.value (2 ^ f.width) && fields_fit fs
 abbrev pub is_tail : Option ℕ → List Bool → Bool
 is_tail None rest = length rest == 3
 is_tail (Some freq) rest =
-    nat_lt freq (2 ^ 11) && (length rest % 8 == 0 && nat_le (length rest) 976)
+    nat_lt freq (2 ^ freq_row.width) && (length rest % 8 == 0 && nat_le (length rest) 976)
 
 -- whether fields have a spelling
 unfoldable pub is_message : SyncFields → Bool

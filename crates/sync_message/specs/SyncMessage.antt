@@ -5,18 +5,16 @@ use Rattle.chip_core.specs.declared.field.Field.{Field}
 use Rattle.chip_core.specs.declared.check_form.CheckForm.{CheckForm}
 use Rattle.quality_bits.specs.Capsules.{FillsCapsule, capsule}
 use Rattle.quality_bits.specs.declared.kind.Kind.TheVariants.{M30}
+use Rattle.sync_message.specs.Rows.{freq_row, in_widths, sync_values, sync_widths}
 use Rattle.sync_message.specs.declared.fields.SyncFields.{SyncFields}
 
 -- the message type, 1, and the fields that each message has
 abbrev pub fixed_fields : SyncFields → List Field
-fixed_fields m =
-    field 8 1 ∷ field 8 m.prev ∷ field 8 m.min ∷ field 15 m.sid ∷ field 16 m.nid ∷ field 9 m.pn
-    ∷ field 42 m.lc
-    ∷ field 36 m.time ∷ field 8 m.lp ∷ field 6 m.ltm ∷ field 1 m.daylt ∷ field 2 m.prat ∷ []
+fixed_fields m = field 8 1 ∷ in_widths sync_widths (sync_values m)
 
 abbrev pub freq_fields : Option ℕ → List Field
 freq_fields None = []
-freq_fields (Some freq) = field 11 freq ∷ []
+freq_fields (Some freq) = field freq_row.width freq ∷ []
 
 abbrev pub fields : SyncFields → List Field
 fields m = fixed_fields m ++ freq_fields m.freq

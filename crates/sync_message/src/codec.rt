@@ -1,36 +1,48 @@
 //! The fields written into a body and read out of one.
 
-ghost use Rattle.std.specs.Prelude.{◌≡◌, ◌↔◌, ◌≤◌, ◌<◌, ◌+◌, ◌%◌, ◌^◌, Bool, List, ◌++◌, length, take, IfOk, IsOk, OnOk, IsTrue, IsNone, ◌⊎◌};
-ghost use Rattle.chip_core.specs.Bits.{number};
-ghost use Rattle.chip_core.specs.Fields.{spelled, FieldsFit};
+ghost use Rattle.std.specs.Prelude.{◌≡◌, ◌↔◌, ◌≤◌, ◌<◌, ◌+◌, ◌%◌, ◌^◌, ◌⊎◌, Bool, List, ◌++◌};
+ghost use Rattle.std.specs.Prelude.{length, take, get_or, IfOk, IsOk, OnOk, IsTrue, IsNone};
+ghost use Rattle.chip_core.specs.Bits.{binary, number};
+ghost use Rattle.chip_core.specs.Fields.{spelled, FieldsFit, HaveWidths};
 ghost use Rattle.quality_bits.specs.Capsules.{FillsCapsule};
 ghost use Rattle.quality_bits.specs.declared.kind.Kind.TheVariants.{M30};
-ghost use Rattle.sync_message.specs.SyncMessage.{fixed_fields, freq_fields, sync_body, IsSyncMessage};
+ghost use Rattle.sync_message.specs.Rows.{sync_widths};
+ghost use Rattle.sync_message.specs.SyncMessage.{fixed_fields, freq_fields, sync_body};
+ghost use Rattle.sync_message.specs.SyncMessage.{IsSyncMessage};
 ghost use Rattle.sync_message.specs.Tails.{IsTail};
 ghost use Rattle.sync_message.specs.declared.fields.SyncFields.{SyncFields as TheFields};
 
 use crate::fault::NoFields;
 use crate::fields::SyncFields;
+use crate::table::{FREQ_FIELD, sync_width};
 use chip_core::{BitReader, Bits, Field};
 
 /// Whether fields have a spelling.
 pub(crate) fn has_spelling(fields: &SyncFields) -> bool
     ensures { IsTrue result ↔ IsSyncMessage fields.now }
 {
-    have_widths(*fields) && has_tail(fields.freq, &fields.rest)
+    have_widths(&fields_of(fields)) && has_tail(fields.freq, &fields.rest)
 }
 
-/// Whether each value of the fields that each message has fits its width.
-fn have_widths(fields: SyncFields) -> bool
-    ensures { IsTrue result ↔ FieldsFit (fixed_fields fields) }
+/// Whether each value fits its width.
+fn have_widths(fields: &[Field]) -> bool
+    requires { HaveWidths fields.now }
+    ensures { IsTrue result ↔ FieldsFit fields.now }
 {
-    fields.sid < 1 << 15
-        && fields.pn < 1 << 9
-        && fields.lc < 1 << 42
-        && fields.time < 1 << 36
-        && fields.ltm < 1 << 6
-        && fields.daylt < 1 << 1
-        && fields.prat < 1 << 2
+    for field in fields {
+        if !fits(field) {
+            return false;
+        }
+    }
+    true
+}
+
+/// Whether a value fits its width.
+fn fits(field: &Field) -> bool
+    requires { (1 ≤ field.now.width) × (field.now.width ≤ 64) }
+    ensures { IsTrue result ↔ (field.now.value < 2 ^ field.now.width) }
+{
+    u128::from(field.value) < 1 << field.width
 }
 
 /// Whether a frequency and the bits behind it make whole octets, 25 without a frequency and 26 to
@@ -40,7 +52,7 @@ fn has_tail(freq: Option<u16>, rest: &Bits) -> bool
 {
     match freq {
         None => rest.len() == 3,
-        Some(freq) => freq < 1 << 11 && rest.len() % 8 == 0 && rest.len() <= 976,
+        Some(freq) => freq < 1 << FREQ_FIELD.width && rest.len() % 8 == 0 && rest.len() <= 976,
     }
 }
 
@@ -62,18 +74,26 @@ fn fields_of(fields: &SyncFields) -> [Field; 12]
 {
     [
         field(8, 1),
-        field(8, u64::from(fields.prev)),
-        field(8, u64::from(fields.min)),
-        field(15, u64::from(fields.sid)),
-        field(16, u64::from(fields.nid)),
-        field(9, u64::from(fields.pn)),
-        field(42, fields.lc),
-        field(36, fields.time),
-        field(8, u64::from(fields.lp)),
-        field(6, u64::from(fields.ltm)),
-        field(1, u64::from(fields.daylt)),
-        field(2, u64::from(fields.prat)),
+        table_field(0, u64::from(fields.prev)),
+        table_field(1, u64::from(fields.min)),
+        table_field(2, u64::from(fields.sid)),
+        table_field(3, u64::from(fields.nid)),
+        table_field(4, u64::from(fields.pn)),
+        table_field(5, fields.lc),
+        table_field(6, fields.time),
+        table_field(7, u64::from(fields.lp)),
+        table_field(8, u64::from(fields.ltm)),
+        table_field(9, u64::from(fields.daylt)),
+        table_field(10, u64::from(fields.prat)),
     ]
+}
+
+/// A value of field `i` of the table, counted from 0.
+fn table_field(i: usize, value: u64) -> Field
+    requires { i < 11 }
+    ensures { result ≡ record { width = get_or sync_widths i 0; value = value } }
+{
+    field(sync_width(i), value)
 }
 
 /// A field of a width.
@@ -90,7 +110,7 @@ fn append_freq(body: &mut Bits, freq: Option<u16>)
     ensures { body.new ≡ body.old ++ spelled (freq_fields freq) }
 {
     if let Some(freq) = freq {
-        body.append_number(11, u64::from(freq));
+        body.append_number(FREQ_FIELD.width, u64::from(freq));
     }
 }
 
@@ -121,20 +141,32 @@ fn read_fixed(reader: &mut BitReader<'_>) -> Result<SyncFields, NoFields>
         return Err(NoFields);
     }
     Ok(SyncFields {
-        prev: reader.take(8)? as u8,
-        min: reader.take(8)? as u8,
-        sid: reader.take(15)? as u16,
-        nid: reader.take(16)? as u16,
-        pn: reader.take(9)? as u16,
-        lc: reader.take(42)?,
-        time: reader.take(36)?,
-        lp: reader.take(8)? as u8,
-        ltm: reader.take(6)? as u8,
-        daylt: reader.take(1)? as u8,
-        prat: reader.take(2)? as u8,
+        prev: take_field(reader, 0)? as u8,
+        min: take_field(reader, 1)? as u8,
+        sid: take_field(reader, 2)? as u16,
+        nid: take_field(reader, 3)? as u16,
+        pn: take_field(reader, 4)? as u16,
+        lc: take_field(reader, 5)?,
+        time: take_field(reader, 6)?,
+        lp: take_field(reader, 7)? as u8,
+        ltm: take_field(reader, 8)? as u8,
+        daylt: take_field(reader, 9)? as u8,
+        prat: take_field(reader, 10)? as u8,
         freq: None,
         rest: Bits::empty(),
     })
+}
+
+/// Reads field `i` of the table, counted from 0.
+fn take_field(reader: &mut BitReader<'_>, i: usize) -> Result<u64, NoFields>
+    requires { i < 11 }
+    ensures enough { IsOk result ↔ (get_or sync_widths i 0 ≤ length reader.old) }
+    ensures left { OnOk result (length reader.new + get_or sync_widths i 0 ≡ length reader.old) }
+    ensures spelled { IfOk result (λ n.
+        reader.old ≡ binary (get_or sync_widths i 0) n ++ reader.new) }
+    ensures fits { IfOk result (λ n. n < 2 ^ (get_or sync_widths i 0)) }
+{
+    Ok(reader.take(sync_width(i))?)
 }
 
 /// Reads the frequency: none where 3 bits are left, as at 25 octets.
@@ -147,5 +179,5 @@ fn read_freq(reader: &mut BitReader<'_>) -> Result<Option<u16>, NoFields>
     if reader.left() == 3 {
         return Ok(None);
     }
-    Ok(Some(reader.take(11)? as u16))
+    Ok(Some(reader.take(FREQ_FIELD.width)? as u16))
 }

@@ -8,6 +8,7 @@ mod fields;
 mod framer;
 pub mod laws;
 mod message;
+mod table;
 #[cfg(test)]
 mod tests;
 
@@ -15,3 +16,4 @@ pub use fault::MessageFault;
 pub use fields::SyncFields;
 pub use framer::CapsuleFramer;
 pub use message::SyncMessage;
+pub use table::{FREQ_FIELD, FieldRow, SYNC_FIELDS, sync_name, sync_width};
