@@ -2,10 +2,11 @@
 -- another.
 use Rattle.std.specs.Prelude.{ℕ, ◌+◌, ◌/◌, ◌%◌, ◌==◌, nat_le, nat_lt, Bool, false, if◌then◌else◌}
 use Rattle.std.specs.Prelude.{◌&&◌, List, [], ◌∷◌, length, get_or, codes, Option, None, Some, ℤ}
-use Rattle.std.specs.Prelude.{pos, unsigned_abs, option_map}
+use Rattle.std.specs.Prelude.{pos, unsigned_abs, option_map, ◌++◌, ◌-◌, ◌^◌}
 use Rattle.chip_core.specs.declared.check_form.CheckForm.{CheckForm}
 use Rattle.chip_core.specs.declared.check_form.CheckForm.TheVariants.{Plain, Complemented}
 use Rattle.chip_core.specs.declared.sample.Pair.{Pair}
+use Rattle.sync_message.specs.Rows.{freq_row, sync_names, sync_widths}
 use Rattle.sync_message.specs.declared.fields.SyncFields.{SyncFields}
 use Rattle.base_modulator.specs.declared.plan.CellPlan.{CellPlan}
 use Rattle.base_modulator.specs.declared.plan.PilotPlan.{PilotPlan}
@@ -83,15 +84,22 @@ pilot_in text = do
 
 -- `sync gain=G prev=.. min=.. sid=.. nid=.. lp=.. ltm=.. daylt=.. prat=.. [freq=..] rest=BITS`
 
+-- a field of the message by its name, with the range of its width
+abbrev pub ranged : List ℕ → ℕ → NumberRow
+ranged name width = row (codes " " ++ name ++ codes "=") (2 ^ width - 1)
+
 -- the frequency may be left out
+abbrev pub freq_number : NumberRow
+freq_number = ranged freq_row.name freq_row.width
+
 unfoldable pub freq_in : List ℕ → Option (Option ℕ)
 freq_in text =
-    if begins_with text (codes " freq=")
-    then option_map Some (field (codes " freq=") (number_up_to 2047) text)
+    if begins_with text freq_number.key
+    then option_map Some (field freq_number.key (number_up_to freq_number.most) text)
     else Some None
 
 unfoldable pub past_freq : List ℕ → List ℕ
-past_freq text = if begins_with text (codes " freq=") then past (codes " freq=") text else text
+past_freq text = if begins_with text freq_number.key then past freq_number.key text else text
 
 -- the message has 3 bits of rest without a frequency, and 0 to 976 in steps of 8 with one
 abbrev pub has_lawful_rest : Option ℕ → List Bool → Bool
@@ -101,18 +109,22 @@ has_lawful_rest (Some freq) rest = if length rest % 8 == 0 then nat_le (length r
 abbrev pub lawful_message : SyncFields → Option SyncFields
 lawful_message message = if has_lawful_rest message.freq message.rest then Some message else None
 
+-- field i of the message's table
+abbrev pub sync_row : ℕ → NumberRow
+sync_row i = ranged (get_or sync_names i []) (get_or sync_widths i 0)
+
 -- the numbers that the line always has
 abbrev pub sync_table : List NumberRow
 sync_table =
     row (codes "sync gain=") 65535
-    ∷ row (codes " prev=") 255
-    ∷ row (codes " min=") 255
-    ∷ row (codes " sid=") 32767
-    ∷ row (codes " nid=") 65535
-    ∷ row (codes " lp=") 255
-    ∷ row (codes " ltm=") 63
-    ∷ row (codes " daylt=") 1
-    ∷ row (codes " prat=") 3
+    ∷ sync_row 0
+    ∷ sync_row 1
+    ∷ sync_row 2
+    ∷ sync_row 3
+    ∷ sync_row 7
+    ∷ sync_row 8
+    ∷ sync_row 9
+    ∷ sync_row 10
     ∷ []
 
 -- what they say; its message has zeros for PILOT_PN, SYS_TIME and LC_STATE

@@ -12,7 +12,7 @@ ghost use Rattle.sync_message.specs.SyncMessage.{fixed_fields};
 
 use crate::plan::{CellIdentity, LinkPlan, PilotPlan, SyncPlan};
 use crate::script::fields::Fields;
-use crate::script::tables::SYNC_NUMBERS;
+use crate::script::tables::{FREQ_NUMBER, SYNC_NUMBERS};
 use chip_core::{Bits, CheckForm, Pair};
 use sync_message::{SyncFields, SyncMessage};
 
@@ -142,10 +142,10 @@ fn freq_in(fields: &mut Fields<'_>) -> Option<Option<u16>>
     ensures range { IfSome result (λ freq. IfSome freq (λ n. n < 2 ^ 11)) }
     ensures rest { OnSome result (fields.new ≡ past_freq fields.old) }
 {
-    if !fields.begin_with(b" freq=") {
+    if !fields.begin_with(FREQ_NUMBER.key) {
         return Some(None);
     }
-    Some(Some(fields.number(b" freq=", 2047)? as u16))
+    Some(Some(fields.number(FREQ_NUMBER.key, FREQ_NUMBER.most)? as u16))
 }
 
 /// The message of these fields, if its rest has a length that it admits.
