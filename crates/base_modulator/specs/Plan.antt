@@ -1,10 +1,15 @@
 -- Which cells a script may name.
-use Rattle.std.specs.Prelude.{ℕ, ◌+◌, ◌*◌, ◌<◌, ◌≤◌, ◌^◌, Option, Some, None, unsigned_abs}
+use Rattle.std.specs.Prelude.{ℕ, ◌+◌, ◌*◌, ◌<◌, ◌≤◌, ◌^◌, ◌≢◌, All, List, [], ◌∷◌, length, Option}
+use Rattle.std.specs.Prelude.{Some, None, unsigned_abs}
 use Rattle.long_code.specs.LongCode.{IsState}
 use Rattle.cdma_io.specs.SampleFile.{most_samples}
 use Rattle.cdma_io.specs.declared.width.Width.{Width}
 use Rattle.cdma_io.specs.declared.width.Width.TheVariants.{Sixteen, Eight}
 use Rattle.sync_message.specs.SyncMessage.{IsSyncMessage}
+use Rattle.symbol_path.specs.declared.kinds.Rate.{Rate}
+use Rattle.paging_message.specs.HalfFrames.{half_frame_body}
+use Rattle.base_modulator.specs.Pages.{paging_rate, AreSendable}
+use Rattle.base_modulator.specs.declared.plan.PagingPlan.{PagingPlan}
 use Rattle.base_modulator.specs.declared.plan.CellPlan.{CellPlan}
 use Rattle.base_modulator.specs.declared.plan.SyncPlan.{SyncPlan}
 
@@ -18,8 +23,12 @@ abbrev pub sync_gain : Option SyncPlan → ℕ
 sync_gain None = 0
 sync_gain (Some sync) = sync.gain
 
+abbrev pub paging_gains : List PagingPlan → ℕ
+paging_gains [] = 0
+paging_gains (p ∷ paging) = p.gain + paging_gains paging
+
 abbrev pub gain_sum : CellPlan → ℕ
-gain_sum plan = plan.pilot.gain + sync_gain plan.sync
+gain_sum plan = plan.pilot.gain + (sync_gain plan.sync + paging_gains plan.paging)
 
 -- a bound on the parts of the samples: the sum of the absolute values of the link's parts, times
 -- the sum of the gains
@@ -31,6 +40,20 @@ abbrev pub IsSyncPlan : Option SyncPlan → Type 0
 IsSyncPlan None = Unit {0}
 IsSyncPlan (Some sync) = (0 < sync.gain) × IsSyncMessage sync.message
 
+-- a paging channel with pages that can be sent
+pub record IsPagingPlan (rate : Rate) (p : PagingPlan) : Type 0 where
+  pub first : 1 ≤ p.number
+  pub last : p.number ≤ 7
+  pub gain : 0 < p.gain
+  pub some : 1 ≤ length p.pages
+  pub pages : AreSendable (half_frame_body rate) 0 p.pages
+
+-- no two paging channels have one number
+abbrev pub HaveOwnNumbers : List PagingPlan → Type 0
+HaveOwnNumbers [] = Unit {0}
+HaveOwnNumbers (p ∷ paging) =
+    All (λ (q : PagingPlan). q.number ≢ p.number) paging × HaveOwnNumbers paging
+
 -- a cell that can be sent in samples of this width
 pub record IsLawfulPlan (width : Width) (plan : CellPlan) : Type 0 where
   pub pn : plan.cell.pn < 512
@@ -40,4 +63,7 @@ pub record IsLawfulPlan (width : Width) (plan : CellPlan) : Type 0 where
   pub samples : plan.link.samples ≤ most_samples width
   pub pilot : 0 < plan.pilot.gain
   pub sync : IsSyncPlan plan.sync
+  pub few : length plan.paging ≤ 7
+  pub paging : All (IsPagingPlan (paging_rate plan.sync)) plan.paging
+  pub apart : HaveOwnNumbers plan.paging
   pub loud : loudness plan ≤ most_part width

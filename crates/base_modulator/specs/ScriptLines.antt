@@ -169,6 +169,7 @@ empty_plan = record {
   link = record { factor = record { i = pos 1; q = pos 0 }; start = 0; samples = 1 };
   pilot = record { gain = 1 };
   sync = None;
+  paging = [];
 }
 
 abbrev pub empty_draft : Draft

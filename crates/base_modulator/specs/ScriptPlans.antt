@@ -1,5 +1,5 @@
 -- What is known of what a script says, whatever its gains and its samples are.
-use Rattle.std.specs.Prelude.{◌^◌, ◌<◌, ◌≤◌, Option, Some, None, unsigned_abs}
+use Rattle.std.specs.Prelude.{◌≡◌, [], ◌^◌, ◌<◌, ◌≤◌, Option, Some, None, unsigned_abs}
 use Rattle.chip_core.specs.Complex.{norm}
 use Rattle.long_code.specs.LongCode.{IsState}
 use Rattle.sync_message.specs.SyncMessage.{IsSyncMessage}
@@ -26,6 +26,7 @@ pub record IsStatedPlan (plan : CellPlan) : Type 0 where
   pub cell : IsStatedCell plan.cell
   pub link : IsStatedLink plan.link
   pub sync : IsStatedSync plan.sync
+  pub paging : plan.paging ≡ []
 
 -- what was stated is within its bounds, and the link isn't 0
 pub record HasSaid (plan : CellPlan) : Type 0 where

@@ -47,6 +47,7 @@ plan = record {
       rest = replicate 3 false;
     };
   });
+  paging = [];
 }
 
 empty : plan_named Sixteen [] ≡ Err (Line 1)

@@ -1,7 +1,7 @@
 -- The signal of a cell, chip by chip, and the samples that a handset receives of it
 -- (TIA/EIA-95-B, 7.1.3.1).
 use Rattle.std.specs.Prelude.{ℕ, ◌+◌, ◌-◌, ◌*◌, ◌/◌, ◌%◌, Bool, false, if◌then◌else◌, nat_lt, List}
-use Rattle.std.specs.Prelude.{[], ◌∷◌, map, get_or, ℤ, pos, ◌+ℤ◌, ◌*ℤ◌, Option, Some, None}
+use Rattle.std.specs.Prelude.{[], ◌∷◌, ◌++◌, map, get_or, ℤ, pos, ◌+ℤ◌, ◌*ℤ◌, Option, Some, None}
 use Rattle.chip_core.specs.Bits.{sign, places}
 use Rattle.chip_core.specs.Complex.{origin, plus, times}
 use Rattle.chip_core.specs.declared.sample.Pair.{Pair}
@@ -10,6 +10,10 @@ use Rattle.walsh.specs.Walsh.{walsh}
 use Rattle.base_modulator.specs.declared.form.ChannelForm.{ChannelForm}
 use Rattle.base_modulator.specs.declared.plan.CellPlan.{CellPlan}
 use Rattle.base_modulator.specs.declared.plan.SyncPlan.{SyncPlan}
+use Rattle.long_code.specs.LongCode.{paging_mask}
+use Rattle.base_modulator.specs.declared.plan.PagingPlan.{PagingPlan}
+use Rattle.base_modulator.specs.PageCycles.{cycle_symbols, Cycle}
+use Rattle.base_modulator.specs.Pages.{page_cycle, paging_rate}
 use Rattle.base_modulator.specs.Sendings.{sync_symbols}
 
 -- A channel that is sent: its gain, its Walsh row, the local chip at which its first frame begins,
@@ -98,8 +102,30 @@ abbrev pub sync_carriers : CellPlan → Option SyncPlan → List Carrier
 sync_carriers plan None = []
 sync_carriers plan (Some sync) = sync_carrier plan sync ∷ []
 
+-- the half-frames that a paging channel sends under its own mask of the long code (7.7.2)
+abbrev pub cycle_of : CellPlan → PagingPlan → Cycle
+cycle_of plan p =
+    record {
+      cell = plan.cell;
+      mask = paging_mask p.number plan.cell.pn;
+      rate = paging_rate plan.sync;
+      bits = page_cycle (paging_rate plan.sync) plan.cell.check30 p.pages;
+    }
+
+-- paging frames begin at local chip 0, and a channel's row is its number (7.1.3.4)
+abbrev pub paging_carrier : CellPlan → PagingPlan → Carrier
+paging_carrier plan p = record {
+  gain = p.gain;
+  row = p.number;
+  first = 0;
+  form = paging_form;
+  symbols = cycle_symbols (cycle_of plan p);
+}
+
 unfoldable pub carriers : CellPlan → List Carrier
-carriers plan = pilot_carrier plan ∷ sync_carriers plan plan.sync
+carriers plan =
+    pilot_carrier plan
+    ∷ (sync_carriers plan plan.sync ++ map (paging_carrier plan) plan.paging)
 
 -- ---- its samples
 

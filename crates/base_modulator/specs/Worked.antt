@@ -1,5 +1,5 @@
 -- Worked values of what a cell sends, which the checker computes.
-use Rattle.std.specs.Prelude.{◌≡◌, refl, ◌^◌, replicate, false, pos, negsuc, Option, Some, None}
+use Rattle.std.specs.Prelude.{◌≡◌, [], refl, ◌^◌, replicate, false, pos, negsuc, Option, Some, None}
 use Rattle.chip_core.specs.Bits.{binary, places}
 use Rattle.chip_core.specs.declared.check_form.CheckForm.TheVariants.{Plain}
 use Rattle.long_code.specs.LongCode.{after}
@@ -21,6 +21,7 @@ cell sync = record {
   link = record { factor = record { i = pos 0; q = negsuc 2 }; start = 0; samples = 1 };
   pilot = record { gain = 100 };
   sync = sync;
+  paging = [];
 }
 
 channel : SyncPlan

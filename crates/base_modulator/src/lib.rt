@@ -19,9 +19,11 @@ mod plan;
 mod script;
 mod script_fault;
 mod sendings;
+mod series;
 mod symbol_source;
 
 pub use cell::Cell;
 pub use form::ChannelForm;
-pub use plan::{CellIdentity, CellPlan, LinkPlan, PilotPlan, SyncPlan};
+pub use plan::{CellIdentity, CellPlan, LinkPlan, Page, PagingPlan, PilotPlan, SyncPlan};
 pub use script_fault::ScriptFault;
+pub use series::Series;

@@ -1,10 +1,11 @@
 //! What a script says of a cell.
 
+use crate::series::Series;
 use chip_core::{Bits, CheckForm, Pair};
 use sync_message::SyncFields;
 
 /// A cell, the link to it, and the channels that it sends.
-#[derive(Clone, Copy, PartialEq, Eq, Debug)]
+#[derive(Drop)]
 pub struct CellPlan {
     /// Which cell it is.
     pub cell: CellIdentity,
@@ -14,6 +15,8 @@ pub struct CellPlan {
     pub pilot: PilotPlan,
     /// The sync channel, where the cell has one.
     pub sync: Option<SyncPlan>,
+    /// The paging channels, in the script's order.
+    pub paging: Series<PagingPlan>,
 }
 
 /// A cell: its place among the others, and its clock.
@@ -71,4 +74,15 @@ pub struct Page {
     pub follows: bool,
     /// The body.
     pub body: Bits,
+}
+
+/// A paging channel, which sends its pages again and again (TIA/EIA-95-B, 7.1.3.4).
+#[derive(Drop)]
+pub struct PagingPlan {
+    /// The number of the channel, which is its Walsh row: 1 to 7.
+    pub number: u8,
+    /// The gain of the channel.
+    pub gain: u16,
+    /// The pages of a cycle, in order.
+    pub pages: Series<Page>,
 }
