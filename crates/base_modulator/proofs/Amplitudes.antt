@@ -2,9 +2,10 @@
 use Rattle.std.proofs.Common.{◌≡◌, ◌≢◌, ℕ, zero, suc, ◌+◌, ◌-◌, ◌*◌, ◌/◌, ◌%◌, ◌<◌, ◌≤◌, Bool, true}
 use Rattle.std.proofs.Common.{false, List, [], ◌∷◌, refl, sym, ap, ◌∙◌, arith, ℤ, pos, ◌+ℤ◌, ◌*ℤ◌}
 use Rattle.std.proofs.Common.{unsigned_abs, Option, Some, None, cond, replicate}
-use Rattle.std.proofs.Common.{length, get_or, FitsSigned}
+use Rattle.std.proofs.Common.{◌++◌, length, length-append, map, get_or, FitsSigned}
 use Rattle.std.proofs.lemmas.Bool.{le-ltb}
 use Rattle.std.proofs.lemmas.Int.{ints, unsigned_abs-mul, fits_signed_from_abs}
+use Rattle.std.proofs.lemmas.List.{length-map}
 use Rattle.std.specs.Int.{w8, w16}
 use Rattle.std.proofs.Math.Nat.{mul-le-mul_left}
 use Rattle.chip_core.specs.Bits.{binary, sign, parity, zip_with}
@@ -16,18 +17,18 @@ use Rattle.short_code.specs.Despread.{code_point}
 use Rattle.short_code.specs.ShortCode.{pilot_chip, chip_signs}
 use Rattle.walsh.specs.Walsh.{IsWithin, walsh}
 use Rattle.base_modulator.specs.declared.plan.CellPlan.{CellPlan}
+use Rattle.base_modulator.specs.declared.plan.PagingPlan.{PagingPlan}
 use Rattle.base_modulator.specs.declared.plan.SyncPlan.{SyncPlan}
 use Rattle.cdma_io.specs.SampleFile.{bits_of, HasBits}
 use Rattle.cdma_io.specs.declared.width.Width.{Width}
 use Rattle.cdma_io.specs.declared.width.Width.TheVariants.{Sixteen, Eight}
-use Rattle.base_modulator.specs.Plan.{most_part, loudness, gain_sum, sync_gain}
+use Rattle.base_modulator.specs.Plan.{most_part, loudness, gain_sum, paging_gains, sync_gain}
 use Rattle.base_modulator.proofs.MachineInts.{more_most}
 use Rattle.base_modulator.specs.Signal.{Carrier, amplitude, amplitudes, level, level_of, scaled}
-use Rattle.base_modulator.specs.Signal.{sent_chip, sync_carriers, pilot_carrier}
+use Rattle.base_modulator.specs.Signal.{sent_chip, sync_carriers, paging_carrier, pilot_carrier}
 use Rattle.base_modulator.specs.Signal.{carriers, sample_of, symbol_of}
 use Rattle.base_modulator.specs.Running.{IsBlock}
-use Rattle.base_modulator.specs.Transmitter.{sync_amplitude, amplitude_sum, phase_at, point_of}
-use Rattle.base_modulator.specs.Transmitter.{IsPoint}
+use Rattle.base_modulator.specs.Transmitter.{phase_at, point_of, IsPoint}
 
 -- ROWS
 
@@ -99,30 +100,6 @@ signal_of_carriers plan t =
     ap (times plan.link.factor) (sent_is plan.cell.pn chip (carriers plan))
     ∙ times_scaled plan.link.factor z (amplitudes chip (carriers plan))
 
-sync_sum : (plan : CellPlan) (sync : Option SyncPlan) (chip : ℕ) →
-    amplitudes chip (sync_carriers plan sync) ≡ sync_amplitude plan sync chip
-sync_sum plan None chip = refl
-sync_sum plan (Some sync) chip = omega (arith, ints)
-
--- the channels' amplitudes are the pilot's and that of the sync channel
-pub sum_with_pilot : (plan : CellPlan) (chip : ℕ) →
-    amplitudes chip (carriers plan) ≡ amplitude_sum plan chip
-unfolding carriers
-sum_with_pilot plan chip =
-    ap (λ (a : ℤ). a +ℤ amplitudes chip (sync_carriers plan plan.sync)) (pilot_amplitude plan chip)
-    ∙ ap (λ (a : ℤ). pos plan.pilot.gain +ℤ a) (sync_sum plan plan.sync chip)
-
-pub signal : (plan : CellPlan) (t : ℕ) →
-    sample_of plan t
-    ≡ times (scaled (amplitude_sum plan (plan.link.start + t)) plan.link.factor)
-    (code_point (plan.link.start + t + 32768 - 64 * plan.cell.pn))
-signal plan t =
-    let chip = plan.link.start + t in
-    signal_of_carriers plan t
-    ∙ ap (λ (a : ℤ).
-    times (scaled a plan.link.factor) (code_point (chip + 32768 - 64 * plan.cell.pn)))
-    (sum_with_pilot plan chip)
-
 -- BOUNDS
 
 sign_unit : (b : Bool) → unsigned_abs (sign b) ≤ 1
@@ -163,14 +140,31 @@ amplitudes_most chip (c ∷ cs) =
       amplitudes_most chip cs,
     )
 
+-- channels behind others add their gains
+gains_append : (cs ds : List Carrier) → gains (cs ++ ds) ≡ gains cs + gains ds
+gains_append [] ds = omega arith
+gains_append (c ∷ cs) ds = omega (arith, gains_append cs ds)
+
 sync_gains : (plan : CellPlan) (sync : Option SyncPlan) →
     gains (sync_carriers plan sync) ≡ sync_gain sync
 sync_gains plan None = refl
 sync_gains plan (Some sync) = omega arith
 
+paging_gains-is : (plan : CellPlan) (paging : List PagingPlan) →
+    gains (map (paging_carrier plan) paging) ≡ paging_gains paging
+paging_gains-is plan [] = refl
+paging_gains-is plan (p ∷ paging) =
+    ap (λ (n : ℕ). p.gain + n) (paging_gains-is plan paging)
+
 plan_gains : (plan : CellPlan) → gains (carriers plan) ≡ gain_sum plan
 unfolding carriers
-plan_gains plan = ap (λ (n : ℕ). plan.pilot.gain + n) (sync_gains plan plan.sync)
+plan_gains plan =
+    omega (
+      arith,
+      gains_append (sync_carriers plan plan.sync) (map (paging_carrier plan) plan.paging),
+      sync_gains plan plan.sync,
+      paging_gains-is plan plan.paging,
+    )
 
 scaled_most : (s a b : ℤ) (most : ℕ) → unsigned_abs s ≤ most →
     unsigned_abs (s *ℤ a) + unsigned_abs (s *ℤ b) ≤ (unsigned_abs a + unsigned_abs b) * most
@@ -199,14 +193,22 @@ factor_most plan some loud =
     (omega (arith, least, loud), omega (arith, least, loud))
 
 -- a cell has few channels
-few_with_sync : (plan : CellPlan) (sync : Option SyncPlan) →
-    suc (length (sync_carriers plan sync)) ≤ 128
-few_with_sync plan None = omega arith
-few_with_sync plan (Some sync) = omega arith
+one_sync : (plan : CellPlan) (sync : Option SyncPlan) → length (sync_carriers plan sync) ≤ 1
+one_sync plan None = omega arith
+one_sync plan (Some sync) = omega arith
 
-pub few_channels : (plan : CellPlan) → length (carriers plan) ≤ 128
+pub few_channels : (plan : CellPlan) → length plan.paging ≤ 7 → length (carriers plan) ≤ 128
 unfolding carriers
-few_channels plan = few_with_sync plan plan.sync
+few_channels plan few =
+    let sync = sync_carriers plan plan.sync in
+    let paging = map (paging_carrier plan) plan.paging in
+    omega (
+      arith,
+      few,
+      one_sync plan plan.sync,
+      length-append sync paging,
+      length-map plan.paging (paging_carrier plan),
+    )
 
 -- SAMPLES
 
@@ -276,15 +278,6 @@ chip_fits width plan at_chip chip result is loud i q =
       in_phase = part_fits width result.i (omega (arith, most, loud, i));
       quadrature = part_fits width result.q (omega (arith, most, loud, q));
     }
-
--- so do those of a sample
-pub sample_fits : (width : Width) (plan : CellPlan) (at_chip : ℕ) (chip : Pair) (result : Sample) →
-    chip ≡ scaled (amplitude_sum plan at_chip) plan.link.factor → loudness plan ≤ most_part width →
-    unsigned_abs result.i ≤ unsigned_abs chip.i + unsigned_abs chip.q →
-    unsigned_abs result.q ≤ unsigned_abs chip.i + unsigned_abs chip.q → HasBits width result
-sample_fits width plan at_chip chip result is =
-    chip_fits width plan at_chip chip result
-    (is ∙ ap (λ (a : ℤ). scaled a plan.link.factor) (sym (sum_with_pilot plan at_chip)))
 
 -- the phase behind a phase
 pub phase_next : (plan : CellPlan) (chip phase next : ℕ) → plan.cell.pn < 512 →

@@ -1,10 +1,11 @@
 -- The plan that a script names is lawful, and its link isn't 0.
 use Rattle.std.proofs.Common.{◌≡◌, ℕ, zero, suc, ◌+◌, ◌-◌, ◌<◌, Bool, true, false, cond, List, []}
-use Rattle.std.proofs.Common.{◌∷◌, length, take, refl, sym, subst, ◌∙◌, arith, Option, None, Some}
-use Rattle.std.proofs.Common.{Result, Ok, Err}
+use Rattle.std.proofs.Common.{◌∷◌, length, take, refl, sym, ap, subst, ◌∙◌, arith, Option, None}
+use Rattle.std.proofs.Common.{Some, Result, Ok, Err}
 use Rattle.std.specs.Option.{option_or}
 use Rattle.std.specs.Prelude.{nat_lt, ◌==◌, ok_or, option_map}
 use Rattle.std.proofs.lemmas.Bool.{ltb-false}
+use Rattle.std.proofs.lemmas.List.Elements.{All-nil}
 use Rattle.chip_core.specs.Complex.{norm}
 use Rattle.cdma_io.specs.SampleFile.{most_samples}
 use Rattle.cdma_io.specs.declared.width.Width.{Width}
@@ -16,7 +17,8 @@ use Rattle.base_modulator.specs.declared.script.draft.Stage.TheVariants.{Cell, L
 use Rattle.base_modulator.specs.declared.script.draft.Stage.TheVariants.{End}
 use Rattle.base_modulator.specs.declared.script_fault.ScriptFault.{ScriptFault}
 use Rattle.base_modulator.specs.declared.script_fault.ScriptFault.TheVariants.{Gain, TooBig}
-use Rattle.base_modulator.specs.Plan.{IsLawfulPlan, IsSyncPlan, loudness, most_part}
+use Rattle.base_modulator.specs.Pages.{paging_rate}
+use Rattle.base_modulator.specs.Plan.{IsLawfulPlan, IsPagingPlan, IsSyncPlan, loudness, most_part}
 use Rattle.base_modulator.specs.Script.{gain_fault, is_line, lines, long_fault, loud_fault, named}
 use Rattle.base_modulator.specs.Script.{plan_fault, plan_named, draft_after, stated, stated_plan}
 use Rattle.base_modulator.specs.Script.{sync_gain_fault, unless}
@@ -46,7 +48,7 @@ added Cell plan next text is e =
     let cell = cell_bounds text told.0 told.1 in
     subst Said told.2
     (record {
-      lawful = record { cell = cell; link = said.link; sync = said.sync };
+      lawful = record { cell = cell; link = said.link; sync = said.sync; paging = said.paging };
       linked = is.linked;
     })
 added Link plan next text is e =
@@ -56,7 +58,7 @@ added Link plan next text is e =
     let link = link_bounds text told.0 told.1 in
     subst Said told.2
     (record {
-      lawful = record { cell = said.cell; link = link.0; sync = said.sync };
+      lawful = record { cell = said.cell; link = link.0; sync = said.sync; paging = said.paging };
       linked = link.1;
     })
 added Pilot plan next text is e =
@@ -65,7 +67,7 @@ added Pilot plan next text is e =
     let said = is.lawful in
     subst Said told.2
     (record {
-      lawful = record { cell = said.cell; link = said.link; sync = said.sync };
+      lawful = record { cell = said.cell; link = said.link; sync = said.sync; paging = said.paging };
       linked = is.linked;
     })
 added Sync plan next text is e =
@@ -75,7 +77,7 @@ added Sync plan next text is e =
     let sync = sync_bounds text told.0 told.1 in
     subst Said told.2
     (record {
-      lawful = record { cell = said.cell; link = said.link; sync = sync };
+      lawful = record { cell = said.cell; link = said.link; sync = sync; paging = said.paging };
       linked = is.linked;
     })
 added End plan next text is e = absurd (cc e)
@@ -122,6 +124,7 @@ empty_said = record {
     cell = record { pn = omega arith; time = omega arith; lc = (omega arith, omega arith) };
     link = record { in_phase = omega arith; quadrature = omega arith; start = omega arith };
     sync = tt;
+    paging = refl;
   };
   linked = omega arith;
 }
@@ -171,6 +174,9 @@ lawful width plan said e =
           (failed (nat_lt (most_samples width) plan.link.samples) _ None size.1).0;
       pilot = some_gain plan.pilot.gain gains.0;
       sync = sync_gains plan.sync said.sync gains.1;
+      few = omega (arith, ap length said.paging);
+      paging = rw said.paging (All-nil (IsPagingPlan (paging_rate plan.sync)));
+      apart = rw said.paging tt;
       loud = ltb-false (most_part width) (loudness plan)
           (failed (nat_lt (most_part width) (loudness plan)) _ None size.0).0;
     }

@@ -43,10 +43,11 @@ pieces_are plan given out within each =
 
 -- a plan's channels are few
 pub few_states : (plan : CellPlan) (channels : List ChannelState) →
+    length plan.paging ≤ 7 →
     map carrier_of channels ≡ carriers plan →
     length channels ≤ 128
-few_states plan channels are =
-    omega (arith, few_channels plan, length-map channels carrier_of, ap length are)
+few_states plan channels few are =
+    omega (arith, few_channels plan few, length-map channels carrier_of, ap length are)
 
 -- a list that was lent and came back as it was
 pub written_back : {X : Type 0} (items new : List X) (count : ℕ) → new ≡ items →

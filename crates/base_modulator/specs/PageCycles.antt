@@ -1,6 +1,6 @@
 -- What a paging channel sends (TIA/EIA-95-B, 7.1.3.4 and 7.7.2.1): the half-frames of its pages,
 -- again and again.
-use Rattle.std.specs.Prelude.{◌≡◌, ℕ, ◌+◌, ◌*◌, ◌%◌, ◌^◌, ◌<◌, ◌≤◌, Bool, false, List, length, map}
+use Rattle.std.specs.Prelude.{ℕ, ◌+◌, ◌*◌, ◌%◌, ◌^◌, ◌<◌, ◌≤◌, Bool, false, List, length, map}
 use Rattle.std.specs.Prelude.{get_or}
 use Rattle.chip_core.specs.Bits.{places, xor, zip_with}
 use Rattle.long_code.specs.LongCode.{after, IsState}

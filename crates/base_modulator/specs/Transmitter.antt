@@ -1,7 +1,6 @@
 -- What the transmitter's parts stand for.
 use Rattle.std.specs.Prelude.{ℕ, ◌+◌, ◌-◌, ◌*◌, ◌<◌, ◌≤◌, ◌%◌}
-use Rattle.std.specs.Prelude.{ℤ, pos, ◌+ℤ◌, unsigned_abs, Option}
-use Rattle.std.specs.Prelude.{None, Some}
+use Rattle.std.specs.Prelude.{ℤ, unsigned_abs, Option, None, Some}
 use Rattle.chip_core.specs.declared.sample.Pair.{Pair}
 use Rattle.long_code.specs.LongCode.{IsState}
 use Rattle.cdma_io.specs.declared.header.Header.{Header}
@@ -12,7 +11,6 @@ use Rattle.sync_message.specs.declared.fields.SyncFields.{SyncFields}
 use Rattle.base_modulator.specs.declared.plan.CellIdentity.{CellIdentity}
 use Rattle.base_modulator.specs.declared.plan.CellPlan.{CellPlan}
 use Rattle.base_modulator.specs.declared.plan.SyncPlan.{SyncPlan}
-use Rattle.base_modulator.specs.Signal.{amplitude, sync_carrier}
 
 -- a cell: the width of its samples, its plan, and how many samples it has given
 pub record CellState : Type 0 where
@@ -46,15 +44,6 @@ pub record IsSendable (cell : CellIdentity) (m : SyncFields) : Type 0 where
   pub time : cell.time ≤ 34359738368
   pub lc : IsState cell.lc
   pub message : IsSyncMessage m
-
--- what the sync channel of a plan adds at a local chip
-abbrev pub sync_amplitude : CellPlan → Option SyncPlan → ℕ → ℤ
-sync_amplitude plan None chip = pos 0
-sync_amplitude plan (Some sync) chip = amplitude chip (sync_carrier plan sync)
-
--- the sum of the channels' amplitudes
-abbrev pub amplitude_sum : CellPlan → ℕ → ℤ
-amplitude_sum plan chip = pos plan.pilot.gain +ℤ sync_amplitude plan plan.sync chip
 
 -- the code's phase at a local chip
 abbrev pub phase_at : CellPlan → ℕ → ℕ

@@ -1,21 +1,25 @@
 //! A cell's samples.
 
-ghost use Rattle.std.specs.Prelude.{◌≡◌, ◌≢◌, ◌<◌, ◌≤◌, ◌+◌, ◌%◌, ◌^◌, length, map, take, drop};
+ghost use Rattle.std.specs.Prelude.{◌≡◌, ◌≢◌, ◌<◌, ◌≤◌, ◌+◌, ◌++◌, ◌%◌, ◌^◌, length, map, take, drop};
 ghost use Rattle.std.specs.Prelude.{All};
 ghost use Rattle.std.specs.Prelude.{Ok, Err, IsOk, IfOk, IfErr};
 ghost use Rattle.chip_core.specs.Complex.{of_sample};
 ghost use Rattle.cdma_io.specs.SampleFile.{HasBits, IsLawfulHeader};
 ghost use Rattle.base_modulator.specs.Channels.{carrier_of};
-ghost use Rattle.base_modulator.specs.Plan.{IsLawfulPlan};
+ghost use Rattle.long_code.specs.LongCode.{IsState};
+ghost use Rattle.paging_message.specs.HalfFrames.{IsPagingRate};
+ghost use Rattle.base_modulator.specs.Pages.{paging_rate};
+ghost use Rattle.base_modulator.specs.Plan.{IsLawfulPlan, IsPagingPlan};
 ghost use Rattle.base_modulator.specs.Script.{plan_named};
-ghost use Rattle.base_modulator.specs.Signal.{carriers, sample_of, samples_of};
+ghost use Rattle.base_modulator.specs.Signal.{carriers, paging_carrier, sample_of, samples_of};
 ghost use Rattle.base_modulator.specs.Transmitter.{IsSendableSync, header_of, phase_at, version_of};
 
 use crate::block::{BLOCK, fill_block, turned};
 use crate::channel::Channel;
 use crate::continued::ContinuedEncoder;
 use crate::frame_source::FrameSource;
-use crate::plan::CellPlan;
+use crate::page_cycle::PageCycle;
+use crate::plan::{CellPlan, PagingPlan, SyncPlan};
 use crate::script::plan_of;
 use crate::script_fault::ScriptFault;
 use crate::sendings::Sendings;
@@ -23,12 +27,14 @@ use crate::symbol_source::SymbolSource;
 use cdma_io::{Header, Width};
 use chip_core::air::{CODE_CHIPS, OFFSET_CHIPS, PILOT_ROW, SYNC_ROW};
 use chip_core::{OutOfMemory, Pair, Sample};
+use long_code::paging_mask;
 use short_code::Codes;
 use std::alloc::Global;
 use std::marker::Model;
+use symbol_path::Rate;
 
-/// How many channels a cell has at most: the pilot and the sync channel.
-const MOST_CHANNELS: usize = 2;
+/// How many channels a cell has at most: the pilot, the sync channel, and seven paging channels.
+const MOST_CHANNELS: usize = 9;
 
 /// A cell that gives its samples in order, as a handset receives them over the cell's link.
 ///
@@ -92,11 +98,62 @@ fn next_phase(phase: u16) -> u16
     (phase + 1) % 32768
 }
 
-/// The channels of a plan: the pilot, and the sync channel where there is one, whose frames begin
-/// with the cell's code (TIA/EIA-95-B, 7.1.3.2 and 7.1.3.3).
+/// The rate of the paging channels, which the sync channel's message tells (TIA/EIA-95-B, 7.7.1.3).
+fn paging_rate(sync: Option<SyncPlan>) -> Rate
+    ensures value { result ≡ paging_rate sync }
+    ensures paging { IsPagingRate result }
+{
+    match sync {
+        Some(sync) if sync.message.prat == 1 => Rate::R4800,
+        _ => Rate::R9600,
+    }
+}
+
+/// A paging channel of a cell, whose frames begin with local chip 0 (TIA/EIA-95-B, 7.1.3.4).
+fn paging_channel(plan: &CellPlan, paging: &PagingPlan) -> Channel
+    requires pn { plan.now.cell.pn < 512 }
+    requires lc { IsState plan.now.cell.lc }
+    requires paging { IsPagingPlan (paging_rate plan.now.sync) paging.now }
+    ensures { carrier_of result ≡ paging_carrier plan.now paging.now }
+{
+    let mask = paging_mask(paging.number, plan.cell.pn);
+    let rate = paging_rate(plan.sync);
+    let cycle = PageCycle::new(&plan.cell, mask, rate, paging.pages.as_slice());
+    let encoder = ContinuedEncoder::new(FrameSource::Paging(cycle));
+    Channel::open(
+        paging.gain,
+        paging.number,
+        0,
+        SymbolSource::Continued(encoder),
+    )
+}
+
+/// Channels, and behind them the paging channels of a cell.
+fn with_paging(
+    mut channels: Vec<Channel>,
+    plan: &CellPlan,
+    paging: &[PagingPlan],
+) -> Result<Vec<Channel>, OutOfMemory>
+    requires pn { plan.now.cell.pn < 512 }
+    requires lc { IsState plan.now.cell.lc }
+    requires paging { All (IsPagingPlan (paging_rate plan.now.sync)) paging.now }
+    ensures { IfOk result (λ all. map carrier_of all.items ≡
+        map carrier_of channels.items ++ map (paging_carrier plan.now) paging.now) }
+{
+    for channel in paging {
+        channels.push(paging_channel(plan, channel))?;
+    }
+    Ok(channels)
+}
+
+/// The channels of a plan: the pilot, the sync channel where there is one, whose frames begin with
+/// the cell's code, and the paging channels (TIA/EIA-95-B, 7.1.3.2 to 7.1.3.4).
 #[tactic(auto, unfolding(crate::specs::Signal::carriers))]
 fn channels_for(alloc: Global, plan: &CellPlan) -> Result<Vec<Channel>, OutOfMemory>
-    requires { IsSendableSync plan.now plan.now.sync }
+    requires sync { IsSendableSync plan.now plan.now.sync }
+    requires pn { plan.now.cell.pn < 512 }
+    requires lc { IsState plan.now.cell.lc }
+    requires paging { All (IsPagingPlan (paging_rate plan.now.sync)) plan.now.paging }
     ensures { IfOk result (λ channels. map carrier_of channels.items ≡ carriers plan.now) }
 {
     let mut channels = Vec::with_capacity(alloc, MOST_CHANNELS)?;
@@ -108,7 +165,7 @@ fn channels_for(alloc: Global, plan: &CellPlan) -> Result<Vec<Channel>, OutOfMem
         let first = OFFSET_CHIPS * u64::from(plan.cell.pn);
         channels.push(Channel::open(sync.gain, SYNC_ROW, first, source))?;
     }
-    Ok(channels)
+    with_paging(channels, plan, plan.paging.as_slice())
 }
 
 impl Cell {
@@ -126,7 +183,7 @@ impl Cell {
         ensures memory { IfErr result (λ fault.
             fault ≡ ScriptFault.OutOfMemory → IsOk (plan_named width script.now)) }
     {
-        let plan = plan_of(script, width)?;
+        let plan = plan_of(alloc, script, width)?;
         match Cell::of_plan(alloc, width, plan) {
             Ok(cell) => Ok(cell),
             Err(OutOfMemory) => Err(ScriptFault::OutOfMemory),
@@ -147,13 +204,14 @@ impl Cell {
         let first = start - start % BLOCK as u64;
         let mut block = [Pair { i: 0, q: 0 }; BLOCK];
         fill_block(&mut channels, plan.link.factor, first, &mut block);
+        let phase = phase_for(&plan, start);
         Ok(Cell {
             width,
             plan,
             codes,
             channels,
             given: 0,
-            phase: phase_for(&plan, start),
+            phase,
             block,
         })
     }

@@ -6,6 +6,7 @@ ghost use Rattle.sync_message.specs.SyncMessage.{IsSyncMessage};
 
 use crate::Cell;
 use crate::plan::{CellIdentity, CellPlan, LinkPlan, PilotPlan, SyncPlan};
+use crate::series::Series;
 use cdma_io::{Header, Width};
 use chip_core::{Bits, CheckForm, Pair, Sample};
 use std::alloc::Global;
@@ -61,7 +62,7 @@ fn channel(fields: SyncFields) -> Result<SyncPlan, Fail>
 }
 
 /// A cell without an offset, with a pilot of gain 100.
-fn near_plan(start: u64, samples: u64, sync: Option<SyncPlan>) -> CellPlan
+fn near_plan(alloc: Global, start: u64, samples: u64, sync: Option<SyncPlan>) -> CellPlan
     requires start { start < 2 ^ 32 }
     requires samples { samples ≤ 33554432 }
     requires sync { IsSyncPlan sync }
@@ -84,6 +85,7 @@ fn near_plan(start: u64, samples: u64, sync: Option<SyncPlan>) -> CellPlan
         },
         pilot: PilotPlan { gain: 100 },
         sync,
+        paging: Series::new(alloc),
     }
 }
 
@@ -109,6 +111,7 @@ fn far_cell(alloc: Global, start: u64, samples: u64) -> Result<Cell, Fail>
         },
         pilot: PilotPlan { gain: 100 },
         sync: Some(channel(long_message())?),
+        paging: Series::new(alloc),
     };
     Ok(Cell::of_plan(alloc, Width::Sixteen, plan)?)
 }
@@ -134,7 +137,7 @@ fn symbols_at(alloc: Global, frame: u64, sync: SyncPlan) -> Result<u64, Fail>
     requires frame { frame < 2 ^ 17 }
     requires sync { (sync.gain ≡ 30) × IsSyncMessage sync.message }
 {
-    let plan = near_plan(32768 * frame, 16384, Some(sync));
+    let plan = near_plan(alloc, 32768 * frame, 16384, Some(sync));
     let mut cell = Cell::of_plan(alloc, Width::Sixteen, plan)?;
     next_symbols(alloc, &mut cell)
 }
@@ -143,13 +146,15 @@ fn symbols_at(alloc: Global, frame: u64, sync: SyncPlan) -> Result<u64, Fail>
 #[test]
 fn first_samples(rt: HostRuntime) -> Result<(), Fail> {
     let mut out = [Sample { i: 0, q: 0 }; 1];
-    let mut pilot = Cell::of_plan(rt.alloc(), Width::Sixteen, near_plan(0, 1, None))?;
+    let plan = near_plan(rt.alloc(), 0, 1, None);
+    let mut pilot = Cell::of_plan(rt.alloc(), Width::Sixteen, plan)?;
     assert_eq!(rt; pilot.left(), 1);
     pilot.fill(&mut out);
     assert_eq!(rt; out[0], Sample { i: -300, q: 300 });
     assert_eq!(rt; pilot.left(), 0);
     let sync = channel(short_message())?;
-    let mut both = Cell::of_plan(rt.alloc(), Width::Sixteen, near_plan(0, 1, Some(sync)))?;
+    let plan = near_plan(rt.alloc(), 0, 1, Some(sync));
+    let mut both = Cell::of_plan(rt.alloc(), Width::Sixteen, plan)?;
     both.fill(&mut out);
     assert_eq!(rt; out[0], Sample { i: -210, q: 210 });
     Ok(())
@@ -220,7 +225,8 @@ fn any_cut_gives_the_same_samples(rt: HostRuntime) -> Result<(), Fail> {
 /// The header of a cell's file.
 #[test]
 fn header_of_the_file(rt: HostRuntime) -> Result<(), Fail> {
-    let wide = Cell::of_plan(rt.alloc(), Width::Sixteen, near_plan(0, 5, None))?;
+    let plan = near_plan(rt.alloc(), 0, 5, None);
+    let wide = Cell::of_plan(rt.alloc(), Width::Sixteen, plan)?;
     let header = Header {
         version: 1,
         check30: CheckForm::Plain,

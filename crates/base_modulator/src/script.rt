@@ -4,7 +4,7 @@
 //! order.
 
 ghost use Rattle.std.specs.Prelude.{◌≡◌, ◌≢◌, ◌≤◌, ◌<◌, length, IfOk, IfErr, IfSome, IfNone};
-ghost use Rattle.std.specs.Prelude.{MatchOption, option_map, unsigned_abs};
+ghost use Rattle.std.specs.Prelude.{[], MatchOption, option_map, unsigned_abs};
 ghost use Rattle.cdma_io.specs.SampleFile.{most_samples};
 ghost use Rattle.base_modulator.specs.Plan.{IsLawfulPlan, IsSyncPlan, loudness, most_part};
 ghost use Rattle.base_modulator.specs.Plan.{sync_gain};
@@ -19,6 +19,7 @@ use crate::script::values::length_before;
 use crate::script_fault::ScriptFault;
 use cdma_io::Width;
 use chip_core::air::{PILOT_ROW, SYNC_ROW};
+use std::alloc::Global;
 
 mod draft;
 mod fields;
@@ -33,7 +34,7 @@ const MOST_BYTES: usize = 1_048_576;
 
 /// The plan that a script names for samples of a width, or its fault.
 #[tactic(auto, unfolding(crate::specs::Script::plan_named))]
-pub(crate) fn plan_of(script: &[u8], width: Width) -> Result<CellPlan, ScriptFault>
+pub(crate) fn plan_of(alloc: Global, script: &[u8], width: Width) -> Result<CellPlan, ScriptFault>
     ensures value { result ≡ plan_named width script.now }
     ensures lawful { IfOk result (IsLawfulPlan width) }
     ensures of_script { IfErr result (λ fault. fault ≢ ScriptFault.OutOfMemory) }
@@ -41,7 +42,7 @@ pub(crate) fn plan_of(script: &[u8], width: Width) -> Result<CellPlan, ScriptFau
     if script.len() > MOST_BYTES {
         return Err(ScriptFault::TooBig);
     }
-    match stated_plan(script) {
+    match stated_plan(alloc, script) {
         Err(n) => Err(ScriptFault::Line { n }),
         Ok(plan) => match plan_fault(&plan, width) {
             Some(fault) => Err(fault),
@@ -53,12 +54,12 @@ pub(crate) fn plan_of(script: &[u8], width: Width) -> Result<CellPlan, ScriptFau
 /// The plan that the lines of a script state; else the number of the first line that can't stand
 /// where it stands, or that is missing.
 #[tactic(auto, unfolding(crate::specs::Script::stated_plan))]
-fn stated_plan(script: &[u8]) -> Result<CellPlan, u32>
+fn stated_plan(alloc: Global, script: &[u8]) -> Result<CellPlan, u32>
     requires { length script.now ≤ 1048576 }
     ensures value { result ≡ stated_plan script.now }
     ensures lawful { IfOk result IsStatedPlan }
 {
-    let mut draft = Draft::new();
+    let mut draft = Draft::new(alloc);
     let mut n = 1;
     let mut rest = script;
     while !rest.is_empty() {
@@ -127,6 +128,7 @@ fn silent_row(plan: &CellPlan) -> Option<u8>
 /// A bound on the parts of the samples: the sum of the absolute values of the link's parts, times
 /// the sum of the gains.
 fn loudness(plan: &CellPlan) -> u64
+    requires paging { plan.now.paging ≡ [] }
     requires in_phase { unsigned_abs plan.now.link.factor.i ≤ 32768 }
     requires quadrature { unsigned_abs plan.now.link.factor.q ≤ 32768 }
     ensures { result ≡ loudness plan.now }

@@ -6,7 +6,9 @@ ghost use Rattle.base_modulator.specs.ScriptPlans.{IsStatedPlan};
 
 use crate::plan::{CellIdentity, CellPlan, LinkPlan, PilotPlan};
 use crate::script::statements::{cell_in, link_in, pilot_in, sync_in};
+use crate::series::Series;
 use chip_core::{CheckForm, Pair};
+use std::alloc::Global;
 
 /// Which statement may stand next.
 #[derive(Clone, Copy)]
@@ -26,15 +28,15 @@ pub(crate) enum Stage {
 /// What the lines of a script have stated, and what may stand next. A part that wasn't stated yet
 /// is that of the least cell: no offset, time 0, state 1, a link of 1, one sample, a pilot of gain
 /// 1.
-#[derive(Clone, Copy)]
+#[derive(Drop)]
 pub(crate) struct Draft {
     stage: Stage,
     plan: CellPlan,
 }
 
 impl Draft {
-    /// The draft before the first line.
-    pub(crate) fn new() -> Draft
+    /// The draft before the first line. Nothing is allocated.
+    pub(crate) fn new(alloc: Global) -> Draft
         ensures value { result ≡ empty_draft }
         ensures lawful { IsStatedPlan result.plan }
     {
@@ -57,6 +59,7 @@ impl Draft {
                 link,
                 pilot: PilotPlan { gain: 1 },
                 sync: None,
+                paging: Series::new(alloc),
             },
         }
     }
@@ -68,8 +71,8 @@ impl Draft {
         ensures value { result ≡ with_line self line.now }
         ensures lawful { IfSome result (λ draft. IsStatedPlan draft.plan) }
     {
-        let plan = self.plan;
-        match self.stage {
+        let Draft { stage, plan } = self;
+        match stage {
             Stage::Cell => Some(Draft {
                 stage: Stage::Link,
                 plan: CellPlan {
@@ -108,9 +111,10 @@ impl Draft {
         ensures value { result ≡ plan_at self }
         ensures lawful { IfSome result IsStatedPlan }
     {
-        match self.stage {
+        let Draft { stage, plan } = self;
+        match stage {
             Stage::Cell | Stage::Link | Stage::Pilot => None,
-            Stage::Sync | Stage::End => Some(self.plan),
+            Stage::Sync | Stage::End => Some(plan),
         }
     }
 }

@@ -3,6 +3,7 @@
 use crate::plan::{CellIdentity, CellPlan, LinkPlan, PilotPlan, SyncPlan};
 use crate::script::plan_of;
 use crate::script_fault::ScriptFault;
+use crate::series::Series;
 use cdma_io::Width;
 use chip_core::{Bits, CheckForm, Pair};
 use std::alloc::{AllocError, Global};
@@ -380,14 +381,26 @@ fn fault_of(
     width: Width,
 ) -> Result<Option<ScriptFault>, AllocError> {
     let script = script_of(alloc, lines)?;
-    match plan_of(script.as_bytes(), width) {
+    match plan_of(alloc, script.as_bytes(), width) {
         Ok(_) => Ok(None),
         Err(fault) => Ok(Some(fault)),
     }
 }
 
+/// Whether a script names this plan.
+fn names(alloc: Global, script: &str, width: Width, plan: &CellPlan) -> bool {
+    let Ok(named) = plan_of(alloc, script.as_bytes(), width) else {
+        return false;
+    };
+    named.cell == plan.cell
+        && named.link == plan.link
+        && named.pilot == plan.pilot
+        && named.sync == plan.sync
+        && named.paging.as_slice().is_empty()
+}
+
 /// The plan of the lawful lines, with this sync channel.
-fn lawful_plan(sync: Option<SyncPlan>) -> CellPlan {
+fn lawful_plan(alloc: Global, sync: Option<SyncPlan>) -> CellPlan {
     CellPlan {
         cell: CellIdentity {
             pn: 511,
@@ -403,6 +416,7 @@ fn lawful_plan(sync: Option<SyncPlan>) -> CellPlan {
         },
         pilot: PilotPlan { gain: 100 },
         sync,
+        paging: Series::new(alloc),
     }
 }
 
@@ -410,10 +424,8 @@ fn lawful_plan(sync: Option<SyncPlan>) -> CellPlan {
 #[test]
 fn names_a_cell(rt: HostRuntime) -> Result<(), Fail> {
     let script = script_of(rt.alloc(), &[CELL, LINK, PILOT])?;
-    assert_eq!(rt;
-        plan_of(script.as_bytes(), Width::Sixteen),
-        Ok(lawful_plan(None))
-    );
+    let alone = lawful_plan(rt.alloc(), None);
+    assert!(rt; names(rt.alloc(), script.as_str(), Width::Sixteen, &alone));
 
     let mut rest = Bits::empty();
     for _bit in 0..3 {
@@ -436,10 +448,8 @@ fn names_a_cell(rt: HostRuntime) -> Result<(), Fail> {
     };
     let sync = Some(SyncPlan { gain: 30, message });
     let script = script_of(rt.alloc(), &[CELL, LINK, PILOT, SYNC])?;
-    assert_eq!(rt;
-        plan_of(script.as_bytes(), Width::Sixteen),
-        Ok(lawful_plan(sync))
-    );
+    let both = lawful_plan(rt.alloc(), sync);
+    assert!(rt; names(rt.alloc(), script.as_str(), Width::Sixteen, &both));
     Ok(())
 }
 
@@ -484,9 +494,10 @@ fn names_what_each_word_says(rt: HostRuntime) -> Result<(), Fail> {
         },
         pilot: PilotPlan { gain: 7 },
         sync: Some(SyncPlan { gain: 8, message }),
+        paging: Series::new(rt.alloc()),
     };
     let script = script_of(rt.alloc(), &[cell, link, "pilot gain=7\n", sync])?;
-    assert_eq!(rt; plan_of(script.as_bytes(), Width::Eight), Ok(plan));
+    assert!(rt; names(rt.alloc(), script.as_str(), Width::Eight, &plan));
     Ok(())
 }
 
@@ -584,12 +595,11 @@ fn refuses_plans(rt: HostRuntime) -> Result<(), Fail> {
 #[test]
 fn refuses_a_big_script(rt: HostRuntime) -> Result<(), Fail> {
     let mut script = vec![in rt.alloc(); b'\n'; 1_048_576]?;
-    assert_eq!(rt;
-        plan_of(&script, Width::Sixteen),
-        Err(ScriptFault::Line { n: 1 })
-    );
+    let fault = plan_of(rt.alloc(), &script, Width::Sixteen).err();
+    assert_eq!(rt; fault, Some(ScriptFault::Line { n: 1 }));
     script.push(b'\n')?;
-    assert_eq!(rt; plan_of(&script, Width::Sixteen), Err(ScriptFault::TooBig));
+    let fault = plan_of(rt.alloc(), &script, Width::Sixteen).err();
+    assert_eq!(rt; fault, Some(ScriptFault::TooBig));
     Ok(())
 }
 

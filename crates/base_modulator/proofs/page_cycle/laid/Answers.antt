@@ -1,8 +1,7 @@
-use Rattle.std.proofs.Common.{◌≡◌, ◌+◌, length, ap, arith, get_or, ◌∙◌}
+use Rattle.std.proofs.Common.{◌≡◌, length, ap, arith, get_or, ◌∙◌}
 use Rattle.quality_bits.specs.declared.kind.Kind.TheVariants.{M30}
 use Rattle.quality_bits.proofs.Wholes.{length-capsule}
 use Rattle.paging_message.specs.HalfFrames.{half_frame_body}
-use Rattle.base_modulator.specs.Pages.{laid_pages}
 use Rattle.base_modulator.proofs.LaidPages as pages
 use Rattle.base_modulator.proofs.page_cycle.laid.Goals as goal
 

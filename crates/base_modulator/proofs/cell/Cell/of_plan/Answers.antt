@@ -7,7 +7,7 @@ use Rattle.base_modulator.proofs.cell.Cell.of_plan.Goals as goal
 
 pub fill_block-requires-clause-few : goal.fill_block-requires-clause-few
 fill_block-requires-clause-few c =
-    few_states c.args.plan c.deref_mut.result.now
+    few_states c.args.plan c.deref_mut.result.now c.requires.few
     (ap (map carrier_of) c.deref_mut.ensures.value ∙ c.in_ok-channels.ensures)
 
 pub invariant_of-result : goal.invariant_of-result
@@ -26,7 +26,7 @@ invariant_of-result c =
           (written_back channels.items _ channels.len
           (c.fill_block.ensures.same ∙ lent.ensures.value)
           (ap length c.fill_block.ensures.same ∙ lent.ensures.len)) ∙ sent;
-      code = rw place c.phase_for.ensures.value;
+      code = rw place c.phase_for-phase.ensures.value;
       sums = block_at plan (start - start % 64) (start + 0)
           (map carrier_of lent.result.now) c.fill_block.new.sums
           (ap (map carrier_of) lent.ensures.value ∙ sent) begins c.fill_block.ensures.value;
