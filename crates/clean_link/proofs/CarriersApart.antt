@@ -1,18 +1,29 @@
 -- A handset can tell the channels of a cell apart.
-use Rattle.std.proofs.Common.{◌≡◌, ◌≢◌, ℕ, ◌%◌, All, [], ◌∷◌, refl, sym, ap, subst, ◌∙◌, arith, ℤ, pos, Bool, Option, Some, None}
-use Rattle.std.specs.Prelude.{◌*ℤ◌}
+use Rattle.std.proofs.Common.{◌≡◌, ◌≢◌, ℕ, ◌%◌, ◌≤◌, All, List, [], ◌∷◌, ◌++◌, map}
+use Rattle.std.proofs.Common.{refl, sym, ap, subst, ◌∙◌, arith, ℤ, pos, Bool, Option, Some, None}
+use Rattle.std.specs.Prelude.{◌+ℤ◌, ◌*ℤ◌}
 use Rattle.std.specs.List.{Contains}
 use Rattle.std.proofs.Math.IntN.{+ℤ_idr}
+use Rattle.std.proofs.Math.ListN.{get_or-map}
 use Rattle.std.proofs.lemmas.Int.{ints}
-use Rattle.std.proofs.lemmas.List.Elements.{All-cons, All-nil}
+use Rattle.std.proofs.lemmas.List.{length-map}
+use Rattle.std.proofs.lemmas.List.Elements.{All-append, All-cons, All-head, All-map, All-nil}
+use Rattle.std.proofs.lemmas.List.Elements.{All-tail, All-weaker, Contains-append_right}
 use Rattle.chip_core.specs.Bits.{sign}
-use Rattle.base_modulator.specs.Signal.{Carrier, carriers, level, pilot_carrier, sync_carrier, sync_carriers}
+use Rattle.cdma_io.specs.declared.width.Width.{Width}
+use Rattle.symbol_path.specs.declared.kinds.Rate.{Rate}
+use Rattle.base_modulator.specs.Pages.{paging_rate}
+use Rattle.base_modulator.specs.Plan.{HaveOwnNumbers, IsLawfulPlan, IsPagingPlan}
+use Rattle.base_modulator.specs.Signal.{Carrier, carriers, level, paging_carrier, pilot_carrier}
+use Rattle.base_modulator.specs.Signal.{sync_carrier, sync_carriers}
 use Rattle.base_modulator.specs.declared.plan.CellPlan.{CellPlan}
+use Rattle.base_modulator.specs.declared.plan.PagingPlan.{PagingPlan}
 use Rattle.base_modulator.specs.declared.plan.SyncPlan.{SyncPlan}
 use Rattle.base_modulator.proofs.Amplitudes.{pilot_amplitude, walsh-pilot}
-use Rattle.clean_link.specs.Signals.{AreApart, IsAligned}
+use Rattle.clean_link.specs.Signals.{AreApart, HaveOwnRows, IsAligned}
+use Rattle.clean_link.proofs.SignalLevels.{level_at-none}
 
--- ---- the pilot and the sync channel
+-- ---- each of the channels
 
 pilot_aligned : (plan : CellPlan) → IsAligned (pilot_carrier plan)
 pilot_aligned plan = record {
@@ -40,54 +51,148 @@ pilot_level plan chip =
     ∙ ap (λ (b : Bool). level chip (pilot_carrier plan) *ℤ sign b) (sym (walsh-pilot (chip % 64)))
     ∙ pilot_amplitude plan chip
 
+-- the frames of a paging channel begin with the cell's chips, and its row is its number
+paging_aligned : (plan : CellPlan) (p : PagingPlan) → p.number ≤ 7 →
+    IsAligned (paging_carrier plan p)
+paging_aligned plan p last = record {
+  row = omega (arith, last);
+  first = refl;
+  frame = refl;
+  symbol = refl;
+}
+
+-- ---- lists of channels
+
+-- channels behind others, none of which has the row of one of those
+own_rows-append : (cs ds : List Carrier) → HaveOwnRows cs → HaveOwnRows ds →
+    All (λ (c : Carrier). All (λ (d : Carrier). d.row ≢ c.row) ds) cs → HaveOwnRows (cs ++ ds)
+own_rows-append [] ds own others apart = others
+own_rows-append (c ∷ cs) ds own others apart =
+    let Rests : Carrier → Type 0 = λ (e : Carrier). All (λ (d : Carrier). d.row ≢ e.row) ds in
+    let here : All (λ (d : Carrier). d.row ≢ c.row) (cs ++ ds) =
+    All-append (λ (d : Carrier). d.row ≢ c.row) cs ds own.0 (All-head Rests c cs apart) in
+    (here, own_rows-append cs ds own.1 others (All-tail Rests c cs apart))
+
+-- a list's element is in the list of what is made of its elements
+has_mapped : {A B : Type 0} (f : A → B) (xs : List A) (x : A) → Contains xs x →
+    Contains (map f xs) (f x)
+has_mapped f xs x has = (
+  has.0,
+  omega (arith, has.1, length-map xs f),
+  get_or-map f xs has.0 x ∙ ap f (has.2),
+)
+
+-- what is true of the sync channel of a cell is true of those that it has
+sync_all : (P : Carrier → Type 0) (plan : CellPlan) (sync : Option SyncPlan) →
+    ((s : SyncPlan) → P (sync_carrier plan s)) → All P (sync_carriers plan sync)
+sync_all P plan None each = All-nil P
+sync_all P plan (Some sync) each = All-cons P (sync_carrier plan sync) [] (each sync) (All-nil P)
+
+sync_rows : (plan : CellPlan) (sync : Option SyncPlan) → HaveOwnRows (sync_carriers plan sync)
+sync_rows plan None = tt
+sync_rows plan (Some sync) = (All-nil (λ (d : Carrier). d.row ≢ 32), tt)
+
+-- and what is true of each paging channel with a number from 1 to 7 is true of all of a plan's
+paging_all : (P : Carrier → Type 0) (plan : CellPlan) (rate : Rate) (paging : List PagingPlan) →
+    ((p : PagingPlan) → 1 ≤ p.number → p.number ≤ 7 → P (paging_carrier plan p)) →
+    All (IsPagingPlan rate) paging → All P (map (paging_carrier plan) paging)
+paging_all P plan rate paging each are =
+    All-map P (paging_carrier plan) paging
+    (All-weaker (IsPagingPlan rate) (λ (p : PagingPlan). P (paging_carrier plan p))
+    (λ p is. each p is.first is.last) paging are)
+
+paging_rows : (plan : CellPlan) (paging : List PagingPlan) → HaveOwnNumbers paging →
+    HaveOwnRows (map (paging_carrier plan) paging)
+paging_rows plan [] own = tt
+paging_rows plan (p ∷ paging) own = (
+  All-map (λ (d : Carrier). d.row ≢ p.number) (paging_carrier plan) paging own.0,
+  paging_rows plan paging own.1,
+)
+
 -- ---- the channels of a cell
 
-with_sync : (plan : CellPlan) (sync : Option SyncPlan) →
-    AreApart plan.pilot.gain (pilot_carrier plan ∷ sync_carriers plan sync)
-with_sync plan None = record {
-  aligned = All-cons IsAligned (pilot_carrier plan) [] (pilot_aligned plan) (All-nil IsAligned);
-  own_rows = (All-nil (λ (d : Carrier). d.row ≢ 0), tt);
-  pilot = λ chip. +ℤ_idr (level chip (pilot_carrier plan)) ∙ pilot_level plan chip;
-}
-with_sync plan (Some sync) = record {
-  aligned = All-cons IsAligned (pilot_carrier plan) (sync_carrier plan sync ∷ [])
-      (pilot_aligned plan)
-      (All-cons IsAligned (sync_carrier plan sync) [] (sync_aligned plan sync)
-      (All-nil IsAligned));
-  own_rows = (
-    All-cons (λ (d : Carrier). d.row ≢ 0) (sync_carrier plan sync) [] (λ e. omega (arith, e))
-        (All-nil (λ (d : Carrier). d.row ≢ 0)),
-    (All-nil (λ (d : Carrier). d.row ≢ 32), tt),
-  );
-  pilot = λ chip. +ℤ_idr (level chip (pilot_carrier plan)) ∙ pilot_level plan chip;
+-- the pilot and channels on other rows
+with_pilot : (plan : CellPlan) (cs : List Carrier) → All IsAligned cs → HaveOwnRows cs →
+    All (λ (c : Carrier). c.row ≢ 0) cs → AreApart plan.pilot.gain (pilot_carrier plan ∷ cs)
+with_pilot plan cs aligned own others = record {
+  aligned = All-cons IsAligned (pilot_carrier plan) cs (pilot_aligned plan) aligned;
+  own_rows = (others, own);
+  pilot = λ chip. ap (λ (l : ℤ). level chip (pilot_carrier plan) +ℤ l)
+      (level_at-none 0 chip cs others)
+      ∙ +ℤ_idr (level chip (pilot_carrier plan)) ∙ pilot_level plan chip;
 }
 
-pub plan_apart : (plan : CellPlan) → AreApart plan.pilot.gain (carriers plan)
+-- the others
+abbrev others : CellPlan → Option SyncPlan → List Carrier
+others plan sync = sync_carriers plan sync ++ map (paging_carrier plan) plan.paging
+
+-- what is true of the sync channel and of each paging channel is true of all of them
+others_all : (P : Carrier → Type 0) (width : Width) (plan : CellPlan) (sync : Option SyncPlan) →
+    IsLawfulPlan width plan → ((s : SyncPlan) → P (sync_carrier plan s)) →
+    ((p : PagingPlan) → 1 ≤ p.number → p.number ≤ 7 → P (paging_carrier plan p)) →
+    All P (others plan sync)
+others_all P width plan sync lawful each paging =
+    All-append P (sync_carriers plan sync) (map (paging_carrier plan) plan.paging)
+    (sync_all P plan sync each)
+    (paging_all P plan (paging_rate plan.sync) plan.paging paging lawful.paging)
+
+others_rows : (width : Width) (plan : CellPlan) → IsLawfulPlan width plan →
+    HaveOwnRows (others plan plan.sync)
+others_rows width plan lawful =
+    let paging = map (paging_carrier plan) plan.paging in
+    own_rows-append (sync_carriers plan plan.sync) paging (sync_rows plan plan.sync)
+    (paging_rows plan plan.paging lawful.apart)
+    (sync_all (λ (c : Carrier). All (λ (d : Carrier). d.row ≢ c.row) paging) plan plan.sync
+    (λ s. paging_all (λ (d : Carrier). d.row ≢ 32) plan (paging_rate plan.sync) plan.paging
+    (λ p first last e. omega (arith, last, e)) lawful.paging))
+
+pub plan_apart : (width : Width) (plan : CellPlan) → IsLawfulPlan width plan →
+    AreApart plan.pilot.gain (carriers plan)
 unfolding carriers
-plan_apart plan = with_sync plan plan.sync
+plan_apart width plan lawful =
+    with_pilot plan (others plan plan.sync)
+    (others_all IsAligned width plan plan.sync lawful (sync_aligned plan)
+    (λ p first last. paging_aligned plan p last))
+    (others_rows width plan lawful)
+    (others_all (λ (c : Carrier). c.row ≢ 0) width plan plan.sync lawful
+    (λ s e. omega (arith, e)) (λ p first last e. omega (arith, first, e)))
 
 -- ---- which of them are sent
 
 has_sync : (plan : CellPlan) (sync : SyncPlan) →
-    Contains (pilot_carrier plan ∷ sync_carriers plan (Some sync)) (sync_carrier plan sync)
+    Contains (pilot_carrier plan ∷ others plan (Some sync)) (sync_carrier plan sync)
 has_sync plan sync = (1, omega arith, refl)
 
 pub sync_sent : (plan : CellPlan) (sync : SyncPlan) → plan.sync ≡ Some sync →
     Contains (carriers plan) (sync_carrier plan sync)
 unfolding carriers
 sync_sent plan sync is =
-    subst (λ (s : Option SyncPlan). Contains (pilot_carrier plan ∷ sync_carriers plan s)
+    subst
+    (λ (s : Option SyncPlan). Contains (pilot_carrier plan ∷ others plan s)
     (sync_carrier plan sync)) (sym is) (has_sync plan sync)
 
-without_sync : (plan : CellPlan) →
-    All (λ (c : Carrier). c.row ≢ 32) (pilot_carrier plan ∷ sync_carriers plan None)
-without_sync plan =
-    All-cons (λ (c : Carrier). c.row ≢ 32) (pilot_carrier plan) [] (λ e. omega (arith, e))
-    (All-nil (λ (c : Carrier). c.row ≢ 32))
-
-pub sync_silent : (plan : CellPlan) → plan.sync ≡ None →
-    All (λ (c : Carrier). c.row ≢ 32) (carriers plan)
+-- a paging channel of a plan is sent
+pub paging_sent : (plan : CellPlan) (p : PagingPlan) → Contains plan.paging p →
+    Contains (carriers plan) (paging_carrier plan p)
 unfolding carriers
-sync_silent plan none =
-    subst (λ (s : Option SyncPlan). All (λ (c : Carrier). c.row ≢ 32)
-    (pilot_carrier plan ∷ sync_carriers plan s)) (sym none) (without_sync plan)
+paging_sent plan p has =
+    Contains-append_right (pilot_carrier plan ∷ sync_carriers plan plan.sync)
+    (map (paging_carrier plan) plan.paging) (paging_carrier plan p)
+    (has_mapped (paging_carrier plan) plan.paging p has)
+
+without_sync : (width : Width) (plan : CellPlan) → IsLawfulPlan width plan →
+    All (λ (c : Carrier). c.row ≢ 32)
+    (pilot_carrier plan ∷ map (paging_carrier plan) plan.paging)
+without_sync width plan lawful =
+    All-cons (λ (c : Carrier). c.row ≢ 32) (pilot_carrier plan)
+    (map (paging_carrier plan) plan.paging) (λ e. omega (arith, e))
+    (paging_all (λ (c : Carrier). c.row ≢ 32) plan (paging_rate plan.sync) plan.paging
+    (λ p first last e. omega (arith, last, e)) lawful.paging)
+
+pub sync_silent : (width : Width) (plan : CellPlan) → IsLawfulPlan width plan →
+    plan.sync ≡ None → All (λ (c : Carrier). c.row ≢ 32) (carriers plan)
+unfolding carriers
+sync_silent width plan lawful none =
+    subst
+    (λ (s : Option SyncPlan). All (λ (c : Carrier). c.row ≢ 32)
+    (pilot_carrier plan ∷ others plan s)) (sym none) (without_sync width plan lawful)

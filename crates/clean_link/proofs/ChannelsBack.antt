@@ -35,11 +35,11 @@ strength_some width plan form gain is some =
 
 pub channel_signs : laws.ChannelsHaveSentSigns
 channel_signs width plan c form u frame is has at long =
-    channel_softs plan c form u frame is.lawful.pn (plan_apart plan) has at long
+    channel_softs plan c form u frame is.lawful.pn (plan_apart width plan is.lawful) has at long
 
 pub silent_rows : laws.SilentRowsAreZero
 silent_rows width plan row form u is below none at =
-    silent_softs plan row form u is.lawful.pn (plan_apart plan) below at
+    silent_softs plan row form u is.lawful.pn (plan_apart width plan is.lawful) below at
     (λ chip from to. level_at-none row chip (carriers plan) none)
 
 level_before : (chip : ℕ) (c : Carrier) → chip < c.first → level chip c ≡ pos 0
@@ -47,15 +47,15 @@ level_before chip c lt = rw (lt-ltb chip c.first lt) refl
 
 pub early_frames : laws.EarlyFramesAreZero
 early_frames width plan c form u is has at before =
-    let own = All-contains IsAligned (carriers plan) c (plan_apart plan).aligned has in
-    silent_softs plan c.row form u is.lawful.pn (plan_apart plan) own.row at
+    let own = All-contains IsAligned (carriers plan) c (plan_apart width plan is.lawful).aligned has in
+    silent_softs plan c.row form u is.lawful.pn (plan_apart width plan is.lawful) own.row at
     (λ chip from to.
-    level_at-alone chip (carriers plan) c (plan_apart plan).own_rows has ∙
+    level_at-alone chip (carriers plan) c (plan_apart width plan is.lawful).own_rows has ∙
     level_before chip c (omega (arith, to, before)))
 
 pub stream_symbols : laws.StreamsShowSymbols
 stream_symbols width plan c s bits_of base k is has heard read here =
-    heard_softs plan c s bits_of base k is.lawful.pn (plan_apart plan) has heard read here
+    heard_softs plan c s bits_of base k is.lawful.pn (plan_apart width plan is.lawful) has heard read here
 
 -- ---- frames
 
@@ -63,7 +63,7 @@ pub channel_frames : laws.ChannelFramesComeBack
 channel_frames width plan c s bits_of base k is has some heard read here =
     let strength = soft_strength plan s.form c.gain in
     shown_back plan.link.samples strength base k (made_samples plan) s bits_of
-    (heard_shown plan c s bits_of base is.lawful.pn (plan_apart plan) has heard read
+    (heard_shown plan c s bits_of base is.lawful.pn (plan_apart width plan is.lawful) has heard read
     (strength_some width plan s.form c.gain is some))
     here
 
@@ -71,6 +71,6 @@ pub channel_words : laws.ChannelWordsAreTheOnlyBest
 channel_words width plan c s bits_of base k is has some heard read here =
     let strength = soft_strength plan s.form c.gain in
     shown_alone plan.link.samples strength base k (made_samples plan) s bits_of
-    (heard_shown plan c s bits_of base is.lawful.pn (plan_apart plan) has heard read
+    (heard_shown plan c s bits_of base is.lawful.pn (plan_apart width plan is.lawful) has heard read
     (strength_some width plan s.form c.gain is some))
     here

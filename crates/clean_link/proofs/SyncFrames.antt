@@ -101,7 +101,7 @@ zero_without_sync width plan t k at none on here =
     let u = frame_start (sync_stream t) k in
     let begins = frames_begin plan t k at.lawful.pn on.phase in
     ap (λ (fs : List Finger). softs (made_samples plan) fs Sync u) (fingers_are plan t on)
-    ∙ silent_rows width plan 32 Sync u at (omega arith) (sync_silent plan none)
+    ∙ silent_rows width plan 32 Sync u at (omega arith) (sync_silent width plan at.lawful none)
     (record {
       room = omega (arith, in_file_to t k on.alone here, on.count);
       aligned = omega (arith, begins);

@@ -36,6 +36,7 @@ cell start samples = record {
   link = record { factor = record { i = pos 0; q = negsuc 2 }; start = start; samples = samples };
   pilot = record { gain = 100 };
   sync = Some (record { gain = 30; message = message });
+  paging = [];
 }
 
 -- when the whole sendings have been heard
