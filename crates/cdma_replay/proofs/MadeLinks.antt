@@ -20,9 +20,9 @@ use Rattle.pilot_search.specs.Search.{best_phase}
 use Rattle.base_modulator.specs.declared.plan.CellPlan.{CellPlan}
 use Rattle.base_modulator.specs.Plan.{IsLawfulPlan, loudness, most_part}
 use Rattle.base_modulator.specs.Script.{plan_named}
-use Rattle.base_modulator.specs.Signal.{scaled}
-use Rattle.base_modulator.specs.Transmitter.{amplitude_sum, header_of, phase_at, version_of}
-use Rattle.base_modulator.proofs.Amplitudes.{sample_fits, signal}
+use Rattle.base_modulator.specs.Signal.{amplitudes, carriers, scaled}
+use Rattle.base_modulator.specs.Transmitter.{header_of, phase_at, version_of}
+use Rattle.base_modulator.proofs.Amplitudes.{chip_fits, signal_of_carriers}
 use Rattle.base_modulator.proofs.NamedPlans.{named_plan}
 use Rattle.base_modulator.proofs.Pieces.{no_sample}
 use Rattle.clean_link.specs.CleanLink.{IsCleanLink}
@@ -71,14 +71,14 @@ turned_q_most x y false false = omega (arith, ints)
 -- so a sample that is such a product fits the width
 turned_fits : (width : Width) (plan : CellPlan) (chip : ℕ) (chips : Bool × Bool) (s : Sample) →
     loudness plan ≤ most_part width →
-    of_sample s ≡ times (scaled (amplitude_sum plan chip) plan.link.factor) (point chips) →
+    of_sample s ≡ times (scaled (amplitudes chip (carriers plan)) plan.link.factor) (point chips) →
     HasBits width s
 turned_fits width plan chip chips s loud is =
-    let x = amplitude_sum plan chip *ℤ plan.link.factor.i in
-    let y = amplitude_sum plan chip *ℤ plan.link.factor.q in
+    let x = amplitudes chip (carriers plan) *ℤ plan.link.factor.i in
+    let y = amplitudes chip (carriers plan) *ℤ plan.link.factor.q in
     let i : s.i ≡ (x *ℤ sign chips.0) -ℤ (y *ℤ sign chips.1) = ap (λ (z : Pair). z.i) is in
     let q : s.q ≡ (x *ℤ sign chips.1) +ℤ (y *ℤ sign chips.0) = ap (λ (z : Pair). z.q) is in
-    sample_fits width plan chip (record { i = x; q = y }) s refl loud
+    chip_fits width plan chip (record { i = x; q = y }) s refl loud
     (subst (λ (part : ℤ). unsigned_abs part ≤ unsigned_abs x + unsigned_abs y) (sym i)
     (turned_i_most x y chips.0 chips.1))
     (subst (λ (part : ℤ). unsigned_abs part ≤ unsigned_abs x + unsigned_abs y) (sym q)
@@ -90,7 +90,7 @@ made_fits : (width : Width) (plan : CellPlan) (k : ℕ) → loudness plan ≤ mo
 made_fits width plan k loud below =
     let chip = plan.link.start + k in
     turned_fits width plan chip (pilot_chip ((chip + 32768 - 64 * plan.cell.pn) % 32768))
-    (get_or (made_samples plan) k no_sample) loud (made_at plan k below ∙ signal plan k)
+    (get_or (made_samples plan) k no_sample) loud (made_at plan k below ∙ signal_of_carriers plan k)
 
 all_made_fit : (width : Width) (plan : CellPlan) → loudness plan ≤ most_part width →
     All (HasBits width) (made_samples plan)
