@@ -15,4 +15,5 @@ pub mod Levels
 pub mod MachineInts
 pub mod LaidPages
 pub mod PageCycles
+pub mod PagingPlans
 pub mod Pieces

@@ -67,7 +67,12 @@ added Pilot plan next text is e =
     let said = is.lawful in
     subst Said told.2
     (record {
-      lawful = record { cell = said.cell; link = said.link; sync = said.sync; paging = said.paging };
+      lawful = record {
+        cell = said.cell;
+        link = said.link;
+        sync = said.sync;
+        paging = said.paging;
+      };
       linked = is.linked;
     })
 added Sync plan next text is e =

@@ -1,11 +1,13 @@
 //! Samples of cells that were computed elsewhere, by the standard's description of each channel.
 
-ghost use Rattle.std.specs.Prelude.{◌≡◌, ◌<◌, ◌≤◌, ◌^◌, IfOk};
-ghost use Rattle.base_modulator.specs.Plan.{IsLawfulPlan, IsSyncPlan, sync_gain};
+ghost use Rattle.std.specs.Prelude.{◌≡◌, ◌+◌, ◌<◌, ◌≤◌, ◌^◌, IfOk, IfSome, false, length};
+ghost use Rattle.std.specs.Option.{option_to_list};
+ghost use Rattle.base_modulator.specs.Plan.{IsLawfulPlan, IsPagingPlan, IsSyncPlan, sync_gain};
 ghost use Rattle.sync_message.specs.SyncMessage.{IsSyncMessage};
+ghost use Rattle.symbol_path.specs.declared.kinds.Rate.TheVariants.{R9600, R4800};
 
 use crate::Cell;
-use crate::plan::{CellIdentity, CellPlan, LinkPlan, PilotPlan, SyncPlan};
+use crate::plan::{CellIdentity, CellPlan, LinkPlan, Page, PagingPlan, PilotPlan, SyncPlan};
 use crate::series::Series;
 use cdma_io::{Header, Width};
 use chip_core::{Bits, CheckForm, Pair, Sample};
@@ -61,16 +63,60 @@ fn channel(fields: SyncFields) -> Result<SyncPlan, Fail>
     })
 }
 
+/// A page of nine octets.
+fn page() -> Page
+    ensures half { result.follows ≡ false }
+    ensures body { length result.body ≡ 34 }
+{
+    let mut body = Bits::empty();
+    body.append_number(34, 0x04ff_8046_c0 >> 6);
+    Page {
+        follows: false,
+        body,
+    }
+}
+
+/// Paging channel 1 with this page, and a gain of 60.
+fn paging_channel(alloc: Global) -> Result<PagingPlan, Fail>
+    ensures { IfOk result (λ p. (p.gain ≡ 60) × IsPagingPlan R9600 p × IsPagingPlan R4800 p) }
+{
+    let mut pages = Series::new(alloc);
+    pages.push(page())?;
+    Ok(PagingPlan {
+        number: 1,
+        gain: 60,
+        pages,
+    })
+}
+
+/// One paging channel, or none.
+fn all_paging(alloc: Global, paging: Option<PagingPlan>) -> Result<Series<PagingPlan>, Fail>
+    ensures { IfOk result (λ all. all ≡ option_to_list paging) }
+{
+    let mut all = Series::new(alloc);
+    if let Some(channel) = paging {
+        all.push(channel)?;
+    }
+    Ok(all)
+}
+
 /// A cell without an offset, with a pilot of gain 100.
-fn near_plan(alloc: Global, start: u64, samples: u64, sync: Option<SyncPlan>) -> CellPlan
+fn near_cell(
+    alloc: Global,
+    start: u64,
+    samples: u64,
+    sync: Option<SyncPlan>,
+    paging: Option<PagingPlan>,
+) -> Result<Cell, Fail>
     requires start { start < 2 ^ 32 }
     requires samples { samples ≤ 33554432 }
     requires sync { IsSyncPlan sync }
     requires gain { sync_gain sync ≤ 30 }
-    ensures lawful { IsLawfulPlan Width.Sixteen result }
-    ensures samples { result.link.samples ≡ samples }
+    requires paging { IfSome paging (λ p.
+        (p.gain ≡ 60) × IsPagingPlan R9600 p × IsPagingPlan R4800 p) }
+    ensures { IfOk result (λ cell. (cell.given ≡ 0) × (cell.plan.link.samples ≡ samples)) }
 {
-    CellPlan {
+    let plan = CellPlan {
         cell: CellIdentity {
             pn: 0,
             time: 1000,
@@ -85,15 +131,23 @@ fn near_plan(alloc: Global, start: u64, samples: u64, sync: Option<SyncPlan>) ->
         },
         pilot: PilotPlan { gain: 100 },
         sync,
-        paging: Series::new(alloc),
-    }
+        paging: all_paging(alloc, paging)?,
+    };
+    Ok(Cell::of_plan(alloc, Width::Sixteen, plan)?)
 }
 
 /// A cell with the greatest offset and the latest time, whose checks are complemented, with the
-/// long message.
-fn far_cell(alloc: Global, start: u64, samples: u64) -> Result<Cell, Fail>
+/// long message, which tells paging channels of 4800 bits a second.
+fn far_cell(
+    alloc: Global,
+    start: u64,
+    samples: u64,
+    paging: Option<PagingPlan>,
+) -> Result<Cell, Fail>
     requires start { start < 2 ^ 32 }
     requires samples { samples ≤ 33554432 }
+    requires paging { IfSome paging (λ p.
+        (p.gain ≡ 60) × IsPagingPlan R9600 p × IsPagingPlan R4800 p) }
     ensures { IfOk result (λ cell. (cell.given ≡ 0) × (cell.plan.link.samples ≡ samples)) }
 {
     let plan = CellPlan {
@@ -111,9 +165,24 @@ fn far_cell(alloc: Global, start: u64, samples: u64) -> Result<Cell, Fail>
         },
         pilot: PilotPlan { gain: 100 },
         sync: Some(channel(long_message())?),
-        paging: Series::new(alloc),
+        paging: all_paging(alloc, paging)?,
     };
     Ok(Cell::of_plan(alloc, Width::Sixteen, plan)?)
+}
+
+/// Whether a cell's first 30,001 samples are these at these places.
+fn has_samples(alloc: Global, cell: &mut Cell, wanted: &[(usize, i16, i16)]) -> Result<bool, Fail> {
+    let mut out = vec![in alloc; Sample { i: 0, q: 0 }; 30001]?;
+    if cell.left() < 30001 {
+        return Err("no samples".into());
+    }
+    cell.fill(&mut out);
+    for (place, i, q) in wanted {
+        if out.as_slice().get(*place) != Some(&Sample { i: *i, q: *q }) {
+            return Ok(false);
+        }
+    }
+    Ok(true)
 }
 
 /// The first 64 symbols of a frame that begins with the next sample of a cell, the first one
@@ -137,8 +206,7 @@ fn symbols_at(alloc: Global, frame: u64, sync: SyncPlan) -> Result<u64, Fail>
     requires frame { frame < 2 ^ 17 }
     requires sync { (sync.gain ≡ 30) × IsSyncMessage sync.message }
 {
-    let plan = near_plan(alloc, 32768 * frame, 16384, Some(sync));
-    let mut cell = Cell::of_plan(alloc, Width::Sixteen, plan)?;
+    let mut cell = near_cell(alloc, 32768 * frame, 16384, Some(sync), None)?;
     next_symbols(alloc, &mut cell)
 }
 
@@ -146,15 +214,13 @@ fn symbols_at(alloc: Global, frame: u64, sync: SyncPlan) -> Result<u64, Fail>
 #[test]
 fn first_samples(rt: HostRuntime) -> Result<(), Fail> {
     let mut out = [Sample { i: 0, q: 0 }; 1];
-    let plan = near_plan(rt.alloc(), 0, 1, None);
-    let mut pilot = Cell::of_plan(rt.alloc(), Width::Sixteen, plan)?;
+    let mut pilot = near_cell(rt.alloc(), 0, 1, None, None)?;
     assert_eq!(rt; pilot.left(), 1);
     pilot.fill(&mut out);
     assert_eq!(rt; out[0], Sample { i: -300, q: 300 });
     assert_eq!(rt; pilot.left(), 0);
     let sync = channel(short_message())?;
-    let plan = near_plan(rt.alloc(), 0, 1, Some(sync));
-    let mut both = Cell::of_plan(rt.alloc(), Width::Sixteen, plan)?;
+    let mut both = near_cell(rt.alloc(), 0, 1, Some(sync), None)?;
     both.fill(&mut out);
     assert_eq!(rt; out[0], Sample { i: -210, q: 210 });
     Ok(())
@@ -175,7 +241,7 @@ fn frames_of_several_sendings(rt: HostRuntime) -> Result<(), Fail> {
 /// All frames of a sending with a frequency, and one at the latest start, in order.
 #[test]
 fn one_run_through_a_sending(rt: HostRuntime) -> Result<(), Fail> {
-    let mut cell = far_cell(rt.alloc(), 98_240, 360_448)?;
+    let mut cell = far_cell(rt.alloc(), 98_240, 360_448, None)?;
     let frames = [
         0x5e2b_2105_5179_fe1cu64,
         0x6a33_be84_873f_f704,
@@ -194,15 +260,79 @@ fn one_run_through_a_sending(rt: HostRuntime) -> Result<(), Fail> {
         assert_eq!(rt; next_symbols(rt.alloc(), &mut cell)?, symbols);
     }
     assert_eq!(rt; cell.left(), 0);
-    let mut late = far_cell(rt.alloc(), 4_292_313_024, 16_384)?;
+    let mut late = far_cell(rt.alloc(), 4_292_313_024, 16_384, None)?;
     assert_eq!(rt; next_symbols(rt.alloc(), &mut late)?, 0x4311_1161_4452_4523);
+    Ok(())
+}
+
+/// A pilot and a paging channel of 9600 bits a second, from the first chip and from a late one.
+#[test]
+fn paging_at_the_full_rate(rt: HostRuntime) -> Result<(), Fail> {
+    let paging = paging_channel(rt.alloc())?;
+    let mut first = near_cell(rt.alloc(), 0, 30_001, None, Some(paging))?;
+    let from_the_start = [
+        (0, -480, 480),
+        (1, 120, -120),
+        (63, 120, -120),
+        (64, -480, 480),
+        (777, 120, -120),
+        (24_575, 480, 480),
+        (24_576, -120, 120),
+        (30_000, 480, 480),
+    ];
+    assert!(rt; has_samples(rt.alloc(), &mut first, &from_the_start)?);
+    let paging = paging_channel(rt.alloc())?;
+    let mut late = near_cell(rt.alloc(), 4_000_000_001, 30_001, None, Some(paging))?;
+    let from_the_late_one = [
+        (0, 480, 480),
+        (1, 120, -120),
+        (63, -480, 480),
+        (64, 120, 120),
+        (777, 120, -120),
+        (24_575, -120, -120),
+        (24_576, -480, 480),
+        (30_000, -120, -120),
+    ];
+    assert!(rt; has_samples(rt.alloc(), &mut late, &from_the_late_one)?);
+    Ok(())
+}
+
+/// A pilot, a sync channel and a paging channel of 4800 bits a second, with the greatest offset.
+#[test]
+fn paging_at_the_half_rate(rt: HostRuntime) -> Result<(), Fail> {
+    let paging = paging_channel(rt.alloc())?;
+    let mut first = far_cell(rt.alloc(), 0, 30_001, Some(paging))?;
+    let from_the_start = [
+        (0, -800, 160),
+        (1, 200, -40),
+        (63, 40, 200),
+        (64, 160, 800),
+        (777, -200, 40),
+        (24_575, -200, 40),
+        (24_576, 160, 800),
+        (30_000, 200, -40),
+    ];
+    assert!(rt; has_samples(rt.alloc(), &mut first, &from_the_start)?);
+    let paging = paging_channel(rt.alloc())?;
+    let mut late = far_cell(rt.alloc(), 4_000_000_001, 30_001, Some(paging))?;
+    let from_the_late_one = [
+        (0, 190, 950),
+        (1, 350, -70),
+        (63, 350, -70),
+        (64, -950, 190),
+        (777, 350, -70),
+        (24_575, 190, 950),
+        (24_576, -350, 70),
+        (30_000, 950, -190),
+    ];
+    assert!(rt; has_samples(rt.alloc(), &mut late, &from_the_late_one)?);
     Ok(())
 }
 
 /// Samples in one piece and in pieces of seven, from a start within a block.
 #[test]
 fn any_cut_gives_the_same_samples(rt: HostRuntime) -> Result<(), Fail> {
-    let mut cell = far_cell(rt.alloc(), 32_001, 3_000)?;
+    let mut cell = far_cell(rt.alloc(), 32_001, 3_000, None)?;
     let mut out = [Sample { i: 0, q: 0 }; 3000];
     cell.fill(&mut out);
     assert_eq!(rt; out[0], Sample { i: -100, q: -500 });
@@ -211,7 +341,7 @@ fn any_cut_gives_the_same_samples(rt: HostRuntime) -> Result<(), Fail> {
     assert_eq!(rt; out[704], Sample { i: 350, q: -70 });
     assert_eq!(rt; out[735], Sample { i: 650, q: -130 });
     assert_eq!(rt; out[2999], Sample { i: -650, q: 130 });
-    let mut again = far_cell(rt.alloc(), 32_001, 3_000)?;
+    let mut again = far_cell(rt.alloc(), 32_001, 3_000, None)?;
     let mut piece = [Sample { i: 0, q: 0 }; 7];
     for k in 0..428usize {
         assert!(rt; again.left() >= 7);
@@ -225,8 +355,7 @@ fn any_cut_gives_the_same_samples(rt: HostRuntime) -> Result<(), Fail> {
 /// The header of a cell's file.
 #[test]
 fn header_of_the_file(rt: HostRuntime) -> Result<(), Fail> {
-    let plan = near_plan(rt.alloc(), 0, 5, None);
-    let wide = Cell::of_plan(rt.alloc(), Width::Sixteen, plan)?;
+    let wide = near_cell(rt.alloc(), 0, 5, None, None)?;
     let header = Header {
         version: 1,
         check30: CheckForm::Plain,

@@ -1,0 +1,22 @@
+use Rattle.std.proofs.Common.{arith, Some}
+use Rattle.base_modulator.proofs.PagingPlans.{paged}
+use Rattle.base_modulator.proofs.cell_tests.far_cell.Goals as goal
+
+pub of_plan-requires : goal.of_plan-requires
+of_plan-requires c =
+    let sync = c.in_ok-channel.ensures in
+    let is = paged (Some c.in_ok-channel.field-0) c.args.paging c.in_ok-all_paging.field-0
+    c.in_ok-all_paging.ensures c.requires.paging in
+    record {
+      pn = omega arith;
+      time = omega arith;
+      lc = (omega arith, omega arith);
+      start = c.requires.start;
+      samples = c.requires.samples;
+      pilot = omega arith;
+      sync = (omega (arith, sync.0), sync.1);
+      few = is.few;
+      paging = is.are;
+      apart = is.apart;
+      loud = omega (arith, sync.0, is.gains);
+    }
