@@ -47,15 +47,17 @@ level_before chip c lt = rw (lt-ltb chip c.first lt) refl
 
 pub early_frames : laws.EarlyFramesAreZero
 early_frames width plan c form u is has at before =
-    let own = All-contains IsAligned (carriers plan) c (plan_apart width plan is.lawful).aligned has in
-    silent_softs plan c.row form u is.lawful.pn (plan_apart width plan is.lawful) own.row at
+    let apart = plan_apart width plan is.lawful in
+    let own = All-contains IsAligned (carriers plan) c apart.aligned has in
+    silent_softs plan c.row form u is.lawful.pn apart own.row at
     (λ chip from to.
-    level_at-alone chip (carriers plan) c (plan_apart width plan is.lawful).own_rows has ∙
+    level_at-alone chip (carriers plan) c apart.own_rows has ∙
     level_before chip c (omega (arith, to, before)))
 
 pub stream_symbols : laws.StreamsShowSymbols
 stream_symbols width plan c s bits_of base k is has heard read here =
-    heard_softs plan c s bits_of base k is.lawful.pn (plan_apart width plan is.lawful) has heard read here
+    heard_softs plan c s bits_of base k is.lawful.pn (plan_apart width plan is.lawful) has heard
+    read here
 
 -- ---- frames
 
