@@ -1,8 +1,13 @@
 pub mod NamedPlans
+pub mod ScriptAnswers
 pub mod ScriptBounds
 pub mod ScriptLaws
 pub mod ScriptMessages
+pub mod ScriptNumbers
 pub mod ScriptNumerals
+pub mod ScriptPages
+pub mod ScriptReading
+pub mod ScriptRows
 pub mod ScriptSplits
 pub mod ScriptTables
 pub mod ScriptTexts

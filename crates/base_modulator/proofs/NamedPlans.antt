@@ -1,113 +1,439 @@
 -- The plan that a script names is lawful, and its link isn't 0.
-use Rattle.std.proofs.Common.{◌≡◌, ℕ, zero, suc, ◌+◌, ◌-◌, ◌<◌, Bool, true, false, cond, List, []}
-use Rattle.std.proofs.Common.{◌∷◌, length, take, refl, sym, ap, subst, ◌∙◌, arith, Option, None}
-use Rattle.std.proofs.Common.{Some, Result, Ok, Err}
+use Rattle.std.proofs.Common.{◌≡◌, ℕ, zero, suc, ◌+◌, ◌-◌, ◌<◌, ◌≤◌, Bool, true, false, cond}
+use Rattle.std.proofs.Common.{List, [], ◌∷◌, ◌++◌, length, take, refl, sym, ap, subst, ◌∙◌}
+use Rattle.std.proofs.Common.{arith, Option, None, Some, Result, Ok, Err}
 use Rattle.std.specs.Option.{option_or}
-use Rattle.std.specs.Prelude.{nat_lt, ◌==◌, ok_or, option_map}
-use Rattle.std.proofs.lemmas.Bool.{ltb-false}
-use Rattle.std.proofs.lemmas.List.Elements.{All-nil}
+use Rattle.std.specs.Prelude.{nat_lt, ◌==◌, ok_or, option_map, option_and_then, All}
+use Rattle.std.proofs.lemmas.Bool.{and_parts, cond-true, cond-false, eqb-true, leb-true, ltb-false}
+use Rattle.std.proofs.lemmas.List.{length-append}
+use Rattle.std.proofs.lemmas.List.Elements.{All-nil, All-push}
+use Rattle.std.proofs.lemmas.Option.{cond_some, same_Some}
 use Rattle.chip_core.specs.Complex.{norm}
 use Rattle.cdma_io.specs.SampleFile.{most_samples}
 use Rattle.cdma_io.specs.declared.width.Width.{Width}
+use Rattle.quality_bits.specs.Capsules.{FillsCapsule}
+use Rattle.quality_bits.specs.declared.kind.Kind.TheVariants.{M30}
+use Rattle.symbol_path.specs.declared.kinds.Rate.{Rate}
+use Rattle.symbol_path.specs.declared.kinds.Rate.TheVariants.{R9600, R4800}
+use Rattle.paging_message.specs.HalfFrames.{half_frame_body}
+use Rattle.base_modulator.specs.Pages.{half_frame_bits, laid_behind, paging_rate, AreSendable}
 use Rattle.base_modulator.specs.declared.plan.CellPlan.{CellPlan}
+use Rattle.base_modulator.specs.declared.plan.Page.{Page}
+use Rattle.base_modulator.specs.declared.plan.PagingPlan.{PagingPlan}
+use Rattle.base_modulator.specs.declared.plan.CellIdentity.{CellIdentity}
+use Rattle.base_modulator.specs.declared.plan.LinkPlan.{LinkPlan}
+use Rattle.base_modulator.specs.declared.plan.PilotPlan.{PilotPlan}
 use Rattle.base_modulator.specs.declared.plan.SyncPlan.{SyncPlan}
-use Rattle.base_modulator.specs.declared.script.draft.Draft.{Draft}
-use Rattle.base_modulator.specs.declared.script.draft.Stage.{Stage}
-use Rattle.base_modulator.specs.declared.script.draft.Stage.TheVariants.{Cell, Link, Pilot, Sync}
-use Rattle.base_modulator.specs.declared.script.draft.Stage.TheVariants.{End}
+use Rattle.base_modulator.specs.declared.script.stage.Stage.{Stage}
+use Rattle.base_modulator.specs.declared.script.stage.Stage.TheVariants.{Cell, Link, Pilot, Sync}
+use Rattle.base_modulator.specs.declared.script.stage.Stage.TheVariants.{Paging, FirstPage, Pages}
+use Rattle.base_modulator.specs.declared.script.stage.Stage.TheVariants.{End}
+use Rattle.base_modulator.specs.declared.script.statements.PagingLine.{PagingLine}
+use Rattle.base_modulator.specs.declared.script.statements.Statement.{Statement}
+use Rattle.base_modulator.specs.declared.script.statements.Statement.TheVariants as statements
 use Rattle.base_modulator.specs.declared.script_fault.ScriptFault.{ScriptFault}
-use Rattle.base_modulator.specs.declared.script_fault.ScriptFault.TheVariants.{Gain, TooBig}
-use Rattle.base_modulator.specs.Pages.{paging_rate}
-use Rattle.base_modulator.specs.Plan.{IsLawfulPlan, IsPagingPlan, IsSyncPlan, loudness, most_part}
-use Rattle.base_modulator.specs.Script.{gain_fault, is_line, lines, long_fault, loud_fault, named}
-use Rattle.base_modulator.specs.Script.{plan_fault, plan_named, draft_after, stated, stated_plan}
-use Rattle.base_modulator.specs.Script.{sync_gain_fault, unless}
-use Rattle.base_modulator.specs.ScriptLines.{cell_in, empty_draft, empty_plan, link_in, pilot_in}
-use Rattle.base_modulator.specs.ScriptLines.{plan_behind, sync_in, with_line, with_statement}
-use Rattle.base_modulator.specs.ScriptPlans.{HasSaid, IsStatedPlan, IsStatedSync}
-use Rattle.base_modulator.proofs.ScriptBounds.{cell_bounds, link_bounds, passed, sync_bounds}
+use Rattle.base_modulator.specs.declared.script_fault.ScriptFault.TheVariants.{Gain, TooBig, Walsh}
+use Rattle.base_modulator.specs.Plan.{loudness, most_part, IsLawfulPlan, IsSyncPlan}
+use Rattle.base_modulator.specs.Script.{draft_after, gain_fault, is_line, lines, long_fault}
+use Rattle.base_modulator.specs.Script.{loud_fault, named, paging_lines, plan_fault, plan_named}
+use Rattle.base_modulator.specs.Script.{repeated, silent, stated, stated_plan, sync_gain_fault}
+use Rattle.base_modulator.specs.Script.{unless, walsh_fault}
+use Rattle.base_modulator.specs.ScriptDrafts.{draft_at, Draft, empty_draft, opened}
+use Rattle.base_modulator.specs.ScriptDrafts.{plan_at, with_line, with_next, with_page}
+use Rattle.base_modulator.specs.ScriptDrafts.{with_statement}
+use Rattle.base_modulator.specs.ScriptLines.{statement_in}
+use Rattle.base_modulator.specs.ScriptPlans.{HasSaid, IsLawful, IsStatedCell, IsStatedLink}
+use Rattle.base_modulator.specs.ScriptPlans.{IsStatedPaging, IsStatedPlan, IsStatedSync}
+use Rattle.base_modulator.specs.ScriptStages.{after_cell, after_link, after_page, after_paging}
+use Rattle.base_modulator.specs.ScriptStages.{after_pilot, after_sync, behind_sync, count_behind}
+use Rattle.base_modulator.specs.ScriptStages.{is_cycle, may_follow, next_stage}
+use Rattle.base_modulator.specs.ScriptStages.{pages_behind}
+use Rattle.base_modulator.proofs.ScriptBounds.{line_bounds, passed}
+use Rattle.base_modulator.proofs.ScriptPages.{with_page-last}
+use Rattle.base_modulator.proofs.ScriptNumbers.{few_channels, have_own_numbers, some_gains}
 use Rattle.base_modulator.proofs.ScriptSplits.{stated-fault, stated-next, stated-none}
+
+-- ---- pages of a cycle
+
+-- the body bits of a cycle behind these pages
+abbrev count_of : ℕ → ℕ → List Page → ℕ
+count_of size count [] = count
+count_of size count (page ∷ pages) =
+    count_of size (laid_behind size count page.follows (38 + length page.body)) pages
+
+count_of-append : (size count : ℕ) (pages : List Page) (page : Page) →
+    count_of size count (pages ++ page ∷ [])
+    ≡ laid_behind size (count_of size count pages) page.follows (38 + length page.body)
+count_of-append size count [] page = refl
+count_of-append size count (p ∷ pages) page =
+    count_of-append size (laid_behind size count p.follows (38 + length p.body)) pages page
+
+sendable-append : (size count : ℕ) (pages : List Page) (page : Page) →
+    AreSendable size count pages → FillsCapsule M30 page.body →
+    half_frame_bits size
+    (laid_behind size (count_of size count pages) page.follows (38 + length page.body)) ≤ 8192 →
+    AreSendable size count (pages ++ page ∷ [])
+sendable-append size count [] page are fills few = (fills, few, tt)
+sendable-append size count (p ∷ pages) page are fills few = (
+  are.0,
+  are.1,
+  sendable-append size (laid_behind size count p.follows (38 + length p.body)) pages page are.2
+      fills few,
+)
+
+-- ---- the channels at a stage
+
+-- the last channel is under way: its pages have so many body bits
+record IsOpen (rate : Rate) (count : ℕ) (plan : CellPlan) : Type 0 where
+  pub rate_is : paging_rate plan.sync ≡ rate
+  pub before : List PagingPlan
+  pub last : PagingPlan
+  pub channels : plan.paging ≡ before ++ last ∷ []
+  pub stated : All (IsStatedPaging rate) before
+  pub number : (1 ≤ last.number) × (last.number ≤ 7)
+  pub pages : AreSendable (half_frame_body rate) 0 last.pages
+  pub laid : count ≡ count_of (half_frame_body rate) 0 last.pages
+
+abbrev HasPages : Rate → ℕ → CellPlan → Type 0
+HasPages rate count plan = (o : IsOpen rate count plan) × (1 ≤ length o.last.pages)
+
+abbrev HasChannels : Stage → CellPlan → Type 0
+HasChannels Cell plan = plan.paging ≡ []
+HasChannels Link plan = plan.paging ≡ []
+HasChannels Pilot plan = plan.paging ≡ []
+HasChannels Sync plan = plan.paging ≡ []
+HasChannels (Paging rate) plan = (plan.paging ≡ []) × (paging_rate plan.sync ≡ rate)
+HasChannels (FirstPage rate) plan = IsOpen rate 0 plan
+HasChannels (Pages rate count) plan = HasPages rate count plan
+HasChannels End plan = plan.paging ≡ []
+
+-- ---- one statement more
+
+channels_cell : (stage next : Stage) (plan : CellPlan) (cell : CellIdentity) →
+    HasChannels stage plan → after_cell stage ≡ Some next →
+    HasChannels next (record plan { cell = cell })
+channels_cell Cell next plan cell has e =
+    subst (λ (s : Stage). HasChannels s (record plan { cell = cell }))
+    (same_Some Link next e) has
+channels_cell Link next plan cell has e = absurd (cc e)
+channels_cell Pilot next plan cell has e = absurd (cc e)
+channels_cell Sync next plan cell has e = absurd (cc e)
+channels_cell (Paging rate) next plan cell has e = absurd (cc e)
+channels_cell (FirstPage rate) next plan cell has e = absurd (cc e)
+channels_cell (Pages rate count) next plan cell has e = absurd (cc e)
+channels_cell End next plan cell has e = absurd (cc e)
+
+channels_link : (stage next : Stage) (plan : CellPlan) (link : LinkPlan) →
+    HasChannels stage plan → after_link stage ≡ Some next →
+    HasChannels next (record plan { link = link })
+channels_link Cell next plan link has e = absurd (cc e)
+channels_link Link next plan link has e =
+    subst (λ (s : Stage). HasChannels s (record plan { link = link }))
+    (same_Some Pilot next e) has
+channels_link Pilot next plan link has e = absurd (cc e)
+channels_link Sync next plan link has e = absurd (cc e)
+channels_link (Paging rate) next plan link has e = absurd (cc e)
+channels_link (FirstPage rate) next plan link has e = absurd (cc e)
+channels_link (Pages rate count) next plan link has e = absurd (cc e)
+channels_link End next plan link has e = absurd (cc e)
+
+channels_pilot : (stage next : Stage) (plan : CellPlan) (pilot : PilotPlan) →
+    HasChannels stage plan → after_pilot stage ≡ Some next →
+    HasChannels next (record plan { pilot = pilot })
+channels_pilot Cell next plan pilot has e = absurd (cc e)
+channels_pilot Link next plan pilot has e = absurd (cc e)
+channels_pilot Pilot next plan pilot has e =
+    subst (λ (s : Stage). HasChannels s (record plan { pilot = pilot }))
+    (same_Some Sync next e) has
+channels_pilot Sync next plan pilot has e = absurd (cc e)
+channels_pilot (Paging rate) next plan pilot has e = absurd (cc e)
+channels_pilot (FirstPage rate) next plan pilot has e = absurd (cc e)
+channels_pilot (Pages rate count) next plan pilot has e = absurd (cc e)
+channels_pilot End next plan pilot has e = absurd (cc e)
+
+sync_channels : (plan : CellPlan) (sync : SyncPlan) (full half : Bool) →
+    (sync.message.prat == 0) ≡ full → (sync.message.prat == 1) ≡ half → plan.paging ≡ [] →
+    HasChannels (behind_sync sync) (record plan { sync = Some sync })
+sync_channels plan sync true half full e none =
+    let none_half : (sync.message.prat == 1) ≡ false =
+    ap (λ (n : ℕ). n == 1) (eqb-true sync.message.prat 0 full) in
+    subst (λ (s : Stage). HasChannels s (record plan { sync = Some sync }))
+    (sym (cond-true _ (Paging R9600) (cond (sync.message.prat == 1) (Paging R4800) End) full))
+    (none, cond-false _ R4800 R9600 none_half)
+sync_channels plan sync false true other one none =
+    subst (λ (s : Stage). HasChannels s (record plan { sync = Some sync }))
+    (sym (cond-false _ (Paging R9600) (cond (sync.message.prat == 1) (Paging R4800) End) other
+    ∙ cond-true _ (Paging R4800) End one))
+    (none, cond-true _ R4800 R9600 one)
+sync_channels plan sync false false other more none =
+    subst (λ (s : Stage). HasChannels s (record plan { sync = Some sync }))
+    (sym (cond-false _ (Paging R9600) (cond (sync.message.prat == 1) (Paging R4800) End) other
+    ∙ cond-false _ (Paging R4800) End more))
+    none
+
+channels_sync : (stage next : Stage) (plan : CellPlan) (sync : SyncPlan) →
+    HasChannels stage plan → after_sync stage sync ≡ Some next →
+    HasChannels next (record plan { sync = Some sync })
+channels_sync Cell next plan sync has e = absurd (cc e)
+channels_sync Link next plan sync has e = absurd (cc e)
+channels_sync Pilot next plan sync has e = absurd (cc e)
+channels_sync Sync next plan sync has e =
+    subst (λ (s : Stage). HasChannels s (record plan { sync = Some sync }))
+    (same_Some (behind_sync sync) next e)
+    (sync_channels plan sync (sync.message.prat == 0) (sync.message.prat == 1) refl refl has)
+channels_sync (Paging rate) next plan sync has e = absurd (cc e)
+channels_sync (FirstPage rate) next plan sync has e = absurd (cc e)
+channels_sync (Pages rate count) next plan sync has e = absurd (cc e)
+channels_sync End next plan sync has e = absurd (cc e)
+
+abbrev with_channel : CellPlan → PagingLine → CellPlan
+with_channel plan line = record plan { paging = plan.paging ++ opened line ∷ [] }
+
+-- a channel is opened behind others
+opened_behind : (rate : Rate) (plan : CellPlan) (line : PagingLine) →
+    (1 ≤ line.number) × (line.number ≤ 7) → paging_rate plan.sync ≡ rate →
+    All (IsStatedPaging rate) plan.paging → IsOpen rate 0 (with_channel plan line)
+opened_behind rate plan line number rate_is are = record {
+  rate_is = rate_is;
+  before = plan.paging;
+  last = opened line;
+  channels = refl;
+  stated = are;
+  number = number;
+  pages = tt;
+  laid = refl;
+}
+
+-- the channel that was under way is one of them
+closed : (rate : Rate) (count : ℕ) (plan : CellPlan) → HasPages rate count plan →
+    All (IsStatedPaging rate) plan.paging
+closed rate count plan has =
+    let o = has.0 in
+    let last : IsStatedPaging rate o.last =
+    record { first = o.number.0; last = o.number.1; some = has.1; pages = o.pages } in
+    subst (All (IsStatedPaging rate)) (sym o.channels)
+    (All-push (IsStatedPaging rate) o.before o.last o.stated last)
+
+no_channels : (rate : Rate) (plan : CellPlan) → plan.paging ≡ [] →
+    All (IsStatedPaging rate) plan.paging
+no_channels rate plan none =
+    subst (All (IsStatedPaging rate)) (sym none) (All-nil (IsStatedPaging rate))
+
+channels_paging : (stage next : Stage) (plan : CellPlan) (line : PagingLine) →
+    (1 ≤ line.number) × (line.number ≤ 7) → HasChannels stage plan →
+    after_paging stage ≡ Some next →
+    HasChannels next (with_channel plan line)
+channels_paging Cell next plan line number has e = absurd (cc e)
+channels_paging Link next plan line number has e = absurd (cc e)
+channels_paging Pilot next plan line number has e = absurd (cc e)
+channels_paging Sync next plan line number has e = absurd (cc e)
+channels_paging (Paging rate) next plan line number has e =
+    subst (λ (s : Stage). HasChannels s (with_channel plan line))
+    (same_Some (FirstPage rate) next e)
+    (opened_behind rate plan line number has.1 (no_channels rate plan has.0))
+channels_paging (FirstPage rate) next plan line number has e = absurd (cc e)
+channels_paging (Pages rate count) next plan line number has e =
+    subst (λ (s : Stage). HasChannels s (with_channel plan line))
+    (same_Some (FirstPage rate) next e)
+    (opened_behind rate plan line number has.0.rate_is (closed rate count plan has))
+channels_paging End next plan line number has e = absurd (cc e)
+
+abbrev with_more : CellPlan → Page → CellPlan
+with_more plan page = record plan { paging = with_page plan.paging page }
+
+-- the channel under way has one page more
+page_laid : (rate : Rate) (count : ℕ) (plan : CellPlan) (page : Page) →
+    FillsCapsule M30 page.body → IsOpen rate count plan →
+    half_frame_bits (half_frame_body rate) (count_behind rate count page) ≤ 8192 →
+    HasPages rate (count_behind rate count page) (with_more plan page)
+page_laid rate count plan page fills o few =
+    let size = half_frame_body rate in
+    let pages = o.last.pages ++ page ∷ [] in
+    let last : PagingPlan = record o.last { pages = pages } in
+    let behind : count_behind rate count page
+    ≡ laid_behind size (count_of size 0 o.last.pages) page.follows (38 + length page.body) =
+    ap (λ (n : ℕ). laid_behind size n page.follows (38 + length page.body)) o.laid in
+    let all : with_page plan.paging page ≡ o.before ++ last ∷ [] =
+    ap (λ (ps : List PagingPlan). with_page ps page) o.channels
+    ∙ with_page-last o.before o.last page in
+    let open_now : IsOpen rate (count_behind rate count page) (with_more plan page) = record {
+      rate_is = o.rate_is;
+      before = o.before;
+      last = last;
+      channels = all;
+      stated = o.stated;
+      number = o.number;
+      pages = sendable-append size 0 o.last.pages page o.pages fills
+          (subst (λ (n : ℕ). half_frame_bits size n ≤ 8192) behind few);
+      laid = behind ∙ sym (count_of-append size 0 o.last.pages page);
+    } in
+    (open_now, omega (arith, length-append o.last.pages (page ∷ [])))
+
+page_taken : (rate : Rate) (count : ℕ) (next : Stage) (plan : CellPlan) (page : Page) →
+    FillsCapsule M30 page.body → IsOpen rate count plan →
+    pages_behind rate count page ≡ Some next → HasChannels next (with_more plan page)
+unfolding pages_behind
+page_taken rate count next plan page fills o e =
+    let behind = count_behind rate count page in
+    let told = cond_some _ (Pages rate behind) next e in
+    let both = and_parts (may_follow rate count page.follows) (is_cycle rate behind) told.0 in
+    subst (λ (s : Stage). HasChannels s (with_more plan page)) told.1
+    (page_laid rate count plan page fills o
+    (leb-true (half_frame_bits (half_frame_body rate) behind) 8192 both.1))
+
+channels_page : (stage next : Stage) (plan : CellPlan) (page : Page) →
+    FillsCapsule M30 page.body → HasChannels stage plan → after_page stage page ≡ Some next →
+    HasChannels next (with_more plan page)
+channels_page Cell next plan page fills has e = absurd (cc e)
+channels_page Link next plan page fills has e = absurd (cc e)
+channels_page Pilot next plan page fills has e = absurd (cc e)
+channels_page Sync next plan page fills has e = absurd (cc e)
+channels_page (Paging rate) next plan page fills has e = absurd (cc e)
+channels_page (FirstPage rate) next plan page fills has e =
+    page_taken rate 0 next plan page fills has e
+channels_page (Pages rate count) next plan page fills has e =
+    page_taken rate count next plan page fills has.0 e
+channels_page End next plan page fills has e = absurd (cc e)
+
+-- ---- what was said at a stage
+
+record HasParts (plan : CellPlan) : Type 0 where
+  pub cell : IsStatedCell plan.cell
+  pub link : IsStatedLink plan.link
+  pub sync : IsStatedSync plan.sync
+  pub linked : 0 < norm plan.link.factor
+
+record IsAt (stage : Stage) (plan : CellPlan) : Type 0 where
+  pub parts : HasParts plan
+  pub channels : HasChannels stage plan
+
+-- a statement adds what is within its bounds to a plan that is
+added : (stage next : Stage) (plan : CellPlan) (statement : Statement) → IsLawful statement →
+    IsAt stage plan → next_stage stage statement ≡ Some next →
+    IsAt next (with_statement plan statement)
+added stage next plan (statements.Cell cell) is before e = record {
+  parts = record {
+    cell = is;
+    link = before.parts.link;
+    sync = before.parts.sync;
+    linked = before.parts.linked;
+  };
+  channels = channels_cell stage next plan cell before.channels e;
+}
+added stage next plan (statements.Link link) is before e = record {
+  parts = record {
+    cell = before.parts.cell;
+    link = is.0;
+    sync = before.parts.sync;
+    linked = is.1;
+  };
+  channels = channels_link stage next plan link before.channels e;
+}
+added stage next plan (statements.Pilot pilot) is before e = record {
+  parts = record {
+    cell = before.parts.cell;
+    link = before.parts.link;
+    sync = before.parts.sync;
+    linked = before.parts.linked;
+  };
+  channels = channels_pilot stage next plan pilot before.channels e;
+}
+added stage next plan (statements.Sync sync) is before e = record {
+  parts = record {
+    cell = before.parts.cell;
+    link = before.parts.link;
+    sync = is;
+    linked = before.parts.linked;
+  };
+  channels = channels_sync stage next plan sync before.channels e;
+}
+added stage next plan (statements.Paging line) is before e = record {
+  parts = record {
+    cell = before.parts.cell;
+    link = before.parts.link;
+    sync = before.parts.sync;
+    linked = before.parts.linked;
+  };
+  channels = channels_paging stage next plan line is before.channels e;
+}
+added stage next plan (statements.Page page) is before e = record {
+  parts = record {
+    cell = before.parts.cell;
+    link = before.parts.link;
+    sync = before.parts.sync;
+    linked = before.parts.linked;
+  };
+  channels = channels_page stage next plan page is before.channels e;
+}
 
 -- ---- the draft behind a line
 
-mapped : {A B : Type 0} (f : A → B) (o : Option A) (y : B) → option_map f o ≡ Some y →
-    (x : A) × (o ≡ Some x) × (f x ≡ y)
-mapped f None y e = absurd (cc e)
-mapped f (Some x) y e = (x, refl, cc e)
-
 abbrev Said : Draft → Type 0
-Said draft = HasSaid draft.plan
+Said draft = IsAt draft.stage draft.plan
 
--- a line adds what is within its bounds to a plan that is
-added : (stage : Stage) (plan : CellPlan) (next : Draft) (text : List ℕ) → HasSaid plan →
-    with_statement stage plan text ≡ Some next → HasSaid next.plan
-added Cell plan next text is e =
-    let told = mapped (λ cell. record { stage = Link; plan = record plan { cell = cell } })
-    (cell_in text) next e in
-    let said = is.lawful in
-    let cell = cell_bounds text told.0 told.1 in
-    subst Said told.2
-    (record {
-      lawful = record { cell = cell; link = said.link; sync = said.sync; paging = said.paging };
-      linked = is.linked;
-    })
-added Link plan next text is e =
-    let told = mapped (λ link. record { stage = Pilot; plan = record plan { link = link } })
-    (link_in text) next e in
-    let said = is.lawful in
-    let link = link_bounds text told.0 told.1 in
-    subst Said told.2
-    (record {
-      lawful = record { cell = said.cell; link = link.0; sync = said.sync; paging = said.paging };
-      linked = link.1;
-    })
-added Pilot plan next text is e =
-    let told = mapped (λ pilot. record { stage = Sync; plan = record plan { pilot = pilot } })
-    (pilot_in text) next e in
-    let said = is.lawful in
-    subst Said told.2
-    (record {
-      lawful = record {
-        cell = said.cell;
-        link = said.link;
-        sync = said.sync;
-        paging = said.paging;
-      };
-      linked = is.linked;
-    })
-added Sync plan next text is e =
-    let told = mapped (λ sync. record { stage = End; plan = record plan { sync = Some sync } })
-    (sync_in text) next e in
-    let said = is.lawful in
-    let sync = sync_bounds text told.0 told.1 in
-    subst Said told.2
-    (record {
-      lawful = record { cell = said.cell; link = said.link; sync = sync; paging = said.paging };
-      linked = is.linked;
-    })
-added End plan next text is e = absurd (cc e)
+next_said : (draft next : Draft) (statement : Statement) (stage : Option Stage) →
+    next_stage draft.stage statement ≡ stage → IsLawful statement → Said draft →
+    option_map (draft_at (with_statement draft.plan statement)) stage ≡ Some next → Said next
+next_said draft next statement None after is said e = absurd (cc e)
+next_said draft next statement (Some stage) after is said e =
+    let behind : Draft = draft_at (with_statement draft.plan statement) stage in
+    let here : Said behind = added draft.stage stage draft.plan statement is said after in
+    subst Said (same_Some behind next e) here
 
-draft_said : (draft next : Draft) (line : List ℕ) → HasSaid draft.plan →
-    draft_after draft line ≡ Some next → HasSaid next.plan
+text_said : (draft next : Draft) (text : List ℕ) (read : Option Statement) →
+    statement_in text ≡ read → Said draft →
+    option_and_then (with_next draft) read ≡ Some next → Said next
+unfolding with_next
+text_said draft next text None is said e = absurd (cc e)
+text_said draft next text (Some statement) is said e =
+    next_said draft next statement (next_stage draft.stage statement) refl
+    (line_bounds text statement is) said e
+
+draft_said : (draft next : Draft) (line : List ℕ) → Said draft →
+    draft_after draft line ≡ Some next → Said next
 unfolding draft_after with_line
-draft_said draft next line is e =
+draft_said draft next line said e =
     let text = take (length line - 1) line in
-    added draft.stage draft.plan next text is (passed (is_line line) (with_line draft text) next e)
+    text_said draft next text (statement_in text) refl said
+    (passed (is_line line) (with_line draft text) next e)
 
 -- ---- the plan that lines state
 
-plan_said : (stage : Stage) (n : ℕ) (said plan : CellPlan) → HasSaid said →
-    ok_or (plan_behind stage said) n ≡ Ok plan → HasSaid plan
+whole : (plan : CellPlan) → HasParts plan →
+    All (IsStatedPaging (paging_rate plan.sync)) plan.paging → HasSaid plan
+whole plan parts are = record {
+  lawful = record { cell = parts.cell; link = parts.link; sync = parts.sync; paging = are };
+  linked = parts.linked;
+}
+
+at_rate : (rate : Rate) (plan : CellPlan) → paging_rate plan.sync ≡ rate →
+    All (IsStatedPaging rate) plan.paging →
+    All (IsStatedPaging (paging_rate plan.sync)) plan.paging
+at_rate rate plan is are = subst (λ (r : Rate). All (IsStatedPaging r) plan.paging) (sym is) are
+
+plan_said : (stage : Stage) (n : ℕ) (said plan : CellPlan) → IsAt stage said →
+    ok_or (plan_at (draft_at said stage)) n ≡ Ok plan → HasSaid plan
 plan_said Cell n said plan is e = absurd (cc e)
 plan_said Link n said plan is e = absurd (cc e)
 plan_said Pilot n said plan is e = absurd (cc e)
-plan_said Sync n said plan is e = subst HasSaid (cc e) is
-plan_said End n said plan is e = subst HasSaid (cc e) is
+plan_said Sync n said plan is e =
+    subst HasSaid (cc e)
+    (whole said is.parts (no_channels (paging_rate said.sync) said is.channels))
+plan_said (Paging rate) n said plan is e =
+    subst HasSaid (cc e)
+    (whole said is.parts (no_channels (paging_rate said.sync) said is.channels.0))
+plan_said (FirstPage rate) n said plan is e = absurd (cc e)
+plan_said (Pages rate count) n said plan is e =
+    let are = at_rate rate said is.channels.0.rate_is (closed rate count said is.channels) in
+    subst HasSaid (cc e) (whole said is.parts are)
+plan_said End n said plan is e =
+    subst HasSaid (cc e)
+    (whole said is.parts (no_channels (paging_rate said.sync) said is.channels))
 
 line_step : (draft : Draft) (n : ℕ) (line : List ℕ) (more : List (List ℕ)) (plan : CellPlan)
     (next : Option Draft) →
-    draft_after draft line ≡ next → HasSaid draft.plan →
-    ((s : Draft) → HasSaid s.plan → stated s (n + 1) more ≡ Ok plan → HasSaid plan) →
+    draft_after draft line ≡ next → Said draft →
+    ((s : Draft) → Said s → stated s (n + 1) more ≡ Ok plan → HasSaid plan) →
     stated draft n (line ∷ more) ≡ Ok plan → HasSaid plan
 line_step draft n line more plan None after is rest e =
     absurd (cc (stated-fault draft n line more after, e))
@@ -115,7 +441,7 @@ line_step draft n line more plan (Some next) after is rest e =
     rest next (draft_said draft next line is after)
     (sym (stated-next draft next n line more after) ∙ e)
 
-lines_said : (draft : Draft) (n : ℕ) (ls : List (List ℕ)) (plan : CellPlan) → HasSaid draft.plan →
+lines_said : (draft : Draft) (n : ℕ) (ls : List (List ℕ)) (plan : CellPlan) → Said draft →
     stated draft n ls ≡ Ok plan → HasSaid plan
 lines_said draft n [] plan is e =
     plan_said draft.stage n draft.plan plan is (sym (stated-none draft n) ∙ e)
@@ -123,18 +449,19 @@ lines_said draft n (line ∷ more) plan is e =
     line_step draft n line more plan (draft_after draft line) refl is
     (λ s said told. lines_said s (n + 1) more plan said told) e
 
-empty_said : HasSaid empty_plan
+empty_said : Said empty_draft
 empty_said = record {
-  lawful = record {
+  parts = record {
     cell = record { pn = omega arith; time = omega arith; lc = (omega arith, omega arith) };
     link = record { in_phase = omega arith; quadrature = omega arith; start = omega arith };
     sync = tt;
-    paging = refl;
+    linked = omega arith;
   };
-  linked = omega arith;
+  channels = refl;
 }
 
-stated_said : (script : List ℕ) (plan : CellPlan) → stated_plan script ≡ Ok plan → HasSaid plan
+-- what the lines of a script state is within its bounds
+pub stated_said : (script : List ℕ) (plan : CellPlan) → stated_plan script ≡ Ok plan → HasSaid plan
 unfolding stated_plan
 stated_said script plan e = lines_said empty_draft 1 (lines script) plan empty_said e
 
@@ -151,6 +478,10 @@ failed : (test : Bool) (fault : ScriptFault) (later : Option ScriptFault) →
 failed true fault later e = absurd (cc e)
 failed false fault later e = (refl, e)
 
+no_row : (fault : ℕ → ScriptFault) (row : Option ℕ) → option_map fault row ≡ None → row ≡ None
+no_row fault None e = refl
+no_row fault (Some row) e = absurd (cc e)
+
 -- no gain is 0
 some_gain : (gain : ℕ) → (gain == 0) ≡ false → 0 < gain
 some_gain zero e = absurd (cc e)
@@ -166,10 +497,19 @@ sync_gains (Some sync) said e =
 lawful : (width : Width) (plan : CellPlan) → IsStatedPlan plan → plan_fault width plan ≡ None →
     IsLawfulPlan width plan
 lawful width plan said e =
-    let gain = neither (gain_fault plan)
-    (option_or (loud_fault width plan) (long_fault width plan)) e in
-    let size = neither (loud_fault width plan) (long_fault width plan) gain.1 in
-    let gains = failed (plan.pilot.gain == 0) _ (sync_gain_fault plan.sync) gain.0 in
+    let ls = paging_lines plan.paging in
+    let rate = paging_rate plan.sync in
+    let rows = neither (walsh_fault (repeated ls))
+    (option_or (gain_fault plan.pilot plan.sync (silent ls))
+    (option_or (loud_fault width (loudness plan)) (long_fault width plan.link.samples))) e in
+    let gain = neither (gain_fault plan.pilot plan.sync (silent ls))
+    (option_or (loud_fault width (loudness plan)) (long_fault width plan.link.samples)) rows.1 in
+    let size = neither (loud_fault width (loudness plan)) (long_fault width plan.link.samples)
+    gain.1 in
+    let pilot = failed (plan.pilot.gain == 0) (Gain 0)
+    (option_or (sync_gain_fault plan.sync) (option_map Gain (silent ls))) gain.0 in
+    let gains = neither (sync_gain_fault plan.sync) (option_map Gain (silent ls)) pilot.1 in
+    let own = have_own_numbers plan.paging (no_row Walsh (repeated ls) rows.0) in
     record {
       pn = said.cell.pn;
       time = said.cell.time;
@@ -177,11 +517,11 @@ lawful width plan said e =
       start = said.link.start;
       samples = ltb-false (most_samples width) plan.link.samples
           (failed (nat_lt (most_samples width) plan.link.samples) _ None size.1).0;
-      pilot = some_gain plan.pilot.gain gains.0;
-      sync = sync_gains plan.sync said.sync gains.1;
-      few = omega (arith, ap length said.paging);
-      paging = rw said.paging (All-nil (IsPagingPlan (paging_rate plan.sync)));
-      apart = rw said.paging tt;
+      pilot = some_gain plan.pilot.gain pilot.0;
+      sync = sync_gains plan.sync said.sync gains.0;
+      few = few_channels rate plan.paging said.paging own;
+      paging = some_gains rate plan.paging said.paging (no_row Gain (silent ls) gains.1);
+      apart = own;
       loud = ltb-false (most_part width) (loudness plan)
           (failed (nat_lt (most_part width) (loudness plan)) _ None size.0).0;
     }

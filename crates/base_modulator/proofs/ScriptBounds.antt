@@ -1,10 +1,12 @@
 -- What the statements of a script say is within its bounds.
 use Rattle.std.proofs.Common.{◌≡◌, ℕ, zero, suc, ◌+◌, ◌*◌, ◌^◌, ◌<◌, ◌≤◌, Bool, true, false, cond}
-use Rattle.std.proofs.Common.{List, [], ◌∷◌, length, get_or, refl, subst, arith, ℤ, unsigned_abs}
+use Rattle.std.proofs.Common.{List, [], ◌∷◌, length, get_or, refl, sym, subst, ◌∙◌, arith, ℤ}
+use Rattle.std.proofs.Common.{unsigned_abs}
 use Rattle.std.proofs.Common.{Option, None, Some, IfSome}
 use Rattle.std.specs.Prelude.{codes, nat_le, nat_lt, ◌==◌, option_and_then, option_map, FitsSigned}
 use Rattle.std.specs.Int.{w16}
-use Rattle.std.proofs.lemmas.Bool.{and_parts, eqb-false, leb-true, ltb-true}
+use Rattle.std.proofs.lemmas.Bool.{and_parts, cond-false, cond-true, eqb-false, leb-true}
+use Rattle.std.proofs.lemmas.Bool.{ltb-true}
 use Rattle.std.proofs.lemmas.Int.{ints}
 use Rattle.std.proofs.lemmas.Option.{cond_some, same_Some}
 use Rattle.chip_core.specs.Complex.{norm}
@@ -20,11 +22,21 @@ use Rattle.base_modulator.specs.ScriptFields.{NumberRow, AreUpTo, at_end, field,
 use Rattle.base_modulator.specs.ScriptFields.{value_of}
 use Rattle.base_modulator.specs.ScriptLines.{cell_in, cell_line, freq_in, has_lawful_rest, is_link}
 use Rattle.base_modulator.specs.ScriptLines.{link_in, link_line, sync_behind, sync_fields, sync_in}
-use Rattle.base_modulator.specs.ScriptLines.{lawful_message, sync_table}
-use Rattle.base_modulator.specs.ScriptPlans.{IsStatedCell, IsStatedLink}
+use Rattle.base_modulator.specs.ScriptLines.{lawful_message, lawful_page, page_in, page_key}
+use Rattle.base_modulator.specs.ScriptLines.{page_with, paging_in, paging_line, pilot_in}
+use Rattle.base_modulator.specs.ScriptLines.{statement_in, sync_table}
+use Rattle.base_modulator.specs.declared.plan.Page.{Page}
+use Rattle.base_modulator.specs.declared.script.statements.PagingLine.{PagingLine}
+use Rattle.base_modulator.specs.declared.script.statements.Statement.{Statement}
+use Rattle.base_modulator.specs.declared.script.statements.Statement.TheVariants as statements
+use Rattle.paging_message.specs.Reading.{is_body}
+use Rattle.quality_bits.specs.Capsules.{FillsCapsule}
+use Rattle.quality_bits.specs.declared.kind.Kind.TheVariants.{M30}
+use Rattle.base_modulator.specs.ScriptPlans.{IsLawful, IsStatedCell, IsStatedLink}
 use Rattle.base_modulator.specs.ScriptValues.{as_state, begins_with, bits_in, hex_from, number_in}
 use Rattle.base_modulator.specs.ScriptValues.{number_up_to, signed_in, state_in, up_to}
 use Rattle.base_modulator.proofs.ScriptMessages.{is_tail}
+use Rattle.base_modulator.proofs.ScriptPages.{body_fills}
 use Rattle.base_modulator.proofs.ScriptNumerals.{one_signed_numeral}
 
 -- ---- steps that may fail
@@ -267,3 +279,80 @@ unfolding sync_in
 sync_bounds text =
     both_steps (numbers_in sync_table _) _ λ numbers numbers_is sync e.
     behind_bounds numbers _ sync (numbers_up_to sync_table _ numbers numbers_is) e
+
+-- ---- paging channels and pages
+
+abbrev PagingBounds : PagingLine → Type 0
+PagingBounds line = (1 ≤ line.number) × (line.number ≤ 7)
+
+abbrev given : ℕ → ℕ → PagingLine
+given number gain = record { number = number; gain = gain }
+
+paging_some : (number gain : ℕ) (line : PagingLine) (none : Bool) → (number == 0) ≡ none →
+    number ≤ 7 → paging_line number gain ≡ Some line → PagingBounds line
+paging_some number gain line true e small is =
+    absurd (cc (cond-true (number == 0) None (Some (given number gain)) e, is))
+paging_some number gain line false e small is =
+    let same : given number gain ≡ line =
+    same_Some (given number gain) line
+    (sym (cond-false (number == 0) None (Some (given number gain)) e) ∙ is) in
+    let other : ¬ (number ≡ 0) = eqb-false number 0 e in
+    subst PagingBounds same (omega (arith, other), small)
+
+pub paging_bounds : (text : List ℕ) (line : PagingLine) → paging_in text ≡ Some line →
+    (1 ≤ line.number) × (line.number ≤ 7)
+unfolding paging_in
+paging_bounds text =
+    both_steps (field (codes "paging channel=") (number_up_to 7) _) _ λ number number_is.
+    both_steps (field (codes " gain=") (number_up_to 65535) _) _ λ gain gain_is.
+    both_steps (paging_line number gain) _ λ line line_is all e.
+    subst PagingBounds (ended _ line all e)
+    (paging_some number gain line (number == 0) refl (number_field _ 7 _ number number_is) line_is)
+
+abbrev PageBounds : Page → Type 0
+PageBounds page = FillsCapsule M30 page.body
+
+page_some : (follows : Bool) (body : List Bool) (page : Page) →
+    lawful_page follows body ≡ Some page → PageBounds page
+page_some follows body page e =
+    let told = cond_some (is_body body) (record { follows = follows; body = body }) page e in
+    subst PageBounds told.1 (body_fills body told.0)
+
+page_with_bounds : (follows : Bool) (text : List ℕ) (page : Page) →
+    page_with follows text ≡ Some page → PageBounds page
+page_with_bounds follows text =
+    both_steps (field (page_key follows) bits_in _) _ λ body body_is.
+    both_steps (lawful_page follows body) _ λ page page_is all e.
+    subst PageBounds (ended _ page all e) (page_some follows body page page_is)
+
+pub page_bounds : (text : List ℕ) (page : Page) → page_in text ≡ Some page →
+    FillsCapsule M30 page.body
+unfolding page_in
+page_bounds text = page_with_bounds (begins_with text (codes "page next ")) text
+
+-- ---- any line
+
+step_told : {A : Type 0} (f : A → Statement) (read : Option A) (test : Bool)
+    (other : Option Statement) (statement : Statement) →
+    ((x : A) → read ≡ Some x → IsLawful (f x)) → (other ≡ Some statement → IsLawful statement) →
+    cond test (option_map f read) other ≡ Some statement → IsLawful statement
+step_told f (Some x) true other statement here rest e =
+    subst IsLawful (same_Some (f x) statement e) (here x refl)
+step_told f None true other statement here rest e = absurd (cc e)
+step_told f read false other statement here rest e = rest e
+
+no_line : (statement : Statement) → None ≡ Some statement → IsLawful statement
+no_line statement e = absurd (cc e)
+
+-- what a line states is within its bounds
+pub line_bounds : (text : List ℕ) (statement : Statement) → statement_in text ≡ Some statement →
+    IsLawful statement
+unfolding statement_in
+line_bounds text statement =
+    step_told statements.Cell (cell_in text) _ _ statement (cell_bounds text)
+    (step_told statements.Link (link_in text) _ _ statement (link_bounds text)
+    (step_told statements.Pilot (pilot_in text) _ _ statement (λ pilot is. tt)
+    (step_told statements.Sync (sync_in text) _ _ statement (sync_bounds text)
+    (step_told statements.Paging (paging_in text) _ _ statement (paging_bounds text)
+    (step_told statements.Page (page_in text) _ None statement (page_bounds text)
+    (no_line statement))))))

@@ -4,25 +4,35 @@ use Rattle.std.proofs.Common.{◌≡◌, ◌≢◌, ℕ, zero, suc, ◌+◌, ◌
 use Rattle.std.proofs.Common.{List, [], ◌∷◌, ◌++◌, length, take, refl, sym, ap, ◌∙◌, arith}
 use Rattle.std.proofs.Common.{append_assoc, Option, None, Some, Result, Ok, Err, IsOk}
 use Rattle.std.specs.Option.{option_or}
-use Rattle.std.specs.Prelude.{codes, nat_lt, ok_or, ◌↔◌}
+use Rattle.std.specs.Prelude.{codes, nat_lt, ok_or, option_map, ◌↔◌}
 use Rattle.std.proofs.lemmas.List.{take_at, length-take-le}
-use Rattle.base_modulator.specs.declared.plan.CellPlan.{CellPlan}
-use Rattle.base_modulator.specs.declared.script.draft.Draft.{Draft}
-use Rattle.base_modulator.specs.declared.script.draft.Stage.{Stage}
-use Rattle.base_modulator.specs.declared.script.draft.Stage.TheVariants.{Cell, Link, Pilot, Sync}
-use Rattle.base_modulator.specs.declared.script.draft.Stage.TheVariants.{End}
+use Rattle.chip_core.specs.Bits.{binary}
 use Rattle.chip_core.specs.Decimals.{digits_from}
-use Rattle.base_modulator.specs.ScriptValues.{hex_from, length_before, number_up_to}
-use Rattle.base_modulator.specs.ScriptValues.{signed_in, state_in}
-use Rattle.base_modulator.specs.ScriptFields.{field, past}
-use Rattle.base_modulator.specs.ScriptLines.{cell_in, empty_draft, link_in, with_line, pilot_in}
-use Rattle.base_modulator.specs.ScriptLines.{plan_at}
-use Rattle.base_modulator.specs.Script.{is_line, lines, named, plan_fault, plan_named, draft_after}
-use Rattle.base_modulator.specs.Script.{stated, stated_plan, sync_gain_fault, unless}
+use Rattle.hex.specs.Hex.{decode_pairs}
+use Rattle.paging_message.specs.Admitted.{admits}
+use Rattle.paging_message.specs.HalfFrames.{bits_left}
+use Rattle.paging_message.specs.Laying.{fill}
+use Rattle.paging_message.specs.Reading.{is_body}
+use Rattle.symbol_path.specs.declared.kinds.Rate.{Rate}
+use Rattle.symbol_path.specs.declared.kinds.Rate.TheVariants.{R9600, R4800, R2400, R1200}
+use Rattle.base_modulator.specs.declared.plan.CellPlan.{CellPlan}
 use Rattle.base_modulator.specs.declared.plan.SyncPlan.{SyncPlan}
+use Rattle.base_modulator.specs.declared.script.stage.Stage.{Stage}
+use Rattle.base_modulator.specs.declared.script.stage.Stage.TheVariants.{Cell, Link, Pilot, Sync}
+use Rattle.base_modulator.specs.declared.script.stage.Stage.TheVariants.{Paging, FirstPage, Pages}
+use Rattle.base_modulator.specs.declared.script.stage.Stage.TheVariants.{End}
 use Rattle.base_modulator.specs.declared.script_fault.ScriptFault.{ScriptFault}
-use Rattle.base_modulator.specs.declared.script_fault.ScriptFault.TheVariants.{Line, Gain, TooLoud}
-use Rattle.base_modulator.specs.declared.script_fault.ScriptFault.TheVariants.{TooLong, TooBig}
+use Rattle.base_modulator.specs.declared.script_fault.ScriptFault.TheVariants.{Line, Walsh, Gain}
+use Rattle.base_modulator.specs.declared.script_fault.ScriptFault.TheVariants.{TooLoud, TooLong}
+use Rattle.base_modulator.specs.declared.script_fault.ScriptFault.TheVariants.{TooBig}
+use Rattle.base_modulator.specs.ScriptValues.{bits_in, hex_bits, hex_from, length_before}
+use Rattle.base_modulator.specs.ScriptValues.{number_up_to, signed_in, state_in}
+use Rattle.base_modulator.specs.ScriptFields.{field, past}
+use Rattle.base_modulator.specs.ScriptLines.{cell_in, link_in, page_in, pilot_in, statement_in}
+use Rattle.base_modulator.specs.ScriptStages.{pages_behind}
+use Rattle.base_modulator.specs.ScriptDrafts.{Draft, empty_draft, plan_at, with_line, with_next}
+use Rattle.base_modulator.specs.Script.{draft_after, is_line, lines, named, plan_fault, plan_named}
+use Rattle.base_modulator.specs.Script.{stated, stated_plan, sync_gain_fault, unless}
 use Rattle.cdma_io.specs.declared.width.Width.{Width}
 use Rattle.std.proofs.lemmas.Bool.{cond-true, cond-false, le-ltb, ltb-false}
 use Rattle.base_modulator.proofs.ScriptSplits.{lines-append, draft_after-other, stated-fault}
@@ -39,22 +49,42 @@ link_text = codes "link re=1 im=0 start=0 samples=1" ++ 10 ∷ []
 abbrev pilot_text : List ℕ
 pilot_text = codes "pilot gain=1" ++ 10 ∷ []
 
+-- a page of six octets, which every cycle has room for
+abbrev page_text : List ℕ
+page_text = codes "page half 10:0000" ++ 10 ∷ []
+
 -- lines that complete a script at a stage
 abbrev completion : Stage → List ℕ
 completion Cell = cell_text ++ link_text ++ pilot_text
 completion Link = link_text ++ pilot_text
 completion Pilot = pilot_text
 completion Sync = []
+completion (Paging rate) = []
+completion (FirstPage rate) = page_text
+completion (Pages rate count) = []
 completion End = []
+
+first_page_completed : (rate : Rate) (plan : CellPlan) (n : ℕ) →
+    IsOk (stated (record { stage = FirstPage rate; plan = plan }) n (lines page_text))
+unfolding stated draft_after lines is_line with_line with_next statement_in page_in field past
+    length_before number_up_to digits_from bits_in hex_bits decode_pairs binary is_body admits
+    pages_behind bits_left fill
+first_page_completed R9600 plan n = refl
+first_page_completed R4800 plan n = refl
+first_page_completed R2400 plan n = refl
+first_page_completed R1200 plan n = refl
 
 completed_at : (stage : Stage) (plan : CellPlan) (n : ℕ) →
     IsOk (stated (record { stage = stage; plan = plan }) n (lines (completion stage)))
-unfolding stated draft_after lines is_line with_line cell_in link_in pilot_in field past
-    length_before number_up_to digits_from signed_in state_in hex_from
+unfolding stated draft_after lines is_line with_line with_next statement_in cell_in link_in
+    pilot_in field past length_before number_up_to digits_from signed_in state_in hex_from
 completed_at Cell plan n = refl
 completed_at Link plan n = refl
 completed_at Pilot plan n = refl
 completed_at Sync plan n = refl
+completed_at (Paging rate) plan n = refl
+completed_at (FirstPage rate) plan n = first_page_completed rate plan n
+completed_at (Pages rate count) plan n = refl
 completed_at End plan n = refl
 
 completed : (draft : Draft) (n : ℕ) → IsOk (stated draft n (lines (completion draft.stage)))
@@ -260,15 +290,26 @@ loud_no_line sum n e = cc
 long_no_line : (samples : ℕ) → NoLine (Some (TooLong samples))
 long_no_line samples n e = cc
 
+rows_no_line : (number : Option ℕ) → NoLine (option_map Walsh number)
+rows_no_line None n e = cc
+rows_no_line (Some row) n e = cc
+
+gains_no_line : (number : Option ℕ) → NoLine (option_map Gain number)
+gains_no_line None n e = cc
+gains_no_line (Some row) n e = cc
+
 sync_no_line : (sync : Option SyncPlan) → NoLine (sync_gain_fault sync)
 sync_no_line None = none_no_line
 sync_no_line (Some sync) = no_line_if _ _ _ (gain_no_line 32) none_no_line
 
 plan_no_line : (width : Width) (plan : CellPlan) → NoLine (plan_fault width plan)
 plan_no_line width plan =
-    no_line_first _ _ (no_line_if _ _ _ (gain_no_line 0) (sync_no_line plan.sync))
+    no_line_first _ _ (rows_no_line _)
+    (no_line_first _ _
+    (no_line_if _ _ _ (gain_no_line 0)
+    (no_line_first _ _ (sync_no_line plan.sync) (gains_no_line _)))
     (no_line_first _ _ (no_line_if _ _ _ (loud_no_line _) none_no_line)
-    (no_line_if _ _ _ (long_no_line _) none_no_line))
+    (no_line_if _ _ _ (long_no_line _) none_no_line)))
 
 unless_line : (plan : CellPlan) (fault : Option ScriptFault) (n : ℕ) → NoLine fault →
     ¬ (unless plan fault ≡ Err (Line n))

@@ -7,9 +7,8 @@ use Rattle.std.specs.Prelude.{ok_or}
 use Rattle.std.proofs.lemmas.Bool.{cond-true, cond-false, eqb-true, false≢true}
 use Rattle.std.proofs.lemmas.List.{take-append-drop, take_all, length-drop, length-take-le}
 use Rattle.base_modulator.specs.declared.plan.CellPlan.{CellPlan}
-use Rattle.base_modulator.specs.declared.script.draft.Draft.{Draft}
 use Rattle.base_modulator.specs.ScriptValues.{length_before}
-use Rattle.base_modulator.specs.ScriptLines.{with_line, plan_at}
+use Rattle.base_modulator.specs.ScriptDrafts.{Draft, plan_at, with_line}
 use Rattle.base_modulator.specs.Script.{is_line, lines, onto_first, draft_after, stated}
 use Rattle.base_modulator.specs.Script.{stated_plan}
 

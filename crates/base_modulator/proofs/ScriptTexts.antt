@@ -1,10 +1,9 @@
 -- Lemmas on the texts of values in a script: what each step of a loop over a text reads.
-use Rattle.std.proofs.Common.{◌≡◌, ◌≢◌, ℕ, suc, ◌+◌, ◌*◌, ◌-◌, ◌^◌, ◌<◌, ◌≤◌, ◌==◌, Bool, true}
+use Rattle.std.proofs.Common.{◌≡◌, ◌≢◌, ℕ, suc, ◌+◌, ◌*◌, ◌^◌, ◌<◌, ◌≤◌, ◌==◌, Bool, true}
 use Rattle.std.proofs.Common.{false, List, [], ◌∷◌, ◌++◌, length, get_or, drop, refl, sym, ap, ◌∙◌}
 use Rattle.std.proofs.Common.{arith, append_assoc, length-append, None, Some}
 use Rattle.std.specs.Prelude.{flat_map, option_and_then}
-use Rattle.std.specs.Char.{is_ascii_digit}
-use Rattle.std.proofs.lemmas.Bool.{cond-true, cond-false, eq-eqb, eqb-true}
+use Rattle.std.proofs.lemmas.Bool.{cond-true, cond-false, eq-eqb, eqb-false, eqb-true}
 use Rattle.std.proofs.lemmas.List.{at_drop_more, drop_all}
 use Rattle.std.proofs.Math.Nat.{pow-le-pow_right, pow-suc}
 use Rattle.chip_core.specs.Bits.{binary}
@@ -30,6 +29,19 @@ before-other mark byte bytes other = cond-false _ _ _ (differs (byte == mark) re
 before-none : (mark : ℕ) → length_before mark [] ≡ 0
 unfolding length_before
 before-none mark = refl
+
+pub before_most : (mark : ℕ) (text : List ℕ) → length_before mark text ≤ length text
+before_most mark [] = omega (arith, before-none mark)
+before_most mark (byte ∷ bytes) = before_step mark byte bytes (byte == mark) refl
+    (before_most mark bytes)
+  where
+    before_step : (mark byte : ℕ) (bytes : List ℕ) (is : Bool) → (byte == mark) ≡ is →
+        length_before mark bytes ≤ length bytes →
+        length_before mark (byte ∷ bytes) ≤ length (byte ∷ bytes)
+    before_step mark byte bytes true is rest =
+        omega (arith, before-mark mark byte bytes (eqb-true byte mark is))
+    before_step mark byte bytes false is rest =
+        omega (arith, rest, before-other mark byte bytes (eqb-false byte mark is))
 
 -- the mark is found
 pub mark_found : (mark : ℕ) (text : List ℕ) (k : ℕ) → k < length text → get_or text k 0 ≡ mark →

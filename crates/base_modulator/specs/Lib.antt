@@ -10,9 +10,13 @@ pub mod Sendings
 pub mod Signal
 pub mod Transmitter
 mod Worked
+pub mod ScriptDrafts
 pub mod ScriptFields
+pub mod ScriptJudged
 pub mod ScriptLines
 pub mod ScriptPlans
+pub mod ScriptSplitting
+pub mod ScriptStages
 pub mod ScriptValues
 mod ScriptWorked
 pub mod Sampled

@@ -1,17 +1,21 @@
 -- Scripts: the plan that a script states, and the first fault of one that states none.
-use Rattle.std.specs.Prelude.{ℕ, ◌+◌, ◌-◌, ◌==◌, nat_lt, Bool, false, if◌then◌else◌, List, [], ◌∷◌}
-use Rattle.std.specs.Prelude.{length, take, Option, None, Some, Result, Ok, Err, ok_or}
+use Rattle.std.specs.Prelude.{ℕ, ◌+◌, ◌-◌, ◌==◌, nat_lt, Bool, true, false, if◌then◌else◌, List, []}
+use Rattle.std.specs.Prelude.{◌∷◌, ◌++◌, length, map, take, Option, None, Some, Result, Ok, Err}
+use Rattle.std.specs.Prelude.{ok_or, option_map}
 use Rattle.std.specs.Option.{option_map_or, option_or}
 use Rattle.cdma_io.specs.SampleFile.{most_samples}
 use Rattle.cdma_io.specs.declared.width.Width.{Width}
 use Rattle.base_modulator.specs.declared.plan.CellPlan.{CellPlan}
+use Rattle.base_modulator.specs.declared.plan.PagingPlan.{PagingPlan}
+use Rattle.base_modulator.specs.declared.plan.PilotPlan.{PilotPlan}
 use Rattle.base_modulator.specs.declared.plan.SyncPlan.{SyncPlan}
-use Rattle.base_modulator.specs.declared.script.draft.Draft.{Draft}
+use Rattle.base_modulator.specs.declared.script.statements.PagingLine.{PagingLine}
 use Rattle.base_modulator.specs.declared.script_fault.ScriptFault.{ScriptFault}
-use Rattle.base_modulator.specs.declared.script_fault.ScriptFault.TheVariants.{Line, Gain, TooLoud}
-use Rattle.base_modulator.specs.declared.script_fault.ScriptFault.TheVariants.{TooLong, TooBig}
+use Rattle.base_modulator.specs.declared.script_fault.ScriptFault.TheVariants.{Line, Walsh, Gain}
+use Rattle.base_modulator.specs.declared.script_fault.ScriptFault.TheVariants.{TooLoud, TooLong}
+use Rattle.base_modulator.specs.declared.script_fault.ScriptFault.TheVariants.{TooBig}
 use Rattle.base_modulator.specs.Plan.{loudness, most_part}
-use Rattle.base_modulator.specs.ScriptLines.{empty_draft, plan_at, with_line}
+use Rattle.base_modulator.specs.ScriptDrafts.{Draft, empty_draft, plan_at, with_line}
 
 -- ---- lines
 
@@ -49,25 +53,57 @@ stated_plan script = stated empty_draft 1 (lines script)
 
 -- ---- faults of a plan
 
+-- what stood in the line of each paging channel
+abbrev pub line_of : PagingPlan → PagingLine
+line_of p = record { number = p.number; gain = p.gain }
+
+abbrev pub paging_lines : List PagingPlan → List PagingLine
+paging_lines paging = map line_of paging
+
+abbrev pub is_used : ℕ → List PagingLine → Bool
+is_used number [] = false
+is_used number (l ∷ ls) = if l.number == number then true else is_used number ls
+
+-- the first number that one of the channels before has
+abbrev pub repeated_behind : List PagingLine → List PagingLine → Option ℕ
+repeated_behind before [] = None
+repeated_behind before (l ∷ ls) =
+    if is_used l.number before then Some l.number else repeated_behind (before ++ l ∷ []) ls
+
+abbrev pub repeated : List PagingLine → Option ℕ
+repeated ls = repeated_behind [] ls
+
+-- the number of the first channel whose gain is 0
+abbrev pub silent : List PagingLine → Option ℕ
+silent [] = None
+silent (l ∷ ls) = if l.gain == 0 then Some l.number else silent ls
+
+abbrev pub walsh_fault : Option ℕ → Option ScriptFault
+walsh_fault number = option_map Walsh number
+
 abbrev pub sync_gain_fault : Option SyncPlan → Option ScriptFault
 sync_gain_fault None = None
 sync_gain_fault (Some sync) = if sync.gain == 0 then Some (Gain 32) else None
 
-abbrev pub gain_fault : CellPlan → Option ScriptFault
-gain_fault plan = if plan.pilot.gain == 0 then Some (Gain 0) else sync_gain_fault plan.sync
+-- the first gain of 0: the pilot's, the sync channel's, or that of a paging channel of this number
+abbrev pub gain_fault : PilotPlan → Option SyncPlan → Option ℕ → Option ScriptFault
+gain_fault pilot sync number =
+    if pilot.gain == 0 then Some (Gain 0)
+    else option_or (sync_gain_fault sync) (option_map Gain number)
 
-abbrev pub loud_fault : Width → CellPlan → Option ScriptFault
-loud_fault width plan =
-    if nat_lt (most_part width) (loudness plan) then Some (TooLoud (loudness plan)) else None
+abbrev pub loud_fault : Width → ℕ → Option ScriptFault
+loud_fault width sum = if nat_lt (most_part width) sum then Some (TooLoud sum) else None
 
-abbrev pub long_fault : Width → CellPlan → Option ScriptFault
-long_fault width plan =
-    if nat_lt (most_samples width) plan.link.samples then Some (TooLong plan.link.samples) else None
+abbrev pub long_fault : Width → ℕ → Option ScriptFault
+long_fault width samples =
+    if nat_lt (most_samples width) samples then Some (TooLong samples) else None
 
--- the first fault: of the gains, then of the loudness, then of the length
+-- the first fault: of the Walsh rows, of the gains, of the loudness, and of the length
 abbrev pub plan_fault : Width → CellPlan → Option ScriptFault
 plan_fault width plan =
-    option_or (gain_fault plan) (option_or (loud_fault width plan) (long_fault width plan))
+    option_or (walsh_fault (repeated (paging_lines plan.paging)))
+    (option_or (gain_fault plan.pilot plan.sync (silent (paging_lines plan.paging)))
+    (option_or (loud_fault width (loudness plan)) (long_fault width plan.link.samples)))
 
 -- ---- what a script names
 

@@ -1,22 +1,21 @@
--- The lines of a script: what each kind of statement says, and which statements may follow one
--- another.
+-- The lines of a script: what each kind of statement says, whatever stands before it.
 use Rattle.std.specs.Prelude.{ℕ, ◌+◌, ◌/◌, ◌%◌, ◌==◌, nat_le, nat_lt, Bool, false, if◌then◌else◌}
 use Rattle.std.specs.Prelude.{◌&&◌, List, [], ◌∷◌, length, get_or, codes, Option, None, Some, ℤ}
-use Rattle.std.specs.Prelude.{pos, unsigned_abs, option_map, ◌++◌, ◌-◌, ◌^◌}
+use Rattle.std.specs.Prelude.{unsigned_abs, option_map, ◌++◌, ◌-◌, ◌^◌}
 use Rattle.chip_core.specs.declared.check_form.CheckForm.{CheckForm}
 use Rattle.chip_core.specs.declared.check_form.CheckForm.TheVariants.{Plain, Complemented}
 use Rattle.chip_core.specs.declared.sample.Pair.{Pair}
+use Rattle.paging_message.specs.Reading.{is_body}
 use Rattle.sync_message.specs.Rows.{freq_row, sync_names, sync_widths}
 use Rattle.sync_message.specs.declared.fields.SyncFields.{SyncFields}
-use Rattle.base_modulator.specs.declared.plan.CellPlan.{CellPlan}
 use Rattle.base_modulator.specs.declared.plan.PilotPlan.{PilotPlan}
 use Rattle.base_modulator.specs.declared.plan.SyncPlan.{SyncPlan}
 use Rattle.base_modulator.specs.declared.plan.CellIdentity.{CellIdentity}
 use Rattle.base_modulator.specs.declared.plan.LinkPlan.{LinkPlan}
-use Rattle.base_modulator.specs.declared.script.draft.Draft.{Draft}
-use Rattle.base_modulator.specs.declared.script.draft.Stage.{Stage}
-use Rattle.base_modulator.specs.declared.script.draft.Stage.TheVariants.{Cell, Link, Pilot, Sync}
-use Rattle.base_modulator.specs.declared.script.draft.Stage.TheVariants.{End}
+use Rattle.base_modulator.specs.declared.plan.Page.{Page}
+use Rattle.base_modulator.specs.declared.script.statements.PagingLine.{PagingLine}
+use Rattle.base_modulator.specs.declared.script.statements.Statement.{Statement}
+use Rattle.base_modulator.specs.declared.script.statements.Statement.TheVariants as statements
 use Rattle.base_modulator.specs.ScriptFields.{NumberRow, ◌>>=◌, at_end, field, numbers_in, past}
 use Rattle.base_modulator.specs.ScriptFields.{past_numbers, row}
 use Rattle.base_modulator.specs.ScriptValues.{begins_with, bits_in, number_up_to, signed_in}
@@ -160,46 +159,51 @@ unfoldable pub sync_in : List ℕ → Option SyncPlan
 sync_in text =
     numbers_in sync_table text >>= (λ numbers. sync_behind numbers (past_numbers sync_table text))
 
--- ---- which statement stands where
+-- `paging channel=C gain=G`: C isn't 0
+abbrev pub paging_line : ℕ → ℕ → Option PagingLine
+paging_line number gain = if number == 0 then None else Some (record {
+  number = number;
+  gain = gain;
+})
 
--- what stands for the parts of a plan that weren't stated yet
-abbrev pub empty_plan : CellPlan
-empty_plan = record {
-  cell = record { pn = 0; time = 0; lc = 1; check30 = Plain; check16 = Plain };
-  link = record { factor = record { i = pos 1; q = pos 0 }; start = 0; samples = 1 };
-  pilot = record { gain = 1 };
-  sync = None;
-  paging = [];
-}
+unfoldable pub paging_in : List ℕ → Option PagingLine
+paging_in text0 =
+    let text1 = past (codes "paging channel=") text0 in
+    let text2 = past (codes " gain=") text1 in
+    do
+      number ← field (codes "paging channel=") (number_up_to 7) text0
+      gain ← field (codes " gain=") (number_up_to 65535) text1
+      line ← paging_line number gain
+      at_end text2 line
 
-abbrev pub empty_draft : Draft
-empty_draft = record { stage = Cell; plan = empty_plan }
+-- `page half BITS` or `page next BITS`: the bits are the body of a paging message
 
--- The draft behind a line's text; None where the line can't stand next. Each statement adds the
--- part of the plan that it states.
-abbrev pub with_statement : Stage → CellPlan → List ℕ → Option Draft
-with_statement Cell plan text =
-    option_map (λ cell. record { stage = Link; plan = record plan { cell = cell } }) (cell_in text)
-with_statement Link plan text =
-    option_map (λ link. record { stage = Pilot; plan = record plan { link = link } }) (link_in text)
-with_statement Pilot plan text =
-    option_map (λ pilot. record { stage = Sync; plan = record plan { pilot = pilot } })
-    (pilot_in text)
-with_statement Sync plan text =
-    option_map (λ sync. record { stage = End; plan = record plan { sync = Some sync } })
-    (sync_in text)
-with_statement End plan text = None
+-- what stands before the bits
+abbrev pub page_key : Bool → List ℕ
+page_key follows = if follows then codes "page next " else codes "page half "
 
-unfoldable pub with_line : Draft → List ℕ → Option Draft
-with_line draft text = with_statement draft.stage draft.plan text
+abbrev pub lawful_page : Bool → List Bool → Option Page
+lawful_page follows body =
+    if is_body body then Some (record { follows = follows; body = body }) else None
 
--- the plan, where no line is missing
-abbrev pub plan_behind : Stage → CellPlan → Option CellPlan
-plan_behind Cell plan = None
-plan_behind Link plan = None
-plan_behind Pilot plan = None
-plan_behind Sync plan = Some plan
-plan_behind End plan = Some plan
+abbrev pub page_with : Bool → List ℕ → Option Page
+page_with follows text = do
+  body ← field (page_key follows) bits_in text
+  page ← lawful_page follows body
+  at_end (past (page_key follows) text) page
 
-abbrev pub plan_at : Draft → Option CellPlan
-plan_at draft = plan_behind draft.stage draft.plan
+unfoldable pub page_in : List ℕ → Option Page
+page_in text = page_with (begins_with text (codes "page next ")) text
+
+-- ---- what a line states
+
+-- the kind of a statement is told by its first word
+unfoldable pub statement_in : List ℕ → Option Statement
+statement_in text =
+    if begins_with text (codes "cell ") then option_map statements.Cell (cell_in text)
+    else (if begins_with text (codes "link ") then option_map statements.Link (link_in text)
+    else (if begins_with text (codes "pilot ") then option_map statements.Pilot (pilot_in text)
+    else (if begins_with text (codes "sync ") then option_map statements.Sync (sync_in text)
+    else (if begins_with text (codes "paging ") then option_map statements.Paging (paging_in text)
+    else (if begins_with text (codes "page ") then option_map statements.Page (page_in text)
+    else None)))))

@@ -1,12 +1,29 @@
 -- What is known of what a script says, whatever its gains and its samples are.
-use Rattle.std.specs.Prelude.{◌≡◌, [], ◌^◌, ◌<◌, ◌≤◌, Option, Some, None, unsigned_abs}
+use Rattle.std.specs.Prelude.{◌^◌, ◌<◌, ◌≤◌, All, length, Option, Some, None, unsigned_abs}
 use Rattle.chip_core.specs.Complex.{norm}
 use Rattle.long_code.specs.LongCode.{IsState}
 use Rattle.sync_message.specs.SyncMessage.{IsSyncMessage}
+use Rattle.symbol_path.specs.declared.kinds.Rate.{Rate}
+use Rattle.paging_message.specs.HalfFrames.{half_frame_body}
+use Rattle.quality_bits.specs.Capsules.{FillsCapsule}
+use Rattle.quality_bits.specs.declared.kind.Kind.TheVariants.{M30}
+use Rattle.base_modulator.specs.Pages.{paging_rate, AreSendable}
 use Rattle.base_modulator.specs.declared.plan.CellPlan.{CellPlan}
+use Rattle.base_modulator.specs.declared.plan.PagingPlan.{PagingPlan}
 use Rattle.base_modulator.specs.declared.plan.SyncPlan.{SyncPlan}
 use Rattle.base_modulator.specs.declared.plan.CellIdentity.{CellIdentity}
 use Rattle.base_modulator.specs.declared.plan.LinkPlan.{LinkPlan}
+use Rattle.base_modulator.specs.declared.script.statements.Statement.{Statement}
+use Rattle.base_modulator.specs.declared.script.statements.Statement.TheVariants as statements
+
+-- a channel's Walsh row is one
+abbrev pub HasRow : Statement → Type 0
+HasRow (statements.Cell cell) = Unit {0}
+HasRow (statements.Link link) = Unit {0}
+HasRow (statements.Pilot pilot) = Unit {0}
+HasRow (statements.Sync sync) = Unit {0}
+HasRow (statements.Paging line) = line.number < 64
+HasRow (statements.Page page) = Unit {0}
 
 pub record IsStatedCell (cell : CellIdentity) : Type 0 where
   pub pn : cell.pn < 512
@@ -22,13 +39,29 @@ abbrev pub IsStatedSync : Option SyncPlan → Type 0
 IsStatedSync None = Unit {0}
 IsStatedSync (Some sync) = IsSyncMessage sync.message
 
+-- a paging channel with pages that can be sent
+pub record IsStatedPaging (rate : Rate) (p : PagingPlan) : Type 0 where
+  pub first : 1 ≤ p.number
+  pub last : p.number ≤ 7
+  pub some : 1 ≤ length p.pages
+  pub pages : AreSendable (half_frame_body rate) 0 p.pages
+
 pub record IsStatedPlan (plan : CellPlan) : Type 0 where
   pub cell : IsStatedCell plan.cell
   pub link : IsStatedLink plan.link
   pub sync : IsStatedSync plan.sync
-  pub paging : plan.paging ≡ []
+  pub paging : All (IsStatedPaging (paging_rate plan.sync)) plan.paging
 
 -- what was stated is within its bounds, and the link isn't 0
 pub record HasSaid (plan : CellPlan) : Type 0 where
   pub lawful : IsStatedPlan plan
   pub linked : 0 < norm plan.link.factor
+
+-- what a statement says is within its bounds
+abbrev pub IsLawful : Statement → Type 0
+IsLawful (statements.Cell cell) = IsStatedCell cell
+IsLawful (statements.Link link) = IsStatedLink link × (0 < norm link.factor)
+IsLawful (statements.Pilot pilot) = Unit {0}
+IsLawful (statements.Sync sync) = IsSyncMessage sync.message
+IsLawful (statements.Paging line) = (1 ≤ line.number) × (line.number ≤ 7)
+IsLawful (statements.Page page) = FillsCapsule M30 page.body

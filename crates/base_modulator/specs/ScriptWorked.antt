@@ -1,19 +1,29 @@
 -- Worked values of scripts, which the checker computes.
-use Rattle.std.specs.Prelude.{ℕ, ◌≡◌, refl, ◌^◌, ◌++◌, List, [], ◌∷◌, codes, replicate, false, pos}
-use Rattle.std.specs.Prelude.{negsuc, Some, None, Ok, Err}
+use Rattle.std.specs.Prelude.{ℕ, ◌≡◌, refl, ◌/◌, ◌^◌, ◌++◌, List, [], ◌∷◌, codes, replicate, false}
+use Rattle.std.specs.Prelude.{pos, negsuc, Some, None, Ok, Err}
 use Rattle.hex.specs.Hex.{decode_pairs}
+use Rattle.paging_message.specs.Admitted.{admits}
+use Rattle.paging_message.specs.HalfFrames.{bits_left}
+use Rattle.paging_message.specs.Laying.{fill}
+use Rattle.paging_message.specs.Reading.{is_body}
 use Rattle.chip_core.specs.Bits.{binary}
 use Rattle.chip_core.specs.declared.check_form.CheckForm.TheVariants.{Plain}
 use Rattle.cdma_io.specs.declared.width.Width.TheVariants.{Sixteen}
 use Rattle.base_modulator.specs.declared.plan.CellPlan.{CellPlan}
+use Rattle.base_modulator.specs.declared.plan.Page.{Page}
+use Rattle.base_modulator.specs.declared.plan.PagingPlan.{PagingPlan}
+use Rattle.base_modulator.specs.declared.plan.SyncPlan.{SyncPlan}
 use Rattle.base_modulator.specs.declared.script_fault.ScriptFault.TheVariants.{Line, TooLoud}
 use Rattle.base_modulator.specs.declared.script_fault.ScriptFault.TheVariants.{TooLong}
 use Rattle.chip_core.specs.Decimals.{digits_from}
 use Rattle.base_modulator.specs.ScriptValues.{bits_in, hex_bits, hex_from}
 use Rattle.base_modulator.specs.ScriptValues.{length_before, number_up_to, signed_in, state_in}
 use Rattle.base_modulator.specs.ScriptFields.{field, numbers_in, past, past_numbers}
-use Rattle.base_modulator.specs.ScriptLines.{cell_in, freq_in, link_in, with_line, past_freq}
-use Rattle.base_modulator.specs.ScriptLines.{pilot_in, sync_behind, sync_in}
+use Rattle.base_modulator.specs.ScriptDrafts.{with_line, with_next}
+use Rattle.base_modulator.specs.ScriptLines.{cell_in, freq_in, link_in, page_in, paging_in}
+use Rattle.base_modulator.specs.ScriptLines.{past_freq, pilot_in, statement_in, sync_behind}
+use Rattle.base_modulator.specs.ScriptLines.{sync_in}
+use Rattle.base_modulator.specs.ScriptStages.{pages_behind}
 use Rattle.base_modulator.specs.Script.{is_line, lines, plan_named, draft_after, stated}
 use Rattle.base_modulator.specs.Script.{stated_plan}
 
@@ -24,71 +34,111 @@ script link =
     "link " ++ link ++ 10 ∷ codes "pilot gain=100" ++ 10
     ∷ codes "sync gain=30 prev=3 min=1 sid=1 nid=2 lp=13 ltm=0 daylt=0 prat=0 rest=3:00" ++ 10 ∷ []
 
-plan : CellPlan
-plan = record {
+-- one with a paging channel
+paging_script : List ℕ → List ℕ
+paging_script link =
+    script link ++ codes "paging channel=1 gain=60" ++ 10 ∷ codes "page half 34:04ff8046c0" ++ 10
+    ∷ []
+
+sync_plan : SyncPlan
+sync_plan = record {
+  gain = 30;
+  message = record {
+    prev = 3;
+    min = 1;
+    sid = 1;
+    nid = 2;
+    pn = 0;
+    lc = 0;
+    time = 0;
+    lp = 13;
+    ltm = 0;
+    daylt = 0;
+    prat = 0;
+    freq = None;
+    rest = replicate 3 false;
+  };
+}
+
+plan : List PagingPlan → CellPlan
+plan paging = record {
   cell = record { pn = 511; time = 1000; lc = 2 ^ 41; check30 = Plain; check16 = Plain };
   link = record { factor = record { i = pos 0; q = negsuc 2 }; start = 0; samples = 1228800 };
   pilot = record { gain = 100 };
-  sync = Some (record {
-    gain = 30;
-    message = record {
-      prev = 3;
-      min = 1;
-      sid = 1;
-      nid = 2;
-      pn = 0;
-      lc = 0;
-      time = 0;
-      lp = 13;
-      ltm = 0;
-      daylt = 0;
-      prat = 0;
-      freq = None;
-      rest = replicate 3 false;
-    };
-  });
-  paging = [];
+  sync = Some sync_plan;
+  paging = paging;
 }
+
+-- type 4, and then 26 bits
+page : Page
+page = record { follows = false; body = binary 34 (0x04ff8046c0 / 64) }
+
+paging_plan : PagingPlan
+paging_plan = record { number = 1; gain = 60; pages = page ∷ [] }
 
 empty : plan_named Sixteen [] ≡ Err (Line 1)
 unfolding plan_named stated_plan stated lines
 empty = refl
 
-whole : plan_named Sixteen (script (codes "re=0 im=-3 start=0 samples=1228800")) ≡ Ok plan
-unfolding script plan plan_named stated_plan stated draft_after lines is_line with_line cell_in
-    link_in pilot_in sync_in sync_behind freq_in past_freq numbers_in past_numbers field past
-    length_before number_up_to digits_from signed_in state_in hex_from bits_in hex_bits decode_pairs
-    binary
+whole : plan_named Sixteen (script (codes "re=0 im=-3 start=0 samples=1228800"))
+    ≡ Ok (plan [])
+unfolding script plan sync_plan plan_named stated_plan stated draft_after lines is_line with_line
+    with_next statement_in cell_in link_in pilot_in sync_in sync_behind freq_in past_freq numbers_in
+    past_numbers field past length_before number_up_to digits_from signed_in state_in hex_from
+    bits_in hex_bits decode_pairs binary
 whole = refl
+
+paged : plan_named Sixteen (paging_script (codes "re=0 im=-3 start=0 samples=1228800"))
+    ≡ Ok (plan (paging_plan ∷ []))
+unfolding paging_script script plan sync_plan paging_plan page plan_named stated_plan stated
+    draft_after lines is_line with_line with_next statement_in cell_in link_in pilot_in sync_in
+    sync_behind freq_in past_freq paging_in page_in numbers_in past_numbers field past length_before
+    number_up_to digits_from signed_in state_in hex_from bits_in hex_bits decode_pairs binary
+    is_body admits pages_behind bits_left fill
+paged = refl
+
+paged_loud : plan_named Sixteen (paging_script (codes "re=32767 im=-3 start=0 samples=1228800"))
+    ≡ Err (TooLoud 6226300)
+unfolding paging_script script plan_named stated_plan stated draft_after lines is_line with_line
+    with_next statement_in cell_in link_in pilot_in sync_in sync_behind freq_in past_freq paging_in
+    page_in numbers_in past_numbers field past length_before number_up_to digits_from signed_in
+    state_in hex_from bits_in hex_bits decode_pairs binary is_body admits pages_behind bits_left
+    fill
+paged_loud = refl
 
 loud : plan_named Sixteen (script (codes "re=32767 im=-3 start=0 samples=1228800"))
     ≡ Err (TooLoud 4260100)
-unfolding script plan_named stated_plan stated draft_after lines is_line with_line cell_in link_in
-    pilot_in sync_in sync_behind freq_in past_freq numbers_in past_numbers field past length_before
-    number_up_to digits_from signed_in state_in hex_from bits_in hex_bits decode_pairs binary
+unfolding script plan_named stated_plan stated draft_after lines is_line with_line with_next
+    statement_in cell_in link_in pilot_in sync_in sync_behind freq_in past_freq numbers_in
+    past_numbers field past length_before number_up_to digits_from signed_in state_in hex_from
+    bits_in hex_bits decode_pairs binary
 loud = refl
 
 long : plan_named Sixteen (script (codes "re=0 im=-3 start=0 samples=33554433"))
     ≡ Err (TooLong 33554433)
-unfolding script plan_named stated_plan stated draft_after lines is_line with_line cell_in link_in
-    pilot_in sync_in sync_behind freq_in past_freq numbers_in past_numbers field past length_before
-    number_up_to digits_from signed_in state_in hex_from bits_in hex_bits decode_pairs binary
+unfolding script plan_named stated_plan stated draft_after lines is_line with_line with_next
+    statement_in cell_in link_in pilot_in sync_in sync_behind freq_in past_freq numbers_in
+    past_numbers field past length_before number_up_to digits_from signed_in state_in hex_from
+    bits_in hex_bits decode_pairs binary
 long = refl
 
 two_blanks : plan_named Sixteen (script (codes "re=0  im=-3 start=0 samples=1228800"))
     ≡ Err (Line 2)
-unfolding script plan_named stated_plan stated draft_after lines is_line with_line cell_in link_in
-    field past length_before number_up_to digits_from signed_in state_in hex_from
+unfolding script plan_named stated_plan stated draft_after lines is_line with_line with_next
+    statement_in cell_in link_in field past length_before number_up_to digits_from signed_in
+    state_in hex_from
 two_blanks = refl
 
 minus_zero : plan_named Sixteen (script (codes "re=-0 im=-3 start=0 samples=1228800"))
     ≡ Err (Line 2)
-unfolding script plan_named stated_plan stated draft_after lines is_line with_line cell_in link_in
-    field past length_before number_up_to digits_from signed_in state_in hex_from
+unfolding script plan_named stated_plan stated draft_after lines is_line with_line with_next
+    statement_in cell_in link_in field past length_before number_up_to digits_from signed_in
+    state_in hex_from
 minus_zero = refl
 
 past_64_bits : plan_named Sixteen (script (codes "re=0 im=-3 start=0 samples=18446744073709551616"))
     ≡ Err (Line 2)
-unfolding script plan_named stated_plan stated draft_after lines is_line with_line cell_in link_in
-    field past length_before number_up_to digits_from signed_in state_in hex_from
+unfolding script plan_named stated_plan stated draft_after lines is_line with_line with_next
+    statement_in cell_in link_in field past length_before number_up_to digits_from signed_in
+    state_in hex_from
 past_64_bits = refl

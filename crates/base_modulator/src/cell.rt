@@ -1,7 +1,8 @@
 //! A cell's samples.
 
-ghost use Rattle.std.specs.Prelude.{◌≡◌, ◌≢◌, ◌<◌, ◌≤◌, ◌+◌, ◌++◌, ◌%◌, ◌^◌, length, map, take};
-ghost use Rattle.std.specs.Prelude.{All, drop};
+ghost use Rattle.std.specs.Prelude.{◌≡◌, ◌≢◌, ◌<◌, ◌≤◌, ◌+◌, ◌++◌, ◌%◌, ◌^◌, length, map};
+ghost use Rattle.std.specs.Prelude.{take, drop};
+ghost use Rattle.std.specs.Prelude.{All};
 ghost use Rattle.std.specs.Prelude.{Ok, Err, IsOk, IfOk, IfErr};
 ghost use Rattle.chip_core.specs.Complex.{of_sample};
 ghost use Rattle.cdma_io.specs.SampleFile.{HasBits, IsLawfulHeader};

@@ -1,6 +1,6 @@
 //! What a plan has several of.
 
-ghost use Rattle.std.specs.Prelude.{◌≡◌, ◌++◌, ◌∷◌, [], OnOk, OnErr};
+ghost use Rattle.std.specs.Prelude.{◌≡◌, ◌++◌, ◌∷◌, [], OnOk, OnErr, MatchOption};
 
 use chip_core::OutOfMemory;
 use std::alloc::Global;
@@ -37,6 +37,14 @@ impl<T: Drop> Series<T> {
     {
         self.items.push(item)?;
         Ok(())
+    }
+
+    /// Takes the last one away.
+    pub(crate) fn pop(&mut self) -> Option<T>
+        ensures { MatchOption result ((self.old ≡ []) × (self.new ≡ []))
+            (λ last. self.old ≡ self.new ++ last ∷ []) }
+    {
+        self.items.pop()
     }
 
     /// All of them.

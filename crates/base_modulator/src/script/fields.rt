@@ -9,7 +9,9 @@ ghost use Rattle.base_modulator.specs.ScriptFields.{AreUpTo, field, numbers_in, 
 ghost use Rattle.base_modulator.specs.ScriptFields.{rows_of, value_of};
 
 use crate::script::tables::NumberField;
-use crate::script::values::{bits_in, length_before, number_up_to, signed_in, state_in};
+use crate::script::values::{
+    begins_with, bits_in, length_before, number_up_to, signed_in, state_in,
+};
 use chip_core::Bits;
 use std::marker::Model;
 
@@ -47,7 +49,7 @@ impl<'a> Fields<'a> {
     pub(crate) fn begin_with(&self, key: &[u8]) -> bool
         ensures { result ≡ begins_with self.now key.now }
     {
-        self.text.strip_prefix(key).is_some()
+        begins_with(self.text, key)
     }
 
     /// The text of the value behind this key.

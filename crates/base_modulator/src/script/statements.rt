@@ -2,19 +2,77 @@
 
 ghost use Rattle.std.specs.Prelude.{◌≡◌, ◌≤◌, ◌<◌, ◌^◌, IfSome, OnSome};
 ghost use Rattle.base_modulator.specs.ScriptLines.{cell_in, check_form, freq_in, link_in};
+ghost use Rattle.base_modulator.specs.ScriptLines.{page_in, page_key, page_with, paging_in};
 ghost use Rattle.base_modulator.specs.ScriptLines.{past_freq, pilot_in, sync_behind, sync_fields};
-ghost use Rattle.base_modulator.specs.ScriptLines.{sync_in, lawful_message, sync_table};
+ghost use Rattle.base_modulator.specs.ScriptLines.{statement_in, sync_in, lawful_message};
+ghost use Rattle.base_modulator.specs.ScriptLines.{sync_table};
 ghost use Rattle.base_modulator.specs.ScriptFields.{AreUpTo};
-ghost use Rattle.base_modulator.specs.ScriptPlans.{IsStatedCell, IsStatedLink};
+ghost use Rattle.base_modulator.specs.ScriptPlans.{HasRow, IsStatedCell, IsStatedLink};
+ghost use Rattle.paging_message.specs.Reading.{is_body};
 ghost use Rattle.sync_message.specs.SyncMessage.{IsSyncMessage};
 ghost use Rattle.chip_core.specs.Fields.{FieldsFit};
 ghost use Rattle.sync_message.specs.SyncMessage.{fixed_fields};
 
-use crate::plan::{CellIdentity, LinkPlan, PilotPlan, SyncPlan};
+use crate::plan::{CellIdentity, LinkPlan, Page, PilotPlan, SyncPlan};
 use crate::script::fields::Fields;
 use crate::script::tables::{FREQ_NUMBER, SYNC_NUMBERS};
+use crate::script::values::begins_with;
 use chip_core::{Bits, CheckForm, Pair};
+use paging_message::PagingMessage;
 use sync_message::{SyncFields, SyncMessage};
+
+/// What a line of a script states.
+#[derive(Clone, Copy)]
+pub(crate) enum Statement {
+    /// Which cell it is.
+    Cell(CellIdentity),
+    /// The link to it.
+    Link(LinkPlan),
+    /// Its pilot channel.
+    Pilot(PilotPlan),
+    /// Its sync channel.
+    Sync(SyncPlan),
+    /// One more paging channel, whose pages the lines behind state.
+    Paging(PagingLine),
+    /// One more page of that channel.
+    Page(Page),
+}
+
+/// A paging channel without its pages.
+#[derive(Clone, Copy)]
+pub(crate) struct PagingLine {
+    /// The number of the channel, which is its Walsh row: 1 to 7.
+    pub(crate) number: u8,
+    /// The gain of the channel.
+    pub(crate) gain: u16,
+}
+
+/// What a line states, given without its LF and whatever stands before it.
+#[tactic(auto, unfolding(crate::specs::ScriptLines::statement_in))]
+pub(crate) fn statement_in(text: &[u8]) -> Option<Statement>
+    ensures value { result ≡ statement_in text.now }
+    ensures row { IfSome result HasRow }
+{
+    if begins_with(text, b"cell ") {
+        return Some(Statement::Cell(cell_in(text)?));
+    }
+    if begins_with(text, b"link ") {
+        return Some(Statement::Link(link_in(text)?));
+    }
+    if begins_with(text, b"pilot ") {
+        return Some(Statement::Pilot(pilot_in(text)?));
+    }
+    if begins_with(text, b"sync ") {
+        return Some(Statement::Sync(sync_in(text)?));
+    }
+    if begins_with(text, b"paging ") {
+        return Some(Statement::Paging(paging_in(text)?));
+    }
+    if begins_with(text, b"page ") {
+        return Some(Statement::Page(page_in(text)?));
+    }
+    None
+}
 
 /// The form of checks: complemented where the bit is 1.
 fn check_form(bit: u64) -> CheckForm
@@ -29,7 +87,7 @@ fn check_form(bit: u64) -> CheckForm
 
 /// What a `cell` line says.
 #[tactic(auto, unfolding(crate::specs::ScriptLines::cell_in))]
-pub(crate) fn cell_in(text: &[u8]) -> Option<CellIdentity>
+fn cell_in(text: &[u8]) -> Option<CellIdentity>
     ensures value { result ≡ cell_in text.now }
     ensures lawful { IfSome result IsStatedCell }
 {
@@ -52,7 +110,7 @@ pub(crate) fn cell_in(text: &[u8]) -> Option<CellIdentity>
 
 /// What a `link` line says.
 #[tactic(auto, unfolding(crate::specs::ScriptLines::link_in))]
-pub(crate) fn link_in(text: &[u8]) -> Option<LinkPlan>
+fn link_in(text: &[u8]) -> Option<LinkPlan>
     ensures value { result ≡ link_in text.now }
     ensures lawful { IfSome result IsStatedLink }
 {
@@ -73,7 +131,7 @@ pub(crate) fn link_in(text: &[u8]) -> Option<LinkPlan>
 
 /// What a `pilot` line says.
 #[tactic(auto, unfolding(crate::specs::ScriptLines::pilot_in))]
-pub(crate) fn pilot_in(text: &[u8]) -> Option<PilotPlan>
+fn pilot_in(text: &[u8]) -> Option<PilotPlan>
     ensures { result ≡ pilot_in text.now }
 {
     let mut fields = Fields::new(text);
@@ -85,7 +143,7 @@ pub(crate) fn pilot_in(text: &[u8]) -> Option<PilotPlan>
 }
 
 /// What a `sync` line says. Its message has zeros for PILOT_PN, SYS_TIME and LC_STATE.
-pub(crate) fn sync_in(text: &[u8]) -> Option<SyncPlan>
+fn sync_in(text: &[u8]) -> Option<SyncPlan>
     ensures value { result ≡ sync_in text.now }
     ensures lawful { IfSome result (λ sync. IsSyncMessage sync.message) }
 {
@@ -156,4 +214,59 @@ fn message_with(fields: SyncFields) -> Option<SyncFields>
     ensures lawful { IfSome result IsSyncMessage }
 {
     Some(SyncMessage::new(fields)?.fields())
+}
+
+/// What a `paging` line says.
+#[tactic(auto, unfolding(crate::specs::ScriptLines::paging_in))]
+fn paging_in(text: &[u8]) -> Option<PagingLine>
+    ensures value { result ≡ paging_in text.now }
+    ensures row { IfSome result (λ line. line.number < 64) }
+{
+    let mut fields = Fields::new(text);
+    let number = fields.number(b"paging channel=", 7)?;
+    let gain = fields.number(b" gain=", 65_535)?;
+    if number == 0 || !fields.at_end() {
+        return None;
+    }
+    Some(PagingLine {
+        number: number as u8,
+        gain: gain as u16,
+    })
+}
+
+/// What a `page` line says: where its capsule begins, and the body of a message.
+#[tactic(auto, unfolding(crate::specs::ScriptLines::page_in))]
+fn page_in(text: &[u8]) -> Option<Page>
+    ensures { result ≡ page_in text.now }
+{
+    page_with(begins_with(text, b"page next "), Fields::new(text))
+}
+
+/// What a `page` line says whose capsule follows the one before at once, or doesn't.
+fn page_with(follows: bool, mut fields: Fields<'_>) -> Option<Page>
+    ensures { result ≡ page_with follows fields.entry }
+{
+    let body = fields.bits(page_key(follows))?;
+    if !is_body(&body) || !fields.at_end() {
+        return None;
+    }
+    Some(Page { follows, body })
+}
+
+/// What stands before the bits of a `page` line.
+fn page_key(follows: bool) -> &'static [u8]
+    ensures { result.now ≡ page_key follows }
+{
+    if follows {
+        b"page next "
+    } else {
+        b"page half "
+    }
+}
+
+/// Whether bits are the body of a paging message.
+fn is_body(body: &Bits) -> bool
+    ensures { result ≡ is_body body.now }
+{
+    PagingMessage::from_body(body).is_some()
 }

@@ -1,6 +1,6 @@
 //! Scripts written by hand, and what they name.
 
-use crate::plan::{CellIdentity, CellPlan, LinkPlan, PilotPlan, SyncPlan};
+use crate::plan::{CellIdentity, CellPlan, LinkPlan, Page, PilotPlan, SyncPlan};
 use crate::script::plan_of;
 use crate::script_fault::ScriptFault;
 use crate::series::Series;
@@ -21,6 +21,33 @@ const PILOT: &str = "pilot gain=100\n";
 
 /// A lawful `sync` line.
 const SYNC: &str = "sync gain=30 prev=3 min=1 sid=1 nid=2 lp=13 ltm=0 daylt=0 prat=0 rest=3:00\n";
+
+/// A `sync` line that tells paging channels of 4800 bits per second.
+const SYNC_4800: &str =
+    "sync gain=30 prev=3 min=1 sid=1 nid=2 lp=13 ltm=0 daylt=0 prat=1 rest=3:00\n";
+
+/// One whose PRAT is 2.
+const SYNC_2400: &str =
+    "sync gain=30 prev=3 min=1 sid=1 nid=2 lp=13 ltm=0 daylt=0 prat=2 rest=3:00\n";
+
+/// One whose PRAT is 3.
+const SYNC_1200: &str =
+    "sync gain=30 prev=3 min=1 sid=1 nid=2 lp=13 ltm=0 daylt=0 prat=3 rest=3:00\n";
+
+/// A lawful `paging` line.
+const PAGING: &str = "paging channel=1 gain=60\n";
+
+/// A lawful `paging` line of another channel.
+const OTHER_PAGING: &str = "paging channel=7 gain=1\n";
+
+/// A lawful `page` line: a channel list of 9 octets.
+const HALF: &str = "page half 34:04ff8046c0\n";
+
+/// The same page, right behind the one before.
+const NEXT: &str = "page next 34:04ff8046c0\n";
+
+/// A page of 11 octets.
+const ELEVEN_OCTETS: &str = "page half 50:00000000000000\n";
 
 /// Lines that can't stand in the place of a cell's.
 const FAULTY_CELLS: [&str; 35] = [
@@ -101,7 +128,7 @@ const FAULTY_PILOTS: [&str; 9] = [
 ];
 
 /// Lines that can't stand in the place of the sync channel's.
-const FAULTY_SYNCS: [&str; 30] = [
+const FAULTY_SYNCS: [&str; 31] = [
     "sync\n",
     "sync gain=30\n",
     "sync gain=65536 prev=3 min=1 sid=1 nid=2 lp=13 ltm=0 daylt=0 prat=0 rest=3:00\n",
@@ -130,8 +157,74 @@ const FAULTY_SYNCS: [&str; 30] = [
     "sync gain=30 prev=3 min=1 sid=1 nid=2 lp=13 ltm=0 daylt=0 prat=0 freq= rest=0:\n",
     "sync gain=30 prev=3 min=1 sid=1 nid=2 lp=13 ltm=0 daylt=0 prat=0 rest=0: freq=283\n",
     "paging channel=1 gain=60\n",
+    "page half 34:04ff8046c0\n",
     "traffic row=8 esn=00000009 offset=0 gain=40\n",
     "cell pn=511 time=1000 lc=20000000000 checks=0 \u{e9}\n",
+];
+
+/// Lines that can't stand in the place of a paging channel's.
+const FAULTY_PAGINGS: [&str; 22] = [
+    "paging\n",
+    "paging \n",
+    "paging channel=1\n",
+    "paging channel=1 gain=\n",
+    "paging channel= gain=60\n",
+    "paging gain=60\n",
+    "paging channel=1 gain=60 \n",
+    "paging channel=1 gain=60\r\n",
+    "paging channel=1 gain=60 gain=60\n",
+    "paging gain=60 channel=1\n",
+    "paging channel=0 gain=60\n",
+    "paging channel=8 gain=60\n",
+    "paging channel=10 gain=60\n",
+    "paging channel=01 gain=60\n",
+    "paging channel=-1 gain=60\n",
+    "paging channel=1 gain=65536\n",
+    "paging channel=1 gain=060\n",
+    "paging  channel=1 gain=60\n",
+    "paging channel=1  gain=60\n",
+    " paging channel=1 gain=60\n",
+    "Paging channel=1 gain=60\n",
+    "pagingchannel=1 gain=60\n",
+];
+
+/// Lines that can't stand in the place of a channel's first page.
+const FAULTY_PAGES: [&str; 32] = [
+    "page\n",
+    "page \n",
+    "page half\n",
+    "page half \n",
+    "page half 34\n",
+    "page half 34:\n",
+    "page half :04ff8046c0\n",
+    "page half 34:04ff8046\n",
+    "page half 34:04ff8046c\n",
+    "page half 34:04ff8046c000\n",
+    "page half 34:04ff8046e0\n",
+    "page half 34:04ff8046c1\n",
+    "page half 34:04ff8046g0\n",
+    "page half 034:04ff8046c0\n",
+    "page half 34:04ff8046c0 \n",
+    "page half 34:04ff8046c0\r\n",
+    "page half 34:04ff8046c0 34:04ff8046c0\n",
+    "page half  34:04ff8046c0\n",
+    "page  half 34:04ff8046c0\n",
+    "page half half 34:04ff8046c0\n",
+    "page 34:04ff8046c0\n",
+    "page full 34:04ff8046c0\n",
+    "half 34:04ff8046c0\n",
+    "page next 34:04ff8046c0\n",
+    // Bodies whose lengths fill no capsule of 6 octets or more.
+    "page half 33:04ff804680\n",
+    "page half 32:04ff8046\n",
+    "page half 2:00\n",
+    "page half 0:\n",
+    // Bodies that aren't those of messages: types 1, 3 and 4 with too few bits, or with the bits of
+    // a part of a record.
+    "page half 10:0100\n",
+    "page half 18:030000\n",
+    "page half 50:03000000000000\n",
+    "page half 42:040000000000\n",
 ];
 
 /// Scripts whose lines don't follow one another, and the number of the first that can't stand where
@@ -161,6 +254,98 @@ const FAULTY_ORDERS: [(&[&str], u32); 24] = [
     (&[CELL, LINK, PILOT, "sync"], 4),
     (&[CELL, LINK, PILOT, SYNC, " "], 5),
     (&[CELL, LINK, PILOT, SYNC, PILOT, CELL], 5),
+];
+
+/// Likewise scripts with paging channels.
+const FAULTY_PAGING_ORDERS: [(&[&str], u32); 36] = [
+    (&[PAGING, HALF], 1),
+    (&[HALF], 1),
+    (&[CELL, PAGING, HALF], 2),
+    (&[CELL, LINK, PAGING, HALF], 3),
+    (&[CELL, LINK, PILOT, PAGING, HALF], 4),
+    (&[CELL, LINK, PILOT, HALF], 4),
+    (&[CELL, LINK, PILOT, PAGING, SYNC, HALF], 4),
+    (&[CELL, LINK, PILOT, SYNC_2400, PAGING, HALF], 5),
+    (&[CELL, LINK, PILOT, SYNC_1200, PAGING, HALF], 5),
+    (&[CELL, LINK, PILOT, SYNC, HALF], 5),
+    (&[CELL, LINK, PILOT, SYNC, HALF, PAGING], 5),
+    (&[CELL, LINK, PILOT, SYNC, NEXT], 5),
+    (&[CELL, LINK, PILOT, SYNC, PAGING], 6),
+    (&[CELL, LINK, PILOT, SYNC, PAGING, PAGING, HALF], 6),
+    (&[CELL, LINK, PILOT, SYNC, PAGING, OTHER_PAGING, HALF], 6),
+    (&[CELL, LINK, PILOT, SYNC, PAGING, NEXT], 6),
+    (&[CELL, LINK, PILOT, SYNC, PAGING, NEXT, HALF], 6),
+    (&[CELL, LINK, PILOT, SYNC, PAGING, SYNC, HALF], 6),
+    (&[CELL, LINK, PILOT, SYNC, PAGING, "\n"], 6),
+    (&[CELL, LINK, PILOT, SYNC, PAGING, "page"], 6),
+    (
+        &[CELL, LINK, PILOT, SYNC, PAGING, "page half 34:04ff8046c0"],
+        6,
+    ),
+    (&[CELL, LINK, PILOT, SYNC, "paging channel=1 gain=60"], 5),
+    (&[CELL, LINK, PILOT, SYNC, PAGING, HALF, "\n"], 7),
+    (&[CELL, LINK, PILOT, SYNC, PAGING, HALF, CELL], 7),
+    (&[CELL, LINK, PILOT, SYNC, PAGING, HALF, LINK], 7),
+    (&[CELL, LINK, PILOT, SYNC, PAGING, HALF, PILOT], 7),
+    (&[CELL, LINK, PILOT, SYNC, PAGING, HALF, SYNC], 7),
+    (
+        &[
+            CELL,
+            LINK,
+            PILOT,
+            SYNC,
+            PAGING,
+            HALF,
+            "page next 34:04ff8046c0",
+        ],
+        7,
+    ),
+    (&[CELL, LINK, PILOT, SYNC, PAGING, HALF, OTHER_PAGING], 8),
+    (
+        &[CELL, LINK, PILOT, SYNC, PAGING, HALF, OTHER_PAGING, NEXT],
+        8,
+    ),
+    (
+        &[
+            CELL,
+            LINK,
+            PILOT,
+            SYNC,
+            PAGING,
+            HALF,
+            NEXT,
+            OTHER_PAGING,
+            SYNC,
+        ],
+        9,
+    ),
+    (
+        &[CELL, LINK, PILOT, SYNC, PAGING, HALF, PAGING, HALF, "\n"],
+        9,
+    ),
+    (&[CELL, CELL, LINK, PILOT, SYNC, PAGING, HALF], 2),
+    (&[CELL, LINK, PILOT, SYNC, SYNC, PAGING, HALF], 5),
+    // 7 body bits of the half-frame are left at 9600 bits per second, and 6 at 4800.
+    (&[CELL, LINK, PILOT, SYNC, PAGING, ELEVEN_OCTETS, NEXT], 7),
+    (
+        &[CELL, LINK, PILOT, SYNC_4800, PAGING, ELEVEN_OCTETS, NEXT],
+        7,
+    ),
+];
+
+/// Scripts that are at no fault.
+const LAWFUL_PAGINGS: [&[&str]; 10] = [
+    &[PAGING, HALF],
+    &[PAGING, HALF, NEXT],
+    &[PAGING, HALF, NEXT, HALF, NEXT, NEXT],
+    &[PAGING, HALF, OTHER_PAGING, HALF],
+    &[OTHER_PAGING, HALF, NEXT, PAGING, HALF],
+    &[PAGING, "page half 10:0000\n"],
+    &[PAGING, "page half 10:FfC0\n"],
+    &[PAGING, "page half 42:030000000000\n"],
+    &[PAGING, ELEVEN_OCTETS, HALF],
+    // 15 body bits of the half-frame are left.
+    &[PAGING, "page half 42:000000000000\n", NEXT],
 ];
 
 /// Lawful lines whose numbers are at an end of their range.
@@ -363,6 +548,121 @@ const FAULTY_PLANS: [(&[&str], Width, ScriptFault); 20] = [
         Width::Eight,
         ScriptFault::Line { n: 2 },
     ),
+];
+
+/// Paging channels behind the lawful lines, with another link or pilot, and the fault.
+const FAULTY_CHANNELS: [(&str, &str, &[&str], ScriptFault); 14] = [
+    (
+        "link re=32767 im=-3 start=0 samples=1228800\n",
+        PILOT,
+        &[PAGING, HALF],
+        ScriptFault::TooLoud { sum: 6226300 },
+    ),
+    (
+        LINK,
+        PILOT,
+        &[PAGING, HALF, PAGING, HALF],
+        ScriptFault::Walsh { row: 1 },
+    ),
+    (
+        LINK,
+        PILOT,
+        &[PAGING, HALF, OTHER_PAGING, HALF, NEXT, PAGING, HALF],
+        ScriptFault::Walsh { row: 1 },
+    ),
+    (
+        LINK,
+        PILOT,
+        &[
+            PAGING,
+            HALF,
+            OTHER_PAGING,
+            HALF,
+            OTHER_PAGING,
+            HALF,
+            PAGING,
+            HALF,
+        ],
+        ScriptFault::Walsh { row: 7 },
+    ),
+    (
+        LINK,
+        "pilot gain=0\n",
+        &[PAGING, HALF, PAGING, HALF],
+        ScriptFault::Walsh { row: 1 },
+    ),
+    (
+        LINK,
+        PILOT,
+        &["paging channel=1 gain=0\n", HALF],
+        ScriptFault::Gain { row: 1 },
+    ),
+    (
+        LINK,
+        PILOT,
+        &["paging channel=7 gain=0\n", HALF, PAGING, HALF],
+        ScriptFault::Gain { row: 7 },
+    ),
+    (
+        LINK,
+        PILOT,
+        &[PAGING, HALF, "paging channel=2 gain=0\n", HALF],
+        ScriptFault::Gain { row: 2 },
+    ),
+    (
+        LINK,
+        PILOT,
+        &[
+            "paging channel=5 gain=0\n",
+            HALF,
+            "paging channel=2 gain=0\n",
+            HALF,
+        ],
+        ScriptFault::Gain { row: 5 },
+    ),
+    (
+        LINK,
+        "pilot gain=0\n",
+        &["paging channel=5 gain=0\n", HALF],
+        ScriptFault::Gain { row: 0 },
+    ),
+    (
+        "link re=32767 im=-3 start=0 samples=33554433\n",
+        PILOT,
+        &["paging channel=1 gain=0\n", HALF],
+        ScriptFault::Gain { row: 1 },
+    ),
+    (
+        "link re=1 im=0 start=0 samples=1\n",
+        "pilot gain=32678\n",
+        &[PAGING, HALF],
+        ScriptFault::TooLoud { sum: 32768 },
+    ),
+    (
+        "link re=1 im=0 start=0 samples=33554433\n",
+        "pilot gain=32677\n",
+        &[PAGING, HALF],
+        ScriptFault::TooLong { n: 33554433 },
+    ),
+    (
+        LINK,
+        PILOT,
+        &[PAGING, HALF, PAGING, HALF, SYNC],
+        ScriptFault::Line { n: 9 },
+    ),
+];
+
+/// Pages of so many octets whose type and bits are 0, the last of which follows at once, and
+/// whether that is lawful, by the rate's `sync` line.
+const FOLLOWING_PAGES: [(&str, u16, bool); 6] = [
+    // 8, 0 and 14 of 95 body bits are left.
+    (SYNC, 94, true),
+    (SYNC, 95, false),
+    (SYNC, 105, true),
+    // 8, 0 and 39 of 47 body bits are left.
+    (SYNC_4800, 46, true),
+    (SYNC_4800, 47, false),
+    (SYNC_4800, 48, true),
 ];
 
 /// The script of these lines.
@@ -618,5 +918,161 @@ fn shows_faults(rt: HostRuntime) -> Result<(), Fail> {
         let shown = format!(in rt.alloc(); "{fault}")?;
         assert_eq!(rt; shown.as_str(), text);
     }
+    Ok(())
+}
+
+/// A line with a page of so many octets whose type and bits are 0.
+fn zero_page(alloc: Global, word: &str, octets: u16) -> Result<String, Fail> {
+    if octets < 6 || octets > 148 {
+        return Err("no such page".into());
+    }
+    let bits = 8 * octets - 38;
+    let mut line = format!(in alloc; "page {word} {bits}:")?;
+    for _octet in 0..bits.div_ceil(8) {
+        line.push_str("00")?;
+    }
+    line.push_str("\n")?;
+    Ok(line)
+}
+
+/// Paging statements that no script has.
+#[test]
+fn refuses_paging_lines(rt: HostRuntime) -> Result<(), Fail> {
+    let alloc = rt.alloc();
+    for line in FAULTY_PAGINGS {
+        let fault = fault_of(
+            alloc,
+            &[CELL, LINK, PILOT, SYNC, line, HALF],
+            Width::Sixteen,
+        )?;
+        assert_eq!(rt; fault, Some(ScriptFault::Line { n: 5 }), "{line}");
+    }
+    for line in FAULTY_PAGES {
+        let fault = fault_of(
+            alloc,
+            &[CELL, LINK, PILOT, SYNC, PAGING, line, HALF],
+            Width::Sixteen,
+        )?;
+        assert_eq!(rt; fault, Some(ScriptFault::Line { n: 6 }), "{line}");
+    }
+    Ok(())
+}
+
+/// Paging statements that stand where they can't, or are missing.
+#[test]
+fn refuses_paging_orders(rt: HostRuntime) -> Result<(), Fail> {
+    for (lines, n) in FAULTY_PAGING_ORDERS {
+        let fault = fault_of(rt.alloc(), lines, Width::Sixteen)?;
+        assert_eq!(rt; fault, Some(ScriptFault::Line { n }));
+    }
+    Ok(())
+}
+
+/// The script of the lawful lines, with a link and a pilot, and more lines behind them.
+fn with_channels(
+    alloc: Global,
+    link: &str,
+    pilot: &str,
+    sync: &str,
+    channels: &[&str],
+) -> Result<String, AllocError> {
+    let mut script = script_of(alloc, &[CELL, link, pilot, sync])?;
+    script.push_str(script_of(alloc, channels)?.as_str())?;
+    Ok(script)
+}
+
+/// Paging channels that can be sent, at both rates.
+#[test]
+fn admits_paging_channels(rt: HostRuntime) -> Result<(), Fail> {
+    let alloc = rt.alloc();
+    for channels in LAWFUL_PAGINGS {
+        for sync in [SYNC, SYNC_4800] {
+            let script = with_channels(alloc, LINK, PILOT, sync, channels)?;
+            let fault = plan_of(alloc, script.as_bytes(), Width::Sixteen).err();
+            assert_eq!(rt; fault, None, "{script}");
+        }
+    }
+    let loudest = "link re=1 im=0 start=0 samples=1\n";
+    let script = with_channels(alloc, loudest, "pilot gain=32677\n", SYNC, &[PAGING, HALF])?;
+    assert!(rt; plan_of(alloc, script.as_bytes(), Width::Sixteen).is_ok());
+    Ok(())
+}
+
+/// Paging channels that can't be sent, with the first fault.
+#[test]
+fn refuses_paging_channels(rt: HostRuntime) -> Result<(), Fail> {
+    let alloc = rt.alloc();
+    for (link, pilot, channels, wanted) in FAULTY_CHANNELS {
+        let script = with_channels(alloc, link, pilot, SYNC, channels)?;
+        let fault = plan_of(alloc, script.as_bytes(), Width::Sixteen).err();
+        assert_eq!(rt; fault, Some(wanted), "{script}");
+    }
+    Ok(())
+}
+
+/// A page that follows at once needs 8 body bits of its half-frame.
+#[test]
+fn pages_follow_in_half_frames(rt: HostRuntime) -> Result<(), Fail> {
+    let alloc = rt.alloc();
+    for (sync, octets, lawful) in FOLLOWING_PAGES {
+        let first = zero_page(alloc, "half", octets)?;
+        let script = with_channels(alloc, LINK, PILOT, sync, &[PAGING, first.as_str(), NEXT])?;
+        let fault = plan_of(alloc, script.as_bytes(), Width::Sixteen).err();
+        let wanted = if lawful {
+            None
+        } else {
+            Some(ScriptFault::Line { n: 7 })
+        };
+        assert_eq!(rt; fault, wanted, "{octets}");
+    }
+    Ok(())
+}
+
+/// A cycle of 77 half-frames and 99 octets has 8,193 bits, and one of an octet less has 8,185.
+#[test]
+fn refuses_a_long_cycle(rt: HostRuntime) -> Result<(), Fail> {
+    let alloc = rt.alloc();
+    for (octets, wanted) in [(98, None), (99, Some(ScriptFault::Line { n: 83 }))] {
+        let mut script = with_channels(alloc, LINK, PILOT, SYNC, &[PAGING])?;
+        for _page in 0..77u8 {
+            script.push_str("page half 10:0000\n")?;
+        }
+        script.push_str(zero_page(alloc, "half", octets)?.as_str())?;
+        let fault = plan_of(alloc, script.as_bytes(), Width::Sixteen).err();
+        assert_eq!(rt; fault, wanted);
+    }
+    Ok(())
+}
+
+/// Each page goes to the channel that it stands behind.
+#[test]
+fn names_each_page(rt: HostRuntime) -> Result<(), Fail> {
+    let alloc = rt.alloc();
+    let channels = [OTHER_PAGING, "page half 10:0000\n", NEXT, PAGING, HALF];
+    let script = with_channels(alloc, LINK, PILOT, SYNC, &channels)?;
+    let plan = plan_of(alloc, script.as_bytes(), Width::Sixteen)?;
+    let mut body = Bits::empty();
+    body.append_number(34, 0x04ff_8046_c0 >> 6);
+    let mut zeros = Bits::empty();
+    zeros.append_number(10, 0);
+    let [first, second] = plan.paging.as_slice() else {
+        return Err("not two channels".into());
+    };
+    assert_eq!(rt; (first.number, first.gain), (7, 1));
+    assert_eq!(rt; (second.number, second.gain), (1, 60));
+    let half = Page {
+        follows: false,
+        body: zeros,
+    };
+    let next = Page {
+        follows: true,
+        body,
+    };
+    let last = Page {
+        follows: false,
+        body,
+    };
+    assert!(rt; first.pages.as_slice() == [half, next].as_slice());
+    assert!(rt; second.pages.as_slice() == [last].as_slice());
     Ok(())
 }

@@ -1,11 +1,12 @@
 //! The texts of values in a script.
 
-ghost use Rattle.std.specs.Prelude.{◌≡◌, ◌≤◌, ◌<◌, ◌+◌, ◌*◌, ◌-◌, ◌^◌, ℕ, true, length, take, drop};
+ghost use Rattle.std.specs.Prelude.{◌≡◌, ◌≤◌, ◌<◌, ◌+◌, ◌*◌, ◌-◌, ◌^◌, ℕ, true, length};
+ghost use Rattle.std.specs.Prelude.{take, drop};
 ghost use Rattle.std.specs.Prelude.{codes, Some, None, IfSome, unsigned_abs, flat_map};
 ghost use Rattle.std.specs.Char.{is_ascii_digit};
 ghost use Rattle.chip_core.specs.Bits.{binary};
 ghost use Rattle.long_code.specs.LongCode.{IsState};
-ghost use Rattle.base_modulator.specs.ScriptValues.{all_clear, behind, bits_in};
+ghost use Rattle.base_modulator.specs.ScriptValues.{all_clear, begins_with, behind, bits_in};
 ghost use Rattle.base_modulator.specs.ScriptValues.{hex_bits, hex_digit, hex_from, is_plain};
 ghost use Rattle.base_modulator.specs.ScriptValues.{length_before, negative, number_in};
 ghost use Rattle.base_modulator.specs.ScriptValues.{number_up_to, signed_in, state_in, unpadded};
@@ -29,6 +30,13 @@ pub(crate) fn length_before(text: &[u8], mark: u8) -> usize
         length += 1;
     }
     length
+}
+
+/// Whether a text begins with another one.
+pub(crate) fn begins_with(text: &[u8], front: &[u8]) -> bool
+    ensures { result ≡ begins_with text.now front.now }
+{
+    text.strip_prefix(front).is_some()
 }
 
 /// The number that a text spells in decimal without leading zeros, if it is at most `most`.

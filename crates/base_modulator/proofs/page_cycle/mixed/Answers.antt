@@ -1,4 +1,5 @@
-use Rattle.std.proofs.Common.{◌≡◌, ◌∷◌, [], ◌++◌, length, get_or, false, refl, ap, ◌∙◌, arith, length-append}
+use Rattle.std.proofs.Common.{◌≡◌, ◌∷◌, [], ◌++◌, length, get_or, false, refl, ap, ◌∙◌, arith}
+use Rattle.std.proofs.Common.{length-append}
 use Rattle.chip_core.specs.Bits.{xor}
 use Rattle.base_modulator.proofs.PageCycles.{differ_is, mixed_all, mixed_more}
 use Rattle.base_modulator.proofs.page_cycle.mixed.Goals as goal

@@ -1,6 +1,8 @@
-use Rattle.std.proofs.Common.{◌≡◌, ℕ, ◌%◌, Bool, false, ◌∷◌, [], ◌++◌, length, get_or, refl, sym, ap, ◌∙◌, arith, length-append}
+use Rattle.std.proofs.Common.{◌≡◌, ℕ, ◌%◌, Bool, false, ◌∷◌, [], ◌++◌, length, get_or, refl, sym}
+use Rattle.std.proofs.Common.{ap, ◌∙◌, arith, length-append}
 use Rattle.base_modulator.specs.PageCycles.{Cycle}
-use Rattle.base_modulator.proofs.PageCycles.{bit_more, bit_of_frame, frame_bits-is, frame_is, no_bits}
+use Rattle.base_modulator.proofs.PageCycles.{bit_more, bit_of_frame, frame_bits-is, frame_is}
+use Rattle.base_modulator.proofs.PageCycles.{no_bits}
 use Rattle.base_modulator.proofs.page_cycle.PageCycle.frame_bits.Goals as goal
 
 pub loop-k-init : goal.loop-k-init

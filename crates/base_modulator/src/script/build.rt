@@ -1,0 +1,75 @@
+//! The plan that the statements of a script make.
+
+ghost use Rattle.std.specs.Prelude.{◌≡◌, OnOk};
+ghost use Rattle.base_modulator.specs.ScriptDrafts.{empty_plan, opened, with_page, with_statement};
+
+use crate::plan::{CellIdentity, CellPlan, LinkPlan, Page, PagingPlan, PilotPlan};
+use crate::script::statements::{PagingLine, Statement};
+use crate::series::Series;
+use chip_core::{CheckForm, OutOfMemory, Pair};
+use std::alloc::Global;
+
+/// The plan before the first statement. A part that wasn't stated yet is that of the least cell: no
+/// offset, time 0, state 1, a link of 1, one sample, a pilot of gain 1, no other channels.
+pub(crate) fn empty_plan(alloc: Global) -> CellPlan
+    ensures { result ≡ empty_plan }
+{
+    CellPlan {
+        cell: CellIdentity {
+            pn: 0,
+            time: 0,
+            lc: 1,
+            check30: CheckForm::Plain,
+            check16: CheckForm::Plain,
+        },
+        link: LinkPlan {
+            factor: Pair { i: 1, q: 0 },
+            start: 0,
+            samples: 1,
+        },
+        pilot: PilotPlan { gain: 1 },
+        sync: None,
+        paging: Series::new(alloc),
+    }
+}
+
+/// A channel without pages.
+fn opened(alloc: Global, line: &PagingLine) -> PagingPlan
+    ensures { result ≡ opened line.now }
+{
+    PagingPlan {
+        number: line.number,
+        gain: line.gain,
+        pages: Series::new(alloc),
+    }
+}
+
+/// Adds a page to the last of the channels.
+fn add_page(paging: &mut Series<PagingPlan>, page: &Page) -> Result<(), OutOfMemory>
+    ensures { OnOk result (paging.new ≡ with_page paging.old page.now) }
+{
+    let Some(mut channel) = paging.pop() else {
+        return Ok(());
+    };
+    channel.pages.push(*page)?;
+    paging.push(channel)
+}
+
+/// Adds what a statement says to a plan.
+pub(crate) fn add_statement(
+    alloc: Global,
+    plan: &mut CellPlan,
+    statement: &Statement,
+) -> Result<(), OutOfMemory>
+    ensures { OnOk result (plan.new ≡ with_statement plan.old statement.now) }
+{
+    match statement {
+        Statement::Cell(cell) => plan.cell = *cell,
+        Statement::Link(link) => plan.link = *link,
+        Statement::Pilot(pilot) => plan.pilot = *pilot,
+        Statement::Sync(sync) => plan.sync = Some(*sync),
+        Statement::Paging(line) => return plan.paging.push(opened(alloc, line)),
+        Statement::Page(page) => return add_page(&mut plan.paging, page),
+    }
+    Ok(())
+}
