@@ -1,54 +1,20 @@
 //! Whole runs with limits, and with other taps than the program's own.
 
-ghost use Rattle.std.specs.Prelude.{◌-◌};
-
 use crate::Status;
-use crate::link_tests::{CELL, LINES, SYNC, made};
+use crate::link_tests::{CELL, LINES, made};
 use crate::test_runs::{SMALL, STEADY, run, run_tapped, zero_file};
-use event_tap::{Heard, MessageTap, Tap, Text, line_into};
-use mobile_core::Event;
+use event_tap::{MessageTap, Tap};
 use pilot_search::Open;
 use std::test::Fail;
 
-/// A tap of messages that counts those that it heard.
-#[derive(Drop)]
-struct CountingTap {
-    heard: u32,
-    limit: u32,
-}
-
-impl Tap for CountingTap {
-    ghost shape = { λ _. 1 };
-
-    ghost left = { λ t. t.limit - t.heard };
-
-    fn form(&self) -> u8 {
-        1
-    }
-
-    fn limit(&mut self, events: u32) {
-        self.heard = 0;
-        self.limit = events;
-    }
-
-    fn hear(&mut self, event: &Event, out: &mut Text) -> Heard {
-        match event {
-            Event::Pilot { .. } => out.clear(),
-            Event::Sync { .. } => {
-                line_into(event, out);
-                self.heard += 1;
-            }
-        }
-        if self.heard < self.limit {
-            Heard::Keep
-        } else {
-            Heard::Done
-        }
-    }
-}
-
 /// The line of the pilot in the long run's file.
 const PILOT: &str = "pilot phase=64 energy=1509949440000\n";
+
+/// The sync channel of the long run, and a paging channel beside it, which changes no line.
+const CHANNELS: &str =
+    "sync gain=30 prev=3 min=1 sid=1 nid=2 lp=13 ltm=0 daylt=0 prat=0 rest=3:00\n\
+     paging channel=1 gain=60\n\
+     page half 34:04ff8046c0\n";
 
 /// How far the first line goes of the first sync message as it came.
 const RAW: &[u8] = b"raw at=294848 sync 200:1901030100020005ff";
@@ -56,7 +22,7 @@ const RAW: &[u8] = b"raw at=294848 sync 200:1901030100020005ff";
 #[test]
 fn limits_end_what_is_told(rt: HostRuntime) -> Result<(), Fail> {
     let alloc = rt.alloc();
-    let file = made(&rt, CELL, SYNC)?;
+    let file = made(&rt, CELL, CHANNELS)?;
     let (status, text) = run(
         &rt,
         "follow --pilots 0 --messages 0 --raw 1",
@@ -92,11 +58,10 @@ fn limits_end_what_is_told(rt: HostRuntime) -> Result<(), Fail> {
 #[test]
 fn each_tap_handed_in_tells(rt: HostRuntime) -> Result<(), Fail> {
     let alloc = rt.alloc();
-    let file = made(&rt, CELL, SYNC)?;
+    let file = made(&rt, CELL, CHANNELS)?;
     let mut taps: Vec<Box<dyn Tap>> = Vec::new(alloc);
     taps.push(Box::new(alloc, MessageTap::new())?)?;
-    let counting = CountingTap { heard: 0, limit: 0 };
-    taps.push(Box::new(alloc, counting)?)?;
+    taps.push(Box::new(alloc, MessageTap::new())?)?;
     let mut twice = String::new(alloc);
     for line in LINES.split_inclusive('\n') {
         twice.push_str(line)?;
