@@ -1,3 +1,4 @@
+pub mod CarriedPages
 pub mod NamedPlans
 pub mod ScriptAnswers
 pub mod ScriptBounds

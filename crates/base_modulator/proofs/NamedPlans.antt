@@ -15,7 +15,8 @@ use Rattle.quality_bits.specs.Capsules.{FillsCapsule}
 use Rattle.quality_bits.specs.declared.kind.Kind.TheVariants.{M30}
 use Rattle.symbol_path.specs.declared.kinds.Rate.{Rate}
 use Rattle.symbol_path.specs.declared.kinds.Rate.TheVariants.{R9600, R4800}
-use Rattle.paging_message.specs.HalfFrames.{half_frame_body}
+use Rattle.paging_message.specs.Admitted.{HasMessage}
+use Rattle.paging_message.specs.HalfFrames.{bits_left, half_frame_body}
 use Rattle.base_modulator.specs.Pages.{half_frame_bits, laid_behind, paging_rate, AreSendable}
 use Rattle.base_modulator.specs.declared.plan.CellPlan.{CellPlan}
 use Rattle.base_modulator.specs.declared.plan.Page.{Page}
@@ -42,8 +43,9 @@ use Rattle.base_modulator.specs.ScriptDrafts.{draft_at, Draft, empty_draft, open
 use Rattle.base_modulator.specs.ScriptDrafts.{plan_at, with_line, with_next, with_page}
 use Rattle.base_modulator.specs.ScriptDrafts.{with_statement}
 use Rattle.base_modulator.specs.ScriptLines.{statement_in}
-use Rattle.base_modulator.specs.ScriptPlans.{HasSaid, IsLawful, IsStatedCell, IsStatedLink}
-use Rattle.base_modulator.specs.ScriptPlans.{IsStatedPaging, IsStatedPlan, IsStatedSync}
+use Rattle.base_modulator.specs.ScriptPlans.{AreHeard, HasSaid, IsLawful, IsStatedCell}
+use Rattle.base_modulator.specs.ScriptPlans.{IsStatedLink, IsStatedPaging, IsStatedPlan}
+use Rattle.base_modulator.specs.ScriptPlans.{IsStatedSync}
 use Rattle.base_modulator.specs.ScriptStages.{after_cell, after_link, after_page, after_paging}
 use Rattle.base_modulator.specs.ScriptStages.{after_pilot, after_sync, behind_sync, count_behind}
 use Rattle.base_modulator.specs.ScriptStages.{is_cycle, may_follow, next_stage}
@@ -81,6 +83,17 @@ sendable-append size count (p ∷ pages) page are fills few = (
       fills few,
 )
 
+heard-append : (size count : ℕ) (pages : List Page) (page : Page) → AreHeard size count pages →
+    HasMessage page.body → (page.follows ≡ true → 8 ≤ bits_left size (count_of size count pages)) →
+    AreHeard size count (pages ++ page ∷ [])
+heard-append size count [] page are is room = (is, room, tt)
+heard-append size count (p ∷ pages) page are is room = (
+  are.0,
+  are.1,
+  heard-append size (laid_behind size count p.follows (38 + length p.body)) pages page are.2 is
+      room,
+)
+
 -- ---- the channels at a stage
 
 -- the last channel is under way: its pages have so many body bits
@@ -92,6 +105,7 @@ record IsOpen (rate : Rate) (count : ℕ) (plan : CellPlan) : Type 0 where
   pub stated : All (IsStatedPaging rate) before
   pub number : (1 ≤ last.number) × (last.number ≤ 7)
   pub pages : AreSendable (half_frame_body rate) 0 last.pages
+  pub heard : AreHeard (half_frame_body rate) 0 last.pages
   pub laid : count ≡ count_of (half_frame_body rate) 0 last.pages
 
 abbrev HasPages : Rate → ℕ → CellPlan → Type 0
@@ -201,6 +215,7 @@ opened_behind rate plan line number rate_is are = record {
   stated = are;
   number = number;
   pages = tt;
+  heard = tt;
   laid = refl;
 }
 
@@ -210,7 +225,13 @@ closed : (rate : Rate) (count : ℕ) (plan : CellPlan) → HasPages rate count p
 closed rate count plan has =
     let o = has.0 in
     let last : IsStatedPaging rate o.last =
-    record { first = o.number.0; last = o.number.1; some = has.1; pages = o.pages } in
+    record {
+      first = o.number.0;
+      last = o.number.1;
+      some = has.1;
+      pages = o.pages;
+      heard = o.heard;
+    } in
     subst (All (IsStatedPaging rate)) (sym o.channels)
     (All-push (IsStatedPaging rate) o.before o.last o.stated last)
 
@@ -243,10 +264,11 @@ with_more plan page = record plan { paging = with_page plan.paging page }
 
 -- the channel under way has one page more
 page_laid : (rate : Rate) (count : ℕ) (plan : CellPlan) (page : Page) →
-    FillsCapsule M30 page.body → IsOpen rate count plan →
+    FillsCapsule M30 page.body × HasMessage page.body → IsOpen rate count plan →
+    (page.follows ≡ true → 8 ≤ bits_left (half_frame_body rate) count) →
     half_frame_bits (half_frame_body rate) (count_behind rate count page) ≤ 8192 →
     HasPages rate (count_behind rate count page) (with_more plan page)
-page_laid rate count plan page fills o few =
+page_laid rate count plan page is o room few =
     let size = half_frame_body rate in
     let pages = o.last.pages ++ page ∷ [] in
     let last : PagingPlan = record o.last { pages = pages } in
@@ -263,37 +285,45 @@ page_laid rate count plan page fills o few =
       channels = all;
       stated = o.stated;
       number = o.number;
-      pages = sendable-append size 0 o.last.pages page o.pages fills
+      pages = sendable-append size 0 o.last.pages page o.pages is.0
           (subst (λ (n : ℕ). half_frame_bits size n ≤ 8192) behind few);
+      heard = heard-append size 0 o.last.pages page o.heard is.1
+          (λ follows. subst (λ (n : ℕ). 8 ≤ bits_left size n) o.laid (room follows));
       laid = behind ∙ sym (count_of-append size 0 o.last.pages page);
     } in
     (open_now, omega (arith, length-append o.last.pages (page ∷ [])))
 
+follow_room : (rate : Rate) (count : ℕ) (follows : Bool) → may_follow rate count follows ≡ true →
+    follows ≡ true → 8 ≤ bits_left (half_frame_body rate) count
+follow_room rate count true test same = leb-true 8 (bits_left (half_frame_body rate) count) test
+follow_room rate count false test same = absurd (cc same)
+
 page_taken : (rate : Rate) (count : ℕ) (next : Stage) (plan : CellPlan) (page : Page) →
-    FillsCapsule M30 page.body → IsOpen rate count plan →
+    FillsCapsule M30 page.body × HasMessage page.body → IsOpen rate count plan →
     pages_behind rate count page ≡ Some next → HasChannels next (with_more plan page)
 unfolding pages_behind
-page_taken rate count next plan page fills o e =
+page_taken rate count next plan page is o e =
     let behind = count_behind rate count page in
     let told = cond_some _ (Pages rate behind) next e in
     let both = and_parts (may_follow rate count page.follows) (is_cycle rate behind) told.0 in
     subst (λ (s : Stage). HasChannels s (with_more plan page)) told.1
-    (page_laid rate count plan page fills o
+    (page_laid rate count plan page is o (follow_room rate count page.follows both.0)
     (leb-true (half_frame_bits (half_frame_body rate) behind) 8192 both.1))
 
 channels_page : (stage next : Stage) (plan : CellPlan) (page : Page) →
-    FillsCapsule M30 page.body → HasChannels stage plan → after_page stage page ≡ Some next →
+    FillsCapsule M30 page.body × HasMessage page.body → HasChannels stage plan →
+    after_page stage page ≡ Some next →
     HasChannels next (with_more plan page)
-channels_page Cell next plan page fills has e = absurd (cc e)
-channels_page Link next plan page fills has e = absurd (cc e)
-channels_page Pilot next plan page fills has e = absurd (cc e)
-channels_page Sync next plan page fills has e = absurd (cc e)
-channels_page (Paging rate) next plan page fills has e = absurd (cc e)
-channels_page (FirstPage rate) next plan page fills has e =
-    page_taken rate 0 next plan page fills has e
-channels_page (Pages rate count) next plan page fills has e =
-    page_taken rate count next plan page fills has.0 e
-channels_page End next plan page fills has e = absurd (cc e)
+channels_page Cell next plan page is has e = absurd (cc e)
+channels_page Link next plan page is has e = absurd (cc e)
+channels_page Pilot next plan page is has e = absurd (cc e)
+channels_page Sync next plan page is has e = absurd (cc e)
+channels_page (Paging rate) next plan page is has e = absurd (cc e)
+channels_page (FirstPage rate) next plan page is has e =
+    page_taken rate 0 next plan page is has e
+channels_page (Pages rate count) next plan page is has e =
+    page_taken rate count next plan page is has.0 e
+channels_page End next plan page is has e = absurd (cc e)
 
 -- ---- what was said at a stage
 
@@ -556,4 +586,24 @@ pub named_plan : (width : Width) (script : List ℕ) (plan : CellPlan) →
 unfolding plan_named
 named_plan width script plan e =
     named_sent width (stated_plan script) plan (stated_said script)
+    (small_script (nat_lt 1048576 (length script)) (named width (stated_plan script)) plan e)
+
+without_said : (said plan : CellPlan) (fault : Option ScriptFault) → HasSaid said →
+    unless said fault ≡ Ok plan → HasSaid plan
+without_said said plan None has e = subst HasSaid (cc e) has
+without_said said plan (Some fault) has e = absurd (cc e)
+
+read_said : (width : Width) (read : Result CellPlan ℕ) (plan : CellPlan) →
+    ((said : CellPlan) → read ≡ Ok said → HasSaid said) → named width read ≡ Ok plan →
+    HasSaid plan
+read_said width (Err n) plan has e = absurd (cc e)
+read_said width (Ok said) plan has e =
+    without_said said plan (plan_fault width said) (has said refl) e
+
+-- what a named plan says is within its bounds
+pub named_said : (width : Width) (script : List ℕ) (plan : CellPlan) →
+    plan_named width script ≡ Ok plan → HasSaid plan
+unfolding plan_named
+named_said width script plan e =
+    read_said width (stated_plan script) plan (stated_said script)
     (small_script (nat_lt 1048576 (length script)) (named width (stated_plan script)) plan e)

@@ -29,6 +29,7 @@ use Rattle.base_modulator.specs.declared.plan.Page.{Page}
 use Rattle.base_modulator.specs.declared.script.statements.PagingLine.{PagingLine}
 use Rattle.base_modulator.specs.declared.script.statements.Statement.{Statement}
 use Rattle.base_modulator.specs.declared.script.statements.Statement.TheVariants as statements
+use Rattle.paging_message.specs.Admitted.{HasMessage}
 use Rattle.paging_message.specs.Reading.{is_body}
 use Rattle.quality_bits.specs.Capsules.{FillsCapsule}
 use Rattle.quality_bits.specs.declared.kind.Kind.TheVariants.{M30}
@@ -36,7 +37,7 @@ use Rattle.base_modulator.specs.ScriptPlans.{IsLawful, IsStatedCell, IsStatedLin
 use Rattle.base_modulator.specs.ScriptValues.{as_state, begins_with, bits_in, hex_from, number_in}
 use Rattle.base_modulator.specs.ScriptValues.{number_up_to, signed_in, state_in, up_to}
 use Rattle.base_modulator.proofs.ScriptMessages.{is_tail}
-use Rattle.base_modulator.proofs.ScriptPages.{body_fills}
+use Rattle.base_modulator.proofs.ScriptPages.{body_fills, body_message}
 use Rattle.base_modulator.proofs.ScriptNumerals.{one_signed_numeral}
 
 -- ---- steps that may fail
@@ -310,13 +311,13 @@ paging_bounds text =
     (paging_some number gain line (number == 0) refl (number_field _ 7 _ number number_is) line_is)
 
 abbrev PageBounds : Page → Type 0
-PageBounds page = FillsCapsule M30 page.body
+PageBounds page = FillsCapsule M30 page.body × HasMessage page.body
 
 page_some : (follows : Bool) (body : List Bool) (page : Page) →
     lawful_page follows body ≡ Some page → PageBounds page
 page_some follows body page e =
     let told = cond_some (is_body body) (record { follows = follows; body = body }) page e in
-    subst PageBounds told.1 (body_fills body told.0)
+    subst PageBounds told.1 (body_fills body told.0, body_message body told.0)
 
 page_with_bounds : (follows : Bool) (text : List ℕ) (page : Page) →
     page_with follows text ≡ Some page → PageBounds page
@@ -326,7 +327,7 @@ page_with_bounds follows text =
     subst PageBounds (ended _ page all e) (page_some follows body page page_is)
 
 pub page_bounds : (text : List ℕ) (page : Page) → page_in text ≡ Some page →
-    FillsCapsule M30 page.body
+    FillsCapsule M30 page.body × HasMessage page.body
 unfolding page_in
 page_bounds text = page_with_bounds (begins_with text (codes "page next ")) text
 

@@ -5,6 +5,7 @@ use Rattle.std.proofs.Common.{Result, Ok, Err, OnOk}
 use Rattle.std.proofs.lemmas.Bool.{cond-false, cond-true}
 use Rattle.quality_bits.specs.Capsules.{FillsCapsule}
 use Rattle.quality_bits.specs.declared.kind.Kind.TheVariants.{M30}
+use Rattle.paging_message.specs.Admitted.{HasMessage}
 use Rattle.paging_message.specs.Messages.{message_body, IsPagingMessage}
 use Rattle.paging_message.specs.Reading.{body_reading, is_body, message_at, number_at}
 use Rattle.paging_message.specs.declared.message.PagingMessage.{PagingMessage}
@@ -30,6 +31,12 @@ pub body_fills : (body : List Bool) → is_body body ≡ true → FillsCapsule M
 body_fills body is =
     let told = body_is_read body (message_in body) (read-body body is) in
     subst (FillsCapsule M30) (sym told.1) (message_fills (message_in body) told.0)
+
+-- and is that of a message
+pub body_message : (body : List Bool) → is_body body ≡ true → HasMessage body
+body_message body is =
+    let told = body_is_read body (message_in body) (read-body body is) in
+    record { message = message_in body; spelled = told.0; same = told.1 }
 
 abbrev Spells : List Bool → PagingMessage → Type 0
 Spells body m = IsPagingMessage m × (body ≡ message_body m)

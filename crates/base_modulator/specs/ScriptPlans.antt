@@ -1,14 +1,18 @@
 -- What is known of what a script says, whatever its gains and its samples are.
-use Rattle.std.specs.Prelude.{◌^◌, ◌<◌, ◌≤◌, All, length, Option, Some, None, unsigned_abs}
+use Rattle.std.specs.Prelude.{◌≡◌, ℕ, ◌+◌, ◌^◌, ◌<◌, ◌≤◌, All, true, List, [], ◌∷◌, length, map}
+use Rattle.std.specs.Prelude.{Option, Some, None, unsigned_abs}
+use Rattle.chip_core.specs.declared.check_form.CheckForm.{CheckForm}
 use Rattle.chip_core.specs.Complex.{norm}
 use Rattle.long_code.specs.LongCode.{IsState}
 use Rattle.sync_message.specs.SyncMessage.{IsSyncMessage}
 use Rattle.symbol_path.specs.declared.kinds.Rate.{Rate}
-use Rattle.paging_message.specs.HalfFrames.{half_frame_body}
-use Rattle.quality_bits.specs.Capsules.{FillsCapsule}
+use Rattle.paging_message.specs.Admitted.{HasMessage}
+use Rattle.paging_message.specs.HalfFrames.{bits_left, capsules_in, half_frame_body}
+use Rattle.quality_bits.specs.Capsules.{capsule, FillsCapsule}
 use Rattle.quality_bits.specs.declared.kind.Kind.TheVariants.{M30}
-use Rattle.base_modulator.specs.Pages.{paging_rate, AreSendable}
+use Rattle.base_modulator.specs.Pages.{laid_behind, page_cycle, paging_rate, AreSendable}
 use Rattle.base_modulator.specs.declared.plan.CellPlan.{CellPlan}
+use Rattle.base_modulator.specs.declared.plan.Page.{Page}
 use Rattle.base_modulator.specs.declared.plan.PagingPlan.{PagingPlan}
 use Rattle.base_modulator.specs.declared.plan.SyncPlan.{SyncPlan}
 use Rattle.base_modulator.specs.declared.plan.CellIdentity.{CellIdentity}
@@ -39,12 +43,31 @@ abbrev pub IsStatedSync : Option SyncPlan → Type 0
 IsStatedSync None = Unit {0}
 IsStatedSync (Some sync) = IsSyncMessage sync.message
 
+-- Pages behind so many body bits: each is a message, and one follows the one before at once only
+-- where 8 body bits of the half-frame are left.
+abbrev pub AreHeard : ℕ → ℕ → List Page → Type 0
+AreHeard size count [] = Unit {0}
+AreHeard size count (page ∷ pages) =
+    HasMessage page.body × (page.follows ≡ true → 8 ≤ bits_left size count)
+    × AreHeard size (laid_behind size count page.follows (38 + length page.body)) pages
+
+-- each page of a channel is a message
+abbrev pub HasMessages : PagingPlan → Type 0
+HasMessages p = All (λ (page : Page). HasMessage page.body) p.pages
+
+-- the half-frames of a channel's pages carry just their capsules, in order
+abbrev pub IsCarried : Rate → CheckForm → PagingPlan → Type 0
+IsCarried rate form p =
+    capsules_in (half_frame_body rate) (page_cycle rate form p.pages)
+    ≡ map (λ (page : Page). capsule M30 form page.body) p.pages
+
 -- a paging channel with pages that can be sent
 pub record IsStatedPaging (rate : Rate) (p : PagingPlan) : Type 0 where
   pub first : 1 ≤ p.number
   pub last : p.number ≤ 7
   pub some : 1 ≤ length p.pages
   pub pages : AreSendable (half_frame_body rate) 0 p.pages
+  pub heard : AreHeard (half_frame_body rate) 0 p.pages
 
 pub record IsStatedPlan (plan : CellPlan) : Type 0 where
   pub cell : IsStatedCell plan.cell
@@ -64,4 +87,4 @@ IsLawful (statements.Link link) = IsStatedLink link × (0 < norm link.factor)
 IsLawful (statements.Pilot pilot) = Unit {0}
 IsLawful (statements.Sync sync) = IsSyncMessage sync.message
 IsLawful (statements.Paging line) = (1 ≤ line.number) × (line.number ≤ 7)
-IsLawful (statements.Page page) = FillsCapsule M30 page.body
+IsLawful (statements.Page page) = FillsCapsule M30 page.body × HasMessage page.body

@@ -1,13 +1,16 @@
 //! Laws of the definitions: each function does nothing, and its contract is the law.
 
 ghost use Rattle.std.specs.Prelude.{◌≡◌, ◌≢◌, ◌↔◌, ◌≤◌, ◌<◌, ◌+◌, ◌^◌, ℕ, ℤ, List, length, take};
-ghost use Rattle.std.specs.Prelude.{Some, Ok, Err, IsOk, FitsSigned, decimal};
+ghost use Rattle.std.specs.Prelude.{Some, Ok, Err, IsOk, All, FitsSigned, decimal};
 ghost use Rattle.std.specs.Fmt.{signed_decimal};
 ghost use Rattle.std.specs.Int.{w16};
 ghost use Rattle.cdma_io.specs.declared.width.Width.{Width as TheWidth};
 ghost use Rattle.chip_core.specs.Complex.{norm};
+ghost use Rattle.chip_core.specs.declared.check_form.CheckForm.{CheckForm as TheForm};
+ghost use Rattle.base_modulator.specs.Pages.{paging_rate};
 ghost use Rattle.base_modulator.specs.Plan.{IsLawfulPlan};
 ghost use Rattle.base_modulator.specs.Script.{lines, plan_named, stated_plan};
+ghost use Rattle.base_modulator.specs.ScriptPlans.{HasMessages, IsCarried};
 ghost use Rattle.base_modulator.specs.ScriptValues.{number_up_to, signed_in};
 ghost use Rattle.base_modulator.specs.declared.plan.CellPlan.{CellPlan};
 ghost use Rattle.base_modulator.specs.declared.script_fault.ScriptFault.TheVariants.{Line};
@@ -50,4 +53,14 @@ pub fn named_plan_is_lawful()
     ensures { (width : TheWidth) (script : List ℕ) (plan : CellPlan) →
         plan_named width script ≡ Ok plan →
         IsLawfulPlan width plan × (0 < norm plan.link.factor) }
+{}
+
+/// Each page of the plan that a script names is a message of the paging channel, and the half-frames
+/// of a channel's pages carry just their capsules, in order, whatever the form of the checks.
+pub fn named_pages_are_carried()
+    ensures messages { (width : TheWidth) (script : List ℕ) (plan : CellPlan) →
+        plan_named width script ≡ Ok plan → All HasMessages plan.paging }
+    ensures carried { (width : TheWidth) (script : List ℕ) (plan : CellPlan) (form : TheForm) →
+        plan_named width script ≡ Ok plan →
+        All (IsCarried (paging_rate plan.sync) form) plan.paging }
 {}
