@@ -55,8 +55,9 @@ pub fn named_plan_is_lawful()
         IsLawfulPlan width plan × (0 < norm plan.link.factor) }
 {}
 
-/// Each page of the plan that a script names is a message of the paging channel, and the half-frames
-/// of a channel's pages carry just their capsules, in order, whatever the form of the checks.
+/// Each page of the plan that a script names is a message of the paging channel, and the
+/// half-frames of a channel's pages carry just their capsules, in order, whatever the form of the
+/// checks.
 pub fn named_pages_are_carried()
     ensures messages { (width : TheWidth) (script : List ℕ) (plan : CellPlan) →
         plan_named width script ≡ Ok plan → All HasMessages plan.paging }
