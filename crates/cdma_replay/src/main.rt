@@ -30,7 +30,7 @@ use event_tap::{FrameTap, MessageTap, PilotTap, RawTap, Tap};
 use pilot_search::Open;
 pub use replaying::replay;
 pub use status::Status;
-use std::alloc::{AllocError, Global};
+use std::alloc::AllocError;
 use std::io::ErrorKind;
 use std::process::ExitCode;
 use std::rt::Env;
@@ -57,37 +57,29 @@ fn words_of_process<R: Env + AllocGlobal>(rt: &R) -> Result<Vec<String>, Status>
         .map_err(|_| Status::NoMemory)
 }
 
-/// The program's own taps, one of each form, in order.
-fn own_taps(alloc: Global) -> Result<Vec<Box<dyn Tap>>, AllocError> {
+/// Runs the command that the words name over the standard streams, with a tap of each form.
+fn run_words<R: Input + Print + AllocGlobal + Threads + Sync>(
+    rt: &R,
+    words: &[String],
+) -> Result<Status, AllocError> {
+    let alloc = rt.alloc();
     let mut taps: Vec<Box<dyn Tap>> = Vec::with_capacity(alloc, 4)?;
     taps.push(Box::new(alloc, PilotTap::new())?)?;
     taps.push(Box::new(alloc, MessageTap::new())?)?;
     taps.push(Box::new(alloc, FrameTap::new())?)?;
     taps.push(Box::new(alloc, RawTap::new())?)?;
-    Ok(taps)
-}
-
-/// Runs the command that the process was given, over its standard streams.
-fn run<R: Env + Input + Print + AllocGlobal + Threads + Sync>(rt: &R) -> Status {
-    let words = match words_of_process(rt) {
-        Ok(words) => words,
-        Err(status) => return status,
-    };
-    let Ok(taps) = own_taps(rt.alloc()) else {
-        return Status::NoMemory;
-    };
     let mut source = ReaderSource::new(rt.reader());
     let mut sink = WriterSink::new(io::writer(rt));
-    let status = replay(
-        rt,
-        rt.alloc(),
-        words.as_slice(),
-        &mut source,
-        &mut sink,
-        taps,
-        &Open,
-    );
-    flushed(status, sink.flush())
+    let status = replay(rt, alloc, words, &mut source, &mut sink, taps, &Open);
+    Ok(flushed(status, sink.flush()))
+}
+
+/// Runs the command that the process was given.
+fn run<R: Env + Input + Print + AllocGlobal + Threads + Sync>(rt: &R) -> Status {
+    match words_of_process(rt) {
+        Ok(words) => run_words(rt, words.as_slice()).unwrap_or(Status::NoMemory),
+        Err(status) => status,
+    }
 }
 
 /// How a run ends whose output was then flushed: a flush that fails is a write that fails, where

@@ -2,9 +2,9 @@
 
 ghost use Rattle.std.specs.Prelude.{◌≤◌};
 
-use crate::{Status, own_taps, replay};
+use crate::{Status, replay};
 use cdma_io::{MemorySink, MemorySource};
-use event_tap::Tap;
+use event_tap::{FrameTap, MessageTap, PilotTap, RawTap, Tap};
 use pilot_search::{Gate, Open};
 use short_code::Codes;
 use std::alloc::Global;
@@ -67,7 +67,7 @@ pub fn run<R: AllocGlobal + Threads + Sync>(
     run_through(rt, line, input, outside, &Open)
 }
 
-/// The same with a gate that the workers pass.
+/// The same with a gate that the workers pass. There is a tap of each form, as in the program.
 pub fn run_through<R: AllocGlobal + Threads + Sync, G: Gate + Sync>(
     rt: &R,
     line: &str,
@@ -77,7 +77,12 @@ pub fn run_through<R: AllocGlobal + Threads + Sync, G: Gate + Sync>(
 ) -> Result<(Status, Vec<u8>), Fail>
     requires { (1 ≤ outside.source_piece) × (1 ≤ outside.sink_piece) }
 {
-    let taps = own_taps(rt.alloc())?;
+    let alloc = rt.alloc();
+    let mut taps: Vec<Box<dyn Tap>> = Vec::new(alloc);
+    taps.push(Box::new(alloc, PilotTap::new())?)?;
+    taps.push(Box::new(alloc, MessageTap::new())?)?;
+    taps.push(Box::new(alloc, FrameTap::new())?)?;
+    taps.push(Box::new(alloc, RawTap::new())?)?;
     run_tapped(rt, line, input, outside, taps, gate)
 }
 
