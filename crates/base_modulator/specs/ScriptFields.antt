@@ -1,8 +1,12 @@
 -- The fields of a script's lines, read one after another.
 use Rattle.std.specs.Prelude.{ℕ, if◌then◌else◌, List, [], ◌∷◌, length, take, drop, map}
-use Rattle.std.specs.Prelude.{get_or, ◌<◌, ◌≤◌, Option, None, Some}
+use Rattle.std.specs.Prelude.{get_or, ◌<◌, ◌≤◌, Option, None, Some, ℤ}
+use Rattle.long_code.specs.LongCode.{IsState}
+use Rattle.base_modulator.specs.declared.script.tables.FieldForm.{FieldForm}
+use Rattle.base_modulator.specs.declared.script.tables.FieldForm.TheVariants as forms
 use Rattle.base_modulator.specs.declared.script.tables.NumberField.{NumberField}
 use Rattle.base_modulator.specs.ScriptValues.{begins_with, length_before, number_up_to}
+use Rattle.base_modulator.specs.ScriptValues.{signed_in, state_in}
 
 -- what stands behind a key, from there up to the next space, and from that space on
 abbrev pub keyed : List ℕ → List ℕ → List ℕ
@@ -27,6 +31,50 @@ None >>= f = None
 abbrev pub at_end : {A : Type 0} → List ℕ → A → Option A
 at_end [] value = Some value
 at_end (byte ∷ bytes) value = None
+
+-- ---- fields by their forms
+
+-- the reader of the values of a form that has no sign
+abbrev pub unsigned_of : FieldForm → (List ℕ → Option ℕ)
+unsigned_of (forms.UpTo most) = number_up_to most
+unsigned_of forms.Signed = λ text. None
+unsigned_of forms.State = state_in
+
+-- the reader of the values of a form that has one
+abbrev pub signed_of : FieldForm → (List ℕ → Option ℤ)
+signed_of (forms.UpTo most) = λ text. None
+signed_of forms.Signed = signed_in
+signed_of forms.State = λ text. None
+
+-- in the range of a form that has no sign
+abbrev pub IsOfForm : FieldForm → ℕ → Type 0
+IsOfForm (forms.UpTo most) n = n ≤ most
+IsOfForm forms.Signed n = Unit {0}
+IsOfForm forms.State n = IsState n
+
+-- a field of a statement: its key, and the form of its value
+pub record StatementRow : Type 0 where
+  pub key : List ℕ
+  pub form : FieldForm
+
+abbrev pub formed : List ℕ → FieldForm → StatementRow
+formed key form = record { key = key; form = form }
+
+-- row i of a statement's table
+abbrev pub row_at : List StatementRow → ℕ → StatementRow
+row_at rows i = get_or rows i (formed [] forms.State)
+
+-- its value at the beginning of a text, and the text behind it
+abbrev pub unsigned_at : List StatementRow → ℕ → List ℕ → Option ℕ
+unsigned_at rows i text = field (row_at rows i).key (unsigned_of (row_at rows i).form) text
+
+abbrev pub signed_at : List StatementRow → ℕ → List ℕ → Option ℤ
+signed_at rows i text = field (row_at rows i).key (signed_of (row_at rows i).form) text
+
+abbrev pub past_at : List StatementRow → ℕ → List ℕ → List ℕ
+past_at rows i text = past (row_at rows i).key text
+
+-- ---- numbers that follow one another
 
 -- a field that holds a number: its key, and the greatest number
 pub record NumberRow : Type 0 where

@@ -16,10 +16,11 @@ use Rattle.base_modulator.specs.declared.plan.Page.{Page}
 use Rattle.base_modulator.specs.declared.script.statements.PagingLine.{PagingLine}
 use Rattle.base_modulator.specs.declared.script.statements.Statement.{Statement}
 use Rattle.base_modulator.specs.declared.script.statements.Statement.TheVariants as statements
+use Rattle.base_modulator.specs.declared.script.tables.FieldForm.TheVariants as forms
 use Rattle.base_modulator.specs.ScriptFields.{NumberRow, ◌>>=◌, at_end, field, numbers_in, past}
 use Rattle.base_modulator.specs.ScriptFields.{past_numbers, row}
-use Rattle.base_modulator.specs.ScriptValues.{begins_with, bits_in, number_up_to, signed_in}
-use Rattle.base_modulator.specs.ScriptValues.{state_in}
+use Rattle.base_modulator.specs.ScriptFields.{StatementRow, formed, past_at, signed_at, unsigned_at}
+use Rattle.base_modulator.specs.ScriptValues.{begins_with, bits_in, number_up_to}
 
 -- ---- statements
 
@@ -38,17 +39,25 @@ cell_line pn time lc checks =
       check16 = check_form (checks / 2);
     }
 
+abbrev pub cell_rows : List StatementRow
+cell_rows =
+    formed (codes "cell pn=") (forms.UpTo 511)
+    ∷ formed (codes " time=") (forms.UpTo 34359738368)
+    ∷ formed (codes " lc=") forms.State
+    ∷ formed (codes " checks=") (forms.UpTo 3)
+    ∷ []
+
 unfoldable pub cell_in : List ℕ → Option CellIdentity
 cell_in text0 =
-    let text1 = past (codes "cell pn=") text0 in
-    let text2 = past (codes " time=") text1 in
-    let text3 = past (codes " lc=") text2 in
-    let text4 = past (codes " checks=") text3 in
+    let text1 = past_at cell_rows 0 text0 in
+    let text2 = past_at cell_rows 1 text1 in
+    let text3 = past_at cell_rows 2 text2 in
+    let text4 = past_at cell_rows 3 text3 in
     do
-      pn ← field (codes "cell pn=") (number_up_to 511) text0
-      time ← field (codes " time=") (number_up_to 34359738368) text1
-      lc ← field (codes " lc=") state_in text2
-      checks ← field (codes " checks=") (number_up_to 3) text3
+      pn ← unsigned_at cell_rows 0 text0
+      time ← unsigned_at cell_rows 1 text1
+      lc ← unsigned_at cell_rows 2 text2
+      checks ← unsigned_at cell_rows 3 text3
       at_end text4 (cell_line pn time lc checks)
 
 -- `link re=A im=B start=S samples=N`: A and B aren't both 0, and neither is N
@@ -61,25 +70,36 @@ link_line re im start samples =
     let link : LinkPlan = record { factor = factor; start = start; samples = samples } in
     if is_link re im samples then Some link else None
 
+abbrev pub link_rows : List StatementRow
+link_rows =
+    formed (codes "link re=") forms.Signed
+    ∷ formed (codes " im=") forms.Signed
+    ∷ formed (codes " start=") (forms.UpTo 4294967295)
+    ∷ formed (codes " samples=") (forms.UpTo 18446744073709551615)
+    ∷ []
+
 unfoldable pub link_in : List ℕ → Option LinkPlan
 link_in text0 =
-    let text1 = past (codes "link re=") text0 in
-    let text2 = past (codes " im=") text1 in
-    let text3 = past (codes " start=") text2 in
-    let text4 = past (codes " samples=") text3 in
+    let text1 = past_at link_rows 0 text0 in
+    let text2 = past_at link_rows 1 text1 in
+    let text3 = past_at link_rows 2 text2 in
+    let text4 = past_at link_rows 3 text3 in
     do
-      re ← field (codes "link re=") signed_in text0
-      im ← field (codes " im=") signed_in text1
-      start ← field (codes " start=") (number_up_to 4294967295) text2
-      samples ← field (codes " samples=") (number_up_to 18446744073709551615) text3
+      re ← signed_at link_rows 0 text0
+      im ← signed_at link_rows 1 text1
+      start ← unsigned_at link_rows 2 text2
+      samples ← unsigned_at link_rows 3 text3
       line ← link_line re im start samples
       at_end text4 line
 
 -- `pilot gain=G`
+abbrev pub pilot_rows : List StatementRow
+pilot_rows = formed (codes "pilot gain=") (forms.UpTo 65535) ∷ []
+
 unfoldable pub pilot_in : List ℕ → Option PilotPlan
 pilot_in text = do
-  gain ← field (codes "pilot gain=") (number_up_to 65535) text
-  at_end (past (codes "pilot gain=") text) (record { gain = gain })
+  gain ← unsigned_at pilot_rows 0 text
+  at_end (past_at pilot_rows 0 text) (record { gain = gain })
 
 -- `sync gain=G prev=.. min=.. sid=.. nid=.. lp=.. ltm=.. daylt=.. prat=.. [freq=..] rest=BITS`
 
@@ -166,13 +186,18 @@ paging_line number gain = if number == 0 then None else Some (record {
   gain = gain;
 })
 
+abbrev pub paging_rows : List StatementRow
+paging_rows =
+    formed (codes "paging channel=") (forms.UpTo 7) ∷ formed (codes " gain=") (forms.UpTo 65535)
+    ∷ []
+
 unfoldable pub paging_in : List ℕ → Option PagingLine
 paging_in text0 =
-    let text1 = past (codes "paging channel=") text0 in
-    let text2 = past (codes " gain=") text1 in
+    let text1 = past_at paging_rows 0 text0 in
+    let text2 = past_at paging_rows 1 text1 in
     do
-      number ← field (codes "paging channel=") (number_up_to 7) text0
-      gain ← field (codes " gain=") (number_up_to 65535) text1
+      number ← unsigned_at paging_rows 0 text0
+      gain ← unsigned_at paging_rows 1 text1
       line ← paging_line number gain
       at_end text2 line
 

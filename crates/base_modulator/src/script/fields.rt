@@ -2,13 +2,12 @@
 
 ghost use Rattle.std.specs.Prelude.{◌≡◌, ◌≤◌, ℕ, Bool, List, true, false, length, IfSome, OnSome};
 ghost use Rattle.std.specs.Prelude.{MatchOption, IsTrue, ◌↔◌, unsigned_abs, [], None, Some};
-ghost use Rattle.long_code.specs.LongCode.{IsState};
-ghost use Rattle.base_modulator.specs.ScriptValues.{begins_with, bits_in, number_up_to, signed_in};
-ghost use Rattle.base_modulator.specs.ScriptValues.{state_in};
+ghost use Rattle.base_modulator.specs.ScriptValues.{begins_with, bits_in, number_up_to};
 ghost use Rattle.base_modulator.specs.ScriptFields.{AreUpTo, field, numbers_in, past, past_numbers};
 ghost use Rattle.base_modulator.specs.ScriptFields.{rows_of, value_of};
+ghost use Rattle.base_modulator.specs.ScriptFields.{IsOfForm, signed_of, unsigned_of};
 
-use crate::script::tables::NumberField;
+use crate::script::tables::{FieldForm, NumberField, StatementField};
 use crate::script::values::{
     begins_with, bits_in, length_before, number_up_to, signed_in, state_in,
 };
@@ -90,24 +89,24 @@ impl<'a> Fields<'a> {
         Some(())
     }
 
-    /// A number with a sign, from -32,768 to 32,767.
+    /// The value of a field whose form has no sign; `None` for one whose form has.
     #[tactic(auto, unfolding(crate::specs::ScriptFields::field))]
-    pub(crate) fn signed(&mut self, key: &[u8]) -> Option<i64>
-        ensures value { result ≡ field key.now signed_in self.old }
-        ensures range { IfSome result (λ n. unsigned_abs n ≤ 32768) }
-        ensures rest { OnSome result (self.new ≡ past key.now self.old) }
+    pub(crate) fn unsigned(&mut self, row: StatementField) -> Option<u64>
+        ensures value { result ≡ field row.key.now (unsigned_of row.form) self.old }
+        ensures range { IfSome result (IsOfForm row.form) }
+        ensures rest { OnSome result (self.new ≡ past row.key.now self.old) }
     {
-        signed_in(self.value(key)?)
+        unsigned_of(row.form, self.value(row.key)?)
     }
 
-    /// A state of the long code.
+    /// The value of a field whose form has a sign; `None` for one whose form has none.
     #[tactic(auto, unfolding(crate::specs::ScriptFields::field))]
-    pub(crate) fn state(&mut self, key: &[u8]) -> Option<u64>
-        ensures value { result ≡ field key.now state_in self.old }
-        ensures range { IfSome result IsState }
-        ensures rest { OnSome result (self.new ≡ past key.now self.old) }
+    pub(crate) fn signed(&mut self, row: StatementField) -> Option<i64>
+        ensures value { result ≡ field row.key.now (signed_of row.form) self.old }
+        ensures range { IfSome result (λ n. unsigned_abs n ≤ 32768) }
+        ensures rest { OnSome result (self.new ≡ past row.key.now self.old) }
     {
-        state_in(self.value(key)?)
+        signed_of(row.form, self.value(row.key)?)
     }
 
     /// A list of bits.
@@ -117,5 +116,28 @@ impl<'a> Fields<'a> {
         ensures rest { OnSome result (self.new ≡ past key.now self.old) }
     {
         bits_in(self.value(key)?)
+    }
+}
+
+/// The value that a text spells in a form that has no sign; `None` in one that has.
+fn unsigned_of(form: FieldForm, text: &[u8]) -> Option<u64>
+    ensures value { result ≡ unsigned_of form text.now }
+    ensures range { IfSome result (IsOfForm form) }
+{
+    match form {
+        FieldForm::UpTo(most) => number_up_to(text, most),
+        FieldForm::State => state_in(text),
+        FieldForm::Signed => None,
+    }
+}
+
+/// The value that a text spells in a form that has a sign; `None` in one that has none.
+fn signed_of(form: FieldForm, text: &[u8]) -> Option<i64>
+    ensures value { result ≡ signed_of form text.now }
+    ensures range { IfSome result (λ n. unsigned_abs n ≤ 32768) }
+{
+    match form {
+        FieldForm::Signed => signed_in(text),
+        FieldForm::UpTo(_) | FieldForm::State => None,
     }
 }

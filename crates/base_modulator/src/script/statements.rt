@@ -15,7 +15,9 @@ ghost use Rattle.sync_message.specs.SyncMessage.{fixed_fields};
 
 use crate::plan::{CellIdentity, LinkPlan, Page, PilotPlan, SyncPlan};
 use crate::script::fields::Fields;
-use crate::script::tables::{FREQ_NUMBER, SYNC_NUMBERS};
+use crate::script::tables::{
+    CELL_FIELDS, FREQ_NUMBER, LINK_FIELDS, PAGING_FIELDS, PILOT_FIELDS, SYNC_NUMBERS,
+};
 use crate::script::values::begins_with;
 use chip_core::{Bits, CheckForm, Pair};
 use paging_message::PagingMessage;
@@ -92,10 +94,10 @@ fn cell_in(text: &[u8]) -> Option<CellIdentity>
     ensures lawful { IfSome result IsStatedCell }
 {
     let mut fields = Fields::new(text);
-    let pn = fields.number(b"cell pn=", 511)?;
-    let time = fields.number(b" time=", 34_359_738_368)?;
-    let lc = fields.state(b" lc=")?;
-    let checks = fields.number(b" checks=", 3)?;
+    let pn = fields.unsigned(CELL_FIELDS[0])?;
+    let time = fields.unsigned(CELL_FIELDS[1])?;
+    let lc = fields.unsigned(CELL_FIELDS[2])?;
+    let checks = fields.unsigned(CELL_FIELDS[3])?;
     if !fields.at_end() {
         return None;
     }
@@ -115,10 +117,10 @@ fn link_in(text: &[u8]) -> Option<LinkPlan>
     ensures lawful { IfSome result IsStatedLink }
 {
     let mut fields = Fields::new(text);
-    let re = fields.signed(b"link re=")?;
-    let im = fields.signed(b" im=")?;
-    let start = fields.number(b" start=", 4_294_967_295)?;
-    let samples = fields.number(b" samples=", u64::MAX)?;
+    let re = fields.signed(LINK_FIELDS[0])?;
+    let im = fields.signed(LINK_FIELDS[1])?;
+    let start = fields.unsigned(LINK_FIELDS[2])?;
+    let samples = fields.unsigned(LINK_FIELDS[3])?;
     if re.unsigned_abs() + im.unsigned_abs() == 0 || samples == 0 || !fields.at_end() {
         return None;
     }
@@ -135,7 +137,7 @@ fn pilot_in(text: &[u8]) -> Option<PilotPlan>
     ensures { result ≡ pilot_in text.now }
 {
     let mut fields = Fields::new(text);
-    let gain = fields.number(b"pilot gain=", 65_535)?;
+    let gain = fields.unsigned(PILOT_FIELDS[0])?;
     if !fields.at_end() {
         return None;
     }
@@ -223,8 +225,8 @@ fn paging_in(text: &[u8]) -> Option<PagingLine>
     ensures row { IfSome result (λ line. line.number < 64) }
 {
     let mut fields = Fields::new(text);
-    let number = fields.number(b"paging channel=", 7)?;
-    let gain = fields.number(b" gain=", 65_535)?;
+    let number = fields.unsigned(PAGING_FIELDS[0])?;
+    let gain = fields.unsigned(PAGING_FIELDS[1])?;
     if number == 0 || !fields.at_end() {
         return None;
     }

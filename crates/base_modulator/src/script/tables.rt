@@ -1,4 +1,4 @@
-//! The fields that hold numbers, which reading and its definition both go by.
+//! The fields of statements, which reading and its definition both go by.
 
 use sync_message::{FREQ_FIELD, SYNC_FIELDS};
 
@@ -10,6 +10,84 @@ pub(crate) struct NumberField {
     /// The greatest number that it admits.
     pub(crate) most: u64,
 }
+
+/// How the value of a field is written, and in which range it lies.
+#[derive(Clone, Copy)]
+pub(crate) enum FieldForm {
+    /// A number of at most this.
+    UpTo(u64),
+    /// A number with a sign, from -32,768 to 32,767.
+    Signed,
+    /// A state of the long code, in eleven hex digits.
+    State,
+}
+
+/// A field of a statement: its key, with which it begins, and the form of its value.
+#[derive(Clone, Copy)]
+pub(crate) struct StatementField {
+    /// What stands before the value: ` name=`, with the statement's word before the first.
+    pub(crate) key: &'static [u8],
+    /// How the value is written.
+    pub(crate) form: FieldForm,
+}
+
+/// The fields of a `cell` line, in their order.
+pub(crate) const CELL_FIELDS: [StatementField; 4] = [
+    StatementField {
+        key: b"cell pn=",
+        form: FieldForm::UpTo(511),
+    },
+    StatementField {
+        key: b" time=",
+        form: FieldForm::UpTo(34_359_738_368),
+    },
+    StatementField {
+        key: b" lc=",
+        form: FieldForm::State,
+    },
+    StatementField {
+        key: b" checks=",
+        form: FieldForm::UpTo(3),
+    },
+];
+
+/// The fields of a `link` line, in their order.
+pub(crate) const LINK_FIELDS: [StatementField; 4] = [
+    StatementField {
+        key: b"link re=",
+        form: FieldForm::Signed,
+    },
+    StatementField {
+        key: b" im=",
+        form: FieldForm::Signed,
+    },
+    StatementField {
+        key: b" start=",
+        form: FieldForm::UpTo(4_294_967_295),
+    },
+    StatementField {
+        key: b" samples=",
+        form: FieldForm::UpTo(18_446_744_073_709_551_615),
+    },
+];
+
+/// The fields of a `pilot` line.
+pub(crate) const PILOT_FIELDS: [StatementField; 1] = [StatementField {
+    key: b"pilot gain=",
+    form: FieldForm::UpTo(65_535),
+}];
+
+/// The fields of a `paging` line, in their order.
+pub(crate) const PAGING_FIELDS: [StatementField; 2] = [
+    StatementField {
+        key: b"paging channel=",
+        form: FieldForm::UpTo(7),
+    },
+    StatementField {
+        key: b" gain=",
+        form: FieldForm::UpTo(65_535),
+    },
+];
 
 /// The numbers of a `sync` line that it always has, in their order: the channel's gain, and then
 /// the fields of the message with the ranges of their widths, but for those that each sending fills
