@@ -187,7 +187,7 @@ missing_line script rest stage judge n none open_end before =
 few_gains : (gains n : ℕ) → gains ≤ 65535 * n → n ≤ 1048577 → gains < 2 ^ 40
 few_gains gains n small few = omega (arith, small, few)
 
-pub gains_room : (script rest : List ℕ) (stage : Stage) (judge : Judge) (n : ℕ) →
+gains_room : (script rest : List ℕ) (stage : Stage) (judge : Judge) (n : ℕ) →
     length script ≤ 1048576 → HasRead script stage judge n rest → judge.paging.gains < 2 ^ 40
 gains_room script rest stage judge n small before =
     few_gains judge.paging.gains n before.gains (omega (arith, before.few, small))

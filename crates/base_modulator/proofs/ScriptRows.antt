@@ -108,17 +108,6 @@ used_row used ls l k long inside before = elim (cases_eq l.number k) [
     or_false true = refl
     or_false false = refl
 
-pub no_rows : (rows : PagingRows) → length rows.used ≡ 64 →
-    ((k : ℕ) → k < 64 → get_or rows.used k false ≡ false) → rows.repeated ≡ None →
-    rows.silent ≡ None → rows.gains ≡ 0 → HasSeen rows []
-no_rows rows long clear none quiet sum = record {
-  long = long;
-  used = clear;
-  repeated = none;
-  silent = quiet;
-  gains = sum;
-}
-
 pub one_row : (rows more : PagingRows) (ls : List PagingLine) (l : PagingLine) (is : Bool) →
     l.number < 64 → is ≡ get_or rows.used l.number false →
     more.used ≡ set rows.used l.number true →
