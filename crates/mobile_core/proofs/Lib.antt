@@ -14,6 +14,9 @@ pub mod FingerLists
 pub mod ClockSteps
 pub mod Received
 pub mod SyncHeard
+pub mod PageBits
+pub mod PagesLeft
+pub mod PagesHeard
 pub mod Stood
 pub mod StepJoins
 pub mod Causality

@@ -14,5 +14,8 @@ pub mod Clocks
 pub mod Sound
 pub mod Receiving
 pub mod SyncReceiving
+pub mod PagingStreams
+pub mod PagingEvents
+pub mod PagingReceiving
 pub mod Standing
 mod Worked

@@ -5,9 +5,12 @@ use Rattle.chip_core.specs.declared.check_form.CheckForm.TheVariants.{Plain}
 use Rattle.sync_message.specs.declared.fields.SyncFields.{SyncFields}
 use Rattle.mobile_core.specs.Marks.{marks_of, frames_with}
 use Rattle.mobile_core.specs.Near.{low_of}
+use Rattle.mobile_core.specs.PagingEvents.{pages_behind}
+use Rattle.mobile_core.specs.PagingStreams.{paging_stream}
 use Rattle.mobile_core.specs.Scrambled.{unscrambled}
 use Rattle.mobile_core.specs.Streams.{is_in_file, known_at, span_frames}
 use Rattle.mobile_core.specs.Tuning.{Tuning, sync_stream, modulo_code}
+use Rattle.mobile_core.specs.declared.mark.Mark.{Mark}
 
 tuned : ℕ → List ℤ → Tuning
 tuned phase deltas = record { count = 1228800; phase = phase; deltas = deltas; check30 = Plain }
@@ -92,3 +95,34 @@ turned_by_bits = refl
 
 turned_by_none : unscrambled [] (pos 3 ∷ pos 4 ∷ []) ≡ pos 3 ∷ pos 4 ∷ []
 turned_by_none = refl
+
+-- a mark of that file, at 28 frames of 20 ms
+paged : ℕ → Mark
+paged prat = record { sample = 688128; time = 1007; lc = 0x102a1d2e508; pn = 511; prat = prat }
+
+-- the frame at the mark is known when the one behind it has ended, two frames behind the mark
+first_page : known_at 1228800 (paging_stream (tuned 64 (pos 0 ∷ [])) 1 (paged 0)) 0 ≡ 737280
+unfolding tuned paged
+first_page = refl
+
+-- 22 frames lie in the file, of which the last two are known together, at its end
+last_pages : known_at 1228800 (paging_stream (tuned 64 (pos 0 ∷ [])) 1 (paged 0)) 20 ≡ 1228800
+unfolding tuned paged
+last_pages = refl
+
+last_page : known_at 1228800 (paging_stream (tuned 64 (pos 0 ∷ [])) 1 (paged 0)) 21 ≡ 1228800
+unfolding tuned paged
+last_page = refl
+
+no_page : is_in_file 1228800 (paging_stream (tuned 64 (pos 0 ∷ [])) 1 (paged 0)) 22 ≡ false
+unfolding tuned paged
+no_page = refl
+
+-- PRAT 1 halves the bits of a frame, and 2 leaves no channel
+half_rate : (paging_stream (tuned 64 (pos 0 ∷ [])) 1 (paged 1)).channel.bits ≡ 96
+unfolding tuned paged
+half_rate = refl
+
+no_rate : pages_behind (tuned 64 (pos 0 ∷ [])) 1 (Some (paged 2)) [] 0 ≡ []
+unfolding tuned paged
+no_rate = refl

@@ -93,6 +93,13 @@ impl FrameClock {
         self.end
     }
 
+    /// The number of the frame whose samples come next.
+    pub(crate) fn coming(&self) -> u64
+        ensures { result ≡ self.now.have }
+    {
+        self.have
+    }
+
     /// The number of the frame that is heard next.
     pub(crate) fn next(&self) -> u64
         ensures { result ≡ self.now.next }

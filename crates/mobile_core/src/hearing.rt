@@ -1,16 +1,19 @@
-//! What a capsule of the sync channel says.
+//! What capsules of the sync channel and of a paging channel say.
 
 ghost use Rattle.std.specs.Prelude.{◌≡◌, ◌<◌, ◌≤◌, ◌^◌, [], ◌∷◌, Some};
 ghost use Rattle.std.specs.Option.{option_or};
 ghost use Rattle.mobile_core.specs.Given.{at_of};
 ghost use Rattle.mobile_core.specs.Marks.{first_of, marks_of, frames_with};
+ghost use Rattle.mobile_core.specs.PagingEvents.{page_in};
 ghost use Rattle.mobile_core.specs.SyncEvents.{events_of, heard_in};
 
 use crate::event::Event;
 use crate::mark::Mark;
 use crate::spelled_message::SpelledMessage;
+use crate::spelled_page::SpelledPage;
 use chip_core::air::{OFFSET_CHIPS, SUPERFRAME_BITS, SUPERFRAME_CHIPS};
 use chip_core::{Bits, CheckForm};
+use paging_message::PagingMessage;
 use sync_message::SyncMessage;
 
 /// A capsule with the message that it spells; `None` where there is none.
@@ -20,6 +23,18 @@ pub(crate) fn message_in(check: CheckForm, capsule: Option<Bits>) -> Option<Spel
     let capsule = capsule?;
     match SyncMessage::decode(&capsule, check) {
         Ok(message) => Some(SpelledMessage { capsule, message }),
+        Err(_) => None,
+    }
+}
+
+/// A capsule of a paging channel with the message that it spells; `None` where there is none, or
+/// the capsule has a fault.
+pub(crate) fn page_in(check: CheckForm, capsule: Option<Bits>) -> Option<SpelledPage>
+    ensures { result ≡ page_in check capsule }
+{
+    let capsule = capsule?;
+    match PagingMessage::decode(&capsule, check) {
+        Ok(message) => Some(SpelledPage { capsule, message }),
         Err(_) => None,
     }
 }

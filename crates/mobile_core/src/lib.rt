@@ -9,9 +9,12 @@ mod hearing;
 pub mod laws;
 mod mark;
 mod mobile;
+mod paging_receiver;
+mod scrambling;
 mod settings;
 mod softs;
 mod spelled_message;
+mod spelled_page;
 mod sync_receiver;
 
 pub use event::Event;

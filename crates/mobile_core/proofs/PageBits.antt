@@ -1,0 +1,45 @@
+-- The bits of the frames in a file that follow one another, over any stream.
+use Rattle.std.proofs.Common.{◌≡◌, ℕ, ◌+◌, ◌<◌, ◌≤◌, true, List, [], ◌∷◌, ◌++◌, length, ap, ◌∙◌}
+use Rattle.std.proofs.Common.{arith}
+use Rattle.std.specs.List.{filter, flat_map}
+use Rattle.std.proofs.lemmas.List.{append-nil}
+use Rattle.std.proofs.lemmas.Grind.{flat_map-append}
+use Rattle.chip_core.specs.Bits.{places}
+use Rattle.chip_core.specs.declared.sample.Sample.{Sample}
+use Rattle.mobile_core.specs.PagingEvents.{bits_before}
+use Rattle.mobile_core.specs.Streams.{Stream, frame_own_bits, is_in_file, known_at}
+use Rattle.mobile_core.specs.Timing.{IsTimed}
+use Rattle.mobile_core.proofs.FrameTimes.{outside_low}
+use Rattle.mobile_core.proofs.Ranges.{filter-places-more, filter_none_places}
+use Rattle.mobile_core.proofs.Ranges.{flat_map_ext_filter_places}
+use Rattle.mobile_core.proofs.Spans.{own_bits_sooner}
+
+-- those of one frame more
+pub bits_before_more : (count : ℕ) (xs : List Sample) (s : Stream) (k : ℕ) →
+    is_in_file count s k ≡ true →
+    bits_before count xs s (k + 1) ≡ bits_before count xs s k ++ frame_own_bits count xs s k
+unfolding bits_before
+bits_before_more count xs s k inside =
+    let own = frame_own_bits count xs s in
+    let kept = filter (is_in_file count s) (places k) in
+    ap (flat_map own) (filter-places-more (is_in_file count s) k inside)
+    ∙ flat_map-append own kept (k ∷ [])
+    ∙ ap (λ bits. flat_map own kept ++ bits) (append-nil (own k))
+
+pub bits_before_none : (count : ℕ) (xs : List Sample) (s : Stream) (low k : ℕ) →
+    IsTimed count s low → k ≤ low → bits_before count xs s k ≡ []
+unfolding bits_before
+bits_before_none count xs s low k timed h =
+    ap (flat_map (frame_own_bits count xs s))
+    (filter_none_places (is_in_file count s) k (λ j below. outside_low s timed j (omega arith)))
+
+-- they stay where more samples follow
+pub bits_before_sooner : {count low : ℕ} (s : Stream) → IsTimed count s low →
+    (xs ys : List Sample) (k : ℕ) →
+    ((j : ℕ) → j < k → is_in_file count s j ≡ true → known_at count s j ≤ length xs) →
+    bits_before count (xs ++ ys) s k ≡ bits_before count xs s k
+unfolding bits_before
+bits_before_sooner {count} s timed xs ys k known =
+    flat_map_ext_filter_places (is_in_file count s) (frame_own_bits count (xs ++ ys) s)
+    (frame_own_bits count xs s) k
+    (λ j below inside. own_bits_sooner s timed xs ys j inside (known j below inside))

@@ -1,0 +1,268 @@
+-- What the receiver of a paging channel stands for, step by step.
+use Rattle.std.proofs.Common.{◌≡◌, ℕ, ◌+◌, ◌<◌, ◌≤◌, Bool, true, false, List, [], ◌∷◌, ◌++◌, length}
+use Rattle.std.proofs.Common.{take, refl, sym, ap, ◌∙◌, subst, arith, inl, inr, Option, Some}
+use Rattle.std.proofs.Common.{slice_get, nat_lt}
+use Rattle.std.specs.Option.{option_to_list}
+use Rattle.std.proofs.lemmas.Bool.{cases_lt, lt-ltb, le-ltb}
+use Rattle.std.proofs.lemmas.List.{append-nil, append_assoc, take_all}
+use Rattle.chip_core.proofs.BitLists.{taken_more}
+use Rattle.chip_core.specs.declared.sample.Sample.{Sample}
+use Rattle.long_code.specs.LongCode.{paging_mask}
+use Rattle.paging_message.specs.HalfFrames.{Framing, StandsFor, half_frame_body}
+use Rattle.paging_message.specs.HalfFrames.{half_frame_capsule_ending}
+use Rattle.mobile_core.specs.Clocks.{IsDueAt, clock_from, first_frame, frame_heard}
+use Rattle.mobile_core.specs.Near.{AreNear}
+use Rattle.mobile_core.specs.PagingEvents.{bits_before, bits_up_to, page_at, page_in, pages_from}
+use Rattle.mobile_core.specs.PagingReceiving.{HearsBit, HearsPaging, bit_passed, pages_left}
+use Rattle.mobile_core.specs.PagingStreams.{paging_rate, paging_stream}
+use Rattle.mobile_core.specs.Receiving.{Receives}
+use Rattle.mobile_core.specs.Streams.{Stream, frame_own_bits}
+use Rattle.mobile_core.specs.Tuning.{Tuning}
+use Rattle.mobile_core.specs.declared.continued.Continued.{Continued}
+use Rattle.mobile_core.specs.declared.mark.Mark.{Mark}
+use Rattle.mobile_core.specs.declared.paging_receiver.PagingReceiver.{PagingReceiver}
+use Rattle.mobile_core.specs.declared.spelled_page.SpelledPage.{SpelledPage}
+use Rattle.mobile_core.proofs.ClockSteps.{due_inside, due_known, before_next}
+use Rattle.mobile_core.proofs.PageBits.{bits_before_more, bits_before_none, bits_before_sooner}
+use Rattle.mobile_core.proofs.PagesLeft.{left_next, pages_behind_last, pages_next}
+use Rattle.mobile_core.proofs.Received.{receives_heard, receives_more, receives_new}
+
+take-none : (bits : List Bool) → take 0 bits ≡ []
+take-none [] = refl
+take-none (b ∷ bits) = refl
+
+none_taken : (place : ℕ) (bits : List Bool) → place ≡ 0 → take place bits ≡ []
+none_taken place bits none = ap (λ (n : ℕ). take n bits) none ∙ take-none bits
+
+-- a channel whose first frame comes later than these samples
+pub receives_later : (count : ℕ) (s : Stream) (c : Continued) → AreNear s.fingers →
+    c.fingers ≡ s.fingers → length c.softs ≡ 1152 →
+    c.clock ≡ clock_from s.fingers s.form s.first (first_frame s.fingers s.first) →
+    (heard : List Sample) → length heard ≤ count → length heard ≤ c.clock.end →
+    Receives count s c heard
+receives_later count s c near fingers long clock heard within most =
+    let same : c.clock.next ≡ c.clock.have = rw clock refl in
+    let none : ¬ IsDueAt count c.clock = λ d. omega (arith, same, d.0) in
+    receives_more (receives_new count s c near fingers long clock) heard none
+    (omega (arith, within)) (omega (arith, most))
+
+-- before any frame is heard
+pub hears_none : (t : Tuning) (channel : ℕ) (m : Mark) (r : PagingReceiver)
+    (heard : List Sample) → Receives t.count (paging_stream t channel m) r.received heard →
+    r.received.clock.next ≡ r.received.clock.low → r.scrambling.state ≡ m.lc →
+    r.scrambling.mask ≡ paging_mask channel m.pn → r.rate ≡ paging_rate m.prat →
+    r.framer.size ≡ half_frame_body (paging_rate m.prat) → r.place ≡ 0 →
+    StandsFor r.framer [] → HearsPaging t channel m r heard
+hears_none t channel m r heard receives next state mask rate size none framed =
+    let s = paging_stream t channel m in
+    let clock = r.received.clock in
+    let own = frame_own_bits t.count heard s clock.next in
+    let empty : bits_before t.count heard s clock.next ≡ [] =
+    bits_before_none t.count heard s clock.low clock.next receives.clocked.timed
+    (omega (arith, next)) in
+    let all : bits_before t.count heard s clock.next ++ take r.place own ≡ [] =
+    ap (λ (bits : List Bool). bits ++ take r.place own) empty ∙ none_taken r.place own none in
+    record {
+      receives = receives;
+      state_is = state;
+      mask_is = mask;
+      rate_is = rate;
+      size_is = size;
+      under_way = λ some. absurd (omega (arith, some, none));
+      framed = subst (StandsFor r.framer) (sym all) framed;
+    }
+
+module _ {t : Tuning} {channel : ℕ} {m : Mark} {r : PagingReceiver} {heard : List Sample}
+    (st : HearsPaging t channel m r heard) where
+  idle : ¬ IsDueAt t.count r.received.clock → r.place ≡ 0
+  idle none =
+      elim (cases_lt 0 r.place) [
+        | inl some ↦ absurd (none (st.under_way some).due)
+        | inr least ↦ omega arith
+      ]
+
+  -- more samples, up to the end of the frame that comes next
+  pub hears_more : (more : List Sample) → ¬ IsDueAt t.count r.received.clock →
+      length heard + length more ≤ t.count →
+      length heard + length more ≤ r.received.clock.end →
+      HearsPaging t channel m r (heard ++ more)
+  hears_more more none within most =
+      let s = paging_stream t channel m in
+      let next : ℕ = r.received.clock.next in
+      let is = st.receives.clocked in
+      let z = idle none in
+      let own = frame_own_bits t.count heard s next in
+      let later = frame_own_bits t.count (heard ++ more) s next in
+      let same = bits_before_sooner s is.timed heard more next (before_next is) in
+      let before = bits_before t.count heard s next in
+      let taken : before ++ take r.place own
+      ≡ bits_before t.count (heard ++ more) s next ++ take r.place later =
+      ap (λ (bits : List Bool). before ++ bits)
+      (none_taken r.place own z ∙ sym (none_taken r.place later z))
+      ∙ ap (λ (bits : List Bool). bits ++ take r.place later) (sym same) in
+      record {
+        receives = receives_more st.receives more none within most;
+        state_is = st.state_is;
+        mask_is = st.mask_is;
+        rate_is = st.rate_is;
+        size_is = st.size_is;
+        under_way = λ some. absurd (none (st.under_way some).due);
+        framed = subst (StandsFor r.framer) taken st.framed;
+      }
+
+  -- one frame more has come
+  pub hears_come : (received : Continued) → ¬ IsDueAt t.count r.received.clock →
+      received.clock.next ≡ r.received.clock.next →
+      Receives t.count (paging_stream t channel m) received heard →
+      HearsPaging t channel m (record r { received = received }) heard
+  hears_come received none next receives = record {
+    receives = receives;
+    state_is = st.state_is;
+    mask_is = st.mask_is;
+    rate_is = st.rate_is;
+    size_is = st.size_is;
+    under_way = λ some. absurd (none (st.under_way some).due);
+    framed = rw next st.framed;
+  }
+
+  module _ (d : IsDueAt t.count r.received.clock) (framer : Framing) (frame : List Bool)
+      (bit : Bool) (page : Option SpelledPage)
+      (own_is : frame ≡ frame_own_bits t.count heard (paging_stream t channel m)
+      r.received.clock.next)
+      (read : slice_get frame r.place ≡ Some bit) (below : r.place < length frame)
+      (size_is : framer.size ≡ r.framer.size)
+      (framed : (bits : List Bool) → StandsFor r.framer bits → StandsFor framer (bits ++ bit ∷ []))
+      (page_is : (bits : List Bool) → StandsFor r.framer bits →
+      page ≡ page_in t.check30 (half_frame_capsule_ending r.framer.size (bits ++ bit ∷ []))) where
+    taken_bits : bits_before t.count heard (paging_stream t channel m) r.received.clock.next
+        ++ take r.place
+        (frame_own_bits t.count heard (paging_stream t channel m) r.received.clock.next)
+        ++ bit ∷ []
+        ≡ bits_up_to t.count heard (paging_stream t channel m) r.received.clock.next r.place
+    unfolding bits_up_to
+    taken_bits =
+        let s = paging_stream t channel m in
+        let own = frame_own_bits t.count heard s r.received.clock.next in
+        let before = bits_before t.count heard s r.received.clock.next in
+        append_assoc before (take r.place own) (bit ∷ [])
+        ∙ ap (λ (bits : List Bool). before ++ bits)
+        (sym (taken_more own r.place bit (rw own_is at read)))
+
+    stands_on : StandsFor framer
+        (bits_up_to t.count heard (paging_stream t channel m) r.received.clock.next r.place)
+    stands_on = subst (StandsFor framer) taken_bits (framed _ st.framed)
+
+    page_here : page ≡ page_at t channel m heard r.received.clock.next r.place
+    unfolding page_at
+    page_here =
+        let s = paging_stream t channel m in
+        let next : ℕ = r.received.clock.next in
+        let taken : List Bool = bits_before t.count heard s next
+        ++ take r.place (frame_own_bits t.count heard s next) in
+        let size : ℕ = half_frame_body (paging_rate m.prat) in
+        page_is taken st.framed
+        ∙ ap (λ (n : ℕ). page_in t.check30 (half_frame_capsule_ending n (taken ++ bit ∷ [])))
+        st.size_is
+        ∙ ap (λ (bits : List Bool). page_in t.check30 (half_frame_capsule_ending size bits))
+        taken_bits
+
+    -- the message that the bit completes is the first of those left
+    left_here : (rest : List SpelledPage) →
+        rest ≡ pages_from t channel m heard r.received.clock.next (r.place + 1)
+        ++ pages_left t channel m heard (r.received.clock.next + 1) 0 →
+        option_to_list page ++ rest
+        ≡ pages_left t channel m heard r.received.clock.next r.place
+    left_here rest rest_is =
+        let is = st.receives.clocked in
+        let next : ℕ = r.received.clock.next in
+        let others = pages_left t channel m heard (next + 1) 0 in
+        let first = pages_next t channel m heard next r.place (rw own_is at below) in
+        let all = left_next t channel m heard r.received.clock.low next r.place is.timed
+        (due_inside is d) (due_known is d) in
+        sym (all
+        ∙ ap (λ (ps : List SpelledPage). ps ++ others) first
+        ∙ append_assoc (option_to_list (page_at t channel m heard next r.place))
+        (pages_from t channel m heard next (r.place + 1)) others
+        ∙ ap (λ (ps : List SpelledPage).
+        option_to_list (page_at t channel m heard next r.place) ++ ps) (sym rest_is)
+        ∙ ap (λ (p : Option SpelledPage). option_to_list p ++ rest) (sym page_here))
+
+    -- a bit that isn't its frame's last
+    hears_inside : r.place + 1 < length frame →
+        HearsBit t channel m heard r
+        (record r { framer = framer; frame = frame; place = r.place + 1 }) page
+    unfolding bits_up_to
+    hears_inside more =
+        let is = st.receives.clocked in
+        let next : ℕ = r.received.clock.next in
+        record {
+          hears = record {
+            receives = st.receives;
+            state_is = st.state_is;
+            mask_is = st.mask_is;
+            rate_is = st.rate_is;
+            size_is = size_is ∙ st.size_is;
+            under_way = λ some. record { due = d; own = own_is };
+            framed = stands_on;
+          };
+          left = left_here _
+              (left_next t channel m heard r.received.clock.low next (r.place + 1) is.timed
+              (due_inside is d) (due_known is d));
+        }
+
+    -- its last
+    hears_last : length frame ≤ r.place + 1 →
+        HearsBit t channel m heard r
+        (record r {
+          received = record r.received { clock = frame_heard r.received.clock };
+          framer = framer;
+          frame = frame;
+          place = 0;
+        }) page
+    unfolding bits_up_to
+    hears_last last =
+        let is = st.receives.clocked in
+        let s = paging_stream t channel m in
+        let next : ℕ = r.received.clock.next in
+        let own = frame_own_bits t.count heard s next in
+        let before = bits_before t.count heard s next in
+        let later = frame_own_bits t.count heard s (next + 1) in
+        let whole : take (r.place + 1) own ≡ own =
+        take_all (r.place + 1) own (rw own_is at last) in
+        let all : before ++ take (r.place + 1) own
+        ≡ bits_before t.count heard s (next + 1) ++ take 0 later =
+        ap (λ (bits : List Bool). before ++ bits) whole
+        ∙ sym (bits_before_more t.count heard s next (due_inside is d))
+        ∙ sym (append-nil (bits_before t.count heard s (next + 1)))
+        ∙ ap (λ (bits : List Bool). bits_before t.count heard s (next + 1) ++ bits)
+        (sym (take-none later)) in
+        let none = pages_behind_last t channel m heard next (r.place + 1) (rw own_is at last) in
+        let others = pages_left t channel m heard (next + 1) 0 in
+        record {
+          hears = record {
+            receives = receives_heard st.receives d;
+            state_is = st.state_is;
+            mask_is = st.mask_is;
+            rate_is = st.rate_is;
+            size_is = size_is ∙ st.size_is;
+            under_way = λ some. absurd (omega (arith, some));
+            framed = subst (StandsFor framer) all stands_on;
+          };
+          left = left_here others
+              (sym (ap (λ (ps : List SpelledPage). ps ++ others) none));
+        }
+
+    pub hears_bit : (after : PagingReceiver) →
+        after ≡ bit_passed (record r { framer = framer; frame = frame }) →
+        HearsBit t channel m heard r after page
+    hears_bit after after_is =
+        elim (cases_lt (r.place + 1) (length frame)) [
+          | inl more ↦
+              let e : nat_lt (r.place + 1) (length frame) ≡ true =
+              lt-ltb (r.place + 1) (length frame) more in
+              rw (after_is, e) (hears_inside more)
+          | inr last ↦
+              let e : nat_lt (r.place + 1) (length frame) ≡ false =
+              le-ltb (r.place + 1) (length frame) last in
+              rw (after_is, e) (hears_last last)
+        ]

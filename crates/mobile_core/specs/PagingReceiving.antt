@@ -1,0 +1,77 @@
+-- What the receiver of a paging channel stands for.
+use Rattle.std.specs.Prelude.{◌≡◌, ℕ, ◌*◌, ◌+◌, ◌<◌, ◌≤◌, ◌^◌, ◌==◌, if◌then◌else◌}
+use Rattle.std.specs.Prelude.{List, ◌++◌, length, nat_lt, take, Option}
+use Rattle.std.specs.List.{flat_map}
+use Rattle.std.specs.Option.{option_to_list}
+use Rattle.chip_core.specs.declared.sample.Sample.{Sample}
+use Rattle.long_code.specs.LongCode.{paging_mask}
+use Rattle.paging_message.specs.HalfFrames as half_frames
+use Rattle.rake_finger.specs.declared.form.Form.TheVariants.{Data}
+use Rattle.mobile_core.specs.Clocks.{IsDueAt, frame_heard}
+use Rattle.mobile_core.specs.Left.{frames_left}
+use Rattle.mobile_core.specs.PagingEvents.{bits_before, pages_from}
+use Rattle.mobile_core.specs.PagingStreams.{paging_bound, paging_rate, paging_stream}
+use Rattle.mobile_core.specs.Receiving.{Receives}
+use Rattle.mobile_core.specs.Sound.{IsSoundChannel}
+use Rattle.mobile_core.specs.Streams.{frame_own_bits}
+use Rattle.mobile_core.specs.Tuning.{Tuning}
+use Rattle.mobile_core.specs.declared.mark.Mark.{Mark}
+use Rattle.mobile_core.specs.declared.paging_receiver.PagingReceiver.{PagingReceiver}
+use Rattle.mobile_core.specs.declared.spelled_page.SpelledPage.{SpelledPage}
+
+-- the bits of the next frame, of which the framer took so many, are those of a frame that is due
+pub record IsUnderWay (t : Tuning) (channel : ℕ) (m : Mark) (r : PagingReceiver)
+    (heard : List Sample) : Type 0 where
+  pub due : IsDueAt t.count r.received.clock
+  pub own : r.frame ≡ frame_own_bits t.count heard (paging_stream t channel m) r.received.clock.next
+
+-- It has taken these samples, and its framer has taken the bits of the frames before the next one,
+-- and the first bits of that one, as many as its place says.
+pub record HearsPaging (t : Tuning) (channel : ℕ) (m : Mark) (r : PagingReceiver)
+    (heard : List Sample) : Type 0 where
+  pub receives : Receives t.count (paging_stream t channel m) r.received heard
+  pub state_is : r.scrambling.state ≡ m.lc
+  pub mask_is : r.scrambling.mask ≡ paging_mask channel m.pn
+  pub rate_is : r.rate ≡ paging_rate m.prat
+  pub size_is : r.framer.size ≡ half_frames.half_frame_body (paging_rate m.prat)
+  pub under_way : 0 < r.place → IsUnderWay t channel m r heard
+  pub framed : half_frames.StandsFor r.framer
+      (bits_before t.count heard (paging_stream t channel m) r.received.clock.next
+      ++ take r.place
+      (frame_own_bits t.count heard (paging_stream t channel m) r.received.clock.next))
+
+-- the messages of these samples' end whose last bits come from bit `place` of frame `next` on
+unfoldable pub pages_left : Tuning → ℕ → Mark → List Sample → ℕ → ℕ → List SpelledPage
+pages_left t channel m samples next place =
+    let n = length samples in
+    flat_map (λ k. pages_from t channel m samples k (if k == next then place else 0))
+    (frames_left t.count (paging_stream t channel m) next n (paging_bound n))
+
+-- It has heard one bit of the frame that was due, and gives the message that the bit completes.
+pub record HearsBit (t : Tuning) (channel : ℕ) (m : Mark) (heard : List Sample)
+    (before after : PagingReceiver) (page : Option SpelledPage) : Type 0 where
+  pub hears : HearsPaging t channel m after heard
+  pub left : option_to_list page
+      ++ pages_left t channel m heard after.received.clock.next after.place
+      ≡ pages_left t channel m heard before.received.clock.next before.place
+
+-- one bit of the next frame has been heard; behind its last one the frame has been heard
+abbrev pub bit_passed : PagingReceiver → PagingReceiver
+bit_passed r =
+    if nat_lt (r.place + 1) (length r.frame) then record r { place = r.place + 1 }
+    else record r {
+      received = record r.received { clock = frame_heard r.received.clock };
+      place = 0;
+    }
+
+-- how many bits have been heard, where each frame counts as 192
+abbrev pub bits_heard : PagingReceiver → ℕ
+bits_heard r = 192 * r.received.clock.next + r.place
+
+-- frames of a paging channel; where one is under way, bits of it are left
+pub record IsSoundPaging (r : PagingReceiver) : Type 0 where
+  pub channel : IsSoundChannel r.received
+  pub form_is : r.received.clock.form ≡ Data
+  pub masked : r.scrambling.mask < 2 ^ 42
+  pub within : 0 < r.place → r.place < length r.frame
+  pub most : length r.frame ≤ 192

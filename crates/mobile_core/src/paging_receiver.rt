@@ -1,0 +1,209 @@
+//! A paging channel as it is received.
+
+ghost use Rattle.std.specs.Prelude.{◌≡◌, Some, None, nat_lt, if◌then◌else◌};
+ghost use Rattle.mobile_core.specs.PagingStreams.{paging_rate};
+
+use crate::continued::Continued;
+use crate::fingers::reference_fingers;
+use crate::hearing::page_in;
+use crate::mark::Mark;
+use crate::scrambling::Scrambling;
+use crate::spelled_page::SpelledPage;
+use chip_core::{Bits, CheckForm, Phase};
+use frame_decoder::FrameKind;
+use paging_message::HalfFramer;
+use pilot_search::Near;
+use rake_finger::{Form, SampleRing};
+use short_code::Codes;
+use symbol_path::Rate;
+use viterbi::Decoder;
+
+/// The receiver of one paging channel of the reference base station, from the mark on: its frames,
+/// and the framer of their half-frames (TIA/EIA-95-B, 7.1.3.4 and 7.7.2).
+#[derive(Drop)]
+pub(crate) struct PagingReceiver {
+    received: Continued,
+    rate: Rate,
+    scrambling: Scrambling,
+    framer: HalfFramer,
+    /// The bits of the frame that is heard next, where it is under way.
+    frame: Bits,
+    /// How many of them the framer has taken, 0 where none is under way.
+    place: u16,
+}
+
+/// The rate that a value of PRAT stands for; `None` for a value that stands for none.
+fn rate_of(prat: u8) -> Option<Rate>
+    ensures { result ≡ (if nat_lt prat 2 then Some (paging_rate prat) else None) }
+{
+    match prat {
+        0 => Some(Rate::R9600),
+        1 => Some(Rate::R4800),
+        _ => None,
+    }
+}
+
+impl PagingReceiver {
+    ghost use Rattle.std.specs.Prelude.{◌≡◌, ◌<◌, ◌≤◌, ◌+◌, ◌^◌, ◌↔◌, IsTrue, List, [], length};
+    ghost use Rattle.std.specs.Prelude.{take, slice_get, Some, pos, is_some, IfSome, nat_lt, ℕ};
+    ghost use Rattle.chip_core.specs.declared.sample.Sample.{Sample};
+    ghost use Rattle.mobile_core.specs.Clocks.{IsDueAt};
+    ghost use Rattle.mobile_core.specs.PagingReceiving.{HearsBit, HearsPaging, IsSoundPaging};
+    ghost use Rattle.mobile_core.specs.PagingReceiving.{bit_passed, bits_heard};
+    ghost use Rattle.mobile_core.specs.PagingStreams.{IsSoundMark, paging_stream};
+    ghost use Rattle.mobile_core.specs.Streams.{frame_own_bits};
+    ghost use Rattle.mobile_core.specs.Tuning.{Tuning};
+    ghost use Rattle.mobile_core.specs.declared.mark.Mark.{Mark as TheMark};
+    ghost use Rattle.rake_finger.specs.Held.{HoldsLast};
+
+    /// A receiver of a channel, 1 to 7, that has heard no frame, for a base station at a phase and
+    /// near it; `None` exactly where the mark's PRAT stands for no rate.
+    pub(crate) fn open(
+        mark: &Mark,
+        channel: u8,
+        phase: Phase,
+        near: &Near,
+    ) -> Option<PagingReceiver>
+        requires mark { IsSoundMark mark.now }
+        requires first_channel { 1 ≤ channel }
+        requires last_channel { channel ≤ 7 }
+        requires least { 1 ≤ near.now.count }
+        requires most { near.now.count ≤ 3 }
+        requires first { slice_get near.now.deltas 0 ≡ Some (pos 0) }
+        ensures some { is_some result ≡ nat_lt mark.now.prat 2 }
+        ensures begins { IfSome result (λ r. mark.now.sample < r.received.clock.end) }
+        ensures sound { IfSome result IsSoundPaging }
+        ensures hears { (t : Tuning) (heard : List Sample) → t.phase ≡ phase →
+            t.deltas ≡ take near.now.count near.now.deltas → length heard ≤ t.count →
+            length heard ≤ mark.now.sample →
+            IfSome result (λ r. HearsPaging t channel mark.now r heard) }
+    {
+        let rate = rate_of(mark.prat)?;
+        Some(PagingReceiver::at_rate(rate, mark, channel, phase, near))
+    }
+
+    /// The same at a rate.
+    fn at_rate(rate: Rate, mark: &Mark, channel: u8, phase: Phase, near: &Near) -> PagingReceiver
+        requires rate { rate ≡ paging_rate mark.now.prat }
+        requires mark { IsSoundMark mark.now }
+        requires first_channel { 1 ≤ channel }
+        requires last_channel { channel ≤ 7 }
+        requires least { 1 ≤ near.now.count }
+        requires most { near.now.count ≤ 3 }
+        requires first { slice_get near.now.deltas 0 ≡ Some (pos 0) }
+        ensures begins { mark.now.sample < result.received.clock.end }
+        ensures sound { IsSoundPaging result }
+        ensures hears { (t : Tuning) (heard : List Sample) → t.phase ≡ phase →
+            t.deltas ≡ take near.now.count near.now.deltas → length heard ≤ t.count →
+            length heard ≤ mark.now.sample → HearsPaging t channel mark.now result heard }
+    {
+        let fingers = reference_fingers(channel, phase, near);
+        PagingReceiver {
+            received: Continued::new(fingers, Form::Data, mark.sample),
+            rate,
+            scrambling: Scrambling::of_channel(channel, mark),
+            framer: HalfFramer::new(rate),
+            frame: Bits::empty(),
+            place: 0,
+        }
+    }
+
+    /// How many samples have been taken when the frame ends that comes next.
+    pub(crate) fn end(&self) -> u64
+        ensures { result ≡ self.now.received.clock.end }
+    {
+        self.received.clock.end()
+    }
+
+    /// Whether a frame is known whose bits haven't all been heard, in a file of so many samples.
+    pub(crate) fn is_due(&self, count: u64) -> bool
+        requires { IsSoundPaging self.now }
+        ensures { IsTrue result ↔ IsDueAt count self.now.received.clock }
+    {
+        self.received.clock.is_due(count)
+    }
+
+    /// Takes the soft values of the frame whose last sample has come, where one has.
+    pub(crate) fn take_ended(&mut self, ring: &SampleRing, codes: &Codes)
+        requires sound { IsSoundPaging self.old }
+        requires near { self.old.received.clock.have ≤ self.old.received.clock.next + 1 }
+        requires few { ring.now.taken ≤ 67108864 }
+        requires room { ring.now.room ≡ 65536 }
+        requires ended { ring.now.taken ≤ self.old.received.clock.end }
+        ensures next { self.new.received.clock.next ≡ self.old.received.clock.next }
+        ensures place { self.new.place ≡ self.old.place }
+        ensures waits { ring.now.taken < self.new.received.clock.end }
+        ensures sound { IsSoundPaging self.new }
+        ensures stands { (t : Tuning) (channel : ℕ) (m : TheMark) (heard : List Sample) →
+            HoldsLast ring.now heard → ¬ IsDueAt t.count self.old.received.clock →
+            HearsPaging t channel m self.old heard → HearsPaging t channel m self.new heard }
+    {
+        if self.end() == ring.taken() {
+            let bits = self.scrambling.frame_bits(self.received.clock.coming());
+            self.received.take_frame(ring, codes, &bits);
+        }
+    }
+
+    /// Hears the next bit of the frame that is due, and gives the message that it completes.
+    ///
+    /// A frame stays due up to its last bit, since several messages may end in one.
+    pub(crate) fn hear_bit(
+        &mut self,
+        decoder: &mut Decoder,
+        check: CheckForm,
+    ) -> Option<SpelledPage>
+        requires sound { IsSoundPaging self.old }
+        requires come { self.old.received.clock.next < self.old.received.clock.have }
+        requires room { decoder.old ≡ 576 }
+        ensures have { self.new.received.clock.have ≡ self.old.received.clock.have }
+        ensures waits { self.new.received.clock.end ≡ self.old.received.clock.end }
+        ensures further { bits_heard self.old < bits_heard self.new }
+        ensures sound { IsSoundPaging self.new }
+        ensures kept { decoder.new ≡ decoder.old }
+        ensures hears { (t : Tuning) (channel : ℕ) (m : TheMark) (heard : List Sample) →
+            check ≡ t.check30 → IsDueAt t.count self.old.received.clock →
+            HearsPaging t channel m self.old heard →
+            HearsBit t channel m heard self.old self.new result }
+    {
+        self.frame = self.due_bits(decoder);
+        let capsule = self.framer.push(self.frame.get(self.place));
+        self.pass_bit();
+        page_in(check, capsule)
+    }
+
+    /// The bits of the frame that is due: where it is under way they are there.
+    fn due_bits(&self, decoder: &mut Decoder) -> Bits
+        requires sound { IsSoundPaging self.now }
+        requires come { self.now.received.clock.next < self.now.received.clock.have }
+        requires room { decoder.old ≡ 576 }
+        ensures value { (t : Tuning) (channel : ℕ) (m : TheMark) (heard : List Sample) →
+            IsDueAt t.count self.now.received.clock → HearsPaging t channel m self.now heard →
+            result ≡ frame_own_bits t.count heard (paging_stream t channel m)
+            self.now.received.clock.next }
+        ensures within { self.now.place < length result }
+        ensures most { length result ≤ 192 }
+        ensures kept { decoder.new ≡ decoder.old }
+    {
+        if self.place > 0 {
+            return self.frame;
+        }
+        self.received
+            .own_bits(decoder, FrameKind::Paging(self.rate))
+    }
+
+    /// Goes on behind a bit of the next frame.
+    fn pass_bit(&mut self)
+        requires sound { IsSoundPaging self.old }
+        requires come { self.old.received.clock.next < self.old.received.clock.have }
+        requires within { self.old.place < length self.old.frame }
+        ensures value { self.new ≡ bit_passed self.old }
+        ensures sound { IsSoundPaging self.new }
+    {
+        if self.place + 1 < self.frame.len() {
+            self.place += 1;
+            return;
+        }
+        self.place = 0;
+        self.received.clock.hear();
+    }
+}

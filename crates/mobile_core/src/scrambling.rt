@@ -1,0 +1,52 @@
+//! The scrambling of a paging channel, frame by frame.
+
+use crate::mark::Mark;
+use chip_core::air::{DATA_FRAME_CHIPS, DATA_SYMBOLS};
+use long_code::{State, paging_mask};
+use symbol_path::scramble_bits;
+
+/// How the frames of a paging channel are scrambled: by the long code from each frame's first chip
+/// on, under the channel's mask (TIA/EIA-95-B, 7.1.3.1.6).
+#[derive(Clone, Copy)]
+pub(crate) struct Scrambling {
+    /// The long code's state at the first chip of frame 0.
+    pub state: State,
+    /// The mask, of 42 bits.
+    pub mask: u64,
+}
+
+impl Scrambling {
+    ghost use Rattle.std.specs.Prelude.{◌≡◌, ◌<◌, ◌≤◌, ◌*◌, ◌^◌, length};
+    ghost use Rattle.long_code.specs.LongCode.{after, paging_mask};
+    ghost use Rattle.mobile_core.specs.PagingStreams.{IsSoundMark};
+    ghost use Rattle.symbol_path.specs.Scrambling.{scrambling};
+
+    /// That of a paging channel, 1 to 7, whose frame 0 begins at the mark.
+    pub(crate) fn of_channel(channel: u8, mark: &Mark) -> Scrambling
+        requires first { 1 ≤ channel }
+        requires last { channel ≤ 7 }
+        requires mark { IsSoundMark mark.now }
+        ensures state { result.state ≡ mark.now.lc }
+        ensures mask { result.mask ≡ paging_mask channel mark.now.pn }
+        ensures below { result.mask < 2 ^ 42 }
+    {
+        Scrambling {
+            state: State::new(mark.lc).unwrap(),
+            mask: paging_mask(channel, mark.pn),
+        }
+    }
+
+    /// The scrambling bits of a frame, one for each of its symbols.
+    pub(crate) fn frame_bits(&self, frame: u64) -> [bool; DATA_SYMBOLS]
+        requires mask { self.now.mask < 2 ^ 42 }
+        requires frame { frame < 2 ^ 32 }
+        ensures value { result ≡ scrambling (after self.now.state (24576 * frame)) self.now.mask }
+        ensures count { length result ≡ 384 }
+    {
+        let mut state = self.state;
+        state.jump(DATA_FRAME_CHIPS * frame);
+        let mut bits = [false; DATA_SYMBOLS];
+        scramble_bits(&state, self.mask, &mut bits);
+        bits
+    }
+}
