@@ -17,6 +17,7 @@ pub mod SyncHeard
 pub mod PageBits
 pub mod PagesLeft
 pub mod PagesHeard
+pub mod PageGrowth
 pub mod Stood
 pub mod StepJoins
 pub mod Causality

@@ -1,16 +1,19 @@
 -- The bits of the frames in a file that follow one another, over any stream.
-use Rattle.std.proofs.Common.{◌≡◌, ℕ, ◌+◌, ◌<◌, ◌≤◌, true, List, [], ◌∷◌, ◌++◌, length, ap, ◌∙◌}
-use Rattle.std.proofs.Common.{arith}
+use Rattle.std.proofs.Common.{◌≡◌, ℕ, ◌+◌, ◌<◌, ◌≤◌, true, List, [], ◌∷◌, ◌++◌, length}
+use Rattle.std.proofs.Common.{refl, ap, ◌∙◌, arith}
+use Rattle.std.specs.Prelude.{if◌then◌else◌}
 use Rattle.std.specs.List.{filter, flat_map}
 use Rattle.std.proofs.lemmas.List.{append-nil}
 use Rattle.std.proofs.lemmas.Grind.{flat_map-append}
 use Rattle.chip_core.specs.Bits.{places}
 use Rattle.chip_core.specs.declared.sample.Sample.{Sample}
+use Rattle.mobile_core.specs.Near.{AreBegun, AreNear, low_in}
 use Rattle.mobile_core.specs.PagingEvents.{bits_before}
 use Rattle.mobile_core.specs.Streams.{Stream, frame_own_bits, is_in_file, known_at}
 use Rattle.mobile_core.specs.Timing.{IsTimed}
-use Rattle.mobile_core.proofs.FrameTimes.{outside_low}
-use Rattle.mobile_core.proofs.Ranges.{filter-places-more, filter_none_places}
+use Rattle.mobile_core.proofs.FingerTimes.{timed_in}
+use Rattle.mobile_core.proofs.FrameTimes.{ends_lt, inside_from, inside_to, outside_low}
+use Rattle.mobile_core.proofs.Ranges.{filter-places-more, filter_ext_places, filter_none_places}
 use Rattle.mobile_core.proofs.Ranges.{flat_map_ext_filter_places}
 use Rattle.mobile_core.proofs.Spans.{own_bits_sooner}
 
@@ -43,3 +46,22 @@ bits_before_sooner {count} s timed xs ys k known =
     flat_map_ext_filter_places (is_in_file count s) (frame_own_bits count (xs ++ ys) s)
     (frame_own_bits count xs s) k
     (λ j below inside. own_bits_sooner s timed xs ys j inside (known j below inside))
+
+every : (xs : List ℕ) → filter (λ k. true) xs ≡ xs
+every [] = refl
+every (x ∷ xs) = ap (λ (ys : List ℕ). x ∷ ys) (every xs)
+
+-- where frame 0 begins in the file on each finger, those of all frames before one in the file
+pub bits_before_all : (count : ℕ) (xs : List Sample) (s : Stream) (k : ℕ) → AreNear s.fingers →
+    AreBegun s.first s.fingers → is_in_file count s k ≡ true →
+    bits_before count xs s k ≡ flat_map (frame_own_bits count xs s) (places k)
+unfolding bits_before
+bits_before_all count xs s k near begun inside =
+    let timed = timed_in count s near in
+    let low : low_in s ≡ 0 = ap (λ b. if b then 0 else 1) begun in
+    let last = (inside_to s timed k inside).1 in
+    let all = filter_ext_places (is_in_file count s) (λ j. true) k
+    (λ j below.
+    let step = ends_lt s timed j k below in
+    inside_from s timed j (omega (arith, low)) (omega (arith, step, last))) in
+    ap (flat_map (frame_own_bits count xs s)) (all ∙ every (places k))

@@ -20,6 +20,10 @@ use Rattle.mobile_core.proofs.FrameTimes.{known_between}
 use Rattle.mobile_core.proofs.FramesLeft as left
 use Rattle.mobile_core.proofs.Ranges.{flat_map_ext_filter}
 
+pub either_way : (b : Bool) (i : ℕ) → (if b then i else i) ≡ i
+either_way true i = refl
+either_way false i = refl
+
 module _ (t : Tuning) (channel : ℕ) (m : Mark) (heard : List Sample) where
   -- one bit's message is the first of those of the bits from it on
   pub pages_next : (k i : ℕ) →
@@ -43,10 +47,6 @@ module _ (t : Tuning) (channel : ℕ) (m : Mark) (heard : List Sample) where
       let f : ℕ → List SpelledPage = λ j. option_to_list (page_at t channel m heard k j) in
       let none : size - i ≡ 0 = omega arith in
       ap (λ (n : ℕ). flat_map f (range_with_len i n)) none
-
-  either_way : (b : Bool) (i : ℕ) → (if b then i else i) ≡ i
-  either_way true i = refl
-  either_way false i = refl
 
   -- those of a frame that is known just now come first
   pub left_next : (low next place : ℕ) → IsTimed t.count (paging_stream t channel m) low →
