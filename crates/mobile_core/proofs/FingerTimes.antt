@@ -2,7 +2,7 @@
 use Rattle.std.proofs.Common.{◌≡◌, ℕ, zero, suc, ◌+◌, ◌*◌, ◌<◌, ◌≤◌, Bool, true, false, cond, ◌&&◌}
 use Rattle.std.proofs.Common.{List, [], ◌∷◌, length, refl, sym, ap, ◌∙◌, arith, inl, inr, ℤ, pos}
 use Rattle.std.proofs.Common.{negsuc, ◌+ℤ◌, ◌-ℤ◌, ◌≤ℤ◌, nat_le, All, slice_index_or}
-use Rattle.std.specs.Prelude.{unsigned_abs, int_le, max}
+use Rattle.std.specs.Prelude.{unsigned_abs, int_le, max, if◌then◌else◌}
 use Rattle.std.specs.Ordering.{int_eq}
 use Rattle.std.proofs.lemmas.Int.{ints}
 use Rattle.std.proofs.lemmas.Bool.{and_parts, and_from, or_cases, cases_lt, le-leb, lt-leb}
@@ -13,6 +13,7 @@ use Rattle.rake_finger.specs.Soft.{frame_chips}
 use Rattle.rake_finger.specs.declared.finger.Finger.{Finger}
 use Rattle.rake_finger.specs.declared.form.Form.{Form}
 use Rattle.rake_finger.specs.declared.form.Form.TheVariants.{Sync, Data}
+use Rattle.mobile_core.specs.Clocks.{first_frame}
 use Rattle.mobile_core.specs.Near as near
 use Rattle.mobile_core.specs.Near.{is_near, all_near, has_reference, AreNear, all_begun, AreBegun}
 use Rattle.mobile_core.specs.Streams.{Stream, is_within, frame_end, frame_start}
@@ -243,6 +244,20 @@ ends_bounds form u fingers h =
     (reference_early form u fingers both.1, ends_near form u fingers both.0)
 
 -- THE FIRST FRAME IN THE FILE
+one_most : (b : Bool) → (if b then 0 else 1) ≤ 1
+one_most true = omega arith
+one_most false = omega arith
+
+-- it ends early
+pub first_end : (form : Form) (first : ℕ) (fingers : List Finger) → AreNear fingers →
+    frame_end fingers form (first + frame_chips form * first_frame fingers first)
+    ≤ first + 2 * frame_chips form + 128
+first_end form first fingers near =
+    let frame : ℕ = first_frame fingers first in
+    let bounds = ends_bounds form (first + frame_chips form * frame) fingers near in
+    let moved = times_one (frame_chips form) frame (one_most (all_begun first fingers)) in
+    omega (arith, bounds.1, moved)
+
 low_first : (b : Bool) → b ≡ nat_le (cond b 0 1) 0
 low_first true = sym (le-leb 0 0 (omega arith))
 low_first false = sym (lt-leb 1 0 (omega arith))

@@ -1,7 +1,7 @@
 -- The frames of a paging channel, from the mark on (TIA/EIA-95-B, 7.1.3.4 and 7.7.2).
-use Rattle.std.specs.Prelude.{ℕ, ◌+◌, ◌*◌, ◌/◌, ◌==◌, ◌<◌, ◌≤◌, ◌^◌, if◌then◌else◌}
+use Rattle.std.specs.Prelude.{ℕ, ◌+◌, ◌*◌, ◌/◌, ◌==◌, if◌then◌else◌}
 use Rattle.frame_decoder.specs.Spans.{paging_channel}
-use Rattle.long_code.specs.LongCode.{IsState, after, paging_mask}
+use Rattle.long_code.specs.LongCode.{after, paging_mask}
 use Rattle.rake_finger.specs.declared.form.Form.TheVariants.{Data}
 use Rattle.symbol_path.specs.Scrambling.{scrambling}
 use Rattle.symbol_path.specs.declared.kinds.Rate.{Rate}
@@ -28,10 +28,3 @@ paging_stream t channel m = record {
 -- more frames than end within so many samples
 abbrev pub paging_bound : ℕ → ℕ
 paging_bound n = n / 24576 + 1
-
--- a mark that a message of the sync channel sets: its time lies early in a file, and the long code
--- has a state there
-pub record IsSoundMark (m : Mark) : Type 0 where
-  pub early : m.sample < 2 ^ 29
-  pub state : IsState m.lc
-  pub pilot : m.pn ≤ 511

@@ -1,5 +1,7 @@
 -- What always holds of a handset and of its parts: they fit one another, and no number is large.
 use Rattle.std.specs.Prelude.{◌≡◌, ℕ, ◌+◌, ◌*◌, ◌^◌, ◌<◌, ◌≤◌, true, length}
+use Rattle.std.specs.Option.{ForSome}
+use Rattle.long_code.specs.LongCode.{IsState}
 use Rattle.rake_finger.specs.Held.{Held}
 use Rattle.rake_finger.specs.Soft.{frame_chips, symbols}
 use Rattle.rake_finger.specs.declared.form.Form.TheVariants.{Sync}
@@ -8,6 +10,7 @@ use Rattle.mobile_core.specs.Softs.{AreSmall}
 use Rattle.mobile_core.specs.Streams.{frame_end}
 use Rattle.mobile_core.specs.declared.continued.Continued.{Continued}
 use Rattle.mobile_core.specs.declared.frame_clock.FrameClock.{FrameClock}
+use Rattle.mobile_core.specs.declared.mark.Mark.{Mark}
 use Rattle.mobile_core.specs.declared.sync_receiver.SyncReceiver.{SyncReceiver}
 
 -- the next frame lies at most two before the one that comes, and each is early in the file
@@ -31,11 +34,19 @@ pub record IsSoundChannel (c : Continued) : Type 0 where
   pub whole : length c.softs ≡ 1152
   pub small : AreSmall (symbols c.clock.form) c.softs
 
+-- the mark isn't far behind a file, and there the long code has a state and the pilot a number
+pub record IsSoundMark (m : Mark) : Type 0 where
+  pub early : m.sample < 2 ^ 29
+  pub state : IsState m.lc
+  pub pilot : m.pn ≤ 511
+
 -- frames of the sync channel, of which no message has more than were heard
 pub record IsSoundSync (r : SyncReceiver) : Type 0 where
   pub channel : IsSoundChannel r.received
   pub form_is : r.received.clock.form ≡ Sync
   pub frames : r.message_frames ≤ r.received.clock.next
+  pub early : r.received.clock.end ≤ 2 ^ 28
+  pub marked : ForSome r.mark IsSoundMark
 
 -- the ring holds two frames, the decoder takes three, and no frame that has ended waits
 pub record IsSound (count : ℕ) (ring : Held) (decoder : ℕ) (sync : SyncReceiver) : Type 0 where

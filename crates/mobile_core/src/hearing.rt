@@ -1,10 +1,11 @@
 //! What capsules of the sync channel and of a paging channel say.
 
 ghost use Rattle.std.specs.Prelude.{◌≡◌, ◌<◌, ◌≤◌, ◌^◌, [], ◌∷◌, Some};
-ghost use Rattle.std.specs.Option.{option_or};
+ghost use Rattle.std.specs.Option.{ForSome, option_or};
 ghost use Rattle.mobile_core.specs.Given.{at_of};
 ghost use Rattle.mobile_core.specs.Marks.{first_of, marks_of, frames_with};
 ghost use Rattle.mobile_core.specs.PagingEvents.{page_in};
+ghost use Rattle.mobile_core.specs.Sound.{IsSoundMark};
 ghost use Rattle.mobile_core.specs.SyncEvents.{events_of, heard_in};
 
 use crate::event::Event;
@@ -55,8 +56,9 @@ pub(crate) fn with_frame(begins: bool, message_frames: u64) -> u64
 
 /// The mark that a message sets whose first frame begins at a reference sample.
 fn mark_of(first: u64, told: &SpelledMessage) -> Option<Mark>
-    requires { first ≤ 2 ^ 40 }
-    ensures { result ≡ first_of (marks_of first (Some told.now)) }
+    requires { first ≤ 2 ^ 28 }
+    ensures value { result ≡ first_of (marks_of first (Some told.now)) }
+    ensures sound { ForSome result IsSoundMark }
 {
     let fields = told.message.fields();
     if fields.lc == 0 {
@@ -76,8 +78,10 @@ fn mark_of(first: u64, told: &SpelledMessage) -> Option<Mark>
 
 /// The mark that is set, or else that of what is told.
 pub(crate) fn mark_with(mark: Option<Mark>, first: u64, told: &SpelledMessage) -> Option<Mark>
-    requires { first ≤ 2 ^ 40 }
-    ensures { result ≡ option_or mark (first_of (marks_of first (Some told.now))) }
+    requires first { first ≤ 2 ^ 28 }
+    requires sound { ForSome mark IsSoundMark }
+    ensures value { result ≡ option_or mark (first_of (marks_of first (Some told.now))) }
+    ensures sound { ForSome result IsSoundMark }
 {
     if mark.is_some() {
         return mark;

@@ -50,7 +50,8 @@ impl PagingReceiver {
     ghost use Rattle.mobile_core.specs.Clocks.{IsDueAt};
     ghost use Rattle.mobile_core.specs.PagingReceiving.{HearsBit, HearsPaging, IsSoundPaging};
     ghost use Rattle.mobile_core.specs.PagingReceiving.{bit_passed, bits_heard};
-    ghost use Rattle.mobile_core.specs.PagingStreams.{IsSoundMark, paging_stream};
+    ghost use Rattle.mobile_core.specs.PagingStreams.{paging_stream};
+    ghost use Rattle.mobile_core.specs.Sound.{IsSoundMark};
     ghost use Rattle.mobile_core.specs.Streams.{frame_own_bits};
     ghost use Rattle.mobile_core.specs.Tuning.{Tuning};
     ghost use Rattle.mobile_core.specs.declared.mark.Mark.{Mark as TheMark};

@@ -18,7 +18,7 @@ pub(crate) struct Scrambling {
 impl Scrambling {
     ghost use Rattle.std.specs.Prelude.{◌≡◌, ◌<◌, ◌≤◌, ◌*◌, ◌^◌, length};
     ghost use Rattle.long_code.specs.LongCode.{after, paging_mask};
-    ghost use Rattle.mobile_core.specs.PagingStreams.{IsSoundMark};
+    ghost use Rattle.mobile_core.specs.Sound.{IsSoundMark};
     ghost use Rattle.symbol_path.specs.Scrambling.{scrambling};
 
     /// That of a paging channel, 1 to 7, whose frame 0 begins at the mark.

@@ -131,7 +131,7 @@ impl SyncReceiver {
     fn message_start(&self) -> u64
         requires sound { IsSoundSync self.now }
         ensures value { result ≡ message_start self.now }
-        ensures most { result ≤ 2 ^ 30 }
+        ensures most { result ≤ 2 ^ 28 }
     {
         let first = self.received.clock.next() - self.message_frames;
         self.received.clock.start_of(first)

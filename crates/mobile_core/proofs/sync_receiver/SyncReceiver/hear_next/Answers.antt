@@ -53,5 +53,5 @@ returns-clause-hears c = λ t heard at' check d st.
     c.mark_with-self.result (Some c.event_of.result) d received own
     (c.push-capsule.ensures.stands before st.framed)
     (c.push-capsule.ensures.capsule before st.framed) opened
-    (some ∙ ap (λ form. heard_in form capsule) check) first c.mark_with-self.ensures
+    (some ∙ ap (λ form. heard_in form capsule) check) first c.mark_with-self.ensures.value
     (c.event_of.ensures.value ∙ ap (λ n. events_of n (Some told)) at')

@@ -1,8 +1,13 @@
-use Rattle.std.proofs.Common.{◌≡◌, ℕ, ◌-◌, ◌%◌, ◌∙◌, sym, ap, subst, refl}
+use Rattle.std.proofs.Common.{◌≡◌, ℕ, ◌+◌, ◌-◌, ◌*◌, ◌%◌, ◌∙◌, sym, ap, subst, refl}
+use Rattle.std.proofs.Common.{arith}
+use Rattle.rake_finger.specs.Soft.{frame_chips}
 use Rattle.rake_finger.specs.declared.form.Form.TheVariants.{Sync}
 use Rattle.mobile_core.specs.Clocks.{clock_from, first_frame}
 use Rattle.mobile_core.specs.Near.{AreNear}
+use Rattle.mobile_core.specs.Streams.{frame_end}
 use Rattle.mobile_core.specs.Tuning.{sync_stream}
+use Rattle.mobile_core.specs.declared.frame_clock.FrameClock.{FrameClock}
+use Rattle.mobile_core.proofs.FingerTimes.{first_end}
 use Rattle.mobile_core.proofs.Received.{receives_new}
 use Rattle.mobile_core.proofs.SyncHeard.{hears_new}
 use Rattle.mobile_core.proofs.sync_receiver.SyncReceiver.new.Goals as goal
@@ -27,3 +32,19 @@ returns-clause-hears c = λ t phase deltas.
     let receives = receives_new t.count s received near (c.new.ensures.fingers ∙ fingers_are)
     c.new.ensures.sound.whole clock_is in
     hears_new t _ receives (rw clock_is refl) c.new-2.ensures refl refl
+
+pub returns-clause-sound : goal.returns-clause-sound
+returns-clause-sound c =
+    let fingers = c.reference_fingers-fingers.result in
+    let first : ℕ = (32768 - c.from.result) % 32768 in
+    let ends : c.new.result.clock.end ≡ frame_end fingers Sync
+    (first + frame_chips Sync * first_frame fingers first) =
+    ap (λ (k : FrameClock). k.end) c.new.ensures.clock in
+    let most = first_end Sync first fingers c.reference_fingers-fingers.ensures.near in
+    record {
+      channel = c.new.ensures.sound;
+      form_is = ap (λ (k : FrameClock). k.form) c.new.ensures.clock;
+      frames = omega arith;
+      early = omega (arith, ends, most);
+      marked = λ m e. absurd (cc);
+    }
