@@ -23,6 +23,11 @@ abbrev pub raw_line : ℕ → List Bool → List ℕ
 raw_line place capsule =
     codes "raw at=" ++ decimal place ++ codes " sync " ++ bit_text capsule ++ codes "\n"
 
+-- `raw at=A paging BITS` and LF
+abbrev pub raw_paging_line : ℕ → List Bool → List ℕ
+raw_paging_line place capsule =
+    codes "raw at=" ++ decimal place ++ codes " paging " ++ bit_text capsule ++ codes "\n"
+
 -- a message's line in form 1, and its raw line in form 3
 abbrev pub message_line : ℕ → List ℕ → List ℕ → Option (List ℕ)
 message_line form line raw =

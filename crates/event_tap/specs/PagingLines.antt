@@ -1,0 +1,82 @@
+-- The lines of the messages of the paging channel, in the style of the lines of events.
+use Rattle.std.specs.Prelude.{ℕ, zero, suc, Bool, List, [], ◌∷◌, ◌++◌, map, codes, decimal}
+use Rattle.std.specs.List.{flat_map}
+use Rattle.paging_message.specs.System.{system_values}
+use Rattle.paging_message.specs.Widths.{system_names}
+use Rattle.paging_message.specs.declared.fields.ChannelFields.{ChannelFields}
+use Rattle.paging_message.specs.declared.fields.NeighborFields.{NeighborFields}
+use Rattle.paging_message.specs.declared.fields.OtherFields.{OtherFields}
+use Rattle.paging_message.specs.declared.fields.SystemFields.{SystemFields}
+use Rattle.paging_message.specs.declared.message.PagingMessage.{PagingMessage}
+use Rattle.paging_message.specs.declared.message.PagingMessage.TheVariants as messages
+use Rattle.event_tap.specs.Lines.{bit_text, named}
+
+-- items, joined by commas
+unfoldable pub commas : List (List ℕ) → List ℕ
+commas [] = []
+commas (item ∷ items) = item ++ flat_map (λ next. codes "," ++ next) items
+
+-- what stands before item i of a list, counted from 0: a comma, unless it is the first
+abbrev pub comma_before : ℕ → List ℕ
+comma_before zero = []
+comma_before (suc i) = codes ","
+
+-- `paging at=A`, with which each line begins
+abbrev pub paging_start : ℕ → List ℕ
+paging_start place = codes "paging at=" ++ decimal place
+
+-- ` rest=BITS` and LF, the end of a line
+abbrev pub rest_text : List Bool → List ℕ
+rest_text bits = codes " rest=" ++ bit_text bits ++ codes "\n"
+
+-- values, each behind its name
+unfoldable pub named_values : List (List ℕ) → List ℕ → List ℕ
+named_values [] values = []
+named_values (name ∷ names) [] = []
+named_values (name ∷ names) (value ∷ values) =
+    (named name ++ decimal value) ++ named_values names values
+
+-- a neighbor as `CONFIG/PN`
+abbrev pub neighbor_text : ℕ → ℕ → List ℕ
+neighbor_text config pn = decimal config ++ codes "/" ++ decimal pn
+
+-- neighbors in order
+unfoldable pub neighbor_texts : List ℕ → List ℕ → List (List ℕ)
+neighbor_texts [] pns = []
+neighbor_texts (config ∷ configs) [] = []
+neighbor_texts (config ∷ configs) (pn ∷ pns) =
+    neighbor_text config pn ∷ neighbor_texts configs pns
+
+-- `paging at=A system pn=.. seq=..` and so on, each field of the table behind its name, then
+-- ` rest=BITS` and LF
+unfoldable pub system_line : ℕ → SystemFields → List ℕ
+system_line place m =
+    paging_start place ++ codes " system" ++ named_values system_names (system_values m)
+    ++ rest_text m.rest
+
+-- `paging at=A neighbors pn=.. seq=.. inc=.. pilots=C/P,C/P,.. rest=BITS` and LF, with the
+-- configuration and the offset of each neighbor
+unfoldable pub neighbor_line : ℕ → NeighborFields → List ℕ
+neighbor_line place m =
+    paging_start place ++ codes " neighbors pn=" ++ decimal m.pn ++ codes " seq=" ++ decimal m.seq
+    ++ codes " inc=" ++ decimal m.inc ++ codes " pilots="
+    ++ commas (neighbor_texts m.configs m.pns) ++ rest_text m.rest
+
+-- `paging at=A channels pn=.. seq=.. freqs=F,F,.. rest=BITS` and LF
+unfoldable pub channel_line : ℕ → ChannelFields → List ℕ
+channel_line place m =
+    paging_start place ++ codes " channels pn=" ++ decimal m.pn ++ codes " seq=" ++ decimal m.seq
+    ++ codes " freqs=" ++ commas (map decimal m.freqs) ++ rest_text m.rest
+
+-- `paging at=A other type=K bits=BITS` and LF
+unfoldable pub other_line : ℕ → OtherFields → List ℕ
+other_line place m =
+    paging_start place ++ codes " other type=" ++ decimal m.kind ++ codes " bits="
+    ++ bit_text m.bits ++ codes "\n"
+
+-- the line of a message that was known at this number of samples
+unfoldable pub paging_line : ℕ → PagingMessage → List ℕ
+paging_line place (messages.System m) = system_line place m
+paging_line place (messages.Neighbors m) = neighbor_line place m
+paging_line place (messages.Channels m) = channel_line place m
+paging_line place (messages.Other m) = other_line place m
