@@ -1,4 +1,5 @@
 mod Digits
+mod PagingTexts
 pub mod Runs
 mod TapLists
 pub mod Texts

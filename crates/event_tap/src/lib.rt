@@ -9,6 +9,9 @@
 mod kinds;
 pub mod laws;
 mod line;
+mod paging;
+#[cfg(test)]
+mod paging_tests;
 mod sync;
 mod tap;
 #[cfg(test)]

@@ -1,0 +1,42 @@
+use Rattle.std.proofs.Common.{length, ap, arith}
+use Rattle.event_tap.proofs.PagingTexts.{freqs-most}
+use Rattle.event_tap.proofs.paging.append_channels.Goals as goal
+
+pub append_freqs-requires-clause-room : goal.append_freqs-requires-clause-room
+append_freqs-requires-clause-room c =
+    omega (
+      arith,
+      ap length c.requires.empty,
+      c.append_named.ensures.len,
+      c.append_named-2.ensures.len,
+      c.append_named-3.ensures.len,
+      c.append_word.ensures.len,
+      freqs-most c.args.fields.now c.requires.is,
+    )
+
+pub append_rest-requires : goal.append_rest-requires
+append_rest-requires c =
+    omega (
+      arith,
+      ap length c.requires.empty,
+      c.append_named.ensures.len,
+      c.append_named-2.ensures.len,
+      c.append_named-3.ensures.len,
+      c.append_word.ensures.len,
+      c.append_freqs.ensures.len,
+      freqs-most c.args.fields.now c.requires.is,
+    )
+
+pub returns-clause-most : goal.returns-clause-most
+returns-clause-most c =
+    omega (
+      arith,
+      ap length c.requires.empty,
+      c.append_named.ensures.len,
+      c.append_named-2.ensures.len,
+      c.append_named-3.ensures.len,
+      c.append_word.ensures.len,
+      c.append_freqs.ensures.len,
+      c.append_rest.ensures.len,
+      freqs-most c.args.fields.now c.requires.is,
+    )

@@ -1,0 +1,183 @@
+//! The lines of messages of the paging channel.
+
+ghost use Rattle.std.specs.Prelude.{◌≡◌, ◌<◌, ◌≤◌, ◌+◌, ◌*◌, ◌^◌};
+ghost use Rattle.std.specs.Prelude.{[], ◌++◌, length, map, codes, decimal};
+ghost use Rattle.chip_core.specs.Fields.{FieldsFit};
+ghost use Rattle.event_tap.specs.PagingLines.{channel_line, neighbor_line, other_line, system_line};
+ghost use Rattle.event_tap.specs.PagingLines.{commas, comma_before, named_values, neighbor_texts};
+ghost use Rattle.event_tap.specs.PagingLines.{neighbor_text, paging_line, rest_text};
+ghost use Rattle.event_tap.specs.Taps.{raw_paging_line};
+ghost use Rattle.paging_message.specs.Channels.{channel_records, IsChannelList};
+ghost use Rattle.paging_message.specs.Neighbors.{neighbor_records, IsNeighborList};
+ghost use Rattle.paging_message.specs.Widths.{in_widths, system_widths, system_names};
+
+use crate::text::Text;
+use chip_core::{Bits, Numbers};
+use paging_message::{
+    ChannelFields, NeighborFields, OtherFields, PagingMessage, SystemParameters, system_name,
+};
+
+/// Adds the line of a message to the empty text, LF at its end. No line is longer than 1,024 bytes.
+///
+/// `at` is the number of samples at which the message was known.
+#[tactic(auto, unfolding(crate::specs::PagingLines::paging_line))]
+pub(crate) fn append_paging(text: &mut Text, at: u64, message: &PagingMessage)
+    requires { text.old ≡ [] }
+    ensures value { text.new ≡ paging_line at message.now }
+    ensures most { length text.new ≤ 1024 }
+{
+    match message {
+        PagingMessage::System(message) => append_system(text, at, message),
+        PagingMessage::Neighbors(message) => append_neighbors(text, at, &message.fields()),
+        PagingMessage::Channels(message) => append_channels(text, at, &message.fields()),
+        PagingMessage::Other(message) => append_other(text, at, &message.fields()),
+    }
+}
+
+/// Adds the line of a message's capsule, as it came, to the empty text.
+pub(crate) fn append_raw_paging(text: &mut Text, at: u64, capsule: &Bits)
+    requires { text.old ≡ [] }
+    ensures value { text.new ≡ raw_paging_line at capsule.now }
+    ensures most { length text.new ≤ 1024 }
+{
+    text.append_named("raw at=", at);
+    text.append_word(" paging ");
+    text.append_bits(capsule);
+    text.append_word("\n");
+}
+
+/// Adds the line of a System Parameters Message to the empty text.
+#[tactic(auto, unfolding(crate::specs::PagingLines::system_line))]
+fn append_system(text: &mut Text, at: u64, message: &SystemParameters)
+    requires { text.old ≡ [] }
+    ensures value { text.new ≡ system_line at message.now }
+    ensures most { length text.new ≤ 1024 }
+{
+    let fields = message.fields();
+    text.append_named("paging at=", at);
+    text.append_word(" system");
+    append_values(text, &message.values());
+    append_rest(text, &fields.rest);
+}
+
+/// Adds the values of the fields of a System Parameters Message, each behind its name.
+fn append_values(text: &mut Text, values: &[u64; 37])
+    requires fit { FieldsFit (in_widths system_widths values.now) }
+    requires room { length text.old + 605 ≤ 1024 }
+    ensures value { text.new ≡ text.old ++ named_values system_names values.now }
+    ensures len { length text.new ≤ length text.old + 592 }
+{
+    for i in 0..37usize {
+        text.append_name(system_name(i).as_bytes());
+        text.append_short(values[i]);
+    }
+}
+
+/// Adds the line of a Neighbor List Message to the empty text.
+#[tactic(auto, unfolding(crate::specs::PagingLines::neighbor_line))]
+fn append_neighbors(text: &mut Text, at: u64, fields: &NeighborFields)
+    requires empty { text.old ≡ [] }
+    requires is { IsNeighborList fields.now }
+    ensures value { text.new ≡ neighbor_line at fields.now }
+    ensures most { length text.new ≤ 1024 }
+{
+    text.append_named("paging at=", at);
+    text.append_named(" neighbors pn=", fields.pn);
+    text.append_named(" seq=", fields.seq);
+    text.append_named(" inc=", fields.inc);
+    text.append_word(" pilots=");
+    append_pilots(text, &fields.configs, &fields.pns);
+    append_rest(text, &fields.rest);
+}
+
+/// Adds neighbors, each as its configuration of 3 bits and its offset of 9, joined by commas.
+fn append_pilots(text: &mut Text, configs: &Numbers, pns: &Numbers)
+    requires fit { FieldsFit (neighbor_records configs.now pns.now) }
+    requires paired { length configs.now ≡ length pns.now }
+    requires room { length text.old + 6 * length configs.now + 25 ≤ 1024 }
+    ensures value { text.new ≡ text.old ++ commas (neighbor_texts configs.now pns.now) }
+    ensures len { length text.new ≤ length text.old + 6 * length configs.now }
+{
+    for i in 0..configs.len() {
+        append_comma(text, i);
+        append_pilot(text, u64::from(configs.get(i)), u64::from(pns.get(i)));
+    }
+}
+
+/// Adds a neighbor: its configuration of 3 bits, and its offset of 9.
+fn append_pilot(text: &mut Text, config: u64, pn: u64)
+    requires config_fits { config < 2 ^ 3 }
+    requires pn_fits { pn < 2 ^ 9 }
+    requires room { length text.old + 25 ≤ 1024 }
+    ensures value { text.new ≡ text.old ++ neighbor_text config pn }
+    ensures len { length text.new ≤ length text.old + 5 }
+{
+    text.append_short(config);
+    text.append_word("/");
+    text.append_short(pn);
+}
+
+/// Adds the line of a CDMA Channel List Message to the empty text.
+#[tactic(auto, unfolding(crate::specs::PagingLines::channel_line))]
+fn append_channels(text: &mut Text, at: u64, fields: &ChannelFields)
+    requires empty { text.old ≡ [] }
+    requires is { IsChannelList fields.now }
+    ensures value { text.new ≡ channel_line at fields.now }
+    ensures most { length text.new ≤ 1024 }
+{
+    text.append_named("paging at=", at);
+    text.append_named(" channels pn=", fields.pn);
+    text.append_named(" seq=", fields.seq);
+    text.append_word(" freqs=");
+    append_freqs(text, &fields.freqs);
+    append_rest(text, &fields.rest);
+}
+
+/// Adds frequencies, each of 11 bits, joined by commas.
+fn append_freqs(text: &mut Text, freqs: &Numbers)
+    requires fit { FieldsFit (channel_records freqs.now) }
+    requires room { length text.old + 5 * length freqs.now + 21 ≤ 1024 }
+    ensures value { text.new ≡ text.old ++ commas (map decimal freqs.now) }
+    ensures len { length text.new ≤ length text.old + 5 * length freqs.now }
+{
+    for i in 0..freqs.len() {
+        append_comma(text, i);
+        text.append_short(u64::from(freqs.get(i)));
+    }
+}
+
+/// Adds the line of a message of another type to the empty text.
+#[tactic(auto, unfolding(crate::specs::PagingLines::other_line))]
+fn append_other(text: &mut Text, at: u64, fields: &OtherFields)
+    requires { text.old ≡ [] }
+    ensures value { text.new ≡ other_line at fields.now }
+    ensures most { length text.new ≤ 1024 }
+{
+    text.append_named("paging at=", at);
+    text.append_named(" other type=", fields.kind);
+    text.append_word(" bits=");
+    text.append_bits(&fields.bits);
+    text.append_word("\n");
+}
+
+/// Adds the comma before item `i` of a list, counted from 0; the first has none.
+fn append_comma(text: &mut Text, i: u8)
+    requires room { length text.old + 1 ≤ 1024 }
+    ensures value { text.new ≡ text.old ++ comma_before i }
+    ensures len { length text.new ≤ length text.old + 1 }
+{
+    if i > 0 {
+        text.append_word(",");
+    }
+}
+
+/// Adds the bits that are left behind a message's fields, and the end of the line.
+fn append_rest(text: &mut Text, rest: &Bits)
+    requires room { length text.old + 309 ≤ 1024 }
+    ensures value { text.new ≡ text.old ++ rest_text rest.now }
+    ensures len { length text.new ≤ length text.old + 309 }
+{
+    text.append_word(" rest=");
+    text.append_bits(rest);
+    text.append_word("\n");
+}
