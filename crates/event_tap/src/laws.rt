@@ -2,7 +2,8 @@
 
 ghost use Rattle.std.specs.Prelude.{◌≡◌, ◌≤◌, ◌<◌, ◌++◌, ◌∷◌, [], ℕ, List, length, take};
 ghost use Rattle.event_tap.specs.Lines.{text_of};
-ghost use Rattle.event_tap.specs.Taps.{KeptTap, form_lines, joined, kept_by, kept_with, run_taps, run_text};
+ghost use Rattle.event_tap.specs.Taps.{KeptTap, form_lines, joined, kept_by, kept_with, run_taps};
+ghost use Rattle.event_tap.specs.Taps.{run_text};
 ghost use Rattle.mobile_core.specs.declared.event.Event.{Event as TheEvent};
 
 /// A tap hears just the first events of its form's kinds, as many as its limit says.
