@@ -8,6 +8,7 @@ pub mod Growth
 pub mod FingerTimes
 pub mod Opened
 pub mod MarkGrowth
+pub mod MarkLater
 pub mod SoftSums
 pub mod Turned
 pub mod FingerLists
