@@ -22,3 +22,4 @@ pub mod PageGrowth
 pub mod Stood
 pub mod StepJoins
 pub mod Causality
+pub mod MarkStays
