@@ -196,3 +196,16 @@ sync_silent width plan lawful none =
     subst
     (λ (s : Option SyncPlan). All (λ (c : Carrier). c.row ≢ 32)
     (pilot_carrier plan ∷ others plan s)) (sym none) (without_sync width plan lawful)
+
+-- the number of a paging channel that a plan doesn't have is no channel's row
+pub paging_silent : (plan : CellPlan) (channel : ℕ) → 1 ≤ channel → channel ≤ 7 →
+    All (λ (p : PagingPlan). p.number ≢ channel) plan.paging →
+    All (λ (c : Carrier). c.row ≢ channel) (carriers plan)
+unfolding carriers
+paging_silent plan channel first last none =
+    All-cons (λ (c : Carrier). c.row ≢ channel) (pilot_carrier plan) (others plan plan.sync)
+    (λ e. omega (arith, first, e))
+    (All-append (λ (c : Carrier). c.row ≢ channel) (sync_carriers plan plan.sync)
+    (map (paging_carrier plan) plan.paging)
+    (sync_all (λ (c : Carrier). c.row ≢ channel) plan plan.sync (λ s e. omega (arith, last, e)))
+    (All-map (λ (c : Carrier). c.row ≢ channel) (paging_carrier plan) plan.paging none))

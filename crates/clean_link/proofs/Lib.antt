@@ -24,3 +24,6 @@ pub mod SendingPlaces
 pub mod SendingsHeard
 pub mod SendingsBack
 pub mod MarksTrue
+-- the paging channels behind the mark
+pub mod PagingTimes
+pub mod PagingFrames

@@ -27,6 +27,7 @@ use Rattle.mobile_core.specs.Tuning.{Tuning, sync_stream, sync_bound}
 use Rattle.mobile_core.specs.declared.mark.Mark.{Mark}
 use Rattle.clean_link.specs.CleanLaws.{FramesAreZeros, FramesComeBack, IsMarkedWhereHeard, MarksAreTrue}
 use Rattle.clean_link.specs.CleanLink.{IsReceivable, IsTrueMark, IsTunedTo, first_sync_frame}
+use Rattle.clean_link.specs.PagingLaws.{MarksTellTheRate, UnmarkedWithoutSync}
 use Rattle.base_modulator.specs.Sampled.{made_samples}
 use Rattle.clean_link.proofs.SyncFrames.{frames_back, frames_zero}
 use Rattle.clean_link.proofs.SendingPieces.{length-run}
@@ -56,6 +57,10 @@ time_of plan m q = refl
 pn_of : (plan : CellPlan) (m : SyncFields) (q : ℕ) → (message_of plan.cell m q).pn ≡ plan.cell.pn
 unfolding message_of
 pn_of plan m q = refl
+
+prat_of : (plan : CellPlan) (m : SyncFields) (q : ℕ) → (message_of plan.cell m q).prat ≡ m.prat
+unfolding message_of
+prat_of plan m q = refl
 
 -- its long code's state is never 0
 lc_some : (plan : CellPlan) (m : SyncFields) (q : ℕ) → IsState plan.cell.lc →
@@ -161,13 +166,19 @@ first_one x y h = cc
 no_first : (y : Mark) (R : Type 0) → first_of (let none : List Mark = [] in none) ≡ Some y → R
 no_first y R h = absurd (cc)
 
--- a frame's mark is true
-frame_true : FramesComeBack →
+-- the sending whose message sets the mark of frame k, and which of its frames that is
+record IsOfSending (plan : CellPlan) (m : SyncFields) (t : Tuning) (k : ℕ)
+    (set : Mark) : Type 0 where
+  sending : ℕ
+  frame : ℕ
+  ends : EndsAt plan m k sending frame
+  same : sent_mark plan m sending (frame_start (sync_stream t) (k - frame)) ≡ set
+
+frame_sets : FramesComeBack →
     (width : Width) (plan : CellPlan) (sync : SyncPlan) (t : Tuning) (k : ℕ) (m : Mark) →
     IsReceivable width plan → plan.sync ≡ Some sync → IsTunedTo plan t → in_file t k ≡ true →
-    first_of (marks_at t (made_samples plan) k) ≡ Some m →
-    (superframes : ℕ) × IsTrueMark plan m superframes
-frame_true back width plan sync t k m is sends tuned there set =
+    first_of (marks_at t (made_samples plan) k) ≡ Some m → IsOfSending plan sync.message t k m
+frame_sets back width plan sync t k m is sends tuned there set =
     let q = (first_sync_frame plan + k) / sending_frames plan sync.message in
     let w = (first_sync_frame plan + k) % sending_frames plan sync.message in
     let place : IsSentAt plan sync.message (first_sync_frame plan) k q w =
@@ -175,18 +186,34 @@ frame_true back width plan sync t k m is sends tuned there set =
     ⊎_elim
     (λ (ends : ends_sending plan sync.message k w ≡ true).
     let at : EndsAt plan sync.message k q w = record { place = place; ends = ends } in
-    let same = first_one (sent_mark plan sync.message q (frame_start (sync_stream t) (k - w))) m
-    (sym (ap first_of (marks_are back width plan sync t k q w is sends tuned there at)) ∙ set) in (
-      told_superframes plan.cell sync.message q,
-      subst (λ x. IsTrueMark plan x (told_superframes plan.cell sync.message q)) same
-          (is_true width plan sync.message t k q w is.lawful tuned at),
-    ))
+    let marks = marks_are back width plan sync t k q w is sends tuned there at in
+    record {
+      sending = q;
+      frame = w;
+      ends = at;
+      same = first_one (sent_mark plan sync.message q (frame_start (sync_stream t) (k - w))) m
+          (sym (ap first_of marks) ∙ set);
+    })
     (λ (over : ends_sending plan sync.message k w ≡ false).
     let none =
     marks_none t (made_samples plan) k
     (heard_nothing back width plan sync t k q w is sends tuned there place over) in
     no_first m _ (sym (ap first_of none) ∙ set))
     (cases_Bool (ends_sending plan sync.message k w))
+
+-- a frame's mark is true
+frame_true : FramesComeBack →
+    (width : Width) (plan : CellPlan) (sync : SyncPlan) (t : Tuning) (k : ℕ) (m : Mark) →
+    IsReceivable width plan → plan.sync ≡ Some sync → IsTunedTo plan t → in_file t k ≡ true →
+    first_of (marks_at t (made_samples plan) k) ≡ Some m →
+    (superframes : ℕ) × IsTrueMark plan m superframes
+frame_true back width plan sync t k m is sends tuned there set =
+    let sent = frame_sets back width plan sync t k m is sends tuned there set in
+    let superframes = told_superframes plan.cell sync.message sent.sending in (
+      superframes,
+      subst (λ x. IsTrueMark plan x superframes) sent.same
+          (is_true width plan sync.message t k sent.sending sent.frame is.lawful tuned sent.ends),
+    )
 
 frame_true_if : FramesComeBack → FramesAreZeros →
     (width : Width) (plan : CellPlan) (t : Tuning) (k : ℕ) (m : Mark) (channel : Option SyncPlan) →
@@ -213,6 +240,28 @@ pub marks_from : FramesComeBack → FramesAreZeros → MarksAreTrue
 marks_from back zeros width plan t n m is tuned set =
     let (k, both) = mark_among t (made_samples plan) n m set in
     frame_true_if back zeros width plan t k m plan.sync is refl tuned both.0 both.1
+
+-- ---- it tells the paging channels' rate
+
+pub rate_from : FramesComeBack → MarksTellTheRate
+rate_from back width plan sync t n m is sends tuned set =
+    let (k, both) = mark_among t (made_samples plan) n m set in
+    let sent = frame_sets back width plan sync t k m is sends tuned both.0 both.1 in
+    ap (λ (x : Mark). x.prat) (sym sent.same) ∙ prat_of plan sync.message sent.sending
+
+pub unmarked_from : FramesAreZeros → UnmarkedWithoutSync
+unmarked_from zeros width plan t n is silent tuned =
+    no_mark (mark t (made_samples plan) n) refl
+  where
+    no_mark : (set : Option Mark) → mark t (made_samples plan) n ≡ set →
+        mark t (made_samples plan) n ≡ None
+    no_mark None e = e
+    no_mark (Some m) e =
+        let (k, both) = mark_among t (made_samples plan) n m e in
+        no_first m _
+        (sym (ap first_of
+        (marks_none t (made_samples plan) k
+        (none_heard zeros width plan t k is silent tuned both.0))) ∙ both.1)
 
 -- ---- it is there
 -- a frame sets a mark where it tells an event
@@ -279,6 +328,12 @@ set_from back zeros width plan t is tuned =
 
 pub marks_true : MarksAreTrue
 marks_true = marks_from frames_back frames_zero
+
+pub marks_rate : MarksTellTheRate
+marks_rate = rate_from frames_back
+
+pub unmarked : UnmarkedWithoutSync
+unmarked = unmarked_from frames_zero
 
 pub marked_where_heard : IsMarkedWhereHeard
 marked_where_heard = set_from frames_back frames_zero

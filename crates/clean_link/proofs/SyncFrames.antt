@@ -38,20 +38,20 @@ phase_kept phase low =
     (omega (arith, ints)))
     ∙ omega (arith, low)
 
--- its finger is the one on the path
-fingers_are : (plan : CellPlan) (t : Tuning) → IsTunedTo plan t →
-    fingers_of 32 t.phase t.deltas ≡ path_finger plan 32 ∷ []
-fingers_are plan t on =
+-- the finger of a row is the one on the path
+pub fingers_are : (plan : CellPlan) (t : Tuning) (row : ℕ) → IsTunedTo plan t →
+    fingers_of row t.phase t.deltas ≡ path_finger plan row ∷ []
+fingers_are plan t row on =
     let low : phase_at plan plan.link.start < 32768 = omega arith in
-    ap (fingers_of 32 t.phase) on.alone
-    ∙ ap (λ (n : ℕ). fingers_of 32 n (pos 0 ∷ [])) on.phase
-    ∙ ap (λ (n : ℕ). reference_finger n 32 ∷ []) (phase_kept (phase_at plan plan.link.start) low)
+    ap (fingers_of row t.phase) on.alone
+    ∙ ap (λ (n : ℕ). fingers_of row n (pos 0 ∷ [])) on.phase
+    ∙ ap (λ (n : ℕ). reference_finger n row ∷ []) (phase_kept (phase_at plan plan.link.start) low)
 
 sync_heard : (plan : CellPlan) (sync : SyncPlan) (t : Tuning) → plan.cell.pn < 512 →
     IsTunedTo plan t →
     IsHeardBy plan (sync_carrier plan sync) (sync_stream t) (first_sync_frame plan)
 sync_heard plan sync t low on = record {
-  alone = fingers_are plan t on;
+  alone = fingers_are plan t 32 on;
   frame_long = refl;
   symbol_long = refl;
   begins = let begins = frames_begin plan t 0 low on.phase in omega (arith, begins);
@@ -100,7 +100,7 @@ pub zero_without_sync : AreZeroWithoutSync
 zero_without_sync width plan t k at none on here =
     let u = frame_start (sync_stream t) k in
     let begins = frames_begin plan t k at.lawful.pn on.phase in
-    ap (λ (fs : List Finger). softs (made_samples plan) fs Sync u) (fingers_are plan t on)
+    ap (λ (fs : List Finger). softs (made_samples plan) fs Sync u) (fingers_are plan t 32 on)
     ∙ silent_rows width plan 32 Sync u at (omega arith) (sync_silent width plan at.lawful none)
     (record {
       room = omega (arith, in_file_to t k on.alone here, on.count);

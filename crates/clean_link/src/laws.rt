@@ -1,10 +1,15 @@
 //! Laws of the definitions: each function does nothing, and its contract is the law.
 //!
 //! Those of any channel hold of what is sent on any Walsh row, to any stream with one finger on the
-//! path; those of the sync channel are their first case.
+//! path; those of the sync channel are their first case, and those of the paging channels behind a
+//! mark their second.
 
 ghost use Rattle.clean_link.specs.ChannelLaws.{ChannelFramesComeBack, ChannelWordsAreTheOnlyBest, ChannelsHaveSentSigns, EarlyFramesAreZero, SilentRowsAreZero, StreamsShowSymbols, StrengthsArePositive};
 ghost use Rattle.clean_link.specs.CleanLaws.{AreZeroWithoutSync, FramesAreZeros, FramesComeBack, HaveSentSigns, IsMarkedWhereHeard, MarksAreTrue, SentWordsAreTheOnlyBest, WholeSendingsComeBack};
+ghost use Rattle.clean_link.specs.PagingLaws.{MarksTellTheRate, PagingFramesComeBack};
+ghost use Rattle.clean_link.specs.PagingLaws.{PagingHaveSentSigns, PagingWordsAreTheOnlyBest};
+ghost use Rattle.clean_link.specs.PagingLaws.{SilentPagingFramesAreZeros, SilentPagingIsZero};
+ghost use Rattle.clean_link.specs.PagingLaws.{UnmarkedWithoutSync};
 
 /// On a clean link the soft values of each frame in the file are `4 |h|^2 g0 g V C` times the signs
 /// of the symbols that the channel sends in it, where h is the link, g0 and g are the gains of the
@@ -20,6 +25,8 @@ pub fn soft_values_have_the_sent_signs()
     ensures positive { StrengthsArePositive }
     ensures sent { HaveSentSigns }
     ensures none { AreZeroWithoutSync }
+    ensures paging { PagingHaveSentSigns }
+    ensures silent_paging { SilentPagingIsZero }
 {}
 
 /// So the bits of each frame come back, and zeros where nothing is sent.
@@ -27,6 +34,8 @@ pub fn frames_come_back()
     ensures channel { ChannelFramesComeBack }
     ensures sent { FramesComeBack }
     ensures none { FramesAreZeros }
+    ensures paging { PagingFramesComeBack }
+    ensures silent_paging { SilentPagingFramesAreZeros }
 {}
 
 /// The frames of a span are one word, whose start bits are the last eight of the frame before it.
@@ -34,6 +43,7 @@ pub fn frames_come_back()
 pub fn sent_words_are_the_only_best()
     ensures channel { ChannelWordsAreTheOnlyBest }
     ensures sent { SentWordsAreTheOnlyBest }
+    ensures paging { PagingWordsAreTheOnlyBest }
 {}
 
 /// A handset hears the sendings that lie in the file whole, each with its message, in order, and
@@ -42,9 +52,12 @@ pub fn whole_sendings_come_back()
     ensures { WholeSendingsComeBack }
 {}
 
-/// The mark has the system time and the long code's state that the cell has at its sample, and
-/// there is one in the file just where a sending is whole.
+/// The mark has the system time and the long code's state that the cell has at its sample, and the
+/// sync message's PRAT. There is one in the file just where a sending is whole, and none without a
+/// sync channel.
 pub fn marks_are_true()
     ensures true_mark { MarksAreTrue }
     ensures set { IsMarkedWhereHeard }
+    ensures rate { MarksTellTheRate }
+    ensures none { UnmarkedWithoutSync }
 {}

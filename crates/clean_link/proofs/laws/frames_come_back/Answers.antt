@@ -1,5 +1,6 @@
 use Rattle.clean_link.proofs.ChannelsBack.{channel_frames}
 use Rattle.clean_link.proofs.SyncFrames.{frames_back, frames_zero}
+use Rattle.clean_link.proofs.PagingFrames.{paging_frames_back, silent_paging_back}
 use Rattle.clean_link.proofs.laws.frames_come_back.Goals as goal
 
 pub returns-clause-channel : goal.returns-clause-channel
@@ -10,3 +11,9 @@ returns-clause-sent c = frames_back
 
 pub returns-clause-none : goal.returns-clause-none
 returns-clause-none c = frames_zero
+
+pub returns-clause-paging : goal.returns-clause-paging
+returns-clause-paging c = paging_frames_back
+
+pub returns-clause-silent_paging : goal.returns-clause-silent_paging
+returns-clause-silent_paging c = silent_paging_back

@@ -1,5 +1,6 @@
 use Rattle.clean_link.proofs.ChannelsBack.{channel_signs, early_frames, silent_rows, stream_symbols, strength_some}
 use Rattle.clean_link.proofs.SyncFrames.{sent_signs, zero_without_sync}
+use Rattle.clean_link.proofs.PagingFrames.{paging_signs, silent_paging_zero}
 use Rattle.clean_link.proofs.laws.soft_values_have_the_sent_signs.Goals as goal
 
 pub returns-clause-channel : goal.returns-clause-channel
@@ -22,3 +23,9 @@ returns-clause-sent c = sent_signs
 
 pub returns-clause-none : goal.returns-clause-none
 returns-clause-none c = zero_without_sync
+
+pub returns-clause-paging : goal.returns-clause-paging
+returns-clause-paging c = paging_signs
+
+pub returns-clause-silent_paging : goal.returns-clause-silent_paging
+returns-clause-silent_paging c = silent_paging_zero
