@@ -1,6 +1,6 @@
 -- Lists that end with their check.
 use Rattle.std.proofs.Common.{◌≡◌, ℕ, ◌<◌, Bool, not, List, [], ◌∷◌, ◌++◌, length, map, refl, sym, ap, ◌∙◌, arith, nat_eq, suc, length-append}
-use Rattle.std.specs.Prelude.{◌↔◌, IsTrue}
+use Rattle.std.specs.Prelude.{◌↔◌, IsTrue, Option, None, Some}
 use Rattle.std.proofs.lemmas.List.{take_at, drop_at}
 use Rattle.std.proofs.lemmas.Bool.{eqb-true, eq-eqb}
 use Rattle.chip_core.specs.Bits.{number}
@@ -10,6 +10,7 @@ use Rattle.quality_bits.specs.declared.kind.Kind.{Kind}
 use Rattle.quality_bits.specs.declared.kind.Kind.TheVariants.{Q6, Q8, Q10, Q12, M16, M30}
 use Rattle.quality_bits.specs.Quality.{check_bits}
 use Rattle.quality_bits.specs.Kinds.{generator_of, sent_check, body_length, IsChecked}
+use Rattle.quality_bits.specs.Kinds.{quality_indicator, quality_length}
 use Rattle.quality_bits.proofs.Digits.{number_injective}
 use Rattle.quality_bits.proofs.Steps.{length-check_bits}
 
@@ -49,3 +50,9 @@ checked-sent kind form bits =
     let body : body_length kind (bits ++ sent) ≡ length bits =
     omega (arith, length-append bits sent, length-sent_check kind form bits) in
     rw (body, drop_at bits sent (length bits) refl, take_at bits sent (length bits) refl)
+
+pub length-quality_indicator : (kind : Option Kind) (information : List Bool) →
+    length (quality_indicator kind information) ≡ quality_length kind
+length-quality_indicator None information = refl
+length-quality_indicator (Some kind) information =
+    length-check_bits (generator_of kind) information (degree_positive kind)

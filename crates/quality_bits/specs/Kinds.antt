@@ -1,5 +1,5 @@
 -- The checks by their kinds, and the lists that end with one.
-use Rattle.std.specs.Prelude.{◌≡◌, ℕ, ◌-◌, Bool, List, length, take, drop}
+use Rattle.std.specs.Prelude.{◌≡◌, ℕ, ◌-◌, Bool, List, [], length, take, drop, Option, Some, None}
 use Rattle.chip_core.specs.Bits.{number}
 use Rattle.chip_core.specs.declared.check_form.CheckForm.{CheckForm}
 use Rattle.chip_core.specs.declared.check_form.CheckForm.TheVariants.{Plain, Complemented}
@@ -38,3 +38,14 @@ body_length kind bits = length bits - (generator_of kind).degree
 abbrev pub IsChecked : Kind → CheckForm → List Bool → Type 0
 IsChecked kind form bits =
     drop (body_length kind bits) bits ≡ sent_check kind form (take (body_length kind bits) bits)
+
+-- the quality indicator behind a frame's information bits, where frames of its rate have one
+-- (TIA/EIA-95-B, 7.1.3.5)
+abbrev pub quality_indicator : Option Kind → List Bool → List Bool
+quality_indicator None information = []
+quality_indicator (Some kind) information = check_bits (generator_of kind) information
+
+-- how many bits it has
+abbrev pub quality_length : Option Kind → ℕ
+quality_length None = 0
+quality_length (Some kind) = (generator_of kind).degree

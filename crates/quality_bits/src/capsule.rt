@@ -7,7 +7,7 @@ ghost use Rattle.std.specs.Prelude.{◌≡◌, ◌↔◌, ◌≤◌, ◌<◌, �
 ghost use Rattle.quality_bits.specs.Kinds.{IsChecked, generator_of};
 ghost use Rattle.quality_bits.specs.Capsules.{FillsCapsule, capsule, IsWhole, is_stated, stated_bits};
 
-use crate::checking::{check, sent_after};
+use crate::checking::{append_check, check};
 use crate::kind::Kind;
 use chip_core::{BitReader, Bits, CheckForm};
 use thiserror::Error;
@@ -33,8 +33,7 @@ pub fn capsule_of(kind: Kind, form: CheckForm, body: &Bits) -> Bits
     let mut bits = Bits::empty();
     bits.append_number(8, u64::from(octets));
     bits.append_all(body);
-    let sent = sent_after(kind, form, &bits, bits.len());
-    bits.append_number(degree as u8, u64::from(sent));
+    append_check(kind, form, &mut bits);
     bits
 }
 

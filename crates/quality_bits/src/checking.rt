@@ -1,6 +1,7 @@
-//! Whether a list ends with its check.
+//! The check that a list ends with.
 
-ghost use Rattle.std.specs.Prelude.{◌≡◌, ◌<◌, ◌≤◌, ◌+◌, ◌-◌, ◌^◌, ◌↔◌, IsTrue, length, take, drop};
+ghost use Rattle.std.specs.Prelude.{◌≡◌, ◌<◌, ◌≤◌, ◌+◌, ◌-◌, ◌^◌, ◌↔◌, ◌++◌, IsTrue, length, take};
+ghost use Rattle.std.specs.Prelude.{drop};
 ghost use Rattle.chip_core.specs.Bits.{number};
 ghost use Rattle.quality_bits.specs.Kinds.{generator_of, Checks, sent_check, IsChecked};
 
@@ -20,8 +21,19 @@ pub fn check(kind: Kind, form: CheckForm, bits: &Bits) -> bool
     number_from(bits, body) == sent_after(kind, form, bits, body)
 }
 
+/// Adds the check of a list at its end, in this form, the highest coefficient first.
+///
+/// The quality indicators of frames are always plain (TIA/EIA-95-B, 7.1.3.5).
+pub fn append_check(kind: Kind, form: CheckForm, bits: &mut Bits)
+    requires { length bits.old + (generator_of kind).degree ≤ 1184 }
+    ensures { bits.new ≡ bits.old ++ sent_check kind form bits.old }
+{
+    let sent = sent_after(kind, form, bits, bits.len());
+    bits.append_number(kind.divisor().degree as u8, u64::from(sent));
+}
+
 /// The check of the first so many bits as it is sent, as a number.
-pub(crate) fn sent_after(kind: Kind, form: CheckForm, bits: &Bits, count: u16) -> u32
+fn sent_after(kind: Kind, form: CheckForm, bits: &Bits, count: u16) -> u32
     requires { count ≤ length bits.now }
     ensures { result ≡ number (sent_check kind form (take count bits.now)) }
 {

@@ -13,7 +13,7 @@ mod register;
 mod tests;
 
 pub use capsule::{CapsuleFault, body_of, capsule_of, stated_length};
-pub use checking::check;
+pub use checking::{append_check, check};
 pub use kind::Kind;
 pub use open_capsule::OpenCapsule;
 pub use register::Register;
