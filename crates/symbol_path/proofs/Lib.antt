@@ -5,3 +5,4 @@ pub mod Permutation
 pub mod PowerPlaces
 pub mod Reversal
 pub mod SymbolChips
+pub mod TrafficWords

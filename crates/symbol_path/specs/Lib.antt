@@ -1,3 +1,4 @@
 pub mod Scrambling
 pub mod SentOrder
+pub mod TrafficWords
 pub mod Worked

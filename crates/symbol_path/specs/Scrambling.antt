@@ -1,6 +1,7 @@
 -- Data scrambling and the power control subchannel (TIA/EIA-95-B, 7.1.3.1.6 and 7.1.3.1.7).
-use Rattle.std.specs.Prelude.{ℕ, zero, suc, ◌+◌, ◌*◌, Bool, false, List, [], ◌∷◌, map, get_or}
-use Rattle.std.specs.List.{flat_map}
+use Rattle.std.specs.Prelude.{ℕ, zero, suc, ◌+◌, ◌*◌, ◌/◌, ◌==◌, if◌then◌else◌, Bool, false, List}
+use Rattle.std.specs.Prelude.{[], ◌∷◌, map, get_or}
+use Rattle.std.specs.List.{flat_map, list_any}
 use Rattle.chip_core.specs.Bits.{places, digit}
 use Rattle.long_code.specs.LongCode.{after, before, long_chip}
 
@@ -33,3 +34,15 @@ power_place state mask (suc g) =
 unfoldable pub power_places : ℕ → ℕ → List ℕ
 power_places state mask =
     flat_map (λ g. power_place state mask g ∷ (power_place state mask g + 1) ∷ []) (places 16)
+
+-- Symbol i of a frame with its power control bits: that of the symbol's group of 24, where the
+-- symbol is at one of these places.
+abbrev pub symbol_or_command : List ℕ → List Bool → List Bool → ℕ → Bool
+symbol_or_command replaced commands symbols i =
+    if list_any (λ place. place == i) replaced then get_or commands (i / 24) false
+    else get_or symbols i false
+
+-- the symbols of a frame with its 16 power control bits, each in place of two of them
+unfoldable pub with_commands : ℕ → ℕ → List Bool → List Bool → List Bool
+with_commands state mask commands symbols =
+    map (symbol_or_command (power_places state mask) commands symbols) (places 384)

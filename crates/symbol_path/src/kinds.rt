@@ -3,6 +3,7 @@
 ghost use Rattle.std.specs.Prelude.{◌≡◌, ◌*◌, ◌≤◌};
 
 use chip_core::air::DATA_SYMBOLS;
+use quality_bits::Kind as QualityKind;
 
 /// The two forms of a frame, by the interleaver that it goes through.
 ///
@@ -32,6 +33,7 @@ pub enum Rate {
 
 impl Rate {
     ghost use Rattle.symbol_path.specs.SentOrder.{repeats_of};
+    ghost use Rattle.symbol_path.specs.TrafficWords.{information_of, quality_of};
 
     /// How often each code symbol is sent: 1, 2, 4 or 8 times.
     pub fn repeats(&self) -> u8
@@ -67,5 +69,29 @@ impl Rate {
         ensures { result * repeats_of self.now ≡ 384 }
     {
         DATA_SYMBOLS as u16 / u16::from(self.repeats())
+    }
+    /// How many information bits a frame of a traffic channel has: 172, 80, 40 or 16
+    /// (TIA/EIA-95-B, 7.1.3.5).
+    pub fn information_bits(&self) -> u16
+        ensures { result ≡ information_of self.now }
+    {
+        match self {
+            Rate::R9600 => 172,
+            Rate::R4800 => 80,
+            Rate::R2400 => 40,
+            Rate::R1200 => 16,
+        }
+    }
+
+    /// The quality indicator of the frames of a traffic channel; `None` at the two lower rates,
+    /// whose frames have none (7.1.3.5).
+    pub fn quality(&self) -> Option<QualityKind>
+        ensures { result ≡ quality_of self.now }
+    {
+        match self {
+            Rate::R9600 => Some(QualityKind::Q12),
+            Rate::R4800 => Some(QualityKind::Q8),
+            Rate::R2400 | Rate::R1200 => None,
+        }
     }
 }
