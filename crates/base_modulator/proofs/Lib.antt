@@ -23,3 +23,4 @@ pub mod LaidPages
 pub mod PageCycles
 pub mod PagingPlans
 pub mod Pieces
+pub mod TrafficFrames

@@ -8,6 +8,7 @@ pub mod Script
 pub mod Running
 pub mod Sendings
 pub mod Signal
+pub mod TrafficFrames
 pub mod Transmitter
 mod Worked
 pub mod ScriptDrafts

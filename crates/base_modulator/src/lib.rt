@@ -16,14 +16,18 @@ mod frame_source;
 pub mod laws;
 mod page_cycle;
 mod plan;
+mod scrambling;
 mod script;
 mod script_fault;
 mod sendings;
 mod series;
 mod symbol_source;
+mod traffic_cycle;
+mod traffic_frame;
 
 pub use cell::Cell;
 pub use form::ChannelForm;
 pub use plan::{CellIdentity, CellPlan, LinkPlan, Page, PagingPlan, PilotPlan, SyncPlan};
 pub use script_fault::ScriptFault;
 pub use series::Series;
+pub use traffic_frame::TrafficFrame;

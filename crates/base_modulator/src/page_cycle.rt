@@ -10,13 +10,14 @@ ghost use Rattle.base_modulator.specs.PageCycles.{cycle_frame_bits, frame_scramb
 ghost use Rattle.base_modulator.specs.PageCycles.{paging_frame_size, scrambled};
 
 use crate::plan::{CellIdentity, Page};
-use chip_core::air::{DATA_FRAME_CHIPS, DATA_SYMBOLS};
+use crate::scrambling::scrambled;
+use chip_core::air::DATA_FRAME_CHIPS;
 use chip_core::{Bits, CheckForm};
 use long_code::State;
 use paging_message::{HalfBits, Layout};
 use quality_bits::{Kind, capsule_of};
 use std::marker::Model;
-use symbol_path::{Rate, scramble_bits};
+use symbol_path::Rate;
 
 /// The half-frames of a cycle of pages, which a cell sends again and again. Contracts see the cell,
 /// the long code's mask, the rate, and the bits of the cycle.
@@ -39,19 +40,6 @@ impl Model for PageCycle {
 
     ghost invariant = { λ c.
         IsCycle (record { cell = c.cell; mask = c.mask; rate = c.rate; bits = c.bits }) };
-}
-
-/// Symbols, each added modulo 2 to its chip.
-fn mixed(symbols: &Bits, chips: &[bool; DATA_SYMBOLS]) -> Bits
-    requires { length symbols.now ≡ 384 }
-    ensures value { result ≡ scrambled chips.now symbols.now }
-    ensures count { length result ≡ 384 }
-{
-    let mut out = Bits::empty();
-    for k in 0..symbols.len() {
-        out.append(symbols.get(k) ^ chips[usize::from(k)]);
-    }
-    out
 }
 
 /// Adds the zeros that make whole half-frames of so many bits each.
@@ -149,8 +137,6 @@ impl PageCycle {
     {
         let mut state = State::new(self.cell.lc).unwrap();
         state.jump(DATA_FRAME_CHIPS * frame);
-        let mut chips = [false; DATA_SYMBOLS];
-        scramble_bits(&state, self.mask, &mut chips);
-        mixed(symbols, &chips)
+        scrambled(&state, self.mask, symbols)
     }
 }

@@ -2,7 +2,7 @@ use Rattle.std.proofs.Common.{◌≡◌, ◌∷◌, [], ◌++◌, length, get_or
 use Rattle.std.proofs.Common.{length-append}
 use Rattle.chip_core.specs.Bits.{xor}
 use Rattle.base_modulator.proofs.PageCycles.{differ_is, mixed_all, mixed_more}
-use Rattle.base_modulator.proofs.page_cycle.mixed.Goals as goal
+use Rattle.base_modulator.proofs.scrambling.mixed.Goals as goal
 
 pub loop-k-preserved : goal.loop-k-preserved
 loop-k-preserved c =

@@ -1,6 +1,6 @@
 use Rattle.std.proofs.Common.{◌≡◌, length, take}
 use Rattle.chip_core.specs.Bits.{xor, zip_with}
-use Rattle.base_modulator.proofs.page_cycle.mixed.Given as goal
+use Rattle.base_modulator.proofs.scrambling.mixed.Given as goal
 
 abbrev pub invariant-loop-k : goal.invariant-loop-k
 invariant-loop-k l = record {
