@@ -24,6 +24,8 @@ mod series;
 mod symbol_source;
 mod traffic_cycle;
 mod traffic_frame;
+#[cfg(test)]
+mod traffic_tests;
 
 pub use cell::Cell;
 pub use form::ChannelForm;

@@ -79,6 +79,16 @@ fn a_bit_turned(rt: HostRuntime) {
     assert!(rt; !check(Kind::Q12, CheckForm::Plain, &bits));
 }
 
+#[test]
+fn a_check_is_written_behind(rt: HostRuntime) {
+    let mut bits = text();
+    assert_eq!(rt; bits.len(), 72);
+    append_check(Kind::Q12, CheckForm::Plain, &mut bits);
+    let mut longer = text();
+    append(&mut longer, 12, 0xd4d);
+    assert!(rt; bits == longer);
+}
+
 /// A body of 34 bits makes a capsule of 9 octets.
 #[test]
 fn capsules_come_back(rt: HostRuntime) {

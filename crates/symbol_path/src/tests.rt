@@ -1,8 +1,11 @@
 //! What no clause says: that the calls succeed, and small values.
 
-use crate::{Kind, Rate, gather_into, place_into, power_places, power_start, scramble_bits};
+use crate::{
+    Kind, Rate, gather_into, place_into, power_places, power_start, scramble_bits, with_commands,
+};
 use chip_core::Bits;
 use long_code::State;
+use quality_bits::Kind as QualityKind;
 use std::test::Fail;
 
 #[test]
@@ -54,10 +57,32 @@ fn a_scrambled_frame(rt: HostRuntime) -> Result<(), Fail> {
     Ok(())
 }
 
+/// Of a frame of zeros with power control bits of 1, all but one, 30 symbols are 1.
+#[test]
+fn power_control_bits_replace_two_symbols_each(rt: HostRuntime) -> Result<(), Fail> {
+    let state = State::new(1).ok_or("a state")?;
+    let mut symbols = Bits::empty();
+    for _symbol in 0..384u16 {
+        symbols.push(false)?;
+    }
+    assert_eq!(rt; symbols.len(), 384);
+    let mut commands = [true; 16];
+    commands[2] = false;
+    let sent = with_commands(&state, 1, &commands, &symbols);
+    let places = power_places(&state, 1);
+    assert!(rt; sent.get(places[0]) && sent.get(places[1]));
+    assert!(rt; !sent.get(places[4]) && !sent.get(places[5]));
+    assert_eq!(rt; (0..384u16).filter(|i| sent.get(*i)).count(), 30);
+    Ok(())
+}
+
 #[test]
 fn rates(rt: HostRuntime) {
     assert_eq!(rt; Rate::R9600.bits_per_second(), 9600);
     assert_eq!(rt; Rate::R2400.frame_bits(), 48);
     assert_eq!(rt; Rate::R1200.code_symbols(), 48);
+    assert_eq!(rt; Rate::R9600.information_bits(), 172);
+    assert_eq!(rt; Rate::R4800.quality(), Some(QualityKind::Q8));
+    assert_eq!(rt; Rate::R2400.quality(), None);
     assert!(rt; Kind::Sync != Kind::Data);
 }
