@@ -1,24 +1,23 @@
 -- The first samples alone decide what is heard within them.
-use Rattle.std.proofs.Common.{◌≡◌, ℕ, suc, ◌+◌, ◌≤◌, Bool, true, ◌&&◌, List, [], ◌∷◌, ◌++◌, length}
+use Rattle.std.proofs.Common.{◌≡◌, ℕ, suc, ◌+◌, ◌≤◌, true, List, [], ◌∷◌, ◌++◌, length}
 use Rattle.std.proofs.Common.{take}
 use Rattle.std.proofs.Common.{drop, refl, sym, ap, ◌∙◌, arith, ℤ, pos, negsuc, All, Some, slice_get}
-use Rattle.std.proofs.Common.{nat_le}
 use Rattle.std.specs.Prelude.{unsigned_abs, int_le}
 use Rattle.std.specs.List.{flat_map}
 use Rattle.std.proofs.lemmas.Int.{ints}
-use Rattle.std.proofs.lemmas.Bool.{and_from, and_parts, leb-true}
+use Rattle.std.proofs.lemmas.Bool.{and_from}
 use Rattle.std.proofs.lemmas.List.{take-append-drop, length-take-le}
 use Rattle.chip_core.specs.Bits.{places}
 use Rattle.chip_core.specs.declared.sample.Sample.{Sample}
 use Rattle.mobile_core.specs.Events.{events_at, events_within}
-use Rattle.mobile_core.specs.Marks.{first_of, marks_at, mark}
+use Rattle.mobile_core.specs.Marks.{mark}
 use Rattle.mobile_core.specs.Near.{is_near, all_near, has_reference, AreNear, IsTuned, low_of}
-use Rattle.mobile_core.specs.Tuning.{Tuning, fingers_of, sync_stream, sync_bound}
+use Rattle.mobile_core.specs.Tuning.{Tuning, fingers_of, sync_stream}
+use Rattle.mobile_core.proofs.EventsGrown.{events_sooner}
 use Rattle.mobile_core.proofs.FingerTimes.{timed_of}
-use Rattle.mobile_core.proofs.Growth.{IsSyncTimed, sync_in_file, sync_known}
-use Rattle.mobile_core.proofs.Growth.{events_at_sync, sync_events_sooner}
-use Rattle.mobile_core.proofs.MarkGrowth.{marks_at_sooner}
-use Rattle.mobile_core.proofs.Ranges.{flat_map_ext_places, flat_map_ext_filter}
+use Rattle.mobile_core.proofs.Growth.{IsSyncTimed}
+use Rattle.mobile_core.proofs.MarkStays.{mark_sooner}
+use Rattle.mobile_core.proofs.Ranges.{flat_map_ext_places}
 
 -- FINGERS THAT ARE TUNED
 near_one : (d : ℤ) → unsigned_abs d ≤ 127 → is_near d ≡ true
@@ -59,31 +58,18 @@ module _ (t : Tuning) (is : IsTuned t) where
       let first = take n samples in
       let rest = drop n samples in
       let long : length first ≡ n = length-take-le n samples h in
-      let low = low_of t in
       ap (λ s. flat_map (events_at t s) (places (n + 1))) (sym (take-append-drop n samples))
       ∙ flat_map_ext_places (events_at t (first ++ rest)) (events_at t first) (n + 1)
       (λ k below.
-      events_at_sync t (first ++ rest) k
-      ∙ sync_events_sooner t low timed first rest k (omega arith)
-      ∙ sym (events_at_sync t first k))
+      events_sooner t (low_of t) timed (tuned_near t is) first rest k (omega (arith, below, long)))
 
   mark_of_first : (samples : List Sample) (n : ℕ) → n ≤ length samples →
       mark t samples n ≡ mark t (take n samples) n
-  unfolding mark
   mark_of_first samples n h =
       let first = take n samples in
-      let rest = drop n samples in
       let long : length first ≡ n = length-take-le n samples h in
-      let known : ℕ → Bool = λ k. sync_in_file t k && nat_le (sync_known t k) n in
-      let same : (k : ℕ) → known k ≡ true → marks_at t (first ++ rest) k ≡ marks_at t first k =
-      λ k both.
-      let parts = and_parts (sync_in_file t k) (nat_le (sync_known t k) n) both in
-      let within = leb-true (sync_known t k) n parts.1 in
-      marks_at_sooner t (low_of t) timed first rest k parts.0 (omega (arith, within)) in
       ap (λ s. mark t s n) (sym (take-append-drop n samples))
-      ∙ ap first_of
-      (flat_map_ext_filter known (marks_at t (first ++ rest)) (marks_at t first)
-      (places (sync_bound n)) same)
+      ∙ mark_sooner t (low_of t) timed first (drop n samples) n (omega (arith, long))
 
 module _ (t : Tuning) (one other : List Sample) (n : ℕ) (is : IsTuned t) where
   pub same_events : n ≤ length one → n ≤ length other → take n one ≡ take n other →

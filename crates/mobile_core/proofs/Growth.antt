@@ -1,13 +1,11 @@
--- How the events of a file grow with its samples.
-use Rattle.std.proofs.Common.{◌≡◌, ℕ, suc, ◌+◌, ◌-◌, ◌<◌, ◌≤◌, Bool, true, List, [], ◌∷◌, ◌++◌, map}
-use Rattle.std.proofs.Common.{length, length-append, refl, sym, ap, ◌∙◌, arith, inl, inr}
+-- How the events of a file's sync channel grow with its samples.
+use Rattle.std.proofs.Common.{◌≡◌, ℕ, ◌+◌, ◌<◌, ◌≤◌, Bool, true, List, [], ◌∷◌, ◌++◌, map}
+use Rattle.std.proofs.Common.{length, ap, ◌∙◌, arith}
 use Rattle.std.specs.List.{filter}
-use Rattle.std.proofs.lemmas.Bool.{cases_lt}
 use Rattle.std.proofs.lemmas.List.{map-append}
 use Rattle.chip_core.specs.Bits.{places}
 use Rattle.chip_core.specs.declared.sample.Sample.{Sample}
 use Rattle.quality_bits.specs.Pieces.{piece, capsule_ending}
-use Rattle.mobile_core.specs.Events.{events_at, events_within, events}
 use Rattle.mobile_core.specs.Left.{sync_events_left}
 use Rattle.mobile_core.specs.Streams.{is_in_file, known_at, frame_own_bits}
 use Rattle.mobile_core.specs.SyncEvents.{frames_before, sync_capsule_at, heard_in, heard_at}
@@ -16,7 +14,7 @@ use Rattle.mobile_core.specs.Timing.{IsTimed}
 use Rattle.mobile_core.specs.Tuning.{Tuning, sync_stream, sync_bound}
 use Rattle.mobile_core.proofs.FrameTimes.{outside_low, known_between, known_le}
 use Rattle.mobile_core.proofs.FramesLeft as left
-use Rattle.mobile_core.proofs.Ranges.{filter_none_places, flat_map_ext_filter, flat_map_grown}
+use Rattle.mobile_core.proofs.Ranges.{filter_none_places, flat_map_ext_filter}
 use Rattle.mobile_core.proofs.Ranges.{map_ext_filter_places, filter-places-more}
 use Rattle.mobile_core.proofs.Spans.{own_bits_sooner}
 
@@ -92,7 +90,7 @@ module _ (t : Tuning) (low : ℕ) (timed : IsSyncTimed t low) where
       let parts = left.now_parts t.count (sync_stream t) n k both in
       ap (events_of n) (heard_sooner xs ys k parts.0 (omega (arith, parts.1))))
 
-  sync_events_none : (xs : List Sample) (n : ℕ) →
+  pub sync_events_none : (xs : List Sample) (n : ℕ) →
       ((k : ℕ) → sync_in_file t k ≡ true → ¬ (sync_known t k ≡ n)) → sync_events_at t xs n ≡ []
   unfolding sync_events_at
   sync_events_none xs n h =
@@ -126,37 +124,3 @@ module _ (t : Tuning) (low : ℕ) (timed : IsSyncTimed t low) where
       let most = (known_between (sync_stream t) timed next h).low in
       left.next_left t.count (sync_stream t) (λ k. events_of (length xs) (heard_at t xs k))
       (length xs) (sync_bound (length xs)) next (omega arith) h e
-
--- all that ends at n is heard on the sync channel
-pub events_at_sync : (t : Tuning) (xs : List Sample) (n : ℕ) →
-    events_at t xs n ≡ sync_events_at t xs n
-unfolding events_at
-events_at_sync t xs n = refl
-
--- more samples, at whose end alone a frame may be known
-pub events_grown : (t : Tuning) (low : ℕ) → IsSyncTimed t low → (xs ys : List Sample)
-    (next : ℕ) → 0 < length ys → KnownBefore t next (length xs) →
-    KnownFrom t next (length xs + length ys) →
-    events t (xs ++ ys) ≡ events t xs ++ sync_events_left t (xs ++ ys) next
-unfolding events_within
-events_grown t low timed xs ys next some before behind =
-    let d = length ys - 1 in
-    let long : length (xs ++ ys) ≡ length xs + suc d = omega (arith, length-append xs ys) in
-    let f = events_at t xs in
-    let g = events_at t (xs ++ ys) in
-    let sooner : (n : ℕ) → n ≤ length xs → g n ≡ f n = λ n h.
-    events_at_sync t (xs ++ ys) n
-    ∙ sync_events_sooner t low timed xs ys n h
-    ∙ sym (events_at_sync t xs n) in
-    let between : (n : ℕ) → length xs < n → n < length xs + suc d → g n ≡ [] = λ n l h.
-    events_at_sync t (xs ++ ys) n
-    ∙ sync_events_none t low timed (xs ++ ys) n
-    (λ k inside e.
-    elim (cases_lt k next) [
-      | inl less ↦ let b = before k less inside in omega arith
-      | inr more ↦ let b = behind k more inside in omega arith
-    ]) in
-    let grown = flat_map_grown f g (length xs) d sooner between in
-    let all = left_all t low timed (xs ++ ys) next
-    (λ k less inside e. let b = before k less inside in omega arith) in
-    rw (long, grown, all, long, events_at_sync t (xs ++ ys) (length xs + suc d)) refl

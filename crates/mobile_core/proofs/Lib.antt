@@ -19,7 +19,10 @@ pub mod PageBits
 pub mod PagesLeft
 pub mod PagesHeard
 pub mod PageGrowth
+pub mod MarkStays
+pub mod PagesFollowed
+pub mod EventsGrown
+pub mod EventPlaces
 pub mod Stood
 pub mod StepJoins
 pub mod Causality
-pub mod MarkStays

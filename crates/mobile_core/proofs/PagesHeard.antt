@@ -74,7 +74,8 @@ hears_none t channel m r heard receives next state mask rate size none framed =
 
 module _ {t : Tuning} {channel : ℕ} {m : Mark} {r : PagingReceiver} {heard : List Sample}
     (st : HearsPaging t channel m r heard) where
-  idle : ¬ IsDueAt t.count r.received.clock → r.place ≡ 0
+  -- where no frame is due, none is under way
+  pub idle : ¬ IsDueAt t.count r.received.clock → r.place ≡ 0
   idle none =
       elim (cases_lt 0 r.place) [
         | inl some ↦ absurd (none (st.under_way some).due)

@@ -1,7 +1,7 @@
 -- Steps of a handset that follow one another.
 use Rattle.std.proofs.Common.{◌≡◌, ℕ, ◌+◌, List, [], ◌++◌, length, length-append}
 use Rattle.std.proofs.Common.{length-take, length-drop, take, drop, sym, ap, ◌∙◌, subst}
-use Rattle.std.proofs.Common.{arith, Option, None, IfSome}
+use Rattle.std.proofs.Common.{◌≤◌, arith, Option, Some, None, IfSome}
 use Rattle.std.proofs.lemmas.List.{append-nil, append_assoc}
 use Rattle.std.proofs.Math.Seq.{take-add}
 use Rattle.chip_core.specs.declared.sample.Sample.{Sample}
@@ -9,6 +9,16 @@ use Rattle.mobile_core.specs.Given.{listed, at_of}
 use Rattle.mobile_core.specs.Standing.{StandsFor, Steps}
 use Rattle.mobile_core.specs.declared.event.Event.{Event}
 use Rattle.mobile_core.specs.declared.mobile.Mobile.{Mobile}
+
+pub one_or_none : (event : Option Event) → length (listed event) ≤ 1
+one_or_none None = omega arith
+one_or_none (Some event) = omega arith
+
+-- an event that ends with the last sample taken
+pub ends_here : {place n : ℕ} (event : Option Event) → IfSome event (λ e. at_of e ≡ place) →
+    place ≡ n → IfSome event (λ e. at_of e ≡ n + 0)
+ends_here None ends same = tt
+ends_here (Some event) ends same = omega (arith, ends, same)
 
 -- nothing was taken, and nothing given
 pub steps_none : (mobile : Mobile) (samples : List Sample) →

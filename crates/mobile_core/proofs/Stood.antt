@@ -1,8 +1,10 @@
 -- What a handset stands for, step by step.
 use Rattle.std.proofs.Common.{◌≡◌, ℕ, ◌+◌, ◌<◌, ◌≤◌, false, ◌||◌, List, [], ◌∷◌, ◌++◌, length}
-use Rattle.std.proofs.Common.{length-append, refl, sym, ap, ◌∙◌, arith, Option}
+use Rattle.std.proofs.Common.{length-append, refl, sym, ap, subst, ◌∙◌, arith, inl, inr, Option}
+use Rattle.std.proofs.Common.{Some, None, Bool, true, map}
 use Rattle.std.specs.Prelude.{is_some}
 use Rattle.std.specs.List.{flat_map, list_any}
+use Rattle.std.specs.Option.{option_or}
 use Rattle.std.proofs.lemmas.Bool.{both_ways}
 use Rattle.std.proofs.lemmas.List.{append-nil, append_assoc}
 use Rattle.std.proofs.lemmas.List.Folds.{list_any-append}
@@ -10,25 +12,65 @@ use Rattle.chip_core.proofs.Places.{places-none}
 use Rattle.chip_core.specs.declared.sample.Sample.{Sample}
 use Rattle.rake_finger.specs.Held.{Held, HoldsLast}
 use Rattle.mobile_core.specs.Clocks.{IsDueAt}
-use Rattle.mobile_core.specs.Events.{events_at, events_within, events}
+use Rattle.mobile_core.specs.Events.{events_at, events_within, events, paging_events_at}
 use Rattle.mobile_core.specs.Given.{listed}
 use Rattle.mobile_core.specs.Left.{sync_events_left}
-use Rattle.mobile_core.specs.Marks.{mark, sets_mark}
+use Rattle.mobile_core.specs.Marks.{first_of, mark, mark_before, marks_at, sets_mark}
+use Rattle.mobile_core.specs.Near.{AreNear}
+use Rattle.mobile_core.specs.PagingEvents.{page_event, pages_behind}
+use Rattle.mobile_core.specs.PagingMonitoring.{HearsBehind, HearsPages, IsReceiverDue, SetsMark}
+use Rattle.mobile_core.specs.PagingMonitoring.{WaitsFrom, paging_events_left}
+use Rattle.mobile_core.specs.Sound.{IsSoundSync}
 use Rattle.mobile_core.specs.Standing.{Parts, Stands}
 use Rattle.mobile_core.specs.Streams.{is_in_file}
 use Rattle.mobile_core.specs.SyncReceiving.{HearsSync, HearsNext}
+use Rattle.mobile_core.specs.Timing.{IsTimed}
 use Rattle.mobile_core.specs.Tuning.{Tuning, sync_stream}
 use Rattle.mobile_core.specs.declared.event.Event.{Event}
+use Rattle.mobile_core.specs.declared.mark.Mark.{Mark}
+use Rattle.mobile_core.specs.declared.paging_monitor.PagingMonitor.{PagingMonitor}
 use Rattle.mobile_core.specs.declared.sync_receiver.SyncReceiver.{SyncReceiver}
-use Rattle.mobile_core.proofs.ClockSteps.{before_next, from_next}
-use Rattle.mobile_core.proofs.FrameTimes.{outside_low}
-use Rattle.mobile_core.proofs.Growth.{events_at_sync, events_grown, left_all, left_none}
+use Rattle.mobile_core.proofs.ClockSteps.{before_next, from_next, due_inside}
+use Rattle.mobile_core.proofs.EventsGrown.{events_at_both, events_grown}
+use Rattle.mobile_core.proofs.FrameTimes.{known_between, outside_low}
+use Rattle.mobile_core.proofs.Growth.{left_all, left_none}
+use Rattle.mobile_core.proofs.MarkGrowth.{mark_before_more, mark_before_none, mark_is}
+use Rattle.mobile_core.proofs.MarkLater.{opens_later}
+use Rattle.mobile_core.proofs.PagesFollowed.{EndsFrom, behind_more, pages_given}
 use Rattle.mobile_core.proofs.Ranges.{flat_map-places-more}
 use Rattle.mobile_core.proofs.SyncHeard as sync
+
+or-false : (b : Bool) → (b || false) ≡ b
+or-false true = refl
+or-false false = refl
 
 append_none : {A : Type 0} (xs ys : List A) → xs ++ ys ≡ xs → ys ≡ []
 append_none xs [] e = refl
 append_none xs (y ∷ ys) e = absurd (omega (arith, ap length e, length-append xs (y ∷ ys)))
+
+first_empty : {A : Type 0} (xs ys : List A) → xs ++ ys ≡ [] → xs ≡ []
+first_empty [] ys e = refl
+first_empty (x ∷ xs) ys e = absurd (cc)
+
+-- before any sample is taken nothing is heard of a paging channel
+unmarked : (t : Tuning) (low : ℕ) → IsTimed t.count (sync_stream t) low → mark t [] 0 ≡ None
+unmarked t low timed =
+    let s = sync_stream t in
+    let outside : (k : ℕ) → k < low → is_in_file t.count s k ≡ false =
+    λ k less. outside_low s timed k less in
+    mark_is t timed [] 0 low
+    (λ k less inside. absurd (both_ways (is_in_file t.count s k) (outside k less) inside))
+    (λ k above inside.
+    let early = timed.early k in
+    let least = (known_between s timed k inside).low in
+    let some = timed.some in
+    omega (arith, early, least, some))
+    ∙ mark_before_none t [] low outside
+
+silent : (t : Tuning) → mark t [] 0 ≡ None → paging_events_at t [] 0 ≡ []
+unfolding paging_events_at
+silent t none =
+    ap (λ (m : Option Mark). map (page_event 0) (pages_behind t t.paging m [] 0)) none
 
 first_moment : (t : Tuning) → events_at t [] 0 ≡ events t []
 unfolding events_within
@@ -38,71 +80,103 @@ first_moment t =
 
 -- a handset that has taken nothing
 pub stands_new : (t : Tuning) (p : Parts) → p.count ≡ t.count → p.check ≡ t.check30 →
-    HoldsLast p.ring [] → HearsSync t p.sync [] →
-    p.sync.received.clock.next ≡ p.sync.received.clock.low → is_some p.sync.mark ≡ false →
-    Stands t p [] []
-stands_new t p count check holds hears next unmarked =
+    HoldsLast p.ring [] → HearsSync t p.sync [] → HearsPages t p.paging None [] →
+    p.sync.received.clock.next ≡ p.sync.received.clock.low → p.sync.mark ≡ None →
+    p.paging.receiver ≡ None → Stands t p [] []
+stands_new t p count check holds hears pages next unset closed =
     let clock = p.sync.received.clock in
     let s = sync_stream t in
     let timed = hears.receives.clocked.timed in
     let outside : (k : ℕ) → k < clock.next → is_in_file t.count s k ≡ false =
-    λ k less. outside_low s timed k (omega (arith, next)) in
+    λ k less. outside_low s timed k (omega (arith, less, next)) in
     let left = left_all t clock.low timed [] clock.next
     (λ k less inside e. both_ways (is_in_file t.count s k) (outside k less) inside) in
+    let none = silent t (unmarked t clock.low timed) in
+    let idle = ap (paging_events_left t p.sync.mark []) closed in
     record {
       count_is = count;
       check_is = check;
       ring = holds;
       sync = hears;
-      noted = unmarked;
-      told = left ∙ sym (events_at_sync t [] 0) ∙ first_moment t;
+      paging = subst (λ (m : Option Mark). HearsPages t p.paging m []) (sym unset) pages;
+      noted = ap is_some unset;
+      told = rw (left, idle, ← none) (sym (events_at_both t [] 0) ∙ first_moment t);
     }
 
 module _ {t : Tuning} {p : Parts} {heard : List Sample} {given : List Event}
     (st : Stands t p heard given) where
+  -- nothing is due
   pub due_here : ¬ IsDueAt p.count p.sync.received.clock → ¬ IsDueAt t.count p.sync.received.clock
   due_here none = rw st.count_is at none
 
+  pub page_due_here : ¬ IsReceiverDue p.count p.paging.receiver →
+      ¬ IsReceiverDue t.count p.paging.receiver
+  page_due_here none = rw st.count_is at none
+
+  sync_given : ¬ IsDueAt p.count p.sync.received.clock →
+      length heard < p.sync.received.clock.end →
+      sync_events_left t heard p.sync.received.clock.next ≡ []
+  sync_given none waits =
+      let clock = p.sync.received.clock in
+      let is = st.sync.receives.clocked in
+      left_none t clock.low is.timed heard clock.next
+      (from_next is (length heard + 1) (due_here none) (omega (arith, waits)))
+
   -- all events have been given where no frame is due
   pub all_given : ¬ IsDueAt p.count p.sync.received.clock →
-      length heard < p.sync.received.clock.end → given ≡ events t heard
-  all_given none waits =
-      let clock = p.sync.received.clock in
-      let is = st.sync.receives.clocked in
-      let n : ℕ = length heard in
-      let left = left_none t clock.low is.timed heard clock.next
-      (from_next is (n + 1) (due_here none) (omega arith)) in
-      sym (append-nil given) ∙ ap (λ (es : List Event). given ++ es) (sym left) ∙ st.told
+      ¬ IsReceiverDue p.count p.paging.receiver → length heard < p.sync.received.clock.end →
+      WaitsFrom (length heard) p.paging.receiver → given ≡ events t heard
+  all_given none idle waits pages_wait =
+      let left = sync_given none waits in
+      let pages = pages_given t p.sync.mark heard p.paging.receiver st.paging.behind
+      (page_due_here idle) pages_wait in
+      let all : given ++ ([] ++ []) ≡ events t heard = rw (left, pages) at st.told in
+      sym (append-nil given) ∙ all
 
-  more_told : (more : List Sample) → ¬ IsDueAt p.count p.sync.received.clock →
-      0 < length more → length heard + length more ≤ p.sync.received.clock.end →
-      given ++ sync_events_left t (heard ++ more) p.sync.received.clock.next
-      ≡ events t (heard ++ more)
-  more_told more none some most =
-      let clock = p.sync.received.clock in
-      let is = st.sync.receives.clocked in
-      let n : ℕ = length heard + length more in
-      let all = all_given none (omega arith) in
-      let grown = events_grown t clock.low is.timed heard more clock.next some (before_next is)
-      (from_next is n (due_here none) most) in
-      let left = sync_events_left t (heard ++ more) clock.next in
-      ap (λ (es : List Event). es ++ left) all ∙ sym grown
+  module _ (more : List Sample) (near : AreNear (sync_stream t).fingers)
+      (none : ¬ IsDueAt p.count p.sync.received.clock)
+      (idle : ¬ IsReceiverDue p.count p.paging.receiver) where
+    more_told : 0 < length more → length heard + length more ≤ p.sync.received.clock.end →
+        EndsFrom (length heard + length more) p.paging.receiver →
+        given ++ (sync_events_left t (heard ++ more) p.sync.received.clock.next
+        ++ paging_events_left t p.sync.mark (heard ++ more) p.paging.receiver)
+        ≡ events t (heard ++ more)
+    more_told some most ends =
+        let clock = p.sync.received.clock in
+        let receiver = p.paging.receiver in
+        let is = st.sync.receives.clocked in
+        let n : ℕ = length heard + length more in
+        let all = all_given none idle (omega (arith, most, some))
+        (λ r e. let later = ends r e in omega (arith, later, some)) in
+        let behind = subst (λ (m : Option Mark). HearsBehind t m receiver heard) st.sync.marked
+        st.paging.behind in
+        let grown = events_grown t clock.low is.timed near heard more clock.next receiver some
+        (before_next is) (from_next is n (due_here none) most) behind (page_due_here idle) ends in
+        let sync_left = sync_events_left t (heard ++ more) clock.next in
+        rw (all, st.sync.marked) (sym grown)
 
-  -- more samples, up to the end of the frame that comes next
-  stands_some : (more : List Sample) (ring : Held) →
-      ¬ IsDueAt p.count p.sync.received.clock → length heard + length more ≤ p.count →
-      length heard + length more ≤ p.sync.received.clock.end → HoldsLast ring (heard ++ more) →
-      0 < length more → Stands t (record p { ring = ring }) (heard ++ more) given
-  stands_some more ring none within most holds some =
-      let count = st.count_is in
-      record {
-        count_is = count;
-        check_is = st.check_is;
-        ring = holds;
-        sync = sync.hears_more st.sync more (due_here none) (omega (arith, within, count)) most;
-        noted = st.noted;
-        told = more_told more none some most;
-      }
+    -- more samples, up to the end of the frame that comes next
+    stands_some : (ring : Held) → length heard + length more ≤ p.count →
+        length heard + length more ≤ p.sync.received.clock.end →
+        EndsFrom (length heard + length more) p.paging.receiver → HoldsLast ring (heard ++ more) →
+        0 < length more → Stands t (record p { ring = ring }) (heard ++ more) given
+    stands_some ring within most ends holds some =
+        let count = st.count_is in
+        record {
+          count_is = count;
+          check_is = st.check_is;
+          ring = holds;
+          sync = sync.hears_more st.sync more (due_here none) (omega (arith, within, count)) most;
+          paging = record {
+            channel_is = st.paging.channel_is;
+            phase_is = st.paging.phase_is;
+            deltas_are = st.paging.deltas_are;
+            behind = behind_more t p.sync.mark heard p.paging.receiver st.paging.behind
+                (page_due_here idle) more (omega (arith, within, count)) ends;
+          };
+          noted = st.noted;
+          told = more_told some most ends;
+        }
 
   stands_none : (ring : Held) → HoldsLast ring (heard ++ []) →
       Stands t (record p { ring = ring }) (heard ++ []) given
@@ -114,48 +188,108 @@ module _ {t : Tuning} {p : Parts} {heard : List Sample} {given : List Event}
         check_is = st.check_is;
         ring = holds';
         sync = st.sync;
+        paging = st.paging;
         noted = st.noted;
         told = st.told;
       })
 
-  pub stands_taken : (more : List Sample) (ring : Held) →
-      ¬ IsDueAt p.count p.sync.received.clock → length heard + length more ≤ p.count →
-      length heard + length more ≤ p.sync.received.clock.end → HoldsLast ring (heard ++ more) →
+  pub stands_taken : (more : List Sample) (ring : Held) → AreNear (sync_stream t).fingers →
+      ¬ IsDueAt p.count p.sync.received.clock → ¬ IsReceiverDue p.count p.paging.receiver →
+      length heard + length more ≤ p.count →
+      length heard + length more ≤ p.sync.received.clock.end →
+      EndsFrom (length heard + length more) p.paging.receiver → HoldsLast ring (heard ++ more) →
       Stands t (record p { ring = ring }) (heard ++ more) given
-  stands_taken [] ring none within most holds = stands_none ring holds
-  stands_taken (x ∷ more) ring none within most holds =
-      stands_some (x ∷ more) ring none within most holds (omega arith)
+  stands_taken [] ring near none idle within most ends holds = stands_none ring holds
+  stands_taken (x ∷ more) ring near none idle within most ends holds =
+      stands_some (x ∷ more) near none idle ring within most ends holds (omega arith)
 
   -- soft values of frames have come
-  pub stands_come : (after : SyncReceiver) → HearsSync t after heard →
+  pub stands_come : (after : SyncReceiver) (pages : PagingMonitor) → HearsSync t after heard →
       after.received.clock.next ≡ p.sync.received.clock.next → after.mark ≡ p.sync.mark →
-      Stands t (record p { sync = after }) heard given
-  stands_come after hears next mark = record {
+      HearsPages t pages p.sync.mark heard →
+      paging_events_left t p.sync.mark heard pages.receiver
+      ≡ paging_events_left t p.sync.mark heard p.paging.receiver →
+      Stands t (record p { sync = after; paging = pages }) heard given
+  stands_come after pages hears next set follows left = record {
     count_is = st.count_is;
     check_is = st.check_is;
     ring = st.ring;
     sync = hears;
-    noted = ap is_some mark ∙ st.noted;
-    told = rw next st.told;
+    paging = subst (λ (m : Option Mark). HearsPages t pages m heard) (sym set) follows;
+    noted = ap is_some set ∙ st.noted;
+    told = rw (next, set, left) st.told;
   }
 
-  -- the frame that is due has been heard
-  pub stands_heard : (after : SyncReceiver) (event : Option Event) →
-      HearsNext t heard p.sync after event →
-      Stands t (record p { sync = after }) heard (given ++ listed event)
-  stands_heard after event next =
-      let left = sync_events_left t heard after.received.clock.next in
+  -- a frame of the sync channel that is heard leaves the mark, or sets one that lies behind
+  pub heard_sets : (after : SyncReceiver) → HearsSync t after heard → IsSoundSync after →
+      IsDueAt t.count p.sync.received.clock →
+      after.received.clock.next ≡ p.sync.received.clock.next + 1 →
+      SetsMark (length heard) p.sync.mark after.mark
+  heard_sets after hears sound due next = by_mark p.sync.mark refl
+    where
+      by_mark : (before : Option Mark) → p.sync.mark ≡ before →
+          SetsMark (length heard) before after.mark
+      by_mark (Some m) e =
+          let k : ℕ = p.sync.received.clock.next in
+          inl (hears.marked
+          ∙ ap (mark_before t heard) next
+          ∙ mark_before_more t heard k (due_inside st.sync.receives.clocked due)
+          ∙ ap (λ (x : Option Mark). option_or x (first_of (marks_at t heard k)))
+          (sym st.sync.marked ∙ e))
+      by_mark None e =
+          inr (
+            refl,
+            λ m set.
+                opens_later t heard p.sync after m st.sync hears sound due next e set,
+          )
+
+  -- the sync channel's frame that is due has been heard
+  pub stands_heard : (after : SyncReceiver) (pages : PagingMonitor) (event : Option Event) →
+      HearsNext t heard p.sync after event → HearsPages t pages after.mark heard →
+      paging_events_left t after.mark heard pages.receiver
+      ≡ paging_events_left t p.sync.mark heard p.paging.receiver →
+      Stands t (record p { sync = after; paging = pages }) heard (given ++ listed event)
+  stands_heard after pages event next follows left =
+      let later = sync_events_left t heard after.received.clock.next in
+      let others = paging_events_left t p.sync.mark heard p.paging.receiver in
       record {
         count_is = st.count_is;
         check_is = st.check_is;
         ring = st.ring;
         sync = next.hears;
+        paging = follows;
         noted = next.noted
             ∙ ap (λ b. b || list_any sets_mark (listed event)) st.noted
             ∙ sym (list_any-append sets_mark given (listed event));
-        told = append_assoc given (listed event) left
-            ∙ ap (λ (es : List Event). given ++ es) next.left
+        told = ap (λ (es : List Event). (given ++ listed event) ++ (later ++ es)) left
+            ∙ append_assoc given (listed event) (later ++ others)
+            ∙ ap (λ (es : List Event). given ++ es)
+            (sym (append_assoc (listed event) later others)
+            ∙ ap (λ (es : List Event). es ++ others) next.left)
             ∙ st.told;
+      }
+
+  -- a bit of the paging channel's frame that is due has been heard
+  pub stands_paged : (pages : PagingMonitor) (event : Option Event) →
+      ¬ IsDueAt p.count p.sync.received.clock → length heard < p.sync.received.clock.end →
+      list_any sets_mark (listed event) ≡ false → HearsPages t pages p.sync.mark heard →
+      listed event ++ paging_events_left t p.sync.mark heard pages.receiver
+      ≡ paging_events_left t p.sync.mark heard p.paging.receiver →
+      Stands t (record p { paging = pages }) heard (given ++ listed event)
+  stands_paged pages event none waits unset follows left =
+      let quiet = sync_given none waits in
+      let others = paging_events_left t p.sync.mark heard pages.receiver in
+      record {
+        count_is = st.count_is;
+        check_is = st.check_is;
+        ring = st.ring;
+        sync = st.sync;
+        paging = follows;
+        noted = st.noted ∙ sym (list_any-append sets_mark given (listed event)
+            ∙ rw unset (or-false (list_any sets_mark given)));
+        told = rw quiet (append_assoc given (listed event) others
+            ∙ ap (λ (es : List Event). given ++ es) left
+            ∙ rw quiet at st.told);
       }
 
 -- where all events have been given, the mark is that of all samples
@@ -164,4 +298,6 @@ pub marked_all : (t : Tuning) (p : Parts) (heard : List Sample) →
     mark t heard (length heard) ≡ p.sync.mark
 marked_all t p heard st waits =
     let left = sync_events_left t heard p.sync.received.clock.next in
-    sync.marked_all t p.sync heard st.sync (append_none (events t heard) left st.told) waits
+    let pages = paging_events_left t p.sync.mark heard p.paging.receiver in
+    sync.marked_all t p.sync heard st.sync
+    (first_empty left pages (append_none (events t heard) (left ++ pages) st.told)) waits

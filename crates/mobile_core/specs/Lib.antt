@@ -17,5 +17,7 @@ pub mod SyncReceiving
 pub mod PagingStreams
 pub mod PagingEvents
 pub mod PagingReceiving
+pub mod PagingMonitoring
+pub mod SoundHandset
 pub mod Standing
 mod Worked

@@ -12,6 +12,8 @@ use Rattle.paging_message.specs.declared.message.PagingMessage.{PagingMessage}
 use Rattle.mobile_core.specs.PagingStreams.{paging_rate, paging_stream, paging_bound}
 use Rattle.mobile_core.specs.Streams.{Stream, is_in_file, frame_own_bits, known_now}
 use Rattle.mobile_core.specs.Tuning.{Tuning}
+use Rattle.mobile_core.specs.declared.event.Event.{Event}
+use Rattle.mobile_core.specs.declared.event.Event.TheVariants.{Paging}
 use Rattle.mobile_core.specs.declared.mark.Mark.{Mark}
 use Rattle.mobile_core.specs.declared.spelled_page.SpelledPage.{SpelledPage}
 
@@ -61,3 +63,7 @@ abbrev pub pages_behind : Tuning → ℕ → Option Mark → List Sample → ℕ
 pages_behind t channel None samples n = []
 pages_behind t channel (Some m) samples n =
     if nat_lt m.prat 2 then pages_at t channel m samples n else []
+
+-- the event of a message that is known at n samples
+abbrev pub page_event : ℕ → SpelledPage → Event
+page_event n page = Paging n page.capsule page.message

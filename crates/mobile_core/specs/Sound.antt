@@ -1,8 +1,7 @@
 -- What always holds of a handset and of its parts: they fit one another, and no number is large.
-use Rattle.std.specs.Prelude.{◌≡◌, ℕ, ◌+◌, ◌*◌, ◌^◌, ◌<◌, ◌≤◌, true, length}
+use Rattle.std.specs.Prelude.{◌≡◌, ◌+◌, ◌*◌, ◌^◌, ◌<◌, ◌≤◌, true, length}
 use Rattle.std.specs.Option.{ForSome}
 use Rattle.long_code.specs.LongCode.{IsState}
-use Rattle.rake_finger.specs.Held.{Held}
 use Rattle.rake_finger.specs.Soft.{frame_chips, symbols}
 use Rattle.rake_finger.specs.declared.form.Form.TheVariants.{Sync}
 use Rattle.mobile_core.specs.Near.{AreNear, AreBegun, have_rows}
@@ -47,12 +46,3 @@ pub record IsSoundSync (r : SyncReceiver) : Type 0 where
   pub frames : r.message_frames ≤ r.received.clock.next
   pub early : r.received.clock.end ≤ 2 ^ 28
   pub marked : ForSome r.mark IsSoundMark
-
--- the ring holds two frames, the decoder takes three, and no frame that has ended waits
-pub record IsSound (count : ℕ) (ring : Held) (decoder : ℕ) (sync : SyncReceiver) : Type 0 where
-  pub few : count ≤ 67108864
-  pub within : ring.taken ≤ count
-  pub room : ring.room ≡ 65536
-  pub decodes : decoder ≡ 576
-  pub hears : IsSoundSync sync
-  pub waits : ring.taken < sync.received.clock.end

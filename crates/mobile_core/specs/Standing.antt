@@ -1,5 +1,5 @@
 -- What a handset stands for, and what a step does.
-use Rattle.std.specs.Prelude.{◌≡◌, ℕ, ◌+◌, ◌-◌, ◌^◌, ◌≤◌, List, ◌++◌, length, take, is_some}
+use Rattle.std.specs.Prelude.{◌≡◌, ◌⊎◌, ℕ, ◌+◌, ◌-◌, ◌^◌, ◌≤◌, List, ◌++◌, length, take, is_some}
 use Rattle.std.specs.Prelude.{None, IfSome}
 use Rattle.std.specs.List.{list_any}
 use Rattle.chip_core.specs.declared.check_form.CheckForm.{CheckForm}
@@ -10,11 +10,14 @@ use Rattle.mobile_core.specs.Events.{events}
 use Rattle.mobile_core.specs.Given.{listed, at_of}
 use Rattle.mobile_core.specs.Left.{sync_events_left}
 use Rattle.mobile_core.specs.Marks.{sets_mark}
+use Rattle.mobile_core.specs.PagingMonitoring.{HearsPages, IsReceiverDue, due_by, heard_by}
+use Rattle.mobile_core.specs.PagingMonitoring.{paging_events_left}
 use Rattle.mobile_core.specs.SyncReceiving.{HearsSync}
 use Rattle.mobile_core.specs.Tuning.{Tuning}
 use Rattle.mobile_core.specs.declared.event.Event.{Event}
 use Rattle.mobile_core.specs.declared.mobile.Mobile.{Mobile}
 use Rattle.mobile_core.specs.declared.mobile.Step.{Step}
+use Rattle.mobile_core.specs.declared.paging_monitor.PagingMonitor.{PagingMonitor}
 use Rattle.mobile_core.specs.declared.sync_receiver.SyncReceiver.{SyncReceiver}
 
 -- what a handset carries from step to step
@@ -23,6 +26,13 @@ pub record Parts : Type 0 where
   pub check : CheckForm
   pub ring : Held
   pub sync : SyncReceiver
+  pub paging : PagingMonitor
+
+-- the events of these samples' end that are still to be given
+abbrev pub events_left : Tuning → Parts → List Sample → List Event
+events_left t p heard =
+    sync_events_left t heard p.sync.received.clock.next
+    ++ paging_events_left t p.sync.mark heard p.paging.receiver
 
 -- The handset has taken these samples of a file, and given these events.
 pub record Stands (t : Tuning) (p : Parts) (heard : List Sample) (given : List Event) : Type 0 where
@@ -30,26 +40,34 @@ pub record Stands (t : Tuning) (p : Parts) (heard : List Sample) (given : List E
   pub check_is : p.check ≡ t.check30
   pub ring : HoldsLast p.ring heard
   pub sync : HearsSync t p.sync heard
+  pub paging : HearsPages t p.paging p.sync.mark heard
   pub noted : is_some p.sync.mark ≡ list_any sets_mark given
-  pub told : given ++ sync_events_left t heard p.sync.received.clock.next ≡ events t heard
+  pub told : given ++ events_left t p heard ≡ events t heard
 
 abbrev pub parts : Mobile → Parts
-parts m = record { count = m.count; check = m.check; ring = m.ring; sync = m.sync }
+parts m = record {
+  count = m.count;
+  check = m.check;
+  ring = m.ring;
+  sync = m.sync;
+  paging = m.paging;
+}
 
 abbrev pub StandsFor : Tuning → Mobile → List Sample → List Event → Type 0
 StandsFor t mobile heard given = Stands t (parts mobile) heard given
 
 -- whether a frame is known that hasn't been heard
 abbrev pub IsDueFor : Mobile → Type 0
-IsDueFor mobile = IsDueAt mobile.count mobile.sync.received.clock
+IsDueFor mobile =
+    IsDueAt mobile.count mobile.sync.received.clock
+    ⊎ IsReceiverDue mobile.count mobile.paging.receiver
 
--- how many frames have come that haven't been heard
-abbrev pub due_frames : Mobile → ℕ
-due_frames mobile = mobile.sync.received.clock.have - mobile.sync.received.clock.next
-
--- how many samples have been taken when the next frame ends
-abbrev pub least_end : Mobile → ℕ
-least_end mobile = mobile.sync.received.clock.end
+-- how many frames of the sync channel, and bits of the paging channel, have come that haven't been
+-- heard
+abbrev pub due_parts : Mobile → ℕ
+due_parts mobile =
+    (mobile.sync.received.clock.have - mobile.sync.received.clock.next)
+    + due_by mobile.paging.receiver
 
 -- how many samples of the file are left
 abbrev pub has_room : Mobile → ℕ
@@ -57,7 +75,8 @@ has_room mobile = mobile.count - mobile.ring.taken
 
 -- a bound on the events that are still to be given
 abbrev pub steps_left : Mobile → ℕ
-steps_left mobile = 2 ^ 63 - mobile.sync.received.clock.next
+steps_left mobile =
+    2 ^ 63 - (mobile.sync.received.clock.next + heard_by mobile.paging.receiver)
 
 -- of how many samples the last are kept
 abbrev pub ring_room : Mobile → ℕ

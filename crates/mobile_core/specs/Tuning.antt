@@ -12,13 +12,13 @@ use Rattle.mobile_core.specs.Streams.{Stream}
 use Rattle.mobile_core.specs.declared.settings.Settings.{Settings}
 
 -- the samples in the file, the best phase, how much earlier than there each finger's samples come,
--- and how the checks of
--- 30 bits are sent
+-- how the checks of 30 bits are sent, and the number of the paging channel
 pub record Tuning : Type 0 where
   pub count : ℕ
   pub phase : ℕ
   pub deltas : List ℤ
   pub check30 : CheckForm
+  pub paging : ℕ
 
 -- of these settings, where the search found this phase and these deltas
 abbrev pub tuning_by : Settings → Best → Near → Tuning
@@ -28,6 +28,7 @@ tuning_by settings best near =
       phase = best.phase;
       deltas = take near.count near.deltas;
       check30 = settings.check30;
+      paging = settings.paging;
     }
 
 abbrev pub modulo_code : ℤ → ℕ

@@ -13,7 +13,13 @@ use Rattle.mobile_core.specs.Tuning.{Tuning, sync_stream, modulo_code}
 use Rattle.mobile_core.specs.declared.mark.Mark.{Mark}
 
 tuned : ℕ → List ℤ → Tuning
-tuned phase deltas = record { count = 1228800; phase = phase; deltas = deltas; check30 = Plain }
+tuned phase deltas = record {
+  count = 1228800;
+  phase = phase;
+  deltas = deltas;
+  check30 = Plain;
+  paging = 1;
+}
 
 -- a message of seven frames that begins with frame 0 is known when frame 7 has ended
 seventh : known_at 1228800 (sync_stream (tuned 64 (pos 0 ∷ []))) 6 ≡ 294848

@@ -1,6 +1,7 @@
 //! What a handset hears.
 
 use chip_core::{Bits, Phase};
+use paging_message::PagingMessage;
 use sync_message::SyncMessage;
 
 /// Something that a handset found or heard in the samples.
@@ -21,5 +22,14 @@ pub enum Event {
         capsule: Bits,
         /// The message that the capsule spells.
         message: SyncMessage,
+    },
+    /// A message of the paging channel was heard (TIA/EIA-95-B, 7.7.2).
+    Paging {
+        /// How many samples had been taken when the message was known.
+        at: u64,
+        /// The whole capsule: length, body and check.
+        capsule: Bits,
+        /// The message that the capsule spells.
+        message: PagingMessage,
     },
 }

@@ -1,10 +1,10 @@
 //! What capsules of the sync channel and of a paging channel say.
 
-ghost use Rattle.std.specs.Prelude.{◌≡◌, ◌<◌, ◌≤◌, ◌^◌, [], ◌∷◌, Some};
+ghost use Rattle.std.specs.Prelude.{◌≡◌, ◌<◌, ◌≤◌, ◌^◌, [], ◌∷◌, Some, false};
 ghost use Rattle.std.specs.Option.{ForSome, option_or};
 ghost use Rattle.mobile_core.specs.Given.{at_of};
-ghost use Rattle.mobile_core.specs.Marks.{first_of, marks_of, frames_with};
-ghost use Rattle.mobile_core.specs.PagingEvents.{page_in};
+ghost use Rattle.mobile_core.specs.Marks.{first_of, frames_with, marks_of, sets_mark};
+ghost use Rattle.mobile_core.specs.PagingEvents.{page_event, page_in};
 ghost use Rattle.mobile_core.specs.Sound.{IsSoundMark};
 ghost use Rattle.mobile_core.specs.SyncEvents.{events_of, heard_in};
 
@@ -98,5 +98,18 @@ pub(crate) fn event_of(told: &SpelledMessage, at: u64) -> Event
         at,
         capsule: told.capsule,
         message: told.message,
+    }
+}
+
+/// The event of a message of the paging channel when so many samples have been taken.
+pub(crate) fn page_event(page: &SpelledPage, at: u64) -> Event
+    ensures value { result ≡ page_event at page.now }
+    ensures ends { at_of result ≡ at }
+    ensures unset { sets_mark result ≡ false }
+{
+    Event::Paging {
+        at,
+        capsule: page.capsule,
+        message: page.message,
     }
 }

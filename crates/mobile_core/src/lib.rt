@@ -9,6 +9,7 @@ mod hearing;
 pub mod laws;
 mod mark;
 mod mobile;
+mod paging_monitor;
 mod paging_receiver;
 mod scrambling;
 mod settings;

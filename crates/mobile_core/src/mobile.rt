@@ -1,8 +1,9 @@
 //! The handset.
 
-ghost use Rattle.mobile_core.specs.Sound.{IsSound};
+ghost use Rattle.mobile_core.specs.SoundHandset.{IsSound};
 
 use crate::event::Event;
+use crate::paging_monitor::PagingMonitor;
 use crate::settings::Settings;
 use crate::sync_receiver::SyncReceiver;
 use chip_core::{CheckForm, OutOfMemory, Sample};
@@ -34,7 +35,8 @@ pub struct Step {
 /// events, each when its last sample has been taken.
 ///
 /// It decodes each frame of the sync channel together with the frame before it and the frame behind
-/// it, where these lie in the file, and so knows a frame one frame later (TIA/EIA-95-B, 7.7.1).
+/// it, where these lie in the file, and so knows a frame one frame later (TIA/EIA-95-B, 7.7.1). Where
+/// a message sets a mark it follows one paging channel from there on, in the same way (7.7.2).
 #[derive(Drop)]
 pub struct Mobile {
     /// How many samples the file has.
@@ -46,18 +48,22 @@ pub struct Mobile {
     codes: Codes,
     decoder: Decoder,
     sync: SyncReceiver,
-    ghost sound: { IsSound count ring decoder sync },
+    paging: PagingMonitor,
+    ghost sound: { IsSound count ring decoder sync paging },
 }
 
 impl Mobile {
     ghost use Rattle.std.specs.Prelude.{◌≡◌, ◌<◌, ◌≤◌, ◌↔◌, List, [], length, IsTrue, IfOk, None};
     ghost use Rattle.std.specs.Prelude.{Some, is_some, pos, slice_get};
+    ghost use Rattle.std.specs.Option.{ForSome};
     ghost use Rattle.std.specs.List.{list_any};
     ghost use Rattle.chip_core.specs.declared.sample.Sample.{Sample};
     ghost use Rattle.mobile_core.specs.Events.{events};
     ghost use Rattle.mobile_core.specs.Marks.{mark, sets_mark};
-    ghost use Rattle.mobile_core.specs.Standing.{IsDueFor, IsStep, StandsFor, Steps, due_frames};
-    ghost use Rattle.mobile_core.specs.Standing.{has_room, least_end, ring_room};
+    ghost use Rattle.mobile_core.specs.PagingMonitoring.{IsReceiverDue, WaitsFrom};
+    ghost use Rattle.mobile_core.specs.Clocks.{IsDueAt};
+    ghost use Rattle.mobile_core.specs.Standing.{IsDueFor, IsStep, StandsFor, Steps, due_parts};
+    ghost use Rattle.mobile_core.specs.Standing.{has_room, ring_room};
     ghost use Rattle.mobile_core.specs.Tuning.{Tuning, tuning_by};
     ghost use Rattle.mobile_core.specs.declared.event.Event.{Event as TheEvent};
 
@@ -77,6 +83,8 @@ impl Mobile {
     ) -> Result<Mobile, OutOfMemory>
         requires least { 1 ≤ settings.fingers }
         requires most { settings.fingers ≤ 3 }
+        requires first_channel { 1 ≤ settings.paging }
+        requires last_channel { settings.paging ≤ 7 }
         requires count { settings.count ≤ 67108864 }
         requires near { near.count ≡ settings.fingers }
         requires first { slice_get near.deltas 0 ≡ Some (pos 0) }
@@ -92,6 +100,7 @@ impl Mobile {
             codes,
             decoder: Decoder::new(alloc, MOST_BITS)?,
             sync: SyncReceiver::new(best.phase, &near),
+            paging: PagingMonitor::new(settings.paging, best.phase, near),
         })
     }
 
@@ -110,26 +119,59 @@ impl Mobile {
     fn is_due(&self) -> bool
         ensures { IsTrue result ↔ IsDueFor self.now }
     {
-        self.sync.is_due(self.count)
+        self.sync.is_due(self.count) || self.paging.is_due(self.count)
     }
 
-    /// Hears a frame that is known, and gives the event that it completes.
-    fn hear_next(&mut self) -> Option<Event>
-        requires { IsDueFor self.old }
+    /// Hears the frame of the sync channel that is due, and gives the event that it completes. Where
+    /// that sets a mark the paging channel is followed from there on.
+    fn hear_sync(&mut self) -> Option<Event>
+        requires { IsDueAt self.old.count self.old.sync.received.clock }
         ensures steps { Steps self.old self.new [] (record { taken = 0; event = result }) }
-        ensures nearer { due_frames self.new < due_frames self.old }
+        ensures nearer { due_parts self.new < due_parts self.old }
     {
         let at = self.ring.taken();
         let Mobile {
             check,
             decoder,
             sync,
+            paging,
             ..
         } = self;
-        sync.hear_next(decoder, *check, at)
+        let event = sync.hear_next(decoder, *check, at);
+        paging.follow(sync.mark(), at);
+        event
     }
 
-    /// Hears the frames that are known, up to the first event.
+    /// Hears a bit of the paging channel's frame that is due, and gives the event that it completes.
+    fn hear_page(&mut self) -> Option<Event>
+        requires silent { ¬ IsDueAt self.old.count self.old.sync.received.clock }
+        requires due { IsReceiverDue self.old.count self.old.paging.receiver }
+        ensures steps { Steps self.old self.new [] (record { taken = 0; event = result }) }
+        ensures nearer { due_parts self.new < due_parts self.old }
+    {
+        let at = self.ring.taken();
+        let Mobile {
+            check,
+            decoder,
+            paging,
+            ..
+        } = self;
+        paging.hear_bit(decoder, *check, at)
+    }
+
+    /// Hears what is due next, the sync channel first, and gives the event that it completes.
+    fn hear_next(&mut self) -> Option<Event>
+        requires { IsDueFor self.old }
+        ensures steps { Steps self.old self.new [] (record { taken = 0; event = result }) }
+        ensures nearer { due_parts self.new < due_parts self.old }
+    {
+        if self.sync.is_due(self.count) {
+            return self.hear_sync();
+        }
+        self.hear_page()
+    }
+
+    /// Hears what is due, up to the first event.
     fn hear_due(&mut self) -> Option<Event>
         ensures steps { Steps self.old self.new [] (record { taken = 0; event = result }) }
         ensures none { result ≡ None → ¬ IsDueFor self.new }
@@ -144,9 +186,11 @@ impl Mobile {
 
     /// How many samples have been taken when the next frame ends, of all receivers.
     fn least_end(&self) -> u64
-        ensures { result ≡ least_end self.now }
+        ensures sync { result ≤ self.now.sync.received.clock.end }
+        ensures paging { ForSome self.now.paging.receiver (λ r. result ≤ r.received.clock.end) }
+        ensures waits { self.now.ring.taken < result }
     {
-        self.sync.end()
+        self.paging.end_before(self.sync.end())
     }
 
     /// Takes samples up to the end of the next frame, or all.
@@ -168,9 +212,11 @@ impl Mobile {
             ring,
             codes,
             sync,
+            paging,
             ..
         } = self;
         sync.take_ended(ring, codes);
+        paging.take_ended(ring, codes);
         count
     }
 

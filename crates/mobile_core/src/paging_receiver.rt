@@ -73,6 +73,7 @@ impl PagingReceiver {
         requires first { slice_get near.now.deltas 0 ≡ Some (pos 0) }
         ensures some { is_some result ≡ nat_lt mark.now.prat 2 }
         ensures begins { IfSome result (λ r. mark.now.sample < r.received.clock.end) }
+        ensures fresh { IfSome result (λ r. r.received.clock.have ≡ r.received.clock.next) }
         ensures sound { IfSome result IsSoundPaging }
         ensures hears { (t : Tuning) (heard : List Sample) → t.phase ≡ phase →
             t.deltas ≡ take near.now.count near.now.deltas → length heard ≤ t.count →
@@ -93,6 +94,7 @@ impl PagingReceiver {
         requires most { near.now.count ≤ 3 }
         requires first { slice_get near.now.deltas 0 ≡ Some (pos 0) }
         ensures begins { mark.now.sample < result.received.clock.end }
+        ensures fresh { result.received.clock.have ≡ result.received.clock.next }
         ensures sound { IsSoundPaging result }
         ensures hears { (t : Tuning) (heard : List Sample) → t.phase ≡ phase →
             t.deltas ≡ take near.now.count near.now.deltas → length heard ≤ t.count →

@@ -7,6 +7,8 @@ use chip_core::CheckForm;
 pub struct Settings {
     /// How many paths of the base station it receives, 1 to 3.
     pub fingers: u8,
+    /// The number of the paging channel that it follows, 1 to 7.
+    pub paging: u8,
     /// How the 30-bit checks of the sync and paging channels' messages are sent.
     pub check30: CheckForm,
     /// How the 16-bit checks of the traffic channel's messages are sent.

@@ -27,7 +27,7 @@ pub(crate) struct SyncReceiver {
 
 impl SyncReceiver {
     ghost use Rattle.std.specs.Prelude.{◌≡◌, ◌<◌, ◌≤◌, ◌+◌, ◌^◌, ◌↔◌, IsTrue, List, [], length};
-    ghost use Rattle.std.specs.Prelude.{take, slice_get, Some, pos, is_some, IfSome, false};
+    ghost use Rattle.std.specs.Prelude.{take, slice_get, None, Some, pos, is_some, IfSome};
     ghost use Rattle.chip_core.specs.declared.sample.Sample.{Sample};
     ghost use Rattle.mobile_core.specs.Clocks.{IsDueAt, frame_heard};
     ghost use Rattle.mobile_core.specs.Given.{at_of};
@@ -44,7 +44,7 @@ impl SyncReceiver {
         ensures hears { (t : Tuning) → t.phase ≡ phase →
             t.deltas ≡ take near.now.count near.now.deltas → HearsSync t result [] }
         ensures fresh { result.received.clock.next ≡ result.received.clock.low }
-        ensures unmarked { is_some result.mark ≡ false }
+        ensures unmarked { result.mark ≡ None }
         ensures begins { 0 < result.received.clock.end }
         ensures sound { IsSoundSync result }
     {
@@ -70,6 +70,13 @@ impl SyncReceiver {
         ensures { result ≡ is_some self.now.mark }
     {
         self.mark.is_some()
+    }
+
+    /// The mark that a message set.
+    pub(crate) fn mark(&self) -> Option<Mark>
+        ensures { result ≡ self.now.mark }
+    {
+        self.mark
     }
 
     /// Whether a frame is known that hasn't been heard, in a file of so many samples.

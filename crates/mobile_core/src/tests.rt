@@ -17,6 +17,7 @@ fn handset(alloc: Global, codes: Codes, count: u64) -> Result<Mobile, OutOfMemor
 {
     let settings = Settings {
         fingers: 2,
+        paging: 1,
         check30: CheckForm::Plain,
         check16: CheckForm::Plain,
         count,

@@ -1,7 +1,10 @@
-use Rattle.std.proofs.Common.{◌≡◌, ◌-◌, ◌++◌, arith, length, take, length-take}
+use Rattle.std.proofs.Common.{◌≡◌, ◌-◌, ◌++◌, arith, inl, inr, length, take, length-take, subst}
 use Rattle.std.proofs.Common.{append-nil}
 use Rattle.std.proofs.lemmas.List.{take_all}
-use Rattle.mobile_core.proofs.Stood.{due_here, stands_taken, stands_come}
+use Rattle.mobile_core.specs.Clocks.{IsDueAt}
+use Rattle.mobile_core.specs.Near.{AreNear}
+use Rattle.mobile_core.specs.PagingMonitoring.{IsReceiverDue}
+use Rattle.mobile_core.proofs.Stood.{due_here, page_due_here, stands_taken, stands_come}
 use Rattle.mobile_core.proofs.mobile.Mobile.advance.Goals as goal
 
 pub returns-then-samples-left-clause-steps : goal.returns-then-samples-left-clause-steps
@@ -11,6 +14,7 @@ returns-then-samples-left-clause-steps c =
     let room = c.requires.room in
     let within = m.sound.within in
     let pushed = c.push_all.ensures.taken in
+    let least = c.least_end.ensures in
     record {
       most = omega arith;
       room = omega arith;
@@ -20,9 +24,11 @@ returns-then-samples-left-clause-steps c =
           let whole = take_all (length more) more (omega arith) in
           let taken = st.ring.taken in
           let holds = c.push_all.ensures.holds heard st.ring in
+          let near = subst AreNear st.sync.receives.fingers_are m.sound.hears.channel.near in
           rw (whole, append-nil given)
-          (stands_taken st more c.push_all.new.self c.requires.not_due (omega arith) (omega arith)
-          holds);
+          (stands_taken st more c.push_all.new.self near (λ d. c.requires.not_due (inl d))
+          (λ d. c.requires.not_due (inr d)) (omega arith) (omega (arith, least.sync))
+          (λ r e. omega (arith, least.paging r e)) holds);
     }
 
 pub returns-clause-steps : goal.returns-clause-steps
@@ -33,20 +39,27 @@ returns-clause-steps c =
     let room = c.requires.room in
     let within = m.sound.within in
     let pushed = c.push_all-2.ensures.taken in
+    let least = c.least_end.ensures in
     let long : length more ≡ n = omega (arith, length-take n c.args.samples.now) in
-    let next = c.take_ended.ensures.next in
+    let sync = c.take_ended.ensures in
+    let paging = c.take_ended-2.ensures in
+    let none : ¬ IsDueAt m.count m.sync.received.clock = λ d. c.requires.not_due (inl d) in
+    let idle : ¬ IsReceiverDue m.count m.paging.receiver = λ d. c.requires.not_due (inr d) in
     record {
       most = omega arith;
       room = omega arith;
-      fewer = omega arith;
+      fewer = omega (arith, sync.next, paging.same);
       ends = λ t heard given st. tt;
       stands = λ t heard given st.
           let taken = st.ring.taken in
           let holds = c.push_all-2.ensures.holds heard st.ring in
-          let on = stands_taken st more c.push_all-2.new.self c.requires.not_due (omega arith)
-          (omega arith) holds in
-          let come = c.take_ended.ensures.stands t (heard ++ more) holds
-          (due_here on c.requires.not_due) on.sync in
+          let near = subst AreNear st.sync.receives.fingers_are m.sound.hears.channel.near in
+          let on = stands_taken st more c.push_all-2.new.self near none idle (omega arith)
+          (omega (arith, least.sync)) (λ r e. omega (arith, least.paging r e)) holds in
+          let come = sync.stands t (heard ++ more) holds (due_here on none) on.sync in
+          let mark = m.sync.mark in
           rw (append-nil given)
-          (stands_come on c.take_ended.new.self come next c.take_ended.ensures.mark);
+          (stands_come on c.take_ended.new.self c.take_ended-2.new.self come sync.next sync.mark
+          (paging.hears t mark (heard ++ more) holds (page_due_here on idle) on.paging)
+          (paging.left t mark (heard ++ more)));
     }

@@ -1,9 +1,9 @@
 use Rattle.std.proofs.Common.{[], None}
-use Rattle.mobile_core.specs.Standing.{Steps, due_frames}
+use Rattle.mobile_core.specs.Standing.{Steps, due_parts}
 use Rattle.mobile_core.proofs.mobile.Mobile.hear_due.Given as goal
 
 abbrev pub invariant-loop-self : goal.invariant-loop-self
 invariant-loop-self l = Steps l.fn.self l.self [] (record { taken = 0; event = None })
 
 abbrev pub decreases-loop-self : goal.decreases-loop-self
-decreases-loop-self l = due_frames l.self
+decreases-loop-self l = due_parts l.self

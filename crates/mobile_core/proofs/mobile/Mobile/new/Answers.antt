@@ -1,4 +1,4 @@
-use Rattle.std.proofs.Common.{refl}
+use Rattle.std.proofs.Common.{[], refl}
 use Rattle.mobile_core.specs.Tuning.{tuning_by}
 use Rattle.mobile_core.proofs.Stood.{stands_new}
 use Rattle.mobile_core.proofs.mobile.Mobile.new.Goals as goal
@@ -7,5 +7,6 @@ pub returns-clause-stands : goal.returns-clause-stands
 returns-clause-stands c =
     let t = tuning_by c.args.settings c.args.best c.args.near in
     let sync = c.new-3.ensures in
-    stands_new t _ refl refl c.in_ok-new.ensures.holds (sync.hears t refl refl) sync.fresh
-    sync.unmarked
+    let paging = c.new-4.ensures in
+    stands_new t _ refl refl c.in_ok-new.ensures.holds (sync.hears t refl refl)
+    (paging.hears t [] refl refl refl) sync.fresh sync.unmarked paging.closed

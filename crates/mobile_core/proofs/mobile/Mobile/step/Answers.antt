@@ -1,4 +1,4 @@
-use Rattle.std.proofs.Common.{◌≡◌, ◌++◌, List, arith, subst, take, None, Some, append-nil}
+use Rattle.std.proofs.Common.{◌≡◌, ◌++◌, List, arith, inl, inr, subst, take, None, Some, append-nil}
 use Rattle.std.proofs.lemmas.List.{take_all, take_rest}
 use Rattle.chip_core.specs.declared.sample.Sample.{Sample}
 use Rattle.mobile_core.specs.Standing.{StandsFor, Steps}
@@ -28,7 +28,9 @@ returns-then-taken-samples c =
             (steps.stands t heard given st) in
             let count = now.ring.taken in
             let waits = mobile.sound.waits in
-            let all = all_given now (c.hear_due.ensures.none c.in_default.is) (omega arith) in
+            let none = c.hear_due.ensures.none c.in_default.is in
+            let all = all_given now (λ d. none (inl d)) (λ d. none (inr d)) (omega arith)
+            (λ r e. let waits = mobile.sound.pages_wait r e in omega arith) in
             let whole : take taken samples ≡ samples = take_all taken samples (omega arith) in
             rw whole at all,
       );

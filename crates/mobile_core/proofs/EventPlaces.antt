@@ -1,0 +1,49 @@
+-- The events that end at a number of samples have that number.
+use Rattle.std.proofs.Common.{◌≡◌, ℕ, List, [], ◌∷◌, ◌++◌, map, refl, Option, None, Some}
+use Rattle.std.specs.List.{flat_map}
+use Rattle.chip_core.specs.declared.sample.Sample.{Sample}
+use Rattle.mobile_core.specs.Events.{paging_events_at}
+use Rattle.mobile_core.specs.Given.{at_of}
+use Rattle.mobile_core.specs.Marks.{mark}
+use Rattle.mobile_core.specs.PagingEvents.{page_event, pages_behind}
+use Rattle.mobile_core.specs.Streams.{known_now}
+use Rattle.mobile_core.specs.SyncEvents.{events_of, heard_at, sync_events_at}
+use Rattle.mobile_core.specs.Tuning.{Tuning, sync_bound, sync_stream}
+use Rattle.mobile_core.specs.declared.event.Event.{Event}
+use Rattle.mobile_core.specs.declared.spelled_message.SpelledMessage.{SpelledMessage}
+use Rattle.mobile_core.specs.declared.spelled_page.SpelledPage.{SpelledPage}
+
+-- events of one number of samples
+abbrev pub AreAt : ℕ → List Event → Type 0
+AreAt n [] = Unit {0}
+AreAt n (event ∷ events) = (at_of event ≡ n) × AreAt n events
+
+are_at-append : (n : ℕ) (xs ys : List Event) → AreAt n xs → AreAt n ys → AreAt n (xs ++ ys)
+are_at-append n [] ys here there = there
+are_at-append n (x ∷ xs) ys here there = (here.0, are_at-append n xs ys here.1 there)
+
+flat_map_at : (n : ℕ) (f : ℕ → List Event) (ks : List ℕ) → ((k : ℕ) → AreAt n (f k)) →
+    AreAt n (flat_map f ks)
+flat_map_at n f [] here = tt
+flat_map_at n f (k ∷ ks) here =
+    are_at-append n (f k) (flat_map f ks) (here k) (flat_map_at n f ks here)
+
+told_at : (n : ℕ) (told : Option SpelledMessage) → AreAt n (events_of n told)
+told_at n None = tt
+told_at n (Some told) = (refl, tt)
+
+pub sync_at : (t : Tuning) (samples : List Sample) (n : ℕ) → AreAt n (sync_events_at t samples n)
+unfolding sync_events_at
+sync_at t samples n =
+    flat_map_at n (λ k. events_of n (heard_at t samples k))
+    (known_now t.count (sync_stream t) n (sync_bound n)) (λ k. told_at n (heard_at t samples k))
+
+pages_at_place : (n : ℕ) (pages : List SpelledPage) → AreAt n (map (page_event n) pages)
+pages_at_place n [] = tt
+pages_at_place n (page ∷ pages) = (refl, pages_at_place n pages)
+
+pub paging_at : (t : Tuning) (samples : List Sample) (n : ℕ) →
+    AreAt n (paging_events_at t samples n)
+unfolding paging_events_at
+paging_at t samples n =
+    pages_at_place n (pages_behind t t.paging (mark t samples n) samples n)

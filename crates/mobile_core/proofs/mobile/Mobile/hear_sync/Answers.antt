@@ -1,0 +1,58 @@
+use Rattle.std.proofs.Common.{◌≡◌, ◌∙◌, ap, arith, length, subst, sym, append-nil}
+use Rattle.std.proofs.Common.{Option}
+use Rattle.mobile_core.specs.PagingMonitoring.{HearsPages, SetsMark, paging_events_left}
+use Rattle.mobile_core.specs.declared.frame_clock.FrameClock.{FrameClock}
+use Rattle.mobile_core.specs.declared.mark.Mark.{Mark}
+use Rattle.mobile_core.proofs.PagesFollowed.{heard_few}
+use Rattle.mobile_core.proofs.StepJoins.{ends_here, one_or_none}
+use Rattle.mobile_core.proofs.Stood.{heard_sets, stands_heard}
+use Rattle.mobile_core.proofs.mobile.Mobile.hear_sync.Goals as goal
+
+pub returns-clause-steps : goal.returns-clause-steps
+returns-clause-steps c =
+    let m = c.args.self.now in
+    let next = c.hear_next-event.ensures in
+    let follow = c.follow.ensures in
+    let clock = m.sound.hears.channel.clocked in
+    let next_is = ap (λ (k : FrameClock). k.next) next.clock in
+    record {
+      most = omega arith;
+      room = omega arith;
+      fewer = omega (
+        arith,
+        one_or_none c.hear_next-event.result,
+        next_is,
+        follow.further,
+        heard_few m.paging.receiver m.sound.follows.receives,
+        clock.next_have,
+        clock.have_end,
+        clock.end_most,
+      );
+      ends = λ t heard given st.
+          let taken = st.ring.taken in
+          let at' = c.taken-at.ensures in
+          ends_here c.hear_next-event.result next.ends (omega (arith, taken, at'));
+      stands = λ t heard given st.
+          let taken = st.ring.taken in
+          let at' = c.taken-at.ensures in
+          let here : c.taken-at.result ≡ length heard = omega (arith, taken, at') in
+          let after = c.hear_next-event.new.self in
+          let due = rw st.count_is at c.requires in
+          let hears = next.hears t heard here st.check_is due st.sync in
+          let sets = subst (λ n. SetsMark n m.sync.mark after.mark) (sym here)
+          (heard_sets st after hears.hears next.sound due next_is) in
+          let sets' = subst (SetsMark c.taken-at.result m.sync.mark) (sym c.mark.ensures) sets in
+          let within = m.sound.within in
+          let count = st.count_is in
+          let follows = follow.hears t m.sync.mark heard here (omega (arith, within, at', count))
+          sets' st.paging in
+          let left = follow.left t m.sync.mark heard here (omega (arith, within, at', count)) sets'
+          st.paging in
+          let set = c.mark.ensures in
+          let pages = c.follow.new.self in
+          rw (append-nil heard)
+          (stands_heard st after pages c.hear_next-event.result hears
+          (subst (λ (x : Option Mark). HearsPages t pages x heard) set follows)
+          (ap (λ (x : Option Mark). paging_events_left t x heard pages.receiver) (sym set)
+          ∙ left));
+    }
