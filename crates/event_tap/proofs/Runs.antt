@@ -5,8 +5,8 @@ use Rattle.std.proofs.Common.{length, take, Option, None, Some, refl, sym, ap, �
 use Rattle.std.proofs.Common.{rules, append_assoc, append-nil}
 use Rattle.std.proofs.lemmas.List.Elements.{All-append, All-cons, All-nil, All-head, All-tail}
 use Rattle.mobile_core.specs.declared.event.Event.{Event}
-use Rattle.mobile_core.specs.declared.event.Event.TheVariants.{Pilot, Sync}
-use Rattle.event_tap.specs.Lines.{event_line, text_of}
+use Rattle.mobile_core.specs.declared.event.Event.TheVariants.{Pilot, Sync, Paging}
+use Rattle.event_tap.specs.EventLines.{event_line, text_of}
 use Rattle.event_tap.specs.Taps.{IsKept, KeptTap, form_line, form_lines, heard_text, joined}
 use Rattle.event_tap.specs.Taps.{kept_by, kept_with, left_behind, line_text, line_list, run_taps}
 use Rattle.event_tap.specs.Taps.{run_text, tap_behind, taps_behind}
@@ -163,6 +163,9 @@ plain_heard pilots messages others (Pilot phase energy) none =
 plain_heard pilots messages others (Sync place capsule message) none =
     ap (λ (text : List ℕ). event_line (Sync place capsule message) ++ text) none
     ∙ append-nil (event_line (Sync place capsule message))
+plain_heard pilots messages others (Paging place capsule message) none =
+    ap (λ (text : List ℕ). event_line (Paging place capsule message) ++ text) none
+    ∙ append-nil (event_line (Paging place capsule message))
 
 left_behind-least : (line : Option (List ℕ)) (left more : ℕ) → more + 1 < left →
     more < left_behind line left
@@ -212,12 +215,14 @@ pub plain_text : (pilots messages : ℕ) (events : List Event) →
 plain_text pilots messages events few few_too =
     plain_text-others pilots messages [] events few few_too (λ event. (refl, refl))
 
--- a tap of frames hears nothing of a pilot or a sync message
+-- a tap of frames hears nothing of a pilot or of messages
 frames_deaf : (frames : ℕ) → 1 ≤ frames → IsDeaf (tap 2 frames ∷ [])
 unfolding form_line
 frames_deaf frames some (Pilot phase energy) =
     (refl, ap (λ (taps : List KeptTap). taps ++ []) (kept_with-left 2 frames some))
 frames_deaf frames some (Sync place capsule message) =
+    (refl, ap (λ (taps : List KeptTap). taps ++ []) (kept_with-left 2 frames some))
+frames_deaf frames some (Paging place capsule message) =
     (refl, ap (λ (taps : List KeptTap). taps ++ []) (kept_with-left 2 frames some))
 
 -- the text of the taps that a run has where nothing is said of limits: each form once, in order,

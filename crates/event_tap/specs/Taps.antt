@@ -5,8 +5,9 @@ use Rattle.std.specs.Prelude.{ℕ, ◌-◌, ◌≤◌, slice_index, nat_eq, Bool
 use Rattle.std.specs.Prelude.{◌++◌, map, codes, decimal, Option, None, Some}
 use Rattle.std.specs.List.{flat_map}
 use Rattle.mobile_core.specs.declared.event.Event.{Event}
-use Rattle.mobile_core.specs.declared.event.Event.TheVariants.{Pilot, Sync}
+use Rattle.mobile_core.specs.declared.event.Event.TheVariants.{Pilot, Sync, Paging}
 use Rattle.event_tap.specs.Lines.{bit_text, pilot_line, sync_line}
+use Rattle.event_tap.specs.PagingLines.{paging_line}
 use Rattle.event_tap.specs.declared.tap.Heard.{Heard}
 use Rattle.event_tap.specs.declared.tap.Heard.TheVariants.{Keep, Done}
 
@@ -41,6 +42,8 @@ form_line form (Pilot phase energy) =
     if nat_eq form 0 then Some (pilot_line phase energy) else None
 form_line form (Sync place capsule message) =
     message_line form (sync_line place message) (raw_line place capsule)
+form_line form (Paging place capsule message) =
+    message_line form (paging_line place message) (raw_paging_line place capsule)
 
 -- the line, or nothing where there is none
 abbrev pub line_text : Option (List ℕ) → List ℕ

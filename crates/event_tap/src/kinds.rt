@@ -4,6 +4,7 @@ ghost use Rattle.std.specs.Prelude.{◌≡◌, []};
 ghost use Rattle.event_tap.specs.Taps.{heard_at, raw_line};
 
 use crate::line::line_into;
+use crate::paging::append_raw_paging;
 use crate::tap::{Heard, Tap};
 use crate::text::Text;
 use chip_core::Bits;
@@ -38,14 +39,14 @@ impl Tap for PilotTap {
         self.left = events;
     }
 
-    #[tactic(auto, unfolding(crate::specs::Lines::event_line, crate::specs::Taps::form_line))]
+    #[tactic(auto, unfolding(crate::specs::EventLines::event_line, crate::specs::Taps::form_line))]
     fn hear(&mut self, event: &Event, out: &mut Text) -> Heard {
         match event {
             Event::Pilot { .. } => {
                 line_into(event, out);
                 self.left -= 1;
             }
-            Event::Sync { .. } => out.clear(),
+            Event::Sync { .. } | Event::Paging { .. } => out.clear(),
         }
         heard_of(self.left)
     }
@@ -80,11 +81,11 @@ impl Tap for MessageTap {
         self.left = events;
     }
 
-    #[tactic(auto, unfolding(crate::specs::Lines::event_line, crate::specs::Taps::form_line))]
+    #[tactic(auto, unfolding(crate::specs::EventLines::event_line, crate::specs::Taps::form_line))]
     fn hear(&mut self, event: &Event, out: &mut Text) -> Heard {
         match event {
             Event::Pilot { .. } => out.clear(),
-            Event::Sync { .. } => {
+            Event::Sync { .. } | Event::Paging { .. } => {
                 line_into(event, out);
                 self.left -= 1;
             }
@@ -125,7 +126,7 @@ impl Tap for FrameTap {
     #[tactic(auto, unfolding(crate::specs::Taps::form_line))]
     fn hear(&mut self, event: &Event, out: &mut Text) -> Heard {
         match event {
-            Event::Pilot { .. } | Event::Sync { .. } => out.clear(),
+            Event::Pilot { .. } | Event::Sync { .. } | Event::Paging { .. } => out.clear(),
         }
         heard_of(self.left)
     }
@@ -167,6 +168,10 @@ impl Tap for RawTap {
             Event::Pilot { .. } => {}
             Event::Sync { at, capsule, .. } => {
                 append_raw(out, *at, capsule);
+                self.left -= 1;
+            }
+            Event::Paging { at, capsule, .. } => {
+                append_raw_paging(out, *at, capsule);
                 self.left -= 1;
             }
         }

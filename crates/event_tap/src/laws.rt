@@ -1,7 +1,7 @@
 //! Laws of the definitions: each function does nothing, and its contract is the law.
 
 ghost use Rattle.std.specs.Prelude.{◌≡◌, ◌≤◌, ◌<◌, ◌++◌, ◌∷◌, [], ℕ, List, length, take};
-ghost use Rattle.event_tap.specs.Lines.{text_of};
+ghost use Rattle.event_tap.specs.EventLines.{text_of};
 ghost use Rattle.event_tap.specs.Taps.{KeptTap, form_lines, joined, kept_by, kept_with, run_taps};
 ghost use Rattle.event_tap.specs.Taps.{run_text};
 ghost use Rattle.mobile_core.specs.declared.event.Event.{Event as TheEvent};

@@ -2,7 +2,7 @@
 
 ghost use Rattle.std.specs.Prelude.{◌-◌};
 
-use crate::tests::{first_fields, pilot, sync};
+use crate::tests::{first_fields, other_page, paging, phase_of, pilot, sync, sync_message};
 use crate::{FrameTap, Heard, MessageTap, PilotTap, RawTap, Tap, Taps, Text, line_into};
 use cdma_io::{Failed, MemorySink};
 use chip_core::Bits;
@@ -23,6 +23,11 @@ const SECOND: &str =
 
 /// How far the line of the first sync message goes whose capsule has no frequency, as it came.
 const RAW: &str = "raw at=294848 sync 200:1901030100020005ff";
+
+/// The line of a paging message, and of its capsule as it came.
+const PAGE: &str = "paging at=737280 other type=9 bits=2:00\n";
+
+const RAW_PAGE: &str = "raw at=737280 paging 48:06090dc63d78\n";
 
 /// A tap of messages that counts those that it heard.
 #[derive(Drop)]
@@ -45,11 +50,11 @@ impl Tap for CountingTap {
         self.limit = events;
     }
 
-    #[tactic(auto, unfolding(crate::specs::Lines::event_line, crate::specs::Taps::form_line))]
+    #[tactic(auto, unfolding(crate::specs::EventLines::event_line, crate::specs::Taps::form_line))]
     fn hear(&mut self, event: &Event, out: &mut Text) -> Heard {
         match event {
             Event::Pilot { .. } => out.clear(),
-            Event::Sync { .. } => {
+            Event::Sync { .. } | Event::Paging { .. } => {
                 line_into(event, out);
                 self.heard += 1;
             }
@@ -64,13 +69,14 @@ impl Tap for CountingTap {
 
 /// What the taps write of a pilot and two sync messages.
 fn written(alloc: Global, taps: Vec<Box<dyn Tap>>, limits: [u32; 4]) -> Result<MemorySink, Fail> {
-    let first = sync(294848, first_fields(Some(7), Bits::empty()))?;
-    let second = sync(589760, first_fields(Some(8), Bits::empty()))?;
+    let first = sync_message(first_fields(Some(7), Bits::empty()))?;
+    let second = sync_message(first_fields(Some(8), Bits::empty()))?;
+    let phase = phase_of(64)?;
     let mut sink = MemorySink::new(alloc, 2000, 7, Vec::new(alloc))?;
     let mut taps = Taps::new(taps, limits);
-    taps.hear(&pilot(64, 9)?, &mut sink)?;
-    taps.hear(&first, &mut sink)?;
-    taps.hear(&second, &mut sink)?;
+    taps.hear(&pilot(phase, 9), &mut sink)?;
+    taps.hear(&sync(294848, first), &mut sink)?;
+    taps.hear(&sync(589760, second), &mut sink)?;
     Ok(sink)
 }
 
@@ -139,7 +145,7 @@ fn a_raw_tap_writes_the_whole_capsule(rt: HostRuntime) -> Result<(), Fail> {
     for _ in 0..3 {
         let _ = rest.push(false);
     }
-    let event = sync(294848, first_fields(None, rest))?;
+    let event = sync(294848, sync_message(first_fields(None, rest))?);
     let mut sink = MemorySink::new(alloc, 2000, 7, Vec::new(alloc))?;
     let mut taps: Vec<Box<dyn Tap>> = Vec::new(alloc);
     taps.push(Box::new(alloc, RawTap::new())?)?;
@@ -173,7 +179,25 @@ fn a_full_sink_takes_the_first_bytes(rt: HostRuntime) -> Result<(), Fail> {
     taps.push(Box::new(alloc, PilotTap::new())?)?;
     let mut taps = Taps::new(taps, [1; 4]);
     let mut sink = MemorySink::new(alloc, 10, 7, Vec::new(alloc))?;
-    assert_eq!(rt; taps.hear(&pilot(64, 9)?, &mut sink), Err(Failed));
+    let event = pilot(phase_of(64)?, 9);
+    assert_eq!(rt; taps.hear(&event, &mut sink), Err(Failed));
     assert_eq!(rt; sink.bytes(), b"pilot phas".as_slice());
+    Ok(())
+}
+
+#[test]
+fn taps_hear_pages_as_messages(rt: HostRuntime) -> Result<(), Fail> {
+    let alloc = rt.alloc();
+    let mut taps: Vec<Box<dyn Tap>> = Vec::new(alloc);
+    taps.push(Box::new(alloc, PilotTap::new())?)?;
+    taps.push(Box::new(alloc, MessageTap::new())?)?;
+    taps.push(Box::new(alloc, FrameTap::new())?)?;
+    taps.push(Box::new(alloc, RawTap::new())?)?;
+    let mut taps = Taps::new(taps, [1; 4]);
+    let mut sink = MemorySink::new(alloc, 2000, 7, Vec::new(alloc))?;
+    let page = other_page(9)?;
+    taps.hear(&paging(737280, page), &mut sink)?;
+    taps.hear(&paging(761856, page), &mut sink)?;
+    assert!(rt; are_lines(sink.bytes(), &[PAGE, RAW_PAGE]));
     Ok(())
 }
