@@ -12,7 +12,8 @@ use Rattle.cdma_words.specs.declared.job.WordFault.{WordFault}
 use Rattle.cdma_words.specs.declared.job.WordFault.TheVariants.{Bad}
 use Rattle.cdma_words.specs.Words.{CommandRow, Given, OptionRow, Text, admits}
 use Rattle.cdma_words.specs.Words.{number_by, numbers_by, text_of, width_of}
-use Rattle.cdma_words.specs.Words.{bits_row, fingers_row, limit_row, span_row, workers_row}
+use Rattle.cdma_words.specs.Words.{bits_row, fingers_row, limit_row, paging_row}
+use Rattle.cdma_words.specs.Words.{span_row, workers_row}
 use Rattle.cdma_words.specs.Words.{find_row, follow_row, make_row}
 use Rattle.cdma_words.specs.Words.{given_behind, job_behind, job_by, job_in, job_named}
 use Rattle.cdma_words.proofs.WordValues.{HasNumber, given_of, job_from}
@@ -149,6 +150,9 @@ follow_workers = record { default = 4; stands = refl; defaults = refl; admitted 
 pub follow_fingers : IsOption follow_row fingers_row
 follow_fingers = record { default = 1; stands = refl; defaults = refl; admitted = refl }
 
+pub follow_paging : IsOption follow_row paging_row
+follow_paging = record { default = 1; stands = refl; defaults = refl; admitted = refl }
+
 pub follow_pilots : IsOption follow_row pilots_row
 follow_pilots = record { default = 4294967295; stands = refl; defaults = refl; admitted = refl }
 
@@ -179,27 +183,32 @@ limits_are words found pilots messages frames raw r pilots_is messages_is frames
     (one raw_row [] raw [] raw_is (numbers_none r.given))))
 
 pub follow_job : (words : List Text) (found : Text → Option Text)
-    (span workers fingers pilots messages frames raw : ℕ) → Reads follow_row words found →
+    (span workers fingers paging pilots messages frames raw : ℕ) → Reads follow_row words found →
     number_by span_row (found (codes "span")) ≡ Some span →
     number_by workers_row (found (codes "workers")) ≡ Some workers →
     number_by fingers_row (found (codes "fingers")) ≡ Some fingers →
+    number_by paging_row (found (codes "paging")) ≡ Some paging →
     number_by pilots_row (found (codes "pilots")) ≡ Some pilots →
     number_by messages_row (found (codes "messages")) ≡ Some messages →
     number_by frames_row (found (codes "frames")) ≡ Some frames →
     number_by raw_row (found (codes "raw")) ≡ Some raw →
     job_by follow_row words
-    ≡ Some (Follow span workers fingers (pilots ∷ messages ∷ frames ∷ raw ∷ []))
-follow_job words found span workers fingers pilots messages frames raw r span_is workers_is
-    fingers_is pilots_is messages_is frames_is raw_is =
+    ≡ Some (Follow span workers fingers paging (pilots ∷ messages ∷ frames ∷ raw ∷ []))
+follow_job words found span workers fingers paging pilots messages frames raw r span_is workers_is
+    fingers_is paging_is pilots_is messages_is frames_is raw_is =
     let one = more follow_row words found r in
     let limit_rows = pilots_row ∷ messages_row ∷ frames_row ∷ raw_row ∷ [] in
     let limits = pilots ∷ messages ∷ frames ∷ raw ∷ [] in
-    job_from follow_row words r.given (span ∷ workers ∷ fingers ∷ limits)
-    (Follow span workers fingers limits) r.behind
-    (one span_row (workers_row ∷ fingers_row ∷ limit_rows) span (workers ∷ fingers ∷ limits) span_is
-    (one workers_row (fingers_row ∷ limit_rows) workers (fingers ∷ limits) workers_is
-    (one fingers_row limit_rows fingers limits fingers_is
-    (limits_are words found pilots messages frames raw r pilots_is messages_is frames_is raw_is))))
+    job_from follow_row words r.given (span ∷ workers ∷ fingers ∷ paging ∷ limits)
+    (Follow span workers fingers paging limits) r.behind
+    (one span_row (workers_row ∷ fingers_row ∷ paging_row ∷ limit_rows) span
+    (workers ∷ fingers ∷ paging ∷ limits) span_is
+    (one workers_row (fingers_row ∷ paging_row ∷ limit_rows) workers
+    (fingers ∷ paging ∷ limits) workers_is
+    (one fingers_row (paging_row ∷ limit_rows) fingers (paging ∷ limits) fingers_is
+    (one paging_row limit_rows paging limits paging_is
+    (limits_are words found pilots messages frames raw r pilots_is messages_is frames_is
+    raw_is)))))
     refl
 
 -- words in the grammar have a job
@@ -213,13 +222,15 @@ follow_has words lawful =
     let span = number_is r follow_span in
     let workers = number_is r follow_workers in
     let fingers = number_is r follow_fingers in
+    let paging = number_is r follow_paging in
     let pilots = number_is r follow_pilots in
     let messages = number_is r follow_messages in
     let frames = number_is r follow_frames in
     let raw = number_is r follow_raw in (
-      Follow span.0 workers.0 fingers.0 (pilots.0 ∷ messages.0 ∷ frames.0 ∷ raw.0 ∷ []),
-      follow_job words found span.0 workers.0 fingers.0 pilots.0 messages.0 frames.0 raw.0 r
-          span.1 workers.1 fingers.1 pilots.1 messages.1 frames.1 raw.1,
+      Follow span.0 workers.0 fingers.0 paging.0
+          (pilots.0 ∷ messages.0 ∷ frames.0 ∷ raw.0 ∷ []),
+      follow_job words found span.0 workers.0 fingers.0 paging.0 pilots.0 messages.0 frames.0 raw.0
+          r span.1 workers.1 fingers.1 paging.1 pilots.1 messages.1 frames.1 raw.1,
     )
 
 -- ---- `make`

@@ -47,6 +47,9 @@ workers_row = record { name = codes "workers"; form = Between 1 64; default = So
 abbrev pub fingers_row : OptionRow
 fingers_row = record { name = codes "fingers"; form = Between 1 3; default = Some 1 }
 
+abbrev pub paging_row : OptionRow
+paging_row = record { name = codes "paging"; form = Between 1 7; default = Some 1 }
+
 -- an option that limits how often something is told
 abbrev pub limit_row : Text → ℕ → OptionRow
 limit_row name default =
@@ -68,7 +71,8 @@ find_with (span ∷ workers ∷ []) = Some (Find span workers)
 find_with _ = None
 
 abbrev pub follow_with : List ℕ → Option Job
-follow_with (span ∷ workers ∷ fingers ∷ limits) = Some (Follow span workers fingers limits)
+follow_with (span ∷ workers ∷ fingers ∷ paging ∷ limits) =
+    Some (Follow span workers fingers paging limits)
 follow_with _ = None
 
 -- the width of parts of so many bits
@@ -89,9 +93,9 @@ find_row = record {
 abbrev pub follow_row : CommandRow
 follow_row = record {
   name = codes "follow";
-  options = span_row ∷ workers_row ∷ fingers_row ∷ limit_row (codes "pilots") 4294967295
-      ∷ limit_row (codes "messages") 4294967295 ∷ limit_row (codes "frames") 4294967295
-      ∷ limit_row (codes "raw") 0 ∷ [];
+  options = span_row ∷ workers_row ∷ fingers_row ∷ paging_row
+      ∷ limit_row (codes "pilots") 4294967295 ∷ limit_row (codes "messages") 4294967295
+      ∷ limit_row (codes "frames") 4294967295 ∷ limit_row (codes "raw") 0 ∷ [];
   job = follow_with;
 }
 
@@ -243,9 +247,13 @@ IsWorkers workers = (1 ≤ workers) × (workers ≤ 64)
 abbrev pub IsFingers : ℕ → Type 0
 IsFingers fingers = (1 ≤ fingers) × (fingers ≤ 3)
 
+-- the number of a paging channel
+abbrev pub IsPaging : ℕ → Type 0
+IsPaging paging = (1 ≤ paging) × (paging ≤ 7)
+
 -- a job has numbers that its options admit
 abbrev pub IsLawfulJob : Job → Type 0
 IsLawfulJob (Find span workers) = IsSpan span × IsWorkers workers
-IsLawfulJob (Follow span workers fingers limits) =
-    IsSpan span × IsWorkers workers × IsFingers fingers
+IsLawfulJob (Follow span workers fingers paging limits) =
+    IsSpan span × IsWorkers workers × IsFingers fingers × IsPaging paging
 IsLawfulJob (Make width) = Unit {0}

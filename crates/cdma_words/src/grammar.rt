@@ -71,6 +71,13 @@ pub const FINGERS: OptionRule = OptionRule {
     default: Some(1),
 };
 
+/// `--paging`: which paging channel is followed.
+pub const PAGING: OptionRule = OptionRule {
+    name: "paging",
+    form: Form::Between { least: 1, most: 7 },
+    default: Some(1),
+};
+
 /// `--pilots`: how many pilot lines are written.
 pub const PILOTS: OptionRule = OptionRule {
     name: "pilots",

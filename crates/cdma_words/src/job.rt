@@ -4,7 +4,7 @@ ghost use Rattle.std.specs.Prelude.{◌≡◌, ◌↔◌, IfOk, map, string_byte
 ghost use Rattle.cdma_words.specs.Words.{IsLawfulJob, job_behind, job_by, job_named, width_of};
 ghost use Rattle.cdma_words.specs.Words.{find_row, follow_row, make_row};
 
-use crate::grammar::{BITS, FINGERS, FRAMES, MESSAGES, PILOTS, RAW, SPAN, WORKERS};
+use crate::grammar::{BITS, FINGERS, FRAMES, MESSAGES, PAGING, PILOTS, RAW, SPAN, WORKERS};
 use crate::matching::{matches_by, number_by};
 use crate::testing::are_lawful;
 use cdma_io::Width;
@@ -28,6 +28,8 @@ pub enum Job {
         workers: u8,
         /// How many paths of the signal are followed, 1 to 3.
         fingers: u8,
+        /// The number of the paging channel that is followed, 1 to 7.
+        paging: u8,
         /// How many events are told in each form: pilots, messages, frames, and raw capsules.
         limits: [u32; 4],
     },
@@ -51,9 +53,10 @@ pub enum WordFault {
 /// `--name VALUE` or `--name=VALUE`. A value is a number of 1 to 20 decimal digits.
 ///
 /// `find` takes `--span`, 64 to 32,768, which is else 2,048, and `--workers`, 1 to 64, which is
-/// else 4. `follow` takes these, `--fingers`, 1 to 3, which is else 1, and four limits of 0 to
-/// 4,294,967,295: `--pilots`, `--messages` and `--frames`, which are else the greatest, and
-/// `--raw`, which is else 0. `make` takes `--bits`, 8 or 16, which is else 16.
+/// else 4. `follow` takes these, `--fingers`, 1 to 3, which is else 1, `--paging`, 1 to 7, which
+/// is else 1, and four limits of 0 to 4,294,967,295: `--pilots`, `--messages` and `--frames`,
+/// which are else the greatest, and `--raw`, which is else 0. `make` takes `--bits`, 8 or 16,
+/// which is else 16.
 ///
 /// All other words are `Bad`, whatever memory there is.
 pub fn words_of(alloc: Global, words: &[String]) -> Result<Job, WordFault>
@@ -112,7 +115,9 @@ fn follow_of(alloc: Global, options: &[String]) -> Result<Job, WordFault>
         (job_by follow_row (map string_bytes options.now) ≡ None) }
     ensures lawful { IfOk result IsLawfulJob }
 {
-    let rules = [SPAN, WORKERS, FINGERS, PILOTS, MESSAGES, FRAMES, RAW];
+    let rules = [
+        SPAN, WORKERS, FINGERS, PAGING, PILOTS, MESSAGES, FRAMES, RAW,
+    ];
     if !are_lawful(&rules, options) {
         return Err(WordFault::Bad);
     }
@@ -122,6 +127,7 @@ fn follow_of(alloc: Global, options: &[String]) -> Result<Job, WordFault>
     let span = number_by(&matches, &SPAN)?;
     let workers = number_by(&matches, &WORKERS)?;
     let fingers = number_by(&matches, &FINGERS)?;
+    let paging = number_by(&matches, &PAGING)?;
     let pilots = number_by(&matches, &PILOTS)?;
     let messages = number_by(&matches, &MESSAGES)?;
     let frames = number_by(&matches, &FRAMES)?;
@@ -130,6 +136,7 @@ fn follow_of(alloc: Global, options: &[String]) -> Result<Job, WordFault>
         span: span as u16,
         workers: workers as u8,
         fingers: fingers as u8,
+        paging: paging as u8,
         limits: [pilots as u32, messages as u32, frames as u32, raw as u32],
     })
 }

@@ -34,12 +34,13 @@ fn takes_words_of_the_grammar(rt: HostRuntime) -> Result<(), Fail> {
     assert_eq!(rt;
         read(
             alloc,
-            "follow --raw=4294967295 --pilots 0 --fingers=3 --messages 7 --span 64"
+            "follow --raw=4294967295 --pilots 0 --fingers=3 --messages 7 --span 64 --paging 7"
         )?,
         Ok(Job::Follow {
             span: 64,
             workers: 4,
             fingers: 3,
+            paging: 7,
             limits: [0, 7, 4294967295, 4294967295],
         })
     );
@@ -49,9 +50,27 @@ fn takes_words_of_the_grammar(rt: HostRuntime) -> Result<(), Fail> {
             span: 2048,
             workers: 4,
             fingers: 1,
+            paging: 1,
             limits: [4294967295, 4294967295, 4294967295, 0],
         })
     );
+    for (line, paging) in [
+        ("follow --paging=1", 1),
+        ("follow --paging 7", 7),
+        ("follow --paging 004", 4),
+    ] {
+        assert_eq!(rt;
+            read(alloc, line)?,
+            Ok(Job::Follow {
+                span: 2048,
+                workers: 4,
+                fingers: 1,
+                paging,
+                limits: [4294967295, 4294967295, 4294967295, 0],
+            }),
+            "{line}"
+        );
+    }
     for (line, width) in [
         ("make", Width::Sixteen),
         ("make --bits 016", Width::Sixteen),
@@ -114,15 +133,19 @@ fn refuses_other_options(rt: HostRuntime) -> Result<(), Fail> {
         "find -- --span=64",
         "find --span=64 --help",
         "find --fingers 1",
+        "find --paging 1",
         "find --bits 16",
         "find --raw 1",
         "follow --bits=8",
         "follow --fingers=1 --fingers=1",
+        "follow --paging 1 --paging=1",
+        "follow --page 1",
         "follow --raw 1 --pilots 1 --raw 2",
         "follow --pilot 1",
         "make --span 64",
         "make --workers 4",
         "make --fingers 1",
+        "make --paging 1",
         "make --bits 8 --bits 8",
         "make --bits 8 16",
     ] {
@@ -157,6 +180,10 @@ fn refuses_other_values(rt: HostRuntime) -> Result<(), Fail> {
         "follow --fingers",
         "follow --fingers 0",
         "follow --fingers=4",
+        "follow --paging",
+        "follow --paging=",
+        "follow --paging 0",
+        "follow --paging=8",
         "follow --raw=4294967296",
         "follow --span 64 --fingers",
         "follow --span=64=64",
