@@ -24,6 +24,31 @@ pub mod SendingPlaces
 pub mod SendingsHeard
 pub mod SendingsBack
 pub mod MarksTrue
--- the paging channels behind the mark
+pub mod FirstMark
+-- paging channels, their second case: the frames behind the mark
 pub mod PagingTimes
 pub mod PagingFrames
+-- what half-frames end, bit by bit
+pub mod PageLists
+pub mod PagePieces
+pub mod PageScans
+pub mod PagesSilent
+-- runs of pages, heard from any half-frame on
+pub mod PageChains
+pub mod PageRuns
+pub mod RunsHeard
+-- cycles of pages: their rounds and frames, how pages are laid, and what is heard of them
+pub mod PageRounds
+pub mod PageFrames
+pub mod PagesLaid
+pub mod RunsLawful
+pub mod CyclesBack
+pub mod PagesWhole
+-- the pages of a channel in a file, each when it is known
+pub mod PagesInOrder
+pub mod PagesRead
+pub mod PagesPlaced
+pub mod PagesBack
+-- both channels together
+pub mod EventPlaces
+pub mod MessagesBack

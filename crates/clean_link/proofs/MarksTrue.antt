@@ -49,7 +49,7 @@ lc_of : (plan : CellPlan) (m : SyncFields) (q : ℕ) →
 unfolding message_of
 lc_of plan m q = refl
 
-time_of : (plan : CellPlan) (m : SyncFields) (q : ℕ) →
+pub time_of : (plan : CellPlan) (m : SyncFields) (q : ℕ) →
     (message_of plan.cell m q).time ≡ plan.cell.time + told_superframes plan.cell m q
 unfolding message_of
 time_of plan m q = refl
@@ -80,7 +80,7 @@ sent_mark plan m q first = record {
   prat = (message_of plan.cell m q).prat;
 }
 
-marks_sent : (plan : CellPlan) (m : SyncFields) (q first : ℕ) → IsState plan.cell.lc →
+pub marks_sent : (plan : CellPlan) (m : SyncFields) (q first : ℕ) → IsState plan.cell.lc →
     marks_of first
     (with_message (sync_capsule plan.cell.check30 (message_of plan.cell m q))
     (Some (message_of plan.cell m q))) ≡ sent_mark plan m q first ∷ []

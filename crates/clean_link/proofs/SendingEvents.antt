@@ -1,11 +1,10 @@
--- The events of a file, and its mark, in the order of the frames.
+-- The events of a file's sync channel, and its mark, in the order of the frames.
 use Rattle.std.proofs.Common.{◌≡◌, ℕ, ◌+◌, ◌<◌, ◌≤◌, ◌==◌, ⊎_elim, Bool, true, false, List, [], ◌∷◌, ◌++◌, length, filter, refl, sym, ap, ◌∙◌, arith, nat_lt, Some}
 use Rattle.std.specs.Prelude.{is_some}
 use Rattle.std.specs.List.{flat_map}
 use Rattle.std.proofs.lemmas.Bool.{and_parts, lt-ltb, eqb-true, cases_Bool, false_from_ne_true}
 use Rattle.chip_core.specs.Bits.{places}
 use Rattle.chip_core.specs.declared.sample.Sample.{Sample}
-use Rattle.mobile_core.specs.Events.{events, events_at, events_within}
 use Rattle.mobile_core.specs.Marks.{first_of, mark, marks_at, mark_before}
 use Rattle.mobile_core.specs.Streams.{is_in_file, known_at}
 use Rattle.mobile_core.specs.SyncEvents.{heard_at, events_of, sync_events_at}
@@ -47,9 +46,9 @@ known_early t timed n k there before =
 -- the events of n samples, over the frames of the whole file
 events_now : {low : ℕ} (t : Tuning) → IsTimed t.count (sync_stream t) low →
     (samples : List Sample) (n : ℕ) → n ≤ t.count →
-    events_at t samples n ≡
+    sync_events_at t samples n ≡
     flat_map (frame_events t samples) (filter (at_key (in_file t) (known t) n) (frames_of t))
-unfolding events_at sync_events_at
+unfolding sync_events_at
 events_now t timed samples n within =
     let now = at_key (in_file t) (known t) n in
     let here : (k : ℕ) → now k ≡ true → k < sync_bound n = λ k h. let is = at_is t n k h in
@@ -81,13 +80,12 @@ all_known t timed k = ⊎_elim
     (λ (gone : in_file t k ≡ false). rw gone refl)
     (cases_Bool (in_file t k))
 
-events_by_frames : {low : ℕ} (t : Tuning) → IsTimed t.count (sync_stream t) low →
+pub events_by_frames : {low : ℕ} (t : Tuning) → IsTimed t.count (sync_stream t) low →
     (samples : List Sample) →
-    events_within t samples t.count ≡
+    flat_map (sync_events_at t samples) (places (t.count + 1)) ≡
     flat_map (frame_events t samples) (filter (in_file t) (frames_of t))
-unfolding events_within
 events_by_frames t timed samples =
-    flat_map_ext_places (events_at t samples)
+    flat_map_ext_places (sync_events_at t samples)
     (λ n. flat_map (frame_events t samples)
     (filter (at_key (in_file t) (known t) n) (frames_of t))) (t.count + 1)
     (λ n below. events_now t timed samples n (omega (arith, below)))
@@ -96,11 +94,6 @@ events_by_frames t timed samples =
     ∙ ap (flat_map (frame_events t samples))
     (filter_ext_places (below_key (in_file t) (known t) (t.count + 1)) (in_file t)
     (sync_bound t.count) (λ k below. all_known t timed k))
-
-pub events_are : {low : ℕ} (t : Tuning) → IsTimed t.count (sync_stream t) low →
-    (samples : List Sample) → length samples ≡ t.count →
-    events t samples ≡ flat_map (frame_events t samples) (filter (in_file t) (frames_of t))
-events_are t timed samples all = ap (events_within t samples) all ∙ events_by_frames t timed samples
 
 -- ---- the mark
 -- the mark of all samples is the first of the frames' marks

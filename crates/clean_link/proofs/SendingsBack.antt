@@ -10,20 +10,19 @@ use Rattle.base_modulator.specs.Sendings.{message_of}
 use Rattle.base_modulator.specs.declared.plan.CellPlan.{CellPlan}
 use Rattle.base_modulator.specs.declared.plan.SyncPlan.{SyncPlan}
 use Rattle.base_modulator.proofs.SentMessages.{length-sync}
-use Rattle.mobile_core.specs.SyncEvents.{events_of}
+use Rattle.mobile_core.specs.SyncEvents.{events_of, sync_events_at}
 use Rattle.mobile_core.specs.Tuning.{Tuning, sync_bound}
 use Rattle.mobile_core.specs.declared.event.Event.{Event}
 use Rattle.mobile_core.specs.declared.event.Event.TheVariants.{Sync}
 use Rattle.mobile_core.proofs.Ranges.{flat_map_ext_filter}
 use Rattle.clean_link.specs.CleanLaws.{FramesAreZeros, FramesComeBack, WholeSendingsComeBack}
-use Rattle.clean_link.specs.CleanLink.{IsReceivable, IsTunedTo, events_of_channel, first_sync_frame, heard_behind, is_whole, sending_ends, sending_event, sent_events}
+use Rattle.clean_link.specs.CleanLink.{IsReceivable, IsTunedTo, events_of_channel, first_sync_frame, heard_behind, is_whole, sending_ends, sending_event, sync_sent}
 use Rattle.base_modulator.specs.Sampled.{made_samples}
 use Rattle.clean_link.proofs.SendingCapsules.{IsSentAt, sending_frames}
-use Rattle.clean_link.proofs.SignalSamples.{length-made}
 use Rattle.clean_link.proofs.SyncFrames.{frames_back, frames_zero}
 use Rattle.clean_link.proofs.SyncTimes.{end_of_frame, in_file_to, known_is, sync_timed}
 use Rattle.clean_link.proofs.SendingOrder.{blocks, given_where, flat_map-filter, map-filter, moved_up, quiet}
-use Rattle.clean_link.proofs.SendingEvents.{events_are, frame_events, frames_of, in_file, known}
+use Rattle.clean_link.proofs.SendingEvents.{events_by_frames, frame_events, frames_of, in_file, known}
 use Rattle.clean_link.proofs.SendingsHeard.{ends_sending, heard_nothing, heard_sending, none_heard}
 use Rattle.clean_link.proofs.SendingPlaces.{IsInside, ends_tells, ends_there, ends_where, last_frame, last_within, late_sending, whole_from, whole_to}
 
@@ -212,15 +211,16 @@ by_frames back zeros width plan t (Some sync) is sends tuned =
 pub sendings_by_frames : FramesComeBack → FramesAreZeros →
     (width : Width) (plan : CellPlan) (t : Tuning) → IsReceivable width plan → IsTunedTo plan t →
     flat_map (frame_events t (made_samples plan)) (filter (in_file t) (frames_of t)) ≡
-    sent_events plan
-unfolding sent_events
+    sync_sent plan
+unfolding sync_sent
 sendings_by_frames back zeros width plan t is tuned =
     by_frames back zeros width plan t plan.sync is refl tuned
 
 pub sendings_from : FramesComeBack → FramesAreZeros → WholeSendingsComeBack
 sendings_from back zeros width plan t is tuned =
-    events_are t (sync_timed t tuned.alone) (made_samples plan) (length-made plan ∙
-    sym tuned.count) ∙ sendings_by_frames back zeros width plan t is tuned
+    ap (λ n. flat_map (sync_events_at t (made_samples plan)) (places (n + 1))) (sym tuned.count)
+    ∙ events_by_frames t (sync_timed t tuned.alone) (made_samples plan)
+    ∙ sendings_by_frames back zeros width plan t is tuned
 
 pub sendings_back : WholeSendingsComeBack
 sendings_back = sendings_from frames_back frames_zero

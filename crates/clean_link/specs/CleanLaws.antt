@@ -1,5 +1,7 @@
 -- What a clean link gives back of the sync channel.
 use Rattle.std.specs.Prelude.{ℕ, ◌+◌, ◌<◌, ◌≡◌, true, false, nat_lt, length, replicate, pos, is_some, None, Some}
+use Rattle.std.specs.List.{flat_map}
+use Rattle.chip_core.specs.Bits.{places}
 use Rattle.rake_finger.specs.declared.form.Form.TheVariants.{Sync}
 use Rattle.viterbi.specs.Laws.{signed}
 use Rattle.cdma_io.specs.declared.width.Width.{Width}
@@ -7,13 +9,13 @@ use Rattle.base_modulator.specs.Sampled.{made_samples}
 use Rattle.base_modulator.specs.Sendings.{sync_frame_bits, sync_symbols}
 use Rattle.base_modulator.specs.declared.plan.CellPlan.{CellPlan}
 use Rattle.base_modulator.specs.declared.plan.SyncPlan.{SyncPlan}
-use Rattle.mobile_core.specs.Events.{events}
 use Rattle.mobile_core.specs.Marks.{mark}
 use Rattle.mobile_core.specs.Streams.{frame_own_bits, frame_softs, is_in_file, span_first, span_frames}
+use Rattle.mobile_core.specs.SyncEvents.{sync_events_at}
 use Rattle.mobile_core.specs.Tuning.{Tuning, sync_stream}
 use Rattle.mobile_core.specs.declared.mark.Mark.{Mark}
 use Rattle.clean_link.specs.SentWords.{IsOnlyBest, span_word}
-use Rattle.clean_link.specs.CleanLink.{IsReceivable, IsTunedTo, IsTrueMark, first_sync_frame, sent_events, soft_strength}
+use Rattle.clean_link.specs.CleanLink.{IsReceivable, IsTunedTo, IsTrueMark, first_sync_frame, soft_strength, sync_sent}
 
 -- the soft values of a received sync frame are one positive number times the signs of the symbols
 -- that were sent
@@ -59,10 +61,13 @@ FramesAreZeros = (width : Width) (plan : CellPlan) (t : Tuning) (k : ℕ) →
     is_in_file t.count (sync_stream t) k ≡ true →
     frame_own_bits t.count (made_samples plan) (sync_stream t) k ≡ replicate 32 false
 
--- a handset hears the whole sendings, each with its message, in order, and nothing else
+-- on the sync channel a handset hears the whole sendings, each with its message, in order, and
+-- nothing else
 abbrev pub WholeSendingsComeBack : Type 0
 WholeSendingsComeBack = (width : Width) (plan : CellPlan) (t : Tuning) →
-    IsReceivable width plan → IsTunedTo plan t → events t (made_samples plan) ≡ sent_events plan
+    IsReceivable width plan → IsTunedTo plan t →
+    flat_map (sync_events_at t (made_samples plan)) (places (plan.link.samples + 1)) ≡
+    sync_sent plan
 
 -- the mark, within any of the samples, has the cell's time and long code
 abbrev pub MarksAreTrue : Type 0
@@ -75,4 +80,4 @@ abbrev pub IsMarkedWhereHeard : Type 0
 IsMarkedWhereHeard = (width : Width) (plan : CellPlan) (t : Tuning) →
     IsReceivable width plan → IsTunedTo plan t →
     is_some (mark t (made_samples plan) plan.link.samples) ≡
-    nat_lt 0 (length (sent_events plan))
+    nat_lt 0 (length (sync_sent plan))

@@ -1,20 +1,24 @@
 -- A clean link: a file that holds what one cell sends over one path, without noise, and what a
 -- handset has to hear in it.
-use Rattle.std.specs.Prelude.{ℕ, ◌+◌, ◌-◌, ◌*◌, ◌/◌, ◌%◌, ◌<◌, ◌≡◌, ◌&&◌, Bool, if◌then◌else◌, nat_le, List, [], ◌∷◌, ◌++◌, length, map, take, filter, pos, Option, None, Some, Ok}
+use Rattle.std.specs.Prelude.{ℕ, ◌+◌, ◌-◌, ◌*◌, ◌/◌, ◌%◌, ◌<◌, ◌≤◌, ◌≡◌, ◌&&◌, Bool}
+use Rattle.std.specs.Prelude.{if◌then◌else◌, nat_le, List, [], ◌∷◌, length, map, take, filter, pos}
+use Rattle.std.specs.Prelude.{All, Option, None, Some, Ok}
 use Rattle.chip_core.specs.Bits.{places}
 use Rattle.chip_core.specs.Complex.{norm}
 use Rattle.chip_core.specs.declared.sample.Sample.{Sample}
 use Rattle.long_code.specs.LongCode.{after}
 use Rattle.cdma_io.specs.declared.header.Header.{Header}
 use Rattle.cdma_io.specs.declared.width.Width.{Width}
-use Rattle.pilot_search.specs.Search.{best_phase, energy}
+use Rattle.pilot_search.specs.Search.{best_phase}
 use Rattle.rake_finger.specs.Soft.{symbol_chips, window_chips}
 use Rattle.rake_finger.specs.declared.form.Form.{Form}
 use Rattle.sync_message.specs.SyncMessage.{sync_capsule}
 use Rattle.sync_message.specs.declared.fields.SyncFields.{SyncFields}
+use Rattle.base_modulator.specs.Pages.{paging_rate}
 use Rattle.base_modulator.specs.Plan.{IsLawfulPlan}
 use Rattle.base_modulator.specs.Sampled.{made_samples}
 use Rattle.base_modulator.specs.Script.{plan_named}
+use Rattle.base_modulator.specs.ScriptPlans.{IsStatedPaging}
 use Rattle.base_modulator.specs.Sendings.{message_of, superframes_a_sending}
 use Rattle.base_modulator.specs.Transmitter.{phase_at}
 use Rattle.base_modulator.specs.declared.plan.CellPlan.{CellPlan}
@@ -23,31 +27,33 @@ use Rattle.mobile_core.specs.Tuning.{Tuning}
 use Rattle.mobile_core.specs.declared.event.Event.{Event}
 use Rattle.mobile_core.specs.declared.event.Event.TheVariants.{Sync}
 use Rattle.mobile_core.specs.declared.mark.Mark.{Mark}
-use Rattle.event_tap.specs.Lines.{pilot_line, text_of}
 
 -- A file is a clean link of a script's cell: its flags and samples are the cell's, the search finds
 -- the cell's path, and there is one finger. The link's delay is in the chip at which the file
 -- starts, its rotation and strength are in the factor.
 pub record IsCleanLink (width : Width) (script : List ℕ) (plan : CellPlan) (span : ℕ)
-    (fingers : Option ℕ) (header : Header) (samples : List Sample) : Type 0 where
+    (fingers : ℕ) (header : Header) (samples : List Sample) : Type 0 where
   pub named : plan_named width script ≡ Ok plan
   pub sent : samples ≡ made_samples plan
   pub checks_of_30 : header.check30 ≡ plan.cell.check30
   pub checks_of_16 : header.check16 ≡ plan.cell.check16
   pub found : best_phase (take span samples) ≡ phase_at plan plan.link.start
-  pub alone : fingers ≡ Some 1
+  pub alone : fingers ≡ 1
 
--- a lawful cell, with a link
+-- a lawful cell, with a link, whose pages are messages that half-frames carry
 pub record IsReceivable (width : Width) (plan : CellPlan) : Type 0 where
   pub lawful : IsLawfulPlan width plan
   pub link : 0 < norm plan.link.factor
+  pub pages : All (IsStatedPaging (paging_rate plan.sync)) plan.paging
 
--- a handset with one finger, which lies on the cell's path
+-- a handset with one finger, which lies on the cell's path, that follows one of the paging channels
 pub record IsTunedTo (plan : CellPlan) (t : Tuning) : Type 0 where
   pub count : t.count ≡ plan.link.samples
   pub checks : t.check30 ≡ plan.cell.check30
   pub phase : t.phase ≡ phase_at plan plan.link.start
   pub alone : t.deltas ≡ pos 0 ∷ []
+  pub first_channel : 1 ≤ t.paging
+  pub last_channel : t.paging ≤ 7
 
 -- ---- channels as they are received
 
@@ -103,8 +109,8 @@ events_of_channel plan None = []
 events_of_channel plan (Some sync) =
     map (sending_event plan sync.message) (whole_sendings plan sync.message)
 
-unfoldable pub sent_events : CellPlan → List Event
-sent_events plan = events_of_channel plan plan.sync
+unfoldable pub sync_sent : CellPlan → List Event
+sync_sent plan = events_of_channel plan plan.sync
 
 -- ---- the mark
 
@@ -115,13 +121,3 @@ pub record IsTrueMark (plan : CellPlan) (mark : Mark) (superframes : ℕ) : Type
   pub time : mark.time ≡ plan.cell.time + superframes
   pub pn : mark.pn ≡ plan.cell.pn
   pub state : (chips : ℕ) → after mark.lc chips ≡ after plan.cell.lc (98304 * superframes + chips)
-
--- ---- the text of the run
-
--- what is written of a clean link: the line of the pilot at the cell's phase, and those of the
--- whole sendings
-abbrev pub clean_text : ℕ → CellPlan → List ℕ
-clean_text span plan =
-    pilot_line (phase_at plan plan.link.start)
-    (energy (take span (made_samples plan)) (phase_at plan plan.link.start)) ++
-    text_of (sent_events plan)

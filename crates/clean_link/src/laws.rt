@@ -2,14 +2,17 @@
 //!
 //! Those of any channel hold of what is sent on any Walsh row, to any stream with one finger on the
 //! path; those of the sync channel are their first case, and those of the paging channels behind a
-//! mark their second.
+//! mark their second. Those of a cycle of pages speak of bits alone.
 
 ghost use Rattle.clean_link.specs.ChannelLaws.{ChannelFramesComeBack, ChannelWordsAreTheOnlyBest, ChannelsHaveSentSigns, EarlyFramesAreZero, SilentRowsAreZero, StreamsShowSymbols, StrengthsArePositive};
 ghost use Rattle.clean_link.specs.CleanLaws.{AreZeroWithoutSync, FramesAreZeros, FramesComeBack, HaveSentSigns, IsMarkedWhereHeard, MarksAreTrue, SentWordsAreTheOnlyBest, WholeSendingsComeBack};
+ghost use Rattle.clean_link.specs.HeardPages.{PagesComeBack};
+ghost use Rattle.clean_link.specs.PageLaws.{PageSendingsComeBack, WholePagesComeBack};
 ghost use Rattle.clean_link.specs.PagingLaws.{MarksTellTheRate, PagingFramesComeBack};
 ghost use Rattle.clean_link.specs.PagingLaws.{PagingHaveSentSigns, PagingWordsAreTheOnlyBest};
 ghost use Rattle.clean_link.specs.PagingLaws.{SilentPagingFramesAreZeros, SilentPagingIsZero};
 ghost use Rattle.clean_link.specs.PagingLaws.{UnmarkedWithoutSync};
+ghost use Rattle.clean_link.specs.SentEvents.{WholeMessagesComeBack};
 
 /// On a clean link the soft values of each frame in the file are `4 |h|^2 g0 g V C` times the signs
 /// of the symbols that the channel sends in it, where h is the link, g0 and g are the gains of the
@@ -46,8 +49,8 @@ pub fn sent_words_are_the_only_best()
     ensures paging { PagingWordsAreTheOnlyBest }
 {}
 
-/// A handset hears the sendings that lie in the file whole, each with its message, in order, and
-/// nothing else.
+/// On the sync channel a handset hears the sendings that lie in the file whole, each with its
+/// message, in order, and nothing else.
 pub fn whole_sendings_come_back()
     ensures { WholeSendingsComeBack }
 {}
@@ -60,4 +63,21 @@ pub fn marks_are_true()
     ensures set { IsMarkedWhereHeard }
     ensures rate { MarksTellTheRate }
     ensures none { UnmarkedWithoutSync }
+{}
+
+/// Heard from any of its frames on, a paging channel's half-frames end just the capsules of the
+/// pages whose run begins there or later, once for each round of the cycle, in order, each in the
+/// frame of its last bit. So behind a mark a handset hears the pages that the file holds whole from
+/// there on, each with its message, when it knows that frame, and nothing else; of a channel that
+/// isn't sent it hears nothing.
+pub fn whole_pages_come_back()
+    ensures frames { PageSendingsComeBack }
+    ensures file { WholePagesComeBack }
+    ensures heard { PagesComeBack }
+{}
+
+/// A handset hears the whole sendings, and the whole pages of the paging channel that it follows, in
+/// the order in which they are known, and nothing else.
+pub fn whole_messages_come_back()
+    ensures { WholeMessagesComeBack }
 {}

@@ -1,0 +1,71 @@
+-- All that a handset hears of a clean link's cell, in the order in which it is known.
+use Rattle.std.specs.Prelude.{ℕ, ◌+◌, ◌*◌, ◌==◌, ◌≡◌, Bool, if◌then◌else◌, nat_lt, List, [], ◌∷◌}
+use Rattle.std.specs.Prelude.{◌++◌, map, filter, Option, None, Some}
+use Rattle.std.specs.List.{flat_map}
+use Rattle.chip_core.specs.Bits.{places}
+use Rattle.cdma_io.specs.declared.width.Width.{Width}
+use Rattle.sync_message.specs.declared.fields.SyncFields.{SyncFields}
+use Rattle.base_modulator.specs.Sampled.{made_samples}
+use Rattle.base_modulator.specs.Sendings.{told_superframes}
+use Rattle.base_modulator.specs.declared.plan.CellPlan.{CellPlan}
+use Rattle.base_modulator.specs.declared.plan.SyncPlan.{SyncPlan}
+use Rattle.mobile_core.specs.Events.{events}
+use Rattle.mobile_core.specs.Given.{at_of}
+use Rattle.mobile_core.specs.Tuning.{Tuning}
+use Rattle.mobile_core.specs.declared.event.Event.{Event}
+use Rattle.mobile_core.specs.declared.event.Event.TheVariants.{Paging}
+use Rattle.clean_link.specs.CleanLink.{IsReceivable, IsTunedTo, sync_sent, whole_sendings}
+use Rattle.clean_link.specs.HeardPages.{KnownPage, pages_sent}
+
+-- ---- the paging channel
+
+-- what a handset tells of a page
+abbrev pub known_event : KnownPage → Event
+known_event page = Paging page.at page.capsule page.message
+
+-- the superframes from local chip 0 up to the mark, which the first of the whole sendings tells
+abbrev pub told_by_first : CellPlan → SyncFields → List ℕ → Option ℕ
+told_by_first plan m [] = None
+told_by_first plan m (sending ∷ sendings) = Some (told_superframes plan.cell m sending)
+
+-- what it tells of the whole pages of a channel behind the mark, where one is set
+abbrev pub pages_behind_mark : CellPlan → ℕ → Option ℕ → List Event
+pages_behind_mark plan channel None = []
+pages_behind_mark plan channel (Some superframes) =
+    map known_event (pages_sent plan channel (98304 * superframes))
+
+-- with the values 2 and 3 of PRAT no paging channel is heard
+abbrev pub pages_with_sync : CellPlan → ℕ → Option SyncPlan → List Event
+pages_with_sync plan channel None = []
+pages_with_sync plan channel (Some sync) =
+    if nat_lt sync.message.prat 2
+    then pages_behind_mark plan channel
+    (told_by_first plan sync.message (whole_sendings plan sync.message))
+    else []
+
+unfoldable pub paging_sent : CellPlan → ℕ → List Event
+paging_sent plan channel = pages_with_sync plan channel plan.sync
+
+-- ---- both channels
+
+abbrev pub is_at : ℕ → Event → Bool
+is_at n event = at_of event == n
+
+-- Events by the number of samples at which they are known, up to so many; at one number those of
+-- the first list come first.
+abbrev pub by_places : ℕ → List Event → List Event → List Event
+by_places count one other =
+    flat_map (λ n. filter (is_at n) one ++ filter (is_at n) other) (places (count + 1))
+
+-- the whole sendings, and the whole pages of a paging channel
+unfoldable pub sent_events : CellPlan → ℕ → List Event
+sent_events plan channel =
+    by_places plan.link.samples (sync_sent plan) (paging_sent plan channel)
+
+-- ---- the law
+
+-- A handset hears just these, in this order.
+abbrev pub WholeMessagesComeBack : Type 0
+WholeMessagesComeBack = (width : Width) (plan : CellPlan) (t : Tuning) →
+    IsReceivable width plan → IsTunedTo plan t →
+    events t (made_samples plan) ≡ sent_events plan t.paging
