@@ -1,5 +1,5 @@
 -- Lemmas on runs that find no memory, and on runs without a handset.
-use Rattle.std.proofs.Common.{◌≡◌, ◌≢◌, ℕ, ◌≤◌, ◌++◌, List, length, sym, ap, ◌∙◌, true, Option}
+use Rattle.std.proofs.Common.{◌≡◌, ℕ, ◌≤◌, ◌++◌, List, length, sym, ap, ◌∙◌, true, Option}
 use Rattle.std.proofs.Common.{None, Some, IfSome, Result, IsErrAnd}
 use Rattle.std.specs.Prelude.{Bool}
 use Rattle.std.specs.List.{flat_map}

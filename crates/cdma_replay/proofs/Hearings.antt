@@ -15,25 +15,27 @@ use Rattle.mobile_core.proofs.Ranges.{flat_map_ext_places}
 use Rattle.chip_core.specs.declared.sample.Sample.{Sample}
 use Rattle.cdma_io.specs.Outside.{AppendsPrefix}
 use Rattle.mobile_core.specs.Events.{events, events_at, events_within}
-use Rattle.mobile_core.specs.Standing.{StandsFor, has_room, parts}
+use Rattle.mobile_core.specs.Near.{AreNear}
+use Rattle.mobile_core.specs.Standing.{StandsFor, events_left, has_room, parts}
 use Rattle.mobile_core.specs.Timing.{IsTimed}
 use Rattle.mobile_core.specs.Tuning.{Tuning, sync_stream}
-use Rattle.mobile_core.specs.Left.{sync_events_left}
 use Rattle.mobile_core.specs.declared.event.Event.{Event}
 use Rattle.mobile_core.specs.declared.event.Event.TheVariants.{Pilot}
 use Rattle.mobile_core.specs.declared.mobile.Mobile.{Mobile}
-use Rattle.event_tap.specs.Lines.{event_line, pilot_line}
+use Rattle.event_tap.specs.EventLines.{event_line}
+use Rattle.event_tap.specs.Lines.{pilot_line}
 use Rattle.event_tap.specs.Taps.{KeptTap, form_line, heard_text, kept_with, run_taps, run_text}
 use Rattle.event_tap.specs.Taps.{taps_behind}
 use Rattle.event_tap.proofs.Runs.{run_taps-append, run_taps-more, run_text-append, run_text-more}
 use Rattle.event_tap.proofs.Runs.{run_text-none}
+use Rattle.cdma_replay.specs.declared.receiving.Receiver.{Receiver}
 use Rattle.cdma_replay.specs.declared.status.Status.{Status}
 use Rattle.cdma_replay.specs.declared.status.Status.TheVariants.{Done, NoSync, BadWords, BadFile}
 use Rattle.cdma_replay.specs.declared.status.Status.TheVariants.{ReadFault, WriteFault, NoMemory}
 use Rattle.cdma_replay.specs.declared.status.Status.TheVariants.{BadScript}
 use Rattle.cdma_replay.specs.Find.{IsEnd, IsFault}
 use Rattle.mobile_core.specs.Marks.{mark}
-use Rattle.mobile_core.proofs.Growth.{events_at_sync, sync_events_sooner}
+use Rattle.mobile_core.proofs.EventsGrown.{events_sooner}
 use Rattle.cdma_io.specs.declared.header.Header.{Header}
 use Rattle.pilot_search.specs.BestIn.{IsBestIn}
 use Rattle.pilot_search.specs.Near.{near_deltas}
@@ -175,15 +177,15 @@ told_all t taps one other kept given heard samples taken n old new so_far all st
 -- ---- what is heard in the first samples stays so
 
 first_events : (t : Tuning) (low : ℕ) → IsTimed t.count (sync_stream t) low →
+    AreNear (sync_stream t).fingers →
     (xs ys : List Sample) → (more : List Event) × (events t (xs ++ ys) ≡ events t xs ++ more)
 unfolding events_within
-first_events t low timed xs ys =
+first_events t low timed near xs ys =
     let n = length xs in
     let g = events_at t (xs ++ ys) in
     let sooner : flat_map g (places (n + 1)) ≡ flat_map (events_at t xs) (places (n + 1)) =
-    flat_map_ext_places g (events_at t xs) (n + 1) (λ k below. events_at_sync t (xs ++ ys) k ∙
-    sync_events_sooner t low timed xs ys k (omega (arith, below)) ∙ sym (events_at_sync t xs k))
-    in
+    flat_map_ext_places g (events_at t xs) (n + 1)
+    (λ k below. events_sooner t low timed near xs ys k (omega (arith, below))) in
     let long : length (xs ++ ys) + 1 ≡ (n + 1) + length ys = omega (arith, length-append xs ys) in
     let parted : flat_map g (places (length (xs ++ ys) + 1)) ≡
     flat_map g (places (n + 1)) ++ flat_map g (range_with_len (n + 1) (length ys)) =
@@ -235,12 +237,13 @@ told_part t taps one other kept given heard samples taken n event old mid new so
     subst (λ (xs : List Sample). StandsFor t other xs ((given ++ more) ++ event ∷ []))
     (taken_more heard samples taken n) (stepped (given ++ more) so_far.stands) in
     let later =
-    first_events t (parts other).sync.received.clock.low stands.sync.receives.clocked.timed now
+    first_events t (parts other).sync.received.clock.low stands.sync.receives.clocked.timed
+    (subst AreNear stands.sync.receives.fingers_are other.sound.hears.channel.near) now
     (drop (taken + n) samples) in
     let joined : now ++ drop (taken + n) samples ≡ heard ++ samples =
     append_assoc heard (take (taken + n) samples) (drop (taken + n) samples) ∙
     ap (λ (xs : List Sample). heard ++ xs) (take-append-drop (taken + n) samples) in
-    let left = sync_events_left t now (parts other).sync.received.clock.next in
+    let left = events_left t (parts other) now in
     let others = left ++ later.0 in
     let whole : events t (heard ++ samples) ≡ ((given ++ more) ++ event ∷ []) ++ others =
     ap (events t) (sym joined) ∙ later.1 ∙
@@ -332,35 +335,38 @@ first_near deltas found count long most is =
     ) in
     ap (take count) is ∙ take_at found (replicate (3 - count) (pos 0)) count few
 
-tuned_alike : (header : Header) (first : List Sample) (fingers : ℕ) (settings : Settings)
+tuned_alike : (header : Header) (first : List Sample) (receiver : Receiver) (settings : Settings)
     (best : Best) (near : Near) → IsBestIn first 0 32768 best.phase best.energy →
-    settings.count ≡ header.count → settings.check30 ≡ header.check30 → near.count ≡ fingers →
-    fingers ≤ 3 → length near.deltas ≡ 3 →
-    near.deltas ≡ near_deltas first best.phase fingers ++ replicate (3 - fingers) (pos 0) →
-    tuning_by settings best near ≡ tuning_for header first fingers
-tuned_alike header first fingers settings best near found count check counted most long deltas =
+    settings.count ≡ header.count → settings.check30 ≡ header.check30 → settings.paging ≡ receiver.paging →
+    near.count ≡ receiver.fingers → receiver.fingers ≤ 3 → length near.deltas ≡ 3 →
+    near.deltas
+    ≡ near_deltas first best.phase receiver.fingers ++ replicate (3 - receiver.fingers) (pos 0) →
+    tuning_by settings best near ≡ tuning_for header first receiver
+tuned_alike header first receiver settings best near found count check paging counted most long
+    deltas =
     let phase : best.phase ≡ best_phase first =
     best_phase-only first best.phase best.energy found in
-    let near_is : take near.count near.deltas ≡ near_deltas first (best_phase first) fingers =
+    let near_is : take near.count near.deltas
+    ≡ near_deltas first (best_phase first) receiver.fingers =
     ap (λ (n : ℕ). take n near.deltas) counted ∙
-    first_near near.deltas (near_deltas first best.phase fingers) fingers long most deltas
-    ∙ ap (λ (p : ℕ). near_deltas first p fingers) phase in
-    rw (count, check, phase, near_is) refl
+    first_near near.deltas (near_deltas first best.phase receiver.fingers) receiver.fingers long
+    most deltas
+    ∙ ap (λ (p : ℕ). near_deltas first p receiver.fingers) phase in
+    rw (count, check, paging, phase, near_is) refl
 
-pub fresh_given : (settings : Settings) (header : Header) (first : List Sample) (fingers : Option ℕ)
+pub fresh_given : (settings : Settings) (header : Header) (first : List Sample)
+    (receiver : Receiver)
     (best : Best) (near : Near) (mobile : Mobile) → IsBestIn first 0 32768 best.phase best.energy →
-    settings.count ≡ header.count → settings.check30 ≡ header.check30 → length near.deltas ≡ 3 →
-    AreNearTo first best.phase fingers (Some near) → AreReady (Some near) →
+    settings.count ≡ header.count → settings.check30 ≡ header.check30 → settings.paging ≡ receiver.paging →
+    length near.deltas ≡ 3 → AreNearTo first best.phase (Some receiver) (Some near) → AreReady (Some near) →
     StandsFor (tuning_by settings best near) mobile [] [] →
-    HasHeard (tuning_of header first fingers) (Some mobile) [] []
-fresh_given settings header first None best near mobile found count check long near_is ready
-    stands = absurd near_is
-fresh_given settings header first (Some fingers) best near mobile found count check long near_is
+    HasHeard (tuning_of header first (Some receiver)) (Some mobile) [] []
+fresh_given settings header first receiver best near mobile found count check paging long near_is
     ready stands =
-    let most : fingers ≤ 3 = omega (arith, near_is.0, ready.1) in
+    let most : receiver.fingers ≤ 3 = omega (arith, near_is.0, ready.1) in
     subst (λ (t : Tuning). StandsFor t mobile [] [])
-    (tuned_alike header first fingers settings best near found count check near_is.0 most long
-    near_is.1) stands
+    (tuned_alike header first receiver settings best near found count check paging near_is.0 most
+    long near_is.1) stands
 
 -- ---- what follows where a call went well, or failed
 

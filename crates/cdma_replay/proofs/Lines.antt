@@ -25,6 +25,7 @@ use Rattle.mobile_core.specs.declared.event.Event.TheVariants.{Pilot}
 use Rattle.mobile_core.specs.declared.mobile.Mobile.{Mobile}
 use Rattle.event_tap.specs.Taps.{KeptTap, heard_text, run_taps, run_text, taps_behind}
 use Rattle.event_tap.proofs.Runs.{run_text-none}
+use Rattle.cdma_replay.specs.declared.receiving.Receiver.{Receiver}
 use Rattle.cdma_replay.specs.declared.receiving.Reception.{Reception}
 use Rattle.cdma_replay.specs.declared.status.Status.{Status}
 use Rattle.cdma_replay.specs.Find.{WritesNoMore, WritesText}
@@ -44,10 +45,10 @@ pilot-best samples phase energy best =
 
 -- what the taps of a run write of the pilot, and those that are kept behind it
 abbrev pilot_text : List KeptTap → Reception → List Sample → List ℕ
-pilot_text taps r samples = heard_text (taps_for r.fingers taps) (best_pilot samples)
+pilot_text taps r samples = heard_text (taps_for r.receiver taps) (best_pilot samples)
 
 abbrev later_taps : List KeptTap → Reception → List Sample → List KeptTap
-later_taps taps r samples = taps_behind (taps_for r.fingers taps) (best_pilot samples)
+later_taps taps r samples = taps_behind (taps_for r.receiver taps) (best_pilot samples)
 
 -- the text of a file whose first samples are these
 text_behind : (taps : List KeptTap) (r : Reception) (header : Header)
@@ -55,22 +56,22 @@ text_behind : (taps : List KeptTap) (r : Reception) (header : Header)
     file_text taps r header (samples ++ others) ≡
     pilot_text taps r samples ++
     run_text (later_taps taps r samples)
-    (events_in (tuning_of header samples r.fingers) (samples ++ others))
+    (events_in (tuning_of header samples r.receiver) (samples ++ others))
 unfolding file_text file_events run_text
 text_behind taps r header samples others counted =
     ap (λ (xs : List Sample). pilot_text taps r xs ++
     run_text (later_taps taps r xs)
-    (events_in (tuning_of header xs r.fingers) (samples ++ others)))
+    (events_in (tuning_of header xs r.receiver) (samples ++ others)))
     (take_at samples others r.span counted)
 
 end_behind : (r : Reception) (header : Header) (samples others : List Sample) →
     length samples ≡ r.span →
     file_end_of r header (samples ++ others) ≡
-    end_when (is_told (tuning_of header samples r.fingers) (samples ++ others))
+    end_when (is_told (tuning_of header samples r.receiver) (samples ++ others))
 unfolding file_end_of
 end_behind r header samples others counted =
     ap (λ (xs : List Sample). end_when
-    (is_told (tuning_of header xs r.fingers) (samples ++ others)))
+    (is_told (tuning_of header xs r.receiver) (samples ++ others)))
     (take_at samples others r.span counted)
 
 -- ---- beginnings
@@ -98,14 +99,14 @@ begins_text : {taps : List KeptTap} {r : Reception} {rest old new : Option (List
     (λ bytes. StartsWith bytes (flat_map (sample_spelling (width_of header)) others)) →
     AppendsPrefix old new
     (pilot_text taps r samples ++ run_text (later_taps taps r samples)
-    (events_in (tuning_of header samples r.fingers) (samples ++ others))) →
+    (events_in (tuning_of header samples r.receiver) (samples ++ others))) →
     WritesNoMore taps r rest old new
 begins_text {taps} {r} {rest} mid header samples others counted consumed behind part =
     let spelled = flat_map (sample_spelling (width_of header)) in
     let front = header_spelling header in
     let text =
     pilot_text taps r samples ++ run_text (later_taps taps r samples)
-    (events_in (tuning_of header samples r.fingers) (samples ++ others)) in
+    (events_in (tuning_of header samples r.receiver) (samples ++ others)) in
     record {
       text = take part.count text;
       written = part.appended;
@@ -132,13 +133,13 @@ pub writes_pilot_part : {taps : List KeptTap} {r : Reception} {rest old new : Op
     Consumes rest mid
     (header_spelling header ++ flat_map (sample_spelling (width_of header)) samples) →
     IsBestIn samples 0 32768 phase energy →
-    AppendsPrefix old new (heard_text (taps_for r.fingers taps) (Pilot phase energy)) →
+    AppendsPrefix old new (heard_text (taps_for r.receiver taps) (Pilot phase energy)) →
     WritesNoMore taps r rest old new
 writes_pilot_part {taps} {r} {rest} {old} {new} mid header {samples} {phase} {energy} counted
     consumed best part =
     begins_text mid header samples [] counted consumed (no_bytes mid)
     (prefix_before old new (pilot_text taps r samples) _
-    (subst (λ (e : Event). AppendsPrefix old new (heard_text (taps_for r.fingers taps) e))
+    (subst (λ (e : Event). AppendsPrefix old new (heard_text (taps_for r.receiver taps) e))
     (pilot-best samples phase energy best) part))
 
 -- ---- the first samples, and those behind them
@@ -151,20 +152,20 @@ pub record HasBegun (taps : List KeptTap) (r : Reception) (header : Header) (sam
   pub consumed : Consumes rest mid
       (header_spelling header ++ flat_map (sample_spelling (width_of header)) samples)
   pub line : Appends old new (pilot_text taps r samples)
-  pub given : HasGiven (tuning_of header samples r.fingers) (later_taps taps r samples) handset kept
+  pub given : HasGiven (tuning_of header samples r.receiver) (later_taps taps r samples) handset kept
       [] []
 
 -- a handset that has heard nothing, and the taps that are kept behind the pilot
-new_given : (header : Header) (samples : List Sample) (fingers : Option ℕ)
+new_given : (header : Header) (samples : List Sample) (receiver : Option Receiver)
     (handset : Option Mobile) (taps kept : List KeptTap) (pilot : Event) →
-    HasHeard (tuning_of header samples fingers) handset [] [] →
-    IfSome fingers (λ count. kept ≡ taps_behind taps pilot) →
-    HasGiven (tuning_of header samples fingers) (taps_behind (taps_for fingers taps) pilot) handset
+    HasHeard (tuning_of header samples receiver) handset [] [] →
+    IfSome receiver (λ r. kept ≡ taps_behind taps pilot) →
+    HasGiven (tuning_of header samples receiver) (taps_behind (taps_for receiver taps) pilot) handset
     kept [] []
 unfolding run_taps
 new_given header samples None handset taps kept pilot heard behind =
     record { stands = heard; behind = tt }
-new_given header samples (Some fingers) handset taps kept pilot heard behind =
+new_given header samples (Some receiver) handset taps kept pilot heard behind =
     record { stands = heard; behind = behind }
 
 -- from what the search, the paths near its phase, and the new handset tell
@@ -176,13 +177,13 @@ pub has_begun : (taps : List KeptTap) (r : Reception) {header shown : Header}
     Consumes rest mid
     (header_spelling header ++ flat_map (sample_spelling (width_of header)) samples) →
     IsBestIn samples 0 32768 best.phase best.energy →
-    AreNearTo samples best.phase r.fingers near →
+    AreNearTo samples best.phase r.receiver near →
     shown ≡ header →
-    ((first : List Sample) (fingers : Option ℕ) → IsBestIn first 0 32768 best.phase best.energy →
-    AreNearTo first best.phase fingers near →
-    HasHeard (tuning_of shown first fingers) handset [] []) →
-    Appends old new (heard_text (taps_for r.fingers taps) (Pilot best.phase best.energy)) →
-    IfSome r.fingers (λ count. kept ≡ taps_behind taps (Pilot best.phase best.energy)) →
+    ((first : List Sample) → IsBestIn first 0 32768 best.phase best.energy →
+    AreNearTo first best.phase r.receiver near →
+    HasHeard (tuning_of shown first r.receiver) handset [] []) →
+    Appends old new (heard_text (taps_for r.receiver taps) (Pilot best.phase best.energy)) →
+    IfSome r.receiver (λ s. kept ≡ taps_behind taps (Pilot best.phase best.energy)) →
     HasBegun taps r header samples handset kept rest mid old new
 has_begun taps r {header} {shown} samples best near {handset} {kept} {rest} {mid} {old} {new}
     counted consumed found paths same given line behind =
@@ -190,12 +191,12 @@ has_begun taps r {header} {shown} samples best near {handset} {kept} {rest} {mid
     record {
       counted = counted;
       consumed = consumed;
-      line = subst (λ (e : Event). Appends old new (heard_text (taps_for r.fingers taps) e)) pilot
+      line = subst (λ (e : Event). Appends old new (heard_text (taps_for r.receiver taps) e)) pilot
           line;
-      given = new_given header samples r.fingers handset taps kept (best_pilot samples)
-          (subst (λ (h : Header). HasHeard (tuning_of h samples r.fingers) handset [] []) same
-          (given samples r.fingers found paths))
-          (subst (λ (e : Event). IfSome r.fingers (λ count. kept ≡ taps_behind taps e)) pilot
+      given = new_given header samples r.receiver handset taps kept (best_pilot samples)
+          (subst (λ (h : Header). HasHeard (tuning_of h samples r.receiver) handset [] []) same
+          (given samples found paths))
+          (subst (λ (e : Event). IfSome r.receiver (λ s. kept ≡ taps_behind taps e)) pilot
           behind);
     }
 
@@ -210,7 +211,7 @@ pub writes_first_part : {taps : List KeptTap} {r : Reception} {header : Header}
     WritesNoMore taps r rest old new
 writes_first_part {taps} {r} {header} {samples} {handset} {kept} {rest} {mid} {old} {between} {new}
     begun tells =
-    let t = tuning_of header samples r.fingers in
+    let t = tuning_of header samples r.receiver in
     let later = later_taps taps r samples in
     let part = tells t later [] [] begun.given in
     begins_text mid header samples [] begun.counted begun.consumed (no_bytes mid)
@@ -234,7 +235,7 @@ pub writes_rest_part : {taps : List KeptTap} {r : Reception} {header : Header}
     HearsPart t first (width_of header) heard mid later new) → WritesNoMore taps r rest old new
 writes_rest_part {taps} {r} {header} {samples} {one} {other} {kept} {behind} {rest} {mid} {old}
     {between} {later} {new} begun tells hears =
-    let t = tuning_of header samples r.fingers in
+    let t = tuning_of header samples r.receiver in
     let taps1 = later_taps taps r samples in
     let first = tells t taps1 [] [] begun.given in
     let part = hears t taps1 samples first.stands in
@@ -271,12 +272,12 @@ writes_text (Some bytes) None end lawful count range begun tells hears ends told
     absurd begun.consumed
 writes_text {taps} {r} {status} {header} {samples} (Some bytes) (Some more) None lawful count range
     begun tells hears ends told =
-    let t = tuning_of header samples r.fingers in
+    let t = tuning_of header samples r.receiver in
     let taps1 = later_taps taps r samples in
     absurd (hears t taps1 samples (tells t taps1 [] [] begun.given).stands).consumed
 writes_text {taps} {r} {status} {header} {samples} (Some bytes) (Some more) (Some back) {old}
     {between} {later} {new} lawful count range begun tells hears ends told =
-    let t = tuning_of header samples r.fingers in
+    let t = tuning_of header samples r.receiver in
     let taps1 = later_taps taps r samples in
     let first = tells t taps1 [] [] begun.given in
     let heard = hears t taps1 samples first.stands in

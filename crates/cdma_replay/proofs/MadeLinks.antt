@@ -2,7 +2,7 @@
 -- cell's path.
 use Rattle.std.proofs.Common.{◌≡◌, ℕ, ◌+◌, ◌-◌, ◌*◌, ◌%◌, ◌<◌, ◌≤◌, Bool, true, false, List, ◌++◌}
 use Rattle.std.proofs.Common.{get_or, take, All, refl, sym, ap, ◌∙◌, subst, arith, ℤ, ◌*ℤ◌}
-use Rattle.std.proofs.Common.{unsigned_abs, Some, Ok}
+use Rattle.std.proofs.Common.{unsigned_abs, Ok}
 use Rattle.std.specs.Prelude.{◌+ℤ◌, ◌-ℤ◌}
 use Rattle.std.specs.List.{flat_map}
 use Rattle.std.proofs.lemmas.Int.{ints}
@@ -28,7 +28,6 @@ use Rattle.base_modulator.proofs.Pieces.{no_sample}
 use Rattle.clean_link.specs.CleanLink.{IsCleanLink}
 use Rattle.base_modulator.specs.Sampled.{made_samples}
 use Rattle.cdma_replay.specs.Make.{made_file}
-use Rattle.cdma_replay.specs.declared.receiving.Reception.{Reception}
 use Rattle.clean_link.proofs.SignalSamples.{length-made, made_at}
 
 -- ---- the header
@@ -133,17 +132,16 @@ made_readable width script plan named =
     lawful_readable width plan (named_plan width script plan named).0
 
 -- and a clean link, where the search finds the cell's path and there is one finger
-pub made_clean : (width : Width) (script : List ℕ) (plan : CellPlan) (r : Reception) →
+pub made_clean : (width : Width) (script : List ℕ) (plan : CellPlan) (span : ℕ) →
     plan_named width script ≡ Ok plan →
-    best_phase (take r.span (made_samples plan)) ≡ phase_at plan plan.link.start →
-    r.fingers ≡ Some 1 →
-    IsCleanLink width script plan r.span r.fingers (header_of width plan) (made_samples plan)
-made_clean width script plan r named found alone =
+    best_phase (take span (made_samples plan)) ≡ phase_at plan plan.link.start →
+    IsCleanLink width script plan span 1 (header_of width plan) (made_samples plan)
+made_clean width script plan span named found =
     record {
       named = named;
       sent = refl;
       checks_of_30 = refl;
       checks_of_16 = refl;
       found = found;
-      alone = alone;
+      alone = refl;
     }

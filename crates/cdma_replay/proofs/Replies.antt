@@ -1,8 +1,8 @@
 -- Lemmas on what a run owes: what its answer says follows from the causes of each end, and no input
 -- is owed two replies.
-use Rattle.std.proofs.Common.{◌≡◌, ◌≢◌, ℕ, ◌≤◌, ◌++◌, ◌⊎◌, inl, inr, List, [], length, refl, sym}
+use Rattle.std.proofs.Common.{◌≡◌, ◌≢◌, ℕ, ◌⊎◌, inl, inr, List, [], refl, sym}
 use Rattle.std.proofs.Common.{ap}
-use Rattle.std.proofs.Common.{◌∙◌, subst, Option, None, Some, IfSome, IsOk, Result, Ok, Err}
+use Rattle.std.proofs.Common.{◌∙◌, subst, Option, None, Some, IfSome, Ok, Err}
 use Rattle.std.specs.Io.{StartsWith}
 use Rattle.std.specs.Io.KnownBytes.{Appends}
 use Rattle.chip_core.specs.declared.sample.Sample.{Sample}
@@ -10,7 +10,6 @@ use Rattle.cdma_io.specs.declared.file_fault.FileFault.{FileFault}
 use Rattle.cdma_io.specs.declared.file_fault.FileFault.TheVariants.{ReadFault}
 use Rattle.cdma_io.specs.declared.header.Header.{Header}
 use Rattle.cdma_io.specs.declared.width.Width.{Width}
-use Rattle.cdma_io.specs.SampleFile.{IsSampleFile}
 use Rattle.cdma_io.proofs.Uniqueness.{file_unique}
 use Rattle.base_modulator.specs.declared.plan.CellPlan.{CellPlan}
 use Rattle.base_modulator.specs.declared.script_fault.ScriptFault.{ScriptFault}
@@ -331,8 +330,8 @@ pub one_reply : (forms : List ℕ) (job : Job) (bytes : List ℕ) (one other : R
     IsReply forms job bytes one → IsReply forms job bytes other → one ≡ other
 one_reply forms (Find span workers) bytes one other a b =
     one_file_reply [] (finding span workers) bytes one other a b
-one_reply forms (Follow span workers fingers limits) bytes one other a b =
-    one_file_reply (kept_by limits forms) (following span workers fingers) bytes one other a b
+one_reply forms (Follow span workers fingers paging limits) bytes one other a b =
+    one_file_reply (kept_by limits forms) (following span workers fingers paging) bytes one other a b
 one_reply forms (Make width) bytes one other a b = one_script_reply width bytes one other a b
 
 -- ---- just that reply
@@ -359,7 +358,7 @@ owed_answer forms job status bytes held reply rest old new answered is was owed 
 
 named_well : (job : Job) → ¬ (IsEndOf job Status.BadWords)
 named_well (Find span workers) end = end
-named_well (Follow span workers fingers limits) end = end
+named_well (Follow span workers fingers paging limits) end = end
 named_well (Make width) end = end
 
 -- where nothing failed

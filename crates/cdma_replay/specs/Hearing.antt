@@ -24,8 +24,11 @@ use Rattle.mobile_core.specs.Tuning.{Tuning}
 use Rattle.mobile_core.specs.declared.event.Event.{Event}
 use Rattle.mobile_core.specs.declared.event.Event.TheVariants.{Pilot}
 use Rattle.mobile_core.specs.declared.mobile.Mobile.{Mobile}
-use Rattle.event_tap.specs.Taps.{KeptTap, kept_with, run_taps, run_text, taps_behind}
-use Rattle.clean_link.specs.CleanLink.{sent_events}
+use Rattle.cdma_words.specs.Words.{IsFingers, IsPaging}
+use Rattle.event_tap.specs.Taps.{KeptTap, kept_with, run_taps, run_text}
+use Rattle.clean_link.specs.CleanLink.{sync_sent}
+use Rattle.clean_link.specs.SentEvents.{sent_events}
+use Rattle.cdma_replay.specs.declared.receiving.Receiver.{Receiver}
 use Rattle.cdma_replay.specs.declared.receiving.Reception.{Reception}
 use Rattle.cdma_replay.specs.declared.status.Status.{Status}
 use Rattle.cdma_replay.specs.declared.status.Status.TheVariants.{Done, NoSync}
@@ -37,25 +40,25 @@ unfoldable pub best_pilot : List Sample → Event
 best_pilot samples = Pilot (best_phase samples) (energy samples (best_phase samples))
 
 -- the taps of a run: those that it was given, and where no handset hears, one for the pilot alone
-abbrev pub taps_for : Option ℕ → List KeptTap → List KeptTap
+abbrev pub taps_for : Option Receiver → List KeptTap → List KeptTap
 taps_for None taps = kept_with 0 1
-taps_for (Some fingers) taps = taps
+taps_for (Some receiver) taps = taps
 
--- a handset that follows a file of this header over so many fingers, where the pilot was searched
--- in its first samples
-abbrev pub tuning_for : Header → List Sample → ℕ → Tuning
-tuning_for header first fingers =
+-- a handset that follows a file of this header, where the pilot was searched in its first samples
+abbrev pub tuning_for : Header → List Sample → Receiver → Tuning
+tuning_for header first receiver =
     record {
       count = header.count;
       phase = best_phase first;
-      deltas = near_deltas first (best_phase first) fingers;
+      deltas = near_deltas first (best_phase first) receiver.fingers;
       check30 = header.check30;
+      paging = receiver.paging;
     }
 
--- there is none without fingers
-abbrev pub tuning_of : Header → List Sample → Option ℕ → Option Tuning
+-- there is none without a receiver
+abbrev pub tuning_of : Header → List Sample → Option Receiver → Option Tuning
 tuning_of header first None = None
-tuning_of header first (Some fingers) = Some (tuning_for header first fingers)
+tuning_of header first (Some receiver) = Some (tuning_for header first receiver)
 
 -- the events that a handset hears in samples
 unfoldable pub events_in : Option Tuning → List Sample → List Event
@@ -67,11 +70,11 @@ events_in (Some t) samples = events t samples
 unfoldable pub file_events : Reception → Header → List Sample → List Event
 file_events r header samples =
     best_pilot (take r.span samples)
-    ∷ events_in (tuning_of header (take r.span samples) r.fingers) samples
+    ∷ events_in (tuning_of header (take r.span samples) r.receiver) samples
 
 -- the text of them, by these taps
 unfoldable pub file_text : List KeptTap → Reception → Header → List Sample → List ℕ
-file_text taps r header samples = run_text (taps_for r.fingers taps) (file_events r header samples)
+file_text taps r header samples = run_text (taps_for r.receiver taps) (file_events r header samples)
 
 -- a handset ends well where a message told it the time
 abbrev pub is_told : Option Tuning → List Sample → Bool
@@ -84,28 +87,34 @@ end_when told = if told then Done else NoSync
 -- how a run over a good file ends
 unfoldable pub file_end_of : Reception → Header → List Sample → Status
 file_end_of r header samples =
-    end_when (is_told (tuning_of header (take r.span samples) r.fingers) samples)
+    end_when (is_told (tuning_of header (take r.span samples) r.receiver) samples)
 
--- what is told of a clean link: the pilot at the cell's phase, and all whole sendings
-unfoldable pub clean_events : ℕ → CellPlan → List Event
-clean_events span plan =
+-- what is told of a clean link: the pilot at the cell's phase, all whole sendings, and the whole
+-- pages of the paging channel that is followed
+unfoldable pub clean_events : ℕ → CellPlan → ℕ → List Event
+clean_events span plan paging =
     let phase = phase_at plan plan.link.start in
-    Pilot phase (energy (take span (made_samples plan)) phase) ∷ sent_events plan
+    Pilot phase (energy (take span (made_samples plan)) phase) ∷ sent_events plan paging
 
 -- how a run over a clean link ends: each whole sending tells the time
 abbrev pub clean_end : CellPlan → Status
-clean_end plan = end_when (nat_lt 0 (length (sent_events plan)))
+clean_end plan = end_when (nat_lt 0 (length (sync_sent plan)))
 
 -- ---- what the search hands on
 
--- the paths near the best phase of samples, as many as there are fingers
-abbrev pub AreNearTo : List Sample → ℕ → Option ℕ → Option Near → Type 0
+-- the paths near the best phase of samples, as many as the receiver has fingers
+abbrev pub AreNearTo : List Sample → ℕ → Option Receiver → Option Near → Type 0
 AreNearTo samples phase None None = Unit {0}
 AreNearTo samples phase None (Some near) = ⊥
-AreNearTo samples phase (Some fingers) None = ⊥
-AreNearTo samples phase (Some fingers) (Some near) =
-    (near.count ≡ fingers) ×
-    (near.deltas ≡ near_deltas samples phase fingers ++ replicate (3 - fingers) (pos 0))
+AreNearTo samples phase (Some receiver) None = ⊥
+AreNearTo samples phase (Some receiver) (Some near) =
+    (near.count ≡ receiver.fingers) ×
+    (near.deltas ≡
+    near_deltas samples phase receiver.fingers ++ replicate (3 - receiver.fingers) (pos 0))
+
+-- one to three fingers, and one of the seven channels
+abbrev pub IsLawfulReceiver : Receiver → Type 0
+IsLawfulReceiver receiver = IsFingers receiver.fingers × IsPaging receiver.paging
 
 -- from one to three of them, the best phase first
 abbrev pub AreReady : Option Near → Type 0

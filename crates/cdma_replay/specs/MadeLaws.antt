@@ -1,5 +1,5 @@
 -- What `make` writes is a clean link.
-use Rattle.std.specs.Prelude.{ℕ, ◌≡◌, List, take, Some, Ok}
+use Rattle.std.specs.Prelude.{ℕ, ◌≡◌, List, take, Ok}
 use Rattle.cdma_io.specs.SampleFile.{IsSampleFile}
 use Rattle.cdma_io.specs.declared.width.Width.{Width}
 use Rattle.pilot_search.specs.Search.{best_phase}
@@ -9,7 +9,6 @@ use Rattle.base_modulator.specs.Transmitter.{header_of, phase_at}
 use Rattle.base_modulator.specs.declared.plan.CellPlan.{CellPlan}
 use Rattle.clean_link.specs.CleanLink.{IsCleanLink}
 use Rattle.cdma_replay.specs.Make.{made_file}
-use Rattle.cdma_replay.specs.declared.receiving.Reception.{Reception}
 
 -- what `make` writes of a script is a sample file of the cell's samples
 abbrev pub IsReadableWhenMade : Type 0
@@ -20,8 +19,7 @@ IsReadableWhenMade =
 -- and a clean link, where the search finds the cell's path and there is one finger
 abbrev pub IsCleanWhenMade : Type 0
 IsCleanWhenMade =
-    (width : Width) (script : List ℕ) (plan : CellPlan) (r : Reception) →
+    (width : Width) (script : List ℕ) (plan : CellPlan) (span : ℕ) →
     plan_named width script ≡ Ok plan →
-    best_phase (take r.span (made_samples plan)) ≡ phase_at plan plan.link.start →
-    r.fingers ≡ Some 1 →
-    IsCleanLink width script plan r.span r.fingers (header_of width plan) (made_samples plan)
+    best_phase (take span (made_samples plan)) ≡ phase_at plan plan.link.start →
+    IsCleanLink width script plan span 1 (header_of width plan) (made_samples plan)

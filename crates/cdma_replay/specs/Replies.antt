@@ -1,8 +1,7 @@
 -- What a run owes: for each command and the bytes of its input, the text that is written of it and
 -- how the run ends, or the fault that it has.
-use Rattle.std.specs.Prelude.{◌≡◌, ◌≢◌, ℕ, ◌≤◌, ◌++◌, ◌⊎◌, List, [], length, Option, IfSome, IsOk}
+use Rattle.std.specs.Prelude.{◌≡◌, ◌≢◌, ℕ, ◌≤◌, ◌++◌, ◌⊎◌, List, [], length, Option, IsOk}
 use Rattle.std.specs.Prelude.{None, Some, Result, Ok, Err}
-use Rattle.std.specs.Io.{StartsWith}
 use Rattle.std.specs.Io.KnownBytes.{Appends}
 use Rattle.chip_core.specs.declared.sample.Sample.{Sample}
 use Rattle.cdma_io.specs.declared.file_fault.FileFault.{FileFault}
@@ -72,30 +71,34 @@ IsScriptReply width bytes (Err end) = IsFaultyScript width bytes end
 
 -- how `find` and `follow` receive
 abbrev pub finding : ℕ → ℕ → Reception
-finding span workers = record { span = span; workers = workers; fingers = None }
+finding span workers = record { span = span; workers = workers; receiver = None }
 
-abbrev pub following : ℕ → ℕ → ℕ → Reception
-following span workers fingers = record { span = span; workers = workers; fingers = Some fingers }
+abbrev pub following : ℕ → ℕ → ℕ → ℕ → Reception
+following span workers fingers paging = record {
+  span = span;
+  workers = workers;
+  receiver = Some (record { fingers = fingers; paging = paging });
+}
 
 -- what a run over these bytes owes, with taps of these forms; `find` and `make` use none of them
 abbrev pub IsReply : List ℕ → Job → List ℕ → Reply → Type 0
 IsReply forms (Find span workers) = IsFileReply [] (finding span workers)
-IsReply forms (Follow span workers fingers limits) =
-    IsFileReply (kept_by limits forms) (following span workers fingers)
+IsReply forms (Follow span workers fingers paging limits) =
+    IsFileReply (kept_by limits forms) (following span workers fingers paging)
 IsReply forms (Make width) = IsScriptReply width
 
 -- what memory may run out behind, or a write fail behind: a good beginning of the input
 abbrev pub IsPromising : Job → List ℕ → Type 0
 IsPromising (Find span workers) = BeginsFile span
-IsPromising (Follow span workers fingers limits) = BeginsFile span
+IsPromising (Follow span workers fingers paging limits) = BeginsFile span
 IsPromising (Make width) = λ bytes. IsOk (plan_named width bytes)
 
 -- what may have been written, whatever the answer: a beginning of the text of what the input begins
 -- with
 abbrev pub Begins : List ℕ → Job → Option (List ℕ) → List ℕ → Type 0
 Begins forms (Find span workers) = BeginsText [] (finding span workers)
-Begins forms (Follow span workers fingers limits) =
-    BeginsText (kept_by limits forms) (following span workers fingers)
+Begins forms (Follow span workers fingers paging limits) =
+    BeginsText (kept_by limits forms) (following span workers fingers paging)
 Begins forms (Make width) = BeginsMadeFile width
 
 -- ---- ends
@@ -123,7 +126,7 @@ IsScriptEnd status = Unit {0}
 -- the ends of a command
 abbrev pub IsEndOf : Job → Status → Type 0
 IsEndOf (Find span workers) = IsSearchEnd
-IsEndOf (Follow span workers fingers limits) = IsFileEnd
+IsEndOf (Follow span workers fingers paging limits) = IsFileEnd
 IsEndOf (Make width) = IsScriptEnd
 
 -- an end that tells of the input: of all of it, or of its fault

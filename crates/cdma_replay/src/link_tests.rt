@@ -42,7 +42,8 @@ const ENDLESS_CELL: &str = "cell pn=511 time=1000 lc=20000000000 checks=0\n\
                             pilot gain=100\n";
 
 /// The sync channel of the first.
-const SYNC: &str = "sync gain=30 prev=3 min=1 sid=1 nid=2 lp=13 ltm=0 daylt=0 prat=0 rest=3:00\n";
+pub const SYNC: &str =
+    "sync gain=30 prev=3 min=1 sid=1 nid=2 lp=13 ltm=0 daylt=0 prat=0 rest=3:00\n";
 
 /// A cell of one sample.
 const SHORT_CELL: &str = "cell pn=0 time=1000 lc=20000000000 checks=0\n\

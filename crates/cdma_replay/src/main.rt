@@ -13,6 +13,8 @@ pub mod laws;
 #[cfg(test)]
 mod link_tests;
 mod making;
+#[cfg(test)]
+mod paging_tests;
 mod receiving;
 mod replaying;
 mod status;

@@ -17,9 +17,10 @@ ghost use Rattle.mobile_core.specs.Standing.{StandsFor, has_room};
 ghost use Rattle.mobile_core.specs.declared.event.Event.{Event as TheEvent};
 ghost use Rattle.mobile_core.specs.declared.event.Event.TheVariants.{Pilot as ThePilot};
 ghost use Rattle.event_tap.specs.Taps.{IsKept, KeptTap, heard_text, run_taps, taps_behind};
-ghost use Rattle.cdma_words.specs.Words.{IsFingers, IsWorkers};
+ghost use Rattle.cdma_words.specs.Words.{IsWorkers};
 ghost use Rattle.cdma_replay.specs.Hearing.{AreNearTo, AreReady, HasGiven, HasHeard, HasRoom};
-ghost use Rattle.cdma_replay.specs.Hearing.{HasRoomFor, HearsPart, HearsRest, Tells, TellsPart};
+ghost use Rattle.cdma_replay.specs.Hearing.{HasRoomFor, HearsPart, HearsRest, IsLawfulReceiver};
+ghost use Rattle.cdma_replay.specs.Hearing.{Tells, TellsPart};
 ghost use Rattle.cdma_replay.specs.Hearing.{end_when, events_in, is_told, taps_for, tuning_of};
 ghost use Rattle.cdma_replay.specs.Find.{BeginsFile, IsEnd, IsFault, IsFaultIn, IsOfFiles};
 ghost use Rattle.cdma_replay.specs.Find.{IsHeaderFault, IsRestFault, IsSearchable, WritesNoMore};
@@ -38,6 +39,15 @@ use std::thread::Threads;
 /// How many samples are read at once behind the first ones, at most.
 const PIECE: usize = 4096;
 
+/// How a handset receives a file.
+#[derive(Clone, Copy, PartialEq, Eq, Debug)]
+pub struct Receiver {
+    /// Over how many fingers it follows the signal, 1 to 3.
+    pub fingers: u8,
+    /// The number of the paging channel that it follows, 1 to 7.
+    pub paging: u8,
+}
+
 /// How a sample file is received.
 #[derive(Clone, Copy, PartialEq, Eq, Debug)]
 pub struct Reception {
@@ -45,9 +55,8 @@ pub struct Reception {
     pub span: u16,
     /// How many workers search, 1 to 64. What is found doesn't depend on it.
     pub workers: u8,
-    /// Over how many fingers a handset follows the signal, 1 to 3; `None` where only the pilot is
-    /// wanted.
-    pub fingers: Option<u8>,
+    /// How a handset receives it; `None` where only the pilot is wanted.
+    pub receiver: Option<Receiver>,
 }
 
 /// The buffers of a run.
@@ -99,38 +108,41 @@ fn open_span<S: Source>(source: &mut S, span: &mut [Sample]) -> Result<SampleRea
     Ok(reader)
 }
 
-/// The paths near the best phase of samples, where there are fingers.
-fn near_for(codes: &Codes, first: &[Sample], best: Best, fingers: Option<u8>) -> Option<Near>
+/// The paths near the best phase of samples, where there is a receiver.
+fn near_for(codes: &Codes, first: &[Sample], best: Best, receiver: Option<Receiver>) -> Option<Near>
     requires few { length first.now ≤ 32768 }
     requires best { IsBestIn first.now 0 32768 best.phase best.energy }
-    requires fingers { IfSome fingers IsFingers }
-    ensures near { AreNearTo first.now best.phase fingers result }
+    requires receiver { IfSome receiver IsLawfulReceiver }
+    ensures near { AreNearTo first.now best.phase receiver result }
     ensures ready { AreReady result }
 {
-    let fingers = fingers?;
-    Some(near(first, codes, best, fingers))
+    let receiver = receiver?;
+    Some(near(first, codes, best, receiver.fingers))
 }
 
-/// A handset for a file of this header, where there are fingers. It has a table of the codes of its
-/// own.
+/// A handset for a file of this header, where there is a receiver, with paths near its phase. It has
+/// a table of the codes of its own.
 fn handset_for(
     alloc: Global,
     header: Header,
+    receiver: Option<Receiver>,
     best: Best,
     near: Option<Near>,
 ) -> Result<Option<Mobile>, OutOfMemory>
     requires header { IsLawfulHeader header }
+    requires receiver { IfSome receiver IsLawfulReceiver }
     requires near { AreReady near }
-    ensures given { (first : List Sample) (fingers : Option ℕ) →
-        IsBestIn first 0 32768 best.phase best.energy → AreNearTo first best.phase fingers near →
-        IfOk result (λ handset. HasHeard (tuning_of header first fingers) handset [] []) }
+    ensures given { (first : List Sample) →
+        IsBestIn first 0 32768 best.phase best.energy → AreNearTo first best.phase receiver near →
+        IfOk result (λ handset. HasHeard (tuning_of header first receiver) handset [] []) }
     ensures room { IfOk result (λ handset. HasRoom handset header.count) }
 {
-    let Some(near) = near else {
+    let (Some(receiver), Some(near)) = (receiver, near) else {
         return Ok(None);
     };
     let settings = Settings {
         fingers: near.count,
+        paging: receiver.paging,
         check30: header.check30,
         check16: header.check16,
         count: header.count,
@@ -140,23 +152,23 @@ fn handset_for(
     Ok(Some(mobile))
 }
 
-/// Tells of the pilot: where there are fingers the taps hear it, and else its line is written.
+/// Tells of the pilot: where there is a receiver the taps hear it, and else its line is written.
 fn tell_pilot<T: KeepsTaps, K: Sink>(
     best: &Best,
-    fingers: Option<u8>,
+    receiver: Option<Receiver>,
     taps: &mut T,
     sink: &mut K,
 ) -> Result<(), Failed>
     requires { All IsKept (T.kept taps.old) }
     ensures ok { OnOk result (Appends (K.written sink.old) (K.written sink.new)
-        (heard_text (taps_for fingers (T.kept taps.old))
+        (heard_text (taps_for receiver (T.kept taps.old))
         (ThePilot best.now.phase best.now.energy))) }
-    ensures behind { OnOk result (IfSome fingers (λ count. T.kept taps.new ≡
+    ensures behind { OnOk result (IfSome receiver (λ r. T.kept taps.new ≡
         taps_behind (T.kept taps.old)
         (ThePilot best.now.phase best.now.energy))) }
     ensures kept { All IsKept (T.kept taps.new) }
     ensures err { OnErr result (AppendsPrefix (K.written sink.old) (K.written sink.new)
-        (heard_text (taps_for fingers (T.kept taps.old))
+        (heard_text (taps_for receiver (T.kept taps.old))
         (ThePilot best.now.phase best.now.energy))) }
     ensures cause { HasCause (K.faults sink.old) (K.faults sink.new) result }
 {
@@ -164,7 +176,7 @@ fn tell_pilot<T: KeepsTaps, K: Sink>(
         phase: best.phase,
         energy: best.energy,
     };
-    match fingers {
+    match receiver {
         Some(_) => taps.tell(&pilot, sink),
         None => write_event(&pilot, sink),
     }
@@ -308,7 +320,7 @@ fn end_when(told: bool) -> Result<(), Status>
 }
 
 /// Reads the file's first samples into `span`, searches the pilot in them and tells of it, and
-/// then reads on to the end of the file by way of `piece`; where there are fingers, a handset hears
+/// then reads on to the end of the file by way of `piece`; where there is a receiver, a handset hears
 /// all samples.
 fn receive_file<R: Threads + Sync, S: Source, K: Sink, T: KeepsTaps, G: Gate + Sync>(
     rt: &R,
@@ -324,7 +336,7 @@ fn receive_file<R: Threads + Sync, S: Source, K: Sink, T: KeepsTaps, G: Gate + S
 ) -> Result<(), Status>
     requires span { (length span.old ≡ reception.span) × (reception.span ≤ 32768) }
     requires workers { IsWorkers reception.workers }
-    requires fingers { IfSome reception.fingers IsFingers }
+    requires receiver { IfSome reception.receiver IsLawfulReceiver }
     requires piece { 0 < length piece.old }
     requires kept { All IsKept (T.kept taps) }
     ensures done { IsEnd (ended result) → IfSome (S.rest source.old) (λ bytes.
@@ -335,7 +347,7 @@ fn receive_file<R: Threads + Sync, S: Source, K: Sink, T: KeepsTaps, G: Gate + S
     ensures memory { ended result ≡ Status.NoMemory → sink.new ≡ sink.old }
     ensures early { ended result ≡ Status.NoMemory →
         IfSome (S.rest source.old) (BeginsFile reception.span) }
-    ensures alone { reception.fingers ≡ None → ended result ≢ Status.NoSync }
+    ensures alone { reception.receiver ≡ None → ended result ≢ Status.NoSync }
     ensures bad_file { (fault : FileFault) → ended result ≡ Status.BadFile fault →
         (fault ≢ FileFault.ReadFault) ×
         IfSome (S.rest source.old) (λ bytes. ¬ (IsSearchable bytes reception.span)) }
@@ -359,10 +371,10 @@ fn receive_file<R: Threads + Sync, S: Source, K: Sink, T: KeepsTaps, G: Gate + S
 {
     let mut reader = open_span(source, span)?;
     let best = search(rt, alloc, span, codes, reception.workers, gate)?;
-    let near = near_for(codes, span, best, reception.fingers);
-    let mut handset = handset_for(alloc, reader.header(), best, near)?;
+    let near = near_for(codes, span, best, reception.receiver);
+    let mut handset = handset_for(alloc, reader.header(), reception.receiver, best, near)?;
     let mut taps = taps;
-    match tell_pilot(&best, reception.fingers, &mut taps, sink) {
+    match tell_pilot(&best, reception.receiver, &mut taps, sink) {
         Ok(()) => {}
         Err(Failed) => return Err(Status::WriteFault),
     }
@@ -375,7 +387,7 @@ fn receive_file<R: Threads + Sync, S: Source, K: Sink, T: KeepsTaps, G: Gate + S
 }
 
 /// Searches the pilot in the file's first samples and tells of it, and then reads on to the end
-/// of the file; where there are fingers, a handset hears all samples, and the taps hear the pilot
+/// of the file; where there is a receiver, a handset hears all samples, and the taps hear the pilot
 /// and each event.
 ///
 /// All memory is taken before the first line is written.
@@ -390,7 +402,7 @@ pub fn receive<R: Threads + Sync, S: Source, K: Sink, T: KeepsTaps, G: Gate + Sy
 ) -> Result<(), Status>
     requires span { reception.span ≤ 32768 }
     requires workers { IsWorkers reception.workers }
-    requires fingers { IfSome reception.fingers IsFingers }
+    requires receiver { IfSome reception.receiver IsLawfulReceiver }
     requires kept { All IsKept (T.kept taps) }
     ensures done { IsEnd (ended result) → IfSome (S.rest source.old) (λ bytes.
         WritesText (T.kept taps) reception (ended result) bytes
@@ -400,7 +412,7 @@ pub fn receive<R: Threads + Sync, S: Source, K: Sink, T: KeepsTaps, G: Gate + Sy
     ensures memory { ended result ≡ Status.NoMemory → sink.new ≡ sink.old }
     ensures early { ended result ≡ Status.NoMemory → (source.new ≡ source.old) ⊎
         IfSome (S.rest source.old) (BeginsFile reception.span) }
-    ensures alone { reception.fingers ≡ None → ended result ≢ Status.NoSync }
+    ensures alone { reception.receiver ≡ None → ended result ≢ Status.NoSync }
     ensures bad_file { (fault : FileFault) → ended result ≡ Status.BadFile fault →
         (fault ≢ FileFault.ReadFault) ×
         IfSome (S.rest source.old) (λ bytes. ¬ (IsSearchable bytes reception.span)) }

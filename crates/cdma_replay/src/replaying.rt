@@ -22,7 +22,7 @@ ghost use Rattle.cdma_replay.specs.Replies.{IsEndOf, IsPromising, IsReply, IsVer
 ghost use Rattle.cdma_replay.specs.Replies.{WritesPart};
 
 use crate::making::make;
-use crate::receiving::{Reception, receive};
+use crate::receiving::{Receiver, Reception, receive};
 use crate::status::Status;
 use cdma_io::{Sink, Source};
 use cdma_words::{Job, WordFault, words_of};
@@ -78,7 +78,7 @@ fn run_job<R: Threads + Sync, S: Source, K: Sink, G: Gate + Sync>(
             let reception = Reception {
                 span,
                 workers,
-                fingers: None,
+                receiver: None,
             };
             let taps = Taps::new(Vec::new(alloc), [0; 4]);
             status_of(receive(rt, alloc, reception, source, sink, taps, gate))
@@ -87,12 +87,13 @@ fn run_job<R: Threads + Sync, S: Source, K: Sink, G: Gate + Sync>(
             span,
             workers,
             fingers,
+            paging,
             limits,
         } => {
             let reception = Reception {
                 span,
                 workers,
-                fingers: Some(fingers),
+                receiver: Some(Receiver { fingers, paging }),
             };
             let taps = Taps::new(taps, limits);
             status_of(receive(rt, alloc, reception, source, sink, taps, gate))
@@ -137,19 +138,21 @@ pub fn replay<R: Threads + Sync, S: Source, K: Sink, G: Gate + Sync>(
         ¬ (Rose (S.faults source.old) (S.faults source.new)) →
         ¬ (Rose (K.faults sink.old) (K.faults sink.new)) →
         (result ≡ Status.NoMemory) ⊎ AnswersBehind held reply result (K.written sink.new) }
-    // On a clean link that is the text of the pilot at the cell's phase, and of the sendings that
-    // lie in the file whole, each with its message, in order.
+    // On a clean link that is the text of the pilot at the cell's phase, and of the sendings and the
+    // followed paging channel's pages that lie in the file whole, each with its message, in the
+    // order in which they are known.
     ensures clean { (width : Width) (script bytes held : List ℕ) (plan : CellPlan)
-        (span workers fingers : ℕ) (limits : List ℕ) (header : Header) (samples : List Sample) →
-        job_named words.now ≡ Some (Follow span workers fingers limits) →
+        (span workers fingers paging : ℕ) (limits : List ℕ) (header : Header)
+        (samples : List Sample) →
+        job_named words.now ≡ Some (Follow span workers fingers paging limits) →
         S.rest source.old ≡ Some bytes → K.written sink.old ≡ Some held →
         IsSampleFile bytes header samples → span ≤ length samples →
-        IsCleanLink width script plan span (Some fingers) header samples →
+        IsCleanLink width script plan span fingers header samples →
         ¬ (Rose (S.faults source.old) (S.faults source.new)) →
         ¬ (Rose (K.faults sink.old) (K.faults sink.new)) →
         (result ≡ Status.NoMemory) ⊎ ((result ≡ clean_end plan) ×
         (K.written sink.new ≡ Some (held ++
-        run_text (kept_by limits (map (λ b. shape b) taps.items)) (clean_events span plan)))) }
+        run_text (kept_by limits (map (λ b. shape b) taps.items)) (clean_events span plan paging)))) }
 
     // Whatever failed: each end comes of a command that has it, and where it tells of the input,
     // only where the input owes it.

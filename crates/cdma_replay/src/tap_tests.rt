@@ -10,11 +10,8 @@ use std::test::Fail;
 /// The line of the pilot in the long run's file.
 const PILOT: &str = "pilot phase=64 energy=1509949440000\n";
 
-/// The sync channel of the long run, and a paging channel beside it, which changes no line.
-const CHANNELS: &str =
-    "sync gain=30 prev=3 min=1 sid=1 nid=2 lp=13 ltm=0 daylt=0 prat=0 rest=3:00\n\
-     paging channel=1 gain=60\n\
-     page half 34:04ff8046c0\n";
+/// The sync channel of the long run.
+const SYNC: &str = "sync gain=30 prev=3 min=1 sid=1 nid=2 lp=13 ltm=0 daylt=0 prat=0 rest=3:00\n";
 
 /// How far the first line goes of the first sync message as it came.
 const RAW: &[u8] = b"raw at=294848 sync 200:1901030100020005ff";
@@ -22,7 +19,7 @@ const RAW: &[u8] = b"raw at=294848 sync 200:1901030100020005ff";
 #[test]
 fn limits_end_what_is_told(rt: HostRuntime) -> Result<(), Fail> {
     let alloc = rt.alloc();
-    let file = made(&rt, CELL, CHANNELS)?;
+    let file = made(&rt, CELL, SYNC)?;
     let (status, text) = run(
         &rt,
         "follow --pilots 0 --messages 0 --raw 1",
@@ -58,7 +55,7 @@ fn limits_end_what_is_told(rt: HostRuntime) -> Result<(), Fail> {
 #[test]
 fn each_tap_handed_in_tells(rt: HostRuntime) -> Result<(), Fail> {
     let alloc = rt.alloc();
-    let file = made(&rt, CELL, CHANNELS)?;
+    let file = made(&rt, CELL, SYNC)?;
     let mut taps: Vec<Box<dyn Tap>> = Vec::new(alloc);
     taps.push(Box::new(alloc, MessageTap::new())?)?;
     taps.push(Box::new(alloc, MessageTap::new())?)?;

@@ -235,6 +235,8 @@ fn refuses_other_words(rt: HostRuntime) -> Result<(), Fail> {
         "find --span --",
         "--span 64 find",
         "find --fingers 1",
+        "find --paging 1",
+        "follow --paging 8",
         "follow --bits=8",
         "make --workers 4",
     ] {

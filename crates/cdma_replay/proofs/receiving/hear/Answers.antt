@@ -1,11 +1,6 @@
-use Rattle.std.proofs.Common.{◌≡◌, ◌++◌, List, Option, Some, subst, sym}
-use Rattle.chip_core.specs.declared.sample.Sample.{Sample}
-use Rattle.event_tap.specs.Taps.{KeptTap, run_taps}
-use Rattle.mobile_core.specs.declared.event.Event.{Event}
+use Rattle.std.proofs.Common.{◌++◌, Option, subst, sym}
 use Rattle.mobile_core.specs.declared.mobile.Mobile.{Mobile}
-use Rattle.mobile_core.specs.Standing.{StandsFor}
-use Rattle.mobile_core.specs.Tuning.{Tuning}
-use Rattle.cdma_replay.specs.Hearing.{HasGiven, Tells, TellsPart}
+use Rattle.cdma_replay.specs.Hearing.{HasGiven, Tells}
 use Rattle.cdma_replay.proofs.Hearings.{hears_cut, hears_none, hears_some, on_err, on_ok, room_some}
 use Rattle.cdma_replay.proofs.receiving.hear.Goals as goal
 

@@ -129,7 +129,7 @@ pub returns-clause-alone : goal.returns-clause-alone
 returns-clause-alone g c none unheard =
     let span = c.open_span.new.span in
     let t : Option Tuning =
-    tuning_of c.in_ok-reader.reader.header span c.args.reception.fingers in
+    tuning_of c.in_ok-reader.reader.header span c.args.reception.receiver in
     let begun =
     has_begun _ c.args.reception span c.in_ok-best.best _ (search rules)
     c.in_ok-reader.ensures.file c.in_ok-best.ensures c.near_for-near.ensures.near

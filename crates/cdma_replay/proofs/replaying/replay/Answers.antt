@@ -1,3 +1,5 @@
+use Rattle.std.proofs.Common.{subst}
+use Rattle.cdma_words.specs.Words.{IsLawfulJob}
 use Rattle.cdma_words.specs.declared.job.Job.TheVariants.{Follow}
 use Rattle.cdma_replay.proofs.CleanTexts.{clean_answer}
 use Rattle.cdma_replay.proofs.Replies.{exact_answer, owed_at, same_job}
@@ -12,9 +14,12 @@ returns-in-Ok-clause-exact g c job bytes held reply named is was owed reads writ
     (owed_at _ c.in-Ok.job job bytes reply same owed) reads writes
 
 pub returns-in-Ok-clause-clean : goal.returns-in-Ok-clause-clean
-returns-in-Ok-clause-clean g c width script bytes held plan span workers fingers limits header
-    samples named is was file enough clean reads writes =
-    clean_answer _ width script bytes held plan span workers fingers header samples
-    c.run_job.result _ file enough clean
-    (λ reply owed. returns-in-Ok-clause-exact g c (Follow span workers fingers limits) bytes held
-    reply named is was owed reads writes)
+returns-in-Ok-clause-clean g c width script bytes held plan span workers fingers paging limits
+    header samples named is was file enough clean reads writes =
+    let job = Follow span workers fingers paging limits in
+    let same = same_job _ c.in-Ok.job job c.in-Ok.ensures.job named in
+    let lawful = subst IsLawfulJob same c.in-Ok.ensures.lawful in
+    clean_answer _ width script bytes held plan span workers fingers paging header samples
+    c.run_job.result _ file enough lawful.3 clean
+    (λ reply owed. returns-in-Ok-clause-exact g c job bytes held reply named is was owed reads
+    writes)

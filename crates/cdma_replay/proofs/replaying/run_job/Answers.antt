@@ -1,6 +1,5 @@
-use Rattle.std.proofs.Common.{◌≡◌}
 use Rattle.cdma_replay.specs.Find.{ended}
-use Rattle.cdma_replay.specs.Replies.{finding, following}
+use Rattle.cdma_replay.specs.Replies.{following}
 use Rattle.cdma_replay.proofs.Replies.{file_part, file_verdict_by, find_part, find_verdict}
 use Rattle.cdma_replay.proofs.Replies.{script_early, script_end, script_part, script_verdict}
 use Rattle.cdma_replay.proofs.replaying.run_job.Goals as goal
@@ -24,7 +23,7 @@ returns-in-Follow-clause-verdict g c =
     let ends = c.receive-in-Follow.ensures in
     rw (c.in-Follow.is, c.status_of-in-Follow.ensures)
     (file_verdict_by c.new-taps-in-Follow.ensures.value
-    (following c.in-Follow.span c.in-Follow.workers c.in-Follow.fingers)
+    (following c.in-Follow.span c.in-Follow.workers c.in-Follow.fingers c.in-Follow.paging)
     (ended c.receive-in-Follow.result) _ _ _ (record {
       done = ends.done;
       others = ends.others;
