@@ -19,14 +19,16 @@ use Rattle.walsh.specs.Walsh.{IsWithin, walsh}
 use Rattle.base_modulator.specs.declared.plan.CellPlan.{CellPlan}
 use Rattle.base_modulator.specs.declared.plan.PagingPlan.{PagingPlan}
 use Rattle.base_modulator.specs.declared.plan.SyncPlan.{SyncPlan}
+use Rattle.base_modulator.specs.declared.plan.TrafficPlan.{TrafficPlan}
 use Rattle.cdma_io.specs.SampleFile.{bits_of, HasBits}
 use Rattle.cdma_io.specs.declared.width.Width.{Width}
 use Rattle.cdma_io.specs.declared.width.Width.TheVariants.{Sixteen, Eight}
 use Rattle.base_modulator.specs.Plan.{most_part, loudness, gain_sum, paging_gains, sync_gain}
+use Rattle.base_modulator.specs.Plan.{traffic_gains}
 use Rattle.base_modulator.proofs.MachineInts.{more_most}
 use Rattle.base_modulator.specs.Signal.{Carrier, amplitude, amplitudes, level, level_of, scaled}
 use Rattle.base_modulator.specs.Signal.{sent_chip, sync_carriers, paging_carrier, pilot_carrier}
-use Rattle.base_modulator.specs.Signal.{carriers, sample_of, symbol_of}
+use Rattle.base_modulator.specs.Signal.{carriers, sample_of, symbol_of, traffic_carrier}
 use Rattle.base_modulator.specs.Running.{IsBlock}
 use Rattle.base_modulator.specs.Transmitter.{phase_at, point_of, IsPoint}
 
@@ -156,14 +158,23 @@ paging_gains-is plan [] = refl
 paging_gains-is plan (p ∷ paging) =
     ap (λ (n : ℕ). p.gain + n) (paging_gains-is plan paging)
 
+traffic_gains-is : (plan : CellPlan) (traffic : List TrafficPlan) →
+    gains (map (traffic_carrier plan) traffic) ≡ traffic_gains traffic
+traffic_gains-is plan [] = refl
+traffic_gains-is plan (t ∷ traffic) =
+    ap (λ (n : ℕ). t.gain + n) (traffic_gains-is plan traffic)
+
 plan_gains : (plan : CellPlan) → gains (carriers plan) ≡ gain_sum plan
 unfolding carriers
 plan_gains plan =
     omega (
       arith,
+      gains_append (sync_carriers plan plan.sync ++ map (paging_carrier plan) plan.paging)
+          (map (traffic_carrier plan) plan.traffic),
       gains_append (sync_carriers plan plan.sync) (map (paging_carrier plan) plan.paging),
       sync_gains plan plan.sync,
       paging_gains-is plan plan.paging,
+      traffic_gains-is plan plan.traffic,
     )
 
 scaled_most : (s a b : ℤ) (most : ℕ) → unsigned_abs s ≤ most →
@@ -197,17 +208,22 @@ one_sync : (plan : CellPlan) (sync : Option SyncPlan) → length (sync_carriers 
 one_sync plan None = omega arith
 one_sync plan (Some sync) = omega arith
 
-pub few_channels : (plan : CellPlan) → length plan.paging ≤ 7 → length (carriers plan) ≤ 128
+pub few_channels : (plan : CellPlan) → length plan.paging ≤ 7 → length plan.traffic ≤ 62 →
+    length (carriers plan) ≤ 128
 unfolding carriers
-few_channels plan few =
+few_channels plan few few_traffic =
     let sync = sync_carriers plan plan.sync in
     let paging = map (paging_carrier plan) plan.paging in
+    let traffic = map (traffic_carrier plan) plan.traffic in
     omega (
       arith,
       few,
+      few_traffic,
       one_sync plan plan.sync,
+      length-append (sync ++ paging) traffic,
       length-append sync paging,
       length-map plan.paging (paging_carrier plan),
+      length-map plan.traffic (traffic_carrier plan),
     )
 
 -- SAMPLES

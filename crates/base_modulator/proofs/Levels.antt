@@ -9,6 +9,7 @@ use Rattle.chip_core.specs.Bits.{sign}
 use Rattle.base_modulator.specs.declared.frame_source.FrameSource.TheVariants.{Sync, Paging}
 use Rattle.base_modulator.specs.declared.symbol_source.SymbolSource.{SymbolSource}
 use Rattle.base_modulator.specs.declared.symbol_source.SymbolSource.TheVariants.{Pilot, Continued}
+use Rattle.base_modulator.specs.declared.symbol_source.SymbolSource.TheVariants.{Traffic}
 use Rattle.base_modulator.specs.Channels.{ChannelState, carrier_of, form_of, symbols_of}
 use Rattle.base_modulator.specs.Continued.{symbol_count}
 use Rattle.base_modulator.specs.Signal.{level, level_of, symbol_at}
@@ -82,6 +83,9 @@ symbol_kept (Continued (Sync sent)) first chip k whole begins low =
 symbol_kept (Continued (Paging cycle)) first chip k whole begins low =
     kept (nat_lt chip first) first 384 1 chip k
     (symbols_of (Continued (Paging cycle))) refl whole begins (omega arith) (omega arith) low
+symbol_kept (Traffic cycle) first chip k whole begins low =
+    kept (nat_lt chip first) first 384 1 chip k (symbols_of (Traffic cycle)) refl whole begins
+    (omega arith) (omega arith) low
 
 pub level_kept : (c : ChannelState) (chip k : ℕ) → chip % 64 ≡ 0 → c.first % 64 ≡ 0 → k < 64 →
     level (chip + k) (carrier_of c) ≡ level chip (carrier_of c)
@@ -115,6 +119,13 @@ placed (Continued (Sync sent)) chips soon = record {
   few = omega arith;
 }
 placed (Continued (Paging cycle)) chips soon = record {
+  some_chips = omega arith;
+  some_symbol = omega arith;
+  early = omega (arith, soon);
+  inside = omega arith;
+  few = omega arith;
+}
+placed (Traffic cycle) chips soon = record {
   some_chips = omega arith;
   some_symbol = omega arith;
   early = omega (arith, soon);

@@ -24,3 +24,4 @@ pub mod PageCycles
 pub mod PagingPlans
 pub mod Pieces
 pub mod TrafficFrames
+pub mod TrafficPlans

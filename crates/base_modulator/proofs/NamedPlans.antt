@@ -54,6 +54,7 @@ use Rattle.base_modulator.proofs.ScriptBounds.{line_bounds, passed}
 use Rattle.base_modulator.proofs.ScriptPages.{with_page-last}
 use Rattle.base_modulator.proofs.ScriptNumbers.{few_channels, have_own_numbers, some_gains}
 use Rattle.base_modulator.proofs.ScriptSplits.{stated-fault, stated-next, stated-none}
+use Rattle.base_modulator.proofs.TrafficPlans.{no_traffic}
 
 -- ---- pages of a cycle
 
@@ -332,6 +333,7 @@ record HasParts (plan : CellPlan) : Type 0 where
   pub link : IsStatedLink plan.link
   pub sync : IsStatedSync plan.sync
   pub linked : 0 < norm plan.link.factor
+  pub traffic : plan.traffic ≡ []
 
 record IsAt (stage : Stage) (plan : CellPlan) : Type 0 where
   pub parts : HasParts plan
@@ -347,6 +349,7 @@ added stage next plan (statements.Cell cell) is before e = record {
     link = before.parts.link;
     sync = before.parts.sync;
     linked = before.parts.linked;
+    traffic = before.parts.traffic;
   };
   channels = channels_cell stage next plan cell before.channels e;
 }
@@ -356,6 +359,7 @@ added stage next plan (statements.Link link) is before e = record {
     link = is.0;
     sync = before.parts.sync;
     linked = is.1;
+    traffic = before.parts.traffic;
   };
   channels = channels_link stage next plan link before.channels e;
 }
@@ -365,6 +369,7 @@ added stage next plan (statements.Pilot pilot) is before e = record {
     link = before.parts.link;
     sync = before.parts.sync;
     linked = before.parts.linked;
+    traffic = before.parts.traffic;
   };
   channels = channels_pilot stage next plan pilot before.channels e;
 }
@@ -374,6 +379,7 @@ added stage next plan (statements.Sync sync) is before e = record {
     link = before.parts.link;
     sync = is;
     linked = before.parts.linked;
+    traffic = before.parts.traffic;
   };
   channels = channels_sync stage next plan sync before.channels e;
 }
@@ -383,6 +389,7 @@ added stage next plan (statements.Paging line) is before e = record {
     link = before.parts.link;
     sync = before.parts.sync;
     linked = before.parts.linked;
+    traffic = before.parts.traffic;
   };
   channels = channels_paging stage next plan line is before.channels e;
 }
@@ -392,6 +399,7 @@ added stage next plan (statements.Page page) is before e = record {
     link = before.parts.link;
     sync = before.parts.sync;
     linked = before.parts.linked;
+    traffic = before.parts.traffic;
   };
   channels = channels_page stage next plan page is before.channels e;
 }
@@ -432,7 +440,13 @@ draft_said draft next line said e =
 whole : (plan : CellPlan) → HasParts plan →
     All (IsStatedPaging (paging_rate plan.sync)) plan.paging → HasSaid plan
 whole plan parts are = record {
-  lawful = record { cell = parts.cell; link = parts.link; sync = parts.sync; paging = are };
+  lawful = record {
+    cell = parts.cell;
+    link = parts.link;
+    sync = parts.sync;
+    paging = are;
+    traffic = parts.traffic;
+  };
   linked = parts.linked;
 }
 
@@ -486,6 +500,7 @@ empty_said = record {
     link = record { in_phase = omega arith; quadrature = omega arith; start = omega arith };
     sync = tt;
     linked = omega arith;
+    traffic = refl;
   };
   channels = refl;
 }
@@ -552,6 +567,7 @@ lawful width plan said e =
       few = few_channels rate plan.paging said.paging own;
       paging = some_gains rate plan.paging said.paging (no_row Gain (silent ls) gains.1);
       apart = own;
+      traffic = no_traffic plan.paging plan.traffic said.traffic;
       loud = ltb-false (most_part width) (loudness plan)
           (failed (nat_lt (most_part width) (loudness plan)) _ None size.0).0;
     }

@@ -44,10 +44,11 @@ pieces_are plan given out within each =
 -- a plan's channels are few
 pub few_states : (plan : CellPlan) (channels : List ChannelState) →
     length plan.paging ≤ 7 →
+    length plan.traffic ≤ 62 →
     map carrier_of channels ≡ carriers plan →
     length channels ≤ 128
-few_states plan channels few are =
-    omega (arith, few_channels plan few, length-map channels carrier_of, ap length are)
+few_states plan channels few few_traffic are =
+    omega (arith, few_channels plan few few_traffic, length-map channels carrier_of, ap length are)
 
 -- a list that was lent and came back as it was
 pub written_back : {X : Type 0} (items new : List X) (count : ℕ) → new ≡ items →

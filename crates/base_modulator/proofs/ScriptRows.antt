@@ -9,13 +9,14 @@ use Rattle.std.proofs.lemmas.Bool.{cases_eq, eq-eqb, ne_eqb, or_right}
 use Rattle.std.proofs.lemmas.List.{append-nil, get_or-set_other, get_or-set_same, length-set}
 use Rattle.std.proofs.lemmas.List.{map-append}
 use Rattle.cdma_io.specs.declared.width.Width.{Width}
-use Rattle.base_modulator.specs.Plan.{paging_gains, sync_gain}
+use Rattle.base_modulator.specs.Plan.{paging_gains, sync_gain, traffic_gains}
 use Rattle.base_modulator.specs.declared.plan.CellPlan.{CellPlan}
 use Rattle.base_modulator.specs.declared.plan.LinkPlan.{LinkPlan}
 use Rattle.base_modulator.specs.declared.plan.Page.{Page}
 use Rattle.base_modulator.specs.declared.plan.PagingPlan.{PagingPlan}
 use Rattle.base_modulator.specs.declared.plan.PilotPlan.{PilotPlan}
 use Rattle.base_modulator.specs.declared.plan.SyncPlan.{SyncPlan}
+use Rattle.base_modulator.specs.declared.plan.TrafficPlan.{TrafficPlan}
 use Rattle.base_modulator.specs.declared.script.judge.Judge.{Judge}
 use Rattle.base_modulator.specs.declared.script.judge.PagingRows.{PagingRows}
 use Rattle.base_modulator.specs.declared.script.statements.PagingLine.{PagingLine}
@@ -153,6 +154,7 @@ judged_page judge plan page before = record {
   pilot = before.pilot;
   sync = before.sync;
   paging = subst (HasSeen judge.paging) (sym (lines-with_page plan.paging page)) before.paging;
+  traffic = before.traffic;
 }
 
 pub judged_paging : (judge more : Judge) (plan : CellPlan) (l : PagingLine) →
@@ -166,6 +168,7 @@ judged_paging judge more plan l link pilot sync step before = record {
   sync = sync ∙ before.sync;
   paging = subst (HasSeen more.paging) (sym (lines-opened plan.paging l))
       (step (paging_lines plan.paging) before.paging);
+  traffic = before.traffic;
 }
 
 -- ---- faults
@@ -173,6 +176,11 @@ judged_paging judge more plan l link pilot sync step before = record {
 gains_are : (paging : List PagingPlan) → gains_of (paging_lines paging) ≡ paging_gains paging
 gains_are [] = refl
 gains_are (p ∷ paging) = ap (λ (n : ℕ). p.gain + n) (gains_are paging)
+
+-- no traffic channel adds nothing
+no_traffic : (n : ℕ) (traffic : List TrafficPlan) → traffic ≡ [] → n ≡ n + traffic_gains traffic
+no_traffic n traffic none =
+    subst (λ (ts : List TrafficPlan). n ≡ n + traffic_gains ts) (sym none) (omega arith)
 
 abbrev fault_from : Width → LinkPlan → PilotPlan → Option SyncPlan → Option ℕ → Option ℕ → ℕ →
     Option ScriptFault
@@ -204,4 +212,5 @@ judged_fault_is width judge plan is =
     fault_from width plan.link plan.pilot plan.sync (repeated ls) x rows.gains) seen.silent
     ∙ ap (λ (x : ℕ).
     fault_from width plan.link plan.pilot plan.sync (repeated ls) (silent ls) x)
-    (seen.gains ∙ gains_are plan.paging)
+    (seen.gains ∙ gains_are plan.paging
+    ∙ no_traffic (paging_gains plan.paging) plan.traffic is.traffic)

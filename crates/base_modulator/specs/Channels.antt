@@ -3,18 +3,22 @@ use Rattle.std.specs.Prelude.{◌≡◌, ℕ, ◌<◌, ◌%◌, Bool, false, Lis
 use Rattle.base_modulator.specs.declared.form.ChannelForm.{ChannelForm}
 use Rattle.base_modulator.specs.declared.symbol_source.SymbolSource.{SymbolSource}
 use Rattle.base_modulator.specs.declared.symbol_source.SymbolSource.TheVariants.{Pilot, Continued}
+use Rattle.base_modulator.specs.declared.symbol_source.SymbolSource.TheVariants.{Traffic}
 use Rattle.base_modulator.specs.Continued.{continued_form, continued_frames, symbol_count}
-use Rattle.base_modulator.specs.Signal.{Carrier, pilot_form}
+use Rattle.base_modulator.specs.Signal.{Carrier, paging_form, pilot_form}
+use Rattle.base_modulator.specs.TrafficFrames.{traffic_frame_symbols}
 
 -- how long the frames and symbols of a source are
 abbrev pub form_of : SymbolSource → ChannelForm
 form_of Pilot = pilot_form
 form_of (Continued source) = continued_form source
+form_of (Traffic cycle) = paging_form
 
 -- the symbols of each frame
 abbrev pub symbols_of : SymbolSource → ℕ → List Bool
 symbols_of Pilot = λ k. false ∷ []
 symbols_of (Continued source) = continued_frames source
+symbols_of (Traffic cycle) = traffic_frame_symbols cycle
 
 -- a channel: its gain, its Walsh row, the local chip of its first frame, and its symbols' source
 pub record ChannelState : Type 0 where

@@ -10,8 +10,10 @@ use Rattle.symbol_path.specs.declared.kinds.Rate.{Rate}
 use Rattle.paging_message.specs.HalfFrames.{half_frame_body}
 use Rattle.base_modulator.specs.Pages.{paging_rate, AreSendable}
 use Rattle.base_modulator.specs.declared.plan.PagingPlan.{PagingPlan}
+use Rattle.base_modulator.specs.declared.plan.TrafficPlan.{TrafficPlan}
 use Rattle.base_modulator.specs.declared.plan.CellPlan.{CellPlan}
 use Rattle.base_modulator.specs.declared.plan.SyncPlan.{SyncPlan}
+use Rattle.base_modulator.specs.TrafficFrames.{IsTrafficFrame}
 
 -- the greatest absolute value of a part of a sample
 abbrev pub most_part : Width → ℕ
@@ -27,8 +29,14 @@ abbrev pub paging_gains : List PagingPlan → ℕ
 paging_gains [] = 0
 paging_gains (p ∷ paging) = p.gain + paging_gains paging
 
+abbrev pub traffic_gains : List TrafficPlan → ℕ
+traffic_gains [] = 0
+traffic_gains (t ∷ traffic) = t.gain + traffic_gains traffic
+
 abbrev pub gain_sum : CellPlan → ℕ
-gain_sum plan = plan.pilot.gain + (sync_gain plan.sync + paging_gains plan.paging)
+gain_sum plan =
+    plan.pilot.gain
+    + (sync_gain plan.sync + (paging_gains plan.paging + traffic_gains plan.traffic))
 
 -- a bound on the parts of the samples: the sum of the absolute values of the link's parts, times
 -- the sum of the gains
@@ -54,6 +62,34 @@ HaveOwnNumbers [] = Unit {0}
 HaveOwnNumbers (p ∷ paging) =
     All (λ (q : PagingPlan). q.number ≢ p.number) paging × HaveOwnNumbers paging
 
+-- a traffic channel that can be sent; rows 0 and 32 are the pilot's and the sync channel's
+pub record IsTrafficPlan (t : TrafficPlan) : Type 0 where
+  pub first : 1 ≤ t.row
+  pub last : t.row ≤ 63
+  pub other : t.row ≢ 32
+  pub latest : t.offset ≤ 15
+  pub gain : 0 < t.gain
+  pub some : 1 ≤ length t.frames
+  pub sized : All IsTrafficFrame t.frames
+
+-- no two traffic channels have one row
+abbrev pub HaveOwnTrafficRows : List TrafficPlan → Type 0
+HaveOwnTrafficRows [] = Unit {0}
+HaveOwnTrafficRows (t ∷ traffic) =
+    All (λ (u : TrafficPlan). u.row ≢ t.row) traffic × HaveOwnTrafficRows traffic
+
+-- a Walsh row that no traffic channel has
+abbrev pub IsFreeOf : List TrafficPlan → ℕ → Type 0
+IsFreeOf traffic row = All (λ (t : TrafficPlan). t.row ≢ row) traffic
+
+-- traffic channels that can be sent beside these paging channels: there are no more than rows, and
+-- each has a row of its own
+pub record AreLawfulBeside (paging : List PagingPlan) (traffic : List TrafficPlan) : Type 0 where
+  pub few : length traffic ≤ 62
+  pub are : All IsTrafficPlan traffic
+  pub apart : HaveOwnTrafficRows traffic
+  pub free : All (λ (p : PagingPlan). IsFreeOf traffic p.number) paging
+
 -- a cell that can be sent in samples of this width
 pub record IsLawfulPlan (width : Width) (plan : CellPlan) : Type 0 where
   pub pn : plan.cell.pn < 512
@@ -66,4 +102,5 @@ pub record IsLawfulPlan (width : Width) (plan : CellPlan) : Type 0 where
   pub few : length plan.paging ≤ 7
   pub paging : All (IsPagingPlan (paging_rate plan.sync)) plan.paging
   pub apart : HaveOwnNumbers plan.paging
+  pub traffic : AreLawfulBeside plan.paging plan.traffic
   pub loud : loudness plan ≤ most_part width

@@ -21,6 +21,7 @@ empty_plan = record {
   pilot = record { gain = 1 };
   sync = None;
   paging = [];
+  traffic = [];
 }
 
 -- a channel without pages

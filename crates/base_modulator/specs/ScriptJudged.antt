@@ -24,12 +24,13 @@ pub record HasSeen (rows : PagingRows) (ls : List PagingLine) : Type 0 where
   pub silent : rows.silent ≡ silent ls
   pub gains : rows.gains ≡ gains_of ls
 
--- a judge that knows this plan
+-- a judge that knows this plan, which has no traffic channel
 pub record HasJudged (judge : Judge) (plan : CellPlan) : Type 0 where
   pub link : judge.link ≡ plan.link
   pub pilot : judge.pilot ≡ plan.pilot
   pub sync : judge.sync ≡ plan.sync
   pub paging : HasSeen judge.paging (paging_lines plan.paging)
+  pub traffic : plan.traffic ≡ []
 
 -- a judge that read a whole script
 pub record IsJudged (script : List ℕ) (judge : Judge) : Type 0 where

@@ -69,11 +69,13 @@ pub record IsStatedPaging (rate : Rate) (p : PagingPlan) : Type 0 where
   pub pages : AreSendable (half_frame_body rate) 0 p.pages
   pub heard : AreHeard (half_frame_body rate) 0 p.pages
 
+-- no statement names a traffic channel
 pub record IsStatedPlan (plan : CellPlan) : Type 0 where
   pub cell : IsStatedCell plan.cell
   pub link : IsStatedLink plan.link
   pub sync : IsStatedSync plan.sync
   pub paging : All (IsStatedPaging (paging_rate plan.sync)) plan.paging
+  pub traffic : plan.traffic ≡ []
 
 -- what was stated is within its bounds, and the link isn't 0
 pub record HasSaid (plan : CellPlan) : Type 0 where

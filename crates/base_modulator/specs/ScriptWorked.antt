@@ -67,6 +67,7 @@ plan paging = record {
   pilot = record { gain = 100 };
   sync = Some sync_plan;
   paging = paging;
+  traffic = [];
 }
 
 -- type 4, and then 26 bits

@@ -10,11 +10,13 @@ use Rattle.walsh.specs.Walsh.{walsh}
 use Rattle.base_modulator.specs.declared.form.ChannelForm.{ChannelForm}
 use Rattle.base_modulator.specs.declared.plan.CellPlan.{CellPlan}
 use Rattle.base_modulator.specs.declared.plan.SyncPlan.{SyncPlan}
-use Rattle.long_code.specs.LongCode.{paging_mask}
+use Rattle.long_code.specs.LongCode.{paging_mask, traffic_mask}
 use Rattle.base_modulator.specs.declared.plan.PagingPlan.{PagingPlan}
+use Rattle.base_modulator.specs.declared.plan.TrafficPlan.{TrafficPlan}
 use Rattle.base_modulator.specs.PageCycles.{cycle_symbols, Cycle}
 use Rattle.base_modulator.specs.Pages.{page_cycle, paging_rate}
 use Rattle.base_modulator.specs.Sendings.{sync_symbols}
+use Rattle.base_modulator.specs.TrafficFrames.{traffic_frame_symbols, FrameCycle}
 
 -- A channel that is sent: its gain, its Walsh row, the local chip at which its first frame begins,
 -- how long its frames and symbols are, and the symbols of each frame by the frame's number.
@@ -85,7 +87,7 @@ pilot_carrier plan =
 abbrev pub sync_form : ChannelForm
 sync_form = record { frame_chips = 32768; symbol_chips = 256 }
 
--- a paging channel's symbols last one period of its row (7.1.3.4)
+-- a paging or traffic channel's symbols last one period of its row (7.1.3.4, 7.1.3.5)
 abbrev pub paging_form : ChannelForm
 paging_form = record { frame_chips = 24576; symbol_chips = 64 }
 
@@ -122,10 +124,32 @@ paging_carrier plan p = record {
   symbols = cycle_symbols (cycle_of plan p);
 }
 
+-- the frames that a traffic channel sends under the public mask of its handset (7.1.3.1.6)
+abbrev pub frames_of : CellPlan → TrafficPlan → FrameCycle
+frames_of plan t =
+    record {
+      cell = plan.cell;
+      mask = traffic_mask t.esn;
+      offset = t.offset;
+      frames = t.frames;
+    }
+
+-- the frames of a traffic channel begin 1,536 chips later for each step of its FRAME_OFFSET
+-- (7.1.3.5.1)
+abbrev pub traffic_carrier : CellPlan → TrafficPlan → Carrier
+traffic_carrier plan t = record {
+  gain = t.gain;
+  row = t.row;
+  first = 1536 * t.offset;
+  form = paging_form;
+  symbols = traffic_frame_symbols (frames_of plan t);
+}
+
 unfoldable pub carriers : CellPlan → List Carrier
 carriers plan =
     pilot_carrier plan
-    ∷ (sync_carriers plan plan.sync ++ map (paging_carrier plan) plan.paging)
+    ∷ (sync_carriers plan plan.sync ++ map (paging_carrier plan) plan.paging
+    ++ map (traffic_carrier plan) plan.traffic)
 
 -- ---- its samples
 

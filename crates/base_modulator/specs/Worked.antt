@@ -22,6 +22,7 @@ cell sync = record {
   pilot = record { gain = 100 };
   sync = sync;
   paging = [];
+  traffic = [];
 }
 
 channel : SyncPlan

@@ -10,9 +10,10 @@ ghost use Rattle.base_modulator.specs.Channels.{carrier_of};
 ghost use Rattle.long_code.specs.LongCode.{IsState};
 ghost use Rattle.paging_message.specs.HalfFrames.{IsPagingRate};
 ghost use Rattle.base_modulator.specs.Pages.{paging_rate};
-ghost use Rattle.base_modulator.specs.Plan.{IsLawfulPlan, IsPagingPlan};
+ghost use Rattle.base_modulator.specs.Plan.{IsLawfulPlan, IsPagingPlan, IsTrafficPlan};
 ghost use Rattle.base_modulator.specs.Script.{plan_named};
 ghost use Rattle.base_modulator.specs.Signal.{carriers, paging_carrier, sample_of, samples_of};
+ghost use Rattle.base_modulator.specs.Signal.{traffic_carrier};
 ghost use Rattle.base_modulator.specs.Transmitter.{IsSendableSync, header_of, phase_at, version_of};
 
 use crate::block::{BLOCK, fill_block, turned};
@@ -20,22 +21,25 @@ use crate::channel::Channel;
 use crate::continued::ContinuedEncoder;
 use crate::frame_source::FrameSource;
 use crate::page_cycle::PageCycle;
-use crate::plan::{CellPlan, PagingPlan, SyncPlan};
+use crate::plan::{CellPlan, PagingPlan, SyncPlan, TrafficPlan};
 use crate::script::plan_of;
 use crate::script_fault::ScriptFault;
 use crate::sendings::Sendings;
+use crate::series::Series;
 use crate::symbol_source::SymbolSource;
+use crate::traffic_cycle::TrafficCycle;
 use cdma_io::{Header, Width};
 use chip_core::air::{CODE_CHIPS, OFFSET_CHIPS, PILOT_ROW, SYNC_ROW};
 use chip_core::{OutOfMemory, Pair, Sample};
-use long_code::paging_mask;
+use long_code::{paging_mask, traffic_mask};
 use short_code::Codes;
 use std::alloc::Global;
 use std::marker::Model;
 use symbol_path::Rate;
 
-/// How many channels a cell has at most: the pilot, the sync channel, and seven paging channels.
-const MOST_CHANNELS: usize = 9;
+/// For how many channels there is room at first: the pilot, the sync channel, and seven paging
+/// channels.
+const FIRST_ROOM: usize = 9;
 
 /// A cell that gives its samples in order, as a handset receives them over the cell's link.
 ///
@@ -147,17 +151,56 @@ fn with_paging(
     Ok(channels)
 }
 
+/// A traffic channel of a cell, whose frames begin later by its FRAME_OFFSET (TIA/EIA-95-B,
+/// 7.1.3.5).
+fn traffic_channel(
+    alloc: Global,
+    plan: &CellPlan,
+    traffic: &TrafficPlan,
+) -> Result<Channel, OutOfMemory>
+    requires lc { IsState plan.now.cell.lc }
+    requires traffic { IsTrafficPlan traffic.now }
+    ensures { IfOk result (λ channel. carrier_of channel ≡ traffic_carrier plan.now traffic.now) }
+{
+    let frames = Series::copied(alloc, traffic.frames.as_slice())?;
+    let mask = traffic_mask(traffic.esn);
+    let cycle = TrafficCycle::new(&plan.cell, mask, traffic.offset, frames);
+    let first = cycle.first_chip(0);
+    let source = SymbolSource::Traffic(cycle);
+    Ok(Channel::open(traffic.gain, traffic.row, first, source))
+}
+
+/// Channels, and behind them the traffic channels of a cell.
+fn with_traffic(
+    alloc: Global,
+    mut channels: Vec<Channel>,
+    plan: &CellPlan,
+    traffic: &[TrafficPlan],
+) -> Result<Vec<Channel>, OutOfMemory>
+    requires lc { IsState plan.now.cell.lc }
+    requires traffic { All IsTrafficPlan traffic.now }
+    ensures { IfOk result (λ all. map carrier_of all.items ≡
+        map carrier_of channels.items ++ map (traffic_carrier plan.now) traffic.now) }
+{
+    for channel in traffic {
+        channels.push(traffic_channel(alloc, plan, channel)?)?;
+    }
+    Ok(channels)
+}
+
 /// The channels of a plan: the pilot, the sync channel where there is one, whose frames begin with
-/// the cell's code, and the paging channels (TIA/EIA-95-B, 7.1.3.2 to 7.1.3.4).
+/// the cell's code, the paging channels and the traffic channels (TIA/EIA-95-B, 7.1.3.2 to
+/// 7.1.3.5).
 #[tactic(auto, unfolding(crate::specs::Signal::carriers))]
 fn channels_for(alloc: Global, plan: &CellPlan) -> Result<Vec<Channel>, OutOfMemory>
     requires sync { IsSendableSync plan.now plan.now.sync }
     requires pn { plan.now.cell.pn < 512 }
     requires lc { IsState plan.now.cell.lc }
     requires paging { All (IsPagingPlan (paging_rate plan.now.sync)) plan.now.paging }
+    requires traffic { All IsTrafficPlan plan.now.traffic }
     ensures { IfOk result (λ channels. map carrier_of channels.items ≡ carriers plan.now) }
 {
-    let mut channels = Vec::with_capacity(alloc, MOST_CHANNELS)?;
+    let mut channels = Vec::with_capacity(alloc, FIRST_ROOM)?;
     let pilot = Channel::open(plan.pilot.gain, PILOT_ROW, 0, SymbolSource::Pilot);
     channels.push(pilot)?;
     if let Some(sync) = plan.sync {
@@ -166,7 +209,8 @@ fn channels_for(alloc: Global, plan: &CellPlan) -> Result<Vec<Channel>, OutOfMem
         let first = OFFSET_CHIPS * u64::from(plan.cell.pn);
         channels.push(Channel::open(sync.gain, SYNC_ROW, first, source))?;
     }
-    with_paging(channels, plan, plan.paging.as_slice())
+    let continued = with_paging(channels, plan, plan.paging.as_slice())?;
+    with_traffic(alloc, continued, plan, plan.traffic.as_slice())
 }
 
 impl Cell {

@@ -132,6 +132,7 @@ fn near_cell(
         pilot: PilotPlan { gain: 100 },
         sync,
         paging: all_paging(alloc, paging)?,
+        traffic: Series::new(alloc),
     };
     Ok(Cell::of_plan(alloc, Width::Sixteen, plan)?)
 }
@@ -166,6 +167,7 @@ fn far_cell(
         pilot: PilotPlan { gain: 100 },
         sync: Some(channel(long_message())?),
         paging: all_paging(alloc, paging)?,
+        traffic: Series::new(alloc),
     };
     Ok(Cell::of_plan(alloc, Width::Sixteen, plan)?)
 }

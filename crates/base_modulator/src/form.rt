@@ -26,7 +26,7 @@ pub(crate) const SYNC_FORM: ChannelForm = ChannelForm {
     symbol_chips: SYNC_SYMBOL_CHIPS,
 };
 
-/// The form of a paging channel (7.1.3.4).
+/// The form of a paging channel, and of a traffic channel (7.1.3.4, 7.1.3.5).
 pub(crate) const PAGING_FORM: ChannelForm = ChannelForm {
     frame_chips: DATA_FRAME_CHIPS,
     symbol_chips: DATA_SYMBOL_CHIPS,

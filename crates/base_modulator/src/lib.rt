@@ -29,7 +29,9 @@ mod traffic_tests;
 
 pub use cell::Cell;
 pub use form::ChannelForm;
-pub use plan::{CellIdentity, CellPlan, LinkPlan, Page, PagingPlan, PilotPlan, SyncPlan};
+pub use plan::{
+    CellIdentity, CellPlan, LinkPlan, Page, PagingPlan, PilotPlan, SyncPlan, TrafficPlan,
+};
 pub use script_fault::ScriptFault;
 pub use series::Series;
 pub use traffic_frame::TrafficFrame;

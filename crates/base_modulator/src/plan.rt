@@ -1,6 +1,7 @@
 //! What a script says of a cell.
 
 use crate::series::Series;
+use crate::traffic_frame::TrafficFrame;
 use chip_core::{Bits, CheckForm, Pair};
 use sync_message::SyncFields;
 
@@ -17,6 +18,8 @@ pub struct CellPlan {
     pub sync: Option<SyncPlan>,
     /// The paging channels, in the script's order.
     pub paging: Series<PagingPlan>,
+    /// The traffic channels.
+    pub traffic: Series<TrafficPlan>,
 }
 
 /// A cell: its place among the others, and its clock.
@@ -85,4 +88,20 @@ pub struct PagingPlan {
     pub gain: u16,
     /// The pages of a cycle, in order.
     pub pages: Series<Page>,
+}
+
+/// A traffic channel, which sends its frames again and again under the public long code mask of a
+/// handset (TIA/EIA-95-B, 7.1.3.5).
+#[derive(Drop)]
+pub struct TrafficPlan {
+    /// The channel's Walsh row: 1 to 63, and not 32.
+    pub row: u8,
+    /// The handset's electronic serial number, which its mask is made of (7.1.3.1.6).
+    pub esn: u32,
+    /// FRAME_OFFSET: by how many steps of 1.25 ms the frames begin later, 0 to 15 (7.1.3.5.1).
+    pub offset: u8,
+    /// The gain of the channel.
+    pub gain: u16,
+    /// The frames of a cycle, in order.
+    pub frames: Series<TrafficFrame>,
 }

@@ -1,6 +1,7 @@
 //! What a plan has several of.
 
-ghost use Rattle.std.specs.Prelude.{◌≡◌, ◌++◌, ◌∷◌, [], OnOk, OnErr, MatchOption};
+ghost use Rattle.std.specs.Prelude.{◌≡◌, ◌++◌, ◌∷◌, [], IfOk, OnOk, OnErr};
+ghost use Rattle.std.specs.Prelude.{MatchOption};
 
 use chip_core::OutOfMemory;
 use std::alloc::Global;
@@ -52,5 +53,16 @@ impl<T: Drop> Series<T> {
         ensures { result.now ≡ self.now }
     {
         self.items.as_slice()
+    }
+}
+
+impl<T: Copy> Series<T> {
+    /// A series of copies of these. Only memory can be wanting.
+    pub(crate) fn copied(alloc: Global, items: &[T]) -> Result<Series<T>, OutOfMemory>
+        ensures { IfOk result (λ all. all ≡ items.now) }
+    {
+        let mut all = Vec::new(alloc);
+        all.extend_from_slice(items)?;
+        Ok(Series { items: all })
     }
 }

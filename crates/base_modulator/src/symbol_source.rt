@@ -5,7 +5,8 @@ ghost use Rattle.base_modulator.specs.Continued.{symbol_count};
 ghost use Rattle.base_modulator.specs.Channels.{form_of, symbols_of};
 
 use crate::continued::ContinuedEncoder;
-use crate::form::{ChannelForm, PILOT_FORM};
+use crate::form::{ChannelForm, PAGING_FORM, PILOT_FORM};
+use crate::traffic_cycle::TrafficCycle;
 use chip_core::Bits;
 
 /// Where the symbols of a channel's frames come from.
@@ -15,6 +16,8 @@ pub enum SymbolSource {
     Pilot,
     /// An encoder that goes on from frame to frame (7.1.3.1.3).
     Continued(ContinuedEncoder),
+    /// The frames of a traffic channel, each encoded by itself (7.1.3.5).
+    Traffic(TrafficCycle),
 }
 
 /// The one symbol of each frame of the pilot.
@@ -34,6 +37,7 @@ impl SymbolSource {
         match self {
             SymbolSource::Pilot => PILOT_FORM,
             SymbolSource::Continued(encoder) => encoder.form(),
+            SymbolSource::Traffic(_) => PAGING_FORM,
         }
     }
 
@@ -47,6 +51,7 @@ impl SymbolSource {
         match self {
             SymbolSource::Pilot => pilot_symbols(),
             SymbolSource::Continued(encoder) => encoder.symbols(frame),
+            SymbolSource::Traffic(cycle) => cycle.symbols(frame),
         }
     }
 }

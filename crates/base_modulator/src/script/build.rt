@@ -30,6 +30,7 @@ pub(crate) fn empty_plan(alloc: Global) -> CellPlan
         pilot: PilotPlan { gain: 1 },
         sync: None,
         paging: Series::new(alloc),
+        traffic: Series::new(alloc),
     }
 }
 

@@ -697,6 +697,7 @@ fn names(alloc: Global, script: &str, width: Width, plan: &CellPlan) -> bool {
         && named.pilot == plan.pilot
         && named.sync == plan.sync
         && named.paging.as_slice().is_empty()
+        && named.traffic.as_slice().is_empty()
 }
 
 /// The plan of the lawful lines, with this sync channel.
@@ -717,6 +718,7 @@ fn lawful_plan(alloc: Global, sync: Option<SyncPlan>) -> CellPlan {
         pilot: PilotPlan { gain: 100 },
         sync,
         paging: Series::new(alloc),
+        traffic: Series::new(alloc),
     }
 }
 
@@ -795,6 +797,7 @@ fn names_what_each_word_says(rt: HostRuntime) -> Result<(), Fail> {
         pilot: PilotPlan { gain: 7 },
         sync: Some(SyncPlan { gain: 8, message }),
         paging: Series::new(rt.alloc()),
+        traffic: Series::new(rt.alloc()),
     };
     let script = script_of(rt.alloc(), &[cell, link, "pilot gain=7\n", sync])?;
     assert!(rt; names(rt.alloc(), script.as_str(), Width::Eight, &plan));

@@ -1,5 +1,8 @@
-use Rattle.std.proofs.Common.{arith, Some}
+use Rattle.std.proofs.Common.{List, Some, ap, arith}
+use Rattle.base_modulator.specs.declared.plan.TrafficPlan.{TrafficPlan}
+use Rattle.base_modulator.specs.Plan.{traffic_gains}
 use Rattle.base_modulator.proofs.PagingPlans.{paged}
+use Rattle.base_modulator.proofs.TrafficPlans.{no_traffic}
 use Rattle.base_modulator.proofs.cell_tests.far_cell.Goals as goal
 
 pub of_plan-requires : goal.of_plan-requires
@@ -18,5 +21,11 @@ of_plan-requires c =
       few = is.few;
       paging = is.are;
       apart = is.apart;
-      loud = omega (arith, sync.0, is.gains);
+      traffic = no_traffic c.in_ok-all_paging.field-0 c.new.result c.new.ensures;
+      loud = omega (
+        arith,
+        sync.0,
+        is.gains,
+        ap (λ (ts : List TrafficPlan). traffic_gains ts) c.new.ensures,
+      );
     }

@@ -1,5 +1,8 @@
-use Rattle.std.proofs.Common.{arith}
+use Rattle.std.proofs.Common.{List, ap, arith}
+use Rattle.base_modulator.specs.declared.plan.TrafficPlan.{TrafficPlan}
+use Rattle.base_modulator.specs.Plan.{traffic_gains}
 use Rattle.base_modulator.proofs.PagingPlans.{paged}
+use Rattle.base_modulator.proofs.TrafficPlans.{no_traffic}
 use Rattle.base_modulator.proofs.cell_tests.near_cell.Goals as goal
 
 pub of_plan-requires : goal.of_plan-requires
@@ -17,5 +20,11 @@ of_plan-requires c =
       few = is.few;
       paging = is.are;
       apart = is.apart;
-      loud = omega (arith, c.requires.gain, is.gains);
+      traffic = no_traffic c.in_ok-all_paging.field-0 c.new.result c.new.ensures;
+      loud = omega (
+        arith,
+        c.requires.gain,
+        is.gains,
+        ap (λ (ts : List TrafficPlan). traffic_gains ts) c.new.ensures,
+      );
     }

@@ -24,7 +24,8 @@ turned-sample-requires-clause-small c =
 
 pub fill_block-requires-clause-few : goal.fill_block-requires-clause-few
 fill_block-requires-clause-few c =
-    few_states c.self.inside.plan c.deref_mut.result.now c.self.invariant.lawful.few
+    let lawful = c.self.invariant.lawful in
+    few_states c.self.inside.plan c.deref_mut.result.now lawful.few lawful.traffic.few
     (ap (map carrier_of) c.deref_mut.ensures.value ∙ c.self.invariant.sent)
 
 pub invariant_of-self : goal.invariant_of-self

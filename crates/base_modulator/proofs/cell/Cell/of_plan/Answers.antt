@@ -7,7 +7,7 @@ use Rattle.base_modulator.proofs.cell.Cell.of_plan.Goals as goal
 
 pub fill_block-requires-clause-few : goal.fill_block-requires-clause-few
 fill_block-requires-clause-few c =
-    few_states c.args.plan c.deref_mut.result.now c.requires.few
+    few_states c.args.plan c.deref_mut.result.now c.requires.few c.requires.traffic.few
     (ap (map carrier_of) c.deref_mut.ensures.value ∙ c.in_ok-channels.ensures)
 
 pub invariant_of-result : goal.invariant_of-result
