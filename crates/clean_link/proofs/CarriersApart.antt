@@ -8,17 +8,20 @@ use Rattle.std.proofs.Math.ListN.{get_or-map}
 use Rattle.std.proofs.lemmas.Int.{ints}
 use Rattle.std.proofs.lemmas.List.{length-map}
 use Rattle.std.proofs.lemmas.List.Elements.{All-append, All-cons, All-head, All-map, All-nil}
-use Rattle.std.proofs.lemmas.List.Elements.{All-tail, All-weaker, Contains-append_right}
+use Rattle.std.proofs.lemmas.List.Elements.{All-tail, All-weaker, Contains-append_left}
+use Rattle.std.proofs.lemmas.List.Elements.{Contains-append_right}
 use Rattle.chip_core.specs.Bits.{sign}
 use Rattle.cdma_io.specs.declared.width.Width.{Width}
 use Rattle.symbol_path.specs.declared.kinds.Rate.{Rate}
 use Rattle.base_modulator.specs.Pages.{paging_rate}
-use Rattle.base_modulator.specs.Plan.{HaveOwnNumbers, IsLawfulPlan, IsPagingPlan}
+use Rattle.base_modulator.specs.Plan.{HaveOwnNumbers, HaveOwnTrafficRows, IsFreeOf, IsLawfulPlan}
+use Rattle.base_modulator.specs.Plan.{IsPagingPlan, IsTrafficPlan}
 use Rattle.base_modulator.specs.Signal.{Carrier, carriers, level, paging_carrier, pilot_carrier}
-use Rattle.base_modulator.specs.Signal.{sync_carrier, sync_carriers}
+use Rattle.base_modulator.specs.Signal.{sync_carrier, sync_carriers, traffic_carrier}
 use Rattle.base_modulator.specs.declared.plan.CellPlan.{CellPlan}
 use Rattle.base_modulator.specs.declared.plan.PagingPlan.{PagingPlan}
 use Rattle.base_modulator.specs.declared.plan.SyncPlan.{SyncPlan}
+use Rattle.base_modulator.specs.declared.plan.TrafficPlan.{TrafficPlan}
 use Rattle.base_modulator.proofs.Amplitudes.{pilot_amplitude, walsh-pilot}
 use Rattle.clean_link.specs.Signals.{AreApart, HaveOwnRows, IsAligned}
 use Rattle.clean_link.proofs.SignalLevels.{level_at-none}
@@ -57,6 +60,16 @@ paging_aligned : (plan : CellPlan) (p : PagingPlan) → p.number ≤ 7 →
 paging_aligned plan p last = record {
   row = omega (arith, last);
   first = refl;
+  frame = refl;
+  symbol = refl;
+}
+
+-- the frames of a traffic channel begin where periods of the rows do
+traffic_aligned : (plan : CellPlan) (t : TrafficPlan) → t.row ≤ 63 →
+    IsAligned (traffic_carrier plan t)
+traffic_aligned plan t last = record {
+  row = omega (arith, last);
+  first = omega arith;
   frame = refl;
   symbol = refl;
 }
@@ -101,6 +114,36 @@ paging_all P plan rate paging each are =
     (All-weaker (IsPagingPlan rate) (λ (p : PagingPlan). P (paging_carrier plan p))
     (λ p is. each p is.first is.last) paging are)
 
+-- and so for its traffic channels
+traffic_all : (P : Carrier → Type 0) (plan : CellPlan) (traffic : List TrafficPlan) →
+    ((t : TrafficPlan) → IsTrafficPlan t → P (traffic_carrier plan t)) →
+    All IsTrafficPlan traffic → All P (map (traffic_carrier plan) traffic)
+traffic_all P plan traffic each are =
+    All-map P (traffic_carrier plan) traffic
+    (All-weaker IsTrafficPlan (λ (t : TrafficPlan). P (traffic_carrier plan t)) each traffic are)
+
+traffic_rows : (plan : CellPlan) (traffic : List TrafficPlan) → HaveOwnTrafficRows traffic →
+    HaveOwnRows (map (traffic_carrier plan) traffic)
+traffic_rows plan [] own = tt
+traffic_rows plan (t ∷ traffic) own = (
+  All-map (λ (d : Carrier). d.row ≢ t.row) (traffic_carrier plan) traffic own.0,
+  traffic_rows plan traffic own.1,
+)
+
+-- no traffic channel has the row of one of these paging channels
+traffic_free : (plan : CellPlan) (paging : List PagingPlan) (traffic : List TrafficPlan) →
+    All (λ (p : PagingPlan). IsFreeOf traffic p.number) paging →
+    All (λ (c : Carrier). All (λ (d : Carrier). d.row ≢ c.row) (map (traffic_carrier plan) traffic))
+    (map (paging_carrier plan) paging)
+traffic_free plan paging traffic free =
+    let Rest : Carrier → Type 0 =
+    λ (c : Carrier). All (λ (d : Carrier). d.row ≢ c.row) (map (traffic_carrier plan) traffic) in
+    All-map Rest (paging_carrier plan) paging
+    (All-weaker (λ (p : PagingPlan). IsFreeOf traffic p.number)
+    (λ (p : PagingPlan). Rest (paging_carrier plan p))
+    (λ p is. All-map (λ (d : Carrier). d.row ≢ p.number) (traffic_carrier plan) traffic is)
+    paging free)
+
 paging_rows : (plan : CellPlan) (paging : List PagingPlan) → HaveOwnNumbers paging →
     HaveOwnRows (map (paging_carrier plan) paging)
 paging_rows plan [] own = tt
@@ -122,23 +165,30 @@ with_pilot plan cs aligned own others = record {
       ∙ +ℤ_idr (level chip (pilot_carrier plan)) ∙ pilot_level plan chip;
 }
 
+-- the sync channel and the paging channels
+abbrev continued : CellPlan → Option SyncPlan → List Carrier
+continued plan sync = sync_carriers plan sync ++ map (paging_carrier plan) plan.paging
+
 -- the others
 abbrev others : CellPlan → Option SyncPlan → List Carrier
-others plan sync = sync_carriers plan sync ++ map (paging_carrier plan) plan.paging
+others plan sync = continued plan sync ++ map (traffic_carrier plan) plan.traffic
 
--- what is true of the sync channel and of each paging channel is true of all of them
+-- what is true of the sync channel and of each paging and traffic channel is true of all of them
 others_all : (P : Carrier → Type 0) (width : Width) (plan : CellPlan) (sync : Option SyncPlan) →
     IsLawfulPlan width plan → ((s : SyncPlan) → P (sync_carrier plan s)) →
     ((p : PagingPlan) → 1 ≤ p.number → p.number ≤ 7 → P (paging_carrier plan p)) →
+    ((t : TrafficPlan) → IsTrafficPlan t → P (traffic_carrier plan t)) →
     All P (others plan sync)
-others_all P width plan sync lawful each paging =
-    All-append P (sync_carriers plan sync) (map (paging_carrier plan) plan.paging)
+others_all P width plan sync lawful each paging traffic =
+    All-append P (continued plan sync) (map (traffic_carrier plan) plan.traffic)
+    (All-append P (sync_carriers plan sync) (map (paging_carrier plan) plan.paging)
     (sync_all P plan sync each)
-    (paging_all P plan (paging_rate plan.sync) plan.paging paging lawful.paging)
+    (paging_all P plan (paging_rate plan.sync) plan.paging paging lawful.paging))
+    (traffic_all P plan plan.traffic traffic lawful.traffic.are)
 
-others_rows : (width : Width) (plan : CellPlan) → IsLawfulPlan width plan →
-    HaveOwnRows (others plan plan.sync)
-others_rows width plan lawful =
+continued_rows : (width : Width) (plan : CellPlan) → IsLawfulPlan width plan →
+    HaveOwnRows (continued plan plan.sync)
+continued_rows width plan lawful =
     let paging = map (paging_carrier plan) plan.paging in
     own_rows-append (sync_carriers plan plan.sync) paging (sync_rows plan plan.sync)
     (paging_rows plan plan.paging lawful.apart)
@@ -146,16 +196,30 @@ others_rows width plan lawful =
     (λ s. paging_all (λ (d : Carrier). d.row ≢ 32) plan (paging_rate plan.sync) plan.paging
     (λ p first last e. omega (arith, last, e)) lawful.paging))
 
+others_rows : (width : Width) (plan : CellPlan) → IsLawfulPlan width plan →
+    HaveOwnRows (others plan plan.sync)
+others_rows width plan lawful =
+    let traffic = map (traffic_carrier plan) plan.traffic in
+    let Rest : Carrier → Type 0 = λ (c : Carrier). All (λ (d : Carrier). d.row ≢ c.row) traffic in
+    own_rows-append (continued plan plan.sync) traffic (continued_rows width plan lawful)
+    (traffic_rows plan plan.traffic lawful.traffic.apart)
+    (All-append Rest (sync_carriers plan plan.sync) (map (paging_carrier plan) plan.paging)
+    (sync_all Rest plan plan.sync
+    (λ s. traffic_all (λ (d : Carrier). d.row ≢ 32) plan plan.traffic (λ t is. is.other)
+    lawful.traffic.are))
+    (traffic_free plan plan.paging plan.traffic lawful.traffic.free))
+
 pub plan_apart : (width : Width) (plan : CellPlan) → IsLawfulPlan width plan →
     AreApart plan.pilot.gain (carriers plan)
 unfolding carriers
 plan_apart width plan lawful =
     with_pilot plan (others plan plan.sync)
     (others_all IsAligned width plan plan.sync lawful (sync_aligned plan)
-    (λ p first last. paging_aligned plan p last))
+    (λ p first last. paging_aligned plan p last) (λ t is. traffic_aligned plan t is.last))
     (others_rows width plan lawful)
     (others_all (λ (c : Carrier). c.row ≢ 0) width plan plan.sync lawful
-    (λ s e. omega (arith, e)) (λ p first last e. omega (arith, first, e)))
+    (λ s e. omega (arith, e)) (λ p first last e. omega (arith, first, e))
+    (λ t is e. omega (arith, is.first, e)))
 
 -- ---- which of them are sent
 
@@ -176,18 +240,24 @@ pub paging_sent : (plan : CellPlan) (p : PagingPlan) → Contains plan.paging p 
     Contains (carriers plan) (paging_carrier plan p)
 unfolding carriers
 paging_sent plan p has =
-    Contains-append_right (pilot_carrier plan ∷ sync_carriers plan plan.sync)
-    (map (paging_carrier plan) plan.paging) (paging_carrier plan p)
-    (has_mapped (paging_carrier plan) plan.paging p has)
+    let first = pilot_carrier plan ∷ sync_carriers plan plan.sync in
+    let paging = map (paging_carrier plan) plan.paging in
+    Contains-append_left (first ++ paging) (map (traffic_carrier plan) plan.traffic)
+    (paging_carrier plan p)
+    (Contains-append_right first paging (paging_carrier plan p)
+    (has_mapped (paging_carrier plan) plan.paging p has))
 
 without_sync : (width : Width) (plan : CellPlan) → IsLawfulPlan width plan →
-    All (λ (c : Carrier). c.row ≢ 32)
-    (pilot_carrier plan ∷ map (paging_carrier plan) plan.paging)
+    All (λ (c : Carrier). c.row ≢ 32) (pilot_carrier plan ∷ others plan None)
 without_sync width plan lawful =
-    All-cons (λ (c : Carrier). c.row ≢ 32) (pilot_carrier plan)
-    (map (paging_carrier plan) plan.paging) (λ e. omega (arith, e))
-    (paging_all (λ (c : Carrier). c.row ≢ 32) plan (paging_rate plan.sync) plan.paging
+    let Other : Carrier → Type 0 = λ (c : Carrier). c.row ≢ 32 in
+    let paging = map (paging_carrier plan) plan.paging in
+    let traffic = map (traffic_carrier plan) plan.traffic in
+    All-cons Other (pilot_carrier plan) (paging ++ traffic) (λ e. omega (arith, e))
+    (All-append Other paging traffic
+    (paging_all Other plan (paging_rate plan.sync) plan.paging
     (λ p first last e. omega (arith, last, e)) lawful.paging)
+    (traffic_all Other plan plan.traffic (λ t is. is.other) lawful.traffic.are))
 
 pub sync_silent : (width : Width) (plan : CellPlan) → IsLawfulPlan width plan →
     plan.sync ≡ None → All (λ (c : Carrier). c.row ≢ 32) (carriers plan)
@@ -197,15 +267,17 @@ sync_silent width plan lawful none =
     (λ (s : Option SyncPlan). All (λ (c : Carrier). c.row ≢ 32)
     (pilot_carrier plan ∷ others plan s)) (sym none) (without_sync width plan lawful)
 
--- the number of a paging channel that a plan doesn't have is no channel's row
+-- the number of a paging channel that a plan doesn't have is no channel's row, where it isn't a
+-- traffic channel's
 pub paging_silent : (plan : CellPlan) (channel : ℕ) → 1 ≤ channel → channel ≤ 7 →
-    All (λ (p : PagingPlan). p.number ≢ channel) plan.paging →
+    All (λ (p : PagingPlan). p.number ≢ channel) plan.paging → IsFreeOf plan.traffic channel →
     All (λ (c : Carrier). c.row ≢ channel) (carriers plan)
 unfolding carriers
-paging_silent plan channel first last none =
-    All-cons (λ (c : Carrier). c.row ≢ channel) (pilot_carrier plan) (others plan plan.sync)
-    (λ e. omega (arith, first, e))
-    (All-append (λ (c : Carrier). c.row ≢ channel) (sync_carriers plan plan.sync)
-    (map (paging_carrier plan) plan.paging)
-    (sync_all (λ (c : Carrier). c.row ≢ channel) plan plan.sync (λ s e. omega (arith, last, e)))
-    (All-map (λ (c : Carrier). c.row ≢ channel) (paging_carrier plan) plan.paging none))
+paging_silent plan channel first last none free =
+    let Other : Carrier → Type 0 = λ (c : Carrier). c.row ≢ channel in
+    All-cons Other (pilot_carrier plan) (others plan plan.sync) (λ e. omega (arith, first, e))
+    (All-append Other (continued plan plan.sync) (map (traffic_carrier plan) plan.traffic)
+    (All-append Other (sync_carriers plan plan.sync) (map (paging_carrier plan) plan.paging)
+    (sync_all Other plan plan.sync (λ s e. omega (arith, last, e)))
+    (All-map Other (paging_carrier plan) plan.paging none))
+    (All-map Other (traffic_carrier plan) plan.traffic free))

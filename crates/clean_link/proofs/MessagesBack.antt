@@ -147,7 +147,7 @@ module _ (width : Width) (plan : CellPlan) (t : Tuning) (is : IsReceivable width
           | inl on ↦
               let low = ltb-true m.prat 2 on in
               let pages = pages_back width plan sync t t.paging m superframes is is.pages tuned
-              tuned.first_channel tuned.last_channel sends rate low true_mark in
+              tuned.first_channel tuned.last_channel tuned.free sends rate low true_mark in
               ap (map known_event) (pages ∙ ap (pages_sent plan t.paging) chip)
               ∙ sym (with_sync_is plan t.paging sync true _ (rated ∙ on) first_is)
           | inr off ↦

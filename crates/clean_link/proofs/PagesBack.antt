@@ -238,7 +238,8 @@ sent_bits sent width plan sync t channel m superframes p k is has numbered =
 pub pages_from : PagingFramesComeBack → SilentPagingFramesAreZeros → WholePagesComeBack →
     PagesComeBack
 unfolding pages_sent
-pages_from sent silent ends width plan sync t channel m superframes receivable stated tuned first last sends rate low marked =
+pages_from sent silent ends width plan sync t channel m superframes receivable stated tuned first
+    last free sends rate low marked =
     let is : HearsPages width plan sync t m superframes = record {
       receivable = receivable;
       tuned = tuned;
@@ -265,8 +266,8 @@ pages_from sent silent ends width plan sync t channel m superframes receivable s
     plan.paging (All-contains_itself plan.paging))
     (λ others.
     by_capsules width plan sync t channel m superframes is time (λ k. replicate bits false)
-    (λ k there. silent width plan t m superframes channel k receivable first last others tuned
-    marked there)
+    (λ k there. silent width plan t m superframes channel k receivable first last others free
+    tuned marked there)
     ∙ ap (flat_map (told_of t channel m))
     (zero_frames_end_none size (λ k. replicate bits false) bits (frames_behind plan superframes)
     (λ k below. refl)))

@@ -202,7 +202,7 @@ paging_words_alone width plan sync p t m superframes k is sends has on at told h
     (inside plan t s k on here))
 
 pub silent_paging_zero : SilentPagingIsZero
-silent_paging_zero width plan t m superframes channel k is first last none on at here =
+silent_paging_zero width plan t m superframes channel k is first last none free on at here =
     let s = paging_stream t channel m in
     let u = frame_start s k in
     let bits = scrambling (after m.lc (24576 * k)) (paging_mask channel m.pn) in
@@ -211,7 +211,7 @@ silent_paging_zero width plan t m superframes channel k is first last none on at
     (fingers_are plan t channel on)
     ∙ ap (unscrambled bits)
     (silent_rows width plan channel Data u is (omega (arith, last))
-    (paging_silent plan channel first last none)
+    (paging_silent plan channel first last none free)
     (record {
       room = omega (arith, paging_file_to t channel m on.alone k here, on.count);
       aligned = omega (arith, place);
@@ -220,8 +220,8 @@ silent_paging_zero width plan t m superframes channel k is first last none on at
     (length-scrambling (after m.lc (24576 * k)) (paging_mask channel m.pn))
 
 pub silent_paging_back : SilentPagingFramesAreZeros
-silent_paging_back width plan t m superframes channel k is first last none on at here =
+silent_paging_back width plan t m superframes channel k is first last none free on at here =
     let whole = whole_frames (kinds.TheVariants.Paging (paging_rate m.prat)) in
     silent_back t.count k (made_samples plan) (paging_stream t channel m) whole.enough
-    (λ j there. silent_paging_zero width plan t m superframes channel j is first last none on at
-    there) here
+    (λ j there. silent_paging_zero width plan t m superframes channel j is first last none free on
+    at there) here

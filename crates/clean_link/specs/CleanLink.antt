@@ -15,7 +15,7 @@ use Rattle.rake_finger.specs.declared.form.Form.{Form}
 use Rattle.sync_message.specs.SyncMessage.{sync_capsule}
 use Rattle.sync_message.specs.declared.fields.SyncFields.{SyncFields}
 use Rattle.base_modulator.specs.Pages.{paging_rate}
-use Rattle.base_modulator.specs.Plan.{IsLawfulPlan}
+use Rattle.base_modulator.specs.Plan.{IsFreeOf, IsLawfulPlan}
 use Rattle.base_modulator.specs.Sampled.{made_samples}
 use Rattle.base_modulator.specs.Script.{plan_named}
 use Rattle.base_modulator.specs.ScriptPlans.{IsStatedPaging}
@@ -46,7 +46,8 @@ pub record IsReceivable (width : Width) (plan : CellPlan) : Type 0 where
   pub link : 0 < norm plan.link.factor
   pub pages : All (IsStatedPaging (paging_rate plan.sync)) plan.paging
 
--- a handset with one finger, which lies on the cell's path, that follows one of the paging channels
+-- a handset with one finger, which lies on the cell's path, that follows one of the paging
+-- channels, whose row is no traffic channel's
 pub record IsTunedTo (plan : CellPlan) (t : Tuning) : Type 0 where
   pub count : t.count ≡ plan.link.samples
   pub checks : t.check30 ≡ plan.cell.check30
@@ -54,6 +55,7 @@ pub record IsTunedTo (plan : CellPlan) (t : Tuning) : Type 0 where
   pub alone : t.deltas ≡ pos 0 ∷ []
   pub first_channel : 1 ≤ t.paging
   pub last_channel : t.paging ≤ 7
+  pub free : IsFreeOf plan.traffic t.paging
 
 -- ---- channels as they are received
 

@@ -13,6 +13,7 @@ use Rattle.paging_message.specs.HalfFrames.{half_frame_body}
 use Rattle.paging_message.specs.Reading.{message_at, number_at}
 use Rattle.paging_message.specs.declared.message.PagingMessage.{PagingMessage}
 use Rattle.base_modulator.specs.Pages.{paging_rate}
+use Rattle.base_modulator.specs.Plan.{IsFreeOf}
 use Rattle.base_modulator.specs.Sampled.{made_samples}
 use Rattle.base_modulator.specs.ScriptPlans.{IsStatedPaging}
 use Rattle.base_modulator.specs.declared.plan.CellPlan.{CellPlan}
@@ -101,12 +102,12 @@ pages_sent plan channel mark_chip = pages_numbered plan plan.paging channel mark
 -- ---- the law
 
 -- A handset hears the whole pages of a channel behind its mark, each when it knows the frame of its
--- last bit, in order, and nothing else.
+-- last bit, in order, and nothing else, where no traffic channel has the channel's row.
 abbrev pub PagesComeBack : Type 0
 PagesComeBack = (width : Width) (plan : CellPlan) (sync : SyncPlan) (t : Tuning) (channel : ℕ)
     (m : Mark) (superframes : ℕ) →
     IsReceivable width plan → All (IsStatedPaging (paging_rate plan.sync)) plan.paging →
-    IsTunedTo plan t → 1 ≤ channel → channel ≤ 7 →
+    IsTunedTo plan t → 1 ≤ channel → channel ≤ 7 → IsFreeOf plan.traffic channel →
     plan.sync ≡ Some sync → m.prat ≡ sync.message.prat → m.prat < 2 →
     IsTrueMark plan m superframes →
     pages_within t channel (Some m) (made_samples plan) plan.link.samples ≡

@@ -33,6 +33,7 @@ cell samples = record {
     gain = 60;
     pages = page false 20 ∷ page true 21 ∷ page false 22 ∷ [];
   } ∷ [];
+  traffic = [];
 }
 
 -- when the pages behind superframe 8 are known, and their message types

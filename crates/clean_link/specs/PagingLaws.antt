@@ -8,6 +8,7 @@ use Rattle.symbol_path.specs.SentOrder.{data_shape, repeats_of, sent}
 use Rattle.viterbi.specs.Laws.{signed}
 use Rattle.cdma_io.specs.declared.width.Width.{Width}
 use Rattle.base_modulator.specs.PageCycles.{Cycle, cycle_frame_bits}
+use Rattle.base_modulator.specs.Plan.{IsFreeOf}
 use Rattle.base_modulator.specs.Sampled.{made_samples}
 use Rattle.base_modulator.specs.Sendings.{continued_symbols}
 use Rattle.base_modulator.specs.Signal.{cycle_of}
@@ -69,12 +70,14 @@ PagingWordsAreTheOnlyBest = (width : Width) (plan : CellPlan) (sync : SyncPlan) 
 
 -- ---- channels that are not
 
--- on the row of a channel that the cell doesn't send the soft values are all 0
+-- on the row of a channel that the cell doesn't send the soft values are all 0, where no traffic
+-- channel has it
 abbrev pub SilentPagingIsZero : Type 0
 SilentPagingIsZero = (width : Width) (plan : CellPlan) (t : Tuning) (m : Mark)
     (superframes channel k : ℕ) →
     IsReceivable width plan → 1 ≤ channel → channel ≤ 7 →
-    All (λ (p : PagingPlan). p.number ≢ channel) plan.paging → IsTunedTo plan t →
+    All (λ (p : PagingPlan). p.number ≢ channel) plan.paging → IsFreeOf plan.traffic channel →
+    IsTunedTo plan t →
     IsTrueMark plan m superframes → is_in_file t.count (paging_stream t channel m) k ≡ true →
     frame_softs (made_samples plan) (paging_stream t channel m) k ≡ replicate 384 (pos 0)
 
@@ -83,7 +86,8 @@ abbrev pub SilentPagingFramesAreZeros : Type 0
 SilentPagingFramesAreZeros = (width : Width) (plan : CellPlan) (t : Tuning) (m : Mark)
     (superframes channel k : ℕ) →
     IsReceivable width plan → 1 ≤ channel → channel ≤ 7 →
-    All (λ (p : PagingPlan). p.number ≢ channel) plan.paging → IsTunedTo plan t →
+    All (λ (p : PagingPlan). p.number ≢ channel) plan.paging → IsFreeOf plan.traffic channel →
+    IsTunedTo plan t →
     IsTrueMark plan m superframes → is_in_file t.count (paging_stream t channel m) k ≡ true →
     frame_own_bits t.count (made_samples plan) (paging_stream t channel m) k ≡
     replicate (paging_stream t channel m).channel.bits false

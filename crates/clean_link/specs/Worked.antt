@@ -37,6 +37,7 @@ cell start samples = record {
   pilot = record { gain = 100 };
   sync = Some (record { gain = 30; message = message });
   paging = [];
+  traffic = [];
 }
 
 -- when the whole sendings have been heard
