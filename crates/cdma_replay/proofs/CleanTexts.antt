@@ -1,7 +1,8 @@
 -- The text of a clean link.
 use Rattle.std.proofs.Common.{◌≡◌, ◌⊎◌, inl, inr, refl, ℕ, ◌≤◌, List, [], ◌∷◌, ◌++◌, length, take}
-use Rattle.std.proofs.Common.{sym, ap, ◌∙◌, pos, Option, Some, Ok}
+use Rattle.std.proofs.Common.{◌≢◌, sym, subst, ap, ◌∙◌, pos, Option, Some, Ok}
 use Rattle.std.specs.Prelude.{is_some, nat_lt}
+use Rattle.std.proofs.lemmas.List.Elements.{All-nil}
 use Rattle.chip_core.specs.declared.sample.Sample.{Sample}
 use Rattle.cdma_io.specs.SampleFile.{IsSampleFile}
 use Rattle.cdma_io.specs.declared.header.Header.{Header}
@@ -13,6 +14,8 @@ use Rattle.pilot_search.proofs.NearPlaces.{one_delta}
 use Rattle.base_modulator.specs.Script.{plan_named}
 use Rattle.base_modulator.specs.Transmitter.{phase_at}
 use Rattle.base_modulator.specs.declared.plan.CellPlan.{CellPlan}
+use Rattle.base_modulator.specs.declared.plan.TrafficPlan.{TrafficPlan}
+use Rattle.base_modulator.specs.Plan.{IsFreeOf}
 use Rattle.base_modulator.proofs.NamedPlans.{named_plan, named_said}
 use Rattle.event_tap.specs.Taps.{KeptTap, run_text}
 use Rattle.mobile_core.specs.Events.{events}
@@ -58,6 +61,7 @@ tuned : (width : Width) (script : List ℕ) (plan : CellPlan) (span : ℕ) (rece
     IsTunedTo plan (tuning_for header (take span samples) receiver)
 tuned width script plan span receiver header samples clean counted paging =
     let first = take span samples in
+    let none = (named_said width script plan clean.named).lawful.traffic in
     record {
       count = sym counted ∙ ap length clean.sent ∙ length-made plan;
       checks = clean.checks_of_30;
@@ -65,6 +69,8 @@ tuned width script plan span receiver header samples clean counted paging =
       alone = ap (near_deltas first (best_phase first)) clean.alone ∙ own_delta first;
       first_channel = paging.0;
       last_channel = paging.1;
+      free = subst (λ (ts : List TrafficPlan). IsFreeOf ts receiver.paging) (sym none)
+          (All-nil (λ (t : TrafficPlan). t.row ≢ receiver.paging));
     }
 
 best_pilot-at : (samples : List Sample) (phase : ℕ) → best_phase samples ≡ phase →
