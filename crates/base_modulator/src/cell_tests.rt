@@ -1,18 +1,25 @@
 //! Samples of cells that were computed elsewhere, by the standard's description of each channel.
 
 ghost use Rattle.std.specs.Prelude.{◌≡◌, ◌+◌, ◌<◌, ◌≤◌, ◌^◌, IfOk, IfSome, false, length};
+ghost use Rattle.std.specs.Prelude.{[], ◌∷◌};
 ghost use Rattle.std.specs.Option.{option_to_list};
 ghost use Rattle.base_modulator.specs.Plan.{IsLawfulPlan, IsPagingPlan, IsSyncPlan, sync_gain};
+ghost use Rattle.base_modulator.specs.Plan.{IsTrafficPlan};
+ghost use Rattle.base_modulator.specs.TrafficFrames.{IsTrafficFrame};
 ghost use Rattle.sync_message.specs.SyncMessage.{IsSyncMessage};
 ghost use Rattle.symbol_path.specs.declared.kinds.Rate.TheVariants.{R9600, R4800};
 
 use crate::Cell;
-use crate::plan::{CellIdentity, CellPlan, LinkPlan, Page, PagingPlan, PilotPlan, SyncPlan};
+use crate::plan::{
+    CellIdentity, CellPlan, LinkPlan, Page, PagingPlan, PilotPlan, SyncPlan, TrafficPlan,
+};
 use crate::series::Series;
+use crate::traffic_frame::TrafficFrame;
 use cdma_io::{Header, Width};
 use chip_core::{Bits, CheckForm, Pair, Sample};
 use std::alloc::Global;
 use std::test::Fail;
+use symbol_path::Rate;
 use sync_message::{SyncFields, SyncMessage};
 
 /// A message of 25 octets.
@@ -170,6 +177,91 @@ fn far_cell(
         traffic: Series::new(alloc),
     };
     Ok(Cell::of_plan(alloc, Width::Sixteen, plan)?)
+}
+
+/// A frame of 2400 bits a second. Its first and its last power control bit are 1.
+fn traffic_frame() -> TrafficFrame
+    ensures { IsTrafficFrame result }
+{
+    let mut information = Bits::empty();
+    information.append_number(40, 0x2a_f752_0981);
+    let mut commands = [false; 16];
+    commands[0] = true;
+    commands[15] = true;
+    TrafficFrame {
+        rate: Rate::R2400,
+        information,
+        commands,
+    }
+}
+
+/// A traffic channel on row 40 that sends this frame with the greatest FRAME_OFFSET.
+fn traffic_channel(alloc: Global) -> Result<TrafficPlan, Fail>
+    ensures { IfOk result (λ t. (t.gain ≡ 60) × IsTrafficPlan t) }
+{
+    let mut frames = Series::new(alloc);
+    frames.push(traffic_frame())?;
+    Ok(TrafficPlan {
+        row: 40,
+        esn: 1,
+        offset: 15,
+        gain: 60,
+        frames,
+    })
+}
+
+/// This channel alone.
+fn one_channel(alloc: Global, channel: TrafficPlan) -> Result<Series<TrafficPlan>, Fail>
+    ensures { IfOk result (λ all. all ≡ channel ∷ []) }
+{
+    let mut all = Series::new(alloc);
+    all.push(channel)?;
+    Ok(all)
+}
+
+/// A cell without an offset that sends a pilot of gain 100 and this channel.
+fn traffic_cell(alloc: Global, start: u64, samples: u64) -> Result<Cell, Fail>
+    requires start { start < 2 ^ 32 }
+    requires samples { samples ≤ 33554432 }
+    ensures { IfOk result (λ cell. (cell.given ≡ 0) × (cell.plan.link.samples ≡ samples)) }
+{
+    let channel = traffic_channel(alloc)?;
+    let traffic = one_channel(alloc, channel)?;
+    let plan = CellPlan {
+        cell: CellIdentity {
+            pn: 0,
+            time: 1000,
+            lc: 1,
+            check30: CheckForm::Plain,
+            check16: CheckForm::Plain,
+        },
+        link: LinkPlan {
+            factor: Pair { i: 0, q: -3 },
+            start,
+            samples,
+        },
+        pilot: PilotPlan { gain: 100 },
+        sync: None,
+        paging: Series::new(alloc),
+        traffic,
+    };
+    Ok(Cell::of_plan(alloc, Width::Sixteen, plan)?)
+}
+
+/// The next 64 symbols of a traffic channel of gain 60 beside a pilot of gain 100, the first one
+/// highest: a 0 where the first chip's amplitude is the sum of the gains, and a 1 where it is their
+/// difference.
+fn next_traffic_symbols(alloc: Global, cell: &mut Cell) -> Result<u64, Fail> {
+    let mut out = vec![in alloc; Sample { i: 0, q: 0 }; 64]?;
+    let mut symbols = 0;
+    for _symbol in 0..64u8 {
+        if cell.left() < 64 {
+            return Err("no samples".into());
+        }
+        cell.fill(&mut out);
+        symbols = symbols << 1 | u64::from(out[0].i % 480 != 0);
+    }
+    Ok(symbols)
 }
 
 /// Whether a cell's first 30,001 samples are these at these places.
@@ -365,5 +457,51 @@ fn header_of_the_file(rt: HostRuntime) -> Result<(), Fail> {
         count: 5,
     };
     assert_eq!(rt; wide.header(), header);
+    Ok(())
+}
+
+/// A traffic channel before its first frame, in it, and three frames behind it.
+#[test]
+fn traffic_behind_its_offset(rt: HostRuntime) -> Result<(), Fail> {
+    let mut out = [Sample { i: 0, q: 0 }; 64];
+    let mut cell = traffic_cell(rt.alloc(), 23_040 - 64, 64 + 24_576)?;
+    cell.fill(&mut out);
+    for sample in &out {
+        assert_eq!(rt; sample.i.unsigned_abs(), 300);
+    }
+    let first = [
+        0x5fa1_faa2_2eaa_7c83u64,
+        0xb4a1_466c_28c2_2431,
+        0x3c3b_1a43_9731_6070,
+        0xd029_2088_8022_6b25,
+        0x1e30_7236_ab0c_0b34,
+        0x52cc_4d42_4478_da3d,
+    ];
+    for symbols in first {
+        assert_eq!(rt; next_traffic_symbols(rt.alloc(), &mut cell)?, symbols);
+    }
+    assert_eq!(rt; cell.left(), 0);
+    let mut later = traffic_cell(rt.alloc(), 23_040 + 3 * 24_576, 64 * 64)?;
+    let symbols = next_traffic_symbols(rt.alloc(), &mut later)?;
+    assert_eq!(rt; symbols, 0x1fef_6b2d_035b_14bf);
+    Ok(())
+}
+
+/// The first symbol of a traffic channel is a 0, so its chips have the signs of row 40; those of the
+/// pilot have none.
+#[test]
+fn traffic_on_its_row(rt: HostRuntime) -> Result<(), Fail> {
+    let mut out = [Sample { i: 0, q: 0 }; 64];
+    let mut cell = traffic_cell(rt.alloc(), 23_040, 64)?;
+    cell.fill(&mut out);
+    for (chip, sample) in out.iter().enumerate() {
+        // Row 40 is 101000 binary, so a chip's sign is that of its bits 3 and 5.
+        let wanted = if (chip >> 3 ^ chip >> 5) & 1 == 0 {
+            480
+        } else {
+            120
+        };
+        assert_eq!(rt; sample.i.unsigned_abs(), wanted);
+    }
     Ok(())
 }
