@@ -2,6 +2,7 @@ pub mod Agreement
 pub mod Interleaving
 pub mod Gathering
 pub mod Permutation
+pub mod PowerControl
 pub mod PowerPlaces
 pub mod Reversal
 pub mod SymbolChips

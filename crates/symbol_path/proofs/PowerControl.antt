@@ -1,0 +1,18 @@
+-- Power control bits in place of symbols.
+use Rattle.std.proofs.Common.{◌≡◌, ℕ, ◌/◌, Bool, true, false, List, get_or, refl, sym, nat_eq, Some}
+use Rattle.std.specs.List.{list_any, slice_get}
+use Rattle.std.proofs.lemmas.Option.{get_or_from_slice_get}
+use Rattle.symbol_path.specs.Scrambling.{symbol_or_command}
+
+-- at a place that is replaced stands the bit of its group
+pub replaced_symbol : (replaced : List ℕ) (commands symbols : List Bool) (i group : ℕ) →
+    list_any (λ place. nat_eq place i) replaced ≡ true → group ≡ i / 24 →
+    get_or commands group false ≡ symbol_or_command replaced commands symbols i
+replaced_symbol replaced commands symbols i group found here = rw (found, here) refl
+
+-- elsewhere stands the symbol
+pub kept_symbol : (replaced : List ℕ) (commands symbols : List Bool) (i : ℕ) (symbol : Bool) →
+    list_any (λ place. nat_eq place i) replaced ≡ false → slice_get symbols i ≡ Some symbol →
+    symbol ≡ symbol_or_command replaced commands symbols i
+kept_symbol replaced commands symbols i symbol none read =
+    rw none (sym (get_or_from_slice_get symbols i symbol false read))
