@@ -17,7 +17,7 @@ use Rattle.frame_decoder.proofs.Parts.{within}
 use Rattle.frame_decoder.proofs.Gathered.{channel, length-gathered_span}
 use Rattle.frame_decoder.proofs.Scores.{score_is}
 
-first_greatest-same : (f g : ℕ → ℤ) (n : ℕ) → ((k : ℕ) → f k ≡ g k) →
+pub first_greatest-same : (f g : ℕ → ℤ) (n : ℕ) → ((k : ℕ) → f k ≡ g k) →
     first_greatest f n ≡ first_greatest g n
 unfolding first_greatest
 first_greatest-same f g zero h = refl

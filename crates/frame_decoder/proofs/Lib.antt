@@ -3,3 +3,7 @@ pub mod Gathered
 pub mod Scores
 pub mod BestWords
 pub mod OneFrame
+pub mod RateWords
+pub mod Unreplaced
+pub mod Chosen
+pub mod PowerSums

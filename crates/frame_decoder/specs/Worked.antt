@@ -1,9 +1,13 @@
 -- Worked values, which the checker computes.
-use Rattle.std.specs.Prelude.{◌≡◌, refl, true, false, [], ◌∷◌, pos}
+use Rattle.std.specs.Prelude.{◌≡◌, refl, true, false, [], ◌∷◌, ◌++◌, map, replicate, pos, negsuc}
 use Rattle.chip_core.specs.Bits.{binary, places}
+use Rattle.quality_bits.specs.Quality.{check_bits}
 use Rattle.symbol_path.specs.SentOrder.{data_shape, sent, gathered}
-use Rattle.symbol_path.specs.declared.kinds.Rate.TheVariants.{R9600, R4800}
+use Rattle.symbol_path.specs.declared.kinds.Rate.TheVariants.{R9600, R4800, R2400, R1200}
 use Rattle.frame_decoder.specs.Spans.{Channel, paging_channel, sending, sent_frames, gathered_span}
+use Rattle.frame_decoder.specs.TrafficFrames.{unreplaced, has_quality, shown, preferred, good_or}
+use Rattle.frame_decoder.specs.TrafficFrames.{group_sum, command}
+use Rattle.frame_decoder.specs.declared.traffic.Decoded.{Decoded}
 
 paging_9600 : paging_channel R9600 ≡ record { shape = data_shape; bits = 192; repeats = 1 }
 paging_9600 = refl
@@ -31,3 +35,70 @@ two_gathered : gathered_span small_twice 2
     ≡ pos 4 ∷ pos 6 ∷ pos 12 ∷ pos 14 ∷ []
 unfolding small_twice gathered places binary
 two_gathered = refl
+
+-- the values at two of four places are left out
+left_out : unreplaced (1 ∷ 3 ∷ []) (pos 5 ∷ pos 6 ∷ pos 7 ∷ pos 8 ∷ [])
+    ≡ pos 5 ∷ pos 0 ∷ pos 7 ∷ pos 0 ∷ []
+unfolding unreplaced places
+left_out = refl
+
+-- quality indicators of frames, and one with its last bit changed
+right_9600 : has_quality R9600
+    (binary 64 0x6eb96f6d68690b65 ++ binary 64 0xaa73026f6b41c7ad ++ binary 64 0x3f68aa220659a200)
+    ≡ true
+unfolding binary places check_bits
+right_9600 = refl
+
+wrong_9600 : has_quality R9600
+    (binary 64 0x6eb96f6d68690b65 ++ binary 64 0xaa73026f6b41c7ad ++ binary 64 0x3f68aa220659a300)
+    ≡ false
+unfolding binary places check_bits
+wrong_9600 = refl
+
+right_4800 : has_quality R4800 (binary 64 0xe17e1018de3b9058 ++ binary 32 0x4cd96800) ≡ true
+unfolding binary places check_bits
+right_4800 = refl
+
+-- a frame of zeros has no right quality indicator, and at the lower rates none at all
+zeros_9600 : has_quality R9600 (replicate 192 false) ≡ false
+unfolding places check_bits
+zeros_9600 = refl
+
+zeros_4800 : has_quality R4800 (replicate 96 false) ≡ false
+unfolding places check_bits
+zeros_4800 = refl
+
+zeros_2400 : has_quality R2400 (replicate 48 false) ≡ true
+zeros_2400 = refl
+
+-- a frame of each of two rates, of the same score
+abbrev quarter : Decoded
+quarter = shown R2400 (replicate 48 false) (pos 352)
+
+abbrev eighth : Decoded
+eighth = shown R1200 (replicate 24 false) (pos 352)
+
+tie : preferred true quarter eighth ≡ quarter
+tie = refl
+
+no_candidate : preferred false quarter eighth ≡ eighth
+no_candidate = refl
+
+-- a score of 0 isn't good, and only it is kept then
+nothing_good : good_or (replicate 192 false) (shown R2400 (replicate 48 true) (pos 0))
+    ≡ record { rate = R9600; good = false; bits = replicate 172 false; score = pos 0 }
+nothing_good = refl
+
+-- two power control bits on one subchannel: the sum of the second isn't above 0
+two_groups : map (group_sum (0 ∷ 1 ∷ 4 ∷ 5 ∷ [])
+    (pos 2 ∷ negsuc 0 ∷ pos 9 ∷ pos 9 ∷ pos 3 ∷ negsuc 2 ∷ [])) (0 ∷ 1 ∷ [])
+    ≡ pos 1 ∷ pos 0 ∷ []
+two_groups = refl
+
+one_subchannel : map (command ((pos 1 ∷ pos 0 ∷ []) ∷ [])) (0 ∷ 1 ∷ []) ≡ false ∷ true ∷ []
+one_subchannel = refl
+
+-- a second subchannel says 1 where the first says 0
+two_subchannels : map (command ((pos 1 ∷ pos 0 ∷ []) ∷ (negsuc 4 ∷ pos 7 ∷ []) ∷ [])) (0 ∷ 1 ∷ [])
+    ≡ true ∷ true ∷ []
+two_subchannels = refl

@@ -4,14 +4,22 @@
 //! of theirs has a tail (TIA/EIA-95-B, 7.7.1.2 and 7.1.3.1.3). So the bits near a frame's edges are
 //! told by the frames beside it too, and a frame is decoded as a part of a span: one, two or three
 //! frames that follow one another, as one word of the code.
+//!
+//! A frame of a traffic channel ends with tail bits (7.1.3.5), so it is decoded by itself, and at
+//! each of the four rates, since nothing says at which it was sent. The power control bits in it
+//! are read beside it.
 #![tactic(auto)]
 
 pub mod laws;
 mod layout;
+mod power;
 mod span;
+mod traffic;
 
 pub use layout::FrameKind;
+pub use power::{PowerSofts, commands};
 pub use span::{paging_span, span_bits, sync_span};
+pub use traffic::{Decoded, traffic_frame};
 
 #[cfg(test)]
 mod tests;

@@ -1,0 +1,10 @@
+use Rattle.std.proofs.Common.{◌≡◌, ◌<◌, ℕ, length, get_or, false}
+use Rattle.frame_decoder.specs.TrafficFrames.{subchannels, command}
+use Rattle.frame_decoder.proofs.power.commands.Given as goal
+
+abbrev pub invariant-loop-group : goal.invariant-loop-group
+invariant-loop-group l = record {
+  long : length l.bits ≡ 16;
+  each : (g : ℕ) → g < l.group →
+      get_or l.bits g false ≡ command (subchannels l.fn.softs) g;
+}

@@ -1,0 +1,102 @@
+//! Power control bits, as a handset hears them.
+
+ghost use Rattle.std.specs.Prelude.{◌≡◌, ◌<◌, ◌≤◌, ◌+◌, ◌*◌, ◌^◌, ◌++◌, ◌∷◌, [], map};
+ghost use Rattle.std.specs.Prelude.{sum_by, unsigned_abs, All, get_or, pos, int_lt};
+ghost use Rattle.std.specs.List.Sorted.{IsStrictlyIncreasing};
+ghost use Rattle.chip_core.specs.Bits.{places};
+ghost use Rattle.frame_decoder.specs.TrafficFrames.{group_sums, subchannels, is_up, command};
+
+/// What a handset hears of a frame's power control bits, on up to six subchannels.
+///
+/// TIA/EIA-95-B, 7.1.3.1.7: a frame has 16 power control bits, each in place of two symbols, which
+/// aren't scrambled.
+#[derive(Clone, Copy, PartialEq, Eq, Debug)]
+pub struct PowerSofts {
+    /// How many subchannels are heard, at most six.
+    pub count: u8,
+    /// For each of them the sums of the two soft values of each power control bit. What stands
+    /// behind the first `count` means nothing.
+    pub sums: [[i64; 16]; 6],
+}
+
+impl PowerSofts {
+    /// What is heard on no subchannel.
+    pub fn empty() -> PowerSofts
+        ensures value { subchannels result ≡ [] }
+        ensures count { result.count ≡ 0 }
+    {
+        PowerSofts {
+            count: 0,
+            sums: [[0; 16]; 6],
+        }
+    }
+
+    /// Adds a subchannel, where there is room: `softs` has the soft values of a frame's symbols as
+    /// its fingers hear them together, which no scrambling turns, and `replaced` the places of the
+    /// power control bits, as `symbol_path::power_places` gives them.
+    pub fn push(&mut self, softs: &[i64; 384], replaced: &[u16; 32])
+        requires room { self.old.count < 6 }
+        requires below { All (λ place. place < 384) replaced.now }
+        requires rising { IsStrictlyIncreasing replaced.now }
+        requires bound { sum_by unsigned_abs softs.now ≤ 2 ^ 62 }
+        ensures value { subchannels self.new ≡
+            subchannels self.old ++ group_sums replaced.now softs.now ∷ [] }
+        ensures count { self.new.count ≡ self.old.count + 1 }
+    {
+        self.sums[usize::from(self.count)] = group_sums(softs, replaced);
+        self.count += 1;
+    }
+}
+
+/// For each of a frame's 16 power control bits the sum of its two soft values.
+fn group_sums(softs: &[i64; 384], replaced: &[u16; 32]) -> [i64; 16]
+    requires below { All (λ place. place < 384) replaced.now }
+    requires rising { IsStrictlyIncreasing replaced.now }
+    requires bound { sum_by unsigned_abs softs.now ≤ 2 ^ 62 }
+    ensures { result ≡ group_sums replaced.now softs.now }
+{
+    let mut sums = [0; 16];
+    for group in 0..16 {
+        let first = usize::from(replaced[2 * group]);
+        let second = usize::from(replaced[2 * group + 1]);
+        sums[group] = softs[first] + softs[second];
+    }
+    sums
+}
+
+/// Whether the sum of a group, below 16, is above 0.
+fn is_above_zero(sums: &[i64; 16], group: usize) -> bool
+    requires { group < 16 }
+    ensures { result ≡ int_lt (pos 0) (get_or sums.now group (pos 0)) }
+{
+    sums[group] > 0
+}
+
+/// Whether the power control bit of a group, below 16, is heard as 0 on each of these subchannels.
+fn is_up(heard: &[[i64; 16]], group: usize) -> bool
+    requires { group < 16 }
+    ensures { result ≡ is_up group heard.now }
+{
+    let mut up = true;
+    for sums in heard {
+        up &= is_above_zero(sums, group);
+    }
+    up
+}
+
+/// The 16 power control bits of a frame: a bit is 0, which tells the handset to raise its power,
+/// exactly where the sum of its soft values is above 0 on each subchannel, and else 1, which tells
+/// it to lower it.
+///
+/// TIA/EIA-95-B, 7.1.3.1.7: a 0 raises the power and a 1 lowers it.
+pub fn commands(softs: &PowerSofts) -> [bool; 16]
+    requires { softs.now.count ≤ 6 }
+    ensures { result ≡ map (command (subchannels softs.now)) (places 16) }
+{
+    let heard = &softs.sums[..usize::from(softs.count)];
+    let mut bits = [false; 16];
+    for group in 0..16 {
+        bits[group] = !is_up(heard, group);
+    }
+    bits
+}
