@@ -7,3 +7,7 @@ pub mod RateWords
 pub mod Unreplaced
 pub mod Chosen
 pub mod PowerSums
+pub mod ZeroWords
+pub mod MaskedScores
+pub mod SentFrames
+pub mod NothingHeard

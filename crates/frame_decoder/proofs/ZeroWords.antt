@@ -1,0 +1,76 @@
+-- The words that start from eight zeros and end with eight zeros, and the best of them.
+use Rattle.std.proofs.Common.{◌≡◌, ℕ, ◌-◌, ◌^◌, ◌<◌, ◌≤◌, Bool, false, List, ◌++◌, length}
+use Rattle.std.proofs.Common.{take, drop, reverse, replicate, refl, sym, ap, subst, ◌∙◌, arith}
+use Rattle.std.proofs.Common.{ℤ, ◌≤ℤ◌, length-append}
+use Rattle.std.proofs.lemmas.List.{length-take-le, length-reverse, take-append-drop, drop_at}
+use Rattle.std.proofs.lemmas.Nat.{pow_pos}
+use Rattle.chip_core.specs.Bits.{binary}
+use Rattle.chip_core.specs.Packed.{low_first}
+use Rattle.chip_core.specs.Sums.{first_greatest, IsFirstGreatest}
+use Rattle.chip_core.proofs.Greatest.{first_greatest-is}
+use Rattle.chip_core.proofs.RegisterBits.{length-binary}
+use Rattle.viterbi.specs.Words.{Word, word_count, word_at, best_word}
+use Rattle.viterbi.specs.Best.{IsAllowed}
+use Rattle.viterbi.specs.States.{low_bits}
+use Rattle.viterbi.specs.declared.word.Ends.TheVariants.{Zero}
+use Rattle.viterbi.proofs.Ranks.{low_first_below}
+use Rattle.viterbi.proofs.StateBits.{reverse-binary, low_bits-low_first}
+use Rattle.viterbi.proofs.Choices.{words_same}
+
+-- each word of the definition is allowed
+zero_word_allowed : (n r : ℕ) → 8 ≤ n → IsAllowed Zero n (word_at Zero n r)
+zero_word_allowed n r least =
+    let middle = reverse (binary (n - 8) r) in
+    let long : length middle ≡ n - 8 = length-reverse (binary (n - 8) r)
+    ∙ length-binary (n - 8) r in
+    let size : length (middle ++ replicate 8 false) ≡ n = length-append middle (replicate 8 false)
+    ∙ omega (arith, least, long) in
+    record {
+      start_long = refl;
+      bits_long = size;
+      begins = refl;
+      closes = ap (λ (k : ℕ). drop (k - 8) (middle ++ replicate 8 false)) size
+          ∙ drop_at middle (replicate 8 false) (n - 8) long;
+    }
+
+-- and each allowed word is one of them
+record IsAt (n : ℕ) (w : Word) : Type 0 where
+  number : ℕ
+  below : number < word_count Zero n
+  is : word_at Zero n number ≡ w
+
+allowed_at : (n : ℕ) (w : Word) → 8 ≤ n → IsAllowed Zero n w → IsAt n w
+allowed_at n w least h =
+    let front = take (n - 8) w.bits in
+    let size : length front ≡ n - 8 = length-take-le (n - 8) w.bits (omega (arith, h.bits_long)) in
+    let below : low_first front < 2 ^ (n - 8) = rw size at (low_first_below front) in
+    let again : low_bits (n - 8) (low_first front) ≡ front =
+    rw size at (low_bits-low_first front) in
+    let closes : drop (n - 8) w.bits ≡ replicate 8 false = ap (λ (k : ℕ). drop (k - 8) w.bits)
+    (sym h.bits_long) ∙ h.closes in
+    record {
+      number = low_first front;
+      below = below;
+      is = words_same (word_at Zero n (low_first front)) w (sym h.begins)
+          (ap (λ (xs : List Bool). xs ++ replicate 8 false)
+          (reverse-binary (n - 8) (low_first front) ∙ again)
+          ∙ ap (λ (xs : List Bool). front ++ xs) (sym closes)
+          ∙ take-append-drop (n - 8) w.bits);
+    }
+
+-- the best word is allowed
+pub best_zero_word_allowed : (f : Word → ℤ) (n : ℕ) → 8 ≤ n → IsAllowed Zero n (best_word f Zero n)
+unfolding best_word
+best_zero_word_allowed f n least = zero_word_allowed n _ least
+
+-- and no allowed word has a greater score
+pub best_zero_word_greatest : (f : Word → ℤ) (n : ℕ) (w : Word) → 8 ≤ n → IsAllowed Zero n w →
+    f w ≤ℤ f (best_word f Zero n)
+unfolding best_word
+best_zero_word_greatest f n w least h =
+    let g : ℕ → ℤ = λ r. f (word_at Zero n r) in
+    let best = first_greatest g (word_count Zero n) in
+    let here = allowed_at n w least h in
+    let greatest : IsFirstGreatest g (word_count Zero n) best =
+    first_greatest-is g (word_count Zero n) (pow_pos (n - 8)) in
+    subst (λ (v : Word). f v ≤ℤ g best) here.is (greatest.greatest here.number here.below)
