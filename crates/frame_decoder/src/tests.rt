@@ -3,9 +3,11 @@
 ghost use Rattle.std.specs.Prelude.{◌≡◌, ◌≤◌, ◌*◌, ◌^◌, ◌↔◌, IsTrue, All, length, sum_by};
 ghost use Rattle.std.specs.Prelude.{unsigned_abs};
 
-use crate::{paging_span, sync_span};
-use chip_core::Bits;
+use crate::{Decoded, PowerSofts, commands, paging_span, sync_span, traffic_frame};
+use chip_core::{Bits, CheckForm};
 use conv_code::encode_into;
+use quality_bits::{Kind as QualityKind, append_check};
+use std::process::Abort;
 use std::test::Fail;
 use symbol_path::{Kind, Rate, place_into};
 use viterbi::Decoder;
@@ -132,4 +134,101 @@ fn nothing_heard(rt: HostRuntime) -> Result<(), Fail> {
         assert!(rt; !sync.get(i) && !paging.get(i));
     }
     Ok(())
+}
+
+/// Two symbols in each of 16 groups of 24.
+const REPLACED: [u16; 32] = [
+    5, 6, 24, 25, 63, 64, 75, 76, 103, 104, 132, 133, 145, 146, 177, 178, 206, 207, 218, 219, 246,
+    247, 275, 276, 292, 293, 320, 321, 349, 350, 370, 371,
+];
+
+/// What is decoded of a traffic frame with these bits.
+fn decoded_of(rt: &impl Abort, decoder: &mut Decoder, rate: Rate, bits: &Bits) -> Decoded
+    requires room { 192 ≤ decoder.old }
+    requires bits { length bits.now ≤ 192 }
+    ensures { decoder.new ≡ decoder.old }
+{
+    let mut code = Bits::empty();
+    encode_into(0, bits, &mut code);
+    assert_eq!(rt; code.len(), rate.code_symbols());
+    let mut sent = Bits::empty();
+    place_into(Kind::Data, rate.repeats(), &code, &mut sent);
+    let mut softs = [0; 384];
+    hear(&sent, &mut softs);
+    assert!(rt; is_bounded(&softs));
+    traffic_frame(decoder, &softs, &REPLACED)
+}
+
+#[test]
+fn a_traffic_frame_at_9600(rt: HostRuntime) -> Result<(), Fail> {
+    let mut decoder = Decoder::new(rt.alloc(), 192)?;
+    let information = some_bits(172);
+    let mut bits = information;
+    append_check(QualityKind::Q12, CheckForm::Plain, &mut bits);
+    assert_eq!(rt; bits.len(), 184);
+    bits.append_number(8, 0);
+    assert_eq!(rt; bits.len(), 192);
+    let frame = decoded_of(&rt, &mut decoder, Rate::R9600, &bits);
+    assert!(rt; frame.good && frame.rate == Rate::R9600 && frame.bits == information);
+    Ok(())
+}
+
+#[test]
+fn a_traffic_frame_at_4800(rt: HostRuntime) -> Result<(), Fail> {
+    let mut decoder = Decoder::new(rt.alloc(), 192)?;
+    let information = some_bits(80);
+    let mut bits = information;
+    append_check(QualityKind::Q8, CheckForm::Plain, &mut bits);
+    assert_eq!(rt; bits.len(), 88);
+    bits.append_number(8, 0);
+    assert_eq!(rt; bits.len(), 96);
+    let frame = decoded_of(&rt, &mut decoder, Rate::R4800, &bits);
+    assert!(rt; frame.good && frame.rate == Rate::R4800 && frame.bits == information);
+    Ok(())
+}
+
+#[test]
+fn traffic_frames_without_a_quality_indicator(rt: HostRuntime) -> Result<(), Fail> {
+    let mut decoder = Decoder::new(rt.alloc(), 192)?;
+    let information = some_bits(40);
+    let mut bits = information;
+    bits.append_number(8, 0);
+    assert_eq!(rt; bits.len(), 48);
+    let frame = decoded_of(&rt, &mut decoder, Rate::R2400, &bits);
+    assert!(rt; frame.good && frame.rate == Rate::R2400 && frame.bits == information);
+
+    let information = some_bits(16);
+    let mut bits = information;
+    bits.append_number(8, 0);
+    assert_eq!(rt; bits.len(), 24);
+    let frame = decoded_of(&rt, &mut decoder, Rate::R1200, &bits);
+    assert!(rt; frame.good && frame.rate == Rate::R1200 && frame.bits == information);
+    Ok(())
+}
+
+// Zeros are a word of each rate, with the same symbols at all four; at 9,600 and 4,800 their
+// quality indicator would not be zeros.
+#[test]
+fn the_higher_rate_on_a_tie(rt: HostRuntime) -> Result<(), Fail> {
+    let mut decoder = Decoder::new(rt.alloc(), 192)?;
+    let softs = [2; 384];
+    assert!(rt; is_bounded(&softs));
+    let frame = traffic_frame(&mut decoder, &softs, &REPLACED);
+    assert!(rt; frame.good && frame.rate == Rate::R2400);
+    assert_eq!(rt; frame.score, 704);
+    assert_eq!(rt; frame.bits.len(), 40);
+    Ok(())
+}
+
+#[test]
+fn a_command_needs_each_subchannel(rt: HostRuntime) {
+    let mut power = PowerSofts::empty();
+    power.count = 2;
+    power.sums[0] = [4; 16];
+    power.sums[1] = [1; 16];
+    power.sums[1][3] = 0;
+    power.sums[1][9] = -1;
+    let bits = commands(&power);
+    assert!(rt; bits[3] && bits[9]);
+    assert!(rt; !bits[0] && !bits[2] && !bits[15]);
 }
