@@ -2,6 +2,7 @@ pub mod CarriedPages
 pub mod NamedPlans
 pub mod ScriptAnswers
 pub mod ScriptBounds
+pub mod ScriptFrames
 pub mod ScriptLaws
 pub mod ScriptMessages
 pub mod ScriptNumbers

@@ -28,38 +28,48 @@ use Rattle.base_modulator.specs.declared.plan.SyncPlan.{SyncPlan}
 use Rattle.base_modulator.specs.declared.script.stage.Stage.{Stage}
 use Rattle.base_modulator.specs.declared.script.stage.Stage.TheVariants.{Cell, Link, Pilot, Sync}
 use Rattle.base_modulator.specs.declared.script.stage.Stage.TheVariants.{Paging, FirstPage, Pages}
-use Rattle.base_modulator.specs.declared.script.stage.Stage.TheVariants.{End}
+use Rattle.base_modulator.specs.declared.script.stage.Stage.TheVariants.{Traffic, FirstFrame}
+use Rattle.base_modulator.specs.declared.script.stage.Stage.TheVariants.{Frames}
+use Rattle.base_modulator.specs.declared.plan.TrafficPlan.{TrafficPlan}
+use Rattle.base_modulator.specs.declared.traffic_frame.TrafficFrame.{TrafficFrame}
 use Rattle.base_modulator.specs.declared.script.statements.PagingLine.{PagingLine}
+use Rattle.base_modulator.specs.declared.script.statements.TrafficLine.{TrafficLine}
 use Rattle.base_modulator.specs.declared.script.statements.Statement.{Statement}
 use Rattle.base_modulator.specs.declared.script.statements.Statement.TheVariants as statements
 use Rattle.base_modulator.specs.declared.script_fault.ScriptFault.{ScriptFault}
 use Rattle.base_modulator.specs.declared.script_fault.ScriptFault.TheVariants.{Gain, TooBig, Walsh}
 use Rattle.base_modulator.specs.Plan.{loudness, most_part, IsLawfulPlan, IsSyncPlan}
 use Rattle.base_modulator.specs.Script.{draft_after, gain_fault, is_line, lines, long_fault}
-use Rattle.base_modulator.specs.Script.{loud_fault, named, paging_lines, plan_fault, plan_named}
+use Rattle.base_modulator.specs.Script.{channel_lines, loud_fault, named, plan_fault, plan_named}
+use Rattle.base_modulator.specs.Script.{traffic_lines}
 use Rattle.base_modulator.specs.Script.{repeated, silent, stated, stated_plan, sync_gain_fault}
 use Rattle.base_modulator.specs.Script.{unless, walsh_fault}
-use Rattle.base_modulator.specs.ScriptDrafts.{draft_at, Draft, empty_draft, opened}
+use Rattle.base_modulator.specs.ScriptDrafts.{draft_at, Draft, empty_draft, empty_plan, opened}
+use Rattle.base_modulator.specs.ScriptDrafts.{opened_traffic, with_frame}
+use Rattle.base_modulator.specs.ScriptJudged.{IsInOrder}
 use Rattle.base_modulator.specs.ScriptDrafts.{plan_at, with_line, with_next, with_page}
 use Rattle.base_modulator.specs.ScriptDrafts.{with_statement}
 use Rattle.base_modulator.specs.ScriptLines.{statement_in}
 use Rattle.base_modulator.specs.ScriptPlans.{AreHeard, HasSaid, IsLawful, IsStatedCell}
 use Rattle.base_modulator.specs.ScriptPlans.{IsStatedLink, IsStatedPaging, IsStatedPlan}
-use Rattle.base_modulator.specs.ScriptPlans.{IsStatedSync}
-use Rattle.base_modulator.specs.ScriptStages.{after_cell, after_link, after_page, after_paging}
-use Rattle.base_modulator.specs.ScriptStages.{after_pilot, after_sync, behind_sync, count_behind}
+use Rattle.base_modulator.specs.ScriptPlans.{IsStatedSync, IsStatedTraffic}
+use Rattle.base_modulator.specs.TrafficFrames.{IsTrafficFrame}
+use Rattle.base_modulator.specs.ScriptStages.{after_cell, after_frame, after_link, after_page}
+use Rattle.base_modulator.specs.ScriptStages.{after_paging, after_pilot, after_sync, after_traffic}
+use Rattle.base_modulator.specs.ScriptStages.{behind_sync, count_behind}
 use Rattle.base_modulator.specs.ScriptStages.{is_cycle, may_follow, next_stage}
 use Rattle.base_modulator.specs.ScriptStages.{pages_behind}
 use Rattle.base_modulator.proofs.ScriptBounds.{line_bounds, passed}
 use Rattle.base_modulator.proofs.ScriptPages.{with_page-last}
-use Rattle.base_modulator.proofs.ScriptNumbers.{few_channels, have_own_numbers, some_gains}
+use Rattle.base_modulator.proofs.ScriptNumbers.{few_channels, have_own_numbers, lawful_beside}
+use Rattle.base_modulator.proofs.ScriptNumbers.{some_gains}
 use Rattle.base_modulator.proofs.ScriptSplits.{stated-fault, stated-next, stated-none}
-use Rattle.base_modulator.proofs.TrafficPlans.{no_traffic}
+use Rattle.base_modulator.proofs.ScriptFrames.{with_frame-last}
 
 -- ---- pages of a cycle
 
 -- the body bits of a cycle behind these pages
-abbrev count_of : ℕ → ℕ → List Page → ℕ
+abbrev pub count_of : ℕ → ℕ → List Page → ℕ
 count_of size count [] = count
 count_of size count (page ∷ pages) =
     count_of size (laid_behind size count page.follows (38 + length page.body)) pages
@@ -98,29 +108,49 @@ heard-append size count (p ∷ pages) page are is room = (
 -- ---- the channels at a stage
 
 -- the last channel is under way: its pages have so many body bits
-record IsOpen (rate : Rate) (count : ℕ) (plan : CellPlan) : Type 0 where
+pub record IsOpen (rate : Rate) (count : ℕ) (plan : CellPlan) : Type 0 where
   pub rate_is : paging_rate plan.sync ≡ rate
   pub before : List PagingPlan
   pub last : PagingPlan
   pub channels : plan.paging ≡ before ++ last ∷ []
+  pub bare : plan.traffic ≡ []
   pub stated : All (IsStatedPaging rate) before
   pub number : (1 ≤ last.number) × (last.number ≤ 7)
   pub pages : AreSendable (half_frame_body rate) 0 last.pages
   pub heard : AreHeard (half_frame_body rate) 0 last.pages
   pub laid : count ≡ count_of (half_frame_body rate) 0 last.pages
 
-abbrev HasPages : Rate → ℕ → CellPlan → Type 0
+abbrev pub HasPages : Rate → ℕ → CellPlan → Type 0
 HasPages rate count plan = (o : IsOpen rate count plan) × (1 ≤ length o.last.pages)
 
-abbrev HasChannels : Stage → CellPlan → Type 0
-HasChannels Cell plan = plan.paging ≡ []
-HasChannels Link plan = plan.paging ≡ []
-HasChannels Pilot plan = plan.paging ≡ []
-HasChannels Sync plan = plan.paging ≡ []
-HasChannels (Paging rate) plan = (plan.paging ≡ []) × (paging_rate plan.sync ≡ rate)
+-- the last traffic channel is under way
+pub record IsOpenTraffic (plan : CellPlan) : Type 0 where
+  pub paging : All (IsStatedPaging (paging_rate plan.sync)) plan.paging
+  pub before : List TrafficPlan
+  pub last : TrafficPlan
+  pub channels : plan.traffic ≡ before ++ last ∷ []
+  pub stated : All IsStatedTraffic before
+  pub bounds : (last.row ≤ 63) × (last.offset ≤ 15)
+  pub frames : All IsTrafficFrame last.frames
+
+abbrev pub HasFrames : CellPlan → Type 0
+HasFrames plan = (o : IsOpenTraffic plan) × (1 ≤ length o.last.frames)
+
+-- no paging channel and no traffic channel
+abbrev pub IsBare : CellPlan → Type 0
+IsBare plan = (plan.paging ≡ []) × (plan.traffic ≡ [])
+
+abbrev pub HasChannels : Stage → CellPlan → Type 0
+HasChannels Cell plan = IsBare plan
+HasChannels Link plan = IsBare plan
+HasChannels Pilot plan = IsBare plan
+HasChannels Sync plan = IsBare plan
+HasChannels (Paging rate) plan = IsBare plan × (paging_rate plan.sync ≡ rate)
 HasChannels (FirstPage rate) plan = IsOpen rate 0 plan
 HasChannels (Pages rate count) plan = HasPages rate count plan
-HasChannels End plan = plan.paging ≡ []
+HasChannels Traffic plan = IsBare plan
+HasChannels FirstFrame plan = IsOpenTraffic plan
+HasChannels Frames plan = HasFrames plan
 
 -- ---- one statement more
 
@@ -136,7 +166,9 @@ channels_cell Sync next plan cell has e = absurd (cc e)
 channels_cell (Paging rate) next plan cell has e = absurd (cc e)
 channels_cell (FirstPage rate) next plan cell has e = absurd (cc e)
 channels_cell (Pages rate count) next plan cell has e = absurd (cc e)
-channels_cell End next plan cell has e = absurd (cc e)
+channels_cell Traffic next plan cell has e = absurd (cc e)
+channels_cell FirstFrame next plan cell has e = absurd (cc e)
+channels_cell Frames next plan cell has e = absurd (cc e)
 
 channels_link : (stage next : Stage) (plan : CellPlan) (link : LinkPlan) →
     HasChannels stage plan → after_link stage ≡ Some next →
@@ -150,7 +182,9 @@ channels_link Sync next plan link has e = absurd (cc e)
 channels_link (Paging rate) next plan link has e = absurd (cc e)
 channels_link (FirstPage rate) next plan link has e = absurd (cc e)
 channels_link (Pages rate count) next plan link has e = absurd (cc e)
-channels_link End next plan link has e = absurd (cc e)
+channels_link Traffic next plan link has e = absurd (cc e)
+channels_link FirstFrame next plan link has e = absurd (cc e)
+channels_link Frames next plan link has e = absurd (cc e)
 
 channels_pilot : (stage next : Stage) (plan : CellPlan) (pilot : PilotPlan) →
     HasChannels stage plan → after_pilot stage ≡ Some next →
@@ -164,26 +198,28 @@ channels_pilot Sync next plan pilot has e = absurd (cc e)
 channels_pilot (Paging rate) next plan pilot has e = absurd (cc e)
 channels_pilot (FirstPage rate) next plan pilot has e = absurd (cc e)
 channels_pilot (Pages rate count) next plan pilot has e = absurd (cc e)
-channels_pilot End next plan pilot has e = absurd (cc e)
+channels_pilot Traffic next plan pilot has e = absurd (cc e)
+channels_pilot FirstFrame next plan pilot has e = absurd (cc e)
+channels_pilot Frames next plan pilot has e = absurd (cc e)
 
 sync_channels : (plan : CellPlan) (sync : SyncPlan) (full half : Bool) →
-    (sync.message.prat == 0) ≡ full → (sync.message.prat == 1) ≡ half → plan.paging ≡ [] →
+    (sync.message.prat == 0) ≡ full → (sync.message.prat == 1) ≡ half → IsBare plan →
     HasChannels (behind_sync sync) (record plan { sync = Some sync })
 sync_channels plan sync true half full e none =
     let none_half : (sync.message.prat == 1) ≡ false =
     ap (λ (n : ℕ). n == 1) (eqb-true sync.message.prat 0 full) in
     subst (λ (s : Stage). HasChannels s (record plan { sync = Some sync }))
-    (sym (cond-true _ (Paging R9600) (cond (sync.message.prat == 1) (Paging R4800) End) full))
+    (sym (cond-true _ (Paging R9600) (cond (sync.message.prat == 1) (Paging R4800) Traffic) full))
     (none, cond-false _ R4800 R9600 none_half)
 sync_channels plan sync false true other one none =
     subst (λ (s : Stage). HasChannels s (record plan { sync = Some sync }))
-    (sym (cond-false _ (Paging R9600) (cond (sync.message.prat == 1) (Paging R4800) End) other
-    ∙ cond-true _ (Paging R4800) End one))
+    (sym (cond-false _ (Paging R9600) (cond (sync.message.prat == 1) (Paging R4800) Traffic) other
+    ∙ cond-true _ (Paging R4800) Traffic one))
     (none, cond-true _ R4800 R9600 one)
 sync_channels plan sync false false other more none =
     subst (λ (s : Stage). HasChannels s (record plan { sync = Some sync }))
-    (sym (cond-false _ (Paging R9600) (cond (sync.message.prat == 1) (Paging R4800) End) other
-    ∙ cond-false _ (Paging R4800) End more))
+    (sym (cond-false _ (Paging R9600) (cond (sync.message.prat == 1) (Paging R4800) Traffic) other
+    ∙ cond-false _ (Paging R4800) Traffic more))
     none
 
 channels_sync : (stage next : Stage) (plan : CellPlan) (sync : SyncPlan) →
@@ -199,7 +235,11 @@ channels_sync Sync next plan sync has e =
 channels_sync (Paging rate) next plan sync has e = absurd (cc e)
 channels_sync (FirstPage rate) next plan sync has e = absurd (cc e)
 channels_sync (Pages rate count) next plan sync has e = absurd (cc e)
-channels_sync End next plan sync has e = absurd (cc e)
+channels_sync Traffic next plan sync has e = absurd (cc e)
+channels_sync FirstFrame next plan sync has e = absurd (cc e)
+channels_sync Frames next plan sync has e = absurd (cc e)
+
+-- ---- one paging channel more
 
 abbrev with_channel : CellPlan → PagingLine → CellPlan
 with_channel plan line = record plan { paging = plan.paging ++ opened line ∷ [] }
@@ -207,12 +247,14 @@ with_channel plan line = record plan { paging = plan.paging ++ opened line ∷ [
 -- a channel is opened behind others
 opened_behind : (rate : Rate) (plan : CellPlan) (line : PagingLine) →
     (1 ≤ line.number) × (line.number ≤ 7) → paging_rate plan.sync ≡ rate →
-    All (IsStatedPaging rate) plan.paging → IsOpen rate 0 (with_channel plan line)
-opened_behind rate plan line number rate_is are = record {
+    plan.traffic ≡ [] → All (IsStatedPaging rate) plan.paging →
+    IsOpen rate 0 (with_channel plan line)
+opened_behind rate plan line number rate_is bare are = record {
   rate_is = rate_is;
   before = plan.paging;
   last = opened line;
   channels = refl;
+  bare = bare;
   stated = are;
   number = number;
   pages = tt;
@@ -252,13 +294,15 @@ channels_paging Sync next plan line number has e = absurd (cc e)
 channels_paging (Paging rate) next plan line number has e =
     subst (λ (s : Stage). HasChannels s (with_channel plan line))
     (same_Some (FirstPage rate) next e)
-    (opened_behind rate plan line number has.1 (no_channels rate plan has.0))
+    (opened_behind rate plan line number has.1 has.0.1 (no_channels rate plan has.0.0))
 channels_paging (FirstPage rate) next plan line number has e = absurd (cc e)
 channels_paging (Pages rate count) next plan line number has e =
     subst (λ (s : Stage). HasChannels s (with_channel plan line))
     (same_Some (FirstPage rate) next e)
-    (opened_behind rate plan line number has.0.rate_is (closed rate count plan has))
-channels_paging End next plan line number has e = absurd (cc e)
+    (opened_behind rate plan line number has.0.rate_is has.0.bare (closed rate count plan has))
+channels_paging Traffic next plan line number has e = absurd (cc e)
+channels_paging FirstFrame next plan line number has e = absurd (cc e)
+channels_paging Frames next plan line number has e = absurd (cc e)
 
 abbrev with_more : CellPlan → Page → CellPlan
 with_more plan page = record plan { paging = with_page plan.paging page }
@@ -284,6 +328,7 @@ page_laid rate count plan page is o room few =
       before = o.before;
       last = last;
       channels = all;
+      bare = o.bare;
       stated = o.stated;
       number = o.number;
       pages = sendable-append size 0 o.last.pages page o.pages is.0
@@ -324,23 +369,135 @@ channels_page (FirstPage rate) next plan page is has e =
     page_taken rate 0 next plan page is has e
 channels_page (Pages rate count) next plan page is has e =
     page_taken rate count next plan page is has.0 e
-channels_page End next plan page is has e = absurd (cc e)
+channels_page Traffic next plan page is has e = absurd (cc e)
+channels_page FirstFrame next plan page is has e = absurd (cc e)
+channels_page Frames next plan page is has e = absurd (cc e)
+
+-- ---- one traffic channel and one frame more
+
+abbrev with_traffic : CellPlan → TrafficLine → CellPlan
+with_traffic plan line = record plan { traffic = plan.traffic ++ opened_traffic line ∷ [] }
+
+abbrev IsRowed : TrafficLine → Type 0
+IsRowed line = (line.row ≤ 63) × (line.offset ≤ 15)
+
+-- a traffic channel is opened behind others
+traffic_behind : (plan : CellPlan) (line : TrafficLine) → IsRowed line →
+    All (IsStatedPaging (paging_rate plan.sync)) plan.paging → All IsStatedTraffic plan.traffic →
+    IsOpenTraffic (with_traffic plan line)
+traffic_behind plan line bounds paging are = record {
+  paging = paging;
+  before = plan.traffic;
+  last = opened_traffic line;
+  channels = refl;
+  stated = are;
+  bounds = bounds;
+  frames = All-nil IsTrafficFrame;
+}
+
+no_traffic : (plan : CellPlan) → plan.traffic ≡ [] → All IsStatedTraffic plan.traffic
+no_traffic plan none = subst (All IsStatedTraffic) (sym none) (All-nil IsStatedTraffic)
+
+-- the traffic channel that was under way is one of them
+traffic_closed : (plan : CellPlan) → HasFrames plan → All IsStatedTraffic plan.traffic
+traffic_closed plan has =
+    let o = has.0 in
+    let last : IsStatedTraffic o.last =
+    record { last = o.bounds.0; latest = o.bounds.1; some = has.1; sized = o.frames } in
+    subst (All IsStatedTraffic) (sym o.channels)
+    (All-push IsStatedTraffic o.before o.last o.stated last)
+
+-- the paging channels before the first traffic channel
+at_rate : (rate : Rate) (plan : CellPlan) → paging_rate plan.sync ≡ rate →
+    All (IsStatedPaging rate) plan.paging →
+    All (IsStatedPaging (paging_rate plan.sync)) plan.paging
+at_rate rate plan is are = subst (λ (r : Rate). All (IsStatedPaging r) plan.paging) (sym is) are
+
+paging_closed : (rate : Rate) (count : ℕ) (plan : CellPlan) → HasPages rate count plan →
+    All (IsStatedPaging (paging_rate plan.sync)) plan.paging
+paging_closed rate count plan has =
+    at_rate rate plan has.0.rate_is (closed rate count plan has)
+
+channels_traffic : (stage next : Stage) (plan : CellPlan) (line : TrafficLine) → IsRowed line →
+    HasChannels stage plan → after_traffic stage ≡ Some next →
+    HasChannels next (with_traffic plan line)
+channels_traffic Cell next plan line bounds has e = absurd (cc e)
+channels_traffic Link next plan line bounds has e = absurd (cc e)
+channels_traffic Pilot next plan line bounds has e = absurd (cc e)
+channels_traffic Sync next plan line bounds has e = absurd (cc e)
+channels_traffic (Paging rate) next plan line bounds has e =
+    subst (λ (s : Stage). HasChannels s (with_traffic plan line)) (same_Some FirstFrame next e)
+    (traffic_behind plan line bounds (no_channels (paging_rate plan.sync) plan has.0.0)
+    (no_traffic plan has.0.1))
+channels_traffic (FirstPage rate) next plan line bounds has e = absurd (cc e)
+channels_traffic (Pages rate count) next plan line bounds has e =
+    subst (λ (s : Stage). HasChannels s (with_traffic plan line)) (same_Some FirstFrame next e)
+    (traffic_behind plan line bounds (paging_closed rate count plan has)
+    (no_traffic plan has.0.bare))
+channels_traffic Traffic next plan line bounds has e =
+    subst (λ (s : Stage). HasChannels s (with_traffic plan line)) (same_Some FirstFrame next e)
+    (traffic_behind plan line bounds (no_channels (paging_rate plan.sync) plan has.0)
+    (no_traffic plan has.1))
+channels_traffic FirstFrame next plan line bounds has e = absurd (cc e)
+channels_traffic Frames next plan line bounds has e =
+    subst (λ (s : Stage). HasChannels s (with_traffic plan line)) (same_Some FirstFrame next e)
+    (traffic_behind plan line bounds has.0.paging (traffic_closed plan has))
+
+abbrev with_one : CellPlan → TrafficFrame → CellPlan
+with_one plan frame = record plan { traffic = with_frame plan.traffic frame }
+
+-- the traffic channel under way has one frame more
+frame_sent : (plan : CellPlan) (frame : TrafficFrame) → IsTrafficFrame frame →
+    IsOpenTraffic plan → HasFrames (with_one plan frame)
+frame_sent plan frame is o =
+    let frames = o.last.frames ++ frame ∷ [] in
+    let last : TrafficPlan = record o.last { frames = frames } in
+    let all : with_frame plan.traffic frame ≡ o.before ++ last ∷ [] =
+    ap (λ (ts : List TrafficPlan). with_frame ts frame) o.channels
+    ∙ with_frame-last o.before o.last frame in
+    let open_now : IsOpenTraffic (with_one plan frame) = record {
+      paging = o.paging;
+      before = o.before;
+      last = last;
+      channels = all;
+      stated = o.stated;
+      bounds = o.bounds;
+      frames = All-push IsTrafficFrame o.last.frames frame o.frames is;
+    } in
+    (open_now, omega (arith, length-append o.last.frames (frame ∷ [])))
+
+channels_frame : (stage next : Stage) (plan : CellPlan) (frame : TrafficFrame) →
+    IsTrafficFrame frame → HasChannels stage plan → after_frame stage ≡ Some next →
+    HasChannels next (with_one plan frame)
+channels_frame Cell next plan frame is has e = absurd (cc e)
+channels_frame Link next plan frame is has e = absurd (cc e)
+channels_frame Pilot next plan frame is has e = absurd (cc e)
+channels_frame Sync next plan frame is has e = absurd (cc e)
+channels_frame (Paging rate) next plan frame is has e = absurd (cc e)
+channels_frame (FirstPage rate) next plan frame is has e = absurd (cc e)
+channels_frame (Pages rate count) next plan frame is has e = absurd (cc e)
+channels_frame Traffic next plan frame is has e = absurd (cc e)
+channels_frame FirstFrame next plan frame is has e =
+    subst (λ (s : Stage). HasChannels s (with_one plan frame)) (same_Some Frames next e)
+    (frame_sent plan frame is has)
+channels_frame Frames next plan frame is has e =
+    subst (λ (s : Stage). HasChannels s (with_one plan frame)) (same_Some Frames next e)
+    (frame_sent plan frame is has.0)
 
 -- ---- what was said at a stage
 
-record HasParts (plan : CellPlan) : Type 0 where
+pub record HasParts (plan : CellPlan) : Type 0 where
   pub cell : IsStatedCell plan.cell
   pub link : IsStatedLink plan.link
   pub sync : IsStatedSync plan.sync
   pub linked : 0 < norm plan.link.factor
-  pub traffic : plan.traffic ≡ []
 
-record IsAt (stage : Stage) (plan : CellPlan) : Type 0 where
+pub record IsAt (stage : Stage) (plan : CellPlan) : Type 0 where
   pub parts : HasParts plan
   pub channels : HasChannels stage plan
 
 -- a statement adds what is within its bounds to a plan that is
-added : (stage next : Stage) (plan : CellPlan) (statement : Statement) → IsLawful statement →
+pub added : (stage next : Stage) (plan : CellPlan) (statement : Statement) → IsLawful statement →
     IsAt stage plan → next_stage stage statement ≡ Some next →
     IsAt next (with_statement plan statement)
 added stage next plan (statements.Cell cell) is before e = record {
@@ -349,7 +506,6 @@ added stage next plan (statements.Cell cell) is before e = record {
     link = before.parts.link;
     sync = before.parts.sync;
     linked = before.parts.linked;
-    traffic = before.parts.traffic;
   };
   channels = channels_cell stage next plan cell before.channels e;
 }
@@ -359,7 +515,6 @@ added stage next plan (statements.Link link) is before e = record {
     link = is.0;
     sync = before.parts.sync;
     linked = is.1;
-    traffic = before.parts.traffic;
   };
   channels = channels_link stage next plan link before.channels e;
 }
@@ -369,7 +524,6 @@ added stage next plan (statements.Pilot pilot) is before e = record {
     link = before.parts.link;
     sync = before.parts.sync;
     linked = before.parts.linked;
-    traffic = before.parts.traffic;
   };
   channels = channels_pilot stage next plan pilot before.channels e;
 }
@@ -379,7 +533,6 @@ added stage next plan (statements.Sync sync) is before e = record {
     link = before.parts.link;
     sync = is;
     linked = before.parts.linked;
-    traffic = before.parts.traffic;
   };
   channels = channels_sync stage next plan sync before.channels e;
 }
@@ -389,7 +542,6 @@ added stage next plan (statements.Paging line) is before e = record {
     link = before.parts.link;
     sync = before.parts.sync;
     linked = before.parts.linked;
-    traffic = before.parts.traffic;
   };
   channels = channels_paging stage next plan line is before.channels e;
 }
@@ -399,10 +551,54 @@ added stage next plan (statements.Page page) is before e = record {
     link = before.parts.link;
     sync = before.parts.sync;
     linked = before.parts.linked;
-    traffic = before.parts.traffic;
   };
   channels = channels_page stage next plan page is before.channels e;
 }
+added stage next plan (statements.Traffic line) is before e = record {
+  parts = record {
+    cell = before.parts.cell;
+    link = before.parts.link;
+    sync = before.parts.sync;
+    linked = before.parts.linked;
+  };
+  channels = channels_traffic stage next plan line is before.channels e;
+}
+added stage next plan (statements.Frame frame) is before e = record {
+  parts = record {
+    cell = before.parts.cell;
+    link = before.parts.link;
+    sync = before.parts.sync;
+    linked = before.parts.linked;
+  };
+  channels = channels_frame stage next plan frame is before.channels e;
+}
+
+-- no traffic channel stands before a paging channel
+paging_first : (stage next : Stage) (plan : CellPlan) → HasChannels stage plan →
+    after_paging stage ≡ Some next → plan.traffic ≡ []
+paging_first Cell next plan has e = absurd (cc e)
+paging_first Link next plan has e = absurd (cc e)
+paging_first Pilot next plan has e = absurd (cc e)
+paging_first Sync next plan has e = absurd (cc e)
+paging_first (Paging rate) next plan has e = has.0.1
+paging_first (FirstPage rate) next plan has e = absurd (cc e)
+paging_first (Pages rate count) next plan has e = has.0.bare
+paging_first Traffic next plan has e = absurd (cc e)
+paging_first FirstFrame next plan has e = absurd (cc e)
+paging_first Frames next plan has e = absurd (cc e)
+
+-- a statement that may stand next stands behind those whose channels come first
+pub in_order : (stage next : Stage) (plan : CellPlan) (statement : Statement) → IsAt stage plan →
+    next_stage stage statement ≡ Some next → IsInOrder plan statement
+in_order stage next plan (statements.Cell cell) before e = tt
+in_order stage next plan (statements.Link link) before e = tt
+in_order stage next plan (statements.Pilot pilot) before e = tt
+in_order stage next plan (statements.Sync sync) before e = tt
+in_order stage next plan (statements.Paging line) before e =
+    paging_first stage next plan before.channels e
+in_order stage next plan (statements.Page page) before e = tt
+in_order stage next plan (statements.Traffic line) before e = tt
+in_order stage next plan (statements.Frame frame) before e = tt
 
 -- ---- the draft behind a line
 
@@ -438,41 +634,42 @@ draft_said draft next line said e =
 -- ---- the plan that lines state
 
 whole : (plan : CellPlan) → HasParts plan →
-    All (IsStatedPaging (paging_rate plan.sync)) plan.paging → HasSaid plan
-whole plan parts are = record {
+    All (IsStatedPaging (paging_rate plan.sync)) plan.paging → All IsStatedTraffic plan.traffic →
+    HasSaid plan
+whole plan parts are traffic = record {
   lawful = record {
     cell = parts.cell;
     link = parts.link;
     sync = parts.sync;
     paging = are;
-    traffic = parts.traffic;
+    traffic = traffic;
   };
   linked = parts.linked;
 }
 
-at_rate : (rate : Rate) (plan : CellPlan) → paging_rate plan.sync ≡ rate →
-    All (IsStatedPaging rate) plan.paging →
-    All (IsStatedPaging (paging_rate plan.sync)) plan.paging
-at_rate rate plan is are = subst (λ (r : Rate). All (IsStatedPaging r) plan.paging) (sym is) are
+whole_bare : (plan : CellPlan) → HasParts plan → IsBare plan → HasSaid plan
+whole_bare plan parts bare =
+    whole plan parts (no_channels (paging_rate plan.sync) plan bare.0) (no_traffic plan bare.1)
 
 plan_said : (stage : Stage) (n : ℕ) (said plan : CellPlan) → IsAt stage said →
     ok_or (plan_at (draft_at said stage)) n ≡ Ok plan → HasSaid plan
 plan_said Cell n said plan is e = absurd (cc e)
 plan_said Link n said plan is e = absurd (cc e)
 plan_said Pilot n said plan is e = absurd (cc e)
-plan_said Sync n said plan is e =
-    subst HasSaid (cc e)
-    (whole said is.parts (no_channels (paging_rate said.sync) said is.channels))
+plan_said Sync n said plan is e = subst HasSaid (cc e) (whole_bare said is.parts is.channels)
 plan_said (Paging rate) n said plan is e =
-    subst HasSaid (cc e)
-    (whole said is.parts (no_channels (paging_rate said.sync) said is.channels.0))
+    subst HasSaid (cc e) (whole_bare said is.parts is.channels.0)
 plan_said (FirstPage rate) n said plan is e = absurd (cc e)
 plan_said (Pages rate count) n said plan is e =
-    let are = at_rate rate said is.channels.0.rate_is (closed rate count said is.channels) in
-    subst HasSaid (cc e) (whole said is.parts are)
-plan_said End n said plan is e =
     subst HasSaid (cc e)
-    (whole said is.parts (no_channels (paging_rate said.sync) said is.channels))
+    (whole said is.parts (paging_closed rate count said is.channels)
+    (no_traffic said is.channels.0.bare))
+plan_said Traffic n said plan is e =
+    subst HasSaid (cc e) (whole_bare said is.parts is.channels)
+plan_said FirstFrame n said plan is e = absurd (cc e)
+plan_said Frames n said plan is e =
+    subst HasSaid (cc e)
+    (whole said is.parts is.channels.0.paging (traffic_closed said is.channels))
 
 line_step : (draft : Draft) (n : ℕ) (line : List ℕ) (more : List (List ℕ)) (plan : CellPlan)
     (next : Option Draft) →
@@ -493,16 +690,15 @@ lines_said draft n (line ∷ more) plan is e =
     line_step draft n line more plan (draft_after draft line) refl is
     (λ s said told. lines_said s (n + 1) more plan said told) e
 
-empty_said : Said empty_draft
+pub empty_said : IsAt Cell empty_plan
 empty_said = record {
   parts = record {
     cell = record { pn = omega arith; time = omega arith; lc = (omega arith, omega arith) };
     link = record { in_phase = omega arith; quadrature = omega arith; start = omega arith };
     sync = tt;
     linked = omega arith;
-    traffic = refl;
   };
-  channels = refl;
+  channels = (refl, refl);
 }
 
 -- what the lines of a script state is within its bounds
@@ -542,7 +738,8 @@ sync_gains (Some sync) said e =
 lawful : (width : Width) (plan : CellPlan) → IsStatedPlan plan → plan_fault width plan ≡ None →
     IsLawfulPlan width plan
 lawful width plan said e =
-    let ls = paging_lines plan.paging in
+    let ls = channel_lines plan in
+    let more = traffic_lines plan.traffic in
     let rate = paging_rate plan.sync in
     let rows = neither (walsh_fault (repeated ls))
     (option_or (gain_fault plan.pilot plan.sync (silent ls))
@@ -554,7 +751,7 @@ lawful width plan said e =
     let pilot = failed (plan.pilot.gain == 0) (Gain 0)
     (option_or (sync_gain_fault plan.sync) (option_map Gain (silent ls))) gain.0 in
     let gains = neither (sync_gain_fault plan.sync) (option_map Gain (silent ls)) pilot.1 in
-    let own = have_own_numbers plan.paging (no_row Walsh (repeated ls) rows.0) in
+    let own = have_own_numbers plan.paging more (no_row Walsh (repeated ls) rows.0) in
     record {
       pn = said.cell.pn;
       time = said.cell.time;
@@ -565,9 +762,10 @@ lawful width plan said e =
       pilot = some_gain plan.pilot.gain pilot.0;
       sync = sync_gains plan.sync said.sync gains.0;
       few = few_channels rate plan.paging said.paging own;
-      paging = some_gains rate plan.paging said.paging (no_row Gain (silent ls) gains.1);
+      paging = some_gains rate plan.paging more said.paging (no_row Gain (silent ls) gains.1);
       apart = own;
-      traffic = no_traffic plan.paging plan.traffic said.traffic;
+      traffic = lawful_beside plan.paging plan.traffic said.traffic
+          (no_row Walsh (repeated ls) rows.0) (no_row Gain (silent ls) gains.1);
       loud = ltb-false (most_part width) (loudness plan)
           (failed (nat_lt (most_part width) (loudness plan)) _ None size.0).0;
     }

@@ -5,7 +5,7 @@ use Rattle.std.proofs.Common.{unsigned_abs}
 use Rattle.std.proofs.Common.{Option, None, Some, IfSome}
 use Rattle.std.specs.Prelude.{codes, nat_le, nat_lt, ◌==◌, option_and_then, option_map, FitsSigned}
 use Rattle.std.specs.Int.{w16}
-use Rattle.std.proofs.lemmas.Bool.{and_parts, cond-false, cond-true, eqb-false, leb-true}
+use Rattle.std.proofs.lemmas.Bool.{and_parts, cond-false, cond-true, eqb-false, eqb-true, leb-true}
 use Rattle.std.proofs.lemmas.Bool.{ltb-true}
 use Rattle.std.proofs.lemmas.Int.{ints}
 use Rattle.std.proofs.lemmas.Option.{cond_some, same_Some}
@@ -22,11 +22,18 @@ use Rattle.base_modulator.specs.ScriptFields.{NumberRow, AreUpTo, at_end, field,
 use Rattle.base_modulator.specs.ScriptFields.{value_of}
 use Rattle.base_modulator.specs.ScriptLines.{cell_in, cell_line, freq_in, has_lawful_rest, is_link}
 use Rattle.base_modulator.specs.ScriptLines.{link_in, link_line, sync_behind, sync_fields, sync_in}
+use Rattle.base_modulator.specs.ScriptLines.{frame_in, frame_key, frame_rate, frame_with}
+use Rattle.base_modulator.specs.ScriptLines.{lawful_frame, traffic_in, traffic_line}
 use Rattle.base_modulator.specs.ScriptLines.{lawful_message, lawful_page, page_in, page_key}
 use Rattle.base_modulator.specs.ScriptLines.{page_with, paging_in, paging_line, pilot_in}
 use Rattle.base_modulator.specs.ScriptLines.{statement_in, sync_table}
 use Rattle.base_modulator.specs.declared.plan.Page.{Page}
 use Rattle.base_modulator.specs.declared.script.statements.PagingLine.{PagingLine}
+use Rattle.base_modulator.specs.declared.script.statements.TrafficLine.{TrafficLine}
+use Rattle.base_modulator.specs.declared.traffic_frame.TrafficFrame.{TrafficFrame}
+use Rattle.base_modulator.specs.TrafficFrames.{IsTrafficFrame}
+use Rattle.symbol_path.specs.TrafficWords.{information_of}
+use Rattle.symbol_path.specs.declared.kinds.Rate.{Rate}
 use Rattle.base_modulator.specs.declared.script.statements.Statement.{Statement}
 use Rattle.base_modulator.specs.declared.script.statements.Statement.TheVariants as statements
 use Rattle.paging_message.specs.Admitted.{HasMessage}
@@ -35,7 +42,8 @@ use Rattle.quality_bits.specs.Capsules.{FillsCapsule}
 use Rattle.quality_bits.specs.declared.kind.Kind.TheVariants.{M30}
 use Rattle.base_modulator.specs.ScriptPlans.{IsLawful, IsStatedCell, IsStatedLink}
 use Rattle.base_modulator.specs.ScriptValues.{as_state, begins_with, bits_in, hex_from, number_in}
-use Rattle.base_modulator.specs.ScriptValues.{number_up_to, signed_in, state_in, up_to}
+use Rattle.base_modulator.specs.ScriptValues.{commands_in, number_up_to, serial_number_in}
+use Rattle.base_modulator.specs.ScriptValues.{signed_in, state_in, up_to}
 use Rattle.base_modulator.proofs.ScriptMessages.{is_tail}
 use Rattle.base_modulator.proofs.ScriptPages.{body_fills, body_message}
 use Rattle.base_modulator.proofs.ScriptNumerals.{one_signed_numeral}
@@ -331,6 +339,44 @@ pub page_bounds : (text : List ℕ) (page : Page) → page_in text ≡ Some page
 unfolding page_in
 page_bounds text = page_with_bounds (begins_with text (codes "page next ")) text
 
+-- ---- traffic channels and frames
+
+abbrev TrafficBounds : TrafficLine → Type 0
+TrafficBounds line = (line.row ≤ 63) × (line.offset ≤ 15)
+
+pub traffic_bounds : (text : List ℕ) (line : TrafficLine) → traffic_in text ≡ Some line →
+    (line.row ≤ 63) × (line.offset ≤ 15)
+unfolding traffic_in
+traffic_bounds text =
+    both_steps (field (codes "traffic row=") (number_up_to 63) _) _ λ row row_is.
+    both_steps (field (codes " esn=") serial_number_in _) _ λ esn esn_is.
+    both_steps (field (codes " offset=") (number_up_to 15) _) _ λ offset offset_is.
+    both_steps (field (codes " gain=") (number_up_to 65535) _) _ λ gain gain_is line e.
+    subst TrafficBounds (ended _ (traffic_line row esn offset gain) line e)
+    (number_field _ 63 _ row row_is, number_field _ 15 _ offset offset_is)
+
+frame_some : (rate : Rate) (information commands : List Bool) (frame : TrafficFrame) →
+    lawful_frame rate information commands ≡ Some frame → IsTrafficFrame frame
+frame_some rate information commands frame e =
+    let told = cond_some (length information == information_of rate)
+    (record { rate = rate; information = information; commands = commands }) frame e in
+    subst IsTrafficFrame told.1 (eqb-true (length information) (information_of rate) told.0)
+
+frame_with_bounds : (rate : Rate) (text : List ℕ) (frame : TrafficFrame) →
+    frame_with rate text ≡ Some frame → IsTrafficFrame frame
+frame_with_bounds rate text =
+    both_steps (field (frame_key rate) bits_in _) _ λ information information_is.
+    both_steps (field (codes " ") commands_in _) _ λ commands commands_is.
+    both_steps (lawful_frame rate information commands) _ λ frame frame_is all e.
+    subst IsTrafficFrame (ended _ frame all e)
+    (frame_some rate information commands frame frame_is)
+
+pub frame_bounds : (text : List ℕ) (frame : TrafficFrame) → frame_in text ≡ Some frame →
+    IsTrafficFrame frame
+unfolding frame_in
+frame_bounds text =
+    both_steps (frame_rate text) _ λ rate rate_is frame e. frame_with_bounds rate text frame e
+
 -- ---- any line
 
 step_told : {A : Type 0} (f : A → Statement) (read : Option A) (test : Bool)
@@ -355,5 +401,7 @@ line_bounds text statement =
     (step_told statements.Pilot (pilot_in text) _ _ statement (λ pilot is. tt)
     (step_told statements.Sync (sync_in text) _ _ statement (sync_bounds text)
     (step_told statements.Paging (paging_in text) _ _ statement (paging_bounds text)
-    (step_told statements.Page (page_in text) _ None statement (page_bounds text)
-    (no_line statement))))))
+    (step_told statements.Page (page_in text) _ _ statement (page_bounds text)
+    (step_told statements.Traffic (traffic_in text) _ _ statement (traffic_bounds text)
+    (step_told statements.Frame (frame_in text) _ None statement (frame_bounds text)
+    (no_line statement))))))))

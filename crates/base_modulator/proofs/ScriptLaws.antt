@@ -20,15 +20,18 @@ use Rattle.base_modulator.specs.declared.plan.SyncPlan.{SyncPlan}
 use Rattle.base_modulator.specs.declared.script.stage.Stage.{Stage}
 use Rattle.base_modulator.specs.declared.script.stage.Stage.TheVariants.{Cell, Link, Pilot, Sync}
 use Rattle.base_modulator.specs.declared.script.stage.Stage.TheVariants.{Paging, FirstPage, Pages}
-use Rattle.base_modulator.specs.declared.script.stage.Stage.TheVariants.{End}
+use Rattle.base_modulator.specs.declared.script.stage.Stage.TheVariants.{Traffic, FirstFrame}
+use Rattle.base_modulator.specs.declared.script.stage.Stage.TheVariants.{Frames}
 use Rattle.base_modulator.specs.declared.script_fault.ScriptFault.{ScriptFault}
 use Rattle.base_modulator.specs.declared.script_fault.ScriptFault.TheVariants.{Line, Walsh, Gain}
 use Rattle.base_modulator.specs.declared.script_fault.ScriptFault.TheVariants.{TooLoud, TooLong}
 use Rattle.base_modulator.specs.declared.script_fault.ScriptFault.TheVariants.{TooBig}
 use Rattle.base_modulator.specs.ScriptValues.{bits_in, hex_bits, hex_from, length_before}
-use Rattle.base_modulator.specs.ScriptValues.{number_up_to, signed_in, state_in}
+use Rattle.base_modulator.specs.ScriptValues.{commands_in, digits_behind, number_up_to}
+use Rattle.base_modulator.specs.ScriptValues.{signed_in, state_in}
 use Rattle.base_modulator.specs.ScriptFields.{field, past}
-use Rattle.base_modulator.specs.ScriptLines.{cell_in, link_in, page_in, pilot_in, statement_in}
+use Rattle.base_modulator.specs.ScriptLines.{cell_in, frame_in, link_in, page_in, pilot_in}
+use Rattle.base_modulator.specs.ScriptLines.{statement_in}
 use Rattle.base_modulator.specs.ScriptStages.{pages_behind}
 use Rattle.base_modulator.specs.ScriptDrafts.{Draft, empty_draft, plan_at, with_line, with_next}
 use Rattle.base_modulator.specs.Script.{draft_after, is_line, lines, named, plan_fault, plan_named}
@@ -53,6 +56,10 @@ pilot_text = codes "pilot gain=1" ++ 10 ∷ []
 abbrev page_text : List ℕ
 page_text = codes "page half 10:0000" ++ 10 ∷ []
 
+-- a frame of the lowest rate
+abbrev frame_text : List ℕ
+frame_text = codes "frame 1200 16:0000 0000000000000000" ++ 10 ∷ []
+
 -- lines that complete a script at a stage
 abbrev completion : Stage → List ℕ
 completion Cell = cell_text ++ link_text ++ pilot_text
@@ -62,7 +69,9 @@ completion Sync = []
 completion (Paging rate) = []
 completion (FirstPage rate) = page_text
 completion (Pages rate count) = []
-completion End = []
+completion Traffic = []
+completion FirstFrame = frame_text
+completion Frames = []
 
 first_page_completed : (rate : Rate) (plan : CellPlan) (n : ℕ) →
     IsOk (stated (record { stage = FirstPage rate; plan = plan }) n (lines page_text))
@@ -73,6 +82,13 @@ first_page_completed R9600 plan n = refl
 first_page_completed R4800 plan n = refl
 first_page_completed R2400 plan n = refl
 first_page_completed R1200 plan n = refl
+
+first_frame_completed : (plan : CellPlan) (n : ℕ) →
+    IsOk (stated (record { stage = FirstFrame; plan = plan }) n (lines frame_text))
+unfolding stated draft_after lines is_line with_line with_next statement_in frame_in field past
+    length_before number_up_to digits_from bits_in hex_bits decode_pairs binary commands_in
+    digits_behind
+first_frame_completed plan n = refl
 
 completed_at : (stage : Stage) (plan : CellPlan) (n : ℕ) →
     IsOk (stated (record { stage = stage; plan = plan }) n (lines (completion stage)))
@@ -85,7 +101,9 @@ completed_at Sync plan n = refl
 completed_at (Paging rate) plan n = refl
 completed_at (FirstPage rate) plan n = first_page_completed rate plan n
 completed_at (Pages rate count) plan n = refl
-completed_at End plan n = refl
+completed_at Traffic plan n = refl
+completed_at FirstFrame plan n = first_frame_completed plan n
+completed_at Frames plan n = refl
 
 completed : (draft : Draft) (n : ℕ) → IsOk (stated draft n (lines (completion draft.stage)))
 completed draft n = completed_at draft.stage draft.plan n

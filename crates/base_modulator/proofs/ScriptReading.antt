@@ -12,11 +12,13 @@ use Rattle.base_modulator.specs.declared.script.statements.Statement.{Statement}
 use Rattle.base_modulator.specs.Script.{lines, stated, stated_plan}
 use Rattle.base_modulator.specs.ScriptDrafts.{draft_at, empty_plan, plan_at, with_line, with_next}
 use Rattle.base_modulator.specs.ScriptDrafts.{with_statement}
-use Rattle.base_modulator.specs.ScriptJudged.{HasJudged, IsJudged}
+use Rattle.base_modulator.specs.ScriptJudged.{HasJudged, IsInOrder, IsJudged}
 use Rattle.base_modulator.specs.ScriptLines.{statement_in}
 use Rattle.base_modulator.specs.ScriptSplitting.{first_stated}
 use Rattle.base_modulator.specs.ScriptStages.{is_complete, next_stage}
 use Rattle.base_modulator.specs.ScriptValues.{length_before}
+use Rattle.base_modulator.proofs.NamedPlans.{added, empty_said, in_order, IsAt}
+use Rattle.base_modulator.proofs.ScriptBounds.{line_bounds}
 use Rattle.base_modulator.proofs.ScriptSplits.{line_counted, line_read, line_refused, line_unended}
 use Rattle.base_modulator.proofs.ScriptSplits.{lines_read}
 use Rattle.base_modulator.proofs.ScriptTexts.{before_most}
@@ -124,9 +126,10 @@ pub record HasRead (script : List ℕ) (stage : Stage) (judge : Judge) (n : ℕ)
     (rest : List ℕ) : Type 0 where
   pub plan : CellPlan
   pub left : stated_plan script ≡ stated (draft_at plan stage) n (lines rest)
+  pub said : IsAt stage plan
   pub judged : HasJudged judge plan
   pub few : n + length rest ≤ 1 + length script
-  pub gains : judge.paging.gains ≤ 65535 * n
+  pub gains : judge.channels.gains ≤ 65535 * n
 
 stated_plan-lines : (script : List ℕ) →
     stated_plan script ≡ stated (draft_at empty_plan Cell) 1 (lines script)
@@ -134,10 +137,11 @@ unfolding stated_plan
 stated_plan-lines script = refl
 
 pub none_read : (script : List ℕ) (judge : Judge) → HasJudged judge empty_plan →
-    judge.paging.gains ≡ 0 → HasRead script Cell judge 1 script
+    judge.channels.gains ≡ 0 → HasRead script Cell judge 1 script
 none_read script judge is none = record {
   plan = empty_plan;
   left = stated_plan-lines script;
+  said = empty_said;
   judged = is;
   few = omega arith;
   gains = omega (arith, none);
@@ -147,8 +151,9 @@ pub one_read : (script rest : List ℕ) (stage next : Stage) (judge more : Judge
     (statement : Statement) →
     first_stated rest ≡ Some statement → bytes ≡ length_before 10 rest + 1 →
     next_stage stage statement ≡ Some next →
-    ((plan : CellPlan) → HasJudged judge plan → HasJudged more (with_statement plan statement)) →
-    more.paging.gains ≤ judge.paging.gains + 65535 →
+    ((plan : CellPlan) → IsInOrder plan statement → HasJudged judge plan →
+    HasJudged more (with_statement plan statement)) →
+    more.channels.gains ≤ judge.channels.gains + 65535 →
     HasRead script stage judge n rest → HasRead script next more (n + 1) (behind bytes rest)
 one_read script rest stage next judge more n bytes statement is bytes_is after step gains before =
     let inside = (first_some rest statement is).0 in
@@ -158,7 +163,11 @@ one_read script rest stage next judge more n bytes statement is bytes_is after s
       plan = with_statement before.plan statement;
       left = left_next script rest before.plan stage next n bytes statement is bytes_is after
           before.left;
-      judged = step before.plan before.judged;
+      said = added stage next before.plan statement
+          (line_bounds (take (length_before 10 rest) rest) statement
+          (first_some rest statement is).1) before.said after;
+      judged = step before.plan (in_order stage next before.plan statement before.said after)
+          before.judged;
       few = subst (λ (b : ℕ). n + 1 + length (behind b rest) ≤ 1 + length script) (sym bytes_is)
           few;
       gains = omega (arith, gains, before.gains);
@@ -188,9 +197,9 @@ few_gains : (gains n : ℕ) → gains ≤ 65535 * n → n ≤ 1048577 → gains 
 few_gains gains n small few = omega (arith, small, few)
 
 gains_room : (script rest : List ℕ) (stage : Stage) (judge : Judge) (n : ℕ) →
-    length script ≤ 1048576 → HasRead script stage judge n rest → judge.paging.gains < 2 ^ 40
+    length script ≤ 1048576 → HasRead script stage judge n rest → judge.channels.gains < 2 ^ 40
 gains_room script rest stage judge n small before =
-    few_gains judge.paging.gains n before.gains (omega (arith, before.few, small))
+    few_gains judge.channels.gains n before.gains (omega (arith, before.few, small))
 
 pub all_read : (script rest : List ℕ) (stage : Stage) (judge : Judge) (n : ℕ) →
     length rest ≡ 0 → is_complete stage ≡ true → length script ≤ 1048576 →

@@ -9,8 +9,9 @@ use Rattle.std.proofs.Math.Seq.{take-suc-set}
 use Rattle.std.proofs.lemmas.List as lists
 use Rattle.base_modulator.specs.declared.script.tables.NumberField.{NumberField}
 use Rattle.base_modulator.specs.ScriptFields.{NumberRow, ◌>>=◌, field, mosts, numbers_in, past}
-use Rattle.base_modulator.specs.ScriptFields.{past_numbers, row, rows_of}
-use Rattle.base_modulator.specs.ScriptLines.{sync_behind, sync_in, sync_table}
+use Rattle.base_modulator.specs.ScriptFields.{past_at, past_numbers, row, rows_of, unsigned_at}
+use Rattle.base_modulator.specs.ScriptLines.{sync_behind, sync_in, sync_table, traffic_in}
+use Rattle.base_modulator.specs.ScriptLines.{traffic_line, traffic_rows}
 use Rattle.base_modulator.specs.ScriptValues.{number_up_to}
 
 -- ---- one field more
@@ -182,3 +183,28 @@ sync_found text numbers rest is behind =
     ap (sync_behind numbers) behind
     ∙ sym (ap (λ (o : Option (List ℕ)).
     o >>= (λ numbers. sync_behind numbers (past_numbers sync_table text))) is)
+
+-- ---- the fields of a traffic channel
+
+-- they were read one after another, and nothing is left behind them
+pub traffic_read : (text0 text1 text2 text3 text4 : List ℕ) (row esn offset gain : ℕ) →
+    unsigned_at traffic_rows 0 text0 ≡ Some row → text1 ≡ past_at traffic_rows 0 text0 →
+    unsigned_at traffic_rows 1 text1 ≡ Some esn → text2 ≡ past_at traffic_rows 1 text1 →
+    unsigned_at traffic_rows 2 text2 ≡ Some offset → text3 ≡ past_at traffic_rows 2 text2 →
+    unsigned_at traffic_rows 3 text3 ≡ Some gain → text4 ≡ past_at traffic_rows 3 text3 →
+    text4 ≡ [] →
+    traffic_in text0 ≡ Some (traffic_line row esn offset gain)
+unfolding traffic_in
+traffic_read text0 text1 text2 text3 text4 row esn offset gain first past_first second past_second
+    third past_third fourth past_fourth ended =
+    rw (
+      sym past_first,
+      sym past_second,
+      sym past_third,
+      sym past_fourth,
+      ended,
+      first,
+      second,
+      third,
+      fourth,
+    ) refl

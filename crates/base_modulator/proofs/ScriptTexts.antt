@@ -1,14 +1,16 @@
 -- Lemmas on the texts of values in a script: what each step of a loop over a text reads.
 use Rattle.std.proofs.Common.{◌≡◌, ◌≢◌, ℕ, suc, ◌+◌, ◌*◌, ◌^◌, ◌<◌, ◌≤◌, ◌==◌, Bool, true}
-use Rattle.std.proofs.Common.{false, List, [], ◌∷◌, ◌++◌, length, get_or, drop, refl, sym, ap, ◌∙◌}
-use Rattle.std.proofs.Common.{arith, append_assoc, length-append, None, Some}
+use Rattle.std.proofs.Common.{false, List, [], ◌∷◌, ◌++◌, length, get_or, drop, take, refl, sym}
+use Rattle.std.proofs.Common.{ap, ◌∙◌, arith, append_assoc, length-append, None, Some}
 use Rattle.std.specs.Prelude.{flat_map, option_and_then}
-use Rattle.std.proofs.lemmas.Bool.{cond-true, cond-false, eq-eqb, eqb-false, eqb-true}
-use Rattle.std.proofs.lemmas.List.{at_drop_more, drop_all}
+use Rattle.std.proofs.Math.ListN.{set}
+use Rattle.std.proofs.lemmas.Bool.{cond-true, cond-false, eq-eqb, eqb-false, eqb-true, ne_eqb}
+use Rattle.std.proofs.lemmas.List.{at_drop_more, drop_all, take_all, take_more_set}
 use Rattle.std.proofs.Math.Nat.{pow-le-pow_right, pow-suc}
 use Rattle.chip_core.specs.Bits.{binary}
 use Rattle.chip_core.proofs.FieldLists.{length-binary}
-use Rattle.base_modulator.specs.ScriptValues.{all_clear, hex_digit, hex_from}
+use Rattle.base_modulator.specs.ScriptValues.{all_clear, binary_digit, commands_in}
+use Rattle.base_modulator.specs.ScriptValues.{digits_behind, hex_digit, hex_from}
 use Rattle.base_modulator.specs.ScriptValues.{length_before}
 
 -- ---- before a mark
@@ -116,6 +118,10 @@ pub few_hex_digits : (number k : ℕ) → number < 16 ^ k → k ≤ 11 → numbe
 few_hex_digits number k below few = let most : 16 ^ k ≤ 16 ^ 11 =
     pow-le-pow_right (omega arith) few in omega (arith, below, most)
 
+pub all_hex_digits : (number k most : ℕ) → number < 16 ^ k → k ≤ most → number < 16 ^ most
+all_hex_digits number k most below few = let up : 16 ^ k ≤ 16 ^ most =
+    pow-le-pow_right (omega arith) few in omega (arith, below, up)
+
 pub hex_digit_more : (number next k : ℕ) → number < 16 ^ k → next ≤ 16 * number + 15 →
     next < 16 ^ (k + 1)
 hex_digit_more number next k below small =
@@ -173,3 +179,60 @@ set_bit bits from k inside set before =
 pub clear_to_the_end : (bits : List Bool) (from k : ℕ) → length bits ≤ k →
     all_clear (drop from bits) ≡ all_clear (drop k bits) → true ≡ all_clear (drop from bits)
 clear_to_the_end bits from k past before = sym (before ∙ ap all_clear (drop_all k bits past))
+
+-- ---- power control bits
+
+digits-bit : (bits : List Bool) (digit : ℕ) (bit : Bool) (digits : List ℕ) →
+    binary_digit digit ≡ Some bit →
+    digits_behind bits (digit ∷ digits) ≡ digits_behind (bits ++ bit ∷ []) digits
+unfolding digits_behind
+digits-bit bits digit bit digits is =
+    ap (option_and_then (λ (b : Bool). digits_behind (bits ++ b ∷ []) digits)) is
+
+digits-other : (bits : List Bool) (digit : ℕ) (digits : List ℕ) → binary_digit digit ≡ None →
+    digits_behind bits (digit ∷ digits) ≡ None
+unfolding digits_behind
+digits-other bits digit digits is =
+    ap (option_and_then (λ (b : Bool). digits_behind (bits ++ b ∷ []) digits)) is
+
+digits-none : (bits : List Bool) → digits_behind bits [] ≡ Some bits
+unfolding digits_behind
+digits-none bits = refl
+
+-- the bits of the digits before the next one
+abbrev pub AreBits : List ℕ → List Bool → ℕ → Type 0
+AreBits text bits k = digits_behind [] text ≡ digits_behind (take k bits) (drop k text)
+
+pub digit_read : (text : List ℕ) (bits : List Bool) (k : ℕ) (bit : Bool) → k < length text →
+    k < length bits → binary_digit (get_or text k 0) ≡ Some bit → AreBits text bits k →
+    AreBits text (set bits k bit) (k + 1)
+digit_read text bits k bit inside room is before =
+    before
+    ∙ at_drop_more (digits_behind (take k bits)) text k 0 inside
+    ∙ digits-bit (take k bits) (get_or text k 0) bit (drop (k + 1) text) is
+    ∙ ap (λ (bs : List Bool). digits_behind bs (drop (k + 1) text))
+    (sym (take_more_set bits k bit room))
+
+pub digit_missing : (text : List ℕ) (bits : List Bool) (k : ℕ) → k < length text →
+    binary_digit (get_or text k 0) ≡ None → AreBits text bits k → digits_behind [] text ≡ None
+digit_missing text bits k inside is before =
+    before
+    ∙ at_drop_more (digits_behind (take k bits)) text k 0 inside
+    ∙ digits-other (take k bits) (get_or text k 0) (drop (k + 1) text) is
+
+pub digits_read : (text : List ℕ) (bits : List Bool) (k : ℕ) → length text ≤ k →
+    length bits ≤ k → AreBits text bits k → digits_behind [] text ≡ Some bits
+digits_read text bits k past all before =
+    before
+    ∙ ap (digits_behind (take k bits)) (drop_all k text past)
+    ∙ digits-none (take k bits)
+    ∙ ap Some (take_all k bits all)
+
+-- a text of sixteen digits, and another one
+pub sixteen : (text : List ℕ) → length text ≡ 16 → commands_in text ≡ digits_behind [] text
+unfolding commands_in
+sixteen text long = cond-true _ _ _ (eq-eqb (length text) 16 long)
+
+pub not_sixteen : (text : List ℕ) → length text ≢ 16 → commands_in text ≡ None
+unfolding commands_in
+not_sixteen text other = cond-false _ _ _ (ne_eqb (length text) 16 other)

@@ -9,7 +9,7 @@ use Rattle.base_modulator.specs.declared.plan.CellPlan.{CellPlan}
 use Rattle.base_modulator.specs.declared.plan.PagingPlan.{PagingPlan}
 use Rattle.base_modulator.specs.declared.plan.PilotPlan.{PilotPlan}
 use Rattle.base_modulator.specs.declared.plan.SyncPlan.{SyncPlan}
-use Rattle.base_modulator.specs.declared.script.statements.PagingLine.{PagingLine}
+use Rattle.base_modulator.specs.declared.plan.TrafficPlan.{TrafficPlan}
 use Rattle.base_modulator.specs.declared.script_fault.ScriptFault.{ScriptFault}
 use Rattle.base_modulator.specs.declared.script_fault.ScriptFault.TheVariants.{Line, Walsh, Gain}
 use Rattle.base_modulator.specs.declared.script_fault.ScriptFault.TheVariants.{TooLoud, TooLong}
@@ -53,43 +53,59 @@ stated_plan script = stated empty_draft 1 (lines script)
 
 -- ---- faults of a plan
 
--- what stood in the line of each paging channel
-abbrev pub line_of : PagingPlan → PagingLine
-line_of p = record { number = p.number; gain = p.gain }
+-- what the line of a channel says for all kinds of channels: the Walsh row, and the gain
+pub record ChannelLine : Type 0 where
+  pub row : ℕ
+  pub gain : ℕ
 
-abbrev pub paging_lines : List PagingPlan → List PagingLine
-paging_lines paging = map line_of paging
+abbrev pub channel : ℕ → ℕ → ChannelLine
+channel row gain = record { row = row; gain = gain }
 
-abbrev pub is_used : ℕ → List PagingLine → Bool
-is_used number [] = false
-is_used number (l ∷ ls) = if l.number == number then true else is_used number ls
+abbrev pub paging_lines : List PagingPlan → List ChannelLine
+paging_lines paging = map (λ (p : PagingPlan). channel p.number p.gain) paging
 
--- the first number that one of the channels before has
-abbrev pub repeated_behind : List PagingLine → List PagingLine → Option ℕ
+abbrev pub traffic_lines : List TrafficPlan → List ChannelLine
+traffic_lines traffic = map (λ (t : TrafficPlan). channel t.row t.gain) traffic
+
+-- the lines of the paging and traffic channels, in the script's order
+abbrev pub channel_lines : CellPlan → List ChannelLine
+channel_lines plan = paging_lines plan.paging ++ traffic_lines plan.traffic
+
+abbrev pub is_used : ℕ → List ChannelLine → Bool
+is_used row [] = false
+is_used row (l ∷ ls) = if l.row == row then true else is_used row ls
+
+-- the first row that one of the channels before has
+abbrev pub repeated_behind : List ChannelLine → List ChannelLine → Option ℕ
 repeated_behind before [] = None
 repeated_behind before (l ∷ ls) =
-    if is_used l.number before then Some l.number else repeated_behind (before ++ l ∷ []) ls
+    if is_used l.row before then Some l.row else repeated_behind (before ++ l ∷ []) ls
 
-abbrev pub repeated : List PagingLine → Option ℕ
-repeated ls = repeated_behind [] ls
+-- the pilot and the sync channel, whose rows are 0 and 32
+abbrev pub first_channels : List ChannelLine
+first_channels = channel 0 1 ∷ channel 32 1 ∷ []
 
--- the number of the first channel whose gain is 0
-abbrev pub silent : List PagingLine → Option ℕ
+-- the first row that the pilot, the sync channel, or one of the channels before has
+abbrev pub repeated : List ChannelLine → Option ℕ
+repeated ls = repeated_behind first_channels ls
+
+-- the row of the first channel whose gain is 0
+abbrev pub silent : List ChannelLine → Option ℕ
 silent [] = None
-silent (l ∷ ls) = if l.gain == 0 then Some l.number else silent ls
+silent (l ∷ ls) = if l.gain == 0 then Some l.row else silent ls
 
 abbrev pub walsh_fault : Option ℕ → Option ScriptFault
-walsh_fault number = option_map Walsh number
+walsh_fault row = option_map Walsh row
 
 abbrev pub sync_gain_fault : Option SyncPlan → Option ScriptFault
 sync_gain_fault None = None
 sync_gain_fault (Some sync) = if sync.gain == 0 then Some (Gain 32) else None
 
--- the first gain of 0: the pilot's, the sync channel's, or that of a paging channel of this number
+-- the first gain of 0: the pilot's, the sync channel's, or that of another channel on this row
 abbrev pub gain_fault : PilotPlan → Option SyncPlan → Option ℕ → Option ScriptFault
-gain_fault pilot sync number =
+gain_fault pilot sync row =
     if pilot.gain == 0 then Some (Gain 0)
-    else option_or (sync_gain_fault sync) (option_map Gain number)
+    else option_or (sync_gain_fault sync) (option_map Gain row)
 
 abbrev pub loud_fault : Width → ℕ → Option ScriptFault
 loud_fault width sum = if nat_lt (most_part width) sum then Some (TooLoud sum) else None
@@ -101,8 +117,8 @@ long_fault width samples =
 -- the first fault: of the Walsh rows, of the gains, of the loudness, and of the length
 abbrev pub plan_fault : Width → CellPlan → Option ScriptFault
 plan_fault width plan =
-    option_or (walsh_fault (repeated (paging_lines plan.paging)))
-    (option_or (gain_fault plan.pilot plan.sync (silent (paging_lines plan.paging)))
+    option_or (walsh_fault (repeated (channel_lines plan)))
+    (option_or (gain_fault plan.pilot plan.sync (silent (channel_lines plan)))
     (option_or (loud_fault width (loudness plan)) (long_fault width plan.link.samples)))
 
 -- ---- what a script names

@@ -7,7 +7,10 @@ use Rattle.base_modulator.specs.declared.plan.Page.{Page}
 use Rattle.base_modulator.specs.declared.plan.PagingPlan.{PagingPlan}
 use Rattle.base_modulator.specs.declared.script.stage.Stage.{Stage}
 use Rattle.base_modulator.specs.declared.script.stage.Stage.TheVariants.{Cell}
+use Rattle.base_modulator.specs.declared.plan.TrafficPlan.{TrafficPlan}
 use Rattle.base_modulator.specs.declared.script.statements.PagingLine.{PagingLine}
+use Rattle.base_modulator.specs.declared.script.statements.TrafficLine.{TrafficLine}
+use Rattle.base_modulator.specs.declared.traffic_frame.TrafficFrame.{TrafficFrame}
 use Rattle.base_modulator.specs.declared.script.statements.Statement.{Statement}
 use Rattle.base_modulator.specs.declared.script.statements.Statement.TheVariants as statements
 use Rattle.base_modulator.specs.ScriptLines.{statement_in}
@@ -34,6 +37,22 @@ with_page [] page = []
 with_page (p ∷ []) page = record p { pages = p.pages ++ page ∷ [] } ∷ []
 with_page (p ∷ (q ∷ paging)) page = p ∷ with_page (q ∷ paging) page
 
+-- a traffic channel without frames
+abbrev pub opened_traffic : TrafficLine → TrafficPlan
+opened_traffic line = record {
+  row = line.row;
+  esn = line.esn;
+  offset = line.offset;
+  gain = line.gain;
+  frames = [];
+}
+
+-- one frame more for the last of the traffic channels
+abbrev pub with_frame : List TrafficPlan → TrafficFrame → List TrafficPlan
+with_frame [] frame = []
+with_frame (t ∷ []) frame = record t { frames = t.frames ++ frame ∷ [] } ∷ []
+with_frame (t ∷ (u ∷ traffic)) frame = t ∷ with_frame (u ∷ traffic) frame
+
 -- what a statement makes of a plan
 abbrev pub with_statement : CellPlan → Statement → CellPlan
 with_statement plan (statements.Cell cell) = record plan { cell = cell }
@@ -43,6 +62,10 @@ with_statement plan (statements.Sync sync) = record plan { sync = Some sync }
 with_statement plan (statements.Paging line) =
     record plan { paging = plan.paging ++ opened line ∷ [] }
 with_statement plan (statements.Page page) = record plan { paging = with_page plan.paging page }
+with_statement plan (statements.Traffic line) =
+    record plan { traffic = plan.traffic ++ opened_traffic line ∷ [] }
+with_statement plan (statements.Frame frame) =
+    record plan { traffic = with_frame plan.traffic frame }
 
 -- what the lines of a script have stated, and what may stand next
 pub record Draft : Type 0 where

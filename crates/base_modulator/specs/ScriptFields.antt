@@ -1,12 +1,12 @@
 -- The fields of a script's lines, read one after another.
 use Rattle.std.specs.Prelude.{ℕ, if◌then◌else◌, List, [], ◌∷◌, length, take, drop, map}
-use Rattle.std.specs.Prelude.{get_or, ◌<◌, ◌≤◌, Option, None, Some, ℤ}
+use Rattle.std.specs.Prelude.{get_or, ◌<◌, ◌≤◌, ◌^◌, Option, None, Some, ℤ}
 use Rattle.long_code.specs.LongCode.{IsState}
 use Rattle.base_modulator.specs.declared.script.tables.FieldForm.{FieldForm}
 use Rattle.base_modulator.specs.declared.script.tables.FieldForm.TheVariants as forms
 use Rattle.base_modulator.specs.declared.script.tables.NumberField.{NumberField}
 use Rattle.base_modulator.specs.ScriptValues.{begins_with, length_before, number_up_to}
-use Rattle.base_modulator.specs.ScriptValues.{signed_in, state_in}
+use Rattle.base_modulator.specs.ScriptValues.{serial_number_in, signed_in, state_in}
 
 -- what stands behind a key, from there up to the next space, and from that space on
 abbrev pub keyed : List ℕ → List ℕ → List ℕ
@@ -39,18 +39,21 @@ abbrev pub unsigned_of : FieldForm → (List ℕ → Option ℕ)
 unsigned_of (forms.UpTo most) = number_up_to most
 unsigned_of forms.Signed = λ text. None
 unsigned_of forms.State = state_in
+unsigned_of forms.SerialNumber = serial_number_in
 
 -- the reader of the values of a form that has one
 abbrev pub signed_of : FieldForm → (List ℕ → Option ℤ)
 signed_of (forms.UpTo most) = λ text. None
 signed_of forms.Signed = signed_in
 signed_of forms.State = λ text. None
+signed_of forms.SerialNumber = λ text. None
 
 -- in the range of a form that has no sign
 abbrev pub IsOfForm : FieldForm → ℕ → Type 0
 IsOfForm (forms.UpTo most) n = n ≤ most
 IsOfForm forms.Signed n = Unit {0}
 IsOfForm forms.State n = IsState n
+IsOfForm forms.SerialNumber n = n < 2 ^ 32
 
 -- a field of a statement: its key, and the form of its value
 pub record StatementRow : Type 0 where

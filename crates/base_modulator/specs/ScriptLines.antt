@@ -14,13 +14,18 @@ use Rattle.base_modulator.specs.declared.plan.CellIdentity.{CellIdentity}
 use Rattle.base_modulator.specs.declared.plan.LinkPlan.{LinkPlan}
 use Rattle.base_modulator.specs.declared.plan.Page.{Page}
 use Rattle.base_modulator.specs.declared.script.statements.PagingLine.{PagingLine}
+use Rattle.base_modulator.specs.declared.script.statements.TrafficLine.{TrafficLine}
 use Rattle.base_modulator.specs.declared.script.statements.Statement.{Statement}
 use Rattle.base_modulator.specs.declared.script.statements.Statement.TheVariants as statements
 use Rattle.base_modulator.specs.declared.script.tables.FieldForm.TheVariants as forms
 use Rattle.base_modulator.specs.ScriptFields.{NumberRow, ◌>>=◌, at_end, field, numbers_in, past}
 use Rattle.base_modulator.specs.ScriptFields.{past_numbers, row}
 use Rattle.base_modulator.specs.ScriptFields.{StatementRow, formed, past_at, signed_at, unsigned_at}
-use Rattle.base_modulator.specs.ScriptValues.{begins_with, bits_in, number_up_to}
+use Rattle.base_modulator.specs.ScriptValues.{begins_with, bits_in, commands_in, number_up_to}
+use Rattle.base_modulator.specs.declared.traffic_frame.TrafficFrame.{TrafficFrame}
+use Rattle.symbol_path.specs.TrafficWords.{information_of}
+use Rattle.symbol_path.specs.declared.kinds.Rate.{Rate}
+use Rattle.symbol_path.specs.declared.kinds.Rate.TheVariants.{R9600, R4800, R2400, R1200}
 
 -- ---- statements
 
@@ -220,6 +225,70 @@ page_with follows text = do
 unfoldable pub page_in : List ℕ → Option Page
 page_in text = page_with (begins_with text (codes "page next ")) text
 
+-- `traffic row=R esn=H offset=O gain=G`
+abbrev pub traffic_line : ℕ → ℕ → ℕ → ℕ → TrafficLine
+traffic_line row esn offset gain =
+    record { row = row; esn = esn; offset = offset; gain = gain }
+
+abbrev pub traffic_rows : List StatementRow
+traffic_rows =
+    formed (codes "traffic row=") (forms.UpTo 63)
+    ∷ formed (codes " esn=") forms.SerialNumber
+    ∷ formed (codes " offset=") (forms.UpTo 15)
+    ∷ formed (codes " gain=") (forms.UpTo 65535)
+    ∷ []
+
+unfoldable pub traffic_in : List ℕ → Option TrafficLine
+traffic_in text0 =
+    let text1 = past_at traffic_rows 0 text0 in
+    let text2 = past_at traffic_rows 1 text1 in
+    let text3 = past_at traffic_rows 2 text2 in
+    let text4 = past_at traffic_rows 3 text3 in
+    do
+      row ← unsigned_at traffic_rows 0 text0
+      esn ← unsigned_at traffic_rows 1 text1
+      offset ← unsigned_at traffic_rows 2 text2
+      gain ← unsigned_at traffic_rows 3 text3
+      at_end text4 (traffic_line row esn offset gain)
+
+-- `frame RATE BITS COMMANDS`: as many bits as a frame of the rate has
+
+-- what stands before the bits
+abbrev pub frame_key : Rate → List ℕ
+frame_key R9600 = codes "frame 9600 "
+frame_key R4800 = codes "frame 4800 "
+frame_key R2400 = codes "frame 2400 "
+frame_key R1200 = codes "frame 1200 "
+
+-- the rate that a line begins with
+abbrev pub frame_rate : List ℕ → Option Rate
+frame_rate text =
+    if begins_with text (codes "frame 9600 ") then Some R9600
+    else (if begins_with text (codes "frame 4800 ") then Some R4800
+    else (if begins_with text (codes "frame 2400 ") then Some R2400
+    else (if begins_with text (codes "frame 1200 ") then Some R1200
+    else None)))
+
+abbrev pub lawful_frame : Rate → List Bool → List Bool → Option TrafficFrame
+lawful_frame rate information commands =
+    if length information == information_of rate
+    then Some (record { rate = rate; information = information; commands = commands }) else None
+
+abbrev pub frame_with : Rate → List ℕ → Option TrafficFrame
+frame_with rate text0 =
+    let text1 = past (frame_key rate) text0 in
+    let text2 = past (codes " ") text1 in
+    do
+      information ← field (frame_key rate) bits_in text0
+      commands ← field (codes " ") commands_in text1
+      frame ← lawful_frame rate information commands
+      at_end text2 frame
+
+unfoldable pub frame_in : List ℕ → Option TrafficFrame
+frame_in text = do
+  rate ← frame_rate text
+  frame_with rate text
+
 -- ---- what a line states
 
 -- the kind of a statement is told by its first word
@@ -231,4 +300,7 @@ statement_in text =
     else (if begins_with text (codes "sync ") then option_map statements.Sync (sync_in text)
     else (if begins_with text (codes "paging ") then option_map statements.Paging (paging_in text)
     else (if begins_with text (codes "page ") then option_map statements.Page (page_in text)
-    else None)))))
+    else (if begins_with text (codes "traffic ")
+    then option_map statements.Traffic (traffic_in text)
+    else (if begins_with text (codes "frame ") then option_map statements.Frame (frame_in text)
+    else None)))))))

@@ -15,8 +15,10 @@ use Rattle.base_modulator.specs.declared.plan.CellPlan.{CellPlan}
 use Rattle.base_modulator.specs.declared.plan.Page.{Page}
 use Rattle.base_modulator.specs.declared.plan.PagingPlan.{PagingPlan}
 use Rattle.base_modulator.specs.declared.plan.SyncPlan.{SyncPlan}
+use Rattle.base_modulator.specs.declared.plan.TrafficPlan.{TrafficPlan}
 use Rattle.base_modulator.specs.declared.plan.CellIdentity.{CellIdentity}
 use Rattle.base_modulator.specs.declared.plan.LinkPlan.{LinkPlan}
+use Rattle.base_modulator.specs.TrafficFrames.{IsTrafficFrame}
 use Rattle.base_modulator.specs.declared.script.statements.Statement.{Statement}
 use Rattle.base_modulator.specs.declared.script.statements.Statement.TheVariants as statements
 
@@ -28,6 +30,8 @@ HasRow (statements.Pilot pilot) = Unit {0}
 HasRow (statements.Sync sync) = Unit {0}
 HasRow (statements.Paging line) = line.number < 64
 HasRow (statements.Page page) = Unit {0}
+HasRow (statements.Traffic line) = line.row < 64
+HasRow (statements.Frame frame) = Unit {0}
 
 pub record IsStatedCell (cell : CellIdentity) : Type 0 where
   pub pn : cell.pn < 512
@@ -69,13 +73,19 @@ pub record IsStatedPaging (rate : Rate) (p : PagingPlan) : Type 0 where
   pub pages : AreSendable (half_frame_body rate) 0 p.pages
   pub heard : AreHeard (half_frame_body rate) 0 p.pages
 
--- no statement names a traffic channel
+-- a traffic channel whose frames can be sent, on any row
+pub record IsStatedTraffic (t : TrafficPlan) : Type 0 where
+  pub last : t.row ≤ 63
+  pub latest : t.offset ≤ 15
+  pub some : 1 ≤ length t.frames
+  pub sized : All IsTrafficFrame t.frames
+
 pub record IsStatedPlan (plan : CellPlan) : Type 0 where
   pub cell : IsStatedCell plan.cell
   pub link : IsStatedLink plan.link
   pub sync : IsStatedSync plan.sync
   pub paging : All (IsStatedPaging (paging_rate plan.sync)) plan.paging
-  pub traffic : plan.traffic ≡ []
+  pub traffic : All IsStatedTraffic plan.traffic
 
 -- what was stated is within its bounds, and the link isn't 0
 pub record HasSaid (plan : CellPlan) : Type 0 where
@@ -90,3 +100,5 @@ IsLawful (statements.Pilot pilot) = Unit {0}
 IsLawful (statements.Sync sync) = IsSyncMessage sync.message
 IsLawful (statements.Paging line) = (1 ≤ line.number) × (line.number ≤ 7)
 IsLawful (statements.Page page) = FillsCapsule M30 page.body × HasMessage page.body
+IsLawful (statements.Traffic line) = (line.row ≤ 63) × (line.offset ≤ 15)
+IsLawful (statements.Frame frame) = IsTrafficFrame frame

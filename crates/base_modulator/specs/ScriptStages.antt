@@ -9,7 +9,8 @@ use Rattle.base_modulator.specs.declared.plan.SyncPlan.{SyncPlan}
 use Rattle.base_modulator.specs.declared.script.stage.Stage.{Stage}
 use Rattle.base_modulator.specs.declared.script.stage.Stage.TheVariants.{Cell, Link, Pilot, Sync}
 use Rattle.base_modulator.specs.declared.script.stage.Stage.TheVariants.{Paging, FirstPage, Pages}
-use Rattle.base_modulator.specs.declared.script.stage.Stage.TheVariants.{End}
+use Rattle.base_modulator.specs.declared.script.stage.Stage.TheVariants.{Traffic, FirstFrame}
+use Rattle.base_modulator.specs.declared.script.stage.Stage.TheVariants.{Frames}
 use Rattle.base_modulator.specs.declared.script.statements.Statement.{Statement}
 use Rattle.base_modulator.specs.declared.script.statements.Statement.TheVariants as statements
 use Rattle.base_modulator.specs.Pages.{half_frame_bits, laid_behind}
@@ -50,11 +51,12 @@ abbrev pub after_pilot : Stage → Option Stage
 after_pilot Pilot = Some Sync
 after_pilot _ = None
 
--- paging channels have 9600 or 4800 bits per second, as PRAT says (7.7.1.3)
+-- traffic channels, and before them paging channels of 9600 or 4800 bits per second, as PRAT says
+-- (7.7.1.3)
 abbrev pub behind_sync : SyncPlan → Stage
 behind_sync sync =
     if sync.message.prat == 0 then Paging R9600
-    else (if sync.message.prat == 1 then Paging R4800 else End)
+    else (if sync.message.prat == 1 then Paging R4800 else Traffic)
 
 abbrev pub after_sync : Stage → SyncPlan → Option Stage
 after_sync Sync sync = Some (behind_sync sync)
@@ -70,6 +72,18 @@ after_page (FirstPage rate) page = pages_behind rate 0 page
 after_page (Pages rate count) page = pages_behind rate count page
 after_page _ page = None
 
+abbrev pub after_traffic : Stage → Option Stage
+after_traffic (Paging rate) = Some FirstFrame
+after_traffic (Pages rate count) = Some FirstFrame
+after_traffic Traffic = Some FirstFrame
+after_traffic Frames = Some FirstFrame
+after_traffic _ = None
+
+abbrev pub after_frame : Stage → Option Stage
+after_frame FirstFrame = Some Frames
+after_frame Frames = Some Frames
+after_frame _ = None
+
 -- what may stand behind a statement; None where it can't stand
 abbrev pub next_stage : Stage → Statement → Option Stage
 next_stage stage (statements.Cell cell) = after_cell stage
@@ -78,6 +92,8 @@ next_stage stage (statements.Pilot pilot) = after_pilot stage
 next_stage stage (statements.Sync sync) = after_sync stage sync
 next_stage stage (statements.Paging line) = after_paging stage
 next_stage stage (statements.Page page) = after_page stage page
+next_stage stage (statements.Traffic line) = after_traffic stage
+next_stage stage (statements.Frame frame) = after_frame stage
 
 -- whether a script may end
 abbrev pub is_complete : Stage → Bool
@@ -88,4 +104,6 @@ is_complete Sync = true
 is_complete (Paging rate) = true
 is_complete (FirstPage rate) = false
 is_complete (Pages rate count) = true
-is_complete End = true
+is_complete Traffic = true
+is_complete FirstFrame = false
+is_complete Frames = true

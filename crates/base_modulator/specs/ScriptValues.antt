@@ -1,7 +1,8 @@
 -- The texts of values in a script: numbers in decimal, states of the long code in hex digits, and
 -- lists of bits.
 use Rattle.std.specs.Prelude.{ℕ, suc, ◌+◌, ◌*◌, ◌^◌, ◌==◌, nat_lt, nat_le, nat_eq, Bool, true}
-use Rattle.std.specs.Prelude.{false, if◌then◌else◌, not, List, [], ◌∷◌, length, take, drop, get_or}
+use Rattle.std.specs.Prelude.{false, if◌then◌else◌, not, List, [], ◌∷◌, ◌++◌, length, take, drop}
+use Rattle.std.specs.Prelude.{get_or}
 use Rattle.std.specs.Prelude.{codes, flat_map, Option, None, Some, Result, Ok, Err, ℤ, pos, neg_ℤ}
 use Rattle.std.specs.Prelude.{option_and_then}
 use Rattle.std.specs.Char.{digit_value}
@@ -78,6 +79,10 @@ as_state number =
 unfoldable pub state_in : List ℕ → Option ℕ
 state_in text = if length text == 11 then option_and_then as_state (hex_from 0 text) else None
 
+-- an electronic serial number in eight hex digits
+unfoldable pub serial_number_in : List ℕ → Option ℕ
+serial_number_in text = if length text == 8 then hex_from 0 text else None
+
 -- ---- lists of bits
 
 -- whether all are 0
@@ -108,3 +113,19 @@ bits_in text =
     (λ count. option_and_then (λ digits. option_and_then (unpadded count) (hex_bits digits))
     (behind (codes ":") (drop (length_before 58 text) text)))
     (number_up_to 1184 (take (length_before 58 text) text))
+
+-- ---- power control bits
+
+-- the bit that a digit 0 or 1 is
+abbrev pub binary_digit : ℕ → Option Bool
+binary_digit byte = if byte == 48 then Some false else (if byte == 49 then Some true else None)
+
+-- bits and behind them those that digits are
+unfoldable pub digits_behind : List Bool → List ℕ → Option (List Bool)
+digits_behind bits [] = Some bits
+digits_behind bits (digit ∷ digits) =
+    option_and_then (λ bit. digits_behind (bits ++ bit ∷ []) digits) (binary_digit digit)
+
+-- the bits of sixteen digits
+unfoldable pub commands_in : List ℕ → Option (List Bool)
+commands_in text = if length text == 16 then digits_behind [] text else None

@@ -1,7 +1,8 @@
 //! Scripts of cells: lines of text that say what a cell sends, and what a handset receives of it.
 //!
 //! Each line is a statement and ends with LF: `cell`, `link`, `pilot`, and perhaps `sync`, in this
-//! order; behind `sync` any number of `paging` lines, each with one or more `page` lines behind it.
+//! order; behind `sync` any number of `paging` lines, each with one or more `page` lines behind it,
+//! and then any number of `traffic` lines, each with one or more `frame` lines behind it.
 //!
 //! A script is read twice. First its statements are judged one after another, without memory; only
 //! of a script without a fault is a plan made.
@@ -35,6 +36,8 @@ mod statements;
 mod tables;
 #[cfg(test)]
 mod tests;
+#[cfg(test)]
+mod traffic_tests;
 mod values;
 
 /// The most bytes that a script has.

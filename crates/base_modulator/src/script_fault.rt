@@ -16,10 +16,10 @@ pub enum ScriptFault {
         /// the end.
         n: u32,
     },
-    /// A Walsh row can't be used for traffic, or is used twice.
+    /// A traffic channel has the row of the pilot or of the sync channel, or a row is used twice.
     #[error("walsh {row}")]
     Walsh {
-        /// The row.
+        /// The row of the first such channel in the script.
         row: u8,
     },
     /// A gain is 0.

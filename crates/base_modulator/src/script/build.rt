@@ -1,11 +1,13 @@
 //! The plan that the statements of a script make.
 
 ghost use Rattle.std.specs.Prelude.{◌≡◌, OnOk};
-ghost use Rattle.base_modulator.specs.ScriptDrafts.{empty_plan, opened, with_page, with_statement};
+ghost use Rattle.base_modulator.specs.ScriptDrafts.{empty_plan, opened, opened_traffic, with_frame};
+ghost use Rattle.base_modulator.specs.ScriptDrafts.{with_page, with_statement};
 
-use crate::plan::{CellIdentity, CellPlan, LinkPlan, Page, PagingPlan, PilotPlan};
-use crate::script::statements::{PagingLine, Statement};
+use crate::plan::{CellIdentity, CellPlan, LinkPlan, Page, PagingPlan, PilotPlan, TrafficPlan};
+use crate::script::statements::{PagingLine, Statement, TrafficLine};
 use crate::series::Series;
+use crate::traffic_frame::TrafficFrame;
 use chip_core::{CheckForm, OutOfMemory, Pair};
 use std::alloc::Global;
 
@@ -56,6 +58,30 @@ fn add_page(paging: &mut Series<PagingPlan>, page: &Page) -> Result<(), OutOfMem
     paging.push(channel)
 }
 
+/// A traffic channel without frames.
+fn opened_traffic(alloc: Global, line: &TrafficLine) -> TrafficPlan
+    ensures { result ≡ opened_traffic line.now }
+{
+    TrafficPlan {
+        row: line.row,
+        esn: line.esn,
+        offset: line.offset,
+        gain: line.gain,
+        frames: Series::new(alloc),
+    }
+}
+
+/// Adds a frame to the last of the traffic channels.
+fn add_frame(traffic: &mut Series<TrafficPlan>, frame: &TrafficFrame) -> Result<(), OutOfMemory>
+    ensures { OnOk result (traffic.new ≡ with_frame traffic.old frame.now) }
+{
+    let Some(mut channel) = traffic.pop() else {
+        return Ok(());
+    };
+    channel.frames.push(*frame)?;
+    traffic.push(channel)
+}
+
 /// Adds what a statement says to a plan.
 pub(crate) fn add_statement(
     alloc: Global,
@@ -71,6 +97,8 @@ pub(crate) fn add_statement(
         Statement::Sync(sync) => plan.sync = Some(*sync),
         Statement::Paging(line) => return plan.paging.push(opened(alloc, line)),
         Statement::Page(page) => return add_page(&mut plan.paging, page),
+        Statement::Traffic(line) => return plan.traffic.push(opened_traffic(alloc, line)),
+        Statement::Frame(frame) => return add_frame(&mut plan.traffic, frame),
     }
     Ok(())
 }

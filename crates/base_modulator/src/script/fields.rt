@@ -2,14 +2,16 @@
 
 ghost use Rattle.std.specs.Prelude.{◌≡◌, ◌≤◌, ℕ, Bool, List, true, false, length, IfSome, OnSome};
 ghost use Rattle.std.specs.Prelude.{MatchOption, IsTrue, ◌↔◌, unsigned_abs, [], None, Some};
-ghost use Rattle.base_modulator.specs.ScriptValues.{begins_with, bits_in, number_up_to};
+ghost use Rattle.base_modulator.specs.ScriptValues.{begins_with, bits_in, commands_in};
+ghost use Rattle.base_modulator.specs.ScriptValues.{number_up_to};
 ghost use Rattle.base_modulator.specs.ScriptFields.{AreUpTo, field, numbers_in, past, past_numbers};
 ghost use Rattle.base_modulator.specs.ScriptFields.{rows_of, value_of};
 ghost use Rattle.base_modulator.specs.ScriptFields.{IsOfForm, signed_of, unsigned_of};
 
 use crate::script::tables::{FieldForm, NumberField, StatementField};
 use crate::script::values::{
-    begins_with, bits_in, length_before, number_up_to, signed_in, state_in,
+    begins_with, bits_in, commands_in, length_before, number_up_to, serial_number_in, signed_in,
+    state_in,
 };
 use chip_core::Bits;
 use std::marker::Model;
@@ -117,6 +119,15 @@ impl<'a> Fields<'a> {
     {
         bits_in(self.value(key)?)
     }
+
+    /// The power control bits of a frame.
+    #[tactic(auto, unfolding(crate::specs::ScriptFields::field))]
+    pub(crate) fn commands(&mut self, key: &[u8]) -> Option<[bool; 16]>
+        ensures value { result ≡ field key.now commands_in self.old }
+        ensures rest { OnSome result (self.new ≡ past key.now self.old) }
+    {
+        commands_in(self.value(key)?)
+    }
 }
 
 /// The value that a text spells in a form that has no sign; `None` in one that has.
@@ -127,6 +138,7 @@ fn unsigned_of(form: FieldForm, text: &[u8]) -> Option<u64>
     match form {
         FieldForm::UpTo(most) => number_up_to(text, most),
         FieldForm::State => state_in(text),
+        FieldForm::SerialNumber => serial_number_in(text),
         FieldForm::Signed => None,
     }
 }
@@ -138,6 +150,6 @@ fn signed_of(form: FieldForm, text: &[u8]) -> Option<i64>
 {
     match form {
         FieldForm::Signed => signed_in(text),
-        FieldForm::UpTo(_) | FieldForm::State => None,
+        FieldForm::UpTo(_) | FieldForm::State | FieldForm::SerialNumber => None,
     }
 }

@@ -7,17 +7,16 @@ ghost use Rattle.std.specs.Prelude.{IfSome, if◌then◌else◌, option_map};
 ghost use Rattle.std.specs.Option.{option_or};
 ghost use Rattle.cdma_io.specs.SampleFile.{most_samples};
 ghost use Rattle.base_modulator.specs.declared.plan.CellPlan.{CellPlan as ThePlan};
-ghost use Rattle.base_modulator.specs.declared.script.statements.PagingLine.{PagingLine as TheLine};
 ghost use Rattle.base_modulator.specs.declared.script_fault.ScriptFault.TheVariants.{Gain};
 ghost use Rattle.base_modulator.specs.Plan.{most_part, sync_gain};
-ghost use Rattle.base_modulator.specs.Script.{gain_fault};
+ghost use Rattle.base_modulator.specs.Script.{ChannelLine, channel, gain_fault};
 ghost use Rattle.base_modulator.specs.ScriptDrafts.{empty_plan, with_statement};
 ghost use Rattle.base_modulator.specs.ScriptJudged.{judged_fault, judged_loudness};
-ghost use Rattle.base_modulator.specs.ScriptJudged.{HasJudged, HasSeen};
+ghost use Rattle.base_modulator.specs.ScriptJudged.{HasJudged, HasSeen, IsInOrder};
 ghost use Rattle.base_modulator.specs.ScriptPlans.{HasRow, IsStatedLink};
 
 use crate::plan::{LinkPlan, PilotPlan, SyncPlan};
-use crate::script::statements::{PagingLine, Statement};
+use crate::script::statements::Statement;
 use crate::script_fault::ScriptFault;
 use cdma_io::Width;
 use chip_core::Pair;
@@ -30,13 +29,13 @@ pub(crate) struct Judge {
     link: LinkPlan,
     pilot: PilotPlan,
     sync: Option<SyncPlan>,
-    paging: PagingRows,
+    channels: ChannelRows,
 }
 
-/// The Walsh rows and the gains of the paging channels so far.
+/// The Walsh rows and the gains of the paging and traffic channels so far.
 #[derive(Clone, Copy)]
-pub(crate) struct PagingRows {
-    // Whether a channel has the row.
+pub(crate) struct ChannelRows {
+    // Whether a channel has the row, the pilot and the sync channel among them.
     used: [bool; 64],
     // The row of the first channel whose row one before it has.
     repeated: Option<u8>,
@@ -57,14 +56,19 @@ fn first_row(before: Option<u8>, is: bool, row: u8) -> Option<u8>
     }
 }
 
-impl PagingRows {
-    /// No channels.
-    fn none() -> PagingRows
+impl ChannelRows {
+    /// The pilot's row and the sync channel's alone.
+    fn none() -> ChannelRows
         ensures seen { HasSeen result [] }
         ensures gains { result.gains ≡ 0 }
     {
-        PagingRows {
-            used: [false; 64],
+        let pilot = usize::from(PILOT_ROW);
+        let sync = usize::from(SYNC_ROW);
+        let mut used = [false; 64];
+        used[pilot] = true;
+        used[sync] = true;
+        ChannelRows {
+            used,
             repeated: None,
             silent: None,
             gains: 0,
@@ -72,18 +76,18 @@ impl PagingRows {
     }
 
     /// These channels and one more.
-    fn with(mut self, line: &PagingLine) -> PagingRows
-        requires row { line.now.number < 64 }
+    fn with(mut self, row: u8, gain: u16) -> ChannelRows
+        requires row { row < 64 }
         requires room { self.gains < 2 ^ 40 }
-        ensures seen { (ls : List TheLine) →
-            HasSeen self ls → HasSeen result (ls ++ line.now ∷ []) }
+        ensures seen { (ls : List ChannelLine) →
+            HasSeen self ls → HasSeen result (ls ++ channel row gain ∷ []) }
         ensures gains { result.gains ≤ self.gains + 65535 }
     {
-        let row = usize::from(line.number);
-        self.repeated = first_row(self.repeated, self.used[row], line.number);
-        self.silent = first_row(self.silent, line.gain == 0, line.number);
-        self.used[row] = true;
-        self.gains += u64::from(line.gain);
+        let place = usize::from(row);
+        self.repeated = first_row(self.repeated, self.used[place], row);
+        self.silent = first_row(self.silent, gain == 0, row);
+        self.used[place] = true;
+        self.gains += u64::from(gain);
         self
     }
 }
@@ -92,7 +96,7 @@ impl Judge {
     /// Before the first statement.
     pub(crate) fn new() -> Judge
         ensures judged { HasJudged result empty_plan }
-        ensures gains { result.paging.gains ≡ 0 }
+        ensures gains { result.channels.gains ≡ 0 }
     {
         Judge {
             link: LinkPlan {
@@ -102,17 +106,17 @@ impl Judge {
             },
             pilot: PilotPlan { gain: 1 },
             sync: None,
-            paging: PagingRows::none(),
+            channels: ChannelRows::none(),
         }
     }
 
     /// Behind one more statement.
     pub(crate) fn with(self, statement: &Statement) -> Judge
         requires row { HasRow statement.now }
-        requires room { self.paging.gains < 2 ^ 40 }
-        ensures judged { (plan : ThePlan) → HasJudged self plan →
+        requires room { self.channels.gains < 2 ^ 40 }
+        ensures judged { (plan : ThePlan) → IsInOrder plan statement.now → HasJudged self plan →
             HasJudged result (with_statement plan statement.now) }
-        ensures gains { result.paging.gains ≤ self.paging.gains + 65535 }
+        ensures gains { result.channels.gains ≤ self.channels.gains + 65535 }
     {
         match statement {
             Statement::Cell(_) => self,
@@ -129,21 +133,26 @@ impl Judge {
                 ..self
             },
             Statement::Paging(line) => Judge {
-                paging: self.paging.with(line),
+                channels: self.channels.with(line.number, line.gain),
+                ..self
+            },
+            Statement::Traffic(line) => Judge {
+                channels: self.channels.with(line.row, line.gain),
                 ..self
             },
             Statement::Page(_) => self,
+            Statement::Frame(_) => self,
         }
     }
 
     /// The first fault of the plan.
     pub(crate) fn fault(&self, width: Width) -> Option<ScriptFault>
         requires link { IsStatedLink self.now.link }
-        requires few { self.now.paging.gains < 2 ^ 40 }
+        requires few { self.now.channels.gains < 2 ^ 40 }
         ensures value { result ≡ judged_fault width self.now }
         ensures of_script { IfSome result (λ fault. fault ≢ ScriptFault.OutOfMemory) }
     {
-        if let Some(row) = self.paging.repeated {
+        if let Some(row) = self.channels.repeated {
             return Some(ScriptFault::Walsh { row });
         }
         if let Some(row) = self.silent_row() {
@@ -164,14 +173,14 @@ impl Judge {
     /// The row of the first channel whose gain is 0.
     fn silent_row(&self) -> Option<u8>
         ensures { option_map Gain result ≡
-            gain_fault self.now.pilot self.now.sync self.now.paging.silent }
+            gain_fault self.now.pilot self.now.sync self.now.channels.silent }
     {
         if self.pilot.gain == 0 {
             return Some(PILOT_ROW);
         }
         match self.sync {
             Some(sync) if sync.gain == 0 => Some(SYNC_ROW),
-            _ => self.paging.silent,
+            _ => self.channels.silent,
         }
     }
 
@@ -179,12 +188,12 @@ impl Judge {
     /// times the sum of the gains.
     fn loudness(&self) -> u64
         requires link { IsStatedLink self.now.link }
-        requires few { self.now.paging.gains < 2 ^ 40 }
+        requires few { self.now.channels.gains < 2 ^ 40 }
         ensures { result ≡ judged_loudness self.now }
     {
         let gains = u64::from(self.pilot.gain)
             + u64::from(sync_gain(self.sync))
-            + self.paging.gains;
+            + self.channels.gains;
         (self.link.factor.i.unsigned_abs() + self.link.factor.q.unsigned_abs()) * gains
     }
 }

@@ -3,8 +3,10 @@
 ghost use Rattle.std.specs.Prelude.{◌≡◌, ◌<◌, ◌≤◌, true};
 ghost use Rattle.paging_message.specs.HalfFrames.{bits_left, half_frame_body};
 ghost use Rattle.paging_message.specs.Laying.{fill};
-ghost use Rattle.base_modulator.specs.ScriptStages.{after_cell, after_link, after_page};
+ghost use Rattle.base_modulator.specs.ScriptStages.{after_cell, after_frame, after_link};
+ghost use Rattle.base_modulator.specs.ScriptStages.{after_page};
 ghost use Rattle.base_modulator.specs.ScriptStages.{after_paging, after_pilot, after_sync};
+ghost use Rattle.base_modulator.specs.ScriptStages.{after_traffic};
 ghost use Rattle.base_modulator.specs.ScriptStages.{behind_sync, count_behind, is_complete};
 ghost use Rattle.base_modulator.specs.ScriptStages.{is_cycle, may_follow, next_stage, pages_behind};
 
@@ -34,19 +36,23 @@ pub(crate) enum Stage {
     Pilot,
     /// `sync`, or none.
     Sync,
-    /// `paging`, or none. Paging channels have this rate.
+    /// `paging`, `traffic`, or none. Paging channels have this rate.
     Paging(Rate),
     /// `page`, the first one of a channel with this rate.
     FirstPage(Rate),
-    /// `page`, `paging`, or none.
+    /// `page`, `paging`, `traffic`, or none.
     Pages {
         /// The rate of paging channels.
         rate: Rate,
         /// How many body bits the pages of the channel fill so far.
         count: u16,
     },
-    /// None.
-    End,
+    /// `traffic`, or none.
+    Traffic,
+    /// `frame`, the first one of a channel.
+    FirstFrame,
+    /// `frame`, `traffic`, or none.
+    Frames,
 }
 
 /// How many body bits a half-frame has: 95 at 9600 bits per second, 47 at 4800 (TIA/EIA-95-B,
@@ -127,15 +133,15 @@ fn pages_behind(rate: Rate, count: u16, page: &Page) -> Option<Stage>
     })
 }
 
-/// What may stand behind a `sync` line: paging channels where its message says that they have 9600
-/// or 4800 bits per second (TIA/EIA-95-B, 7.7.1.3).
+/// What may stand behind a `sync` line: traffic channels, and before them paging channels where its
+/// message says that they have 9600 or 4800 bits per second (TIA/EIA-95-B, 7.7.1.3).
 fn behind_sync(sync: &SyncPlan) -> Stage
     ensures { result ≡ behind_sync sync.now }
 {
     match sync.message.prat {
         0 => Stage::Paging(Rate::R9600),
         1 => Stage::Paging(Rate::R4800),
-        _ => Stage::End,
+        _ => Stage::Traffic,
     }
 }
 
@@ -151,6 +157,8 @@ impl Stage {
             Statement::Sync(sync) => self.after_sync(sync),
             Statement::Paging(_) => self.after_paging(),
             Statement::Page(page) => self.after_page(page),
+            Statement::Traffic(_) => self.after_traffic(),
+            Statement::Frame(_) => self.after_frame(),
         }
     }
 
@@ -215,13 +223,37 @@ impl Stage {
         }
     }
 
+    /// What may stand behind a `traffic` line.
+    fn after_traffic(self) -> Option<Stage>
+        ensures { result ≡ after_traffic self }
+    {
+        match self {
+            Stage::Paging(_) | Stage::Pages { .. } | Stage::Traffic | Stage::Frames => {
+                Some(Stage::FirstFrame)
+            }
+            _ => None,
+        }
+    }
+
+    /// What may stand behind a `frame` line.
+    fn after_frame(self) -> Option<Stage>
+        ensures { result ≡ after_frame self }
+    {
+        match self {
+            Stage::FirstFrame | Stage::Frames => Some(Stage::Frames),
+            _ => None,
+        }
+    }
+
     /// Whether a script may end.
     pub(crate) fn is_complete(self) -> bool
         ensures { result ≡ is_complete self }
     {
         match self {
-            Stage::Cell | Stage::Link | Stage::Pilot | Stage::FirstPage(_) => false,
-            Stage::Sync | Stage::Paging(_) | Stage::Pages { .. } | Stage::End => true,
+            Stage::Cell | Stage::Link | Stage::Pilot => false,
+            Stage::FirstPage(_) | Stage::FirstFrame => false,
+            Stage::Sync | Stage::Paging(_) | Stage::Pages { .. } => true,
+            Stage::Traffic | Stage::Frames => true,
         }
     }
 }

@@ -5,7 +5,8 @@ ghost use Rattle.base_modulator.specs.ScriptLines.{cell_in, check_form, freq_in,
 ghost use Rattle.base_modulator.specs.ScriptLines.{page_in, page_key, page_with, paging_in};
 ghost use Rattle.base_modulator.specs.ScriptLines.{past_freq, pilot_in, sync_behind, sync_fields};
 ghost use Rattle.base_modulator.specs.ScriptLines.{statement_in, sync_in, lawful_message};
-ghost use Rattle.base_modulator.specs.ScriptLines.{sync_table};
+ghost use Rattle.base_modulator.specs.ScriptLines.{frame_in, frame_key, frame_rate, frame_with};
+ghost use Rattle.base_modulator.specs.ScriptLines.{sync_table, traffic_in};
 ghost use Rattle.base_modulator.specs.ScriptFields.{AreUpTo};
 ghost use Rattle.base_modulator.specs.ScriptPlans.{HasRow, IsStatedCell, IsStatedLink};
 ghost use Rattle.paging_message.specs.Reading.{is_body};
@@ -17,10 +18,13 @@ use crate::plan::{CellIdentity, LinkPlan, Page, PilotPlan, SyncPlan};
 use crate::script::fields::Fields;
 use crate::script::tables::{
     CELL_FIELDS, FREQ_NUMBER, LINK_FIELDS, PAGING_FIELDS, PILOT_FIELDS, SYNC_NUMBERS,
+    TRAFFIC_FIELDS,
 };
 use crate::script::values::begins_with;
+use crate::traffic_frame::TrafficFrame;
 use chip_core::{Bits, CheckForm, Pair};
 use paging_message::PagingMessage;
+use symbol_path::Rate;
 use sync_message::{SyncFields, SyncMessage};
 
 /// What a line of a script states.
@@ -38,6 +42,10 @@ pub(crate) enum Statement {
     Paging(PagingLine),
     /// One more page of that channel.
     Page(Page),
+    /// One more traffic channel, whose frames the lines behind state.
+    Traffic(TrafficLine),
+    /// One more frame of that channel.
+    Frame(TrafficFrame),
 }
 
 /// A paging channel without its pages.
@@ -45,6 +53,19 @@ pub(crate) enum Statement {
 pub(crate) struct PagingLine {
     /// The number of the channel, which is its Walsh row: 1 to 7.
     pub(crate) number: u8,
+    /// The gain of the channel.
+    pub(crate) gain: u16,
+}
+
+/// A traffic channel without its frames.
+#[derive(Clone, Copy)]
+pub(crate) struct TrafficLine {
+    /// The Walsh row: 0 to 63.
+    pub(crate) row: u8,
+    /// The handset's electronic serial number.
+    pub(crate) esn: u32,
+    /// FRAME_OFFSET: 0 to 15.
+    pub(crate) offset: u8,
     /// The gain of the channel.
     pub(crate) gain: u16,
 }
@@ -72,6 +93,12 @@ pub(crate) fn statement_in(text: &[u8]) -> Option<Statement>
     }
     if begins_with(text, b"page ") {
         return Some(Statement::Page(page_in(text)?));
+    }
+    if begins_with(text, b"traffic ") {
+        return Some(Statement::Traffic(traffic_in(text)?));
+    }
+    if begins_with(text, b"frame ") {
+        return Some(Statement::Frame(frame_in(text)?));
     }
     None
 }
@@ -271,4 +298,82 @@ fn is_body(body: &Bits) -> bool
     ensures { result ≡ is_body body.now }
 {
     PagingMessage::from_body(body).is_some()
+}
+
+/// What a `traffic` line says.
+#[tactic(auto, unfolding(crate::specs::ScriptLines::traffic_in))]
+fn traffic_in(text: &[u8]) -> Option<TrafficLine>
+    ensures value { result ≡ traffic_in text.now }
+    ensures row { IfSome result (λ line. line.row < 64) }
+{
+    let mut fields = Fields::new(text);
+    let row = fields.unsigned(TRAFFIC_FIELDS[0])?;
+    let esn = fields.unsigned(TRAFFIC_FIELDS[1])?;
+    let offset = fields.unsigned(TRAFFIC_FIELDS[2])?;
+    let gain = fields.unsigned(TRAFFIC_FIELDS[3])?;
+    if !fields.at_end() {
+        return None;
+    }
+    Some(TrafficLine {
+        row: row as u8,
+        esn: esn as u32,
+        offset: offset as u8,
+        gain: gain as u16,
+    })
+}
+
+/// What a `frame` line says: a rate, as many information bits as a frame of it has, and sixteen
+/// power control bits.
+#[tactic(auto, unfolding(crate::specs::ScriptLines::frame_in))]
+fn frame_in(text: &[u8]) -> Option<TrafficFrame>
+    ensures { result ≡ frame_in text.now }
+{
+    frame_with(frame_rate(text)?, Fields::new(text))
+}
+
+/// The rate that a `frame` line begins with.
+fn frame_rate(text: &[u8]) -> Option<Rate>
+    ensures { result ≡ frame_rate text.now }
+{
+    if begins_with(text, b"frame 9600 ") {
+        return Some(Rate::R9600);
+    }
+    if begins_with(text, b"frame 4800 ") {
+        return Some(Rate::R4800);
+    }
+    if begins_with(text, b"frame 2400 ") {
+        return Some(Rate::R2400);
+    }
+    if begins_with(text, b"frame 1200 ") {
+        return Some(Rate::R1200);
+    }
+    None
+}
+
+/// What a `frame` line of this rate says.
+fn frame_with(rate: Rate, mut fields: Fields<'_>) -> Option<TrafficFrame>
+    ensures { result ≡ frame_with rate fields.entry }
+{
+    let information = fields.bits(frame_key(rate))?;
+    let commands = fields.commands(b" ")?;
+    if information.len() != rate.information_bits() || !fields.at_end() {
+        return None;
+    }
+    Some(TrafficFrame {
+        rate,
+        information,
+        commands,
+    })
+}
+
+/// What stands before the bits of a `frame` line.
+fn frame_key(rate: Rate) -> &'static [u8]
+    ensures { result.now ≡ frame_key rate }
+{
+    match rate {
+        Rate::R9600 => b"frame 9600 ",
+        Rate::R4800 => b"frame 4800 ",
+        Rate::R2400 => b"frame 2400 ",
+        Rate::R1200 => b"frame 1200 ",
+    }
 }

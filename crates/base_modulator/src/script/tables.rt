@@ -20,6 +20,8 @@ pub(crate) enum FieldForm {
     Signed,
     /// A state of the long code, in eleven hex digits.
     State,
+    /// An electronic serial number, in eight hex digits.
+    SerialNumber,
 }
 
 /// A field of a statement: its key, with which it begins, and the form of its value.
@@ -82,6 +84,26 @@ pub(crate) const PAGING_FIELDS: [StatementField; 2] = [
     StatementField {
         key: b"paging channel=",
         form: FieldForm::UpTo(7),
+    },
+    StatementField {
+        key: b" gain=",
+        form: FieldForm::UpTo(65_535),
+    },
+];
+
+/// The fields of a `traffic` line, in their order.
+pub(crate) const TRAFFIC_FIELDS: [StatementField; 4] = [
+    StatementField {
+        key: b"traffic row=",
+        form: FieldForm::UpTo(63),
+    },
+    StatementField {
+        key: b" esn=",
+        form: FieldForm::SerialNumber,
+    },
+    StatementField {
+        key: b" offset=",
+        form: FieldForm::UpTo(15),
     },
     StatementField {
         key: b" gain=",

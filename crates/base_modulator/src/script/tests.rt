@@ -11,40 +11,41 @@ use std::test::Fail;
 use sync_message::SyncFields;
 
 /// A lawful `cell` line.
-const CELL: &str = "cell pn=511 time=1000 lc=20000000000 checks=0\n";
+pub(super) const CELL: &str = "cell pn=511 time=1000 lc=20000000000 checks=0\n";
 
 /// A lawful `link` line.
-const LINK: &str = "link re=0 im=-3 start=0 samples=1228800\n";
+pub(super) const LINK: &str = "link re=0 im=-3 start=0 samples=1228800\n";
 
 /// A lawful `pilot` line.
-const PILOT: &str = "pilot gain=100\n";
+pub(super) const PILOT: &str = "pilot gain=100\n";
 
 /// A lawful `sync` line.
-const SYNC: &str = "sync gain=30 prev=3 min=1 sid=1 nid=2 lp=13 ltm=0 daylt=0 prat=0 rest=3:00\n";
+pub(super) const SYNC: &str =
+    "sync gain=30 prev=3 min=1 sid=1 nid=2 lp=13 ltm=0 daylt=0 prat=0 rest=3:00\n";
 
 /// A `sync` line that tells paging channels of 4800 bits per second.
-const SYNC_4800: &str =
+pub(super) const SYNC_4800: &str =
     "sync gain=30 prev=3 min=1 sid=1 nid=2 lp=13 ltm=0 daylt=0 prat=1 rest=3:00\n";
 
 /// One whose PRAT is 2.
-const SYNC_2400: &str =
+pub(super) const SYNC_2400: &str =
     "sync gain=30 prev=3 min=1 sid=1 nid=2 lp=13 ltm=0 daylt=0 prat=2 rest=3:00\n";
 
 /// One whose PRAT is 3.
-const SYNC_1200: &str =
+pub(super) const SYNC_1200: &str =
     "sync gain=30 prev=3 min=1 sid=1 nid=2 lp=13 ltm=0 daylt=0 prat=3 rest=3:00\n";
 
 /// A lawful `paging` line.
-const PAGING: &str = "paging channel=1 gain=60\n";
+pub(super) const PAGING: &str = "paging channel=1 gain=60\n";
 
 /// A lawful `paging` line of another channel.
-const OTHER_PAGING: &str = "paging channel=7 gain=1\n";
+pub(super) const OTHER_PAGING: &str = "paging channel=7 gain=1\n";
 
 /// A lawful `page` line: a channel list of 9 octets.
-const HALF: &str = "page half 34:04ff8046c0\n";
+pub(super) const HALF: &str = "page half 34:04ff8046c0\n";
 
 /// The same page, right behind the one before.
-const NEXT: &str = "page next 34:04ff8046c0\n";
+pub(super) const NEXT: &str = "page next 34:04ff8046c0\n";
 
 /// A page of 11 octets.
 const ELEVEN_OCTETS: &str = "page half 50:00000000000000\n";
@@ -675,7 +676,7 @@ fn script_of(alloc: Global, lines: &[&str]) -> Result<String, AllocError> {
 }
 
 /// Why the script of these lines names no cell.
-fn fault_of(
+pub(super) fn fault_of(
     alloc: Global,
     lines: &[&str],
     width: Width,
@@ -972,7 +973,7 @@ fn refuses_paging_orders(rt: HostRuntime) -> Result<(), Fail> {
 }
 
 /// The script of the lawful lines, with a link and a pilot, and more lines behind them.
-fn with_channels(
+pub(super) fn with_channels(
     alloc: Global,
     link: &str,
     pilot: &str,

@@ -6,7 +6,8 @@ ghost use Rattle.std.specs.Prelude.{codes, Some, None, IfSome, unsigned_abs, fla
 ghost use Rattle.std.specs.Char.{is_ascii_digit};
 ghost use Rattle.chip_core.specs.Bits.{binary};
 ghost use Rattle.long_code.specs.LongCode.{IsState};
-ghost use Rattle.base_modulator.specs.ScriptValues.{all_clear, begins_with, behind, bits_in};
+ghost use Rattle.base_modulator.specs.ScriptValues.{all_clear, begins_with, behind, binary_digit};
+ghost use Rattle.base_modulator.specs.ScriptValues.{bits_in, commands_in, serial_number_in};
 ghost use Rattle.base_modulator.specs.ScriptValues.{hex_bits, hex_digit, hex_from, is_plain};
 ghost use Rattle.base_modulator.specs.ScriptValues.{length_before, negative, number_in};
 ghost use Rattle.base_modulator.specs.ScriptValues.{number_up_to, signed_in, state_in, unpadded};
@@ -113,10 +114,23 @@ pub(crate) fn state_in(text: &[u8]) -> Option<u64>
     Some(state.value())
 }
 
+/// The electronic serial number that eight hex digits spell.
+#[tactic(auto, unfolding(crate::specs::ScriptValues::serial_number_in))]
+pub(crate) fn serial_number_in(text: &[u8]) -> Option<u64>
+    ensures value { result ≡ serial_number_in text.now }
+    ensures range { IfSome result (λ n. n < 2 ^ 32) }
+{
+    if text.len() != 8 {
+        return None;
+    }
+    hex_in(text)
+}
+
 /// The number that hex digits spell.
 fn hex_in(text: &[u8]) -> Option<u64>
     requires { length text.now ≤ 11 }
-    ensures { result ≡ hex_from 0 text.now }
+    ensures value { result ≡ hex_from 0 text.now }
+    ensures range { IfSome result (λ n. n < 16 ^ length text.now) }
 {
     let mut number = 0;
     for &digit in text {
@@ -142,6 +156,31 @@ fn with_hex_digit(number: u64, digit: u8) -> u64
     ensures most { result ≤ 16 * number + 15 }
 {
     16 * number + u64::from(digit)
+}
+
+/// The bit that a digit is; `None` for other digits than 0 and 1.
+fn binary_digit(byte: u8) -> Option<bool>
+    ensures { result ≡ binary_digit byte }
+{
+    match byte {
+        b'0' => Some(false),
+        b'1' => Some(true),
+        _ => None,
+    }
+}
+
+/// The bits of sixteen digits 0 or 1.
+pub(crate) fn commands_in(text: &[u8]) -> Option<[bool; 16]>
+    ensures { result ≡ commands_in text.now }
+{
+    if text.len() != 16 {
+        return None;
+    }
+    let mut commands = [false; 16];
+    for (k, &digit) in text.iter().enumerate() {
+        commands[k] = binary_digit(digit)?;
+    }
+    Some(commands)
 }
 
 /// The bits of a text `N:HEX`: N of them, at most 1,184, in two hex digits of either case for each

@@ -1,10 +1,10 @@
 use Rattle.std.proofs.Common.{sym, ◌∙◌, arith}
 use Rattle.base_modulator.proofs.ScriptTexts.{hex_missing, hex_digit_more, hex_read, hex_read_all}
-use Rattle.base_modulator.proofs.ScriptTexts.{few_hex_digits}
+use Rattle.base_modulator.proofs.ScriptTexts.{all_hex_digits, few_hex_digits}
 use Rattle.base_modulator.proofs.script.values.hex_in.Goals as goal
 
-pub returns-in_err-hex_digit : goal.returns-in_err-hex_digit
-returns-in_err-hex_digit c =
+pub returns-in_err-hex_digit-clause-value : goal.returns-in_err-hex_digit-clause-value
+returns-in_err-hex_digit-clause-value c =
     c.from_residual.ensures
     ∙ hex_missing c.args.text.now c.loop-digit.number c.loop-digit.digit-index
     c.loop-digit-test.true
@@ -24,9 +24,15 @@ loop-digit-preserved c = record {
       ∙ c.in_ok-hex_digit.was) c.loop-digit.invariant.left c.with_hex_digit-number.ensures.value;
   below = hex_digit_more c.loop-digit.number c.with_hex_digit-number.result c.loop-digit.digit-index
       c.loop-digit.invariant.below c.with_hex_digit-number.ensures.most;
+  passed = omega (arith, c.loop-digit-test.true);
 }
 
-pub returns : goal.returns
-returns c =
+pub returns-clause-value : goal.returns-clause-value
+returns-clause-value c =
     hex_read_all c.args.text.now c.loop-digit.number c.loop-digit.digit-index
     (omega (arith, c.loop-digit-test.false)) c.loop-digit.invariant.left
+
+pub returns-clause-range : goal.returns-clause-range
+returns-clause-range c =
+    all_hex_digits c.loop-digit.number c.loop-digit.digit-index _ c.loop-digit.invariant.below
+    c.loop-digit.invariant.passed

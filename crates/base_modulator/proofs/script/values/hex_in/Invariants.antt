@@ -1,4 +1,4 @@
-use Rattle.std.proofs.Common.{◌≡◌, ◌<◌, ◌^◌, drop}
+use Rattle.std.proofs.Common.{◌≡◌, ◌<◌, ◌≤◌, ◌^◌, drop, length}
 use Rattle.base_modulator.specs.ScriptValues.{hex_from}
 use Rattle.base_modulator.proofs.script.values.hex_in.Given as goal
 
@@ -6,4 +6,5 @@ abbrev pub invariant-loop-digit : goal.invariant-loop-digit
 invariant-loop-digit l = record {
   left : hex_from 0 l.text ≡ hex_from l.number (drop l.digit-index l.text);
   below : l.number < 16 ^ l.digit-index;
+  passed : l.digit-index ≤ length l.text;
 }

@@ -13,7 +13,7 @@ overflow_mul-result c =
     let size-2 = c.unsigned_abs-2.ensures.value
     ∙ ap (λ (z : ℤ). unsigned_abs z) (read64 q (omega (arith, link.quadrature))) in
     let factor = c.unsigned_abs.result + c.unsigned_abs-2.result in
-    let gains = c.from.result + c.from-2.result + c.args.self.now.paging.gains in
+    let gains = c.from.result + c.from-2.result + c.args.self.now.channels.gains in
     let small : factor ≤ 65536 = omega (arith, size, size-2, link.in_phase, link.quadrature) in
     let few : gains ≤ 2 ^ 41 = omega arith in
     omega (arith, mul-le factor gains 65536 (2 ^ 41) small few)
