@@ -1,8 +1,7 @@
 -- The text of a clean link.
 use Rattle.std.proofs.Common.{◌≡◌, ◌⊎◌, inl, inr, refl, ℕ, ◌≤◌, List, [], ◌∷◌, ◌++◌, length, take}
-use Rattle.std.proofs.Common.{◌≢◌, sym, subst, ap, ◌∙◌, pos, Option, Some, Ok}
+use Rattle.std.proofs.Common.{sym, ap, ◌∙◌, pos, Option, Some, Ok}
 use Rattle.std.specs.Prelude.{is_some, nat_lt}
-use Rattle.std.proofs.lemmas.List.Elements.{All-nil}
 use Rattle.chip_core.specs.declared.sample.Sample.{Sample}
 use Rattle.cdma_io.specs.SampleFile.{IsSampleFile}
 use Rattle.cdma_io.specs.declared.header.Header.{Header}
@@ -14,8 +13,6 @@ use Rattle.pilot_search.proofs.NearPlaces.{one_delta}
 use Rattle.base_modulator.specs.Script.{plan_named}
 use Rattle.base_modulator.specs.Transmitter.{phase_at}
 use Rattle.base_modulator.specs.declared.plan.CellPlan.{CellPlan}
-use Rattle.base_modulator.specs.declared.plan.TrafficPlan.{TrafficPlan}
-use Rattle.base_modulator.specs.Plan.{IsFreeOf}
 use Rattle.base_modulator.proofs.NamedPlans.{named_plan, named_said}
 use Rattle.event_tap.specs.Taps.{KeptTap, run_text}
 use Rattle.mobile_core.specs.Events.{events}
@@ -56,12 +53,11 @@ own_delta samples =
 -- a handset on a clean link is tuned to the cell
 tuned : (width : Width) (script : List ℕ) (plan : CellPlan) (span : ℕ) (receiver : Receiver)
     (header : Header) (samples : List Sample) →
-    IsCleanLink width script plan span receiver.fingers header samples →
+    IsCleanLink width script plan span receiver.fingers receiver.paging header samples →
     length samples ≡ header.count → IsPaging receiver.paging →
     IsTunedTo plan (tuning_for header (take span samples) receiver)
 tuned width script plan span receiver header samples clean counted paging =
     let first = take span samples in
-    let none = (named_said width script plan clean.named).lawful.traffic in
     record {
       count = sym counted ∙ ap length clean.sent ∙ length-made plan;
       checks = clean.checks_of_30;
@@ -69,8 +65,7 @@ tuned width script plan span receiver header samples clean counted paging =
       alone = ap (near_deltas first (best_phase first)) clean.alone ∙ own_delta first;
       first_channel = paging.0;
       last_channel = paging.1;
-      free = subst (λ (ts : List TrafficPlan). IsFreeOf ts receiver.paging) (sym none)
-          (All-nil (λ (t : TrafficPlan). t.row ≢ receiver.paging));
+      free = clean.free;
     }
 
 best_pilot-at : (samples : List Sample) (phase : ℕ) → best_phase samples ≡ phase →
@@ -81,8 +76,8 @@ best_pilot-at samples phase is = ap (λ (p : ℕ). Pilot p (energy samples p)) i
 -- the events of the file
 clean_events-are : (width : Width) (script : List ℕ) (plan : CellPlan)
     (span workers fingers paging : ℕ) (header : Header) (samples : List Sample) →
-    IsCleanLink width script plan span fingers header samples → length samples ≡ header.count →
-    IsPaging paging →
+    IsCleanLink width script plan span fingers paging header samples →
+    length samples ≡ header.count → IsPaging paging →
     file_events (following span workers fingers paging) header samples
     ≡ clean_events span plan paging
 unfolding file_events clean_events events_in
@@ -103,8 +98,8 @@ clean_events-are width script plan span workers fingers paging header samples cl
 -- and how the run ends
 pub clean_end-is : (width : Width) (script : List ℕ) (plan : CellPlan)
     (span workers fingers paging : ℕ) (header : Header) (samples : List Sample) →
-    IsCleanLink width script plan span fingers header samples → length samples ≡ header.count →
-    IsPaging paging →
+    IsCleanLink width script plan span fingers paging header samples →
+    length samples ≡ header.count → IsPaging paging →
     file_end_of (following span workers fingers paging) header samples ≡ clean_end plan
 unfolding file_end_of
 clean_end-is width script plan span workers fingers paging header samples clean counted one =
@@ -121,8 +116,8 @@ clean_end-is width script plan span workers fingers paging header samples clean 
 -- so what is written of the file is written of the cell
 clean_text-is : (taps : List KeptTap) (width : Width) (script : List ℕ) (plan : CellPlan)
     (span workers fingers paging : ℕ) (header : Header) (samples : List Sample) →
-    IsCleanLink width script plan span fingers header samples → length samples ≡ header.count →
-    IsPaging paging →
+    IsCleanLink width script plan span fingers paging header samples →
+    length samples ≡ header.count → IsPaging paging →
     file_text taps (following span workers fingers paging) header samples ≡
     run_text taps (clean_events span plan paging)
 unfolding file_text
@@ -150,7 +145,7 @@ clean_owed taps span workers fingers paging bytes header samples file enough = r
 clean_reply : (taps : List KeptTap) (width : Width) (script held : List ℕ)
     (plan : CellPlan) (span workers fingers paging : ℕ) (header : Header) (samples : List Sample)
     (status : Status) (written : Option (List ℕ)) →
-    IsCleanLink width script plan span fingers header samples →
+    IsCleanLink width script plan span fingers paging header samples →
     length samples ≡ header.count → IsPaging paging →
     (status ≡ NoMemory) ⊎
     ((status ≡ file_end_of (following span workers fingers paging) header samples) ×
@@ -175,7 +170,7 @@ pub clean_answer : (taps : List KeptTap) (width : Width) (script bytes held : Li
     (plan : CellPlan) (span workers fingers paging : ℕ) (header : Header) (samples : List Sample)
     (status : Status) (written : Option (List ℕ)) →
     IsSampleFile bytes header samples → span ≤ length samples → IsPaging paging →
-    IsCleanLink width script plan span fingers header samples →
+    IsCleanLink width script plan span fingers paging header samples →
     ((reply : Reply) → IsFileReply taps (following span workers fingers paging) bytes reply →
     (status ≡ NoMemory) ⊎ AnswersBehind held reply status written) →
     (status ≡ NoMemory) ⊎

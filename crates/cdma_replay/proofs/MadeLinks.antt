@@ -18,7 +18,7 @@ use Rattle.cdma_io.specs.declared.width.Width.{Width}
 use Rattle.cdma_io.specs.declared.width.Width.TheVariants.{Sixteen, Eight}
 use Rattle.pilot_search.specs.Search.{best_phase}
 use Rattle.base_modulator.specs.declared.plan.CellPlan.{CellPlan}
-use Rattle.base_modulator.specs.Plan.{IsLawfulPlan, loudness, most_part}
+use Rattle.base_modulator.specs.Plan.{IsFreeOf, IsLawfulPlan, loudness, most_part}
 use Rattle.base_modulator.specs.Script.{plan_named}
 use Rattle.base_modulator.specs.Signal.{amplitudes, carriers, scaled}
 use Rattle.base_modulator.specs.Transmitter.{header_of, phase_at, version_of}
@@ -131,12 +131,14 @@ pub made_readable : (width : Width) (script : List ℕ) (plan : CellPlan) →
 made_readable width script plan named =
     lawful_readable width plan (named_plan width script plan named).0
 
--- and a clean link, where the search finds the cell's path and there is one finger
-pub made_clean : (width : Width) (script : List ℕ) (plan : CellPlan) (span : ℕ) →
+-- and a clean link, where the search finds the cell's path, there is one finger, and the paging
+-- channel's row is free
+pub made_clean : (width : Width) (script : List ℕ) (plan : CellPlan) (span paging : ℕ) →
     plan_named width script ≡ Ok plan →
     best_phase (take span (made_samples plan)) ≡ phase_at plan plan.link.start →
-    IsCleanLink width script plan span 1 (header_of width plan) (made_samples plan)
-made_clean width script plan span named found =
+    IsFreeOf plan.traffic paging →
+    IsCleanLink width script plan span 1 paging (header_of width plan) (made_samples plan)
+made_clean width script plan span paging named found free =
     record {
       named = named;
       sent = refl;
@@ -144,4 +146,5 @@ made_clean width script plan span named found =
       checks_of_16 = refl;
       found = found;
       alone = refl;
+      free = free;
     }

@@ -3,6 +3,7 @@ use Rattle.std.specs.Prelude.{ℕ, ◌≡◌, List, take, Ok}
 use Rattle.cdma_io.specs.SampleFile.{IsSampleFile}
 use Rattle.cdma_io.specs.declared.width.Width.{Width}
 use Rattle.pilot_search.specs.Search.{best_phase}
+use Rattle.base_modulator.specs.Plan.{IsFreeOf}
 use Rattle.base_modulator.specs.Sampled.{made_samples}
 use Rattle.base_modulator.specs.Script.{plan_named}
 use Rattle.base_modulator.specs.Transmitter.{header_of, phase_at}
@@ -16,10 +17,12 @@ IsReadableWhenMade =
     (width : Width) (script : List ℕ) (plan : CellPlan) → plan_named width script ≡ Ok plan →
     IsSampleFile (made_file width plan) (header_of width plan) (made_samples plan)
 
--- and a clean link, where the search finds the cell's path and there is one finger
+-- and a clean link, where the search finds the cell's path, there is one finger, and no traffic
+-- channel has the row of the paging channel that is followed
 abbrev pub IsCleanWhenMade : Type 0
 IsCleanWhenMade =
-    (width : Width) (script : List ℕ) (plan : CellPlan) (span : ℕ) →
+    (width : Width) (script : List ℕ) (plan : CellPlan) (span paging : ℕ) →
     plan_named width script ≡ Ok plan →
     best_phase (take span (made_samples plan)) ≡ phase_at plan plan.link.start →
-    IsCleanLink width script plan span 1 (header_of width plan) (made_samples plan)
+    IsFreeOf plan.traffic paging →
+    IsCleanLink width script plan span 1 paging (header_of width plan) (made_samples plan)

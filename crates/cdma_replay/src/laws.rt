@@ -12,7 +12,8 @@ pub fn inputs_are_owed_one_reply()
 {}
 
 /// What `make` writes is a sample file of the cell's samples; where the search finds the cell's
-/// path in it, it is a clean link for one finger.
+/// path in it, it is a clean link for one finger and for each paging channel on whose row there is
+/// no traffic channel.
 pub fn made_files_are_clean_links()
     ensures file { IsReadableWhenMade }
     ensures clean { IsCleanWhenMade }

@@ -147,7 +147,7 @@ pub fn replay<R: Threads + Sync, S: Source, K: Sink, G: Gate + Sync>(
         job_named words.now ≡ Some (Follow span workers fingers paging limits) →
         S.rest source.old ≡ Some bytes → K.written sink.old ≡ Some held →
         IsSampleFile bytes header samples → span ≤ length samples →
-        IsCleanLink width script plan span fingers header samples →
+        IsCleanLink width script plan span fingers paging header samples →
         ¬ (Rose (S.faults source.old) (S.faults source.new)) →
         ¬ (Rose (K.faults sink.old) (K.faults sink.new)) →
         (result ≡ Status.NoMemory) ⊎ ((result ≡ clean_end plan) ×

@@ -29,16 +29,18 @@ use Rattle.mobile_core.specs.declared.event.Event.TheVariants.{Sync}
 use Rattle.mobile_core.specs.declared.mark.Mark.{Mark}
 
 -- A file is a clean link of a script's cell: its flags and samples are the cell's, the search finds
--- the cell's path, and there is one finger. The link's delay is in the chip at which the file
--- starts, its rotation and strength are in the factor.
+-- the cell's path, there is one finger, and no traffic channel has the row of the paging channel
+-- that is followed. The link's delay is in the chip at which the file starts, its rotation and
+-- strength are in the factor.
 pub record IsCleanLink (width : Width) (script : List ℕ) (plan : CellPlan) (span : ℕ)
-    (fingers : ℕ) (header : Header) (samples : List Sample) : Type 0 where
+    (fingers paging : ℕ) (header : Header) (samples : List Sample) : Type 0 where
   pub named : plan_named width script ≡ Ok plan
   pub sent : samples ≡ made_samples plan
   pub checks_of_30 : header.check30 ≡ plan.cell.check30
   pub checks_of_16 : header.check16 ≡ plan.cell.check16
   pub found : best_phase (take span samples) ≡ phase_at plan plan.link.start
   pub alone : fingers ≡ 1
+  pub free : IsFreeOf plan.traffic paging
 
 -- a lawful cell, with a link, whose pages are messages that half-frames carry
 pub record IsReceivable (width : Width) (plan : CellPlan) : Type 0 where
