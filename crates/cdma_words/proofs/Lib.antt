@@ -1,5 +1,5 @@
 mod WordApps
 mod WordJobs
 mod WordTests
-mod WordValues
+mod WordTexts
 mod WordWalks

@@ -3,21 +3,29 @@ use Rattle.std.proofs.Common.{◌≡◌, ℕ, zero, suc, ◌+◌, ◌<◌, ◌�
 use Rattle.std.proofs.Common.{true, false, not, ◌&&◌, ◌||◌, if◌then◌else◌, List, []}
 use Rattle.std.proofs.Common.{◌∷◌, ◌++◌, length, map, take, drop, get_or, nat_eq}
 use Rattle.std.proofs.Common.{nat_le, refl, sym, ap, ap₂, ◌∙◌, subst, arith}
-use Rattle.std.proofs.Common.{rules, Option, None, Some, option_and_then, unwrap_or, is_some, find}
-use Rattle.std.proofs.Common.{◌*◌, ◌-◌, String, Global, string_bytes}
+use Rattle.std.proofs.Common.{rules, Option, None, Some, option_and_then, option_map, unwrap_or}
+use Rattle.std.proofs.Common.{eqb-true, find, is_some}
+use Rattle.std.proofs.Common.{◌*◌, ◌-◌, String, Global, string_bytes, Result, Ok, Err}
 use Rattle.std.proofs.lemmas.List.{at_drop_more, drop-map, drop_all, length-drop}
 use Rattle.std.proofs.lemmas.List.{length-map, take-map, take_all}
-use Rattle.std.specs.List.{list_any}
+use Rattle.std.specs.List.{AllPass, list_any}
 use Rattle.std.specs.Char.{is_ascii_digit}
+use Rattle.std.specs.Int.{from_be_bytes, w32}
 use Rattle.std.specs.Option.{option_map_or}
+use Rattle.std.specs.Result.{result_ok}
 use Rattle.std.specs.Str.{bytes_eq}
 use Rattle.chip_core.specs.Decimals.{digits_from}
+use Rattle.hex.specs.Hex.{decode_sized, is_hex_digit}
+use Rattle.hex.specs.declared.error.FromHexError.{FromHexError}
+use Rattle.hex.proofs.HexLemmas.{IsOk-decode_sized}
 use Rattle.clap.specs.Lexer.{long_of, long_of_rest, short_of, short_of_rest, strip_byte}
 use Rattle.cdma_words.specs.declared.grammar.OptionRule.{OptionRule}
-use Rattle.cdma_words.specs.declared.grammar.Form.TheVariants.{Between}
+use Rattle.cdma_words.specs.declared.grammar.Form.{Form}
+use Rattle.cdma_words.specs.declared.grammar.Form.TheVariants.{Between, Either, SerialNumber}
 use Rattle.cdma_words.specs.Words.{Given, OptionRow, Text, added, admits, given_behind}
-use Rattle.cdma_words.specs.Words.{has_name, is_allowed, is_joined, is_named_in, is_value, joined}
+use Rattle.cdma_words.specs.Words.{has_name, is_allowed, is_joined, is_named_in, joined}
 use Rattle.cdma_words.specs.Words.{names, number_in, part_by, part_of, parted}
+use Rattle.cdma_words.specs.Words.{serial_number_in, spelled_in, text_in, value_in}
 
 -- ---- an item of a list behind the first k of them
 
@@ -44,15 +52,16 @@ no_rule = record {
 }
 
 pub rule_here : (row : OptionRow) (rows : List OptionRow) (name value : Text) →
-    bytes_eq row.name name ≡ true → is_allowed (row ∷ rows) name value ≡ is_value row.form value
+    bytes_eq row.name name ≡ true →
+    is_allowed (row ∷ rows) name value ≡ is_some (value_in row.form value)
 rule_here row rows name value e =
-    ap (λ (b : Bool). option_map_or (λ r. is_value r.form value)
+    ap (λ (b : Bool). option_map_or (λ r. is_some (value_in r.form value))
     (if b then Some row else find (λ r. bytes_eq r.name name) rows) false) e
 
 pub rule_elsewhere : (row : OptionRow) (rows : List OptionRow) (name value : Text) →
     bytes_eq row.name name ≡ false → is_allowed (row ∷ rows) name value ≡ is_allowed rows name value
 rule_elsewhere row rows name value e =
-    ap (λ (b : Bool). option_map_or (λ r. is_value r.form value)
+    ap (λ (b : Bool). option_map_or (λ r. is_some (value_in r.form value))
     (if b then Some row else find (λ r. bytes_eq r.name name) rows) false) e
 
 -- ---- values
@@ -90,26 +99,89 @@ first_digit digit text number e =
     go true false c is found = search rules
     go false b c is found = search rules
 
-pub number_plain : (text : Text) (number : ℕ) → number_in text ≡ Some number → IsPlain text
+number_plain : (text : Text) (number : ℕ) → number_in text ≡ Some number → IsPlain text
 number_plain [] number e = search rules
 number_plain (digit ∷ text) number e =
     plain_from digit text (no_dash digit (first_digit digit text number e))
 
--- a text that an option admits spells a number
+-- no hex digit is a hyphen
+no_dash-hex : (digit : ℕ) → is_hex_digit digit ≡ true → nat_eq digit 45 ≡ false
+no_dash-hex digit e = go (nat_eq digit 45) refl
+  where
+    go : (b : Bool) → nat_eq digit 45 ≡ b → nat_eq digit 45 ≡ false
+    go false is = is
+    go true is =
+        let same : digit ≡ 45 = eqb-true digit 45 is in
+        let bad : false ≡ true = subst (λ (d : ℕ). is_hex_digit d ≡ true) same e in
+        search rules
+
+serial_plain : (text : Text) (number : ℕ) → serial_number_in text ≡ Some number → IsPlain text
+unfolding serial_number_in
+serial_plain text number e = go (decode_sized text 4) refl e
+  where
+    digits : (text : Text) → length text ≡ 8 → AllPass is_hex_digit text → IsPlain text
+    digits [] eight all = absurd (omega (arith, eight))
+    digits (digit ∷ text) eight all =
+        plain_from digit text (no_dash-hex digit (all 0 digit (omega (arith, eight))))
+
+    go : (r : Result (List ℕ) FromHexError) → decode_sized text 4 ≡ r →
+        option_map (λ octets. from_be_bytes w32 octets) (result_ok r) ≡ Some number → IsPlain text
+    go (Ok octets) is found =
+        let both = (IsOk-decode_sized text 4).0 (rw is refl) in
+        digits text both.0 both.1
+    go (Err fault) is found = search rules
+
+spelled_plain : (form : Form) (text : Text) (number : ℕ) → spelled_in form text ≡ Some number →
+    IsPlain text
+spelled_plain (Between least most) text number e = number_plain text number e
+spelled_plain (Either one other) text number e = number_plain text number e
+spelled_plain SerialNumber text number e = serial_plain text number e
+
+-- a value of an option is no flag
+value_plain-form : (form : Form) (text : Text) → is_some (value_in form text) ≡ true → IsPlain text
+unfolding value_in
+value_plain-form form text e = go (spelled_in form text) refl e
+  where
+    go : (o : Option ℕ) → spelled_in form text ≡ o →
+        is_some (option_and_then (λ n. if admits form n then Some n else None) o) ≡ true →
+        IsPlain text
+    go None is test = search rules
+    go (Some number) is test = spelled_plain form text number is
+
 pub value_plain : (rows : List OptionRow) (name value : Text) →
     is_allowed rows name value ≡ true → IsPlain value
-value_plain rows name value e = go (find (λ r. bytes_eq r.name name) rows) (number_in value) refl e
+value_plain rows name value e = go (find (λ r. bytes_eq r.name name) rows) e
   where
-    go : (found : Option OptionRow) (number : Option ℕ) → number_in value ≡ number →
-        option_map_or (λ r. is_value r.form value) found false ≡ true → IsPlain value
-    go None number is test = search rules
-    go (Some row) (Some number) is test = number_plain value number is
-    go (Some row) None is test =
-        let none : option_map_or (λ n. true) (number_in value) false ≡ false =
-        ap (λ (o : Option ℕ). option_map_or (λ n. true) o false) is in
-        let bad : is_value row.form value ≡ false =
-        ap (λ (o : Option ℕ). option_map_or (admits row.form) o false) is in
-        search (rules, bad, test)
+    go : (found : Option OptionRow) →
+        option_map_or (λ r. is_some (value_in r.form value)) found false ≡ true → IsPlain value
+    go None test = search rules
+    go (Some row) test = value_plain-form row.form value test
+
+-- ---- the word that names an option
+
+pub text_here : (name : Text) (words : List (String Global)) (place : ℕ) (word : String Global) →
+    place < length words → word ≡ get_or words place word →
+    names name (string_bytes word) ≡ true → text_in name (drop place (map string_bytes words)) ≡
+    option_map (λ p. p.1) (part_of (drop place (map string_bytes words)))
+text_here name words place word inside is named =
+    let rest = drop (place + 1) (map string_bytes words) in
+    let value : List Text → Option Text = λ ws. option_map (λ p. p.1) (part_of ws) in
+    item_first (text_in name) string_bytes words place word inside
+    ∙ ap (λ (w : String Global). text_in name (string_bytes w ∷ rest)) (sym is)
+    ∙ ap (λ (b : Bool). if b then value (string_bytes word ∷ rest) else text_in name rest) named
+    ∙ ap (λ (w : String Global). value (string_bytes w ∷ rest)) is
+    ∙ sym (item_first value string_bytes words place word inside)
+
+pub text_there : (name : Text) (words : List (String Global)) (place : ℕ) (word : String Global) →
+    place < length words → word ≡ get_or words place word →
+    names name (string_bytes word) ≡ false → text_in name (drop place (map string_bytes words)) ≡
+    text_in name (drop (place + 1) (map string_bytes words))
+text_there name words place word inside is unnamed =
+    let rest = drop (place + 1) (map string_bytes words) in
+    let value : List Text → Option Text = λ ws. option_map (λ p. p.1) (part_of ws) in
+    item_first (text_in name) string_bytes words place word inside
+    ∙ ap (λ (w : String Global). text_in name (string_bytes w ∷ rest)) (sym is)
+    ∙ ap (λ (b : Bool). if b then value (string_bytes word ∷ rest) else text_in name rest) unnamed
 
 -- ---- the first option of words
 

@@ -37,7 +37,7 @@ use Rattle.clap.specs.declared.builder.value_parser.ValueParser.TheVariants as v
 use Rattle.clap.specs.declared.builder.value_parser.Reading.TheVariants as reading
 use Rattle.clap.specs.declared.parser.matches.ValueSource.TheVariants.{CommandLine}
 use Rattle.cdma_words.specs.Words.{Given, OptionRow, Text, added, given_behind, has_name}
-use Rattle.cdma_words.specs.Words.{is_allowed, is_joined, is_value, joined, parted, text_of}
+use Rattle.cdma_words.specs.Words.{is_allowed, is_joined, joined, parted, text_of, value_in}
 use Rattle.cdma_words.proofs.WordTests.{IsPlain, none_stays, value_plain}
 
 abbrev pub names_in : List OptionRow → List Text
@@ -356,14 +356,14 @@ allowed_among [] name text e = search rules
 allowed_among (row ∷ rows) name text e = go (bytes_eq row.name name) e
     (allowed_among rows name text)
   where
-    go : (b : Bool) → option_map_or (λ r. is_value r.form text)
+    go : (b : Bool) → option_map_or (λ r. is_some (value_in r.form text))
         (if b then Some row else find (λ r. bytes_eq r.name name) rows) false ≡ true →
         (is_allowed rows name text ≡ true → is_among (names_in rows) name ≡ true) →
         b || is_among (names_in rows) name ≡ true
     go true is more = refl
     go false is more = more is
 
-is_added : (rows : List OptionRow) (name text : Text) (before after : Given) →
+pub is_added : (rows : List OptionRow) (name text : Text) (before after : Given) →
     added rows name text before ≡ Some after → IsAdded rows name text before after
 is_added rows name text before after e = go (is_allowed rows name text)
     (has_name name before) refl refl e
@@ -616,12 +616,12 @@ now_of : (xs : List (Bor Text)) → option_map (λ s. s.now) (slice_get xs 0)
 now_of [] = refl
 now_of (x ∷ xs) = refl
 
-value_in : (es : List Entry) (id : Text) → option_and_then
+first_in : (es : List Entry) (id : Text) → option_and_then
     (λ a. option_map (λ s. s.now) (slice_get a.vals.items 0))
     (option_map (λ e. e.1) (find (λ e. bytes_eq e.0.now id) es))
     ≡ option_and_then (λ r. slice_get r.values 0) (find (λ r. bytes_eq r.id id) (map row_of es))
-value_in [] id = refl
-value_in (e ∷ es) id = go (bytes_eq e.0.now id) (value_in es id)
+first_in [] id = refl
+first_in (e ∷ es) id = go (bytes_eq e.0.now id) (first_in es id)
   where
     go : (b : Bool) → option_and_then (λ a. option_map (λ s. s.now) (slice_get a.vals.items 0))
         (option_map (λ e. e.1) (find (λ e. bytes_eq e.0.now id) es))
@@ -648,5 +648,5 @@ text_in (p ∷ given) name = go (bytes_eq p.0 name) (text_in given name)
 -- a getter of a matched command gives the text that the words give
 pub value_is : (f : Found) (given : Given) (name : Text) → rows_of f ≡ found_rows given →
     first_value f name ≡ text_of name given
-value_is f given name same = value_in f.entries.items name ∙ ap (first_of name) same
+value_is f given name same = first_in f.entries.items name ∙ ap (first_of name) same
     ∙ text_in given name

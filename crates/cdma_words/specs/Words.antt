@@ -1,11 +1,13 @@
 -- The words of the command line, as lists of bytes, and the job that they name.
-use Rattle.std.specs.Prelude.{ℕ, ◌≤◌, nat_eq, nat_le, Bool, true}
+use Rattle.std.specs.Prelude.{ℕ, ◌≡◌, ◌≢◌, ◌≤◌, ◌<◌, ◌^◌, ◌⊎◌, nat_eq, nat_le, Bool, true}
 use Rattle.std.specs.Prelude.{false, not, ◌&&◌, ◌||◌, if◌then◌else◌, List, []}
 use Rattle.std.specs.Prelude.{◌∷◌, ◌++◌, length, map, codes, string_bytes, Option}
-use Rattle.std.specs.Prelude.{None, Some, find, option_map, option_and_then}
+use Rattle.std.specs.Prelude.{None, Some, find, is_some, option_map, option_and_then, unwrap_or}
 use Rattle.std.specs.List.{list_any}
 use Rattle.std.specs.Option.{option_map_or}
+use Rattle.std.specs.Result.{result_ok}
 use Rattle.std.specs.Cmp.Lexicographic.{pointwise}
+use Rattle.std.specs.Int.{from_be_bytes, w32}
 use Rattle.std.specs.Str.{bytes_eq}
 use Rattle.std.specs.declared.string.String.{String}
 use Rattle.std.specs.declared.alloc.Global.{Global}
@@ -14,12 +16,16 @@ use Rattle.clap.specs.Lexer.{long_of}
 use Rattle.clap.specs.Words.{App, Rule, new_app, new_rule, with_rule}
 use Rattle.clap.specs.Simple.{on_top}
 use Rattle.clap.specs.declared.builder.ArgAction.TheVariants.{Set}
+use Rattle.hex.specs.Hex.{decode_sized}
 use Rattle.cdma_io.specs.declared.width.Width.{Width}
 use Rattle.cdma_io.specs.declared.width.Width.TheVariants.{Sixteen, Eight}
 use Rattle.cdma_words.specs.declared.job.Job.{Job}
 use Rattle.cdma_words.specs.declared.job.Job.TheVariants.{Find, Follow, Make}
+use Rattle.cdma_words.specs.declared.job.TrafficOptions.{TrafficOptions}
+use Rattle.cdma_words.specs.declared.commands.Command.{Command}
+use Rattle.cdma_words.specs.declared.commands.Command.TheVariants as named
 use Rattle.cdma_words.specs.declared.grammar.Form.{Form}
-use Rattle.cdma_words.specs.declared.grammar.Form.TheVariants.{Between, Either}
+use Rattle.cdma_words.specs.declared.grammar.Form.TheVariants.{Between, Either, SerialNumber}
 use Rattle.cdma_words.specs.declared.grammar.OptionRule.{OptionRule}
 
 abbrev pub Text : Type 0
@@ -27,8 +33,8 @@ Text = List ℕ
 
 -- ---- the table of options
 
--- a row of it: an option's name, which numbers it admits, and the number that stands where it isn't
--- given, none where it has to be
+-- a row of it: an option's name, the form of its values, and the number that stands where it isn't
+-- given, if one does
 pub record OptionRow : Type 0 where
   pub name : Text
   pub form : Form
@@ -50,6 +56,16 @@ fingers_row = record { name = codes "fingers"; form = Between 1 3; default = Som
 abbrev pub paging_row : OptionRow
 paging_row = record { name = codes "paging"; form = Between 1 7; default = Some 1 }
 
+-- the handset's electronic serial number, and the Walsh row and FRAME_OFFSET of its traffic channel
+abbrev pub serial_row : OptionRow
+serial_row = record { name = codes "esn"; form = SerialNumber; default = None }
+
+abbrev pub walsh_row : OptionRow
+walsh_row = record { name = codes "row"; form = Between 1 63; default = None }
+
+abbrev pub offset_row : OptionRow
+offset_row = record { name = codes "offset"; form = Between 0 15; default = None }
+
 -- an option that limits how often something is told
 abbrev pub limit_row : Text → ℕ → OptionRow
 limit_row name default =
@@ -60,27 +76,48 @@ bits_row = record { name = codes "bits"; form = Either 8 16; default = Some 16 }
 
 -- ---- the table of commands
 
--- a row of it: a command's name, its options, and the job for one number of each of them
+-- a row of it: a command's name, its options, and the job for the number of each of them, which may
+-- have none; no job where one is missing that is needed, or where they don't go together
 pub record CommandRow : Type 0 where
   pub name : Text
   pub options : List OptionRow
-  pub job : List ℕ → Option Job
+  pub job : List (Option ℕ) → Option Job
 
-abbrev pub find_with : List ℕ → Option Job
-find_with (span ∷ workers ∷ []) = Some (Find span workers)
+abbrev pub find_with : List (Option ℕ) → Option Job
+find_with (Some span ∷ Some workers ∷ []) = Some (Find span workers)
 find_with _ = None
 
-abbrev pub follow_with : List ℕ → Option Job
-follow_with (span ∷ workers ∷ fingers ∷ paging ∷ limits) =
-    Some (Follow span workers fingers paging limits)
+-- whether a traffic channel may have the row, beside the sync channel and a paging channel
+abbrev pub is_free : ℕ → ℕ → Bool
+is_free paging row = not (nat_eq row 32) && not (nat_eq row paging)
+
+-- the traffic channel of a serial number, a row and an offset, beside a paging channel: the first
+-- two or neither are given, and the offset, which is else 0, only with them
+abbrev pub traffic_with : ℕ → Option ℕ → Option ℕ → Option ℕ → Option (Option TrafficOptions)
+traffic_with paging None None None = Some None
+traffic_with paging (Some esn) (Some row) offset =
+    if is_free paging row
+    then Some (Some (record { esn = esn; row = row; offset = unwrap_or offset 0 })) else None
+traffic_with paging esn row offset = None
+
+-- how many pilots, messages, frames and raw capsules are told
+abbrev pub limits_with : List (Option ℕ) → Option (List ℕ)
+limits_with (Some pilots ∷ Some messages ∷ Some frames ∷ Some raw ∷ []) =
+    Some (pilots ∷ messages ∷ frames ∷ raw ∷ [])
+limits_with _ = None
+
+abbrev pub follow_with : List (Option ℕ) → Option Job
+follow_with (Some span ∷ Some workers ∷ Some fingers ∷ Some paging ∷ esn ∷ row ∷ offset ∷ limits) =
+    option_and_then (λ traffic. option_map (λ told. Follow span workers fingers paging traffic told)
+    (limits_with limits)) (traffic_with paging esn row offset)
 follow_with _ = None
 
 -- the width of parts of so many bits
 abbrev pub width_of : ℕ → Width
 width_of bits = if nat_eq bits 8 then Eight else Sixteen
 
-abbrev pub make_with : List ℕ → Option Job
-make_with (bits ∷ []) = Some (Make (width_of bits))
+abbrev pub make_with : List (Option ℕ) → Option Job
+make_with (Some bits ∷ []) = Some (Make (width_of bits))
 make_with _ = None
 
 abbrev pub find_row : CommandRow
@@ -90,17 +127,25 @@ find_row = record {
   job = find_with;
 }
 
+abbrev pub limit_rows : List OptionRow
+limit_rows = limit_row (codes "pilots") 4294967295 ∷ limit_row (codes "messages") 4294967295
+    ∷ limit_row (codes "frames") 4294967295 ∷ limit_row (codes "raw") 0 ∷ []
+
 abbrev pub follow_row : CommandRow
 follow_row = record {
   name = codes "follow";
-  options = span_row ∷ workers_row ∷ fingers_row ∷ paging_row
-      ∷ limit_row (codes "pilots") 4294967295 ∷ limit_row (codes "messages") 4294967295
-      ∷ limit_row (codes "frames") 4294967295 ∷ limit_row (codes "raw") 0 ∷ [];
+  options = span_row ∷ workers_row ∷ fingers_row ∷ paging_row ∷ serial_row ∷ walsh_row
+      ∷ offset_row ∷ limit_rows;
   job = follow_with;
 }
 
 abbrev pub make_row : CommandRow
 make_row = record { name = codes "make"; options = bits_row ∷ []; job = make_with }
+
+abbrev pub command_row : Command → CommandRow
+command_row named.Find = find_row
+command_row named.Follow = follow_row
+command_row named.Make = make_row
 
 abbrev pub commands : List CommandRow
 commands = find_row ∷ follow_row ∷ make_row ∷ []
@@ -113,18 +158,38 @@ number_in text =
     if nat_le 1 (length text) then (if nat_le (length text) 20 then digits_from 0 text else None)
     else None
 
+-- the number that eight hex digits of either case spell
+unfoldable pub serial_number_in : Text → Option ℕ
+serial_number_in text =
+    option_map (λ octets. from_be_bytes w32 octets) (result_ok (decode_sized text 4))
+
+-- the number that a text spells as values of this form are spelled
+abbrev pub spelled_in : Form → Text → Option ℕ
+spelled_in SerialNumber text = serial_number_in text
+spelled_in form text = number_in text
+
+-- the numbers that values of this form may have, as a test and as a fact
 abbrev pub admits : Form → ℕ → Bool
 admits (Between least most) number = nat_le least number && nat_le number most
 admits (Either one other) number = nat_eq number one || nat_eq number other
+admits SerialNumber number = nat_le number 4294967295
 
--- whether a text is a value of such an option
-abbrev pub is_value : Form → Text → Bool
-is_value form text = option_map_or (admits form) (number_in text) false
+abbrev pub IsAdmitted : Form → ℕ → Type 0
+IsAdmitted (Between least most) number = (least ≤ number) × (number ≤ most)
+IsAdmitted (Either one other) number = (number ≡ one) ⊎ (number ≡ other)
+IsAdmitted SerialNumber number = number ≤ 4294967295
+
+-- the number of a text that is a value of this form
+unfoldable pub value_in : Form → Text → Option ℕ
+value_in form text =
+    option_and_then (λ number. if admits form number then Some number else None)
+    (spelled_in form text)
 
 -- whether there is an option of this name, which has this value
 abbrev pub is_allowed : List OptionRow → Text → Text → Bool
 is_allowed rows name text =
-    option_map_or (λ row. is_value row.form text) (find (λ row. bytes_eq row.name name) rows) false
+    option_map_or (λ row. is_some (value_in row.form text))
+    (find (λ row. bytes_eq row.name name) rows) false
 
 -- ---- the options behind a command
 
@@ -169,23 +234,24 @@ text_of name given = option_map (λ p. p.1) (find (λ p. bytes_eq p.0 name) give
 
 -- ---- from words to jobs
 
--- the number of an option, by its text where it was given
-abbrev pub number_by : OptionRow → Option Text → Option ℕ
+-- the number of an option: that of its text where it was given, else the one that stands for it
+unfoldable pub number_by : OptionRow → Option Text → Option ℕ
 number_by row None = row.default
-number_by row (Some text) = number_in text
+number_by row (Some text) = value_in row.form text
 
--- the numbers of all options, where each has one
-abbrev pub numbers_by : List OptionRow → Given → Option (List ℕ)
-numbers_by [] given = Some []
-numbers_by (row ∷ rows) given =
-    option_and_then (λ n. option_map (λ ns. n ∷ ns) (numbers_by rows given))
-    (number_by row (text_of row.name given))
+-- the numbers of options, by their texts
+abbrev pub numbers_by : List OptionRow → (Text → Option Text) → List (Option ℕ)
+numbers_by rows texts = map (λ row. number_by row (texts row.name)) rows
+
+-- the job of a command, by the texts of its options
+abbrev pub job_with : CommandRow → (Text → Option Text) → Option Job
+job_with row texts = row.job (numbers_by row.options texts)
 
 -- the job of a command with the words behind it
 unfoldable pub job_by : CommandRow → List Text → Option Job
 job_by row words =
-    option_and_then row.job
-    (option_and_then (numbers_by row.options) (given_behind row.options (Some []) words))
+    option_and_then (λ given. job_with row (λ name. text_of name given))
+    (given_behind row.options (Some []) words)
 
 -- the job of a command's name with the words behind it
 abbrev pub job_behind : Text → List Text → Option Job
@@ -222,6 +288,12 @@ names name word = option_map_or (λ p. bytes_eq p.0 name) (long_of word) false
 abbrev pub is_named_in : Text → List Text → Bool
 is_named_in name words = list_any (names name) words
 
+-- the text of an option, behind the first word that names it
+abbrev pub text_in : Text → List Text → Option Text
+text_in name [] = None
+text_in name (word ∷ words) =
+    if names name word then option_map (λ p. p.1) (part_of (word ∷ words)) else text_in name words
+
 -- ---- clap's command for a command with these options
 
 abbrev pub rule_by : OptionRow → Rule
@@ -251,9 +323,22 @@ IsFingers fingers = (1 ≤ fingers) × (fingers ≤ 3)
 abbrev pub IsPaging : ℕ → Type 0
 IsPaging paging = (1 ≤ paging) × (paging ≤ 7)
 
--- a job has numbers that its options admit
+-- the Walsh row of a traffic channel beside the sync channel and a paging channel
+pub record IsFreeRow (paging row : ℕ) : Type 0 where
+  pub least : 1 ≤ row
+  pub most : row ≤ 63
+  pub sync : row ≢ 32
+  pub other : row ≢ paging
+
+abbrev pub IsLawfulTraffic : ℕ → Option TrafficOptions → Type 0
+IsLawfulTraffic paging None = Unit {0}
+IsLawfulTraffic paging (Some traffic) =
+    (traffic.esn < 2 ^ 32) × IsFreeRow paging traffic.row × (traffic.offset ≤ 15)
+
+-- a job has numbers that its options admit, and that go together
 abbrev pub IsLawfulJob : Job → Type 0
 IsLawfulJob (Find span workers) = IsSpan span × IsWorkers workers
-IsLawfulJob (Follow span workers fingers paging limits) =
+IsLawfulJob (Follow span workers fingers paging traffic limits) =
     IsSpan span × IsWorkers workers × IsFingers fingers × IsPaging paging
+    × IsLawfulTraffic paging traffic
 IsLawfulJob (Make width) = Unit {0}

@@ -1,37 +1,65 @@
 //! The options of the commands, as data.
 
-ghost use Rattle.std.specs.Prelude.{◌≡◌};
-ghost use Rattle.cdma_words.specs.Words.{admits, number_in};
+ghost use Rattle.std.specs.Prelude.{◌≡◌, IfSome};
+ghost use Rattle.cdma_words.specs.Words.{IsAdmitted, admits, number_in, serial_number_in};
+ghost use Rattle.cdma_words.specs.Words.{spelled_in, value_in};
 
 use chip_core::digits_in;
+use hex::FromHex;
 
-/// Which numbers an option admits.
+/// The form of an option's values.
 #[derive(Clone, Copy, PartialEq, Eq, Debug)]
 pub enum Form {
-    /// All from the one number to the other.
+    /// All numbers from the one to the other, in decimal digits.
     Between {
         /// The least.
         least: u128,
         /// The greatest.
         most: u128,
     },
-    /// Just these two.
+    /// Just these two numbers, in decimal digits.
     Either {
         /// The one.
         one: u128,
         /// The other.
         other: u128,
     },
+    /// An electronic serial number, in eight hex digits.
+    SerialNumber,
 }
 
 impl Form {
+    /// The number of a text that is a value of this form.
+    pub fn value_in(self, text: &str) -> Option<u128>
+        ensures value { result ≡ value_in self text.now }
+        ensures admitted { IfSome result (IsAdmitted self) }
+    {
+        let number = self.spelled_in(text)?;
+        if self.admits(number) {
+            Some(number)
+        } else {
+            None
+        }
+    }
+
+    /// The number that the text spells, as values of this form are spelled.
+    fn spelled_in(self, text: &str) -> Option<u128>
+        ensures { result ≡ spelled_in self text.now }
+    {
+        match self {
+            Form::Between { .. } | Form::Either { .. } => number_in(text),
+            Form::SerialNumber => serial_number_in(text),
+        }
+    }
+
     /// Whether the number is admitted.
-    pub fn admits(self, number: u128) -> bool
+    fn admits(self, number: u128) -> bool
         ensures { result ≡ admits self number }
     {
         match self {
             Form::Between { least, most } => least <= number && number <= most,
             Form::Either { one, other } => number == one || number == other,
+            Form::SerialNumber => number <= 4294967295,
         }
     }
 }
@@ -41,9 +69,9 @@ impl Form {
 pub struct OptionRule {
     /// Its name, without the hyphens.
     pub name: &'static str,
-    /// Which numbers it admits.
+    /// The form of its values.
     pub form: Form,
-    /// The number that stands where the option isn't given; none where it has to be.
+    /// The number that stands where the option isn't given, if one does.
     pub default: Option<u128>,
 }
 
@@ -76,6 +104,27 @@ pub const PAGING: OptionRule = OptionRule {
     name: "paging",
     form: Form::Between { least: 1, most: 7 },
     default: Some(1),
+};
+
+/// `--esn`: the handset's electronic serial number.
+pub const SERIAL_NUMBER: OptionRule = OptionRule {
+    name: "esn",
+    form: Form::SerialNumber,
+    default: None,
+};
+
+/// `--row`: the Walsh row of its traffic channel.
+pub const ROW: OptionRule = OptionRule {
+    name: "row",
+    form: Form::Between { least: 1, most: 63 },
+    default: None,
+};
+
+/// `--offset`: FRAME_OFFSET of that channel.
+pub const OFFSET: OptionRule = OptionRule {
+    name: "offset",
+    form: Form::Between { least: 0, most: 15 },
+    default: None,
 };
 
 /// `--pilots`: how many pilot lines are written.
@@ -126,11 +175,20 @@ pub const BITS: OptionRule = OptionRule {
 };
 
 /// The number that 1 to 20 decimal digits spell, leading zeros among them.
-pub fn number_in(text: &str) -> Option<u128>
+fn number_in(text: &str) -> Option<u128>
     ensures { result ≡ number_in text.now }
 {
     if text.is_empty() || text.len() > 20 {
         return None;
     }
     digits_in(text.as_bytes())
+}
+
+/// The number that eight hex digits of either case spell.
+#[tactic(auto, unfolding(crate::specs::Words::serial_number_in))]
+fn serial_number_in(text: &str) -> Option<u128>
+    ensures { result ≡ serial_number_in text.now }
+{
+    let octets = <[u8; 4] as FromHex>::from_hex(text).ok()?;
+    Some(u128::from(u32::from_be_bytes(octets)))
 }

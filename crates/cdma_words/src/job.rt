@@ -1,12 +1,12 @@
 //! The job that the words of the command line ask for.
 
 ghost use Rattle.std.specs.Prelude.{◌≡◌, ◌↔◌, IfOk, map, string_bytes, Some, None, Err};
-ghost use Rattle.cdma_words.specs.Words.{IsLawfulJob, job_behind, job_by, job_named, width_of};
-ghost use Rattle.cdma_words.specs.Words.{find_row, follow_row, make_row};
+ghost use Rattle.cdma_words.specs.Words.{IsLawfulJob, command_row, job_behind, job_by, job_named};
 
-use crate::grammar::{BITS, FINGERS, FRAMES, MESSAGES, PAGING, PILOTS, RAW, SPAN, WORKERS};
-use crate::matching::{matches_by, number_by};
+use crate::commands::Command;
+use crate::matching::matches_by;
 use crate::testing::are_lawful;
+use crate::texts::Words;
 use cdma_io::Width;
 use std::alloc::Global;
 
@@ -30,6 +30,8 @@ pub enum Job {
         fingers: u8,
         /// The number of the paging channel that is followed, 1 to 7.
         paging: u8,
+        /// The traffic channel that is followed too, if one is.
+        traffic: Option<TrafficOptions>,
         /// How many events are told in each form: pilots, messages, frames, and raw capsules.
         limits: [u32; 4],
     },
@@ -38,6 +40,17 @@ pub enum Job {
         /// How wide the parts of the samples are.
         width: Width,
     },
+}
+
+/// The traffic channel that a handset is told to follow.
+#[derive(Clone, Copy, PartialEq, Eq, Debug)]
+pub struct TrafficOptions {
+    /// The handset's electronic serial number.
+    pub esn: u32,
+    /// The Walsh row of its traffic channel, 1 to 63.
+    pub row: u8,
+    /// FRAME_OFFSET, 0 to 15.
+    pub offset: u8,
 }
 
 /// Why words give no job.
@@ -50,13 +63,16 @@ pub enum WordFault {
 }
 
 /// The job that the words name: a command and then its options in any order, each at most once, as
-/// `--name VALUE` or `--name=VALUE`. A value is a number of 1 to 20 decimal digits.
+/// `--name VALUE` or `--name=VALUE`. A value is a number of 1 to 20 decimal digits; that of `--esn`
+/// has just eight hex digits, of either case.
 ///
 /// `find` takes `--span`, 64 to 32,768, which is else 2,048, and `--workers`, 1 to 64, which is
 /// else 4. `follow` takes these, `--fingers`, 1 to 3, which is else 1, `--paging`, 1 to 7, which
 /// is else 1, and four limits of 0 to 4,294,967,295: `--pilots`, `--messages` and `--frames`,
-/// which are else the greatest, and `--raw`, which is else 0. `make` takes `--bits`, 8 or 16,
-/// which is else 16.
+/// which are else the greatest, and `--raw`, which is else 0; and for a traffic channel `--esn`
+/// and `--row`, 1 to 63, both or neither, and with them `--offset`, 0 to 15, which is else 0. The
+/// row is neither 32 nor the paging channel's number. `make` takes `--bits`, 8 or 16, which is else
+/// 16.
 ///
 /// All other words are `Bad`, whatever memory there is.
 pub fn words_of(alloc: Global, words: &[String]) -> Result<Job, WordFault>
@@ -70,104 +86,40 @@ pub fn words_of(alloc: Global, words: &[String]) -> Result<Job, WordFault>
     command_of(alloc, command.as_str(), options)
 }
 
-/// The job of a command of this name with these options.
-fn command_of(alloc: Global, command: &str, options: &[String]) -> Result<Job, WordFault>
+/// The job of the command of this name with these options.
+fn command_of(alloc: Global, name: &str, options: &[String]) -> Result<Job, WordFault>
     ensures job { IfOk result (λ job.
-        job_behind command.now (map string_bytes options.now) ≡ Some job) }
+        job_behind name.now (map string_bytes options.now) ≡ Some job) }
     ensures bad { (result ≡ Err WordFault.Bad) ↔
-        (job_behind command.now (map string_bytes options.now) ≡ None) }
+        (job_behind name.now (map string_bytes options.now) ≡ None) }
     ensures lawful { IfOk result IsLawfulJob }
 {
-    match command {
-        "find" => find_of(alloc, options),
-        "follow" => follow_of(alloc, options),
-        "make" => make_of(alloc, options),
-        _ => Err(WordFault::Bad),
-    }
+    let Some(command) = Command::named(name) else {
+        return Err(WordFault::Bad);
+    };
+    job_by(alloc, command, options)
 }
 
-/// The job of `find` with these options.
-fn find_of(alloc: Global, options: &[String]) -> Result<Job, WordFault>
-    ensures job { IfOk result (λ job. job_by find_row (map string_bytes options.now) ≡ Some job) }
+/// The job of a command with these options.
+fn job_by(alloc: Global, command: Command, options: &[String]) -> Result<Job, WordFault>
+    ensures job { IfOk result (λ job.
+        job_by (command_row command) (map string_bytes options.now) ≡ Some job) }
     ensures bad { (result ≡ Err WordFault.Bad) ↔
-        (job_by find_row (map string_bytes options.now) ≡ None) }
+        (job_by (command_row command) (map string_bytes options.now) ≡ None) }
     ensures lawful { IfOk result IsLawfulJob }
 {
-    let rules = [SPAN, WORKERS];
-    if !are_lawful(&rules, options) {
+    // Clap asks for memory, and words that name no job are refused even where there is none: so
+    // they are read once before, without it.
+    let rules = command.options();
+    if !are_lawful(rules, options) {
         return Err(WordFault::Bad);
     }
-    let Ok(matches) = matches_by(alloc, "find", &rules, options) else {
-        return Err(WordFault::OutOfMemory);
-    };
-    let span = number_by(&matches, &SPAN)?;
-    let workers = number_by(&matches, &WORKERS)?;
-    Ok(Job::Find {
-        span: span as u16,
-        workers: workers as u8,
-    })
-}
-
-/// The job of `follow` with these options.
-fn follow_of(alloc: Global, options: &[String]) -> Result<Job, WordFault>
-    ensures job { IfOk result (λ job. job_by follow_row (map string_bytes options.now) ≡ Some job) }
-    ensures bad { (result ≡ Err WordFault.Bad) ↔
-        (job_by follow_row (map string_bytes options.now) ≡ None) }
-    ensures lawful { IfOk result IsLawfulJob }
-{
-    let rules = [
-        SPAN, WORKERS, FINGERS, PAGING, PILOTS, MESSAGES, FRAMES, RAW,
-    ];
-    if !are_lawful(&rules, options) {
+    if command.job(&Words { words: options }).is_none() {
         return Err(WordFault::Bad);
     }
-    let Ok(matches) = matches_by(alloc, "follow", &rules, options) else {
+    let Ok(matches) = matches_by(alloc, command.name(), rules, options) else {
         return Err(WordFault::OutOfMemory);
     };
-    let span = number_by(&matches, &SPAN)?;
-    let workers = number_by(&matches, &WORKERS)?;
-    let fingers = number_by(&matches, &FINGERS)?;
-    let paging = number_by(&matches, &PAGING)?;
-    let pilots = number_by(&matches, &PILOTS)?;
-    let messages = number_by(&matches, &MESSAGES)?;
-    let frames = number_by(&matches, &FRAMES)?;
-    let raw = number_by(&matches, &RAW)?;
-    Ok(Job::Follow {
-        span: span as u16,
-        workers: workers as u8,
-        fingers: fingers as u8,
-        paging: paging as u8,
-        limits: [pilots as u32, messages as u32, frames as u32, raw as u32],
-    })
-}
-
-/// The job of `make` with these options.
-fn make_of(alloc: Global, options: &[String]) -> Result<Job, WordFault>
-    ensures job { IfOk result (λ job. job_by make_row (map string_bytes options.now) ≡ Some job) }
-    ensures bad { (result ≡ Err WordFault.Bad) ↔
-        (job_by make_row (map string_bytes options.now) ≡ None) }
-    ensures lawful { IfOk result IsLawfulJob }
-{
-    let rules = [BITS];
-    if !are_lawful(&rules, options) {
-        return Err(WordFault::Bad);
-    }
-    let Ok(matches) = matches_by(alloc, "make", &rules, options) else {
-        return Err(WordFault::OutOfMemory);
-    };
-    let bits = number_by(&matches, &BITS)?;
-    Ok(Job::Make {
-        width: width_of(bits),
-    })
-}
-
-/// The width of parts of so many bits.
-fn width_of(bits: u128) -> Width
-    ensures { result ≡ width_of bits }
-{
-    if bits == 8 {
-        Width::Eight
-    } else {
-        Width::Sixteen
-    }
+    let job = command.job(&matches);
+    job.ok_or(WordFault::Bad)
 }

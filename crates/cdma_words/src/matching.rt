@@ -1,13 +1,12 @@
 //! The values of options, as clap parts them.
 
 ghost use Rattle.std.specs.Prelude.{◌≡◌, IfOk, IfErr, map, true};
-ghost use Rattle.std.specs.Prelude.{is_some, Some, None, [], string_bytes};
+ghost use Rattle.std.specs.Prelude.{is_some, Some, [], string_bytes};
 ghost use Rattle.clap.specs.Words.{app_of, first_value, found_of, kind_of};
 ghost use Rattle.cdma_words.specs.Words.{Given, Text, app_from, bare_app};
-ghost use Rattle.cdma_words.specs.Words.{given_behind, number_by, row_of, text_of};
+ghost use Rattle.cdma_words.specs.Words.{given_behind, row_of, text_of};
 
-use crate::grammar::{OptionRule, number_in};
-use crate::job::WordFault;
+use crate::grammar::OptionRule;
 use clap::error::ErrorKind;
 use clap::{Arg, ArgAction, ArgMatches, Command, Error};
 use std::alloc::{AllocError, Global};
@@ -50,19 +49,4 @@ fn command_by<'a>(
         command = command.arg(option)?;
     }
     Ok(command)
-}
-
-/// The number of a rule's option: that of its text where it was given, else the default. `Bad`
-/// where there is neither, or where the text is no number.
-pub fn number_by(matches: &ArgMatches<'_>, rule: &OptionRule) -> Result<u128, WordFault>
-    ensures ok { IfOk result (λ n. number_by (row_of rule.now)
-        (first_value (found_of matches.now) rule.now.name.now) ≡ Some n) }
-    ensures err { IfErr result (λ e. (e ≡ WordFault.Bad) × (number_by (row_of rule.now)
-        (first_value (found_of matches.now) rule.now.name.now) ≡ None)) }
-{
-    let number = match matches.get_str(rule.name) {
-        Some(text) => number_in(text),
-        None => rule.default,
-    };
-    number.ok_or(WordFault::Bad)
 }

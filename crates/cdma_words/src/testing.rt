@@ -1,12 +1,13 @@
-//! Whether words are in the grammar, found without memory.
+//! Whether words are options that rules allow, and the texts that they give them, found without
+//! memory.
 
 ghost use Rattle.std.specs.Prelude.{◌≡◌, ◌≤◌, IfSome, map, option_map};
 ghost use Rattle.std.specs.Prelude.{is_some, Some, [], string_bytes};
 ghost use Rattle.clap.specs.Lexer.{long_of, name_and_value, strip_byte};
-ghost use Rattle.cdma_words.specs.Words.{given_behind, is_allowed, is_named_in, is_value};
-ghost use Rattle.cdma_words.specs.Words.{names, part_of, row_of};
+ghost use Rattle.cdma_words.specs.Words.{given_behind, is_allowed, is_named_in, names};
+ghost use Rattle.cdma_words.specs.Words.{part_of, row_of, text_in};
 
-use crate::grammar::{OptionRule, number_in};
+use crate::grammar::OptionRule;
 
 /// An option among words.
 #[derive(Clone, Copy)]
@@ -38,6 +39,26 @@ pub fn are_lawful(rules: &[OptionRule], words: &[String]) -> bool
         place += part.words;
     }
     true
+}
+
+/// The text of the option of this name, behind the first word that names it.
+pub fn text_in<'a>(words: &'a [String], name: &str) -> Option<&'a str>
+    ensures { option_map (λ s. s.now) result ≡ text_in name.now (map string_bytes words.now) }
+{
+    for place in 0..words.len() {
+        if names(words[place].as_str(), name) {
+            return first_text(&words[place..]);
+        }
+    }
+    None
+}
+
+/// The text of the option that the words begin with.
+fn first_text<'a>(words: &'a [String]) -> Option<&'a str>
+    ensures { option_map (λ s. s.now) result ≡
+        option_map (λ p. p.1) (part_of (map string_bytes words.now)) }
+{
+    Some(first_part(words)?.value)
 }
 
 /// The option that the words begin with.
@@ -91,20 +112,10 @@ fn is_allowed(rules: &[OptionRule], name: &str, value: &str) -> bool
 {
     for rule in rules {
         if rule.name == name {
-            return is_value(rule, value);
+            return rule.form.value_in(value).is_some();
         }
     }
     false
-}
-
-/// Whether the text is a value of the rule's option.
-fn is_value(rule: &OptionRule, text: &str) -> bool
-    ensures { result ≡ is_value rule.now.form text.now }
-{
-    match number_in(text) {
-        Some(number) => rule.form.admits(number),
-        None => false,
-    }
 }
 
 /// The name and the value of a word `--name` or `--name=VALUE`.

@@ -1,6 +1,6 @@
 //! Words that are in the grammar, and words that aren't.
 
-use crate::{Job, WordFault, words_of};
+use crate::{Job, TrafficOptions, WordFault, words_of};
 use cdma_io::Width;
 use std::alloc::Global;
 use std::test::Fail;
@@ -41,6 +41,7 @@ fn takes_words_of_the_grammar(rt: HostRuntime) -> Result<(), Fail> {
             workers: 4,
             fingers: 3,
             paging: 7,
+            traffic: None,
             limits: [0, 7, 4294967295, 4294967295],
         })
     );
@@ -51,6 +52,7 @@ fn takes_words_of_the_grammar(rt: HostRuntime) -> Result<(), Fail> {
             workers: 4,
             fingers: 1,
             paging: 1,
+            traffic: None,
             limits: [4294967295, 4294967295, 4294967295, 0],
         })
     );
@@ -66,6 +68,7 @@ fn takes_words_of_the_grammar(rt: HostRuntime) -> Result<(), Fail> {
                 workers: 4,
                 fingers: 1,
                 paging,
+                traffic: None,
                 limits: [4294967295, 4294967295, 4294967295, 0],
             }),
             "{line}"
@@ -77,6 +80,109 @@ fn takes_words_of_the_grammar(rt: HostRuntime) -> Result<(), Fail> {
         ("make --bits=8", Width::Eight),
     ] {
         assert_eq!(rt; read(alloc, line)?, Ok(Job::Make { width }), "{line}");
+    }
+    Ok(())
+}
+
+#[test]
+fn takes_a_traffic_channel(rt: HostRuntime) -> Result<(), Fail> {
+    let alloc = rt.alloc();
+    for (line, paging, esn, row, offset) in [
+        ("follow --esn 0000abcd --row 10", 1, 0xabcd, 10, 0),
+        (
+            "follow --row=2 --offset=15 --esn=FFFFffff",
+            1,
+            4294967295,
+            2,
+            15,
+        ),
+        (
+            "follow --esn 12345678 --paging 2 --row 1",
+            2,
+            0x12345678,
+            1,
+            0,
+        ),
+        (
+            "follow --offset 007 --row 063 --paging=7 --esn DeadBeef",
+            7,
+            0xdeadbeef,
+            63,
+            7,
+        ),
+        ("follow --esn=00000000 --row=31 --offset=0", 1, 0, 31, 0),
+        ("follow --row 33 --esn 00000001", 1, 1, 33, 0),
+        ("follow --row 6 --esn 00000001 --paging 7", 7, 1, 6, 0),
+    ] {
+        assert_eq!(rt;
+            read(alloc, line)?,
+            Ok(Job::Follow {
+                span: 2048,
+                workers: 4,
+                fingers: 1,
+                paging,
+                traffic: Some(TrafficOptions { esn, row, offset }),
+                limits: [4294967295, 4294967295, 4294967295, 0],
+            }),
+            "{line}"
+        );
+    }
+    Ok(())
+}
+
+#[test]
+fn refuses_options_that_do_not_go_together(rt: HostRuntime) -> Result<(), Fail> {
+    for line in [
+        "follow --esn 0000abcd",
+        "follow --row 10",
+        "follow --offset 3",
+        "follow --offset 0",
+        "follow --esn 0000abcd --offset 3",
+        "follow --row 10 --offset 3",
+        "follow --esn 0000abcd --row 32",
+        "follow --row=032 --esn=0000abcd --paging=2",
+        "follow --esn 0000abcd --row 1",
+        "follow --paging 1 --esn 0000abcd --row 1",
+        "follow --esn 0000abcd --row 7 --paging 7",
+    ] {
+        assert_eq!(rt; read(rt.alloc(), line)?, Err(WordFault::Bad), "{line}");
+    }
+    Ok(())
+}
+
+#[test]
+fn refuses_other_values_of_a_traffic_channel(rt: HostRuntime) -> Result<(), Fail> {
+    for line in [
+        "follow --esn 000abcd --row 10",
+        "follow --esn 00000abcd --row 10",
+        "follow --esn 0x00abcd --row 10",
+        "follow --esn 0000abcg --row 10",
+        "follow --esn +000abcd --row 10",
+        "follow --esn -000abcd --row 10",
+        "follow --esn=-000abcd --row 10",
+        "follow --esn=000 abcd --row 10",
+        "follow --esn= --row 10",
+        "follow --row 10 --esn",
+        "follow --esn 0000abcd --row 0",
+        "follow --esn 0000abcd --row 64",
+        "follow --esn 0000abcd --row a",
+        "follow --esn 0000abcd --row 0x10",
+        "follow --esn 0000abcd --row",
+        "follow --esn 0000abcd --row 10 --offset 16",
+        "follow --esn 0000abcd --row 10 --offset f",
+        "follow --esn 0000abcd --row 10 --offset=",
+        "follow --esn 0000abcd --row 10 --paging a",
+        "follow --esn 0000abcd --row 10 --span 4a0",
+        "follow --esn 0000abcd --row 10 --esn 0000abcd",
+        "follow --row 10 --esn 0000abcd --row=10",
+        "follow --esn 0000abcd --row 10 --offset 1 --offset 1",
+        "follow --ESN 0000abcd --row 10",
+        "find --esn 0000abcd",
+        "find --esn 0000abcd --row 10",
+        "make --row 10",
+        "make --offset 3",
+    ] {
+        assert_eq!(rt; read(rt.alloc(), line)?, Err(WordFault::Bad), "{line}");
     }
     Ok(())
 }

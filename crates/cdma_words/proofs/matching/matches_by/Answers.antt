@@ -4,7 +4,7 @@ use Rattle.clap.specs.Simple.{is_simple, matches_of}
 use Rattle.clap.specs.Words.{App, app_of, found_of, takes}
 use Rattle.cdma_words.specs.Words.{row_of}
 use Rattle.cdma_words.proofs.WordApps.{app_bare, app_built, app_simple, word_app}
-use Rattle.cdma_words.proofs.WordValues.{given_of}
+use Rattle.cdma_words.proofs.WordJobs.{given_of}
 use Rattle.cdma_words.proofs.WordWalks.{finds_words, takes_words, value_is}
 use Rattle.cdma_words.proofs.matching.matches_by.Goals as goal
 

@@ -1,11 +1,11 @@
-use Rattle.std.proofs.Common.{◌+◌, ◌∙◌, List, drop, map, sym}
+use Rattle.std.proofs.Common.{◌+◌, ◌∙◌, List, ap, drop, is_some, map, sym}
 use Rattle.cdma_words.specs.Words.{OptionRow, is_allowed, row_of}
 use Rattle.cdma_words.proofs.WordTests.{item_first, no_rule, rule_elsewhere, rule_here}
 use Rattle.cdma_words.proofs.testing.is_allowed.Goals as goal
 
 pub returns-then-eq : goal.returns-then-eq
 returns-then-eq c =
-    c.is_value.ensures ∙ sym (c.loop-rule.invariant
+    c.is_some.ensures ∙ ap is_some c.value_in.ensures.value ∙ sym (c.loop-rule.invariant
     ∙ item_first (λ (rows : List OptionRow). is_allowed rows c.args.name.now c.args.value.now)
     row_of
     c.args.rules.now c.loop-rule.rule-index no_rule c.loop-rule-test.true

@@ -1,0 +1,40 @@
+use Rattle.std.proofs.Common.{◌≡◌, ◌∙◌, ◌<◌, ◌≤◌, List, ap, arith, length, map}
+use Rattle.std.proofs.Common.{option_map, string_bytes, sym, true, false}
+use Rattle.std.proofs.lemmas.List.{drop_all, length-map}
+use Rattle.cdma_words.specs.Words.{Text, names, part_of, text_in}
+use Rattle.cdma_words.proofs.WordTests.{text_here, text_there, texts_behind}
+use Rattle.cdma_words.proofs.testing.text_in.Goals as goal
+
+pub returns-then-names : goal.returns-then-names
+returns-then-names c =
+    let name = c.args.name.now in
+    let words = c.args.words.now in
+    let place = c.loop-place.place in
+    let inside : place < length words = omega arith in
+    let within : place ≤ length words = omega (arith, inside) in
+    let named : names name (string_bytes c.index-words-place.result) ≡ true =
+    ap (names name) (sym c.as_str.ensures.value) ∙ sym c.names.ensures ∙ c.if-names.true in
+    c.first_text.ensures
+    ∙ ap (λ (ws : List Text). option_map (λ p. p.1) (part_of ws)) (texts_behind words place within)
+    ∙ sym (c.loop-place.invariant
+    ∙ text_here name words place c.index-words-place.result inside c.index-words-place.is named)
+
+pub loop-place-preserved : goal.loop-place-preserved
+loop-place-preserved c =
+    let name = c.args.name.now in
+    let words = c.args.words.now in
+    let place = c.loop-place.place in
+    let inside : place < length words = omega arith in
+    let unnamed : names name (string_bytes c.index-words-place.result) ≡ false =
+    ap (names name) (sym c.as_str.ensures.value) ∙ sym c.names.ensures ∙ c.if-names.false in
+    c.loop-place.invariant
+    ∙ text_there name words place c.index-words-place.result inside c.index-words-place.is unnamed
+
+pub returns : goal.returns
+returns c =
+    let name = c.args.name.now in
+    let words = c.args.words.now in
+    let place = c.loop-place.place in
+    let past : length (map string_bytes words) ≤ place =
+    rw (length-map words string_bytes) (omega arith) in
+    sym (c.loop-place.invariant ∙ ap (text_in name) (drop_all place (map string_bytes words) past))

@@ -1,0 +1,207 @@
+//! The commands: the options that each takes, and the job that it makes of their numbers.
+
+ghost use Rattle.std.specs.Prelude.{◌≡◌, IfSome, find, map, nat_eq, option_map};
+ghost use Rattle.std.specs.Cmp.Lexicographic.{pointwise};
+ghost use Rattle.cdma_words.specs.Words.{IsAdmitted, IsLawfulJob, IsLawfulTraffic};
+ghost use Rattle.cdma_words.specs.Words.{command_row, commands, find_row, follow_row, is_free};
+ghost use Rattle.cdma_words.specs.Words.{job_with, limit_rows, limits_with, make_row};
+ghost use Rattle.cdma_words.specs.Words.{numbers_by, row_of, traffic_with, width_of};
+
+use crate::grammar::{
+    BITS, FINGERS, FRAMES, Form, MESSAGES, OFFSET, OptionRule, PAGING, PILOTS, RAW, ROW,
+    SERIAL_NUMBER, SPAN, WORKERS,
+};
+use crate::job::{Job, TrafficOptions};
+use crate::texts::{Texts, number_by};
+use cdma_io::Width;
+
+/// A command.
+#[derive(Clone, Copy)]
+pub enum Command {
+    /// `find`.
+    Find,
+    /// `follow`.
+    Follow,
+    /// `make`.
+    Make,
+}
+
+/// What `find` takes.
+static FIND_OPTIONS: [OptionRule; 2] = [SPAN, WORKERS];
+
+/// What `follow` takes.
+static FOLLOW_OPTIONS: [OptionRule; 11] = [
+    SPAN,
+    WORKERS,
+    FINGERS,
+    PAGING,
+    SERIAL_NUMBER,
+    ROW,
+    OFFSET,
+    PILOTS,
+    MESSAGES,
+    FRAMES,
+    RAW,
+];
+
+/// What `make` takes.
+static MAKE_OPTIONS: [OptionRule; 1] = [BITS];
+
+impl Command {
+    /// The command of this name.
+    pub fn named(name: &str) -> Option<Command>
+        ensures { option_map command_row result ≡
+            find (λ row. pointwise nat_eq name.now row.name) commands }
+    {
+        match name {
+            "find" => Some(Command::Find),
+            "follow" => Some(Command::Follow),
+            "make" => Some(Command::Make),
+            _ => None,
+        }
+    }
+
+    /// Its name.
+    pub fn name(self) -> &'static str
+        ensures { result.now ≡ (command_row self).name }
+    {
+        match self {
+            Command::Find => "find",
+            Command::Follow => "follow",
+            Command::Make => "make",
+        }
+    }
+
+    /// The options that it takes.
+    pub fn options(self) -> &'static [OptionRule]
+        ensures { map row_of result.now ≡ (command_row self).options }
+    {
+        match self {
+            Command::Find => &FIND_OPTIONS,
+            Command::Follow => &FOLLOW_OPTIONS,
+            Command::Make => &MAKE_OPTIONS,
+        }
+    }
+
+    /// The job that it makes of the numbers of its options; none where one is missing that it
+    /// needs, or where they don't go together.
+    pub fn job<T: Texts>(self, texts: &T) -> Option<Job>
+        ensures value { result ≡ job_with (command_row self) (T.text_at texts.now) }
+        ensures lawful { IfSome result IsLawfulJob }
+    {
+        match self {
+            Command::Find => find_with(texts),
+            Command::Follow => follow_with(texts),
+            Command::Make => make_with(texts),
+        }
+    }
+}
+
+/// The job of `find`.
+fn find_with<T: Texts>(texts: &T) -> Option<Job>
+    ensures value { result ≡ job_with find_row (T.text_at texts.now) }
+    ensures lawful { IfSome result IsLawfulJob }
+{
+    let span = number_by(texts, &SPAN)?;
+    let workers = number_by(texts, &WORKERS)?;
+    Some(Job::Find {
+        span: span as u16,
+        workers: workers as u8,
+    })
+}
+
+/// The job of `follow`.
+fn follow_with<T: Texts>(texts: &T) -> Option<Job>
+    ensures value { result ≡ job_with follow_row (T.text_at texts.now) }
+    ensures lawful { IfSome result IsLawfulJob }
+{
+    let span = number_by(texts, &SPAN)?;
+    let workers = number_by(texts, &WORKERS)?;
+    let fingers = number_by(texts, &FINGERS)?;
+    let paging = number_by(texts, &PAGING)?;
+    let esn = number_by(texts, &SERIAL_NUMBER);
+    let row = number_by(texts, &ROW);
+    let offset = number_by(texts, &OFFSET);
+    let traffic = traffic_with(paging, esn, row, offset)?;
+    let limits = limits_with(texts)?;
+    Some(Job::Follow {
+        span: span as u16,
+        workers: workers as u8,
+        fingers: fingers as u8,
+        paging: paging as u8,
+        traffic,
+        limits,
+    })
+}
+
+/// The traffic channel of a serial number, a row and an offset, beside a paging channel: the first
+/// two or neither are given, and the offset, which is else 0, only with them; none where they don't
+/// go together.
+fn traffic_with(
+    paging: u128,
+    esn: Option<u128>,
+    row: Option<u128>,
+    offset: Option<u128>,
+) -> Option<Option<TrafficOptions>>
+    requires esn { IfSome esn (IsAdmitted Form.SerialNumber) }
+    requires row { IfSome row (IsAdmitted (Form.Between 1 63)) }
+    requires offset { IfSome offset (IsAdmitted (Form.Between 0 15)) }
+    ensures value { result ≡ traffic_with paging esn row offset }
+    ensures lawful { IfSome result (IsLawfulTraffic paging) }
+{
+    match (esn, row, offset) {
+        (None, None, None) => Some(None),
+        (Some(esn), Some(row), offset) => {
+            if is_free(paging, row) {
+                Some(Some(TrafficOptions {
+                    esn: esn as u32,
+                    row: row as u8,
+                    offset: offset.unwrap_or(0) as u8,
+                }))
+            } else {
+                None
+            }
+        }
+        _ => None,
+    }
+}
+
+/// Whether a traffic channel may have the row, beside the sync channel and a paging channel.
+fn is_free(paging: u128, row: u128) -> bool
+    ensures { result ≡ is_free paging row }
+{
+    row != 32 && row != paging
+}
+
+/// How many events are told in each form: pilots, messages, frames, and raw capsules.
+fn limits_with<T: Texts>(texts: &T) -> Option<[u32; 4]>
+    ensures { result ≡ limits_with (numbers_by limit_rows (T.text_at texts.now)) }
+{
+    let pilots = number_by(texts, &PILOTS)?;
+    let messages = number_by(texts, &MESSAGES)?;
+    let frames = number_by(texts, &FRAMES)?;
+    let raw = number_by(texts, &RAW)?;
+    Some([pilots as u32, messages as u32, frames as u32, raw as u32])
+}
+
+/// The job of `make`.
+fn make_with<T: Texts>(texts: &T) -> Option<Job>
+    ensures value { result ≡ job_with make_row (T.text_at texts.now) }
+    ensures lawful { IfSome result IsLawfulJob }
+{
+    let bits = number_by(texts, &BITS)?;
+    Some(Job::Make {
+        width: width_of(bits),
+    })
+}
+
+/// The width of parts of so many bits.
+fn width_of(bits: u128) -> Width
+    ensures { result ≡ width_of bits }
+{
+    if bits == 8 {
+        Width::Eight
+    } else {
+        Width::Sixteen
+    }
+}
