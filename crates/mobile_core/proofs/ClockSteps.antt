@@ -44,7 +44,7 @@ span_bounds c come =
 
 -- before any sample is taken
 pub clock_new : (count : ℕ) (s : Stream) → AreNear s.fingers →
-    IsAt count s (clock_from s.fingers s.form s.first (first_frame s.fingers s.first)) 0
+    IsAt count s (clock_from s.fingers s.form s.waits s.first (first_frame s.fingers s.first)) 0
 unfolding stream_end
 clock_new count s near =
     let timed = timed_in count s near in
@@ -52,6 +52,7 @@ clock_new count s near =
       timed = timed;
       reached = progress.reached_none s timed;
       form_is = refl;
+      waits_is = refl;
       start_is = refl;
       end_is = refl;
     }
@@ -66,12 +67,18 @@ module _ {count : ℕ} {s : Stream} {c : FrameClock} {n : ℕ} (is : IsAt count 
   pub due : IsDueAt count c → IsDue count s c.next c.have
   due d = record {
     ended = d.0;
-    known = elim d.1 [ inl a ↦ inl a | inr b ↦ inr (rw (← is.end_is) b) ];
+    known =
+        λ w.
+        elim (d.1 (is.waits_is ∙ w)) [ inl a ↦ inl a | inr b ↦ inr (rw (← is.end_is) b) ];
   }
 
   pub not_due : ¬ IsDueAt count c → ¬ IsDue count s c.next c.have
   not_due none d =
-      none (d.ended, elim d.known [ inl a ↦ inl a | inr b ↦ inr (rw is.end_is b) ])
+      none (
+        d.ended,
+        λ w.
+            elim (d.known (sym is.waits_is ∙ w)) [ inl a ↦ inl a | inr b ↦ inr (rw is.end_is b) ],
+      )
 
   -- a frame that is due is known just now
   pub due_inside : IsDueAt count c → is_in_file count s c.next ≡ true
@@ -102,6 +109,7 @@ module _ {count : ℕ} {s : Stream} {c : FrameClock} {n : ℕ} (is : IsAt count 
         reached = progress.reached_more s is.timed c.next c.have n m is.reached (not_due none)
             more most (omega (arith, ends, end));
         form_is = is.form_is;
+        waits_is = is.waits_is;
         start_is = is.start_is;
         end_is = is.end_is;
       }
@@ -120,6 +128,7 @@ module _ {count : ℕ} {s : Stream} {c : FrameClock} {n : ℕ} (is : IsAt count 
         reached = progress.reached_frame s is.timed c.next c.have n is.reached (not_due none)
             (sym end ∙ ended);
         form_is = form;
+        waits_is = is.waits_is;
         start_is = omega (arith, start, chips, next);
         end_is = omega (arith, end, chips, step);
       }
@@ -130,6 +139,7 @@ module _ {count : ℕ} {s : Stream} {c : FrameClock} {n : ℕ} (is : IsAt count 
     timed = is.timed;
     reached = progress.reached_next s is.timed c.next c.have n is.reached (due d);
     form_is = is.form_is;
+    waits_is = is.waits_is;
     start_is = is.start_is;
     end_is = is.end_is;
   }
@@ -141,9 +151,9 @@ module _ {count : ℕ} {s : Stream} {c : FrameClock} {n : ℕ} (is : IsAt count 
       rw (is.start_is, is.form_is) (starts_before s.form s.first c.have frame h)
 
   -- the span of a frame that is due
-  pub span_is : IsDueAt count c → (span_from c ≡ span_first count s c.next)
+  pub span_is : s.waits ≡ true → IsDueAt count c → (span_from c ≡ span_first count s c.next)
       × (c.have - span_from c ≡ span_frames count s c.next)
-  span_is d =
+  span_is waits d =
       let first : ℕ = span_from c in
       let r = is.reached in
       let inside = due_inside d in
@@ -168,7 +178,7 @@ module _ {count : ℕ} {s : Stream} {c : FrameClock} {n : ℕ} (is : IsAt count 
       let f = spans.span_frames_last s is.timed c.next (rw one at over) in
       rw (one, is_first) (sym f) in (
         is_first,
-        elim (due d).known [
+        elim ((due d).known waits) [
           | inl a ↦ with_next a
           | inr over ↦
               elim (cases_lt (c.next + 1) c.have) [

@@ -2,14 +2,18 @@
 use Rattle.std.proofs.Common.{◌≡◌, ℕ, List, [], ◌∷◌, ◌++◌, map, refl, Option, None, Some}
 use Rattle.std.specs.List.{flat_map}
 use Rattle.chip_core.specs.declared.sample.Sample.{Sample}
-use Rattle.mobile_core.specs.Events.{paging_events_at}
+use Rattle.mobile_core.specs.Events.{frame_events_at, paging_events_at}
 use Rattle.mobile_core.specs.Given.{at_of}
 use Rattle.mobile_core.specs.Marks.{mark}
 use Rattle.mobile_core.specs.PagingEvents.{page_event, pages_behind}
 use Rattle.mobile_core.specs.Streams.{known_now}
 use Rattle.mobile_core.specs.SyncEvents.{events_of, heard_at, sync_events_at}
+use Rattle.mobile_core.specs.TrafficEvents.{frame_heard, frames_at, frames_behind}
+use Rattle.mobile_core.specs.TrafficStreams.{frames_bound, traffic_stream}
 use Rattle.mobile_core.specs.Tuning.{Tuning, sync_bound, sync_stream}
 use Rattle.mobile_core.specs.declared.event.Event.{Event}
+use Rattle.mobile_core.specs.declared.mark.Mark.{Mark}
+use Rattle.mobile_core.specs.declared.settings.Traffic.{Traffic}
 use Rattle.mobile_core.specs.declared.spelled_message.SpelledMessage.{SpelledMessage}
 use Rattle.mobile_core.specs.declared.spelled_page.SpelledPage.{SpelledPage}
 
@@ -47,3 +51,26 @@ pub paging_at : (t : Tuning) (samples : List Sample) (n : ℕ) →
 unfolding paging_events_at
 paging_at t samples n =
     pages_at_place n (pages_behind t t.paging (mark t samples n) samples n)
+
+frames_at_place : (t : Tuning) (traffic : Traffic) (m : Mark) (samples : List Sample) (n : ℕ)
+    (ks : List ℕ) → AreAt n (map (frame_heard t traffic m samples n) ks)
+frames_at_place t traffic m samples n [] = tt
+frames_at_place t traffic m samples n (k ∷ ks) = (refl, frames_at_place t traffic m samples n ks)
+
+followed_at : (t : Tuning) (traffic : Traffic) (m : Mark) (samples : List Sample) (n : ℕ) →
+    AreAt n (frames_at t traffic m samples n)
+unfolding frames_at
+followed_at t traffic m samples n =
+    frames_at_place t traffic m samples n
+    (known_now t.count (traffic_stream t traffic m) n (frames_bound n))
+
+behind_at : (t : Tuning) (followed : Option Traffic) (m : Option Mark) (samples : List Sample)
+    (n : ℕ) → AreAt n (frames_behind t followed m samples n)
+behind_at t None m samples n = tt
+behind_at t (Some traffic) None samples n = tt
+behind_at t (Some traffic) (Some m) samples n = followed_at t traffic m samples n
+
+pub traffic_at : (t : Tuning) (samples : List Sample) (n : ℕ) →
+    AreAt n (frame_events_at t samples n)
+unfolding frame_events_at
+traffic_at t samples n = behind_at t t.traffic (mark t samples n) samples n

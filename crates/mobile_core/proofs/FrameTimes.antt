@@ -1,9 +1,9 @@
 -- When frames end and are known, over any stream.
-use Rattle.std.proofs.Common.{◌≡◌, ℕ, zero, suc, ◌+◌, ◌-◌, ◌<◌, ◌≤◌, true, false, refl, sym, ◌∙◌}
-use Rattle.std.proofs.Common.{arith}
+use Rattle.std.proofs.Common.{◌≡◌, ◌⊎◌, ℕ, zero, suc, ◌+◌, ◌-◌, ◌<◌, ◌≤◌, true, false, refl, sym}
+use Rattle.std.proofs.Common.{◌∙◌, arith}
 use Rattle.std.proofs.Common.{nat_le, inl, inr}
 use Rattle.std.proofs.lemmas.Bool.{and_parts, and_from, and_left, and_right, leb-true, le-leb}
-use Rattle.std.proofs.lemmas.Bool.{lt-leb, cases_lt, cases_order}
+use Rattle.std.proofs.lemmas.Bool.{lt-leb, cases_lt, cases_order, cases_Bool}
 use Rattle.mobile_core.specs.Streams.{Stream, is_in_file, known_at}
 use Rattle.rake_finger.specs.Soft.{frame_chips}
 use Rattle.mobile_core.specs.Timing.{stream_end, IsTimed}
@@ -48,29 +48,55 @@ module _ {count low : ℕ} (s : Stream) (t : IsTimed count s low) where
   outside_low k h =
       t.inside k ∙ and_left (nat_le low k) (nat_le (stream_end s k) count) (lt-leb low k h)
 
-  pub known_more : (k : ℕ) → low ≤ k → stream_end s (k + 1) ≤ count →
+  -- where frames wait, and the frame behind is in the file
+  pub known_more : (k : ℕ) → s.waits ≡ true → low ≤ k → stream_end s (k + 1) ≤ count →
       known_at count s k ≡ stream_end s (k + 1)
   unfolding stream_end
-  known_more k l h = let e = inside_from (k + 1) (omega arith) h in rw e refl
+  known_more k waits l h =
+      let e = inside_from (k + 1) (omega arith) h in
+      let both = and_from s.waits (is_in_file count s (k + 1)) waits e in
+      rw both refl
 
   pub known_last : (k : ℕ) → count < stream_end s (k + 1) → known_at count s k ≡ stream_end s k
   unfolding stream_end
-  known_last k h = let e = outside_from (k + 1) h in rw e refl
+  known_last k h =
+      let none = and_right s.waits (is_in_file count s (k + 1)) (outside_from (k + 1) h) in
+      rw none refl
+
+  -- where frames don't wait
+  pub known_own : (k : ℕ) → s.waits ≡ false → known_at count s k ≡ stream_end s k
+  unfolding stream_end
+  known_own k waits =
+      let none = and_left s.waits (is_in_file count s (k + 1)) waits in
+      rw none refl
+
+  -- a frame is known at its end, or waits for the frame behind it
+  pub known_parts : (k : ℕ) → low ≤ k → (known_at count s k ≡ stream_end s k)
+      ⊎ ((s.waits ≡ true) × (stream_end s (k + 1) ≤ count)
+      × (known_at count s k ≡ stream_end s (k + 1)))
+  known_parts k l =
+      elim (cases_Bool s.waits) [
+        | inl waits ↦
+            elim (cases_lt count (stream_end s (k + 1))) [
+              | inl less ↦ inl (known_last k less)
+              | inr more ↦ inr (waits, more, known_more k waits l more)
+            ]
+        | inr waits ↦ inl (known_own k waits)
+      ]
 
   pub known_between : (k : ℕ) → is_in_file count s k ≡ true → KnownBetween count s k
   known_between k h =
       let i = inside_to k h in
       let step = t.step k in
-      elim (cases_lt count (stream_end s (k + 1))) [
-        | inl less ↦
-            let e = known_last k less in
-            record {
-              low = rw e (omega arith);
-              high = rw e (omega (arith, step));
-              most = rw e (omega arith);
-            }
-        | inr more ↦
-            let e = known_more k i.0 more in
+      elim (known_parts k i.0) [
+        | inl e ↦ record {
+          low = rw e (omega arith);
+          high = rw e (omega (arith, step));
+          most = rw e (omega arith);
+        }
+        | inr parts ↦
+            let e = parts.2 in
+            let more = parts.1 in
             record {
               low = rw e (omega (arith, step));
               high = rw e (omega arith);

@@ -1,6 +1,6 @@
 -- How the events of a file's sync channel grow with its samples.
 use Rattle.std.proofs.Common.{◌≡◌, ℕ, ◌+◌, ◌<◌, ◌≤◌, Bool, true, List, [], ◌∷◌, ◌++◌, map}
-use Rattle.std.proofs.Common.{length, ap, ◌∙◌, arith}
+use Rattle.std.proofs.Common.{length, refl, ap, ◌∙◌, arith}
 use Rattle.std.specs.List.{filter}
 use Rattle.std.proofs.lemmas.List.{map-append}
 use Rattle.chip_core.specs.Bits.{places}
@@ -61,7 +61,7 @@ frames_before_sooner t timed xs ys k known =
     let s = sync_stream t in
     map_ext_filter_places (sync_in_file t) (frame_own_bits t.count (xs ++ ys) s)
     (frame_own_bits t.count xs s) k
-    (λ j below inside. own_bits_sooner s timed xs ys j inside (known j below inside))
+    (λ j below inside. own_bits_sooner s timed xs ys j refl inside (known j below inside))
 
 -- a frame is known no later than those behind it
 pub known_with : {low : ℕ} (t : Tuning) → IsSyncTimed t low → (k n : ℕ) →

@@ -19,8 +19,12 @@ pub mod PageBits
 pub mod PagesLeft
 pub mod PagesHeard
 pub mod PageGrowth
+pub mod FrameGrowth
+pub mod FramesHeard
 pub mod MarkStays
 pub mod PagesFollowed
+pub mod FramesFollowed
+pub mod ChannelsFollowed
 pub mod EventsGrown
 pub mod EventPlaces
 pub mod Stood

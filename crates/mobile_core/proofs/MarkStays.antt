@@ -1,4 +1,4 @@
--- The mark stays where more samples are taken, and before it nothing is heard of a paging channel.
+-- The mark stays where more samples are taken, and before it nothing is heard of other channels.
 use Rattle.std.proofs.Common.{◌≡◌, ℕ, zero, suc, ◌+◌, ◌-◌, ◌^◌, ◌<◌, ◌≤◌, ◌==◌, ◌&&◌, Bool}
 use Rattle.std.proofs.Common.{true, false, List, [], ◌∷◌, ◌++◌, length, refl, sym, ap, ◌∙◌, subst}
 use Rattle.std.proofs.Common.{arith, inl, inr, nat_le, nat_lt, Option, Some, None, ℤ}
@@ -23,10 +23,14 @@ use Rattle.mobile_core.specs.PagingStreams.{paging_stream}
 use Rattle.mobile_core.specs.Streams.{frame_start, is_in_file, known_at}
 use Rattle.mobile_core.specs.SyncEvents.{heard_at, heard_in, sync_capsule_at, with_message}
 use Rattle.mobile_core.specs.Timing.{IsTimed, stream_end}
+use Rattle.mobile_core.specs.TrafficEvents.{frames_at, frames_behind}
+use Rattle.mobile_core.specs.TrafficStreams.{traffic_stream}
 use Rattle.mobile_core.specs.Tuning.{Tuning, fingers_of, sync_bound, sync_stream}
 use Rattle.mobile_core.specs.declared.mark.Mark.{Mark}
+use Rattle.mobile_core.specs.declared.settings.Traffic.{Traffic}
 use Rattle.mobile_core.specs.declared.spelled_message.SpelledMessage.{SpelledMessage}
 use Rattle.mobile_core.proofs.FingerTimes.{ends_bounds, timed_in, timed_of}
+use Rattle.mobile_core.proofs.FrameGrowth.{frames_none}
 use Rattle.mobile_core.proofs.FrameTimes.{known_between, known_le}
 use Rattle.mobile_core.proofs.Growth.{IsSyncTimed, sync_in_file, sync_known}
 use Rattle.mobile_core.proofs.MarkGrowth.{marks_at_sooner}
@@ -258,6 +262,7 @@ mark_pilot t samples n m h =
     set.sets
 
 -- PAGING CHANNELS
+-- fingers are as near on one Walsh row as on another
 near_row : (row row' phase : ℕ) (deltas : List ℤ) →
     all_near (fingers_of row phase deltas) ≡ all_near (fingers_of row' phase deltas)
 near_row row row' phase [] = refl
@@ -268,16 +273,18 @@ reference_row : (row row' phase : ℕ) (deltas : List ℤ) →
 reference_row row row' phase [] = refl
 reference_row row row' phase (d ∷ deltas) = rw (reference_row row row' phase deltas) refl
 
+near_on : (t : Tuning) (row : ℕ) → AreNear (sync_stream t).fingers →
+    AreNear (fingers_of row t.phase t.deltas)
+near_on t row near =
+    let fingers = (sync_stream t).fingers in
+    let heard = fingers_of row t.phase t.deltas in
+    let both = and_parts (all_near fingers) (has_reference fingers) near in
+    and_from (all_near heard) (has_reference heard) (near_row row 32 t.phase t.deltas ∙ both.0)
+    (reference_row row 32 t.phase t.deltas ∙ both.1)
+
 module _ (t : Tuning) (near : AreNear (sync_stream t).fingers) (channel : ℕ) where
-  -- its fingers are as near as those of the sync channel
   pub paging_near : (m : Mark) → AreNear (paging_stream t channel m).fingers
-  paging_near m =
-      let fingers = (sync_stream t).fingers in
-      let heard = (paging_stream t channel m).fingers in
-      let both = and_parts (all_near fingers) (has_reference fingers) near in
-      and_from (all_near heard) (has_reference heard)
-      (near_row channel 32 t.phase t.deltas ∙ both.0)
-      (reference_row channel 32 t.phase t.deltas ∙ both.1)
+  paging_near m = near_on t channel near
 
   pub paging_timed : (m : Mark) →
       IsTimed t.count (paging_stream t channel m) (low_in (paging_stream t channel m))
@@ -321,3 +328,62 @@ module _ (t : Tuning) (near : AreNear (sync_stream t).fingers) (channel : ℕ) w
           let pilot = mark_pilot t samples n' m e' in
           either (nat_lt m.prat 2) m
           (mark_behind t _ (timed_of t near) near samples n n' m pilot e e')
+
+-- TRAFFIC CHANNELS
+module _ (t : Tuning) (near : AreNear (sync_stream t).fingers) (traffic : Traffic) where
+  pub traffic_near : (m : Mark) → AreNear (traffic_stream t traffic m).fingers
+  traffic_near m = near_on t traffic.row near
+
+  pub traffic_timed : (m : Mark) →
+      IsTimed t.count (traffic_stream t traffic m) (low_in (traffic_stream t traffic m))
+  traffic_timed m = timed_in t.count (traffic_stream t traffic m) (traffic_near m)
+
+  -- no frame ends before the mark
+  pub traffic_later : (m : Mark) (k : ℕ) →
+      is_in_file t.count (traffic_stream t traffic m) k ≡ true →
+      m.sample + 24576 ≤ known_at t.count (traffic_stream t traffic m) k
+  unfolding stream_end
+  traffic_later m k inside =
+      let s = traffic_stream t traffic m in
+      let least = (known_between s (traffic_timed m) k inside).low in
+      let ends = (ends_bounds Data (frame_start s k) s.fingers (traffic_near m)).0 in
+      omega (arith, least, ends)
+
+  frames_later : (samples : List Sample) (n : ℕ) (m : Mark) → n ≤ m.sample →
+      frames_at t traffic m samples n ≡ []
+  frames_later samples n m before =
+      frames_none t traffic m samples n
+      (λ k inside e. let later = traffic_later m k inside in omega (arith, later, e, before))
+
+module _ (t : Tuning) (near : AreNear (sync_stream t).fingers) where
+  -- no frame is heard before the mark
+  pub frames_before_mark : (followed : Option Traffic) (samples : List Sample) (n : ℕ) (m : Mark) →
+      n ≤ m.sample → frames_behind t followed (Some m) samples n ≡ []
+  frames_before_mark None samples n m before = refl
+  frames_before_mark (Some traffic) samples n m before =
+      frames_later t near traffic samples n m before
+
+  pub no_mark : (followed : Option Traffic) (samples : List Sample) (n : ℕ) →
+      frames_behind t followed None samples n ≡ []
+  no_mark None samples n = refl
+  no_mark (Some traffic) samples n = refl
+
+  -- The frame that is heard at n samples is told by any later mark.
+  pub frames_by_one_mark : (followed : Option Traffic) (samples : List Sample) (n n' : ℕ) →
+      n ≤ n' →
+      frames_behind t followed (mark t samples n) samples n
+      ≡ frames_behind t followed (mark t samples n') samples n
+  frames_by_one_mark followed samples n n' more =
+      by_marks (mark t samples n) (mark t samples n') refl refl
+    where
+      by_marks : (now later : Option Mark) → mark t samples n ≡ now → mark t samples n' ≡ later →
+          frames_behind t followed now samples n ≡ frames_behind t followed later samples n
+      by_marks (Some m) later e e' =
+          ap (λ (x : Option Mark). frames_behind t followed x samples n)
+          (sym (mark_stays t _ (timed_of t near) samples n n' m more e) ∙ e')
+      by_marks None None e e' = refl
+      by_marks None (Some m) e e' =
+          let pilot = mark_pilot t samples n' m e' in
+          let before = mark_behind t _ (timed_of t near) near samples n n' m pilot e e' in
+          no_mark followed samples n
+          ∙ sym (frames_before_mark followed samples n m (omega (arith, before)))

@@ -37,15 +37,15 @@ bits_before_none count xs s low k timed h =
     (filter_none_places (is_in_file count s) k (λ j below. outside_low s timed j (omega arith)))
 
 -- they stay where more samples follow
-pub bits_before_sooner : {count low : ℕ} (s : Stream) → IsTimed count s low →
-    (xs ys : List Sample) (k : ℕ) →
+pub bits_before_sooner : {count low : ℕ} (s : Stream) → s.waits ≡ true →
+    IsTimed count s low → (xs ys : List Sample) (k : ℕ) →
     ((j : ℕ) → j < k → is_in_file count s j ≡ true → known_at count s j ≤ length xs) →
     bits_before count (xs ++ ys) s k ≡ bits_before count xs s k
 unfolding bits_before
-bits_before_sooner {count} s timed xs ys k known =
+bits_before_sooner {count} s waits timed xs ys k known =
     flat_map_ext_filter_places (is_in_file count s) (frame_own_bits count (xs ++ ys) s)
     (frame_own_bits count xs s) k
-    (λ j below inside. own_bits_sooner s timed xs ys j inside (known j below inside))
+    (λ j below inside. own_bits_sooner s timed xs ys j waits inside (known j below inside))
 
 every : (xs : List ℕ) → filter (λ k. true) xs ≡ xs
 every [] = refl

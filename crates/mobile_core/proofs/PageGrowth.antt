@@ -1,6 +1,6 @@
 -- How the messages of a paging channel grow with a file's samples.
 use Rattle.std.proofs.Common.{◌≡◌, ℕ, ◌+◌, ◌-◌, ◌<◌, ◌≤◌, ◌==◌, ◌&&◌, Bool, true, List, [], ◌++◌}
-use Rattle.std.proofs.Common.{length, nat_le, take, ap, ◌∙◌, arith, Option}
+use Rattle.std.proofs.Common.{length, nat_le, take, refl, ap, ◌∙◌, arith, Option}
 use Rattle.std.specs.Prelude.{if◌then◌else◌}
 use Rattle.std.specs.List.{flat_map, range_with_len}
 use Rattle.std.specs.Option.{option_to_list}
@@ -74,8 +74,8 @@ module _ (t : Tuning) (channel : ℕ) (m : Mark) where
         let size : ℕ = half_frame_body (paging_rate m.prat) in
         let page : List Bool → List Bool → Option SpelledPage = λ before own.
         page_in t.check30 (half_frame_capsule_ending size (before ++ take (i + 1) own)) in
-        let own = own_bits_sooner s timed xs ys k inside known in
-        let before = bits_before_sooner s timed xs ys k
+        let own = own_bits_sooner s timed xs ys k refl inside known in
+        let before = bits_before_sooner s refl timed xs ys k
         (λ j below inside'.
         let le = known_le s timed j k inside' inside (omega arith) in
         omega (arith, le, known)) in
@@ -93,7 +93,7 @@ module _ (t : Tuning) (channel : ℕ) (m : Mark) where
         let g : ℕ → List SpelledPage = λ i. option_to_list (page_at t channel m xs k i) in
         let own = frame_own_bits t.count xs s k in
         ap (λ (bits : List Bool). flat_map f (range_with_len from (length bits - from)))
-        (own_bits_sooner s timed xs ys k inside known)
+        (own_bits_sooner s timed xs ys k refl inside known)
         ∙ flat_map_ext_range f g from (length own - from)
         (λ i least below. ap option_to_list (page_sooner xs ys k i inside known))
 

@@ -35,15 +35,15 @@ none_taken : (place : ℕ) (bits : List Bool) → place ≡ 0 → take place bit
 none_taken place bits none = ap (λ (n : ℕ). take n bits) none ∙ take-none bits
 
 -- a channel whose first frame comes later than these samples
-pub receives_later : (count : ℕ) (s : Stream) (c : Continued) → AreNear s.fingers →
-    c.fingers ≡ s.fingers → length c.softs ≡ 1152 →
-    c.clock ≡ clock_from s.fingers s.form s.first (first_frame s.fingers s.first) →
+pub receives_later : (count : ℕ) (s : Stream) (c : Continued) → s.waits ≡ true →
+    AreNear s.fingers → c.fingers ≡ s.fingers → length c.softs ≡ 1152 →
+    c.clock ≡ clock_from s.fingers s.form s.waits s.first (first_frame s.fingers s.first) →
     (heard : List Sample) → length heard ≤ count → length heard ≤ c.clock.end →
     Receives count s c heard
-receives_later count s c near fingers long clock heard within most =
+receives_later count s c waits near fingers long clock heard within most =
     let same : c.clock.next ≡ c.clock.have = rw clock refl in
     let none : ¬ IsDueAt count c.clock = λ d. omega (arith, same, d.0) in
-    receives_more (receives_new count s c near fingers long clock) heard none
+    receives_more (receives_new count s c waits near fingers long clock) heard none
     (omega (arith, within)) (omega (arith, most))
 
 -- before any frame is heard
@@ -94,7 +94,7 @@ module _ {t : Tuning} {channel : ℕ} {m : Mark} {r : PagingReceiver} {heard : L
       let z = idle none in
       let own = frame_own_bits t.count heard s next in
       let later = frame_own_bits t.count (heard ++ more) s next in
-      let same = bits_before_sooner s is.timed heard more next (before_next is) in
+      let same = bits_before_sooner s refl is.timed heard more next (before_next is) in
       let before = bits_before t.count heard s next in
       let taken : before ++ take r.place own
       ≡ bits_before t.count (heard ++ more) s next ++ take r.place later =

@@ -1,10 +1,10 @@
 -- What a step does to the progress.
 use Rattle.std.proofs.Common.{◌≡◌, ℕ, ◌+◌, ◌-◌, ◌<◌, ◌≤◌, true, refl, arith, inl, inr}
-use Rattle.std.proofs.lemmas.Bool.{cases_lt}
+use Rattle.std.proofs.lemmas.Bool.{cases_lt, cases_Bool}
 use Rattle.mobile_core.specs.Streams.{Stream, is_in_file, known_at}
 use Rattle.mobile_core.specs.Timing.{stream_end, IsTimed}
 use Rattle.mobile_core.proofs.FrameTimes.{ends_le, ends_lt, inside_from, inside_to, known_more}
-use Rattle.mobile_core.proofs.FrameTimes.{known_last, known_between, known_le}
+use Rattle.mobile_core.proofs.FrameTimes.{known_between, known_le, known_parts}
 use Rattle.mobile_core.specs.Progress.{IsReached, IsDue}
 
 pub reached_none : {count low : ℕ} (s : Stream) → IsTimed count s low →
@@ -16,7 +16,7 @@ reached_none s t = record {
   within = omega arith;
   ended = λ k a b. absurd (omega arith);
   behind = omega arith;
-  begun = λ e. inl refl;
+  begun = λ w e. inl refl;
   late = λ h. omega arith;
 }
 
@@ -34,11 +34,11 @@ module _ {count low : ℕ} (s : Stream) (t : IsTimed count s low) where
       let inside = due_inside next have n r d in
       let late = r.late inside in
       let ended = r.ended next r.low_next d.ended in
-      elim (cases_lt count (stream_end s (next + 1))) [
-        | inl less ↦ let e = known_last s t next less in omega arith
-        | inr more ↦
-            let e = known_more s t next r.low_next more in
-            elim d.known [
+      elim (known_parts s t next r.low_next) [
+        | inl e ↦ omega arith
+        | inr parts ↦
+            let e = parts.2 in
+            elim (d.known parts.0) [
               | inl a ↦ let f = r.ended (next + 1) (omega (arith, r.low_next)) a in omega arith
               | inr b ↦
                   elim (cases_lt (next + 1) have) [
@@ -56,21 +56,38 @@ module _ {count low : ℕ} (s : Stream) (t : IsTimed count s low) where
       is_in_file count s k ≡ true → known_at count s k ≤ n
   before_next next have n r k h inside =
       let i = inside_to s t k inside in
-      let between = known_between s t k inside in
-      elim (cases_lt (k + 1) have) [
-        | inl less ↦ let e = r.ended (k + 1) (omega (arith, i.0)) less in
-            omega (arith, between.high)
-        | inr more ↦
-            let same : next ≡ have = omega (arith, r.next_have) in
-            let last : have ≡ k + 1 = omega (arith, r.next_have) in
-            elim (r.begun same) [
-              | inl none ↦ absurd (omega (arith, i.0))
-              | inr over ↦
-                  let over' = rw last at over in
-                  let e = known_last s t k over' in
-                  let f = r.ended k i.0 (omega arith) in
-                  omega arith
+      elim (known_parts s t k i.0) [
+        | inl e ↦ let f = r.ended k i.0 (omega (arith, r.next_have)) in omega arith
+        | inr parts ↦
+            let fits = parts.1 in
+            let e = parts.2 in
+            elim (cases_lt (k + 1) have) [
+              | inl less ↦ let f = r.ended (k + 1) (omega (arith, i.0)) less in omega arith
+              | inr more ↦
+                  let same : next ≡ have = omega (arith, r.next_have) in
+                  let last : have ≡ k + 1 = omega (arith, r.next_have) in
+                  elim (r.begun parts.0 same) [
+                    | inl none ↦ absurd (omega (arith, i.0))
+                    | inr over ↦ let over' = rw last at over in absurd (omega arith)
+                  ]
             ]
+      ]
+
+  -- where the next frame has ended and isn't due it waits for the one behind, which is in the file
+  waiting : (next have : ℕ) → ¬ IsDue count s next have → next < have →
+      (s.waits ≡ true) × (have ≤ next + 1) × (stream_end s have ≤ count)
+  waiting next have not_due less =
+      elim (cases_Bool s.waits) [
+        | inl waits ↦
+            elim (cases_lt (next + 1) have) [
+              | inl a ↦ absurd (not_due (record { ended = less; known = λ w. inl a }))
+              | inr c ↦
+                  elim (cases_lt count (stream_end s have)) [
+                    | inl over ↦ absurd (not_due (record { ended = less; known = λ w. inr over }))
+                    | inr fits ↦ (waits, c, fits)
+                  ]
+            ]
+        | inr none ↦ absurd (not_due (record { ended = less; known = λ w. absurd (cc) }))
       ]
 
   -- where the next frame isn't due, those from it on are known when frame `have` ends, or later
@@ -82,22 +99,15 @@ module _ {count low : ℕ} (s : Stream) (t : IsTimed count s low) where
       let between = known_between s t k inside in
       elim (cases_lt next have) [
         | inl less ↦
-            elim (cases_lt (next + 1) have) [
-              | inl a ↦ absurd (not_due (record { ended = less; known = inl a }))
-              | inr c ↦
-                  let same : have ≡ next + 1 = omega arith in
-                  elim (cases_lt count (stream_end s have)) [
-                    | inl over ↦ absurd (not_due (record { ended = less; known = inr over }))
-                    | inr fits ↦
-                        let first : is_in_file count s next ≡ true =
-                        let e = ends_lt s t next have less in
-                        inside_from s t next r.low_next (omega arith) in
-                        let e = known_more s t next r.low_next (rw same at fits) in
-                        let le = known_le s t next k first inside h in
-                        let m'' = rw same at most in
-                        omega arith
-                  ]
-            ]
+            let fits = waiting next have not_due less in
+            let same : have ≡ next + 1 = omega (arith, fits.1) in
+            let first : is_in_file count s next ≡ true =
+            let e = ends_lt s t next have less in
+            inside_from s t next r.low_next (omega (arith, fits.2)) in
+            let e = known_more s t next fits.0 r.low_next (rw same at fits.2) in
+            let le = known_le s t next k first inside h in
+            let m'' = rw same at most in
+            omega arith
         | inr more ↦
             let same : next ≡ have = omega (arith, r.next_have) in
             let e = ends_le s t next (k - next) in
@@ -131,7 +141,7 @@ module _ {count low : ℕ} (s : Stream) (t : IsTimed count s low) where
       let some = t.some in
       let near : have ≤ next + 1 =
       elim (cases_lt (next + 1) have) [
-        | inl a ↦ absurd (not_due (record { ended = omega arith; known = inl a }))
+        | inl a ↦ absurd (not_due (record { ended = omega arith; known = λ w. inl a }))
         | inr b ↦ b
       ] in
       record {
@@ -146,7 +156,7 @@ module _ {count low : ℕ} (s : Stream) (t : IsTimed count s low) where
               | inr d ↦ let same : k ≡ have = omega arith in rw same (omega arith)
             ];
         behind = omega arith;
-        begun = λ same. absurd (omega (arith, r.next_have));
+        begun = λ w same. absurd (omega (arith, r.next_have));
         late = r.late;
       }
 
@@ -163,6 +173,6 @@ module _ {count low : ℕ} (s : Stream) (t : IsTimed count s low) where
         within = r.within;
         ended = r.ended;
         behind = r.behind;
-        begun = λ same. elim d.known [ inl a ↦ absurd (omega arith) | inr b ↦ inr b ];
+        begun = λ w same. elim (d.known w) [ inl a ↦ absurd (omega arith) | inr b ↦ inr b ];
         late = λ h. let le = known_le s t next (next + 1) inside h (omega arith) in omega arith;
       }

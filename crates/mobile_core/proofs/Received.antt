@@ -1,7 +1,7 @@
 -- What a continued channel stands for, step by step, over any stream.
 use Rattle.std.proofs.Common.{◌≡◌, ℕ, zero, suc, ◌+◌, ◌-◌, ◌*◌, ◌≤◌, List, [], ◌++◌}
 use Rattle.std.proofs.Common.{length, length-append, take, drop, refl, sym, ap, ◌∙◌, arith}
-use Rattle.std.proofs.Common.{ℤ}
+use Rattle.std.proofs.Common.{true, ℤ}
 use Rattle.std.specs.List.{flat_map}
 use Rattle.std.proofs.lemmas.List.{drop_all, length-drop, take_all}
 use Rattle.chip_core.proofs.Places.{places-none}
@@ -38,11 +38,12 @@ none_kept size softs f long =
     ∙ sym (ap (flat_map f) places-none)
 
 -- before any sample is taken
-pub receives_new : (count : ℕ) (s : Stream) (c : Continued) → AreNear s.fingers →
-    c.fingers ≡ s.fingers → length c.softs ≡ 1152 →
-    c.clock ≡ clock_from s.fingers s.form s.first (first_frame s.fingers s.first) →
+pub receives_new : (count : ℕ) (s : Stream) (c : Continued) → s.waits ≡ true →
+    AreNear s.fingers → c.fingers ≡ s.fingers → length c.softs ≡ 1152 →
+    c.clock ≡ clock_from s.fingers s.form s.waits s.first (first_frame s.fingers s.first) →
     Receives count s c []
-receives_new count s c near fingers long clock = record {
+receives_new count s c waits near fingers long clock = record {
+  waits = waits;
   clocked = rw clock (clock_new count s near);
   fingers_are = fingers;
   softs_are = λ m few h.
@@ -61,6 +62,7 @@ module _ {count : ℕ} {s : Stream} {c : Continued} {heard : List Sample}
       let is = r.clocked in
       let n : length (heard ++ more) ≡ length heard + length more = length-append heard more in
       record {
+        waits = r.waits;
         clocked = clock_more is (length (heard ++ more)) none (omega (arith, n))
             (omega (arith, n, within)) (omega (arith, n, most));
         fingers_are = r.fingers_are;
@@ -119,6 +121,7 @@ module _ {count : ℕ} {s : Stream} {c : Continued} {heard : List Sample}
       (record c { clock = frame_come c.clock; softs = drop (symbols s.form) c.softs ++ fresh })
       heard
   receives_frame fresh none ended e long many = record {
+    waits = r.waits;
     clocked = clock_come r.clocked none ended;
     fingers_are = r.fingers_are;
     softs_are = shifted fresh e long many;
@@ -128,6 +131,7 @@ module _ {count : ℕ} {s : Stream} {c : Continued} {heard : List Sample}
   pub receives_heard : IsDueAt count c.clock →
       Receives count s (record c { clock = frame_heard c.clock }) heard
   receives_heard d = record {
+    waits = r.waits;
     clocked = clock_heard r.clocked d;
     fingers_are = r.fingers_are;
     softs_are = r.softs_are;
@@ -141,7 +145,7 @@ module _ {count : ℕ} {s : Stream} {c : Continued} {heard : List Sample}
   unfolding frame_own_bits
   own_are d =
       let is = r.clocked.reached in
-      let e = span_is r.clocked d in
+      let e = span_is r.clocked r.waits d in
       let first : ℕ = span_from c.clock in
       let order = d.0 in
       let bounds = span_bounds c.clock order in

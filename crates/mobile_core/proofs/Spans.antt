@@ -52,10 +52,10 @@ module _ {count low : ℕ} (s : Stream) (t : IsTimed count s low) where
       ]
 
   -- each of a span's frames has ended when the frame is known
-  span_ends : (k first frames j : ℕ) → is_in_file count s k ≡ true →
+  span_ends : (k first frames j : ℕ) → s.waits ≡ true → is_in_file count s k ≡ true →
       first ≡ span_first count s k → frames ≡ span_frames count s k → first ≤ k → j < frames →
       stream_end s (first + j) ≤ known_at count s k
-  span_ends k first frames j h f fs within l =
+  span_ends k first frames j waits h f fs within l =
       let i = times.inside_to s t k h in
       elim (cases_lt count (stream_end s (k + 1))) [
         | inl less ↦
@@ -65,7 +65,7 @@ module _ {count low : ℕ} (s : Stream) (t : IsTimed count s low) where
             let more = times.ends_le s t (first + j) (k - (first + j)) in
             rw e (omega (arith, rw le at more))
         | inr more ↦
-            let e = times.known_more s t k i.0 more in
+            let e = times.known_more s t k waits i.0 more in
             let n = span_frames_more k i.0 more in
             let le : first + j + (k + 1 - (first + j)) ≡ k + 1 = omega arith in
             let more = times.ends_le s t (first + j) (k + 1 - (first + j)) in
@@ -81,11 +81,11 @@ module _ {count low : ℕ} (s : Stream) (t : IsTimed count s low) where
       ap (unscrambled (s.scrambling k))
       (softs_sooner xs ys s.fingers s.form u (all_fit count (length xs) s.fingers s.form u h ends))
 
-  pub own_bits_sooner : (xs ys : List Sample) (k : ℕ) → is_in_file count s k ≡ true →
-      known_at count s k ≤ length xs →
+  pub own_bits_sooner : (xs ys : List Sample) (k : ℕ) → s.waits ≡ true →
+      is_in_file count s k ≡ true → known_at count s k ≤ length xs →
       frame_own_bits count (xs ++ ys) s k ≡ frame_own_bits count xs s k
   unfolding frame_own_bits
-  own_bits_sooner xs ys k h known =
+  own_bits_sooner xs ys k waits h known =
       let first = span_first count s k in
       let frames = span_frames count s k in
       let between = span_first_between k h in
@@ -94,7 +94,7 @@ module _ {count low : ℕ} (s : Stream) (t : IsTimed count s low) where
       (flat_map_ext_places (λ j. frame_softs (xs ++ ys) s (first + j))
       (λ j. frame_softs xs s (first + j)) frames
       (λ j below.
-      let ends = span_ends k first frames j h refl refl between.1 (omega arith) in
+      let ends = span_ends k first frames j waits h refl refl between.1 (omega arith) in
       let low' : low ≤ first + j = omega arith in
       let inside = times.inside_from s t (first + j) low' (omega (arith, most.most)) in
       frame_softs_sooner xs ys (first + j) inside (omega arith)))

@@ -1,7 +1,7 @@
 -- What a handset stands for, step by step.
 use Rattle.std.proofs.Common.{◌≡◌, ℕ, ◌+◌, ◌<◌, ◌≤◌, false, ◌||◌, List, [], ◌∷◌, ◌++◌, length}
 use Rattle.std.proofs.Common.{length-append, refl, sym, ap, subst, ◌∙◌, arith, inl, inr, Option}
-use Rattle.std.proofs.Common.{Some, None, Bool, true, map}
+use Rattle.std.proofs.Common.{Some, None, Bool, true}
 use Rattle.std.specs.Prelude.{is_some}
 use Rattle.std.specs.List.{flat_map, list_any}
 use Rattle.std.specs.Option.{option_or}
@@ -12,31 +12,36 @@ use Rattle.chip_core.proofs.Places.{places-none}
 use Rattle.chip_core.specs.declared.sample.Sample.{Sample}
 use Rattle.rake_finger.specs.Held.{Held, HoldsLast}
 use Rattle.mobile_core.specs.Clocks.{IsDueAt}
-use Rattle.mobile_core.specs.Events.{events_at, events_within, events, paging_events_at}
+use Rattle.mobile_core.specs.Events.{events_at, events_within, events}
+use Rattle.mobile_core.specs.FollowedChannels.{HearsFollowed, IsFollowedDue, WaitFrom}
+use Rattle.mobile_core.specs.FollowedChannels.{followed_events_left}
 use Rattle.mobile_core.specs.Given.{listed}
 use Rattle.mobile_core.specs.Left.{sync_events_left}
 use Rattle.mobile_core.specs.Marks.{first_of, mark, mark_before, marks_at, sets_mark}
 use Rattle.mobile_core.specs.Near.{AreNear}
-use Rattle.mobile_core.specs.PagingEvents.{page_event, pages_behind}
-use Rattle.mobile_core.specs.PagingMonitoring.{HearsBehind, HearsPages, IsReceiverDue, SetsMark}
-use Rattle.mobile_core.specs.PagingMonitoring.{WaitsFrom, paging_events_left}
+use Rattle.mobile_core.specs.PagingMonitoring.{SetsMark, paging_events_left}
 use Rattle.mobile_core.specs.Sound.{IsSoundSync}
 use Rattle.mobile_core.specs.Standing.{Parts, Stands}
 use Rattle.mobile_core.specs.Streams.{is_in_file}
+use Rattle.mobile_core.specs.SyncEvents.{sync_events_at}
 use Rattle.mobile_core.specs.SyncReceiving.{HearsSync, HearsNext}
 use Rattle.mobile_core.specs.Timing.{IsTimed}
+use Rattle.mobile_core.specs.TrafficEvents.{frames_behind}
+use Rattle.mobile_core.specs.TrafficMonitoring.{frame_events_left}
 use Rattle.mobile_core.specs.Tuning.{Tuning, sync_stream}
 use Rattle.mobile_core.specs.declared.event.Event.{Event}
+use Rattle.mobile_core.specs.declared.followed.Followed.{Followed}
 use Rattle.mobile_core.specs.declared.mark.Mark.{Mark}
-use Rattle.mobile_core.specs.declared.paging_monitor.PagingMonitor.{PagingMonitor}
+use Rattle.mobile_core.specs.declared.settings.Traffic.{Traffic}
 use Rattle.mobile_core.specs.declared.sync_receiver.SyncReceiver.{SyncReceiver}
+use Rattle.mobile_core.proofs.ChannelsFollowed.{EndFrom, followed_behind, followed_given}
+use Rattle.mobile_core.proofs.ChannelsFollowed.{followed_more}
 use Rattle.mobile_core.proofs.ClockSteps.{before_next, from_next, due_inside}
-use Rattle.mobile_core.proofs.EventsGrown.{events_at_both, events_grown}
+use Rattle.mobile_core.proofs.EventsGrown.{events_at_by, events_grown}
 use Rattle.mobile_core.proofs.FrameTimes.{known_between, outside_low}
 use Rattle.mobile_core.proofs.Growth.{left_all, left_none}
 use Rattle.mobile_core.proofs.MarkGrowth.{mark_before_more, mark_before_none, mark_is}
 use Rattle.mobile_core.proofs.MarkLater.{opens_later}
-use Rattle.mobile_core.proofs.PagesFollowed.{EndsFrom, behind_more, pages_given}
 use Rattle.mobile_core.proofs.Ranges.{flat_map-places-more}
 use Rattle.mobile_core.proofs.SyncHeard as sync
 
@@ -52,7 +57,7 @@ first_empty : {A : Type 0} (xs ys : List A) → xs ++ ys ≡ [] → xs ≡ []
 first_empty [] ys e = refl
 first_empty (x ∷ xs) ys e = absurd (cc)
 
--- before any sample is taken nothing is heard of a paging channel
+-- before any sample is taken no mark is set
 unmarked : (t : Tuning) (low : ℕ) → IsTimed t.count (sync_stream t) low → mark t [] 0 ≡ None
 unmarked t low timed =
     let s = sync_stream t in
@@ -67,10 +72,13 @@ unmarked t low timed =
     omega (arith, early, least, some))
     ∙ mark_before_none t [] low outside
 
-silent : (t : Tuning) → mark t [] 0 ≡ None → paging_events_at t [] 0 ≡ []
-unfolding paging_events_at
-silent t none =
-    ap (λ (m : Option Mark). map (page_event 0) (pages_behind t t.paging m [] 0)) none
+-- and nothing is heard of the channels behind it
+silent : (t : Tuning) → followed_behind t None [] 0 ≡ []
+silent t = frames_unset t.traffic
+  where
+    frames_unset : (followed : Option Traffic) → frames_behind t followed None [] 0 ≡ []
+    frames_unset None = refl
+    frames_unset (Some traffic) = refl
 
 first_moment : (t : Tuning) → events_at t [] 0 ≡ events t []
 unfolding events_within
@@ -80,10 +88,11 @@ first_moment t =
 
 -- a handset that has taken nothing
 pub stands_new : (t : Tuning) (p : Parts) → p.count ≡ t.count → p.check ≡ t.check30 →
-    HoldsLast p.ring [] → HearsSync t p.sync [] → HearsPages t p.paging None [] →
+    HoldsLast p.ring [] → HearsSync t p.sync [] → HearsFollowed t p.followed None [] →
     p.sync.received.clock.next ≡ p.sync.received.clock.low → p.sync.mark ≡ None →
-    p.paging.receiver ≡ None → Stands t p [] []
-stands_new t p count check holds hears pages next unset closed =
+    (p.followed.paging.receiver ≡ None) × (p.followed.traffic.receiver ≡ None) →
+    Stands t p [] []
+stands_new t p count check holds hears follows next unset closed =
     let clock = p.sync.received.clock in
     let s = sync_stream t in
     let timed = hears.receives.clocked.timed in
@@ -91,16 +100,21 @@ stands_new t p count check holds hears pages next unset closed =
     λ k less. outside_low s timed k (omega (arith, less, next)) in
     let left = left_all t clock.low timed [] clock.next
     (λ k less inside e. both_ways (is_in_file t.count s k) (outside k less) inside) in
-    let none = silent t (unmarked t clock.low timed) in
-    let idle = ap (paging_events_left t p.sync.mark []) closed in
+    let here = sync_events_at t [] 0 in
+    let all : events_at t [] 0 ≡ here =
+    events_at_by t [] 0 None (unmarked t clock.low timed)
+    ∙ ap (λ (es : List Event). here ++ es) (silent t)
+    ∙ append-nil here in
+    let pages = ap (paging_events_left t p.sync.mark []) closed.0 in
+    let frames = ap (frame_events_left t p.sync.mark []) closed.1 in
     record {
       count_is = count;
       check_is = check;
       ring = holds;
       sync = hears;
-      paging = subst (λ (m : Option Mark). HearsPages t p.paging m []) (sym unset) pages;
+      followed = subst (λ (m : Option Mark). HearsFollowed t p.followed m []) (sym unset) follows;
       noted = ap is_some unset;
-      told = rw (left, idle, ← none) (sym (events_at_both t [] 0) ∙ first_moment t);
+      told = rw (left, pages, frames) (append-nil here ∙ sym all ∙ first_moment t);
     }
 
 module _ {t : Tuning} {p : Parts} {heard : List Sample} {given : List Event}
@@ -109,9 +123,8 @@ module _ {t : Tuning} {p : Parts} {heard : List Sample} {given : List Event}
   pub due_here : ¬ IsDueAt p.count p.sync.received.clock → ¬ IsDueAt t.count p.sync.received.clock
   due_here none = rw st.count_is at none
 
-  pub page_due_here : ¬ IsReceiverDue p.count p.paging.receiver →
-      ¬ IsReceiverDue t.count p.paging.receiver
-  page_due_here none = rw st.count_is at none
+  pub others_due_here : ¬ IsFollowedDue p.count p.followed → ¬ IsFollowedDue t.count p.followed
+  others_due_here none = rw st.count_is at none
 
   sync_given : ¬ IsDueAt p.count p.sync.received.clock →
       length heard < p.sync.received.clock.end →
@@ -124,41 +137,42 @@ module _ {t : Tuning} {p : Parts} {heard : List Sample} {given : List Event}
 
   -- all events have been given where no frame is due
   pub all_given : ¬ IsDueAt p.count p.sync.received.clock →
-      ¬ IsReceiverDue p.count p.paging.receiver → length heard < p.sync.received.clock.end →
-      WaitsFrom (length heard) p.paging.receiver → given ≡ events t heard
-  all_given none idle waits pages_wait =
+      ¬ IsFollowedDue p.count p.followed → length heard < p.sync.received.clock.end →
+      WaitFrom (length heard) p.followed → given ≡ events t heard
+  all_given none idle waits others_wait =
       let left = sync_given none waits in
-      let pages = pages_given t p.sync.mark heard p.paging.receiver st.paging.behind
-      (page_due_here idle) pages_wait in
-      let all : given ++ ([] ++ []) ≡ events t heard = rw (left, pages) at st.told in
+      let others = followed_given st.followed (others_due_here idle) others_wait in
+      let all : given ++ ([] ++ []) ≡ events t heard = rw (left, others) at st.told in
       sym (append-nil given) ∙ all
 
   module _ (more : List Sample) (near : AreNear (sync_stream t).fingers)
       (none : ¬ IsDueAt p.count p.sync.received.clock)
-      (idle : ¬ IsReceiverDue p.count p.paging.receiver) where
+      (idle : ¬ IsFollowedDue p.count p.followed) where
     more_told : 0 < length more → length heard + length more ≤ p.sync.received.clock.end →
-        EndsFrom (length heard + length more) p.paging.receiver →
+        EndFrom (length heard + length more) p.followed →
         given ++ (sync_events_left t (heard ++ more) p.sync.received.clock.next
-        ++ paging_events_left t p.sync.mark (heard ++ more) p.paging.receiver)
+        ++ followed_events_left t p.sync.mark (heard ++ more) p.followed)
         ≡ events t (heard ++ more)
     more_told some most ends =
         let clock = p.sync.received.clock in
-        let receiver = p.paging.receiver in
         let is = st.sync.receives.clocked in
         let n : ℕ = length heard + length more in
-        let all = all_given none idle (omega (arith, most, some))
-        (λ r e. let later = ends r e in omega (arith, later, some)) in
-        let behind = subst (λ (m : Option Mark). HearsBehind t m receiver heard) st.sync.marked
-        st.paging.behind in
-        let grown = events_grown t clock.low is.timed near heard more clock.next receiver some
-        (before_next is) (from_next is n (due_here none) most) behind (page_due_here idle) ends in
+        let all = all_given none idle (omega (arith, most, some)) (record {
+          paging = λ r e. let later = ends.paging r e in omega (arith, later, some);
+          traffic = λ r e. let later = ends.traffic r e in omega (arith, later, some);
+        }) in
+        let behind = subst (λ (m : Option Mark). HearsFollowed t p.followed m heard)
+        st.sync.marked st.followed in
+        let grown = events_grown t clock.low is.timed near heard more clock.next p.followed some
+        (before_next is) (from_next is n (due_here none) most) behind (others_due_here idle)
+        ends in
         let sync_left = sync_events_left t (heard ++ more) clock.next in
         rw (all, st.sync.marked) (sym grown)
 
     -- more samples, up to the end of the frame that comes next
     stands_some : (ring : Held) → length heard + length more ≤ p.count →
         length heard + length more ≤ p.sync.received.clock.end →
-        EndsFrom (length heard + length more) p.paging.receiver → HoldsLast ring (heard ++ more) →
+        EndFrom (length heard + length more) p.followed → HoldsLast ring (heard ++ more) →
         0 < length more → Stands t (record p { ring = ring }) (heard ++ more) given
     stands_some ring within most ends holds some =
         let count = st.count_is in
@@ -167,13 +181,8 @@ module _ {t : Tuning} {p : Parts} {heard : List Sample} {given : List Event}
           check_is = st.check_is;
           ring = holds;
           sync = sync.hears_more st.sync more (due_here none) (omega (arith, within, count)) most;
-          paging = record {
-            channel_is = st.paging.channel_is;
-            phase_is = st.paging.phase_is;
-            deltas_are = st.paging.deltas_are;
-            behind = behind_more t p.sync.mark heard p.paging.receiver st.paging.behind
-                (page_due_here idle) more (omega (arith, within, count)) ends;
-          };
+          followed = followed_more st.followed (others_due_here idle) more
+              (omega (arith, within, count)) ends;
           noted = st.noted;
           told = more_told some most ends;
         }
@@ -188,34 +197,34 @@ module _ {t : Tuning} {p : Parts} {heard : List Sample} {given : List Event}
         check_is = st.check_is;
         ring = holds';
         sync = st.sync;
-        paging = st.paging;
+        followed = st.followed;
         noted = st.noted;
         told = st.told;
       })
 
   pub stands_taken : (more : List Sample) (ring : Held) → AreNear (sync_stream t).fingers →
-      ¬ IsDueAt p.count p.sync.received.clock → ¬ IsReceiverDue p.count p.paging.receiver →
+      ¬ IsDueAt p.count p.sync.received.clock → ¬ IsFollowedDue p.count p.followed →
       length heard + length more ≤ p.count →
       length heard + length more ≤ p.sync.received.clock.end →
-      EndsFrom (length heard + length more) p.paging.receiver → HoldsLast ring (heard ++ more) →
+      EndFrom (length heard + length more) p.followed → HoldsLast ring (heard ++ more) →
       Stands t (record p { ring = ring }) (heard ++ more) given
   stands_taken [] ring near none idle within most ends holds = stands_none ring holds
   stands_taken (x ∷ more) ring near none idle within most ends holds =
       stands_some (x ∷ more) near none idle ring within most ends holds (omega arith)
 
   -- soft values of frames have come
-  pub stands_come : (after : SyncReceiver) (pages : PagingMonitor) → HearsSync t after heard →
+  pub stands_come : (after : SyncReceiver) (followed : Followed) → HearsSync t after heard →
       after.received.clock.next ≡ p.sync.received.clock.next → after.mark ≡ p.sync.mark →
-      HearsPages t pages p.sync.mark heard →
-      paging_events_left t p.sync.mark heard pages.receiver
-      ≡ paging_events_left t p.sync.mark heard p.paging.receiver →
-      Stands t (record p { sync = after; paging = pages }) heard given
-  stands_come after pages hears next set follows left = record {
+      HearsFollowed t followed p.sync.mark heard →
+      followed_events_left t p.sync.mark heard followed
+      ≡ followed_events_left t p.sync.mark heard p.followed →
+      Stands t (record p { sync = after; followed = followed }) heard given
+  stands_come after followed hears next set follows left = record {
     count_is = st.count_is;
     check_is = st.check_is;
     ring = st.ring;
     sync = hears;
-    paging = subst (λ (m : Option Mark). HearsPages t pages m heard) (sym set) follows;
+    followed = subst (λ (m : Option Mark). HearsFollowed t followed m heard) (sym set) follows;
     noted = ap is_some set ∙ st.noted;
     told = rw (next, set, left) st.told;
   }
@@ -244,20 +253,20 @@ module _ {t : Tuning} {p : Parts} {heard : List Sample} {given : List Event}
           )
 
   -- the sync channel's frame that is due has been heard
-  pub stands_heard : (after : SyncReceiver) (pages : PagingMonitor) (event : Option Event) →
-      HearsNext t heard p.sync after event → HearsPages t pages after.mark heard →
-      paging_events_left t after.mark heard pages.receiver
-      ≡ paging_events_left t p.sync.mark heard p.paging.receiver →
-      Stands t (record p { sync = after; paging = pages }) heard (given ++ listed event)
-  stands_heard after pages event next follows left =
+  pub stands_heard : (after : SyncReceiver) (followed : Followed) (event : Option Event) →
+      HearsNext t heard p.sync after event → HearsFollowed t followed after.mark heard →
+      followed_events_left t after.mark heard followed
+      ≡ followed_events_left t p.sync.mark heard p.followed →
+      Stands t (record p { sync = after; followed = followed }) heard (given ++ listed event)
+  stands_heard after followed event next follows left =
       let later = sync_events_left t heard after.received.clock.next in
-      let others = paging_events_left t p.sync.mark heard p.paging.receiver in
+      let others = followed_events_left t p.sync.mark heard p.followed in
       record {
         count_is = st.count_is;
         check_is = st.check_is;
         ring = st.ring;
         sync = next.hears;
-        paging = follows;
+        followed = follows;
         noted = next.noted
             ∙ ap (λ b. b || list_any sets_mark (listed event)) st.noted
             ∙ sym (list_any-append sets_mark given (listed event));
@@ -269,22 +278,22 @@ module _ {t : Tuning} {p : Parts} {heard : List Sample} {given : List Event}
             ∙ st.told;
       }
 
-  -- a bit of the paging channel's frame that is due has been heard
-  pub stands_paged : (pages : PagingMonitor) (event : Option Event) →
+  -- what is due of the other channels has been heard: a bit, or a frame
+  pub stands_followed : (followed : Followed) (event : Option Event) →
       ¬ IsDueAt p.count p.sync.received.clock → length heard < p.sync.received.clock.end →
-      list_any sets_mark (listed event) ≡ false → HearsPages t pages p.sync.mark heard →
-      listed event ++ paging_events_left t p.sync.mark heard pages.receiver
-      ≡ paging_events_left t p.sync.mark heard p.paging.receiver →
-      Stands t (record p { paging = pages }) heard (given ++ listed event)
-  stands_paged pages event none waits unset follows left =
+      list_any sets_mark (listed event) ≡ false → HearsFollowed t followed p.sync.mark heard →
+      listed event ++ followed_events_left t p.sync.mark heard followed
+      ≡ followed_events_left t p.sync.mark heard p.followed →
+      Stands t (record p { followed = followed }) heard (given ++ listed event)
+  stands_followed followed event none waits unset follows left =
       let quiet = sync_given none waits in
-      let others = paging_events_left t p.sync.mark heard pages.receiver in
+      let others = followed_events_left t p.sync.mark heard followed in
       record {
         count_is = st.count_is;
         check_is = st.check_is;
         ring = st.ring;
         sync = st.sync;
-        paging = follows;
+        followed = follows;
         noted = st.noted ∙ sym (list_any-append sets_mark given (listed event)
             ∙ rw unset (or-false (list_any sets_mark given)));
         told = rw quiet (append_assoc given (listed event) others
@@ -298,6 +307,6 @@ pub marked_all : (t : Tuning) (p : Parts) (heard : List Sample) →
     mark t heard (length heard) ≡ p.sync.mark
 marked_all t p heard st waits =
     let left = sync_events_left t heard p.sync.received.clock.next in
-    let pages = paging_events_left t p.sync.mark heard p.paging.receiver in
+    let others = followed_events_left t p.sync.mark heard p.followed in
     sync.marked_all t p.sync heard st.sync
-    (first_empty left pages (append_none (events t heard) (left ++ pages) st.told)) waits
+    (first_empty left others (append_none (events t heard) (left ++ others) st.told)) waits

@@ -210,12 +210,13 @@ module _ (t : Tuning) (heard : List Sample) (low have : ℕ)
       elim (cases_lt next have) [
         | inl less ↦
             elim (cases_lt (next + 1) have) [
-              | inl a ↦ inl (record { ended = less; known = inl a })
+              | inl a ↦ inl (record { ended = less; known = λ w. inl a })
               | inr b ↦
                   elim (cases_lt t.count (stream_end (sync_stream t) have)) [
-                    | inl over ↦ inl (record { ended = less; known = inr over })
+                    | inl over ↦ inl (record { ended = less; known = λ w. inr over })
                     | inr fits ↦
-                        inr (λ d. elim d.known [ inl a ↦ omega arith | inr over ↦ omega arith ])
+                        inr (λ d.
+                        elim (d.known refl) [ inl a ↦ omega arith | inr over ↦ omega arith ])
                   ]
             ]
         | inr more ↦ inr (λ d. omega (arith, d.ended))

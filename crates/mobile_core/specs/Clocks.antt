@@ -1,5 +1,6 @@
 -- The clock of a channel's frames, and what it stands for.
-use Rattle.std.specs.Prelude.{◌≡◌, ◌⊎◌, ℕ, ◌+◌, ◌-◌, ◌*◌, ◌<◌, if◌then◌else◌, nat_lt, List}
+use Rattle.std.specs.Prelude.{◌≡◌, ◌⊎◌, ℕ, ◌+◌, ◌-◌, ◌*◌, ◌<◌, if◌then◌else◌, nat_lt, Bool, true}
+use Rattle.std.specs.Prelude.{List}
 use Rattle.rake_finger.specs.Soft.{frame_chips}
 use Rattle.rake_finger.specs.declared.finger.Finger.{Finger}
 use Rattle.rake_finger.specs.declared.form.Form.{Form}
@@ -15,9 +16,10 @@ abbrev pub first_frame : List Finger → ℕ → ℕ
 first_frame fingers first = if all_begun first fingers then 0 else 1
 
 -- no frame has come yet, and the next is this one
-abbrev pub clock_from : List Finger → Form → ℕ → ℕ → FrameClock
-clock_from fingers form first frame = record {
+abbrev pub clock_from : List Finger → Form → Bool → ℕ → ℕ → FrameClock
+clock_from fingers form waits first frame = record {
   form = form;
+  waits = waits;
   low = frame;
   next = frame;
   have = frame;
@@ -37,9 +39,11 @@ frame_come c = record c {
 abbrev pub frame_heard : FrameClock → FrameClock
 frame_heard c = record c { next = c.next + 1 }
 
--- whether the next frame is known: the frame behind it has come, or isn't in the file
+-- whether the next frame is known: it has come, and where it waits the frame behind it has come, or
+-- isn't in the file
 abbrev pub IsDueAt : ℕ → FrameClock → Type 0
-IsDueAt count c = (c.next < c.have) × ((c.next + 1 < c.have) ⊎ (count < c.end))
+IsDueAt count c =
+    (c.next < c.have) × (c.waits ≡ true → (c.next + 1 < c.have) ⊎ (count < c.end))
 
 -- the first frame of the next one's span: the frame before it, where that is in the file
 abbrev pub span_from : FrameClock → ℕ
@@ -50,5 +54,6 @@ pub record IsAt (count : ℕ) (s : Stream) (c : FrameClock) (taken : ℕ) : Type
   pub timed : IsTimed count s c.low
   pub reached : IsReached count s c.low c.next c.have taken
   pub form_is : c.form ≡ s.form
+  pub waits_is : c.waits ≡ s.waits
   pub start_is : c.start ≡ frame_start s c.have
   pub end_is : c.end ≡ stream_end s c.have

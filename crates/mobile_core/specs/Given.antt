@@ -1,7 +1,7 @@
 -- Events as they are given.
 use Rattle.std.specs.Prelude.{ℕ, List, [], ◌∷◌, Option, Some, None}
 use Rattle.mobile_core.specs.declared.event.Event.{Event}
-use Rattle.mobile_core.specs.declared.event.Event.TheVariants.{Pilot, Sync, Paging}
+use Rattle.mobile_core.specs.declared.event.Event.TheVariants.{Pilot, Sync, Paging, Frame}
 
 -- one or none, as a list
 abbrev pub listed : Option Event → List Event
@@ -14,3 +14,4 @@ abbrev pub at_of : Event → ℕ
 at_of (Pilot phase energy) = 0
 at_of (Sync at' capsule message) = at'
 at_of (Paging at' capsule message) = at'
+at_of (Frame at' rate good bits commands) = at'

@@ -18,6 +18,11 @@ pub mod PagingStreams
 pub mod PagingEvents
 pub mod PagingReceiving
 pub mod PagingMonitoring
+pub mod TrafficStreams
+pub mod TrafficEvents
+pub mod TrafficReceiving
+pub mod TrafficMonitoring
+pub mod FollowedChannels
 pub mod SoundHandset
 pub mod Standing
 mod Worked

@@ -1,5 +1,5 @@
 -- The frames of a paging channel, from the mark on (TIA/EIA-95-B, 7.1.3.4 and 7.7.2).
-use Rattle.std.specs.Prelude.{ℕ, ◌+◌, ◌*◌, ◌/◌, ◌==◌, if◌then◌else◌}
+use Rattle.std.specs.Prelude.{ℕ, ◌+◌, ◌*◌, ◌/◌, ◌==◌, true, if◌then◌else◌}
 use Rattle.frame_decoder.specs.Spans.{paging_channel}
 use Rattle.long_code.specs.LongCode.{after, paging_mask}
 use Rattle.rake_finger.specs.declared.form.Form.TheVariants.{Data}
@@ -23,6 +23,7 @@ paging_stream t channel m = record {
   fingers = fingers_of channel t.phase t.deltas;
   first = m.sample;
   scrambling = λ k. scrambling (after m.lc (24576 * k)) (paging_mask channel m.pn);
+  waits = true;
 }
 
 -- more frames than end within so many samples

@@ -1,4 +1,4 @@
--- How far a handset has come with a continued channel.
+-- How far a handset has come with the frames of a channel.
 use Rattle.std.specs.Prelude.{◌≡◌, ◌⊎◌, ℕ, ◌+◌, ◌<◌, ◌≤◌, true}
 use Rattle.mobile_core.specs.Streams.{Stream, is_in_file, known_at}
 use Rattle.mobile_core.specs.Timing.{stream_end}
@@ -13,10 +13,11 @@ pub record IsReached (count : ℕ) (s : Stream) (low next have n : ℕ) : Type 0
   pub within : n ≤ count
   pub ended : (k : ℕ) → low ≤ k → k < have → stream_end s k ≤ n
   pub behind : n ≤ stream_end s have
-  pub begun : next ≡ have → (have ≡ low) ⊎ (count < stream_end s have)
+  pub begun : s.waits ≡ true → next ≡ have → (have ≡ low) ⊎ (count < stream_end s have)
   pub late : is_in_file count s next ≡ true → n ≤ known_at count s next
 
--- whether frame `next` is known: the frame behind it has ended, or isn't in the file
+-- whether frame `next` is known: it has ended, and where it waits the frame behind it has ended, or
+-- isn't in the file
 pub record IsDue (count : ℕ) (s : Stream) (next have : ℕ) : Type 0 where
   pub ended : next < have
-  pub known : (next + 1 < have) ⊎ (count < stream_end s have)
+  pub known : s.waits ≡ true → (next + 1 < have) ⊎ (count < stream_end s have)

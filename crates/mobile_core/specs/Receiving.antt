@@ -1,5 +1,5 @@
 -- What a continued channel stands for as it is received.
-use Rattle.std.specs.Prelude.{◌≡◌, ℕ, ◌+◌, ◌-◌, ◌≤◌, List, length}
+use Rattle.std.specs.Prelude.{◌≡◌, ℕ, ◌+◌, ◌-◌, ◌≤◌, true, List, length}
 use Rattle.std.specs.List.{flat_map}
 use Rattle.chip_core.specs.Bits.{places}
 use Rattle.chip_core.specs.declared.sample.Sample.{Sample}
@@ -12,6 +12,7 @@ use Rattle.mobile_core.specs.declared.continued.Continued.{Continued}
 -- The stream's fingers have taken these samples of a file: the clock is there, and the soft values
 -- of the last frames, up to three, are those of the stream.
 pub record Receives (count : ℕ) (s : Stream) (c : Continued) (heard : List Sample) : Type 0 where
+  pub waits : s.waits ≡ true
   pub clocked : IsAt count s c.clock (length heard)
   pub fingers_are : c.fingers ≡ s.fingers
   pub softs_are : (m : ℕ) → m ≤ 3 → c.clock.low + m ≤ c.clock.have →

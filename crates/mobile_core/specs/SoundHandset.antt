@@ -1,19 +1,19 @@
 -- What always holds of a handset.
 use Rattle.std.specs.Prelude.{◌≡◌, ℕ, ◌<◌, ◌≤◌}
 use Rattle.rake_finger.specs.Held.{Held}
-use Rattle.mobile_core.specs.PagingMonitoring.{IsSoundMonitor, WaitsFrom}
+use Rattle.mobile_core.specs.FollowedChannels.{IsSoundFollowed, WaitFrom}
 use Rattle.mobile_core.specs.Sound.{IsSoundSync}
-use Rattle.mobile_core.specs.declared.paging_monitor.PagingMonitor.{PagingMonitor}
+use Rattle.mobile_core.specs.declared.followed.Followed.{Followed}
 use Rattle.mobile_core.specs.declared.sync_receiver.SyncReceiver.{SyncReceiver}
 
 -- the ring holds two frames, the decoder takes three, and no frame that has ended waits
 pub record IsSound (count : ℕ) (ring : Held) (decoder : ℕ) (sync : SyncReceiver)
-    (paging : PagingMonitor) : Type 0 where
+    (followed : Followed) : Type 0 where
   pub few : count ≤ 67108864
   pub within : ring.taken ≤ count
   pub room : ring.room ≡ 65536
   pub decodes : decoder ≡ 576
   pub hears : IsSoundSync sync
   pub waits : ring.taken < sync.received.clock.end
-  pub follows : IsSoundMonitor paging
-  pub pages_wait : WaitsFrom ring.taken paging.receiver
+  pub follows : IsSoundFollowed followed
+  pub others_wait : WaitFrom ring.taken followed

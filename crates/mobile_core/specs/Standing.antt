@@ -10,14 +10,14 @@ use Rattle.mobile_core.specs.Events.{events}
 use Rattle.mobile_core.specs.Given.{listed, at_of}
 use Rattle.mobile_core.specs.Left.{sync_events_left}
 use Rattle.mobile_core.specs.Marks.{sets_mark}
-use Rattle.mobile_core.specs.PagingMonitoring.{HearsPages, IsReceiverDue, due_by, heard_by}
-use Rattle.mobile_core.specs.PagingMonitoring.{paging_events_left}
+use Rattle.mobile_core.specs.FollowedChannels.{HearsFollowed, IsFollowedDue, followed_due}
+use Rattle.mobile_core.specs.FollowedChannels.{followed_events_left, followed_heard}
 use Rattle.mobile_core.specs.SyncReceiving.{HearsSync}
 use Rattle.mobile_core.specs.Tuning.{Tuning}
 use Rattle.mobile_core.specs.declared.event.Event.{Event}
 use Rattle.mobile_core.specs.declared.mobile.Mobile.{Mobile}
 use Rattle.mobile_core.specs.declared.mobile.Step.{Step}
-use Rattle.mobile_core.specs.declared.paging_monitor.PagingMonitor.{PagingMonitor}
+use Rattle.mobile_core.specs.declared.followed.Followed.{Followed}
 use Rattle.mobile_core.specs.declared.sync_receiver.SyncReceiver.{SyncReceiver}
 
 -- what a handset carries from step to step
@@ -26,13 +26,13 @@ pub record Parts : Type 0 where
   pub check : CheckForm
   pub ring : Held
   pub sync : SyncReceiver
-  pub paging : PagingMonitor
+  pub followed : Followed
 
 -- the events of these samples' end that are still to be given
 abbrev pub events_left : Tuning → Parts → List Sample → List Event
 events_left t p heard =
     sync_events_left t heard p.sync.received.clock.next
-    ++ paging_events_left t p.sync.mark heard p.paging.receiver
+    ++ followed_events_left t p.sync.mark heard p.followed
 
 -- The handset has taken these samples of a file, and given these events.
 pub record Stands (t : Tuning) (p : Parts) (heard : List Sample) (given : List Event) : Type 0 where
@@ -40,7 +40,7 @@ pub record Stands (t : Tuning) (p : Parts) (heard : List Sample) (given : List E
   pub check_is : p.check ≡ t.check30
   pub ring : HoldsLast p.ring heard
   pub sync : HearsSync t p.sync heard
-  pub paging : HearsPages t p.paging p.sync.mark heard
+  pub followed : HearsFollowed t p.followed p.sync.mark heard
   pub noted : is_some p.sync.mark ≡ list_any sets_mark given
   pub told : given ++ events_left t p heard ≡ events t heard
 
@@ -50,7 +50,7 @@ parts m = record {
   check = m.check;
   ring = m.ring;
   sync = m.sync;
-  paging = m.paging;
+  followed = m.followed;
 }
 
 abbrev pub StandsFor : Tuning → Mobile → List Sample → List Event → Type 0
@@ -60,14 +60,14 @@ StandsFor t mobile heard given = Stands t (parts mobile) heard given
 abbrev pub IsDueFor : Mobile → Type 0
 IsDueFor mobile =
     IsDueAt mobile.count mobile.sync.received.clock
-    ⊎ IsReceiverDue mobile.count mobile.paging.receiver
+    ⊎ IsFollowedDue mobile.count mobile.followed
 
--- how many frames of the sync channel, and bits of the paging channel, have come that haven't been
--- heard
+-- how many frames of the sync channel have come that haven't been heard, and how much of the
+-- channels behind the mark
 abbrev pub due_parts : Mobile → ℕ
 due_parts mobile =
     (mobile.sync.received.clock.have - mobile.sync.received.clock.next)
-    + due_by mobile.paging.receiver
+    + followed_due mobile.followed
 
 -- how many samples of the file are left
 abbrev pub has_room : Mobile → ℕ
@@ -76,7 +76,7 @@ has_room mobile = mobile.count - mobile.ring.taken
 -- a bound on the events that are still to be given
 abbrev pub steps_left : Mobile → ℕ
 steps_left mobile =
-    2 ^ 63 - (mobile.sync.received.clock.next + heard_by mobile.paging.receiver)
+    2 ^ 63 - (mobile.sync.received.clock.next + followed_heard mobile.followed)
 
 -- of how many samples the last are kept
 abbrev pub ring_room : Mobile → ℕ

@@ -29,13 +29,15 @@ is_within n fingers form u =
     int_le f.delta (pos u) && int_le ((pos u -ℤ f.delta) +ℤ pos (frame_chips form)) (pos n))
     fingers
 
--- A sync or paging channel, whose frames follow one another from reference sample `first` on.
+-- A channel whose frames follow one another from reference sample `first` on. Those of a sync or a
+-- paging channel wait: each is decoded with the frame behind it.
 pub record Stream : Type 0 where
   pub channel : Channel
   pub form : Form
   pub fingers : List Finger
   pub first : ℕ
   pub scrambling : ℕ → List Bool  -- of a frame: a bit a symbol, or none where nothing is scrambled
+  pub waits : Bool
 
 abbrev pub frame_start : Stream → ℕ → ℕ
 frame_start s k = s.first + frame_chips s.form * k
@@ -53,10 +55,12 @@ span_first count s (suc k) = if is_in_file count s k then k else suc k
 abbrev pub span_frames : ℕ → Stream → ℕ → ℕ
 span_frames count s k = (if is_in_file count s (k + 1) then k + 2 else k + 1) - span_first count s k
 
--- the number of samples at which frame k is known: the end of its span
+-- the number of samples at which frame k is known: the end of its span, or its own where it doesn't
+-- wait
 abbrev pub known_at : ℕ → Stream → ℕ → ℕ
 known_at count s k =
-    frame_end s.fingers s.form (frame_start s (if is_in_file count s (k + 1) then k + 1 else k))
+    frame_end s.fingers s.form
+    (frame_start s (if s.waits && is_in_file count s (k + 1) then k + 1 else k))
 
 abbrev pub frame_softs : List Sample → Stream → ℕ → List ℤ
 frame_softs samples s k =

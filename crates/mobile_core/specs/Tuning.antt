@@ -1,6 +1,6 @@
 -- What a handset is tuned to.
-use Rattle.std.specs.Prelude.{ℕ, ◌+◌, ◌-◌, ◌/◌, ◌%◌, List, [], map, take, ℤ, pos, ◌+ℤ◌}
-use Rattle.std.specs.Prelude.{unsigned_abs}
+use Rattle.std.specs.Prelude.{ℕ, ◌+◌, ◌-◌, ◌/◌, ◌%◌, true, List, [], map, take, ℤ, pos, ◌+ℤ◌}
+use Rattle.std.specs.Prelude.{unsigned_abs, Option}
 use Rattle.std.specs.Int.{int_rem_euclid}
 use Rattle.chip_core.specs.declared.check_form.CheckForm.{CheckForm}
 use Rattle.frame_decoder.specs.Spans.{sync_channel}
@@ -10,15 +10,18 @@ use Rattle.rake_finger.specs.declared.finger.Finger.{Finger}
 use Rattle.rake_finger.specs.declared.form.Form.TheVariants.{Sync}
 use Rattle.mobile_core.specs.Streams.{Stream}
 use Rattle.mobile_core.specs.declared.settings.Settings.{Settings}
+use Rattle.mobile_core.specs.declared.settings.Traffic.{Traffic}
 
 -- the samples in the file, the best phase, how much earlier than there each finger's samples come,
--- how the checks of 30 bits are sent, and the number of the paging channel
+-- how the checks of 30 bits are sent, the number of the paging channel, and the traffic channel,
+-- where one is followed
 pub record Tuning : Type 0 where
   pub count : ℕ
   pub phase : ℕ
   pub deltas : List ℤ
   pub check30 : CheckForm
   pub paging : ℕ
+  pub traffic : Option Traffic
 
 -- of these settings, where the search found this phase and these deltas
 abbrev pub tuning_by : Settings → Best → Near → Tuning
@@ -29,6 +32,7 @@ tuning_by settings best near =
       deltas = take near.count near.deltas;
       check30 = settings.check30;
       paging = settings.paging;
+      traffic = settings.traffic;
     }
 
 abbrev pub modulo_code : ℤ → ℕ
@@ -51,6 +55,7 @@ sync_stream t = record {
   fingers = fingers_of 32 t.phase t.deltas;
   first = (32768 - t.phase) % 32768;
   scrambling = λ k. [];
+  waits = true;
 }
 
 -- more frames than end within so many samples

@@ -9,8 +9,11 @@ use Rattle.mobile_core.specs.PagingEvents.{pages_behind}
 use Rattle.mobile_core.specs.PagingStreams.{paging_stream}
 use Rattle.mobile_core.specs.Scrambled.{unscrambled}
 use Rattle.mobile_core.specs.Streams.{is_in_file, known_at, span_frames}
+use Rattle.mobile_core.specs.TrafficEvents.{frames_behind}
+use Rattle.mobile_core.specs.TrafficStreams.{traffic_stream}
 use Rattle.mobile_core.specs.Tuning.{Tuning, sync_stream, modulo_code}
 use Rattle.mobile_core.specs.declared.mark.Mark.{Mark}
+use Rattle.mobile_core.specs.declared.settings.Traffic.{Traffic}
 
 tuned : ℕ → List ℤ → Tuning
 tuned phase deltas = record {
@@ -19,6 +22,7 @@ tuned phase deltas = record {
   deltas = deltas;
   check30 = Plain;
   paging = 1;
+  traffic = None;
 }
 
 -- a message of seven frames that begins with frame 0 is known when frame 7 has ended
@@ -132,3 +136,29 @@ half_rate = refl
 no_rate : pages_behind (tuned 64 (pos 0 ∷ [])) 1 (Some (paged 2)) [] 0 ≡ []
 unfolding tuned paged
 no_rate = refl
+
+-- a traffic channel whose frames begin three times 1,536 chips behind the mark
+assigned : Traffic
+assigned = record { esn = 0xabcd; row = 10; offset = 3 }
+
+-- its first frame is known when it ends, with any PRAT
+first_frame_heard : known_at 1228800
+    (traffic_stream (tuned 64 (pos 0 ∷ [])) assigned (paged 2)) 0 ≡ 717312
+unfolding tuned paged assigned
+first_frame_heard = refl
+
+-- 21 of its frames lie in the file
+last_frame_heard : known_at 1228800
+    (traffic_stream (tuned 64 (pos 0 ∷ [])) assigned (paged 0)) 20 ≡ 1208832
+unfolding tuned paged assigned
+last_frame_heard = refl
+
+no_frame : is_in_file 1228800 (traffic_stream (tuned 64 (pos 0 ∷ [])) assigned (paged 0)) 21
+    ≡ false
+unfolding tuned paged assigned
+no_frame = refl
+
+-- none is heard where no channel is assigned
+unassigned : frames_behind (tuned 64 (pos 0 ∷ [])) None (Some (paged 0)) [] 0 ≡ []
+unfolding tuned paged
+unassigned = refl

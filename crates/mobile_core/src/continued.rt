@@ -43,11 +43,12 @@ impl Continued {
         requires rows { have_rows fingers ≡ true }
         requires few { length fingers ≤ 3 }
         requires first { first < 2 ^ 29 }
-        ensures clock { result.clock ≡ clock_from fingers form first (first_frame fingers first) }
+        ensures clock { result.clock
+            ≡ clock_from fingers form true first (first_frame fingers first) }
         ensures fingers { result.fingers ≡ fingers }
         ensures sound { IsSoundChannel result }
     {
-        let clock = FrameClock::new(&fingers, form, first);
+        let clock = FrameClock::new(&fingers, form, true, first);
         Continued {
             clock,
             fingers,

@@ -2,6 +2,7 @@
 
 use chip_core::{Bits, Phase};
 use paging_message::PagingMessage;
+use symbol_path::Rate;
 use sync_message::SyncMessage;
 
 /// Something that a handset found or heard in the samples.
@@ -31,5 +32,18 @@ pub enum Event {
         capsule: Bits,
         /// The message that the capsule spells.
         message: PagingMessage,
+    },
+    /// A frame of the traffic channel was heard (TIA/EIA-95-B, 7.1.3.5).
+    Frame {
+        /// How many samples had been taken when the frame's last one had been.
+        at: u64,
+        /// The rate at which it was sent, and 9,600 bits a second where it isn't good.
+        rate: Rate,
+        /// Whether its symbols agree with the soft values better than not.
+        good: bool,
+        /// The information bits.
+        bits: Bits,
+        /// Its 16 power control bits: 1 where one tells the handset to lower its power.
+        commands: [bool; 16],
     },
 }

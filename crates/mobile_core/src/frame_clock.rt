@@ -3,11 +3,13 @@
 use crate::fingers::{are_begun, frame_chips, frames_end};
 use rake_finger::{Fingers, Form};
 
-/// Where the frames of a continued channel lie in a file, and how far they have come.
+/// Where the frames of a channel lie in a file, and how far they have come.
 #[derive(Clone, Copy)]
 pub(crate) struct FrameClock {
     /// How the channel's frames are cut.
     form: Form,
+    /// Whether a frame waits for the one behind it, with which it is decoded.
+    waits: bool,
     /// The number of the first frame in the file.
     low: u64,
     /// The number of the frame that is heard next.
@@ -40,30 +42,32 @@ impl FrameClock {
     /// The clock of a channel whose frame 0 begins at a reference sample, before any has come.
     ///
     /// The first frame in the file is the first that begins in it on each finger.
-    pub(crate) fn new(fingers: &Fingers, form: Form, first: u64) -> FrameClock
+    pub(crate) fn new(fingers: &Fingers, form: Form, waits: bool, first: u64) -> FrameClock
         requires near { AreNear fingers.now }
-        requires first { first < 2 ^ 29 }
-        ensures value { result ≡ clock_from fingers.now form first (first_frame fingers.now first) }
+        requires first { first < 2 ^ 29 + 2 ^ 15 }
+        ensures value { result
+            ≡ clock_from fingers.now form waits first (first_frame fingers.now first) }
         ensures begun { AreBegun result.start fingers.now }
         ensures sound { IsSoundClock result }
     {
         if are_begun(fingers, first) {
-            return FrameClock::from_frame(fingers, form, first, 0);
+            return FrameClock::from_frame(fingers, form, waits, first, 0);
         }
-        FrameClock::from_frame(fingers, form, first, 1)
+        FrameClock::from_frame(fingers, form, waits, first, 1)
     }
 
     /// The clock from frame 0 or 1 on.
-    fn from_frame(fingers: &Fingers, form: Form, first: u64, frame: u64) -> FrameClock
+    fn from_frame(fingers: &Fingers, form: Form, waits: bool, first: u64, frame: u64) -> FrameClock
         requires near { AreNear fingers.now }
-        requires first { first < 2 ^ 29 }
+        requires first { first < 2 ^ 29 + 2 ^ 15 }
         requires frame { frame ≤ 1 }
-        ensures value { result ≡ clock_from fingers.now form first frame }
+        ensures value { result ≡ clock_from fingers.now form waits first frame }
         ensures sound { IsSoundClock result }
     {
         let start = first + frame_chips(form) * frame;
         FrameClock {
             form,
+            waits,
             low: frame,
             next: frame,
             have: frame,
@@ -107,13 +111,13 @@ impl FrameClock {
         self.next
     }
 
-    /// Whether that frame is known, in a file of so many samples: the frame behind it has come, or
-    /// isn't in the file.
+    /// Whether that frame is known, in a file of so many samples: it has come, and where it waits
+    /// the frame behind it has come, or isn't in the file.
     pub(crate) fn is_due(&self, count: u64) -> bool
         requires { IsSoundClock self.now }
         ensures { IsTrue result ↔ IsDueAt count self.now }
     {
-        self.next < self.have && (self.next + 1 < self.have || count < self.end)
+        self.next < self.have && (!self.waits || self.next + 1 < self.have || count < self.end)
     }
 
     /// One frame more has come.

@@ -1,4 +1,4 @@
-//! What capsules of the sync channel and of a paging channel say.
+//! What capsules of the sync channel and of a paging channel say, and frames of a traffic channel.
 
 ghost use Rattle.std.specs.Prelude.{◌≡◌, ◌<◌, ◌≤◌, ◌^◌, [], ◌∷◌, Some, false};
 ghost use Rattle.std.specs.Option.{ForSome, option_or};
@@ -7,6 +7,7 @@ ghost use Rattle.mobile_core.specs.Marks.{first_of, frames_with, marks_of, sets_
 ghost use Rattle.mobile_core.specs.PagingEvents.{page_event, page_in};
 ghost use Rattle.mobile_core.specs.Sound.{IsSoundMark};
 ghost use Rattle.mobile_core.specs.SyncEvents.{events_of, heard_in};
+ghost use Rattle.mobile_core.specs.TrafficEvents.{frame_event};
 
 use crate::event::Event;
 use crate::mark::Mark;
@@ -14,6 +15,7 @@ use crate::spelled_message::SpelledMessage;
 use crate::spelled_page::SpelledPage;
 use chip_core::air::{OFFSET_CHIPS, SUPERFRAME_BITS, SUPERFRAME_CHIPS};
 use chip_core::{Bits, CheckForm};
+use frame_decoder::Decoded;
 use paging_message::PagingMessage;
 use sync_message::SyncMessage;
 
@@ -111,5 +113,21 @@ pub(crate) fn page_event(page: &SpelledPage, at: u64) -> Event
         at,
         capsule: page.capsule,
         message: page.message,
+    }
+}
+
+/// The event of a frame of the traffic channel, with its power control bits, when so many samples
+/// have been taken.
+pub(crate) fn frame_event(frame: &Decoded, commands: [bool; 16], at: u64) -> Event
+    ensures value { result ≡ frame_event at frame.now commands }
+    ensures ends { at_of result ≡ at }
+    ensures unset { sets_mark result ≡ false }
+{
+    Event::Frame {
+        at,
+        rate: frame.rate,
+        good: frame.good,
+        bits: frame.bits,
+        commands,
     }
 }

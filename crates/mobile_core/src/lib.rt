@@ -4,6 +4,7 @@
 mod continued;
 mod event;
 mod fingers;
+mod followed;
 mod frame_clock;
 mod hearing;
 pub mod laws;
@@ -17,10 +18,12 @@ mod softs;
 mod spelled_message;
 mod spelled_page;
 mod sync_receiver;
+mod traffic_monitor;
+mod traffic_receiver;
 
 pub use event::Event;
 pub use mobile::{Mobile, Step};
-pub use settings::Settings;
+pub use settings::{Settings, Traffic};
 
 #[cfg(test)]
 mod tests;

@@ -3,7 +3,7 @@
 ghost use Rattle.mobile_core.specs.SoundHandset.{IsSound};
 
 use crate::event::Event;
-use crate::paging_monitor::PagingMonitor;
+use crate::followed::Followed;
 use crate::settings::Settings;
 use crate::sync_receiver::SyncReceiver;
 use chip_core::{CheckForm, OutOfMemory, Sample};
@@ -35,8 +35,9 @@ pub struct Step {
 /// events, each when its last sample has been taken.
 ///
 /// It decodes each frame of the sync channel together with the frame before it and the frame behind
-/// it, where these lie in the file, and so knows a frame one frame later (TIA/EIA-95-B, 7.7.1). Where
-/// a message sets a mark it follows one paging channel from there on, in the same way (7.7.2).
+/// it, where these lie in the file, and so knows a frame one frame later (TIA/EIA-95-B, 7.7.1).
+/// Where a message sets a mark it follows one paging channel from there on, in the same way (7.7.2),
+/// and a traffic channel where one is assigned, whose frames are known when they end (7.1.3.5).
 #[derive(Drop)]
 pub struct Mobile {
     /// How many samples the file has.
@@ -48,8 +49,8 @@ pub struct Mobile {
     codes: Codes,
     decoder: Decoder,
     sync: SyncReceiver,
-    paging: PagingMonitor,
-    ghost sound: { IsSound count ring decoder sync paging },
+    followed: Followed,
+    ghost sound: { IsSound count ring decoder sync followed },
 }
 
 impl Mobile {
@@ -60,7 +61,8 @@ impl Mobile {
     ghost use Rattle.chip_core.specs.declared.sample.Sample.{Sample};
     ghost use Rattle.mobile_core.specs.Events.{events};
     ghost use Rattle.mobile_core.specs.Marks.{mark, sets_mark};
-    ghost use Rattle.mobile_core.specs.PagingMonitoring.{IsReceiverDue, WaitsFrom};
+    ghost use Rattle.mobile_core.specs.FollowedChannels.{IsFollowedDue};
+    ghost use Rattle.mobile_core.specs.TrafficMonitoring.{IsSoundAssignment};
     ghost use Rattle.mobile_core.specs.Clocks.{IsDueAt};
     ghost use Rattle.mobile_core.specs.Standing.{IsDueFor, IsStep, StandsFor, Steps, due_parts};
     ghost use Rattle.mobile_core.specs.Standing.{has_room, ring_room};
@@ -85,6 +87,7 @@ impl Mobile {
         requires most { settings.fingers ≤ 3 }
         requires first_channel { 1 ≤ settings.paging }
         requires last_channel { settings.paging ≤ 7 }
+        requires assigned { ForSome settings.traffic IsSoundAssignment }
         requires count { settings.count ≤ 67108864 }
         requires near { near.count ≡ settings.fingers }
         requires first { slice_get near.deltas 0 ≡ Some (pos 0) }
@@ -100,7 +103,7 @@ impl Mobile {
             codes,
             decoder: Decoder::new(alloc, MOST_BITS)?,
             sync: SyncReceiver::new(best.phase, &near),
-            paging: PagingMonitor::new(settings.paging, best.phase, near),
+            followed: Followed::new(&settings, best.phase, near),
         })
     }
 
@@ -119,11 +122,11 @@ impl Mobile {
     fn is_due(&self) -> bool
         ensures { IsTrue result ↔ IsDueFor self.now }
     {
-        self.sync.is_due(self.count) || self.paging.is_due(self.count)
+        self.sync.is_due(self.count) || self.followed.is_due(self.count)
     }
 
-    /// Hears the frame of the sync channel that is due, and gives the event that it completes. Where
-    /// that sets a mark the paging channel is followed from there on.
+    /// Hears the frame of the sync channel that is due, and gives the event that it completes.
+    /// Where that sets a mark the other channels are followed from there on.
     fn hear_sync(&mut self) -> Option<Event>
         requires { IsDueAt self.old.count self.old.sync.received.clock }
         ensures steps { Steps self.old self.new [] (record { taken = 0; event = result }) }
@@ -134,29 +137,30 @@ impl Mobile {
             check,
             decoder,
             sync,
-            paging,
+            followed,
             ..
         } = self;
         let event = sync.hear_next(decoder, *check, at);
-        paging.follow(sync.mark(), at);
+        followed.follow(sync.mark(), at);
         event
     }
 
-    /// Hears a bit of the paging channel's frame that is due, and gives the event that it completes.
-    fn hear_page(&mut self) -> Option<Event>
+    /// Hears what is due of the channels behind the mark, and gives the event that it completes.
+    fn hear_followed(&mut self) -> Option<Event>
         requires silent { ¬ IsDueAt self.old.count self.old.sync.received.clock }
-        requires due { IsReceiverDue self.old.count self.old.paging.receiver }
+        requires due { IsFollowedDue self.old.count self.old.followed }
         ensures steps { Steps self.old self.new [] (record { taken = 0; event = result }) }
         ensures nearer { due_parts self.new < due_parts self.old }
     {
         let at = self.ring.taken();
         let Mobile {
+            count,
             check,
             decoder,
-            paging,
+            followed,
             ..
         } = self;
-        paging.hear_bit(decoder, *check, at)
+        followed.hear_next(decoder, *check, *count, at)
     }
 
     /// Hears what is due next, the sync channel first, and gives the event that it completes.
@@ -168,7 +172,7 @@ impl Mobile {
         if self.sync.is_due(self.count) {
             return self.hear_sync();
         }
-        self.hear_page()
+        self.hear_followed()
     }
 
     /// Hears what is due, up to the first event.
@@ -187,10 +191,13 @@ impl Mobile {
     /// How many samples have been taken when the next frame ends, of all receivers.
     fn least_end(&self) -> u64
         ensures sync { result ≤ self.now.sync.received.clock.end }
-        ensures paging { ForSome self.now.paging.receiver (λ r. result ≤ r.received.clock.end) }
+        ensures paging { ForSome self.now.followed.paging.receiver (λ r.
+            result ≤ r.received.clock.end) }
+        ensures traffic { ForSome self.now.followed.traffic.receiver (λ r.
+            result ≤ r.clock.end) }
         ensures waits { self.now.ring.taken < result }
     {
-        self.paging.end_before(self.sync.end())
+        self.followed.end_before(self.sync.end())
     }
 
     /// Takes samples up to the end of the next frame, or all.
@@ -212,11 +219,11 @@ impl Mobile {
             ring,
             codes,
             sync,
-            paging,
+            followed,
             ..
         } = self;
         sync.take_ended(ring, codes);
-        paging.take_ended(ring, codes);
+        followed.take_ended(ring, codes);
         count
     }
 

@@ -1,11 +1,16 @@
-//! The scrambling of a paging channel, frame by frame.
+//! The scrambling of a paging or a traffic channel, frame by frame.
 
 use crate::mark::Mark;
+use crate::settings::Traffic;
 use chip_core::air::{DATA_FRAME_CHIPS, DATA_SYMBOLS};
-use long_code::{State, paging_mask};
+use long_code::{State, paging_mask, traffic_mask};
 use symbol_path::scramble_bits;
 
-/// How the frames of a paging channel are scrambled: by the long code from each frame's first chip
+/// How many chips the frames of a traffic channel begin later for each step of its FRAME_OFFSET,
+/// 1.25 ms (TIA/EIA-95-B, 7.1.3.5.1).
+pub(crate) const FRAME_OFFSET_CHIPS: u64 = 1_536;
+
+/// How the frames of a channel are scrambled: by the long code from each frame's first chip
 /// on, under the channel's mask (TIA/EIA-95-B, 7.1.3.1.6).
 #[derive(Clone, Copy)]
 pub(crate) struct Scrambling {
@@ -17,8 +22,9 @@ pub(crate) struct Scrambling {
 
 impl Scrambling {
     ghost use Rattle.std.specs.Prelude.{◌≡◌, ◌<◌, ◌≤◌, ◌*◌, ◌^◌, length};
-    ghost use Rattle.long_code.specs.LongCode.{after, paging_mask};
+    ghost use Rattle.long_code.specs.LongCode.{after, paging_mask, traffic_mask};
     ghost use Rattle.mobile_core.specs.Sound.{IsSoundMark};
+    ghost use Rattle.mobile_core.specs.TrafficStreams.{frame_state};
     ghost use Rattle.symbol_path.specs.Scrambling.{scrambling};
 
     /// That of a paging channel, 1 to 7, whose frame 0 begins at the mark.
@@ -36,6 +42,31 @@ impl Scrambling {
         }
     }
 
+    /// That of a traffic channel, whose frame 0 begins at its offset behind the mark.
+    pub(crate) fn of_traffic(traffic: &Traffic, mark: &Mark) -> Scrambling
+        requires mark { IsSoundMark mark.now }
+        ensures state { result.state ≡ frame_state traffic.now mark.now 0 }
+        ensures mask { result.mask ≡ traffic_mask traffic.now.esn }
+        ensures below { result.mask < 2 ^ 42 }
+    {
+        let mut state = State::new(mark.lc).unwrap();
+        state.jump(FRAME_OFFSET_CHIPS * u64::from(traffic.offset));
+        Scrambling {
+            state,
+            mask: traffic_mask(traffic.esn),
+        }
+    }
+
+    /// The long code's state at a frame's first chip.
+    pub(crate) fn state_at(&self, frame: u64) -> State
+        requires { frame < 2 ^ 32 }
+        ensures { result ≡ after self.now.state (24576 * frame) }
+    {
+        let mut state = self.state;
+        state.jump(DATA_FRAME_CHIPS * frame);
+        state
+    }
+
     /// The scrambling bits of a frame, one for each of its symbols.
     pub(crate) fn frame_bits(&self, frame: u64) -> [bool; DATA_SYMBOLS]
         requires mask { self.now.mask < 2 ^ 42 }
@@ -43,10 +74,8 @@ impl Scrambling {
         ensures value { result ≡ scrambling (after self.now.state (24576 * frame)) self.now.mask }
         ensures count { length result ≡ 384 }
     {
-        let mut state = self.state;
-        state.jump(DATA_FRAME_CHIPS * frame);
         let mut bits = [false; DATA_SYMBOLS];
-        scramble_bits(&state, self.mask, &mut bits);
+        scramble_bits(&self.state_at(frame), self.mask, &mut bits);
         bits
     }
 }

@@ -3,14 +3,14 @@
 ghost use Rattle.std.specs.Prelude.{◌≡◌, ◌≤◌, IfOk};
 ghost use Rattle.mobile_core.specs.Standing.{has_room};
 
-use crate::{Mobile, Settings, Step};
+use crate::{Mobile, Settings, Step, Traffic};
 use chip_core::{CheckForm, OutOfMemory, Phase, Sample};
 use pilot_search::{Best, Near};
 use short_code::Codes;
 use std::alloc::Global;
 use std::test::Fail;
 
-/// A handset for a file of so many samples, with two fingers.
+/// A handset for a file of so many samples, with two fingers and a traffic channel.
 fn handset(alloc: Global, codes: Codes, count: u64) -> Result<Mobile, OutOfMemory>
     requires { count ≤ 67108864 }
     ensures { IfOk result (λ mobile. has_room mobile ≡ count) }
@@ -18,6 +18,11 @@ fn handset(alloc: Global, codes: Codes, count: u64) -> Result<Mobile, OutOfMemor
     let settings = Settings {
         fingers: 2,
         paging: 1,
+        traffic: Some(Traffic {
+            esn: 0xabcd,
+            row: 10,
+            offset: 3,
+        }),
         check30: CheckForm::Plain,
         check16: CheckForm::Plain,
         count,

@@ -3,8 +3,8 @@ use Rattle.std.proofs.Common.{append-nil}
 use Rattle.std.proofs.lemmas.List.{take_all}
 use Rattle.mobile_core.specs.Clocks.{IsDueAt}
 use Rattle.mobile_core.specs.Near.{AreNear}
-use Rattle.mobile_core.specs.PagingMonitoring.{IsReceiverDue}
-use Rattle.mobile_core.proofs.Stood.{due_here, page_due_here, stands_taken, stands_come}
+use Rattle.mobile_core.specs.FollowedChannels.{IsFollowedDue}
+use Rattle.mobile_core.proofs.Stood.{due_here, others_due_here, stands_taken, stands_come}
 use Rattle.mobile_core.proofs.mobile.Mobile.advance.Goals as goal
 
 pub returns-then-samples-left-clause-steps : goal.returns-then-samples-left-clause-steps
@@ -28,7 +28,10 @@ returns-then-samples-left-clause-steps c =
           rw (whole, append-nil given)
           (stands_taken st more c.push_all.new.self near (λ d. c.requires.not_due (inl d))
           (λ d. c.requires.not_due (inr d)) (omega arith) (omega (arith, least.sync))
-          (λ r e. omega (arith, least.paging r e)) holds);
+          (record {
+            paging = λ r e. omega (arith, least.paging r e);
+            traffic = λ r e. omega (arith, least.traffic r e);
+          }) holds);
     }
 
 pub returns-clause-steps : goal.returns-clause-steps
@@ -42,24 +45,27 @@ returns-clause-steps c =
     let least = c.least_end.ensures in
     let long : length more ≡ n = omega (arith, length-take n c.args.samples.now) in
     let sync = c.take_ended.ensures in
-    let paging = c.take_ended-2.ensures in
+    let others = c.take_ended-2.ensures in
     let none : ¬ IsDueAt m.count m.sync.received.clock = λ d. c.requires.not_due (inl d) in
-    let idle : ¬ IsReceiverDue m.count m.paging.receiver = λ d. c.requires.not_due (inr d) in
+    let idle : ¬ IsFollowedDue m.count m.followed = λ d. c.requires.not_due (inr d) in
     record {
       most = omega arith;
       room = omega arith;
-      fewer = omega (arith, sync.next, paging.same);
+      fewer = omega (arith, sync.next, others.same);
       ends = λ t heard given st. tt;
       stands = λ t heard given st.
           let taken = st.ring.taken in
           let holds = c.push_all-2.ensures.holds heard st.ring in
           let near = subst AreNear st.sync.receives.fingers_are m.sound.hears.channel.near in
           let on = stands_taken st more c.push_all-2.new.self near none idle (omega arith)
-          (omega (arith, least.sync)) (λ r e. omega (arith, least.paging r e)) holds in
+          (omega (arith, least.sync)) (record {
+            paging = λ r e. omega (arith, least.paging r e);
+            traffic = λ r e. omega (arith, least.traffic r e);
+          }) holds in
           let come = sync.stands t (heard ++ more) holds (due_here on none) on.sync in
           let mark = m.sync.mark in
           rw (append-nil given)
           (stands_come on c.take_ended.new.self c.take_ended-2.new.self come sync.next sync.mark
-          (paging.hears t mark (heard ++ more) holds (page_due_here on idle) on.paging)
-          (paging.left t mark (heard ++ more)));
+          (others.hears t mark (heard ++ more) holds (others_due_here on idle) on.followed)
+          (others.left t mark (heard ++ more)));
     }

@@ -1,8 +1,10 @@
 use Rattle.std.proofs.Common.{◌≡◌, ◌∙◌, ap, arith, length, subst, sym, append-nil}
 use Rattle.std.proofs.Common.{Option}
-use Rattle.mobile_core.specs.PagingMonitoring.{HearsPages, SetsMark, paging_events_left}
+use Rattle.mobile_core.specs.FollowedChannels.{HearsFollowed, followed_events_left}
+use Rattle.mobile_core.specs.PagingMonitoring.{SetsMark}
 use Rattle.mobile_core.specs.declared.frame_clock.FrameClock.{FrameClock}
 use Rattle.mobile_core.specs.declared.mark.Mark.{Mark}
+use Rattle.mobile_core.proofs.FramesFollowed.{frames_few}
 use Rattle.mobile_core.proofs.PagesFollowed.{heard_few}
 use Rattle.mobile_core.proofs.StepJoins.{ends_here, one_or_none}
 use Rattle.mobile_core.proofs.Stood.{heard_sets, stands_heard}
@@ -23,7 +25,8 @@ returns-clause-steps c =
         one_or_none c.hear_next-event.result,
         next_is,
         follow.further,
-        heard_few m.paging.receiver m.sound.follows.receives,
+        heard_few m.followed.paging.receiver m.sound.follows.paging.receives,
+        frames_few m.followed.traffic.receiver m.sound.follows.traffic.receives,
         clock.next_have,
         clock.have_end,
         clock.end_most,
@@ -45,14 +48,14 @@ returns-clause-steps c =
           let within = m.sound.within in
           let count = st.count_is in
           let follows = follow.hears t m.sync.mark heard here (omega (arith, within, at', count))
-          sets' st.paging in
+          sets' st.followed in
           let left = follow.left t m.sync.mark heard here (omega (arith, within, at', count)) sets'
-          st.paging in
+          st.followed in
           let set = c.mark.ensures in
-          let pages = c.follow.new.self in
+          let others = c.follow.new.self in
           rw (append-nil heard)
-          (stands_heard st after pages c.hear_next-event.result hears
-          (subst (λ (x : Option Mark). HearsPages t pages x heard) set follows)
-          (ap (λ (x : Option Mark). paging_events_left t x heard pages.receiver) (sym set)
+          (stands_heard st after others c.hear_next-event.result hears
+          (subst (λ (x : Option Mark). HearsFollowed t others x heard) set follows)
+          (ap (λ (x : Option Mark). followed_events_left t x heard others) (sym set)
           ∙ left));
     }

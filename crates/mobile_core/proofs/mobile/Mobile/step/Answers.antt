@@ -30,7 +30,10 @@ returns-then-taken-samples c =
             let waits = mobile.sound.waits in
             let none = c.hear_due.ensures.none c.in_default.is in
             let all = all_given now (λ d. none (inl d)) (λ d. none (inr d)) (omega arith)
-            (λ r e. let waits = mobile.sound.pages_wait r e in omega arith) in
+            (record {
+              paging = λ r e. let waits = mobile.sound.others_wait.paging r e in omega arith;
+              traffic = λ r e. let waits = mobile.sound.others_wait.traffic r e in omega arith;
+            }) in
             let whole : take taken samples ≡ samples = take_all taken samples (omega arith) in
             rw whole at all,
       );

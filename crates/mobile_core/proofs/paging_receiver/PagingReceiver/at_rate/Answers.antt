@@ -1,4 +1,5 @@
 use Rattle.std.proofs.Common.{◌≡◌, ◌∙◌, ◌≤◌, ◌+◌, ◌*◌, ap, subst, refl, arith, length}
+use Rattle.std.proofs.Common.{true}
 use Rattle.paging_message.specs.HalfFrames.{half_frame_body}
 use Rattle.rake_finger.specs.declared.form.Form.TheVariants.{Data}
 use Rattle.mobile_core.specs.Clocks.{clock_from, first_frame}
@@ -18,15 +19,15 @@ returns-clause-hears c = λ t heard phase deltas within early.
     c.reference_fingers-fingers.ensures.value ∙ rw (phase, deltas) refl in
     let near : AreNear s.fingers =
     subst AreNear fingers_are c.reference_fingers-fingers.ensures.near in
-    let clock_is : received.clock ≡ clock_from s.fingers Data m.sample
+    let clock_is : received.clock ≡ clock_from s.fingers Data true m.sample
     (first_frame s.fingers m.sample) =
     c.new.ensures.clock
-    ∙ ap (λ fs. clock_from fs Data m.sample (first_frame fs m.sample)) fingers_are in
+    ∙ ap (λ fs. clock_from fs Data true m.sample (first_frame fs m.sample)) fingers_are in
     let starts : received.clock.start ≡ m.sample + 24576 * first_frame s.fingers m.sample =
     ap (λ (k : FrameClock). k.start) clock_is in
     let ends = c.new.ensures.sound.clocked.start_end in
     let most : length heard ≤ received.clock.end = omega (arith, early, starts, ends) in
-    let receives = receives_later t.count s received near (c.new.ensures.fingers ∙ fingers_are)
+    let receives = receives_later t.count s received refl near (c.new.ensures.fingers ∙ fingers_are)
     c.new.ensures.sound.whole clock_is heard within most in
     let scrambling = c.of_channel.ensures in
     hears_none t c.args.channel m _ heard receives (rw clock_is refl) scrambling.state

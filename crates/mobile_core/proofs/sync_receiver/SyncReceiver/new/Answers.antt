@@ -1,5 +1,5 @@
 use Rattle.std.proofs.Common.{◌≡◌, ℕ, ◌+◌, ◌-◌, ◌*◌, ◌%◌, ◌∙◌, sym, ap, subst, refl}
-use Rattle.std.proofs.Common.{arith}
+use Rattle.std.proofs.Common.{true, arith}
 use Rattle.rake_finger.specs.Soft.{frame_chips}
 use Rattle.rake_finger.specs.declared.form.Form.TheVariants.{Sync}
 use Rattle.mobile_core.specs.Clocks.{clock_from, first_frame}
@@ -25,11 +25,11 @@ returns-clause-hears c = λ t phase deltas.
     let first_is : first ≡ s.first =
     ap (λ (n : ℕ). (32768 - n) % 32768) (c.from.ensures ∙ c.get.ensures.value ∙ sym phase) in
     let frame = first_frame s.fingers s.first in
-    let clock_is : received.clock ≡ clock_from s.fingers Sync s.first frame =
+    let clock_is : received.clock ≡ clock_from s.fingers Sync true s.first frame =
     c.new.ensures.clock
-    ∙ ap (λ fs. clock_from fs Sync first (first_frame fs first)) fingers_are
-    ∙ ap (λ n. clock_from s.fingers Sync n (first_frame s.fingers n)) first_is in
-    let receives = receives_new t.count s received near (c.new.ensures.fingers ∙ fingers_are)
+    ∙ ap (λ fs. clock_from fs Sync true first (first_frame fs first)) fingers_are
+    ∙ ap (λ n. clock_from s.fingers Sync true n (first_frame s.fingers n)) first_is in
+    let receives = receives_new t.count s received refl near (c.new.ensures.fingers ∙ fingers_are)
     c.new.ensures.sound.whole clock_is in
     hears_new t _ receives (rw clock_is refl) c.new-2.ensures refl refl
 

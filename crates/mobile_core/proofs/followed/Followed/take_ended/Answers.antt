@@ -1,0 +1,14 @@
+use Rattle.std.proofs.Common.{inl, inr, refl}
+use Rattle.mobile_core.proofs.followed.Followed.take_ended.Goals as goal
+
+pub returns-clause-hears : goal.returns-clause-hears
+returns-clause-hears c = λ t mark heard holds idle st. record {
+  paging = c.take_ended.ensures.hears t mark heard holds (λ d. idle (inl d)) st.paging;
+  traffic = c.take_ended-2.ensures.hears t mark heard holds (λ d. idle (inr d)) st.traffic;
+}
+
+pub returns-clause-left : goal.returns-clause-left
+returns-clause-left c = λ t mark heard.
+    let paging = c.take_ended.ensures.left t mark heard in
+    let traffic = c.take_ended-2.ensures.left t mark heard in
+    rw (paging, traffic) refl

@@ -1,0 +1,58 @@
+use Rattle.std.proofs.Common.{ℕ, ◌∙◌, arith, append-nil, subst}
+use Rattle.mobile_core.specs.FollowedChannels.{WaitFrom}
+use Rattle.mobile_core.proofs.FramesFollowed.{frames_few}
+use Rattle.mobile_core.proofs.PagesFollowed.{heard_few}
+use Rattle.mobile_core.proofs.StepJoins.{ends_here, one_or_none}
+use Rattle.mobile_core.proofs.Stood.{stands_followed}
+use Rattle.mobile_core.proofs.mobile.Mobile.hear_followed.Goals as goal
+
+pub invariant_of-self : goal.invariant_of-self
+invariant_of-self c =
+    let m = c.args.self.now in
+    let next = c.hear_next.ensures in
+    record {
+      sound = record {
+        few = m.sound.few;
+        within = m.sound.within;
+        room = m.sound.room;
+        decodes = next.kept ∙ m.sound.decodes;
+        hears = m.sound.hears;
+        waits = m.sound.waits;
+        follows = next.sound;
+        others_wait = subst (λ (n : ℕ). WaitFrom n c.hear_next.new.self) c.taken-at.ensures.value
+            next.waits;
+      };
+    }
+
+pub returns-clause-steps : goal.returns-clause-steps
+returns-clause-steps c =
+    let m = c.args.self.now in
+    let next = c.hear_next.ensures in
+    let clock = m.sound.hears.channel.clocked in
+    record {
+      most = omega arith;
+      room = omega arith;
+      fewer = omega (
+        arith,
+        one_or_none c.hear_next.result,
+        next.further,
+        heard_few m.followed.paging.receiver m.sound.follows.paging.receives,
+        frames_few m.followed.traffic.receiver m.sound.follows.traffic.receives,
+        clock.next_have,
+        clock.have_end,
+        clock.end_most,
+      );
+      ends = λ t heard given st.
+          let taken = st.ring.taken in
+          let at' = c.taken-at.ensures in
+          ends_here c.hear_next.result next.ends (omega (arith, taken, at'));
+      stands = λ t heard given st.
+          let taken = st.ring.taken in
+          let at' = c.taken-at.ensures in
+          let follows = next.hears t m.sync.mark heard st.check_is st.count_is st.followed in
+          let left = next.left t m.sync.mark heard (omega (arith, taken, at')) st.check_is
+          st.count_is st.followed in
+          rw (append-nil heard)
+          (stands_followed st c.hear_next.new.self c.hear_next.result c.requires.silent
+          (omega (arith, taken, m.sound.waits)) next.unset follows left);
+    }

@@ -1,0 +1,48 @@
+use Rattle.std.proofs.Common.{◌≡◌, ◌∙◌, ◌<◌, rules, Some, None, subst, sym, ap, arith, Option}
+use Rattle.std.proofs.Common.{length}
+use Rattle.mobile_core.specs.TrafficMonitoring.{HearsFrames, frame_events_left}
+use Rattle.mobile_core.specs.declared.mark.Mark.{Mark}
+use Rattle.mobile_core.proofs.FramesFollowed.{frames_opened, frames_opened_left, frames_with}
+use Rattle.mobile_core.proofs.traffic_monitor.TrafficMonitor.follow.Goals as goal
+
+pub open-receiver-requires-clause-row : goal.open-receiver-requires-clause-row
+open-receiver-requires-clause-row c =
+    (c.requires.sound.assigned c.in-Some.traffic (search rules)).row
+
+pub open-receiver-requires-clause-offset : goal.open-receiver-requires-clause-offset
+open-receiver-requires-clause-offset c =
+    (c.requires.sound.assigned c.in-Some.traffic (search rules)).offset
+
+pub returns-then-taken-mark-clause-hears : goal.returns-then-taken-mark-clause-hears
+returns-then-taken-mark-clause-hears c = λ t before heard taken within sets st.
+    let m = c.in-Some-mark.mark in
+    let traffic = c.in-Some.traffic in
+    let opened = c.open-receiver.result in
+    let set : c.args.mark ≡ Some m = search rules in
+    let channel : c.args.self.now.traffic ≡ Some traffic = search rules in
+    let early = c.if-taken-mark.true in
+    let hears = c.open-receiver.ensures.hears t heard (sym st.phase_is) (sym st.deltas_are)
+    (omega (arith, taken, within)) (omega (arith, taken, early)) in
+    let behind = frames_opened t heard traffic m opened (sym st.traffic_is ∙ channel) hears in
+    let f = record c.args.self.now { receiver = Some opened } in
+    subst (λ (x : Option Mark). HearsFrames t f x heard) (sym set)
+    (frames_with st (Some m) (Some opened) behind)
+
+pub returns-then-taken-mark-clause-left : goal.returns-then-taken-mark-clause-left
+returns-then-taken-mark-clause-left c = λ t before heard taken within sets st.
+    let m = c.in-Some-mark.mark in
+    let traffic = c.in-Some.traffic in
+    let opened = c.open-receiver.result in
+    let set : c.args.mark ≡ Some m = search rules in
+    let none : c.args.self.now.receiver ≡ None = search rules in
+    let channel : c.args.self.now.traffic ≡ Some traffic = search rules in
+    let early = c.if-taken-mark.true in
+    let hears = c.open-receiver.ensures.hears t heard (sym st.phase_is) (sym st.deltas_are)
+    (omega (arith, taken, within)) (omega (arith, taken, early)) in
+    let begins = c.open-receiver.ensures.begins in
+    let ends : length heard < opened.clock.end = omega (arith, taken, early, begins) in
+    let left = frames_opened_left t heard traffic m opened (sym st.traffic_is ∙ channel) hears
+    c.open-receiver.ensures.fresh ends in
+    ap (λ (x : Option Mark). frame_events_left t x heard (Some opened)) set
+    ∙ left
+    ∙ sym (ap (frame_events_left t before heard) none)

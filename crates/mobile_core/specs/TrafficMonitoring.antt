@@ -1,0 +1,84 @@
+-- What a handset's traffic channel stands for, before it is open and from there on.
+use Rattle.std.specs.Prelude.{◌≡◌, ℕ, ◌-◌, ◌<◌, ◌≤◌, List, [], take, pos, slice_get, Option, Some}
+use Rattle.std.specs.Prelude.{None}
+use Rattle.std.specs.Option.{ForSome}
+use Rattle.chip_core.specs.declared.sample.Sample.{Sample}
+use Rattle.mobile_core.specs.Clocks.{IsDueAt}
+use Rattle.mobile_core.specs.TrafficReceiving.{HearsTraffic, IsSoundTraffic, frames_left_of}
+use Rattle.mobile_core.specs.Tuning.{Tuning}
+use Rattle.mobile_core.specs.declared.event.Event.{Event}
+use Rattle.mobile_core.specs.declared.mark.Mark.{Mark}
+use Rattle.mobile_core.specs.declared.settings.Traffic.{Traffic}
+use Rattle.mobile_core.specs.declared.traffic_monitor.TrafficMonitor.{TrafficMonitor}
+use Rattle.mobile_core.specs.declared.traffic_receiver.TrafficReceiver.{TrafficReceiver}
+
+-- no channel is heard where none is followed, or no mark is set
+abbrev pub IsUnheard : Option Traffic → Option Mark → Type 0
+IsUnheard None mark = Unit {0}
+IsUnheard (Some traffic) mark = mark ≡ None
+
+-- a receiver that follows the channel from the mark on
+pub record FollowsTraffic (t : Tuning) (mark : Option Mark) (r : TrafficReceiver)
+    (heard : List Sample) : Type 0 where
+  pub traffic : Traffic
+  pub traffic_is : t.traffic ≡ Some traffic
+  pub set : Mark
+  pub set_is : mark ≡ Some set
+  pub hears : HearsTraffic t traffic set r heard
+
+-- what the receiver stands for; there is none where the channel isn't heard
+abbrev pub HearsFramesBehind : Tuning → Option Mark → Option TrafficReceiver → List Sample → Type 0
+HearsFramesBehind t mark None heard = IsUnheard t.traffic mark
+HearsFramesBehind t mark (Some r) heard = FollowsTraffic t mark r heard
+
+-- It has taken these samples, in which the sync channel's messages set this mark, or none.
+pub record HearsFrames (t : Tuning) (f : TrafficMonitor) (mark : Option Mark)
+    (heard : List Sample) : Type 0 where
+  pub traffic_is : f.traffic ≡ t.traffic
+  pub phase_is : f.phase ≡ t.phase
+  pub deltas_are : take f.near.count f.near.deltas ≡ t.deltas
+  pub behind : HearsFramesBehind t mark f.receiver heard
+
+-- the events of these samples' end that a receiver has still to give
+abbrev pub frames_left_behind : Tuning → Option Traffic → Option Mark → List Sample →
+    TrafficReceiver → List Event
+frames_left_behind t None mark samples r = []
+frames_left_behind t (Some traffic) None samples r = []
+frames_left_behind t (Some traffic) (Some m) samples r =
+    frames_left_of t traffic m samples r.clock.next
+
+abbrev pub frame_events_left : Tuning → Option Mark → List Sample → Option TrafficReceiver →
+    List Event
+frame_events_left t mark samples None = []
+frame_events_left t mark samples (Some r) = frames_left_behind t t.traffic mark samples r
+
+-- whether a frame has come that hasn't been heard
+abbrev pub IsFrameDue : ℕ → Option TrafficReceiver → Type 0
+IsFrameDue count None = ⊥
+IsFrameDue count (Some r) = IsDueAt count r.clock
+
+-- how many frames have been heard, and how many have come that haven't been heard
+abbrev pub frames_heard_by : Option TrafficReceiver → ℕ
+frames_heard_by None = 0
+frames_heard_by (Some r) = r.clock.next
+
+abbrev pub frames_due_by : Option TrafficReceiver → ℕ
+frames_due_by None = 0
+frames_due_by (Some r) = r.clock.have - r.clock.next
+
+-- the frame that comes next ends later than so many samples
+abbrev pub FramesWaitFrom : ℕ → Option TrafficReceiver → Type 0
+FramesWaitFrom taken receiver = ForSome receiver (λ r. taken < r.clock.end)
+
+-- a channel that a base station may assign
+pub record IsSoundAssignment (traffic : Traffic) : Type 0 where
+  pub row : traffic.row < 64
+  pub offset : traffic.offset ≤ 15
+
+-- such a channel, where one is followed, and the shape of paths that a search gives
+pub record IsSoundTrafficMonitor (f : TrafficMonitor) : Type 0 where
+  pub assigned : ForSome f.traffic IsSoundAssignment
+  pub least : 1 ≤ f.near.count
+  pub most : f.near.count ≤ 3
+  pub first : slice_get f.near.deltas 0 ≡ Some (pos 0)
+  pub receives : ForSome f.receiver IsSoundTraffic
