@@ -1,4 +1,5 @@
 mod Digits
+mod FrameDigits
 mod PagingTexts
 pub mod Runs
 mod TapLists

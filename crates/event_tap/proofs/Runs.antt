@@ -5,7 +5,7 @@ use Rattle.std.proofs.Common.{length, take, Option, None, Some, refl, sym, ap, �
 use Rattle.std.proofs.Common.{rules, append_assoc, append-nil}
 use Rattle.std.proofs.lemmas.List.Elements.{All-append, All-cons, All-nil, All-head, All-tail}
 use Rattle.mobile_core.specs.declared.event.Event.{Event}
-use Rattle.mobile_core.specs.declared.event.Event.TheVariants.{Pilot, Sync, Paging}
+use Rattle.mobile_core.specs.declared.event.Event.TheVariants.{Pilot, Sync, Paging, Frame}
 use Rattle.event_tap.specs.EventLines.{event_line, text_of}
 use Rattle.event_tap.specs.Taps.{IsKept, KeptTap, form_line, form_lines, heard_text, joined}
 use Rattle.event_tap.specs.Taps.{kept_by, kept_with, left_behind, line_text, line_list, run_taps}
@@ -145,103 +145,81 @@ run_text-single form (suc limit) (event ∷ events) =
 
 -- A RUN WITHOUT LIMITS
 
--- a tap of the pilot, one of messages, and others
-abbrev pub plain_taps : ℕ → ℕ → List KeptTap → List KeptTap
-plain_taps pilots messages others = tap 0 pilots ∷ tap 1 messages ∷ others
+-- a tap of the pilot, one of messages, and one of frames
+abbrev pub plain_taps : ℕ → ℕ → ℕ → List KeptTap
+plain_taps pilots messages frames = tap 0 pilots ∷ tap 1 messages ∷ tap 2 frames ∷ []
 
--- taps that hear nothing of events
-abbrev pub IsDeaf : List KeptTap → Type 0
-IsDeaf taps = (event : Event) → (heard_text taps event ≡ []) × (taps_behind taps event ≡ taps)
-
-plain_heard : (pilots messages : ℕ) (others : List KeptTap) (event : Event) →
-    heard_text others event ≡ [] →
-    heard_text (plain_taps pilots messages others) event ≡ event_line event
+plain_heard : (pilots messages frames : ℕ) (event : Event) →
+    heard_text (plain_taps pilots messages frames) event ≡ event_line event
 unfolding form_line event_line
-plain_heard pilots messages others (Pilot phase energy) none =
-    ap (λ (text : List ℕ). event_line (Pilot phase energy) ++ text) none
-    ∙ append-nil (event_line (Pilot phase energy))
-plain_heard pilots messages others (Sync place capsule message) none =
-    ap (λ (text : List ℕ). event_line (Sync place capsule message) ++ text) none
-    ∙ append-nil (event_line (Sync place capsule message))
-plain_heard pilots messages others (Paging place capsule message) none =
-    ap (λ (text : List ℕ). event_line (Paging place capsule message) ++ text) none
-    ∙ append-nil (event_line (Paging place capsule message))
+plain_heard pilots messages frames (Pilot phase energy) =
+    append-nil (event_line (Pilot phase energy))
+plain_heard pilots messages frames (Sync place capsule message) =
+    append-nil (event_line (Sync place capsule message))
+plain_heard pilots messages frames (Paging place capsule message) =
+    append-nil (event_line (Paging place capsule message))
+plain_heard pilots messages frames (Frame place rate good bits commands) =
+    append-nil (event_line (Frame place rate good bits commands))
 
 left_behind-least : (line : Option (List ℕ)) (left more : ℕ) → more + 1 < left →
     more < left_behind line left
 left_behind-least None left more few = omega (arith, few)
 left_behind-least (Some line) left more few = omega (arith, few)
 
-plain_behind : (pilots messages : ℕ) (others : List KeptTap) (event : Event) →
+plain_behind : (pilots messages frames : ℕ) (event : Event) →
     1 ≤ left_behind (form_line 0 event) pilots → 1 ≤ left_behind (form_line 1 event) messages →
-    taps_behind others event ≡ others →
-    taps_behind (plain_taps pilots messages others) event ≡
+    1 ≤ left_behind (form_line 2 event) frames →
+    taps_behind (plain_taps pilots messages frames) event ≡
     plain_taps (left_behind (form_line 0 event) pilots) (left_behind (form_line 1 event) messages)
-    others
-plain_behind pilots messages others event some some_more same =
-    let ahead = left_behind (form_line 0 event) pilots in
-    let behind = left_behind (form_line 1 event) messages in
-    ap (λ (taps : List KeptTap). taps ++ (kept_with 1 behind ++ taps_behind others event))
-    (kept_with-left 0 ahead some)
-    ∙ ap (λ (taps : List KeptTap). tap 0 ahead ∷ (taps ++ taps_behind others event))
-    (kept_with-left 1 behind some_more)
-    ∙ ap (λ (taps : List KeptTap). tap 0 ahead ∷ tap 1 behind ∷ taps) same
+    (left_behind (form_line 2 event) frames)
+plain_behind pilots messages frames event one two three =
+    let first = left_behind (form_line 0 event) pilots in
+    let second = left_behind (form_line 1 event) messages in
+    let third = left_behind (form_line 2 event) frames in
+    ap (λ (taps : List KeptTap). taps ++ (kept_with 1 second ++ (kept_with 2 third ++ [])))
+    (kept_with-left 0 first one)
+    ∙ ap (λ (taps : List KeptTap). tap 0 first ∷ (taps ++ (kept_with 2 third ++ [])))
+    (kept_with-left 1 second two)
+    ∙ ap (λ (taps : List KeptTap). tap 0 first ∷ tap 1 second ∷ (taps ++ []))
+    (kept_with-left 2 third three)
 
--- a tap of the pilot and one of messages write the lines of fewer events than their limits, each
--- once
-pub plain_text-others : (pilots messages : ℕ) (others : List KeptTap) (events : List Event) →
-    length events < pilots → length events < messages → IsDeaf others →
-    run_text (plain_taps pilots messages others) events ≡ text_of events
+-- they write the lines of fewer events than their limits, each once
+pub plain_text : (pilots messages frames : ℕ) (events : List Event) →
+    length events < pilots → length events < messages → length events < frames →
+    run_text (plain_taps pilots messages frames) events ≡ text_of events
 unfolding run_text text_of
-plain_text-others pilots messages others [] few few_too deaf = refl
-plain_text-others pilots messages others (event ∷ events) few few_too deaf =
-    let ahead : length events < left_behind (form_line 0 event) pilots =
-    left_behind-least (form_line 0 event) pilots (length events) (omega (arith, few)) in
-    let behind : length events < left_behind (form_line 1 event) messages =
-    left_behind-least (form_line 1 event) messages (length events) (omega (arith, few_too)) in
+plain_text pilots messages frames [] few_pilots few_messages few_frames = refl
+plain_text pilots messages frames (event ∷ events) few_pilots few_messages few_frames =
+    let first : length events < left_behind (form_line 0 event) pilots =
+    left_behind-least (form_line 0 event) pilots (length events) (omega (arith, few_pilots)) in
+    let second : length events < left_behind (form_line 1 event) messages =
+    left_behind-least (form_line 1 event) messages (length events) (omega (arith, few_messages)) in
+    let third : length events < left_behind (form_line 2 event) frames =
+    left_behind-least (form_line 2 event) frames (length events) (omega (arith, few_frames)) in
     ap (λ (text : List ℕ). text ++
-    run_text (taps_behind (plain_taps pilots messages others) event) events)
-    (plain_heard pilots messages others event (deaf event).0)
+    run_text (taps_behind (plain_taps pilots messages frames) event) events)
+    (plain_heard pilots messages frames event)
     ∙ ap (λ (taps : List KeptTap). event_line event ++ run_text taps events)
-    (plain_behind pilots messages others event (omega (arith, ahead)) (omega (arith, behind))
-    (deaf event).1)
+    (plain_behind pilots messages frames event (omega (arith, first)) (omega (arith, second))
+    (omega (arith, third)))
     ∙ ap (λ (text : List ℕ). event_line event ++ text)
-    (plain_text-others (left_behind (form_line 0 event) pilots)
-    (left_behind (form_line 1 event) messages) others events ahead behind deaf)
-
-pub plain_text : (pilots messages : ℕ) (events : List Event) →
-    length events < pilots → length events < messages →
-    run_text (tap 0 pilots ∷ tap 1 messages ∷ []) events ≡ text_of events
-plain_text pilots messages events few few_too =
-    plain_text-others pilots messages [] events few few_too (λ event. (refl, refl))
-
--- a tap of frames hears nothing of a pilot or of messages
-frames_deaf : (frames : ℕ) → 1 ≤ frames → IsDeaf (tap 2 frames ∷ [])
-unfolding form_line
-frames_deaf frames some (Pilot phase energy) =
-    (refl, ap (λ (taps : List KeptTap). taps ++ []) (kept_with-left 2 frames some))
-frames_deaf frames some (Sync place capsule message) =
-    (refl, ap (λ (taps : List KeptTap). taps ++ []) (kept_with-left 2 frames some))
-frames_deaf frames some (Paging place capsule message) =
-    (refl, ap (λ (taps : List KeptTap). taps ++ []) (kept_with-left 2 frames some))
+    (plain_text (left_behind (form_line 0 event) pilots) (left_behind (form_line 1 event) messages)
+    (left_behind (form_line 2 event) frames) events first second third)
 
 -- the text of the taps that a run has where nothing is said of limits: each form once, in order,
 -- and none of raw messages
 pub plain_text-forms : (pilots messages frames : ℕ) (events : List Event) →
-    length events < pilots → length events < messages → 1 ≤ frames →
+    length events < pilots → length events < messages → length events < frames →
     run_text (kept_by (pilots ∷ messages ∷ frames ∷ 0 ∷ []) (0 ∷ 1 ∷ 2 ∷ 3 ∷ [])) events ≡
     text_of events
-plain_text-forms pilots messages frames events few few_too some =
-    let ahead : 1 ≤ pilots = omega (arith, few) in
-    let behind : 1 ≤ messages = omega (arith, few_too) in
+plain_text-forms pilots messages frames events few_pilots few_messages few_frames =
     ap (λ (taps : List KeptTap).
     run_text (taps ++ (kept_with 1 messages ++ (kept_with 2 frames ++ []))) events)
-    (kept_with-left 0 pilots ahead)
+    (kept_with-left 0 pilots (omega (arith, few_pilots)))
     ∙ ap (λ (taps : List KeptTap).
     run_text (tap 0 pilots ∷ (taps ++ (kept_with 2 frames ++ []))) events)
-    (kept_with-left 1 messages behind)
+    (kept_with-left 1 messages (omega (arith, few_messages)))
     ∙ ap (λ (taps : List KeptTap).
     run_text (tap 0 pilots ∷ tap 1 messages ∷ (taps ++ [])) events)
-    (kept_with-left 2 frames some)
-    ∙ plain_text-others pilots messages (tap 2 frames ∷ []) events few few_too
-    (frames_deaf frames some)
+    (kept_with-left 2 frames (omega (arith, few_frames)))
+    ∙ plain_text pilots messages frames events few_pilots few_messages few_frames

@@ -1,16 +1,18 @@
 -- The lines of events.
 use Rattle.std.specs.Prelude.{ℕ, List}
 use Rattle.std.specs.List.{flat_map}
+use Rattle.event_tap.specs.FrameLines.{frame_line}
 use Rattle.event_tap.specs.Lines.{pilot_line, sync_line}
 use Rattle.event_tap.specs.PagingLines.{paging_line}
 use Rattle.mobile_core.specs.declared.event.Event.{Event}
-use Rattle.mobile_core.specs.declared.event.Event.TheVariants.{Pilot, Sync, Paging}
+use Rattle.mobile_core.specs.declared.event.Event.TheVariants.{Pilot, Sync, Paging, Frame}
 
 -- the line of an event
 unfoldable pub event_line : Event → List ℕ
 event_line (Pilot phase energy) = pilot_line phase energy
 event_line (Sync place capsule message) = sync_line place message
 event_line (Paging place capsule message) = paging_line place message
+event_line (Frame place rate good bits commands) = frame_line place rate good bits commands
 
 -- the lines of events, in order
 unfoldable pub text_of : List Event → List ℕ

@@ -5,7 +5,8 @@ use Rattle.std.specs.Prelude.{ℕ, ◌-◌, ◌≤◌, slice_index, nat_eq, Bool
 use Rattle.std.specs.Prelude.{◌++◌, map, codes, decimal, Option, None, Some}
 use Rattle.std.specs.List.{flat_map}
 use Rattle.mobile_core.specs.declared.event.Event.{Event}
-use Rattle.mobile_core.specs.declared.event.Event.TheVariants.{Pilot, Sync, Paging}
+use Rattle.mobile_core.specs.declared.event.Event.TheVariants.{Pilot, Sync, Paging, Frame}
+use Rattle.event_tap.specs.FrameLines.{frame_line}
 use Rattle.event_tap.specs.Lines.{bit_text, pilot_line, sync_line}
 use Rattle.event_tap.specs.PagingLines.{paging_line}
 use Rattle.event_tap.specs.declared.tap.Heard.{Heard}
@@ -44,6 +45,8 @@ form_line form (Sync place capsule message) =
     message_line form (sync_line place message) (raw_line place capsule)
 form_line form (Paging place capsule message) =
     message_line form (paging_line place message) (raw_paging_line place capsule)
+form_line form (Frame place rate good bits commands) =
+    if nat_eq form 2 then Some (frame_line place rate good bits commands) else None
 
 -- the line, or nothing where there is none
 abbrev pub line_text : Option (List ℕ) → List ℕ

@@ -46,7 +46,7 @@ impl Tap for PilotTap {
                 line_into(event, out);
                 self.left -= 1;
             }
-            Event::Sync { .. } | Event::Paging { .. } => out.clear(),
+            Event::Sync { .. } | Event::Paging { .. } | Event::Frame { .. } => out.clear(),
         }
         heard_of(self.left)
     }
@@ -84,7 +84,7 @@ impl Tap for MessageTap {
     #[tactic(auto, unfolding(crate::specs::EventLines::event_line, crate::specs::Taps::form_line))]
     fn hear(&mut self, event: &Event, out: &mut Text) -> Heard {
         match event {
-            Event::Pilot { .. } => out.clear(),
+            Event::Pilot { .. } | Event::Frame { .. } => out.clear(),
             Event::Sync { .. } | Event::Paging { .. } => {
                 line_into(event, out);
                 self.left -= 1;
@@ -94,7 +94,7 @@ impl Tap for MessageTap {
     }
 }
 
-/// Hears frames, in form 2. No event is of this kind yet.
+/// Hears frames of the traffic channel, in form 2.
 #[derive(Drop)]
 pub struct FrameTap {
     /// How many events it has left to hear.
@@ -123,10 +123,14 @@ impl Tap for FrameTap {
         self.left = events;
     }
 
-    #[tactic(auto, unfolding(crate::specs::Taps::form_line))]
+    #[tactic(auto, unfolding(crate::specs::EventLines::event_line, crate::specs::Taps::form_line))]
     fn hear(&mut self, event: &Event, out: &mut Text) -> Heard {
         match event {
             Event::Pilot { .. } | Event::Sync { .. } | Event::Paging { .. } => out.clear(),
+            Event::Frame { .. } => {
+                line_into(event, out);
+                self.left -= 1;
+            }
         }
         heard_of(self.left)
     }
@@ -165,7 +169,7 @@ impl Tap for RawTap {
     fn hear(&mut self, event: &Event, out: &mut Text) -> Heard {
         out.clear();
         match event {
-            Event::Pilot { .. } => {}
+            Event::Pilot { .. } | Event::Frame { .. } => {}
             Event::Sync { at, capsule, .. } => {
                 append_raw(out, *at, capsule);
                 self.left -= 1;

@@ -31,7 +31,7 @@ pub fn no_tap_writes_nothing()
 /// events than their limits, once.
 pub fn plain_taps_write_each_line_once()
     ensures { (pilots messages frames : ℕ) (events : List TheEvent) →
-        length events < pilots → length events < messages → 1 ≤ frames →
+        length events < pilots → length events < messages → length events < frames →
         run_text (kept_by (pilots ∷ messages ∷ frames ∷ 0 ∷ []) (0 ∷ 1 ∷ 2 ∷ 3 ∷ [])) events ≡
         text_of events }
 {}

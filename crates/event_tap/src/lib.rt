@@ -6,6 +6,9 @@
 //! its limit, and [`Taps`] gives what they make of an event to a sink.
 #![tactic(auto)]
 
+mod frame;
+#[cfg(test)]
+mod frame_tests;
 mod kinds;
 pub mod laws;
 mod line;

@@ -1,0 +1,21 @@
+use Rattle.std.proofs.Common.{arith}
+use Rattle.event_tap.proofs.FrameDigits.{digit_more, no_digits}
+use Rattle.event_tap.proofs.frame.append_digits.Goals as goal
+
+pub loop-i-init : goal.loop-i-init
+loop-i-init c = record {
+  value = no_digits c.args.text.now c.args.commands.now;
+  long = omega arith;
+}
+
+pub append_digit-requires : goal.append_digit-requires
+append_digit-requires c =
+    omega (arith, c.loop-i.invariant.long, c.loop-i-test.true, c.requires.room)
+
+pub loop-i-preserved : goal.loop-i-preserved
+loop-i-preserved c = record {
+  value =
+      digit_more c.args.text.now c.loop-i.text c.append_digit.new.text c.args.commands.now c.loop-i.i
+      (omega (arith, c.loop-i-test.true)) c.loop-i.invariant.value c.append_digit.ensures.value;
+  long = omega (arith, c.append_digit.ensures.len, c.loop-i.invariant.long);
+}
