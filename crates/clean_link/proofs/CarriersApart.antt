@@ -247,6 +247,15 @@ paging_sent plan p has =
     (Contains-append_right first paging (paging_carrier plan p)
     (has_mapped (paging_carrier plan) plan.paging p has))
 
+-- and so is a traffic channel
+pub traffic_sent : (plan : CellPlan) (p : TrafficPlan) → Contains plan.traffic p →
+    Contains (carriers plan) (traffic_carrier plan p)
+unfolding carriers
+traffic_sent plan p has =
+    Contains-append_right
+    (pilot_carrier plan ∷ continued plan plan.sync) (map (traffic_carrier plan) plan.traffic)
+    (traffic_carrier plan p) (has_mapped (traffic_carrier plan) plan.traffic p has)
+
 without_sync : (width : Width) (plan : CellPlan) → IsLawfulPlan width plan →
     All (λ (c : Carrier). c.row ≢ 32) (pilot_carrier plan ∷ others plan None)
 without_sync width plan lawful =

@@ -25,6 +25,12 @@ left_out n k (e ∷ es) other there =
     let off : is_at n e ≡ false = ne_eqb (at_of e) n (λ same. other (sym there.0 ∙ same)) in
     rw off (left_out n k es other there.1)
 
+-- those of two channels
+pub at_both : (n : ℕ) (one other : List Event) → AreAt n one → AreAt n other →
+    AreAt n (one ++ other)
+at_both n [] other here there = there
+at_both n (e ∷ one) other here there = (here.0, at_both n one other here.1 there)
+
 -- ---- those of one number among those of many
 none_at : (f : ℕ → List Event) (n a len : ℕ) → ((k : ℕ) → AreAt k (f k)) → n < a →
     filter (is_at n) (flat_map f (range_with_len a len)) ≡ []

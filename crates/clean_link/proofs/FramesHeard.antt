@@ -40,7 +40,7 @@ use Rattle.clean_link.proofs.StreamTimes.{room_alone}
 
 -- ---- scrambling is turned back
 
-turned_symbol : (strength : ℕ) (a b : Bool) →
+pub turned_symbol : (strength : ℕ) (a b : Bool) →
     sign a *ℤ (pos strength *ℤ sign (xor b a)) ≡ pos strength *ℤ sign b
 turned_symbol n true true = omega (arith, ints)
 turned_symbol n true false =

@@ -49,6 +49,13 @@ pub mod PagesInOrder
 pub mod PagesRead
 pub mod PagesPlaced
 pub mod PagesBack
--- both channels together
+-- traffic channels, their third case: symbols and power control bits, and frames behind the mark
+pub mod FrameSymbols
+pub mod TrafficTimes
+pub mod TrafficSigns
+pub mod TrafficCommands
+pub mod TrafficFrames
+pub mod TrafficBack
+-- all channels together
 pub mod EventPlaces
 pub mod MessagesBack

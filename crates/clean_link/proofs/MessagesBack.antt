@@ -1,5 +1,5 @@
--- A handset hears the whole sendings and the whole pages of a clean link's cell, in the order in
--- which they are known, and nothing else.
+-- A handset hears the whole sendings, the whole pages and the frames of a clean link's cell, in the
+-- order in which they are known, and nothing else.
 use Rattle.std.proofs.Common.{◌≡◌, ℕ, ◌+◌, ◌*◌, Bool, true, false, List, [], ◌∷◌, ◌++◌}
 use Rattle.std.proofs.Common.{map, refl, sym, ap, ◌∙◌, arith, inl, inr, nat_lt}
 use Rattle.std.proofs.Common.{Option, None, Some}
@@ -14,15 +14,15 @@ use Rattle.base_modulator.specs.Sampled.{made_samples}
 use Rattle.base_modulator.specs.Sendings.{told_superframes}
 use Rattle.base_modulator.specs.declared.plan.CellPlan.{CellPlan}
 use Rattle.base_modulator.specs.declared.plan.SyncPlan.{SyncPlan}
-use Rattle.mobile_core.specs.Events.{events_at, events_within, paging_events_at}
+use Rattle.mobile_core.specs.Events.{events_at, events_within, frame_events_at, paging_events_at}
 use Rattle.mobile_core.specs.Marks.{mark}
-use Rattle.mobile_core.specs.Near.{AreNear}
 use Rattle.mobile_core.specs.PagingEvents.{page_event, pages_at, pages_behind}
 use Rattle.mobile_core.specs.SyncEvents.{sync_events_at}
-use Rattle.mobile_core.specs.Tuning.{Tuning, sync_stream}
+use Rattle.mobile_core.specs.Tuning.{Tuning}
 use Rattle.mobile_core.specs.declared.event.Event.{Event}
 use Rattle.mobile_core.specs.declared.mark.Mark.{Mark}
-use Rattle.mobile_core.proofs.EventsGrown.{events_at_both}
+use Rattle.mobile_core.proofs.EventPlaces.{paging_at, sync_at, traffic_at}
+use Rattle.mobile_core.proofs.EventsGrown.{events_at_all}
 use Rattle.mobile_core.proofs.MarkStays.{pages_by_one_mark}
 use Rattle.mobile_core.proofs.Ranges.{flat_map_ext_places}
 use Rattle.clean_link.specs.CleanLink.{IsReceivable, IsTunedTo, sync_sent}
@@ -30,14 +30,14 @@ use Rattle.clean_link.specs.CleanLink.{whole_sendings}
 use Rattle.clean_link.specs.HeardPages.{ReadPage, known_page, pages_sent, pages_within}
 use Rattle.clean_link.specs.SentEvents.{WholeMessagesComeBack, known_event, paging_sent}
 use Rattle.clean_link.specs.SentEvents.{pages_behind_mark, pages_with_sync, sent_events}
-use Rattle.clean_link.specs.SentEvents.{told_by_first}
-use Rattle.mobile_core.proofs.EventPlaces.{paging_at, sync_at}
-use Rattle.clean_link.proofs.EventPlaces.{gathered_by_places}
+use Rattle.clean_link.specs.SentEvents.{by_places, told_by_first, traffic_sent}
+use Rattle.clean_link.proofs.EventPlaces.{at_both, gathered_by_places}
 use Rattle.clean_link.proofs.FirstMark.{mark_of_first, unset_without}
 use Rattle.clean_link.proofs.MarksTrue.{marks_rate, marks_true, time_of, unmarked}
 use Rattle.clean_link.proofs.PagesBack.{pages_back}
 use Rattle.clean_link.proofs.SendingsBack.{sendings_back}
 use Rattle.clean_link.proofs.SignalSamples.{length-made}
+use Rattle.clean_link.proofs.TrafficBack.{frames_all, one_near}
 
 -- ---- the paging channel
 map_known : (n : ℕ) (pages : List ReadPage) →
@@ -59,10 +59,6 @@ none_gathered : (ks : List ℕ) →
     flat_map (λ (n : ℕ). map (known_page n) (let none : List ReadPage = [] in none)) ks ≡ []
 none_gathered [] = refl
 none_gathered (k ∷ ks) = none_gathered ks
-
-one_near : (t : Tuning) (plan : CellPlan) → IsTunedTo plan t →
-    AreNear (sync_stream t).fingers
-one_near t plan tuned = rw tuned.alone refl
 
 -- no channel is heard with this PRAT
 unrated : (t : Tuning) (channel : ℕ) (m : Mark) (samples : List Sample) (n : ℕ) →
@@ -176,16 +172,25 @@ module _ (width : Width) (plan : CellPlan) (t : Tuning) (is : IsReceivable width
   pages_all =
       by_last_mark ∙ pages_by plan.sync (mark t (made_samples plan) t.count) refl refl
 
--- ---- both channels
+-- ---- all channels
+
 pub messages_back : WholeMessagesComeBack
 unfolding sent_events events_within
-messages_back width plan t is tuned =
+messages_back width plan t is tuned follows =
     let samples = made_samples plan in
+    let count = plan.link.samples in
     let long = length-made plan in
+    let pages : ℕ → List Event = paging_events_at t samples in
+    let frames : ℕ → List Event = frame_events_at t samples in
     ap (λ (n : ℕ). flat_map (events_at t samples) (places (n + 1))) long
     ∙ flat_map_ext_places (events_at t samples)
-    (λ n. sync_events_at t samples n ++ paging_events_at t samples n) (plan.link.samples + 1)
-    (λ n below. events_at_both t samples n)
-    ∙ gathered_by_places (sync_events_at t samples) (paging_events_at t samples) plan.link.samples
-    (sync_sent plan) (paging_sent plan t.paging) (sync_at t samples) (paging_at t samples)
-    (sendings_back width plan t is tuned) (pages_all width plan t is tuned)
+    (λ n. sync_events_at t samples n ++ (pages n ++ frames n)) (count + 1)
+    (λ n below. events_at_all t samples n)
+    ∙ gathered_by_places (sync_events_at t samples) (λ n. pages n ++ frames n) count
+    (sync_sent plan) (by_places count (paging_sent plan t.paging) (traffic_sent plan t.traffic))
+    (sync_at t samples)
+    (λ n. at_both n (pages n) (frames n) (paging_at t samples n) (traffic_at t samples n))
+    (sendings_back width plan t is tuned)
+    (gathered_by_places pages frames count (paging_sent plan t.paging)
+    (traffic_sent plan t.traffic) (paging_at t samples) (traffic_at t samples)
+    (pages_all width plan t is tuned) (frames_all width plan t is tuned follows))

@@ -51,7 +51,7 @@ use Rattle.clean_link.proofs.SyncFrames.{fingers_are}
 
 -- ---- scrambling
 
-length-scrambling : (state mask : ℕ) → length (scrambling state mask) ≡ 384
+pub length-scrambling : (state mask : ℕ) → length (scrambling state mask) ≡ 384
 unfolding symbol_chips
 length-scrambling state mask =
     length-map (places 384) (λ i. long_chip state mask (64 * i)) ∙ length-places 384

@@ -1,5 +1,5 @@
 -- When the frames of a paging channel end and are known, where there is one finger.
-use Rattle.std.proofs.Common.{◌≡◌, ℕ, ◌+◌, ◌*◌, ◌≤◌, true, ap, ◌∙◌, arith, pos}
+use Rattle.std.proofs.Common.{◌≡◌, ℕ, ◌+◌, ◌*◌, ◌≤◌, true, refl, ap, ◌∙◌, arith, pos}
 use Rattle.std.specs.Prelude.{◌+ℤ◌}
 use Rattle.mobile_core.specs.PagingStreams.{paging_stream}
 use Rattle.mobile_core.specs.Streams.{is_in_file, known_at}
@@ -39,5 +39,5 @@ module _ (t : Tuning) (channel : ℕ) (m : Mark) (alone : t.deltas ≡ one_path)
   pub paging_known_is : (k : ℕ) →
       known_at t.count (paging_stream t channel m) k ≡ heard_behind 24576 t.count (end_behind m k)
   paging_known_is k =
-      known_alone t.count (paging_stream t channel m) k paging_alone ∙
+      known_alone t.count (paging_stream t channel m) k paging_alone refl ∙
       ap (heard_behind 24576 t.count) (omega arith)

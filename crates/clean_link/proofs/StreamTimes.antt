@@ -59,7 +59,7 @@ timed_alone count s alone =
 abbrev pub ends_at : Stream → ℕ → ℕ
 ends_at s k = frame_start s k + frame_chips s.form
 
-inside_is : (count : ℕ) (s : Stream) (k : ℕ) → IsAlone s →
+pub inside_is : (count : ℕ) (s : Stream) (k : ℕ) → IsAlone s →
     is_in_file count s k ≡ nat_le (ends_at s k) count
 inside_is count s k alone =
     ap (λ (fs : List Finger). is_within count fs s.form (frame_start s k)) alone.fingers ∙
@@ -87,11 +87,22 @@ known_if s k false alone =
     ap (λ (fs : List Finger). frame_end fs s.form (frame_start s k)) alone.fingers ∙
     end_of_one (frame_start s k) alone.phase alone.row s.form
 
--- when it is known
-pub known_alone : (count : ℕ) (s : Stream) (k : ℕ) → IsAlone s →
+-- when it is known, where it waits
+pub known_alone : (count : ℕ) (s : Stream) (k : ℕ) → IsAlone s → s.waits ≡ true →
     known_at count s k ≡ heard_behind (frame_chips s.form) count (ends_at s k)
-known_alone count s k alone =
-    let next : is_in_file count s (k + 1) ≡ nat_le (ends_at s k + frame_chips s.form) count =
-    inside_is count s (k + 1) alone ∙ ap (λ (n : ℕ). nat_le n count) (next_ends s k) in
+known_alone count s k alone waits =
+    let inside = is_in_file count s (k + 1) in
+    let next : (s.waits && inside) ≡ nat_le (ends_at s k + frame_chips s.form) count =
+    ap (λ (w : Bool). w && inside) waits
+    ∙ inside_is count s (k + 1) alone ∙ ap (λ (n : ℕ). nat_le n count) (next_ends s k) in
     ap (λ (b : Bool). frame_end s.fingers s.form (frame_start s (if b then k + 1 else k))) next
     ∙ known_if s k (nat_le (ends_at s k + frame_chips s.form) count) alone
+
+-- and where it doesn't
+pub known_at_once : (count : ℕ) (s : Stream) (k : ℕ) → IsAlone s → s.waits ≡ false →
+    known_at count s k ≡ ends_at s k
+known_at_once count s k alone waits =
+    ap
+    (λ (w : Bool). frame_end s.fingers s.form
+    (frame_start s (if w && is_in_file count s (k + 1) then k + 1 else k))) waits
+    ∙ known_if s k false alone

@@ -41,7 +41,7 @@ in_file_to t k alone h =
 pub known_is : (t : Tuning) (k : ℕ) → t.deltas ≡ one_path →
     known_at t.count (sync_stream t) k ≡ heard_behind 32768 t.count (end_of_frame t k)
 known_is t k alone =
-    known_alone t.count (sync_stream t) k (sync_alone t alone) ∙
+    known_alone t.count (sync_stream t) k (sync_alone t alone) refl ∙
     ap (heard_behind 32768 t.count) (omega arith)
 
 -- ---- the cell's frames

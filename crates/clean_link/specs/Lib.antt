@@ -1,13 +1,16 @@
 pub mod ChannelLaws
 pub mod CleanLaws
 pub mod CleanLink
+pub mod HeardFrames
 pub mod HeardPages
 pub mod PageLaws
 pub mod PagingLaws
 pub mod SentEvents
 pub mod SentWords
 pub mod Signals
+pub mod TrafficLaws
 pub mod WholePages
+mod FramesWorked
 mod HeardWorked
 mod Worked
 mod WorkedPages

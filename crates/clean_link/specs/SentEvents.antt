@@ -1,7 +1,7 @@
 -- All that a handset hears of a clean link's cell, in the order in which it is known.
 use Rattle.std.specs.Prelude.{ℕ, ◌+◌, ◌*◌, ◌==◌, ◌≡◌, Bool, if◌then◌else◌, nat_lt, List, [], ◌∷◌}
 use Rattle.std.specs.Prelude.{◌++◌, map, filter, Option, None, Some}
-use Rattle.std.specs.List.{flat_map}
+use Rattle.std.specs.List.{Contains, flat_map}
 use Rattle.chip_core.specs.Bits.{places}
 use Rattle.cdma_io.specs.declared.width.Width.{Width}
 use Rattle.sync_message.specs.declared.fields.SyncFields.{SyncFields}
@@ -9,12 +9,15 @@ use Rattle.base_modulator.specs.Sampled.{made_samples}
 use Rattle.base_modulator.specs.Sendings.{told_superframes}
 use Rattle.base_modulator.specs.declared.plan.CellPlan.{CellPlan}
 use Rattle.base_modulator.specs.declared.plan.SyncPlan.{SyncPlan}
+use Rattle.base_modulator.specs.declared.plan.TrafficPlan.{TrafficPlan}
 use Rattle.mobile_core.specs.Events.{events}
 use Rattle.mobile_core.specs.Given.{at_of}
 use Rattle.mobile_core.specs.Tuning.{Tuning}
 use Rattle.mobile_core.specs.declared.event.Event.{Event}
 use Rattle.mobile_core.specs.declared.event.Event.TheVariants.{Paging}
+use Rattle.mobile_core.specs.declared.settings.Traffic.{Traffic}
 use Rattle.clean_link.specs.CleanLink.{IsReceivable, IsTunedTo, sync_sent, whole_sendings}
+use Rattle.clean_link.specs.HeardFrames.{frames_sent, AreDistinct, IsAssigned}
 use Rattle.clean_link.specs.HeardPages.{KnownPage, pages_sent}
 
 -- ---- the paging channel
@@ -46,7 +49,38 @@ pages_with_sync plan channel (Some sync) =
 unfoldable pub paging_sent : CellPlan → ℕ → List Event
 paging_sent plan channel = pages_with_sync plan channel plan.sync
 
--- ---- both channels
+-- ---- the traffic channel
+
+-- the superframes up to the mark, where the cell sends a sync channel
+abbrev pub told_with_sync : CellPlan → Option SyncPlan → Option ℕ
+told_with_sync plan None = None
+told_with_sync plan (Some sync) =
+    told_by_first plan sync.message (whole_sendings plan sync.message)
+
+-- what it tells of the frames of the channel that it follows, behind the mark, where one is set
+abbrev pub frames_followed : CellPlan → Option Traffic → Option ℕ → List Event
+frames_followed plan None told = []
+frames_followed plan (Some traffic) None = []
+frames_followed plan (Some traffic) (Some superframes) =
+    frames_sent plan traffic.row (98304 * superframes)
+
+unfoldable pub traffic_sent : CellPlan → Option Traffic → List Event
+traffic_sent plan followed = frames_followed plan followed (told_with_sync plan plan.sync)
+
+-- A channel that a handset follows is one of the cell's, and each of its frames from the mark on
+-- that lies in the file is distinct.
+pub record IsFollowed (plan : CellPlan) (traffic : Traffic) (p : TrafficPlan) : Type 0 where
+  pub sent : Contains plan.traffic p
+  pub assigned : IsAssigned p traffic
+  pub distinct : (superframes : ℕ) → told_with_sync plan plan.sync ≡ Some superframes →
+      AreDistinct plan p (98304 * superframes)
+
+-- a handset follows no traffic channel, or one of which that is so
+abbrev pub FollowsSent : CellPlan → Option Traffic → Type 0
+FollowsSent plan None = Unit {0}
+FollowsSent plan (Some traffic) = (p : TrafficPlan) × IsFollowed plan traffic p
+
+-- ---- all channels
 
 abbrev pub is_at : ℕ → Event → Bool
 is_at n event = at_of event == n
@@ -57,15 +91,17 @@ abbrev pub by_places : ℕ → List Event → List Event → List Event
 by_places count one other =
     flat_map (λ n. filter (is_at n) one ++ filter (is_at n) other) (places (count + 1))
 
--- the whole sendings, and the whole pages of a paging channel
-unfoldable pub sent_events : CellPlan → ℕ → List Event
-sent_events plan channel =
-    by_places plan.link.samples (sync_sent plan) (paging_sent plan channel)
+-- the whole sendings, the whole pages of a paging channel, and the frames of the traffic channel
+-- that is followed
+unfoldable pub sent_events : CellPlan → ℕ → Option Traffic → List Event
+sent_events plan channel followed =
+    by_places plan.link.samples (sync_sent plan)
+    (by_places plan.link.samples (paging_sent plan channel) (traffic_sent plan followed))
 
 -- ---- the law
 
 -- A handset hears just these, in this order.
 abbrev pub WholeMessagesComeBack : Type 0
 WholeMessagesComeBack = (width : Width) (plan : CellPlan) (t : Tuning) →
-    IsReceivable width plan → IsTunedTo plan t →
-    events t (made_samples plan) ≡ sent_events plan t.paging
+    IsReceivable width plan → IsTunedTo plan t → FollowsSent plan t.traffic →
+    events t (made_samples plan) ≡ sent_events plan t.paging t.traffic

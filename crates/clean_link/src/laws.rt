@@ -13,6 +13,9 @@ ghost use Rattle.clean_link.specs.PagingLaws.{PagingHaveSentSigns, PagingWordsAr
 ghost use Rattle.clean_link.specs.PagingLaws.{SilentPagingFramesAreZeros, SilentPagingIsZero};
 ghost use Rattle.clean_link.specs.PagingLaws.{UnmarkedWithoutSync};
 ghost use Rattle.clean_link.specs.SentEvents.{WholeMessagesComeBack};
+ghost use Rattle.clean_link.specs.TrafficLaws.{CommandsComeBack, EachFrameIsHeard, SentFramesComeBack};
+ghost use Rattle.clean_link.specs.TrafficLaws.{SixteenCommandsAreSent, TrafficFramesComeBack};
+ghost use Rattle.clean_link.specs.TrafficLaws.{TrafficHaveSentSigns};
 
 /// On a clean link the soft values of each frame in the file are `4 |h|^2 g0 g V C` times the signs
 /// of the symbols that the channel sends in it, where h is the link, g0 and g are the gains of the
@@ -76,8 +79,24 @@ pub fn whole_pages_come_back()
     ensures heard { PagesComeBack }
 {}
 
-/// A handset hears the whole sendings, and the whole pages of the paging channel that it follows, in
-/// the order in which they are known, and nothing else.
+/// On a clean link the soft values of each received frame of a traffic channel are `4 |h|^2 g0 g V C`
+/// times the signs of its symbols and of its power control bits, where V is 1,536 and C 64. So its
+/// power control bits come back, and where no other word of any rate shares its symbols at the places
+/// that they leave, its rate and its information bits, as a good frame. Behind a mark there is one
+/// event for each frame that begins there or later and lies in the file, at the frame's own end.
+pub fn traffic_frames_come_back()
+    ensures signs { TrafficHaveSentSigns }
+    ensures commands { CommandsComeBack }
+    ensures sixteen { SixteenCommandsAreSent }
+    ensures frames { TrafficFramesComeBack }
+    ensures each { EachFrameIsHeard }
+    ensures sent { SentFramesComeBack }
+{}
+
+/// A handset hears the whole sendings, the whole pages of the paging channel that it follows, and
+/// the frames of the traffic channel that it follows, where it follows one and each of them is
+/// distinct, in the order in which they are known, and nothing else. Of what is known at one number
+/// of samples, sendings come first and frames last.
 pub fn whole_messages_come_back()
     ensures { WholeMessagesComeBack }
 {}

@@ -1,0 +1,22 @@
+use Rattle.clean_link.proofs.TrafficCommands.{commands_back, sixteen_sent}
+use Rattle.clean_link.proofs.TrafficFrames.{each_frame_heard, frame_back, sent_frames_back}
+use Rattle.clean_link.proofs.TrafficSigns.{traffic_signs}
+use Rattle.clean_link.proofs.laws.traffic_frames_come_back.Goals as goal
+
+pub returns-clause-signs : goal.returns-clause-signs
+returns-clause-signs c = traffic_signs
+
+pub returns-clause-commands : goal.returns-clause-commands
+returns-clause-commands c = commands_back
+
+pub returns-clause-sixteen : goal.returns-clause-sixteen
+returns-clause-sixteen c = sixteen_sent
+
+pub returns-clause-frames : goal.returns-clause-frames
+returns-clause-frames c = frame_back
+
+pub returns-clause-each : goal.returns-clause-each
+returns-clause-each c = each_frame_heard
+
+pub returns-clause-sent : goal.returns-clause-sent
+returns-clause-sent c = sent_frames_back

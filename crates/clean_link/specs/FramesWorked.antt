@@ -1,0 +1,85 @@
+-- Worked values of the frames of a traffic channel on a clean link, which the checker computes.
+use Rattle.std.specs.Prelude.{◌≡◌, ℕ, ◌^◌, refl, Bool, true, false, List, [], ◌∷◌, ◌++◌, length}
+use Rattle.std.specs.Prelude.{map, replicate, pos, negsuc, None}
+use Rattle.chip_core.specs.Bits.{places}
+use Rattle.chip_core.specs.declared.check_form.CheckForm.TheVariants.{Plain}
+use Rattle.symbol_path.specs.declared.kinds.Rate.TheVariants.{R1200, R2400}
+use Rattle.base_modulator.specs.declared.plan.CellPlan.{CellPlan}
+use Rattle.base_modulator.specs.declared.traffic_frame.TrafficFrame.{TrafficFrame}
+use Rattle.mobile_core.specs.Given.{at_of}
+use Rattle.mobile_core.specs.declared.event.Event.{Event}
+use Rattle.mobile_core.specs.declared.event.Event.TheVariants.{Pilot, Sync, Paging, Frame}
+use Rattle.clean_link.specs.HeardFrames.{frames_sent, sent_commands}
+
+-- two frames, whose power control bits tell a handset to raise its power, and to lower it
+slow : TrafficFrame
+slow = record {
+  rate = R1200;
+  information = replicate 16 true;
+  commands = replicate 16 false;
+}
+
+faster : TrafficFrame
+faster = record {
+  rate = R2400;
+  information = replicate 40 true;
+  commands = replicate 16 true;
+}
+
+-- so much of a cell, from a local chip on, with a traffic channel on row 9 that sends the two in
+-- turn, 3,072 chips behind the system's frames
+cell : ℕ → ℕ → CellPlan
+cell start samples = record {
+  cell = record { pn = 511; time = 1000; lc = 2 ^ 41; check30 = Plain; check16 = Plain };
+  link = record {
+    factor = record { i = pos 0; q = negsuc 2 };
+    start = start;
+    samples = samples;
+  };
+  pilot = record { gain = 100 };
+  sync = None;
+  paging = [];
+  traffic = record {
+    row = 9;
+    esn = 2882343476;
+    offset = 2;
+    gain = 40;
+    frames = slow ∷ faster ∷ [];
+  } ∷ [];
+}
+
+-- how many information bits an event has
+abbrev bits_in : Event → ℕ
+bits_in (Pilot phase energy) = 0
+bits_in (Sync n capsule message) = 0
+bits_in (Paging n capsule message) = 0
+bits_in (Frame n rate good bits commands) = length bits
+
+-- when the frames behind superframe 8 end, and how many information bits they have
+heard : CellPlan → ℕ → List (ℕ × ℕ)
+heard plan row = map (λ (e : Event). (at_of e, bits_in e)) (frames_sent plan row 786432)
+
+-- frames 32 and 33 of the channel, of which the second ends with the file
+two_frames : heard (cell 0 838656) 9 ≡ (814080, 16) ∷ (838656, 40) ∷ []
+unfolding heard cell slow faster frames_sent places
+two_frames = refl
+
+-- one sample less
+one_frame : heard (cell 0 838655) 9 ≡ (814080, 16) ∷ []
+unfolding heard cell slow faster frames_sent places
+one_frame = refl
+
+-- a file that begins 100 chips before the mark
+from_a_later_chip : heard (cell 786332 52324) 9 ≡ (27748, 16) ∷ (52324, 40) ∷ []
+unfolding heard cell slow faster frames_sent places
+from_a_later_chip = refl
+
+-- a row that no traffic channel has
+no_such_channel : heard (cell 0 838656) 10 ≡ []
+unfolding heard cell frames_sent
+no_such_channel = refl
+
+-- power control bits as they are sent
+lowering : sent_commands faster ≡ replicate 16 true
+unfolding faster sent_commands places
+lowering = refl

@@ -1,0 +1,105 @@
+-- The frames of a traffic channel that a clean link gives back: those that the cell sends from the
+-- mark on, as a handset hears them (TIA/EIA-95-B, 7.1.3.5).
+use Rattle.std.specs.Prelude.{ℕ, ◌+◌, ◌-◌, ◌*◌, ◌/◌, ◌<◌, ◌≡◌, ◌==◌, ◌&&◌, Bool, true, false, All}
+use Rattle.std.specs.Prelude.{if◌then◌else◌, nat_le, List, [], ◌∷◌, map, filter, get_or, ℤ, pos}
+use Rattle.std.specs.Prelude.{◌*ℤ◌}
+use Rattle.std.specs.List.{flat_map}
+use Rattle.chip_core.specs.Bits.{places, sign}
+use Rattle.long_code.specs.LongCode.{traffic_mask}
+use Rattle.symbol_path.specs.Scrambling.{power_places}
+use Rattle.frame_decoder.specs.Laws.{frame_word, IsUnshared}
+use Rattle.frame_decoder.specs.TrafficFrames.{frame_symbols, is_replaced}
+use Rattle.base_modulator.specs.Signal.{frames_of}
+use Rattle.base_modulator.specs.TrafficFrames.{cycled_frame, frame_state}
+use Rattle.base_modulator.specs.declared.plan.CellPlan.{CellPlan}
+use Rattle.base_modulator.specs.declared.plan.TrafficPlan.{TrafficPlan}
+use Rattle.base_modulator.specs.declared.traffic_frame.TrafficFrame.{TrafficFrame}
+use Rattle.mobile_core.specs.declared.event.Event.{Event}
+use Rattle.mobile_core.specs.declared.event.Event.TheVariants.{Frame}
+use Rattle.mobile_core.specs.declared.settings.Traffic.{Traffic}
+use Rattle.clean_link.specs.HeardPages.{end_chip}
+
+-- ---- a channel that is followed
+
+-- a channel that is sent is the one that a handset was assigned
+pub record IsAssigned (p : TrafficPlan) (traffic : Traffic) : Type 0 where
+  pub row : p.row ≡ traffic.row
+  pub esn : p.esn ≡ traffic.esn
+  pub offset : p.offset ≡ traffic.offset
+
+-- ---- what a frame sends
+
+-- the 384 symbols of a frame before scrambling, in the order in which they are sent
+abbrev pub word_symbols : TrafficFrame → List Bool
+word_symbols f = frame_symbols f.rate (frame_word f.rate f.information)
+
+-- the power control bit of each of its 16 groups
+unfoldable pub sent_commands : TrafficFrame → List Bool
+sent_commands f = map (λ g. get_or f.commands g false) (places 16)
+
+-- At the places that power control bits replace, the soft values, which no scrambling turns, are a
+-- number times the sign of the group's bit.
+abbrev pub ShowCommands : List ℕ → ℕ → List Bool → List ℤ → Type 0
+ShowCommands replaced strength commands softs =
+    (i : ℕ) → i < 384 → is_replaced replaced i ≡ true →
+    get_or softs i (pos 0) ≡ pos strength *ℤ sign (get_or commands (i / 24) false)
+
+-- A frame whose symbols at the places that no power control bit replaces are those of no other
+-- word, at none of the four rates, whether that word's quality bits are right or not.
+abbrev pub IsDistinctFrame : List ℕ → TrafficFrame → Type 0
+IsDistinctFrame replaced f = IsUnshared replaced f.rate (frame_word f.rate f.information)
+
+-- ---- the frames of a channel
+
+-- the places in frame `frame` of the symbols that power control bits replace
+abbrev pub replaced_of : CellPlan → TrafficPlan → ℕ → List ℕ
+replaced_of plan p frame = power_places (frame_state (frames_of plan p) frame) (traffic_mask p.esn)
+
+-- the local chip at which frame `frame` begins
+abbrev pub frame_chip : TrafficPlan → ℕ → ℕ
+frame_chip p frame = 1536 * p.offset + 24576 * frame
+
+-- whether it begins at the mark or behind it, and lies in the file; the mark is at this local chip
+abbrev pub is_received : CellPlan → TrafficPlan → ℕ → ℕ → Bool
+is_received plan p mark_chip frame =
+    nat_le mark_chip (frame_chip p frame) && nat_le (frame_chip p (frame + 1)) (end_chip plan)
+
+-- the frames of which that is so, in order
+abbrev pub received_frames : CellPlan → TrafficPlan → ℕ → List ℕ
+received_frames plan p mark_chip =
+    filter (is_received plan p mark_chip) (places (end_chip plan / 24576 + 1))
+
+-- each of them is distinct
+abbrev pub AreDistinct : CellPlan → TrafficPlan → ℕ → Type 0
+AreDistinct plan p mark_chip = (frame : ℕ) → is_received plan p mark_chip frame ≡ true →
+    All (IsDistinctFrame (replaced_of plan p frame)) (cycled_frame (frames_of plan p) frame)
+
+-- ---- what is told of them
+
+-- the number of samples at which frame `frame` ends
+abbrev pub frame_ends : CellPlan → TrafficPlan → ℕ → ℕ
+frame_ends plan p frame = frame_chip p (frame + 1) - plan.link.start
+
+-- what a handset tells of a frame that ends at so many samples
+abbrev pub sent_frame_event : ℕ → TrafficFrame → Event
+sent_frame_event n f = Frame n f.rate true f.information (sent_commands f)
+
+-- what it tells of the one that is sent as frame `frame`
+abbrev pub frame_told : CellPlan → TrafficPlan → ℕ → List Event
+frame_told plan p frame =
+    map (sent_frame_event (frame_ends plan p frame)) (cycled_frame (frames_of plan p) frame)
+
+-- the frames of a channel from the mark on, which is at this local chip
+abbrev pub frames_of_channel : CellPlan → TrafficPlan → ℕ → List Event
+frames_of_channel plan p mark_chip =
+    flat_map (frame_told plan p) (received_frames plan p mark_chip)
+
+-- those of the first channel on a row
+abbrev pub frames_on : CellPlan → List TrafficPlan → ℕ → ℕ → List Event
+frames_on plan [] row mark_chip = []
+frames_on plan (p ∷ traffic) row mark_chip =
+    if p.row == row then frames_of_channel plan p mark_chip else frames_on plan traffic row mark_chip
+
+-- the frames of the cell's traffic channel on a row, where the mark is at this local chip
+unfoldable pub frames_sent : CellPlan → ℕ → ℕ → List Event
+frames_sent plan row mark_chip = frames_on plan plan.traffic row mark_chip

@@ -1,0 +1,107 @@
+-- What a clean link gives back of a traffic channel, behind a true mark.
+use Rattle.std.specs.Prelude.{ℕ, ◌+◌, ◌-◌, ◌*◌, ◌<◌, ◌≡◌, true, List, [], ◌∷◌, length, map, pos}
+use Rattle.std.specs.List.{Contains, flat_map}
+use Rattle.chip_core.specs.Bits.{places}
+use Rattle.cdma_io.specs.declared.width.Width.{Width}
+use Rattle.frame_decoder.specs.Laws.{kept_count, ShowSymbols}
+use Rattle.rake_finger.specs.declared.form.Form.TheVariants.{Data}
+use Rattle.base_modulator.specs.Sampled.{made_samples}
+use Rattle.base_modulator.specs.Signal.{frames_of}
+use Rattle.base_modulator.specs.TrafficFrames.{cycled_frame}
+use Rattle.base_modulator.specs.declared.plan.CellPlan.{CellPlan}
+use Rattle.base_modulator.specs.declared.plan.TrafficPlan.{TrafficPlan}
+use Rattle.base_modulator.specs.declared.traffic_frame.TrafficFrame.{TrafficFrame}
+use Rattle.mobile_core.specs.Streams.{frame_softs, is_in_file}
+use Rattle.mobile_core.specs.TrafficEvents.{commands_at, decoded_at, frame_heard, frames_at}
+use Rattle.mobile_core.specs.TrafficEvents.{unturned_softs}
+use Rattle.mobile_core.specs.TrafficStreams.{replaced_in, traffic_stream}
+use Rattle.mobile_core.specs.Tuning.{Tuning}
+use Rattle.mobile_core.specs.declared.mark.Mark.{Mark}
+use Rattle.mobile_core.specs.declared.settings.Traffic.{Traffic}
+use Rattle.clean_link.specs.CleanLink.{IsReceivable, IsTrueMark, IsTunedTo, soft_strength}
+use Rattle.clean_link.specs.HeardFrames.{frame_ends, frames_of_channel, received_frames}
+use Rattle.clean_link.specs.HeardFrames.{sent_commands, word_symbols, AreDistinct, IsAssigned}
+use Rattle.clean_link.specs.HeardFrames.{IsDistinctFrame, ShowCommands}
+
+-- A handset behind a true mark, which was assigned a traffic channel that the cell sends.
+pub record HearsTraffic (width : Width) (plan : CellPlan) (p : TrafficPlan) (t : Tuning)
+    (traffic : Traffic) (m : Mark) (superframes : ℕ) : Type 0 where
+  pub receivable : IsReceivable width plan
+  pub sent : Contains plan.traffic p
+  pub assigned : IsAssigned p traffic
+  pub tuned : IsTunedTo plan t
+  pub marked : IsTrueMark plan m superframes
+
+-- Frame k behind the mark lies in the file, and is this one, which the channel sends k frames
+-- behind the first that begins at the mark's superframe or later: each superframe has four.
+pub record IsHeardAs (plan : CellPlan) (p : TrafficPlan) (t : Tuning) (traffic : Traffic)
+    (m : Mark) (superframes k : ℕ) (f : TrafficFrame) : Type 0 where
+  pub here : is_in_file t.count (traffic_stream t traffic m) k ≡ true
+  pub frame : cycled_frame (frames_of plan p) (4 * superframes + k) ≡ f ∷ []
+
+-- ---- soft values
+
+-- At the places that no power control bit replaces, the soft values of a frame, turned by its
+-- scrambling, are one positive number times the signs of its symbols before scrambling. At the
+-- others, unturned, they are that number times the signs of the power control bits.
+abbrev pub TrafficHaveSentSigns : Type 0
+TrafficHaveSentSigns = (width : Width) (plan : CellPlan) (p : TrafficPlan) (t : Tuning)
+    (traffic : Traffic) (m : Mark) (superframes k : ℕ) (f : TrafficFrame) →
+    HearsTraffic width plan p t traffic m superframes →
+    IsHeardAs plan p t traffic m superframes k f →
+    (0 < soft_strength plan Data p.gain)
+    × ShowSymbols (replaced_in traffic m k) (soft_strength plan Data p.gain) (word_symbols f)
+    (frame_softs (made_samples plan) (traffic_stream t traffic m) k)
+    × ShowCommands (replaced_in traffic m k) (soft_strength plan Data p.gain) f.commands
+    (unturned_softs t traffic m (made_samples plan) k)
+
+-- ---- frames
+
+-- So its power control bits are the ones that were sent,
+abbrev pub CommandsComeBack : Type 0
+CommandsComeBack = (width : Width) (plan : CellPlan) (p : TrafficPlan) (t : Tuning)
+    (traffic : Traffic) (m : Mark) (superframes k : ℕ) (f : TrafficFrame) →
+    HearsTraffic width plan p t traffic m superframes →
+    IsHeardAs plan p t traffic m superframes k f →
+    commands_at t traffic m (made_samples plan) k ≡ sent_commands f
+
+-- and where no other word shares its symbols, it is decoded with its rate and its information bits,
+-- and is good.
+abbrev pub TrafficFramesComeBack : Type 0
+TrafficFramesComeBack = (width : Width) (plan : CellPlan) (p : TrafficPlan) (t : Tuning)
+    (traffic : Traffic) (m : Mark) (superframes k : ℕ) (f : TrafficFrame) →
+    HearsTraffic width plan p t traffic m superframes →
+    IsHeardAs plan p t traffic m superframes k f →
+    IsDistinctFrame (replaced_in traffic m k) f →
+    decoded_at t traffic m (made_samples plan) k ≡ record {
+      rate = f.rate;
+      good = true;
+      bits = f.information;
+      score = pos (soft_strength plan Data p.gain * kept_count (replaced_in traffic m k));
+    }
+
+-- a list of 16 power control bits is sent as it is
+abbrev pub SixteenCommandsAreSent : Type 0
+SixteenCommandsAreSent = (f : TrafficFrame) → length f.commands ≡ 16 → sent_commands f ≡ f.commands
+
+-- ---- in a file
+
+-- There is one event for each frame of the channel that begins at the mark or behind it and lies in
+-- the file, at the frame's own end, in order.
+abbrev pub EachFrameIsHeard : Type 0
+EachFrameIsHeard = (width : Width) (plan : CellPlan) (p : TrafficPlan) (t : Tuning)
+    (traffic : Traffic) (m : Mark) (superframes : ℕ) →
+    HearsTraffic width plan p t traffic m superframes →
+    flat_map (frames_at t traffic m (made_samples plan)) (places (plan.link.samples + 1)) ≡
+    map (λ frame. frame_heard t traffic m (made_samples plan) (frame_ends plan p frame)
+    (frame - 4 * superframes))
+    (received_frames plan p (plan.link.start + m.sample))
+
+-- And where each of them is distinct, they are the frames that were sent, and nothing else.
+abbrev pub SentFramesComeBack : Type 0
+SentFramesComeBack = (width : Width) (plan : CellPlan) (p : TrafficPlan) (t : Tuning)
+    (traffic : Traffic) (m : Mark) (superframes : ℕ) →
+    HearsTraffic width plan p t traffic m superframes →
+    AreDistinct plan p (plan.link.start + m.sample) →
+    flat_map (frames_at t traffic m (made_samples plan)) (places (plan.link.samples + 1)) ≡
+    frames_of_channel plan p (plan.link.start + m.sample)
