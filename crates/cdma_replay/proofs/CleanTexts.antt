@@ -1,6 +1,6 @@
 -- The text of a clean link.
 use Rattle.std.proofs.Common.{◌≡◌, ◌⊎◌, inl, inr, refl, ℕ, ◌≤◌, List, [], ◌∷◌, ◌++◌, length, take}
-use Rattle.std.proofs.Common.{sym, ap, ◌∙◌, pos, Option, Some, Ok}
+use Rattle.std.proofs.Common.{sym, ap, ◌∙◌, pos, Option, Some, Ok, option_map}
 use Rattle.std.specs.Prelude.{is_some, nat_lt}
 use Rattle.chip_core.specs.declared.sample.Sample.{Sample}
 use Rattle.cdma_io.specs.SampleFile.{IsSampleFile}
@@ -21,12 +21,14 @@ use Rattle.mobile_core.specs.declared.event.Event.{Event}
 use Rattle.mobile_core.specs.declared.event.Event.TheVariants.{Pilot}
 use Rattle.cdma_words.specs.Words.{IsPaging}
 use Rattle.clean_link.specs.CleanLink.{IsCleanLink, IsReceivable, IsTunedTo, sync_sent}
-use Rattle.clean_link.specs.SentEvents.{sent_events}
+use Rattle.clean_link.specs.SentEvents.{FollowsSent, sent_events}
 use Rattle.clean_link.proofs.MarksTrue.{marked_where_heard}
 use Rattle.clean_link.proofs.MessagesBack.{messages_back}
 use Rattle.clean_link.proofs.SignalSamples.{length-made}
+use Rattle.cdma_words.specs.declared.job.TrafficOptions.{TrafficOptions}
 use Rattle.cdma_replay.specs.Hearing.{best_pilot, clean_end, clean_events, end_when, events_in}
-use Rattle.cdma_replay.specs.Hearing.{file_end_of, file_events, file_text, tuning_for}
+use Rattle.cdma_replay.specs.Hearing.{file_end_of, file_events, file_text, traffic_of}
+use Rattle.cdma_replay.specs.Hearing.{tuning_for}
 use Rattle.cdma_replay.specs.Replies.{AnswersBehind, IsFileReply, IsWholeFile, Reply, following}
 use Rattle.cdma_replay.specs.declared.receiving.Receiver.{Receiver}
 use Rattle.cdma_replay.specs.declared.status.Status.{Status}
@@ -75,35 +77,40 @@ best_pilot-at samples phase is = ap (λ (p : ℕ). Pilot p (energy samples p)) i
 
 -- the events of the file
 clean_events-are : (width : Width) (script : List ℕ) (plan : CellPlan)
-    (span workers fingers paging : ℕ) (header : Header) (samples : List Sample) →
-    IsCleanLink width script plan span fingers paging header samples →
-    length samples ≡ header.count → IsPaging paging →
-    file_events (following span workers fingers paging) header samples
-    ≡ clean_events span plan paging
+    (span workers fingers paging : ℕ) (traffic : Option TrafficOptions) (header : Header)
+    (samples : List Sample) → IsCleanLink width script plan span fingers paging header samples →
+    FollowsSent plan (option_map traffic_of traffic) → length samples ≡ header.count →
+    IsPaging paging →
+    file_events (following span workers fingers paging traffic) header samples
+    ≡ clean_events span plan paging traffic
 unfolding file_events clean_events events_in
-clean_events-are width script plan span workers fingers paging header samples clean counted one =
+clean_events-are width script plan span workers fingers paging traffic header samples clean follows
+    counted one =
+    let followed = option_map traffic_of traffic in
     let first = take span samples in
     let phase = phase_at plan plan.link.start in
-    let receiver : Receiver = record { fingers = fingers; paging = paging } in
+    let receiver : Receiver =
+    record { fingers = fingers; paging = paging; traffic = traffic } in
     let t = tuning_for header first receiver in
-    let heard : events t samples ≡ sent_events plan paging =
+    let heard : events t samples ≡ sent_events plan paging followed =
     ap (events t) clean.sent
     ∙ messages_back width plan t (receivable width script plan clean.named)
-    (tuned width script plan span receiver header samples clean counted one) in
+    (tuned width script plan span receiver header samples clean counted one) follows in
     ap (λ (es : List Event). best_pilot first ∷ es) heard
-    ∙ ap (λ (e : Event). e ∷ sent_events plan paging) (best_pilot-at first phase clean.found)
-    ∙ ap (λ (s : List Sample). Pilot phase (energy (take span s) phase) ∷ sent_events plan paging)
+    ∙ ap (λ (e : Event). e ∷ sent_events plan paging followed) (best_pilot-at first phase clean.found)
+    ∙ ap (λ (s : List Sample). Pilot phase (energy (take span s) phase) ∷ sent_events plan paging followed)
     clean.sent
 
 -- and how the run ends
 pub clean_end-is : (width : Width) (script : List ℕ) (plan : CellPlan)
-    (span workers fingers paging : ℕ) (header : Header) (samples : List Sample) →
-    IsCleanLink width script plan span fingers paging header samples →
+    (span workers fingers paging : ℕ) (traffic : Option TrafficOptions) (header : Header)
+    (samples : List Sample) → IsCleanLink width script plan span fingers paging header samples →
     length samples ≡ header.count → IsPaging paging →
-    file_end_of (following span workers fingers paging) header samples ≡ clean_end plan
+    file_end_of (following span workers fingers paging traffic) header samples ≡ clean_end plan
 unfolding file_end_of
-clean_end-is width script plan span workers fingers paging header samples clean counted one =
-    let receiver : Receiver = record { fingers = fingers; paging = paging } in
+clean_end-is width script plan span workers fingers paging traffic header samples clean counted one =
+    let receiver : Receiver =
+    record { fingers = fingers; paging = paging; traffic = traffic } in
     let t = tuning_for header (take span samples) receiver in
     let size : length samples ≡ plan.link.samples = ap length clean.sent ∙ length-made plan in
     let told : is_some (mark t samples (length samples)) ≡ nat_lt 0 (length (sync_sent plan)) =
@@ -115,25 +122,27 @@ clean_end-is width script plan span workers fingers paging header samples clean 
 
 -- so what is written of the file is written of the cell
 clean_text-is : (taps : List KeptTap) (width : Width) (script : List ℕ) (plan : CellPlan)
-    (span workers fingers paging : ℕ) (header : Header) (samples : List Sample) →
-    IsCleanLink width script plan span fingers paging header samples →
-    length samples ≡ header.count → IsPaging paging →
-    file_text taps (following span workers fingers paging) header samples ≡
-    run_text taps (clean_events span plan paging)
+    (span workers fingers paging : ℕ) (traffic : Option TrafficOptions) (header : Header)
+    (samples : List Sample) → IsCleanLink width script plan span fingers paging header samples →
+    FollowsSent plan (option_map traffic_of traffic) → length samples ≡ header.count →
+    IsPaging paging →
+    file_text taps (following span workers fingers paging traffic) header samples ≡
+    run_text taps (clean_events span plan paging traffic)
 unfolding file_text
-clean_text-is taps width script plan span workers fingers paging header samples clean counted one =
+clean_text-is taps width script plan span workers fingers paging traffic header samples clean follows
+    counted one =
     ap (run_text taps)
-    (clean_events-are width script plan span workers fingers paging header samples clean counted
-    one)
+    (clean_events-are width script plan span workers fingers paging traffic header samples clean
+    follows counted one)
 
 -- the reply that such a file is owed
-clean_owed : (taps : List KeptTap) (span workers fingers paging : ℕ) (bytes : List ℕ)
-    (header : Header) (samples : List Sample) → IsSampleFile bytes header samples →
+clean_owed : (taps : List KeptTap) (span workers fingers paging : ℕ)
+    (traffic : Option TrafficOptions) (bytes : List ℕ) (header : Header) (samples : List Sample) → IsSampleFile bytes header samples →
     span ≤ length samples →
-    IsWholeFile taps (following span workers fingers paging) bytes
-    (file_text taps (following span workers fingers paging) header samples)
-    (file_end_of (following span workers fingers paging) header samples)
-clean_owed taps span workers fingers paging bytes header samples file enough = record {
+    IsWholeFile taps (following span workers fingers paging traffic) bytes
+    (file_text taps (following span workers fingers paging traffic) header samples)
+    (file_end_of (following span workers fingers paging traffic) header samples)
+clean_owed taps span workers fingers paging traffic bytes header samples file enough = record {
   header = header;
   samples = samples;
   file = file;
@@ -143,44 +152,46 @@ clean_owed taps span workers fingers paging bytes header samples file enough = r
 }
 
 clean_reply : (taps : List KeptTap) (width : Width) (script held : List ℕ)
-    (plan : CellPlan) (span workers fingers paging : ℕ) (header : Header) (samples : List Sample)
-    (status : Status) (written : Option (List ℕ)) →
+    (plan : CellPlan) (span workers fingers paging : ℕ) (traffic : Option TrafficOptions)
+    (header : Header) (samples : List Sample) (status : Status) (written : Option (List ℕ)) →
     IsCleanLink width script plan span fingers paging header samples →
-    length samples ≡ header.count → IsPaging paging →
+    FollowsSent plan (option_map traffic_of traffic) → length samples ≡ header.count → IsPaging paging →
     (status ≡ NoMemory) ⊎
-    ((status ≡ file_end_of (following span workers fingers paging) header samples) ×
-    (written ≡ Some (held ++ file_text taps (following span workers fingers paging) header samples))) →
+    ((status ≡ file_end_of (following span workers fingers paging traffic) header samples) ×
+    (written ≡ Some (held ++ file_text taps (following span workers fingers paging traffic) header samples))) →
     (status ≡ NoMemory) ⊎
     ((status ≡ clean_end plan) ×
-    (written ≡ Some (held ++ run_text taps (clean_events span plan paging))))
-clean_reply taps width script held plan span workers fingers paging header samples status written
-    clean counted one (inl none) = inl none
-clean_reply taps width script held plan span workers fingers paging header samples status written
-    clean counted one (inr all) =
+    (written ≡ Some (held ++ run_text taps (clean_events span plan paging traffic))))
+clean_reply taps width script held plan span workers fingers paging traffic header samples status
+    written clean follows counted one (inl none) = inl none
+clean_reply taps width script held plan span workers fingers paging traffic header samples status
+    written clean follows counted one (inr all) =
     inr (
-      all.0 ∙ clean_end-is width script plan span workers fingers paging header samples clean counted
-          one,
+      all.0
+          ∙ clean_end-is width script plan span workers fingers paging traffic header samples clean
+          counted one,
       all.1 ∙ ap (λ (t : List ℕ). Some (held ++ t))
-          (clean_text-is taps width script plan span workers fingers paging header samples clean
-          counted one),
+          (clean_text-is taps width script plan span workers fingers paging traffic header samples
+          clean follows counted one),
     )
 
 -- so a run that answers what it owes answers that
 pub clean_answer : (taps : List KeptTap) (width : Width) (script bytes held : List ℕ)
-    (plan : CellPlan) (span workers fingers paging : ℕ) (header : Header) (samples : List Sample)
-    (status : Status) (written : Option (List ℕ)) →
+    (plan : CellPlan) (span workers fingers paging : ℕ) (traffic : Option TrafficOptions)
+    (header : Header) (samples : List Sample) (status : Status) (written : Option (List ℕ)) →
     IsSampleFile bytes header samples → span ≤ length samples → IsPaging paging →
     IsCleanLink width script plan span fingers paging header samples →
-    ((reply : Reply) → IsFileReply taps (following span workers fingers paging) bytes reply →
+    FollowsSent plan (option_map traffic_of traffic) →
+    ((reply : Reply) → IsFileReply taps (following span workers fingers paging traffic) bytes reply →
     (status ≡ NoMemory) ⊎ AnswersBehind held reply status written) →
     (status ≡ NoMemory) ⊎
     ((status ≡ clean_end plan) ×
-    (written ≡ Some (held ++ run_text taps (clean_events span plan paging))))
-clean_answer taps width script bytes held plan span workers fingers paging header samples status
-    written file enough one clean exact =
-    clean_reply taps width script held plan span workers fingers paging header samples status
-    written clean file.counted one
+    (written ≡ Some (held ++ run_text taps (clean_events span plan paging traffic))))
+clean_answer taps width script bytes held plan span workers fingers paging traffic header samples
+    status written file enough one clean follows exact =
+    clean_reply taps width script held plan span workers fingers paging traffic header samples status
+    written clean follows file.counted one
     (exact (Ok (
-      file_text taps (following span workers fingers paging) header samples,
-      file_end_of (following span workers fingers paging) header samples,
-    )) (clean_owed taps span workers fingers paging bytes header samples file enough))
+      file_text taps (following span workers fingers paging traffic) header samples,
+      file_end_of (following span workers fingers paging traffic) header samples,
+    )) (clean_owed taps span workers fingers paging traffic bytes header samples file enough))

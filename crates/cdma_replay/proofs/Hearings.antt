@@ -2,7 +2,7 @@
 use Rattle.std.proofs.Common.{◌≡◌, ℕ, zero, suc, ◌+◌, ◌-◌, ◌≤◌, ◌++◌, ◌∷◌, [], List, length, take}
 use Rattle.std.proofs.Common.{drop, refl, sym, ap, ◌∙◌, subst, arith, append_assoc, append-nil}
 use Rattle.std.proofs.Common.{length-append, Bool, is_some, ℤ, pos, replicate, Option, None, Some}
-use Rattle.std.proofs.Common.{Result, Ok, Err, OnErr, OnOk}
+use Rattle.std.proofs.Common.{Result, Ok, Err, OnErr, OnOk, option_map}
 use Rattle.std.proofs.lemmas.List.{length-replicate, take_all, take_at, take-append-drop}
 use Rattle.std.proofs.lemmas.List.Concat.{flat_map-append}
 use Rattle.std.specs.List.{flat_map, range_with_len}
@@ -48,7 +48,7 @@ use Rattle.mobile_core.specs.Tuning.{tuning_by}
 use Rattle.cdma_replay.proofs.Prefixes.{begins_more, prefix_before, prefix_behind, taken_begins}
 use Rattle.cdma_replay.specs.Hearing.{AreNearTo, AreReady, tuning_for, tuning_of, HasGiven}
 use Rattle.cdma_replay.specs.Hearing.{HasHeard, HasTold, HasRoom, HasRoomFor, Tells, TellsPart}
-use Rattle.cdma_replay.specs.Hearing.{events_in, is_told}
+use Rattle.cdma_replay.specs.Hearing.{events_in, is_told, traffic_of}
 
 -- ---- samples that follow one another
 
@@ -338,11 +338,12 @@ first_near deltas found count long most is =
 tuned_alike : (header : Header) (first : List Sample) (receiver : Receiver) (settings : Settings)
     (best : Best) (near : Near) → IsBestIn first 0 32768 best.phase best.energy →
     settings.count ≡ header.count → settings.check30 ≡ header.check30 → settings.paging ≡ receiver.paging →
+    settings.traffic ≡ option_map traffic_of receiver.traffic →
     near.count ≡ receiver.fingers → receiver.fingers ≤ 3 → length near.deltas ≡ 3 →
     near.deltas
     ≡ near_deltas first best.phase receiver.fingers ++ replicate (3 - receiver.fingers) (pos 0) →
     tuning_by settings best near ≡ tuning_for header first receiver
-tuned_alike header first receiver settings best near found count check paging counted most long
+tuned_alike header first receiver settings best near found count check paging traffic counted most long
     deltas =
     let phase : best.phase ≡ best_phase first =
     best_phase-only first best.phase best.energy found in
@@ -352,20 +353,21 @@ tuned_alike header first receiver settings best near found count check paging co
     first_near near.deltas (near_deltas first best.phase receiver.fingers) receiver.fingers long
     most deltas
     ∙ ap (λ (p : ℕ). near_deltas first p receiver.fingers) phase in
-    rw (count, check, paging, phase, near_is) refl
+    rw (count, check, paging, traffic, phase, near_is) refl
 
 pub fresh_given : (settings : Settings) (header : Header) (first : List Sample)
     (receiver : Receiver)
     (best : Best) (near : Near) (mobile : Mobile) → IsBestIn first 0 32768 best.phase best.energy →
     settings.count ≡ header.count → settings.check30 ≡ header.check30 → settings.paging ≡ receiver.paging →
+    settings.traffic ≡ option_map traffic_of receiver.traffic →
     length near.deltas ≡ 3 → AreNearTo first best.phase (Some receiver) (Some near) → AreReady (Some near) →
     StandsFor (tuning_by settings best near) mobile [] [] →
     HasHeard (tuning_of header first (Some receiver)) (Some mobile) [] []
-fresh_given settings header first receiver best near mobile found count check paging long near_is
+fresh_given settings header first receiver best near mobile found count check paging traffic long near_is
     ready stands =
     let most : receiver.fingers ≤ 3 = omega (arith, near_is.0, ready.1) in
     subst (λ (t : Tuning). StandsFor t mobile [] [])
-    (tuned_alike header first receiver settings best near found count check paging near_is.0 most
+    (tuned_alike header first receiver settings best near found count check paging traffic near_is.0 most
     long near_is.1) stands
 
 -- ---- what follows where a call went well, or failed

@@ -330,8 +330,8 @@ pub one_reply : (forms : List ℕ) (job : Job) (bytes : List ℕ) (one other : R
     IsReply forms job bytes one → IsReply forms job bytes other → one ≡ other
 one_reply forms (Find span workers) bytes one other a b =
     one_file_reply [] (finding span workers) bytes one other a b
-one_reply forms (Follow span workers fingers paging limits) bytes one other a b =
-    one_file_reply (kept_by limits forms) (following span workers fingers paging) bytes one other a b
+one_reply forms (Follow span workers fingers paging traffic limits) bytes one other a b =
+    one_file_reply (kept_by limits forms) (following span workers fingers paging traffic) bytes one other a b
 one_reply forms (Make width) bytes one other a b = one_script_reply width bytes one other a b
 
 -- ---- just that reply
@@ -358,7 +358,7 @@ owed_answer forms job status bytes held reply rest old new answered is was owed 
 
 named_well : (job : Job) → ¬ (IsEndOf job Status.BadWords)
 named_well (Find span workers) end = end
-named_well (Follow span workers fingers paging limits) end = end
+named_well (Follow span workers fingers paging traffic limits) end = end
 named_well (Make width) end = end
 
 -- where nothing failed

@@ -2,7 +2,7 @@
 use Rattle.std.specs.Prelude.{◌≡◌, ℕ, ◌-◌, ◌≤◌, replicate, pos, slice_get, Bool, true}
 use Rattle.std.specs.Prelude.{if◌then◌else◌}
 use Rattle.std.specs.Prelude.{List, [], ◌∷◌, ◌++◌, length, take, All, Option, None, Some, IfSome}
-use Rattle.std.specs.Prelude.{is_some}
+use Rattle.std.specs.Prelude.{is_some, option_map}
 use Rattle.std.specs.Prelude.{nat_lt}
 use Rattle.std.specs.List.{flat_map}
 use Rattle.std.specs.Io.{StartsWith}
@@ -24,7 +24,9 @@ use Rattle.mobile_core.specs.Tuning.{Tuning}
 use Rattle.mobile_core.specs.declared.event.Event.{Event}
 use Rattle.mobile_core.specs.declared.event.Event.TheVariants.{Pilot}
 use Rattle.mobile_core.specs.declared.mobile.Mobile.{Mobile}
-use Rattle.cdma_words.specs.Words.{IsFingers, IsPaging}
+use Rattle.mobile_core.specs.declared.settings.Traffic.{Traffic}
+use Rattle.cdma_words.specs.Words.{IsFingers, IsLawfulTraffic, IsPaging}
+use Rattle.cdma_words.specs.declared.job.TrafficOptions.{TrafficOptions}
 use Rattle.event_tap.specs.Taps.{KeptTap, kept_with, run_taps, run_text}
 use Rattle.clean_link.specs.CleanLink.{sync_sent}
 use Rattle.clean_link.specs.SentEvents.{sent_events}
@@ -44,6 +46,11 @@ abbrev pub taps_for : Option Receiver → List KeptTap → List KeptTap
 taps_for None taps = kept_with 0 1
 taps_for (Some receiver) taps = taps
 
+-- the traffic channel that words name, as a handset is told of it
+abbrev pub traffic_of : TrafficOptions → Traffic
+traffic_of options =
+    record { esn = options.esn; row = options.row; offset = options.offset }
+
 -- a handset that follows a file of this header, where the pilot was searched in its first samples
 abbrev pub tuning_for : Header → List Sample → Receiver → Tuning
 tuning_for header first receiver =
@@ -53,6 +60,7 @@ tuning_for header first receiver =
       deltas = near_deltas first (best_phase first) receiver.fingers;
       check30 = header.check30;
       paging = receiver.paging;
+      traffic = option_map traffic_of receiver.traffic;
     }
 
 -- there is none without a receiver
@@ -90,11 +98,11 @@ file_end_of r header samples =
     end_when (is_told (tuning_of header (take r.span samples) r.receiver) samples)
 
 -- what is told of a clean link: the pilot at the cell's phase, all whole sendings, and the whole
--- pages of the paging channel that is followed
-unfoldable pub clean_events : ℕ → CellPlan → ℕ → List Event
-clean_events span plan paging =
+-- pages of the paging channel that is followed, and the frames of the traffic channel that is
+unfoldable pub clean_events : ℕ → CellPlan → ℕ → Option TrafficOptions → List Event
+clean_events span plan paging traffic =
     let phase = phase_at plan plan.link.start in
-    Pilot phase (energy (take span (made_samples plan)) phase) ∷ sent_events plan paging
+    Pilot phase (energy (take span (made_samples plan)) phase) ∷ sent_events plan paging (option_map traffic_of traffic)
 
 -- how a run over a clean link ends: each whole sending tells the time
 abbrev pub clean_end : CellPlan → Status
@@ -112,9 +120,11 @@ AreNearTo samples phase (Some receiver) (Some near) =
     (near.deltas ≡
     near_deltas samples phase receiver.fingers ++ replicate (3 - receiver.fingers) (pos 0))
 
--- one to three fingers, and one of the seven channels
+-- one to three fingers, one of the seven paging channels, and a traffic channel beside it, or none
 abbrev pub IsLawfulReceiver : Receiver → Type 0
-IsLawfulReceiver receiver = IsFingers receiver.fingers × IsPaging receiver.paging
+IsLawfulReceiver receiver =
+    IsFingers receiver.fingers × IsPaging receiver.paging
+    × IsLawfulTraffic receiver.paging receiver.traffic
 
 -- from one to three of them, the best phase first
 abbrev pub AreReady : Option Near → Type 0

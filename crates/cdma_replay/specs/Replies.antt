@@ -15,6 +15,7 @@ use Rattle.base_modulator.specs.declared.script_fault.ScriptFault.TheVariants as
 use Rattle.base_modulator.specs.Script.{plan_named}
 use Rattle.event_tap.specs.Taps.{KeptTap, kept_by}
 use Rattle.cdma_words.specs.declared.job.Job.{Job}
+use Rattle.cdma_words.specs.declared.job.TrafficOptions.{TrafficOptions}
 use Rattle.cdma_words.specs.declared.job.Job.TheVariants.{Find, Follow, Make}
 use Rattle.cdma_replay.specs.declared.receiving.Reception.{Reception}
 use Rattle.cdma_replay.specs.declared.status.Status.{Status}
@@ -73,32 +74,32 @@ IsScriptReply width bytes (Err end) = IsFaultyScript width bytes end
 abbrev pub finding : ℕ → ℕ → Reception
 finding span workers = record { span = span; workers = workers; receiver = None }
 
-abbrev pub following : ℕ → ℕ → ℕ → ℕ → Reception
-following span workers fingers paging = record {
+abbrev pub following : ℕ → ℕ → ℕ → ℕ → Option TrafficOptions → Reception
+following span workers fingers paging traffic = record {
   span = span;
   workers = workers;
-  receiver = Some (record { fingers = fingers; paging = paging });
+  receiver = Some (record { fingers = fingers; paging = paging; traffic = traffic });
 }
 
 -- what a run over these bytes owes, with taps of these forms; `find` and `make` use none of them
 abbrev pub IsReply : List ℕ → Job → List ℕ → Reply → Type 0
 IsReply forms (Find span workers) = IsFileReply [] (finding span workers)
-IsReply forms (Follow span workers fingers paging limits) =
-    IsFileReply (kept_by limits forms) (following span workers fingers paging)
+IsReply forms (Follow span workers fingers paging traffic limits) =
+    IsFileReply (kept_by limits forms) (following span workers fingers paging traffic)
 IsReply forms (Make width) = IsScriptReply width
 
 -- what memory may run out behind, or a write fail behind: a good beginning of the input
 abbrev pub IsPromising : Job → List ℕ → Type 0
 IsPromising (Find span workers) = BeginsFile span
-IsPromising (Follow span workers fingers paging limits) = BeginsFile span
+IsPromising (Follow span workers fingers paging traffic limits) = BeginsFile span
 IsPromising (Make width) = λ bytes. IsOk (plan_named width bytes)
 
 -- what may have been written, whatever the answer: a beginning of the text of what the input begins
 -- with
 abbrev pub Begins : List ℕ → Job → Option (List ℕ) → List ℕ → Type 0
 Begins forms (Find span workers) = BeginsText [] (finding span workers)
-Begins forms (Follow span workers fingers paging limits) =
-    BeginsText (kept_by limits forms) (following span workers fingers paging)
+Begins forms (Follow span workers fingers paging traffic limits) =
+    BeginsText (kept_by limits forms) (following span workers fingers paging traffic)
 Begins forms (Make width) = BeginsMadeFile width
 
 -- ---- ends
@@ -126,7 +127,7 @@ IsScriptEnd status = Unit {0}
 -- the ends of a command
 abbrev pub IsEndOf : Job → Status → Type 0
 IsEndOf (Find span workers) = IsSearchEnd
-IsEndOf (Follow span workers fingers paging limits) = IsFileEnd
+IsEndOf (Follow span workers fingers paging traffic limits) = IsFileEnd
 IsEndOf (Make width) = IsScriptEnd
 
 -- an end that tells of the input: of all of it, or of its fault

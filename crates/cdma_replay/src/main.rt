@@ -9,6 +9,8 @@ ghost use Rattle.std.specs.Prelude.{◌≡◌, ◌≢◌, OnErr, OnOk};
 ghost use Rattle.std.specs.IoError.{error_kind};
 ghost use Rattle.cdma_replay.specs.Find.{IsEnd};
 
+#[cfg(test)]
+mod capture_tests;
 pub mod laws;
 #[cfg(test)]
 mod link_tests;
@@ -24,6 +26,8 @@ mod tap_tests;
 mod test_runs;
 #[cfg(test)]
 mod tests;
+#[cfg(test)]
+mod traffic_tests;
 #[cfg(test)]
 mod worker_tests;
 

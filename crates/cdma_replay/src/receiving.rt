@@ -3,7 +3,7 @@
 
 ghost use Rattle.std.specs.Prelude.{◌≡◌, ◌≢◌, ◌<◌, ◌≤◌, ◌+◌, ◌*◌, ◌-◌, ◌++◌, ◌⊎◌, ℕ};
 ghost use Rattle.std.specs.Prelude.{List, [], length, vec_len, All, Err, None, Some, Option, IfOk};
-ghost use Rattle.std.specs.Prelude.{OnOk, IfErr, OnErr, IfSome};
+ghost use Rattle.std.specs.Prelude.{OnOk, IfErr, OnErr, IfSome, option_map};
 ghost use Rattle.std.specs.List.{flat_map};
 ghost use Rattle.std.specs.Io.KnownBytes.{Appends, Consumes, IsAtEnd};
 ghost use Rattle.chip_core.specs.declared.sample.Sample.{Sample};
@@ -17,20 +17,24 @@ ghost use Rattle.mobile_core.specs.Standing.{StandsFor, has_room};
 ghost use Rattle.mobile_core.specs.declared.event.Event.{Event as TheEvent};
 ghost use Rattle.mobile_core.specs.declared.event.Event.TheVariants.{Pilot as ThePilot};
 ghost use Rattle.event_tap.specs.Taps.{IsKept, KeptTap, heard_text, run_taps, taps_behind};
-ghost use Rattle.cdma_words.specs.Words.{IsWorkers};
+ghost use Rattle.cdma_words.specs.Words.{IsLawfulTraffic, IsWorkers};
+ghost use Rattle.mobile_core.specs.TrafficMonitoring.{IsSoundAssignment};
+ghost use Rattle.std.specs.Option.{ForSome};
 ghost use Rattle.cdma_replay.specs.Hearing.{AreNearTo, AreReady, HasGiven, HasHeard, HasRoom};
 ghost use Rattle.cdma_replay.specs.Hearing.{HasRoomFor, HearsPart, HearsRest, IsLawfulReceiver};
 ghost use Rattle.cdma_replay.specs.Hearing.{Tells, TellsPart};
-ghost use Rattle.cdma_replay.specs.Hearing.{end_when, events_in, is_told, taps_for, tuning_of};
+ghost use Rattle.cdma_replay.specs.Hearing.{end_when, events_in, is_told, taps_for, traffic_of};
+ghost use Rattle.cdma_replay.specs.Hearing.{tuning_of};
 ghost use Rattle.cdma_replay.specs.Find.{BeginsFile, IsEnd, IsFault, IsFaultIn, IsOfFiles};
 ghost use Rattle.cdma_replay.specs.Find.{IsHeaderFault, IsRestFault, IsSearchable, WritesNoMore};
 ghost use Rattle.cdma_replay.specs.Find.{WritesText, ended};
 
 use crate::status::Status;
 use cdma_io::{Failed, FileFault, Header, SampleReader, Sink, Source};
+use cdma_words::TrafficOptions;
 use chip_core::{OutOfMemory, Sample};
 use event_tap::{KeepsTaps, write_event};
-use mobile_core::{Event, Mobile, Settings};
+use mobile_core::{Event, Mobile, Settings, Traffic};
 use pilot_search::{Best, Gate, Near, near, search};
 use short_code::Codes;
 use std::alloc::Global;
@@ -46,6 +50,8 @@ pub struct Receiver {
     pub fingers: u8,
     /// The number of the paging channel that it follows, 1 to 7.
     pub paging: u8,
+    /// The traffic channel that it follows; `None` where it follows none.
+    pub traffic: Option<TrafficOptions>,
 }
 
 /// How a sample file is received.
@@ -120,6 +126,16 @@ fn near_for(codes: &Codes, first: &[Sample], best: Best, receiver: Option<Receiv
     Some(near(first, codes, best, receiver.fingers))
 }
 
+/// The traffic channel that words name, as a handset is told of it.
+fn assigned(options: Option<TrafficOptions>) -> Option<Traffic>
+    ensures value { result ≡ option_map traffic_of options }
+    ensures sound { (paging : ℕ) → IsLawfulTraffic paging options →
+        ForSome result IsSoundAssignment }
+{
+    let TrafficOptions { esn, row, offset } = options?;
+    Some(Traffic { esn, row, offset })
+}
+
 /// A handset for a file of this header, where there is a receiver, with paths near its phase. It has
 /// a table of the codes of its own.
 fn handset_for(
@@ -143,6 +159,7 @@ fn handset_for(
     let settings = Settings {
         fingers: near.count,
         paging: receiver.paging,
+        traffic: assigned(receiver.traffic),
         check30: header.check30,
         check16: header.check16,
         count: header.count,

@@ -1,7 +1,7 @@
 //! The top call: all that the program does.
 
 ghost use Rattle.std.specs.Prelude.{◌≡◌, ◌≤◌, ◌++◌, ◌⊎◌, ◌↔◌, ℕ, List, map};
-ghost use Rattle.std.specs.Prelude.{None, Some, IfSome, length};
+ghost use Rattle.std.specs.Prelude.{None, Option, Some, IfSome, length, option_map};
 ghost use Rattle.std.specs.Io.KnownBytes.{IsAtEnd};
 ghost use Rattle.chip_core.specs.declared.sample.Sample.{Sample};
 ghost use Rattle.cdma_io.specs.declared.file_fault.FileFault.{FileFault};
@@ -12,11 +12,13 @@ ghost use Rattle.cdma_io.specs.SampleFile.{IsSampleFile};
 ghost use Rattle.base_modulator.specs.declared.plan.CellPlan.{CellPlan};
 ghost use Rattle.event_tap.specs.Taps.{kept_by, run_text};
 ghost use Rattle.clean_link.specs.CleanLink.{IsCleanLink};
+ghost use Rattle.clean_link.specs.SentEvents.{FollowsSent};
 ghost use Rattle.cdma_words.specs.declared.job.Job.{Job as TheJob};
 ghost use Rattle.cdma_words.specs.declared.job.Job.TheVariants.{Follow};
+ghost use Rattle.cdma_words.specs.declared.job.TrafficOptions.{TrafficOptions as TheTraffic};
 ghost use Rattle.cdma_words.specs.Words.{IsLawfulJob, job_named};
 ghost use Rattle.cdma_replay.specs.Find.{IsEnd, IsHeaderFault, ended};
-ghost use Rattle.cdma_replay.specs.Hearing.{clean_end, clean_events};
+ghost use Rattle.cdma_replay.specs.Hearing.{clean_end, clean_events, traffic_of};
 ghost use Rattle.cdma_replay.specs.Replies.{AnswersBehind, Begins, IsAnswered, IsEarlyFault};
 ghost use Rattle.cdma_replay.specs.Replies.{IsEndOf, IsPromising, IsReply, IsVerdict, Reply};
 ghost use Rattle.cdma_replay.specs.Replies.{WritesPart};
@@ -88,12 +90,17 @@ fn run_job<R: Threads + Sync, S: Source, K: Sink, G: Gate + Sync>(
             workers,
             fingers,
             paging,
+            traffic,
             limits,
         } => {
             let reception = Reception {
                 span,
                 workers,
-                receiver: Some(Receiver { fingers, paging }),
+                receiver: Some(Receiver {
+                    fingers,
+                    paging,
+                    traffic,
+                }),
             };
             let taps = Taps::new(taps, limits);
             status_of(receive(rt, alloc, reception, source, sink, taps, gate))
@@ -138,21 +145,24 @@ pub fn replay<R: Threads + Sync, S: Source, K: Sink, G: Gate + Sync>(
         ¬ (Rose (S.faults source.old) (S.faults source.new)) →
         ¬ (Rose (K.faults sink.old) (K.faults sink.new)) →
         (result ≡ Status.NoMemory) ⊎ AnswersBehind held reply result (K.written sink.new) }
-    // On a clean link that is the text of the pilot at the cell's phase, and of the sendings and the
-    // followed paging channel's pages that lie in the file whole, each with its message, in the
-    // order in which they are known.
+    // On a clean link, where the traffic channel that is followed is one of the cell's, each of
+    // whose frames is distinct, or none is, that is the text of the pilot at the cell's phase, of
+    // the sendings and the followed paging channel's pages that lie in the file whole, each with its
+    // message, and of that traffic channel's frames, in the order in which they are known.
     ensures clean { (width : Width) (script bytes held : List ℕ) (plan : CellPlan)
-        (span workers fingers paging : ℕ) (limits : List ℕ) (header : Header)
-        (samples : List Sample) →
-        job_named words.now ≡ Some (Follow span workers fingers paging limits) →
+        (span workers fingers paging : ℕ) (traffic : Option TheTraffic) (limits : List ℕ)
+        (header : Header) (samples : List Sample) →
+        job_named words.now ≡ Some (Follow span workers fingers paging traffic limits) →
         S.rest source.old ≡ Some bytes → K.written sink.old ≡ Some held →
         IsSampleFile bytes header samples → span ≤ length samples →
         IsCleanLink width script plan span fingers paging header samples →
+        FollowsSent plan (option_map traffic_of traffic) →
         ¬ (Rose (S.faults source.old) (S.faults source.new)) →
         ¬ (Rose (K.faults sink.old) (K.faults sink.new)) →
         (result ≡ Status.NoMemory) ⊎ ((result ≡ clean_end plan) ×
         (K.written sink.new ≡ Some (held ++
-        run_text (kept_by limits (map (λ b. shape b) taps.items)) (clean_events span plan paging)))) }
+        run_text (kept_by limits (map (λ b. shape b) taps.items))
+        (clean_events span plan paging traffic)))) }
 
     // Whatever failed: each end comes of a command that has it, and where it tells of the input,
     // only where the input owes it.

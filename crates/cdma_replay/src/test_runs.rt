@@ -28,7 +28,7 @@ pub const STEADY: Outside = Outside {
     source_fails: 0,
     sink_piece: 65536,
     sink_fails: 0,
-    room: 5_000_000,
+    room: 10_000_000,
 };
 
 /// The same with room for a few lines alone.

@@ -17,9 +17,10 @@ returns-clause-given c first found near =
     (fresh_given (record {
       fingers = paths.count;
       paging = receiver.paging;
+      traffic = c.assigned.result;
       check30 = c.args.header.check30;
       check16 = c.args.header.check16;
       count = c.args.header.count;
     })
-    c.args.header first receiver c.args.best paths mobile found refl refl refl long near_is
+    c.args.header first receiver c.args.best paths mobile found refl refl refl c.assigned.ensures.value long near_is
     (search rules) (search rules))

@@ -14,12 +14,12 @@ returns-in-Ok-clause-exact g c job bytes held reply named is was owed reads writ
     (owed_at _ c.in-Ok.job job bytes reply same owed) reads writes
 
 pub returns-in-Ok-clause-clean : goal.returns-in-Ok-clause-clean
-returns-in-Ok-clause-clean g c width script bytes held plan span workers fingers paging limits
-    header samples named is was file enough clean reads writes =
-    let job = Follow span workers fingers paging limits in
+returns-in-Ok-clause-clean g c width script bytes held plan span workers fingers paging traffic
+    limits header samples named is was file enough clean follows reads writes =
+    let job = Follow span workers fingers paging traffic limits in
     let same = same_job _ c.in-Ok.job job c.in-Ok.ensures.job named in
     let lawful = subst IsLawfulJob same c.in-Ok.ensures.lawful in
-    clean_answer _ width script bytes held plan span workers fingers paging header samples
-    c.run_job.result _ file enough lawful.3 clean
+    clean_answer _ width script bytes held plan span workers fingers paging traffic header samples
+    c.run_job.result _ file enough lawful.3 clean follows
     (λ reply owed. returns-in-Ok-clause-exact g c job bytes held reply named is was owed reads
     writes)

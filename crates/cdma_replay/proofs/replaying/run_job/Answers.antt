@@ -23,7 +23,8 @@ returns-in-Follow-clause-verdict g c =
     let ends = c.receive-in-Follow.ensures in
     rw (c.in-Follow.is, c.status_of-in-Follow.ensures)
     (file_verdict_by c.new-taps-in-Follow.ensures.value
-    (following c.in-Follow.span c.in-Follow.workers c.in-Follow.fingers c.in-Follow.paging)
+    (following c.in-Follow.span c.in-Follow.workers c.in-Follow.fingers c.in-Follow.paging
+    c.in-Follow.traffic)
     (ended c.receive-in-Follow.result) _ _ _ (record {
       done = ends.done;
       others = ends.others;
