@@ -1,5 +1,6 @@
 pub mod After
 pub mod Before
+pub mod BitPairs
 pub mod Chips
 pub mod Division
 pub mod Fields

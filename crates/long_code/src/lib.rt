@@ -8,6 +8,7 @@
 pub mod laws;
 mod masks;
 mod state;
+mod symbol_step;
 
 pub use masks::{paging_mask, traffic_mask};
 pub use state::State;

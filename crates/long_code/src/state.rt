@@ -3,6 +3,7 @@
 ghost use Rattle.std.specs.Prelude.{◌≡◌, ◌<◌, ◌^◌, ℕ, SomeIff};
 ghost use Rattle.long_code.specs.LongCode.{IsState, after, long_chip};
 
+use crate::symbol_step::times_x64;
 use std::marker::Model;
 
 /// The long code's polynomial below x^42: bit k is the coefficient of x^k.
@@ -54,6 +55,16 @@ impl State {
         ensures state { IsState self.new }
     {
         self.value = times_x(self.value);
+    }
+
+    /// The state 64 chips later, where the next symbol of a paging or traffic channel begins.
+    ///
+    /// TIA/EIA-95-B, 7.1.3.1.6: each symbol of these channels lasts 64 chips.
+    pub fn step_symbol(&mut self)
+        ensures later { self.new ≡ after self.old 64 }
+        ensures state { IsState self.new }
+    {
+        self.value = times_x64(self.value);
     }
 
     /// The state so many chips later, found by squaring: a few thousand steps for any count.
@@ -137,6 +148,8 @@ mod tests {
         assert_eq!(rt; state.value(), 0x200_0000_0000);
         state.jump(4_398_046_511_103);
         assert_eq!(rt; state.value(), 0x200_0000_0000);
+        state.step_symbol();
+        assert_eq!(rt; state.value(), 0x130_504a_316d);
         Ok(())
     }
 
