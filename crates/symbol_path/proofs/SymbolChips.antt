@@ -15,13 +15,6 @@ pub long_chip-same : (s t mask m n : ℕ) → after s m ≡ after t n →
 unfolding long_chip
 long_chip-same s t mask m n e = ap (λ (v : ℕ). common_parity (binary 42 mask) (binary 42 v)) e
 
--- one chip more
-pub later_by_one : (s t k n : ℕ) → after t (1 + n) ≡ after s (k + (1 + n)) →
-    after (after t 1) n ≡ after s (k + 1 + n)
-later_by_one s t k n e =
-    let place : k + (1 + n) ≡ k + 1 + n = omega arith in
-    after-after t 1 n ∙ e ∙ ap (after s) place
-
 -- one symbol more
 pub later_by_symbol : (s t k n : ℕ) → after t (64 + n) ≡ after s (64 * k + (64 + n)) →
     after (after t 64) n ≡ after s (64 * (k + 1) + n)

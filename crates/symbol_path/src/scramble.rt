@@ -2,7 +2,6 @@
 
 ghost use Rattle.std.specs.Prelude.{◌≡◌, ◌+◌, ◌*◌, ◌<◌, ◌≤◌, ◌^◌, ℕ, length, slice_index, All};
 ghost use Rattle.std.specs.List.Sorted.{IsStrictlyIncreasing};
-ghost use Rattle.long_code.specs.LongCode.{after};
 ghost use Rattle.symbol_path.specs.Scrambling.{symbol_chips, scrambling, group_scrambling, power_start, power_places};
 
 use long_code::State;
@@ -13,15 +12,6 @@ const GROUP_CHIPS: u64 = 1536;
 /// The chips after which each state of the long code returns.
 const PERIOD: u64 = 4_398_046_511_103;
 
-/// Goes on by the 64 chips of a symbol.
-fn skip_symbol(state: &mut State)
-    ensures { state.new ≡ after state.old 64 }
-{
-    for _chip in 0..64u32 {
-        state.step();
-    }
-}
-
 /// The chips of a mask of 42 bits at the first chips of the symbols from a state on.
 fn symbol_chips(state: &State, mask: u64, out: &mut [bool])
     requires { mask < 2 ^ 42 }
@@ -30,7 +20,7 @@ fn symbol_chips(state: &State, mask: u64, out: &mut [bool])
     let mut at = *state;
     for chip in out.iter_mut() {
         *chip = at.chip(mask);
-        skip_symbol(&mut at);
+        at.step_symbol();
     }
 }
 

@@ -15,7 +15,7 @@ loop-chip-preserved c =
     ap (after c.args.state.now) zeroth in
     record {
       later = λ n.
-          ap (λ (s : ℕ). after s n) c.skip_symbol.ensures
+          ap (λ (s : ℕ). after s n) c.step_symbol.ensures.later
           ∙ later_by_symbol c.args.state.now at i n (c.loop-chip.invariant.later (64 + n));
       chips = below_more (λ k. get_or (set out i c.chip.result) k false ≡
           long_chip c.args.state.now c.args.mask (64 * k)) i
