@@ -2,6 +2,7 @@
 
 ghost use Rattle.std.specs.Prelude.{◌≡◌, ◌+◌, ◌*◌, ◌<◌, ◌≤◌, ◌^◌, ℕ, length, slice_index, All};
 ghost use Rattle.std.specs.List.Sorted.{IsStrictlyIncreasing};
+ghost use Rattle.long_code.specs.LongCode.{IsState, after};
 ghost use Rattle.symbol_path.specs.Scrambling.{symbol_chips, scrambling, group_scrambling, power_start, power_places};
 
 use long_code::State;
@@ -12,15 +13,17 @@ const GROUP_CHIPS: u64 = 1536;
 /// The chips after which each state of the long code returns.
 const PERIOD: u64 = 4_398_046_511_103;
 
-/// The chips of a mask of 42 bits at the first chips of the symbols from a state on.
-fn symbol_chips(state: &State, mask: u64, out: &mut [bool])
+/// The chips of a mask of 42 bits at the first chips of the symbols from a state on, which goes on
+/// behind them.
+fn symbol_chips(state: &mut State, mask: u64, out: &mut [bool])
     requires { mask < 2 ^ 42 }
-    ensures { out.new ≡ symbol_chips state.now mask (length out.old) }
+    ensures chips { out.new ≡ symbol_chips state.old mask (length out.old) }
+    ensures later { (n : ℕ) → after state.new n ≡ after state.old (64 * length out.old + n) }
+    ensures state { 0 < length out.old → IsState state.new }
 {
-    let mut at = *state;
     for chip in out.iter_mut() {
-        *chip = at.chip(mask);
-        at.step_symbol();
+        *chip = state.chip(mask);
+        state.step_symbol();
     }
 }
 
@@ -33,7 +36,8 @@ pub fn scramble_bits(state: &State, mask: u64, out: &mut [bool; 384])
     requires { mask < 2 ^ 42 }
     ensures { out.new ≡ scrambling state.now mask }
 {
-    symbol_chips(state, mask, out);
+    let mut at = *state;
+    symbol_chips(&mut at, mask, out);
 }
 
 /// Where in its group of 24 symbols a power control bit begins, 0 to 15, from the scrambling bits
@@ -50,10 +54,11 @@ pub fn power_start(previous: &[bool; 24]) -> u8
         + u8::from(previous[20])
 }
 
-/// The scrambling bits of the power control group that begins at a state.
-fn group_bits(state: &State, mask: u64) -> [bool; 24]
+/// The scrambling bits of the power control group that begins at a state, which goes on behind it.
+fn group_bits(state: &mut State, mask: u64) -> [bool; 24]
     requires { mask < 2 ^ 42 }
-    ensures { result ≡ group_scrambling state.now mask }
+    ensures bits { result ≡ group_scrambling state.old mask }
+    ensures later { state.new ≡ after state.old 1536 }
 {
     let mut bits = [false; 24];
     symbol_chips(state, mask, &mut bits);
@@ -80,11 +85,10 @@ pub fn power_places(state: &State, mask: u64) -> [u16; 32]
     before.jump(PERIOD - GROUP_CHIPS);
     let mut places = [0; 32];
     for group in 0..16u16 {
-        let start = u16::from(power_start(&group_bits(&before, mask)));
+        let start = u16::from(power_start(&group_bits(&mut before, mask)));
         let first = 24 * group + start;
         places[usize::from(2 * group)] = first;
         places[usize::from(2 * group + 1)] = first + 1;
-        before.jump(GROUP_CHIPS);
     }
     places
 }

@@ -24,10 +24,10 @@ loop-group-preserved c =
     let mask = c.args.mask in
     let start : c.from-start.result ≡
     power_start (group_scrambling (after (before state 1536) (1536 * g)) mask) =
-    c.from-start.ensures ∙ c.power_start.ensures.value ∙ ap power_start c.group_bits.ensures
+    c.from-start.ensures ∙ c.power_start.ensures.value ∙ ap power_start c.group_bits.ensures.bits
     ∙ ap (λ (s : ℕ). power_start (group_scrambling s mask)) c.loop-group.invariant.group in
     record {
-      group = c.jump-in-loop-group.ensures.later ∙
+      group = c.group_bits.ensures.later ∙
           ap (λ (s : ℕ). after s 1536) c.loop-group.invariant.group ∙ group_next state g;
       pairs = pairs_more (power_place state mask) c.loop-group.places g c.from.result
           c.from-in-loop-group.result (24 * g + c.from-start.result)

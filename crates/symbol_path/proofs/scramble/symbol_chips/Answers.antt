@@ -6,7 +6,7 @@ use Rattle.symbol_path.proofs.scramble.symbol_chips.Goals as goal
 
 pub loop-chip-preserved : goal.loop-chip-preserved
 loop-chip-preserved c =
-    let at = c.loop-chip.at in
+    let at = c.loop-chip.state in
     let i = c.loop-chip.chip-index in
     let out = c.loop-chip.out in
     let within : i < length out = omega arith in
@@ -17,6 +17,7 @@ loop-chip-preserved c =
       later = λ n.
           ap (λ (s : ℕ). after s n) c.step_symbol.ensures.later
           ∙ later_by_symbol c.args.state.now at i n (c.loop-chip.invariant.later (64 + n));
+      state = λ h. c.step_symbol.ensures.state;
       chips = below_more (λ k. get_or (set out i c.chip.result) k false ≡
           long_chip c.args.state.now c.args.mask (64 * k)) i
           (λ k lt. let other : k ≢ i = omega (arith, lt) in
@@ -25,8 +26,16 @@ loop-chip-preserved c =
           long_chip-same at c.args.state.now c.args.mask 0 (64 * i) same);
     }
 
-pub returns : goal.returns
-returns c =
+pub returns-clause-chips : goal.returns-clause-chips
+returns-clause-chips c =
     symbol_chips_all c.args.state.now c.args.mask (length c.args.out.now) c.loop-chip.out
     c.loop-chip.auto.out
     (λ k lt. c.loop-chip.invariant.chips k (omega (arith, lt)))
+
+pub returns-clause-later : goal.returns-clause-later
+returns-clause-later c = λ n.
+    let count : 64 * c.loop-chip.chip-index + n ≡ 64 * length c.args.out.now + n = omega arith in
+    c.loop-chip.invariant.later n ∙ ap (after c.args.state.now) count
+
+pub returns-clause-state : goal.returns-clause-state
+returns-clause-state c = λ h. c.loop-chip.invariant.state (omega (arith, h))
