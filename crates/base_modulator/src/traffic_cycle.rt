@@ -9,13 +9,9 @@ use crate::plan::CellIdentity;
 use crate::series::Series;
 use crate::traffic_frame::TrafficFrame;
 use chip_core::Bits;
-use chip_core::air::DATA_FRAME_CHIPS;
+use chip_core::air::{DATA_FRAME_CHIPS, FRAME_OFFSET_CHIPS};
 use long_code::State;
 use std::marker::Model;
-
-/// How many chips the frames of a traffic channel begin later for each step of its FRAME_OFFSET,
-/// 1.25 ms (TIA/EIA-95-B, 7.1.3.5.1).
-const FRAME_OFFSET_CHIPS: u64 = 1536;
 
 /// The frames of a traffic channel, which a cell sends again and again. Contracts see the cell, the
 /// long code's mask, FRAME_OFFSET, and the frames.

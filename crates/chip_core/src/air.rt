@@ -19,6 +19,10 @@ pub const SYNC_SYMBOL_CHIPS: u64 = 256;
 /// How many chips a frame of 20 ms has, on the paging and traffic channels (7.1.3.4, 7.1.3.5).
 pub const DATA_FRAME_CHIPS: u64 = 24_576;
 
+/// How many chips the frames of a traffic channel begin later for each step of its FRAME_OFFSET,
+/// 1.25 ms (7.1.3.5.1).
+pub const FRAME_OFFSET_CHIPS: u64 = 1_536;
+
 /// How many chips a symbol of the paging and traffic channels has, one period of its row.
 pub const DATA_SYMBOL_CHIPS: u64 = 64;
 

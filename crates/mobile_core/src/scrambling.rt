@@ -2,13 +2,9 @@
 
 use crate::mark::Mark;
 use crate::settings::Traffic;
-use chip_core::air::{DATA_FRAME_CHIPS, DATA_SYMBOLS};
+use chip_core::air::{DATA_FRAME_CHIPS, DATA_SYMBOLS, FRAME_OFFSET_CHIPS};
 use long_code::{State, paging_mask, traffic_mask};
 use symbol_path::scramble_bits;
-
-/// How many chips the frames of a traffic channel begin later for each step of its FRAME_OFFSET,
-/// 1.25 ms (TIA/EIA-95-B, 7.1.3.5.1).
-pub(crate) const FRAME_OFFSET_CHIPS: u64 = 1_536;
 
 /// How the frames of a channel are scrambled: by the long code from each frame's first chip
 /// on, under the channel's mask (TIA/EIA-95-B, 7.1.3.1.6).
