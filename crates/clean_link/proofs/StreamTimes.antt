@@ -59,7 +59,7 @@ timed_alone count s alone =
 abbrev pub ends_at : Stream → ℕ → ℕ
 ends_at s k = frame_start s k + frame_chips s.form
 
-pub inside_is : (count : ℕ) (s : Stream) (k : ℕ) → IsAlone s →
+inside_is : (count : ℕ) (s : Stream) (k : ℕ) → IsAlone s →
     is_in_file count s k ≡ nat_le (ends_at s k) count
 inside_is count s k alone =
     ap (λ (fs : List Finger). is_within count fs s.form (frame_start s k)) alone.fingers ∙

@@ -2,7 +2,7 @@
 -- its mark on.
 use Rattle.std.proofs.Common.{◌≡◌, ℕ, zero, suc, ◌+◌, ◌*◌, ◌<◌, List, [], ◌∷◌, length, get_or, refl}
 use Rattle.std.proofs.Common.{sym, ap, ◌∙◌, arith, subst, Option, None, Some}
-use Rattle.std.specs.Prelude.{◌≢◌, All}
+use Rattle.std.specs.Prelude.{◌≢◌}
 use Rattle.std.specs.List.{Contains, flat_map}
 use Rattle.std.proofs.lemmas.Bool.{eq-eqb, ne_eqb}
 use Rattle.std.proofs.lemmas.List.Elements.{All-contains}
@@ -24,10 +24,10 @@ use Rattle.mobile_core.specs.declared.mark.Mark.{Mark}
 use Rattle.mobile_core.specs.declared.settings.Traffic.{Traffic}
 use Rattle.mobile_core.proofs.MarkStays.{frames_by_one_mark}
 use Rattle.mobile_core.proofs.Ranges.{flat_map_ext_places}
-use Rattle.clean_link.specs.CleanLink.{IsReceivable, IsTunedTo, whole_sendings}
+use Rattle.clean_link.specs.CleanLink.{IsReceivable, IsTunedTo}
 use Rattle.clean_link.specs.HeardFrames.{frames_of_channel, frames_on, frames_sent, AreDistinct}
 use Rattle.clean_link.specs.SentEvents.{frames_followed, told_by_first, told_with_sync}
-use Rattle.clean_link.specs.SentEvents.{traffic_sent, FollowsSent, IsFollowed}
+use Rattle.clean_link.specs.SentEvents.{traffic_sent, FollowsSent}
 use Rattle.clean_link.specs.TrafficLaws.{HearsTraffic}
 use Rattle.clean_link.proofs.FirstMark.{mark_of_first, unset_without}
 use Rattle.clean_link.proofs.MarksTrue.{marks_true, time_of, unmarked}

@@ -1,6 +1,6 @@
 -- The power control bits of the frames of a traffic channel come back.
-use Rattle.std.proofs.Common.{◌≡◌, ℕ, zero, suc, ◌+◌, ◌*◌, ◌/◌, ◌<◌, ◌≤◌, Bool, true, false, not}
-use Rattle.std.proofs.Common.{List, [], ◌∷◌, length, map, get_or, refl, sym, ap, ◌∙◌, arith, ℤ, pos}
+use Rattle.std.proofs.Common.{◌≡◌, ℕ, zero, suc, ◌+◌, ◌*◌, ◌/◌, ◌<◌, Bool, true, false, not}
+use Rattle.std.proofs.Common.{List, [], ◌∷◌, length, get_or, refl, sym, ap, ◌∙◌, arith, ℤ, pos}
 use Rattle.std.proofs.Common.{nat_eq, negsuc}
 use Rattle.std.specs.Prelude.{◌*ℤ◌, ◌+ℤ◌, ◌<ℤ◌, ◌≤ℤ◌, ◌&&◌, int_lt, neg_ℤ}
 use Rattle.std.specs.List.{flat_map, range_with_len}
@@ -8,7 +8,7 @@ use Rattle.std.proofs.lemmas.Bool.{eq-eqb}
 use Rattle.std.proofs.lemmas.Int.{ints}
 use Rattle.std.proofs.lemmas.List.Folds.{list_any_at}
 use Rattle.chip_core.specs.Bits.{places, sign}
-use Rattle.chip_core.proofs.Places.{get_or-map-places, map-places-all, places_is}
+use Rattle.chip_core.proofs.Places.{get_or-map-places, map-places-all}
 use Rattle.long_code.specs.LongCode.{traffic_mask}
 use Rattle.symbol_path.specs.Scrambling.{power_place, power_places}
 use Rattle.symbol_path.proofs.PowerPlaces.{power_place_in_groups, pairs_below, pairs_in_groups}
@@ -68,10 +68,8 @@ power_pairs state mask =
       second = λ g below. second_of_pair f 0 16 g below ∙ ap (λ (k : ℕ). f k + 1) (omega arith);
     }
 
--- where they lie, each in its group of 24
+-- two replaced places of a group of 24
 pub record IsPairAt (replaced : List ℕ) (g first second : ℕ) : Type 0 where
-  pub one : get_or replaced (2 * g) 0 ≡ first
-  pub other : get_or replaced (2 * g + 1) 0 ≡ second
   pub replaced_one : is_replaced replaced first ≡ true
   pub replaced_other : is_replaced replaced second ≡ true
   pub group_one : first / 24 ≡ g
@@ -99,8 +97,6 @@ pair_at state mask g below =
     let first : 2 * g < length xs = omega (arith, below, long) in
     let second : 2 * g + 1 < length xs = omega (arith, below, long) in
     record {
-      one = refl;
-      other = refl;
       replaced_one = listed_place xs (2 * g) first;
       replaced_other = listed_place xs (2 * g + 1) second;
       group_one = omega (arith, low, high);

@@ -1,8 +1,8 @@
 -- The frames of a traffic channel come back: each received one is heard at its own end, as it was
 -- sent where it is distinct.
 use Rattle.std.proofs.Common.{◌≡◌, ℕ, zero, suc, ◌+◌, ◌-◌, ◌*◌, ◌/◌, ◌%◌, ◌<◌, ◌≤◌, ⊎_elim, Bool}
-use Rattle.std.proofs.Common.{true, false, List, [], ◌∷◌, length, map, filter, take, drop, refl, sym}
-use Rattle.std.proofs.Common.{ap, ◌∙◌, arith, subst, nat_le, cond, pos}
+use Rattle.std.proofs.Common.{true, false, List, [], ◌∷◌, length, map, filter, take, drop, refl}
+use Rattle.std.proofs.Common.{sym, ap, ◌∙◌, arith, subst, nat_le, cond, pos}
 use Rattle.std.specs.Prelude.{All}
 use Rattle.std.specs.List.{flat_map}
 use Rattle.std.proofs.lemmas.Bool.{and_from, and_parts, cases_Bool, false_from_ne_true}
@@ -75,6 +75,7 @@ one_each {A} {B} f (x ∷ xs) = ap (λ (ys : List B). f x ∷ ys) (one_each f xs
 
 -- ---- one frame
 
+-- it has as many information bits as its rate
 sized : (width : Width) (plan : CellPlan) (p : TrafficPlan) (t : Tuning) (traffic : Traffic)
     (m : Mark) (superframes k : ℕ) (f : TrafficFrame) →
     HearsTraffic width plan p t traffic m superframes →
@@ -83,6 +84,7 @@ sized width plan p t traffic m superframes k f is heard =
     one_taken IsTrafficFrame p.frames ((4 * superframes + k) % length p.frames) f
     (lawful_traffic width plan p is.receivable.lawful is.sent).sized heard.frame
 
+-- it is decoded
 pub frame_back : TrafficFramesComeBack
 unfolding decoded_at
 frame_back width plan p t traffic m superframes k f is heard distinct =
@@ -227,6 +229,7 @@ module _ (width : Width) (plan : CellPlan) (p : TrafficPlan) (t : Tuning) (traff
       let offset = is.assigned.offset in
       traffic_known_is t traffic m is.tuned.alone k ∙ omega (arith, place, offset)
 
+  -- so one event is heard for each received frame
   pub each_heard : flat_map (frames_at t traffic m samples) (places (plan.link.samples + 1)) ≡
       map (λ frame. frame_heard t traffic m samples (frame_ends plan p frame)
       (frame - 4 * superframes)) (received_frames plan p mark_chip)
@@ -265,6 +268,7 @@ module _ (width : Width) (plan : CellPlan) (p : TrafficPlan) (t : Tuning) (traff
       (commands_back width plan p t traffic m superframes k f is heard))
       ∙ sym (ap (map (sent_frame_event ends)) frame)
 
+  -- the power control bits replace the same places
   same_places : (k : ℕ) → replaced_of plan p (4 * superframes + k) ≡ replaced_in traffic m k
   same_places k =
       ap (λ (s : ℕ). power_places s (traffic_mask p.esn))
@@ -284,6 +288,7 @@ module _ (width : Width) (plan : CellPlan) (p : TrafficPlan) (t : Tuning) (traff
       subst (λ (replaced : List ℕ). IsDistinctFrame replaced f) (same_places k)
       (All-head Distinct f [] only)
 
+  -- and where all of them are distinct, what was sent
   pub sent_heard : 1 ≤ length p.frames → AreDistinct plan p mark_chip →
       flat_map (frames_at t traffic m samples) (places (plan.link.samples + 1)) ≡
       frames_of_channel plan p mark_chip

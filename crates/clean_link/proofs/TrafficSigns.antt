@@ -1,6 +1,6 @@
 -- The soft values of the frames of a traffic channel have the signs that were sent.
-use Rattle.std.proofs.Common.{◌≡◌, ℕ, ◌+◌, ◌*◌, ◌<◌, ◌≤◌, Bool, true, false, List, [], ◌∷◌, ◌++◌}
-use Rattle.std.proofs.Common.{length, refl, sym, ap, ◌∙◌, arith, subst, ℤ, All, replicate}
+use Rattle.std.proofs.Common.{◌≡◌, ℕ, ◌+◌, ◌*◌, ◌<◌, Bool, false, List, [], ◌∷◌}
+use Rattle.std.proofs.Common.{length, refl, sym, ap, ◌∙◌, arith, subst, ℤ, replicate}
 use Rattle.std.specs.Prelude.{◌*ℤ◌}
 use Rattle.std.specs.List.{Contains, flat_map}
 use Rattle.std.proofs.lemmas.List.{append-nil}
@@ -9,7 +9,7 @@ use Rattle.chip_core.specs.Bits.{sign, xor, zip_with}
 use Rattle.cdma_io.specs.declared.width.Width.{Width}
 use Rattle.long_code.specs.LongCode.{after, traffic_mask}
 use Rattle.conv_code.specs.ConvCode.{code_symbols}
-use Rattle.symbol_path.specs.Scrambling.{power_places, scrambling, with_commands}
+use Rattle.symbol_path.specs.Scrambling.{scrambling, with_commands}
 use Rattle.symbol_path.specs.SentOrder.{data_shape, repeats_of}
 use Rattle.symbol_path.specs.TrafficWords.{traffic_word}
 use Rattle.symbol_path.proofs.Agreement.{length-sent}
@@ -44,10 +44,6 @@ use Rattle.clean_link.proofs.FrameSymbols.{shows_commands, shows_symbols, turned
 use Rattle.clean_link.proofs.PagingFrames.{length-scrambling}
 use Rattle.clean_link.proofs.SyncFrames.{fingers_are}
 use Rattle.clean_link.proofs.TrafficTimes.{traffic_file_to}
-
--- the channel's frame that is frame k behind the mark
-abbrev frame_number : ℕ → ℕ → ℕ
-frame_number superframes k = 4 * superframes + k
 
 -- the symbols of a frame
 pub length-word_symbols : (f : TrafficFrame) → length (word_symbols f) ≡ 384
@@ -106,7 +102,9 @@ module _ (width : Width) (plan : CellPlan) (p : TrafficPlan) (t : Tuning) (traff
 
   -- what is sent
   abbrev given : List Bool
-  given = with_commands state mask f.commands (zip_with xor (word_symbols f) (scrambling state mask))
+  given =
+      with_commands state mask f.commands
+      (zip_with xor (word_symbols f) (scrambling state mask))
 
   given_is : sends.traffic_frame_symbols (frames_of plan p) (4 * superframes + k) ≡ given
   given_is =
@@ -163,6 +161,7 @@ module _ (width : Width) (plan : CellPlan) (p : TrafficPlan) (t : Tuning) (traff
       (signed strength given) (length-scrambling state mask ∙ sym all)
       ∙ all
 
+  -- so they show what was sent
   pub strong : 0 < strength
   strong = strength_some width plan Data p.gain is.receivable
       (lawful_traffic width plan p is.receivable.lawful is.sent).gain

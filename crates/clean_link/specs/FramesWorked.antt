@@ -1,5 +1,5 @@
 -- Worked values of the frames of a traffic channel on a clean link, which the checker computes.
-use Rattle.std.specs.Prelude.{◌≡◌, ℕ, ◌^◌, refl, Bool, true, false, List, [], ◌∷◌, ◌++◌, length}
+use Rattle.std.specs.Prelude.{◌≡◌, ℕ, ◌^◌, refl, true, false, List, [], ◌∷◌, length}
 use Rattle.std.specs.Prelude.{map, replicate, pos, negsuc, None}
 use Rattle.chip_core.specs.Bits.{places}
 use Rattle.chip_core.specs.declared.check_form.CheckForm.TheVariants.{Plain}

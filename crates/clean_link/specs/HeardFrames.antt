@@ -98,7 +98,8 @@ frames_of_channel plan p mark_chip =
 abbrev pub frames_on : CellPlan → List TrafficPlan → ℕ → ℕ → List Event
 frames_on plan [] row mark_chip = []
 frames_on plan (p ∷ traffic) row mark_chip =
-    if p.row == row then frames_of_channel plan p mark_chip else frames_on plan traffic row mark_chip
+    if p.row == row then frames_of_channel plan p mark_chip
+    else frames_on plan traffic row mark_chip
 
 -- the frames of the cell's traffic channel on a row, where the mark is at this local chip
 unfoldable pub frames_sent : CellPlan → ℕ → ℕ → List Event

@@ -2,7 +2,8 @@
 //!
 //! Those of any channel hold of what is sent on any Walsh row, to any stream with one finger on the
 //! path; those of the sync channel are their first case, and those of the paging channels behind a
-//! mark their second. Those of a cycle of pages speak of bits alone.
+//! mark their second. Soft values of a traffic channel behind a mark are a third. Those of a cycle of
+//! pages speak of bits alone.
 
 ghost use Rattle.clean_link.specs.ChannelLaws.{ChannelFramesComeBack, ChannelWordsAreTheOnlyBest, ChannelsHaveSentSigns, EarlyFramesAreZero, SilentRowsAreZero, StreamsShowSymbols, StrengthsArePositive};
 ghost use Rattle.clean_link.specs.CleanLaws.{AreZeroWithoutSync, FramesAreZeros, FramesComeBack, HaveSentSigns, IsMarkedWhereHeard, MarksAreTrue, SentWordsAreTheOnlyBest, WholeSendingsComeBack};
@@ -13,9 +14,9 @@ ghost use Rattle.clean_link.specs.PagingLaws.{PagingHaveSentSigns, PagingWordsAr
 ghost use Rattle.clean_link.specs.PagingLaws.{SilentPagingFramesAreZeros, SilentPagingIsZero};
 ghost use Rattle.clean_link.specs.PagingLaws.{UnmarkedWithoutSync};
 ghost use Rattle.clean_link.specs.SentEvents.{WholeMessagesComeBack};
-ghost use Rattle.clean_link.specs.TrafficLaws.{CommandsComeBack, EachFrameIsHeard, SentFramesComeBack};
-ghost use Rattle.clean_link.specs.TrafficLaws.{SixteenCommandsAreSent, TrafficFramesComeBack};
-ghost use Rattle.clean_link.specs.TrafficLaws.{TrafficHaveSentSigns};
+ghost use Rattle.clean_link.specs.TrafficLaws.{CommandsComeBack, EachFrameIsHeard};
+ghost use Rattle.clean_link.specs.TrafficLaws.{SentFramesComeBack, SixteenCommandsAreSent};
+ghost use Rattle.clean_link.specs.TrafficLaws.{TrafficFramesComeBack, TrafficHaveSentSigns};
 
 /// On a clean link the soft values of each frame in the file are `4 |h|^2 g0 g V C` times the signs
 /// of the symbols that the channel sends in it, where h is the link, g0 and g are the gains of the
@@ -79,11 +80,12 @@ pub fn whole_pages_come_back()
     ensures heard { PagesComeBack }
 {}
 
-/// On a clean link the soft values of each received frame of a traffic channel are `4 |h|^2 g0 g V C`
-/// times the signs of its symbols and of its power control bits, where V is 1,536 and C 64. So its
-/// power control bits come back, and where no other word of any rate shares its symbols at the places
-/// that they leave, its rate and its information bits, as a good frame. Behind a mark there is one
-/// event for each frame that begins there or later and lies in the file, at the frame's own end.
+/// On a clean link the soft values of each received frame of a traffic channel are
+/// `4 |h|^2 g0 g V C` times the signs of its symbols and of its power control bits, where V is 1,536
+/// and C 64. So its power control bits come back, and where no other word of any rate shares its
+/// symbols at the places that they leave, its rate and its information bits, as a good frame. Behind
+/// a mark there is one event for each frame that begins there or later and lies in the file, at the
+/// frame's own end.
 pub fn traffic_frames_come_back()
     ensures signs { TrafficHaveSentSigns }
     ensures commands { CommandsComeBack }
