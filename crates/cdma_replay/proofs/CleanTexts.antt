@@ -22,9 +22,9 @@ use Rattle.mobile_core.specs.declared.event.Event.TheVariants.{Pilot}
 use Rattle.cdma_words.specs.Words.{IsPaging}
 use Rattle.clean_link.specs.CleanLink.{IsCleanLink, IsReceivable, IsTunedTo, sync_sent}
 use Rattle.clean_link.specs.SentEvents.{FollowsSent, sent_events}
-use Rattle.clean_link.proofs.MarksTrue.{marked_where_heard}
-use Rattle.clean_link.proofs.MessagesBack.{messages_back}
-use Rattle.clean_link.proofs.SignalSamples.{length-made}
+use Rattle.clean_link.proofs.marks.MarksTrue.{marked_where_heard}
+use Rattle.clean_link.proofs.messages.MessagesBack.{messages_back}
+use Rattle.clean_link.proofs.signal.Samples.{length-made}
 use Rattle.cdma_words.specs.declared.job.TrafficOptions.{TrafficOptions}
 use Rattle.cdma_replay.specs.Hearing.{best_pilot, clean_end, clean_events, end_when, events_in}
 use Rattle.cdma_replay.specs.Hearing.{file_end_of, file_events, file_text, traffic_of}

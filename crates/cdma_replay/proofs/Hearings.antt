@@ -11,7 +11,7 @@ use Rattle.std.specs.Io.KnownBytes.{Appends}
 use Rattle.std.proofs.KnownBytes.{Appends-nil, Appends-trans}
 use Rattle.chip_core.specs.Bits.{places}
 use Rattle.chip_core.proofs.Places.{places-more}
-use Rattle.mobile_core.proofs.Ranges.{flat_map_ext_places}
+use Rattle.chip_core.proofs.Ranges.{flat_map_ext_places}
 use Rattle.chip_core.specs.declared.sample.Sample.{Sample}
 use Rattle.cdma_io.specs.Outside.{AppendsPrefix}
 use Rattle.mobile_core.specs.Events.{events, events_at, events_within}

@@ -28,7 +28,7 @@ use Rattle.base_modulator.proofs.Pieces.{no_sample}
 use Rattle.clean_link.specs.CleanLink.{IsCleanLink}
 use Rattle.base_modulator.specs.Sampled.{made_samples}
 use Rattle.cdma_replay.specs.Make.{made_file}
-use Rattle.clean_link.proofs.SignalSamples.{length-made, made_at}
+use Rattle.clean_link.proofs.signal.Samples.{length-made, made_at}
 
 -- ---- the header
 

@@ -1,5 +1,6 @@
 pub mod BitLists
 pub mod CommonParity
+pub mod Counted
 pub mod ComplexSums
 pub mod Digits
 pub mod FieldLists
@@ -7,7 +8,9 @@ pub mod Greatest
 pub mod IndexSums
 pub mod Numerals
 pub mod Places
+pub mod Ranges
 pub mod RegisterBits
+pub mod Repeated
 pub mod Ring
 pub mod WordBits
 pub mod DecimalTexts

@@ -17,7 +17,7 @@ use Rattle.mobile_core.proofs.EventsGrown.{events_sooner}
 use Rattle.mobile_core.proofs.FingerTimes.{timed_of}
 use Rattle.mobile_core.proofs.Growth.{IsSyncTimed}
 use Rattle.mobile_core.proofs.MarkStays.{mark_sooner}
-use Rattle.mobile_core.proofs.Ranges.{flat_map_ext_places}
+use Rattle.chip_core.proofs.Ranges.{flat_map_ext_places}
 
 -- FINGERS THAT ARE TUNED
 near_one : (d : ℤ) → unsigned_abs d ≤ 127 → is_near d ≡ true

@@ -27,7 +27,7 @@ use Rattle.mobile_core.proofs.Growth.{IsSyncTimed, KnownBefore, KnownFrom}
 use Rattle.mobile_core.proofs.MarkGrowth.{mark_before_sooner, mark_is}
 use Rattle.mobile_core.proofs.MarkStays as stays
 use Rattle.mobile_core.proofs.PageGrowth.{pages_sooner}
-use Rattle.mobile_core.proofs.Ranges.{flat_map_grown}
+use Rattle.chip_core.proofs.Ranges.{flat_map_grown}
 
 -- what ends at n is heard on the sync channel, on the paging channel, or on the traffic channel
 pub events_at_all : (t : Tuning) (xs : List Sample) (n : ℕ) →

@@ -19,7 +19,7 @@ use Rattle.mobile_core.specs.declared.mark.Mark.{Mark}
 use Rattle.mobile_core.specs.declared.settings.Traffic.{Traffic}
 use Rattle.mobile_core.proofs.FrameTimes.{known_between}
 use Rattle.mobile_core.proofs.FramesLeft as left
-use Rattle.mobile_core.proofs.Ranges.{flat_map_ext_filter}
+use Rattle.chip_core.proofs.Ranges.{flat_map_ext_filter}
 use Rattle.mobile_core.proofs.Sooner.{all_fit, softs_sooner}
 use Rattle.mobile_core.proofs.Spans.{frame_softs_sooner}
 

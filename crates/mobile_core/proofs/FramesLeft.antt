@@ -7,7 +7,7 @@ use Rattle.std.proofs.lemmas.Bool.{and_parts, and_from, and_left, and_right, le-
 use Rattle.std.proofs.lemmas.Bool.{cases_lt, eqb-true, eq-eqb, false_from_ne_true}
 use Rattle.mobile_core.specs.Left.{frames_left}
 use Rattle.mobile_core.specs.Streams.{Stream, is_in_file, known_at, known_now}
-use Rattle.mobile_core.proofs.Ranges.{filter_ext_places, filter_none_places, filter_first_places}
+use Rattle.chip_core.proofs.Ranges.{filter_ext_places, filter_none_places, filter_first_places}
 
 -- whether frame k is known at n
 abbrev pub is_now : ℕ → Stream → ℕ → ℕ → Bool

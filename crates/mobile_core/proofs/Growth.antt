@@ -14,8 +14,8 @@ use Rattle.mobile_core.specs.Timing.{IsTimed}
 use Rattle.mobile_core.specs.Tuning.{Tuning, sync_stream, sync_bound}
 use Rattle.mobile_core.proofs.FrameTimes.{outside_low, known_between, known_le}
 use Rattle.mobile_core.proofs.FramesLeft as left
-use Rattle.mobile_core.proofs.Ranges.{filter_none_places, flat_map_ext_filter}
-use Rattle.mobile_core.proofs.Ranges.{map_ext_filter_places, filter-places-more}
+use Rattle.chip_core.proofs.Ranges.{filter_none_places, flat_map_ext_filter}
+use Rattle.chip_core.proofs.Ranges.{map_ext_filter_places, filter-places-more}
 use Rattle.mobile_core.proofs.Spans.{own_bits_sooner}
 
 -- FRAMES OF THE SYNC CHANNEL

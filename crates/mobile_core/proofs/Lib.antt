@@ -1,4 +1,3 @@
-pub mod Ranges
 pub mod FrameTimes
 pub mod Progresses
 pub mod Sooner

@@ -15,7 +15,7 @@ use Rattle.mobile_core.specs.Tuning.{Tuning, sync_stream, sync_bound}
 use Rattle.mobile_core.proofs.FrameTimes.{known_between}
 use Rattle.mobile_core.proofs.Growth.{IsSyncTimed, KnownBefore, KnownFrom, sync_in_file}
 use Rattle.mobile_core.proofs.Growth.{sync_known, frames_before_sooner, heard_sooner, known_with}
-use Rattle.mobile_core.proofs.Ranges as ranges
+use Rattle.chip_core.proofs.Ranges as ranges
 
 -- the frames known within n samples are those before `next`, where the next one is known later
 known_by_is : {low : ℕ} (t : Tuning) → IsSyncTimed t low → (n next : ℕ) →

@@ -36,7 +36,7 @@ use Rattle.mobile_core.proofs.Growth.{IsSyncTimed, sync_in_file, sync_known}
 use Rattle.mobile_core.proofs.MarkGrowth.{marks_at_sooner}
 use Rattle.mobile_core.proofs.MarkLater.{mark_later}
 use Rattle.mobile_core.proofs.PageGrowth.{pages_none}
-use Rattle.mobile_core.proofs.Ranges as ranges
+use Rattle.chip_core.proofs.Ranges as ranges
 
 -- THE FIRST OF JOINED PIECES
 first_kept : {A : Type 0} (xs ys zs : List A) (x : A) →

@@ -13,8 +13,8 @@ use Rattle.mobile_core.specs.Streams.{Stream, frame_own_bits, is_in_file, known_
 use Rattle.mobile_core.specs.Timing.{IsTimed}
 use Rattle.mobile_core.proofs.FingerTimes.{timed_in}
 use Rattle.mobile_core.proofs.FrameTimes.{ends_lt, inside_from, inside_to, outside_low}
-use Rattle.mobile_core.proofs.Ranges.{filter-places-more, filter_ext_places, filter_none_places}
-use Rattle.mobile_core.proofs.Ranges.{flat_map_ext_filter_places}
+use Rattle.chip_core.proofs.Ranges.{filter-places-more, filter_ext_places, filter_none_places}
+use Rattle.chip_core.proofs.Ranges.{flat_map_ext_filter_places}
 use Rattle.mobile_core.proofs.Spans.{own_bits_sooner}
 
 -- those of one frame more

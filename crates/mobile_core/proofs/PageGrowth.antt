@@ -20,7 +20,7 @@ use Rattle.mobile_core.proofs.FrameTimes.{known_le}
 use Rattle.mobile_core.proofs.FramesLeft as left
 use Rattle.mobile_core.proofs.PageBits.{bits_before_sooner}
 use Rattle.mobile_core.proofs.PagesLeft.{either_way}
-use Rattle.mobile_core.proofs.Ranges.{flat_map_ext_filter, flat_map_ext_range}
+use Rattle.chip_core.proofs.Ranges.{flat_map_ext_filter, flat_map_ext_range}
 use Rattle.mobile_core.proofs.Spans.{own_bits_sooner}
 
 module _ (t : Tuning) (channel : ℕ) (m : Mark) where

@@ -18,7 +18,7 @@ use Rattle.mobile_core.specs.declared.mark.Mark.{Mark}
 use Rattle.mobile_core.specs.declared.spelled_page.SpelledPage.{SpelledPage}
 use Rattle.mobile_core.proofs.FrameTimes.{known_between}
 use Rattle.mobile_core.proofs.FramesLeft as left
-use Rattle.mobile_core.proofs.Ranges.{flat_map_ext_filter}
+use Rattle.chip_core.proofs.Ranges.{flat_map_ext_filter}
 
 pub either_way : (b : Bool) (i : ℕ) → (if b then i else i) ≡ i
 either_way true i = refl

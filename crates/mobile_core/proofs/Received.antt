@@ -20,7 +20,7 @@ use Rattle.mobile_core.proofs.ClockSteps.{clock_new, clock_more, clock_come, clo
 use Rattle.mobile_core.proofs.ClockSteps.{span_bounds, span_is}
 use Rattle.mobile_core.proofs.FrameTimes.{inside_from}
 use Rattle.mobile_core.proofs.Spans.{frame_softs_sooner}
-use Rattle.mobile_core.proofs.Ranges.{flat_map_ext_places, flat_map-places-more}
+use Rattle.chip_core.proofs.Ranges.{flat_map_ext_places, flat_map-places-more}
 use Rattle.mobile_core.proofs.SoftSums.{frames_fit, last_more, most_symbols}
 
 flat_map_last : {A : Type 0} (f : ℕ → List A) (m : ℕ) →

@@ -15,7 +15,7 @@ use Rattle.rake_finger.specs.declared.finger.Finger.{Finger}
 use Rattle.rake_finger.specs.declared.form.Form.{Form}
 use Rattle.rake_finger.specs.declared.form.Form.TheVariants.{Sync, Data}
 use Rattle.mobile_core.specs.Streams.{is_within, frame_end}
-use Rattle.mobile_core.proofs.Ranges.{map_ext_places}
+use Rattle.chip_core.proofs.Ranges.{map_ext_places}
 
 -- each finger's samples of the frame lie among the first n
 abbrev pub AllFit : ℕ → Form → ℕ → List Finger → Type 0

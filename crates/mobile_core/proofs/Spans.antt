@@ -10,7 +10,7 @@ use Rattle.mobile_core.specs.Streams.{Stream, frame_start, is_in_file, known_at}
 use Rattle.mobile_core.specs.Streams.{span_first, span_frames, frame_softs, frame_own_bits}
 use Rattle.mobile_core.specs.Timing.{stream_end, IsTimed}
 use Rattle.mobile_core.proofs.FrameTimes as times
-use Rattle.mobile_core.proofs.Ranges.{flat_map_ext_places}
+use Rattle.chip_core.proofs.Ranges.{flat_map_ext_places}
 use Rattle.mobile_core.proofs.Sooner.{softs_sooner, all_fit}
 
 module _ {count low : ℕ} (s : Stream) (t : IsTimed count s low) where

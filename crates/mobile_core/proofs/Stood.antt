@@ -42,7 +42,7 @@ use Rattle.mobile_core.proofs.FrameTimes.{known_between, outside_low}
 use Rattle.mobile_core.proofs.Growth.{left_all, left_none}
 use Rattle.mobile_core.proofs.MarkGrowth.{mark_before_more, mark_before_none, mark_is}
 use Rattle.mobile_core.proofs.MarkLater.{opens_later}
-use Rattle.mobile_core.proofs.Ranges.{flat_map-places-more}
+use Rattle.chip_core.proofs.Ranges.{flat_map-places-more}
 use Rattle.mobile_core.proofs.SyncHeard as sync
 
 or-false : (b : Bool) → (b || false) ≡ b

@@ -1,4 +1,4 @@
-use Rattle.clean_link.proofs.MarksTrue.{marked_where_heard, marks_rate, marks_true, unmarked}
+use Rattle.clean_link.proofs.marks.MarksTrue.{marked_where_heard, marks_rate, marks_true, unmarked}
 use Rattle.clean_link.proofs.laws.marks_are_true.Goals as goal
 
 pub returns-clause-true_mark : goal.returns-clause-true_mark

@@ -1,6 +1,6 @@
-use Rattle.clean_link.proofs.ChannelsBack.{channel_words}
-use Rattle.clean_link.proofs.SyncFrames.{words_alone}
-use Rattle.clean_link.proofs.PagingFrames.{paging_words_alone}
+use Rattle.clean_link.proofs.signal.ChannelsBack.{channel_words}
+use Rattle.clean_link.proofs.frames.SyncFrames.{words_alone}
+use Rattle.clean_link.proofs.frames.PagingFrames.{paging_words_alone}
 use Rattle.clean_link.proofs.laws.sent_words_are_the_only_best.Goals as goal
 
 pub returns-clause-channel : goal.returns-clause-channel

@@ -1,6 +1,6 @@
-use Rattle.clean_link.proofs.TrafficCommands.{commands_back, sixteen_sent}
-use Rattle.clean_link.proofs.TrafficFrames.{each_frame_heard, frame_back, sent_frames_back}
-use Rattle.clean_link.proofs.TrafficSigns.{traffic_signs}
+use Rattle.clean_link.proofs.traffic.Commands.{commands_back, sixteen_sent}
+use Rattle.clean_link.proofs.traffic.Frames.{each_frame_heard, frame_back, sent_frames_back}
+use Rattle.clean_link.proofs.traffic.Signs.{traffic_signs}
 use Rattle.clean_link.proofs.laws.traffic_frames_come_back.Goals as goal
 
 pub returns-clause-signs : goal.returns-clause-signs

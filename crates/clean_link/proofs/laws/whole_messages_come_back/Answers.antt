@@ -1,4 +1,4 @@
-use Rattle.clean_link.proofs.MessagesBack.{messages_back}
+use Rattle.clean_link.proofs.messages.MessagesBack.{messages_back}
 use Rattle.clean_link.proofs.laws.whole_messages_come_back.Goals as goal
 
 pub returns : goal.returns

@@ -1,0 +1,3 @@
+-- The mark that a sync message sets.
+pub mod MarksTrue
+pub mod FirstMark

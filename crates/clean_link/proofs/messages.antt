@@ -1,0 +1,3 @@
+-- The messages of all channels.
+pub mod EventPlaces
+pub mod MessagesBack

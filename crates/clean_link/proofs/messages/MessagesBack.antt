@@ -1,0 +1,196 @@
+-- A handset hears the whole sendings, the whole pages and the frames of a clean link's cell, in the
+-- order in which they are known, and nothing else.
+use Rattle.std.proofs.Common.{◌≡◌, ℕ, ◌+◌, ◌*◌, Bool, true, false, List, [], ◌∷◌, ◌++◌}
+use Rattle.std.proofs.Common.{map, refl, sym, ap, ◌∙◌, arith, inl, inr, nat_lt}
+use Rattle.std.proofs.Common.{Option, None, Some}
+use Rattle.std.specs.Prelude.{if◌then◌else◌}
+use Rattle.std.specs.List.{flat_map}
+use Rattle.std.proofs.lemmas.Bool.{cases_Bool, ltb-true}
+use Rattle.std.proofs.lemmas.List.{map-append}
+use Rattle.chip_core.specs.Bits.{places}
+use Rattle.chip_core.specs.declared.sample.Sample.{Sample}
+use Rattle.cdma_io.specs.declared.width.Width.{Width}
+use Rattle.base_modulator.specs.Sampled.{made_samples}
+use Rattle.base_modulator.specs.Sendings.{told_superframes}
+use Rattle.base_modulator.specs.declared.plan.CellPlan.{CellPlan}
+use Rattle.base_modulator.specs.declared.plan.SyncPlan.{SyncPlan}
+use Rattle.mobile_core.specs.Events.{events_at, events_within, frame_events_at, paging_events_at}
+use Rattle.mobile_core.specs.Marks.{mark}
+use Rattle.mobile_core.specs.PagingEvents.{page_event, pages_at, pages_behind}
+use Rattle.mobile_core.specs.SyncEvents.{sync_events_at}
+use Rattle.mobile_core.specs.Tuning.{Tuning}
+use Rattle.mobile_core.specs.declared.event.Event.{Event}
+use Rattle.mobile_core.specs.declared.mark.Mark.{Mark}
+use Rattle.mobile_core.proofs.EventPlaces.{paging_at, sync_at, traffic_at}
+use Rattle.mobile_core.proofs.EventsGrown.{events_at_all}
+use Rattle.mobile_core.proofs.MarkStays.{pages_by_one_mark}
+use Rattle.chip_core.proofs.Ranges.{flat_map_ext_places}
+use Rattle.clean_link.specs.CleanLink.{IsReceivable, IsTunedTo, sync_sent}
+use Rattle.clean_link.specs.CleanLink.{whole_sendings}
+use Rattle.clean_link.specs.HeardPages.{ReadPage, known_page, pages_sent, pages_within}
+use Rattle.clean_link.specs.SentEvents.{WholeMessagesComeBack, known_event, paging_sent}
+use Rattle.clean_link.specs.SentEvents.{pages_behind_mark, pages_with_sync, sent_events}
+use Rattle.clean_link.specs.SentEvents.{by_places, told_by_first, traffic_sent}
+use Rattle.clean_link.proofs.messages.EventPlaces.{at_both, gathered_by_places}
+use Rattle.clean_link.proofs.marks.FirstMark.{mark_of_first, unset_without}
+use Rattle.clean_link.proofs.marks.MarksTrue.{marks_rate, marks_true, time_of, unmarked}
+use Rattle.clean_link.proofs.pages.Back.{pages_back}
+use Rattle.clean_link.proofs.sendings.Back.{sendings_back}
+use Rattle.clean_link.proofs.signal.Samples.{length-made}
+use Rattle.clean_link.proofs.traffic.Back.{frames_all, one_near}
+
+-- ---- the paging channel
+map_known : (n : ℕ) (pages : List ReadPage) →
+    map (page_event n) pages ≡ map known_event (map (known_page n) pages)
+map_known n [] = refl
+map_known n (page ∷ pages) =
+    ap (λ (es : List Event). page_event n page ∷ es) (map_known n pages)
+
+gathered_known : (f : ℕ → List ReadPage) (ks : List ℕ) →
+    flat_map (λ n. map (page_event n) (f n)) ks
+    ≡ map known_event (flat_map (λ n. map (known_page n) (f n)) ks)
+gathered_known f [] = refl
+gathered_known f (k ∷ ks) =
+    let here = map_known k (f k) in
+    let rest = gathered_known f ks in
+    rw (map-append, here, rest) refl
+
+none_gathered : (ks : List ℕ) →
+    flat_map (λ (n : ℕ). map (known_page n) (let none : List ReadPage = [] in none)) ks ≡ []
+none_gathered [] = refl
+none_gathered (k ∷ ks) = none_gathered ks
+
+-- no channel is heard with this PRAT
+unrated : (t : Tuning) (channel : ℕ) (m : Mark) (samples : List Sample) (n : ℕ) →
+    nat_lt m.prat 2 ≡ false → pages_within t channel (Some m) samples n ≡ []
+unrated t channel m samples n off =
+    ap (λ (b : Bool). flat_map
+    (λ i. map (known_page i) (if b then pages_at t channel m samples i else [])) (places (n + 1)))
+    off
+    ∙ none_gathered (places (n + 1))
+
+-- what is sent with a sync channel, by its PRAT and by what its first whole sending tells
+with_sync_is : (plan : CellPlan) (channel : ℕ) (sync : SyncPlan) (rated : Bool)
+    (told : Option ℕ) → nat_lt sync.message.prat 2 ≡ rated →
+    told_by_first plan sync.message (whole_sendings plan sync.message) ≡ told →
+    pages_with_sync plan channel (Some sync)
+    ≡ (if rated then pages_behind_mark plan channel told else [])
+with_sync_is plan channel sync rated told rated_is told_is =
+    ap (λ (b : Bool). if b then pages_behind_mark plan channel
+    (told_by_first plan sync.message (whole_sendings plan sync.message)) else []) rated_is
+    ∙ ap (λ (o : Option ℕ). if rated then pages_behind_mark plan channel o else []) told_is
+
+module _ (width : Width) (plan : CellPlan) (t : Tuning) (is : IsReceivable width plan)
+    (tuned : IsTunedTo plan t) where
+  -- by the mark of all samples
+  by_last_mark : flat_map (paging_events_at t (made_samples plan)) (places (plan.link.samples + 1))
+      ≡ map known_event
+      (pages_within t t.paging (mark t (made_samples plan) t.count) (made_samples plan)
+      plan.link.samples)
+  unfolding paging_events_at
+  by_last_mark =
+      let samples = made_samples plan in
+      let last = mark t samples t.count in
+      let count = tuned.count in
+      flat_map_ext_places
+      (λ n. map (page_event n) (pages_behind t t.paging (mark t samples n) samples n))
+      (λ n. map (page_event n) (pages_behind t t.paging last samples n)) (plan.link.samples + 1)
+      (λ n below.
+      ap (map (page_event n))
+      (pages_by_one_mark t (one_near t plan tuned) t.paging samples n t.count
+      (omega (arith, below, count))))
+      ∙ gathered_known (λ n. pages_behind t t.paging last samples n)
+      (places (plan.link.samples + 1))
+
+  module _ (sync : SyncPlan) (sends : plan.sync ≡ Some sync) where
+    -- where no sending is whole
+    unset : mark t (made_samples plan) t.count ≡ None →
+        pages_with_sync plan t.paging (Some sync) ≡ []
+    unset none_set =
+        let none = unset_without width plan sync t is sends tuned none_set in
+        with_sync_is plan t.paging sync (nat_lt sync.message.prat 2) None refl
+        (ap (told_by_first plan sync.message) none)
+        ∙ either (nat_lt sync.message.prat 2)
+      where
+        either : (b : Bool) → (if b then (let none : List Event = [] in none) else []) ≡ []
+        either true = refl
+        either false = refl
+
+    -- behind the mark that is set
+    marked : (m : Mark) → mark t (made_samples plan) t.count ≡ Some m →
+        map known_event
+        (pages_within t t.paging (Some m) (made_samples plan) plan.link.samples)
+        ≡ pages_with_sync plan t.paging (Some sync)
+    marked m set =
+        let samples = made_samples plan in
+        let rate = marks_rate width plan sync t t.count m is sends tuned set in
+        let (superframes, true_mark) = marks_true width plan t t.count m is tuned set in
+        let first = mark_of_first width plan sync t is sends tuned m set in
+        let told : superframes ≡ told_superframes plan.cell sync.message first.sending =
+        omega (
+          arith,
+          true_mark.time,
+          first.time,
+          time_of plan sync.message first.sending,
+        ) in
+        let chip : plan.link.start + m.sample
+        ≡ 98304 * told_superframes plan.cell sync.message first.sending =
+        true_mark.place ∙ ap (λ (n : ℕ). 98304 * n) told in
+        let rated : nat_lt sync.message.prat 2 ≡ nat_lt m.prat 2 =
+        ap (λ (n : ℕ). nat_lt n 2) (sym rate) in
+        let first_is = ap (told_by_first plan sync.message) first.first in
+        elim (cases_Bool (nat_lt m.prat 2)) [
+          | inl on ↦
+              let low = ltb-true m.prat 2 on in
+              let pages = pages_back width plan sync t t.paging m superframes is is.pages tuned
+              tuned.first_channel tuned.last_channel tuned.free sends rate low true_mark in
+              ap (map known_event) (pages ∙ ap (pages_sent plan t.paging) chip)
+              ∙ sym (with_sync_is plan t.paging sync true _ (rated ∙ on) first_is)
+          | inr off ↦
+              ap (map known_event) (unrated t t.paging m samples plan.link.samples off)
+              ∙ sym (with_sync_is plan t.paging sync false _ (rated ∙ off) first_is)
+        ]
+
+  pages_by : (channel : Option SyncPlan) (last : Option Mark) → plan.sync ≡ channel →
+      mark t (made_samples plan) t.count ≡ last →
+      map known_event (pages_within t t.paging last (made_samples plan) plan.link.samples)
+      ≡ pages_with_sync plan t.paging channel
+  pages_by None last silent set =
+      let none = sym set ∙ unmarked width plan t t.count is silent tuned in
+      ap (λ (m : Option Mark). map known_event
+      (pages_within t t.paging m (made_samples plan) plan.link.samples)) none
+      ∙ ap (map known_event) (none_gathered (places (plan.link.samples + 1)))
+  pages_by (Some sync) None sends none =
+      ap (map known_event) (none_gathered (places (plan.link.samples + 1)))
+      ∙ sym (unset sync sends none)
+  pages_by (Some sync) (Some m) sends set = marked sync sends m set
+
+  -- its events are the whole pages
+  pub pages_all : flat_map (paging_events_at t (made_samples plan)) (places (plan.link.samples + 1))
+      ≡ paging_sent plan t.paging
+  unfolding paging_sent
+  pages_all =
+      by_last_mark ∙ pages_by plan.sync (mark t (made_samples plan) t.count) refl refl
+
+-- ---- all channels
+
+pub messages_back : WholeMessagesComeBack
+unfolding sent_events events_within
+messages_back width plan t is tuned follows =
+    let samples = made_samples plan in
+    let count = plan.link.samples in
+    let long = length-made plan in
+    let pages : ℕ → List Event = paging_events_at t samples in
+    let frames : ℕ → List Event = frame_events_at t samples in
+    ap (λ (n : ℕ). flat_map (events_at t samples) (places (n + 1))) long
+    ∙ flat_map_ext_places (events_at t samples)
+    (λ n. sync_events_at t samples n ++ (pages n ++ frames n)) (count + 1)
+    (λ n below. events_at_all t samples n)
+    ∙ gathered_by_places (sync_events_at t samples) (λ n. pages n ++ frames n) count
+    (sync_sent plan) (by_places count (paging_sent plan t.paging) (traffic_sent plan t.traffic))
+    (sync_at t samples)
+    (λ n. at_both n (pages n) (frames n) (paging_at t samples n) (traffic_at t samples n))
+    (sendings_back width plan t is tuned)
+    (gathered_by_places pages frames count (paging_sent plan t.paging)
+    (traffic_sent plan t.traffic) (paging_at t samples) (traffic_at t samples)
+    (pages_all width plan t is tuned) (frames_all width plan t is tuned follows))

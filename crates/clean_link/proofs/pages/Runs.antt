@@ -1,0 +1,299 @@
+-- The half-frames of a run of capsules, and what their bits end.
+use Rattle.std.proofs.Common.{◌≡◌, ℕ, zero, suc, ◌+◌, ◌-◌, ◌*◌, ◌/◌, ◌%◌, ◌<◌, ◌≤◌, ◌==◌, Bool}
+use Rattle.std.proofs.Common.{true, false, List, [], ◌∷◌, ◌++◌, length, map, take, drop, replicate}
+use Rattle.std.proofs.Common.{refl, sym, ap, ◌∙◌, arith, Some, None, inl, inr}
+use Rattle.std.proofs.Common.{append_assoc, length-append, nat_le, nat_lt}
+use Rattle.std.specs.List.{flat_map}
+use Rattle.std.specs.Option.{option_to_list}
+use Rattle.std.proofs.lemmas.Bool.{cases_lt, eq-eqb, le-leb, le-ltb, lt-leb, lt-ltb, ne_eqb}
+use Rattle.std.proofs.lemmas.Grind.{flat_map-append}
+use Rattle.std.proofs.lemmas.List.{append-nil, length-replicate, length-take-le, take-take}
+use Rattle.std.proofs.lemmas.List.{map-append}
+use Rattle.std.proofs.lemmas.Nat.{div-add-mod', div-mul-add, mod-mul-add, mod_below}
+use Rattle.std.proofs.Math.Nat.{mul-le-mul_left}
+use Rattle.std.proofs.Math.Seq.{take-add}
+use Rattle.chip_core.specs.Bits.{places}
+use Rattle.chip_core.proofs.Places.{length-map-places}
+use Rattle.quality_bits.specs.Pieces.{Piece, bodies, from_last_start}
+use Rattle.paging_message.specs.HalfFrames.{ends_chain}
+use Rattle.paging_message.specs.Laying.{fill, padded}
+use Rattle.chip_core.proofs.Ranges.{flat_map_ext_places}
+use Rattle.clean_link.proofs.pages.Chains.{chain_ends, ended_of, joined, AreChained}
+use Rattle.chip_core.proofs.Counted.{flat_map-add, flat_map-zero, map-next, map-zero}
+use Rattle.clean_link.proofs.pages.Pieces.{from_start_of_run, none_starts-append, NoneStarts}
+use Rattle.clean_link.proofs.pages.Scans.{chain_of, cut_short, ended, scan, scan-next, told_in}
+use Rattle.clean_link.proofs.pages.Scans.{with_number}
+use Rattle.clean_link.proofs.sendings.Pieces.{run, run-places}
+
+-- ---- room
+
+-- the half-frames that so many body bits take
+abbrev pub width : ℕ → ℕ → ℕ
+width size count = (count + size - 1) / size
+
+small : (x w : ℕ) → x < w → x % w ≡ x
+small x w lt =
+    let e : x ≡ 0 * w + x = omega arith in ap (λ (n : ℕ). n % w) e ∙ mod-mul-add 0 w x lt
+
+fills_from : (size count q r : ℕ) → count ≡ q * size + r → r < size →
+    count + fill size count ≡ size * width size count
+unfolding fill
+fills_from size count q r parts low =
+    let rest : count % size ≡ r = ap (λ (k : ℕ). k % size) parts ∙ mod-mul-add q size r low in
+    elim (cases_lt 0 r) [
+      | inl some ↦
+          let f : (size - count % size) % size ≡ size - r =
+          ap (λ (k : ℕ). (size - k) % size) rest
+          ∙ small (size - r) size (omega (arith, some, low)) in
+          let turned : count + size - 1 ≡ suc q * size + (r - 1) = omega (arith, parts, some) in
+          let w : width size count ≡ suc q =
+          ap (λ (k : ℕ). k / size) turned
+          ∙ div-mul-add (suc q) size (r - 1) (omega (arith, some, low)) in
+          rw w (omega (arith, f, parts, low))
+      | inr none ↦
+          let all : size - r ≡ 1 * size + 0 = omega (arith, none) in
+          let f : (size - count % size) % size ≡ 0 =
+          ap (λ (k : ℕ). (size - k) % size) rest
+          ∙ ap (λ (k : ℕ). k % size) all ∙ mod-mul-add 1 size 0 (omega (arith, low)) in
+          let turned : count + size - 1 ≡ q * size + (size - 1) = omega (arith, parts, none, low) in
+          let w : width size count ≡ q =
+          ap (λ (k : ℕ). k / size) turned
+          ∙ div-mul-add q size (size - 1) (omega (arith, low)) in
+          rw w (omega (arith, f, parts, none))
+    ]
+
+-- zeros fill the last of them
+pub fills : (size count : ℕ) → 0 < size → count + fill size count ≡ size * width size count
+fills size count large =
+    fills_from size count (count / size) (count % size) (sym (div-add-mod' count size))
+    (mod_below count size large)
+
+pub length-padded : (size : ℕ) (bits : List Bool) → 0 < size →
+    length (padded size bits) ≡ size * width size (length bits)
+length-padded size bits large =
+    length-append bits (replicate (fill size (length bits)) false)
+    ∙ ap (λ (k : ℕ). length bits + k) (length-replicate (fill size (length bits)) false)
+    ∙ fills size (length bits) large
+
+pub no_width : (size : ℕ) → 0 < size → width size 0 ≡ 0
+no_width size large =
+    let e : 0 + size - 1 ≡ 0 * size + (size - 1) = omega (arith, large) in
+    ap (λ (k : ℕ). k / size) e ∙ div-mul-add 0 size (size - 1) (omega (arith, large))
+
+-- ---- a run
+
+-- the body bits of a run
+abbrev pub run_bits : ℕ → List (List Bool) → List Bool
+run_bits size cs = padded size (joined cs 0)
+
+-- how many half-frames it has
+abbrev pub run_width : ℕ → List (List Bool) → ℕ
+run_width size cs = width size (length (joined cs 0))
+
+-- its half-frame j
+abbrev pub run_piece : ℕ → List (List Bool) → ℕ → Piece
+run_piece size cs j =
+    record { starts = j == 0; body = take size (drop (size * j) (run_bits size cs)) }
+
+-- all of them
+abbrev pub run_pieces : ℕ → List (List Bool) → List Piece
+run_pieces size cs = map (run_piece size cs) (places (run_width size cs))
+
+-- the first one alone begins the run
+pub first_begins : (size : ℕ) (cs : List (List Bool)) → (run_piece size cs 0).starts ≡ true
+first_begins size cs = eq-eqb 0 0 refl
+
+pub later_begins_none : (size : ℕ) (cs : List (List Bool)) (j : ℕ) → 0 < j →
+    (run_piece size cs j).starts ≡ false
+later_begins_none size cs j some = ne_eqb j 0 (λ e. omega (arith, e, some))
+
+pub run_width_some : (size : ℕ) (cs : List (List Bool)) → 0 < size → 0 < length (joined cs 0) →
+    0 < run_width size cs
+run_width_some size cs large some =
+    let all = fills size (length (joined cs 0)) large in
+    elim (cases_lt 0 (run_width size cs)) [
+      | inl more ↦ more
+      | inr none ↦
+          let z : run_width size cs ≡ 0 = omega (arith, none) in
+          let p : size * run_width size cs ≡ 0 = rw z (omega arith) in
+          absurd (omega (arith, all, p, some))
+    ]
+
+-- ---- the message under way
+
+-- so many half-frames of a run, and one more
+runs_on : (before : List Piece) (f : ℕ → Piece) (j : ℕ) (q : Piece) → (f 0).starts ≡ true →
+    ((i : ℕ) → 0 < i → (f i).starts ≡ false) → q.starts ≡ (f j).starts →
+    from_last_start ((before ++ map f (places j)) ++ q ∷ []) ≡ map f (places j) ++ q ∷ []
+runs_on before f zero q begins none same =
+    ap (λ (l : List Piece). from_last_start ((before ++ l) ++ q ∷ [])) (map-zero f)
+    ∙ ap (λ (l : List Piece). from_last_start (l ++ q ∷ [])) (append-nil before)
+    ∙ from_start_of_run before q [] (same ∙ begins) tt
+    ∙ ap (λ (l : List Piece). l ++ q ∷ []) (sym (map-zero f))
+runs_on before f (suc j) q begins none same =
+    let rest = run f 1 j in
+    ap (λ (l : List Piece). from_last_start ((before ++ l) ++ q ∷ [])) (run-places f (suc j))
+    ∙ ap from_last_start (append_assoc before (f 0 ∷ rest) (q ∷ []))
+    ∙ from_start_of_run before (f 0) (rest ++ q ∷ []) begins
+    (none_starts-append rest (q ∷ []) (silent_rest f 1 j (omega arith) none)
+    (same ∙ none (suc j) (omega arith), tt))
+    ∙ ap (λ (l : List Piece). l ++ q ∷ []) (sym (run-places f (suc j)))
+  where
+    silent_rest : (f : ℕ → Piece) (at n : ℕ) → 0 < at →
+        ((i : ℕ) → 0 < i → (f i).starts ≡ false) → NoneStarts (run f at n)
+    silent_rest f at zero some none = tt
+    silent_rest f at (suc n) some none =
+        (none at some, silent_rest f (at + 1) n (omega arith) none)
+
+-- their body bits
+front_bodies : (size : ℕ) (cs : List (List Bool)) (j : ℕ) →
+    bodies (map (run_piece size cs) (places j)) ≡ take (size * j) (run_bits size cs)
+front_bodies size cs zero =
+    let e : size * zero ≡ 0 = omega arith in
+    ap bodies (map-zero (run_piece size cs))
+    ∙ sym (ap (λ (k : ℕ). take k (run_bits size cs)) e)
+front_bodies size cs (suc j) =
+    let f = run_piece size cs in
+    let bits = run_bits size cs in
+    let e : size * j + size ≡ size * suc j = omega arith in
+    let own = take size (drop (size * j) bits) in
+    ap bodies (map-next f j)
+    ∙ flat_map-append (λ (p : Piece). p.body) (map f (places j)) (f j ∷ [])
+    ∙ ap (λ (l : List Bool). bodies (map f (places j)) ++ l) (append-nil own)
+    ∙ ap (λ (l : List Bool). l ++ own) (front_bodies size cs j)
+    ∙ sym (take-add (size * j) size bits)
+    ∙ ap (λ (k : ℕ). take k bits) e
+
+-- the body bits of a run up to bit i of its half-frame j
+message_bits : (size : ℕ) (before : List Piece) (cs : List (List Bool)) (j i : ℕ) → i < size →
+    bodies (from_last_start ((before ++ map (run_piece size cs) (places j)) ++
+    cut_short (run_piece size cs j) (suc i) ∷ []))
+    ≡ take (suc (size * j + i)) (run_bits size cs)
+message_bits size before cs j i lt =
+    let f = run_piece size cs in
+    let bits = run_bits size cs in
+    let q = cut_short (f j) (suc i) in
+    let rest = drop (size * j) bits in
+    let e : size * j + suc i ≡ suc (size * j + i) = omega arith in
+    ap bodies (runs_on before f j q (first_begins size cs)
+    (λ k some. later_begins_none size cs k some) refl)
+    ∙ flat_map-append (λ (p : Piece). p.body) (map f (places j)) (q ∷ [])
+    ∙ ap (λ (l : List Bool). bodies (map f (places j)) ++ l) (append-nil q.body)
+    ∙ ap (λ (l : List Bool). l ++ take (suc i) (take size rest)) (front_bodies size cs j)
+    ∙ ap (λ (l : List Bool). take (size * j) bits ++ l) (take-take (suc i) size rest lt)
+    ∙ sym (take-add (size * j) (suc i) bits)
+    ∙ ap (λ (k : ℕ). take k bits) e
+
+-- ---- what the bits of a run end
+
+joined_zeros : (cs : List (List Bool)) (n : ℕ) → joined cs n ≡ joined cs 0 ++ replicate n false
+joined_zeros [] n = refl
+joined_zeros (c ∷ cs) n =
+    ap (λ (l : List Bool). c ++ l) (joined_zeros cs n)
+    ∙ sym (append_assoc c (joined cs 0) (replicate n false))
+
+front_ends : (size : ℕ) (cs : List (List Bool)) (m : ℕ) → AreChained size 0 cs →
+    m ≤ length (run_bits size cs) → chain_of size (take m (run_bits size cs)) ≡ ended_of cs m
+front_ends size cs m chained room =
+    let n = fill size (length (joined cs 0)) in
+    let same = joined_zeros cs n in
+    let bits = take m (run_bits size cs) in
+    let long : length bits ≡ m = length-take-le m (run_bits size cs) room in
+    ap (λ (l : List Bool). ends_chain (length bits) size 0 (take m l)) (sym same)
+    ∙ chain_ends cs (length bits) size 0 n m chained (omega (arith, long))
+    (rw same room)
+
+-- the capsules of a run's half-frame j
+half_frame_tells : (size : ℕ) (before : List Piece) (cs : List (List Bool)) (j : ℕ) → 0 < size →
+    AreChained size 0 cs → j < run_width size cs →
+    told_in size (before ++ map (run_piece size cs) (places j)) (run_piece size cs j)
+    ≡ flat_map (λ i. option_to_list (ended_of cs (suc (size * j + i)))) (places size)
+half_frame_tells size before cs j large chained lt =
+    let bits = run_bits size cs in
+    let front = before ++ map (run_piece size cs) (places j) in
+    let long : length bits ≡ size * run_width size cs = length-padded size (joined cs 0) large in
+    let room : size * suc j ≤ size * run_width size cs = mul-le-mul_left size lt in
+    let e : size * suc j ≡ size * j + size = omega arith in
+    flat_map_ext_places
+    (λ i. option_to_list (ended size (front ++ cut_short (run_piece size cs j) (suc i) ∷ [])))
+    (λ i. option_to_list (ended_of cs (suc (size * j + i)))) size
+    (λ i less.
+    ap (λ (l : List Bool). option_to_list (chain_of size l))
+    (message_bits size before cs j i less)
+    ∙ ap option_to_list (front_ends size cs (suc (size * j + i)) chained
+    (omega (arith, less, room, long, e))))
+
+-- what bit m of a run ends, counted from 0, with the number of its half-frame
+abbrev pub ending_at : ℕ → ℕ → List (List Bool) → ℕ → List (ℕ × List Bool)
+ending_at size at cs m = with_number ((at + m) / size) (option_to_list (ended_of cs (suc m)))
+
+numbered : (o : ℕ) (g : ℕ → List (List Bool)) (ks : List ℕ) →
+    with_number o (flat_map g ks) ≡ flat_map (λ i. with_number o (g i)) ks
+numbered o g [] = refl
+numbered o g (k ∷ ks) =
+    map-append (λ (c : List Bool). (o, c)) (g k) (flat_map g ks)
+    ∙ ap (λ (l : List (ℕ × List Bool)). with_number o (g k) ++ l) (numbered o g ks)
+
+-- The first j half-frames of a run, whatever was heard before, end what their bits end.
+pub run_scanned : (size : ℕ) (before : List Piece) (o : ℕ) (cs : List (List Bool)) (j : ℕ) →
+    0 < size → AreChained size 0 cs → j ≤ run_width size cs →
+    scan size before o (map (run_piece size cs) (places j))
+    ≡ flat_map (ending_at size (size * o) cs) (places (size * j))
+run_scanned size before o cs zero large chained le =
+    let e : size * zero ≡ 0 = omega arith in
+    ap (scan size before o) (map-zero (run_piece size cs))
+    ∙ sym (ap (λ (k : ℕ). flat_map (ending_at size (size * o) cs) (places k)) e
+    ∙ flat_map-zero (ending_at size (size * o) cs))
+run_scanned size before o cs (suc j) large chained le =
+    let f = run_piece size cs in
+    let g = ending_at size (size * o) cs in
+    let e : size * j + size ≡ size * suc j = omega arith in
+    let here = told_in size (before ++ map f (places j)) (f j) in
+    scan-next size before o f j (length-map-places f j)
+    ∙ ap (λ (l : List (ℕ × List Bool)). l ++ with_number (o + j) here)
+    (run_scanned size before o cs j large chained (omega (arith, le)))
+    ∙ ap (λ (l : List (ℕ × List Bool)). flat_map g (places (size * j)) ++ l)
+    (ap (with_number (o + j)) (half_frame_tells size before cs j large chained le)
+    ∙ numbered (o + j) (λ i. option_to_list (ended_of cs (suc (size * j + i)))) (places size)
+    ∙ flat_map_ext_places
+    (λ i. with_number (o + j) (option_to_list (ended_of cs (suc (size * j + i)))))
+    (λ i. g (size * j + i)) size
+    (λ i lt.
+    let far : size * o + (size * j + i) ≡ (o + j) * size + i = omega arith in
+    let own : (size * o + (size * j + i)) / size ≡ o + j =
+    ap (λ (k : ℕ). k / size) far ∙ div-mul-add (o + j) size i lt in
+    ap (λ (k : ℕ). with_number k (option_to_list (ended_of cs (suc (size * j + i))))) (sym own)))
+    ∙ sym (flat_map-add g (size * j) size)
+    ∙ ap (λ (k : ℕ). flat_map g (places k)) e
+
+-- ---- bits that end a capsule
+
+pub ended-first : (c : List Bool) (cs : List (List Bool)) (m : ℕ) → m ≡ length c →
+    ended_of (c ∷ cs) m ≡ Some c
+ended-first c cs m e =
+    let a : nat_lt m (length c) ≡ false = le-ltb m (length c) (omega (arith, e)) in
+    let b : nat_le m (length c) ≡ true = le-leb m (length c) (omega (arith, e)) in
+    rw (a, b) refl
+
+pub ended-before : (c : List Bool) (cs : List (List Bool)) (m : ℕ) → m < length c →
+    ended_of (c ∷ cs) m ≡ None
+ended-before c cs m less =
+    let a : nat_lt m (length c) ≡ true = lt-ltb m (length c) less in rw a refl
+
+pub ended-behind : (c : List Bool) (cs : List (List Bool)) (m k : ℕ) → m ≡ length c + suc k →
+    ended_of (c ∷ cs) m ≡ ended_of cs (suc k)
+ended-behind c cs m k e =
+    let a : nat_lt m (length c) ≡ false = le-ltb m (length c) (omega (arith, e)) in
+    let b : nat_le m (length c) ≡ false = lt-leb m (length c) (omega (arith, e)) in
+    let d : m - length c ≡ suc k = omega (arith, e) in
+    rw (a, b, d) refl
+
+-- none behind all of them
+pub ended-past : (cs : List (List Bool)) (m : ℕ) → length (joined cs 0) ≤ m →
+    ended_of cs (suc m) ≡ None
+ended-past [] m past = refl
+ended-past (c ∷ cs) m past =
+    let long = length-append c (joined cs 0) in
+    let k = m - length c in
+    ended-behind c cs (suc m) k (omega (arith, long, past))
+    ∙ ended-past cs k (omega (arith, long, past))

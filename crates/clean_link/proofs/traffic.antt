@@ -1,0 +1,7 @@
+-- The frames of traffic channels.
+pub mod Symbols
+pub mod Times
+pub mod Signs
+pub mod Commands
+pub mod Frames
+pub mod Back

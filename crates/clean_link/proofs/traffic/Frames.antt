@@ -1,0 +1,316 @@
+-- The frames of a traffic channel come back: each received one is heard at its own end, as it was
+-- sent where it is distinct.
+use Rattle.std.proofs.Common.{◌≡◌, ℕ, zero, suc, ◌+◌, ◌-◌, ◌*◌, ◌/◌, ◌%◌, ◌<◌, ◌≤◌, ⊎_elim, Bool}
+use Rattle.std.proofs.Common.{true, false, List, [], ◌∷◌, length, map, filter, take, drop, refl}
+use Rattle.std.proofs.Common.{sym, ap, ◌∙◌, arith, subst, nat_le, cond, pos}
+use Rattle.std.specs.Prelude.{All}
+use Rattle.std.specs.List.{flat_map}
+use Rattle.std.proofs.lemmas.Bool.{and_from, and_parts, cases_Bool, false_from_ne_true}
+use Rattle.std.proofs.lemmas.Bool.{le-leb, leb-true}
+use Rattle.std.proofs.lemmas.List.Elements.{All-head, All-tail}
+use Rattle.chip_core.specs.Bits.{places}
+use Rattle.chip_core.specs.declared.sample.Sample.{Sample}
+use Rattle.cdma_io.specs.declared.width.Width.{Width}
+use Rattle.long_code.specs.LongCode.{traffic_mask}
+use Rattle.symbol_path.specs.Scrambling.{power_places}
+use Rattle.frame_decoder.specs.Laws.{kept_count}
+use Rattle.frame_decoder.specs.declared.traffic.Decoded.{Decoded}
+use Rattle.frame_decoder.proofs.SentFrames.{sent_frame}
+use Rattle.rake_finger.specs.declared.form.Form.TheVariants.{Data}
+use Rattle.base_modulator.specs.Sampled.{made_samples}
+use Rattle.base_modulator.specs.Signal.{frames_of}
+use Rattle.base_modulator.specs.TrafficFrames.{cycled_frame, IsTrafficFrame}
+use Rattle.base_modulator.specs.declared.plan.CellPlan.{CellPlan}
+use Rattle.base_modulator.specs.declared.plan.TrafficPlan.{TrafficPlan}
+use Rattle.base_modulator.specs.declared.traffic_frame.TrafficFrame.{TrafficFrame}
+use Rattle.mobile_core.specs.Streams.{frame_softs, is_in_file, known_at, known_now, Stream}
+use Rattle.mobile_core.specs.TrafficEvents.{commands_at, decoded_at, frame_event, frame_heard}
+use Rattle.mobile_core.specs.TrafficEvents.{frames_at}
+use Rattle.mobile_core.specs.TrafficStreams.{frame_state, frames_bound, replaced_in, traffic_stream}
+use Rattle.mobile_core.specs.Tuning.{Tuning}
+use Rattle.mobile_core.specs.declared.event.Event.{Event}
+use Rattle.mobile_core.specs.declared.mark.Mark.{Mark}
+use Rattle.mobile_core.specs.declared.settings.Traffic.{Traffic}
+use Rattle.chip_core.proofs.Ranges.{filter_enough, flat_map_ext_filter_places}
+use Rattle.chip_core.proofs.Ranges.{flat_map_ext_places}
+use Rattle.clean_link.specs.CleanLink.{soft_strength}
+use Rattle.clean_link.specs.HeardFrames.{frame_chip, frame_ends, frame_told, frames_of_channel}
+use Rattle.clean_link.specs.HeardFrames.{is_received, received_frames, replaced_of}
+use Rattle.clean_link.specs.HeardFrames.{sent_commands, sent_frame_event, AreDistinct}
+use Rattle.clean_link.specs.HeardFrames.{IsDistinctFrame}
+use Rattle.clean_link.specs.HeardPages.{end_chip}
+use Rattle.clean_link.specs.TrafficLaws.{EachFrameIsHeard, HearsTraffic, IsHeardAs}
+use Rattle.clean_link.specs.TrafficLaws.{SentFramesComeBack, TrafficFramesComeBack}
+use Rattle.clean_link.proofs.pages.InOrder.{given_in_order, IsBound}
+use Rattle.clean_link.proofs.sendings.Order.{flat_map-filter, given_where, moved_up}
+use Rattle.clean_link.proofs.traffic.Commands.{commands_back, power_pairs}
+use Rattle.clean_link.proofs.traffic.Signs.{lawful_traffic, long_softs, same_state, strong}
+use Rattle.clean_link.proofs.traffic.Signs.{symbols_shown}
+use Rattle.clean_link.proofs.traffic.Times.{traffic_file_from, traffic_file_to, traffic_known_is}
+use Rattle.clean_link.proofs.traffic.Times.{traffic_timed}
+
+-- ---- one of a list
+
+-- what is true of all is true of the one that is taken
+one_taken : {A : Type 0} (P : A → Type 0) (xs : List A) (j : ℕ) (x : A) → All P xs →
+    take 1 (drop j xs) ≡ x ∷ [] → P x
+one_taken P [] zero x all is = absurd (cc)
+one_taken P [] (suc j) x all is = absurd (cc)
+one_taken P (y ∷ xs) zero x all is =
+    let same : y ≡ x = cc in
+    subst P same (All-head P y xs all)
+one_taken P (y ∷ xs) (suc j) x all is = one_taken P xs j x (All-tail P y xs all) is
+
+-- there is one at each place
+one_there : {A : Type 0} (xs : List A) (j : ℕ) → j < length xs →
+    (x : A) × (take 1 (drop j xs) ≡ x ∷ [])
+one_there [] j below = absurd (omega (arith, below))
+one_there (x ∷ xs) zero below = (x, refl)
+one_there (x ∷ xs) (suc j) below = one_there xs j (omega (arith, below))
+
+-- a list of one thing for each
+one_each : {A B : Type 0} (f : A → B) (xs : List A) → map f xs ≡ flat_map (λ x. f x ∷ []) xs
+one_each f [] = refl
+one_each {A} {B} f (x ∷ xs) = ap (λ (ys : List B). f x ∷ ys) (one_each f xs)
+
+-- ---- one frame
+
+-- it has as many information bits as its rate
+sized : (width : Width) (plan : CellPlan) (p : TrafficPlan) (t : Tuning) (traffic : Traffic)
+    (m : Mark) (superframes k : ℕ) (f : TrafficFrame) →
+    HearsTraffic width plan p t traffic m superframes →
+    IsHeardAs plan p t traffic m superframes k f → IsTrafficFrame f
+sized width plan p t traffic m superframes k f is heard =
+    one_taken IsTrafficFrame p.frames ((4 * superframes + k) % length p.frames) f
+    (lawful_traffic width plan p is.receivable.lawful is.sent).sized heard.frame
+
+-- it is decoded
+pub frame_back : TrafficFramesComeBack
+unfolding decoded_at
+frame_back width plan p t traffic m superframes k f is heard distinct =
+    let few = (power_pairs (frame_state traffic m k) (traffic_mask traffic.esn)).long in
+    sent_frame (soft_strength plan Data p.gain) (replaced_in traffic m k) f.rate f.information
+    (frame_softs (made_samples plan) (traffic_stream t traffic m) k)
+    (strong width plan p t traffic m superframes k f is heard) (omega (arith, few))
+    (long_softs width plan p t traffic m superframes k f is heard)
+    (sized width plan p t traffic m superframes k f is heard)
+    (symbols_shown width plan p t traffic m superframes k f is heard) distinct
+
+-- what is heard of it
+heard_as : (n : ℕ) (f : TrafficFrame) (score : ℕ) (frame : Decoded) (commands : List Bool) →
+    frame ≡ record { rate = f.rate; good = true; bits = f.information; score = pos score } →
+    commands ≡ sent_commands f → frame_event n frame commands ≡ sent_frame_event n f
+heard_as n f score frame commands is sent =
+    ap (λ (d : Decoded). frame_event n d commands) is
+    ∙ ap (λ (bits : List Bool).
+    frame_event n (record {
+      rate = f.rate;
+      good = true;
+      bits = f.information;
+      score = pos score;
+    }) bits) sent
+
+-- ---- in a file
+
+-- frames that end within so many samples are few enough
+bound_enough : (t : Tuning) (traffic : Traffic) (m : Mark) →
+    IsBound (traffic_stream t traffic m) frames_bound
+bound_enough t traffic m n k ends = omega (arith, ends)
+
+module _ (width : Width) (plan : CellPlan) (p : TrafficPlan) (t : Tuning) (traffic : Traffic)
+    (m : Mark) (superframes : ℕ) (is : HearsTraffic width plan p t traffic m superframes)
+    (latest : p.offset ≤ 15) where
+  abbrev samples : List Sample
+  samples = made_samples plan
+
+  abbrev stream : Stream
+  stream = traffic_stream t traffic m
+
+  abbrev inside : ℕ → Bool
+  inside = is_in_file t.count stream
+
+  abbrev mark_chip : ℕ
+  mark_chip = plan.link.start + m.sample
+
+  abbrev received : ℕ → Bool
+  received = is_received plan p mark_chip
+
+  -- the channel's frames that are received are those that the file holds behind the mark
+  received_is : (k : ℕ) → received (4 * superframes + k) ≡ inside k
+  received_is k =
+      let frame = 4 * superframes + k in
+      let place = is.marked.place in
+      let count = is.tuned.count in
+      let offset = is.assigned.offset in
+      ⊎_elim
+      (λ (there : inside k ≡ true).
+      let ends = traffic_file_to t traffic m is.tuned.alone k there in
+      and_from (nat_le mark_chip (frame_chip p frame))
+      (nat_le (frame_chip p (frame + 1)) (end_chip plan))
+      (le-leb mark_chip (frame_chip p frame) (omega (arith, place)))
+      (le-leb (frame_chip p (frame + 1)) (end_chip plan)
+      (omega (arith, place, count, offset, ends)))
+      ∙ sym there)
+      (λ (gone : inside k ≡ false).
+      false_from_ne_true (received frame)
+      (λ kept.
+      let both = and_parts (nat_le mark_chip (frame_chip p frame))
+      (nat_le (frame_chip p (frame + 1)) (end_chip plan)) kept in
+      let ends = leb-true (frame_chip p (frame + 1)) (end_chip plan) both.1 in
+      let there = traffic_file_from t traffic m is.tuned.alone k
+      (omega (arith, place, count, offset, ends)) in
+      absurd (cc))
+      ∙ sym gone)
+      (cases_Bool (inside k))
+
+  -- an earlier frame begins before the mark
+  early : (i : ℕ) → i < 4 * superframes → received i ≡ false
+  early i low =
+      let place = is.marked.place in
+      false_from_ne_true (received i)
+      (λ kept.
+      let both = and_parts (nat_le mark_chip (frame_chip p i))
+      (nat_le (frame_chip p (i + 1)) (end_chip plan)) kept in
+      let begun = leb-true mark_chip (frame_chip p i) both.0 in
+      omega (arith, low, begun, place, latest))
+
+  -- and a late one ends behind the file
+  past_end : (i : ℕ) → end_chip plan / 24576 + 1 ≤ i → received i ≡ false
+  past_end i high =
+      false_from_ne_true (received i)
+      (λ kept.
+      let both = and_parts (nat_le mark_chip (frame_chip p i))
+      (nat_le (frame_chip p (i + 1)) (end_chip plan)) kept in
+      let ends = leb-true (frame_chip p (i + 1)) (end_chip plan) both.1 in
+      omega (arith, high, ends))
+
+  past_bound : (i : ℕ) → 4 * superframes + frames_bound t.count ≤ i → received i ≡ false
+  past_bound i high =
+      let place = is.marked.place in
+      let count = is.tuned.count in
+      past_end i (omega (arith, high, place, count))
+
+  -- what the received frames give, by their numbers behind the mark
+  by_marks_frames : {X : Type 0} (g : ℕ → List X) →
+      flat_map g (received_frames plan p mark_chip)
+      ≡ flat_map (λ k. g (4 * superframes + k)) (filter inside (places (frames_bound t.count)))
+  by_marks_frames {X} g =
+      let first = 4 * superframes in
+      let bound = frames_bound t.count in
+      let behind : ℕ → List X = λ k. g (first + k) in
+      ap (flat_map g)
+      (filter_enough received (end_chip plan / 24576 + 1) (first + bound) past_end past_bound)
+      ∙ flat_map-filter received g (places (first + bound))
+      ∙ moved_up (given_where inside behind) (given_where received g) first bound
+      (λ i low. ap (λ (b : Bool). cond b (g i) []) (early i low))
+      (λ k. ap (λ (b : Bool). cond b (g (first + k)) []) (received_is k))
+      ∙ sym (flat_map-filter inside behind (places bound))
+
+  -- what is heard, frame by frame
+  heard_by_frames : flat_map (frames_at t traffic m samples) (places (plan.link.samples + 1))
+      ≡ flat_map (λ k. frame_heard t traffic m samples (known_at t.count stream k) k ∷ [])
+      (filter inside (places (frames_bound t.count)))
+  unfolding frames_at
+  heard_by_frames =
+      let f : ℕ → ℕ → List Event = λ n k. frame_heard t traffic m samples n k ∷ [] in
+      ap (λ (n : ℕ). flat_map (frames_at t traffic m samples) (places (n + 1)))
+      (sym is.tuned.count)
+      ∙ flat_map_ext_places (frames_at t traffic m samples)
+      (λ n. flat_map (f n) (known_now t.count stream n (frames_bound n))) (t.count + 1)
+      (λ n below.
+      one_each (frame_heard t traffic m samples n) (known_now t.count stream n (frames_bound n)))
+      ∙ given_in_order stream (traffic_timed t traffic m is.tuned.alone) frames_bound
+      (bound_enough t traffic m) f
+
+  -- when it is heard
+  known_is : (k : ℕ) → known_at t.count stream k ≡ frame_ends plan p (4 * superframes + k)
+  known_is k =
+      let place = is.marked.place in
+      let offset = is.assigned.offset in
+      traffic_known_is t traffic m is.tuned.alone k ∙ omega (arith, place, offset)
+
+  -- so one event is heard for each received frame
+  pub each_heard : flat_map (frames_at t traffic m samples) (places (plan.link.samples + 1)) ≡
+      map (λ frame. frame_heard t traffic m samples (frame_ends plan p frame)
+      (frame - 4 * superframes)) (received_frames plan p mark_chip)
+  each_heard =
+      let told : ℕ → Event =
+      λ frame. frame_heard t traffic m samples (frame_ends plan p frame)
+      (frame - 4 * superframes) in
+      heard_by_frames
+      ∙ flat_map_ext_filter_places inside
+      (λ k. frame_heard t traffic m samples (known_at t.count stream k) k ∷ [])
+      (λ k. told (4 * superframes + k) ∷ []) (frames_bound t.count)
+      (λ k below there.
+      let behind : k ≡ 4 * superframes + k - 4 * superframes = omega arith in
+      ap (λ (n : ℕ). frame_heard t traffic m samples n k ∷ []) (known_is k)
+      ∙ ap (λ (j : ℕ). frame_heard t traffic m samples (frame_ends plan p (4 * superframes + k)) j
+      ∷ []) behind)
+      ∙ sym (by_marks_frames (λ frame. told frame ∷ []))
+      ∙ sym (one_each told (received_frames plan p mark_chip))
+
+  -- a distinct frame is told as it was sent
+  told_is : (k : ℕ) (f : TrafficFrame) → inside k ≡ true →
+      cycled_frame (frames_of plan p) (4 * superframes + k) ≡ f ∷ [] →
+      IsDistinctFrame (replaced_in traffic m k) f →
+      frame_heard t traffic m samples (known_at t.count stream k) k ∷ []
+      ≡ frame_told plan p (4 * superframes + k)
+  told_is k f there frame distinct =
+      let heard : IsHeardAs plan p t traffic m superframes k f =
+      record { here = there; frame = frame } in
+      let score = soft_strength plan Data p.gain * kept_count (replaced_in traffic m k) in
+      let ends = frame_ends plan p (4 * superframes + k) in
+      ap (λ (n : ℕ). frame_heard t traffic m samples n k ∷ []) (known_is k)
+      ∙ ap (λ (e : Event). e ∷ [])
+      (heard_as ends f score (decoded_at t traffic m samples k)
+      (commands_at t traffic m samples k)
+      (frame_back width plan p t traffic m superframes k f is heard distinct)
+      (commands_back width plan p t traffic m superframes k f is heard))
+      ∙ sym (ap (map (sent_frame_event ends)) frame)
+
+  -- the power control bits replace the same places
+  same_places : (k : ℕ) → replaced_of plan p (4 * superframes + k) ≡ replaced_in traffic m k
+  same_places k =
+      ap (λ (s : ℕ). power_places s (traffic_mask p.esn))
+      (sym (same_state plan p traffic m superframes k is.marked is.assigned))
+      ∙ ap (λ (e : ℕ). power_places (frame_state traffic m k) (traffic_mask e)) is.assigned.esn
+
+  -- as the channel's frames are
+  distinct_there : AreDistinct plan p mark_chip → (k : ℕ) (f : TrafficFrame) → inside k ≡ true →
+      cycled_frame (frames_of plan p) (4 * superframes + k) ≡ f ∷ [] →
+      IsDistinctFrame (replaced_in traffic m k) f
+  distinct_there distinct k f there frame =
+      let frames = distinct (4 * superframes + k) (received_is k ∙ there) in
+      let Distinct : TrafficFrame → Type 0 =
+      λ (x : TrafficFrame). IsDistinctFrame (replaced_of plan p (4 * superframes + k)) x in
+      let only : All Distinct (f ∷ []) =
+      subst (λ (fs : List TrafficFrame). All Distinct fs) frame frames in
+      subst (λ (replaced : List ℕ). IsDistinctFrame replaced f) (same_places k)
+      (All-head Distinct f [] only)
+
+  -- and where all of them are distinct, what was sent
+  pub sent_heard : 1 ≤ length p.frames → AreDistinct plan p mark_chip →
+      flat_map (frames_at t traffic m samples) (places (plan.link.samples + 1)) ≡
+      frames_of_channel plan p mark_chip
+  sent_heard some distinct =
+      heard_by_frames
+      ∙ flat_map_ext_filter_places inside
+      (λ k. frame_heard t traffic m samples (known_at t.count stream k) k ∷ [])
+      (λ k. frame_told plan p (4 * superframes + k)) (frames_bound t.count)
+      (λ k below there.
+      let number = (4 * superframes + k) % length p.frames in
+      let (f, frame) = one_there p.frames number (omega (arith, some)) in
+      told_is k f there frame (distinct_there distinct k f there frame))
+      ∙ sym (by_marks_frames (frame_told plan p))
+
+-- ---- the laws
+
+pub each_frame_heard : EachFrameIsHeard
+each_frame_heard width plan p t traffic m superframes is =
+    each_heard width plan p t traffic m superframes is
+    (lawful_traffic width plan p is.receivable.lawful is.sent).latest
+
+pub sent_frames_back : SentFramesComeBack
+sent_frames_back width plan p t traffic m superframes is distinct =
+    let lawful = lawful_traffic width plan p is.receivable.lawful is.sent in
+    sent_heard width plan p t traffic m superframes is lawful.latest lawful.some distinct
