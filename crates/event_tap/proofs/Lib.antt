@@ -1,5 +1,3 @@
-mod Digits
-mod FrameDigits
 mod PagingTexts
 pub mod Runs
 mod TapLists

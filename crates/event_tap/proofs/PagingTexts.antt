@@ -19,10 +19,10 @@ use Rattle.paging_message.specs.declared.fields.SystemFields.{SystemFields}
 use Rattle.paging_message.proofs.Bodies.{most_bits}
 use Rattle.paging_message.proofs.Records.{widths-channels, widths-neighbors}
 use Rattle.paging_message.proofs.Widths.{fit_value}
-use Rattle.event_tap.specs.Lines.{named}
+use Rattle.line_text.specs.Texts.{named}
 use Rattle.event_tap.specs.PagingLines.{commas, comma_before, named_values, neighbor_text}
 use Rattle.event_tap.specs.PagingLines.{neighbor_texts, rest_text, system_line}
-use Rattle.event_tap.proofs.Digits.{all_below}
+use Rattle.line_text.proofs.Digits.{all_below}
 
 -- no items yet
 pub no_items : (before : List ℕ) → before ≡ before ++ commas []

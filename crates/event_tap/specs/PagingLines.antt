@@ -9,7 +9,7 @@ use Rattle.paging_message.specs.declared.fields.OtherFields.{OtherFields}
 use Rattle.paging_message.specs.declared.fields.SystemFields.{SystemFields}
 use Rattle.paging_message.specs.declared.message.PagingMessage.{PagingMessage}
 use Rattle.paging_message.specs.declared.message.PagingMessage.TheVariants as messages
-use Rattle.event_tap.specs.Lines.{bit_text, named}
+use Rattle.line_text.specs.Texts.{bit_text, named}
 
 -- items, joined by commas
 unfoldable pub commas : List (List ℕ) → List ℕ

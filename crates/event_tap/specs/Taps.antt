@@ -7,7 +7,8 @@ use Rattle.std.specs.List.{flat_map}
 use Rattle.mobile_core.specs.declared.event.Event.{Event}
 use Rattle.mobile_core.specs.declared.event.Event.TheVariants.{Pilot, Sync, Paging, Frame}
 use Rattle.event_tap.specs.FrameLines.{frame_line}
-use Rattle.event_tap.specs.Lines.{bit_text, pilot_line, sync_line}
+use Rattle.event_tap.specs.Lines.{pilot_line, sync_line}
+use Rattle.line_text.specs.Texts.{bit_text}
 use Rattle.event_tap.specs.PagingLines.{paging_line}
 use Rattle.event_tap.specs.declared.tap.Heard.{Heard}
 use Rattle.event_tap.specs.declared.tap.Heard.TheVariants.{Keep, Done}

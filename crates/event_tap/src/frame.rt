@@ -1,10 +1,11 @@
 //! The line of a frame of the traffic channel.
 
 ghost use Rattle.std.specs.Prelude.{◌≡◌, ◌≤◌, ◌+◌, [], ◌++◌, length};
-ghost use Rattle.event_tap.specs.FrameLines.{digit_of, digits_of, frame_line};
+ghost use Rattle.event_tap.specs.FrameLines.{frame_line};
+ghost use Rattle.line_text.specs.Texts.{digit_of, digits_of};
 
-use crate::text::Text;
 use chip_core::Bits;
+use line_text::Text;
 use symbol_path::Rate;
 
 /// Adds the line of a frame to the empty text, LF at its end.
@@ -26,30 +27,10 @@ pub(crate) fn append_frame(
     text.append_named("frame at=", at);
     text.append_named(" rate=", rate.bits_per_second());
     text.append_word(" good=");
-    append_digit(text, good);
+    text.append_digit(good);
     text.append_word(" bits=");
     text.append_bits(bits);
     text.append_word(" commands=");
-    append_digits(text, commands);
+    text.append_digits(commands);
     text.append_word("\n");
-}
-
-/// Adds power control bits as digits.
-fn append_digits(text: &mut Text, commands: &[bool; 16])
-    requires room { length text.old + 16 ≤ 1024 }
-    ensures value { text.new ≡ text.old ++ digits_of commands.now }
-    ensures len { length text.new ≡ length text.old + 16 }
-{
-    for i in 0..16usize {
-        append_digit(text, commands[i]);
-    }
-}
-
-/// Adds a bit as a digit.
-fn append_digit(text: &mut Text, bit: bool)
-    requires room { length text.old + 1 ≤ 1024 }
-    ensures value { text.new ≡ text.old ++ digit_of bit }
-    ensures len { length text.new ≡ length text.old + 1 }
-{
-    text.append_word(if bit { "1" } else { "0" });
 }

@@ -1,9 +1,9 @@
 //! Whole lines of frames, as they stand in the table of lines, and who hears them.
 
-use crate::text::Text;
 use crate::{FrameTap, MessageTap, PilotTap, RawTap, Tap, Taps, line_into};
 use cdma_io::MemorySink;
 use chip_core::Bits;
+use line_text::Text;
 use mobile_core::Event;
 use std::test::Fail;
 use symbol_path::Rate;

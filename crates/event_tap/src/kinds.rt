@@ -6,8 +6,8 @@ ghost use Rattle.event_tap.specs.Taps.{heard_at, raw_line};
 use crate::line::line_into;
 use crate::paging::append_raw_paging;
 use crate::tap::{Heard, Tap};
-use crate::text::Text;
 use chip_core::Bits;
+use line_text::Text;
 use mobile_core::Event;
 
 /// Hears the pilot, in form 0.

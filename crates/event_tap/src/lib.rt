@@ -22,12 +22,11 @@ mod tap_tests;
 mod taps;
 #[cfg(test)]
 mod tests;
-mod text;
 mod writing;
 
 pub use kinds::{FrameTap, MessageTap, PilotTap, RawTap};
 pub use line::line_into;
+pub use line_text::Text;
 pub use tap::{Heard, Tap};
 pub use taps::{KeepsTaps, Taps};
-pub use text::Text;
 pub use writing::write_event;

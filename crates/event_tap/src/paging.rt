@@ -11,8 +11,8 @@ ghost use Rattle.paging_message.specs.Channels.{channel_records, IsChannelList};
 ghost use Rattle.paging_message.specs.Neighbors.{neighbor_records, IsNeighborList};
 ghost use Rattle.paging_message.specs.Widths.{in_widths, system_widths, system_names};
 
-use crate::text::Text;
 use chip_core::{Bits, Numbers};
+use line_text::Text;
 use paging_message::{
     ChannelFields, NeighborFields, OtherFields, PagingMessage, SystemParameters, system_name,
 };

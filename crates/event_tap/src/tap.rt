@@ -3,7 +3,7 @@
 ghost use Rattle.std.specs.Prelude.{ℕ, ◌≡◌, ◌≤◌};
 ghost use Rattle.event_tap.specs.Taps.{form_line, heard_at, left_behind, line_text};
 
-use crate::text::Text;
+use line_text::Text;
 use mobile_core::Event;
 
 /// Whether a tap hears on.

@@ -6,8 +6,8 @@ ghost use Rattle.cdma_io.specs.Outside.{AppendsPrefix, HasCause};
 ghost use Rattle.event_tap.specs.Taps.{IsKept, KeptTap, heard_text, kept_by, kept_of, taps_behind};
 
 use crate::tap::{Heard, Tap};
-use crate::text::Text;
 use cdma_io::{Failed, Sink, write_all};
+use line_text::Text;
 use mobile_core::Event;
 
 impl Tap for Box<dyn Tap> {

@@ -2,7 +2,7 @@ use Rattle.std.proofs.Common.{◌≡◌, ◌<◌, ◌++◌, [], length, get_or, 
 use Rattle.std.proofs.Common.{ap, subst, ◌∙◌, arith, List, ℕ}
 use Rattle.std.specs.Str.{IsAscii}
 use Rattle.paging_message.specs.Widths.{system_names}
-use Rattle.event_tap.specs.Lines.{named}
+use Rattle.line_text.specs.Texts.{named}
 use Rattle.event_tap.proofs.PagingTexts.{length-named, name_ascii, name_short}
 use Rattle.event_tap.proofs.PagingTexts.{no_values, value_item, value_short}
 use Rattle.event_tap.proofs.paging.append_values.Goals as goal

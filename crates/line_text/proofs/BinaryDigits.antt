@@ -3,7 +3,7 @@ use Rattle.std.proofs.Common.{◌≡◌, ℕ, ◌+◌, ◌<◌, Bool, false, Lis
 use Rattle.std.proofs.Common.{sym, ap, ◌∙◌, append-nil}
 use Rattle.std.specs.List.{flat_map}
 use Rattle.std.proofs.lemmas.List.{take_more, flat_map_more}
-use Rattle.event_tap.specs.FrameLines.{digit_of, digits_of}
+use Rattle.line_text.specs.Texts.{digit_of, digits_of}
 
 -- no digits yet
 pub no_digits : (before : List ℕ) (bits : List Bool) → before ≡ before ++ digits_of (take 0 bits)

@@ -1,6 +1,6 @@
 use Rattle.std.proofs.Common.{length, ap, arith, decimal, length-append}
 use Rattle.std.proofs.lemmas.Fmt.{length-decimal-le}
-use Rattle.event_tap.proofs.text.Text.append_short.Goals as goal
+use Rattle.line_text.proofs.text.Text.append_short.Goals as goal
 
 pub returns-clause-len : goal.returns-clause-len
 returns-clause-len c k some fits =

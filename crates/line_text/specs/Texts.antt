@@ -1,0 +1,47 @@
+-- The texts of values, in ASCII: lists of bits, states of the long code, serial numbers, and what
+-- stands before the value of a field.
+use Rattle.std.specs.Prelude.{ℕ, zero, suc, ◌+◌, ◌*◌, ◌-◌, ◌/◌, Bool, false, if◌then◌else◌, List, []}
+use Rattle.std.specs.Prelude.{◌∷◌, ◌++◌, length, take, drop, replicate, codes, decimal}
+use Rattle.std.specs.Int.{w32, w64, to_be_bytes}
+use Rattle.std.specs.List.{flat_map}
+use Rattle.chip_core.specs.Bits.{number}
+use Rattle.hex.specs.Hex.{encode_lower}
+
+-- how many octets hold the bits
+abbrev pub octet_count : List Bool → ℕ
+octet_count bits = (length bits + 7) / 8
+
+-- the bits, and zeros behind them up to whole octets
+unfoldable pub padded : List Bool → List Bool
+padded bits = bits ++ replicate (8 * octet_count bits - length bits) false
+
+-- the first so many octets, each the number that its bits spell
+unfoldable pub octets : ℕ → List Bool → List ℕ
+octets zero bits = []
+octets (suc count) bits = number (take 8 bits) ∷ octets count (drop 8 bits)
+
+-- `N:HEX`: how many bits, and two lower case digits for each octet of the padded bits
+unfoldable pub bit_text : List Bool → List ℕ
+bit_text bits =
+    decimal (length bits) ++ codes ":" ++ encode_lower (octets (octet_count bits) (padded bits))
+
+-- the last eleven of the sixteen lower case hex digits of 64 bits: all that a state of 42 bits
+-- needs
+unfoldable pub state_digits : ℕ → List ℕ
+state_digits state = drop 5 (encode_lower (to_be_bytes w64 state))
+
+-- the eight lower case hex digits of an electronic serial number
+unfoldable pub serial_digits : ℕ → List ℕ
+serial_digits esn = encode_lower (to_be_bytes w32 esn)
+
+-- a bit as a digit
+abbrev pub digit_of : Bool → List ℕ
+digit_of bit = if bit then codes "1" else codes "0"
+
+-- bits as digits, in order
+unfoldable pub digits_of : List Bool → List ℕ
+digits_of bits = flat_map digit_of bits
+
+-- what stands before the value of a field
+abbrev pub named : List ℕ → List ℕ
+named name = codes " " ++ name ++ codes "="
