@@ -26,3 +26,11 @@ pub mod PagingPlans
 pub mod Pieces
 pub mod TrafficFrames
 pub mod TrafficPlans
+pub mod TrialDraws
+pub mod SpelledBytes
+pub mod SpelledFields
+pub mod SpelledLines
+pub mod SpelledValues
+pub mod StatedLines
+pub mod TrialFrames
+pub mod TrialPlans

@@ -20,12 +20,13 @@ use Rattle.base_modulator.specs.ScriptValues.{number_up_to, positive, signed_beh
 use Rattle.base_modulator.specs.ScriptValues.{up_to}
 
 -- the value of digits behind a number
-abbrev read_on : ℕ → List ℕ → ℕ
+abbrev pub read_on : ℕ → List ℕ → ℕ
 read_on n [] = n
 read_on n (digit ∷ digits) = read_on (10 * n + (digit - 48)) digits
 
-own : IsNumeralModel (λ ds. all_ascii_digits ds ≡ true) (read_on 0)
-own = numerals_by_fold _ (search rules) read_on (search rules)
+-- so digits are read
+pub own_numerals : IsNumeralModel (λ ds. all_ascii_digits ds ≡ true) (read_on 0)
+own_numerals = numerals_by_fold _ (search rules) read_on (search rules)
 
 digits_from-read : (n : ℕ) (ds : List ℕ) → all_ascii_digits ds ≡ true →
     digits_from n ds ≡ Some (read_on n ds)
@@ -119,7 +120,7 @@ spelled most n text small some =
     let number = number_told text n (is_plain text) refl range.0 in
     let plain = plain_told text (nat_lt (length text) 2) refl number.0 in
     let read = read-digits_from 0 n text number.1 in (
-      sym (decimal-digits_value own text read.0 plain.0 plain.1
+      sym (decimal-digits_value own_numerals text read.0 plain.0 plain.1
           (omega (arith, read.1, range.1, small))) ∙ ap decimal read.1,
       range.1,
     )
@@ -143,8 +144,8 @@ reads_back most n text small is =
     plain_from (decimal n) (nat_lt (length (decimal n)) 2) refl (decimal-plain n below)
     (length-decimal-le 20 n (omega arith) (omega (arith, below)) below) in
     let number : number_in (decimal n) ≡ Some n =
-    cond-true _ _ _ plain ∙ digits_from-read 0 (decimal n) (digits_decimal own n below)
-    ∙ ap Some (digits_value-decimal own n below) in
+    cond-true _ _ _ plain ∙ digits_from-read 0 (decimal n) (digits_decimal own_numerals n below)
+    ∙ ap Some (digits_value-decimal own_numerals n below) in
     ap (λ (t : List ℕ). option_and_then (up_to most) (number_in t)) is.0
     ∙ ap (option_and_then (up_to most)) number
     ∙ cond-true _ _ _ (le-leb n most is.1)
@@ -228,7 +229,7 @@ signed_reads_back : (z : ℤ) (text : List ℕ) → Spells text z → signed_in 
 signed_reads_back (pos n) text is =
     let small : n < 2 ^ 64 = omega (arith, is.1.sfits) in
     ap signed_in is.0
-    ∙ signed_in-other (decimal n) (no_minus (decimal n) (digits_decimal own n small))
+    ∙ signed_in-other (decimal n) (no_minus (decimal n) (digits_decimal own_numerals n small))
     ∙ ap (option_and_then positive)
     (reads_back 32767 n (decimal n) (omega arith) (refl, omega (arith, is.1.sfits)))
 signed_reads_back (negsuc n) text is =

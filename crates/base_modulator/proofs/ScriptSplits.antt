@@ -73,7 +73,7 @@ pub stated-fault : (draft : Draft) (n : ℕ) (line : List ℕ) (more : List (Lis
 stated-fault draft n line more is = stated-line draft n line more
     ∙ ap (λ (o : Option Draft). option_map_or (λ s. stated s (n + 1) more) o (Err n)) is
 
-draft_after-line : (draft : Draft) (line : List ℕ) → is_line line ≡ true →
+pub draft_after-line : (draft : Draft) (line : List ℕ) → is_line line ≡ true →
     draft_after draft line ≡ with_line draft (take (length line - 1) line)
 unfolding draft_after
 draft_after-line draft line is = cond-true _ _ _ is

@@ -21,3 +21,6 @@ pub mod ScriptStages
 pub mod ScriptValues
 mod ScriptWorked
 pub mod Sampled
+pub mod Spelling
+pub mod Trial
+mod WorkedTrial

@@ -6,6 +6,7 @@ ghost use Rattle.std.specs.Prelude.{Some, Ok, Err, IsOk, All, FitsSigned, decima
 ghost use Rattle.std.specs.Fmt.{signed_decimal};
 ghost use Rattle.std.specs.Int.{w16};
 ghost use Rattle.cdma_io.specs.declared.width.Width.{Width as TheWidth};
+ghost use Rattle.cdma_io.specs.declared.width.Width.TheVariants.{Sixteen};
 ghost use Rattle.chip_core.specs.Complex.{norm};
 ghost use Rattle.chip_core.specs.declared.check_form.CheckForm.{CheckForm as TheForm};
 ghost use Rattle.base_modulator.specs.Pages.{paging_rate};
@@ -13,6 +14,7 @@ ghost use Rattle.base_modulator.specs.Plan.{IsLawfulPlan};
 ghost use Rattle.base_modulator.specs.Script.{lines, plan_named, stated_plan};
 ghost use Rattle.base_modulator.specs.ScriptPlans.{HasMessages, IsCarried};
 ghost use Rattle.base_modulator.specs.ScriptValues.{number_up_to, signed_in};
+ghost use Rattle.base_modulator.specs.Trial.{trial_plan, trial_text};
 ghost use Rattle.base_modulator.specs.declared.plan.CellPlan.{CellPlan};
 ghost use Rattle.base_modulator.specs.declared.script_fault.ScriptFault.TheVariants.{Line};
 
@@ -65,4 +67,9 @@ pub fn named_pages_are_carried()
     ensures carried { (width : TheWidth) (script : List ℕ) (plan : CellPlan) (form : TheForm) →
         plan_named width script ≡ Ok plan →
         All (IsCarried (paging_rate plan.sync) form) plan.paging }
+{}
+
+/// The script of every number names a lawful plan, and which.
+pub fn trial_scripts_are_lawful()
+    ensures { (number : ℕ) → plan_named Sixteen (trial_text number) ≡ Ok (trial_plan number) }
 {}

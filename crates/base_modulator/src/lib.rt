@@ -26,6 +26,9 @@ mod traffic_cycle;
 mod traffic_frame;
 #[cfg(test)]
 mod traffic_tests;
+mod trial;
+#[cfg(test)]
+mod trial_tests;
 
 pub use cell::Cell;
 pub use form::ChannelForm;
@@ -35,3 +38,4 @@ pub use plan::{
 pub use script_fault::ScriptFault;
 pub use series::Series;
 pub use traffic_frame::TrafficFrame;
+pub use trial::{trial_script, trial_serial_number};

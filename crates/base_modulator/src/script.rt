@@ -31,8 +31,9 @@ use std::alloc::Global;
 mod build;
 mod fields;
 mod judge;
+pub(crate) mod spelling;
 mod stage;
-mod statements;
+pub(crate) mod statements;
 mod tables;
 #[cfg(test)]
 mod tests;

@@ -1,6 +1,6 @@
 //! The statements of a script, each on a line.
 
-ghost use Rattle.std.specs.Prelude.{◌≡◌, ◌≤◌, ◌<◌, ◌^◌, IfSome, OnSome};
+ghost use Rattle.std.specs.Prelude.{◌≡◌, ◌≤◌, ◌<◌, ◌^◌, IfSome, IsAscii, OnSome, length};
 ghost use Rattle.base_modulator.specs.ScriptLines.{cell_in, check_form, freq_in, link_in};
 ghost use Rattle.base_modulator.specs.ScriptLines.{page_in, page_key, page_with, paging_in};
 ghost use Rattle.base_modulator.specs.ScriptLines.{past_freq, pilot_in, sync_behind, sync_fields};
@@ -283,8 +283,10 @@ fn page_with(follows: bool, mut fields: Fields<'_>) -> Option<Page>
 }
 
 /// What stands before the bits of a `page` line.
-fn page_key(follows: bool) -> &'static [u8]
-    ensures { result.now ≡ page_key follows }
+pub(crate) fn page_key(follows: bool) -> &'static [u8]
+    ensures value { result.now ≡ page_key follows }
+    ensures ascii { IsAscii result.now }
+    ensures most { length result.now ≤ 11 }
 {
     if follows {
         b"page next "
@@ -367,8 +369,10 @@ fn frame_with(rate: Rate, mut fields: Fields<'_>) -> Option<TrafficFrame>
 }
 
 /// What stands before the bits of a `frame` line.
-fn frame_key(rate: Rate) -> &'static [u8]
-    ensures { result.now ≡ frame_key rate }
+pub(crate) fn frame_key(rate: Rate) -> &'static [u8]
+    ensures value { result.now ≡ frame_key rate }
+    ensures ascii { IsAscii result.now }
+    ensures most { length result.now ≤ 11 }
 {
     match rate {
         Rate::R9600 => b"frame 9600 ",
