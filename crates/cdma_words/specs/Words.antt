@@ -20,7 +20,7 @@ use Rattle.hex.specs.Hex.{decode_sized}
 use Rattle.cdma_io.specs.declared.width.Width.{Width}
 use Rattle.cdma_io.specs.declared.width.Width.TheVariants.{Sixteen, Eight}
 use Rattle.cdma_words.specs.declared.job.Job.{Job}
-use Rattle.cdma_words.specs.declared.job.Job.TheVariants.{Find, Follow, Make}
+use Rattle.cdma_words.specs.declared.job.Job.TheVariants.{Find, Follow, Make, Trial}
 use Rattle.cdma_words.specs.declared.job.TrafficOptions.{TrafficOptions}
 use Rattle.cdma_words.specs.declared.commands.Command.{Command}
 use Rattle.cdma_words.specs.declared.commands.Command.TheVariants as named
@@ -74,6 +74,14 @@ limit_row name default =
 abbrev pub bits_row : OptionRow
 bits_row = record { name = codes "bits"; form = Either 8 16; default = Some 16 }
 
+-- which link a trial makes; it must be given
+abbrev pub number_row : OptionRow
+number_row = record {
+  name = codes "number";
+  form = Between 0 18446744073709551615;
+  default = None;
+}
+
 -- ---- the table of commands
 
 -- a row of it: a command's name, its options, and the job for the number of each of them, which may
@@ -120,6 +128,10 @@ abbrev pub make_with : List (Option ℕ) → Option Job
 make_with (Some bits ∷ []) = Some (Make (width_of bits))
 make_with _ = None
 
+abbrev pub trial_with : List (Option ℕ) → Option Job
+trial_with (Some number ∷ Some workers ∷ []) = Some (Trial number workers)
+trial_with _ = None
+
 abbrev pub find_row : CommandRow
 find_row = record {
   name = codes "find";
@@ -142,13 +154,21 @@ follow_row = record {
 abbrev pub make_row : CommandRow
 make_row = record { name = codes "make"; options = bits_row ∷ []; job = make_with }
 
+abbrev pub trial_row : CommandRow
+trial_row = record {
+  name = codes "trial";
+  options = number_row ∷ workers_row ∷ [];
+  job = trial_with;
+}
+
 abbrev pub command_row : Command → CommandRow
 command_row named.Find = find_row
 command_row named.Follow = follow_row
 command_row named.Make = make_row
+command_row named.Trial = trial_row
 
 abbrev pub commands : List CommandRow
-commands = find_row ∷ follow_row ∷ make_row ∷ []
+commands = find_row ∷ follow_row ∷ make_row ∷ trial_row ∷ []
 
 -- ---- values
 
@@ -342,3 +362,4 @@ IsLawfulJob (Follow span workers fingers paging traffic limits) =
     IsSpan span × IsWorkers workers × IsFingers fingers × IsPaging paging
     × IsLawfulTraffic paging traffic
 IsLawfulJob (Make width) = Unit {0}
+IsLawfulJob (Trial number workers) = (number < 2 ^ 64) × IsWorkers workers

@@ -5,10 +5,10 @@ ghost use Rattle.std.specs.Cmp.Lexicographic.{pointwise};
 ghost use Rattle.cdma_words.specs.Words.{IsAdmitted, IsLawfulJob, IsLawfulTraffic};
 ghost use Rattle.cdma_words.specs.Words.{command_row, commands, find_row, follow_row, is_free};
 ghost use Rattle.cdma_words.specs.Words.{job_with, limit_rows, limits_with, make_row};
-ghost use Rattle.cdma_words.specs.Words.{numbers_by, row_of, traffic_with, width_of};
+ghost use Rattle.cdma_words.specs.Words.{numbers_by, row_of, traffic_with, trial_row, width_of};
 
 use crate::grammar::{
-    BITS, FINGERS, FRAMES, Form, MESSAGES, OFFSET, OptionRule, PAGING, PILOTS, RAW, ROW,
+    BITS, FINGERS, FRAMES, Form, MESSAGES, NUMBER, OFFSET, OptionRule, PAGING, PILOTS, RAW, ROW,
     SERIAL_NUMBER, SPAN, WORKERS,
 };
 use crate::job::{Job, TrafficOptions};
@@ -24,6 +24,8 @@ pub enum Command {
     Follow,
     /// `make`.
     Make,
+    /// `trial`.
+    Trial,
 }
 
 /// What `find` takes.
@@ -47,6 +49,9 @@ static FOLLOW_OPTIONS: [OptionRule; 11] = [
 /// What `make` takes.
 static MAKE_OPTIONS: [OptionRule; 1] = [BITS];
 
+/// What `trial` takes.
+static TRIAL_OPTIONS: [OptionRule; 2] = [NUMBER, WORKERS];
+
 impl Command {
     /// The command of this name.
     pub fn named(name: &str) -> Option<Command>
@@ -57,6 +62,7 @@ impl Command {
             "find" => Some(Command::Find),
             "follow" => Some(Command::Follow),
             "make" => Some(Command::Make),
+            "trial" => Some(Command::Trial),
             _ => None,
         }
     }
@@ -69,6 +75,7 @@ impl Command {
             Command::Find => "find",
             Command::Follow => "follow",
             Command::Make => "make",
+            Command::Trial => "trial",
         }
     }
 
@@ -80,6 +87,7 @@ impl Command {
             Command::Find => &FIND_OPTIONS,
             Command::Follow => &FOLLOW_OPTIONS,
             Command::Make => &MAKE_OPTIONS,
+            Command::Trial => &TRIAL_OPTIONS,
         }
     }
 
@@ -93,6 +101,7 @@ impl Command {
             Command::Find => find_with(texts),
             Command::Follow => follow_with(texts),
             Command::Make => make_with(texts),
+            Command::Trial => trial_with(texts),
         }
     }
 }
@@ -192,6 +201,19 @@ fn make_with<T: Texts>(texts: &T) -> Option<Job>
     let bits = number_by(texts, &BITS)?;
     Some(Job::Make {
         width: width_of(bits),
+    })
+}
+
+/// The job of `trial`.
+fn trial_with<T: Texts>(texts: &T) -> Option<Job>
+    ensures value { result ≡ job_with trial_row (T.text_at texts.now) }
+    ensures lawful { IfSome result IsLawfulJob }
+{
+    let number = number_by(texts, &NUMBER)?;
+    let workers = number_by(texts, &WORKERS)?;
+    Some(Job::Trial {
+        number: number as u64,
+        workers: workers as u8,
     })
 }
 

@@ -174,6 +174,16 @@ pub const BITS: OptionRule = OptionRule {
     default: Some(16),
 };
 
+/// `--number`: which link a trial makes.
+pub const NUMBER: OptionRule = OptionRule {
+    name: "number",
+    form: Form::Between {
+        least: 0,
+        most: 18446744073709551615,
+    },
+    default: None,
+};
+
 /// The number that 1 to 20 decimal digits spell, leading zeros among them.
 fn number_in(text: &str) -> Option<u128>
     ensures { result ≡ number_in text.now }

@@ -40,6 +40,13 @@ pub enum Job {
         /// How wide the parts of the samples are.
         width: Width,
     },
+    /// `trial`: a link that a number tells is made and followed, and what was heard is counted.
+    Trial {
+        /// The number.
+        number: u64,
+        /// How many workers search the pilot, 1 to 64.
+        workers: u8,
+    },
 }
 
 /// The traffic channel that a handset is told to follow.
@@ -72,7 +79,7 @@ pub enum WordFault {
 /// which are else the greatest, and `--raw`, which is else 0; and for a traffic channel `--esn`
 /// and `--row`, 1 to 63, both or neither, and with them `--offset`, 0 to 15, which is else 0. The
 /// row is neither 32 nor the paging channel's number. `make` takes `--bits`, 8 or 16, which is else
-/// 16.
+/// 16. `trial` takes `--number`, 0 to 2^64 - 1, which must be given, and `--workers`.
 ///
 /// All other words are `Bad`, whatever memory there is.
 pub fn words_of(alloc: Global, words: &[String]) -> Result<Job, WordFault>

@@ -188,6 +188,45 @@ fn refuses_other_values_of_a_traffic_channel(rt: HostRuntime) -> Result<(), Fail
 }
 
 #[test]
+fn takes_the_number_of_a_trial(rt: HostRuntime) -> Result<(), Fail> {
+    for (line, number, workers) in [
+        ("trial --number 0", 0, 4),
+        (
+            "trial --number=18446744073709551615",
+            18446744073709551615,
+            4,
+        ),
+        ("trial --workers=64 --number 007", 7, 64),
+        ("trial --number 00000000000000000001 --workers 1", 1, 1),
+    ] {
+        assert_eq!(rt;
+            read(rt.alloc(), line)?,
+            Ok(Job::Trial { number, workers }),
+            "{line}"
+        );
+    }
+    for line in [
+        "trial",
+        "trial --workers 1",
+        "trial --number",
+        "trial --number=",
+        "trial --number -1",
+        "trial --number a",
+        "trial --number 18446744073709551616",
+        "trial --number 000000000000000000000",
+        "trial --number 1 --number 1",
+        "trial --number 1 --workers 65",
+        "trial --number 1 --span 64",
+        "trial 1",
+        "find --number 1",
+        "make --number 1",
+    ] {
+        assert_eq!(rt; read(rt.alloc(), line)?, Err(WordFault::Bad), "{line}");
+    }
+    Ok(())
+}
+
+#[test]
 fn refuses_no_words(rt: HostRuntime) -> Result<(), Fail> {
     let words: Vec<String> = Vec::new(rt.alloc());
     assert_eq!(rt; words_of(rt.alloc(), words.as_slice()), Err(WordFault::Bad));
