@@ -5,3 +5,7 @@ pub mod Signs
 pub mod Commands
 pub mod Frames
 pub mod Back
+pub mod KeptSymbols
+pub mod HiddenWords
+pub mod FullRate
+pub mod WorkedFrames

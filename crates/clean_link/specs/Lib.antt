@@ -1,6 +1,8 @@
 pub mod ChannelLaws
 pub mod CleanLaws
 pub mod CleanLink
+pub mod DistinctFrames
+pub mod DistinctWorked
 pub mod HeardFrames
 pub mod HeardPages
 pub mod PageLaws

@@ -7,6 +7,8 @@
 
 ghost use Rattle.clean_link.specs.ChannelLaws.{ChannelFramesComeBack, ChannelWordsAreTheOnlyBest, ChannelsHaveSentSigns, EarlyFramesAreZero, SilentRowsAreZero, StreamsShowSymbols, StrengthsArePositive};
 ghost use Rattle.clean_link.specs.CleanLaws.{AreZeroWithoutSync, FramesAreZeros, FramesComeBack, HaveSentSigns, IsMarkedWhereHeard, MarksAreTrue, SentWordsAreTheOnlyBest, WholeSendingsComeBack};
+ghost use Rattle.clean_link.specs.DistinctFrames.{FullRateFramesAreDistinct};
+ghost use Rattle.clean_link.specs.DistinctWorked.{AFullRateFrameIsDistinct, ZerosAreShared};
 ghost use Rattle.clean_link.specs.HeardPages.{PagesComeBack};
 ghost use Rattle.clean_link.specs.PageLaws.{PageSendingsComeBack, WholePagesComeBack};
 ghost use Rattle.clean_link.specs.PagingLaws.{MarksTellTheRate, PagingFramesComeBack};
@@ -101,4 +103,14 @@ pub fn traffic_frames_come_back()
 /// of samples, sendings come first and frames last.
 pub fn whole_messages_come_back()
     ensures { WholeMessagesComeBack }
+{}
+
+/// A frame of 9,600 bits a second is distinct where the code symbols that power control bits leave
+/// tell all words of 192 bits apart, and some bit keeps both of its code symbols, which differ: at a
+/// lower rate they would be one. One such frame is worked out. Frames of zeros at 2,400 and at 1,200
+/// bits a second have one another's symbols, so neither is distinct.
+pub fn some_frames_are_distinct()
+    ensures full_rate { FullRateFramesAreDistinct }
+    ensures worked { AFullRateFrameIsDistinct }
+    ensures zeros { ZerosAreShared }
 {}
