@@ -30,7 +30,7 @@ use Rattle.cdma_replay.specs.Hearing.{best_pilot, clean_end, clean_events, end_w
 use Rattle.cdma_replay.specs.Hearing.{file_end_of, file_events, file_text, traffic_of}
 use Rattle.cdma_replay.specs.Hearing.{tuning_for}
 use Rattle.cdma_replay.specs.Replies.{AnswersBehind, IsFileReply, IsWholeFile, Reply, following}
-use Rattle.cdma_replay.specs.declared.receiving.Receiver.{Receiver}
+use Rattle.cdma_replay.specs.declared.handset.Receiver.{Receiver}
 use Rattle.cdma_replay.specs.declared.status.Status.{Status}
 use Rattle.cdma_replay.specs.declared.status.Status.TheVariants.{NoMemory}
 

@@ -28,7 +28,7 @@ use Rattle.event_tap.specs.Taps.{KeptTap, form_line, heard_text, kept_with, run_
 use Rattle.event_tap.specs.Taps.{taps_behind}
 use Rattle.event_tap.proofs.Runs.{run_taps-append, run_taps-more, run_text-append, run_text-more}
 use Rattle.event_tap.proofs.Runs.{run_text-none}
-use Rattle.cdma_replay.specs.declared.receiving.Receiver.{Receiver}
+use Rattle.cdma_replay.specs.declared.handset.Receiver.{Receiver}
 use Rattle.cdma_replay.specs.declared.status.Status.{Status}
 use Rattle.cdma_replay.specs.declared.status.Status.TheVariants.{Done, NoSync, BadWords, BadFile}
 use Rattle.cdma_replay.specs.declared.status.Status.TheVariants.{ReadFault, WriteFault, NoMemory}
@@ -95,7 +95,7 @@ told_none t taps mobile kept given heard old stands behind = record {
 }
 
 -- the samples of a step behind those taken before
-taken_more : (heard samples : List Sample) (taken n : ℕ) →
+pub taken_more : (heard samples : List Sample) (taken n : ℕ) →
     (heard ++ take taken samples) ++ take n (drop taken samples) ≡ heard ++ take (taken + n) samples
 taken_more heard samples taken n =
     append_assoc heard (take taken samples) (take n (drop taken samples)) ∙

@@ -9,3 +9,4 @@ pub mod MadeFiles
 pub mod MadeLinks
 pub mod Prefixes
 pub mod Replies
+mod Counting

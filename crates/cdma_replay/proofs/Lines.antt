@@ -25,7 +25,7 @@ use Rattle.mobile_core.specs.declared.event.Event.TheVariants.{Pilot}
 use Rattle.mobile_core.specs.declared.mobile.Mobile.{Mobile}
 use Rattle.event_tap.specs.Taps.{KeptTap, heard_text, run_taps, run_text, taps_behind}
 use Rattle.event_tap.proofs.Runs.{run_text-none}
-use Rattle.cdma_replay.specs.declared.receiving.Receiver.{Receiver}
+use Rattle.cdma_replay.specs.declared.handset.Receiver.{Receiver}
 use Rattle.cdma_replay.specs.declared.receiving.Reception.{Reception}
 use Rattle.cdma_replay.specs.declared.status.Status.{Status}
 use Rattle.cdma_replay.specs.Find.{WritesNoMore, WritesText}

@@ -1,10 +1,12 @@
 -- Lemmas on what a run owes: what its answer says follows from the causes of each end, and no input
 -- is owed two replies.
 use Rattle.std.proofs.Common.{◌≡◌, ◌≢◌, ℕ, ◌⊎◌, inl, inr, List, [], refl, sym}
-use Rattle.std.proofs.Common.{ap}
-use Rattle.std.proofs.Common.{◌∙◌, subst, Option, None, Some, IfSome, Ok, Err}
+use Rattle.std.proofs.Common.{ap, length}
+use Rattle.std.proofs.Common.{◌∙◌, subst, Option, None, Some, IfErr, IfSome, OnErr, OnOk, Result}
+use Rattle.std.proofs.Common.{Ok, Err, take}
 use Rattle.std.specs.Io.{StartsWith}
 use Rattle.std.specs.Io.KnownBytes.{Appends}
+use Rattle.std.proofs.Common.{append-nil}
 use Rattle.chip_core.specs.declared.sample.Sample.{Sample}
 use Rattle.cdma_io.specs.declared.file_fault.FileFault.{FileFault}
 use Rattle.cdma_io.specs.declared.file_fault.FileFault.TheVariants.{ReadFault}
@@ -17,19 +19,22 @@ use Rattle.base_modulator.specs.declared.script_fault.ScriptFault.TheVariants.{O
 use Rattle.base_modulator.specs.Script.{plan_named}
 use Rattle.event_tap.specs.Taps.{KeptTap, kept_by}
 use Rattle.cdma_words.specs.declared.job.Job.{Job}
-use Rattle.cdma_words.specs.declared.job.Job.TheVariants.{Find, Follow, Make}
+use Rattle.cdma_words.specs.declared.job.Job.TheVariants.{Find, Follow, Make, Trial}
 use Rattle.cdma_replay.specs.declared.receiving.Reception.{Reception}
 use Rattle.cdma_replay.specs.declared.status.Status.{Status}
 use Rattle.cdma_replay.specs.Find.{BeginsText, IsEnd, IsFaultIn, IsOfFiles, IsSearchable}
-use Rattle.cdma_replay.specs.Find.{WritesNoMore, WritesText}
+use Rattle.cdma_replay.specs.Find.{WritesNoMore, WritesText, ended}
 use Rattle.cdma_replay.specs.Hearing.{file_end_of, file_text}
 use Rattle.cdma_replay.specs.Make.{BeginsMadeFile, WritesMadeFile, WritesNoMoreMade, made_file}
 use Rattle.cdma_replay.specs.Replies.{Answers, AnswersBehind, IsAnswered, IsEndOf, IsFaultyFile}
 use Rattle.cdma_replay.specs.Replies.{IsFaultyScript, IsFileEnd, IsFileReply, IsReply, IsScriptEnd}
 use Rattle.cdma_replay.specs.Replies.{IsScriptReply, IsSearchEnd, IsVerdict, IsWholeFile}
 use Rattle.cdma_replay.specs.Replies.{IsEarlyFault, IsWholeScript, Reply, WritesPart, finding}
-use Rattle.cdma_replay.specs.Replies.{following}
+use Rattle.cdma_replay.specs.Replies.{IsTrialEnd, IsTrialReply, following}
+use Rattle.cdma_replay.specs.Trials.{trial_line}
+use Rattle.cdma_io.specs.Outside.{AppendsPrefix}
 use Rattle.cdma_replay.proofs.Files.{no_fault, one_fault}
+use Rattle.cdma_replay.proofs.Prefixes.{front_begins, taken_begins}
 
 -- ---- a run over a sample file
 
@@ -251,6 +256,62 @@ script_early Status.ReadFault never same early = absurd early
 script_early Status.WriteFault never same early = absurd early
 script_early Status.NoMemory never same early = absurd early
 
+-- ---- a trial
+
+pub record HasTrialCauses (number : ℕ) (ran : Result (Unit {0}) Status) (old new : Option (List ℕ)) :
+    Type 0 where
+  pub ok : OnOk ran (Appends old new (trial_line number))
+  pub err : OnErr ran (AppendsPrefix old new (trial_line number))
+  pub failed : IfErr ran (λ status. (status ≡ Status.NoMemory) ⊎ (status ≡ Status.WriteFault))
+
+failed_end : (status : Status) → (status ≡ Status.NoMemory) ⊎ (status ≡ Status.WriteFault) →
+    IsTrialEnd status × (¬ (IsVerdict status)) × (¬ (IsEarlyFault status))
+failed_end status (inl memory) = rw memory (tt, λ v. v, λ e. e)
+failed_end status (inr write) = rw write (tt, λ v. v, λ e. e)
+
+pub trial_end : (number : ℕ) (ran : Result (Unit {0}) Status) {old new : Option (List ℕ)} →
+    HasTrialCauses number ran old new → IsTrialEnd (ended ran)
+trial_end number (Ok done) causes = tt
+trial_end number (Err status) causes = (failed_end status causes.failed).0
+
+pub trial_verdict : (number : ℕ) (ran : Result (Unit {0}) Status) (rest old new : Option (List ℕ)) →
+    HasTrialCauses number ran old new → IsVerdict (ended ran) →
+    IfSome rest (λ bytes. IsAnswered (IsTrialReply number) (ended ran) old new)
+trial_verdict number ran None old new causes verdict = tt
+trial_verdict number (Ok done) (Some bytes) old new causes verdict = record {
+  reply = Ok (trial_line number, Status.Done);
+  owed = refl;
+  answers = (refl, causes.ok);
+}
+trial_verdict number (Err status) (Some bytes) old new causes verdict =
+    absurd ((failed_end status causes.failed).1 verdict)
+
+pub trial_early : (number : ℕ) (ran : Result (Unit {0}) Status) {old new : Option (List ℕ)} →
+    HasTrialCauses number ran old new → ¬ (IsEarlyFault (ended ran))
+trial_early number (Ok done) causes early = early
+trial_early number (Err status) causes early = (failed_end status causes.failed).2 early
+
+pub trial_done : (number : ℕ) (ran : Result (Unit {0}) Status) {old new : Option (List ℕ)} →
+    HasTrialCauses number ran old new → ended ran ≡ Status.Done →
+    Appends old new (trial_line number)
+trial_done number (Ok done) causes is = causes.ok
+trial_done number (Err status) causes is =
+    absurd ((failed_end status causes.failed).1 (rw is tt))
+
+pub trial_part : (number : ℕ) (ran : Result (Unit {0}) Status) {old new : Option (List ℕ)} →
+    HasTrialCauses number ran old new → WritesPart (λ text. StartsWith (trial_line number) text) old new
+trial_part number (Ok done) causes = record {
+  text = trial_line number;
+  written = causes.ok;
+  part = inr (front_begins (trial_line number) (trial_line number) []
+      (sym (append-nil (trial_line number))));
+}
+trial_part number (Err status) causes = record {
+  text = take causes.err.count (trial_line number);
+  written = causes.err.appended;
+  part = inr (taken_begins (trial_line number) causes.err.count causes.err.fits);
+}
+
 -- ---- one reply
 
 -- a sample file has one text and one end
@@ -325,6 +386,14 @@ one_script_reply width bytes (Err one) (Ok other) a b =
 one_script_reply width bytes (Err one) (Err other) a b =
     ap (λ (s : Status). Err s) (script_faults_alike width bytes one other a b)
 
+-- so has a number
+one_trial_reply : (number : ℕ) (one other : Reply) → IsTrialReply number one →
+    IsTrialReply number other → one ≡ other
+one_trial_reply number (Ok one) (Ok other) a b =
+    ap (λ (p : List ℕ × Status). Ok p) (a ∙ sym b)
+one_trial_reply number (Ok one) (Err other) a b = absurd b
+one_trial_reply number (Err one) other a b = absurd a
+
 -- whatever the command
 pub one_reply : (forms : List ℕ) (job : Job) (bytes : List ℕ) (one other : Reply) →
     IsReply forms job bytes one → IsReply forms job bytes other → one ≡ other
@@ -333,6 +402,7 @@ one_reply forms (Find span workers) bytes one other a b =
 one_reply forms (Follow span workers fingers paging traffic limits) bytes one other a b =
     one_file_reply (kept_by limits forms) (following span workers fingers paging traffic) bytes one other a b
 one_reply forms (Make width) bytes one other a b = one_script_reply width bytes one other a b
+one_reply forms (Trial number workers) bytes one other a b = one_trial_reply number one other a b
 
 -- ---- just that reply
 
@@ -360,6 +430,7 @@ named_well : (job : Job) → ¬ (IsEndOf job Status.BadWords)
 named_well (Find span workers) end = end
 named_well (Follow span workers fingers paging traffic limits) end = end
 named_well (Make width) end = end
+named_well (Trial number workers) end = end
 
 -- where nothing failed
 pub exact_answer : (forms : List ℕ) (job : Job) (status : Status) (rest old new : Option (List ℕ))

@@ -4,3 +4,4 @@ pub mod MadeLaws
 pub mod Make
 pub mod Replies
 pub mod Status
+pub mod Trials

@@ -2,6 +2,7 @@
 -- how the run ends, or the fault that it has.
 use Rattle.std.specs.Prelude.{◌≡◌, ◌≢◌, ℕ, ◌≤◌, ◌++◌, ◌⊎◌, List, [], length, Option, IsOk}
 use Rattle.std.specs.Prelude.{None, Some, Result, Ok, Err}
+use Rattle.std.specs.Io.{StartsWith}
 use Rattle.std.specs.Io.KnownBytes.{Appends}
 use Rattle.chip_core.specs.declared.sample.Sample.{Sample}
 use Rattle.cdma_io.specs.declared.file_fault.FileFault.{FileFault}
@@ -16,13 +17,14 @@ use Rattle.base_modulator.specs.Script.{plan_named}
 use Rattle.event_tap.specs.Taps.{KeptTap, kept_by}
 use Rattle.cdma_words.specs.declared.job.Job.{Job}
 use Rattle.cdma_words.specs.declared.job.TrafficOptions.{TrafficOptions}
-use Rattle.cdma_words.specs.declared.job.Job.TheVariants.{Find, Follow, Make}
+use Rattle.cdma_words.specs.declared.job.Job.TheVariants.{Find, Follow, Make, Trial}
 use Rattle.cdma_replay.specs.declared.receiving.Reception.{Reception}
 use Rattle.cdma_replay.specs.declared.status.Status.{Status}
 use Rattle.cdma_replay.specs.declared.status.Status.TheVariants as ends
 use Rattle.cdma_replay.specs.Find.{BeginsFile, BeginsText, IsFaultIn, IsHeaderFault}
 use Rattle.cdma_replay.specs.Hearing.{file_end_of, file_text}
 use Rattle.cdma_replay.specs.Make.{BeginsMadeFile, made_file}
+use Rattle.cdma_replay.specs.Trials.{trial_line}
 
 -- ---- replies
 
@@ -68,6 +70,11 @@ abbrev pub IsScriptReply : Width → List ℕ → Reply → Type 0
 IsScriptReply width bytes (Ok whole) = IsWholeScript width bytes whole.0 whole.1
 IsScriptReply width bytes (Err end) = IsFaultyScript width bytes end
 
+-- a trial has one line and one end, whatever its input
+abbrev pub IsTrialReply : ℕ → Reply → Type 0
+IsTrialReply number (Ok whole) = whole ≡ (trial_line number, ends.Done)
+IsTrialReply number (Err end) = ⊥
+
 -- ---- command by command
 
 -- how `find` and `follow` receive
@@ -81,18 +88,25 @@ following span workers fingers paging traffic = record {
   receiver = Some (record { fingers = fingers; paging = paging; traffic = traffic });
 }
 
--- what a run over these bytes owes, with taps of these forms; `find` and `make` use none of them
+-- what a run over these bytes owes, with taps of these forms; `follow` alone uses them
 abbrev pub IsReply : List ℕ → Job → List ℕ → Reply → Type 0
 IsReply forms (Find span workers) = IsFileReply [] (finding span workers)
 IsReply forms (Follow span workers fingers paging traffic limits) =
     IsFileReply (kept_by limits forms) (following span workers fingers paging traffic)
 IsReply forms (Make width) = IsScriptReply width
+IsReply forms (Trial number workers) = λ bytes. IsTrialReply number
 
 -- what memory may run out behind, or a write fail behind: a good beginning of the input
 abbrev pub IsPromising : Job → List ℕ → Type 0
 IsPromising (Find span workers) = BeginsFile span
 IsPromising (Follow span workers fingers paging traffic limits) = BeginsFile span
 IsPromising (Make width) = λ bytes. IsOk (plan_named width bytes)
+IsPromising (Trial number workers) = λ bytes. Unit {0}
+
+-- a run that reads its input to the end, where it ends well; a trial reads nothing
+abbrev pub ReadsInput : Job → Type 0
+ReadsInput (Trial number workers) = ⊥
+ReadsInput job = Unit {0}
 
 -- what may have been written, whatever the answer: a beginning of the text of what the input begins
 -- with
@@ -101,6 +115,7 @@ Begins forms (Find span workers) = BeginsText [] (finding span workers)
 Begins forms (Follow span workers fingers paging traffic limits) =
     BeginsText (kept_by limits forms) (following span workers fingers paging traffic)
 Begins forms (Make width) = BeginsMadeFile width
+Begins forms (Trial number workers) = λ rest text. StartsWith (trial_line number) text
 
 -- ---- ends
 
@@ -124,11 +139,19 @@ IsScriptEnd (ends.BadFile fault) = ⊥
 IsScriptEnd (ends.BadScript fault) = fault ≢ script.OutOfMemory
 IsScriptEnd status = Unit {0}
 
+-- and over no input
+abbrev pub IsTrialEnd : Status → Type 0
+IsTrialEnd ends.Done = Unit {0}
+IsTrialEnd ends.WriteFault = Unit {0}
+IsTrialEnd ends.NoMemory = Unit {0}
+IsTrialEnd status = ⊥
+
 -- the ends of a command
 abbrev pub IsEndOf : Job → Status → Type 0
 IsEndOf (Find span workers) = IsSearchEnd
 IsEndOf (Follow span workers fingers paging traffic limits) = IsFileEnd
 IsEndOf (Make width) = IsScriptEnd
+IsEndOf (Trial number workers) = IsTrialEnd
 
 -- an end that tells of the input: of all of it, or of its fault
 abbrev pub IsVerdict : Status → Type 0

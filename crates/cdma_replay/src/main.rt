@@ -11,6 +11,7 @@ ghost use Rattle.cdma_replay.specs.Find.{IsEnd};
 
 #[cfg(test)]
 mod capture_tests;
+mod handset;
 pub mod laws;
 #[cfg(test)]
 mod link_tests;
@@ -28,8 +29,12 @@ mod test_runs;
 mod tests;
 #[cfg(test)]
 mod traffic_tests;
+mod trial;
+#[cfg(test)]
+mod trial_tests;
 #[cfg(test)]
 mod worker_tests;
+mod workspace;
 
 use cdma_io::{Failed, ReaderSource, WriterSink};
 use event_tap::{FrameTap, MessageTap, PilotTap, RawTap, Tap};

@@ -2,8 +2,8 @@
 //! it.
 
 ghost use Rattle.std.specs.Prelude.{◌≡◌, ◌≢◌, ◌<◌, ◌≤◌, ◌+◌, ◌*◌, ◌-◌, ◌++◌, ◌⊎◌, ℕ};
-ghost use Rattle.std.specs.Prelude.{List, [], length, vec_len, All, Err, None, Some, Option, IfOk};
-ghost use Rattle.std.specs.Prelude.{OnOk, IfErr, OnErr, IfSome, option_map};
+ghost use Rattle.std.specs.Prelude.{List, [], length, All, Err, None, Some, Option, IfOk};
+ghost use Rattle.std.specs.Prelude.{OnOk, IfErr, OnErr, IfSome};
 ghost use Rattle.std.specs.List.{flat_map};
 ghost use Rattle.std.specs.Io.KnownBytes.{Appends, Consumes, IsAtEnd};
 ghost use Rattle.chip_core.specs.declared.sample.Sample.{Sample};
@@ -17,42 +17,27 @@ ghost use Rattle.mobile_core.specs.Standing.{StandsFor, has_room};
 ghost use Rattle.mobile_core.specs.declared.event.Event.{Event as TheEvent};
 ghost use Rattle.mobile_core.specs.declared.event.Event.TheVariants.{Pilot as ThePilot};
 ghost use Rattle.event_tap.specs.Taps.{IsKept, KeptTap, heard_text, run_taps, taps_behind};
-ghost use Rattle.cdma_words.specs.Words.{IsLawfulTraffic, IsWorkers};
-ghost use Rattle.mobile_core.specs.TrafficMonitoring.{IsSoundAssignment};
-ghost use Rattle.std.specs.Option.{ForSome};
+ghost use Rattle.cdma_words.specs.Words.{IsWorkers};
 ghost use Rattle.cdma_replay.specs.Hearing.{AreNearTo, AreReady, HasGiven, HasHeard, HasRoom};
 ghost use Rattle.cdma_replay.specs.Hearing.{HasRoomFor, HearsPart, HearsRest, IsLawfulReceiver};
 ghost use Rattle.cdma_replay.specs.Hearing.{Tells, TellsPart};
-ghost use Rattle.cdma_replay.specs.Hearing.{end_when, events_in, is_told, taps_for, traffic_of};
+ghost use Rattle.cdma_replay.specs.Hearing.{end_when, events_in, is_told, taps_for};
 ghost use Rattle.cdma_replay.specs.Hearing.{tuning_of};
 ghost use Rattle.cdma_replay.specs.Find.{BeginsFile, IsEnd, IsFault, IsFaultIn, IsOfFiles};
 ghost use Rattle.cdma_replay.specs.Find.{IsHeaderFault, IsRestFault, IsSearchable, WritesNoMore};
 ghost use Rattle.cdma_replay.specs.Find.{WritesText, ended};
 
+use crate::handset::{Receiver, handset};
 use crate::status::Status;
+use crate::workspace::Workspace;
 use cdma_io::{Failed, FileFault, Header, SampleReader, Sink, Source};
-use cdma_words::TrafficOptions;
 use chip_core::{OutOfMemory, Sample};
 use event_tap::{KeepsTaps, write_event};
-use mobile_core::{Event, Mobile, Settings, Traffic};
+use mobile_core::{Event, Mobile};
 use pilot_search::{Best, Gate, Near, near, search};
 use short_code::Codes;
 use std::alloc::Global;
 use std::thread::Threads;
-
-/// How many samples are read at once behind the first ones, at most.
-const PIECE: usize = 4096;
-
-/// How a handset receives a file.
-#[derive(Clone, Copy, PartialEq, Eq, Debug)]
-pub struct Receiver {
-    /// Over how many fingers it follows the signal, 1 to 3.
-    pub fingers: u8,
-    /// The number of the paging channel that it follows, 1 to 7.
-    pub paging: u8,
-    /// The traffic channel that it follows; `None` where it follows none.
-    pub traffic: Option<TrafficOptions>,
-}
 
 /// How a sample file is received.
 #[derive(Clone, Copy, PartialEq, Eq, Debug)]
@@ -63,28 +48,6 @@ pub struct Reception {
     pub workers: u8,
     /// How a handset receives it; `None` where only the pilot is wanted.
     pub receiver: Option<Receiver>,
-}
-
-/// The buffers of a run.
-#[derive(Drop)]
-struct Workspace {
-    codes: Codes,
-    span: Vec<Sample>,
-    piece: Vec<Sample>,
-    ghost piece_len: { vec_len piece ≡ 4096 },
-}
-
-impl Workspace {
-    // For a span of so many samples.
-    fn new(alloc: Global, samples: usize) -> Result<Workspace, OutOfMemory>
-        ensures { IfOk result (λ w. vec_len w.span ≡ samples) }
-    {
-        let codes = Codes::new(alloc)?;
-        let nothing = Sample { i: 0, q: 0 };
-        let span = vec![in alloc; nothing; samples]?;
-        let piece = vec![in alloc; nothing; PIECE]?;
-        Ok(Workspace { codes, span, piece })
-    }
 }
 
 /// Opens a sample file and reads its first samples, as many as `span` has room for.
@@ -126,18 +89,7 @@ fn near_for(codes: &Codes, first: &[Sample], best: Best, receiver: Option<Receiv
     Some(near(first, codes, best, receiver.fingers))
 }
 
-/// The traffic channel that words name, as a handset is told of it.
-fn assigned(options: Option<TrafficOptions>) -> Option<Traffic>
-    ensures value { result ≡ option_map traffic_of options }
-    ensures sound { (paging : ℕ) → IsLawfulTraffic paging options →
-        ForSome result IsSoundAssignment }
-{
-    let TrafficOptions { esn, row, offset } = options?;
-    Some(Traffic { esn, row, offset })
-}
-
-/// A handset for a file of this header, where there is a receiver, with paths near its phase. It has
-/// a table of the codes of its own.
+/// A handset for a file of this header, where there is a receiver, with paths near its phase.
 fn handset_for(
     alloc: Global,
     header: Header,
@@ -156,16 +108,7 @@ fn handset_for(
     let (Some(receiver), Some(near)) = (receiver, near) else {
         return Ok(None);
     };
-    let settings = Settings {
-        fingers: near.count,
-        paging: receiver.paging,
-        traffic: assigned(receiver.traffic),
-        check30: header.check30,
-        check16: header.check16,
-        count: header.count,
-    };
-    let codes = Codes::new(alloc)?;
-    let mobile = Mobile::new(alloc, settings, codes, best, near)?;
+    let mobile = handset(alloc, header, receiver, best, near)?;
     Ok(Some(mobile))
 }
 

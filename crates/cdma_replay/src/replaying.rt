@@ -2,7 +2,7 @@
 
 ghost use Rattle.std.specs.Prelude.{◌≡◌, ◌≤◌, ◌++◌, ◌⊎◌, ◌↔◌, ℕ, List, map};
 ghost use Rattle.std.specs.Prelude.{None, Option, Some, IfSome, length, option_map};
-ghost use Rattle.std.specs.Io.KnownBytes.{IsAtEnd};
+ghost use Rattle.std.specs.Io.KnownBytes.{Appends, IsAtEnd};
 ghost use Rattle.chip_core.specs.declared.sample.Sample.{Sample};
 ghost use Rattle.cdma_io.specs.declared.file_fault.FileFault.{FileFault};
 ghost use Rattle.cdma_io.specs.declared.header.Header.{Header};
@@ -14,18 +14,22 @@ ghost use Rattle.event_tap.specs.Taps.{kept_by, run_text};
 ghost use Rattle.clean_link.specs.CleanLink.{IsCleanLink};
 ghost use Rattle.clean_link.specs.SentEvents.{FollowsSent};
 ghost use Rattle.cdma_words.specs.declared.job.Job.{Job as TheJob};
-ghost use Rattle.cdma_words.specs.declared.job.Job.TheVariants.{Follow};
+ghost use Rattle.cdma_words.specs.declared.job.Job.TheVariants.{Follow, Trial};
 ghost use Rattle.cdma_words.specs.declared.job.TrafficOptions.{TrafficOptions as TheTraffic};
 ghost use Rattle.cdma_words.specs.Words.{IsLawfulJob, job_named};
 ghost use Rattle.cdma_replay.specs.Find.{IsEnd, IsHeaderFault, ended};
 ghost use Rattle.cdma_replay.specs.Hearing.{clean_end, clean_events, traffic_of};
 ghost use Rattle.cdma_replay.specs.Replies.{AnswersBehind, Begins, IsAnswered, IsEarlyFault};
-ghost use Rattle.cdma_replay.specs.Replies.{IsEndOf, IsPromising, IsReply, IsVerdict, Reply};
+ghost use Rattle.cdma_replay.specs.Replies.{IsEndOf, IsPromising, IsReply, IsVerdict, ReadsInput};
+ghost use Rattle.cdma_replay.specs.Replies.{Reply};
 ghost use Rattle.cdma_replay.specs.Replies.{WritesPart};
+ghost use Rattle.cdma_replay.specs.Trials.{trial_line};
 
+use crate::handset::Receiver;
 use crate::making::make;
-use crate::receiving::{Receiver, Reception, receive};
+use crate::receiving::{Reception, receive};
 use crate::status::Status;
+use crate::trial::trial;
 use cdma_io::{Sink, Source};
 use cdma_words::{Job, WordFault, words_of};
 use event_tap::{Tap, Taps};
@@ -68,7 +72,10 @@ fn run_job<R: Threads + Sync, S: Source, K: Sink, G: Gate + Sync>(
     ensures early { IsEarlyFault result → sink.new ≡ sink.old }
     ensures header { (fault : FileFault) → result ≡ Status.BadFile fault → IsHeaderFault fault →
         ConsumesAtMost 16 (S.rest source.old) (S.rest source.new) }
-    ensures at_end { IsEnd result → IsAtEnd (S.rest source.new) }
+    ensures at_end { ReadsInput job → IsEnd result → IsAtEnd (S.rest source.new) }
+    ensures unread { ¬ (ReadsInput job) → source.new ≡ source.old }
+    ensures trial { (number workers : ℕ) → job ≡ Trial number workers → result ≡ Status.Done →
+        Appends (K.written sink.old) (K.written sink.new) (trial_line number) }
     ensures written { WritesPart
         (Begins (map (λ b. shape b) taps.items) job (S.rest source.old))
         (K.written sink.old) (K.written sink.new) }
@@ -106,6 +113,9 @@ fn run_job<R: Threads + Sync, S: Source, K: Sink, G: Gate + Sync>(
             status_of(receive(rt, alloc, reception, source, sink, taps, gate))
         }
         Job::Make { width } => status_of(make(alloc, width, source, sink)),
+        Job::Trial { number, workers } => {
+            status_of(trial(rt, alloc, number, workers, sink, gate))
+        }
     }
 }
 
@@ -115,7 +125,9 @@ fn run_job<R: Threads + Sync, S: Source, K: Sink, G: Gate + Sync>(
 /// first samples, as many as its span is, writes its line, and reads on to the end of the file.
 /// `follow` does that too, and lets the taps hear the pilot and each event that a handset hears in
 /// the samples, as it comes, and write their text; it ends with `NoSync` where no message told the
-/// time. `make` reads a script, and writes the file of the cell that it names.
+/// time. `make` reads a script, and writes the file of the cell that it names. `trial` reads nothing:
+/// it makes the link that its number tells, follows it with a handset, and writes one line that
+/// counts what was heard.
 ///
 /// The words, their options and the numbers that stand where an option isn't given are those of
 /// [`cdma_words::words_of`].
@@ -182,8 +194,16 @@ pub fn replay<R: Threads + Sync, S: Source, K: Sink, G: Gate + Sync>(
         result ≡ Status.NoMemory → (sink.new ≡ sink.old) ×
         ((source.new ≡ source.old) ⊎ IfSome (S.rest source.old) (IsPromising job)) }
 
+    // A trial needs no input: it leaves the source, and where it is done it has written its line.
+    ensures unread { (job : TheJob) → job_named words.now ≡ Some job → ¬ (ReadsInput job) →
+        source.new ≡ source.old }
+    ensures trial { (number workers : ℕ) → job_named words.now ≡ Some (Trial number workers) →
+        result ≡ Status.Done →
+        Appends (K.written sink.old) (K.written sink.new) (trial_line number) }
+
     // What is read and written, whatever the answer.
-    ensures at_end { IsEnd result → IsAtEnd (S.rest source.new) }
+    ensures at_end { (job : TheJob) → job_named words.now ≡ Some job → ReadsInput job →
+        IsEnd result → IsAtEnd (S.rest source.new) }
     ensures early { IsEarlyFault result → sink.new ≡ sink.old }
     ensures header { (fault : FileFault) → result ≡ Status.BadFile fault → IsHeaderFault fault →
         ConsumesAtMost 16 (S.rest source.old) (S.rest source.new) }

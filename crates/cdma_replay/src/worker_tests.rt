@@ -47,6 +47,10 @@ impl Gate for Meeting {
 /// The line of 2,048 samples of the pilot's code at its last phase.
 const LINE: &[u8] = b"pilot phase=32767 energy=167772160000\n";
 
+/// The line of the trial of 0.
+const TRIAL_LINE: &[u8] =
+    b"trial number=0 samples=2457600 phase=8320 syncs=8 pagings=144 frames=72 good=72\n";
+
 /// The line of samples of zeros.
 const ZERO_LINE: &[u8] = b"pilot phase=0 energy=0\n";
 
@@ -70,6 +74,18 @@ fn two_workers_meet_in_follow(rt: HostRuntime) -> Result<(), Fail> {
     let (status, text) = run_through(&rt, "follow --workers=2", file.as_slice(), SMALL, &gate)?;
     assert_eq!(rt; status, Status::NoSync);
     assert_eq!(rt; text.as_slice(), ZERO_LINE);
+    assert_eq!(rt; gate.met[0].load(Ordering::SeqCst), 1);
+    assert_eq!(rt; gate.met[1].load(Ordering::SeqCst), 1);
+    assert_eq!(rt; gate.others.load(Ordering::SeqCst), 0);
+    Ok(())
+}
+
+#[test]
+fn two_workers_meet_in_trial(rt: HostRuntime) -> Result<(), Fail> {
+    let gate = Meeting::new();
+    let (status, text) = run_through(&rt, "trial --workers 2 --number=0", b"", SMALL, &gate)?;
+    assert_eq!(rt; status, Status::Done);
+    assert_eq!(rt; text.as_slice(), TRIAL_LINE);
     assert_eq!(rt; gate.met[0].load(Ordering::SeqCst), 1);
     assert_eq!(rt; gate.met[1].load(Ordering::SeqCst), 1);
     assert_eq!(rt; gate.others.load(Ordering::SeqCst), 0);

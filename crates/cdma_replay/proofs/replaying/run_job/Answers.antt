@@ -1,7 +1,13 @@
+use Rattle.std.proofs.Common.{◌≡◌, ◌∙◌, ℕ, subst, sym}
+use Rattle.std.specs.Io.KnownBytes.{Appends}
+use Rattle.cdma_words.specs.declared.job.Job.TheVariants.{Trial}
+use Rattle.cdma_replay.specs.Trials.{trial_line}
 use Rattle.cdma_replay.specs.Find.{ended}
 use Rattle.cdma_replay.specs.Replies.{following}
 use Rattle.cdma_replay.proofs.Replies.{file_part, file_verdict_by, find_part, find_verdict}
-use Rattle.cdma_replay.proofs.Replies.{script_early, script_end, script_part, script_verdict}
+use Rattle.cdma_replay.proofs.Replies.{HasTrialCauses, script_early, script_end, script_part}
+use Rattle.cdma_replay.proofs.Replies.{script_verdict, trial_done, trial_early, trial_end, trial_part}
+use Rattle.cdma_replay.proofs.Replies.{trial_verdict}
 use Rattle.cdma_replay.proofs.replaying.run_job.Goals as goal
 
 pub returns-in-Find-clause-verdict : goal.returns-in-Find-clause-verdict
@@ -65,3 +71,58 @@ returns-in-Make-clause-early g c =
 
 pub returns-in-Make-clause-written : goal.returns-in-Make-clause-written
 returns-in-Make-clause-written g c = rw c.in-Make.is (script_part c.make.ensures.written)
+
+pub returns-in-Trial-clause-kind : goal.returns-in-Trial-clause-kind
+returns-in-Trial-clause-kind g c =
+    let ends = c.trial.ensures in
+    rw (c.in-Trial.is, c.status_of-in-Trial.ensures)
+    (trial_end c.in-Trial.number c.trial.result (record {
+      ok = ends.ok;
+      err = ends.err;
+      failed = ends.failed;
+    }))
+
+pub returns-in-Trial-clause-verdict : goal.returns-in-Trial-clause-verdict
+returns-in-Trial-clause-verdict g c =
+    let ends = c.trial.ensures in
+    rw (c.in-Trial.is, c.status_of-in-Trial.ensures)
+    (trial_verdict c.in-Trial.number c.trial.result _ _ _ (record {
+      ok = ends.ok;
+      err = ends.err;
+      failed = ends.failed;
+    }))
+
+pub returns-in-Trial-clause-early : goal.returns-in-Trial-clause-early
+returns-in-Trial-clause-early g c =
+    let ends = c.trial.ensures in
+    rw c.status_of-in-Trial.ensures
+    (λ early. absurd (trial_early c.in-Trial.number c.trial.result (record {
+      ok = ends.ok;
+      err = ends.err;
+      failed = ends.failed;
+    }) early))
+
+pub returns-in-Trial-clause-trial : goal.returns-in-Trial-clause-trial
+returns-in-Trial-clause-trial g c number workers is done =
+    let ends = c.trial.ensures in
+    let causes : HasTrialCauses c.in-Trial.number c.trial.result _ _ = record {
+      ok = ends.ok;
+      err = ends.err;
+      failed = ends.failed;
+    } in
+    let same : Trial c.in-Trial.number c.in-Trial.workers ≡ Trial number workers =
+    sym c.in-Trial.is ∙ is in
+    let number_is : c.in-Trial.number ≡ number = cc in
+    subst (λ (n : ℕ). Appends (g.K.Sink.written c.args.sink.now)
+    (g.K.Sink.written c.trial.new.sink) (trial_line n)) number_is
+    (trial_done c.in-Trial.number c.trial.result causes (sym c.status_of-in-Trial.ensures ∙ done))
+
+pub returns-in-Trial-clause-written : goal.returns-in-Trial-clause-written
+returns-in-Trial-clause-written g c =
+    let ends = c.trial.ensures in
+    rw c.in-Trial.is
+    (trial_part c.in-Trial.number c.trial.result (record {
+      ok = ends.ok;
+      err = ends.err;
+      failed = ends.failed;
+    }))

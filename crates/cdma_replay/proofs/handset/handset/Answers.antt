@@ -1,0 +1,18 @@
+use Rattle.std.proofs.Common.{rules, refl, length, ◌≡◌}
+use Rattle.cdma_replay.proofs.Hearings.{fresh_given}
+use Rattle.cdma_replay.proofs.handset.handset.Goals as goal
+
+pub returns-clause-given : goal.returns-clause-given
+returns-clause-given c first found near =
+    let paths = c.args.near in
+    let long : length paths.deltas ≡ 3 = search rules in
+    fresh_given (record {
+      fingers = paths.count;
+      paging = c.args.receiver.paging;
+      traffic = c.assigned.result;
+      check30 = c.args.header.check30;
+      check16 = c.args.header.check16;
+      count = c.args.header.count;
+    })
+    c.args.header first c.args.receiver c.args.best paths c.in_ok-mobile.mobile found refl refl refl
+    c.assigned.ensures.value long near c.requires.near (search rules)

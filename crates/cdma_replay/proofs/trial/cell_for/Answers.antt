@@ -1,0 +1,19 @@
+use Rattle.std.proofs.Common.{◌≡◌, ◌∙◌, ap, sym, Ok, List, ℕ, rules}
+use Rattle.cdma_io.specs.declared.width.Width.TheVariants.{Sixteen}
+use Rattle.base_modulator.specs.Script.{plan_named}
+use Rattle.base_modulator.specs.Trial.{trial_plan, trial_text}
+use Rattle.base_modulator.specs.declared.plan.CellPlan.{CellPlan}
+use Rattle.base_modulator.proofs.TrialPlans.{trial_named}
+use Rattle.cdma_replay.proofs.Counting.{state_is}
+use Rattle.cdma_replay.proofs.trial.cell_for.Goals as goal
+
+pub returns-in-Ok : goal.returns-in-Ok
+returns-in-Ok c =
+    let cell = c.in-Ok.cell in
+    let number = c.args.number in
+    let planned : plan_named Sixteen c.in_ok-script.script.items ≡ Ok cell.plan = search rules in
+    let named : Ok cell.plan ≡ Ok (trial_plan number) =
+    sym planned ∙ ap (plan_named Sixteen) c.in_ok-script.ensures
+    ∙ trial_named number in
+    let plan : cell.plan ≡ trial_plan number = cc in
+    state_is cell Sixteen (trial_plan number) 0 c.in-Ok.ensures.fresh.0 plan c.in-Ok.ensures.fresh.1

@@ -1,0 +1,96 @@
+use Rattle.std.proofs.Common.{◌≡◌, ◌+◌, ◌-◌, ◌≤◌, ◌++◌, ◌∷◌, [], List, length, take, drop, Option, None, Some}
+use Rattle.std.proofs.Common.{sym, ap, ◌∙◌, subst, append-nil, rules, arith}
+use Rattle.std.proofs.lemmas.List.{take_rest}
+use Rattle.chip_core.specs.declared.sample.Sample.{Sample}
+use Rattle.mobile_core.specs.Given.{listed}
+use Rattle.mobile_core.specs.Standing.{StandsFor, steps_left}
+use Rattle.mobile_core.specs.declared.event.Event.{Event}
+use Rattle.cdma_replay.specs.Trials.{LeavesRoom, counts_with}
+use Rattle.cdma_replay.specs.declared.trial.Counts.{Counts}
+use Rattle.mobile_core.specs.Events.{events}
+use Rattle.cdma_replay.proofs.Counting.{counted_all, counted_more, room_behind, room_for_one}
+use Rattle.cdma_replay.proofs.Counting.{room_left}
+use Rattle.cdma_replay.proofs.trial.count.Goals as goal
+
+pub loop-event-init : goal.loop-event-init
+loop-event-init c = record {
+  most = omega arith;
+  room = omega arith;
+  few = c.requires.few;
+  told = λ t heard given stands is. (
+    given,
+    subst (λ (xs : List Sample). StandsFor t c.args.mobile.now xs given) (sym (append-nil heard))
+        stands,
+    is,
+  );
+}
+
+pub returns-in_default-clause-few : goal.returns-in_default-clause-few
+returns-in_default-clause-few c =
+    room_left c.loop-event.counts _ _ c.loop-event.invariant.few
+    (omega (arith, c.step-step.ensures.steps.fewer))
+
+pub returns-in_default-clause-told : goal.returns-in_default-clause-told
+returns-in_default-clause-told c t heard given stands is =
+    let taken = c.loop-event.taken in
+    let samples = c.args.samples.now in
+    let nothing : c.step-step.result.event ≡ None = search rules in
+    let left = take_rest samples taken in
+    let none = c.step-step.ensures.none nothing in
+    counted_all t c.loop-event.mobile c.step-step.new.self c.loop-event.counts heard samples taken
+    c.step-step.result.taken (c.loop-event.invariant.told t heard given stands is)
+    (none.0 ∙ ap length left)
+    (λ before standing.
+    subst (λ (xs : List Sample). StandsFor t c.step-step.new.self
+    ((heard ++ take taken samples) ++ take c.step-step.result.taken xs) (before ++ [])) left
+    (subst (λ (e : Option Event). StandsFor t c.step-step.new.self
+    ((heard ++ take taken samples) ++
+    take c.step-step.result.taken (take (length samples - taken) (drop taken samples)))
+    (before ++ listed e)) nothing
+    (c.step-step.ensures.steps.stands t (heard ++ take taken samples) before standing)))
+    (λ before standing.
+    subst (λ (xs : List Sample). before ≡ events t ((heard ++ take taken samples) ++ xs)) left
+    (none.1 t (heard ++ take taken samples) before standing))
+
+pub add-requires : goal.add-requires
+add-requires c =
+    let something : c.step-step.result.event ≡ Some c.in-Some.event = search rules in
+    let fewer : steps_left c.step-step.new.self + 1 ≤ steps_left c.loop-event.mobile =
+    subst (λ (e : Option Event). steps_left c.step-step.new.self + length (listed e)
+    ≤ steps_left c.loop-event.mobile) something c.step-step.ensures.steps.fewer in
+    room_for_one c.loop-event.counts (steps_left c.loop-event.mobile) c.loop-event.invariant.few
+    (omega (arith, fewer))
+
+pub loop-event-preserved : goal.loop-event-preserved
+loop-event-preserved c =
+    let inv = c.loop-event.invariant in
+    let taken = c.loop-event.taken in
+    let samples = c.args.samples.now in
+    let event = c.in-Some.event in
+    let something : c.step-step.result.event ≡ Some event = search rules in
+    let fewer : steps_left c.step-step.new.self + 1 ≤ steps_left c.loop-event.mobile =
+    subst (λ (e : Option Event). steps_left c.step-step.new.self + length (listed e)
+    ≤ steps_left c.loop-event.mobile) something c.step-step.ensures.steps.fewer in
+    let left = take_rest samples taken in
+    let added : c.add.new.self ≡ counts_with c.loop-event.counts event = search rules in
+    record {
+      most = search rules;
+      room = search rules;
+      few = subst (λ (k : Counts). LeavesRoom k (steps_left c.step-step.new.self))
+          (sym added)
+          (room_behind c.loop-event.counts event (steps_left c.step-step.new.self)
+          (steps_left c.loop-event.mobile) inv.few fewer);
+      told = λ t heard given stands is.
+          counted_more t c.loop-event.mobile c.step-step.new.self c.loop-event.counts _ heard samples
+          taken c.step-step.result.taken event (inv.told t heard given stands is)
+          (λ before standing.
+          subst (λ (xs : List Sample). StandsFor t c.step-step.new.self
+          ((heard ++ take taken samples) ++ take c.step-step.result.taken xs)
+          (before ++ event ∷ [])) left
+          (subst (λ (e : Option Event). StandsFor t c.step-step.new.self
+          ((heard ++ take taken samples) ++
+          take c.step-step.result.taken (take (length samples - taken) (drop taken samples)))
+          (before ++ listed e)) something
+          (c.step-step.ensures.steps.stands t (heard ++ take taken samples) before standing)))
+          added;
+    }

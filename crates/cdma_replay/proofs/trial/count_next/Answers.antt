@@ -1,0 +1,19 @@
+use Rattle.std.proofs.Common.{◌≡◌, ◌+◌, ◌++◌, ◌∙◌, List, length, map, sym, subst, take}
+use Rattle.chip_core.specs.declared.sample.Sample.{Sample}
+use Rattle.base_modulator.specs.Sampled.{made_samples}
+use Rattle.mobile_core.specs.Events.{events}
+use Rattle.mobile_core.specs.Standing.{StandsFor}
+use Rattle.cdma_replay.specs.Trials.{counts_of}
+use Rattle.cdma_replay.proofs.Counting.{made_more, next_made}
+use Rattle.cdma_replay.proofs.trial.count_next.Goals as goal
+
+pub returns-clause-told : goal.returns-clause-told
+returns-clause-told c t given stands is =
+    let plan = c.args.cell.now.plan in
+    let had = c.args.cell.now.given in
+    let n = length c.args.samples.now in
+    let out = c.fill.new.out in
+    let more = made_more plan had n out (next_made plan had n out c.fill.ensures.samples) in
+    subst (λ (xs : List Sample). StandsFor t c.count.new.mobile xs (events t xs)
+    × (c.count.new.counts ≡ counts_of (events t xs))) more
+    (c.count.ensures.told t (take had (made_samples plan)) given stands is)

@@ -1,0 +1,72 @@
+use Rattle.std.proofs.Common.{◌≡◌, ◌∙◌, ℕ, List, [], Some, ap, arith, length, rules, subst, sym}
+use Rattle.chip_core.specs.declared.sample.Sample.{Sample}
+use Rattle.cdma_io.specs.declared.header.Header.{Header}
+use Rattle.cdma_io.specs.declared.width.Width.TheVariants.{Sixteen}
+use Rattle.base_modulator.specs.Sampled.{made_samples}
+use Rattle.base_modulator.specs.Transmitter.{CellState, header_of}
+use Rattle.base_modulator.specs.Trial.{trial_plan}
+use Rattle.base_modulator.specs.declared.plan.CellPlan.{CellPlan}
+use Rattle.pilot_search.specs.BestIn.{IsBestIn}
+use Rattle.pilot_search.specs.Search.{best_phase}
+use Rattle.pilot_search.proofs.BestPhase.{best_phase-only}
+use Rattle.mobile_core.specs.Events.{events}
+use Rattle.mobile_core.specs.Standing.{StandsFor}
+use Rattle.mobile_core.specs.Tuning.{Tuning}
+use Rattle.cdma_replay.specs.Hearing.{AreNearTo, tuning_for}
+use Rattle.cdma_replay.specs.Trials.{counts_of, trial_receiver, trial_span, trial_tuning}
+use Rattle.cdma_replay.specs.declared.handset.Receiver.{Receiver}
+use Rattle.cdma_replay.proofs.Counting.{behind_span, line_is, span_fits, span_is, trial_counted}
+use Rattle.cdma_replay.proofs.trial.follow_cell.Goals as goal
+
+pub fill-requires : goal.fill-requires
+fill-requires g c =
+    span_fits c.args.cell.now c.args.number (length c.args.span.now) c.requires.cell c.requires.span
+
+pub count-requires-clause-room : goal.count-requires-clause-room
+count-requires-clause-room g c =
+    let header : c.header-header.result ≡ header_of Sixteen (trial_plan c.args.number) =
+    c.header-header.ensures.value ∙
+    ap (λ (k : CellState). header_of k.width k.plan) c.requires.cell in
+    omega (
+      arith,
+      c.in_ok-mobile.ensures.room,
+      ap (λ (h : Header). h.count) header,
+      trial_counted c.args.number,
+      c.requires.span,
+    )
+
+pub returns : goal.returns
+returns g c =
+    let number = c.args.number in
+    let plan = trial_plan number in
+    let out = c.fill.new.out in
+    let receiver = c.receiver_for-receiver.result in
+    let best = c.in_ok-best.best in
+    let header : c.header-header.result ≡ header_of Sixteen plan =
+    c.header-header.ensures.value ∙
+    ap (λ (k : CellState). header_of k.width k.plan) c.requires.cell in
+    let span : out ≡ trial_span number =
+    span_is c.args.cell.now number (length c.args.span.now) out c.requires.cell c.requires.span
+    c.fill.ensures.samples in
+    let found : IsBestIn out 0 32768 best.phase best.energy = search rules in
+    let near : AreNearTo out best.phase (Some receiver) (Some c.near-paths.result) = search rules in
+    let t = tuning_for c.header-header.result out receiver in
+    let tuning : t ≡ trial_tuning number =
+    ap (λ (h : Header). tuning_for h out receiver) header
+    ∙ ap (λ (xs : List Sample). tuning_for (header_of Sixteen plan) xs receiver) span
+    ∙ ap (tuning_for (header_of Sixteen plan) (trial_span number)) c.receiver_for-receiver.ensures in
+    let told = c.count.ensures.told t [] [] (c.in_ok-mobile.ensures.given out found near)
+    c.none-counts.ensures.value in
+    let behind = behind_span c.args.cell.now c.fill.new.self number (length c.args.span.now)
+    c.requires.cell c.requires.span c.fill.ensures.state in
+    let rest =
+    c.count_rest.ensures t
+    (subst (λ (xs : List Sample). StandsFor t c.count.new.mobile xs (events t xs))
+    (span ∙ sym behind.1) told.0)
+    (told.1 ∙ ap (λ (xs : List Sample). counts_of (events t xs)) (span ∙ sym behind.1)) in
+    line_is number c.summary_of.result c.header-header.result.count c.get.result
+    c.count_rest.new.counts c.summary_of.ensures (ap (λ (h : Header). h.count) header)
+    (c.get.ensures.value ∙ best_phase-only out best.phase best.energy found ∙ ap best_phase span)
+    (rest
+    ∙ ap (λ (k : Tuning). counts_of (events k (made_samples c.fill.new.self.plan))) tuning
+    ∙ ap (λ (p : CellPlan). counts_of (events (trial_tuning number) (made_samples p))) behind.0)

@@ -1,0 +1,72 @@
+//! How a handset receives samples, and how it is opened on the pilot's paths.
+
+ghost use Rattle.std.specs.Prelude.{◌≡◌, List, [], ℕ, IfOk, Some, option_map};
+ghost use Rattle.std.specs.Option.{ForSome};
+ghost use Rattle.chip_core.specs.declared.sample.Sample.{Sample as TheSample};
+ghost use Rattle.cdma_io.specs.SampleFile.{IsLawfulHeader};
+ghost use Rattle.pilot_search.specs.BestIn.{IsBestIn};
+ghost use Rattle.mobile_core.specs.Standing.{StandsFor, has_room};
+ghost use Rattle.mobile_core.specs.TrafficMonitoring.{IsSoundAssignment};
+ghost use Rattle.cdma_words.specs.Words.{IsLawfulTraffic};
+ghost use Rattle.cdma_replay.specs.Hearing.{AreNearTo, AreReady, IsLawfulReceiver, traffic_of};
+ghost use Rattle.cdma_replay.specs.Hearing.{tuning_for};
+
+use cdma_io::Header;
+use cdma_words::TrafficOptions;
+use chip_core::OutOfMemory;
+use mobile_core::{Mobile, Settings, Traffic};
+use pilot_search::{Best, Near};
+use short_code::Codes;
+use std::alloc::Global;
+
+/// How a handset receives a file.
+#[derive(Clone, Copy, PartialEq, Eq, Debug)]
+pub struct Receiver {
+    /// Over how many fingers it follows the signal, 1 to 3.
+    pub fingers: u8,
+    /// The number of the paging channel that it follows, 1 to 7.
+    pub paging: u8,
+    /// The traffic channel that it follows; `None` where it follows none.
+    pub traffic: Option<TrafficOptions>,
+}
+
+/// The traffic channel that words name, as a handset is told of it.
+fn assigned(options: Option<TrafficOptions>) -> Option<Traffic>
+    ensures value { result ≡ option_map traffic_of options }
+    ensures sound { (paging : ℕ) → IsLawfulTraffic paging options →
+        ForSome result IsSoundAssignment }
+{
+    let TrafficOptions { esn, row, offset } = options?;
+    Some(Traffic { esn, row, offset })
+}
+
+/// A handset for samples of this header, with paths near the pilot's phase. It has a table of the
+/// codes of its own.
+pub fn handset(
+    alloc: Global,
+    header: Header,
+    receiver: Receiver,
+    best: Best,
+    near: Near,
+) -> Result<Mobile, OutOfMemory>
+    requires header { IsLawfulHeader header }
+    requires receiver { IsLawfulReceiver receiver }
+    requires near { AreReady (Some near) }
+    ensures given { (first : List TheSample) →
+        IsBestIn first 0 32768 best.phase best.energy →
+        AreNearTo first best.phase (Some receiver) (Some near) →
+        IfOk result (λ mobile. StandsFor (tuning_for header first receiver) mobile [] []) }
+    ensures room { IfOk result (λ mobile. has_room mobile ≡ header.count) }
+{
+    let settings = Settings {
+        fingers: near.count,
+        paging: receiver.paging,
+        traffic: assigned(receiver.traffic),
+        check30: header.check30,
+        check16: header.check16,
+        count: header.count,
+    };
+    let codes = Codes::new(alloc)?;
+    let mobile = Mobile::new(alloc, settings, codes, best, near)?;
+    Ok(mobile)
+}

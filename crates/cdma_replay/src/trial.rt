@@ -1,0 +1,268 @@
+//! The command `trial`: a link that a number tells is made and followed, and what a handset hears of
+//! it is counted.
+
+ghost use Rattle.std.specs.Prelude.{◌≡◌, ◌≤◌, ◌+◌, ◌++◌, ◌⊎◌, ℕ, List, [], length, Err, IfOk};
+ghost use Rattle.std.specs.Prelude.{IfErr, OnOk, OnErr, ◌<◌, ◌^◌, take};
+ghost use Rattle.std.specs.Io.KnownBytes.{Appends};
+ghost use Rattle.chip_core.specs.declared.sample.Sample.{Sample as TheSample};
+ghost use Rattle.cdma_io.specs.Outside.{AppendsPrefix, Rose};
+ghost use Rattle.cdma_io.specs.declared.width.Width.TheVariants.{Sixteen};
+ghost use Rattle.cdma_words.specs.Words.{IsWorkers};
+ghost use Rattle.base_modulator.specs.Sampled.{made_samples};
+ghost use Rattle.base_modulator.specs.Trial.{trial_plan};
+ghost use Rattle.mobile_core.specs.Events.{events};
+ghost use Rattle.mobile_core.specs.Standing.{StandsFor, has_room, steps_left};
+ghost use Rattle.mobile_core.specs.Tuning.{Tuning};
+ghost use Rattle.mobile_core.specs.declared.event.Event.{Event as TheEvent};
+ghost use Rattle.cdma_replay.specs.Trials.{LeavesRoom, counts_of, counts_with, summary};
+ghost use Rattle.cdma_replay.specs.Trials.{trial_line, trial_receiver};
+
+use crate::handset::{Receiver, handset};
+use crate::status::Status;
+use crate::workspace::Workspace;
+use base_modulator::{Cell, trial_script, trial_serial_number};
+use cdma_io::{Failed, Sink, Width, write_all};
+use cdma_words::TrafficOptions;
+use chip_core::{OutOfMemory, Sample};
+use event_tap::Text;
+use mobile_core::{Event, Mobile};
+use pilot_search::{Gate, near, search};
+use short_code::Codes;
+use std::alloc::Global;
+use std::thread::Threads;
+
+/// In how many of the first samples the pilot is searched.
+const SPAN: usize = 2048;
+
+/// How many events of each kind a handset told.
+#[derive(Clone, Copy, PartialEq, Eq, Debug)]
+pub struct Counts {
+    /// Messages of the sync channel.
+    pub syncs: u64,
+    /// Messages of the paging channel.
+    pub pagings: u64,
+    /// Frames of the traffic channel.
+    pub frames: u64,
+    /// Those of them that are good.
+    pub good: u64,
+}
+
+impl Counts {
+    /// None yet.
+    #[tactic(auto, unfolding(crate::specs::Trials::counts_of))]
+    fn none() -> Counts
+        ensures value { result ≡ counts_of [] }
+        ensures room { LeavesRoom result (2 ^ 63) }
+    {
+        Counts {
+            syncs: 0,
+            pagings: 0,
+            frames: 0,
+            good: 0,
+        }
+    }
+
+    /// One event more.
+    fn add(&mut self, event: &Event)
+        requires { LeavesRoom self.old 1 }
+        ensures { self.new ≡ counts_with self.old event.now }
+    {
+        match event {
+            Event::Pilot { .. } => {}
+            Event::Sync { .. } => self.syncs += 1,
+            Event::Paging { .. } => self.pagings += 1,
+            Event::Frame { good, .. } => {
+                self.frames += 1;
+                self.good += u64::from(*good);
+            }
+        }
+    }
+}
+
+/// How the link is received: over one finger, with paging channel 1 and the traffic channel whose
+/// frames are drawn from the number.
+fn receiver_for(number: u64) -> Receiver
+    ensures { result ≡ trial_receiver number }
+{
+    Receiver {
+        fingers: 1,
+        paging: 1,
+        traffic: Some(TrafficOptions {
+            esn: trial_serial_number(number),
+            row: 8,
+            offset: 0,
+        }),
+    }
+}
+
+/// The cell of a number, before its first sample. Its script is lawful, so only memory can be
+/// wanting.
+fn cell_for(alloc: Global, number: u64) -> Result<Cell, OutOfMemory>
+    ensures { IfOk result (λ cell. cell ≡
+        record { width = Sixteen; plan = trial_plan number; given = 0 }) }
+{
+    let script = trial_script(alloc, number)?;
+    match Cell::new(alloc, &script, Width::Sixteen) {
+        Ok(cell) => Ok(cell),
+        Err(_wanting) => Err(OutOfMemory),
+    }
+}
+
+/// Gives samples to a handset, and counts what it tells.
+fn count(mobile: &mut Mobile, samples: &[Sample], counts: &mut Counts)
+    requires room { length samples.now ≤ has_room mobile.old }
+    requires few { LeavesRoom counts.old (steps_left mobile.old) }
+    ensures room { has_room mobile.new + length samples.now ≡ has_room mobile.old }
+    ensures few { LeavesRoom counts.new (steps_left mobile.new) }
+    ensures told { (t : Tuning) (heard : List TheSample) (given : List TheEvent) →
+        StandsFor t mobile.old heard given → counts.old ≡ counts_of given →
+        StandsFor t mobile.new (heard ++ samples.now) (events t (heard ++ samples.now)) ×
+        (counts.new ≡ counts_of (events t (heard ++ samples.now))) }
+{
+    let mut taken = 0;
+    loop {
+        let step = mobile.step(&samples[taken..]);
+        taken += step.taken;
+        let Some(event) = step.event else {
+            return;
+        };
+        counts.add(&event);
+    }
+}
+
+/// Gives a handset the next samples of a cell, as many as `samples` has room for, and counts what it
+/// tells.
+fn count_next(mobile: &mut Mobile, cell: &mut Cell, samples: &mut [Sample], counts: &mut Counts)
+    requires left { cell.old.given + length samples.old ≤ cell.old.plan.link.samples }
+    requires room { length samples.old ≤ has_room mobile.old }
+    requires few { LeavesRoom counts.old (steps_left mobile.old) }
+    ensures state { cell.new ≡ record cell.old { given = cell.old.given + length samples.old } }
+    ensures room { has_room mobile.new + length samples.old ≡ has_room mobile.old }
+    ensures few { LeavesRoom counts.new (steps_left mobile.new) }
+    ensures told { (t : Tuning) (given : List TheEvent) →
+        let all = made_samples cell.old.plan in
+        let later = take (cell.old.given + length samples.old) all in
+        StandsFor t mobile.old (take cell.old.given all) given → counts.old ≡ counts_of given →
+        StandsFor t mobile.new later (events t later) × (counts.new ≡ counts_of (events t later)) }
+{
+    cell.fill(samples);
+    count(mobile, samples, counts);
+}
+
+/// Gives a handset all samples that a cell has left, by way of `piece`, and counts what it tells.
+fn count_rest(mobile: &mut Mobile, cell: &mut Cell, piece: &mut [Sample], counts: &mut Counts)
+    requires piece { 0 < length piece.old }
+    requires room { has_room mobile.old + cell.old.given ≡ cell.old.plan.link.samples }
+    requires few { LeavesRoom counts.old (steps_left mobile.old) }
+    ensures { (t : Tuning) →
+        let before = take cell.old.given (made_samples cell.old.plan) in
+        StandsFor t mobile.old before (events t before) → counts.old ≡ counts_of (events t before) →
+        counts.new ≡ counts_of (events t (made_samples cell.old.plan)) }
+{
+    while cell.left() > 0 {
+        let size = cell.left().min(piece.len() as u64) as usize;
+        count_next(mobile, cell, &mut piece[..size], counts);
+    }
+}
+
+/// The line that tells what was counted.
+#[tactic(auto, unfolding(crate::specs::Trials::summary))]
+fn summary_of(number: u64, samples: u64, phase: u16, counts: &Counts) -> Text
+    ensures { result ≡ summary number samples phase counts.now }
+{
+    let mut line = Text::empty();
+    line.append_named("trial number=", number);
+    line.append_named(" samples=", samples);
+    line.append_named(" phase=", phase);
+    line.append_named(" syncs=", counts.syncs);
+    line.append_named(" pagings=", counts.pagings);
+    line.append_named(" frames=", counts.frames);
+    line.append_named(" good=", counts.good);
+    line.append_word("\n");
+    line
+}
+
+/// Follows all samples of a number's cell, by way of `span` and `piece`, and makes out the line that
+/// tells what was heard.
+fn follow_cell<R: Threads + Sync, G: Gate + Sync>(
+    rt: &R,
+    alloc: Global,
+    number: u64,
+    workers: u8,
+    cell: &mut Cell,
+    codes: &Codes,
+    span: &mut [Sample],
+    piece: &mut [Sample],
+    gate: &G,
+) -> Result<Text, OutOfMemory>
+    requires workers { IsWorkers workers }
+    requires cell { cell.old ≡ record { width = Sixteen; plan = trial_plan number; given = 0 } }
+    requires span { length span.old ≡ 2048 }
+    requires piece { 0 < length piece.old }
+    ensures { IfOk result (λ line. line ≡ trial_line number) }
+{
+    let header = cell.header();
+    cell.fill(span);
+    let best = search(rt, alloc, span, codes, workers, gate)?;
+    let receiver = receiver_for(number);
+    let paths = near(span, codes, best, receiver.fingers);
+    let mut mobile = handset(alloc, header, receiver, best, paths)?;
+    let mut counts = Counts::none();
+    count(&mut mobile, span, &mut counts);
+    count_rest(&mut mobile, cell, piece, &mut counts);
+    Ok(summary_of(number, header.count, best.phase.get(), &counts))
+}
+
+/// Makes a number's cell, follows it, and makes out the line that tells what was heard. All memory is
+/// taken before the first sample is followed.
+fn followed<R: Threads + Sync, G: Gate + Sync>(
+    rt: &R,
+    alloc: Global,
+    number: u64,
+    workers: u8,
+    gate: &G,
+) -> Result<Text, OutOfMemory>
+    requires { IsWorkers workers }
+    ensures { IfOk result (λ line. line ≡ trial_line number) }
+{
+    let mut cell = cell_for(alloc, number)?;
+    let Workspace {
+        codes,
+        mut span,
+        mut piece,
+    } = Workspace::new(alloc, SPAN)?;
+    follow_cell(
+        rt, alloc, number, workers, &mut cell, &codes, &mut span, &mut piece, gate,
+    )
+}
+
+/// Makes the link that a number tells, follows it with a handset, and writes what was heard, as one
+/// line. No more samples are held than the pilot is searched in, or a piece of them.
+///
+/// All memory is taken before the line is written.
+pub fn trial<R: Threads + Sync, K: Sink, G: Gate + Sync>(
+    rt: &R,
+    alloc: Global,
+    number: u64,
+    workers: u8,
+    sink: &mut K,
+    gate: &G,
+) -> Result<(), Status>
+    requires { IsWorkers workers }
+    ensures ok { OnOk result
+        (Appends (K.written sink.old) (K.written sink.new) (trial_line number)) }
+    ensures err { OnErr result
+        (AppendsPrefix (K.written sink.old) (K.written sink.new) (trial_line number)) }
+    ensures failed { IfErr result (λ status.
+        (status ≡ Status.NoMemory) ⊎ (status ≡ Status.WriteFault)) }
+    ensures memory { result ≡ Err Status.NoMemory → sink.new ≡ sink.old }
+    ensures write_fault { result ≡ Err Status.WriteFault →
+        Rose (K.faults sink.old) (K.faults sink.new) }
+    ensures later { K.faults sink.old ≤ K.faults sink.new }
+{
+    let line = followed(rt, alloc, number, workers, gate)?;
+    match write_all(sink, line.bytes()) {
+        Ok(()) => Ok(()),
+        Err(Failed) => Err(Status::WriteFault),
+    }
+}
