@@ -3,7 +3,7 @@ use Rattle.std.proofs.Common.{◌≡◌, ℕ, suc, ◌+◌, ◌<◌, Bool, true,
 use Rattle.std.specs.List.{slice_get}
 use Rattle.std.proofs.lemmas.List.{take_more}
 use Rattle.std.proofs.lemmas.Option.{get_or_from_slice_get, slice_get_within}
-use Rattle.chip_core.specs.Bits.{xor, zip_with}
+use Rattle.chip_core.specs.Bits.{are_same, xor, zip_with}
 
 abbrev pub add : List Bool → List Bool → List Bool
 add a b = zip_with xor a b
@@ -36,3 +36,17 @@ taken_more bits i bit read =
     let within : i < length bits = slice_get_within bits i bit read in
     take_more bits i false within ∙
     ap (λ (b : Bool). take i bits ++ b ∷ []) (get_or_from_slice_get bits i bit false read)
+
+pub same_from : (xs ys : List Bool) → are_same xs ys ≡ true → xs ≡ ys
+same_from [] [] h = refl
+same_from [] (y ∷ ys) h = absurd (cc)
+same_from (x ∷ xs) [] h = absurd (cc)
+same_from (true ∷ xs) (true ∷ ys) h = ap (λ (zs : List Bool). true ∷ zs) (same_from xs ys h)
+same_from (true ∷ xs) (false ∷ ys) h = absurd (cc)
+same_from (false ∷ xs) (true ∷ ys) h = absurd (cc)
+same_from (false ∷ xs) (false ∷ ys) h = ap (λ (zs : List Bool). false ∷ zs) (same_from xs ys h)
+
+pub same_refl : (xs : List Bool) → are_same xs xs ≡ true
+same_refl [] = refl
+same_refl (true ∷ xs) = same_refl xs
+same_refl (false ∷ xs) = same_refl xs

@@ -12,5 +12,6 @@ pub mod Ranges
 pub mod RegisterBits
 pub mod Repeated
 pub mod Ring
+pub mod ValueLists
 pub mod WordBits
 pub mod DecimalTexts

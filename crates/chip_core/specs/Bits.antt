@@ -1,5 +1,5 @@
 -- Bits in order, the binary numbers that they spell, and their signs on the air.
-use Rattle.std.specs.Prelude.{ℕ, zero, suc, ◌+◌, ◌*◌, ◌/◌, ◌%◌, ◌^◌, Bool, false, cond, not, List, [], ◌∷◌, ◌++◌, ◌==◌, ℤ, pos, negsuc}
+use Rattle.std.specs.Prelude.{ℕ, zero, suc, ◌+◌, ◌*◌, ◌/◌, ◌%◌, ◌^◌, Bool, true, false, cond, if◌then◌else◌, not, List, [], ◌∷◌, ◌++◌, ◌==◌, ℤ, pos, negsuc}
 use Rattle.std.specs.List.{range_with_len}
 
 -- 1 for a set bit, and 0 for a clear one
@@ -14,6 +14,13 @@ xor a b = cond a (not b) b
 abbrev pub parity : List Bool → Bool
 parity [] = false
 parity (b ∷ bs) = xor b (parity bs)
+
+-- whether two lists are the same
+abbrev pub are_same : List Bool → List Bool → Bool
+are_same [] [] = true
+are_same [] (y ∷ ys) = false
+are_same (x ∷ xs) [] = false
+are_same (x ∷ xs) (y ∷ ys) = if xor x y then false else are_same xs ys
 
 -- the number that the bits spell, the highest first
 abbrev pub number_from : ℕ → List Bool → ℕ

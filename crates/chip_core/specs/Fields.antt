@@ -1,5 +1,5 @@
 -- Fields of messages, and the bits that spell them.
-use Rattle.std.specs.Prelude.{ℕ, ◌^◌, ◌<◌, ◌≤◌, Bool, List, [], ◌∷◌, ◌++◌}
+use Rattle.std.specs.Prelude.{ℕ, ◌+◌, ◌^◌, ◌<◌, ◌≤◌, Bool, List, [], ◌∷◌, ◌++◌}
 use Rattle.chip_core.specs.Bits.{binary}
 use Rattle.chip_core.specs.declared.field.Field.{Field}
 
@@ -20,3 +20,19 @@ FieldsFit (f ∷ fs) = (f.value < 2 ^ f.width) × FieldsFit fs
 abbrev pub HaveWidths : List Field → Type 0
 HaveWidths [] = Unit {0}
 HaveWidths (f ∷ fs) = (1 ≤ f.width) × (f.width ≤ 64) × HaveWidths fs
+
+-- each number in a field of its width, as long as the shorter list
+abbrev pub in_widths : List ℕ → List ℕ → List Field
+in_widths [] values = []
+in_widths (width ∷ widths) [] = []
+in_widths (width ∷ widths) (value ∷ values) = field width value ∷ in_widths widths values
+
+-- how many bits fields of these widths have
+abbrev pub total : List ℕ → ℕ
+total [] = 0
+total (width ∷ widths) = width + total widths
+
+-- each is 1 to 64
+abbrev pub AreWidths : List ℕ → Type 0
+AreWidths [] = Unit {0}
+AreWidths (width ∷ widths) = (1 ≤ width) × (width ≤ 64) × AreWidths widths

@@ -6,6 +6,7 @@ pub mod Listing
 pub mod Packed
 pub mod Packing
 pub mod Polynomial
+pub mod Readings
 pub mod Sums
 pub mod Worked
 pub mod Decimals

@@ -1,13 +1,11 @@
 -- Which bodies are those of messages.
 use Rattle.std.proofs.Common.{◌≡◌, ◌≢◌, ℕ, zero, suc, ◌+◌, ◌-◌, ◌*◌, ◌/◌, ◌%◌, ◌^◌, ◌<◌, ◌≤◌, ◌==◌, Bool, true, false, List, [], ◌∷◌, ◌++◌, length, take, drop, refl, sym, ap, subst, ◌∙◌, arith, length-drop, nat_le, inl, inr}
 use Rattle.std.proofs.lemmas.Bool.{and_parts, and_from, cases_Bool, le-leb, leb-true, eqb-true, eqb-false, eq-eqb, ne_eqb}
-use Rattle.std.proofs.lemmas.List.{drop-drop, length-take-le, take-append-drop}
 use Rattle.chip_core.specs.Bits.{number, binary}
 use Rattle.chip_core.specs.Fields.{field, spelled, FieldsFit}
-use Rattle.chip_core.proofs.Digits.{number_lt}
+use Rattle.chip_core.proofs.ValueLists.{dropped, front, values_there}
 use Rattle.quality_bits.specs.Capsules.{FillsCapsule}
 use Rattle.quality_bits.specs.declared.kind.Kind.TheVariants.{M30}
-use Rattle.quality_bits.proofs.Digits.{binary-number}
 use Rattle.paging_message.specs.Admitted.{admits, HasMessage}
 use Rattle.paging_message.specs.Channels.{channel_records}
 use Rattle.paging_message.specs.Messages.{message_body, IsPagingMessage}
@@ -21,40 +19,6 @@ use Rattle.paging_message.proofs.Bodies.{kind_body, length-body}
 use Rattle.paging_message.proofs.Others.{other_read}
 use Rattle.paging_message.proofs.Records.{channel_read, neighbor_read, read_cons, widths-channels, widths-neighbors}
 use Rattle.paging_message.proofs.Systems.{system_read}
-use Rattle.paging_message.proofs.Widths.{total}
-
--- BITS AS FIELDS
--- the first bits are a number of their width
-front : (w : ℕ) (bits : List Bool) → w ≤ length bits →
-    (number (take w bits) < 2 ^ w) × (bits ≡ binary w (number (take w bits)) ++ drop w bits)
-front w bits room =
-    let long : length (take w bits) ≡ w = length-take-le w bits room in
-    let digits : binary w (number (take w bits)) ≡ take w bits =
-    ap (λ (k : ℕ). binary k (number (take w bits))) (sym long) ∙ binary-number (take w bits) in (
-      subst (λ (k : ℕ). number (take w bits) < 2 ^ k) long (number_lt (take w bits)),
-      sym (ap (λ (r : List Bool). r ++ drop w bits) digits ∙ take-append-drop w bits),
-    )
-
-dropped : (a b : ℕ) (bits : List Bool) → drop a (drop b bits) ≡ drop (b + a) bits
-dropped a b bits = drop-drop a b bits ∙ ap (λ (k : ℕ). drop k bits) (omega arith)
-
-values_there : (ws : List ℕ) (bits : List Bool) → total ws ≤ length bits →
-    (length (reading.values_at ws bits) ≡ length ws)
-    × FieldsFit (in_widths ws (reading.values_at ws bits))
-    × (bits ≡ spelled (in_widths ws (reading.values_at ws bits)) ++ drop (total ws) bits)
-values_there [] bits room = (refl, tt, refl)
-values_there (w ∷ ws) bits room =
-    let one = front w bits (omega (arith, room)) in
-    let more = values_there ws (drop w bits) (omega (arith, room, length-drop w bits)) in
-    let values = reading.values_at ws (drop w bits) in
-    let behind : drop w bits ≡ spelled (in_widths ws values) ++ drop (w + total ws) bits =
-    more.2 ∙ ap (λ (r : List Bool). spelled (in_widths ws values) ++ r)
-    (dropped (total ws) w bits) in (
-      ap suc more.0,
-      (one.0, more.1),
-      read_cons w (number (take w bits)) (in_widths ws values) (drop (w + total ws) bits) bits
-          (drop w bits) one.1 behind,
-    )
 
 freqs_there : (n : ℕ) (bits : List Bool) → 11 * n ≤ length bits →
     FieldsFit (channel_records (reading.freqs_at n bits))

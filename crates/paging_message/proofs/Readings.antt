@@ -1,8 +1,9 @@
 -- Bodies and capsules read as messages.
-use Rattle.std.proofs.Common.{◌≡◌, ℕ, ◌-◌, ◌%◌, ◌==◌, ◌&&◌, Bool, true, false, List, [], ◌∷◌, length, take, drop, refl, sym, ap, subst, ◌∙◌, arith, nat_le, inl, inr, Option, Some, None, Result, Ok, Err}
+use Rattle.std.proofs.Common.{◌≡◌, ℕ, ◌-◌, ◌%◌, ◌==◌, ◌&&◌, Bool, true, List, length, take, drop, refl, sym, ap, subst, ◌∙◌, arith, nat_le, inl, inr, Option, Some, None, Result, Ok, Err}
 use Rattle.std.specs.Prelude.{IfOk}
 use Rattle.std.proofs.lemmas.Bool.{and_parts, and_from, cases_Bool, eqb-true, eq-eqb, le-leb, leb-true}
 use Rattle.chip_core.specs.Bits.{number}
+use Rattle.chip_core.proofs.BitLists.{same_from, same_refl}
 use Rattle.chip_core.specs.declared.check_form.CheckForm.{CheckForm}
 use Rattle.quality_bits.specs.Capsules.{FillsCapsule, capsule}
 use Rattle.quality_bits.specs.declared.kind.Kind.TheVariants.{M30}
@@ -14,20 +15,6 @@ use Rattle.paging_message.specs.declared.fault.MessageFault.{MessageFault}
 use Rattle.paging_message.specs.declared.message.PagingMessage.{PagingMessage}
 use Rattle.paging_message.proofs.Admitting.{admits_eight, message_admits, message_of, spelled_so}
 use Rattle.paging_message.proofs.Messages.{message_fills, message_injective}
-
-same_from : (xs ys : List Bool) → reading.are_same xs ys ≡ true → xs ≡ ys
-same_from [] [] h = refl
-same_from [] (y ∷ ys) h = absurd (cc)
-same_from (x ∷ xs) [] h = absurd (cc)
-same_from (true ∷ xs) (true ∷ ys) h = ap (λ (zs : List Bool). true ∷ zs) (same_from xs ys h)
-same_from (true ∷ xs) (false ∷ ys) h = absurd (cc)
-same_from (false ∷ xs) (true ∷ ys) h = absurd (cc)
-same_from (false ∷ xs) (false ∷ ys) h = ap (λ (zs : List Bool). false ∷ zs) (same_from xs ys h)
-
-same_refl : (xs : List Bool) → reading.are_same xs xs ≡ true
-same_refl [] = refl
-same_refl (true ∷ xs) = same_refl xs
-same_refl (false ∷ xs) = same_refl xs
 
 -- THE TEST
 body_from : (body : List Bool) → reading.is_body body ≡ true →

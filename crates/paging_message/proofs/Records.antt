@@ -11,6 +11,7 @@ use Rattle.paging_message.specs.Neighbors.{neighbor_records, neighbor_fields, ne
 use Rattle.paging_message.specs.declared.fields.ChannelFields.{ChannelFields}
 use Rattle.paging_message.specs.declared.fields.NeighborFields.{NeighborFields}
 use Rattle.paging_message.proofs.Bodies.{widths, read_spelled, length-behind, same_spelling, length-spelled, length-body}
+pub use Rattle.chip_core.proofs.ValueLists.{write_push}
 use Rattle.paging_message.proofs.Widths.{fit_append, spelled_push}
 
 -- ONE FIELD MORE
@@ -29,14 +30,6 @@ read_push w v fs whole before after is next =
     is ∙ ap (λ (r : List Bool). spelled fs ++ r) next
     ∙ sym (append_assoc (spelled fs) (binary w v) after)
     ∙ ap (λ (r : List Bool). r ++ after) (sym (spelled_push fs w v))
-
-pub write_push : (w v : ℕ) (fs : List Field) (front before after : List Bool) →
-    before ≡ front ++ spelled fs → after ≡ before ++ binary w v →
-    after ≡ front ++ spelled (fs ++ field w v ∷ [])
-write_push w v fs front before after is next =
-    next ∙ ap (λ (r : List Bool). r ++ binary w v) is
-    ∙ append_assoc front (spelled fs) (binary w v)
-    ∙ ap (λ (r : List Bool). front ++ r) (sym (spelled_push fs w v))
 
 pub fit_push : (w v : ℕ) (fs : List Field) → FieldsFit fs → v < 2 ^ w →
     FieldsFit (fs ++ field w v ∷ [])

@@ -1,16 +1,12 @@
 -- Fields of given widths.
 use Rattle.std.proofs.Common.{◌≡◌, ℕ, zero, suc, ◌+◌, ◌^◌, ◌<◌, ◌≤◌, Bool, List, [], ◌∷◌, ◌++◌, length, get_or, set, take, map, refl, sym, ap, ◌∙◌, arith, rules, append_assoc, length-append}
-use Rattle.std.proofs.lemmas.List.{append-nil, length-take-le}
+use Rattle.std.proofs.lemmas.List.{length-take-le}
 use Rattle.chip_core.specs.Bits.{binary}
 use Rattle.chip_core.specs.Fields.{field, spelled, FieldsFit}
 use Rattle.chip_core.specs.declared.field.Field.{Field}
-use Rattle.chip_core.proofs.FieldLists.{length-binary, spelled-append}
+pub use Rattle.chip_core.specs.Fields.{total, AreWidths}
+pub use Rattle.chip_core.proofs.ValueLists.{fit_value, length-in_widths, spelled_push, total_room, width_within, write_room, written_more}
 use Rattle.paging_message.specs.Widths.{in_widths, system_widths}
-
--- how many bits fields have
-abbrev pub total : List ℕ → ℕ
-total [] = 0
-total (w ∷ ws) = w + total ws
 
 -- one more field
 pub in_widths-more : (ws vs : List ℕ) (w v : ℕ) → length ws ≡ length vs →
@@ -20,16 +16,6 @@ in_widths-more [] (x ∷ vs) w v h = absurd (omega (arith, h))
 in_widths-more (x ∷ ws) [] w v h = absurd (omega (arith, h))
 in_widths-more (x ∷ ws) (y ∷ vs) w v h =
     ap (λ (fs : List Field). field x y ∷ fs) (in_widths-more ws vs w v (omega (arith, h)))
-
-pub length-in_widths : (ws vs : List ℕ) → length ws ≡ length vs →
-    length (spelled (in_widths ws vs)) ≡ total ws
-length-in_widths [] [] h = refl
-length-in_widths [] (x ∷ vs) h = absurd (omega (arith, h))
-length-in_widths (x ∷ ws) [] h = absurd (omega (arith, h))
-length-in_widths (x ∷ ws) (y ∷ vs) h =
-    let more : length (spelled (in_widths ws vs)) ≡ total ws =
-    length-in_widths ws vs (omega (arith, h)) in
-    omega (arith, length-append (binary x y) (spelled (in_widths ws vs)), length-binary x y, more)
 
 pub fit_append : (fs gs : List Field) → FieldsFit fs → FieldsFit gs → FieldsFit (fs ++ gs)
 fit_append [] gs p q = q
@@ -43,42 +29,10 @@ pub fit_back : (fs gs : List Field) → FieldsFit (fs ++ gs) → FieldsFit gs
 fit_back [] gs p = p
 fit_back (f ∷ fs) gs p = fit_back fs gs p.1
 
-pub fit_value : (ws vs : List ℕ) (i : ℕ) → FieldsFit (in_widths ws vs) → i < length ws →
-    i < length vs → get_or vs i 0 < 2 ^ (get_or ws i 0)
-fit_value [] vs i fit a b = absurd (omega (arith, a))
-fit_value (w ∷ ws) [] i fit a b = absurd (omega (arith, b))
-fit_value (w ∷ ws) (v ∷ vs) zero fit a b = fit.0
-fit_value (w ∷ ws) (v ∷ vs) (suc i) fit a b =
-    fit_value ws vs i fit.1 (omega (arith, a)) (omega (arith, b))
-
 -- the widths up to one and the widths from it on
 pub total-append : (ws us : List ℕ) → total (ws ++ us) ≡ total ws + total us
 total-append [] us = omega arith
 total-append (w ∷ ws) us = omega (arith, total-append ws us)
-
-pub total_room : (ws : List ℕ) (i : ℕ) → i < length ws →
-    total (take i ws) + get_or ws i 0 ≤ total ws
-total_room [] i h = absurd (omega (arith, h))
-total_room (w ∷ ws) zero h = omega arith
-total_room (w ∷ ws) (suc i) h = omega (arith, total_room ws i (omega (arith, h)))
-
--- A LOOP OVER THE FIELDS
--- one more field of many
-pub taken_more : (ws vs : List ℕ) (i : ℕ) → i < length ws → i < length vs →
-    in_widths (take (i + 1) ws) (take (i + 1) vs)
-    ≡ in_widths (take i ws) (take i vs) ++ field (get_or ws i 0) (get_or vs i 0) ∷ []
-taken_more [] vs i a b = absurd (omega (arith, a))
-taken_more (w ∷ ws) [] i a b = absurd (omega (arith, b))
-taken_more (w ∷ ws) (v ∷ vs) zero a b = refl
-taken_more (w ∷ ws) (v ∷ vs) (suc i) a b =
-    let e : suc i + 1 ≡ suc (i + 1) = omega arith in
-    rw e (ap (λ (fs : List Field). field w v ∷ fs)
-    (taken_more ws vs i (omega (arith, a)) (omega (arith, b))))
-
-pub spelled_push : (fs : List Field) (w v : ℕ) →
-    spelled (fs ++ field w v ∷ []) ≡ spelled fs ++ binary w v
-spelled_push fs w v = spelled-append fs (field w v ∷ [])
-    ∙ ap (λ (r : List Bool). spelled fs ++ r) (append-nil (binary w v))
 
 -- what a table has in a column
 pub column : {A B : Type 0} (f : A → B) (xs : List A) (i : ℕ) (a : A) (b : B) → i < length xs →
@@ -87,41 +41,9 @@ column f [] i a b h = absurd (omega (arith, h))
 column f (x ∷ xs) zero a b h = refl
 column f (x ∷ xs) (suc i) a b h = column f xs i a b (omega (arith, h))
 
--- the widths that a field of a message may have
-abbrev pub AreWidths : List ℕ → Type 0
-AreWidths [] = Unit {0}
-AreWidths (w ∷ ws) = (1 ≤ w) × (w ≤ 64) × AreWidths ws
-
-pub width_within : (ws : List ℕ) (i : ℕ) → AreWidths ws → i < length ws →
-    (1 ≤ get_or ws i 0) × (get_or ws i 0 ≤ 64)
-width_within [] i are h = absurd (omega (arith, h))
-width_within (w ∷ ws) zero are h = (are.0, are.1)
-width_within (w ∷ ws) (suc i) are h = width_within ws i are.2 (omega (arith, h))
-
 pub system_width_within : (i : ℕ) → i < 37 →
     (1 ≤ get_or system_widths i 0) × (get_or system_widths i 0 ≤ 64)
 system_width_within i h = width_within system_widths i (search rules) h
-
--- the loop over values to be written has room for one more
-pub write_room : (ws vs : List ℕ) (i : ℕ) → length ws ≡ length vs → i < length ws →
-    length (spelled (in_widths (take i ws) (take i vs))) + get_or ws i 0 ≤ total ws
-write_room ws vs i h within =
-    let a : length (take i ws) ≡ length (take i vs) = length-take-le i ws (omega (arith, within))
-    ∙ sym (length-take-le i vs (omega (arith, within, h))) in
-    omega (arith, length-in_widths (take i ws) (take i vs) a, total_room ws i within)
-
-pub written_more : (ws vs : List ℕ) (i : ℕ) (before after front : List Bool) → i < length ws →
-    i < length vs →
-    before ≡ front ++ spelled (in_widths (take i ws) (take i vs)) →
-    after ≡ before ++ binary (get_or ws i 0) (get_or vs i 0) →
-    after ≡ front ++ spelled (in_widths (take (i + 1) ws) (take (i + 1) vs))
-written_more ws vs i before after front a b is next =
-    let fs = in_widths (take i ws) (take i vs) in
-    let w = get_or ws i 0 in
-    let v = get_or vs i 0 in
-    next ∙ ap (λ (r : List Bool). r ++ binary w v) is ∙ append_assoc front (spelled fs) (binary w v)
-    ∙ ap (λ (r : List Bool). front ++ r)
-    (sym (ap spelled (taken_more ws vs i a b) ∙ spelled_push fs w v))
 
 -- the loop over values to be read has read one more
 abbrev pub set_taken : List ℕ → List ℕ → ℕ → List Field

@@ -1,7 +1,8 @@
 -- The message that a body or a capsule spells, as a function of its bits: each field is the number
 -- that stands at its place.
-use Rattle.std.specs.Prelude.{ℕ, zero, suc, ◌+◌, ◌-◌, ◌*◌, ◌/◌, ◌%◌, ◌==◌, ◌&&◌, if◌then◌else◌, Bool, true, false, List, [], ◌∷◌, length, take, drop, nat_le, Option, Some, None, Result, Ok, Err}
-use Rattle.chip_core.specs.Bits.{number, xor}
+use Rattle.std.specs.Prelude.{ℕ, zero, suc, ◌+◌, ◌-◌, ◌*◌, ◌/◌, ◌%◌, ◌==◌, ◌&&◌, if◌then◌else◌, Bool, List, [], ◌∷◌, length, take, drop, nat_le, Option, Some, None, Result, Ok, Err}
+pub use Rattle.chip_core.specs.Bits.{are_same}
+pub use Rattle.chip_core.specs.Readings.{number_at, values_at}
 use Rattle.chip_core.specs.declared.check_form.CheckForm.{CheckForm}
 use Rattle.paging_message.specs.Admitted.{admits}
 use Rattle.paging_message.specs.Messages.{paging_capsule}
@@ -12,15 +13,6 @@ use Rattle.paging_message.specs.declared.fields.ChannelFields.{ChannelFields}
 use Rattle.paging_message.specs.declared.fields.NeighborFields.{NeighborFields}
 use Rattle.paging_message.specs.declared.message.PagingMessage.{PagingMessage}
 use Rattle.paging_message.specs.declared.message.PagingMessage.TheVariants as messages
-
--- the number of the first so many bits behind a place
-abbrev pub number_at : ℕ → ℕ → List Bool → ℕ
-number_at place width bits = number (take width (drop place bits))
-
--- the numbers of fields of these widths, one behind another
-abbrev pub values_at : List ℕ → List Bool → List ℕ
-values_at [] bits = []
-values_at (width ∷ widths) bits = number_at 0 width bits ∷ values_at widths (drop width bits)
 
 -- the first so many frequencies
 abbrev pub freqs_at : ℕ → List Bool → List ℕ
@@ -76,13 +68,6 @@ is_body body =
 unfoldable pub body_reading : List Bool → Option PagingMessage
 body_reading body = if is_body body then Some
     (message_at (number_at 0 8 body) (drop 8 body)) else None
-
--- whether two lists are the same
-abbrev pub are_same : List Bool → List Bool → Bool
-are_same [] [] = true
-are_same [] (y ∷ ys) = false
-are_same (x ∷ xs) [] = false
-are_same (x ∷ xs) (y ∷ ys) = if xor x y then false else are_same xs ys
 
 abbrev pub if_spelled : CheckForm → List Bool → Option PagingMessage → Option PagingMessage
 if_spelled form capsule None = None

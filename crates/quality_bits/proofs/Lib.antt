@@ -5,3 +5,4 @@ pub mod Steps
 pub mod Ends
 pub mod Streams
 pub mod Wholes
+pub mod Marked

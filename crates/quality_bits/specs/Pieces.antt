@@ -1,6 +1,6 @@
 -- Capsules in a stream of pieces: sync frames, paging half-frames, or the signaling parts of
 -- traffic frames.
-use Rattle.std.specs.Prelude.{◌-◌, Bool, false, cond, if◌then◌else◌, List, [], ◌∷◌, length, take, Option, None, nat_lt, nat_le}
+use Rattle.std.specs.Prelude.{◌≡◌, ◌-◌, Bool, false, cond, if◌then◌else◌, List, [], ◌∷◌, length, map, take, Option, None, nat_lt, nat_le}
 use Rattle.std.specs.List.{flat_map}
 use Rattle.quality_bits.specs.Capsules.{stated_bits, front_capsule, still_open}
 
@@ -40,3 +40,8 @@ unfoldable pub under_way : List Piece → Option (List Bool)
 under_way pieces =
     let message = from_last_start pieces in
     if nat_lt 0 (length message) then still_open (bodies message) else None
+
+-- an open capsule with the bits of the message that is under way behind these pieces, each with its
+-- mark
+abbrev pub StandsFor : Option (List Bool) → List (List Bool) → Type 0
+StandsFor capsule pieces = capsule ≡ under_way (map piece pieces)

@@ -1,7 +1,8 @@
 //! The capsule that a stream of bits has begun.
 
-ghost use Rattle.std.specs.Prelude.{◌≡◌, ◌↔◌, Bool, true, List, [], ◌∷◌, drop, IsTrue, IsSome, Some, None, IfSome};
+ghost use Rattle.std.specs.Prelude.{◌≡◌, ◌≤◌, ◌↔◌, Bool, true, cond, List, [], ◌∷◌, ◌++◌, drop, length, map, IsTrue, IsSome, Some, None, IfSome};
 ghost use Rattle.quality_bits.specs.Capsules.{front_capsule, awaits_more, continued, completed};
+ghost use Rattle.quality_bits.specs.Pieces.{piece, capsule_ending, StandsFor};
 
 use crate::capsule::stated_length;
 use chip_core::Bits;
@@ -83,6 +84,32 @@ impl OpenCapsule {
         }
         whole
     }
+
+    /// Takes a piece whose first bit is its mark, and gives the capsule whose last bit lies in it.
+    ///
+    /// With the mark 1 a capsule begins behind it, and one that isn't complete is dropped; with 0
+    /// the piece goes on with the open capsule, or is passed over where there is none. Whatever
+    /// pieces the capsule stood for, it stands for those and this one behind them.
+    pub fn push_piece(&mut self, bits: &Bits) -> Option<Bits>
+        requires { 1 ≤ length bits.now }
+        ensures stands { (pieces : List (List Bool)) →
+            StandsFor self.old pieces → StandsFor self.new (pieces ++ bits.now ∷ []) }
+        ensures capsule { (pieces : List (List Bool)) →
+            StandsFor self.old pieces →
+            result ≡ capsule_ending (map piece (pieces ++ bits.now ∷ [])) }
+    {
+        let mut capsule = from_start(bits.get(0), *self);
+        let whole = capsule.push_all(bits, 1);
+        *self = capsule;
+        whole
+    }
+}
+
+/// The capsule that a piece's bits go to: a new one where the mark is 1, else the one that is open.
+fn from_start(mark: bool, capsule: OpenCapsule) -> OpenCapsule
+    ensures { result ≡ cond mark (Some []) capsule }
+{
+    if mark { OpenCapsule::new() } else { capsule }
 }
 
 /// Whether more bits may complete a capsule that begins with these.

@@ -15,7 +15,10 @@ use Rattle.quality_bits.specs.declared.kind.Kind.TheVariants.{M30}
 use Rattle.quality_bits.proofs.Wholes.{length-capsule}
 use Rattle.sync_message.specs.SyncMessage.{fixed_fields, freq_fields, sync_body, sync_capsule, IsSyncMessage}
 use Rattle.sync_message.specs.Tails.{IsTail}
-use Rattle.sync_message.specs.Reading.{number_at, is_shortest, fields_at, fields_fit, is_tail, is_message, are_same, sync_reading, reading_of}
+use Rattle.chip_core.specs.Bits.{are_same}
+use Rattle.chip_core.specs.Readings.{number_at}
+use Rattle.chip_core.proofs.BitLists.{same_from, same_refl}
+use Rattle.sync_message.specs.Reading.{is_shortest, fields_at, fields_fit, is_tail, is_message, sync_reading, reading_of}
 use Rattle.sync_message.specs.declared.fields.SyncFields.{SyncFields}
 use Rattle.sync_message.specs.declared.fault.MessageFault.{MessageFault}
 use Rattle.sync_message.proofs.Bodies.{widths, length-spelled, tail, sync_body-parts, length-body, admitted, fixed_fit, tail_of}
@@ -63,20 +66,6 @@ unfolding is_message
 message_to m is =
     and_from (fields_fit (fixed_fields m)) (is_tail m.freq m.rest)
     (fit_to (fixed_fields m) (fixed_fit m is)) (tail_to m.freq m.rest (tail_of m m.freq refl is))
-
-pub same_from : (xs ys : List Bool) → are_same xs ys ≡ true → xs ≡ ys
-same_from [] [] h = refl
-same_from [] (y ∷ ys) h = absurd (cc)
-same_from (x ∷ xs) [] h = absurd (cc)
-same_from (true ∷ xs) (true ∷ ys) h = ap (λ (zs : List Bool). true ∷ zs) (same_from xs ys h)
-same_from (true ∷ xs) (false ∷ ys) h = absurd (cc)
-same_from (false ∷ xs) (true ∷ ys) h = absurd (cc)
-same_from (false ∷ xs) (false ∷ ys) h = ap (λ (zs : List Bool). false ∷ zs) (same_from xs ys h)
-
-pub same_refl : (xs : List Bool) → are_same xs xs ≡ true
-same_refl [] = refl
-same_refl (true ∷ xs) = same_refl xs
-same_refl (false ∷ xs) = same_refl xs
 
 -- ONE FIELD
 -- a field behind others stands where their widths end

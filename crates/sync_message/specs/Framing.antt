@@ -1,10 +1,6 @@
 -- The frames of the sync channel: the SOM bit, 1 where a message starts, and 31 bits of body.
-use Rattle.std.specs.Prelude.{◌≡◌, ℕ, ◌+◌, ◌/◌, Bool, List, length, map, Option}
-use Rattle.quality_bits.specs.Pieces.{piece, under_way}
-
--- a framer that has the bits of the message under way behind these frames
-abbrev pub StandsFor : Option (List Bool) → List (List Bool) → Type 0
-StandsFor framer frames = framer ≡ under_way (map piece frames)
+use Rattle.std.specs.Prelude.{ℕ, ◌+◌, ◌/◌, Bool, List, length}
+pub use Rattle.quality_bits.specs.Pieces.{StandsFor}
 
 -- how many superframes a capsule takes: each has three frames, and so 93 bits of body
 abbrev pub superframes_of : List Bool → ℕ

@@ -3,17 +3,14 @@
 use Rattle.std.specs.Prelude.{ℕ, ◌+◌, ◌-◌, ◌^◌, ◌%◌, ◌==◌, ◌&&◌, Bool, true, false, if◌then◌else◌}
 use Rattle.std.specs.Prelude.{List, [], ◌∷◌, length, take, drop, get_or, nat_lt, nat_le}
 use Rattle.std.specs.Prelude.{Option, Some, None, Result, Ok, Err}
-use Rattle.chip_core.specs.Bits.{number, xor}
+use Rattle.chip_core.specs.Bits.{are_same}
+use Rattle.chip_core.specs.Readings.{number_at}
 use Rattle.chip_core.specs.declared.field.Field.{Field}
 use Rattle.chip_core.specs.declared.check_form.CheckForm.{CheckForm}
 use Rattle.sync_message.specs.Rows.{freq_row, sync_place, sync_widths}
 use Rattle.sync_message.specs.SyncMessage.{fixed_fields, sync_capsule}
 use Rattle.sync_message.specs.declared.fields.SyncFields.{SyncFields}
 use Rattle.sync_message.specs.declared.fault.MessageFault.{MessageFault}
-
--- the number of so many bits from a place on
-abbrev pub number_at : ℕ → ℕ → List Bool → ℕ
-number_at place width capsule = number (take width (drop place capsule))
 
 -- what stands at the place of field i of the table, behind the length and the message type
 abbrev pub field_at : ℕ → List Bool → ℕ
@@ -57,13 +54,6 @@ is_tail (Some freq) rest =
 -- whether fields have a spelling
 unfoldable pub is_message : SyncFields → Bool
 is_message m = fields_fit (fixed_fields m) && is_tail m.freq m.rest
-
--- whether two lists are the same
-abbrev pub are_same : List Bool → List Bool → Bool
-are_same [] [] = true
-are_same [] (y ∷ ys) = false
-are_same (x ∷ xs) [] = false
-are_same (x ∷ xs) (y ∷ ys) = if xor x y then false else are_same xs ys
 
 -- the message whose capsule the list is
 unfoldable pub sync_reading : CheckForm → List Bool → Option SyncFields

@@ -1,7 +1,6 @@
 -- The fields that each Sync Channel Message has (TIA/EIA-95-B, 7.7.1.3), by name and width.
 use Rattle.std.specs.Prelude.{ℕ, ◌+◌, List, [], ◌∷◌, codes, map, take}
-use Rattle.chip_core.specs.Fields.{field}
-use Rattle.chip_core.specs.declared.field.Field.{Field}
+pub use Rattle.chip_core.specs.Fields.{in_widths, total}
 use Rattle.sync_message.specs.declared.fields.SyncFields.{SyncFields}
 
 -- a field: its name in lines of text, and in how many bits it is sent
@@ -42,17 +41,6 @@ sync_widths = map (λ (r : Row). r.width) sync_rows
 abbrev pub sync_values : SyncFields → List ℕ
 sync_values m =
     m.prev ∷ m.min ∷ m.sid ∷ m.nid ∷ m.pn ∷ m.lc ∷ m.time ∷ m.lp ∷ m.ltm ∷ m.daylt ∷ m.prat ∷ []
-
--- each number in a field of its width, as long as the shorter list
-abbrev pub in_widths : List ℕ → List ℕ → List Field
-in_widths [] values = []
-in_widths (width ∷ widths) [] = []
-in_widths (width ∷ widths) (value ∷ values) = field width value ∷ in_widths widths values
-
--- how many bits fields of these widths have
-abbrev pub total : List ℕ → ℕ
-total [] = 0
-total (width ∷ widths) = width + total widths
 
 -- at which bit of the fields field i begins, counted from 0
 abbrev pub sync_place : ℕ → ℕ

@@ -1,8 +1,7 @@
 //! Capsules out of frames.
 
-ghost use Rattle.std.specs.Prelude.{◌≡◌, Bool, List, [], ◌∷◌, ◌++◌, length, map, cond, Some};
-ghost use Rattle.quality_bits.specs.Pieces.{piece, capsule_ending};
-ghost use Rattle.sync_message.specs.Framing.{StandsFor};
+ghost use Rattle.std.specs.Prelude.{◌≡◌, Bool, List, [], ◌∷◌, ◌++◌, length, map};
+ghost use Rattle.quality_bits.specs.Pieces.{piece, capsule_ending, StandsFor};
 
 use chip_core::Bits;
 use quality_bits::OpenCapsule;
@@ -50,15 +49,6 @@ impl CapsuleFramer {
             StandsFor self.old frames →
             result ≡ capsule_ending (map piece (frames ++ frame.now ∷ [])) }
     {
-        self.capsule = from_start(frame.get(0), self.capsule);
-        self.capsule.push_all(frame, 1)
+        self.capsule.push_piece(frame)
     }
-}
-
-/// The capsule that a frame's body goes to: a new one where the SOM bit is 1, else the one that is
-/// open.
-fn from_start(som: bool, capsule: OpenCapsule) -> OpenCapsule
-    ensures { result ≡ cond som (Some []) capsule }
-{
-    if som { OpenCapsule::new() } else { capsule }
 }
