@@ -1,0 +1,6 @@
+use Rattle.std.proofs.Common.{sym, ◌∙◌}
+use Rattle.quality_bits.proofs.Streams.{under_way-none}
+use Rattle.traffic_message.proofs.framer.SignalFramer.new.Goals as goal
+
+pub returns : goal.returns
+returns c = c.closed.ensures ∙ sym under_way-none

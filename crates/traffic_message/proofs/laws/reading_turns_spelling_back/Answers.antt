@@ -1,0 +1,17 @@
+use Rattle.std.proofs.Common.{ap, ◌∙◌}
+use Rattle.traffic_message.specs.Reading.{body_reading, traffic_reading}
+use Rattle.traffic_message.proofs.Bodies.{message_again, message_there}
+use Rattle.traffic_message.proofs.Readings.{capsule_is_read, reads_capsule}
+use Rattle.traffic_message.proofs.laws.reading_turns_spelling_back.Goals as goal
+
+pub returns-clause-capsule : goal.returns-clause-capsule
+returns-clause-capsule c form capsule m = (
+  λ read. capsule_is_read form capsule m read,
+  λ is. ap (traffic_reading form) is.1 ∙ reads_capsule form m is.0,
+)
+
+pub returns-clause-body : goal.returns-clause-body
+returns-clause-body c body m = (
+  λ read. message_there body m read,
+  λ is. ap body_reading is.1 ∙ message_again m is.0,
+)

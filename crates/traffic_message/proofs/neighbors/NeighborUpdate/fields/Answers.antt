@@ -1,0 +1,10 @@
+use Rattle.std.proofs.Common.{◌<◌, arith}
+use Rattle.std.proofs.lemmas.List.Elements.{All-from_get_or}
+use Rattle.traffic_message.proofs.Updates.{neighbor_fits}
+use Rattle.traffic_message.proofs.neighbors.NeighborUpdate.fields.Goals as goal
+
+pub returns-clause-pilots : goal.returns-clause-pilots
+returns-clause-pilots c =
+    let pns = c.self.inside.fields.pns in
+    All-from_get_or (λ pn. pn < 512) pns 0
+    (λ i h. omega (arith, neighbor_fits pns i c.self.invariant.fits.1 h))

@@ -1,0 +1,10 @@
+pub mod Admitted
+pub mod Faults
+pub mod Handoff
+pub mod InTraffic
+pub mod Messages
+pub mod Multiplex
+pub mod Neighbors
+pub mod Reading
+pub mod Widths
+mod Worked

@@ -1,0 +1,64 @@
+-- The signaling messages of the traffic channel (TIA/EIA-95-B, 7.7.3).
+use Rattle.std.specs.Prelude.{ℕ, ◌≡◌, ◌≢◌, ◌⊎◌, Bool, true, List, [], ◌∷◌, ◌++◌}
+use Rattle.chip_core.specs.Bits.{binary, digit}
+use Rattle.chip_core.specs.Fields.{field, spelled, in_widths, FieldsFit}
+use Rattle.chip_core.specs.declared.field.Field.{Field}
+use Rattle.chip_core.specs.declared.check_form.CheckForm.{CheckForm}
+use Rattle.quality_bits.specs.Capsules.{FillsCapsule, capsule}
+use Rattle.quality_bits.specs.declared.kind.Kind.TheVariants.{M16}
+use Rattle.traffic_message.specs.Handoff.{direction_bits, is_hard, IsHandoffDirection}
+use Rattle.traffic_message.specs.InTraffic.{in_traffic_bits, IsInTraffic}
+use Rattle.traffic_message.specs.Neighbors.{update_bits, IsNeighborUpdate}
+use Rattle.traffic_message.specs.Widths.{head_widths}
+use Rattle.traffic_message.specs.declared.body.TrafficBody.{TrafficBody}
+use Rattle.traffic_message.specs.declared.body.TrafficBody.TheVariants as bodies
+use Rattle.traffic_message.specs.declared.fields.Head.{Head}
+
+-- a message: what stands behind its type, and what it says
+pub record Message : Type 0 where
+  pub head : Head
+  pub body : TrafficBody
+
+-- the message type
+abbrev pub kind_of : TrafficBody → ℕ
+kind_of (bodies.System m) = 7
+kind_of (bodies.Neighbors m) = 8
+kind_of (bodies.Handoff m) = 17
+kind_of (bodies.Other kind bits) = kind
+
+-- what stands behind the head
+abbrev pub bits_of : TrafficBody → List Bool
+bits_of (bodies.System m) = in_traffic_bits m
+bits_of (bodies.Neighbors m) = update_bits m
+bits_of (bodies.Handoff m) = direction_bits m
+bits_of (bodies.Other kind bits) = bits
+
+-- the values of the fields of the head, in the order of the table
+abbrev pub head_values : Head → List ℕ
+head_values h = h.ack_seq ∷ h.msg_seq ∷ digit h.ack_req ∷ h.encryption ∷ []
+
+abbrev pub head_fields : Head → List Field
+head_fields h = in_widths head_widths (head_values h)
+
+-- the body of the message's capsule: the type, the head, and what stands behind it
+unfoldable pub message_body : Message → List Bool
+message_body m = binary 8 (kind_of m.body) ++ (spelled (head_fields m.head) ++ bits_of m.body)
+
+-- A type with fields of its own is read by them where nothing is encrypted; a hard handoff is
+-- passed on as it is.
+abbrev pub IsOfKind : Head → TrafficBody → Type 0
+IsOfKind head (bodies.System m) = (head.encryption ≡ 0) × IsInTraffic m
+IsOfKind head (bodies.Neighbors m) = (head.encryption ≡ 0) × IsNeighborUpdate m
+IsOfKind head (bodies.Handoff m) = (head.encryption ≡ 0) × IsHandoffDirection m
+IsOfKind head (bodies.Other kind bits) =
+    (head.encryption ≢ 0) ⊎ ((kind ≢ 7) × (kind ≢ 8) × ((kind ≢ 17) ⊎ (is_hard bits ≡ true)))
+
+-- the message has a spelling
+pub record IsTrafficMessage (m : Message) : Type 0 where
+  pub kind : FieldsFit (field 8 (kind_of m.body) ∷ [])
+  pub head : FieldsFit (head_fields m.head)
+  pub says : IsOfKind m.head m.body
+  pub fills : FillsCapsule M16 (message_body m)
+
+unfoldable pub traffic_capsule : CheckForm → Message → List Bool
+traffic_capsule form m = capsule M16 form (message_body m)

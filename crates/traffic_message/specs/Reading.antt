@@ -1,0 +1,67 @@
+-- The message that a body or a capsule spells, as a function of its bits: each field is the number
+-- that stands at its place.
+use Rattle.std.specs.Prelude.{ℕ, ◌-◌, ◌%◌, ◌==◌, ◌&&◌, if◌then◌else◌, Bool, not, List, length, take, drop, get_or, nat_le, Option, Some, None, Result, Ok, Err}
+use Rattle.chip_core.specs.Bits.{are_same}
+use Rattle.chip_core.specs.Readings.{number_at, values_at}
+use Rattle.chip_core.specs.declared.check_form.CheckForm.{CheckForm}
+use Rattle.traffic_message.specs.Handoff.{direction_reading, is_hard}
+use Rattle.traffic_message.specs.InTraffic.{in_traffic_reading}
+use Rattle.traffic_message.specs.Messages.{Message, traffic_capsule}
+use Rattle.traffic_message.specs.Neighbors.{update_reading}
+use Rattle.traffic_message.specs.Widths.{head_widths}
+use Rattle.traffic_message.specs.declared.body.TrafficBody.{TrafficBody}
+use Rattle.traffic_message.specs.declared.body.TrafficBody.TheVariants as bodies
+use Rattle.traffic_message.specs.declared.fault.MessageFault.{MessageFault}
+use Rattle.traffic_message.specs.declared.fields.Head.{Head}
+
+-- the head of these values
+unfoldable pub head_of : List ℕ → Head
+head_of values = record {
+  ack_seq = get_or values 0 0;
+  msg_seq = get_or values 1 0;
+  ack_req = get_or values 2 0 == 1;
+  encryption = get_or values 3 0;
+}
+
+unfoldable pub head_at : List Bool → Head
+head_at body = head_of (values_at head_widths (drop 8 body))
+
+-- in a message
+abbrev pub mapped : {A B : Type 0} → (A → B) → Option A → Option B
+mapped f None = None
+mapped f (Some x) = Some (f x)
+
+-- what stands behind the head says, by the type where nothing is encrypted
+unfoldable pub part_reading : ℕ → ℕ → List Bool → Option TrafficBody
+part_reading kind encryption bits =
+    if (encryption == 0) && (kind == 7) then mapped bodies.System (in_traffic_reading bits)
+    else (if (encryption == 0) && (kind == 8) then mapped bodies.Neighbors (update_reading bits)
+    else (if (encryption == 0) && ((kind == 17) && not (is_hard bits))
+    then mapped bodies.Handoff (direction_reading bits)
+    else Some (bodies.Other kind bits)))
+
+-- whether the length is that of a capsule's body, and the head is there
+unfoldable pub is_body : List Bool → Bool
+is_body body = length body % 8 == 0 && (nat_le 17 (length body) && nat_le (length body) 1160)
+
+-- the message whose body the list is
+unfoldable pub body_reading : List Bool → Option Message
+body_reading body =
+    let head = head_at body in
+    if is_body body then mapped (λ part. record { head = head; body = part })
+    (part_reading (number_at 0 8 body) head.encryption (drop 17 body)) else None
+
+abbrev pub if_spelled : CheckForm → List Bool → Option Message → Option Message
+if_spelled form capsule None = None
+if_spelled form capsule (Some m) =
+    if are_same (traffic_capsule form m) capsule then Some m else None
+
+-- the message whose capsule the list is
+unfoldable pub traffic_reading : CheckForm → List Bool → Option Message
+traffic_reading form capsule =
+    if_spelled form capsule (body_reading (take (length capsule - 24) (drop 8 capsule)))
+
+-- what a reading that may fail gives
+abbrev pub reading_of : Result Message MessageFault → Option Message
+reading_of (Ok m) = Some m
+reading_of (Err fault) = None

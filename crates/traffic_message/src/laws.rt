@@ -1,0 +1,44 @@
+//! Laws of the definitions: each function does nothing, and its contract is the law.
+
+ghost use Rattle.std.specs.Prelude.{◌≡◌, ◌↔◌, ◌++◌, Bool, true, false, List, Some, drop, get_or, length};
+ghost use Rattle.chip_core.specs.declared.check_form.CheckForm.{CheckForm as TheForm};
+ghost use Rattle.quality_bits.specs.Capsules.{FillsCapsule};
+ghost use Rattle.quality_bits.specs.declared.kind.Kind.TheVariants.{M16};
+ghost use Rattle.traffic_message.specs.Admitted.{admits, HasMessage};
+ghost use Rattle.traffic_message.specs.Messages.{message_body, traffic_capsule, IsTrafficMessage, Message};
+ghost use Rattle.traffic_message.specs.Multiplex.{joined, split_9600};
+ghost use Rattle.traffic_message.specs.Reading.{body_reading, traffic_reading};
+
+/// Two messages with one spelling are the same.
+pub fn spelling_has_one_message()
+    ensures { (form : TheForm) (m n : Message) →
+        IsTrafficMessage m → IsTrafficMessage n → traffic_capsule form m ≡ traffic_capsule form n →
+        m ≡ n }
+{}
+
+/// Reading a list by the places of the fields gives a message exactly where the list is the
+/// message's capsule, and likewise for its body.
+pub fn reading_turns_spelling_back()
+    ensures capsule { (form : TheForm) (capsule : List Bool) (m : Message) →
+        (traffic_reading form capsule ≡ Some m)
+        ↔ (IsTrafficMessage m × (capsule ≡ traffic_capsule form m)) }
+    ensures body { (body : List Bool) (m : Message) →
+        (body_reading body ≡ Some m) ↔ (IsTrafficMessage m × (body ≡ message_body m)) }
+{}
+
+/// A body that fills a capsule is that of a message exactly where its type, its length and the
+/// numbers that count its records admit it; no other body is.
+pub fn type_and_length_admit()
+    ensures fills { (m : Message) → IsTrafficMessage m → FillsCapsule M16 (message_body m) }
+    ensures admitted { (body : List Bool) →
+        FillsCapsule M16 body →
+        (admits body ≡ true) ↔ HasMessage body }
+{}
+
+/// The parts of a frame are all of its bits behind the mode bits, in order.
+pub fn parts_are_the_frame()
+    ensures mixed { (bits : List Bool) → get_or bits 0 false ≡ true →
+        joined (split_9600 bits) ≡ drop 4 bits }
+    ensures plain { (bits : List Bool) → get_or bits 0 false ≡ false →
+        joined (split_9600 bits) ≡ drop 1 bits }
+{}

@@ -1,0 +1,33 @@
+//! Traffic frames' parts under multiplex option 1 (TIA/EIA-95-B, 7.1.3.5.11), the signaling
+//! messages of the traffic channel (7.7.3), spelled and read, and the framer that cuts their
+//! capsules out of the signaling parts. The layouts of the messages are own, after the standard's.
+#![tactic(auto)]
+
+mod body;
+mod fault;
+mod fields;
+mod framer;
+mod handoff;
+mod in_traffic;
+pub mod laws;
+mod message;
+mod multiplex;
+mod neighbors;
+mod table;
+#[cfg(test)]
+mod tests;
+mod values;
+
+pub use body::TrafficBody;
+pub use fault::MessageFault;
+pub use fields::{DirectionFields, Head, InTrafficFields, SearchFields, UpdateFields};
+pub use framer::SignalFramer;
+pub use handoff::HandoffDirection;
+pub use in_traffic::InTraffic;
+pub use message::TrafficMessage;
+pub use multiplex::{Mux, split_frame};
+pub use neighbors::NeighborUpdate;
+pub use table::{
+    HEAD_FIELDS, IN_TRAFFIC_FIELDS, SEARCH_FIELDS, TIME_FIELDS, head_name, in_traffic_name,
+    search_name, time_name,
+};

@@ -1,0 +1,90 @@
+//! The fields of the messages by name and width.
+
+ghost use Rattle.std.specs.Prelude.{◌≡◌, ◌<◌, [], length, map, get_or};
+ghost use Rattle.traffic_message.specs.Widths.{head_names, in_traffic_names, search_names, time_names};
+
+/// The names of the fields that stand behind the type of each message, in the order in which they
+/// are sent, each with its number of bits: ACK_SEQ, MSG_SEQ, ACK_REQ and ENCRYPTION.
+///
+/// TIA/EIA-95-B, 7.7.3.2.1. Whatever spells, reads or prints a message goes by these tables.
+pub const HEAD_FIELDS: [(&str, u8); 4] = [("ack", 3), ("seq", 3), ("req", 1), ("enc", 2)];
+
+/// The names of the fields of the In-Traffic System Parameters Message behind the head, each with
+/// its number of bits.
+///
+/// TIA/EIA-95-B, 7.7.3.3.2.7.
+pub const IN_TRAFFIC_FIELDS: [(&str, u8); 10] = [
+    ("sid", 15),
+    ("nid", 16),
+    ("wina", 4),
+    ("winn", 4),
+    ("winr", 4),
+    ("tadd", 6),
+    ("tdrop", 6),
+    ("tcomp", 4),
+    ("ttdrop", 4),
+    ("age", 4),
+];
+
+/// The names of the first fields of the Extended Handoff Direction Message behind the head, each
+/// with its number of bits: USE_TIME, ACTION_TIME and HDM_SEQ.
+///
+/// TIA/EIA-95-B, 7.7.3.3.2.17.
+pub const TIME_FIELDS: [(&str, u8); 3] = [("use", 1), ("action", 6), ("hdm", 2)];
+
+/// The names of the search parameters that it may bring, each with its number of bits.
+pub const SEARCH_FIELDS: [(&str, u8); 5] = [
+    ("wina", 4),
+    ("tadd", 6),
+    ("tdrop", 6),
+    ("tcomp", 4),
+    ("ttdrop", 4),
+];
+
+/// The name of field `i` of the head, counted from 0.
+pub fn head_name(i: usize) -> &'static str
+    requires { i < 4 }
+    ensures { result.now ≡ get_or head_names i [] }
+{
+    name_in(&HEAD_FIELDS, i)
+}
+
+/// The name of field `i` of the In-Traffic System Parameters Message, counted from 0.
+pub fn in_traffic_name(i: usize) -> &'static str
+    requires { i < 10 }
+    ensures { result.now ≡ get_or in_traffic_names i [] }
+{
+    name_in(&IN_TRAFFIC_FIELDS, i)
+}
+
+/// The name of field `i` of the first of a handoff direction, counted from 0.
+pub fn time_name(i: usize) -> &'static str
+    requires { i < 3 }
+    ensures { result.now ≡ get_or time_names i [] }
+{
+    name_in(&TIME_FIELDS, i)
+}
+
+/// The name of search parameter `i`, counted from 0.
+pub fn search_name(i: usize) -> &'static str
+    requires { i < 5 }
+    ensures { result.now ≡ get_or search_names i [] }
+{
+    name_in(&SEARCH_FIELDS, i)
+}
+
+/// The name in row `i` of a table.
+fn name_in(table: &[(&'static str, u8)], i: usize) -> &'static str
+    requires { i < length table.now }
+    ensures { result.now ≡ get_or (map (λ row. row.0.now) table.now) i [] }
+{
+    table[i].0
+}
+
+/// The number of bits in row `i` of a table.
+pub(crate) fn width_in(table: &[(&'static str, u8)], i: usize) -> u8
+    requires { i < length table.now }
+    ensures { result ≡ get_or (map (λ row. row.1) table.now) i 0 }
+{
+    table[i].1
+}
