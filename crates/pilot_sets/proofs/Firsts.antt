@@ -1,0 +1,120 @@
+-- The first of equal pilots, and the first that is repeated, as a loop finds them.
+use Rattle.std.proofs.Common.{◌≡◌, ◌<◌, ◌+◌, ℕ, Bool, true, false, ◌||◌, List, [], ◌∷◌, ◌++◌}
+use Rattle.std.proofs.Common.{drop, length, Some, slice_get, nat_eq}
+use Rattle.std.proofs.Common.{refl, ap, sym, ◌∙◌, append_assoc}
+use Rattle.std.proofs.lemmas.List.{at_drop_more}
+use Rattle.std.proofs.lemmas.List.Folds.{list_any-append}
+use Rattle.std.proofs.lemmas.Option.{get_or_from_slice_get}
+use Rattle.std.specs.List.{find}
+use Rattle.pilot_sets.specs.Pilots.{has, firsts}
+use Rattle.pilot_sets.specs.Directions.{first_repeated}
+
+pub drop_at : {X : Type 0} (xs : List X) (i : ℕ) (x : X) → i < length xs →
+    slice_get xs i ≡ Some x → drop i xs ≡ x ∷ drop (i + 1) xs
+drop_at {X} xs i x h e =
+    at_drop_more (λ (ys : List X). ys) xs i x h
+    ∙ ap (λ y. y ∷ drop (i + 1) xs) (get_or_from_slice_get xs i x x e)
+
+-- WHAT IS FOUND FIRST
+find_yes : {X : Type 0} (p : X → Bool) (x : X) (xs : List X) → p x ≡ true →
+    find p (x ∷ xs) ≡ Some x
+find_yes p x xs hit = rw hit refl
+
+find_no : {X : Type 0} (p : X → Bool) (x : X) (xs : List X) → p x ≡ false →
+    find p (x ∷ xs) ≡ find p xs
+find_no p x xs miss = rw miss refl
+
+pub find_here : {X : Type 0} (p : X → Bool) (xs : List X) (i : ℕ) (x : X) → i < length xs →
+    slice_get xs i ≡ Some x → find p xs ≡ find p (drop i xs) → p x ≡ true → Some x ≡ find p xs
+find_here p xs i x h e before hit =
+    sym (before ∙ ap (λ ys. find p ys) (drop_at xs i x h e) ∙ find_yes p x (drop (i + 1) xs) hit)
+
+pub find_more : {X : Type 0} (p : X → Bool) (xs : List X) (i : ℕ) (x : X) → i < length xs →
+    slice_get xs i ≡ Some x → find p xs ≡ find p (drop i xs) → p x ≡ false →
+    find p xs ≡ find p (drop (i + 1) xs)
+find_more p xs i x h e before miss =
+    before ∙ ap (λ ys. find p ys) (drop_at xs i x h e) ∙ find_no p x (drop (i + 1) xs) miss
+
+-- THE ORDER OF WHAT WAS SEEN
+-- doesn't matter
+last_or_first : (a b : Bool) → (a || b) ≡ (b || (a || false))
+last_or_first true true = refl
+last_or_first true false = refl
+last_or_first false true = refl
+last_or_first false false = refl
+
+pub has_push : (seen : List ℕ) (x y : ℕ) → has (x ∷ seen) y ≡ has (seen ++ x ∷ []) y
+has_push seen x y =
+    last_or_first (nat_eq y x) (has seen y) ∙ sym (list_any-append (nat_eq y) seen (x ∷ []))
+
+-- THE FIRST THAT IS REPEATED
+first_repeated_same : (s t xs : List ℕ) → ((y : ℕ) → has s y ≡ has t y) →
+    first_repeated s xs ≡ first_repeated t xs
+first_repeated_same s t [] h = refl
+first_repeated_same s t (x ∷ xs) h =
+    let rest : first_repeated (x ∷ s) xs ≡ first_repeated (x ∷ t) xs =
+    first_repeated_same (x ∷ s) (x ∷ t) xs (λ y. ap (λ b. nat_eq y x || b) (h y)) in
+    rw (h x, rest) refl
+
+repeated_yes : (seen : List ℕ) (x : ℕ) (xs : List ℕ) → has seen x ≡ true →
+    first_repeated seen (x ∷ xs) ≡ Some x
+repeated_yes seen x xs hit = rw hit refl
+
+repeated_no : (seen : List ℕ) (x : ℕ) (xs : List ℕ) → has seen x ≡ false →
+    first_repeated seen (x ∷ xs) ≡ first_repeated (x ∷ seen) xs
+repeated_no seen x xs miss = rw miss refl
+
+pub repeated_here : (xs seen : List ℕ) (i x : ℕ) → i < length xs → slice_get xs i ≡ Some x →
+    first_repeated [] xs ≡ first_repeated seen (drop i xs) → has seen x ≡ true →
+    Some x ≡ first_repeated [] xs
+repeated_here xs seen i x h e before hit =
+    sym (
+    before
+    ∙ ap (λ ys. first_repeated seen ys) (drop_at xs i x h e)
+    ∙ repeated_yes seen x (drop (i + 1) xs) hit
+    )
+
+pub repeated_more : (xs seen : List ℕ) (i x : ℕ) → i < length xs → slice_get xs i ≡ Some x →
+    first_repeated [] xs ≡ first_repeated seen (drop i xs) → has seen x ≡ false →
+    first_repeated [] xs ≡ first_repeated (seen ++ x ∷ []) (drop (i + 1) xs)
+repeated_more xs seen i x h e before miss =
+    before
+    ∙ ap (λ ys. first_repeated seen ys) (drop_at xs i x h e)
+    ∙ repeated_no seen x (drop (i + 1) xs) miss
+    ∙ first_repeated_same (x ∷ seen) (seen ++ x ∷ []) (drop (i + 1) xs) (λ y. has_push seen x y)
+
+-- THE FIRST OF EQUAL PILOTS
+firsts_same : (s t xs : List ℕ) → ((y : ℕ) → has s y ≡ has t y) → firsts s xs ≡ firsts t xs
+firsts_same s t [] h = refl
+firsts_same s t (x ∷ xs) h =
+    let here : firsts s xs ≡ firsts t xs = firsts_same s t xs h in
+    let rest : firsts (x ∷ s) xs ≡ firsts (x ∷ t) xs =
+    firsts_same (x ∷ s) (x ∷ t) xs (λ y. ap (λ b. nat_eq y x || b) (h y)) in
+    rw (h x, here, rest) refl
+
+firsts_hit : (seen : List ℕ) (x : ℕ) (xs : List ℕ) → has seen x ≡ true →
+    firsts seen (x ∷ xs) ≡ firsts seen xs
+firsts_hit seen x xs hit = rw hit refl
+
+firsts_miss : (seen : List ℕ) (x : ℕ) (xs : List ℕ) → has seen x ≡ false →
+    firsts seen (x ∷ xs) ≡ x ∷ firsts (x ∷ seen) xs
+firsts_miss seen x xs miss = rw miss refl
+
+pub firsts_old : (xs seen : List ℕ) (i x : ℕ) → i < length xs → slice_get xs i ≡ Some x →
+    firsts [] xs ≡ seen ++ firsts seen (drop i xs) → has seen x ≡ true →
+    firsts [] xs ≡ seen ++ firsts seen (drop (i + 1) xs)
+firsts_old xs seen i x h e before hit =
+    before
+    ∙ ap (λ ys. seen ++ firsts seen ys) (drop_at xs i x h e)
+    ∙ ap (λ ys. seen ++ ys) (firsts_hit seen x (drop (i + 1) xs) hit)
+
+pub firsts_new : (xs seen : List ℕ) (i x : ℕ) → i < length xs → slice_get xs i ≡ Some x →
+    firsts [] xs ≡ seen ++ firsts seen (drop i xs) → has seen x ≡ false →
+    firsts [] xs ≡ (seen ++ x ∷ []) ++ firsts (seen ++ x ∷ []) (drop (i + 1) xs)
+firsts_new xs seen i x h e before miss =
+    before
+    ∙ ap (λ ys. seen ++ firsts seen ys) (drop_at xs i x h e)
+    ∙ ap (λ ys. seen ++ ys) (firsts_miss seen x (drop (i + 1) xs) miss)
+    ∙ ap (λ ys. seen ++ x ∷ ys)
+    (firsts_same (x ∷ seen) (seen ++ x ∷ []) (drop (i + 1) xs) (λ y. has_push seen x y))
+    ∙ sym (append_assoc seen (x ∷ []) (firsts (seen ++ x ∷ []) (drop (i + 1) xs)))

@@ -1,0 +1,11 @@
+pub mod ActionTimes
+pub mod Firsts
+pub mod Lasting
+pub mod NamedPilots
+pub mod Orders
+pub mod Ratios
+pub mod Refusals
+pub mod Rows
+pub mod Running
+pub mod Times
+pub mod Within

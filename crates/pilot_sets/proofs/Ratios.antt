@@ -1,0 +1,24 @@
+-- Ratios are at most 1, and there is none behind the end of their table.
+use Rattle.std.proofs.Common.{◌≡◌, ◌<◌, ◌≤◌, ℕ, Bool, true, false, nat_le, refl, sym, ◌∙◌}
+use Rattle.std.proofs.lemmas.Bool.{leb-true}
+use Rattle.std.proofs.lemmas.List.{get_or_past}
+use Rattle.std.proofs.lemmas.List.Folds.{list_all_at}
+use Rattle.std.specs.List.{list_all}
+use Rattle.pilot_sets.specs.Tables.{ratio, ratios}
+
+pub no_ratio : (k : ℕ) → 64 ≤ k → 0 ≡ ratio k
+no_ratio k h = sym (get_or_past ratios k 0 h)
+
+are_small : list_all (λ r. nat_le r 1000000) ratios ≡ true
+are_small = refl
+
+pub small_ratio : (k : ℕ) → k < 64 → ratio k ≤ 1000000
+small_ratio k h = go (nat_le (ratio k) 1000000) refl
+  where
+    not_both : true ≡ false → ⊥
+    not_both e = cc
+
+    go : (b : Bool) → nat_le (ratio k) 1000000 ≡ b → ratio k ≤ 1000000
+    go true e = leb-true (ratio k) 1000000 e
+    go false e =
+        absurd (not_both (sym are_small ∙ list_all_at (λ r. nat_le r 1000000) ratios k 0 h e))

@@ -1,0 +1,31 @@
+use Rattle.std.proofs.Common.{◌+◌, ◌∷◌, [], drop, sym, ◌∙◌, arith, ap, length-append}
+use Rattle.pilot_sets.specs.Pilots.{has as has_pilot}
+use Rattle.pilot_sets.specs.Directions.{first_repeated}
+use Rattle.pilot_sets.proofs.Firsts.{repeated_here, repeated_more}
+use Rattle.pilot_sets.proofs.directing.repeated.Goals as goal
+
+pub returns-then-has : goal.returns-then-has
+returns-then-has c =
+    repeated_here c.args.pilots.now c.loop-i.seen c.loop-i.i c.get-pilot.result
+    (omega (arith, c.loop-i-test.true, c.len-i-end.ensures.value)) c.get-pilot.ensures
+    c.loop-i.invariant.0
+    (ap (λ l. has_pilot l c.get-pilot.result) (sym c.all.ensures.value)
+    ∙ sym c.has.ensures
+    ∙ c.if-has.true)
+
+pub loop-i-preserved : goal.loop-i-preserved
+loop-i-preserved c =
+    let rest = drop (c.loop-i.i + 1) c.args.pilots.now in (
+      repeated_more c.args.pilots.now c.loop-i.seen c.loop-i.i c.get-pilot.result
+          (omega (arith, c.loop-i-test.true, c.len-i-end.ensures.value)) c.get-pilot.ensures
+          c.loop-i.invariant.0
+          (ap (λ l. has_pilot l c.get-pilot.result) (sym c.all.ensures.value)
+          ∙ sym c.has.ensures
+          ∙ c.if-has.false)
+          ∙ ap (λ l. first_repeated l rest) (sym c.push.ensures),
+      rw c.push.ensures (omega (
+        arith,
+        length-append c.loop-i.seen (c.get-pilot.result ∷ []),
+        c.loop-i.invariant.1,
+      )),
+    )

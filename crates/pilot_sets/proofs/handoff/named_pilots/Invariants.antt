@@ -1,0 +1,6 @@
+use Rattle.std.proofs.Common.{◌≡◌, take}
+use Rattle.pilot_sets.specs.Handoffs.{pilots_named}
+use Rattle.pilot_sets.proofs.handoff.named_pilots.Given as goal
+
+abbrev pub invariant-loop-n : goal.invariant-loop-n
+invariant-loop-n l = l.pilots ≡ pilots_named (take l.n-index l.named)

@@ -1,0 +1,8 @@
+use Rattle.std.proofs.Common.{◌≡◌, ◌≤◌, take, filter, length}
+use Rattle.pilot_sets.specs.Moments.{stays}
+use Rattle.pilot_sets.proofs.moves.staying.Given as goal
+
+abbrev pub invariant-loop-c : goal.invariant-loop-c
+invariant-loop-c l =
+    (l.staying ≡ filter (stays l.thresholds l.time) (take l.c-index l.candidates))
+    × (length l.staying ≤ l.c-index)

@@ -1,0 +1,6 @@
+use Rattle.std.proofs.Common.{◌≡◌, ◌++◌, take, map}
+use Rattle.pilot_sets.specs.Handoffs.{fresh as fresh_candidate}
+use Rattle.pilot_sets.proofs.moves.with_risen.Given as goal
+
+abbrev pub invariant-loop-p : goal.invariant-loop-p
+invariant-loop-p l = l.risen ≡ l.fn.candidates ++ map fresh_candidate (take l.p-index l.up)

@@ -1,0 +1,10 @@
+use Rattle.std.proofs.Common.{◌≡◌, ◌<◌, subst, sym, rules}
+use Rattle.std.specs.List.{All}
+use Rattle.pilot_sets.specs.PilotSets.{pilots}
+use Rattle.pilot_sets.proofs.Orders.{pilots_offsets}
+use Rattle.pilot_sets.proofs.sets.Sets.pilots.Goals as goal
+
+pub returns-clause-offsets : goal.returns-clause-offsets
+returns-clause-offsets c =
+    let is : c.add-3.new.self ≡ pilots c.self.inside.sets = search rules in
+    subst (All (λ p. p < 512)) (sym is) (pilots_offsets c.self.inside.sets c.self.invariant.sets)

@@ -1,0 +1,9 @@
+use Rattle.std.proofs.Common.{◌≡◌, drop, length}
+use Rattle.pilot_sets.specs.Standing.{deltas_with}
+use Rattle.pilot_sets.proofs.sets.keep_deltas.Given as goal
+
+abbrev pub invariant-loop-s : goal.invariant-loop-s
+invariant-loop-s l =
+    (deltas_with l.strengths l.initial.deltas
+    ≡ deltas_with (drop l.s-index l.strengths) l.deltas)
+    × (length l.deltas ≡ 512)

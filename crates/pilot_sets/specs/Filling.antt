@@ -1,0 +1,45 @@
+-- What the model of a short list rests on: the array can be made again from the things it holds.
+use Rattle.std.proofs.Common.{◌≡◌, ◌<◌, ℕ, ◌+◌, ◌-◌, List, ◌++◌, take, drop, length, replicate, slice_set}
+use Rattle.std.proofs.Common.{sym, ap, ◌∙◌, arith}
+use Rattle.std.proofs.lemmas.List.{length-take, length-set, take-append-drop, drop-set-lt, drop-drop, drop-replicate}
+use Rattle.pilot_sets.specs.Filled.{filled, IsFilled}
+use Rattle.pilot_sets.specs.declared.few.Few.TheInside.{Inside}
+
+pub length-held : {X : Type 0} (filler : X) (room : ℕ) (places : List X) (count : ℕ) →
+    IsFilled filler room places count → length (take count places) ≡ count
+length-held filler room places count h =
+    omega (arith, length-take count places, h.long, h.within)
+
+pub places-held : {X : Type 0} (filler : X) (room : ℕ) (places : List X) (count : ℕ) →
+    IsFilled filler room places count → filled filler room (take count places) ≡ places
+places-held filler room places count h =
+    ap (λ n. take count places ++ replicate (room - n) filler)
+    (length-held filler room places count h)
+    ∙ ap (λ l. take count places ++ l) (sym h.clear)
+    ∙ take-append-drop count places
+
+pub filled-held : {X : Type 0} (filler : X) {room : ℕ} (f : Inside X room) →
+    IsFilled filler room f.places f.count →
+    record {
+      places = filled filler room (take f.count f.places);
+      count = length (take f.count f.places);
+    } ≡ f
+filled-held filler {room} f h =
+    let places : filled filler room (take f.count f.places) ≡ f.places =
+    places-held filler room f.places f.count h in
+    rw (places, length-held filler room f.places f.count h)
+
+-- one thing more
+pub filled_more : {X : Type 0} (filler : X) (room : ℕ) (places : List X) (count : ℕ) (thing : X) →
+    IsFilled filler room places count → count < room →
+    IsFilled filler room (slice_set places count thing) (count + 1)
+filled_more filler room places count thing h more = record {
+  within = omega (arith, more);
+  long = length-set places count thing ∙ h.long;
+  clear =
+      drop-set-lt (count + 1) places count thing (omega arith)
+      ∙ sym (drop-drop 1 count places)
+      ∙ ap (drop 1) h.clear
+      ∙ drop-replicate 1 (room - count) filler
+      ∙ ap (λ n. replicate n filler) (omega arith);
+}

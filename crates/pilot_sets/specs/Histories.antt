@@ -1,0 +1,94 @@
+-- What happens to the sets, call by call.
+use Rattle.std.specs.Prelude.{ℕ, ◌≡◌, ◌≢◌, ◌≤◌, ◌<◌, ◌%◌, ◌⊎◌, List, [], ◌∷◌, ◌++◌, length, map, Option, Some}
+use Rattle.std.specs.List.{All}
+use Rattle.pilot_sets.specs.Directions.{IsDirection, direction_fault}
+use Rattle.pilot_sets.specs.Orderly.{times_in}
+use Rattle.pilot_sets.specs.Standing.{Standing, with_thresholds, with_neighbors, directed, due_at, stepped}
+use Rattle.traffic_message.specs.declared.fields.DirectionFields.{DirectionFields}
+use Rattle.pilot_sets.specs.declared.fault.DirectionFault.{DirectionFault}
+use Rattle.pilot_sets.specs.declared.strengths.Strength.{Strength}
+use Rattle.pilot_sets.specs.declared.thresholds.Thresholds.{Thresholds}
+use Rattle.pilot_sets.specs.declared.standing.Accepted.{Accepted}
+use Rattle.pilot_sets.specs.declared.standing.ActivePilot.{ActivePilot}
+use Rattle.pilot_sets.specs.declared.standing.CandidatePilot.{CandidatePilot}
+use Rattle.pilot_sets.specs.declared.standing.PilotSets.{PilotSets}
+
+pub data Call : Type 0 where
+  Parameters : (t : Thresholds) → Call
+  Neighbors : (heard : List ℕ) → Call
+  Direct : (first : ℕ) (d : DirectionFields) → Call
+  Due : (time : ℕ) → Call
+  Step : (strengths : List Strength) (power : ℕ) (time : ℕ) → Call
+
+abbrev pub after : Call → Standing → Standing
+after (Parameters t) s = with_thresholds t s
+after (Neighbors heard) s = with_neighbors heard s
+after (Direct first d) s = directed first d s
+after (Due time) s = due_at time s
+after (Step strengths power time) s = stepped strengths power time s
+
+abbrev pub after_all : List Call → Standing → Standing
+after_all [] s = s
+after_all (call ∷ calls) s = after_all calls (after call s)
+
+-- what the calls ask of what they are given
+abbrev pub IsLawful : Call → Type 0
+IsLawful (Parameters t) = Unit {0}
+IsLawful (Neighbors heard) = All (λ p. p < 512) heard
+IsLawful (Direct first d) = IsDirection d
+IsLawful (Due time) = Unit {0}
+IsLawful (Step strengths power time) = Unit {0}
+
+-- THE SETS
+-- no pilot is in two sets or in one twice, some pilot is active, and the lists are within their
+-- limits
+pub record AreApart (s : PilotSets) : Type 0 where
+  pub once : (p : ℕ) → times_in p s ≤ 1
+  pub some : 1 ≤ length s.active
+  pub active : length s.active ≤ 6
+  pub candidates : length s.candidates ≤ 10
+  pub neighbors : length s.neighbors ≤ 20
+
+-- DIRECTIONS
+-- a call at which no other direction takes the place of one that waits, and whose time isn't that
+-- one's
+abbrev pub LeavesWaiting : Accepted → Call → Type 0
+LeavesWaiting direction (Parameters t) = Unit {0}
+LeavesWaiting direction (Neighbors heard) = Unit {0}
+LeavesWaiting direction (Direct first d) =
+    (fault : DirectionFault) × (direction_fault d ≡ Some fault)
+LeavesWaiting direction (Due time) = time ≢ direction.time
+LeavesWaiting direction (Step strengths power time) = Unit {0}
+
+-- the least time from a first one on that is an action time modulo 64
+pub record IsNextAt (first action time : ℕ) : Type 0 where
+  pub from : first ≤ time
+  pub at_action : time % 64 ≡ action
+  pub least : (k : ℕ) → first ≤ k → k % 64 ≡ action → time ≤ k
+
+-- TIMERS
+abbrev pub active_timers : List ActivePilot → List (ℕ × Option ℕ)
+active_timers actives = map (λ (a : ActivePilot). (a.pilot, a.timer)) actives
+
+abbrev pub candidate_timers : List CandidatePilot → List (ℕ × Option ℕ)
+candidate_timers candidates = map (λ (c : CandidatePilot). (c.pilot, c.timer)) candidates
+
+-- the pilots of the active and the candidate set with their timers; no other pilot has one
+abbrev pub timers : PilotSets → List (ℕ × Option ℕ)
+timers s = active_timers s.active ++ candidate_timers s.candidates
+
+abbrev pub IsAmong : (ℕ × Option ℕ) → List (ℕ × Option ℕ) → Type 0
+IsAmong x [] = ⊥
+IsAmong x (y ∷ ys) = (x ≡ y) ⊎ IsAmong x ys
+
+-- a pilot's timer runs since a time
+abbrev pub RunsSince : ℕ → ℕ → PilotSets → Type 0
+RunsSince pilot start s = IsAmong (pilot, Some start) (timers s)
+
+-- the time of a call that starts timers
+abbrev pub Starts : ℕ → Call → Type 0
+Starts start (Parameters t) = ⊥
+Starts start (Neighbors heard) = ⊥
+Starts start (Direct first d) = ⊥
+Starts start (Due time) = ⊥
+Starts start (Step strengths power time) = start ≡ time

@@ -1,0 +1,10 @@
+//! What a moment changed.
+
+/// What a moment changed.
+#[derive(Clone, Copy, PartialEq, Eq, Debug)]
+pub struct SetChange {
+    /// The active or the candidate list isn't what it was when the moment began.
+    pub changed: bool,
+    /// A pilot strength report is due.
+    pub report: bool,
+}

@@ -1,0 +1,96 @@
+//! Short lists that need no memory of their own.
+
+ghost use Rattle.std.specs.Prelude.{◌≡◌, ◌<◌, ◌≤◌, List, [], ◌∷◌, ◌++◌, length, take};
+
+use std::alloc::AllocError;
+use std::marker::Model;
+
+/// What stands in the places of a list that aren't used.
+pub(crate) trait Filler: Copy {
+    ghost filler: { Self };
+
+    /// The filler.
+    fn filler() -> Self
+        ensures { result ≡ filler };
+}
+
+/// A list of at most `N` things. Contracts see the list.
+///
+/// The places that aren't used hold the filler, so that lists can be copied and compared.
+#[derive(Copy, PartialEq, Eq, Debug)]
+pub(crate) struct Few<T: Filler, const N: usize> {
+    places: [T; N],
+    count: usize,
+}
+
+impl<T: Filler, const N: usize> Model for Few<T, N> {
+    ghost use Rattle.std.specs.Prelude.{List, length, take};
+    ghost use Rattle.std.specs.Coded.{coded_list};
+    ghost use Rattle.pilot_sets.specs.Filled.{filled, IsFilled};
+    ghost use Rattle.pilot_sets.specs.Filling.{filled-held};
+
+    ghost Value = { List T };
+
+    ghost coded = { coded_list T.code };
+
+    ghost view = { λ f. take f.count f.places };
+
+    ghost invariant = { λ f. IsFilled T.filler N f.places f.count };
+
+    ghost inverse = { λ l. record { places = filled T.filler N l; count = length l } };
+
+    ghost inverse_ok = { λ f h. filled-held T.filler f h };
+}
+
+impl<T: Filler, const N: usize> Clone for Few<T, N> {
+    ghost use Rattle.std.specs.Prelude.{◌≡◌, ⊤};
+
+    ghost is_clone = { λ old new. new ≡ old };
+
+    ghost is_infallible = { λ _. ⊤ };
+
+    fn clone(&self) -> Result<Self, AllocError> {
+        Ok(*self)
+    }
+}
+
+impl<T: Filler, const N: usize> Few<T, N> {
+    /// The list of nothing.
+    pub(crate) fn empty() -> Few<T, N>
+        ensures { result ≡ [] }
+    {
+        Few {
+            places: [T::filler(); N],
+            count: 0,
+        }
+    }
+
+    /// The things of the list.
+    pub(crate) fn all(&self) -> &[T]
+        ensures value { result.now ≡ self.now }
+        ensures most { length result.now ≤ N }
+    {
+        &self.places[..self.count]
+    }
+
+    /// Adds a thing at the end.
+    pub(crate) fn push(&mut self, thing: T)
+        requires { length self.old < N }
+        ensures { self.new ≡ self.old ++ thing ∷ [] }
+    {
+        self.places[self.count] = thing;
+        self.count += 1;
+    }
+
+    /// Adds a thing at the end where the list has fewer than `room` things.
+    pub(crate) fn push_within(&mut self, room: usize, thing: T)
+        requires room { room ≤ N }
+        requires within { length self.old ≤ room }
+        ensures value { self.new ≡ take room (self.old ++ thing ∷ []) }
+        ensures within { length self.new ≤ room }
+    {
+        if self.count < room {
+            self.push(thing);
+        }
+    }
+}

@@ -1,0 +1,74 @@
+//! Laws of the definitions: each function does nothing, and its contract is the law.
+
+ghost use Rattle.std.specs.Prelude.{◌≡◌, ◌≢◌, ◌<◌, ◌+◌, ◌⊎◌, ℕ, List, Some, None, true};
+ghost use Rattle.std.specs.List.{All};
+ghost use Rattle.traffic_message.specs.declared.fields.DirectionFields.{DirectionFields as TheDirection};
+ghost use Rattle.pilot_sets.specs.Pilots.{has};
+ghost use Rattle.pilot_sets.specs.PilotSets.{timed_pilots};
+ghost use Rattle.pilot_sets.specs.Directions.{direction_fault, direction_time, accepted_of};
+ghost use Rattle.pilot_sets.specs.Handoffs.{handed_off};
+ghost use Rattle.pilot_sets.specs.Standing.{Standing, new_standing, directed, due_at, began_in};
+ghost use Rattle.pilot_sets.specs.Histories.{Call, after, after_all, IsLawful, AreApart, LeavesWaiting, IsNextAt, RunsSince, Starts};
+ghost use Rattle.pilot_sets.specs.declared.fault.DirectionFault.{DirectionFault as TheFault};
+ghost use Rattle.pilot_sets.specs.declared.standing.Accepted.{Accepted as TheAccepted};
+ghost use Rattle.pilot_sets.specs.declared.standing.PilotSets.{PilotSets as TheSets};
+
+/// Whatever is called of new sets, in any order and however often: no pilot is in two sets or in
+/// one twice, some pilot is active, and no list is longer than its limit.
+pub fn sets_stay_apart()
+    ensures { (pilot row : ℕ) (calls : List Call) →
+        pilot < 512 →
+        row < 64 →
+        All IsLawful calls →
+        AreApart (after_all calls (new_standing pilot row)).sets }
+{}
+
+/// An accepted direction waits until its time, whatever is called meanwhile, unless another is
+/// accepted; at its time it takes effect, and at no other. A refused one changes nothing.
+pub fn directions_wait_for_their_time()
+    ensures accepted { (first : ℕ) (d : TheDirection) (s : Standing) →
+        direction_fault d ≡ None →
+        (directed first d s).sets.waiting ≡ Some (accepted_of first d) }
+    ensures refused { (first : ℕ) (d : TheDirection) (fault : TheFault) (s : Standing) →
+        direction_fault d ≡ Some fault →
+        directed first d s ≡ s }
+    ensures waits { (calls : List Call) (direction : TheAccepted) (s : Standing) →
+        s.sets.waiting ≡ Some direction →
+        All (LeavesWaiting direction) calls →
+        (after_all calls s).sets.waiting ≡ Some direction }
+    ensures not_before { (time : ℕ) (direction : TheAccepted) (s : Standing) →
+        s.sets.waiting ≡ Some direction →
+        time ≢ direction.time →
+        due_at time s ≡ s }
+    ensures at_its_time { (direction : TheAccepted) (s : Standing) →
+        s.sets.waiting ≡ Some direction →
+        due_at direction.time s
+        ≡ record s {
+          sets = handed_off direction.time direction s.sets;
+          began = Some (began_in s);
+        } }
+{}
+
+/// A direction without an action time takes effect one moment behind the first that it could; one
+/// with an action time at the next moment whose time is that modulo 64, the first included.
+pub fn directions_take_the_next_action_time()
+    ensures at_once { (first : ℕ) (d : TheDirection) →
+        d.use_time ≡ 0 →
+        direction_time first d ≡ first + 1 }
+    ensures next { (first : ℕ) (d : TheDirection) →
+        d.use_time ≢ 0 →
+        d.action < 64 →
+        IsNextAt first d.action (direction_time first d) }
+{}
+
+/// A timer that runs behind a call ran before it, of a pilot that was active or a candidate, or the
+/// call is a step and its time is when the timer started. So a pilot's timer runs only while the
+/// pilot is active or a candidate: where it leaves both sets, it starts anew.
+pub fn timers_run_in_their_sets()
+    ensures keeps { (call : Call) (pilot start : ℕ) (s : Standing) →
+        RunsSince pilot start (after call s).sets →
+        RunsSince pilot start s.sets ⊎ Starts start call }
+    ensures only { (pilot start : ℕ) (s : TheSets) →
+        RunsSince pilot start s →
+        has (timed_pilots s) pilot ≡ true }
+{}

@@ -1,0 +1,37 @@
+//! The pilot sets of a handset, and soft handoff.
+//!
+//! A handset tells base stations apart by the offsets of their pilots. It keeps a few of them in
+//! three sets (TIA/EIA-95-B, 6.6.6.2): the active set, whose traffic channels it reads, candidates,
+//! which are strong enough to be read, and neighbors, which may become so. At each moment, every
+//! 80 ms, pilots move between the sets by how strong they are, and a handoff direction may order
+//! another active set. This crate sees strengths and messages alone, and no signal.
+#![tactic(auto)]
+
+mod change;
+mod directing;
+mod fault;
+mod few;
+mod handoff;
+mod hearing;
+pub mod laws;
+mod lists;
+mod moment;
+mod moves;
+mod pilots;
+mod reports;
+mod sets;
+mod standing;
+mod strengths;
+mod tables;
+mod thresholds;
+mod timers;
+
+pub use change::SetChange;
+pub use fault::DirectionFault;
+pub use lists::{Active, ActiveList, PilotList};
+pub use sets::Sets;
+pub use strengths::{Strength, Strengths};
+pub use thresholds::Thresholds;
+
+#[cfg(test)]
+mod tests;

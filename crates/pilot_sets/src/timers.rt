@@ -1,0 +1,65 @@
+//! Which pilots are strong, and which timers have expired.
+
+ghost use Rattle.std.specs.Prelude.{◌≡◌, ◌<◌, ◌≤◌, ◌^◌, ◌*◌};
+ghost use Rattle.pilot_sets.specs.Tables.{ratio as ratio_of};
+ghost use Rattle.pilot_sets.specs.Timers.{is_strong as is_strong_by, is_expired as is_expired_by, timer_after as timer_behind};
+
+use crate::tables::{drop_timer_ms, ratio};
+use crate::thresholds::Thresholds;
+
+/// An energy in millionths.
+pub(crate) fn millionths(energy: u64) -> u128
+    ensures value { result ≡ 1000000 * energy }
+    ensures bound { result < 2 ^ 84 }
+{
+    1_000_000 * u128::from(energy)
+}
+
+/// The part of an energy that is `k` half decibels below it, in millionths.
+pub(crate) fn part_of(k: u8, energy: u64) -> u128
+    ensures value { result ≡ ratio_of k * energy }
+    ensures bound { result < 2 ^ 84 }
+{
+    u128::from(ratio(k)) * u128::from(energy)
+}
+
+/// The energy of a pilot whose power is `k` half decibels below that of the samples, in millionths.
+/// The 512 samples' power times 1,024 is the energy of a pilot that is all they hold.
+fn threshold(k: u8, power: u64) -> u128
+    ensures value { result ≡ 1024 * ratio_of k * power }
+    ensures bound { result < 2 ^ 94 }
+{
+    1024 * u128::from(ratio(k)) * u128::from(power)
+}
+
+/// Whether a pilot of this energy is strong for threshold `k`, where the samples have this power.
+pub(crate) fn is_strong(k: u8, power: u64, energy: u64) -> bool
+    ensures { result ≡ is_strong_by k power energy }
+{
+    energy > 0 && threshold(k, power) <= millionths(energy)
+}
+
+/// Whether a timer has run for the drop time. A moment lasts 80 ms.
+pub(crate) fn is_expired(thresholds: &Thresholds, time: u64, timer: Option<u64>) -> bool
+    requires { time < 2 ^ 40 }
+    ensures { result ≡ is_expired_by thresholds.now time timer }
+{
+    match timer {
+        None => false,
+        Some(start) => {
+            u64::from(drop_timer_ms(thresholds.t_tdrop)) <= 80 * time.saturating_sub(start)
+        }
+    }
+}
+
+/// A timer behind a moment at which its pilot is strong, or isn't: it stops, or it starts or goes
+/// on.
+pub(crate) fn timer_after(is_strong: bool, time: u64, timer: Option<u64>) -> Option<u64>
+    ensures { result ≡ timer_behind is_strong time timer }
+{
+    if is_strong {
+        None
+    } else {
+        Some(timer.unwrap_or(time))
+    }
+}
