@@ -7,7 +7,6 @@ use Rattle.mobile_core.specs.FollowedChannels.{HearsFollowed, IsFollowedDue, Wai
 use Rattle.mobile_core.specs.FollowedChannels.{followed_events_left}
 use Rattle.mobile_core.specs.PagingEvents.{page_event, pages_behind}
 use Rattle.mobile_core.specs.PagingMonitoring.{IsReceiverDue}
-use Rattle.mobile_core.specs.TrafficEvents.{frames_behind}
 use Rattle.mobile_core.specs.TrafficMonitoring.{IsFrameDue}
 use Rattle.mobile_core.specs.Tuning.{Tuning}
 use Rattle.mobile_core.specs.declared.event.Event.{Event}
@@ -17,6 +16,7 @@ use Rattle.mobile_core.proofs.FramesFollowed as frames
 use Rattle.mobile_core.proofs.FramesFollowed.{FramesEndFrom}
 use Rattle.mobile_core.proofs.PagesFollowed as pages
 use Rattle.mobile_core.proofs.PagesFollowed.{EndsFrom}
+use Rattle.mobile_core.proofs.TrafficGrowth.{told_behind}
 
 -- the frame of each that comes next ends at so many samples or later
 pub record EndFrom (n : ℕ) (f : Followed) : Type 0 where
@@ -27,7 +27,7 @@ pub record EndFrom (n : ℕ) (f : Followed) : Type 0 where
 abbrev pub followed_behind : Tuning → Option Mark → List Sample → ℕ → List Event
 followed_behind t mark samples n =
     map (page_event n) (pages_behind t t.paging mark samples n)
-    ++ frames_behind t t.traffic mark samples n
+    ++ told_behind t t.traffic mark samples n
 
 -- where something is due that isn't on the paging channel, it is on the traffic channel
 pub other_due : (count : ℕ) (f : Followed) (paged : Bool) →
@@ -49,7 +49,7 @@ module _ {t : Tuning} {f : Followed} {mark : Option Mark} {heard : List Sample}
       EndFrom later f → followed_behind t mark samples n ≡ []
   followed_quiet samples n later past before ends =
       both_none (map (page_event n) (pages_behind t t.paging mark samples n))
-      (frames_behind t t.traffic mark samples n)
+      (told_behind t t.traffic mark samples n)
       (ap (map (page_event n))
       (pages.pages_quiet t mark heard f.paging.receiver st.paging.behind (λ d. idle (inl d))
       samples n later past before ends.paging))
@@ -90,6 +90,7 @@ module _ {t : Tuning} {f : Followed} {mark : Option Mark} {heard : List Sample}
       traffic_is = st.traffic.traffic_is;
       phase_is = st.traffic.phase_is;
       deltas_are = st.traffic.deltas_are;
+      check_is = st.traffic.check_is;
       behind = frames.frames_more t mark heard f.traffic.receiver st.traffic.behind
           (λ d. idle (inr d)) more within ends.traffic;
     };

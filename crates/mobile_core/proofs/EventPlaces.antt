@@ -2,13 +2,14 @@
 use Rattle.std.proofs.Common.{◌≡◌, ℕ, List, [], ◌∷◌, ◌++◌, map, refl, Option, None, Some}
 use Rattle.std.specs.List.{flat_map}
 use Rattle.chip_core.specs.declared.sample.Sample.{Sample}
-use Rattle.mobile_core.specs.Events.{frame_events_at, paging_events_at}
+use Rattle.mobile_core.specs.Events.{frame_events_at, message_events_at, paging_events_at}
 use Rattle.mobile_core.specs.Given.{at_of}
 use Rattle.mobile_core.specs.Marks.{mark}
 use Rattle.mobile_core.specs.PagingEvents.{page_event, pages_behind}
+use Rattle.mobile_core.specs.Signaling.{message_at, message_events, message_heard, messages_at}
 use Rattle.mobile_core.specs.Streams.{known_now}
 use Rattle.mobile_core.specs.SyncEvents.{events_of, heard_at, sync_events_at}
-use Rattle.mobile_core.specs.TrafficEvents.{frame_heard, frames_at, frames_behind}
+use Rattle.mobile_core.specs.TrafficEvents.{frame_heard, frames_at, if_followed}
 use Rattle.mobile_core.specs.TrafficStreams.{frames_bound, traffic_stream}
 use Rattle.mobile_core.specs.Tuning.{Tuning, sync_bound, sync_stream}
 use Rattle.mobile_core.specs.declared.event.Event.{Event}
@@ -16,6 +17,7 @@ use Rattle.mobile_core.specs.declared.mark.Mark.{Mark}
 use Rattle.mobile_core.specs.declared.settings.Traffic.{Traffic}
 use Rattle.mobile_core.specs.declared.spelled_message.SpelledMessage.{SpelledMessage}
 use Rattle.mobile_core.specs.declared.spelled_page.SpelledPage.{SpelledPage}
+use Rattle.mobile_core.specs.declared.spelled_signal.SpelledSignal.{SpelledSignal}
 
 -- events of one number of samples
 abbrev pub AreAt : ℕ → List Event → Type 0
@@ -64,13 +66,35 @@ followed_at t traffic m samples n =
     frames_at_place t traffic m samples n
     (known_now t.count (traffic_stream t traffic m) n (frames_bound n))
 
-behind_at : (t : Tuning) (followed : Option Traffic) (m : Option Mark) (samples : List Sample)
-    (n : ℕ) → AreAt n (frames_behind t followed m samples n)
-behind_at t None m samples n = tt
-behind_at t (Some traffic) None samples n = tt
-behind_at t (Some traffic) (Some m) samples n = followed_at t traffic m samples n
+message_at_place : (n : ℕ) (heard : Option SpelledSignal) → AreAt n (message_events n heard)
+message_at_place n None = tt
+message_at_place n (Some heard) = (refl, tt)
+
+completed_at : (t : Tuning) (traffic : Traffic) (m : Mark) (samples : List Sample) (n : ℕ) →
+    AreAt n (messages_at t traffic m samples n)
+unfolding messages_at
+completed_at t traffic m samples n =
+    flat_map_at n (message_heard t traffic m samples n)
+    (known_now t.count (traffic_stream t traffic m) n (frames_bound n))
+    (λ k. message_at_place n (message_at t traffic m samples k))
+
+behind_at : (n : ℕ) (heard : Traffic → Mark → List Event) (followed : Option Traffic)
+    (m : Option Mark) → ((traffic : Traffic) (m' : Mark) → AreAt n (heard traffic m')) →
+    AreAt n (if_followed heard followed m)
+behind_at n heard None m here = tt
+behind_at n heard (Some traffic) None here = tt
+behind_at n heard (Some traffic) (Some m) here = here traffic m
 
 pub traffic_at : (t : Tuning) (samples : List Sample) (n : ℕ) →
     AreAt n (frame_events_at t samples n)
 unfolding frame_events_at
-traffic_at t samples n = behind_at t t.traffic (mark t samples n) samples n
+traffic_at t samples n =
+    behind_at n (λ traffic m. frames_at t traffic m samples n) t.traffic (mark t samples n)
+    (λ traffic m. followed_at t traffic m samples n)
+
+pub messages_at_end : (t : Tuning) (samples : List Sample) (n : ℕ) →
+    AreAt n (message_events_at t samples n)
+unfolding message_events_at
+messages_at_end t samples n =
+    behind_at n (λ traffic m. messages_at t traffic m samples n) t.traffic (mark t samples n)
+    (λ traffic m. completed_at t traffic m samples n)

@@ -6,14 +6,13 @@ use Rattle.std.specs.Prelude.{if◌then◌else◌}
 use Rattle.std.proofs.lemmas.Bool.{cases_lt}
 use Rattle.chip_core.specs.declared.sample.Sample.{Sample}
 use Rattle.mobile_core.specs.Events.{events, events_at, events_within, frame_events_at}
-use Rattle.mobile_core.specs.Events.{paging_events_at}
+use Rattle.mobile_core.specs.Events.{message_events_at, paging_events_at}
 use Rattle.mobile_core.specs.FollowedChannels.{HearsFollowed, IsFollowedDue, followed_events_left}
 use Rattle.mobile_core.specs.Left.{sync_events_left}
 use Rattle.mobile_core.specs.Marks.{mark, mark_before}
 use Rattle.mobile_core.specs.Near.{AreNear}
 use Rattle.mobile_core.specs.PagingEvents.{pages_at, pages_behind}
 use Rattle.mobile_core.specs.SyncEvents.{sync_events_at}
-use Rattle.mobile_core.specs.TrafficEvents.{frames_behind}
 use Rattle.mobile_core.specs.Tuning.{Tuning, sync_stream}
 use Rattle.mobile_core.specs.declared.event.Event.{Event}
 use Rattle.mobile_core.specs.declared.followed.Followed.{Followed}
@@ -21,25 +20,26 @@ use Rattle.mobile_core.specs.declared.mark.Mark.{Mark}
 use Rattle.mobile_core.specs.declared.settings.Traffic.{Traffic}
 use Rattle.mobile_core.proofs.ChannelsFollowed.{EndFrom, followed_behind, followed_come}
 use Rattle.mobile_core.proofs.ChannelsFollowed.{followed_quiet}
-use Rattle.mobile_core.proofs.FrameGrowth.{frames_sooner}
 use Rattle.mobile_core.proofs.Growth as growth
 use Rattle.mobile_core.proofs.Growth.{IsSyncTimed, KnownBefore, KnownFrom}
 use Rattle.mobile_core.proofs.MarkGrowth.{mark_before_sooner, mark_is}
 use Rattle.mobile_core.proofs.MarkStays as stays
 use Rattle.mobile_core.proofs.PageGrowth.{pages_sooner}
+use Rattle.mobile_core.proofs.TrafficGrowth.{told_behind, told_sooner, told_unset}
 use Rattle.chip_core.proofs.Ranges.{flat_map_grown}
 
 -- what ends at n is heard on the sync channel, on the paging channel, or on the traffic channel
 pub events_at_all : (t : Tuning) (xs : List Sample) (n : ℕ) →
     events_at t xs n
-    ≡ sync_events_at t xs n ++ (paging_events_at t xs n ++ frame_events_at t xs n)
+    ≡ sync_events_at t xs n
+    ++ (paging_events_at t xs n ++ (frame_events_at t xs n ++ message_events_at t xs n))
 unfolding events_at
 events_at_all t xs n = refl
 
 -- behind the mark it is what is heard of the channels that are followed from there on
 pub events_at_by : (t : Tuning) (xs : List Sample) (n : ℕ) (m : Option Mark) → mark t xs n ≡ m →
     events_at t xs n ≡ sync_events_at t xs n ++ followed_behind t m xs n
-unfolding events_at paging_events_at frame_events_at
+unfolding events_at paging_events_at frame_events_at message_events_at
 events_at_by t xs n m e =
     ap (λ (x : Option Mark). sync_events_at t xs n ++ followed_behind t x xs n) e
 
@@ -52,12 +52,12 @@ module _ (t : Tuning) (low : ℕ) (timed : IsSyncTimed t low)
       ap (λ (pages : List _). if nat_lt m.prat 2 then pages else [])
       (pages_sooner t t.paging m _ (stays.paging_timed t near t.paging m) xs ys n h)
 
-  frames_same : (traffic : Option Traffic) (m : Option Mark) (xs ys : List Sample) (n : ℕ) →
-      n ≤ length xs → frames_behind t traffic m (xs ++ ys) n ≡ frames_behind t traffic m xs n
-  frames_same None m xs ys n h = refl
-  frames_same (Some traffic) None xs ys n h = refl
-  frames_same (Some traffic) (Some m) xs ys n h =
-      frames_sooner t traffic m _ (stays.traffic_timed t near traffic m) xs ys n h
+  traffic_same : (traffic : Option Traffic) (m : Option Mark) (xs ys : List Sample) (n : ℕ) →
+      n ≤ length xs → told_behind t traffic m (xs ++ ys) n ≡ told_behind t traffic m xs n
+  traffic_same None m xs ys n h = refl
+  traffic_same (Some traffic) None xs ys n h = refl
+  traffic_same (Some traffic) (Some m) xs ys n h =
+      told_sooner t traffic m _ (stays.traffic_timed t near traffic m) xs ys n h
 
   -- what ends within the first samples is known from them
   pub events_sooner : (xs ys : List Sample) (n : ℕ) → n ≤ length xs →
@@ -66,9 +66,9 @@ module _ (t : Tuning) (low : ℕ) (timed : IsSyncTimed t low)
       let m = mark t xs n in
       let sync = growth.sync_events_sooner t low timed xs ys n h in
       let pages = pages_same m xs ys n h in
-      let frames = frames_same t.traffic m xs ys n h in
+      let traffic = traffic_same t.traffic m xs ys n h in
       events_at_by t (xs ++ ys) n m (stays.mark_sooner t low timed xs ys n h)
-      ∙ rw (sync, pages, frames) refl
+      ∙ rw (sync, pages, traffic) refl
       ∙ sym (events_at_by t xs n m refl)
 
   -- a mark that is set with the last sample has no channel's frame before it
@@ -84,9 +84,11 @@ module _ (t : Tuning) (low : ℕ) (timed : IsSyncTimed t low)
       let later = stays.mark_behind t low timed near xs n (n + 1) m pilot e e' in
       let none = stays.pages_later t near t.paging xs (n + 1) m (omega (arith, later)) in
       let pages = unrated (nat_lt m.prat 2) (pages_at t t.paging m xs (n + 1)) none in
-      let frames = stays.frames_before_mark t near t.traffic xs (n + 1) m (omega (arith, later)) in
-      let unset = stays.no_mark t near t.traffic xs (n + 1) in
-      rw (pages, frames, unset) refl
+      let early : n + 1 ≤ m.sample = omega (arith, later) in
+      let frames = stays.frames_before_mark t near t.traffic xs (n + 1) m early in
+      let messages = stays.messages_before_mark t near t.traffic xs (n + 1) m early in
+      let unset = told_unset t t.traffic xs (n + 1) in
+      rw (pages, frames, messages, unset) refl
     where
       unrated : {A : Type 0} (b : Bool) (pages : List A) → pages ≡ [] →
           (if b then pages else []) ≡ []

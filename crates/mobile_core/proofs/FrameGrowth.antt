@@ -112,7 +112,7 @@ module _ (t : Tuning) (traffic : Traffic) (m : Mark) where
         softs_sooner xs ys s.fingers s.form u
         (all_fit t.count (length xs) s.fingers s.form u inside ends)
 
-    decoded_sooner : (xs ys : List Sample) (k : ℕ) →
+    pub decoded_sooner : (xs ys : List Sample) (k : ℕ) →
         is_in_file t.count (traffic_stream t traffic m) k ≡ true →
         stream_end (traffic_stream t traffic m) k ≤ length xs →
         decoded_at t traffic m (xs ++ ys) k ≡ decoded_at t traffic m xs k

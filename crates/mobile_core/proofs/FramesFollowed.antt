@@ -1,26 +1,31 @@
 -- What a handset's traffic channel has still to give, as samples come.
-use Rattle.std.proofs.Common.{◌≡◌, ℕ, ◌+◌, ◌-◌, ◌^◌, ◌<◌, ◌≤◌, List, [], ◌∷◌, ◌++◌, length}
+use Rattle.std.proofs.Common.{◌≡◌, ℕ, ◌+◌, ◌^◌, ◌<◌, ◌≤◌, List, [], ◌∷◌, ◌++◌, length}
 use Rattle.std.proofs.Common.{refl, sym, ap, subst, ◌∙◌, arith, inl, inr, Option, Some, None}
+use Rattle.std.proofs.Common.{true, false}
+use Rattle.std.specs.Prelude.{IsTrue, is_some}
 use Rattle.std.specs.Option.{ForSome}
 use Rattle.std.proofs.lemmas.Bool.{cases_lt}
 use Rattle.chip_core.specs.declared.sample.Sample.{Sample}
 use Rattle.mobile_core.specs.Clocks.{IsDueAt}
 use Rattle.mobile_core.specs.PagingMonitoring.{SetsMark}
-use Rattle.mobile_core.specs.TrafficEvents.{frames_at, frames_behind}
+use Rattle.mobile_core.specs.Signaling.{message_events}
 use Rattle.mobile_core.specs.TrafficMonitoring.{FramesWaitFrom, HearsFrames, HearsFramesBehind}
-use Rattle.mobile_core.specs.TrafficMonitoring.{IsFrameDue, IsUnheard, frame_events_left}
-use Rattle.mobile_core.specs.TrafficMonitoring.{frames_due_by, frames_heard_by}
-use Rattle.mobile_core.specs.TrafficMonitoring.{frames_left_behind}
-use Rattle.mobile_core.specs.TrafficReceiving.{HearsTraffic, IsSoundTraffic, frames_left_of}
+use Rattle.mobile_core.specs.TrafficMonitoring.{IsFrameDue, IsUnheard, traffic_events_left}
+use Rattle.mobile_core.specs.TrafficMonitoring.{traffic_due_by, traffic_heard_by}
+use Rattle.mobile_core.specs.TrafficMonitoring.{traffic_left_behind}
+use Rattle.mobile_core.specs.TrafficReceiving.{HearsTraffic, IsSoundTraffic, IsTrafficDue}
+use Rattle.mobile_core.specs.TrafficReceiving.{traffic_due, traffic_left_of}
 use Rattle.mobile_core.specs.Tuning.{Tuning}
 use Rattle.mobile_core.specs.declared.event.Event.{Event}
 use Rattle.mobile_core.specs.declared.mark.Mark.{Mark}
 use Rattle.mobile_core.specs.declared.settings.Traffic.{Traffic}
 use Rattle.mobile_core.specs.declared.traffic_monitor.TrafficMonitor.{TrafficMonitor}
+use Rattle.mobile_core.specs.declared.spelled_signal.SpelledSignal.{SpelledSignal}
 use Rattle.mobile_core.specs.declared.traffic_receiver.TrafficReceiver.{TrafficReceiver}
 use Rattle.mobile_core.proofs.ClockSteps.{before_next, from_next}
-use Rattle.mobile_core.proofs.FrameGrowth.{frames_left_all, frames_left_none, frames_none}
 use Rattle.mobile_core.proofs.FramesHeard as frames
+use Rattle.mobile_core.proofs.TrafficGrowth.{told_at, told_behind, told_left, told_left_all}
+use Rattle.mobile_core.proofs.TrafficGrowth.{told_left_none, told_none}
 
 -- the frame that comes next ends at so many samples or later
 abbrev pub FramesEndFrom : ℕ → Option TrafficReceiver → Type 0
@@ -28,46 +33,66 @@ FramesEndFrom n receiver = ForSome receiver (λ r. n ≤ r.clock.end)
 
 pub unheard : (t : Tuning) (followed : Option Traffic) (mark : Option Mark)
     (samples : List Sample) (n : ℕ) → IsUnheard followed mark →
-    frames_behind t followed mark samples n ≡ []
+    told_behind t followed mark samples n ≡ []
 unheard t None mark samples n h = refl
 unheard t (Some traffic) mark samples n h =
-    ap (λ (x : Option Mark). frames_behind t (Some traffic) x samples n) h
+    ap (λ (x : Option Mark). told_behind t (Some traffic) x samples n) h
 
 -- a channel that is followed, behind a mark that is set
 pub heard_at : (t : Tuning) (traffic : Traffic) (m : Mark) (followed : Option Traffic)
     (mark : Option Mark) (samples : List Sample) (n : ℕ) → followed ≡ Some traffic →
-    mark ≡ Some m → frames_behind t followed mark samples n ≡ frames_at t traffic m samples n
+    mark ≡ Some m → told_behind t followed mark samples n ≡ told_at t traffic m samples n
 heard_at t traffic m followed mark samples n e e' =
-    ap (λ (x : Option Traffic). frames_behind t x mark samples n) e
-    ∙ ap (λ (x : Option Mark). frames_behind t (Some traffic) x samples n) e'
+    ap (λ (x : Option Traffic). told_behind t x mark samples n) e
+    ∙ ap (λ (x : Option Mark). told_behind t (Some traffic) x samples n) e'
 
 left_of : (t : Tuning) (traffic : Traffic) (m : Mark) (followed : Option Traffic)
     (mark : Option Mark) (samples : List Sample) (r : TrafficReceiver) →
     followed ≡ Some traffic → mark ≡ Some m →
-    frames_left_behind t followed mark samples r
-    ≡ frames_left_of t traffic m samples r.clock.next
+    traffic_left_behind t followed mark samples r
+    ≡ traffic_left_of t traffic m samples r
 left_of t traffic m followed mark samples r e e' =
-    ap (λ (x : Option Traffic). frames_left_behind t x mark samples r) e
-    ∙ ap (λ (x : Option Mark). frames_left_behind t (Some traffic) x samples r) e'
+    ap (λ (x : Option Traffic). traffic_left_behind t x mark samples r) e
+    ∙ ap (λ (x : Option Mark). traffic_left_behind t (Some traffic) x samples r) e'
+
+-- where none is due no message is kept
+none_kept : (count : ℕ) (r : TrafficReceiver) → ¬ IsTrafficDue count r → r.kept ≡ None
+none_kept count r none = by_kept r.kept (λ some. none (inl some))
+  where
+    by_kept : (kept : Option SpelledSignal) → ¬ IsTrue (is_some kept) → kept ≡ None
+    by_kept None h = refl
+    by_kept (Some message) h = absurd (h refl)
+
+-- and no frame
+none_come : (count : ℕ) (r : TrafficReceiver) → ¬ IsTrafficDue count r → ¬ IsDueAt count r.clock
+none_come count r none = λ d. none (inr d)
+
+-- what is left where no message is kept
+left_unkept : (t : Tuning) (traffic : Traffic) (m : Mark) (samples : List Sample)
+    (r : TrafficReceiver) → r.kept ≡ None →
+    traffic_left_of t traffic m samples r ≡ told_left t traffic m samples r.clock.next
+left_unkept t traffic m samples r empty =
+    ap (λ (kept : Option SpelledSignal). message_events (length samples) kept
+    ++ told_left t traffic m samples r.clock.next) empty
 
 module _ (t : Tuning) (mark : Option Mark) (heard : List Sample) where
   -- before the frame that comes next ends none is heard
   pub frames_quiet : (receiver : Option TrafficReceiver) →
       HearsFramesBehind t mark receiver heard → ¬ IsFrameDue t.count receiver →
       (samples : List Sample) (n later : ℕ) → length heard < n → n < later →
-      FramesEndFrom later receiver → frames_behind t t.traffic mark samples n ≡ []
+      FramesEndFrom later receiver → told_behind t t.traffic mark samples n ≡ []
   frames_quiet None behind none samples n later past before ends =
       unheard t t.traffic mark samples n behind
   frames_quiet (Some r) behind none samples n later past before ends =
       let is = behind.hears.clocked in
       let most = ends r refl in
       heard_at t behind.traffic behind.set t.traffic mark samples n behind.traffic_is behind.set_is
-      ∙ frames_none t behind.traffic behind.set samples n
+      ∙ told_none t behind.traffic behind.set samples n
       (λ k inside e.
       elim (cases_lt k r.clock.next) [
         | inl less ↦ let known = before_next is k less inside in omega (arith, known, e, past)
         | inr more ↦
-            let known = from_next is later none most k more inside in
+            let known = from_next is later (none_come t.count r none) most k more inside in
             omega (arith, known, e, before)
       ])
 
@@ -75,8 +100,8 @@ module _ (t : Tuning) (mark : Option Mark) (heard : List Sample) where
   pub frames_come : (receiver : Option TrafficReceiver) →
       HearsFramesBehind t mark receiver heard → ¬ IsFrameDue t.count receiver →
       (samples : List Sample) → length heard < length samples →
-      frame_events_left t mark samples receiver
-      ≡ frames_behind t t.traffic mark samples (length samples)
+      traffic_events_left t mark samples receiver
+      ≡ told_behind t t.traffic mark samples (length samples)
   frames_come None behind none samples past =
       sym (unheard t t.traffic mark samples (length samples) behind)
   frames_come (Some r) behind none samples past =
@@ -84,7 +109,8 @@ module _ (t : Tuning) (mark : Option Mark) (heard : List Sample) where
       let traffic = behind.traffic in
       let set = behind.set in
       left_of t traffic set t.traffic mark samples r behind.traffic_is behind.set_is
-      ∙ frames_left_all t traffic set samples r.clock.next
+      ∙ left_unkept t traffic set samples r (none_kept t.count r none)
+      ∙ told_left_all t traffic set samples r.clock.next
       (λ k less inside e.
       let known = before_next is k less inside in omega (arith, known, e, past))
       ∙ sym (heard_at t traffic set t.traffic mark samples (length samples) behind.traffic_is
@@ -93,14 +119,15 @@ module _ (t : Tuning) (mark : Option Mark) (heard : List Sample) where
   -- where no frame is due, none is left
   pub frames_given : (receiver : Option TrafficReceiver) →
       HearsFramesBehind t mark receiver heard → ¬ IsFrameDue t.count receiver →
-      FramesWaitFrom (length heard) receiver → frame_events_left t mark heard receiver ≡ []
+      FramesWaitFrom (length heard) receiver → traffic_events_left t mark heard receiver ≡ []
   frames_given None behind none waits = refl
   frames_given (Some r) behind none waits =
       let is = behind.hears.clocked in
       let later = waits r refl in
       left_of t behind.traffic behind.set t.traffic mark heard r behind.traffic_is behind.set_is
-      ∙ frames_left_none t behind.traffic behind.set heard r.clock.next
-      (from_next is (length heard + 1) none (omega (arith, later)))
+      ∙ left_unkept t behind.traffic behind.set heard r (none_kept t.count r none)
+      ∙ told_left_none t behind.traffic behind.set heard r.clock.next
+      (from_next is (length heard + 1) (none_come t.count r none) (omega (arith, later)))
 
   -- more samples, up to the end of the frame that comes next
   pub frames_more : (receiver : Option TrafficReceiver) → HearsFramesBehind t mark receiver heard →
@@ -115,7 +142,7 @@ module _ (t : Tuning) (mark : Option Mark) (heard : List Sample) where
         traffic_is = behind.traffic_is;
         set = behind.set;
         set_is = behind.set_is;
-        hears = frames.hears_more behind.hears more none within most;
+        hears = frames.hears_more behind.hears more (none_come t.count r none) within most;
       }
 
 -- WHERE A MARK IS SET
@@ -134,6 +161,18 @@ stays_followed t heard before after sets (Some r') r e behind =
           absurd (cc)
     ]
 
+-- nothing is due of a receiver that has heard nothing
+none_opened : (count : ℕ) (r : TrafficReceiver) → r.clock.have ≡ r.clock.next → r.kept ≡ None →
+    ¬ IsTrafficDue count r
+none_opened count r fresh empty = λ due.
+    elim due [
+      | inl some ↦
+          let is : is_some r.kept ≡ true = some in
+          let none : false ≡ true = rw empty at is in
+          absurd (cc)
+      | inr d ↦ omega (arith, fresh, d.0)
+    ]
+
 -- a receiver that is open now has heard nothing
 module _ (t : Tuning) (heard : List Sample) (traffic : Traffic) (m : Mark) (r : TrafficReceiver)
     (followed : t.traffic ≡ Some traffic) (hears : HearsTraffic t traffic m r heard) where
@@ -141,10 +180,10 @@ module _ (t : Tuning) (heard : List Sample) (traffic : Traffic) (m : Mark) (r : 
   frames_opened =
       record { traffic = traffic; traffic_is = followed; set = m; set_is = refl; hears = hears }
 
-  pub frames_opened_left : r.clock.have ≡ r.clock.next → length heard < r.clock.end →
-      frame_events_left t (Some m) heard (Some r) ≡ []
-  frames_opened_left fresh ends =
-      frames_given t (Some m) heard (Some r) frames_opened (λ d. omega (arith, fresh, d.0))
+  pub frames_opened_left : r.clock.have ≡ r.clock.next → r.kept ≡ None →
+      length heard < r.clock.end → traffic_events_left t (Some m) heard (Some r) ≡ []
+  frames_opened_left fresh empty ends =
+      frames_given t (Some m) heard (Some r) frames_opened (none_opened t.count r fresh empty)
       (λ r' e.
       let same : r ≡ r' = cc in
       subst (λ (x : TrafficReceiver). length heard < x.clock.end) same ends)
@@ -159,6 +198,7 @@ module _ {t : Tuning} {f : TrafficMonitor} {heard : List Sample} {before : Optio
     traffic_is = st.traffic_is;
     phase_is = st.phase_is;
     deltas_are = st.deltas_are;
+    check_is = st.check_is;
     behind = behind;
   }
 
@@ -181,13 +221,13 @@ module _ {t : Tuning} {f : TrafficMonitor} {heard : List Sample} {before : Optio
           hears = on behind.traffic behind.set behind.hears;
         })
 
-    -- the frame that was due has been heard
+    -- what was due first has been heard
     pub frame_left : (event : Event) →
         ((traffic : Traffic) (m : Mark) → HearsTraffic t traffic m r heard →
-        event ∷ frames_left_of t traffic m heard after.clock.next
-        ≡ frames_left_of t traffic m heard r.clock.next) →
-        event ∷ frame_events_left t before heard (Some after)
-        ≡ frame_events_left t before heard f.receiver
+        event ∷ traffic_left_of t traffic m heard after
+        ≡ traffic_left_of t traffic m heard r) →
+        event ∷ traffic_events_left t before heard (Some after)
+        ≡ traffic_events_left t before heard f.receiver
     frame_left event left =
         let behind = behind_here in
         let traffic = behind.traffic in
@@ -196,22 +236,17 @@ module _ {t : Tuning} {f : TrafficMonitor} {heard : List Sample} {before : Optio
         (left_of t traffic set t.traffic before heard after behind.traffic_is behind.set_is)
         ∙ left traffic set behind.hears
         ∙ sym (left_of t traffic set t.traffic before heard r behind.traffic_is behind.set_is)
-        ∙ ap (frame_events_left t before heard) (sym is)
+        ∙ ap (traffic_events_left t before heard) (sym is)
 
--- one frame fewer is due
-pub fewer_due : (receiver : Option TrafficReceiver) (r : TrafficReceiver) (count have next : ℕ) →
-    receiver ≡ Some r → IsFrameDue count receiver → have ≡ r.clock.have →
-    next ≡ r.clock.next + 1 → have - next < frames_due_by receiver
-fewer_due None r count have next is due have_is next_is = absurd (cc)
-fewer_due (Some r') r count have next is due have_is next_is =
-    let same : r' ≡ r = cc in
-    let due' = subst (λ (x : TrafficReceiver). IsDueAt count x.clock) same due in
-    let come = due'.0 in
-    rw same (omega (arith, come, have_is, next_is))
+-- less is due
+pub fewer_due : (receiver : Option TrafficReceiver) (r after : TrafficReceiver) →
+    receiver ≡ Some r → traffic_due after < traffic_due r →
+    traffic_due after < traffic_due_by receiver
+fewer_due receiver r after is less = rw is less
 
 -- what has been heard is a small number
 pub frames_few : (receiver : Option TrafficReceiver) → ForSome receiver IsSoundTraffic →
-    frames_heard_by receiver < 2 ^ 40
+    traffic_heard_by receiver < 2 ^ 40
 frames_few None sound = omega arith
 frames_few (Some r) sound =
     let is = sound r refl in

@@ -19,6 +19,9 @@ pub mod PagesLeft
 pub mod PagesHeard
 pub mod PageGrowth
 pub mod FrameGrowth
+pub mod MessageGrowth
+pub mod TrafficGrowth
+pub mod SignalParts
 pub mod FramesHeard
 pub mod MarkStays
 pub mod PagesFollowed

@@ -23,9 +23,11 @@ use Rattle.mobile_core.specs.PagingStreams.{paging_stream}
 use Rattle.mobile_core.specs.Streams.{frame_start, is_in_file, known_at}
 use Rattle.mobile_core.specs.SyncEvents.{heard_at, heard_in, sync_capsule_at, with_message}
 use Rattle.mobile_core.specs.Timing.{IsTimed, stream_end}
-use Rattle.mobile_core.specs.TrafficEvents.{frames_at, frames_behind}
+use Rattle.mobile_core.specs.Signaling.{messages_at, messages_behind}
+use Rattle.mobile_core.specs.TrafficEvents.{frames_at, frames_behind, if_followed}
 use Rattle.mobile_core.specs.TrafficStreams.{traffic_stream}
 use Rattle.mobile_core.specs.Tuning.{Tuning, fingers_of, sync_bound, sync_stream}
+use Rattle.mobile_core.specs.declared.event.Event.{Event}
 use Rattle.mobile_core.specs.declared.mark.Mark.{Mark}
 use Rattle.mobile_core.specs.declared.settings.Traffic.{Traffic}
 use Rattle.mobile_core.specs.declared.spelled_message.SpelledMessage.{SpelledMessage}
@@ -35,6 +37,7 @@ use Rattle.mobile_core.proofs.FrameTimes.{known_between, known_le}
 use Rattle.mobile_core.proofs.Growth.{IsSyncTimed, sync_in_file, sync_known}
 use Rattle.mobile_core.proofs.MarkGrowth.{marks_at_sooner}
 use Rattle.mobile_core.proofs.MarkLater.{mark_later}
+use Rattle.mobile_core.proofs.MessageGrowth.{messages_none}
 use Rattle.mobile_core.proofs.PageGrowth.{pages_none}
 use Rattle.chip_core.proofs.Ranges as ranges
 
@@ -355,6 +358,13 @@ module _ (t : Tuning) (near : AreNear (sync_stream t).fingers) (traffic : Traffi
       frames_none t traffic m samples n
       (λ k inside e. let later = traffic_later m k inside in omega (arith, later, e, before))
 
+  -- nor does one complete a message
+  messages_later : (samples : List Sample) (n : ℕ) (m : Mark) → n ≤ m.sample →
+      messages_at t traffic m samples n ≡ []
+  messages_later samples n m before =
+      messages_none t traffic m samples n
+      (λ k inside e. let later = traffic_later m k inside in omega (arith, later, e, before))
+
 module _ (t : Tuning) (near : AreNear (sync_stream t).fingers) where
   -- no frame is heard before the mark
   pub frames_before_mark : (followed : Option Traffic) (samples : List Sample) (n : ℕ) (m : Mark) →
@@ -363,10 +373,37 @@ module _ (t : Tuning) (near : AreNear (sync_stream t).fingers) where
   frames_before_mark (Some traffic) samples n m before =
       frames_later t near traffic samples n m before
 
-  pub no_mark : (followed : Option Traffic) (samples : List Sample) (n : ℕ) →
-      frames_behind t followed None samples n ≡ []
-  no_mark None samples n = refl
-  no_mark (Some traffic) samples n = refl
+  -- and no message
+  pub messages_before_mark : (followed : Option Traffic) (samples : List Sample) (n : ℕ)
+      (m : Mark) → n ≤ m.sample → messages_behind t followed (Some m) samples n ≡ []
+  messages_before_mark None samples n m before = refl
+  messages_before_mark (Some traffic) samples n m before =
+      messages_later t near traffic samples n m before
+
+  pub no_mark : (heard : Traffic → Mark → List Event) (followed : Option Traffic) →
+      if_followed heard followed None ≡ []
+  no_mark heard None = refl
+  no_mark heard (Some traffic) = refl
+
+  -- What is heard at n samples, and not before the mark, is told by any later mark.
+  by_one_mark : (heard : Traffic → Mark → List Event) (followed : Option Traffic)
+      (samples : List Sample) (n n' : ℕ) → n ≤ n' →
+      ((m : Mark) → n ≤ m.sample → if_followed heard followed (Some m) ≡ []) →
+      if_followed heard followed (mark t samples n)
+      ≡ if_followed heard followed (mark t samples n')
+  by_one_mark heard followed samples n n' more early =
+      by_marks (mark t samples n) (mark t samples n') refl refl
+    where
+      by_marks : (now later : Option Mark) → mark t samples n ≡ now → mark t samples n' ≡ later →
+          if_followed heard followed now ≡ if_followed heard followed later
+      by_marks (Some m) later e e' =
+          ap (if_followed heard followed)
+          (sym (mark_stays t _ (timed_of t near) samples n n' m more e) ∙ e')
+      by_marks None None e e' = refl
+      by_marks None (Some m) e e' =
+          let pilot = mark_pilot t samples n' m e' in
+          let before = mark_behind t _ (timed_of t near) near samples n n' m pilot e e' in
+          no_mark heard followed ∙ sym (early m (omega (arith, before)))
 
   -- The frame that is heard at n samples is told by any later mark.
   pub frames_by_one_mark : (followed : Option Traffic) (samples : List Sample) (n n' : ℕ) →
@@ -374,16 +411,14 @@ module _ (t : Tuning) (near : AreNear (sync_stream t).fingers) where
       frames_behind t followed (mark t samples n) samples n
       ≡ frames_behind t followed (mark t samples n') samples n
   frames_by_one_mark followed samples n n' more =
-      by_marks (mark t samples n) (mark t samples n') refl refl
-    where
-      by_marks : (now later : Option Mark) → mark t samples n ≡ now → mark t samples n' ≡ later →
-          frames_behind t followed now samples n ≡ frames_behind t followed later samples n
-      by_marks (Some m) later e e' =
-          ap (λ (x : Option Mark). frames_behind t followed x samples n)
-          (sym (mark_stays t _ (timed_of t near) samples n n' m more e) ∙ e')
-      by_marks None None e e' = refl
-      by_marks None (Some m) e e' =
-          let pilot = mark_pilot t samples n' m e' in
-          let before = mark_behind t _ (timed_of t near) near samples n n' m pilot e e' in
-          no_mark followed samples n
-          ∙ sym (frames_before_mark followed samples n m (omega (arith, before)))
+      by_one_mark (λ traffic m. frames_at t traffic m samples n) followed samples n n' more
+      (frames_before_mark followed samples n)
+
+  -- And so is the message that it completes.
+  pub messages_by_one_mark : (followed : Option Traffic) (samples : List Sample) (n n' : ℕ) →
+      n ≤ n' →
+      messages_behind t followed (mark t samples n) samples n
+      ≡ messages_behind t followed (mark t samples n') samples n
+  messages_by_one_mark followed samples n n' more =
+      by_one_mark (λ traffic m. messages_at t traffic m samples n) followed samples n n' more
+      (messages_before_mark followed samples n)

@@ -26,13 +26,11 @@ use Rattle.mobile_core.specs.Streams.{is_in_file}
 use Rattle.mobile_core.specs.SyncEvents.{sync_events_at}
 use Rattle.mobile_core.specs.SyncReceiving.{HearsSync, HearsNext}
 use Rattle.mobile_core.specs.Timing.{IsTimed}
-use Rattle.mobile_core.specs.TrafficEvents.{frames_behind}
-use Rattle.mobile_core.specs.TrafficMonitoring.{frame_events_left}
+use Rattle.mobile_core.specs.TrafficMonitoring.{traffic_events_left}
 use Rattle.mobile_core.specs.Tuning.{Tuning, sync_stream}
 use Rattle.mobile_core.specs.declared.event.Event.{Event}
 use Rattle.mobile_core.specs.declared.followed.Followed.{Followed}
 use Rattle.mobile_core.specs.declared.mark.Mark.{Mark}
-use Rattle.mobile_core.specs.declared.settings.Traffic.{Traffic}
 use Rattle.mobile_core.specs.declared.sync_receiver.SyncReceiver.{SyncReceiver}
 use Rattle.mobile_core.proofs.ChannelsFollowed.{EndFrom, followed_behind, followed_given}
 use Rattle.mobile_core.proofs.ChannelsFollowed.{followed_more}
@@ -44,6 +42,7 @@ use Rattle.mobile_core.proofs.MarkGrowth.{mark_before_more, mark_before_none, ma
 use Rattle.mobile_core.proofs.MarkLater.{opens_later}
 use Rattle.chip_core.proofs.Ranges.{flat_map-places-more}
 use Rattle.mobile_core.proofs.SyncHeard as sync
+use Rattle.mobile_core.proofs.TrafficGrowth.{told_unset}
 
 or-false : (b : Bool) → (b || false) ≡ b
 or-false true = refl
@@ -74,11 +73,7 @@ unmarked t low timed =
 
 -- and nothing is heard of the channels behind it
 silent : (t : Tuning) → followed_behind t None [] 0 ≡ []
-silent t = frames_unset t.traffic
-  where
-    frames_unset : (followed : Option Traffic) → frames_behind t followed None [] 0 ≡ []
-    frames_unset None = refl
-    frames_unset (Some traffic) = refl
+silent t = told_unset t t.traffic [] 0
 
 first_moment : (t : Tuning) → events_at t [] 0 ≡ events t []
 unfolding events_within
@@ -106,7 +101,7 @@ stands_new t p count check holds hears follows next unset closed =
     ∙ ap (λ (es : List Event). here ++ es) (silent t)
     ∙ append-nil here in
     let pages = ap (paging_events_left t p.sync.mark []) closed.0 in
-    let frames = ap (frame_events_left t p.sync.mark []) closed.1 in
+    let frames = ap (traffic_events_left t p.sync.mark []) closed.1 in
     record {
       count_is = count;
       check_is = check;

@@ -5,6 +5,7 @@ use Rattle.chip_core.specs.Bits.{places}
 use Rattle.chip_core.specs.declared.sample.Sample.{Sample}
 use Rattle.mobile_core.specs.Marks.{mark}
 use Rattle.mobile_core.specs.PagingEvents.{page_event, pages_behind}
+use Rattle.mobile_core.specs.Signaling.{messages_behind}
 use Rattle.mobile_core.specs.SyncEvents.{sync_events_at}
 use Rattle.mobile_core.specs.TrafficEvents.{frames_behind}
 use Rattle.mobile_core.specs.Tuning.{Tuning}
@@ -15,15 +16,21 @@ unfoldable pub paging_events_at : Tuning → List Sample → ℕ → List Event
 paging_events_at t samples n =
     map (page_event n) (pages_behind t t.paging (mark t samples n) samples n)
 
--- those of the traffic channel
+-- those of the traffic channel's frames
 unfoldable pub frame_events_at : Tuning → List Sample → ℕ → List Event
 frame_events_at t samples n = frames_behind t t.traffic (mark t samples n) samples n
 
+-- and of the messages that these frames complete
+unfoldable pub message_events_at : Tuning → List Sample → ℕ → List Event
+message_events_at t samples n = messages_behind t t.traffic (mark t samples n) samples n
+
 -- all that end when just n samples have been taken: those of the sync channel come first, and the
--- traffic channel's frame last
+-- traffic channel's frame and the message that it completes last
 unfoldable pub events_at : Tuning → List Sample → ℕ → List Event
 events_at t samples n =
-    sync_events_at t samples n ++ (paging_events_at t samples n ++ frame_events_at t samples n)
+    sync_events_at t samples n
+    ++ (paging_events_at t samples n
+    ++ (frame_events_at t samples n ++ message_events_at t samples n))
 
 -- the events that end within the first n samples, in order
 unfoldable pub events_within : Tuning → List Sample → ℕ → List Event

@@ -4,8 +4,8 @@ use Rattle.chip_core.specs.declared.sample.Sample.{Sample}
 use Rattle.mobile_core.specs.PagingMonitoring.{HearsPages, IsReceiverDue, IsSoundMonitor, WaitsFrom}
 use Rattle.mobile_core.specs.PagingMonitoring.{due_by, heard_by, paging_events_left}
 use Rattle.mobile_core.specs.TrafficMonitoring.{FramesWaitFrom, HearsFrames, IsFrameDue}
-use Rattle.mobile_core.specs.TrafficMonitoring.{IsSoundTrafficMonitor, frame_events_left}
-use Rattle.mobile_core.specs.TrafficMonitoring.{frames_due_by, frames_heard_by}
+use Rattle.mobile_core.specs.TrafficMonitoring.{IsSoundTrafficMonitor, traffic_events_left}
+use Rattle.mobile_core.specs.TrafficMonitoring.{traffic_due_by, traffic_heard_by}
 use Rattle.mobile_core.specs.Tuning.{Tuning}
 use Rattle.mobile_core.specs.declared.event.Event.{Event}
 use Rattle.mobile_core.specs.declared.followed.Followed.{Followed}
@@ -21,19 +21,20 @@ pub record HearsFollowed (t : Tuning) (f : Followed) (mark : Option Mark)
 abbrev pub followed_events_left : Tuning → Option Mark → List Sample → Followed → List Event
 followed_events_left t mark samples f =
     paging_events_left t mark samples f.paging.receiver
-    ++ frame_events_left t mark samples f.traffic.receiver
+    ++ traffic_events_left t mark samples f.traffic.receiver
 
 -- whether a frame of one of them is known that hasn't been heard whole
 abbrev pub IsFollowedDue : ℕ → Followed → Type 0
 IsFollowedDue count f = IsReceiverDue count f.paging.receiver ⊎ IsFrameDue count f.traffic.receiver
 
--- how much has been heard: bits of the paging channel and frames of the traffic channel
+-- how much has been heard: bits of the paging channel, and frames of the traffic channel and what
+-- they complete
 abbrev pub followed_heard : Followed → ℕ
-followed_heard f = heard_by f.paging.receiver + frames_heard_by f.traffic.receiver
+followed_heard f = heard_by f.paging.receiver + traffic_heard_by f.traffic.receiver
 
 -- how much has come that hasn't been heard
 abbrev pub followed_due : Followed → ℕ
-followed_due f = due_by f.paging.receiver + frames_due_by f.traffic.receiver
+followed_due f = due_by f.paging.receiver + traffic_due_by f.traffic.receiver
 
 -- the frame of each that comes next ends later than so many samples
 pub record WaitFrom (taken : ℕ) (f : Followed) : Type 0 where

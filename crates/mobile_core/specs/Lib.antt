@@ -20,6 +20,7 @@ pub mod PagingReceiving
 pub mod PagingMonitoring
 pub mod TrafficStreams
 pub mod TrafficEvents
+pub mod Signaling
 pub mod TrafficReceiving
 pub mod TrafficMonitoring
 pub mod FollowedChannels

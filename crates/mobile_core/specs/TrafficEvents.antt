@@ -43,8 +43,12 @@ frames_at t traffic m samples n =
     map (frame_heard t traffic m samples n)
     (known_now t.count (traffic_stream t traffic m) n (frames_bound n))
 
--- the same where a channel may be followed, behind a mark that may be set
+-- what is heard where a channel may be followed, behind a mark that may be set
+abbrev pub if_followed : (Traffic → Mark → List Event) → Option Traffic → Option Mark → List Event
+if_followed heard None mark = []
+if_followed heard (Some traffic) None = []
+if_followed heard (Some traffic) (Some m) = heard traffic m
+
 abbrev pub frames_behind : Tuning → Option Traffic → Option Mark → List Sample → ℕ → List Event
-frames_behind t None mark samples n = []
-frames_behind t (Some traffic) None samples n = []
-frames_behind t (Some traffic) (Some m) samples n = frames_at t traffic m samples n
+frames_behind t followed mark samples n =
+    if_followed (λ traffic m. frames_at t traffic m samples n) followed mark

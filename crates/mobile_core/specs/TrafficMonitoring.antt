@@ -1,10 +1,11 @@
 -- What a handset's traffic channel stands for, before it is open and from there on.
-use Rattle.std.specs.Prelude.{◌≡◌, ℕ, ◌-◌, ◌<◌, ◌≤◌, List, [], take, pos, slice_get, Option, Some}
+use Rattle.std.specs.Prelude.{◌≡◌, ℕ, ◌<◌, ◌≤◌, List, [], take, pos, slice_get, Option, Some}
 use Rattle.std.specs.Prelude.{None}
 use Rattle.std.specs.Option.{ForSome}
 use Rattle.chip_core.specs.declared.sample.Sample.{Sample}
-use Rattle.mobile_core.specs.Clocks.{IsDueAt}
-use Rattle.mobile_core.specs.TrafficReceiving.{HearsTraffic, IsSoundTraffic, frames_left_of}
+use Rattle.mobile_core.specs.TrafficEvents.{if_followed}
+use Rattle.mobile_core.specs.TrafficReceiving.{HearsTraffic, IsSoundTraffic, IsTrafficDue}
+use Rattle.mobile_core.specs.TrafficReceiving.{traffic_due, traffic_heard, traffic_left_of}
 use Rattle.mobile_core.specs.Tuning.{Tuning}
 use Rattle.mobile_core.specs.declared.event.Event.{Event}
 use Rattle.mobile_core.specs.declared.mark.Mark.{Mark}
@@ -37,34 +38,33 @@ pub record HearsFrames (t : Tuning) (f : TrafficMonitor) (mark : Option Mark)
   pub traffic_is : f.traffic ≡ t.traffic
   pub phase_is : f.phase ≡ t.phase
   pub deltas_are : take f.near.count f.near.deltas ≡ t.deltas
+  pub check_is : f.check ≡ t.check16
   pub behind : HearsFramesBehind t mark f.receiver heard
 
 -- the events of these samples' end that a receiver has still to give
-abbrev pub frames_left_behind : Tuning → Option Traffic → Option Mark → List Sample →
+abbrev pub traffic_left_behind : Tuning → Option Traffic → Option Mark → List Sample →
     TrafficReceiver → List Event
-frames_left_behind t None mark samples r = []
-frames_left_behind t (Some traffic) None samples r = []
-frames_left_behind t (Some traffic) (Some m) samples r =
-    frames_left_of t traffic m samples r.clock.next
+traffic_left_behind t followed mark samples r =
+    if_followed (λ traffic m. traffic_left_of t traffic m samples r) followed mark
 
-abbrev pub frame_events_left : Tuning → Option Mark → List Sample → Option TrafficReceiver →
+abbrev pub traffic_events_left : Tuning → Option Mark → List Sample → Option TrafficReceiver →
     List Event
-frame_events_left t mark samples None = []
-frame_events_left t mark samples (Some r) = frames_left_behind t t.traffic mark samples r
+traffic_events_left t mark samples None = []
+traffic_events_left t mark samples (Some r) = traffic_left_behind t t.traffic mark samples r
 
--- whether a frame has come that hasn't been heard
+-- whether a message is kept, or a frame has come that hasn't been heard
 abbrev pub IsFrameDue : ℕ → Option TrafficReceiver → Type 0
 IsFrameDue count None = ⊥
-IsFrameDue count (Some r) = IsDueAt count r.clock
+IsFrameDue count (Some r) = IsTrafficDue count r
 
--- how many frames have been heard, and how many have come that haven't been heard
-abbrev pub frames_heard_by : Option TrafficReceiver → ℕ
-frames_heard_by None = 0
-frames_heard_by (Some r) = r.clock.next
+-- how much has been heard, and how much has come that hasn't been heard
+abbrev pub traffic_heard_by : Option TrafficReceiver → ℕ
+traffic_heard_by None = 0
+traffic_heard_by (Some r) = traffic_heard r
 
-abbrev pub frames_due_by : Option TrafficReceiver → ℕ
-frames_due_by None = 0
-frames_due_by (Some r) = r.clock.have - r.clock.next
+abbrev pub traffic_due_by : Option TrafficReceiver → ℕ
+traffic_due_by None = 0
+traffic_due_by (Some r) = traffic_due r
 
 -- the frame that comes next ends later than so many samples
 abbrev pub FramesWaitFrom : ℕ → Option TrafficReceiver → Type 0

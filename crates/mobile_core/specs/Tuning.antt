@@ -13,13 +13,14 @@ use Rattle.mobile_core.specs.declared.settings.Settings.{Settings}
 use Rattle.mobile_core.specs.declared.settings.Traffic.{Traffic}
 
 -- the samples in the file, the best phase, how much earlier than there each finger's samples come,
--- how the checks of 30 bits are sent, the number of the paging channel, and the traffic channel,
--- where one is followed
+-- how the checks of 30 and of 16 bits are sent, the number of the paging channel, and the traffic
+-- channel, where one is followed
 pub record Tuning : Type 0 where
   pub count : ℕ
   pub phase : ℕ
   pub deltas : List ℤ
   pub check30 : CheckForm
+  pub check16 : CheckForm
   pub paging : ℕ
   pub traffic : Option Traffic
 
@@ -31,6 +32,7 @@ tuning_by settings best near =
       phase = best.phase;
       deltas = take near.count near.deltas;
       check30 = settings.check30;
+      check16 = settings.check16;
       paging = settings.paging;
       traffic = settings.traffic;
     }

@@ -1,13 +1,17 @@
 -- A file of 1,228,800 samples whose pilot has phase 64, as the checker computes it.
-use Rattle.std.specs.Prelude.{◌≡◌, refl, ℕ, true, false, List, [], ◌∷◌, replicate, ℤ, pos, negsuc}
-use Rattle.std.specs.Prelude.{Some, None}
+use Rattle.std.specs.Prelude.{◌≡◌, refl, ℕ, Bool, true, false, List, [], ◌∷◌, replicate, ℤ, pos}
+use Rattle.std.specs.Prelude.{negsuc, Some, None}
 use Rattle.chip_core.specs.declared.check_form.CheckForm.TheVariants.{Plain}
+use Rattle.frame_decoder.specs.declared.traffic.Decoded.{Decoded}
+use Rattle.symbol_path.specs.declared.kinds.Rate.TheVariants.{R9600}
 use Rattle.sync_message.specs.declared.fields.SyncFields.{SyncFields}
+use Rattle.traffic_message.specs.Multiplex.{split, split_9600}
 use Rattle.mobile_core.specs.Marks.{marks_of, frames_with}
 use Rattle.mobile_core.specs.Near.{low_of}
 use Rattle.mobile_core.specs.PagingEvents.{pages_behind}
 use Rattle.mobile_core.specs.PagingStreams.{paging_stream}
 use Rattle.mobile_core.specs.Scrambled.{unscrambled}
+use Rattle.mobile_core.specs.Signaling.{messages_behind, signal_of}
 use Rattle.mobile_core.specs.Streams.{is_in_file, known_at, span_frames}
 use Rattle.mobile_core.specs.TrafficEvents.{frames_behind}
 use Rattle.mobile_core.specs.TrafficStreams.{traffic_stream}
@@ -21,6 +25,7 @@ tuned phase deltas = record {
   phase = phase;
   deltas = deltas;
   check30 = Plain;
+  check16 = Plain;
   paging = 1;
   traffic = None;
 }
@@ -162,3 +167,33 @@ no_frame = refl
 unassigned : frames_behind (tuned 64 (pos 0 ∷ [])) None (Some (paged 0)) [] 0 ≡ []
 unfolding tuned paged
 unassigned = refl
+
+unassigned_messages : messages_behind (tuned 64 (pos 0 ∷ [])) None (Some (paged 0)) [] 0 ≡ []
+unfolding tuned paged
+unassigned_messages = refl
+
+-- a frame of 9,600 bits a second, of which MM and TT are told, and all behind them is other traffic
+mixed : Bool → Bool → Bool → Decoded
+mixed good mm tt' = record {
+  rate = R9600;
+  good = good;
+  bits = mm ∷ tt' ∷ true ∷ true ∷ replicate 168 true;
+  score = pos 1;
+}
+
+-- it has signaling where it is good, MM is 1, and TT is 0
+signaling : signal_of (mixed true true false) ≡ Some (replicate 168 true)
+unfolding mixed split split_9600
+signaling = refl
+
+secondary : signal_of (mixed true true true) ≡ None
+unfolding mixed split split_9600
+secondary = refl
+
+primary_alone : signal_of (mixed true false false) ≡ None
+unfolding mixed split split_9600
+primary_alone = refl
+
+not_good : signal_of (mixed false true false) ≡ None
+unfolding mixed split split_9600
+not_good = refl

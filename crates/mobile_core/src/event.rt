@@ -4,6 +4,7 @@ use chip_core::{Bits, Phase};
 use paging_message::PagingMessage;
 use symbol_path::Rate;
 use sync_message::SyncMessage;
+use traffic_message::TrafficMessage;
 
 /// Something that a handset found or heard in the samples.
 #[derive(Clone, Copy, PartialEq, Eq, Debug)]
@@ -45,5 +46,14 @@ pub enum Event {
         bits: Bits,
         /// Its 16 power control bits: 1 where one tells the handset to lower its power.
         commands: [bool; 16],
+    },
+    /// A message of the traffic channel was heard (TIA/EIA-95-B, 7.7.3).
+    Traffic {
+        /// How many samples had been taken when the last frame that carries it ended.
+        at: u64,
+        /// The whole capsule: length, body and check.
+        capsule: Bits,
+        /// The message that the capsule spells.
+        message: TrafficMessage,
     },
 }

@@ -51,11 +51,12 @@ impl Followed {
         ensures sound { IsSoundFollowed result }
         ensures hears { (t : Tuning) (heard : List Sample) → t.paging ≡ settings.now.paging →
             t.traffic ≡ settings.now.traffic → t.phase ≡ phase →
-            t.deltas ≡ take near.count near.deltas → HearsFollowed t result None heard }
+            t.deltas ≡ take near.count near.deltas → t.check16 ≡ settings.now.check16 →
+            HearsFollowed t result None heard }
     {
         Followed {
             paging: PagingMonitor::new(settings.paging, phase, near),
-            traffic: TrafficMonitor::new(settings.traffic, phase, near),
+            traffic: TrafficMonitor::new(settings.traffic, phase, near, settings.check16),
         }
     }
 
@@ -127,7 +128,7 @@ impl Followed {
     }
 
     /// Hears what is due next, the paging channel first: a bit of it, or a frame of the traffic
-    /// channel. Gives the event that this completes at so many samples.
+    /// channel or its message. Gives the event that this completes at so many samples.
     pub(crate) fn hear_next(
         &mut self,
         decoder: &mut Decoder,
@@ -158,6 +159,6 @@ impl Followed {
         if self.paging.is_due(count) {
             return self.paging.hear_bit(decoder, check, at);
         }
-        self.traffic.hear_frame(decoder, at)
+        self.traffic.hear_next(decoder, at)
     }
 }

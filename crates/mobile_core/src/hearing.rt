@@ -1,23 +1,29 @@
-//! What capsules of the sync channel and of a paging channel say, and frames of a traffic channel.
+//! What capsules of the channels say, and frames of a traffic channel.
 
-ghost use Rattle.std.specs.Prelude.{◌≡◌, ◌<◌, ◌≤◌, ◌^◌, [], ◌∷◌, Some, false};
-ghost use Rattle.std.specs.Option.{ForSome, option_or};
+ghost use Rattle.std.specs.Prelude.{◌≡◌, ◌<◌, ◌≤◌, ◌^◌, [], ◌∷◌, ◌++◌, Some, false, Bool, List};
+ghost use Rattle.std.specs.Prelude.{length, IfSome};
+ghost use Rattle.std.specs.Option.{ForSome, option_or, option_to_list};
 ghost use Rattle.mobile_core.specs.Given.{at_of};
 ghost use Rattle.mobile_core.specs.Marks.{first_of, frames_with, marks_of, sets_mark};
 ghost use Rattle.mobile_core.specs.PagingEvents.{page_event, page_in};
+ghost use Rattle.mobile_core.specs.Signaling.{capsule_with, message_events, signal_in, signal_of};
 ghost use Rattle.mobile_core.specs.Sound.{IsSoundMark};
 ghost use Rattle.mobile_core.specs.SyncEvents.{events_of, heard_in};
 ghost use Rattle.mobile_core.specs.TrafficEvents.{frame_event};
+ghost use Rattle.quality_bits.specs.Pieces.{StandsFor};
+ghost use Rattle.symbol_path.specs.TrafficWords.{information_of};
 
 use crate::event::Event;
 use crate::mark::Mark;
 use crate::spelled_message::SpelledMessage;
 use crate::spelled_page::SpelledPage;
+use crate::spelled_signal::SpelledSignal;
 use chip_core::air::{OFFSET_CHIPS, SUPERFRAME_BITS, SUPERFRAME_CHIPS};
 use chip_core::{Bits, CheckForm};
 use frame_decoder::Decoded;
 use paging_message::PagingMessage;
 use sync_message::SyncMessage;
+use traffic_message::{SignalFramer, TrafficMessage, split_frame};
 
 /// A capsule with the message that it spells; `None` where there is none.
 pub(crate) fn message_in(check: CheckForm, capsule: Option<Bits>) -> Option<SpelledMessage>
@@ -40,6 +46,48 @@ pub(crate) fn page_in(check: CheckForm, capsule: Option<Bits>) -> Option<Spelled
         Ok(message) => Some(SpelledPage { capsule, message }),
         Err(_) => None,
     }
+}
+
+/// A capsule of a traffic channel with the message that it spells; `None` where there is none, or
+/// the capsule has a fault.
+fn signal_in(check: CheckForm, capsule: Option<Bits>) -> Option<SpelledSignal>
+    ensures { result ≡ signal_in check capsule }
+{
+    let capsule = capsule?;
+    match TrafficMessage::decode(&capsule, check) {
+        Ok(message) => Some(SpelledSignal { capsule, message }),
+        Err(_) => None,
+    }
+}
+
+/// A frame's signaling, where the frame is good and has any.
+fn signal_of(frame: &Decoded) -> Option<Bits>
+    requires { length frame.now.bits ≡ information_of frame.now.rate }
+    ensures value { result ≡ signal_of frame.now }
+    ensures long { IfSome result (λ signal. 2 ≤ length signal) }
+{
+    if !frame.good {
+        return None;
+    }
+    split_frame(frame.rate, &frame.bits).signal
+}
+
+/// Lets the framer take a frame's signaling, where the frame is good and has any, and gives the
+/// message that this completes.
+pub(crate) fn hear_signal(
+    framer: &mut SignalFramer,
+    frame: &Decoded,
+    check: CheckForm,
+) -> Option<SpelledSignal>
+    requires { length frame.now.bits ≡ information_of frame.now.rate }
+    ensures framed { (signals : List (List Bool)) → StandsFor framer.old signals →
+        StandsFor framer.new (signals ++ option_to_list (signal_of frame.now)) }
+    ensures message { (signals : List (List Bool)) → StandsFor framer.old signals →
+        result ≡ signal_in check (capsule_with signals (signal_of frame.now)) }
+{
+    let signal = signal_of(frame)?;
+    let capsule = framer.push(&signal);
+    signal_in(check, capsule)
 }
 
 /// How many frames the message under way has with one frame more.
@@ -129,5 +177,18 @@ pub(crate) fn frame_event(frame: &Decoded, commands: [bool; 16], at: u64) -> Eve
         good: frame.good,
         bits: frame.bits,
         commands,
+    }
+}
+
+/// The event of a message of the traffic channel when so many samples have been taken.
+pub(crate) fn message_event(heard: &SpelledSignal, at: u64) -> Event
+    ensures value { result ∷ [] ≡ message_events at (Some heard.now) }
+    ensures ends { at_of result ≡ at }
+    ensures unset { sets_mark result ≡ false }
+{
+    Event::Traffic {
+        at,
+        capsule: heard.capsule,
+        message: heard.message,
     }
 }

@@ -17,6 +17,7 @@ mod settings;
 mod softs;
 mod spelled_message;
 mod spelled_page;
+mod spelled_signal;
 mod sync_receiver;
 mod traffic_monitor;
 mod traffic_receiver;

@@ -36,8 +36,9 @@ pub struct Step {
 ///
 /// It decodes each frame of the sync channel together with the frame before it and the frame behind
 /// it, where these lie in the file, and so knows a frame one frame later (TIA/EIA-95-B, 7.7.1).
-/// Where a message sets a mark it follows one paging channel from there on, in the same way (7.7.2),
-/// and a traffic channel where one is assigned, whose frames are known when they end (7.1.3.5).
+/// Where a message sets a mark it follows one paging channel from there on, in the same way
+/// (7.7.2), and a traffic channel where one is assigned, whose frames are known when they end
+/// (7.1.3.5), and with them the messages that they complete (7.7.3).
 #[derive(Drop)]
 pub struct Mobile {
     /// How many samples the file has.

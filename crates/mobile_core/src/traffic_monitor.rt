@@ -4,7 +4,7 @@ use crate::event::Event;
 use crate::mark::Mark;
 use crate::settings::Traffic;
 use crate::traffic_receiver::TrafficReceiver;
-use chip_core::Phase;
+use chip_core::{CheckForm, Phase};
 use pilot_search::Near;
 use rake_finger::SampleRing;
 use short_code::Codes;
@@ -19,6 +19,8 @@ pub(crate) struct TrafficMonitor {
     phase: Phase,
     /// The paths near it.
     near: Near,
+    /// How the checks of its messages are sent.
+    check: CheckForm,
     /// The receiver, where a channel is followed and a mark is set.
     receiver: Option<TrafficReceiver>,
 }
@@ -36,15 +38,20 @@ impl TrafficMonitor {
     ghost use Rattle.mobile_core.specs.Sound.{IsSoundMark};
     ghost use Rattle.mobile_core.specs.TrafficMonitoring.{FramesWaitFrom, HearsFrames, IsFrameDue};
     ghost use Rattle.mobile_core.specs.TrafficMonitoring.{IsSoundAssignment, IsSoundTrafficMonitor};
-    ghost use Rattle.mobile_core.specs.TrafficMonitoring.{frame_events_left, frames_due_by};
-    ghost use Rattle.mobile_core.specs.TrafficMonitoring.{frames_heard_by};
+    ghost use Rattle.mobile_core.specs.TrafficMonitoring.{traffic_events_left, traffic_due_by};
+    ghost use Rattle.mobile_core.specs.TrafficMonitoring.{traffic_heard_by};
     ghost use Rattle.mobile_core.specs.Tuning.{Tuning};
     ghost use Rattle.mobile_core.specs.declared.mark.Mark.{Mark as TheMark};
     ghost use Rattle.rake_finger.specs.Held.{HoldsLast};
 
     /// The monitor of a channel, or of none, before a mark is set, for a base station at a phase
     /// and near it.
-    pub(crate) fn new(traffic: Option<Traffic>, phase: Phase, near: Near) -> TrafficMonitor
+    pub(crate) fn new(
+        traffic: Option<Traffic>,
+        phase: Phase,
+        near: Near,
+        check: CheckForm,
+    ) -> TrafficMonitor
         requires assigned { ForSome traffic IsSoundAssignment }
         requires least { 1 ≤ near.count }
         requires most { near.count ≤ 3 }
@@ -52,13 +59,14 @@ impl TrafficMonitor {
         ensures closed { result.receiver ≡ None }
         ensures sound { IsSoundTrafficMonitor result }
         ensures hears { (t : Tuning) (heard : List Sample) → t.traffic ≡ traffic →
-            t.phase ≡ phase → t.deltas ≡ take near.count near.deltas →
+            t.phase ≡ phase → t.deltas ≡ take near.count near.deltas → t.check16 ≡ check →
             HearsFrames t result None heard }
     {
         TrafficMonitor {
             traffic,
             phase,
             near,
+            check,
             receiver: None,
         }
     }
@@ -74,16 +82,16 @@ impl TrafficMonitor {
         requires waits { FramesWaitFrom taken self.old.receiver }
         ensures sound { IsSoundTrafficMonitor self.new }
         ensures waits { FramesWaitFrom taken self.new.receiver }
-        ensures further { frames_heard_by self.old.receiver ≤ frames_heard_by self.new.receiver }
-        ensures due { frames_due_by self.new.receiver ≤ frames_due_by self.old.receiver }
+        ensures further { traffic_heard_by self.old.receiver ≤ traffic_heard_by self.new.receiver }
+        ensures due { traffic_due_by self.new.receiver ≤ traffic_due_by self.old.receiver }
         ensures hears { (t : Tuning) (before : Option TheMark) (heard : List Sample) →
             taken ≡ length heard → taken ≤ t.count → SetsMark taken before mark →
             HearsFrames t self.old before heard → HearsFrames t self.new mark heard }
         ensures left { (t : Tuning) (before : Option TheMark) (heard : List Sample) →
             taken ≡ length heard → taken ≤ t.count → SetsMark taken before mark →
             HearsFrames t self.old before heard →
-            frame_events_left t mark heard self.new.receiver
-            ≡ frame_events_left t before heard self.old.receiver }
+            traffic_events_left t mark heard self.new.receiver
+            ≡ traffic_events_left t before heard self.old.receiver }
     {
         if self.receiver.is_some() {
             return;
@@ -108,7 +116,8 @@ impl TrafficMonitor {
         }
     }
 
-    /// Whether a frame has come that hasn't been heard, in a file of so many samples.
+    /// Whether a frame has come that hasn't been heard, or a message is kept, in a file of so many
+    /// samples.
     pub(crate) fn is_due(&self, count: u64) -> bool
         requires { IsSoundTrafficMonitor self.now }
         ensures { IsTrue result ↔ IsFrameDue count self.now.receiver }
@@ -128,22 +137,22 @@ impl TrafficMonitor {
         requires ended { ForSome self.old.receiver (λ r. ring.now.taken ≤ r.clock.end) }
         ensures sound { IsSoundTrafficMonitor self.new }
         ensures waits { FramesWaitFrom ring.now.taken self.new.receiver }
-        ensures same { frames_heard_by self.new.receiver ≡ frames_heard_by self.old.receiver }
+        ensures same { traffic_heard_by self.new.receiver ≡ traffic_heard_by self.old.receiver }
         ensures hears { (t : Tuning) (mark : Option TheMark) (heard : List Sample) →
             HoldsLast ring.now heard → ¬ IsFrameDue t.count self.old.receiver →
             HearsFrames t self.old mark heard → HearsFrames t self.new mark heard }
         ensures left { (t : Tuning) (mark : Option TheMark) (heard : List Sample) →
-            frame_events_left t mark heard self.new.receiver
-            ≡ frame_events_left t mark heard self.old.receiver }
+            traffic_events_left t mark heard self.new.receiver
+            ≡ traffic_events_left t mark heard self.old.receiver }
     {
         if let Some(receiver) = &mut self.receiver {
             receiver.take_ended(ring, codes);
         }
     }
 
-    /// Hears the frame that is due, and gives its event at so many samples; `None` where there is
-    /// no receiver.
-    pub(crate) fn hear_frame(&mut self, decoder: &mut Decoder, at: u64) -> Option<Event>
+    /// Hears what is due, and gives its event at so many samples; `None` where there is no
+    /// receiver.
+    pub(crate) fn hear_next(&mut self, decoder: &mut Decoder, at: u64) -> Option<Event>
         requires sound { IsSoundTrafficMonitor self.old }
         requires come { (count : ℕ) × IsFrameDue count self.old.receiver }
         requires room { decoder.old ≡ 576 }
@@ -151,8 +160,8 @@ impl TrafficMonitor {
         ensures kept { decoder.new ≡ decoder.old }
         ensures waits { (n : ℕ) → FramesWaitFrom n self.old.receiver →
             FramesWaitFrom n self.new.receiver }
-        ensures further { frames_heard_by self.old.receiver < frames_heard_by self.new.receiver }
-        ensures nearer { frames_due_by self.new.receiver < frames_due_by self.old.receiver }
+        ensures further { traffic_heard_by self.old.receiver < traffic_heard_by self.new.receiver }
+        ensures nearer { traffic_due_by self.new.receiver < traffic_due_by self.old.receiver }
         ensures ends { IfSome result (λ event. at_of event ≡ at) }
         ensures unset { list_any sets_mark (listed result) ≡ false }
         ensures hears { (t : Tuning) (mark : Option TheMark) (heard : List Sample) →
@@ -161,12 +170,12 @@ impl TrafficMonitor {
         ensures left { (t : Tuning) (mark : Option TheMark) (heard : List Sample) →
             at ≡ length heard → IsFrameDue t.count self.old.receiver →
             HearsFrames t self.old mark heard →
-            listed result ++ frame_events_left t mark heard self.new.receiver
-            ≡ frame_events_left t mark heard self.old.receiver }
+            listed result ++ traffic_events_left t mark heard self.new.receiver
+            ≡ traffic_events_left t mark heard self.old.receiver }
     {
         let Some(receiver) = &mut self.receiver else {
             return None;
         };
-        Some(receiver.hear_frame(decoder, at))
+        Some(receiver.hear_next(decoder, self.check, at))
     }
 }

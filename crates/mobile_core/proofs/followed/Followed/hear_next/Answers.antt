@@ -2,7 +2,7 @@ use Rattle.std.proofs.Common.{◌∙◌, ℕ, ◌++◌, List, sym, ap, subst}
 use Rattle.std.proofs.lemmas.List.{append_assoc}
 use Rattle.mobile_core.specs.Given.{listed}
 use Rattle.mobile_core.specs.PagingMonitoring.{IsReceiverDue, WaitsFrom, paging_events_left}
-use Rattle.mobile_core.specs.TrafficMonitoring.{IsFrameDue, frame_events_left}
+use Rattle.mobile_core.specs.TrafficMonitoring.{IsFrameDue, traffic_events_left}
 use Rattle.mobile_core.specs.declared.event.Event.{Event}
 use Rattle.mobile_core.proofs.ChannelsFollowed.{other_due}
 use Rattle.mobile_core.proofs.PagesFollowed.{pages_given}
@@ -28,12 +28,12 @@ returns-then-is_due-clause-left c = λ t mark heard at' check count st.
     (c.is_due.ensures.0 c.if-is_due.true) in
     let left = c.hear_bit.ensures.left t mark heard at' check due st.paging in
     let later = paging_events_left t mark heard c.hear_bit.new.self.receiver in
-    let others = frame_events_left t mark heard f.traffic.receiver in
+    let others = traffic_events_left t mark heard f.traffic.receiver in
     sym (append_assoc (listed c.hear_bit.result) later others)
     ∙ ap (λ (es : List Event). es ++ others) left
 
-pub hear_frame-requires-clause-come : goal.hear_frame-requires-clause-come
-hear_frame-requires-clause-come c = (
+pub hear_next-requires-clause-come : goal.hear_next-requires-clause-come
+hear_next-requires-clause-come c = (
   c.args.count,
   other_due c.args.count c.args.self.now c.is_due.result c.is_due.ensures
       c.if-is_due.false c.requires.due,
@@ -46,7 +46,7 @@ returns-clause-hears c = λ t mark heard check count st.
     (other_due c.args.count f c.is_due.result c.is_due.ensures c.if-is_due.false c.requires.due) in
     record {
       paging = st.paging;
-      traffic = c.hear_frame.ensures.hears t mark heard due st.traffic;
+      traffic = c.hear_next.ensures.hears t mark heard due st.traffic;
     }
 
 pub returns-clause-left : goal.returns-clause-left
@@ -58,7 +58,7 @@ returns-clause-left c = λ t mark heard at' check count st.
     (λ d. let e = c.is_due.ensures.1 d in let e' = c.if-is_due.false in absurd (cc)) in
     let waits = subst (λ (n : ℕ). WaitsFrom n f.paging.receiver) at' c.requires.waits.paging in
     let quiet = pages_given t mark heard f.paging.receiver st.paging.behind none waits in
-    rw quiet (c.hear_frame.ensures.left t mark heard at' due st.traffic)
+    rw quiet (c.hear_next.ensures.left t mark heard at' due st.traffic)
 
 pub returns-then-is_due-clause-waits : goal.returns-then-is_due-clause-waits
 returns-then-is_due-clause-waits c = record {
@@ -69,5 +69,5 @@ returns-then-is_due-clause-waits c = record {
 pub returns-clause-waits : goal.returns-clause-waits
 returns-clause-waits c = record {
   paging = c.requires.waits.paging;
-  traffic = c.hear_frame.ensures.waits c.args.at c.requires.waits.traffic;
+  traffic = c.hear_next.ensures.waits c.args.at c.requires.waits.traffic;
 }

@@ -1,6 +1,6 @@
 use Rattle.std.proofs.Common.{◌≡◌, ◌∙◌, ◌<◌, rules, Some, None, subst, sym, ap, arith, Option}
 use Rattle.std.proofs.Common.{length}
-use Rattle.mobile_core.specs.TrafficMonitoring.{HearsFrames, frame_events_left}
+use Rattle.mobile_core.specs.TrafficMonitoring.{HearsFrames, traffic_events_left}
 use Rattle.mobile_core.specs.declared.mark.Mark.{Mark}
 use Rattle.mobile_core.proofs.FramesFollowed.{frames_opened, frames_opened_left, frames_with}
 use Rattle.mobile_core.proofs.traffic_monitor.TrafficMonitor.follow.Goals as goal
@@ -42,7 +42,7 @@ returns-then-taken-mark-clause-left c = λ t before heard taken within sets st.
     let begins = c.open-receiver.ensures.begins in
     let ends : length heard < opened.clock.end = omega (arith, taken, early, begins) in
     let left = frames_opened_left t heard traffic m opened (sym st.traffic_is ∙ channel) hears
-    c.open-receiver.ensures.fresh ends in
-    ap (λ (x : Option Mark). frame_events_left t x heard (Some opened)) set
+    c.open-receiver.ensures.fresh c.open-receiver.ensures.empty ends in
+    ap (λ (x : Option Mark). traffic_events_left t x heard (Some opened)) set
     ∙ left
-    ∙ sym (ap (frame_events_left t before heard) none)
+    ∙ sym (ap (traffic_events_left t before heard) none)

@@ -1,4 +1,4 @@
-use Rattle.std.proofs.Common.{◌≡◌, rules, Some, subst}
+use Rattle.std.proofs.Common.{◌≡◌, rules, Some, subst, inr}
 use Rattle.mobile_core.specs.TrafficMonitoring.{IsFrameDue}
 use Rattle.mobile_core.proofs.FramesFollowed.{frames_on}
 use Rattle.mobile_core.proofs.traffic_monitor.TrafficMonitor.take_ended.Goals as goal
@@ -11,4 +11,4 @@ returns-in-Some-clause-hears c = λ t mark heard holds idle st.
     let is : c.args.self.now.receiver ≡ Some c.in-Some.receiver = search rules in
     frames_on st c.in-Some.receiver c.take_ended.new.self is
     (λ traffic m hears. c.take_ended.ensures.stands t traffic m heard holds
-    (subst (λ x. ¬ (IsFrameDue t.count x)) is idle) hears)
+    (λ d. subst (λ x. ¬ (IsFrameDue t.count x)) is idle (inr d)) hears)

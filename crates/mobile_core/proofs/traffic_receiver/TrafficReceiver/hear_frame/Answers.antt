@@ -1,10 +1,6 @@
-use Rattle.std.proofs.Common.{◌∙◌, ℕ, ◌*◌, List, [], ◌∷◌, ◌++◌, ℤ, map, ap}
-use Rattle.chip_core.specs.Bits.{places}
-use Rattle.frame_decoder.specs.TrafficFrames.{command, group_sums}
-use Rattle.long_code.specs.LongCode.{after}
-use Rattle.symbol_path.specs.Scrambling.{power_places, scrambling}
+use Rattle.std.proofs.Common.{◌∙◌, ℕ, ap}
 use Rattle.mobile_core.specs.TrafficEvents.{frame_event}
-use Rattle.mobile_core.proofs.FramesHeard.{hears_heard, left_here}
+use Rattle.mobile_core.proofs.FramesHeard.{framed_here, hears_heard, left_here}
 use Rattle.mobile_core.proofs.traffic_receiver.TrafficReceiver.hear_frame.Goals as goal
 
 pub returns-clause-sound : goal.returns-clause-sound
@@ -24,30 +20,21 @@ returns-clause-sound c =
     })
 
 pub returns-clause-hears : goal.returns-clause-hears
-returns-clause-hears c = λ t traffic m heard d st. rw (c.hear.ensures.value) (hears_heard st d)
+returns-clause-hears c = λ t traffic m heard d st.
+    let frame = c.next_frame-frame.result.0 in
+    let frame_is = c.next_frame-frame.ensures.frame t traffic m heard d st in
+    let framer = c.hear_signal-self.new.framer in
+    rw (c.hear.ensures.value)
+    (hears_heard st framer c.hear_signal-self.result d
+    (framed_here st d frame frame_is framer c.hear_signal-self.ensures.framed))
 
 pub returns-clause-left : goal.returns-clause-left
-returns-clause-left c = λ t traffic m heard at' d st.
-    let r = c.args.self.now in
-    let state : ℕ = r.scrambling.state in
-    let mask : ℕ = r.scrambling.mask in
-    let frame = c.next-frame.ensures in
-    let replaced = c.power_places-replaced.result in
-    let decoded = c.traffic_frame-decoded.result in
-    let heard_bits = c.commands.result in
-    let replaced_is = c.power_places-replaced.ensures.value
-    ∙ ap (λ (n : ℕ). power_places n mask)
-    (c.state_at.ensures ∙ ap (λ (n : ℕ). after state (24576 * n)) frame) in
-    let bits_is = c.frame_bits.ensures.value
-    ∙ ap (λ (n : ℕ). scrambling (after state (24576 * n)) mask) frame in
-    let commands_is = c.commands.ensures
-    ∙ ap (λ (sums : List (List ℤ)). map (command sums) (places 16))
-    (c.push.ensures.value
-    ∙ ap (λ (sums : List (List ℤ)). sums ++ group_sums replaced r.softs ∷ [])
-    c.empty-power.ensures.value) in
-    let event_is = c.frame_event.ensures.value
-    ∙ ap (λ (n : ℕ). frame_event n decoded heard_bits) at' in
+returns-clause-left c = λ t traffic m heard at' check d st.
+    let told = c.next_frame-frame.result in
+    let next = c.next_frame-frame.ensures in
     rw (c.hear.ensures.value)
-    (left_here st d replaced c.frame_bits.result c.unscramble.new.softs decoded heard_bits
-    replaced_is bits_is c.unscramble.ensures.value c.traffic_frame-decoded.ensures.value
-    commands_is c.frame_event.result event_is)
+    (left_here st d told.0 (next.frame t traffic m heard d st) c.frame_event.result told.1
+    c.hear_signal-self.result c.args.check
+    (c.frame_event.ensures.value ∙ ap (λ (n : ℕ). frame_event n told.0 told.1) at')
+    (next.commands t traffic m heard d st) check c.hear_signal-self.ensures.message
+    c.requires.empty)

@@ -46,4 +46,4 @@ returns-clause-hears c = λ t heard phase deltas within early.
     let most : length heard ≤ clock.end = omega (arith, early, starts, ends) in
     let scrambling = c.of_traffic.ensures in
     hears_later t traffic m _ heard near fingers_are clock_is scrambling.state scrambling.mask
-    within most
+    within most c.new-2.ensures
