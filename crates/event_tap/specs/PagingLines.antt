@@ -1,6 +1,5 @@
 -- The lines of the messages of the paging channel, in the style of the lines of events.
-use Rattle.std.specs.Prelude.{ℕ, zero, suc, Bool, List, [], ◌∷◌, ◌++◌, map, codes, decimal}
-use Rattle.std.specs.List.{flat_map}
+use Rattle.std.specs.Prelude.{ℕ, List, [], ◌∷◌, ◌++◌, map, codes, decimal}
 use Rattle.paging_message.specs.System.{system_values}
 use Rattle.paging_message.specs.Widths.{system_names}
 use Rattle.paging_message.specs.declared.fields.ChannelFields.{ChannelFields}
@@ -9,32 +8,12 @@ use Rattle.paging_message.specs.declared.fields.OtherFields.{OtherFields}
 use Rattle.paging_message.specs.declared.fields.SystemFields.{SystemFields}
 use Rattle.paging_message.specs.declared.message.PagingMessage.{PagingMessage}
 use Rattle.paging_message.specs.declared.message.PagingMessage.TheVariants as messages
-use Rattle.line_text.specs.Texts.{bit_text, named}
-
--- items, joined by commas
-unfoldable pub commas : List (List ℕ) → List ℕ
-commas [] = []
-commas (item ∷ items) = item ++ flat_map (λ next. codes "," ++ next) items
-
--- what stands before item i of a list, counted from 0: a comma, unless it is the first
-abbrev pub comma_before : ℕ → List ℕ
-comma_before zero = []
-comma_before (suc i) = codes ","
+use Rattle.line_text.specs.Texts.{bit_text}
+use Rattle.event_tap.specs.Parts.{commas, named_values, rest_text}
 
 -- `paging at=A`, with which each line begins
 abbrev pub paging_start : ℕ → List ℕ
 paging_start place = codes "paging at=" ++ decimal place
-
--- ` rest=BITS` and LF, the end of a line
-abbrev pub rest_text : List Bool → List ℕ
-rest_text bits = codes " rest=" ++ bit_text bits ++ codes "\n"
-
--- values, each behind its name
-unfoldable pub named_values : List (List ℕ) → List ℕ → List ℕ
-named_values [] values = []
-named_values (name ∷ names) [] = []
-named_values (name ∷ names) (value ∷ values) =
-    (named name ++ decimal value) ++ named_values names values
 
 -- a neighbor as `CONFIG/PN`
 abbrev pub neighbor_text : ℕ → ℕ → List ℕ

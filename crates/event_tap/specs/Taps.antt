@@ -2,14 +2,15 @@
 -- writes them, and a number of events that it has left to hear. Contracts see taps as a list of
 -- both.
 use Rattle.std.specs.Prelude.{ℕ, ◌-◌, ◌≤◌, slice_index, nat_eq, Bool, if◌then◌else◌, List, [], ◌∷◌}
-use Rattle.std.specs.Prelude.{◌++◌, map, codes, decimal, Option, None, Some}
+use Rattle.std.specs.Prelude.{◌++◌, map, codes, Option, None, Some}
 use Rattle.std.specs.List.{flat_map}
 use Rattle.mobile_core.specs.declared.event.Event.{Event}
-use Rattle.mobile_core.specs.declared.event.Event.TheVariants.{Pilot, Sync, Paging, Frame}
+use Rattle.mobile_core.specs.declared.event.Event.TheVariants.{Pilot, Sync, Paging, Frame, Traffic}
 use Rattle.event_tap.specs.FrameLines.{frame_line}
 use Rattle.event_tap.specs.Lines.{pilot_line, sync_line}
-use Rattle.line_text.specs.Texts.{bit_text}
 use Rattle.event_tap.specs.PagingLines.{paging_line}
+use Rattle.event_tap.specs.Parts.{capsule_line}
+use Rattle.event_tap.specs.TrafficLines.{traffic_line}
 use Rattle.event_tap.specs.declared.tap.Heard.{Heard}
 use Rattle.event_tap.specs.declared.tap.Heard.TheVariants.{Keep, Done}
 
@@ -24,13 +25,15 @@ kept_of shape left taps = map (λ t. record { form = shape t; left = left t }) t
 
 -- `raw at=A sync BITS` and LF
 abbrev pub raw_line : ℕ → List Bool → List ℕ
-raw_line place capsule =
-    codes "raw at=" ++ decimal place ++ codes " sync " ++ bit_text capsule ++ codes "\n"
+raw_line place capsule = capsule_line (codes " sync ") place capsule
 
 -- `raw at=A paging BITS` and LF
 abbrev pub raw_paging_line : ℕ → List Bool → List ℕ
-raw_paging_line place capsule =
-    codes "raw at=" ++ decimal place ++ codes " paging " ++ bit_text capsule ++ codes "\n"
+raw_paging_line place capsule = capsule_line (codes " paging ") place capsule
+
+-- `raw at=A traffic BITS` and LF
+abbrev pub raw_traffic_line : ℕ → List Bool → List ℕ
+raw_traffic_line place capsule = capsule_line (codes " traffic ") place capsule
 
 -- a message's line in form 1, and its raw line in form 3
 abbrev pub message_line : ℕ → List ℕ → List ℕ → Option (List ℕ)
@@ -48,6 +51,8 @@ form_line form (Paging place capsule message) =
     message_line form (paging_line place message) (raw_paging_line place capsule)
 form_line form (Frame place rate good bits commands) =
     if nat_eq form 2 then Some (frame_line place rate good bits commands) else None
+form_line form (Traffic place capsule message) =
+    message_line form (traffic_line place message) (raw_traffic_line place capsule)
 
 -- the line, or nothing where there is none
 abbrev pub line_text : Option (List ℕ) → List ℕ

@@ -7,8 +7,9 @@ use Rattle.paging_message.specs.System.{system_of}
 use Rattle.paging_message.specs.declared.message.PagingMessage.TheVariants.{Channels, Neighbors}
 use Rattle.paging_message.specs.declared.message.PagingMessage.TheVariants.{Other, System}
 use Rattle.line_text.specs.Texts.{bit_text, octets, padded}
-use Rattle.event_tap.specs.PagingLines.{channel_line, commas, named_values, neighbor_line}
-use Rattle.event_tap.specs.PagingLines.{neighbor_texts, other_line, paging_line, system_line}
+use Rattle.event_tap.specs.PagingLines.{channel_line, neighbor_line, neighbor_texts, other_line}
+use Rattle.event_tap.specs.PagingLines.{paging_line, system_line}
+use Rattle.event_tap.specs.Parts.{commas, named_values}
 use Rattle.event_tap.specs.Taps.{raw_paging_line}
 
 one_channel :

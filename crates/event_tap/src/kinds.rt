@@ -1,12 +1,11 @@
 //! The taps of each form.
 
-ghost use Rattle.std.specs.Prelude.{◌≡◌, []};
-ghost use Rattle.event_tap.specs.Taps.{heard_at, raw_line};
+ghost use Rattle.std.specs.Prelude.{◌≡◌};
+ghost use Rattle.event_tap.specs.Taps.{heard_at};
 
 use crate::line::line_into;
-use crate::paging::append_raw_paging;
+use crate::parts::append_raw;
 use crate::tap::{Heard, Tap};
-use chip_core::Bits;
 use line_text::Text;
 use mobile_core::Event;
 
@@ -46,7 +45,10 @@ impl Tap for PilotTap {
                 line_into(event, out);
                 self.left -= 1;
             }
-            Event::Sync { .. } | Event::Paging { .. } | Event::Frame { .. } => out.clear(),
+            Event::Sync { .. }
+            | Event::Paging { .. }
+            | Event::Frame { .. }
+            | Event::Traffic { .. } => out.clear(),
         }
         heard_of(self.left)
     }
@@ -85,7 +87,7 @@ impl Tap for MessageTap {
     fn hear(&mut self, event: &Event, out: &mut Text) -> Heard {
         match event {
             Event::Pilot { .. } | Event::Frame { .. } => out.clear(),
-            Event::Sync { .. } | Event::Paging { .. } => {
+            Event::Sync { .. } | Event::Paging { .. } | Event::Traffic { .. } => {
                 line_into(event, out);
                 self.left -= 1;
             }
@@ -126,7 +128,10 @@ impl Tap for FrameTap {
     #[tactic(auto, unfolding(crate::specs::EventLines::event_line, crate::specs::Taps::form_line))]
     fn hear(&mut self, event: &Event, out: &mut Text) -> Heard {
         match event {
-            Event::Pilot { .. } | Event::Sync { .. } | Event::Paging { .. } => out.clear(),
+            Event::Pilot { .. }
+            | Event::Sync { .. }
+            | Event::Paging { .. }
+            | Event::Traffic { .. } => out.clear(),
             Event::Frame { .. } => {
                 line_into(event, out);
                 self.left -= 1;
@@ -171,11 +176,15 @@ impl Tap for RawTap {
         match event {
             Event::Pilot { .. } | Event::Frame { .. } => {}
             Event::Sync { at, capsule, .. } => {
-                append_raw(out, *at, capsule);
+                append_raw(out, " sync ", *at, capsule);
                 self.left -= 1;
             }
             Event::Paging { at, capsule, .. } => {
-                append_raw_paging(out, *at, capsule);
+                append_raw(out, " paging ", *at, capsule);
+                self.left -= 1;
+            }
+            Event::Traffic { at, capsule, .. } => {
+                append_raw(out, " traffic ", *at, capsule);
                 self.left -= 1;
             }
         }
@@ -188,15 +197,4 @@ fn heard_of(left: u32) -> Heard
     ensures { result ≡ heard_at left }
 {
     if left == 0 { Heard::Done } else { Heard::Keep }
-}
-
-/// Adds the line of a sync message's capsule to the empty text.
-fn append_raw(text: &mut Text, at: u64, capsule: &Bits)
-    requires { text.old ≡ [] }
-    ensures value { text.new ≡ raw_line at capsule.now }
-{
-    text.append_named("raw at=", at);
-    text.append_word(" sync ");
-    text.append_bits(capsule);
-    text.append_word("\n");
 }

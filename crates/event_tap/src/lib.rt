@@ -15,6 +15,7 @@ mod line;
 mod paging;
 #[cfg(test)]
 mod paging_tests;
+mod parts;
 mod sync;
 mod tap;
 #[cfg(test)]
@@ -22,6 +23,9 @@ mod tap_tests;
 mod taps;
 #[cfg(test)]
 mod tests;
+mod traffic;
+#[cfg(test)]
+mod traffic_tests;
 mod writing;
 
 pub use kinds::{FrameTap, MessageTap, PilotTap, RawTap};

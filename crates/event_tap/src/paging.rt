@@ -1,20 +1,18 @@
 //! The lines of messages of the paging channel.
 
-ghost use Rattle.std.specs.Prelude.{◌≡◌, ◌<◌, ◌≤◌, ◌+◌, ◌*◌, ◌^◌};
-ghost use Rattle.std.specs.Prelude.{[], ◌++◌, length, map, codes, decimal};
+ghost use Rattle.std.specs.Prelude.{◌≡◌, ◌<◌, ◌≤◌, ◌+◌, ◌*◌, ◌^◌, [], ◌++◌, length};
 ghost use Rattle.chip_core.specs.Fields.{FieldsFit};
 ghost use Rattle.event_tap.specs.PagingLines.{channel_line, neighbor_line, other_line, system_line};
-ghost use Rattle.event_tap.specs.PagingLines.{commas, comma_before, named_values, neighbor_texts};
-ghost use Rattle.event_tap.specs.PagingLines.{neighbor_text, paging_line, rest_text};
-ghost use Rattle.event_tap.specs.Taps.{raw_paging_line};
-ghost use Rattle.paging_message.specs.Channels.{channel_records, IsChannelList};
+ghost use Rattle.event_tap.specs.PagingLines.{neighbor_text, neighbor_texts, paging_line};
+ghost use Rattle.event_tap.specs.Parts.{commas};
+ghost use Rattle.paging_message.specs.Channels.{IsChannelList};
 ghost use Rattle.paging_message.specs.Neighbors.{neighbor_records, IsNeighborList};
-ghost use Rattle.paging_message.specs.Widths.{in_widths, system_widths, system_names};
 
-use chip_core::{Bits, Numbers};
+use crate::parts::{append_comma, append_numbers, append_rest, append_values};
+use chip_core::Numbers;
 use line_text::Text;
 use paging_message::{
-    ChannelFields, NeighborFields, OtherFields, PagingMessage, SystemParameters, system_name,
+    ChannelFields, NeighborFields, OtherFields, PagingMessage, SYSTEM_FIELDS, SystemParameters,
 };
 
 /// Adds the line of a message to the empty text, LF at its end. No line is longer than 1,024 bytes.
@@ -34,20 +32,8 @@ pub(crate) fn append_paging(text: &mut Text, at: u64, message: &PagingMessage)
     }
 }
 
-/// Adds the line of a message's capsule, as it came, to the empty text.
-pub(crate) fn append_raw_paging(text: &mut Text, at: u64, capsule: &Bits)
-    requires { text.old ≡ [] }
-    ensures value { text.new ≡ raw_paging_line at capsule.now }
-    ensures most { length text.new ≤ 1024 }
-{
-    text.append_named("raw at=", at);
-    text.append_word(" paging ");
-    text.append_bits(capsule);
-    text.append_word("\n");
-}
-
 /// Adds the line of a System Parameters Message to the empty text.
-#[tactic(auto, unfolding(crate::specs::PagingLines::system_line))]
+#[tactic(auto, unfolding(crate::specs::PagingLines::system_line, crate::specs::Parts::are_short))]
 fn append_system(text: &mut Text, at: u64, message: &SystemParameters)
     requires { text.old ≡ [] }
     ensures value { text.new ≡ system_line at message.now }
@@ -56,21 +42,8 @@ fn append_system(text: &mut Text, at: u64, message: &SystemParameters)
     let fields = message.fields();
     text.append_named("paging at=", at);
     text.append_word(" system");
-    append_values(text, &message.values());
+    append_values(text, &SYSTEM_FIELDS, &message.values());
     append_rest(text, &fields.rest);
-}
-
-/// Adds the values of the fields of a System Parameters Message, each behind its name.
-fn append_values(text: &mut Text, values: &[u64; 37])
-    requires fit { FieldsFit (in_widths system_widths values.now) }
-    requires room { length text.old + 605 ≤ 1024 }
-    ensures value { text.new ≡ text.old ++ named_values system_names values.now }
-    ensures len { length text.new ≤ length text.old + 592 }
-{
-    for i in 0..37usize {
-        text.append_name(system_name(i).as_bytes());
-        text.append_short(values[i]);
-    }
 }
 
 /// Adds the line of a Neighbor List Message to the empty text.
@@ -129,21 +102,8 @@ fn append_channels(text: &mut Text, at: u64, fields: &ChannelFields)
     text.append_named(" channels pn=", fields.pn);
     text.append_named(" seq=", fields.seq);
     text.append_word(" freqs=");
-    append_freqs(text, &fields.freqs);
+    append_numbers(text, &fields.freqs);
     append_rest(text, &fields.rest);
-}
-
-/// Adds frequencies, each of 11 bits, joined by commas.
-fn append_freqs(text: &mut Text, freqs: &Numbers)
-    requires fit { FieldsFit (channel_records freqs.now) }
-    requires room { length text.old + 5 * length freqs.now + 21 ≤ 1024 }
-    ensures value { text.new ≡ text.old ++ commas (map decimal freqs.now) }
-    ensures len { length text.new ≤ length text.old + 5 * length freqs.now }
-{
-    for i in 0..freqs.len() {
-        append_comma(text, i);
-        text.append_short(u64::from(freqs.get(i)));
-    }
 }
 
 /// Adds the line of a message of another type to the empty text.
@@ -157,27 +117,5 @@ fn append_other(text: &mut Text, at: u64, fields: &OtherFields)
     text.append_named(" other type=", fields.kind);
     text.append_word(" bits=");
     text.append_bits(&fields.bits);
-    text.append_word("\n");
-}
-
-/// Adds the comma before item `i` of a list, counted from 0; the first has none.
-fn append_comma(text: &mut Text, i: u8)
-    requires room { length text.old + 1 ≤ 1024 }
-    ensures value { text.new ≡ text.old ++ comma_before i }
-    ensures len { length text.new ≤ length text.old + 1 }
-{
-    if i > 0 {
-        text.append_word(",");
-    }
-}
-
-/// Adds the bits that are left behind a message's fields, and the end of the line.
-fn append_rest(text: &mut Text, rest: &Bits)
-    requires room { length text.old + 309 ≤ 1024 }
-    ensures value { text.new ≡ text.old ++ rest_text rest.now }
-    ensures len { length text.new ≤ length text.old + 309 }
-{
-    text.append_word(" rest=");
-    text.append_bits(rest);
     text.append_word("\n");
 }

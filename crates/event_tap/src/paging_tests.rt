@@ -1,20 +1,21 @@
 //! Whole lines of paging messages, as they stand in the tables of lines.
 
 use crate::Text;
-use crate::paging::{append_paging, append_raw_paging};
+use crate::paging::append_paging;
+use crate::parts::append_raw;
 use chip_core::Bits;
 use paging_message::PagingMessage;
 use std::test::Fail;
 
 /// Adds a value's bits, the highest first.
-fn add(body: &mut Bits, width: u8, value: u64) {
+pub(crate) fn add(body: &mut Bits, width: u8, value: u64) {
     for i in 0..width {
         let _ = body.push(value >> ((width - 1 - i) % 64) & 1 == 1);
     }
 }
 
 /// The bits that spell these values, each in its width.
-fn body_of(values: &[(u8, u64)]) -> Bits {
+pub(crate) fn body_of(values: &[(u8, u64)]) -> Bits {
     let mut body = Bits::empty();
     for (width, value) in values {
         add(&mut body, *width, *value);
@@ -40,7 +41,7 @@ fn add_bytes(text: &mut Text, bytes: &[u8]) {
 }
 
 /// A front, so many copies of a piece, and an end.
-fn long_line(front: &[u8], piece: &[u8], copies: u16, end: &[u8]) -> Text {
+pub(crate) fn long_line(front: &[u8], piece: &[u8], copies: u16, end: &[u8]) -> Text {
     let mut text = Text::empty();
     add_bytes(&mut text, front);
     for _ in 0..copies {
@@ -270,7 +271,12 @@ fn lines_of_other_messages(rt: HostRuntime) -> Result<(), Fail> {
 #[test]
 fn raw_lines(rt: HostRuntime) -> Result<(), Fail> {
     let mut text = Text::empty();
-    append_raw_paging(&mut text, 737280, &body_of(&[(40, 0x09_04ff_8046)]));
+    append_raw(
+        &mut text,
+        " paging ",
+        737280,
+        &body_of(&[(40, 0x09_04ff_8046)]),
+    );
     assert_eq!(rt;
         text.bytes(),
         b"raw at=737280 paging 40:0904ff8046\n".as_slice()

@@ -54,7 +54,7 @@ impl Tap for CountingTap {
     fn hear(&mut self, event: &Event, out: &mut Text) -> Heard {
         match event {
             Event::Pilot { .. } | Event::Frame { .. } => out.clear(),
-            Event::Sync { .. } | Event::Paging { .. } => {
+            Event::Sync { .. } | Event::Paging { .. } | Event::Traffic { .. } => {
                 line_into(event, out);
                 self.heard += 1;
             }

@@ -1,9 +1,9 @@
 use Rattle.std.proofs.Common.{length, ap, arith}
-use Rattle.event_tap.proofs.PagingTexts.{freqs-most}
+use Rattle.event_tap.proofs.PagingTexts.{freqs-few, freqs-most}
 use Rattle.event_tap.proofs.paging.append_channels.Goals as goal
 
-pub append_freqs-requires-clause-room : goal.append_freqs-requires-clause-room
-append_freqs-requires-clause-room c =
+pub append_numbers-requires-clause-room : goal.append_numbers-requires-clause-room
+append_numbers-requires-clause-room c =
     omega (
       arith,
       ap length c.requires.empty,
@@ -23,7 +23,7 @@ append_rest-requires c =
       c.append_named-2.ensures.len,
       c.append_named-3.ensures.len,
       c.append_word.ensures.len,
-      c.append_freqs.ensures.len,
+      c.append_numbers.ensures.len,
       freqs-most c.args.fields.now c.requires.is,
     )
 
@@ -36,7 +36,10 @@ returns-clause-most c =
       c.append_named-2.ensures.len,
       c.append_named-3.ensures.len,
       c.append_word.ensures.len,
-      c.append_freqs.ensures.len,
+      c.append_numbers.ensures.len,
       c.append_rest.ensures.len,
       freqs-most c.args.fields.now c.requires.is,
     )
+
+pub append_numbers-requires-clause-few : goal.append_numbers-requires-clause-few
+append_numbers-requires-clause-few c = freqs-few c.args.fields.now c.requires.is

@@ -1,9 +1,10 @@
 use Rattle.std.proofs.Common.{◌≡◌, ◌<◌, ◌++◌, length, get_or, take, sym, ap, ◌∙◌, arith}
 use Rattle.std.proofs.lemmas.Option.{get_or_from_slice_get}
 use Rattle.paging_message.proofs.Records.{neighbor_fit_at}
-use Rattle.event_tap.specs.PagingLines.{commas, neighbor_text, neighbor_texts}
-use Rattle.event_tap.proofs.PagingTexts.{comma_item, length-neighbor_texts, no_items}
-use Rattle.event_tap.proofs.PagingTexts.{neighbor_texts-more}
+use Rattle.event_tap.specs.PagingLines.{neighbor_text, neighbor_texts}
+use Rattle.event_tap.specs.Parts.{commas}
+use Rattle.event_tap.proofs.PagingTexts.{length-neighbor_texts, neighbor_texts-more}
+use Rattle.event_tap.proofs.PartTexts.{comma_item, no_items}
 use Rattle.event_tap.proofs.paging.append_pilots.Goals as goal
 
 pub loop-i-init : goal.loop-i-init

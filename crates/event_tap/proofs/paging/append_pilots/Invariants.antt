@@ -1,5 +1,6 @@
 use Rattle.std.proofs.Common.{◌≡◌, ◌≤◌, ◌+◌, ◌*◌, ◌++◌, length, take}
-use Rattle.event_tap.specs.PagingLines.{commas, neighbor_texts}
+use Rattle.event_tap.specs.PagingLines.{neighbor_texts}
+use Rattle.event_tap.specs.Parts.{commas}
 use Rattle.event_tap.proofs.paging.append_pilots.Given as goal
 
 abbrev pub invariant-loop-i : goal.invariant-loop-i

@@ -1,0 +1,39 @@
+-- What lines of messages have in common: values behind their names, items joined by commas, the
+-- bits at the end of a line, and the lines of capsules as they came.
+use Rattle.std.specs.Prelude.{ℕ, zero, suc, ◌^◌, ◌&&◌, Bool, List, [], ◌∷◌, ◌++◌, length}
+use Rattle.std.specs.Prelude.{codes, decimal, nat_lt}
+use Rattle.std.specs.List.{flat_map, list_all}
+use Rattle.line_text.specs.Texts.{bit_text, named}
+
+-- items, joined by commas
+unfoldable pub commas : List (List ℕ) → List ℕ
+commas [] = []
+commas (item ∷ items) = item ++ flat_map (λ next. codes "," ++ next) items
+
+-- what stands before item i of a list, counted from 0: a comma, unless it is the first
+abbrev pub comma_before : ℕ → List ℕ
+comma_before zero = []
+comma_before (suc i) = codes ","
+
+-- ` rest=BITS` and LF, the end of a line
+abbrev pub rest_text : List Bool → List ℕ
+rest_text bits = codes " rest=" ++ bit_text bits ++ codes "\n"
+
+-- values, each behind its name
+unfoldable pub named_values : List (List ℕ) → List ℕ → List ℕ
+named_values [] values = []
+named_values (name ∷ names) [] = []
+named_values (name ∷ names) (value ∷ values) =
+    (named name ++ decimal value) ++ named_values names values
+
+-- whether each name is of at most seven ASCII bytes, and fields of these widths have values of at
+-- most seven digits
+unfoldable pub are_short : List (List ℕ) → List ℕ → Bool
+are_short names widths =
+    list_all (λ name. list_all (λ byte. nat_lt byte 128) name && nat_lt (length name) 8) names
+    && list_all (λ width. nat_lt (2 ^ width) (10 ^ 7)) widths
+
+-- `raw at=A CHANNEL BITS` and LF
+abbrev pub capsule_line : List ℕ → ℕ → List Bool → List ℕ
+capsule_line channel place capsule =
+    codes "raw at=" ++ decimal place ++ channel ++ bit_text capsule ++ codes "\n"

@@ -1,0 +1,122 @@
+//! What the lines of messages have in common.
+
+ghost use Rattle.std.specs.Prelude.{◌≡◌, ◌<◌, ◌≤◌, ◌+◌, ◌*◌, ◌^◌, true};
+ghost use Rattle.std.specs.Prelude.{[], ◌++◌, length, get_or, map, decimal, All, IsAscii};
+ghost use Rattle.chip_core.specs.Fields.{FieldsFit, in_widths};
+ghost use Rattle.event_tap.specs.Parts.{are_short, capsule_line, commas, comma_before};
+ghost use Rattle.event_tap.specs.Parts.{named_values, rest_text};
+ghost use Rattle.line_text.specs.Texts.{bit_text, named};
+
+use chip_core::{Bits, Numbers};
+use line_text::Text;
+
+/// Adds the values of a message's fields, each behind its name in the table.
+pub(crate) fn append_values(text: &mut Text, table: &[(&'static str, u8)], values: &[u64])
+    requires all { length values.now ≡ length table.now }
+    requires short { are_short (map (λ row. row.0.now) table.now) (map (λ row. row.1) table.now)
+        ≡ true }
+    requires fit { FieldsFit (in_widths (map (λ row. row.1) table.now) values.now) }
+    requires room { length text.old + 16 * length table.now + 13 ≤ 1024 }
+    ensures value { text.new ≡ text.old ++ named_values (map (λ row. row.0.now) table.now)
+        values.now }
+    ensures len { length text.new ≤ length text.old + 16 * length table.now }
+{
+    for i in 0..table.len() {
+        append_value(text, name_in(table, i), values[i]);
+    }
+}
+
+/// The name in row `i` of a table.
+fn name_in(table: &[(&'static str, u8)], i: usize) -> &'static str
+    requires { i < length table.now }
+    ensures { result.now ≡ get_or (map (λ row. row.0.now) table.now) i [] }
+{
+    table[i].0
+}
+
+/// Adds a value of at most seven digits behind a name of at most seven bytes.
+fn append_value(text: &mut Text, name: &str, value: u64)
+    requires ascii { IsAscii name.now }
+    requires short { length name.now ≤ 7 }
+    requires few { value < 10 ^ 7 }
+    requires room { length text.old + 29 ≤ 1024 }
+    ensures value { text.new ≡ text.old ++ (named name.now ++ decimal value) }
+    ensures len { length text.new ≤ length text.old + 16 }
+{
+    text.append_name(name.as_bytes());
+    text.append_short(value);
+}
+
+/// Adds numbers of at most four digits, joined by commas.
+pub(crate) fn append_numbers(text: &mut Text, numbers: &Numbers)
+    requires few { All (λ n. n < 10 ^ 4) numbers.now }
+    requires room { length text.old + 5 * length numbers.now + 21 ≤ 1024 }
+    ensures value { text.new ≡ text.old ++ commas (map decimal numbers.now) }
+    ensures len { length text.new ≤ length text.old + 5 * length numbers.now }
+{
+    for i in 0..numbers.len() {
+        append_comma(text, i);
+        text.append_short(u64::from(numbers.get(i)));
+    }
+}
+
+/// Adds the comma before item `i` of a list, counted from 0; the first has none.
+pub(crate) fn append_comma(text: &mut Text, i: u8)
+    requires room { length text.old + 1 ≤ 1024 }
+    ensures value { text.new ≡ text.old ++ comma_before i }
+    ensures len { length text.new ≤ length text.old + 1 }
+{
+    if i > 0 {
+        text.append_word(",");
+    }
+}
+
+/// Adds the bits that are left behind a message's fields, and the end of the line.
+pub(crate) fn append_rest(text: &mut Text, rest: &Bits)
+    requires room { length text.old + 309 ≤ 1024 }
+    ensures value { text.new ≡ text.old ++ rest_text rest.now }
+    ensures len { length text.new ≤ length text.old + 309 }
+{
+    text.append_word(" rest=");
+    text.append_bits(rest);
+    text.append_word("\n");
+}
+
+/// Adds at most seven bits that are left behind a message's fields, and the end of the line.
+pub(crate) fn append_few_rest(text: &mut Text, rest: &Bits)
+    requires few { length rest.now ≤ 7 }
+    requires room { length text.old + 24 ≤ 1024 }
+    ensures value { text.new ≡ text.old ++ rest_text rest.now }
+    ensures len { length text.new ≤ length text.old + 24 }
+{
+    text.append_word(" rest=");
+    append_few_bits(text, rest);
+    text.append_word("\n");
+}
+
+/// Adds the text of at most 56 bits, where the text is known to have room for that of 56.
+pub(crate) fn append_few_bits(text: &mut Text, bits: &Bits)
+    requires few { length bits.now ≤ 56 }
+    requires room { length text.old + 17 ≤ 1024 }
+    ensures value { text.new ≡ text.old ++ bit_text bits.now }
+    ensures len { length text.new ≤ length text.old + 17 }
+{
+    let mut alone = Text::empty();
+    alone.append_bits(bits);
+    text.append(alone.bytes());
+}
+
+/// Adds the line of a message's capsule, as it came, to the empty text. `channel` is the name of
+/// its channel, with a space before and behind it.
+pub(crate) fn append_raw(text: &mut Text, channel: &str, at: u64, capsule: &Bits)
+    requires empty { text.old ≡ [] }
+    requires ascii { IsAscii channel.now }
+    requires short { length channel.now ≤ 9 }
+    ensures value { text.new ≡ capsule_line channel.now at capsule.now }
+    ensures most { length text.new ≤ 1024 }
+{
+    text.append_named("raw at=", at);
+    text.append_word(channel);
+    text.append_bits(capsule);
+    text.append_word("\n");
+}
