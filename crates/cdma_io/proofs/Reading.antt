@@ -9,7 +9,7 @@ use borrow.Rule.Slice.PartMut.{put_mid}
 use Rattle.chip_core.specs.declared.sample.Sample.{Sample}
 use Rattle.cdma_io.specs.declared.file_fault.FileFault.{FileFault}
 use Rattle.cdma_io.specs.declared.file_fault.FileFault.TheVariants.{Magic, Version, Flags, Count, Short, Extra, ReadFault, TooFew}
-use Rattle.cdma_io.specs.Outside.{ConsumesAtMost}
+use Rattle.cdma_io.specs.Outside.{ConsumesAtMost, ConsumesFewer}
 use Rattle.cdma_io.specs.declared.width.Width.{Width}
 use Rattle.cdma_io.specs.SampleFile.{CutsShort, HasBits, sample_len, sample_spelling}
 use Rattle.cdma_io.proofs.Moves.{filled_more}
@@ -30,13 +30,13 @@ samples_taken width old new samples most few read = record {
   consumed = read;
 }
 
--- samples that were read, and then a piece of which some bytes were
-pub samples_taken_more : (width : Width) (old mid new : Option (List ℕ)) (samples : List Sample)
+-- samples that were read, and then a piece of which not all bytes were
+pub samples_taken_fewer : (width : Width) (old mid new : Option (List ℕ)) (samples : List Sample)
     (count most : ℕ) → length samples + count ≤ most →
     Consumes old mid (flat_map (sample_spelling width) samples) →
-    ConsumesAtMost (sample_len width * count) mid new →
-    ConsumesAtMost (sample_len width * most) old new
-samples_taken_more width old mid new samples count most few read more = record {
+    ConsumesFewer (sample_len width * count) mid new →
+    ConsumesFewer (sample_len width * most) old new
+samples_taken_fewer width old mid new samples count most few read more = record {
   bytes = flat_map (sample_spelling width) samples ++ more.bytes;
   fits = omega (
     arith,
@@ -48,6 +48,15 @@ samples_taken_more width old mid new samples count most few read more = record {
   consumed =
       Consumes-trans old mid new (flat_map (sample_spelling width) samples) more.bytes read
       more.consumed;
+}
+
+-- fewer is at most
+pub fewer_at_most : (limit : ℕ) (old new : Option (List ℕ)) → ConsumesFewer limit old new →
+    ConsumesAtMost limit old new
+fewer_at_most limit old new fewer = record {
+  bytes = fewer.bytes;
+  fits = omega (arith, fewer.fits);
+  consumed = fewer.consumed;
 }
 
 -- a piece was cut short, and so is the whole

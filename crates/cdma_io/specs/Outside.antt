@@ -31,6 +31,12 @@ pub record ConsumesAtMost (most : ℕ) (old new : Option (List ℕ)) : Type 0 wh
   pub fits : length bytes ≤ most
   pub consumed : Consumes old new bytes
 
+-- or fewer
+pub record ConsumesFewer (limit : ℕ) (old new : Option (List ℕ)) : Type 0 where
+  pub bytes : List ℕ
+  pub fits : length bytes < limit
+  pub consumed : Consumes old new bytes
+
 -- known bytes grew by the first so many of a list
 pub record AppendsPrefix (old new : Option (List ℕ)) (all : List ℕ) : Type 0 where
   pub count : ℕ

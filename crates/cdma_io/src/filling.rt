@@ -1,8 +1,8 @@
 //! Filling a whole buffer from a source.
 
-ghost use Rattle.std.specs.Prelude.{◌≤◌, ◌<◌, take, length, IfOk};
+ghost use Rattle.std.specs.Prelude.{◌≤◌, ◌<◌, take, length, IfOk, OnErr};
 ghost use Rattle.std.specs.Io.KnownBytes.{Consumes, IsAtEnd};
-ghost use Rattle.cdma_io.specs.Outside.{ConsumesAtMost, HasCause};
+ghost use Rattle.cdma_io.specs.Outside.{ConsumesAtMost, ConsumesFewer, HasCause};
 
 use crate::source::{Failed, Source};
 
@@ -16,6 +16,8 @@ pub fn fill<S: Source>(source: &mut S, buf: &mut [u8]) -> Result<usize, Failed>
         (take n buf.new)) }
     ensures ends { IfOk result (λ n. n < length buf.new → IsAtEnd (S.rest source.new)) }
     ensures taken { ConsumesAtMost (length buf.old) (S.rest source.old) (S.rest source.new) }
+    ensures fewer { OnErr result
+        (ConsumesFewer (length buf.old) (S.rest source.old) (S.rest source.new)) }
     ensures cause { HasCause (S.faults source.old) (S.faults source.new) result }
 {
     let mut filled = 0;

@@ -3,7 +3,7 @@
 ghost use Rattle.std.specs.Prelude.{◌≡◌, ◌<◌, ◌≤◌, ◌+◌, ◌*◌, ◌-◌, min, length, take, drop, All, IfOk, OnOk, IfErr, OnErr, IfSome, IsSome, IsNone, Err};
 ghost use Rattle.std.specs.List.{flat_map};
 ghost use Rattle.std.specs.Io.KnownBytes.{Consumes, IsAtEnd, Keeps};
-ghost use Rattle.cdma_io.specs.Outside.{ConsumesAtMost, Rose};
+ghost use Rattle.cdma_io.specs.Outside.{ConsumesAtMost, ConsumesFewer, Rose};
 ghost use Rattle.cdma_io.specs.SampleFile.{CutsShort, HasBits, IsLawfulHeader, Opens, Reading, RunsOn, faulted, fresh_reading, header_spelling, next_place, opening, sample_len, sample_spelling, width_of};
 
 use crate::file_fault::FileFault;
@@ -108,6 +108,9 @@ impl SampleReader {
             (S.rest source.old) (S.rest source.new)) }
         ensures taken { ConsumesAtMost (sample_len (width_of self.old.header) * min (length out.old) self.old.left)
             (S.rest source.old) (S.rest source.new) }
+        ensures fewer { OnErr result (IsNone self.old.fault →
+            ConsumesFewer (sample_len (width_of self.old.header) * min (length out.old) self.old.left)
+            (S.rest source.old) (S.rest source.new)) }
 
         ensures later { S.faults source.old ≤ S.faults source.new }
         ensures cause { IsNone self.old.fault → result ≡ Err FileFault.ReadFault →

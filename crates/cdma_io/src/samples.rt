@@ -3,7 +3,7 @@
 ghost use Rattle.std.specs.Prelude.{◌≡◌, ◌<◌, ◌≤◌, ◌+◌, ◌*◌, ◌^◌, length, All, OnOk, OnErr, IfErr, Err};
 ghost use Rattle.std.specs.List.{flat_map};
 ghost use Rattle.std.specs.Io.KnownBytes.{Consumes};
-ghost use Rattle.cdma_io.specs.Outside.{ConsumesAtMost, Rose};
+ghost use Rattle.cdma_io.specs.Outside.{ConsumesAtMost, ConsumesFewer, Rose};
 ghost use Rattle.cdma_io.specs.SampleFile.{CutsShort, HasBits, sample_len, sample_spelling};
 
 use crate::file_fault::FileFault;
@@ -82,6 +82,8 @@ fn read_piece<S: Source>(
         (S.rest source.old) (S.rest source.new)) }
     ensures taken { ConsumesAtMost (sample_len width * length out.old)
         (S.rest source.old) (S.rest source.new) }
+    ensures fewer { OnErr result (ConsumesFewer (sample_len width * length out.old)
+        (S.rest source.old) (S.rest source.new)) }
     ensures later { S.faults source.old ≤ S.faults source.new }
     ensures cause { result ≡ Err FileFault.ReadFault →
         Rose (S.faults source.old) (S.faults source.new) }
@@ -113,6 +115,8 @@ pub fn read_samples<S: Source>(
         (S.rest source.old) (S.rest source.new)) }
     ensures taken { ConsumesAtMost (sample_len width * length out.old)
         (S.rest source.old) (S.rest source.new) }
+    ensures fewer { OnErr result (ConsumesFewer (sample_len width * length out.old)
+        (S.rest source.old) (S.rest source.new)) }
     ensures later { S.faults source.old ≤ S.faults source.new }
     ensures cause { result ≡ Err FileFault.ReadFault →
         Rose (S.faults source.old) (S.faults source.new) }

@@ -3,7 +3,7 @@ use Rattle.cdma_io.specs.SampleFile.{sample_len}
 use Rattle.std.proofs.lemmas.List.{length-take-le}
 use Rattle.std.proofs.lemmas.Slice.{overwrites}
 use Rattle.std.proofs.lemmas.Result.{err_from_is_err_and}
-use Rattle.cdma_io.proofs.Reading.{cuts_short_whole, pieces_in_range, pieces_more, samples_taken, samples_taken_more}
+use Rattle.cdma_io.proofs.Reading.{cuts_short_whole, pieces_in_range, pieces_more, samples_taken, samples_taken_fewer, fewer_at_most}
 use Rattle.cdma_io.proofs.samples.read_samples.Goals as goal
 
 pub returns-in_err-read_piece-clause-fault : goal.returns-in_err-read_piece-clause-fault
@@ -26,8 +26,8 @@ returns-in_err-read_piece-clause-fault g c =
     (length (take (done + count - done) (drop done out))) _ _ _ few here inv.taken
     c.in_err-read_piece.ensures.fault)
 
-pub returns-in_err-read_piece-clause-taken : goal.returns-in_err-read_piece-clause-taken
-returns-in_err-read_piece-clause-taken g c =
+pub returns-in_err-read_piece-clause-fewer : goal.returns-in_err-read_piece-clause-fewer
+returns-in_err-read_piece-clause-fewer g c =
     let inv = c.loop-done.invariant in
     let done = c.loop-done.done in
     let out = c.loop-done.out in
@@ -36,9 +36,16 @@ returns-in_err-read_piece-clause-taken g c =
     let piece : length (take (done + count - done) (drop done out)) ≡ count = search rules in
     let few : length (take done out) + length (take (done + count - done) (drop done out)) ≤
     length c.args.out.now = search rules in
-    samples_taken_more c.args.width _ _ _ (take done out)
+    let p = err_from_is_err_and c.from_residual.result c.from_residual.ensures.1 in
+    rw p.1
+    (samples_taken_fewer c.args.width _ _ _ (take done out)
     (length (take (done + count - done) (drop done out))) _ few inv.taken
-    c.read_piece.ensures.taken
+    c.in_err-read_piece.ensures.fewer)
+
+pub returns-in_err-read_piece-clause-taken : goal.returns-in_err-read_piece-clause-taken
+returns-in_err-read_piece-clause-taken g c =
+    let p = err_from_is_err_and c.from_residual.result c.from_residual.ensures.1 in
+    fewer_at_most _ _ _ (rw p.1 at (returns-in_err-read_piece-clause-fewer g c))
 
 pub loop-done-preserved : goal.loop-done-preserved
 loop-done-preserved g c =
