@@ -18,7 +18,6 @@ use line_text::Text;
 use traffic_message::{
     DirectionFields, HEAD_FIELDS, HandoffDirection, Head, IN_TRAFFIC_FIELDS, InTraffic,
     SEARCH_FIELDS, SearchFields, TIME_FIELDS, TrafficBody, TrafficMessage, UpdateFields,
-    head_numbers,
 };
 
 /// Adds the line of a message to the empty text, LF at its end. No line is longer than 1,024 bytes.
@@ -48,7 +47,7 @@ fn append_start(text: &mut Text, at: u64, head: &Head)
     ensures most { length text.new ≤ 95 }
 {
     text.append_named("traffic at=", at);
-    append_values(text, &HEAD_FIELDS, &head_numbers(head));
+    append_values(text, &HEAD_FIELDS, &head.values());
 }
 
 /// Adds what an In-Traffic System Parameters Message says.
