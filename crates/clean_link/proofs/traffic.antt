@@ -1,9 +1,10 @@
--- The frames of traffic channels.
+-- The frames of traffic channels, and the messages in them.
 pub mod Symbols
 pub mod Times
 pub mod Signs
 pub mod Commands
 pub mod Frames
+pub mod Signaling
 pub mod Back
 pub mod KeptSymbols
 pub mod HiddenWords

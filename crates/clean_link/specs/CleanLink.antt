@@ -52,7 +52,8 @@ pub record IsReceivable (width : Width) (plan : CellPlan) : Type 0 where
 -- channels, whose row is no traffic channel's
 pub record IsTunedTo (plan : CellPlan) (t : Tuning) : Type 0 where
   pub count : t.count ≡ plan.link.samples
-  pub checks : t.check30 ≡ plan.cell.check30
+  pub checks_of_30 : t.check30 ≡ plan.cell.check30
+  pub checks_of_16 : t.check16 ≡ plan.cell.check16
   pub phase : t.phase ≡ phase_at plan plan.link.start
   pub alone : t.deltas ≡ pos 0 ∷ []
   pub first_channel : 1 ≤ t.paging

@@ -94,13 +94,12 @@ abbrev pub frames_of_channel : CellPlan → TrafficPlan → ℕ → List Event
 frames_of_channel plan p mark_chip =
     flat_map (frame_told plan p) (received_frames plan p mark_chip)
 
--- those of the first channel on a row
-abbrev pub frames_on : CellPlan → List TrafficPlan → ℕ → ℕ → List Event
-frames_on plan [] row mark_chip = []
-frames_on plan (p ∷ traffic) row mark_chip =
-    if p.row == row then frames_of_channel plan p mark_chip
-    else frames_on plan traffic row mark_chip
+-- what is told of the first channel on a row
+abbrev pub told_on : (TrafficPlan → List Event) → List TrafficPlan → ℕ → List Event
+told_on told [] row = []
+told_on told (p ∷ traffic) row = if p.row == row then told p else told_on told traffic row
 
 -- the frames of the cell's traffic channel on a row, where the mark is at this local chip
 unfoldable pub frames_sent : CellPlan → ℕ → ℕ → List Event
-frames_sent plan row mark_chip = frames_on plan plan.traffic row mark_chip
+frames_sent plan row mark_chip =
+    told_on (λ (p : TrafficPlan). frames_of_channel plan p mark_chip) plan.traffic row

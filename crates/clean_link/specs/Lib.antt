@@ -5,6 +5,7 @@ pub mod DistinctFrames
 pub mod DistinctWorked
 pub mod HeardFrames
 pub mod HeardPages
+pub mod HeardSignals
 pub mod PageLaws
 pub mod PagingLaws
 pub mod SentEvents
@@ -14,5 +15,6 @@ pub mod TrafficLaws
 pub mod WholePages
 mod FramesWorked
 mod HeardWorked
+mod SignalsWorked
 mod Worked
 mod WorkedPages

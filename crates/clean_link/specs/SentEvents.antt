@@ -19,6 +19,7 @@ use Rattle.mobile_core.specs.declared.settings.Traffic.{Traffic}
 use Rattle.clean_link.specs.CleanLink.{IsReceivable, IsTunedTo, sync_sent, whole_sendings}
 use Rattle.clean_link.specs.HeardFrames.{frames_sent, AreDistinct, IsAssigned}
 use Rattle.clean_link.specs.HeardPages.{KnownPage, pages_sent}
+use Rattle.clean_link.specs.HeardSignals.{messages_sent}
 
 -- ---- the paging channel
 
@@ -57,15 +58,22 @@ told_with_sync plan None = None
 told_with_sync plan (Some sync) =
     told_by_first plan sync.message (whole_sendings plan sync.message)
 
--- what it tells of the frames of the channel that it follows, behind the mark, where one is set
-abbrev pub frames_followed : CellPlan → Option Traffic → Option ℕ → List Event
-frames_followed plan None told = []
-frames_followed plan (Some traffic) None = []
-frames_followed plan (Some traffic) (Some superframes) =
-    frames_sent plan traffic.row (98304 * superframes)
+-- what it tells of the channel that it follows, by the channel's row and the mark's local chip,
+-- where a mark is set
+abbrev pub told_followed : (ℕ → ℕ → List Event) → Option Traffic → Option ℕ → List Event
+told_followed sent None told = []
+told_followed sent (Some traffic) None = []
+told_followed sent (Some traffic) (Some superframes) = sent traffic.row (98304 * superframes)
 
+-- its frames behind the mark
 unfoldable pub traffic_sent : CellPlan → Option Traffic → List Event
-traffic_sent plan followed = frames_followed plan followed (told_with_sync plan plan.sync)
+traffic_sent plan followed =
+    told_followed (frames_sent plan) followed (told_with_sync plan plan.sync)
+
+-- and the messages that their signaling spells
+unfoldable pub signaling_sent : CellPlan → Option Traffic → List Event
+signaling_sent plan followed =
+    told_followed (messages_sent plan) followed (told_with_sync plan plan.sync)
 
 -- A channel that a handset follows is one of the cell's, and each of its frames from the mark on
 -- that lies in the file is distinct.
@@ -92,11 +100,13 @@ by_places count one other =
     flat_map (λ n. filter (is_at n) one ++ filter (is_at n) other) (places (count + 1))
 
 -- the whole sendings, the whole pages of a paging channel, and the frames of the traffic channel
--- that is followed
+-- that is followed with the messages that they complete
 unfoldable pub sent_events : CellPlan → ℕ → Option Traffic → List Event
 sent_events plan channel followed =
-    by_places plan.link.samples (sync_sent plan)
-    (by_places plan.link.samples (paging_sent plan channel) (traffic_sent plan followed))
+    let count = plan.link.samples in
+    by_places count (sync_sent plan)
+    (by_places count (paging_sent plan channel)
+    (by_places count (traffic_sent plan followed) (signaling_sent plan followed)))
 
 -- ---- the law
 

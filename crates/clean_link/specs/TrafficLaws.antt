@@ -11,6 +11,7 @@ use Rattle.base_modulator.specs.TrafficFrames.{cycled_frame}
 use Rattle.base_modulator.specs.declared.plan.CellPlan.{CellPlan}
 use Rattle.base_modulator.specs.declared.plan.TrafficPlan.{TrafficPlan}
 use Rattle.base_modulator.specs.declared.traffic_frame.TrafficFrame.{TrafficFrame}
+use Rattle.mobile_core.specs.Signaling.{messages_at}
 use Rattle.mobile_core.specs.Streams.{frame_softs, is_in_file}
 use Rattle.mobile_core.specs.TrafficEvents.{commands_at, decoded_at, frame_heard, frames_at}
 use Rattle.mobile_core.specs.TrafficEvents.{unturned_softs}
@@ -22,6 +23,7 @@ use Rattle.clean_link.specs.CleanLink.{IsReceivable, IsTrueMark, IsTunedTo, soft
 use Rattle.clean_link.specs.HeardFrames.{frame_ends, frames_of_channel, received_frames}
 use Rattle.clean_link.specs.HeardFrames.{sent_commands, word_symbols, AreDistinct, IsAssigned}
 use Rattle.clean_link.specs.HeardFrames.{IsDistinctFrame, ShowCommands}
+use Rattle.clean_link.specs.HeardSignals.{messages_of_channel}
 
 -- A handset behind a true mark, which was assigned a traffic channel that the cell sends.
 pub record HearsTraffic (width : Width) (plan : CellPlan) (p : TrafficPlan) (t : Tuning)
@@ -105,3 +107,12 @@ SentFramesComeBack = (width : Width) (plan : CellPlan) (p : TrafficPlan) (t : Tu
     AreDistinct plan p (plan.link.start + m.sample) →
     flat_map (frames_at t traffic m (made_samples plan)) (places (plan.link.samples + 1)) ≡
     frames_of_channel plan p (plan.link.start + m.sample)
+
+-- So are the messages those that the signaling in these frames spells.
+abbrev pub SentMessagesComeBack : Type 0
+SentMessagesComeBack = (width : Width) (plan : CellPlan) (p : TrafficPlan) (t : Tuning)
+    (traffic : Traffic) (m : Mark) (superframes : ℕ) →
+    HearsTraffic width plan p t traffic m superframes →
+    AreDistinct plan p (plan.link.start + m.sample) →
+    flat_map (messages_at t traffic m (made_samples plan)) (places (plan.link.samples + 1)) ≡
+    messages_of_channel plan p (plan.link.start + m.sample)

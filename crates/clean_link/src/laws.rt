@@ -17,7 +17,8 @@ ghost use Rattle.clean_link.specs.PagingLaws.{SilentPagingFramesAreZeros, Silent
 ghost use Rattle.clean_link.specs.PagingLaws.{UnmarkedWithoutSync};
 ghost use Rattle.clean_link.specs.SentEvents.{WholeMessagesComeBack};
 ghost use Rattle.clean_link.specs.TrafficLaws.{CommandsComeBack, EachFrameIsHeard};
-ghost use Rattle.clean_link.specs.TrafficLaws.{SentFramesComeBack, SixteenCommandsAreSent};
+ghost use Rattle.clean_link.specs.TrafficLaws.{SentFramesComeBack, SentMessagesComeBack};
+ghost use Rattle.clean_link.specs.TrafficLaws.{SixteenCommandsAreSent};
 ghost use Rattle.clean_link.specs.TrafficLaws.{TrafficFramesComeBack, TrafficHaveSentSigns};
 
 /// On a clean link the soft values of each frame in the file are `4 |h|^2 g0 g V C` times the signs
@@ -87,7 +88,8 @@ pub fn whole_pages_come_back()
 /// and C 64. So its power control bits come back, and where no other word of any rate shares its
 /// symbols at the places that they leave, its rate and its information bits, as a good frame. Behind
 /// a mark there is one event for each frame that begins there or later and lies in the file, at the
-/// frame's own end.
+/// frame's own end. Where each of these is distinct, the messages are those that the capsules in
+/// their signaling spell, each at the end of the frame with its capsule's last bit.
 pub fn traffic_frames_come_back()
     ensures signs { TrafficHaveSentSigns }
     ensures commands { CommandsComeBack }
@@ -95,12 +97,14 @@ pub fn traffic_frames_come_back()
     ensures frames { TrafficFramesComeBack }
     ensures each { EachFrameIsHeard }
     ensures sent { SentFramesComeBack }
+    ensures messages { SentMessagesComeBack }
 {}
 
 /// A handset hears the whole sendings, the whole pages of the paging channel that it follows, and
-/// the frames of the traffic channel that it follows, where it follows one and each of them is
-/// distinct, in the order in which they are known, and nothing else. Of what is known at one number
-/// of samples, sendings come first and frames last.
+/// the frames of the traffic channel that it follows with the messages in their signaling, where it
+/// follows one and each of these frames is distinct, in the order in which they are known, and
+/// nothing else. Of what is known at one number of samples, sendings come first, then pages, then
+/// the frame, and the message that it completes last.
 pub fn whole_messages_come_back()
     ensures { WholeMessagesComeBack }
 {}

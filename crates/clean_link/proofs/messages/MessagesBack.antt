@@ -1,5 +1,5 @@
--- A handset hears the whole sendings, the whole pages and the frames of a clean link's cell, in the
--- order in which they are known, and nothing else.
+-- A handset hears the whole sendings, the whole pages, and the frames and messages of a traffic
+-- channel of a clean link's cell, in the order in which they are known, and nothing else.
 use Rattle.std.proofs.Common.{◌≡◌, ℕ, ◌+◌, ◌*◌, Bool, true, false, List, [], ◌∷◌, ◌++◌}
 use Rattle.std.proofs.Common.{map, refl, sym, ap, ◌∙◌, arith, inl, inr, nat_lt}
 use Rattle.std.proofs.Common.{Option, None, Some}
@@ -14,30 +14,30 @@ use Rattle.base_modulator.specs.Sampled.{made_samples}
 use Rattle.base_modulator.specs.Sendings.{told_superframes}
 use Rattle.base_modulator.specs.declared.plan.CellPlan.{CellPlan}
 use Rattle.base_modulator.specs.declared.plan.SyncPlan.{SyncPlan}
-use Rattle.mobile_core.specs.Events.{events_at, events_within, frame_events_at, paging_events_at}
+use Rattle.mobile_core.specs.Events.{events_at, events_within, frame_events_at}
+use Rattle.mobile_core.specs.Events.{message_events_at, paging_events_at}
 use Rattle.mobile_core.specs.Marks.{mark}
 use Rattle.mobile_core.specs.PagingEvents.{page_event, pages_at, pages_behind}
 use Rattle.mobile_core.specs.SyncEvents.{sync_events_at}
 use Rattle.mobile_core.specs.Tuning.{Tuning}
 use Rattle.mobile_core.specs.declared.event.Event.{Event}
 use Rattle.mobile_core.specs.declared.mark.Mark.{Mark}
-use Rattle.mobile_core.proofs.EventPlaces.{paging_at, sync_at, traffic_at}
-use Rattle.mobile_core.proofs.EventsGrown.{events_at_all}
+use Rattle.mobile_core.proofs.EventPlaces.{AreAt, messages_at_end, paging_at, sync_at, traffic_at}
 use Rattle.mobile_core.proofs.MarkStays.{pages_by_one_mark}
 use Rattle.chip_core.proofs.Ranges.{flat_map_ext_places}
 use Rattle.clean_link.specs.CleanLink.{IsReceivable, IsTunedTo, sync_sent}
 use Rattle.clean_link.specs.CleanLink.{whole_sendings}
 use Rattle.clean_link.specs.HeardPages.{ReadPage, known_page, pages_sent, pages_within}
-use Rattle.clean_link.specs.SentEvents.{WholeMessagesComeBack, known_event, paging_sent}
+use Rattle.clean_link.specs.SentEvents.{FollowsSent, WholeMessagesComeBack, known_event, paging_sent}
 use Rattle.clean_link.specs.SentEvents.{pages_behind_mark, pages_with_sync, sent_events}
-use Rattle.clean_link.specs.SentEvents.{by_places, told_by_first, traffic_sent}
+use Rattle.clean_link.specs.SentEvents.{by_places, signaling_sent, told_by_first, traffic_sent}
 use Rattle.clean_link.proofs.messages.EventPlaces.{at_both, gathered_by_places}
 use Rattle.clean_link.proofs.marks.FirstMark.{mark_of_first, unset_without}
 use Rattle.clean_link.proofs.marks.MarksTrue.{marks_rate, marks_true, time_of, unmarked}
 use Rattle.clean_link.proofs.pages.Back.{pages_back}
 use Rattle.clean_link.proofs.sendings.Back.{sendings_back}
 use Rattle.clean_link.proofs.signal.Samples.{length-made}
-use Rattle.clean_link.proofs.traffic.Back.{frames_all, one_near}
+use Rattle.clean_link.proofs.traffic.Back.{frames_all, messages_all, one_near}
 
 -- ---- the paging channel
 map_known : (n : ℕ) (pages : List ReadPage) →
@@ -174,23 +174,59 @@ module _ (width : Width) (plan : CellPlan) (t : Tuning) (is : IsReceivable width
 
 -- ---- all channels
 
+module _ (width : Width) (plan : CellPlan) (t : Tuning) (is : IsReceivable width plan)
+    (tuned : IsTunedTo plan t) (follows : FollowsSent plan t.traffic) where
+  abbrev samples : List Sample
+  samples = made_samples plan
+
+  abbrev count : ℕ
+  count = plan.link.samples
+
+  -- what is known of a traffic channel at n samples, and of all behind the sync channel
+  abbrev traffic_known : ℕ → List Event
+  traffic_known n = frame_events_at t samples n ++ message_events_at t samples n
+
+  abbrev data_known : ℕ → List Event
+  data_known n = paging_events_at t samples n ++ traffic_known n
+
+  traffic_known_at : (n : ℕ) → AreAt n (traffic_known n)
+  traffic_known_at n =
+      at_both n (frame_events_at t samples n) (message_events_at t samples n)
+      (traffic_at t samples n) (messages_at_end t samples n)
+
+  -- the traffic channel
+  traffic_back : flat_map traffic_known (places (count + 1))
+      ≡ by_places count (traffic_sent plan t.traffic) (signaling_sent plan t.traffic)
+  traffic_back =
+      gathered_by_places (frame_events_at t samples) (message_events_at t samples) count
+      (traffic_sent plan t.traffic) (signaling_sent plan t.traffic) (traffic_at t samples)
+      (messages_at_end t samples) (frames_all width plan t is tuned follows)
+      (messages_all width plan t is tuned follows)
+
+  -- with the paging channel
+  data_back : flat_map data_known (places (count + 1))
+      ≡ by_places count (paging_sent plan t.paging)
+      (by_places count (traffic_sent plan t.traffic) (signaling_sent plan t.traffic))
+  data_back =
+      gathered_by_places (paging_events_at t samples) traffic_known count
+      (paging_sent plan t.paging)
+      (by_places count (traffic_sent plan t.traffic) (signaling_sent plan t.traffic))
+      (paging_at t samples) traffic_known_at (pages_all width plan t is tuned) traffic_back
+
+  -- and with the sync channel
+  all_back : flat_map (λ n. sync_events_at t samples n ++ data_known n) (places (count + 1))
+      ≡ sent_events plan t.paging t.traffic
+  unfolding sent_events
+  all_back =
+      gathered_by_places (sync_events_at t samples) data_known count (sync_sent plan)
+      (by_places count (paging_sent plan t.paging)
+      (by_places count (traffic_sent plan t.traffic) (signaling_sent plan t.traffic)))
+      (sync_at t samples)
+      (λ n. at_both n (paging_events_at t samples n) (traffic_known n) (paging_at t samples n)
+      (traffic_known_at n)) (sendings_back width plan t is tuned) data_back
+
 pub messages_back : WholeMessagesComeBack
-unfolding sent_events events_within
+unfolding events_within events_at
 messages_back width plan t is tuned follows =
-    let samples = made_samples plan in
-    let count = plan.link.samples in
-    let long = length-made plan in
-    let pages : ℕ → List Event = paging_events_at t samples in
-    let frames : ℕ → List Event = frame_events_at t samples in
-    ap (λ (n : ℕ). flat_map (events_at t samples) (places (n + 1))) long
-    ∙ flat_map_ext_places (events_at t samples)
-    (λ n. sync_events_at t samples n ++ (pages n ++ frames n)) (count + 1)
-    (λ n below. events_at_all t samples n)
-    ∙ gathered_by_places (sync_events_at t samples) (λ n. pages n ++ frames n) count
-    (sync_sent plan) (by_places count (paging_sent plan t.paging) (traffic_sent plan t.traffic))
-    (sync_at t samples)
-    (λ n. at_both n (pages n) (frames n) (paging_at t samples n) (traffic_at t samples n))
-    (sendings_back width plan t is tuned)
-    (gathered_by_places pages frames count (paging_sent plan t.paging)
-    (traffic_sent plan t.traffic) (paging_at t samples) (traffic_at t samples)
-    (pages_all width plan t is tuned) (frames_all width plan t is tuned follows))
+    ap (λ (n : ℕ). flat_map (events_at t (made_samples plan)) (places (n + 1))) (length-made plan)
+    ∙ all_back width plan t is tuned follows

@@ -140,7 +140,7 @@ module _ (width : Width) (plan : CellPlan) (sync : SyncPlan) (t : Tuning) (chann
       ∙ ap (heard_behind 24576 plan.link.samples)
       (ends_so plan m.sample (4 * superframes) h p at_frame there.ordered whole) in
       ap (λ (form : CheckForm). map (known_page known) (option_to_list (page_in form (Some c))))
-      is.tuned.checks
+      is.tuned.checks_of_30
       ∙ ap (λ (o : Option ReadPage). map (known_page known) (option_to_list o))
       (page_read plan.cell.check30 p.page.body there.message)
       ∙ ap (λ (n : ℕ).

@@ -176,7 +176,7 @@ heard_is back width plan sync t k q w is sends tuned there place =
     ) in
     capsule_is t (made_samples plan) k
     ∙ ap (λ form. heard_in form
-    (capsule_ending (map piece (frames_before t (made_samples plan) (k + 1))))) tuned.checks
+    (capsule_ending (map piece (frames_before t (made_samples plan) (k + 1))))) tuned.checks_of_30
     ∙ ap (heard_in plan.cell.check30)
     (ap capsule_ending (heard_pieces back width plan sync t k is sends tuned there) ∙
     pieces_end plan m (first_sync_frame plan) k q w sendable.message.fills place)

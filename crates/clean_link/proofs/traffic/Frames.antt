@@ -113,7 +113,7 @@ heard_as n f score frame commands is sent =
 -- ---- in a file
 
 -- frames that end within so many samples are few enough
-bound_enough : (t : Tuning) (traffic : Traffic) (m : Mark) →
+pub bound_enough : (t : Tuning) (traffic : Traffic) (m : Mark) →
     IsBound (traffic_stream t traffic m) frames_bound
 bound_enough t traffic m n k ends = omega (arith, ends)
 
@@ -190,21 +190,29 @@ module _ (width : Width) (plan : CellPlan) (p : TrafficPlan) (t : Tuning) (traff
       let count = is.tuned.count in
       past_end i (omega (arith, high, place, count))
 
-  -- what the received frames give, by their numbers behind the mark
-  by_marks_frames : {X : Type 0} (g : ℕ → List X) →
-      flat_map g (received_frames plan p mark_chip)
-      ≡ flat_map (λ k. g (4 * superframes + k)) (filter inside (places (frames_bound t.count)))
-  by_marks_frames {X} g =
+  -- what the received ones among the first frames give, by their numbers behind the mark
+  pub by_marks_numbers : {X : Type 0} (g : ℕ → List X) (bound : ℕ) →
+      flat_map g (filter received (places (4 * superframes + bound)))
+      ≡ flat_map (λ k. g (4 * superframes + k)) (filter inside (places bound))
+  by_marks_numbers {X} g bound =
       let first = 4 * superframes in
-      let bound = frames_bound t.count in
       let behind : ℕ → List X = λ k. g (first + k) in
-      ap (flat_map g)
-      (filter_enough received (end_chip plan / 24576 + 1) (first + bound) past_end past_bound)
-      ∙ flat_map-filter received g (places (first + bound))
+      flat_map-filter received g (places (first + bound))
       ∙ moved_up (given_where inside behind) (given_where received g) first bound
       (λ i low. ap (λ (b : Bool). cond b (g i) []) (early i low))
       (λ k. ap (λ (b : Bool). cond b (g (first + k)) []) (received_is k))
       ∙ sym (flat_map-filter inside behind (places bound))
+
+  -- and what all of them give
+  pub by_marks_frames : {X : Type 0} (g : ℕ → List X) →
+      flat_map g (received_frames plan p mark_chip)
+      ≡ flat_map (λ k. g (4 * superframes + k)) (filter inside (places (frames_bound t.count)))
+  by_marks_frames g =
+      let bound = frames_bound t.count in
+      ap (flat_map g)
+      (filter_enough received (end_chip plan / 24576 + 1) (4 * superframes + bound) past_end
+      past_bound)
+      ∙ by_marks_numbers g bound
 
   -- what is heard, frame by frame
   heard_by_frames : flat_map (frames_at t traffic m samples) (places (plan.link.samples + 1))
@@ -223,7 +231,7 @@ module _ (width : Width) (plan : CellPlan) (p : TrafficPlan) (t : Tuning) (traff
       (bound_enough t traffic m) f
 
   -- when it is heard
-  known_is : (k : ℕ) → known_at t.count stream k ≡ frame_ends plan p (4 * superframes + k)
+  pub known_is : (k : ℕ) → known_at t.count stream k ≡ frame_ends plan p (4 * superframes + k)
   known_is k =
       let place = is.marked.place in
       let offset = is.assigned.offset in
@@ -276,7 +284,7 @@ module _ (width : Width) (plan : CellPlan) (p : TrafficPlan) (t : Tuning) (traff
       ∙ ap (λ (e : ℕ). power_places (frame_state traffic m k) (traffic_mask e)) is.assigned.esn
 
   -- as the channel's frames are
-  distinct_there : AreDistinct plan p mark_chip → (k : ℕ) (f : TrafficFrame) → inside k ≡ true →
+  pub distinct_there : AreDistinct plan p mark_chip → (k : ℕ) (f : TrafficFrame) → inside k ≡ true →
       cycled_frame (frames_of plan p) (4 * superframes + k) ≡ f ∷ [] →
       IsDistinctFrame (replaced_in traffic m k) f
   distinct_there distinct k f there frame =
@@ -288,6 +296,12 @@ module _ (width : Width) (plan : CellPlan) (p : TrafficPlan) (t : Tuning) (traff
       subst (λ (replaced : List ℕ). IsDistinctFrame replaced f) (same_places k)
       (All-head Distinct f [] only)
 
+  -- one frame is sent at each number
+  pub frame_there : 1 ≤ length p.frames → (k : ℕ) →
+      (f : TrafficFrame) × (cycled_frame (frames_of plan p) (4 * superframes + k) ≡ f ∷ [])
+  frame_there some k =
+      one_there p.frames ((4 * superframes + k) % length p.frames) (omega (arith, some))
+
   -- and where all of them are distinct, what was sent
   pub sent_heard : 1 ≤ length p.frames → AreDistinct plan p mark_chip →
       flat_map (frames_at t traffic m samples) (places (plan.link.samples + 1)) ≡
@@ -298,8 +312,7 @@ module _ (width : Width) (plan : CellPlan) (p : TrafficPlan) (t : Tuning) (traff
       (λ k. frame_heard t traffic m samples (known_at t.count stream k) k ∷ [])
       (λ k. frame_told plan p (4 * superframes + k)) (frames_bound t.count)
       (λ k below there.
-      let number = (4 * superframes + k) % length p.frames in
-      let (f, frame) = one_there p.frames number (omega (arith, some)) in
+      let (f, frame) = frame_there some k in
       told_is k f there frame (distinct_there distinct k f there frame))
       ∙ sym (by_marks_frames (frame_told plan p))
 

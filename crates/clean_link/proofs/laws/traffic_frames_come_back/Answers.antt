@@ -1,5 +1,6 @@
 use Rattle.clean_link.proofs.traffic.Commands.{commands_back, sixteen_sent}
 use Rattle.clean_link.proofs.traffic.Frames.{each_frame_heard, frame_back, sent_frames_back}
+use Rattle.clean_link.proofs.traffic.Signaling.{sent_messages_back}
 use Rattle.clean_link.proofs.traffic.Signs.{traffic_signs}
 use Rattle.clean_link.proofs.laws.traffic_frames_come_back.Goals as goal
 
@@ -20,3 +21,6 @@ returns-clause-each c = each_frame_heard
 
 pub returns-clause-sent : goal.returns-clause-sent
 returns-clause-sent c = sent_frames_back
+
+pub returns-clause-messages : goal.returns-clause-messages
+returns-clause-messages c = sent_messages_back

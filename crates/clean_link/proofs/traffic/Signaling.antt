@@ -1,0 +1,136 @@
+-- The messages of a traffic channel come back: where each received frame is distinct, the signaling
+-- that is heard is what was sent, and so are the capsules that it spells.
+use Rattle.std.proofs.Common.{◌≡◌, ℕ, ◌+◌, ◌*◌, ◌≤◌, Bool, true, List, [], ◌∷◌, length}
+use Rattle.std.proofs.Common.{sym, ap, ◌∙◌, Option}
+use Rattle.std.specs.List.{flat_map}
+use Rattle.std.specs.Option.{option_to_list}
+use Rattle.std.proofs.lemmas.List.{append-nil}
+use Rattle.chip_core.specs.Bits.{places}
+use Rattle.chip_core.specs.declared.check_form.CheckForm.{CheckForm}
+use Rattle.chip_core.specs.declared.sample.Sample.{Sample}
+use Rattle.cdma_io.specs.declared.width.Width.{Width}
+use Rattle.base_modulator.specs.Sampled.{made_samples}
+use Rattle.base_modulator.specs.Signal.{frames_of}
+use Rattle.base_modulator.specs.TrafficFrames.{cycled_frame}
+use Rattle.base_modulator.specs.declared.plan.CellPlan.{CellPlan}
+use Rattle.base_modulator.specs.declared.plan.TrafficPlan.{TrafficPlan}
+use Rattle.base_modulator.specs.declared.traffic_frame.TrafficFrame.{TrafficFrame}
+use Rattle.mobile_core.specs.Signaling.{capsule_with, message_at, message_events, message_heard}
+use Rattle.mobile_core.specs.Signaling.{messages_at, signal_at, signal_in, signal_of}
+use Rattle.mobile_core.specs.Signaling.{signals_before}
+use Rattle.mobile_core.specs.Streams.{is_in_file, known_at, Stream}
+use Rattle.mobile_core.specs.TrafficStreams.{frames_bound, traffic_stream}
+use Rattle.mobile_core.specs.Tuning.{Tuning}
+use Rattle.mobile_core.specs.declared.event.Event.{Event}
+use Rattle.mobile_core.specs.declared.mark.Mark.{Mark}
+use Rattle.mobile_core.specs.declared.settings.Traffic.{Traffic}
+use Rattle.chip_core.proofs.Ranges.{flat_map_ext_filter_places}
+use Rattle.clean_link.specs.HeardFrames.{frame_ends, AreDistinct}
+use Rattle.clean_link.specs.HeardSignals.{message_told, messages_of_channel, signal_sent}
+use Rattle.clean_link.specs.HeardSignals.{signals_in, signals_received}
+use Rattle.clean_link.specs.TrafficLaws.{HearsTraffic, IsHeardAs, SentMessagesComeBack}
+use Rattle.clean_link.proofs.pages.InOrder.{given_in_order}
+use Rattle.clean_link.proofs.traffic.Frames.{bound_enough, by_marks_frames, by_marks_numbers}
+use Rattle.clean_link.proofs.traffic.Frames.{distinct_there, frame_back, frame_there, known_is}
+use Rattle.clean_link.proofs.traffic.Signs.{lawful_traffic}
+use Rattle.clean_link.proofs.traffic.Times.{traffic_timed}
+
+-- what one thing gives, of a list that holds it alone
+of_one : {A B : Type 0} (f : A → List B) (xs : List A) (x : A) → xs ≡ x ∷ [] → flat_map f xs ≡ f x
+of_one f xs x is = ap (flat_map f) is ∙ append-nil (f x)
+
+module _ (width : Width) (plan : CellPlan) (p : TrafficPlan) (t : Tuning) (traffic : Traffic)
+    (m : Mark) (superframes : ℕ) (is : HearsTraffic width plan p t traffic m superframes)
+    (latest : p.offset ≤ 15) (some : 1 ≤ length p.frames)
+    (distinct : AreDistinct plan p (plan.link.start + m.sample)) where
+  abbrev samples : List Sample
+  samples = made_samples plan
+
+  abbrev stream : Stream
+  stream = traffic_stream t traffic m
+
+  abbrev inside : ℕ → Bool
+  inside = is_in_file t.count stream
+
+  abbrev mark_chip : ℕ
+  mark_chip = plan.link.start + m.sample
+
+  -- the signaling of a frame is what was sent in it
+  signal_is : (k : ℕ) (f : TrafficFrame) → inside k ≡ true →
+      cycled_frame (frames_of plan p) (4 * superframes + k) ≡ f ∷ [] →
+      signal_at t traffic m samples k ≡ signal_sent f
+  unfolding signal_at
+  signal_is k f there frame =
+      let apart =
+      distinct_there width plan p t traffic m superframes is latest distinct k f there frame in
+      let heard : IsHeardAs plan p t traffic m superframes k f =
+      record { here = there; frame = frame } in
+      ap signal_of (frame_back width plan p t traffic m superframes k f is heard apart)
+
+  signals_is : (k : ℕ) → inside k ≡ true →
+      option_to_list (signal_at t traffic m samples k) ≡ signals_in plan p (4 * superframes + k)
+  signals_is k there =
+      let (f, frame) = frame_there width plan p t traffic m superframes is latest some k in
+      ap option_to_list (signal_is k f there frame)
+      ∙ sym
+      (of_one (λ (x : TrafficFrame). option_to_list (signal_sent x))
+      (cycled_frame (frames_of plan p) (4 * superframes + k)) f frame)
+
+  -- and so is that of the frames before it
+  before_is : (k : ℕ) →
+      signals_before t traffic m samples k ≡ signals_received plan p mark_chip (4 * superframes + k)
+  unfolding signals_before
+  before_is k =
+      flat_map_ext_filter_places inside (λ j. option_to_list (signal_at t traffic m samples j))
+      (λ j. signals_in plan p (4 * superframes + j)) k (λ j below there. signals_is j there)
+      ∙ sym
+      (by_marks_numbers width plan p t traffic m superframes is latest (signals_in plan p) k)
+
+  -- so a message is told as the sent frames spell it
+  message_is : (k : ℕ) → inside k ≡ true →
+      message_heard t traffic m samples (known_at t.count stream k) k
+      ≡ message_told plan p mark_chip (4 * superframes + k)
+  unfolding message_at
+  message_is k there =
+      let number = 4 * superframes + k in
+      let (f, frame) = frame_there width plan p t traffic m superframes is latest some k in
+      let told : ℕ → CheckForm → List (List Bool) → Option (List Bool) → List Event =
+      λ n form before signal. message_events n (signal_in form (capsule_with before signal)) in
+      let before = signals_before t traffic m samples k in
+      let signal = signal_at t traffic m samples k in
+      let known = known_at t.count stream k in
+      let ends = frame_ends plan p number in
+      ap (λ (n : ℕ). told n t.check16 before signal)
+      (known_is width plan p t traffic m superframes is latest k)
+      ∙ ap (λ (form : CheckForm). told ends form before signal) is.tuned.checks_of_16
+      ∙ ap (λ (parts : List (List Bool)). told ends plan.cell.check16 parts signal) (before_is k)
+      ∙ ap (told ends plan.cell.check16 (signals_received plan p mark_chip number))
+      (signal_is k f there frame)
+      ∙ sym
+      (of_one
+      (λ (x : TrafficFrame). told ends plan.cell.check16 (signals_received plan p mark_chip number)
+      (signal_sent x)) (cycled_frame (frames_of plan p) number) f frame)
+
+  -- all of them
+  pub messages_heard : flat_map (messages_at t traffic m samples) (places (plan.link.samples + 1))
+      ≡ messages_of_channel plan p mark_chip
+  unfolding messages_at
+  messages_heard =
+      let heard : ℕ → ℕ → List Event = message_heard t traffic m samples in
+      ap (λ (n : ℕ). flat_map (messages_at t traffic m samples) (places (n + 1)))
+      (sym is.tuned.count)
+      ∙ given_in_order stream (traffic_timed t traffic m is.tuned.alone) frames_bound
+      (bound_enough t traffic m) heard
+      ∙ flat_map_ext_filter_places inside (λ k. heard (known_at t.count stream k) k)
+      (λ k. message_told plan p mark_chip (4 * superframes + k)) (frames_bound t.count)
+      (λ k below there. message_is k there)
+      ∙ sym
+      (by_marks_frames width plan p t traffic m superframes is latest
+      (message_told plan p mark_chip))
+
+-- ---- the law
+
+pub sent_messages_back : SentMessagesComeBack
+sent_messages_back width plan p t traffic m superframes is distinct =
+    let lawful = lawful_traffic width plan p is.receivable.lawful is.sent in
+    messages_heard width plan p t traffic m superframes is lawful.latest lawful.some distinct

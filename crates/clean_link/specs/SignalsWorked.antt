@@ -1,0 +1,85 @@
+-- Worked values of the messages of a traffic channel on a clean link, which the checker computes.
+use Rattle.std.specs.Prelude.{◌≡◌, ℕ, ◌^◌, refl, Bool, true, false, List, [], ◌∷◌, ◌++◌, take, drop}
+use Rattle.std.specs.Prelude.{replicate, pos, negsuc, None}
+use Rattle.chip_core.specs.Bits.{binary, places}
+use Rattle.chip_core.specs.declared.check_form.CheckForm.TheVariants.{Complemented, Plain}
+use Rattle.quality_bits.specs.Capsules.{capsule, front_capsule, is_stated}
+use Rattle.quality_bits.specs.Pieces.{capsule_ending}
+use Rattle.quality_bits.specs.Quality.{check_bits}
+use Rattle.symbol_path.specs.declared.kinds.Rate.TheVariants.{R1200, R9600}
+use Rattle.traffic_message.specs.Messages.{Message, message_body, traffic_capsule}
+use Rattle.traffic_message.specs.Multiplex.{split, split_9600}
+use Rattle.traffic_message.specs.Reading.{body_reading, head_at, head_of, is_body, part_reading}
+use Rattle.traffic_message.specs.Reading.{traffic_reading}
+use Rattle.traffic_message.specs.declared.body.TrafficBody.TheVariants.{Other}
+use Rattle.base_modulator.specs.declared.plan.CellPlan.{CellPlan}
+use Rattle.base_modulator.specs.declared.traffic_frame.TrafficFrame.{TrafficFrame}
+use Rattle.mobile_core.specs.declared.event.Event.TheVariants.{Traffic}
+use Rattle.clean_link.specs.HeardSignals.{messages_sent}
+
+-- a message of twelve octets, whose capsule has 120 bits
+message : Message
+message = record {
+  head = record { ack_seq = 2; msg_seq = 3; ack_req = true; encryption = 0 };
+  body = Other 1 (replicate 79 true);
+}
+
+spelled : List Bool
+spelled = traffic_capsule Complemented message
+
+-- a frame with 80 bits of primary traffic and 88 of signaling, of which the first tells whether a
+-- message begins there
+signaling : Bool → List Bool → TrafficFrame
+signaling starts part = record {
+  rate = R9600;
+  information = true ∷ replicate 83 false ++ starts ∷ part;
+  commands = [];
+}
+
+-- a frame without any
+slow : TrafficFrame
+slow = record { rate = R1200; information = replicate 16 true; commands = [] }
+
+-- the frames of a channel: the last part of the message comes with frame 32, the first one with 33
+frames : List TrafficFrame
+frames =
+    signaling true (take 87 spelled)
+    ∷ slow
+    ∷ signaling false (drop 87 spelled ++ replicate 54 false)
+    ∷ []
+
+-- so much of a cell with this channel on row 9, 3,072 chips behind the system's frames
+cell : ℕ → CellPlan
+cell samples = record {
+  cell = record { pn = 511; time = 1000; lc = 2 ^ 41; check30 = Plain; check16 = Complemented };
+  link = record {
+    factor = record { i = pos 0; q = negsuc 2 };
+    start = 0;
+    samples = samples;
+  };
+  pilot = record { gain = 100 };
+  sync = None;
+  paging = [];
+  traffic = record { row = 9; esn = 2882343476; offset = 2; gain = 40; frames = frames } ∷ [];
+}
+
+-- Behind superframe 8 the message begins in frame 33 and ends in frame 35, at that frame's end.
+in_two_frames : messages_sent (cell 887808) 9 786432 ≡ Traffic 887808 spelled message ∷ []
+unfolding cell frames slow signaling spelled message messages_sent split split_9600 capsule_ending
+    front_capsule is_stated traffic_reading traffic_capsule message_body body_reading is_body
+    head_at head_of part_reading capsule check_bits binary places
+in_two_frames = refl
+
+-- one sample less, and its last frame isn't in the file
+cut_short : messages_sent (cell 887807) 9 786432 ≡ []
+unfolding cell frames slow signaling spelled message messages_sent split split_9600 capsule_ending
+    front_capsule is_stated traffic_reading traffic_capsule message_body body_reading is_body
+    head_at head_of part_reading capsule check_bits binary places
+cut_short = refl
+
+-- a mark behind the beginning of its first frame
+begun_before : messages_sent (cell 887808) 9 814081 ≡ []
+unfolding cell frames slow signaling spelled message messages_sent split split_9600 capsule_ending
+    front_capsule is_stated traffic_reading traffic_capsule message_body body_reading is_body
+    head_at head_of part_reading capsule check_bits binary places
+begun_before = refl
