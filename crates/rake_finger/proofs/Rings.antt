@@ -1,9 +1,9 @@
 -- Places in a ring.
-use Rattle.std.proofs.Common.{◌≡◌, ◌≢◌, ℕ, ◌+◌, ◌/◌, ◌%◌, ◌<◌, ◌≤◌, List, [], ◌∷◌, ◌++◌, length, get_or, refl, sym, ap, ◌∙◌, arith, length-append, inl, inr, Some}
+use Rattle.std.proofs.Common.{◌≡◌, ◌≢◌, ℕ, ◌+◌, ◌/◌, ◌%◌, ◌<◌, ◌≤◌, List, [], ◌∷◌, ◌++◌, length, get_or, take, refl, sym, ap, ◌∙◌, arith, length-append, inl, inr, Some}
 use Rattle.std.proofs.Math.ListN.{set}
 use Rattle.std.proofs.lemmas.Bool.{cases_lt, cases_order}
 use Rattle.std.proofs.lemmas.Nat.{div-add-mod', mul-le}
-use Rattle.std.proofs.lemmas.List.{get_or-set_same, get_or-set_other, get_or_append_left, get_or_push}
+use Rattle.std.proofs.lemmas.List.{get_or-set_same, get_or-set_other, get_or_append_left, get_or_push, take_more, take_more_set, take_all}
 use Rattle.chip_core.specs.declared.sample.Sample.{Sample}
 use Rattle.std.specs.List.{slice_get}
 use Rattle.std.proofs.Math.Nat.{mod-add-mod}
@@ -73,3 +73,17 @@ next_cell place k cell next room at is =
     let sum : place + k + 1 ≡ place + (k + 1) = omega arith in
     is ∙ ap (λ (n : ℕ). (n + 1) % room) at ∙ mod-add-mod (place + k) room 1 ∙
     ap (λ (n : ℕ). n % room) sum
+
+-- one sample more is copied
+pub copied_more : {A : Type 0} (copy samples : List A) (k : ℕ) (x : A) → k < length copy →
+    k < length samples → get_or samples k x ≡ x → take k copy ≡ take k samples →
+    take (k + 1) (set copy k x) ≡ take (k + 1) samples
+copied_more copy samples k x room lt read same =
+    take_more_set copy k x room
+    ∙ ap (λ xs. xs ++ x ∷ []) same
+    ∙ sym (take_more samples k x lt ∙ ap (λ y. take k samples ++ y ∷ []) read)
+
+pub copied_all : {A : Type 0} (copy samples : List A) (k n : ℕ) → k ≡ n → length copy ≡ n →
+    take k copy ≡ take k samples → copy ≡ take n samples
+copied_all copy samples k n done long same =
+    sym (take_all k copy (omega (arith, done, long))) ∙ same ∙ ap (λ m. take m samples) done

@@ -1,5 +1,5 @@
--- Which samples a finger needs.
-use Rattle.std.specs.Prelude.{ℕ, ◌+◌, ◌≤◌, pos, ◌≤ℤ◌}
+-- Which samples a finger needs, and which a pilot's strength.
+use Rattle.std.specs.Prelude.{ℕ, ◌+◌, ◌-◌, ◌≤◌, pos, ◌≤ℤ◌}
 use Rattle.rake_finger.specs.Held.{Held}
 use Rattle.rake_finger.specs.Soft.{frame_chips, finger_place}
 use Rattle.rake_finger.specs.declared.finger.Finger.{Finger}
@@ -14,3 +14,8 @@ pub record IsHeld (ring : Held) (place count : ℕ) : Type 0 where
 pub record IsInRing (ring : Held) (form : Form) (start : ℕ) (finger : Finger) : Type 0 where
   pub begun : finger.delta ≤ℤ pos start
   pub held : IsHeld ring (finger_place finger start) (frame_chips form)
+
+-- it holds the 512 samples before a place
+pub record HoldsBefore (ring : Held) (end : ℕ) : Type 0 where
+  pub begun : 512 ≤ end
+  pub held : IsHeld ring (end - 512) 512

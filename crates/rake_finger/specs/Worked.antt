@@ -1,11 +1,14 @@
 -- Two samples on the first chips of the codes, and small values, which the checker computes.
-use Rattle.std.specs.Prelude.{◌≡◌, refl, List, [], ◌∷◌, pos, negsuc}
+use Rattle.std.specs.Prelude.{◌≡◌, refl, List, [], ◌∷◌, pos, negsuc, map, replicate}
 use Rattle.chip_core.specs.Bits.{binary}
 use Rattle.chip_core.specs.Complex.{sum_of}
+use Rattle.chip_core.specs.Sums.{first_greatest}
 use Rattle.chip_core.specs.declared.sample.Sample.{Sample}
+use Rattle.pilot_search.specs.Search.{correlation, energy}
 use Rattle.short_code.specs.ShortCode.{chips_to}
 use Rattle.walsh.specs.Walsh.{walsh}
 use Rattle.rake_finger.specs.Soft.{finger_place, covered_from, despread_at, turned_part}
+use Rattle.rake_finger.specs.Strengths.{strength, sample_power}
 
 two : List Sample
 two = record { i = pos 1; q = pos 0 } ∷ record { i = pos 1; q = pos 0 } ∷ []
@@ -32,3 +35,20 @@ earlier = refl
 
 later : finger_place (record { phase = 0; delta = negsuc 2; row = 0 }) 10 ≡ 13
 later = refl
+
+-- at phases 0 to 7 the two samples have the energies 0, 4, 0, 4, 4, 8, 0 and 0
+windows : map (λ phase. strength two phase 4) (5 ∷ 7 ∷ 2 ∷ [])
+    ≡ record { energy = 8; delta = pos 0 } ∷ record { energy = 8; delta = negsuc 1 }
+    ∷ record { energy = 4; delta = negsuc 0 } ∷ []
+unfolding two chips_to correlation energy strength first_greatest
+windows = refl
+
+-- of nothing all energies are the same
+nothing_there : strength (replicate 4 (record { i = pos 0; q = pos 0 })) 20 10 ≡
+    record { energy = 0; delta = negsuc 4 }
+unfolding chips_to correlation energy strength first_greatest
+nothing_there = refl
+
+power_of_two : sample_power two ≡ 2
+unfolding two
+power_of_two = refl

@@ -1,4 +1,5 @@
-//! The fingers of a rake receiver: soft values of a channel's symbols, from the last samples.
+//! The fingers of a rake receiver: soft values of a channel's symbols, and how strong pilots are,
+//! from the last samples.
 //!
 //! A handset receives a base station on several paths, and on paths from several base stations. A
 //! finger despreads one path (TIA/EIA-95-B, 7.1.3.1.9): it multiplies the samples by the conjugate
@@ -6,20 +7,26 @@
 //! angle, and the sum over a symbol's chips, each with the sign of its chip of a Walsh row
 //! (7.1.3.1.8), is turned by it and weighed by it. The soft value of a symbol is the real part, and
 //! the sum of it over all fingers.
+//!
+//! A pilot's strength is the greatest energy of the last samples near the phase where it should be.
 #![tactic(auto)]
 
 mod combining;
 mod finger;
 mod form;
 pub mod laws;
+mod moments;
 mod ring;
+mod strengths;
 mod sums;
 mod values;
 
 pub use combining::combine_into;
 pub use finger::{Finger, Fingers};
 pub use form::Form;
+pub use moments::power;
 pub use ring::SampleRing;
+pub use strengths::strength;
 pub use values::soft;
 
 #[cfg(test)]

@@ -1,0 +1,183 @@
+-- The strength of a pilot: the greatest energy of a window of phases.
+use Rattle.std.proofs.Common.{◌≡◌, ℕ, ◌+◌, ◌-◌, ◌*◌, ◌/◌, ◌%◌, ◌<◌, ◌≤◌, List, [], ◌∷◌, ◌++◌, length, take, drop, refl, ap, ◌∙◌, arith, length-drop, ◌^◌, ℤ, pos, ◌-ℤ◌, unsigned_abs}
+use Rattle.std.specs.List.{All}
+use Rattle.std.proofs.Math.Nat.{mul-le-mul}
+use Rattle.std.proofs.lemmas.Int.{ints}
+use Rattle.std.proofs.lemmas.List.Elements.{All-head, All-tail}
+use Rattle.std.proofs.lemmas.List.{take-append-le, drop-append-le}
+use Rattle.chip_core.specs.Complex.{times, conjugate, point, of_sample, sum_of, norm}
+use Rattle.chip_core.specs.Sums.{IsFirstGreatest, first_greatest}
+use Rattle.chip_core.specs.declared.sample.Pair.{Pair}
+use Rattle.chip_core.specs.declared.sample.Sample.{Sample}
+use Rattle.chip_core.proofs.Greatest.{takes, keeps, starts, only, first_greatest-is}
+use Rattle.short_code.specs.Despread.{code_point, despread}
+use Rattle.short_code.specs.ShortCode.{pilot_chip}
+use Rattle.pilot_search.specs.Bounds.{magnitudes, square_of, bound}
+use Rattle.pilot_search.specs.Search.{correlation, energy}
+use Rattle.pilot_search.proofs.BoundLemmas.{bounds, nothing_yet}
+use Rattle.rake_finger.specs.Held.{Held, HoldsLast}
+use Rattle.rake_finger.specs.InRing.{HoldsBefore}
+use Rattle.rake_finger.specs.Strengths.{samples_before, window_energy, Strength, strength, IsStrongest, IsNarrow}
+
+-- PHASES
+-- the code begins again after 32,768 chips
+despread_again : (samples : List Sample) (a b : ℕ) → a % 32768 ≡ b % 32768 →
+    despread a samples ≡ despread b samples
+despread_again [] a b e = refl
+despread_again (s ∷ samples) a b e =
+    ap (λ (n : ℕ). times (of_sample s) (conjugate (point (pilot_chip n)))
+    ∷ despread (a + 1) samples) e
+    ∙ ap (λ (ps : List Pair). times (of_sample s) (conjugate (code_point b)) ∷ ps)
+    (despread_again samples (a + 1) (b + 1) (omega (arith, e)))
+
+pub energy_again : (samples : List Sample) (a b : ℕ) → a % 32768 ≡ b % 32768 →
+    energy samples a ≡ energy samples b
+unfolding energy correlation
+energy_again samples a b e =
+    ap (λ (ps : List Pair). norm (sum_of ps)) (despread_again samples a b e)
+
+-- THE STRONGEST
+pub strongest_one : (samples : List Sample) (lowest most : ℕ) → most ≡ energy samples lowest →
+    IsStrongest samples lowest 1 0 most
+strongest_one samples lowest most is =
+    let e : lowest + 0 ≡ lowest = omega arith in
+    record {
+      first = starts (λ i. pos (energy samples (lowest + i)));
+      measured = rw e is;
+    }
+
+-- one phase more, of greater energy than those before
+pub strongest_takes : (samples : List Sample) (lowest count best most found : ℕ) →
+    IsStrongest samples lowest count best most → found ≡ energy samples (lowest + count) →
+    most < found → IsStrongest samples lowest (count + 1) count found
+strongest_takes samples lowest count best most found h is more =
+    let m = h.measured in
+    record {
+      first = takes (λ i. pos (energy samples (lowest + i))) count best h.first
+          (omega (arith, ints, m, is, more));
+      measured = is;
+    }
+
+pub strongest_keeps : (samples : List Sample) (lowest count best most found : ℕ) →
+    IsStrongest samples lowest count best most → found ≡ energy samples (lowest + count) →
+    found ≤ most → IsStrongest samples lowest (count + 1) best most
+strongest_keeps samples lowest count best most found h is less =
+    let m = h.measured in
+    record {
+      first = keeps (λ i. pos (energy samples (lowest + i))) count best h.first
+          (omega (arith, ints, m, is, less));
+      measured = m;
+    }
+
+-- the first of the greatest, by another form of the values
+first_of_same : (f g : ℕ → ℤ) (n best : ℕ) → ((k : ℕ) → f k ≡ g k) → IsFirstGreatest f n best →
+    IsFirstGreatest g n best
+first_of_same f g n best same h = record {
+  below = h.below;
+  greatest = λ k lt. rw (same k, same best) at (h.greatest k lt);
+  first = λ k lt. rw (same k, same best) at (h.first k lt);
+}
+
+-- what is strongest of a window is its strength
+strongest_place : (samples : List Sample) (phase window lowest place most : ℕ) →
+    window ≤ 32768 → lowest ≡ phase + 32768 - window / 2 →
+    IsStrongest samples lowest (window + 1) place most →
+    place ≡ first_greatest (λ i. pos (window_energy samples phase window i)) (window + 1)
+strongest_place samples phase window lowest place most few low h =
+    let same : (k : ℕ) →
+    pos (energy samples (lowest + k)) ≡ pos (window_energy samples phase window k) =
+    λ k. let e : lowest + k ≡ phase + 32768 + k - window / 2 = omega (arith, low, few) in
+    ap (λ (n : ℕ). pos (energy samples n)) e in
+    only (λ i. pos (window_energy samples phase window i)) (window + 1) place
+    (first_of_same (λ i. pos (energy samples (lowest + i)))
+    (λ i. pos (window_energy samples phase window i)) (window + 1) place same h.first)
+
+pub strongest_energy : (samples : List Sample) (phase window lowest place most : ℕ) →
+    window ≤ 32768 → lowest ≡ phase + 32768 - window / 2 →
+    IsStrongest samples lowest (window + 1) place most →
+    most ≡ (strength samples phase window).energy
+unfolding strength
+strongest_energy samples phase window lowest place most few low h =
+    let e : lowest + place ≡ phase + 32768 + place - window / 2 = omega (arith, low, few) in
+    h.measured ∙ ap (energy samples) e
+    ∙ ap (window_energy samples phase window)
+    (strongest_place samples phase window lowest place most few low h)
+
+pub strongest_delta : (samples : List Sample) (phase window lowest place most : ℕ) →
+    window ≤ 32768 → lowest ≡ phase + 32768 - window / 2 →
+    IsStrongest samples lowest (window + 1) place most →
+    pos place -ℤ pos (window / 2) ≡ (strength samples phase window).delta
+unfolding strength
+strongest_delta samples phase window lowest place most few low h =
+    ap (λ (n : ℕ). pos n -ℤ pos (window / 2))
+    (strongest_place samples phase window lowest place most few low h)
+
+-- BOUNDS
+magnitudes_most : (samples : List Sample) → All IsNarrow samples →
+    magnitudes samples ≤ 65536 * length samples
+magnitudes_most [] h = omega arith
+magnitudes_most (s ∷ samples) h =
+    let here : IsNarrow s = All-head IsNarrow s samples h in
+    let rest = magnitudes_most samples (All-tail IsNarrow s samples h) in
+    omega (arith, here, rest)
+
+pub energy_most : (samples : List Sample) (phase : ℕ) → length samples ≤ 512 →
+    All IsNarrow samples → energy samples phase ≤ 2 ^ 51
+energy_most samples phase few h =
+    let left = magnitudes samples in
+    let most = magnitudes_most samples h in
+    let small : left ≤ 2 ^ 25 = omega (arith, most, few) in
+    let squares : left * left ≤ 2 ^ 25 * 2 ^ 25 = mul-le-mul small small in
+    let none = nothing_yet samples phase in
+    let over : energy samples phase ≤ bound samples phase 0 = bounds samples phase 0 in
+    let whole : bound samples phase 0 ≡ square_of (0 + left) + square_of (0 + left) =
+    ap (λ (p : Pair). square_of (unsigned_abs p.i + left) + square_of (unsigned_abs p.q + left))
+    none in
+    let same : 0 + left ≡ left = omega arith in
+    let most_of_all = rw same at whole in
+    omega (arith, over, most_of_all, squares)
+
+-- LAWS
+abbrev strength_of : ℕ → ℤ → Strength
+strength_of most delta = record { energy = most; delta = delta }
+
+-- only the phase modulo the code's period counts
+pub strength_again : (samples : List Sample) (a b window : ℕ) → window ≤ 65536 →
+    a % 32768 ≡ b % 32768 → strength samples a window ≡ strength samples b window
+unfolding strength
+strength_again samples a b window few e =
+    let f = λ (i : ℕ). pos (window_energy samples a window i) in
+    let g = λ (i : ℕ). pos (window_energy samples b window i) in
+    let place = first_greatest f (window + 1) in
+    let same : (i : ℕ) → window_energy samples a window i ≡ window_energy samples b window i =
+    λ i. energy_again samples (a + 32768 + i - window / 2) (b + 32768 + i - window / 2)
+    (omega (arith, few, e)) in
+    let first : place ≡ first_greatest g (window + 1) =
+    only g (window + 1) place (first_of_same f g (window + 1) place
+    (λ i. ap (λ (n : ℕ). pos n) (same i))
+    (first_greatest-is f (window + 1) (omega arith))) in
+    ap (λ (n : ℕ). strength_of n (pos place -ℤ pos (window / 2))) (same place)
+    ∙ ap (λ (n : ℕ). strength_of (window_energy samples b window n) (pos n -ℤ pos (window / 2)))
+    first
+
+-- what comes behind a place changes nothing before it
+pub samples_before-append : (heard more : List Sample) (end : ℕ) → 512 ≤ end →
+    end ≤ length heard → samples_before (heard ++ more) end ≡ samples_before heard end
+samples_before-append heard more end begun within =
+    let long = length-drop (end - 512) heard in
+    ap (take 512) (drop-append-le (end - 512) heard more (omega (arith, within)))
+    ∙ take-append-le 512 (drop (end - 512) heard) more (omega (arith, long, begun, within))
+
+-- a ring with room for 65,536 samples still holds them
+pub held_before : (ring : Held) (heard : List Sample) (end : ℕ) → HoldsLast ring heard →
+    65536 ≤ ring.room → 512 ≤ end → end ≤ length heard → length heard ≤ end + 65024 →
+    HoldsBefore ring end
+held_before ring heard end held room begun within near =
+    let t = held.taken in
+    record {
+      begun = begun;
+      held = record {
+        kept = omega (arith, t, room, begun, near);
+        taken = omega (arith, t, begun, within);
+      };
+    }

@@ -1,0 +1,66 @@
+//! The samples before a moment, and their power.
+
+ghost use Rattle.std.specs.Prelude.{◌≡◌, ◌≤◌, ◌*◌, ◌^◌, List, length, All};
+ghost use Rattle.chip_core.specs.Sums.{square};
+ghost use Rattle.chip_core.specs.declared.sample.Sample.{Sample};
+ghost use Rattle.rake_finger.specs.Held.{HoldsLast};
+ghost use Rattle.rake_finger.specs.InRing.{HoldsBefore};
+ghost use Rattle.rake_finger.specs.Strengths.{samples_before as samples_before_of, sample_power, IsNarrow};
+
+use crate::ring::SampleRing;
+use chip_core::Sample;
+
+/// How many samples are measured at a moment.
+pub(crate) const MOMENT_SAMPLES: usize = 512;
+
+/// The 512 samples before a place, counted from sample 0.
+pub(crate) fn samples_before(ring: &SampleRing, end: u64) -> [Sample; MOMENT_SAMPLES]
+    requires { HoldsBefore ring.now end }
+    ensures long { length result ≡ 512 }
+    ensures narrow { All IsNarrow result }
+    ensures value { (samples : List Sample) → HoldsLast ring.now samples →
+        result ≡ samples_before_of samples end }
+{
+    let mut cell = ring.cell_of(end - MOMENT_SAMPLES as u64);
+    let mut samples = [Sample { i: 0, q: 0 }; MOMENT_SAMPLES];
+    for k in 0..MOMENT_SAMPLES {
+        samples[k] = ring.get(cell);
+        cell = ring.cell_behind(cell);
+    }
+    samples
+}
+
+/// The square of a branch.
+fn square_of(branch: i16) -> u64
+    ensures value { result ≡ square branch }
+    ensures most { result ≤ 2 ^ 30 }
+{
+    let size = u64::from(branch.unsigned_abs());
+    size * size
+}
+
+/// The power of samples: the sum of the squares of both branches.
+fn power_of(samples: &[Sample]) -> u64
+    requires { length samples.now ≤ 512 }
+    ensures value { result ≡ sample_power samples.now }
+    ensures most { result ≤ 2 ^ 31 * length samples.now }
+{
+    let mut power = 0;
+    for sample in samples {
+        power += square_of(sample.i) + square_of(sample.q);
+    }
+    power
+}
+
+/// The power of the 512 samples before `end`, counted from sample 0: the sum of i² + q².
+///
+/// The ring still holds these samples. Beside it, a pilot's strength tells how much of what is
+/// received is this pilot.
+pub fn power(ring: &SampleRing, end: u64) -> u64
+    requires { HoldsBefore ring.now end }
+    ensures value { (samples : List Sample) → HoldsLast ring.now samples →
+        result ≡ sample_power (samples_before_of samples end) }
+    ensures most { result ≤ 2 ^ 40 }
+{
+    power_of(&samples_before(ring, end))
+}
