@@ -62,7 +62,8 @@ tuned width script plan span receiver header samples clean counted paging =
     let first = take span samples in
     record {
       count = sym counted ∙ ap length clean.sent ∙ length-made plan;
-      checks = clean.checks_of_30;
+      checks_of_30 = clean.checks_of_30;
+      checks_of_16 = clean.checks_of_16;
       phase = clean.found;
       alone = ap (near_deltas first (best_phase first)) clean.alone ∙ own_delta first;
       first_channel = paging.0;

@@ -337,14 +337,15 @@ first_near deltas found count long most is =
 
 tuned_alike : (header : Header) (first : List Sample) (receiver : Receiver) (settings : Settings)
     (best : Best) (near : Near) → IsBestIn first 0 32768 best.phase best.energy →
-    settings.count ≡ header.count → settings.check30 ≡ header.check30 → settings.paging ≡ receiver.paging →
+    settings.count ≡ header.count → settings.check30 ≡ header.check30 →
+    settings.check16 ≡ header.check16 → settings.paging ≡ receiver.paging →
     settings.traffic ≡ option_map traffic_of receiver.traffic →
     near.count ≡ receiver.fingers → receiver.fingers ≤ 3 → length near.deltas ≡ 3 →
     near.deltas
     ≡ near_deltas first best.phase receiver.fingers ++ replicate (3 - receiver.fingers) (pos 0) →
     tuning_by settings best near ≡ tuning_for header first receiver
-tuned_alike header first receiver settings best near found count check paging traffic counted most long
-    deltas =
+tuned_alike header first receiver settings best near found count check30 check16 paging traffic
+    counted most long deltas =
     let phase : best.phase ≡ best_phase first =
     best_phase-only first best.phase best.energy found in
     let near_is : take near.count near.deltas
@@ -353,22 +354,23 @@ tuned_alike header first receiver settings best near found count check paging tr
     first_near near.deltas (near_deltas first best.phase receiver.fingers) receiver.fingers long
     most deltas
     ∙ ap (λ (p : ℕ). near_deltas first p receiver.fingers) phase in
-    rw (count, check, paging, traffic, phase, near_is) refl
+    rw (count, check30, check16, paging, traffic, phase, near_is) refl
 
 pub fresh_given : (settings : Settings) (header : Header) (first : List Sample)
     (receiver : Receiver)
     (best : Best) (near : Near) (mobile : Mobile) → IsBestIn first 0 32768 best.phase best.energy →
-    settings.count ≡ header.count → settings.check30 ≡ header.check30 → settings.paging ≡ receiver.paging →
+    settings.count ≡ header.count → settings.check30 ≡ header.check30 →
+    settings.check16 ≡ header.check16 → settings.paging ≡ receiver.paging →
     settings.traffic ≡ option_map traffic_of receiver.traffic →
     length near.deltas ≡ 3 → AreNearTo first best.phase (Some receiver) (Some near) → AreReady (Some near) →
     StandsFor (tuning_by settings best near) mobile [] [] →
     HasHeard (tuning_of header first (Some receiver)) (Some mobile) [] []
-fresh_given settings header first receiver best near mobile found count check paging traffic long near_is
-    ready stands =
+fresh_given settings header first receiver best near mobile found count check30 check16 paging
+    traffic long near_is ready stands =
     let most : receiver.fingers ≤ 3 = omega (arith, near_is.0, ready.1) in
     subst (λ (t : Tuning). StandsFor t mobile [] [])
-    (tuned_alike header first receiver settings best near found count check paging traffic near_is.0 most
-    long near_is.1) stands
+    (tuned_alike header first receiver settings best near found count check30 check16 paging traffic
+    near_is.0 most long near_is.1) stands
 
 -- ---- what follows where a call went well, or failed
 

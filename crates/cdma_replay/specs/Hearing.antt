@@ -59,6 +59,7 @@ tuning_for header first receiver =
       phase = best_phase first;
       deltas = near_deltas first (best_phase first) receiver.fingers;
       check30 = header.check30;
+      check16 = header.check16;
       paging = receiver.paging;
       traffic = option_map traffic_of receiver.traffic;
     }
@@ -97,8 +98,9 @@ unfoldable pub file_end_of : Reception → Header → List Sample → Status
 file_end_of r header samples =
     end_when (is_told (tuning_of header (take r.span samples) r.receiver) samples)
 
--- what is told of a clean link: the pilot at the cell's phase, all whole sendings, and the whole
--- pages of the paging channel that is followed, and the frames of the traffic channel that is
+-- what is told of a clean link: the pilot at the cell's phase, all whole sendings, the whole pages of
+-- the paging channel that is followed, and the frames of the traffic channel that is, with the
+-- messages that their signaling spells
 unfoldable pub clean_events : ℕ → CellPlan → ℕ → Option TrafficOptions → List Event
 clean_events span plan paging traffic =
     let phase = phase_at plan plan.link.start in

@@ -17,6 +17,8 @@ pub mod laws;
 mod link_tests;
 mod making;
 #[cfg(test)]
+mod message_tests;
+#[cfg(test)]
 mod paging_tests;
 mod receiving;
 mod replaying;

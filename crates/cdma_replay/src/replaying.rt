@@ -160,7 +160,8 @@ pub fn replay<R: Threads + Sync, S: Source, K: Sink, G: Gate + Sync>(
     // On a clean link, where the traffic channel that is followed is one of the cell's, each of
     // whose frames is distinct, or none is, that is the text of the pilot at the cell's phase, of
     // the sendings and the followed paging channel's pages that lie in the file whole, each with its
-    // message, and of that traffic channel's frames, in the order in which they are known.
+    // message, and of that traffic channel's frames with the messages that their signaling spells,
+    // in the order in which they are known.
     ensures clean { (width : Width) (script bytes held : List ℕ) (plan : CellPlan)
         (span workers fingers paging : ℕ) (traffic : Option TheTraffic) (limits : List ℕ)
         (header : Header) (samples : List Sample) →

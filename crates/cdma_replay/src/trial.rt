@@ -75,6 +75,7 @@ impl Counts {
                 self.frames += 1;
                 self.good += u64::from(*good);
             }
+            Event::Traffic { .. } => {}
         }
     }
 }

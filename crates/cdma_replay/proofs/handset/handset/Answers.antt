@@ -14,5 +14,5 @@ returns-clause-given c first found near =
       check16 = c.args.header.check16;
       count = c.args.header.count;
     })
-    c.args.header first c.args.receiver c.args.best paths c.in_ok-mobile.mobile found refl refl refl
+    c.args.header first c.args.receiver c.args.best paths c.in_ok-mobile.mobile found refl refl refl refl
     c.assigned.ensures.value long near c.requires.near (search rules)
