@@ -10,12 +10,14 @@ use Rattle.std.proofs.KnownBytes.{Appends-nil, Appends-trans, Consumes-kept, Con
 use Rattle.std.proofs.KnownBytes.{Consumes-trans}
 use Rattle.std.proofs.lemmas.List.Elements.{All-append}
 use Rattle.cdma_io.specs.declared.width.Width.{Width}
+use Rattle.cdma_io.specs.Outside.{ConsumesAtMost}
 use Rattle.cdma_io.specs.SampleFile.{HasBits, sample_spelling}
 use Rattle.chip_core.specs.declared.sample.Sample.{Sample}
 use Rattle.mobile_core.specs.Tuning.{Tuning}
 use Rattle.mobile_core.specs.declared.event.Event.{Event}
 use Rattle.mobile_core.specs.declared.mobile.Mobile.{Mobile}
 use Rattle.event_tap.specs.Taps.{KeptTap, run_text}
+use Rattle.cdma_replay.specs.Broken.{HearsFirst}
 use Rattle.cdma_replay.specs.Find.{PassesSamples}
 use Rattle.cdma_replay.proofs.Prefixes.{front_begins}
 use Rattle.cdma_replay.specs.Hearing.{HasGiven, HearsPart, HearsRest, Tells, TellsPart, events_in}
@@ -197,4 +199,29 @@ hears_stopped {width} {same} {count} {one} {other} {kept} {behind} {rest} {mid} 
           (subst (StartsWith (run_text taps (events_in t ((heard ++ samples) ++ more))))
           (ap (λ (xs : List ℕ). xs ++ next.text) (sym first.all) ∙
           append_assoc (run_text taps (events_in t heard)) first.text next.text) next.begins);
+    }
+
+-- a read failed, or what it read wasn't wanted: what was told is of the samples before
+pub hears_first : {width : Width} {count limit : ℕ} {one other : Option Mobile}
+    {kept behind : List KeptTap} {rest mid left old new : Option (List ℕ)}
+    (counted : ℕ → Type 0) (most : ℕ) →
+    Hears width count one other kept behind rest mid old new → counted count →
+    ConsumesAtMost limit mid left → limit ≤ most →
+    (t : Option Tuning) (taps : List KeptTap) (heard : List Sample) →
+    HasGiven t taps one kept heard (events_in t heard) →
+    HearsFirst t taps width counted most heard rest left old new
+hears_first {width} {count} {limit} {one} {other} {kept} {behind} {rest} {mid} {left} counted most h
+    number part few t taps heard given =
+    let tells = h.tells t taps heard given in
+    record {
+      samples = h.passed.samples;
+      more = part.bytes;
+      number = subst counted (sym h.passed.counted) number;
+      few = omega (arith, part.fits, few);
+      consumed =
+          Consumes-trans rest mid left (flat_map (sample_spelling width) h.passed.samples)
+          part.bytes h.passed.consumed part.consumed;
+      text = tells.text;
+      written = tells.written;
+      all = tells.all;
     }

@@ -1,4 +1,6 @@
+pub mod Broken
 pub mod CleanTexts
+pub mod Completed
 pub mod Ends
 pub mod Faults
 pub mod Files

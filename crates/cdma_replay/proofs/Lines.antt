@@ -44,10 +44,10 @@ pilot-best samples phase energy best =
     ∙ ap (λ (e : ℕ). Pilot (best_phase samples) e) (best_energy-only samples phase energy best)
 
 -- what the taps of a run write of the pilot, and those that are kept behind it
-abbrev pilot_text : List KeptTap → Reception → List Sample → List ℕ
+abbrev pub pilot_text : List KeptTap → Reception → List Sample → List ℕ
 pilot_text taps r samples = heard_text (taps_for r.receiver taps) (best_pilot samples)
 
-abbrev later_taps : List KeptTap → Reception → List Sample → List KeptTap
+abbrev pub later_taps : List KeptTap → Reception → List Sample → List KeptTap
 later_taps taps r samples = taps_behind (taps_for r.receiver taps) (best_pilot samples)
 
 -- the text of a file whose first samples are these
@@ -250,6 +250,28 @@ writes_rest_part {taps} {r} {header} {samples} {one} {other} {kept} {behind} {re
 
 -- ---- the whole text
 
+-- the pilot's text, that of the first samples and that of those behind them are the file's
+pub told_text : {taps : List KeptTap} {r : Reception} (header : Header) {samples : List Sample}
+    {one other : Option Mobile} {kept behind : List KeptTap}
+    {rest mid old between later : Option (List ℕ)} (others : List Sample) (text : List ℕ) →
+    HasBegun taps r header samples one kept rest mid old between →
+    (first : Tells (tuning_of header samples r.receiver) (later_taps taps r samples) other behind []
+    ([] ++ samples) between later) →
+    run_text (later_taps taps r samples) (events_in (tuning_of header samples r.receiver) samples)
+    ++ text ≡
+    run_text (later_taps taps r samples)
+    (events_in (tuning_of header samples r.receiver) (samples ++ others)) →
+    pilot_text taps r samples ++ (first.text ++ text) ≡ file_text taps r header (samples ++ others)
+told_text {taps} {r} header {samples} others text begun first all =
+    let line = pilot_text taps r samples in
+    let heard_first : first.text ≡
+    run_text (later_taps taps r samples) (events_in (tuning_of header samples r.receiver) samples) =
+    sym (ap (λ (xs : List ℕ). xs ++ first.text) (run_text-none (later_taps taps r samples)))
+    ∙ first.all in
+    ap (λ (xs : List ℕ). line ++ (xs ++ text)) heard_first ∙
+    ap (λ (xs : List ℕ). line ++ xs) all ∙
+    sym (text_behind taps r header samples others begun.counted)
+
 -- the file was read to its end, and its text written
 pub writes_text : {taps : List KeptTap} {r : Reception} {status : Status} {header : Header}
     {samples : List Sample} {left : ℕ} {one other last : Option Mobile}
@@ -295,13 +317,8 @@ writes_text {taps} {r} {status} {header} {samples} (Some bytes) (Some more) (Som
     (sym (flat_map-append (sample_spelling (width_of header)) samples others)) in
     let long : length (samples ++ others) ≡ header.count =
     omega (arith, length-append samples others, begun.counted, heard.counted, count) in
-    let heard_first : first.text ≡ run_text taps1 (events_in t samples) =
-    sym (ap (λ (xs : List ℕ). xs ++ first.text) (run_text-none taps1)) ∙ first.all in
     let text : line ++ (first.text ++ heard.tells.text) ≡
-    file_text taps r header (samples ++ others) =
-    ap (λ (xs : List ℕ). line ++ (xs ++ heard.tells.text)) heard_first ∙
-    ap (λ (xs : List ℕ). line ++ xs) heard.tells.all ∙
-    sym (text_behind taps r header samples others begun.counted) in
+    file_text taps r header (samples ++ others) = told_text header others heard.tells.text begun first heard.tells.all in
     record {
       searchable = record {
         header = header;

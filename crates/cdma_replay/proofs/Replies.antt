@@ -22,6 +22,7 @@ use Rattle.cdma_words.specs.declared.job.Job.{Job}
 use Rattle.cdma_words.specs.declared.job.Job.TheVariants.{Find, Follow, Make, Trial}
 use Rattle.cdma_replay.specs.declared.receiving.Reception.{Reception}
 use Rattle.cdma_replay.specs.declared.status.Status.{Status}
+use Rattle.cdma_replay.specs.Broken.{HasWritten, IsCut, WritesAll, WritesFirst}
 use Rattle.cdma_replay.specs.Find.{BeginsText, IsEnd, IsFaultIn, IsOfFiles, IsSearchable}
 use Rattle.cdma_replay.specs.Find.{WritesNoMore, WritesText, ended}
 use Rattle.cdma_replay.specs.Hearing.{file_end_of, file_text}
@@ -182,6 +183,44 @@ pub find_part : {taps : List KeptTap} {span workers : ℕ} {rest old new : Optio
 find_part wrote =
     record { text = wrote.text; written = wrote.written; part = found_begins wrote.part }
 
+found_written : {taps : List KeptTap} {span workers : ℕ} {header : Header} {bytes : List ℕ}
+    {counted : ℕ → Type 0} {old new : Option (List ℕ)} →
+    HasWritten taps (finding span workers) header bytes counted old new →
+    HasWritten [] (finding span workers) header bytes counted old new
+found_written {taps} {span} {workers} {header} {bytes} {counted} {old} {new} w = record {
+  samples = w.samples;
+  enough = w.enough;
+  number = w.number;
+  first = w.first;
+  written = subst (Appends old new) (found_text taps span workers header w.samples) w.written;
+}
+
+-- what was written where the file breaks off, or goes on
+pub find_first : (taps : List KeptTap) (span workers : ℕ) (rest left old new : Option (List ℕ)) →
+    WritesFirst taps (finding span workers) rest left old new →
+    WritesFirst [] (finding span workers) rest left old new
+find_first taps span workers None left old new wrote = tt
+find_first taps span workers (Some bytes) left old new wrote =
+    λ (header : Header) taken n opened consumed long enough some.
+    found_written (wrote header taken n opened consumed long enough some)
+
+pub find_all : (taps : List KeptTap) (span workers : ℕ) (rest old new : Option (List ℕ)) →
+    WritesAll taps (finding span workers) rest old new →
+    WritesAll [] (finding span workers) rest old new
+find_all taps span workers None old new wrote = tt
+find_all taps span workers (Some bytes) old new wrote =
+    λ (header : Header) opened. found_written (wrote header opened)
+
+pub file_first : {taps named : List KeptTap} (r : Reception) (rest left old new : Option (List ℕ)) →
+    taps ≡ named → WritesFirst taps r rest left old new → WritesFirst named r rest left old new
+file_first {taps} {named} r rest left old new same wrote =
+    subst (λ (k : List KeptTap). WritesFirst k r rest left old new) same wrote
+
+pub file_all : {taps named : List KeptTap} (r : Reception) (rest old new : Option (List ℕ)) →
+    taps ≡ named → WritesAll taps r rest old new → WritesAll named r rest old new
+file_all {taps} {named} r rest old new same wrote =
+    subst (λ (k : List KeptTap). WritesAll k r rest old new) same wrote
+
 -- ---- a run over a script
 
 pub record HasMakeCauses (width : Width) (status : Status) (rest old new : Option (List ℕ)) :
@@ -241,6 +280,18 @@ script_end width Status.NoMemory rest old new causes = tt
 pub script_part : {width : Width} {rest old new : Option (List ℕ)} →
     WritesNoMoreMade width rest old new → WritesPart (BeginsMadeFile width rest) old new
 script_part wrote = record { text = wrote.text; written = wrote.written; part = wrote.part }
+
+-- a read of a script failed
+pub script_cut : (status : Status) → ((fault : FileFault) → status ≢ Status.BadFile fault) →
+    IsCut status → status ≡ Status.ReadFault
+script_cut Status.Done never cut = absurd cut
+script_cut Status.NoSync never cut = absurd cut
+script_cut (Status.BadFile fault) never cut = absurd (never fault refl)
+script_cut (Status.BadScript fault) never cut = absurd cut
+script_cut Status.BadWords never cut = absurd cut
+script_cut Status.ReadFault never cut = refl
+script_cut Status.WriteFault never cut = absurd cut
+script_cut Status.NoMemory never cut = absurd cut
 
 -- a faulty script leaves the sink
 pub script_early : (status : Status) {Same : Type 0} →
@@ -426,7 +477,7 @@ owed_answer forms job status bytes held reply rest old new answered is was owed 
     (one_reply forms job bytes a.reply reply a.owed owed)
     (settled held a.reply status new a.answers)
 
-named_well : (job : Job) → ¬ (IsEndOf job Status.BadWords)
+pub named_well : (job : Job) → ¬ (IsEndOf job Status.BadWords)
 named_well (Find span workers) end = end
 named_well (Follow span workers fingers paging traffic limits) end = end
 named_well (Make width) end = end

@@ -1,3 +1,4 @@
+pub mod Broken
 pub mod Find
 pub mod Hearing
 pub mod MadeLaws

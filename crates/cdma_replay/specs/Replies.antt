@@ -21,7 +21,8 @@ use Rattle.cdma_words.specs.declared.job.Job.TheVariants.{Find, Follow, Make, Tr
 use Rattle.cdma_replay.specs.declared.receiving.Reception.{Reception}
 use Rattle.cdma_replay.specs.declared.status.Status.{Status}
 use Rattle.cdma_replay.specs.declared.status.Status.TheVariants as ends
-use Rattle.cdma_replay.specs.Find.{BeginsFile, BeginsText, IsFaultIn, IsHeaderFault}
+use Rattle.cdma_replay.specs.Broken.{WritesAll, WritesFirst}
+use Rattle.cdma_replay.specs.Find.{BeginsFile, BeginsText, IsFaultIn, IsHeaderFault, IsSearchable}
 use Rattle.cdma_replay.specs.Hearing.{file_end_of, file_text}
 use Rattle.cdma_replay.specs.Make.{BeginsMadeFile, made_file}
 use Rattle.cdma_replay.specs.Trials.{trial_line}
@@ -116,6 +117,36 @@ Begins forms (Follow span workers fingers paging traffic limits) =
     BeginsText (kept_by limits forms) (following span workers fingers paging traffic)
 Begins forms (Make width) = BeginsMadeFile width
 Begins forms (Trial number workers) = λ rest text. StartsWith (trial_line number) text
+
+-- what was written where the input breaks off, or a read failed: the text of the first of the samples
+-- that were taken; and nothing of a script, which is read before anything is written
+abbrev pub TellsFirst : List ℕ → Job → Option (List ℕ) → Option (List ℕ) → Option (List ℕ) →
+    Option (List ℕ) → Type 0
+TellsFirst forms (Find span workers) = WritesFirst [] (finding span workers)
+TellsFirst forms (Follow span workers fingers paging traffic limits) =
+    WritesFirst (kept_by limits forms) (following span workers fingers paging traffic)
+TellsFirst forms (Make width) = λ rest left old new. new ≡ old
+TellsFirst forms (Trial number workers) = λ rest left old new. Unit {0}
+
+-- and where it goes on behind its samples: their whole text
+abbrev pub TellsAll : List ℕ → Job → Option (List ℕ) → Option (List ℕ) → Option (List ℕ) → Type 0
+TellsAll forms (Find span workers) = WritesAll [] (finding span workers)
+TellsAll forms (Follow span workers fingers paging traffic limits) =
+    WritesAll (kept_by limits forms) (following span workers fingers paging traffic)
+TellsAll forms job = λ rest old new. Unit {0}
+
+-- an input without a fault
+abbrev pub IsLawfulInput : Job → List ℕ → Type 0
+IsLawfulInput (Find span workers) = λ bytes. IsSearchable bytes span
+IsLawfulInput (Follow span workers fingers paging traffic limits) = λ bytes. IsSearchable bytes span
+IsLawfulInput (Make width) = λ bytes. IsOk (plan_named width bytes)
+IsLawfulInput (Trial number workers) = λ bytes. Unit {0}
+
+-- the input is known to have no fault, and no read of it failed; a trial has none
+abbrev pub ReadsWell : Job → Option (List ℕ) → Type 0 → Type 0
+ReadsWell (Trial number workers) rest Failed = Unit {0}
+ReadsWell job None Failed = ⊥
+ReadsWell job (Some bytes) Failed = IsLawfulInput job bytes × ¬ Failed
 
 -- ---- ends
 

@@ -12,6 +12,8 @@ ghost use Rattle.cdma_replay.specs.Find.{IsEnd};
 #[cfg(test)]
 mod capture_tests;
 mod handset;
+#[cfg(test)]
+mod hostile_tests;
 pub mod laws;
 #[cfg(test)]
 mod link_tests;

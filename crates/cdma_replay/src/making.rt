@@ -108,6 +108,7 @@ fn make_file<S: Source, K: Sink>(
         IfSome (S.rest source.old) (λ bytes. plan_named width bytes ≡ Err fault) }
     ensures read_fault { ended result ≡ Status.ReadFault →
         Rose (S.faults source.old) (S.faults source.new) }
+    ensures unwritten { ended result ≡ Status.ReadFault → sink.new ≡ sink.old }
     ensures write_fault { ended result ≡ Status.WriteFault →
         Rose (K.faults sink.old) (K.faults sink.new) }
     ensures lawful { ended result ≡ Status.WriteFault →
@@ -148,6 +149,7 @@ pub fn make<S: Source, K: Sink>(
         IfSome (S.rest source.old) (λ bytes. plan_named width bytes ≡ Err fault) }
     ensures read_fault { ended result ≡ Status.ReadFault →
         Rose (S.faults source.old) (S.faults source.new) }
+    ensures unwritten { ended result ≡ Status.ReadFault → sink.new ≡ sink.old }
     ensures write_fault { ended result ≡ Status.WriteFault →
         Rose (K.faults sink.old) (K.faults sink.new) }
     ensures lawful { ended result ≡ Status.WriteFault →

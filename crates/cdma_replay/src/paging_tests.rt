@@ -9,7 +9,7 @@ use std::alloc::Global;
 use std::test::Fail;
 
 /// A channel with one page, a CDMA Channel List Message, in each half-frame.
-const PAGING: &str = "paging channel=1 gain=60\n\
+pub const PAGING: &str = "paging channel=1 gain=60\n\
                       page half 34:04ff8046c0\n";
 
 /// A channel with a cycle of seven half-frames: a run of three pages, and two that begin one each.
@@ -124,7 +124,7 @@ const MIDDLE_PLACES: [u64; 12] = [
 const LATE_PLACES: [u64; 4] = [1179648, 1204224, 1228800, 1228800];
 
 /// Two texts, one behind the other.
-fn joined(alloc: Global, one: &str, other: &str) -> Result<String, Fail> {
+pub fn joined(alloc: Global, one: &str, other: &str) -> Result<String, Fail> {
     Ok(format!(in alloc; "{one}{other}")?)
 }
 
@@ -149,7 +149,7 @@ fn add_pages(text: &mut Vec<u8>, alloc: Global, places: &[u64]) -> Result<(), Fa
 }
 
 /// What is heard of a second of the first cell with its paging channel.
-fn second_of_paging(alloc: Global) -> Result<Vec<u8>, Fail> {
+pub fn second_of_paging(alloc: Global) -> Result<Vec<u8>, Fail> {
     let mut text = Vec::from_slice(alloc, b"pilot phase=64 energy=1509949440000\n")?;
     add_sync(&mut text, alloc, 294848, "102a1d2e508", 1007)?;
     add_sync(&mut text, alloc, 589760, "007dff18942", 1010)?;

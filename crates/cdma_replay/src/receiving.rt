@@ -23,9 +23,12 @@ ghost use Rattle.cdma_replay.specs.Hearing.{HasRoomFor, HearsPart, HearsRest, Is
 ghost use Rattle.cdma_replay.specs.Hearing.{Tells, TellsPart};
 ghost use Rattle.cdma_replay.specs.Hearing.{end_when, events_in, is_told, taps_for};
 ghost use Rattle.cdma_replay.specs.Hearing.{tuning_of};
+ghost use Rattle.cdma_replay.specs.Broken.{HearsFirst, IsCut, IsLong, IsUnopened, TakesFew};
+ghost use Rattle.cdma_replay.specs.Broken.{WritesAll, WritesFirst};
 ghost use Rattle.cdma_replay.specs.Find.{BeginsFile, IsEnd, IsFault, IsFaultIn, IsOfFiles};
 ghost use Rattle.cdma_replay.specs.Find.{IsHeaderFault, IsRestFault, IsSearchable, WritesNoMore};
 ghost use Rattle.cdma_replay.specs.Find.{WritesText, ended};
+ghost use Rattle.cdma_replay.specs.Status.{file_status};
 
 use crate::handset::{Receiver, handset};
 use crate::status::Status;
@@ -64,6 +67,10 @@ fn open_span<S: Source>(source: &mut S, span: &mut [Sample]) -> Result<SampleRea
         IfSome (S.rest source.old) (λ bytes. IsFaultIn (length span.old) bytes e)) }
     ensures header_alone { IfErr result (λ e. IsHeaderFault e →
         ConsumesAtMost 16 (S.rest source.old) (S.rest source.new)) }
+    ensures few { OnErr result
+        (TakesFew (length span.old) (S.rest source.old) (S.rest source.new)) }
+    ensures no_longer { IfErr result (λ e. IsLong (file_status e) →
+        IsUnopened (S.rest source.old)) }
     ensures later { S.faults source.old ≤ S.faults source.new }
     ensures cause { result ≡ Err FileFault.ReadFault →
         Rose (S.faults source.old) (S.faults source.new) }
@@ -216,7 +223,7 @@ fn hear_rest<S: Source, T: KeepsTaps, K: Sink>(
     taps: &mut T,
     sink: &mut K,
 ) -> Result<(), Status>
-    requires piece { 0 < length piece.old }
+    requires piece { length piece.old ≡ 4096 }
     requires good { reader.old.fault ≡ None }
     requires counted { reader.old.left ≤ reader.old.header.count }
     requires room { HasRoom handset.old reader.old.left }
@@ -233,6 +240,20 @@ fn hear_rest<S: Source, T: KeepsTaps, K: Sink>(
         (events_in t heard) →
         HearsPart t first (width_of reader.old.header) heard (S.rest source.old)
         (K.written sink.old) (K.written sink.new) }
+    ensures cut { IsCut (ended result) → (t : Option Tuning) (first : List KeptTap)
+        (heard : List Sample) →
+        HasGiven t first handset.old (T.kept taps.old) heard
+        (events_in t heard) →
+        HearsFirst t first (width_of reader.old.header) (λ k. k ≤ reader.old.left)
+        (sample_len (width_of reader.old.header) * 4096) heard (S.rest source.old)
+        (S.rest source.new) (K.written sink.old) (K.written sink.new) }
+    ensures long { IsLong (ended result) → (t : Option Tuning) (first : List KeptTap)
+        (heard : List Sample) →
+        HasGiven t first handset.old (T.kept taps.old) heard
+        (events_in t heard) →
+        HearsFirst t first (width_of reader.old.header) (λ k. k ≡ reader.old.left)
+        1 heard (S.rest source.old)
+        (S.rest source.new) (K.written sink.old) (K.written sink.new) }
     ensures fault { (fault : FileFault) → ended result ≡ Status.BadFile fault →
         (fault ≢ FileFault.ReadFault) ×
         IfSome (S.rest source.old)
@@ -297,7 +318,7 @@ fn receive_file<R: Threads + Sync, S: Source, K: Sink, T: KeepsTaps, G: Gate + S
     requires span { (length span.old ≡ reception.span) × (reception.span ≤ 32768) }
     requires workers { IsWorkers reception.workers }
     requires receiver { IfSome reception.receiver IsLawfulReceiver }
-    requires piece { 0 < length piece.old }
+    requires piece { length piece.old ≡ 4096 }
     requires kept { All IsKept (T.kept taps) }
     ensures done { IsEnd (ended result) → IfSome (S.rest source.old) (λ bytes.
         WritesText (T.kept taps) reception (ended result) bytes
@@ -325,6 +346,10 @@ fn receive_file<R: Threads + Sync, S: Source, K: Sink, T: KeepsTaps, G: Gate + S
         IsHeaderFault fault →
         ConsumesAtMost 16 (S.rest source.old) (S.rest source.new) }
     ensures written { WritesNoMore (T.kept taps) reception (S.rest source.old)
+        (K.written sink.old) (K.written sink.new) }
+    ensures cut { IsCut (ended result) → WritesFirst (T.kept taps) reception (S.rest source.old)
+        (S.rest source.new) (K.written sink.old) (K.written sink.new) }
+    ensures long { IsLong (ended result) → WritesAll (T.kept taps) reception (S.rest source.old)
         (K.written sink.old) (K.written sink.new) }
     ensures later_source { S.faults source.old ≤ S.faults source.new }
     ensures later_sink { K.faults sink.old ≤ K.faults sink.new }
@@ -390,6 +415,10 @@ pub fn receive<R: Threads + Sync, S: Source, K: Sink, T: KeepsTaps, G: Gate + Sy
         IsHeaderFault fault →
         ConsumesAtMost 16 (S.rest source.old) (S.rest source.new) }
     ensures written { WritesNoMore (T.kept taps) reception (S.rest source.old)
+        (K.written sink.old) (K.written sink.new) }
+    ensures cut { IsCut (ended result) → WritesFirst (T.kept taps) reception (S.rest source.old)
+        (S.rest source.new) (K.written sink.old) (K.written sink.new) }
+    ensures long { IsLong (ended result) → WritesAll (T.kept taps) reception (S.rest source.old)
         (K.written sink.old) (K.written sink.new) }
     ensures later_source { S.faults source.old ≤ S.faults source.new }
     ensures later_sink { K.faults sink.old ≤ K.faults sink.new }

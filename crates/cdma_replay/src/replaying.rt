@@ -17,12 +17,12 @@ ghost use Rattle.cdma_words.specs.declared.job.Job.{Job as TheJob};
 ghost use Rattle.cdma_words.specs.declared.job.Job.TheVariants.{Follow, Trial};
 ghost use Rattle.cdma_words.specs.declared.job.TrafficOptions.{TrafficOptions as TheTraffic};
 ghost use Rattle.cdma_words.specs.Words.{IsLawfulJob, job_named};
+ghost use Rattle.cdma_replay.specs.Broken.{IsCut, IsLong};
 ghost use Rattle.cdma_replay.specs.Find.{IsEnd, IsHeaderFault, ended};
 ghost use Rattle.cdma_replay.specs.Hearing.{clean_end, clean_events, traffic_of};
 ghost use Rattle.cdma_replay.specs.Replies.{AnswersBehind, Begins, IsAnswered, IsEarlyFault};
 ghost use Rattle.cdma_replay.specs.Replies.{IsEndOf, IsPromising, IsReply, IsVerdict, ReadsInput};
-ghost use Rattle.cdma_replay.specs.Replies.{Reply};
-ghost use Rattle.cdma_replay.specs.Replies.{WritesPart};
+ghost use Rattle.cdma_replay.specs.Replies.{ReadsWell, Reply, TellsAll, TellsFirst, WritesPart};
 ghost use Rattle.cdma_replay.specs.Trials.{trial_line};
 
 use crate::handset::Receiver;
@@ -79,6 +79,10 @@ fn run_job<R: Threads + Sync, S: Source, K: Sink, G: Gate + Sync>(
     ensures written { WritesPart
         (Begins (map (λ b. shape b) taps.items) job (S.rest source.old))
         (K.written sink.old) (K.written sink.new) }
+    ensures cut { IsCut result → TellsFirst (map (λ b. shape b) taps.items) job
+        (S.rest source.old) (S.rest source.new) (K.written sink.old) (K.written sink.new) }
+    ensures long { IsLong result → TellsAll (map (λ b. shape b) taps.items) job
+        (S.rest source.old) (K.written sink.old) (K.written sink.new) }
     ensures later_source { S.faults source.old ≤ S.faults source.new }
     ensures later_sink { K.faults sink.old ≤ K.faults sink.new }
 {
@@ -177,6 +181,12 @@ pub fn replay<R: Threads + Sync, S: Source, K: Sink, G: Gate + Sync>(
         run_text (kept_by limits (map (λ b. shape b) taps.items))
         (clean_events span plan paging traffic)))) }
 
+    // A good input is read to its end, unless a call on the outside failed or memory ran out.
+    ensures complete { (job : TheJob) → job_named words.now ≡ Some job →
+        ReadsWell job (S.rest source.old) (Rose (S.faults source.old) (S.faults source.new)) →
+        ¬ (Rose (K.faults sink.old) (K.faults sink.new)) →
+        (result ≡ Status.NoMemory) ⊎ IsEnd result }
+
     // Whatever failed: each end comes of a command that has it, and where it tells of the input,
     // only where the input owes it.
     ensures kind { (job : TheJob) → job_named words.now ≡ Some job → IsEndOf job result }
@@ -210,6 +220,15 @@ pub fn replay<R: Threads + Sync, S: Source, K: Sink, G: Gate + Sync>(
         ConsumesAtMost 16 (S.rest source.old) (S.rest source.new) }
     ensures written { (job : TheJob) → job_named words.now ≡ Some job →
         WritesPart (Begins (map (λ b. shape b) taps.items) job (S.rest source.old))
+        (K.written sink.old) (K.written sink.new) }
+    // Where a sample file breaks off or a read of it failed, the text of the samples that were taken
+    // was written, but for the last 4,096 or fewer; and where it goes on behind its samples, all
+    // text.
+    ensures cut { (job : TheJob) → job_named words.now ≡ Some job → IsCut result →
+        TellsFirst (map (λ b. shape b) taps.items) job (S.rest source.old) (S.rest source.new)
+        (K.written sink.old) (K.written sink.new) }
+    ensures long { (job : TheJob) → job_named words.now ≡ Some job → IsLong result →
+        TellsAll (map (λ b. shape b) taps.items) job (S.rest source.old)
         (K.written sink.old) (K.written sink.new) }
     ensures later_source { S.faults source.old ≤ S.faults source.new }
     ensures later_sink { K.faults sink.old ≤ K.faults sink.new }

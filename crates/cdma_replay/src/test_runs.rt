@@ -152,11 +152,12 @@ pub fn pilot_file(alloc: Global, count: u16, phase: u16, amplitude: i16) -> Resu
     Ok(file)
 }
 
-/// A file of 64 samples, of which two aren't 0: several phases have the greatest energy.
-pub fn two_samples_file(alloc: Global) -> Result<Vec<u8>, Fail> {
-    let mut file = file_with(alloc, 1, 64)?;
+/// A file of so many samples, 2 or more, of which two aren't 0: several phases have the greatest
+/// energy.
+pub fn two_samples_file(alloc: Global, count: u64) -> Result<Vec<u8>, Fail> {
+    let mut file = file_with(alloc, 1, count)?;
     file.extend_from_slice(&[0, 1, 0, 0, 0, 1, 0, 0])?;
-    for _n in 2..64 {
+    for _n in 2..count {
         file.extend_from_slice(&[0; 4])?;
     }
     Ok(file)

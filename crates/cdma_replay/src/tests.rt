@@ -81,7 +81,7 @@ fn finds_in_the_longest_span(rt: HostRuntime) -> Result<(), Fail> {
 #[test]
 fn finds_in_the_shortest_span(rt: HostRuntime) -> Result<(), Fail> {
     let alloc = rt.alloc();
-    let file = two_samples_file(alloc)?;
+    let file = two_samples_file(alloc, 64)?;
     let (status, text) = run(&rt, "find --span 64", file.as_slice(), SMALL)?;
     assert_eq!(rt; status, Status::Done);
     assert_eq!(rt; text.as_slice(), b"pilot phase=5 energy=8\n".as_slice());

@@ -110,7 +110,7 @@ fn any_number_of_workers_writes_the_same(rt: HostRuntime) -> Result<(), Fail> {
 
 #[test]
 fn any_number_of_workers_takes_the_least_phase(rt: HostRuntime) -> Result<(), Fail> {
-    let file = two_samples_file(rt.alloc())?;
+    let file = two_samples_file(rt.alloc(), 64)?;
     for line in [
         "find --span 64 --workers 1",
         "find --span 64 --workers=3",

@@ -1,12 +1,19 @@
-use Rattle.std.proofs.Common.{◌≡◌, ◌≤◌, ◌-◌, ℕ, IfSome, IsNone, length, length-take-le, take, ap}
+use Rattle.std.proofs.Common.{◌≡◌, ◌≤◌, ◌-◌, ◌*◌, ℕ, min, IfSome, IsNone, length, length-take-le, take, ap}
 use Rattle.std.proofs.Common.{◌∙◌, refl, subst, arith, rules}
 use Rattle.cdma_io.specs.SampleFile.{Reading, width_of}
 use Rattle.cdma_io.specs.declared.file_fault.FileFault.{FileFault}
+use Rattle.cdma_io.specs.Outside.{ConsumesAtMost}
+use Rattle.cdma_io.specs.SampleFile.{sample_len}
+use Rattle.cdma_io.specs.declared.header.Header.{Header}
+use Rattle.cdma_io.proofs.Spelling.{sample_len-mono}
+use Rattle.cdma_replay.specs.Broken.{IsLong}
 use Rattle.cdma_replay.specs.Find.{IsRestFault}
+use Rattle.cdma_replay.specs.Status.{file_status}
+use Rattle.cdma_replay.proofs.Broken.{has_bytes, no_long_cut}
 use Rattle.cdma_replay.specs.Hearing.{HasRoom}
 use Rattle.cdma_replay.proofs.Faults.{rest_cut_fault, rest_extra_fault}
-use Rattle.cdma_replay.proofs.Files.{blamed, wrong_length}
-use Rattle.cdma_replay.proofs.HeardRest.{hears_all, hears_more, hears_nothing, hears_part}
+use Rattle.cdma_replay.proofs.Files.{blamed, ended_by, wrong_length}
+use Rattle.cdma_replay.proofs.HeardRest.{hears_all, hears_first, hears_more, hears_nothing, hears_part}
 use Rattle.cdma_replay.proofs.HeardRest.{hears_stopped}
 use Rattle.cdma_replay.proofs.Hearings.{room_for}
 use Rattle.cdma_replay.proofs.receiving.hear_rest.Goals as goal
@@ -128,3 +135,40 @@ returns-clause-ok g c =
     omega (arith, c.left.ensures.value, c.loop-reader-test.false) in
     hears_all c.args.reader.now.left c.loop-reader.reader.left c.loop-reader.invariant.hears done
     (search rules)
+
+pub returns-in_err-count-clause-cut : goal.returns-in_err-count-clause-cut
+returns-in_err-count-clause-cut g c cut =
+    let inv = c.loop-reader.invariant in
+    let left = c.args.reader.now.left in
+    let width = width_of c.args.reader.now.header in
+    hears_first (λ (k : ℕ). k ≤ left) (sample_len width * 4096) inv.hears (omega arith)
+    (subst (λ (h : Header). ConsumesAtMost
+    (sample_len (width_of h) * min (length c.loop-reader.piece) c.loop-reader.reader.left)
+    (g.S.Source.rest c.loop-reader.source) (g.S.Source.rest c.read.new.source)) inv.same
+    c.read.ensures.taken)
+    (sample_len-mono width (min (length c.loop-reader.piece) c.loop-reader.reader.left) 4096
+    (omega (arith, inv.room)))
+
+pub returns-in_err-count-clause-long : goal.returns-in_err-count-clause-long
+returns-in_err-count-clause-long g c long =
+    let inv = c.loop-reader.invariant in
+    let none : IsNone c.loop-reader.reader.fault = rw inv.good refl in
+    absurd (no_long_cut c.in_err-count.field-0.0 _ _ _ _ (c.in_err-count.ensures.fault none)
+    (subst IsLong
+    (ended_by c.from_residual.result (file_status c.in_err-count.field-0.0)
+    c.from_residual.ensures.1) long))
+
+pub returns-in_err-finish-clause-cut : goal.returns-in_err-finish-clause-cut
+returns-in_err-finish-clause-cut g c cut =
+    let left = c.args.reader.now.left in
+    let width = width_of c.args.reader.now.header in
+    hears_first (λ (k : ℕ). k ≤ left) (sample_len width * 4096) c.loop-reader.invariant.hears
+    (omega arith) c.finish.ensures.taken (has_bytes width)
+
+pub returns-in_err-finish-clause-long : goal.returns-in_err-finish-clause-long
+returns-in_err-finish-clause-long g c long =
+    let left = c.args.reader.now.left in
+    let done : c.loop-reader.reader.left ≤ 0 =
+    omega (arith, c.left.ensures.value, c.loop-reader-test.false) in
+    hears_first (λ (k : ℕ). k ≡ left) 1 c.loop-reader.invariant.hears (omega (arith, done))
+    c.finish.ensures.taken (omega arith)

@@ -1,4 +1,4 @@
-use Rattle.std.proofs.Common.{◌≡◌, ◌-◌, ◌<◌, ◌≤◌, All, None, length}
+use Rattle.std.proofs.Common.{◌≡◌, ◌-◌, ◌≤◌, All, None, length}
 use Rattle.cdma_io.specs.SampleFile.{width_of}
 use Rattle.event_tap.specs.Taps.{IsKept}
 use Rattle.cdma_replay.specs.Hearing.{HasRoom}
@@ -16,7 +16,7 @@ invariant-loop-reader g l = record {
   same : l.reader.header ≡ l.initial.reader.header;
   low : l.reader.left ≤ l.initial.reader.left;
   good : l.reader.fault ≡ None;
-  room : 0 < length l.piece;
+  room : length l.piece ≡ 4096;
   later : g.S.Source.faults l.fn.source ≤ g.S.Source.faults l.source;
   later_sink : g.K.Sink.faults l.fn.sink ≤ g.K.Sink.faults l.sink;
 }

@@ -2,6 +2,7 @@ use Rattle.std.proofs.Common.{length, rules}
 use Rattle.std.proofs.lemmas.Result.{err_from_is_err_and}
 use Rattle.std.proofs.Common.{◌≡◌, ◌≤◌, IsNone, None, ap, refl}
 use Rattle.cdma_io.specs.SampleFile.{Reading}
+use Rattle.cdma_replay.proofs.Broken.{no_long_cut, opening_few, span_few, unopened}
 use Rattle.cdma_replay.proofs.Faults.{fault_of_opening, fault_of_count, fault_of_span}
 use Rattle.cdma_replay.proofs.Files.{no_file, unsearchable}
 use Rattle.cdma_replay.proofs.receiving.open_span.Goals as goal
@@ -47,3 +48,41 @@ pub returns-in_err-read-clause-fault : goal.returns-in_err-read-clause-fault
 returns-in_err-read-clause-fault g c =
     no_file c.from_residual-in_err-read.result (g.S.Source.rest c.args.source.now)
     (length c.args.span.now) (returns-in_err-read-clause-place g c)
+
+-- fewer samples than those of the span were taken
+pub returns-in_err-reader-clause-few : goal.returns-in_err-reader-clause-few
+returns-in_err-reader-clause-few g c =
+    let p = err_from_is_err_and c.from_residual.result c.from_residual.ensures.1 in
+    rw p.1 (opening_few (length c.args.span.now) _ _ c.open.ensures.taken)
+
+pub returns-then-count-span-clause-few : goal.returns-then-count-span-clause-few
+returns-then-count-span-clause-few g c =
+    opening_few (length c.args.span.now) _ _ c.open.ensures.taken
+
+pub returns-in_err-read-clause-few : goal.returns-in_err-read-clause-few
+returns-in_err-read-clause-few g c =
+    let reading = c.in_ok-reader.reader in
+    let good : reading.fault ≡ None = ap (λ (r : Reading). r.fault) c.in_ok-reader.ensures.fresh in
+    let none : IsNone reading.fault = rw good refl in
+    let p = err_from_is_err_and c.from_residual-in_err-read.result
+    c.from_residual-in_err-read.ensures.1 in
+    rw p.1
+    (span_few (length c.args.span.now) _ _ _ reading c.in_ok-reader.ensures.told
+    c.in_ok-reader.ensures.header (c.in_err-read.ensures.fewer none))
+
+-- and a header that is read doesn't end a file too late
+pub returns-in_err-reader-clause-no_longer : goal.returns-in_err-reader-clause-no_longer
+returns-in_err-reader-clause-no_longer g c =
+    let p = err_from_is_err_and c.from_residual.result c.from_residual.ensures.1 in
+    rw (p.1, p.2)
+    (unopened _ (g.S.Source.rest c.args.source.now) c.in_err-reader.ensures.told)
+
+pub returns-in_err-read-clause-no_longer : goal.returns-in_err-read-clause-no_longer
+returns-in_err-read-clause-no_longer g c =
+    let reading = c.in_ok-reader.reader in
+    let good : reading.fault ≡ None = ap (λ (r : Reading). r.fault) c.in_ok-reader.ensures.fresh in
+    let none : IsNone reading.fault = rw good refl in
+    let p = err_from_is_err_and c.from_residual-in_err-read.result
+    c.from_residual-in_err-read.ensures.1 in
+    rw (p.1, p.2)
+    (λ long. absurd (no_long_cut _ _ _ _ _ (c.in_err-read.ensures.fault none) long))

@@ -3,8 +3,11 @@ use Rattle.std.proofs.Common.{arith}
 use Rattle.chip_core.specs.declared.sample.Sample.{Sample}
 use Rattle.cdma_io.specs.declared.file_fault.FileFault.{FileFault}
 use Rattle.mobile_core.specs.Tuning.{Tuning}
+use Rattle.cdma_replay.specs.Broken.{IsCut, IsLong}
 use Rattle.cdma_replay.specs.Find.{IsFault, IsFaultIn}
 use Rattle.cdma_replay.specs.Hearing.{HasHeard, end_when, events_in, tuning_of}
+use Rattle.cdma_replay.specs.Status.{file_status}
+use Rattle.cdma_replay.proofs.Broken.{nothing_all, nothing_first, writes_all, writes_first}
 use Rattle.cdma_replay.proofs.Ends.{begins_file, ends_well, no_memory_told, no_write_told}
 use Rattle.cdma_replay.proofs.Faults.{fault_of_rest}
 use Rattle.cdma_replay.proofs.Files.{blamed, ended_by, unsearchable}
@@ -165,3 +168,47 @@ pub returns-in_err-reader-clause-begun : goal.returns-in_err-reader-clause-begun
 returns-in_err-reader-clause-begun g c lost =
     absurd (no_write_told c.from_residual.result c.in_err-reader.field-0.0
     c.from_residual.ensures.1 lost)
+
+-- ---- what a file that breaks off, or goes on, leaves written
+
+pub returns-in_err-reader-clause-cut : goal.returns-in_err-reader-clause-cut
+returns-in_err-reader-clause-cut g c cut =
+    nothing_first _ (length c.args.span.now) c.args.reception (g.S.Source.rest c.args.source.now) _
+    _ _ c.requires.span.0 c.in_err-reader.ensures.few
+
+pub returns-in_err-reader-clause-long : goal.returns-in_err-reader-clause-long
+returns-in_err-reader-clause-long g c long =
+    nothing_all _ _ (g.S.Source.rest c.args.source.now) _ _
+    (c.in_err-reader.ensures.no_longer
+    (subst IsLong
+    (ended_by c.from_residual.result (file_status c.in_err-reader.field-0.0)
+    c.from_residual.ensures.1) long))
+
+pub returns-in_err-hear_rest-clause-cut : goal.returns-in_err-hear_rest-clause-cut
+returns-in_err-hear_rest-clause-cut g c cut =
+    let begun =
+    has_begun _ c.args.reception c.open_span.new.span c.in_ok-best.best _ (search rules)
+    c.in_ok-reader.ensures.file c.in_ok-best.ensures c.near_for-near.ensures.near
+    c.header.ensures.value c.in_ok-handset.ensures.given c.in-Ok.ensures.ok
+    c.in-Ok.ensures.behind in
+    writes_first (g.S.Source.rest c.args.source.now) _ _ _ _ c.in_ok-reader.ensures.lawful begun
+    c.in-Ok-hear.ensures.ok
+    (c.in_err-hear_rest.ensures.cut
+    (subst IsCut
+    (ended_by c.from_residual-in_err-hear_rest.result c.in_err-hear_rest.field-0.0
+    c.from_residual-in_err-hear_rest.ensures.1) cut))
+
+pub returns-in_err-hear_rest-clause-long : goal.returns-in_err-hear_rest-clause-long
+returns-in_err-hear_rest-clause-long g c long =
+    let begun =
+    has_begun _ c.args.reception c.open_span.new.span c.in_ok-best.best _ (search rules)
+    c.in_ok-reader.ensures.file c.in_ok-best.ensures c.near_for-near.ensures.near
+    c.header.ensures.value c.in_ok-handset.ensures.given c.in-Ok.ensures.ok
+    c.in-Ok.ensures.behind in
+    writes_all (g.S.Source.rest c.args.source.now) _ _ _ _ c.in_ok-reader.ensures.lawful
+    (omega (arith, c.in_ok-reader.ensures.reader.0, c.requires.span.0)) begun
+    c.in-Ok-hear.ensures.ok
+    (c.in_err-hear_rest.ensures.long
+    (subst IsLong
+    (ended_by c.from_residual-in_err-hear_rest.result c.in_err-hear_rest.field-0.0
+    c.from_residual-in_err-hear_rest.ensures.1) long))

@@ -1,10 +1,12 @@
-use Rattle.std.proofs.Common.{◌≡◌, ◌∙◌, ℕ, subst, sym}
+use Rattle.std.proofs.Common.{◌≡◌, ◌∙◌, ℕ, ap, subst, sym}
 use Rattle.std.specs.Io.KnownBytes.{Appends}
 use Rattle.cdma_words.specs.declared.job.Job.TheVariants.{Trial}
 use Rattle.cdma_replay.specs.Trials.{trial_line}
+use Rattle.cdma_replay.specs.Broken.{IsCut, IsLong}
 use Rattle.cdma_replay.specs.Find.{ended}
 use Rattle.cdma_replay.specs.Replies.{following}
-use Rattle.cdma_replay.proofs.Replies.{file_part, file_verdict_by, find_part, find_verdict}
+use Rattle.cdma_replay.proofs.Replies.{file_all, file_first, file_part, file_verdict_by, find_all}
+use Rattle.cdma_replay.proofs.Replies.{find_first, find_part, find_verdict, script_cut}
 use Rattle.cdma_replay.proofs.Replies.{HasTrialCauses, script_early, script_end, script_part}
 use Rattle.cdma_replay.proofs.Replies.{script_verdict, trial_done, trial_early, trial_end, trial_part}
 use Rattle.cdma_replay.proofs.Replies.{trial_verdict}
@@ -126,3 +128,50 @@ returns-in-Trial-clause-written g c =
       err = ends.err;
       failed = ends.failed;
     }))
+
+pub returns-in-Find-clause-cut : goal.returns-in-Find-clause-cut
+returns-in-Find-clause-cut g c cut =
+    rw c.in-Find.is
+    (find_first _ c.in-Find.span c.in-Find.workers (g.S.Source.rest c.args.source.now) _ _ _
+    (c.receive.ensures.cut (subst IsCut c.status_of.ensures cut)))
+
+pub returns-in-Find-clause-long : goal.returns-in-Find-clause-long
+returns-in-Find-clause-long g c long =
+    rw c.in-Find.is
+    (find_all _ c.in-Find.span c.in-Find.workers (g.S.Source.rest c.args.source.now) _ _
+    (c.receive.ensures.long (subst IsLong c.status_of.ensures long)))
+
+pub returns-in-Follow-clause-cut : goal.returns-in-Follow-clause-cut
+returns-in-Follow-clause-cut g c cut =
+    rw c.in-Follow.is
+    (file_first
+    (following c.in-Follow.span c.in-Follow.workers c.in-Follow.fingers c.in-Follow.paging
+    c.in-Follow.traffic)
+    (g.S.Source.rest c.args.source.now) _ _ _ c.new-taps-in-Follow.ensures.value
+    (c.receive-in-Follow.ensures.cut (subst IsCut c.status_of-in-Follow.ensures cut)))
+
+pub returns-in-Follow-clause-long : goal.returns-in-Follow-clause-long
+returns-in-Follow-clause-long g c long =
+    rw c.in-Follow.is
+    (file_all
+    (following c.in-Follow.span c.in-Follow.workers c.in-Follow.fingers c.in-Follow.paging
+    c.in-Follow.traffic)
+    (g.S.Source.rest c.args.source.now) _ _ c.new-taps-in-Follow.ensures.value
+    (c.receive-in-Follow.ensures.long (subst IsLong c.status_of-in-Follow.ensures long)))
+
+-- nothing was written of a script whose reading failed
+pub returns-in-Make-clause-cut : goal.returns-in-Make-clause-cut
+returns-in-Make-clause-cut g c cut =
+    rw c.in-Make.is
+    (ap (λ k. g.K.Sink.written k) (c.make.ensures.unwritten
+    (script_cut (ended c.make.result) c.make.ensures.others.2
+    (subst IsCut c.status_of-in-Make.ensures cut))))
+
+pub returns-in-Make-clause-long : goal.returns-in-Make-clause-long
+returns-in-Make-clause-long g c long = rw c.in-Make.is tt
+
+pub returns-in-Trial-clause-cut : goal.returns-in-Trial-clause-cut
+returns-in-Trial-clause-cut g c cut = rw c.in-Trial.is tt
+
+pub returns-in-Trial-clause-long : goal.returns-in-Trial-clause-long
+returns-in-Trial-clause-long g c long = rw c.in-Trial.is tt

@@ -1,0 +1,290 @@
+-- Lemmas on what is written of a sample file that breaks off, whose reading fails, or that goes on.
+use Rattle.std.proofs.Common.{◌≡◌, ℕ, ◌+◌, ◌*◌, ◌<◌, ◌≤◌, ◌++◌, min, List, [], length, sym, ap, ◌∙◌, subst}
+use Rattle.std.proofs.Common.{arith, append_assoc, length-append, Option, None, Some, IfSome, Ok, Err}
+use Rattle.std.proofs.lemmas.List.Concat.{flat_map-append}
+use Rattle.std.specs.List.{flat_map}
+use Rattle.std.specs.Io.KnownBytes.{Appends, Consumes}
+use Rattle.std.proofs.KnownBytes.{Appends-trans}
+use Rattle.chip_core.specs.declared.sample.Sample.{Sample}
+use Rattle.cdma_io.specs.Outside.{ConsumesAtMost, ConsumesFewer}
+use Rattle.cdma_io.specs.declared.file_fault.FileFault.{FileFault}
+use Rattle.cdma_io.specs.declared.file_fault.FileFault.TheVariants.{Magic, Version, Flags, Count}
+use Rattle.cdma_io.specs.declared.file_fault.FileFault.TheVariants.{Short, Extra, ReadFault, TooFew}
+use Rattle.cdma_io.specs.declared.header.Header.{Header}
+use Rattle.cdma_io.specs.declared.width.Width.{Width}
+use Rattle.cdma_io.specs.declared.width.Width.TheVariants.{Eight, Sixteen}
+use Rattle.cdma_io.specs.SampleFile.{CutsShort, IsLawfulHeader, Opens, Reading, header_spelling}
+use Rattle.cdma_io.specs.SampleFile.{opening, sample_len, sample_spelling, width_of}
+use Rattle.cdma_io.proofs.Opening.{opening-spelled, length-header_spelling}
+use Rattle.cdma_io.proofs.Spelling.{length-samples, sample_len-mono}
+use Rattle.mobile_core.specs.Tuning.{Tuning}
+use Rattle.mobile_core.specs.declared.event.Event.{Event}
+use Rattle.mobile_core.specs.declared.mobile.Mobile.{Mobile}
+use Rattle.event_tap.specs.Taps.{KeptTap}
+use Rattle.cdma_replay.specs.Broken.{HasWritten, HearsFirst, IsLong, IsUnopened, TakesFew}
+use Rattle.cdma_replay.specs.Broken.{WritesAll, WritesFirst}
+use Rattle.cdma_replay.specs.Hearing.{HasGiven, Tells, events_in, file_text, tuning_of}
+use Rattle.cdma_replay.specs.Status.{file_status}
+use Rattle.cdma_replay.specs.declared.receiving.Reception.{Reception}
+use Rattle.cdma_replay.proofs.Lines.{HasBegun, later_taps, pilot_text, told_text}
+use Rattle.cdma_replay.proofs.Prefixes.{front_begins}
+
+-- ---- how many samples some bytes are
+
+-- a sample has bytes
+pub has_bytes : (width : Width) → 1 ≤ sample_len width * 4096
+has_bytes Eight = omega arith
+has_bytes Sixteen = omega arith
+
+one_or_more : (width : Width) (n : ℕ) → 0 < n → 0 < sample_len width * n
+one_or_more Eight n some = omega (arith, some)
+one_or_more Sixteen n some = omega (arith, some)
+
+-- more bytes are more samples
+no_fewer : (width : Width) (n k : ℕ) → sample_len width * n ≤ sample_len width * k → n ≤ k
+no_fewer Eight n k most = omega (arith, most)
+no_fewer Sixteen n k most = omega (arith, most)
+
+-- ---- before the first samples were read
+
+-- what a source lost is what it has less
+lost : (bytes left taken : List ℕ) → bytes ≡ taken ++ left →
+    length bytes ≡ length taken + length left
+lost bytes left taken is = ap length is ∙ length-append taken left
+
+-- at most the header was taken
+pub opening_few : (count : ℕ) (rest left : Option (List ℕ)) → ConsumesAtMost 16 rest left →
+    TakesFew count rest left
+opening_few count None left part = tt
+opening_few count (Some bytes) None part = absurd part.consumed
+opening_few count (Some bytes) (Some after) part =
+    λ (header : Header) (taken : List ℕ) (n : ℕ) (opened : opening bytes ≡ Ok header)
+    (consumed : bytes ≡ taken ++ after) (enough : count ≤ n) (some : 0 < n).
+    omega (
+      arith,
+      part.fits,
+      lost bytes after part.bytes part.consumed,
+      lost bytes after taken consumed,
+      one_or_more (width_of header) n some,
+    )
+
+-- the header, and not all of the first samples
+pub span_few : (count : ℕ) (rest mid left : Option (List ℕ)) (reading : Reading) →
+    IfSome rest (λ bytes. Opens (Ok reading) (opening bytes)) →
+    Consumes rest mid (header_spelling reading.header) →
+    ConsumesFewer (sample_len (width_of reading.header) * min count reading.left) mid left →
+    TakesFew count rest left
+span_few count None mid left reading told opened part = tt
+span_few count (Some bytes) None left reading told opened part = absurd opened
+span_few count (Some bytes) (Some more) None reading told opened part = absurd part.consumed
+span_few count (Some bytes) (Some more) (Some after) reading told opened part =
+    λ (header : Header) (taken : List ℕ) (n : ℕ) (is : opening bytes ≡ Ok header)
+    (consumed : bytes ≡ taken ++ after) (enough : count ≤ n) (some : 0 < n).
+    let same : reading.header ≡ header = (let both : Ok reading.header ≡ Ok header = sym told ∙ is in cc)
+    in
+    let few : length part.bytes < sample_len (width_of header) * min count reading.left =
+    subst (λ (h : Header). length part.bytes < sample_len (width_of h) * min count reading.left)
+    same part.fits in
+    omega (
+      arith,
+      few,
+      lost bytes more (header_spelling reading.header) opened,
+      length-header_spelling reading.header,
+      lost more after part.bytes part.consumed,
+      lost bytes after taken consumed,
+      sample_len-mono (width_of header) (min count reading.left) n (omega (arith, enough)),
+    )
+
+-- bytes that were refused open no file
+pub unopened : (e : FileFault) (rest : Option (List ℕ)) →
+    IfSome rest (λ bytes. Opens (Err e) (opening bytes)) → IsLong (file_status e) → IsUnopened rest
+unopened e None told long = tt
+unopened (Extra place) (Some bytes) told long =
+    λ (header : Header) (is : opening bytes ≡ Ok header).
+    let refused : opening bytes ≡ Err (Extra place) = told (λ (r : Extra place ≡ ReadFault). cc) in
+    let never : Err (Extra place) ≡ Ok header = sym refused ∙ is in
+    absurd (cc)
+unopened (Short place) (Some bytes) told long = absurd long
+unopened ReadFault (Some bytes) told long = absurd long
+unopened Magic (Some bytes) told long = absurd long
+unopened Version (Some bytes) told long = absurd long
+unopened Flags (Some bytes) told long = absurd long
+unopened Count (Some bytes) told long = absurd long
+unopened (TooFew n) (Some bytes) told long = absurd long
+
+-- so nothing is owed of them
+pub nothing_first : (taps : List KeptTap) (count : ℕ) (r : Reception)
+    (rest left old new : Option (List ℕ)) → count ≡ r.span →
+    TakesFew count rest left → WritesFirst taps r rest left old new
+nothing_first taps count r None left old new same few = tt
+nothing_first taps count r (Some bytes) left old new same few =
+    λ (header : Header) (taken : List ℕ) (n : ℕ) (opened : opening bytes ≡ Ok header)
+    (consumed : Consumes (Some bytes) left taken)
+    (long : 16 + sample_len (width_of header) * n ≤ length taken) (enough : r.span ≤ n) (some : 0 < n).
+    absurd (omega (arith, long, few header taken n opened consumed (omega (arith, enough, same)) some))
+
+pub nothing_all : (taps : List KeptTap) (r : Reception) (rest old new : Option (List ℕ)) → IsUnopened rest → WritesAll taps r rest old new
+nothing_all taps r None old new never = tt
+nothing_all taps r (Some bytes) old new never =
+    λ (header : Header) (opened : opening bytes ≡ Ok header). absurd (never header opened)
+
+-- ---- behind them
+
+-- a file that breaks off isn't too long
+pub no_long_cut : (e : FileFault) (wanted from : ℕ) (old new : Option (List ℕ)) →
+    CutsShort e wanted from old new → ¬ (IsLong (file_status e))
+no_long_cut (Short place) wanted from old new cut = λ long. long
+no_long_cut ReadFault wanted from old new cut = λ long. long
+no_long_cut Magic wanted from old new cut = λ long. long
+no_long_cut Version wanted from old new cut = λ long. long
+no_long_cut Flags wanted from old new cut = λ long. long
+no_long_cut Count wanted from old new cut = λ long. long
+no_long_cut (TooFew n) wanted from old new cut = λ long. long
+no_long_cut (Extra place) wanted from old new cut = absurd cut
+
+-- the first samples were read and told of, and those behind them so far as they were heard
+pub has_written : {taps : List KeptTap} {r : Reception} {header : Header} {samples : List Sample}
+    {one other : Option Mobile} {kept behind : List KeptTap} {counted : ℕ → Type 0} {most : ℕ}
+    (bytes more : List ℕ) (left : Option (List ℕ)) {old between later new : Option (List ℕ)}
+    (number : ℕ → Type 0) →
+    HasBegun taps r header samples one kept (Some bytes) (Some more) old between →
+    ((t : Option Tuning) (first : List KeptTap) (heard : List Sample) (given : List Event) →
+    HasGiven t first one kept heard given →
+    Tells t first other behind given (heard ++ samples) between later) →
+    (heard : HearsFirst (tuning_of header samples r.receiver) (later_taps taps r samples)
+    (width_of header) counted most samples (Some more) left later new) →
+    number (length (samples ++ heard.samples)) →
+    HasWritten taps r header bytes number old new
+has_written {taps} {r} {header} {samples} bytes more None number begun tells heard fits =
+    absurd heard.consumed
+has_written {taps} {r} {header} {samples} bytes more (Some after) {old} {between} {later} {new} number
+    begun tells heard fits =
+    let t = tuning_of header samples r.receiver in
+    let taps1 = later_taps taps r samples in
+    let first = tells t taps1 [] [] begun.given in
+    let front = header_spelling header in
+    let spelled = flat_map (sample_spelling (width_of header)) in
+    let others = heard.samples in
+    let line = pilot_text taps r samples in
+    let behind = heard.more ++ after in
+    record {
+      samples = samples ++ others;
+      enough = omega (arith, length-append samples others, begun.counted);
+      number = fits;
+      first = front_begins bytes (front ++ spelled (samples ++ others)) behind
+          (begun.consumed
+          ∙ ap (λ (bs : List ℕ). (front ++ spelled samples) ++ bs)
+          (heard.consumed ∙ append_assoc (spelled others) heard.more after)
+          ∙ append_assoc front (spelled samples) (spelled others ++ behind)
+          ∙ ap (λ (bs : List ℕ). front ++ bs)
+          (sym (append_assoc (spelled samples) (spelled others) behind)
+          ∙ ap (λ (bs : List ℕ). bs ++ behind)
+          (sym (flat_map-append (sample_spelling (width_of header)) samples others)))
+          ∙ sym (append_assoc front (spelled (samples ++ others)) behind));
+      written =
+          subst (Appends old new) (told_text header others heard.text begun first heard.all)
+          (Appends-trans old between new line (first.text ++ heard.text) begun.line
+          (Appends-trans between later new first.text heard.text first.written heard.written));
+    }
+
+-- the header that a lawful file opens with
+same_header : (bytes more : List ℕ) (header also : Header) (samples : List Sample) →
+    IsLawfulHeader header →
+    bytes ≡ (header_spelling header ++ flat_map (sample_spelling (width_of header)) samples) ++ more →
+    opening bytes ≡ Ok also → header ≡ also
+same_header bytes more header also samples lawful is opened =
+    let spelled = flat_map (sample_spelling (width_of header)) samples in
+    let both : Ok header ≡ Ok also =
+    sym (ap opening (is ∙ append_assoc (header_spelling header) spelled more)
+    ∙ opening-spelled header (spelled ++ more) lawful) ∙ opened in
+    cc
+
+-- where a file breaks off, or a read fails, fewer samples are missing than are read at once
+pub writes_first : {taps : List KeptTap} {r : Reception} {header : Header} {samples : List Sample}
+    {one other : Option Mobile} {kept behind : List KeptTap} {counted : ℕ → Type 0}
+    (rest mid left old : Option (List ℕ)) {between later : Option (List ℕ)} (new : Option (List ℕ)) →
+    IsLawfulHeader header →
+    HasBegun taps r header samples one kept rest mid old between →
+    ((t : Option Tuning) (first : List KeptTap) (heard : List Sample) (given : List Event) →
+    HasGiven t first one kept heard given →
+    Tells t first other behind given (heard ++ samples) between later) →
+    ((t : Option Tuning) (first : List KeptTap) (heard : List Sample) →
+    HasGiven t first other behind heard (events_in t heard) →
+    HearsFirst t first (width_of header) counted (sample_len (width_of header) * 4096) heard mid left
+    later new) →
+    WritesFirst taps r rest left old new
+writes_first None mid left old new lawful begun tells hears = tt
+writes_first (Some bytes) None left old new lawful begun tells hears = absurd begun.consumed
+writes_first {taps} {r} {header} {samples} (Some bytes) (Some more) None old new lawful begun tells
+    hears =
+    let t = tuning_of header samples r.receiver in
+    let taps1 = later_taps taps r samples in
+    absurd (hears t taps1 samples (tells t taps1 [] [] begun.given).stands).consumed
+writes_first {taps} {r} {header} {samples} (Some bytes) (Some more) (Some after) old {between}
+    {later} new lawful begun tells hears =
+    λ (also : Header) (taken : List ℕ) (n : ℕ) (opened : opening bytes ≡ Ok also)
+    (consumed : bytes ≡ taken ++ after)
+    (long : 16 + sample_len (width_of also) * n ≤ length taken) (enough : r.span ≤ n) (some : 0 < n).
+    let t = tuning_of header samples r.receiver in
+    let taps1 = later_taps taps r samples in
+    let heard = hears t taps1 samples (tells t taps1 [] [] begun.given).stands in
+    let width = width_of header in
+    let spelled = flat_map (sample_spelling width) in
+    let front = header_spelling header in
+    let same = same_header bytes more header also samples lawful begun.consumed opened in
+    let long : 16 + sample_len width * n ≤ length taken =
+    subst (λ (h : Header). 16 + sample_len (width_of h) * n ≤ length taken) (sym same) long in
+    let bytes_of : sample_len width * n ≤
+    sample_len width * (length samples + length heard.samples + 4096) =
+    omega (
+      arith,
+      long,
+      lost bytes after taken consumed,
+      lost bytes more (front ++ spelled samples) begun.consumed,
+      length-append front (spelled samples),
+      length-header_spelling header,
+      length-samples width samples,
+      lost more after (spelled heard.samples ++ heard.more) heard.consumed,
+      length-append (spelled heard.samples) heard.more,
+      length-samples width heard.samples,
+      heard.few,
+    ) in
+    subst (λ (h : Header). HasWritten taps r h bytes (λ k. n ≤ k + 4096) old new) same
+    (has_written bytes more (Some after) (λ (k : ℕ). n ≤ k + 4096) begun tells heard
+    (omega (
+      arith,
+      length-append samples heard.samples,
+      no_fewer width n (length samples + length heard.samples + 4096) bytes_of,
+    )))
+
+-- where a file goes on behind its samples, all of them were told of
+pub writes_all : {taps : List KeptTap} {r : Reception} {header : Header} {samples : List Sample}
+    {count : ℕ} {one other : Option Mobile} {kept behind : List KeptTap} {most : ℕ}
+    (rest mid left old : Option (List ℕ)) {between later : Option (List ℕ)} (new : Option (List ℕ)) →
+    IsLawfulHeader header → count + r.span ≡ header.count →
+    HasBegun taps r header samples one kept rest mid old between →
+    ((t : Option Tuning) (first : List KeptTap) (heard : List Sample) (given : List Event) →
+    HasGiven t first one kept heard given →
+    Tells t first other behind given (heard ++ samples) between later) →
+    ((t : Option Tuning) (first : List KeptTap) (heard : List Sample) →
+    HasGiven t first other behind heard (events_in t heard) →
+    HearsFirst t first (width_of header) (λ k. k ≡ count) most heard mid left later new) →
+    WritesAll taps r rest old new
+writes_all None mid left old new lawful counted begun tells hears = tt
+writes_all (Some bytes) None left old new lawful counted begun tells hears = absurd begun.consumed
+writes_all {taps} {r} {header} {samples} (Some bytes) (Some more) left old {between} {later} new
+    lawful counted begun tells hears =
+    λ (also : Header) (opened : opening bytes ≡ Ok also).
+    let t = tuning_of header samples r.receiver in
+    let taps1 = later_taps taps r samples in
+    let heard = hears t taps1 samples (tells t taps1 [] [] begun.given).stands in
+    let same = same_header bytes more header also samples lawful begun.consumed opened in
+    subst (λ (h : Header). HasWritten taps r h bytes (λ k. k ≡ h.count) old new) same
+    (has_written bytes more left (λ (k : ℕ). k ≡ header.count) begun tells heard
+    (omega (
+      arith,
+      length-append samples heard.samples,
+      heard.number,
+      begun.counted,
+      counted,
+    )))

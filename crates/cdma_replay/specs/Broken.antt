@@ -1,0 +1,85 @@
+-- What is written of a sample file that breaks off, whose reading fails, or that goes on too long.
+use Rattle.std.specs.Prelude.{◌≡◌, ℕ, ◌+◌, ◌*◌, ◌<◌, ◌≤◌, ◌++◌, List, length, Option, IfSome, Some, Ok}
+use Rattle.std.specs.List.{flat_map}
+use Rattle.std.specs.Io.{StartsWith}
+use Rattle.std.specs.Io.KnownBytes.{Appends, Consumes}
+use Rattle.chip_core.specs.declared.sample.Sample.{Sample}
+use Rattle.cdma_io.specs.declared.header.Header.{Header}
+use Rattle.cdma_io.specs.declared.file_fault.FileFault.TheVariants.{Short, Extra}
+use Rattle.cdma_io.specs.declared.width.Width.{Width}
+use Rattle.cdma_io.specs.SampleFile.{header_spelling, opening, sample_len, sample_spelling}
+use Rattle.cdma_io.specs.SampleFile.{width_of}
+use Rattle.event_tap.specs.Taps.{KeptTap, run_text}
+use Rattle.mobile_core.specs.Tuning.{Tuning}
+use Rattle.cdma_replay.specs.Hearing.{events_in, file_text}
+use Rattle.cdma_replay.specs.declared.receiving.Reception.{Reception}
+use Rattle.cdma_replay.specs.declared.status.Status.{Status}
+use Rattle.cdma_replay.specs.declared.status.Status.TheVariants.{BadFile, ReadFault}
+
+-- the file ended before its samples, or a read failed
+abbrev pub IsCut : Status → Type 0
+IsCut (BadFile (Short place)) = Unit {0}
+IsCut ReadFault = Unit {0}
+IsCut _ = ⊥
+
+-- the file went on behind its samples
+abbrev pub IsLong : Status → Type 0
+IsLong (BadFile (Extra place)) = Unit {0}
+IsLong _ = ⊥
+
+-- The file of these bytes begins with samples, of which there are such a number, the span's or more;
+-- and just their text was written.
+pub record HasWritten (taps : List KeptTap) (r : Reception) (header : Header) (bytes : List ℕ)
+    (counted : ℕ → Type 0) (old new : Option (List ℕ)) : Type 0 where
+  pub samples : List Sample
+  pub enough : r.span ≤ length samples
+  pub number : counted (length samples)
+  pub first : StartsWith bytes
+      (header_spelling header ++ flat_map (sample_spelling (width_of header)) samples)
+  pub written : Appends old new (file_text taps r header samples)
+
+-- Known bytes lost fewer at their front than a header and so many whole samples or more.
+abbrev pub TakesFew : ℕ → Option (List ℕ) → Option (List ℕ) → Type 0
+TakesFew count rest left =
+    IfSome rest
+    (λ bytes. (header : Header) (taken : List ℕ) (n : ℕ) → opening bytes ≡ Ok header →
+    Consumes (Some bytes) left taken → count ≤ n → 0 < n →
+    length taken < 16 + sample_len (width_of header) * n)
+
+-- known bytes open no sample file
+abbrev pub IsUnopened : Option (List ℕ) → Type 0
+IsUnopened rest = IfSome rest (λ bytes. (header : Header) → ¬ (opening bytes ≡ Ok header))
+
+-- Where so many whole samples of known bytes were taken, the span's or more, the text of the first
+-- of them was written, and of these at most 4,096 are missing, which are read at once.
+abbrev pub WritesFirst : List KeptTap → Reception → Option (List ℕ) → Option (List ℕ) →
+    Option (List ℕ) → Option (List ℕ) → Type 0
+WritesFirst taps r rest left old new =
+    IfSome rest
+    (λ bytes. (header : Header) (taken : List ℕ) (n : ℕ) → opening bytes ≡ Ok header →
+    Consumes (Some bytes) left taken →
+    16 + sample_len (width_of header) * n ≤ length taken → r.span ≤ n → 0 < n →
+    HasWritten taps r header bytes (λ k. n ≤ k + 4096) old new)
+
+-- the text of all samples that the header counts was written
+abbrev pub WritesAll : List KeptTap → Reception → Option (List ℕ) → Option (List ℕ) →
+    Option (List ℕ) → Type 0
+WritesAll taps r rest old new =
+    IfSome rest
+    (λ bytes. (header : Header) → opening bytes ≡ Ok header →
+    HasWritten taps r header bytes (λ k. k ≡ header.count) old new)
+
+-- A source lost the spellings of samples, such a number of them, and at most so many bytes behind
+-- them; and a sink got the text of what a handset hears in these samples.
+pub record HearsFirst (t : Option Tuning) (taps : List KeptTap) (width : Width)
+    (counted : ℕ → Type 0) (most : ℕ) (heard : List Sample) (rest left old new : Option (List ℕ)) :
+    Type 0 where
+  pub samples : List Sample
+  pub more : List ℕ
+  pub number : counted (length samples)
+  pub few : length more ≤ most
+  pub consumed : Consumes rest left (flat_map (sample_spelling width) samples ++ more)
+  pub text : List ℕ
+  pub written : Appends old new text
+  pub all : run_text taps (events_in t heard) ++ text
+      ≡ run_text taps (events_in t (heard ++ samples))
