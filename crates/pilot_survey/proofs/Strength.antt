@@ -1,0 +1,40 @@
+-- How strong a pilot is.
+use Rattle.std.proofs.Common.{◌≡◌, ℕ, ◌+◌, ◌*◌, List, refl, ap, ◌∙◌, ℤ, pos, ◌-ℤ◌}
+use Rattle.chip_core.specs.Sums.{IsFirstGreatest}
+use Rattle.chip_core.specs.declared.sample.Sample.{Sample}
+use Rattle.chip_core.proofs.Greatest.{only}
+use Rattle.pilot_search.specs.Search.{energy}
+use Rattle.pilot_survey.specs.Survey.{survey_phase, strongest, surveyed}
+use Rattle.pilot_survey.specs.declared.rank.Rank.{Rank}
+
+-- the rank of a pilot whose place of greatest energy is this one
+abbrev ranked : List Sample → ℕ → ℕ → ℕ → ℕ → Rank
+ranked samples base width pilot best = record {
+  pilot = pilot;
+  delta = pos best -ℤ pos width;
+  energy = energy samples (survey_phase base width pilot best);
+}
+
+strongest_is : (samples : List Sample) (base width pilot best : ℕ) →
+    IsFirstGreatest (λ (k : ℕ). pos (energy samples (survey_phase base width pilot k)))
+    (2 * width + 1) best →
+    best ≡ strongest samples base width pilot
+unfolding strongest
+strongest_is samples base width pilot best is =
+    only (λ (k : ℕ). pos (energy samples (survey_phase base width pilot k))) (2 * width + 1) best is
+
+pub surveyed_is : (samples : List Sample) (base width pilot best most : ℕ) (delta : ℤ) →
+    most ≡ energy samples (survey_phase base width pilot best) → delta ≡ pos best -ℤ pos width →
+    IsFirstGreatest (λ (k : ℕ). pos (energy samples (survey_phase base width pilot k)))
+    (2 * width + 1) best →
+    record { pilot = pilot; delta = delta; energy = most } ≡ surveyed samples base width pilot
+unfolding surveyed
+surveyed_is samples base width pilot best most delta high away is =
+    rw (high, away) (ap (ranked samples base width pilot)
+    (strongest_is samples base width pilot best is))
+
+-- it is the pilot's own
+pub surveyed_pilot : (samples : List Sample) (base width pilot : ℕ) →
+    (surveyed samples base width pilot).pilot ≡ pilot
+unfolding surveyed
+surveyed_pilot samples base width pilot = refl

@@ -1,0 +1,17 @@
+use Rattle.std.proofs.Common.{◌≡◌, ◌+◌, ◌-◌, ◌/◌, ℕ, length, rules}
+use Rattle.pilot_survey.specs.Survey.{surveyed, start_of}
+use Rattle.pilot_survey.proofs.Parts.{both}
+use Rattle.pilot_survey.proofs.surveying.+fn-run-join_mut+arg2+fn-run-join_mut+arg3+run.Goals as goal
+
+pub returns : goal.returns
+returns g t c =
+    let m = length c.split_at_mut-left.result.0.now in
+    let n = length c.split_at_mut-left.result.1.now in
+    let first : ℕ = start_of c.args.first c.args.workers in
+    let half : ℕ = c.args.first + (c.args.end - c.args.first) / 2 in
+    let middle : ℕ = start_of half c.args.workers in
+    let whole : m + n ≡ length c.args.ranks.now = search rules in
+    let cut : first + m ≡ middle = search rules in
+    both (surveyed c.args.samples.now c.args.base c.args.width) first m n middle
+    (length c.args.ranks.now) c.left-1.given.0 c.right-1.given.0 (search rules) (search rules) cut
+    whole

@@ -1,0 +1,51 @@
+//! The ranking of all pilots.
+
+ghost use Rattle.std.specs.Prelude.{◌≡◌, ◌<◌, ℕ, length, map, slice_get, Some};
+ghost use Rattle.std.specs.List.{range_with_len};
+ghost use Rattle.std.specs.List.Sorted.{IsPermutation};
+ghost use Rattle.pilot_survey.specs.Ranking.{AreInOrder};
+
+use crate::rank::Rank;
+use std::cmp::Reverse;
+use std::marker::Model;
+
+/// How many pilots there are.
+pub(crate) const PILOTS: usize = 512;
+
+/// The ranks of all 512 pilots, the strongest first. Contracts see their list.
+#[derive(Drop)]
+pub struct Survey {
+    ranks: Vec<Rank>,
+}
+
+impl Model for Survey {
+    ghost use Rattle.std.specs.Prelude.{◌≡◌, List, length};
+    ghost use Rattle.pilot_survey.specs.declared.rank.Rank.{Rank};
+
+    ghost Value = { List Rank };
+
+    ghost view = { λ survey. survey.ranks.items };
+
+    ghost invariant = { λ survey. length survey.ranks.items ≡ 512 };
+}
+
+impl Survey {
+    /// The ranks in order: by greater energy, then by lesser pilot.
+    pub(crate) fn of(ranks: Vec<Rank>) -> Survey
+        requires { length ranks.items ≡ 512 }
+        ensures permutation { IsPermutation ranks.items result }
+        ensures order { AreInOrder result }
+    {
+        let mut ranks = ranks;
+        ranks.sort_unstable_by_key(|rank| (Reverse(rank.energy), rank.pilot));
+        Survey { ranks }
+    }
+
+    /// The rank at place `i`, of which 0 is the strongest pilot's.
+    pub fn get(&self, i: u16) -> Rank
+        requires { i < 512 }
+        ensures { slice_get self.now i ≡ Some result }
+    {
+        self.ranks[usize::from(i)]
+    }
+}

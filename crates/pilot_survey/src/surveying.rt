@@ -1,0 +1,147 @@
+//! The survey by several workers at once.
+
+ghost use Rattle.std.specs.Prelude.{◌≡◌, ◌<◌, ◌≤◌, ◌+◌, ℕ, length, map, IfOk};
+ghost use Rattle.std.specs.List.{range_with_len};
+ghost use denote.Param.Send.{IsSync};
+ghost use Rattle.pilot_survey.specs.Survey.{surveyed, ranking, start_of};
+
+use crate::measuring::measure_all;
+use crate::rank::Rank;
+use crate::ranking::{PILOTS, Survey};
+use chip_core::{OutOfMemory, Phase, Sample};
+use pilot_search::Gate;
+use short_code::Codes;
+use std::alloc::Global;
+use std::thread::{Threads, join_mut};
+
+/// The first pilot of a worker: all pilots are parted among the workers as evenly as can be.
+fn start(worker: u8, workers: u8) -> u16
+    requires worker { worker ≤ workers }
+    requires workers { 0 < workers }
+    ensures value { result ≡ start_of worker workers }
+    ensures most { result ≤ 512 }
+{
+    (PILOTS as u32 * u32::from(worker) / u32::from(workers)) as u16
+}
+
+/// How many pilots the workers from the number `first` to before `end` have.
+fn share(first: u8, end: u8, workers: u8) -> u16
+    requires order { first ≤ end }
+    requires all { end ≤ workers }
+    requires workers { 0 < workers }
+    ensures { start_of first workers + result ≡ start_of end workers }
+{
+    start(end, workers) - start(first, workers)
+}
+
+/// Runs the workers from the number `first` to before `end`, each in a thread and with a part of the
+/// ranks.
+fn run<R: Threads + Sync, G: Gate + Sync>(
+    rt: &R,
+    samples: &[Sample],
+    codes: &Codes,
+    base: Phase,
+    width: u8,
+    first: u8,
+    end: u8,
+    workers: u8,
+    gate: &G,
+    ranks: &mut [Rank],
+)
+    requires few { length samples.now ≤ 32768 }
+    requires width { width ≤ 31 }
+    requires some { first < end }
+    requires all { end ≤ workers }
+    requires most { workers ≤ 64 }
+    requires room { start_of first workers + length ranks.old ≡ start_of end workers }
+    ensures { ranks.new ≡ map (surveyed samples.now base width)
+        (range_with_len (start_of first workers) (length ranks.old)) }
+{
+    if end - first == 1 {
+        gate.arrive(first);
+        measure_all(samples, codes, base, width, start(first, workers), ranks);
+        gate.leave(first, 0);
+        return;
+    }
+    let middle = first + (end - first) / 2;
+    let (left, right) = ranks.split_at_mut(usize::from(share(first, middle, workers)));
+    join_mut(
+        rt,
+        &mut ||
+            requires handles { IsSync R.row × IsSync G.row }
+            requires samples { length samples.now ≤ 32768 }
+            requires width { width ≤ 31 }
+            requires workers { (first < middle) × (middle ≤ workers) × (workers ≤ 64) }
+            requires room { start_of first workers + length left.now ≡ start_of middle workers }
+            ensures { left.exit.now ≡ map (surveyed samples.entry.now base width)
+                (range_with_len (start_of first workers) (length left.entry.now)) }
+        {
+            run(
+                rt, samples, codes, base, width, first, middle, workers, gate, left,
+            )
+        },
+        &mut ||
+            requires handles { IsSync R.row × IsSync G.row }
+            requires samples { length samples.now ≤ 32768 }
+            requires width { width ≤ 31 }
+            requires workers { (middle < end) × (end ≤ workers) × (workers ≤ 64) }
+            requires room { start_of middle workers + length right.now ≡ start_of end workers }
+            ensures { right.exit.now ≡ map (surveyed samples.entry.now base width)
+                (range_with_len (start_of middle workers) (length right.entry.now)) }
+        {
+            run(
+                rt, samples, codes, base, width, middle, end, workers, gate, right,
+            )
+        },
+    );
+}
+
+/// The ranks of all 512 pilots, by so many workers at once: the same whatever their number.
+///
+/// `base` is the phase of the pilot of offset 0. The pilot of offset p has its own phase 64 p chips
+/// below it, modulo 32,768. Its energy is the greatest of the phases from `width` chips below that
+/// one to `width` above, at the least delta on a tie. The ranks come by greater energy, then by
+/// lesser pilot. Worker k of w measures the pilots from floor(512 k / w) to before
+/// floor(512 (k + 1) / w). Each calls [`Gate::arrive`] once before its first pilot, and
+/// [`Gate::leave`] once after its last, with 0: it leaves no phase.
+///
+/// [`OutOfMemory`]: there was no memory for the ranks. Nothing else allocates.
+pub fn survey<R: Threads + Sync, G: Gate + Sync>(
+    rt: &R,
+    alloc: Global,
+    samples: &[Sample],
+    codes: &Codes,
+    base: Phase,
+    width: u8,
+    workers: u8,
+    gate: &G,
+) -> Result<Survey, OutOfMemory>
+    requires few { length samples.now ≤ 32768 }
+    requires width { width ≤ 31 }
+    requires least { 1 ≤ workers }
+    requires most { workers ≤ 64 }
+    ensures { IfOk result (λ ranks. ranks ≡ ranking samples.now base width) }
+{
+    let nothing = Rank {
+        pilot: 0,
+        delta: 0,
+        energy: 0,
+    };
+    let mut ranks = vec![in alloc; nothing; PILOTS]?;
+    run(
+        rt,
+        samples,
+        codes,
+        base,
+        width,
+        0,
+        workers,
+        workers,
+        gate,
+        ranks.as_mut_slice(),
+    );
+    Ok(Survey::of(ranks))
+}
+
+#[cfg(test)]
+mod tests;
