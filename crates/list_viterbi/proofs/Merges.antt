@@ -1,0 +1,215 @@
+-- The merge of the first words of two kinds, and one bit more.
+use Rattle.std.proofs.Common.{◌≡◌, ℕ, zero, suc, ◌^◌, ◌<◌, ◌≤◌, Bool, true, false, List, [], ◌∷◌}
+use Rattle.std.proofs.Common.{◌++◌, length, map, refl, sym, ap, subst, ◌∙◌, arith, ℤ, ◌+ℤ◌, ◌<ℤ◌}
+use Rattle.std.proofs.Common.{◌≤ℤ◌, ◌⊎◌, ⊎_elim, inl, inr}
+use Rattle.std.specs.Prelude.{int_lt, if◌then◌else◌}
+use Rattle.std.proofs.lemmas.Int.{ints, by_lt_z}
+use Rattle.viterbi.specs.Words.{Word, rank, score_of, IsBetter}
+use Rattle.viterbi.proofs.Scores.{pushed}
+use Rattle.viterbi.proofs.Choices.{Either, IsPushed, rank-pushed}
+use Rattle.list_viterbi.specs.declared.words.Entry.{Entry}
+use Rattle.list_viterbi.specs.First.{word_of}
+use Rattle.list_viterbi.specs.Merging.{score_in, extended_by, merge}
+use Rattle.list_viterbi.proofs.Firsts.{After, IsHead, Firsts, same_firsts, better_trans, not_self}
+
+-- each entry has its word's score
+abbrev pub Scored : List ℤ → List Entry → Type 0
+Scored softs [] = Unit {0}
+Scored softs (e ∷ es) = (e.score ≡ score_of softs (word_of e)) × Scored softs es
+
+-- the entries of the first k words of a kind
+abbrev pub Lists : List ℤ → (Word → Type 0) → ℕ → List Entry → Type 0
+Lists softs Kind k es = Firsts (score_of softs) Kind k (map word_of es) × Scored softs es
+
+pub same_lists : (softs : List ℤ) (Kind Kind' : Word → Type 0) (k : ℕ) (es : List Entry) →
+    ((w : Word) → Kind w → Kind' w) → ((w : Word) → Kind' w → Kind w) → Lists softs Kind k es →
+    Lists softs Kind' k es
+same_lists softs Kind Kind' k es to back h =
+    (same_firsts (score_of softs) Kind Kind' k (map word_of es) to back h.0, h.1)
+
+tested : (x y : ℤ) → int_lt x y ≡ true → x <ℤ y
+tested x y e = grind (arith, ints, e)
+
+untested : (x y : ℤ) → int_lt x y ≡ false → y ≤ℤ x
+untested x y e = grind (arith, ints, e)
+
+-- better than the first of a kind, so than all of it
+before_all : (score : Word → ℤ) (w u v : Word) → IsBetter score w u → (v ≡ u) ⊎ IsBetter score u v →
+    IsBetter score w v
+before_all score w u v better h = ⊎_elim (λ e. subst (IsBetter score w) (sym e) better)
+    (λ b. better_trans score w u v better b) h
+
+-- no more in score, and less in rank
+first_stays : (score : Word → ℤ) (a b : Word) → score b ≤ℤ score a → rank a < rank b →
+    IsBetter score a b
+first_stays score a b h r = by_lt_z (score b) (score a) (λ less. inl less)
+    (λ back. inr (let e : score b ≡ score a = omega (arith, ints, h, back) in e, r))
+
+abbrev pub ComeBefore : (Word → Type 0) → (Word → Type 0) → Type 0
+ComeBefore One Two = (w v : Word) → One w → Two v → rank w < rank v
+
+-- the next word is the first list's
+takes_first : (softs : List ℤ) (One Two : Word → Type 0) (k : ℕ) (x : Entry) (rest : List Entry) →
+    IsHead (score_of softs) One (word_of x) → x.score ≡ score_of softs (word_of x) →
+    ((v : Word) → Two v → IsBetter (score_of softs) (word_of x) v) →
+    Lists softs (Either (After (score_of softs) (word_of x) One) Two) k rest →
+    Lists softs (Either One Two) (suc k) (x ∷ rest)
+takes_first softs One Two k x rest head scored others h =
+    let score : Word → ℤ = score_of softs in
+    let a = word_of x in (
+      (
+        record {
+          kind = inl head.kind;
+          first =
+              λ v e. ⊎_elim (head.first v) (λ t. inr (others v t)) e;
+        },
+        same_firsts score (Either (After score a One) Two) (After score a (Either One Two)) k
+            (map word_of rest)
+            (λ v e. ⊎_elim (λ o. (inl o.0, o.1)) (λ t. (inr t, others v t)) e)
+            (λ v e. ⊎_elim (λ o. inl (o, e.1)) (λ t. inr t) e.0)
+            h.0,
+      ),
+      (scored, h.1),
+    )
+
+-- the next word is the second list's
+takes_second : (softs : List ℤ) (One Two : Word → Type 0) (k : ℕ) (y : Entry) (rest : List Entry) →
+    IsHead (score_of softs) Two (word_of y) → y.score ≡ score_of softs (word_of y) →
+    ((v : Word) → One v → IsBetter (score_of softs) (word_of y) v) →
+    Lists softs (Either One (After (score_of softs) (word_of y) Two)) k rest →
+    Lists softs (Either One Two) (suc k) (y ∷ rest)
+takes_second softs One Two k y rest head scored others h =
+    let score : Word → ℤ = score_of softs in
+    let b = word_of y in (
+      (
+        record {
+          kind = inr head.kind;
+          first =
+              λ v e. ⊎_elim (λ o. inr (others v o)) (head.first v) e;
+        },
+        same_firsts score (Either One (After score b Two)) (After score b (Either One Two)) k
+            (map word_of rest)
+            (λ v e. ⊎_elim (λ o. (inl o, others v o)) (λ t. (inr t.0, t.1)) e)
+            (λ v e. ⊎_elim (λ o. inl o) (λ t. inr (t, e.1)) e.0)
+            h.0,
+      ),
+      (scored, h.1),
+    )
+
+takes : (softs : List ℤ) (One Two : Word → Type 0) (k : ℕ) (x y : Entry) (left right : List Entry)
+    (t : Bool) → int_lt x.score y.score ≡ t →
+    ComeBefore One Two →
+    IsHead (score_of softs) One (word_of x) → x.score ≡ score_of softs (word_of x) →
+    IsHead (score_of softs) Two (word_of y) → y.score ≡ score_of softs (word_of y) →
+    Lists softs (Either (After (score_of softs) (word_of x) One) Two) k left →
+    Lists softs (Either One (After (score_of softs) (word_of y) Two)) k right →
+    Lists softs (Either One Two) (suc k) (if t then y ∷ right else x ∷ left)
+takes softs One Two k x y left right true e order p p_score q q_score l r =
+    let score : Word → ℤ = score_of softs in
+    let more : score (word_of x) <ℤ score (word_of y) =
+    rw (← p_score, ← q_score) (tested x.score y.score e) in
+    takes_second softs One Two k y right q q_score
+    (λ v o. before_all score (word_of y) (word_of x) v (inl more) (p.first v o)) r
+takes softs One Two k x y left right false e order p p_score q q_score l r =
+    let score : Word → ℤ = score_of softs in
+    let less : score (word_of y) ≤ℤ score (word_of x) =
+    rw (← p_score, ← q_score) (untested x.score y.score e) in
+    let better = first_stays score (word_of x) (word_of y) less
+    (order (word_of x) (word_of y) p.kind q.kind) in
+    takes_first softs One Two k x left p p_score
+    (λ v o. before_all score (word_of x) (word_of y) v better (q.first v o)) l
+
+-- Words of the first kind come before those of the second where their scores are the same. So the
+-- merge of the first words of both kinds has the first words of either kind.
+pub merge_lists : (softs : List ℤ) (One Two : Word → Type 0) (k m n : ℕ) (xs ys : List Entry) →
+    k ≤ m → k ≤ n → ComeBefore One Two →
+    Lists softs One m xs → Lists softs Two n ys →
+    Lists softs (Either One Two) k (merge score_in k xs ys)
+unfolding merge
+merge_lists softs One Two zero m n xs ys km kn order p q = (tt, tt)
+merge_lists softs One Two (suc k) zero n xs ys km kn order p q = absurd (omega (arith, km))
+merge_lists softs One Two (suc k) (suc m) zero xs ys km kn order p q = absurd (omega (arith, kn))
+merge_lists softs One Two (suc k) (suc m) (suc n) [] [] km kn order p q =
+    (λ w e. ⊎_elim (p.0 w) (q.0 w) e, tt)
+merge_lists softs One Two (suc k) (suc m) (suc n) [] (y ∷ ys) km kn order p q =
+    takes_second softs One Two k y (merge score_in k [] ys) q.0.0 q.1.0 (λ v o. absurd (p.0 v o))
+    (merge_lists softs One (After (score_of softs) (word_of y) Two) k (suc m) n [] ys
+    (omega (arith, km)) (omega (arith, kn)) (λ w v o t. order w v o t.0) p (q.0.1, q.1.1))
+merge_lists softs One Two (suc k) (suc m) (suc n) (x ∷ xs) [] km kn order p q =
+    takes_first softs One Two k x (merge score_in k xs []) p.0.0 p.1.0 (λ v t. absurd (q.0 v t))
+    (merge_lists softs (After (score_of softs) (word_of x) One) Two k m (suc n) xs []
+    (omega (arith, km)) (omega (arith, kn)) (λ w v o t. order w v o.0 t) (p.0.1, p.1.1) q)
+merge_lists softs One Two (suc k) (suc m) (suc n) (x ∷ xs) (y ∷ ys) km kn order p q =
+    takes softs One Two k x y (merge score_in k xs (y ∷ ys)) (merge score_in k (x ∷ xs) ys)
+    (int_lt x.score y.score) refl order p.0.0 p.1.0 q.0.0 q.1.0
+    (merge_lists softs (After (score_of softs) (word_of x) One) Two k m (suc n) xs (y ∷ ys)
+    (omega (arith, km)) (omega (arith, kn)) (λ w v o t. order w v o.0 t) (p.0.1, p.1.1) q)
+    (merge_lists softs One (After (score_of softs) (word_of y) Two) k (suc m) n (x ∷ xs) ys
+    (omega (arith, km)) (omega (arith, kn)) (λ w v o t. order w v o t.0) p (q.0.1, q.1.1))
+
+-- ONE BIT MORE
+gains_stay : (a b c d g : ℤ) → c ≡ a +ℤ g → d ≡ b +ℤ g → a <ℤ b → c <ℤ d
+gains_stay a b c d g e f h = omega (arith, ints, e, f, h)
+
+-- what a bit adds is the same for words of one kind, so their order stays
+pushed_better : (score : Word → ℤ) (bit : Bool) (gain : ℤ) (long : ℕ) (a v : Word) →
+    score (pushed a bit) ≡ score a +ℤ gain → score (pushed v bit) ≡ score v +ℤ gain →
+    length (a.start ++ a.bits) ≡ long → length (v.start ++ v.bits) ≡ long →
+    IsBetter score a v → IsBetter score (pushed a bit) (pushed v bit)
+pushed_better score bit gain long a v ga gv la lv h = ⊎_elim
+    (λ less. inl (gains_stay (score v) (score a) _ _ gain gv ga less))
+    (λ tie. inr (
+      gv ∙ ap (λ (z : ℤ). z +ℤ gain) tie.0 ∙ sym ga,
+      let r = tie.1 in
+          let left = rank-pushed a bit in
+          let right = rank-pushed v bit in
+          let same : 2 ^ length (a.start ++ a.bits) ≡ 2 ^ long = ap (λ (n : ℕ). 2 ^ n) la in
+          let same' : 2 ^ length (v.start ++ v.bits) ≡ 2 ^ long = ap (λ (n : ℕ). 2 ^ n) lv in
+          rw (left, right, same, same') (omega (arith, r)),
+    ))
+    h
+
+pub extended_lists : (softs : List ℤ) (Kind : Word → Type 0) (bit : Bool) (gain : ℤ) (long k : ℕ)
+    (es : List Entry) →
+    ((w : Word) → Kind w → score_of softs (pushed w bit) ≡ score_of softs w +ℤ gain) →
+    ((w : Word) → Kind w → length (w.start ++ w.bits) ≡ long) →
+    Lists softs Kind k es → Lists softs (IsPushed Kind bit) k (map (extended_by bit gain) es)
+extended_lists softs Kind bit gain long zero [] gains longs h = (tt, tt)
+extended_lists softs Kind bit gain long (suc k) [] gains longs h = (λ w p. h.0 p.before p.kind, tt)
+extended_lists softs Kind bit gain long zero (e ∷ es) gains longs h = absurd h.0
+extended_lists softs Kind bit gain long (suc k) (e ∷ es) gains longs h =
+    let score : Word → ℤ = score_of softs in
+    let a = word_of e in
+    let head = h.0.0 in
+    let rest = extended_lists softs (After score a Kind) bit gain long k es (λ w p. gains w p.0)
+    (λ w p. longs w p.0) (h.0.1, h.1.1) in
+    let later : (v : Word) → Kind v → IsBetter score a v →
+    IsBetter score (pushed a bit) (pushed v bit) =
+    λ v p better. pushed_better score bit gain long a v (gains a head.kind) (gains v p)
+    (longs a head.kind) (longs v p) better in (
+      (
+        record {
+          kind = record { before = a; kind = head.kind; is = refl };
+          first = λ v p. ⊎_elim
+              (λ same. inl (p.is ∙ ap (λ (u : Word). pushed u bit) same))
+              (λ better. inr (subst (IsBetter score (pushed a bit)) (sym p.is)
+              (later p.before p.kind better)))
+              (head.first p.before p.kind);
+        },
+        same_firsts score (IsPushed (After score a Kind) bit)
+            (After score (pushed a bit) (IsPushed Kind bit)) k
+            (map word_of (map (extended_by bit gain) es))
+            (λ v p. (
+              record { before = p.before; kind = p.kind.0; is = p.is },
+              subst (IsBetter score (pushed a bit)) (sym p.is) (later p.before p.kind.0 p.kind.1),
+            ))
+            (λ v p. ⊎_elim
+            (λ same. absurd
+            (not_self score (pushed a bit) (subst (IsBetter score (pushed a bit)) (p.0.is
+            ∙ ap (λ (u : Word). pushed u bit) same) p.1)))
+            (λ better. record { before = p.0.before; kind = (p.0.kind, better); is = p.0.is })
+            (head.first p.0.before p.0.kind))
+            rest.0,
+      ),
+      (ap (λ (z : ℤ). z +ℤ gain) h.1.0 ∙ sym (gains a head.kind), rest.1),
+    )

@@ -1,0 +1,91 @@
+-- The first word that passes a test, and the best word.
+use Rattle.std.proofs.Common.{◌≡◌, ℕ, zero, suc, ◌<◌, Bool, true, false, List, [], ◌∷◌, length}
+use Rattle.std.proofs.Common.{refl, sym, ap, subst, ◌∙◌, arith, ℤ, ◌⊎◌, ⊎_elim, Option, Some, None}
+use Rattle.std.specs.Prelude.{slice_get, cond}
+use Rattle.std.specs.List.{find}
+use Rattle.viterbi.specs.Words.{Word, score_of, IsBetter}
+use Rattle.viterbi.specs.Best.{IsAllowed}
+use Rattle.list_viterbi.specs.Laws.{NamesOneList, HaveBestFirst, HaveFirstPassing}
+use Rattle.list_viterbi.proofs.Firsts.{After, Firsts, firsts_of, one_list, not_both, not_self}
+
+pub one_list_law : NamesOneList
+one_list_law score ends n k words others p q = one_list score (IsAllowed ends n) k words others p q
+
+no_true : {A : Type 0} → false ≡ true → A
+no_true e = absurd (grind (arith, e))
+
+no_word : {A : Type 0} (w : Word) → None ≡ Some w → A
+no_word w e = absurd (grind (arith, e))
+
+abbrev some_or : Word → Option Word → Word
+some_or d None = d
+some_or d (Some w) = w
+
+-- the first that passes, or one that comes after it
+record Passes (score : Word → ℤ) (Kind : Word → Type 0) (test : Word → Bool)
+    (w : Word) : Type 0 where
+  kind : Kind w
+  passes : test w ≡ true
+  first : (v : Word) → Kind v → test v ≡ true → (v ≡ w) ⊎ IsBetter score w v
+
+found_passes : (score : Word → ℤ) (Kind : Word → Type 0) (test : Word → Bool) (k : ℕ)
+    (ws : List Word) (w : Word) → Firsts score Kind k ws → find test ws ≡ Some w →
+    Passes score Kind test w
+found_passes score Kind test k [] w h e = no_word w e
+found_passes score Kind test zero (x ∷ xs) w h e = absurd h
+found_passes score Kind test (suc k) (x ∷ xs) w h e =
+    by_test (test x) refl e (found_passes score (After score x Kind) test k xs w h.1) where
+      by_test : (t : Bool) → test x ≡ t → cond t (Some x) (find test xs) ≡ Some w →
+          (find test xs ≡ Some w → Passes score (After score x Kind) test w) →
+          Passes score Kind test w
+      by_test true is e rest =
+          let same : x ≡ w = ap (some_or x) e in
+          subst (Passes score Kind test) same (record {
+            kind = h.0.kind;
+            passes = is;
+            first =
+                λ v k t. h.0.first v k;
+          })
+      by_test false is e rest =
+          let p = rest e in
+          record {
+            kind = p.kind.0;
+            passes = p.passes;
+            first = λ v k t. ⊎_elim (λ same. no_true (sym is ∙ ap test (sym same) ∙ t))
+                (λ better. p.first v (k, better) t) (h.0.first v k);
+          }
+
+pub first_passing : HaveFirstPassing
+first_passing score ends n k test words w h e =
+    let p = found_passes score (IsAllowed ends n) test k words w
+    (firsts_of score (IsAllowed ends n) k words h) e in
+    record {
+      kind = p.kind;
+      passes = p.passes;
+      first = λ v is t other. ⊎_elim (λ same. absurd (other same)) (λ better. better)
+          (p.first v is t);
+    }
+
+pub best_first : HaveBestFirst
+best_first softs ends n k words best long some size h is =
+    head k words some (firsts_of (score_of softs) (IsAllowed ends n) k words h) where
+      same_size : length best.bits ≡ n
+      same_size = let half = is.half in omega (arith, half, size)
+
+      allowed : IsAllowed ends n best
+      allowed = subst (λ (m : ℕ). IsAllowed ends m best) same_size is.allowed
+
+      is_best : (v : Word) → IsAllowed ends n v → (v ≡ best → ⊥) → IsBetter (score_of softs) best v
+      is_best v p other = is.first v (subst (λ (m : ℕ). IsAllowed ends m v) (sym same_size) p) other
+
+      head : (k : ℕ) (ws : List Word) → 0 < k → Firsts (score_of softs) (IsAllowed ends n) k ws →
+          slice_get ws 0 ≡ Some best
+      head zero ws some f = absurd (omega (arith, some))
+      head (suc k) [] some f = absurd (f best allowed)
+      head (suc k) (w ∷ ws) some f = ⊎_elim
+          (λ same. ap (λ (v : Word). Some v) (sym same))
+          (λ better. absurd (not_both (score_of softs) w best better
+          (is_best w f.0.kind
+          (λ e. not_self (score_of softs) best
+          (subst (λ (v : Word). IsBetter (score_of softs) v best) e better)))))
+          (f.0.first best allowed)

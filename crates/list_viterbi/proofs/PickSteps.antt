@@ -1,0 +1,84 @@
+-- What the program's steps make, in the words of the picks.
+use Rattle.std.proofs.Common.{◌≡◌, ℕ, ◌+◌, ◌*◌, ◌%◌, ◌^◌, ◌<◌, ◌≤◌, List, [], length, get_or, ap}
+use Rattle.std.proofs.Common.{set, subst, sym, ◌∙◌, arith, ℤ, pos, ◌-ℤ◌, unsigned_abs, ⊎_elim}
+use Rattle.std.specs.Prelude.{All}
+use Rattle.std.proofs.lemmas.Int.{ints}
+use Rattle.std.proofs.lemmas.Bool.{cases_eq}
+use Rattle.std.proofs.lemmas.List.{get_or_read, get_or-set_same, get_or-set_other}
+use Rattle.list_viterbi.specs.Merging.{merge}
+use Rattle.list_viterbi.specs.Picks.{pick_score, picks_from, picks_by, picks_into}
+use Rattle.list_viterbi.specs.Picks.{HasPicks, LeavesRoom}
+
+-- a list of the row
+pub item_at : (row : List (List ℤ)) (t oldest place : ℕ) (item : List ℤ) →
+    place ≡ 2 * (t % 128) + oldest → place < length row → item ≡ get_or row place item →
+    item ≡ get_or row (2 * (t % 128) + oldest) []
+item_at row t oldest place item is within read =
+    get_or_read row place item within read [] ∙ ap (λ (i : ℕ). get_or row i []) is
+
+-- there is room in a list of the row
+pub item_room : (row : List (List ℤ)) (gain : ℤ) (place : ℕ) (item : List ℤ) →
+    length row ≡ 256 → place < 256 →
+    ((t : ℕ) → t < 256 → All (LeavesRoom gain) (get_or row t [])) →
+    item ≡ get_or row place item → All (LeavesRoom gain) item
+item_room row gain place item whole below room read =
+    subst (All (LeavesRoom gain))
+    (sym (get_or_read row place item (omega (arith, whole, below)) read [])) (room place below)
+
+pub turned_room : (gain turned : ℤ) (ss : List ℤ) → turned ≡ pos 0 -ℤ gain →
+    All (LeavesRoom gain) ss → All (LeavesRoom turned) ss
+turned_room gain turned ss is room = λ i d b.
+    let here = room i d b in
+    let same : unsigned_abs turned ≡ unsigned_abs gain = omega (arith, ints, is) in
+    omega (arith, here, same)
+
+pub by_made : (row : List (List ℤ)) (gain turned : ℤ) (k t place : ℕ) (even odd : List ℤ)
+    (scores : List ℤ) (backs : List ℕ) → place ≡ 2 * (t % 128) → place + 1 < length row →
+    even ≡ get_or row place even → odd ≡ get_or row (place + 1) odd → turned ≡ pos 0 -ℤ gain →
+    HasPicks scores backs
+    (merge pick_score k (picks_from 0 gain 0 even) (picks_from 1 turned 0 odd)) →
+    HasPicks scores backs (picks_by row gain k t)
+unfolding picks_by
+by_made row gain turned k t place even odd scores backs is within read read' turned_is h =
+    let even_is = item_at row t 0 place even (omega (arith, is)) (omega (arith, within)) read in
+    let odd_is = item_at row t 1 (place + 1) odd (omega (arith, is)) within read' in
+    subst (HasPicks scores backs)
+    (ap (λ (ss : List ℤ). merge pick_score k (picks_from 0 gain 0 ss) (picks_from 1 turned 0 odd))
+    even_is
+    ∙ ap (λ (ss : List ℤ). merge pick_score k
+    (picks_from 0 gain 0 (get_or row (2 * (t % 128) + 0) [])) (picks_from 1 turned 0 ss)) odd_is
+    ∙ ap (λ (g : ℤ). merge pick_score k (picks_from 0 gain 0 (get_or row (2 * (t % 128) + 0) []))
+    (picks_from 1 g 0 (get_or row (2 * (t % 128) + 1) []))) turned_is)
+    h
+
+-- a gain within the two soft values leaves the room that they leave
+pub gain_room : (f s gain : ℤ) (ss : List ℤ) →
+    unsigned_abs gain ≤ unsigned_abs f + unsigned_abs s →
+    All (λ x. unsigned_abs x + (unsigned_abs f + unsigned_abs s) ≤ 2 ^ 62) ss →
+    All (LeavesRoom gain) ss
+gain_room f s gain ss size room = λ i d b. let here = room i d b in omega (arith, here, size)
+
+-- one state more
+pub each_more : (row next : List (List ℤ)) (backs : List (List ℕ)) (f s : ℤ) (k state : ℕ)
+    (scores : List ℤ) (pointers : List ℕ) → state < length next → state < length backs →
+    ((t : ℕ) → t < state →
+    HasPicks (get_or next t []) (get_or backs t []) (picks_into row f s k t)) →
+    HasPicks scores pointers (picks_into row f s k state) →
+    (t : ℕ) → t < state + 1 →
+    HasPicks (get_or (set next state scores) t []) (get_or (set backs state pointers) t [])
+    (picks_into row f s k t)
+each_more row next backs f s k state scores pointers within within' before here t b =
+    ⊎_elim
+    (λ same. subst
+    (λ (u : ℕ). HasPicks (get_or (set next state scores) u []) (get_or (set backs state pointers) u [])
+    (picks_into row f s k u))
+    (sym same)
+    (rw (
+      get_or-set_same next state scores [] within,
+      get_or-set_same backs state pointers [] within',
+    ) here))
+    (λ other. rw (
+      get_or-set_other next state t scores [] other,
+      get_or-set_other backs state t pointers [] other,
+    ) (before t (omega (arith, b, other))))
+    (cases_eq t state)

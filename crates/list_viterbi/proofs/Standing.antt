@@ -1,0 +1,157 @@
+-- Scores and rows of back pointers stand for the lists of the first words into each state.
+use Rattle.std.proofs.Common.{◌≡◌, ℕ, zero, suc, ◌+◌, ◌*◌, ◌^◌, ◌<◌, ◌≤◌, Bool, true, false, List}
+use Rattle.std.proofs.Common.{[], ◌∷◌, length, get_or, map, set, take, refl, sym, ap, subst, ◌∙◌}
+use Rattle.std.proofs.Common.{arith, ℤ, pos, unsigned_abs}
+use Rattle.std.specs.Prelude.{nat_eq, if◌then◌else◌, All}
+use Rattle.std.specs.Int.{reverse_bits_onto}
+use Rattle.std.specs.List.{range_with_len, sum_by}
+use Rattle.std.proofs.lemmas.List.{get_or-set_same, get_or-set_other, get_or-take}
+use Rattle.std.proofs.lemmas.List.FromFn.{get_or-map-range_with_len}
+use Rattle.viterbi.specs.States.{low_bits}
+use Rattle.viterbi.specs.Best.{HasStart}
+use Rattle.viterbi.specs.declared.word.Ends.{Ends}
+use Rattle.viterbi.specs.declared.word.Ends.TheVariants.{Zero, Free}
+use Rattle.viterbi.proofs.StateBits.{binary-turned}
+use Rattle.viterbi.proofs.Steps.{Into}
+use Rattle.viterbi.proofs.Finish.{zero_start}
+use Rattle.list_viterbi.specs.declared.words.Entry.{Entry}
+use Rattle.list_viterbi.specs.Merging.{list_into, Start, HasRoom}
+use Rattle.list_viterbi.specs.Picks.{picks_into, HasPicks}
+use Rattle.list_viterbi.specs.Backs.{starts_at, start_scores, origin, path}
+use Rattle.list_viterbi.proofs.Merges.{Lists}
+use Rattle.list_viterbi.proofs.Steps.{Listed, listed_start, list_into_lists}
+use Rattle.list_viterbi.proofs.Rooms.{rooms}
+use Rattle.list_viterbi.proofs.Agreements.{Agrees, Same, same_agrees, step_agrees, agrees_all}
+
+-- there are lists of the first k words into each state that the scores and the first n rows give
+pub record Stands (softs : List ℤ) (ends : Ends) (k n : ℕ) (scores : List (List ℤ))
+    (rows : List (List (List ℕ))) : Type 0 where
+  pub row : List (List Entry)
+  pub listed : Listed softs ends k n row
+  pub agree : (t : ℕ) → t < 256 → Agrees rows n t 0 (get_or scores t []) (get_or row t [])
+
+-- BEFORE THE FIRST BIT
+abbrev begun : ℕ → Entry
+begun t = record { word = record { start = reverse_bits_onto 8 t 0; bits = [] }; score = pos 0 }
+
+abbrev start_list : Ends → ℕ → List Entry
+start_list ends t = if starts_at ends t then begun t ∷ [] else []
+
+may_start : (ends : Ends) (t : ℕ) → t < 256 → starts_at ends t ≡ true → HasStart ends (low_bits 8 t)
+may_start Zero t below is = (zero_start t below).0 is
+may_start Free t below is = tt
+
+may_not : (ends : Ends) (t : ℕ) → t < 256 → starts_at ends t ≡ false →
+    ¬ (HasStart ends (low_bits 8 t))
+may_not Zero t below is h = let yes : nat_eq t 0 ≡ true = (zero_start t below).1 h in
+    no_both (sym is ∙ yes) where
+      no_both : ¬ (false ≡ true)
+      no_both e = grind (arith, e)
+may_not Free t below is h = grind (arith, is)
+
+list_starts : (ends : Ends) (t : ℕ) → t < 256 → Start ends t (start_list ends t)
+list_starts ends t below = by_test (starts_at ends t) refl where
+  by_test : (b : Bool) → starts_at ends t ≡ b → Start ends t (if b then begun t ∷ [] else [])
+  by_test true is = (
+    may_start ends t below is,
+    record { start = binary-turned t; none = refl; nothing = refl },
+  )
+  by_test false is = may_not ends t below is
+
+start_agrees : (rows : List (List (List ℕ))) (ends : Ends) (t : ℕ) →
+    Agrees rows 0 t 0 (start_scores ends t) (start_list ends t)
+unfolding path origin
+start_agrees rows ends t = by_test (starts_at ends t) where
+  by_test : (b : Bool) →
+      Agrees rows 0 t 0 (if b then pos 0 ∷ [] else []) (if b then begun t ∷ [] else [])
+  by_test true = ((refl, (refl, binary-turned t)), tt)
+  by_test false = tt
+
+pub stands_first : (softs : List ℤ) (ends : Ends) (k : ℕ) (scores : List (List ℤ))
+    (rows : List (List (List ℕ))) → 0 < k →
+    ((t : ℕ) → t < 256 → get_or scores t [] ≡ start_scores ends t) →
+    Stands softs ends k 0 scores rows
+stands_first softs ends k scores rows some starts = record {
+  row = map (start_list ends) (range_with_len 0 256);
+  listed = listed_start softs ends k (map (start_list ends) (range_with_len 0 256)) some
+      (λ t b. subst (Start ends t) (sym (reads t b)) (list_starts ends t b));
+  agree = λ t b. rw (reads t b, starts t b) (start_agrees rows ends t);
+} where
+  reads : (t : ℕ) → t < 256 → get_or (map (start_list ends) (range_with_len 0 256)) t []
+      ≡ start_list ends t
+  reads t b = get_or-map-range_with_len (start_list ends) 0 256 t t [] b (omega arith)
+
+-- ONE BIT MORE
+pub step_stands : (softs : List ℤ) (ends : Ends) (k n : ℕ) (scores next : List (List ℤ))
+    (rows rows' : List (List (List ℕ))) → 2 * n + 2 ≤ length softs → k ≤ 16 →
+    Stands softs ends k n scores rows → Same n rows rows' →
+    ((t : ℕ) → t < 256 →
+    HasPicks (get_or next t []) (get_or (get_or rows' n []) t [])
+    (picks_into scores (get_or softs (2 * n) (pos 0)) (get_or softs (2 * n + 1) (pos 0)) k t)) →
+    Stands softs ends k (suc n) next rows'
+step_stands softs ends k n scores next rows rows' room few h same each = record {
+  row = map (list_into h.row first second k) (range_with_len 0 256);
+  listed = λ t b.
+      subst (Lists softs (Into ends (suc n) (low_bits 8 t)) k) (sym (reads t b))
+      (list_into_lists softs ends k n h.row room h.listed t b);
+  agree = λ t b.
+      rw (reads t b)
+      (step_agrees rows' n k t first second scores h.row (get_or next t []) b few
+      (λ u c. same_agrees n rows rows' u 0 (get_or scores u []) (get_or h.row u []) same
+      (h.agree u c))
+      (each t b));
+} where
+  first : ℤ
+  first = get_or softs (2 * n) (pos 0)
+
+  second : ℤ
+  second = get_or softs (2 * n + 1) (pos 0)
+
+  reads : (t : ℕ) → t < 256 →
+      get_or (map (list_into h.row first second k) (range_with_len 0 256)) t []
+      ≡ list_into h.row first second k t
+  reads t b =
+      get_or-map-range_with_len (list_into h.row first second k) 0 256 t t [] b (omega arith)
+
+pub row_stands : (softs : List ℤ) (ends : Ends) (k n : ℕ) (scores next : List (List ℤ))
+    (rows : List (List (List ℕ))) (backs : List (List ℕ)) → 2 * n + 2 ≤ length softs → k ≤ 16 →
+    n < length rows → Stands softs ends k n scores rows →
+    ((t : ℕ) → t < 256 →
+    HasPicks (get_or next t []) (get_or backs t [])
+    (picks_into scores (get_or softs (2 * n) (pos 0)) (get_or softs (2 * n + 1) (pos 0)) k t)) →
+    Stands softs ends k (suc n) next (set rows n backs)
+row_stands softs ends k n scores next rows backs room few within h each =
+    step_stands softs ends k n scores next rows (set rows n backs) room few h
+    (λ j b. get_or-set_other rows n j backs [] (λ e. apart j b e))
+    (λ t b. rw (get_or-set_same rows n backs [] within) (each t b))
+  where
+    apart : (j : ℕ) → j < n → ¬ (j ≡ n)
+    apart j b e = omega (arith, b, e)
+
+-- scores grow by no more than the two soft values
+pub score_rooms : (softs : List ℤ) (ends : Ends) (k n : ℕ) (scores : List (List ℤ))
+    (rows : List (List (List ℕ))) → 2 * n + 2 ≤ length softs →
+    sum_by unsigned_abs softs ≤ 2 ^ 62 → n ≤ 576 → Stands softs ends k n scores rows →
+    (t : ℕ) → t < 256 →
+    All (λ s. unsigned_abs s + (unsigned_abs (get_or softs (2 * n) (pos 0))
+    + unsigned_abs (get_or softs (2 * n + 1) (pos 0))) ≤ 2 ^ 62) (get_or scores t [])
+score_rooms softs ends k n scores rows room bound few h t b =
+    agrees_all rows n t 0 (get_or scores t []) (get_or h.row t [])
+    (λ s. unsigned_abs s + (unsigned_abs (get_or softs (2 * n) (pos 0))
+    + unsigned_abs (get_or softs (2 * n + 1) (pos 0))) ≤ 2 ^ 62)
+    (h.agree t b)
+    (λ i d c. (rooms softs ends k n h.row room bound few h.listed t b i d c).0)
+
+-- of other rows only the first n matter
+pub first_rows : (softs : List ℤ) (ends : Ends) (k m n : ℕ) (scores : List (List ℤ))
+    (rows : List (List (List ℕ))) → m ≡ n → Stands softs ends k m scores rows →
+    Stands softs ends k n scores (take n rows)
+first_rows softs ends k m n scores rows is stands =
+    let h : Stands softs ends k n scores rows =
+    subst (λ (j : ℕ). Stands softs ends k j scores rows) is stands in
+    record {
+      row = h.row;
+      listed = h.listed;
+      agree = λ t b. same_agrees n rows (take n rows) t 0 (get_or scores t []) (get_or h.row t [])
+          (λ j c. get_or-take n rows j [] c) (h.agree t b);
+    }

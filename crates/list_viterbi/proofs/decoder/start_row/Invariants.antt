@@ -1,0 +1,9 @@
+use Rattle.std.proofs.Common.{◌≡◌, ◌<◌, ℕ, [], length, get_or}
+use Rattle.list_viterbi.specs.Backs.{start_scores}
+use Rattle.list_viterbi.proofs.decoder.start_row.Given as goal
+
+abbrev pub invariant-loop-state : goal.invariant-loop-state
+invariant-loop-state l = record {
+  whole : length l.row ≡ 256;
+  each : (t : ℕ) → t < l.state → get_or l.row t [] ≡ start_scores l.ends t;
+}

@@ -1,0 +1,6 @@
+use Rattle.std.proofs.Common.{◌≡◌}
+use Rattle.list_viterbi.specs.Backs.{first_finds}
+use Rattle.list_viterbi.proofs.finds.first_ends.Given as goal
+
+abbrev pub invariant-loop-state : goal.invariant-loop-state
+invariant-loop-state l = l.finds ≡ first_finds l.row l.k l.state

@@ -1,0 +1,107 @@
+use Rattle.std.proofs.Common.{◌≡◌, ◌+◌, ◌*◌, ◌<◌, ◌≤◌, ◌∷◌, [], true, false, drop, length, refl}
+use Rattle.std.proofs.Common.{sym, ◌∙◌, arith, rules, to_z, of_z}
+use Rattle.std.proofs.Common.{length-append, w64}
+use Rattle.std.proofs.lemmas.Int.{to_z-of_z}
+use Rattle.std.proofs.lemmas.List.{length-set}
+use mir.Val.{SFits}
+use Rattle.list_viterbi.specs.Merging.{second_is_next}
+use Rattle.list_viterbi.specs.Picks.{pick_score, picks_from}
+use Rattle.list_viterbi.proofs.Picks.{odd_has, picked_none, picked_odd, picked_even, picked_over}
+use Rattle.list_viterbi.proofs.Picks.{picked_all}
+use Rattle.list_viterbi.proofs.picking.picked.Goals.{then-takes_odd}
+use Rattle.list_viterbi.proofs.picking.picked.Goals.{else-takes_odd+then-i-len}
+use Rattle.list_viterbi.proofs.picking.picked.Goals.{else-takes_odd+else-i-len}
+use Rattle.list_viterbi.proofs.picking.picked.Goals as goal
+
+pub loop-n-init : goal.loop-n-init
+loop-n-init c =
+    let fits : SFits w64 c.args.even_gain = search rules in
+    let fits' : SFits w64 c.args.odd_gain = search rules in
+    rw (to_z-of_z w64 c.args.even_gain fits, to_z-of_z w64 c.args.odd_gain fits', c.empty-scores.ensures)
+    (record {
+      even_place = omega arith;
+      odd_place = omega arith;
+      few = omega arith;
+      long = search rules;
+      picked = picked_none c.args.k (picks_from 0 c.args.even_gain 0 c.args.even.now)
+          (picks_from 1 c.args.odd_gain 0 c.args.odd.now) c.args.backs.now;
+    })
+
+pub sum_at-requires-clause-place : goal.sum_at-requires-clause-place
+sum_at-requires-clause-place c =
+    odd_has c.loop-n.i c.loop-n.j (to_z w64 (of_z w64 c.args.even_gain))
+    (to_z w64 (of_z w64 c.args.odd_gain)) c.args.even.now c.args.odd.now
+    c.loop-n.invariant.odd_place (sym c.if-takes_odd.ensures)
+
+pub loop-n-preserved : goal.loop-n-preserved
+loop-n-preserved c =
+    let even = c.args.even.now in
+    let odd = c.args.odd.now in
+    let g = to_z w64 (of_z w64 c.args.even_gain) in
+    let h = to_z w64 (of_z w64 c.args.odd_gain) in
+    let i = c.loop-n.i in
+    let j = c.loop-n.j in
+    let n = c.loop-n._n in
+    let scores = c.loop-n.scores in
+    let backs = c.loop-n.backs in
+    let inv = c.loop-n.invariant in
+    let few = inv.few in
+    let long = inv.long in
+    let place = c.len-place.result in
+    let place_is = c.len-place.ensures.value in
+    let room : place < length backs =
+    omega (arith, place_is, few, long, c.loop-n-test.true, c.requires.few) in
+    elim c.if-takes_odd.branch [
+      | then-takes_odd w ↦
+          let next : second_is_next pick_score (drop i (picks_from 0 g 0 even))
+          (drop j (picks_from 1 h 0 odd)) ≡ true = sym w.if-takes_odd.ensures in
+          let within = odd_has i j g h even odd inv.odd_place next in
+          let value = to_z w64 (of_z w64 w.sum_at.result) in
+          let value_is = to_z-of_z w64 w.sum_at.result (record { sfits = w.sum_at.type_inv })
+          ∙ w.sum_at.ensures.value in
+          let size = length-append scores (value ∷ []) in
+          rw (w.backs-is, w.scores-is, w.i-is, w.j-is, w.push.ensures) (record {
+            even_place = inv.even_place;
+            odd_place = omega (arith, within);
+            few = omega (arith, size, few);
+            long = length-set backs place (2 * j + 1) ∙ long;
+            picked = picked_odd c.args.k i j n even odd g h scores backs place value (2 * j + 1)
+                place_is within next room value_is refl inv.picked;
+          })
+      | else-takes_odd+then-i-len w ↦
+          let next : second_is_next pick_score (drop i (picks_from 0 g 0 even))
+          (drop j (picks_from 1 h 0 odd)) ≡ false = sym w.if-takes_odd.ensures in
+          let within : i < length even = omega (arith, w.if-i-len.true, w.len.ensures.value) in
+          let value = to_z w64 (of_z w64 w.sum_at-then-i-len.result) in
+          let value_is = to_z-of_z w64 w.sum_at-then-i-len.result
+          (record { sfits = w.sum_at-then-i-len.type_inv }) ∙ w.sum_at-then-i-len.ensures.value in
+          let size = length-append scores (value ∷ []) in
+          rw (w.backs-is, w.scores-is, w.i-is, w.j-is, w.push-then-i-len.ensures) (record {
+            even_place = omega (arith, within);
+            odd_place = inv.odd_place;
+            few = omega (arith, size, few);
+            long = length-set backs place (2 * i) ∙ long;
+            picked = picked_even c.args.k i j n even odd g h scores backs place value (2 * i)
+                place_is within next room value_is refl inv.picked;
+          })
+      | else-takes_odd+else-i-len w ↦
+          let next : second_is_next pick_score (drop i (picks_from 0 g 0 even))
+          (drop j (picks_from 1 h 0 odd)) ≡ false = sym w.if-takes_odd.ensures in
+          let over : length even ≤ i = omega (arith, w.if-i-len.false, w.len.ensures.value) in
+          rw (w.backs-is, w.scores-is, w.i-is, w.j-is) (record {
+            even_place = inv.even_place;
+            odd_place = inv.odd_place;
+            few = omega (arith, few);
+            long = long;
+            picked = picked_over c.args.k i j n even g (picks_from 1 h 0 odd) scores backs over next
+                inv.picked;
+          })
+    ]
+
+pub returns : goal.returns
+returns c =
+    let fits : SFits w64 c.args.even_gain = search rules in
+    let fits' : SFits w64 c.args.odd_gain = search rules in
+    let all = picked_all c.args.k c.loop-n.i c.loop-n.j c.loop-n._n _ _ c.loop-n.scores
+    c.loop-n.backs (omega arith) c.loop-n.invariant.picked in
+    rw (to_z-of_z w64 c.args.even_gain fits, to_z-of_z w64 c.args.odd_gain fits') at all

@@ -1,0 +1,69 @@
+use Rattle.std.proofs.Common.{◌≡◌, ◌+◌, ◌<◌, ◌≤◌, ◌∙◌, length, sym, subst, arith, rules, ℤ, w64}
+use Rattle.std.proofs.Common.{unsigned_abs}
+use Rattle.std.proofs.lemmas.Int.{to_z-of_z}
+use Rattle.std.proofs.lemmas.List.{length-set}
+use mir.Val.{SFits}
+use Rattle.viterbi.specs.Lanes.{gain_by, code_of}
+use Rattle.list_viterbi.specs.Picks.{HasPicks, picks_into}
+use Rattle.list_viterbi.proofs.StateCodes.{code_small, gain_by_size}
+use Rattle.list_viterbi.proofs.PickSteps.{gain_room, each_more}
+use Rattle.list_viterbi.proofs.picking.step.Goals as goal
+
+pub picked_into-requires-clause-small : goal.picked_into-requires-clause-small
+picked_into-requires-clause-small c =
+    let f = c.args.first in
+    let s = c.args.second in
+    let t = c.loop-state.state in
+    let gain = c.gain_at-gain.result in
+    let fits : SFits w64 f = c.ranges.first in
+    let fits' : SFits w64 s = c.ranges.second in
+    let is : gain ≡ gain_by f s (code_of t) =
+    rw (to_z-of_z w64 f fits, to_z-of_z w64 s fits')
+    at (c.gain_at-gain.ensures ∙ c.gains-gains.ensures (code_of t) (code_small t (omega arith))) in
+    let size : unsigned_abs gain ≤ unsigned_abs f + unsigned_abs s =
+    subst (λ (z : ℤ). unsigned_abs z ≤ unsigned_abs f + unsigned_abs s) (sym is)
+    (gain_by_size f s (code_of t)) in
+    let pair = c.requires.fits in
+    rw (to_z-of_z w64 gain (record { sfits = c.gain_at-gain.type_inv })) (omega (arith, size, pair))
+
+pub picked_into-requires-clause-room : goal.picked_into-requires-clause-room
+picked_into-requires-clause-room c =
+    let f = c.args.first in
+    let s = c.args.second in
+    let t = c.loop-state.state in
+    let gain = c.gain_at-gain.result in
+    let fits : SFits w64 f = c.ranges.first in
+    let fits' : SFits w64 s = c.ranges.second in
+    let is : gain ≡ gain_by f s (code_of t) =
+    rw (to_z-of_z w64 f fits, to_z-of_z w64 s fits')
+    at (c.gain_at-gain.ensures ∙ c.gains-gains.ensures (code_of t) (code_small t (omega arith))) in
+    let size : unsigned_abs gain ≤ unsigned_abs f + unsigned_abs s =
+    subst (λ (z : ℤ). unsigned_abs z ≤ unsigned_abs f + unsigned_abs s) (sym is)
+    (gain_by_size f s (code_of t)) in
+    rw (to_z-of_z w64 gain (record { sfits = c.gain_at-gain.type_inv }))
+    (λ u b. gain_room f s gain _ size (c.requires.room u b))
+
+pub loop-state-preserved : goal.loop-state-preserved
+loop-state-preserved c =
+    let f = c.args.first in
+    let s = c.args.second in
+    let t = c.loop-state.state in
+    let gain = c.gain_at-gain.result in
+    let inv = c.loop-state.invariant in
+    let fits : SFits w64 f = c.ranges.first in
+    let fits' : SFits w64 s = c.ranges.second in
+    let is : gain ≡ gain_by f s (code_of t) =
+    rw (to_z-of_z w64 f fits, to_z-of_z w64 s fits')
+    at (c.gain_at-gain.ensures ∙ c.gains-gains.ensures (code_of t) (code_small t (omega arith))) in
+    let here : HasPicks c.picked_into.result c.picked_into.new.backs
+    (picks_into c.args.row.now f s c.args.k t) =
+    rw (to_z-of_z w64 gain (record { sfits = c.gain_at-gain.type_inv }), is)
+    at c.picked_into.ensures in
+    rw (to_z-of_z w64 f fits, to_z-of_z w64 s fits') (record {
+      whole = length-set c.loop-state.next t c.picked_into.result ∙ inv.whole;
+      whole_backs = length-set c.loop-state.backs t c.picked_into.new.backs ∙ inv.whole_backs;
+      each = each_more c.args.row.now c.loop-state.next c.loop-state.backs f s c.args.k t
+          c.picked_into.result c.picked_into.new.backs (omega (arith, inv.whole))
+          (omega (arith, inv.whole_backs))
+          (rw (to_z-of_z w64 f fits, to_z-of_z w64 s fits') at inv.each) here;
+    })

@@ -1,0 +1,11 @@
+use Rattle.std.proofs.Common.{◌≡◌, ◌<◌, ℕ, [], length, get_or}
+use Rattle.list_viterbi.specs.Picks.{HasPicks, picks_into}
+use Rattle.list_viterbi.proofs.picking.step.Given as goal
+
+abbrev pub invariant-loop-state : goal.invariant-loop-state
+invariant-loop-state l = record {
+  whole : length l.next ≡ 256;
+  whole_backs : length l.backs ≡ 256;
+  each : (t : ℕ) → t < l.state → HasPicks (get_or l.next t []) (get_or l.backs t [])
+      (picks_into l.row l.first l.second l.k t);
+}

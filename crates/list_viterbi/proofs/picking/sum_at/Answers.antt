@@ -1,0 +1,24 @@
+use Rattle.std.proofs.Common.{◌≡◌, ◌+ℤ◌, ◌+◌, ◌≤◌, ◌^◌, ℤ, get_or, pos, ap, ◌∙◌, sym, rules, arith}
+use Rattle.std.proofs.Common.{unsigned_abs, w64}
+use Rattle.std.proofs.lemmas.Int.{ints, to_z-of_z, fits_signed_from_abs}
+use Rattle.std.proofs.lemmas.Option.{get_or_from_slice_get}
+use mir.Val.{SFits}
+use Rattle.viterbi.proofs.Scores.{sum_fits}
+use Rattle.list_viterbi.proofs.picking.sum_at.Goals as goal
+
+pub overflow_add-result : goal.overflow_add-result
+overflow_add-result c =
+    let fits : SFits w64 c.get.result = search rules in
+    let fits' : SFits w64 c.args.gain = search rules in
+    let read : get_or c.args.scores.now c.args.i (pos 0) ≡ c.get.result =
+    get_or_from_slice_get c.args.scores.now c.args.i c.get.result (pos 0) c.get.ensures.value in
+    let room = rw read at (c.requires.room c.args.i (pos 0) c.requires.place) in
+    rw (to_z-of_z w64 c.get.result fits, to_z-of_z w64 c.args.gain fits')
+    (fits_signed_from_abs w64 _ (omega (arith, ints, room)))
+
+pub returns-clause-value : goal.returns-clause-value
+returns-clause-value c =
+    let read : get_or c.args.scores.now c.args.i (pos 0) ≡ c.get.result =
+    get_or_from_slice_get c.args.scores.now c.args.i c.get.result (pos 0) c.get.ensures.value in
+    let room = rw read at (c.requires.room c.args.i (pos 0) c.requires.place) in
+    sum_fits c.get.result c.args.gain room ∙ ap (λ (z : ℤ). z +ℤ c.args.gain) (sym read)

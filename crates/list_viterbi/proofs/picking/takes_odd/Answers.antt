@@ -1,0 +1,32 @@
+use Rattle.std.proofs.Common.{◌≡◌, ◌+ℤ◌, get_or, pos, sym, arith, rules, w64}
+use Rattle.std.proofs.lemmas.Int.{to_z-of_z}
+use mir.Val.{SFits}
+use Rattle.list_viterbi.proofs.Picks.{odd_over, odd_only, odd_by_sum}
+use Rattle.list_viterbi.proofs.picking.takes_odd.Goals as goal
+
+pub returns-then-j-len : goal.returns-then-j-len
+returns-then-j-len c =
+    sym (odd_over c.args.i c.args.j c.args.even_gain c.args.odd_gain c.args.even.now c.args.odd.now
+    (omega arith))
+
+pub returns-then-i-len : goal.returns-then-i-len
+returns-then-i-len c =
+    sym (odd_only c.args.i c.args.j c.args.even_gain c.args.odd_gain c.args.even.now c.args.odd.now
+    (omega arith) (omega arith))
+
+pub returns : goal.returns
+returns c =
+    let fits : SFits w64 c.sum_at.result = search rules in
+    let fits' : SFits w64 c.sum_at-2.result = search rules in
+    let even_fits : SFits w64 c.args.even_gain = search rules in
+    let odd_fits : SFits w64 c.args.odd_gain = search rules in
+    rw (
+      to_z-of_z w64 c.sum_at.result fits,
+      to_z-of_z w64 c.sum_at-2.result fits',
+      c.sum_at.ensures.value,
+      c.sum_at-2.ensures.value,
+      to_z-of_z w64 c.args.even_gain even_fits,
+      to_z-of_z w64 c.args.odd_gain odd_fits,
+    )
+    (sym (odd_by_sum c.args.i c.args.j c.args.even_gain c.args.odd_gain c.args.even.now
+    c.args.odd.now (omega arith) (omega arith)))

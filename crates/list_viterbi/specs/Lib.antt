@@ -1,0 +1,5 @@
+pub mod First
+pub mod Laws
+pub mod Merging
+pub mod Picks
+pub mod Backs

@@ -1,0 +1,73 @@
+-- How the lists of one bit more come from those before.
+use Rattle.std.specs.Prelude.{ℕ, zero, suc, ◌+◌, ◌*◌, ◌%◌, ◌^◌, ◌≤◌, ◌<◌, ◌≡◌, Bool, true, false}
+use Rattle.std.specs.Prelude.{List, [], ◌∷◌, ◌++◌, length, get_or, map, ℤ, pos, ◌+ℤ◌, int_lt}
+use Rattle.std.specs.Prelude.{nat_le, unsigned_abs, if◌then◌else◌}
+use Rattle.chip_core.specs.Bits.{binary}
+use Rattle.viterbi.specs.States.{low_bits}
+use Rattle.viterbi.specs.Survivors.{gain_of}
+use Rattle.viterbi.specs.Best.{HasStart}
+use Rattle.viterbi.specs.declared.word.Ends.{Ends}
+use Rattle.list_viterbi.specs.declared.words.Entry.{Entry}
+
+-- an entry's score
+abbrev pub score_in : Entry → ℤ
+score_in e = e.score
+
+-- one bit more
+abbrev pub extended_by : Bool → ℤ → Entry → Entry
+extended_by bit gain e = record {
+  word = record { start = e.word.start; bits = e.word.bits ++ bit ∷ [] };
+  score = e.score +ℤ gain;
+}
+
+-- the second list has the next element: that of greater score, or the only one
+abbrev pub second_is_next : {A : Type 0} → (A → ℤ) → List A → List A → Bool
+second_is_next score xs [] = false
+second_is_next score [] (y ∷ ys) = true
+second_is_next score (x ∷ xs) (y ∷ ys) = int_lt (score x) (score y)
+
+-- the first k of two lists by falling score, those of the first list before those of the second on
+-- a tie
+unfoldable pub merge : {A : Type 0} → (A → ℤ) → ℕ → List A → List A → List A
+merge score zero xs ys = []
+merge score (suc k) [] [] = []
+merge score (suc k) [] (y ∷ ys) = y ∷ merge score k [] ys
+merge score (suc k) (x ∷ xs) [] = x ∷ merge score k xs []
+merge score (suc k) (x ∷ xs) (y ∷ ys) =
+    if int_lt (score x) (score y)
+    then y ∷ merge score k (x ∷ xs) ys
+    else x ∷ merge score k xs (y ∷ ys)
+
+-- from the state before with this oldest bit, 0 or 1
+unfoldable pub list_from : List (List Entry) → ℤ → ℤ → ℕ → ℕ → List Entry
+list_from row first second state oldest =
+    map (extended_by (nat_le 128 state) (gain_of first second (low_bits 9 (2 * state + oldest))))
+    (get_or row (2 * (state % 128) + oldest) [])
+
+-- the first k of both
+unfoldable pub list_into : List (List Entry) → ℤ → ℤ → ℕ → ℕ → List Entry
+list_into row first second k state =
+    merge score_in k (list_from row first second state 0) (list_from row first second state 1)
+
+-- one bit more can be added
+abbrev pub HasRoom : ℤ → ℤ → Entry → Type 0
+HasRoom first second e =
+    (unsigned_abs e.score + (unsigned_abs first + unsigned_abs second) ≤ 2 ^ 62) ×
+    (length e.word.bits < 1184)
+
+-- the word of no bits into a state
+pub record IsStart (state : ℕ) (e : Entry) : Type 0 where
+  pub start : binary 8 e.word.start ≡ low_bits 8 state
+  pub none : e.word.bits ≡ []
+  pub nothing : e.score ≡ pos 0
+
+-- that word alone, or none where a word may not start from the state
+abbrev pub Start : Ends → ℕ → List Entry → Type 0
+Start ends state [] = ¬ (HasStart ends (low_bits 8 state))
+Start ends state (e ∷ []) = HasStart ends (low_bits 8 state) × IsStart state e
+Start ends state (e ∷ f ∷ es) = ⊥
+
+-- the first k of the lists of the first so many states
+unfoldable pub first_lists : List (List Entry) → ℕ → ℕ → List Entry
+first_lists row k zero = []
+first_lists row k (suc n) = merge score_in k (first_lists row k n) (get_or row n [])

@@ -1,0 +1,149 @@
+//! The decoder and its memory.
+
+ghost use Rattle.std.specs.Prelude.{◌≡◌, ◌<◌, ◌≤◌, ◌*◌, ◌/◌, ◌%◌, ◌^◌, ℕ, [], min, length, get_or};
+ghost use Rattle.std.specs.Prelude.{map, vec_len, sum_by, unsigned_abs, IfOk};
+ghost use Rattle.viterbi.specs.Words.{score_of, word_count};
+ghost use Rattle.viterbi.specs.Best.{IsAllowed};
+ghost use Rattle.list_viterbi.specs.First.{AreFirst, HaveScores, word_of};
+ghost use Rattle.list_viterbi.specs.Backs.{starts_at, start_scores};
+
+use crate::finds::first_ends;
+use crate::picking::step;
+use crate::scores::Scores;
+use crate::tracing::{BackRow, all_traced};
+use crate::words::Words;
+use chip_core::OutOfMemory;
+use std::alloc::Global;
+use std::marker::Model;
+use viterbi::Ends;
+
+/// Finds the first words for a list of soft values, in memory that `new` takes: two rows of scores
+/// and a row of back pointers for each of 576 bits, less than 2.5 MiB.
+///
+/// Contracts see the greatest number of bits of a word.
+#[derive(Drop)]
+pub struct ListDecoder {
+    max_bits: u16,
+    /// The scores of the first words into each state after the bits so far.
+    row: Vec<Scores>,
+    /// The scores after one bit more.
+    next: Vec<Scores>,
+    /// The back pointers of each bit.
+    rows: Vec<BackRow>,
+}
+
+impl Model for ListDecoder {
+    ghost use Rattle.std.specs.Prelude.{ℕ, ◌≡◌, ◌≤◌, vec_len};
+
+    ghost Value = { ℕ };
+
+    ghost view = { λ d. d.max_bits };
+
+    ghost invariant = { λ d. (d.max_bits ≤ 576) × (vec_len d.row ≡ 256) × (vec_len d.next ≡ 256)
+        × (vec_len d.rows ≡ 576) };
+}
+
+/// A row of states without words.
+fn empty_row(alloc: Global) -> Result<Vec<Scores>, OutOfMemory>
+    ensures { IfOk result (λ row. vec_len row ≡ 256) }
+{
+    let mut row = Vec::with_capacity(alloc, 256)?;
+    for _state in 0..256usize {
+        row.push(Scores::empty())?;
+    }
+    Ok(row)
+}
+
+/// Whether a word may start from a state.
+fn is_start(state: u8, ends: Ends) -> bool
+    ensures { result ≡ starts_at ends state }
+{
+    match ends {
+        Ends::Zero => state == 0,
+        Ends::Free => true,
+    }
+}
+
+/// The score of the word of no bits into a state, where a word may start from it.
+fn start_at(state: u8, ends: Ends) -> Scores
+    ensures { result ≡ start_scores ends state }
+{
+    let mut scores = Scores::empty();
+    if is_start(state, ends) {
+        scores.push(0);
+    }
+    scores
+}
+
+/// The scores before the first bit.
+fn start_row(row: &mut [Scores], ends: Ends)
+    requires { length row.old ≡ 256 }
+    ensures { (t : ℕ) → t < 256 → get_or row.new t [] ≡ start_scores ends t }
+{
+    for (state, scores) in row.iter_mut().enumerate() {
+        *scores = start_at(state as u8, ends);
+    }
+}
+
+impl ListDecoder {
+    /// A decoder for words of at most `max_bits` bits, from 8 to 576, with all the memory that it
+    /// needs; `OutOfMemory` where the allocator has none.
+    pub fn new(alloc: Global, max_bits: u16) -> Result<ListDecoder, OutOfMemory>
+        requires least { 8 ≤ max_bits }
+        requires most { max_bits ≤ 576 }
+        ensures { IfOk result (λ decoder. decoder ≡ max_bits) }
+    {
+        let row = empty_row(alloc)?;
+        let next = empty_row(alloc)?;
+        let rows = vec![in alloc; [[0u8; 16]; 256]; 576]?;
+        Ok(ListDecoder {
+            max_bits,
+            row,
+            next,
+            rows,
+        })
+    }
+
+    /// Finds the first `k` of all allowed words for these soft values, or all where there are
+    /// fewer: `out` becomes their list, with their scores, whatever it held, and the answer is its
+    /// length.
+    ///
+    /// There are two soft values a bit, that of the symbol of 753 octal first and then that of 561
+    /// octal (TIA/EIA-95-B, 7.1.3.1.3.1). Soft values, scores and the order of words are those of
+    /// `viterbi::Decoder::best_into`. Between zeros there are 2^(bits - 8) words, and else
+    /// 2^(bits + 8), which is never fewer than 16.
+    pub fn list_into(&mut self, softs: &[i64], ends: Ends, k: u8, out: &mut Words) -> u8
+        requires some { 1 ≤ k }
+        requires few { k ≤ 16 }
+        requires even { length softs.now % 2 ≡ 0 }
+        requires least { 16 ≤ length softs.now }
+        requires most { length softs.now ≤ 2 * self.old }
+        requires bound { sum_by unsigned_abs softs.now ≤ 2 ^ 62 }
+
+        ensures first { AreFirst (score_of softs.now) (IsAllowed ends (length softs.now / 2)) k
+            (map word_of out.new) }
+        ensures scores { HaveScores softs.now out.new }
+        ensures count { result ≡ length out.new }
+        ensures number { result ≡ min k (word_count ends (length softs.now / 2)) }
+        ensures kept { self.new ≡ self.old }
+    {
+        let count = softs.len() / 2;
+        start_row(&mut self.row, ends);
+        for bit in 0..count {
+            let mut backs = [[0u8; 16]; 256];
+            step(
+                &self.row,
+                softs[2 * bit],
+                softs[2 * bit + 1],
+                k,
+                &mut self.next,
+                &mut backs,
+            );
+            self.rows[bit] = backs;
+            std::mem::swap(&mut self.row, &mut self.next);
+        }
+        let finds = first_ends(&self.row, ends, k);
+        *out = all_traced(&self.rows[..count], &finds);
+        out.len()
+    }
+}
