@@ -1,4 +1,4 @@
--- What scores and rows of back pointers stand for: the words into a state, one after another.
+-- What scores and rows of choices stand for: the words into a state, one after another.
 use Rattle.std.proofs.Common.{◌≡◌, ℕ, zero, suc, ◌+◌, ◌*◌, ◌/◌, ◌%◌, ◌<◌, ◌≤◌, Bool, List, [], ◌∷◌}
 use Rattle.std.proofs.Common.{◌++◌, length, get_or, map, take, refl, sym, ap, subst, ◌∙◌, arith, ℤ}
 use Rattle.std.proofs.Common.{◌+ℤ◌}
@@ -12,19 +12,19 @@ use Rattle.viterbi.specs.Lanes.{gain_by, code_of}
 use Rattle.viterbi.proofs.Codes.{code_gains}
 use Rattle.list_viterbi.specs.declared.words.Entry.{Entry}
 use Rattle.list_viterbi.specs.Merging.{score_in, extended_by, merge, list_from, list_into}
-use Rattle.list_viterbi.specs.Picks.{Pick, pick_score, pick_back, picks_from, picks_by, picks_into}
-use Rattle.list_viterbi.specs.Picks.{HasPicks}
-use Rattle.list_viterbi.specs.Backs.{back_of, state_before, place_before, origin, path}
+use Rattle.list_viterbi.specs.Picks.{Pick, pick_score, picks_from, picks_by, picks_into}
+use Rattle.list_viterbi.specs.Picks.{pointer_of, HasChoices, HasPicks}
+use Rattle.list_viterbi.specs.Rows.{back_of, state_before, place_before, origin, path}
 use Rattle.list_viterbi.proofs.Pairs.{Pairs, merge_pairs, merge_most}
 
 -- a place in a state's list leads back to the entry's word
-abbrev pub Traces : List (List (List ℕ)) → ℕ → ℕ → ℕ → Entry → Type 0
+abbrev pub Traces : List (List ℕ) → ℕ → ℕ → ℕ → Entry → Type 0
 Traces rows n t place e =
     (path rows n t place ≡ e.word.bits)
     × (binary 8 e.word.start ≡ low_bits 8 (origin rows n t place))
 
 -- scores and the places from one on lead back to entries
-abbrev pub Agrees : List (List (List ℕ)) → ℕ → ℕ → ℕ → List ℤ → List Entry → Type 0
+abbrev pub Agrees : List (List ℕ) → ℕ → ℕ → ℕ → List ℤ → List Entry → Type 0
 Agrees rows n t place [] [] = Unit {0}
 Agrees rows n t place [] (e ∷ es) = ⊥
 Agrees rows n t place (s ∷ ss) [] = ⊥
@@ -32,7 +32,7 @@ Agrees rows n t place (s ∷ ss) (e ∷ es) =
     ((s ≡ e.score) × Traces rows n t place e) × Agrees rows n t (suc place) ss es
 
 -- what holds of the entries' scores holds of the scores
-pub agrees_all : (rows : List (List (List ℕ))) (n t place : ℕ) (ss : List ℤ) (es : List Entry)
+pub agrees_all : (rows : List (List ℕ)) (n t place : ℕ) (ss : List ℤ) (es : List Entry)
     (P : ℤ → Type 0) → Agrees rows n t place ss es → All (λ e. P e.score) es → All P ss
 agrees_all rows n t place [] [] P h all = All-nil P
 agrees_all rows n t place [] (e ∷ es) P h all = absurd h
@@ -43,15 +43,15 @@ agrees_all rows n t place (s ∷ ss) (e ∷ es) P h all =
 
 -- OTHER ROWS
 -- the first n rows are the same
-abbrev pub Same : ℕ → List (List (List ℕ)) → List (List (List ℕ)) → Type 0
+abbrev pub Same : ℕ → List (List ℕ) → List (List ℕ) → Type 0
 Same n rows rows' = (j : ℕ) → j < n → get_or rows' j [] ≡ get_or rows j []
 
-same_back : (n : ℕ) (rows rows' : List (List (List ℕ))) (t place : ℕ) → Same (suc n) rows rows' →
+same_back : (n : ℕ) (rows rows' : List (List ℕ)) (t place : ℕ) → Same (suc n) rows rows' →
     back_of rows' n t place ≡ back_of rows n t place
 same_back n rows rows' t place h =
-    ap (λ (r : List (List ℕ)). get_or (get_or r t []) (place % 16) 0) (h n (omega arith))
+    ap (λ (r : List ℕ). pointer_of (get_or r t 0) (place % 16)) (h n (omega arith))
 
-same_path : (n : ℕ) (rows rows' : List (List (List ℕ))) (t place : ℕ) → Same n rows rows' →
+same_path : (n : ℕ) (rows rows' : List (List ℕ)) (t place : ℕ) → Same n rows rows' →
     path rows' n t place ≡ path rows n t place
 unfolding path
 same_path zero rows rows' t place h = refl
@@ -62,7 +62,7 @@ same_path (suc n) rows rows' t place h =
     (same_path n rows rows' (state_before rows n t place) (place_before rows n t place)
     (λ j b. h j (omega (arith, b))))
 
-same_origin : (n : ℕ) (rows rows' : List (List (List ℕ))) (t place : ℕ) → Same n rows rows' →
+same_origin : (n : ℕ) (rows rows' : List (List ℕ)) (t place : ℕ) → Same n rows rows' →
     origin rows' n t place ≡ origin rows n t place
 unfolding origin
 same_origin zero rows rows' t place h = refl
@@ -72,7 +72,7 @@ same_origin (suc n) rows rows' t place h =
     ∙ same_origin n rows rows' (state_before rows n t place) (place_before rows n t place)
     (λ j b. h j (omega (arith, b)))
 
-pub same_agrees : (n : ℕ) (rows rows' : List (List (List ℕ))) (t place : ℕ) (ss : List ℤ)
+pub same_agrees : (n : ℕ) (rows rows' : List (List ℕ)) (t place : ℕ) (ss : List ℤ)
     (es : List Entry) → Same n rows rows' → Agrees rows n t place ss es →
     Agrees rows' n t place ss es
 same_agrees n rows rows' t place [] [] same h = tt
@@ -91,11 +91,12 @@ same_agrees n rows rows' t place (s ∷ ss) (e ∷ es) same h = (
 
 -- ONE BIT MORE
 -- a pick leads back to the entry's word
-abbrev PickTraces : List (List (List ℕ)) → ℕ → ℕ → Pick → Entry → Type 0
+abbrev PickTraces : List (List ℕ) → ℕ → ℕ → Pick → Entry → Type 0
 PickTraces rows n t p e =
     (p.score ≡ e.score)
     × ((path rows n (2 * (t % 128) + p.back % 2) (p.back / 2) ++ nat_le 128 t ∷ [] ≡ e.word.bits)
-    × (binary 8 e.word.start ≡ low_bits 8 (origin rows n (2 * (t % 128) + p.back % 2) (p.back / 2))))
+    × (binary 8 e.word.start ≡ low_bits 8 (origin rows n (2 * (t % 128) + p.back % 2)
+    (p.back / 2))))
 
 oldest_of : (place oldest : ℕ) → oldest < 2 → (2 * place + oldest) % 2 ≡ oldest
 oldest_of place oldest two = omega (arith, two)
@@ -103,7 +104,7 @@ oldest_of place oldest two = omega (arith, two)
 place_of : (place oldest : ℕ) → oldest < 2 → (2 * place + oldest) / 2 ≡ place
 place_of place oldest two = omega (arith, two)
 
-picks_pairs : (rows : List (List (List ℕ))) (n t oldest : ℕ) (gain : ℤ) (place : ℕ) (ss : List ℤ)
+picks_pairs : (rows : List (List ℕ)) (n t oldest : ℕ) (gain : ℤ) (place : ℕ) (ss : List ℤ)
     (es : List Entry) → oldest < 2 → Agrees rows n (2 * (t % 128) + oldest) place ss es →
     Pairs (PickTraces rows n t) (picks_from oldest gain place ss)
     (map (extended_by (nat_le 128 t) gain) es)
@@ -120,7 +121,7 @@ picks_pairs rows n t oldest gain place (s ∷ ss) (e ∷ es) two h = (
 )
 
 -- by both states before
-into_pairs : (rows : List (List (List ℕ))) (n k t : ℕ) (first second : ℤ) (scores : List (List ℤ))
+into_pairs : (rows : List (List ℕ)) (n k t : ℕ) (first second : ℤ) (scores : List (List ℤ))
     (row : List (List Entry)) → t < 256 →
     ((u : ℕ) → u < 256 → Agrees rows n u 0 (get_or scores u []) (get_or row u [])) →
     Pairs (PickTraces rows n t) (picks_into scores first second k t)
@@ -137,53 +138,34 @@ into_pairs rows n k t first second scores row below each =
     (get_or row (2 * (t % 128) + 1) []) (omega arith)
     (each (2 * (t % 128) + 1) (omega arith))))
 
--- a state's pointers are those of the picks, from a place on
-abbrev Points : List ℕ → ℕ → List Pick → Type 0
-Points backs place [] = Unit {0}
-Points backs place (p ∷ ps) = (get_or backs (place % 16) 0 ≡ p.back) × Points backs (suc place) ps
-
-points : (backs : List ℕ) (place : ℕ) (ps : List Pick) → place + length ps ≤ 16 →
-    ((i : ℕ) → i < length ps → get_or backs (place + i) 0 ≡ get_or (map pick_back ps) i 0) →
-    Points backs place ps
-points backs place [] few each = tt
-points backs place (p ∷ ps) few each = (
-  ap (λ (i : ℕ). get_or backs i 0) (omega (arith, few)) ∙ each 0 (omega arith),
-  points backs (suc place) ps (omega (arith, few))
-      (λ i b. ap (λ (j : ℕ). get_or backs j 0) (omega arith) ∙ each (suc i) (omega (arith, b))),
-)
-
-has_points : (scores : List ℤ) (backs : List ℕ) (ps : List Pick) → length ps ≤ 16 →
-    HasPicks scores backs ps → Points backs 0 ps
-has_points scores backs ps few h =
-    points backs 0 ps (omega (arith, few))
-    (λ i b. ap (λ (j : ℕ). get_or backs j 0) (omega arith)
-    ∙ sym (get_or-take (length ps) backs i 0 b) ∙ ap (λ (r : List ℕ). get_or r i 0) h.1)
-
-pairs_agree : (rows : List (List (List ℕ))) (n t place : ℕ) (ps : List Pick) (es : List Entry) →
-    Points (get_or (get_or rows n []) t []) place ps → Pairs (PickTraces rows n t) ps es →
+pairs_agree : (rows : List (List ℕ)) (n t place : ℕ) (ps : List Pick) (es : List Entry) →
+    place + length ps ≤ 16 → HasChoices (get_or (get_or rows n []) t 0) place ps →
+    Pairs (PickTraces rows n t) ps es →
     Agrees rows (suc n) t place (map pick_score ps) es
 unfolding path origin
-pairs_agree rows n t place [] [] points h = tt
-pairs_agree rows n t place [] (e ∷ es) points h = absurd h
-pairs_agree rows n t place (p ∷ ps) [] points h = absurd h
-pairs_agree rows n t place (p ∷ ps) (e ∷ es) points h = (
-  (h.0.0, rw points.0 h.0.1),
-  pairs_agree rows n t (suc place) ps es points.1 h.1,
-)
+pairs_agree rows n t place [] [] few chosen h = tt
+pairs_agree rows n t place [] (e ∷ es) few chosen h = absurd h
+pairs_agree rows n t place (p ∷ ps) [] few chosen h = absurd h
+pairs_agree rows n t place (p ∷ ps) (e ∷ es) few chosen h =
+    let choices = get_or (get_or rows n []) t 0 in
+    let small : place % 16 ≡ place = omega (arith, few) in
+    let back : back_of rows n t place ≡ p.back = ap (pointer_of choices) small ∙ chosen.0 in (
+      (h.0.0, rw back h.0.1),
+      pairs_agree rows n t (suc place) ps es (omega (arith, few)) chosen.1 h.1,
+    )
 
 picks_most : (row : List (List ℤ)) (gain : ℤ) (k t : ℕ) → length (picks_by row gain k t) ≤ k
 unfolding picks_by
 picks_most row gain k t = merge_most pick_score k _ _
 
-pub step_agrees : (rows : List (List (List ℕ))) (n k t : ℕ) (first second : ℤ)
+pub step_agrees : (rows : List (List ℕ)) (n k t : ℕ) (first second : ℤ)
     (scores : List (List ℤ)) (row : List (List Entry)) (next : List ℤ) → t < 256 → k ≤ 16 →
     ((u : ℕ) → u < 256 → Agrees rows n u 0 (get_or scores u []) (get_or row u [])) →
-    HasPicks next (get_or (get_or rows n []) t []) (picks_into scores first second k t) →
+    HasPicks next (get_or (get_or rows n []) t 0) (picks_into scores first second k t) →
     Agrees rows (suc n) t 0 next (list_into row first second k t)
 step_agrees rows n k t first second scores row next below few each h =
     let ps = picks_into scores first second k t in
     let most = picks_most scores (gain_by first second (code_of t)) k t in
     subst (λ (ss : List ℤ). Agrees rows (suc n) t 0 ss (list_into row first second k t)) (sym h.0)
-    (pairs_agree rows n t 0 ps (list_into row first second k t)
-    (has_points next (get_or (get_or rows n []) t []) ps (omega (arith, most, few)) h)
+    (pairs_agree rows n t 0 ps (list_into row first second k t) (omega (arith, most, few)) h.1
     (into_pairs rows n k t first second scores row below each))

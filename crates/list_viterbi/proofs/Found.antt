@@ -1,4 +1,4 @@
--- The words of the end states that the scores and rows of back pointers give.
+-- The words of the end states that the scores and rows of choices give.
 use Rattle.std.proofs.Common.{◌≡◌, ℕ, zero, suc, ◌+◌, ◌<◌, ◌≤◌, List, [], ◌∷◌, ◌++◌, length, get_or}
 use Rattle.std.proofs.Common.{map, take, refl, sym, ap, subst, ◌∙◌, arith, ℤ, Some}
 use Rattle.std.specs.Prelude.{slice_get}
@@ -16,7 +16,7 @@ use Rattle.list_viterbi.specs.declared.words.Entry.{Entry}
 use Rattle.list_viterbi.specs.declared.finds.Find.{Find}
 use Rattle.list_viterbi.specs.First.{word_of}
 use Rattle.list_viterbi.specs.Merging.{score_in, merge, first_lists}
-use Rattle.list_viterbi.specs.Backs.{origin, find_score, finds_from, first_finds, entry_at}
+use Rattle.list_viterbi.specs.Rows.{origin, find_score, finds_from, first_finds, entry_at}
 use Rattle.list_viterbi.proofs.Firsts.{Firsts}
 use Rattle.list_viterbi.proofs.Merges.{Lists, Scored}
 use Rattle.list_viterbi.proofs.Pairs.{Pairs, merge_pairs}
@@ -25,10 +25,10 @@ use Rattle.list_viterbi.proofs.Agreements.{Agrees, Traces}
 use Rattle.list_viterbi.proofs.Standing.{Stands}
 
 -- a word that is found leads back to the entry's
-abbrev FindTraces : List (List (List ℕ)) → ℕ → Find → Entry → Type 0
+abbrev FindTraces : List (List ℕ) → ℕ → Find → Entry → Type 0
 FindTraces rows n f e = (f.score ≡ e.score) × Traces rows n f.state f.rank e
 
-finds_pairs : (rows : List (List (List ℕ))) (n t place : ℕ) (ss : List ℤ) (es : List Entry) →
+finds_pairs : (rows : List (List ℕ)) (n t place : ℕ) (ss : List ℤ) (es : List Entry) →
     Agrees rows n t place ss es → Pairs (FindTraces rows n) (finds_from t place ss) es
 finds_pairs rows n t place [] [] h = tt
 finds_pairs rows n t place [] (e ∷ es) h = absurd h
@@ -36,7 +36,7 @@ finds_pairs rows n t place (s ∷ ss) [] h = absurd h
 finds_pairs rows n t place (s ∷ ss) (e ∷ es) h =
     (h.0, finds_pairs rows n t (suc place) ss es h.1)
 
-ends_pairs : (rows : List (List (List ℕ))) (n k count : ℕ) (scores : List (List ℤ))
+ends_pairs : (rows : List (List ℕ)) (n k count : ℕ) (scores : List (List ℤ))
     (row : List (List Entry)) → count ≤ 256 →
     ((t : ℕ) → t < 256 → Agrees rows n t 0 (get_or scores t []) (get_or row t [])) →
     Pairs (FindTraces rows n) (first_finds scores k count) (first_lists row k count)
@@ -52,7 +52,7 @@ ends_pairs rows n k (suc count) scores row most each =
 abbrev SameWord : Entry → Entry → Type 0
 SameWord a b = (word_of a ≡ word_of b) × (a.score ≡ b.score)
 
-traced_pairs : (rows : List (List (List ℕ))) (n : ℕ) (finds : List Find) (es : List Entry) →
+traced_pairs : (rows : List (List ℕ)) (n : ℕ) (finds : List Find) (es : List Entry) →
     length rows ≡ n → Pairs (FindTraces rows n) finds es →
     Pairs SameWord (map (entry_at rows) finds) es
 traced_pairs rows n [] [] long h = tt
@@ -95,12 +95,13 @@ lists_pairs softs Kind k xs ys h lists = (
 
 -- the words that all rows lead back to from the first ends
 pub found_words : (softs : List ℤ) (ends : Ends) (k n : ℕ) (scores : List (List ℤ))
-    (rows : List (List (List ℕ))) (finds : List Find) (es : List Entry) → 8 ≤ n →
+    (rows : List (List ℕ)) (finds : List Find) (es : List Entry) → 8 ≤ n →
     length rows ≡ n → Stands softs ends k n scores rows →
     finds ≡ first_finds scores k (end_count ends) → es ≡ map (entry_at rows) finds →
     Lists softs (IsAllowed ends n) k es
 found_words softs ends k n scores rows finds es eight long h finds_are es_are =
-    let lists = found softs ends k n h.row (first_lists h.row k (end_count ends)) eight h.listed refl
+    let lists =
+    found softs ends k n h.row (first_lists h.row k (end_count ends)) eight h.listed refl
     in
     let pairs = ends_pairs rows n k (end_count ends) scores h.row (end_count_le ends) h.agree in
     subst (Lists softs (IsAllowed ends n) k)
@@ -130,7 +131,8 @@ finds_more t ss i s finds within read is =
     ∙ ap (λ (p : ℕ). finds_from t 0 (take i ss) ++ record { score = s; state = t; rank = p } ∷ [])
     place
     ∙ sym (finds_append t 0 (take i ss) s)
-    ∙ ap (λ (z : ℤ). finds_from t 0 (take i ss ++ z ∷ [])) (sym (get_or_from_slice_get ss i s s read))
+    ∙ ap (λ (z : ℤ). finds_from t 0 (take i ss ++ z ∷ []))
+    (sym (get_or_from_slice_get ss i s s read))
     ∙ ap (finds_from t 0) (sym (take_more ss i s within))
 
 finds_long : (t place : ℕ) (ss : List ℤ) → length (finds_from t place ss) ≡ length ss

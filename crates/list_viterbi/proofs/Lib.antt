@@ -8,6 +8,8 @@ pub mod Numbered
 pub mod Unless
 pub mod Places
 pub mod Passing
+pub mod BoolBytes
+pub mod Masks
 pub mod StateCodes
 pub mod Pairs
 pub mod Picks
@@ -15,4 +17,4 @@ pub mod PickSteps
 pub mod Agreements
 pub mod Standing
 pub mod Found
-pub mod BackSteps
+pub mod Tracings

@@ -33,16 +33,16 @@ turned_room gain turned ss is room = λ i d b.
     omega (arith, here, same)
 
 pub by_made : (row : List (List ℤ)) (gain turned : ℤ) (k t place : ℕ) (even odd : List ℤ)
-    (scores : List ℤ) (backs : List ℕ) → place ≡ 2 * (t % 128) → place + 1 < length row →
+    (scores : List ℤ) (choices : ℕ) → place ≡ 2 * (t % 128) → place + 1 < length row →
     even ≡ get_or row place even → odd ≡ get_or row (place + 1) odd → turned ≡ pos 0 -ℤ gain →
-    HasPicks scores backs
+    HasPicks scores choices
     (merge pick_score k (picks_from 0 gain 0 even) (picks_from 1 turned 0 odd)) →
-    HasPicks scores backs (picks_by row gain k t)
+    HasPicks scores choices (picks_by row gain k t)
 unfolding picks_by
-by_made row gain turned k t place even odd scores backs is within read read' turned_is h =
+by_made row gain turned k t place even odd scores choices is within read read' turned_is h =
     let even_is = item_at row t 0 place even (omega (arith, is)) (omega (arith, within)) read in
     let odd_is = item_at row t 1 (place + 1) odd (omega (arith, is)) within read' in
-    subst (HasPicks scores backs)
+    subst (HasPicks scores choices)
     (ap (λ (ss : List ℤ). merge pick_score k (picks_from 0 gain 0 ss) (picks_from 1 turned 0 odd))
     even_is
     ∙ ap (λ (ss : List ℤ). merge pick_score k
@@ -59,26 +59,27 @@ pub gain_room : (f s gain : ℤ) (ss : List ℤ) →
 gain_room f s gain ss size room = λ i d b. let here = room i d b in omega (arith, here, size)
 
 -- one state more
-pub each_more : (row next : List (List ℤ)) (backs : List (List ℕ)) (f s : ℤ) (k state : ℕ)
-    (scores : List ℤ) (pointers : List ℕ) → state < length next → state < length backs →
+pub each_more : (row next : List (List ℤ)) (choices : List ℕ) (f s : ℤ) (k state : ℕ)
+    (scores : List ℤ) (chosen : ℕ) → state < length next → state < length choices →
     ((t : ℕ) → t < state →
-    HasPicks (get_or next t []) (get_or backs t []) (picks_into row f s k t)) →
-    HasPicks scores pointers (picks_into row f s k state) →
+    HasPicks (get_or next t []) (get_or choices t 0) (picks_into row f s k t)) →
+    HasPicks scores chosen (picks_into row f s k state) →
     (t : ℕ) → t < state + 1 →
-    HasPicks (get_or (set next state scores) t []) (get_or (set backs state pointers) t [])
+    HasPicks (get_or (set next state scores) t []) (get_or (set choices state chosen) t 0)
     (picks_into row f s k t)
-each_more row next backs f s k state scores pointers within within' before here t b =
+each_more row next choices f s k state scores chosen within within' before here t b =
     ⊎_elim
     (λ same. subst
-    (λ (u : ℕ). HasPicks (get_or (set next state scores) u []) (get_or (set backs state pointers) u [])
+    (λ (u : ℕ). HasPicks (get_or (set next state scores) u [])
+    (get_or (set choices state chosen) u 0)
     (picks_into row f s k u))
     (sym same)
     (rw (
       get_or-set_same next state scores [] within,
-      get_or-set_same backs state pointers [] within',
+      get_or-set_same choices state chosen 0 within',
     ) here))
     (λ other. rw (
       get_or-set_other next state t scores [] other,
-      get_or-set_other backs state t pointers [] other,
+      get_or-set_other choices state t chosen 0 other,
     ) (before t (omega (arith, b, other))))
     (cases_eq t state)

@@ -1,14 +1,17 @@
 -- Picks out of lists of scores, and how many were taken.
-use Rattle.std.proofs.Common.{◌≡◌, ℕ, zero, suc, ◌+◌, ◌*◌, ◌<◌, ◌≤◌, true, false, List, [], ◌∷◌}
-use Rattle.std.proofs.Common.{◌++◌, length, map, take, drop, set, get_or, refl, sym, ap, subst, ◌∙◌}
+use Rattle.std.proofs.Common.{◌≡◌, ℕ, zero, suc, ◌+◌, ◌*◌, ◌^◌, ◌<◌, ◌≤◌, Bool, true, false, List}
+use Rattle.std.proofs.Common.{[], ◌∷◌, ◌++◌, length, map, drop, get_or, refl, sym, ap, subst, ◌∙◌}
 use Rattle.std.proofs.Common.{arith, ℤ, pos, ◌+ℤ◌, Some, None, length-append}
 use Rattle.std.specs.Prelude.{slice_get, int_lt, All}
 use Rattle.std.proofs.lemmas.Option.{slice_get-get_or}
-use Rattle.std.proofs.lemmas.List.{take_more_set, map-append, length-map}
+use Rattle.std.proofs.lemmas.List.{map-append, length-map}
+use Rattle.chip_core.specs.Bits.{digit}
+use Rattle.viterbi.specs.Rows.{taken_of}
 use Rattle.list_viterbi.specs.Merging.{second_is_next, merge}
-use Rattle.list_viterbi.specs.Picks.{Pick, pick_score, pick_back, picks_from, HasPicks}
+use Rattle.list_viterbi.specs.Picks.{Pick, pick_score, picks_from, ones_below, HasChoices, HasPicks}
 use Rattle.list_viterbi.proofs.Walks.{IsPart, second_over, second_only, second_by_score, second_has}
 use Rattle.list_viterbi.proofs.Walks.{took_first, took_second, took_none, all_taken}
+use Rattle.list_viterbi.proofs.Masks.{grown, chosen_more, ones_more, ones_none, pointer_by}
 
 -- the pick at a place
 abbrev pub pick_of : ℕ → ℤ → ℕ → ℤ → Pick
@@ -69,51 +72,69 @@ odd_has i j g h even odd most next =
     (omega (arith, most, long)) next in
     omega (arith, here, long)
 
--- one pick more
-has_more : (scores : List ℤ) (backs : List ℕ) (taken : List Pick) (p : Pick) (place : ℕ)
-    (value : ℤ) (back : ℕ) → place ≡ length scores → place < length backs → value ≡ p.score →
-    back ≡ p.back → HasPicks scores backs taken →
-    HasPicks (scores ++ value ∷ []) (set backs place back) (taken ++ p ∷ [])
-has_more scores backs taken p place value back is room value_is back_is h =
-    let long : length taken ≡ place =
-    sym (length-map taken pick_score) ∙ ap length (sym h.0) ∙ sym is in
-    let longer : length (taken ++ p ∷ []) ≡ place + 1 =
-    length-append taken (p ∷ []) ∙ omega (arith, long) in
-    let before : take place backs ≡ map pick_back taken =
-    ap (λ (n : ℕ). take n backs) (sym long) ∙ h.1 in (
-      ap (λ (r : List ℤ). r ++ value ∷ []) h.0
-          ∙ ap (λ (z : ℤ). map pick_score taken ++ z ∷ []) value_is
-          ∙ sym (map-append pick_score taken (p ∷ [])),
-      ap (λ (n : ℕ). take n (set backs place back)) longer
-          ∙ take_more_set backs place back room
-          ∙ ap (λ (r : List ℕ). r ++ back ∷ []) before
-          ∙ ap (λ (b : ℕ). map pick_back taken ++ b ∷ []) back_is
-          ∙ sym (map-append pick_back taken (p ∷ [])),
-    )
-
--- so many scores and back pointers, from the first places of both lists
-pub record IsPicked (k : ℕ) (xs ys : List Pick) (i j n : ℕ) (scores : List ℤ) (backs : List ℕ) :
+-- SO MANY PICKS
+-- so many scores and choices, of the first picks of both lists
+pub record IsPicked (k : ℕ) (xs ys : List Pick) (i j n : ℕ) (scores : List ℤ) (choices : ℕ) :
     Type 0 where
   pub taken : List Pick
   pub part : IsPart pick_score k xs ys i j n taken
-  pub has : HasPicks scores backs taken
+  pub values : scores ≡ map pick_score taken
+  pub small : choices < 2 ^ length taken
+  pub ones : ones_below choices (length taken) ≡ j
+  pub both : i + j ≡ length taken
+  pub chosen : HasChoices choices 0 taken
 
-pub picked_none : (k : ℕ) (xs ys : List Pick) (backs : List ℕ) → IsPicked k xs ys 0 0 0 [] backs
-picked_none k xs ys backs = record {
+pub picked_none : (k : ℕ) (xs ys : List Pick) → IsPicked k xs ys 0 0 0 [] 0
+picked_none k xs ys = record {
   taken = [];
   part = λ m e. ap (λ (n : ℕ). merge pick_score n xs ys) (omega (arith, e));
-  has = (refl, refl);
+  values = refl;
+  small = omega arith;
+  ones = ones_none 0;
+  both = refl;
+  chosen = tt;
 }
 
-pub picked_odd : (k i j n : ℕ) (even odd : List ℤ) (g h : ℤ) (scores : List ℤ) (backs : List ℕ)
-    (place : ℕ) (value : ℤ) (back : ℕ) → place ≡ length scores → j < length odd →
+pub picked_long : (k : ℕ) (xs ys : List Pick) (i j n : ℕ) (scores : List ℤ) (choices : ℕ)
+    (p : IsPicked k xs ys i j n scores choices) → length p.taken ≡ length scores
+picked_long k xs ys i j n scores choices p =
+    sym (length-map p.taken pick_score) ∙ ap length (sym p.values)
+
+-- one pick more
+picked_more : (k : ℕ) (xs ys : List Pick) (i j n i' j' : ℕ) (scores : List ℤ) (choices new : ℕ)
+    (value : ℤ) (b : Bool) (pick : Pick) (p : IsPicked k xs ys i j n scores choices) →
+    IsPart pick_score k xs ys i' j' (n + 1) (p.taken ++ pick ∷ []) → value ≡ pick.score →
+    new ≡ digit b * 2 ^ length p.taken + choices → pick.back ≡ pointer_by b j (length p.taken) →
+    i' + j' ≡ i + j + 1 → j' ≡ j + digit b →
+    IsPicked k xs ys i' j' (n + 1) (scores ++ value ∷ []) new
+picked_more k xs ys i j n i' j' scores choices new value b pick p part value_is is back both ones =
+    let m = length p.taken in
+    let before = p.both in
+    let longer : length (p.taken ++ pick ∷ []) ≡ m + 1 = length-append p.taken (pick ∷ []) in
+    let back_is : pick.back ≡ pointer_by b (ones_below choices m) m =
+    back ∙ ap (λ (c : ℕ). pointer_by b c m) (sym p.ones) in
+    record {
+      taken = p.taken ++ pick ∷ [];
+      part = part;
+      values = ap (λ (r : List ℤ). r ++ value ∷ []) p.values
+          ∙ ap (λ (z : ℤ). map pick_score p.taken ++ z ∷ []) value_is
+          ∙ sym (map-append pick_score p.taken (pick ∷ []));
+      small = rw (longer, is) (grown choices m b p.small);
+      ones = ap (ones_below new) longer ∙ ones_more choices new m b p.small is
+          ∙ ap (λ (c : ℕ). c + digit b) p.ones ∙ sym ones;
+      both = omega (arith, both, before, longer);
+      chosen = chosen_more choices new m b p.taken pick refl p.small is back_is p.chosen;
+    }
+
+pub picked_odd : (k i j n : ℕ) (even odd : List ℤ) (g h : ℤ) (scores : List ℤ)
+    (choices new weight : ℕ) (value : ℤ) → weight ≡ 2 ^ length scores → j < length odd →
     second_is_next pick_score (drop i (picks_from 0 g 0 even)) (drop j (picks_from 1 h 0 odd))
-    ≡ true → place < length backs → value ≡ get_or odd j (pos 0) +ℤ h →
-    back ≡ 2 * j + 1 →
-    IsPicked k (picks_from 0 g 0 even) (picks_from 1 h 0 odd) i j n scores backs →
+    ≡ true → value ≡ get_or odd j (pos 0) +ℤ h → new ≡ choices + weight →
+    IsPicked k (picks_from 0 g 0 even) (picks_from 1 h 0 odd) i j n scores choices →
     IsPicked k (picks_from 0 g 0 even) (picks_from 1 h 0 odd) i (j + 1) (n + 1)
-    (scores ++ value ∷ []) (set backs place back)
-picked_odd k i j n even odd g h scores backs place value back is within next room value_is back_is p =
+    (scores ++ value ∷ []) new
+picked_odd k i j n even odd g h scores choices new weight value power within next value_is is p =
+    let xs = picks_from 0 g 0 even in
     let ys = picks_from 1 h 0 odd in
     let s = get_or odd j (pos 0) in
     let pick = pick_of 1 h j s in
@@ -121,51 +142,88 @@ picked_odd k i j n even odd g h scores backs place value back is within next roo
     let here : slice_get ys j ≡ Some pick = picks_read 1 h 0 odd j s
     (slice_get-get_or odd j (pos 0) within)
     ∙ ap (λ (m : ℕ). Some (pick_of 1 h m s)) (omega arith) in
-    record {
-      taken = p.taken ++ pick ∷ [];
-      part = took_second pick_score k i j n (picks_from 0 g 0 even) ys p.taken pick
-          (omega (arith, within, long)) here next p.part;
-      has = has_more scores backs p.taken pick place value back is room value_is back_is p.has;
-    }
+    let size : 2 ^ length p.taken ≡ weight =
+    ap (λ (m : ℕ). 2 ^ m) (picked_long k xs ys i j n scores choices p) ∙ sym power in
+    picked_more k xs ys i j n i (j + 1) scores choices new value true pick p
+    (took_second pick_score k i j n xs ys p.taken pick
+    (omega (arith, within, long)) here next p.part)
+    value_is (omega (arith, is, size)) refl (omega arith) refl
 
-pub picked_even : (k i j n : ℕ) (even odd : List ℤ) (g h : ℤ) (scores : List ℤ) (backs : List ℕ)
-    (place : ℕ) (value : ℤ) (back : ℕ) → place ≡ length scores → i < length even →
+pub picked_even : (k i j n : ℕ) (even odd : List ℤ) (g h : ℤ) (scores : List ℤ) (choices : ℕ)
+    (value : ℤ) → i < length even →
     second_is_next pick_score (drop i (picks_from 0 g 0 even)) (drop j (picks_from 1 h 0 odd))
-    ≡ false → place < length backs → value ≡ get_or even i (pos 0) +ℤ g → back ≡ 2 * i →
-    IsPicked k (picks_from 0 g 0 even) (picks_from 1 h 0 odd) i j n scores backs →
+    ≡ false → value ≡ get_or even i (pos 0) +ℤ g →
+    IsPicked k (picks_from 0 g 0 even) (picks_from 1 h 0 odd) i j n scores choices →
     IsPicked k (picks_from 0 g 0 even) (picks_from 1 h 0 odd) (i + 1) j (n + 1)
-    (scores ++ value ∷ []) (set backs place back)
-picked_even k i j n even odd g h scores backs place value back is within next room value_is back_is p =
+    (scores ++ value ∷ []) choices
+picked_even k i j n even odd g h scores choices value within next value_is p =
     let xs = picks_from 0 g 0 even in
+    let ys = picks_from 1 h 0 odd in
     let s = get_or even i (pos 0) in
     let pick = pick_of 0 g i s in
     let long = picks_long 0 g 0 even in
+    let both = p.both in
     let here : slice_get xs i ≡ Some pick = picks_read 0 g 0 even i s
     (slice_get-get_or even i (pos 0) within)
     ∙ ap (λ (m : ℕ). Some (pick_of 0 g m s)) (omega arith) in
-    let pointer : back ≡ 2 * i + 0 = omega (arith, back_is) in
-    record {
-      taken = p.taken ++ pick ∷ [];
-      part = took_first pick_score k i j n xs (picks_from 1 h 0 odd) p.taken pick
-          (omega (arith, within, long)) here next p.part;
-      has = has_more scores backs p.taken pick place value back is room value_is pointer p.has;
-    }
+    picked_more k xs ys i j n (i + 1) j scores choices choices value false pick p
+    (took_first pick_score k i j n xs ys p.taken pick
+    (omega (arith, within, long)) here next p.part)
+    value_is (omega arith) (omega (arith, both)) (omega arith) (omega arith)
 
 pub picked_over : (k i j n : ℕ) (even : List ℤ) (g : ℤ) (ys : List Pick) (scores : List ℤ)
-    (backs : List ℕ) → length even ≤ i →
+    (choices : ℕ) → length even ≤ i →
     second_is_next pick_score (drop i (picks_from 0 g 0 even)) (drop j ys) ≡ false →
-    IsPicked k (picks_from 0 g 0 even) ys i j n scores backs →
-    IsPicked k (picks_from 0 g 0 even) ys i j (n + 1) scores backs
-picked_over k i j n even g ys scores backs over next p =
+    IsPicked k (picks_from 0 g 0 even) ys i j n scores choices →
+    IsPicked k (picks_from 0 g 0 even) ys i j (n + 1) scores choices
+picked_over k i j n even g ys scores choices over next p =
     let long = picks_long 0 g 0 even in
     record {
       taken = p.taken;
       part = took_none pick_score k i j n (picks_from 0 g 0 even) ys p.taken
           (omega (arith, over, long)) next p.part;
-      has = p.has;
+      values = p.values;
+      small = p.small;
+      ones = p.ones;
+      both = p.both;
+      chosen = p.chosen;
     }
 
-pub picked_all : (k i j n : ℕ) (xs ys : List Pick) (scores : List ℤ) (backs : List ℕ) → n ≡ k →
-    IsPicked k xs ys i j n scores backs → HasPicks scores backs (merge pick_score k xs ys)
-picked_all k i j n xs ys scores backs all p =
-    subst (HasPicks scores backs) (all_taken pick_score k i j n xs ys p.taken all p.part) p.has
+-- where both lists go on, by the test of their sums
+pub picked_next : (k i j n i' j' : ℕ) (even odd : List ℤ) (g h : ℤ) (scores : List ℤ)
+    (choices new weight : ℕ) (value : ℤ) (b : Bool) → weight ≡ 2 ^ length scores →
+    i < length even → j < length odd →
+    b ≡ int_lt (get_or even i (pos 0) +ℤ g) (get_or odd j (pos 0) +ℤ h) →
+    value ≡ taken_of b (get_or even i (pos 0) +ℤ g) (get_or odd j (pos 0) +ℤ h) →
+    new ≡ choices + digit b * weight → i' + digit b ≡ i + 1 → j' ≡ j + digit b →
+    IsPicked k (picks_from 0 g 0 even) (picks_from 1 h 0 odd) i j n scores choices →
+    IsPicked k (picks_from 0 g 0 even) (picks_from 1 h 0 odd) i' j' (n + 1)
+    (scores ++ value ∷ []) new
+picked_next k i j n i' j' even odd g h scores choices new weight value true power within within'
+    b_is value_is is i_is j_is p =
+    let same : i ≡ i' = omega (arith, i_is) in
+    let next : j + 1 ≡ j' = omega (arith, j_is) in
+    let IsHere : ℕ → ℕ → Type 0 = λ u v. IsPicked k (picks_from 0 g 0 even) (picks_from 1 h 0 odd) u
+    v (n + 1) (scores ++ value ∷ []) new in
+    subst (λ (u : ℕ). IsHere u j') same
+    (subst (λ (v : ℕ). IsHere i v) next
+    (picked_odd k i j n even odd g h scores choices new weight value power within'
+    (odd_by_sum i j g h even odd within within' ∙ sym b_is) value_is (omega (arith, is)) p))
+picked_next k i j n i' j' even odd g h scores choices new weight value false power within within'
+    b_is value_is is i_is j_is p =
+    let next : i + 1 ≡ i' = omega (arith, i_is) in
+    let same : j ≡ j' = omega (arith, j_is) in
+    let kept : choices ≡ new = omega (arith, is) in
+    let IsHere : ℕ → ℕ → ℕ → Type 0 = λ u v c. IsPicked k (picks_from 0 g 0 even)
+    (picks_from 1 h 0 odd) u v (n + 1) (scores ++ value ∷ []) c in
+    subst (λ (u : ℕ). IsHere u j' new) next
+    (subst (λ (v : ℕ). IsHere (i + 1) v new) same
+    (subst (λ (c : ℕ). IsHere (i + 1) j c) kept
+    (picked_even k i j n even odd g h scores choices value within
+    (odd_by_sum i j g h even odd within within' ∙ sym b_is) value_is p)))
+
+pub picked_all : (k i j n : ℕ) (xs ys : List Pick) (scores : List ℤ) (choices : ℕ) → n ≡ k →
+    IsPicked k xs ys i j n scores choices → HasPicks scores choices (merge pick_score k xs ys)
+picked_all k i j n xs ys scores choices all p =
+    subst (HasPicks scores choices) (all_taken pick_score k i j n xs ys p.taken all p.part)
+    (p.values, p.chosen)

@@ -1,4 +1,4 @@
--- Scores and rows of back pointers stand for the lists of the first words into each state.
+-- Scores and rows of choices stand for the lists of the first words into each state.
 use Rattle.std.proofs.Common.{◌≡◌, ℕ, zero, suc, ◌+◌, ◌*◌, ◌^◌, ◌<◌, ◌≤◌, Bool, true, false, List}
 use Rattle.std.proofs.Common.{[], ◌∷◌, length, get_or, map, set, take, refl, sym, ap, subst, ◌∙◌}
 use Rattle.std.proofs.Common.{arith, ℤ, pos, unsigned_abs}
@@ -17,7 +17,7 @@ use Rattle.viterbi.proofs.Finish.{zero_start}
 use Rattle.list_viterbi.specs.declared.words.Entry.{Entry}
 use Rattle.list_viterbi.specs.Merging.{list_into, Start, HasRoom}
 use Rattle.list_viterbi.specs.Picks.{picks_into, HasPicks}
-use Rattle.list_viterbi.specs.Backs.{starts_at, start_scores, origin, path}
+use Rattle.list_viterbi.specs.Rows.{starts_at, start_scores, origin, path}
 use Rattle.list_viterbi.proofs.Merges.{Lists}
 use Rattle.list_viterbi.proofs.Steps.{Listed, listed_start, list_into_lists}
 use Rattle.list_viterbi.proofs.Rooms.{rooms}
@@ -25,7 +25,7 @@ use Rattle.list_viterbi.proofs.Agreements.{Agrees, Same, same_agrees, step_agree
 
 -- there are lists of the first k words into each state that the scores and the first n rows give
 pub record Stands (softs : List ℤ) (ends : Ends) (k n : ℕ) (scores : List (List ℤ))
-    (rows : List (List (List ℕ))) : Type 0 where
+    (rows : List (List ℕ)) : Type 0 where
   pub row : List (List Entry)
   pub listed : Listed softs ends k n row
   pub agree : (t : ℕ) → t < 256 → Agrees rows n t 0 (get_or scores t []) (get_or row t [])
@@ -58,7 +58,7 @@ list_starts ends t below = by_test (starts_at ends t) refl where
   )
   by_test false is = may_not ends t below is
 
-start_agrees : (rows : List (List (List ℕ))) (ends : Ends) (t : ℕ) →
+start_agrees : (rows : List (List ℕ)) (ends : Ends) (t : ℕ) →
     Agrees rows 0 t 0 (start_scores ends t) (start_list ends t)
 unfolding path origin
 start_agrees rows ends t = by_test (starts_at ends t) where
@@ -68,7 +68,7 @@ start_agrees rows ends t = by_test (starts_at ends t) where
   by_test false = tt
 
 pub stands_first : (softs : List ℤ) (ends : Ends) (k : ℕ) (scores : List (List ℤ))
-    (rows : List (List (List ℕ))) → 0 < k →
+    (rows : List (List ℕ)) → 0 < k →
     ((t : ℕ) → t < 256 → get_or scores t [] ≡ start_scores ends t) →
     Stands softs ends k 0 scores rows
 stands_first softs ends k scores rows some starts = record {
@@ -83,10 +83,10 @@ stands_first softs ends k scores rows some starts = record {
 
 -- ONE BIT MORE
 pub step_stands : (softs : List ℤ) (ends : Ends) (k n : ℕ) (scores next : List (List ℤ))
-    (rows rows' : List (List (List ℕ))) → 2 * n + 2 ≤ length softs → k ≤ 16 →
+    (rows rows' : List (List ℕ)) → 2 * n + 2 ≤ length softs → k ≤ 16 →
     Stands softs ends k n scores rows → Same n rows rows' →
     ((t : ℕ) → t < 256 →
-    HasPicks (get_or next t []) (get_or (get_or rows' n []) t [])
+    HasPicks (get_or next t []) (get_or (get_or rows' n []) t 0)
     (picks_into scores (get_or softs (2 * n) (pos 0)) (get_or softs (2 * n + 1) (pos 0)) k t)) →
     Stands softs ends k (suc n) next rows'
 step_stands softs ends k n scores next rows rows' room few h same each = record {
@@ -114,23 +114,23 @@ step_stands softs ends k n scores next rows rows' room few h same each = record 
       get_or-map-range_with_len (list_into h.row first second k) 0 256 t t [] b (omega arith)
 
 pub row_stands : (softs : List ℤ) (ends : Ends) (k n : ℕ) (scores next : List (List ℤ))
-    (rows : List (List (List ℕ))) (backs : List (List ℕ)) → 2 * n + 2 ≤ length softs → k ≤ 16 →
+    (rows : List (List ℕ)) (choices : List ℕ) → 2 * n + 2 ≤ length softs → k ≤ 16 →
     n < length rows → Stands softs ends k n scores rows →
     ((t : ℕ) → t < 256 →
-    HasPicks (get_or next t []) (get_or backs t [])
+    HasPicks (get_or next t []) (get_or choices t 0)
     (picks_into scores (get_or softs (2 * n) (pos 0)) (get_or softs (2 * n + 1) (pos 0)) k t)) →
-    Stands softs ends k (suc n) next (set rows n backs)
-row_stands softs ends k n scores next rows backs room few within h each =
-    step_stands softs ends k n scores next rows (set rows n backs) room few h
-    (λ j b. get_or-set_other rows n j backs [] (λ e. apart j b e))
-    (λ t b. rw (get_or-set_same rows n backs [] within) (each t b))
+    Stands softs ends k (suc n) next (set rows n choices)
+row_stands softs ends k n scores next rows choices room few within h each =
+    step_stands softs ends k n scores next rows (set rows n choices) room few h
+    (λ j b. get_or-set_other rows n j choices [] (λ e. apart j b e))
+    (λ t b. rw (get_or-set_same rows n choices [] within) (each t b))
   where
     apart : (j : ℕ) → j < n → ¬ (j ≡ n)
     apart j b e = omega (arith, b, e)
 
 -- scores grow by no more than the two soft values
 pub score_rooms : (softs : List ℤ) (ends : Ends) (k n : ℕ) (scores : List (List ℤ))
-    (rows : List (List (List ℕ))) → 2 * n + 2 ≤ length softs →
+    (rows : List (List ℕ)) → 2 * n + 2 ≤ length softs →
     sum_by unsigned_abs softs ≤ 2 ^ 62 → n ≤ 576 → Stands softs ends k n scores rows →
     (t : ℕ) → t < 256 →
     All (λ s. unsigned_abs s + (unsigned_abs (get_or softs (2 * n) (pos 0))
@@ -144,7 +144,7 @@ score_rooms softs ends k n scores rows room bound few h t b =
 
 -- of other rows only the first n matter
 pub first_rows : (softs : List ℤ) (ends : Ends) (k m n : ℕ) (scores : List (List ℤ))
-    (rows : List (List (List ℕ))) → m ≡ n → Stands softs ends k m scores rows →
+    (rows : List (List ℕ)) → m ≡ n → Stands softs ends k m scores rows →
     Stands softs ends k n scores (take n rows)
 first_rows softs ends k m n scores rows is stands =
     let h : Stands softs ends k n scores rows =

@@ -1,5 +1,6 @@
 -- What a bit adds, by a state's code.
-use Rattle.std.proofs.Common.{◌≡◌, ℕ, ◌+◌, ◌*◌, ◌/◌, ◌%◌, ◌<◌, ◌≤◌, Bool, true, false, get_or, arith}
+use Rattle.std.proofs.Common.{◌≡◌, ℕ, ◌+◌, ◌*◌, ◌/◌, ◌%◌, ◌<◌, ◌≤◌, Bool, true, false, get_or}
+use Rattle.std.proofs.Common.{arith}
 use Rattle.std.proofs.Common.{ℤ, ◌+ℤ◌, ◌*ℤ◌, unsigned_abs}
 use Rattle.std.proofs.lemmas.Int.{ints}
 use Rattle.chip_core.specs.Bits.{bit_of, sign}

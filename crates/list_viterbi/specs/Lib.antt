@@ -2,4 +2,4 @@ pub mod First
 pub mod Laws
 pub mod Merging
 pub mod Picks
-pub mod Backs
+pub mod Rows

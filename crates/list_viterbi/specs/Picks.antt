@@ -1,19 +1,18 @@
--- The first words of one bit more, by their scores and back pointers alone.
-use Rattle.std.specs.Prelude.{ℕ, suc, ◌+◌, ◌*◌, ◌%◌, ◌^◌, ◌≤◌, ◌≡◌, List, [], ◌∷◌, length}
-use Rattle.std.specs.Prelude.{get_or, map, take, ℤ, pos, ◌+ℤ◌, ◌-ℤ◌, unsigned_abs}
+-- The first words of one bit more, by their scores and where they come from alone.
+use Rattle.std.specs.Prelude.{ℕ, zero, suc, ◌+◌, ◌-◌, ◌*◌, ◌%◌, ◌^◌, ◌≤◌, ◌≡◌, List, [], ◌∷◌}
+use Rattle.std.specs.Prelude.{get_or, map, ℤ, pos, ◌+ℤ◌, ◌-ℤ◌, unsigned_abs, if◌then◌else◌}
+use Rattle.chip_core.specs.Bits.{bit_of, digit}
 use Rattle.viterbi.specs.Lanes.{gain_by, code_of}
 use Rattle.list_viterbi.specs.Merging.{merge}
 
--- a word's score, and twice its place in the list of the state before plus that state's oldest bit
+-- a word's score, and its pointer: twice its place in the list of the state before plus that
+-- state's oldest bit
 pub record Pick : Type 0 where
   pub score : ℤ
   pub back : ℕ
 
 abbrev pub pick_score : Pick → ℤ
 pick_score p = p.score
-
-abbrev pub pick_back : Pick → ℕ
-pick_back p = p.back
 
 -- the words of a state's list with one bit more, the first of which has this place
 abbrev pub picks_from : ℕ → ℤ → ℕ → List ℤ → List Pick
@@ -32,10 +31,30 @@ picks_by row gain k t =
 abbrev pub picks_into : List (List ℤ) → ℤ → ℤ → ℕ → ℕ → List Pick
 picks_into row first second k t = picks_by row (gain_by first second (code_of t)) k t
 
--- their scores, and back pointers that begin with theirs
-abbrev pub HasPicks : List ℤ → List ℕ → List Pick → Type 0
-HasPicks scores backs picks =
-    (scores ≡ map pick_score picks) × (take (length picks) backs ≡ map pick_back picks)
+-- Choices are a number, bit r of which is the oldest bit of the state that word r comes from.
+
+-- how many of the first so many words come from the state with oldest bit 1
+unfoldable pub ones_below : ℕ → ℕ → ℕ
+ones_below choices zero = 0
+ones_below choices (suc n) = ones_below choices n + digit (bit_of choices n)
+
+-- a word's pointer: words from one state keep their order, so its place in that state's list is how
+-- many before it come from there
+abbrev pub pointer_of : ℕ → ℕ → ℕ
+pointer_of choices place =
+    if bit_of choices place
+    then 2 * ones_below choices place + 1
+    else 2 * (place - ones_below choices place)
+
+-- the choices from a place on lead to the picks
+abbrev pub HasChoices : ℕ → ℕ → List Pick → Type 0
+HasChoices choices place [] = Unit {0}
+HasChoices choices place (p ∷ ps) =
+    (pointer_of choices place ≡ p.back) × HasChoices choices (suc place) ps
+
+-- their scores and their choices
+abbrev pub HasPicks : List ℤ → ℕ → List Pick → Type 0
+HasPicks scores choices picks = (scores ≡ map pick_score picks) × HasChoices choices 0 picks
 
 -- the gain can be added
 abbrev pub LeavesRoom : ℤ → ℤ → Type 0

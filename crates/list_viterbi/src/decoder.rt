@@ -5,12 +5,12 @@ ghost use Rattle.std.specs.Prelude.{map, vec_len, sum_by, unsigned_abs, IfOk};
 ghost use Rattle.viterbi.specs.Words.{score_of, word_count};
 ghost use Rattle.viterbi.specs.Best.{IsAllowed};
 ghost use Rattle.list_viterbi.specs.First.{AreFirst, HaveScores, word_of};
-ghost use Rattle.list_viterbi.specs.Backs.{starts_at, start_scores};
+ghost use Rattle.list_viterbi.specs.Rows.{starts_at, start_scores};
 
 use crate::finds::first_ends;
-use crate::picking::step;
+use crate::picking::{Choices, step};
 use crate::scores::Scores;
-use crate::tracing::{BackRow, all_traced};
+use crate::tracing::all_traced;
 use crate::words::Words;
 use chip_core::OutOfMemory;
 use std::alloc::Global;
@@ -18,7 +18,7 @@ use std::marker::Model;
 use viterbi::Ends;
 
 /// Finds the first words for a list of soft values, in memory that `new` takes: two rows of scores
-/// and a row of back pointers for each of 576 bits, less than 2.5 MiB.
+/// and a row of choices for each of 576 bits, less than 700 KiB.
 ///
 /// Contracts see the greatest number of bits of a word.
 #[derive(Drop)]
@@ -28,8 +28,8 @@ pub struct ListDecoder {
     row: Vec<Scores>,
     /// The scores after one bit more.
     next: Vec<Scores>,
-    /// The back pointers of each bit.
-    rows: Vec<BackRow>,
+    /// The choices of each bit.
+    rows: Vec<Choices>,
 }
 
 impl Model for ListDecoder {
@@ -95,7 +95,7 @@ impl ListDecoder {
     {
         let row = empty_row(alloc)?;
         let next = empty_row(alloc)?;
-        let rows = vec![in alloc; [[0u8; 16]; 256]; 576]?;
+        let rows = vec![in alloc; [0u32; 256]; 576]?;
         Ok(ListDecoder {
             max_bits,
             row,
@@ -130,16 +130,16 @@ impl ListDecoder {
         let count = softs.len() / 2;
         start_row(&mut self.row, ends);
         for bit in 0..count {
-            let mut backs = [[0u8; 16]; 256];
+            let mut choices = [0u32; 256];
             step(
                 &self.row,
                 softs[2 * bit],
                 softs[2 * bit + 1],
                 k,
                 &mut self.next,
-                &mut backs,
+                &mut choices,
             );
-            self.rows[bit] = backs;
+            self.rows[bit] = choices;
             std::mem::swap(&mut self.row, &mut self.next);
         }
         let finds = first_ends(&self.row, ends, k);

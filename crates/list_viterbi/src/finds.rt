@@ -3,7 +3,7 @@
 ghost use Rattle.std.specs.Prelude.{◌≡◌, ◌<◌, ◌≤◌, [], ◌∷◌, ◌++◌, length, drop, slice_get, Some};
 ghost use Rattle.viterbi.specs.Survivors.{end_count};
 ghost use Rattle.list_viterbi.specs.Merging.{second_is_next, merge};
-ghost use Rattle.list_viterbi.specs.Backs.{find_score, finds_from, first_finds};
+ghost use Rattle.list_viterbi.specs.Rows.{find_score, finds_from, first_finds};
 
 use crate::scores::Scores;
 use std::marker::Model;

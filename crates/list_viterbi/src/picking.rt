@@ -1,7 +1,9 @@
 //! The first words of one bit more, from the scores of the two states before.
 
-ghost use Rattle.std.specs.Prelude.{◌≡◌, ◌<◌, ◌≤◌, ◌+◌, ◌^◌, ◌+ℤ◌, ℕ, [], length, get_or, drop, pos};
-ghost use Rattle.std.specs.Prelude.{unsigned_abs, All};
+ghost use Rattle.std.specs.Prelude.{◌≡◌, ◌<◌, ◌≤◌, ◌+◌, ◌*◌, ◌^◌, ◌+ℤ◌, ℕ, [], length, get_or};
+ghost use Rattle.std.specs.Prelude.{drop, pos, unsigned_abs, int_lt, All};
+ghost use Rattle.chip_core.specs.Bits.{digit};
+ghost use Rattle.viterbi.specs.Rows.{taken_of};
 ghost use Rattle.list_viterbi.specs.Merging.{second_is_next, merge};
 ghost use Rattle.list_viterbi.specs.Picks.{pick_score, picks_from, picks_by, picks_into, HasPicks};
 ghost use Rattle.list_viterbi.specs.Picks.{LeavesRoom};
@@ -9,9 +11,10 @@ ghost use Rattle.list_viterbi.specs.Picks.{LeavesRoom};
 use crate::gains::{gain_at, gains};
 use crate::scores::Scores;
 
-/// A back pointer for each of the first 16 words into a state: twice the word's place in the list
-/// of the state before, plus the oldest bit of that state.
-pub type Backs = [u8; 16];
+/// A number for each state after some bit. Bit `r` of it is the oldest bit of the state that the
+/// word at place `r` of the state's list comes from. Words from one state keep their order, so that
+/// with the lower bits it tells the word's place in that state's list too.
+pub type Choices = [u32; 256];
 
 /// A word's score with what a bit adds to it.
 fn sum_at(scores: &Scores, i: u8, gain: i64) -> i64
@@ -43,80 +46,155 @@ fn takes_odd(even: &Scores, i: u8, even_gain: i64, odd: &Scores, j: u8, odd_gain
     sum_at(even, i, even_gain) < sum_at(odd, j, odd_gain)
 }
 
-/// The scores of the first `k` words of one bit more, and their back pointers, from the scores of
-/// the states before with oldest bit 0 and 1, to which the bit adds so much. On a tie those of the
-/// first come first.
+/// The scores of the first `k` words of one bit more go into `scores`, from those of the states
+/// before with oldest bit 0 and 1, to which the bit adds so much; on a tie those of the first come
+/// first. The answer is their choices.
 fn picked(
     even: &Scores,
     even_gain: i64,
     odd: &Scores,
     odd_gain: i64,
     k: u8,
-    backs: &mut Backs,
-) -> Scores
+    scores: &mut Scores,
+) -> u32
     requires few { k ≤ 16 }
     requires even_room { All (LeavesRoom even_gain) even.now }
     requires odd_room { All (LeavesRoom odd_gain) odd.now }
-    ensures { HasPicks result backs.new (merge pick_score k (picks_from 0 even_gain 0 even.now)
+    ensures { HasPicks scores.new result (merge pick_score k (picks_from 0 even_gain 0 even.now)
         (picks_from 1 odd_gain 0 odd.now)) }
 {
-    let mut scores = Scores::empty();
+    scores.clear();
+    let mut choices = 0u32;
+    let mut weight = 1u32;
     let mut i = 0;
     let mut j = 0;
     for _n in 0..k {
-        let place = scores.len() as usize;
         if takes_odd(even, i, even_gain, odd, j, odd_gain) {
             scores.push(sum_at(odd, j, odd_gain));
-            backs[place] = 2 * j + 1;
+            choices += weight;
+            weight *= 2;
             j += 1;
         } else if i < even.len() {
             scores.push(sum_at(even, i, even_gain));
-            backs[place] = 2 * i;
+            weight *= 2;
             i += 1;
         }
     }
-    scores
+    choices
 }
 
-/// The scores of the first `k` words into a state, and their back pointers, where the bit adds
-/// `gain` behind oldest bit 0. Both generators, 753 and 561 octal (TIA/EIA-95-B, 7.1.3.1.3.1), tap
-/// the oldest bit, so behind oldest bit 1 the bit takes as much off.
-fn picked_into(row: &[Scores], state: u8, gain: i64, k: u8, backs: &mut Backs) -> Scores
+/// The greater of two scores, the first on a tie, and whether it is the second.
+fn greater(even: i64, odd: i64) -> (i64, bool)
+    ensures score { result.0 ≡ taken_of (int_lt even odd) even odd }
+    ensures choice { result.1 ≡ int_lt even odd }
+{
+    let is_odd = even < odd;
+    (if is_odd { odd } else { even }, is_odd)
+}
+
+/// The weight of a choice, where it is 1.
+fn weight_of(choice: bool, weight: u32) -> u32
+    ensures value { result ≡ digit choice * weight }
+    ensures most { result ≤ weight }
+{
+    if choice { weight } else { 0 }
+}
+
+/// As `picked`, where both lists have `k` words, so that neither comes to its end.
+fn picked_of_full(
+    even: &Scores,
+    even_gain: i64,
+    odd: &Scores,
+    odd_gain: i64,
+    k: u8,
+    scores: &mut Scores,
+) -> u32
+    requires few { k ≤ 16 }
+    requires even_full { k ≤ length even.now }
+    requires odd_full { k ≤ length odd.now }
+    requires even_room { All (LeavesRoom even_gain) even.now }
+    requires odd_room { All (LeavesRoom odd_gain) odd.now }
+    ensures { HasPicks scores.new result (merge pick_score k (picks_from 0 even_gain 0 even.now)
+        (picks_from 1 odd_gain 0 odd.now)) }
+{
+    scores.clear();
+    let mut choices = 0u32;
+    let mut weight = 1u32;
+    let mut j = 0;
+    for n in 0..k {
+        let (score, is_odd) = greater(sum_at(even, n - j, even_gain), sum_at(odd, j, odd_gain));
+        scores.push(score);
+        choices += weight_of(is_odd, weight);
+        weight *= 2;
+        j += u8::from(is_odd);
+    }
+    choices
+}
+
+/// As `picked`, by the loop that serves.
+fn picked_of(
+    even: &Scores,
+    even_gain: i64,
+    odd: &Scores,
+    odd_gain: i64,
+    k: u8,
+    scores: &mut Scores,
+) -> u32
+    requires few { k ≤ 16 }
+    requires even_room { All (LeavesRoom even_gain) even.now }
+    requires odd_room { All (LeavesRoom odd_gain) odd.now }
+    ensures { HasPicks scores.new result (merge pick_score k (picks_from 0 even_gain 0 even.now)
+        (picks_from 1 odd_gain 0 odd.now)) }
+{
+    if even.len() < k || odd.len() < k {
+        return picked(even, even_gain, odd, odd_gain, k, scores);
+    }
+    // With its length written out, a loop of four turns can be laid out whole.
+    if k == 4 {
+        return picked_of_full(even, even_gain, odd, odd_gain, 4, scores);
+    }
+    picked_of_full(even, even_gain, odd, odd_gain, k, scores)
+}
+
+/// The scores of the first `k` words into a state go into `scores`, where the bit adds `gain`
+/// behind oldest bit 0; the answer is their choices. Both generators, 753 and 561 octal
+/// (TIA/EIA-95-B, 7.1.3.1.3.1), tap the oldest bit, so behind oldest bit 1 the bit takes as much
+/// off.
+fn picked_into(row: &[Scores], state: u8, gain: i64, k: u8, scores: &mut Scores) -> u32
     requires whole { length row.now ≡ 256 }
     requires few { k ≤ 16 }
     requires small { unsigned_abs gain ≤ 2 ^ 62 }
     requires room { (t : ℕ) → t < 256 → All (LeavesRoom gain) (get_or row.now t []) }
-    ensures { HasPicks result backs.new (picks_by row.now gain k state) }
+    ensures { HasPicks scores.new result (picks_by row.now gain k state) }
 {
     let before = 2 * (state % 128) as usize;
-    picked(&row[before], gain, &row[before + 1], -gain, k, backs)
+    picked_of(&row[before], gain, &row[before + 1], -gain, k, scores)
 }
 
-/// The scores of the first `k` words into all states, and their back pointers, one bit further, by
-/// the soft values of its two symbols.
+/// The scores and the choices of the first `k` words into all states, one bit further, by the soft
+/// values of its two symbols.
 pub fn step(
     row: &[Scores],
     first: i64,
     second: i64,
     k: u8,
     next: &mut [Scores],
-    backs: &mut [Backs],
+    choices: &mut Choices,
 )
     requires whole { length row.now ≡ 256 }
     requires whole_next { length next.old ≡ 256 }
-    requires whole_backs { length backs.old ≡ 256 }
     requires few { k ≤ 16 }
     requires fits { unsigned_abs first + unsigned_abs second ≤ 2 ^ 62 }
     requires room { (t : ℕ) → t < 256 →
         All (λ s. unsigned_abs s + (unsigned_abs first + unsigned_abs second) ≤ 2 ^ 62)
         (get_or row.now t []) }
     ensures whole { length next.new ≡ 256 }
-    ensures each { (t : ℕ) → t < 256 → HasPicks (get_or next.new t []) (get_or backs.new t [])
+    ensures each { (t : ℕ) → t < 256 → HasPicks (get_or next.new t []) (get_or choices.new t 0)
         (picks_into row.now first second k t) }
 {
     let gains = gains(first, second);
     for state in 0..256usize {
         let gain = gain_at(&gains, state as u8);
-        next[state] = picked_into(row, state as u8, gain, k, &mut backs[state]);
+        choices[state] = picked_into(row, state as u8, gain, k, &mut next[state]);
     }
 }

@@ -34,6 +34,13 @@ impl Scores {
         }
     }
 
+    /// Leaves no words.
+    pub fn clear(&mut self)
+        ensures { self.new ≡ [] }
+    {
+        self.count = 0;
+    }
+
     /// How many words there are.
     pub fn len(&self) -> u8
         ensures value { result ≡ length self.now }

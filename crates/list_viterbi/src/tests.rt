@@ -2,6 +2,9 @@
 
 ghost use Rattle.std.specs.Prelude.{◌≡◌, ◌≤◌, ◌↔◌, IsTrue, All, unsigned_abs};
 
+mod bodies;
+mod timing;
+
 use crate::{ListDecoder, Words};
 use std::process::Abort;
 use std::test::Fail;

@@ -1,27 +1,55 @@
-//! Rows of back pointers, and the words that they lead back to.
+//! Rows of choices, and the words that they lead back to.
 
-ghost use Rattle.std.specs.Prelude.{◌≡◌, ◌<◌, ◌≤◌, ◌%◌, [], length, get_or, map};
-ghost use Rattle.list_viterbi.specs.Backs.{path, origin, entry_at};
+ghost use Rattle.std.specs.Prelude.{◌≡◌, ◌<◌, ◌≤◌, ◌%◌, length, get_or, map};
+ghost use Rattle.chip_core.specs.Bits.{bit_of};
+ghost use Rattle.list_viterbi.specs.Picks.{ones_below, pointer_of};
+ghost use Rattle.list_viterbi.specs.Rows.{path, origin, entry_at};
 
 use crate::finds::{Find, Finds};
-use crate::picking::Backs;
+use crate::picking::Choices;
 use crate::words::{Entry, Words};
 use chip_core::Bits;
 use viterbi::Word;
 
-/// The back pointers of all states.
-pub type BackRow = [Backs; 256];
-
-/// The back pointer of a place in a state's list.
-fn pointer_at(row: &BackRow, state: u8, place: u8) -> u8
-    ensures { result ≡ get_or (get_or row.now state []) (place % 16) 0 }
+/// Bit `place` of a state's choices.
+fn is_odd(choices: u32, place: u8) -> bool
+    requires { place < 32 }
+    ensures { result ≡ bit_of choices place }
 {
-    row[state as usize][(place % 16) as usize]
+    choices >> place & 1 == 1
+}
+
+/// How many of the words below a place come from the state with oldest bit 1.
+fn ones_below(choices: u32, place: u8) -> u8
+    requires { place ≤ 32 }
+    ensures value { result ≡ ones_below choices place }
+    ensures most { result ≤ place }
+{
+    let mut ones = 0;
+    for lower in 0..place {
+        ones += u8::from(is_odd(choices, lower));
+    }
+    ones
+}
+
+/// Where the word at a place of a state's list comes from: twice the place in the list of the state
+/// before, plus that state's oldest bit.
+fn pointer_at(choices: &Choices, state: u8, place: u8) -> u8
+    ensures { result ≡ pointer_of (get_or choices.now state 0) (place % 16) }
+{
+    let chosen = choices[state as usize];
+    let place = place % 16;
+    let ones = ones_below(chosen, place);
+    if is_odd(chosen, place) {
+        2 * ones + 1
+    } else {
+        2 * (place - ones)
+    }
 }
 
 /// The bits that the rows lead back to from a place in a state's list go into `bits`; the answer is
 /// the state before them.
-fn trace_back(rows: &[BackRow], end: u8, place: u8, bits: &mut [bool]) -> u8
+fn trace_back(rows: &[Choices], end: u8, place: u8, bits: &mut [bool]) -> u8
     requires { length bits.old ≡ length rows.now }
     ensures start { result ≡ origin rows.now (length rows.now) end place }
     ensures bits { bits.new ≡ path rows.now (length rows.now) end place }
@@ -52,7 +80,7 @@ fn bits_of(path: &[bool]) -> Bits
 
 /// The word that the rows, one for each bit, lead back to from a place in a state's list, with its
 /// score.
-fn traced(rows: &[BackRow], find: &Find) -> Entry
+fn traced(rows: &[Choices], find: &Find) -> Entry
     requires { length rows.now ≤ 576 }
     ensures { result ≡ entry_at rows.now find.now }
 {
@@ -69,7 +97,7 @@ fn traced(rows: &[BackRow], find: &Find) -> Entry
 }
 
 /// The words that the rows lead back to, with their scores.
-pub fn all_traced(rows: &[BackRow], finds: &Finds) -> Words
+pub fn all_traced(rows: &[Choices], finds: &Finds) -> Words
     requires { length rows.now ≤ 576 }
     ensures { result ≡ map (entry_at rows.now) finds.now }
 {

@@ -1,5 +1,5 @@
 use Rattle.std.proofs.Common.{◌≡◌, ◌<◌, ℕ, [], length, get_or}
-use Rattle.list_viterbi.specs.Backs.{start_scores}
+use Rattle.list_viterbi.specs.Rows.{start_scores}
 use Rattle.list_viterbi.proofs.decoder.start_row.Given as goal
 
 abbrev pub invariant-loop-state : goal.invariant-loop-state

@@ -1,7 +1,7 @@
 use Rattle.std.proofs.Common.{◌≡◌, ◌<◌, ◌≤◌, ◌∷◌, [], true, false, drop, length, sym, arith}
 use Rattle.std.proofs.Common.{length-append}
 use Rattle.list_viterbi.specs.Merging.{second_is_next}
-use Rattle.list_viterbi.specs.Backs.{find_score}
+use Rattle.list_viterbi.specs.Rows.{find_score}
 use Rattle.list_viterbi.proofs.Walks.{second_has, took_second, took_first, took_none, all_taken}
 use Rattle.list_viterbi.proofs.finds.merged.Goals.{then-takes_second}
 use Rattle.list_viterbi.proofs.finds.merged.Goals.{else-takes_second+then-i-len}
@@ -57,5 +57,6 @@ loop-n-preserved c =
 
 pub returns : goal.returns
 returns c =
-    all_taken find_score c.args.k c.loop-n.i c.loop-n.j c.loop-n._n c.args.first.now c.args.second.now
+    all_taken find_score c.args.k c.loop-n.i c.loop-n.j c.loop-n._n c.args.first.now
+    c.args.second.now
     c.loop-n.finds (omega arith) c.loop-n.invariant.part

@@ -1,5 +1,5 @@
 use Rattle.std.proofs.Common.{◌≤◌, length}
-use Rattle.list_viterbi.specs.Backs.{find_score}
+use Rattle.list_viterbi.specs.Rows.{find_score}
 use Rattle.list_viterbi.proofs.Walks.{IsPart}
 use Rattle.list_viterbi.proofs.finds.merged.Given as goal
 

@@ -1,11 +1,12 @@
-use Rattle.std.proofs.Common.{◌≡◌, ◌+◌, ◌*◌, ◌<◌, ◌≤◌, ◌∷◌, [], true, false, drop, length, refl}
+use Rattle.std.proofs.Common.{◌≡◌, ◌+◌, ◌*◌, ◌<◌, ◌≤◌, ◌∷◌, ◌++◌, [], true, false, drop, length}
+use Rattle.std.proofs.Common.{refl}
 use Rattle.std.proofs.Common.{sym, ◌∙◌, arith, rules, to_z, of_z}
 use Rattle.std.proofs.Common.{length-append, w64}
 use Rattle.std.proofs.lemmas.Int.{to_z-of_z}
-use Rattle.std.proofs.lemmas.List.{length-set}
 use mir.Val.{SFits}
 use Rattle.list_viterbi.specs.Merging.{second_is_next}
 use Rattle.list_viterbi.specs.Picks.{pick_score, picks_from}
+use Rattle.list_viterbi.proofs.Masks.{weight_most, weight_next}
 use Rattle.list_viterbi.proofs.Picks.{odd_has, picked_none, picked_odd, picked_even, picked_over}
 use Rattle.list_viterbi.proofs.Picks.{picked_all}
 use Rattle.list_viterbi.proofs.picking.picked.Goals.{then-takes_odd}
@@ -17,14 +18,20 @@ pub loop-n-init : goal.loop-n-init
 loop-n-init c =
     let fits : SFits w64 c.args.even_gain = search rules in
     let fits' : SFits w64 c.args.odd_gain = search rules in
-    rw (to_z-of_z w64 c.args.even_gain fits, to_z-of_z w64 c.args.odd_gain fits', c.empty-scores.ensures)
+    rw (
+      to_z-of_z w64 c.args.even_gain fits,
+      to_z-of_z w64 c.args.odd_gain fits',
+      c.clear.ensures,
+    )
     (record {
       even_place = omega arith;
       odd_place = omega arith;
       few = omega arith;
-      long = search rules;
+      power = refl;
+      weight_most = omega arith;
+      small = omega arith;
       picked = picked_none c.args.k (picks_from 0 c.args.even_gain 0 c.args.even.now)
-          (picks_from 1 c.args.odd_gain 0 c.args.odd.now) c.args.backs.now;
+          (picks_from 1 c.args.odd_gain 0 c.args.odd.now);
     })
 
 pub sum_at-requires-clause-place : goal.sum_at-requires-clause-place
@@ -43,14 +50,11 @@ loop-n-preserved c =
     let j = c.loop-n.j in
     let n = c.loop-n._n in
     let scores = c.loop-n.scores in
-    let backs = c.loop-n.backs in
+    let choices = c.loop-n.choices in
+    let weight = c.loop-n.weight in
     let inv = c.loop-n.invariant in
     let few = inv.few in
-    let long = inv.long in
-    let place = c.len-place.result in
-    let place_is = c.len-place.ensures.value in
-    let room : place < length backs =
-    omega (arith, place_is, few, long, c.loop-n-test.true, c.requires.few) in
+    let small = inv.small in
     elim c.if-takes_odd.branch [
       | then-takes_odd w ↦
           let next : second_is_next pick_score (drop i (picks_from 0 g 0 even))
@@ -60,13 +64,18 @@ loop-n-preserved c =
           let value_is = to_z-of_z w64 w.sum_at.result (record { sfits = w.sum_at.type_inv })
           ∙ w.sum_at.ensures.value in
           let size = length-append scores (value ∷ []) in
-          rw (w.backs-is, w.scores-is, w.i-is, w.j-is, w.push.ensures) (record {
+          let power = weight_next weight (weight * 2) scores value inv.power (omega arith) in
+          let most = weight_most (length (scores ++ value ∷ []))
+          (omega (arith, size, few, c.loop-n-test.true, c.requires.few)) in
+          rw (w.choices-is, w.weight-is, w.scores-is, w.i-is, w.j-is, w.push.ensures) (record {
             even_place = inv.even_place;
             odd_place = omega (arith, within);
             few = omega (arith, size, few);
-            long = length-set backs place (2 * j + 1) ∙ long;
-            picked = picked_odd c.args.k i j n even odd g h scores backs place value (2 * j + 1)
-                place_is within next room value_is refl inv.picked;
+            power = power;
+            weight_most = omega (arith, power, most);
+            small = omega (arith, small);
+            picked = picked_odd c.args.k i j n even odd g h scores choices (choices + weight) weight
+                value inv.power within next value_is refl inv.picked;
           })
       | else-takes_odd+then-i-len w ↦
           let next : second_is_next pick_score (drop i (picks_from 0 g 0 even))
@@ -76,24 +85,34 @@ loop-n-preserved c =
           let value_is = to_z-of_z w64 w.sum_at-then-i-len.result
           (record { sfits = w.sum_at-then-i-len.type_inv }) ∙ w.sum_at-then-i-len.ensures.value in
           let size = length-append scores (value ∷ []) in
-          rw (w.backs-is, w.scores-is, w.i-is, w.j-is, w.push-then-i-len.ensures) (record {
+          let power = weight_next weight (weight * 2) scores value inv.power (omega arith) in
+          let most = weight_most (length (scores ++ value ∷ []))
+          (omega (arith, size, few, c.loop-n-test.true, c.requires.few)) in
+          rw (w.choices-is, w.weight-is, w.scores-is, w.i-is, w.j-is, w.push-then-i-len.ensures)
+          (record {
             even_place = omega (arith, within);
             odd_place = inv.odd_place;
             few = omega (arith, size, few);
-            long = length-set backs place (2 * i) ∙ long;
-            picked = picked_even c.args.k i j n even odd g h scores backs place value (2 * i)
-                place_is within next room value_is refl inv.picked;
+            power = power;
+            weight_most = omega (arith, power, most);
+            small = omega (arith, small);
+            picked =
+                picked_even c.args.k i j n even odd g h scores choices value within next value_is
+                inv.picked;
           })
       | else-takes_odd+else-i-len w ↦
           let next : second_is_next pick_score (drop i (picks_from 0 g 0 even))
           (drop j (picks_from 1 h 0 odd)) ≡ false = sym w.if-takes_odd.ensures in
           let over : length even ≤ i = omega (arith, w.if-i-len.false, w.len.ensures.value) in
-          rw (w.backs-is, w.scores-is, w.i-is, w.j-is) (record {
+          rw (w.choices-is, w.weight-is, w.scores-is, w.i-is, w.j-is) (record {
             even_place = inv.even_place;
             odd_place = inv.odd_place;
             few = omega (arith, few);
-            long = long;
-            picked = picked_over c.args.k i j n even g (picks_from 1 h 0 odd) scores backs over next
+            power = inv.power;
+            weight_most = inv.weight_most;
+            small = small;
+            picked =
+                picked_over c.args.k i j n even g (picks_from 1 h 0 odd) scores choices over next
                 inv.picked;
           })
     ]
@@ -103,5 +122,5 @@ returns c =
     let fits : SFits w64 c.args.even_gain = search rules in
     let fits' : SFits w64 c.args.odd_gain = search rules in
     let all = picked_all c.args.k c.loop-n.i c.loop-n.j c.loop-n._n _ _ c.loop-n.scores
-    c.loop-n.backs (omega arith) c.loop-n.invariant.picked in
+    c.loop-n.choices (omega arith) c.loop-n.invariant.picked in
     rw (to_z-of_z w64 c.args.even_gain fits, to_z-of_z w64 c.args.odd_gain fits') at all

@@ -55,15 +55,15 @@ loop-state-preserved c =
     let is : gain ≡ gain_by f s (code_of t) =
     rw (to_z-of_z w64 f fits, to_z-of_z w64 s fits')
     at (c.gain_at-gain.ensures ∙ c.gains-gains.ensures (code_of t) (code_small t (omega arith))) in
-    let here : HasPicks c.picked_into.result c.picked_into.new.backs
-    (picks_into c.args.row.now f s c.args.k t) =
+    let scores = c.picked_into.new.scores in
+    let chosen = c.picked_into.result in
+    let here : HasPicks scores chosen (picks_into c.args.row.now f s c.args.k t) =
     rw (to_z-of_z w64 gain (record { sfits = c.gain_at-gain.type_inv }), is)
     at c.picked_into.ensures in
     rw (to_z-of_z w64 f fits, to_z-of_z w64 s fits') (record {
-      whole = length-set c.loop-state.next t c.picked_into.result ∙ inv.whole;
-      whole_backs = length-set c.loop-state.backs t c.picked_into.new.backs ∙ inv.whole_backs;
-      each = each_more c.args.row.now c.loop-state.next c.loop-state.backs f s c.args.k t
-          c.picked_into.result c.picked_into.new.backs (omega (arith, inv.whole))
-          (omega (arith, inv.whole_backs))
+      whole = length-set c.loop-state.next t scores ∙ inv.whole;
+      whole_choices = length-set c.loop-state.choices t chosen ∙ inv.whole_choices;
+      each = each_more c.args.row.now c.loop-state.next c.loop-state.choices f s c.args.k t
+          scores chosen (omega (arith, inv.whole)) (omega (arith, inv.whole_choices))
           (rw (to_z-of_z w64 f fits, to_z-of_z w64 s fits') at inv.each) here;
     })

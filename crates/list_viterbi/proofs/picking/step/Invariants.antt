@@ -5,7 +5,7 @@ use Rattle.list_viterbi.proofs.picking.step.Given as goal
 abbrev pub invariant-loop-state : goal.invariant-loop-state
 invariant-loop-state l = record {
   whole : length l.next ≡ 256;
-  whole_backs : length l.backs ≡ 256;
-  each : (t : ℕ) → t < l.state → HasPicks (get_or l.next t []) (get_or l.backs t [])
+  whole_choices : length l.choices ≡ 256;
+  each : (t : ℕ) → t < l.state → HasPicks (get_or l.next t []) (get_or l.choices t 0)
       (picks_into l.row l.first l.second l.k t);
 }

@@ -1,6 +1,6 @@
 use Rattle.std.proofs.Common.{◌++◌, ◌∷◌, [], ap, ◌∙◌, arith}
 use Rattle.list_viterbi.specs.declared.words.Entry.{Entry}
-use Rattle.list_viterbi.specs.Backs.{entry_at}
+use Rattle.list_viterbi.specs.Rows.{entry_at}
 use Rattle.list_viterbi.proofs.Walks.{map_more}
 use Rattle.list_viterbi.proofs.tracing.all_traced.Goals as goal
 
@@ -8,5 +8,6 @@ pub loop-i-preserved : goal.loop-i-preserved
 loop-i-preserved c =
     c.push.ensures
     ∙ ap (λ (e : Entry). c.loop-i.words ++ e ∷ []) c.traced.ensures
-    ∙ map_more (entry_at c.args.rows.now) c.args.finds.now c.loop-i.words c.loop-i.i c.get.result.now
+    ∙ map_more (entry_at c.args.rows.now) c.args.finds.now c.loop-i.words c.loop-i.i
+    c.get.result.now
     (omega (arith, c.loop-i-test.true)) c.get.ensures.value c.loop-i.invariant

@@ -1,6 +1,7 @@
-use Rattle.std.proofs.Common.{◌≡◌, ◌+◌, ◌-◌, ◌*◌, ◌/◌, ◌%◌, ℕ, suc, length, arith, sym, ap, ◌∙◌, rules}
-use Rattle.list_viterbi.specs.Backs.{back_of, state_before, place_before, origin}
-use Rattle.list_viterbi.proofs.BackSteps.{origin-back, path-back, origin-none, all_left, none_left}
+use Rattle.std.proofs.Common.{◌≡◌, ◌+◌, ◌-◌, ◌*◌, ◌/◌, ◌%◌, ℕ, suc, length, arith, sym, ap, ◌∙◌}
+use Rattle.std.proofs.Common.{rules}
+use Rattle.list_viterbi.specs.Rows.{back_of, state_before, place_before, origin}
+use Rattle.list_viterbi.proofs.Tracings.{origin-back, path-back, origin-none, all_left, none_left}
 use Rattle.list_viterbi.proofs.tracing.trace_back.Goals as goal
 
 all_of : (n : ℕ) → n - 0 ≡ n
@@ -29,7 +30,8 @@ loop-back-preserved c =
     let size : n - back ≡ suc j = omega (arith, c.loop-back-test.true) in
     let pointer : c.pointer_at-pointer.result ≡ back_of rows j state rank =
     rw same at c.pointer_at-pointer.ensures in
-    let before : 2 * (state % 128) + c.pointer_at-pointer.result % 2 ≡ state_before rows j state rank =
+    let before : 2 * (state % 128) + c.pointer_at-pointer.result % 2
+    ≡ state_before rows j state rank =
     ap (λ (b : ℕ). 2 * (state % 128) + b % 2) pointer in
     let place : c.pointer_at-pointer.result / 2 ≡ place_before rows j state rank =
     ap (λ (b : ℕ). b / 2) pointer in

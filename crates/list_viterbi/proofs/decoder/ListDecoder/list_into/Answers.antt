@@ -1,4 +1,5 @@
-use Rattle.std.proofs.Common.{◌≡◌, ◌+◌, ◌*◌, ◌/◌, ◌<◌, ◌≤◌, ◌++◌, ℕ, List, [], length, map, take, drop}
+use Rattle.std.proofs.Common.{◌≡◌, ◌+◌, ◌*◌, ◌/◌, ◌<◌, ◌≤◌, ◌++◌, ℕ, List, [], length, map, take}
+use Rattle.std.proofs.Common.{drop}
 use Rattle.std.proofs.Common.{get_or, sym, ap, ◌∙◌, suc, rules, arith, add-one, pos, w64}
 use Rattle.std.proofs.lemmas.Int.{to_z-of_z}
 use Rattle.std.proofs.lemmas.List.{take_at, with_items_is, length-map, length-take-le}
@@ -8,7 +9,7 @@ use Rattle.viterbi.specs.Survivors.{end_count}
 use Rattle.viterbi.proofs.Scores.{pair_size}
 use Rattle.list_viterbi.specs.First.{word_of}
 use Rattle.list_viterbi.specs.Picks.{HasPicks, picks_into}
-use Rattle.list_viterbi.specs.Backs.{first_finds, entry_at}
+use Rattle.list_viterbi.specs.Rows.{first_finds, entry_at}
 use Rattle.list_viterbi.proofs.Merges.{Lists}
 use Rattle.list_viterbi.proofs.Places.{how_many}
 use Rattle.list_viterbi.proofs.Rooms.{found_first, found_scores}
@@ -73,7 +74,7 @@ loop-bit-preserved c =
     (with_items_is c.loop-bit.self-inside.next c.step.new.next long) in
     let next : bit + 1 ≡ suc bit = add-one bit in
     let each : (t : ℕ) → t < 256 → HasPicks (get_or c.step.new.next t [])
-    (get_or c.step.new.backs t []) (picks_into row first second c.args.k t) =
+    (get_or c.step.new.choices t 0) (picks_into row first second c.args.k t) =
     λ t b. rw (to_z-of_z w64 first fits, to_z-of_z w64 second fits', c.deref.ensures.value)
     at (c.step.ensures.each t b) in
     let few : bit < 576 =
@@ -86,7 +87,7 @@ loop-bit-preserved c =
       kept = c.loop-bit.invariant.kept;
       stands = rw (items, next)
           (row_stands softs c.args.ends c.args.k bit row c.step.new.next
-          c.loop-bit.self-inside.rows.items c.step.new.backs room c.requires.few within
+          c.loop-bit.self-inside.rows.items c.step.new.choices room c.requires.few within
           c.loop-bit.invariant.stands each);
     }
 

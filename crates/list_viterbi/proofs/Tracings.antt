@@ -3,15 +3,15 @@ use Rattle.std.proofs.Common.{◌≡◌, ℕ, suc, ◌+◌, ◌<◌, ◌≤◌, 
 use Rattle.std.proofs.Common.{set, refl, sym, arith, append_assoc, append-nil}
 use Rattle.std.specs.Prelude.{nat_le}
 use Rattle.std.proofs.lemmas.List.{drop-set, drop_all}
-use Rattle.list_viterbi.specs.Backs.{state_before, place_before, origin, path}
+use Rattle.list_viterbi.specs.Rows.{state_before, place_before, origin, path}
 
-pub origin-back : (rows : List (List (List ℕ))) (n j t place before rank : ℕ) → n ≡ suc j →
+pub origin-back : (rows : List (List ℕ)) (n j t place before rank : ℕ) → n ≡ suc j →
     before ≡ state_before rows j t place → rank ≡ place_before rows j t place →
     origin rows j before rank ≡ origin rows n t place
 unfolding origin
 origin-back rows n j t place before rank size is rank_is = rw (size, is, rank_is) refl
 
-pub path-back : (rows : List (List (List ℕ))) (n j t place before rank : ℕ) (bits : List Bool) →
+pub path-back : (rows : List (List ℕ)) (n j t place before rank : ℕ) (bits : List Bool) →
     n ≡ suc j → j < length bits → before ≡ state_before rows j t place →
     rank ≡ place_before rows j t place →
     path rows j before rank ++ drop j (set bits j (nat_le 128 t))
@@ -25,21 +25,21 @@ path-back rows n j t place before rank bits size room is rank_is =
     (sym (append_assoc (path rows j (state_before rows j t place) (place_before rows j t place))
     (nat_le 128 t ∷ []) (drop (suc j) bits)))
 
-path-none : (rows : List (List (List ℕ))) (t place : ℕ) → path rows 0 t place ≡ []
+path-none : (rows : List (List ℕ)) (t place : ℕ) → path rows 0 t place ≡ []
 unfolding path
 path-none rows t place = refl
 
-pub origin-none : (rows : List (List (List ℕ))) (t place : ℕ) → origin rows 0 t place ≡ t
+pub origin-none : (rows : List (List ℕ)) (t place : ℕ) → origin rows 0 t place ≡ t
 unfolding origin
 origin-none rows t place = refl
 
 -- before the first step back
-pub all_left : (rows : List (List (List ℕ))) (n m t place : ℕ) (bits : List Bool) → m ≡ n →
+pub all_left : (rows : List (List ℕ)) (n m t place : ℕ) (bits : List Bool) → m ≡ n →
     length bits ≤ n → path rows m t place ++ drop m bits ≡ path rows n t place
 all_left rows n m t place bits is few =
     rw (is, drop_all n bits few) (append-nil (path rows n t place))
 
 -- after the last
-pub none_left : (rows : List (List (List ℕ))) (n t place : ℕ) (bits : List Bool) → n ≡ 0 →
+pub none_left : (rows : List (List ℕ)) (n t place : ℕ) (bits : List Bool) → n ≡ 0 →
     path rows n t place ++ drop n bits ≡ bits
 none_left rows n t place bits is = rw (is, path-none rows t place) refl

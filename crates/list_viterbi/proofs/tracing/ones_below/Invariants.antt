@@ -1,0 +1,9 @@
+use Rattle.std.proofs.Common.{◌≡◌, ◌≤◌}
+use Rattle.list_viterbi.specs.Picks.{ones_below}
+use Rattle.list_viterbi.proofs.tracing.ones_below.Given as goal
+
+abbrev pub invariant-loop-lower : goal.invariant-loop-lower
+invariant-loop-lower l = record {
+  value : l.ones ≡ ones_below l.choices l.lower;
+  most : l.ones ≤ l.lower;
+}
