@@ -1,8 +1,6 @@
 -- A ranking is the definition's.
-use Rattle.std.proofs.Common.{◌≡◌, ℕ, ◌+◌, ◌<◌, ◌≤◌, ◌⊎◌, inl, inr, ⊎_elim, List, length, get_or, map, refl, sym, ap, ◌∙◌, subst, arith, pos}
-use Rattle.std.specs.List.{Contains}
+use Rattle.std.proofs.Common.{◌≡◌, ℕ, ◌<◌, ◌⊎◌, inl, inr, ⊎_elim, List, length, get_or, map, sym, ap, ◌∙◌, subst, arith, pos}
 use Rattle.std.proofs.lemmas.List.{get_or-map, get_or_default, length-map, same_lists}
-use Rattle.chip_core.specs.Sums.{first_places}
 use Rattle.chip_core.specs.declared.sample.Sample.{Sample}
 use Rattle.pilot_survey.specs.Ranking.{ComesBefore, IsRanking}
 use Rattle.pilot_survey.specs.Survey.{surveyed, ranking}

@@ -1,5 +1,5 @@
 -- How strong a pilot is.
-use Rattle.std.proofs.Common.{◌≡◌, ℕ, ◌+◌, ◌*◌, List, refl, ap, ◌∙◌, ℤ, pos, ◌-ℤ◌}
+use Rattle.std.proofs.Common.{◌≡◌, ℕ, ◌+◌, ◌*◌, List, refl, ap, ℤ, pos, ◌-ℤ◌}
 use Rattle.chip_core.specs.Sums.{IsFirstGreatest}
 use Rattle.chip_core.specs.declared.sample.Sample.{Sample}
 use Rattle.chip_core.proofs.Greatest.{only}

@@ -6,7 +6,6 @@ use Rattle.chip_core.specs.declared.sample.Sample.{Sample}
 use Rattle.short_code.specs.ShortCode.{chips_to}
 use Rattle.pilot_search.specs.Search.{correlation, energy}
 use Rattle.pilot_survey.specs.Survey.{survey_phase, strongest, surveyed}
-use Rattle.pilot_survey.specs.declared.rank.Rank.{Rank}
 
 two : List Sample
 two = record { i = pos 1; q = pos 0 } ∷ record { i = pos 1; q = pos 0 } ∷ []

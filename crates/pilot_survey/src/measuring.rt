@@ -1,6 +1,6 @@
 //! How strong one pilot is.
 
-ghost use Rattle.std.specs.Prelude.{◌≡◌, ◌<◌, ◌≤◌, ◌+◌, ◌*◌, ◌%◌, ℕ, length, map, pos, ◌-ℤ◌};
+ghost use Rattle.std.specs.Prelude.{◌≡◌, ◌<◌, ◌≤◌, ◌+◌, ◌*◌, ◌%◌, length, map, pos, ◌-ℤ◌};
 ghost use Rattle.std.specs.List.{range_with_len};
 ghost use Rattle.pilot_survey.specs.Survey.{survey_phase, surveyed};
 

@@ -1,6 +1,6 @@
 //! The survey by several workers at once.
 
-ghost use Rattle.std.specs.Prelude.{◌≡◌, ◌<◌, ◌≤◌, ◌+◌, ℕ, length, map, IfOk};
+ghost use Rattle.std.specs.Prelude.{◌≡◌, ◌<◌, ◌≤◌, ◌+◌, length, map, IfOk};
 ghost use Rattle.std.specs.List.{range_with_len};
 ghost use denote.Param.Send.{IsSync};
 ghost use Rattle.pilot_survey.specs.Survey.{surveyed, ranking, start_of};

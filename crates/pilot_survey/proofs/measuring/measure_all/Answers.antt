@@ -1,4 +1,4 @@
-use Rattle.std.proofs.Common.{◌≡◌, length, arith, subst, ◌<◌, ℕ}
+use Rattle.std.proofs.Common.{length, arith}
 use Rattle.pilot_survey.specs.Survey.{surveyed}
 use Rattle.pilot_survey.proofs.Parts.{filled}
 use Rattle.pilot_survey.proofs.measuring.measure_all.Goals as goal
