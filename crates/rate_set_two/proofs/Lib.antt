@@ -1,0 +1,8 @@
+pub mod Agreement
+pub mod Chosen
+pub mod GatheredSums
+pub mod NothingHeard
+pub mod RateWords
+pub mod SentFrames
+pub mod SentOnce
+pub mod Words

@@ -1,0 +1,100 @@
+-- The repeated symbols that are sent.
+use Rattle.std.proofs.Common.{◌≡◌, ℕ, ◌+◌, ◌*◌, ◌/◌, ◌%◌, ◌<◌, ◌&&◌, ◌||◌, Bool, true, false, [], ◌∷◌}
+use Rattle.std.proofs.Common.{get_or, refl, sym, ap, ◌∙◌, arith, nat_eq, nat_lt, not}
+use Rattle.std.proofs.lemmas.Bool.{agree_below, agree_below_at, and_parts, eqb-true, ltb-true}
+use Rattle.std.proofs.lemmas.Nat.{div_below}
+use Rattle.symbol_path.specs.SentOrder.{data_shape, address, place}
+use Rattle.symbol_path.specs.declared.kinds.Kind.TheVariants.{Data}
+use Rattle.symbol_path.proofs.Permutation.{address_lt, place_lt, address-place, address-injective}
+use Rattle.rate_set_two.specs.declared.rate.Rate2.{Rate2}
+use Rattle.rate_set_two.specs.declared.rate.Rate2.TheVariants.{R14400, R7200, R3600, R1800}
+use Rattle.rate_set_two.specs.Rates.{symbols_of}
+use Rattle.rate_set_two.specs.SentOrder.{kept_symbol, repeated_symbol, place2}
+use Rattle.rate_set_two.specs.Laws.{is_dropped, IsKeptOnce, IsDropped}
+
+-- as which symbol a repeated symbol is kept
+abbrev kept_as : ℕ → ℕ
+kept_as k = 4 * (k / 6) + get_or (0 ∷ 1 ∷ 0 ∷ 2 ∷ 0 ∷ 3 ∷ []) (k % 6) 0
+
+-- there and back from a kept symbol, which isn't one of the dropped
+abbrev is_back : ℕ → Bool
+is_back a =
+    (nat_lt (kept_symbol a) 576 && nat_eq (kept_as (kept_symbol a)) a)
+    && not (is_dropped (kept_symbol a))
+
+kept_all : agree_below is_back (λ a. true) 384 ≡ true
+kept_all = refl
+
+kept_back : (a : ℕ) → a < 384 → is_back a ≡ true
+kept_back a h = agree_below_at is_back (λ a. true) 384 a kept_all h
+
+-- and back and there from a repeated one that isn't
+abbrev is_there : ℕ → Bool
+is_there k = is_dropped k || (nat_lt (kept_as k) 384 && nat_eq (kept_symbol (kept_as k)) k)
+
+repeated_all : agree_below is_there (λ k. true) 576 ≡ true
+repeated_all = refl
+
+either : (a b : Bool) → (a || b) ≡ true → a ≡ false → b ≡ true
+either true b h e = cc
+either false b h e = h
+
+repeated_there : (k : ℕ) → k < 576 → is_dropped k ≡ false →
+    (nat_lt (kept_as k) 384 && nat_eq (kept_symbol (kept_as k)) k) ≡ true
+repeated_there k h e =
+    either (is_dropped k) (nat_lt (kept_as k) 384 && nat_eq (kept_symbol (kept_as k)) k)
+    (agree_below_at is_there (λ k. true) 576 k repeated_all h) e
+
+kept_lt : (a : ℕ) → a < 384 → kept_symbol a < 576
+kept_lt a h = ltb-true _ _ (and_parts _ _ (and_parts _ _ (kept_back a h)).0).0
+
+kept-injective : (a b : ℕ) → a < 384 → b < 384 → kept_symbol a ≡ kept_symbol b → a ≡ b
+kept-injective a b p q e =
+    let here : kept_as (kept_symbol a) ≡ a =
+    eqb-true _ _ (and_parts _ _ (and_parts _ _ (kept_back a p)).0).1 in
+    let there : kept_as (kept_symbol b) ≡ b =
+    eqb-true _ _ (and_parts _ _ (and_parts _ _ (kept_back b q)).0).1 in
+    sym here ∙ ap kept_as e ∙ there
+
+not_true : (b : Bool) → not b ≡ true → b ≡ false
+not_true true e = sym e
+not_true false e = refl
+
+-- each code symbol that is sent is one of the frame's
+pub place2_lt : (rate : Rate2) (i : ℕ) → i < 384 → place2 rate i < symbols_of rate
+place2_lt R14400 i h =
+    let low = kept_lt (address data_shape i) (address_lt Data i h) in
+    div_below (repeated_symbol i) 1 576 (omega arith) (omega (arith, low))
+place2_lt R7200 i h =
+    let low = kept_lt (address data_shape i) (address_lt Data i h) in
+    div_below (repeated_symbol i) 2 288 (omega arith) (omega (arith, low))
+place2_lt R3600 i h =
+    let low = kept_lt (address data_shape i) (address_lt Data i h) in
+    div_below (repeated_symbol i) 4 144 (omega arith) (omega (arith, low))
+place2_lt R1800 i h =
+    let low = kept_lt (address data_shape i) (address_lt Data i h) in
+    div_below (repeated_symbol i) 8 72 (omega arith) (omega (arith, low))
+
+pub dropped : IsDropped
+dropped i h =
+    let a = address data_shape i in
+    not_true (is_dropped (kept_symbol a)) (and_parts _ _ (kept_back a (address_lt Data i h))).1
+
+pub kept_once : IsKeptOnce
+kept_once k h e =
+    let both = and_parts _ _ (repeated_there k h e) in
+    let a = kept_as k in
+    let low : a < 384 = ltb-true _ _ both.0 in
+    let is : kept_symbol a ≡ k = eqb-true _ _ both.1 in
+    let there : address data_shape (place data_shape a) ≡ a = address-place Data a low in
+    let sent : repeated_symbol (place data_shape a) ≡ k = ap kept_symbol there ∙ is in
+    record {
+      sent_as = place data_shape a;
+      below = place_lt Data a low;
+      is = sent;
+      alone = λ i lt same.
+          address-injective Data i (place data_shape a) lt (place_lt Data a low)
+          (kept-injective (address data_shape i) (address data_shape (place data_shape a))
+          (address_lt Data i lt) (address_lt Data (place data_shape a) (place_lt Data a low))
+          (same ∙ sym sent));
+    }

@@ -1,0 +1,72 @@
+-- The laws of frames.
+use Rattle.std.specs.Prelude.{◌≡◌, ℕ, ◌*◌, ◌%◌, ◌<◌, ◌==◌, ◌||◌, Bool, true, false, not, List, length}
+use Rattle.std.specs.Prelude.{replicate, ℤ, pos}
+use Rattle.chip_core.specs.Agreement.{agreement}
+use Rattle.viterbi.specs.Best.{IsAllowed}
+use Rattle.viterbi.specs.Words.{Word}
+use Rattle.viterbi.specs.declared.word.Ends.TheVariants.{Zero}
+use Rattle.frame_decoder.specs.Laws.{ShowSymbols, AgreeElsewhere, kept_count}
+use Rattle.rate_set_two.specs.declared.rate.Rate2.{Rate2}
+use Rattle.rate_set_two.specs.declared.rate.Rate2.TheVariants.{R14400}
+use Rattle.rate_set_two.specs.Rates.{information_of, frame_bits, symbols_of}
+use Rattle.rate_set_two.specs.SentOrder.{repeated_symbol, sent2, gathered2}
+use Rattle.rate_set_two.specs.TrafficFrames.{frame_word, frame_symbols, decoded2}
+
+-- ---- the order
+-- whether a repeated symbol is the third or the fifth of its six
+abbrev pub is_dropped : ℕ → Bool
+is_dropped k = k % 6 == 2 || k % 6 == 4
+
+-- repeated symbol k is sent as one symbol, and as no other
+pub record IsSentOnce (k : ℕ) : Type 0 where
+  pub sent_as : ℕ
+  pub below : sent_as < 384
+  pub is : repeated_symbol sent_as ≡ k
+  pub alone : (i : ℕ) → i < 384 → repeated_symbol i ≡ k → i ≡ sent_as
+
+-- each of the others is sent once
+abbrev pub IsKeptOnce : Type 0
+IsKeptOnce = (k : ℕ) → k < 576 → is_dropped k ≡ false → IsSentOnce k
+
+-- and these never
+abbrev pub IsDropped : Type 0
+IsDropped = (i : ℕ) → i < 384 → is_dropped (repeated_symbol i) ≡ false
+
+-- soft values agree with what is sent as their sums agree with the code symbols
+abbrev pub KeepsAgreement : Type 0
+KeepsAgreement =
+    (rate : Rate2) (softs : List ℤ) (code : List Bool) → length softs ≡ 384 →
+    length code ≡ symbols_of rate →
+    agreement softs (sent2 rate code) ≡ agreement (gathered2 rate softs) code
+
+-- ---- sent frames
+-- no other word of any rate, its quality indicator right or not, has a word's symbols there
+abbrev pub IsUnshared : List ℕ → Rate2 → Word → Type 0
+IsUnshared replaced rate w =
+    (r : Rate2) (v : Word) → IsAllowed Zero (frame_bits r) v →
+    AgreeElsewhere replaced (frame_symbols rate w) (frame_symbols r v) → (r ≡ rate) × (v ≡ w)
+
+-- soft values that show the symbols of a frame which no other word shares give that frame
+abbrev pub IsSentFrameDecoded : Type 0
+IsSentFrameDecoded =
+    (strength : ℕ) (replaced : List ℕ) (rate : Rate2) (information : List Bool) (softs : List ℤ) →
+    let w = frame_word rate information in
+    0 < strength → length replaced < 384 → length softs ≡ 384 →
+    length information ≡ information_of rate →
+    ShowSymbols replaced strength (frame_symbols rate w) softs → IsUnshared replaced rate w →
+    decoded2 replaced softs ≡ record {
+      rate = rate;
+      good = true;
+      bits = information;
+      score = pos (strength * kept_count replaced);
+    }
+
+-- where all soft values are 0, no frame is good, and the bits are zeros
+abbrev pub IsNothingGood : Type 0
+IsNothingGood =
+    (replaced : List ℕ) → decoded2 replaced (replicate 384 (pos 0)) ≡ record {
+      rate = R14400;
+      good = false;
+      bits = replicate 268 false;
+      score = pos 0;
+    }

@@ -1,0 +1,5 @@
+pub mod Laws
+pub mod Rates
+pub mod SentOrder
+pub mod TrafficFrames
+mod Worked

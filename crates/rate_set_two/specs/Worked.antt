@@ -1,0 +1,85 @@
+-- Worked values, which the checker computes.
+use Rattle.std.specs.Prelude.{◌≡◌, refl, Bool, true, false, List, [], ◌∷◌, ◌++◌, map, take, replicate}
+use Rattle.std.specs.Prelude.{pos, None, Some}
+use Rattle.chip_core.specs.Bits.{binary, number, places}
+use Rattle.quality_bits.specs.Quality.{check_bits}
+use Rattle.rate_set_two.specs.SentOrder.{place2, sent2}
+use Rattle.rate_set_two.specs.TrafficFrames.{word_bits, frame_word, frame_symbols, has_quality}
+use Rattle.rate_set_two.specs.TrafficFrames.{shown, preferred, good_or}
+use Rattle.rate_set_two.specs.declared.rate.Rate2.TheVariants.{R14400, R7200, R3600, R1800}
+use Rattle.rate_set_two.specs.declared.traffic.Decoded2.{Decoded2}
+
+-- which code symbols are sent
+places_14400 : map (place2 R14400) (0 ∷ 1 ∷ 96 ∷ 288 ∷ 383 ∷ []) ≡ 0 ∷ 96 ∷ 3 ∷ 5 ∷ 575 ∷ []
+unfolding binary
+places_14400 = refl
+
+places_1800 : map (place2 R1800) (1 ∷ 383 ∷ []) ≡ 12 ∷ 71 ∷ []
+unfolding binary
+places_1800 = refl
+
+-- the bits of frames
+word_14400 : number (word_bits R14400
+    (binary 12 0xaff ++ binary 64 0x5a84a4399865a2f3 ++ binary 64 0xb810770908da6317
+    ++ binary 64 0x2e5a7a31a3915a4f ++ binary 64 0x1a4749ee021ed604))
+    ≡ 0xaff5a84a4399865a2f3b810770908da63172e5a7a31a3915a4f1a4749ee021ed6043f400
+unfolding binary places check_bits
+word_14400 = refl
+
+word_7200 : number (word_bits R7200
+    (binary 62 0x1ed07cee9d3dacc8 ++ binary 64 0xf8b9baacb2e7f3ec))
+    ≡ 0x7b41f3ba74f6b323e2e6eab2cb9fcfb39d00
+unfolding binary places check_bits
+word_7200 = refl
+
+word_3600 : number (word_bits R3600 (binary 56 0x59b5111069855d)) ≡ 0x59b5111069855dd200
+unfolding binary places check_bits
+word_3600 = refl
+
+-- the information bits of one frame
+few : List Bool
+unfolding binary
+few = take 22 (binary 24 0x5a5a58)
+
+word_1800 : number (word_bits R1800 few) ≡ 0x5a5a5b100
+unfolding few binary places check_bits
+word_1800 = refl
+
+-- and its symbols as they are sent
+symbols_1800 : number (frame_symbols R1800 (frame_word R1800 few))
+    ≡ 0x44992712e55044992b6f11f044992712e55712e55b6f11f044992712e55044992b6f11f044992b6f11f712e55b6f11f
+unfolding few binary places check_bits sent2
+symbols_1800 = refl
+
+-- quality indicators, right and with a bit changed
+right_7200 : has_quality R7200
+    (binary 64 0x7b41f3ba74f6b323 ++ binary 64 0xe2e6eab2cb9fcfb3 ++ binary 16 0x9d00) ≡ true
+unfolding binary places check_bits
+right_7200 = refl
+
+wrong_1800 : has_quality R1800 (binary 36 0x5a5a5b300) ≡ false
+unfolding binary places check_bits
+wrong_1800 = refl
+
+-- a frame of each of two rates, of the same score
+abbrev half : Decoded2
+half = shown R7200 (replicate 144 false) (pos 352)
+
+abbrev eighth : Decoded2
+eighth = shown R1800 (replicate 36 false) (pos 352)
+
+tie : preferred true half (Some eighth) ≡ Some half
+tie = refl
+
+no_candidate : preferred false half (Some eighth) ≡ Some eighth
+no_candidate = refl
+
+-- a score of 0 isn't good, and only it is kept then
+nothing_good : good_or (replicate 288 false) (pos 7) (Some (shown R1800 (replicate 36 true) (pos 0)))
+    ≡ record { rate = R14400; good = false; bits = replicate 268 false; score = pos 0 }
+nothing_good = refl
+
+-- no candidate: the best word at 14,400 bits a second, which isn't good
+no_frame : good_or (replicate 288 true) (pos 7) None
+    ≡ record { rate = R14400; good = false; bits = replicate 268 true; score = pos 7 }
+no_frame = refl

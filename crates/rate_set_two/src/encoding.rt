@@ -1,0 +1,43 @@
+//! From the information bits of a frame to its symbols.
+
+ghost use Rattle.std.specs.Prelude.{◌≡◌, length};
+ghost use Rattle.rate_set_two.specs.Rates.{information_of, frame_bits};
+ghost use Rattle.rate_set_two.specs.TrafficFrames.{word_bits, frame_word, frame_symbols};
+
+use crate::order::place2_into;
+use crate::rate::Rate2;
+use chip_core::{Bits, CheckForm};
+use conv_code::encode_into;
+use quality_bits::append_check;
+
+/// How many tail bits a frame has, all 0, which leave the encoder in state zero.
+const TAIL_BITS: u8 = 8;
+
+/// The bits of a frame with this information: the quality indicator stands behind the information,
+/// and the tail behind both.
+fn word(rate: Rate2, info: &Bits) -> Bits
+    requires { length info.now ≡ information_of rate }
+    ensures value { result ≡ word_bits rate info.now }
+    ensures count { length result ≡ frame_bits rate }
+{
+    let mut bits = *info;
+    append_check(rate.quality(), CheckForm::Plain, &mut bits);
+    bits.append_number(TAIL_BITS, 0);
+    bits
+}
+
+/// Encodes a frame: `out` becomes its 384 symbols in the sent order before scrambling, whatever it
+/// held.
+///
+/// `info` has the rate's information bits, the first of which is the reserved bit. Behind them
+/// stand the quality indicator and eight tail bits. The encoder starts each frame in state zero
+/// (TIA/EIA-95-B, 7.1.3.1.3).
+pub fn encode2_into(rate: Rate2, info: &Bits, out: &mut Bits)
+    requires { length info.now ≡ information_of rate }
+    ensures value { out.new ≡ frame_symbols rate (frame_word rate info.now) }
+    ensures count { length out.new ≡ 384 }
+{
+    let mut code = Bits::empty();
+    encode_into(0, &word(rate, info), &mut code);
+    place2_into(rate, &code, out);
+}

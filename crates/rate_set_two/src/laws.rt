@@ -1,0 +1,29 @@
+//! Laws of the definitions: each function does nothing, and its contract is the law.
+
+ghost use Rattle.rate_set_two.specs.Laws.{IsKeptOnce, IsDropped, KeepsAgreement};
+ghost use Rattle.rate_set_two.specs.Laws.{IsSentFrameDecoded, IsNothingGood};
+
+/// A frame sends each of its repeated symbols exactly once, but for the third and the fifth of each
+/// six, which it doesn't send.
+pub fn third_and_fifth_are_dropped()
+    ensures kept { IsKeptOnce }
+    ensures dropped { IsDropped }
+{}
+
+/// Gathered soft values agree with code symbols exactly as well as the soft values agree with what
+/// is sent for them.
+pub fn gathering_keeps_agreement()
+    ensures { KeepsAgreement }
+{}
+
+/// A frame comes back, rate and information bits, and is good: where the soft values of the symbols
+/// that no power control bit replaces are one positive number times the symbols' signs, and no
+/// other word of any rate has these symbols there.
+pub fn sent_frame_is_decoded()
+    ensures { IsSentFrameDecoded }
+{}
+
+/// Soft values of 0 give no good frame: the rate is 14,400 bits a second, and all bits are 0.
+pub fn nothing_heard_is_not_good()
+    ensures { IsNothingGood }
+{}

@@ -1,0 +1,49 @@
+//! Repetition, dropping and interleaving: which code symbol is sent when.
+
+ghost use Rattle.std.specs.Prelude.{◌≡◌, ◌<◌, length};
+ghost use Rattle.rate_set_two.specs.Rates.{symbols_of};
+ghost use Rattle.rate_set_two.specs.SentOrder.{kept_symbol, place2, sent2};
+
+use crate::rate::Rate2;
+use chip_core::Bits;
+use chip_core::air::DATA_SYMBOLS;
+use symbol_path::{Kind, address};
+
+/// Which of the repeated symbols is kept as symbol `a`: of each six the third and the fifth are
+/// dropped.
+fn kept_symbol(a: u16) -> u16
+    requires { a < 384 }
+    ensures value { result ≡ kept_symbol a }
+    ensures below { result < 576 }
+{
+    let kept = match a % 4 {
+        0 => 0,
+        1 => 1,
+        2 => 3,
+        _ => 5,
+    };
+    6 * (a / 4) + kept
+}
+
+/// Which code symbol a frame sends as its symbol `i`.
+///
+/// Of the kept symbols it sends them in the order of rate set 1 (TIA/EIA-95-B, 7.1.3.1.5).
+pub fn place2(rate: Rate2, i: u16) -> u16
+    requires { i < 384 }
+    ensures value { result ≡ place2 rate i }
+    ensures below { result < symbols_of rate }
+{
+    kept_symbol(address(Kind::Data, i)) / u16::from(rate.repeats())
+}
+
+/// Writes the 384 symbols that a frame with these code symbols sends.
+pub(crate) fn place2_into(rate: Rate2, code: &Bits, out: &mut Bits)
+    requires { length code.now ≡ symbols_of rate }
+    ensures value { out.new ≡ sent2 rate code.now }
+    ensures count { length out.new ≡ 384 }
+{
+    *out = Bits::empty();
+    for i in 0..DATA_SYMBOLS as u16 {
+        out.append(code.get(place2(rate, i)));
+    }
+}
