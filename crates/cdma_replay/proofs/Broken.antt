@@ -23,10 +23,11 @@ use Rattle.mobile_core.specs.declared.mobile.Mobile.{Mobile}
 use Rattle.event_tap.specs.Taps.{KeptTap}
 use Rattle.cdma_replay.specs.Broken.{HasWritten, HearsFirst, IsLong, IsUnopened, TakesFew}
 use Rattle.cdma_replay.specs.Broken.{WritesAll, WritesFirst}
-use Rattle.cdma_replay.specs.Hearing.{HasGiven, Tells, events_in, file_text, tuning_of}
+use Rattle.cdma_replay.specs.Hearing.{HasGiven, Tells, events_in, receiver_of}
+use Rattle.cdma_replay.specs.Hearing.{tuning_of}
 use Rattle.cdma_replay.specs.Status.{file_status}
 use Rattle.cdma_replay.specs.declared.receiving.Reception.{Reception}
-use Rattle.cdma_replay.proofs.Lines.{HasBegun, later_taps, pilot_text, told_text}
+use Rattle.cdma_replay.proofs.Lines.{HasBegun, later_taps, told_first, told_text}
 use Rattle.cdma_replay.proofs.Prefixes.{front_begins}
 
 -- ---- how many samples some bytes are
@@ -151,7 +152,7 @@ pub has_written : {taps : List KeptTap} {r : Reception} {header : Header} {sampl
     ((t : Option Tuning) (first : List KeptTap) (heard : List Sample) (given : List Event) →
     HasGiven t first one kept heard given →
     Tells t first other behind given (heard ++ samples) between later) →
-    (heard : HearsFirst (tuning_of header samples r.receiver) (later_taps taps r samples)
+    (heard : HearsFirst (tuning_of header samples (receiver_of r.purpose)) (later_taps taps samples)
     (width_of header) counted most samples (Some more) left later new) →
     number (length (samples ++ heard.samples)) →
     HasWritten taps r header bytes number old new
@@ -159,13 +160,13 @@ has_written {taps} {r} {header} {samples} bytes more None number begun tells hea
     absurd heard.consumed
 has_written {taps} {r} {header} {samples} bytes more (Some after) {old} {between} {later} {new} number
     begun tells heard fits =
-    let t = tuning_of header samples r.receiver in
-    let taps1 = later_taps taps r samples in
+    let t = tuning_of header samples (receiver_of r.purpose) in
+    let taps1 = later_taps taps samples in
     let first = tells t taps1 [] [] begun.given in
     let front = header_spelling header in
     let spelled = flat_map (sample_spelling (width_of header)) in
     let others = heard.samples in
-    let line = pilot_text taps r samples in
+    let line = told_first taps r samples in
     let behind = heard.more ++ after in
     record {
       samples = samples ++ others;
@@ -217,16 +218,16 @@ writes_first None mid left old new lawful begun tells hears = tt
 writes_first (Some bytes) None left old new lawful begun tells hears = absurd begun.consumed
 writes_first {taps} {r} {header} {samples} (Some bytes) (Some more) None old new lawful begun tells
     hears =
-    let t = tuning_of header samples r.receiver in
-    let taps1 = later_taps taps r samples in
+    let t = tuning_of header samples (receiver_of r.purpose) in
+    let taps1 = later_taps taps samples in
     absurd (hears t taps1 samples (tells t taps1 [] [] begun.given).stands).consumed
 writes_first {taps} {r} {header} {samples} (Some bytes) (Some more) (Some after) old {between}
     {later} new lawful begun tells hears =
     λ (also : Header) (taken : List ℕ) (n : ℕ) (opened : opening bytes ≡ Ok also)
     (consumed : bytes ≡ taken ++ after)
     (long : 16 + sample_len (width_of also) * n ≤ length taken) (enough : r.span ≤ n) (some : 0 < n).
-    let t = tuning_of header samples r.receiver in
-    let taps1 = later_taps taps r samples in
+    let t = tuning_of header samples (receiver_of r.purpose) in
+    let taps1 = later_taps taps samples in
     let heard = hears t taps1 samples (tells t taps1 [] [] begun.given).stands in
     let width = width_of header in
     let spelled = flat_map (sample_spelling width) in
@@ -275,8 +276,8 @@ writes_all (Some bytes) None left old new lawful counted begun tells hears = abs
 writes_all {taps} {r} {header} {samples} (Some bytes) (Some more) left old {between} {later} new
     lawful counted begun tells hears =
     λ (also : Header) (opened : opening bytes ≡ Ok also).
-    let t = tuning_of header samples r.receiver in
-    let taps1 = later_taps taps r samples in
+    let t = tuning_of header samples (receiver_of r.purpose) in
+    let taps1 = later_taps taps samples in
     let heard = hears t taps1 samples (tells t taps1 [] [] begun.given).stands in
     let same = same_header bytes more header also samples lawful begun.consumed opened in
     subst (λ (h : Header). HasWritten taps r h bytes (λ k. k ≡ h.count) old new) same

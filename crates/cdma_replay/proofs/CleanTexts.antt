@@ -1,6 +1,6 @@
 -- The text of a clean link.
 use Rattle.std.proofs.Common.{◌≡◌, ◌⊎◌, inl, inr, refl, ℕ, ◌≤◌, List, [], ◌∷◌, ◌++◌, length, take}
-use Rattle.std.proofs.Common.{sym, ap, ◌∙◌, pos, Option, Some, Ok, option_map}
+use Rattle.std.proofs.Common.{sym, ap, ◌∙◌, subst, pos, All, Option, Some, Ok, option_map}
 use Rattle.std.specs.Prelude.{is_some, nat_lt}
 use Rattle.chip_core.specs.declared.sample.Sample.{Sample}
 use Rattle.cdma_io.specs.SampleFile.{IsSampleFile}
@@ -20,22 +20,24 @@ use Rattle.mobile_core.specs.Marks.{mark}
 use Rattle.mobile_core.specs.declared.event.Event.{Event}
 use Rattle.mobile_core.specs.declared.event.Event.TheVariants.{Pilot}
 use Rattle.cdma_words.specs.Words.{IsPaging}
-use Rattle.clean_link.specs.CleanLink.{IsCleanLink, IsReceivable, IsTunedTo, sync_sent}
+use Rattle.base_modulator.specs.Sampled.{made_samples}
+use Rattle.mobile_core.specs.Tuning.{Tuning}
+use Rattle.clean_link.specs.CleanLink.{IsCleanLink, IsNotDirected, IsReceivable, IsTunedTo}
+use Rattle.clean_link.specs.CleanLink.{sync_sent}
 use Rattle.clean_link.specs.SentEvents.{FollowsSent, sent_events}
 use Rattle.clean_link.proofs.marks.MarksTrue.{marked_where_heard}
-use Rattle.clean_link.proofs.messages.MessagesBack.{messages_back}
+use Rattle.clean_link.proofs.messages.MessagesBack.{messages_back, tuned_is}
 use Rattle.clean_link.proofs.signal.Samples.{length-made}
 use Rattle.cdma_words.specs.declared.job.TrafficOptions.{TrafficOptions}
 use Rattle.cdma_replay.specs.Hearing.{best_pilot, clean_end, clean_events, end_when, events_in}
-use Rattle.cdma_replay.specs.Hearing.{file_end_of, file_events, file_text, traffic_of}
-use Rattle.cdma_replay.specs.Hearing.{tuning_for}
+use Rattle.cdma_replay.specs.Hearing.{file_end_of, file_text, traffic_of, tuning_for}
 use Rattle.cdma_replay.specs.Replies.{AnswersBehind, IsFileReply, IsWholeFile, Reply, following}
 use Rattle.cdma_replay.specs.declared.handset.Receiver.{Receiver}
 use Rattle.cdma_replay.specs.declared.status.Status.{Status}
 use Rattle.cdma_replay.specs.declared.status.Status.TheVariants.{NoMemory}
 
 -- what a script names can be received
-receivable : (width : Width) (script : List ℕ) (plan : CellPlan) →
+pub receivable : (width : Width) (script : List ℕ) (plan : CellPlan) →
     plan_named width script ≡ Ok plan → IsReceivable width plan
 receivable width script plan named =
     let both = named_plan width script plan named in
@@ -55,7 +57,8 @@ own_delta samples =
 -- a handset on a clean link is tuned to the cell
 tuned : (width : Width) (script : List ℕ) (plan : CellPlan) (span : ℕ) (receiver : Receiver)
     (header : Header) (samples : List Sample) →
-    IsCleanLink width script plan span receiver.fingers receiver.paging header samples →
+    IsCleanLink width script plan span receiver.fingers receiver.paging
+    (option_map traffic_of receiver.traffic) header samples →
     length samples ≡ header.count → IsPaging receiver.paging →
     IsTunedTo plan (tuning_for header (take span samples) receiver)
 tuned width script plan span receiver header samples clean counted paging =
@@ -71,32 +74,55 @@ tuned width script plan span receiver header samples clean counted paging =
       free = clean.free;
     }
 
+-- and hears no direction
+undirected : (width : Width) (script : List ℕ) (plan : CellPlan) (span : ℕ) (receiver : Receiver)
+    (header : Header) (samples : List Sample) →
+    IsCleanLink width script plan span receiver.fingers receiver.paging
+    (option_map traffic_of receiver.traffic) header samples →
+    IsTunedTo plan (tuning_for header (take span samples) receiver) →
+    All IsNotDirected
+    (events (tuning_for header (take span samples) receiver) (made_samples plan))
+undirected width script plan span receiver header samples clean tuned_to =
+    let t = tuning_for header (take span samples) receiver in
+    subst (λ (s : List Sample). All IsNotDirected (events t s)) clean.sent
+    (subst (λ (k : Tuning). All IsNotDirected (events k samples)) (sym (tuned_is plan t tuned_to))
+    clean.undirected)
+
 best_pilot-at : (samples : List Sample) (phase : ℕ) → best_phase samples ≡ phase →
     best_pilot samples ≡ Pilot phase (energy samples phase)
 unfolding best_pilot
 best_pilot-at samples phase is = ap (λ (p : ℕ). Pilot p (energy samples p)) is
 
--- the events of the file
+-- the events of a file: the pilot of the first samples, and what a handset hears in all
+abbrev file_events : ℕ → Receiver → Header → List Sample → List Event
+file_events span receiver header samples =
+    best_pilot (take span samples) ∷ events (tuning_for header (take span samples) receiver) samples
+
+-- those of a clean link are the cell's
 clean_events-are : (width : Width) (script : List ℕ) (plan : CellPlan)
-    (span workers fingers paging : ℕ) (traffic : Option TrafficOptions) (header : Header)
-    (samples : List Sample) → IsCleanLink width script plan span fingers paging header samples →
+    (span fingers paging : ℕ) (traffic : Option TrafficOptions) (header : Header)
+    (samples : List Sample) →
+    IsCleanLink width script plan span fingers paging (option_map traffic_of traffic) header
+    samples →
     FollowsSent plan (option_map traffic_of traffic) → length samples ≡ header.count →
     IsPaging paging →
-    file_events (following span workers fingers paging traffic) header samples
+    file_events span (record { fingers = fingers; paging = paging; traffic = traffic }) header samples
     ≡ clean_events span plan paging traffic
-unfolding file_events clean_events events_in
-clean_events-are width script plan span workers fingers paging traffic header samples clean follows
-    counted one =
+unfolding clean_events
+clean_events-are width script plan span fingers paging traffic header samples clean follows counted
+    one =
     let followed = option_map traffic_of traffic in
     let first = take span samples in
     let phase = phase_at plan plan.link.start in
     let receiver : Receiver =
     record { fingers = fingers; paging = paging; traffic = traffic } in
     let t = tuning_for header first receiver in
+    let tuned_to : IsTunedTo plan t =
+    tuned width script plan span receiver header samples clean counted one in
     let heard : events t samples ≡ sent_events plan paging followed =
     ap (events t) clean.sent
-    ∙ messages_back width plan t (receivable width script plan clean.named)
-    (tuned width script plan span receiver header samples clean counted one) follows in
+    ∙ messages_back width plan t (receivable width script plan clean.named) tuned_to follows
+    (undirected width script plan span receiver header samples clean tuned_to) in
     ap (λ (es : List Event). best_pilot first ∷ es) heard
     ∙ ap (λ (e : Event). e ∷ sent_events plan paging followed) (best_pilot-at first phase clean.found)
     ∙ ap (λ (s : List Sample). Pilot phase (energy (take span s) phase) ∷ sent_events plan paging followed)
@@ -105,7 +131,9 @@ clean_events-are width script plan span workers fingers paging traffic header sa
 -- and how the run ends
 pub clean_end-is : (width : Width) (script : List ℕ) (plan : CellPlan)
     (span workers fingers paging : ℕ) (traffic : Option TrafficOptions) (header : Header)
-    (samples : List Sample) → IsCleanLink width script plan span fingers paging header samples →
+    (samples : List Sample) →
+    IsCleanLink width script plan span fingers paging (option_map traffic_of traffic) header
+    samples →
     length samples ≡ header.count → IsPaging paging →
     file_end_of (following span workers fingers paging traffic) header samples ≡ clean_end plan
 unfolding file_end_of
@@ -124,17 +152,19 @@ clean_end-is width script plan span workers fingers paging traffic header sample
 -- so what is written of the file is written of the cell
 clean_text-is : (taps : List KeptTap) (width : Width) (script : List ℕ) (plan : CellPlan)
     (span workers fingers paging : ℕ) (traffic : Option TrafficOptions) (header : Header)
-    (samples : List Sample) → IsCleanLink width script plan span fingers paging header samples →
+    (samples : List Sample) →
+    IsCleanLink width script plan span fingers paging (option_map traffic_of traffic) header
+    samples →
     FollowsSent plan (option_map traffic_of traffic) → length samples ≡ header.count →
     IsPaging paging →
     file_text taps (following span workers fingers paging traffic) header samples ≡
     run_text taps (clean_events span plan paging traffic)
-unfolding file_text
+unfolding file_text run_text events_in
 clean_text-is taps width script plan span workers fingers paging traffic header samples clean follows
     counted one =
     ap (run_text taps)
-    (clean_events-are width script plan span workers fingers paging traffic header samples clean
-    follows counted one)
+    (clean_events-are width script plan span fingers paging traffic header samples clean follows
+    counted one)
 
 -- the reply that such a file is owed
 clean_owed : (taps : List KeptTap) (span workers fingers paging : ℕ)
@@ -155,7 +185,8 @@ clean_owed taps span workers fingers paging traffic bytes header samples file en
 clean_reply : (taps : List KeptTap) (width : Width) (script held : List ℕ)
     (plan : CellPlan) (span workers fingers paging : ℕ) (traffic : Option TrafficOptions)
     (header : Header) (samples : List Sample) (status : Status) (written : Option (List ℕ)) →
-    IsCleanLink width script plan span fingers paging header samples →
+    IsCleanLink width script plan span fingers paging (option_map traffic_of traffic) header
+    samples →
     FollowsSent plan (option_map traffic_of traffic) → length samples ≡ header.count → IsPaging paging →
     (status ≡ NoMemory) ⊎
     ((status ≡ file_end_of (following span workers fingers paging traffic) header samples) ×
@@ -181,7 +212,8 @@ pub clean_answer : (taps : List KeptTap) (width : Width) (script bytes held : Li
     (plan : CellPlan) (span workers fingers paging : ℕ) (traffic : Option TrafficOptions)
     (header : Header) (samples : List Sample) (status : Status) (written : Option (List ℕ)) →
     IsSampleFile bytes header samples → span ≤ length samples → IsPaging paging →
-    IsCleanLink width script plan span fingers paging header samples →
+    IsCleanLink width script plan span fingers paging (option_map traffic_of traffic) header
+    samples →
     FollowsSent plan (option_map traffic_of traffic) →
     ((reply : Reply) → IsFileReply taps (following span workers fingers paging traffic) bytes reply →
     (status ≡ NoMemory) ⊎ AnswersBehind held reply status written) →

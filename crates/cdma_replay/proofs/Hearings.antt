@@ -20,11 +20,8 @@ use Rattle.mobile_core.specs.Standing.{StandsFor, events_left, has_room, parts}
 use Rattle.mobile_core.specs.Timing.{IsTimed}
 use Rattle.mobile_core.specs.Tuning.{Tuning, sync_stream}
 use Rattle.mobile_core.specs.declared.event.Event.{Event}
-use Rattle.mobile_core.specs.declared.event.Event.TheVariants.{Pilot}
 use Rattle.mobile_core.specs.declared.mobile.Mobile.{Mobile}
-use Rattle.event_tap.specs.EventLines.{event_line}
-use Rattle.event_tap.specs.Lines.{pilot_line}
-use Rattle.event_tap.specs.Taps.{KeptTap, form_line, heard_text, kept_with, run_taps, run_text}
+use Rattle.event_tap.specs.Taps.{KeptTap, heard_text, run_taps, run_text}
 use Rattle.event_tap.specs.Taps.{taps_behind}
 use Rattle.event_tap.proofs.Runs.{run_taps-append, run_taps-more, run_text-append, run_text-more}
 use Rattle.event_tap.proofs.Runs.{run_text-none}
@@ -57,7 +54,7 @@ nil_taken zero = refl
 nil_taken (suc n) = refl
 
 -- two pieces that follow one another
-taken_joined : {X : Type 0} (i n : ℕ) (xs : List X) →
+pub taken_joined : {X : Type 0} (i n : ℕ) (xs : List X) →
     take i xs ++ take n (drop i xs) ≡ take (i + n) xs
 taken_joined zero n xs = ap (λ (k : ℕ). take k xs) (omega arith)
 taken_joined (suc i) n [] = nil_taken n ∙ sym (nil_taken (suc i + n))
@@ -76,12 +73,6 @@ places_parted a (suc b) =
     ∙ ap (λ (k : ℕ). places a ++ a ∷ range_with_len k b) (omega arith)
 
 -- ---- telling
-
--- a tap for the pilot alone writes just its line
-pub pilot_alone : (phase energy : ℕ) →
-    heard_text (kept_with 0 1) (Pilot phase energy) ≡ event_line (Pilot phase energy)
-unfolding form_line event_line
-pilot_alone phase energy = append-nil (pilot_line phase energy)
 
 pub told_none : (t : Tuning) (taps : List KeptTap) (mobile : Mobile) (kept : List KeptTap)
     (given : List Event) (heard : List Sample) (old : Option (List ℕ)) →
@@ -362,7 +353,7 @@ pub fresh_given : (settings : Settings) (header : Header) (first : List Sample)
     settings.count ≡ header.count → settings.check30 ≡ header.check30 →
     settings.check16 ≡ header.check16 → settings.paging ≡ receiver.paging →
     settings.traffic ≡ option_map traffic_of receiver.traffic →
-    length near.deltas ≡ 3 → AreNearTo first best.phase (Some receiver) (Some near) → AreReady (Some near) →
+    length near.deltas ≡ 3 → AreNearTo first best.phase receiver near → AreReady near →
     StandsFor (tuning_by settings best near) mobile [] [] →
     HasHeard (tuning_of header first (Some receiver)) (Some mobile) [] []
 fresh_given settings header first receiver best near mobile found count check30 check16 paging

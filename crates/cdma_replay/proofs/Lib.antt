@@ -10,5 +10,6 @@ pub mod Lines
 pub mod MadeFiles
 pub mod MadeLinks
 pub mod Prefixes
+pub mod RankLines
 pub mod Replies
 mod Counting

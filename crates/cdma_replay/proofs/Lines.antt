@@ -16,24 +16,30 @@ use Rattle.cdma_io.specs.SampleFile.{HasBits, IsLawfulHeader, header_spelling, s
 use Rattle.cdma_io.specs.SampleFile.{width_of}
 use Rattle.pilot_search.specs.BestIn.{IsBestIn}
 use Rattle.pilot_search.specs.Search.{best_phase}
-use Rattle.pilot_search.specs.declared.paths.Near.{Near}
-use Rattle.pilot_search.specs.declared.sweeping.Best.{Best}
 use Rattle.pilot_search.proofs.BestPhase.{best_phase-only, best_energy-only}
 use Rattle.mobile_core.specs.Tuning.{Tuning}
 use Rattle.mobile_core.specs.declared.event.Event.{Event}
 use Rattle.mobile_core.specs.declared.event.Event.TheVariants.{Pilot}
 use Rattle.mobile_core.specs.declared.mobile.Mobile.{Mobile}
+use Rattle.event_tap.specs.EventLines.{event_line}
 use Rattle.event_tap.specs.Taps.{KeptTap, heard_text, run_taps, run_text, taps_behind}
 use Rattle.event_tap.proofs.Runs.{run_text-none}
+use Rattle.pilot_survey.specs.declared.rank.Rank.{Rank}
 use Rattle.cdma_replay.specs.declared.handset.Receiver.{Receiver}
+use Rattle.cdma_replay.specs.declared.opening.Shown.{Shown}
+use Rattle.cdma_replay.specs.declared.opening.Shown.TheVariants.{Followed, Found, Ranks}
+use Rattle.cdma_replay.specs.declared.purpose.Purpose.{Purpose}
+use Rattle.cdma_replay.specs.declared.purpose.Purpose.TheVariants.{Find, Follow, Survey}
 use Rattle.cdma_replay.specs.declared.receiving.Reception.{Reception}
 use Rattle.cdma_replay.specs.declared.status.Status.{Status}
 use Rattle.cdma_replay.specs.Find.{WritesNoMore, WritesText}
 use Rattle.cdma_replay.proofs.Prefixes.{begins_more, prefix_before, prefix_behind, prefix_of}
 use Rattle.cdma_replay.proofs.Prefixes.{taken_begins}
-use Rattle.cdma_replay.specs.Hearing.{AreNearTo, HasGiven, HasHeard, HearsPart, HearsRest, Tells}
+use Rattle.cdma_replay.specs.Hearing.{HasGiven, HasHeard, HearsPart, HearsRest, Tells}
 use Rattle.cdma_replay.specs.Hearing.{TellsPart, best_pilot, end_when, events_in, file_end_of}
-use Rattle.cdma_replay.specs.Hearing.{file_events, file_text, is_told, taps_for, tuning_of}
+use Rattle.cdma_replay.specs.Hearing.{file_text, first_text, is_told, receiver_of, tuning_of}
+use Rattle.cdma_replay.specs.Openings.{Shows, receiver_in, shown_text, taps_after}
+use Rattle.cdma_replay.specs.Ranks.{ranks_text, survey_text}
 
 -- what a sweep over all phases found
 pub pilot-best : (samples : List Sample) (phase energy : ℕ) →
@@ -43,35 +49,53 @@ pilot-best samples phase energy best =
     ap (λ (p : ℕ). Pilot p energy) (best_phase-only samples phase energy best)
     ∙ ap (λ (e : ℕ). Pilot (best_phase samples) e) (best_energy-only samples phase energy best)
 
--- what the taps of a run write of the pilot, and those that are kept behind it
-abbrev pub pilot_text : List KeptTap → Reception → List Sample → List ℕ
-pilot_text taps r samples = heard_text (taps_for r.receiver taps) (best_pilot samples)
+-- the text of the first samples, and the taps that are kept behind the pilot
+abbrev pub told_first : List KeptTap → Reception → List Sample → List ℕ
+told_first taps r samples = first_text taps r.purpose samples
 
-abbrev pub later_taps : List KeptTap → Reception → List Sample → List KeptTap
-later_taps taps r samples = taps_behind (taps_for r.receiver taps) (best_pilot samples)
+abbrev pub later_taps : List KeptTap → List Sample → List KeptTap
+later_taps taps samples = taps_behind taps (best_pilot samples)
+
+-- what was found is told by that text
+shown_first : (taps : List KeptTap) (purpose : Purpose) (samples : List Sample) (shown : Shown) →
+    Shows purpose samples shown → shown_text taps shown ≡ first_text taps purpose samples
+unfolding survey_text
+shown_first taps Find samples (Found best) is =
+    ap event_line (pilot-best samples best.phase best.energy is)
+shown_first taps Find samples (Followed best receiver) is = absurd is
+shown_first taps Find samples (Ranks ranks top) is = absurd is
+shown_first taps (Follow receiver) samples (Found best) is = absurd is
+shown_first taps (Follow receiver) samples (Followed best other) is =
+    ap (heard_text taps) (pilot-best samples best.phase best.energy is.0)
+shown_first taps (Follow receiver) samples (Ranks ranks top) is = absurd is
+shown_first taps (Survey base width top) samples (Found best) is = absurd is
+shown_first taps (Survey base width top) samples (Followed best receiver) is = absurd is
+shown_first taps (Survey base width top) samples (Ranks ranks count) is =
+    ap (λ (n : ℕ). ranks_text (take n ranks)) is.1
+    ∙ ap (λ (rs : List Rank). ranks_text (take top rs)) is.0
 
 -- the text of a file whose first samples are these
 text_behind : (taps : List KeptTap) (r : Reception) (header : Header)
     (samples others : List Sample) → length samples ≡ r.span →
     file_text taps r header (samples ++ others) ≡
-    pilot_text taps r samples ++
-    run_text (later_taps taps r samples)
-    (events_in (tuning_of header samples r.receiver) (samples ++ others))
-unfolding file_text file_events run_text
+    told_first taps r samples ++
+    run_text (later_taps taps samples)
+    (events_in (tuning_of header samples (receiver_of r.purpose)) (samples ++ others))
+unfolding file_text
 text_behind taps r header samples others counted =
-    ap (λ (xs : List Sample). pilot_text taps r xs ++
-    run_text (later_taps taps r xs)
-    (events_in (tuning_of header xs r.receiver) (samples ++ others)))
+    ap (λ (xs : List Sample). told_first taps r xs ++
+    run_text (later_taps taps xs)
+    (events_in (tuning_of header xs (receiver_of r.purpose)) (samples ++ others)))
     (take_at samples others r.span counted)
 
 end_behind : (r : Reception) (header : Header) (samples others : List Sample) →
     length samples ≡ r.span →
     file_end_of r header (samples ++ others) ≡
-    end_when (is_told (tuning_of header samples r.receiver) (samples ++ others))
+    end_when (is_told (tuning_of header samples (receiver_of r.purpose)) (samples ++ others))
 unfolding file_end_of
 end_behind r header samples others counted =
     ap (λ (xs : List Sample). end_when
-    (is_told (tuning_of header xs r.receiver) (samples ++ others)))
+    (is_told (tuning_of header xs (receiver_of r.purpose)) (samples ++ others)))
     (take_at samples others r.span counted)
 
 -- ---- beginnings
@@ -98,15 +122,15 @@ begins_text : {taps : List KeptTap} {r : Reception} {rest old new : Option (List
     IfSome mid
     (λ bytes. StartsWith bytes (flat_map (sample_spelling (width_of header)) others)) →
     AppendsPrefix old new
-    (pilot_text taps r samples ++ run_text (later_taps taps r samples)
-    (events_in (tuning_of header samples r.receiver) (samples ++ others))) →
+    (told_first taps r samples ++ run_text (later_taps taps samples)
+    (events_in (tuning_of header samples (receiver_of r.purpose)) (samples ++ others))) →
     WritesNoMore taps r rest old new
 begins_text {taps} {r} {rest} mid header samples others counted consumed behind part =
     let spelled = flat_map (sample_spelling (width_of header)) in
     let front = header_spelling header in
     let text =
-    pilot_text taps r samples ++ run_text (later_taps taps r samples)
-    (events_in (tuning_of header samples r.receiver) (samples ++ others)) in
+    told_first taps r samples ++ run_text (later_taps taps samples)
+    (events_in (tuning_of header samples (receiver_of r.purpose)) (samples ++ others)) in
     record {
       text = take part.count text;
       written = part.appended;
@@ -126,81 +150,87 @@ begins_text {taps} {r} {rest} mid header samples others counted consumed behind 
       });
     }
 
--- a beginning of the pilot's text
-pub writes_pilot_part : {taps : List KeptTap} {r : Reception} {rest old new : Option (List ℕ)}
-    (mid : Option (List ℕ)) (header : Header) {samples : List Sample} {phase energy : ℕ} →
+-- a beginning of the text of the first samples
+pub writes_first_text : {taps : List KeptTap} {r : Reception} {rest old new : Option (List ℕ)}
+    (mid : Option (List ℕ)) (header : Header) (samples : List Sample) (shown : Shown) →
     length samples ≡ r.span →
     Consumes rest mid
     (header_spelling header ++ flat_map (sample_spelling (width_of header)) samples) →
-    IsBestIn samples 0 32768 phase energy →
-    AppendsPrefix old new (heard_text (taps_for r.receiver taps) (Pilot phase energy)) →
+    Shows r.purpose samples shown → AppendsPrefix old new (shown_text taps shown) →
     WritesNoMore taps r rest old new
-writes_pilot_part {taps} {r} {rest} {old} {new} mid header {samples} {phase} {energy} counted
-    consumed best part =
+writes_first_text {taps} {r} {rest} {old} {new} mid header samples shown counted consumed shows
+    part =
     begins_text mid header samples [] counted consumed (no_bytes mid)
-    (prefix_before old new (pilot_text taps r samples) _
-    (subst (λ (e : Event). AppendsPrefix old new (heard_text (taps_for r.receiver taps) e))
-    (pilot-best samples phase energy best) part))
+    (prefix_before old new (told_first taps r samples) _
+    (subst (AppendsPrefix old new) (shown_first taps r.purpose samples shown shows) part))
 
 -- ---- the first samples, and those behind them
 
--- the first samples were read and the pilot's text was written, and a handset has heard nothing yet
+-- the first samples were read and their text was written, and a handset has heard nothing yet
 pub record HasBegun (taps : List KeptTap) (r : Reception) (header : Header) (samples : List Sample)
     (handset : Option Mobile) (kept : List KeptTap) (rest mid old new : Option (List ℕ)) :
     Type 0 where
   pub counted : length samples ≡ r.span
   pub consumed : Consumes rest mid
       (header_spelling header ++ flat_map (sample_spelling (width_of header)) samples)
-  pub line : Appends old new (pilot_text taps r samples)
-  pub given : HasGiven (tuning_of header samples r.receiver) (later_taps taps r samples) handset kept
-      [] []
+  pub line : Appends old new (told_first taps r samples)
+  pub given : HasGiven (tuning_of header samples (receiver_of r.purpose)) (later_taps taps samples)
+      handset kept [] []
 
--- a handset that has heard nothing, and the taps that are kept behind the pilot
-new_given : (header : Header) (samples : List Sample) (receiver : Option Receiver)
-    (handset : Option Mobile) (taps kept : List KeptTap) (pilot : Event) →
-    HasHeard (tuning_of header samples receiver) handset [] [] →
-    IfSome receiver (λ r. kept ≡ taps_behind taps pilot) →
-    HasGiven (tuning_of header samples receiver) (taps_behind (taps_for receiver taps) pilot) handset
-    kept [] []
+-- a handset that has heard nothing, and the taps that are kept behind what was found
+new_given : (header : Header) (samples : List Sample) (purpose : Purpose) (shown : Shown)
+    (handset : Option Mobile) (taps kept : List KeptTap) → Shows purpose samples shown →
+    HasHeard (tuning_of header samples (receiver_in shown)) handset [] [] →
+    kept ≡ taps_after taps shown →
+    HasGiven (tuning_of header samples (receiver_of purpose)) (later_taps taps samples) handset kept
+    [] []
 unfolding run_taps
-new_given header samples None handset taps kept pilot heard behind =
+new_given header samples Find (Found best) handset taps kept shows heard behind =
     record { stands = heard; behind = tt }
-new_given header samples (Some receiver) handset taps kept pilot heard behind =
-    record { stands = heard; behind = behind }
+new_given header samples Find (Followed best receiver) handset taps kept shows heard behind =
+    absurd shows
+new_given header samples Find (Ranks ranks top) handset taps kept shows heard behind = absurd shows
+new_given header samples (Follow receiver) (Found best) handset taps kept shows heard behind =
+    absurd shows
+new_given header samples (Follow receiver) (Followed best other) handset taps kept shows heard
+    behind = record {
+      stands = subst (λ (r : Receiver). HasHeard (tuning_of header samples (Some r)) handset [] [])
+          shows.1 heard;
+      behind = behind ∙ ap (taps_behind taps) (pilot-best samples best.phase best.energy shows.0);
+    }
+new_given header samples (Follow receiver) (Ranks ranks top) handset taps kept shows heard behind =
+    absurd shows
+new_given header samples (Survey base width top) (Found best) handset taps kept shows heard behind =
+    absurd shows
+new_given header samples (Survey base width top) (Followed best receiver) handset taps kept shows
+    heard behind = absurd shows
+new_given header samples (Survey base width top) (Ranks ranks count) handset taps kept shows heard
+    behind = record { stands = heard; behind = tt }
 
--- from what the search, the paths near its phase, and the new handset tell
-pub has_begun : (taps : List KeptTap) (r : Reception) {header shown : Header}
-    (samples : List Sample) (best : Best)
-    (near : Option Near) {handset : Option Mobile} {kept : List KeptTap}
+-- from what was found in the first samples, and the new handset
+pub has_begun : (taps : List KeptTap) (r : Reception) {header same : Header}
+    (samples : List Sample) (shown : Shown) {handset : Option Mobile} {kept : List KeptTap}
     {rest mid old new : Option (List ℕ)} →
     length samples ≡ r.span →
     Consumes rest mid
     (header_spelling header ++ flat_map (sample_spelling (width_of header)) samples) →
-    IsBestIn samples 0 32768 best.phase best.energy →
-    AreNearTo samples best.phase r.receiver near →
-    shown ≡ header →
-    ((first : List Sample) → IsBestIn first 0 32768 best.phase best.energy →
-    AreNearTo first best.phase r.receiver near →
-    HasHeard (tuning_of shown first r.receiver) handset [] []) →
-    Appends old new (heard_text (taps_for r.receiver taps) (Pilot best.phase best.energy)) →
-    IfSome r.receiver (λ s. kept ≡ taps_behind taps (Pilot best.phase best.energy)) →
+    Shows r.purpose samples shown → same ≡ header →
+    HasHeard (tuning_of same samples (receiver_in shown)) handset [] [] →
+    Appends old new (shown_text taps shown) → kept ≡ taps_after taps shown →
     HasBegun taps r header samples handset kept rest mid old new
-has_begun taps r {header} {shown} samples best near {handset} {kept} {rest} {mid} {old} {new}
-    counted consumed found paths same given line behind =
-    let pilot = pilot-best samples best.phase best.energy found in
+has_begun taps r {header} {same} samples shown {handset} {kept} {rest} {mid} {old} {new} counted
+    consumed shows is heard line behind =
     record {
       counted = counted;
       consumed = consumed;
-      line = subst (λ (e : Event). Appends old new (heard_text (taps_for r.receiver taps) e)) pilot
-          line;
-      given = new_given header samples r.receiver handset taps kept (best_pilot samples)
-          (subst (λ (h : Header). HasHeard (tuning_of h samples r.receiver) handset [] []) same
-          (given samples found paths))
-          (subst (λ (e : Event). IfSome r.receiver (λ s. kept ≡ taps_behind taps e)) pilot
-          behind);
+      line = subst (Appends old new) (shown_first taps r.purpose samples shown shows) line;
+      given = new_given header samples r.purpose shown handset taps kept shows
+          (subst (λ (h : Header). HasHeard (tuning_of h samples (receiver_in shown)) handset [] [])
+          is heard)
+          behind;
     }
 
--- the pilot's text, and a beginning of what is heard in the first samples
+-- the text of the first samples, and a beginning of what is heard in them
 pub writes_first_part : {taps : List KeptTap} {r : Reception} {header : Header}
     {samples : List Sample} {handset : Option Mobile} {kept : List KeptTap}
     {rest mid old between new : Option (List ℕ)} →
@@ -211,18 +241,18 @@ pub writes_first_part : {taps : List KeptTap} {r : Reception} {header : Header}
     WritesNoMore taps r rest old new
 writes_first_part {taps} {r} {header} {samples} {handset} {kept} {rest} {mid} {old} {between} {new}
     begun tells =
-    let t = tuning_of header samples r.receiver in
-    let later = later_taps taps r samples in
+    let t = tuning_of header samples (receiver_of r.purpose) in
+    let later = later_taps taps samples in
     let part = tells t later [] [] begun.given in
     begins_text mid header samples [] begun.counted begun.consumed (no_bytes mid)
-    (prefix_behind old between new (pilot_text taps r samples) _ begun.line
+    (prefix_behind old between new (told_first taps r samples) _ begun.line
     (prefix_of between new _ part.text part.written
     (subst (λ (xs : List Sample). StartsWith (run_text later (events_in t xs)) part.text)
     (sym (append-nil samples))
     (subst (λ (xs : List ℕ). StartsWith (run_text later (events_in t samples)) (xs ++ part.text))
     (run_text-none later) part.begins))))
 
--- the text of the first samples, and a beginning of what is heard behind them
+-- that text and what is heard in the first samples, and a beginning of what is heard behind them
 pub writes_rest_part : {taps : List KeptTap} {r : Reception} {header : Header}
     {samples : List Sample} {one other : Option Mobile} {kept behind : List KeptTap}
     {rest mid old between later new : Option (List ℕ)} →
@@ -235,38 +265,38 @@ pub writes_rest_part : {taps : List KeptTap} {r : Reception} {header : Header}
     HearsPart t first (width_of header) heard mid later new) → WritesNoMore taps r rest old new
 writes_rest_part {taps} {r} {header} {samples} {one} {other} {kept} {behind} {rest} {mid} {old}
     {between} {later} {new} begun tells hears =
-    let t = tuning_of header samples r.receiver in
-    let taps1 = later_taps taps r samples in
+    let t = tuning_of header samples (receiver_of r.purpose) in
+    let taps1 = later_taps taps samples in
     let first = tells t taps1 [] [] begun.given in
     let part = hears t taps1 samples first.stands in
     let all = run_text taps1 (events_in t (samples ++ part.samples)) in
     let front : first.text ≡ run_text taps1 (events_in t samples) =
     sym (ap (λ (xs : List ℕ). xs ++ first.text) (run_text-none taps1)) ∙ first.all in
     begins_text mid header samples part.samples begun.counted begun.consumed part.first
-    (prefix_behind old between new (pilot_text taps r samples) all begun.line
+    (prefix_behind old between new (told_first taps r samples) all begun.line
     (prefix_of between new all (first.text ++ part.text)
     (Appends-trans between later new first.text part.text first.written part.written)
     (subst (λ (xs : List ℕ). StartsWith all (xs ++ part.text)) (sym front) part.begins)))
 
 -- ---- the whole text
 
--- the pilot's text, that of the first samples and that of those behind them are the file's
+-- that text, what is heard in the first samples and what is heard behind them are the file's text
 pub told_text : {taps : List KeptTap} {r : Reception} (header : Header) {samples : List Sample}
     {one other : Option Mobile} {kept behind : List KeptTap}
     {rest mid old between later : Option (List ℕ)} (others : List Sample) (text : List ℕ) →
     HasBegun taps r header samples one kept rest mid old between →
-    (first : Tells (tuning_of header samples r.receiver) (later_taps taps r samples) other behind []
+    (first : Tells (tuning_of header samples (receiver_of r.purpose)) (later_taps taps samples) other behind []
     ([] ++ samples) between later) →
-    run_text (later_taps taps r samples) (events_in (tuning_of header samples r.receiver) samples)
+    run_text (later_taps taps samples) (events_in (tuning_of header samples (receiver_of r.purpose)) samples)
     ++ text ≡
-    run_text (later_taps taps r samples)
-    (events_in (tuning_of header samples r.receiver) (samples ++ others)) →
-    pilot_text taps r samples ++ (first.text ++ text) ≡ file_text taps r header (samples ++ others)
+    run_text (later_taps taps samples)
+    (events_in (tuning_of header samples (receiver_of r.purpose)) (samples ++ others)) →
+    told_first taps r samples ++ (first.text ++ text) ≡ file_text taps r header (samples ++ others)
 told_text {taps} {r} header {samples} others text begun first all =
-    let line = pilot_text taps r samples in
+    let line = told_first taps r samples in
     let heard_first : first.text ≡
-    run_text (later_taps taps r samples) (events_in (tuning_of header samples r.receiver) samples) =
-    sym (ap (λ (xs : List ℕ). xs ++ first.text) (run_text-none (later_taps taps r samples)))
+    run_text (later_taps taps samples) (events_in (tuning_of header samples (receiver_of r.purpose)) samples) =
+    sym (ap (λ (xs : List ℕ). xs ++ first.text) (run_text-none (later_taps taps samples)))
     ∙ first.all in
     ap (λ (xs : List ℕ). line ++ (xs ++ text)) heard_first ∙
     ap (λ (xs : List ℕ). line ++ xs) all ∙
@@ -294,19 +324,19 @@ writes_text (Some bytes) None end lawful count range begun tells hears ends told
     absurd begun.consumed
 writes_text {taps} {r} {status} {header} {samples} (Some bytes) (Some more) None lawful count range
     begun tells hears ends told =
-    let t = tuning_of header samples r.receiver in
-    let taps1 = later_taps taps r samples in
+    let t = tuning_of header samples (receiver_of r.purpose) in
+    let taps1 = later_taps taps samples in
     absurd (hears t taps1 samples (tells t taps1 [] [] begun.given).stands).consumed
 writes_text {taps} {r} {status} {header} {samples} (Some bytes) (Some more) (Some back) {old}
     {between} {later} {new} lawful count range begun tells hears ends told =
-    let t = tuning_of header samples r.receiver in
-    let taps1 = later_taps taps r samples in
+    let t = tuning_of header samples (receiver_of r.purpose) in
+    let taps1 = later_taps taps samples in
     let first = tells t taps1 [] [] begun.given in
     let heard = hears t taps1 samples first.stands in
     let front = header_spelling header in
     let spelled = flat_map (sample_spelling (width_of header)) in
     let others = heard.samples in
-    let line = pilot_text taps r samples in
+    let line = told_first taps r samples in
     let rest_is : more ≡ spelled others = heard.consumed ∙
     ap (λ (bs : List ℕ). spelled others ++ bs) ends ∙ append-nil (spelled others) in
     let file : bytes ≡ front ++ spelled (samples ++ others) =

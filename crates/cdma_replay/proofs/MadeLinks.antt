@@ -2,7 +2,7 @@
 -- cell's path.
 use Rattle.std.proofs.Common.{◌≡◌, ℕ, ◌+◌, ◌-◌, ◌*◌, ◌%◌, ◌<◌, ◌≤◌, Bool, true, false, List, ◌++◌}
 use Rattle.std.proofs.Common.{get_or, take, All, refl, sym, ap, ◌∙◌, subst, arith, ℤ, ◌*ℤ◌}
-use Rattle.std.proofs.Common.{unsigned_abs, Ok}
+use Rattle.std.proofs.Common.{unsigned_abs, Option, Ok}
 use Rattle.std.specs.Prelude.{◌+ℤ◌, ◌-ℤ◌}
 use Rattle.std.specs.List.{flat_map}
 use Rattle.std.proofs.lemmas.Int.{ints}
@@ -25,9 +25,15 @@ use Rattle.base_modulator.specs.Transmitter.{header_of, phase_at, version_of}
 use Rattle.base_modulator.proofs.Amplitudes.{chip_fits, signal_of_carriers}
 use Rattle.base_modulator.proofs.NamedPlans.{named_plan}
 use Rattle.base_modulator.proofs.Pieces.{no_sample}
-use Rattle.clean_link.specs.CleanLink.{IsCleanLink}
+use Rattle.mobile_core.specs.Events.{events}
+use Rattle.mobile_core.specs.declared.settings.Traffic.{Traffic}
+use Rattle.cdma_words.specs.Words.{IsPaging}
+use Rattle.clean_link.specs.CleanLink.{IsCleanLink, IsNotDirected, IsTunedTo, tuning_to}
+use Rattle.clean_link.specs.SentEvents.{FollowsSent, signaling_sent}
+use Rattle.clean_link.proofs.messages.NoDirections.{no_event_directed}
 use Rattle.base_modulator.specs.Sampled.{made_samples}
 use Rattle.cdma_replay.specs.Make.{made_file}
+use Rattle.cdma_replay.proofs.CleanTexts.{receivable}
 use Rattle.clean_link.proofs.signal.Samples.{length-made, made_at}
 
 -- ---- the header
@@ -131,14 +137,15 @@ pub made_readable : (width : Width) (script : List ℕ) (plan : CellPlan) →
 made_readable width script plan named =
     lawful_readable width plan (named_plan width script plan named).0
 
--- and a clean link, where the search finds the cell's path, there is one finger, and the paging
--- channel's row is free
-pub made_clean : (width : Width) (script : List ℕ) (plan : CellPlan) (span paging : ℕ) →
-    plan_named width script ≡ Ok plan →
+-- and a clean link, where the search finds the cell's path, there is one finger, the paging
+-- channel's row is free, and no handoff is directed
+pub made_clean : (width : Width) (script : List ℕ) (plan : CellPlan) (span paging : ℕ)
+    (traffic : Option Traffic) → plan_named width script ≡ Ok plan →
     best_phase (take span (made_samples plan)) ≡ phase_at plan plan.link.start →
     IsFreeOf plan.traffic paging →
-    IsCleanLink width script plan span 1 paging (header_of width plan) (made_samples plan)
-made_clean width script plan span paging named found free =
+    All IsNotDirected (events (tuning_to plan paging traffic) (made_samples plan)) →
+    IsCleanLink width script plan span 1 paging traffic (header_of width plan) (made_samples plan)
+made_clean width script plan span paging traffic named found free undirected =
     record {
       named = named;
       sent = refl;
@@ -147,4 +154,31 @@ made_clean width script plan span paging named found free =
       found = found;
       alone = refl;
       free = free;
+      undirected = undirected;
     }
+
+-- a handset on it is tuned to the cell
+made_tuned : (plan : CellPlan) (paging : ℕ) (traffic : Option Traffic) →
+    IsFreeOf plan.traffic paging → IsPaging paging → IsTunedTo plan (tuning_to plan paging traffic)
+made_tuned plan paging traffic free one = record {
+  count = refl;
+  checks_of_30 = refl;
+  checks_of_16 = refl;
+  phase = refl;
+  alone = refl;
+  first_channel = one.0;
+  last_channel = one.1;
+  free = free;
+}
+
+-- so no handoff is directed where none of the messages that are sent does that
+pub made_clean_sent : (width : Width) (script : List ℕ) (plan : CellPlan) (span paging : ℕ)
+    (traffic : Option Traffic) → plan_named width script ≡ Ok plan →
+    best_phase (take span (made_samples plan)) ≡ phase_at plan plan.link.start →
+    IsFreeOf plan.traffic paging → IsPaging paging → FollowsSent plan traffic →
+    All IsNotDirected (signaling_sent plan traffic) →
+    IsCleanLink width script plan span 1 paging traffic (header_of width plan) (made_samples plan)
+made_clean_sent width script plan span paging traffic named found free one follows none =
+    made_clean width script plan span paging traffic named found free
+    (no_event_directed width plan (tuning_to plan paging traffic)
+    (receivable width script plan named) (made_tuned plan paging traffic free one) follows none)

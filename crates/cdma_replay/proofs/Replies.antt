@@ -1,7 +1,7 @@
 -- Lemmas on what a run owes: what its answer says follows from the causes of each end, and no input
 -- is owed two replies.
 use Rattle.std.proofs.Common.{◌≡◌, ◌≢◌, ℕ, ◌⊎◌, inl, inr, List, [], refl, sym}
-use Rattle.std.proofs.Common.{ap, length}
+use Rattle.std.proofs.Common.{ap}
 use Rattle.std.proofs.Common.{◌∙◌, subst, Option, None, Some, IfErr, IfSome, OnErr, OnOk, Result}
 use Rattle.std.proofs.Common.{Ok, Err, take}
 use Rattle.std.specs.Io.{StartsWith}
@@ -17,21 +17,21 @@ use Rattle.base_modulator.specs.declared.plan.CellPlan.{CellPlan}
 use Rattle.base_modulator.specs.declared.script_fault.ScriptFault.{ScriptFault}
 use Rattle.base_modulator.specs.declared.script_fault.ScriptFault.TheVariants.{OutOfMemory}
 use Rattle.base_modulator.specs.Script.{plan_named}
-use Rattle.event_tap.specs.Taps.{KeptTap, kept_by}
+use Rattle.event_tap.specs.Taps.{KeptTap, kept_by, run_text}
 use Rattle.cdma_words.specs.declared.job.Job.{Job}
-use Rattle.cdma_words.specs.declared.job.Job.TheVariants.{Find, Follow, Make, Trial}
+use Rattle.cdma_words.specs.declared.job.Job.TheVariants.{Find, Follow, Make, Survey, Trial}
 use Rattle.cdma_replay.specs.declared.receiving.Reception.{Reception}
 use Rattle.cdma_replay.specs.declared.status.Status.{Status}
 use Rattle.cdma_replay.specs.Broken.{HasWritten, IsCut, WritesAll, WritesFirst}
 use Rattle.cdma_replay.specs.Find.{BeginsText, IsEnd, IsFaultIn, IsOfFiles, IsSearchable}
 use Rattle.cdma_replay.specs.Find.{WritesNoMore, WritesText, ended}
-use Rattle.cdma_replay.specs.Hearing.{file_end_of, file_text}
+use Rattle.cdma_replay.specs.Hearing.{events_in, file_end_of, file_text}
 use Rattle.cdma_replay.specs.Make.{BeginsMadeFile, WritesMadeFile, WritesNoMoreMade, made_file}
 use Rattle.cdma_replay.specs.Replies.{Answers, AnswersBehind, IsAnswered, IsEndOf, IsFaultyFile}
 use Rattle.cdma_replay.specs.Replies.{IsFaultyScript, IsFileEnd, IsFileReply, IsReply, IsScriptEnd}
 use Rattle.cdma_replay.specs.Replies.{IsScriptReply, IsSearchEnd, IsVerdict, IsWholeFile}
 use Rattle.cdma_replay.specs.Replies.{IsEarlyFault, IsWholeScript, Reply, WritesPart, finding}
-use Rattle.cdma_replay.specs.Replies.{IsTrialEnd, IsTrialReply, following}
+use Rattle.cdma_replay.specs.Replies.{IsTrialEnd, IsTrialReply, following, surveying}
 use Rattle.cdma_replay.specs.Trials.{trial_line}
 use Rattle.cdma_io.specs.Outside.{AppendsPrefix}
 use Rattle.cdma_replay.proofs.Files.{no_fault, one_fault}
@@ -130,86 +130,95 @@ file_part {taps} {named} {r} {rest} {old} {new} same wrote =
     subst (λ (k : List KeptTap). WritesPart (BeginsText k r rest) old new) same
     (record { text = wrote.text; written = wrote.written; part = wrote.part })
 
--- without a handset it doesn't matter which taps were handed in
-found_text : (taps : List KeptTap) (span workers : ℕ) (header : Header) (samples : List Sample) →
-    file_text taps (finding span workers) header samples ≡
-    file_text [] (finding span workers) header samples
-unfolding file_text
-found_text taps span workers header samples = refl
+-- the taps that are handed in don't matter
+abbrev pub IsUntapped : List KeptTap → Reception → Type 0
+IsUntapped taps r =
+    (header : Header) (samples : List Sample) →
+    file_text taps r header samples ≡ file_text [] r header samples
 
-found_whole : (taps : List KeptTap) (span workers : ℕ) (status : Status)
-    (rest old new : Option (List ℕ)) →
-    IfSome rest (λ bytes. WritesText taps (finding span workers) status bytes old new) →
-    IfSome rest (λ bytes. WritesText [] (finding span workers) status bytes old new)
-found_whole taps span workers status None old new wrote = tt
-found_whole taps span workers status (Some bytes) old new wrote = record {
+-- so it is without a handset
+pub found_untapped : (taps : List KeptTap) (span workers : ℕ) →
+    IsUntapped taps (finding span workers)
+unfolding file_text run_text events_in
+found_untapped taps span workers header samples = refl
+
+pub surveyed_untapped : (taps : List KeptTap) (span workers base width top : ℕ) →
+    IsUntapped taps (surveying span workers base width top)
+unfolding file_text run_text events_in
+surveyed_untapped taps span workers base width top header samples = refl
+
+untapped_whole : (taps : List KeptTap) (r : Reception) (status : Status)
+    (rest old new : Option (List ℕ)) → IsUntapped taps r →
+    IfSome rest (λ bytes. WritesText taps r status bytes old new) →
+    IfSome rest (λ bytes. WritesText [] r status bytes old new)
+untapped_whole taps r status None old new same wrote = tt
+untapped_whole taps r status (Some bytes) old new same wrote = record {
   searchable = wrote.searchable;
   written =
-      subst (Appends old new)
-      (found_text taps span workers wrote.searchable.header wrote.searchable.samples)
+      subst (Appends old new) (same wrote.searchable.header wrote.searchable.samples)
       wrote.written;
   ends = wrote.ends;
 }
 
-pub find_verdict : {taps : List KeptTap} (span workers : ℕ) (status : Status)
-    (rest old new : Option (List ℕ)) →
-    HasCauses taps (finding span workers) status rest old new → IsVerdict status →
-    IfSome rest (λ bytes. IsAnswered (IsFileReply [] (finding span workers) bytes) status old new)
-find_verdict {taps} span workers status rest old new causes =
-    file_verdict [] (finding span workers) status rest old new (record {
+pub untapped_verdict : {taps : List KeptTap} (r : Reception) (status : Status)
+    (rest old new : Option (List ℕ)) → IsUntapped taps r →
+    HasCauses taps r status rest old new → IsVerdict status →
+    IfSome rest (λ bytes. IsAnswered (IsFileReply [] r bytes) status old new)
+untapped_verdict {taps} r status rest old new same causes =
+    file_verdict [] r status rest old new (record {
       done = λ (end : IsEnd status).
-          found_whole taps span workers status rest old new (causes.done end);
+          untapped_whole taps r status rest old new same (causes.done end);
       others = causes.others;
       bad_file = causes.bad_file;
       place = causes.place;
     })
 
-found_begins : {taps : List KeptTap} {span workers : ℕ} {rest : Option (List ℕ)}
-    {text : List ℕ} → (text ≡ []) ⊎ BeginsText taps (finding span workers) rest text →
-    (text ≡ []) ⊎ BeginsText [] (finding span workers) rest text
-found_begins (inl none) = inl none
-found_begins {taps} {span} {workers} {rest} {text} (inr part) = inr (record {
+untapped_begins : {taps : List KeptTap} {r : Reception} {rest : Option (List ℕ)}
+    {text : List ℕ} → IsUntapped taps r → (text ≡ []) ⊎ BeginsText taps r rest text →
+    (text ≡ []) ⊎ BeginsText [] r rest text
+untapped_begins same (inl none) = inl none
+untapped_begins {taps} {r} {rest} {text} same (inr part) = inr (record {
   header = part.header;
   samples = part.samples;
   counted = part.counted;
   first = part.first;
-  begins = subst (λ (all : List ℕ). StartsWith all text)
-      (found_text taps span workers part.header part.samples) part.begins;
+  begins = subst (λ (all : List ℕ). StartsWith all text) (same part.header part.samples)
+      part.begins;
 })
 
-pub find_part : {taps : List KeptTap} {span workers : ℕ} {rest old new : Option (List ℕ)} →
-    WritesNoMore taps (finding span workers) rest old new →
-    WritesPart (BeginsText [] (finding span workers) rest) old new
-find_part wrote =
-    record { text = wrote.text; written = wrote.written; part = found_begins wrote.part }
+pub untapped_part : {taps : List KeptTap} (r : Reception) {rest old new : Option (List ℕ)} →
+    IsUntapped taps r → WritesNoMore taps r rest old new →
+    WritesPart (BeginsText [] r rest) old new
+untapped_part r same wrote = record {
+  text = wrote.text;
+  written = wrote.written;
+  part = untapped_begins same wrote.part;
+}
 
-found_written : {taps : List KeptTap} {span workers : ℕ} {header : Header} {bytes : List ℕ}
-    {counted : ℕ → Type 0} {old new : Option (List ℕ)} →
-    HasWritten taps (finding span workers) header bytes counted old new →
-    HasWritten [] (finding span workers) header bytes counted old new
-found_written {taps} {span} {workers} {header} {bytes} {counted} {old} {new} w = record {
+untapped_written : {taps : List KeptTap} {r : Reception} {header : Header} {bytes : List ℕ}
+    {counted : ℕ → Type 0} {old new : Option (List ℕ)} → IsUntapped taps r →
+    HasWritten taps r header bytes counted old new → HasWritten [] r header bytes counted old new
+untapped_written {taps} {r} {header} {bytes} {counted} {old} {new} same w = record {
   samples = w.samples;
   enough = w.enough;
   number = w.number;
   first = w.first;
-  written = subst (Appends old new) (found_text taps span workers header w.samples) w.written;
+  written = subst (Appends old new) (same header w.samples) w.written;
 }
 
 -- what was written where the file breaks off, or goes on
-pub find_first : (taps : List KeptTap) (span workers : ℕ) (rest left old new : Option (List ℕ)) →
-    WritesFirst taps (finding span workers) rest left old new →
-    WritesFirst [] (finding span workers) rest left old new
-find_first taps span workers None left old new wrote = tt
-find_first taps span workers (Some bytes) left old new wrote =
+pub untapped_first : (taps : List KeptTap) (r : Reception) (rest left old new : Option (List ℕ)) →
+    IsUntapped taps r → WritesFirst taps r rest left old new → WritesFirst [] r rest left old new
+untapped_first taps r None left old new same wrote = tt
+untapped_first taps r (Some bytes) left old new same wrote =
     λ (header : Header) taken n opened consumed long enough some.
-    found_written (wrote header taken n opened consumed long enough some)
+    untapped_written same (wrote header taken n opened consumed long enough some)
 
-pub find_all : (taps : List KeptTap) (span workers : ℕ) (rest old new : Option (List ℕ)) →
-    WritesAll taps (finding span workers) rest old new →
-    WritesAll [] (finding span workers) rest old new
-find_all taps span workers None old new wrote = tt
-find_all taps span workers (Some bytes) old new wrote =
-    λ (header : Header) opened. found_written (wrote header opened)
+pub untapped_all : (taps : List KeptTap) (r : Reception) (rest old new : Option (List ℕ)) →
+    IsUntapped taps r → WritesAll taps r rest old new → WritesAll [] r rest old new
+untapped_all taps r None old new same wrote = tt
+untapped_all taps r (Some bytes) old new same wrote =
+    λ (header : Header) opened. untapped_written same (wrote header opened)
 
 pub file_first : {taps named : List KeptTap} (r : Reception) (rest left old new : Option (List ℕ)) →
     taps ≡ named → WritesFirst taps r rest left old new → WritesFirst named r rest left old new
@@ -452,6 +461,8 @@ one_reply forms (Find span workers) bytes one other a b =
     one_file_reply [] (finding span workers) bytes one other a b
 one_reply forms (Follow span workers fingers paging traffic limits) bytes one other a b =
     one_file_reply (kept_by limits forms) (following span workers fingers paging traffic) bytes one other a b
+one_reply forms (Survey span workers base width top) bytes one other a b =
+    one_file_reply [] (surveying span workers base width top) bytes one other a b
 one_reply forms (Make width) bytes one other a b = one_script_reply width bytes one other a b
 one_reply forms (Trial number workers) bytes one other a b = one_trial_reply number one other a b
 
@@ -480,6 +491,7 @@ owed_answer forms job status bytes held reply rest old new answered is was owed 
 pub named_well : (job : Job) → ¬ (IsEndOf job Status.BadWords)
 named_well (Find span workers) end = end
 named_well (Follow span workers fingers paging traffic limits) end = end
+named_well (Survey span workers base width top) end = end
 named_well (Make width) end = end
 named_well (Trial number workers) end = end
 

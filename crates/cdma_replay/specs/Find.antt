@@ -1,4 +1,4 @@
--- What `find` and `follow` read and write.
+-- What `find`, `follow` and `survey` read and write.
 use Rattle.std.specs.Prelude.{◌≡◌, ℕ, ◌+◌, ◌*◌, ◌<◌, ◌≤◌, ◌++◌, ◌⊎◌, List, [], length, All, Option}
 use Rattle.std.specs.Prelude.{IfSome, Result, Ok, Err}
 use Rattle.std.specs.List.{flat_map}

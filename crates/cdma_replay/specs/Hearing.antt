@@ -27,10 +27,14 @@ use Rattle.mobile_core.specs.declared.mobile.Mobile.{Mobile}
 use Rattle.mobile_core.specs.declared.settings.Traffic.{Traffic}
 use Rattle.cdma_words.specs.Words.{IsFingers, IsLawfulTraffic, IsPaging}
 use Rattle.cdma_words.specs.declared.job.TrafficOptions.{TrafficOptions}
-use Rattle.event_tap.specs.Taps.{KeptTap, kept_with, run_taps, run_text}
+use Rattle.event_tap.specs.EventLines.{event_line}
+use Rattle.event_tap.specs.Taps.{KeptTap, heard_text, run_taps, run_text, taps_behind}
 use Rattle.clean_link.specs.CleanLink.{sync_sent}
 use Rattle.clean_link.specs.SentEvents.{sent_events}
+use Rattle.cdma_replay.specs.Ranks.{survey_text}
 use Rattle.cdma_replay.specs.declared.handset.Receiver.{Receiver}
+use Rattle.cdma_replay.specs.declared.purpose.Purpose.{Purpose}
+use Rattle.cdma_replay.specs.declared.purpose.Purpose.TheVariants.{Find, Follow, Survey}
 use Rattle.cdma_replay.specs.declared.receiving.Reception.{Reception}
 use Rattle.cdma_replay.specs.declared.status.Status.{Status}
 use Rattle.cdma_replay.specs.declared.status.Status.TheVariants.{Done, NoSync}
@@ -41,10 +45,18 @@ use Rattle.cdma_replay.specs.declared.status.Status.TheVariants.{Done, NoSync}
 unfoldable pub best_pilot : List Sample → Event
 best_pilot samples = Pilot (best_phase samples) (energy samples (best_phase samples))
 
--- the taps of a run: those that it was given, and where no handset hears, one for the pilot alone
-abbrev pub taps_for : Option Receiver → List KeptTap → List KeptTap
-taps_for None taps = kept_with 0 1
-taps_for (Some receiver) taps = taps
+-- the text of the first samples: the pilot's line, or what taps make of the pilot, or the lines of the
+-- ranks
+abbrev pub first_text : List KeptTap → Purpose → List Sample → List ℕ
+first_text taps Find first = event_line (best_pilot first)
+first_text taps (Follow receiver) first = heard_text taps (best_pilot first)
+first_text taps (Survey base width top) first = survey_text base width top first
+
+-- the handset that hears a file, if one does
+abbrev pub receiver_of : Purpose → Option Receiver
+receiver_of Find = None
+receiver_of (Follow receiver) = Some receiver
+receiver_of (Survey base width top) = None
 
 -- the traffic channel that words name, as a handset is told of it
 abbrev pub traffic_of : TrafficOptions → Traffic
@@ -74,16 +86,13 @@ unfoldable pub events_in : Option Tuning → List Sample → List Event
 events_in None samples = []
 events_in (Some t) samples = events t samples
 
--- the events of a file, or of one of which only so many samples are known: the pilot of the first
--- ones, and what a handset hears in all
-unfoldable pub file_events : Reception → Header → List Sample → List Event
-file_events r header samples =
-    best_pilot (take r.span samples)
-    ∷ events_in (tuning_of header (take r.span samples) r.receiver) samples
-
--- the text of them, by these taps
+-- the text of a file, or of one of which only so many samples are known: that of the first ones, and
+-- what the taps that are kept behind the pilot make of what a handset hears in all
 unfoldable pub file_text : List KeptTap → Reception → Header → List Sample → List ℕ
-file_text taps r header samples = run_text (taps_for r.receiver taps) (file_events r header samples)
+file_text taps r header samples =
+    first_text taps r.purpose (take r.span samples)
+    ++ run_text (taps_behind taps (best_pilot (take r.span samples)))
+    (events_in (tuning_of header (take r.span samples) (receiver_of r.purpose)) samples)
 
 -- a handset ends well where a message told it the time
 abbrev pub is_told : Option Tuning → List Sample → Bool
@@ -96,11 +105,11 @@ end_when told = if told then Done else NoSync
 -- how a run over a good file ends
 unfoldable pub file_end_of : Reception → Header → List Sample → Status
 file_end_of r header samples =
-    end_when (is_told (tuning_of header (take r.span samples) r.receiver) samples)
+    end_when (is_told (tuning_of header (take r.span samples) (receiver_of r.purpose)) samples)
 
 -- what is told of a clean link: the pilot at the cell's phase, all whole sendings, the whole pages of
 -- the paging channel that is followed, and the frames of the traffic channel that is, with the
--- messages that their signaling spells
+-- messages that their signaling spells and the pilot sets
 unfoldable pub clean_events : ℕ → CellPlan → ℕ → Option TrafficOptions → List Event
 clean_events span plan paging traffic =
     let phase = phase_at plan plan.link.start in
@@ -113,11 +122,8 @@ clean_end plan = end_when (nat_lt 0 (length (sync_sent plan)))
 -- ---- what the search hands on
 
 -- the paths near the best phase of samples, as many as the receiver has fingers
-abbrev pub AreNearTo : List Sample → ℕ → Option Receiver → Option Near → Type 0
-AreNearTo samples phase None None = Unit {0}
-AreNearTo samples phase None (Some near) = ⊥
-AreNearTo samples phase (Some receiver) None = ⊥
-AreNearTo samples phase (Some receiver) (Some near) =
+abbrev pub AreNearTo : List Sample → ℕ → Receiver → Near → Type 0
+AreNearTo samples phase receiver near =
     (near.count ≡ receiver.fingers) ×
     (near.deltas ≡
     near_deltas samples phase receiver.fingers ++ replicate (3 - receiver.fingers) (pos 0))
@@ -129,9 +135,8 @@ IsLawfulReceiver receiver =
     × IsLawfulTraffic receiver.paging receiver.traffic
 
 -- from one to three of them, the best phase first
-abbrev pub AreReady : Option Near → Type 0
-AreReady None = Unit {0}
-AreReady (Some near) =
+abbrev pub AreReady : Near → Type 0
+AreReady near =
     (1 ≤ near.count) × (near.count ≤ 3) × (slice_get near.deltas 0 ≡ Some (pos 0))
 
 -- ---- a handset on the way

@@ -3,6 +3,8 @@ pub mod Find
 pub mod Hearing
 pub mod MadeLaws
 pub mod Make
+pub mod Openings
+pub mod Ranks
 pub mod Replies
 pub mod Status
 pub mod Trials

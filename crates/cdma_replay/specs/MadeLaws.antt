@@ -1,5 +1,5 @@
 -- What `make` writes is a clean link.
-use Rattle.std.specs.Prelude.{ℕ, ◌≡◌, List, take, Ok}
+use Rattle.std.specs.Prelude.{ℕ, ◌≡◌, List, take, All, Option, Ok}
 use Rattle.cdma_io.specs.SampleFile.{IsSampleFile}
 use Rattle.cdma_io.specs.declared.width.Width.{Width}
 use Rattle.pilot_search.specs.Search.{best_phase}
@@ -8,7 +8,11 @@ use Rattle.base_modulator.specs.Sampled.{made_samples}
 use Rattle.base_modulator.specs.Script.{plan_named}
 use Rattle.base_modulator.specs.Transmitter.{header_of, phase_at}
 use Rattle.base_modulator.specs.declared.plan.CellPlan.{CellPlan}
-use Rattle.clean_link.specs.CleanLink.{IsCleanLink}
+use Rattle.mobile_core.specs.Events.{events}
+use Rattle.mobile_core.specs.declared.settings.Traffic.{Traffic}
+use Rattle.cdma_words.specs.Words.{IsPaging}
+use Rattle.clean_link.specs.CleanLink.{IsCleanLink, IsNotDirected, tuning_to}
+use Rattle.clean_link.specs.SentEvents.{FollowsSent, signaling_sent}
 use Rattle.cdma_replay.specs.Make.{made_file}
 
 -- what `make` writes of a script is a sample file of the cell's samples
@@ -17,12 +21,24 @@ IsReadableWhenMade =
     (width : Width) (script : List ℕ) (plan : CellPlan) → plan_named width script ≡ Ok plan →
     IsSampleFile (made_file width plan) (header_of width plan) (made_samples plan)
 
--- and a clean link, where the search finds the cell's path, there is one finger, and no traffic
--- channel has the row of the paging channel that is followed
+-- and a clean link, where the search finds the cell's path, there is one finger, no traffic channel
+-- has the row of the paging channel that is followed, and no handoff is directed
 abbrev pub IsCleanWhenMade : Type 0
 IsCleanWhenMade =
-    (width : Width) (script : List ℕ) (plan : CellPlan) (span paging : ℕ) →
-    plan_named width script ≡ Ok plan →
+    (width : Width) (script : List ℕ) (plan : CellPlan) (span paging : ℕ)
+    (traffic : Option Traffic) → plan_named width script ≡ Ok plan →
     best_phase (take span (made_samples plan)) ≡ phase_at plan plan.link.start →
     IsFreeOf plan.traffic paging →
-    IsCleanLink width script plan span 1 paging (header_of width plan) (made_samples plan)
+    All IsNotDirected (events (tuning_to plan paging traffic) (made_samples plan)) →
+    IsCleanLink width script plan span 1 paging traffic (header_of width plan) (made_samples plan)
+
+-- and so it is where that channel is one of the cell's, each of whose frames is distinct, and none of
+-- the messages that it is sent directs a handoff
+abbrev pub IsCleanWhenSent : Type 0
+IsCleanWhenSent =
+    (width : Width) (script : List ℕ) (plan : CellPlan) (span paging : ℕ)
+    (traffic : Option Traffic) → plan_named width script ≡ Ok plan →
+    best_phase (take span (made_samples plan)) ≡ phase_at plan plan.link.start →
+    IsFreeOf plan.traffic paging → IsPaging paging → FollowsSent plan traffic →
+    All IsNotDirected (signaling_sent plan traffic) →
+    IsCleanLink width script plan span 1 paging traffic (header_of width plan) (made_samples plan)

@@ -17,7 +17,8 @@ use Rattle.base_modulator.specs.Script.{plan_named}
 use Rattle.event_tap.specs.Taps.{KeptTap, kept_by}
 use Rattle.cdma_words.specs.declared.job.Job.{Job}
 use Rattle.cdma_words.specs.declared.job.TrafficOptions.{TrafficOptions}
-use Rattle.cdma_words.specs.declared.job.Job.TheVariants.{Find, Follow, Make, Trial}
+use Rattle.cdma_words.specs.declared.job.Job.TheVariants.{Find, Follow, Make, Survey, Trial}
+use Rattle.cdma_replay.specs.declared.purpose.Purpose.TheVariants as purposes
 use Rattle.cdma_replay.specs.declared.receiving.Reception.{Reception}
 use Rattle.cdma_replay.specs.declared.status.Status.{Status}
 use Rattle.cdma_replay.specs.declared.status.Status.TheVariants as ends
@@ -78,15 +79,22 @@ IsTrialReply number (Err end) = ⊥
 
 -- ---- command by command
 
--- how `find` and `follow` receive
+-- how `find`, `follow` and `survey` receive
 abbrev pub finding : ℕ → ℕ → Reception
-finding span workers = record { span = span; workers = workers; receiver = None }
+finding span workers = record { span = span; workers = workers; purpose = purposes.Find }
 
 abbrev pub following : ℕ → ℕ → ℕ → ℕ → Option TrafficOptions → Reception
 following span workers fingers paging traffic = record {
   span = span;
   workers = workers;
-  receiver = Some (record { fingers = fingers; paging = paging; traffic = traffic });
+  purpose = purposes.Follow (record { fingers = fingers; paging = paging; traffic = traffic });
+}
+
+abbrev pub surveying : ℕ → ℕ → ℕ → ℕ → ℕ → Reception
+surveying span workers base width top = record {
+  span = span;
+  workers = workers;
+  purpose = purposes.Survey base width top;
 }
 
 -- what a run over these bytes owes, with taps of these forms; `follow` alone uses them
@@ -94,6 +102,8 @@ abbrev pub IsReply : List ℕ → Job → List ℕ → Reply → Type 0
 IsReply forms (Find span workers) = IsFileReply [] (finding span workers)
 IsReply forms (Follow span workers fingers paging traffic limits) =
     IsFileReply (kept_by limits forms) (following span workers fingers paging traffic)
+IsReply forms (Survey span workers base width top) =
+    IsFileReply [] (surveying span workers base width top)
 IsReply forms (Make width) = IsScriptReply width
 IsReply forms (Trial number workers) = λ bytes. IsTrialReply number
 
@@ -101,6 +111,7 @@ IsReply forms (Trial number workers) = λ bytes. IsTrialReply number
 abbrev pub IsPromising : Job → List ℕ → Type 0
 IsPromising (Find span workers) = BeginsFile span
 IsPromising (Follow span workers fingers paging traffic limits) = BeginsFile span
+IsPromising (Survey span workers base width top) = BeginsFile span
 IsPromising (Make width) = λ bytes. IsOk (plan_named width bytes)
 IsPromising (Trial number workers) = λ bytes. Unit {0}
 
@@ -115,6 +126,8 @@ abbrev pub Begins : List ℕ → Job → Option (List ℕ) → List ℕ → Type
 Begins forms (Find span workers) = BeginsText [] (finding span workers)
 Begins forms (Follow span workers fingers paging traffic limits) =
     BeginsText (kept_by limits forms) (following span workers fingers paging traffic)
+Begins forms (Survey span workers base width top) =
+    BeginsText [] (surveying span workers base width top)
 Begins forms (Make width) = BeginsMadeFile width
 Begins forms (Trial number workers) = λ rest text. StartsWith (trial_line number) text
 
@@ -125,6 +138,8 @@ abbrev pub TellsFirst : List ℕ → Job → Option (List ℕ) → Option (List 
 TellsFirst forms (Find span workers) = WritesFirst [] (finding span workers)
 TellsFirst forms (Follow span workers fingers paging traffic limits) =
     WritesFirst (kept_by limits forms) (following span workers fingers paging traffic)
+TellsFirst forms (Survey span workers base width top) =
+    WritesFirst [] (surveying span workers base width top)
 TellsFirst forms (Make width) = λ rest left old new. new ≡ old
 TellsFirst forms (Trial number workers) = λ rest left old new. Unit {0}
 
@@ -133,12 +148,15 @@ abbrev pub TellsAll : List ℕ → Job → Option (List ℕ) → Option (List �
 TellsAll forms (Find span workers) = WritesAll [] (finding span workers)
 TellsAll forms (Follow span workers fingers paging traffic limits) =
     WritesAll (kept_by limits forms) (following span workers fingers paging traffic)
+TellsAll forms (Survey span workers base width top) =
+    WritesAll [] (surveying span workers base width top)
 TellsAll forms job = λ rest old new. Unit {0}
 
 -- an input without a fault
 abbrev pub IsLawfulInput : Job → List ℕ → Type 0
 IsLawfulInput (Find span workers) = λ bytes. IsSearchable bytes span
 IsLawfulInput (Follow span workers fingers paging traffic limits) = λ bytes. IsSearchable bytes span
+IsLawfulInput (Survey span workers base width top) = λ bytes. IsSearchable bytes span
 IsLawfulInput (Make width) = λ bytes. IsOk (plan_named width bytes)
 IsLawfulInput (Trial number workers) = λ bytes. Unit {0}
 
@@ -181,6 +199,7 @@ IsTrialEnd status = ⊥
 abbrev pub IsEndOf : Job → Status → Type 0
 IsEndOf (Find span workers) = IsSearchEnd
 IsEndOf (Follow span workers fingers paging traffic limits) = IsFileEnd
+IsEndOf (Survey span workers base width top) = IsSearchEnd
 IsEndOf (Make width) = IsScriptEnd
 IsEndOf (Trial number workers) = IsTrialEnd
 

@@ -1,6 +1,6 @@
 //! How a handset receives samples, and how it is opened on the pilot's paths.
 
-ghost use Rattle.std.specs.Prelude.{◌≡◌, List, [], ℕ, IfOk, Some, option_map};
+ghost use Rattle.std.specs.Prelude.{◌≡◌, List, [], ℕ, IfOk, option_map};
 ghost use Rattle.std.specs.Option.{ForSome};
 ghost use Rattle.chip_core.specs.declared.sample.Sample.{Sample as TheSample};
 ghost use Rattle.cdma_io.specs.SampleFile.{IsLawfulHeader};
@@ -51,10 +51,10 @@ pub fn handset(
 ) -> Result<Mobile, OutOfMemory>
     requires header { IsLawfulHeader header }
     requires receiver { IsLawfulReceiver receiver }
-    requires near { AreReady (Some near) }
+    requires near { AreReady near }
     ensures given { (first : List TheSample) →
         IsBestIn first 0 32768 best.phase best.energy →
-        AreNearTo first best.phase (Some receiver) (Some near) →
+        AreNearTo first best.phase receiver near →
         IfOk result (λ mobile. StandsFor (tuning_for header first receiver) mobile [] []) }
     ensures room { IfOk result (λ mobile. has_room mobile ≡ header.count) }
 {

@@ -2,7 +2,7 @@
 
 ghost use Rattle.std.specs.Prelude.{◌≡◌, ℕ, List};
 ghost use Rattle.cdma_words.specs.declared.job.Job.{Job as TheJob};
-ghost use Rattle.cdma_replay.specs.MadeLaws.{IsCleanWhenMade, IsReadableWhenMade};
+ghost use Rattle.cdma_replay.specs.MadeLaws.{IsCleanWhenMade, IsCleanWhenSent, IsReadableWhenMade};
 ghost use Rattle.cdma_replay.specs.Replies.{IsReply, Reply};
 
 /// No input is owed two replies.
@@ -12,9 +12,11 @@ pub fn inputs_are_owed_one_reply()
 {}
 
 /// What `make` writes is a sample file of the cell's samples; where the search finds the cell's
-/// path in it, it is a clean link for one finger and for each paging channel on whose row there is
-/// no traffic channel.
+/// path in it, it is a clean link for one finger, for each paging channel on whose row there is
+/// no traffic channel, and for no traffic channel or one on which no message that is heard directs
+/// a handoff; so for one of the cell's, each of whose frames is distinct, on which none is sent.
 pub fn made_files_are_clean_links()
     ensures file { IsReadableWhenMade }
     ensures clean { IsCleanWhenMade }
+    ensures sent { IsCleanWhenSent }
 {}

@@ -11,6 +11,8 @@ ghost use Rattle.cdma_replay.specs.Find.{IsEnd};
 
 #[cfg(test)]
 mod capture_tests;
+#[cfg(test)]
+mod handoff_tests;
 mod handset;
 #[cfg(test)]
 mod hostile_tests;
@@ -20,11 +22,18 @@ mod link_tests;
 mod making;
 #[cfg(test)]
 mod message_tests;
+mod opening;
 #[cfg(test)]
 mod paging_tests;
+mod purpose;
+mod ranks;
 mod receiving;
 mod replaying;
+#[cfg(test)]
+mod sets_tests;
 mod status;
+#[cfg(test)]
+mod survey_tests;
 #[cfg(test)]
 mod tap_tests;
 #[cfg(test)]

@@ -1,28 +1,25 @@
-//! The commands `find` and `follow`: the pilot in a sample file, and what a handset hears behind
-//! it.
+//! The commands `find`, `follow` and `survey`: what the first samples of a file show, and what a
+//! handset hears in all.
 
 ghost use Rattle.std.specs.Prelude.{◌≡◌, ◌≢◌, ◌<◌, ◌≤◌, ◌+◌, ◌*◌, ◌-◌, ◌++◌, ◌⊎◌, ℕ};
 ghost use Rattle.std.specs.Prelude.{List, [], length, All, Err, None, Some, Option, IfOk};
 ghost use Rattle.std.specs.Prelude.{OnOk, IfErr, OnErr, IfSome};
 ghost use Rattle.std.specs.List.{flat_map};
-ghost use Rattle.std.specs.Io.KnownBytes.{Appends, Consumes, IsAtEnd};
+ghost use Rattle.std.specs.Io.KnownBytes.{Consumes, IsAtEnd};
 ghost use Rattle.chip_core.specs.declared.sample.Sample.{Sample};
 ghost use Rattle.cdma_io.specs.declared.file_fault.FileFault.{FileFault};
-ghost use Rattle.cdma_io.specs.Outside.{AppendsPrefix, ConsumesAtMost, HasCause, Rose};
+ghost use Rattle.cdma_io.specs.Outside.{ConsumesAtMost, HasCause, Rose};
 ghost use Rattle.cdma_io.specs.SampleFile.{HasBits, IsLawfulHeader, header_spelling, sample_len};
 ghost use Rattle.cdma_io.specs.SampleFile.{sample_spelling, width_of};
-ghost use Rattle.pilot_search.specs.BestIn.{IsBestIn};
 ghost use Rattle.mobile_core.specs.Tuning.{Tuning};
 ghost use Rattle.mobile_core.specs.Standing.{StandsFor, has_room};
 ghost use Rattle.mobile_core.specs.declared.event.Event.{Event as TheEvent};
-ghost use Rattle.mobile_core.specs.declared.event.Event.TheVariants.{Pilot as ThePilot};
-ghost use Rattle.event_tap.specs.Taps.{IsKept, KeptTap, heard_text, run_taps, taps_behind};
+ghost use Rattle.event_tap.specs.Taps.{IsKept, KeptTap, run_taps};
 ghost use Rattle.cdma_words.specs.Words.{IsWorkers};
-ghost use Rattle.cdma_replay.specs.Hearing.{AreNearTo, AreReady, HasGiven, HasHeard, HasRoom};
-ghost use Rattle.cdma_replay.specs.Hearing.{HasRoomFor, HearsPart, HearsRest, IsLawfulReceiver};
-ghost use Rattle.cdma_replay.specs.Hearing.{Tells, TellsPart};
-ghost use Rattle.cdma_replay.specs.Hearing.{end_when, events_in, is_told, taps_for};
-ghost use Rattle.cdma_replay.specs.Hearing.{tuning_of};
+ghost use Rattle.cdma_replay.specs.Hearing.{HasGiven, HasHeard, HasRoom, HasRoomFor, HearsPart};
+ghost use Rattle.cdma_replay.specs.Hearing.{HearsRest, Tells, TellsPart, end_when, events_in};
+ghost use Rattle.cdma_replay.specs.Hearing.{is_told, receiver_of};
+ghost use Rattle.cdma_replay.specs.Openings.{IsLawfulPurpose};
 ghost use Rattle.cdma_replay.specs.Broken.{HearsFirst, IsCut, IsLong, IsUnopened, TakesFew};
 ghost use Rattle.cdma_replay.specs.Broken.{WritesAll, WritesFirst};
 ghost use Rattle.cdma_replay.specs.Find.{BeginsFile, IsEnd, IsFault, IsFaultIn, IsOfFiles};
@@ -30,14 +27,15 @@ ghost use Rattle.cdma_replay.specs.Find.{IsHeaderFault, IsRestFault, IsSearchabl
 ghost use Rattle.cdma_replay.specs.Find.{WritesText, ended};
 ghost use Rattle.cdma_replay.specs.Status.{file_status};
 
-use crate::handset::{Receiver, handset};
+use crate::opening::{find_first, handset_for, tell_first};
+use crate::purpose::Purpose;
 use crate::status::Status;
 use crate::workspace::Workspace;
-use cdma_io::{Failed, FileFault, Header, SampleReader, Sink, Source};
-use chip_core::{OutOfMemory, Sample};
-use event_tap::{KeepsTaps, write_event};
-use mobile_core::{Event, Mobile};
-use pilot_search::{Best, Gate, Near, near, search};
+use cdma_io::{Failed, FileFault, SampleReader, Sink, Source};
+use chip_core::Sample;
+use event_tap::KeepsTaps;
+use mobile_core::Mobile;
+use pilot_search::Gate;
 use short_code::Codes;
 use std::alloc::Global;
 use std::thread::Threads;
@@ -45,12 +43,12 @@ use std::thread::Threads;
 /// How a sample file is received.
 #[derive(Clone, Copy, PartialEq, Eq, Debug)]
 pub struct Reception {
-    /// In how many of the first samples the pilot is searched, 64 to 32,768.
+    /// In how many of the first samples the pilot is searched, or all are measured, 64 to 32,768.
     pub span: u16,
-    /// How many workers search, 1 to 64. What is found doesn't depend on it.
+    /// How many workers search or measure, 1 to 64. What is found doesn't depend on it.
     pub workers: u8,
-    /// How a handset receives it; `None` where only the pilot is wanted.
-    pub receiver: Option<Receiver>,
+    /// What is wanted of it.
+    pub purpose: Purpose,
 }
 
 /// Opens a sample file and reads its first samples, as many as `span` has room for.
@@ -82,71 +80,6 @@ fn open_span<S: Source>(source: &mut S, span: &mut [Sample]) -> Result<SampleRea
     }
     reader.read(source, span)?;
     Ok(reader)
-}
-
-/// The paths near the best phase of samples, where there is a receiver.
-fn near_for(codes: &Codes, first: &[Sample], best: Best, receiver: Option<Receiver>) -> Option<Near>
-    requires few { length first.now ≤ 32768 }
-    requires best { IsBestIn first.now 0 32768 best.phase best.energy }
-    requires receiver { IfSome receiver IsLawfulReceiver }
-    ensures near { AreNearTo first.now best.phase receiver result }
-    ensures ready { AreReady result }
-{
-    let receiver = receiver?;
-    Some(near(first, codes, best, receiver.fingers))
-}
-
-/// A handset for a file of this header, where there is a receiver, with paths near its phase.
-fn handset_for(
-    alloc: Global,
-    header: Header,
-    receiver: Option<Receiver>,
-    best: Best,
-    near: Option<Near>,
-) -> Result<Option<Mobile>, OutOfMemory>
-    requires header { IsLawfulHeader header }
-    requires receiver { IfSome receiver IsLawfulReceiver }
-    requires near { AreReady near }
-    ensures given { (first : List Sample) →
-        IsBestIn first 0 32768 best.phase best.energy → AreNearTo first best.phase receiver near →
-        IfOk result (λ handset. HasHeard (tuning_of header first receiver) handset [] []) }
-    ensures room { IfOk result (λ handset. HasRoom handset header.count) }
-{
-    let (Some(receiver), Some(near)) = (receiver, near) else {
-        return Ok(None);
-    };
-    let mobile = handset(alloc, header, receiver, best, near)?;
-    Ok(Some(mobile))
-}
-
-/// Tells of the pilot: where there is a receiver the taps hear it, and else its line is written.
-fn tell_pilot<T: KeepsTaps, K: Sink>(
-    best: &Best,
-    receiver: Option<Receiver>,
-    taps: &mut T,
-    sink: &mut K,
-) -> Result<(), Failed>
-    requires { All IsKept (T.kept taps.old) }
-    ensures ok { OnOk result (Appends (K.written sink.old) (K.written sink.new)
-        (heard_text (taps_for receiver (T.kept taps.old))
-        (ThePilot best.now.phase best.now.energy))) }
-    ensures behind { OnOk result (IfSome receiver (λ r. T.kept taps.new ≡
-        taps_behind (T.kept taps.old)
-        (ThePilot best.now.phase best.now.energy))) }
-    ensures kept { All IsKept (T.kept taps.new) }
-    ensures err { OnErr result (AppendsPrefix (K.written sink.old) (K.written sink.new)
-        (heard_text (taps_for receiver (T.kept taps.old))
-        (ThePilot best.now.phase best.now.energy))) }
-    ensures cause { HasCause (K.faults sink.old) (K.faults sink.new) result }
-{
-    let pilot = Event::Pilot {
-        phase: best.phase,
-        energy: best.energy,
-    };
-    match receiver {
-        Some(_) => taps.tell(&pilot, sink),
-        None => write_event(&pilot, sink),
-    }
 }
 
 /// Gives samples to a handset, and lets the taps hear each event.
@@ -300,9 +233,8 @@ fn end_when(told: bool) -> Result<(), Status>
     if told { Ok(()) } else { Err(Status::NoSync) }
 }
 
-/// Reads the file's first samples into `span`, searches the pilot in them and tells of it, and
-/// then reads on to the end of the file by way of `piece`; where there is a receiver, a handset hears
-/// all samples.
+/// Reads the file's first samples into `span` and tells what is wanted of them, and then reads on to
+/// the end of the file by way of `piece`; where there is a receiver, a handset hears all samples.
 fn receive_file<R: Threads + Sync, S: Source, K: Sink, T: KeepsTaps, G: Gate + Sync>(
     rt: &R,
     alloc: Global,
@@ -317,7 +249,7 @@ fn receive_file<R: Threads + Sync, S: Source, K: Sink, T: KeepsTaps, G: Gate + S
 ) -> Result<(), Status>
     requires span { (length span.old ≡ reception.span) × (reception.span ≤ 32768) }
     requires workers { IsWorkers reception.workers }
-    requires receiver { IfSome reception.receiver IsLawfulReceiver }
+    requires purpose { IsLawfulPurpose reception.purpose }
     requires piece { length piece.old ≡ 4096 }
     requires kept { All IsKept (T.kept taps) }
     ensures done { IsEnd (ended result) → IfSome (S.rest source.old) (λ bytes.
@@ -328,7 +260,7 @@ fn receive_file<R: Threads + Sync, S: Source, K: Sink, T: KeepsTaps, G: Gate + S
     ensures memory { ended result ≡ Status.NoMemory → sink.new ≡ sink.old }
     ensures early { ended result ≡ Status.NoMemory →
         IfSome (S.rest source.old) (BeginsFile reception.span) }
-    ensures alone { reception.receiver ≡ None → ended result ≢ Status.NoSync }
+    ensures alone { receiver_of reception.purpose ≡ None → ended result ≢ Status.NoSync }
     ensures bad_file { (fault : FileFault) → ended result ≡ Status.BadFile fault →
         (fault ≢ FileFault.ReadFault) ×
         IfSome (S.rest source.old) (λ bytes. ¬ (IsSearchable bytes reception.span)) }
@@ -355,11 +287,15 @@ fn receive_file<R: Threads + Sync, S: Source, K: Sink, T: KeepsTaps, G: Gate + S
     ensures later_sink { K.faults sink.old ≤ K.faults sink.new }
 {
     let mut reader = open_span(source, span)?;
-    let best = search(rt, alloc, span, codes, reception.workers, gate)?;
-    let near = near_for(codes, span, best, reception.receiver);
-    let mut handset = handset_for(alloc, reader.header(), reception.receiver, best, near)?;
+    let Reception {
+        workers,
+        purpose,
+        ..
+    } = reception;
+    let shown = find_first(rt, alloc, purpose, codes, span, workers, gate)?;
+    let mut handset = handset_for(alloc, reader.header(), codes, span, &shown)?;
     let mut taps = taps;
-    match tell_pilot(&best, reception.receiver, &mut taps, sink) {
+    match tell_first(&shown, &mut taps, sink) {
         Ok(()) => {}
         Err(Failed) => return Err(Status::WriteFault),
     }
@@ -371,9 +307,8 @@ fn receive_file<R: Threads + Sync, S: Source, K: Sink, T: KeepsTaps, G: Gate + S
     end_when(is_told(&handset))
 }
 
-/// Searches the pilot in the file's first samples and tells of it, and then reads on to the end
-/// of the file; where there is a receiver, a handset hears all samples, and the taps hear the pilot
-/// and each event.
+/// Tells what is wanted of the file's first samples, and then reads on to the end of the file; where
+/// there is a receiver, a handset hears all samples, and the taps hear the pilot and each event.
 ///
 /// All memory is taken before the first line is written.
 pub fn receive<R: Threads + Sync, S: Source, K: Sink, T: KeepsTaps, G: Gate + Sync>(
@@ -387,7 +322,7 @@ pub fn receive<R: Threads + Sync, S: Source, K: Sink, T: KeepsTaps, G: Gate + Sy
 ) -> Result<(), Status>
     requires span { reception.span ≤ 32768 }
     requires workers { IsWorkers reception.workers }
-    requires receiver { IfSome reception.receiver IsLawfulReceiver }
+    requires purpose { IsLawfulPurpose reception.purpose }
     requires kept { All IsKept (T.kept taps) }
     ensures done { IsEnd (ended result) → IfSome (S.rest source.old) (λ bytes.
         WritesText (T.kept taps) reception (ended result) bytes
@@ -397,7 +332,7 @@ pub fn receive<R: Threads + Sync, S: Source, K: Sink, T: KeepsTaps, G: Gate + Sy
     ensures memory { ended result ≡ Status.NoMemory → sink.new ≡ sink.old }
     ensures early { ended result ≡ Status.NoMemory → (source.new ≡ source.old) ⊎
         IfSome (S.rest source.old) (BeginsFile reception.span) }
-    ensures alone { reception.receiver ≡ None → ended result ≢ Status.NoSync }
+    ensures alone { receiver_of reception.purpose ≡ None → ended result ≢ Status.NoSync }
     ensures bad_file { (fault : FileFault) → ended result ≡ Status.BadFile fault →
         (fault ≢ FileFault.ReadFault) ×
         IfSome (S.rest source.old) (λ bytes. ¬ (IsSearchable bytes reception.span)) }

@@ -27,6 +27,7 @@ ghost use Rattle.cdma_replay.specs.Trials.{trial_line};
 
 use crate::handset::Receiver;
 use crate::making::make;
+use crate::purpose::Purpose;
 use crate::receiving::{Reception, receive};
 use crate::status::Status;
 use crate::trial::trial;
@@ -91,7 +92,7 @@ fn run_job<R: Threads + Sync, S: Source, K: Sink, G: Gate + Sync>(
             let reception = Reception {
                 span,
                 workers,
-                receiver: None,
+                purpose: Purpose::Find,
             };
             let taps = Taps::new(Vec::new(alloc), [0; 4]);
             status_of(receive(rt, alloc, reception, source, sink, taps, gate))
@@ -107,13 +108,28 @@ fn run_job<R: Threads + Sync, S: Source, K: Sink, G: Gate + Sync>(
             let reception = Reception {
                 span,
                 workers,
-                receiver: Some(Receiver {
+                purpose: Purpose::Follow(Receiver {
                     fingers,
                     paging,
                     traffic,
                 }),
             };
             let taps = Taps::new(taps, limits);
+            status_of(receive(rt, alloc, reception, source, sink, taps, gate))
+        }
+        Job::Survey {
+            span,
+            workers,
+            base,
+            width,
+            top,
+        } => {
+            let reception = Reception {
+                span,
+                workers,
+                purpose: Purpose::Survey { base, width, top },
+            };
+            let taps = Taps::new(Vec::new(alloc), [0; 4]);
             status_of(receive(rt, alloc, reception, source, sink, taps, gate))
         }
         Job::Make { width } => status_of(make(alloc, width, source, sink)),
@@ -129,15 +145,16 @@ fn run_job<R: Threads + Sync, S: Source, K: Sink, G: Gate + Sync>(
 /// first samples, as many as its span is, writes its line, and reads on to the end of the file.
 /// `follow` does that too, and lets the taps hear the pilot and each event that a handset hears in
 /// the samples, as it comes, and write their text; it ends with `NoSync` where no message told the
-/// time. `make` reads a script, and writes the file of the cell that it names. `trial` reads nothing:
-/// it makes the link that its number tells, follows it with a handset, and writes one line that
-/// counts what was heard.
+/// time. `survey` reads as `find` does, but measures how strong each of the 512 pilots (7.1.3.2.1) is
+/// in the first samples, and writes the first of their ranks, a line each. `make` reads a script, and
+/// writes the file of the cell that it names. `trial` reads nothing: it makes the link that its number
+/// tells, follows it with a handset, and writes one line that counts what was heard.
 ///
 /// The words, their options and the numbers that stand where an option isn't given are those of
 /// [`cdma_words::words_of`].
 ///
-/// Each worker of the search calls the gate before its first phase and after its last. What is
-/// written doesn't depend on the number of workers, nor on how they get on.
+/// Each worker of a search or a survey calls the gate before its first phase and after its last. What
+/// is written doesn't depend on the number of workers, nor on how they get on.
 pub fn replay<R: Threads + Sync, S: Source, K: Sink, G: Gate + Sync>(
     rt: &R,
     alloc: Global,
@@ -164,16 +181,16 @@ pub fn replay<R: Threads + Sync, S: Source, K: Sink, G: Gate + Sync>(
     // On a clean link, where the traffic channel that is followed is one of the cell's, each of
     // whose frames is distinct, or none is, that is the text of the pilot at the cell's phase, of
     // the sendings and the followed paging channel's pages that lie in the file whole, each with its
-    // message, and of that traffic channel's frames with the messages that their signaling spells,
-    // in the order in which they are known.
+    // message, of that traffic channel's frames with the messages that their signaling spells, and of
+    // the pilot sets behind it, in the order in which they are known.
     ensures clean { (width : Width) (script bytes held : List ℕ) (plan : CellPlan)
         (span workers fingers paging : ℕ) (traffic : Option TheTraffic) (limits : List ℕ)
         (header : Header) (samples : List Sample) →
         job_named words.now ≡ Some (Follow span workers fingers paging traffic limits) →
         S.rest source.old ≡ Some bytes → K.written sink.old ≡ Some held →
         IsSampleFile bytes header samples → span ≤ length samples →
-        IsCleanLink width script plan span fingers paging header samples →
-        FollowsSent plan (option_map traffic_of traffic) →
+        IsCleanLink width script plan span fingers paging (option_map traffic_of traffic) header
+        samples → FollowsSent plan (option_map traffic_of traffic) →
         ¬ (Rose (S.faults source.old) (S.faults source.new)) →
         ¬ (Rose (K.faults sink.old) (K.faults sink.new)) →
         (result ≡ Status.NoMemory) ⊎ ((result ≡ clean_end plan) ×

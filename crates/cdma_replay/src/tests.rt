@@ -239,6 +239,7 @@ fn refuses_other_words(rt: HostRuntime) -> Result<(), Fail> {
         "follow --paging 8",
         "follow --bits=8",
         "make --workers 4",
+        "survey --top 0",
     ] {
         let (status, text) = run(&rt, line, file.as_slice(), SMALL)?;
         assert_eq!(rt; status, Status::BadWords, "{line}");

@@ -75,7 +75,7 @@ impl Counts {
                 self.frames += 1;
                 self.good += u64::from(*good);
             }
-            Event::Traffic { .. } => {}
+            Event::Traffic { .. } | Event::Sets { .. } => {}
         }
     }
 }

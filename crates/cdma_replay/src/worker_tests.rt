@@ -54,6 +54,9 @@ const TRIAL_LINE: &[u8] =
 /// The line of samples of zeros.
 const ZERO_LINE: &[u8] = b"pilot phase=0 energy=0\n";
 
+/// Their first rank.
+const RANK_LINE: &[u8] = b"survey pn=0 delta=-10 energy=0\n";
+
 #[test]
 fn two_workers_meet_in_find(rt: HostRuntime) -> Result<(), Fail> {
     let file = zero_file(rt.alloc(), 2048)?;
@@ -74,6 +77,20 @@ fn two_workers_meet_in_follow(rt: HostRuntime) -> Result<(), Fail> {
     let (status, text) = run_through(&rt, "follow --workers=2", file.as_slice(), SMALL, &gate)?;
     assert_eq!(rt; status, Status::NoSync);
     assert_eq!(rt; text.as_slice(), ZERO_LINE);
+    assert_eq!(rt; gate.met[0].load(Ordering::SeqCst), 1);
+    assert_eq!(rt; gate.met[1].load(Ordering::SeqCst), 1);
+    assert_eq!(rt; gate.others.load(Ordering::SeqCst), 0);
+    Ok(())
+}
+
+#[test]
+fn two_workers_meet_in_survey(rt: HostRuntime) -> Result<(), Fail> {
+    let file = zero_file(rt.alloc(), 2048)?;
+    let gate = Meeting::new();
+    let line = "survey --workers 2 --top=1";
+    let (status, text) = run_through(&rt, line, file.as_slice(), SMALL, &gate)?;
+    assert_eq!(rt; status, Status::Done);
+    assert_eq!(rt; text.as_slice(), RANK_LINE);
     assert_eq!(rt; gate.met[0].load(Ordering::SeqCst), 1);
     assert_eq!(rt; gate.met[1].load(Ordering::SeqCst), 1);
     assert_eq!(rt; gate.others.load(Ordering::SeqCst), 0);

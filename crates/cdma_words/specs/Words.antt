@@ -20,7 +20,7 @@ use Rattle.hex.specs.Hex.{decode_sized}
 use Rattle.cdma_io.specs.declared.width.Width.{Width}
 use Rattle.cdma_io.specs.declared.width.Width.TheVariants.{Sixteen, Eight}
 use Rattle.cdma_words.specs.declared.job.Job.{Job}
-use Rattle.cdma_words.specs.declared.job.Job.TheVariants.{Find, Follow, Make, Trial}
+use Rattle.cdma_words.specs.declared.job.Job.TheVariants.{Find, Follow, Survey, Make, Trial}
 use Rattle.cdma_words.specs.declared.job.TrafficOptions.{TrafficOptions}
 use Rattle.cdma_words.specs.declared.commands.Command.{Command}
 use Rattle.cdma_words.specs.declared.commands.Command.TheVariants as named
@@ -82,6 +82,17 @@ number_row = record {
   default = None;
 }
 
+-- the phase of the pilot of offset 0, how many chips round its own phase each pilot is measured, and
+-- how many ranks are written
+abbrev pub base_row : OptionRow
+base_row = record { name = codes "base"; form = Between 0 32767; default = Some 0 }
+
+abbrev pub width_row : OptionRow
+width_row = record { name = codes "width"; form = Between 0 31; default = Some 10 }
+
+abbrev pub top_row : OptionRow
+top_row = record { name = codes "top"; form = Between 1 512; default = Some 512 }
+
 -- ---- the table of commands
 
 -- a row of it: a command's name, its options, and the job for the number of each of them, which may
@@ -120,6 +131,11 @@ follow_with (Some span ∷ Some workers ∷ Some fingers ∷ Some paging ∷ esn
     (limits_with limits)) (traffic_with paging esn row offset)
 follow_with _ = None
 
+abbrev pub survey_with : List (Option ℕ) → Option Job
+survey_with (Some span ∷ Some workers ∷ Some base ∷ Some width ∷ Some top ∷ []) =
+    Some (Survey span workers base width top)
+survey_with _ = None
+
 -- the width of parts of so many bits
 abbrev pub width_of : ℕ → Width
 width_of bits = if nat_eq bits 8 then Eight else Sixteen
@@ -151,6 +167,13 @@ follow_row = record {
   job = follow_with;
 }
 
+abbrev pub survey_row : CommandRow
+survey_row = record {
+  name = codes "survey";
+  options = span_row ∷ workers_row ∷ base_row ∷ width_row ∷ top_row ∷ [];
+  job = survey_with;
+}
+
 abbrev pub make_row : CommandRow
 make_row = record { name = codes "make"; options = bits_row ∷ []; job = make_with }
 
@@ -164,11 +187,12 @@ trial_row = record {
 abbrev pub command_row : Command → CommandRow
 command_row named.Find = find_row
 command_row named.Follow = follow_row
+command_row named.Survey = survey_row
 command_row named.Make = make_row
 command_row named.Trial = trial_row
 
 abbrev pub commands : List CommandRow
-commands = find_row ∷ follow_row ∷ make_row ∷ trial_row ∷ []
+commands = find_row ∷ follow_row ∷ survey_row ∷ make_row ∷ trial_row ∷ []
 
 -- ---- values
 
@@ -343,6 +367,16 @@ IsFingers fingers = (1 ≤ fingers) × (fingers ≤ 3)
 abbrev pub IsPaging : ℕ → Type 0
 IsPaging paging = (1 ≤ paging) × (paging ≤ 7)
 
+-- the base, the width and the number of ranks of a survey
+abbrev pub IsBase : ℕ → Type 0
+IsBase base = base < 32768
+
+abbrev pub IsWidth : ℕ → Type 0
+IsWidth width = width ≤ 31
+
+abbrev pub IsTop : ℕ → Type 0
+IsTop top = (1 ≤ top) × (top ≤ 512)
+
 -- the Walsh row of a traffic channel beside the sync channel and a paging channel
 pub record IsFreeRow (paging row : ℕ) : Type 0 where
   pub least : 1 ≤ row
@@ -361,5 +395,7 @@ IsLawfulJob (Find span workers) = IsSpan span × IsWorkers workers
 IsLawfulJob (Follow span workers fingers paging traffic limits) =
     IsSpan span × IsWorkers workers × IsFingers fingers × IsPaging paging
     × IsLawfulTraffic paging traffic
+IsLawfulJob (Survey span workers base width top) =
+    IsSpan span × IsWorkers workers × IsBase base × IsWidth width × IsTop top
 IsLawfulJob (Make width) = Unit {0}
 IsLawfulJob (Trial number workers) = (number < 2 ^ 64) × IsWorkers workers

@@ -5,11 +5,12 @@ ghost use Rattle.std.specs.Cmp.Lexicographic.{pointwise};
 ghost use Rattle.cdma_words.specs.Words.{IsAdmitted, IsLawfulJob, IsLawfulTraffic};
 ghost use Rattle.cdma_words.specs.Words.{command_row, commands, find_row, follow_row, is_free};
 ghost use Rattle.cdma_words.specs.Words.{job_with, limit_rows, limits_with, make_row};
-ghost use Rattle.cdma_words.specs.Words.{numbers_by, row_of, traffic_with, trial_row, width_of};
+ghost use Rattle.cdma_words.specs.Words.{numbers_by, row_of, survey_row, traffic_with, trial_row};
+ghost use Rattle.cdma_words.specs.Words.{width_of};
 
 use crate::grammar::{
-    BITS, FINGERS, FRAMES, Form, MESSAGES, NUMBER, OFFSET, OptionRule, PAGING, PILOTS, RAW, ROW,
-    SERIAL_NUMBER, SPAN, WORKERS,
+    BASE, BITS, FINGERS, FRAMES, Form, MESSAGES, NUMBER, OFFSET, OptionRule, PAGING, PILOTS, RAW,
+    ROW, SERIAL_NUMBER, SPAN, TOP, WIDTH, WORKERS,
 };
 use crate::job::{Job, TrafficOptions};
 use crate::texts::{Texts, number_by};
@@ -22,6 +23,8 @@ pub enum Command {
     Find,
     /// `follow`.
     Follow,
+    /// `survey`.
+    Survey,
     /// `make`.
     Make,
     /// `trial`.
@@ -46,6 +49,9 @@ static FOLLOW_OPTIONS: [OptionRule; 11] = [
     RAW,
 ];
 
+/// What `survey` takes.
+static SURVEY_OPTIONS: [OptionRule; 5] = [SPAN, WORKERS, BASE, WIDTH, TOP];
+
 /// What `make` takes.
 static MAKE_OPTIONS: [OptionRule; 1] = [BITS];
 
@@ -61,6 +67,7 @@ impl Command {
         match name {
             "find" => Some(Command::Find),
             "follow" => Some(Command::Follow),
+            "survey" => Some(Command::Survey),
             "make" => Some(Command::Make),
             "trial" => Some(Command::Trial),
             _ => None,
@@ -74,6 +81,7 @@ impl Command {
         match self {
             Command::Find => "find",
             Command::Follow => "follow",
+            Command::Survey => "survey",
             Command::Make => "make",
             Command::Trial => "trial",
         }
@@ -86,6 +94,7 @@ impl Command {
         match self {
             Command::Find => &FIND_OPTIONS,
             Command::Follow => &FOLLOW_OPTIONS,
+            Command::Survey => &SURVEY_OPTIONS,
             Command::Make => &MAKE_OPTIONS,
             Command::Trial => &TRIAL_OPTIONS,
         }
@@ -100,6 +109,7 @@ impl Command {
         match self {
             Command::Find => find_with(texts),
             Command::Follow => follow_with(texts),
+            Command::Survey => survey_with(texts),
             Command::Make => make_with(texts),
             Command::Trial => trial_with(texts),
         }
@@ -191,6 +201,25 @@ fn limits_with<T: Texts>(texts: &T) -> Option<[u32; 4]>
     let frames = number_by(texts, &FRAMES)?;
     let raw = number_by(texts, &RAW)?;
     Some([pilots as u32, messages as u32, frames as u32, raw as u32])
+}
+
+/// The job of `survey`.
+fn survey_with<T: Texts>(texts: &T) -> Option<Job>
+    ensures value { result ≡ job_with survey_row (T.text_at texts.now) }
+    ensures lawful { IfSome result IsLawfulJob }
+{
+    let span = number_by(texts, &SPAN)?;
+    let workers = number_by(texts, &WORKERS)?;
+    let base = number_by(texts, &BASE)?;
+    let width = number_by(texts, &WIDTH)?;
+    let top = number_by(texts, &TOP)?;
+    Some(Job::Survey {
+        span: span as u16,
+        workers: workers as u8,
+        base: base as u16,
+        width: width as u8,
+        top: top as u16,
+    })
 }
 
 /// The job of `make`.

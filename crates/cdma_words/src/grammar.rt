@@ -167,6 +167,33 @@ pub const RAW: OptionRule = OptionRule {
     default: Some(0),
 };
 
+/// `--base`: the phase of the pilot of offset 0.
+pub const BASE: OptionRule = OptionRule {
+    name: "base",
+    form: Form::Between {
+        least: 0,
+        most: 32767,
+    },
+    default: Some(0),
+};
+
+/// `--width`: how many chips round its own phase each pilot is measured.
+pub const WIDTH: OptionRule = OptionRule {
+    name: "width",
+    form: Form::Between { least: 0, most: 31 },
+    default: Some(10),
+};
+
+/// `--top`: how many ranks are written.
+pub const TOP: OptionRule = OptionRule {
+    name: "top",
+    form: Form::Between {
+        least: 1,
+        most: 512,
+    },
+    default: Some(512),
+};
+
 /// `--bits`: how wide the parts of samples are.
 pub const BITS: OptionRule = OptionRule {
     name: "bits",

@@ -35,6 +35,19 @@ pub enum Job {
         /// How many events are told in each form: pilots, messages, frames, and raw capsules.
         limits: [u32; 4],
     },
+    /// `survey`: how strong each pilot is.
+    Survey {
+        /// In how many samples the pilots are measured, 64 to 32,768.
+        span: u16,
+        /// How many workers measure, 1 to 64.
+        workers: u8,
+        /// The phase of the pilot of offset 0, below 32,768.
+        base: u16,
+        /// How many chips round its own phase each pilot is measured, at most 31.
+        width: u8,
+        /// How many ranks are written, 1 to 512.
+        top: u16,
+    },
     /// `make`: the samples of a script's cell.
     Make {
         /// How wide the parts of the samples are.
@@ -78,8 +91,10 @@ pub enum WordFault {
 /// is else 1, and four limits of 0 to 4,294,967,295: `--pilots`, `--messages` and `--frames`,
 /// which are else the greatest, and `--raw`, which is else 0; and for a traffic channel `--esn`
 /// and `--row`, 1 to 63, both or neither, and with them `--offset`, 0 to 15, which is else 0. The
-/// row is neither 32 nor the paging channel's number. `make` takes `--bits`, 8 or 16, which is else
-/// 16. `trial` takes `--number`, 0 to 2^64 - 1, which must be given, and `--workers`.
+/// row is neither 32 nor the paging channel's number. `survey` takes `--span` and `--workers`,
+/// `--base`, 0 to 32,767, which is else 0, `--width`, 0 to 31, which is else 10, and `--top`, 1 to
+/// 512, which is else 512. `make` takes `--bits`, 8 or 16, which is else 16. `trial` takes
+/// `--number`, 0 to 2^64 - 1, which must be given, and `--workers`.
 ///
 /// All other words are `Bad`, whatever memory there is.
 pub fn words_of(alloc: Global, words: &[String]) -> Result<Job, WordFault>

@@ -227,6 +227,62 @@ fn takes_the_number_of_a_trial(rt: HostRuntime) -> Result<(), Fail> {
 }
 
 #[test]
+fn takes_the_options_of_a_survey(rt: HostRuntime) -> Result<(), Fail> {
+    for (line, span, workers, base, width, top) in [
+        ("survey", 2048, 4, 0, 10, 512),
+        (
+            "survey --base=32767 --width 31 --top 1",
+            2048,
+            4,
+            32767,
+            31,
+            1,
+        ),
+        (
+            "survey --top=512 --width=0 --base 00 --workers 64 --span 64",
+            64,
+            64,
+            0,
+            0,
+            512,
+        ),
+    ] {
+        assert_eq!(rt;
+            read(rt.alloc(), line)?,
+            Ok(Job::Survey {
+                span,
+                workers,
+                base,
+                width,
+                top,
+            }),
+            "{line}"
+        );
+    }
+    for line in [
+        "survey --base 32768",
+        "survey --base -1",
+        "survey --base=",
+        "survey --width 32",
+        "survey --width a",
+        "survey --top 0",
+        "survey --top 513",
+        "survey --top 1 --top 1",
+        "survey --span 63",
+        "survey --fingers 1",
+        "survey --pilots 1",
+        "find --base 0",
+        "find --top 1",
+        "follow --width 10",
+        "trial --number 1 --top 1",
+        "surveys",
+    ] {
+        assert_eq!(rt; read(rt.alloc(), line)?, Err(WordFault::Bad), "{line}");
+    }
+    Ok(())
+}
+
+#[test]
 fn refuses_no_words(rt: HostRuntime) -> Result<(), Fail> {
     let words: Vec<String> = Vec::new(rt.alloc());
     assert_eq!(rt; words_of(rt.alloc(), words.as_slice()), Err(WordFault::Bad));

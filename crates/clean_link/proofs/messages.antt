@@ -1,3 +1,4 @@
 -- The messages of all channels.
 pub mod EventPlaces
 pub mod MessagesBack
+pub mod NoDirections

@@ -23,17 +23,58 @@ use Rattle.base_modulator.specs.Sendings.{message_of, superframes_a_sending}
 use Rattle.base_modulator.specs.Transmitter.{phase_at}
 use Rattle.base_modulator.specs.declared.plan.CellPlan.{CellPlan}
 use Rattle.base_modulator.specs.declared.plan.SyncPlan.{SyncPlan}
+use Rattle.traffic_message.specs.declared.body.TrafficBody.{TrafficBody}
+use Rattle.traffic_message.specs.declared.body.TrafficBody.TheVariants as bodies
+use Rattle.mobile_core.specs.Events.{events}
 use Rattle.mobile_core.specs.Tuning.{Tuning}
 use Rattle.mobile_core.specs.declared.event.Event.{Event}
-use Rattle.mobile_core.specs.declared.event.Event.TheVariants.{Sync}
+use Rattle.mobile_core.specs.declared.event.Event.TheVariants.{Frame, Paging, Pilot, Sets, Sync}
+use Rattle.mobile_core.specs.declared.event.Event.TheVariants.{Traffic as OnTraffic}
 use Rattle.mobile_core.specs.declared.mark.Mark.{Mark}
+use Rattle.mobile_core.specs.declared.settings.Traffic.{Traffic}
+
+-- ---- handoff
+
+-- a message of a traffic channel that isn't an Extended Handoff Direction Message, or is one that
+-- is kept as it is (TIA/EIA-95-B, 7.7.3.3)
+abbrev pub IsNoDirection : TrafficBody → Type 0
+IsNoDirection (bodies.System f) = Unit {0}
+IsNoDirection (bodies.Neighbors f) = Unit {0}
+IsNoDirection (bodies.Handoff f) = ⊥
+IsNoDirection (bodies.Other kind bits) = Unit {0}
+
+-- an event that isn't such a direction
+abbrev pub IsNotDirected : Event → Type 0
+IsNotDirected (Pilot phase energy) = Unit {0}
+IsNotDirected (Sync n capsule message) = Unit {0}
+IsNotDirected (Paging n capsule message) = Unit {0}
+IsNotDirected (Frame n rate good bits commands) = Unit {0}
+IsNotDirected (OnTraffic n capsule message) = IsNoDirection message.body
+IsNotDirected (Sets n time active candidate report) = Unit {0}
+
+-- ---- the link
+
+-- a handset with one finger, which lies on the cell's path, that follows a paging channel, and a
+-- traffic channel or none
+abbrev pub tuning_to : CellPlan → ℕ → Option Traffic → Tuning
+tuning_to plan paging traffic = record {
+  count = plan.link.samples;
+  phase = phase_at plan plan.link.start;
+  deltas = pos 0 ∷ [];
+  check30 = plan.cell.check30;
+  check16 = plan.cell.check16;
+  paging = paging;
+  traffic = traffic;
+}
 
 -- A file is a clean link of a script's cell: its flags and samples are the cell's, the search finds
--- the cell's path, there is one finger, and no traffic channel has the row of the paging channel
--- that is followed. The link's delay is in the chip at which the file starts, its rotation and
+-- the cell's path, there is one finger, no traffic channel has the row of the paging channel that
+-- is followed, and no message that is heard of the traffic channel that is followed, if any,
+-- directs a handoff. The link's delay is in the chip at which the file starts, its rotation and
 -- strength are in the factor.
 pub record IsCleanLink (width : Width) (script : List ℕ) (plan : CellPlan) (span : ℕ)
-    (fingers paging : ℕ) (header : Header) (samples : List Sample) : Type 0 where
+    (fingers paging : ℕ) (traffic : Option Traffic) (header : Header)
+    (samples : List Sample) : Type 0 where
   pub named : plan_named width script ≡ Ok plan
   pub sent : samples ≡ made_samples plan
   pub checks_of_30 : header.check30 ≡ plan.cell.check30
@@ -41,6 +82,7 @@ pub record IsCleanLink (width : Width) (script : List ℕ) (plan : CellPlan) (sp
   pub found : best_phase (take span samples) ≡ phase_at plan plan.link.start
   pub alone : fingers ≡ 1
   pub free : IsFreeOf plan.traffic paging
+  pub undirected : All IsNotDirected (events (tuning_to plan paging traffic) samples)
 
 -- a lawful cell, with a link, whose pages are messages that half-frames carry
 pub record IsReceivable (width : Width) (plan : CellPlan) : Type 0 where

@@ -8,7 +8,8 @@ use Rattle.base_modulator.specs.declared.plan.CellPlan.{CellPlan}
 use Rattle.base_modulator.specs.declared.traffic_frame.TrafficFrame.{TrafficFrame}
 use Rattle.mobile_core.specs.Given.{at_of}
 use Rattle.mobile_core.specs.declared.event.Event.{Event}
-use Rattle.mobile_core.specs.declared.event.Event.TheVariants.{Frame, Paging, Pilot, Sync, Traffic}
+use Rattle.mobile_core.specs.declared.event.Event.TheVariants.{Frame, Paging, Pilot, Sets, Sync}
+use Rattle.mobile_core.specs.declared.event.Event.TheVariants.{Traffic}
 use Rattle.clean_link.specs.HeardFrames.{frames_sent, sent_commands}
 
 -- two frames, whose power control bits tell a handset to raise its power, and to lower it
@@ -55,6 +56,7 @@ bits_in (Sync n capsule message) = 0
 bits_in (Paging n capsule message) = 0
 bits_in (Frame n rate good bits commands) = length bits
 bits_in (Traffic n capsule message) = 0
+bits_in (Sets n time active candidate report) = 0
 
 -- when the frames behind superframe 8 end, and how many information bits they have
 heard : CellPlan → ℕ → List (ℕ × ℕ)

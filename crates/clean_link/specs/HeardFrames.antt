@@ -14,8 +14,10 @@ use Rattle.base_modulator.specs.TrafficFrames.{cycled_frame, frame_state}
 use Rattle.base_modulator.specs.declared.plan.CellPlan.{CellPlan}
 use Rattle.base_modulator.specs.declared.plan.TrafficPlan.{TrafficPlan}
 use Rattle.base_modulator.specs.declared.traffic_frame.TrafficFrame.{TrafficFrame}
+use Rattle.rake_finger.specs.declared.finger.Finger.{Finger}
 use Rattle.mobile_core.specs.declared.event.Event.{Event}
 use Rattle.mobile_core.specs.declared.event.Event.TheVariants.{Frame}
+use Rattle.mobile_core.specs.declared.legs.Leg.{Leg}
 use Rattle.mobile_core.specs.declared.settings.Traffic.{Traffic}
 use Rattle.clean_link.specs.HeardPages.{end_chip}
 
@@ -26,6 +28,13 @@ pub record IsAssigned (p : TrafficPlan) (traffic : Traffic) : Type 0 where
   pub row : p.row ≡ traffic.row
   pub esn : p.esn ≡ traffic.esn
   pub offset : p.offset ≡ traffic.offset
+
+-- The pilots that a frame is heard from are the reference's alone, with the channel's row: it has
+-- all of the handset's fingers, and the one power control subchannel.
+pub record IsOnePilot (traffic : Traffic) (legs : List Leg) : Type 0 where
+  pub finger : Finger
+  pub row : finger.row ≡ traffic.row
+  pub alone : legs ≡ record { reference = true; finger = finger; subchannel = 0 } ∷ []
 
 -- ---- what a frame sends
 

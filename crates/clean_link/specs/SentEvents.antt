@@ -1,6 +1,6 @@
 -- All that a handset hears of a clean link's cell, in the order in which it is known.
 use Rattle.std.specs.Prelude.{ℕ, ◌+◌, ◌*◌, ◌==◌, ◌≡◌, Bool, if◌then◌else◌, nat_lt, List, [], ◌∷◌}
-use Rattle.std.specs.Prelude.{◌++◌, map, filter, Option, None, Some}
+use Rattle.std.specs.Prelude.{◌++◌, map, filter, All, Option, None, Some}
 use Rattle.std.specs.List.{Contains, flat_map}
 use Rattle.chip_core.specs.Bits.{places}
 use Rattle.cdma_io.specs.declared.width.Width.{Width}
@@ -10,13 +10,14 @@ use Rattle.base_modulator.specs.Sendings.{told_superframes}
 use Rattle.base_modulator.specs.declared.plan.CellPlan.{CellPlan}
 use Rattle.base_modulator.specs.declared.plan.SyncPlan.{SyncPlan}
 use Rattle.base_modulator.specs.declared.plan.TrafficPlan.{TrafficPlan}
-use Rattle.mobile_core.specs.Events.{events}
+use Rattle.mobile_core.specs.Events.{events, sets_events_at}
 use Rattle.mobile_core.specs.Given.{at_of}
 use Rattle.mobile_core.specs.Tuning.{Tuning}
 use Rattle.mobile_core.specs.declared.event.Event.{Event}
 use Rattle.mobile_core.specs.declared.event.Event.TheVariants.{Paging}
 use Rattle.mobile_core.specs.declared.settings.Traffic.{Traffic}
-use Rattle.clean_link.specs.CleanLink.{IsReceivable, IsTunedTo, sync_sent, whole_sendings}
+use Rattle.clean_link.specs.CleanLink.{IsNotDirected, IsReceivable, IsTunedTo, sync_sent}
+use Rattle.clean_link.specs.CleanLink.{tuning_to, whole_sendings}
 use Rattle.clean_link.specs.HeardFrames.{frames_sent, AreDistinct, IsAssigned}
 use Rattle.clean_link.specs.HeardPages.{KnownPage, pages_sent}
 use Rattle.clean_link.specs.HeardSignals.{messages_sent}
@@ -88,6 +89,15 @@ abbrev pub FollowsSent : CellPlan → Option Traffic → Type 0
 FollowsSent plan None = Unit {0}
 FollowsSent plan (Some traffic) = (p : TrafficPlan) × IsFollowed plan traffic p
 
+-- ---- the pilot sets
+
+-- Those of the pilot sets are those of the handset's definition, at each number of samples: the
+-- strengths that it measures are as the cell's samples show them.
+unfoldable pub sets_heard : CellPlan → ℕ → Option Traffic → List Event
+sets_heard plan channel followed =
+    flat_map (sets_events_at (tuning_to plan channel followed) (made_samples plan))
+    (places (plan.link.samples + 1))
+
 -- ---- all channels
 
 abbrev pub is_at : ℕ → Event → Bool
@@ -99,19 +109,29 @@ abbrev pub by_places : ℕ → List Event → List Event → List Event
 by_places count one other =
     flat_map (λ n. filter (is_at n) one ++ filter (is_at n) other) (places (count + 1))
 
--- the whole sendings, the whole pages of a paging channel, and the frames of the traffic channel
--- that is followed with the messages that they complete
+-- the whole sendings, the whole pages of a paging channel, the frames of the traffic channel that
+-- is followed with the messages that they complete, and the events of its pilot sets
 unfoldable pub sent_events : CellPlan → ℕ → Option Traffic → List Event
 sent_events plan channel followed =
     let count = plan.link.samples in
     by_places count (sync_sent plan)
     (by_places count (paging_sent plan channel)
-    (by_places count (traffic_sent plan followed) (signaling_sent plan followed)))
+    (by_places count (traffic_sent plan followed)
+    (by_places count (signaling_sent plan followed) (sets_heard plan channel followed))))
 
--- ---- the law
+-- ---- the laws
 
--- A handset hears just these, in this order.
+-- No event directs a handoff where none of the messages does that the followed channel is sent, so
+-- where no channel is followed.
+abbrev pub NoEventIsDirected : Type 0
+NoEventIsDirected = (width : Width) (plan : CellPlan) (t : Tuning) →
+    IsReceivable width plan → IsTunedTo plan t → FollowsSent plan t.traffic →
+    All IsNotDirected (signaling_sent plan t.traffic) →
+    All IsNotDirected (events t (made_samples plan))
+
+-- Where no handoff is directed, a handset hears just these, in this order.
 abbrev pub WholeMessagesComeBack : Type 0
 WholeMessagesComeBack = (width : Width) (plan : CellPlan) (t : Tuning) →
     IsReceivable width plan → IsTunedTo plan t → FollowsSent plan t.traffic →
+    All IsNotDirected (events t (made_samples plan)) →
     events t (made_samples plan) ≡ sent_events plan t.paging t.traffic

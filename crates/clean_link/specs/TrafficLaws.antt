@@ -1,7 +1,9 @@
 -- What a clean link gives back of a traffic channel, behind a true mark.
-use Rattle.std.specs.Prelude.{ℕ, ◌+◌, ◌-◌, ◌*◌, ◌<◌, ◌≡◌, true, [], ◌∷◌, length, map, pos}
+use Rattle.std.specs.Prelude.{ℕ, ◌+◌, ◌-◌, ◌*◌, ◌<◌, ◌≤◌, ◌≡◌, true, List, [], ◌∷◌, length, map}
+use Rattle.std.specs.Prelude.{pos, All}
 use Rattle.std.specs.List.{Contains, flat_map}
 use Rattle.chip_core.specs.Bits.{places}
+use Rattle.chip_core.specs.declared.sample.Sample.{Sample}
 use Rattle.cdma_io.specs.declared.width.Width.{Width}
 use Rattle.frame_decoder.specs.Laws.{kept_count, ShowSymbols}
 use Rattle.rake_finger.specs.declared.form.Form.TheVariants.{Data}
@@ -11,18 +13,19 @@ use Rattle.base_modulator.specs.TrafficFrames.{cycled_frame}
 use Rattle.base_modulator.specs.declared.plan.CellPlan.{CellPlan}
 use Rattle.base_modulator.specs.declared.plan.TrafficPlan.{TrafficPlan}
 use Rattle.base_modulator.specs.declared.traffic_frame.TrafficFrame.{TrafficFrame}
-use Rattle.mobile_core.specs.Signaling.{messages_at}
-use Rattle.mobile_core.specs.Streams.{frame_softs, is_in_file}
-use Rattle.mobile_core.specs.TrafficEvents.{commands_at, decoded_at, frame_heard, frames_at}
-use Rattle.mobile_core.specs.TrafficEvents.{unturned_softs}
-use Rattle.mobile_core.specs.TrafficStreams.{replaced_in, traffic_stream}
+use Rattle.mobile_core.specs.Moments.{frames_at, legs_at, messages_at}
+use Rattle.mobile_core.specs.Streams.{frame_softs}
+use Rattle.mobile_core.specs.TrafficEvents.{commands_at, decoded_at, frame_heard, unturned_softs}
+use Rattle.mobile_core.specs.TrafficStreams.{has_frame, replaced_in, stream_of}
 use Rattle.mobile_core.specs.Tuning.{Tuning}
+use Rattle.mobile_core.specs.declared.legs.Leg.{Leg}
 use Rattle.mobile_core.specs.declared.mark.Mark.{Mark}
 use Rattle.mobile_core.specs.declared.settings.Traffic.{Traffic}
-use Rattle.clean_link.specs.CleanLink.{IsReceivable, IsTrueMark, IsTunedTo, soft_strength}
+use Rattle.clean_link.specs.CleanLink.{IsNotDirected, IsReceivable, IsTrueMark, IsTunedTo}
+use Rattle.clean_link.specs.CleanLink.{soft_strength}
 use Rattle.clean_link.specs.HeardFrames.{frame_ends, frames_of_channel, received_frames}
 use Rattle.clean_link.specs.HeardFrames.{sent_commands, word_symbols, AreDistinct, IsAssigned}
-use Rattle.clean_link.specs.HeardFrames.{IsDistinctFrame, ShowCommands}
+use Rattle.clean_link.specs.HeardFrames.{IsDistinctFrame, IsOnePilot, ShowCommands}
 use Rattle.clean_link.specs.HeardSignals.{messages_of_channel}
 
 -- A handset behind a true mark, which was assigned a traffic channel that the cell sends.
@@ -34,12 +37,27 @@ pub record HearsTraffic (width : Width) (plan : CellPlan) (p : TrafficPlan) (t :
   pub tuned : IsTunedTo plan t
   pub marked : IsTrueMark plan m superframes
 
--- Frame k behind the mark lies in the file, and is this one, which the channel sends k frames
--- behind the first that begins at the mark's superframe or later: each superframe has four.
+-- Frame k behind the mark is heard from the reference's pilot alone, lies in the file, and is this
+-- one, which the channel sends k frames behind the first that begins at the mark's superframe or
+-- later: each superframe has four.
 pub record IsHeardAs (plan : CellPlan) (p : TrafficPlan) (t : Tuning) (traffic : Traffic)
-    (m : Mark) (superframes k : ℕ) (f : TrafficFrame) : Type 0 where
-  pub here : is_in_file t.count (traffic_stream t traffic m) k ≡ true
+    (m : Mark) (legs : ℕ → List Leg) (superframes k : ℕ) (f : TrafficFrame) : Type 0 where
+  pub pilot : IsOnePilot traffic (legs k)
+  pub here : has_frame t traffic m legs k ≡ true
   pub frame : cycled_frame (frames_of plan p) (4 * superframes + k) ≡ f ∷ []
+
+-- ---- handoff
+
+-- no message that is heard of the channel within so many samples directs a handoff
+abbrev pub IsUndirected : Tuning → Traffic → Mark → List Sample → ℕ → Type 0
+IsUndirected t traffic m samples n =
+    (i : ℕ) → i ≤ n → All IsNotDirected (messages_at t traffic m samples i)
+
+-- Where that is so of any file, each frame is heard from the reference's pilot alone: a direction
+-- never waits, and all else that is heard leaves the active set.
+abbrev pub OnePilotIsHeard : Type 0
+OnePilotIsHeard = (t : Tuning) (traffic : Traffic) (m : Mark) (samples : List Sample) (n k : ℕ) →
+    IsUndirected t traffic m samples n → IsOnePilot traffic (legs_at t traffic m samples n k)
 
 -- ---- soft values
 
@@ -48,34 +66,34 @@ pub record IsHeardAs (plan : CellPlan) (p : TrafficPlan) (t : Tuning) (traffic :
 -- others, unturned, they are that number times the signs of the power control bits.
 abbrev pub TrafficHaveSentSigns : Type 0
 TrafficHaveSentSigns = (width : Width) (plan : CellPlan) (p : TrafficPlan) (t : Tuning)
-    (traffic : Traffic) (m : Mark) (superframes k : ℕ) (f : TrafficFrame) →
+    (traffic : Traffic) (m : Mark) (legs : ℕ → List Leg) (superframes k : ℕ) (f : TrafficFrame) →
     HearsTraffic width plan p t traffic m superframes →
-    IsHeardAs plan p t traffic m superframes k f →
+    IsHeardAs plan p t traffic m legs superframes k f →
     (0 < soft_strength plan Data p.gain)
     × ShowSymbols (replaced_in traffic m k) (soft_strength plan Data p.gain) (word_symbols f)
-    (frame_softs (made_samples plan) (traffic_stream t traffic m) k)
+    (frame_softs (made_samples plan) (stream_of t traffic m legs k) k)
     × ShowCommands (replaced_in traffic m k) (soft_strength plan Data p.gain) f.commands
-    (unturned_softs t traffic m (made_samples plan) k)
+    (unturned_softs t traffic m legs (made_samples plan) k)
 
 -- ---- frames
 
 -- So its power control bits are the ones that were sent,
 abbrev pub CommandsComeBack : Type 0
 CommandsComeBack = (width : Width) (plan : CellPlan) (p : TrafficPlan) (t : Tuning)
-    (traffic : Traffic) (m : Mark) (superframes k : ℕ) (f : TrafficFrame) →
+    (traffic : Traffic) (m : Mark) (legs : ℕ → List Leg) (superframes k : ℕ) (f : TrafficFrame) →
     HearsTraffic width plan p t traffic m superframes →
-    IsHeardAs plan p t traffic m superframes k f →
-    commands_at t traffic m (made_samples plan) k ≡ sent_commands f
+    IsHeardAs plan p t traffic m legs superframes k f →
+    commands_at t traffic m legs (made_samples plan) k ≡ sent_commands f
 
 -- and where no other word shares its symbols, it is decoded with its rate and its information bits,
 -- and is good.
 abbrev pub TrafficFramesComeBack : Type 0
 TrafficFramesComeBack = (width : Width) (plan : CellPlan) (p : TrafficPlan) (t : Tuning)
-    (traffic : Traffic) (m : Mark) (superframes k : ℕ) (f : TrafficFrame) →
+    (traffic : Traffic) (m : Mark) (legs : ℕ → List Leg) (superframes k : ℕ) (f : TrafficFrame) →
     HearsTraffic width plan p t traffic m superframes →
-    IsHeardAs plan p t traffic m superframes k f →
+    IsHeardAs plan p t traffic m legs superframes k f →
     IsDistinctFrame (replaced_in traffic m k) f →
-    decoded_at t traffic m (made_samples plan) k ≡ record {
+    decoded_at t traffic m legs (made_samples plan) k ≡ record {
       rate = f.rate;
       good = true;
       bits = f.information;
@@ -88,14 +106,17 @@ SixteenCommandsAreSent = (f : TrafficFrame) → length f.commands ≡ 16 → sen
 
 -- ---- in a file
 
--- There is one event for each frame of the channel that begins at the mark or behind it and lies in
--- the file, at the frame's own end, in order.
+-- Where no handoff is directed there is one event for each frame of the channel that begins at the
+-- mark or behind it and lies in the file, at the frame's own end, in order. It is what any pilots
+-- tell of whom the reference's is the only one.
 abbrev pub EachFrameIsHeard : Type 0
 EachFrameIsHeard = (width : Width) (plan : CellPlan) (p : TrafficPlan) (t : Tuning)
-    (traffic : Traffic) (m : Mark) (superframes : ℕ) →
+    (traffic : Traffic) (m : Mark) (superframes : ℕ) (legs : ℕ → List Leg) →
     HearsTraffic width plan p t traffic m superframes →
+    IsUndirected t traffic m (made_samples plan) plan.link.samples →
+    ((k : ℕ) → IsOnePilot traffic (legs k)) →
     flat_map (frames_at t traffic m (made_samples plan)) (places (plan.link.samples + 1)) ≡
-    map (λ frame. frame_heard t traffic m (made_samples plan) (frame_ends plan p frame)
+    map (λ frame. frame_heard t traffic m legs (made_samples plan) (frame_ends plan p frame)
     (frame - 4 * superframes))
     (received_frames plan p (plan.link.start + m.sample))
 
@@ -104,6 +125,7 @@ abbrev pub SentFramesComeBack : Type 0
 SentFramesComeBack = (width : Width) (plan : CellPlan) (p : TrafficPlan) (t : Tuning)
     (traffic : Traffic) (m : Mark) (superframes : ℕ) →
     HearsTraffic width plan p t traffic m superframes →
+    IsUndirected t traffic m (made_samples plan) plan.link.samples →
     AreDistinct plan p (plan.link.start + m.sample) →
     flat_map (frames_at t traffic m (made_samples plan)) (places (plan.link.samples + 1)) ≡
     frames_of_channel plan p (plan.link.start + m.sample)
@@ -113,6 +135,17 @@ abbrev pub SentMessagesComeBack : Type 0
 SentMessagesComeBack = (width : Width) (plan : CellPlan) (p : TrafficPlan) (t : Tuning)
     (traffic : Traffic) (m : Mark) (superframes : ℕ) →
     HearsTraffic width plan p t traffic m superframes →
+    IsUndirected t traffic m (made_samples plan) plan.link.samples →
     AreDistinct plan p (plan.link.start + m.sample) →
     flat_map (messages_at t traffic m (made_samples plan)) (places (plan.link.samples + 1)) ≡
     messages_of_channel plan p (plan.link.start + m.sample)
+
+-- Nor is a handoff directed, where each of these is distinct, and where no message directs one that
+-- the signaling in these frames spells, as they are sent.
+abbrev pub NoneIsDirected : Type 0
+NoneIsDirected = (width : Width) (plan : CellPlan) (p : TrafficPlan) (t : Tuning)
+    (traffic : Traffic) (m : Mark) (superframes : ℕ) →
+    HearsTraffic width plan p t traffic m superframes →
+    AreDistinct plan p (plan.link.start + m.sample) →
+    All IsNotDirected (messages_of_channel plan p (plan.link.start + m.sample)) →
+    IsUndirected t traffic m (made_samples plan) plan.link.samples

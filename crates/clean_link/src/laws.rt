@@ -15,8 +15,9 @@ ghost use Rattle.clean_link.specs.PagingLaws.{MarksTellTheRate, PagingFramesCome
 ghost use Rattle.clean_link.specs.PagingLaws.{PagingHaveSentSigns, PagingWordsAreTheOnlyBest};
 ghost use Rattle.clean_link.specs.PagingLaws.{SilentPagingFramesAreZeros, SilentPagingIsZero};
 ghost use Rattle.clean_link.specs.PagingLaws.{UnmarkedWithoutSync};
-ghost use Rattle.clean_link.specs.SentEvents.{WholeMessagesComeBack};
+ghost use Rattle.clean_link.specs.SentEvents.{NoEventIsDirected, WholeMessagesComeBack};
 ghost use Rattle.clean_link.specs.TrafficLaws.{CommandsComeBack, EachFrameIsHeard};
+ghost use Rattle.clean_link.specs.TrafficLaws.{NoneIsDirected, OnePilotIsHeard};
 ghost use Rattle.clean_link.specs.TrafficLaws.{SentFramesComeBack, SentMessagesComeBack};
 ghost use Rattle.clean_link.specs.TrafficLaws.{SixteenCommandsAreSent};
 ghost use Rattle.clean_link.specs.TrafficLaws.{TrafficFramesComeBack, TrafficHaveSentSigns};
@@ -83,14 +84,19 @@ pub fn whole_pages_come_back()
     ensures heard { PagesComeBack }
 {}
 
-/// On a clean link the soft values of each received frame of a traffic channel are
-/// `4 |h|^2 g0 g V C` times the signs of its symbols and of its power control bits, where V is 1,536
-/// and C 64. So its power control bits come back, and where no other word of any rate shares its
-/// symbols at the places that they leave, its rate and its information bits, as a good frame. Behind
-/// a mark there is one event for each frame that begins there or later and lies in the file, at the
-/// frame's own end. Where each of these is distinct, the messages are those that the capsules in
-/// their signaling spell, each at the end of the frame with its capsule's last bit.
+/// Where no message that is heard of a traffic channel directs a handoff, each of its frames is
+/// heard from the reference's pilot alone, with the row that the handset was assigned, in any file.
+///
+/// On a clean link the soft values of each frame that is heard so are `4 |h|^2 g0 g V C` times the
+/// signs of its symbols and of its power control bits, where V is 1,536 and C 64. So its power
+/// control bits come back, and where no other word of any rate shares its symbols at the places
+/// that they leave, its rate and its information bits, as a good frame. In a file without a
+/// direction there is one event behind a mark for each frame that begins there or later and lies in
+/// the file, at the frame's own end. Where each of these is distinct, the messages are those that
+/// the capsules in their signaling spell, each at the end of the frame with its capsule's last bit.
+/// Then none is heard that directs a handoff where none is sent.
 pub fn traffic_frames_come_back()
+    ensures pilot { OnePilotIsHeard }
     ensures signs { TrafficHaveSentSigns }
     ensures commands { CommandsComeBack }
     ensures sixteen { SixteenCommandsAreSent }
@@ -98,15 +104,19 @@ pub fn traffic_frames_come_back()
     ensures each { EachFrameIsHeard }
     ensures sent { SentFramesComeBack }
     ensures messages { SentMessagesComeBack }
+    ensures undirected { NoneIsDirected }
 {}
 
-/// A handset hears the whole sendings, the whole pages of the paging channel that it follows, and
-/// the frames of the traffic channel that it follows with the messages in their signaling, where it
-/// follows one and each of these frames is distinct, in the order in which they are known, and
-/// nothing else. Of what is known at one number of samples, sendings come first, then pages, then
-/// the frame, and the message that it completes last.
+/// Where no handoff is directed, a handset hears the whole sendings, the whole pages of the paging
+/// channel that it follows, and the frames of the traffic channel that it follows with the messages
+/// in their signaling, where it follows one and each of these frames is distinct, and the events of
+/// its pilot sets, in the order in which they are known, and nothing else. Of what is known at one
+/// number of samples, sendings come first, then pages, the frame, the message that it completes,
+/// and the event of the pilot sets last. No handoff is directed where no message that the followed
+/// channel is sent directs one, or none is followed.
 pub fn whole_messages_come_back()
-    ensures { WholeMessagesComeBack }
+    ensures undirected { NoEventIsDirected }
+    ensures heard { WholeMessagesComeBack }
 {}
 
 /// A frame of 9,600 bits a second is distinct where the code symbols that power control bits leave

@@ -1,7 +1,7 @@
 -- Lemmas on what lines of messages have in common: items joined by commas, values behind their
 -- names, and the text of few bits.
 use Rattle.std.proofs.Common.{◌≡◌, ℕ, zero, suc, ◌+◌, ◌^◌, ◌<◌, ◌≤◌, ◌&&◌, nat_lt, Bool, true}
-use Rattle.std.proofs.Common.{All, List, [], ◌∷◌, ◌++◌, length, get_or, map, take, drop, codes}
+use Rattle.std.proofs.Common.{All, List, [], ◌∷◌, Some, slice_get, ◌++◌, length, get_or, map, take, drop, codes}
 use Rattle.std.proofs.Common.{decimal, refl, sym, ap, ◌∙◌, arith, rules, append_assoc, append-nil}
 use Rattle.std.proofs.Common.{length-append}
 use Rattle.std.specs.List.{list_all}
@@ -9,6 +9,7 @@ use Rattle.std.specs.Str.{IsAscii}
 use Rattle.std.proofs.lemmas.Bool.{and_parts}
 use Rattle.std.proofs.lemmas.Fmt.{length-decimal-le}
 use Rattle.std.proofs.lemmas.List.{map-append, take_more, flat_map_more}
+use Rattle.std.proofs.lemmas.Option.{get_or_from_slice_get, slice_get_within}
 use Rattle.std.proofs.lemmas.List.Sums.{AllPass-from_list_all}
 use Rattle.std.proofs.lemmas.Str.Ascii.{IsAscii-from_all}
 use Rattle.hex.specs.Hex.{encode_lower, lower_digits}
@@ -53,6 +54,15 @@ pub decimals-more : (numbers : List ℕ) (i : ℕ) → i < length numbers →
 decimals-more numbers i within =
     ap (map decimal) (take_more numbers i 0 within)
     ∙ map-append decimal (take i numbers) (get_or numbers i 0 ∷ [])
+
+-- one item more of a list that a call gave
+pub items-more : {X : Type 0} (text : X → List ℕ) (xs : List X) (i : ℕ) (x : X) →
+    slice_get xs i ≡ Some x →
+    map text (take (i + 1) xs) ≡ map text (take i xs) ++ text x ∷ []
+items-more text xs i x is =
+    ap (map text) (take_more xs i x (slice_get_within xs i x is))
+    ∙ map-append text (take i xs) (get_or xs i x ∷ [])
+    ∙ ap (λ y. map text (take i xs) ++ text y ∷ []) (get_or_from_slice_get xs i x x is)
 
 -- numbers of fields of one width
 pub fields-below : (width : ℕ) (numbers : List ℕ) → FieldsFit (map (field width) numbers) →

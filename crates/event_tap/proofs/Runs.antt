@@ -5,7 +5,7 @@ use Rattle.std.proofs.Common.{length, take, Option, None, Some, refl, sym, ap, �
 use Rattle.std.proofs.Common.{rules, append_assoc, append-nil}
 use Rattle.std.proofs.lemmas.List.Elements.{All-append, All-cons, All-nil, All-head, All-tail}
 use Rattle.mobile_core.specs.declared.event.Event.{Event}
-use Rattle.mobile_core.specs.declared.event.Event.TheVariants.{Pilot, Sync, Paging, Frame, Traffic}
+use Rattle.mobile_core.specs.declared.event.Event.TheVariants.{Pilot, Sync, Paging, Frame, Traffic, Sets}
 use Rattle.event_tap.specs.EventLines.{event_line, text_of}
 use Rattle.event_tap.specs.Taps.{IsKept, KeptTap, form_line, form_lines, heard_text, joined}
 use Rattle.event_tap.specs.Taps.{kept_by, kept_with, left_behind, line_text, line_list, run_taps}
@@ -162,6 +162,8 @@ plain_heard pilots messages frames (Frame place rate good bits commands) =
     append-nil (event_line (Frame place rate good bits commands))
 plain_heard pilots messages frames (Traffic place capsule message) =
     append-nil (event_line (Traffic place capsule message))
+plain_heard pilots messages frames (Sets place time active candidate report) =
+    append-nil (event_line (Sets place time active candidate report))
 
 left_behind-least : (line : Option (List ℕ)) (left more : ℕ) → more + 1 < left →
     more < left_behind line left

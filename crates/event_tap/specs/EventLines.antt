@@ -4,9 +4,10 @@ use Rattle.std.specs.List.{flat_map}
 use Rattle.event_tap.specs.FrameLines.{frame_line}
 use Rattle.event_tap.specs.Lines.{pilot_line, sync_line}
 use Rattle.event_tap.specs.PagingLines.{paging_line}
+use Rattle.event_tap.specs.SetsLines.{sets_line}
 use Rattle.event_tap.specs.TrafficLines.{traffic_line}
 use Rattle.mobile_core.specs.declared.event.Event.{Event}
-use Rattle.mobile_core.specs.declared.event.Event.TheVariants.{Pilot, Sync, Paging, Frame, Traffic}
+use Rattle.mobile_core.specs.declared.event.Event.TheVariants.{Pilot, Sync, Paging, Frame, Traffic, Sets}
 
 -- the line of an event
 unfoldable pub event_line : Event → List ℕ
@@ -15,6 +16,7 @@ event_line (Sync place capsule message) = sync_line place message
 event_line (Paging place capsule message) = paging_line place message
 event_line (Frame place rate good bits commands) = frame_line place rate good bits commands
 event_line (Traffic place capsule message) = traffic_line place message
+event_line (Sets place time active candidate report) = sets_line place time active candidate report
 
 -- the lines of events, in order
 unfoldable pub text_of : List Event → List ℕ

@@ -5,11 +5,12 @@ use Rattle.std.specs.Prelude.{ℕ, ◌-◌, ◌≤◌, slice_index, nat_eq, Bool
 use Rattle.std.specs.Prelude.{◌++◌, map, codes, Option, None, Some}
 use Rattle.std.specs.List.{flat_map}
 use Rattle.mobile_core.specs.declared.event.Event.{Event}
-use Rattle.mobile_core.specs.declared.event.Event.TheVariants.{Pilot, Sync, Paging, Frame, Traffic}
+use Rattle.mobile_core.specs.declared.event.Event.TheVariants.{Pilot, Sync, Paging, Frame, Traffic, Sets}
 use Rattle.event_tap.specs.FrameLines.{frame_line}
 use Rattle.event_tap.specs.Lines.{pilot_line, sync_line}
 use Rattle.event_tap.specs.PagingLines.{paging_line}
 use Rattle.event_tap.specs.Parts.{capsule_line}
+use Rattle.event_tap.specs.SetsLines.{sets_line}
 use Rattle.event_tap.specs.TrafficLines.{traffic_line}
 use Rattle.event_tap.specs.declared.tap.Heard.{Heard}
 use Rattle.event_tap.specs.declared.tap.Heard.TheVariants.{Keep, Done}
@@ -41,7 +42,7 @@ message_line form line raw =
     if nat_eq form 1 then Some line else if nat_eq form 3 then Some raw else None
 
 -- the line that a form has for an event, and none where it doesn't hear events of this kind: form 0
--- hears the pilot, 1 messages, 2 frames, and 3 messages as they came, bit by bit
+-- hears the pilot and the pilot sets, 1 messages, 2 frames, and 3 messages as they came, bit by bit
 unfoldable pub form_line : ℕ → Event → Option (List ℕ)
 form_line form (Pilot phase energy) =
     if nat_eq form 0 then Some (pilot_line phase energy) else None
@@ -53,6 +54,8 @@ form_line form (Frame place rate good bits commands) =
     if nat_eq form 2 then Some (frame_line place rate good bits commands) else None
 form_line form (Traffic place capsule message) =
     message_line form (traffic_line place message) (raw_traffic_line place capsule)
+form_line form (Sets place time active candidate report) =
+    if nat_eq form 0 then Some (sets_line place time active candidate report) else None
 
 -- the line, or nothing where there is none
 abbrev pub line_text : Option (List ℕ) → List ℕ

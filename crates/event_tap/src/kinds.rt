@@ -9,7 +9,7 @@ use crate::tap::{Heard, Tap};
 use line_text::Text;
 use mobile_core::Event;
 
-/// Hears the pilot, in form 0.
+/// Hears the pilot and the pilot sets, in form 0.
 #[derive(Drop)]
 pub struct PilotTap {
     /// How many events it has left to hear.
@@ -41,7 +41,7 @@ impl Tap for PilotTap {
     #[tactic(auto, unfolding(crate::specs::EventLines::event_line, crate::specs::Taps::form_line))]
     fn hear(&mut self, event: &Event, out: &mut Text) -> Heard {
         match event {
-            Event::Pilot { .. } => {
+            Event::Pilot { .. } | Event::Sets { .. } => {
                 line_into(event, out);
                 self.left -= 1;
             }
@@ -86,7 +86,7 @@ impl Tap for MessageTap {
     #[tactic(auto, unfolding(crate::specs::EventLines::event_line, crate::specs::Taps::form_line))]
     fn hear(&mut self, event: &Event, out: &mut Text) -> Heard {
         match event {
-            Event::Pilot { .. } | Event::Frame { .. } => out.clear(),
+            Event::Pilot { .. } | Event::Frame { .. } | Event::Sets { .. } => out.clear(),
             Event::Sync { .. } | Event::Paging { .. } | Event::Traffic { .. } => {
                 line_into(event, out);
                 self.left -= 1;
@@ -131,7 +131,8 @@ impl Tap for FrameTap {
             Event::Pilot { .. }
             | Event::Sync { .. }
             | Event::Paging { .. }
-            | Event::Traffic { .. } => out.clear(),
+            | Event::Traffic { .. }
+            | Event::Sets { .. } => out.clear(),
             Event::Frame { .. } => {
                 line_into(event, out);
                 self.left -= 1;
@@ -174,7 +175,7 @@ impl Tap for RawTap {
     fn hear(&mut self, event: &Event, out: &mut Text) -> Heard {
         out.clear();
         match event {
-            Event::Pilot { .. } | Event::Frame { .. } => {}
+            Event::Pilot { .. } | Event::Frame { .. } | Event::Sets { .. } => {}
             Event::Sync { at, capsule, .. } => {
                 append_raw(out, " sync ", *at, capsule);
                 self.left -= 1;

@@ -16,6 +16,9 @@ mod paging;
 #[cfg(test)]
 mod paging_tests;
 mod parts;
+mod sets;
+#[cfg(test)]
+mod sets_tests;
 mod sync;
 mod tap;
 #[cfg(test)]

@@ -53,7 +53,7 @@ impl Tap for CountingTap {
     #[tactic(auto, unfolding(crate::specs::EventLines::event_line, crate::specs::Taps::form_line))]
     fn hear(&mut self, event: &Event, out: &mut Text) -> Heard {
         match event {
-            Event::Pilot { .. } | Event::Frame { .. } => out.clear(),
+            Event::Pilot { .. } | Event::Frame { .. } | Event::Sets { .. } => out.clear(),
             Event::Sync { .. } | Event::Paging { .. } | Event::Traffic { .. } => {
                 line_into(event, out);
                 self.heard += 1;

@@ -1,22 +1,25 @@
 -- What the channels behind the mark have still to give, as samples come.
 use Rattle.std.proofs.Common.{◌≡◌, ℕ, ◌+◌, ◌<◌, ◌≤◌, List, [], ◌++◌, length, map, refl, ap}
-use Rattle.std.proofs.Common.{◌∙◌, inl, inr, Bool, false, Option}
-use Rattle.std.specs.Prelude.{IsTrue, ◌↔◌}
+use Rattle.std.proofs.Common.{◌∙◌, inl, inr, Bool, true, false, Option, Some, None, arith, length-append, nat_lt}
+use Rattle.std.specs.Prelude.{IsTrue, ◌↔◌, if◌then◌else◌}
 use Rattle.chip_core.specs.declared.sample.Sample.{Sample}
 use Rattle.mobile_core.specs.FollowedChannels.{HearsFollowed, IsFollowedDue, WaitFrom}
-use Rattle.mobile_core.specs.FollowedChannels.{followed_events_left}
+use Rattle.mobile_core.specs.FollowedChannels.{IsSoundFollowed, followed_events_left}
+use Rattle.mobile_core.specs.Near.{AreNear}
 use Rattle.mobile_core.specs.PagingEvents.{page_event, pages_behind}
-use Rattle.mobile_core.specs.PagingMonitoring.{IsReceiverDue}
+use Rattle.mobile_core.specs.PagingMonitoring.{IsReceiverDue, paging_events_left}
 use Rattle.mobile_core.specs.TrafficMonitoring.{IsFrameDue}
-use Rattle.mobile_core.specs.Tuning.{Tuning}
+use Rattle.mobile_core.specs.Tuning.{Tuning, sync_stream}
 use Rattle.mobile_core.specs.declared.event.Event.{Event}
 use Rattle.mobile_core.specs.declared.followed.Followed.{Followed}
 use Rattle.mobile_core.specs.declared.mark.Mark.{Mark}
+use Rattle.mobile_core.specs.declared.paging_receiver.PagingReceiver.{PagingReceiver}
 use Rattle.mobile_core.proofs.FramesFollowed as frames
 use Rattle.mobile_core.proofs.FramesFollowed.{FramesEndFrom}
+use Rattle.mobile_core.proofs.MarkStays.{pages_later}
 use Rattle.mobile_core.proofs.PagesFollowed as pages
 use Rattle.mobile_core.proofs.PagesFollowed.{EndsFrom}
-use Rattle.mobile_core.proofs.TrafficGrowth.{told_behind}
+use Rattle.mobile_core.proofs.FramesFollowed.{told_behind}
 
 -- the frame of each that comes next ends at so many samples or later
 pub record EndFrom (n : ℕ) (f : Followed) : Type 0 where
@@ -32,38 +35,57 @@ followed_behind t mark samples n =
 -- where something is due that isn't on the paging channel, it is on the traffic channel
 pub other_due : (count : ℕ) (f : Followed) (paged : Bool) →
     (IsTrue paged ↔ IsReceiverDue count f.paging.receiver) → paged ≡ false →
-    IsFollowedDue count f → IsFrameDue count f.traffic.receiver
+    IsFollowedDue count f → IsFrameDue f.traffic.receiver
 other_due count f paged is none due =
     elim due [
       | inl d ↦ let e = is.1 d in absurd (cc)
       | inr d ↦ d
     ]
 
+pub unrated : {A : Type 0} (b : Bool) (pages : List A) → pages ≡ [] →
+    (if b then pages else []) ≡ []
+unrated true pages none = none
+unrated false pages none = refl
+
 both_none : {A : Type 0} (xs ys : List A) → xs ≡ [] → ys ≡ [] → xs ++ ys ≡ []
 both_none xs ys none none' = ap (λ (zs : List _). zs ++ ys) none ∙ none'
 
+-- where no mark is set no page is left
+pub unset_pages : (t : Tuning) (before : Option Mark) (heard : List Sample)
+    (receiver : Option PagingReceiver) → before ≡ None →
+    paging_events_left t before heard receiver ≡ []
+unset_pages t before heard None unset = refl
+unset_pages t before heard (Some r) unset =
+    ap (λ (x : Option Mark). paging_events_left t x heard (Some r)) unset
+
 module _ {t : Tuning} {f : Followed} {mark : Option Mark} {heard : List Sample}
-    (st : HearsFollowed t f mark heard) (idle : ¬ IsFollowedDue t.count f) where
+    (st : HearsFollowed t f mark heard) (sound : IsSoundFollowed f)
+    (idle : ¬ IsFollowedDue t.count f) where
   -- before a frame that comes next ends nothing is heard
-  pub followed_quiet : (samples : List Sample) (n later : ℕ) → length heard < n → n < later →
-      EndFrom later f → followed_behind t mark samples n ≡ []
-  followed_quiet samples n later past before ends =
-      both_none (map (page_event n) (pages_behind t t.paging mark samples n))
-      (told_behind t t.traffic mark samples n)
+  pub followed_quiet : (more : List Sample) (n later : ℕ) → length heard < n → n < later →
+      EndFrom later f → followed_behind t mark (heard ++ more) n ≡ []
+  followed_quiet more n later past before ends =
+      both_none (map (page_event n) (pages_behind t t.paging mark (heard ++ more) n))
+      (told_behind t t.traffic mark (heard ++ more) n)
       (ap (map (page_event n))
       (pages.pages_quiet t mark heard f.paging.receiver st.paging.behind (λ d. idle (inl d))
-      samples n later past before ends.paging))
-      (frames.frames_quiet t mark heard f.traffic.receiver st.traffic.behind (λ d. idle (inr d))
-      samples n later past before ends.traffic)
+      (heard ++ more) n later past before ends.paging))
+      (frames.frames_quiet t mark heard (paging_events_left t mark heard f.paging.receiver)
+      f.traffic.receiver st.traffic.behind sound.traffic.receives (λ d. idle (inr d)) more n later
+      past before ends.traffic)
 
   -- where more samples have come, all that is known with the last of them is left
-  pub followed_come : (samples : List Sample) → length heard < length samples →
-      followed_events_left t mark samples f ≡ followed_behind t mark samples (length samples)
-  followed_come samples past =
+  pub followed_come : (more : List Sample) → 0 < length more →
+      EndFrom (length (heard ++ more)) f →
+      followed_events_left t mark (heard ++ more) f
+      ≡ followed_behind t mark (heard ++ more) (length (heard ++ more))
+  followed_come more some ends =
+      let long = length-append heard more in
       let paging = pages.pages_come t mark heard f.paging.receiver st.paging.behind
-      (λ d. idle (inl d)) samples past in
-      let traffic = frames.frames_come t mark heard f.traffic.receiver st.traffic.behind
-      (λ d. idle (inr d)) samples past in
+      (λ d. idle (inl d)) (heard ++ more) (omega (arith, long, some)) in
+      let traffic = frames.frames_come t mark heard
+      (paging_events_left t mark heard f.paging.receiver) f.traffic.receiver st.traffic.behind
+      sound.traffic.receives (λ d. idle (inr d)) more some ends.traffic in
       rw (paging, traffic) refl
 
   -- where nothing is due, nothing is left
@@ -71,27 +93,43 @@ module _ {t : Tuning} {f : Followed} {mark : Option Mark} {heard : List Sample}
   followed_given waits =
       let paging = pages.pages_given t mark heard f.paging.receiver st.paging.behind
       (λ d. idle (inl d)) waits.paging in
-      let traffic = frames.frames_given t mark heard f.traffic.receiver st.traffic.behind
-      (λ d. idle (inr d)) waits.traffic in
+      let traffic = frames.frames_given t mark heard
+      (paging_events_left t mark heard f.paging.receiver) f.traffic.receiver st.traffic.behind
+      sound.traffic.receives (λ d. idle (inr d)) waits.traffic in
       rw (paging, traffic) refl
 
   -- more samples, up to the end of a frame that comes next
-  pub followed_more : (more : List Sample) → length heard + length more ≤ t.count →
+  pub followed_more : AreNear (sync_stream t).fingers → (more : List Sample) → 0 < length more →
+      length heard + length more ≤ t.count → WaitFrom (length heard) f →
       EndFrom (length heard + length more) f → HearsFollowed t f mark (heard ++ more)
-  followed_more more within ends = record {
-    paging = record {
-      channel_is = st.paging.channel_is;
-      phase_is = st.paging.phase_is;
-      deltas_are = st.paging.deltas_are;
-      behind = pages.behind_more t mark heard f.paging.receiver st.paging.behind
-          (λ d. idle (inl d)) more within ends.paging;
-    };
-    traffic = record {
-      traffic_is = st.traffic.traffic_is;
-      phase_is = st.traffic.phase_is;
-      deltas_are = st.traffic.deltas_are;
-      check_is = st.traffic.check_is;
-      behind = frames.frames_more t mark heard f.traffic.receiver st.traffic.behind
-          (λ d. idle (inr d)) more within ends.traffic;
-    };
-  }
+  followed_more near more some within waits ends =
+      let long = length-append heard more in
+      record {
+        paging = record {
+          channel_is = st.paging.channel_is;
+          phase_is = st.paging.phase_is;
+          deltas_are = st.paging.deltas_are;
+          behind = pages.behind_more t mark heard f.paging.receiver st.paging.behind
+              (λ d. idle (inl d)) more within ends.paging;
+        };
+        traffic = record {
+          traffic_is = st.traffic.traffic_is;
+          phase_is = st.traffic.phase_is;
+          deltas_are = st.traffic.deltas_are;
+          check_is = st.traffic.check_is;
+          behind = frames.frames_more t mark heard
+              (paging_events_left t mark heard f.paging.receiver) f.traffic.receiver
+              st.traffic.behind sound.traffic.receives (λ d. idle (inr d)) more some within
+              waits.traffic ends.traffic
+              (pages.pages_given t mark heard f.paging.receiver st.paging.behind
+              (λ d. idle (inl d)) waits.paging)
+              (paging_events_left t mark (heard ++ more) f.paging.receiver)
+              (pages.pages_come t mark heard f.paging.receiver st.paging.behind
+              (λ d. idle (inl d)) (heard ++ more) (omega (arith, long, some)))
+              (λ samples n past less.
+              pages.pages_quiet t mark heard f.paging.receiver st.paging.behind
+              (λ d. idle (inl d)) samples n (length heard + length more) past less ends.paging)
+              (λ m n before. unrated (nat_lt m.prat 2) _
+              (pages_later t near t.paging (heard ++ more) n m before));
+        };
+      }

@@ -1,18 +1,26 @@
 -- The events that end at a number of samples have that number.
-use Rattle.std.proofs.Common.{◌≡◌, ℕ, List, [], ◌∷◌, ◌++◌, map, refl, Option, None, Some}
+use Rattle.std.proofs.Common.{◌≡◌, ℕ, ◌+◌, ◌==◌, ◌||◌, List, [], ◌∷◌, ◌++◌, map, refl, Option, None}
+use Rattle.std.proofs.Common.{Some, inl, inr, take}
 use Rattle.std.specs.List.{flat_map}
+use Rattle.std.proofs.lemmas.Bool.{cases_Bool, eqb-true}
 use Rattle.chip_core.specs.declared.sample.Sample.{Sample}
+use Rattle.pilot_sets.specs.Standing.{Standing}
+use Rattle.pilot_sets.specs.declared.change.SetChange.{SetChange}
 use Rattle.mobile_core.specs.Events.{frame_events_at, message_events_at, paging_events_at}
+use Rattle.mobile_core.specs.Events.{sets_events_at}
 use Rattle.mobile_core.specs.Given.{at_of}
 use Rattle.mobile_core.specs.Marks.{mark}
+use Rattle.mobile_core.specs.Moments.{changed, frames_at, heard_from, kept_to, legs_at, messages_at}
+use Rattle.mobile_core.specs.Moments.{moment_events, moment_place, moments_before, passed, sets_at}
 use Rattle.mobile_core.specs.PagingEvents.{page_event, pages_behind}
-use Rattle.mobile_core.specs.Signaling.{message_at, message_events, message_heard, messages_at}
+use Rattle.mobile_core.specs.Signaling.{message_at, message_events, message_heard, messages_by}
 use Rattle.mobile_core.specs.Streams.{known_now}
 use Rattle.mobile_core.specs.SyncEvents.{events_of, heard_at, sync_events_at}
-use Rattle.mobile_core.specs.TrafficEvents.{frame_heard, frames_at, if_followed}
-use Rattle.mobile_core.specs.TrafficStreams.{frames_bound, traffic_stream}
+use Rattle.mobile_core.specs.TrafficEvents.{frame_heard, frames_by, if_followed}
+use Rattle.mobile_core.specs.TrafficStreams.{frames_now}
 use Rattle.mobile_core.specs.Tuning.{Tuning, sync_bound, sync_stream}
 use Rattle.mobile_core.specs.declared.event.Event.{Event}
+use Rattle.mobile_core.specs.declared.legs.Leg.{Leg}
 use Rattle.mobile_core.specs.declared.mark.Mark.{Mark}
 use Rattle.mobile_core.specs.declared.settings.Traffic.{Traffic}
 use Rattle.mobile_core.specs.declared.spelled_message.SpelledMessage.{SpelledMessage}
@@ -54,29 +62,52 @@ unfolding paging_events_at
 paging_at t samples n =
     pages_at_place n (pages_behind t t.paging (mark t samples n) samples n)
 
-frames_at_place : (t : Tuning) (traffic : Traffic) (m : Mark) (samples : List Sample) (n : ℕ)
-    (ks : List ℕ) → AreAt n (map (frame_heard t traffic m samples n) ks)
-frames_at_place t traffic m samples n [] = tt
-frames_at_place t traffic m samples n (k ∷ ks) = (refl, frames_at_place t traffic m samples n ks)
+frames_at_place : (t : Tuning) (traffic : Traffic) (m : Mark) (legs : ℕ → List Leg)
+    (samples : List Sample) (n : ℕ) (ks : List ℕ) →
+    AreAt n (map (frame_heard t traffic m legs samples n) ks)
+frames_at_place t traffic m legs samples n [] = tt
+frames_at_place t traffic m legs samples n (k ∷ ks) =
+    (refl, frames_at_place t traffic m legs samples n ks)
 
-followed_at : (t : Tuning) (traffic : Traffic) (m : Mark) (samples : List Sample) (n : ℕ) →
-    AreAt n (frames_at t traffic m samples n)
-unfolding frames_at
-followed_at t traffic m samples n =
-    frames_at_place t traffic m samples n
-    (known_now t.count (traffic_stream t traffic m) n (frames_bound n))
+followed_at : (t : Tuning) (traffic : Traffic) (m : Mark) (legs : ℕ → List Leg)
+    (samples : List Sample) (n : ℕ) → AreAt n (frames_by t traffic m legs samples n)
+unfolding frames_by
+followed_at t traffic m legs samples n =
+    frames_at_place t traffic m legs samples n (frames_now t traffic m legs n)
 
 message_at_place : (n : ℕ) (heard : Option SpelledSignal) → AreAt n (message_events n heard)
 message_at_place n None = tt
 message_at_place n (Some heard) = (refl, tt)
 
-completed_at : (t : Tuning) (traffic : Traffic) (m : Mark) (samples : List Sample) (n : ℕ) →
-    AreAt n (messages_at t traffic m samples n)
-unfolding messages_at
-completed_at t traffic m samples n =
-    flat_map_at n (message_heard t traffic m samples n)
-    (known_now t.count (traffic_stream t traffic m) n (frames_bound n))
-    (λ k. message_at_place n (message_at t traffic m samples k))
+completed_at : (t : Tuning) (traffic : Traffic) (m : Mark) (legs : ℕ → List Leg)
+    (samples : List Sample) (n : ℕ) → AreAt n (messages_by t traffic m legs samples n)
+unfolding messages_by
+completed_at t traffic m legs samples n =
+    flat_map_at n (message_heard t traffic m legs samples n) (frames_now t traffic m legs n)
+    (λ k. message_at_place n (message_at t traffic m legs samples k))
+
+changed_at : (m : Mark) (j n : ℕ) (change : SetChange) (s : Standing) → moment_place m j ≡ n →
+    AreAt n (moment_events m j change s)
+changed_at m j n change s here =
+    elim (cases_Bool (change.changed || change.report)) [
+      | inl e ↦ rw e (here, tt)
+      | inr e ↦ rw e tt
+    ]
+
+moment_at : (t : Tuning) (traffic : Traffic) (m : Mark) (samples : List Sample) (n : ℕ) →
+    AreAt n (sets_at t traffic m samples n)
+unfolding sets_at
+moment_at t traffic m samples n =
+    let j : ℕ = moments_before m n in
+    let first = take n samples in
+    let before = heard_from t traffic m (kept_to t traffic m samples j) first j 98304 in
+    elim (cases_Bool (moment_place m (j + 1) == n)) [
+      | inl e ↦
+          rw e
+          (changed_at m (j + 1) n (changed m first (j + 1) before) (passed m first (j + 1) before)
+          (eqb-true (moment_place m (j + 1)) n e))
+      | inr e ↦ rw e tt
+    ]
 
 behind_at : (n : ℕ) (heard : Traffic → Mark → List Event) (followed : Option Traffic)
     (m : Option Mark) → ((traffic : Traffic) (m' : Mark) → AreAt n (heard traffic m')) →
@@ -90,11 +121,18 @@ pub traffic_at : (t : Tuning) (samples : List Sample) (n : ℕ) →
 unfolding frame_events_at
 traffic_at t samples n =
     behind_at n (λ traffic m. frames_at t traffic m samples n) t.traffic (mark t samples n)
-    (λ traffic m. followed_at t traffic m samples n)
+    (λ traffic m. followed_at t traffic m (legs_at t traffic m samples n) (take n samples) n)
 
 pub messages_at_end : (t : Tuning) (samples : List Sample) (n : ℕ) →
     AreAt n (message_events_at t samples n)
 unfolding message_events_at
 messages_at_end t samples n =
     behind_at n (λ traffic m. messages_at t traffic m samples n) t.traffic (mark t samples n)
-    (λ traffic m. completed_at t traffic m samples n)
+    (λ traffic m. completed_at t traffic m (legs_at t traffic m samples n) (take n samples) n)
+
+pub sets_at_end : (t : Tuning) (samples : List Sample) (n : ℕ) →
+    AreAt n (sets_events_at t samples n)
+unfolding sets_events_at
+sets_at_end t samples n =
+    behind_at n (λ traffic m. sets_at t traffic m samples n) t.traffic (mark t samples n)
+    (λ traffic m. moment_at t traffic m samples n)

@@ -1,17 +1,21 @@
 -- How the events of a file grow with its samples.
-use Rattle.std.proofs.Common.{◌≡◌, ℕ, suc, ◌+◌, ◌-◌, ◌<◌, ◌≤◌, true, false, List, [], ◌++◌, length}
-use Rattle.std.proofs.Common.{length-append, refl, sym, ap, ◌∙◌, arith, inl, inr}
-use Rattle.std.proofs.Common.{Bool, Option, Some, None, nat_lt}
+use Rattle.std.proofs.Common.{◌≡◌, ℕ, suc, ◌+◌, ◌-◌, ◌<◌, ◌≤◌, List, [], ◌++◌, length}
+use Rattle.std.proofs.Common.{length-append, refl, sym, ap, ◌∙◌, arith, inl, inr, map, subst}
+use Rattle.std.proofs.Common.{Option, Some, None, nat_lt}
 use Rattle.std.specs.Prelude.{if◌then◌else◌}
 use Rattle.std.proofs.lemmas.Bool.{cases_lt}
+use Rattle.std.proofs.lemmas.List.{append_assoc}
 use Rattle.chip_core.specs.declared.sample.Sample.{Sample}
 use Rattle.mobile_core.specs.Events.{events, events_at, events_within, frame_events_at}
-use Rattle.mobile_core.specs.Events.{message_events_at, paging_events_at}
-use Rattle.mobile_core.specs.FollowedChannels.{HearsFollowed, IsFollowedDue, followed_events_left}
+use Rattle.mobile_core.specs.Events.{message_events_at, paging_events_at, sets_events_at}
+use Rattle.mobile_core.specs.FollowedChannels.{HearsFollowed, IsFollowedDue, IsSoundFollowed}
+use Rattle.mobile_core.specs.FollowedChannels.{followed_events_left}
 use Rattle.mobile_core.specs.Left.{sync_events_left}
 use Rattle.mobile_core.specs.Marks.{mark, mark_before}
 use Rattle.mobile_core.specs.Near.{AreNear}
-use Rattle.mobile_core.specs.PagingEvents.{pages_at, pages_behind}
+use Rattle.mobile_core.specs.Moments.{frames_behind, messages_behind}
+use Rattle.mobile_core.specs.Moments.{moments_before, sets_behind}
+use Rattle.mobile_core.specs.PagingEvents.{page_event, pages_at, pages_behind}
 use Rattle.mobile_core.specs.SyncEvents.{sync_events_at}
 use Rattle.mobile_core.specs.Tuning.{Tuning, sync_stream}
 use Rattle.mobile_core.specs.declared.event.Event.{Event}
@@ -19,29 +23,39 @@ use Rattle.mobile_core.specs.declared.followed.Followed.{Followed}
 use Rattle.mobile_core.specs.declared.mark.Mark.{Mark}
 use Rattle.mobile_core.specs.declared.settings.Traffic.{Traffic}
 use Rattle.mobile_core.proofs.ChannelsFollowed.{EndFrom, followed_behind, followed_come}
-use Rattle.mobile_core.proofs.ChannelsFollowed.{followed_quiet}
+use Rattle.mobile_core.proofs.ChannelsFollowed.{followed_quiet, unrated}
+use Rattle.mobile_core.proofs.FramesFollowed.{told_behind, told_unset}
 use Rattle.mobile_core.proofs.Growth as growth
 use Rattle.mobile_core.proofs.Growth.{IsSyncTimed, KnownBefore, KnownFrom}
 use Rattle.mobile_core.proofs.MarkGrowth.{mark_before_sooner, mark_is}
 use Rattle.mobile_core.proofs.MarkStays as stays
 use Rattle.mobile_core.proofs.PageGrowth.{pages_sooner}
-use Rattle.mobile_core.proofs.TrafficGrowth.{told_behind, told_sooner, told_unset}
+use Rattle.mobile_core.proofs.MomentGrowth.{first_same, kept_sooner, sets_sooner}
 use Rattle.chip_core.proofs.Ranges.{flat_map_grown}
 
--- what ends at n is heard on the sync channel, on the paging channel, or on the traffic channel
+-- what ends at n is heard on the sync channel, on the paging channel, or on the traffic channel, or
+-- is a moment of the pilot sets
 pub events_at_all : (t : Tuning) (xs : List Sample) (n : ℕ) →
     events_at t xs n
     ≡ sync_events_at t xs n
-    ++ (paging_events_at t xs n ++ (frame_events_at t xs n ++ message_events_at t xs n))
+    ++ (paging_events_at t xs n
+    ++ (frame_events_at t xs n ++ (message_events_at t xs n ++ sets_events_at t xs n)))
 unfolding events_at
 events_at_all t xs n = refl
 
 -- behind the mark it is what is heard of the channels that are followed from there on
 pub events_at_by : (t : Tuning) (xs : List Sample) (n : ℕ) (m : Option Mark) → mark t xs n ≡ m →
     events_at t xs n ≡ sync_events_at t xs n ++ followed_behind t m xs n
-unfolding events_at paging_events_at frame_events_at message_events_at
+unfolding events_at paging_events_at frame_events_at message_events_at sets_events_at
 events_at_by t xs n m e =
-    ap (λ (x : Option Mark). sync_events_at t xs n ++ followed_behind t x xs n) e
+    let now = mark t xs n in
+    let pages = map (page_event n) (pages_behind t t.paging now xs n) in
+    let frames = frames_behind t t.traffic now xs n in
+    let messages = messages_behind t t.traffic now xs n in
+    let sets = sets_behind t t.traffic now xs n in
+    ap (λ (es : List Event). sync_events_at t xs n ++ (pages ++ es))
+    (sym (append_assoc frames messages sets))
+    ∙ ap (λ (x : Option Mark). sync_events_at t xs n ++ followed_behind t x xs n) e
 
 module _ (t : Tuning) (low : ℕ) (timed : IsSyncTimed t low)
     (near : AreNear (sync_stream t).fingers) where
@@ -57,7 +71,11 @@ module _ (t : Tuning) (low : ℕ) (timed : IsSyncTimed t low)
   traffic_same None m xs ys n h = refl
   traffic_same (Some traffic) None xs ys n h = refl
   traffic_same (Some traffic) (Some m) xs ys n h =
-      told_sooner t traffic m _ (stays.traffic_timed t near traffic m) xs ys n h
+      let j : ℕ = moments_before m n in
+      let kept = kept_sooner t traffic m xs ys j (λ some. omega (arith, some, h)) in
+      let first = first_same xs ys n h in
+      let sets = sets_sooner t traffic m xs ys n h in
+      rw (kept, first, sets) refl
 
   -- what ends within the first samples is known from them
   pub events_sooner : (xs ys : List Sample) (n : ℕ) → n ≤ length xs →
@@ -87,19 +105,15 @@ module _ (t : Tuning) (low : ℕ) (timed : IsSyncTimed t low)
       let early : n + 1 ≤ m.sample = omega (arith, later) in
       let frames = stays.frames_before_mark t near t.traffic xs (n + 1) m early in
       let messages = stays.messages_before_mark t near t.traffic xs (n + 1) m early in
+      let sets = stays.sets_before_mark t near t.traffic xs (n + 1) m early in
       let unset = told_unset t t.traffic xs (n + 1) in
-      rw (pages, frames, messages, unset) refl
-    where
-      unrated : {A : Type 0} (b : Bool) (pages : List A) → pages ≡ [] →
-          (if b then pages else []) ≡ []
-      unrated true pages none = none
-      unrated false pages none = refl
+      rw (pages, frames, messages, sets, unset) refl
 
   -- more samples, at whose end alone a frame may be known
   module _ (xs ys : List Sample) (next : ℕ) (f : Followed) (some : 0 < length ys)
       (before : KnownBefore t next (length xs))
       (from : KnownFrom t next (length xs + length ys))
-      (behind : HearsFollowed t f (mark_before t xs next) xs)
+      (behind : HearsFollowed t f (mark_before t xs next) xs) (sound : IsSoundFollowed f)
       (none : ¬ IsFollowedDue t.count f) (ends : EndFrom (length xs + length ys) f) where
     -- up to their last but one the mark is that of the frames before
     mark_here : (n : ℕ) → length xs ≤ n → n < length xs + length ys →
@@ -120,8 +134,7 @@ module _ (t : Tuning) (low : ℕ) (timed : IsSyncTimed t low)
           | inl below ↦ let b = before k below inside in omega (arith, b, e, past)
           | inr above ↦ let b = from k above inside in omega (arith, b, e, less)
         ]) in
-        let others = followed_quiet behind none (xs ++ ys) n (length xs + length ys) past less
-        ends in
+        let others = followed_quiet behind sound none ys n (length xs + length ys) past less ends in
         events_at_by t (xs ++ ys) n set (mark_here n (omega (arith, past)) less)
         ∙ ap (λ (es : List Event). es ++ followed_behind t set (xs ++ ys) n) sync
         ∙ others
@@ -142,8 +155,9 @@ module _ (t : Tuning) (low : ℕ) (timed : IsSyncTimed t low)
         let others : followed_behind t (mark t (xs ++ ys) (length (xs ++ ys))) (xs ++ ys)
         (length (xs ++ ys))
         ≡ followed_behind t set (xs ++ ys) (length (xs ++ ys)) = rw long later in
-        let come = followed_come behind none (xs ++ ys)
-        (omega (arith, length-append xs ys, some)) in
+        let whole : length xs + length ys ≡ length (xs ++ ys) = sym (length-append xs ys) in
+        let come = followed_come behind sound none ys some
+        (subst (λ (k : ℕ). EndFrom k f) whole ends) in
         events_at_by t (xs ++ ys) (length (xs ++ ys)) (mark t (xs ++ ys) (length (xs ++ ys))) refl
         ∙ ap (λ (es : List Event). here ++ es) (others ∙ sym come)
         ∙ ap (λ (es : List Event). es ++ followed_events_left t set (xs ++ ys) f) (sym sync)

@@ -85,7 +85,7 @@ near_begun u d h l = grind (arith, ints)
 begun_is : (u : ℕ) (d : ℤ) → int_le d (pos u) ≡ true → d ≤ℤ pos u
 begun_is u d h = grind (arith, ints)
 
-near_parts : (f : Finger) (fingers : List Finger) → all_near (f ∷ fingers) ≡ true →
+pub near_parts : (f : Finger) (fingers : List Finger) → all_near (f ∷ fingers) ≡ true →
     (int_le (negsuc 127) f.delta ≡ true) × (int_le f.delta (pos 127) ≡ true)
     × (all_near fingers ≡ true)
 near_parts f fingers h =
@@ -212,7 +212,7 @@ max_test a b n =
           ]
     ]
 
-within_is : (form : Form) (u n : ℕ) (fingers : List Finger) →
+pub within_is : (form : Form) (u n : ℕ) (fingers : List Finger) →
     is_within n fingers form u ≡ (all_begun u fingers && nat_le (frame_end fingers form u) n)
 within_is form u n [] = let e = le-leb 0 n (omega arith) in rw e refl
 within_is form u n (f ∷ fingers) =

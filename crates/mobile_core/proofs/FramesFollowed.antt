@@ -1,35 +1,58 @@
 -- What a handset's traffic channel has still to give, as samples come.
-use Rattle.std.proofs.Common.{◌≡◌, ℕ, ◌+◌, ◌^◌, ◌<◌, ◌≤◌, List, [], ◌∷◌, ◌++◌, length}
-use Rattle.std.proofs.Common.{refl, sym, ap, subst, ◌∙◌, arith, inl, inr, Option, Some, None}
-use Rattle.std.proofs.Common.{true, false}
-use Rattle.std.specs.Prelude.{IsTrue, is_some}
+use Rattle.std.proofs.Common.{◌≡◌, ℕ, ◌+◌, ◌^◌, ◌<◌, ◌≤◌, ◌==◌, List, [], ◌++◌, length}
+use Rattle.std.proofs.Common.{refl, sym, ap, subst, ◌∙◌, arith, inl, inr, Option, Some, None, take, map}
+use Rattle.std.proofs.Common.{true, false, length-append, Bool}
+use Rattle.std.specs.Prelude.{is_some, if◌then◌else◌}
 use Rattle.std.specs.Option.{ForSome}
-use Rattle.std.proofs.lemmas.Bool.{cases_lt}
+use Rattle.std.proofs.lemmas.Bool.{cases_lt, false_from_ne_true, ne_eqb}
+use Rattle.std.proofs.lemmas.List.{take_all}
 use Rattle.chip_core.specs.declared.sample.Sample.{Sample}
-use Rattle.mobile_core.specs.Clocks.{IsDueAt}
+use Rattle.mobile_core.specs.Given.{listed}
+use Rattle.mobile_core.specs.Moments.{frames_at, frames_behind, heard_from, kept_to, legs_at, legs_by}
+use Rattle.mobile_core.specs.Moments.{messages_at, messages_behind, moment_place, moments_before}
+use Rattle.mobile_core.specs.Moments.{sets_at, sets_behind, sets_events}
+use Rattle.mobile_core.specs.PagingEvents.{page_event, pages_behind}
 use Rattle.mobile_core.specs.PagingMonitoring.{SetsMark}
-use Rattle.mobile_core.specs.Signaling.{message_events}
+use Rattle.mobile_core.specs.SetsKeeping.{coming_place}
 use Rattle.mobile_core.specs.TrafficMonitoring.{FramesWaitFrom, HearsFrames, HearsFramesBehind}
 use Rattle.mobile_core.specs.TrafficMonitoring.{IsFrameDue, IsUnheard, traffic_events_left}
 use Rattle.mobile_core.specs.TrafficMonitoring.{traffic_due_by, traffic_heard_by}
 use Rattle.mobile_core.specs.TrafficMonitoring.{traffic_left_behind}
-use Rattle.mobile_core.specs.TrafficReceiving.{HearsTraffic, IsSoundTraffic, IsTrafficDue}
-use Rattle.mobile_core.specs.TrafficReceiving.{traffic_due, traffic_left_of}
+use Rattle.mobile_core.specs.TrafficReceiving.{HearsTraffic, HearsWith, IsSoundTraffic, IsTrafficDue}
+use Rattle.mobile_core.specs.TrafficReceiving.{kept_in, next_end, noted_by, sets_left_of, traffic_due}
+use Rattle.mobile_core.specs.TrafficReceiving.{WaitsAt, traffic_left_of, told_left_with}
 use Rattle.mobile_core.specs.Tuning.{Tuning}
 use Rattle.mobile_core.specs.declared.event.Event.{Event}
+use Rattle.mobile_core.specs.declared.legs.Leg.{Leg}
 use Rattle.mobile_core.specs.declared.mark.Mark.{Mark}
 use Rattle.mobile_core.specs.declared.settings.Traffic.{Traffic}
 use Rattle.mobile_core.specs.declared.traffic_monitor.TrafficMonitor.{TrafficMonitor}
-use Rattle.mobile_core.specs.declared.spelled_signal.SpelledSignal.{SpelledSignal}
 use Rattle.mobile_core.specs.declared.traffic_receiver.TrafficReceiver.{TrafficReceiver}
-use Rattle.mobile_core.proofs.ClockSteps.{before_next, from_next}
-use Rattle.mobile_core.proofs.FramesHeard as frames
-use Rattle.mobile_core.proofs.TrafficGrowth.{told_at, told_behind, told_left, told_left_all}
-use Rattle.mobile_core.proofs.TrafficGrowth.{told_left_none, told_none}
+use Rattle.mobile_core.proofs.FramesHeard as heard_frames
+use Rattle.mobile_core.proofs.FramesHeard.{none_come, none_kept, told_come, told_given, told_quiet}
+use Rattle.mobile_core.proofs.MomentGrowth.{kept_sooner}
+use Rattle.mobile_core.proofs.TrafficGrowth.{told_at}
 
--- the frame that comes next ends at so many samples or later
+-- the frame that comes next ends at so many samples or later, and so lies the next moment
 abbrev pub FramesEndFrom : ℕ → Option TrafficReceiver → Type 0
-FramesEndFrom n receiver = ForSome receiver (λ r. n ≤ r.clock.end)
+FramesEndFrom n receiver = ForSome receiver (λ r. n ≤ next_end r)
+
+-- what is heard of the channel when just n samples have been taken: frames first, the moment last
+abbrev pub all_told : Tuning → Traffic → Mark → List Sample → ℕ → List Event
+all_told t traffic m samples n =
+    (frames_at t traffic m samples n ++ messages_at t traffic m samples n)
+    ++ sets_at t traffic m samples n
+
+abbrev pub told_behind : Tuning → Option Traffic → Option Mark → List Sample → ℕ → List Event
+told_behind t followed mark samples n =
+    (frames_behind t followed mark samples n ++ messages_behind t followed mark samples n)
+    ++ sets_behind t followed mark samples n
+
+-- where no mark is set nothing is heard
+pub told_unset : (t : Tuning) (followed : Option Traffic) (xs : List Sample) (n : ℕ) →
+    told_behind t followed None xs n ≡ []
+told_unset t None xs n = refl
+told_unset t (Some traffic) xs n = refl
 
 pub unheard : (t : Tuning) (followed : Option Traffic) (mark : Option Mark)
     (samples : List Sample) (n : ℕ) → IsUnheard followed mark →
@@ -41,7 +64,7 @@ unheard t (Some traffic) mark samples n h =
 -- a channel that is followed, behind a mark that is set
 pub heard_at : (t : Tuning) (traffic : Traffic) (m : Mark) (followed : Option Traffic)
     (mark : Option Mark) (samples : List Sample) (n : ℕ) → followed ≡ Some traffic →
-    mark ≡ Some m → told_behind t followed mark samples n ≡ told_at t traffic m samples n
+    mark ≡ Some m → told_behind t followed mark samples n ≡ all_told t traffic m samples n
 heard_at t traffic m followed mark samples n e e' =
     ap (λ (x : Option Traffic). told_behind t x mark samples n) e
     ∙ ap (λ (x : Option Mark). told_behind t (Some traffic) x samples n) e'
@@ -55,104 +78,231 @@ left_of t traffic m followed mark samples r e e' =
     ap (λ (x : Option Traffic). traffic_left_behind t x mark samples r) e
     ∙ ap (λ (x : Option Mark). traffic_left_behind t (Some traffic) x samples r) e'
 
--- where none is due no message is kept
-none_kept : (count : ℕ) (r : TrafficReceiver) → ¬ IsTrafficDue count r → r.kept ≡ None
-none_kept count r none = by_kept r.kept (λ some. none (inl some))
-  where
-    by_kept : (kept : Option SpelledSignal) → ¬ IsTrue (is_some kept) → kept ≡ None
-    by_kept None h = refl
-    by_kept (Some message) h = absurd (h refl)
+-- THE RECEIVER
+-- how many moments lie before a number of samples
+moments_are : (m : Mark) (j n : ℕ) → n ≤ moment_place m (j + 1) →
+    (0 < j → moment_place m j < n) → moments_before m n ≡ j
+moments_are m j n early behind =
+    elim (cases_lt 0 j) [
+      | inl some ↦ let b = behind some in omega (arith, early, b)
+      | inr none ↦ omega (arith, early, none)
+    ]
 
--- and no frame
-none_come : (count : ℕ) (r : TrafficReceiver) → ¬ IsTrafficDue count r → ¬ IsDueAt count r.clock
-none_come count r none = λ d. none (inr d)
+-- a moment lies there, or none does
+set_there : (t : Tuning) (traffic : Traffic) (m : Mark) (samples : List Sample) (n j : ℕ) →
+    moments_before m n ≡ j → take n samples ≡ samples → length samples ≡ n →
+    sets_at t traffic m samples n ≡ sets_left_of t traffic m samples j
+unfolding sets_at sets_left_of
+set_there t traffic m samples n j moments whole long =
+    ap (λ (i : ℕ). if moment_place m (i + 1) == n
+    then sets_events m (take n samples) (i + 1)
+    (heard_from t traffic m (kept_to t traffic m samples i) (take n samples) i 98304)
+    else []) moments
+    ∙ ap (λ (xs : List Sample). if moment_place m (j + 1) == n
+    then sets_events m xs (j + 1)
+    (heard_from t traffic m (kept_to t traffic m samples j) xs j 98304)
+    else []) whole
+    ∙ ap (λ (k : ℕ). if moment_place m (j + 1) == k
+    then sets_events m samples (j + 1)
+    (heard_from t traffic m (kept_to t traffic m samples j) samples j 98304)
+    else []) (sym long)
 
--- what is left where no message is kept
-left_unkept : (t : Tuning) (traffic : Traffic) (m : Mark) (samples : List Sample)
-    (r : TrafficReceiver) → r.kept ≡ None →
-    traffic_left_of t traffic m samples r ≡ told_left t traffic m samples r.clock.next
-left_unkept t traffic m samples r empty =
-    ap (λ (kept : Option SpelledSignal). message_events (length samples) kept
-    ++ told_left t traffic m samples r.clock.next) empty
+no_set : (t : Tuning) (traffic : Traffic) (m : Mark) (samples : List Sample) (n j : ℕ) →
+    moments_before m n ≡ j → ¬ (moment_place m (j + 1) ≡ n) →
+    sets_at t traffic m samples n ≡ []
+unfolding sets_at
+no_set t traffic m samples n j moments elsewhere =
+    let none : (moment_place m (moments_before m n + 1) == n) ≡ false =
+    ne_eqb (moment_place m (moments_before m n + 1)) n
+    (λ e. elsewhere (omega (arith, e, moments))) in
+    rw none refl
 
-module _ (t : Tuning) (mark : Option Mark) (heard : List Sample) where
+not_left : (t : Tuning) (traffic : Traffic) (m : Mark) (samples : List Sample) (j : ℕ) →
+    ¬ (moment_place m (j + 1) ≡ length samples) → sets_left_of t traffic m samples j ≡ []
+unfolding sets_left_of
+not_left t traffic m samples j elsewhere =
+    let none : (moment_place m (j + 1) == length samples) ≡ false =
+    ne_eqb (moment_place m (j + 1)) (length samples) elsewhere in
+    rw none refl
+
+not_come : (r : TrafficReceiver) → ¬ IsTrafficDue r → r.sets.due ≡ false
+not_come r none = false_from_ne_true r.sets.due (λ due. none (inr due))
+
+coming_is : (r : TrafficReceiver) → ¬ IsTrafficDue r →
+    coming_place r.sets ≡ moment_place r.sets.mark (r.sets.passed + 1)
+coming_is r none =
+    ap (λ (b : Bool). moment_place r.sets.mark (r.sets.passed + (if b then 2 else 1)))
+    (not_come r none)
+
+module _ {t : Tuning} {traffic : Traffic} {m : Mark} {r : TrafficReceiver} {heard : List Sample}
+    {pages : List Event} (st : HearsTraffic t traffic m r heard pages) (sound : IsSoundTraffic r)
+    (none : ¬ IsTrafficDue r) where
+  place_is : coming_place r.sets ≡ moment_place m (r.sets.passed + 1)
+  place_is =
+      coming_is r none
+      ∙ ap (λ (x : Mark). moment_place x (r.sets.passed + 1)) st.mark_is
+
+  ends_at : (n : ℕ) → n ≤ next_end r →
+      (n ≤ r.end) × (n ≤ moment_place m (r.sets.passed + 1))
+  ends_at n h = let place = place_is in (omega (arith, h), omega (arith, h, place))
+
+  receiver_given : length heard < next_end r → traffic_left_of t traffic m heard r ≡ []
+  receiver_given waits =
+      let parts = ends_at (length heard + 1) (omega (arith, waits)) in
+      let ends = parts.0 in
+      let place = parts.1 in
+      ap (λ (es : List Event). es ++ sets_left_of t traffic m heard r.sets.passed)
+      (told_given st sound (none_come r sound none) (none_kept r none) (omega (arith, ends)))
+      ∙ not_left t traffic m heard r.sets.passed (λ e. omega (arith, e, place))
+
+  module _ (more : List Sample) where
+    kept_more : kept_to t traffic m (heard ++ more) r.sets.passed
+        ≡ kept_in t traffic m r heard
+    kept_more = kept_sooner t traffic m heard more r.sets.passed st.begun
+
+    legs_here : (n : ℕ) → length heard < n → n ≤ moment_place m (r.sets.passed + 1) →
+        legs_at t traffic m (heard ++ more) n
+        ≡ legs_by traffic m (kept_in t traffic m r heard)
+    legs_here n past early =
+        let moments = moments_are m r.sets.passed n early
+        (λ some. let b = st.begun some in omega (arith, b, past)) in
+        ap (λ (j : ℕ). legs_by traffic m (kept_to t traffic m (heard ++ more) j)) moments
+        ∙ ap (legs_by traffic m) kept_more
+
+    receiver_quiet : (n later : ℕ) → length heard < n → n < later → later ≤ next_end r →
+        all_told t traffic m (heard ++ more) n ≡ []
+    receiver_quiet n later past before ends =
+        let parts = ends_at later ends in
+        let place = parts.1 in
+        let early : n ≤ moment_place m (r.sets.passed + 1) = omega (arith, place, before) in
+        let first = take n (heard ++ more) in
+        let moments = moments_are m r.sets.passed n early
+        (λ some. let b = st.begun some in omega (arith, b, past)) in
+        let told : told_at t traffic m (legs_at t traffic m (heard ++ more) n) first n ≡ [] =
+        ap (λ (legs : ℕ → List Leg). told_at t traffic m legs first n) (legs_here n past early)
+        ∙ told_quiet st sound none first n later past before parts.0 parts.1 in
+        ap (λ (es : List Event). es ++ sets_at t traffic m (heard ++ more) n) told
+        ∙ no_set t traffic m (heard ++ more) n r.sets.passed moments
+        (λ e. omega (arith, e, place, before))
+
+    receiver_come : 0 < length more → length (heard ++ more) ≤ next_end r →
+        traffic_left_of t traffic m (heard ++ more) r
+        ≡ all_told t traffic m (heard ++ more) (length (heard ++ more))
+    receiver_come some ends =
+        let n : ℕ = length (heard ++ more) in
+        let long = length-append heard more in
+        let parts = ends_at n ends in
+        let past : length heard < n = omega (arith, long, some) in
+        let moments = moments_are m r.sets.passed n parts.1
+        (λ some'. let b = st.begun some' in omega (arith, b, past)) in
+        let whole : take n (heard ++ more) ≡ heard ++ more =
+        take_all n (heard ++ more) (omega arith) in
+        let legs = legs_by traffic m (kept_in t traffic m r heard) in
+        let told : told_left_with t traffic m (heard ++ more) r
+        (kept_in t traffic m r (heard ++ more))
+        ≡ told_at t traffic m (legs_at t traffic m (heard ++ more) n) (take n (heard ++ more)) n =
+        ap (told_left_with t traffic m (heard ++ more) r) kept_more
+        ∙ told_come st sound none (heard ++ more) past
+        ∙ sym (ap (λ (l : ℕ → List Leg). told_at t traffic m l (heard ++ more) n)
+        (legs_here n past parts.1))
+        ∙ sym (ap (λ (xs : List Sample).
+        told_at t traffic m (legs_at t traffic m (heard ++ more) n) xs n) whole) in
+        ap (λ (es : List Event). es ++ sets_left_of t traffic m (heard ++ more) r.sets.passed) told
+        ∙ ap (λ (es : List Event).
+        told_at t traffic m (legs_at t traffic m (heard ++ more) n) (take n (heard ++ more)) n
+        ++ es)
+        (sym (set_there t traffic m (heard ++ more) n r.sets.passed moments whole refl))
+
+-- WHETHER A CHANNEL IS FOLLOWED OR NOT
+module _ (t : Tuning) (mark : Option Mark) (heard : List Sample) (pages : List Event) where
   -- before the frame that comes next ends none is heard
   pub frames_quiet : (receiver : Option TrafficReceiver) →
-      HearsFramesBehind t mark receiver heard → ¬ IsFrameDue t.count receiver →
-      (samples : List Sample) (n later : ℕ) → length heard < n → n < later →
-      FramesEndFrom later receiver → told_behind t t.traffic mark samples n ≡ []
-  frames_quiet None behind none samples n later past before ends =
-      unheard t t.traffic mark samples n behind
-  frames_quiet (Some r) behind none samples n later past before ends =
-      let is = behind.hears.clocked in
-      let most = ends r refl in
-      heard_at t behind.traffic behind.set t.traffic mark samples n behind.traffic_is behind.set_is
-      ∙ told_none t behind.traffic behind.set samples n
-      (λ k inside e.
-      elim (cases_lt k r.clock.next) [
-        | inl less ↦ let known = before_next is k less inside in omega (arith, known, e, past)
-        | inr more ↦
-            let known = from_next is later (none_come t.count r none) most k more inside in
-            omega (arith, known, e, before)
-      ])
+      HearsFramesBehind t mark receiver heard pages → ForSome receiver IsSoundTraffic →
+      ¬ IsFrameDue receiver → (more : List Sample) (n later : ℕ) → length heard < n →
+      n < later → FramesEndFrom later receiver →
+      told_behind t t.traffic mark (heard ++ more) n ≡ []
+  frames_quiet None behind sound none more n later past before ends =
+      unheard t t.traffic mark (heard ++ more) n behind
+  frames_quiet (Some r) behind sound none more n later past before ends =
+      heard_at t behind.traffic behind.set t.traffic mark (heard ++ more) n behind.traffic_is
+      behind.set_is
+      ∙ receiver_quiet behind.hears (sound r refl) none more n later past before (ends r refl)
 
   -- where more samples have come, all that ends with the last of them is left
   pub frames_come : (receiver : Option TrafficReceiver) →
-      HearsFramesBehind t mark receiver heard → ¬ IsFrameDue t.count receiver →
-      (samples : List Sample) → length heard < length samples →
-      traffic_events_left t mark samples receiver
-      ≡ told_behind t t.traffic mark samples (length samples)
-  frames_come None behind none samples past =
-      sym (unheard t t.traffic mark samples (length samples) behind)
-  frames_come (Some r) behind none samples past =
-      let is = behind.hears.clocked in
-      let traffic = behind.traffic in
-      let set = behind.set in
-      left_of t traffic set t.traffic mark samples r behind.traffic_is behind.set_is
-      ∙ left_unkept t traffic set samples r (none_kept t.count r none)
-      ∙ told_left_all t traffic set samples r.clock.next
-      (λ k less inside e.
-      let known = before_next is k less inside in omega (arith, known, e, past))
-      ∙ sym (heard_at t traffic set t.traffic mark samples (length samples) behind.traffic_is
-      behind.set_is)
+      HearsFramesBehind t mark receiver heard pages → ForSome receiver IsSoundTraffic →
+      ¬ IsFrameDue receiver → (more : List Sample) → 0 < length more →
+      FramesEndFrom (length (heard ++ more)) receiver →
+      traffic_events_left t mark (heard ++ more) receiver
+      ≡ told_behind t t.traffic mark (heard ++ more) (length (heard ++ more))
+  frames_come None behind sound none more some ends =
+      sym (unheard t t.traffic mark (heard ++ more) (length (heard ++ more)) behind)
+  frames_come (Some r) behind sound none more some ends =
+      left_of t behind.traffic behind.set t.traffic mark (heard ++ more) r behind.traffic_is
+      behind.set_is
+      ∙ receiver_come behind.hears (sound r refl) none more some (ends r refl)
+      ∙ sym (heard_at t behind.traffic behind.set t.traffic mark (heard ++ more)
+      (length (heard ++ more)) behind.traffic_is behind.set_is)
 
-  -- where no frame is due, none is left
+  -- where nothing is due, nothing is left
   pub frames_given : (receiver : Option TrafficReceiver) →
-      HearsFramesBehind t mark receiver heard → ¬ IsFrameDue t.count receiver →
-      FramesWaitFrom (length heard) receiver → traffic_events_left t mark heard receiver ≡ []
-  frames_given None behind none waits = refl
-  frames_given (Some r) behind none waits =
-      let is = behind.hears.clocked in
-      let later = waits r refl in
+      HearsFramesBehind t mark receiver heard pages → ForSome receiver IsSoundTraffic →
+      ¬ IsFrameDue receiver → FramesWaitFrom (length heard) receiver →
+      traffic_events_left t mark heard receiver ≡ []
+  frames_given None behind sound none waits = refl
+  frames_given (Some r) behind sound none waits =
       left_of t behind.traffic behind.set t.traffic mark heard r behind.traffic_is behind.set_is
-      ∙ left_unkept t behind.traffic behind.set heard r (none_kept t.count r none)
-      ∙ told_left_none t behind.traffic behind.set heard r.clock.next
-      (from_next is (length heard + 1) (none_come t.count r none) (omega (arith, later)))
+      ∙ receiver_given behind.hears (sound r refl) none (waits r refl).before
 
   -- more samples, up to the end of the frame that comes next
-  pub frames_more : (receiver : Option TrafficReceiver) → HearsFramesBehind t mark receiver heard →
-      ¬ IsFrameDue t.count receiver → (more : List Sample) →
-      length heard + length more ≤ t.count → FramesEndFrom (length heard + length more) receiver →
-      HearsFramesBehind t mark receiver (heard ++ more)
-  frames_more None behind none more within ends = behind
-  frames_more (Some r) behind none more within ends =
-      let most = ends r refl in
+  pub frames_more : (receiver : Option TrafficReceiver) →
+      HearsFramesBehind t mark receiver heard pages → ForSome receiver IsSoundTraffic →
+      ¬ IsFrameDue receiver → (more : List Sample) → 0 < length more →
+      length heard + length more ≤ t.count → FramesWaitFrom (length heard) receiver →
+      FramesEndFrom (length heard + length more) receiver → pages ≡ [] →
+      (later : List Event) →
+      later ≡ map (page_event (length (heard ++ more)))
+      (pages_behind t t.paging mark (heard ++ more) (length (heard ++ more))) →
+      ((samples : List Sample) (n : ℕ) → length heard < n → n < length heard + length more →
+      pages_behind t t.paging mark samples n ≡ []) →
+      ((m : Mark) (n : ℕ) → n ≤ m.sample →
+      pages_behind t t.paging (Some m) (heard ++ more) n ≡ []) →
+      HearsFramesBehind t mark receiver (heard ++ more) later
+  frames_more None behind sound none more some within waits ends given later is quiet before =
+      behind
+  frames_more (Some r) behind sound none more some within waits ends given later is quiet before =
+      let traffic = behind.traffic in
+      let m = behind.set in
+      let st = behind.hears in
+      let parts = ends_at st (sound r refl) none (length heard + length more) (ends r refl) in
+      let now = ends_at st (sound r refl) none (length heard + 1)
+      (let w = (waits r refl).before in omega (arith, w)) in
+      let first = now.0 in
+      let grown = heard_frames.hears_more st (sound r refl) more none some parts.0 parts.1
+      (omega (arith, first)) within given later
+      (is ∙ ap (λ (x : Option Mark). map (page_event (length (heard ++ more)))
+      (pages_behind t t.paging x (heard ++ more) (length (heard ++ more)))) behind.set_is)
+      (λ samples n past less.
+      ap (λ (x : Option Mark). pages_behind t t.paging x samples n) (sym behind.set_is)
+      ∙ quiet samples n past less)
+      (before m) in
       record {
-        traffic = behind.traffic;
+        traffic = traffic;
         traffic_is = behind.traffic_is;
-        set = behind.set;
+        set = m;
         set_is = behind.set_is;
-        hears = frames.hears_more behind.hears more (none_come t.count r none) within most;
+        hears = subst (HearsWith t traffic m r (heard ++ more) later)
+            (sym (kept_more st (sound r refl) none more)) grown;
       }
 
 -- WHERE A MARK IS SET
 -- an open receiver has its mark
-pub stays_followed : (t : Tuning) (heard : List Sample) (before after : Option Mark) →
-    SetsMark (length heard) before after → (receiver : Option TrafficReceiver)
-    (r : TrafficReceiver) → receiver ≡ Some r → HearsFramesBehind t before receiver heard →
-    after ≡ before
-stays_followed t heard before after sets None r e behind = absurd (cc)
-stays_followed t heard before after sets (Some r') r e behind =
+pub stays_followed : (t : Tuning) (heard : List Sample) (pages : List Event)
+    (before after : Option Mark) → SetsMark (length heard) before after →
+    (receiver : Option TrafficReceiver) (r : TrafficReceiver) → receiver ≡ Some r →
+    HearsFramesBehind t before receiver heard pages → after ≡ before
+stays_followed t heard pages before after sets None r e behind = absurd (cc)
+stays_followed t heard pages before after sets (Some r') r e behind =
     elim sets [
       | inl same ↦ same
       | inr new ↦
@@ -162,39 +312,39 @@ stays_followed t heard before after sets (Some r') r e behind =
     ]
 
 -- nothing is due of a receiver that has heard nothing
-none_opened : (count : ℕ) (r : TrafficReceiver) → r.clock.have ≡ r.clock.next → r.kept ≡ None →
-    ¬ IsTrafficDue count r
-none_opened count r fresh empty = λ due.
+none_opened : (r : TrafficReceiver) → r.have ≡ r.next → r.kept ≡ None → r.sets.due ≡ false →
+    ¬ IsTrafficDue r
+none_opened r fresh empty idle = λ due.
     elim due [
-      | inl some ↦
+      | inl (inl some) ↦
           let is : is_some r.kept ≡ true = some in
           let none : false ≡ true = rw empty at is in
           absurd (cc)
-      | inr d ↦ omega (arith, fresh, d.0)
+      | inl (inr come) ↦ omega (arith, fresh, come)
+      | inr moment ↦ absurd (cc)
     ]
 
 -- a receiver that is open now has heard nothing
 module _ (t : Tuning) (heard : List Sample) (traffic : Traffic) (m : Mark) (r : TrafficReceiver)
-    (followed : t.traffic ≡ Some traffic) (hears : HearsTraffic t traffic m r heard) where
-  pub frames_opened : HearsFramesBehind t (Some m) (Some r) heard
+    (followed : t.traffic ≡ Some traffic) (hears : HearsTraffic t traffic m r heard []) where
+  pub frames_opened : HearsFramesBehind t (Some m) (Some r) heard []
   frames_opened =
       record { traffic = traffic; traffic_is = followed; set = m; set_is = refl; hears = hears }
 
-  pub frames_opened_left : r.clock.have ≡ r.clock.next → r.kept ≡ None →
-      length heard < r.clock.end → traffic_events_left t (Some m) heard (Some r) ≡ []
-  frames_opened_left fresh empty ends =
-      frames_given t (Some m) heard (Some r) frames_opened (none_opened t.count r fresh empty)
-      (λ r' e.
-      let same : r ≡ r' = cc in
-      subst (λ (x : TrafficReceiver). length heard < x.clock.end) same ends)
+  pub frames_opened_left : IsSoundTraffic r → r.have ≡ r.next → r.kept ≡ None →
+      r.sets.due ≡ false → length heard < next_end r →
+      traffic_events_left t (Some m) heard (Some r) ≡ []
+  frames_opened_left sound fresh empty idle ends =
+      left_of t traffic m t.traffic (Some m) heard r followed refl
+      ∙ receiver_given hears sound (none_opened r fresh empty idle) ends
 
 -- THE MONITOR, AS ITS RECEIVER CHANGES
 module _ {t : Tuning} {f : TrafficMonitor} {heard : List Sample} {before : Option Mark}
-    (st : HearsFrames t f before heard) where
-  pub frames_with : (after : Option Mark) (receiver : Option TrafficReceiver) →
-      HearsFramesBehind t after receiver heard →
-      HearsFrames t (record f { receiver = receiver }) after heard
-  frames_with after receiver behind = record {
+    {pages : List Event} (st : HearsFrames t f before heard pages) where
+  pub frames_with : (after : Option Mark) (receiver : Option TrafficReceiver)
+      (later : List Event) → HearsFramesBehind t after receiver heard later →
+      HearsFrames t (record f { receiver = receiver }) after heard later
+  frames_with after receiver later behind = record {
     traffic_is = st.traffic_is;
     phase_is = st.phase_is;
     deltas_are = st.deltas_are;
@@ -203,17 +353,19 @@ module _ {t : Tuning} {f : TrafficMonitor} {heard : List Sample} {before : Optio
   }
 
   module _ (r after : TrafficReceiver) (is : f.receiver ≡ Some r) where
-    behind_here : HearsFramesBehind t before (Some r) heard
+    behind_here : HearsFramesBehind t before (Some r) heard pages
     behind_here =
-        subst (λ (x : Option TrafficReceiver). HearsFramesBehind t before x heard) is st.behind
+        subst (λ (x : Option TrafficReceiver). HearsFramesBehind t before x heard pages) is
+        st.behind
 
-    -- soft values of a frame have come, or the frame has been heard
-    pub frames_on : ((traffic : Traffic) (m : Mark) → HearsTraffic t traffic m r heard →
-        HearsTraffic t traffic m after heard) →
-        HearsFrames t (record f { receiver = Some after }) before heard
-    frames_on on =
+    -- soft values of a frame have come, or what was due has been heard
+    pub frames_on : (later : List Event) →
+        ((traffic : Traffic) (m : Mark) → HearsTraffic t traffic m r heard pages →
+        HearsTraffic t traffic m after heard later) →
+        HearsFrames t (record f { receiver = Some after }) before heard later
+    frames_on later on =
         let behind = behind_here in
-        frames_with before (Some after) (record {
+        frames_with before (Some after) later (record {
           traffic = behind.traffic;
           traffic_is = behind.traffic_is;
           set = behind.set;
@@ -222,17 +374,17 @@ module _ {t : Tuning} {f : TrafficMonitor} {heard : List Sample} {before : Optio
         })
 
     -- what was due first has been heard
-    pub frame_left : (event : Event) →
-        ((traffic : Traffic) (m : Mark) → HearsTraffic t traffic m r heard →
-        event ∷ traffic_left_of t traffic m heard after
+    pub frame_left : (event : Option Event) →
+        ((traffic : Traffic) (m : Mark) → HearsTraffic t traffic m r heard pages →
+        listed event ++ traffic_left_of t traffic m heard after
         ≡ traffic_left_of t traffic m heard r) →
-        event ∷ traffic_events_left t before heard (Some after)
+        listed event ++ traffic_events_left t before heard (Some after)
         ≡ traffic_events_left t before heard f.receiver
     frame_left event left =
         let behind = behind_here in
         let traffic = behind.traffic in
         let set = behind.set in
-        ap (λ (es : List Event). event ∷ es)
+        ap (λ (es : List Event). listed event ++ es)
         (left_of t traffic set t.traffic before heard after behind.traffic_is behind.set_is)
         ∙ left traffic set behind.hears
         ∙ sym (left_of t traffic set t.traffic before heard r behind.traffic_is behind.set_is)
@@ -250,5 +402,28 @@ pub frames_few : (receiver : Option TrafficReceiver) → ForSome receiver IsSoun
 frames_few None sound = omega arith
 frames_few (Some r) sound =
     let is = sound r refl in
-    let clock = is.clocked in
-    omega (arith, clock.next_have, clock.have_end, clock.end_most)
+    let least = is.start_least in
+    let most = is.start_most in
+    let order = is.next_have in
+    let few = is.keeper.few in
+    omega (arith, least, most, order, few)
+
+-- what an event tells of the sets leaves what is left
+pub noted_left : (t : Tuning) (traffic : Traffic) (m : Mark) (heard : List Sample)
+    (r : TrafficReceiver) (event : Event) →
+    traffic_left_of t traffic m heard (noted_by event r) ≡ traffic_left_of t traffic m heard r
+noted_left t traffic m heard r event = refl
+
+-- a receiver that isn't open has no mark
+pub not_open : (t : Tuning) (traffic : Traffic) (before : Option Mark)
+    (receiver : Option TrafficReceiver) (heard : List Sample) (pages : List Event) →
+    t.traffic ≡ Some traffic → receiver ≡ None →
+    HearsFramesBehind t before receiver heard pages → before ≡ None
+not_open t traffic before (Some r) heard pages channel closed behind = absurd (cc)
+not_open t traffic before None heard pages channel closed behind =
+    subst (λ (x : Option Traffic). IsUnheard x before) channel behind
+
+-- and what waits
+pub noted_waits : (n : ℕ) (r : TrafficReceiver) (event : Event) → WaitsAt n r →
+    WaitsAt n (noted_by event r)
+noted_waits n r event waits = record { before = waits.before; due = waits.due }

@@ -1,47 +1,54 @@
 -- What the receiver of a traffic channel stands for, step by step.
-use Rattle.std.proofs.Common.{◌≡◌, ℕ, ◌+◌, ◌*◌, ◌<◌, ◌≤◌, false, List, [], ◌∷◌, ◌++◌}
-use Rattle.std.proofs.Common.{Bool, ℤ, pos, length, map, replicate, refl, sym, length-append, ap}
+use Rattle.std.proofs.Common.{◌≡◌, ℕ, ◌+◌, ◌-◌, ◌*◌, ◌/◌, ◌^◌, ◌<◌, ◌≤◌, List, []}
+use Rattle.std.proofs.Common.{◌++◌, Bool, ℤ, length, map, take, refl, sym, length-append, ap}
 use Rattle.std.proofs.Common.{◌∙◌, arith, inl, inr, subst, true, Option, None, Some}
-use Rattle.std.specs.Prelude.{is_some, sum_by, unsigned_abs}
-use Rattle.std.specs.Option.{option_to_list}
-use Rattle.std.proofs.lemmas.Bool.{cases_lt}
-use Rattle.std.proofs.lemmas.List.Folds.{sum_by-replicate}
+use Rattle.std.specs.Prelude.{IsTrue, is_some}
+use Rattle.std.proofs.lemmas.Bool.{cases_lt, cases_order}
+use Rattle.std.proofs.lemmas.List.{take_all}
 use Rattle.chip_core.specs.Bits.{places}
-use Rattle.chip_core.specs.declared.check_form.CheckForm.{CheckForm}
 use Rattle.chip_core.specs.declared.sample.Sample.{Sample}
-use Rattle.frame_decoder.specs.TrafficFrames.{command, decoded, group_sums}
+use Rattle.frame_decoder.specs.TrafficFrames.{command, decoded}
+use Rattle.frame_decoder.specs.TrafficFrames as frames
+use Rattle.frame_decoder.specs.declared.power.PowerSofts.{PowerSofts}
 use Rattle.frame_decoder.specs.declared.traffic.Decoded.{Decoded}
 use Rattle.long_code.specs.LongCode.{after, traffic_mask}
 use Rattle.long_code.proofs.After.{after-after}
+use Rattle.pilot_sets.specs.Standing.{Standing}
 use Rattle.quality_bits.specs.Pieces.{StandsFor}
+use Rattle.rake_finger.specs.Soft.{softs}
+use Rattle.rake_finger.specs.declared.finger.Finger.{Finger}
+use Rattle.rake_finger.specs.declared.form.Form.TheVariants.{Data}
 use Rattle.symbol_path.specs.Scrambling.{power_places, scrambling}
-use Rattle.mobile_core.specs.Clocks.{IsAt, IsDueAt, clock_from, first_frame, frame_come}
-use Rattle.mobile_core.specs.Clocks.{frame_heard}
-use Rattle.mobile_core.specs.Near.{AreNear}
+use Rattle.mobile_core.specs.LegSofts.{sums_on}
+use Rattle.mobile_core.specs.Legs.{all_fingers, legs_of, subchannels}
+use Rattle.mobile_core.specs.Moments.{heard_from, legs_by, moment_of, moment_place, told_by}
+use Rattle.mobile_core.specs.Noted.{all_noted}
+use Rattle.mobile_core.specs.PagingEvents.{page_event, pages_behind}
 use Rattle.mobile_core.specs.Scrambled.{unscrambled}
-use Rattle.mobile_core.specs.Signaling.{capsule_with, message_at, message_events, signal_at}
-use Rattle.mobile_core.specs.Signaling.{signal_in, signal_of, signals_before}
-use Rattle.mobile_core.specs.TrafficEvents.{commands_at, decoded_at, frame_event, unturned_softs}
-use Rattle.mobile_core.specs.TrafficEvents.{frame_heard as heard_frame}
-use Rattle.mobile_core.specs.TrafficReceiving.{HearsTraffic, frames_left_of, messages_left_of}
-use Rattle.mobile_core.specs.TrafficReceiving.{IsTrafficDue, kept_by, traffic_left_of}
-use Rattle.mobile_core.specs.TrafficStreams.{chips_behind, frame_state, replaced_in, traffic_stream}
+use Rattle.mobile_core.specs.Signaling.{message_events}
+use Rattle.mobile_core.specs.Streams.{frame_end}
+use Rattle.mobile_core.specs.TrafficEvents.{all_sums, commands_at, decoded_at}
+use Rattle.mobile_core.specs.TrafficEvents.{unturned_softs}
+use Rattle.mobile_core.specs.TrafficReceiving.{HasTold, HearsWith, IsSoundTraffic, IsTrafficDue}
+use Rattle.mobile_core.specs.TrafficReceiving.{fingers_in}
+use Rattle.mobile_core.specs.TrafficReceiving.{kept_by, told_left_with}
+use Rattle.mobile_core.specs.TrafficStreams.{chips_behind, frame_known, frame_state, has_frame}
+use Rattle.mobile_core.specs.TrafficStreams.{replaced_in, traffic_start}
 use Rattle.mobile_core.specs.Tuning.{Tuning}
 use Rattle.mobile_core.specs.declared.event.Event.{Event}
+use Rattle.mobile_core.specs.declared.legs.Leg.{Leg}
 use Rattle.mobile_core.specs.declared.mark.Mark.{Mark}
+use Rattle.mobile_core.specs.declared.sets_keeper.SetsKeeper.{SetsKeeper}
 use Rattle.mobile_core.specs.declared.settings.Traffic.{Traffic}
 use Rattle.mobile_core.specs.declared.spelled_signal.SpelledSignal.{SpelledSignal}
 use Rattle.mobile_core.specs.declared.traffic_receiver.TrafficReceiver.{TrafficReceiver}
-use Rattle.mobile_core.proofs.ClockSteps.{clock_come, clock_heard, clock_more, clock_new}
-use Rattle.mobile_core.proofs.ClockSteps.{before_next, due_inside, due_known}
-use Rattle.mobile_core.proofs.FrameGrowth.{frame_next}
-use Rattle.mobile_core.proofs.MessageGrowth.{message_next, signals_more, signals_none}
+use Rattle.mobile_core.proofs.CloseFingers.{close_ends}
+use Rattle.mobile_core.proofs.FrameBounds.{AreCloseAll, has_here, known_high, known_is}
+use Rattle.mobile_core.proofs.FrameBounds.{known_later, known_low}
 use Rattle.mobile_core.proofs.MessageGrowth.{signals_sooner}
-use Rattle.mobile_core.proofs.TrafficGrowth.{frame_alone, one_left, told_left}
-
--- no soft value has come
-pub zeros_few : sum_by unsigned_abs (replicate 384 (pos 0)) ≡ 0
-zeros_few = sum_by-replicate unsigned_abs 384 (pos 0)
+use Rattle.mobile_core.proofs.TrafficGrowth.{heard_grown, heard_none, told_at, told_first}
+use Rattle.mobile_core.proofs.TrafficGrowth.{told_is, told_left, told_left_all, told_left_none}
+use Rattle.mobile_core.proofs.TrafficGrowth.{told_none}
 
 -- the long code's state at a frame's first chip
 pub state_on : (traffic : Traffic) (m : Mark) (state k : ℕ) → state ≡ frame_state traffic m 0 →
@@ -52,251 +59,504 @@ state_on traffic m state k is =
     ∙ after-after m.lc (chips_behind traffic 0) (24576 * k)
     ∙ ap (after m.lc) sum
 
--- before any frame has come, where the first comes later than these samples
-pub hears_later : (t : Tuning) (traffic : Traffic) (m : Mark) (r : TrafficReceiver)
-    (heard : List Sample) → AreNear (traffic_stream t traffic m).fingers →
-    r.fingers ≡ (traffic_stream t traffic m).fingers →
-    r.clock ≡ clock_from (traffic_stream t traffic m).fingers (traffic_stream t traffic m).form
-    false (traffic_stream t traffic m).first
-    (first_frame (traffic_stream t traffic m).fingers (traffic_stream t traffic m).first) →
-    r.scrambling.state ≡ frame_state traffic m 0 → r.scrambling.mask ≡ traffic_mask traffic.esn →
-    length heard ≤ t.count → length heard ≤ r.clock.end → StandsFor r.framer [] →
-    HearsTraffic t traffic m r heard
-hears_later t traffic m r heard near fingers clock state mask within most framed =
-    let s = traffic_stream t traffic m in
-    let same : r.clock.next ≡ r.clock.have = rw clock refl in
-    let none : ¬ IsDueAt t.count r.clock = λ d. omega (arith, same, d.0) in
-    let low : r.clock.next ≡ r.clock.low = rw clock refl in
-    let new : IsAt t.count s r.clock 0 = rw clock (clock_new t.count s near) in
-    let empty = signals_none t traffic m heard r.clock.low r.clock.next new.timed
-    (omega (arith, low)) in
-    record {
-      clocked = clock_more new (length heard) none (omega arith) within most;
-      fingers_are = fingers;
-      state_is = state;
-      mask_is = mask;
-      near = omega (arith, same);
-      softs_are = λ come. absurd (omega (arith, same, come));
-      framed = subst (StandsFor r.framer) (sym empty) framed;
-    }
-
 -- at most one message is kept
 pub kept_most : (kept : Option SpelledSignal) → kept_by kept ≤ 1
 kept_most None = omega arith
 kept_most (Some message) = omega arith
 
--- where none is kept a frame is due
-pub frame_due : (count : ℕ) (r : TrafficReceiver) → IsTrafficDue count r → r.kept ≡ None →
-    IsDueAt count r.clock
-frame_due count r due empty =
-    elim due [
-      | inl some ↦
-          let is : is_some r.kept ≡ true = some in
-          let none : false ≡ true = rw empty at is in
-          absurd (cc)
-      | inr d ↦ d
+-- where nothing is there to tell no message is kept
+pub untold_kept : (r : TrafficReceiver) → ¬ HasTold r → r.kept ≡ None
+untold_kept r none = by_kept r.kept (λ some. none (inl some))
+  where
+    by_kept : (kept : Option SpelledSignal) → ¬ IsTrue (is_some kept) → kept ≡ None
+    by_kept None h = refl
+    by_kept (Some message) h = absurd (h refl)
+
+-- and no frame has come
+pub untold_come : (r : TrafficReceiver) → IsSoundTraffic r → ¬ HasTold r → r.have ≡ r.next
+untold_come r sound none =
+    elim (cases_lt r.next r.have) [
+      | inl less ↦ absurd (none (inr less))
+      | inr more ↦ let order = sound.next_have in omega (arith, more, order)
     ]
 
--- the event of the message that is kept is the first of those left
-pub left_given : (t : Tuning) (traffic : Traffic) (m : Mark) (heard : List Sample)
-    (r : TrafficReceiver) (message : SpelledSignal) (event : Event) (n : ℕ) →
-    r.kept ≡ Some message → n ≡ length heard →
-    event ∷ [] ≡ message_events n (Some message) →
-    event ∷ traffic_left_of t traffic m heard (record r { kept = None })
-    ≡ traffic_left_of t traffic m heard r
-left_given t traffic m heard r message event n is here event_is =
-    ap (λ (es : List Event). es ++ told_left t traffic m heard r.clock.next)
-    (event_is
-    ∙ ap (λ (k : ℕ). message_events k (Some message)) here
-    ∙ ap (message_events (length heard)) (sym is))
+-- so where nothing is due
+pub none_kept : (r : TrafficReceiver) → ¬ IsTrafficDue r → r.kept ≡ None
+none_kept r none = untold_kept r (λ told. none (inl told))
+
+pub none_come : (r : TrafficReceiver) → IsSoundTraffic r → ¬ IsTrafficDue r → r.have ≡ r.next
+none_come r sound none = untold_come r sound (λ told. none (inl told))
+
+-- a frame begins at the moment that tells its pilots, or behind it
+pub start_moment : (traffic : Traffic) (m : Mark) (k : ℕ) →
+    moment_place m (moment_of traffic k) ≤ traffic_start traffic m k
+start_moment traffic m k = omega arith
+
+-- what a receiver has still to tell where no message is kept
+pub left_unkept : (t : Tuning) (traffic : Traffic) (m : Mark) (samples : List Sample)
+    (r : TrafficReceiver) (kept : ℕ → Standing) → r.kept ≡ None →
+    told_left_with t traffic m samples r kept
+    ≡ told_left t traffic m (legs_by traffic m kept) samples r.next
+left_unkept t traffic m samples r kept empty =
+    ap (λ (k : Option SpelledSignal). message_events (length samples) k
+    ++ told_left t traffic m (legs_by traffic m kept) samples r.next) empty
 
 module _ {t : Tuning} {traffic : Traffic} {m : Mark} {r : TrafficReceiver} {heard : List Sample}
-    (st : HearsTraffic t traffic m r heard) where
-  -- a frame that has come is due, as it doesn't wait
-  pub due_come : r.clock.next < r.clock.have → IsDueAt t.count r.clock
-  due_come come =
-      let alone : r.clock.waits ≡ false = st.clocked.waits_is in
-      (come, λ w. absurd (cc))
+    {pages : List Event} {kept : ℕ → Standing}
+    (st : HearsWith t traffic m r heard pages kept) (sound : IsSoundTraffic r) where
+  pub far : 2 ^ 16 ≤ m.sample
+  far =
+      subst (λ (x : Mark). 2 ^ 16 ≤ x.sample) st.mark_is sound.keeper.marked.late
 
-  pub none_come : ¬ IsDueAt t.count r.clock → r.clock.have ≡ r.clock.next
-  none_come none =
-      let order = st.clocked.reached.next_have in
-      elim (cases_lt r.clock.next r.clock.have) [
-        | inl less ↦ absurd (none (due_come less))
-        | inr more ↦ omega (arith, more, order)
+  pub closes : AreCloseAll t (legs_by traffic m kept)
+  closes k = st.close (moment_of traffic k)
+
+  -- THE FRAME THAT COMES NEXT
+  pub fingers_are : moment_of traffic r.have ≤ r.sets.passed →
+      fingers_in r ≡ all_fingers t.phase t.deltas (legs_by traffic m kept r.have)
+  fingers_are told =
+      ap (λ (p : ℕ). all_fingers p (take r.near.count r.near.deltas) r.legs) st.phase_is
+      ∙ ap (λ (ds : List ℤ). all_fingers t.phase ds r.legs) st.deltas_are
+      ∙ ap (all_fingers t.phase t.deltas) (st.legs_are told)
+
+  pub end_is : moment_of traffic r.have ≤ r.sets.passed →
+      r.end ≡ frame_known t traffic m (legs_by traffic m kept) r.have
+  end_is told =
+      sound.ends
+      ∙ ap (λ (fs : List Finger). frame_end fs Data r.start) (fingers_are told)
+      ∙ ap (frame_end (all_fingers t.phase t.deltas (legs_by traffic m kept r.have)) Data)
+      st.start_is
+      ∙ sym (known_is t traffic m (legs_by traffic m kept) r.have)
+
+  -- where it ends up to the next moment, a moment that has passed told its pilots
+  pub told_by_end : r.end ≤ moment_place m (r.sets.passed + 1) →
+      moment_of traffic r.have ≤ r.sets.passed
+  told_by_end ends =
+      elim (cases_lt r.sets.passed (moment_of traffic r.have)) [
+        | inl later ↦
+            let low = (close_ends r.start (fingers_in r) sound.fingers_close).0 in
+            let end = sound.ends in
+            let start = st.start_is in
+            let behind = start_moment traffic m r.have in
+            absurd (omega (arith, later, low, end, start, behind, ends))
+        | inr told ↦ told
       ]
 
-  -- more samples, up to the end of the frame that comes next
-  pub hears_more : (more : List Sample) → ¬ IsDueAt t.count r.clock →
-      length heard + length more ≤ t.count → length heard + length more ≤ r.clock.end →
-      HearsTraffic t traffic m r (heard ++ more)
-  hears_more more none within most =
-      let n : length (heard ++ more) ≡ length heard + length more = length-append heard more in
-      record {
-        clocked = clock_more st.clocked (length (heard ++ more)) none (omega (arith, n))
-            (omega (arith, n, within)) (omega (arith, n, most));
-        fingers_are = st.fingers_are;
-        state_is = st.state_is;
-        mask_is = st.mask_is;
-        near = st.near;
-        softs_are = λ come. absurd (none (due_come come));
-        framed = subst (StandsFor r.framer) (sym (signals_sooner t traffic m r.clock.low
-            st.clocked.timed heard more r.clock.next (before_next st.clocked))) st.framed;
-      }
+  -- where no frame is due, those from the next on end when the next one does, or later
+  pub from_next : r.have ≡ r.next → (n : ℕ) → n ≤ r.end →
+      n ≤ moment_place m (r.sets.passed + 1) + 24350 → (k : ℕ) → r.next ≤ k →
+      n ≤ frame_known t traffic m (legs_by traffic m kept) k
+  from_next idle n ends early k above =
+      let low = known_low t traffic m (legs_by traffic m kept) closes k in
+      elim (cases_lt r.sets.passed (moment_of traffic r.have)) [
+        | inl later ↦
+            let behind = start_moment traffic m r.have in
+            omega (arith, later, behind, low, early, above, idle)
+        | inr told ↦
+            let end = end_is told in
+            elim (cases_order r.have k) [
+              | inl same ↦
+                  let here = ap (frame_known t traffic m (legs_by traffic m kept)) same in
+                  omega (arith, ends, end, here)
+              | inr (inl less) ↦
+                  let more = known_later t traffic m (legs_by traffic m kept) closes r.have k less
+                  in
+                  omega (arith, ends, end, more)
+              | inr (inr more) ↦ absurd (omega (arith, more, above, idle))
+            ]
+      ]
 
-  -- the soft values of a frame have come
-  pub hears_come : (softs : List ℤ) → ¬ IsDueAt t.count r.clock → r.clock.end ≡ length heard →
-      softs ≡ unturned_softs t traffic m heard r.clock.have →
-      HearsTraffic t traffic m (record r { clock = frame_come r.clock; softs = softs }) heard
-  hears_come softs none ended e =
-      let same = none_come none in
+  -- so nothing is left to tell
+  pub told_given : r.have ≡ r.next → r.kept ≡ None → length heard < r.end →
+      told_left_with t traffic m heard r kept ≡ []
+  told_given idle empty ends =
+      let early = st.coming in
+      left_unkept t traffic m heard r kept empty
+      ∙ told_left_none t traffic m (legs_by traffic m kept) heard r.next
+      (λ k above.
+      from_next idle (length heard + 1) (omega (arith, ends)) (omega (arith, early)) k above)
+
+  -- before the next frame ends none is heard
+  pub told_quiet : ¬ IsTrafficDue r → (samples : List Sample) (n later : ℕ) →
+      length heard < n → n < later → later ≤ r.end →
+      later ≤ moment_place m (r.sets.passed + 1) →
+      told_at t traffic m (legs_by traffic m kept) samples n ≡ []
+  told_quiet none samples n later past before ends early =
+      told_none t traffic m (legs_by traffic m kept) samples n
+      (λ k inside e.
+      elim (cases_lt k r.next) [
+        | inl less ↦ let ended = st.ended k less in omega (arith, ended, e, past)
+        | inr more ↦
+            let known = from_next (none_come r sound none) later ends (omega (arith, early)) k more
+            in
+            omega (arith, known, e, before)
+      ])
+
+  -- where more samples have come, all that ends with the last of them is left
+  pub told_come : ¬ IsTrafficDue r → (samples : List Sample) → length heard < length samples →
+      told_left_with t traffic m samples r kept
+      ≡ told_at t traffic m (legs_by traffic m kept) samples (length samples)
+  told_come none samples past =
+      left_unkept t traffic m samples r kept (none_kept r none)
+      ∙ told_left_all t traffic m (legs_by traffic m kept) samples r.next
+      (λ k less inside e. let ended = st.ended k less in omega (arith, ended, e, past))
+
+  -- MORE SAMPLES, UP TO THE END OF THE FRAME THAT COMES NEXT
+  module _ (more : List Sample) (none : ¬ IsTrafficDue r) (some : 0 < length more)
+      (ends : length heard + length more ≤ r.end)
+      (early : length heard + length more ≤ moment_place m (r.sets.passed + 1))
+      (waits : length heard < r.end) (within : length heard + length more ≤ t.count)
+      (given : pages ≡ []) (later : List Event)
+      (later_is : later ≡ map (page_event (length (heard ++ more)))
+      (pages_behind t t.paging (Some m) (heard ++ more) (length (heard ++ more))))
+      (quiet : (samples : List Sample) (n : ℕ) → length heard < n →
+      n < length heard + length more → pages_behind t t.paging (Some m) samples n ≡ [])
+      (before : (n : ℕ) → n ≤ m.sample →
+      pages_behind t t.paging (Some m) (heard ++ more) n ≡ []) where
+    long : length (heard ++ more) ≡ length heard + length more
+    long = length-append heard more
+
+    -- what is heard with the last sample is what is left
+    last_told : (n : ℕ) → n ≡ length (heard ++ more) →
+        told_by t traffic m (legs_by traffic m kept) (heard ++ more) n
+        ≡ later ++ told_left_with t traffic m (heard ++ more) r kept
+    last_told n is =
+        let legs = legs_by traffic m kept in
+        let all : ℕ = length (heard ++ more) in
+        let come = told_come none (heard ++ more) (omega (arith, long, some)) in
+        let whole : take all (heard ++ more) ≡ heard ++ more =
+        take_all all (heard ++ more) (omega arith) in
+        ap (told_by t traffic m legs (heard ++ more)) is
+        ∙ told_is t traffic m legs (heard ++ more) all
+        ∙ ap (λ (xs : List Sample). map (page_event all) (pages_behind t t.paging (Some m) xs all)
+        ++ told_at t traffic m legs xs all) whole
+        ∙ ap (λ (es : List Event). es ++ told_at t traffic m legs (heard ++ more) all)
+        (sym later_is)
+        ∙ ap (λ (es : List Event). later ++ es) (sym come)
+
+    quiet_told : (n : ℕ) → length heard < n → n < length heard + length more →
+        told_by t traffic m (legs_by traffic m kept) (heard ++ more) n ≡ []
+    quiet_told n past less =
+        let legs = legs_by traffic m kept in
+        let first = take n (heard ++ more) in
+        told_is t traffic m legs (heard ++ more) n
+        ∙ ap (λ (ps : List _). map (page_event n) ps ++ told_at t traffic m legs first n)
+        (quiet first n past less)
+        ∙ told_quiet none first n (length heard + length more) past less ends early
+
+    now : r.sets.sets ≡ heard_from t traffic m kept heard r.sets.passed
+        (length heard - moment_place m r.sets.passed)
+    now =
+        sym (ap (λ (es : List Event). all_noted m (es ++ told_left_with t traffic m heard r kept)
+        r.sets.sets) given
+        ∙ ap (λ (es : List Event). all_noted m es r.sets.sets)
+        (told_given (none_come r sound none) (none_kept r none) waits))
+        ∙ st.sets_are
+
+    -- the sets behind the mark
+    sets_grown : moment_place m r.sets.passed < length heard + length more →
+        all_noted m (later ++ told_left_with t traffic m (heard ++ more) r kept) r.sets.sets
+        ≡ heard_from t traffic m kept (heard ++ more) r.sets.passed
+        (length (heard ++ more) - moment_place m r.sets.passed)
+    sets_grown behind =
+        let j : ℕ = r.sets.passed in
+        let place : ℕ = moment_place m j in
+        let a : ℕ = length heard - place in
+        let d : ℕ = length heard + length more - place - a - 1 in
+        let count : a + d + 1 ≡ length (heard ++ more) - place =
+        omega (arith, long, behind, some) in
+        let last : place + (a + d) + 1 ≡ length (heard ++ more) =
+        omega (arith, long, behind, some) in
+        let grown = heard_grown t traffic m kept j heard more a d
+        (λ i less.
+        told_first t traffic m (legs_by traffic m kept) heard more (place + i + 1)
+        (omega (arith, less)))
+        (λ i low less. quiet_told (place + i + 1) (omega (arith, low)) (omega (arith, less))) in
+        ap (λ (s : Standing).
+        all_noted m (later ++ told_left_with t traffic m (heard ++ more) r kept) s) now
+        ∙ ap (λ (es : List Event). all_noted m es (heard_from t traffic m kept heard j a))
+        (sym (last_told (place + (a + d) + 1) last))
+        ∙ sym grown
+        ∙ ap (heard_from t traffic m kept (heard ++ more) j) count
+
+    -- and before it
+    sets_early : length heard + length more ≤ moment_place m r.sets.passed →
+        all_noted m (later ++ told_left_with t traffic m (heard ++ more) r kept) r.sets.sets
+        ≡ heard_from t traffic m kept (heard ++ more) r.sets.passed
+        (length (heard ++ more) - moment_place m r.sets.passed)
+    sets_early ahead =
+        let j : ℕ = r.sets.passed in
+        let place : ℕ = moment_place m j in
+        let begun = st.begun in
+        let first : j ≡ 0 =
+        elim (cases_lt 0 j) [
+          | inl less ↦ let b = begun less in absurd (omega (arith, b, ahead, some))
+          | inr none' ↦ omega (arith, none')
+        ] in
+        let n : ℕ = length (heard ++ more) in
+        let at_mark : n ≤ m.sample = omega (arith, long, ahead, first) in
+        let legs = legs_by traffic m kept in
+        let pages_none : later ≡ [] = later_is ∙ ap (map (page_event n)) (before n at_mark) in
+        let come = told_come none (heard ++ more) (omega (arith, long, some)) in
+        let frames_none : told_at t traffic m legs (heard ++ more) n ≡ [] =
+        told_none t traffic m legs (heard ++ more) n
+        (λ k inside e.
+        let low = known_low t traffic m legs closes k in omega (arith, low, e, at_mark)) in
+        let zero_now : length heard - place ≡ 0 = omega (arith, ahead) in
+        let zero_then : n - place ≡ 0 = omega (arith, ahead, long) in
+        ap (λ (es : List Event).
+        all_noted m (es ++ told_left_with t traffic m (heard ++ more) r kept) r.sets.sets)
+        pages_none
+        ∙ ap (λ (es : List Event). all_noted m es r.sets.sets) (come ∙ frames_none)
+        ∙ now
+        ∙ ap (heard_from t traffic m kept heard j) zero_now
+        ∙ heard_none t traffic m kept j heard []
+        ∙ sym (heard_none t traffic m kept j (heard ++ more) [])
+        ∙ sym (ap (heard_from t traffic m kept (heard ++ more) j) zero_then)
+
+    pub hears_more : HearsWith t traffic m r (heard ++ more) later kept
+    hears_more =
+        let idle = none_come r sound none in
+        record {
+          mark_is = st.mark_is;
+          phase_is = st.phase_is;
+          deltas_are = st.deltas_are;
+          state_is = st.state_is;
+          mask_is = st.mask_is;
+          offset = st.offset;
+          start_is = st.start_is;
+          close = st.close;
+          legs_are = st.legs_are;
+          within = omega (arith, long, within);
+          pilots_are = st.pilots_are;
+          begun = λ some'. let b = st.begun some' in omega (arith, long, b);
+          behind = λ event rest left some'.
+              let b = st.begun some' in omega (arith, long, b, some);
+          coming = omega (arith, long, early);
+          due_is = λ due. absurd (none (inr due));
+          ended = λ k less. let e = st.ended k less in omega (arith, long, e);
+          known = λ come. absurd (omega (arith, come, idle));
+          softs_are = λ come. absurd (omega (arith, come, idle));
+          power_is = λ come. absurd (omega (arith, come, idle));
+          framed = subst (StandsFor r.framer)
+              (sym (signals_sooner t traffic m (legs_by traffic m kept) heard more r.next
+              (λ k less inside. st.ended k less))) st.framed;
+          sets_are = elim (cases_lt (moment_place m r.sets.passed) (length heard + length more)) [
+            | inl behind ↦ sets_grown behind
+            | inr ahead ↦ sets_early ahead
+          ];
+        }
+
+  -- what is heard of the frame that has just come
+  pub softs_here : moment_of traffic r.have ≤ r.sets.passed →
+      softs heard (fingers_in r) Data r.start
+      ≡ unturned_softs t traffic m (legs_by traffic m kept) heard r.have
+  softs_here told =
+      ap (λ (fs : List Finger). softs heard fs Data r.start) (fingers_are told)
+      ∙ ap (softs heard (all_fingers t.phase t.deltas (legs_by traffic m kept r.have)) Data)
+      st.start_is
+
+  coming_places : power_places (after r.scrambling.state (24576 * r.have)) r.scrambling.mask
+      ≡ replaced_in traffic m r.have
+  coming_places =
+      ap (λ (n : ℕ). power_places n r.scrambling.mask)
+      (state_on traffic m r.scrambling.state r.have st.state_is)
+      ∙ ap (power_places (frame_state traffic m r.have)) st.mask_is
+
+  pub power_here : moment_of traffic r.have ≤ r.sets.passed →
+      map
+      (sums_on heard r.phase (take r.near.count r.near.deltas) r.legs r.start
+      (power_places (after r.scrambling.state (24576 * r.have)) r.scrambling.mask))
+      (subchannels r.legs)
+      ≡ all_sums t traffic m (legs_by traffic m kept) heard r.have
+  power_here told =
+      let replaced = power_places (after r.scrambling.state (24576 * r.have)) r.scrambling.mask in
+      let of : ℕ → List ℤ → List Leg → ℕ → List ℕ → List (List ℤ) =
+      λ p ds ls u ps. map (sums_on heard p ds ls u ps) (subchannels ls) in
+      let legs = legs_by traffic m kept r.have in
+      ap (λ (p : ℕ). of p (take r.near.count r.near.deltas) r.legs r.start replaced) st.phase_is
+      ∙ ap (λ (ds : List ℤ). of t.phase ds r.legs r.start replaced) st.deltas_are
+      ∙ ap (λ (ls : List Leg). of t.phase t.deltas ls r.start replaced) (st.legs_are told)
+      ∙ ap (λ (u : ℕ). of t.phase t.deltas legs u replaced) st.start_is
+      ∙ ap (of t.phase t.deltas legs (traffic_start traffic m r.have)) coming_places
+
+  -- A FRAME
+  -- The soft values of the frame whose last sample has just come, with the pilots that are told to
+  -- the one behind it.
+  pub hears_come : (fresh : List ℤ) (power : PowerSofts) (start end : ℕ) (legs : List Leg) →
+      r.have ≡ r.next → r.end ≡ length heard → start ≡ r.start + 24576 →
+      fresh ≡ unturned_softs t traffic m (legs_by traffic m kept) heard r.have →
+      frames.subchannels power ≡ all_sums t traffic m (legs_by traffic m kept) heard r.have →
+      (moment_of traffic (r.have + 1) ≡ r.sets.passed →
+      legs ≡ legs_of r.sets.mark r.sets.sets) →
+      HearsWith t traffic m
+      (record r {
+        have = r.have + 1;
+        start = start;
+        end = end;
+        legs = legs;
+        softs = fresh;
+        power = power;
+      }) heard pages kept
+  hears_come fresh power start end legs idle ended start_is softs_is power_is tuned =
+      let coming = st.coming in
+      let told = told_by_end (omega (arith, ended, coming)) in
+      let known = end_is told in
+      let high = known_high t traffic m (legs_by traffic m kept) closes r.have in
+      let was = st.start_is in
+      let here = ap (frame_known t traffic m (legs_by traffic m kept)) idle in
+      let offset = st.offset in
+      let behind : r.sets.passed ≤ moment_of traffic (r.have + 1) =
+      elim (cases_lt 0 r.sets.passed) [
+        | inl some ↦
+            let b = st.begun some in omega (arith, b, ended, known, high, offset)
+        | inr none ↦ omega (arith, none)
+      ] in
       record {
-        clocked = clock_come st.clocked none ended;
-        fingers_are = st.fingers_are;
+        mark_is = st.mark_is;
+        phase_is = st.phase_is;
+        deltas_are = st.deltas_are;
         state_is = st.state_is;
         mask_is = st.mask_is;
-        near = omega (arith, same);
-        softs_are = λ come. e ∙ ap (unturned_softs t traffic m heard) same;
+        offset = st.offset;
+        start_is = omega (arith, start_is, was);
+        close = st.close;
+        legs_are = λ early.
+            let at' : moment_of traffic (r.have + 1) ≡ r.sets.passed =
+            omega (arith, behind, early) in
+            tuned at'
+            ∙ ap (λ (x : Mark). legs_of x r.sets.sets) st.mark_is
+            ∙ st.pilots_are
+            ∙ ap (λ (i : ℕ). legs_of m (kept i)) (sym at');
+        pilots_are = st.pilots_are;
+        within = st.within;
+        begun = st.begun;
+        behind = st.behind;
+        coming = st.coming;
+        due_is = st.due_is;
+        ended = st.ended;
+        known = λ come. omega (arith, here, known, ended);
+        softs_are = λ come. softs_is
+            ∙ ap (unturned_softs t traffic m (legs_by traffic m kept) heard) idle;
+        power_is = λ come. power_is
+            ∙ ap (all_sums t traffic m (legs_by traffic m kept) heard) idle;
         framed = st.framed;
+        sets_are = st.sets_are;
       }
 
-  -- the message that is kept has been given
-  pub hears_given : HearsTraffic t traffic m (record r { kept = None }) heard
-  hears_given = record {
-    clocked = st.clocked;
-    fingers_are = st.fingers_are;
+  -- the same, as it goes on: its soft values are taken, and the next frame is tuned
+  pub hears_taken : (r1 r2 : TrafficReceiver) →
+      r1 ≡ record r { softs = r1.softs; power = r1.power } →
+      r2 ≡ record (record r1 {
+        have = r1.have + 1;
+        start = r1.start + 24576;
+        end = r1.end + 24576;
+      }) { legs = r2.legs; end = r2.end } →
+      r.have ≡ r.next → r.end ≡ length heard →
+      r1.softs ≡ unturned_softs t traffic m (legs_by traffic m kept) heard r.have →
+      frames.subchannels r1.power ≡ all_sums t traffic m (legs_by traffic m kept) heard r.have →
+      ((r1.start + 24576 - r1.sets.mark.sample) / 98304 ≡ r1.sets.passed →
+      r2.legs ≡ legs_of r1.sets.mark r1.sets.sets) →
+      HearsWith t traffic m r2 heard pages kept
+  hears_taken r1 r2 is1 is2 idle ended softs power tuned =
+      let start = ap (λ (x : TrafficReceiver). x.start) is1 in
+      let sets = ap (λ (x : TrafficReceiver). x.sets) is1 in
+      let sample = ap (λ (x : SetsKeeper). x.mark.sample) sets in
+      let passed = ap (λ (x : SetsKeeper). x.passed) sets in
+      let here = ap (λ (x : Mark). x.sample) st.mark_is in
+      let was = st.start_is in
+      let told : moment_of traffic (r.have + 1) ≡ r.sets.passed →
+      r2.legs ≡ legs_of r.sets.mark r.sets.sets = λ e.
+      tuned (omega (arith, e, start, sample, passed, here, was))
+      ∙ ap (λ (x : SetsKeeper). legs_of x.mark x.sets) sets in
+      subst (λ (x : TrafficReceiver). HearsWith t traffic m x heard pages kept) (sym is2)
+      (subst
+      (λ (x : TrafficReceiver).
+      HearsWith t traffic m
+      (record (record x {
+        have = x.have + 1;
+        start = x.start + 24576;
+        end = x.end + 24576;
+      }) { legs = r2.legs; end = r2.end }) heard pages kept)
+      (sym is1)
+      (hears_come r1.softs r1.power (r.start + 24576) r2.end r2.legs idle ended refl softs power
+      told))
+
+  -- a moment has come
+  pub hears_due : (due : Bool) → (due ≡ true → length heard ≡ moment_place m (r.sets.passed + 1)) →
+      HearsWith t traffic m (record r { sets = record r.sets { due = due } }) heard pages kept
+  hears_due due due_is = record {
+    mark_is = st.mark_is;
+    phase_is = st.phase_is;
+    deltas_are = st.deltas_are;
     state_is = st.state_is;
     mask_is = st.mask_is;
-    near = st.near;
+    offset = st.offset;
+    start_is = st.start_is;
+    close = st.close;
+    legs_are = st.legs_are;
+    within = st.within;
+    pilots_are = st.pilots_are;
+    begun = st.begun;
+    behind = st.behind;
+    coming = st.coming;
+    due_is = due_is;
+    ended = st.ended;
+    known = st.known;
     softs_are = st.softs_are;
+    power_is = st.power_is;
     framed = st.framed;
+    sets_are = st.sets_are;
   }
 
-  -- the frame that is due has been heard, and the framer has taken its signaling
-  pub hears_heard : (framer : Option (List Bool)) (kept : Option SpelledSignal) →
-      IsDueAt t.count r.clock →
-      StandsFor framer (signals_before t traffic m heard (r.clock.next + 1)) →
-      HearsTraffic t traffic m
-      (record r { clock = frame_heard r.clock; framer = framer; kept = kept }) heard
-  hears_heard framer kept d framed =
-      let near = st.near in
-      record {
-        clocked = clock_heard st.clocked d;
-        fingers_are = st.fingers_are;
-        state_is = st.state_is;
-        mask_is = st.mask_is;
-        near = omega (arith, near);
-        softs_are = λ come. absurd (omega (arith, near, come));
-        framed = framed;
-      }
+  -- a frame that is due lies in the file
+  pub due_inside : r.next < r.have →
+      has_frame t traffic m (legs_by traffic m kept) r.next ≡ true
+  due_inside come =
+      let known = st.known come in
+      let within = st.within in
+      has_here t traffic m (legs_by traffic m kept) closes far r.next
+      (omega (arith, known, within))
 
   -- the places and the scrambling bits of the frame that is heard next
-  pub places_are : power_places (after r.scrambling.state (24576 * r.clock.next)) r.scrambling.mask
-      ≡ replaced_in traffic m r.clock.next
+  pub places_are : power_places (after r.scrambling.state (24576 * r.next)) r.scrambling.mask
+      ≡ replaced_in traffic m r.next
   places_are =
       ap (λ (n : ℕ). power_places n r.scrambling.mask)
-      (state_on traffic m r.scrambling.state r.clock.next st.state_is)
-      ∙ ap (power_places (frame_state traffic m r.clock.next)) st.mask_is
+      (state_on traffic m r.scrambling.state r.next st.state_is)
+      ∙ ap (power_places (frame_state traffic m r.next)) st.mask_is
 
-  bits_are : scrambling (after r.scrambling.state (24576 * r.clock.next)) r.scrambling.mask
-      ≡ (traffic_stream t traffic m).scrambling r.clock.next
+  pub bits_are : scrambling (after r.scrambling.state (24576 * r.next)) r.scrambling.mask
+      ≡ scrambling (frame_state traffic m r.next) (traffic_mask traffic.esn)
   bits_are =
       ap (λ (n : ℕ). scrambling n r.scrambling.mask)
-      (state_on traffic m r.scrambling.state r.clock.next st.state_is)
-      ∙ ap (scrambling (frame_state traffic m r.clock.next)) st.mask_is
+      (state_on traffic m r.scrambling.state r.next st.state_is)
+      ∙ ap (scrambling (frame_state traffic m r.next)) st.mask_is
 
-  module _ (d : IsDueAt t.count r.clock) (replaced : List ℕ)
-      (replaced_is : replaced
-      ≡ power_places (after r.scrambling.state (24576 * r.clock.next)) r.scrambling.mask) where
+  module _ (come : r.next < r.have) where
     -- what is decoded of the frame that is due
-    pub frame_here : (bits : List Bool) (turned : List ℤ) (frame : Decoded) →
-        bits ≡ scrambling (after r.scrambling.state (24576 * r.clock.next)) r.scrambling.mask →
+    pub frame_here : (replaced : List ℕ) (bits : List Bool) (turned : List ℤ) (frame : Decoded) →
+        replaced
+        ≡ power_places (after r.scrambling.state (24576 * r.next)) r.scrambling.mask →
+        bits ≡ scrambling (after r.scrambling.state (24576 * r.next)) r.scrambling.mask →
         turned ≡ unscrambled bits r.softs → frame ≡ decoded replaced turned →
-        frame ≡ decoded_at t traffic m heard r.clock.next
+        frame ≡ decoded_at t traffic m (legs_by traffic m kept) heard r.next
     unfolding decoded_at
-    frame_here bits turned frame bits_is turned_is frame_is =
-        let k : ℕ = r.clock.next in
-        let s = traffic_stream t traffic m in
+    frame_here replaced bits turned frame replaced_is bits_is turned_is frame_is =
+        let k : ℕ = r.next in
         frame_is
         ∙ ap (λ (ps : List ℕ). decoded ps turned) (replaced_is ∙ places_are)
         ∙ ap (decoded (replaced_in traffic m k))
         (turned_is
         ∙ ap (λ (b : List Bool). unscrambled b r.softs) (bits_is ∙ bits_are)
-        ∙ ap (unscrambled (s.scrambling k)) (st.softs_are d.0))
+        ∙ ap (unscrambled (scrambling (frame_state traffic m k) (traffic_mask traffic.esn)))
+        (st.softs_are come))
 
     -- and its power control bits
     pub commands_here : (told : List Bool) →
-        told ≡ map (command (group_sums replaced r.softs ∷ [])) (places 16) →
-        told ≡ commands_at t traffic m heard r.clock.next
+        told ≡ map (command (frames.subchannels r.power)) (places 16) →
+        told ≡ commands_at t traffic m (legs_by traffic m kept) heard r.next
     unfolding commands_at
     commands_here told told_is =
-        let k : ℕ = r.clock.next in
-        let of : List ℕ → List ℤ → List Bool =
-        λ ps softs. map (command (group_sums ps softs ∷ [])) (places 16) in
         told_is
-        ∙ ap (λ (ps : List ℕ). of ps r.softs) (replaced_is ∙ places_are)
-        ∙ ap (of (replaced_in traffic m k)) (st.softs_are d.0)
-
-  module _ (d : IsDueAt t.count r.clock) (frame : Decoded)
-      (frame_is : frame ≡ decoded_at t traffic m heard r.clock.next) where
-    signal_here : signal_of frame ≡ signal_at t traffic m heard r.clock.next
-    unfolding signal_at
-    signal_here = ap (λ (f : Decoded). signal_of f) frame_is
-
-    -- the framer has taken the signaling of one frame more
-    pub framed_here : (framer : Option (List Bool)) →
-        ((signals : List (List Bool)) → StandsFor r.framer signals →
-        StandsFor framer (signals ++ option_to_list (signal_of frame))) →
-        StandsFor framer (signals_before t traffic m heard (r.clock.next + 1))
-    framed_here framer takes =
-        let k : ℕ = r.clock.next in
-        let before = signals_before t traffic m heard k in
-        subst (StandsFor framer)
-        (ap (λ (s : Option (List Bool)). before ++ option_to_list s) signal_here
-        ∙ sym (signals_more t traffic m heard k (due_inside st.clocked d)))
-        (takes before st.framed)
-
-    -- and gives the message that this completes
-    message_here : (kept : Option SpelledSignal) (check : CheckForm) → check ≡ t.check16 →
-        ((signals : List (List Bool)) → StandsFor r.framer signals →
-        kept ≡ signal_in check (capsule_with signals (signal_of frame))) →
-        kept ≡ message_at t traffic m heard r.clock.next
-    unfolding message_at
-    message_here kept check check_is gives =
-        let before = signals_before t traffic m heard r.clock.next in
-        gives before st.framed
-        ∙ ap (λ (c : CheckForm). signal_in c (capsule_with before (signal_of frame))) check_is
-        ∙ ap (λ (s : Option (List Bool)). signal_in t.check16 (capsule_with before s)) signal_here
-
-    -- the event of the frame that is due is the first of those left, and what it completes follows
-    pub left_here : (event : Event) (told : List Bool) (kept : Option SpelledSignal)
-        (check : CheckForm) → event ≡ frame_event (length heard) frame told →
-        told ≡ commands_at t traffic m heard r.clock.next → check ≡ t.check16 →
-        ((signals : List (List Bool)) → StandsFor r.framer signals →
-        kept ≡ signal_in check (capsule_with signals (signal_of frame))) → r.kept ≡ None →
-        event ∷ (message_events (length heard) kept
-        ++ told_left t traffic m heard (r.clock.next + 1))
-        ≡ traffic_left_of t traffic m heard r
-    left_here event told kept check event_is told_is check_is gives empty =
-        let k : ℕ = r.clock.next in
-        let n : ℕ = length heard in
-        let is = st.clocked in
-        let low : ℕ = r.clock.low in
-        let frames = frames_left_of t traffic m heard (k + 1) in
-        let messages = messages_left_of t traffic m heard (k + 1) in
-        let known = due_known is d in
-        let inside = due_inside is d in
-        let same : event ≡ heard_frame t traffic m heard n k =
-        event_is
-        ∙ ap (λ (f : Decoded). frame_event n f told) frame_is
-        ∙ ap (frame_event n (decoded_at t traffic m heard k)) told_is in
-        one_left event (message_events n kept) (frames_left_of t traffic m heard k) frames
-        (messages_left_of t traffic m heard k) messages
-        (frame_next t traffic m low is.timed heard k inside known
-        ∙ ap (λ (e : Event). e ∷ frames) (sym same))
-        (frame_alone t traffic m low is.timed heard k known)
-        (message_next t traffic m low is.timed heard k inside known
-        ∙ ap (λ (x : Option SpelledSignal). message_events n x ++ messages)
-        (sym (message_here kept check check_is gives)))
-        ∙ ap (λ (x : Option SpelledSignal). message_events n x ++ told_left t traffic m heard k)
-        (sym empty)
+        ∙ ap (λ (sums : List (List ℤ)). map (command sums) (places 16)) (st.power_is come)

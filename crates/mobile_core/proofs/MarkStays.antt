@@ -1,37 +1,47 @@
 -- The mark stays where more samples are taken, and before it nothing is heard of other channels.
 use Rattle.std.proofs.Common.{◌≡◌, ℕ, zero, suc, ◌+◌, ◌-◌, ◌^◌, ◌<◌, ◌≤◌, ◌==◌, ◌&&◌, Bool}
 use Rattle.std.proofs.Common.{true, false, List, [], ◌∷◌, ◌++◌, length, refl, sym, ap, ◌∙◌, subst}
-use Rattle.std.proofs.Common.{arith, inl, inr, nat_le, nat_lt, Option, Some, None, ℤ}
+use Rattle.std.proofs.Common.{arith, inl, inr, nat_le, nat_lt, Option, Some, None, ℤ, pos, take, get_or}
+use Rattle.std.proofs.Common.{append-nil}
 use Rattle.std.specs.Prelude.{if◌then◌else◌}
 use Rattle.std.specs.List.{filter, flat_map, range_with_len}
 use Rattle.std.proofs.lemmas.Bool.{and_parts, and_from, cases_Bool, cases_lt, false_from_ne_true}
-use Rattle.std.proofs.lemmas.Bool.{leb-true, le-leb}
+use Rattle.std.proofs.lemmas.Bool.{leb-true, le-leb, eq-eqb, ne_eqb}
+use Rattle.pilot_sets.specs.Standing.{new_standing}
 use Rattle.chip_core.specs.Bits.{places}
 use Rattle.chip_core.specs.Fields.{FieldsFit}
 use Rattle.chip_core.specs.declared.check_form.CheckForm.{CheckForm}
 use Rattle.chip_core.specs.declared.sample.Sample.{Sample}
+use Rattle.rake_finger.specs.declared.finger.Finger.{Finger}
 use Rattle.rake_finger.specs.declared.form.Form.TheVariants.{Data}
 use Rattle.sync_message.specs.Reading.{sync_reading}
 use Rattle.sync_message.specs.SyncMessage.{fixed_fields}
 use Rattle.sync_message.specs.declared.fields.SyncFields.{SyncFields}
 use Rattle.sync_message.proofs.Bodies.{fixed_fit}
 use Rattle.sync_message.proofs.Readings.{reading_is_message}
+use Rattle.mobile_core.specs.Close.{AreClose}
+use Rattle.mobile_core.specs.Legs.{all_fingers, legs_of, pilot_finger}
 use Rattle.mobile_core.specs.Marks.{first_of, frames_open, mark, mark_at, marks_at, marks_of}
+use Rattle.mobile_core.specs.Moments.{frames_at, frames_behind, kept_to, legs_at, legs_by}
+use Rattle.mobile_core.specs.Moments.{messages_at, messages_behind, moment_place, moments_before}
+use Rattle.mobile_core.specs.Moments.{sets_at, sets_behind}
 use Rattle.mobile_core.specs.Near.{AreNear, all_near, has_reference, low_in}
 use Rattle.mobile_core.specs.PagingEvents.{pages_at, pages_behind}
 use Rattle.mobile_core.specs.PagingStreams.{paging_stream}
 use Rattle.mobile_core.specs.Streams.{frame_start, is_in_file, known_at}
 use Rattle.mobile_core.specs.SyncEvents.{heard_at, heard_in, sync_capsule_at, with_message}
 use Rattle.mobile_core.specs.Timing.{IsTimed, stream_end}
-use Rattle.mobile_core.specs.Signaling.{messages_at, messages_behind}
-use Rattle.mobile_core.specs.TrafficEvents.{frames_at, frames_behind, if_followed}
-use Rattle.mobile_core.specs.TrafficStreams.{traffic_stream}
+use Rattle.mobile_core.specs.TrafficEvents.{if_followed}
+use Rattle.mobile_core.specs.TrafficStreams.{frame_known}
 use Rattle.mobile_core.specs.Tuning.{Tuning, fingers_of, sync_bound, sync_stream}
 use Rattle.mobile_core.specs.declared.event.Event.{Event}
+use Rattle.mobile_core.specs.declared.legs.Leg.{Leg}
 use Rattle.mobile_core.specs.declared.mark.Mark.{Mark}
 use Rattle.mobile_core.specs.declared.settings.Traffic.{Traffic}
 use Rattle.mobile_core.specs.declared.spelled_message.SpelledMessage.{SpelledMessage}
+use Rattle.mobile_core.proofs.CloseFingers.{near_are_close}
 use Rattle.mobile_core.proofs.FingerTimes.{ends_bounds, timed_in, timed_of}
+use Rattle.mobile_core.proofs.FrameBounds.{known_low}
 use Rattle.mobile_core.proofs.FrameGrowth.{frames_none}
 use Rattle.mobile_core.proofs.FrameTimes.{known_between, known_le}
 use Rattle.mobile_core.proofs.Growth.{IsSyncTimed, sync_in_file, sync_known}
@@ -333,37 +343,59 @@ module _ (t : Tuning) (near : AreNear (sync_stream t).fingers) (channel : ℕ) w
           (mark_behind t _ (timed_of t near) near samples n n' m pilot e e')
 
 -- TRAFFIC CHANNELS
-module _ (t : Tuning) (near : AreNear (sync_stream t).fingers) (traffic : Traffic) where
-  pub traffic_near : (m : Mark) → AreNear (traffic_stream t traffic m).fingers
-  traffic_near m = near_on t traffic.row near
+-- one active pilot, the reference's, has the reference's fingers
+pub pilot_alone : (phase : ℕ) (deltas : List ℤ) (b : Bool) (f : Finger) (c : ℕ) → b ≡ true →
+    all_fingers phase deltas (record { reference = b; finger = f; subchannel = c } ∷ [])
+    ≡ fingers_of f.row phase deltas ++ []
+pilot_alone phase deltas true f c h = refl
+pilot_alone phase deltas false f c h = absurd (cc)
 
-  pub traffic_timed : (m : Mark) →
-      IsTimed t.count (traffic_stream t traffic m) (low_in (traffic_stream t traffic m))
-  traffic_timed m = timed_in t.count (traffic_stream t traffic m) (traffic_near m)
+module _ (t : Tuning) (near : AreNear (sync_stream t).fingers) (traffic : Traffic) where
+  -- before the first moment it is active alone, and its paths are close
+  first_close : (m : Mark) →
+      AreClose (all_fingers t.phase t.deltas (legs_of m (new_standing m.pn traffic.row)))
+  first_close m =
+      let fingers = fingers_of traffic.row t.phase t.deltas in
+      let finger = pilot_finger m (get_or (new_standing m.pn traffic.row).deltas m.pn (pos 0))
+      (record { pilot = m.pn; row = traffic.row; subchannel = 0 }) in
+      subst AreClose
+      (sym (pilot_alone t.phase t.deltas (m.pn == m.pn) finger 0 (eq-eqb m.pn m.pn refl)))
+      (subst AreClose (sym (append-nil fingers)) (near_are_close fingers (near_on t traffic.row near)))
 
   -- no frame ends before the mark
-  pub traffic_later : (m : Mark) (k : ℕ) →
-      is_in_file t.count (traffic_stream t traffic m) k ≡ true →
-      m.sample + 24576 ≤ known_at t.count (traffic_stream t traffic m) k
-  unfolding stream_end
-  traffic_later m k inside =
-      let s = traffic_stream t traffic m in
-      let least = (known_between s (traffic_timed m) k inside).low in
-      let ends = (ends_bounds Data (frame_start s k) s.fingers (traffic_near m)).0 in
-      omega (arith, least, ends)
+  module _ (m : Mark) (samples : List Sample) (n : ℕ) (before : n ≤ m.sample) where
+    at_mark : legs_at t traffic m samples n
+        ≡ (λ k. legs_of m (new_standing m.pn traffic.row))
+    unfolding kept_to
+    at_mark =
+        let none : moments_before m n ≡ 0 = omega (arith, before) in
+        ap (λ (j : ℕ). legs_by traffic m (kept_to t traffic m samples j)) none
 
-  frames_later : (samples : List Sample) (n : ℕ) (m : Mark) → n ≤ m.sample →
-      frames_at t traffic m samples n ≡ []
-  frames_later samples n m before =
-      frames_none t traffic m samples n
-      (λ k inside e. let later = traffic_later m k inside in omega (arith, later, e, before))
+    traffic_later : (k : ℕ) → ¬ (frame_known t traffic m (legs_at t traffic m samples n) k ≡ n)
+    traffic_later k = λ e.
+        let same = ap (λ (legs : ℕ → List Leg). frame_known t traffic m legs k) at_mark in
+        let low = known_low t traffic m (λ i. legs_of m (new_standing m.pn traffic.row))
+        (λ i. first_close m) k in
+        omega (arith, e, same, low, before)
 
-  -- nor does one complete a message
-  messages_later : (samples : List Sample) (n : ℕ) (m : Mark) → n ≤ m.sample →
-      messages_at t traffic m samples n ≡ []
-  messages_later samples n m before =
-      messages_none t traffic m samples n
-      (λ k inside e. let later = traffic_later m k inside in omega (arith, later, e, before))
+    frames_later : frames_at t traffic m samples n ≡ []
+    frames_later =
+        frames_none t traffic m (legs_at t traffic m samples n) (take n samples) n
+        (λ k inside. traffic_later k)
+
+    -- nor does one complete a message
+    messages_later : messages_at t traffic m samples n ≡ []
+    messages_later =
+        messages_none t traffic m (legs_at t traffic m samples n) (take n samples) n
+        (λ k inside. traffic_later k)
+
+    -- nor does a moment lie there
+    sets_later : sets_at t traffic m samples n ≡ []
+    unfolding sets_at
+    sets_later =
+        let elsewhere : (moment_place m (moments_before m n + 1) == n) ≡ false =
+        ne_eqb (moment_place m (moments_before m n + 1)) n (λ e. omega (arith, e, before)) in
+        rw elsewhere refl
 
 module _ (t : Tuning) (near : AreNear (sync_stream t).fingers) where
   -- no frame is heard before the mark
@@ -371,14 +403,21 @@ module _ (t : Tuning) (near : AreNear (sync_stream t).fingers) where
       n ≤ m.sample → frames_behind t followed (Some m) samples n ≡ []
   frames_before_mark None samples n m before = refl
   frames_before_mark (Some traffic) samples n m before =
-      frames_later t near traffic samples n m before
+      frames_later t near traffic m samples n before
 
   -- and no message
   pub messages_before_mark : (followed : Option Traffic) (samples : List Sample) (n : ℕ)
       (m : Mark) → n ≤ m.sample → messages_behind t followed (Some m) samples n ≡ []
   messages_before_mark None samples n m before = refl
   messages_before_mark (Some traffic) samples n m before =
-      messages_later t near traffic samples n m before
+      messages_later t near traffic m samples n before
+
+  -- and nothing of the pilot sets
+  pub sets_before_mark : (followed : Option Traffic) (samples : List Sample) (n : ℕ) (m : Mark) →
+      n ≤ m.sample → sets_behind t followed (Some m) samples n ≡ []
+  sets_before_mark None samples n m before = refl
+  sets_before_mark (Some traffic) samples n m before =
+      sets_later t near traffic m samples n before
 
   pub no_mark : (heard : Traffic → Mark → List Event) (followed : Option Traffic) →
       if_followed heard followed None ≡ []
@@ -422,3 +461,12 @@ module _ (t : Tuning) (near : AreNear (sync_stream t).fingers) where
   messages_by_one_mark followed samples n n' more =
       by_one_mark (λ traffic m. messages_at t traffic m samples n) followed samples n n' more
       (messages_before_mark followed samples n)
+
+  -- And so is the moment that lies there.
+  pub sets_by_one_mark : (followed : Option Traffic) (samples : List Sample) (n n' : ℕ) →
+      n ≤ n' →
+      sets_behind t followed (mark t samples n) samples n
+      ≡ sets_behind t followed (mark t samples n') samples n
+  sets_by_one_mark followed samples n n' more =
+      by_one_mark (λ traffic m. sets_at t traffic m samples n) followed samples n n' more
+      (sets_before_mark followed samples n)

@@ -13,8 +13,8 @@ use Rattle.chip_core.specs.declared.sample.Sample.{Sample}
 use Rattle.rake_finger.specs.Held.{Held, HoldsLast}
 use Rattle.mobile_core.specs.Clocks.{IsDueAt}
 use Rattle.mobile_core.specs.Events.{events_at, events_within, events}
-use Rattle.mobile_core.specs.FollowedChannels.{HearsFollowed, IsFollowedDue, WaitFrom}
-use Rattle.mobile_core.specs.FollowedChannels.{followed_events_left}
+use Rattle.mobile_core.specs.FollowedChannels.{HearsFollowed, IsFollowedDue, IsSoundFollowed}
+use Rattle.mobile_core.specs.FollowedChannels.{WaitFrom, followed_events_left}
 use Rattle.mobile_core.specs.Given.{listed}
 use Rattle.mobile_core.specs.Left.{sync_events_left}
 use Rattle.mobile_core.specs.Marks.{first_of, mark, mark_before, marks_at, sets_mark}
@@ -42,7 +42,7 @@ use Rattle.mobile_core.proofs.MarkGrowth.{mark_before_more, mark_before_none, ma
 use Rattle.mobile_core.proofs.MarkLater.{opens_later}
 use Rattle.chip_core.proofs.Ranges.{flat_map-places-more}
 use Rattle.mobile_core.proofs.SyncHeard as sync
-use Rattle.mobile_core.proofs.TrafficGrowth.{told_unset}
+use Rattle.mobile_core.proofs.FramesFollowed.{told_unset}
 
 or-false : (b : Bool) → (b || false) ≡ b
 or-false true = refl
@@ -131,16 +131,17 @@ module _ {t : Tuning} {p : Parts} {heard : List Sample} {given : List Event}
       (from_next is (length heard + 1) (due_here none) (omega (arith, waits)))
 
   -- all events have been given where no frame is due
-  pub all_given : ¬ IsDueAt p.count p.sync.received.clock →
+  pub all_given : IsSoundFollowed p.followed → ¬ IsDueAt p.count p.sync.received.clock →
       ¬ IsFollowedDue p.count p.followed → length heard < p.sync.received.clock.end →
       WaitFrom (length heard) p.followed → given ≡ events t heard
-  all_given none idle waits others_wait =
+  all_given sound none idle waits others_wait =
       let left = sync_given none waits in
-      let others = followed_given st.followed (others_due_here idle) others_wait in
+      let others = followed_given st.followed sound (others_due_here idle) others_wait in
       let all : given ++ ([] ++ []) ≡ events t heard = rw (left, others) at st.told in
       sym (append-nil given) ∙ all
 
   module _ (more : List Sample) (near : AreNear (sync_stream t).fingers)
+      (sound : IsSoundFollowed p.followed) (others_wait : WaitFrom (length heard) p.followed)
       (none : ¬ IsDueAt p.count p.sync.received.clock)
       (idle : ¬ IsFollowedDue p.count p.followed) where
     more_told : 0 < length more → length heard + length more ≤ p.sync.received.clock.end →
@@ -152,15 +153,12 @@ module _ {t : Tuning} {p : Parts} {heard : List Sample} {given : List Event}
         let clock = p.sync.received.clock in
         let is = st.sync.receives.clocked in
         let n : ℕ = length heard + length more in
-        let all = all_given none idle (omega (arith, most, some)) (record {
-          paging = λ r e. let later = ends.paging r e in omega (arith, later, some);
-          traffic = λ r e. let later = ends.traffic r e in omega (arith, later, some);
-        }) in
+        let all = all_given sound none idle (omega (arith, most, some)) others_wait in
         let behind = subst (λ (m : Option Mark). HearsFollowed t p.followed m heard)
         st.sync.marked st.followed in
         let grown = events_grown t clock.low is.timed near heard more clock.next p.followed some
-        (before_next is) (from_next is n (due_here none) most) behind (others_due_here idle)
-        ends in
+        (before_next is) (from_next is n (due_here none) most) behind sound
+        (others_due_here idle) ends in
         let sync_left = sync_events_left t (heard ++ more) clock.next in
         rw (all, st.sync.marked) (sym grown)
 
@@ -176,8 +174,8 @@ module _ {t : Tuning} {p : Parts} {heard : List Sample} {given : List Event}
           check_is = st.check_is;
           ring = holds;
           sync = sync.hears_more st.sync more (due_here none) (omega (arith, within, count)) most;
-          followed = followed_more st.followed (others_due_here idle) more
-              (omega (arith, within, count)) ends;
+          followed = followed_more st.followed sound (others_due_here idle) near more some
+              (omega (arith, within, count)) others_wait ends;
           noted = st.noted;
           told = more_told some most ends;
         }
@@ -198,14 +196,14 @@ module _ {t : Tuning} {p : Parts} {heard : List Sample} {given : List Event}
       })
 
   pub stands_taken : (more : List Sample) (ring : Held) → AreNear (sync_stream t).fingers →
-      ¬ IsDueAt p.count p.sync.received.clock → ¬ IsFollowedDue p.count p.followed →
+      IsSoundFollowed p.followed → WaitFrom (length heard) p.followed → ¬ IsDueAt p.count p.sync.received.clock → ¬ IsFollowedDue p.count p.followed →
       length heard + length more ≤ p.count →
       length heard + length more ≤ p.sync.received.clock.end →
       EndFrom (length heard + length more) p.followed → HoldsLast ring (heard ++ more) →
       Stands t (record p { ring = ring }) (heard ++ more) given
-  stands_taken [] ring near none idle within most ends holds = stands_none ring holds
-  stands_taken (x ∷ more) ring near none idle within most ends holds =
-      stands_some (x ∷ more) near none idle ring within most ends holds (omega arith)
+  stands_taken [] ring near sound waits none idle within most ends holds = stands_none ring holds
+  stands_taken (x ∷ more) ring near sound waits none idle within most ends holds =
+      stands_some (x ∷ more) near sound waits none idle ring within most ends holds (omega arith)
 
   -- soft values of frames have come
   pub stands_come : (after : SyncReceiver) (followed : Followed) → HearsSync t after heard →

@@ -1,36 +1,40 @@
 -- How the frames of a traffic channel and the messages that they complete grow together.
-use Rattle.std.proofs.Common.{◌≡◌, ℕ, ◌+◌, ◌<◌, ◌≤◌, true, List, [], ◌∷◌, ◌++◌, length, refl, arith}
-use Rattle.std.proofs.Common.{Option, Some, None}
+use Rattle.std.proofs.Common.{◌≡◌, ℕ, zero, suc, ◌+◌, ◌<◌, ◌≤◌, true, List, [], ◌∷◌, ◌++◌, length}
+use Rattle.std.proofs.Common.{refl, arith, Some, map, ap, ◌∙◌, append-nil, take}
+use Rattle.std.specs.List.{flat_map}
+use Rattle.chip_core.specs.Bits.{places}
 use Rattle.chip_core.specs.declared.sample.Sample.{Sample}
-use Rattle.mobile_core.specs.Signaling.{messages_at, messages_behind}
-use Rattle.mobile_core.specs.Streams.{is_in_file, known_at}
-use Rattle.mobile_core.specs.Timing.{IsTimed}
-use Rattle.mobile_core.specs.TrafficEvents.{frames_at, frames_behind}
+use Rattle.pilot_sets.specs.Standing.{Standing}
+use Rattle.mobile_core.specs.Moments.{heard_from, legs_by, moment_place, told_by}
+use Rattle.mobile_core.specs.Noted.{all_noted}
+use Rattle.mobile_core.specs.PagingEvents.{page_event, pages_behind}
+use Rattle.mobile_core.specs.Signaling.{messages_by}
+use Rattle.mobile_core.specs.TrafficEvents.{frames_by}
 use Rattle.mobile_core.specs.TrafficReceiving.{frames_left_of, messages_left_of}
-use Rattle.mobile_core.specs.TrafficStreams.{traffic_stream}
+use Rattle.mobile_core.specs.TrafficStreams.{frame_known, has_frame}
 use Rattle.mobile_core.specs.Tuning.{Tuning}
 use Rattle.mobile_core.specs.declared.event.Event.{Event}
+use Rattle.mobile_core.specs.declared.legs.Leg.{Leg}
 use Rattle.mobile_core.specs.declared.mark.Mark.{Mark}
 use Rattle.mobile_core.specs.declared.settings.Traffic.{Traffic}
+use Rattle.mobile_core.proofs.FrameBounds.{AreCloseAll, known_later}
 use Rattle.mobile_core.proofs.FrameGrowth.{frames_left_all, frames_left_none, frames_none}
 use Rattle.mobile_core.proofs.FrameGrowth.{frames_sooner}
-use Rattle.mobile_core.proofs.FrameTimes.{ends_lt, known_between, known_own}
 use Rattle.mobile_core.proofs.MessageGrowth.{messages_left_all, messages_left_none}
 use Rattle.mobile_core.proofs.MessageGrowth.{messages_none, messages_sooner}
+use Rattle.mobile_core.proofs.MomentGrowth.{first_same, noted-append}
+use Rattle.chip_core.proofs.Ranges.{flat_map-places-more, flat_map_ext_places}
 
 -- what is heard of the channel when just n samples have been taken: frames first
-abbrev pub told_at : Tuning → Traffic → Mark → List Sample → ℕ → List Event
-told_at t traffic m samples n =
-    frames_at t traffic m samples n ++ messages_at t traffic m samples n
-
-abbrev pub told_behind : Tuning → Option Traffic → Option Mark → List Sample → ℕ → List Event
-told_behind t followed mark samples n =
-    frames_behind t followed mark samples n ++ messages_behind t followed mark samples n
+abbrev pub told_at : Tuning → Traffic → Mark → (ℕ → List Leg) → List Sample → ℕ → List Event
+told_at t traffic m legs samples n =
+    frames_by t traffic m legs samples n ++ messages_by t traffic m legs samples n
 
 -- of what is left behind a kept message
-abbrev pub told_left : Tuning → Traffic → Mark → List Sample → ℕ → List Event
-told_left t traffic m samples next =
-    frames_left_of t traffic m samples next ++ messages_left_of t traffic m samples next
+abbrev pub told_left : Tuning → Traffic → Mark → (ℕ → List Leg) → List Sample → ℕ → List Event
+told_left t traffic m legs samples next =
+    frames_left_of t traffic m legs samples next
+    ++ messages_left_of t traffic m legs samples next
 
 -- where one frame was left, its message follows it
 pub one_left : (event : Event) (told frames frames' messages messages' : List Event) →
@@ -38,56 +42,116 @@ pub one_left : (event : Event) (told frames frames' messages messages' : List Ev
     event ∷ (told ++ (frames' ++ messages')) ≡ frames ++ messages
 one_left event told frames frames' messages messages' e none e' = rw (e, e', none) refl
 
--- where no mark is set nothing is heard
-pub told_unset : (t : Tuning) (followed : Option Traffic) (xs : List Sample) (n : ℕ) →
-    told_behind t followed None xs n ≡ []
-told_unset t None xs n = refl
-told_unset t (Some traffic) xs n = refl
-
-module _ (t : Tuning) (traffic : Traffic) (m : Mark) where
+module _ (t : Tuning) (traffic : Traffic) (m : Mark) (legs : ℕ → List Leg) where
   pub told_none : (xs : List Sample) (n : ℕ) →
-      ((k : ℕ) → is_in_file t.count (traffic_stream t traffic m) k ≡ true →
-      ¬ (known_at t.count (traffic_stream t traffic m) k ≡ n)) → told_at t traffic m xs n ≡ []
+      ((k : ℕ) → has_frame t traffic m legs k ≡ true →
+      ¬ (frame_known t traffic m legs k ≡ n)) → told_at t traffic m legs xs n ≡ []
   told_none xs n h =
-      let frames = frames_none t traffic m xs n h in
-      let messages = messages_none t traffic m xs n h in
+      let frames = frames_none t traffic m legs xs n h in
+      let messages = messages_none t traffic m legs xs n h in
       rw (frames, messages) refl
 
   pub told_left_all : (xs : List Sample) (next : ℕ) →
-      ((k : ℕ) → k < next → is_in_file t.count (traffic_stream t traffic m) k ≡ true →
-      ¬ (known_at t.count (traffic_stream t traffic m) k ≡ length xs)) →
-      told_left t traffic m xs next ≡ told_at t traffic m xs (length xs)
+      ((k : ℕ) → k < next → has_frame t traffic m legs k ≡ true →
+      ¬ (frame_known t traffic m legs k ≡ length xs)) →
+      told_left t traffic m legs xs next ≡ told_at t traffic m legs xs (length xs)
   told_left_all xs next h =
-      let frames = frames_left_all t traffic m xs next h in
-      let messages = messages_left_all t traffic m xs next h in
+      let frames = frames_left_all t traffic m legs xs next h in
+      let messages = messages_left_all t traffic m legs xs next h in
       rw (frames, messages) refl
 
   pub told_left_none : (xs : List Sample) (next : ℕ) →
-      ((k : ℕ) → next ≤ k → is_in_file t.count (traffic_stream t traffic m) k ≡ true →
-      length xs + 1 ≤ known_at t.count (traffic_stream t traffic m) k) →
-      told_left t traffic m xs next ≡ []
+      ((k : ℕ) → next ≤ k → length xs + 1 ≤ frame_known t traffic m legs k) →
+      told_left t traffic m legs xs next ≡ []
   told_left_none xs next h =
-      let frames = frames_left_none t traffic m xs next h in
-      let messages = messages_left_none t traffic m xs next h in
+      let frames = frames_left_none t traffic m legs xs next h in
+      let messages = messages_left_none t traffic m legs xs next h in
       rw (frames, messages) refl
 
-  module _ (low : ℕ) (timed : IsTimed t.count (traffic_stream t traffic m) low) where
+  module _ (close : AreCloseAll t legs) where
     -- behind the frame that ends just now no other does
     pub frame_alone : (xs : List Sample) (next : ℕ) →
-        known_at t.count (traffic_stream t traffic m) next ≡ length xs →
-        frames_left_of t traffic m xs (next + 1) ≡ []
+        frame_known t traffic m legs next ≡ length xs →
+        frames_left_of t traffic m legs xs (next + 1) ≡ []
     frame_alone xs next known =
-        let s = traffic_stream t traffic m in
-        frames_left_none t traffic m xs (next + 1)
-        (λ k above inside.
-        let own = known_own s timed next refl in
-        let step = ends_lt s timed next k (omega (arith, above)) in
-        let least = (known_between s timed k inside).low in
-        omega (arith, own, step, least, known, timed.some))
+        frames_left_none t traffic m legs xs (next + 1)
+        (λ k above.
+        let later = known_later t traffic m legs close next k (omega (arith, above)) in
+        omega (arith, known, later))
 
     pub told_sooner : (xs ys : List Sample) (n : ℕ) → n ≤ length xs →
-        told_at t traffic m (xs ++ ys) n ≡ told_at t traffic m xs n
+        told_at t traffic m legs (xs ++ ys) n ≡ told_at t traffic m legs xs n
     told_sooner xs ys n h =
-        let frames = frames_sooner t traffic m low timed xs ys n h in
-        let messages = messages_sooner t traffic m low timed xs ys n h in
+        let frames = frames_sooner t traffic m legs xs ys n h in
+        let messages = messages_sooner t traffic m legs close xs ys n h in
         rw (frames, messages) refl
+
+-- A LIST THAT HAS GROWN BY ITS LAST PIECE
+none_more : {A : Type 0} (g : ℕ → List A) (a d : ℕ) →
+    ((i : ℕ) → a ≤ i → i < a + d → g i ≡ []) →
+    flat_map g (places (a + d)) ≡ flat_map g (places a)
+none_more g a zero none = let e : a + 0 ≡ a = omega arith in rw e refl
+none_more g a (suc d) none =
+    let e : a + suc d ≡ a + d + 1 = omega arith in
+    let quiet : g (a + d) ≡ [] = none (a + d) (omega arith) (omega arith) in
+    let before = none_more g a d (λ i low less. none i low (omega (arith, less))) in
+    rw e
+    (flat_map-places-more g (a + d)
+    ∙ ap (λ (xs : List _). flat_map g (places (a + d)) ++ xs) quiet
+    ∙ append-nil (flat_map g (places (a + d)))
+    ∙ before)
+
+pub last_piece : {A : Type 0} (f g : ℕ → List A) (a d : ℕ) →
+    ((i : ℕ) → i < a → g i ≡ f i) → ((i : ℕ) → a ≤ i → i < a + d → g i ≡ []) →
+    flat_map g (places (a + d + 1)) ≡ flat_map f (places a) ++ g (a + d)
+last_piece f g a d same none =
+    flat_map-places-more g (a + d)
+    ∙ ap (λ (xs : List _). xs ++ g (a + d))
+    (none_more g a d none ∙ flat_map_ext_places g f a same)
+
+-- WHAT IS HEARD BEHIND A MOMENT
+-- told_by is what is heard of both channels
+pub told_is : (t : Tuning) (traffic : Traffic) (m : Mark) (legs : ℕ → List Leg)
+    (samples : List Sample) (n : ℕ) →
+    told_by t traffic m legs samples n
+    ≡ map (page_event n) (pages_behind t t.paging (Some m) (take n samples) n)
+    ++ told_at t traffic m legs (take n samples) n
+unfolding told_by
+told_is t traffic m legs samples n = refl
+
+-- it hangs on the first n samples
+pub told_first : (t : Tuning) (traffic : Traffic) (m : Mark) (legs : ℕ → List Leg)
+    (xs ys : List Sample) (n : ℕ) → n ≤ length xs →
+    told_by t traffic m legs (xs ++ ys) n ≡ told_by t traffic m legs xs n
+unfolding told_by
+told_first t traffic m legs xs ys n h =
+    ap (λ (first : List Sample).
+    map (page_event n) (pages_behind t t.paging (Some m) first n)
+    ++ told_at t traffic m legs first n) (first_same xs ys n h)
+
+module _ (t : Tuning) (traffic : Traffic) (m : Mark) (kept : ℕ → Standing) (j : ℕ)
+    (xs ys : List Sample) where
+  -- the sets with what is heard over so many samples more, where only with the last something is
+  pub heard_grown : (a d : ℕ) →
+      ((i : ℕ) → i < a →
+      told_by t traffic m (legs_by traffic m kept) (xs ++ ys) (moment_place m j + i + 1)
+      ≡ told_by t traffic m (legs_by traffic m kept) xs (moment_place m j + i + 1)) →
+      ((i : ℕ) → a ≤ i → i < a + d →
+      told_by t traffic m (legs_by traffic m kept) (xs ++ ys) (moment_place m j + i + 1) ≡ []) →
+      heard_from t traffic m kept (xs ++ ys) j (a + d + 1)
+      ≡ all_noted m
+      (told_by t traffic m (legs_by traffic m kept) (xs ++ ys) (moment_place m j + (a + d) + 1))
+      (heard_from t traffic m kept xs j a)
+  unfolding heard_from
+  heard_grown a d same none =
+      let f : ℕ → List Event =
+      λ i. told_by t traffic m (legs_by traffic m kept) xs (moment_place m j + i + 1) in
+      let g : ℕ → List Event =
+      λ i. told_by t traffic m (legs_by traffic m kept) (xs ++ ys) (moment_place m j + i + 1) in
+      ap (λ (es : List Event). all_noted m es (kept j)) (last_piece f g a d same none)
+      ∙ noted-append m (flat_map f (places a)) (g (a + d)) (kept j)
+
+  -- behind no sample nothing is heard
+  pub heard_none : heard_from t traffic m kept xs j 0 ≡ kept j
+  unfolding heard_from places
+  heard_none = refl

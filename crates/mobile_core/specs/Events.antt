@@ -4,10 +4,9 @@ use Rattle.std.specs.List.{flat_map}
 use Rattle.chip_core.specs.Bits.{places}
 use Rattle.chip_core.specs.declared.sample.Sample.{Sample}
 use Rattle.mobile_core.specs.Marks.{mark}
+use Rattle.mobile_core.specs.Moments.{frames_behind, messages_behind, sets_behind}
 use Rattle.mobile_core.specs.PagingEvents.{page_event, pages_behind}
-use Rattle.mobile_core.specs.Signaling.{messages_behind}
 use Rattle.mobile_core.specs.SyncEvents.{sync_events_at}
-use Rattle.mobile_core.specs.TrafficEvents.{frames_behind}
 use Rattle.mobile_core.specs.Tuning.{Tuning}
 use Rattle.mobile_core.specs.declared.event.Event.{Event}
 
@@ -24,13 +23,19 @@ frame_events_at t samples n = frames_behind t t.traffic (mark t samples n) sampl
 unfoldable pub message_events_at : Tuning → List Sample → ℕ → List Event
 message_events_at t samples n = messages_behind t t.traffic (mark t samples n) samples n
 
--- all that end when just n samples have been taken: those of the sync channel come first, and the
--- traffic channel's frame and the message that it completes last
+-- and that of the pilot sets
+unfoldable pub sets_events_at : Tuning → List Sample → ℕ → List Event
+sets_events_at t samples n = sets_behind t t.traffic (mark t samples n) samples n
+
+-- All that end when just n samples have been taken: those of the sync channel come first, then
+-- those of the paging channel, the traffic channel's frame, the message that it completes, and that
+-- of the pilot sets.
 unfoldable pub events_at : Tuning → List Sample → ℕ → List Event
 events_at t samples n =
     sync_events_at t samples n
     ++ (paging_events_at t samples n
-    ++ (frame_events_at t samples n ++ message_events_at t samples n))
+    ++ (frame_events_at t samples n
+    ++ (message_events_at t samples n ++ sets_events_at t samples n)))
 
 -- the events that end within the first n samples, in order
 unfoldable pub events_within : Tuning → List Sample → ℕ → List Event

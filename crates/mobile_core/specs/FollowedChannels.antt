@@ -16,6 +16,7 @@ pub record HearsFollowed (t : Tuning) (f : Followed) (mark : Option Mark)
     (heard : List Sample) : Type 0 where
   pub paging : HearsPages t f.paging mark heard
   pub traffic : HearsFrames t f.traffic mark heard
+      (paging_events_left t mark heard f.paging.receiver)
 
 -- the events of these samples' end that are still to be given: those of the paging channel first
 abbrev pub followed_events_left : Tuning → Option Mark → List Sample → Followed → List Event
@@ -25,10 +26,10 @@ followed_events_left t mark samples f =
 
 -- whether a frame of one of them is known that hasn't been heard whole
 abbrev pub IsFollowedDue : ℕ → Followed → Type 0
-IsFollowedDue count f = IsReceiverDue count f.paging.receiver ⊎ IsFrameDue count f.traffic.receiver
+IsFollowedDue count f = IsReceiverDue count f.paging.receiver ⊎ IsFrameDue f.traffic.receiver
 
--- how much has been heard: bits of the paging channel, and frames of the traffic channel and what
--- they complete
+-- how much has been heard: bits of the paging channel, frames of the traffic channel and what they
+-- complete, and moments
 abbrev pub followed_heard : Followed → ℕ
 followed_heard f = heard_by f.paging.receiver + traffic_heard_by f.traffic.receiver
 
@@ -36,7 +37,7 @@ followed_heard f = heard_by f.paging.receiver + traffic_heard_by f.traffic.recei
 abbrev pub followed_due : Followed → ℕ
 followed_due f = due_by f.paging.receiver + traffic_due_by f.traffic.receiver
 
--- the frame of each that comes next ends later than so many samples
+-- the frame of each that comes next ends later than so many samples, and so lies the next moment
 pub record WaitFrom (taken : ℕ) (f : Followed) : Type 0 where
   pub paging : WaitsFrom taken f.paging.receiver
   pub traffic : FramesWaitFrom taken f.traffic.receiver

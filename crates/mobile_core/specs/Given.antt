@@ -1,7 +1,7 @@
 -- Events as they are given.
 use Rattle.std.specs.Prelude.{ℕ, List, [], ◌∷◌, Option, Some, None}
 use Rattle.mobile_core.specs.declared.event.Event.{Event}
-use Rattle.mobile_core.specs.declared.event.Event.TheVariants.{Pilot, Sync, Paging, Frame, Traffic}
+use Rattle.mobile_core.specs.declared.event.Event.TheVariants.{Pilot, Sync, Paging, Frame, Traffic, Sets}
 
 -- one or none, as a list
 abbrev pub listed : Option Event → List Event
@@ -16,3 +16,4 @@ at_of (Sync at' capsule message) = at'
 at_of (Paging at' capsule message) = at'
 at_of (Frame at' rate good bits commands) = at'
 at_of (Traffic at' capsule message) = at'
+at_of (Sets at' time active candidate report) = at'

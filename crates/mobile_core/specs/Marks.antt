@@ -10,7 +10,7 @@ use Rattle.mobile_core.specs.Streams.{frame_start, is_in_file, known_by}
 use Rattle.mobile_core.specs.SyncEvents.{frames_before, heard_at}
 use Rattle.mobile_core.specs.Tuning.{Tuning, sync_stream, sync_bound}
 use Rattle.mobile_core.specs.declared.event.Event.{Event}
-use Rattle.mobile_core.specs.declared.event.Event.TheVariants.{Pilot, Sync, Paging, Frame, Traffic}
+use Rattle.mobile_core.specs.declared.event.Event.TheVariants.{Pilot, Sync, Paging, Frame, Traffic, Sets}
 use Rattle.mobile_core.specs.declared.spelled_message.SpelledMessage.{SpelledMessage}
 use Rattle.mobile_core.specs.declared.mark.Mark.{Mark}
 
@@ -57,6 +57,7 @@ sets_mark (Sync n capsule message) = not (message.lc == 0)
 sets_mark (Paging n capsule message) = false
 sets_mark (Frame n rate good bits commands) = false
 sets_mark (Traffic n capsule message) = false
+sets_mark (Sets n time active candidate report) = false
 
 -- how many frames the message under way has with one frame more, whose first bit says whether a
 -- message begins there

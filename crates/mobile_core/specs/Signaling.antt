@@ -11,12 +11,12 @@ use Rattle.quality_bits.specs.Pieces.{piece, capsule_ending}
 use Rattle.traffic_message.specs.Messages.{Message}
 use Rattle.traffic_message.specs.Multiplex.{split}
 use Rattle.traffic_message.specs.Reading.{traffic_reading}
-use Rattle.mobile_core.specs.Streams.{is_in_file, known_now}
-use Rattle.mobile_core.specs.TrafficEvents.{decoded_at, if_followed}
-use Rattle.mobile_core.specs.TrafficStreams.{frames_bound, traffic_stream}
+use Rattle.mobile_core.specs.TrafficEvents.{decoded_at}
+use Rattle.mobile_core.specs.TrafficStreams.{frames_now, has_frame}
 use Rattle.mobile_core.specs.Tuning.{Tuning}
 use Rattle.mobile_core.specs.declared.event.Event.{Event}
 use Rattle.mobile_core.specs.declared.event.Event.TheVariants as events
+use Rattle.mobile_core.specs.declared.legs.Leg.{Leg}
 use Rattle.mobile_core.specs.declared.mark.Mark.{Mark}
 use Rattle.mobile_core.specs.declared.settings.Traffic.{Traffic}
 use Rattle.mobile_core.specs.declared.spelled_signal.SpelledSignal.{SpelledSignal}
@@ -36,14 +36,16 @@ abbrev pub signal_of : Decoded → Option (List Bool)
 signal_of frame = if frame.good then (split frame.rate frame.bits).signal else None
 
 -- that of frame k
-unfoldable pub signal_at : Tuning → Traffic → Mark → List Sample → ℕ → Option (List Bool)
-signal_at t traffic m samples k = signal_of (decoded_at t traffic m samples k)
+unfoldable pub signal_at : Tuning → Traffic → Mark → (ℕ → List Leg) → List Sample → ℕ →
+    Option (List Bool)
+signal_at t traffic m legs samples k = signal_of (decoded_at t traffic m legs samples k)
 
 -- the signaling parts of the frames in the file before frame `next`, in order
-unfoldable pub signals_before : Tuning → Traffic → Mark → List Sample → ℕ → List (List Bool)
-signals_before t traffic m samples next =
-    flat_map (λ k. option_to_list (signal_at t traffic m samples k))
-    (filter (is_in_file t.count (traffic_stream t traffic m)) (places next))
+unfoldable pub signals_before : Tuning → Traffic → Mark → (ℕ → List Leg) → List Sample → ℕ →
+    List (List Bool)
+signals_before t traffic m legs samples next =
+    flat_map (λ k. option_to_list (signal_at t traffic m legs samples k))
+    (filter (has_frame t traffic m legs) (places next))
 
 -- the capsule whose last bit lies in a signaling part behind those before it, where there is one
 abbrev pub capsule_with : List (List Bool) → Option (List Bool) → Option (List Bool)
@@ -51,26 +53,25 @@ capsule_with before None = None
 capsule_with before (Some signal) = capsule_ending (map piece (before ++ signal ∷ []))
 
 -- the message that frame k completes
-unfoldable pub message_at : Tuning → Traffic → Mark → List Sample → ℕ → Option SpelledSignal
-message_at t traffic m samples k =
+unfoldable pub message_at : Tuning → Traffic → Mark → (ℕ → List Leg) → List Sample → ℕ →
+    Option SpelledSignal
+message_at t traffic m legs samples k =
     signal_in t.check16
-    (capsule_with (signals_before t traffic m samples k) (signal_at t traffic m samples k))
+    (capsule_with (signals_before t traffic m legs samples k)
+    (signal_at t traffic m legs samples k))
 
 -- the event of a message that is known at n samples, where there is one
 abbrev pub message_events : ℕ → Option SpelledSignal → List Event
 message_events n None = []
 message_events n (Some heard) = events.Traffic n heard.capsule heard.message ∷ []
 
-abbrev pub message_heard : Tuning → Traffic → Mark → List Sample → ℕ → ℕ → List Event
-message_heard t traffic m samples n k = message_events n (message_at t traffic m samples k)
+abbrev pub message_heard : Tuning → Traffic → Mark → (ℕ → List Leg) → List Sample → ℕ → ℕ →
+    List Event
+message_heard t traffic m legs samples n k =
+    message_events n (message_at t traffic m legs samples k)
 
 -- those of the frames that end when just n samples have been taken
-unfoldable pub messages_at : Tuning → Traffic → Mark → List Sample → ℕ → List Event
-messages_at t traffic m samples n =
-    flat_map (message_heard t traffic m samples n)
-    (known_now t.count (traffic_stream t traffic m) n (frames_bound n))
-
--- the same where a channel may be followed, behind a mark that may be set
-abbrev pub messages_behind : Tuning → Option Traffic → Option Mark → List Sample → ℕ → List Event
-messages_behind t followed mark samples n =
-    if_followed (λ traffic m. messages_at t traffic m samples n) followed mark
+unfoldable pub messages_by : Tuning → Traffic → Mark → (ℕ → List Leg) → List Sample → ℕ →
+    List Event
+messages_by t traffic m legs samples n =
+    flat_map (message_heard t traffic m legs samples n) (frames_now t traffic m legs n)

@@ -33,9 +33,12 @@ pub record IsSoundChannel (c : Continued) : Type 0 where
   pub whole : length c.softs ≡ 1152
   pub small : AreSmall (symbols c.clock.form) c.softs
 
--- the mark isn't far behind a file, and there the long code has a state and the pilot a number
+-- The mark isn't far behind a file, and lies behind all that a finger may read too early; there the
+-- time has 36 bits, the long code has a state and the pilot a number.
 pub record IsSoundMark (m : Mark) : Type 0 where
   pub early : m.sample < 2 ^ 29
+  pub late : 2 ^ 16 ≤ m.sample
+  pub time : m.time < 2 ^ 36
   pub state : IsState m.lc
   pub pilot : m.pn ≤ 511
 

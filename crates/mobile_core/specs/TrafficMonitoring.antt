@@ -5,7 +5,8 @@ use Rattle.std.specs.Option.{ForSome}
 use Rattle.chip_core.specs.declared.sample.Sample.{Sample}
 use Rattle.mobile_core.specs.TrafficEvents.{if_followed}
 use Rattle.mobile_core.specs.TrafficReceiving.{HearsTraffic, IsSoundTraffic, IsTrafficDue}
-use Rattle.mobile_core.specs.TrafficReceiving.{traffic_due, traffic_heard, traffic_left_of}
+use Rattle.mobile_core.specs.TrafficReceiving.{WaitsAt, traffic_due, traffic_heard}
+use Rattle.mobile_core.specs.TrafficReceiving.{traffic_left_of}
 use Rattle.mobile_core.specs.Tuning.{Tuning}
 use Rattle.mobile_core.specs.declared.event.Event.{Event}
 use Rattle.mobile_core.specs.declared.mark.Mark.{Mark}
@@ -20,26 +21,28 @@ IsUnheard (Some traffic) mark = mark ≡ None
 
 -- a receiver that follows the channel from the mark on
 pub record FollowsTraffic (t : Tuning) (mark : Option Mark) (r : TrafficReceiver)
-    (heard : List Sample) : Type 0 where
+    (heard : List Sample) (pages : List Event) : Type 0 where
   pub traffic : Traffic
   pub traffic_is : t.traffic ≡ Some traffic
   pub set : Mark
   pub set_is : mark ≡ Some set
-  pub hears : HearsTraffic t traffic set r heard
+  pub hears : HearsTraffic t traffic set r heard pages
 
 -- what the receiver stands for; there is none where the channel isn't heard
-abbrev pub HearsFramesBehind : Tuning → Option Mark → Option TrafficReceiver → List Sample → Type 0
-HearsFramesBehind t mark None heard = IsUnheard t.traffic mark
-HearsFramesBehind t mark (Some r) heard = FollowsTraffic t mark r heard
+abbrev pub HearsFramesBehind : Tuning → Option Mark → Option TrafficReceiver → List Sample →
+    List Event → Type 0
+HearsFramesBehind t mark None heard pages = IsUnheard t.traffic mark
+HearsFramesBehind t mark (Some r) heard pages = FollowsTraffic t mark r heard pages
 
--- It has taken these samples, in which the sync channel's messages set this mark, or none.
+-- It has taken these samples, in which the sync channel's messages set this mark, or none, and the
+-- events `pages` of the paging channel haven't been heard.
 pub record HearsFrames (t : Tuning) (f : TrafficMonitor) (mark : Option Mark)
-    (heard : List Sample) : Type 0 where
+    (heard : List Sample) (pages : List Event) : Type 0 where
   pub traffic_is : f.traffic ≡ t.traffic
   pub phase_is : f.phase ≡ t.phase
   pub deltas_are : take f.near.count f.near.deltas ≡ t.deltas
   pub check_is : f.check ≡ t.check16
-  pub behind : HearsFramesBehind t mark f.receiver heard
+  pub behind : HearsFramesBehind t mark f.receiver heard pages
 
 -- the events of these samples' end that a receiver has still to give
 abbrev pub traffic_left_behind : Tuning → Option Traffic → Option Mark → List Sample →
@@ -52,10 +55,10 @@ abbrev pub traffic_events_left : Tuning → Option Mark → List Sample → Opti
 traffic_events_left t mark samples None = []
 traffic_events_left t mark samples (Some r) = traffic_left_behind t t.traffic mark samples r
 
--- whether a message is kept, or a frame has come that hasn't been heard
-abbrev pub IsFrameDue : ℕ → Option TrafficReceiver → Type 0
-IsFrameDue count None = ⊥
-IsFrameDue count (Some r) = IsTrafficDue count r
+-- whether a message is kept, or a frame or a moment has come that hasn't been heard
+abbrev pub IsFrameDue : Option TrafficReceiver → Type 0
+IsFrameDue None = ⊥
+IsFrameDue (Some r) = IsTrafficDue r
 
 -- how much has been heard, and how much has come that hasn't been heard
 abbrev pub traffic_heard_by : Option TrafficReceiver → ℕ
@@ -66,9 +69,10 @@ abbrev pub traffic_due_by : Option TrafficReceiver → ℕ
 traffic_due_by None = 0
 traffic_due_by (Some r) = traffic_due r
 
--- the frame that comes next ends later than so many samples
+-- the frame that comes next ends later than so many samples, and so lies the next moment; one that
+-- has come lies there
 abbrev pub FramesWaitFrom : ℕ → Option TrafficReceiver → Type 0
-FramesWaitFrom taken receiver = ForSome receiver (λ r. taken < r.clock.end)
+FramesWaitFrom taken receiver = ForSome receiver (WaitsAt taken)
 
 -- a channel that a base station may assign
 pub record IsSoundAssignment (traffic : Traffic) : Type 0 where

@@ -1,65 +1,151 @@
 -- What the receiver of a traffic channel stands for.
-use Rattle.std.specs.Prelude.{◌≡◌, ◌⊎◌, ℕ, ◌+◌, ◌-◌, ◌*◌, ◌<◌, ◌≤◌, ◌^◌, true, List, ◌++◌, length}
-use Rattle.std.specs.Prelude.{map, sum_by, unsigned_abs, IsTrue, Option, Some, None, is_some}
+use Rattle.std.specs.Prelude.{◌≡◌, ◌⊎◌, ℕ, ◌+◌, ◌-◌, ◌*◌, ◌<◌, ◌≤◌, ◌^◌, ◌==◌, ◌&&◌, true, List, []}
+use Rattle.std.specs.Prelude.{◌∷◌, ◌++◌, length, map, filter, take, sum_by, unsigned_abs, IsTrue, Option}
+use Rattle.std.specs.Prelude.{Some, None, is_some, nat_le, min, if◌then◌else◌}
 use Rattle.std.specs.List.{flat_map}
+use Rattle.chip_core.specs.Bits.{places}
 use Rattle.chip_core.specs.declared.sample.Sample.{Sample}
+use Rattle.frame_decoder.specs.TrafficFrames as frames
 use Rattle.long_code.specs.LongCode.{traffic_mask}
+use Rattle.pilot_sets.specs.Standing.{Standing}
 use Rattle.quality_bits.specs.Pieces.{StandsFor}
+use Rattle.rake_finger.specs.declared.finger.Finger.{Finger}
 use Rattle.rake_finger.specs.declared.form.Form.TheVariants.{Data}
-use Rattle.mobile_core.specs.Clocks.{IsAt, IsDueAt}
-use Rattle.mobile_core.specs.Left.{frames_left}
-use Rattle.mobile_core.specs.Near.{AreBegun, AreNear, have_rows}
+use Rattle.mobile_core.specs.Close as closes
+use Rattle.mobile_core.specs.Close.{AreClose, paths_close, places_in}
+use Rattle.mobile_core.specs.Legs.{all_fingers, legs_of}
+use Rattle.mobile_core.specs.Moments.{heard_from, kept_to, legs_by, moment_of, moment_place}
+use Rattle.mobile_core.specs.Moments.{sets_events}
+use Rattle.mobile_core.specs.Noted.{all_noted, noted_with}
+use Rattle.mobile_core.specs.SetsKeeping.{IsSoundKeeper, coming_place}
 use Rattle.mobile_core.specs.Signaling.{message_events, message_heard, signals_before}
-use Rattle.mobile_core.specs.Softs.{frame_most}
-use Rattle.mobile_core.specs.Sound.{IsSoundClock}
 use Rattle.mobile_core.specs.Streams.{frame_end}
-use Rattle.mobile_core.specs.TrafficEvents.{frame_heard, unturned_softs}
-use Rattle.mobile_core.specs.TrafficStreams.{frame_state, frames_bound, traffic_stream}
+use Rattle.mobile_core.specs.TrafficEvents.{all_sums, frame_heard, unturned_softs}
+use Rattle.mobile_core.specs.TrafficStreams.{ends_now, frame_known, frame_state, frames_bound}
+use Rattle.mobile_core.specs.TrafficStreams.{traffic_start}
 use Rattle.mobile_core.specs.Tuning.{Tuning}
 use Rattle.mobile_core.specs.declared.event.Event.{Event}
+use Rattle.mobile_core.specs.declared.legs.Leg.{Leg}
 use Rattle.mobile_core.specs.declared.mark.Mark.{Mark}
 use Rattle.mobile_core.specs.declared.settings.Traffic.{Traffic}
 use Rattle.mobile_core.specs.declared.spelled_signal.SpelledSignal.{SpelledSignal}
 use Rattle.mobile_core.specs.declared.traffic_receiver.TrafficReceiver.{TrafficReceiver}
 
--- It has taken these samples: its clock is there, where a frame has come its soft values are those
--- of the frame that is heard next, and its framer has taken the signaling of the frames before it.
-pub record HearsTraffic (t : Tuning) (traffic : Traffic) (m : Mark) (r : TrafficReceiver)
-    (heard : List Sample) : Type 0 where
-  pub clocked : IsAt t.count (traffic_stream t traffic m) r.clock (length heard)
-  pub fingers_are : r.fingers ≡ (traffic_stream t traffic m).fingers
-  pub state_is : r.scrambling.state ≡ frame_state traffic m 0
-  pub mask_is : r.scrambling.mask ≡ traffic_mask traffic.esn
-  pub near : r.clock.have ≤ r.clock.next + 1
-  pub softs_are : r.clock.next < r.clock.have →
-      r.softs ≡ unturned_softs t traffic m heard r.clock.next
-  pub framed : StandsFor r.framer (signals_before t traffic m heard r.clock.next)
+-- THE EVENTS THAT ARE LEFT
+-- the frames from frame `next` on that are known when just n samples have been taken
+abbrev pub later_frames : Tuning → Traffic → Mark → (ℕ → List Leg) → ℕ → ℕ → List ℕ
+later_frames t traffic m legs next n =
+    filter (λ k. nat_le next k && ends_now t traffic m legs n k) (places (frames_bound n))
 
 -- the events of these samples' end of the frames from frame `next` on
-unfoldable pub frames_left_of : Tuning → Traffic → Mark → List Sample → ℕ → List Event
-frames_left_of t traffic m samples next =
+unfoldable pub frames_left_of : Tuning → Traffic → Mark → (ℕ → List Leg) → List Sample → ℕ →
+    List Event
+frames_left_of t traffic m legs samples next =
     let n = length samples in
-    map (frame_heard t traffic m samples n)
-    (frames_left t.count (traffic_stream t traffic m) next n (frames_bound n))
+    map (frame_heard t traffic m legs samples n) (later_frames t traffic m legs next n)
 
 -- and of the messages that these frames complete
-unfoldable pub messages_left_of : Tuning → Traffic → Mark → List Sample → ℕ → List Event
-messages_left_of t traffic m samples next =
+unfoldable pub messages_left_of : Tuning → Traffic → Mark → (ℕ → List Leg) → List Sample → ℕ →
+    List Event
+messages_left_of t traffic m legs samples next =
     let n = length samples in
-    flat_map (message_heard t traffic m samples n)
-    (frames_left t.count (traffic_stream t traffic m) next n (frames_bound n))
+    flat_map (message_heard t traffic m legs samples n) (later_frames t traffic m legs next n)
 
--- the events of these samples' end that a receiver has still to give: that of the message that it
--- keeps comes first
+-- and of the moment behind so many, where it lies there
+unfoldable pub sets_left_of : Tuning → Traffic → Mark → List Sample → ℕ → List Event
+sets_left_of t traffic m samples j =
+    if moment_place m (j + 1) == length samples
+    then sets_events m samples (j + 1)
+    (heard_from t traffic m (kept_to t traffic m samples j) samples j 98304)
+    else []
+
+-- What a receiver has still to tell of the channel, from what is kept behind each moment: the
+-- message that it keeps comes first.
+abbrev pub told_left_with : Tuning → Traffic → Mark → List Sample → TrafficReceiver →
+    (ℕ → Standing) → List Event
+told_left_with t traffic m samples r kept =
+    message_events (length samples) r.kept
+    ++ (frames_left_of t traffic m (legs_by traffic m kept) samples r.next
+    ++ messages_left_of t traffic m (legs_by traffic m kept) samples r.next)
+
+-- what is kept behind the moments that have passed
+abbrev pub kept_in : Tuning → Traffic → Mark → TrafficReceiver → List Sample → (ℕ → Standing)
+kept_in t traffic m r heard = kept_to t traffic m heard r.sets.passed
+
+-- all that it has still to tell, the moment last
 abbrev pub traffic_left_of : Tuning → Traffic → Mark → List Sample → TrafficReceiver → List Event
 traffic_left_of t traffic m samples r =
-    message_events (length samples) r.kept
-    ++ (frames_left_of t traffic m samples r.clock.next
-    ++ messages_left_of t traffic m samples r.clock.next)
+    told_left_with t traffic m samples r (kept_in t traffic m r samples)
+    ++ sets_left_of t traffic m samples r.sets.passed
+
+-- WHAT A RECEIVER STANDS FOR
+-- the fingers of the frame that comes next
+abbrev pub fingers_in : TrafficReceiver → List Finger
+fingers_in r = all_fingers r.phase (take r.near.count r.near.deltas) r.legs
+
+-- how many samples have been taken when that frame ends, or at the next moment, where that comes
+-- first
+abbrev pub next_end : TrafficReceiver → ℕ
+next_end r = min r.end (coming_place r.sets)
+
+-- the frame that comes next ends later than so many samples, and so lies the next moment; one that
+-- has come lies there
+pub record WaitsAt (taken : ℕ) (r : TrafficReceiver) : Type 0 where
+  pub before : taken < next_end r
+  pub due : r.sets.due ≡ true → taken ≡ moment_place r.sets.mark (r.sets.passed + 1)
+
+-- It has taken these samples, in which the events `pages` of the paging channel haven't been heard;
+-- `kept` is what is kept behind the moments that have passed.
+-- Where a frame has come its soft values are those of the frame that is heard next; its framer has
+-- taken the signaling of the frames before that one. The sets are those of the definition, but for
+-- what is still to be told, and a moment passes where nothing is.
+pub record HearsWith (t : Tuning) (traffic : Traffic) (m : Mark) (r : TrafficReceiver)
+    (heard : List Sample) (pages : List Event) (kept : ℕ → Standing) : Type 0 where
+  pub mark_is : r.sets.mark ≡ m
+  pub phase_is : r.phase ≡ t.phase
+  pub deltas_are : take r.near.count r.near.deltas ≡ t.deltas
+  pub state_is : r.scrambling.state ≡ frame_state traffic m 0
+  pub mask_is : r.scrambling.mask ≡ traffic_mask traffic.esn
+  pub offset : traffic.offset ≤ 15
+  pub start_is : r.start ≡ traffic_start traffic m r.have
+  pub close : (i : ℕ) →
+      AreClose (all_fingers t.phase t.deltas (legs_of m (kept i)))
+  pub legs_are : moment_of traffic r.have ≤ r.sets.passed →
+      r.legs ≡ legs_by traffic m kept r.have
+  pub pilots_are : legs_of m r.sets.sets ≡ legs_of m (kept r.sets.passed)
+  pub within : length heard ≤ t.count
+  pub begun : 0 < r.sets.passed → moment_place m r.sets.passed ≤ length heard
+  pub behind : (event : Event) (rest : List Event) →
+      pages ++ told_left_with t traffic m heard r kept ≡ event ∷ rest →
+      0 < r.sets.passed → moment_place m r.sets.passed < length heard
+  pub coming : length heard ≤ moment_place m (r.sets.passed + 1)
+  pub due_is : r.sets.due ≡ true → length heard ≡ moment_place m (r.sets.passed + 1)
+  pub ended : (k : ℕ) → k < r.next →
+      frame_known t traffic m (legs_by traffic m kept) k ≤ length heard
+  pub known : r.next < r.have →
+      frame_known t traffic m (legs_by traffic m kept) r.next ≡ length heard
+  pub softs_are : r.next < r.have →
+      r.softs ≡ unturned_softs t traffic m (legs_by traffic m kept) heard r.next
+  pub power_is : r.next < r.have → frames.subchannels r.power
+      ≡ all_sums t traffic m (legs_by traffic m kept) heard r.next
+  pub framed : StandsFor r.framer
+      (signals_before t traffic m (legs_by traffic m kept) heard r.next)
+  pub sets_are : all_noted m (pages ++ told_left_with t traffic m heard r kept) r.sets.sets
+      ≡ heard_from t traffic m kept heard r.sets.passed
+      (length heard - moment_place m r.sets.passed)
+
+abbrev pub HearsTraffic : Tuning → Traffic → Mark → TrafficReceiver → List Sample → List Event →
+    Type 0
+HearsTraffic t traffic m r heard pages =
+    HearsWith t traffic m r heard pages (kept_in t traffic m r heard)
 
 -- whether a message is kept, or a frame has come that hasn't been heard
-abbrev pub IsTrafficDue : ℕ → TrafficReceiver → Type 0
-IsTrafficDue count r = IsTrue (is_some r.kept) ⊎ IsDueAt count r.clock
+abbrev pub HasTold : TrafficReceiver → Type 0
+HasTold r = IsTrue (is_some r.kept) ⊎ (r.next < r.have)
+
+-- or a moment has come that hasn't passed
+abbrev pub IsTrafficDue : TrafficReceiver → Type 0
+IsTrafficDue r = HasTold r ⊎ IsTrue r.sets.due
 
 -- how many messages are kept
 abbrev pub kept_by : Option SpelledSignal → ℕ
@@ -69,19 +155,37 @@ kept_by (Some message) = 1
 -- how much has been heard, where each frame counts as two, itself and what it completes; and how
 -- much has come that hasn't been heard
 abbrev pub traffic_heard : TrafficReceiver → ℕ
-traffic_heard r = 2 * r.clock.next + 1 - kept_by r.kept
+traffic_heard r = 2 * r.next + 1 - kept_by r.kept + r.sets.passed
 
 abbrev pub traffic_due : TrafficReceiver → ℕ
-traffic_due r = 2 * (r.clock.have - r.clock.next) + kept_by r.kept
+traffic_due r = 2 * (r.have - r.next) + kept_by r.kept + (if r.sets.due then 1 else 0)
 
--- one to three fingers near the reference path, and soft values that a decoder takes
+-- the sets have taken what an event tells
+abbrev pub noted_by : Event → TrafficReceiver → TrafficReceiver
+noted_by event r =
+    record r {
+      sets = record r.sets {
+        sets = noted_with r.sets.mark.pn (r.sets.mark.time + (r.sets.passed + 1)) event r.sets.sets;
+      };
+    }
+
+-- one to eight fingers close to the reference path, and soft values that a decoder takes
 pub record IsSoundTraffic (r : TrafficReceiver) : Type 0 where
-  pub clocked : IsSoundClock r.clock
-  pub form_is : r.clock.form ≡ Data
-  pub near : AreNear r.fingers
-  pub begun : AreBegun r.clock.start r.fingers
-  pub ends : r.clock.end ≡ frame_end r.fingers Data r.clock.start
-  pub few : length r.fingers ≤ 3
-  pub rows : have_rows r.fingers ≡ true
+  pub keeper : IsSoundKeeper r.sets
+  pub next_have : r.next ≤ r.have
+  pub have_most : r.have ≤ r.next + 1
+  pub start_least : r.sets.mark.sample + 24576 * r.have ≤ r.start
+  pub start_most : r.start ≤ 2 ^ 29 + 2 ^ 16
+  pub some : 1 ≤ length r.legs
+  pub few : places_in r.legs ≤ 8
+  pub least : 1 ≤ r.near.count
+  pub most : r.near.count ≤ 3
+  pub legs_close : closes.legs_close r.legs ≡ true
+  pub legs_rows : closes.legs_rows r.legs ≡ true
+  pub path_some : 1 ≤ length (take r.near.count r.near.deltas)
+  pub paths : paths_close (take r.near.count r.near.deltas) ≡ true
+  pub fingers_close : AreClose (fingers_in r)
+  pub ends : r.end ≡ frame_end (fingers_in r) Data r.start
   pub masked : r.scrambling.mask < 2 ^ 42
-  pub small : sum_by unsigned_abs r.softs ≤ frame_most
+  pub small : sum_by unsigned_abs r.softs ≤ 3 * 2 ^ 60
+  pub subchannels : r.power.count ≤ 6

@@ -1,21 +1,30 @@
 -- A file of 1,228,800 samples whose pilot has phase 64, as the checker computes it.
 use Rattle.std.specs.Prelude.{◌≡◌, refl, ℕ, Bool, true, false, List, [], ◌∷◌, replicate, ℤ, pos}
 use Rattle.std.specs.Prelude.{negsuc, Some, None}
+use Rattle.chip_core.specs.Bits.{places}
 use Rattle.chip_core.specs.declared.check_form.CheckForm.TheVariants.{Plain}
 use Rattle.frame_decoder.specs.declared.traffic.Decoded.{Decoded}
+use Rattle.paging_message.specs.declared.fields.NeighborFields.{NeighborFields}
+use Rattle.paging_message.specs.declared.message.PagingMessage.TheVariants as pages
+use Rattle.pilot_sets.specs.PilotSets.{new_sets}
+use Rattle.pilot_sets.specs.Standing.{Standing}
 use Rattle.symbol_path.specs.declared.kinds.Rate.TheVariants.{R9600}
 use Rattle.sync_message.specs.declared.fields.SyncFields.{SyncFields}
 use Rattle.traffic_message.specs.Multiplex.{split, split_9600}
+use Rattle.traffic_message.specs.declared.body.TrafficBody.TheVariants as bodies
 use Rattle.mobile_core.specs.Marks.{marks_of, frames_with}
+use Rattle.mobile_core.specs.Legs.{all_fingers, legs_of, subchannels}
+use Rattle.mobile_core.specs.Moments.{frames_behind, messages_behind, moment_of, moments_before}
+use Rattle.mobile_core.specs.Moments.{sets_behind}
 use Rattle.mobile_core.specs.Near.{low_of}
+use Rattle.mobile_core.specs.Noted.{body_noted, moment_from, page_noted}
 use Rattle.mobile_core.specs.PagingEvents.{pages_behind}
 use Rattle.mobile_core.specs.PagingStreams.{paging_stream}
 use Rattle.mobile_core.specs.Scrambled.{unscrambled}
-use Rattle.mobile_core.specs.Signaling.{messages_behind, signal_of}
+use Rattle.mobile_core.specs.Signaling.{signal_of}
 use Rattle.mobile_core.specs.Streams.{is_in_file, known_at, span_frames}
-use Rattle.mobile_core.specs.TrafficEvents.{frames_behind}
 use Rattle.mobile_core.specs.TrafficStreams.{traffic_stream}
-use Rattle.mobile_core.specs.Tuning.{Tuning, sync_stream, modulo_code}
+use Rattle.mobile_core.specs.Tuning.{Tuning, fingers_of, modulo_code, sync_stream}
 use Rattle.mobile_core.specs.declared.mark.Mark.{Mark}
 use Rattle.mobile_core.specs.declared.settings.Traffic.{Traffic}
 
@@ -148,25 +157,29 @@ assigned = record { esn = 0xabcd; row = 10; offset = 3 }
 
 -- its first frame is known when it ends, with any PRAT
 first_frame_heard : known_at 1228800
-    (traffic_stream (tuned 64 (pos 0 ∷ [])) assigned (paged 2)) 0 ≡ 717312
-unfolding tuned paged assigned
+    (traffic_stream assigned (paged 2) (fingers_of 10 64 (pos 0 ∷ []))) 0 ≡ 717312
+unfolding paged assigned
 first_frame_heard = refl
 
 -- 21 of its frames lie in the file
 last_frame_heard : known_at 1228800
-    (traffic_stream (tuned 64 (pos 0 ∷ [])) assigned (paged 0)) 20 ≡ 1208832
-unfolding tuned paged assigned
+    (traffic_stream assigned (paged 0) (fingers_of 10 64 (pos 0 ∷ []))) 20 ≡ 1208832
+unfolding paged assigned
 last_frame_heard = refl
 
-no_frame : is_in_file 1228800 (traffic_stream (tuned 64 (pos 0 ∷ [])) assigned (paged 0)) 21
-    ≡ false
-unfolding tuned paged assigned
+no_frame : is_in_file 1228800
+    (traffic_stream assigned (paged 0) (fingers_of 10 64 (pos 0 ∷ []))) 21 ≡ false
+unfolding paged assigned
 no_frame = refl
 
 -- none is heard where no channel is assigned
 unassigned : frames_behind (tuned 64 (pos 0 ∷ [])) None (Some (paged 0)) [] 0 ≡ []
 unfolding tuned paged
 unassigned = refl
+
+unassigned_sets : sets_behind (tuned 64 (pos 0 ∷ [])) None (Some (paged 0)) [] 0 ≡ []
+unfolding tuned paged
+unassigned_sets = refl
 
 unassigned_messages : messages_behind (tuned 64 (pos 0 ∷ [])) None (Some (paged 0)) [] 0 ≡ []
 unfolding tuned paged
@@ -197,3 +210,85 @@ primary_alone = refl
 not_good : signal_of (mixed false true false) ≡ None
 unfolding mixed split split_9600
 not_good = refl
+
+-- THE PILOT SETS
+-- what is heard at a moment is heard before it
+at_moment : moments_before (paged 0) 786432 ≡ 0
+unfolding paged
+at_moment = refl
+
+behind_moment : moments_before (paged 0) 786433 ≡ 1
+unfolding paged
+behind_moment = refl
+
+-- a message's first moment is the one at its end, or the next; before the mark the first one
+first_moment : moment_from (paged 0) 786432 ≡ 1
+unfolding paged
+first_moment = refl
+
+next_moment : moment_from (paged 0) 786433 ≡ 2
+unfolding paged
+next_moment = refl
+
+moment_at_mark : moment_from (paged 0) 688128 ≡ 1
+unfolding paged
+moment_at_mark = refl
+
+-- four frames are heard from the pilots behind one moment
+third : moment_of assigned 3 ≡ 0
+unfolding assigned
+third = refl
+
+fourth : moment_of assigned 4 ≡ 1
+unfolding assigned
+fourth = refl
+
+-- the reference's pilot is active on row 10, and pilot 3 on row 20, five chips early
+two_pilots : Standing
+two_pilots = record {
+  sets = record (new_sets 511 10) {
+    active =
+        record { pilot = 511; row = 10; subchannel = 0; timer = None }
+        ∷ record { pilot = 3; row = 20; subchannel = 1; timer = None }
+        ∷ [];
+  };
+  began = None;
+  deltas = pos 0 ∷ pos 0 ∷ pos 0 ∷ pos 5 ∷ [];
+}
+
+-- a handset with two paths has three fingers then, on two subchannels
+three_fingers : all_fingers 64 (pos 0 ∷ negsuc 2 ∷ []) (legs_of (paged 0) two_pilots)
+    ≡ record { phase = 64; delta = pos 0; row = 10 }
+    ∷ record { phase = 61; delta = negsuc 2; row = 10 }
+    ∷ record { phase = 32581; delta = pos 5; row = 20 }
+    ∷ []
+unfolding paged two_pilots
+three_fingers = refl
+
+two_subchannels : subchannels (legs_of (paged 0) two_pilots) ≡ 0 ∷ 1 ∷ []
+unfolding places paged two_pilots
+two_subchannels = refl
+
+-- another pilot's message of the paging channel tells nothing of the sets, and one whose bits aren't
+-- known neither
+neighbors_of : ℕ → NeighborFields
+neighbors_of pn = record {
+  pn = pn;
+  seq = 0;
+  inc = 1;
+  configs = 0 ∷ [];
+  pns = 7 ∷ [];
+  rest = [];
+}
+
+own_neighbors : (page_noted 511 (pages.Neighbors (neighbors_of 511)) two_pilots).sets.neighbors
+    ≡ 7 ∷ []
+unfolding neighbors_of two_pilots
+own_neighbors = refl
+
+other_neighbors : page_noted 511 (pages.Neighbors (neighbors_of 510)) two_pilots ≡ two_pilots
+unfolding neighbors_of
+other_neighbors = refl
+
+other_message : body_noted 1 (bodies.Other 5 []) two_pilots ≡ two_pilots
+other_message = refl

@@ -2,6 +2,7 @@
 
 use chip_core::{Bits, Phase};
 use paging_message::PagingMessage;
+use pilot_sets::{ActiveList, PilotList};
 use symbol_path::Rate;
 use sync_message::SyncMessage;
 use traffic_message::TrafficMessage;
@@ -55,5 +56,18 @@ pub enum Event {
         capsule: Bits,
         /// The message that the capsule spells.
         message: TrafficMessage,
+    },
+    /// The pilot sets changed, or a report of them is due (after TIA/EIA-95-B, 6.6.6.2).
+    Sets {
+        /// The sample at which the moment lies: how many samples had been taken then.
+        at: u64,
+        /// The moment's time, in units of 80 ms.
+        time: u64,
+        /// The active set behind the moment.
+        active: ActiveList,
+        /// The candidate set behind it.
+        candidate: PilotList,
+        /// Whether a pilot strength report is due.
+        report: bool,
     },
 }

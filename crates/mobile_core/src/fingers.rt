@@ -1,12 +1,16 @@
 //! The fingers that receive a channel of the reference base station, and where their frames lie.
 
-ghost use Rattle.std.specs.Prelude.{◌≡◌, ◌<◌, ◌≤◌, ◌+◌, ◌^◌, true, pos, ◌+ℤ◌};
+ghost use Rattle.std.specs.Prelude.{◌≡◌, ◌<◌, ◌≤◌, ◌+◌, ◌^◌, ◌++◌, ◌∷◌, [], true, pos, ◌+ℤ◌};
 ghost use Rattle.std.specs.Prelude.{int_le, slice_get, Some, length, take};
+ghost use Rattle.mobile_core.specs.Close.{all_close, fingers_in, is_close, legs_close};
+ghost use Rattle.mobile_core.specs.Close.{legs_rows, places_for, places_in};
+ghost use Rattle.mobile_core.specs.Legs.{all_fingers, leg_fingers};
 ghost use Rattle.mobile_core.specs.Near.{is_near, AreNear, have_rows, all_begun};
 ghost use Rattle.mobile_core.specs.Streams.{finger_end, frame_end};
 ghost use Rattle.mobile_core.specs.Tuning.{finger_of, fingers_of, modulo_code};
 ghost use Rattle.rake_finger.specs.Soft.{frame_chips, symbols};
 
+use crate::legs::{Leg, Legs};
 use chip_core::Phase;
 use chip_core::air::{DATA_FRAME_CHIPS, DATA_SYMBOLS, SYNC_FRAME_CHIPS, SYNC_SYMBOLS};
 use pilot_search::Near;
@@ -100,7 +104,7 @@ pub(crate) fn are_begun(fingers: &Fingers, start: u64) -> bool
 
 /// Where one finger's frame ends that begins at a reference sample.
 fn end_of(finger: &Finger, form: Form, start: u64) -> u64
-    requires near { is_near finger.now.delta ≡ true }
+    requires close { is_close finger.now ≡ true }
     requires start { start < 2 ^ 30 }
     ensures { result ≡ finger_end form start finger.now }
 {
@@ -110,7 +114,7 @@ fn end_of(finger: &Finger, form: Form, start: u64) -> u64
 
 /// Where the last of the fingers' frames ends that begin at a reference sample.
 pub(crate) fn frames_end(fingers: &Fingers, form: Form, start: u64) -> u64
-    requires near { AreNear fingers.now }
+    requires close { all_close fingers.now ≡ true }
     requires start { start < 2 ^ 30 }
     ensures { result ≡ frame_end fingers.now form start }
 {
@@ -119,4 +123,79 @@ pub(crate) fn frames_end(fingers: &Fingers, form: Form, start: u64) -> u64
         end = end_of(&fingers.get(i), form, start).max(end);
     }
     end
+}
+
+/// A list with one finger more; `None` stands for no finger.
+fn with_finger(fingers: Option<Fingers>, finger: Finger) -> Option<Fingers>
+    requires { length (fingers_in fingers) < 8 }
+    ensures { fingers_in result ≡ fingers_in fingers ++ finger ∷ [] }
+{
+    match fingers {
+        None => Some(Fingers::one(finger)),
+        Some(mut more) => {
+            if more.push(finger).is_err() {
+                unreachable!()
+            }
+            Some(more)
+        }
+    }
+}
+
+/// A list with the fingers of one active pilot more, where the reference base station is at a phase
+/// and near it.
+fn with_leg(fingers: Option<Fingers>, leg: &Leg, phase: Phase, near: &Near) -> Option<Fingers>
+    requires few { length (fingers_in fingers) + places_for leg.now ≤ 8 }
+    requires most { near.now.count ≤ 3 }
+    ensures value { fingers_in result ≡ fingers_in fingers
+        ++ leg_fingers phase (take near.now.count near.now.deltas) leg.now }
+    ensures close { is_close leg.now.finger ≡ true → all_close (fingers_in fingers) ≡ true →
+        all_close (fingers_in result) ≡ true }
+{
+    if !leg.reference {
+        return with_finger(fingers, leg.finger);
+    }
+    let mut more = fingers;
+    for i in 0..near.count {
+        let finger = finger_at(leg.finger.row, phase, near.deltas[usize::from(i)]);
+        more = with_finger(more, finger);
+    }
+    more
+}
+
+/// The fingers that receive a traffic channel from active pilots, where the reference base station
+/// is at a phase and near it; `None` where there are none.
+fn fingers_or_none(legs: &Legs, phase: Phase, near: &Near) -> Option<Fingers>
+    requires few { places_in legs.now ≤ 8 }
+    requires most { near.now.count ≤ 3 }
+    requires close { legs_close legs.now ≡ true }
+    ensures value { fingers_in result
+        ≡ all_fingers phase (take near.now.count near.now.deltas) legs.now }
+    ensures close { all_close (fingers_in result) ≡ true }
+{
+    let mut fingers = None;
+    for i in 0..legs.len() {
+        fingers = with_leg(fingers, &legs.get(i), phase, near);
+    }
+    fingers
+}
+
+/// The fingers that receive a traffic channel from one active pilot or more.
+pub(crate) fn leg_fingers(legs: &Legs, phase: Phase, near: &Near) -> Fingers
+    requires some { 1 ≤ length legs.now }
+    requires few { places_in legs.now ≤ 8 }
+    requires least { 1 ≤ near.now.count }
+    requires most { near.now.count ≤ 3 }
+    requires close { legs_close legs.now ≡ true }
+    requires rows { legs_rows legs.now ≡ true }
+    ensures value { result ≡ all_fingers phase (take near.now.count near.now.deltas) legs.now }
+    ensures close { all_close result ≡ true }
+    ensures rows { have_rows result ≡ true }
+    ensures least { 1 ≤ length result }
+    ensures most { length result ≤ 8 }
+{
+    let _paths = near.deltas;
+    match fingers_or_none(legs, phase, near) {
+        Some(fingers) => fingers,
+        None => unreachable!(),
+    }
 }

@@ -31,9 +31,10 @@ impl Followed {
     ghost use Rattle.mobile_core.specs.FollowedChannels.{followed_heard};
     ghost use Rattle.mobile_core.specs.Given.{at_of, listed};
     ghost use Rattle.mobile_core.specs.Marks.{sets_mark};
-    ghost use Rattle.mobile_core.specs.PagingMonitoring.{SetsMark};
+    ghost use Rattle.mobile_core.specs.PagingMonitoring.{IsReceiverDue, SetsMark};
     ghost use Rattle.mobile_core.specs.Sound.{IsSoundMark};
-    ghost use Rattle.mobile_core.specs.TrafficMonitoring.{IsSoundAssignment};
+    ghost use Rattle.mobile_core.specs.TrafficMonitoring.{IsFrameDue, IsSoundAssignment};
+    ghost use Rattle.mobile_core.specs.TrafficReceiving.{next_end};
     ghost use Rattle.mobile_core.specs.Tuning.{Tuning};
     ghost use Rattle.mobile_core.specs.declared.mark.Mark.{Mark as TheMark};
     ghost use Rattle.rake_finger.specs.Held.{HoldsLast};
@@ -82,37 +83,40 @@ impl Followed {
         self.traffic.follow(mark, taken);
     }
 
-    /// The least of a number of samples and those at which the receivers' next frames end.
+    /// The least of a number of samples and those at which the receivers' next frames end and the
+    /// next moment lies.
     pub(crate) fn end_before(&self, end: u64) -> u64
+        requires { IsSoundFollowed self.now }
         ensures most { result ≤ end }
         ensures paging { ForSome self.now.paging.receiver (λ r. result ≤ r.received.clock.end) }
-        ensures traffic { ForSome self.now.traffic.receiver (λ r. result ≤ r.clock.end) }
+        ensures traffic { ForSome self.now.traffic.receiver (λ r. result ≤ next_end r) }
         ensures one { (n : ℕ) → n < end → WaitFrom n self.now → n < result }
     {
         self.paging.end_before(self.traffic.end_before(end))
     }
 
-    /// Whether a frame is known that hasn't been heard whole, in a file of so many samples.
+    /// Whether a frame is known that hasn't been heard whole, in a file of so many samples, or a
+    /// moment has come.
     pub(crate) fn is_due(&self, count: u64) -> bool
         requires { IsSoundFollowed self.now }
         ensures { IsTrue result ↔ IsFollowedDue count self.now }
     {
-        self.paging.is_due(count) || self.traffic.is_due(count)
+        self.paging.is_due(count) || self.traffic.is_due()
     }
 
-    /// Takes the soft values of the frames whose last sample has come.
+    /// Takes the soft values of the frames whose last sample has come, and lets the moment come that
+    /// lies there.
     pub(crate) fn take_ended(&mut self, ring: &SampleRing, codes: &Codes)
         requires sound { IsSoundFollowed self.old }
         requires paging { ForSome self.old.paging.receiver (λ r.
             r.received.clock.have ≤ r.received.clock.next + 1) }
-        requires traffic { ForSome self.old.traffic.receiver (λ r.
-            r.clock.have ≤ r.clock.next + 1) }
+        requires traffic { ¬ IsFrameDue self.old.traffic.receiver }
         requires few { ring.now.taken ≤ 67108864 }
         requires room { ring.now.room ≡ 65536 }
         requires paging_ended { ForSome self.old.paging.receiver (λ r.
             ring.now.taken ≤ r.received.clock.end) }
         requires traffic_ended { ForSome self.old.traffic.receiver (λ r.
-            ring.now.taken ≤ r.clock.end) }
+            ring.now.taken ≤ next_end r) }
         ensures sound { IsSoundFollowed self.new }
         ensures waits { WaitFrom ring.now.taken self.new }
         ensures same { followed_heard self.new ≡ followed_heard self.old }
@@ -128,16 +132,47 @@ impl Followed {
     }
 
     /// Hears what is due next, the paging channel first: a bit of it, or a frame of the traffic
-    /// channel or its message. Gives the event that this completes at so many samples.
+    /// channel, its message, or a moment. Gives the event that this completes at so many samples.
     pub(crate) fn hear_next(
         &mut self,
         decoder: &mut Decoder,
+        ring: &SampleRing,
+        codes: &Codes,
         check: CheckForm,
         count: u64,
-        at: u64,
     ) -> Option<Event>
         requires sound { IsSoundFollowed self.old }
         requires due { IsFollowedDue count self.old }
+        requires waits { WaitFrom ring.now.taken self.old }
+        requires room { decoder.old ≡ 576 }
+        requires ring_room { ring.now.room ≡ 65536 }
+        ensures sound { IsSoundFollowed self.new }
+        ensures kept { decoder.new ≡ decoder.old }
+        ensures waits { WaitFrom ring.now.taken self.new }
+        ensures further { followed_heard self.old < followed_heard self.new }
+        ensures nearer { followed_due self.new < followed_due self.old }
+        ensures ends { IfSome result (λ event. at_of event ≡ ring.now.taken) }
+        ensures unset { list_any sets_mark (listed result) ≡ false }
+        ensures hears { (t : Tuning) (mark : Option TheMark) (heard : List Sample) →
+            HoldsLast ring.now heard → check ≡ t.check30 → count ≡ t.count →
+            HearsFollowed t self.old mark heard → HearsFollowed t self.new mark heard }
+        ensures left { (t : Tuning) (mark : Option TheMark) (heard : List Sample) →
+            HoldsLast ring.now heard → check ≡ t.check30 → count ≡ t.count →
+            HearsFollowed t self.old mark heard →
+            listed result ++ followed_events_left t mark heard self.new
+            ≡ followed_events_left t mark heard self.old }
+    {
+        if self.paging.is_due(count) {
+            return self.hear_page(decoder, check, ring.taken());
+        }
+        self.traffic.hear_next(decoder, ring, codes)
+    }
+
+    /// Hears a bit of the paging channel that is due, and gives the event that it completes; the
+    /// pilot sets take what it tells.
+    fn hear_page(&mut self, decoder: &mut Decoder, check: CheckForm, at: u64) -> Option<Event>
+        requires sound { IsSoundFollowed self.old }
+        requires due { (count : ℕ) × IsReceiverDue count self.old.paging.receiver }
         requires waits { WaitFrom at self.old }
         requires room { decoder.old ≡ 576 }
         ensures sound { IsSoundFollowed self.new }
@@ -148,17 +183,20 @@ impl Followed {
         ensures ends { IfSome result (λ event. at_of event ≡ at) }
         ensures unset { list_any sets_mark (listed result) ≡ false }
         ensures hears { (t : Tuning) (mark : Option TheMark) (heard : List Sample) →
-            check ≡ t.check30 → count ≡ t.count → HearsFollowed t self.old mark heard →
-            HearsFollowed t self.new mark heard }
+            at ≡ length heard → check ≡ t.check30 →
+            IsReceiverDue t.count self.old.paging.receiver →
+            HearsFollowed t self.old mark heard → HearsFollowed t self.new mark heard }
         ensures left { (t : Tuning) (mark : Option TheMark) (heard : List Sample) →
-            at ≡ length heard → check ≡ t.check30 → count ≡ t.count →
+            at ≡ length heard → check ≡ t.check30 →
+            IsReceiverDue t.count self.old.paging.receiver →
             HearsFollowed t self.old mark heard →
             listed result ++ followed_events_left t mark heard self.new
             ≡ followed_events_left t mark heard self.old }
     {
-        if self.paging.is_due(count) {
-            return self.paging.hear_bit(decoder, check, at);
-        }
-        self.traffic.hear_next(decoder, at)
+        let Some(event) = self.paging.hear_bit(decoder, check, at) else {
+            return None;
+        };
+        self.traffic.note(&event);
+        Some(event)
     }
 }

@@ -64,6 +64,7 @@ impl Mobile {
     ghost use Rattle.mobile_core.specs.Marks.{mark, sets_mark};
     ghost use Rattle.mobile_core.specs.FollowedChannels.{IsFollowedDue};
     ghost use Rattle.mobile_core.specs.TrafficMonitoring.{IsSoundAssignment};
+    ghost use Rattle.mobile_core.specs.TrafficReceiving.{next_end};
     ghost use Rattle.mobile_core.specs.Clocks.{IsDueAt};
     ghost use Rattle.mobile_core.specs.Standing.{IsDueFor, IsStep, StandsFor, Steps, due_parts};
     ghost use Rattle.mobile_core.specs.Standing.{has_room, ring_room};
@@ -153,15 +154,16 @@ impl Mobile {
         ensures steps { Steps self.old self.new [] (record { taken = 0; event = result }) }
         ensures nearer { due_parts self.new < due_parts self.old }
     {
-        let at = self.ring.taken();
         let Mobile {
             count,
             check,
+            ring,
+            codes,
             decoder,
             followed,
             ..
         } = self;
-        followed.hear_next(decoder, *check, *count, at)
+        followed.hear_next(decoder, ring, codes, *check, *count)
     }
 
     /// Hears what is due next, the sync channel first, and gives the event that it completes.
@@ -195,7 +197,7 @@ impl Mobile {
         ensures paging { ForSome self.now.followed.paging.receiver (λ r.
             result ≤ r.received.clock.end) }
         ensures traffic { ForSome self.now.followed.traffic.receiver (λ r.
-            result ≤ r.clock.end) }
+            result ≤ next_end r) }
         ensures waits { self.now.ring.taken < result }
     {
         self.followed.end_before(self.sync.end())

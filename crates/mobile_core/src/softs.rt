@@ -24,7 +24,7 @@ fn turned_value(bit: bool, soft: i64) -> i64
 /// 7.1.3.1.6).
 pub(crate) fn unscramble(bits: &[bool], softs: &mut [i64])
     requires bits { Scrambles bits.now (length softs.old) }
-    requires small { sum_by unsigned_abs softs.old ≤ frame_most }
+    requires small { sum_by unsigned_abs softs.old ≤ 2 ^ 62 }
     ensures value { softs.new ≡ unscrambled bits.now softs.old }
     ensures small { sum_by unsigned_abs softs.new ≡ sum_by unsigned_abs softs.old }
 {

@@ -40,7 +40,9 @@ impl TrafficMonitor {
     ghost use Rattle.mobile_core.specs.TrafficMonitoring.{IsSoundAssignment, IsSoundTrafficMonitor};
     ghost use Rattle.mobile_core.specs.TrafficMonitoring.{traffic_events_left, traffic_due_by};
     ghost use Rattle.mobile_core.specs.TrafficMonitoring.{traffic_heard_by};
+    ghost use Rattle.mobile_core.specs.TrafficReceiving.{next_end};
     ghost use Rattle.mobile_core.specs.Tuning.{Tuning};
+    ghost use Rattle.mobile_core.specs.declared.event.Event.{Event as TheEvent};
     ghost use Rattle.mobile_core.specs.declared.mark.Mark.{Mark as TheMark};
     ghost use Rattle.rake_finger.specs.Held.{HoldsLast};
 
@@ -60,7 +62,7 @@ impl TrafficMonitor {
         ensures sound { IsSoundTrafficMonitor result }
         ensures hears { (t : Tuning) (heard : List Sample) → t.traffic ≡ traffic →
             t.phase ≡ phase → t.deltas ≡ take near.count near.deltas → t.check16 ≡ check →
-            HearsFrames t result None heard }
+            (pages : List TheEvent) → HearsFrames t result None heard pages }
     {
         TrafficMonitor {
             traffic,
@@ -84,12 +86,14 @@ impl TrafficMonitor {
         ensures waits { FramesWaitFrom taken self.new.receiver }
         ensures further { traffic_heard_by self.old.receiver ≤ traffic_heard_by self.new.receiver }
         ensures due { traffic_due_by self.new.receiver ≤ traffic_due_by self.old.receiver }
-        ensures hears { (t : Tuning) (before : Option TheMark) (heard : List Sample) →
+        ensures hears { (t : Tuning) (before : Option TheMark) (heard : List Sample)
+            (pages : List TheEvent) → (before ≡ None → pages ≡ []) →
             taken ≡ length heard → taken ≤ t.count → SetsMark taken before mark →
-            HearsFrames t self.old before heard → HearsFrames t self.new mark heard }
-        ensures left { (t : Tuning) (before : Option TheMark) (heard : List Sample) →
+            HearsFrames t self.old before heard pages → HearsFrames t self.new mark heard pages }
+        ensures left { (t : Tuning) (before : Option TheMark) (heard : List Sample)
+            (pages : List TheEvent) →
             taken ≡ length heard → taken ≤ t.count → SetsMark taken before mark →
-            HearsFrames t self.old before heard →
+            HearsFrames t self.old before heard pages →
             traffic_events_left t mark heard self.new.receiver
             ≡ traffic_events_left t before heard self.old.receiver }
     {
@@ -104,10 +108,12 @@ impl TrafficMonitor {
         }
     }
 
-    /// The least of a number of samples and that at which the receiver's next frame ends.
+    /// The least of a number of samples and that at which the receiver's next frame ends or its
+    /// next moment lies.
     pub(crate) fn end_before(&self, end: u64) -> u64
+        requires { IsSoundTrafficMonitor self.now }
         ensures most { result ≤ end }
-        ensures ends { ForSome self.now.receiver (λ r. result ≤ r.clock.end) }
+        ensures ends { ForSome self.now.receiver (λ r. result ≤ next_end r) }
         ensures one { (n : ℕ) → n < end → FramesWaitFrom n self.now.receiver → n < result }
     {
         match &self.receiver {
@@ -116,31 +122,30 @@ impl TrafficMonitor {
         }
     }
 
-    /// Whether a frame has come that hasn't been heard, or a message is kept, in a file of so many
-    /// samples.
-    pub(crate) fn is_due(&self, count: u64) -> bool
-        requires { IsSoundTrafficMonitor self.now }
-        ensures { IsTrue result ↔ IsFrameDue count self.now.receiver }
+    /// Whether a frame or a moment has come that hasn't been heard, or a message is kept.
+    pub(crate) fn is_due(&self) -> bool
+        ensures { IsTrue result ↔ IsFrameDue self.now.receiver }
     {
         match &self.receiver {
-            Some(receiver) => receiver.is_due(count),
+            Some(receiver) => receiver.is_due(),
             None => false,
         }
     }
 
-    /// Takes the soft values of the frame whose last sample has come, where one has.
+    /// Takes the soft values of the frame whose last sample has come, where one has, and lets the
+    /// moment come that lies there.
     pub(crate) fn take_ended(&mut self, ring: &SampleRing, codes: &Codes)
         requires sound { IsSoundTrafficMonitor self.old }
-        requires near { ForSome self.old.receiver (λ r. r.clock.have ≤ r.clock.next + 1) }
+        requires idle { ¬ IsFrameDue self.old.receiver }
         requires few { ring.now.taken ≤ 67108864 }
         requires room { ring.now.room ≡ 65536 }
-        requires ended { ForSome self.old.receiver (λ r. ring.now.taken ≤ r.clock.end) }
+        requires ended { ForSome self.old.receiver (λ r. ring.now.taken ≤ next_end r) }
         ensures sound { IsSoundTrafficMonitor self.new }
         ensures waits { FramesWaitFrom ring.now.taken self.new.receiver }
         ensures same { traffic_heard_by self.new.receiver ≡ traffic_heard_by self.old.receiver }
-        ensures hears { (t : Tuning) (mark : Option TheMark) (heard : List Sample) →
-            HoldsLast ring.now heard → ¬ IsFrameDue t.count self.old.receiver →
-            HearsFrames t self.old mark heard → HearsFrames t self.new mark heard }
+        ensures hears { (t : Tuning) (mark : Option TheMark) (heard : List Sample)
+            (pages : List TheEvent) → HoldsLast ring.now heard →
+            HearsFrames t self.old mark heard pages → HearsFrames t self.new mark heard pages }
         ensures left { (t : Tuning) (mark : Option TheMark) (heard : List Sample) →
             traffic_events_left t mark heard self.new.receiver
             ≡ traffic_events_left t mark heard self.old.receiver }
@@ -150,32 +155,59 @@ impl TrafficMonitor {
         }
     }
 
-    /// Hears what is due, and gives its event at so many samples; `None` where there is no
-    /// receiver.
-    pub(crate) fn hear_next(&mut self, decoder: &mut Decoder, at: u64) -> Option<Event>
-        requires sound { IsSoundTrafficMonitor self.old }
-        requires come { (count : ℕ) × IsFrameDue count self.old.receiver }
-        requires room { decoder.old ≡ 576 }
+    /// Takes what an event of the paging channel tells of the pilot sets.
+    pub(crate) fn note(&mut self, event: &Event)
+        requires { IsSoundTrafficMonitor self.old }
         ensures sound { IsSoundTrafficMonitor self.new }
-        ensures kept { decoder.new ≡ decoder.old }
         ensures waits { (n : ℕ) → FramesWaitFrom n self.old.receiver →
             FramesWaitFrom n self.new.receiver }
+        ensures further { traffic_heard_by self.new.receiver
+            ≡ traffic_heard_by self.old.receiver }
+        ensures due { traffic_due_by self.new.receiver ≡ traffic_due_by self.old.receiver }
+        ensures hears { (t : Tuning) (mark : Option TheMark) (heard : List Sample)
+            (pages : List TheEvent) → at_of event.now ≡ length heard →
+            HearsFrames t self.old mark heard (event.now ∷ pages) →
+            HearsFrames t self.new mark heard pages }
+        ensures left { (t : Tuning) (mark : Option TheMark) (heard : List Sample) →
+            traffic_events_left t mark heard self.new.receiver
+            ≡ traffic_events_left t mark heard self.old.receiver }
+    {
+        if let Some(receiver) = &mut self.receiver {
+            receiver.note(event);
+        }
+    }
+
+    /// Hears what is due, and gives its event at so many samples, where it has one; `None` where
+    /// there is no receiver.
+    pub(crate) fn hear_next(
+        &mut self,
+        decoder: &mut Decoder,
+        ring: &SampleRing,
+        codes: &Codes,
+    ) -> Option<Event>
+        requires sound { IsSoundTrafficMonitor self.old }
+        requires due { IsFrameDue self.old.receiver }
+        requires room { decoder.old ≡ 576 }
+        requires ring_room { ring.now.room ≡ 65536 }
+        requires waits { FramesWaitFrom ring.now.taken self.old.receiver }
+        ensures sound { IsSoundTrafficMonitor self.new }
+        ensures kept { decoder.new ≡ decoder.old }
+        ensures waits { FramesWaitFrom ring.now.taken self.new.receiver }
         ensures further { traffic_heard_by self.old.receiver < traffic_heard_by self.new.receiver }
         ensures nearer { traffic_due_by self.new.receiver < traffic_due_by self.old.receiver }
-        ensures ends { IfSome result (λ event. at_of event ≡ at) }
+        ensures ends { IfSome result (λ event. at_of event ≡ ring.now.taken) }
         ensures unset { list_any sets_mark (listed result) ≡ false }
         ensures hears { (t : Tuning) (mark : Option TheMark) (heard : List Sample) →
-            IsFrameDue t.count self.old.receiver →
-            HearsFrames t self.old mark heard → HearsFrames t self.new mark heard }
+            HoldsLast ring.now heard → HearsFrames t self.old mark heard [] →
+            HearsFrames t self.new mark heard [] }
         ensures left { (t : Tuning) (mark : Option TheMark) (heard : List Sample) →
-            at ≡ length heard → IsFrameDue t.count self.old.receiver →
-            HearsFrames t self.old mark heard →
+            HoldsLast ring.now heard → HearsFrames t self.old mark heard [] →
             listed result ++ traffic_events_left t mark heard self.new.receiver
             ≡ traffic_events_left t mark heard self.old.receiver }
     {
         let Some(receiver) = &mut self.receiver else {
             return None;
         };
-        Some(receiver.hear_next(decoder, self.check, at))
+        receiver.hear_next(decoder, ring, codes, self.check)
     }
 }

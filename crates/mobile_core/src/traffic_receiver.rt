@@ -1,59 +1,92 @@
 //! A traffic channel as it is received.
 
 use crate::event::Event;
-use crate::fingers::reference_fingers;
-use crate::frame_clock::FrameClock;
+use crate::fingers::{frames_end, leg_fingers};
 use crate::hearing::{frame_event, hear_signal, message_event};
+use crate::legs::Legs;
 use crate::mark::Mark;
 use crate::scrambling::Scrambling;
+use crate::sets_keeper::SetsKeeper;
 use crate::settings::Traffic;
 use crate::softs::unscramble;
 use crate::spelled_signal::SpelledSignal;
-use chip_core::air::{DATA_SYMBOLS, FRAME_OFFSET_CHIPS};
+use crate::traffic_softs::{leg_softs, power_softs};
+use chip_core::air::{DATA_FRAME_CHIPS, DATA_SYMBOLS, FRAME_OFFSET_CHIPS};
 use chip_core::{CheckForm, Phase};
 use frame_decoder::{Decoded, PowerSofts, commands, traffic_frame};
 use pilot_search::Near;
-use rake_finger::{Fingers, Form, SampleRing, combine_into};
+use rake_finger::{Form, SampleRing};
 use short_code::Codes;
 use symbol_path::power_places;
 use traffic_message::SignalFramer;
 use viterbi::Decoder;
 
-/// The receiver of the traffic channel that the reference base station assigned, from the mark on.
+/// The receiver of the traffic channel of the active pilots, from the mark on, with the pilot sets.
 ///
 /// TIA/EIA-95-B, 7.1.3.5: each frame is encoded by itself, and so is heard at its own end. A
-/// message is heard behind the frame that completes it (7.7.3).
+/// message is heard behind the frame that completes it (7.7.3). A frame is heard from the pilots
+/// that are active behind the last moment at or before its first sample.
 #[derive(Drop)]
 pub(crate) struct TrafficReceiver {
-    /// Where the frames lie, and how far they have come.
-    clock: FrameClock,
-    fingers: Fingers,
+    /// The number of the frame that is heard next.
+    next: u64,
+    /// The number of the frame whose samples come next: the same, or where that has come the one
+    /// behind it.
+    have: u64,
+    /// The reference sample at which it begins.
+    start: u64,
+    /// How many samples have been taken when it ends on every finger.
+    end: u64,
+    /// The pilots that it is heard from, once the moment has passed that tells them.
+    legs: Legs,
+    /// The phase of the reference base station's codes.
+    phase: Phase,
+    /// The paths near it.
+    near: Near,
     scrambling: Scrambling,
     /// The soft values of the frame that is heard next, where it has come, as the fingers hear
     /// them: no scrambling has turned them.
     softs: [i64; DATA_SYMBOLS],
+    /// Those of its power control bits, by subchannels.
+    power: PowerSofts,
     framer: SignalFramer,
     /// The message that the frame heard last completes, as long as it hasn't been given.
     kept: Option<SpelledSignal>,
+    sets: SetsKeeper,
 }
 
 impl TrafficReceiver {
-    ghost use Rattle.std.specs.Prelude.{◌≡◌, ◌<◌, ◌≤◌, ◌+◌, ◌∷◌, [], ◌++◌, ◌↔◌, IsTrue, List};
-    ghost use Rattle.std.specs.Prelude.{length, take, slice_get, Some, None, pos, false, ℕ};
+    ghost use Rattle.std.specs.Prelude.{◌≡◌, ◌<◌, ◌≤◌, ◌+◌, ◌-◌, ◌*◌, ◌/◌, ◌∷◌, [], ◌++◌};
+    ghost use Rattle.std.specs.Prelude.{◌↔◌, IsTrue, List, map};
+    ghost use Rattle.std.specs.Prelude.{length, take, slice_get, Some, None, pos, false, ℕ, IfSome};
+    ghost use Rattle.std.specs.Prelude.{true};
     ghost use Rattle.std.specs.List.{list_any};
     ghost use Rattle.chip_core.specs.declared.sample.Sample.{Sample};
-    ghost use Rattle.mobile_core.specs.Clocks.{IsDueAt};
-    ghost use Rattle.mobile_core.specs.Given.{at_of};
+    ghost use Rattle.mobile_core.specs.Given.{at_of, listed};
     ghost use Rattle.mobile_core.specs.Marks.{sets_mark};
+    ghost use Rattle.frame_decoder.specs.TrafficFrames.{subchannels};
+    ghost use Rattle.long_code.specs.LongCode.{after};
+    ghost use Rattle.mobile_core.specs.Close.{legs_close};
+    ghost use Rattle.mobile_core.specs.LegSofts.{sums_on};
+    ghost use Rattle.mobile_core.specs.Legs.{legs_of};
+    ghost use Rattle.mobile_core.specs.Legs.{subchannels as subchannels_of};
+    ghost use Rattle.mobile_core.specs.Moments.{legs_by, moment_place};
     ghost use Rattle.mobile_core.specs.Sound.{IsSoundMark};
     ghost use Rattle.mobile_core.specs.TrafficEvents.{commands_at, decoded_at};
-    ghost use Rattle.mobile_core.specs.TrafficReceiving.{HearsTraffic, IsSoundTraffic};
-    ghost use Rattle.mobile_core.specs.TrafficReceiving.{IsTrafficDue, traffic_due, traffic_heard};
+    ghost use Rattle.mobile_core.specs.TrafficReceiving.{HasTold, HearsTraffic, IsSoundTraffic};
+    ghost use Rattle.mobile_core.specs.TrafficReceiving.{IsTrafficDue, WaitsAt};
+    ghost use Rattle.mobile_core.specs.TrafficReceiving.{HearsWith, fingers_in, next_end, noted_by};
+    ghost use Rattle.mobile_core.specs.TrafficReceiving.{told_left_with, traffic_due, traffic_heard};
     ghost use Rattle.mobile_core.specs.TrafficReceiving.{traffic_left_of};
+    ghost use Rattle.pilot_sets.specs.Standing.{Standing};
     ghost use Rattle.mobile_core.specs.Tuning.{Tuning};
+    ghost use Rattle.mobile_core.specs.declared.event.Event.{Event as TheEvent};
     ghost use Rattle.mobile_core.specs.declared.mark.Mark.{Mark as TheMark};
     ghost use Rattle.mobile_core.specs.declared.settings.Traffic.{Traffic as TheTraffic};
     ghost use Rattle.rake_finger.specs.Held.{HoldsLast};
+    ghost use Rattle.rake_finger.specs.Soft.{softs};
+    ghost use Rattle.rake_finger.specs.declared.form.Form.TheVariants.{Data};
+    ghost use Rattle.symbol_path.specs.Scrambling.{power_places};
     ghost use Rattle.symbol_path.specs.TrafficWords.{information_of};
 
     /// A receiver that has heard no frame, for a base station at a phase and near it.
@@ -64,77 +97,237 @@ impl TrafficReceiver {
         requires least { 1 ≤ near.now.count }
         requires most { near.now.count ≤ 3 }
         requires first { slice_get near.now.deltas 0 ≡ Some (pos 0) }
-        ensures begins { mark.now.sample < result.clock.end }
-        ensures fresh { result.clock.have ≡ result.clock.next }
+        ensures begins { mark.now.sample < next_end result }
+        ensures fresh { result.have ≡ result.next }
         ensures empty { result.kept ≡ None }
+        ensures idle { result.sets.due ≡ false }
         ensures sound { IsSoundTraffic result }
         ensures hears { (t : Tuning) (heard : List Sample) → t.phase ≡ phase →
             t.deltas ≡ take near.now.count near.now.deltas → length heard ≤ t.count →
             length heard ≤ mark.now.sample →
-            HearsTraffic t traffic.now mark.now result heard }
+            HearsTraffic t traffic.now mark.now result heard [] }
     {
-        let fingers = reference_fingers(traffic.row, phase, near);
-        let first = mark.sample + FRAME_OFFSET_CHIPS * u64::from(traffic.offset);
+        let sets = SetsKeeper::new(mark, traffic.row);
+        let legs = sets.legs();
+        let start = mark.sample + FRAME_OFFSET_CHIPS * u64::from(traffic.offset);
         TrafficReceiver {
-            clock: FrameClock::new(&fingers, Form::Data, false, first),
-            fingers,
+            next: 0,
+            have: 0,
+            start,
+            end: frames_end(&leg_fingers(&legs, phase, near), Form::Data, start),
+            legs,
+            phase,
+            near: *near,
             scrambling: Scrambling::of_traffic(traffic, mark),
             softs: [0; DATA_SYMBOLS],
+            power: PowerSofts::empty(),
             framer: SignalFramer::new(),
             kept: None,
+            sets,
         }
     }
 
-    /// How many samples have been taken when the frame ends that comes next.
+    /// How many samples have been taken when the frame ends that comes next, or at the next moment,
+    /// where that comes first.
     pub(crate) fn end(&self) -> u64
-        ensures { result ≡ self.now.clock.end }
-    {
-        self.clock.end()
-    }
-
-    /// Whether a message is kept, or a frame has come that hasn't been heard, in a file of so many
-    /// samples.
-    pub(crate) fn is_due(&self, count: u64) -> bool
         requires { IsSoundTraffic self.now }
-        ensures { IsTrue result ↔ IsTrafficDue count self.now }
+        ensures { result ≡ next_end self.now }
     {
-        self.kept.is_some() || self.clock.is_due(count)
+        self.end.min(self.sets.end())
     }
 
-    /// Takes the soft values of the frame whose last sample has come, where one has.
+    /// Whether a message is kept, or a frame or a moment has come that hasn't been heard.
+    pub(crate) fn is_due(&self) -> bool
+        ensures { IsTrue result ↔ IsTrafficDue self.now }
+    {
+        self.has_told() || self.sets.is_due()
+    }
+
+    /// Whether a message is kept, or a frame has come that hasn't been heard.
+    fn has_told(&self) -> bool
+        ensures { IsTrue result ↔ HasTold self.now }
+    {
+        self.kept.is_some() || self.next < self.have
+    }
+
+    /// Takes the soft values of the frame whose last sample has come, where one has, and lets the
+    /// moment come that lies there.
     pub(crate) fn take_ended(&mut self, ring: &SampleRing, codes: &Codes)
         requires sound { IsSoundTraffic self.old }
-        requires near { self.old.clock.have ≤ self.old.clock.next + 1 }
+        requires idle { ¬ IsTrafficDue self.old }
         requires few { ring.now.taken ≤ 67108864 }
         requires room { ring.now.room ≡ 65536 }
-        requires ended { ring.now.taken ≤ self.old.clock.end }
-        ensures next { self.new.clock.next ≡ self.old.clock.next }
+        requires ended { ring.now.taken ≤ next_end self.old }
+        ensures next { self.new.next ≡ self.old.next }
         ensures same { self.new.kept ≡ self.old.kept }
-        ensures waits { ring.now.taken < self.new.clock.end }
+        ensures passed { self.new.sets.passed ≡ self.old.sets.passed }
+        ensures waits { WaitsAt ring.now.taken self.new }
         ensures sound { IsSoundTraffic self.new }
         ensures stands { (t : Tuning) (traffic : TheTraffic) (m : TheMark)
-            (heard : List Sample) → HoldsLast ring.now heard →
-            ¬ IsDueAt t.count self.old.clock →
-            HearsTraffic t traffic m self.old heard → HearsTraffic t traffic m self.new heard }
+            (heard : List Sample) (pages : List TheEvent) → HoldsLast ring.now heard →
+            HearsTraffic t traffic m self.old heard pages →
+            HearsTraffic t traffic m self.new heard pages }
     {
-        if self.end() == ring.taken() {
-            let TrafficReceiver {
-                clock,
-                fingers,
-                softs,
-                ..
-            } = self;
-            combine_into(ring, codes, fingers, clock.form(), clock.start(), softs);
-            clock.advance();
-        }
+        self.take_frame(ring, codes);
+        self.sets.come(ring.taken());
     }
 
-    /// Hears what is due, the message that is kept first, and gives its event at so many samples.
-    pub(crate) fn hear_next(&mut self, decoder: &mut Decoder, check: CheckForm, at: u64) -> Event
+    /// Takes the soft values of the frame whose last sample has come, where one has, and goes on to
+    /// the frame behind it.
+    fn take_frame(&mut self, ring: &SampleRing, codes: &Codes)
         requires sound { IsSoundTraffic self.old }
-        requires come { (count : ℕ) × IsTrafficDue count self.old }
+        requires idle { self.old.have ≡ self.old.next }
+        requires few { ring.now.taken ≤ 67108864 }
+        requires room { ring.now.room ≡ 65536 }
+        requires ended { ring.now.taken ≤ self.old.end }
+        ensures next { self.new.next ≡ self.old.next }
+        ensures kept { self.new.kept ≡ self.old.kept }
+        ensures sets { self.new.sets ≡ self.old.sets }
+        ensures waits { ring.now.taken < self.new.end }
+        ensures sound { IsSoundTraffic self.new }
+        ensures stands { (t : Tuning) (traffic : TheTraffic) (m : TheMark)
+            (heard : List Sample) (pages : List TheEvent) → HoldsLast ring.now heard →
+            HearsTraffic t traffic m self.old heard pages →
+            HearsTraffic t traffic m self.new heard pages }
+    {
+        if self.end != ring.taken() {
+            return;
+        }
+        self.take_softs(ring, codes);
+        self.have += 1;
+        self.start += DATA_FRAME_CHIPS;
+        self.end += DATA_FRAME_CHIPS;
+        self.tune();
+    }
+
+    /// Takes the soft values of the frame whose last sample has just come, and those of its power
+    /// control bits.
+    fn take_softs(&mut self, ring: &SampleRing, codes: &Codes)
+        requires sound { IsSoundTraffic self.old }
+        requires few { ring.now.taken ≤ 67108864 }
+        requires room { ring.now.room ≡ 65536 }
+        requires ended { ring.now.taken ≡ self.old.end }
+        ensures same { self.new ≡ record self.old {
+          softs = self.new.softs;
+          power = self.new.power;
+        } }
+        ensures softs { (heard : List Sample) → HoldsLast ring.now heard → self.new.softs
+            ≡ softs heard (fingers_in self.old) Data self.old.start }
+        ensures power { (heard : List Sample) → HoldsLast ring.now heard →
+            subchannels self.new.power ≡ map
+            (sums_on heard self.old.phase
+            (take self.old.near.count self.old.near.deltas) self.old.legs self.old.start
+            (power_places (after self.old.scrambling.state (24576 * self.old.have))
+            self.old.scrambling.mask))
+            (subchannels_of self.old.legs) }
+        ensures sound { IsSoundTraffic self.new }
+    {
+        let TrafficReceiver {
+            have,
+            start,
+            legs,
+            phase,
+            near,
+            scrambling,
+            softs,
+            power,
+            ..
+        } = self;
+        let replaced = power_places(&scrambling.state_at(*have), scrambling.mask);
+        leg_softs(ring, codes, legs, *phase, near, *start, softs);
+        *power = power_softs(ring, codes, legs, *phase, near, *start, &replaced);
+    }
+
+    /// Takes what an event of the paging channel tells of the sets.
+    pub(crate) fn note(&mut self, event: &Event)
+        requires { IsSoundTraffic self.old }
+        ensures value { self.new ≡ noted_by event.now self.old }
+        ensures sound { IsSoundTraffic self.new }
+    {
+        self.sets.note(event);
+    }
+
+    /// Hears what is due, the message that is kept first, then the frame, then the moment, and
+    /// gives its event at so many samples.
+    pub(crate) fn hear_next(
+        &mut self,
+        decoder: &mut Decoder,
+        ring: &SampleRing,
+        codes: &Codes,
+        check: CheckForm,
+    ) -> Option<Event>
+        requires sound { IsSoundTraffic self.old }
+        requires due { IsTrafficDue self.old }
         requires room { decoder.old ≡ 576 }
-        ensures waits { self.new.clock.end ≡ self.old.clock.end }
+        requires ring_room { ring.now.room ≡ 65536 }
+        requires waits { WaitsAt ring.now.taken self.old }
+        ensures waits { WaitsAt ring.now.taken self.new }
+        ensures further { traffic_heard self.old < traffic_heard self.new }
+        ensures nearer { traffic_due self.new < traffic_due self.old }
+        ensures sound { IsSoundTraffic self.new }
+        ensures kept { decoder.new ≡ decoder.old }
+        ensures ends { IfSome result (λ event. at_of event ≡ ring.now.taken) }
+        ensures unset { list_any sets_mark (listed result) ≡ false }
+        ensures hears { (t : Tuning) (traffic : TheTraffic) (m : TheMark)
+            (heard : List Sample) → HoldsLast ring.now heard → check ≡ t.check16 →
+            HearsTraffic t traffic m self.old heard [] →
+            HearsTraffic t traffic m self.new heard [] }
+        ensures left { (t : Tuning) (traffic : TheTraffic) (m : TheMark)
+            (heard : List Sample) → HoldsLast ring.now heard → check ≡ t.check16 →
+            HearsTraffic t traffic m self.old heard [] →
+            listed result ++ traffic_left_of t traffic m heard self.new
+            ≡ traffic_left_of t traffic m heard self.old }
+    {
+        if !self.has_told() {
+            return self.pass_moment(ring, codes);
+        }
+        let event = self.hear_told(decoder, check, ring.taken());
+        self.sets.note(&event);
+        Some(event)
+    }
+
+    /// Lets the moment that has come pass, and gives its event, where it has one.
+    fn pass_moment(&mut self, ring: &SampleRing, codes: &Codes) -> Option<Event>
+        requires sound { IsSoundTraffic self.old }
+        requires idle { self.old.have ≡ self.old.next }
+        requires empty { self.old.kept ≡ None }
+        requires due { self.old.sets.due ≡ true }
+        requires room { ring.now.room ≡ 65536 }
+        requires here { ring.now.taken
+            ≡ moment_place self.old.sets.mark (self.old.sets.passed + 1) }
+        requires waits { ring.now.taken < self.old.end }
+        ensures next { self.new.next ≡ self.old.next }
+        ensures have { self.new.have ≡ self.old.have }
+        ensures empty { self.new.kept ≡ None }
+        ensures passed { self.new.sets.passed ≡ self.old.sets.passed + 1 }
+        ensures due { self.new.sets.due ≡ false }
+        ensures waits { ring.now.taken < next_end self.new }
+        ensures sound { IsSoundTraffic self.new }
+        ensures ends { IfSome result (λ event. at_of event ≡ ring.now.taken) }
+        ensures unset { list_any sets_mark (listed result) ≡ false }
+        ensures hears { (t : Tuning) (traffic : TheTraffic) (m : TheMark)
+            (heard : List Sample) → HoldsLast ring.now heard →
+            HearsTraffic t traffic m self.old heard [] →
+            HearsTraffic t traffic m self.new heard [] }
+        ensures left { (t : Tuning) (traffic : TheTraffic) (m : TheMark)
+            (heard : List Sample) → HoldsLast ring.now heard →
+            HearsTraffic t traffic m self.old heard [] →
+            listed result ++ traffic_left_of t traffic m heard self.new
+            ≡ traffic_left_of t traffic m heard self.old }
+    {
+        let event = self.sets.pass(ring, codes);
+        self.tune();
+        event
+    }
+
+    /// Hears the message that is kept, or else the frame that is due, keeps the message that it
+    /// completes, and gives the event at so many samples.
+    fn hear_told(&mut self, decoder: &mut Decoder, check: CheckForm, at: u64) -> Event
+        requires sound { IsSoundTraffic self.old }
+        requires due { HasTold self.old }
+        requires room { decoder.old ≡ 576 }
+        ensures same { self.new.sets ≡ self.old.sets }
+        ensures waits { self.new.end ≡ self.old.end }
         ensures further { traffic_heard self.old < traffic_heard self.new }
         ensures nearer { traffic_due self.new < traffic_due self.old }
         ensures sound { IsSoundTraffic self.new }
@@ -142,48 +335,52 @@ impl TrafficReceiver {
         ensures ends { at_of result ≡ at }
         ensures unset { sets_mark result ≡ false }
         ensures hears { (t : Tuning) (traffic : TheTraffic) (m : TheMark)
-            (heard : List Sample) → IsTrafficDue t.count self.old →
-            HearsTraffic t traffic m self.old heard → HearsTraffic t traffic m self.new heard }
+            (heard : List Sample) (told : ℕ → Standing) → at ≡ length heard →
+            check ≡ t.check16 → HearsWith t traffic m self.old heard [] told →
+            HearsWith t traffic m self.new heard (result ∷ []) told }
         ensures left { (t : Tuning) (traffic : TheTraffic) (m : TheMark)
-            (heard : List Sample) → at ≡ length heard → check ≡ t.check16 →
-            IsTrafficDue t.count self.old → HearsTraffic t traffic m self.old heard →
-            result ∷ traffic_left_of t traffic m heard self.new
-            ≡ traffic_left_of t traffic m heard self.old }
+            (heard : List Sample) (told : ℕ → Standing) → at ≡ length heard →
+            check ≡ t.check16 → HearsWith t traffic m self.old heard [] told →
+            result ∷ told_left_with t traffic m heard self.new told
+            ≡ told_left_with t traffic m heard self.old told }
     {
         if let Some(message) = self.kept {
             self.kept = None;
             return message_event(&message, at);
         }
-        self.hear_frame(decoder, check, at)
-    }
-
-    /// Hears the frame that is due, keeps the message that it completes, and gives the frame's
-    /// event at so many samples.
-    fn hear_frame(&mut self, decoder: &mut Decoder, check: CheckForm, at: u64) -> Event
-        requires sound { IsSoundTraffic self.old }
-        requires come { self.old.clock.next < self.old.clock.have }
-        requires empty { self.old.kept ≡ None }
-        requires room { decoder.old ≡ 576 }
-        ensures have { self.new.clock.have ≡ self.old.clock.have }
-        ensures waits { self.new.clock.end ≡ self.old.clock.end }
-        ensures further { self.new.clock.next ≡ self.old.clock.next + 1 }
-        ensures sound { IsSoundTraffic self.new }
-        ensures kept { decoder.new ≡ decoder.old }
-        ensures ends { at_of result ≡ at }
-        ensures unset { sets_mark result ≡ false }
-        ensures hears { (t : Tuning) (traffic : TheTraffic) (m : TheMark)
-            (heard : List Sample) → IsDueAt t.count self.old.clock →
-            HearsTraffic t traffic m self.old heard → HearsTraffic t traffic m self.new heard }
-        ensures left { (t : Tuning) (traffic : TheTraffic) (m : TheMark)
-            (heard : List Sample) → at ≡ length heard → check ≡ t.check16 →
-            IsDueAt t.count self.old.clock → HearsTraffic t traffic m self.old heard →
-            result ∷ traffic_left_of t traffic m heard self.new
-            ≡ traffic_left_of t traffic m heard self.old }
-    {
         let (frame, commands) = self.next_frame(decoder);
         self.kept = hear_signal(&mut self.framer, &frame, check);
-        self.clock.hear();
+        self.next += 1;
         frame_event(&frame, commands, at)
+    }
+
+    /// Takes the active pilots for the frame that comes next, where the last moment that has passed
+    /// is the one that tells them.
+    fn tune(&mut self)
+        requires sound { IsSoundTraffic self.old }
+        ensures same { self.new ≡ record self.old {
+          legs = self.new.legs;
+          end = self.new.end;
+        } }
+        ensures tuned { (self.old.start - self.old.sets.mark.sample) / 98304
+            ≡ self.old.sets.passed →
+            self.new.legs ≡ legs_of self.old.sets.mark self.old.sets.sets }
+        ensures stays { ¬ ((self.old.start - self.old.sets.mark.sample) / 98304
+            ≡ self.old.sets.passed) → self.new.legs ≡ self.old.legs }
+        ensures waits { (n : ℕ) → n < self.old.end →
+            ((self.old.start - self.old.sets.mark.sample) / 98304 ≡ self.old.sets.passed →
+            n ≤ self.old.start + 226) → n < self.new.end }
+        ensures some { 1 ≤ length (legs_of self.old.sets.mark self.old.sets.sets) }
+        ensures close { legs_close (legs_of self.old.sets.mark self.old.sets.sets) ≡ true }
+        ensures sound { IsSoundTraffic self.new }
+    {
+        let legs = self.sets.legs();
+        if self.sets.moment_at(self.start) != self.sets.passed() {
+            return;
+        }
+        let fingers = leg_fingers(&legs, self.phase, &self.near);
+        self.end = frames_end(&fingers, Form::Data, self.start);
+        self.legs = legs;
     }
 
     /// What the frame that is due says, and its power control bits.
@@ -191,23 +388,20 @@ impl TrafficReceiver {
         requires sound { IsSoundTraffic self.now }
         requires room { decoder.old ≡ 576 }
         ensures frame { (t : Tuning) (traffic : TheTraffic) (m : TheMark)
-            (heard : List Sample) → IsDueAt t.count self.now.clock →
-            HearsTraffic t traffic m self.now heard →
-            result.0 ≡ decoded_at t traffic m heard self.now.clock.next }
+            (heard : List Sample) (pages : List TheEvent) (told : ℕ → Standing) →
+            self.now.next < self.now.have → HearsWith t traffic m self.now heard pages told →
+            result.0 ≡ decoded_at t traffic m (legs_by traffic m told) heard self.now.next }
         ensures commands { (t : Tuning) (traffic : TheTraffic) (m : TheMark)
-            (heard : List Sample) → IsDueAt t.count self.now.clock →
-            HearsTraffic t traffic m self.now heard →
-            result.1 ≡ commands_at t traffic m heard self.now.clock.next }
+            (heard : List Sample) (pages : List TheEvent) (told : ℕ → Standing) →
+            self.now.next < self.now.have → HearsWith t traffic m self.now heard pages told →
+            result.1 ≡ commands_at t traffic m (legs_by traffic m told) heard self.now.next }
         ensures long { length result.0.bits ≡ information_of result.0.rate }
         ensures kept { decoder.new ≡ decoder.old }
     {
-        let frame = self.clock.next();
-        let replaced = power_places(&self.scrambling.state_at(frame), self.scrambling.mask);
+        let replaced = power_places(&self.scrambling.state_at(self.next), self.scrambling.mask);
         let mut turned = self.softs;
-        unscramble(&self.scrambling.frame_bits(frame), &mut turned);
+        unscramble(&self.scrambling.frame_bits(self.next), &mut turned);
         let decoded = traffic_frame(decoder, &turned, &replaced);
-        let mut power = PowerSofts::empty();
-        power.push(&self.softs, &replaced);
-        (decoded, commands(&power))
+        (decoded, commands(&self.power))
     }
 }

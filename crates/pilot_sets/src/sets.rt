@@ -7,7 +7,7 @@ ghost use Rattle.pilot_sets.specs.Tables.{window_chips as window_of};
 ghost use Rattle.pilot_sets.specs.PilotSets.{pilots as pilots_of, candidate_pilots as candidates_of};
 ghost use Rattle.pilot_sets.specs.Directions.{direction_fault as fault_of_direction, direction_time as time_of_direction};
 ghost use Rattle.pilot_sets.specs.Handoffs.{is_for};
-ghost use Rattle.pilot_sets.specs.Orderly.{IsOrderly};
+ghost use Rattle.pilot_sets.specs.Orderly.{IsOrderly, IsStanding};
 ghost use Rattle.pilot_sets.specs.Standing.{new_standing, shown, window_number, with_thresholds, with_neighbors, directed, due_at, stepped, change_at, deltas_with, began_now as lists_of};
 ghost use Rattle.pilot_sets.specs.declared.lists.Active.{Active as TheActive};
 ghost use Rattle.pilot_sets.specs.declared.strengths.Strength.{Strength as TheStrength};
@@ -116,6 +116,7 @@ impl Sets {
         ensures some { 1 ≤ length result }
         ensures rows { All (λ (a : TheActive). a.row < 64) result }
         ensures subchannels { All (λ (a : TheActive). a.subchannel < 6) result }
+        ensures apart { IsStanding self.now.sets self.now.deltas }
     {
         active_list(self.sets.active.all())
     }

@@ -17,7 +17,8 @@ use Rattle.mobile_core.specs.Marks.{first_of, mark, marks_at, marks_of}
 use Rattle.mobile_core.specs.SyncEvents.{events_of, with_message}
 use Rattle.mobile_core.specs.Tuning.{Tuning}
 use Rattle.mobile_core.specs.declared.event.Event.{Event}
-use Rattle.mobile_core.specs.declared.event.Event.TheVariants.{Frame, Paging, Pilot, Sync, Traffic}
+use Rattle.mobile_core.specs.declared.event.Event.TheVariants.{Frame, Paging, Pilot, Sets, Sync}
+use Rattle.mobile_core.specs.declared.event.Event.TheVariants.{Traffic}
 use Rattle.mobile_core.specs.declared.mark.Mark.{Mark}
 use Rattle.clean_link.specs.CleanLaws.{FramesAreZeros, FramesComeBack}
 use Rattle.clean_link.specs.CleanLink.{IsReceivable, IsTunedTo, events_of_channel}
@@ -41,6 +42,7 @@ times_in (Sync n capsule message) = message.time ∷ []
 times_in (Paging n capsule message) = []
 times_in (Frame n rate good bits commands) = []
 times_in (Traffic n capsule message) = []
+times_in (Sets n time active candidate report) = []
 
 -- a frame's mark has the time of its event
 same_times : (plan : CellPlan) (m : SyncFields) (q first n : ℕ) → IsState plan.cell.lc →

@@ -1,36 +1,41 @@
 -- A handset hears the whole sendings, the whole pages, and the frames and messages of a traffic
--- channel of a clean link's cell, in the order in which they are known, and nothing else.
+-- channel of a clean link's cell, with the events of its pilot sets, in the order in which they are
+-- known, and nothing else.
 use Rattle.std.proofs.Common.{◌≡◌, ℕ, ◌+◌, ◌*◌, Bool, true, false, List, [], ◌∷◌, ◌++◌}
 use Rattle.std.proofs.Common.{map, refl, sym, ap, ◌∙◌, arith, inl, inr, nat_lt}
-use Rattle.std.proofs.Common.{Option, None, Some}
-use Rattle.std.specs.Prelude.{if◌then◌else◌}
+use Rattle.std.proofs.Common.{Option, None, Some, ℤ, pos}
+use Rattle.std.specs.Prelude.{if◌then◌else◌, All}
 use Rattle.std.specs.List.{flat_map}
 use Rattle.std.proofs.lemmas.Bool.{cases_Bool, ltb-true}
 use Rattle.std.proofs.lemmas.List.{map-append}
 use Rattle.chip_core.specs.Bits.{places}
+use Rattle.chip_core.specs.declared.check_form.CheckForm.{CheckForm}
 use Rattle.chip_core.specs.declared.sample.Sample.{Sample}
 use Rattle.cdma_io.specs.declared.width.Width.{Width}
 use Rattle.base_modulator.specs.Sampled.{made_samples}
 use Rattle.base_modulator.specs.Sendings.{told_superframes}
+use Rattle.base_modulator.specs.Transmitter.{phase_at}
 use Rattle.base_modulator.specs.declared.plan.CellPlan.{CellPlan}
 use Rattle.base_modulator.specs.declared.plan.SyncPlan.{SyncPlan}
-use Rattle.mobile_core.specs.Events.{events_at, events_within, frame_events_at}
-use Rattle.mobile_core.specs.Events.{message_events_at, paging_events_at}
+use Rattle.mobile_core.specs.Events.{events, events_at, events_within, frame_events_at}
+use Rattle.mobile_core.specs.Events.{message_events_at, paging_events_at, sets_events_at}
 use Rattle.mobile_core.specs.Marks.{mark}
 use Rattle.mobile_core.specs.PagingEvents.{page_event, pages_at, pages_behind}
 use Rattle.mobile_core.specs.SyncEvents.{sync_events_at}
 use Rattle.mobile_core.specs.Tuning.{Tuning}
 use Rattle.mobile_core.specs.declared.event.Event.{Event}
 use Rattle.mobile_core.specs.declared.mark.Mark.{Mark}
-use Rattle.mobile_core.proofs.EventPlaces.{AreAt, messages_at_end, paging_at, sync_at, traffic_at}
+use Rattle.mobile_core.proofs.EventPlaces.{AreAt, messages_at_end, paging_at, sets_at_end, sync_at}
+use Rattle.mobile_core.proofs.EventPlaces.{traffic_at}
 use Rattle.mobile_core.proofs.MarkStays.{pages_by_one_mark}
 use Rattle.chip_core.proofs.Ranges.{flat_map_ext_places}
-use Rattle.clean_link.specs.CleanLink.{IsReceivable, IsTunedTo, sync_sent}
-use Rattle.clean_link.specs.CleanLink.{whole_sendings}
+use Rattle.clean_link.specs.CleanLink.{IsNotDirected, IsReceivable, IsTunedTo, sync_sent}
+use Rattle.clean_link.specs.CleanLink.{tuning_to, whole_sendings}
 use Rattle.clean_link.specs.HeardPages.{ReadPage, known_page, pages_sent, pages_within}
 use Rattle.clean_link.specs.SentEvents.{FollowsSent, WholeMessagesComeBack, known_event, paging_sent}
 use Rattle.clean_link.specs.SentEvents.{pages_behind_mark, pages_with_sync, sent_events}
-use Rattle.clean_link.specs.SentEvents.{by_places, signaling_sent, told_by_first, traffic_sent}
+use Rattle.clean_link.specs.SentEvents.{by_places, sets_heard, signaling_sent, told_by_first}
+use Rattle.clean_link.specs.SentEvents.{traffic_sent}
 use Rattle.clean_link.proofs.messages.EventPlaces.{at_both, gathered_by_places}
 use Rattle.clean_link.proofs.marks.FirstMark.{mark_of_first, unset_without}
 use Rattle.clean_link.proofs.marks.MarksTrue.{marks_rate, marks_true, time_of, unmarked}
@@ -172,46 +177,102 @@ module _ (width : Width) (plan : CellPlan) (t : Tuning) (is : IsReceivable width
   pages_all =
       by_last_mark ∙ pages_by plan.sync (mark t (made_samples plan) t.count) refl refl
 
+-- ---- the pilot sets
+
+-- a handset on the path is tuned so
+pub tuned_is : (plan : CellPlan) (t : Tuning) → IsTunedTo plan t →
+    t ≡ tuning_to plan t.paging t.traffic
+tuned_is plan t tuned =
+    let of : ℕ → ℕ → List ℤ → CheckForm → CheckForm → Tuning = λ count phase deltas thirty sixteen.
+    record {
+      count = count;
+      phase = phase;
+      deltas = deltas;
+      check30 = thirty;
+      check16 = sixteen;
+      paging = t.paging;
+      traffic = t.traffic;
+    } in
+    let phase = phase_at plan plan.link.start in
+    ap (λ (n : ℕ). of n t.phase t.deltas t.check30 t.check16) tuned.count
+    ∙ ap (λ (n : ℕ). of plan.link.samples n t.deltas t.check30 t.check16) tuned.phase
+    ∙ ap (λ (ds : List ℤ). of plan.link.samples phase ds t.check30 t.check16) tuned.alone
+    ∙ ap (λ (form : CheckForm). of plan.link.samples phase (pos 0 ∷ []) form t.check16)
+    tuned.checks_of_30
+    ∙ ap (of plan.link.samples phase (pos 0 ∷ []) plan.cell.check30) tuned.checks_of_16
+
+-- its events are those of the definition
+sets_all : (plan : CellPlan) (t : Tuning) → IsTunedTo plan t →
+    flat_map (sets_events_at t (made_samples plan)) (places (plan.link.samples + 1))
+    ≡ sets_heard plan t.paging t.traffic
+unfolding sets_heard
+sets_all plan t tuned =
+    ap (λ (u : Tuning).
+    flat_map (sets_events_at u (made_samples plan)) (places (plan.link.samples + 1)))
+    (tuned_is plan t tuned)
+
 -- ---- all channels
 
 module _ (width : Width) (plan : CellPlan) (t : Tuning) (is : IsReceivable width plan)
-    (tuned : IsTunedTo plan t) (follows : FollowsSent plan t.traffic) where
+    (tuned : IsTunedTo plan t) (follows : FollowsSent plan t.traffic)
+    (not_directed : All IsNotDirected (events t (made_samples plan))) where
   abbrev samples : List Sample
   samples = made_samples plan
 
   abbrev count : ℕ
   count = plan.link.samples
 
-  -- what is known of a traffic channel at n samples, and of all behind the sync channel
+  -- what is known at n samples of a traffic channel's messages and of the pilot sets, of the
+  -- channel's frames too, and of all behind the sync channel
+  abbrev messages_known : ℕ → List Event
+  messages_known n = message_events_at t samples n ++ sets_events_at t samples n
+
   abbrev traffic_known : ℕ → List Event
-  traffic_known n = frame_events_at t samples n ++ message_events_at t samples n
+  traffic_known n = frame_events_at t samples n ++ messages_known n
 
   abbrev data_known : ℕ → List Event
   data_known n = paging_events_at t samples n ++ traffic_known n
 
+  messages_known_at : (n : ℕ) → AreAt n (messages_known n)
+  messages_known_at n =
+      at_both n (message_events_at t samples n) (sets_events_at t samples n)
+      (messages_at_end t samples n) (sets_at_end t samples n)
+
   traffic_known_at : (n : ℕ) → AreAt n (traffic_known n)
   traffic_known_at n =
-      at_both n (frame_events_at t samples n) (message_events_at t samples n)
-      (traffic_at t samples n) (messages_at_end t samples n)
+      at_both n (frame_events_at t samples n) (messages_known n) (traffic_at t samples n)
+      (messages_known_at n)
 
-  -- the traffic channel
-  traffic_back : flat_map traffic_known (places (count + 1))
-      ≡ by_places count (traffic_sent plan t.traffic) (signaling_sent plan t.traffic)
+  -- what comes back of them
+  abbrev messages_told : List Event
+  messages_told =
+      by_places count (signaling_sent plan t.traffic) (sets_heard plan t.paging t.traffic)
+
+  abbrev traffic_told : List Event
+  traffic_told = by_places count (traffic_sent plan t.traffic) messages_told
+
+  -- the messages with the pilot sets
+  known_back : flat_map messages_known (places (count + 1)) ≡ messages_told
+  known_back =
+      gathered_by_places (message_events_at t samples) (sets_events_at t samples) count
+      (signaling_sent plan t.traffic) (sets_heard plan t.paging t.traffic)
+      (messages_at_end t samples) (sets_at_end t samples)
+      (messages_all width plan t is tuned not_directed follows) (sets_all plan t tuned)
+
+  -- with the traffic channel's frames
+  traffic_back : flat_map traffic_known (places (count + 1)) ≡ traffic_told
   traffic_back =
-      gathered_by_places (frame_events_at t samples) (message_events_at t samples) count
-      (traffic_sent plan t.traffic) (signaling_sent plan t.traffic) (traffic_at t samples)
-      (messages_at_end t samples) (frames_all width plan t is tuned follows)
-      (messages_all width plan t is tuned follows)
+      gathered_by_places (frame_events_at t samples) messages_known count
+      (traffic_sent plan t.traffic) messages_told (traffic_at t samples) messages_known_at
+      (frames_all width plan t is tuned not_directed follows) known_back
 
   -- with the paging channel
   data_back : flat_map data_known (places (count + 1))
-      ≡ by_places count (paging_sent plan t.paging)
-      (by_places count (traffic_sent plan t.traffic) (signaling_sent plan t.traffic))
+      ≡ by_places count (paging_sent plan t.paging) traffic_told
   data_back =
       gathered_by_places (paging_events_at t samples) traffic_known count
-      (paging_sent plan t.paging)
-      (by_places count (traffic_sent plan t.traffic) (signaling_sent plan t.traffic))
-      (paging_at t samples) traffic_known_at (pages_all width plan t is tuned) traffic_back
+      (paging_sent plan t.paging) traffic_told (paging_at t samples) traffic_known_at
+      (pages_all width plan t is tuned) traffic_back
 
   -- and with the sync channel
   all_back : flat_map (λ n. sync_events_at t samples n ++ data_known n) (places (count + 1))
@@ -219,14 +280,13 @@ module _ (width : Width) (plan : CellPlan) (t : Tuning) (is : IsReceivable width
   unfolding sent_events
   all_back =
       gathered_by_places (sync_events_at t samples) data_known count (sync_sent plan)
-      (by_places count (paging_sent plan t.paging)
-      (by_places count (traffic_sent plan t.traffic) (signaling_sent plan t.traffic)))
+      (by_places count (paging_sent plan t.paging) traffic_told)
       (sync_at t samples)
       (λ n. at_both n (paging_events_at t samples n) (traffic_known n) (paging_at t samples n)
       (traffic_known_at n)) (sendings_back width plan t is tuned) data_back
 
 pub messages_back : WholeMessagesComeBack
 unfolding events_within events_at
-messages_back width plan t is tuned follows =
+messages_back width plan t is tuned follows not_directed =
     ap (λ (n : ℕ). flat_map (events_at t (made_samples plan)) (places (n + 1))) (length-made plan)
-    ∙ all_back width plan t is tuned follows
+    ∙ all_back width plan t is tuned follows not_directed

@@ -1,8 +1,8 @@
 -- What a handset hears of the traffic channel that it follows: the frames that the cell sends from
 -- its mark on, and the messages in them.
-use Rattle.std.proofs.Common.{◌≡◌, ℕ, zero, suc, ◌+◌, ◌*◌, ◌<◌, ◌≤◌, List, [], ◌∷◌, length, get_or, refl}
-use Rattle.std.proofs.Common.{sym, ap, ◌∙◌, arith, subst, Option, None, Some}
-use Rattle.std.specs.Prelude.{◌≢◌}
+use Rattle.std.proofs.Common.{◌≡◌, ℕ, zero, suc, ◌+◌, ◌*◌, ◌<◌, ◌≤◌, List, [], ◌∷◌, length, get_or}
+use Rattle.std.proofs.Common.{refl, sym, ap, ◌∙◌, arith, subst, Option, None, Some}
+use Rattle.std.specs.Prelude.{◌≢◌, All}
 use Rattle.std.specs.List.{Contains, flat_map}
 use Rattle.std.proofs.lemmas.Bool.{eq-eqb, ne_eqb}
 use Rattle.std.proofs.lemmas.List.Elements.{All-contains}
@@ -14,27 +14,29 @@ use Rattle.base_modulator.specs.Sendings.{told_superframes}
 use Rattle.base_modulator.specs.declared.plan.CellPlan.{CellPlan}
 use Rattle.base_modulator.specs.declared.plan.SyncPlan.{SyncPlan}
 use Rattle.base_modulator.specs.declared.plan.TrafficPlan.{TrafficPlan}
-use Rattle.mobile_core.specs.Events.{frame_events_at, message_events_at}
+use Rattle.mobile_core.specs.Events.{events, frame_events_at, message_events_at}
 use Rattle.mobile_core.specs.Marks.{mark}
 use Rattle.mobile_core.specs.Near.{AreNear}
-use Rattle.mobile_core.specs.Signaling.{messages_at}
-use Rattle.mobile_core.specs.TrafficEvents.{frames_at, if_followed}
+use Rattle.mobile_core.specs.Moments.{frames_at, messages_at}
+use Rattle.mobile_core.specs.TrafficEvents.{if_followed}
 use Rattle.mobile_core.specs.Tuning.{Tuning, sync_stream}
 use Rattle.mobile_core.specs.declared.event.Event.{Event}
 use Rattle.mobile_core.specs.declared.mark.Mark.{Mark}
 use Rattle.mobile_core.specs.declared.settings.Traffic.{Traffic}
 use Rattle.mobile_core.proofs.MarkStays.{frames_by_one_mark, messages_by_one_mark}
 use Rattle.chip_core.proofs.Ranges.{flat_map_ext_places}
-use Rattle.clean_link.specs.CleanLink.{IsReceivable, IsTunedTo}
+use Rattle.clean_link.specs.CleanLink.{IsNotDirected, IsReceivable, IsTunedTo}
 use Rattle.clean_link.specs.HeardFrames.{frames_of_channel, frames_sent, told_on, AreDistinct}
 use Rattle.clean_link.specs.HeardSignals.{messages_of_channel, messages_sent}
 use Rattle.clean_link.specs.SentEvents.{signaling_sent, told_by_first, told_followed}
 use Rattle.clean_link.specs.SentEvents.{told_with_sync, traffic_sent, FollowsSent}
-use Rattle.clean_link.specs.TrafficLaws.{HearsTraffic}
+use Rattle.clean_link.specs.TrafficLaws.{HearsTraffic, IsUndirected}
 use Rattle.clean_link.proofs.marks.FirstMark.{mark_of_first, unset_without}
 use Rattle.clean_link.proofs.marks.MarksTrue.{marks_true, time_of, unmarked}
 use Rattle.clean_link.proofs.traffic.Frames.{sent_frames_back}
 use Rattle.clean_link.proofs.traffic.Signaling.{sent_messages_back}
+use Rattle.clean_link.proofs.signal.Samples.{length-made}
+use Rattle.clean_link.proofs.traffic.Undirected.{undirected_behind}
 
 pub one_near : (t : Tuning) (plan : CellPlan) → IsTunedTo plan t →
     AreNear (sync_stream t).fingers
@@ -72,18 +74,32 @@ on_row width plan p row told is has on =
 -- ---- behind the mark
 
 -- What is heard of a traffic channel at each number of samples comes back: the mark of all samples
--- tells it, and behind a true mark it is what a channel tells that is sent, each of whose received
--- frames is distinct.
+-- tells it, and behind it, where it is true, it is what a channel tells that is sent, each of whose
+-- received frames is distinct.
 record ComesBack (width : Width) (plan : CellPlan) (t : Tuning)
     (heard : ℕ → Traffic → Mark → List Event) (told : TrafficPlan → ℕ → List Event) : Type 0 where
   pub once : (n : ℕ) → n ≤ t.count →
       if_followed (heard n) t.traffic (mark t (made_samples plan) n)
       ≡ if_followed (heard n) t.traffic (mark t (made_samples plan) t.count)
   pub back : (p : TrafficPlan) (traffic : Traffic) (m : Mark) (superframes : ℕ) →
+      t.traffic ≡ Some traffic → mark t (made_samples plan) t.count ≡ Some m →
       HearsTraffic width plan p t traffic m superframes →
       AreDistinct plan p (plan.link.start + m.sample) →
       flat_map (λ n. heard n traffic m) (places (plan.link.samples + 1))
       ≡ told p (plan.link.start + m.sample)
+
+-- a channel of the cell that a handset follows behind a true mark
+pub record IsHeardBehind (width : Width) (plan : CellPlan) (t : Tuning) (traffic : Traffic)
+    (m : Mark) : Type 0 where
+  pub p : TrafficPlan
+  pub superframes : ℕ
+  pub hears : HearsTraffic width plan p t traffic m superframes
+  pub distinct : AreDistinct plan p (plan.link.start + m.sample)
+  pub told : told_with_sync plan plan.sync ≡ Some superframes
+
+-- what the channel on a row tells behind a local chip
+abbrev pub told_behind : CellPlan → (TrafficPlan → ℕ → List Event) → ℕ → ℕ → List Event
+told_behind plan told row chip = told_on (λ (p : TrafficPlan). told p chip) plan.traffic row
 
 module _ (width : Width) (plan : CellPlan) (t : Tuning) (is : IsReceivable width plan)
     (tuned : IsTunedTo plan t) where
@@ -98,65 +114,86 @@ module _ (width : Width) (plan : CellPlan) (t : Tuning) (is : IsReceivable width
       omega (arith, time, first.time, time_of plan sync.message first.sending) in
       ap (told_by_first plan sync.message) first.first ∙ ap (λ (n : ℕ). Some n) told
 
-  module _ (heard : ℕ → Traffic → Mark → List Event) (told : TrafficPlan → ℕ → List Event)
-      (comes : ComesBack width plan t heard told) where
-    -- what the channel on a row tells behind a local chip
-    abbrev told_behind : ℕ → ℕ → List Event
-    told_behind row chip = told_on (λ (p : TrafficPlan). told p chip) plan.traffic row
-
-    -- what is heard behind the mark that is set
-    behind_mark : (sync : SyncPlan) (traffic : Traffic) (m : Mark) → plan.sync ≡ Some sync →
-        mark t (made_samples plan) t.count ≡ Some m → FollowsSent plan (Some traffic) →
-        flat_map (λ n. heard n traffic m) (places (plan.link.samples + 1))
-        ≡ told_followed told_behind (Some traffic) (told_with_sync plan (Some sync))
-    behind_mark sync traffic m sends set follows =
-        let (p, followed) = follows in
-        let (superframes, true_mark) = marks_true width plan t t.count m is tuned set in
-        let first = told_so sync m sends set superframes true_mark.time in
-        let place = true_mark.place in
-        let hears : HearsTraffic width plan p t traffic m superframes = record {
+  -- the channel that is followed behind the mark that is set
+  pub heard_behind_mark : (sync : SyncPlan) (traffic : Traffic) (m : Mark) →
+      plan.sync ≡ Some sync → mark t (made_samples plan) t.count ≡ Some m →
+      FollowsSent plan (Some traffic) → IsHeardBehind width plan t traffic m
+  heard_behind_mark sync traffic m sends set follows =
+      let (p, followed) = follows in
+      let (superframes, true_mark) = marks_true width plan t t.count m is tuned set in
+      let first = told_so sync m sends set superframes true_mark.time in
+      let told = ap (told_with_sync plan) sends ∙ first in
+      record {
+        p = p;
+        superframes = superframes;
+        hears = record {
           receivable = is;
           sent = followed.sent;
           assigned = followed.assigned;
           tuned = tuned;
           marked = true_mark;
-        } in
-        let distinct : AreDistinct plan p (plan.link.start + m.sample) =
-        subst (AreDistinct plan p) (sym place)
-        (followed.distinct superframes (ap (told_with_sync plan) sends ∙ first)) in
-        comes.back p traffic m superframes hears distinct
-        ∙ ap (told p) place
-        ∙ sym
-        (on_row width plan p traffic.row (λ (q : TrafficPlan). told q (98304 * superframes)) is
-        followed.sent followed.assigned.row)
-        ∙ sym (ap (told_followed told_behind (Some traffic)) first)
+        };
+        distinct = subst (AreDistinct plan p) (sym true_mark.place)
+            (followed.distinct superframes told);
+        told = told;
+      }
+
+  -- what is told of it is told of the channel on its row
+  pub told_there : (traffic : Traffic) (m : Mark) (told : TrafficPlan → ℕ → List Event)
+      (b : IsHeardBehind width plan t traffic m) →
+      told b.p (plan.link.start + m.sample)
+      ≡ told_followed (told_behind plan told) (Some traffic) (told_with_sync plan plan.sync)
+  told_there traffic m told b =
+      ap (told b.p) b.hears.marked.place
+      ∙ sym
+      (on_row width plan b.p traffic.row
+      (λ (q : TrafficPlan). told q (98304 * b.superframes)) is b.hears.sent
+      b.hears.assigned.row)
+      ∙ sym (ap (told_followed (told_behind plan told) (Some traffic)) b.told)
+
+  module _ (heard : ℕ → Traffic → Mark → List Event) (told : TrafficPlan → ℕ → List Event)
+      (comes : ComesBack width plan t heard told) where
+    -- what is heard behind the mark that is set
+    behind_mark : (sync : SyncPlan) (traffic : Traffic) (m : Mark) → t.traffic ≡ Some traffic →
+        plan.sync ≡ Some sync → mark t (made_samples plan) t.count ≡ Some m →
+        FollowsSent plan (Some traffic) →
+        flat_map (λ n. heard n traffic m) (places (plan.link.samples + 1))
+        ≡ told_followed (told_behind plan told) (Some traffic) (told_with_sync plan plan.sync)
+    behind_mark sync traffic m assigned sends set follows =
+        let b = heard_behind_mark sync traffic m sends set follows in
+        comes.back b.p traffic m b.superframes assigned set b.hears b.distinct
+        ∙ told_there traffic m told b
 
     -- and where none may be set, nor a channel followed
     behind_last : (followed : Option Traffic) (channel : Option SyncPlan) (last : Option Mark) →
-        plan.sync ≡ channel → mark t (made_samples plan) t.count ≡ last →
+        t.traffic ≡ followed → plan.sync ≡ channel → mark t (made_samples plan) t.count ≡ last →
         FollowsSent plan followed →
         flat_map (λ n. if_followed (heard n) followed last) (places (plan.link.samples + 1))
-        ≡ told_followed told_behind followed (told_with_sync plan channel)
-    behind_last None channel last sends set follows = none_known (places (plan.link.samples + 1))
-    behind_last (Some traffic) None last silent set follows =
+        ≡ told_followed (told_behind plan told) followed (told_with_sync plan channel)
+    behind_last None channel last assigned sends set follows =
+        none_known (places (plan.link.samples + 1))
+    behind_last (Some traffic) None last assigned silent set follows =
         let none = sym set ∙ unmarked width plan t t.count is silent tuned in
         ap (λ (m : Option Mark). flat_map (λ n. if_followed (heard n) (Some traffic) m)
         (places (plan.link.samples + 1))) none
         ∙ none_known (places (plan.link.samples + 1))
-    behind_last (Some traffic) (Some sync) None sends unset follows =
+    behind_last (Some traffic) (Some sync) None assigned sends unset follows =
         let none = unset_without width plan sync t is sends tuned unset in
         none_known (places (plan.link.samples + 1))
         ∙ sym
-        (ap (λ (sendings : List ℕ). told_followed told_behind (Some traffic)
+        (ap (λ (sendings : List ℕ). told_followed (told_behind plan told) (Some traffic)
         (told_by_first plan sync.message sendings)) none)
-    behind_last (Some traffic) (Some sync) (Some m) sends set follows =
-        behind_mark sync traffic m sends set follows
+    behind_last (Some traffic) (Some sync) (Some m) assigned sends set follows =
+        behind_mark sync traffic m assigned sends set follows
+        ∙ ap
+        (λ (c : Option SyncPlan).
+        told_followed (told_behind plan told) (Some traffic) (told_with_sync plan c)) sends
 
     -- by the mark that each number of samples has
     all_heard : FollowsSent plan t.traffic →
         flat_map (λ n. if_followed (heard n) t.traffic (mark t (made_samples plan) n))
         (places (plan.link.samples + 1))
-        ≡ told_followed told_behind t.traffic (told_with_sync plan plan.sync)
+        ≡ told_followed (told_behind plan told) t.traffic (told_with_sync plan plan.sync)
     all_heard follows =
         let samples = made_samples plan in
         let last = mark t samples t.count in
@@ -164,7 +201,22 @@ module _ (width : Width) (plan : CellPlan) (t : Tuning) (is : IsReceivable width
         flat_map_ext_places (λ n. if_followed (heard n) t.traffic (mark t samples n))
         (λ n. if_followed (heard n) t.traffic last) (plan.link.samples + 1)
         (λ n below. comes.once n (omega (arith, below, count)))
-        ∙ behind_last t.traffic plan.sync last refl refl follows
+        ∙ behind_last t.traffic plan.sync last refl refl refl follows
+
+module _ (width : Width) (plan : CellPlan) (t : Tuning) (is : IsReceivable width plan)
+    (tuned : IsTunedTo plan t)
+    (not_directed : All IsNotDirected (events t (made_samples plan))) where
+  -- no handoff is directed behind the mark of all samples
+  undirected : (traffic : Traffic) (m : Mark) → t.traffic ≡ Some traffic →
+      mark t (made_samples plan) t.count ≡ Some m →
+      IsUndirected t traffic m (made_samples plan) plan.link.samples
+  undirected traffic m followed set =
+      let samples = made_samples plan in
+      let long : length samples ≡ plan.link.samples = length-made plan in
+      let last : mark t samples (length samples) ≡ Some m =
+      ap (mark t samples) (long ∙ sym tuned.count) ∙ set in
+      subst (IsUndirected t traffic m samples) long
+      (undirected_behind t (one_near t plan tuned) samples not_directed traffic m followed last)
 
   -- its events are the frames that are sent
   pub frames_all : FollowsSent plan t.traffic →
@@ -173,11 +225,14 @@ module _ (width : Width) (plan : CellPlan) (t : Tuning) (is : IsReceivable width
   unfolding traffic_sent frames_sent frame_events_at
   frames_all follows =
       let samples = made_samples plan in
-      all_heard (λ n traffic m. frames_at t traffic m samples n) (frames_of_channel plan)
+      all_heard width plan t is tuned (λ n traffic m. frames_at t traffic m samples n)
+      (frames_of_channel plan)
       (record {
         once = λ n most.
             frames_by_one_mark t (one_near t plan tuned) t.traffic samples n t.count most;
-        back = λ p traffic m superframes. sent_frames_back width plan p t traffic m superframes;
+        back = λ p traffic m superframes assigned set hears.
+            sent_frames_back width plan p t traffic m superframes hears
+            (undirected traffic m assigned set);
       }) follows
 
   -- and the messages that their signaling spells
@@ -187,9 +242,12 @@ module _ (width : Width) (plan : CellPlan) (t : Tuning) (is : IsReceivable width
   unfolding signaling_sent messages_sent message_events_at
   messages_all follows =
       let samples = made_samples plan in
-      all_heard (λ n traffic m. messages_at t traffic m samples n) (messages_of_channel plan)
+      all_heard width plan t is tuned (λ n traffic m. messages_at t traffic m samples n)
+      (messages_of_channel plan)
       (record {
         once = λ n most.
             messages_by_one_mark t (one_near t plan tuned) t.traffic samples n t.count most;
-        back = λ p traffic m superframes. sent_messages_back width plan p t traffic m superframes;
+        back = λ p traffic m superframes assigned set hears.
+            sent_messages_back width plan p t traffic m superframes hears
+            (undirected traffic m assigned set);
       }) follows

@@ -1,7 +1,7 @@
 -- The power control bits of the frames of a traffic channel come back.
 use Rattle.std.proofs.Common.{◌≡◌, ℕ, zero, suc, ◌+◌, ◌*◌, ◌/◌, ◌<◌, Bool, true, false, not}
-use Rattle.std.proofs.Common.{List, [], ◌∷◌, length, get_or, refl, sym, ap, ◌∙◌, arith, ℤ, pos}
-use Rattle.std.proofs.Common.{nat_eq, negsuc}
+use Rattle.std.proofs.Common.{List, [], ◌∷◌, length, map, get_or, refl, sym, ap, ◌∙◌, arith, ℤ}
+use Rattle.std.proofs.Common.{nat_eq, negsuc, pos}
 use Rattle.std.specs.Prelude.{◌*ℤ◌, ◌+ℤ◌, ◌<ℤ◌, ◌≤ℤ◌, ◌&&◌, int_lt, neg_ℤ}
 use Rattle.std.specs.List.{flat_map, range_with_len}
 use Rattle.std.proofs.lemmas.Bool.{eq-eqb}
@@ -22,6 +22,7 @@ use Rattle.mobile_core.specs.TrafficStreams.{frame_state, replaced_in}
 use Rattle.clean_link.specs.CleanLink.{soft_strength}
 use Rattle.clean_link.specs.HeardFrames.{sent_commands, ShowCommands}
 use Rattle.clean_link.specs.TrafficLaws.{CommandsComeBack, SixteenCommandsAreSent}
+use Rattle.clean_link.proofs.traffic.OnePilot.{one_sums}
 use Rattle.clean_link.proofs.traffic.Signs.{commands_shown, strong}
 
 -- ---- the places of power control bits
@@ -165,15 +166,17 @@ shown_command strength state mask commands softs g some below shows =
 
 pub commands_back : CommandsComeBack
 unfolding commands_at sent_commands
-commands_back width plan p t traffic m superframes k f is heard =
-    let softs = unturned_softs t traffic m (made_samples plan) k in
+commands_back width plan p t traffic m legs superframes k f is heard =
+    let softs = unturned_softs t traffic m legs (made_samples plan) k in
     let sums = group_sums (replaced_in traffic m k) softs in
-    map_ext_places (command (sums ∷ [])) (λ g. get_or f.commands g false) 16
+    ap (λ (all : List (List ℤ)). map (command all) (places 16))
+    (one_sums t traffic m legs k heard.pilot (made_samples plan))
+    ∙ map_ext_places (command (sums ∷ [])) (λ g. get_or f.commands g false) 16
     (λ g below.
     shown_command (soft_strength plan Data p.gain) (frame_state traffic m k)
     (traffic_mask traffic.esn) f.commands softs g
-    (strong width plan p t traffic m superframes k f is heard) below
-    (commands_shown width plan p t traffic m superframes k f is heard))
+    (strong width plan p t traffic m legs superframes k f is heard) below
+    (commands_shown width plan p t traffic m legs superframes k f is heard))
 
 pub sixteen_sent : SixteenCommandsAreSent
 unfolding sent_commands

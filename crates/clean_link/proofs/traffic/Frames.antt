@@ -24,11 +24,14 @@ use Rattle.base_modulator.specs.declared.plan.CellPlan.{CellPlan}
 use Rattle.base_modulator.specs.declared.plan.TrafficPlan.{TrafficPlan}
 use Rattle.base_modulator.specs.declared.traffic_frame.TrafficFrame.{TrafficFrame}
 use Rattle.mobile_core.specs.Streams.{frame_softs, is_in_file, known_at, known_now, Stream}
+use Rattle.mobile_core.specs.Moments.{frames_at}
 use Rattle.mobile_core.specs.TrafficEvents.{commands_at, decoded_at, frame_event, frame_heard}
-use Rattle.mobile_core.specs.TrafficEvents.{frames_at}
-use Rattle.mobile_core.specs.TrafficStreams.{frame_state, frames_bound, replaced_in, traffic_stream}
+use Rattle.mobile_core.specs.TrafficEvents.{frames_by}
+use Rattle.mobile_core.specs.TrafficStreams.{frame_state, frames_bound, frames_now, replaced_in}
+use Rattle.mobile_core.specs.TrafficStreams.{stream_of}
 use Rattle.mobile_core.specs.Tuning.{Tuning}
 use Rattle.mobile_core.specs.declared.event.Event.{Event}
+use Rattle.mobile_core.specs.declared.legs.Leg.{Leg}
 use Rattle.mobile_core.specs.declared.mark.Mark.{Mark}
 use Rattle.mobile_core.specs.declared.settings.Traffic.{Traffic}
 use Rattle.chip_core.proofs.Ranges.{filter_enough, flat_map_ext_filter_places}
@@ -37,17 +40,21 @@ use Rattle.clean_link.specs.CleanLink.{soft_strength}
 use Rattle.clean_link.specs.HeardFrames.{frame_chip, frame_ends, frame_told, frames_of_channel}
 use Rattle.clean_link.specs.HeardFrames.{is_received, received_frames, replaced_of}
 use Rattle.clean_link.specs.HeardFrames.{sent_commands, sent_frame_event, AreDistinct}
-use Rattle.clean_link.specs.HeardFrames.{IsDistinctFrame}
+use Rattle.clean_link.specs.HeardFrames.{IsDistinctFrame, IsOnePilot}
 use Rattle.clean_link.specs.HeardPages.{end_chip}
-use Rattle.clean_link.specs.TrafficLaws.{EachFrameIsHeard, HearsTraffic, IsHeardAs}
+use Rattle.clean_link.specs.TrafficLaws.{EachFrameIsHeard, HearsTraffic, IsHeardAs, IsUndirected}
 use Rattle.clean_link.specs.TrafficLaws.{SentFramesComeBack, TrafficFramesComeBack}
 use Rattle.clean_link.proofs.pages.InOrder.{given_in_order, IsBound}
 use Rattle.clean_link.proofs.sendings.Order.{flat_map-filter, given_where, moved_up}
 use Rattle.clean_link.proofs.traffic.Commands.{commands_back, power_pairs}
+use Rattle.clean_link.proofs.signal.Samples.{length-made}
+use Rattle.clean_link.proofs.traffic.OnePilot.{one_now, one_stream, one_stream_is}
 use Rattle.clean_link.proofs.traffic.Signs.{lawful_traffic, long_softs, same_state, strong}
 use Rattle.clean_link.proofs.traffic.Signs.{symbols_shown}
 use Rattle.clean_link.proofs.traffic.Times.{traffic_file_from, traffic_file_to, traffic_known_is}
 use Rattle.clean_link.proofs.traffic.Times.{traffic_timed}
+use Rattle.clean_link.proofs.traffic.Steady.{one_pilot_heard}
+use Rattle.clean_link.proofs.traffic.Undirected.{first_legs, first_pilot, frames_of_one}
 
 -- ---- one of a list
 
@@ -77,24 +84,24 @@ one_each {A} {B} f (x ∷ xs) = ap (λ (ys : List B). f x ∷ ys) (one_each f xs
 
 -- it has as many information bits as its rate
 sized : (width : Width) (plan : CellPlan) (p : TrafficPlan) (t : Tuning) (traffic : Traffic)
-    (m : Mark) (superframes k : ℕ) (f : TrafficFrame) →
+    (m : Mark) (legs : ℕ → List Leg) (superframes k : ℕ) (f : TrafficFrame) →
     HearsTraffic width plan p t traffic m superframes →
-    IsHeardAs plan p t traffic m superframes k f → IsTrafficFrame f
-sized width plan p t traffic m superframes k f is heard =
+    IsHeardAs plan p t traffic m legs superframes k f → IsTrafficFrame f
+sized width plan p t traffic m legs superframes k f is heard =
     one_taken IsTrafficFrame p.frames ((4 * superframes + k) % length p.frames) f
     (lawful_traffic width plan p is.receivable.lawful is.sent).sized heard.frame
 
 -- it is decoded
 pub frame_back : TrafficFramesComeBack
 unfolding decoded_at
-frame_back width plan p t traffic m superframes k f is heard distinct =
+frame_back width plan p t traffic m legs superframes k f is heard distinct =
     let few = (power_pairs (frame_state traffic m k) (traffic_mask traffic.esn)).long in
     sent_frame (soft_strength plan Data p.gain) (replaced_in traffic m k) f.rate f.information
-    (frame_softs (made_samples plan) (traffic_stream t traffic m) k)
-    (strong width plan p t traffic m superframes k f is heard) (omega (arith, few))
-    (long_softs width plan p t traffic m superframes k f is heard)
-    (sized width plan p t traffic m superframes k f is heard)
-    (symbols_shown width plan p t traffic m superframes k f is heard) distinct
+    (frame_softs (made_samples plan) (stream_of t traffic m legs k) k)
+    (strong width plan p t traffic m legs superframes k f is heard) (omega (arith, few))
+    (long_softs width plan p t traffic m legs superframes k f is heard)
+    (sized width plan p t traffic m legs superframes k f is heard)
+    (symbols_shown width plan p t traffic m legs superframes k f is heard) distinct
 
 -- what is heard of it
 heard_as : (n : ℕ) (f : TrafficFrame) (score : ℕ) (frame : Decoded) (commands : List Bool) →
@@ -114,7 +121,7 @@ heard_as n f score frame commands is sent =
 
 -- frames that end within so many samples are few enough
 pub bound_enough : (t : Tuning) (traffic : Traffic) (m : Mark) →
-    IsBound (traffic_stream t traffic m) frames_bound
+    IsBound (one_stream t traffic m) frames_bound
 bound_enough t traffic m n k ends = omega (arith, ends)
 
 module _ (width : Width) (plan : CellPlan) (p : TrafficPlan) (t : Tuning) (traffic : Traffic)
@@ -124,7 +131,7 @@ module _ (width : Width) (plan : CellPlan) (p : TrafficPlan) (t : Tuning) (traff
   samples = made_samples plan
 
   abbrev stream : Stream
-  stream = traffic_stream t traffic m
+  stream = one_stream t traffic m
 
   abbrev inside : ℕ → Bool
   inside = is_in_file t.count stream
@@ -214,67 +221,12 @@ module _ (width : Width) (plan : CellPlan) (p : TrafficPlan) (t : Tuning) (traff
       past_bound)
       ∙ by_marks_numbers g bound
 
-  -- what is heard, frame by frame
-  heard_by_frames : flat_map (frames_at t traffic m samples) (places (plan.link.samples + 1))
-      ≡ flat_map (λ k. frame_heard t traffic m samples (known_at t.count stream k) k ∷ [])
-      (filter inside (places (frames_bound t.count)))
-  unfolding frames_at
-  heard_by_frames =
-      let f : ℕ → ℕ → List Event = λ n k. frame_heard t traffic m samples n k ∷ [] in
-      ap (λ (n : ℕ). flat_map (frames_at t traffic m samples) (places (n + 1)))
-      (sym is.tuned.count)
-      ∙ flat_map_ext_places (frames_at t traffic m samples)
-      (λ n. flat_map (f n) (known_now t.count stream n (frames_bound n))) (t.count + 1)
-      (λ n below.
-      one_each (frame_heard t traffic m samples n) (known_now t.count stream n (frames_bound n)))
-      ∙ given_in_order stream (traffic_timed t traffic m is.tuned.alone) frames_bound
-      (bound_enough t traffic m) f
-
   -- when it is heard
   pub known_is : (k : ℕ) → known_at t.count stream k ≡ frame_ends plan p (4 * superframes + k)
   known_is k =
       let place = is.marked.place in
       let offset = is.assigned.offset in
       traffic_known_is t traffic m is.tuned.alone k ∙ omega (arith, place, offset)
-
-  -- so one event is heard for each received frame
-  pub each_heard : flat_map (frames_at t traffic m samples) (places (plan.link.samples + 1)) ≡
-      map (λ frame. frame_heard t traffic m samples (frame_ends plan p frame)
-      (frame - 4 * superframes)) (received_frames plan p mark_chip)
-  each_heard =
-      let told : ℕ → Event =
-      λ frame. frame_heard t traffic m samples (frame_ends plan p frame)
-      (frame - 4 * superframes) in
-      heard_by_frames
-      ∙ flat_map_ext_filter_places inside
-      (λ k. frame_heard t traffic m samples (known_at t.count stream k) k ∷ [])
-      (λ k. told (4 * superframes + k) ∷ []) (frames_bound t.count)
-      (λ k below there.
-      let behind : k ≡ 4 * superframes + k - 4 * superframes = omega arith in
-      ap (λ (n : ℕ). frame_heard t traffic m samples n k ∷ []) (known_is k)
-      ∙ ap (λ (j : ℕ). frame_heard t traffic m samples (frame_ends plan p (4 * superframes + k)) j
-      ∷ []) behind)
-      ∙ sym (by_marks_frames (λ frame. told frame ∷ []))
-      ∙ sym (one_each told (received_frames plan p mark_chip))
-
-  -- a distinct frame is told as it was sent
-  told_is : (k : ℕ) (f : TrafficFrame) → inside k ≡ true →
-      cycled_frame (frames_of plan p) (4 * superframes + k) ≡ f ∷ [] →
-      IsDistinctFrame (replaced_in traffic m k) f →
-      frame_heard t traffic m samples (known_at t.count stream k) k ∷ []
-      ≡ frame_told plan p (4 * superframes + k)
-  told_is k f there frame distinct =
-      let heard : IsHeardAs plan p t traffic m superframes k f =
-      record { here = there; frame = frame } in
-      let score = soft_strength plan Data p.gain * kept_count (replaced_in traffic m k) in
-      let ends = frame_ends plan p (4 * superframes + k) in
-      ap (λ (n : ℕ). frame_heard t traffic m samples n k ∷ []) (known_is k)
-      ∙ ap (λ (e : Event). e ∷ [])
-      (heard_as ends f score (decoded_at t traffic m samples k)
-      (commands_at t traffic m samples k)
-      (frame_back width plan p t traffic m superframes k f is heard distinct)
-      (commands_back width plan p t traffic m superframes k f is heard))
-      ∙ sym (ap (map (sent_frame_event ends)) frame)
 
   -- the power control bits replace the same places
   same_places : (k : ℕ) → replaced_of plan p (4 * superframes + k) ≡ replaced_in traffic m k
@@ -302,28 +254,117 @@ module _ (width : Width) (plan : CellPlan) (p : TrafficPlan) (t : Tuning) (traff
   frame_there some k =
       one_there p.frames ((4 * superframes + k) % length p.frames) (omega (arith, some))
 
-  -- and where all of them are distinct, what was sent
-  pub sent_heard : 1 ≤ length p.frames → AreDistinct plan p mark_chip →
-      flat_map (frames_at t traffic m samples) (places (plan.link.samples + 1)) ≡
-      frames_of_channel plan p mark_chip
-  sent_heard some distinct =
-      heard_by_frames
-      ∙ flat_map_ext_filter_places inside
-      (λ k. frame_heard t traffic m samples (known_at t.count stream k) k ∷ [])
-      (λ k. frame_told plan p (4 * superframes + k)) (frames_bound t.count)
-      (λ k below there.
-      let (f, frame) = frame_there some k in
-      told_is k f there frame (distinct_there distinct k f there frame))
-      ∙ sym (by_marks_frames (frame_told plan p))
+  module _ (legs : ℕ → List Leg) (one : (k : ℕ) → IsOnePilot traffic (legs k)) where
+    -- a frame in the file is heard as what is sent
+    pub heard_there : (k : ℕ) (f : TrafficFrame) → inside k ≡ true →
+        cycled_frame (frames_of plan p) (4 * superframes + k) ≡ f ∷ [] →
+        IsHeardAs plan p t traffic m legs superframes k f
+    heard_there k f there frame = record {
+      pilot = one k;
+      here = ap (λ (s : Stream). is_in_file t.count s k)
+          (one_stream_is t traffic m legs k (one k)) ∙ there;
+      frame = frame;
+    }
+
+    -- a distinct frame is told as it was sent
+    told_is : (k : ℕ) (f : TrafficFrame) → inside k ≡ true →
+        cycled_frame (frames_of plan p) (4 * superframes + k) ≡ f ∷ [] →
+        IsDistinctFrame (replaced_in traffic m k) f →
+        frame_heard t traffic m legs samples (known_at t.count stream k) k ∷ []
+        ≡ frame_told plan p (4 * superframes + k)
+    told_is k f there frame distinct =
+        let heard = heard_there k f there frame in
+        let score = soft_strength plan Data p.gain * kept_count (replaced_in traffic m k) in
+        let ends = frame_ends plan p (4 * superframes + k) in
+        ap (λ (n : ℕ). frame_heard t traffic m legs samples n k ∷ []) (known_is k)
+        ∙ ap (λ (e : Event). e ∷ [])
+        (heard_as ends f score (decoded_at t traffic m legs samples k)
+        (commands_at t traffic m legs samples k)
+        (frame_back width plan p t traffic m legs superframes k f is heard distinct)
+        (commands_back width plan p t traffic m legs superframes k f is heard))
+        ∙ sym (ap (map (sent_frame_event ends)) frame)
+
+    -- the frames that end at a number of samples
+    frames_each : (n : ℕ) → frames_by t traffic m legs samples n
+        ≡ flat_map (λ k. frame_heard t traffic m legs samples n k ∷ [])
+        (known_now t.count stream n (frames_bound n))
+    unfolding frames_by
+    frames_each n =
+        one_each (frame_heard t traffic m legs samples n) (frames_now t traffic m legs n)
+        ∙ ap (flat_map (λ k. frame_heard t traffic m legs samples n k ∷ []))
+        (one_now t traffic m legs one n)
+
+    module _ (undirected : IsUndirected t traffic m samples plan.link.samples) where
+      -- what is heard at a number of samples
+      heard_at_once : (n : ℕ) → n < t.count + 1 → frames_at t traffic m samples n
+          ≡ flat_map (λ k. frame_heard t traffic m legs samples n k ∷ [])
+          (known_now t.count stream n (frames_bound n))
+      heard_at_once n below =
+          let count = is.tuned.count in
+          let made = length-made plan in
+          frames_of_one t traffic m legs samples one n (omega (arith, below, count, made))
+          (λ k. one_pilot_heard t traffic m samples n k
+          (λ i most. undirected i (omega (arith, most, below, count))))
+          ∙ frames_each n
+
+      -- what is heard, frame by frame
+      heard_by_frames : flat_map (frames_at t traffic m samples) (places (plan.link.samples + 1))
+          ≡ flat_map (λ k. frame_heard t traffic m legs samples (known_at t.count stream k) k ∷ [])
+          (filter inside (places (frames_bound t.count)))
+      heard_by_frames =
+          let f : ℕ → ℕ → List Event = λ n k. frame_heard t traffic m legs samples n k ∷ [] in
+          ap (λ (n : ℕ). flat_map (frames_at t traffic m samples) (places (n + 1)))
+          (sym is.tuned.count)
+          ∙ flat_map_ext_places (frames_at t traffic m samples)
+          (λ n. flat_map (f n) (known_now t.count stream n (frames_bound n))) (t.count + 1)
+          heard_at_once
+          ∙ given_in_order stream (traffic_timed t traffic m is.tuned.alone) frames_bound
+          (bound_enough t traffic m) f
+
+      -- so one event is heard for each received frame
+      pub each_heard : flat_map (frames_at t traffic m samples) (places (plan.link.samples + 1)) ≡
+          map (λ frame. frame_heard t traffic m legs samples (frame_ends plan p frame)
+          (frame - 4 * superframes)) (received_frames plan p mark_chip)
+      each_heard =
+          let told : ℕ → Event =
+          λ frame. frame_heard t traffic m legs samples (frame_ends plan p frame)
+          (frame - 4 * superframes) in
+          heard_by_frames
+          ∙ flat_map_ext_filter_places inside
+          (λ k. frame_heard t traffic m legs samples (known_at t.count stream k) k ∷ [])
+          (λ k. told (4 * superframes + k) ∷ []) (frames_bound t.count)
+          (λ k below there.
+          let behind : k ≡ 4 * superframes + k - 4 * superframes = omega arith in
+          ap (λ (n : ℕ). frame_heard t traffic m legs samples n k ∷ []) (known_is k)
+          ∙ ap (λ (j : ℕ).
+          frame_heard t traffic m legs samples (frame_ends plan p (4 * superframes + k)) j ∷ [])
+          behind)
+          ∙ sym (by_marks_frames (λ frame. told frame ∷ []))
+          ∙ sym (one_each told (received_frames plan p mark_chip))
+
+      -- and where all of them are distinct, what was sent
+      pub sent_heard : 1 ≤ length p.frames → AreDistinct plan p mark_chip →
+          flat_map (frames_at t traffic m samples) (places (plan.link.samples + 1)) ≡
+          frames_of_channel plan p mark_chip
+      sent_heard some distinct =
+          heard_by_frames
+          ∙ flat_map_ext_filter_places inside
+          (λ k. frame_heard t traffic m legs samples (known_at t.count stream k) k ∷ [])
+          (λ k. frame_told plan p (4 * superframes + k)) (frames_bound t.count)
+          (λ k below there.
+          let (f, frame) = frame_there some k in
+          told_is k f there frame (distinct_there distinct k f there frame))
+          ∙ sym (by_marks_frames (frame_told plan p))
 
 -- ---- the laws
 
 pub each_frame_heard : EachFrameIsHeard
-each_frame_heard width plan p t traffic m superframes is =
+each_frame_heard width plan p t traffic m superframes legs is undirected one =
     each_heard width plan p t traffic m superframes is
-    (lawful_traffic width plan p is.receivable.lawful is.sent).latest
+    (lawful_traffic width plan p is.receivable.lawful is.sent).latest legs one undirected
 
 pub sent_frames_back : SentFramesComeBack
-sent_frames_back width plan p t traffic m superframes is distinct =
+sent_frames_back width plan p t traffic m superframes is undirected distinct =
     let lawful = lawful_traffic width plan p is.receivable.lawful is.sent in
-    sent_heard width plan p t traffic m superframes is lawful.latest lawful.some distinct
+    sent_heard width plan p t traffic m superframes is lawful.latest (first_legs traffic m)
+    (first_pilot traffic m) undirected lawful.some distinct

@@ -1,5 +1,5 @@
 -- The soft values of the frames of a traffic channel have the signs that were sent.
-use Rattle.std.proofs.Common.{◌≡◌, ℕ, ◌+◌, ◌*◌, ◌<◌, Bool, false, List, [], ◌∷◌}
+use Rattle.std.proofs.Common.{◌≡◌, ℕ, ◌+◌, ◌*◌, ◌<◌, Bool, true, false, List, [], ◌∷◌}
 use Rattle.std.proofs.Common.{length, refl, sym, ap, ◌∙◌, arith, subst, ℤ, replicate}
 use Rattle.std.specs.Prelude.{◌*ℤ◌}
 use Rattle.std.specs.List.{Contains, flat_map}
@@ -27,10 +27,12 @@ use Rattle.base_modulator.specs.declared.plan.CellPlan.{CellPlan}
 use Rattle.base_modulator.specs.declared.plan.TrafficPlan.{TrafficPlan}
 use Rattle.base_modulator.specs.declared.traffic_frame.TrafficFrame.{TrafficFrame}
 use Rattle.mobile_core.specs.Scrambled.{turned, unscrambled}
-use Rattle.mobile_core.specs.Streams.{frame_softs, frame_start}
+use Rattle.mobile_core.specs.Legs.{all_fingers}
+use Rattle.mobile_core.specs.Streams.{frame_softs, frame_start, is_in_file, Stream}
 use Rattle.mobile_core.specs.TrafficEvents.{unturned_softs}
-use Rattle.mobile_core.specs.TrafficStreams.{frame_state, replaced_in, traffic_stream}
+use Rattle.mobile_core.specs.TrafficStreams.{frame_state, replaced_in, stream_of}
 use Rattle.mobile_core.specs.Tuning.{Tuning}
+use Rattle.mobile_core.specs.declared.legs.Leg.{Leg}
 use Rattle.mobile_core.specs.declared.mark.Mark.{Mark}
 use Rattle.mobile_core.specs.declared.settings.Traffic.{Traffic}
 use Rattle.clean_link.specs.CleanLink.{IsTrueMark, soft_strength}
@@ -39,6 +41,7 @@ use Rattle.clean_link.specs.Signals.{IsFrameOf, path_finger}
 use Rattle.clean_link.specs.TrafficLaws.{HearsTraffic, IsHeardAs, TrafficHaveSentSigns}
 use Rattle.clean_link.proofs.signal.CarriersApart.{traffic_sent}
 use Rattle.clean_link.proofs.signal.ChannelsBack.{channel_signs, strength_some}
+use Rattle.clean_link.proofs.traffic.OnePilot.{one_fingers, one_stream, one_stream_is}
 use Rattle.clean_link.proofs.traffic.Symbols.{length-signed, length-with_commands, length-zipped}
 use Rattle.clean_link.proofs.traffic.Symbols.{shows_commands, shows_symbols, turned_some}
 use Rattle.clean_link.proofs.frames.PagingFrames.{length-scrambling}
@@ -85,9 +88,9 @@ lawful_traffic width plan p lawful has =
     All-contains IsTrafficPlan plan.traffic p lawful.traffic.are has
 
 module _ (width : Width) (plan : CellPlan) (p : TrafficPlan) (t : Tuning) (traffic : Traffic)
-    (m : Mark) (superframes k : ℕ) (f : TrafficFrame)
+    (m : Mark) (legs : ℕ → List Leg) (superframes k : ℕ) (f : TrafficFrame)
     (is : HearsTraffic width plan p t traffic m superframes)
-    (heard : IsHeardAs plan p t traffic m superframes k f) where
+    (heard : IsHeardAs plan p t traffic m legs superframes k f) where
   abbrev strength : ℕ
   strength = soft_strength plan Data p.gain
 
@@ -98,7 +101,13 @@ module _ (width : Width) (plan : CellPlan) (p : TrafficPlan) (t : Tuning) (traff
   mask = traffic_mask traffic.esn
 
   abbrev u : ℕ
-  u = frame_start (traffic_stream t traffic m) k
+  u = frame_start (one_stream t traffic m) k
+
+  here : is_in_file t.count (one_stream t traffic m) k ≡ true
+  here =
+      ap (λ (s : Stream). is_in_file t.count s k)
+      (sym (one_stream_is t traffic m legs k heard.pilot))
+      ∙ heard.here
 
   -- what is sent
   abbrev given : List Bool
@@ -124,7 +133,7 @@ module _ (width : Width) (plan : CellPlan) (p : TrafficPlan) (t : Tuning) (traff
   is_frame = record {
     room = omega (
       arith,
-      traffic_file_to t traffic m is.tuned.alone k heard.here,
+      traffic_file_to t traffic m is.tuned.alone k here,
       is.tuned.count,
     );
     frame_long = refl;
@@ -132,13 +141,14 @@ module _ (width : Width) (plan : CellPlan) (p : TrafficPlan) (t : Tuning) (traff
     begins = omega (arith, is.marked.place, is.assigned.offset);
   }
 
-  finger : (traffic_stream t traffic m).fingers ≡ path_finger plan p.row ∷ []
+  finger : all_fingers t.phase t.deltas (legs k) ≡ path_finger plan p.row ∷ []
   finger =
-      fingers_are plan t traffic.row is.tuned
+      one_fingers traffic t.phase t.deltas (legs k) heard.pilot
+      ∙ fingers_are plan t traffic.row is.tuned
       ∙ ap (λ (row : ℕ). path_finger plan row ∷ []) (sym is.assigned.row)
 
   -- the soft values as the finger hears them
-  pub unturned : unturned_softs t traffic m (made_samples plan) k ≡ signed strength given
+  pub unturned : unturned_softs t traffic m legs (made_samples plan) k ≡ signed strength given
   unturned =
       ap (λ (fs : List Finger). softs (made_samples plan) fs Data u) finger
       ∙ channel_signs width plan (traffic_carrier plan p) Data u (4 * superframes + k)
@@ -146,14 +156,14 @@ module _ (width : Width) (plan : CellPlan) (p : TrafficPlan) (t : Tuning) (traff
       ∙ ap (signed strength) given_is
 
   -- and turned by the scrambling
-  pub turned_are : frame_softs (made_samples plan) (traffic_stream t traffic m) k
+  pub turned_are : frame_softs (made_samples plan) (stream_of t traffic m legs k) k
       ≡ turned (scrambling state mask) (signed strength given)
   turned_are =
       let some = length-scrambling state mask in
       ap (unscrambled (scrambling state mask)) unturned
       ∙ turned_some (scrambling state mask) (signed strength given) (omega (arith, some))
 
-  pub long_softs : length (frame_softs (made_samples plan) (traffic_stream t traffic m) k) ≡ 384
+  pub long_softs : length (frame_softs (made_samples plan) (stream_of t traffic m legs k) k) ≡ 384
   long_softs =
       let all : length (signed strength given) ≡ 384 = length-signed strength given ∙ long in
       ap length turned_are
@@ -167,14 +177,14 @@ module _ (width : Width) (plan : CellPlan) (p : TrafficPlan) (t : Tuning) (traff
       (lawful_traffic width plan p is.receivable.lawful is.sent).gain
 
   pub symbols_shown : ShowSymbols (replaced_in traffic m k) strength (word_symbols f)
-      (frame_softs (made_samples plan) (traffic_stream t traffic m) k)
+      (frame_softs (made_samples plan) (stream_of t traffic m legs k) k)
   symbols_shown =
       subst (ShowSymbols (replaced_in traffic m k) strength (word_symbols f)) (sym turned_are)
       (shows_symbols strength state mask f.commands (word_symbols f) (scrambling state mask)
       (length-word_symbols f) (length-scrambling state mask))
 
   pub commands_shown : ShowCommands (replaced_in traffic m k) strength f.commands
-      (unturned_softs t traffic m (made_samples plan) k)
+      (unturned_softs t traffic m legs (made_samples plan) k)
   commands_shown =
       subst (ShowCommands (replaced_in traffic m k) strength f.commands) (sym unturned)
       (shows_commands strength state mask f.commands
@@ -183,8 +193,8 @@ module _ (width : Width) (plan : CellPlan) (p : TrafficPlan) (t : Tuning) (traff
 -- ---- the law
 
 pub traffic_signs : TrafficHaveSentSigns
-traffic_signs width plan p t traffic m superframes k f is heard = (
-  strong width plan p t traffic m superframes k f is heard,
-  symbols_shown width plan p t traffic m superframes k f is heard,
-  commands_shown width plan p t traffic m superframes k f is heard,
+traffic_signs width plan p t traffic m legs superframes k f is heard = (
+  strong width plan p t traffic m legs superframes k f is heard,
+  symbols_shown width plan p t traffic m legs superframes k f is heard,
+  commands_shown width plan p t traffic m legs superframes k f is heard,
 )

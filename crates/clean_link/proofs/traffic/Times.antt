@@ -3,41 +3,41 @@ use Rattle.std.proofs.Common.{◌≡◌, ℕ, ◌+◌, ◌*◌, ◌≤◌, true,
 use Rattle.std.specs.Prelude.{◌+ℤ◌}
 use Rattle.mobile_core.specs.Streams.{is_in_file, known_at}
 use Rattle.mobile_core.specs.Timing.{IsTimed}
-use Rattle.mobile_core.specs.TrafficStreams.{traffic_stream}
 use Rattle.mobile_core.specs.Tuning.{Tuning, fingers_of, modulo_code}
 use Rattle.mobile_core.specs.declared.mark.Mark.{Mark}
 use Rattle.mobile_core.specs.declared.settings.Traffic.{Traffic}
 use Rattle.clean_link.proofs.frames.Times.{IsAlone, inside_alone, known_at_once, room_alone}
 use Rattle.clean_link.proofs.frames.Times.{timed_alone}
 use Rattle.clean_link.proofs.frames.SyncTimes.{one_path}
+use Rattle.clean_link.proofs.traffic.OnePilot.{one_stream}
 
 -- the number of samples at which frame k ends
 abbrev pub end_behind : Traffic → Mark → ℕ → ℕ
 end_behind traffic m k = m.sample + 1536 * traffic.offset + 24576 * (k + 1)
 
 module _ (t : Tuning) (traffic : Traffic) (m : Mark) (alone : t.deltas ≡ one_path) where
-  pub traffic_alone : IsAlone (traffic_stream t traffic m)
+  pub traffic_alone : IsAlone (one_stream t traffic m)
   traffic_alone = record {
     phase = modulo_code (pos t.phase +ℤ pos 0);
     row = traffic.row;
     fingers = ap (fingers_of traffic.row t.phase) alone;
   }
 
-  pub traffic_timed : IsTimed t.count (traffic_stream t traffic m) 0
-  traffic_timed = timed_alone t.count (traffic_stream t traffic m) traffic_alone
+  pub traffic_timed : IsTimed t.count (one_stream t traffic m) 0
+  traffic_timed = timed_alone t.count (one_stream t traffic m) traffic_alone
 
   pub traffic_file_from : (k : ℕ) → end_behind traffic m k ≤ t.count →
-      is_in_file t.count (traffic_stream t traffic m) k ≡ true
+      is_in_file t.count (one_stream t traffic m) k ≡ true
   traffic_file_from k h =
-      inside_alone t.count (traffic_stream t traffic m) k traffic_alone (omega (arith, h))
+      inside_alone t.count (one_stream t traffic m) k traffic_alone (omega (arith, h))
 
-  pub traffic_file_to : (k : ℕ) → is_in_file t.count (traffic_stream t traffic m) k ≡ true →
+  pub traffic_file_to : (k : ℕ) → is_in_file t.count (one_stream t traffic m) k ≡ true →
       end_behind traffic m k ≤ t.count
   traffic_file_to k h =
-      omega (arith, room_alone t.count (traffic_stream t traffic m) k traffic_alone h)
+      omega (arith, room_alone t.count (one_stream t traffic m) k traffic_alone h)
 
   -- it doesn't wait for the next one
   pub traffic_known_is : (k : ℕ) →
-      known_at t.count (traffic_stream t traffic m) k ≡ end_behind traffic m k
+      known_at t.count (one_stream t traffic m) k ≡ end_behind traffic m k
   traffic_known_is k =
-      known_at_once t.count (traffic_stream t traffic m) k traffic_alone refl ∙ omega arith
+      known_at_once t.count (one_stream t traffic m) k traffic_alone refl ∙ omega arith

@@ -5,14 +5,14 @@ use Rattle.cdma_io.specs.declared.file_fault.FileFault.{FileFault}
 use Rattle.mobile_core.specs.Tuning.{Tuning}
 use Rattle.cdma_replay.specs.Broken.{IsCut, IsLong}
 use Rattle.cdma_replay.specs.Find.{IsFault, IsFaultIn}
-use Rattle.cdma_replay.specs.Hearing.{HasHeard, end_when, events_in, tuning_of}
+use Rattle.cdma_replay.specs.Hearing.{HasHeard, end_when, events_in, receiver_of, tuning_of}
 use Rattle.cdma_replay.specs.Status.{file_status}
 use Rattle.cdma_replay.proofs.Broken.{nothing_all, nothing_first, writes_all, writes_first}
 use Rattle.cdma_replay.proofs.Ends.{begins_file, ends_well, no_memory_told, no_write_told}
 use Rattle.cdma_replay.proofs.Faults.{fault_of_rest}
 use Rattle.cdma_replay.proofs.Files.{blamed, ended_by, unsearchable}
 use Rattle.cdma_replay.proofs.Hearings.{fault_no_end}
-use Rattle.cdma_replay.proofs.Lines.{has_begun, writes_first_part, writes_pilot_part}
+use Rattle.cdma_replay.proofs.Lines.{has_begun, writes_first_part, writes_first_text}
 use Rattle.cdma_replay.proofs.Lines.{writes_rest_part, writes_text}
 use Rattle.cdma_replay.proofs.receiving.receive_file.Goals as goal
 
@@ -28,16 +28,15 @@ returns-in_err-reader-clause-place g c fault is =
 
 pub returns-in-Err-clause-written : goal.returns-in-Err-clause-written
 returns-in-Err-clause-written g c =
-    writes_pilot_part _ c.in_ok-reader.reader.header (search rules) c.in_ok-reader.ensures.file
-    c.in_ok-best.ensures c.in-Err.ensures.err
+    writes_first_text _ c.in_ok-reader.reader.header c.open_span.new.span c.in_ok-shown.shown
+    (search rules) c.in_ok-reader.ensures.file c.in_ok-shown.ensures.shown c.in-Err.ensures.err
 
 pub returns-in-Err-hear-clause-written : goal.returns-in-Err-hear-clause-written
 returns-in-Err-hear-clause-written g c =
     let begun =
-    has_begun _ c.args.reception c.open_span.new.span c.in_ok-best.best _ (search rules)
-    c.in_ok-reader.ensures.file c.in_ok-best.ensures c.near_for-near.ensures.near
-    c.header.ensures.value c.in_ok-handset.ensures.given c.in-Ok.ensures.ok
-    c.in-Ok.ensures.behind in
+    has_begun _ c.args.reception c.open_span.new.span c.in_ok-shown.shown (search rules)
+    c.in_ok-reader.ensures.file c.in_ok-shown.ensures.shown c.header.ensures.value
+    c.in_ok-handset.ensures.heard c.in-Ok.ensures.ok c.in-Ok.ensures.behind in
     writes_first_part begun c.in-Err-hear.ensures.err
 
 pub returns-in_err-hear_rest-clause-done : goal.returns-in_err-hear_rest-clause-done
@@ -80,19 +79,17 @@ returns-in_err-hear_rest-clause-bad_file g c fault is =
 pub returns-in_err-hear_rest-clause-written : goal.returns-in_err-hear_rest-clause-written
 returns-in_err-hear_rest-clause-written g c =
     let begun =
-    has_begun _ c.args.reception c.open_span.new.span c.in_ok-best.best _ (search rules)
-    c.in_ok-reader.ensures.file c.in_ok-best.ensures c.near_for-near.ensures.near
-    c.header.ensures.value c.in_ok-handset.ensures.given c.in-Ok.ensures.ok
-    c.in-Ok.ensures.behind in
+    has_begun _ c.args.reception c.open_span.new.span c.in_ok-shown.shown (search rules)
+    c.in_ok-reader.ensures.file c.in_ok-shown.ensures.shown c.header.ensures.value
+    c.in_ok-handset.ensures.heard c.in-Ok.ensures.ok c.in-Ok.ensures.behind in
     writes_rest_part begun c.in-Ok-hear.ensures.ok c.in_err-hear_rest.ensures.written
 
 pub returns-clause-done : goal.returns-clause-done
 returns-clause-done g c end =
     let begun =
-    has_begun _ c.args.reception c.open_span.new.span c.in_ok-best.best _ (search rules)
-    c.in_ok-reader.ensures.file c.in_ok-best.ensures c.near_for-near.ensures.near
-    c.header.ensures.value c.in_ok-handset.ensures.given c.in-Ok.ensures.ok
-    c.in-Ok.ensures.behind in
+    has_begun _ c.args.reception c.open_span.new.span c.in_ok-shown.shown (search rules)
+    c.in_ok-reader.ensures.file c.in_ok-shown.ensures.shown c.header.ensures.value
+    c.in_ok-handset.ensures.heard c.in-Ok.ensures.ok c.in-Ok.ensures.behind in
     writes_text (g.S.Source.rest c.args.source.now) _ _ c.in_ok-reader.ensures.lawful (search rules)
     c.in_ok-reader.ensures.in_range begun c.in-Ok-hear.ensures.ok c.in_ok-hear_rest.ensures.ok
     c.in_ok-hear_rest.ensures.ends
@@ -103,10 +100,9 @@ returns-clause-done g c end =
 pub returns-clause-written : goal.returns-clause-written
 returns-clause-written g c =
     let begun =
-    has_begun _ c.args.reception c.open_span.new.span c.in_ok-best.best _ (search rules)
-    c.in_ok-reader.ensures.file c.in_ok-best.ensures c.near_for-near.ensures.near
-    c.header.ensures.value c.in_ok-handset.ensures.given c.in-Ok.ensures.ok
-    c.in-Ok.ensures.behind in
+    has_begun _ c.args.reception c.open_span.new.span c.in_ok-shown.shown (search rules)
+    c.in_ok-reader.ensures.file c.in_ok-shown.ensures.shown c.header.ensures.value
+    c.in_ok-handset.ensures.heard c.in-Ok.ensures.ok c.in-Ok.ensures.behind in
     writes_rest_part begun c.in-Ok-hear.ensures.ok c.in_ok-hear_rest.ensures.written
 
 pub returns-in_err-reader-clause-early : goal.returns-in_err-reader-clause-early
@@ -114,8 +110,8 @@ returns-in_err-reader-clause-early g c none =
     absurd (no_memory_told c.from_residual.result c.in_err-reader.field-0.0
     c.from_residual.ensures.1 none)
 
-pub returns-in_err-best-clause-early : goal.returns-in_err-best-clause-early
-returns-in_err-best-clause-early g c none =
+pub returns-in_err-shown-clause-early : goal.returns-in_err-shown-clause-early
+returns-in_err-shown-clause-early g c none =
     begins_file (g.S.Source.rest c.args.source.now) _ c.in_ok-reader.reader.header
     c.open_span.new.span c.in_ok-reader.ensures.lawful (search rules)
     (omega (arith, c.in_ok-reader.ensures.reader.0, c.requires.span.0))
@@ -132,12 +128,11 @@ pub returns-clause-alone : goal.returns-clause-alone
 returns-clause-alone g c none unheard =
     let span = c.open_span.new.span in
     let t : Option Tuning =
-    tuning_of c.in_ok-reader.reader.header span c.args.reception.receiver in
+    tuning_of c.in_ok-reader.reader.header span (receiver_of c.args.reception.purpose) in
     let begun =
-    has_begun _ c.args.reception span c.in_ok-best.best _ (search rules)
-    c.in_ok-reader.ensures.file c.in_ok-best.ensures c.near_for-near.ensures.near
-    c.header.ensures.value c.in_ok-handset.ensures.given c.in-Ok.ensures.ok
-    c.in-Ok.ensures.behind in
+    has_begun _ c.args.reception span c.in_ok-shown.shown (search rules)
+    c.in_ok-reader.ensures.file c.in_ok-shown.ensures.shown c.header.ensures.value
+    c.in_ok-handset.ensures.heard c.in-Ok.ensures.ok c.in-Ok.ensures.behind in
     let first = (c.in-Ok-hear.ensures.ok t _ [] [] begun.given).stands in
     let last = (c.in_ok-hear_rest.ensures.ok t _ _ first).tells.stands in
     ends_well t _ c.end_when.result _ (ap (tuning_of c.in_ok-reader.reader.header span) none)
@@ -187,10 +182,9 @@ returns-in_err-reader-clause-long g c long =
 pub returns-in_err-hear_rest-clause-cut : goal.returns-in_err-hear_rest-clause-cut
 returns-in_err-hear_rest-clause-cut g c cut =
     let begun =
-    has_begun _ c.args.reception c.open_span.new.span c.in_ok-best.best _ (search rules)
-    c.in_ok-reader.ensures.file c.in_ok-best.ensures c.near_for-near.ensures.near
-    c.header.ensures.value c.in_ok-handset.ensures.given c.in-Ok.ensures.ok
-    c.in-Ok.ensures.behind in
+    has_begun _ c.args.reception c.open_span.new.span c.in_ok-shown.shown (search rules)
+    c.in_ok-reader.ensures.file c.in_ok-shown.ensures.shown c.header.ensures.value
+    c.in_ok-handset.ensures.heard c.in-Ok.ensures.ok c.in-Ok.ensures.behind in
     writes_first (g.S.Source.rest c.args.source.now) _ _ _ _ c.in_ok-reader.ensures.lawful begun
     c.in-Ok-hear.ensures.ok
     (c.in_err-hear_rest.ensures.cut
@@ -201,10 +195,9 @@ returns-in_err-hear_rest-clause-cut g c cut =
 pub returns-in_err-hear_rest-clause-long : goal.returns-in_err-hear_rest-clause-long
 returns-in_err-hear_rest-clause-long g c long =
     let begun =
-    has_begun _ c.args.reception c.open_span.new.span c.in_ok-best.best _ (search rules)
-    c.in_ok-reader.ensures.file c.in_ok-best.ensures c.near_for-near.ensures.near
-    c.header.ensures.value c.in_ok-handset.ensures.given c.in-Ok.ensures.ok
-    c.in-Ok.ensures.behind in
+    has_begun _ c.args.reception c.open_span.new.span c.in_ok-shown.shown (search rules)
+    c.in_ok-reader.ensures.file c.in_ok-shown.ensures.shown c.header.ensures.value
+    c.in_ok-handset.ensures.heard c.in-Ok.ensures.ok c.in-Ok.ensures.behind in
     writes_all (g.S.Source.rest c.args.source.now) _ _ _ _ c.in_ok-reader.ensures.lawful
     (omega (arith, c.in_ok-reader.ensures.reader.0, c.requires.span.0)) begun
     c.in-Ok-hear.ensures.ok

@@ -4,9 +4,10 @@ use Rattle.cdma_words.specs.declared.job.Job.TheVariants.{Trial}
 use Rattle.cdma_replay.specs.Trials.{trial_line}
 use Rattle.cdma_replay.specs.Broken.{IsCut, IsLong}
 use Rattle.cdma_replay.specs.Find.{ended}
-use Rattle.cdma_replay.specs.Replies.{following}
-use Rattle.cdma_replay.proofs.Replies.{file_all, file_first, file_part, file_verdict_by, find_all}
-use Rattle.cdma_replay.proofs.Replies.{find_first, find_part, find_verdict, script_cut}
+use Rattle.cdma_replay.specs.Replies.{finding, following, surveying}
+use Rattle.cdma_replay.proofs.Replies.{file_all, file_first, file_part, file_verdict_by}
+use Rattle.cdma_replay.proofs.Replies.{found_untapped, script_cut, surveyed_untapped, untapped_all}
+use Rattle.cdma_replay.proofs.Replies.{untapped_first, untapped_part, untapped_verdict}
 use Rattle.cdma_replay.proofs.Replies.{HasTrialCauses, script_early, script_end, script_part}
 use Rattle.cdma_replay.proofs.Replies.{script_verdict, trial_done, trial_early, trial_end, trial_part}
 use Rattle.cdma_replay.proofs.Replies.{trial_verdict}
@@ -16,7 +17,8 @@ pub returns-in-Find-clause-verdict : goal.returns-in-Find-clause-verdict
 returns-in-Find-clause-verdict g c =
     let ends = c.receive.ensures in
     rw (c.in-Find.is, c.status_of.ensures)
-    (find_verdict c.in-Find.span c.in-Find.workers (ended c.receive.result) _ _ _ (record {
+    (untapped_verdict (finding c.in-Find.span c.in-Find.workers) (ended c.receive.result) _ _ _
+    (found_untapped _ c.in-Find.span c.in-Find.workers) (record {
       done = ends.done;
       others = ends.others;
       bad_file = ends.bad_file;
@@ -24,7 +26,32 @@ returns-in-Find-clause-verdict g c =
     }))
 
 pub returns-in-Find-clause-written : goal.returns-in-Find-clause-written
-returns-in-Find-clause-written g c = rw c.in-Find.is (find_part c.receive.ensures.written)
+returns-in-Find-clause-written g c =
+    rw c.in-Find.is
+    (untapped_part (finding c.in-Find.span c.in-Find.workers)
+    (found_untapped _ c.in-Find.span c.in-Find.workers) c.receive.ensures.written)
+
+pub returns-in-Survey-clause-verdict : goal.returns-in-Survey-clause-verdict
+returns-in-Survey-clause-verdict g c =
+    let ends = c.receive-in-Survey.ensures in
+    let job = c.in-Survey in
+    rw (job.is, c.status_of-in-Survey.ensures)
+    (untapped_verdict (surveying job.span job.workers job.base job.width job.top)
+    (ended c.receive-in-Survey.result) _ _ _
+    (surveyed_untapped _ job.span job.workers job.base job.width job.top) (record {
+      done = ends.done;
+      others = ends.others;
+      bad_file = ends.bad_file;
+      place = ends.place;
+    }))
+
+pub returns-in-Survey-clause-written : goal.returns-in-Survey-clause-written
+returns-in-Survey-clause-written g c =
+    let job = c.in-Survey in
+    rw job.is
+    (untapped_part (surveying job.span job.workers job.base job.width job.top)
+    (surveyed_untapped _ job.span job.workers job.base job.width job.top)
+    c.receive-in-Survey.ensures.written)
 
 pub returns-in-Follow-clause-verdict : goal.returns-in-Follow-clause-verdict
 returns-in-Follow-clause-verdict g c =
@@ -132,14 +159,35 @@ returns-in-Trial-clause-written g c =
 pub returns-in-Find-clause-cut : goal.returns-in-Find-clause-cut
 returns-in-Find-clause-cut g c cut =
     rw c.in-Find.is
-    (find_first _ c.in-Find.span c.in-Find.workers (g.S.Source.rest c.args.source.now) _ _ _
+    (untapped_first _ (finding c.in-Find.span c.in-Find.workers)
+    (g.S.Source.rest c.args.source.now) _ _ _
+    (found_untapped _ c.in-Find.span c.in-Find.workers)
     (c.receive.ensures.cut (subst IsCut c.status_of.ensures cut)))
 
 pub returns-in-Find-clause-long : goal.returns-in-Find-clause-long
 returns-in-Find-clause-long g c long =
     rw c.in-Find.is
-    (find_all _ c.in-Find.span c.in-Find.workers (g.S.Source.rest c.args.source.now) _ _
+    (untapped_all _ (finding c.in-Find.span c.in-Find.workers) (g.S.Source.rest c.args.source.now)
+    _ _ (found_untapped _ c.in-Find.span c.in-Find.workers)
     (c.receive.ensures.long (subst IsLong c.status_of.ensures long)))
+
+pub returns-in-Survey-clause-cut : goal.returns-in-Survey-clause-cut
+returns-in-Survey-clause-cut g c cut =
+    let job = c.in-Survey in
+    rw job.is
+    (untapped_first _ (surveying job.span job.workers job.base job.width job.top)
+    (g.S.Source.rest c.args.source.now) _ _ _
+    (surveyed_untapped _ job.span job.workers job.base job.width job.top)
+    (c.receive-in-Survey.ensures.cut (subst IsCut c.status_of-in-Survey.ensures cut)))
+
+pub returns-in-Survey-clause-long : goal.returns-in-Survey-clause-long
+returns-in-Survey-clause-long g c long =
+    let job = c.in-Survey in
+    rw job.is
+    (untapped_all _ (surveying job.span job.workers job.base job.width job.top)
+    (g.S.Source.rest c.args.source.now) _ _
+    (surveyed_untapped _ job.span job.workers job.base job.width job.top)
+    (c.receive-in-Survey.ensures.long (subst IsLong c.status_of-in-Survey.ensures long)))
 
 pub returns-in-Follow-clause-cut : goal.returns-in-Follow-clause-cut
 returns-in-Follow-clause-cut g c cut =

@@ -1,8 +1,7 @@
-use Rattle.std.proofs.Common.{◌≡◌, ◌∙◌, ap, sym, Ok, List, ℕ, rules}
+use Rattle.std.proofs.Common.{◌≡◌, ◌∙◌, ap, sym, Ok, rules}
 use Rattle.cdma_io.specs.declared.width.Width.TheVariants.{Sixteen}
 use Rattle.base_modulator.specs.Script.{plan_named}
-use Rattle.base_modulator.specs.Trial.{trial_plan, trial_text}
-use Rattle.base_modulator.specs.declared.plan.CellPlan.{CellPlan}
+use Rattle.base_modulator.specs.Trial.{trial_plan}
 use Rattle.base_modulator.proofs.TrialPlans.{trial_named}
 use Rattle.cdma_replay.proofs.Counting.{state_is}
 use Rattle.cdma_replay.proofs.trial.cell_for.Goals as goal

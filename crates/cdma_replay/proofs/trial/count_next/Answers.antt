@@ -1,4 +1,4 @@
-use Rattle.std.proofs.Common.{◌≡◌, ◌+◌, ◌++◌, ◌∙◌, List, length, map, sym, subst, take}
+use Rattle.std.proofs.Common.{◌≡◌, List, length, subst, take}
 use Rattle.chip_core.specs.declared.sample.Sample.{Sample}
 use Rattle.base_modulator.specs.Sampled.{made_samples}
 use Rattle.mobile_core.specs.Events.{events}

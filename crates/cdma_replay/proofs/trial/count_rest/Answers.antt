@@ -1,4 +1,4 @@
-use Rattle.std.proofs.Common.{◌≡◌, ◌≤◌, ◌∙◌, List, ap, arith, rules}
+use Rattle.std.proofs.Common.{◌≤◌, ◌∙◌, List, ap, arith}
 use Rattle.chip_core.specs.declared.sample.Sample.{Sample}
 use Rattle.base_modulator.specs.declared.plan.CellPlan.{CellPlan}
 use Rattle.mobile_core.specs.Events.{events}

@@ -1,4 +1,4 @@
-use Rattle.std.proofs.Common.{◌≡◌, ◌∙◌, ℕ, List, [], Some, ap, arith, length, rules, subst, sym}
+use Rattle.std.proofs.Common.{◌≡◌, ◌∙◌, List, [], ap, arith, length, rules, subst, sym}
 use Rattle.chip_core.specs.declared.sample.Sample.{Sample}
 use Rattle.cdma_io.specs.declared.header.Header.{Header}
 use Rattle.cdma_io.specs.declared.width.Width.TheVariants.{Sixteen}
@@ -13,8 +13,7 @@ use Rattle.mobile_core.specs.Events.{events}
 use Rattle.mobile_core.specs.Standing.{StandsFor}
 use Rattle.mobile_core.specs.Tuning.{Tuning}
 use Rattle.cdma_replay.specs.Hearing.{AreNearTo, tuning_for}
-use Rattle.cdma_replay.specs.Trials.{counts_of, trial_receiver, trial_span, trial_tuning}
-use Rattle.cdma_replay.specs.declared.handset.Receiver.{Receiver}
+use Rattle.cdma_replay.specs.Trials.{counts_of, trial_span, trial_tuning}
 use Rattle.cdma_replay.proofs.Counting.{behind_span, line_is, span_fits, span_is, trial_counted}
 use Rattle.cdma_replay.proofs.trial.follow_cell.Goals as goal
 
@@ -49,7 +48,7 @@ returns g c =
     span_is c.args.cell.now number (length c.args.span.now) out c.requires.cell c.requires.span
     c.fill.ensures.samples in
     let found : IsBestIn out 0 32768 best.phase best.energy = search rules in
-    let near : AreNearTo out best.phase (Some receiver) (Some c.near-paths.result) = search rules in
+    let near : AreNearTo out best.phase receiver c.near-paths.result = search rules in
     let t = tuning_for c.header-header.result out receiver in
     let tuning : t ≡ trial_tuning number =
     ap (λ (h : Header). tuning_for h out receiver) header

@@ -1,8 +1,13 @@
 use Rattle.clean_link.proofs.traffic.Commands.{commands_back, sixteen_sent}
 use Rattle.clean_link.proofs.traffic.Frames.{each_frame_heard, frame_back, sent_frames_back}
+use Rattle.clean_link.proofs.traffic.NoneSent.{none_directed}
 use Rattle.clean_link.proofs.traffic.Signaling.{sent_messages_back}
 use Rattle.clean_link.proofs.traffic.Signs.{traffic_signs}
+use Rattle.clean_link.proofs.traffic.Steady.{one_pilot_heard}
 use Rattle.clean_link.proofs.laws.traffic_frames_come_back.Goals as goal
+
+pub returns-clause-pilot : goal.returns-clause-pilot
+returns-clause-pilot c = one_pilot_heard
 
 pub returns-clause-signs : goal.returns-clause-signs
 returns-clause-signs c = traffic_signs
@@ -24,3 +29,6 @@ returns-clause-sent c = sent_frames_back
 
 pub returns-clause-messages : goal.returns-clause-messages
 returns-clause-messages c = sent_messages_back
+
+pub returns-clause-undirected : goal.returns-clause-undirected
+returns-clause-undirected c = none_directed

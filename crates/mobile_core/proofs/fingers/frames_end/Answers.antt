@@ -1,10 +1,11 @@
 use Rattle.std.proofs.Common.{arith}
-use Rattle.mobile_core.proofs.FingerLists.{near_at, end_at_finger}
+use Rattle.mobile_core.proofs.CloseFingers.{close_at}
+use Rattle.mobile_core.proofs.FingerLists.{end_at_finger}
 use Rattle.mobile_core.proofs.fingers.frames_end.Goals as goal
 
-pub end_of-requires-clause-near : goal.end_of-requires-clause-near
-end_of-requires-clause-near c =
-    near_at c.args.fingers.now c.loop-i.i c.get.result c.requires.near c.get.ensures
+pub end_of-requires-clause-close : goal.end_of-requires-clause-close
+end_of-requires-clause-close c =
+    close_at c.args.fingers.now c.loop-i.i c.get.result c.requires.close c.get.ensures
 
 pub loop-i-preserved : goal.loop-i-preserved
 loop-i-preserved c =

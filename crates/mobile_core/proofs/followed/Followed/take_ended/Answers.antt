@@ -1,11 +1,17 @@
-use Rattle.std.proofs.Common.{inl, inr, refl}
+use Rattle.std.proofs.Common.{inl, refl, sym, subst}
+use Rattle.mobile_core.specs.PagingMonitoring.{paging_events_left}
+use Rattle.mobile_core.specs.TrafficMonitoring.{HearsFrames}
 use Rattle.mobile_core.proofs.followed.Followed.take_ended.Goals as goal
 
 pub returns-clause-hears : goal.returns-clause-hears
-returns-clause-hears c = λ t mark heard holds idle st. record {
-  paging = c.take_ended.ensures.hears t mark heard holds (λ d. idle (inl d)) st.paging;
-  traffic = c.take_ended-2.ensures.hears t mark heard holds (λ d. idle (inr d)) st.traffic;
-}
+returns-clause-hears c = λ t mark heard holds idle st.
+    let pages = paging_events_left t mark heard c.args.self.now.paging.receiver in
+    record {
+      paging = c.take_ended.ensures.hears t mark heard holds (λ d. idle (inl d)) st.paging;
+      traffic = subst (HearsFrames t c.take_ended-2.new.self mark heard)
+          (sym (c.take_ended.ensures.left t mark heard))
+          (c.take_ended-2.ensures.hears t mark heard pages holds st.traffic);
+    }
 
 pub returns-clause-left : goal.returns-clause-left
 returns-clause-left c = λ t mark heard.

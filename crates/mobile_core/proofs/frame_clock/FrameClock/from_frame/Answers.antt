@@ -1,6 +1,10 @@
 use Rattle.std.proofs.Common.{ℕ, ◌+◌, ◌*◌, arith}
+use Rattle.mobile_core.proofs.CloseFingers.{near_are_close}
 use Rattle.mobile_core.proofs.FingerTimes.{some_chips, most_chips, ends_bounds, times_one}
 use Rattle.mobile_core.proofs.frame_clock.FrameClock.from_frame.Goals as goal
+
+pub frames_end-requires-clause-close : goal.frames_end-requires-clause-close
+frames_end-requires-clause-close c = (near_are_close c.args.fingers.now c.requires.near).close
 
 pub returns-clause-sound : goal.returns-clause-sound
 returns-clause-sound c =

@@ -1,11 +1,41 @@
-use Rattle.std.proofs.Common.{◌≡◌, ◌-◌, ◌++◌, arith, inl, inr, length, take, length-take, subst}
+use Rattle.std.proofs.Common.{ℕ, ◌≡◌, ◌-◌, ◌++◌, arith, inl, inr, length, take, length-take, subst, sym, ◌∙◌}
 use Rattle.std.proofs.Common.{append-nil}
 use Rattle.std.proofs.lemmas.List.{take_all}
 use Rattle.mobile_core.specs.Clocks.{IsDueAt}
 use Rattle.mobile_core.specs.Near.{AreNear}
-use Rattle.mobile_core.specs.FollowedChannels.{IsFollowedDue}
+use Rattle.mobile_core.specs.FollowedChannels.{IsFollowedDue, WaitFrom}
+use Rattle.mobile_core.specs.TrafficMonitoring.{IsFrameDue}
 use Rattle.mobile_core.proofs.Stood.{due_here, others_due_here, stands_taken, stands_come}
 use Rattle.mobile_core.proofs.mobile.Mobile.advance.Goals as goal
+
+-- where samples are left over nothing has come
+pub invariant_of-self : goal.invariant_of-self
+invariant_of-self c =
+    let m = c.args.self.now in
+    let pushed = c.push_all.ensures in
+    let least = c.least_end.ensures in
+    let room = c.requires.room in
+    let few = c.if-samples-left.true in
+    let within = m.sound.within in
+    record {
+      sound = record {
+        few = m.sound.few;
+        within = omega (arith, pushed.taken, room, within);
+        room = pushed.room ∙ m.sound.room;
+        decodes = m.sound.decodes;
+        hears = m.sound.hears;
+        waits = omega (arith, pushed.taken, least.sync, few);
+        follows = m.sound.follows;
+        others_wait = record {
+          paging = λ r e. omega (arith, least.paging r e, pushed.taken, few);
+          traffic = λ r e. record {
+            before = omega (arith, least.traffic r e, pushed.taken, few);
+            due = λ due.
+                absurd (c.requires.not_due (inr (inr (subst IsFrameDue (sym e) (inr due)))));
+          };
+        };
+      };
+    }
 
 pub returns-then-samples-left-clause-steps : goal.returns-then-samples-left-clause-steps
 returns-then-samples-left-clause-steps c =
@@ -26,7 +56,8 @@ returns-then-samples-left-clause-steps c =
           let holds = c.push_all.ensures.holds heard st.ring in
           let near = subst AreNear st.sync.receives.fingers_are m.sound.hears.channel.near in
           rw (whole, append-nil given)
-          (stands_taken st more c.push_all.new.self near (λ d. c.requires.not_due (inl d))
+          (stands_taken st more c.push_all.new.self near m.sound.follows
+          (subst (λ (n : ℕ). WaitFrom n m.followed) taken m.sound.others_wait) (λ d. c.requires.not_due (inl d))
           (λ d. c.requires.not_due (inr d)) (omega arith) (omega (arith, least.sync))
           (record {
             paging = λ r e. omega (arith, least.paging r e);
@@ -57,7 +88,9 @@ returns-clause-steps c =
           let taken = st.ring.taken in
           let holds = c.push_all-2.ensures.holds heard st.ring in
           let near = subst AreNear st.sync.receives.fingers_are m.sound.hears.channel.near in
-          let on = stands_taken st more c.push_all-2.new.self near none idle (omega arith)
+          let on = stands_taken st more c.push_all-2.new.self near m.sound.follows
+          (subst (λ (n : ℕ). WaitFrom n m.followed) taken m.sound.others_wait) none idle
+          (omega arith)
           (omega (arith, least.sync)) (record {
             paging = λ r e. omega (arith, least.paging r e);
             traffic = λ r e. omega (arith, least.traffic r e);

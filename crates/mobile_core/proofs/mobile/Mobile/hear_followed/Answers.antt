@@ -1,5 +1,4 @@
-use Rattle.std.proofs.Common.{ℕ, ◌∙◌, arith, append-nil, subst}
-use Rattle.mobile_core.specs.FollowedChannels.{WaitFrom}
+use Rattle.std.proofs.Common.{◌∙◌, arith, append-nil}
 use Rattle.mobile_core.proofs.FramesFollowed.{frames_few}
 use Rattle.mobile_core.proofs.PagesFollowed.{heard_few}
 use Rattle.mobile_core.proofs.StepJoins.{ends_here, one_or_none}
@@ -19,8 +18,7 @@ invariant_of-self c =
         hears = m.sound.hears;
         waits = m.sound.waits;
         follows = next.sound;
-        others_wait = subst (λ (n : ℕ). WaitFrom n c.hear_next.new.self) c.taken-at.ensures.value
-            next.waits;
+        others_wait = next.waits;
       };
     }
 
@@ -44,14 +42,12 @@ returns-clause-steps c =
       );
       ends = λ t heard given st.
           let taken = st.ring.taken in
-          let at' = c.taken-at.ensures in
-          ends_here c.hear_next.result next.ends (omega (arith, taken, at'));
+          ends_here c.hear_next.result next.ends (omega (arith, taken));
       stands = λ t heard given st.
           let taken = st.ring.taken in
-          let at' = c.taken-at.ensures in
-          let follows = next.hears t m.sync.mark heard st.check_is st.count_is st.followed in
-          let left = next.left t m.sync.mark heard (omega (arith, taken, at')) st.check_is
-          st.count_is st.followed in
+          let follows = next.hears t m.sync.mark heard st.ring st.check_is st.count_is st.followed
+          in
+          let left = next.left t m.sync.mark heard st.ring st.check_is st.count_is st.followed in
           rw (append-nil heard)
           (stands_followed st c.hear_next.new.self c.hear_next.result c.requires.silent
           (omega (arith, taken, m.sound.waits)) next.unset follows left);

@@ -1,58 +1,122 @@
-use Rattle.std.proofs.Common.{◌≡◌, rules, Some, None, ap, arith}
-use Rattle.mobile_core.specs.TrafficReceiving.{kept_by}
-use Rattle.mobile_core.proofs.FramesHeard.{frame_due, hears_given, kept_most, left_given}
+use Rattle.std.proofs.Common.{◌≡◌, ◌∙◌, ◌++◌, List, ap, arith, inl, inr, rules, sym, ℕ, ◌+◌}
+use Rattle.std.proofs.Common.{Bool, true}
+use Rattle.std.specs.Prelude.{if◌then◌else◌}
+use Rattle.mobile_core.specs.Moments.{kept_to, moment_place}
+use Rattle.mobile_core.specs.SetsKeeping.{coming_place}
+use Rattle.mobile_core.specs.TrafficReceiving.{kept_by, kept_in, sets_left_of}
+use Rattle.mobile_core.specs.declared.event.Event.{Event}
+use Rattle.mobile_core.specs.declared.sets_keeper.SetsKeeper.{SetsKeeper}
+use Rattle.mobile_core.proofs.FramesHeard.{untold_come, untold_kept}
+use Rattle.mobile_core.proofs.FramesTold.{hears_noted}
+use Rattle.mobile_core.proofs.SoundFrames.{sound_sets}
 use Rattle.mobile_core.proofs.traffic_receiver.TrafficReceiver.hear_next.Goals as goal
 
-pub returns-in-Some-clause-further : goal.returns-in-Some-clause-further
-returns-in-Some-clause-further c =
-    let is : c.args.self.now.kept ≡ Some c.in-Some.message = search rules in
-    omega (arith, ap kept_by is)
+pub pass_moment-requires-clause-idle : goal.pass_moment-requires-clause-idle
+pass_moment-requires-clause-idle c =
+    untold_come c.args.self.now c.requires.sound
+    (λ told.
+    let e = c.has_told.ensures.1 told in let e' = c.if-not-has_told.true in absurd (cc))
 
-pub returns-in-Some-clause-nearer : goal.returns-in-Some-clause-nearer
-returns-in-Some-clause-nearer c =
-    let is : c.args.self.now.kept ≡ Some c.in-Some.message = search rules in
-    omega (arith, ap kept_by is)
+pub pass_moment-requires-clause-empty : goal.pass_moment-requires-clause-empty
+pass_moment-requires-clause-empty c =
+    untold_kept c.args.self.now
+    (λ told.
+    let e = c.has_told.ensures.1 told in let e' = c.if-not-has_told.true in absurd (cc))
 
-pub returns-in-Some-clause-hears : goal.returns-in-Some-clause-hears
-returns-in-Some-clause-hears c = λ t traffic m heard due st. hears_given st
+pub pass_moment-requires-clause-due : goal.pass_moment-requires-clause-due
+pass_moment-requires-clause-due c =
+    elim c.requires.due [
+      | inl told ↦
+          let e = c.has_told.ensures.1 told in let e' = c.if-not-has_told.true in absurd (cc)
+      | inr due ↦ due
+    ]
 
-pub returns-in-Some-clause-left : goal.returns-in-Some-clause-left
-returns-in-Some-clause-left c = λ t traffic m heard at' check due st.
-    left_given t traffic m heard c.args.self.now c.in-Some.message c.message_event.result c.args.at
-    (search rules) at' c.message_event.ensures.value
+pub pass_moment-requires-clause-here : goal.pass_moment-requires-clause-here
+pass_moment-requires-clause-here c =
+    elim c.requires.due [
+      | inl told ↦
+          let e = c.has_told.ensures.1 told in let e' = c.if-not-has_told.true in absurd (cc)
+      | inr due ↦ c.requires.waits.due due
+    ]
 
-pub hear_frame-requires-clause-come : goal.hear_frame-requires-clause-come
-hear_frame-requires-clause-come c =
-    let none : c.args.self.now.kept ≡ None = search rules in
-    (frame_due c.requires.come.0 c.args.self.now c.requires.come.1 none).0
+pub hear_told-event-requires-clause-due : goal.hear_told-event-requires-clause-due
+hear_told-event-requires-clause-due c =
+    let e = c.if-not-has_told.false in
+    c.has_told.ensures.0 (search rules)
+
+pub returns-clause-hears : goal.returns-clause-hears
+returns-clause-hears c = λ t traffic m heard holds check st.
+    let told = c.hear_told-event.ensures in
+    let kept = kept_in t traffic m c.args.self.now heard in
+    let at' = c.taken.ensures.value ∙ holds.taken in
+    let same = ap (λ (k : SetsKeeper). kept_to t traffic m heard k.passed) told.same in
+    let on = hears_noted c.hear_told-event.result
+    (told.hears t traffic m heard kept at' check st) (told.ends ∙ at') in
+    rw (c.note.ensures.value, same) on
+
+pub returns-clause-left : goal.returns-clause-left
+returns-clause-left c = λ t traffic m heard holds check st.
+    let told = c.hear_told-event.ensures in
+    let kept = kept_in t traffic m c.args.self.now heard in
+    let at' = c.taken.ensures.value ∙ holds.taken in
+    let passed = ap (λ (k : SetsKeeper). k.passed) told.same in
+    let left = told.left t traffic m heard kept at' check st in
+    rw (c.note.ensures.value, passed)
+    (ap (λ (es : List Event). es ++ sets_left_of t traffic m heard c.args.self.now.sets.passed)
+    left)
+
+pub returns-then-not-has_told-clause-waits : goal.returns-then-not-has_told-clause-waits
+returns-then-not-has_told-clause-waits c =
+    let gone = c.pass_moment.ensures.due in
+    record { before = c.pass_moment.ensures.waits; due = λ due. absurd (cc) }
+
+pub returns-clause-waits : goal.returns-clause-waits
+returns-clause-waits c =
+    let told = c.hear_told-event.ensures in
+    let note = c.note.ensures.value in
+    let before = c.requires.waits.before in
+    let place = ap coming_place note ∙ ap coming_place told.same in
+    record {
+      before = omega (arith, before, told.waits, place);
+      due = λ due.
+          c.requires.waits.due (sym (ap (λ (k : SetsKeeper). k.due) told.same)
+          ∙ sym (ap (λ (k : SetsKeeper). k.due) note)
+          ∙ due)
+          ∙ sym (ap (λ (k : SetsKeeper). moment_place k.mark (k.passed + 1)) note
+          ∙ ap (λ (k : SetsKeeper). moment_place k.mark (k.passed + 1)) told.same);
+    }
+
+pub returns-then-not-has_told-clause-further : goal.returns-then-not-has_told-clause-further
+returns-then-not-has_told-clause-further c =
+    let moment = c.pass_moment.ensures in
+    omega (arith, moment.next, ap kept_by moment.empty, moment.passed)
+
+pub returns-then-not-has_told-clause-nearer : goal.returns-then-not-has_told-clause-nearer
+returns-then-not-has_told-clause-nearer c =
+    let moment = c.pass_moment.ensures in
+    let due : c.args.self.now.sets.due ≡ true = elim c.requires.due [
+      | inl told ↦
+          let e = c.has_told.ensures.1 told in let e' = c.if-not-has_told.true in absurd (cc)
+      | inr due ↦ due
+    ] in
+    let was = ap {B = ℕ} (λ (b : Bool). if b then 1 else 0) due in
+    let gone = ap {B = ℕ} (λ (b : Bool). if b then 1 else 0) moment.due in
+    omega (arith, moment.next, moment.have, ap kept_by moment.empty, was, gone)
 
 pub returns-clause-further : goal.returns-clause-further
 returns-clause-further c =
-    let none : c.args.self.now.kept ≡ None = search rules in
-    let on = c.hear_frame.ensures.further in
-    omega (arith, ap kept_by none, kept_most c.hear_frame.new.self.kept, on)
+    let further = c.hear_told-event.ensures.further in
+    let passed = ap (λ (k : SetsKeeper). k.passed) c.note.ensures.value in
+    omega (arith, further, passed)
 
 pub returns-clause-nearer : goal.returns-clause-nearer
 returns-clause-nearer c =
-    let none : c.args.self.now.kept ≡ None = search rules in
-    let come = (frame_due c.requires.come.0 c.args.self.now c.requires.come.1 none).0 in
-    let next = c.hear_frame.ensures in
-    omega (
-      arith,
-      ap kept_by none,
-      kept_most c.hear_frame.new.self.kept,
-      next.further,
-      next.have,
-      come,
-    )
+    let nearer = c.hear_told-event.ensures.nearer in
+    let due = ap {B = ℕ} (λ (k : SetsKeeper). if k.due then 1 else 0) c.note.ensures.value in
+    omega (arith, nearer, due)
 
-pub returns-clause-hears : goal.returns-clause-hears
-returns-clause-hears c = λ t traffic m heard due st.
-    let none : c.args.self.now.kept ≡ None = search rules in
-    c.hear_frame.ensures.hears t traffic m heard (frame_due t.count c.args.self.now due none) st
-
-pub returns-clause-left : goal.returns-clause-left
-returns-clause-left c = λ t traffic m heard at' check due st.
-    let none : c.args.self.now.kept ≡ None = search rules in
-    c.hear_frame.ensures.left t traffic m heard at' check
-    (frame_due t.count c.args.self.now due none) st
+pub returns-clause-sound : goal.returns-clause-sound
+returns-clause-sound c =
+    let note = c.note.ensures in
+    sound_sets c.hear_told-event.ensures.sound c.note.new.self note.sound
+    (ap (λ (k : SetsKeeper). k.mark) note.value)

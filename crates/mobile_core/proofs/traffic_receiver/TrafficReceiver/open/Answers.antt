@@ -1,49 +1,93 @@
-use Rattle.std.proofs.Common.{◌≡◌, ◌∙◌, ◌≤◌, ℕ, ◌+◌, ◌*◌, false, ap, subst, refl, arith, length}
-use Rattle.rake_finger.specs.declared.form.Form.TheVariants.{Data}
-use Rattle.mobile_core.specs.Clocks.{clock_from, first_frame}
-use Rattle.mobile_core.specs.Near.{AreNear}
-use Rattle.mobile_core.specs.TrafficStreams.{traffic_stream}
-use Rattle.mobile_core.specs.declared.frame_clock.FrameClock.{FrameClock}
-use Rattle.mobile_core.proofs.FramesHeard.{hears_later, zeros_few}
+use Rattle.std.proofs.Common.{◌≡◌, ◌∙◌, ℕ, ℤ, List, true, ap, sym, subst, arith}
+use Rattle.std.proofs.Common.{take, length-take, [], pos}
+use Rattle.pilot_sets.specs.Standing.{new_standing}
+use Rattle.mobile_core.specs.Close.{AreClose, all_close}
+use Rattle.mobile_core.specs.Legs.{all_fingers, legs_of}
+use Rattle.mobile_core.specs.TrafficReceiving.{HearsTraffic}
+use Rattle.mobile_core.specs.declared.legs.Leg.{Leg}
+use Rattle.mobile_core.specs.declared.sets_keeper.SetsKeeper.{SetsKeeper}
+use Rattle.mobile_core.specs.declared.traffic_receiver.TrafficReceiver.{TrafficReceiver}
+use Rattle.mobile_core.specs.SetsKeeping.{coming_place}
+use Rattle.mobile_core.proofs.FramesOpened.{ends_same, first_paths, hears_new, hears_opened, opened_is}
+use Rattle.mobile_core.proofs.FramesOpened.{paths_some, zeros_few}
+use Rattle.mobile_core.proofs.SoundFrames.{waits_tuned}
 use Rattle.mobile_core.proofs.traffic_receiver.TrafficReceiver.open.Goals as goal
 
 pub returns-clause-sound : goal.returns-clause-sound
 returns-clause-sound c =
-    let value = c.new.ensures.value in
-    let fingers = c.reference_fingers-fingers.ensures in
+    let m = c.args.mark.now in
+    let row = c.args.traffic.now.row in
+    let near = c.args.near.now in
+    let legs = c.legs-legs.ensures in
+    let fingers = c.leg_fingers.ensures in
+    let marked = c.requires.mark in
+    let keeper = c.new-sets.ensures in
+    let legs_is : c.legs-legs.result ≡ legs_of m c.new-sets.result.sets =
+    legs.value ∙ ap (λ (k : SetsKeeper). legs_of k.mark c.new-sets.result.sets) keeper.value in
+    let first : all_close (all_fingers c.args.phase (take near.count near.deltas)
+    (legs_of m (new_standing m.pn row))) ≡ true =
+    sym (ap all_close (fingers.value
+    ∙ ap (all_fingers c.args.phase (take near.count near.deltas))
+    (legs_is ∙ ap (λ (k : SetsKeeper). legs_of m k.sets) keeper.value)))
+    ∙ fingers.close in
     record {
-      clocked = c.new.ensures.sound;
-      form_is = rw value refl;
-      near = fingers.near;
-      begun = c.new.ensures.begun;
-      ends = rw value refl;
-      few = fingers.most;
-      rows = fingers.rows;
+      keeper = keeper.sound;
+      next_have = omega arith;
+      have_most = omega arith;
+      start_least = rw keeper.value (omega arith);
+      start_most = omega (arith, marked.early, c.requires.offset, c.from.ensures);
+      some = legs.some;
+      few = legs.few;
+      least = c.requires.least;
+      most = c.requires.most;
+      legs_close = legs.close;
+      legs_rows = legs.rows;
+      path_some = omega (
+        arith,
+        length-take near.count near.deltas,
+        c.requires.least,
+        paths_some near.deltas (pos 0) c.requires.first,
+      );
+      paths = first_paths m row c.args.phase (take near.count near.deltas) first;
+      fingers_close = subst AreClose fingers.value
+          (record { some = fingers.least; close = fingers.close });
+      ends = ends_same _ _ _ _ c.frames_end.ensures fingers.value;
       masked = c.of_traffic.ensures.below;
       small = omega (arith, zeros_few);
+      subchannels = omega (arith, c.empty.ensures.count);
     }
 
 pub returns-clause-hears : goal.returns-clause-hears
 returns-clause-hears c = λ t heard phase deltas within early.
     let m = c.args.mark.now in
     let traffic = c.args.traffic.now in
-    let s = traffic_stream t traffic m in
-    let clock = c.new.result in
-    let first : ℕ = m.sample + 1536 * c.from.result in
-    let fingers_are : c.reference_fingers-fingers.result ≡ s.fingers =
-    c.reference_fingers-fingers.ensures.value ∙ rw (phase, deltas) refl in
-    let near : AreNear s.fingers =
-    subst AreNear fingers_are c.reference_fingers-fingers.ensures.near in
-    let first_is : first ≡ s.first = ap (λ (n : ℕ). m.sample + 1536 * n) c.from.ensures in
-    let clock_is : clock ≡ clock_from s.fingers Data false s.first
-    (first_frame s.fingers s.first) =
-    c.new.ensures.value
-    ∙ ap (λ fs. clock_from fs Data false first (first_frame fs first)) fingers_are
-    ∙ ap (λ n. clock_from s.fingers Data false n (first_frame s.fingers n)) first_is in
-    let starts : clock.start ≡ s.first + 24576 * first_frame s.fingers s.first =
-    ap (λ (k : FrameClock). k.start) clock_is in
-    let ends = c.new.ensures.sound.start_end in
-    let most : length heard ≤ clock.end = omega (arith, early, starts, ends) in
+    let near = c.args.near.now in
+    let fingers = c.leg_fingers.ensures in
+    let keeper = c.new-sets.ensures in
     let scrambling = c.of_traffic.ensures in
-    hears_later t traffic m _ heard near fingers_are clock_is scrambling.state scrambling.mask
-    within most c.new-2.ensures
+    let legs_is = c.legs-legs.ensures.value
+    ∙ ap (λ (k : SetsKeeper). legs_of k.mark k.sets) keeper.value in
+    let shape = opened_is t traffic m _ c.frames_end.result near c.of_traffic.result _
+    c.empty.result c.new.result heard c.legs-legs.result c.args.phase c.new-sets.result legs_is
+    (sym phase) keeper.value in
+    let first : List Leg = legs_of m (new_standing m.pn traffic.row) in
+    let fingers_are = fingers.value
+    ∙ ap (all_fingers c.args.phase (take near.count near.deltas)) legs_is
+    ∙ ap (λ (p : ℕ). all_fingers p (take near.count near.deltas) first) (sym phase)
+    ∙ ap (λ (ds : List ℤ). all_fingers t.phase ds first) (sym deltas) in
+    let close = subst AreClose fingers_are
+    (record { some = fingers.least; close = fingers.close }) in
+    subst (λ (r : TrafficReceiver). HearsTraffic t traffic m r heard []) (sym shape)
+    (hears_new t traffic m _ c.frames_end.result near c.of_traffic.result _ c.empty.result
+    c.new.result heard
+    (hears_opened t traffic m _ c.frames_end.result near c.of_traffic.result _ c.empty.result
+    c.new.result heard (sym deltas) scrambling.state scrambling.mask c.requires.offset
+    (omega (arith, c.from.ensures)) close within early c.new.ensures))
+
+pub returns-clause-begins : goal.returns-clause-begins
+returns-clause-begins c =
+    let fingers = c.leg_fingers.ensures in
+    let ends = waits_tuned _ c.frames_end.result c.args.mark.now.sample c.leg_fingers.result
+    (record { some = fingers.least; close = fingers.close }) c.frames_end.ensures (omega arith) in
+    let place = ap coming_place c.new-sets.ensures.value in
+    omega (arith, ends, place)

@@ -1,51 +1,60 @@
-use Rattle.std.proofs.Common.{◌≡◌, ℕ, ◌+◌, length, ◌∙◌, sym, ap, refl, arith}
-use Rattle.rake_finger.specs.Soft.{frame_chips}
-use Rattle.rake_finger.specs.declared.form.Form.TheVariants.{Data}
-use Rattle.mobile_core.specs.TrafficEvents.{unturned_softs}
-use Rattle.mobile_core.proofs.FingerTimes.{in_ring, ends_step, begun_on}
-use Rattle.mobile_core.proofs.FramesHeard.{hears_come}
-use Rattle.mobile_core.proofs.SoftSums.{frame_small}
+use Rattle.std.proofs.Common.{◌∙◌, arith, sym, ap, subst, inr}
+use Rattle.std.proofs.lemmas.Bool.{false_from_ne_true}
+use Rattle.mobile_core.specs.SetsKeeping.{coming_place}
+use Rattle.mobile_core.specs.TrafficReceiving.{HearsTraffic}
+use Rattle.mobile_core.specs.declared.mark.Mark.{Mark}
+use Rattle.mobile_core.specs.declared.sets_keeper.SetsKeeper.{SetsKeeper}
+use Rattle.mobile_core.proofs.FramesHeard.{hears_due, none_come}
+use Rattle.mobile_core.proofs.SoundFrames.{came_here, sound_sets}
 use Rattle.mobile_core.proofs.traffic_receiver.TrafficReceiver.take_ended.Goals as goal
 
-pub combine_into-requires-clause-ring : goal.combine_into-requires-clause-ring
-combine_into-requires-clause-ring c =
-    let sound = c.requires.sound in
-    let k = c.args.self.now in
-    let ended : c.args.ring.now.taken ≡ k.clock.end =
-    sym (c.taken.ensures.value) ∙ sym (c.if-end-taken.true) ∙ c.end.ensures in
-    rw (c.form.ensures, sound.form_is, c.start.ensures)
-    (in_ring c.args.ring.now Data k.clock.start k.fingers sound.near sound.begun c.requires.room
-    (ended ∙ sound.ends))
+pub take_frame-requires-clause-idle : goal.take_frame-requires-clause-idle
+take_frame-requires-clause-idle c =
+    none_come c.args.self.now c.requires.sound c.requires.idle
 
-pub returns-then-end-taken-clause-sound : goal.returns-then-end-taken-clause-sound
-returns-then-end-taken-clause-sound c =
-    let sound = c.requires.sound in
-    let k = c.args.self.now in
-    let chips : ℕ = frame_chips k.clock.form in
-    let come = c.advance.ensures.value in
-    let bound = c.combine_into.ensures.bound in
-    let few = frame_small c.form.result (length k.fingers) sound.few in
-    rw come (record {
-      clocked = rw come at c.advance.ensures.sound;
-      form_is = sound.form_is;
-      near = sound.near;
-      begun = begun_on k.clock.start chips k.fingers sound.begun;
-      ends = rw sound.form_is (ap (λ (n : ℕ). n + 24576) sound.ends
-          ∙ sym (ends_step Data k.clock.start k.fingers sound.near));
-      few = sound.few;
-      rows = sound.rows;
-      masked = sound.masked;
-      small = omega (arith, bound, few);
-    })
+pub come-requires-clause-idle : goal.come-requires-clause-idle
+come-requires-clause-idle c =
+    ap (λ (k : SetsKeeper). k.due) c.take_frame.ensures.sets
+    ∙ false_from_ne_true c.args.self.now.sets.due (λ due. c.requires.idle (inr due))
 
-pub returns-then-end-taken-clause-stands : goal.returns-then-end-taken-clause-stands
-returns-then-end-taken-clause-stands c = λ t traffic m heard holds none st.
-    let k = c.args.self.now in
-    let is = st.clocked in
-    let out = c.combine_into.new.out in
-    let combined : out ≡ unturned_softs t traffic m heard k.clock.have =
-    c.combine_into.ensures.value heard holds
-    ∙ rw (c.form.ensures, c.start.ensures, st.fingers_are, is.form_is, is.start_is) refl in
-    let ended : k.clock.end ≡ length heard =
-    sym (c.end.ensures) ∙ c.if-end-taken.true ∙ c.taken.ensures.value ∙ holds.taken in
-    rw (c.advance.ensures.value) (hears_come st out none ended combined)
+pub come-requires-clause-ended : goal.come-requires-clause-ended
+come-requires-clause-ended c =
+    let ended = c.requires.ended in
+    omega (arith, ended, c.taken.ensures.value, ap coming_place c.take_frame.ensures.sets)
+
+pub returns-clause-waits : goal.returns-clause-waits
+returns-clause-waits c =
+    let come = c.come.ensures in
+    let sets = c.take_frame.ensures.sets in
+    let idle = ap (λ (k : SetsKeeper). k.due) sets
+    ∙ false_from_ne_true c.args.self.now.sets.due (λ due. c.requires.idle (inr due)) in
+    let taken = c.taken.ensures.value in
+    record {
+      before = omega (arith, c.take_frame.ensures.waits, come.waits, taken);
+      due = λ due. sym taken
+          ∙ came_here c.take_frame.new.self.sets c.come.new.self c.taken.result idle come.same
+          (come.due.0 due);
+    }
+
+pub returns-clause-sound : goal.returns-clause-sound
+returns-clause-sound c =
+    let come = c.come.ensures in
+    sound_sets c.take_frame.ensures.sound c.come.new.self come.sound
+    (ap (λ (k : SetsKeeper). k.mark) come.same)
+
+pub returns-clause-stands : goal.returns-clause-stands
+returns-clause-stands c = λ t traffic m heard pages holds st.
+    let come = c.come.ensures in
+    let mid = c.take_frame.new.self in
+    let idle = ap (λ (k : SetsKeeper). k.due) c.take_frame.ensures.sets
+    ∙ false_from_ne_true c.args.self.now.sets.due (λ due. c.requires.idle (inr due)) in
+    let on = c.take_frame.ensures.stands t traffic m heard pages holds st in
+    let passed = ap (λ (k : SetsKeeper). k.passed) come.same in
+    let mark = ap (λ (k : SetsKeeper). k.mark.sample) come.same in
+    let here = ap (λ (x : Mark). x.sample) on.mark_is in
+    subst (λ (k : SetsKeeper). HearsTraffic t traffic m (record mid { sets = k }) heard pages)
+    (sym come.same)
+    (hears_due on c.take_frame.ensures.sound c.come.new.self.due
+    (λ due.
+    let came = came_here mid.sets c.come.new.self c.taken.result idle come.same (come.due.0 due) in
+    omega (arith, came, passed, mark, here, holds.taken, c.taken.ensures.value)))

@@ -1,0 +1,65 @@
+-- What was found in the first samples of a file, and what is told of it.
+use Rattle.std.specs.Prelude.{◌≡◌, ℕ, ◌≤◌, List, take, Option, None, Some}
+use Rattle.chip_core.specs.declared.sample.Sample.{Sample}
+use Rattle.cdma_words.specs.Words.{IsBase, IsTop, IsWidth}
+use Rattle.pilot_search.specs.BestIn.{IsBestIn}
+use Rattle.pilot_search.specs.declared.sweeping.Best.{Best}
+use Rattle.pilot_survey.specs.Survey.{ranking}
+use Rattle.mobile_core.specs.declared.event.Event.{Event}
+use Rattle.mobile_core.specs.declared.event.Event.TheVariants as told
+use Rattle.event_tap.specs.EventLines.{event_line}
+use Rattle.event_tap.specs.Taps.{KeptTap, heard_text, taps_behind}
+use Rattle.cdma_replay.specs.Hearing.{IsLawfulReceiver}
+use Rattle.cdma_replay.specs.Ranks.{ranks_text}
+use Rattle.cdma_replay.specs.declared.handset.Receiver.{Receiver}
+use Rattle.cdma_replay.specs.declared.opening.Shown.{Shown}
+use Rattle.cdma_replay.specs.declared.opening.Shown.TheVariants.{Followed, Found, Ranks}
+use Rattle.cdma_replay.specs.declared.purpose.Purpose.{Purpose}
+use Rattle.cdma_replay.specs.declared.purpose.Purpose.TheVariants.{Find, Follow, Survey}
+
+-- a receiver, or the numbers of a survey, as words name them
+abbrev pub IsLawfulPurpose : Purpose → Type 0
+IsLawfulPurpose Find = Unit {0}
+IsLawfulPurpose (Follow receiver) = IsLawfulReceiver receiver
+IsLawfulPurpose (Survey base width top) = IsBase base × IsWidth width × IsTop top
+
+-- the phase of greatest energy of all
+abbrev pub IsBest : List Sample → Best → Type 0
+IsBest first best = IsBestIn first 0 32768 best.phase best.energy
+
+-- what a purpose wants of the first samples was found in them
+abbrev pub Shows : Purpose → List Sample → Shown → Type 0
+Shows Find first (Found best) = IsBest first best
+Shows (Follow receiver) first (Followed best other) = IsBest first best × (other ≡ receiver)
+Shows (Survey base width top) first (Ranks ranks count) =
+    (ranks ≡ ranking first base width) × (count ≡ top)
+Shows purpose first shown = ⊥
+
+-- the handset that follows it, if one does
+abbrev pub receiver_in : Shown → Option Receiver
+receiver_in (Followed best receiver) = Some receiver
+receiver_in shown = None
+
+-- a handset can follow it, where one does
+abbrev pub IsFollowable : List Sample → Shown → Type 0
+IsFollowable first (Followed best receiver) = IsBest first best × IsLawfulReceiver receiver
+IsFollowable first shown = Unit {0}
+
+-- there are as many ranks as are told
+abbrev pub IsTellable : Shown → Type 0
+IsTellable (Ranks ranks top) = top ≤ 512
+IsTellable shown = Unit {0}
+
+abbrev pub pilot_event : Best → Event
+pilot_event best = told.Pilot best.phase best.energy
+
+-- the text that tells of it, by these taps
+abbrev pub shown_text : List KeptTap → Shown → List ℕ
+shown_text taps (Found best) = event_line (pilot_event best)
+shown_text taps (Followed best receiver) = heard_text taps (pilot_event best)
+shown_text taps (Ranks ranks top) = ranks_text (take top ranks)
+
+-- the taps that are kept behind it
+abbrev pub taps_after : List KeptTap → Shown → List KeptTap
+taps_after taps (Followed best receiver) = taps_behind taps (pilot_event best)
+taps_after taps shown = taps

@@ -1,0 +1,139 @@
+//! What the first samples of a file show, and how it is told.
+
+ghost use Rattle.std.specs.Prelude.{◌≡◌, ◌≤◌, [], All, IfOk, OnErr, OnOk, length};
+ghost use Rattle.std.specs.Io.KnownBytes.{Appends};
+ghost use Rattle.cdma_io.specs.Outside.{AppendsPrefix, HasCause};
+ghost use Rattle.cdma_io.specs.SampleFile.{IsLawfulHeader};
+ghost use Rattle.cdma_words.specs.Words.{IsWorkers};
+ghost use Rattle.event_tap.specs.Taps.{IsKept};
+ghost use Rattle.cdma_replay.specs.Hearing.{HasHeard, HasRoom, tuning_of};
+ghost use Rattle.cdma_replay.specs.Openings.{IsFollowable, IsLawfulPurpose, IsTellable, Shows};
+ghost use Rattle.cdma_replay.specs.Openings.{pilot_event, receiver_in, shown_text, taps_after};
+
+use crate::handset::{Receiver, handset};
+use crate::purpose::Purpose;
+use crate::ranks::write_ranks;
+use cdma_io::{Failed, Header, Sink};
+use chip_core::{OutOfMemory, Phase, Sample};
+use event_tap::{KeepsTaps, write_event};
+use mobile_core::{Event, Mobile};
+use pilot_search::{Best, Gate, near, search};
+use pilot_survey::{Survey, survey};
+use short_code::Codes;
+use std::alloc::Global;
+use std::thread::Threads;
+
+/// What was found in the first samples of a file.
+#[derive(Drop)]
+pub enum Shown {
+    /// The pilot, which no handset follows.
+    Found(Best),
+    /// The pilot that a handset follows.
+    Followed {
+        /// Its phase, with the energy there.
+        best: Best,
+        /// How the handset receives.
+        receiver: Receiver,
+    },
+    /// How strong each pilot is.
+    Ranks {
+        /// The ranks of all pilots.
+        ranks: Survey,
+        /// How many of them are told.
+        top: u16,
+    },
+}
+
+/// What a purpose wants of the first samples of a file.
+pub fn find_first<R: Threads + Sync, G: Gate + Sync>(
+    rt: &R,
+    alloc: Global,
+    purpose: Purpose,
+    codes: &Codes,
+    first: &[Sample],
+    workers: u8,
+    gate: &G,
+) -> Result<Shown, OutOfMemory>
+    requires few { length first.now ≤ 32768 }
+    requires purpose { IsLawfulPurpose purpose }
+    requires workers { IsWorkers workers }
+    ensures shown { IfOk result (Shows purpose first.now) }
+    ensures followable { IfOk result (IsFollowable first.now) }
+    ensures tellable { IfOk result IsTellable }
+{
+    match purpose {
+        Purpose::Find => {
+            let best = search(rt, alloc, first, codes, workers, gate)?;
+            Ok(Shown::Found(best))
+        }
+        Purpose::Follow(receiver) => {
+            let best = search(rt, alloc, first, codes, workers, gate)?;
+            Ok(Shown::Followed { best, receiver })
+        }
+        Purpose::Survey { base, width, top } => {
+            let base = Phase::new(base).unwrap();
+            let ranks = survey(rt, alloc, first, codes, base, width, workers, gate)?;
+            Ok(Shown::Ranks { ranks, top })
+        }
+    }
+}
+
+/// A handset for a file of this header, where one follows the pilot that was found in its first
+/// samples.
+pub fn handset_for(
+    alloc: Global,
+    header: Header,
+    codes: &Codes,
+    first: &[Sample],
+    shown: &Shown,
+) -> Result<Option<Mobile>, OutOfMemory>
+    requires few { length first.now ≤ 32768 }
+    requires header { IsLawfulHeader header }
+    requires shown { IsFollowable first.now shown.now }
+    ensures heard { IfOk result (λ handset.
+        HasHeard (tuning_of header first.now (receiver_in shown.now)) handset [] []) }
+    ensures room { IfOk result (λ handset. HasRoom handset header.count) }
+{
+    match shown {
+        Shown::Followed { best, receiver } => {
+            let paths = near(first, codes, *best, receiver.fingers);
+            let mobile = handset(alloc, header, *receiver, *best, paths)?;
+            Ok(Some(mobile))
+        }
+        Shown::Found(_) | Shown::Ranks { .. } => Ok(None),
+    }
+}
+
+/// The event of the pilot that was found.
+fn event_of(best: &Best) -> Event
+    ensures { result ≡ pilot_event best.now }
+{
+    Event::Pilot {
+        phase: best.phase,
+        energy: best.energy,
+    }
+}
+
+/// Tells what was found: the taps hear the pilot that a handset follows; and else its line is
+/// written, or those of the ranks.
+pub fn tell_first<T: KeepsTaps, K: Sink>(
+    shown: &Shown,
+    taps: &mut T,
+    sink: &mut K,
+) -> Result<(), Failed>
+    requires shown { IsTellable shown.now }
+    requires kept { All IsKept (T.kept taps.old) }
+    ensures ok { OnOk result (Appends (K.written sink.old) (K.written sink.new)
+        (shown_text (T.kept taps.old) shown.now)) }
+    ensures behind { OnOk result (T.kept taps.new ≡ taps_after (T.kept taps.old) shown.now) }
+    ensures kept { All IsKept (T.kept taps.new) }
+    ensures err { OnErr result (AppendsPrefix (K.written sink.old) (K.written sink.new)
+        (shown_text (T.kept taps.old) shown.now)) }
+    ensures cause { HasCause (K.faults sink.old) (K.faults sink.new) result }
+{
+    match shown {
+        Shown::Found(best) => write_event(&event_of(best), sink),
+        Shown::Followed { best, .. } => taps.tell(&event_of(best), sink),
+        Shown::Ranks { ranks, top } => write_ranks(ranks, *top, sink),
+    }
+}

@@ -1,0 +1,21 @@
+//! What a sample file is received for.
+
+use crate::handset::Receiver;
+
+/// What is wanted of a sample file.
+#[derive(Clone, Copy, PartialEq, Eq, Debug)]
+pub enum Purpose {
+    /// The pilot alone.
+    Find,
+    /// The pilot, and what a handset hears.
+    Follow(Receiver),
+    /// How strong each pilot is.
+    Survey {
+        /// The phase of the pilot of offset 0, below 32,768.
+        base: u16,
+        /// How many chips round its own phase each pilot is measured, at most 31.
+        width: u8,
+        /// How many ranks are told, 1 to 512.
+        top: u16,
+    },
+}

@@ -1,0 +1,73 @@
+-- Where no message that is sent directs a handoff, none that is heard does.
+use Rattle.std.proofs.Common.{◌≡◌, ℕ, zero, suc, ◌+◌, ◌<◌, ◌≤◌, List, length, sym, arith, subst}
+use Rattle.std.proofs.Common.{inl, inr}
+use Rattle.std.specs.Prelude.{All}
+use Rattle.std.proofs.lemmas.Bool.{cases_lt}
+use Rattle.chip_core.specs.Bits.{places}
+use Rattle.chip_core.specs.declared.sample.Sample.{Sample}
+use Rattle.cdma_io.specs.declared.width.Width.{Width}
+use Rattle.base_modulator.specs.Sampled.{made_samples}
+use Rattle.base_modulator.specs.declared.plan.CellPlan.{CellPlan}
+use Rattle.base_modulator.specs.declared.plan.TrafficPlan.{TrafficPlan}
+use Rattle.mobile_core.specs.Moments.{messages_at}
+use Rattle.mobile_core.specs.Signaling.{messages_by}
+use Rattle.mobile_core.specs.Tuning.{Tuning}
+use Rattle.mobile_core.specs.declared.legs.Leg.{Leg}
+use Rattle.mobile_core.specs.declared.mark.Mark.{Mark}
+use Rattle.mobile_core.specs.declared.settings.Traffic.{Traffic}
+use Rattle.clean_link.specs.CleanLink.{IsNotDirected}
+use Rattle.clean_link.specs.HeardFrames.{AreDistinct}
+use Rattle.clean_link.specs.HeardSignals.{messages_of_channel}
+use Rattle.clean_link.specs.TrafficLaws.{HearsTraffic, NoneIsDirected}
+use Rattle.clean_link.proofs.signal.Samples.{length-made}
+use Rattle.clean_link.proofs.traffic.Signaling.{messages_by_one}
+use Rattle.clean_link.proofs.traffic.Signs.{lawful_traffic}
+use Rattle.clean_link.proofs.traffic.Steady.{each_of_all, one_pilot_before}
+use Rattle.clean_link.proofs.traffic.Undirected.{first_legs, first_pilot, messages_of_one}
+
+module _ (width : Width) (plan : CellPlan) (p : TrafficPlan) (t : Tuning) (traffic : Traffic)
+    (m : Mark) (superframes : ℕ) (is : HearsTraffic width plan p t traffic m superframes)
+    (latest : p.offset ≤ 15) (some : 1 ≤ length p.frames)
+    (distinct : AreDistinct plan p (plan.link.start + m.sample))
+    (none : All IsNotDirected (messages_of_channel plan p (plan.link.start + m.sample))) where
+  abbrev samples : List Sample
+  samples = made_samples plan
+
+  abbrev legs : ℕ → List Leg
+  legs = first_legs traffic m
+
+  -- the one pilot tells what is sent
+  none_of_one : (n : ℕ) → n ≤ plan.link.samples →
+      All IsNotDirected (messages_by t traffic m legs samples n)
+  unfolding places
+  none_of_one n most =
+      let sent = messages_by_one width plan p t traffic m superframes is latest some distinct legs
+      (first_pilot traffic m) in
+      each_of_all IsNotDirected (messages_by t traffic m legs samples) 0 (plan.link.samples + 1) n
+      (omega arith) (omega (arith, most)) (subst (All IsNotDirected) (sym sent) none)
+
+  -- and it is heard alone at a number of samples where no message before it is a direction
+  none_before : (n : ℕ) → n ≤ plan.link.samples + 1 → (i : ℕ) → i < n →
+      All IsNotDirected (messages_at t traffic m samples i)
+  none_before zero most i less = absurd (omega (arith, less))
+  none_before (suc n) most i less =
+      let before = none_before n (omega (arith, most)) in
+      elim (cases_lt i n) [
+        | inl earlier ↦ before i earlier
+        | inr last ↦
+            let here : n ≡ i = omega (arith, less, last) in
+            let made = length-made plan in
+            let heard = messages_of_one t traffic m legs samples (first_pilot traffic m) n
+            (omega (arith, most, made))
+            (λ k. one_pilot_before t traffic m samples n k before) is.tuned.alone in
+            subst (λ (j : ℕ). All IsNotDirected (messages_at t traffic m samples j)) here
+            (subst (All IsNotDirected) (sym heard) (none_of_one n (omega (arith, most))))
+      ]
+
+-- ---- the law
+
+pub none_directed : NoneIsDirected
+none_directed width plan p t traffic m superframes is distinct none i most =
+    let lawful = lawful_traffic width plan p is.receivable.lawful is.sent in
+    none_before width plan p t traffic m superframes is lawful.latest lawful.some distinct none
+    (plan.link.samples + 1) (omega arith) i (omega (arith, most))

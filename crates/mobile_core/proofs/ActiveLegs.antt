@@ -1,0 +1,193 @@
+-- The active pilots of sets in order, actives a traffic channel is heard from them.
+use Rattle.std.proofs.Common.{◌≡◌, ℕ, zero, suc, ◌+◌, ◌*◌, ◌<◌, ◌≤◌, ◌==◌, Bool, true, false}
+use Rattle.std.proofs.Common.{List, [], ◌∷◌, ◌++◌, length, map, refl, sym, ap, arith, Some, slice_get}
+use Rattle.std.proofs.Common.{nat_lt, nat_le, ℤ, pos, get_or, All, inl, inr, cond, slice_set, replicate}
+use Rattle.std.proofs.Common.{subst, Option, None}
+use Rattle.std.specs.Prelude.{unsigned_abs, nat_eq, if◌then◌else◌}
+use Rattle.std.proofs.lemmas.Bool.{and_from, cases_Bool, cases_lt, eqb-true, eqb-false, eq-eqb}
+use Rattle.std.proofs.lemmas.Bool.{ne_eqb, le-leb, le-ltb, lt-ltb}
+use Rattle.std.proofs.lemmas.List.Elements.{All-set}
+use Rattle.pilot_sets.specs.Orderly.{IsOrderly, IsStanding, times, times_in}
+use Rattle.pilot_sets.specs.Orderly as orderly
+use Rattle.pilot_sets.specs.PilotSets.{pilots_of_actives}
+use Rattle.pilot_sets.specs.Handoffs.{handed_off}
+use Rattle.pilot_sets.specs.Standing.{Standing, began_in, deltas_with, due_at, due_for, shown}
+use Rattle.pilot_sets.specs.Standing.{shown_active}
+use Rattle.pilot_sets.specs.declared.lists.Active.{Active}
+use Rattle.pilot_sets.specs.declared.standing.Accepted.{Accepted}
+use Rattle.pilot_sets.specs.declared.standing.ActivePilot.{ActivePilot}
+use Rattle.pilot_sets.specs.declared.standing.PilotSets.{PilotSets}
+use Rattle.pilot_sets.specs.declared.strengths.Strength.{Strength}
+use Rattle.mobile_core.specs.Close.{is_close, legs_close, legs_rows, places_for, places_in}
+use Rattle.mobile_core.specs.Legs.{leg_of, legs_of}
+use Rattle.mobile_core.specs.declared.mark.Mark.{Mark}
+
+-- HOW OFTEN A PILOT IS ACTIVE
+pilots_shown : (actives : List ActivePilot) →
+    map (λ (a : Active). a.pilot) (map shown_active actives) ≡ pilots_of_actives actives
+pilots_shown [] = refl
+pilots_shown (a ∷ actives) = ap (λ (ps : List ℕ). a.pilot ∷ ps) (pilots_shown actives)
+
+once_most : (p : ℕ) → orderly.places_for p ≤ 1
+once_most p =
+    elim (cases_Bool (nat_lt p 512)) [ inl e ↦ rw e (omega arith) | inr e ↦ rw e (omega arith) ]
+
+offset_low : (p : ℕ) → 1 ≤ orderly.places_for p → p < 512
+offset_low p h =
+    elim (cases_lt p 512) [
+      | inl less ↦ less
+      | inr more ↦
+          let none : nat_lt p 512 ≡ false = le-ltb p 512 more in
+          absurd (omega (arith, rw none at h))
+    ]
+
+pub active_once : (s : PilotSets) → IsOrderly s → (p : ℕ) →
+    times p (map (λ (a : Active). a.pilot) (map shown_active s.active)) ≤ 1
+active_once s is p =
+    let same = ap (times p) (pilots_shown s.active) in
+    omega (arith, same, is.once p, once_most p)
+
+member_times : (actives : List ActivePilot) (i : ℕ) (a : Active) →
+    slice_get (map shown_active actives) i ≡ Some a → 1 ≤ times a.pilot (pilots_of_actives actives)
+member_times [] i a e = absurd (cc)
+member_times (x ∷ actives) zero a e =
+    let same : shown_active x ≡ a = cc in
+    let here : x.pilot ≡ a.pilot = ap (λ (y : Active). y.pilot) same in
+    let hit : nat_eq a.pilot x.pilot ≡ true = eq-eqb a.pilot x.pilot (sym here) in
+    rw hit (omega arith)
+member_times (x ∷ actives) (suc i) a e =
+    let rest = member_times actives i a e in
+    omega (arith, rest)
+
+-- an active pilot is an offset
+pub active_offset : (s : PilotSets) → IsOrderly s → (i : ℕ) (a : Active) →
+    slice_get (map shown_active s.active) i ≡ Some a → a.pilot < 512
+active_offset s is i a read =
+    let here = member_times s.active i a read in
+    offset_low a.pilot (omega (arith, here, is.once a.pilot))
+
+-- PLACES
+one_place : (m : Mark) (deltas : List ℤ) (a : Active) →
+    places_for (leg_of m deltas a) ≡ 1 + 2 * (cond (nat_eq m.pn a.pilot) 1 0)
+one_place m deltas a =
+    elim (cases_Bool (a.pilot == m.pn)) [
+      | inl e ↦
+          let same : nat_eq m.pn a.pilot ≡ true =
+          eq-eqb m.pn a.pilot (sym (eqb-true a.pilot m.pn e)) in
+          rw (e, same) refl
+      | inr e ↦
+          let other : nat_eq m.pn a.pilot ≡ false =
+          ne_eqb m.pn a.pilot (λ same. eqb-false a.pilot m.pn e (sym same)) in
+          rw (e, other) refl
+    ]
+
+places_are : (m : Mark) (deltas : List ℤ) (actives : List Active) →
+    places_in (map (leg_of m deltas) actives)
+    ≡ length actives + 2 * times m.pn (map (λ (a : Active). a.pilot) actives)
+places_are m deltas [] = omega arith
+places_are m deltas (a ∷ actives) =
+    let one = one_place m deltas a in
+    let rest = places_are m deltas actives in
+    omega (arith, one, rest)
+
+-- three for the reference's pilot, and one for each other
+pub places_few : (m : Mark) (s : Standing) → IsStanding s.sets s.deltas →
+    length (shown s) ≤ 6 → places_in (legs_of m s) ≤ 8
+places_few m s is few =
+    let once = active_once s.sets is.sets m.pn in
+    let all = places_are m s.deltas (shown s) in
+    omega (arith, all, once, few)
+
+-- CLOSE FINGERS WITH ROWS
+pub get_close : (deltas : List ℤ) (i : ℕ) → All (λ d. unsigned_abs d ≤ 226) deltas →
+    nat_le (unsigned_abs (get_or deltas i (pos 0))) 226 ≡ true
+get_close [] i h = refl
+get_close (x ∷ deltas) zero h = le-leb (unsigned_abs x) 226 (h 0 (pos 0) (omega arith))
+get_close (x ∷ deltas) (suc i) h =
+    get_close deltas i (λ k d less. h (suc k) d (omega (arith, less)))
+
+all_legs_close : (m : Mark) (deltas : List ℤ) (actives : List Active) →
+    All (λ d. unsigned_abs d ≤ 226) deltas → legs_close (map (leg_of m deltas) actives) ≡ true
+all_legs_close m deltas [] h = refl
+all_legs_close m deltas (a ∷ actives) h =
+    and_from (is_close (leg_of m deltas a).finger) (legs_close (map (leg_of m deltas) actives))
+    (get_close deltas a.pilot h) (all_legs_close m deltas actives h)
+
+pub active_close : (m : Mark) (s : Standing) → All (λ d. unsigned_abs d ≤ 226) s.deltas →
+    legs_close (legs_of m s) ≡ true
+active_close m s h = all_legs_close m s.deltas (shown s) h
+
+all_legs_rows : (m : Mark) (deltas : List ℤ) (actives : List Active) →
+    All (λ (a : Active). a.row < 64) actives → legs_rows (map (leg_of m deltas) actives) ≡ true
+all_legs_rows m deltas [] h = refl
+all_legs_rows m deltas (a ∷ actives) h =
+    and_from (nat_lt a.row 64) (legs_rows (map (leg_of m deltas) actives))
+    (lt-ltb a.row 64 (h 0 a (omega arith)))
+    (all_legs_rows m deltas actives (λ k d less. h (suc k) d (omega (arith, less))))
+
+pub active_rows : (m : Mark) (s : Standing) → All (λ (a : Active). a.row < 64) (shown s) →
+    legs_rows (legs_of m s) ≡ true
+active_rows m s h = all_legs_rows m s.deltas (shown s) h
+
+-- DELTAS
+-- those that were measured are close actives the others
+pub deltas_close : (strengths : List Strength) (deltas : List ℤ) →
+    All (λ (s : Strength). unsigned_abs s.delta ≤ 226) strengths →
+    All (λ d. unsigned_abs d ≤ 226) deltas →
+    All (λ d. unsigned_abs d ≤ 226) (deltas_with strengths deltas)
+deltas_close [] deltas fresh h = h
+deltas_close (s ∷ strengths) deltas fresh h =
+    deltas_close strengths (slice_set deltas s.pilot s.delta)
+    (λ k d less. fresh (suc k) d (omega (arith, less)))
+    (All-set (λ (d : ℤ). unsigned_abs d ≤ 226) deltas s.pilot s.delta
+    (fresh 0 s (omega arith)) h)
+
+-- no pilot was measured
+pub zeros_close : (n : ℕ) → All (λ d. unsigned_abs d ≤ 226) (replicate n (pos 0))
+zeros_close zero = λ k d less. absurd (omega (arith, less))
+zeros_close (suc n) = each n (zeros_close n)
+  where
+    each : (n : ℕ) → All (λ d. unsigned_abs d ≤ 226) (replicate n (pos 0)) →
+        All (λ d. unsigned_abs d ≤ 226) (replicate (suc n) (pos 0))
+    each n rest zero d less = omega arith
+    each n rest (suc k) d less = rest k d (omega (arith, less))
+
+-- a direction leaves them
+chosen_deltas : (b : Bool) (s s' : Standing) → s.deltas ≡ s'.deltas →
+    (if b then s else s').deltas ≡ s'.deltas
+chosen_deltas true s s' same = same
+chosen_deltas false s s' same = refl
+
+waiting_deltas : (waiting : Option Accepted) (time : ℕ) (s : Standing) →
+    (due_for waiting time s).deltas ≡ s.deltas
+waiting_deltas None time s = refl
+waiting_deltas (Some direction) time s =
+    chosen_deltas (direction.time == time)
+    (record s { sets = handed_off time direction s.sets; began = Some (began_in s) }) s refl
+
+pub due_deltas : (time : ℕ) (s : Standing) → (due_at time s).deltas ≡ s.deltas
+due_deltas time s = waiting_deltas s.sets.waiting time s
+
+-- LISTS WHOSE ELEMENTS ALL HAVE A PROPERTY
+pub all_push : {X : Type 0} (P : X → Type 0) (xs : List X) (x : X) → All P xs → P x →
+    All P (xs ++ x ∷ [])
+all_push P [] x h here = only
+  where
+    only : All P (x ∷ [])
+    only zero d less = here
+    only (suc k) d less = absurd (omega (arith, less))
+all_push {X} P (y ∷ xs) x h here =
+    each (all_push P xs x (λ k d less. h (suc k) d (omega (arith, less))) here)
+  where
+    each : All P (xs ++ x ∷ []) → All P (y ∷ (xs ++ x ∷ []))
+    each rest zero d less = h 0 y (omega arith)
+    each rest (suc k) d less = rest k d (omega (arith, less))
+
+pub all_at : {X : Type 0} (P : X → Type 0) (xs : List X) (i : ℕ) (x : X) → All P xs →
+    slice_get xs i ≡ Some x → P x
+all_at P [] i x h read = absurd (cc)
+all_at P (y ∷ xs) zero x h read =
+    let same : y ≡ x = cc in
+    subst P same (h 0 y (omega arith))
+all_at P (y ∷ xs) (suc i) x h read =
+    all_at P xs i x (λ k d less. h (suc k) d (omega (arith, less))) read

@@ -1,0 +1,306 @@
+-- What the receiver of a traffic channel stands for as it tells what has come.
+use Rattle.std.proofs.Common.{◌≡◌, ℕ, ◌+◌, ◌<◌, ◌≤◌, List, [], ◌∷◌, ◌++◌, Bool, true, false}
+use Rattle.std.proofs.Common.{length, refl, sym, ap, ◌∙◌, arith, subst, Option, None, Some, inl, inr}
+use Rattle.std.specs.Prelude.{◌==◌, if◌then◌else◌, is_some}
+use Rattle.std.specs.Option.{option_to_list}
+use Rattle.std.proofs.lemmas.Bool.{cases_lt}
+use Rattle.chip_core.specs.declared.check_form.CheckForm.{CheckForm}
+use Rattle.chip_core.specs.declared.sample.Sample.{Sample}
+use Rattle.frame_decoder.specs.declared.traffic.Decoded.{Decoded}
+use Rattle.paging_message.specs.declared.message.PagingMessage.{PagingMessage}
+use Rattle.paging_message.specs.declared.message.PagingMessage.TheVariants as pages
+use Rattle.pilot_sets.specs.Directions.{accepted_of, direction_fault}
+use Rattle.pilot_sets.specs.Standing.{Standing, unless_refused, with_neighbors, with_thresholds}
+use Rattle.pilot_sets.specs.declared.fault.DirectionFault.{DirectionFault}
+use Rattle.pilot_sets.specs.declared.standing.Accepted.{Accepted}
+use Rattle.quality_bits.specs.Pieces.{StandsFor}
+use Rattle.traffic_message.specs.declared.body.TrafficBody.{TrafficBody}
+use Rattle.traffic_message.specs.declared.body.TrafficBody.TheVariants as bodies
+use Rattle.mobile_core.specs.Given.{at_of}
+use Rattle.mobile_core.specs.Legs.{legs_of}
+use Rattle.mobile_core.specs.Moments.{legs_by, moment_place}
+use Rattle.mobile_core.specs.Noted.{all_noted, body_noted, moment_from, noted, noted_with, page_noted}
+use Rattle.mobile_core.specs.Noted.{system_thresholds}
+use Rattle.mobile_core.specs.Signaling.{capsule_with, message_at, message_events, signal_at}
+use Rattle.mobile_core.specs.Signaling.{signal_in, signal_of, signals_before}
+use Rattle.mobile_core.specs.TrafficEvents.{commands_at, decoded_at, frame_event}
+use Rattle.mobile_core.specs.TrafficEvents.{frame_heard as heard_frame}
+use Rattle.mobile_core.specs.TrafficReceiving.{HasTold, HearsWith, IsSoundTraffic, noted_by}
+use Rattle.mobile_core.specs.TrafficReceiving.{told_left_with}
+use Rattle.mobile_core.specs.TrafficReceiving.{frames_left_of, messages_left_of}
+use Rattle.mobile_core.specs.TrafficStreams.{frame_known}
+use Rattle.mobile_core.specs.Tuning.{Tuning}
+use Rattle.mobile_core.specs.declared.event.Event.{Event}
+use Rattle.mobile_core.specs.declared.event.Event.TheVariants as events
+use Rattle.mobile_core.specs.declared.mark.Mark.{Mark}
+use Rattle.mobile_core.specs.declared.settings.Traffic.{Traffic}
+use Rattle.mobile_core.specs.declared.spelled_signal.SpelledSignal.{SpelledSignal}
+use Rattle.mobile_core.specs.declared.traffic_receiver.TrafficReceiver.{TrafficReceiver}
+use Rattle.mobile_core.proofs.FrameBounds.{known_bound}
+use Rattle.mobile_core.proofs.FrameGrowth.{frame_next}
+use Rattle.mobile_core.proofs.FramesHeard.{closes, due_inside}
+use Rattle.mobile_core.proofs.MessageGrowth.{message_next, signals_more}
+use Rattle.mobile_core.proofs.TrafficGrowth.{frame_alone, one_left, told_left}
+
+-- where no message is kept a frame has come
+pub told_come : (r : TrafficReceiver) → HasTold r → r.kept ≡ None → r.next < r.have
+told_come r due empty =
+    elim due [
+      | inl some ↦
+          let is : is_some r.kept ≡ true = some in
+          let none : false ≡ true = rw empty at is in
+          absurd (cc)
+      | inr come ↦ come
+    ]
+
+-- WHAT AN EVENT CHANGES LEAVES THE ACTIVE PILOTS
+refused_legs : (m : Mark) (fault : Option DirectionFault) (direction : Accepted) (s : Standing) →
+    legs_of m (unless_refused fault direction s) ≡ legs_of m s
+refused_legs m None direction s = refl
+refused_legs m (Some fault) direction s = refl
+
+chosen_legs : (m : Mark) (b : Bool) (s s' : Standing) → legs_of m s ≡ legs_of m s' →
+    legs_of m (if b then s else s') ≡ legs_of m s'
+chosen_legs m true s s' same = same
+chosen_legs m false s s' same = refl
+
+page_legs : (m : Mark) (pn : ℕ) (message : PagingMessage) (s : Standing) →
+    legs_of m (page_noted pn message s) ≡ legs_of m s
+page_legs m pn (pages.System f) s =
+    chosen_legs m (f.pn == pn) (with_thresholds (system_thresholds f) s) s refl
+page_legs m pn (pages.Neighbors f) s =
+    chosen_legs m (f.pn == pn) (with_neighbors f.pns s) s refl
+page_legs m pn (pages.Channels f) s = refl
+page_legs m pn (pages.Other f) s = refl
+
+body_legs : (m : Mark) (first : ℕ) (body : TrafficBody) (s : Standing) →
+    legs_of m (body_noted first body s) ≡ legs_of m s
+body_legs m first (bodies.System f) s = refl
+body_legs m first (bodies.Neighbors f) s = refl
+body_legs m first (bodies.Handoff f) s =
+    refused_legs m (direction_fault f) (accepted_of first f) s
+body_legs m first (bodies.Other kind bits) s = refl
+
+pub noted_legs : (m : Mark) (pn first : ℕ) (event : Event) (s : Standing) →
+    legs_of m (noted_with pn first event s) ≡ legs_of m s
+noted_legs m pn first (events.Pilot phase energy) s = refl
+noted_legs m pn first (events.Sync n capsule message) s = refl
+noted_legs m pn first (events.Paging n capsule message) s = page_legs m pn message s
+noted_legs m pn first (events.Frame n rate good bits commands) s = refl
+noted_legs m pn first (events.Traffic n capsule message) s = body_legs m first message.body s
+noted_legs m pn first (events.Sets n time active candidate report) s = refl
+
+-- the first moment that isn't before the end of what is told
+first_is : (m : Mark) (j n : ℕ) → n ≤ moment_place m (j + 1) → (0 < j → moment_place m j < n) →
+    j + 1 ≡ moment_from m n
+first_is m j n early behind =
+    elim (cases_lt 0 j) [
+      | inl some ↦ let b = behind some in omega (arith, early, b)
+      | inr none ↦ omega (arith, early, none)
+    ]
+
+module _ {t : Tuning} {traffic : Traffic} {m : Mark} {heard : List Sample} {kept : ℕ → Standing}
+  where
+    -- THE SETS TAKE WHAT AN EVENT TELLS
+    pub hears_noted : {r : TrafficReceiver} {pages : List Event} (event : Event) →
+        HearsWith t traffic m r heard (event ∷ pages) kept → at_of event ≡ length heard →
+        HearsWith t traffic m (noted_by event r) heard pages kept
+    hears_noted {r} {pages} event st at' =
+        let j : ℕ = r.sets.passed in
+        let left = told_left_with t traffic m heard r kept in
+        let first = first_is m j (length heard) st.coming (st.behind event (pages ++ left) refl) in
+        let same : noted_with r.sets.mark.pn (r.sets.mark.time + (j + 1)) event r.sets.sets
+        ≡ noted m event r.sets.sets =
+        ap (λ (x : Mark). noted_with x.pn (x.time + (j + 1)) event r.sets.sets) st.mark_is
+        ∙ ap (λ (k : ℕ). noted_with m.pn (m.time + k) event r.sets.sets)
+        (first ∙ ap (moment_from m) (sym at')) in
+        record {
+          mark_is = st.mark_is;
+          phase_is = st.phase_is;
+          deltas_are = st.deltas_are;
+          state_is = st.state_is;
+          mask_is = st.mask_is;
+          offset = st.offset;
+          start_is = st.start_is;
+          close = st.close;
+          legs_are = st.legs_are;
+          pilots_are = noted_legs m r.sets.mark.pn (r.sets.mark.time + (j + 1)) event r.sets.sets
+              ∙ st.pilots_are;
+          within = st.within;
+          begun = st.begun;
+          behind = λ e rest is some. st.behind event (pages ++ left) refl some;
+          coming = st.coming;
+          due_is = st.due_is;
+          ended = st.ended;
+          known = st.known;
+          softs_are = st.softs_are;
+          power_is = st.power_is;
+          framed = st.framed;
+          sets_are = ap (λ (s : Standing). all_noted m (pages ++ left) s) same ∙ st.sets_are;
+        }
+
+    -- THE MESSAGE THAT IS KEPT
+    pub hears_given : {r : TrafficReceiver} (event : Event) (message : SpelledSignal) →
+        HearsWith t traffic m r heard [] kept → r.kept ≡ Some message →
+        event ∷ [] ≡ message_events (length heard) (Some message) →
+        HearsWith t traffic m (record r { kept = None }) heard (event ∷ []) kept
+    hears_given {r} event message st is event_is =
+        let rest = told_left t traffic m (legs_by traffic m kept) heard r.next in
+        let left : told_left_with t traffic m heard r kept ≡ event ∷ rest =
+        ap (λ (k : Option SpelledSignal). message_events (length heard) k ++ rest) is
+        ∙ ap (λ (es : List Event). es ++ rest) (sym event_is) in
+        record {
+          mark_is = st.mark_is;
+          phase_is = st.phase_is;
+          deltas_are = st.deltas_are;
+          state_is = st.state_is;
+          mask_is = st.mask_is;
+          offset = st.offset;
+          start_is = st.start_is;
+          close = st.close;
+          legs_are = st.legs_are;
+          pilots_are = st.pilots_are;
+          within = st.within;
+          begun = st.begun;
+          behind = λ e others same some. st.behind event rest left some;
+          coming = st.coming;
+          due_is = st.due_is;
+          ended = st.ended;
+          known = st.known;
+          softs_are = st.softs_are;
+          power_is = st.power_is;
+          framed = st.framed;
+          sets_are = ap (λ (es : List Event). all_noted m es r.sets.sets) (sym left) ∙ st.sets_are;
+        }
+
+    -- its event is the first of those left
+    pub left_given : (r : TrafficReceiver) (event : Event) (message : SpelledSignal) →
+        HearsWith t traffic m r heard [] kept → r.kept ≡ Some message →
+        event ∷ [] ≡ message_events (length heard) (Some message) →
+        event ∷ told_left_with t traffic m heard (record r { kept = None }) kept
+        ≡ told_left_with t traffic m heard r kept
+    left_given r event message st is event_is =
+        let rest = told_left t traffic m (legs_by traffic m kept) heard r.next in
+        ap (λ (es : List Event). es ++ rest) event_is
+        ∙ sym (ap (λ (k : Option SpelledSignal). message_events (length heard) k ++ rest) is)
+
+    -- THE FRAME THAT IS DUE
+    module _ {r : TrafficReceiver} (st : HearsWith t traffic m r heard [] kept)
+        (sound : IsSoundTraffic r) (come : r.next < r.have) (frame : Decoded)
+        (frame_is : frame ≡ decoded_at t traffic m (legs_by traffic m kept) heard r.next) where
+      signal_here : signal_of frame ≡ signal_at t traffic m (legs_by traffic m kept) heard r.next
+      unfolding signal_at
+      signal_here = ap (λ (f : Decoded). signal_of f) frame_is
+
+      -- the framer has taken the signaling of one frame more
+      framed_here : (framer : Option (List Bool)) →
+          ((signals : List (List Bool)) → StandsFor r.framer signals →
+          StandsFor framer (signals ++ option_to_list (signal_of frame))) →
+          StandsFor framer
+          (signals_before t traffic m (legs_by traffic m kept) heard (r.next + 1))
+      framed_here framer takes =
+          let k : ℕ = r.next in
+          let legs = legs_by traffic m kept in
+          let before = signals_before t traffic m legs heard k in
+          subst (StandsFor framer)
+          (ap (λ (s : Option (List Bool)). before ++ option_to_list s) signal_here
+          ∙ sym (signals_more t traffic m legs heard k (due_inside st sound come)))
+          (takes before st.framed)
+
+      -- and gives the message that this completes
+      message_here : (message : Option SpelledSignal) (check : CheckForm) → check ≡ t.check16 →
+          ((signals : List (List Bool)) → StandsFor r.framer signals →
+          message ≡ signal_in check (capsule_with signals (signal_of frame))) →
+          message ≡ message_at t traffic m (legs_by traffic m kept) heard r.next
+      unfolding message_at
+      message_here message check check_is gives =
+          let before = signals_before t traffic m (legs_by traffic m kept) heard r.next in
+          gives before st.framed
+          ∙ ap (λ (c : CheckForm). signal_in c (capsule_with before (signal_of frame))) check_is
+          ∙ ap (λ (s : Option (List Bool)). signal_in t.check16 (capsule_with before s)) signal_here
+
+      -- the frame's event is the first of those left, and what it completes follows
+      pub told_here : (event : Event) (told : List Bool) (message : Option SpelledSignal)
+          (check : CheckForm) → event ≡ frame_event (length heard) frame told →
+          told ≡ commands_at t traffic m (legs_by traffic m kept) heard r.next →
+          check ≡ t.check16 →
+          ((signals : List (List Bool)) → StandsFor r.framer signals →
+          message ≡ signal_in check (capsule_with signals (signal_of frame))) → r.kept ≡ None →
+          event ∷ (message_events (length heard) message
+          ++ told_left t traffic m (legs_by traffic m kept) heard (r.next + 1))
+          ≡ told_left_with t traffic m heard r kept
+      told_here event told message check event_is told_is check_is gives empty =
+          let k : ℕ = r.next in
+          let n : ℕ = length heard in
+          let legs = legs_by traffic m kept in
+          let close = closes st sound in
+          let known = st.known come in
+          let inside = due_inside st sound come in
+          let below = known_bound t traffic m legs close k n known in
+          let frames = frames_left_of t traffic m legs heard (k + 1) in
+          let messages = messages_left_of t traffic m legs heard (k + 1) in
+          let same : event ≡ heard_frame t traffic m legs heard n k =
+          event_is
+          ∙ ap (λ (f : Decoded). frame_event n f told) frame_is
+          ∙ ap (frame_event n (decoded_at t traffic m legs heard k)) told_is in
+          let completes = message_here message check check_is gives in
+          let first = frame_next t traffic m legs heard k below inside known
+          ∙ ap (λ (e : Event). e ∷ frames) (sym same) in
+          let follows = message_next t traffic m legs heard k below inside known
+          ∙ ap (λ (heard' : Option SpelledSignal). message_events n heard' ++ messages)
+          (sym completes) in
+          one_left event (message_events n message) (frames_left_of t traffic m legs heard k)
+          frames (messages_left_of t traffic m legs heard k) messages first
+          (frame_alone t traffic m legs close heard k known) follows
+          ∙ sym (ap (λ (kept' : Option SpelledSignal).
+          message_events n kept' ++ told_left t traffic m legs heard k) empty)
+
+      -- behind it
+      pub hears_heard : (framer : Option (List Bool)) (message : Option SpelledSignal)
+          (event : Event) (told : List Bool) (check : CheckForm) →
+          ((signals : List (List Bool)) → StandsFor r.framer signals →
+          StandsFor framer (signals ++ option_to_list (signal_of frame))) →
+          event ≡ frame_event (length heard) frame told →
+          told ≡ commands_at t traffic m (legs_by traffic m kept) heard r.next →
+          check ≡ t.check16 →
+          ((signals : List (List Bool)) → StandsFor r.framer signals →
+          message ≡ signal_in check (capsule_with signals (signal_of frame))) → r.kept ≡ None →
+          HearsWith t traffic m
+          (record r { next = r.next + 1; framer = framer; kept = message }) heard (event ∷ []) kept
+      hears_heard framer message event told check takes event_is told_is check_is gives empty =
+          let most = sound.have_most in
+          let known = st.known come in
+          let order : r.have ≡ r.next + 1 = omega (arith, most, come) in
+          let left = told_here event told message check event_is told_is check_is gives empty in
+          let rest = message_events (length heard) message
+          ++ told_left t traffic m (legs_by traffic m kept) heard (r.next + 1) in
+          record {
+            mark_is = st.mark_is;
+            phase_is = st.phase_is;
+            deltas_are = st.deltas_are;
+            state_is = st.state_is;
+            mask_is = st.mask_is;
+            offset = st.offset;
+            start_is = st.start_is;
+            close = st.close;
+            legs_are = st.legs_are;
+            pilots_are = st.pilots_are;
+            within = st.within;
+            begun = st.begun;
+            behind = λ e others same some. st.behind event rest (sym left) some;
+            coming = st.coming;
+            due_is = st.due_is;
+            ended = λ k less.
+                elim (cases_lt k r.next) [
+                  | inl below ↦ st.ended k below
+                  | inr above ↦
+                      let here : k ≡ r.next = omega (arith, less, above) in
+                      let same = ap (frame_known t traffic m (legs_by traffic m kept)) here in
+                      omega (arith, same, known)
+                ];
+            known = λ more. absurd (omega (arith, more, order));
+            softs_are = λ more. absurd (omega (arith, more, order));
+            power_is = λ more. absurd (omega (arith, more, order));
+            framed = framed_here framer takes;
+            sets_are = ap (λ (es : List Event). all_noted m es r.sets.sets) left ∙ st.sets_are;
+          }

@@ -1,0 +1,118 @@
+-- The active pilots of one power control subchannel are as all are.
+use Rattle.std.proofs.Common.{◌≡◌, ℕ, zero, suc, ◌+◌, ◌*◌, ◌^◌, ◌≤◌, Bool, true, false}
+use Rattle.std.proofs.Common.{List, [], ◌∷◌, ◌++◌, length, map, filter, refl, ap, ◌∙◌, arith, ℤ}
+use Rattle.std.proofs.Common.{All, inl, inr, nat_lt, append-nil}
+use Rattle.std.proofs.lemmas.Bool.{and_from, and_parts, cases_Bool}
+use Rattle.std.proofs.lemmas.List.{map-append}
+use Rattle.std.proofs.lemmas.List.Elements.{All-append, filter-append}
+use Rattle.chip_core.specs.Bits.{places}
+use Rattle.chip_core.proofs.Places.{places-more}
+use Rattle.rake_finger.specs.declared.finger.Finger.{Finger}
+use Rattle.mobile_core.specs.Close.{is_close, legs_close, legs_rows, places_in}
+use Rattle.mobile_core.specs.Legs.{all_fingers, has_subchannel, is_on, leg_fingers, on_subchannel}
+use Rattle.mobile_core.specs.declared.legs.Leg.{Leg}
+
+-- LISTS WHOSE ELEMENTS ALL HAVE A PROPERTY
+one_more : {X : Type 0} (P : X → Type 0) (x : X) (xs : List X) → P x → All P xs → All P (x ∷ xs)
+one_more P x xs here rest zero d less = here
+one_more P x xs here rest (suc k) d less = rest k d (omega (arith, less))
+
+all_left : {X : Type 0} (P : X → Type 0) (xs ys : List X) → All P (xs ++ ys) → All P xs
+all_left P [] ys h = λ k d less. absurd (omega (arith, less))
+all_left P (x ∷ xs) ys h =
+    one_more P x xs (h 0 x (omega arith))
+    (all_left P xs ys (λ k d less. h (suc k) d (omega (arith, less))))
+
+all_right : {X : Type 0} (P : X → Type 0) (xs ys : List X) → All P (xs ++ ys) → All P ys
+all_right P [] ys h = h
+all_right P (x ∷ xs) ys h = all_right P xs ys (λ k d less. h (suc k) d (omega (arith, less)))
+
+-- ON A SUBCHANNEL
+pub on_some : (c : ℕ) (legs : List Leg) → has_subchannel legs c ≡ true →
+    1 ≤ length (on_subchannel c legs)
+on_some c [] h = absurd (cc)
+on_some c (leg ∷ legs) h =
+    elim (cases_Bool (is_on c leg)) [
+      | inl on ↦ rw on (omega arith)
+      | inr off ↦ rw off (on_some c legs (rw off at h))
+    ]
+
+pub on_few : (c : ℕ) (legs : List Leg) → places_in (on_subchannel c legs) ≤ places_in legs
+on_few c [] = omega arith
+on_few c (leg ∷ legs) =
+    let rest = on_few c legs in
+    elim (cases_Bool (is_on c leg)) [
+      | inl on ↦ rw on (omega (arith, rest))
+      | inr off ↦ rw off (omega (arith, rest))
+    ]
+
+pub on_close : (c : ℕ) (legs : List Leg) → legs_close legs ≡ true →
+    legs_close (on_subchannel c legs) ≡ true
+on_close c [] h = refl
+on_close c (leg ∷ legs) h =
+    let both = and_parts (is_close leg.finger) (legs_close legs) h in
+    let rest = on_close c legs both.1 in
+    elim (cases_Bool (is_on c leg)) [
+      | inl on ↦
+          rw on (and_from (is_close leg.finger) (legs_close (on_subchannel c legs)) both.0 rest)
+      | inr off ↦ rw off rest
+    ]
+
+pub on_rows : (c : ℕ) (legs : List Leg) → legs_rows legs ≡ true →
+    legs_rows (on_subchannel c legs) ≡ true
+on_rows c [] h = refl
+on_rows c (leg ∷ legs) h =
+    let both = and_parts (nat_lt leg.finger.row 64) (legs_rows legs) h in
+    let rest = on_rows c legs both.1 in
+    elim (cases_Bool (is_on c leg)) [
+      | inl on ↦
+          rw on (and_from (nat_lt leg.finger.row 64) (legs_rows (on_subchannel c legs)) both.0 rest)
+      | inr off ↦ rw off rest
+    ]
+
+pub on_all : (P : Finger → Type 0) (phase : ℕ) (deltas : List ℤ) (c : ℕ) (legs : List Leg) →
+    All P (all_fingers phase deltas legs) → All P (all_fingers phase deltas (on_subchannel c legs))
+on_all P phase deltas c [] h = h
+on_all P phase deltas c (leg ∷ legs) h =
+    let one = leg_fingers phase deltas leg in
+    let others = all_fingers phase deltas legs in
+    let here = all_left P one others h in
+    let rest = on_all P phase deltas c legs (all_right P one others h) in
+    elim (cases_Bool (is_on c leg)) [
+      | inl on ↦
+          rw on (All-append P one (all_fingers phase deltas (on_subchannel c legs)) here rest)
+      | inr off ↦ rw off rest
+    ]
+
+-- ONE SUBCHANNEL AFTER THE OTHER
+abbrev pub first_subchannels : List Leg → ℕ → List ℕ
+first_subchannels legs n = filter (has_subchannel legs) (places n)
+
+first_one : (p : ℕ → Bool) (n : ℕ) → p n ≡ true →
+    filter p (places (n + 1)) ≡ filter p (places n) ++ n ∷ []
+first_one p n h = rw (places-more n, filter-append, h) refl
+
+first_none : (p : ℕ → Bool) (n : ℕ) → p n ≡ false →
+    filter p (places (n + 1)) ≡ filter p (places n)
+first_none p n h = rw (places-more n, filter-append, h) (append-nil (filter p (places n)))
+
+pub sums_none : {A : Type 0} (f : ℕ → A) (legs : List Leg) →
+    map f (first_subchannels legs 0) ≡ []
+unfolding places
+sums_none f legs = refl
+
+pub sums_more : {A : Type 0} (f : ℕ → A) (legs : List Leg) (n : ℕ) →
+    has_subchannel legs n ≡ true →
+    map f (first_subchannels legs (n + 1)) ≡ map f (first_subchannels legs n) ++ f n ∷ []
+sums_more f legs n h =
+    ap (map f) (first_one (has_subchannel legs) n h)
+    ∙ map-append f (first_subchannels legs n) (n ∷ [])
+
+pub sums_same : {A : Type 0} (f : ℕ → A) (legs : List Leg) (n : ℕ) →
+    has_subchannel legs n ≡ false →
+    map f (first_subchannels legs (n + 1)) ≡ map f (first_subchannels legs n)
+sums_same f legs n h = ap (map f) (first_none (has_subchannel legs) n h)
+
+-- the soft values of eight fingers add up to little
+pub eight_small : (n : ℕ) → n ≤ 8 → n * (384 * 2 ^ 50) ≤ 3 * 2 ^ 60
+eight_small n few = omega (arith, few)

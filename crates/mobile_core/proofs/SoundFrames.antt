@@ -1,0 +1,222 @@
+-- What always holds of the receiver of a traffic channel, as it goes on.
+use Rattle.std.proofs.Common.{◌≡◌, ℕ, ◌+◌, ◌*◌, ◌^◌, ◌<◌, ◌≤◌, true, List, Bool, length, take, ℤ, sym, ap}
+use Rattle.std.proofs.Common.{◌∙◌, arith, Option, None, subst, false}
+use Rattle.std.specs.Prelude.{sum_by, unsigned_abs, if◌then◌else◌}
+use Rattle.frame_decoder.specs.declared.power.PowerSofts.{PowerSofts}
+use Rattle.rake_finger.specs.declared.finger.Finger.{Finger}
+use Rattle.rake_finger.specs.declared.form.Form.TheVariants.{Data}
+use Rattle.chip_core.specs.declared.sample.Sample.{Sample}
+use Rattle.pilot_sets.specs.Standing.{Standing}
+use Rattle.mobile_core.specs.Close.{AreClose, legs_close, legs_rows, paths_close, places_in}
+use Rattle.mobile_core.specs.Legs.{all_fingers, legs_of}
+use Rattle.mobile_core.specs.Moments.{moment_place}
+use Rattle.mobile_core.specs.SetsKeeping.{IsSoundKeeper, coming_place}
+use Rattle.mobile_core.specs.Streams.{frame_end}
+use Rattle.mobile_core.specs.TrafficReceiving.{HearsWith, IsSoundTraffic, fingers_in}
+use Rattle.mobile_core.specs.Tuning.{Tuning}
+use Rattle.mobile_core.specs.declared.event.Event.{Event}
+use Rattle.mobile_core.specs.declared.legs.Leg.{Leg}
+use Rattle.mobile_core.specs.declared.mark.Mark.{Mark}
+use Rattle.mobile_core.specs.declared.sets_keeper.SetsKeeper.{SetsKeeper}
+use Rattle.mobile_core.specs.declared.settings.Traffic.{Traffic}
+use Rattle.mobile_core.specs.declared.spelled_signal.SpelledSignal.{SpelledSignal}
+use Rattle.mobile_core.specs.declared.traffic_receiver.TrafficReceiver.{TrafficReceiver}
+use Rattle.mobile_core.proofs.CloseFingers.{close_ends, close_later}
+use Rattle.mobile_core.proofs.LegFingers.{all_some, legs_are_close}
+
+module _ {r : TrafficReceiver} (is : IsSoundTraffic r) where
+  -- other pilots, with the end of their frame
+  pub sound_tuned : (legs : List Leg) (end : ℕ) → 1 ≤ length legs → places_in legs ≤ 8 →
+      legs_close legs ≡ true → legs_rows legs ≡ true →
+      AreClose (all_fingers r.phase (take r.near.count r.near.deltas) legs) →
+      end ≡ frame_end (all_fingers r.phase (take r.near.count r.near.deltas) legs) Data r.start →
+      IsSoundTraffic (record r { legs = legs; end = end })
+  sound_tuned legs end some few close rows fingers ends = record {
+    keeper = is.keeper;
+    next_have = is.next_have;
+    have_most = is.have_most;
+    start_least = is.start_least;
+    start_most = is.start_most;
+    some = some;
+    few = few;
+    least = is.least;
+    most = is.most;
+    legs_close = close;
+    legs_rows = rows;
+    paths = is.paths;
+    path_some = is.path_some;
+    fingers_close = fingers;
+    ends = ends;
+    masked = is.masked;
+    small = is.small;
+    subchannels = is.subchannels;
+  }
+
+  -- a frame's soft values
+  pub sound_softs : (softs : List ℤ) (power : PowerSofts) →
+      sum_by unsigned_abs softs ≤ 3 * 2 ^ 60 → power.count ≤ 6 →
+      IsSoundTraffic (record r { softs = softs; power = power })
+  sound_softs softs power small few = record {
+    keeper = is.keeper;
+    next_have = is.next_have;
+    have_most = is.have_most;
+    start_least = is.start_least;
+    start_most = is.start_most;
+    some = is.some;
+    few = is.few;
+    least = is.least;
+    most = is.most;
+    legs_close = is.legs_close;
+    legs_rows = is.legs_rows;
+    paths = is.paths;
+    path_some = is.path_some;
+    fingers_close = is.fingers_close;
+    ends = is.ends;
+    masked = is.masked;
+    small = small;
+    subchannels = few;
+  }
+
+  -- on to the frame behind one that ends in a file
+  pub sound_come : r.have ≡ r.next → r.end ≤ 2 ^ 26 →
+      IsSoundTraffic
+      (record r { have = r.have + 1; start = r.start + 24576; end = r.end + 24576 })
+  sound_come idle few =
+      let ends = is.ends in
+      let low = (close_ends r.start (fingers_in r) is.fingers_close).0 in
+      let later = close_later r.start 24576 (fingers_in r) is.fingers_close in
+      let least = is.start_least in
+      record {
+        keeper = is.keeper;
+        next_have = omega (arith, idle);
+        have_most = omega (arith, idle);
+        start_least = omega (arith, least);
+        start_most = omega (arith, ends, low, few);
+        some = is.some;
+        few = is.few;
+        least = is.least;
+        most = is.most;
+        legs_close = is.legs_close;
+        legs_rows = is.legs_rows;
+        paths = is.paths;
+        path_some = is.path_some;
+        fingers_close = is.fingers_close;
+        ends = omega (arith, ends, later);
+        masked = is.masked;
+        small = is.small;
+        subchannels = is.subchannels;
+      }
+
+  -- the frame that is due has been heard
+  pub sound_heard : (framer : Option (List Bool)) (kept : Option SpelledSignal) →
+      r.next < r.have →
+      IsSoundTraffic (record r { next = r.next + 1; framer = framer; kept = kept })
+  sound_heard framer kept come =
+      let most = is.have_most in
+      record {
+        keeper = is.keeper;
+        next_have = omega (arith, come);
+        have_most = omega (arith, most);
+        start_least = is.start_least;
+        start_most = is.start_most;
+        some = is.some;
+        few = is.few;
+        least = is.least;
+        most = is.most;
+        legs_close = is.legs_close;
+        legs_rows = is.legs_rows;
+        paths = is.paths;
+        path_some = is.path_some;
+        fingers_close = is.fingers_close;
+        ends = is.ends;
+        masked = is.masked;
+        small = is.small;
+        subchannels = is.subchannels;
+      }
+
+  -- the message that was kept has been given
+  pub sound_given : IsSoundTraffic (record r { kept = None })
+  sound_given = record {
+    keeper = is.keeper;
+    next_have = is.next_have;
+    have_most = is.have_most;
+    start_least = is.start_least;
+    start_most = is.start_most;
+    some = is.some;
+    few = is.few;
+    least = is.least;
+    most = is.most;
+    legs_close = is.legs_close;
+    legs_rows = is.legs_rows;
+    paths = is.paths;
+    path_some = is.path_some;
+    fingers_close = is.fingers_close;
+    ends = is.ends;
+    masked = is.masked;
+    small = is.small;
+    subchannels = is.subchannels;
+  }
+
+  -- the sets have changed
+  pub sound_sets : (sets : SetsKeeper) → IsSoundKeeper sets → sets.mark ≡ r.sets.mark →
+      IsSoundTraffic (record r { sets = sets })
+  sound_sets sets sound same =
+      let place = ap (λ (m : Mark). m.sample) same in
+      let least = is.start_least in
+      record {
+        keeper = sound;
+        next_have = is.next_have;
+        have_most = is.have_most;
+        start_least = omega (arith, place, least);
+        start_most = is.start_most;
+        some = is.some;
+        few = is.few;
+        least = is.least;
+        most = is.most;
+        legs_close = is.legs_close;
+        legs_rows = is.legs_rows;
+        paths = is.paths;
+        path_some = is.path_some;
+        fingers_close = is.fingers_close;
+        ends = is.ends;
+        masked = is.masked;
+        small = is.small;
+        subchannels = is.subchannels;
+      }
+
+-- other pilots' frame ends behind a place near its first sample
+pub waits_tuned : (start end n : ℕ) (fingers : List Finger) → AreClose fingers →
+    end ≡ frame_end fingers Data start → n ≤ start + 226 → n < end
+waits_tuned start end n fingers close ends few =
+    let low = (close_ends start fingers close).0 in
+    omega (arith, low, ends, few)
+
+-- behind a moment the active pilots' fingers are close
+pub passed_close : {t : Tuning} {traffic : Traffic} {m : Mark} {r : TrafficReceiver}
+    {heard : List Sample} {pages : List Event} {kept : ℕ → Standing} →
+    HearsWith t traffic m r heard pages kept → IsSoundTraffic r → (k : SetsKeeper) →
+    k ≡ record {
+      sets = k.sets;
+      mark = r.sets.mark;
+      passed = r.sets.passed + 1;
+      due = false;
+    } → 1 ≤ length (legs_of k.mark k.sets) → legs_close (legs_of k.mark k.sets) ≡ true →
+    AreClose (all_fingers t.phase t.deltas (legs_of m k.sets))
+passed_close {t} {traffic} {m} {r} {heard} {pages} {kept} st is k k_is some close =
+    let mark = ap (λ (x : SetsKeeper). x.mark) k_is ∙ st.mark_is in
+    let some' = subst (λ (x : Mark). 1 ≤ length (legs_of x k.sets)) mark some in
+    let close' = subst (λ (x : Mark). legs_close (legs_of x k.sets) ≡ true) mark close in
+    let paths = subst (λ (ds : List ℤ). paths_close ds ≡ true) st.deltas_are is.paths in
+    record {
+      some = all_some t.phase t.deltas (legs_of m k.sets) some'
+          (subst (λ (ds : List ℤ). 1 ≤ length ds) st.deltas_are is.path_some);
+      close = legs_are_close t.phase t.deltas (legs_of m k.sets) paths close';
+    }
+
+-- a moment that has just come lies here
+pub came_here : (k k' : SetsKeeper) (n : ℕ) → k.due ≡ false → k' ≡ record k { due = k'.due } →
+    n ≡ coming_place k → n ≡ moment_place k'.mark (k'.passed + 1)
+came_here k k' n idle same here =
+    here
+    ∙ ap (λ (b : Bool). moment_place k.mark (k.passed + (if b then 2 else 1))) idle
+    ∙ sym (ap (λ (x : SetsKeeper). moment_place x.mark (x.passed + 1)) same)

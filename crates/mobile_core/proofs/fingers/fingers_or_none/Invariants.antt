@@ -1,0 +1,12 @@
+use Rattle.std.proofs.Common.{◌≡◌, ◌+◌, ◌≤◌, take, drop, length, true}
+use Rattle.mobile_core.specs.Close.{all_close, fingers_in, places_in}
+use Rattle.mobile_core.specs.Legs.{all_fingers}
+use Rattle.mobile_core.proofs.fingers.fingers_or_none.Given as goal
+
+abbrev pub invariant-loop-i : goal.invariant-loop-i
+invariant-loop-i l = record {
+  list : fingers_in l.fingers
+      ≡ all_fingers l.phase (take l.near.count l.near.deltas) (take l.i l.legs);
+  room : length (fingers_in l.fingers) + places_in (drop l.i l.legs) ≤ 8;
+  close : all_close (fingers_in l.fingers) ≡ true;
+}

@@ -1,0 +1,8 @@
+use Rattle.std.proofs.Common.{◌≡◌, drop}
+use Rattle.std.specs.List.{list_any}
+use Rattle.mobile_core.specs.Legs.{has_subchannel, is_on}
+use Rattle.mobile_core.proofs.legs.Legs.has_subchannel.Given as goal
+
+abbrev pub invariant-loop-i : goal.invariant-loop-i
+invariant-loop-i l =
+    list_any (is_on l.subchannel) (drop l.i l.self) ≡ has_subchannel l.self l.subchannel

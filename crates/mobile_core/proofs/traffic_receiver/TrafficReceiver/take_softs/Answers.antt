@@ -1,0 +1,56 @@
+use Rattle.std.proofs.Common.{◌∙◌, ℕ, List, ap, arith, map, take}
+use Rattle.symbol_path.specs.Scrambling.{power_places}
+use Rattle.mobile_core.specs.LegSofts.{sums_on}
+use Rattle.mobile_core.specs.Legs.{subchannels}
+use Rattle.mobile_core.proofs.CloseFingers.{close_in_ring}
+use Rattle.mobile_core.proofs.SoundFrames.{sound_softs}
+use Rattle.mobile_core.proofs.traffic_receiver.TrafficReceiver.take_softs.Goals as goal
+
+pub leg_softs-requires : goal.leg_softs-requires
+leg_softs-requires c =
+    let is = c.requires.sound in
+    let r = c.args.self.now in
+    record {
+      legs = record {
+        some = is.some;
+        few = is.few;
+        least = is.least;
+        most = is.most;
+        close = is.legs_close;
+        rows = is.legs_rows;
+        held = close_in_ring c.args.ring.now r.start _ is.fingers_close.close
+            (omega (arith, is.start_least, is.keeper.marked.late)) c.requires.room
+            (c.requires.ended ∙ is.ends);
+      };
+    }
+
+pub power_softs-requires-clause-legs : goal.power_softs-requires-clause-legs
+power_softs-requires-clause-legs c =
+    let is = c.requires.sound in
+    let r = c.args.self.now in
+    record {
+      some = is.some;
+      few = is.few;
+      least = is.least;
+      most = is.most;
+      close = is.legs_close;
+      rows = is.legs_rows;
+      held = close_in_ring c.args.ring.now r.start _ is.fingers_close.close
+          (omega (arith, is.start_least, is.keeper.marked.late)) c.requires.room
+          (c.requires.ended ∙ is.ends);
+    }
+
+pub returns-clause-power : goal.returns-clause-power
+returns-clause-power c = λ heard holds.
+    let r = c.args.self.now in
+    let replaced = c.power_places-replaced.ensures.value
+    ∙ ap (λ (n : ℕ). power_places n r.scrambling.mask) c.state_at.ensures in
+    c.power_softs.ensures.value heard holds
+    ∙ ap (λ (places : List ℕ).
+    map (sums_on heard r.phase (take r.near.count r.near.deltas) r.legs r.start places)
+    (subchannels r.legs)) replaced
+
+pub returns-clause-sound : goal.returns-clause-sound
+returns-clause-sound c =
+    sound_softs c.requires.sound c.leg_softs.new.out c.power_softs.result
+    c.leg_softs.ensures.small c.power_softs.ensures.most

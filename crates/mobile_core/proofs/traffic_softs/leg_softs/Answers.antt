@@ -1,0 +1,28 @@
+use Rattle.std.proofs.Common.{◌∙◌, List, All, ap, sym, subst, arith}
+use Rattle.rake_finger.specs.InRing.{IsInRing}
+use Rattle.rake_finger.specs.Soft.{softs}
+use Rattle.rake_finger.specs.declared.finger.Finger.{Finger}
+use Rattle.rake_finger.specs.declared.form.Form.TheVariants.{Data}
+use Rattle.mobile_core.proofs.FingerLists.{rows_all}
+use Rattle.mobile_core.proofs.LegSubsets.{eight_small}
+use Rattle.mobile_core.proofs.traffic_softs.leg_softs.Goals as goal
+
+pub combine_into-requires-clause-rows : goal.combine_into-requires-clause-rows
+combine_into-requires-clause-rows c =
+    rows_all c.leg_fingers-fingers.result c.leg_fingers-fingers.ensures.rows
+
+pub combine_into-requires-clause-ring : goal.combine_into-requires-clause-ring
+combine_into-requires-clause-ring c =
+    subst (All (IsInRing c.args.ring.now Data c.args.start))
+    (sym c.leg_fingers-fingers.ensures.value) c.requires.legs.held
+
+pub returns-clause-value : goal.returns-clause-value
+returns-clause-value c = λ heard holds.
+    c.combine_into.ensures.value heard holds
+    ∙ ap (λ (fs : List Finger). softs heard fs Data c.args.start)
+    c.leg_fingers-fingers.ensures.value
+
+pub returns-clause-small : goal.returns-clause-small
+returns-clause-small c =
+    let few = eight_small _ c.leg_fingers-fingers.ensures.most in
+    omega (arith, c.combine_into.ensures.bound, few)

@@ -1,0 +1,32 @@
+-- The soft values of a frame as some active pilots hear it.
+use Rattle.std.specs.Prelude.{◌≡◌, ℕ, ◌≤◌, true, List, length, take, ℤ}
+use Rattle.std.specs.List.{All}
+use Rattle.chip_core.specs.declared.sample.Sample.{Sample}
+use Rattle.frame_decoder.specs.TrafficFrames.{group_sums}
+use Rattle.pilot_search.specs.declared.paths.Near.{Near}
+use Rattle.rake_finger.specs.Held.{Held}
+use Rattle.rake_finger.specs.InRing.{IsInRing}
+use Rattle.rake_finger.specs.Soft.{softs}
+use Rattle.rake_finger.specs.declared.form.Form.TheVariants.{Data}
+use Rattle.mobile_core.specs.Close.{legs_close, legs_rows, places_in}
+use Rattle.mobile_core.specs.Legs.{all_fingers, on_subchannel}
+use Rattle.mobile_core.specs.declared.legs.Leg.{Leg}
+
+-- the sums of the power control bits of the frame that begins at a reference sample, on a
+-- subchannel
+abbrev pub sums_on : List Sample → ℕ → List ℤ → List Leg → ℕ → List ℕ → ℕ → List ℤ
+sums_on heard phase deltas legs start replaced c =
+    group_sums replaced
+    (softs heard (all_fingers phase deltas (on_subchannel c legs)) Data start)
+
+-- one to six pilots, whose fingers' samples of the frame the ring holds
+pub record IsHeldFrom (ring : Held) (legs : List Leg) (phase : ℕ) (near : Near) (start : ℕ)
+    : Type 0 where
+  pub some : 1 ≤ length legs
+  pub few : places_in legs ≤ 8
+  pub least : 1 ≤ near.count
+  pub most : near.count ≤ 3
+  pub close : legs_close legs ≡ true
+  pub rows : legs_rows legs ≡ true
+  pub held : All (IsInRing ring Data start)
+      (all_fingers phase (take near.count near.deltas) legs)
