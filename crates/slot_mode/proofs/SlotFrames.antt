@@ -1,0 +1,42 @@
+-- The frames of a slot.
+use Rattle.std.proofs.Common.{◌≡◌, ◌≤◌, ℕ, zero, suc, ◌+◌, ◌-◌, ◌*◌, List, ◌++◌, length, take, drop}
+use Rattle.std.proofs.Common.{append_assoc, sym, ap, ◌∙◌, arith, ℤ, sum_by, unsigned_abs}
+use Rattle.std.proofs.Math.Seq.{drop-append-add}
+use Rattle.std.proofs.lemmas.List.{drop-append-le, take-append-le, length-drop}
+use Rattle.std.proofs.lemmas.List.Sums.{sum_by-take-drop, sum_by-take-le}
+use Rattle.frame_decoder.specs.Spans.{paging_channel, own_bits}
+use Rattle.slot_mode.specs.Frames.{span_first, span_end, span_softs}
+use Rattle.slot_mode.specs.Laws.{IsHeardAsEver}
+
+-- a part of the soft values of a slot, wherever the slot lies
+part : (from count : ℕ) (before softs behind : List ℤ) → from + count ≤ length softs →
+    take count (drop (length before + from) (before ++ softs ++ behind))
+    ≡ take count (drop from softs)
+part from count before softs behind room =
+    let rest = length-drop from softs in
+    ap (λ (xs : List ℤ). take count (drop (length before + from) xs))
+    (append_assoc before softs behind)
+    ∙ ap (take count) (drop-append-add before (softs ++ behind) from)
+    ∙ ap (take count) (drop-append-le from softs behind (omega (arith, room)))
+    ∙ take-append-le count (drop from softs) behind (omega (arith, room, rest))
+
+pub heard_as_ever : IsHeardAsEver
+heard_as_ever rate before softs behind zero long low high = absurd (omega (arith, low))
+heard_as_ever rate before softs behind (suc zero) long low high =
+    ap (own_bits (paging_channel rate) 3 1)
+    (sym (part 0 1152 before softs behind (omega (arith, long))))
+heard_as_ever rate before softs behind (suc (suc zero)) long low high =
+    ap (own_bits (paging_channel rate) 3 1)
+    (sym (part 384 1152 before softs behind (omega (arith, long))))
+heard_as_ever rate before softs behind (suc (suc (suc n))) long low high =
+    absurd (omega (arith, high))
+
+-- a span's soft values are no more than those of the slot
+pub span_is_small : (softs : List ℤ) (frame : ℕ) →
+    sum_by unsigned_abs (span_softs softs frame) ≤ sum_by unsigned_abs softs
+span_is_small softs frame =
+    let from = 384 * span_first frame in
+    let count = 384 * (span_end frame - span_first frame) in
+    let parts = sum_by-take-drop unsigned_abs softs from in
+    let part = sum_by-take-le unsigned_abs (drop from softs) count in
+    omega (arith, parts, part)

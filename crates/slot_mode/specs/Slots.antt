@@ -1,0 +1,31 @@
+-- The slots of a handset (TIA/EIA-95-B, 6.6.2.1.1.3 and 6.6.7.1). Times are counted in slots of
+-- 80 ms.
+use Rattle.std.specs.Prelude.{ℕ, ◌+◌, ◌-◌, ◌*◌, ◌/◌, ◌%◌, ◌^◌, ◌==◌, Bool, bit_xor}
+
+-- The key's two halves and six times its lowest 12 bits, added bit by bit; times 40,503, of which
+-- the highest 11 bits of the lowest 16 are the slot.
+abbrev pub slot_of : ℕ → ℕ
+slot_of key =
+    let low = key % 65536 in
+    let high = key / 65536 in
+    40503 * bit_xor (bit_xor low high) (6 * (key % 4096)) % 65536 / 32
+
+-- how many slots a cycle has: 16 for index 0, and twice as many for each index more
+abbrev pub period : ℕ → ℕ
+period cycle = 16 * 2 ^ cycle
+
+-- whether the slot of a time is one that the handset of a key monitors: modulo the cycle's length
+-- the time is the key's slot
+abbrev pub is_monitored : ℕ → ℕ → ℕ → Bool
+is_monitored time key cycle = time % period cycle == slot_of key % period cycle
+
+-- the first monitored time of all from one on
+abbrev pub next_monitored : ℕ → ℕ → ℕ → ℕ
+next_monitored from key cycle =
+    from + (slot_of key % period cycle + period cycle - from % period cycle) % period cycle
+
+-- the handset of a key, awake at a time in a cycle
+pub record Waking : Type 0 where
+  pub time : ℕ
+  pub key : ℕ
+  pub cycle : ℕ

@@ -1,0 +1,80 @@
+//! The times at which a handset wakes.
+
+ghost use Rattle.std.specs.Prelude.{◌≡◌, ◌≤◌, IsTrue, SomeIff};
+ghost use Rattle.slot_mode.specs.Slots.{period, is_monitored};
+
+use crate::hash::slot_of;
+use std::marker::Model;
+
+/// How many slots the shortest cycle has, 1.28 seconds.
+const SHORTEST_CYCLE: u64 = 16;
+
+/// How many slots a cycle of this index has.
+fn period(cycle: u8) -> u64
+    requires { cycle ≤ 7 }
+    ensures { result ≡ period cycle }
+{
+    SHORTEST_CYCLE << cycle
+}
+
+/// Whether a handset that has a key monitors the slot of a time.
+///
+/// `time` is the system time in units of 80 ms, of which each is a slot, `key` the key of the
+/// handset, and `cycle` the index of its cycle, 0 to 7: every so many slots, 16 for index 0 and
+/// twice as many for each index more, it monitors one. TIA/EIA-95-B, 6.6.2.1.1.3: it does where the
+/// time and its slot are equal modulo the cycle's length.
+pub fn monitored(time: u64, key: u32, cycle: u8) -> bool
+    requires { cycle ≤ 7 }
+    ensures { result ≡ is_monitored time key cycle }
+{
+    let slots = period(cycle);
+    time % slots == u64::from(slot_of(key)) % slots
+}
+
+/// A time at which a handset is awake: the slot of this time is one that it monitors. There is none
+/// of any other time.
+///
+/// Contracts see the time, the handset's key and the index of its cycle.
+#[derive(Clone, Copy, PartialEq, Eq, Debug)]
+pub struct Wake {
+    time: u64,
+    key: u32,
+    cycle: u8,
+}
+
+impl Model for Wake {
+    ghost use Rattle.std.specs.Prelude.{IsTrue};
+    ghost use Rattle.slot_mode.specs.Slots.{Waking, is_monitored};
+
+    ghost Value = { Waking };
+
+    ghost view = { λ w. record { time = w.time; key = w.key; cycle = w.cycle } };
+
+    ghost invariant = { λ w. IsTrue (is_monitored w.time w.key w.cycle) };
+
+    ghost inverse = { λ v. record { time = v.time; key = v.key; cycle = v.cycle } };
+}
+
+impl Wake {
+    /// The handset of a key, awake at a time; `None` exactly where it doesn't monitor the slot of
+    /// this time in its cycle, whose index is 0 to 7.
+    pub fn new(time: u64, key: u32, cycle: u8) -> Option<Wake>
+        requires { cycle ≤ 7 }
+        ensures { SomeIff result (IsTrue (is_monitored time key cycle))
+            (record { time = time; key = key; cycle = cycle }) }
+    {
+        if monitored(time, key, cycle) {
+            Some(Wake { time, key, cycle })
+        } else {
+            None
+        }
+    }
+
+    /// The time, in units of 80 ms of the system time.
+    pub fn time(&self) -> u64
+        ensures value { result ≡ self.now.time }
+        ensures monitored { IsTrue (is_monitored result self.now.key self.now.cycle) }
+    {
+        self.time
+    }
+}
