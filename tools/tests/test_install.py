@@ -1,0 +1,67 @@
+"""tools/install: what it puts in place, and where it refuses. A script stands for the program."""
+
+import os
+import tempfile
+import unittest
+
+from tools.tests.helping import ROOT, run_tool
+
+STANDS_FOR = b"#!/bin/sh\necho bad words >&2\nexit 2\n"
+
+
+class Installs(unittest.TestCase):
+    def setUp(self):
+        folder = tempfile.TemporaryDirectory()
+        self.addCleanup(folder.cleanup)
+        self.prefix = os.path.join(folder.name, "usr")
+        self.program = os.path.join(folder.name, "program")
+        self.keep(STANDS_FOR)
+
+    def keep(self, data, mode=0o700):
+        with open(self.program, "wb") as file:
+            file.write(data)
+        os.chmod(self.program, mode)
+
+    def read(self, *path):
+        with open(os.path.join(*path), "rb") as file:
+            return file.read()
+
+    def test_both_are_in_place(self):
+        for _ in range(2):
+            status, wrote, said = run_tool("install", "--program", self.program, self.prefix)
+            self.assertEqual((status, said), (0, ""))
+            page = os.path.join(self.prefix, "share", "man", "man1", "cdma_replay.1")
+            program = os.path.join(self.prefix, "bin", "cdma_replay")
+            self.assertEqual(wrote.decode().splitlines(), [page, program])
+            self.assertEqual(self.read(program), STANDS_FOR)
+            self.assertEqual(self.read(page), self.read(ROOT, "docs", "cdma_replay.1"))
+            self.assertEqual([os.stat(path).st_mode & 0o777 for path in (page, program)], [0o644, 0o755])
+            self.assertEqual(os.listdir(os.path.dirname(program)), ["cdma_replay"])
+
+    def refused(self, why, *words, status=1):
+        ended, wrote, said = run_tool("install", *words)
+        self.assertEqual((ended, wrote), (status, b""), said)
+        self.assertRegex(said, why)
+        self.assertNotIn("Traceback", said)
+        self.assertFalse(os.path.exists(os.path.join(self.prefix, "bin", "cdma_replay")))
+
+    def test_refusals(self):
+        words = ["--program", self.program, self.prefix]
+        self.keep(b"#!/bin/sh\necho bad words >&2\nexit 3\n")
+        self.refused("without words it ended with 3", *words)
+        self.keep(b"no program at all")
+        self.refused("doesn't run here", *words)
+        self.keep(STANDS_FOR, 0o600)
+        self.refused("no program at", *words)
+        os.unlink(self.program)
+        self.refused("no program at .*: build it first", *words)
+        self.keep(STANDS_FOR)
+        self.refused("Not a directory|File exists", "--program", self.program, self.program)
+
+    def test_words(self):
+        self.refused("required: PREFIX", status=2)
+        self.refused("PREFIX is empty", "", status=2)
+
+
+if __name__ == "__main__":
+    unittest.main()
