@@ -6,8 +6,8 @@ use Rattle.std.proofs.lemmas.Bool.{cases_Bool, eqb-true}
 use Rattle.chip_core.specs.declared.sample.Sample.{Sample}
 use Rattle.pilot_sets.specs.Standing.{Standing}
 use Rattle.pilot_sets.specs.declared.change.SetChange.{SetChange}
-use Rattle.mobile_core.specs.Events.{frame_events_at, message_events_at, paging_events_at}
-use Rattle.mobile_core.specs.Events.{sets_events_at}
+use Rattle.mobile_core.specs.Events.{events_at, frame_events_at, message_events_at}
+use Rattle.mobile_core.specs.Events.{paging_events_at, sets_events_at}
 use Rattle.mobile_core.specs.Given.{at_of}
 use Rattle.mobile_core.specs.Marks.{mark}
 use Rattle.mobile_core.specs.Moments.{changed, frames_at, heard_from, kept_to, legs_at, messages_at}
@@ -136,3 +136,17 @@ unfolding sets_events_at
 sets_at_end t samples n =
     behind_at n (λ traffic m. sets_at t traffic m samples n) t.traffic (mark t samples n)
     (λ traffic m. moment_at t traffic m samples n)
+
+-- so do all
+pub all_at : (t : Tuning) (samples : List Sample) (n : ℕ) → AreAt n (events_at t samples n)
+unfolding events_at
+all_at t samples n =
+    let sync = sync_events_at t samples n in
+    let paging = paging_events_at t samples n in
+    let frames = frame_events_at t samples n in
+    let messages = message_events_at t samples n in
+    let sets = sets_events_at t samples n in
+    are_at-append n sync (paging ++ (frames ++ (messages ++ sets))) (sync_at t samples n)
+    (are_at-append n paging (frames ++ (messages ++ sets)) (paging_at t samples n)
+    (are_at-append n frames (messages ++ sets) (traffic_at t samples n)
+    (are_at-append n messages sets (messages_at_end t samples n) (sets_at_end t samples n))))

@@ -40,11 +40,15 @@ pub mod MomentMeasured
 pub mod Windows
 pub mod MomentPassed
 pub mod MarkStays
+pub mod FramesGiven
+pub mod FrameSamples
+pub mod FramesAlone
 pub mod PagesFollowed
 pub mod FramesFollowed
 pub mod ChannelsFollowed
 pub mod EventsGrown
 pub mod EventPlaces
 pub mod Stood
+pub mod MarkAhead
 pub mod StepJoins
 pub mod Causality

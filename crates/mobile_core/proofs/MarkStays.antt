@@ -21,7 +21,8 @@ use Rattle.sync_message.proofs.Bodies.{fixed_fit}
 use Rattle.sync_message.proofs.Readings.{reading_is_message}
 use Rattle.mobile_core.specs.Close.{AreClose}
 use Rattle.mobile_core.specs.Legs.{all_fingers, legs_of, pilot_finger}
-use Rattle.mobile_core.specs.Marks.{first_of, frames_open, mark, mark_at, marks_at, marks_of}
+use Rattle.mobile_core.specs.Marks.{first_of, frames_open, mark, mark_at, mark_before, marks_at}
+use Rattle.mobile_core.specs.Marks.{marks_of}
 use Rattle.mobile_core.specs.Moments.{frames_at, frames_behind, kept_to, legs_at, legs_by}
 use Rattle.mobile_core.specs.Moments.{messages_at, messages_behind, moment_place, moments_before}
 use Rattle.mobile_core.specs.Moments.{sets_at, sets_behind}
@@ -44,7 +45,7 @@ use Rattle.mobile_core.proofs.FingerTimes.{ends_bounds, timed_in, timed_of}
 use Rattle.mobile_core.proofs.FrameBounds.{known_low}
 use Rattle.mobile_core.proofs.FrameGrowth.{frames_none}
 use Rattle.mobile_core.proofs.FrameTimes.{known_between, known_le}
-use Rattle.mobile_core.proofs.Growth.{IsSyncTimed, sync_in_file, sync_known}
+use Rattle.mobile_core.proofs.Growth.{IsSyncTimed, KnownBefore, sync_in_file, sync_known}
 use Rattle.mobile_core.proofs.MarkGrowth.{marks_at_sooner}
 use Rattle.mobile_core.proofs.MarkLater.{mark_later}
 use Rattle.mobile_core.proofs.MessageGrowth.{messages_none}
@@ -194,6 +195,37 @@ module _ (t : Tuning) (low : ℕ) (timed : IsSyncTimed t low) where
       (λ k le. past k (omega (arith, le, more))) in
       first_stays (marks_at t samples) p (within t n') 0 (sync_bound n') m wider front
       (sym (ap (λ ks. first_of (flat_map (marks_at t samples) ks)) longer) ∙ h)
+
+  -- it is set by a message of frames that are known within these samples
+  pub mark_told : (samples : List Sample) (n next : ℕ) (m : Mark) → KnownBefore t next n →
+      mark_before t samples next ≡ Some m → mark t samples n ≡ Some m
+  unfolding mark mark_before places
+  mark_told samples n next m known h =
+      let p : ℕ → Bool = λ k. nat_le (k + 1) next && sync_in_file t k in
+      let parts : (k : ℕ) → p k ≡ true → (k < next) × (sync_in_file t k ≡ true) = λ k e.
+      let both = and_parts (nat_le (k + 1) next) (sync_in_file t k) e in
+      let less = leb-true (k + 1) next both.0 in
+      (omega (arith, less), both.1) in
+      let wider : (k : ℕ) → p k ≡ true → within t n k ≡ true = λ k e.
+      let here = parts k e in
+      within_from t n k here.1 (known k here.0 here.1) in
+      let front : (j k : ℕ) → j ≤ k → within t n j ≡ true → p k ≡ true → p j ≡ true =
+      λ j k le one other.
+      let less = (parts k other).0 in
+      and_from (nat_le (j + 1) next) (sync_in_file t j)
+      (le-leb (j + 1) next (omega (arith, le, less))) (within_parts t n j one).0 in
+      let past : (k : ℕ) → sync_bound n ≤ k → p k ≡ false = λ k le. false_from_ne_true (p k)
+      (λ e. let less = within_early t timed n k (wider k e) in omega (arith, less, le)) in
+      let behind : (k : ℕ) → next ≤ k → p k ≡ false = λ k le. false_from_ne_true (p k)
+      (λ e. let less = (parts k e).0 in omega (arith, less, le)) in
+      let same : filter (sync_in_file t) (places next) ≡ filter p (places (sync_bound n)) =
+      ranges.filter_ext_places (sync_in_file t) p next
+      (λ k below.
+      let first : nat_le (k + 1) next ≡ true = le-leb (k + 1) next (omega (arith, below)) in
+      rw first refl)
+      ∙ ranges.filter_enough p next (sync_bound n) behind past in
+      first_stays (marks_at t samples) p (within t n) 0 (sync_bound n) m wider front
+      (sym (ap (λ ks. first_of (flat_map (marks_at t samples) ks)) same) ∙ h)
 
   -- the mark of the first samples is that of a file that goes on behind them
   pub mark_sooner : (xs ys : List Sample) (n : ℕ) → n ≤ length xs →

@@ -51,13 +51,13 @@ despread_sooner xs ys phase place count h =
     ap (despread (phase + place)) (part_sooner xs ys place count h)
 
 -- symbols and their windows lie in the frame
-window_inside : (form : Form) (j : ℕ) → j < symbols form →
+pub window_inside : (form : Form) (j : ℕ) → j < symbols form →
     window_chips form * (symbol_chips form * j / window_chips form) + window_chips form
     ≤ frame_chips form
 window_inside Sync j h = omega arith
 window_inside Data j h = omega arith
 
-symbol_inside : (form : Form) (j : ℕ) → j < symbols form →
+pub symbol_inside : (form : Form) (j : ℕ) → j < symbols form →
     symbol_chips form * j + symbol_chips form ≤ frame_chips form
 symbol_inside Sync j h = omega arith
 symbol_inside Data j h = omega arith

@@ -38,7 +38,7 @@ use Rattle.mobile_core.proofs.Progresses as progress
 use Rattle.mobile_core.proofs.Received.{receives_more, receives_heard}
 
 -- what is told sets the mark exactly where its event says so
-noted_event : (told : Option SpelledMessage) (first n : ℕ) →
+pub noted_event : (told : Option SpelledMessage) (first n : ℕ) →
     is_some (first_of (marks_of first told)) ≡ list_any sets_mark (events_of n told)
 noted_event None first n = refl
 noted_event (Some told) first n =

@@ -32,4 +32,11 @@ pub mod TrafficMonitoring
 pub mod FollowedChannels
 pub mod SoundHandset
 pub mod Standing
+pub mod Channels
+pub mod SoftFrames
+pub mod FrameSamples
+pub mod FramesAlone
+pub mod FrameReceiving
+pub mod Tuned
+pub mod Tuners
 mod Worked

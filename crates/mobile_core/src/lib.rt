@@ -1,11 +1,13 @@
 //! The handset: samples go in, and what it hears comes out as events.
 #![tactic(auto)]
 
+mod channel;
 mod continued;
 mod event;
 mod fingers;
 mod followed;
 mod frame_clock;
+mod frame_receiver;
 mod hearing;
 pub mod laws;
 mod legs;
@@ -18,6 +20,7 @@ mod scrambling;
 mod sets_keeper;
 mod sets_notes;
 mod settings;
+mod soft_frame;
 mod softs;
 mod spelled_message;
 mod spelled_page;
@@ -26,10 +29,15 @@ mod sync_receiver;
 mod traffic_monitor;
 mod traffic_receiver;
 mod traffic_softs;
+mod tuner;
 
+pub use channel::Channel;
 pub use event::Event;
+pub use mark::Mark;
 pub use mobile::{Mobile, Step};
 pub use settings::{Settings, Traffic};
+pub use soft_frame::{PowerControl, SoftFrame};
+pub use tuner::{Tuner, TunerStep};
 
 #[cfg(test)]
 mod tests;

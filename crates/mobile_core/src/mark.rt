@@ -2,8 +2,8 @@
 
 /// The sample at which a sync message's time lies, and what else it says of the channels that begin
 /// there (TIA/EIA-95-B, 7.7.1.3).
-#[derive(Clone, Copy)]
-pub(crate) struct Mark {
+#[derive(Clone, Copy, PartialEq, Eq, Debug)]
+pub struct Mark {
     /// The reference sample at which the time lies.
     pub sample: u64,
     /// The system's time there, in units of 80 ms.

@@ -2,11 +2,14 @@
 
 ghost use Rattle.mobile_core.specs.SoundHandset.{IsSound};
 
+use crate::channel::Channel;
 use crate::event::Event;
 use crate::followed::Followed;
+use crate::mark::Mark;
 use crate::settings::Settings;
 use crate::sync_receiver::SyncReceiver;
-use chip_core::{CheckForm, OutOfMemory, Sample};
+use crate::tuner::Tuner;
+use chip_core::{CheckForm, OutOfMemory, Phase, Sample};
 use pilot_search::{Best, Near};
 use rake_finger::SampleRing;
 use short_code::Codes;
@@ -55,13 +58,16 @@ pub struct Mobile {
 }
 
 impl Mobile {
-    ghost use Rattle.std.specs.Prelude.{◌≡◌, ◌<◌, ◌≤◌, ◌↔◌, List, [], length, IsTrue, IfOk, None};
-    ghost use Rattle.std.specs.Prelude.{Some, is_some, pos, slice_get};
+    ghost use Rattle.std.specs.Prelude.{◌≡◌, ◌<◌, ◌≤◌, ◌↔◌, List, [], ◌∷◌, ◌++◌, length, false};
+    ghost use Rattle.std.specs.Prelude.{IsTrue, IfOk, None};
+    ghost use Rattle.std.specs.Prelude.{Some, is_some, pos, slice_get, take};
     ghost use Rattle.std.specs.Option.{ForSome};
     ghost use Rattle.std.specs.List.{list_any};
     ghost use Rattle.chip_core.specs.declared.sample.Sample.{Sample};
     ghost use Rattle.mobile_core.specs.Events.{events};
+    ghost use Rattle.mobile_core.specs.Given.{at_of};
     ghost use Rattle.mobile_core.specs.Marks.{mark, sets_mark};
+    ghost use Rattle.mobile_core.specs.Sound.{IsSoundMark};
     ghost use Rattle.mobile_core.specs.FollowedChannels.{IsFollowedDue};
     ghost use Rattle.mobile_core.specs.TrafficMonitoring.{IsSoundAssignment};
     ghost use Rattle.mobile_core.specs.TrafficReceiving.{next_end};
@@ -69,6 +75,9 @@ impl Mobile {
     ghost use Rattle.mobile_core.specs.Standing.{IsDueFor, IsStep, StandsFor, Steps, due_parts};
     ghost use Rattle.mobile_core.specs.Standing.{has_room, ring_room};
     ghost use Rattle.mobile_core.specs.Tuning.{Tuning, tuning_by};
+    ghost use Rattle.mobile_core.specs.Channels.{IsLawful};
+    ghost use Rattle.mobile_core.specs.SoftFrames.{soft_frames};
+    ghost use Rattle.mobile_core.specs.Tuners.{IsTunedTo, samples_left, samples_taken};
     ghost use Rattle.mobile_core.specs.declared.event.Event.{Event as TheEvent};
 
     /// A handset that has taken no sample of a file.
@@ -118,6 +127,60 @@ impl Mobile {
             result ≡ is_some (mark t heard (length heard)) }
     {
         self.sync.is_marked()
+    }
+
+    /// The mark that a message of the sync channel set, the first with a long-code state that isn't
+    /// 0; `None` exactly where none is set.
+    ///
+    /// Behind the step that gives this message's event the mark lies ahead: no sample behind it has
+    /// been taken.
+    pub fn mark(&self) -> Option<Mark>
+        ensures given { (t : Tuning) (heard : List Sample) (given : List TheEvent) →
+            StandsFor t self.now heard given → is_some result ≡ list_any sets_mark given }
+        ensures set { (t : Tuning) (heard : List Sample) (given : List TheEvent) →
+            StandsFor t self.now heard given →
+            ForSome result (λ m. mark t heard (length heard) ≡ Some m) }
+        ensures mark { (t : Tuning) (heard : List Sample) →
+            StandsFor t self.now heard (events t heard) →
+            result ≡ mark t heard (length heard) }
+        ensures ahead { (t : Tuning) (heard : List Sample) (given : List TheEvent)
+            (event : TheEvent) → StandsFor t self.now heard (given ++ event ∷ []) →
+            at_of event ≡ length heard → list_any sets_mark given ≡ false →
+            ForSome result (λ m. length heard ≤ m.sample) }
+        ensures sound { ForSome result IsSoundMark }
+    {
+        self.sync.mark()
+    }
+
+    /// The receiver of one channel's frames behind a mark, in place of the handset, for a base
+    /// station at a phase and near it.
+    ///
+    /// It goes on with the samples behind those that the handset has taken, and takes over the
+    /// last of these, so it allocates nothing.
+    pub fn tune(self, mark: &Mark, channel: &Channel, phase: Phase, near: &Near) -> Tuner
+        requires mark { IsSoundMark mark.now }
+        requires early { samples_taken self ≤ mark.now.sample }
+        requires lawful { IsLawful channel.now }
+        requires least { 1 ≤ near.now.count }
+        requires most { near.now.count ≤ 3 }
+        requires first { slice_get near.now.deltas 0 ≡ Some (pos 0) }
+        ensures left { samples_left result ≡ has_room self }
+        ensures tuned { (t : Tuning) (heard : List Sample) (given : List TheEvent) →
+            StandsFor t self heard given → t.phase ≡ phase →
+            t.deltas ≡ take near.now.count near.now.deltas →
+            IsTunedTo t channel.now mark.now result heard }
+        ensures none { (t : Tuning) (heard : List Sample) (given : List TheEvent) →
+            StandsFor t self heard given → t.phase ≡ phase →
+            t.deltas ≡ take near.now.count near.now.deltas →
+            soft_frames t channel.now mark.now heard ≡ [] }
+    {
+        let Mobile {
+            count,
+            ring,
+            codes,
+            ..
+        } = self;
+        Tuner::open(count, ring, codes, mark, channel, phase, near)
     }
 
     /// Whether a frame is known that hasn't been heard.

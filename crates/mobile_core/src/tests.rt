@@ -1,14 +1,16 @@
-//! A handset that hears nothing, and a message that only a good frame carries.
+//! A handset that hears nothing, a message that only a good frame carries, and frames of zeros.
 
 ghost use Rattle.std.specs.Prelude.{◌≡◌, ◌≤◌, IfOk, length};
 ghost use Rattle.symbol_path.specs.TrafficWords.{information_of};
 ghost use Rattle.mobile_core.specs.Standing.{has_room};
+ghost use Rattle.mobile_core.specs.Tuners.{samples_left};
 
 use crate::hearing::{hear_signal, message_event};
-use crate::{Event, Mobile, Settings, Step, Traffic};
+use crate::{Channel, Event, Mark, Mobile, Settings, Step, Traffic, Tuner};
 use chip_core::{Bits, CheckForm, OutOfMemory, Phase, Sample};
 use frame_decoder::Decoded;
 use pilot_search::{Best, Near};
+use rake_finger::SampleRing;
 use short_code::Codes;
 use std::alloc::Global;
 use std::test::Fail;
@@ -103,5 +105,61 @@ fn only_good_frames_carry_messages(rt: HostRuntime) -> Result<(), Fail> {
         message,
     };
     assert!(rt; message_event(&heard, 7) == event);
+    Ok(())
+}
+
+/// The receiver of a traffic channel behind a mark, in a file of so many samples.
+fn tuner(alloc: Global, count: u64) -> Result<Tuner, OutOfMemory>
+    requires { count ≤ 67108864 }
+    ensures { IfOk result (λ tuner. samples_left tuner ≡ count) }
+{
+    let mark = Mark {
+        sample: 65_536,
+        time: 1000,
+        lc: 20_000_000_000,
+        pn: 0,
+        prat: 0,
+    };
+    let channel = Channel::Traffic(Traffic {
+        esn: 0xabcd,
+        row: 10,
+        offset: 3,
+    });
+    let near = Near {
+        count: 2,
+        deltas: [0, -3, 0],
+    };
+    let ring = SampleRing::new(alloc, 65_536)?;
+    let codes = Codes::new(alloc)?;
+    let phase = Phase::new(64).unwrap();
+    Ok(Tuner::open(count, ring, codes, &mark, &channel, phase, &near))
+}
+
+#[test]
+fn gives_frames_of_zeros(rt: HostRuntime) -> Result<(), Fail> {
+    let mut tuner = tuner(rt.alloc(), 200_000)?;
+    let zeros = [Sample { i: 0, q: 0 }; 40_000];
+    assert_eq!(rt; tuner.step(&zeros).taken, 40_000);
+    assert_eq!(rt; tuner.step(&zeros).taken, 40_000);
+
+    let step = tuner.step(&zeros);
+    assert_eq!(rt; step.taken, 14_723);
+    let Some(frame) = step.frame else {
+        return Err("no frame".into());
+    };
+    assert_eq!(rt; frame.number, 0);
+    assert_eq!(rt; frame.end, 94_723);
+    assert!(rt; frame.turned == [0; 384]);
+    let Some(power) = frame.power else {
+        return Err("no power control bits".into());
+    };
+    assert!(rt; power.commands == [true; 16]);
+
+    let step = tuner.step(&zeros);
+    assert_eq!(rt; step.taken, 24_576);
+    let Some(frame) = step.frame else {
+        return Err("no frame".into());
+    };
+    assert_eq!(rt; frame.number, 1);
     Ok(())
 }

@@ -1,0 +1,27 @@
+use Rattle.std.proofs.Common.{◌∙◌, ◌++◌, ◌∷◌, [], ℕ, List, ℤ, ap, map, sym}
+use Rattle.chip_core.specs.Bits.{places}
+use Rattle.frame_decoder.specs.TrafficFrames.{command, group_sums}
+use Rattle.symbol_path.specs.Scrambling.{power_places}
+use Rattle.mobile_core.specs.Channels.{state_at}
+use Rattle.mobile_core.proofs.FramesGiven.{no_power, some_power}
+use Rattle.mobile_core.proofs.frame_receiver.FrameReceiver.power_in.Goals as goal
+
+pub returns-then-not-self : goal.returns-then-not-self
+returns-then-not-self c = λ t channel m taken has.
+    no_power channel m c.args.frame c.args.unturned.now
+    (sym has.power_is ∙ c.if-not-self.true)
+
+pub returns : goal.returns
+returns c = λ t channel m taken has.
+    let r = c.args.self.now in
+    let sums : List ℤ = group_sums c.power_places-replaced.result c.args.unturned.now in
+    let heard = c.push.ensures.value
+    ∙ ap (λ (ss : List (List ℤ)). ss ++ sums ∷ []) c.empty-sums.ensures.value in
+    some_power channel m c.args.frame c.args.unturned.now c.power_places-replaced.result
+    c.commands.result (sym has.power_is ∙ c.if-not-self.false)
+    (c.power_places-replaced.ensures.value
+    ∙ ap (λ (state : ℕ). power_places state r.scrambling.mask)
+    (c.state_at.ensures ∙ has.state_is c.args.frame)
+    ∙ ap (power_places (state_at channel m c.args.frame)) has.mask_is)
+    (c.commands.ensures
+    ∙ ap (λ (ss : List (List ℤ)). map (command ss) (places 16)) heard)

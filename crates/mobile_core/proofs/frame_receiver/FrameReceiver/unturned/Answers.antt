@@ -1,0 +1,30 @@
+use Rattle.std.proofs.Common.{◌∙◌, ℕ, List, ap, sym}
+use Rattle.rake_finger.specs.Soft.{softs}
+use Rattle.rake_finger.specs.declared.finger.Finger.{Finger}
+use Rattle.rake_finger.specs.declared.form.Form.{Form}
+use Rattle.rake_finger.specs.declared.form.Form.TheVariants.{Data}
+use Rattle.mobile_core.specs.Channels.{channel_stream}
+use Rattle.mobile_core.specs.Streams.{frame_end, frame_start}
+use Rattle.mobile_core.proofs.FingerTimes.{in_ring}
+use Rattle.mobile_core.proofs.FramesGiven.{form_by}
+use Rattle.mobile_core.proofs.frame_receiver.FrameReceiver.unturned.Goals as goal
+
+pub combine_into-requires-clause-ring : goal.combine_into-requires-clause-ring
+combine_into-requires-clause-ring c =
+    let r = c.args.self.now in
+    let sound = c.requires.sound in
+    rw c.start-start.ensures
+    (in_ring c.args.ring.now Data r.clock.start r.fingers sound.near sound.begun c.requires.room
+    (c.requires.ended
+    ∙ sound.ends
+    ∙ ap (λ (f : Form). frame_end r.fingers f r.clock.start) sound.form_is))
+
+pub returns-clause-value : goal.returns-clause-value
+returns-clause-value c = λ t channel m heard taken holds has.
+    let r = c.args.self.now in
+    let s = channel_stream t channel m in
+    let u : ℕ = frame_start s r.clock.have in
+    c.combine_into.ensures.value heard holds
+    ∙ ap (softs heard r.fingers Data) (c.start-start.ensures ∙ has.clocked.start_is)
+    ∙ ap (λ (fs : List Finger). softs heard fs Data u) has.fingers_are
+    ∙ ap (λ (f : Form). softs heard s.fingers f u) (sym (form_by t channel m))

@@ -1,0 +1,32 @@
+use Rattle.std.proofs.Common.{◌∙◌, length, subst, sym, arith}
+use Rattle.mobile_core.specs.Near.{AreNear}
+use Rattle.mobile_core.specs.Standing.{parts}
+use Rattle.mobile_core.proofs.ClockSteps.{before_next}
+use Rattle.mobile_core.proofs.MarkAhead.{mark_ahead}
+use Rattle.mobile_core.proofs.MarkStays.{mark_told}
+use Rattle.mobile_core.proofs.Stood.{marked_all}
+use Rattle.mobile_core.proofs.mobile.Mobile.mark.Goals as goal
+
+pub returns-clause-set : goal.returns-clause-set
+returns-clause-set c = λ t heard given st m e.
+    let clock = c.args.self.now.sync.received.clock in
+    let is = st.sync.receives.clocked in
+    mark_told t clock.low is.timed heard (length heard) clock.next m (before_next is)
+    (sym st.sync.marked ∙ sym c.mark.ensures ∙ e)
+
+pub returns-clause-mark : goal.returns-clause-mark
+returns-clause-mark c = λ t heard st.
+    let m = c.args.self.now in
+    let waits = m.sound.waits in
+    let taken = st.ring.taken in
+    c.mark.ensures ∙ sym (marked_all t (parts m) heard st (omega arith))
+
+pub returns-clause-sound : goal.returns-clause-sound
+returns-clause-sound c = λ m e. c.args.self.now.sound.hears.marked m (sym c.mark.ensures ∙ e)
+
+pub returns-clause-ahead : goal.returns-clause-ahead
+returns-clause-ahead c = λ t heard given event st here none m e.
+    let self' = c.args.self.now in
+    let marked = sym c.mark.ensures ∙ e in
+    let near = subst AreNear st.sync.receives.fingers_are self'.sound.hears.channel.near in
+    mark_ahead given event st near here none m (self'.sound.hears.marked m marked).pilot marked

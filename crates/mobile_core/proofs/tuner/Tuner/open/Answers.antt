@@ -1,0 +1,26 @@
+use Rattle.std.proofs.Common.{arith, length, sym}
+use Rattle.mobile_core.proofs.FramesGiven.{none_within}
+use Rattle.mobile_core.proofs.tuner.Tuner.open.Goals as goal
+
+pub returns-clause-tuned : goal.returns-clause-tuned
+returns-clause-tuned c = λ t heard count phase deltas holds.
+    let taken = holds.taken in
+    let within = c.requires.within in
+    let early = c.requires.early in
+    record {
+      count_is = sym count;
+      ring = holds;
+      given = c.open-receiver.ensures.given t (length heard) phase deltas
+          (omega (arith, taken, within, count)) (omega (arith, taken, early));
+    }
+
+pub returns-clause-none : goal.returns-clause-none
+returns-clause-none c = λ t heard count phase deltas holds.
+    let taken = holds.taken in
+    let within = c.requires.within in
+    let early = c.requires.early in
+    let receiver = c.open-receiver.ensures in
+    let begins = receiver.begins in
+    let has = receiver.given t (length heard) phase deltas (omega (arith, taken, within, count))
+    (omega (arith, taken, early)) in
+    none_within has receiver.sound.given receiver.first (omega (arith, taken, early, begins)) heard

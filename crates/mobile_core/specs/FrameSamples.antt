@@ -1,0 +1,14 @@
+-- The samples that a frame hangs on.
+use Rattle.std.specs.Prelude.{◌≡◌, ℕ, List, [], ◌∷◌, take, drop}
+use Rattle.chip_core.specs.declared.sample.Sample.{Sample}
+use Rattle.rake_finger.specs.Soft.{finger_place, frame_chips}
+use Rattle.rake_finger.specs.declared.finger.Finger.{Finger}
+use Rattle.rake_finger.specs.declared.form.Form.{Form}
+
+-- two files agree in each finger's samples of the frame that begins at reference sample u
+abbrev pub AgreeIn : List Sample → List Sample → Form → ℕ → List Finger → Type 0
+AgreeIn one other form u [] = Unit {0}
+AgreeIn one other form u (f ∷ fingers) =
+    (take (frame_chips form) (drop (finger_place f u) one)
+    ≡ take (frame_chips form) (drop (finger_place f u) other))
+    × AgreeIn one other form u fingers

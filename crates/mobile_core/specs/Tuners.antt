@@ -1,0 +1,48 @@
+-- What the receiver of one channel's frames stands for, and what a step does.
+use Rattle.std.specs.Prelude.{◌≡◌, ℕ, ◌+◌, ◌-◌, ◌<◌, ◌≤◌, List, ◌++◌, length, take, IfSome, None}
+use Rattle.std.specs.Option.{option_to_list}
+use Rattle.chip_core.specs.declared.sample.Sample.{Sample}
+use Rattle.rake_finger.specs.Held.{HoldsLast}
+use Rattle.mobile_core.specs.FrameReceiving.{HasGiven}
+use Rattle.mobile_core.specs.SoftFrames.{soft_frames}
+use Rattle.mobile_core.specs.Tuning.{Tuning}
+use Rattle.mobile_core.specs.declared.channel.Channel.{Channel}
+use Rattle.mobile_core.specs.declared.mark.Mark.{Mark}
+use Rattle.mobile_core.specs.declared.mobile.Mobile.{Mobile}
+use Rattle.mobile_core.specs.declared.soft_frame.SoftFrame.{SoftFrame}
+use Rattle.mobile_core.specs.declared.tuner.Tuner.{Tuner}
+use Rattle.mobile_core.specs.declared.tuner.TunerStep.{TunerStep}
+
+-- It receives this channel behind this mark, has taken these samples of a file, and given the
+-- frames that end within them.
+pub record IsTunedTo (t : Tuning) (channel : Channel) (m : Mark) (r : Tuner)
+    (heard : List Sample) : Type 0 where
+  pub count_is : r.count ≡ t.count
+  pub ring : HoldsLast r.ring heard
+  pub given : HasGiven t channel m r.receiver (length heard)
+
+-- how many samples a handset has taken
+abbrev pub samples_taken : Mobile → ℕ
+samples_taken mobile = mobile.ring.taken
+
+-- how many samples of the file are left
+abbrev pub samples_left : Tuner → ℕ
+samples_left r = r.count - r.ring.taken
+
+-- From one state to another it took the first of these samples, as many as the step says, at least
+-- one where there is one, and gave the frame that it says, which ends at the last of them: that is
+-- just what the samples taken now have beyond those taken before. Where it gave none it took all.
+pub record IsTunerStep (before after : Tuner) (samples : List Sample) (step : TunerStep)
+    : Type 0 where
+  pub most : step.taken ≤ length samples
+  pub some : 0 < length samples → 0 < step.taken
+  pub all : step.frame ≡ None → step.taken ≡ length samples
+  pub left : samples_left after + step.taken ≡ samples_left before
+  pub ends : IfSome step.frame (λ (frame : SoftFrame). frame.end ≡ before.ring.taken + step.taken)
+  pub stands : (t : Tuning) (channel : Channel) (m : Mark) (heard : List Sample) →
+      IsTunedTo t channel m before heard →
+      IsTunedTo t channel m after (heard ++ take step.taken samples)
+  pub gives : (t : Tuning) (channel : Channel) (m : Mark) (heard : List Sample) →
+      IsTunedTo t channel m before heard →
+      soft_frames t channel m (heard ++ take step.taken samples)
+      ≡ soft_frames t channel m heard ++ option_to_list step.frame

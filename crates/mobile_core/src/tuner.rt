@@ -1,0 +1,122 @@
+//! The frames of one channel, from the mark on, before they are decoded.
+
+ghost use Rattle.mobile_core.specs.Tuned.{IsSoundTuner};
+
+use crate::channel::Channel;
+use crate::frame_receiver::FrameReceiver;
+use crate::mark::Mark;
+use crate::soft_frame::SoftFrame;
+use chip_core::{Phase, Sample};
+use pilot_search::Near;
+use rake_finger::SampleRing;
+use short_code::Codes;
+
+/// How many samples a step took, and which frame ends there.
+#[derive(Clone, Copy, PartialEq, Eq, Debug)]
+pub struct TunerStep {
+    /// How many of the samples were taken.
+    pub taken: usize,
+    /// The frame that ends with the last sample taken; `None` where all samples were taken and no
+    /// frame ends within them.
+    pub frame: Option<SoftFrame>,
+}
+
+/// The receiver of the frames of one channel of the reference base station, from the mark on: it
+/// takes the samples of a file in pieces of any size, and gives each frame when its last sample has
+/// been taken.
+///
+/// It doesn't decode the frames. Those of a paging channel and of a traffic channel have 384
+/// symbols each, whatever the rate (TIA/EIA-95-B, 7.1.3.4 and 7.1.3.5).
+#[derive(Drop)]
+pub struct Tuner {
+    /// How many samples the file has.
+    count: u64,
+    /// The last samples.
+    ring: SampleRing,
+    codes: Codes,
+    receiver: FrameReceiver,
+    ghost sound: { IsSoundTuner count ring receiver },
+}
+
+impl Tuner {
+    ghost use Rattle.std.specs.Prelude.{◌≡◌, ◌≤◌, ◌-◌, List, [], length};
+    ghost use Rattle.std.specs.Prelude.{Some, pos, slice_get, take};
+    ghost use Rattle.chip_core.specs.declared.sample.Sample.{Sample};
+    ghost use Rattle.mobile_core.specs.Channels.{IsLawful};
+    ghost use Rattle.mobile_core.specs.SoftFrames.{soft_frames};
+    ghost use Rattle.mobile_core.specs.Sound.{IsSoundMark};
+    ghost use Rattle.mobile_core.specs.Tuners.{IsTunedTo, IsTunerStep, samples_left};
+    ghost use Rattle.mobile_core.specs.Tuning.{Tuning};
+    ghost use Rattle.rake_finger.specs.Held.{HoldsLast};
+
+    /// The receiver of a channel behind a mark, for a base station at a phase and near it, in a
+    /// file of so many samples.
+    ///
+    /// The ring, with room for 65,536 samples, has taken the first samples of the file, up to the
+    /// mark at most; the receiver takes those behind them. It allocates nothing.
+    pub fn open(
+        count: u64,
+        ring: SampleRing,
+        codes: Codes,
+        mark: &Mark,
+        channel: &Channel,
+        phase: Phase,
+        near: &Near,
+    ) -> Tuner
+        requires count { count ≤ 67108864 }
+        requires within { ring.taken ≤ count }
+        requires room { ring.room ≡ 65536 }
+        requires mark { IsSoundMark mark.now }
+        requires early { ring.taken ≤ mark.now.sample }
+        requires lawful { IsLawful channel.now }
+        requires least { 1 ≤ near.now.count }
+        requires most { near.now.count ≤ 3 }
+        requires first { slice_get near.now.deltas 0 ≡ Some (pos 0) }
+        ensures left { samples_left result ≡ count - ring.taken }
+        ensures tuned { (t : Tuning) (heard : List Sample) → t.count ≡ count → t.phase ≡ phase →
+            t.deltas ≡ take near.now.count near.now.deltas → HoldsLast ring heard →
+            IsTunedTo t channel.now mark.now result heard }
+        ensures none { (t : Tuning) (heard : List Sample) → t.count ≡ count → t.phase ≡ phase →
+            t.deltas ≡ take near.now.count near.now.deltas → HoldsLast ring heard →
+            soft_frames t channel.now mark.now heard ≡ [] }
+    {
+        let receiver = FrameReceiver::open(mark, channel, phase, near);
+        Tuner {
+            count,
+            ring,
+            codes,
+            receiver,
+        }
+    }
+
+    /// Takes samples up to the end of the next frame, or all.
+    ///
+    /// The samples are those of the file that follow on those taken before, as many of them as
+    /// there are or fewer. Where the step gives a frame, the samples taken are exactly those up to
+    /// its end, and the caller gives the others again.
+    pub fn step(&mut self, samples: &[Sample]) -> TunerStep
+        requires { length samples.now ≤ samples_left self.old }
+        ensures { IsTunerStep self.old self.new samples.now result }
+    {
+        let left = self.receiver.end() - self.ring.taken();
+        if (samples.len() as u64) < left {
+            self.ring.push_all(samples);
+            return TunerStep {
+                taken: samples.len(),
+                frame: None,
+            };
+        }
+        let taken = left as usize;
+        self.ring.push_all(&samples[..taken]);
+        let Tuner {
+            ring,
+            codes,
+            receiver,
+            ..
+        } = self;
+        TunerStep {
+            taken,
+            frame: Some(receiver.take_frame(ring, codes)),
+        }
+    }
+}
