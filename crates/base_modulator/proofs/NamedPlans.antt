@@ -29,9 +29,11 @@ use Rattle.base_modulator.specs.declared.script.stage.Stage.{Stage}
 use Rattle.base_modulator.specs.declared.script.stage.Stage.TheVariants.{Cell, Link, Pilot, Sync}
 use Rattle.base_modulator.specs.declared.script.stage.Stage.TheVariants.{Paging, FirstPage, Pages}
 use Rattle.base_modulator.specs.declared.script.stage.Stage.TheVariants.{Traffic, FirstFrame}
-use Rattle.base_modulator.specs.declared.script.stage.Stage.TheVariants.{Frames}
+use Rattle.base_modulator.specs.declared.script.stage.Stage.TheVariants.{Frames, Frames2}
 use Rattle.base_modulator.specs.declared.plan.TrafficPlan.{TrafficPlan}
+use Rattle.base_modulator.specs.declared.frame_list.FrameList.{FrameList}
 use Rattle.base_modulator.specs.declared.traffic_frame.TrafficFrame.{TrafficFrame}
+use Rattle.base_modulator.specs.declared.traffic_frame2.TrafficFrame2.{TrafficFrame2}
 use Rattle.base_modulator.specs.declared.script.statements.PagingLine.{PagingLine}
 use Rattle.base_modulator.specs.declared.script.statements.TrafficLine.{TrafficLine}
 use Rattle.base_modulator.specs.declared.script.statements.Statement.{Statement}
@@ -45,7 +47,7 @@ use Rattle.base_modulator.specs.Script.{traffic_lines}
 use Rattle.base_modulator.specs.Script.{repeated, silent, stated, stated_plan, sync_gain_fault}
 use Rattle.base_modulator.specs.Script.{unless, walsh_fault}
 use Rattle.base_modulator.specs.ScriptDrafts.{draft_at, Draft, empty_draft, empty_plan, opened}
-use Rattle.base_modulator.specs.ScriptDrafts.{opened_traffic, with_frame}
+use Rattle.base_modulator.specs.ScriptDrafts.{on_last, opened_traffic, with_one, with_two}
 use Rattle.base_modulator.specs.ScriptJudged.{IsInOrder}
 use Rattle.base_modulator.specs.ScriptDrafts.{plan_at, with_line, with_next, with_page}
 use Rattle.base_modulator.specs.ScriptDrafts.{with_statement}
@@ -53,10 +55,11 @@ use Rattle.base_modulator.specs.ScriptLines.{statement_in}
 use Rattle.base_modulator.specs.ScriptPlans.{AreHeard, HasSaid, IsLawful, IsStatedCell}
 use Rattle.base_modulator.specs.ScriptPlans.{IsStatedLink, IsStatedPaging, IsStatedPlan}
 use Rattle.base_modulator.specs.ScriptPlans.{IsStatedSync, IsStatedTraffic}
-use Rattle.base_modulator.specs.TrafficFrames.{IsTrafficFrame}
+use Rattle.base_modulator.specs.TrafficFrames.{frame_count, set_one, set_two, AreTrafficFrames}
+use Rattle.base_modulator.specs.TrafficFrames.{IsTrafficFrame, IsTrafficFrame2}
 use Rattle.base_modulator.specs.ScriptStages.{after_cell, after_frame, after_link, after_page}
 use Rattle.base_modulator.specs.ScriptStages.{after_paging, after_pilot, after_sync, after_traffic}
-use Rattle.base_modulator.specs.ScriptStages.{behind_sync, count_behind}
+use Rattle.base_modulator.specs.ScriptStages.{after_frame2, behind_sync, count_behind}
 use Rattle.base_modulator.specs.ScriptStages.{is_cycle, may_follow, next_stage}
 use Rattle.base_modulator.specs.ScriptStages.{pages_behind}
 use Rattle.base_modulator.proofs.ScriptBounds.{line_bounds, passed}
@@ -64,7 +67,7 @@ use Rattle.base_modulator.proofs.ScriptPages.{with_page-last}
 use Rattle.base_modulator.proofs.ScriptNumbers.{few_channels, have_own_numbers, lawful_beside}
 use Rattle.base_modulator.proofs.ScriptNumbers.{some_gains}
 use Rattle.base_modulator.proofs.ScriptSplits.{stated-fault, stated-next, stated-none}
-use Rattle.base_modulator.proofs.ScriptFrames.{with_frame-last}
+use Rattle.base_modulator.proofs.ScriptFrames.{on_last-last}
 
 -- ---- pages of a cycle
 
@@ -131,10 +134,10 @@ pub record IsOpenTraffic (plan : CellPlan) : Type 0 where
   pub channels : plan.traffic ≡ before ++ last ∷ []
   pub stated : All IsStatedTraffic before
   pub bounds : (last.row ≤ 63) × (last.offset ≤ 15)
-  pub frames : All IsTrafficFrame last.frames
+  pub frames : AreTrafficFrames last.frames
 
 abbrev pub HasFrames : CellPlan → Type 0
-HasFrames plan = (o : IsOpenTraffic plan) × (1 ≤ length o.last.frames)
+HasFrames plan = (o : IsOpenTraffic plan) × (1 ≤ frame_count o.last.frames)
 
 -- no paging channel and no traffic channel
 abbrev pub IsBare : CellPlan → Type 0
@@ -151,6 +154,7 @@ HasChannels (Pages rate count) plan = HasPages rate count plan
 HasChannels Traffic plan = IsBare plan
 HasChannels FirstFrame plan = IsOpenTraffic plan
 HasChannels Frames plan = HasFrames plan
+HasChannels Frames2 plan = HasFrames plan
 
 -- ---- one statement more
 
@@ -169,6 +173,7 @@ channels_cell (Pages rate count) next plan cell has e = absurd (cc e)
 channels_cell Traffic next plan cell has e = absurd (cc e)
 channels_cell FirstFrame next plan cell has e = absurd (cc e)
 channels_cell Frames next plan cell has e = absurd (cc e)
+channels_cell Frames2 next plan cell has e = absurd (cc e)
 
 channels_link : (stage next : Stage) (plan : CellPlan) (link : LinkPlan) →
     HasChannels stage plan → after_link stage ≡ Some next →
@@ -185,6 +190,7 @@ channels_link (Pages rate count) next plan link has e = absurd (cc e)
 channels_link Traffic next plan link has e = absurd (cc e)
 channels_link FirstFrame next plan link has e = absurd (cc e)
 channels_link Frames next plan link has e = absurd (cc e)
+channels_link Frames2 next plan link has e = absurd (cc e)
 
 channels_pilot : (stage next : Stage) (plan : CellPlan) (pilot : PilotPlan) →
     HasChannels stage plan → after_pilot stage ≡ Some next →
@@ -201,6 +207,7 @@ channels_pilot (Pages rate count) next plan pilot has e = absurd (cc e)
 channels_pilot Traffic next plan pilot has e = absurd (cc e)
 channels_pilot FirstFrame next plan pilot has e = absurd (cc e)
 channels_pilot Frames next plan pilot has e = absurd (cc e)
+channels_pilot Frames2 next plan pilot has e = absurd (cc e)
 
 sync_channels : (plan : CellPlan) (sync : SyncPlan) (full half : Bool) →
     (sync.message.prat == 0) ≡ full → (sync.message.prat == 1) ≡ half → IsBare plan →
@@ -238,6 +245,7 @@ channels_sync (Pages rate count) next plan sync has e = absurd (cc e)
 channels_sync Traffic next plan sync has e = absurd (cc e)
 channels_sync FirstFrame next plan sync has e = absurd (cc e)
 channels_sync Frames next plan sync has e = absurd (cc e)
+channels_sync Frames2 next plan sync has e = absurd (cc e)
 
 -- ---- one paging channel more
 
@@ -303,6 +311,7 @@ channels_paging (Pages rate count) next plan line number has e =
 channels_paging Traffic next plan line number has e = absurd (cc e)
 channels_paging FirstFrame next plan line number has e = absurd (cc e)
 channels_paging Frames next plan line number has e = absurd (cc e)
+channels_paging Frames2 next plan line number has e = absurd (cc e)
 
 abbrev with_more : CellPlan → Page → CellPlan
 with_more plan page = record plan { paging = with_page plan.paging page }
@@ -372,6 +381,7 @@ channels_page (Pages rate count) next plan page is has e =
 channels_page Traffic next plan page is has e = absurd (cc e)
 channels_page FirstFrame next plan page is has e = absurd (cc e)
 channels_page Frames next plan page is has e = absurd (cc e)
+channels_page Frames2 next plan page is has e = absurd (cc e)
 
 -- ---- one traffic channel and one frame more
 
@@ -392,7 +402,7 @@ traffic_behind plan line bounds paging are = record {
   channels = refl;
   stated = are;
   bounds = bounds;
-  frames = All-nil IsTrafficFrame;
+  frames = record { one = All-nil IsTrafficFrame; two = All-nil IsTrafficFrame2 };
 }
 
 no_traffic : (plan : CellPlan) → plan.traffic ≡ [] → All IsStatedTraffic plan.traffic
@@ -442,33 +452,59 @@ channels_traffic FirstFrame next plan line bounds has e = absurd (cc e)
 channels_traffic Frames next plan line bounds has e =
     subst (λ (s : Stage). HasChannels s (with_traffic plan line)) (same_Some FirstFrame next e)
     (traffic_behind plan line bounds has.0.paging (traffic_closed plan has))
+channels_traffic Frames2 next plan line bounds has e =
+    subst (λ (s : Stage). HasChannels s (with_traffic plan line)) (same_Some FirstFrame next e)
+    (traffic_behind plan line bounds has.0.paging (traffic_closed plan has))
 
-abbrev with_one : CellPlan → TrafficFrame → CellPlan
-with_one plan frame = record plan { traffic = with_frame plan.traffic frame }
+abbrev with_change : CellPlan → (FrameList → FrameList) → CellPlan
+with_change plan change = record plan { traffic = on_last change plan.traffic }
 
--- the traffic channel under way has one frame more
-frame_sent : (plan : CellPlan) (frame : TrafficFrame) → IsTrafficFrame frame →
-    IsOpenTraffic plan → HasFrames (with_one plan frame)
-frame_sent plan frame is o =
-    let frames = o.last.frames ++ frame ∷ [] in
-    let last : TrafficPlan = record o.last { frames = frames } in
-    let all : with_frame plan.traffic frame ≡ o.before ++ last ∷ [] =
-    ap (λ (ts : List TrafficPlan). with_frame ts frame) o.channels
-    ∙ with_frame-last o.before o.last frame in
-    let open_now : IsOpenTraffic (with_one plan frame) = record {
+-- the traffic channel under way has other frames, and some
+frames_changed : (plan : CellPlan) (change : FrameList → FrameList) (o : IsOpenTraffic plan) →
+    AreTrafficFrames (change o.last.frames) → 1 ≤ frame_count (change o.last.frames) →
+    HasFrames (with_change plan change)
+frames_changed plan change o are some =
+    let last : TrafficPlan = record o.last { frames = change o.last.frames } in
+    let all : on_last change plan.traffic ≡ o.before ++ last ∷ [] =
+    ap (on_last change) o.channels ∙ on_last-last change o.before o.last in
+    let open_now : IsOpenTraffic (with_change plan change) = record {
       paging = o.paging;
       before = o.before;
       last = last;
       channels = all;
       stated = o.stated;
       bounds = o.bounds;
-      frames = All-push IsTrafficFrame o.last.frames frame o.frames is;
+      frames = are;
     } in
-    (open_now, omega (arith, length-append o.last.frames (frame ∷ [])))
+    (open_now, some)
+
+-- it has one frame of rate set 1 more
+frame_sent : (plan : CellPlan) (frame : TrafficFrame) → IsTrafficFrame frame →
+    IsOpenTraffic plan → HasFrames (with_change plan (with_one frame))
+frame_sent plan frame is o =
+    let frames = set_one o.last.frames in
+    frames_changed plan (with_one frame) o
+    (record {
+      one = All-push IsTrafficFrame frames frame o.frames.one is;
+      two = All-nil IsTrafficFrame2;
+    })
+    (omega (arith, length-append frames (frame ∷ [])))
+
+-- or one of rate set 2
+frame2_sent : (plan : CellPlan) (frame : TrafficFrame2) → IsTrafficFrame2 frame →
+    IsOpenTraffic plan → HasFrames (with_change plan (with_two frame))
+frame2_sent plan frame is o =
+    let frames = set_two o.last.frames in
+    frames_changed plan (with_two frame) o
+    (record {
+      one = All-nil IsTrafficFrame;
+      two = All-push IsTrafficFrame2 frames frame o.frames.two is;
+    })
+    (omega (arith, length-append frames (frame ∷ [])))
 
 channels_frame : (stage next : Stage) (plan : CellPlan) (frame : TrafficFrame) →
     IsTrafficFrame frame → HasChannels stage plan → after_frame stage ≡ Some next →
-    HasChannels next (with_one plan frame)
+    HasChannels next (with_change plan (with_one frame))
 channels_frame Cell next plan frame is has e = absurd (cc e)
 channels_frame Link next plan frame is has e = absurd (cc e)
 channels_frame Pilot next plan frame is has e = absurd (cc e)
@@ -478,11 +514,31 @@ channels_frame (FirstPage rate) next plan frame is has e = absurd (cc e)
 channels_frame (Pages rate count) next plan frame is has e = absurd (cc e)
 channels_frame Traffic next plan frame is has e = absurd (cc e)
 channels_frame FirstFrame next plan frame is has e =
-    subst (λ (s : Stage). HasChannels s (with_one plan frame)) (same_Some Frames next e)
-    (frame_sent plan frame is has)
+    subst (λ (s : Stage). HasChannels s (with_change plan (with_one frame)))
+    (same_Some Frames next e) (frame_sent plan frame is has)
 channels_frame Frames next plan frame is has e =
-    subst (λ (s : Stage). HasChannels s (with_one plan frame)) (same_Some Frames next e)
-    (frame_sent plan frame is has.0)
+    subst (λ (s : Stage). HasChannels s (with_change plan (with_one frame)))
+    (same_Some Frames next e) (frame_sent plan frame is has.0)
+channels_frame Frames2 next plan frame is has e = absurd (cc e)
+
+channels_frame2 : (stage next : Stage) (plan : CellPlan) (frame : TrafficFrame2) →
+    IsTrafficFrame2 frame → HasChannels stage plan → after_frame2 stage ≡ Some next →
+    HasChannels next (with_change plan (with_two frame))
+channels_frame2 Cell next plan frame is has e = absurd (cc e)
+channels_frame2 Link next plan frame is has e = absurd (cc e)
+channels_frame2 Pilot next plan frame is has e = absurd (cc e)
+channels_frame2 Sync next plan frame is has e = absurd (cc e)
+channels_frame2 (Paging rate) next plan frame is has e = absurd (cc e)
+channels_frame2 (FirstPage rate) next plan frame is has e = absurd (cc e)
+channels_frame2 (Pages rate count) next plan frame is has e = absurd (cc e)
+channels_frame2 Traffic next plan frame is has e = absurd (cc e)
+channels_frame2 FirstFrame next plan frame is has e =
+    subst (λ (s : Stage). HasChannels s (with_change plan (with_two frame)))
+    (same_Some Frames2 next e) (frame2_sent plan frame is has)
+channels_frame2 Frames next plan frame is has e = absurd (cc e)
+channels_frame2 Frames2 next plan frame is has e =
+    subst (λ (s : Stage). HasChannels s (with_change plan (with_two frame)))
+    (same_Some Frames2 next e) (frame2_sent plan frame is has.0)
 
 -- ---- what was said at a stage
 
@@ -572,6 +628,15 @@ added stage next plan (statements.Frame frame) is before e = record {
   };
   channels = channels_frame stage next plan frame is before.channels e;
 }
+added stage next plan (statements.Frame2 frame) is before e = record {
+  parts = record {
+    cell = before.parts.cell;
+    link = before.parts.link;
+    sync = before.parts.sync;
+    linked = before.parts.linked;
+  };
+  channels = channels_frame2 stage next plan frame is before.channels e;
+}
 
 -- no traffic channel stands before a paging channel
 paging_first : (stage next : Stage) (plan : CellPlan) → HasChannels stage plan →
@@ -586,6 +651,7 @@ paging_first (Pages rate count) next plan has e = has.0.bare
 paging_first Traffic next plan has e = absurd (cc e)
 paging_first FirstFrame next plan has e = absurd (cc e)
 paging_first Frames next plan has e = absurd (cc e)
+paging_first Frames2 next plan has e = absurd (cc e)
 
 -- a statement that may stand next stands behind those whose channels come first
 pub in_order : (stage next : Stage) (plan : CellPlan) (statement : Statement) → IsAt stage plan →
@@ -599,6 +665,7 @@ in_order stage next plan (statements.Paging line) before e =
 in_order stage next plan (statements.Page page) before e = tt
 in_order stage next plan (statements.Traffic line) before e = tt
 in_order stage next plan (statements.Frame frame) before e = tt
+in_order stage next plan (statements.Frame2 frame) before e = tt
 
 -- ---- the draft behind a line
 
@@ -668,6 +735,9 @@ plan_said Traffic n said plan is e =
     subst HasSaid (cc e) (whole_bare said is.parts is.channels)
 plan_said FirstFrame n said plan is e = absurd (cc e)
 plan_said Frames n said plan is e =
+    subst HasSaid (cc e)
+    (whole said is.parts is.channels.0.paging (traffic_closed said is.channels))
+plan_said Frames2 n said plan is e =
     subst HasSaid (cc e)
     (whole said is.parts is.channels.0.paging (traffic_closed said is.channels))
 

@@ -23,6 +23,8 @@ use Rattle.base_modulator.specs.ScriptFields.{value_of}
 use Rattle.base_modulator.specs.ScriptLines.{cell_in, cell_line, freq_in, has_lawful_rest, is_link}
 use Rattle.base_modulator.specs.ScriptLines.{link_in, link_line, sync_behind, sync_fields, sync_in}
 use Rattle.base_modulator.specs.ScriptLines.{frame_in, frame_key, frame_rate, frame_with}
+use Rattle.base_modulator.specs.ScriptLines.{frame2_in, frame2_key, frame2_rate, frame2_with}
+use Rattle.base_modulator.specs.ScriptLines.{lawful_frame2}
 use Rattle.base_modulator.specs.ScriptLines.{lawful_frame, traffic_in, traffic_line}
 use Rattle.base_modulator.specs.ScriptLines.{lawful_message, lawful_page, page_in, page_key}
 use Rattle.base_modulator.specs.ScriptLines.{page_with, paging_in, paging_line, pilot_in}
@@ -31,7 +33,10 @@ use Rattle.base_modulator.specs.declared.plan.Page.{Page}
 use Rattle.base_modulator.specs.declared.script.statements.PagingLine.{PagingLine}
 use Rattle.base_modulator.specs.declared.script.statements.TrafficLine.{TrafficLine}
 use Rattle.base_modulator.specs.declared.traffic_frame.TrafficFrame.{TrafficFrame}
-use Rattle.base_modulator.specs.TrafficFrames.{IsTrafficFrame}
+use Rattle.base_modulator.specs.declared.traffic_frame2.TrafficFrame2.{TrafficFrame2}
+use Rattle.rate_set_two.specs.Rates as second
+use Rattle.rate_set_two.specs.declared.rate.Rate2.{Rate2}
+use Rattle.base_modulator.specs.TrafficFrames.{IsTrafficFrame, IsTrafficFrame2}
 use Rattle.symbol_path.specs.TrafficWords.{information_of}
 use Rattle.symbol_path.specs.declared.kinds.Rate.{Rate}
 use Rattle.base_modulator.specs.declared.script.statements.Statement.{Statement}
@@ -377,6 +382,29 @@ unfolding frame_in
 frame_bounds text =
     both_steps (frame_rate text) _ λ rate rate_is frame e. frame_with_bounds rate text frame e
 
+frame2_some : (rate : Rate2) (information commands : List Bool) (frame : TrafficFrame2) →
+    lawful_frame2 rate information commands ≡ Some frame → IsTrafficFrame2 frame
+frame2_some rate information commands frame e =
+    let told = cond_some (length information == second.information_of rate)
+    (record { rate = rate; information = information; commands = commands }) frame e in
+    subst IsTrafficFrame2 told.1
+    (eqb-true (length information) (second.information_of rate) told.0)
+
+frame2_with_bounds : (rate : Rate2) (text : List ℕ) (frame : TrafficFrame2) →
+    frame2_with rate text ≡ Some frame → IsTrafficFrame2 frame
+frame2_with_bounds rate text =
+    both_steps (field (frame2_key rate) bits_in _) _ λ information information_is.
+    both_steps (field (codes " ") commands_in _) _ λ commands commands_is.
+    both_steps (lawful_frame2 rate information commands) _ λ frame frame_is all e.
+    subst IsTrafficFrame2 (ended _ frame all e)
+    (frame2_some rate information commands frame frame_is)
+
+pub frame2_bounds : (text : List ℕ) (frame : TrafficFrame2) → frame2_in text ≡ Some frame →
+    IsTrafficFrame2 frame
+unfolding frame2_in
+frame2_bounds text =
+    both_steps (frame2_rate text) _ λ rate rate_is frame e. frame2_with_bounds rate text frame e
+
 -- ---- any line
 
 step_told : {A : Type 0} (f : A → Statement) (read : Option A) (test : Bool)
@@ -403,5 +431,6 @@ line_bounds text statement =
     (step_told statements.Paging (paging_in text) _ _ statement (paging_bounds text)
     (step_told statements.Page (page_in text) _ _ statement (page_bounds text)
     (step_told statements.Traffic (traffic_in text) _ _ statement (traffic_bounds text)
-    (step_told statements.Frame (frame_in text) _ None statement (frame_bounds text)
-    (no_line statement))))))))
+    (step_told statements.Frame (frame_in text) _ _ statement (frame_bounds text)
+    (step_told statements.Frame2 (frame2_in text) _ None statement (frame2_bounds text)
+    (no_line statement)))))))))

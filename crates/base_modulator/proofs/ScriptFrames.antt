@@ -1,32 +1,33 @@
--- Frames of traffic channels: the channel that one more frame goes to.
+-- Frames of traffic channels: the channel whose frames change.
 use Rattle.std.proofs.Common.{◌≡◌, List, [], ◌∷◌, ◌++◌, refl, sym, ap, ◌∙◌, Result, Ok, Err, OnOk}
+use Rattle.base_modulator.specs.declared.frame_list.FrameList.{FrameList}
 use Rattle.base_modulator.specs.declared.plan.TrafficPlan.{TrafficPlan}
-use Rattle.base_modulator.specs.declared.traffic_frame.TrafficFrame.{TrafficFrame}
-use Rattle.base_modulator.specs.ScriptDrafts.{with_frame}
+use Rattle.base_modulator.specs.ScriptDrafts.{on_last}
 
-pub with_frame-last : (before : List TrafficPlan) (last : TrafficPlan) (frame : TrafficFrame) →
-    with_frame (before ++ last ∷ []) frame
-    ≡ before ++ record last { frames = last.frames ++ frame ∷ [] } ∷ []
-with_frame-last [] last frame = refl
-with_frame-last (t ∷ []) last frame = refl
-with_frame-last (t ∷ (u ∷ before)) last frame =
-    ap (λ (ts : List TrafficPlan). t ∷ ts) (with_frame-last (u ∷ before) last frame)
+pub on_last-last : (change : FrameList → FrameList) (before : List TrafficPlan)
+    (last : TrafficPlan) →
+    on_last change (before ++ last ∷ [])
+    ≡ before ++ record last { frames = change last.frames } ∷ []
+on_last-last change [] last = refl
+on_last-last change (t ∷ []) last = refl
+on_last-last change (t ∷ (u ∷ before)) last =
+    ap (λ (ts : List TrafficPlan). t ∷ ts) (on_last-last change (u ∷ before) last)
 
-frame_added : (old before new : List TrafficPlan) (last : TrafficPlan) (frame : TrafficFrame)
-    (frames : List TrafficFrame) →
-    old ≡ before ++ last ∷ [] → frames ≡ last.frames ++ frame ∷ [] →
-    new ≡ before ++ record last { frames = frames } ∷ [] → new ≡ with_frame old frame
-frame_added old before new last frame frames old_is frames_is new_is =
+last_changed : (change : FrameList → FrameList) (old before new : List TrafficPlan)
+    (last : TrafficPlan) (frames : FrameList) →
+    old ≡ before ++ last ∷ [] → frames ≡ change last.frames →
+    new ≡ before ++ record last { frames = frames } ∷ [] → new ≡ on_last change old
+last_changed change old before new last frames old_is frames_is new_is =
     new_is
-    ∙ ap (λ (fs : List TrafficFrame). before ++ record last { frames = fs } ∷ []) frames_is
-    ∙ sym (with_frame-last before last frame)
-    ∙ sym (ap (λ (ts : List TrafficPlan). with_frame ts frame) old_is)
+    ∙ ap (λ (fs : FrameList). before ++ record last { frames = fs } ∷ []) frames_is
+    ∙ sym (on_last-last change before last)
+    ∙ sym (ap (on_last change) old_is)
 
-pub push_frame : {E : Type 0} (r : Result (Unit {0}) E) (old before new : List TrafficPlan)
-    (last : TrafficPlan) (frame : TrafficFrame) (frames : List TrafficFrame) →
-    old ≡ before ++ last ∷ [] → frames ≡ last.frames ++ frame ∷ [] →
+pub push_changed : {E : Type 0} (r : Result (Unit {0}) E) (change : FrameList → FrameList)
+    (old before new : List TrafficPlan) (last : TrafficPlan) (frames : FrameList) →
+    old ≡ before ++ last ∷ [] → frames ≡ change last.frames →
     OnOk r (new ≡ before ++ record last { frames = frames } ∷ []) →
-    OnOk r (new ≡ with_frame old frame)
-push_frame (Ok u) old before new last frame frames old_is frames_is new_is =
-    frame_added old before new last frame frames old_is frames_is new_is
-push_frame (Err e) old before new last frame frames old_is frames_is new_is = tt
+    OnOk r (new ≡ on_last change old)
+push_changed (Ok u) change old before new last frames old_is frames_is new_is =
+    last_changed change old before new last frames old_is frames_is new_is
+push_changed (Err e) change old before new last frames old_is frames_is new_is = tt

@@ -21,7 +21,7 @@ use Rattle.base_modulator.specs.declared.script.stage.Stage.{Stage}
 use Rattle.base_modulator.specs.declared.script.stage.Stage.TheVariants.{Cell, Link, Pilot, Sync}
 use Rattle.base_modulator.specs.declared.script.stage.Stage.TheVariants.{Paging, FirstPage, Pages}
 use Rattle.base_modulator.specs.declared.script.stage.Stage.TheVariants.{Traffic, FirstFrame}
-use Rattle.base_modulator.specs.declared.script.stage.Stage.TheVariants.{Frames}
+use Rattle.base_modulator.specs.declared.script.stage.Stage.TheVariants.{Frames, Frames2}
 use Rattle.base_modulator.specs.declared.script_fault.ScriptFault.{ScriptFault}
 use Rattle.base_modulator.specs.declared.script_fault.ScriptFault.TheVariants.{Line, Walsh, Gain}
 use Rattle.base_modulator.specs.declared.script_fault.ScriptFault.TheVariants.{TooLoud, TooLong}
@@ -72,6 +72,7 @@ completion (Pages rate count) = []
 completion Traffic = []
 completion FirstFrame = frame_text
 completion Frames = []
+completion Frames2 = []
 
 first_page_completed : (rate : Rate) (plan : CellPlan) (n : ℕ) →
     IsOk (stated (record { stage = FirstPage rate; plan = plan }) n (lines page_text))
@@ -104,6 +105,7 @@ completed_at (Pages rate count) plan n = refl
 completed_at Traffic plan n = refl
 completed_at FirstFrame plan n = first_frame_completed plan n
 completed_at Frames plan n = refl
+completed_at Frames2 plan n = refl
 
 completed : (draft : Draft) (n : ℕ) → IsOk (stated draft n (lines (completion draft.stage)))
 completed draft n = completed_at draft.stage draft.plan n

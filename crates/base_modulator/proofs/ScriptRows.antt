@@ -22,12 +22,12 @@ use Rattle.base_modulator.specs.declared.script.judge.ChannelRows.{ChannelRows}
 use Rattle.base_modulator.specs.declared.script.statements.PagingLine.{PagingLine}
 use Rattle.base_modulator.specs.declared.script.statements.TrafficLine.{TrafficLine}
 use Rattle.base_modulator.specs.declared.script_fault.ScriptFault.{ScriptFault}
-use Rattle.base_modulator.specs.declared.traffic_frame.TrafficFrame.{TrafficFrame}
+use Rattle.base_modulator.specs.declared.frame_list.FrameList.{FrameList}
 use Rattle.base_modulator.specs.Script.{ChannelLine, channel, channel_lines, first_channels}
 use Rattle.base_modulator.specs.Script.{gain_fault, is_used, long_fault, loud_fault, paging_lines}
 use Rattle.base_modulator.specs.Script.{plan_fault, repeated, repeated_behind, silent}
 use Rattle.base_modulator.specs.Script.{traffic_lines, walsh_fault}
-use Rattle.base_modulator.specs.ScriptDrafts.{opened, opened_traffic, with_frame, with_page}
+use Rattle.base_modulator.specs.ScriptDrafts.{on_last, opened, opened_traffic, with_page}
 use Rattle.base_modulator.specs.ScriptJudged.{gains_of, judged_fault, HasJudged, HasSeen}
 
 -- ---- one line more
@@ -177,13 +177,13 @@ lines-with_page (p ∷ []) page = refl
 lines-with_page (p ∷ (q ∷ paging)) page =
     ap (λ (ls : List ChannelLine). line_of p ∷ ls) (lines-with_page (q ∷ paging) page)
 
--- and so does a frame
-lines-with_frame : (traffic : List TrafficPlan) (frame : TrafficFrame) →
-    traffic_lines (with_frame traffic frame) ≡ traffic_lines traffic
-lines-with_frame [] frame = refl
-lines-with_frame (t ∷ []) frame = refl
-lines-with_frame (t ∷ (u ∷ traffic)) frame =
-    ap (λ (ls : List ChannelLine). traffic_line_of t ∷ ls) (lines-with_frame (u ∷ traffic) frame)
+-- and so does a change of frames
+lines-on_last : (change : FrameList → FrameList) (traffic : List TrafficPlan) →
+    traffic_lines (on_last change traffic) ≡ traffic_lines traffic
+lines-on_last change [] = refl
+lines-on_last change (t ∷ []) = refl
+lines-on_last change (t ∷ (u ∷ traffic)) =
+    ap (λ (ls : List ChannelLine). traffic_line_of t ∷ ls) (lines-on_last change (u ∷ traffic))
 
 -- a paging channel more, where there is no traffic channel
 lines-opened : (paging : List PagingPlan) (traffic : List TrafficPlan) (l : PagingLine) →
@@ -219,16 +219,16 @@ judged_page judge plan page before = record {
       (lines-with_page plan.paging page))) before.channels;
 }
 
-pub judged_frame : (judge : Judge) (plan : CellPlan) (frame : TrafficFrame) →
+pub judged_frames : (judge : Judge) (plan : CellPlan) (change : FrameList → FrameList) →
     HasJudged judge plan →
-    HasJudged judge (record plan { traffic = with_frame plan.traffic frame })
-judged_frame judge plan frame before = record {
+    HasJudged judge (record plan { traffic = on_last change plan.traffic })
+judged_frames judge plan change before = record {
   link = before.link;
   pilot = before.pilot;
   sync = before.sync;
   channels = subst (HasSeen judge.channels)
       (sym (ap (λ (ls : List ChannelLine). paging_lines plan.paging ++ ls)
-      (lines-with_frame plan.traffic frame))) before.channels;
+      (lines-on_last change plan.traffic))) before.channels;
 }
 
 -- a judge that differs in its channels alone

@@ -11,9 +11,7 @@ use Rattle.quality_bits.specs.Kinds.{quality_indicator}
 use Rattle.symbol_path.specs.SentOrder.{repeats_of}
 use Rattle.symbol_path.specs.TrafficWords.{quality_of, traffic_word}
 use Rattle.symbol_path.specs.declared.kinds.Rate.{Rate}
-use Rattle.base_modulator.specs.declared.traffic_frame.TrafficFrame.{TrafficFrame}
-use Rattle.base_modulator.specs.TrafficFrames.{frame_state, traffic_frame_symbols, traffic_symbols}
-use Rattle.base_modulator.specs.TrafficFrames.{FrameCycle}
+use Rattle.base_modulator.specs.TrafficFrames.{cycled}
 
 -- the tail, and the state before a frame
 zeros : binary 8 0 ≡ replicate 8 false
@@ -54,16 +52,10 @@ flat_map-one f [] i d within = absurd (omega (arith, within))
 flat_map-one f (x ∷ xs) zero d within = append-nil (f x)
 flat_map-one f (x ∷ xs) (suc i) d within = flat_map-one f xs i d (omega (arith, within))
 
--- the symbols of the frame that stands at its place in the cycle
-pub sent_frame : (c : FrameCycle) (k : ℕ) (frames : List TrafficFrame) (f d : TrafficFrame)
-    (symbols : List Bool) → 1 ≤ length c.frames → frames ≡ c.frames →
-    f ≡ get_or frames (k % length frames) d →
-    symbols ≡ traffic_symbols (frame_state c k) c.mask f → symbols ≡ traffic_frame_symbols c k
-unfolding traffic_frame_symbols
-sent_frame c k frames f d symbols some same found sent =
-    let made = traffic_symbols (frame_state c k) c.mask in
-    let within : k % length c.frames < length c.frames = omega (arith, some) in
-    sent
-    ∙ ap made found
-    ∙ ap (λ (fs : List TrafficFrame). made (get_or fs (k % length fs) d)) same
-    ∙ sym (flat_map-one made c.frames (k % length c.frames) d within)
+-- what is made of the entry that stands at its place in a cycle
+pub made_of : {F : Type 0} (made : F → List Bool) (frames : List F) (k : ℕ) (f d : F)
+    (symbols : List Bool) → 1 ≤ length frames → f ≡ get_or frames (k % length frames) d →
+    symbols ≡ made f → symbols ≡ flat_map made (cycled frames k)
+made_of made frames k f d symbols some found is =
+    let within : k % length frames < length frames = omega (arith, some) in
+    is ∙ ap made found ∙ sym (flat_map-one made frames (k % length frames) d within)

@@ -11,14 +11,14 @@ use Rattle.base_modulator.specs.declared.script.stage.Stage.TheVariants.{FirstFr
 use Rattle.base_modulator.specs.declared.script.statements.Statement.TheVariants as statements
 use Rattle.base_modulator.specs.declared.script.statements.TrafficLine.{TrafficLine}
 use Rattle.base_modulator.specs.declared.traffic_frame.TrafficFrame.{TrafficFrame}
-use Rattle.base_modulator.specs.ScriptDrafts.{Draft, draft_at, with_frame, with_next}
+use Rattle.base_modulator.specs.ScriptDrafts.{Draft, draft_at, with_frame, with_next, with_one}
 use Rattle.base_modulator.specs.ScriptStages.{after_frame, after_traffic}
 use Rattle.base_modulator.specs.Spelling.{frame_text, traffic_text}
 use Rattle.base_modulator.specs.TrafficFrames.{IsTrafficFrame}
 use Rattle.base_modulator.specs.Trial.{behind_draw, behind_draws, behind_frames, bits_drawn}
 use Rattle.base_modulator.specs.Trial.{bits_of_frame, channel_of, channel_text, drawn, ended}
 use Rattle.base_modulator.specs.Trial.{frame_drawn, frame_lines, frames_drawn}
-use Rattle.base_modulator.proofs.ScriptFrames.{with_frame-last}
+use Rattle.base_modulator.proofs.ScriptFrames.{on_last-last}
 use Rattle.base_modulator.proofs.SpelledLines.{IsStatedLine, frame_line_within, frame_spelled}
 use Rattle.base_modulator.proofs.SpelledLines.{frame_text_short, traffic_line_within}
 use Rattle.base_modulator.proofs.SpelledLines.{traffic_spelled, traffic_text_short}
@@ -54,7 +54,7 @@ frame_added : (plan : CellPlan) (before : List TrafficPlan) (line : TrafficLine)
 frame_added plan before line got f stage is =
     frame_next (with_last plan before line got) stage f is
     ∙ ap (λ (ts : List TrafficPlan). Some (draft_at (record plan { traffic = ts }) Frames))
-    (with_frame-last before (channel_of line got) f)
+    (on_last-last (with_one f) before (channel_of line got))
 
 frame_leads : (plan : CellPlan) (before : List TrafficPlan) (line : TrafficLine)
     (got : List TrafficFrame) (f : TrafficFrame) (stage : Stage) →

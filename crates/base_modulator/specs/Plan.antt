@@ -13,7 +13,7 @@ use Rattle.base_modulator.specs.declared.plan.PagingPlan.{PagingPlan}
 use Rattle.base_modulator.specs.declared.plan.TrafficPlan.{TrafficPlan}
 use Rattle.base_modulator.specs.declared.plan.CellPlan.{CellPlan}
 use Rattle.base_modulator.specs.declared.plan.SyncPlan.{SyncPlan}
-use Rattle.base_modulator.specs.TrafficFrames.{IsTrafficFrame}
+use Rattle.base_modulator.specs.TrafficFrames.{frame_count, AreTrafficFrames}
 
 -- the greatest absolute value of a part of a sample
 abbrev pub most_part : Width → ℕ
@@ -69,8 +69,8 @@ pub record IsTrafficPlan (t : TrafficPlan) : Type 0 where
   pub other : t.row ≢ 32
   pub latest : t.offset ≤ 15
   pub gain : 0 < t.gain
-  pub some : 1 ≤ length t.frames
-  pub sized : All IsTrafficFrame t.frames
+  pub some : 1 ≤ frame_count t.frames
+  pub sized : AreTrafficFrames t.frames
 
 -- no two traffic channels have one row
 abbrev pub HaveOwnTrafficRows : List TrafficPlan → Type 0

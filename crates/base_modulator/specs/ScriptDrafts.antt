@@ -5,16 +5,20 @@ use Rattle.chip_core.specs.declared.check_form.CheckForm.TheVariants.{Plain}
 use Rattle.base_modulator.specs.declared.plan.CellPlan.{CellPlan}
 use Rattle.base_modulator.specs.declared.plan.Page.{Page}
 use Rattle.base_modulator.specs.declared.plan.PagingPlan.{PagingPlan}
+use Rattle.base_modulator.specs.declared.frame_list.FrameList.{FrameList}
+use Rattle.base_modulator.specs.declared.frame_list.FrameList.TheVariants.{SetOne, SetTwo}
 use Rattle.base_modulator.specs.declared.script.stage.Stage.{Stage}
 use Rattle.base_modulator.specs.declared.script.stage.Stage.TheVariants.{Cell}
 use Rattle.base_modulator.specs.declared.plan.TrafficPlan.{TrafficPlan}
 use Rattle.base_modulator.specs.declared.script.statements.PagingLine.{PagingLine}
 use Rattle.base_modulator.specs.declared.script.statements.TrafficLine.{TrafficLine}
 use Rattle.base_modulator.specs.declared.traffic_frame.TrafficFrame.{TrafficFrame}
+use Rattle.base_modulator.specs.declared.traffic_frame2.TrafficFrame2.{TrafficFrame2}
 use Rattle.base_modulator.specs.declared.script.statements.Statement.{Statement}
 use Rattle.base_modulator.specs.declared.script.statements.Statement.TheVariants as statements
 use Rattle.base_modulator.specs.ScriptLines.{statement_in}
 use Rattle.base_modulator.specs.ScriptStages.{is_complete, next_stage}
+use Rattle.base_modulator.specs.TrafficFrames.{set_one, set_two}
 
 -- what stands for the parts of a plan that weren't stated yet
 abbrev pub empty_plan : CellPlan
@@ -44,14 +48,29 @@ opened_traffic line = record {
   esn = line.esn;
   offset = line.offset;
   gain = line.gain;
-  frames = [];
+  frames = SetOne [];
 }
+
+-- one frame of rate set 1 more; frames of rate set 2 don't stay
+abbrev pub with_one : TrafficFrame → FrameList → FrameList
+with_one frame frames = SetOne (set_one frames ++ frame ∷ [])
+
+-- one frame of rate set 2 more; frames of rate set 1 don't stay
+abbrev pub with_two : TrafficFrame2 → FrameList → FrameList
+with_two frame frames = SetTwo (set_two frames ++ frame ∷ [])
+
+-- what becomes of the channels where the frames of the last of them change
+abbrev pub on_last : (FrameList → FrameList) → List TrafficPlan → List TrafficPlan
+on_last change [] = []
+on_last change (t ∷ []) = record t { frames = change t.frames } ∷ []
+on_last change (t ∷ (u ∷ traffic)) = t ∷ on_last change (u ∷ traffic)
 
 -- one frame more for the last of the traffic channels
 abbrev pub with_frame : List TrafficPlan → TrafficFrame → List TrafficPlan
-with_frame [] frame = []
-with_frame (t ∷ []) frame = record t { frames = t.frames ++ frame ∷ [] } ∷ []
-with_frame (t ∷ (u ∷ traffic)) frame = t ∷ with_frame (u ∷ traffic) frame
+with_frame traffic frame = on_last (with_one frame) traffic
+
+abbrev pub with_frame2 : List TrafficPlan → TrafficFrame2 → List TrafficPlan
+with_frame2 traffic frame = on_last (with_two frame) traffic
 
 -- what a statement makes of a plan
 abbrev pub with_statement : CellPlan → Statement → CellPlan
@@ -66,6 +85,8 @@ with_statement plan (statements.Traffic line) =
     record plan { traffic = plan.traffic ++ opened_traffic line ∷ [] }
 with_statement plan (statements.Frame frame) =
     record plan { traffic = with_frame plan.traffic frame }
+with_statement plan (statements.Frame2 frame) =
+    record plan { traffic = with_frame2 plan.traffic frame }
 
 -- what the lines of a script have stated, and what may stand next
 pub record Draft : Type 0 where

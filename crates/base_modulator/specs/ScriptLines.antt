@@ -23,6 +23,10 @@ use Rattle.base_modulator.specs.ScriptFields.{past_numbers, row}
 use Rattle.base_modulator.specs.ScriptFields.{StatementRow, formed, past_at, signed_at, unsigned_at}
 use Rattle.base_modulator.specs.ScriptValues.{begins_with, bits_in, commands_in, number_up_to}
 use Rattle.base_modulator.specs.declared.traffic_frame.TrafficFrame.{TrafficFrame}
+use Rattle.base_modulator.specs.declared.traffic_frame2.TrafficFrame2.{TrafficFrame2}
+use Rattle.rate_set_two.specs.Rates as second
+use Rattle.rate_set_two.specs.declared.rate.Rate2.{Rate2}
+use Rattle.rate_set_two.specs.declared.rate.Rate2.TheVariants.{R14400, R7200, R3600, R1800}
 use Rattle.symbol_path.specs.TrafficWords.{information_of}
 use Rattle.symbol_path.specs.declared.kinds.Rate.{Rate}
 use Rattle.symbol_path.specs.declared.kinds.Rate.TheVariants.{R9600, R4800, R2400, R1200}
@@ -289,6 +293,44 @@ frame_in text = do
   rate ← frame_rate text
   frame_with rate text
 
+-- `frame2 RATE BITS COMMANDS`: a frame of rate set 2, in the same way
+
+-- what stands before the bits
+abbrev pub frame2_key : Rate2 → List ℕ
+frame2_key R14400 = codes "frame2 14400 "
+frame2_key R7200 = codes "frame2 7200 "
+frame2_key R3600 = codes "frame2 3600 "
+frame2_key R1800 = codes "frame2 1800 "
+
+-- the rate that a line begins with
+abbrev pub frame2_rate : List ℕ → Option Rate2
+frame2_rate text =
+    if begins_with text (codes "frame2 14400 ") then Some R14400
+    else (if begins_with text (codes "frame2 7200 ") then Some R7200
+    else (if begins_with text (codes "frame2 3600 ") then Some R3600
+    else (if begins_with text (codes "frame2 1800 ") then Some R1800
+    else None)))
+
+abbrev pub lawful_frame2 : Rate2 → List Bool → List Bool → Option TrafficFrame2
+lawful_frame2 rate information commands =
+    if length information == second.information_of rate
+    then Some (record { rate = rate; information = information; commands = commands }) else None
+
+abbrev pub frame2_with : Rate2 → List ℕ → Option TrafficFrame2
+frame2_with rate text0 =
+    let text1 = past (frame2_key rate) text0 in
+    let text2 = past (codes " ") text1 in
+    do
+      information ← field (frame2_key rate) bits_in text0
+      commands ← field (codes " ") commands_in text1
+      frame ← lawful_frame2 rate information commands
+      at_end text2 frame
+
+unfoldable pub frame2_in : List ℕ → Option TrafficFrame2
+frame2_in text = do
+  rate ← frame2_rate text
+  frame2_with rate text
+
 -- ---- what a line states
 
 -- the kind of a statement is told by its first word
@@ -303,4 +345,6 @@ statement_in text =
     else (if begins_with text (codes "traffic ")
     then option_map statements.Traffic (traffic_in text)
     else (if begins_with text (codes "frame ") then option_map statements.Frame (frame_in text)
-    else None)))))))
+    else (if begins_with text (codes "frame2 ")
+    then option_map statements.Frame2 (frame2_in text)
+    else None))))))))

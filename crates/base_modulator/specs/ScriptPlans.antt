@@ -18,7 +18,8 @@ use Rattle.base_modulator.specs.declared.plan.SyncPlan.{SyncPlan}
 use Rattle.base_modulator.specs.declared.plan.TrafficPlan.{TrafficPlan}
 use Rattle.base_modulator.specs.declared.plan.CellIdentity.{CellIdentity}
 use Rattle.base_modulator.specs.declared.plan.LinkPlan.{LinkPlan}
-use Rattle.base_modulator.specs.TrafficFrames.{IsTrafficFrame}
+use Rattle.base_modulator.specs.TrafficFrames.{frame_count, AreTrafficFrames, IsTrafficFrame}
+use Rattle.base_modulator.specs.TrafficFrames.{IsTrafficFrame2}
 use Rattle.base_modulator.specs.declared.script.statements.Statement.{Statement}
 use Rattle.base_modulator.specs.declared.script.statements.Statement.TheVariants as statements
 
@@ -32,6 +33,7 @@ HasRow (statements.Paging line) = line.number < 64
 HasRow (statements.Page page) = Unit {0}
 HasRow (statements.Traffic line) = line.row < 64
 HasRow (statements.Frame frame) = Unit {0}
+HasRow (statements.Frame2 frame) = Unit {0}
 
 pub record IsStatedCell (cell : CellIdentity) : Type 0 where
   pub pn : cell.pn < 512
@@ -77,8 +79,8 @@ pub record IsStatedPaging (rate : Rate) (p : PagingPlan) : Type 0 where
 pub record IsStatedTraffic (t : TrafficPlan) : Type 0 where
   pub last : t.row ≤ 63
   pub latest : t.offset ≤ 15
-  pub some : 1 ≤ length t.frames
-  pub sized : All IsTrafficFrame t.frames
+  pub some : 1 ≤ frame_count t.frames
+  pub sized : AreTrafficFrames t.frames
 
 pub record IsStatedPlan (plan : CellPlan) : Type 0 where
   pub cell : IsStatedCell plan.cell
@@ -102,3 +104,4 @@ IsLawful (statements.Paging line) = (1 ≤ line.number) × (line.number ≤ 7)
 IsLawful (statements.Page page) = FillsCapsule M30 page.body × HasMessage page.body
 IsLawful (statements.Traffic line) = (line.row ≤ 63) × (line.offset ≤ 15)
 IsLawful (statements.Frame frame) = IsTrafficFrame frame
+IsLawful (statements.Frame2 frame) = IsTrafficFrame2 frame

@@ -10,7 +10,7 @@ use Rattle.base_modulator.specs.declared.script.stage.Stage.{Stage}
 use Rattle.base_modulator.specs.declared.script.stage.Stage.TheVariants.{Cell, Link, Pilot, Sync}
 use Rattle.base_modulator.specs.declared.script.stage.Stage.TheVariants.{Paging, FirstPage, Pages}
 use Rattle.base_modulator.specs.declared.script.stage.Stage.TheVariants.{Traffic, FirstFrame}
-use Rattle.base_modulator.specs.declared.script.stage.Stage.TheVariants.{Frames}
+use Rattle.base_modulator.specs.declared.script.stage.Stage.TheVariants.{Frames, Frames2}
 use Rattle.base_modulator.specs.declared.script.statements.Statement.{Statement}
 use Rattle.base_modulator.specs.declared.script.statements.Statement.TheVariants as statements
 use Rattle.base_modulator.specs.Pages.{half_frame_bits, laid_behind}
@@ -77,12 +77,19 @@ after_traffic (Paging rate) = Some FirstFrame
 after_traffic (Pages rate count) = Some FirstFrame
 after_traffic Traffic = Some FirstFrame
 after_traffic Frames = Some FirstFrame
+after_traffic Frames2 = Some FirstFrame
 after_traffic _ = None
 
 abbrev pub after_frame : Stage → Option Stage
 after_frame FirstFrame = Some Frames
 after_frame Frames = Some Frames
 after_frame _ = None
+
+-- the frames of a channel are all of one rate set
+abbrev pub after_frame2 : Stage → Option Stage
+after_frame2 FirstFrame = Some Frames2
+after_frame2 Frames2 = Some Frames2
+after_frame2 _ = None
 
 -- what may stand behind a statement; None where it can't stand
 abbrev pub next_stage : Stage → Statement → Option Stage
@@ -94,6 +101,7 @@ next_stage stage (statements.Paging line) = after_paging stage
 next_stage stage (statements.Page page) = after_page stage page
 next_stage stage (statements.Traffic line) = after_traffic stage
 next_stage stage (statements.Frame frame) = after_frame stage
+next_stage stage (statements.Frame2 frame) = after_frame2 stage
 
 -- whether a script may end
 abbrev pub is_complete : Stage → Bool
@@ -107,3 +115,4 @@ is_complete (Pages rate count) = true
 is_complete Traffic = true
 is_complete FirstFrame = false
 is_complete Frames = true
+is_complete Frames2 = true

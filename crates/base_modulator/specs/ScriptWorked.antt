@@ -1,6 +1,6 @@
 -- Worked values of scripts, which the checker computes.
 use Rattle.std.specs.Prelude.{ℕ, ◌≡◌, refl, ◌/◌, ◌^◌, ◌++◌, List, [], ◌∷◌, codes, replicate, false}
-use Rattle.std.specs.Prelude.{pos, negsuc, Some, None, Ok, Err}
+use Rattle.std.specs.Prelude.{pos, negsuc, take, Some, None, Ok, Err}
 use Rattle.hex.specs.Hex.{decode_pairs}
 use Rattle.paging_message.specs.Admitted.{admits}
 use Rattle.paging_message.specs.HalfFrames.{bits_left}
@@ -9,20 +9,25 @@ use Rattle.paging_message.specs.Reading.{is_body}
 use Rattle.chip_core.specs.Bits.{binary}
 use Rattle.chip_core.specs.declared.check_form.CheckForm.TheVariants.{Plain}
 use Rattle.cdma_io.specs.declared.width.Width.TheVariants.{Sixteen}
+use Rattle.rate_set_two.specs.declared.rate.Rate2.TheVariants.{R1800}
+use Rattle.base_modulator.specs.declared.frame_list.FrameList.TheVariants.{SetTwo}
 use Rattle.base_modulator.specs.declared.plan.CellPlan.{CellPlan}
 use Rattle.base_modulator.specs.declared.plan.Page.{Page}
 use Rattle.base_modulator.specs.declared.plan.PagingPlan.{PagingPlan}
 use Rattle.base_modulator.specs.declared.plan.SyncPlan.{SyncPlan}
+use Rattle.base_modulator.specs.declared.plan.TrafficPlan.{TrafficPlan}
 use Rattle.base_modulator.specs.declared.script_fault.ScriptFault.TheVariants.{Line, TooLoud}
 use Rattle.base_modulator.specs.declared.script_fault.ScriptFault.TheVariants.{TooLong}
 use Rattle.chip_core.specs.Decimals.{digits_from}
-use Rattle.base_modulator.specs.ScriptValues.{bits_in, hex_bits, hex_from}
-use Rattle.base_modulator.specs.ScriptValues.{length_before, number_up_to, signed_in, state_in}
+use Rattle.base_modulator.specs.ScriptValues.{bits_in, commands_in, digits_behind, hex_bits}
+use Rattle.base_modulator.specs.ScriptValues.{hex_from, length_before, number_up_to}
+use Rattle.base_modulator.specs.ScriptValues.{serial_number_in}
+use Rattle.base_modulator.specs.ScriptValues.{signed_in, state_in}
 use Rattle.base_modulator.specs.ScriptFields.{field, numbers_in, past, past_numbers}
 use Rattle.base_modulator.specs.ScriptDrafts.{with_line, with_next}
 use Rattle.base_modulator.specs.ScriptLines.{cell_in, freq_in, link_in, page_in, paging_in}
 use Rattle.base_modulator.specs.ScriptLines.{past_freq, pilot_in, statement_in, sync_behind}
-use Rattle.base_modulator.specs.ScriptLines.{sync_in}
+use Rattle.base_modulator.specs.ScriptLines.{frame_in, frame2_in, sync_in, traffic_in}
 use Rattle.base_modulator.specs.ScriptStages.{pages_behind}
 use Rattle.base_modulator.specs.Script.{is_line, lines, plan_named, draft_after, stated}
 use Rattle.base_modulator.specs.Script.{stated_plan}
@@ -39,6 +44,13 @@ paging_script : List ℕ → List ℕ
 paging_script link =
     script link ++ codes "paging channel=1 gain=60" ++ 10 ∷ codes "page half 34:04ff8046c0" ++ 10
     ∷ []
+
+-- one with a traffic channel of rate set 2, and these lines behind its frame
+traffic_script : List ℕ → List ℕ
+traffic_script behind =
+    script (codes "re=0 im=-3 start=0 samples=1228800")
+    ++ codes "traffic row=10 esn=0000abcd offset=0 gain=40" ++ 10
+    ∷ codes "frame2 1800 22:5a5a58 0101010101010101" ++ 10 ∷ behind
 
 sync_plan : SyncPlan
 sync_plan = record {
@@ -76,6 +88,19 @@ page = record { follows = false; body = binary 34 (0x04ff8046c0 / 64) }
 
 paging_plan : PagingPlan
 paging_plan = record { number = 1; gain = 60; pages = page ∷ [] }
+
+traffic_plan : TrafficPlan
+traffic_plan = record {
+  row = 10;
+  esn = 43981;
+  offset = 0;
+  gain = 40;
+  frames = SetTwo (record {
+    rate = R1800;
+    information = take 22 (binary 24 0x5a5a58);
+    commands = binary 16 0x5555;
+  } ∷ []);
+}
 
 empty : plan_named Sixteen [] ≡ Err (Line 1)
 unfolding plan_named stated_plan stated lines
@@ -143,3 +168,22 @@ unfolding script plan_named stated_plan stated draft_after lines is_line with_li
     statement_in cell_in link_in field past length_before number_up_to digits_from signed_in
     state_in hex_from
 past_64_bits = refl
+
+of_rate_set_two : plan_named Sixteen (traffic_script [])
+    ≡ Ok (record (plan []) { traffic = traffic_plan ∷ [] })
+unfolding traffic_script script plan sync_plan traffic_plan plan_named stated_plan stated
+    draft_after lines is_line with_line with_next statement_in cell_in link_in pilot_in sync_in
+    sync_behind freq_in past_freq traffic_in frame2_in numbers_in past_numbers field past
+    length_before number_up_to digits_from signed_in state_in serial_number_in hex_from bits_in
+    hex_bits decode_pairs commands_in digits_behind binary
+of_rate_set_two = refl
+
+-- a frame of rate set 1 behind one of rate set 2
+of_both : plan_named Sixteen
+    (traffic_script (codes "frame 1200 16:ffff 0101010101010101" ++ 10 ∷ [])) ≡ Err (Line 7)
+unfolding traffic_script script plan_named stated_plan stated draft_after lines is_line with_line
+    with_next statement_in cell_in link_in pilot_in sync_in sync_behind freq_in past_freq traffic_in
+    frame_in frame2_in numbers_in past_numbers field past length_before number_up_to digits_from
+    signed_in state_in serial_number_in hex_from bits_in hex_bits decode_pairs commands_in
+    digits_behind binary
+of_both = refl

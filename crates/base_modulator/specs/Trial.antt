@@ -13,6 +13,7 @@ use Rattle.base_modulator.specs.declared.plan.CellPlan.{CellPlan}
 use Rattle.base_modulator.specs.declared.plan.Page.{Page}
 use Rattle.base_modulator.specs.declared.plan.SyncPlan.{SyncPlan}
 use Rattle.base_modulator.specs.declared.plan.TrafficPlan.{TrafficPlan}
+use Rattle.base_modulator.specs.declared.frame_list.FrameList.TheVariants.{SetOne}
 use Rattle.base_modulator.specs.declared.script.statements.TrafficLine.{TrafficLine}
 use Rattle.base_modulator.specs.declared.traffic_frame.TrafficFrame.{TrafficFrame}
 use Rattle.base_modulator.specs.Spelling.{cell_text, frame_text, page_text, traffic_text}
@@ -186,7 +187,7 @@ channel_of line frames = record {
   esn = line.esn;
   offset = line.offset;
   gain = line.gain;
-  frames = frames;
+  frames = SetOne frames;
 }
 
 unfoldable pub trial_plan : ℕ → CellPlan

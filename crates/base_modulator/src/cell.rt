@@ -19,13 +19,13 @@ ghost use Rattle.base_modulator.specs.Transmitter.{IsSendableSync, header_of, ph
 use crate::block::{BLOCK, fill_block, turned};
 use crate::channel::Channel;
 use crate::continued::ContinuedEncoder;
+use crate::frame_list::FrameList;
 use crate::frame_source::FrameSource;
 use crate::page_cycle::PageCycle;
 use crate::plan::{CellPlan, PagingPlan, SyncPlan, TrafficPlan};
 use crate::script::plan_of;
 use crate::script_fault::ScriptFault;
 use crate::sendings::Sendings;
-use crate::series::Series;
 use crate::symbol_source::SymbolSource;
 use crate::traffic_cycle::TrafficCycle;
 use cdma_io::{Header, Width};
@@ -162,7 +162,7 @@ fn traffic_channel(
     requires traffic { IsTrafficPlan traffic.now }
     ensures { IfOk result (λ channel. carrier_of channel ≡ traffic_carrier plan.now traffic.now) }
 {
-    let frames = Series::copied(alloc, traffic.frames.as_slice())?;
+    let frames = FrameList::copied(alloc, &traffic.frames)?;
     let mask = traffic_mask(traffic.esn);
     let cycle = TrafficCycle::new(&plan.cell, mask, traffic.offset, frames);
     let first = cycle.first_chip(0);

@@ -10,6 +10,7 @@ ghost use Rattle.sync_message.specs.SyncMessage.{IsSyncMessage};
 ghost use Rattle.symbol_path.specs.declared.kinds.Rate.TheVariants.{R9600, R4800};
 
 use crate::Cell;
+use crate::frame_list::FrameList;
 use crate::plan::{
     CellIdentity, CellPlan, LinkPlan, Page, PagingPlan, PilotPlan, SyncPlan, TrafficPlan,
 };
@@ -199,8 +200,8 @@ fn traffic_frame() -> TrafficFrame
 fn traffic_channel(alloc: Global) -> Result<TrafficPlan, Fail>
     ensures { IfOk result (λ t. (t.gain ≡ 60) × IsTrafficPlan t) }
 {
-    let mut frames = Series::new(alloc);
-    frames.push(traffic_frame())?;
+    let mut frames = FrameList::new(alloc);
+    frames.push_one(alloc, &traffic_frame())?;
     Ok(TrafficPlan {
         row: 40,
         esn: 1,

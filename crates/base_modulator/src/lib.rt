@@ -12,6 +12,7 @@ mod cell_tests;
 mod channel;
 mod continued;
 mod form;
+mod frame_list;
 mod frame_source;
 pub mod laws;
 mod page_cycle;
@@ -24,6 +25,7 @@ mod series;
 mod symbol_source;
 mod traffic_cycle;
 mod traffic_frame;
+mod traffic_frame2;
 #[cfg(test)]
 mod traffic_tests;
 mod trial;
@@ -32,10 +34,12 @@ mod trial_tests;
 
 pub use cell::Cell;
 pub use form::ChannelForm;
+pub use frame_list::FrameList;
 pub use plan::{
     CellIdentity, CellPlan, LinkPlan, Page, PagingPlan, PilotPlan, SyncPlan, TrafficPlan,
 };
 pub use script_fault::ScriptFault;
 pub use series::Series;
 pub use traffic_frame::TrafficFrame;
+pub use traffic_frame2::TrafficFrame2;
 pub use trial::{trial_script, trial_serial_number};

@@ -2,7 +2,8 @@
 //!
 //! Each line is a statement and ends with LF: `cell`, `link`, `pilot`, and perhaps `sync`, in this
 //! order; behind `sync` any number of `paging` lines, each with one or more `page` lines behind it,
-//! and then any number of `traffic` lines, each with one or more `frame` lines behind it.
+//! and then any number of `traffic` lines, each with one or more `frame` lines behind it, or one or
+//! more `frame2` lines.
 //!
 //! A script is read twice. First its statements are judged one after another, without memory; only
 //! of a script without a fault is a plan made.

@@ -1,13 +1,17 @@
 //! The frames of a traffic channel.
 
 ghost use Rattle.std.specs.Prelude.{◌≡◌, ◌+◌, ◌*◌, ◌<◌, ◌≤◌, ◌^◌, length, All};
+ghost use Rattle.std.specs.List.{flat_map};
 ghost use Rattle.long_code.specs.LongCode.{IsState};
 ghost use Rattle.base_modulator.specs.TrafficFrames.{frame_state, traffic_frame_symbols};
-ghost use Rattle.base_modulator.specs.TrafficFrames.{IsTrafficFrame};
+ghost use Rattle.base_modulator.specs.TrafficFrames.{cycled, frame_count, traffic_symbols};
+ghost use Rattle.base_modulator.specs.TrafficFrames.{traffic_symbols2, AreTrafficFrames};
+ghost use Rattle.base_modulator.specs.TrafficFrames.{IsTrafficFrame, IsTrafficFrame2};
 
+use crate::frame_list::FrameList;
 use crate::plan::CellIdentity;
-use crate::series::Series;
 use crate::traffic_frame::TrafficFrame;
+use crate::traffic_frame2::TrafficFrame2;
 use chip_core::Bits;
 use chip_core::air::{DATA_FRAME_CHIPS, FRAME_OFFSET_CHIPS};
 use long_code::State;
@@ -23,7 +27,7 @@ pub struct TrafficCycle {
     cell: CellIdentity,
     mask: u64,
     offset: u8,
-    frames: Series<TrafficFrame>,
+    frames: FrameList,
 }
 
 impl Model for TrafficCycle {
@@ -38,19 +42,40 @@ impl Model for TrafficCycle {
         (record { cell = c.cell; mask = c.mask; offset = c.offset; frames = c.frames }) };
 }
 
+/// The 384 symbols of a frame of rate set 1, which begins at a state of the long code.
+fn symbols_of_one(frames: &[TrafficFrame], frame: u64, state: &State, mask: u64) -> Bits
+    requires mask { mask < 2 ^ 42 }
+    requires some { 1 ≤ length frames.now }
+    requires frames { All IsTrafficFrame frames.now }
+    ensures value { result ≡
+        flat_map (traffic_symbols state.now mask) (cycled frames.now frame) }
+    ensures count { length result ≡ 384 }
+{
+    let place = (frame % frames.len() as u64) as usize;
+    frames[place].symbols(state, mask)
+}
+
+/// The 384 symbols of a frame of rate set 2, which begins at a state of the long code.
+fn symbols_of_two(frames: &[TrafficFrame2], frame: u64, state: &State, mask: u64) -> Bits
+    requires mask { mask < 2 ^ 42 }
+    requires some { 1 ≤ length frames.now }
+    requires frames { All IsTrafficFrame2 frames.now }
+    ensures value { result ≡
+        flat_map (traffic_symbols2 state.now mask) (cycled frames.now frame) }
+    ensures count { length result ≡ 384 }
+{
+    let place = (frame % frames.len() as u64) as usize;
+    frames[place].symbols(state, mask)
+}
+
 impl TrafficCycle {
     /// The frames that a cell sends under a mask of the long code, with a FRAME_OFFSET.
-    pub fn new(
-        cell: &CellIdentity,
-        mask: u64,
-        offset: u8,
-        frames: Series<TrafficFrame>,
-    ) -> TrafficCycle
+    pub fn new(cell: &CellIdentity, mask: u64, offset: u8, frames: FrameList) -> TrafficCycle
         requires lc { IsState cell.now.lc }
         requires mask { mask < 2 ^ 42 }
         requires offset { offset ≤ 15 }
-        requires some { 1 ≤ length frames }
-        requires frames { All IsTrafficFrame frames }
+        requires some { 1 ≤ frame_count frames }
+        requires frames { AreTrafficFrames frames }
         ensures { result ≡ record {
           cell = cell.now;
           mask = mask;
@@ -85,14 +110,20 @@ impl TrafficCycle {
     }
 
     /// The 384 symbols of a frame as they are sent.
+    #[tactic(auto, unfolding(crate::specs::TrafficFrames::traffic_frame_symbols))]
     pub fn symbols(&self, frame: u64) -> Bits
         requires { frame < 2 ^ 20 }
         ensures value { result ≡ traffic_frame_symbols self.now frame }
         ensures count { length result ≡ 384 }
     {
         let state = self.state_at(frame);
-        let frames = self.frames.as_slice();
-        let place = (frame % frames.len() as u64) as usize;
-        frames[place].symbols(&state, self.mask)
+        match &self.frames {
+            FrameList::SetOne(frames) => {
+                symbols_of_one(frames.as_slice(), frame, &state, self.mask)
+            }
+            FrameList::SetTwo(frames) => {
+                symbols_of_two(frames.as_slice(), frame, &state, self.mask)
+            }
+        }
     }
 }

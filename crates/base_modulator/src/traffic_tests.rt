@@ -2,13 +2,16 @@
 
 ghost use Rattle.std.specs.Prelude.{◌≡◌, ◌<◌, ◌≤◌, ◌^◌, [], ◌∷◌, IfOk, length};
 ghost use Rattle.long_code.specs.LongCode.{IsState};
-ghost use Rattle.base_modulator.specs.TrafficFrames.{IsTrafficFrame};
+ghost use Rattle.base_modulator.specs.TrafficFrames.{IsTrafficFrame, IsTrafficFrame2};
+ghost use Rattle.base_modulator.specs.declared.frame_list.FrameList.TheVariants.{SetOne, SetTwo};
 
+use crate::frame_list::FrameList;
 use crate::plan::CellIdentity;
-use crate::series::Series;
 use crate::traffic_cycle::TrafficCycle;
 use crate::traffic_frame::TrafficFrame;
+use crate::traffic_frame2::TrafficFrame2;
 use chip_core::{Bits, CheckForm};
+use rate_set_two::Rate2;
 use std::alloc::Global;
 use std::test::Fail;
 use symbol_path::Rate;
@@ -82,11 +85,11 @@ fn packed(symbols: &Bits) -> [u64; 6]
 }
 
 /// One frame, again and again.
-fn alone(alloc: Global, frame: TrafficFrame) -> Result<Series<TrafficFrame>, Fail>
-    ensures { IfOk result (λ frames. frames ≡ frame ∷ []) }
+fn alone(alloc: Global, frame: TrafficFrame) -> Result<FrameList, Fail>
+    ensures { IfOk result (λ frames. frames ≡ SetOne (frame ∷ [])) }
 {
-    let mut frames = Series::new(alloc);
-    frames.push(frame)?;
+    let mut frames = FrameList::new(alloc);
+    frames.push_one(alloc, &frame)?;
     Ok(frames)
 }
 
@@ -173,7 +176,7 @@ fn at_2400(rt: HostRuntime) -> Result<(), Fail> {
 fn at_1200_and_9600(rt: HostRuntime) -> Result<(), Fail> {
     let frame = frame(Rate::R1200, &[0xffff << 48], 0x5555)?;
     let mut frames = alone(rt.alloc(), frame)?;
-    frames.push(full_frame()?)?;
+    frames.push_one(rt.alloc(), &full_frame()?)?;
     let cycle = TrafficCycle::new(&cell(0x3ff_ffff_ffff), MASK, 1, frames);
     let first = [
         0x6437_0470_af5e_15d0,
@@ -202,5 +205,111 @@ fn at_1200_and_9600(rt: HostRuntime) -> Result<(), Fail> {
         0xdb5a_b164_a6f8_f943,
     ];
     assert_eq!(rt; packed(&cycle.symbols(2)), third);
+    Ok(())
+}
+
+/// A frame of rate set 2 whose information bits are the first ones of these numbers.
+fn frame2(rate: Rate2, numbers: &[u64], power_control: u16) -> Result<TrafficFrame2, Fail>
+    ensures { IfOk result (λ frame. IsTrafficFrame2 frame) }
+{
+    let mut information = Bits::empty();
+    for i in 0..rate.information_bits() {
+        let number = numbers.get(usize::from(i / 64)).ok_or("no number")?;
+        information.push(*number >> (63 - i % 64) & 1 == 1)?;
+    }
+    if information.len() != rate.information_bits() {
+        return Err("no information".into());
+    }
+    Ok(TrafficFrame2 {
+        rate,
+        information,
+        commands: commands(power_control),
+    })
+}
+
+/// One frame of rate set 2, again and again.
+fn alone2(alloc: Global, frame: TrafficFrame2) -> Result<FrameList, Fail>
+    ensures { IfOk result (λ frames. frames ≡ SetTwo (frame ∷ [])) }
+{
+    let mut frames = FrameList::new(alloc);
+    frames.push_two(alloc, &frame)?;
+    Ok(frames)
+}
+
+#[test]
+fn at_1800(rt: HostRuntime) -> Result<(), Fail> {
+    let frame = frame2(Rate2::R1800, &[0x5a_5a58 << 40], 0x5555)?;
+    let frames = alone2(rt.alloc(), frame)?;
+    let cycle = TrafficCycle::new(&cell(1 << 41), MASK, 0, frames);
+    let first = [
+        0x9208_aba6_ffa3_94b5,
+        0x7ed9_d132_4ba7_9cc5,
+        0x9dcc_0a02_5ac1_add9,
+        0x0c57_f3e9_ec52_5e30,
+        0xd1d8_ae19_9874_1db7,
+        0x7fea_1205_74e7_e5fc,
+    ];
+    assert_eq!(rt; packed(&cycle.symbols(0)), first);
+    let later = [
+        0x89a2_a7e1_b7ec_0f85,
+        0x62d0_a071_5071_9bce,
+        0x6b3e_cbf1_c7ed_a692,
+        0x8785_171a_797c_c605,
+        0xd4b7_6df5_81d1_9523,
+        0x7312_2f04_8e7a_ce64,
+    ];
+    assert_eq!(rt; packed(&cycle.symbols(7)), later);
+    Ok(())
+}
+
+#[test]
+fn at_14400(rt: HostRuntime) -> Result<(), Fail> {
+    let numbers = [
+        0xaff5_a84a_4399_865a,
+        0x2f3b_8107_7090_8da6,
+        0x3172_e5a7_a31a_3915,
+        0xa4f1_a474_9ee0_21ed,
+        0x6040_0000_0000_0000,
+    ];
+    let frames = alone2(rt.alloc(), frame2(Rate2::R14400, &numbers, 0x0ff3)?)?;
+    let cycle = TrafficCycle::new(&cell(0x12_3456_789a), MASK, 5, frames);
+    let first = [
+        0xf91a_6a27_50e7_0474,
+        0x7fa1_e82e_fe47_db6f,
+        0xc7ad_c7d5_d49d_b1f9,
+        0x8432_4415_6a51_2e05,
+        0x594f_ea82_a607_e7a6,
+        0xf7fb_2cb7_f935_5bbd,
+    ];
+    assert_eq!(rt; packed(&cycle.symbols(0)), first);
+    Ok(())
+}
+
+/// A frame of 7200 bits a second, and one of 3600.
+#[test]
+fn at_7200_and_3600(rt: HostRuntime) -> Result<(), Fail> {
+    let numbers = [0x7b41_f3ba_74f6_b323, 0xe2e6_eab2_cb9f_cfb0];
+    let mut frames = alone2(rt.alloc(), frame2(Rate2::R7200, &numbers, 0x8001)?)?;
+    let frame = frame2(Rate2::R3600, &[0x59b5_1110_6985_5d00], 0x5a31)?;
+    frames.push_two(rt.alloc(), &frame)?;
+    let cycle = TrafficCycle::new(&cell(0x3ff_ffff_ffff), MASK, 1, frames);
+    let first = [
+        0xd1e6_8420_4188_50d2,
+        0x8e68_6a84_7003_200f,
+        0x001c_cb08_2501_fd60,
+        0xda43_6472_61ad_304e,
+        0x8948_3b24_6a27_61a3,
+        0x245a_23a0_1638_cebf,
+    ];
+    assert_eq!(rt; packed(&cycle.symbols(0)), first);
+    let second = [
+        0x52b8_01f7_0372_93d1,
+        0x3cd4_f944_278d_b303,
+        0xee98_68e5_352a_3008,
+        0x3454_5726_aa7e_ab33,
+        0x4dd8_e7fe_853c_e489,
+        0xf516_24e5_72b3_64fd,
+    ];
+    assert_eq!(rt; packed(&cycle.symbols(1)), second);
     Ok(())
 }

@@ -5,6 +5,7 @@ use Rattle.chip_core.specs.Bits.{places}
 use Rattle.chip_core.specs.declared.check_form.CheckForm.TheVariants.{Plain}
 use Rattle.symbol_path.specs.declared.kinds.Rate.TheVariants.{R1200, R2400}
 use Rattle.base_modulator.specs.declared.plan.CellPlan.{CellPlan}
+use Rattle.base_modulator.specs.declared.frame_list.FrameList.TheVariants.{SetOne}
 use Rattle.base_modulator.specs.declared.traffic_frame.TrafficFrame.{TrafficFrame}
 use Rattle.mobile_core.specs.Given.{at_of}
 use Rattle.mobile_core.specs.declared.event.Event.{Event}
@@ -45,7 +46,7 @@ cell start samples = record {
     esn = 2882343476;
     offset = 2;
     gain = 40;
-    frames = slow ∷ faster ∷ [];
+    frames = SetOne (slow ∷ faster ∷ []);
   } ∷ [];
 }
 

@@ -1,8 +1,8 @@
 -- The frames of a traffic channel that a clean link gives back: those that the cell sends from the
 -- mark on, as a handset hears them (TIA/EIA-95-B, 7.1.3.5).
-use Rattle.std.specs.Prelude.{ℕ, ◌+◌, ◌-◌, ◌*◌, ◌/◌, ◌<◌, ◌≡◌, ◌==◌, ◌&&◌, Bool, true, false, All}
-use Rattle.std.specs.Prelude.{if◌then◌else◌, nat_le, List, [], ◌∷◌, map, filter, get_or, ℤ, pos}
-use Rattle.std.specs.Prelude.{◌*ℤ◌}
+use Rattle.std.specs.Prelude.{ℕ, ◌+◌, ◌-◌, ◌*◌, ◌/◌, ◌<◌, ◌≤◌, ◌≡◌, ◌==◌, ◌&&◌, Bool, true, false}
+use Rattle.std.specs.Prelude.{if◌then◌else◌, nat_le, List, [], ◌∷◌, map, filter, length, get_or, ℤ}
+use Rattle.std.specs.Prelude.{pos, ◌*ℤ◌, All}
 use Rattle.std.specs.List.{flat_map}
 use Rattle.chip_core.specs.Bits.{places, sign}
 use Rattle.long_code.specs.LongCode.{traffic_mask}
@@ -10,7 +10,7 @@ use Rattle.symbol_path.specs.Scrambling.{power_places}
 use Rattle.frame_decoder.specs.Laws.{frame_word, IsUnshared}
 use Rattle.frame_decoder.specs.TrafficFrames.{frame_symbols, is_replaced}
 use Rattle.base_modulator.specs.Signal.{frames_of}
-use Rattle.base_modulator.specs.TrafficFrames.{cycled_frame, frame_state}
+use Rattle.base_modulator.specs.TrafficFrames.{cycled_frame, frame_state, set_one}
 use Rattle.base_modulator.specs.declared.plan.CellPlan.{CellPlan}
 use Rattle.base_modulator.specs.declared.plan.TrafficPlan.{TrafficPlan}
 use Rattle.base_modulator.specs.declared.traffic_frame.TrafficFrame.{TrafficFrame}
@@ -23,8 +23,9 @@ use Rattle.clean_link.specs.HeardPages.{end_chip}
 
 -- ---- a channel that is followed
 
--- a channel that is sent is the one that a handset was assigned
+-- a channel of rate set 1 that is sent is the one that a handset was assigned
 pub record IsAssigned (p : TrafficPlan) (traffic : Traffic) : Type 0 where
+  pub some : 1 ≤ length (set_one p.frames)
   pub row : p.row ≡ traffic.row
   pub esn : p.esn ≡ traffic.esn
   pub offset : p.offset ≡ traffic.offset

@@ -13,6 +13,7 @@ use Rattle.traffic_message.specs.Reading.{body_reading, head_at, head_of, is_bod
 use Rattle.traffic_message.specs.Reading.{traffic_reading}
 use Rattle.traffic_message.specs.declared.body.TrafficBody.TheVariants.{Other}
 use Rattle.base_modulator.specs.declared.plan.CellPlan.{CellPlan}
+use Rattle.base_modulator.specs.declared.frame_list.FrameList.TheVariants.{SetOne}
 use Rattle.base_modulator.specs.declared.traffic_frame.TrafficFrame.{TrafficFrame}
 use Rattle.mobile_core.specs.declared.event.Event.TheVariants.{Traffic}
 use Rattle.clean_link.specs.HeardSignals.{messages_sent}
@@ -60,7 +61,13 @@ cell samples = record {
   pilot = record { gain = 100 };
   sync = None;
   paging = [];
-  traffic = record { row = 9; esn = 2882343476; offset = 2; gain = 40; frames = frames } ∷ [];
+  traffic = record {
+    row = 9;
+    esn = 2882343476;
+    offset = 2;
+    gain = 40;
+    frames = SetOne frames;
+  } ∷ [];
 }
 
 -- Behind superframe 8 the message begins in frame 33 and ends in frame 35, at that frame's end.

@@ -2,12 +2,14 @@
 
 ghost use Rattle.std.specs.Prelude.{◌≡◌, OnOk};
 ghost use Rattle.base_modulator.specs.ScriptDrafts.{empty_plan, opened, opened_traffic, with_frame};
-ghost use Rattle.base_modulator.specs.ScriptDrafts.{with_page, with_statement};
+ghost use Rattle.base_modulator.specs.ScriptDrafts.{with_frame2, with_page, with_statement};
 
+use crate::frame_list::FrameList;
 use crate::plan::{CellIdentity, CellPlan, LinkPlan, Page, PagingPlan, PilotPlan, TrafficPlan};
 use crate::script::statements::{PagingLine, Statement, TrafficLine};
 use crate::series::Series;
 use crate::traffic_frame::TrafficFrame;
+use crate::traffic_frame2::TrafficFrame2;
 use chip_core::{CheckForm, OutOfMemory, Pair};
 use std::alloc::Global;
 
@@ -67,18 +69,37 @@ fn opened_traffic(alloc: Global, line: &TrafficLine) -> TrafficPlan
         esn: line.esn,
         offset: line.offset,
         gain: line.gain,
-        frames: Series::new(alloc),
+        frames: FrameList::new(alloc),
     }
 }
 
-/// Adds a frame to the last of the traffic channels.
-fn add_frame(traffic: &mut Series<TrafficPlan>, frame: &TrafficFrame) -> Result<(), OutOfMemory>
+/// Adds a frame of rate set 1 to the last of the traffic channels.
+fn add_frame(
+    alloc: Global,
+    traffic: &mut Series<TrafficPlan>,
+    frame: &TrafficFrame,
+) -> Result<(), OutOfMemory>
     ensures { OnOk result (traffic.new ≡ with_frame traffic.old frame.now) }
 {
     let Some(mut channel) = traffic.pop() else {
         return Ok(());
     };
-    channel.frames.push(*frame)?;
+    channel.frames.push_one(alloc, frame)?;
+    traffic.push(channel)
+}
+
+/// Adds a frame of rate set 2 to the last of the traffic channels.
+fn add_frame2(
+    alloc: Global,
+    traffic: &mut Series<TrafficPlan>,
+    frame: &TrafficFrame2,
+) -> Result<(), OutOfMemory>
+    ensures { OnOk result (traffic.new ≡ with_frame2 traffic.old frame.now) }
+{
+    let Some(mut channel) = traffic.pop() else {
+        return Ok(());
+    };
+    channel.frames.push_two(alloc, frame)?;
     traffic.push(channel)
 }
 
@@ -98,7 +119,8 @@ pub(crate) fn add_statement(
         Statement::Paging(line) => return plan.paging.push(opened(alloc, line)),
         Statement::Page(page) => return add_page(&mut plan.paging, page),
         Statement::Traffic(line) => return plan.traffic.push(opened_traffic(alloc, line)),
-        Statement::Frame(frame) => return add_frame(&mut plan.traffic, frame),
+        Statement::Frame(frame) => return add_frame(alloc, &mut plan.traffic, frame),
+        Statement::Frame2(frame) => return add_frame2(alloc, &mut plan.traffic, frame),
     }
     Ok(())
 }

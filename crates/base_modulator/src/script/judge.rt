@@ -142,6 +142,7 @@ impl Judge {
             },
             Statement::Page(_) => self,
             Statement::Frame(_) => self,
+            Statement::Frame2(_) => self,
         }
     }
 

@@ -4,7 +4,7 @@ ghost use Rattle.std.specs.Prelude.{◌≡◌, ◌<◌, ◌≤◌, true};
 ghost use Rattle.paging_message.specs.HalfFrames.{bits_left, half_frame_body};
 ghost use Rattle.paging_message.specs.Laying.{fill};
 ghost use Rattle.base_modulator.specs.ScriptStages.{after_cell, after_frame, after_link};
-ghost use Rattle.base_modulator.specs.ScriptStages.{after_page};
+ghost use Rattle.base_modulator.specs.ScriptStages.{after_frame2, after_page};
 ghost use Rattle.base_modulator.specs.ScriptStages.{after_paging, after_pilot, after_sync};
 ghost use Rattle.base_modulator.specs.ScriptStages.{after_traffic};
 ghost use Rattle.base_modulator.specs.ScriptStages.{behind_sync, count_behind, is_complete};
@@ -49,10 +49,12 @@ pub(crate) enum Stage {
     },
     /// `traffic`, or none.
     Traffic,
-    /// `frame`, the first one of a channel.
+    /// `frame` or `frame2`, the first one of a channel.
     FirstFrame,
     /// `frame`, `traffic`, or none.
     Frames,
+    /// `frame2`, `traffic`, or none.
+    Frames2,
 }
 
 /// How many body bits a half-frame has: 95 at 9600 bits per second, 47 at 4800 (TIA/EIA-95-B,
@@ -159,6 +161,7 @@ impl Stage {
             Statement::Page(page) => self.after_page(page),
             Statement::Traffic(_) => self.after_traffic(),
             Statement::Frame(_) => self.after_frame(),
+            Statement::Frame2(_) => self.after_frame2(),
         }
     }
 
@@ -228,9 +231,8 @@ impl Stage {
         ensures { result ≡ after_traffic self }
     {
         match self {
-            Stage::Paging(_) | Stage::Pages { .. } | Stage::Traffic | Stage::Frames => {
-                Some(Stage::FirstFrame)
-            }
+            Stage::Paging(_) | Stage::Pages { .. } | Stage::Traffic => Some(Stage::FirstFrame),
+            Stage::Frames | Stage::Frames2 => Some(Stage::FirstFrame),
             _ => None,
         }
     }
@@ -245,6 +247,16 @@ impl Stage {
         }
     }
 
+    /// What may stand behind a `frame2` line: the frames of a channel are all of one rate set.
+    fn after_frame2(self) -> Option<Stage>
+        ensures { result ≡ after_frame2 self }
+    {
+        match self {
+            Stage::FirstFrame | Stage::Frames2 => Some(Stage::Frames2),
+            _ => None,
+        }
+    }
+
     /// Whether a script may end.
     pub(crate) fn is_complete(self) -> bool
         ensures { result ≡ is_complete self }
@@ -253,7 +265,7 @@ impl Stage {
             Stage::Cell | Stage::Link | Stage::Pilot => false,
             Stage::FirstPage(_) | Stage::FirstFrame => false,
             Stage::Sync | Stage::Paging(_) | Stage::Pages { .. } => true,
-            Stage::Traffic | Stage::Frames => true,
+            Stage::Traffic | Stage::Frames | Stage::Frames2 => true,
         }
     }
 }

@@ -6,7 +6,8 @@ ghost use Rattle.base_modulator.specs.ScriptLines.{page_in, page_key, page_with,
 ghost use Rattle.base_modulator.specs.ScriptLines.{past_freq, pilot_in, sync_behind, sync_fields};
 ghost use Rattle.base_modulator.specs.ScriptLines.{statement_in, sync_in, lawful_message};
 ghost use Rattle.base_modulator.specs.ScriptLines.{frame_in, frame_key, frame_rate, frame_with};
-ghost use Rattle.base_modulator.specs.ScriptLines.{sync_table, traffic_in};
+ghost use Rattle.base_modulator.specs.ScriptLines.{frame2_in, frame2_key, frame2_rate};
+ghost use Rattle.base_modulator.specs.ScriptLines.{frame2_with, sync_table, traffic_in};
 ghost use Rattle.base_modulator.specs.ScriptFields.{AreUpTo};
 ghost use Rattle.base_modulator.specs.ScriptPlans.{HasRow, IsStatedCell, IsStatedLink};
 ghost use Rattle.paging_message.specs.Reading.{is_body};
@@ -22,8 +23,10 @@ use crate::script::tables::{
 };
 use crate::script::values::begins_with;
 use crate::traffic_frame::TrafficFrame;
+use crate::traffic_frame2::TrafficFrame2;
 use chip_core::{Bits, CheckForm, Pair};
 use paging_message::PagingMessage;
+use rate_set_two::Rate2;
 use symbol_path::Rate;
 use sync_message::{SyncFields, SyncMessage};
 
@@ -44,8 +47,10 @@ pub(crate) enum Statement {
     Page(Page),
     /// One more traffic channel, whose frames the lines behind state.
     Traffic(TrafficLine),
-    /// One more frame of that channel.
+    /// One more frame of that channel, of rate set 1.
     Frame(TrafficFrame),
+    /// One more frame of that channel, of rate set 2.
+    Frame2(TrafficFrame2),
 }
 
 /// A paging channel without its pages.
@@ -99,6 +104,9 @@ pub(crate) fn statement_in(text: &[u8]) -> Option<Statement>
     }
     if begins_with(text, b"frame ") {
         return Some(Statement::Frame(frame_in(text)?));
+    }
+    if begins_with(text, b"frame2 ") {
+        return Some(Statement::Frame2(frame2_in(text)?));
     }
     None
 }
@@ -379,5 +387,61 @@ pub(crate) fn frame_key(rate: Rate) -> &'static [u8]
         Rate::R4800 => b"frame 4800 ",
         Rate::R2400 => b"frame 2400 ",
         Rate::R1200 => b"frame 1200 ",
+    }
+}
+
+/// What a `frame2` line says, which states a frame of rate set 2 as a `frame` line does one of rate
+/// set 1.
+#[tactic(auto, unfolding(crate::specs::ScriptLines::frame2_in))]
+fn frame2_in(text: &[u8]) -> Option<TrafficFrame2>
+    ensures { result ≡ frame2_in text.now }
+{
+    frame2_with(frame2_rate(text)?, Fields::new(text))
+}
+
+/// The rate that a `frame2` line begins with.
+fn frame2_rate(text: &[u8]) -> Option<Rate2>
+    ensures { result ≡ frame2_rate text.now }
+{
+    if begins_with(text, b"frame2 14400 ") {
+        return Some(Rate2::R14400);
+    }
+    if begins_with(text, b"frame2 7200 ") {
+        return Some(Rate2::R7200);
+    }
+    if begins_with(text, b"frame2 3600 ") {
+        return Some(Rate2::R3600);
+    }
+    if begins_with(text, b"frame2 1800 ") {
+        return Some(Rate2::R1800);
+    }
+    None
+}
+
+/// What a `frame2` line of this rate says.
+fn frame2_with(rate: Rate2, mut fields: Fields<'_>) -> Option<TrafficFrame2>
+    ensures { result ≡ frame2_with rate fields.entry }
+{
+    let information = fields.bits(frame2_key(rate))?;
+    let commands = fields.commands(b" ")?;
+    if information.len() != rate.information_bits() || !fields.at_end() {
+        return None;
+    }
+    Some(TrafficFrame2 {
+        rate,
+        information,
+        commands,
+    })
+}
+
+/// What stands before the bits of a `frame2` line.
+fn frame2_key(rate: Rate2) -> &'static [u8]
+    ensures { result.now ≡ frame2_key rate }
+{
+    match rate {
+        Rate2::R14400 => b"frame2 14400 ",
+        Rate2::R7200 => b"frame2 7200 ",
+        Rate2::R3600 => b"frame2 3600 ",
+        Rate2::R1800 => b"frame2 1800 ",
     }
 }

@@ -1,5 +1,6 @@
 //! Scripts with traffic channels, written by hand, and what they name.
 
+use crate::frame_list::FrameList;
 use crate::script::plan_of;
 use crate::script::tests::{
     CELL, HALF, LINK, NEXT, OTHER_PAGING, PAGING, PILOT, SYNC, SYNC_1200, SYNC_2400, SYNC_4800,
@@ -7,8 +8,10 @@ use crate::script::tests::{
 };
 use crate::script_fault::ScriptFault;
 use crate::traffic_frame::TrafficFrame;
+use crate::traffic_frame2::TrafficFrame2;
 use cdma_io::Width;
 use chip_core::Bits;
+use rate_set_two::Rate2;
 use std::test::Fail;
 use symbol_path::Rate;
 
@@ -20,6 +23,9 @@ const OTHER_TRAFFIC: &str = "traffic row=63 esn=fFFfffff offset=15 gain=1\n";
 
 /// A lawful `frame` line.
 const FRAME: &str = "frame 1200 16:ffff 0101010101010101\n";
+
+/// A lawful `frame2` line.
+const FRAME2: &str = "frame2 1800 22:5a5a58 0101010101010101\n";
 
 /// Lines that can't stand in the place of a traffic channel's.
 const FAULTY_TRAFFICS: [&str; 36] = [
@@ -106,6 +112,43 @@ const FAULTY_FRAMES: [&str; 40] = [
     "frame 4800 40:ffffffffff 0101010101010101\n",
     "frame 9600 80:ffffffffffffffffffff 0101010101010101\n",
     "frame 9600 172:fffffffffffffffffffffffffffffffffffffffffff8 0101010101010101\n",
+];
+
+/// Lines that can't stand in the place of the first frame of a channel of rate set 2.
+const FAULTY_FRAMES2: [&str; 20] = [
+    "frame2\n",
+    "frame2 \n",
+    "frame2 1800\n",
+    "frame2 1800 22:5a5a58\n",
+    "frame2 1800 0101010101010101\n",
+    "frame2 22:5a5a58 0101010101010101\n",
+    "frame2 1800 22:5a5a58 0101010101010101 \n",
+    "frame2 1800 22:5a5a58 0101010101010101\r\n",
+    "frame2  1800 22:5a5a58 0101010101010101\n",
+    "frame2 1800 22:5a5a58  0101010101010101\n",
+    "Frame2 1800 22:5a5a58 0101010101010101\n",
+    "frame 2 1800 22:5a5a58 0101010101010101\n",
+    "frame22 1800 22:5a5a58 0101010101010101\n",
+    // Power control bits that aren't sixteen digits 0 or 1.
+    "frame2 1800 22:5a5a58 010101010101010\n",
+    "frame2 1800 22:5a5a58 0101010101010102\n",
+    // Rates of which no frame is, one of them a rate of rate set 1.
+    "frame2 1200 16:ffff 0101010101010101\n",
+    "frame2 01800 22:5a5a58 0101010101010101\n",
+    // Information that isn't spelled by its octets, or of another length than the rate has.
+    "frame2 1800 22:5a5a5a 0101010101010101\n",
+    "frame2 3600 22:5a5a58 0101010101010101\n",
+    "frame2 14400 126:00000000000000000000000000000000 0101010101010101\n",
+];
+
+/// The frames of a channel, of both rate sets, and the number of the first line of the other set.
+const MIXED_FRAMES: [(&[&str], u32); 6] = [
+    (&[TRAFFIC, FRAME, FRAME2], 7),
+    (&[TRAFFIC, FRAME2, FRAME], 7),
+    (&[TRAFFIC, FRAME, FRAME, FRAME2], 8),
+    (&[TRAFFIC, FRAME2, FRAME2, FRAME], 8),
+    (&[TRAFFIC, FRAME, ROW_9, FRAME2, FRAME], 9),
+    (&[TRAFFIC, FRAME2, ROW_9, FRAME, FRAME2], 9),
 ];
 
 /// Scripts whose lines don't follow one another, and the number of the first that can't stand where
@@ -361,7 +404,7 @@ const FAULTY_CHANNELS: [(&str, &str, &[&str], ScriptFault); 27] = [
 ];
 
 /// Traffic channels of scripts that are at no fault, whatever the rate of paging channels is.
-const LAWFUL_TRAFFICS: [&[&str]; 8] = [
+const LAWFUL_TRAFFICS: [&[&str]; 14] = [
     &[TRAFFIC, FRAME],
     &[TRAFFIC, FRAME, FRAME],
     &[TRAFFIC, FRAME, OTHER_TRAFFIC, FRAME],
@@ -375,6 +418,20 @@ const LAWFUL_TRAFFICS: [&[&str]; 8] = [
     &[
         TRAFFIC,
         "frame 9600 172:fffffffffffffffffffffffffffffffffffffffffff0 0101010101010101\n",
+    ],
+    &[TRAFFIC, FRAME2],
+    &[TRAFFIC, FRAME2, FRAME2, ROW_9, FRAME, FRAME],
+    &[TRAFFIC, FRAME, ROW_9, FRAME2],
+    &[TRAFFIC, "frame2 3600 56:00112233445566 1111111111111111\n"],
+    &[
+        TRAFFIC,
+        "frame2 7200 126:00112233445566778899aabbccddeefC 0000000000000000\n",
+    ],
+    &[
+        TRAFFIC,
+        "frame2 14400 268:\
+         fffffffffffffffffffffffffffffffffffffffffffffffffffffffffffffffffff0 \
+         0101010101010101\n",
     ],
 ];
 
@@ -391,6 +448,23 @@ fn refuses_traffic_lines(rt: HostRuntime) -> Result<(), Fail> {
         let lines = [CELL, LINK, PILOT, SYNC, TRAFFIC, line, FRAME];
         let fault = fault_of(alloc, &lines, Width::Sixteen)?;
         assert_eq!(rt; fault, Some(ScriptFault::Line { n: 6 }), "{line}");
+    }
+    Ok(())
+}
+
+/// Lines of rate set 2 that no script has, and channels with frames of both rate sets.
+#[test]
+fn refuses_frames_of_rate_set_two(rt: HostRuntime) -> Result<(), Fail> {
+    let alloc = rt.alloc();
+    for line in FAULTY_FRAMES2 {
+        let lines = [CELL, LINK, PILOT, SYNC, TRAFFIC, line, FRAME2];
+        let fault = fault_of(alloc, &lines, Width::Sixteen)?;
+        assert_eq!(rt; fault, Some(ScriptFault::Line { n: 6 }), "{line}");
+    }
+    for (channels, n) in MIXED_FRAMES {
+        let script = with_channels(alloc, LINK, PILOT, SYNC, channels)?;
+        let fault = plan_of(alloc, script.as_bytes(), Width::Sixteen).err();
+        assert_eq!(rt; fault, Some(ScriptFault::Line { n }), "{script}");
     }
     Ok(())
 }
@@ -491,7 +565,43 @@ fn names_each_frame(rt: HostRuntime) -> Result<(), Fail> {
         information: bits_of(16, 0x8001),
         commands: upper,
     };
-    assert!(rt; first.frames.as_slice() == [quarter, eighth].as_slice());
-    assert!(rt; second.frames.as_slice() == [other].as_slice());
+    let (FrameList::SetOne(first), FrameList::SetOne(second)) = (&first.frames, &second.frames)
+    else {
+        return Err("not of rate set 1".into());
+    };
+    assert!(rt; first.as_slice() == [quarter, eighth].as_slice());
+    assert!(rt; second.as_slice() == [other].as_slice());
+    Ok(())
+}
+
+/// A frame of rate set 2 goes to the channel that it stands behind.
+#[test]
+fn names_a_frame_of_rate_set_two(rt: HostRuntime) -> Result<(), Fail> {
+    let alloc = rt.alloc();
+    let channels = [
+        TRAFFIC,
+        FRAME,
+        "traffic row=10 esn=0000abcd offset=0 gain=40\n",
+        FRAME2,
+    ];
+    let script = with_channels(alloc, LINK, PILOT, SYNC, &channels)?;
+    let plan = plan_of(alloc, script.as_bytes(), Width::Sixteen)?;
+    let [_, second] = plan.traffic.as_slice() else {
+        return Err("not two channels".into());
+    };
+    assert_eq!(rt; (second.row, second.esn), (10, 0xabcd));
+    let FrameList::SetTwo(frames) = &second.frames else {
+        return Err("not of rate set 2".into());
+    };
+    let mut odd = [false; 16];
+    for place in 0..8usize {
+        odd[2 * place + 1] = true;
+    }
+    let wanted = TrafficFrame2 {
+        rate: Rate2::R1800,
+        information: bits_of(22, 0x16_9696),
+        commands: odd,
+    };
+    assert!(rt; frames.as_slice() == [wanted].as_slice());
     Ok(())
 }

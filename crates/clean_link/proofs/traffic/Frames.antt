@@ -19,7 +19,7 @@ use Rattle.frame_decoder.proofs.SentFrames.{sent_frame}
 use Rattle.rake_finger.specs.declared.form.Form.TheVariants.{Data}
 use Rattle.base_modulator.specs.Sampled.{made_samples}
 use Rattle.base_modulator.specs.Signal.{frames_of}
-use Rattle.base_modulator.specs.TrafficFrames.{cycled_frame, IsTrafficFrame}
+use Rattle.base_modulator.specs.TrafficFrames.{cycled_frame, set_one, IsTrafficFrame}
 use Rattle.base_modulator.specs.declared.plan.CellPlan.{CellPlan}
 use Rattle.base_modulator.specs.declared.plan.TrafficPlan.{TrafficPlan}
 use Rattle.base_modulator.specs.declared.traffic_frame.TrafficFrame.{TrafficFrame}
@@ -88,8 +88,9 @@ sized : (width : Width) (plan : CellPlan) (p : TrafficPlan) (t : Tuning) (traffi
     HearsTraffic width plan p t traffic m superframes →
     IsHeardAs plan p t traffic m legs superframes k f → IsTrafficFrame f
 sized width plan p t traffic m legs superframes k f is heard =
-    one_taken IsTrafficFrame p.frames ((4 * superframes + k) % length p.frames) f
-    (lawful_traffic width plan p is.receivable.lawful is.sent).sized heard.frame
+    let frames = set_one p.frames in
+    one_taken IsTrafficFrame frames ((4 * superframes + k) % length frames) f
+    (lawful_traffic width plan p is.receivable.lawful is.sent).sized.one heard.frame
 
 -- it is decoded
 pub frame_back : TrafficFramesComeBack
@@ -249,10 +250,11 @@ module _ (width : Width) (plan : CellPlan) (p : TrafficPlan) (t : Tuning) (traff
       (All-head Distinct f [] only)
 
   -- one frame is sent at each number
-  pub frame_there : 1 ≤ length p.frames → (k : ℕ) →
+  pub frame_there : 1 ≤ length (set_one p.frames) → (k : ℕ) →
       (f : TrafficFrame) × (cycled_frame (frames_of plan p) (4 * superframes + k) ≡ f ∷ [])
   frame_there some k =
-      one_there p.frames ((4 * superframes + k) % length p.frames) (omega (arith, some))
+      let frames = set_one p.frames in
+      one_there frames ((4 * superframes + k) % length frames) (omega (arith, some))
 
   module _ (legs : ℕ → List Leg) (one : (k : ℕ) → IsOnePilot traffic (legs k)) where
     -- a frame in the file is heard as what is sent
@@ -343,7 +345,7 @@ module _ (width : Width) (plan : CellPlan) (p : TrafficPlan) (t : Tuning) (traff
           ∙ sym (one_each told (received_frames plan p mark_chip))
 
       -- and where all of them are distinct, what was sent
-      pub sent_heard : 1 ≤ length p.frames → AreDistinct plan p mark_chip →
+      pub sent_heard : 1 ≤ length (set_one p.frames) → AreDistinct plan p mark_chip →
           flat_map (frames_at t traffic m samples) (places (plan.link.samples + 1)) ≡
           frames_of_channel plan p mark_chip
       sent_heard some distinct =
@@ -367,4 +369,4 @@ pub sent_frames_back : SentFramesComeBack
 sent_frames_back width plan p t traffic m superframes is undirected distinct =
     let lawful = lawful_traffic width plan p is.receivable.lawful is.sent in
     sent_heard width plan p t traffic m superframes is lawful.latest (first_legs traffic m)
-    (first_pilot traffic m) undirected lawful.some distinct
+    (first_pilot traffic m) undirected is.assigned.some distinct

@@ -7,6 +7,7 @@ use Rattle.chip_core.specs.Bits.{places}
 use Rattle.chip_core.specs.declared.sample.Sample.{Sample}
 use Rattle.cdma_io.specs.declared.width.Width.{Width}
 use Rattle.base_modulator.specs.Sampled.{made_samples}
+use Rattle.base_modulator.specs.TrafficFrames.{set_one}
 use Rattle.base_modulator.specs.declared.plan.CellPlan.{CellPlan}
 use Rattle.base_modulator.specs.declared.plan.TrafficPlan.{TrafficPlan}
 use Rattle.mobile_core.specs.Moments.{messages_at}
@@ -27,7 +28,7 @@ use Rattle.clean_link.proofs.traffic.Undirected.{first_legs, first_pilot, messag
 
 module _ (width : Width) (plan : CellPlan) (p : TrafficPlan) (t : Tuning) (traffic : Traffic)
     (m : Mark) (superframes : ℕ) (is : HearsTraffic width plan p t traffic m superframes)
-    (latest : p.offset ≤ 15) (some : 1 ≤ length p.frames)
+    (latest : p.offset ≤ 15) (some : 1 ≤ length (set_one p.frames))
     (distinct : AreDistinct plan p (plan.link.start + m.sample))
     (none : All IsNotDirected (messages_of_channel plan p (plan.link.start + m.sample))) where
   abbrev samples : List Sample
@@ -69,5 +70,5 @@ module _ (width : Width) (plan : CellPlan) (p : TrafficPlan) (t : Tuning) (traff
 pub none_directed : NoneIsDirected
 none_directed width plan p t traffic m superframes is distinct none i most =
     let lawful = lawful_traffic width plan p is.receivable.lawful is.sent in
-    none_before width plan p t traffic m superframes is lawful.latest lawful.some distinct none
+    none_before width plan p t traffic m superframes is lawful.latest is.assigned.some distinct none
     (plan.link.samples + 1) (omega arith) i (omega (arith, most))

@@ -11,7 +11,7 @@ use Rattle.chip_core.specs.declared.sample.Sample.{Sample}
 use Rattle.cdma_io.specs.declared.width.Width.{Width}
 use Rattle.base_modulator.specs.Sampled.{made_samples}
 use Rattle.base_modulator.specs.Signal.{frames_of}
-use Rattle.base_modulator.specs.TrafficFrames.{cycled_frame}
+use Rattle.base_modulator.specs.TrafficFrames.{cycled_frame, set_one}
 use Rattle.base_modulator.specs.declared.plan.CellPlan.{CellPlan}
 use Rattle.base_modulator.specs.declared.plan.TrafficPlan.{TrafficPlan}
 use Rattle.base_modulator.specs.declared.traffic_frame.TrafficFrame.{TrafficFrame}
@@ -50,7 +50,7 @@ of_one f xs x is = ap (flat_map f) is ∙ append-nil (f x)
 
 module _ (width : Width) (plan : CellPlan) (p : TrafficPlan) (t : Tuning) (traffic : Traffic)
     (m : Mark) (superframes : ℕ) (is : HearsTraffic width plan p t traffic m superframes)
-    (latest : p.offset ≤ 15) (some : 1 ≤ length p.frames)
+    (latest : p.offset ≤ 15) (some : 1 ≤ length (set_one p.frames))
     (distinct : AreDistinct plan p (plan.link.start + m.sample)) (legs : ℕ → List Leg)
     (one : (k : ℕ) → IsOnePilot traffic (legs k)) where
   abbrev samples : List Sample
@@ -174,5 +174,5 @@ module _ (width : Width) (plan : CellPlan) (p : TrafficPlan) (t : Tuning) (traff
 pub sent_messages_back : SentMessagesComeBack
 sent_messages_back width plan p t traffic m superframes is undirected distinct =
     let lawful = lawful_traffic width plan p is.receivable.lawful is.sent in
-    messages_heard width plan p t traffic m superframes is lawful.latest lawful.some distinct
+    messages_heard width plan p t traffic m superframes is lawful.latest is.assigned.some distinct
     (first_legs traffic m) (first_pilot traffic m) undirected

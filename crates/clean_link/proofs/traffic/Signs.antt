@@ -1,6 +1,7 @@
 -- The soft values of the frames of a traffic channel have the signs that were sent.
-use Rattle.std.proofs.Common.{◌≡◌, ℕ, ◌+◌, ◌*◌, ◌<◌, Bool, true, false, List, [], ◌∷◌}
-use Rattle.std.proofs.Common.{length, refl, sym, ap, ◌∙◌, arith, subst, ℤ, replicate}
+use Rattle.std.proofs.Common.{◌≡◌, ℕ, zero, suc, ◌+◌, ◌*◌, ◌%◌, ◌<◌, Bool, true, false, List, []}
+use Rattle.std.proofs.Common.{◌∷◌, length, take, drop, refl, sym, ap, ◌∙◌, arith, subst, ℤ}
+use Rattle.std.proofs.Common.{replicate}
 use Rattle.std.specs.Prelude.{◌*ℤ◌}
 use Rattle.std.specs.List.{Contains, flat_map}
 use Rattle.std.proofs.lemmas.List.{append-nil}
@@ -25,6 +26,8 @@ use Rattle.base_modulator.specs.Signal.{frames_of, traffic_carrier}
 use Rattle.base_modulator.specs.TrafficFrames as sends
 use Rattle.base_modulator.specs.declared.plan.CellPlan.{CellPlan}
 use Rattle.base_modulator.specs.declared.plan.TrafficPlan.{TrafficPlan}
+use Rattle.base_modulator.specs.declared.frame_list.FrameList.{FrameList}
+use Rattle.base_modulator.specs.declared.frame_list.FrameList.TheVariants.{SetOne, SetTwo}
 use Rattle.base_modulator.specs.declared.traffic_frame.TrafficFrame.{TrafficFrame}
 use Rattle.mobile_core.specs.Scrambled.{turned, unscrambled}
 use Rattle.mobile_core.specs.Legs.{all_fingers}
@@ -61,6 +64,21 @@ symbols_are : (state mask : ℕ) (f : TrafficFrame) →
 unfolding sends.traffic_symbols cycles.scrambled
 symbols_are state mask f = refl
 
+-- nothing is taken from nothing
+none_taken : {X : Type 0} (n : ℕ) → ◌≡◌ {A = List X} (take 1 (drop n [])) []
+none_taken zero = refl
+none_taken (suc n) = refl
+
+-- frames one of which is of rate set 1
+of_set_one : (state mask k : ℕ) (frames : FrameList) (f : TrafficFrame) →
+    sends.cycled (sends.set_one frames) k ≡ f ∷ [] →
+    sends.symbols_from state mask k frames ≡ sends.traffic_symbols state mask f
+of_set_one state mask k (SetOne frames) f is =
+    let made = sends.traffic_symbols state mask in ap (flat_map made) is ∙ append-nil (made f)
+of_set_one state mask k (SetTwo frames) f is =
+    let none : ◌≡◌ {A = List TrafficFrame} [] (f ∷ []) = sym (none_taken (k % 0)) ∙ is in
+    absurd (cc none)
+
 -- the frame that is sent
 sent_symbols : (c : sends.FrameCycle) (frame : ℕ) (f : TrafficFrame) →
     sends.cycled_frame c frame ≡ f ∷ [] →
@@ -68,8 +86,7 @@ sent_symbols : (c : sends.FrameCycle) (frame : ℕ) (f : TrafficFrame) →
     ≡ sends.traffic_symbols (sends.frame_state c frame) c.mask f
 unfolding sends.traffic_frame_symbols
 sent_symbols c frame f is =
-    let made = sends.traffic_symbols (sends.frame_state c frame) c.mask in
-    ap (flat_map made) is ∙ append-nil (made f)
+    of_set_one (sends.frame_state c frame) c.mask frame c.frames f is
 
 -- the mark tells the long code's state at a frame
 pub same_state : (plan : CellPlan) (p : TrafficPlan) (traffic : Traffic) (m : Mark)

@@ -1,7 +1,7 @@
 use Rattle.std.proofs.Common.{List, ap, sym, ◌∙◌}
-use Rattle.base_modulator.specs.ScriptDrafts.{with_frame}
+use Rattle.base_modulator.specs.ScriptDrafts.{with_frame, with_one}
 use Rattle.base_modulator.specs.declared.plan.TrafficPlan.{TrafficPlan}
-use Rattle.base_modulator.proofs.ScriptFrames.{push_frame}
+use Rattle.base_modulator.proofs.ScriptFrames.{push_changed}
 use Rattle.base_modulator.proofs.script.build.add_frame.Goals as goal
 
 pub returns-in_default : goal.returns-in_default
@@ -11,6 +11,6 @@ returns-in_default c =
 
 pub returns : goal.returns
 returns c =
-    push_frame c.push-2.result c.args.traffic.now c.pop.new.self c.push-2.new.self
-    c.in-Some.channel c.args.frame.now c.push.new.self c.in-Some.ensures c.in_ok-push.ensures.ok
-    c.push-2.ensures.ok
+    push_changed c.push.result (with_one c.args.frame.now) c.args.traffic.now c.pop.new.self
+    c.push.new.self c.in-Some.channel c.push_one.new.self c.in-Some.ensures
+    c.in_ok-push_one.ensures c.push.ensures.ok

@@ -1,8 +1,8 @@
 use Rattle.std.proofs.Common.{sym, subst}
-use Rattle.base_modulator.specs.ScriptDrafts.{with_statement}
+use Rattle.base_modulator.specs.ScriptDrafts.{with_one, with_statement, with_two}
 use Rattle.base_modulator.specs.ScriptJudged.{HasJudged}
 use Rattle.base_modulator.specs.declared.script.statements.Statement.{Statement}
-use Rattle.base_modulator.proofs.ScriptRows.{judged_frame, judged_page}
+use Rattle.base_modulator.proofs.ScriptRows.{judged_frames, judged_page}
 use Rattle.base_modulator.proofs.script.judge.Judge.with.Goals as goal
 
 pub returns-in-Page-clause-judged : goal.returns-in-Page-clause-judged
@@ -13,4 +13,9 @@ returns-in-Page-clause-judged c plan order before =
 pub returns-in-Frame-clause-judged : goal.returns-in-Frame-clause-judged
 returns-in-Frame-clause-judged c plan order before =
     subst (λ (s : Statement). HasJudged c.args.self (with_statement plan s)) (sym c.in-Frame.is)
-    (judged_frame c.args.self plan c.in-Frame.field-0 before)
+    (judged_frames c.args.self plan (with_one c.in-Frame.field-0) before)
+
+pub returns-in-Frame2-clause-judged : goal.returns-in-Frame2-clause-judged
+returns-in-Frame2-clause-judged c plan order before =
+    subst (λ (s : Statement). HasJudged c.args.self (with_statement plan s)) (sym c.in-Frame2.is)
+    (judged_frames c.args.self plan (with_two c.in-Frame2.field-0) before)
