@@ -166,5 +166,5 @@ sync_sent plan = events_of_channel plan plan.sync
 pub record IsTrueMark (plan : CellPlan) (mark : Mark) (superframes : ℕ) : Type 0 where
   pub place : plan.link.start + mark.sample ≡ 98304 * superframes
   pub time : mark.time ≡ plan.cell.time + superframes
-  pub pn : mark.pn ≡ plan.cell.pn
-  pub state : (chips : ℕ) → after mark.lc chips ≡ after plan.cell.lc (98304 * superframes + chips)
+  pub pn : mark.pilot ≡ plan.cell.pn
+  pub state : (chips : ℕ) → after mark.state chips ≡ after plan.cell.lc (98304 * superframes + chips)

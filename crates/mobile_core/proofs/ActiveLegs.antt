@@ -68,22 +68,22 @@ active_offset s is i a read =
 
 -- PLACES
 one_place : (m : Mark) (deltas : List ℤ) (a : Active) →
-    places_for (leg_of m deltas a) ≡ 1 + 2 * (cond (nat_eq m.pn a.pilot) 1 0)
+    places_for (leg_of m deltas a) ≡ 1 + 2 * (cond (nat_eq m.pilot a.pilot) 1 0)
 one_place m deltas a =
-    elim (cases_Bool (a.pilot == m.pn)) [
+    elim (cases_Bool (a.pilot == m.pilot)) [
       | inl e ↦
-          let same : nat_eq m.pn a.pilot ≡ true =
-          eq-eqb m.pn a.pilot (sym (eqb-true a.pilot m.pn e)) in
+          let same : nat_eq m.pilot a.pilot ≡ true =
+          eq-eqb m.pilot a.pilot (sym (eqb-true a.pilot m.pilot e)) in
           rw (e, same) refl
       | inr e ↦
-          let other : nat_eq m.pn a.pilot ≡ false =
-          ne_eqb m.pn a.pilot (λ same. eqb-false a.pilot m.pn e (sym same)) in
+          let other : nat_eq m.pilot a.pilot ≡ false =
+          ne_eqb m.pilot a.pilot (λ same. eqb-false a.pilot m.pilot e (sym same)) in
           rw (e, other) refl
     ]
 
 places_are : (m : Mark) (deltas : List ℤ) (actives : List Active) →
     places_in (map (leg_of m deltas) actives)
-    ≡ length actives + 2 * times m.pn (map (λ (a : Active). a.pilot) actives)
+    ≡ length actives + 2 * times m.pilot (map (λ (a : Active). a.pilot) actives)
 places_are m deltas [] = omega arith
 places_are m deltas (a ∷ actives) =
     let one = one_place m deltas a in
@@ -94,7 +94,7 @@ places_are m deltas (a ∷ actives) =
 pub places_few : (m : Mark) (s : Standing) → IsStanding s.sets s.deltas →
     length (shown s) ≤ 6 → places_in (legs_of m s) ≤ 8
 places_few m s is few =
-    let once = active_once s.sets is.sets m.pn in
+    let once = active_once s.sets is.sets m.pilot in
     let all = places_are m s.deltas (shown s) in
     omega (arith, all, once, few)
 

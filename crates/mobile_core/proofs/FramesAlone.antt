@@ -28,9 +28,9 @@ module _ (t : Tuning) (traffic : Traffic) (m : Mark) where
   fingers_alone : (k : ℕ) → all_fingers t.phase t.deltas (reference_alone traffic m k)
       ≡ fingers_of traffic.row t.phase t.deltas
   fingers_alone k =
-      let finger = pilot_finger m (get_or (new_standing m.pn traffic.row).deltas m.pn (pos 0))
-      (record { pilot = m.pn; row = traffic.row; subchannel = 0 }) in
-      pilot_alone t.phase t.deltas (m.pn == m.pn) finger 0 (eq-eqb m.pn m.pn refl)
+      let finger = pilot_finger m (get_or (new_standing m.pilot traffic.row).deltas m.pilot (pos 0))
+      (record { pilot = m.pilot; row = traffic.row; subchannel = 0 }) in
+      pilot_alone t.phase t.deltas (m.pilot == m.pilot) finger 0 (eq-eqb m.pilot m.pilot refl)
       ∙ append-nil (fingers_of traffic.row t.phase t.deltas)
 
   stream_alone : (k : ℕ) → stream_of t traffic m (reference_alone traffic m) k

@@ -56,8 +56,8 @@ pub state_on : (traffic : Traffic) (m : Mark) (state k : ℕ) → state ≡ fram
 state_on traffic m state k is =
     let sum : chips_behind traffic 0 + 24576 * k ≡ chips_behind traffic k = omega arith in
     ap (λ (n : ℕ). after n (24576 * k)) is
-    ∙ after-after m.lc (chips_behind traffic 0) (24576 * k)
-    ∙ ap (after m.lc) sum
+    ∙ after-after m.state (chips_behind traffic 0) (24576 * k)
+    ∙ ap (after m.state) sum
 
 -- at most one message is kept
 pub kept_most : (kept : Option SpelledSignal) → kept_by kept ≤ 1

@@ -58,14 +58,14 @@ same_close row phase (d ∷ deltas) =
 
 -- the reference's pilot alone has close fingers where its paths are close
 pub first_paths : (m : Mark) (row phase : ℕ) (deltas : List ℤ) →
-    all_close (all_fingers phase deltas (legs_of m (new_standing m.pn row))) ≡ true →
+    all_close (all_fingers phase deltas (legs_of m (new_standing m.pilot row))) ≡ true →
     paths_close deltas ≡ true
 first_paths m row phase deltas h =
-    let finger = pilot_finger m (get_or (new_standing m.pn row).deltas m.pn (pos 0))
-    (record { pilot = m.pn; row = row; subchannel = 0 }) in
+    let finger = pilot_finger m (get_or (new_standing m.pilot row).deltas m.pilot (pos 0))
+    (record { pilot = m.pilot; row = row; subchannel = 0 }) in
     sym (same_close row phase deltas)
     ∙ ap all_close (sym (append-nil (fingers_of row phase deltas)))
-    ∙ ap all_close (sym (pilot_alone phase deltas (m.pn == m.pn) finger 0 (eq-eqb m.pn m.pn refl)))
+    ∙ ap all_close (sym (pilot_alone phase deltas (m.pilot == m.pilot) finger 0 (eq-eqb m.pilot m.pilot refl)))
     ∙ h
 
 -- before frame 0 nothing was signaled
@@ -76,7 +76,7 @@ signals_start t traffic m legs samples = refl
 
 -- at the mark the sets are new
 pub kept_first : (t : Tuning) (traffic : Traffic) (m : Mark) (samples : List Sample) →
-    kept_to t traffic m samples 0 ≡ (λ i. new_standing m.pn traffic.row)
+    kept_to t traffic m samples 0 ≡ (λ i. new_standing m.pilot traffic.row)
 unfolding kept_to
 kept_first t traffic m samples = refl
 
@@ -89,7 +89,7 @@ module _ (t : Tuning) (traffic : Traffic) (m : Mark) (start end : ℕ) (near : N
     have = 0;
     start = start;
     end = end;
-    legs = legs_of m (new_standing m.pn traffic.row);
+    legs = legs_of m (new_standing m.pilot traffic.row);
     phase = t.phase;
     near = near;
     scrambling = scrambling;
@@ -98,7 +98,7 @@ module _ (t : Tuning) (traffic : Traffic) (m : Mark) (start end : ℕ) (near : N
     framer = framer;
     kept = None;
     sets = record {
-      sets = new_standing m.pn traffic.row;
+      sets = new_standing m.pilot traffic.row;
       mark = m;
       passed = 0;
       due = false;
@@ -108,12 +108,12 @@ module _ (t : Tuning) (traffic : Traffic) (m : Mark) (start end : ℕ) (near : N
   pub hears_opened : take near.count near.deltas ≡ t.deltas → scrambling.state ≡ frame_state traffic m 0 →
       scrambling.mask ≡ traffic_mask traffic.esn → traffic.offset ≤ 15 →
       start ≡ traffic_start traffic m 0 →
-      AreClose (all_fingers t.phase t.deltas (legs_of m (new_standing m.pn traffic.row))) →
+      AreClose (all_fingers t.phase t.deltas (legs_of m (new_standing m.pilot traffic.row))) →
       length heard ≤ t.count → length heard ≤ m.sample → StandsFor framer [] →
-      HearsWith t traffic m opened heard [] (λ i. new_standing m.pn traffic.row)
+      HearsWith t traffic m opened heard [] (λ i. new_standing m.pilot traffic.row)
   unfolding opened
   hears_opened deltas state mask offset start_is close within early framed =
-      let new : Standing = new_standing m.pn traffic.row in
+      let new : Standing = new_standing m.pilot traffic.row in
       let legs : ℕ → List Leg = λ k. legs_of m new in
       let none_left : told_left_with t traffic m heard opened (λ i. new) ≡ [] =
       told_left_none t traffic m legs heard 0
@@ -148,16 +148,16 @@ module _ (t : Tuning) (traffic : Traffic) (m : Mark) (start end : ℕ) (near : N
       }
 
   -- nothing has passed
-  pub hears_new : HearsWith t traffic m opened heard [] (λ i. new_standing m.pn traffic.row) →
+  pub hears_new : HearsWith t traffic m opened heard [] (λ i. new_standing m.pilot traffic.row) →
       HearsTraffic t traffic m opened heard []
   unfolding opened kept_to
   hears_new st = st
 
   -- the same in its parts
   pub opened_is : (legs : List Leg) (phase : ℕ) (sets : SetsKeeper) →
-      legs ≡ legs_of m (new_standing m.pn traffic.row) → phase ≡ t.phase →
+      legs ≡ legs_of m (new_standing m.pilot traffic.row) → phase ≡ t.phase →
       sets ≡ record {
-        sets = new_standing m.pn traffic.row;
+        sets = new_standing m.pilot traffic.row;
         mark = m;
         passed = 0;
         due = false;
@@ -194,7 +194,7 @@ module _ (t : Tuning) (traffic : Traffic) (m : Mark) (start end : ℕ) (near : N
         kept = None;
         sets = k;
       } in
-      let first = legs_of m (new_standing m.pn traffic.row) in
+      let first = legs_of m (new_standing m.pilot traffic.row) in
       ap (λ (ls : List Leg). of ls phase sets) legs_is
       ∙ ap (λ (p : ℕ). of first p sets) phase_is
       ∙ ap (of first t.phase) sets_is

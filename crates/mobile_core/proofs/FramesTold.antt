@@ -109,10 +109,10 @@ module _ {t : Tuning} {traffic : Traffic} {m : Mark} {heard : List Sample} {kept
         let j : ℕ = r.sets.passed in
         let left = told_left_with t traffic m heard r kept in
         let first = first_is m j (length heard) st.coming (st.behind event (pages ++ left) refl) in
-        let same : noted_with r.sets.mark.pn (r.sets.mark.time + (j + 1)) event r.sets.sets
+        let same : noted_with r.sets.mark.pilot (r.sets.mark.time + (j + 1)) event r.sets.sets
         ≡ noted m event r.sets.sets =
-        ap (λ (x : Mark). noted_with x.pn (x.time + (j + 1)) event r.sets.sets) st.mark_is
-        ∙ ap (λ (k : ℕ). noted_with m.pn (m.time + k) event r.sets.sets)
+        ap (λ (x : Mark). noted_with x.pilot (x.time + (j + 1)) event r.sets.sets) st.mark_is
+        ∙ ap (λ (k : ℕ). noted_with m.pilot (m.time + k) event r.sets.sets)
         (first ∙ ap (moment_from m) (sym at')) in
         record {
           mark_is = st.mark_is;
@@ -124,7 +124,7 @@ module _ {t : Tuning} {traffic : Traffic} {m : Mark} {heard : List Sample} {kept
           start_is = st.start_is;
           close = st.close;
           legs_are = st.legs_are;
-          pilots_are = noted_legs m r.sets.mark.pn (r.sets.mark.time + (j + 1)) event r.sets.sets
+          pilots_are = noted_legs m r.sets.mark.pilot (r.sets.mark.time + (j + 1)) event r.sets.sets
               ∙ st.pilots_are;
           within = st.within;
           begun = st.begun;

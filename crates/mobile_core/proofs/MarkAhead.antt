@@ -182,7 +182,7 @@ module _ {t : Tuning} {p : Parts} {heard : List Sample} (given : List Event) (ev
   -- Where the event given last ends at the last sample taken, and none before it sets a mark, the
   -- mark lies there or behind.
   pub mark_ahead : at_of event ≡ length heard → list_any sets_mark given ≡ false → (m : Mark) →
-      m.pn ≤ 511 → p.sync.mark ≡ Some m → length heard ≤ m.sample
+      m.pilot ≤ 511 → p.sync.mark ≡ Some m → length heard ≤ m.sample
   mark_ahead here none m pilot marked =
       let clock = p.sync.received.clock in
       let is = st.sync.receives.clocked in

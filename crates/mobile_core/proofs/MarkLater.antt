@@ -203,7 +203,7 @@ module _ (t : Tuning) (samples : List Sample) (k low : ℕ) (near : AreNear (syn
       let ends = (ends_bounds Sync (frame_start s (k + 1)) s.fingers near).1 in
       omega (arith, high, ends)
 
-  told_later : (m : Mark) → m.pn ≤ 511 → (told : Option SpelledMessage) →
+  told_later : (m : Mark) → m.pilot ≤ 511 → (told : Option SpelledMessage) →
       told ≡ heard_at t samples k →
       first_of
       (marks_of (frame_start (sync_stream t) (k + 1 - frames_open t samples (k + 1))) told)
@@ -220,12 +220,12 @@ module _ (t : Tuning) (samples : List Sample) (k low : ℕ) (near : AreNear (syn
       (sym told_is ∙ got.1.0) in
       let few = frames_few t samples k heard.capsule capsule in
       let same = got.1.1 in
-      let pn : heard.message.pn ≡ m.pn = ap (λ (x : Mark). x.pn) same in
+      let pn : heard.message.pn ≡ m.pilot = ap (λ (x : Mark). x.pilot) same in
       let late = late_enough first frames (length heard.capsule) heard.message.pn
       (known_at t.count s k) few (known_most frames) (omega (arith, pilot, pn)) in
       subst (λ (x : Mark). known_at t.count s k < x.sample) same late
 
-  pub mark_later : (m : Mark) → m.pn ≤ 511 → first_of (marks_at t samples k) ≡ Some m →
+  pub mark_later : (m : Mark) → m.pilot ≤ 511 → first_of (marks_at t samples k) ≡ Some m →
       known_at t.count (sync_stream t) k < m.sample
   unfolding marks_at
   mark_later m pilot e = told_later m pilot (heard_at t samples k) refl e

@@ -250,7 +250,7 @@ module _ (t : Tuning) (low : ℕ) (timed : IsSyncTimed t low) where
 
   -- It lies behind the samples within which it isn't set yet.
   pub mark_behind : AreNear (sync_stream t).fingers → (samples : List Sample) (n n' : ℕ)
-      (m : Mark) → m.pn ≤ 511 → mark t samples n ≡ None → mark t samples n' ≡ Some m → n < m.sample
+      (m : Mark) → m.pilot ≤ 511 → mark t samples n ≡ None → mark t samples n' ≡ Some m → n < m.sample
   mark_behind near samples n n' m pilot none h =
       let (k, set) = mark_set t samples n' m h in
       let later = mark_later t samples k low near timed set.inside m pilot set.sets in
@@ -283,22 +283,22 @@ heard_pn form None heard e = absurd (cc)
 heard_pn form (Some capsule) heard e = read_pn form capsule _ refl heard e
 
 picked_pn : (b : Bool) (x m : Mark) → first_of (if b then [] else x ∷ []) ≡ Some m →
-    x.pn ≤ 511 → m.pn ≤ 511
+    x.pilot ≤ 511 → m.pilot ≤ 511
 picked_pn true x m e low = absurd (cc)
 picked_pn false x m e low =
     let same : x ≡ m = cc in
-    subst (λ (y : Mark). y.pn ≤ 511) same low
+    subst (λ (y : Mark). y.pilot ≤ 511) same low
 
 marks_pn : (first : ℕ) (told : Option SpelledMessage) (m : Mark) →
     ((heard : SpelledMessage) → told ≡ Some heard → heard.message.pn ≤ 511) →
-    first_of (marks_of first told) ≡ Some m → m.pn ≤ 511
+    first_of (marks_of first told) ≡ Some m → m.pilot ≤ 511
 marks_pn first None m low e = absurd (cc)
 marks_pn first (Some heard) m low e =
     picked_pn (heard.message.lc == 0) (mark_at first heard) m e (low heard refl)
 
 -- a mark's pilot has one of the numbers that a message can tell
 pub mark_pilot : (t : Tuning) (samples : List Sample) (n : ℕ) (m : Mark) →
-    mark t samples n ≡ Some m → m.pn ≤ 511
+    mark t samples n ≡ Some m → m.pilot ≤ 511
 unfolding marks_at heard_at
 mark_pilot t samples n m h =
     let (k, set) = mark_set t samples n m h in
@@ -385,19 +385,19 @@ pilot_alone phase deltas false f c h = absurd (cc)
 module _ (t : Tuning) (near : AreNear (sync_stream t).fingers) (traffic : Traffic) where
   -- before the first moment it is active alone, and its paths are close
   first_close : (m : Mark) →
-      AreClose (all_fingers t.phase t.deltas (legs_of m (new_standing m.pn traffic.row)))
+      AreClose (all_fingers t.phase t.deltas (legs_of m (new_standing m.pilot traffic.row)))
   first_close m =
       let fingers = fingers_of traffic.row t.phase t.deltas in
-      let finger = pilot_finger m (get_or (new_standing m.pn traffic.row).deltas m.pn (pos 0))
-      (record { pilot = m.pn; row = traffic.row; subchannel = 0 }) in
+      let finger = pilot_finger m (get_or (new_standing m.pilot traffic.row).deltas m.pilot (pos 0))
+      (record { pilot = m.pilot; row = traffic.row; subchannel = 0 }) in
       subst AreClose
-      (sym (pilot_alone t.phase t.deltas (m.pn == m.pn) finger 0 (eq-eqb m.pn m.pn refl)))
+      (sym (pilot_alone t.phase t.deltas (m.pilot == m.pilot) finger 0 (eq-eqb m.pilot m.pilot refl)))
       (subst AreClose (sym (append-nil fingers)) (near_are_close fingers (near_on t traffic.row near)))
 
   -- no frame ends before the mark
   module _ (m : Mark) (samples : List Sample) (n : ℕ) (before : n ≤ m.sample) where
     at_mark : legs_at t traffic m samples n
-        ≡ (λ k. legs_of m (new_standing m.pn traffic.row))
+        ≡ (λ k. legs_of m (new_standing m.pilot traffic.row))
     unfolding kept_to
     at_mark =
         let none : moments_before m n ≡ 0 = omega (arith, before) in
@@ -406,7 +406,7 @@ module _ (t : Tuning) (near : AreNear (sync_stream t).fingers) (traffic : Traffi
     traffic_later : (k : ℕ) → ¬ (frame_known t traffic m (legs_at t traffic m samples n) k ≡ n)
     traffic_later k = λ e.
         let same = ap (λ (legs : ℕ → List Leg). frame_known t traffic m legs k) at_mark in
-        let low = known_low t traffic m (λ i. legs_of m (new_standing m.pn traffic.row))
+        let low = known_low t traffic m (λ i. legs_of m (new_standing m.pilot traffic.row))
         (λ i. first_close m) k in
         omega (arith, e, same, low, before)
 

@@ -49,8 +49,8 @@ receives_later count s c waits near fingers long clock heard within most =
 -- before any frame is heard
 pub hears_none : (t : Tuning) (channel : ℕ) (m : Mark) (r : PagingReceiver)
     (heard : List Sample) → Receives t.count (paging_stream t channel m) r.received heard →
-    r.received.clock.next ≡ r.received.clock.low → r.scrambling.state ≡ m.lc →
-    r.scrambling.mask ≡ paging_mask channel m.pn → r.rate ≡ paging_rate m.prat →
+    r.received.clock.next ≡ r.received.clock.low → r.scrambling.state ≡ m.state →
+    r.scrambling.mask ≡ paging_mask channel m.pilot → r.rate ≡ paging_rate m.prat →
     r.framer.size ≡ half_frame_body (paging_rate m.prat) → r.place ≡ 0 →
     StandsFor r.framer [] → HearsPaging t channel m r heard
 hears_none t channel m r heard receives next state mask rate size none framed =

@@ -31,11 +31,11 @@ has_power_control (Traffic traffic) = true
 
 -- the long code's state at the first chip of frame k, and the mask
 abbrev pub state_at : Channel → Mark → ℕ → ℕ
-state_at (Paging number) m k = after m.lc (24576 * k)
+state_at (Paging number) m k = after m.state (24576 * k)
 state_at (Traffic traffic) m k = frame_state traffic m k
 
 abbrev pub mask_of : Channel → Mark → ℕ
-mask_of (Paging number) m = paging_mask number m.pn
+mask_of (Paging number) m = paging_mask number m.pilot
 mask_of (Traffic traffic) m = traffic_mask traffic.esn
 
 -- Its frames, as the paths of the reference base station receive them, each known at its own end.

@@ -13,4 +13,4 @@ traffic_channel traffic = channels.Traffic traffic
 
 -- the reference's pilot is active alone, whatever the frame
 abbrev pub reference_alone : Traffic → Mark → ℕ → List Leg
-reference_alone traffic m k = legs_of m (new_standing m.pn traffic.row)
+reference_alone traffic m k = legs_of m (new_standing m.pilot traffic.row)

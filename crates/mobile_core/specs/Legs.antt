@@ -22,7 +22,7 @@ pilot_finger m delta a =
 
 abbrev pub leg_of : Mark → List ℤ → Active → Leg
 leg_of m deltas a = record {
-  reference = a.pilot == m.pn;
+  reference = a.pilot == m.pilot;
   finger = pilot_finger m (get_or deltas a.pilot (pos 0)) a;
   subchannel = a.subchannel;
 }

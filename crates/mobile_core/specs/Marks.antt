@@ -25,8 +25,8 @@ abbrev pub mark_at : ℕ → SpelledMessage → Mark
 mark_at first heard = record {
   sample = first + 98304 * (superframes_of heard.capsule + 4) - 64 * heard.message.pn;
   time = heard.message.time;
-  lc = heard.message.lc;
-  pn = heard.message.pn;
+  state = heard.message.lc;
+  pilot = heard.message.pn;
   prat = heard.message.prat;
 }
 

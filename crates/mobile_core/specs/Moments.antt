@@ -100,7 +100,7 @@ heard_from t traffic m kept samples j count =
 -- What is kept behind each moment up to j, by its number: a later one isn't known yet, and has what
 -- moment j has. It hangs on the samples before moment j alone.
 unfoldable pub kept_to : Tuning → Traffic → Mark → List Sample → ℕ → (ℕ → Standing)
-kept_to t traffic m samples zero = λ i. new_standing m.pn traffic.row
+kept_to t traffic m samples zero = λ i. new_standing m.pilot traffic.row
 kept_to t traffic m samples (suc j) =
     let kept = kept_to t traffic m samples j in
     let first = take (moment_place m (suc j)) samples in

@@ -65,7 +65,7 @@ noted_with pn first (Traffic n capsule message) s = body_noted first message.bod
 noted_with pn first (Sets n time active candidate report) s = s
 
 abbrev pub noted : Mark → Event → Standing → Standing
-noted m event s = noted_with m.pn (m.time + moment_from m (at_of event)) event s
+noted m event s = noted_with m.pilot (m.time + moment_from m (at_of event)) event s
 
 -- one behind the other
 abbrev pub all_noted : Mark → List Event → Standing → Standing

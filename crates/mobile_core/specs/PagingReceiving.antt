@@ -30,8 +30,8 @@ pub record IsUnderWay (t : Tuning) (channel : ℕ) (m : Mark) (r : PagingReceive
 pub record HearsPaging (t : Tuning) (channel : ℕ) (m : Mark) (r : PagingReceiver)
     (heard : List Sample) : Type 0 where
   pub receives : Receives t.count (paging_stream t channel m) r.received heard
-  pub state_is : r.scrambling.state ≡ m.lc
-  pub mask_is : r.scrambling.mask ≡ paging_mask channel m.pn
+  pub state_is : r.scrambling.state ≡ m.state
+  pub mask_is : r.scrambling.mask ≡ paging_mask channel m.pilot
   pub rate_is : r.rate ≡ paging_rate m.prat
   pub size_is : r.framer.size ≡ half_frames.half_frame_body (paging_rate m.prat)
   pub under_way : 0 < r.place → IsUnderWay t channel m r heard

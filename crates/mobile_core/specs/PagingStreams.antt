@@ -22,7 +22,7 @@ paging_stream t channel m = record {
   form = Data;
   fingers = fingers_of channel t.phase t.deltas;
   first = m.sample;
-  scrambling = λ k. scrambling (after m.lc (24576 * k)) (paging_mask channel m.pn);
+  scrambling = λ k. scrambling (after m.state (24576 * k)) (paging_mask channel m.pilot);
   waits = true;
 }
 

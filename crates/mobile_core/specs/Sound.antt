@@ -39,8 +39,8 @@ pub record IsSoundMark (m : Mark) : Type 0 where
   pub early : m.sample < 2 ^ 29
   pub late : 2 ^ 16 ≤ m.sample
   pub time : m.time < 2 ^ 36
-  pub state : IsState m.lc
-  pub pilot : m.pn ≤ 511
+  pub state : IsState m.state
+  pub pilot : m.pilot ≤ 511
 
 -- frames of the sync channel, of which no message has more than were heard
 pub record IsSoundSync (r : SyncReceiver) : Type 0 where

@@ -165,7 +165,7 @@ abbrev pub noted_by : Event → TrafficReceiver → TrafficReceiver
 noted_by event r =
     record r {
       sets = record r.sets {
-        sets = noted_with r.sets.mark.pn (r.sets.mark.time + (r.sets.passed + 1)) event r.sets.sets;
+        sets = noted_with r.sets.mark.pilot (r.sets.mark.time + (r.sets.passed + 1)) event r.sets.sets;
       };
     }
 

@@ -20,7 +20,7 @@ chips_behind traffic k = 1536 * traffic.offset + 24576 * k
 
 -- the long code's state at the first chip of frame k
 abbrev pub frame_state : Traffic → Mark → ℕ → ℕ
-frame_state traffic m k = after m.lc (chips_behind traffic k)
+frame_state traffic m k = after m.state (chips_behind traffic k)
 
 -- Frame 0 begins at the channel's offset behind the mark. A frame is encoded on its own, and so
 -- doesn't wait for the one behind it. At 9,600 bits a second it has as many bits and symbols as one

@@ -95,7 +95,7 @@ sent =
     }
 
 told : marks_of 32704 (Some (record { capsule = replicate 200 true; message = sent }))
-    ≡ record { sample = 688128; time = 1007; lc = 0x102a1d2e508; pn = 511; prat = 0 } ∷ []
+    ≡ record { sample = 688128; time = 1007; state = 0x102a1d2e508; pilot = 511; prat = 0 } ∷ []
 unfolding sent
 told = refl
 
@@ -122,7 +122,7 @@ turned_by_none = refl
 
 -- a mark of that file, at 28 frames of 20 ms
 paged : ℕ → Mark
-paged prat = record { sample = 688128; time = 1007; lc = 0x102a1d2e508; pn = 511; prat = prat }
+paged prat = record { sample = 688128; time = 1007; state = 0x102a1d2e508; pilot = 511; prat = prat }
 
 -- the frame at the mark is known when the one behind it has ended, two frames behind the mark
 first_page : known_at 1228800 (paging_stream (tuned 64 (pos 0 ∷ [])) 1 (paged 0)) 0 ≡ 737280

@@ -62,21 +62,21 @@ impl Followed {
     }
 
     /// Opens the receivers that a mark opens, when so many samples have been taken.
-    pub(crate) fn follow(&mut self, mark: Option<Mark>, taken: u64)
+    pub(crate) fn follow(&mut self, mark: &Option<Mark>, taken: u64)
         requires sound { IsSoundFollowed self.old }
-        requires mark { ForSome mark IsSoundMark }
+        requires mark { ForSome mark.now IsSoundMark }
         requires waits { WaitFrom taken self.old }
         ensures sound { IsSoundFollowed self.new }
         ensures waits { WaitFrom taken self.new }
         ensures further { followed_heard self.old ≤ followed_heard self.new }
         ensures due { followed_due self.new ≤ followed_due self.old }
         ensures hears { (t : Tuning) (before : Option TheMark) (heard : List Sample) →
-            taken ≡ length heard → taken ≤ t.count → SetsMark taken before mark →
-            HearsFollowed t self.old before heard → HearsFollowed t self.new mark heard }
+            taken ≡ length heard → taken ≤ t.count → SetsMark taken before mark.now →
+            HearsFollowed t self.old before heard → HearsFollowed t self.new mark.now heard }
         ensures left { (t : Tuning) (before : Option TheMark) (heard : List Sample) →
-            taken ≡ length heard → taken ≤ t.count → SetsMark taken before mark →
+            taken ≡ length heard → taken ≤ t.count → SetsMark taken before mark.now →
             HearsFollowed t self.old before heard →
-            followed_events_left t mark heard self.new
+            followed_events_left t mark.now heard self.new
             ≡ followed_events_left t before heard self.old }
     {
         self.paging.follow(mark, taken);

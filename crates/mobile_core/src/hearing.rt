@@ -21,6 +21,7 @@ use crate::spelled_signal::SpelledSignal;
 use chip_core::air::{OFFSET_CHIPS, SUPERFRAME_BITS, SUPERFRAME_CHIPS};
 use chip_core::{Bits, CheckForm};
 use frame_decoder::Decoded;
+use long_code::State;
 use paging_message::PagingMessage;
 use sync_message::SyncMessage;
 use traffic_message::{SignalFramer, TrafficMessage, split_frame};
@@ -114,14 +115,15 @@ fn mark_of(first: u64, told: &SpelledMessage) -> Option<Mark>
     if fields.lc == 0 {
         return None;
     }
+    let state = State::new(fields.lc).unwrap();
     let body_bits = u64::from(SUPERFRAME_BITS);
     let superframes = (u64::from(told.capsule.len()) + body_bits - 1) / body_bits;
     let behind = SUPERFRAME_CHIPS * (superframes + 4);
     Some(Mark {
         sample: first + behind - OFFSET_CHIPS * u64::from(fields.pn),
         time: fields.time,
-        lc: fields.lc,
-        pn: fields.pn,
+        state,
+        pilot: fields.pn,
         prat: fields.prat,
     })
 }

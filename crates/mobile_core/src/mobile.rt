@@ -206,7 +206,7 @@ impl Mobile {
             ..
         } = self;
         let event = sync.hear_next(decoder, *check, at);
-        followed.follow(sync.mark(), at);
+        followed.follow(&sync.mark(), at);
         event
     }
 

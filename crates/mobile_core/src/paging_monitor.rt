@@ -67,21 +67,21 @@ impl PagingMonitor {
     ///
     /// Where some of the channel's samples have been taken already it stays closed; a message sets
     /// a mark that lies behind the samples in which it is known.
-    pub(crate) fn follow(&mut self, mark: Option<Mark>, taken: u64)
+    pub(crate) fn follow(&mut self, mark: &Option<Mark>, taken: u64)
         requires sound { IsSoundMonitor self.old }
-        requires mark { ForSome mark IsSoundMark }
+        requires mark { ForSome mark.now IsSoundMark }
         requires waits { WaitsFrom taken self.old.receiver }
         ensures sound { IsSoundMonitor self.new }
         ensures waits { WaitsFrom taken self.new.receiver }
         ensures further { heard_by self.old.receiver ≤ heard_by self.new.receiver }
         ensures due { due_by self.new.receiver ≤ due_by self.old.receiver }
         ensures hears { (t : Tuning) (before : Option TheMark) (heard : List Sample) →
-            taken ≡ length heard → taken ≤ t.count → SetsMark taken before mark →
-            HearsPages t self.old before heard → HearsPages t self.new mark heard }
+            taken ≡ length heard → taken ≤ t.count → SetsMark taken before mark.now →
+            HearsPages t self.old before heard → HearsPages t self.new mark.now heard }
         ensures left { (t : Tuning) (before : Option TheMark) (heard : List Sample) →
-            taken ≡ length heard → taken ≤ t.count → SetsMark taken before mark →
+            taken ≡ length heard → taken ≤ t.count → SetsMark taken before mark.now →
             HearsPages t self.old before heard →
-            paging_events_left t mark heard self.new.receiver
+            paging_events_left t mark.now heard self.new.receiver
             ≡ paging_events_left t before heard self.old.receiver }
     {
         if self.receiver.is_some() {
@@ -89,7 +89,7 @@ impl PagingMonitor {
         }
         let Some(mark) = mark else { return };
         if taken < mark.sample {
-            self.receiver = PagingReceiver::open(&mark, self.channel, self.phase, &self.near);
+            self.receiver = PagingReceiver::open(mark, self.channel, self.phase, &self.near);
         }
     }
 

@@ -28,13 +28,13 @@ impl Scrambling {
         requires first { 1 ≤ channel }
         requires last { channel ≤ 7 }
         requires mark { IsSoundMark mark.now }
-        ensures state { result.state ≡ mark.now.lc }
-        ensures mask { result.mask ≡ paging_mask channel mark.now.pn }
+        ensures state { result.state ≡ mark.now.state }
+        ensures mask { result.mask ≡ paging_mask channel mark.now.pilot }
         ensures below { result.mask < 2 ^ 42 }
     {
         Scrambling {
-            state: State::new(mark.lc).unwrap(),
-            mask: paging_mask(channel, mark.pn),
+            state: mark.state,
+            mask: paging_mask(channel, mark.pilot),
         }
     }
 
@@ -45,7 +45,7 @@ impl Scrambling {
         ensures mask { result.mask ≡ traffic_mask traffic.now.esn }
         ensures below { result.mask < 2 ^ 42 }
     {
-        let mut state = State::new(mark.lc).unwrap();
+        let mut state = mark.state;
         state.jump(FRAME_OFFSET_CHIPS * u64::from(traffic.offset));
         Scrambling {
             state,

@@ -44,7 +44,7 @@ impl SetsKeeper {
         requires mark { IsSoundMark mark.now }
         requires row { row < 64 }
         ensures value { result ≡ record {
-          sets = new_standing mark.now.pn row;
+          sets = new_standing mark.now.pilot row;
           mark = mark.now;
           passed = 0;
           due = false;
@@ -52,7 +52,7 @@ impl SetsKeeper {
         ensures sound { IsSoundKeeper result }
     {
         SetsKeeper {
-            sets: Sets::new(mark.pn, row),
+            sets: Sets::new(mark.pilot, row),
             mark: *mark,
             passed: 0,
             due: false,
@@ -110,13 +110,13 @@ impl SetsKeeper {
     pub(crate) fn note(&mut self, event: &Event)
         requires { IsSoundKeeper self.old }
         ensures value { self.new ≡ record self.old {
-          sets = noted_with self.old.mark.pn (self.old.mark.time + (self.old.passed + 1))
+          sets = noted_with self.old.mark.pilot (self.old.mark.time + (self.old.passed + 1))
               event.now self.old.sets;
         } }
         ensures sound { IsSoundKeeper self.new }
     {
         let first = self.mark.time + (self.passed + 1);
-        note_event(&mut self.sets, self.mark.pn, first, event);
+        note_event(&mut self.sets, self.mark.pilot, first, event);
     }
 
     /// An active pilot, as a traffic channel is heard from it.
@@ -127,7 +127,7 @@ impl SetsKeeper {
     {
         let delta = self.sets.delta(active.pilot);
         Leg {
-            reference: active.pilot == self.mark.pn,
+            reference: active.pilot == self.mark.pilot,
             finger: Finger {
                 phase: pilot_phase(&self.mark, active.pilot, delta),
                 delta,

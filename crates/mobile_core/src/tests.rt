@@ -9,6 +9,7 @@ use crate::hearing::{hear_signal, message_event};
 use crate::{Channel, Event, Mark, Mobile, Settings, Step, Traffic, Tuner};
 use chip_core::{Bits, CheckForm, OutOfMemory, Phase, Sample};
 use frame_decoder::Decoded;
+use long_code::State;
 use pilot_search::{Best, Near};
 use rake_finger::SampleRing;
 use short_code::Codes;
@@ -116,8 +117,8 @@ fn tuner(alloc: Global, count: u64) -> Result<Tuner, OutOfMemory>
     let mark = Mark {
         sample: 65_536,
         time: 1000,
-        lc: 20_000_000_000,
-        pn: 0,
+        state: State::new(20_000_000_000).unwrap(),
+        pilot: 0,
         prat: 0,
     };
     let channel = Channel::Traffic(Traffic {

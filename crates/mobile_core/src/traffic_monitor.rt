@@ -78,9 +78,9 @@ impl TrafficMonitor {
     ///
     /// Where some of the channel's samples have been taken already it stays closed; a message sets
     /// a mark that lies behind the samples in which it is known.
-    pub(crate) fn follow(&mut self, mark: Option<Mark>, taken: u64)
+    pub(crate) fn follow(&mut self, mark: &Option<Mark>, taken: u64)
         requires sound { IsSoundTrafficMonitor self.old }
-        requires mark { ForSome mark IsSoundMark }
+        requires mark { ForSome mark.now IsSoundMark }
         requires waits { FramesWaitFrom taken self.old.receiver }
         ensures sound { IsSoundTrafficMonitor self.new }
         ensures waits { FramesWaitFrom taken self.new.receiver }
@@ -88,13 +88,13 @@ impl TrafficMonitor {
         ensures due { traffic_due_by self.new.receiver ≤ traffic_due_by self.old.receiver }
         ensures hears { (t : Tuning) (before : Option TheMark) (heard : List Sample)
             (pages : List TheEvent) → (before ≡ None → pages ≡ []) →
-            taken ≡ length heard → taken ≤ t.count → SetsMark taken before mark →
-            HearsFrames t self.old before heard pages → HearsFrames t self.new mark heard pages }
+            taken ≡ length heard → taken ≤ t.count → SetsMark taken before mark.now →
+            HearsFrames t self.old before heard pages → HearsFrames t self.new mark.now heard pages }
         ensures left { (t : Tuning) (before : Option TheMark) (heard : List Sample)
             (pages : List TheEvent) →
-            taken ≡ length heard → taken ≤ t.count → SetsMark taken before mark →
+            taken ≡ length heard → taken ≤ t.count → SetsMark taken before mark.now →
             HearsFrames t self.old before heard pages →
-            traffic_events_left t mark heard self.new.receiver
+            traffic_events_left t mark.now heard self.new.receiver
             ≡ traffic_events_left t before heard self.old.receiver }
     {
         if self.receiver.is_some() {
@@ -103,7 +103,7 @@ impl TrafficMonitor {
         let Some(traffic) = self.traffic else { return };
         let Some(mark) = mark else { return };
         if taken < mark.sample {
-            let receiver = TrafficReceiver::open(&mark, &traffic, self.phase, &self.near);
+            let receiver = TrafficReceiver::open(mark, &traffic, self.phase, &self.near);
             self.receiver = Some(receiver);
         }
     }

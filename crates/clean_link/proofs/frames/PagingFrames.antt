@@ -115,12 +115,12 @@ symbols_are c frame = refl
 same_scrambling : (plan : CellPlan) (p : PagingPlan) (m : Mark) (superframes k : ℕ) →
     IsTrueMark plan m superframes →
     frame_scrambling (cycle_of plan p) (4 * superframes + k) ≡
-    scrambling (after m.lc (24576 * k)) (paging_mask p.number m.pn)
+    scrambling (after m.state (24576 * k)) (paging_mask p.number m.pilot)
 same_scrambling plan p m superframes k at =
     let chips : 24576 * (4 * superframes + k) ≡ 98304 * superframes + 24576 * k = omega arith in
     ap (λ (state : ℕ). scrambling state (paging_mask p.number plan.cell.pn))
     (ap (after plan.cell.lc) chips ∙ sym (at.state (24576 * k)))
-    ∙ ap (λ (pn : ℕ). scrambling (after m.lc (24576 * k)) (paging_mask p.number pn)) (sym at.pn)
+    ∙ ap (λ (pn : ℕ). scrambling (after m.state (24576 * k)) (paging_mask p.number pn)) (sym at.pn)
 
 paging_read : (plan : CellPlan) (p : PagingPlan) (t : Tuning) (m : Mark) (superframes : ℕ) →
     IsTrueMark plan m superframes → pages.paging_rate plan.sync ≡ paging_rate m.prat →
@@ -133,12 +133,12 @@ paging_read plan p t m superframes at same = record {
       ∙ frame_size-is (pages.paging_rate plan.sync)
       ∙ ap (λ (rate : Rate). 192 / repeats_of rate) same;
   scrambles = λ k. inr
-      (length-scrambling (after m.lc (24576 * k)) (paging_mask p.number m.pn));
+      (length-scrambling (after m.state (24576 * k)) (paging_mask p.number m.pilot));
   sent = λ k.
       let frame = 4 * superframes + k in
       let code = continued_symbols (cycle_frame_bits (cycle_of plan p)) frame in
-      let bits = scrambling (after m.lc (24576 * k)) (paging_mask p.number m.pn) in
-      let long = length-scrambling (after m.lc (24576 * k)) (paging_mask p.number m.pn) in
+      let bits = scrambling (after m.state (24576 * k)) (paging_mask p.number m.pilot) in
+      let long = length-scrambling (after m.state (24576 * k)) (paging_mask p.number m.pilot) in
       symbols_are (cycle_of plan p) frame
       ∙ ap
       (zip_with xor (sent data_shape (repeats_of (pages.paging_rate plan.sync)) code))
@@ -205,7 +205,7 @@ pub silent_paging_zero : SilentPagingIsZero
 silent_paging_zero width plan t m superframes channel k is first last none free on at here =
     let s = paging_stream t channel m in
     let u = frame_start s k in
-    let bits = scrambling (after m.lc (24576 * k)) (paging_mask channel m.pn) in
+    let bits = scrambling (after m.state (24576 * k)) (paging_mask channel m.pilot) in
     let place = at.place in
     ap (λ (fs : List Finger). unscrambled bits (softs (made_samples plan) fs Data u))
     (fingers_are plan t channel on)
@@ -217,7 +217,7 @@ silent_paging_zero width plan t m superframes channel k is first last none free 
       aligned = omega (arith, place);
     }))
     ∙ zeros_unscrambled bits 384
-    (length-scrambling (after m.lc (24576 * k)) (paging_mask channel m.pn))
+    (length-scrambling (after m.state (24576 * k)) (paging_mask channel m.pilot))
 
 pub silent_paging_back : SilentPagingFramesAreZeros
 silent_paging_back width plan t m superframes channel k is first last none free on at here =

@@ -75,8 +75,8 @@ sent_mark plan m q first = record {
       (superframes_of (sync_capsule plan.cell.check30 (message_of plan.cell m q)) + 4) - 64 *
       (message_of plan.cell m q).pn;
   time = (message_of plan.cell m q).time;
-  lc = (message_of plan.cell m q).lc;
-  pn = (message_of plan.cell m q).pn;
+  state = (message_of plan.cell m q).lc;
+  pilot = (message_of plan.cell m q).pn;
   prat = (message_of plan.cell m q).prat;
 }
 

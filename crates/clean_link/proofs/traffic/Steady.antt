@@ -82,17 +82,17 @@ each_of_all P f a (suc n) k low below all =
 -- no direction waits, and the reference's pilot is the only active one
 pub record IsSteady (m : Mark) (row : ℕ) (s : Standing) : Type 0 where
   pub waiting : s.sets.waiting ≡ None
-  pub pilot : shown s ≡ record { pilot = m.pn; row = row; subchannel = 0 } ∷ []
+  pub pilot : shown s ≡ record { pilot = m.pilot; row = row; subchannel = 0 } ∷ []
 
-pub first_steady : (m : Mark) (row : ℕ) → IsSteady m row (new_standing m.pn row)
+pub first_steady : (m : Mark) (row : ℕ) → IsSteady m row (new_standing m.pilot row)
 first_steady m row = record { waiting = refl; pilot = refl }
 
 -- so its one pilot is the reference's
 pub steady_pilot : (m : Mark) (traffic : Traffic) (s : Standing) → IsSteady m traffic.row s →
     IsOnePilot traffic (legs_of m s)
 steady_pilot m traffic s st =
-    let active : Active = record { pilot = m.pn; row = traffic.row; subchannel = 0 } in
-    let finger = pilot_finger m (get_or s.deltas m.pn (pos 0)) active in
+    let active : Active = record { pilot = m.pilot; row = traffic.row; subchannel = 0 } in
+    let finger = pilot_finger m (get_or s.deltas m.pilot (pos 0)) active in
     record {
       finger = finger;
       row = refl;
@@ -100,7 +100,7 @@ steady_pilot m traffic s st =
           ap (map (leg_of m s.deltas)) st.pilot
           ∙ ap (λ (b : Bool).
           let leg : Leg = record { reference = b; finger = finger; subchannel = 0 } in leg ∷ [])
-          (eq-eqb m.pn m.pn refl);
+          (eq-eqb m.pilot m.pilot refl);
     }
 
 -- ---- what is heard leaves them steady
@@ -154,7 +154,7 @@ module _ (m : Mark) (row : ℕ) where
   all_steady [] s none st = st
   all_steady (e ∷ es) s none st =
       all_steady es (noted m e s) (All-tail IsNotDirected e es none)
-      (event_steady m.pn _ e s (All-head IsNotDirected e es none) st)
+      (event_steady m.pilot _ e s (All-head IsNotDirected e es none) st)
 
 -- ---- and so does a moment
 

@@ -35,12 +35,12 @@ use Rattle.clean_link.proofs.traffic.Steady.{steady_pilot}
 
 -- the pilot before the first moment
 abbrev pub first_legs : Traffic → Mark → ℕ → List Leg
-first_legs traffic m k = legs_of m (new_standing m.pn traffic.row)
+first_legs traffic m k = legs_of m (new_standing m.pilot traffic.row)
 
 pub first_pilot : (traffic : Traffic) (m : Mark) (k : ℕ) →
     IsOnePilot traffic (first_legs traffic m k)
 first_pilot traffic m k =
-    steady_pilot m traffic (new_standing m.pn traffic.row) (first_steady m traffic.row)
+    steady_pilot m traffic (new_standing m.pilot traffic.row) (first_steady m traffic.row)
 
 module _ (t : Tuning) (traffic : Traffic) (m : Mark) (legs : ℕ → List Leg) (samples : List Sample)
     (one : (k : ℕ) → IsOnePilot traffic (legs k)) (n : ℕ) (few : n ≤ length samples)

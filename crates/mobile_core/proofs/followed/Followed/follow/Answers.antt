@@ -10,7 +10,7 @@ returns-clause-hears c = λ t before heard at' within sets st.
     let left = c.follow.ensures.left t before heard at' within sets st.paging in
     record {
       paging = c.follow.ensures.hears t before heard at' within sets st.paging;
-      traffic = subst (HearsFrames t c.follow-2.new.self c.args.mark heard) (sym left)
+      traffic = subst (HearsFrames t c.follow-2.new.self c.args.mark.now heard) (sym left)
           (c.follow-2.ensures.hears t before heard pages
           (unset_pages t before heard c.args.self.now.paging.receiver) at' within sets st.traffic);
     }

@@ -10,7 +10,7 @@ pub returns-then-taken-mark-clause-hears : goal.returns-then-taken-mark-clause-h
 returns-then-taken-mark-clause-hears c = λ t before heard taken within sets st.
     let m = c.in-Some.mark in
     let opened = c.open-self.result in
-    let set : c.args.mark ≡ Some m = search rules in
+    let set : c.args.mark.now ≡ Some m = search rules in
     let early = c.if-taken-mark.true in
     let hears = c.open-self.ensures.hears t heard (sym st.phase_is) (sym st.deltas_are)
     (omega (arith, taken, within)) (omega (arith, taken, early)) in
@@ -24,7 +24,7 @@ pub returns-then-taken-mark-clause-left : goal.returns-then-taken-mark-clause-le
 returns-then-taken-mark-clause-left c = λ t before heard taken within sets st.
     let m = c.in-Some.mark in
     let opened = c.open-self.result in
-    let set : c.args.mark ≡ Some m = search rules in
+    let set : c.args.mark.now ≡ Some m = search rules in
     let none : c.args.self.now.receiver ≡ None = search rules in
     let early = c.if-taken-mark.true in
     let hears = c.open-self.ensures.hears t heard (sym st.phase_is) (sym st.deltas_are)

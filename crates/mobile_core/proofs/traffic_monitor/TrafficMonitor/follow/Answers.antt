@@ -20,7 +20,7 @@ returns-then-taken-mark-clause-hears c = λ t before heard pages unset taken wit
     let m = c.in-Some-mark.mark in
     let traffic = c.in-Some.traffic in
     let opened = c.open-receiver.result in
-    let set : c.args.mark ≡ Some m = search rules in
+    let set : c.args.mark.now ≡ Some m = search rules in
     let closed : c.args.self.now.receiver ≡ None = search rules in
     let channel : c.args.self.now.traffic ≡ Some traffic = search rules in
     let early = c.if-taken-mark.true in
@@ -31,7 +31,7 @@ returns-then-taken-mark-clause-hears c = λ t before heard pages unset taken wit
     (omega (arith, taken, within)) (omega (arith, taken, early)) in
     let behind = frames_opened t heard traffic m opened followed hears in
     let f = record c.args.self.now { receiver = Some opened } in
-    subst (HearsFrames t f c.args.mark heard) (sym none)
+    subst (HearsFrames t f c.args.mark.now heard) (sym none)
     (subst (λ (x : Option Mark). HearsFrames t f x heard []) (sym set)
     (frames_with st (Some m) (Some opened) [] behind))
 
@@ -40,7 +40,7 @@ returns-then-taken-mark-clause-left c = λ t before heard pages taken within set
     let m = c.in-Some-mark.mark in
     let traffic = c.in-Some.traffic in
     let opened = c.open-receiver.result in
-    let set : c.args.mark ≡ Some m = search rules in
+    let set : c.args.mark.now ≡ Some m = search rules in
     let none : c.args.self.now.receiver ≡ None = search rules in
     let channel : c.args.self.now.traffic ≡ Some traffic = search rules in
     let early = c.if-taken-mark.true in

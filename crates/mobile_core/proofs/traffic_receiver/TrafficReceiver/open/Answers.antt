@@ -25,7 +25,7 @@ returns-clause-sound c =
     let legs_is : c.legs-legs.result ≡ legs_of m c.new-sets.result.sets =
     legs.value ∙ ap (λ (k : SetsKeeper). legs_of k.mark c.new-sets.result.sets) keeper.value in
     let first : all_close (all_fingers c.args.phase (take near.count near.deltas)
-    (legs_of m (new_standing m.pn row))) ≡ true =
+    (legs_of m (new_standing m.pilot row))) ≡ true =
     sym (ap all_close (fingers.value
     ∙ ap (all_fingers c.args.phase (take near.count near.deltas))
     (legs_is ∙ ap (λ (k : SetsKeeper). legs_of m k.sets) keeper.value)))
@@ -70,7 +70,7 @@ returns-clause-hears c = λ t heard phase deltas within early.
     let shape = opened_is t traffic m _ c.frames_end.result near c.of_traffic.result _
     c.empty.result c.new.result heard c.legs-legs.result c.args.phase c.new-sets.result legs_is
     (sym phase) keeper.value in
-    let first : List Leg = legs_of m (new_standing m.pn traffic.row) in
+    let first : List Leg = legs_of m (new_standing m.pilot traffic.row) in
     let fingers_are = fingers.value
     ∙ ap (all_fingers c.args.phase (take near.count near.deltas)) legs_is
     ∙ ap (λ (p : ℕ). all_fingers p (take near.count near.deltas) first) (sym phase)
