@@ -1,10 +1,12 @@
 -- What the receiver of one channel's frames stands for, and what a step does.
 use Rattle.std.specs.Prelude.{◌≡◌, ℕ, ◌+◌, ◌-◌, ◌<◌, ◌≤◌, List, ◌++◌, length, take, IfSome, None}
+use Rattle.std.specs.Prelude.{sum_by, unsigned_abs}
 use Rattle.std.specs.Option.{option_to_list}
 use Rattle.chip_core.specs.declared.sample.Sample.{Sample}
 use Rattle.rake_finger.specs.Held.{HoldsLast}
 use Rattle.mobile_core.specs.FrameReceiving.{HasGiven}
 use Rattle.mobile_core.specs.SoftFrames.{soft_frames}
+use Rattle.mobile_core.specs.Softs.{frame_most}
 use Rattle.mobile_core.specs.Tuning.{Tuning}
 use Rattle.mobile_core.specs.declared.channel.Channel.{Channel}
 use Rattle.mobile_core.specs.declared.mark.Mark.{Mark}
@@ -32,6 +34,7 @@ samples_left r = r.count - r.ring.taken
 -- From one state to another it took the first of these samples, as many as the step says, at least
 -- one where there is one, and gave the frame that it says, which ends at the last of them: that is
 -- just what the samples taken now have beyond those taken before. Where it gave none it took all.
+-- A frame's soft values are so small that those of three frames may be decoded together.
 pub record IsTunerStep (before after : Tuner) (samples : List Sample) (step : TunerStep)
     : Type 0 where
   pub most : step.taken ≤ length samples
@@ -39,6 +42,8 @@ pub record IsTunerStep (before after : Tuner) (samples : List Sample) (step : Tu
   pub all : step.frame ≡ None → step.taken ≡ length samples
   pub left : samples_left after + step.taken ≡ samples_left before
   pub ends : IfSome step.frame (λ (frame : SoftFrame). frame.end ≡ before.ring.taken + step.taken)
+  pub small : IfSome step.frame
+      (λ (frame : SoftFrame). sum_by unsigned_abs frame.turned ≤ frame_most)
   pub stands : (t : Tuning) (channel : Channel) (m : Mark) (heard : List Sample) →
       IsTunedTo t channel m before heard →
       IsTunedTo t channel m after (heard ++ take step.taken samples)

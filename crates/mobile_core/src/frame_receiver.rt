@@ -34,6 +34,7 @@ impl FrameReceiver {
     ghost use Rattle.mobile_core.specs.Clocks.{frame_come, frame_heard};
     ghost use Rattle.mobile_core.specs.FrameReceiving.{HasGiven, IsSoundReceiver};
     ghost use Rattle.mobile_core.specs.SoftFrames.{power_of, soft_frame, unturned_at};
+    ghost use Rattle.mobile_core.specs.Softs.{frame_most};
     ghost use Rattle.mobile_core.specs.Sound.{IsSoundMark};
     ghost use Rattle.mobile_core.specs.Tuning.{Tuning};
     ghost use Rattle.mobile_core.specs.declared.channel.Channel.{Channel as TheChannel};
@@ -80,7 +81,7 @@ impl FrameReceiver {
         ensures value { (t : Tuning) (channel : TheChannel) (m : TheMark) (heard : List Sample)
             (taken : ℕ) → HoldsLast ring.now heard → HasGiven t channel m self.now taken →
             result ≡ unturned_at t channel m heard self.now.clock.have }
-        ensures small { sum_by unsigned_abs result ≤ 9 * 2 ^ 57 }
+        ensures small { sum_by unsigned_abs result ≤ frame_most }
     {
         let mut softs = [0; DATA_SYMBOLS];
         let start = self.clock.start();
@@ -118,6 +119,7 @@ impl FrameReceiver {
             (taken : ℕ) → HoldsLast ring.now heard → HasGiven t channel m self.now taken →
             result ≡ soft_frame t channel m heard self.now.clock.have }
         ensures ends { result.end ≡ ring.now.taken }
+        ensures small { sum_by unsigned_abs result.turned ≤ frame_most }
     {
         let number = self.clock.coming();
         let unturned = self.unturned(ring, codes);
@@ -142,6 +144,7 @@ impl FrameReceiver {
             (taken : ℕ) → HoldsLast ring.now heard → HasGiven t channel m self.old taken →
             result ≡ soft_frame t channel m heard self.old.clock.have }
         ensures ends { result.end ≡ ring.now.taken }
+        ensures small { sum_by unsigned_abs result.turned ≤ frame_most }
         ensures same { self.new ≡ record self.old {
           clock = frame_heard (frame_come self.old.clock);
         } }
