@@ -3,7 +3,7 @@ use Rattle.std.specs.Prelude.{ℕ, ◌≡◌, ◌≢◌, ◌≤◌, ◌<◌, ◌
 use Rattle.std.specs.Prelude.{false, not, ◌&&◌, ◌||◌, if◌then◌else◌, List, []}
 use Rattle.std.specs.Prelude.{◌∷◌, ◌++◌, length, map, codes, string_bytes, Option}
 use Rattle.std.specs.Prelude.{None, Some, find, is_some, option_map, option_and_then, unwrap_or}
-use Rattle.std.specs.List.{list_any}
+use Rattle.std.specs.List.{list_all, list_any}
 use Rattle.std.specs.Option.{option_map_or}
 use Rattle.std.specs.Result.{result_ok}
 use Rattle.std.specs.Cmp.Lexicographic.{pointwise}
@@ -20,13 +20,14 @@ use Rattle.hex.specs.Hex.{decode_sized}
 use Rattle.cdma_io.specs.declared.width.Width.{Width}
 use Rattle.cdma_io.specs.declared.width.Width.TheVariants.{Sixteen, Eight}
 use Rattle.cdma_words.specs.declared.job.Job.{Job}
-use Rattle.cdma_words.specs.declared.job.Job.TheVariants.{Find, Follow, Survey, Make, Trial}
+use Rattle.cdma_words.specs.declared.job.Job.TheVariants.{Find, Follow, Rate2, Survey, Make, Trial}
 use Rattle.cdma_words.specs.declared.job.TrafficOptions.{TrafficOptions}
 use Rattle.cdma_words.specs.declared.commands.Command.{Command}
 use Rattle.cdma_words.specs.declared.commands.Command.TheVariants as named
 use Rattle.cdma_words.specs.declared.grammar.Form.{Form}
 use Rattle.cdma_words.specs.declared.grammar.Form.TheVariants.{Between, Either, SerialNumber}
 use Rattle.cdma_words.specs.declared.grammar.OptionRule.{OptionRule}
+use Rattle.cdma_words.specs.declared.receiving.ReceiverOptions.{ReceiverOptions}
 
 abbrev pub Text : Type 0
 Text = List ℕ
@@ -106,18 +107,35 @@ abbrev pub find_with : List (Option ℕ) → Option Job
 find_with (Some span ∷ Some workers ∷ []) = Some (Find span workers)
 find_with _ = None
 
--- whether a traffic channel may have the row, beside the sync channel and a paging channel
-abbrev pub is_free : ℕ → ℕ → Bool
-is_free paging row = not (nat_eq row 32) && not (nat_eq row paging)
+-- in how many samples the pilot is searched, by how many workers, and over how many fingers the
+-- signal is followed
+abbrev pub receiver_with : List (Option ℕ) → Option ReceiverOptions
+receiver_with (Some span ∷ Some workers ∷ Some fingers ∷ []) =
+    Some (record { span = span; workers = workers; fingers = fingers })
+receiver_with _ = None
 
--- the traffic channel of a serial number, a row and an offset, beside a paging channel: the first
--- two or neither are given, and the offset, which is else 0, only with them
-abbrev pub traffic_with : ℕ → Option ℕ → Option ℕ → Option ℕ → Option (Option TrafficOptions)
-traffic_with paging None None None = Some None
-traffic_with paging (Some esn) (Some row) offset =
-    if is_free paging row
-    then Some (Some (record { esn = esn; row = row; offset = unwrap_or offset 0 })) else None
-traffic_with paging esn row offset = None
+-- the traffic channel of a serial number, a row and an offset, which is else 0; the sync channel
+-- has row 32
+abbrev pub channel_with : List (Option ℕ) → Option TrafficOptions
+channel_with (Some esn ∷ Some row ∷ offset ∷ []) =
+    if nat_eq row 32 then None
+    else Some (record { esn = esn; row = row; offset = unwrap_or offset 0 })
+channel_with _ = None
+
+-- whether none of these numbers is there
+abbrev pub has_none : List (Option ℕ) → Bool
+has_none numbers = list_all (λ number. not (is_some number)) numbers
+
+-- a traffic channel beside a paging channel, which has a row of its own
+abbrev pub beside : ℕ → TrafficOptions → Option TrafficOptions
+beside paging channel = if nat_eq channel.row paging then None else Some channel
+
+-- the traffic channel of these numbers beside a paging channel: where none of them is there, none
+-- is followed
+abbrev pub traffic_with : ℕ → List (Option ℕ) → Option (Option TrafficOptions)
+traffic_with paging numbers =
+    if has_none numbers then Some None
+    else option_map Some (option_and_then (beside paging) (channel_with numbers))
 
 -- how many pilots, messages, frames and raw capsules are told
 abbrev pub limits_with : List (Option ℕ) → Option (List ℕ)
@@ -126,10 +144,19 @@ limits_with (Some pilots ∷ Some messages ∷ Some frames ∷ Some raw ∷ []) 
 limits_with _ = None
 
 abbrev pub follow_with : List (Option ℕ) → Option Job
-follow_with (Some span ∷ Some workers ∷ Some fingers ∷ Some paging ∷ esn ∷ row ∷ offset ∷ limits) =
-    option_and_then (λ traffic. option_map (λ told. Follow span workers fingers paging traffic told)
-    (limits_with limits)) (traffic_with paging esn row offset)
+follow_with (span ∷ workers ∷ fingers ∷ Some paging ∷ esn ∷ row ∷ offset ∷ limits) =
+    option_and_then (λ receiver. option_and_then (λ traffic. option_map (λ told.
+    Follow receiver.span receiver.workers receiver.fingers paging traffic told)
+    (limits_with limits)) (traffic_with paging (esn ∷ row ∷ offset ∷ [])))
+    (receiver_with (span ∷ workers ∷ fingers ∷ []))
 follow_with _ = None
+
+abbrev pub rate2_with : List (Option ℕ) → Option Job
+rate2_with (span ∷ workers ∷ fingers ∷ channel) =
+    option_and_then (λ receiver. option_map (λ traffic.
+    Rate2 receiver.span receiver.workers receiver.fingers traffic) (channel_with channel))
+    (receiver_with (span ∷ workers ∷ fingers ∷ []))
+rate2_with _ = None
 
 abbrev pub survey_with : List (Option ℕ) → Option Job
 survey_with (Some span ∷ Some workers ∷ Some base ∷ Some width ∷ Some top ∷ []) =
@@ -155,6 +182,12 @@ find_row = record {
   job = find_with;
 }
 
+abbrev pub receiver_rows : List OptionRow
+receiver_rows = span_row ∷ workers_row ∷ fingers_row ∷ []
+
+abbrev pub channel_rows : List OptionRow
+channel_rows = serial_row ∷ walsh_row ∷ offset_row ∷ []
+
 abbrev pub limit_rows : List OptionRow
 limit_rows = limit_row (codes "pilots") 4294967295 ∷ limit_row (codes "messages") 4294967295
     ∷ limit_row (codes "frames") 4294967295 ∷ limit_row (codes "raw") 0 ∷ []
@@ -162,9 +195,15 @@ limit_rows = limit_row (codes "pilots") 4294967295 ∷ limit_row (codes "message
 abbrev pub follow_row : CommandRow
 follow_row = record {
   name = codes "follow";
-  options = span_row ∷ workers_row ∷ fingers_row ∷ paging_row ∷ serial_row ∷ walsh_row
-      ∷ offset_row ∷ limit_rows;
+  options = receiver_rows ++ paging_row ∷ channel_rows ++ limit_rows;
   job = follow_with;
+}
+
+abbrev pub rate2_row : CommandRow
+rate2_row = record {
+  name = codes "rate2";
+  options = receiver_rows ++ channel_rows;
+  job = rate2_with;
 }
 
 abbrev pub survey_row : CommandRow
@@ -187,12 +226,13 @@ trial_row = record {
 abbrev pub command_row : Command → CommandRow
 command_row named.Find = find_row
 command_row named.Follow = follow_row
+command_row named.Rate2 = rate2_row
 command_row named.Survey = survey_row
 command_row named.Make = make_row
 command_row named.Trial = trial_row
 
 abbrev pub commands : List CommandRow
-commands = find_row ∷ follow_row ∷ survey_row ∷ make_row ∷ trial_row ∷ []
+commands = find_row ∷ follow_row ∷ rate2_row ∷ survey_row ∷ make_row ∷ trial_row ∷ []
 
 -- ---- values
 
@@ -377,17 +417,23 @@ IsWidth width = width ≤ 31
 abbrev pub IsTop : ℕ → Type 0
 IsTop top = (1 ≤ top) × (top ≤ 512)
 
--- the Walsh row of a traffic channel beside the sync channel and a paging channel
-pub record IsFreeRow (paging row : ℕ) : Type 0 where
-  pub least : 1 ≤ row
-  pub most : row ≤ 63
-  pub sync : row ≢ 32
-  pub other : row ≢ paging
+-- how a signal is received
+abbrev pub IsLawfulReceiver : ReceiverOptions → Type 0
+IsLawfulReceiver receiver =
+    IsSpan receiver.span × IsWorkers receiver.workers × IsFingers receiver.fingers
 
+-- a traffic channel, whose Walsh row isn't the sync channel's
+pub record IsLawfulChannel (channel : TrafficOptions) : Type 0 where
+  pub esn : channel.esn < 2 ^ 32
+  pub least : 1 ≤ channel.row
+  pub most : channel.row ≤ 63
+  pub sync : channel.row ≢ 32
+  pub offset : channel.offset ≤ 15
+
+-- a traffic channel, or none, beside a paging channel
 abbrev pub IsLawfulTraffic : ℕ → Option TrafficOptions → Type 0
 IsLawfulTraffic paging None = Unit {0}
-IsLawfulTraffic paging (Some traffic) =
-    (traffic.esn < 2 ^ 32) × IsFreeRow paging traffic.row × (traffic.offset ≤ 15)
+IsLawfulTraffic paging (Some channel) = IsLawfulChannel channel × (channel.row ≢ paging)
 
 -- a job has numbers that its options admit, and that go together
 abbrev pub IsLawfulJob : Job → Type 0
@@ -395,6 +441,8 @@ IsLawfulJob (Find span workers) = IsSpan span × IsWorkers workers
 IsLawfulJob (Follow span workers fingers paging traffic limits) =
     IsSpan span × IsWorkers workers × IsFingers fingers × IsPaging paging
     × IsLawfulTraffic paging traffic
+IsLawfulJob (Rate2 span workers fingers traffic) =
+    IsSpan span × IsWorkers workers × IsFingers fingers × IsLawfulChannel traffic
 IsLawfulJob (Survey span workers base width top) =
     IsSpan span × IsWorkers workers × IsBase base × IsWidth width × IsTop top
 IsLawfulJob (Make width) = Unit {0}

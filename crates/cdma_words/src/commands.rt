@@ -2,17 +2,16 @@
 
 ghost use Rattle.std.specs.Prelude.{◌≡◌, IfSome, find, map, nat_eq, option_map};
 ghost use Rattle.std.specs.Cmp.Lexicographic.{pointwise};
-ghost use Rattle.cdma_words.specs.Words.{IsAdmitted, IsLawfulJob, IsLawfulTraffic};
-ghost use Rattle.cdma_words.specs.Words.{command_row, commands, find_row, follow_row, is_free};
-ghost use Rattle.cdma_words.specs.Words.{job_with, limit_rows, limits_with, make_row};
-ghost use Rattle.cdma_words.specs.Words.{numbers_by, row_of, survey_row, traffic_with, trial_row};
-ghost use Rattle.cdma_words.specs.Words.{width_of};
+ghost use Rattle.cdma_words.specs.Words.{IsLawfulJob, command_row, commands, find_row, follow_row};
+ghost use Rattle.cdma_words.specs.Words.{job_with, limit_rows, limits_with, make_row, numbers_by};
+ghost use Rattle.cdma_words.specs.Words.{rate2_row, row_of, survey_row, trial_row, width_of};
 
 use crate::grammar::{
-    BASE, BITS, FINGERS, FRAMES, Form, MESSAGES, NUMBER, OFFSET, OptionRule, PAGING, PILOTS, RAW,
-    ROW, SERIAL_NUMBER, SPAN, TOP, WIDTH, WORKERS,
+    BASE, BITS, FINGERS, FRAMES, MESSAGES, NUMBER, OFFSET, OptionRule, PAGING, PILOTS, RAW, ROW,
+    SERIAL_NUMBER, SPAN, TOP, WIDTH, WORKERS,
 };
-use crate::job::{Job, TrafficOptions};
+use crate::job::Job;
+use crate::receiving::{channel_with, receiver_with, traffic_with};
 use crate::texts::{Texts, number_by};
 use cdma_io::Width;
 
@@ -23,6 +22,8 @@ pub enum Command {
     Find,
     /// `follow`.
     Follow,
+    /// `rate2`.
+    Rate2,
     /// `survey`.
     Survey,
     /// `make`.
@@ -49,6 +50,9 @@ static FOLLOW_OPTIONS: [OptionRule; 11] = [
     RAW,
 ];
 
+/// What `rate2` takes.
+static RATE2_OPTIONS: [OptionRule; 6] = [SPAN, WORKERS, FINGERS, SERIAL_NUMBER, ROW, OFFSET];
+
 /// What `survey` takes.
 static SURVEY_OPTIONS: [OptionRule; 5] = [SPAN, WORKERS, BASE, WIDTH, TOP];
 
@@ -67,6 +71,7 @@ impl Command {
         match name {
             "find" => Some(Command::Find),
             "follow" => Some(Command::Follow),
+            "rate2" => Some(Command::Rate2),
             "survey" => Some(Command::Survey),
             "make" => Some(Command::Make),
             "trial" => Some(Command::Trial),
@@ -81,6 +86,7 @@ impl Command {
         match self {
             Command::Find => "find",
             Command::Follow => "follow",
+            Command::Rate2 => "rate2",
             Command::Survey => "survey",
             Command::Make => "make",
             Command::Trial => "trial",
@@ -94,6 +100,7 @@ impl Command {
         match self {
             Command::Find => &FIND_OPTIONS,
             Command::Follow => &FOLLOW_OPTIONS,
+            Command::Rate2 => &RATE2_OPTIONS,
             Command::Survey => &SURVEY_OPTIONS,
             Command::Make => &MAKE_OPTIONS,
             Command::Trial => &TRIAL_OPTIONS,
@@ -109,6 +116,7 @@ impl Command {
         match self {
             Command::Find => find_with(texts),
             Command::Follow => follow_with(texts),
+            Command::Rate2 => rate2_with(texts),
             Command::Survey => survey_with(texts),
             Command::Make => make_with(texts),
             Command::Trial => trial_with(texts),
@@ -134,62 +142,33 @@ fn follow_with<T: Texts>(texts: &T) -> Option<Job>
     ensures value { result ≡ job_with follow_row (T.text_at texts.now) }
     ensures lawful { IfSome result IsLawfulJob }
 {
-    let span = number_by(texts, &SPAN)?;
-    let workers = number_by(texts, &WORKERS)?;
-    let fingers = number_by(texts, &FINGERS)?;
     let paging = number_by(texts, &PAGING)?;
-    let esn = number_by(texts, &SERIAL_NUMBER);
-    let row = number_by(texts, &ROW);
-    let offset = number_by(texts, &OFFSET);
-    let traffic = traffic_with(paging, esn, row, offset)?;
+    let receiver = receiver_with(texts)?;
+    let traffic = traffic_with(texts, paging)?;
     let limits = limits_with(texts)?;
     Some(Job::Follow {
-        span: span as u16,
-        workers: workers as u8,
-        fingers: fingers as u8,
+        span: receiver.span,
+        workers: receiver.workers,
+        fingers: receiver.fingers,
         paging: paging as u8,
         traffic,
         limits,
     })
 }
 
-/// The traffic channel of a serial number, a row and an offset, beside a paging channel: the first
-/// two or neither are given, and the offset, which is else 0, only with them; none where they don't
-/// go together.
-fn traffic_with(
-    paging: u128,
-    esn: Option<u128>,
-    row: Option<u128>,
-    offset: Option<u128>,
-) -> Option<Option<TrafficOptions>>
-    requires esn { IfSome esn (IsAdmitted Form.SerialNumber) }
-    requires row { IfSome row (IsAdmitted (Form.Between 1 63)) }
-    requires offset { IfSome offset (IsAdmitted (Form.Between 0 15)) }
-    ensures value { result ≡ traffic_with paging esn row offset }
-    ensures lawful { IfSome result (IsLawfulTraffic paging) }
+/// The job of `rate2`.
+fn rate2_with<T: Texts>(texts: &T) -> Option<Job>
+    ensures value { result ≡ job_with rate2_row (T.text_at texts.now) }
+    ensures lawful { IfSome result IsLawfulJob }
 {
-    match (esn, row, offset) {
-        (None, None, None) => Some(None),
-        (Some(esn), Some(row), offset) => {
-            if is_free(paging, row) {
-                Some(Some(TrafficOptions {
-                    esn: esn as u32,
-                    row: row as u8,
-                    offset: offset.unwrap_or(0) as u8,
-                }))
-            } else {
-                None
-            }
-        }
-        _ => None,
-    }
-}
-
-/// Whether a traffic channel may have the row, beside the sync channel and a paging channel.
-fn is_free(paging: u128, row: u128) -> bool
-    ensures { result ≡ is_free paging row }
-{
-    row != 32 && row != paging
+    let receiver = receiver_with(texts)?;
+    let traffic = channel_with(texts)?;
+    Some(Job::Rate2 {
+        span: receiver.span,
+        workers: receiver.workers,
+        fingers: receiver.fingers,
+        traffic,
+    })
 }
 
 /// How many events are told in each form: pilots, messages, frames, and raw capsules.

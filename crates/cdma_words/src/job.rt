@@ -35,6 +35,17 @@ pub enum Job {
         /// How many events are told in each form: pilots, messages, frames, and raw capsules.
         limits: [u32; 4],
     },
+    /// `rate2`: the frames of a traffic channel of rate set 2.
+    Rate2 {
+        /// How many samples the pilot is searched in, 64 to 32,768.
+        span: u16,
+        /// How many workers search the pilot, 1 to 64.
+        workers: u8,
+        /// How many paths of the signal are followed, 1 to 3.
+        fingers: u8,
+        /// The traffic channel.
+        traffic: TrafficOptions,
+    },
     /// `survey`: how strong each pilot is.
     Survey {
         /// In how many samples the pilots are measured, 64 to 32,768.
@@ -62,12 +73,12 @@ pub enum Job {
     },
 }
 
-/// The traffic channel that a handset is told to follow.
+/// The traffic channel that a handset is told to follow. It has another row than the sync channel.
 #[derive(Clone, Copy, PartialEq, Eq, Debug)]
 pub struct TrafficOptions {
     /// The handset's electronic serial number.
     pub esn: u32,
-    /// The Walsh row of its traffic channel, 1 to 63.
+    /// The Walsh row of its traffic channel, 1 to 63 but not 32.
     pub row: u8,
     /// FRAME_OFFSET, 0 to 15.
     pub offset: u8,
@@ -91,10 +102,12 @@ pub enum WordFault {
 /// is else 1, and four limits of 0 to 4,294,967,295: `--pilots`, `--messages` and `--frames`,
 /// which are else the greatest, and `--raw`, which is else 0; and for a traffic channel `--esn`
 /// and `--row`, 1 to 63, both or neither, and with them `--offset`, 0 to 15, which is else 0. The
-/// row is neither 32 nor the paging channel's number. `survey` takes `--span` and `--workers`,
-/// `--base`, 0 to 32,767, which is else 0, `--width`, 0 to 31, which is else 10, and `--top`, 1 to
-/// 512, which is else 512. `make` takes `--bits`, 8 or 16, which is else 16. `trial` takes
-/// `--number`, 0 to 2^64 - 1, which must be given, and `--workers`.
+/// row is neither 32 nor the paging channel's number. `rate2` takes `--span`, `--workers`,
+/// `--fingers`, and the same options of a traffic channel, of which `--esn` and `--row` must be
+/// given; the row isn't 32. `survey` takes `--span` and `--workers`, `--base`, 0 to 32,767, which
+/// is else 0, `--width`, 0 to 31, which is else 10, and `--top`, 1 to 512, which is else 512.
+/// `make` takes `--bits`, 8 or 16, which is else 16. `trial` takes `--number`, 0 to 2^64 - 1,
+/// which must be given, and `--workers`.
 ///
 /// All other words are `Bad`, whatever memory there is.
 pub fn words_of(alloc: Global, words: &[String]) -> Result<Job, WordFault>

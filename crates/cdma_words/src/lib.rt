@@ -12,6 +12,7 @@ mod commands;
 mod grammar;
 mod job;
 mod matching;
+mod receiving;
 mod testing;
 #[cfg(test)]
 mod tests;

@@ -188,6 +188,67 @@ fn refuses_other_values_of_a_traffic_channel(rt: HostRuntime) -> Result<(), Fail
 }
 
 #[test]
+fn takes_a_traffic_channel_of_rate_set_2(rt: HostRuntime) -> Result<(), Fail> {
+    for (line, span, workers, fingers, esn, row, offset) in [
+        ("rate2 --esn 0000abcd --row 10", 2048, 4, 1, 0xabcd, 10, 0),
+        (
+            "rate2 --fingers=3 --row=1 --offset 15 --esn=FFFFffff --span 64 --workers 64",
+            64,
+            64,
+            3,
+            4294967295,
+            1,
+            15,
+        ),
+        (
+            "rate2 --span=32768 --offset=00 --row 063 --workers=1 --esn 00000000",
+            32768,
+            1,
+            1,
+            0,
+            63,
+            0,
+        ),
+    ] {
+        let traffic = TrafficOptions { esn, row, offset };
+        assert_eq!(rt;
+            read(rt.alloc(), line)?,
+            Ok(Job::Rate2 {
+                span,
+                workers,
+                fingers,
+                traffic,
+            }),
+            "{line}"
+        );
+    }
+    for line in [
+        "rate2",
+        "rate2 --esn 0000abcd",
+        "rate2 --row 10",
+        "rate2 --offset 0",
+        "rate2 --esn 0000abcd --offset 3",
+        "rate2 --row 10 --offset 3",
+        "rate2 --esn 0000abcd --row 32",
+        "rate2 --esn 0000abcd --row 0",
+        "rate2 --esn 0000abcd --row 64",
+        "rate2 --esn 000abcd --row 10",
+        "rate2 --esn 0000abcd --row 10 --offset 16",
+        "rate2 --esn 0000abcd --row 10 --row 10",
+        "rate2 --esn 0000abcd --row 10 --span 63",
+        "rate2 --esn 0000abcd --row 10 --workers 0",
+        "rate2 --esn 0000abcd --row 10 --fingers 4",
+        "rate2 --esn 0000abcd --row 10 --paging 2",
+        "rate2 --esn 0000abcd --row 10 --frames 1",
+        "rate --esn 0000abcd --row 10",
+        "Rate2 --esn 0000abcd --row 10",
+    ] {
+        assert_eq!(rt; read(rt.alloc(), line)?, Err(WordFault::Bad), "{line}");
+    }
+    Ok(())
+}
+
+#[test]
 fn takes_the_number_of_a_trial(rt: HostRuntime) -> Result<(), Fail> {
     for (line, number, workers) in [
         ("trial --number 0", 0, 4),
