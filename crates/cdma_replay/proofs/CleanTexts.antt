@@ -64,11 +64,13 @@ tuned : (width : Width) (script : List ℕ) (plan : CellPlan) (span : ℕ) (rece
 tuned width script plan span receiver header samples clean counted paging =
     let first = take span samples in
     record {
-      count = sym counted ∙ ap length clean.sent ∙ length-made plan;
-      checks_of_30 = clean.checks_of_30;
-      checks_of_16 = clean.checks_of_16;
-      phase = clean.found;
-      alone = ap (near_deltas first (best_phase first)) clean.alone ∙ own_delta first;
+      path = record {
+        count = sym counted ∙ ap length clean.file.sent ∙ length-made plan;
+        checks_of_30 = clean.file.checks_of_30;
+        checks_of_16 = clean.file.checks_of_16;
+        phase = clean.file.found;
+        alone = ap (near_deltas first (best_phase first)) clean.file.alone ∙ own_delta first;
+      };
       first_channel = paging.0;
       last_channel = paging.1;
       free = clean.free;
@@ -84,8 +86,8 @@ undirected : (width : Width) (script : List ℕ) (plan : CellPlan) (span : ℕ) 
     (events (tuning_for header (take span samples) receiver) (made_samples plan))
 undirected width script plan span receiver header samples clean tuned_to =
     let t = tuning_for header (take span samples) receiver in
-    subst (λ (s : List Sample). All IsNotDirected (events t s)) clean.sent
-    (subst (λ (k : Tuning). All IsNotDirected (events k samples)) (sym (tuned_is plan t tuned_to))
+    subst (λ (s : List Sample). All IsNotDirected (events t s)) clean.file.sent
+    (subst (λ (k : Tuning). All IsNotDirected (events k samples)) (sym (tuned_is plan t tuned_to.path))
     clean.undirected)
 
 best_pilot-at : (samples : List Sample) (phase : ℕ) → best_phase samples ≡ phase →
@@ -120,13 +122,13 @@ clean_events-are width script plan span fingers paging traffic header samples cl
     let tuned_to : IsTunedTo plan t =
     tuned width script plan span receiver header samples clean counted one in
     let heard : events t samples ≡ sent_events plan paging followed =
-    ap (events t) clean.sent
-    ∙ messages_back width plan t (receivable width script plan clean.named) tuned_to follows
+    ap (events t) clean.file.sent
+    ∙ messages_back width plan t (receivable width script plan clean.file.named) tuned_to follows
     (undirected width script plan span receiver header samples clean tuned_to) in
     ap (λ (es : List Event). best_pilot first ∷ es) heard
-    ∙ ap (λ (e : Event). e ∷ sent_events plan paging followed) (best_pilot-at first phase clean.found)
+    ∙ ap (λ (e : Event). e ∷ sent_events plan paging followed) (best_pilot-at first phase clean.file.found)
     ∙ ap (λ (s : List Sample). Pilot phase (energy (take span s) phase) ∷ sent_events plan paging followed)
-    clean.sent
+    clean.file.sent
 
 -- and how the run ends
 pub clean_end-is : (width : Width) (script : List ℕ) (plan : CellPlan)
@@ -141,12 +143,12 @@ clean_end-is width script plan span workers fingers paging traffic header sample
     let receiver : Receiver =
     record { fingers = fingers; paging = paging; traffic = traffic } in
     let t = tuning_for header (take span samples) receiver in
-    let size : length samples ≡ plan.link.samples = ap length clean.sent ∙ length-made plan in
+    let size : length samples ≡ plan.link.samples = ap length clean.file.sent ∙ length-made plan in
     let told : is_some (mark t samples (length samples)) ≡ nat_lt 0 (length (sync_sent plan)) =
     ap (λ (n : ℕ). is_some (mark t samples n)) size
-    ∙ ap (λ (s : List Sample). is_some (mark t s plan.link.samples)) clean.sent
-    ∙ marked_where_heard width plan t (receivable width script plan clean.named)
-    (tuned width script plan span receiver header samples clean counted one) in
+    ∙ ap (λ (s : List Sample). is_some (mark t s plan.link.samples)) clean.file.sent
+    ∙ marked_where_heard width plan t (receivable width script plan clean.file.named)
+    (tuned width script plan span receiver header samples clean counted one).path in
     ap end_when told
 
 -- so what is written of the file is written of the cell

@@ -147,12 +147,14 @@ pub made_clean : (width : Width) (script : List ℕ) (plan : CellPlan) (span pag
     IsCleanLink width script plan span 1 paging traffic (header_of width plan) (made_samples plan)
 made_clean width script plan span paging traffic named found free undirected =
     record {
-      named = named;
-      sent = refl;
-      checks_of_30 = refl;
-      checks_of_16 = refl;
-      found = found;
-      alone = refl;
+      file = record {
+        named = named;
+        sent = refl;
+        checks_of_30 = refl;
+        checks_of_16 = refl;
+        found = found;
+        alone = refl;
+      };
       free = free;
       undirected = undirected;
     }
@@ -161,11 +163,13 @@ made_clean width script plan span paging traffic named found free undirected =
 made_tuned : (plan : CellPlan) (paging : ℕ) (traffic : Option Traffic) →
     IsFreeOf plan.traffic paging → IsPaging paging → IsTunedTo plan (tuning_to plan paging traffic)
 made_tuned plan paging traffic free one = record {
-  count = refl;
-  checks_of_30 = refl;
-  checks_of_16 = refl;
-  phase = refl;
-  alone = refl;
+  path = record {
+    count = refl;
+    checks_of_30 = refl;
+    checks_of_16 = refl;
+    phase = refl;
+    alone = refl;
+  };
   first_channel = one.0;
   last_channel = one.1;
   free = free;

@@ -15,13 +15,13 @@ use Rattle.mobile_core.specs.SyncEvents.{sync_events_at}
 use Rattle.mobile_core.specs.Tuning.{Tuning, sync_stream}
 use Rattle.mobile_core.specs.declared.mark.Mark.{Mark}
 use Rattle.clean_link.specs.SentWords.{IsOnlyBest, span_word}
-use Rattle.clean_link.specs.CleanLink.{IsReceivable, IsTunedTo, IsTrueMark, first_sync_frame, soft_strength, sync_sent}
+use Rattle.clean_link.specs.CleanLink.{IsOnPath, IsReceivable, IsTrueMark, first_sync_frame, soft_strength, sync_sent}
 
 -- the soft values of a received sync frame are one positive number times the signs of the symbols
 -- that were sent
 abbrev pub HaveSentSigns : Type 0
 HaveSentSigns = (width : Width) (plan : CellPlan) (sync : SyncPlan) (t : Tuning) (k : ℕ) →
-    IsReceivable width plan → plan.sync ≡ Some sync → IsTunedTo plan t →
+    IsReceivable width plan → plan.sync ≡ Some sync → IsOnPath plan t →
     is_in_file t.count (sync_stream t) k ≡ true →
     (0 < soft_strength plan Sync sync.gain)
     × (frame_softs (made_samples plan) (sync_stream t) k ≡
@@ -31,14 +31,14 @@ HaveSentSigns = (width : Width) (plan : CellPlan) (sync : SyncPlan) (t : Tuning)
 -- without a sync channel they are all 0
 abbrev pub AreZeroWithoutSync : Type 0
 AreZeroWithoutSync = (width : Width) (plan : CellPlan) (t : Tuning) (k : ℕ) →
-    IsReceivable width plan → plan.sync ≡ None → IsTunedTo plan t →
+    IsReceivable width plan → plan.sync ≡ None → IsOnPath plan t →
     is_in_file t.count (sync_stream t) k ≡ true →
     frame_softs (made_samples plan) (sync_stream t) k ≡ replicate 128 (pos 0)
 
 -- so a frame's own bits are the ones that were sent
 abbrev pub FramesComeBack : Type 0
 FramesComeBack = (width : Width) (plan : CellPlan) (sync : SyncPlan) (t : Tuning) (k : ℕ) →
-    IsReceivable width plan → plan.sync ≡ Some sync → IsTunedTo plan t →
+    IsReceivable width plan → plan.sync ≡ Some sync → IsOnPath plan t →
     is_in_file t.count (sync_stream t) k ≡ true →
     frame_own_bits t.count (made_samples plan) (sync_stream t) k ≡
     sync_frame_bits plan.cell sync.message (first_sync_frame plan + k)
@@ -47,7 +47,7 @@ FramesComeBack = (width : Width) (plan : CellPlan) (sync : SyncPlan) (t : Tuning
 -- greatest score.
 abbrev pub SentWordsAreTheOnlyBest : Type 0
 SentWordsAreTheOnlyBest = (width : Width) (plan : CellPlan) (sync : SyncPlan) (t : Tuning) (k : ℕ) →
-    IsReceivable width plan → plan.sync ≡ Some sync → IsTunedTo plan t →
+    IsReceivable width plan → plan.sync ≡ Some sync → IsOnPath plan t →
     is_in_file t.count (sync_stream t) k ≡ true →
     IsOnlyBest t.count (made_samples plan) (sync_stream t) k
     (span_word (sync_frame_bits plan.cell sync.message)
@@ -57,7 +57,7 @@ SentWordsAreTheOnlyBest = (width : Width) (plan : CellPlan) (sync : SyncPlan) (t
 -- without a sync channel a frame's bits are zeros
 abbrev pub FramesAreZeros : Type 0
 FramesAreZeros = (width : Width) (plan : CellPlan) (t : Tuning) (k : ℕ) →
-    IsReceivable width plan → plan.sync ≡ None → IsTunedTo plan t →
+    IsReceivable width plan → plan.sync ≡ None → IsOnPath plan t →
     is_in_file t.count (sync_stream t) k ≡ true →
     frame_own_bits t.count (made_samples plan) (sync_stream t) k ≡ replicate 32 false
 
@@ -65,19 +65,19 @@ FramesAreZeros = (width : Width) (plan : CellPlan) (t : Tuning) (k : ℕ) →
 -- nothing else
 abbrev pub WholeSendingsComeBack : Type 0
 WholeSendingsComeBack = (width : Width) (plan : CellPlan) (t : Tuning) →
-    IsReceivable width plan → IsTunedTo plan t →
+    IsReceivable width plan → IsOnPath plan t →
     flat_map (sync_events_at t (made_samples plan)) (places (plan.link.samples + 1)) ≡
     sync_sent plan
 
 -- the mark, within any of the samples, has the cell's time and long code
 abbrev pub MarksAreTrue : Type 0
 MarksAreTrue = (width : Width) (plan : CellPlan) (t : Tuning) (n : ℕ) (m : Mark) →
-    IsReceivable width plan → IsTunedTo plan t → mark t (made_samples plan) n ≡ Some m →
+    IsReceivable width plan → IsOnPath plan t → mark t (made_samples plan) n ≡ Some m →
     (superframes : ℕ) × IsTrueMark plan m superframes
 
 -- there is one in the file just where a sending is whole
 abbrev pub IsMarkedWhereHeard : Type 0
 IsMarkedWhereHeard = (width : Width) (plan : CellPlan) (t : Tuning) →
-    IsReceivable width plan → IsTunedTo plan t →
+    IsReceivable width plan → IsOnPath plan t →
     is_some (mark t (made_samples plan) plan.link.samples) ≡
     nat_lt 0 (length (sync_sent plan))

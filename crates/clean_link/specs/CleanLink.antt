@@ -67,20 +67,25 @@ tuning_to plan paging traffic = record {
   traffic = traffic;
 }
 
--- A file is a clean link of a script's cell: its flags and samples are the cell's, the search finds
--- the cell's path, there is one finger, no traffic channel has the row of the paging channel that
--- is followed, and no message that is heard of the traffic channel that is followed, if any,
--- directs a handoff. The link's delay is in the chip at which the file starts, its rotation and
--- strength are in the factor.
-pub record IsCleanLink (width : Width) (script : List ℕ) (plan : CellPlan) (span : ℕ)
-    (fingers paging : ℕ) (traffic : Option Traffic) (header : Header)
-    (samples : List Sample) : Type 0 where
+-- A file holds what a script's cell sends: its flags and samples are the cell's, the search finds
+-- the cell's path, and there is one finger. The link's delay is in the chip at which the file
+-- starts, its rotation and strength are in the factor.
+pub record IsCellFile (width : Width) (script : List ℕ) (plan : CellPlan) (span fingers : ℕ)
+    (header : Header) (samples : List Sample) : Type 0 where
   pub named : plan_named width script ≡ Ok plan
   pub sent : samples ≡ made_samples plan
   pub checks_of_30 : header.check30 ≡ plan.cell.check30
   pub checks_of_16 : header.check16 ≡ plan.cell.check16
   pub found : best_phase (take span samples) ≡ phase_at plan plan.link.start
   pub alone : fingers ≡ 1
+
+-- It is a clean link where moreover no traffic channel has the row of the paging channel that is
+-- followed, and no message that is heard of the traffic channel that is followed, if any, directs a
+-- handoff.
+pub record IsCleanLink (width : Width) (script : List ℕ) (plan : CellPlan) (span : ℕ)
+    (fingers paging : ℕ) (traffic : Option Traffic) (header : Header)
+    (samples : List Sample) : Type 0 where
+  pub file : IsCellFile width script plan span fingers header samples
   pub free : IsFreeOf plan.traffic paging
   pub undirected : All IsNotDirected (events (tuning_to plan paging traffic) samples)
 
@@ -90,14 +95,17 @@ pub record IsReceivable (width : Width) (plan : CellPlan) : Type 0 where
   pub link : 0 < norm plan.link.factor
   pub pages : All (IsStatedPaging (paging_rate plan.sync)) plan.paging
 
--- a handset with one finger, which lies on the cell's path, that follows one of the paging
--- channels, whose row is no traffic channel's
-pub record IsTunedTo (plan : CellPlan) (t : Tuning) : Type 0 where
+-- a handset with one finger, which lies on the cell's path
+pub record IsOnPath (plan : CellPlan) (t : Tuning) : Type 0 where
   pub count : t.count ≡ plan.link.samples
   pub checks_of_30 : t.check30 ≡ plan.cell.check30
   pub checks_of_16 : t.check16 ≡ plan.cell.check16
   pub phase : t.phase ≡ phase_at plan plan.link.start
   pub alone : t.deltas ≡ pos 0 ∷ []
+
+-- one that follows one of the paging channels, whose row is no traffic channel's
+pub record IsTunedTo (plan : CellPlan) (t : Tuning) : Type 0 where
+  pub path : IsOnPath plan t
   pub first_channel : 1 ≤ t.paging
   pub last_channel : t.paging ≤ 7
   pub free : IsFreeOf plan.traffic t.paging

@@ -22,7 +22,7 @@ use Rattle.base_modulator.specs.declared.plan.SyncPlan.{SyncPlan}
 use Rattle.mobile_core.specs.PagingEvents.{pages_behind, with_page}
 use Rattle.mobile_core.specs.Tuning.{Tuning}
 use Rattle.mobile_core.specs.declared.mark.Mark.{Mark}
-use Rattle.clean_link.specs.CleanLink.{heard_behind, IsReceivable, IsTrueMark, IsTunedTo}
+use Rattle.clean_link.specs.CleanLink.{heard_behind, IsOnPath, IsReceivable, IsTrueMark}
 use Rattle.clean_link.specs.WholePages.{cycle_half_frames, is_whole_page, placed, Placed}
 
 -- a page, and the number of samples at which it is known
@@ -107,7 +107,7 @@ abbrev pub PagesComeBack : Type 0
 PagesComeBack = (width : Width) (plan : CellPlan) (sync : SyncPlan) (t : Tuning) (channel : ℕ)
     (m : Mark) (superframes : ℕ) →
     IsReceivable width plan → All (IsStatedPaging (paging_rate plan.sync)) plan.paging →
-    IsTunedTo plan t → 1 ≤ channel → channel ≤ 7 → IsFreeOf plan.traffic channel →
+    IsOnPath plan t → 1 ≤ channel → channel ≤ 7 → IsFreeOf plan.traffic channel →
     plan.sync ≡ Some sync → m.prat ≡ sync.message.prat → m.prat < 2 →
     IsTrueMark plan m superframes →
     pages_within t channel (Some m) (made_samples plan) plan.link.samples ≡

@@ -21,7 +21,7 @@ use Rattle.mobile_core.specs.Streams.{frame_own_bits, frame_softs, is_in_file, s
 use Rattle.mobile_core.specs.Streams.{span_frames}
 use Rattle.mobile_core.specs.Tuning.{Tuning}
 use Rattle.mobile_core.specs.declared.mark.Mark.{Mark}
-use Rattle.clean_link.specs.CleanLink.{IsReceivable, IsTrueMark, IsTunedTo, soft_strength}
+use Rattle.clean_link.specs.CleanLink.{IsOnPath, IsReceivable, IsTrueMark, soft_strength}
 use Rattle.clean_link.specs.SentWords.{IsOnlyBest, span_word}
 
 -- ---- channels that are sent
@@ -37,7 +37,7 @@ ordered_symbols c frame =
 abbrev pub PagingHaveSentSigns : Type 0
 PagingHaveSentSigns = (width : Width) (plan : CellPlan) (sync : SyncPlan) (p : PagingPlan)
     (t : Tuning) (m : Mark) (superframes k : ℕ) →
-    IsReceivable width plan → plan.sync ≡ Some sync → Contains plan.paging p → IsTunedTo plan t →
+    IsReceivable width plan → plan.sync ≡ Some sync → Contains plan.paging p → IsOnPath plan t →
     IsTrueMark plan m superframes → m.prat ≡ sync.message.prat →
     is_in_file t.count (paging_stream t p.number m) k ≡ true →
     (0 < soft_strength plan Data p.gain)
@@ -49,7 +49,7 @@ PagingHaveSentSigns = (width : Width) (plan : CellPlan) (sync : SyncPlan) (p : P
 abbrev pub PagingFramesComeBack : Type 0
 PagingFramesComeBack = (width : Width) (plan : CellPlan) (sync : SyncPlan) (p : PagingPlan)
     (t : Tuning) (m : Mark) (superframes k : ℕ) →
-    IsReceivable width plan → plan.sync ≡ Some sync → Contains plan.paging p → IsTunedTo plan t →
+    IsReceivable width plan → plan.sync ≡ Some sync → Contains plan.paging p → IsOnPath plan t →
     IsTrueMark plan m superframes → m.prat ≡ sync.message.prat →
     is_in_file t.count (paging_stream t p.number m) k ≡ true →
     frame_own_bits t.count (made_samples plan) (paging_stream t p.number m) k ≡
@@ -60,7 +60,7 @@ PagingFramesComeBack = (width : Width) (plan : CellPlan) (sync : SyncPlan) (p : 
 abbrev pub PagingWordsAreTheOnlyBest : Type 0
 PagingWordsAreTheOnlyBest = (width : Width) (plan : CellPlan) (sync : SyncPlan) (p : PagingPlan)
     (t : Tuning) (m : Mark) (superframes k : ℕ) →
-    IsReceivable width plan → plan.sync ≡ Some sync → Contains plan.paging p → IsTunedTo plan t →
+    IsReceivable width plan → plan.sync ≡ Some sync → Contains plan.paging p → IsOnPath plan t →
     IsTrueMark plan m superframes → m.prat ≡ sync.message.prat →
     is_in_file t.count (paging_stream t p.number m) k ≡ true →
     IsOnlyBest t.count (made_samples plan) (paging_stream t p.number m) k
@@ -77,7 +77,7 @@ SilentPagingIsZero = (width : Width) (plan : CellPlan) (t : Tuning) (m : Mark)
     (superframes channel k : ℕ) →
     IsReceivable width plan → 1 ≤ channel → channel ≤ 7 →
     All (λ (p : PagingPlan). p.number ≢ channel) plan.paging → IsFreeOf plan.traffic channel →
-    IsTunedTo plan t →
+    IsOnPath plan t →
     IsTrueMark plan m superframes → is_in_file t.count (paging_stream t channel m) k ≡ true →
     frame_softs (made_samples plan) (paging_stream t channel m) k ≡ replicate 384 (pos 0)
 
@@ -87,7 +87,7 @@ SilentPagingFramesAreZeros = (width : Width) (plan : CellPlan) (t : Tuning) (m :
     (superframes channel k : ℕ) →
     IsReceivable width plan → 1 ≤ channel → channel ≤ 7 →
     All (λ (p : PagingPlan). p.number ≢ channel) plan.paging → IsFreeOf plan.traffic channel →
-    IsTunedTo plan t →
+    IsOnPath plan t →
     IsTrueMark plan m superframes → is_in_file t.count (paging_stream t channel m) k ≡ true →
     frame_own_bits t.count (made_samples plan) (paging_stream t channel m) k ≡
     replicate (paging_stream t channel m).channel.bits false
@@ -98,11 +98,11 @@ SilentPagingFramesAreZeros = (width : Width) (plan : CellPlan) (t : Tuning) (m :
 abbrev pub MarksTellTheRate : Type 0
 MarksTellTheRate = (width : Width) (plan : CellPlan) (sync : SyncPlan) (t : Tuning) (n : ℕ)
     (m : Mark) →
-    IsReceivable width plan → plan.sync ≡ Some sync → IsTunedTo plan t →
+    IsReceivable width plan → plan.sync ≡ Some sync → IsOnPath plan t →
     mark t (made_samples plan) n ≡ Some m → m.prat ≡ sync.message.prat
 
 -- and without a sync channel there is none
 abbrev pub UnmarkedWithoutSync : Type 0
 UnmarkedWithoutSync = (width : Width) (plan : CellPlan) (t : Tuning) (n : ℕ) →
-    IsReceivable width plan → plan.sync ≡ None → IsTunedTo plan t →
+    IsReceivable width plan → plan.sync ≡ None → IsOnPath plan t →
     mark t (made_samples plan) n ≡ None

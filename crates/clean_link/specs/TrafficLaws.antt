@@ -21,7 +21,7 @@ use Rattle.mobile_core.specs.Tuning.{Tuning}
 use Rattle.mobile_core.specs.declared.legs.Leg.{Leg}
 use Rattle.mobile_core.specs.declared.mark.Mark.{Mark}
 use Rattle.mobile_core.specs.declared.settings.Traffic.{Traffic}
-use Rattle.clean_link.specs.CleanLink.{IsNotDirected, IsReceivable, IsTrueMark, IsTunedTo}
+use Rattle.clean_link.specs.CleanLink.{IsNotDirected, IsOnPath, IsReceivable, IsTrueMark}
 use Rattle.clean_link.specs.CleanLink.{soft_strength}
 use Rattle.clean_link.specs.HeardFrames.{frame_ends, frames_of_channel, received_frames}
 use Rattle.clean_link.specs.HeardFrames.{sent_commands, word_symbols, AreDistinct, IsAssigned}
@@ -34,7 +34,7 @@ pub record HearsTraffic (width : Width) (plan : CellPlan) (p : TrafficPlan) (t :
   pub receivable : IsReceivable width plan
   pub sent : Contains plan.traffic p
   pub assigned : IsAssigned p traffic
-  pub tuned : IsTunedTo plan t
+  pub tuned : IsOnPath plan t
   pub marked : IsTrueMark plan m superframes
 
 -- Frame k behind the mark is heard from the reference's pilot alone, lies in the file, and is this

@@ -35,7 +35,7 @@ use Rattle.mobile_core.specs.Scrambled.{turned, unscrambled}
 use Rattle.mobile_core.specs.Streams.{Stream, frame_own_bits, frame_start, is_in_file}
 use Rattle.mobile_core.specs.Tuning.{Tuning}
 use Rattle.mobile_core.specs.declared.mark.Mark.{Mark}
-use Rattle.clean_link.specs.CleanLink.{IsTrueMark, IsTunedTo, soft_strength}
+use Rattle.clean_link.specs.CleanLink.{IsOnPath, IsTrueMark, soft_strength}
 use Rattle.clean_link.specs.PagingLaws.{PagingFramesComeBack, PagingHaveSentSigns}
 use Rattle.clean_link.specs.PagingLaws.{PagingWordsAreTheOnlyBest, SilentPagingFramesAreZeros}
 use Rattle.clean_link.specs.PagingLaws.{SilentPagingIsZero, ordered_symbols}
@@ -81,7 +81,7 @@ zeros_unscrambled (b ∷ bits) n long =
 
 -- frame 0 begins with the mark's superframe
 paging_heard : (plan : CellPlan) (p : PagingPlan) (t : Tuning) (m : Mark) (superframes : ℕ) →
-    IsTunedTo plan t → IsTrueMark plan m superframes →
+    IsOnPath plan t → IsTrueMark plan m superframes →
     IsHeardBy plan (paging_carrier plan p) (paging_stream t p.number m) (4 * superframes)
 paging_heard plan p t m superframes on at = record {
   alone = fingers_are plan t p.number on;
@@ -154,7 +154,7 @@ gain_some : (width : Width) (plan : CellPlan) (p : PagingPlan) → IsLawfulPlan 
 gain_some width plan p lawful has =
     (All-contains (IsPagingPlan (pages.paging_rate plan.sync)) plan.paging p lawful.paging has).gain
 
-inside : (plan : CellPlan) (t : Tuning) (s : Stream) (k : ℕ) → IsTunedTo plan t →
+inside : (plan : CellPlan) (t : Tuning) (s : Stream) (k : ℕ) → IsOnPath plan t →
     is_in_file t.count s k ≡ true → is_in_file plan.link.samples s k ≡ true
 inside plan t s k on here = subst (λ (n : ℕ). is_in_file n s k ≡ true) on.count here
 

@@ -20,7 +20,7 @@ use Rattle.viterbi.specs.Laws.{signed}
 use Rattle.mobile_core.specs.Streams.{frame_own_bits, frame_start, is_in_file}
 use Rattle.mobile_core.specs.Tuning.{Tuning, fingers_of, modulo_code, sync_stream}
 use Rattle.clean_link.specs.CleanLaws.{AreZeroWithoutSync, FramesAreZeros, FramesComeBack, HaveSentSigns, SentWordsAreTheOnlyBest}
-use Rattle.clean_link.specs.CleanLink.{IsTunedTo, first_sync_frame, soft_strength}
+use Rattle.clean_link.specs.CleanLink.{IsOnPath, first_sync_frame, soft_strength}
 use Rattle.clean_link.specs.SentWords.{AreReadBy, IsOnlyBest}
 use Rattle.clean_link.specs.Signals.{IsHeardBy, path_finger, reference_finger}
 use Rattle.clean_link.proofs.signal.CarriersApart.{sync_sent, sync_silent}
@@ -39,7 +39,7 @@ phase_kept phase low =
     ∙ omega (arith, low)
 
 -- the finger of a row is the one on the path
-pub fingers_are : (plan : CellPlan) (t : Tuning) (row : ℕ) → IsTunedTo plan t →
+pub fingers_are : (plan : CellPlan) (t : Tuning) (row : ℕ) → IsOnPath plan t →
     fingers_of row t.phase t.deltas ≡ path_finger plan row ∷ []
 fingers_are plan t row on =
     let low : phase_at plan plan.link.start < 32768 = omega arith in
@@ -48,7 +48,7 @@ fingers_are plan t row on =
     ∙ ap (λ (n : ℕ). reference_finger n row ∷ []) (phase_kept (phase_at plan plan.link.start) low)
 
 sync_heard : (plan : CellPlan) (sync : SyncPlan) (t : Tuning) → plan.cell.pn < 512 →
-    IsTunedTo plan t →
+    IsOnPath plan t →
     IsHeardBy plan (sync_carrier plan sync) (sync_stream t) (first_sync_frame plan)
 sync_heard plan sync t low on = record {
   alone = fingers_are plan t 32 on;
@@ -78,7 +78,7 @@ gain_some : (plan : CellPlan) (sync : SyncPlan) → plan.sync ≡ Some sync → 
     0 < sync.gain
 gain_some plan sync is lawful = (subst IsSyncPlan is lawful).0
 
-inside : (plan : CellPlan) (t : Tuning) (k : ℕ) → IsTunedTo plan t →
+inside : (plan : CellPlan) (t : Tuning) (k : ℕ) → IsOnPath plan t →
     is_in_file t.count (sync_stream t) k ≡ true →
     is_in_file plan.link.samples (sync_stream t) k ≡ true
 inside plan t k on here =

@@ -21,7 +21,7 @@ use Rattle.mobile_core.specs.declared.event.Event.TheVariants.{Frame, Paging, Pi
 use Rattle.mobile_core.specs.declared.event.Event.TheVariants.{Traffic}
 use Rattle.mobile_core.specs.declared.mark.Mark.{Mark}
 use Rattle.clean_link.specs.CleanLaws.{FramesAreZeros, FramesComeBack}
-use Rattle.clean_link.specs.CleanLink.{IsReceivable, IsTunedTo, events_of_channel}
+use Rattle.clean_link.specs.CleanLink.{IsOnPath, IsReceivable, events_of_channel}
 use Rattle.clean_link.specs.CleanLink.{first_sync_frame, sending_event, sync_sent, whole_sendings}
 use Rattle.clean_link.proofs.marks.MarksTrue.{marks_sent}
 use Rattle.clean_link.proofs.sendings.Capsules.{IsSentAt, is_at, sending_frames}
@@ -56,7 +56,7 @@ same_times plan m q first n is = ap (map time_of) (marks_sent plan m q first is)
 
 frame_times : FramesComeBack → FramesAreZeros →
     (width : Width) (plan : CellPlan) (t : Tuning) (k : ℕ) (channel : Option SyncPlan) →
-    IsReceivable width plan → plan.sync ≡ channel → IsTunedTo plan t → in_file t k ≡ true →
+    IsReceivable width plan → plan.sync ≡ channel → IsOnPath plan t → in_file t k ≡ true →
     map time_of (marks_at t (made_samples plan) k)
     ≡ flat_map times_in (frame_events t (made_samples plan) k)
 unfolding marks_at
@@ -92,7 +92,7 @@ gathered_times P f g (k ∷ ks) same =
 -- ---- the first of them
 -- the marks of all frames have the times of the whole sendings
 all_times : (width : Width) (plan : CellPlan) (t : Tuning) → IsReceivable width plan →
-    IsTunedTo plan t →
+    IsOnPath plan t →
     map time_of (flat_map (marks_at t (made_samples plan)) (filter (in_file t) (frames_of t)))
     ≡ flat_map times_in (sync_sent plan)
 all_times width plan t is tuned =
@@ -141,7 +141,7 @@ none_told f [] (q ∷ sendings) times unset = absurd (cc)
 none_told f (x ∷ marks) sendings times unset = absurd (cc)
 
 module _ (width : Width) (plan : CellPlan) (sync : SyncPlan) (t : Tuning)
-    (is : IsReceivable width plan) (sends : plan.sync ≡ Some sync) (tuned : IsTunedTo plan t) where
+    (is : IsReceivable width plan) (sends : plan.sync ≡ Some sync) (tuned : IsOnPath plan t) where
   times_are : map time_of
       (flat_map (marks_at t (made_samples plan)) (filter (in_file t) (frames_of t)))
       ≡ map (λ q. (message_of plan.cell sync.message q).time) (whole_sendings plan sync.message)

@@ -26,7 +26,7 @@ use Rattle.mobile_core.specs.SyncEvents.{events_of, heard_at, with_message}
 use Rattle.mobile_core.specs.Tuning.{Tuning, sync_stream, sync_bound}
 use Rattle.mobile_core.specs.declared.mark.Mark.{Mark}
 use Rattle.clean_link.specs.CleanLaws.{FramesAreZeros, FramesComeBack, IsMarkedWhereHeard, MarksAreTrue}
-use Rattle.clean_link.specs.CleanLink.{IsReceivable, IsTrueMark, IsTunedTo, first_sync_frame}
+use Rattle.clean_link.specs.CleanLink.{IsOnPath, IsReceivable, IsTrueMark, first_sync_frame}
 use Rattle.clean_link.specs.PagingLaws.{MarksTellTheRate, UnmarkedWithoutSync}
 use Rattle.base_modulator.specs.Sampled.{made_samples}
 use Rattle.clean_link.proofs.frames.SyncFrames.{frames_back, frames_zero}
@@ -89,7 +89,7 @@ marks_sent plan m q first is = rw (lc_some plan m q is) refl
 -- the frames of the sending under way
 frames_open_is : FramesComeBack →
     (width : Width) (plan : CellPlan) (sync : SyncPlan) (t : Tuning) (k q w : ℕ) →
-    IsReceivable width plan → plan.sync ≡ Some sync → IsTunedTo plan t → in_file t k ≡ true →
+    IsReceivable width plan → plan.sync ≡ Some sync → IsOnPath plan t → in_file t k ≡ true →
     EndsAt plan sync.message k q w →
     frames_open t (made_samples plan) (k + 1) ≡ w + 1
 unfolding frames_open
@@ -104,7 +104,7 @@ frames_open_is back width plan sync t k q w is sends tuned there at =
 -- at the reference sample at which its first frame begins
 marks_are : FramesComeBack →
     (width : Width) (plan : CellPlan) (sync : SyncPlan) (t : Tuning) (k q w : ℕ) →
-    IsReceivable width plan → plan.sync ≡ Some sync → IsTunedTo plan t → in_file t k ≡ true →
+    IsReceivable width plan → plan.sync ≡ Some sync → IsOnPath plan t → in_file t k ≡ true →
     EndsAt plan sync.message k q w →
     marks_at t (made_samples plan) k ≡
     sent_mark plan sync.message q (frame_start (sync_stream t) (k - w)) ∷ []
@@ -130,7 +130,7 @@ at_mark : (start u pn n q : ℕ) → pn < 512 → start + u ≡ 64 * pn + 98304 
 at_mark start u pn n q low begins = omega (arith, begins, low)
 
 is_true : (width : Width) (plan : CellPlan) (m : SyncFields) (t : Tuning) (k q w : ℕ) →
-    IsLawfulPlan width plan → IsTunedTo plan t → EndsAt plan m k q w →
+    IsLawfulPlan width plan → IsOnPath plan t → EndsAt plan m k q w →
     IsTrueMark plan (sent_mark plan m q (frame_start (sync_stream t) (k - w)))
     (told_superframes plan.cell m q)
 is_true width plan m t k q w lawful tuned at =
@@ -176,7 +176,7 @@ record IsOfSending (plan : CellPlan) (m : SyncFields) (t : Tuning) (k : ℕ)
 
 frame_sets : FramesComeBack →
     (width : Width) (plan : CellPlan) (sync : SyncPlan) (t : Tuning) (k : ℕ) (m : Mark) →
-    IsReceivable width plan → plan.sync ≡ Some sync → IsTunedTo plan t → in_file t k ≡ true →
+    IsReceivable width plan → plan.sync ≡ Some sync → IsOnPath plan t → in_file t k ≡ true →
     first_of (marks_at t (made_samples plan) k) ≡ Some m → IsOfSending plan sync.message t k m
 frame_sets back width plan sync t k m is sends tuned there set =
     let q = (first_sync_frame plan + k) / sending_frames plan sync.message in
@@ -204,7 +204,7 @@ frame_sets back width plan sync t k m is sends tuned there set =
 -- a frame's mark is true
 frame_true : FramesComeBack →
     (width : Width) (plan : CellPlan) (sync : SyncPlan) (t : Tuning) (k : ℕ) (m : Mark) →
-    IsReceivable width plan → plan.sync ≡ Some sync → IsTunedTo plan t → in_file t k ≡ true →
+    IsReceivable width plan → plan.sync ≡ Some sync → IsOnPath plan t → in_file t k ≡ true →
     first_of (marks_at t (made_samples plan) k) ≡ Some m →
     (superframes : ℕ) × IsTrueMark plan m superframes
 frame_true back width plan sync t k m is sends tuned there set =
@@ -217,7 +217,7 @@ frame_true back width plan sync t k m is sends tuned there set =
 
 frame_true_if : FramesComeBack → FramesAreZeros →
     (width : Width) (plan : CellPlan) (t : Tuning) (k : ℕ) (m : Mark) (channel : Option SyncPlan) →
-    IsReceivable width plan → plan.sync ≡ channel → IsTunedTo plan t → in_file t k ≡ true →
+    IsReceivable width plan → plan.sync ≡ channel → IsOnPath plan t → in_file t k ≡ true →
     first_of (marks_at t (made_samples plan) k) ≡ Some m →
     (superframes : ℕ) × IsTrueMark plan m superframes
 frame_true_if back zeros width plan t k m None is silent tuned there set =
@@ -276,7 +276,7 @@ same_lengths plan m q first n is = ap length (marks_sent plan m q first is)
 
 frame_counts : FramesComeBack → FramesAreZeros →
     (width : Width) (plan : CellPlan) (t : Tuning) (k : ℕ) (channel : Option SyncPlan) →
-    IsReceivable width plan → plan.sync ≡ channel → IsTunedTo plan t → in_file t k ≡ true →
+    IsReceivable width plan → plan.sync ≡ channel → IsOnPath plan t → in_file t k ≡ true →
     length (marks_at t (made_samples plan) k) ≡ length (frame_events t (made_samples plan) k)
 unfolding marks_at
 frame_counts back zeros width plan t k None is silent tuned there =

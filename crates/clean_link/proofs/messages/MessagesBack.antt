@@ -29,8 +29,8 @@ use Rattle.mobile_core.proofs.EventPlaces.{AreAt, messages_at_end, paging_at, se
 use Rattle.mobile_core.proofs.EventPlaces.{traffic_at}
 use Rattle.mobile_core.proofs.MarkStays.{pages_by_one_mark}
 use Rattle.chip_core.proofs.Ranges.{flat_map_ext_places}
-use Rattle.clean_link.specs.CleanLink.{IsNotDirected, IsReceivable, IsTunedTo, sync_sent}
-use Rattle.clean_link.specs.CleanLink.{tuning_to, whole_sendings}
+use Rattle.clean_link.specs.CleanLink.{IsNotDirected, IsOnPath, IsReceivable, IsTunedTo}
+use Rattle.clean_link.specs.CleanLink.{sync_sent, tuning_to, whole_sendings}
 use Rattle.clean_link.specs.HeardPages.{ReadPage, known_page, pages_sent, pages_within}
 use Rattle.clean_link.specs.SentEvents.{FollowsSent, WholeMessagesComeBack, known_event, paging_sent}
 use Rattle.clean_link.specs.SentEvents.{pages_behind_mark, pages_with_sync, sent_events}
@@ -96,13 +96,13 @@ module _ (width : Width) (plan : CellPlan) (t : Tuning) (is : IsReceivable width
   by_last_mark =
       let samples = made_samples plan in
       let last = mark t samples t.count in
-      let count = tuned.count in
+      let count = tuned.path.count in
       flat_map_ext_places
       (λ n. map (page_event n) (pages_behind t t.paging (mark t samples n) samples n))
       (λ n. map (page_event n) (pages_behind t t.paging last samples n)) (plan.link.samples + 1)
       (λ n below.
       ap (map (page_event n))
-      (pages_by_one_mark t (one_near t plan tuned) t.paging samples n t.count
+      (pages_by_one_mark t (one_near t plan tuned.path) t.paging samples n t.count
       (omega (arith, below, count))))
       ∙ gathered_known (λ n. pages_behind t t.paging last samples n)
       (places (plan.link.samples + 1))
@@ -112,7 +112,7 @@ module _ (width : Width) (plan : CellPlan) (t : Tuning) (is : IsReceivable width
     unset : mark t (made_samples plan) t.count ≡ None →
         pages_with_sync plan t.paging (Some sync) ≡ []
     unset none_set =
-        let none = unset_without width plan sync t is sends tuned none_set in
+        let none = unset_without width plan sync t is sends tuned.path none_set in
         with_sync_is plan t.paging sync (nat_lt sync.message.prat 2) None refl
         (ap (told_by_first plan sync.message) none)
         ∙ either (nat_lt sync.message.prat 2)
@@ -128,9 +128,9 @@ module _ (width : Width) (plan : CellPlan) (t : Tuning) (is : IsReceivable width
         ≡ pages_with_sync plan t.paging (Some sync)
     marked m set =
         let samples = made_samples plan in
-        let rate = marks_rate width plan sync t t.count m is sends tuned set in
-        let (superframes, true_mark) = marks_true width plan t t.count m is tuned set in
-        let first = mark_of_first width plan sync t is sends tuned m set in
+        let rate = marks_rate width plan sync t t.count m is sends tuned.path set in
+        let (superframes, true_mark) = marks_true width plan t t.count m is tuned.path set in
+        let first = mark_of_first width plan sync t is sends tuned.path m set in
         let told : superframes ≡ told_superframes plan.cell sync.message first.sending =
         omega (
           arith,
@@ -147,7 +147,7 @@ module _ (width : Width) (plan : CellPlan) (t : Tuning) (is : IsReceivable width
         elim (cases_Bool (nat_lt m.prat 2)) [
           | inl on ↦
               let low = ltb-true m.prat 2 on in
-              let pages = pages_back width plan sync t t.paging m superframes is is.pages tuned
+              let pages = pages_back width plan sync t t.paging m superframes is is.pages tuned.path
               tuned.first_channel tuned.last_channel tuned.free sends rate low true_mark in
               ap (map known_event) (pages ∙ ap (pages_sent plan t.paging) chip)
               ∙ sym (with_sync_is plan t.paging sync true _ (rated ∙ on) first_is)
@@ -161,7 +161,7 @@ module _ (width : Width) (plan : CellPlan) (t : Tuning) (is : IsReceivable width
       map known_event (pages_within t t.paging last (made_samples plan) plan.link.samples)
       ≡ pages_with_sync plan t.paging channel
   pages_by None last silent set =
-      let none = sym set ∙ unmarked width plan t t.count is silent tuned in
+      let none = sym set ∙ unmarked width plan t t.count is silent tuned.path in
       ap (λ (m : Option Mark). map known_event
       (pages_within t t.paging m (made_samples plan) plan.link.samples)) none
       ∙ ap (map known_event) (none_gathered (places (plan.link.samples + 1)))
@@ -180,7 +180,7 @@ module _ (width : Width) (plan : CellPlan) (t : Tuning) (is : IsReceivable width
 -- ---- the pilot sets
 
 -- a handset on the path is tuned so
-pub tuned_is : (plan : CellPlan) (t : Tuning) → IsTunedTo plan t →
+pub tuned_is : (plan : CellPlan) (t : Tuning) → IsOnPath plan t →
     t ≡ tuning_to plan t.paging t.traffic
 tuned_is plan t tuned =
     let of : ℕ → ℕ → List ℤ → CheckForm → CheckForm → Tuning = λ count phase deltas thirty sixteen.
@@ -202,7 +202,7 @@ tuned_is plan t tuned =
     ∙ ap (of plan.link.samples phase (pos 0 ∷ []) plan.cell.check30) tuned.checks_of_16
 
 -- its events are those of the definition
-sets_all : (plan : CellPlan) (t : Tuning) → IsTunedTo plan t →
+sets_all : (plan : CellPlan) (t : Tuning) → IsOnPath plan t →
     flat_map (sets_events_at t (made_samples plan)) (places (plan.link.samples + 1))
     ≡ sets_heard plan t.paging t.traffic
 unfolding sets_heard
@@ -257,14 +257,14 @@ module _ (width : Width) (plan : CellPlan) (t : Tuning) (is : IsReceivable width
       gathered_by_places (message_events_at t samples) (sets_events_at t samples) count
       (signaling_sent plan t.traffic) (sets_heard plan t.paging t.traffic)
       (messages_at_end t samples) (sets_at_end t samples)
-      (messages_all width plan t is tuned not_directed follows) (sets_all plan t tuned)
+      (messages_all width plan t is tuned.path not_directed follows) (sets_all plan t tuned.path)
 
   -- with the traffic channel's frames
   traffic_back : flat_map traffic_known (places (count + 1)) ≡ traffic_told
   traffic_back =
       gathered_by_places (frame_events_at t samples) messages_known count
       (traffic_sent plan t.traffic) messages_told (traffic_at t samples) messages_known_at
-      (frames_all width plan t is tuned not_directed follows) known_back
+      (frames_all width plan t is tuned.path not_directed follows) known_back
 
   -- with the paging channel
   data_back : flat_map data_known (places (count + 1))
@@ -283,7 +283,7 @@ module _ (width : Width) (plan : CellPlan) (t : Tuning) (is : IsReceivable width
       (by_places count (paging_sent plan t.paging) traffic_told)
       (sync_at t samples)
       (λ n. at_both n (paging_events_at t samples n) (traffic_known n) (paging_at t samples n)
-      (traffic_known_at n)) (sendings_back width plan t is tuned) data_back
+      (traffic_known_at n)) (sendings_back width plan t is tuned.path) data_back
 
 pub messages_back : WholeMessagesComeBack
 unfolding events_within events_at

@@ -25,7 +25,7 @@ use Rattle.mobile_core.specs.declared.event.Event.{Event}
 use Rattle.mobile_core.specs.declared.mark.Mark.{Mark}
 use Rattle.mobile_core.specs.declared.settings.Traffic.{Traffic}
 use Rattle.mobile_core.proofs.MarkStays.{messages_by_one_mark}
-use Rattle.clean_link.specs.CleanLink.{IsNotDirected, IsReceivable, IsTunedTo, events_of_channel}
+use Rattle.clean_link.specs.CleanLink.{IsNotDirected, IsOnPath, IsReceivable, events_of_channel}
 use Rattle.clean_link.specs.CleanLink.{sending_event, sync_sent, whole_sendings}
 use Rattle.clean_link.specs.HeardSignals.{messages_of_channel, messages_sent}
 use Rattle.clean_link.specs.SentEvents.{FollowsSent, NoEventIsDirected, signaling_sent}
@@ -103,7 +103,7 @@ sets_undirected t samples n =
 -- ---- all of them
 
 module _ (width : Width) (plan : CellPlan) (t : Tuning) (is : IsReceivable width plan)
-    (tuned : IsTunedTo plan t) where
+    (tuned : IsOnPath plan t) where
   abbrev samples : List Sample
   samples = made_samples plan
 
@@ -169,4 +169,4 @@ no_event_directed width plan t is tuned follows none =
     let long = length-made plan in
     gathered_all IsNotDirected (events_at t samples) 0 (length samples + 1)
     (λ n low below.
-    all_undirected width plan t is tuned follows none n (omega (arith, below, long)))
+    all_undirected width plan t is tuned.path follows none n (omega (arith, below, long)))

@@ -31,7 +31,7 @@ use Rattle.mobile_core.specs.Timing.{IsTimed}
 use Rattle.mobile_core.specs.Tuning.{Tuning}
 use Rattle.mobile_core.specs.declared.mark.Mark.{Mark}
 use Rattle.chip_core.proofs.Ranges.{flat_map_ext_places}
-use Rattle.clean_link.specs.CleanLink.{heard_behind, IsReceivable, IsTrueMark, IsTunedTo}
+use Rattle.clean_link.specs.CleanLink.{heard_behind, IsOnPath, IsReceivable, IsTrueMark}
 use Rattle.clean_link.specs.HeardPages.{end_chip, known_page, KnownPage, message_in, page_told}
 use Rattle.clean_link.specs.HeardPages.{pages_numbered, pages_of_channel, pages_sent, pages_within}
 use Rattle.clean_link.specs.HeardPages.{PagesComeBack, placed_pages, ReadPage, round_sent}
@@ -60,7 +60,7 @@ record IsTimedFrom (count : ℕ) (s : Stream) (first : ℕ) : Type 0 where
       known_at count s k ≡ heard_behind 24576 count (first + 24576 * (k + 1))
 
 -- as those of a paging channel are
-frames_timed : (plan : CellPlan) (t : Tuning) (channel : ℕ) (m : Mark) → IsTunedTo plan t →
+frames_timed : (plan : CellPlan) (t : Tuning) (channel : ℕ) (m : Mark) → IsOnPath plan t →
     IsTimedFrom t.count (streams.paging_stream t channel m) m.sample
 frames_timed plan t channel m tuned = record {
   timed = paging_timed t channel m tuned.alone;
@@ -76,7 +76,7 @@ frames_timed plan t channel m tuned = record {
 pub record HearsPages (width : Width) (plan : CellPlan) (sync : SyncPlan) (t : Tuning) (m : Mark)
     (superframes : ℕ) : Type 0 where
   pub receivable : IsReceivable width plan
-  pub tuned : IsTunedTo plan t
+  pub tuned : IsOnPath plan t
   pub sends : plan.sync ≡ Some sync
   pub rate : m.prat ≡ sync.message.prat
   pub low : m.prat < 2

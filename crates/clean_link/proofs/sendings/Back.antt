@@ -16,7 +16,7 @@ use Rattle.mobile_core.specs.declared.event.Event.{Event}
 use Rattle.mobile_core.specs.declared.event.Event.TheVariants.{Sync}
 use Rattle.chip_core.proofs.Ranges.{flat_map_ext_filter}
 use Rattle.clean_link.specs.CleanLaws.{FramesAreZeros, FramesComeBack, WholeSendingsComeBack}
-use Rattle.clean_link.specs.CleanLink.{IsReceivable, IsTunedTo, events_of_channel, first_sync_frame, heard_behind, is_whole, sending_ends, sending_event, sync_sent}
+use Rattle.clean_link.specs.CleanLink.{IsOnPath, IsReceivable, events_of_channel, first_sync_frame, heard_behind, is_whole, sending_ends, sending_event, sync_sent}
 use Rattle.base_modulator.specs.Sampled.{made_samples}
 use Rattle.clean_link.proofs.sendings.Capsules.{IsSentAt, sending_frames}
 use Rattle.clean_link.proofs.frames.SyncFrames.{frames_back, frames_zero}
@@ -29,7 +29,7 @@ use Rattle.clean_link.proofs.sendings.Places.{IsInside, ends_tells, ends_there, 
 -- ---- what frames tell
 tells_none : FramesComeBack →
     (width : Width) (plan : CellPlan) (sync : SyncPlan) (t : Tuning) (k q w : ℕ) →
-    IsReceivable width plan → plan.sync ≡ Some sync → IsTunedTo plan t → in_file t k ≡ true →
+    IsReceivable width plan → plan.sync ≡ Some sync → IsOnPath plan t → in_file t k ≡ true →
     IsSentAt plan sync.message (first_sync_frame plan) k q w →
     ends_sending plan sync.message k w ≡ false → frame_events t (made_samples plan) k ≡ []
 tells_none back width plan sync t k q w is sends tuned there place over =
@@ -38,7 +38,7 @@ tells_none back width plan sync t k q w is sends tuned there place over =
 
 tells_sending : FramesComeBack →
     (width : Width) (plan : CellPlan) (sync : SyncPlan) (t : Tuning) (k q : ℕ) →
-    IsReceivable width plan → plan.sync ≡ Some sync → IsTunedTo plan t →
+    IsReceivable width plan → plan.sync ≡ Some sync → IsOnPath plan t →
     IsInside plan sync.message t k q →
     frame_events t (made_samples plan) k ≡ sending_event plan sync.message q ∷ []
 tells_sending back width plan sync t k q is sends tuned inside =
@@ -94,7 +94,7 @@ tells_if plan t j none = ⊎_elim
 -- other frames than a sending's last tell nothing
 tells_other : FramesComeBack →
     (width : Width) (plan : CellPlan) (sync : SyncPlan) (t : Tuning) (q w : ℕ) →
-    IsReceivable width plan → plan.sync ≡ Some sync → IsTunedTo plan t →
+    IsReceivable width plan → plan.sync ≡ Some sync → IsOnPath plan t →
     w < sending_frames plan sync.message → w ≢ last_frame plan sync.message →
     tells plan t (q * sending_frames plan sync.message + w) ≡ []
 tells_other back width plan sync t q w is sends tuned low other =
@@ -111,7 +111,7 @@ tells_other back width plan sync t q w is sends tuned low other =
 -- the last tells of the sending where it is whole
 tells_last : FramesComeBack →
     (width : Width) (plan : CellPlan) (sync : SyncPlan) (t : Tuning) (q : ℕ) →
-    IsReceivable width plan → plan.sync ≡ Some sync → IsTunedTo plan t →
+    IsReceivable width plan → plan.sync ≡ Some sync → IsOnPath plan t →
     tells plan t (q * sending_frames plan sync.message + last_frame plan sync.message) ≡
     given_where (is_whole plan sync.message) (λ s. sending_event plan sync.message s ∷ []) q
 tells_last back width plan sync t q is sends tuned =
@@ -144,7 +144,7 @@ tells_last back width plan sync t q is sends tuned =
     (cases_Bool (is_whole plan m q))
 
 -- the file ends before this frame
-tells_late : (plan : CellPlan) (t : Tuning) (i : ℕ) → IsTunedTo plan t →
+tells_late : (plan : CellPlan) (t : Tuning) (i : ℕ) → IsOnPath plan t →
     tells plan t (first_sync_frame plan + sync_bound t.count + i) ≡ []
 tells_late plan t i tuned =
     tells_if plan t (first_sync_frame plan + sync_bound t.count + i)
@@ -157,7 +157,7 @@ tells_late plan t i tuned =
 
 -- ---- all of them
 channel_back : FramesComeBack → (width : Width) (plan : CellPlan) (sync : SyncPlan) (t : Tuning) →
-    IsReceivable width plan → plan.sync ≡ Some sync → IsTunedTo plan t →
+    IsReceivable width plan → plan.sync ≡ Some sync → IsOnPath plan t →
     flat_map (frame_events t (made_samples plan)) (filter (in_file t) (frames_of t)) ≡
     events_of_channel plan (Some sync)
 channel_back back width plan sync t is sends tuned =
@@ -190,7 +190,7 @@ flat_map-none [] = refl
 flat_map-none (k ∷ ks) = flat_map-none ks
 
 silence_back : FramesAreZeros → (width : Width) (plan : CellPlan) (t : Tuning) →
-    IsReceivable width plan → plan.sync ≡ None → IsTunedTo plan t →
+    IsReceivable width plan → plan.sync ≡ None → IsOnPath plan t →
     flat_map (frame_events t (made_samples plan)) (filter (in_file t) (frames_of t)) ≡ []
 silence_back zeros width plan t is silent tuned =
     flat_map_ext_filter (in_file t) (frame_events t (made_samples plan)) (λ k. []) (frames_of t)
@@ -200,7 +200,7 @@ silence_back zeros width plan t is silent tuned =
 
 by_frames : FramesComeBack → FramesAreZeros →
     (width : Width) (plan : CellPlan) (t : Tuning) (channel : Option SyncPlan) →
-    IsReceivable width plan → plan.sync ≡ channel → IsTunedTo plan t →
+    IsReceivable width plan → plan.sync ≡ channel → IsOnPath plan t →
     flat_map (frame_events t (made_samples plan)) (filter (in_file t) (frames_of t)) ≡
     events_of_channel plan channel
 by_frames back zeros width plan t None is silent tuned =
@@ -209,7 +209,7 @@ by_frames back zeros width plan t (Some sync) is sends tuned =
     channel_back back width plan sync t is sends tuned
 
 pub sendings_by_frames : FramesComeBack → FramesAreZeros →
-    (width : Width) (plan : CellPlan) (t : Tuning) → IsReceivable width plan → IsTunedTo plan t →
+    (width : Width) (plan : CellPlan) (t : Tuning) → IsReceivable width plan → IsOnPath plan t →
     flat_map (frame_events t (made_samples plan)) (filter (in_file t) (frames_of t)) ≡
     sync_sent plan
 unfolding sync_sent

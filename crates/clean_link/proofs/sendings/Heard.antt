@@ -27,7 +27,7 @@ use Rattle.mobile_core.specs.SyncEvents.{frames_before, sync_capsule_at, heard_i
 use Rattle.mobile_core.specs.Tuning.{Tuning, sync_stream}
 use Rattle.chip_core.proofs.Ranges.{map_ext_filter_places, filter-places-more}
 use Rattle.clean_link.specs.CleanLaws.{FramesAreZeros, FramesComeBack}
-use Rattle.clean_link.specs.CleanLink.{IsReceivable, IsTunedTo, first_sync_frame}
+use Rattle.clean_link.specs.CleanLink.{IsOnPath, IsReceivable, first_sync_frame}
 use Rattle.base_modulator.specs.Sampled.{made_samples}
 use Rattle.clean_link.proofs.sendings.Pieces.{run, run-places, none_starts}
 use Rattle.clean_link.proofs.sendings.Capsules.{IsSentAt, piece_of, pieces_end, sending_frames}
@@ -75,7 +75,7 @@ pieces_from t samples bits k alone there back =
 
 pub heard_pieces : FramesComeBack →
     (width : Width) (plan : CellPlan) (sync : SyncPlan) (t : Tuning) (k : ℕ) →
-    IsReceivable width plan → plan.sync ≡ Some sync → IsTunedTo plan t → in_file t k ≡ true →
+    IsReceivable width plan → plan.sync ≡ Some sync → IsOnPath plan t → in_file t k ≡ true →
     map piece (frames_before t (made_samples plan) (k + 1)) ≡
     run (piece_of plan sync.message (first_sync_frame plan)) 0 (suc k)
 heard_pieces back width plan sync t k is sends tuned there =
@@ -95,7 +95,7 @@ unfolding capsule_ending
 none_ends pieces none = rw none refl
 
 pub none_heard : FramesAreZeros → (width : Width) (plan : CellPlan) (t : Tuning) (k : ℕ) →
-    IsReceivable width plan → plan.sync ≡ None → IsTunedTo plan t → in_file t k ≡ true →
+    IsReceivable width plan → plan.sync ≡ None → IsOnPath plan t → in_file t k ≡ true →
     heard_at t (made_samples plan) k ≡ None
 none_heard zeros width plan t k is silent tuned there =
     let pieces =
@@ -130,7 +130,7 @@ few_samples Eight = omega arith
 
 -- a frame in the file has a small number
 frame_early : (width : Width) (plan : CellPlan) (t : Tuning) (k : ℕ) → IsLawfulPlan width plan →
-    IsTunedTo plan t → in_file t k ≡ true → first_sync_frame plan + k < 2 ^ 20
+    IsOnPath plan t → in_file t k ≡ true → first_sync_frame plan + k < 2 ^ 20
 frame_early width plan t k lawful tuned there =
     let begins = frames_begin plan t k lawful.pn tuned.phase in
     let ends = in_file_to t k tuned.alone there in
@@ -159,7 +159,7 @@ heard_choice form false m is = refl
 -- frame w of sending q, which is the file's frame k
 pub heard_is : FramesComeBack →
     (width : Width) (plan : CellPlan) (sync : SyncPlan) (t : Tuning) (k q w : ℕ) →
-    IsReceivable width plan → plan.sync ≡ Some sync → IsTunedTo plan t → in_file t k ≡ true →
+    IsReceivable width plan → plan.sync ≡ Some sync → IsOnPath plan t → in_file t k ≡ true →
     IsSentAt plan sync.message (first_sync_frame plan) k q w →
     heard_at t (made_samples plan) k ≡
     (if ends_sending plan sync.message k w
@@ -185,7 +185,7 @@ heard_is back width plan sync t k q w is sends tuned there place =
 
 pub heard_nothing : FramesComeBack →
     (width : Width) (plan : CellPlan) (sync : SyncPlan) (t : Tuning) (k q w : ℕ) →
-    IsReceivable width plan → plan.sync ≡ Some sync → IsTunedTo plan t → in_file t k ≡ true →
+    IsReceivable width plan → plan.sync ≡ Some sync → IsOnPath plan t → in_file t k ≡ true →
     IsSentAt plan sync.message (first_sync_frame plan) k q w →
     ends_sending plan sync.message k w ≡ false → heard_at t (made_samples plan) k ≡ None
 heard_nothing back width plan sync t k q w is sends tuned there place over =
@@ -196,7 +196,7 @@ heard_nothing back width plan sync t k q w is sends tuned there place over =
 
 pub heard_sending : FramesComeBack →
     (width : Width) (plan : CellPlan) (sync : SyncPlan) (t : Tuning) (k q w : ℕ) →
-    IsReceivable width plan → plan.sync ≡ Some sync → IsTunedTo plan t → in_file t k ≡ true →
+    IsReceivable width plan → plan.sync ≡ Some sync → IsOnPath plan t → in_file t k ≡ true →
     IsSentAt plan sync.message (first_sync_frame plan) k q w →
     ends_sending plan sync.message k w ≡ true →
     heard_at t (made_samples plan) k ≡

@@ -10,7 +10,7 @@ use Rattle.base_modulator.specs.Sendings.{superframes_a_sending}
 use Rattle.base_modulator.specs.declared.plan.CellPlan.{CellPlan}
 use Rattle.base_modulator.proofs.SentMessages.{length-sync, superframes_some}
 use Rattle.mobile_core.specs.Tuning.{Tuning}
-use Rattle.clean_link.specs.CleanLink.{IsTunedTo, first_sync_frame, is_whole, sending_begins, sending_ends}
+use Rattle.clean_link.specs.CleanLink.{IsOnPath, first_sync_frame, is_whole, sending_begins, sending_ends}
 use Rattle.clean_link.proofs.sendings.Capsules.{IsSentAt, sending_frames}
 use Rattle.clean_link.proofs.frames.SyncTimes.{end_of_frame, frames_begin, in_file_from, in_file_to}
 use Rattle.clean_link.proofs.sendings.Events.{in_file}
@@ -57,7 +57,7 @@ pub threefold : (q n : ℕ) → q * (3 * n) ≡ 3 * (q * n)
 threefold q n = omega arith
 
 pub ends_where : (width : Width) (plan : CellPlan) (m : SyncFields) (t : Tuning) (k q : ℕ) →
-    IsLawfulPlan width plan → IsTunedTo plan t → IsLast plan m k q →
+    IsLawfulPlan width plan → IsOnPath plan t → IsLast plan m k q →
     sending_ends plan m q ≡ plan.link.start + end_of_frame t k
 ends_where width plan m t k q lawful tuned is =
     omega (
@@ -70,7 +70,7 @@ ends_where width plan m t k q lawful tuned is =
 
 -- it begins in the file just where the file's first frame isn't later than its first
 begins_from : (width : Width) (plan : CellPlan) (m : SyncFields) (t : Tuning) (q : ℕ) →
-    IsLawfulPlan width plan → IsTunedTo plan t →
+    IsLawfulPlan width plan → IsOnPath plan t →
     first_sync_frame plan ≤ q * sending_frames plan m → plan.link.start ≤ sending_begins plan m q
 begins_from width plan m t q lawful tuned early =
     omega (
@@ -81,7 +81,7 @@ begins_from width plan m t q lawful tuned early =
     )
 
 begins_to : (width : Width) (plan : CellPlan) (m : SyncFields) (t : Tuning) (q : ℕ) →
-    IsLawfulPlan width plan → IsTunedTo plan t →
+    IsLawfulPlan width plan → IsOnPath plan t →
     plan.link.start ≤ sending_begins plan m q → first_sync_frame plan ≤ q * sending_frames plan m
 begins_to width plan m t q lawful tuned inside =
     omega (
@@ -92,7 +92,7 @@ begins_to width plan m t q lawful tuned inside =
     )
 
 pub whole_from : (width : Width) (plan : CellPlan) (m : SyncFields) (t : Tuning) (k q : ℕ) →
-    IsLawfulPlan width plan → IsTunedTo plan t → IsLast plan m k q →
+    IsLawfulPlan width plan → IsOnPath plan t → IsLast plan m k q →
     last_frame plan m ≤ k → in_file t k ≡ true → is_whole plan m q ≡ true
 whole_from width plan m t k q lawful tuned is begun there =
     let ends = ends_where width plan m t k q lawful tuned is in
@@ -111,7 +111,7 @@ pub record IsInside (plan : CellPlan) (m : SyncFields) (t : Tuning) (k q : ℕ) 
   pub there : in_file t k ≡ true
 
 pub whole_to : (width : Width) (plan : CellPlan) (m : SyncFields) (t : Tuning) (q : ℕ) →
-    IsLawfulPlan width plan → IsTunedTo plan t → is_whole plan m q ≡ true →
+    IsLawfulPlan width plan → IsOnPath plan t → is_whole plan m q ≡ true →
     (first_sync_frame plan ≤ q * sending_frames plan m) ×
     IsInside plan m t (q * sending_frames plan m + last_frame plan m - first_sync_frame plan) q
 whole_to width plan m t q lawful tuned whole =

@@ -25,7 +25,7 @@ use Rattle.mobile_core.specs.declared.mark.Mark.{Mark}
 use Rattle.mobile_core.specs.declared.settings.Traffic.{Traffic}
 use Rattle.mobile_core.proofs.MarkStays.{frames_by_one_mark, messages_by_one_mark}
 use Rattle.chip_core.proofs.Ranges.{flat_map_ext_places}
-use Rattle.clean_link.specs.CleanLink.{IsNotDirected, IsReceivable, IsTunedTo}
+use Rattle.clean_link.specs.CleanLink.{IsNotDirected, IsOnPath, IsReceivable}
 use Rattle.clean_link.specs.HeardFrames.{frames_of_channel, frames_sent, told_on, AreDistinct}
 use Rattle.clean_link.specs.HeardSignals.{messages_of_channel, messages_sent}
 use Rattle.clean_link.specs.SentEvents.{signaling_sent, told_by_first, told_followed}
@@ -38,7 +38,7 @@ use Rattle.clean_link.proofs.traffic.Signaling.{sent_messages_back}
 use Rattle.clean_link.proofs.signal.Samples.{length-made}
 use Rattle.clean_link.proofs.traffic.Undirected.{undirected_behind}
 
-pub one_near : (t : Tuning) (plan : CellPlan) → IsTunedTo plan t →
+pub one_near : (t : Tuning) (plan : CellPlan) → IsOnPath plan t →
     AreNear (sync_stream t).fingers
 one_near t plan tuned = rw tuned.alone refl
 
@@ -102,7 +102,7 @@ abbrev pub told_behind : CellPlan → (TrafficPlan → ℕ → List Event) → �
 told_behind plan told row chip = told_on (λ (p : TrafficPlan). told p chip) plan.traffic row
 
 module _ (width : Width) (plan : CellPlan) (t : Tuning) (is : IsReceivable width plan)
-    (tuned : IsTunedTo plan t) where
+    (tuned : IsOnPath plan t) where
   -- the superframes of the mark are those that the first whole sending tells
   told_so : (sync : SyncPlan) (m : Mark) → plan.sync ≡ Some sync →
       mark t (made_samples plan) t.count ≡ Some m → (superframes : ℕ) →
@@ -204,7 +204,7 @@ module _ (width : Width) (plan : CellPlan) (t : Tuning) (is : IsReceivable width
         ∙ behind_last t.traffic plan.sync last refl refl refl follows
 
 module _ (width : Width) (plan : CellPlan) (t : Tuning) (is : IsReceivable width plan)
-    (tuned : IsTunedTo plan t)
+    (tuned : IsOnPath plan t)
     (not_directed : All IsNotDirected (events t (made_samples plan))) where
   -- no handoff is directed behind the mark of all samples
   undirected : (traffic : Traffic) (m : Mark) → t.traffic ≡ Some traffic →
