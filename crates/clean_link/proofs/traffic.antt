@@ -10,6 +10,7 @@ pub mod Frames
 pub mod Signaling
 pub mod NoneSent
 pub mod Back
+pub mod Received
 pub mod KeptSymbols
 pub mod HiddenWords
 pub mod FullRate

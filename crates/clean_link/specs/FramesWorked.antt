@@ -11,7 +11,7 @@ use Rattle.mobile_core.specs.Given.{at_of}
 use Rattle.mobile_core.specs.declared.event.Event.{Event}
 use Rattle.mobile_core.specs.declared.event.Event.TheVariants.{Frame, Paging, Pilot, Sets, Sync}
 use Rattle.mobile_core.specs.declared.event.Event.TheVariants.{Traffic}
-use Rattle.clean_link.specs.HeardFrames.{frames_sent, sent_commands}
+use Rattle.clean_link.specs.HeardFrames.{frames_sent, sent_bits, sent_commands}
 
 -- two frames, whose power control bits tell a handset to raise its power, and to lower it
 slow : TrafficFrame
@@ -85,5 +85,5 @@ no_such_channel = refl
 
 -- power control bits as they are sent
 lowering : sent_commands faster ≡ replicate 16 true
-unfolding faster sent_commands places
+unfolding faster sent_bits places
 lowering = refl

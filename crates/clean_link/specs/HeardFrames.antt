@@ -7,10 +7,11 @@ use Rattle.std.specs.List.{flat_map}
 use Rattle.chip_core.specs.Bits.{places, sign}
 use Rattle.long_code.specs.LongCode.{traffic_mask}
 use Rattle.symbol_path.specs.Scrambling.{power_places}
-use Rattle.frame_decoder.specs.Laws.{frame_word, IsUnshared}
+use Rattle.frame_decoder.specs.Laws.{frame_word, IsUnshared, ShowSymbols}
 use Rattle.frame_decoder.specs.TrafficFrames.{frame_symbols, is_replaced}
 use Rattle.base_modulator.specs.Signal.{frames_of}
-use Rattle.base_modulator.specs.TrafficFrames.{cycled_frame, frame_state, set_one}
+use Rattle.base_modulator.specs.TrafficFrames.{cycled_frame, frame_state, sent_with, set_one}
+use Rattle.base_modulator.specs.TrafficFrames.{set_two, traffic_frame_symbols}
 use Rattle.base_modulator.specs.declared.plan.CellPlan.{CellPlan}
 use Rattle.base_modulator.specs.declared.plan.TrafficPlan.{TrafficPlan}
 use Rattle.base_modulator.specs.declared.traffic_frame.TrafficFrame.{TrafficFrame}
@@ -23,12 +24,18 @@ use Rattle.clean_link.specs.HeardPages.{end_chip}
 
 -- ---- a channel that is followed
 
--- a channel of rate set 1 that is sent is the one that a handset was assigned
+-- a channel that is sent is the one that a handset was assigned
 pub record IsAssigned (p : TrafficPlan) (traffic : Traffic) : Type 0 where
-  pub some : 1 ≤ length (set_one p.frames)
   pub row : p.row ≡ traffic.row
   pub esn : p.esn ≡ traffic.esn
   pub offset : p.offset ≡ traffic.offset
+
+-- a channel whose frames are of rate set 1, and one whose frames are of rate set 2
+abbrev pub SendsSetOne : TrafficPlan → Type 0
+SendsSetOne p = 1 ≤ length (set_one p.frames)
+
+abbrev pub SendsSetTwo : TrafficPlan → Type 0
+SendsSetTwo p = 1 ≤ length (set_two p.frames)
 
 -- The pilots that a frame is heard from are the reference's alone, with the channel's row: it has
 -- all of the handset's fingers, and the one power control subchannel.
@@ -43,9 +50,12 @@ pub record IsOnePilot (traffic : Traffic) (legs : List Leg) : Type 0 where
 abbrev pub word_symbols : TrafficFrame → List Bool
 word_symbols f = frame_symbols f.rate (frame_word f.rate f.information)
 
--- the power control bit of each of its 16 groups
-unfoldable pub sent_commands : TrafficFrame → List Bool
-sent_commands f = map (λ g. get_or f.commands g false) (places 16)
+-- the power control bit of each of its 16 groups, of a list of them
+unfoldable pub sent_bits : List Bool → List Bool
+sent_bits commands = map (λ g. get_or commands g false) (places 16)
+
+abbrev pub sent_commands : TrafficFrame → List Bool
+sent_commands f = sent_bits f.commands
 
 -- At the places that power control bits replace, the soft values, which no scrambling turns, are a
 -- number times the sign of the group's bit.
@@ -58,6 +68,24 @@ ShowCommands replaced strength commands softs =
 -- word, at none of the four rates, whether that word's quality bits are right or not.
 abbrev pub IsDistinctFrame : List ℕ → TrafficFrame → Type 0
 IsDistinctFrame replaced f = IsUnshared replaced f.rate (frame_word f.rate f.information)
+
+-- What frame `frame` of a channel of any rate set sends: these 384 symbols before scrambling, in the
+-- order in which they are sent, some of which these power control bits replace.
+pub record SendsSymbols (plan : CellPlan) (p : TrafficPlan) (frame : ℕ)
+    (symbols commands : List Bool) : Type 0 where
+  pub all : length symbols ≡ 384
+  pub given : traffic_frame_symbols (frames_of plan p) frame
+      ≡ sent_with (frame_state (frames_of plan p) frame) (traffic_mask p.esn) commands symbols
+
+-- Soft values of a frame that show what it sends: turned by its scrambling they are, at the places
+-- that no power control bit replaces, one positive number times the signs of its symbols, and
+-- unturned, at the others, that number times the signs of the power control bits.
+pub record ShowFrame (replaced : List ℕ) (strength : ℕ) (symbols commands : List Bool)
+    (turned unturned : List ℤ) : Type 0 where
+  pub strong : 0 < strength
+  pub long : length turned ≡ 384
+  pub shows : ShowSymbols replaced strength symbols turned
+  pub powered : ShowCommands replaced strength commands unturned
 
 -- ---- the frames of a channel
 

@@ -8,6 +8,8 @@ pub mod HeardPages
 pub mod HeardSignals
 pub mod PageLaws
 pub mod PagingLaws
+pub mod ReceivedFrames
+pub mod ReceivedLaws
 pub mod SentEvents
 pub mod SentWords
 pub mod Signals

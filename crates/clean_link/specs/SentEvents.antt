@@ -18,7 +18,7 @@ use Rattle.mobile_core.specs.declared.event.Event.TheVariants.{Paging}
 use Rattle.mobile_core.specs.declared.settings.Traffic.{Traffic}
 use Rattle.clean_link.specs.CleanLink.{IsNotDirected, IsReceivable, IsTunedTo, sync_sent}
 use Rattle.clean_link.specs.CleanLink.{tuning_to, whole_sendings}
-use Rattle.clean_link.specs.HeardFrames.{frames_sent, AreDistinct, IsAssigned}
+use Rattle.clean_link.specs.HeardFrames.{frames_sent, AreDistinct, IsAssigned, SendsSetOne}
 use Rattle.clean_link.specs.HeardPages.{KnownPage, pages_sent}
 use Rattle.clean_link.specs.HeardSignals.{messages_sent}
 
@@ -76,11 +76,12 @@ unfoldable pub signaling_sent : CellPlan → Option Traffic → List Event
 signaling_sent plan followed =
     told_followed (messages_sent plan) followed (told_with_sync plan plan.sync)
 
--- A channel that a handset follows is one of the cell's, and each of its frames from the mark on
--- that lies in the file is distinct.
+-- A channel that a handset follows is one of the cell's, of rate set 1, and each of its frames from
+-- the mark on that lies in the file is distinct.
 pub record IsFollowed (plan : CellPlan) (traffic : Traffic) (p : TrafficPlan) : Type 0 where
   pub sent : Contains plan.traffic p
   pub assigned : IsAssigned p traffic
+  pub one : SendsSetOne p
   pub distinct : (superframes : ℕ) → told_with_sync plan plan.sync ≡ Some superframes →
       AreDistinct plan p (98304 * superframes)
 

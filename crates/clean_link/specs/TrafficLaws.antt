@@ -25,7 +25,7 @@ use Rattle.clean_link.specs.CleanLink.{IsNotDirected, IsOnPath, IsReceivable, Is
 use Rattle.clean_link.specs.CleanLink.{soft_strength}
 use Rattle.clean_link.specs.HeardFrames.{frame_ends, frames_of_channel, received_frames}
 use Rattle.clean_link.specs.HeardFrames.{sent_commands, word_symbols, AreDistinct, IsAssigned}
-use Rattle.clean_link.specs.HeardFrames.{IsDistinctFrame, IsOnePilot, ShowCommands}
+use Rattle.clean_link.specs.HeardFrames.{IsDistinctFrame, IsOnePilot, SendsSetOne, ShowCommands}
 use Rattle.clean_link.specs.HeardSignals.{messages_of_channel}
 
 -- A handset behind a true mark, which was assigned a traffic channel that the cell sends.
@@ -124,7 +124,7 @@ EachFrameIsHeard = (width : Width) (plan : CellPlan) (p : TrafficPlan) (t : Tuni
 abbrev pub SentFramesComeBack : Type 0
 SentFramesComeBack = (width : Width) (plan : CellPlan) (p : TrafficPlan) (t : Tuning)
     (traffic : Traffic) (m : Mark) (superframes : ℕ) →
-    HearsTraffic width plan p t traffic m superframes →
+    HearsTraffic width plan p t traffic m superframes → SendsSetOne p →
     IsUndirected t traffic m (made_samples plan) plan.link.samples →
     AreDistinct plan p (plan.link.start + m.sample) →
     flat_map (frames_at t traffic m (made_samples plan)) (places (plan.link.samples + 1)) ≡
@@ -134,7 +134,7 @@ SentFramesComeBack = (width : Width) (plan : CellPlan) (p : TrafficPlan) (t : Tu
 abbrev pub SentMessagesComeBack : Type 0
 SentMessagesComeBack = (width : Width) (plan : CellPlan) (p : TrafficPlan) (t : Tuning)
     (traffic : Traffic) (m : Mark) (superframes : ℕ) →
-    HearsTraffic width plan p t traffic m superframes →
+    HearsTraffic width plan p t traffic m superframes → SendsSetOne p →
     IsUndirected t traffic m (made_samples plan) plan.link.samples →
     AreDistinct plan p (plan.link.start + m.sample) →
     flat_map (messages_at t traffic m (made_samples plan)) (places (plan.link.samples + 1)) ≡
@@ -145,7 +145,7 @@ SentMessagesComeBack = (width : Width) (plan : CellPlan) (p : TrafficPlan) (t : 
 abbrev pub NoneIsDirected : Type 0
 NoneIsDirected = (width : Width) (plan : CellPlan) (p : TrafficPlan) (t : Tuning)
     (traffic : Traffic) (m : Mark) (superframes : ℕ) →
-    HearsTraffic width plan p t traffic m superframes →
+    HearsTraffic width plan p t traffic m superframes → SendsSetOne p →
     AreDistinct plan p (plan.link.start + m.sample) →
     All IsNotDirected (messages_of_channel plan p (plan.link.start + m.sample)) →
     IsUndirected t traffic m (made_samples plan) plan.link.samples

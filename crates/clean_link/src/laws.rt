@@ -15,6 +15,9 @@ ghost use Rattle.clean_link.specs.PagingLaws.{MarksTellTheRate, PagingFramesCome
 ghost use Rattle.clean_link.specs.PagingLaws.{PagingHaveSentSigns, PagingWordsAreTheOnlyBest};
 ghost use Rattle.clean_link.specs.PagingLaws.{SilentPagingFramesAreZeros, SilentPagingIsZero};
 ghost use Rattle.clean_link.specs.PagingLaws.{UnmarkedWithoutSync};
+ghost use Rattle.clean_link.specs.ReceivedLaws.{EachFrameIsReceived, FramesBehindMark};
+ghost use Rattle.clean_link.specs.ReceivedLaws.{FramesShowSymbols, SetOneSends, SetTwoBehindMark};
+ghost use Rattle.clean_link.specs.ReceivedLaws.{SetTwoFramesComeBack, SetTwoSends};
 ghost use Rattle.clean_link.specs.SentEvents.{NoEventIsDirected, WholeMessagesComeBack};
 ghost use Rattle.clean_link.specs.TrafficLaws.{CommandsComeBack, EachFrameIsHeard};
 ghost use Rattle.clean_link.specs.TrafficLaws.{NoneIsDirected, OnePilotIsHeard};
@@ -105,6 +108,23 @@ pub fn traffic_frames_come_back()
     ensures sent { SentFramesComeBack }
     ensures messages { SentMessagesComeBack }
     ensures undirected { NoneIsDirected }
+{}
+
+/// Of the reference base station alone the frames of a traffic channel are received that begin at
+/// the mark or behind it and lie in the file, in order, each at its own end, whatever messages are
+/// heard. Each shows what it sends, of whichever rate set, so its power control bits come back; and
+/// where no other word of any rate of rate set 2 shares the symbols of a frame of that set at the
+/// places that they leave, its rate and its information bits, as a good frame. Behind the mark that
+/// the first whole sending of the sync channel tells that is so of any file that holds what the
+/// cell sends.
+pub fn frames_are_received_of_the_reference()
+    ensures one { SetOneSends }
+    ensures two { SetTwoSends }
+    ensures each { EachFrameIsReceived }
+    ensures shown { FramesShowSymbols }
+    ensures decoded { SetTwoFramesComeBack }
+    ensures behind { FramesBehindMark }
+    ensures file { SetTwoBehindMark }
 {}
 
 /// Where no handoff is directed, a handset hears the whole sendings, the whole pages of the paging

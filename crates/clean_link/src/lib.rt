@@ -12,7 +12,8 @@
 //! The steps up to a frame's bits are stated over any channel of a plan and any stream with one
 //! finger on the path (`ChannelLaws`), and the sync channel is their first case (`CleanLaws`). The
 //! frames of a traffic channel are encoded one by one, and take of them the soft values
-//! (`TrafficLaws`).
+//! (`TrafficLaws`). Those that are received of the reference base station alone come back whatever
+//! messages are heard, of either rate set (`ReceivedLaws`).
 #![tactic(auto)]
 
 pub mod laws;

@@ -129,7 +129,7 @@ module _ (width : Width) (plan : CellPlan) (t : Tuning) (is : IsReceivable width
       let unset = unmarked width plan t t.count is silent tuned in absurd (cc)
   behind_last (Some traffic) (Some sync) (Some m) sends set follows none n most =
       let b = heard_behind_mark width plan t is tuned sync traffic m sends set follows in
-      none_directed width plan b.p t traffic m b.superframes b.hears b.distinct
+      none_directed width plan b.p t traffic m b.superframes b.hears b.one b.distinct
       (All-same IsNotDirected (messages_of_channel plan b.p (plan.link.start + m.sample)) _
       (told_there width plan t is tuned traffic m (messages_of_channel plan) b) none) n most
 

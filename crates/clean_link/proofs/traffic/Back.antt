@@ -27,6 +27,7 @@ use Rattle.mobile_core.proofs.MarkStays.{frames_by_one_mark, messages_by_one_mar
 use Rattle.chip_core.proofs.Ranges.{flat_map_ext_places}
 use Rattle.clean_link.specs.CleanLink.{IsNotDirected, IsOnPath, IsReceivable}
 use Rattle.clean_link.specs.HeardFrames.{frames_of_channel, frames_sent, told_on, AreDistinct}
+use Rattle.clean_link.specs.HeardFrames.{SendsSetOne}
 use Rattle.clean_link.specs.HeardSignals.{messages_of_channel, messages_sent}
 use Rattle.clean_link.specs.SentEvents.{signaling_sent, told_by_first, told_followed}
 use Rattle.clean_link.specs.SentEvents.{told_with_sync, traffic_sent, FollowsSent}
@@ -83,7 +84,7 @@ record ComesBack (width : Width) (plan : CellPlan) (t : Tuning)
       ≡ if_followed (heard n) t.traffic (mark t (made_samples plan) t.count)
   pub back : (p : TrafficPlan) (traffic : Traffic) (m : Mark) (superframes : ℕ) →
       t.traffic ≡ Some traffic → mark t (made_samples plan) t.count ≡ Some m →
-      HearsTraffic width plan p t traffic m superframes →
+      HearsTraffic width plan p t traffic m superframes → SendsSetOne p →
       AreDistinct plan p (plan.link.start + m.sample) →
       flat_map (λ n. heard n traffic m) (places (plan.link.samples + 1))
       ≡ told p (plan.link.start + m.sample)
@@ -94,6 +95,7 @@ pub record IsHeardBehind (width : Width) (plan : CellPlan) (t : Tuning) (traffic
   pub p : TrafficPlan
   pub superframes : ℕ
   pub hears : HearsTraffic width plan p t traffic m superframes
+  pub one : SendsSetOne p
   pub distinct : AreDistinct plan p (plan.link.start + m.sample)
   pub told : told_with_sync plan plan.sync ≡ Some superframes
 
@@ -114,6 +116,15 @@ module _ (width : Width) (plan : CellPlan) (t : Tuning) (is : IsReceivable width
       omega (arith, time, first.time, time_of plan sync.message first.sending) in
       ap (told_by_first plan sync.message) first.first ∙ ap (λ (n : ℕ). Some n) told
 
+  -- and there is a sync channel that sends it
+  pub told_behind_mark : (channel : Option SyncPlan) (m : Mark) → plan.sync ≡ channel →
+      mark t (made_samples plan) t.count ≡ Some m → (superframes : ℕ) →
+      m.time ≡ plan.cell.time + superframes → told_with_sync plan channel ≡ Some superframes
+  told_behind_mark None m silent set superframes time =
+      let unset = unmarked width plan t t.count is silent tuned in absurd (cc)
+  told_behind_mark (Some sync) m sends set superframes time =
+      told_so sync m sends set superframes time
+
   -- the channel that is followed behind the mark that is set
   pub heard_behind_mark : (sync : SyncPlan) (traffic : Traffic) (m : Mark) →
       plan.sync ≡ Some sync → mark t (made_samples plan) t.count ≡ Some m →
@@ -133,6 +144,7 @@ module _ (width : Width) (plan : CellPlan) (t : Tuning) (is : IsReceivable width
           tuned = tuned;
           marked = true_mark;
         };
+        one = followed.one;
         distinct = subst (AreDistinct plan p) (sym true_mark.place)
             (followed.distinct superframes told);
         told = told;
@@ -161,7 +173,7 @@ module _ (width : Width) (plan : CellPlan) (t : Tuning) (is : IsReceivable width
         ≡ told_followed (told_behind plan told) (Some traffic) (told_with_sync plan plan.sync)
     behind_mark sync traffic m assigned sends set follows =
         let b = heard_behind_mark sync traffic m sends set follows in
-        comes.back b.p traffic m b.superframes assigned set b.hears b.distinct
+        comes.back b.p traffic m b.superframes assigned set b.hears b.one b.distinct
         ∙ told_there traffic m told b
 
     -- and where none may be set, nor a channel followed
@@ -230,8 +242,8 @@ module _ (width : Width) (plan : CellPlan) (t : Tuning) (is : IsReceivable width
       (record {
         once = λ n most.
             frames_by_one_mark t (one_near t plan tuned) t.traffic samples n t.count most;
-        back = λ p traffic m superframes assigned set hears.
-            sent_frames_back width plan p t traffic m superframes hears
+        back = λ p traffic m superframes assigned set hears one.
+            sent_frames_back width plan p t traffic m superframes hears one
             (undirected traffic m assigned set);
       }) follows
 
@@ -247,7 +259,7 @@ module _ (width : Width) (plan : CellPlan) (t : Tuning) (is : IsReceivable width
       (record {
         once = λ n most.
             messages_by_one_mark t (one_near t plan tuned) t.traffic samples n t.count most;
-        back = λ p traffic m superframes assigned set hears.
-            sent_messages_back width plan p t traffic m superframes hears
+        back = λ p traffic m superframes assigned set hears one.
+            sent_messages_back width plan p t traffic m superframes hears one
             (undirected traffic m assigned set);
       }) follows

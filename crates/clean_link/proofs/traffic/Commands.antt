@@ -18,12 +18,12 @@ use Rattle.rake_finger.specs.declared.form.Form.TheVariants.{Data}
 use Rattle.base_modulator.specs.Sampled.{made_samples}
 use Rattle.chip_core.proofs.Ranges.{map_ext_places}
 use Rattle.mobile_core.specs.TrafficEvents.{commands_at, unturned_softs}
-use Rattle.mobile_core.specs.TrafficStreams.{frame_state, replaced_in}
+use Rattle.mobile_core.specs.TrafficStreams.{frame_state}
 use Rattle.clean_link.specs.CleanLink.{soft_strength}
-use Rattle.clean_link.specs.HeardFrames.{sent_commands, ShowCommands}
+use Rattle.clean_link.specs.HeardFrames.{sent_bits, ShowCommands}
 use Rattle.clean_link.specs.TrafficLaws.{CommandsComeBack, SixteenCommandsAreSent}
 use Rattle.clean_link.proofs.traffic.OnePilot.{one_sums}
-use Rattle.clean_link.proofs.traffic.Signs.{commands_shown, strong}
+use Rattle.clean_link.proofs.traffic.Signs.{heard_shown}
 
 -- ---- the places of power control bits
 
@@ -162,23 +162,30 @@ shown_command strength state mask commands softs g some below shows =
     ∙ ap (λ (z : ℤ). (pos strength *ℤ sign bit) +ℤ z) second)
     ∙ heard_bit strength bit some
 
+-- so all of them come back
+pub shown_commands : (strength state mask : ℕ) (commands : List Bool) (softs : List ℤ) →
+    0 < strength → ShowCommands (power_places state mask) strength commands softs →
+    map (command (group_sums (power_places state mask) softs ∷ [])) (places 16)
+    ≡ sent_bits commands
+unfolding sent_bits
+shown_commands strength state mask commands softs some shows =
+    map_ext_places (command (group_sums (power_places state mask) softs ∷ []))
+    (λ g. get_or commands g false) 16
+    (λ g below. shown_command strength state mask commands softs g some below shows)
+
 -- ---- the laws
 
 pub commands_back : CommandsComeBack
-unfolding commands_at sent_commands
+unfolding commands_at
 commands_back width plan p t traffic m legs superframes k f is heard =
     let softs = unturned_softs t traffic m legs (made_samples plan) k in
-    let sums = group_sums (replaced_in traffic m k) softs in
+    let shown = heard_shown width plan p t traffic m legs superframes k f is heard in
     ap (λ (all : List (List ℤ)). map (command all) (places 16))
     (one_sums t traffic m legs k heard.pilot (made_samples plan))
-    ∙ map_ext_places (command (sums ∷ [])) (λ g. get_or f.commands g false) 16
-    (λ g below.
-    shown_command (soft_strength plan Data p.gain) (frame_state traffic m k)
-    (traffic_mask traffic.esn) f.commands softs g
-    (strong width plan p t traffic m legs superframes k f is heard) below
-    (commands_shown width plan p t traffic m legs superframes k f is heard))
+    ∙ shown_commands (soft_strength plan Data p.gain) (frame_state traffic m k)
+    (traffic_mask traffic.esn) f.commands softs shown.strong shown.powered
 
 pub sixteen_sent : SixteenCommandsAreSent
-unfolding sent_commands
+unfolding sent_bits
 sixteen_sent f long =
     sym (map-places-all (λ g. get_or f.commands g false) f.commands 16 false long (λ g below. refl))

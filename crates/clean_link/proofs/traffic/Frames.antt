@@ -40,7 +40,7 @@ use Rattle.clean_link.specs.CleanLink.{soft_strength}
 use Rattle.clean_link.specs.HeardFrames.{frame_chip, frame_ends, frame_told, frames_of_channel}
 use Rattle.clean_link.specs.HeardFrames.{is_received, received_frames, replaced_of}
 use Rattle.clean_link.specs.HeardFrames.{sent_commands, sent_frame_event, AreDistinct}
-use Rattle.clean_link.specs.HeardFrames.{IsDistinctFrame, IsOnePilot}
+use Rattle.clean_link.specs.HeardFrames.{IsDistinctFrame, IsOnePilot, SendsSetOne}
 use Rattle.clean_link.specs.HeardPages.{end_chip}
 use Rattle.clean_link.specs.TrafficLaws.{EachFrameIsHeard, HearsTraffic, IsHeardAs, IsUndirected}
 use Rattle.clean_link.specs.TrafficLaws.{SentFramesComeBack, TrafficFramesComeBack}
@@ -49,8 +49,7 @@ use Rattle.clean_link.proofs.sendings.Order.{flat_map-filter, given_where, moved
 use Rattle.clean_link.proofs.traffic.Commands.{commands_back, power_pairs}
 use Rattle.clean_link.proofs.signal.Samples.{length-made}
 use Rattle.clean_link.proofs.traffic.OnePilot.{one_now, one_stream, one_stream_is}
-use Rattle.clean_link.proofs.traffic.Signs.{lawful_traffic, long_softs, same_state, strong}
-use Rattle.clean_link.proofs.traffic.Signs.{symbols_shown}
+use Rattle.clean_link.proofs.traffic.Signs.{heard_shown, lawful_traffic, same_state}
 use Rattle.clean_link.proofs.traffic.Times.{traffic_file_from, traffic_file_to, traffic_known_is}
 use Rattle.clean_link.proofs.traffic.Times.{traffic_timed}
 use Rattle.clean_link.proofs.traffic.Steady.{one_pilot_heard}
@@ -59,7 +58,7 @@ use Rattle.clean_link.proofs.traffic.Undirected.{first_legs, first_pilot, frames
 -- ---- one of a list
 
 -- what is true of all is true of the one that is taken
-one_taken : {A : Type 0} (P : A → Type 0) (xs : List A) (j : ℕ) (x : A) → All P xs →
+pub one_taken : {A : Type 0} (P : A → Type 0) (xs : List A) (j : ℕ) (x : A) → All P xs →
     take 1 (drop j xs) ≡ x ∷ [] → P x
 one_taken P [] zero x all is = absurd (cc)
 one_taken P [] (suc j) x all is = absurd (cc)
@@ -69,14 +68,14 @@ one_taken P (y ∷ xs) zero x all is =
 one_taken P (y ∷ xs) (suc j) x all is = one_taken P xs j x (All-tail P y xs all) is
 
 -- there is one at each place
-one_there : {A : Type 0} (xs : List A) (j : ℕ) → j < length xs →
+pub one_there : {A : Type 0} (xs : List A) (j : ℕ) → j < length xs →
     (x : A) × (take 1 (drop j xs) ≡ x ∷ [])
 one_there [] j below = absurd (omega (arith, below))
 one_there (x ∷ xs) zero below = (x, refl)
 one_there (x ∷ xs) (suc j) below = one_there xs j (omega (arith, below))
 
 -- a list of one thing for each
-one_each : {A B : Type 0} (f : A → B) (xs : List A) → map f xs ≡ flat_map (λ x. f x ∷ []) xs
+pub one_each : {A B : Type 0} (f : A → B) (xs : List A) → map f xs ≡ flat_map (λ x. f x ∷ []) xs
 one_each f [] = refl
 one_each {A} {B} f (x ∷ xs) = ap (λ (ys : List B). f x ∷ ys) (one_each f xs)
 
@@ -97,12 +96,11 @@ pub frame_back : TrafficFramesComeBack
 unfolding decoded_at
 frame_back width plan p t traffic m legs superframes k f is heard distinct =
     let few = (power_pairs (frame_state traffic m k) (traffic_mask traffic.esn)).long in
+    let shown = heard_shown width plan p t traffic m legs superframes k f is heard in
     sent_frame (soft_strength plan Data p.gain) (replaced_in traffic m k) f.rate f.information
-    (frame_softs (made_samples plan) (stream_of t traffic m legs k) k)
-    (strong width plan p t traffic m legs superframes k f is heard) (omega (arith, few))
-    (long_softs width plan p t traffic m legs superframes k f is heard)
-    (sized width plan p t traffic m legs superframes k f is heard)
-    (symbols_shown width plan p t traffic m legs superframes k f is heard) distinct
+    (frame_softs (made_samples plan) (stream_of t traffic m legs k) k) shown.strong
+    (omega (arith, few)) shown.long
+    (sized width plan p t traffic m legs superframes k f is heard) shown.shows distinct
 
 -- what is heard of it
 heard_as : (n : ℕ) (f : TrafficFrame) (score : ℕ) (frame : Decoded) (commands : List Bool) →
@@ -144,7 +142,7 @@ module _ (width : Width) (plan : CellPlan) (p : TrafficPlan) (t : Tuning) (traff
   received = is_received plan p mark_chip
 
   -- the channel's frames that are received are those that the file holds behind the mark
-  received_is : (k : ℕ) → received (4 * superframes + k) ≡ inside k
+  pub received_is : (k : ℕ) → received (4 * superframes + k) ≡ inside k
   received_is k =
       let frame = 4 * superframes + k in
       let place = is.marked.place in
@@ -172,7 +170,7 @@ module _ (width : Width) (plan : CellPlan) (p : TrafficPlan) (t : Tuning) (traff
       (cases_Bool (inside k))
 
   -- an earlier frame begins before the mark
-  early : (i : ℕ) → i < 4 * superframes → received i ≡ false
+  pub early : (i : ℕ) → i < 4 * superframes → received i ≡ false
   early i low =
       let place = is.marked.place in
       false_from_ne_true (received i)
@@ -230,7 +228,7 @@ module _ (width : Width) (plan : CellPlan) (p : TrafficPlan) (t : Tuning) (traff
       traffic_known_is t traffic m is.tuned.alone k ∙ omega (arith, place, offset)
 
   -- the power control bits replace the same places
-  same_places : (k : ℕ) → replaced_of plan p (4 * superframes + k) ≡ replaced_in traffic m k
+  pub same_places : (k : ℕ) → replaced_of plan p (4 * superframes + k) ≡ replaced_in traffic m k
   same_places k =
       ap (λ (s : ℕ). power_places s (traffic_mask p.esn))
       (sym (same_state plan p traffic m superframes k is.marked is.assigned))
@@ -250,7 +248,7 @@ module _ (width : Width) (plan : CellPlan) (p : TrafficPlan) (t : Tuning) (traff
       (All-head Distinct f [] only)
 
   -- one frame is sent at each number
-  pub frame_there : 1 ≤ length (set_one p.frames) → (k : ℕ) →
+  pub frame_there : SendsSetOne p → (k : ℕ) →
       (f : TrafficFrame) × (cycled_frame (frames_of plan p) (4 * superframes + k) ≡ f ∷ [])
   frame_there some k =
       let frames = set_one p.frames in
@@ -345,7 +343,7 @@ module _ (width : Width) (plan : CellPlan) (p : TrafficPlan) (t : Tuning) (traff
           ∙ sym (one_each told (received_frames plan p mark_chip))
 
       -- and where all of them are distinct, what was sent
-      pub sent_heard : 1 ≤ length (set_one p.frames) → AreDistinct plan p mark_chip →
+      pub sent_heard : SendsSetOne p → AreDistinct plan p mark_chip →
           flat_map (frames_at t traffic m samples) (places (plan.link.samples + 1)) ≡
           frames_of_channel plan p mark_chip
       sent_heard some distinct =
@@ -366,7 +364,7 @@ each_frame_heard width plan p t traffic m superframes legs is undirected one =
     (lawful_traffic width plan p is.receivable.lawful is.sent).latest legs one undirected
 
 pub sent_frames_back : SentFramesComeBack
-sent_frames_back width plan p t traffic m superframes is undirected distinct =
+sent_frames_back width plan p t traffic m superframes is some undirected distinct =
     let lawful = lawful_traffic width plan p is.receivable.lawful is.sent in
     sent_heard width plan p t traffic m superframes is lawful.latest (first_legs traffic m)
-    (first_pilot traffic m) undirected is.assigned.some distinct
+    (first_pilot traffic m) undirected some distinct

@@ -1,5 +1,5 @@
 -- Where no message that is sent directs a handoff, none that is heard does.
-use Rattle.std.proofs.Common.{◌≡◌, ℕ, zero, suc, ◌+◌, ◌<◌, ◌≤◌, List, length, sym, arith, subst}
+use Rattle.std.proofs.Common.{◌≡◌, ℕ, zero, suc, ◌+◌, ◌<◌, ◌≤◌, List, sym, arith, subst}
 use Rattle.std.proofs.Common.{inl, inr}
 use Rattle.std.specs.Prelude.{All}
 use Rattle.std.proofs.lemmas.Bool.{cases_lt}
@@ -7,7 +7,6 @@ use Rattle.chip_core.specs.Bits.{places}
 use Rattle.chip_core.specs.declared.sample.Sample.{Sample}
 use Rattle.cdma_io.specs.declared.width.Width.{Width}
 use Rattle.base_modulator.specs.Sampled.{made_samples}
-use Rattle.base_modulator.specs.TrafficFrames.{set_one}
 use Rattle.base_modulator.specs.declared.plan.CellPlan.{CellPlan}
 use Rattle.base_modulator.specs.declared.plan.TrafficPlan.{TrafficPlan}
 use Rattle.mobile_core.specs.Moments.{messages_at}
@@ -17,7 +16,7 @@ use Rattle.mobile_core.specs.declared.legs.Leg.{Leg}
 use Rattle.mobile_core.specs.declared.mark.Mark.{Mark}
 use Rattle.mobile_core.specs.declared.settings.Traffic.{Traffic}
 use Rattle.clean_link.specs.CleanLink.{IsNotDirected}
-use Rattle.clean_link.specs.HeardFrames.{AreDistinct}
+use Rattle.clean_link.specs.HeardFrames.{AreDistinct, SendsSetOne}
 use Rattle.clean_link.specs.HeardSignals.{messages_of_channel}
 use Rattle.clean_link.specs.TrafficLaws.{HearsTraffic, NoneIsDirected}
 use Rattle.clean_link.proofs.signal.Samples.{length-made}
@@ -28,7 +27,7 @@ use Rattle.clean_link.proofs.traffic.Undirected.{first_legs, first_pilot, messag
 
 module _ (width : Width) (plan : CellPlan) (p : TrafficPlan) (t : Tuning) (traffic : Traffic)
     (m : Mark) (superframes : ℕ) (is : HearsTraffic width plan p t traffic m superframes)
-    (latest : p.offset ≤ 15) (some : 1 ≤ length (set_one p.frames))
+    (latest : p.offset ≤ 15) (some : SendsSetOne p)
     (distinct : AreDistinct plan p (plan.link.start + m.sample))
     (none : All IsNotDirected (messages_of_channel plan p (plan.link.start + m.sample))) where
   abbrev samples : List Sample
@@ -68,7 +67,7 @@ module _ (width : Width) (plan : CellPlan) (p : TrafficPlan) (t : Tuning) (traff
 -- ---- the law
 
 pub none_directed : NoneIsDirected
-none_directed width plan p t traffic m superframes is distinct none i most =
+none_directed width plan p t traffic m superframes is some distinct none i most =
     let lawful = lawful_traffic width plan p is.receivable.lawful is.sent in
-    none_before width plan p t traffic m superframes is lawful.latest is.assigned.some distinct none
+    none_before width plan p t traffic m superframes is lawful.latest some distinct none
     (plan.link.samples + 1) (omega arith) i (omega (arith, most))

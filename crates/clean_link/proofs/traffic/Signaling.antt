@@ -1,6 +1,6 @@
 -- The messages of a traffic channel come back: where each received frame is distinct, the signaling
 -- that is heard is what was sent, and so are the capsules that it spells.
-use Rattle.std.proofs.Common.{◌≡◌, ℕ, ◌+◌, ◌*◌, ◌≤◌, Bool, true, List, [], ◌∷◌, length}
+use Rattle.std.proofs.Common.{◌≡◌, ℕ, ◌+◌, ◌*◌, ◌≤◌, Bool, true, List, [], ◌∷◌}
 use Rattle.std.proofs.Common.{sym, ap, ◌∙◌, arith, Option}
 use Rattle.std.specs.List.{flat_map}
 use Rattle.std.specs.Option.{option_to_list}
@@ -11,7 +11,7 @@ use Rattle.chip_core.specs.declared.sample.Sample.{Sample}
 use Rattle.cdma_io.specs.declared.width.Width.{Width}
 use Rattle.base_modulator.specs.Sampled.{made_samples}
 use Rattle.base_modulator.specs.Signal.{frames_of}
-use Rattle.base_modulator.specs.TrafficFrames.{cycled_frame, set_one}
+use Rattle.base_modulator.specs.TrafficFrames.{cycled_frame}
 use Rattle.base_modulator.specs.declared.plan.CellPlan.{CellPlan}
 use Rattle.base_modulator.specs.declared.plan.TrafficPlan.{TrafficPlan}
 use Rattle.base_modulator.specs.declared.traffic_frame.TrafficFrame.{TrafficFrame}
@@ -28,7 +28,7 @@ use Rattle.mobile_core.specs.declared.mark.Mark.{Mark}
 use Rattle.mobile_core.specs.declared.settings.Traffic.{Traffic}
 use Rattle.chip_core.proofs.Ranges.{filter_ext_places, flat_map_ext_filter_places}
 use Rattle.chip_core.proofs.Ranges.{flat_map_ext_places}
-use Rattle.clean_link.specs.HeardFrames.{frame_ends, AreDistinct, IsOnePilot}
+use Rattle.clean_link.specs.HeardFrames.{frame_ends, AreDistinct, IsOnePilot, SendsSetOne}
 use Rattle.clean_link.specs.HeardSignals.{message_told, messages_of_channel, signal_sent}
 use Rattle.clean_link.specs.HeardSignals.{signals_in, signals_received}
 use Rattle.clean_link.specs.TrafficLaws.{HearsTraffic, IsHeardAs, IsUndirected}
@@ -50,7 +50,7 @@ of_one f xs x is = ap (flat_map f) is ∙ append-nil (f x)
 
 module _ (width : Width) (plan : CellPlan) (p : TrafficPlan) (t : Tuning) (traffic : Traffic)
     (m : Mark) (superframes : ℕ) (is : HearsTraffic width plan p t traffic m superframes)
-    (latest : p.offset ≤ 15) (some : 1 ≤ length (set_one p.frames))
+    (latest : p.offset ≤ 15) (some : SendsSetOne p)
     (distinct : AreDistinct plan p (plan.link.start + m.sample)) (legs : ℕ → List Leg)
     (one : (k : ℕ) → IsOnePilot traffic (legs k)) where
   abbrev samples : List Sample
@@ -172,7 +172,7 @@ module _ (width : Width) (plan : CellPlan) (p : TrafficPlan) (t : Tuning) (traff
 -- ---- the law
 
 pub sent_messages_back : SentMessagesComeBack
-sent_messages_back width plan p t traffic m superframes is undirected distinct =
+sent_messages_back width plan p t traffic m superframes is some undirected distinct =
     let lawful = lawful_traffic width plan p is.receivable.lawful is.sent in
-    messages_heard width plan p t traffic m superframes is lawful.latest is.assigned.some distinct
+    messages_heard width plan p t traffic m superframes is lawful.latest some distinct
     (first_legs traffic m) (first_pilot traffic m) undirected

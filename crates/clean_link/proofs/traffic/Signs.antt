@@ -1,5 +1,5 @@
 -- The soft values of the frames of a traffic channel have the signs that were sent.
-use Rattle.std.proofs.Common.{◌≡◌, ℕ, zero, suc, ◌+◌, ◌*◌, ◌%◌, ◌<◌, Bool, true, false, List, []}
+use Rattle.std.proofs.Common.{◌≡◌, ℕ, zero, suc, ◌+◌, ◌*◌, ◌%◌, Bool, true, false, List, []}
 use Rattle.std.proofs.Common.{◌∷◌, length, take, drop, refl, sym, ap, ◌∙◌, arith, subst, ℤ}
 use Rattle.std.proofs.Common.{replicate}
 use Rattle.std.specs.Prelude.{◌*ℤ◌}
@@ -19,6 +19,8 @@ use Rattle.rake_finger.specs.declared.finger.Finger.{Finger}
 use Rattle.rake_finger.specs.declared.form.Form.TheVariants.{Data}
 use Rattle.viterbi.specs.Laws.{signed}
 use Rattle.frame_decoder.specs.Laws.{ShowSymbols}
+use Rattle.rate_set_two.specs.TrafficFrames as second
+use Rattle.rate_set_two.proofs.Agreement.{length-sent2}
 use Rattle.base_modulator.specs.PageCycles as cycles
 use Rattle.base_modulator.specs.Plan.{IsLawfulPlan, IsTrafficPlan}
 use Rattle.base_modulator.specs.Sampled.{made_samples}
@@ -29,18 +31,21 @@ use Rattle.base_modulator.specs.declared.plan.TrafficPlan.{TrafficPlan}
 use Rattle.base_modulator.specs.declared.frame_list.FrameList.{FrameList}
 use Rattle.base_modulator.specs.declared.frame_list.FrameList.TheVariants.{SetOne, SetTwo}
 use Rattle.base_modulator.specs.declared.traffic_frame.TrafficFrame.{TrafficFrame}
+use Rattle.base_modulator.specs.declared.traffic_frame2.TrafficFrame2.{TrafficFrame2}
 use Rattle.mobile_core.specs.Scrambled.{turned, unscrambled}
-use Rattle.mobile_core.specs.Legs.{all_fingers}
 use Rattle.mobile_core.specs.Streams.{frame_softs, frame_start, is_in_file, Stream}
 use Rattle.mobile_core.specs.TrafficEvents.{unturned_softs}
 use Rattle.mobile_core.specs.TrafficStreams.{frame_state, replaced_in, stream_of}
-use Rattle.mobile_core.specs.Tuning.{Tuning}
+use Rattle.mobile_core.specs.TrafficStreams.{traffic_start, traffic_stream}
+use Rattle.mobile_core.specs.Tuning.{Tuning, fingers_of}
 use Rattle.mobile_core.specs.declared.legs.Leg.{Leg}
 use Rattle.mobile_core.specs.declared.mark.Mark.{Mark}
 use Rattle.mobile_core.specs.declared.settings.Traffic.{Traffic}
 use Rattle.clean_link.specs.CleanLink.{IsTrueMark, soft_strength}
-use Rattle.clean_link.specs.HeardFrames.{word_symbols, IsAssigned, ShowCommands}
+use Rattle.clean_link.specs.HeardFrames.{word_symbols, IsAssigned, SendsSymbols, ShowCommands}
+use Rattle.clean_link.specs.HeardFrames.{ShowFrame}
 use Rattle.clean_link.specs.Signals.{IsFrameOf, path_finger}
+use Rattle.clean_link.specs.ReceivedLaws.{SetOneSends, SetTwoSends}
 use Rattle.clean_link.specs.TrafficLaws.{HearsTraffic, IsHeardAs, TrafficHaveSentSigns}
 use Rattle.clean_link.proofs.signal.CarriersApart.{traffic_sent}
 use Rattle.clean_link.proofs.signal.ChannelsBack.{channel_signs, strength_some}
@@ -51,23 +56,18 @@ use Rattle.clean_link.proofs.frames.PagingFrames.{length-scrambling}
 use Rattle.clean_link.proofs.frames.SyncFrames.{fingers_are}
 use Rattle.clean_link.proofs.traffic.Times.{traffic_file_to}
 
--- the symbols of a frame
-pub length-word_symbols : (f : TrafficFrame) → length (word_symbols f) ≡ 384
-length-word_symbols f =
-    length-sent data_shape (repeats_of f.rate)
-    (code_symbols (replicate 8 false) (traffic_word f.rate f.information))
-
--- they are scrambled, and power control bits replace some
-symbols_are : (state mask : ℕ) (f : TrafficFrame) →
-    sends.traffic_symbols state mask f
-    ≡ with_commands state mask f.commands (zip_with xor (word_symbols f) (scrambling state mask))
-unfolding sends.traffic_symbols cycles.scrambled
-symbols_are state mask f = refl
+-- ---- what a frame sends
 
 -- nothing is taken from nothing
 none_taken : {X : Type 0} (n : ℕ) → ◌≡◌ {A = List X} (take 1 (drop n [])) []
 none_taken zero = refl
 none_taken (suc n) = refl
+
+-- and so is no frame
+none_cycled : {F : Type 0} (k : ℕ) (f : F) →
+    ◌≡◌ {A = List F} (sends.cycled [] k) (f ∷ []) → ⊥
+none_cycled {F} k f is =
+    let none : ◌≡◌ {A = List F} [] (f ∷ []) = sym (none_taken (k % 0)) ∙ is in absurd (cc none)
 
 -- frames one of which is of rate set 1
 of_set_one : (state mask k : ℕ) (frames : FrameList) (f : TrafficFrame) →
@@ -75,18 +75,46 @@ of_set_one : (state mask k : ℕ) (frames : FrameList) (f : TrafficFrame) →
     sends.symbols_from state mask k frames ≡ sends.traffic_symbols state mask f
 of_set_one state mask k (SetOne frames) f is =
     let made = sends.traffic_symbols state mask in ap (flat_map made) is ∙ append-nil (made f)
-of_set_one state mask k (SetTwo frames) f is =
-    let none : ◌≡◌ {A = List TrafficFrame} [] (f ∷ []) = sym (none_taken (k % 0)) ∙ is in
-    absurd (cc none)
+of_set_one state mask k (SetTwo frames) f is = absurd (none_cycled k f is)
 
--- the frame that is sent
-sent_symbols : (c : sends.FrameCycle) (frame : ℕ) (f : TrafficFrame) →
-    sends.cycled_frame c frame ≡ f ∷ [] →
-    sends.traffic_frame_symbols c frame
-    ≡ sends.traffic_symbols (sends.frame_state c frame) c.mask f
-unfolding sends.traffic_frame_symbols
-sent_symbols c frame f is =
-    of_set_one (sends.frame_state c frame) c.mask frame c.frames f is
+-- and of rate set 2
+of_set_two : (state mask k : ℕ) (frames : FrameList) (f : TrafficFrame2) →
+    sends.cycled (sends.set_two frames) k ≡ f ∷ [] →
+    sends.symbols_from state mask k frames ≡ sends.traffic_symbols2 state mask f
+of_set_two state mask k (SetOne frames) f is = absurd (none_cycled k f is)
+of_set_two state mask k (SetTwo frames) f is =
+    let made = sends.traffic_symbols2 state mask in ap (flat_map made) is ∙ append-nil (made f)
+
+pub set_one_sends : SetOneSends
+unfolding sends.traffic_frame_symbols sends.traffic_symbols
+set_one_sends plan p frame f is = record {
+  all =
+      length-sent data_shape (repeats_of f.rate)
+      (code_symbols (replicate 8 false) (traffic_word f.rate f.information));
+  given =
+      of_set_one (sends.frame_state (frames_of plan p) frame) (traffic_mask p.esn) frame p.frames f
+      is;
+}
+
+pub set_two_sends : SetTwoSends
+unfolding sends.traffic_frame_symbols sends.traffic_symbols2
+set_two_sends plan p frame f is = record {
+  all =
+      length-sent2 f.rate
+      (code_symbols (replicate 8 false) (second.word_bits f.rate f.information));
+  given =
+      of_set_two (sends.frame_state (frames_of plan p) frame) (traffic_mask p.esn) frame p.frames f
+      is;
+}
+
+-- symbols are scrambled, and power control bits replace some
+scrambled_are : (state mask : ℕ) (commands symbols : List Bool) →
+    sends.sent_with state mask commands symbols
+    ≡ with_commands state mask commands (zip_with xor symbols (scrambling state mask))
+unfolding cycles.scrambled
+scrambled_are state mask commands symbols = refl
+
+-- ---- how it is heard
 
 -- the mark tells the long code's state at a frame
 pub same_state : (plan : CellPlan) (p : TrafficPlan) (traffic : Traffic) (m : Mark)
@@ -105,9 +133,10 @@ lawful_traffic width plan p lawful has =
     All-contains IsTrafficPlan plan.traffic p lawful.traffic.are has
 
 module _ (width : Width) (plan : CellPlan) (p : TrafficPlan) (t : Tuning) (traffic : Traffic)
-    (m : Mark) (legs : ℕ → List Leg) (superframes k : ℕ) (f : TrafficFrame)
+    (m : Mark) (superframes k : ℕ) (symbols commands : List Bool)
     (is : HearsTraffic width plan p t traffic m superframes)
-    (heard : IsHeardAs plan p t traffic m legs superframes k f) where
+    (sent : SendsSymbols plan p (4 * superframes + k) symbols commands)
+    (here : is_in_file t.count (one_stream t traffic m) k ≡ true) where
   abbrev strength : ℕ
   strength = soft_strength plan Data p.gain
 
@@ -120,30 +149,21 @@ module _ (width : Width) (plan : CellPlan) (p : TrafficPlan) (t : Tuning) (traff
   abbrev u : ℕ
   u = frame_start (one_stream t traffic m) k
 
-  here : is_in_file t.count (one_stream t traffic m) k ≡ true
-  here =
-      ap (λ (s : Stream). is_in_file t.count s k)
-      (sym (one_stream_is t traffic m legs k heard.pilot))
-      ∙ heard.here
-
   -- what is sent
   abbrev given : List Bool
-  given =
-      with_commands state mask f.commands
-      (zip_with xor (word_symbols f) (scrambling state mask))
+  given = with_commands state mask commands (zip_with xor symbols (scrambling state mask))
 
   given_is : sends.traffic_frame_symbols (frames_of plan p) (4 * superframes + k) ≡ given
   given_is =
       let same = same_state plan p traffic m superframes k is.marked is.assigned in
-      sent_symbols (frames_of plan p) (4 * superframes + k) f heard.frame
-      ∙ ap (λ (s : ℕ). sends.traffic_symbols s (traffic_mask p.esn) f) (sym same)
-      ∙ ap (λ (e : ℕ). sends.traffic_symbols state (traffic_mask e) f) is.assigned.esn
-      ∙ symbols_are state mask f
+      sent.given
+      ∙ ap (λ (s : ℕ). sends.sent_with s (traffic_mask p.esn) commands symbols) (sym same)
+      ∙ ap (λ (e : ℕ). sends.sent_with state (traffic_mask e) commands symbols) is.assigned.esn
+      ∙ scrambled_are state mask commands symbols
 
-  long : length given ≡ 384
-  long =
-      length-with_commands state mask f.commands
-      (zip_with xor (word_symbols f) (scrambling state mask))
+  given_long : length given ≡ 384
+  given_long =
+      length-with_commands state mask commands (zip_with xor symbols (scrambling state mask))
 
   -- where
   is_frame : IsFrameOf plan (traffic_carrier plan p) Data u (4 * superframes + k)
@@ -158,60 +178,86 @@ module _ (width : Width) (plan : CellPlan) (p : TrafficPlan) (t : Tuning) (traff
     begins = omega (arith, is.marked.place, is.assigned.offset);
   }
 
-  finger : all_fingers t.phase t.deltas (legs k) ≡ path_finger plan p.row ∷ []
+  finger : fingers_of traffic.row t.phase t.deltas ≡ path_finger plan p.row ∷ []
   finger =
-      one_fingers traffic t.phase t.deltas (legs k) heard.pilot
-      ∙ fingers_are plan t traffic.row is.tuned
+      fingers_are plan t traffic.row is.tuned
       ∙ ap (λ (row : ℕ). path_finger plan row ∷ []) (sym is.assigned.row)
 
   -- the soft values as the finger hears them
-  pub unturned : unturned_softs t traffic m legs (made_samples plan) k ≡ signed strength given
-  unturned =
+  abbrev unturned : List ℤ
+  unturned = softs (made_samples plan) (fingers_of traffic.row t.phase t.deltas) Data u
+
+  unturned_are : unturned ≡ signed strength given
+  unturned_are =
       ap (λ (fs : List Finger). softs (made_samples plan) fs Data u) finger
       ∙ channel_signs width plan (traffic_carrier plan p) Data u (4 * superframes + k)
-      is.receivable (traffic_sent plan p is.sent) is_frame (ap length given_is ∙ long)
+      is.receivable (traffic_sent plan p is.sent) is_frame (ap length given_is ∙ given_long)
       ∙ ap (signed strength) given_is
 
   -- and turned by the scrambling
-  pub turned_are : frame_softs (made_samples plan) (stream_of t traffic m legs k) k
+  turned_are : frame_softs (made_samples plan) (one_stream t traffic m) k
       ≡ turned (scrambling state mask) (signed strength given)
   turned_are =
       let some = length-scrambling state mask in
-      ap (unscrambled (scrambling state mask)) unturned
+      ap (unscrambled (scrambling state mask)) unturned_are
       ∙ turned_some (scrambling state mask) (signed strength given) (omega (arith, some))
 
-  pub long_softs : length (frame_softs (made_samples plan) (stream_of t traffic m legs k) k) ≡ 384
-  long_softs =
-      let all : length (signed strength given) ≡ 384 = length-signed strength given ∙ long in
-      ap length turned_are
-      ∙ length-zipped (λ (b : Bool) (v : ℤ). sign b *ℤ v) (scrambling state mask)
+  long_turned : length (turned (scrambling state mask) (signed strength given)) ≡ 384
+  long_turned =
+      let all : length (signed strength given) ≡ 384 =
+      length-signed strength given ∙ given_long in
+      length-zipped (λ (b : Bool) (v : ℤ). sign b *ℤ v) (scrambling state mask)
       (signed strength given) (length-scrambling state mask ∙ sym all)
       ∙ all
 
   -- so they show what was sent
-  pub strong : 0 < strength
-  strong = strength_some width plan Data p.gain is.receivable
-      (lawful_traffic width plan p is.receivable.lawful is.sent).gain
+  pub frame_shown : ShowFrame (replaced_in traffic m k) strength symbols commands
+      (frame_softs (made_samples plan) (one_stream t traffic m) k) unturned
+  frame_shown = record {
+    strong = strength_some width plan Data p.gain is.receivable
+        (lawful_traffic width plan p is.receivable.lawful is.sent).gain;
+    long = ap length turned_are ∙ long_turned;
+    shows =
+        subst (ShowSymbols (replaced_in traffic m k) strength symbols) (sym turned_are)
+        (shows_symbols strength state mask commands symbols (scrambling state mask)
+        sent.all (length-scrambling state mask));
+    powered =
+        subst (ShowCommands (replaced_in traffic m k) strength commands) (sym unturned_are)
+        (shows_commands strength state mask commands
+        (zip_with xor symbols (scrambling state mask)));
+  }
 
-  pub symbols_shown : ShowSymbols (replaced_in traffic m k) strength (word_symbols f)
-      (frame_softs (made_samples plan) (stream_of t traffic m legs k) k)
-  symbols_shown =
-      subst (ShowSymbols (replaced_in traffic m k) strength (word_symbols f)) (sym turned_are)
-      (shows_symbols strength state mask f.commands (word_symbols f) (scrambling state mask)
-      (length-word_symbols f) (length-scrambling state mask))
+-- ---- of the reference's pilot among the active ones
 
-  pub commands_shown : ShowCommands (replaced_in traffic m k) strength f.commands
+module _ (width : Width) (plan : CellPlan) (p : TrafficPlan) (t : Tuning) (traffic : Traffic)
+    (m : Mark) (legs : ℕ → List Leg) (superframes k : ℕ) (f : TrafficFrame)
+    (is : HearsTraffic width plan p t traffic m superframes)
+    (heard : IsHeardAs plan p t traffic m legs superframes k f) where
+  here : is_in_file t.count (one_stream t traffic m) k ≡ true
+  here =
+      ap (λ (s : Stream). is_in_file t.count s k)
+      (sym (one_stream_is t traffic m legs k heard.pilot))
+      ∙ heard.here
+
+  abbrev Shown : List ℤ → List ℤ → Type 0
+  Shown turned unturned =
+      ShowFrame (replaced_in traffic m k) (soft_strength plan Data p.gain) (word_symbols f)
+      f.commands turned unturned
+
+  pub heard_shown : Shown (frame_softs (made_samples plan) (stream_of t traffic m legs k) k)
       (unturned_softs t traffic m legs (made_samples plan) k)
-  commands_shown =
-      subst (ShowCommands (replaced_in traffic m k) strength f.commands) (sym unturned)
-      (shows_commands strength state mask f.commands
-      (zip_with xor (word_symbols f) (scrambling state mask)))
+  heard_shown =
+      let samples = made_samples plan in
+      subst
+      (λ (fs : List Finger). Shown (frame_softs samples (traffic_stream traffic m fs) k)
+      (softs samples fs Data (traffic_start traffic m k)))
+      (sym (one_fingers traffic t.phase t.deltas (legs k) heard.pilot))
+      (frame_shown width plan p t traffic m superframes k (word_symbols f) f.commands is
+      (set_one_sends plan p (4 * superframes + k) f heard.frame) here)
 
 -- ---- the law
 
 pub traffic_signs : TrafficHaveSentSigns
-traffic_signs width plan p t traffic m legs superframes k f is heard = (
-  strong width plan p t traffic m legs superframes k f is heard,
-  symbols_shown width plan p t traffic m legs superframes k f is heard,
-  commands_shown width plan p t traffic m legs superframes k f is heard,
-)
+traffic_signs width plan p t traffic m legs superframes k f is heard =
+    let shown = heard_shown width plan p t traffic m legs superframes k f is heard in
+    (shown.strong, shown.shows, shown.powered)

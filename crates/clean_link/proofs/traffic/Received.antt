@@ -1,0 +1,257 @@
+-- The frames of a traffic channel, as they are received of the reference base station alone.
+use Rattle.std.proofs.Common.{◌≡◌, ℕ, ◌+◌, ◌-◌, ◌*◌, ◌%◌, ◌≤◌, ◌&&◌, Bool, true}
+use Rattle.std.proofs.Common.{List, [], ◌∷◌, length, map, filter, refl, sym, ap, ◌∙◌, arith, subst}
+use Rattle.std.proofs.Common.{nat_le, inl, inr, Option, Some}
+use Rattle.std.specs.List.{Contains}
+use Rattle.std.proofs.lemmas.Bool.{and_from, cases_Bool, cases_lt, le-leb}
+use Rattle.chip_core.specs.Bits.{places}
+use Rattle.chip_core.specs.declared.sample.Sample.{Sample}
+use Rattle.chip_core.proofs.Ranges.{filter_ext_places, flat_map_ext_filter_places}
+use Rattle.cdma_io.specs.declared.width.Width.{Width}
+use Rattle.long_code.specs.LongCode.{traffic_mask}
+use Rattle.rake_finger.specs.declared.form.Form.TheVariants.{Data}
+use Rattle.rate_set_two.proofs.SentFrames as second
+use Rattle.base_modulator.specs.Sampled.{made_samples}
+use Rattle.base_modulator.specs.Signal.{frames_of}
+use Rattle.base_modulator.specs.TrafficFrames.{frame_state, set_two, IsTrafficFrame2}
+use Rattle.base_modulator.specs.declared.plan.CellPlan.{CellPlan}
+use Rattle.base_modulator.specs.declared.plan.TrafficPlan.{TrafficPlan}
+use Rattle.base_modulator.specs.declared.traffic_frame2.TrafficFrame2.{TrafficFrame2}
+use Rattle.mobile_core.specs.FramesAlone.{traffic_channel}
+use Rattle.mobile_core.specs.Marks.{mark}
+use Rattle.mobile_core.specs.SoftFrames.{frames_within, soft_frame, soft_frames, unturned_at}
+use Rattle.mobile_core.specs.Streams.{is_in_file, known_at, known_by, Stream}
+use Rattle.mobile_core.specs.TrafficStreams as heard
+use Rattle.mobile_core.specs.TrafficStreams.{frames_bound, replaced_in}
+use Rattle.mobile_core.specs.Tuning.{Tuning}
+use Rattle.mobile_core.specs.declared.mark.Mark.{Mark}
+use Rattle.mobile_core.specs.declared.settings.Traffic.{Traffic}
+use Rattle.mobile_core.specs.declared.soft_frame.PowerControl.{PowerControl}
+use Rattle.mobile_core.specs.declared.soft_frame.SoftFrame.{SoftFrame}
+use Rattle.clean_link.specs.CleanLink.{soft_strength, IsOnPath, IsReceivable}
+use Rattle.clean_link.specs.HeardFrames.{is_received, received_frames, replaced_of, sent_bits}
+use Rattle.clean_link.specs.HeardFrames.{IsAssigned, SendsSetTwo, SendsSymbols, ShowFrame}
+use Rattle.clean_link.specs.ReceivedFrames.{cycled_frame2, word_symbols2}
+use Rattle.clean_link.specs.ReceivedFrames.{AreReceived, IsReceivedAs, IsSentFrame2}
+use Rattle.clean_link.specs.ReceivedLaws.{EachFrameIsReceived, FramesBehindMark}
+use Rattle.clean_link.specs.ReceivedLaws.{FramesShowSymbols, SetTwoBehindMark}
+use Rattle.clean_link.specs.ReceivedLaws.{SetTwoFramesComeBack}
+use Rattle.clean_link.specs.TrafficLaws.{HearsTraffic}
+use Rattle.clean_link.proofs.marks.MarksTrue.{marks_true}
+use Rattle.clean_link.proofs.signal.Samples.{length-made}
+use Rattle.clean_link.proofs.traffic.Back.{told_behind_mark}
+use Rattle.clean_link.proofs.traffic.Commands.{power_pairs, shown_commands}
+use Rattle.clean_link.proofs.traffic.Frames.{by_marks_frames, early, known_is, one_each, one_taken}
+use Rattle.clean_link.proofs.traffic.Frames.{one_there, received_is, same_places}
+use Rattle.clean_link.proofs.traffic.OnePilot.{one_stream}
+use Rattle.clean_link.proofs.traffic.Signs.{frame_shown, lawful_traffic, set_two_sends}
+use Rattle.clean_link.proofs.traffic.Times.{traffic_file_to, traffic_known_is}
+
+-- ---- behind a true mark
+
+module _ (width : Width) (plan : CellPlan) (p : TrafficPlan) (t : Tuning) (traffic : Traffic)
+    (m : Mark) (superframes : ℕ) (is : HearsTraffic width plan p t traffic m superframes) where
+  abbrev samples : List Sample
+  samples = made_samples plan
+
+  abbrev stream : Stream
+  stream = one_stream t traffic m
+
+  abbrev inside : ℕ → Bool
+  inside = is_in_file t.count stream
+
+  abbrev soft : ℕ → SoftFrame
+  soft = soft_frame t (traffic_channel traffic) m samples
+
+  latest : p.offset ≤ 15
+  latest = (lawful_traffic width plan p is.receivable.lawful is.sent).latest
+
+  -- a frame in the file ends within it
+  ends_inside : (k : ℕ) → (inside k && nat_le (known_at t.count stream k) t.count) ≡ inside k
+  ends_inside k =
+      let ends = nat_le (known_at t.count stream k) t.count in
+      elim (cases_Bool (inside k)) [
+        | inl there ↦
+            let known = traffic_known_is t traffic m is.tuned.alone k in
+            let room = traffic_file_to t traffic m is.tuned.alone k there in
+            and_from (inside k) ends there
+            (le-leb (known_at t.count stream k) t.count (omega (arith, known, room)))
+            ∙ sym there
+        | inr gone ↦ ap (λ (b : Bool). b && ends) gone ∙ sym gone
+      ]
+
+  -- so those that are received are those in the file
+  in_file : soft_frames t (traffic_channel traffic) m samples
+      ≡ map soft (filter inside (places (frames_bound t.count)))
+  unfolding frames_within
+  in_file =
+      let count : length samples ≡ t.count = length-made plan ∙ sym is.tuned.count in
+      ap (λ (n : ℕ). map soft (known_by t.count stream n (frames_bound n))) count
+      ∙ ap (map soft)
+      (filter_ext_places (λ k. inside k && nat_le (known_at t.count stream k) t.count) inside
+      (frames_bound t.count) (λ k below. ends_inside k))
+
+  -- by the channel's numbers
+  pub each_received : soft_frames t (traffic_channel traffic) m samples
+      ≡ map (λ frame. soft (frame - 4 * superframes))
+      (received_frames plan p (plan.link.start + m.sample))
+  each_received =
+      let behind : ℕ → SoftFrame = λ frame. soft (frame - 4 * superframes) in
+      in_file
+      ∙ one_each soft (filter inside (places (frames_bound t.count)))
+      ∙ flat_map_ext_filter_places inside (λ k. soft k ∷ [])
+      (λ k. behind (4 * superframes + k) ∷ []) (frames_bound t.count)
+      (λ k below there.
+      let same : k ≡ 4 * superframes + k - 4 * superframes = omega arith in
+      ap (λ (j : ℕ). soft j ∷ []) same)
+      ∙ sym (by_marks_frames width plan p t traffic m superframes is latest
+      (λ frame. behind frame ∷ []))
+      ∙ sym (one_each behind (received_frames plan p (plan.link.start + m.sample)))
+
+  -- what is received of one
+  received_at : (k : ℕ) (symbols commands : List Bool) → inside k ≡ true →
+      SendsSymbols plan p (4 * superframes + k) symbols commands →
+      IsReceivedAs plan p (4 * superframes + k) symbols commands (soft k)
+  received_at k symbols commands there sent =
+      let shown =
+      frame_shown width plan p t traffic m superframes k symbols commands is sent there in
+      let places = sym (same_places width plan p t traffic m superframes is latest k) in
+      let power : List ℕ → List Bool → Option PowerControl =
+      λ replaced bits. Some (record { replaced = replaced; commands = bits }) in
+      let strength = soft_strength plan Data p.gain in
+      record {
+        ends = known_is width plan p t traffic m superframes is latest k;
+        powered =
+            ap (power (replaced_in traffic m k))
+            (shown_commands strength (heard.frame_state traffic m k) (traffic_mask traffic.esn)
+            commands (unturned_at t (traffic_channel traffic) m samples k) shown.strong
+            shown.powered)
+            ∙ ap (λ (replaced : List ℕ). power replaced (sent_bits commands)) places;
+        shown = subst
+            (λ (replaced : List ℕ). ShowFrame replaced strength symbols commands (soft k).turned
+            (soft k).unturned) places shown;
+      }
+
+  pub received_as : (frame : ℕ) (symbols commands : List Bool) →
+      is_received plan p (plan.link.start + m.sample) frame ≡ true →
+      SendsSymbols plan p frame symbols commands →
+      IsReceivedAs plan p frame symbols commands (soft (frame - 4 * superframes))
+  received_as frame symbols commands received sent =
+      let k : ℕ = frame - 4 * superframes in
+      elim (cases_lt frame (4 * superframes)) [
+        | inl less ↦
+            let before = early width plan p t traffic m superframes is latest frame less in
+            absurd (cc)
+        | inr most ↦
+            let here : 4 * superframes + k ≡ frame = omega (arith, most) in
+            let there : inside k ≡ true =
+            sym (received_is width plan p t traffic m superframes is latest k)
+            ∙ ap (is_received plan p (plan.link.start + m.sample)) here ∙ received in
+            subst (λ (n : ℕ). IsReceivedAs plan p n symbols commands (soft k)) here
+            (received_at k symbols commands there
+            (subst (λ (n : ℕ). SendsSymbols plan p n symbols commands) (sym here) sent))
+      ]
+
+-- ---- frames of rate set 2
+
+pub set_two_back : SetTwoFramesComeBack
+set_two_back plan p frame f soft sized received =
+    let few = (power_pairs (frame_state (frames_of plan p) frame) (traffic_mask p.esn)).long in
+    let shown = received.shown in
+    record {
+      received = received;
+      decoded = λ distinct.
+          second.sent_frame (soft_strength plan Data p.gain) (replaced_of plan p frame) f.rate
+          f.information soft.turned shown.strong (omega (arith, few)) shown.long sized shown.shows
+          distinct;
+    }
+
+-- ---- in a file
+
+module _ (width : Width) (plan : CellPlan) (p : TrafficPlan) (t : Tuning) (traffic : Traffic)
+    (m : Mark) (is : IsReceivable width plan) (tuned : IsOnPath plan t)
+    (sent : Contains plan.traffic p) (assigned : IsAssigned p traffic)
+    (set : mark t (made_samples plan) (length (made_samples plan)) ≡ Some m) where
+  -- each shows what it sends
+  pub all_received : AreReceived plan p
+      (λ frame soft. (symbols commands : List Bool) → SendsSymbols plan p frame symbols commands →
+      IsReceivedAs plan p frame symbols commands soft)
+      (soft_frames t (traffic_channel traffic) m (made_samples plan))
+  all_received =
+      let count : length (made_samples plan) ≡ t.count = length-made plan ∙ sym tuned.count in
+      let last : mark t (made_samples plan) t.count ≡ Some m =
+      ap (mark t (made_samples plan)) (sym count) ∙ set in
+      let (superframes, true_mark) = marks_true width plan t t.count m is tuned last in
+      let hears : HearsTraffic width plan p t traffic m superframes = record {
+        receivable = is;
+        sent = sent;
+        assigned = assigned;
+        tuned = tuned;
+        marked = true_mark;
+      } in
+      let soft : ℕ → SoftFrame = λ frame.
+      soft_frame t (traffic_channel traffic) m (made_samples plan) (frame - 4 * superframes) in
+      let chip = true_mark.place in
+      record {
+        superframes = superframes;
+        told = told_behind_mark width plan t is tuned plan.sync m refl last superframes
+            true_mark.time;
+        soft = soft;
+        each = each_received width plan p t traffic m superframes hears
+            ∙ ap (λ (c : ℕ). map soft (received_frames plan p c)) chip;
+        are = λ frame received symbols commands sends.
+            received_as width plan p t traffic m superframes hears frame symbols commands
+            (ap (λ (c : ℕ). is_received plan p c frame) chip ∙ received) sends;
+      }
+
+  -- one of the frames of rate set 2 is sent at each number
+  frame2_there : SendsSetTwo p → (frame : ℕ) → (f : TrafficFrame2)
+      × (cycled_frame2 (frames_of plan p) frame ≡ f ∷ []) × IsTrafficFrame2 f
+  frame2_there some frame =
+      let frames = set_two p.frames in
+      let (f, here) = one_there frames (frame % length frames) (omega (arith, some)) in (
+        f,
+        here,
+        one_taken IsTrafficFrame2 frames (frame % length frames) f
+            (lawful_traffic width plan p is.lawful sent).sized.two here,
+      )
+
+  -- and comes back
+  pub set_two_received : SendsSetTwo p → AreReceived plan p
+      (λ frame soft. (f : TrafficFrame2) × (cycled_frame2 (frames_of plan p) frame ≡ f ∷ [])
+      × IsSentFrame2 plan p frame f soft)
+      (soft_frames t (traffic_channel traffic) m (made_samples plan))
+  set_two_received some =
+      let all = all_received in
+      record {
+        superframes = all.superframes;
+        told = all.told;
+        soft = all.soft;
+        each = all.each;
+        are = λ frame received.
+            let (f, here, sized) = frame2_there some frame in (
+              f,
+              here,
+              set_two_back plan p frame f (all.soft frame) sized
+                  (all.are frame received (word_symbols2 f) f.commands
+                  (set_two_sends plan p frame f here)),
+            );
+      }
+
+-- ---- the laws
+
+pub each_frame_received : EachFrameIsReceived
+each_frame_received width plan p t traffic m superframes is =
+    each_received width plan p t traffic m superframes is
+
+pub frames_show_symbols : FramesShowSymbols
+frames_show_symbols width plan p t traffic m superframes frame symbols commands is received sent =
+    received_as width plan p t traffic m superframes is frame symbols commands received sent
+
+pub frames_behind_mark : FramesBehindMark
+frames_behind_mark width plan p t traffic m is tuned sent assigned set =
+    all_received width plan p t traffic m is tuned sent assigned set
+
+pub set_two_behind_mark : SetTwoBehindMark
+set_two_behind_mark width plan p t traffic m is tuned sent assigned some set =
+    set_two_received width plan p t traffic m is tuned sent assigned set some

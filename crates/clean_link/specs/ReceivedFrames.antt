@@ -1,0 +1,78 @@
+-- The frames of a traffic channel of either rate set that a clean link gives back, each received of
+-- the reference base station alone (TIA/EIA-95-B, 7.1.3.5).
+use Rattle.std.specs.Prelude.{ℕ, ◌*◌, ◌≡◌, true, Bool, List, map, pos, Some}
+use Rattle.frame_decoder.specs.Laws.{kept_count}
+use Rattle.rake_finger.specs.declared.form.Form.TheVariants.{Data}
+use Rattle.rate_set_two.specs.Laws.{IsUnshared}
+use Rattle.rate_set_two.specs.TrafficFrames.{decoded2, frame_symbols, frame_word}
+use Rattle.rate_set_two.specs.declared.traffic.Decoded2.{Decoded2}
+use Rattle.base_modulator.specs.TrafficFrames.{cycled, set_two, FrameCycle}
+use Rattle.base_modulator.specs.declared.plan.CellPlan.{CellPlan}
+use Rattle.base_modulator.specs.declared.plan.TrafficPlan.{TrafficPlan}
+use Rattle.base_modulator.specs.declared.traffic_frame2.TrafficFrame2.{TrafficFrame2}
+use Rattle.mobile_core.specs.declared.soft_frame.SoftFrame.{SoftFrame}
+use Rattle.clean_link.specs.CleanLink.{soft_strength}
+use Rattle.clean_link.specs.HeardFrames.{frame_ends, is_received, received_frames, replaced_of}
+use Rattle.clean_link.specs.HeardFrames.{sent_bits, ShowFrame}
+use Rattle.clean_link.specs.SentEvents.{told_with_sync}
+
+-- ---- any frame
+
+-- What is received of frame `frame` of a channel, where it sends these symbols and these power
+-- control bits: it ends at its own end, its power control bits are the sent ones, and its soft
+-- values show what is sent.
+pub record IsReceivedAs (plan : CellPlan) (p : TrafficPlan) (frame : ℕ)
+    (symbols commands : List Bool) (soft : SoftFrame) : Type 0 where
+  pub ends : soft.end ≡ frame_ends plan p frame
+  pub powered : soft.power ≡ Some (record {
+    replaced = replaced_of plan p frame;
+    commands = sent_bits commands;
+  })
+  pub shown : ShowFrame (replaced_of plan p frame) (soft_strength plan Data p.gain) symbols commands
+      soft.turned soft.unturned
+
+-- ---- frames of rate set 2
+
+-- the one that is sent as frame k
+abbrev pub cycled_frame2 : FrameCycle → ℕ → List TrafficFrame2
+cycled_frame2 c k = cycled (set_two c.frames) k
+
+-- the 384 symbols of a frame before scrambling, in the order in which they are sent
+abbrev pub word_symbols2 : TrafficFrame2 → List Bool
+word_symbols2 f = frame_symbols f.rate (frame_word f.rate f.information)
+
+-- A frame whose symbols at the places that no power control bit replaces are those of no other
+-- word, at none of the four rates, whether that word's quality bits are right or not.
+abbrev pub IsDistinctFrame2 : List ℕ → TrafficFrame2 → Type 0
+IsDistinctFrame2 replaced f = IsUnshared replaced f.rate (frame_word f.rate f.information)
+
+-- what is decoded of a frame that comes back, which is sent as frame `frame`
+abbrev pub sent_decoded2 : CellPlan → TrafficPlan → ℕ → TrafficFrame2 → Decoded2
+sent_decoded2 plan p frame f = record {
+  rate = f.rate;
+  good = true;
+  bits = f.information;
+  score = pos (soft_strength plan Data p.gain * kept_count (replaced_of plan p frame));
+}
+
+-- What is received of frame `frame`, which is this one: where it is distinct, its rate and its
+-- information bits are decoded of it, as a good frame.
+pub record IsSentFrame2 (plan : CellPlan) (p : TrafficPlan) (frame : ℕ) (f : TrafficFrame2)
+    (soft : SoftFrame) : Type 0 where
+  pub received : IsReceivedAs plan p frame (word_symbols2 f) f.commands soft
+  pub decoded : IsDistinctFrame2 (replaced_of plan p frame) f →
+      decoded2 (replaced_of plan p frame) soft.turned ≡ sent_decoded2 plan p frame f
+
+-- ---- behind a mark
+
+-- Soft frames that are just a channel's frames that begin at the mark or behind it and lie in the
+-- file, in order, one for each of them, of which something is true; the first whole sending tells
+-- how many superframes the mark is behind local chip 0.
+pub record AreReceived (plan : CellPlan) (p : TrafficPlan) (Is : ℕ → SoftFrame → Type 0)
+    (frames : List SoftFrame) : Type 0 where
+  pub superframes : ℕ
+  pub told : told_with_sync plan plan.sync ≡ Some superframes
+  pub soft : ℕ → SoftFrame
+  pub each : frames ≡ map soft (received_frames plan p (98304 * superframes))
+  pub are : (frame : ℕ) → is_received plan p (98304 * superframes) frame ≡ true →
+      Is frame (soft frame)
