@@ -22,7 +22,8 @@ use Rattle.mobile_core.specs.declared.event.Event.TheVariants.{Pilot}
 use Rattle.cdma_words.specs.Words.{IsPaging}
 use Rattle.base_modulator.specs.Sampled.{made_samples}
 use Rattle.mobile_core.specs.Tuning.{Tuning}
-use Rattle.clean_link.specs.CleanLink.{IsCleanLink, IsNotDirected, IsReceivable, IsTunedTo}
+use Rattle.clean_link.specs.CleanLink.{IsCellFile, IsCleanLink, IsNotDirected, IsOnPath}
+use Rattle.clean_link.specs.CleanLink.{IsReceivable, IsTunedTo}
 use Rattle.clean_link.specs.CleanLink.{sync_sent}
 use Rattle.clean_link.specs.SentEvents.{FollowsSent, sent_events}
 use Rattle.clean_link.proofs.marks.MarksTrue.{marked_where_heard}
@@ -54,27 +55,34 @@ own_delta samples =
     one_delta samples (best_phase samples) (energy samples (best_phase samples))
     (best_phase-is samples)
 
--- a handset on a clean link is tuned to the cell
+-- a handset lies on the path of a cell whose file it hears
+pub on_path : (width : Width) (script : List ℕ) (plan : CellPlan) (span : ℕ) (receiver : Receiver)
+    (header : Header) (samples : List Sample) →
+    IsCellFile width script plan span receiver.fingers header samples →
+    length samples ≡ header.count → IsOnPath plan (tuning_for header (take span samples) receiver)
+on_path width script plan span receiver header samples file counted =
+    let first = take span samples in
+    record {
+      count = sym counted ∙ ap length file.sent ∙ length-made plan;
+      checks_of_30 = file.checks_of_30;
+      checks_of_16 = file.checks_of_16;
+      phase = file.found;
+      alone = ap (near_deltas first (best_phase first)) file.alone ∙ own_delta first;
+    }
+
+-- on a clean link it is tuned to the cell
 tuned : (width : Width) (script : List ℕ) (plan : CellPlan) (span : ℕ) (receiver : Receiver)
     (header : Header) (samples : List Sample) →
     IsCleanLink width script plan span receiver.fingers receiver.paging
     (option_map traffic_of receiver.traffic) header samples →
     length samples ≡ header.count → IsPaging receiver.paging →
     IsTunedTo plan (tuning_for header (take span samples) receiver)
-tuned width script plan span receiver header samples clean counted paging =
-    let first = take span samples in
-    record {
-      path = record {
-        count = sym counted ∙ ap length clean.file.sent ∙ length-made plan;
-        checks_of_30 = clean.file.checks_of_30;
-        checks_of_16 = clean.file.checks_of_16;
-        phase = clean.file.found;
-        alone = ap (near_deltas first (best_phase first)) clean.file.alone ∙ own_delta first;
-      };
-      first_channel = paging.0;
-      last_channel = paging.1;
-      free = clean.free;
-    }
+tuned width script plan span receiver header samples clean counted paging = record {
+  path = on_path width script plan span receiver header samples clean.file counted;
+  first_channel = paging.0;
+  last_channel = paging.1;
+  free = clean.free;
+}
 
 -- and hears no direction
 undirected : (width : Width) (script : List ℕ) (plan : CellPlan) (span : ℕ) (receiver : Receiver)

@@ -125,6 +125,13 @@ module _ (width : Width) (plan : CellPlan) (t : Tuning) (is : IsReceivable width
   told_behind_mark (Some sync) m sends set superframes time =
       told_so sync m sends set superframes time
 
+  -- where no mark is set none is told
+  pub untold : (channel : Option SyncPlan) → plan.sync ≡ channel →
+      mark t (made_samples plan) t.count ≡ None → told_with_sync plan channel ≡ None
+  untold None silent unset = refl
+  untold (Some sync) sends unset =
+      ap (told_by_first plan sync.message) (unset_without width plan sync t is sends tuned unset)
+
   -- the channel that is followed behind the mark that is set
   pub heard_behind_mark : (sync : SyncPlan) (traffic : Traffic) (m : Mark) →
       plan.sync ≡ Some sync → mark t (made_samples plan) t.count ≡ Some m →
