@@ -1,5 +1,8 @@
--- The line of a frame of the traffic channel.
+-- The lines of frames of traffic channels.
 use Rattle.std.specs.Prelude.{ℕ, ◌/◌, Bool, List, ◌++◌, codes, decimal}
+use Rattle.rate_set_two.specs.declared.rate.Rate2.{Rate2}
+use Rattle.rate_set_two.specs.declared.traffic.Decoded2.{Decoded2}
+use Rattle.rate_set_two.specs.Rates as set_two
 use Rattle.symbol_path.specs.SentOrder.{repeats_of}
 use Rattle.symbol_path.specs.declared.kinds.Rate.{Rate}
 use Rattle.line_text.specs.Texts.{bit_text, digit_of, digits_of}
@@ -8,9 +11,24 @@ use Rattle.line_text.specs.Texts.{bit_text, digit_of, digits_of}
 abbrev pub bits_in_a_second : Rate → ℕ
 bits_in_a_second rate = 9600 / repeats_of rate
 
--- `frame at=A rate=R good=B bits=BITS commands=CCCCCCCCCCCCCCCC` and LF
+-- the same for a rate of rate set 2
+abbrev pub bits_in_a_second2 : Rate2 → ℕ
+bits_in_a_second2 rate = 14400 / set_two.repeats_of rate
+
+-- ` rate=R good=B bits=BITS commands=CCCCCCCCCCCCCCCC` and LF, the end of a frame's line
+abbrev pub received_text : ℕ → Bool → List Bool → List Bool → List ℕ
+received_text rate good bits commands =
+    codes " rate=" ++ decimal rate ++ codes " good=" ++ digit_of good ++ codes " bits="
+    ++ bit_text bits ++ codes " commands=" ++ digits_of commands ++ codes "\n"
+
+-- the line of a frame that ends behind so many samples
 unfoldable pub frame_line : ℕ → Rate → Bool → List Bool → List Bool → List ℕ
 frame_line place rate good bits commands =
-    codes "frame at=" ++ decimal place ++ codes " rate=" ++ decimal (bits_in_a_second rate)
-    ++ codes " good=" ++ digit_of good ++ codes " bits=" ++ bit_text bits
-    ++ codes " commands=" ++ digits_of commands ++ codes "\n"
+    codes "frame at=" ++ decimal place
+    ++ received_text (bits_in_a_second rate) good bits commands
+
+-- the line of a frame of rate set 2, with its power control bits
+unfoldable pub frame2_line : ℕ → Decoded2 → List Bool → List ℕ
+frame2_line place frame commands =
+    codes "frame2 at=" ++ decimal place
+    ++ received_text (bits_in_a_second2 frame.rate) frame.good frame.bits commands

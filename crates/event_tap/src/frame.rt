@@ -1,11 +1,11 @@
-//! The line of a frame of the traffic channel.
+//! The lines of frames of traffic channels.
 
 ghost use Rattle.std.specs.Prelude.{◌≡◌, ◌≤◌, ◌+◌, [], ◌++◌, length};
-ghost use Rattle.event_tap.specs.FrameLines.{frame_line};
-ghost use Rattle.line_text.specs.Texts.{digit_of, digits_of};
+ghost use Rattle.event_tap.specs.FrameLines.{frame_line, frame2_line, received_text};
 
 use chip_core::Bits;
 use line_text::Text;
+use rate_set_two::Decoded2;
 use symbol_path::Rate;
 
 /// Adds the line of a frame to the empty text, LF at its end.
@@ -25,7 +25,37 @@ pub(crate) fn append_frame(
     ensures most { length text.new ≤ 1024 }
 {
     text.append_named("frame at=", at);
-    text.append_named(" rate=", rate.bits_per_second());
+    append_received(text, rate.bits_per_second(), good, bits, commands);
+}
+
+/// Adds the line of a frame of rate set 2 to the empty text, LF at its end.
+///
+/// `at` is the number of samples at which the frame ends.
+#[tactic(auto, unfolding(crate::specs::FrameLines::frame2_line))]
+pub(crate) fn append_frame2(text: &mut Text, at: u64, frame: &Decoded2, commands: &[bool; 16])
+    requires { text.old ≡ [] }
+    ensures value { text.new ≡ frame2_line at frame.now commands.now }
+    ensures most { length text.new ≤ 1024 }
+{
+    text.append_named("frame2 at=", at);
+    append_received(
+        text,
+        frame.rate.bits_per_second(),
+        frame.good,
+        &frame.bits,
+        commands,
+    );
+}
+
+/// Adds what was received of a frame, and the end of the line.
+///
+/// `rate` is in bits a second.
+fn append_received(text: &mut Text, rate: u16, good: bool, bits: &Bits, commands: &[bool; 16])
+    requires room { length text.old + 353 ≤ 1024 }
+    ensures value { text.new ≡ text.old ++ received_text rate good bits.now commands.now }
+    ensures len { length text.new ≤ length text.old + 353 }
+{
+    text.append_named(" rate=", rate);
     text.append_word(" good=");
     text.append_digit(good);
     text.append_word(" bits=");

@@ -1,10 +1,12 @@
 //! Whole lines of frames, as they stand in the table of lines, and who hears them.
 
-use crate::{FrameTap, MessageTap, PilotTap, RawTap, Tap, Taps, line_into};
+use crate::{FrameTap, MessageTap, PilotTap, RawTap, Tap, Taps, line_into, write_frame2};
 use cdma_io::MemorySink;
 use chip_core::Bits;
 use line_text::Text;
 use mobile_core::Event;
+use rate_set_two::{Decoded2, Rate2};
+use std::alloc::Global;
 use std::test::Fail;
 use symbol_path::Rate;
 
@@ -94,5 +96,72 @@ fn a_frame_tap_hears_frames_alone_up_to_its_limit(rt: HostRuntime) -> Result<(),
     taps.hear(&event, &mut sink)?;
     taps.hear(&event, &mut sink)?;
     assert_eq!(rt; sink.bytes(), QUARTER.as_bytes());
+    Ok(())
+}
+
+/// What is written of a frame of rate set 2, its power control bits 0 and 1 in turn.
+fn written(alloc: Global, at: u64, frame: Decoded2) -> Result<MemorySink, Fail> {
+    let mut commands = [false; 16];
+    for i in 0..8usize {
+        commands[2 * i + 1] = true;
+    }
+    let mut sink = MemorySink::new(alloc, 1024, 7, Vec::new(alloc))?;
+    write_frame2(at, &frame, &commands, &mut sink)?;
+    Ok(sink)
+}
+
+/// A frame of rate set 2 whose information bits are alike.
+fn frame2(rate: Rate2, good: bool, bit: bool) -> Decoded2 {
+    Decoded2 {
+        rate,
+        good,
+        bits: bits_of(rate.information_bits(), bit),
+        score: 0,
+    }
+}
+
+#[test]
+fn each_rate_of_rate_set_2_has_its_line(rt: HostRuntime) -> Result<(), Fail> {
+    let mut bits = Bits::empty();
+    for place in 0..22u8 {
+        let _ = bits.push(0x5a_5a58u32 >> (23 - place) & 1 == 1);
+    }
+    let sent = Decoded2 {
+        rate: Rate2::R1800,
+        good: true,
+        bits,
+        score: 1,
+    };
+    for (at, frame, line) in [
+        (
+            712_704,
+            sent,
+            "frame2 at=712704 rate=1800 good=1 bits=22:5a5a58 commands=0101010101010101\n",
+        ),
+        (
+            0,
+            frame2(Rate2::R3600, true, false),
+            "frame2 at=0 rate=3600 good=1 bits=56:00000000000000 commands=0101010101010101\n",
+        ),
+        (
+            1_228_800,
+            frame2(Rate2::R7200, true, true),
+            "frame2 at=1228800 rate=7200 good=1 bits=126:fffffffffffffffffffffffffffffffc \
+             commands=0101010101010101\n",
+        ),
+        (
+            u64::MAX,
+            frame2(Rate2::R14400, false, true),
+            "frame2 at=18446744073709551615 rate=14400 good=0 \
+             bits=268:fffffffffffffffffffffffffffffffffffffffffffffffffffffffffffffffffff0 \
+             commands=0101010101010101\n",
+        ),
+    ] {
+        assert_eq!(rt;
+            written(rt.alloc(), at, frame)?.bytes(),
+            line.as_bytes(),
+            "{line}"
+        );
+    }
     Ok(())
 }
