@@ -1,0 +1,4 @@
+pub mod FirstWords
+pub mod Candidates
+pub mod Choice
+pub mod SentFrames
