@@ -13,7 +13,11 @@ import unittest
 
 from tools.tests.helping import ROOT, sample_file
 
-WORDS = {"find": {"span"}, "survey": {"span", "base", "width", "top"}}
+WORDS = {
+    "find": {"span"},
+    "rate2": {"span", "fingers", "esn", "row", "offset"},
+    "survey": {"span", "base", "width", "top"},
+}
 FOLLOW = {"span", "fingers", "paging", "esn", "row", "offset", "pilots", "messages", "frames", "raw"}
 SAMPLES = [(1, -1), (300, 2), (-3, 77)]
 
@@ -46,7 +50,8 @@ class TheCases(unittest.TestCase):
         command, options = case.words[0], case.words[1::2]
         allowed = WORDS.get(command, FOLLOW if command == "follow" else set())
         self.assertLessEqual({option[2:] for option in options}, allowed)
-        self.assertTrue(case.text and all(len(line) < 1_024 for line in case.text))
+        self.assertTrue(case.text or case.status == 1)
+        self.assertTrue(all(len(line) < 1_024 for line in case.text))
         self.assertRegex(case.fields["sha256"], "^[0-9a-f]{64}$")
         self.assertIn((case.status, case.bits), {(0, 16), (0, 8), (1, 16)})
         for script in case.scripts:
@@ -65,6 +70,8 @@ class TheCases(unittest.TestCase):
             self.assertRegex(lines, rf"(?m)^traffic at=\d+ .* {kind} ")
         for rate in (9600, 4800, 2400, 1200):
             self.assertRegex(lines, rf"(?m)^frame at=\d+ rate={rate} good=1 ")
+        for rate in (14400, 7200, 3600, 1800):
+            self.assertRegex(lines, rf"(?m)^frame2 at=\d+ rate={rate} good=1 ")
         for text in ("page half", "page next", "prat=0", "prat=1", "prat=2", "prat=3", "checks=0", "checks=3"):
             self.assertIn(text, scripts)
         self.assertTrue(any(case.bits == 8 for case in cases) and any(case.noise for case in cases))
