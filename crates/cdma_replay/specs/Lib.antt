@@ -3,8 +3,12 @@ pub mod Find
 pub mod Hearing
 pub mod MadeLaws
 pub mod Make
+pub mod Marking
 pub mod Openings
 pub mod Ranks
 pub mod Replies
+pub mod SoundListener
 pub mod Status
 pub mod Trials
+pub mod TunedListening
+pub mod TunedTexts

@@ -20,6 +20,7 @@ pub mod laws;
 #[cfg(test)]
 mod link_tests;
 mod making;
+mod marking;
 #[cfg(test)]
 mod message_tests;
 mod opening;
@@ -45,6 +46,8 @@ mod traffic_tests;
 mod trial;
 #[cfg(test)]
 mod trial_tests;
+mod tuned;
+mod tuned_text;
 #[cfg(test)]
 mod worker_tests;
 mod workspace;
