@@ -3,8 +3,7 @@ use Rattle.std.proofs.Common.{◌≡◌, ℕ, ◌+◌, ◌*◌, ◌<◌, ◌≤�
 use Rattle.std.proofs.Common.{arith, append_assoc, length-append, Option, None, Some, IfSome, Ok, Err}
 use Rattle.std.proofs.lemmas.List.Concat.{flat_map-append}
 use Rattle.std.specs.List.{flat_map}
-use Rattle.std.specs.Io.KnownBytes.{Appends, Consumes}
-use Rattle.std.proofs.KnownBytes.{Appends-trans}
+use Rattle.std.specs.Io.KnownBytes.{Consumes}
 use Rattle.chip_core.specs.declared.sample.Sample.{Sample}
 use Rattle.cdma_io.specs.Outside.{ConsumesAtMost, ConsumesFewer}
 use Rattle.cdma_io.specs.declared.file_fault.FileFault.{FileFault}
@@ -17,17 +16,15 @@ use Rattle.cdma_io.specs.SampleFile.{CutsShort, IsLawfulHeader, Opens, Reading, 
 use Rattle.cdma_io.specs.SampleFile.{opening, sample_len, sample_spelling, width_of}
 use Rattle.cdma_io.proofs.Opening.{opening-spelled, length-header_spelling}
 use Rattle.cdma_io.proofs.Spelling.{length-samples, sample_len-mono}
-use Rattle.mobile_core.specs.Tuning.{Tuning}
-use Rattle.mobile_core.specs.declared.event.Event.{Event}
-use Rattle.mobile_core.specs.declared.mobile.Mobile.{Mobile}
 use Rattle.event_tap.specs.Taps.{KeptTap}
 use Rattle.cdma_replay.specs.Broken.{HasWritten, HearsFirst, IsLong, IsUnopened, TakesFew}
 use Rattle.cdma_replay.specs.Broken.{WritesAll, WritesFirst}
-use Rattle.cdma_replay.specs.Hearing.{HasGiven, Tells, events_in, receiver_of}
-use Rattle.cdma_replay.specs.Hearing.{tuning_of}
+use Rattle.cdma_replay.specs.Hearing.{Listening, Listens, Tells, listening}
+use Rattle.cdma_replay.specs.declared.listener.Listener.{Listener}
 use Rattle.cdma_replay.specs.Status.{file_status}
 use Rattle.cdma_replay.specs.declared.receiving.Reception.{Reception}
-use Rattle.cdma_replay.proofs.Lines.{HasBegun, later_taps, told_first, told_text}
+use Rattle.cdma_replay.proofs.Hearings.{more_behind}
+use Rattle.cdma_replay.proofs.Lines.{HasBegun, writes_whole}
 use Rattle.cdma_replay.proofs.Prefixes.{front_begins}
 
 -- ---- how many samples some bytes are
@@ -145,28 +142,23 @@ no_long_cut (Extra place) wanted from old new cut = absurd cut
 
 -- the first samples were read and told of, and those behind them so far as they were heard
 pub has_written : {taps : List KeptTap} {r : Reception} {header : Header} {samples : List Sample}
-    {one other : Option Mobile} {kept behind : List KeptTap} {counted : ℕ → Type 0} {most : ℕ}
+    {one other : Listener} {kept behind : List KeptTap} {counted : ℕ → Type 0} {most : ℕ}
     (bytes more : List ℕ) (left : Option (List ℕ)) {old between later new : Option (List ℕ)}
     (number : ℕ → Type 0) →
     HasBegun taps r header samples one kept (Some bytes) (Some more) old between →
-    ((t : Option Tuning) (first : List KeptTap) (heard : List Sample) (given : List Event) →
-    HasGiven t first one kept heard given →
-    Tells t first other behind given (heard ++ samples) between later) →
-    (heard : HearsFirst (tuning_of header samples (receiver_of r.purpose)) (later_taps taps samples)
-    (width_of header) counted most samples (Some more) left later new) →
+    ((l : Listening) (heard : List Sample) → Listens l one kept heard →
+    Tells l other behind heard (heard ++ samples) between later) →
+    (heard : HearsFirst (listening taps r.purpose header samples) (width_of header) counted most
+    samples (Some more) left later new) →
     number (length (samples ++ heard.samples)) →
     HasWritten taps r header bytes number old new
 has_written {taps} {r} {header} {samples} bytes more None number begun tells heard fits =
     absurd heard.consumed
-has_written {taps} {r} {header} {samples} bytes more (Some after) {old} {between} {later} {new} number
-    begun tells heard fits =
-    let t = tuning_of header samples (receiver_of r.purpose) in
-    let taps1 = later_taps taps samples in
-    let first = tells t taps1 [] [] begun.given in
+has_written {taps} {r} {header} {samples} bytes more (Some after) number begun tells heard fits =
+    let first = tells (listening taps r.purpose header samples) [] begun.listens in
     let front = header_spelling header in
     let spelled = flat_map (sample_spelling (width_of header)) in
     let others = heard.samples in
-    let line = told_first taps r samples in
     let behind = heard.more ++ after in
     record {
       samples = samples ++ others;
@@ -182,10 +174,7 @@ has_written {taps} {r} {header} {samples} bytes more (Some after) {old} {between
           ∙ ap (λ (bs : List ℕ). bs ++ behind)
           (sym (flat_map-append (sample_spelling (width_of header)) samples others)))
           ∙ sym (append_assoc front (spelled (samples ++ others)) behind));
-      written =
-          subst (Appends old new) (told_text header others heard.text begun first heard.all)
-          (Appends-trans old between new line (first.text ++ heard.text) begun.line
-          (Appends-trans between later new first.text heard.text first.written heard.written));
+      written = writes_whole others begun (more_behind first.more heard.tells);
     }
 
 -- the header that a lawful file opens with
@@ -202,33 +191,29 @@ same_header bytes more header also samples lawful is opened =
 
 -- where a file breaks off, or a read fails, fewer samples are missing than are read at once
 pub writes_first : {taps : List KeptTap} {r : Reception} {header : Header} {samples : List Sample}
-    {one other : Option Mobile} {kept behind : List KeptTap} {counted : ℕ → Type 0}
+    {one other : Listener} {kept behind : List KeptTap} {counted : ℕ → Type 0}
     (rest mid left old : Option (List ℕ)) {between later : Option (List ℕ)} (new : Option (List ℕ)) →
     IsLawfulHeader header →
     HasBegun taps r header samples one kept rest mid old between →
-    ((t : Option Tuning) (first : List KeptTap) (heard : List Sample) (given : List Event) →
-    HasGiven t first one kept heard given →
-    Tells t first other behind given (heard ++ samples) between later) →
-    ((t : Option Tuning) (first : List KeptTap) (heard : List Sample) →
-    HasGiven t first other behind heard (events_in t heard) →
-    HearsFirst t first (width_of header) counted (sample_len (width_of header) * 4096) heard mid left
-    later new) →
+    ((l : Listening) (heard : List Sample) → Listens l one kept heard →
+    Tells l other behind heard (heard ++ samples) between later) →
+    ((l : Listening) (heard : List Sample) → Listens l other behind heard →
+    HearsFirst l (width_of header) counted (sample_len (width_of header) * 4096) heard mid left later
+    new) →
     WritesFirst taps r rest left old new
 writes_first None mid left old new lawful begun tells hears = tt
 writes_first (Some bytes) None left old new lawful begun tells hears = absurd begun.consumed
 writes_first {taps} {r} {header} {samples} (Some bytes) (Some more) None old new lawful begun tells
     hears =
-    let t = tuning_of header samples (receiver_of r.purpose) in
-    let taps1 = later_taps taps samples in
-    absurd (hears t taps1 samples (tells t taps1 [] [] begun.given).stands).consumed
+    let l = listening taps r.purpose header samples in
+    absurd (hears l samples (tells l [] begun.listens).listens).consumed
 writes_first {taps} {r} {header} {samples} (Some bytes) (Some more) (Some after) old {between}
     {later} new lawful begun tells hears =
     λ (also : Header) (taken : List ℕ) (n : ℕ) (opened : opening bytes ≡ Ok also)
     (consumed : bytes ≡ taken ++ after)
     (long : 16 + sample_len (width_of also) * n ≤ length taken) (enough : r.span ≤ n) (some : 0 < n).
-    let t = tuning_of header samples (receiver_of r.purpose) in
-    let taps1 = later_taps taps samples in
-    let heard = hears t taps1 samples (tells t taps1 [] [] begun.given).stands in
+    let l = listening taps r.purpose header samples in
+    let heard = hears l samples (tells l [] begun.listens).listens in
     let width = width_of header in
     let spelled = flat_map (sample_spelling width) in
     let front = header_spelling header in
@@ -260,25 +245,22 @@ writes_first {taps} {r} {header} {samples} (Some bytes) (Some more) (Some after)
 
 -- where a file goes on behind its samples, all of them were told of
 pub writes_all : {taps : List KeptTap} {r : Reception} {header : Header} {samples : List Sample}
-    {count : ℕ} {one other : Option Mobile} {kept behind : List KeptTap} {most : ℕ}
+    {count : ℕ} {one other : Listener} {kept behind : List KeptTap} {most : ℕ}
     (rest mid left old : Option (List ℕ)) {between later : Option (List ℕ)} (new : Option (List ℕ)) →
     IsLawfulHeader header → count + r.span ≡ header.count →
     HasBegun taps r header samples one kept rest mid old between →
-    ((t : Option Tuning) (first : List KeptTap) (heard : List Sample) (given : List Event) →
-    HasGiven t first one kept heard given →
-    Tells t first other behind given (heard ++ samples) between later) →
-    ((t : Option Tuning) (first : List KeptTap) (heard : List Sample) →
-    HasGiven t first other behind heard (events_in t heard) →
-    HearsFirst t first (width_of header) (λ k. k ≡ count) most heard mid left later new) →
+    ((l : Listening) (heard : List Sample) → Listens l one kept heard →
+    Tells l other behind heard (heard ++ samples) between later) →
+    ((l : Listening) (heard : List Sample) → Listens l other behind heard →
+    HearsFirst l (width_of header) (λ k. k ≡ count) most heard mid left later new) →
     WritesAll taps r rest old new
 writes_all None mid left old new lawful counted begun tells hears = tt
 writes_all (Some bytes) None left old new lawful counted begun tells hears = absurd begun.consumed
 writes_all {taps} {r} {header} {samples} (Some bytes) (Some more) left old {between} {later} new
     lawful counted begun tells hears =
     λ (also : Header) (opened : opening bytes ≡ Ok also).
-    let t = tuning_of header samples (receiver_of r.purpose) in
-    let taps1 = later_taps taps samples in
-    let heard = hears t taps1 samples (tells t taps1 [] [] begun.given).stands in
+    let l = listening taps r.purpose header samples in
+    let heard = hears l samples (tells l [] begun.listens).listens in
     let same = same_header bytes more header also samples lawful begun.consumed opened in
     subst (λ (h : Header). HasWritten taps r h bytes (λ k. k ≡ h.count) old new) same
     (has_written bytes more left (λ (k : ℕ). k ≡ header.count) begun tells heard

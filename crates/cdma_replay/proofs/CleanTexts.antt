@@ -30,7 +30,7 @@ use Rattle.clean_link.proofs.marks.MarksTrue.{marked_where_heard}
 use Rattle.clean_link.proofs.messages.MessagesBack.{messages_back, tuned_is}
 use Rattle.clean_link.proofs.signal.Samples.{length-made}
 use Rattle.cdma_words.specs.declared.job.TrafficOptions.{TrafficOptions}
-use Rattle.cdma_replay.specs.Hearing.{best_pilot, clean_end, clean_events, end_when, events_in}
+use Rattle.cdma_replay.specs.Hearing.{best_pilot, clean_end, clean_events, end_when, told}
 use Rattle.cdma_replay.specs.Hearing.{file_end_of, file_text, traffic_of, tuning_for}
 use Rattle.cdma_replay.specs.Replies.{AnswersBehind, IsFileReply, IsWholeFile, Reply, following}
 use Rattle.cdma_replay.specs.declared.handset.Receiver.{Receiver}
@@ -169,7 +169,7 @@ clean_text-is : (taps : List KeptTap) (width : Width) (script : List ℕ) (plan 
     IsPaging paging →
     file_text taps (following span workers fingers paging traffic) header samples ≡
     run_text taps (clean_events span plan paging traffic)
-unfolding file_text run_text events_in
+unfolding file_text run_text told
 clean_text-is taps width script plan span workers fingers paging traffic header samples clean follows
     counted one =
     ap (run_text taps)

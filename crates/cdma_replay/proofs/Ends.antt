@@ -1,5 +1,5 @@
--- Lemmas on runs that find no memory, and on runs without a handset.
-use Rattle.std.proofs.Common.{◌≡◌, ℕ, ◌≤◌, ◌++◌, List, length, sym, ap, ◌∙◌, true, Option}
+-- Lemmas on runs that find no memory, and on runs over a file that nobody hears.
+use Rattle.std.proofs.Common.{◌≡◌, ℕ, ◌≤◌, ◌++◌, List, length, refl, sym, ap, ◌∙◌, true, Option}
 use Rattle.std.proofs.Common.{None, Some, IfSome, Result, IsErrAnd}
 use Rattle.std.specs.Prelude.{Bool}
 use Rattle.std.specs.List.{flat_map}
@@ -10,12 +10,14 @@ use Rattle.cdma_io.specs.declared.file_fault.FileFault.TheVariants.{Magic, Versi
 use Rattle.cdma_io.specs.declared.file_fault.FileFault.TheVariants.{Short, Extra, ReadFault, TooFew}
 use Rattle.cdma_io.specs.declared.header.Header.{Header}
 use Rattle.cdma_io.specs.SampleFile.{IsLawfulHeader, header_spelling, sample_spelling, width_of}
-use Rattle.mobile_core.specs.Tuning.{Tuning}
+use Rattle.event_tap.specs.Taps.{KeptTap}
 use Rattle.cdma_replay.specs.declared.status.Status.{Status}
 use Rattle.cdma_replay.specs.declared.status.Status.TheVariants.{NoMemory, NoSync, WriteFault}
 use Rattle.cdma_replay.specs.Status.{file_status}
 use Rattle.cdma_replay.specs.Find.{BeginsFile, ended}
-use Rattle.cdma_replay.specs.Hearing.{end_when, is_told}
+use Rattle.cdma_replay.specs.Hearing.{IsUnheard, end_when, is_told, listening}
+use Rattle.cdma_replay.specs.declared.purpose.Purpose.{Purpose}
+use Rattle.cdma_replay.specs.declared.purpose.Purpose.TheVariants.{Find, Follow, Survey}
 use Rattle.cdma_replay.proofs.Files.{ended_by}
 use Rattle.cdma_replay.proofs.Prefixes.{front_begins}
 
@@ -70,11 +72,19 @@ begins_file (Some bytes) (Some behind) header samples lawful counted enough cons
       consumed;
 }
 
--- without a handset a run over a good file is done
-pub ends_well : {T : Type 0} (t : Option Tuning) (told : Bool) (r : Result T Status)
-    (heard : List Sample) → t ≡ None → ended r ≡ end_when told → told ≡ is_told t heard →
+-- a run over a good file that nobody hears is done
+unheard_told : (taps : List KeptTap) (purpose : Purpose) (header : Header)
+    (first heard : List Sample) → IsUnheard purpose →
+    is_told (listening taps purpose header first) heard ≡ true
+unheard_told taps Find header first heard unheard = refl
+unheard_told taps (Follow receiver) header first heard unheard = absurd unheard
+unheard_told taps (Survey base width top) header first heard unheard = refl
+
+pub ends_well : {T : Type 0} (taps : List KeptTap) (purpose : Purpose) (header : Header)
+    (first heard : List Sample) (told : Bool) (r : Result T Status) → IsUnheard purpose →
+    ended r ≡ end_when told → told ≡ is_told (listening taps purpose header first) heard →
     ¬ (ended r ≡ NoSync)
-ends_well t told r heard none ends is unheard =
-    let well : is_told t heard ≡ true = ap (λ (u : Option Tuning). is_told u heard) none in
+ends_well taps purpose header first heard told r unheard ends is never =
+    let well = unheard_told taps purpose header first heard unheard in
     let done : ended r ≡ end_when true = ends ∙ ap end_when (is ∙ well) in
     cc

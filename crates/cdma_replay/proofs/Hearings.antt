@@ -1,7 +1,7 @@
 -- Lemmas on a handset whose events are told to a sink.
 use Rattle.std.proofs.Common.{◌≡◌, ℕ, zero, suc, ◌+◌, ◌-◌, ◌≤◌, ◌++◌, ◌∷◌, [], List, length, take}
 use Rattle.std.proofs.Common.{drop, refl, sym, ap, ◌∙◌, subst, arith, append_assoc, append-nil}
-use Rattle.std.proofs.Common.{length-append, Bool, is_some, ℤ, pos, replicate, Option, None, Some}
+use Rattle.std.proofs.Common.{length-append, true, ℤ, pos, replicate, Option, None}
 use Rattle.std.proofs.Common.{Result, Ok, Err, OnErr, OnOk, option_map}
 use Rattle.std.proofs.lemmas.List.{length-replicate, take_all, take_at, take-append-drop}
 use Rattle.std.proofs.lemmas.List.Concat.{flat_map-append}
@@ -10,8 +10,8 @@ use Rattle.std.specs.Io.{StartsWith}
 use Rattle.std.specs.Io.KnownBytes.{Appends}
 use Rattle.std.proofs.KnownBytes.{Appends-nil, Appends-trans}
 use Rattle.chip_core.specs.Bits.{places}
-use Rattle.chip_core.proofs.Places.{places-more}
-use Rattle.chip_core.proofs.Ranges.{flat_map_ext_places}
+use Rattle.chip_core.proofs.Places.{places-more, places-none}
+use Rattle.chip_core.proofs.Ranges.{flat_map-places-more, flat_map_ext_places}
 use Rattle.chip_core.specs.declared.sample.Sample.{Sample}
 use Rattle.cdma_io.specs.Outside.{AppendsPrefix}
 use Rattle.mobile_core.specs.Events.{events, events_at, events_within}
@@ -32,7 +32,12 @@ use Rattle.cdma_replay.specs.declared.status.Status.TheVariants.{ReadFault, Writ
 use Rattle.cdma_replay.specs.declared.status.Status.TheVariants.{BadScript}
 use Rattle.cdma_replay.specs.Find.{IsEnd, IsFault}
 use Rattle.mobile_core.specs.Marks.{mark}
-use Rattle.mobile_core.proofs.EventsGrown.{events_sooner}
+use Rattle.mobile_core.specs.SyncEvents.{sync_events_at}
+use Rattle.mobile_core.proofs.EventsGrown.{events_at_by, events_sooner}
+use Rattle.mobile_core.proofs.FrameTimes.{known_between}
+use Rattle.mobile_core.proofs.FramesFollowed.{told_unset}
+use Rattle.mobile_core.proofs.Growth.{KnownFrom, left_all, left_none}
+use Rattle.mobile_core.proofs.MarkGrowth.{mark_before_none, mark_is}
 use Rattle.cdma_io.specs.declared.header.Header.{Header}
 use Rattle.pilot_search.specs.BestIn.{IsBestIn}
 use Rattle.pilot_search.specs.Near.{near_deltas}
@@ -42,10 +47,13 @@ use Rattle.pilot_search.specs.declared.sweeping.Best.{Best}
 use Rattle.pilot_search.proofs.BestPhase.{best_phase-only}
 use Rattle.mobile_core.specs.declared.settings.Settings.{Settings}
 use Rattle.mobile_core.specs.Tuning.{tuning_by}
-use Rattle.cdma_replay.proofs.Prefixes.{begins_more, prefix_before, prefix_behind, taken_begins}
-use Rattle.cdma_replay.specs.Hearing.{AreNearTo, AreReady, tuning_for, tuning_of, HasGiven}
-use Rattle.cdma_replay.specs.Hearing.{HasHeard, HasTold, HasRoom, HasRoomFor, Tells, TellsPart}
-use Rattle.cdma_replay.specs.Hearing.{events_in, is_told, traffic_of}
+use Rattle.cdma_replay.proofs.Prefixes.{begins_more, front_begins, prefix_before, prefix_behind}
+use Rattle.cdma_replay.proofs.Prefixes.{taken_begins}
+use Rattle.cdma_replay.specs.Hearing.{AreNearTo, AreReady, ByTaps, HasRoom, HasRoomFor, HasTold}
+use Rattle.cdma_replay.specs.Hearing.{Listening, Listens, Nobody, Tells, TellsMore, TellsPart}
+use Rattle.cdma_replay.specs.Hearing.{is_told, told, traffic_of, tuning_for}
+use Rattle.cdma_replay.specs.declared.listener.Listener.{Listener}
+use Rattle.cdma_replay.specs.declared.listener.Listener.TheVariants as by
 
 -- ---- samples that follow one another
 
@@ -130,18 +138,18 @@ told_more t taps one other kept behind given heard samples taken n event old mid
 
 -- no event is left
 pub told_all : (t : Tuning) (taps : List KeptTap) (one other : Mobile) (kept : List KeptTap)
-    (given : List Event) (heard samples : List Sample)
-    (taken n : ℕ) (old new : Option (List ℕ)) →
-    HasTold t taps one kept given (heard ++ take taken samples) old new →
+    (heard samples : List Sample) (taken n : ℕ) (old new : Option (List ℕ)) →
+    HasTold t taps one kept (events t heard) (heard ++ take taken samples) old new →
     n ≡ length (drop taken samples) →
     ((before : List Event) → StandsFor t one (heard ++ take taken samples) before →
     StandsFor t other ((heard ++ take taken samples) ++ take n (drop taken samples))
     (before ++ [])) →
     ((before : List Event) → StandsFor t one (heard ++ take taken samples) before →
     before ≡ events t ((heard ++ take taken samples) ++ drop taken samples)) →
-    Tells (Some t) taps (Some other) kept given (heard ++ samples) old new
-unfolding events_in
-told_all t taps one other kept given heard samples taken n old new so_far all stepped last =
+    Tells (ByTaps t taps) (by.Handset other) kept heard (heard ++ samples) old new
+unfolding told
+told_all t taps one other kept heard samples taken n old new so_far all stepped last =
+    let given = events t heard in
     let more = so_far.more in
     let joined : (heard ++ take taken samples) ++ drop taken samples ≡ heard ++ samples =
     append_assoc heard (take taken samples) (drop taken samples) ∙
@@ -151,18 +159,19 @@ told_all t taps one other kept given heard samples taken n old new so_far all st
     let given_all : given ++ more ≡ events t (heard ++ samples) =
     last (given ++ more) so_far.stands ∙ ap (events t) joined in
     record {
-      text = run_text (run_taps taps given) more;
-      written = so_far.written;
-      all = sym (run_text-append taps given more) ∙ ap (run_text taps) given_all;
-      stands = record {
-        stands =
-            subst (λ (es : List Event). StandsFor t other (heard ++ samples) es)
+      more = record {
+        text = run_text (run_taps taps given) more;
+        written = so_far.written;
+        all = sym (run_text-append taps given more) ∙ ap (run_text taps) given_all;
+      };
+      listens = (
+        subst (λ (es : List Event). StandsFor t other (heard ++ samples) es)
             (append-nil (given ++ more) ∙ given_all)
             (subst (λ (xs : List Sample). StandsFor t other xs ((given ++ more) ++ []))
             (ap (λ (xs : List Sample). (heard ++ take taken samples) ++ xs) whole ∙ joined)
-            (stepped (given ++ more) so_far.stands));
-        behind = so_far.behind ∙ ap (run_taps taps) given_all;
-      };
+            (stepped (given ++ more) so_far.stands)),
+        so_far.behind ∙ ap (run_taps taps) given_all,
+      );
     }
 
 -- ---- what is heard in the first samples stays so
@@ -211,16 +220,16 @@ text_begins taps given more event others =
 
 -- a write failed in the middle of an event's text
 pub told_part : (t : Tuning) (taps : List KeptTap) (one other : Mobile) (kept : List KeptTap)
-    (given : List Event) (heard samples : List Sample)
-    (taken n : ℕ) (event : Event) (old mid new : Option (List ℕ)) →
-    HasTold t taps one kept given (heard ++ take taken samples) old mid →
+    (heard samples : List Sample) (taken n : ℕ) (event : Event) (old mid new : Option (List ℕ)) →
+    HasTold t taps one kept (events t heard) (heard ++ take taken samples) old mid →
     ((before : List Event) → StandsFor t one (heard ++ take taken samples) before →
     StandsFor t other ((heard ++ take taken samples) ++ take n (drop taken samples))
     (before ++ event ∷ [])) →
     AppendsPrefix mid new (heard_text kept event) →
-    TellsPart (Some t) taps given (heard ++ samples) old new
-unfolding events_in
-told_part t taps one other kept given heard samples taken n event old mid new so_far stepped part =
+    TellsPart (ByTaps t taps) heard (heard ++ samples) old new
+unfolding told
+told_part t taps one other kept heard samples taken n event old mid new so_far stepped part =
+    let given = events t heard in
     let more = so_far.more in
     let line = heard_text kept event in
     let now = heard ++ take (taken + n) samples in
@@ -260,54 +269,110 @@ told_part t taps one other kept given heard samples taken n event old mid new so
           (taken_begins all cut.count cut.fits));
     }
 
--- ---- without a handset, and with one
+-- before any sample is taken nothing is heard
+events_none : (t : Tuning) (low : ℕ) → IsTimed t.count (sync_stream t) low → events t [] ≡ []
+unfolding events_within
+events_none t low timed =
+    let s = sync_stream t in
+    let later : KnownFrom t 0 1 =
+    λ (k : ℕ) above inside.
+    let early = timed.early k in
+    let least = (known_between s timed k inside).low in
+    let some = timed.some in
+    omega (arith, early, least, some) in
+    let unmarked : mark t [] 0 ≡ None =
+    mark_is t timed [] 0 0 (λ k less. absurd (omega (arith, less))) later
+    ∙ mark_before_none t [] 0 (λ k less. absurd (omega (arith, less))) in
+    let silent : sync_events_at t [] 0 ≡ [] =
+    sym (left_all t low timed [] 0 (λ k less. absurd (omega (arith, less))))
+    ∙ left_none t low timed [] 0 later in
+    flat_map-places-more (events_at t []) 0
+    ∙ ap (λ (ks : List ℕ). flat_map (events_at t []) ks ++ events_at t [] 0) places-none
+    ∙ events_at_by t [] 0 None unmarked
+    ∙ ap (λ (es : List Event). sync_events_at t [] 0 ++ es) (told_unset t t.traffic [] 0)
+    ∙ append-nil (sync_events_at t [] 0) ∙ silent
 
-pub hears_none : (t : Option Tuning) (taps kept : List KeptTap) (given : List Event)
-    (heard samples : List Sample) (old : Option (List ℕ)) →
-    HasGiven t taps None kept heard given →
-    Tells t taps None kept given (heard ++ samples) old old
-unfolding events_in
-hears_none None taps kept given heard samples old none =
-    record {
-      text = [];
-      written = Appends-nil old;
-      all = append-nil (run_text taps given) ∙ ap (run_text taps) none.stands;
-      stands = record { stands = refl; behind = tt };
-    }
-hears_none (Some t) taps kept given heard samples old none = absurd none.stands
+-- ---- what is told of more samples
 
-pub hears_some : (t : Option Tuning) (taps : List KeptTap) (one other : Mobile)
-    (kept behind : List KeptTap) (given : List Event)
-    (heard samples : List Sample) (old new : Option (List ℕ)) →
-    HasGiven t taps (Some one) kept heard given →
-    ((t : Tuning) (taps : List KeptTap) (heard : List Sample) (given : List Event) →
-    StandsFor t one heard given → kept ≡ run_taps taps given →
-    Tells (Some t) taps (Some other) behind given (heard ++ samples) old new) →
-    Tells t taps (Some other) behind given (heard ++ samples) old new
-hears_some None taps one other kept behind given heard samples old new some tells =
-    absurd some.stands
-hears_some (Some t) taps one other kept behind given heard samples old new some tells =
-    tells t taps heard given some.stands some.behind
+pub more_none : (l : Listening) (heard : List Sample) (old : Option (List ℕ)) →
+    TellsMore l heard heard old old
+more_none l heard old =
+    record { text = []; written = Appends-nil old; all = append-nil (told l heard) }
 
--- the same where a write failed
-pub hears_cut : (t : Option Tuning) (taps : List KeptTap) (one : Mobile) (kept : List KeptTap)
-    (given : List Event) (heard samples : List Sample) (old new : Option (List ℕ)) →
-    HasGiven t taps (Some one) kept heard given →
-    ((t : Tuning) (taps : List KeptTap) (heard : List Sample) (given : List Event) →
-    StandsFor t one heard given → kept ≡ run_taps taps given →
-    TellsPart (Some t) taps given (heard ++ samples) old new) →
-    TellsPart t taps given (heard ++ samples) old new
-hears_cut None taps one kept given heard samples old new some tells = absurd some.stands
-hears_cut (Some t) taps one kept given heard samples old new some tells =
-    tells t taps heard given some.stands some.behind
+pub more_behind : {l : Listening} {before between heard : List Sample}
+    {old mid new : Option (List ℕ)} → TellsMore l before between old mid →
+    TellsMore l between heard mid new → TellsMore l before heard old new
+more_behind {l} {before} {between} {heard} {old} {mid} {new} first next = record {
+  text = first.text ++ next.text;
+  written = Appends-trans old mid new first.text next.text first.written next.written;
+  all = sym (append_assoc (told l before) first.text next.text)
+      ∙ ap (λ (xs : List ℕ). xs ++ next.text) first.all ∙ next.all;
+}
 
-pub is_told_some : (t : Option Tuning) (mobile : Mobile) (heard : List Sample) (told : Bool) →
-    HasHeard t (Some mobile) heard (events_in t heard) →
-    ((t : Tuning) (heard : List Sample) → StandsFor t mobile heard (events t heard) →
-    told ≡ is_some (mark t heard (length heard))) → told ≡ is_told t heard
-unfolding events_in
-is_told_some None mobile heard told given marked = absurd given
-is_told_some (Some t) mobile heard told given marked = marked t heard given
+pub part_behind : {l : Listening} {before between heard : List Sample}
+    {old mid new : Option (List ℕ)} → TellsMore l before between old mid →
+    TellsPart l between heard mid new → TellsPart l before heard old new
+part_behind {l} {before} {between} {heard} {old} {mid} {new} first next = record {
+  text = first.text ++ next.text;
+  written = Appends-trans old mid new first.text next.text first.written next.written;
+  begins =
+      subst (StartsWith (told l heard))
+      (ap (λ (xs : List ℕ). xs ++ next.text) (sym first.all)
+      ∙ append_assoc (told l before) first.text next.text) next.begins;
+}
+
+pub all_part : {l : Listening} {before heard : List Sample} {old new : Option (List ℕ)} →
+    TellsMore l before heard old new → TellsPart l before heard old new
+all_part {l} {before} {heard} more = record {
+  text = more.text;
+  written = more.written;
+  begins = front_begins (told l heard) (told l before ++ more.text) []
+      (sym more.all ∙ sym (append-nil (told l before ++ more.text)));
+}
+
+-- ---- nobody, and a handset
+
+pub hears_nobody : (l : Listening) (kept : List KeptTap) (heard samples : List Sample)
+    (old : Option (List ℕ)) → Listens l by.Nobody kept heard →
+    Tells l by.Nobody kept heard (heard ++ samples) old old
+unfolding told
+hears_nobody Nobody kept heard samples old listens = record {
+  more = record { text = []; written = Appends-nil old; all = refl };
+  listens = tt;
+}
+hears_nobody (ByTaps t taps) kept heard samples old listens = absurd listens
+
+pub nobody_told : (l : Listening) (kept : List KeptTap) (heard : List Sample) →
+    Listens l by.Nobody kept heard → true ≡ is_told l heard
+nobody_told Nobody kept heard listens = refl
+nobody_told (ByTaps t taps) kept heard listens = absurd listens
+
+-- what holds where taps hear a handset
+pub on_handset : (P : Listening → Type 0) (l : Listening) (mobile : Mobile) (kept : List KeptTap)
+    (heard : List Sample) → Listens l (by.Handset mobile) kept heard →
+    ((t : Tuning) (taps : List KeptTap) → StandsFor t mobile heard (events t heard) →
+    kept ≡ run_taps taps (events t heard) → P (ByTaps t taps)) → P l
+on_handset P Nobody mobile kept heard listens holds = absurd listens
+on_handset P (ByTaps t taps) mobile kept heard listens holds = holds t taps listens.0 listens.1
+
+-- a handset that has taken nothing
+pub listens_new : (t : Tuning) (mobile : Mobile) (kept : List KeptTap) → StandsFor t mobile [] [] →
+    Listens (ByTaps t kept) (by.Handset mobile) kept []
+unfolding run_taps
+listens_new t mobile kept stands =
+    let none = events_none t _ stands.sync.receives.clocked.timed in (
+      subst (StandsFor t mobile []) (sym none) stands,
+      ap (run_taps kept) (sym none),
+    )
+
+-- nothing is told of no samples
+pub told_of_none : (l : Listening) (listener : Listener) (kept : List KeptTap) →
+    Listens l listener kept [] → told l [] ≡ []
+unfolding told
+told_of_none Nobody listener kept listens = refl
+told_of_none (ByTaps t taps) by.Nobody kept listens = absurd listens
+told_of_none (ByTaps t taps) (by.Handset mobile) kept listens =
+    ap (run_text taps) (events_none t _ listens.0.sync.receives.clocked.timed) ∙ run_text-none taps
 
 -- ---- a handset that has taken nothing
 
@@ -355,7 +420,7 @@ pub fresh_given : (settings : Settings) (header : Header) (first : List Sample)
     settings.traffic ≡ option_map traffic_of receiver.traffic →
     length near.deltas ≡ 3 → AreNearTo first best.phase receiver near → AreReady near →
     StandsFor (tuning_by settings best near) mobile [] [] →
-    HasHeard (tuning_of header first (Some receiver)) (Some mobile) [] []
+    StandsFor (tuning_for header first receiver) mobile [] []
 fresh_given settings header first receiver best near mobile found count check30 check16 paging
     traffic long near_is ready stands =
     let most : receiver.fingers ≤ 3 = omega (arith, near_is.0, ready.1) in
@@ -373,14 +438,14 @@ pub on_err : {T E : Type 0} (r : Result T E) (P Q : Type 0) → (P → Q) → On
 on_err (Ok x) P Q f is = is
 on_err (Err e) P Q f is = f is
 
-pub room_some : (handset : Option Mobile) (mobile : Mobile) (n : ℕ) → handset ≡ Some mobile →
-    HasRoomFor handset n → n ≤ has_room mobile
-room_some handset mobile n is room = subst (λ (h : Option Mobile). HasRoomFor h n) is room
+pub room_some : (listener : Listener) (mobile : Mobile) (n : ℕ) → listener ≡ by.Handset mobile →
+    HasRoomFor listener n → n ≤ has_room mobile
+room_some listener mobile n is room = subst (λ (h : Listener). HasRoomFor h n) is room
 
-pub room_for : (handset : Option Mobile) (left n : ℕ) → HasRoom handset left → n ≤ left →
-    HasRoomFor handset n
-room_for None left n room fits = tt
-room_for (Some mobile) left n room fits = omega (arith, room, fits)
+pub room_for : (listener : Listener) (left n : ℕ) → HasRoom listener left → n ≤ left →
+    HasRoomFor listener n
+room_for by.Nobody left n room fits = tt
+room_for (by.Handset mobile) left n room fits = omega (arith, room, fits)
 
 -- ---- a fault is no good end
 

@@ -17,7 +17,7 @@ use Rattle.base_modulator.specs.declared.plan.CellPlan.{CellPlan}
 use Rattle.base_modulator.specs.declared.script_fault.ScriptFault.{ScriptFault}
 use Rattle.base_modulator.specs.declared.script_fault.ScriptFault.TheVariants.{OutOfMemory}
 use Rattle.base_modulator.specs.Script.{plan_named}
-use Rattle.event_tap.specs.Taps.{KeptTap, kept_by, run_text}
+use Rattle.event_tap.specs.Taps.{KeptTap, kept_by}
 use Rattle.cdma_words.specs.declared.job.Job.{Job}
 use Rattle.cdma_words.specs.declared.job.Job.TheVariants.{Find, Follow, Make, Survey, Trial}
 use Rattle.cdma_replay.specs.declared.receiving.Reception.{Reception}
@@ -25,7 +25,7 @@ use Rattle.cdma_replay.specs.declared.status.Status.{Status}
 use Rattle.cdma_replay.specs.Broken.{HasWritten, IsCut, WritesAll, WritesFirst}
 use Rattle.cdma_replay.specs.Find.{BeginsText, IsEnd, IsFaultIn, IsOfFiles, IsSearchable}
 use Rattle.cdma_replay.specs.Find.{WritesNoMore, WritesText, ended}
-use Rattle.cdma_replay.specs.Hearing.{events_in, file_end_of, file_text}
+use Rattle.cdma_replay.specs.Hearing.{file_end_of, file_text, told}
 use Rattle.cdma_replay.specs.Make.{BeginsMadeFile, WritesMadeFile, WritesNoMoreMade, made_file}
 use Rattle.cdma_replay.specs.Replies.{Answers, AnswersBehind, IsAnswered, IsEndOf, IsFaultyFile}
 use Rattle.cdma_replay.specs.Replies.{IsFaultyScript, IsFileEnd, IsFileReply, IsReply, IsScriptEnd}
@@ -136,15 +136,15 @@ IsUntapped taps r =
     (header : Header) (samples : List Sample) →
     file_text taps r header samples ≡ file_text [] r header samples
 
--- so it is without a handset
+-- so it is where nobody hears the file
 pub found_untapped : (taps : List KeptTap) (span workers : ℕ) →
     IsUntapped taps (finding span workers)
-unfolding file_text run_text events_in
+unfolding file_text told
 found_untapped taps span workers header samples = refl
 
 pub surveyed_untapped : (taps : List KeptTap) (span workers base width top : ℕ) →
     IsUntapped taps (surveying span workers base width top)
-unfolding file_text run_text events_in
+unfolding file_text told
 surveyed_untapped taps span workers base width top header samples = refl
 
 untapped_whole : (taps : List KeptTap) (r : Reception) (status : Status)

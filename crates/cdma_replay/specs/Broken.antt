@@ -9,9 +9,8 @@ use Rattle.cdma_io.specs.declared.file_fault.FileFault.TheVariants.{Short, Extra
 use Rattle.cdma_io.specs.declared.width.Width.{Width}
 use Rattle.cdma_io.specs.SampleFile.{header_spelling, opening, sample_len, sample_spelling}
 use Rattle.cdma_io.specs.SampleFile.{width_of}
-use Rattle.event_tap.specs.Taps.{KeptTap, run_text}
-use Rattle.mobile_core.specs.Tuning.{Tuning}
-use Rattle.cdma_replay.specs.Hearing.{events_in, file_text}
+use Rattle.event_tap.specs.Taps.{KeptTap}
+use Rattle.cdma_replay.specs.Hearing.{Listening, TellsMore, file_text}
 use Rattle.cdma_replay.specs.declared.receiving.Reception.{Reception}
 use Rattle.cdma_replay.specs.declared.status.Status.{Status}
 use Rattle.cdma_replay.specs.declared.status.Status.TheVariants.{BadFile, ReadFault}
@@ -70,16 +69,12 @@ WritesAll taps r rest old new =
     HasWritten taps r header bytes (λ k. k ≡ header.count) old new)
 
 -- A source lost the spellings of samples, such a number of them, and at most so many bytes behind
--- them; and a sink got the text of what a handset hears in these samples.
-pub record HearsFirst (t : Option Tuning) (taps : List KeptTap) (width : Width)
-    (counted : ℕ → Type 0) (most : ℕ) (heard : List Sample) (rest left old new : Option (List ℕ)) :
-    Type 0 where
+-- them; and a sink got what is told of these samples.
+pub record HearsFirst (l : Listening) (width : Width) (counted : ℕ → Type 0) (most : ℕ)
+    (heard : List Sample) (rest left old new : Option (List ℕ)) : Type 0 where
   pub samples : List Sample
   pub more : List ℕ
   pub number : counted (length samples)
   pub few : length more ≤ most
   pub consumed : Consumes rest left (flat_map (sample_spelling width) samples ++ more)
-  pub text : List ℕ
-  pub written : Appends old new text
-  pub all : run_text taps (events_in t heard) ++ text
-      ≡ run_text taps (events_in t (heard ++ samples))
+  pub tells : TellsMore l heard (heard ++ samples) old new

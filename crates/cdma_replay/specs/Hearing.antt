@@ -33,6 +33,8 @@ use Rattle.clean_link.specs.CleanLink.{sync_sent}
 use Rattle.clean_link.specs.SentEvents.{sent_events}
 use Rattle.cdma_replay.specs.Ranks.{survey_text}
 use Rattle.cdma_replay.specs.declared.handset.Receiver.{Receiver}
+use Rattle.cdma_replay.specs.declared.listener.Listener.{Listener}
+use Rattle.cdma_replay.specs.declared.listener.Listener.TheVariants as by
 use Rattle.cdma_replay.specs.declared.purpose.Purpose.{Purpose}
 use Rattle.cdma_replay.specs.declared.purpose.Purpose.TheVariants.{Find, Follow, Survey}
 use Rattle.cdma_replay.specs.declared.receiving.Reception.{Reception}
@@ -52,12 +54,6 @@ first_text taps Find first = event_line (best_pilot first)
 first_text taps (Follow receiver) first = heard_text taps (best_pilot first)
 first_text taps (Survey base width top) first = survey_text base width top first
 
--- the handset that hears a file, if one does
-abbrev pub receiver_of : Purpose → Option Receiver
-receiver_of Find = None
-receiver_of (Follow receiver) = Some receiver
-receiver_of (Survey base width top) = None
-
 -- the traffic channel that words name, as a handset is told of it
 abbrev pub traffic_of : TrafficOptions → Traffic
 traffic_of options =
@@ -76,36 +72,48 @@ tuning_for header first receiver =
       traffic = option_map traffic_of receiver.traffic;
     }
 
--- there is none without a receiver
-abbrev pub tuning_of : Header → List Sample → Option Receiver → Option Tuning
-tuning_of header first None = None
-tuning_of header first (Some receiver) = Some (tuning_for header first receiver)
+-- who hears a file: nobody, or a handset whose events these taps hear
+pub data Listening : Type 0 where
+  Nobody : Listening
+  ByTaps : Tuning → List KeptTap → Listening
 
--- the events that a handset hears in samples
-unfoldable pub events_in : Option Tuning → List Sample → List Event
-events_in None samples = []
-events_in (Some t) samples = events t samples
+-- who hears one of this header with these first samples: the taps that are kept behind the pilot,
+-- where a handset follows it
+abbrev pub listening : List KeptTap → Purpose → Header → List Sample → Listening
+listening taps Find header first = Nobody
+listening taps (Follow receiver) header first =
+    ByTaps (tuning_for header first receiver) (taps_behind taps (best_pilot first))
+listening taps (Survey base width top) header first = Nobody
+
+-- what is told of samples
+unfoldable pub told : Listening → List Sample → List ℕ
+told Nobody samples = []
+told (ByTaps t taps) samples = run_text taps (events t samples)
 
 -- the text of a file, or of one of which only so many samples are known: that of the first ones, and
--- what the taps that are kept behind the pilot make of what a handset hears in all
+-- what is told of all
 unfoldable pub file_text : List KeptTap → Reception → Header → List Sample → List ℕ
 file_text taps r header samples =
     first_text taps r.purpose (take r.span samples)
-    ++ run_text (taps_behind taps (best_pilot (take r.span samples)))
-    (events_in (tuning_of header (take r.span samples) (receiver_of r.purpose)) samples)
+    ++ told (listening taps r.purpose header (take r.span samples)) samples
 
--- a handset ends well where a message told it the time
-abbrev pub is_told : Option Tuning → List Sample → Bool
-is_told None samples = true
-is_told (Some t) samples = is_some (mark t samples (length samples))
+-- who hears ends well where a message told the time
+abbrev pub is_told : Listening → List Sample → Bool
+is_told Nobody samples = true
+is_told (ByTaps t taps) samples = is_some (mark t samples (length samples))
 
 abbrev pub end_when : Bool → Status
 end_when told = if told then Done else NoSync
 
--- how a run over a good file ends
+-- how a run over a good file ends, whatever the taps
 unfoldable pub file_end_of : Reception → Header → List Sample → Status
 file_end_of r header samples =
-    end_when (is_told (tuning_of header (take r.span samples) (receiver_of r.purpose)) samples)
+    end_when (is_told (listening [] r.purpose header (take r.span samples)) samples)
+
+-- a file that nobody hears
+abbrev pub IsUnheard : Purpose → Type 0
+IsUnheard (Follow receiver) = ⊥
+IsUnheard purpose = Unit {0}
 
 -- what is told of a clean link: the pilot at the cell's phase, all whole sendings, the whole pages of
 -- the paging channel that is followed, and the frames of the traffic channel that is, with the
@@ -139,54 +147,44 @@ abbrev pub AreReady : Near → Type 0
 AreReady near =
     (1 ≤ near.count) × (near.count ≤ 3) × (slice_get near.deltas 0 ≡ Some (pos 0))
 
--- ---- a handset on the way
+-- ---- a listener on the way
 
--- a handset, where there is one, has taken these samples, and given these events
-abbrev pub HasHeard : Option Tuning → Option Mobile → List Sample → List Event → Type 0
-HasHeard None None heard given = given ≡ []
-HasHeard None (Some mobile) heard given = ⊥
-HasHeard (Some t) None heard given = ⊥
-HasHeard (Some t) (Some mobile) heard given = StandsFor t mobile heard given
-
--- the taps that are kept behind these events, of those that heard the first of them, where a
--- handset gives events
-abbrev pub AreBehind : Option Tuning → List KeptTap → List KeptTap → List Event → Type 0
-AreBehind None taps kept given = Unit {0}
-AreBehind (Some t) taps kept given = kept ≡ run_taps taps given
-
--- both: a handset has given these events, and these taps are kept behind them
-pub record HasGiven (t : Option Tuning) (taps : List KeptTap) (handset : Option Mobile)
-    (kept : List KeptTap) (heard : List Sample) (given : List Event) : Type 0 where
-  pub stands : HasHeard t handset heard given
-  pub behind : AreBehind t taps kept given
+-- it has taken these samples and told all of them, and these taps are kept behind them
+abbrev pub Listens : Listening → Listener → List KeptTap → List Sample → Type 0
+Listens Nobody by.Nobody kept heard = Unit {0}
+Listens (ByTaps t taps) (by.Handset mobile) kept heard =
+    StandsFor t mobile heard (events t heard) × (kept ≡ run_taps taps (events t heard))
+Listens l listener kept heard = ⊥
 
 -- it takes just so many samples more
-abbrev pub HasRoom : Option Mobile → ℕ → Type 0
-HasRoom None count = Unit {0}
-HasRoom (Some mobile) count = has_room mobile ≡ count
+abbrev pub HasRoom : Listener → ℕ → Type 0
+HasRoom by.Nobody count = Unit {0}
+HasRoom (by.Handset mobile) count = has_room mobile ≡ count
 
 -- it takes so many samples more, or others too
-abbrev pub HasRoomFor : Option Mobile → ℕ → Type 0
-HasRoomFor None count = Unit {0}
-HasRoomFor (Some mobile) count = count ≤ has_room mobile
+abbrev pub HasRoomFor : Listener → ℕ → Type 0
+HasRoomFor by.Nobody count = Unit {0}
+HasRoomFor (by.Handset mobile) count = count ≤ has_room mobile
 
--- it has taken these samples and given all events that end within them, and a sink got the text of
--- those that weren't given before
-pub record Tells (t : Option Tuning) (taps : List KeptTap) (handset : Option Mobile)
-    (kept : List KeptTap) (given : List Event) (heard : List Sample)
-    (old new : Option (List ℕ)) : Type 0 where
+-- a sink got what is told of these samples beyond what is told of those before
+pub record TellsMore (l : Listening) (before heard : List Sample) (old new : Option (List ℕ)) :
+    Type 0 where
   pub text : List ℕ
   pub written : Appends old new text
-  pub all : run_text taps given ++ text ≡ run_text taps (events_in t heard)
-  pub stands : HasGiven t taps handset kept heard (events_in t heard)
+  pub all : told l before ++ text ≡ told l heard
 
--- a sink got a beginning of the text of the events that end within these samples, so far as they
--- weren't given before
-pub record TellsPart (t : Option Tuning) (taps : List KeptTap) (given : List Event)
-    (heard : List Sample) (old new : Option (List ℕ)) : Type 0 where
+-- a sink got a beginning of that
+pub record TellsPart (l : Listening) (before heard : List Sample) (old new : Option (List ℕ)) :
+    Type 0 where
   pub text : List ℕ
   pub written : Appends old new text
-  pub begins : StartsWith (run_text taps (events_in t heard)) (run_text taps given ++ text)
+  pub begins : StartsWith (told l heard) (told l before ++ text)
+
+-- a listener has taken these samples, and a sink got what is told of them beyond those before
+pub record Tells (l : Listening) (listener : Listener) (kept : List KeptTap)
+    (before heard : List Sample) (old new : Option (List ℕ)) : Type 0 where
+  pub more : TellsMore l before heard old new
+  pub listens : Listens l listener kept heard
 
 -- a handset has given these events behind others, and a sink got their text
 pub record HasTold (t : Tuning) (taps : List KeptTap) (mobile : Mobile) (kept : List KeptTap)
@@ -196,23 +194,19 @@ pub record HasTold (t : Tuning) (taps : List KeptTap) (mobile : Mobile) (kept : 
   pub stands : StandsFor t mobile heard (given ++ more)
   pub behind : kept ≡ run_taps taps (given ++ more)
 
--- a source lost the spellings of so many samples, and the handset heard them
-pub record HearsRest (t : Option Tuning) (taps : List KeptTap) (width : Width) (count : ℕ)
-    (handset : Option Mobile) (kept : List KeptTap) (heard : List Sample)
-    (rest left old new : Option (List ℕ)) : Type 0 where
+-- a source lost the spellings of so many samples, and the listener heard them
+pub record HearsRest (l : Listening) (width : Width) (count : ℕ) (listener : Listener)
+    (kept : List KeptTap) (heard : List Sample) (rest left old new : Option (List ℕ)) :
+    Type 0 where
   pub samples : List Sample
   pub counted : length samples ≡ count
   pub in_range : All (HasBits width) samples
   pub consumed : Consumes rest left (flat_map (sample_spelling width) samples)
-  pub tells : Tells t taps handset kept (events_in t heard) (heard ++ samples) old new
+  pub tells : Tells l listener kept heard (heard ++ samples) old new
 
--- a source begins with the spellings of samples, and a sink got a beginning of what a handset hears
--- in them
-pub record HearsPart (t : Option Tuning) (taps : List KeptTap) (width : Width)
-    (heard : List Sample) (rest old new : Option (List ℕ)) : Type 0 where
+-- a source begins with the spellings of samples, and a sink got a beginning of what is told of them
+pub record HearsPart (l : Listening) (width : Width) (heard : List Sample)
+    (rest old new : Option (List ℕ)) : Type 0 where
   pub samples : List Sample
   pub first : IfSome rest (λ bytes. StartsWith bytes (flat_map (sample_spelling width) samples))
-  pub text : List ℕ
-  pub written : Appends old new text
-  pub begins : StartsWith (run_text taps (events_in t (heard ++ samples)))
-      (run_text taps (events_in t heard) ++ text)
+  pub tells : TellsPart l heard (heard ++ samples) old new

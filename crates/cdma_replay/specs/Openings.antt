@@ -1,6 +1,7 @@
 -- What was found in the first samples of a file, and what is told of it.
-use Rattle.std.specs.Prelude.{◌≡◌, ℕ, ◌≤◌, List, take, Option, None, Some}
+use Rattle.std.specs.Prelude.{◌≡◌, ℕ, ◌≤◌, List, take}
 use Rattle.chip_core.specs.declared.sample.Sample.{Sample}
+use Rattle.cdma_io.specs.declared.header.Header.{Header}
 use Rattle.cdma_words.specs.Words.{IsBase, IsTop, IsWidth}
 use Rattle.pilot_search.specs.BestIn.{IsBestIn}
 use Rattle.pilot_search.specs.declared.sweeping.Best.{Best}
@@ -9,9 +10,8 @@ use Rattle.mobile_core.specs.declared.event.Event.{Event}
 use Rattle.mobile_core.specs.declared.event.Event.TheVariants as told
 use Rattle.event_tap.specs.EventLines.{event_line}
 use Rattle.event_tap.specs.Taps.{KeptTap, heard_text, taps_behind}
-use Rattle.cdma_replay.specs.Hearing.{IsLawfulReceiver}
+use Rattle.cdma_replay.specs.Hearing.{ByTaps, IsLawfulReceiver, Listening, Nobody, tuning_for}
 use Rattle.cdma_replay.specs.Ranks.{ranks_text}
-use Rattle.cdma_replay.specs.declared.handset.Receiver.{Receiver}
 use Rattle.cdma_replay.specs.declared.opening.Shown.{Shown}
 use Rattle.cdma_replay.specs.declared.opening.Shown.TheVariants.{Followed, Found, Ranks}
 use Rattle.cdma_replay.specs.declared.purpose.Purpose.{Purpose}
@@ -35,10 +35,11 @@ Shows (Survey base width top) first (Ranks ranks count) =
     (ranks ≡ ranking first base width) × (count ≡ top)
 Shows purpose first shown = ⊥
 
--- the handset that follows it, if one does
-abbrev pub receiver_in : Shown → Option Receiver
-receiver_in (Followed best receiver) = Some receiver
-receiver_in shown = None
+-- who hears the file, where these taps are kept behind what was found
+abbrev pub listening_in : List KeptTap → Shown → Header → List Sample → Listening
+listening_in kept (Followed best receiver) header first =
+    ByTaps (tuning_for header first receiver) kept
+listening_in kept shown header first = Nobody
 
 -- a handset can follow it, where one does
 abbrev pub IsFollowable : List Sample → Shown → Type 0

@@ -19,6 +19,7 @@ mod hostile_tests;
 pub mod laws;
 #[cfg(test)]
 mod link_tests;
+mod listener;
 mod making;
 mod marking;
 #[cfg(test)]

@@ -1,22 +1,23 @@
 //! What the first samples of a file show, and how it is told.
 
-ghost use Rattle.std.specs.Prelude.{◌≡◌, ◌≤◌, [], All, IfOk, OnErr, OnOk, length};
+ghost use Rattle.std.specs.Prelude.{◌≡◌, ◌≤◌, List, [], All, IfOk, OnErr, OnOk, length};
 ghost use Rattle.std.specs.Io.KnownBytes.{Appends};
 ghost use Rattle.cdma_io.specs.Outside.{AppendsPrefix, HasCause};
 ghost use Rattle.cdma_io.specs.SampleFile.{IsLawfulHeader};
 ghost use Rattle.cdma_words.specs.Words.{IsWorkers};
-ghost use Rattle.event_tap.specs.Taps.{IsKept};
-ghost use Rattle.cdma_replay.specs.Hearing.{HasHeard, HasRoom, tuning_of};
+ghost use Rattle.event_tap.specs.Taps.{IsKept, KeptTap};
+ghost use Rattle.cdma_replay.specs.Hearing.{HasRoom, Listens};
 ghost use Rattle.cdma_replay.specs.Openings.{IsFollowable, IsLawfulPurpose, IsTellable, Shows};
-ghost use Rattle.cdma_replay.specs.Openings.{pilot_event, receiver_in, shown_text, taps_after};
+ghost use Rattle.cdma_replay.specs.Openings.{listening_in, pilot_event, shown_text, taps_after};
 
 use crate::handset::{Receiver, handset};
+use crate::listener::Listener;
 use crate::purpose::Purpose;
 use crate::ranks::write_ranks;
 use cdma_io::{Failed, Header, Sink};
 use chip_core::{OutOfMemory, Phase, Sample};
 use event_tap::{KeepsTaps, write_event};
-use mobile_core::{Event, Mobile};
+use mobile_core::Event;
 use pilot_search::{Best, Gate, near, search};
 use pilot_survey::{Survey, survey};
 use short_code::Codes;
@@ -78,29 +79,28 @@ pub fn find_first<R: Threads + Sync, G: Gate + Sync>(
     }
 }
 
-/// A handset for a file of this header, where one follows the pilot that was found in its first
-/// samples.
-pub fn handset_for(
+/// Who hears a file of this header in whose first samples this was found.
+pub fn listener_for(
     alloc: Global,
     header: Header,
     codes: &Codes,
     first: &[Sample],
     shown: &Shown,
-) -> Result<Option<Mobile>, OutOfMemory>
+) -> Result<Listener, OutOfMemory>
     requires few { length first.now ≤ 32768 }
     requires header { IsLawfulHeader header }
     requires shown { IsFollowable first.now shown.now }
-    ensures heard { IfOk result (λ handset.
-        HasHeard (tuning_of header first.now (receiver_in shown.now)) handset [] []) }
-    ensures room { IfOk result (λ handset. HasRoom handset header.count) }
+    ensures listens { IfOk result (λ listener. (kept : List KeptTap) →
+        Listens (listening_in kept shown.now header first.now) listener kept []) }
+    ensures room { IfOk result (λ listener. HasRoom listener header.count) }
 {
     match shown {
         Shown::Followed { best, receiver } => {
             let paths = near(first, codes, *best, receiver.fingers);
             let mobile = handset(alloc, header, *receiver, *best, paths)?;
-            Ok(Some(mobile))
+            Ok(Listener::Handset(mobile))
         }
-        Shown::Found(_) | Shown::Ranks { .. } => Ok(None),
+        Shown::Found(_) | Shown::Ranks { .. } => Ok(Listener::Nobody),
     }
 }
 

@@ -1,24 +1,20 @@
-//! The commands `find`, `follow` and `survey`: what the first samples of a file show, and what a
-//! handset hears in all.
+//! The commands `find`, `follow` and `survey`: what the first samples of a file show, and what is
+//! heard in all.
 
 ghost use Rattle.std.specs.Prelude.{◌≡◌, ◌≢◌, ◌<◌, ◌≤◌, ◌+◌, ◌*◌, ◌-◌, ◌++◌, ◌⊎◌, ℕ};
-ghost use Rattle.std.specs.Prelude.{List, [], length, All, Err, None, Some, Option, IfOk};
+ghost use Rattle.std.specs.Prelude.{List, [], length, All, Err, None, IfOk};
 ghost use Rattle.std.specs.Prelude.{OnOk, IfErr, OnErr, IfSome};
 ghost use Rattle.std.specs.List.{flat_map};
 ghost use Rattle.std.specs.Io.KnownBytes.{Consumes, IsAtEnd};
-ghost use Rattle.chip_core.specs.declared.sample.Sample.{Sample};
 ghost use Rattle.cdma_io.specs.declared.file_fault.FileFault.{FileFault};
-ghost use Rattle.cdma_io.specs.Outside.{ConsumesAtMost, HasCause, Rose};
+ghost use Rattle.cdma_io.specs.Outside.{ConsumesAtMost, Rose};
 ghost use Rattle.cdma_io.specs.SampleFile.{HasBits, IsLawfulHeader, header_spelling, sample_len};
 ghost use Rattle.cdma_io.specs.SampleFile.{sample_spelling, width_of};
-ghost use Rattle.mobile_core.specs.Tuning.{Tuning};
-ghost use Rattle.mobile_core.specs.Standing.{StandsFor, has_room};
-ghost use Rattle.mobile_core.specs.declared.event.Event.{Event as TheEvent};
-ghost use Rattle.event_tap.specs.Taps.{IsKept, KeptTap, run_taps};
+ghost use Rattle.event_tap.specs.Taps.{IsKept};
 ghost use Rattle.cdma_words.specs.Words.{IsWorkers};
-ghost use Rattle.cdma_replay.specs.Hearing.{HasGiven, HasHeard, HasRoom, HasRoomFor, HearsPart};
-ghost use Rattle.cdma_replay.specs.Hearing.{HearsRest, Tells, TellsPart, end_when, events_in};
-ghost use Rattle.cdma_replay.specs.Hearing.{is_told, receiver_of};
+ghost use Rattle.chip_core.specs.declared.sample.Sample.{Sample};
+ghost use Rattle.cdma_replay.specs.Hearing.{HasRoom, HearsPart, HearsRest, IsUnheard, Listening};
+ghost use Rattle.cdma_replay.specs.Hearing.{Listens, end_when};
 ghost use Rattle.cdma_replay.specs.Openings.{IsLawfulPurpose};
 ghost use Rattle.cdma_replay.specs.Broken.{HearsFirst, IsCut, IsLong, IsUnopened, TakesFew};
 ghost use Rattle.cdma_replay.specs.Broken.{WritesAll, WritesFirst};
@@ -27,14 +23,14 @@ ghost use Rattle.cdma_replay.specs.Find.{IsHeaderFault, IsRestFault, IsSearchabl
 ghost use Rattle.cdma_replay.specs.Find.{WritesText, ended};
 ghost use Rattle.cdma_replay.specs.Status.{file_status};
 
-use crate::opening::{find_first, handset_for, tell_first};
+use crate::listener::Listener;
+use crate::opening::{find_first, listener_for, tell_first};
 use crate::purpose::Purpose;
 use crate::status::Status;
 use crate::workspace::Workspace;
 use cdma_io::{Failed, FileFault, SampleReader, Sink, Source};
 use chip_core::Sample;
 use event_tap::KeepsTaps;
-use mobile_core::Mobile;
 use pilot_search::Gate;
 use short_code::Codes;
 use std::alloc::Global;
@@ -82,111 +78,40 @@ fn open_span<S: Source>(source: &mut S, span: &mut [Sample]) -> Result<SampleRea
     Ok(reader)
 }
 
-/// Gives samples to a handset, and lets the taps hear each event.
-fn tell<T: KeepsTaps, K: Sink>(
-    mobile: &mut Mobile,
-    samples: &[Sample],
-    taps: &mut T,
-    sink: &mut K,
-) -> Result<(), Failed>
-    requires room { length samples.now ≤ has_room mobile.old }
-    requires kept { All IsKept (T.kept taps.old) }
-    ensures room { OnOk result (has_room mobile.new + length samples.now ≡ has_room mobile.old) }
-    ensures kept { All IsKept (T.kept taps.new) }
-    ensures ok { OnOk result ((t : Tuning) (first : List KeptTap) (heard : List Sample)
-        (given : List TheEvent) → StandsFor t mobile.old heard given →
-        T.kept taps.old ≡ run_taps first given →
-        Tells (Some t) first (Some mobile.new) (T.kept taps.new) given
-        (heard ++ samples.now) (K.written sink.old) (K.written sink.new)) }
-    ensures err { OnErr result ((t : Tuning) (first : List KeptTap) (heard : List Sample)
-        (given : List TheEvent) → StandsFor t mobile.old heard given →
-        T.kept taps.old ≡ run_taps first given →
-        TellsPart (Some t) first given (heard ++ samples.now) (K.written sink.old)
-        (K.written sink.new)) }
-    ensures cause { HasCause (K.faults sink.old) (K.faults sink.new) result }
-{
-    let mut taken = 0;
-    loop {
-        let step = mobile.step(&samples[taken..]);
-        taken += step.taken;
-        let Some(event) = step.event else {
-            return Ok(());
-        };
-        taps.tell(&event, sink)?;
-    }
-}
-
-/// Gives samples to the handset, where there is one, and lets the taps hear each event.
-fn hear<T: KeepsTaps, K: Sink>(
-    handset: &mut Option<Mobile>,
-    samples: &[Sample],
-    taps: &mut T,
-    sink: &mut K,
-) -> Result<(), Failed>
-    requires room { HasRoomFor handset.old (length samples.now) }
-    requires kept { All IsKept (T.kept taps.old) }
-    ensures room { OnOk result ((left : ℕ) → HasRoom handset.old left →
-        HasRoom handset.new (left - length samples.now)) }
-    ensures kept { All IsKept (T.kept taps.new) }
-    ensures ok { OnOk result ((t : Option Tuning) (first : List KeptTap) (heard : List Sample)
-        (given : List TheEvent) →
-        HasGiven t first handset.old (T.kept taps.old) heard given →
-        Tells t first handset.new (T.kept taps.new) given
-        (heard ++ samples.now) (K.written sink.old) (K.written sink.new)) }
-    ensures err { OnErr result ((t : Option Tuning) (first : List KeptTap) (heard : List Sample)
-        (given : List TheEvent) →
-        HasGiven t first handset.old (T.kept taps.old) heard given →
-        TellsPart t first given (heard ++ samples.now) (K.written sink.old)
-        (K.written sink.new)) }
-    ensures cause { HasCause (K.faults sink.old) (K.faults sink.new) result }
-{
-    match handset {
-        Some(mobile) => tell(mobile, samples, taps, sink),
-        None => Ok(()),
-    }
-}
-
-/// Reads the samples that are left in pieces, gives them to the handset, and sees that the file
+/// Reads the samples that are left in pieces, gives them to the listener, and sees that the file
 /// ends behind them.
 fn hear_rest<S: Source, T: KeepsTaps, K: Sink>(
     reader: &mut SampleReader,
     source: &mut S,
     piece: &mut [Sample],
-    handset: &mut Option<Mobile>,
+    listener: &mut Listener,
     taps: &mut T,
     sink: &mut K,
 ) -> Result<(), Status>
     requires piece { length piece.old ≡ 4096 }
     requires good { reader.old.fault ≡ None }
     requires counted { reader.old.left ≤ reader.old.header.count }
-    requires room { HasRoom handset.old reader.old.left }
+    requires room { HasRoom listener.old reader.old.left }
     requires kept { All IsKept (T.kept taps.old) }
     ensures ends { OnOk result (IsAtEnd (S.rest source.new)) }
-    ensures ok { OnOk result ((t : Option Tuning) (first : List KeptTap) (heard : List Sample) →
-        HasGiven t first handset.old (T.kept taps.old) heard
-        (events_in t heard) →
-        HearsRest t first (width_of reader.old.header) reader.old.left handset.new
+    ensures ok { OnOk result ((l : Listening) (heard : List Sample) →
+        Listens l listener.old (T.kept taps.old) heard →
+        HearsRest l (width_of reader.old.header) reader.old.left listener.new
         (T.kept taps.new) heard (S.rest source.old) (S.rest source.new)
         (K.written sink.old) (K.written sink.new)) }
-    ensures written { (t : Option Tuning) (first : List KeptTap) (heard : List Sample) →
-        HasGiven t first handset.old (T.kept taps.old) heard
-        (events_in t heard) →
-        HearsPart t first (width_of reader.old.header) heard (S.rest source.old)
+    ensures written { (l : Listening) (heard : List Sample) →
+        Listens l listener.old (T.kept taps.old) heard →
+        HearsPart l (width_of reader.old.header) heard (S.rest source.old)
         (K.written sink.old) (K.written sink.new) }
-    ensures cut { IsCut (ended result) → (t : Option Tuning) (first : List KeptTap)
-        (heard : List Sample) →
-        HasGiven t first handset.old (T.kept taps.old) heard
-        (events_in t heard) →
-        HearsFirst t first (width_of reader.old.header) (λ k. k ≤ reader.old.left)
+    ensures cut { IsCut (ended result) → (l : Listening) (heard : List Sample) →
+        Listens l listener.old (T.kept taps.old) heard →
+        HearsFirst l (width_of reader.old.header) (λ k. k ≤ reader.old.left)
         (sample_len (width_of reader.old.header) * 4096) heard (S.rest source.old)
         (S.rest source.new) (K.written sink.old) (K.written sink.new) }
-    ensures long { IsLong (ended result) → (t : Option Tuning) (first : List KeptTap)
-        (heard : List Sample) →
-        HasGiven t first handset.old (T.kept taps.old) heard
-        (events_in t heard) →
-        HearsFirst t first (width_of reader.old.header) (λ k. k ≡ reader.old.left)
-        1 heard (S.rest source.old)
-        (S.rest source.new) (K.written sink.old) (K.written sink.new) }
+    ensures long { IsLong (ended result) → (l : Listening) (heard : List Sample) →
+        Listens l listener.old (T.kept taps.old) heard →
+        HearsFirst l (width_of reader.old.header) (λ k. k ≡ reader.old.left) 1 heard
+        (S.rest source.old) (S.rest source.new) (K.written sink.old) (K.written sink.new) }
     ensures fault { (fault : FileFault) → ended result ≡ Status.BadFile fault →
         (fault ≢ FileFault.ReadFault) ×
         IfSome (S.rest source.old)
@@ -205,24 +130,13 @@ fn hear_rest<S: Source, T: KeepsTaps, K: Sink>(
 {
     while reader.left() > 0 {
         let count = reader.read(source, piece)?;
-        match hear(handset, &piece[..count], taps, sink) {
+        match listener.hear(&piece[..count], taps, sink) {
             Ok(()) => {}
             Err(Failed) => return Err(Status::WriteFault),
         }
     }
     reader.finish(source)?;
     Ok(())
-}
-
-/// Whether a handset was told the time, where there is one.
-fn is_told(handset: &Option<Mobile>) -> bool
-    ensures { (t : Option Tuning) (heard : List Sample) →
-        HasHeard t handset.now heard (events_in t heard) → result ≡ is_told t heard }
-{
-    match handset {
-        Some(mobile) => mobile.synced(),
-        None => true,
-    }
 }
 
 /// How a run over a good file ends.
@@ -234,7 +148,7 @@ fn end_when(told: bool) -> Result<(), Status>
 }
 
 /// Reads the file's first samples into `span` and tells what is wanted of them, and then reads on to
-/// the end of the file by way of `piece`; where there is a receiver, a handset hears all samples.
+/// the end of the file by way of `piece`; where the purpose has a listener, it hears all samples.
 fn receive_file<R: Threads + Sync, S: Source, K: Sink, T: KeepsTaps, G: Gate + Sync>(
     rt: &R,
     alloc: Global,
@@ -260,7 +174,7 @@ fn receive_file<R: Threads + Sync, S: Source, K: Sink, T: KeepsTaps, G: Gate + S
     ensures memory { ended result ≡ Status.NoMemory → sink.new ≡ sink.old }
     ensures early { ended result ≡ Status.NoMemory →
         IfSome (S.rest source.old) (BeginsFile reception.span) }
-    ensures alone { receiver_of reception.purpose ≡ None → ended result ≢ Status.NoSync }
+    ensures alone { IsUnheard reception.purpose → ended result ≢ Status.NoSync }
     ensures bad_file { (fault : FileFault) → ended result ≡ Status.BadFile fault →
         (fault ≢ FileFault.ReadFault) ×
         IfSome (S.rest source.old) (λ bytes. ¬ (IsSearchable bytes reception.span)) }
@@ -293,22 +207,23 @@ fn receive_file<R: Threads + Sync, S: Source, K: Sink, T: KeepsTaps, G: Gate + S
         ..
     } = reception;
     let shown = find_first(rt, alloc, purpose, codes, span, workers, gate)?;
-    let mut handset = handset_for(alloc, reader.header(), codes, span, &shown)?;
+    let mut listener = listener_for(alloc, reader.header(), codes, span, &shown)?;
     let mut taps = taps;
     match tell_first(&shown, &mut taps, sink) {
         Ok(()) => {}
         Err(Failed) => return Err(Status::WriteFault),
     }
-    match hear(&mut handset, span, &mut taps, sink) {
+    match listener.hear(span, &mut taps, sink) {
         Ok(()) => {}
         Err(Failed) => return Err(Status::WriteFault),
     }
-    hear_rest(&mut reader, source, piece, &mut handset, &mut taps, sink)?;
-    end_when(is_told(&handset))
+    hear_rest(&mut reader, source, piece, &mut listener, &mut taps, sink)?;
+    end_when(listener.is_told())
 }
 
 /// Tells what is wanted of the file's first samples, and then reads on to the end of the file; where
-/// there is a receiver, a handset hears all samples, and the taps hear the pilot and each event.
+/// the purpose has a listener, it hears all samples. Where that is a handset, the taps hear the pilot
+/// and each event.
 ///
 /// All memory is taken before the first line is written.
 pub fn receive<R: Threads + Sync, S: Source, K: Sink, T: KeepsTaps, G: Gate + Sync>(
@@ -332,7 +247,7 @@ pub fn receive<R: Threads + Sync, S: Source, K: Sink, T: KeepsTaps, G: Gate + Sy
     ensures memory { ended result ≡ Status.NoMemory → sink.new ≡ sink.old }
     ensures early { ended result ≡ Status.NoMemory → (source.new ≡ source.old) ⊎
         IfSome (S.rest source.old) (BeginsFile reception.span) }
-    ensures alone { receiver_of reception.purpose ≡ None → ended result ≢ Status.NoSync }
+    ensures alone { IsUnheard reception.purpose → ended result ≢ Status.NoSync }
     ensures bad_file { (fault : FileFault) → ended result ≡ Status.BadFile fault →
         (fault ≢ FileFault.ReadFault) ×
         IfSome (S.rest source.old) (λ bytes. ¬ (IsSearchable bytes reception.span)) }

@@ -63,7 +63,7 @@ hear-requires g c =
     let fits : length (take n c.read.new.out) ≤ c.loop-reader.reader.left =
     omega (arith, length-take-le n c.read.new.out room, c.in_ok-count.ensures.count) in
     record {
-      room = room_for c.loop-reader.handset c.loop-reader.reader.left
+      room = room_for c.loop-reader.listener c.loop-reader.reader.left
           (length (take n c.read.new.out)) c.loop-reader.invariant.taken fits;
       kept = c.loop-reader.invariant.kept;
     }
@@ -85,7 +85,7 @@ loop-reader-preserved g c =
           c.in_ok-count.ensures.in_range c.in_ok-count.ensures.samples c.in-Ok.ensures.ok;
       kept = c.hear.ensures.kept;
       taken = rw fewer
-          (subst (λ (k : ℕ). HasRoom c.hear.new.handset (now - k)) taken
+          (subst (λ (k : ℕ). HasRoom c.hear.new.self (now - k)) taken
           (c.in-Ok.ensures.room now inv.taken));
       same = ap (λ (r : Reading). r.header) c.in_ok-count.ensures.ok ∙ inv.same;
       low = omega (arith, fewer, inv.low);

@@ -2,10 +2,9 @@ use Rattle.std.proofs.Common.{◌≡◌, ℕ, List, [], Option, IfSome, length, 
 use Rattle.std.proofs.Common.{arith}
 use Rattle.chip_core.specs.declared.sample.Sample.{Sample}
 use Rattle.cdma_io.specs.declared.file_fault.FileFault.{FileFault}
-use Rattle.mobile_core.specs.Tuning.{Tuning}
 use Rattle.cdma_replay.specs.Broken.{IsCut, IsLong}
 use Rattle.cdma_replay.specs.Find.{IsFault, IsFaultIn}
-use Rattle.cdma_replay.specs.Hearing.{HasHeard, end_when, events_in, receiver_of, tuning_of}
+use Rattle.cdma_replay.specs.Hearing.{Listening, Listens, end_when, listening}
 use Rattle.cdma_replay.specs.Status.{file_status}
 use Rattle.cdma_replay.proofs.Broken.{nothing_all, nothing_first, writes_all, writes_first}
 use Rattle.cdma_replay.proofs.Ends.{begins_file, ends_well, no_memory_told, no_write_told}
@@ -36,7 +35,7 @@ returns-in-Err-hear-clause-written g c =
     let begun =
     has_begun _ c.args.reception c.open_span.new.span c.in_ok-shown.shown (search rules)
     c.in_ok-reader.ensures.file c.in_ok-shown.ensures.shown c.header.ensures.value
-    c.in_ok-handset.ensures.heard c.in-Ok.ensures.ok c.in-Ok.ensures.behind in
+    c.in_ok-listener.ensures.listens c.in-Ok.ensures.ok c.in-Ok.ensures.behind in
     writes_first_part begun c.in-Err-hear.ensures.err
 
 pub returns-in_err-hear_rest-clause-done : goal.returns-in_err-hear_rest-clause-done
@@ -81,7 +80,7 @@ returns-in_err-hear_rest-clause-written g c =
     let begun =
     has_begun _ c.args.reception c.open_span.new.span c.in_ok-shown.shown (search rules)
     c.in_ok-reader.ensures.file c.in_ok-shown.ensures.shown c.header.ensures.value
-    c.in_ok-handset.ensures.heard c.in-Ok.ensures.ok c.in-Ok.ensures.behind in
+    c.in_ok-listener.ensures.listens c.in-Ok.ensures.ok c.in-Ok.ensures.behind in
     writes_rest_part begun c.in-Ok-hear.ensures.ok c.in_err-hear_rest.ensures.written
 
 pub returns-clause-done : goal.returns-clause-done
@@ -89,20 +88,20 @@ returns-clause-done g c end =
     let begun =
     has_begun _ c.args.reception c.open_span.new.span c.in_ok-shown.shown (search rules)
     c.in_ok-reader.ensures.file c.in_ok-shown.ensures.shown c.header.ensures.value
-    c.in_ok-handset.ensures.heard c.in-Ok.ensures.ok c.in-Ok.ensures.behind in
+    c.in_ok-listener.ensures.listens c.in-Ok.ensures.ok c.in-Ok.ensures.behind in
     writes_text (g.S.Source.rest c.args.source.now) _ _ c.in_ok-reader.ensures.lawful (search rules)
     c.in_ok-reader.ensures.in_range begun c.in-Ok-hear.ensures.ok c.in_ok-hear_rest.ensures.ok
     c.in_ok-hear_rest.ensures.ends
-    (λ (t : Option Tuning) (heard : List Sample)
-    (given : HasHeard t c.hear_rest.new.handset heard (events_in t heard)).
-    c.end_when.ensures.value ∙ ap end_when (c.is_told.ensures t heard given))
+    (λ (l : Listening) (heard : List Sample)
+    (is : Listens l c.hear_rest.new.listener (g.T.KeepsTaps.kept c.hear_rest.new.taps) heard).
+    c.end_when.ensures.value ∙ ap end_when (c.is_told.ensures l _ heard is))
 
 pub returns-clause-written : goal.returns-clause-written
 returns-clause-written g c =
     let begun =
     has_begun _ c.args.reception c.open_span.new.span c.in_ok-shown.shown (search rules)
     c.in_ok-reader.ensures.file c.in_ok-shown.ensures.shown c.header.ensures.value
-    c.in_ok-handset.ensures.heard c.in-Ok.ensures.ok c.in-Ok.ensures.behind in
+    c.in_ok-listener.ensures.listens c.in-Ok.ensures.ok c.in-Ok.ensures.behind in
     writes_rest_part begun c.in-Ok-hear.ensures.ok c.in_ok-hear_rest.ensures.written
 
 pub returns-in_err-reader-clause-early : goal.returns-in_err-reader-clause-early
@@ -117,8 +116,8 @@ returns-in_err-shown-clause-early g c none =
     (omega (arith, c.in_ok-reader.ensures.reader.0, c.requires.span.0))
     c.in_ok-reader.ensures.file
 
-pub returns-in_err-handset-clause-early : goal.returns-in_err-handset-clause-early
-returns-in_err-handset-clause-early g c none =
+pub returns-in_err-listener-clause-early : goal.returns-in_err-listener-clause-early
+returns-in_err-listener-clause-early g c none =
     begins_file (g.S.Source.rest c.args.source.now) _ c.in_ok-reader.reader.header
     c.open_span.new.span c.in_ok-reader.ensures.lawful (search rules)
     (omega (arith, c.in_ok-reader.ensures.reader.0, c.requires.span.0))
@@ -127,16 +126,17 @@ returns-in_err-handset-clause-early g c none =
 pub returns-clause-alone : goal.returns-clause-alone
 returns-clause-alone g c none unheard =
     let span = c.open_span.new.span in
-    let t : Option Tuning =
-    tuning_of c.in_ok-reader.reader.header span (receiver_of c.args.reception.purpose) in
+    let purpose = c.args.reception.purpose in
+    let header = c.in_ok-reader.reader.header in
+    let l = listening _ purpose header span in
     let begun =
     has_begun _ c.args.reception span c.in_ok-shown.shown (search rules)
     c.in_ok-reader.ensures.file c.in_ok-shown.ensures.shown c.header.ensures.value
-    c.in_ok-handset.ensures.heard c.in-Ok.ensures.ok c.in-Ok.ensures.behind in
-    let first = (c.in-Ok-hear.ensures.ok t _ [] [] begun.given).stands in
-    let last = (c.in_ok-hear_rest.ensures.ok t _ _ first).tells.stands in
-    ends_well t _ c.end_when.result _ (ap (tuning_of c.in_ok-reader.reader.header span) none)
-    c.end_when.ensures.value (c.is_told.ensures t _ last.stands) unheard
+    c.in_ok-listener.ensures.listens c.in-Ok.ensures.ok c.in-Ok.ensures.behind in
+    let first = c.in-Ok-hear.ensures.ok l [] begun.listens in
+    let last = c.in_ok-hear_rest.ensures.ok l _ first.listens in
+    ends_well _ purpose header span _ _ c.end_when.result none c.end_when.ensures.value
+    (c.is_told.ensures l _ _ last.tells.listens) unheard
 
 pub returns-in-Err-clause-begun : goal.returns-in-Err-clause-begun
 returns-in-Err-clause-begun g c lost =
@@ -184,7 +184,7 @@ returns-in_err-hear_rest-clause-cut g c cut =
     let begun =
     has_begun _ c.args.reception c.open_span.new.span c.in_ok-shown.shown (search rules)
     c.in_ok-reader.ensures.file c.in_ok-shown.ensures.shown c.header.ensures.value
-    c.in_ok-handset.ensures.heard c.in-Ok.ensures.ok c.in-Ok.ensures.behind in
+    c.in_ok-listener.ensures.listens c.in-Ok.ensures.ok c.in-Ok.ensures.behind in
     writes_first (g.S.Source.rest c.args.source.now) _ _ _ _ c.in_ok-reader.ensures.lawful begun
     c.in-Ok-hear.ensures.ok
     (c.in_err-hear_rest.ensures.cut
@@ -197,7 +197,7 @@ returns-in_err-hear_rest-clause-long g c long =
     let begun =
     has_begun _ c.args.reception c.open_span.new.span c.in_ok-shown.shown (search rules)
     c.in_ok-reader.ensures.file c.in_ok-shown.ensures.shown c.header.ensures.value
-    c.in_ok-handset.ensures.heard c.in-Ok.ensures.ok c.in-Ok.ensures.behind in
+    c.in_ok-listener.ensures.listens c.in-Ok.ensures.ok c.in-Ok.ensures.behind in
     writes_all (g.S.Source.rest c.args.source.now) _ _ _ _ c.in_ok-reader.ensures.lawful
     (omega (arith, c.in_ok-reader.ensures.reader.0, c.requires.span.0)) begun
     c.in-Ok-hear.ensures.ok

@@ -11,7 +11,7 @@ use Rattle.mobile_core.specs.Tuning.{Tuning}
 use Rattle.mobile_core.specs.declared.event.Event.{Event}
 use Rattle.cdma_replay.specs.Hearing.{HasTold}
 use Rattle.cdma_replay.proofs.Hearings.{told_all, told_more, told_none, told_part}
-use Rattle.cdma_replay.proofs.receiving.tell.Goals as goal
+use Rattle.cdma_replay.proofs.listener.tell.Goals as goal
 
 pub loop-event-init : goal.loop-event-init
 loop-event-init g c = record {
@@ -31,15 +31,15 @@ loop-event-init g c = record {
 }
 
 pub returns-in_default-clause-ok : goal.returns-in_default-clause-ok
-returns-in_default-clause-ok g c t first heard given stands behind =
+returns-in_default-clause-ok g c t first heard stands behind =
     let inv = c.loop-event.invariant in
     let taken = c.loop-event.taken in
     let samples = c.args.samples.now in
     let nothing : c.step-step.result.event ≡ None = search rules in
     let left = take_rest samples taken in
     let none = c.step-step.ensures.none nothing in
-    told_all t first c.loop-event.mobile c.step-step.new.self _ given heard samples taken
-    c.step-step.result.taken _ _ (inv.told t first heard given stands behind)
+    told_all t first c.loop-event.mobile c.step-step.new.self _ heard samples taken
+    c.step-step.result.taken _ _ (inv.told t first heard (events t heard) stands behind)
     (none.0 ∙ ap length left)
     (λ (before : List Event)
     (is : StandsFor t c.loop-event.mobile (heard ++ take taken samples) before).
@@ -95,11 +95,11 @@ returns-in_err-tell-clause-err g c =
     let something : c.step-step.result.event ≡ Some event = search rules in
     let left = take_rest samples taken in
     let p = err_from_is_err_and c.from_residual.result c.from_residual.ensures.1 in
-    rw p.1 (λ (t : Tuning) (first : List KeptTap) (heard : List Sample) (given : List Event)
-    (stands : StandsFor t c.args.mobile.now heard given)
-    (behind : g.T.KeepsTaps.kept c.args.taps.now ≡ run_taps first given).
-    told_part t first c.loop-event.mobile c.step-step.new.self _ given heard samples taken
-    c.step-step.result.taken event _ _ _ (inv.told t first heard given stands behind)
+    rw p.1 (λ (t : Tuning) (first : List KeptTap) (heard : List Sample)
+    (stands : StandsFor t c.args.mobile.now heard (events t heard))
+    (behind : g.T.KeepsTaps.kept c.args.taps.now ≡ run_taps first (events t heard)).
+    told_part t first c.loop-event.mobile c.step-step.new.self _ heard samples taken
+    c.step-step.result.taken event _ _ _ (inv.told t first heard (events t heard) stands behind)
     (λ (before : List Event)
     (is : StandsFor t c.loop-event.mobile (heard ++ take taken samples) before).
     subst (λ (xs : List Sample). StandsFor t c.step-step.new.self

@@ -5,7 +5,7 @@ use Rattle.mobile_core.specs.Standing.{StandsFor, has_room, steps_left}
 use Rattle.mobile_core.specs.Tuning.{Tuning}
 use Rattle.mobile_core.specs.declared.event.Event.{Event}
 use Rattle.cdma_replay.specs.Hearing.{HasTold}
-use Rattle.cdma_replay.proofs.receiving.tell.Given as goal
+use Rattle.cdma_replay.proofs.listener.tell.Given as goal
 
 abbrev pub invariant-loop-event : goal.invariant-loop-event
 invariant-loop-event g l = record {

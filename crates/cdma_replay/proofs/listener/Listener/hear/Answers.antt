@@ -1,0 +1,44 @@
+use Rattle.std.proofs.Common.{◌++◌, subst, sym}
+use Rattle.cdma_replay.specs.Hearing.{Listening, Listens, Tells, TellsPart}
+use Rattle.cdma_replay.specs.declared.listener.Listener.{Listener}
+use Rattle.cdma_replay.specs.declared.listener.Listener.TheVariants as by
+use Rattle.cdma_replay.proofs.Hearings.{hears_nobody, on_err, on_handset, on_ok, room_some}
+use Rattle.cdma_replay.proofs.listener.Listener.hear.Goals as goal
+
+pub tell-requires : goal.tell-requires
+tell-requires g c = record {
+  room = room_some _ c.in-Handset.mobile _ c.in-Handset.is c.requires.room;
+  kept = c.requires.kept;
+}
+
+pub returns-in-Handset-clause-ok : goal.returns-in-Handset-clause-ok
+returns-in-Handset-clause-ok g c =
+    let kept = g.T.KeepsTaps.kept c.args.taps.now in
+    on_ok c.tell.result _ _
+    (λ tells l heard is. on_handset
+    (λ (l : Listening). Tells l (by.Handset c.tell.new.mobile)
+    (g.T.KeepsTaps.kept c.tell.new.taps) heard (heard ++ c.args.samples.now)
+    (g.K.Sink.written c.args.sink.now) (g.K.Sink.written c.tell.new.sink)) l c.in-Handset.mobile kept heard
+    (subst (λ (h : Listener). Listens l h kept heard) c.in-Handset.is is)
+    (λ t taps stands behind. tells t taps heard stands behind))
+    c.tell.ensures.ok
+
+pub returns-in-Handset-clause-err : goal.returns-in-Handset-clause-err
+returns-in-Handset-clause-err g c =
+    let kept = g.T.KeepsTaps.kept c.args.taps.now in
+    on_err c.tell.result _ _
+    (λ tells l heard is. on_handset
+    (λ (l : Listening). TellsPart l heard (heard ++ c.args.samples.now)
+    (g.K.Sink.written c.args.sink.now) (g.K.Sink.written c.tell.new.sink)) l c.in-Handset.mobile kept heard
+    (subst (λ (h : Listener). Listens l h kept heard) c.in-Handset.is is)
+    (λ t taps stands behind. tells t taps heard stands behind))
+    c.tell.ensures.err
+
+pub returns-in-Nobody-clause-ok : goal.returns-in-Nobody-clause-ok
+returns-in-Nobody-clause-ok g c l heard is =
+    let kept = g.T.KeepsTaps.kept c.args.taps.now in
+    let held = g.K.Sink.written c.args.sink.now in
+    subst (λ (h : Listener). Tells l h kept heard (heard ++ c.args.samples.now) held held)
+    (sym c.in-Nobody.is)
+    (hears_nobody l kept heard c.args.samples.now held
+    (subst (λ (h : Listener). Listens l h kept heard) c.in-Nobody.is is))

@@ -1,0 +1,14 @@
+use Rattle.std.proofs.Common.{rules}
+use Rattle.cdma_replay.specs.Hearing.{AreNearTo}
+use Rattle.cdma_replay.proofs.Hearings.{listens_new}
+use Rattle.cdma_replay.proofs.opening.listener_for.Goals as goal
+
+pub returns-in_ok-mobile-in-Followed-clause-listens : goal.returns-in_ok-mobile-in-Followed-clause-listens
+returns-in_ok-mobile-in-Followed-clause-listens c =
+    let first = c.args.first.now in
+    let best = c.in-Followed.best in
+    let near : AreNearTo first best.phase c.in-Followed.receiver c.near-paths.result =
+    search rules in
+    rw c.in-Followed.is
+    (λ kept. listens_new _ c.in_ok-mobile-in-Followed.mobile kept
+    (c.in_ok-mobile-in-Followed.ensures.given first (search rules) near))
