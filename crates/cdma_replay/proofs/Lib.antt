@@ -13,3 +13,7 @@ pub mod Prefixes
 pub mod RankLines
 pub mod Replies
 mod Counting
+pub mod TunedFrames
+pub mod TunedMarks
+pub mod TunedTexts
+pub mod TunedListeners

@@ -53,4 +53,3 @@ pub fn step_to_mark(mobile: &mut Mobile, samples: &[Sample]) -> Reached
         }
     }
 }
-

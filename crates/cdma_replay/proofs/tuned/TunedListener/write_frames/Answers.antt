@@ -1,0 +1,24 @@
+use Rattle.std.proofs.Common.{refl}
+use Rattle.cdma_replay.proofs.Hearings.{on_err, on_ok}
+use Rattle.cdma_replay.proofs.TunedListeners.{tells_behind, tells_cut, tells_nothing}
+use Rattle.cdma_replay.proofs.tuned.TunedListener.write_frames.Goals as goal
+
+pub returns-in-Some-clause-ok : goal.returns-in-Some-clause-ok
+returns-in-Some-clause-ok g c =
+    on_ok c.hear_frames.result _ _
+    (λ writes t channel form heard is. tells_behind t channel form c.args.self.now heard
+    c.args.samples.now _ _ is c.in-Some.tuner c.in-Some.is _ c.hear_frames.new.tuner refl refl refl
+    refl refl refl writes)
+    c.hear_frames.ensures.ok
+
+pub returns-in-Some-clause-err : goal.returns-in-Some-clause-err
+returns-in-Some-clause-err g c =
+    on_err c.hear_frames.result _ _
+    (λ writes t channel form heard is. tells_cut t channel form c.args.self.now heard
+    c.args.samples.now _ _ is c.in-Some.tuner c.in-Some.is writes)
+    c.hear_frames.ensures.err
+
+pub returns-in-None-clause-ok : goal.returns-in-None-clause-ok
+returns-in-None-clause-ok g c t channel form heard is =
+    tells_nothing t channel form c.args.self.now _ heard c.args.samples.now _ is c.in-None.is
+    c.requires.all refl refl refl refl is.listens
