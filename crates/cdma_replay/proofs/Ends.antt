@@ -18,6 +18,7 @@ use Rattle.cdma_replay.specs.Find.{BeginsFile, ended}
 use Rattle.cdma_replay.specs.Hearing.{IsUnheard, end_when, is_told, listening}
 use Rattle.cdma_replay.specs.declared.purpose.Purpose.{Purpose}
 use Rattle.cdma_replay.specs.declared.purpose.Purpose.TheVariants.{Find, Follow, Survey}
+use Rattle.cdma_replay.specs.declared.purpose.Purpose.TheVariants.{Tuned}
 use Rattle.cdma_replay.proofs.Files.{ended_by}
 use Rattle.cdma_replay.proofs.Prefixes.{front_begins}
 
@@ -78,6 +79,7 @@ unheard_told : (taps : List KeptTap) (purpose : Purpose) (header : Header)
     is_told (listening taps purpose header first) heard ≡ true
 unheard_told taps Find header first heard unheard = refl
 unheard_told taps (Follow receiver) header first heard unheard = absurd unheard
+unheard_told taps (Tuned fingers channel text) header first heard unheard = absurd unheard
 unheard_told taps (Survey base width top) header first heard unheard = refl
 
 pub ends_well : {T : Type 0} (taps : List KeptTap) (purpose : Purpose) (header : Header)

@@ -2,7 +2,7 @@
 use Rattle.std.proofs.Common.{◌≡◌, ℕ, zero, suc, ◌+◌, ◌-◌, ◌≤◌, ◌++◌, ◌∷◌, [], List, length, take}
 use Rattle.std.proofs.Common.{drop, refl, sym, ap, ◌∙◌, subst, arith, append_assoc, append-nil}
 use Rattle.std.proofs.Common.{length-append, true, ℤ, pos, replicate, Option, None}
-use Rattle.std.proofs.Common.{Result, Ok, Err, OnErr, OnOk, option_map}
+use Rattle.std.proofs.Common.{Result, Ok, Err, IfOk, OnErr, OnOk, option_map}
 use Rattle.std.proofs.lemmas.List.{length-replicate, take_all, take_at, take-append-drop}
 use Rattle.std.proofs.lemmas.List.Concat.{flat_map-append}
 use Rattle.std.specs.List.{flat_map, range_with_len}
@@ -15,10 +15,11 @@ use Rattle.chip_core.proofs.Ranges.{flat_map-places-more, flat_map_ext_places}
 use Rattle.chip_core.specs.declared.sample.Sample.{Sample}
 use Rattle.cdma_io.specs.Outside.{AppendsPrefix}
 use Rattle.mobile_core.specs.Events.{events, events_at, events_within}
-use Rattle.mobile_core.specs.Near.{AreNear}
+use Rattle.mobile_core.specs.Near.{AreNear, low_of}
 use Rattle.mobile_core.specs.Standing.{StandsFor, events_left, has_room, parts}
 use Rattle.mobile_core.specs.Timing.{IsTimed}
 use Rattle.mobile_core.specs.Tuning.{Tuning, sync_stream}
+use Rattle.mobile_core.specs.declared.channel.Channel.{Channel}
 use Rattle.mobile_core.specs.declared.event.Event.{Event}
 use Rattle.mobile_core.specs.declared.mobile.Mobile.{Mobile}
 use Rattle.event_tap.specs.Taps.{KeptTap, heard_text, run_taps, run_text}
@@ -31,13 +32,12 @@ use Rattle.cdma_replay.specs.declared.status.Status.TheVariants.{Done, NoSync, B
 use Rattle.cdma_replay.specs.declared.status.Status.TheVariants.{ReadFault, WriteFault, NoMemory}
 use Rattle.cdma_replay.specs.declared.status.Status.TheVariants.{BadScript}
 use Rattle.cdma_replay.specs.Find.{IsEnd, IsFault}
-use Rattle.mobile_core.specs.Marks.{mark}
 use Rattle.mobile_core.specs.SyncEvents.{sync_events_at}
 use Rattle.mobile_core.proofs.EventsGrown.{events_at_by, events_sooner}
 use Rattle.mobile_core.proofs.FrameTimes.{known_between}
+use Rattle.mobile_core.proofs.FingerTimes.{timed_of}
 use Rattle.mobile_core.proofs.FramesFollowed.{told_unset}
 use Rattle.mobile_core.proofs.Growth.{KnownFrom, left_all, left_none}
-use Rattle.mobile_core.proofs.MarkGrowth.{mark_before_none, mark_is}
 use Rattle.cdma_io.specs.declared.header.Header.{Header}
 use Rattle.pilot_search.specs.BestIn.{IsBestIn}
 use Rattle.pilot_search.specs.Near.{near_deltas}
@@ -49,9 +49,15 @@ use Rattle.mobile_core.specs.declared.settings.Settings.{Settings}
 use Rattle.mobile_core.specs.Tuning.{tuning_by}
 use Rattle.cdma_replay.proofs.Prefixes.{begins_more, front_begins, prefix_before, prefix_behind}
 use Rattle.cdma_replay.proofs.Prefixes.{taken_begins}
-use Rattle.cdma_replay.specs.Hearing.{AreNearTo, AreReady, ByTaps, HasRoom, HasRoomFor, HasTold}
+use Rattle.cdma_replay.specs.Hearing.{AreNearTo, AreReady, ByFrames, ByTaps, HasRoom, HasRoomFor, HasTold}
 use Rattle.cdma_replay.specs.Hearing.{Listening, Listens, Nobody, Tells, TellsMore, TellsPart}
 use Rattle.cdma_replay.specs.Hearing.{is_told, told, traffic_of, tuning_for}
+use Rattle.cdma_replay.specs.TunedListening.{ListensTuned, TellsTuned, TellsTunedPart, tuned_room}
+use Rattle.cdma_replay.specs.TunedTexts.{tuned_text}
+use Rattle.cdma_replay.proofs.TunedMarks.{none_marked, stands_near}
+use Rattle.cdma_replay.proofs.TunedTexts.{text_of_nothing}
+use Rattle.cdma_replay.specs.declared.tuned.TunedListener.{TunedListener}
+use Rattle.cdma_replay.specs.declared.tuned_text.TunedText.{TunedText}
 use Rattle.cdma_replay.specs.declared.listener.Listener.{Listener}
 use Rattle.cdma_replay.specs.declared.listener.Listener.TheVariants as by
 
@@ -270,25 +276,23 @@ told_part t taps one other kept heard samples taken n event old mid new so_far s
     }
 
 -- before any sample is taken nothing is heard
-events_none : (t : Tuning) (low : ℕ) → IsTimed t.count (sync_stream t) low → events t [] ≡ []
+events_none : (t : Tuning) → AreNear (sync_stream t).fingers → events t [] ≡ []
 unfolding events_within
-events_none t low timed =
-    let s = sync_stream t in
+events_none t near =
+    let low = low_of t in
+    let timed = timed_of t near in
     let later : KnownFrom t 0 1 =
     λ (k : ℕ) above inside.
     let early = timed.early k in
-    let least = (known_between s timed k inside).low in
+    let least = (known_between (sync_stream t) timed k inside).low in
     let some = timed.some in
     omega (arith, early, least, some) in
-    let unmarked : mark t [] 0 ≡ None =
-    mark_is t timed [] 0 0 (λ k less. absurd (omega (arith, less))) later
-    ∙ mark_before_none t [] 0 (λ k less. absurd (omega (arith, less))) in
     let silent : sync_events_at t [] 0 ≡ [] =
     sym (left_all t low timed [] 0 (λ k less. absurd (omega (arith, less))))
     ∙ left_none t low timed [] 0 later in
     flat_map-places-more (events_at t []) 0
     ∙ ap (λ (ks : List ℕ). flat_map (events_at t []) ks ++ events_at t [] 0) places-none
-    ∙ events_at_by t [] 0 None unmarked
+    ∙ events_at_by t [] 0 None (none_marked t near)
     ∙ ap (λ (es : List Event). sync_events_at t [] 0 ++ es) (told_unset t t.traffic [] 0)
     ∙ append-nil (sync_events_at t [] 0) ∙ silent
 
@@ -341,11 +345,13 @@ hears_nobody Nobody kept heard samples old listens = record {
   listens = tt;
 }
 hears_nobody (ByTaps t taps) kept heard samples old listens = absurd listens
+hears_nobody (ByFrames t channel text) kept heard samples old listens = absurd listens
 
 pub nobody_told : (l : Listening) (kept : List KeptTap) (heard : List Sample) →
     Listens l by.Nobody kept heard → true ≡ is_told l heard
 nobody_told Nobody kept heard listens = refl
 nobody_told (ByTaps t taps) kept heard listens = absurd listens
+nobody_told (ByFrames t channel text) kept heard listens = absurd listens
 
 -- what holds where taps hear a handset
 pub on_handset : (P : Listening → Type 0) (l : Listening) (mobile : Mobile) (kept : List KeptTap)
@@ -354,13 +360,39 @@ pub on_handset : (P : Listening → Type 0) (l : Listening) (mobile : Mobile) (k
     kept ≡ run_taps taps (events t heard) → P (ByTaps t taps)) → P l
 on_handset P Nobody mobile kept heard listens holds = absurd listens
 on_handset P (ByTaps t taps) mobile kept heard listens holds = holds t taps listens.0 listens.1
+on_handset P (ByFrames t channel text) mobile kept heard listens holds = absurd listens
+
+-- and where the frames of one channel are heard
+pub on_tuned : (P : Listening → Type 0) (l : Listening) (tuned : TunedListener)
+    (kept : List KeptTap) (heard : List Sample) → Listens l (by.Tuned tuned) kept heard →
+    ((t : Tuning) (channel : Channel) (text : TunedText) →
+    ListensTuned t channel text tuned heard → P (ByFrames t channel text)) → P l
+on_tuned P Nobody tuned kept heard listens holds = absurd listens
+on_tuned P (ByTaps t taps) tuned kept heard listens holds = absurd listens
+on_tuned P (ByFrames t channel text) tuned kept heard listens holds = holds t channel text listens
+
+pub tuned_tells : {t : Tuning} {channel : Channel} {text : TunedText} {tuned : TunedListener}
+    {kept : List KeptTap} {before heard : List Sample} {old new : Option (List ℕ)} →
+    TellsTuned t channel text tuned before heard old new →
+    Tells (ByFrames t channel text) (by.Tuned tuned) kept before heard old new
+unfolding told
+tuned_tells tells = record {
+  more = record { text = tells.text; written = tells.written; all = tells.all };
+  listens = tells.listens;
+}
+
+pub tuned_part : {t : Tuning} {channel : Channel} {text : TunedText} {before heard : List Sample}
+    {old new : Option (List ℕ)} → TellsTunedPart t channel text before heard old new →
+    TellsPart (ByFrames t channel text) before heard old new
+unfolding told
+tuned_part part = record { text = part.text; written = part.written; begins = part.begins }
 
 -- a handset that has taken nothing
 pub listens_new : (t : Tuning) (mobile : Mobile) (kept : List KeptTap) → StandsFor t mobile [] [] →
     Listens (ByTaps t kept) (by.Handset mobile) kept []
 unfolding run_taps
 listens_new t mobile kept stands =
-    let none = events_none t _ stands.sync.receives.clocked.timed in (
+    let none = events_none t (stands_near t mobile [] [] stands) in (
       subst (StandsFor t mobile []) (sym none) stands,
       ap (run_taps kept) (sym none),
     )
@@ -372,7 +404,13 @@ unfolding told
 told_of_none Nobody listener kept listens = refl
 told_of_none (ByTaps t taps) by.Nobody kept listens = absurd listens
 told_of_none (ByTaps t taps) (by.Handset mobile) kept listens =
-    ap (run_text taps) (events_none t _ listens.0.sync.receives.clocked.timed) ∙ run_text-none taps
+    ap (run_text taps) (events_none t (stands_near t mobile [] (events t []) listens.0))
+    ∙ run_text-none taps
+told_of_none (ByTaps t taps) (by.Tuned tuned) kept listens = absurd listens
+told_of_none (ByFrames t channel text) by.Nobody kept listens = absurd listens
+told_of_none (ByFrames t channel text) (by.Handset mobile) kept listens = absurd listens
+told_of_none (ByFrames t channel text) (by.Tuned tuned) kept listens =
+    text_of_nothing t listens.close text channel
 
 -- ---- a handset that has taken nothing
 
@@ -391,6 +429,16 @@ first_near deltas found count long most is =
     ) in
     ap (take count) is ∙ take_at found (replicate (3 - count) (pos 0)) count few
 
+pub near_taken : (first : List Sample) (fingers : ℕ) (best : Best) (near : Near) →
+    IsBestIn first 0 32768 best.phase best.energy → near.count ≡ fingers → fingers ≤ 3 →
+    length near.deltas ≡ 3 →
+    near.deltas ≡ near_deltas first best.phase fingers ++ replicate (3 - fingers) (pos 0) →
+    take near.count near.deltas ≡ near_deltas first (best_phase first) fingers
+near_taken first fingers best near found counted most long deltas =
+    ap (λ (n : ℕ). take n near.deltas) counted ∙
+    first_near near.deltas (near_deltas first best.phase fingers) fingers long most deltas
+    ∙ ap (λ (p : ℕ). near_deltas first p fingers) (best_phase-only first best.phase best.energy found)
+
 tuned_alike : (header : Header) (first : List Sample) (receiver : Receiver) (settings : Settings)
     (best : Best) (near : Near) → IsBestIn first 0 32768 best.phase best.energy →
     settings.count ≡ header.count → settings.check30 ≡ header.check30 →
@@ -404,12 +452,7 @@ tuned_alike header first receiver settings best near found count check30 check16
     counted most long deltas =
     let phase : best.phase ≡ best_phase first =
     best_phase-only first best.phase best.energy found in
-    let near_is : take near.count near.deltas
-    ≡ near_deltas first (best_phase first) receiver.fingers =
-    ap (λ (n : ℕ). take n near.deltas) counted ∙
-    first_near near.deltas (near_deltas first best.phase receiver.fingers) receiver.fingers long
-    most deltas
-    ∙ ap (λ (p : ℕ). near_deltas first p receiver.fingers) phase in
+    let near_is = near_taken first receiver.fingers best near found counted most long deltas in
     rw (count, check30, check16, paging, traffic, phase, near_is) refl
 
 pub fresh_given : (settings : Settings) (header : Header) (first : List Sample)
@@ -438,14 +481,24 @@ pub on_err : {T E : Type 0} (r : Result T E) (P Q : Type 0) → (P → Q) → On
 on_err (Ok x) P Q f is = is
 on_err (Err e) P Q f is = f is
 
+pub if_ok : {T E : Type 0} (r : Result T E) (P Q : T → Type 0) → ((x : T) → P x → Q x) →
+    IfOk r P → IfOk r Q
+if_ok (Ok x) P Q f is = f x is
+if_ok (Err e) P Q f is = is
+
 pub room_some : (listener : Listener) (mobile : Mobile) (n : ℕ) → listener ≡ by.Handset mobile →
     HasRoomFor listener n → n ≤ has_room mobile
 room_some listener mobile n is room = subst (λ (h : Listener). HasRoomFor h n) is room
+
+pub room_tuned : (listener : Listener) (tuned : TunedListener) (n : ℕ) →
+    listener ≡ by.Tuned tuned → HasRoomFor listener n → n ≤ tuned_room tuned
+room_tuned listener tuned n is room = subst (λ (h : Listener). HasRoomFor h n) is room
 
 pub room_for : (listener : Listener) (left n : ℕ) → HasRoom listener left → n ≤ left →
     HasRoomFor listener n
 room_for by.Nobody left n room fits = tt
 room_for (by.Handset mobile) left n room fits = omega (arith, room, fits)
+room_for (by.Tuned tuned) left n room fits = omega (arith, room, fits)
 
 -- ---- a fault is no good end
 

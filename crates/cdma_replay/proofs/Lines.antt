@@ -26,8 +26,10 @@ use Rattle.cdma_replay.specs.declared.handset.Receiver.{Receiver}
 use Rattle.cdma_replay.specs.declared.listener.Listener.{Listener}
 use Rattle.cdma_replay.specs.declared.opening.Shown.{Shown}
 use Rattle.cdma_replay.specs.declared.opening.Shown.TheVariants.{Followed, Found, Ranks}
+use Rattle.cdma_replay.specs.declared.opening.Shown.TheVariants.{TunedTo}
 use Rattle.cdma_replay.specs.declared.purpose.Purpose.{Purpose}
 use Rattle.cdma_replay.specs.declared.purpose.Purpose.TheVariants.{Find, Follow, Survey}
+use Rattle.cdma_replay.specs.declared.purpose.Purpose.TheVariants.{Tuned}
 use Rattle.cdma_replay.specs.declared.receiving.Reception.{Reception}
 use Rattle.cdma_replay.specs.declared.status.Status.{Status}
 use Rattle.cdma_replay.specs.Find.{WritesNoMore, WritesText}
@@ -37,7 +39,11 @@ use Rattle.cdma_replay.proofs.Hearings.{more_behind, part_behind, told_of_none}
 use Rattle.cdma_replay.specs.Hearing.{ByTaps, HearsPart, HearsRest, Listening, Listens, Tells}
 use Rattle.cdma_replay.specs.Hearing.{TellsMore, TellsPart, best_pilot, end_when, file_end_of}
 use Rattle.cdma_replay.specs.Hearing.{file_text, first_text, is_told, listening, told, tuning_for}
-use Rattle.cdma_replay.specs.Openings.{Shows, listening_in, pilot_event, shown_text, taps_after}
+use Rattle.cdma_replay.specs.Openings.{IsBest, Shows, listening_in, shown_text, taps_after}
+use Rattle.cdma_replay.specs.declared.tuned_text.TunedText.{TunedText}
+use Rattle.mobile_core.specs.declared.channel.Channel.{Channel}
+use Rattle.pilot_search.specs.declared.sweeping.Best.{Best}
+use Rattle.pilot_survey.specs.Survey.{ranking}
 use Rattle.cdma_replay.specs.Ranks.{ranks_text, survey_text}
 
 -- what a sweep over all phases found
@@ -53,22 +59,38 @@ abbrev pub told_first : List KeptTap → Reception → List Sample → List ℕ
 told_first taps r samples = first_text taps r.purpose samples
 
 -- what was found is told by that text
-shown_first : (taps : List KeptTap) (purpose : Purpose) (samples : List Sample) (shown : Shown) →
-    Shows purpose samples shown → shown_text taps shown ≡ first_text taps purpose samples
+pub found_shows : {first : List Sample} {best : Best} → IsBest first best →
+    Shows Find first (Found best)
+found_shows {first} {best} is = record {
+  text = λ (taps : List KeptTap). ap event_line (pilot-best first best.phase best.energy is);
+  hears = λ (taps : List KeptTap) (header : Header). refl;
+}
+
+pub followed_shows : {first : List Sample} {best : Best} (receiver : Receiver) →
+    IsBest first best → Shows (Follow receiver) first (Followed best receiver)
+followed_shows {first} {best} receiver is =
+    let same = pilot-best first best.phase best.energy is in
+    record {
+      text = λ (taps : List KeptTap). ap (heard_text taps) same;
+      hears = λ (taps : List KeptTap) (header : Header).
+          ap (λ (e : Event). ByTaps (tuning_for header first receiver) (taps_behind taps e)) same;
+    }
+
+pub tuned_shows : {first : List Sample} {best : Best} (fingers : ℕ) (channel : Channel)
+    (text : TunedText) →
+    Shows (Tuned fingers channel text) first (TunedTo best fingers channel text)
+tuned_shows fingers channel text = record {
+  text = λ (taps : List KeptTap). refl;
+  hears = λ (taps : List KeptTap) (header : Header). refl;
+}
+
+pub ranks_show : {first : List Sample} {ranks : List Rank} (base width top : ℕ) →
+    ranks ≡ ranking first base width → Shows (Survey base width top) first (Ranks ranks top)
 unfolding survey_text
-shown_first taps Find samples (Found best) is =
-    ap event_line (pilot-best samples best.phase best.energy is)
-shown_first taps Find samples (Followed best receiver) is = absurd is
-shown_first taps Find samples (Ranks ranks top) is = absurd is
-shown_first taps (Follow receiver) samples (Found best) is = absurd is
-shown_first taps (Follow receiver) samples (Followed best other) is =
-    ap (heard_text taps) (pilot-best samples best.phase best.energy is.0)
-shown_first taps (Follow receiver) samples (Ranks ranks top) is = absurd is
-shown_first taps (Survey base width top) samples (Found best) is = absurd is
-shown_first taps (Survey base width top) samples (Followed best receiver) is = absurd is
-shown_first taps (Survey base width top) samples (Ranks ranks count) is =
-    ap (λ (n : ℕ). ranks_text (take n ranks)) is.1
-    ∙ ap (λ (rs : List Rank). ranks_text (take top rs)) is.0
+ranks_show base width top is = record {
+  text = λ (taps : List KeptTap). ap (λ (rs : List Rank). ranks_text (take top rs)) is;
+  hears = λ (taps : List KeptTap) (header : Header). refl;
+}
 
 -- the text of a file whose first samples are these
 text_behind : (taps : List KeptTap) (r : Reception) (header : Header)
@@ -88,6 +110,7 @@ told_alike : (taps : List KeptTap) (purpose : Purpose) (header : Header)
     ≡ is_told (listening [] purpose header first) samples
 told_alike taps Find header first samples = refl
 told_alike taps (Follow receiver) header first samples = refl
+told_alike taps (Tuned fingers channel text) header first samples = refl
 told_alike taps (Survey base width top) header first samples = refl
 
 end_behind : (taps : List KeptTap) (r : Reception) (header : Header)
@@ -162,7 +185,7 @@ writes_first_text {taps} {r} {rest} {old} {new} mid header samples shown counted
     part =
     begins_text mid header samples [] counted consumed (no_bytes mid)
     (prefix_before old new (told_first taps r samples) _
-    (subst (AppendsPrefix old new) (shown_first taps r.purpose samples shown shows) part))
+    (subst (AppendsPrefix old new) (shows.text taps) part))
 
 -- ---- the first samples, and those behind them
 
@@ -175,24 +198,6 @@ pub record HasBegun (taps : List KeptTap) (r : Reception) (header : Header) (sam
       (header_spelling header ++ flat_map (sample_spelling (width_of header)) samples)
   pub line : Appends old new (told_first taps r samples)
   pub listens : Listens (listening taps r.purpose header samples) listener kept []
-
--- who hears the file behind what was found
-listening_shown : (taps : List KeptTap) (purpose : Purpose) (header : Header)
-    (samples : List Sample) (shown : Shown) → Shows purpose samples shown →
-    listening_in (taps_after taps shown) shown header samples ≡ listening taps purpose header samples
-listening_shown taps Find header samples (Found best) is = refl
-listening_shown taps Find header samples (Followed best receiver) is = absurd is
-listening_shown taps Find header samples (Ranks ranks top) is = absurd is
-listening_shown taps (Follow receiver) header samples (Found best) is = absurd is
-listening_shown taps (Follow receiver) header samples (Followed best other) is =
-    ap (λ (r : Receiver). ByTaps (tuning_for header samples r) (taps_behind taps (pilot_event best)))
-    is.1
-    ∙ ap (λ (e : Event). ByTaps (tuning_for header samples receiver) (taps_behind taps e))
-    (pilot-best samples best.phase best.energy is.0)
-listening_shown taps (Follow receiver) header samples (Ranks ranks top) is = absurd is
-listening_shown taps (Survey base width top) header samples (Found best) is = absurd is
-listening_shown taps (Survey base width top) header samples (Followed best receiver) is = absurd is
-listening_shown taps (Survey base width top) header samples (Ranks ranks count) is = refl
 
 -- from what was found in the first samples, and the new listener
 pub has_begun : (taps : List KeptTap) (r : Reception) {header same : Header}
@@ -211,12 +216,12 @@ has_begun taps r {header} {same} samples shown {listener} {kept} {rest} {mid} {o
     record {
       counted = counted;
       consumed = consumed;
-      line = subst (Appends old new) (shown_first taps r.purpose samples shown shows) line;
+      line = subst (Appends old new) (shows.text taps) line;
       listens =
           subst (λ (k : List KeptTap). Listens (listening taps r.purpose header samples) listener k [])
           (sym behind)
           (subst (λ (l : Listening). Listens l listener later [])
-          (listening_shown taps r.purpose header samples shown shows)
+          (shows.hears taps header)
           (subst (λ (h : Header). Listens (listening_in later shown h samples) listener later []) is
           (listens later)));
     }

@@ -21,6 +21,7 @@ use Rattle.mobile_core.specs.Events.{events}
 use Rattle.mobile_core.specs.Marks.{mark}
 use Rattle.mobile_core.specs.Standing.{StandsFor, has_room}
 use Rattle.mobile_core.specs.Tuning.{Tuning}
+use Rattle.mobile_core.specs.declared.channel.Channel.{Channel}
 use Rattle.mobile_core.specs.declared.event.Event.{Event}
 use Rattle.mobile_core.specs.declared.event.Event.TheVariants.{Pilot}
 use Rattle.mobile_core.specs.declared.mobile.Mobile.{Mobile}
@@ -32,11 +33,15 @@ use Rattle.event_tap.specs.Taps.{KeptTap, heard_text, run_taps, run_text, taps_b
 use Rattle.clean_link.specs.CleanLink.{sync_sent}
 use Rattle.clean_link.specs.SentEvents.{sent_events}
 use Rattle.cdma_replay.specs.Ranks.{survey_text}
+use Rattle.cdma_replay.specs.TunedListening.{ListensTuned, tuned_room}
+use Rattle.cdma_replay.specs.TunedTexts.{tuned_text}
+use Rattle.cdma_replay.specs.declared.tuned_text.TunedText.{TunedText}
 use Rattle.cdma_replay.specs.declared.handset.Receiver.{Receiver}
 use Rattle.cdma_replay.specs.declared.listener.Listener.{Listener}
 use Rattle.cdma_replay.specs.declared.listener.Listener.TheVariants as by
 use Rattle.cdma_replay.specs.declared.purpose.Purpose.{Purpose}
 use Rattle.cdma_replay.specs.declared.purpose.Purpose.TheVariants.{Find, Follow, Survey}
+use Rattle.cdma_replay.specs.declared.purpose.Purpose.TheVariants.{Tuned}
 use Rattle.cdma_replay.specs.declared.receiving.Reception.{Reception}
 use Rattle.cdma_replay.specs.declared.status.Status.{Status}
 use Rattle.cdma_replay.specs.declared.status.Status.TheVariants.{Done, NoSync}
@@ -48,10 +53,11 @@ unfoldable pub best_pilot : List Sample → Event
 best_pilot samples = Pilot (best_phase samples) (energy samples (best_phase samples))
 
 -- the text of the first samples: the pilot's line, or what taps make of the pilot, or the lines of the
--- ranks
+-- ranks; there is none where the frames of one channel are wanted
 abbrev pub first_text : List KeptTap → Purpose → List Sample → List ℕ
 first_text taps Find first = event_line (best_pilot first)
 first_text taps (Follow receiver) first = heard_text taps (best_pilot first)
+first_text taps (Tuned fingers channel text) first = []
 first_text taps (Survey base width top) first = survey_text base width top first
 
 -- the traffic channel that words name, as a handset is told of it
@@ -72,10 +78,16 @@ tuning_for header first receiver =
       traffic = option_map traffic_of receiver.traffic;
     }
 
--- who hears a file: nobody, or a handset whose events these taps hear
+-- one that waits for the mark: which paging channel it would follow from there on doesn't matter
+abbrev pub waiting : ℕ → Receiver
+waiting fingers = record { fingers = fingers; paging = 1; traffic = None }
+
+-- who hears a file: nobody, or a handset whose events these taps hear, or a handset for the mark and
+-- a receiver for the frames of one channel behind it
 pub data Listening : Type 0 where
   Nobody : Listening
   ByTaps : Tuning → List KeptTap → Listening
+  ByFrames : Tuning → Channel → TunedText → Listening
 
 -- who hears one of this header with these first samples: the taps that are kept behind the pilot,
 -- where a handset follows it
@@ -83,12 +95,20 @@ abbrev pub listening : List KeptTap → Purpose → Header → List Sample → L
 listening taps Find header first = Nobody
 listening taps (Follow receiver) header first =
     ByTaps (tuning_for header first receiver) (taps_behind taps (best_pilot first))
+listening taps (Tuned fingers channel text) header first =
+    ByFrames (tuning_for header first (waiting fingers)) channel text
 listening taps (Survey base width top) header first = Nobody
+
+-- a file whose taps hear nothing
+abbrev pub IsUntapped : Purpose → Type 0
+IsUntapped (Follow receiver) = ⊥
+IsUntapped purpose = Unit {0}
 
 -- what is told of samples
 unfoldable pub told : Listening → List Sample → List ℕ
 told Nobody samples = []
 told (ByTaps t taps) samples = run_text taps (events t samples)
+told (ByFrames t channel text) samples = tuned_text text t channel samples
 
 -- the text of a file, or of one of which only so many samples are known: that of the first ones, and
 -- what is told of all
@@ -101,6 +121,7 @@ file_text taps r header samples =
 abbrev pub is_told : Listening → List Sample → Bool
 is_told Nobody samples = true
 is_told (ByTaps t taps) samples = is_some (mark t samples (length samples))
+is_told (ByFrames t channel text) samples = is_some (mark t samples (length samples))
 
 abbrev pub end_when : Bool → Status
 end_when told = if told then Done else NoSync
@@ -112,8 +133,9 @@ file_end_of r header samples =
 
 -- a file that nobody hears
 abbrev pub IsUnheard : Purpose → Type 0
-IsUnheard (Follow receiver) = ⊥
-IsUnheard purpose = Unit {0}
+IsUnheard Find = Unit {0}
+IsUnheard (Survey base width top) = Unit {0}
+IsUnheard purpose = ⊥
 
 -- what is told of a clean link: the pilot at the cell's phase, all whole sendings, the whole pages of
 -- the paging channel that is followed, and the frames of the traffic channel that is, with the
@@ -154,17 +176,21 @@ abbrev pub Listens : Listening → Listener → List KeptTap → List Sample →
 Listens Nobody by.Nobody kept heard = Unit {0}
 Listens (ByTaps t taps) (by.Handset mobile) kept heard =
     StandsFor t mobile heard (events t heard) × (kept ≡ run_taps taps (events t heard))
+Listens (ByFrames t channel text) (by.Tuned tuned) kept heard =
+    ListensTuned t channel text tuned heard
 Listens l listener kept heard = ⊥
 
 -- it takes just so many samples more
 abbrev pub HasRoom : Listener → ℕ → Type 0
 HasRoom by.Nobody count = Unit {0}
 HasRoom (by.Handset mobile) count = has_room mobile ≡ count
+HasRoom (by.Tuned tuned) count = tuned_room tuned ≡ count
 
 -- it takes so many samples more, or others too
 abbrev pub HasRoomFor : Listener → ℕ → Type 0
 HasRoomFor by.Nobody count = Unit {0}
 HasRoomFor (by.Handset mobile) count = count ≤ has_room mobile
+HasRoomFor (by.Tuned tuned) count = count ≤ tuned_room tuned
 
 -- a sink got what is told of these samples beyond what is told of those before
 pub record TellsMore (l : Listening) (before heard : List Sample) (old new : Option (List ℕ)) :

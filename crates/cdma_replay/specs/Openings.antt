@@ -1,49 +1,49 @@
 -- What was found in the first samples of a file, and what is told of it.
-use Rattle.std.specs.Prelude.{◌≡◌, ℕ, ◌≤◌, List, take}
+use Rattle.std.specs.Prelude.{◌≡◌, ℕ, ◌≤◌, List, [], take}
 use Rattle.chip_core.specs.declared.sample.Sample.{Sample}
 use Rattle.cdma_io.specs.declared.header.Header.{Header}
-use Rattle.cdma_words.specs.Words.{IsBase, IsTop, IsWidth}
+use Rattle.cdma_words.specs.Words.{IsBase, IsFingers, IsTop, IsWidth}
 use Rattle.pilot_search.specs.BestIn.{IsBestIn}
 use Rattle.pilot_search.specs.declared.sweeping.Best.{Best}
-use Rattle.pilot_survey.specs.Survey.{ranking}
 use Rattle.mobile_core.specs.declared.event.Event.{Event}
 use Rattle.mobile_core.specs.declared.event.Event.TheVariants as told
 use Rattle.event_tap.specs.EventLines.{event_line}
 use Rattle.event_tap.specs.Taps.{KeptTap, heard_text, taps_behind}
-use Rattle.cdma_replay.specs.Hearing.{ByTaps, IsLawfulReceiver, Listening, Nobody, tuning_for}
+use Rattle.cdma_replay.specs.Hearing.{ByFrames, ByTaps, IsLawfulReceiver, Listening, Nobody}
+use Rattle.cdma_replay.specs.Hearing.{first_text, listening, tuning_for, waiting}
+use Rattle.cdma_replay.specs.TunedTexts.{IsLawfulTuned}
 use Rattle.cdma_replay.specs.Ranks.{ranks_text}
 use Rattle.cdma_replay.specs.declared.opening.Shown.{Shown}
 use Rattle.cdma_replay.specs.declared.opening.Shown.TheVariants.{Followed, Found, Ranks}
+use Rattle.cdma_replay.specs.declared.opening.Shown.TheVariants.{TunedTo}
 use Rattle.cdma_replay.specs.declared.purpose.Purpose.{Purpose}
 use Rattle.cdma_replay.specs.declared.purpose.Purpose.TheVariants.{Find, Follow, Survey}
+use Rattle.cdma_replay.specs.declared.purpose.Purpose.TheVariants.{Tuned}
 
--- a receiver, or the numbers of a survey, as words name them
+-- a receiver, a channel or the numbers of a survey, as words name them
 abbrev pub IsLawfulPurpose : Purpose → Type 0
 IsLawfulPurpose Find = Unit {0}
 IsLawfulPurpose (Follow receiver) = IsLawfulReceiver receiver
+IsLawfulPurpose (Tuned fingers channel text) = IsFingers fingers × IsLawfulTuned channel text
 IsLawfulPurpose (Survey base width top) = IsBase base × IsWidth width × IsTop top
 
 -- the phase of greatest energy of all
 abbrev pub IsBest : List Sample → Best → Type 0
 IsBest first best = IsBestIn first 0 32768 best.phase best.energy
 
--- what a purpose wants of the first samples was found in them
-abbrev pub Shows : Purpose → List Sample → Shown → Type 0
-Shows Find first (Found best) = IsBest first best
-Shows (Follow receiver) first (Followed best other) = IsBest first best × (other ≡ receiver)
-Shows (Survey base width top) first (Ranks ranks count) =
-    (ranks ≡ ranking first base width) × (count ≡ top)
-Shows purpose first shown = ⊥
-
 -- who hears the file, where these taps are kept behind what was found
 abbrev pub listening_in : List KeptTap → Shown → Header → List Sample → Listening
 listening_in kept (Followed best receiver) header first =
     ByTaps (tuning_for header first receiver) kept
+listening_in kept (TunedTo best fingers channel text) header first =
+    ByFrames (tuning_for header first (waiting fingers)) channel text
 listening_in kept shown header first = Nobody
 
 -- a handset can follow it, where one does
 abbrev pub IsFollowable : List Sample → Shown → Type 0
 IsFollowable first (Followed best receiver) = IsBest first best × IsLawfulReceiver receiver
+IsFollowable first (TunedTo best fingers channel text) =
+    IsBest first best × IsFingers fingers × IsLawfulTuned channel text
 IsFollowable first shown = Unit {0}
 
 -- there are as many ranks as are told
@@ -58,9 +58,17 @@ pilot_event best = told.Pilot best.phase best.energy
 abbrev pub shown_text : List KeptTap → Shown → List ℕ
 shown_text taps (Found best) = event_line (pilot_event best)
 shown_text taps (Followed best receiver) = heard_text taps (pilot_event best)
+shown_text taps (TunedTo best fingers channel text) = []
 shown_text taps (Ranks ranks top) = ranks_text (take top ranks)
 
 -- the taps that are kept behind it
 abbrev pub taps_after : List KeptTap → Shown → List KeptTap
 taps_after taps (Followed best receiver) = taps_behind taps (pilot_event best)
 taps_after taps shown = taps
+
+-- what a purpose wants of the first samples was found in them: what is told of it is their text, and
+-- who hears the file behind it is who hears it for this purpose
+pub record Shows (purpose : Purpose) (first : List Sample) (shown : Shown) : Type 0 where
+  pub text : (taps : List KeptTap) → shown_text taps shown ≡ first_text taps purpose first
+  pub hears : (taps : List KeptTap) (header : Header) →
+      listening_in (taps_after taps shown) shown header first ≡ listening taps purpose header first

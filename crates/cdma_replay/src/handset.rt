@@ -10,6 +10,7 @@ ghost use Rattle.mobile_core.specs.TrafficMonitoring.{IsSoundAssignment};
 ghost use Rattle.cdma_words.specs.Words.{IsLawfulTraffic};
 ghost use Rattle.cdma_replay.specs.Hearing.{AreNearTo, AreReady, IsLawfulReceiver, traffic_of};
 ghost use Rattle.cdma_replay.specs.Hearing.{tuning_for};
+ghost use Rattle.cdma_replay.specs.Marking.{IsUntold};
 
 use cdma_io::Header;
 use cdma_words::TrafficOptions;
@@ -31,13 +32,20 @@ pub struct Receiver {
 }
 
 /// The traffic channel that words name, as a handset is told of it.
+pub fn followed(options: TrafficOptions) -> Traffic
+    ensures { result ≡ traffic_of options }
+{
+    let TrafficOptions { esn, row, offset } = options;
+    Traffic { esn, row, offset }
+}
+
+/// The same, where words name one.
 fn assigned(options: Option<TrafficOptions>) -> Option<Traffic>
     ensures value { result ≡ option_map traffic_of options }
     ensures sound { (paging : ℕ) → IsLawfulTraffic paging options →
         ForSome result IsSoundAssignment }
 {
-    let TrafficOptions { esn, row, offset } = options?;
-    Some(Traffic { esn, row, offset })
+    Some(followed(options?))
 }
 
 /// A handset for samples of this header, with paths near the pilot's phase. It has a table of the
@@ -56,6 +64,7 @@ pub fn handset(
         IsBestIn first 0 32768 best.phase best.energy →
         AreNearTo first best.phase receiver near →
         IfOk result (λ mobile. StandsFor (tuning_for header first receiver) mobile [] []) }
+    ensures untold { IfOk result IsUntold }
     ensures room { IfOk result (λ mobile. has_room mobile ≡ header.count) }
 {
     let settings = Settings {

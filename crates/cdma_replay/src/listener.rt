@@ -9,6 +9,7 @@ ghost use Rattle.mobile_core.specs.Tuning.{Tuning};
 ghost use Rattle.event_tap.specs.Taps.{IsKept, KeptTap, run_taps};
 ghost use Rattle.cdma_replay.specs.Hearing.{ByTaps, Tells, TellsPart};
 
+use crate::tuned::TunedListener;
 use cdma_io::{Failed, Sink};
 use chip_core::Sample;
 use event_tap::KeepsTaps;
@@ -21,6 +22,8 @@ pub enum Listener {
     Nobody,
     /// A handset, whose events taps hear.
     Handset(Mobile),
+    /// Who writes what is made of the frames of one channel.
+    Tuned(TunedListener),
 }
 
 impl Listener {
@@ -59,6 +62,7 @@ impl Listener {
         match self {
             Listener::Nobody => Ok(()),
             Listener::Handset(mobile) => tell(mobile, samples, taps, sink),
+            Listener::Tuned(tuned) => tuned.hear(samples, sink),
         }
     }
 
@@ -70,6 +74,7 @@ impl Listener {
         match self {
             Listener::Nobody => true,
             Listener::Handset(mobile) => mobile.synced(),
+            Listener::Tuned(tuned) => tuned.is_told(),
         }
     }
 }

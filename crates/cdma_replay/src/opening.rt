@@ -1,12 +1,17 @@
 //! What the first samples of a file show, and how it is told.
 
-ghost use Rattle.std.specs.Prelude.{◌≡◌, ◌≤◌, List, [], All, IfOk, OnErr, OnOk, length};
+ghost use Rattle.chip_core.specs.declared.sample.Sample.{Sample as TheSample};
+ghost use Rattle.std.specs.Prelude.{◌≡◌, ◌≤◌, ℕ, List, [], All, IfOk, OnErr, OnOk, length};
 ghost use Rattle.std.specs.Io.KnownBytes.{Appends};
 ghost use Rattle.cdma_io.specs.Outside.{AppendsPrefix, HasCause};
 ghost use Rattle.cdma_io.specs.SampleFile.{IsLawfulHeader};
-ghost use Rattle.cdma_words.specs.Words.{IsWorkers};
+ghost use Rattle.cdma_words.specs.Words.{IsFingers, IsWorkers};
 ghost use Rattle.event_tap.specs.Taps.{IsKept, KeptTap};
-ghost use Rattle.cdma_replay.specs.Hearing.{HasRoom, Listens};
+ghost use Rattle.cdma_replay.specs.Hearing.{AreNearTo, AreReady, HasRoom, Listens, tuning_for};
+ghost use Rattle.cdma_replay.specs.Hearing.{waiting};
+ghost use Rattle.cdma_replay.specs.TunedListening.{ListensTuned, tuned_room};
+ghost use Rattle.cdma_replay.specs.TunedTexts.{IsLawfulTuned};
+ghost use Rattle.cdma_replay.specs.Openings.{IsBest};
 ghost use Rattle.cdma_replay.specs.Openings.{IsFollowable, IsLawfulPurpose, IsTellable, Shows};
 ghost use Rattle.cdma_replay.specs.Openings.{listening_in, pilot_event, shown_text, taps_after};
 
@@ -14,11 +19,13 @@ use crate::handset::{Receiver, handset};
 use crate::listener::Listener;
 use crate::purpose::Purpose;
 use crate::ranks::write_ranks;
+use crate::tuned::TunedListener;
+use crate::tuned_text::TunedText;
 use cdma_io::{Failed, Header, Sink};
 use chip_core::{OutOfMemory, Phase, Sample};
 use event_tap::{KeepsTaps, write_event};
-use mobile_core::Event;
-use pilot_search::{Best, Gate, near, search};
+use mobile_core::{Channel, Event};
+use pilot_search::{Best, Gate, Near, near, search};
 use pilot_survey::{Survey, survey};
 use short_code::Codes;
 use std::alloc::Global;
@@ -35,6 +42,17 @@ pub enum Shown {
         best: Best,
         /// How the handset receives.
         receiver: Receiver,
+    },
+    /// The pilot of the base station one of whose channels is heard.
+    TunedTo {
+        /// Its phase, with the energy there.
+        best: Best,
+        /// Over how many fingers the signal is followed.
+        fingers: u8,
+        /// The channel.
+        channel: Channel,
+        /// What is made of its frames.
+        text: TunedText,
     },
     /// How strong each pilot is.
     Ranks {
@@ -71,12 +89,55 @@ pub fn find_first<R: Threads + Sync, G: Gate + Sync>(
             let best = search(rt, alloc, first, codes, workers, gate)?;
             Ok(Shown::Followed { best, receiver })
         }
+        Purpose::Tuned {
+            fingers,
+            channel,
+            text,
+        } => {
+            let best = search(rt, alloc, first, codes, workers, gate)?;
+            Ok(Shown::TunedTo {
+                best,
+                fingers,
+                channel,
+                text,
+            })
+        }
         Purpose::Survey { base, width, top } => {
             let base = Phase::new(base).unwrap();
             let ranks = survey(rt, alloc, first, codes, base, width, workers, gate)?;
             Ok(Shown::Ranks { ranks, top })
         }
     }
+}
+
+/// Who hears the frames of one channel in a file of this header, with paths near the pilot's phase.
+fn tuned_listener(
+    alloc: Global,
+    header: Header,
+    best: Best,
+    near: Near,
+    fingers: u8,
+    channel: Channel,
+    text: TunedText,
+) -> Result<TunedListener, OutOfMemory>
+    requires header { IsLawfulHeader header }
+    requires near { AreReady near }
+    requires fingers { IsFingers fingers }
+    requires lawful { IsLawfulTuned channel text }
+    ensures listens { (first : List TheSample) → IsBest first best →
+        AreNearTo first best.phase (waiting fingers) near →
+        IfOk result (λ tuned.
+        ListensTuned (tuning_for header first (waiting fingers)) channel text tuned []) }
+    ensures room { IfOk result (λ tuned. tuned_room tuned ≡ header.count) }
+{
+    let Best { phase, .. } = best;
+    let receiver = Receiver {
+        fingers,
+        paging: 1,
+        traffic: None,
+    };
+    let mobile = handset(alloc, header, receiver, best, near)?;
+    TunedListener::open(alloc, mobile, channel, text, phase, near)
 }
 
 /// Who hears a file of this header in whose first samples this was found.
@@ -99,6 +160,16 @@ pub fn listener_for(
             let paths = near(first, codes, *best, receiver.fingers);
             let mobile = handset(alloc, header, *receiver, *best, paths)?;
             Ok(Listener::Handset(mobile))
+        }
+        Shown::TunedTo {
+            best,
+            fingers,
+            channel,
+            text,
+        } => {
+            let paths = near(first, codes, *best, *fingers);
+            let tuned = tuned_listener(alloc, header, *best, paths, *fingers, *channel, *text)?;
+            Ok(Listener::Tuned(tuned))
         }
         Shown::Found(_) | Shown::Ranks { .. } => Ok(Listener::Nobody),
     }
@@ -134,6 +205,7 @@ pub fn tell_first<T: KeepsTaps, K: Sink>(
     match shown {
         Shown::Found(best) => write_event(&event_of(best), sink),
         Shown::Followed { best, .. } => taps.tell(&event_of(best), sink),
+        Shown::TunedTo { .. } => Ok(()),
         Shown::Ranks { ranks, top } => write_ranks(ranks, *top, sink),
     }
 }

@@ -1,6 +1,8 @@
 //! What a sample file is received for.
 
 use crate::handset::Receiver;
+use crate::tuned_text::TunedText;
+use mobile_core::Channel;
 
 /// What is wanted of a sample file.
 #[derive(Clone, Copy, PartialEq, Eq, Debug)]
@@ -9,6 +11,15 @@ pub enum Purpose {
     Find,
     /// The pilot, and what a handset hears.
     Follow(Receiver),
+    /// The frames of one channel of the base station, from the mark on.
+    Tuned {
+        /// Over how many fingers the signal is followed, 1 to 3.
+        fingers: u8,
+        /// The channel.
+        channel: Channel,
+        /// What is made of its frames.
+        text: TunedText,
+    },
     /// How strong each pilot is.
     Survey {
         /// The phase of the pilot of offset 0, below 32,768.

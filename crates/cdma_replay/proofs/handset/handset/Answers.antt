@@ -1,6 +1,14 @@
-use Rattle.std.proofs.Common.{rules, refl, length, ◌≡◌}
+use Rattle.std.proofs.Common.{rules, refl, length, ◌≡◌, []}
+use Rattle.std.proofs.lemmas.Grind.{merely}
 use Rattle.cdma_replay.proofs.Hearings.{fresh_given}
 use Rattle.cdma_replay.proofs.handset.handset.Goals as goal
+
+pub returns-clause-untold : goal.returns-clause-untold
+returns-clause-untold c = merely (record {
+  tuning = _;
+  heard = [];
+  has = record { given = []; stands = c.in_ok-mobile.ensures.stands; unset = refl };
+})
 
 pub returns-clause-given : goal.returns-clause-given
 returns-clause-given c first found near =

@@ -2,7 +2,8 @@ use Rattle.std.proofs.Common.{◌++◌, subst, sym}
 use Rattle.cdma_replay.specs.Hearing.{Listening, Listens, Tells, TellsPart}
 use Rattle.cdma_replay.specs.declared.listener.Listener.{Listener}
 use Rattle.cdma_replay.specs.declared.listener.Listener.TheVariants as by
-use Rattle.cdma_replay.proofs.Hearings.{hears_nobody, on_err, on_handset, on_ok, room_some}
+use Rattle.cdma_replay.proofs.Hearings.{hears_nobody, on_err, on_handset, on_ok, on_tuned}
+use Rattle.cdma_replay.proofs.Hearings.{room_some, room_tuned, tuned_part, tuned_tells}
 use Rattle.cdma_replay.proofs.listener.Listener.hear.Goals as goal
 
 pub tell-requires : goal.tell-requires
@@ -33,6 +34,32 @@ returns-in-Handset-clause-err g c =
     (subst (λ (h : Listener). Listens l h kept heard) c.in-Handset.is is)
     (λ t taps stands behind. tells t taps heard stands behind))
     c.tell.ensures.err
+
+pub hear-requires : goal.hear-requires
+hear-requires g c =
+    record { room = room_tuned _ c.in-Tuned.tuned _ c.in-Tuned.is c.requires.room }
+
+pub returns-in-Tuned-clause-ok : goal.returns-in-Tuned-clause-ok
+returns-in-Tuned-clause-ok g c =
+    let kept = g.T.KeepsTaps.kept c.args.taps.now in
+    on_ok c.hear.result _ _
+    (λ tells l heard is. on_tuned
+    (λ (l : Listening). Tells l (by.Tuned c.hear.new.self) kept heard (heard ++ c.args.samples.now)
+    (g.K.Sink.written c.args.sink.now) (g.K.Sink.written c.hear.new.sink)) l c.in-Tuned.tuned kept heard
+    (subst (λ (h : Listener). Listens l h kept heard) c.in-Tuned.is is)
+    (λ t channel text listens. tuned_tells (tells t channel text heard listens)))
+    c.hear.ensures.ok
+
+pub returns-in-Tuned-clause-err : goal.returns-in-Tuned-clause-err
+returns-in-Tuned-clause-err g c =
+    let kept = g.T.KeepsTaps.kept c.args.taps.now in
+    on_err c.hear.result _ _
+    (λ tells l heard is. on_tuned
+    (λ (l : Listening). TellsPart l heard (heard ++ c.args.samples.now)
+    (g.K.Sink.written c.args.sink.now) (g.K.Sink.written c.hear.new.sink)) l c.in-Tuned.tuned kept heard
+    (subst (λ (h : Listener). Listens l h kept heard) c.in-Tuned.is is)
+    (λ t channel text listens. tuned_part (tells t channel text heard listens)))
+    c.hear.ensures.err
 
 pub returns-in-Nobody-clause-ok : goal.returns-in-Nobody-clause-ok
 returns-in-Nobody-clause-ok g c l heard is =

@@ -1,7 +1,7 @@
 use Rattle.std.proofs.Common.{◌≡◌, subst}
 use Rattle.cdma_replay.specs.Hearing.{Listening, Listens, is_told}
 use Rattle.cdma_replay.specs.declared.listener.Listener.{Listener}
-use Rattle.cdma_replay.proofs.Hearings.{nobody_told, on_handset}
+use Rattle.cdma_replay.proofs.Hearings.{nobody_told, on_handset, on_tuned}
 use Rattle.cdma_replay.proofs.listener.Listener.is_told.Goals as goal
 
 pub returns-in-Nobody : goal.returns-in-Nobody
@@ -13,3 +13,9 @@ returns-in-Handset c l kept heard is =
     on_handset (λ (l : Listening). c.synced.result ≡ is_told l heard) l c.in-Handset.mobile kept heard
     (subst (λ (h : Listener). Listens l h kept heard) c.in-Handset.is is)
     (λ t taps stands behind. c.synced.ensures.mark t heard stands)
+
+pub returns-in-Tuned : goal.returns-in-Tuned
+returns-in-Tuned c l kept heard is =
+    on_tuned (λ (l : Listening). c.is_told.result ≡ is_told l heard) l c.in-Tuned.tuned kept heard
+    (subst (λ (h : Listener). Listens l h kept heard) c.in-Tuned.is is)
+    (λ t channel text listens. c.is_told.ensures t channel text heard listens)
