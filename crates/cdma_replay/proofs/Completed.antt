@@ -6,7 +6,7 @@ use Rattle.base_modulator.specs.declared.script_fault.ScriptFault.{ScriptFault}
 use Rattle.base_modulator.specs.Script.{plan_named}
 use Rattle.event_tap.specs.Taps.{KeptTap, kept_by}
 use Rattle.cdma_words.specs.declared.job.Job.{Job}
-use Rattle.cdma_words.specs.declared.job.Job.TheVariants.{Find, Follow, Make, Survey, Trial}
+use Rattle.cdma_words.specs.declared.job.Job.TheVariants.{Find, Follow, Make, Rate2, Survey, Trial}
 use Rattle.cdma_replay.specs.declared.receiving.Reception.{Reception}
 use Rattle.cdma_replay.specs.declared.status.Status.{Status}
 use Rattle.cdma_replay.specs.Find.{IsEnd, IsSearchable}
@@ -14,7 +14,8 @@ use Rattle.cdma_replay.specs.Hearing.{end_when, file_end_of, file_text}
 use Rattle.cdma_replay.specs.Make.{made_file}
 use Rattle.cdma_replay.specs.Replies.{Answers, IsAnswered, IsEndOf, IsFileReply, IsLawfulInput}
 use Rattle.cdma_replay.specs.Replies.{IsReply, IsVerdict, ReadsInput, ReadsWell}
-use Rattle.cdma_replay.specs.Replies.{Reply, finding, following, surveying}
+use Rattle.cdma_replay.specs.Replies.{Reply, finding, following, hearing, surveying}
+use Rattle.cdma_replay.specs.declared.tuned_text.TunedText.TheVariants.{RateSetTwo}
 use Rattle.cdma_replay.specs.Trials.{trial_line}
 use Rattle.cdma_replay.proofs.Replies.{named_well, one_reply}
 
@@ -57,6 +58,8 @@ all_owed : (forms : List ℕ) (job : Job) (bytes : List ℕ) → IsLawfulInput j
 all_owed forms (Find span workers) bytes lawful = file_owed [] (finding span workers) bytes lawful
 all_owed forms (Follow span workers fingers paging traffic limits) bytes lawful =
     file_owed (kept_by limits forms) (following span workers fingers paging traffic) bytes lawful
+all_owed forms (Rate2 span workers fingers traffic) bytes lawful =
+    file_owed [] (hearing span workers fingers traffic RateSetTwo) bytes lawful
 all_owed forms (Survey span workers base width top) bytes lawful =
     file_owed [] (surveying span workers base width top) bytes lawful
 all_owed forms (Make width) bytes lawful =
@@ -85,6 +88,7 @@ answered_end forms job bytes status old new lawful answered =
 file_read : (job : Job) (fault : FileFault) → IsEndOf job (Status.BadFile fault) → ReadsInput job
 file_read (Find span workers) fault end = tt
 file_read (Follow span workers fingers paging traffic limits) fault end = tt
+file_read (Rate2 span workers fingers traffic) fault end = tt
 file_read (Survey span workers base width top) fault end = tt
 file_read (Make width) fault end = tt
 file_read (Trial number workers) fault end = absurd end
@@ -93,6 +97,7 @@ script_read : (job : Job) (fault : ScriptFault) → IsEndOf job (Status.BadScrip
     ReadsInput job
 script_read (Find span workers) fault end = tt
 script_read (Follow span workers fingers paging traffic limits) fault end = tt
+script_read (Rate2 span workers fingers traffic) fault end = tt
 script_read (Survey span workers base width top) fault end = tt
 script_read (Make width) fault end = tt
 script_read (Trial number workers) fault end = absurd end
@@ -100,6 +105,7 @@ script_read (Trial number workers) fault end = absurd end
 source_read : (job : Job) → IsEndOf job Status.ReadFault → ReadsInput job
 source_read (Find span workers) end = tt
 source_read (Follow span workers fingers paging traffic limits) end = tt
+source_read (Rate2 span workers fingers traffic) end = tt
 source_read (Survey span workers base width top) end = tt
 source_read (Make width) end = tt
 source_read (Trial number workers) end = absurd end
@@ -112,6 +118,9 @@ read_well (Find span workers) None Failed reads well = absurd well
 read_well (Find span workers) (Some bytes) Failed reads well = (bytes, refl, well.0, well.1)
 read_well (Follow span workers fingers paging traffic limits) None Failed reads well = absurd well
 read_well (Follow span workers fingers paging traffic limits) (Some bytes) Failed reads well =
+    (bytes, refl, well.0, well.1)
+read_well (Rate2 span workers fingers traffic) None Failed reads well = absurd well
+read_well (Rate2 span workers fingers traffic) (Some bytes) Failed reads well =
     (bytes, refl, well.0, well.1)
 read_well (Survey span workers base width top) None Failed reads well = absurd well
 read_well (Survey span workers base width top) (Some bytes) Failed reads well =

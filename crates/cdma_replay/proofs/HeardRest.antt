@@ -1,5 +1,5 @@
 -- A listener hears the samples behind the first ones, piece by piece, to the end of the file.
-use Rattle.std.proofs.Common.{◌≡◌, ℕ, ◌-◌, ◌≤◌, ◌++◌, [], List, length, take, sym, ap, ◌∙◌, subst}
+use Rattle.std.proofs.Common.{◌≡◌, ℕ, ◌-◌, ◌≤◌, ◌++◌, [], List, length, take, sym, subst}
 use Rattle.std.proofs.Common.{arith, append_assoc, append-nil, length-append, length-take-le, All}
 use Rattle.std.proofs.Common.{IfSome, Option, None, Some}
 use Rattle.std.proofs.lemmas.List.Concat.{flat_map-append}

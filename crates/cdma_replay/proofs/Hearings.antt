@@ -53,7 +53,6 @@ use Rattle.cdma_replay.specs.Hearing.{AreNearTo, AreReady, ByFrames, ByTaps, Has
 use Rattle.cdma_replay.specs.Hearing.{Listening, Listens, Nobody, Tells, TellsMore, TellsPart}
 use Rattle.cdma_replay.specs.Hearing.{is_told, told, traffic_of, tuning_for}
 use Rattle.cdma_replay.specs.TunedListening.{ListensTuned, TellsTuned, TellsTunedPart, tuned_room}
-use Rattle.cdma_replay.specs.TunedTexts.{tuned_text}
 use Rattle.cdma_replay.proofs.TunedMarks.{none_marked, stands_near}
 use Rattle.cdma_replay.proofs.TunedTexts.{text_of_nothing}
 use Rattle.cdma_replay.specs.declared.tuned.TunedListener.{TunedListener}

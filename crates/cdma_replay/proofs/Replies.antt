@@ -1,6 +1,6 @@
 -- Lemmas on what a run owes: what its answer says follows from the causes of each end, and no input
 -- is owed two replies.
-use Rattle.std.proofs.Common.{◌≡◌, ◌≢◌, ℕ, ◌⊎◌, inl, inr, List, [], refl, sym}
+use Rattle.std.proofs.Common.{◌≡◌, ◌≢◌, ℕ, ◌++◌, ◌⊎◌, inl, inr, List, [], refl, sym}
 use Rattle.std.proofs.Common.{ap}
 use Rattle.std.proofs.Common.{◌∙◌, subst, Option, None, Some, IfErr, IfSome, OnErr, OnOk, Result}
 use Rattle.std.proofs.Common.{Ok, Err, take}
@@ -19,19 +19,23 @@ use Rattle.base_modulator.specs.declared.script_fault.ScriptFault.TheVariants.{O
 use Rattle.base_modulator.specs.Script.{plan_named}
 use Rattle.event_tap.specs.Taps.{KeptTap, kept_by}
 use Rattle.cdma_words.specs.declared.job.Job.{Job}
-use Rattle.cdma_words.specs.declared.job.Job.TheVariants.{Find, Follow, Make, Survey, Trial}
+use Rattle.cdma_words.specs.declared.job.Job.TheVariants.{Find, Follow, Make, Rate2, Survey, Trial}
 use Rattle.cdma_replay.specs.declared.receiving.Reception.{Reception}
 use Rattle.cdma_replay.specs.declared.status.Status.{Status}
 use Rattle.cdma_replay.specs.Broken.{HasWritten, IsCut, WritesAll, WritesFirst}
 use Rattle.cdma_replay.specs.Find.{BeginsText, IsEnd, IsFaultIn, IsOfFiles, IsSearchable}
 use Rattle.cdma_replay.specs.Find.{WritesNoMore, WritesText, ended}
-use Rattle.cdma_replay.specs.Hearing.{file_end_of, file_text, told}
+use Rattle.cdma_replay.specs.Hearing.{IsUntapped, file_end_of, file_text, first_text, listening}
+use Rattle.cdma_replay.specs.Hearing.{told}
+use Rattle.cdma_replay.specs.declared.purpose.Purpose.{Purpose}
+use Rattle.cdma_replay.specs.declared.purpose.Purpose.TheVariants as purposes
+use Rattle.cdma_replay.specs.declared.tuned_text.TunedText.TheVariants.{RateSetTwo}
 use Rattle.cdma_replay.specs.Make.{BeginsMadeFile, WritesMadeFile, WritesNoMoreMade, made_file}
 use Rattle.cdma_replay.specs.Replies.{Answers, AnswersBehind, IsAnswered, IsEndOf, IsFaultyFile}
 use Rattle.cdma_replay.specs.Replies.{IsFaultyScript, IsFileEnd, IsFileReply, IsReply, IsScriptEnd}
 use Rattle.cdma_replay.specs.Replies.{IsScriptReply, IsSearchEnd, IsVerdict, IsWholeFile}
 use Rattle.cdma_replay.specs.Replies.{IsEarlyFault, IsWholeScript, Reply, WritesPart, finding}
-use Rattle.cdma_replay.specs.Replies.{IsTrialEnd, IsTrialReply, following, surveying}
+use Rattle.cdma_replay.specs.Replies.{IsTrialEnd, IsTrialReply, following, hearing, surveying}
 use Rattle.cdma_replay.specs.Trials.{trial_line}
 use Rattle.cdma_io.specs.Outside.{AppendsPrefix}
 use Rattle.cdma_replay.proofs.Files.{no_fault, one_fault}
@@ -131,24 +135,28 @@ file_part {taps} {named} {r} {rest} {old} {new} same wrote =
     (record { text = wrote.text; written = wrote.written; part = wrote.part })
 
 -- the taps that are handed in don't matter
-abbrev pub IsUntapped : List KeptTap → Reception → Type 0
-IsUntapped taps r =
+abbrev pub HasOneText : List KeptTap → Reception → Type 0
+HasOneText taps r =
     (header : Header) (samples : List Sample) →
     file_text taps r header samples ≡ file_text [] r header samples
 
--- so it is where nobody hears the file
-pub found_untapped : (taps : List KeptTap) (span workers : ℕ) →
-    IsUntapped taps (finding span workers)
-unfolding file_text told
-found_untapped taps span workers header samples = refl
+same_text : (taps : List KeptTap) (purpose : Purpose) → IsUntapped purpose → (header : Header)
+    (first samples : List Sample) →
+    first_text taps purpose first ++ told (listening taps purpose header first) samples
+    ≡ first_text [] purpose first ++ told (listening [] purpose header first) samples
+same_text taps purposes.Find untapped header first samples = refl
+same_text taps (purposes.Follow receiver) untapped header first samples = absurd untapped
+same_text taps (purposes.Tuned fingers channel text) untapped header first samples = refl
+same_text taps (purposes.Survey base width top) untapped header first samples = refl
 
-pub surveyed_untapped : (taps : List KeptTap) (span workers base width top : ℕ) →
-    IsUntapped taps (surveying span workers base width top)
-unfolding file_text told
-surveyed_untapped taps span workers base width top header samples = refl
+-- so it is where they hear nothing
+pub one_text : (taps : List KeptTap) (r : Reception) → IsUntapped r.purpose → HasOneText taps r
+unfolding file_text
+one_text taps r untapped header samples =
+    same_text taps r.purpose untapped header (take r.span samples) samples
 
 untapped_whole : (taps : List KeptTap) (r : Reception) (status : Status)
-    (rest old new : Option (List ℕ)) → IsUntapped taps r →
+    (rest old new : Option (List ℕ)) → HasOneText taps r →
     IfSome rest (λ bytes. WritesText taps r status bytes old new) →
     IfSome rest (λ bytes. WritesText [] r status bytes old new)
 untapped_whole taps r status None old new same wrote = tt
@@ -161,7 +169,7 @@ untapped_whole taps r status (Some bytes) old new same wrote = record {
 }
 
 pub untapped_verdict : {taps : List KeptTap} (r : Reception) (status : Status)
-    (rest old new : Option (List ℕ)) → IsUntapped taps r →
+    (rest old new : Option (List ℕ)) → HasOneText taps r →
     HasCauses taps r status rest old new → IsVerdict status →
     IfSome rest (λ bytes. IsAnswered (IsFileReply [] r bytes) status old new)
 untapped_verdict {taps} r status rest old new same causes =
@@ -174,7 +182,7 @@ untapped_verdict {taps} r status rest old new same causes =
     })
 
 untapped_begins : {taps : List KeptTap} {r : Reception} {rest : Option (List ℕ)}
-    {text : List ℕ} → IsUntapped taps r → (text ≡ []) ⊎ BeginsText taps r rest text →
+    {text : List ℕ} → HasOneText taps r → (text ≡ []) ⊎ BeginsText taps r rest text →
     (text ≡ []) ⊎ BeginsText [] r rest text
 untapped_begins same (inl none) = inl none
 untapped_begins {taps} {r} {rest} {text} same (inr part) = inr (record {
@@ -187,7 +195,7 @@ untapped_begins {taps} {r} {rest} {text} same (inr part) = inr (record {
 })
 
 pub untapped_part : {taps : List KeptTap} (r : Reception) {rest old new : Option (List ℕ)} →
-    IsUntapped taps r → WritesNoMore taps r rest old new →
+    HasOneText taps r → WritesNoMore taps r rest old new →
     WritesPart (BeginsText [] r rest) old new
 untapped_part r same wrote = record {
   text = wrote.text;
@@ -196,7 +204,7 @@ untapped_part r same wrote = record {
 }
 
 untapped_written : {taps : List KeptTap} {r : Reception} {header : Header} {bytes : List ℕ}
-    {counted : ℕ → Type 0} {old new : Option (List ℕ)} → IsUntapped taps r →
+    {counted : ℕ → Type 0} {old new : Option (List ℕ)} → HasOneText taps r →
     HasWritten taps r header bytes counted old new → HasWritten [] r header bytes counted old new
 untapped_written {taps} {r} {header} {bytes} {counted} {old} {new} same w = record {
   samples = w.samples;
@@ -208,14 +216,14 @@ untapped_written {taps} {r} {header} {bytes} {counted} {old} {new} same w = reco
 
 -- what was written where the file breaks off, or goes on
 pub untapped_first : (taps : List KeptTap) (r : Reception) (rest left old new : Option (List ℕ)) →
-    IsUntapped taps r → WritesFirst taps r rest left old new → WritesFirst [] r rest left old new
+    HasOneText taps r → WritesFirst taps r rest left old new → WritesFirst [] r rest left old new
 untapped_first taps r None left old new same wrote = tt
 untapped_first taps r (Some bytes) left old new same wrote =
     λ (header : Header) taken n opened consumed long enough some.
     untapped_written same (wrote header taken n opened consumed long enough some)
 
 pub untapped_all : (taps : List KeptTap) (r : Reception) (rest old new : Option (List ℕ)) →
-    IsUntapped taps r → WritesAll taps r rest old new → WritesAll [] r rest old new
+    HasOneText taps r → WritesAll taps r rest old new → WritesAll [] r rest old new
 untapped_all taps r None old new same wrote = tt
 untapped_all taps r (Some bytes) old new same wrote =
     λ (header : Header) opened. untapped_written same (wrote header opened)
@@ -461,6 +469,8 @@ one_reply forms (Find span workers) bytes one other a b =
     one_file_reply [] (finding span workers) bytes one other a b
 one_reply forms (Follow span workers fingers paging traffic limits) bytes one other a b =
     one_file_reply (kept_by limits forms) (following span workers fingers paging traffic) bytes one other a b
+one_reply forms (Rate2 span workers fingers traffic) bytes one other a b =
+    one_file_reply [] (hearing span workers fingers traffic RateSetTwo) bytes one other a b
 one_reply forms (Survey span workers base width top) bytes one other a b =
     one_file_reply [] (surveying span workers base width top) bytes one other a b
 one_reply forms (Make width) bytes one other a b = one_script_reply width bytes one other a b
@@ -491,6 +501,7 @@ owed_answer forms job status bytes held reply rest old new answered is was owed 
 pub named_well : (job : Job) → ¬ (IsEndOf job Status.BadWords)
 named_well (Find span workers) end = end
 named_well (Follow span workers fingers paging traffic limits) end = end
+named_well (Rate2 span workers fingers traffic) end = end
 named_well (Survey span workers base width top) end = end
 named_well (Make width) end = end
 named_well (Trial number workers) end = end

@@ -17,14 +17,17 @@ use Rattle.base_modulator.specs.Script.{plan_named}
 use Rattle.event_tap.specs.Taps.{KeptTap, kept_by}
 use Rattle.cdma_words.specs.declared.job.Job.{Job}
 use Rattle.cdma_words.specs.declared.job.TrafficOptions.{TrafficOptions}
-use Rattle.cdma_words.specs.declared.job.Job.TheVariants.{Find, Follow, Make, Survey, Trial}
+use Rattle.cdma_words.specs.declared.job.Job.TheVariants.{Find, Follow, Make, Rate2, Survey, Trial}
 use Rattle.cdma_replay.specs.declared.purpose.Purpose.TheVariants as purposes
 use Rattle.cdma_replay.specs.declared.receiving.Reception.{Reception}
 use Rattle.cdma_replay.specs.declared.status.Status.{Status}
 use Rattle.cdma_replay.specs.declared.status.Status.TheVariants as ends
 use Rattle.cdma_replay.specs.Broken.{WritesAll, WritesFirst}
 use Rattle.cdma_replay.specs.Find.{BeginsFile, BeginsText, IsFaultIn, IsHeaderFault, IsSearchable}
-use Rattle.cdma_replay.specs.Hearing.{file_end_of, file_text}
+use Rattle.cdma_replay.specs.Hearing.{file_end_of, file_text, traffic_of}
+use Rattle.cdma_replay.specs.declared.tuned_text.TunedText.{TunedText}
+use Rattle.cdma_replay.specs.declared.tuned_text.TunedText.TheVariants.{RateSetTwo}
+use Rattle.mobile_core.specs.declared.channel.Channel.TheVariants as channels
 use Rattle.cdma_replay.specs.Make.{BeginsMadeFile, made_file}
 use Rattle.cdma_replay.specs.Trials.{trial_line}
 
@@ -79,7 +82,7 @@ IsTrialReply number (Err end) = ⊥
 
 -- ---- command by command
 
--- how `find`, `follow` and `survey` receive
+-- how `find`, `follow`, `rate2` and `survey` receive
 abbrev pub finding : ℕ → ℕ → Reception
 finding span workers = record { span = span; workers = workers; purpose = purposes.Find }
 
@@ -88,6 +91,13 @@ following span workers fingers paging traffic = record {
   span = span;
   workers = workers;
   purpose = purposes.Follow (record { fingers = fingers; paging = paging; traffic = traffic });
+}
+
+abbrev pub hearing : ℕ → ℕ → ℕ → TrafficOptions → TunedText → Reception
+hearing span workers fingers traffic text = record {
+  span = span;
+  workers = workers;
+  purpose = purposes.Tuned fingers (channels.Traffic (traffic_of traffic)) text;
 }
 
 abbrev pub surveying : ℕ → ℕ → ℕ → ℕ → ℕ → Reception
@@ -102,6 +112,8 @@ abbrev pub IsReply : List ℕ → Job → List ℕ → Reply → Type 0
 IsReply forms (Find span workers) = IsFileReply [] (finding span workers)
 IsReply forms (Follow span workers fingers paging traffic limits) =
     IsFileReply (kept_by limits forms) (following span workers fingers paging traffic)
+IsReply forms (Rate2 span workers fingers traffic) =
+    IsFileReply [] (hearing span workers fingers traffic RateSetTwo)
 IsReply forms (Survey span workers base width top) =
     IsFileReply [] (surveying span workers base width top)
 IsReply forms (Make width) = IsScriptReply width
@@ -111,6 +123,7 @@ IsReply forms (Trial number workers) = λ bytes. IsTrialReply number
 abbrev pub IsPromising : Job → List ℕ → Type 0
 IsPromising (Find span workers) = BeginsFile span
 IsPromising (Follow span workers fingers paging traffic limits) = BeginsFile span
+IsPromising (Rate2 span workers fingers traffic) = BeginsFile span
 IsPromising (Survey span workers base width top) = BeginsFile span
 IsPromising (Make width) = λ bytes. IsOk (plan_named width bytes)
 IsPromising (Trial number workers) = λ bytes. Unit {0}
@@ -126,6 +139,8 @@ abbrev pub Begins : List ℕ → Job → Option (List ℕ) → List ℕ → Type
 Begins forms (Find span workers) = BeginsText [] (finding span workers)
 Begins forms (Follow span workers fingers paging traffic limits) =
     BeginsText (kept_by limits forms) (following span workers fingers paging traffic)
+Begins forms (Rate2 span workers fingers traffic) =
+    BeginsText [] (hearing span workers fingers traffic RateSetTwo)
 Begins forms (Survey span workers base width top) =
     BeginsText [] (surveying span workers base width top)
 Begins forms (Make width) = BeginsMadeFile width
@@ -138,6 +153,8 @@ abbrev pub TellsFirst : List ℕ → Job → Option (List ℕ) → Option (List 
 TellsFirst forms (Find span workers) = WritesFirst [] (finding span workers)
 TellsFirst forms (Follow span workers fingers paging traffic limits) =
     WritesFirst (kept_by limits forms) (following span workers fingers paging traffic)
+TellsFirst forms (Rate2 span workers fingers traffic) =
+    WritesFirst [] (hearing span workers fingers traffic RateSetTwo)
 TellsFirst forms (Survey span workers base width top) =
     WritesFirst [] (surveying span workers base width top)
 TellsFirst forms (Make width) = λ rest left old new. new ≡ old
@@ -148,6 +165,8 @@ abbrev pub TellsAll : List ℕ → Job → Option (List ℕ) → Option (List �
 TellsAll forms (Find span workers) = WritesAll [] (finding span workers)
 TellsAll forms (Follow span workers fingers paging traffic limits) =
     WritesAll (kept_by limits forms) (following span workers fingers paging traffic)
+TellsAll forms (Rate2 span workers fingers traffic) =
+    WritesAll [] (hearing span workers fingers traffic RateSetTwo)
 TellsAll forms (Survey span workers base width top) =
     WritesAll [] (surveying span workers base width top)
 TellsAll forms job = λ rest old new. Unit {0}
@@ -156,6 +175,7 @@ TellsAll forms job = λ rest old new. Unit {0}
 abbrev pub IsLawfulInput : Job → List ℕ → Type 0
 IsLawfulInput (Find span workers) = λ bytes. IsSearchable bytes span
 IsLawfulInput (Follow span workers fingers paging traffic limits) = λ bytes. IsSearchable bytes span
+IsLawfulInput (Rate2 span workers fingers traffic) = λ bytes. IsSearchable bytes span
 IsLawfulInput (Survey span workers base width top) = λ bytes. IsSearchable bytes span
 IsLawfulInput (Make width) = λ bytes. IsOk (plan_named width bytes)
 IsLawfulInput (Trial number workers) = λ bytes. Unit {0}
@@ -199,6 +219,7 @@ IsTrialEnd status = ⊥
 abbrev pub IsEndOf : Job → Status → Type 0
 IsEndOf (Find span workers) = IsSearchEnd
 IsEndOf (Follow span workers fingers paging traffic limits) = IsFileEnd
+IsEndOf (Rate2 span workers fingers traffic) = IsFileEnd
 IsEndOf (Survey span workers base width top) = IsSearchEnd
 IsEndOf (Make width) = IsScriptEnd
 IsEndOf (Trial number workers) = IsTrialEnd

@@ -29,6 +29,8 @@ mod opening;
 mod paging_tests;
 mod purpose;
 mod ranks;
+#[cfg(test)]
+mod rate2_tests;
 mod receiving;
 mod replaying;
 #[cfg(test)]

@@ -1,8 +1,8 @@
-//! The commands `find`, `follow` and `survey`: what the first samples of a file show, and what is
-//! heard in all.
+//! The commands `find`, `follow`, `rate2` and `survey`: what the first samples of a file show, and
+//! what is heard in all.
 
-ghost use Rattle.std.specs.Prelude.{◌≡◌, ◌≢◌, ◌<◌, ◌≤◌, ◌+◌, ◌*◌, ◌-◌, ◌++◌, ◌⊎◌, ℕ};
-ghost use Rattle.std.specs.Prelude.{List, [], length, All, Err, None, IfOk};
+ghost use Rattle.std.specs.Prelude.{◌≡◌, ◌≢◌, ◌≤◌, ◌+◌, ◌*◌, ◌++◌, ◌⊎◌};
+ghost use Rattle.std.specs.Prelude.{List, length, All, Err, None, IfOk};
 ghost use Rattle.std.specs.Prelude.{OnOk, IfErr, OnErr, IfSome};
 ghost use Rattle.std.specs.List.{flat_map};
 ghost use Rattle.std.specs.Io.KnownBytes.{Consumes, IsAtEnd};

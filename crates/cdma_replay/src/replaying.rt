@@ -1,6 +1,6 @@
 //! The top call: all that the program does.
 
-ghost use Rattle.std.specs.Prelude.{◌≡◌, ◌≤◌, ◌++◌, ◌⊎◌, ◌↔◌, ℕ, List, map};
+ghost use Rattle.std.specs.Prelude.{◌≡◌, ◌≢◌, ◌≤◌, ◌++◌, ◌⊎◌, ◌↔◌, ℕ, List, [], map};
 ghost use Rattle.std.specs.Prelude.{None, Option, Some, IfSome, length, option_map};
 ghost use Rattle.std.specs.Io.KnownBytes.{Appends, IsAtEnd};
 ghost use Rattle.chip_core.specs.declared.sample.Sample.{Sample};
@@ -16,24 +16,29 @@ ghost use Rattle.clean_link.specs.SentEvents.{FollowsSent};
 ghost use Rattle.cdma_words.specs.declared.job.Job.{Job as TheJob};
 ghost use Rattle.cdma_words.specs.declared.job.Job.TheVariants.{Follow, Trial};
 ghost use Rattle.cdma_words.specs.declared.job.TrafficOptions.{TrafficOptions as TheTraffic};
-ghost use Rattle.cdma_words.specs.Words.{IsLawfulJob, job_named};
-ghost use Rattle.cdma_replay.specs.Broken.{IsCut, IsLong};
-ghost use Rattle.cdma_replay.specs.Find.{IsEnd, IsHeaderFault, ended};
-ghost use Rattle.cdma_replay.specs.Hearing.{clean_end, clean_events, traffic_of};
+ghost use Rattle.cdma_words.specs.Words.{IsLawfulJob, IsWorkers, job_named};
+ghost use Rattle.cdma_replay.specs.Broken.{IsCut, IsLong, WritesAll, WritesFirst};
+ghost use Rattle.cdma_replay.specs.Find.{BeginsFile, BeginsText, IsEnd, IsHeaderFault, ended};
+ghost use Rattle.cdma_replay.specs.Hearing.{IsUnheard, IsUntapped, clean_end, clean_events};
+ghost use Rattle.cdma_replay.specs.Hearing.{traffic_of};
+ghost use Rattle.cdma_replay.specs.Openings.{IsLawfulPurpose};
 ghost use Rattle.cdma_replay.specs.Replies.{AnswersBehind, Begins, IsAnswered, IsEarlyFault};
-ghost use Rattle.cdma_replay.specs.Replies.{IsEndOf, IsPromising, IsReply, IsVerdict, ReadsInput};
+ghost use Rattle.cdma_replay.specs.Replies.{IsEndOf, IsFileEnd, IsFileReply, IsPromising, IsReply};
+ghost use Rattle.cdma_replay.specs.Replies.{IsVerdict, ReadsInput};
 ghost use Rattle.cdma_replay.specs.Replies.{ReadsWell, Reply, TellsAll, TellsFirst, WritesPart};
 ghost use Rattle.cdma_replay.specs.Trials.{trial_line};
 
-use crate::handset::Receiver;
+use crate::handset::{Receiver, followed};
 use crate::making::make;
 use crate::purpose::Purpose;
 use crate::receiving::{Reception, receive};
 use crate::status::Status;
 use crate::trial::trial;
+use crate::tuned_text::TunedText;
 use cdma_io::{Sink, Source};
 use cdma_words::{Job, WordFault, words_of};
 use event_tap::{Tap, Taps};
+use mobile_core::Channel;
 use pilot_search::Gate;
 use std::alloc::Global;
 use std::thread::Threads;
@@ -46,6 +51,48 @@ fn status_of(run: Result<(), Status>) -> Status
         Ok(()) => Status::Done,
         Err(status) => status,
     }
+}
+
+/// Receives a sample file for a purpose for which taps hear nothing, and says how the run ended.
+fn receive_untapped<R: Threads + Sync, S: Source, K: Sink, G: Gate + Sync>(
+    rt: &R,
+    alloc: Global,
+    reception: Reception,
+    source: &mut S,
+    sink: &mut K,
+    gate: &G,
+) -> Status
+    requires span { reception.span ≤ 32768 }
+    requires workers { IsWorkers reception.workers }
+    requires purpose { IsLawfulPurpose reception.purpose }
+    requires untapped { IsUntapped reception.purpose }
+    ensures kind { IsFileEnd result }
+    ensures alone { IsUnheard reception.purpose → result ≢ Status.NoSync }
+    ensures verdict { IsVerdict result → IfSome (S.rest source.old) (λ bytes.
+        IsAnswered (IsFileReply [] reception bytes) result (K.written sink.old)
+        (K.written sink.new)) }
+    ensures read_fault { result ≡ Status.ReadFault →
+        Rose (S.faults source.old) (S.faults source.new) }
+    ensures write_fault { result ≡ Status.WriteFault →
+        Rose (K.faults sink.old) (K.faults sink.new) ×
+        IfSome (S.rest source.old) (BeginsFile reception.span) }
+    ensures memory { result ≡ Status.NoMemory → (sink.new ≡ sink.old) ×
+        ((source.new ≡ source.old) ⊎ IfSome (S.rest source.old) (BeginsFile reception.span)) }
+    ensures early { IsEarlyFault result → sink.new ≡ sink.old }
+    ensures header { (fault : FileFault) → result ≡ Status.BadFile fault → IsHeaderFault fault →
+        ConsumesAtMost 16 (S.rest source.old) (S.rest source.new) }
+    ensures at_end { IsEnd result → IsAtEnd (S.rest source.new) }
+    ensures written { WritesPart (BeginsText [] reception (S.rest source.old))
+        (K.written sink.old) (K.written sink.new) }
+    ensures cut { IsCut result → WritesFirst [] reception (S.rest source.old) (S.rest source.new)
+        (K.written sink.old) (K.written sink.new) }
+    ensures long { IsLong result → WritesAll [] reception (S.rest source.old)
+        (K.written sink.old) (K.written sink.new) }
+    ensures later_source { S.faults source.old ≤ S.faults source.new }
+    ensures later_sink { K.faults sink.old ≤ K.faults sink.new }
+{
+    let taps = Taps::new(Vec::new(alloc), [0; 4]);
+    status_of(receive(rt, alloc, reception, source, sink, taps, gate))
 }
 
 /// Runs a job over a source and a sink, and says how it ended.
@@ -94,8 +141,7 @@ fn run_job<R: Threads + Sync, S: Source, K: Sink, G: Gate + Sync>(
                 workers,
                 purpose: Purpose::Find,
             };
-            let taps = Taps::new(Vec::new(alloc), [0; 4]);
-            status_of(receive(rt, alloc, reception, source, sink, taps, gate))
+            receive_untapped(rt, alloc, reception, source, sink, gate)
         }
         Job::Follow {
             span,
@@ -117,6 +163,23 @@ fn run_job<R: Threads + Sync, S: Source, K: Sink, G: Gate + Sync>(
             let taps = Taps::new(taps, limits);
             status_of(receive(rt, alloc, reception, source, sink, taps, gate))
         }
+        Job::Rate2 {
+            span,
+            workers,
+            fingers,
+            traffic,
+        } => {
+            let reception = Reception {
+                span,
+                workers,
+                purpose: Purpose::Tuned {
+                    fingers,
+                    channel: Channel::Traffic(followed(traffic)),
+                    text: TunedText::RateSetTwo,
+                },
+            };
+            receive_untapped(rt, alloc, reception, source, sink, gate)
+        }
         Job::Survey {
             span,
             workers,
@@ -129,8 +192,7 @@ fn run_job<R: Threads + Sync, S: Source, K: Sink, G: Gate + Sync>(
                 workers,
                 purpose: Purpose::Survey { base, width, top },
             };
-            let taps = Taps::new(Vec::new(alloc), [0; 4]);
-            status_of(receive(rt, alloc, reception, source, sink, taps, gate))
+            receive_untapped(rt, alloc, reception, source, sink, gate)
         }
         Job::Make { width } => status_of(make(alloc, width, source, sink)),
         Job::Trial { number, workers } => {
@@ -149,6 +211,9 @@ fn run_job<R: Threads + Sync, S: Source, K: Sink, G: Gate + Sync>(
 /// in the first samples, and writes the first of their ranks, a line each. `make` reads a script, and
 /// writes the file of the cell that it names. `trial` reads nothing: it makes the link that its number
 /// tells, follows it with a handset, and writes one line that counts what was heard.
+/// `rate2` searches as `find` does and writes no pilot's line: from the mark on that a sync message
+/// sets it decodes each frame of one traffic channel as one of rate set 2 (TIA/EIA-95-B, 7.1.3.5), and
+/// writes its line; it ends with `NoSync` as `follow` does.
 ///
 /// The words, their options and the numbers that stand where an option isn't given are those of
 /// [`cdma_words::words_of`].

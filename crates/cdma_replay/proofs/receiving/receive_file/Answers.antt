@@ -1,4 +1,4 @@
-use Rattle.std.proofs.Common.{◌≡◌, ℕ, List, [], Option, IfSome, length, ap, sym, ◌∙◌, subst, rules}
+use Rattle.std.proofs.Common.{◌≡◌, ℕ, List, [], IfSome, length, ap, sym, ◌∙◌, subst, rules}
 use Rattle.std.proofs.Common.{arith}
 use Rattle.chip_core.specs.declared.sample.Sample.{Sample}
 use Rattle.cdma_io.specs.declared.file_fault.FileFault.{FileFault}

@@ -4,63 +4,41 @@ use Rattle.cdma_words.specs.declared.job.Job.TheVariants.{Trial}
 use Rattle.cdma_replay.specs.Trials.{trial_line}
 use Rattle.cdma_replay.specs.Broken.{IsCut, IsLong}
 use Rattle.cdma_replay.specs.Find.{ended}
-use Rattle.cdma_replay.specs.Replies.{finding, following, surveying}
-use Rattle.cdma_replay.proofs.Replies.{file_all, file_first, file_part, file_verdict_by}
-use Rattle.cdma_replay.proofs.Replies.{found_untapped, script_cut, surveyed_untapped, untapped_all}
-use Rattle.cdma_replay.proofs.Replies.{untapped_first, untapped_part, untapped_verdict}
+use Rattle.cdma_replay.specs.Replies.{following}
+use Rattle.cdma_replay.proofs.Replies.{file_all, file_first, file_part, file_verdict_by, script_cut}
 use Rattle.cdma_replay.proofs.Replies.{HasTrialCauses, script_early, script_end, script_part}
 use Rattle.cdma_replay.proofs.Replies.{script_verdict, trial_done, trial_early, trial_end, trial_part}
 use Rattle.cdma_replay.proofs.Replies.{trial_verdict}
 use Rattle.cdma_replay.proofs.replaying.run_job.Goals as goal
 
 pub returns-in-Find-clause-verdict : goal.returns-in-Find-clause-verdict
-returns-in-Find-clause-verdict g c =
-    let ends = c.receive.ensures in
-    rw (c.in-Find.is, c.status_of.ensures)
-    (untapped_verdict (finding c.in-Find.span c.in-Find.workers) (ended c.receive.result) _ _ _
-    (found_untapped _ c.in-Find.span c.in-Find.workers) (record {
-      done = ends.done;
-      others = ends.others;
-      bad_file = ends.bad_file;
-      place = ends.place;
-    }))
+returns-in-Find-clause-verdict g c = rw c.in-Find.is c.receive_untapped.ensures.verdict
 
 pub returns-in-Find-clause-written : goal.returns-in-Find-clause-written
-returns-in-Find-clause-written g c =
-    rw c.in-Find.is
-    (untapped_part (finding c.in-Find.span c.in-Find.workers)
-    (found_untapped _ c.in-Find.span c.in-Find.workers) c.receive.ensures.written)
+returns-in-Find-clause-written g c = rw c.in-Find.is c.receive_untapped.ensures.written
+
+pub returns-in-Rate2-clause-verdict : goal.returns-in-Rate2-clause-verdict
+returns-in-Rate2-clause-verdict g c =
+    rw c.in-Rate2.is (rw c.followed.ensures at c.receive_untapped-in-Rate2.ensures.verdict)
+
+pub returns-in-Rate2-clause-written : goal.returns-in-Rate2-clause-written
+returns-in-Rate2-clause-written g c =
+    rw c.in-Rate2.is (rw c.followed.ensures at c.receive_untapped-in-Rate2.ensures.written)
 
 pub returns-in-Survey-clause-verdict : goal.returns-in-Survey-clause-verdict
-returns-in-Survey-clause-verdict g c =
-    let ends = c.receive-in-Survey.ensures in
-    let job = c.in-Survey in
-    rw (job.is, c.status_of-in-Survey.ensures)
-    (untapped_verdict (surveying job.span job.workers job.base job.width job.top)
-    (ended c.receive-in-Survey.result) _ _ _
-    (surveyed_untapped _ job.span job.workers job.base job.width job.top) (record {
-      done = ends.done;
-      others = ends.others;
-      bad_file = ends.bad_file;
-      place = ends.place;
-    }))
+returns-in-Survey-clause-verdict g c = rw c.in-Survey.is c.receive_untapped-in-Survey.ensures.verdict
 
 pub returns-in-Survey-clause-written : goal.returns-in-Survey-clause-written
-returns-in-Survey-clause-written g c =
-    let job = c.in-Survey in
-    rw job.is
-    (untapped_part (surveying job.span job.workers job.base job.width job.top)
-    (surveyed_untapped _ job.span job.workers job.base job.width job.top)
-    c.receive-in-Survey.ensures.written)
+returns-in-Survey-clause-written g c = rw c.in-Survey.is c.receive_untapped-in-Survey.ensures.written
 
 pub returns-in-Follow-clause-verdict : goal.returns-in-Follow-clause-verdict
 returns-in-Follow-clause-verdict g c =
-    let ends = c.receive-in-Follow.ensures in
-    rw (c.in-Follow.is, c.status_of-in-Follow.ensures)
-    (file_verdict_by c.new-taps-in-Follow.ensures.value
+    let ends = c.receive.ensures in
+    rw (c.in-Follow.is, c.status_of.ensures)
+    (file_verdict_by c.new-taps.ensures.value
     (following c.in-Follow.span c.in-Follow.workers c.in-Follow.fingers c.in-Follow.paging
     c.in-Follow.traffic)
-    (ended c.receive-in-Follow.result) _ _ _ (record {
+    (ended c.receive.result) _ _ _ (record {
       done = ends.done;
       others = ends.others;
       bad_file = ends.bad_file;
@@ -70,7 +48,7 @@ returns-in-Follow-clause-verdict g c =
 pub returns-in-Follow-clause-written : goal.returns-in-Follow-clause-written
 returns-in-Follow-clause-written g c =
     rw c.in-Follow.is
-    (file_part c.new-taps-in-Follow.ensures.value c.receive-in-Follow.ensures.written)
+    (file_part c.new-taps.ensures.value c.receive.ensures.written)
 
 pub returns-in-Make-clause-kind : goal.returns-in-Make-clause-kind
 returns-in-Make-clause-kind g c =
@@ -157,37 +135,24 @@ returns-in-Trial-clause-written g c =
     }))
 
 pub returns-in-Find-clause-cut : goal.returns-in-Find-clause-cut
-returns-in-Find-clause-cut g c cut =
-    rw c.in-Find.is
-    (untapped_first _ (finding c.in-Find.span c.in-Find.workers)
-    (g.S.Source.rest c.args.source.now) _ _ _
-    (found_untapped _ c.in-Find.span c.in-Find.workers)
-    (c.receive.ensures.cut (subst IsCut c.status_of.ensures cut)))
+returns-in-Find-clause-cut g c = rw c.in-Find.is c.receive_untapped.ensures.cut
 
 pub returns-in-Find-clause-long : goal.returns-in-Find-clause-long
-returns-in-Find-clause-long g c long =
-    rw c.in-Find.is
-    (untapped_all _ (finding c.in-Find.span c.in-Find.workers) (g.S.Source.rest c.args.source.now)
-    _ _ (found_untapped _ c.in-Find.span c.in-Find.workers)
-    (c.receive.ensures.long (subst IsLong c.status_of.ensures long)))
+returns-in-Find-clause-long g c = rw c.in-Find.is c.receive_untapped.ensures.long
+
+pub returns-in-Rate2-clause-cut : goal.returns-in-Rate2-clause-cut
+returns-in-Rate2-clause-cut g c =
+    rw c.in-Rate2.is (rw c.followed.ensures at c.receive_untapped-in-Rate2.ensures.cut)
+
+pub returns-in-Rate2-clause-long : goal.returns-in-Rate2-clause-long
+returns-in-Rate2-clause-long g c =
+    rw c.in-Rate2.is (rw c.followed.ensures at c.receive_untapped-in-Rate2.ensures.long)
 
 pub returns-in-Survey-clause-cut : goal.returns-in-Survey-clause-cut
-returns-in-Survey-clause-cut g c cut =
-    let job = c.in-Survey in
-    rw job.is
-    (untapped_first _ (surveying job.span job.workers job.base job.width job.top)
-    (g.S.Source.rest c.args.source.now) _ _ _
-    (surveyed_untapped _ job.span job.workers job.base job.width job.top)
-    (c.receive-in-Survey.ensures.cut (subst IsCut c.status_of-in-Survey.ensures cut)))
+returns-in-Survey-clause-cut g c = rw c.in-Survey.is c.receive_untapped-in-Survey.ensures.cut
 
 pub returns-in-Survey-clause-long : goal.returns-in-Survey-clause-long
-returns-in-Survey-clause-long g c long =
-    let job = c.in-Survey in
-    rw job.is
-    (untapped_all _ (surveying job.span job.workers job.base job.width job.top)
-    (g.S.Source.rest c.args.source.now) _ _
-    (surveyed_untapped _ job.span job.workers job.base job.width job.top)
-    (c.receive-in-Survey.ensures.long (subst IsLong c.status_of-in-Survey.ensures long)))
+returns-in-Survey-clause-long g c = rw c.in-Survey.is c.receive_untapped-in-Survey.ensures.long
 
 pub returns-in-Follow-clause-cut : goal.returns-in-Follow-clause-cut
 returns-in-Follow-clause-cut g c cut =
@@ -195,8 +160,8 @@ returns-in-Follow-clause-cut g c cut =
     (file_first
     (following c.in-Follow.span c.in-Follow.workers c.in-Follow.fingers c.in-Follow.paging
     c.in-Follow.traffic)
-    (g.S.Source.rest c.args.source.now) _ _ _ c.new-taps-in-Follow.ensures.value
-    (c.receive-in-Follow.ensures.cut (subst IsCut c.status_of-in-Follow.ensures cut)))
+    (g.S.Source.rest c.args.source.now) _ _ _ c.new-taps.ensures.value
+    (c.receive.ensures.cut (subst IsCut c.status_of.ensures cut)))
 
 pub returns-in-Follow-clause-long : goal.returns-in-Follow-clause-long
 returns-in-Follow-clause-long g c long =
@@ -204,8 +169,8 @@ returns-in-Follow-clause-long g c long =
     (file_all
     (following c.in-Follow.span c.in-Follow.workers c.in-Follow.fingers c.in-Follow.paging
     c.in-Follow.traffic)
-    (g.S.Source.rest c.args.source.now) _ _ c.new-taps-in-Follow.ensures.value
-    (c.receive-in-Follow.ensures.long (subst IsLong c.status_of-in-Follow.ensures long)))
+    (g.S.Source.rest c.args.source.now) _ _ c.new-taps.ensures.value
+    (c.receive.ensures.long (subst IsLong c.status_of.ensures long)))
 
 -- nothing was written of a script whose reading failed
 pub returns-in-Make-clause-cut : goal.returns-in-Make-clause-cut
