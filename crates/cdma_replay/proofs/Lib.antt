@@ -12,6 +12,7 @@ pub mod MadeLinks
 pub mod Prefixes
 pub mod RankLines
 pub mod Replies
+pub mod SentLines
 mod Counting
 pub mod TunedFrames
 pub mod TunedMarks

@@ -7,6 +7,7 @@ pub mod Marking
 pub mod Openings
 pub mod Ranks
 pub mod Replies
+pub mod SentLines
 pub mod SoundListener
 pub mod Status
 pub mod Trials

@@ -4,6 +4,7 @@ ghost use Rattle.std.specs.Prelude.{◌≡◌, ℕ, List};
 ghost use Rattle.cdma_words.specs.declared.job.Job.{Job as TheJob};
 ghost use Rattle.cdma_replay.specs.MadeLaws.{IsCleanWhenMade, IsCleanWhenSent, IsReadableWhenMade};
 ghost use Rattle.cdma_replay.specs.Replies.{IsReply, Reply};
+ghost use Rattle.cdma_replay.specs.SentLines.{SetTwoLinesComeBack};
 
 /// No input is owed two replies.
 pub fn inputs_are_owed_one_reply()
@@ -19,4 +20,14 @@ pub fn made_files_are_clean_links()
     ensures file { IsReadableWhenMade }
     ensures clean { IsCleanWhenMade }
     ensures sent { IsCleanWhenSent }
+{}
+
+/// In a file that holds what a script's cell sends, where the search finds the cell's path and there
+/// is one finger, a traffic channel of rate set 2 that the cell sends has one line for each of its
+/// frames that begins at the mark or behind it and lies in the file, in order, at the frame's own
+/// end. Each has the power control bits that were sent, and, where no other word of any rate of the
+/// set has the frame's symbols at the places that they leave, its rate and its information bits, as
+/// a good frame.
+pub fn lines_of_rate_set_two_come_back()
+    ensures { SetTwoLinesComeBack }
 {}
