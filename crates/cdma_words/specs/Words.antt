@@ -21,6 +21,7 @@ use Rattle.cdma_io.specs.declared.width.Width.{Width}
 use Rattle.cdma_io.specs.declared.width.Width.TheVariants.{Sixteen, Eight}
 use Rattle.cdma_words.specs.declared.job.Job.{Job}
 use Rattle.cdma_words.specs.declared.job.Job.TheVariants.{Find, Follow, Rate2, Survey, Make, Trial}
+use Rattle.cdma_words.specs.declared.job.Job.TheVariants as jobs
 use Rattle.cdma_words.specs.declared.job.TrafficOptions.{TrafficOptions}
 use Rattle.cdma_words.specs.declared.commands.Command.{Command}
 use Rattle.cdma_words.specs.declared.commands.Command.TheVariants as named
@@ -66,6 +67,10 @@ walsh_row = record { name = codes "row"; form = Between 1 63; default = None }
 
 abbrev pub offset_row : OptionRow
 offset_row = record { name = codes "offset"; form = Between 0 15; default = None }
+
+-- how many of the best words of a rate are listed; it must be given
+abbrev pub list_length_row : OptionRow
+list_length_row = record { name = codes "k"; form = Between 1 16; default = None }
 
 -- an option that limits how often something is told
 abbrev pub limit_row : Text → ℕ → OptionRow
@@ -158,6 +163,13 @@ rate2_with (span ∷ workers ∷ fingers ∷ channel) =
     (receiver_with (span ∷ workers ∷ fingers ∷ []))
 rate2_with _ = None
 
+abbrev pub list_with : List (Option ℕ) → Option Job
+list_with (span ∷ workers ∷ fingers ∷ esn ∷ row ∷ offset ∷ Some k ∷ []) =
+    option_and_then (λ receiver. option_map (λ traffic.
+    jobs.List receiver.span receiver.workers receiver.fingers traffic k)
+    (channel_with (esn ∷ row ∷ offset ∷ []))) (receiver_with (span ∷ workers ∷ fingers ∷ []))
+list_with _ = None
+
 abbrev pub survey_with : List (Option ℕ) → Option Job
 survey_with (Some span ∷ Some workers ∷ Some base ∷ Some width ∷ Some top ∷ []) =
     Some (Survey span workers base width top)
@@ -206,6 +218,13 @@ rate2_row = record {
   job = rate2_with;
 }
 
+abbrev pub list_row : CommandRow
+list_row = record {
+  name = codes "list";
+  options = receiver_rows ++ channel_rows ++ list_length_row ∷ [];
+  job = list_with;
+}
+
 abbrev pub survey_row : CommandRow
 survey_row = record {
   name = codes "survey";
@@ -227,12 +246,13 @@ abbrev pub command_row : Command → CommandRow
 command_row named.Find = find_row
 command_row named.Follow = follow_row
 command_row named.Rate2 = rate2_row
+command_row named.List = list_row
 command_row named.Survey = survey_row
 command_row named.Make = make_row
 command_row named.Trial = trial_row
 
 abbrev pub commands : List CommandRow
-commands = find_row ∷ follow_row ∷ rate2_row ∷ survey_row ∷ make_row ∷ trial_row ∷ []
+commands = find_row ∷ follow_row ∷ rate2_row ∷ list_row ∷ survey_row ∷ make_row ∷ trial_row ∷ []
 
 -- ---- values
 
@@ -407,6 +427,10 @@ IsFingers fingers = (1 ≤ fingers) × (fingers ≤ 3)
 abbrev pub IsPaging : ℕ → Type 0
 IsPaging paging = (1 ≤ paging) × (paging ≤ 7)
 
+-- how many words of a rate are listed
+abbrev pub IsListLength : ℕ → Type 0
+IsListLength k = (1 ≤ k) × (k ≤ 16)
+
 -- the base, the width and the number of ranks of a survey
 abbrev pub IsBase : ℕ → Type 0
 IsBase base = base < 32768
@@ -443,6 +467,8 @@ IsLawfulJob (Follow span workers fingers paging traffic limits) =
     × IsLawfulTraffic paging traffic
 IsLawfulJob (Rate2 span workers fingers traffic) =
     IsSpan span × IsWorkers workers × IsFingers fingers × IsLawfulChannel traffic
+IsLawfulJob (jobs.List span workers fingers traffic k) =
+    IsSpan span × IsWorkers workers × IsFingers fingers × IsLawfulChannel traffic × IsListLength k
 IsLawfulJob (Survey span workers base width top) =
     IsSpan span × IsWorkers workers × IsBase base × IsWidth width × IsTop top
 IsLawfulJob (Make width) = Unit {0}

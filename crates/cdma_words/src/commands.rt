@@ -3,12 +3,13 @@
 ghost use Rattle.std.specs.Prelude.{◌≡◌, IfSome, find, map, nat_eq, option_map};
 ghost use Rattle.std.specs.Cmp.Lexicographic.{pointwise};
 ghost use Rattle.cdma_words.specs.Words.{IsLawfulJob, command_row, commands, find_row, follow_row};
-ghost use Rattle.cdma_words.specs.Words.{job_with, limit_rows, limits_with, make_row, numbers_by};
-ghost use Rattle.cdma_words.specs.Words.{rate2_row, row_of, survey_row, trial_row, width_of};
+ghost use Rattle.cdma_words.specs.Words.{job_with, limit_rows, limits_with, list_row, make_row};
+ghost use Rattle.cdma_words.specs.Words.{numbers_by, rate2_row, row_of, survey_row, trial_row};
+ghost use Rattle.cdma_words.specs.Words.{width_of};
 
 use crate::grammar::{
-    BASE, BITS, FINGERS, FRAMES, MESSAGES, NUMBER, OFFSET, OptionRule, PAGING, PILOTS, RAW, ROW,
-    SERIAL_NUMBER, SPAN, TOP, WIDTH, WORKERS,
+    BASE, BITS, FINGERS, FRAMES, LIST_LENGTH, MESSAGES, NUMBER, OFFSET, OptionRule, PAGING, PILOTS,
+    RAW, ROW, SERIAL_NUMBER, SPAN, TOP, WIDTH, WORKERS,
 };
 use crate::job::Job;
 use crate::receiving::{channel_with, receiver_with, traffic_with};
@@ -24,6 +25,8 @@ pub enum Command {
     Follow,
     /// `rate2`.
     Rate2,
+    /// `list`.
+    List,
     /// `survey`.
     Survey,
     /// `make`.
@@ -53,6 +56,17 @@ static FOLLOW_OPTIONS: [OptionRule; 11] = [
 /// What `rate2` takes.
 static RATE2_OPTIONS: [OptionRule; 6] = [SPAN, WORKERS, FINGERS, SERIAL_NUMBER, ROW, OFFSET];
 
+/// What `list` takes.
+static LIST_OPTIONS: [OptionRule; 7] = [
+    SPAN,
+    WORKERS,
+    FINGERS,
+    SERIAL_NUMBER,
+    ROW,
+    OFFSET,
+    LIST_LENGTH,
+];
+
 /// What `survey` takes.
 static SURVEY_OPTIONS: [OptionRule; 5] = [SPAN, WORKERS, BASE, WIDTH, TOP];
 
@@ -72,6 +86,7 @@ impl Command {
             "find" => Some(Command::Find),
             "follow" => Some(Command::Follow),
             "rate2" => Some(Command::Rate2),
+            "list" => Some(Command::List),
             "survey" => Some(Command::Survey),
             "make" => Some(Command::Make),
             "trial" => Some(Command::Trial),
@@ -87,6 +102,7 @@ impl Command {
             Command::Find => "find",
             Command::Follow => "follow",
             Command::Rate2 => "rate2",
+            Command::List => "list",
             Command::Survey => "survey",
             Command::Make => "make",
             Command::Trial => "trial",
@@ -101,6 +117,7 @@ impl Command {
             Command::Find => &FIND_OPTIONS,
             Command::Follow => &FOLLOW_OPTIONS,
             Command::Rate2 => &RATE2_OPTIONS,
+            Command::List => &LIST_OPTIONS,
             Command::Survey => &SURVEY_OPTIONS,
             Command::Make => &MAKE_OPTIONS,
             Command::Trial => &TRIAL_OPTIONS,
@@ -117,6 +134,7 @@ impl Command {
             Command::Find => find_with(texts),
             Command::Follow => follow_with(texts),
             Command::Rate2 => rate2_with(texts),
+            Command::List => list_with(texts),
             Command::Survey => survey_with(texts),
             Command::Make => make_with(texts),
             Command::Trial => trial_with(texts),
@@ -168,6 +186,23 @@ fn rate2_with<T: Texts>(texts: &T) -> Option<Job>
         workers: receiver.workers,
         fingers: receiver.fingers,
         traffic,
+    })
+}
+
+/// The job of `list`.
+fn list_with<T: Texts>(texts: &T) -> Option<Job>
+    ensures value { result ≡ job_with list_row (T.text_at texts.now) }
+    ensures lawful { IfSome result IsLawfulJob }
+{
+    let k = number_by(texts, &LIST_LENGTH)?;
+    let receiver = receiver_with(texts)?;
+    let traffic = channel_with(texts)?;
+    Some(Job::List {
+        span: receiver.span,
+        workers: receiver.workers,
+        fingers: receiver.fingers,
+        traffic,
+        k: k as u8,
     })
 }
 

@@ -127,6 +127,13 @@ pub const OFFSET: OptionRule = OptionRule {
     default: None,
 };
 
+/// `--k`: how many of the best words of a rate are listed.
+pub const LIST_LENGTH: OptionRule = OptionRule {
+    name: "k",
+    form: Form::Between { least: 1, most: 16 },
+    default: None,
+};
+
 /// `--pilots`: how many pilot lines are written.
 pub const PILOTS: OptionRule = OptionRule {
     name: "pilots",

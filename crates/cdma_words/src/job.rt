@@ -46,6 +46,19 @@ pub enum Job {
         /// The traffic channel.
         traffic: TrafficOptions,
     },
+    /// `list`: the frames of a traffic channel, each chosen of several words of a rate.
+    List {
+        /// How many samples the pilot is searched in, 64 to 32,768.
+        span: u16,
+        /// How many workers search the pilot, 1 to 64.
+        workers: u8,
+        /// How many paths of the signal are followed, 1 to 3.
+        fingers: u8,
+        /// The traffic channel.
+        traffic: TrafficOptions,
+        /// How many of the best words of a rate are listed, 1 to 16.
+        k: u8,
+    },
     /// `survey`: how strong each pilot is.
     Survey {
         /// In how many samples the pilots are measured, 64 to 32,768.
@@ -104,10 +117,11 @@ pub enum WordFault {
 /// and `--row`, 1 to 63, both or neither, and with them `--offset`, 0 to 15, which is else 0. The
 /// row is neither 32 nor the paging channel's number. `rate2` takes `--span`, `--workers`,
 /// `--fingers`, and the same options of a traffic channel, of which `--esn` and `--row` must be
-/// given; the row isn't 32. `survey` takes `--span` and `--workers`, `--base`, 0 to 32,767, which
-/// is else 0, `--width`, 0 to 31, which is else 10, and `--top`, 1 to 512, which is else 512.
-/// `make` takes `--bits`, 8 or 16, which is else 16. `trial` takes `--number`, 0 to 2^64 - 1,
-/// which must be given, and `--workers`.
+/// given; the row isn't 32. `list` takes these and `--k`, 1 to 16, which must be given. `survey`
+/// takes `--span` and `--workers`, `--base`, 0 to 32,767, which is else 0, `--width`, 0 to 31,
+/// which is else 10, and `--top`, 1 to 512, which is else 512. `make` takes `--bits`, 8 or 16,
+/// which is else 16. `trial` takes `--number`, 0 to 2^64 - 1, which must be given, and
+/// `--workers`.
 ///
 /// All other words are `Bad`, whatever memory there is.
 pub fn words_of(alloc: Global, words: &[String]) -> Result<Job, WordFault>

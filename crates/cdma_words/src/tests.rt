@@ -249,6 +249,72 @@ fn takes_a_traffic_channel_of_rate_set_2(rt: HostRuntime) -> Result<(), Fail> {
 }
 
 #[test]
+fn takes_the_length_of_a_list(rt: HostRuntime) -> Result<(), Fail> {
+    let traffic = TrafficOptions {
+        esn: 0xabcd,
+        row: 1,
+        offset: 2,
+    };
+    for (line, span, workers, fingers, k) in [
+        (
+            "list --esn 0000abcd --row 1 --offset 2 --k 4",
+            2048,
+            4,
+            1,
+            4,
+        ),
+        (
+            "list --k=1 --offset=2 --row=01 --esn=0000ABCD --fingers=2",
+            2048,
+            4,
+            2,
+            1,
+        ),
+        (
+            "list --span 64 --k 016 --esn 0000abcd --workers 64 --row 1 --offset 2",
+            64,
+            64,
+            1,
+            16,
+        ),
+    ] {
+        assert_eq!(rt;
+            read(rt.alloc(), line)?,
+            Ok(Job::List {
+                span,
+                workers,
+                fingers,
+                traffic,
+                k,
+            }),
+            "{line}"
+        );
+    }
+    for line in [
+        "list",
+        "list --k 4",
+        "list --esn 0000abcd --row 10",
+        "list --esn 0000abcd --k 4",
+        "list --row 10 --k 4",
+        "list --esn 0000abcd --row 32 --k 4",
+        "list --esn 0000abcd --row 10 --k 0",
+        "list --esn 0000abcd --row 10 --k 17",
+        "list --esn 0000abcd --row 10 --k",
+        "list --esn 0000abcd --row 10 --k=",
+        "list --esn 0000abcd --row 10 --k 4 --k 4",
+        "list --esn 0000abcd --row 10 -k 4",
+        "list --esn 0000abcd --row 10 --k 4 --paging 1",
+        "list --esn 0000abcd --row 10 --k 4 --frames 1",
+        "rate2 --esn 0000abcd --row 10 --k 4",
+        "follow --esn 0000abcd --row 10 --k 4",
+        "lists --esn 0000abcd --row 10 --k 4",
+    ] {
+        assert_eq!(rt; read(rt.alloc(), line)?, Err(WordFault::Bad), "{line}");
+    }
+    Ok(())
+}
+
+#[test]
 fn takes_the_number_of_a_trial(rt: HostRuntime) -> Result<(), Fail> {
     for (line, number, workers) in [
         ("trial --number 0", 0, 4),
