@@ -17,14 +17,16 @@ use Rattle.mobile_core.specs.declared.channel.Channel.TheVariants.{Paging, Traff
 use Rattle.mobile_core.specs.declared.mark.Mark.{Mark}
 use Rattle.mobile_core.specs.declared.mobile.Mobile.{Mobile}
 use Rattle.mobile_core.specs.declared.tuner.Tuner.{Tuner}
+use Rattle.cdma_replay.specs.FrameWriting.{IsReady, text_of}
 use Rattle.cdma_replay.specs.Marking.{ListensAhead}
 use Rattle.cdma_replay.specs.TunedListening.{ListensBehind, ListensFrom, ListensTuned, TellsTuned}
 use Rattle.cdma_replay.specs.TunedListening.{TellsTunedPart}
-use Rattle.cdma_replay.specs.TunedTexts.{IsLawfulTuned, WritesFrames, WritesFramesPart, text_from}
+use Rattle.cdma_replay.specs.TunedTexts.{WritesFrames, WritesFramesPart, text_from}
 use Rattle.cdma_replay.specs.TunedTexts.{tuned_text}
+use Rattle.cdma_replay.specs.declared.frame_writer.FrameWriter.{FrameWriter}
+use Rattle.cdma_replay.specs.declared.frame_writer.FrameWriter.TheVariants as writers
 use Rattle.cdma_replay.specs.declared.tuned.TunedListener.{TunedListener}
 use Rattle.cdma_replay.specs.declared.tuned_text.TunedText.{TunedText}
-use Rattle.cdma_replay.specs.declared.tuned_text.TunedText.TheVariants.{RateSetTwo}
 use Rattle.cdma_replay.proofs.TunedMarks.{mark_kept, there_le}
 use Rattle.cdma_replay.proofs.TunedTexts.{text_at_mark, text_marked, text_unmarked}
 
@@ -70,7 +72,7 @@ module _ (t : Tuning) (channel : Channel) (form : TunedText) (l : TunedListener)
     (heard : List Sample) (is : ListensTuned t channel form l heard) where
   -- another takes its place, on the same channel
   pub listens_on : (l' : TunedListener) (heard' : List Sample) → l'.phase ≡ l.phase →
-      l'.near ≡ l.near → l'.channel ≡ l.channel → l'.text ≡ l.text →
+      l'.near ≡ l.near → l'.channel ≡ l.channel → text_of l'.writer ≡ text_of l.writer →
       ListensFrom t channel l'.ahead l'.behind heard' → ListensTuned t channel form l' heard'
   listens_on l' heard' phase near same text from = record {
     phase_is = is.phase_is ∙ sym phase;
@@ -83,7 +85,7 @@ module _ (t : Tuning) (channel : Channel) (form : TunedText) (l : TunedListener)
 
   -- a receiver of frames takes the place of a handset where the mark is set
   pub listens_behind : (l' : TunedListener) (tuner : Tuner) (m : Mark) (heard' : List Sample) →
-      l'.phase ≡ l.phase → l'.near ≡ l.near → l'.channel ≡ l.channel → l'.text ≡ l.text →
+      l'.phase ≡ l.phase → l'.near ≡ l.near → l'.channel ≡ l.channel → text_of l'.writer ≡ text_of l.writer →
       l'.ahead ≡ None → l'.behind ≡ Some tuner → mark t heard' (length heard') ≡ Some m →
       IsTunedTo t l.channel m tuner heard' → ListensTuned t channel form l' heard'
   listens_behind l' tuner m heard' phase near same text ahead behind marked tuned =
@@ -118,9 +120,9 @@ silent_ahead t channel form heard samples taken all before behind =
     ∙ text_unmarked form t channel (heard ++ samples) behind
     ∙ sym (text_unmarked form t channel heard before)
 
--- ---- lawful channels
+-- ---- what is there
 
-lawful_channel : (channel : Channel) → ∥ IsLawful channel ∥₁ → IsLawful channel
+pub lawful_channel : (channel : Channel) → ∥ IsLawful channel ∥₁ → IsLawful channel
 lawful_channel (Paging number) is = (
   there_le 1 number is (λ x. x.0),
   there_le number 7 is (λ x. x.1),
@@ -131,9 +133,13 @@ lawful_channel (Traffic traffic) is =
       there_le traffic.offset 15 is (λ x. x.1),
     )
 
-pub lawful_tuned : (channel : Channel) (form : TunedText) → ∥ IsLawfulTuned channel form ∥₁ →
-    IsLawful channel
-lawful_tuned channel RateSetTwo is = lawful_channel channel is
+pub ready_writer : (writer : FrameWriter) → ∥ IsReady writer ∥₁ → IsReady writer
+ready_writer (writers.RateSetTwo decoder) is = there_le 288 decoder is (λ x. x)
+ready_writer (writers.Listed decoder k) is = (
+  there_le 192 decoder is (λ x. x.0),
+  there_le 1 k is (λ x. x.1),
+  there_le k 16 is (λ x. x.2),
+)
 
 -- ---- behind the mark
 
@@ -143,11 +149,11 @@ module _ (t : Tuning) (channel : Channel) (form : TunedText) (l : TunedListener)
   module _ (tuner : Tuner) (here : l.behind ≡ Some tuner) where
     -- the frames were written
     pub tells_behind : (l' : TunedListener) (tuner' : Tuner) → l'.phase ≡ l.phase →
-        l'.near ≡ l.near → l'.channel ≡ l.channel → l'.text ≡ l.text → l'.ahead ≡ l.ahead →
+        l'.near ≡ l.near → l'.channel ≡ l.channel → text_of l'.writer ≡ text_of l.writer → l'.ahead ≡ l.ahead →
         l'.behind ≡ Some tuner' →
         ((t : Tuning) (channel : Channel) (m : Mark) (heard : List Sample) →
         IsTunedTo t channel m tuner heard →
-        WritesFrames t channel m l.text tuner' heard (heard ++ samples) old new) →
+        WritesFrames t channel m (text_of l.writer) tuner' heard (heard ++ samples) old new) →
         TellsTuned t channel form l' heard (heard ++ samples) old new
     tells_behind l' tuner' phase near same text ahead behind writes =
         let (none, from) = behind_alone t channel heard l.ahead l.behind tuner here is.listens in
@@ -175,7 +181,7 @@ module _ (t : Tuning) (channel : Channel) (form : TunedText) (l : TunedListener)
     -- a write failed
     pub tells_cut : ((t : Tuning) (channel : Channel) (m : Mark) (heard : List Sample) →
         IsTunedTo t channel m tuner heard →
-        WritesFramesPart t channel m l.text heard (heard ++ samples) old new) →
+        WritesFramesPart t channel m (text_of l.writer) heard (heard ++ samples) old new) →
         TellsTunedPart t channel form heard (heard ++ samples) old new
     tells_cut writes =
         let from = (behind_alone t channel heard l.ahead l.behind tuner here is.listens).1 in
@@ -204,7 +210,7 @@ none_left (x ∷ xs) h = absurd (omega (arith, h))
 pub tells_nothing : (t : Tuning) (channel : Channel) (form : TunedText) (l l' : TunedListener)
     (heard samples : List Sample) (old : Option (List ℕ)) → ListensTuned t channel form l heard →
     l.behind ≡ None → (is_some l.ahead ≡ true → length samples ≡ 0) → l'.phase ≡ l.phase →
-    l'.near ≡ l.near → l'.channel ≡ l.channel → l'.text ≡ l.text →
+    l'.near ≡ l.near → l'.channel ≡ l.channel → text_of l'.writer ≡ text_of l.writer →
     ListensFrom t channel l'.ahead l'.behind heard →
     TellsTuned t channel form l' heard (heard ++ samples) old old
 tells_nothing t channel form l l' heard samples old is none empty phase near same text from =

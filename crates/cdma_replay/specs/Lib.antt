@@ -1,5 +1,6 @@
 pub mod Broken
 pub mod Find
+pub mod FrameWriting
 pub mod Hearing
 pub mod MadeLaws
 pub mod Make

@@ -12,6 +12,7 @@ use Rattle.mobile_core.specs.declared.channel.Channel.{Channel}
 use Rattle.mobile_core.specs.declared.mark.Mark.{Mark}
 use Rattle.mobile_core.specs.declared.mobile.Mobile.{Mobile}
 use Rattle.mobile_core.specs.declared.tuner.Tuner.{Tuner}
+use Rattle.cdma_replay.specs.FrameWriting.{text_of}
 use Rattle.cdma_replay.specs.Marking.{ListensAhead}
 use Rattle.cdma_replay.specs.TunedTexts.{tuned_text}
 use Rattle.cdma_replay.specs.declared.tuned.TunedListener.{TunedListener}
@@ -38,7 +39,7 @@ pub record ListensTuned (t : Tuning) (channel : Channel) (form : TunedText) (l :
   pub phase_is : t.phase ≡ l.phase
   pub deltas_are : t.deltas ≡ take l.near.count l.near.deltas
   pub channel_is : l.channel ≡ channel
-  pub form_is : l.text ≡ form
+  pub form_is : text_of l.writer ≡ form
   pub close : AreNear (sync_stream t).fingers
   pub listens : ListensFrom t channel l.ahead l.behind heard
 

@@ -1,10 +1,12 @@
 -- What is written of the frames of one channel behind the mark.
-use Rattle.std.specs.Prelude.{◌≡◌, ℕ, List, [], ◌++◌, length, ℤ, Option, None, Some}
+use Rattle.std.specs.Prelude.{◌≡◌, ◌≤◌, ℕ, Bool, List, [], ◌++◌, length, ℤ, Option, None, Some}
 use Rattle.std.specs.List.{flat_map}
 use Rattle.std.specs.Io.{StartsWith}
 use Rattle.std.specs.Io.KnownBytes.{Appends}
 use Rattle.chip_core.specs.declared.sample.Sample.{Sample}
-use Rattle.event_tap.specs.FrameLines.{frame2_line}
+use Rattle.event_tap.specs.FrameLines.{frame2_line, frame_line}
+use Rattle.frame_decoder.specs.declared.traffic.Decoded.{Decoded}
+use Rattle.listed_frame.specs.ListedFrames.{listed}
 use Rattle.rate_set_two.specs.TrafficFrames.{decoded2}
 use Rattle.mobile_core.specs.Channels.{IsLawful}
 use Rattle.mobile_core.specs.Marks.{mark}
@@ -17,7 +19,7 @@ use Rattle.mobile_core.specs.declared.soft_frame.PowerControl.{PowerControl}
 use Rattle.mobile_core.specs.declared.soft_frame.SoftFrame.{SoftFrame}
 use Rattle.mobile_core.specs.declared.tuner.Tuner.{Tuner}
 use Rattle.cdma_replay.specs.declared.tuned_text.TunedText.{TunedText}
-use Rattle.cdma_replay.specs.declared.tuned_text.TunedText.TheVariants.{RateSetTwo}
+use Rattle.cdma_replay.specs.declared.tuned_text.TunedText.TheVariants.{Listed, RateSetTwo}
 
 -- ---- the frames behind the mark, and their text
 
@@ -36,9 +38,22 @@ rate2_text place turned None = []
 rate2_text place turned (Some power) =
     frame2_line place (decoded2 power.replaced turned) power.commands
 
+-- the line of a frame of rate set 1, of which this was decoded
+abbrev pub decoded_line : ℕ → Decoded → List Bool → List ℕ
+decoded_line place frame commands =
+    frame_line place frame.rate frame.good frame.bits commands
+
+-- the line of a frame of rate set 1 with the first k words of a rate; one of a channel without power
+-- control bits has none
+abbrev pub listed_text : ℕ → ℕ → List ℤ → Option PowerControl → List ℕ
+listed_text k place turned None = []
+listed_text k place turned (Some power) =
+    decoded_line place (listed k power.replaced turned) power.commands
+
 -- what is written of a frame
 abbrev pub frame_text : TunedText → SoftFrame → List ℕ
 frame_text RateSetTwo frame = rate2_text frame.end frame.turned frame.power
+frame_text (Listed k) frame = listed_text k frame.end frame.turned frame.power
 
 -- what is written of all frames that end within these samples
 unfoldable pub tuned_text : TunedText → Tuning → Channel → List Sample → List ℕ
@@ -47,6 +62,7 @@ tuned_text form t channel samples = flat_map (frame_text form) (behind_mark t ch
 -- which channels have such a text
 abbrev pub IsLawfulTuned : Channel → TunedText → Type 0
 IsLawfulTuned channel RateSetTwo = IsLawful channel
+IsLawfulTuned channel (Listed k) = IsLawful channel × (1 ≤ k) × (k ≤ 16)
 
 -- ---- a receiver of the frames on the way
 

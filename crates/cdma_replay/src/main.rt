@@ -11,6 +11,7 @@ ghost use Rattle.cdma_replay.specs.Find.{IsEnd};
 
 #[cfg(test)]
 mod capture_tests;
+mod frame_writer;
 #[cfg(test)]
 mod handoff_tests;
 mod handset;

@@ -3,17 +3,14 @@
 
 ghost use Rattle.cdma_replay.specs.SoundListener.{IsSoundListener};
 
+use crate::frame_writer::{FrameWriter, hear_frames};
 use crate::marking::{Reached, step_to_mark};
-use crate::tuned_text::{TunedText, hear_frames};
+use crate::tuned_text::TunedText;
 use cdma_io::{Failed, Sink};
 use chip_core::{OutOfMemory, Phase, Sample};
 use mobile_core::{Channel, Mobile, Tuner};
 use pilot_search::Near;
 use std::alloc::Global;
-use viterbi::Decoder;
-
-/// The most bits of a word that is decoded: a frame at 14,400 bits a second.
-const MOST_BITS: u16 = 288;
 
 /// The listener of one channel of the reference base station, which writes what is made of its
 /// frames.
@@ -27,13 +24,13 @@ pub struct TunedListener {
     /// The receiver of the frames; `None` until the mark is set.
     behind: Option<Tuner>,
     channel: Channel,
-    text: TunedText,
+    /// What decodes the frames, and writes what is made of them.
+    writer: FrameWriter,
     /// The phase of the reference base station's codes.
     phase: Phase,
     /// The paths near it.
     near: Near,
-    decoder: Decoder,
-    ghost sound: { IsSoundListener ahead channel text near decoder },
+    ghost sound: { IsSoundListener ahead channel writer near },
 }
 
 impl TunedListener {
@@ -77,10 +74,9 @@ impl TunedListener {
             ahead: Some(mobile),
             behind: None,
             channel,
-            text,
+            writer: FrameWriter::open(alloc, text)?,
             phase,
             near,
-            decoder: Decoder::new(alloc, MOST_BITS)?,
         })
     }
 
@@ -170,14 +166,9 @@ impl TunedListener {
             (K.written sink.old) (K.written sink.new)) }
         ensures cause { HasCause (K.faults sink.old) (K.faults sink.new) result }
     {
-        let TunedListener {
-            behind,
-            text,
-            decoder,
-            ..
-        } = self;
+        let TunedListener { behind, writer, .. } = self;
         match behind {
-            Some(tuner) => hear_frames(tuner, *text, decoder, samples, sink),
+            Some(tuner) => hear_frames(tuner, writer, samples, sink),
             None => Ok(()),
         }
     }

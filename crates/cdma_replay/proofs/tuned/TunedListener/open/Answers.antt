@@ -9,7 +9,7 @@ returns-clause-listens c t stands phase deltas =
       phase_is = phase;
       deltas_are = deltas;
       channel_is = refl;
-      form_is = refl;
+      form_is = c.in_ok-open.ensures.text;
       close = near;
       listens = record {
         has = record { given = []; stands = stands; unset = refl };

@@ -2,7 +2,7 @@ use Rattle.std.proofs.Common.{◌≡◌, ◌++◌, List, None, refl, rules, subs
 use Rattle.chip_core.specs.declared.sample.Sample.{Sample}
 use Rattle.mobile_core.specs.Standing.{StandsFor}
 use Rattle.mobile_core.specs.declared.mobile.Mobile.{Mobile}
-use Rattle.cdma_replay.proofs.TunedListeners.{handset_alone, lawful_tuned, listens_behind}
+use Rattle.cdma_replay.proofs.TunedListeners.{handset_alone, lawful_channel, listens_behind}
 use Rattle.cdma_replay.proofs.TunedListeners.{silent_ahead, silent_at_mark}
 use Rattle.cdma_replay.proofs.tuned.TunedListener.reach_mark.Goals as goal
 
@@ -18,7 +18,7 @@ returns-in_default-mark-clause-silent c = λ t channel form heard is.
 
 pub tune-requires-clause-lawful : goal.tune-requires-clause-lawful
 tune-requires-clause-lawful c =
-    lawful_tuned c.args.self.now.channel c.args.self.now.text c.args.self.now.sound.lawful
+    lawful_channel c.args.self.now.channel c.args.self.now.sound.lawful
 
 pub returns-in-Some-take-clause-listens : goal.returns-in-Some-take-clause-listens
 returns-in-Some-take-clause-listens c = λ t channel form heard is.

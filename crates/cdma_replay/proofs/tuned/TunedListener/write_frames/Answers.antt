@@ -1,14 +1,18 @@
 use Rattle.std.proofs.Common.{refl}
 use Rattle.cdma_replay.proofs.Hearings.{on_err, on_ok}
-use Rattle.cdma_replay.proofs.TunedListeners.{tells_behind, tells_cut, tells_nothing}
+use Rattle.cdma_replay.proofs.TunedListeners.{ready_writer, tells_behind, tells_cut, tells_nothing}
 use Rattle.cdma_replay.proofs.tuned.TunedListener.write_frames.Goals as goal
+
+pub hear_frames-requires-clause-ready : goal.hear_frames-requires-clause-ready
+hear_frames-requires-clause-ready g c =
+    ready_writer c.args.self.now.writer c.args.self.now.sound.ready
 
 pub returns-in-Some-clause-ok : goal.returns-in-Some-clause-ok
 returns-in-Some-clause-ok g c =
     on_ok c.hear_frames.result _ _
     (λ writes t channel form heard is. tells_behind t channel form c.args.self.now heard
     c.args.samples.now _ _ is c.in-Some.tuner c.in-Some.is _ c.hear_frames.new.tuner refl refl refl
-    refl refl refl writes)
+    c.hear_frames.ensures.text refl refl writes)
     c.hear_frames.ensures.ok
 
 pub returns-in-Some-clause-err : goal.returns-in-Some-clause-err
