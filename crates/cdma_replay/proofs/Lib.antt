@@ -9,6 +9,7 @@ pub mod Hearings
 pub mod Lines
 pub mod MadeFiles
 pub mod MadeLinks
+pub mod OneWord
 pub mod Prefixes
 pub mod RankLines
 pub mod Replies

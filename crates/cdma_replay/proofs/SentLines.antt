@@ -1,40 +1,204 @@
--- The lines of a traffic channel of rate set 2 come back.
-use Rattle.std.proofs.Common.{◌≡◌, ℕ, ◌*◌, refl, sym, ap, ◌∙◌, subst, List, [], length, take}
-use Rattle.std.proofs.Common.{Option, None, Some}
+-- The lines of a traffic channel's frames come back.
+use Rattle.std.proofs.Common.{◌≡◌, ◌≤◌, ℕ, ◌*◌, ◌%◌, refl, sym, ap, ◌∙◌, subst, arith, List, []}
+use Rattle.std.proofs.Common.{◌∷◌, length, take, Bool, Option, None, Some}
 use Rattle.std.specs.List.{Contains, flat_map}
 use Rattle.std.proofs.lemmas.List.Folds.{flat_map-map}
 use Rattle.chip_core.specs.declared.sample.Sample.{Sample}
 use Rattle.cdma_io.specs.declared.width.Width.{Width}
+use Rattle.long_code.specs.LongCode.{traffic_mask}
+use Rattle.frame_decoder.specs.declared.traffic.Decoded.{Decoded}
+use Rattle.rake_finger.specs.declared.form.Form.TheVariants.{Data}
+use Rattle.listed_frame.specs.ListedFrames.{listed}
+use Rattle.listed_frame.proofs.SentFrames.{sent_frame_listed}
 use Rattle.rate_set_two.specs.TrafficFrames.{decoded2}
 use Rattle.base_modulator.specs.Sampled.{made_samples}
+use Rattle.base_modulator.specs.Signal.{frames_of}
+use Rattle.base_modulator.specs.TrafficFrames.{cycled_frame, frame_state, set_one, IsTrafficFrame}
 use Rattle.base_modulator.specs.declared.plan.CellPlan.{CellPlan}
 use Rattle.base_modulator.specs.declared.plan.TrafficPlan.{TrafficPlan}
+use Rattle.base_modulator.specs.declared.traffic_frame.TrafficFrame.{TrafficFrame}
 use Rattle.base_modulator.specs.declared.traffic_frame2.TrafficFrame2.{TrafficFrame2}
+use Rattle.event_tap.specs.EventLines.{event_line}
 use Rattle.event_tap.specs.FrameLines.{frame2_line}
 use Rattle.mobile_core.specs.FramesAlone.{traffic_channel}
 use Rattle.mobile_core.specs.Marks.{mark}
+use Rattle.mobile_core.specs.SoftFrames.{soft_frames}
+use Rattle.mobile_core.specs.TrafficEvents.{frame_event}
 use Rattle.mobile_core.specs.Tuning.{Tuning}
 use Rattle.mobile_core.specs.declared.mark.Mark.{Mark}
 use Rattle.mobile_core.specs.declared.settings.Traffic.{Traffic}
 use Rattle.mobile_core.specs.declared.soft_frame.SoftFrame.{SoftFrame}
-use Rattle.clean_link.specs.CleanLink.{IsOnPath, IsReceivable}
-use Rattle.clean_link.specs.HeardFrames.{received_frames, replaced_of, sent_bits, IsAssigned}
-use Rattle.clean_link.specs.HeardFrames.{SendsSetTwo}
+use Rattle.clean_link.specs.CleanLink.{soft_strength, IsOnPath, IsReceivable}
+use Rattle.clean_link.specs.HeardFrames.{frame_ends, received_frames, replaced_of, sent_bits}
+use Rattle.clean_link.specs.HeardFrames.{sent_commands, word_symbols, IsAssigned}
+use Rattle.clean_link.specs.HeardFrames.{SendsSetOne, SendsSetTwo, SendsSymbols}
+use Rattle.clean_link.specs.ReceivedFrames.{cycled_frame2, AreReceived, IsReceivedAs}
 use Rattle.clean_link.specs.ReceivedFrames.{IsSentFrame2}
 use Rattle.clean_link.specs.SentEvents.{told_with_sync}
 use Rattle.clean_link.proofs.signal.Samples.{length-made}
 use Rattle.clean_link.proofs.traffic.Back.{untold}
-use Rattle.clean_link.proofs.traffic.Received.{set_two_behind_mark}
+use Rattle.clean_link.proofs.traffic.Commands.{power_pairs}
+use Rattle.clean_link.proofs.traffic.Frames.{one_taken, one_there}
+use Rattle.clean_link.proofs.traffic.Received.{frames_behind_mark, set_two_behind_mark}
+use Rattle.clean_link.proofs.traffic.Signs.{lawful_traffic, set_one_sends}
 use Rattle.cdma_replay.specs.Hearing.{tuning_for}
-use Rattle.cdma_replay.specs.SentLines.{AreSentLines, IsSentLine, IsSentText, SetTwoLinesComeBack}
-use Rattle.cdma_replay.specs.TunedTexts.{frame_text, frames_from, rate2_text, tuned_text}
-use Rattle.cdma_replay.specs.declared.tuned_text.TunedText.TheVariants.{RateSetTwo}
+use Rattle.cdma_replay.specs.SentLines.{AreSentLines, IsLineOfSetOne, IsLineOfSetTwo, IsSentLine}
+use Rattle.cdma_replay.specs.SentLines.{IsSentLine2, IsSentText, LinesComeBack}
+use Rattle.cdma_replay.specs.SentLines.{ListedLinesComeBack, SetTwoLinesComeBack}
+use Rattle.cdma_replay.specs.TunedTexts.{decoded_line, frame_text, frames_from, listed_text}
+use Rattle.cdma_replay.specs.TunedTexts.{rate2_text, tuned_text}
+use Rattle.cdma_replay.specs.declared.tuned_text.TunedText.{TunedText}
+use Rattle.cdma_replay.specs.declared.tuned_text.TunedText.TheVariants.{Listed, RateSetTwo}
 use Rattle.cdma_replay.proofs.CleanTexts.{on_path, receivable}
+
+-- ---- any frames
+
+-- The frames behind a mark are those of which this is true, and what is written so of one of them
+-- is a line of which that is true.
+module _ (width : Width) (plan : CellPlan) (p : TrafficPlan) (t : Tuning) (traffic : Traffic)
+    (form : TunedText) (Says : ℕ → SoftFrame → Type 0) (Is : ℕ → List ℕ → Type 0)
+    (is : IsReceivable width plan) (on : IsOnPath plan t)
+    (all : (m : Mark) → mark t (made_samples plan) (length (made_samples plan)) ≡ Some m →
+    AreReceived plan p Says
+    (soft_frames t (traffic_channel traffic) m (made_samples plan)))
+    (back : (frame : ℕ) (soft : SoftFrame) → Says frame soft → Is frame (frame_text form soft))
+  where
+    -- behind the mark that is set, and where none is
+    behind_last : (last : Option Mark) →
+        mark t (made_samples plan) (length (made_samples plan)) ≡ last →
+        IsSentText plan p Is (told_with_sync plan plan.sync)
+        (flat_map (frame_text form)
+        (frames_from t (traffic_channel traffic) (made_samples plan) last))
+    behind_last None unset =
+        let count : length (made_samples plan) ≡ t.count = length-made plan ∙ sym on.count in
+        let none = untold width plan t is on plan.sync refl
+        (ap (mark t (made_samples plan)) (sym count) ∙ unset) in
+        subst (λ (told : Option ℕ). IsSentText plan p Is told []) (sym none) refl
+    behind_last (Some m) set =
+        let some = all m set in
+        let lines : AreSentLines plan p Is some.superframes
+        (flat_map (frame_text form)
+        (frames_from t (traffic_channel traffic) (made_samples plan) (Some m))) = record {
+          line = λ frame. frame_text form (some.soft frame);
+          each = ap (flat_map (frame_text form)) some.each
+              ∙ flat_map-map (frame_text form) some.soft
+              (received_frames plan p (98304 * some.superframes));
+          are = λ frame received. back frame (some.soft frame) (some.are frame received);
+        } in
+        subst
+        (λ (told : Option ℕ). IsSentText plan p Is told
+        (flat_map (frame_text form)
+        (frames_from t (traffic_channel traffic) (made_samples plan) (Some m))))
+        (sym some.told) lines
+
+    text_back : IsSentText plan p Is (told_with_sync plan plan.sync)
+        (tuned_text form t (traffic_channel traffic) (made_samples plan))
+    unfolding tuned_text
+    text_back =
+        behind_last (mark t (made_samples plan) (length (made_samples plan))) refl
+
+-- so of a file
+file_back : (form : TunedText) (Sends : TrafficPlan → Type 0)
+    (Is : CellPlan → TrafficPlan → ℕ → List ℕ → Type 0)
+    (Says : CellPlan → TrafficPlan → ℕ → SoftFrame → Type 0) →
+    ((width : Width) (plan : CellPlan) (p : TrafficPlan) (t : Tuning) (traffic : Traffic)
+    (m : Mark) → IsReceivable width plan → IsOnPath plan t → Contains plan.traffic p →
+    IsAssigned p traffic → Sends p →
+    mark t (made_samples plan) (length (made_samples plan)) ≡ Some m →
+    AreReceived plan p (Says plan p)
+    (soft_frames t (traffic_channel traffic) m (made_samples plan))) →
+    ((width : Width) (plan : CellPlan) (p : TrafficPlan) (frame : ℕ) (soft : SoftFrame) →
+    IsReceivable width plan → Contains plan.traffic p → Sends p → Says plan p frame soft →
+    Is plan p frame (frame_text form soft)) →
+    LinesComeBack form Sends Is
+file_back form Sends Is Says behind line width script plan p span receiver traffic header samples
+    file counted has assigned some =
+    let t = tuning_for header (take span samples) receiver in
+    let is = receivable width script plan file.named in
+    let on = on_path width script plan span receiver header samples file counted in
+    subst
+    (λ (heard : List Sample). IsSentText plan p (Is plan p) (told_with_sync plan plan.sync)
+    (tuned_text form t (traffic_channel traffic) heard))
+    (sym file.sent)
+    (text_back width plan p t traffic form (Says plan p) (Is plan p) is on
+    (λ m set. behind width plan p t traffic m is on has assigned some set)
+    (λ frame soft says. line width plan p frame soft is has some says))
+
+-- ---- frames of rate set 1
+
+-- one of them is sent at each number
+frame_there : (width : Width) (plan : CellPlan) (p : TrafficPlan) (frame : ℕ) →
+    IsReceivable width plan → Contains plan.traffic p → SendsSetOne p → (f : TrafficFrame)
+    × (cycled_frame (frames_of plan p) frame ≡ f ∷ []) × IsTrafficFrame f
+frame_there width plan p frame is has some =
+    let frames = set_one p.frames in
+    let (f, here) = one_there frames (frame % length frames) (omega (arith, some)) in (
+      f,
+      here,
+      one_taken IsTrafficFrame frames (frame % length frames) f
+          (lawful_traffic width plan p is.lawful has).sized.one here,
+    )
+
+-- what it shows is shown of whatever is sent
+abbrev ShowsSent : CellPlan → TrafficPlan → ℕ → SoftFrame → Type 0
+ShowsSent plan p frame soft = (symbols commands : List Bool) →
+    SendsSymbols plan p frame symbols commands → IsReceivedAs plan p frame symbols commands soft
+
+-- the line of what is decoded is that of its event
+pub line_of_event : (n : ℕ) (decoded : Decoded) (commands : List Bool) →
+    decoded_line n decoded commands ≡ event_line (frame_event n decoded commands)
+unfolding event_line
+line_of_event n decoded commands = refl
+
+-- the line of one that comes back
+listed_back : (k : ℕ) → 1 ≤ k → (plan : CellPlan) (p : TrafficPlan) (frame : ℕ) (f : TrafficFrame)
+    (soft : SoftFrame) → IsTrafficFrame f →
+    IsReceivedAs plan p frame (word_symbols f) f.commands soft →
+    IsSentLine plan p frame f (frame_text (Listed k) soft)
+listed_back k most plan p frame f soft sized received =
+    let few = (power_pairs (frame_state (frames_of plan p) frame) (traffic_mask p.esn)).long in
+    let shown = received.shown in
+    let replaced = replaced_of plan p frame in
+    let ends = frame_ends plan p frame in
+    let spelled : frame_text (Listed k) soft ≡
+    event_line (frame_event ends (listed k replaced soft.turned) (sent_commands f)) =
+    ap (listed_text k soft.end soft.turned) received.powered
+    ∙ ap (λ (n : ℕ). decoded_line n (listed k replaced soft.turned) (sent_bits f.commands))
+    received.ends
+    ∙ line_of_event ends (listed k replaced soft.turned) (sent_bits f.commands) in
+    record {
+      decoded = listed k replaced soft.turned;
+      spelled = spelled;
+      back = λ distinct.
+          spelled
+          ∙ ap (λ (d : Decoded). event_line (frame_event ends d (sent_commands f)))
+          (sent_frame_listed k (soft_strength plan Data p.gain) replaced f.rate f.information
+          soft.turned most shown.strong (omega (arith, few)) shown.long sized shown.shows
+          distinct);
+    }
+
+listed_line : (k : ℕ) → 1 ≤ k → (width : Width) (plan : CellPlan) (p : TrafficPlan) (frame : ℕ)
+    (soft : SoftFrame) → IsReceivable width plan → Contains plan.traffic p → SendsSetOne p →
+    ShowsSent plan p frame soft → IsLineOfSetOne plan p frame (frame_text (Listed k) soft)
+listed_line k most width plan p frame soft is has some shows =
+    let (f, here, sized) = frame_there width plan p frame is has some in (
+      f,
+      here,
+      listed_back k most plan p frame f soft sized
+          (shows (word_symbols f) f.commands (set_one_sends plan p frame f here)),
+    )
+
+-- ---- frames of rate set 2
+
+-- what is received of one
+abbrev IsSent2 : CellPlan → TrafficPlan → ℕ → SoftFrame → Type 0
+IsSent2 plan p frame soft = (f : TrafficFrame2)
+    × (cycled_frame2 (frames_of plan p) frame ≡ f ∷ []) × IsSentFrame2 plan p frame f soft
 
 -- the line of one that comes back
 line_back : (plan : CellPlan) (p : TrafficPlan) (frame : ℕ) (f : TrafficFrame2)
     (soft : SoftFrame) → IsSentFrame2 plan p frame f soft →
-    IsSentLine plan p frame f (frame_text RateSetTwo soft)
+    IsSentLine2 plan p frame f (frame_text RateSetTwo soft)
 line_back plan p frame f soft sent =
     let decoded = decoded2 (replaced_of plan p frame) soft.turned in
     record {
@@ -45,56 +209,20 @@ line_back plan p frame f soft sent =
       back = sent.decoded;
     }
 
-module _ (width : Width) (plan : CellPlan) (p : TrafficPlan) (t : Tuning) (traffic : Traffic)
-    (is : IsReceivable width plan) (on : IsOnPath plan t) (has : Contains plan.traffic p)
-    (assigned : IsAssigned p traffic) (some : SendsSetTwo p) where
-  -- behind the mark that is set, and where none is
-  behind_last : (last : Option Mark) →
-      mark t (made_samples plan) (length (made_samples plan)) ≡ last →
-      IsSentText plan p (told_with_sync plan plan.sync)
-      (flat_map (frame_text RateSetTwo)
-      (frames_from t (traffic_channel traffic) (made_samples plan) last))
-  behind_last None unset =
-      let count : length (made_samples plan) ≡ t.count = length-made plan ∙ sym on.count in
-      let none = untold width plan t is on plan.sync refl
-      (ap (mark t (made_samples plan)) (sym count) ∙ unset) in
-      subst (λ (told : Option ℕ). IsSentText plan p told []) (sym none) refl
-  behind_last (Some m) set =
-      let all =
-      set_two_behind_mark width plan p t traffic m is on has assigned some set in
-      let line : ℕ → List ℕ = λ frame. frame_text RateSetTwo (all.soft frame) in
-      let lines : AreSentLines plan p all.superframes
-      (flat_map (frame_text RateSetTwo)
-      (frames_from t (traffic_channel traffic) (made_samples plan) (Some m))) = record {
-        line = line;
-        each = ap (flat_map (frame_text RateSetTwo)) all.each
-            ∙ flat_map-map (frame_text RateSetTwo) all.soft
-            (received_frames plan p (98304 * all.superframes));
-        are = λ frame received.
-            let (f, here, sent) = all.are frame received in
-            (f, here, line_back plan p frame f (all.soft frame) sent);
-      } in
-      subst
-      (λ (told : Option ℕ). IsSentText plan p told
-      (flat_map (frame_text RateSetTwo)
-      (frames_from t (traffic_channel traffic) (made_samples plan) (Some m))))
-      (sym all.told) lines
+set_two_line : (plan : CellPlan) (p : TrafficPlan) (frame : ℕ) (soft : SoftFrame) →
+    IsSent2 plan p frame soft → IsLineOfSetTwo plan p frame (frame_text RateSetTwo soft)
+set_two_line plan p frame soft (f, here, sent) = (f, here, line_back plan p frame f soft sent)
 
-  text_back : IsSentText plan p (told_with_sync plan plan.sync)
-      (tuned_text RateSetTwo t (traffic_channel traffic) (made_samples plan))
-  unfolding tuned_text
-  text_back =
-      behind_last (mark t (made_samples plan) (length (made_samples plan))) refl
+-- ---- the laws
 
--- ---- the law
+pub listed_lines : ListedLinesComeBack
+listed_lines k most =
+    file_back (Listed k) SendsSetOne IsLineOfSetOne ShowsSent
+    (λ width plan p t traffic m is on has assigned some set.
+    frames_behind_mark width plan p t traffic m is on has assigned set)
+    (listed_line k most)
 
 pub set_two_lines : SetTwoLinesComeBack
-set_two_lines width script plan p span receiver traffic header samples file counted has assigned
-    some =
-    let t = tuning_for header (take span samples) receiver in
-    subst
-    (λ (heard : List Sample). IsSentText plan p (told_with_sync plan plan.sync)
-    (tuned_text RateSetTwo t (traffic_channel traffic) heard))
-    (sym file.sent)
-    (text_back width plan p t traffic (receivable width script plan file.named)
-    (on_path width script plan span receiver header samples file counted) has assigned some)
+set_two_lines =
+    file_back RateSetTwo SendsSetTwo IsLineOfSetTwo IsSent2 set_two_behind_mark
+    (λ width plan p frame soft is has some sent. set_two_line plan p frame soft sent)

@@ -5,6 +5,7 @@ pub mod Hearing
 pub mod MadeLaws
 pub mod Make
 pub mod Marking
+pub mod OneWord
 pub mod Openings
 pub mod Ranks
 pub mod Replies

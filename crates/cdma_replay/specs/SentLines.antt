@@ -1,59 +1,101 @@
--- The lines of a traffic channel of rate set 2 in a file that holds what a script's cell sends.
-use Rattle.std.specs.Prelude.{◌≡◌, ℕ, ◌*◌, true, List, [], ◌∷◌, length, take, Option, None, Some}
+-- The lines of a traffic channel's frames in a file that holds what a script's cell sends.
+use Rattle.std.specs.Prelude.{◌≡◌, ◌≤◌, ℕ, ◌*◌, true, List, [], ◌∷◌, length, take, Option}
+use Rattle.std.specs.Prelude.{None, Some}
 use Rattle.std.specs.List.{Contains, flat_map}
 use Rattle.chip_core.specs.declared.sample.Sample.{Sample}
 use Rattle.cdma_io.specs.declared.header.Header.{Header}
 use Rattle.cdma_io.specs.declared.width.Width.{Width}
+use Rattle.frame_decoder.specs.declared.traffic.Decoded.{Decoded}
 use Rattle.rate_set_two.specs.declared.traffic.Decoded2.{Decoded2}
 use Rattle.base_modulator.specs.Signal.{frames_of}
+use Rattle.base_modulator.specs.TrafficFrames.{cycled_frame}
 use Rattle.base_modulator.specs.declared.plan.CellPlan.{CellPlan}
 use Rattle.base_modulator.specs.declared.plan.TrafficPlan.{TrafficPlan}
+use Rattle.base_modulator.specs.declared.traffic_frame.TrafficFrame.{TrafficFrame}
 use Rattle.base_modulator.specs.declared.traffic_frame2.TrafficFrame2.{TrafficFrame2}
+use Rattle.event_tap.specs.EventLines.{event_line}
 use Rattle.event_tap.specs.FrameLines.{frame2_line}
 use Rattle.mobile_core.specs.FramesAlone.{traffic_channel}
+use Rattle.mobile_core.specs.TrafficEvents.{frame_event}
 use Rattle.mobile_core.specs.declared.settings.Traffic.{Traffic}
 use Rattle.clean_link.specs.CleanLink.{IsCellFile}
 use Rattle.clean_link.specs.HeardFrames.{frame_ends, is_received, received_frames, replaced_of}
-use Rattle.clean_link.specs.HeardFrames.{sent_bits, IsAssigned, SendsSetTwo}
+use Rattle.clean_link.specs.HeardFrames.{sent_bits, sent_commands, sent_frame_event, IsAssigned}
+use Rattle.clean_link.specs.HeardFrames.{IsDistinctFrame, SendsSetOne, SendsSetTwo}
 use Rattle.clean_link.specs.ReceivedFrames.{cycled_frame2, sent_decoded2, IsDistinctFrame2}
 use Rattle.clean_link.specs.SentEvents.{told_with_sync}
 use Rattle.cdma_replay.specs.Hearing.{tuning_for}
 use Rattle.cdma_replay.specs.TunedTexts.{tuned_text}
 use Rattle.cdma_replay.specs.declared.handset.Receiver.{Receiver}
-use Rattle.cdma_replay.specs.declared.tuned_text.TunedText.TheVariants.{RateSetTwo}
+use Rattle.cdma_replay.specs.declared.tuned_text.TunedText.{TunedText}
+use Rattle.cdma_replay.specs.declared.tuned_text.TunedText.TheVariants.{Listed, RateSetTwo}
+
+-- ---- any frames
+
+-- One line for each frame of a channel that begins at the mark, so many superframes behind local
+-- chip 0, or later, and lies in the file, in order, of which something is true.
+pub record AreSentLines (plan : CellPlan) (p : TrafficPlan) (Is : ℕ → List ℕ → Type 0)
+    (superframes : ℕ) (text : List ℕ) : Type 0 where
+  pub line : ℕ → List ℕ
+  pub each : text ≡ flat_map line (received_frames plan p (98304 * superframes))
+  pub are : (frame : ℕ) → is_received plan p (98304 * superframes) frame ≡ true →
+      Is frame (line frame)
+
+-- the text of a channel's frames, and none where no mark is set
+abbrev pub IsSentText : CellPlan → TrafficPlan → (ℕ → List ℕ → Type 0) → Option ℕ → List ℕ → Type 0
+IsSentText plan p Is None text = text ≡ []
+IsSentText plan p Is (Some superframes) text = AreSentLines plan p Is superframes text
+
+-- What is written so of a channel that the cell sends, of which something else is true, is this
+-- text, behind the mark that the first whole sending of the sync channel tells.
+abbrev pub LinesComeBack : TunedText → (TrafficPlan → Type 0) →
+    (CellPlan → TrafficPlan → ℕ → List ℕ → Type 0) → Type 0
+LinesComeBack form Sends Is = (width : Width) (script : List ℕ) (plan : CellPlan)
+    (p : TrafficPlan) (span : ℕ) (receiver : Receiver) (traffic : Traffic) (header : Header)
+    (samples : List Sample) →
+    IsCellFile width script plan span receiver.fingers header samples →
+    length samples ≡ header.count → Contains plan.traffic p → IsAssigned p traffic → Sends p →
+    IsSentText plan p (Is plan p) (told_with_sync plan plan.sync)
+    (tuned_text form (tuning_for header (take span samples) receiver) (traffic_channel traffic)
+    samples)
+
+-- ---- frames of rate set 1
 
 -- The line of frame `frame` of a channel, which is this one: it has the frame's end and the power
--- control bits that were sent, and where the frame is distinct, its rate and its information bits,
--- as a good frame.
-pub record IsSentLine (plan : CellPlan) (p : TrafficPlan) (frame : ℕ) (f : TrafficFrame2)
+-- control bits that were sent, and where the frame is distinct, it is the line of the frame that
+-- was sent, as a good one.
+pub record IsSentLine (plan : CellPlan) (p : TrafficPlan) (frame : ℕ) (f : TrafficFrame)
+    (line : List ℕ) : Type 0 where
+  pub decoded : Decoded
+  pub spelled : line ≡ event_line (frame_event (frame_ends plan p frame) decoded (sent_commands f))
+  pub back : IsDistinctFrame (replaced_of plan p frame) f →
+      line ≡ event_line (sent_frame_event (frame_ends plan p frame) f)
+
+-- the one that is sent at a number has this line
+abbrev pub IsLineOfSetOne : CellPlan → TrafficPlan → ℕ → List ℕ → Type 0
+IsLineOfSetOne plan p frame line = (f : TrafficFrame)
+    × (cycled_frame (frames_of plan p) frame ≡ f ∷ []) × IsSentLine plan p frame f line
+
+-- What is listed of a channel of rate set 1 has these lines, however many words of a rate are
+-- looked at.
+abbrev pub ListedLinesComeBack : Type 0
+ListedLinesComeBack = (k : ℕ) → 1 ≤ k → LinesComeBack (Listed k) SendsSetOne IsLineOfSetOne
+
+-- ---- frames of rate set 2
+
+-- The line of one of rate set 2: it has the frame's end and the power control bits that were sent,
+-- and where the frame is distinct, its rate and its information bits, as a good frame.
+pub record IsSentLine2 (plan : CellPlan) (p : TrafficPlan) (frame : ℕ) (f : TrafficFrame2)
     (line : List ℕ) : Type 0 where
   pub decoded : Decoded2
   pub spelled : line ≡ frame2_line (frame_ends plan p frame) decoded (sent_bits f.commands)
   pub back : IsDistinctFrame2 (replaced_of plan p frame) f → decoded ≡ sent_decoded2 plan p frame f
 
--- One line for each frame of a channel that begins at the mark, so many superframes behind local
--- chip 0, or later, and lies in the file, in order.
-pub record AreSentLines (plan : CellPlan) (p : TrafficPlan) (superframes : ℕ) (text : List ℕ)
-    : Type 0 where
-  pub line : ℕ → List ℕ
-  pub each : text ≡ flat_map line (received_frames plan p (98304 * superframes))
-  pub are : (frame : ℕ) → is_received plan p (98304 * superframes) frame ≡ true →
-      (f : TrafficFrame2) × (cycled_frame2 (frames_of plan p) frame ≡ f ∷ [])
-      × IsSentLine plan p frame f (line frame)
+-- the one that is sent at a number has this line
+abbrev pub IsLineOfSetTwo : CellPlan → TrafficPlan → ℕ → List ℕ → Type 0
+IsLineOfSetTwo plan p frame line = (f : TrafficFrame2)
+    × (cycled_frame2 (frames_of plan p) frame ≡ f ∷ []) × IsSentLine2 plan p frame f line
 
--- the text of a channel's frames, and none where no mark is set
-abbrev pub IsSentText : CellPlan → TrafficPlan → Option ℕ → List ℕ → Type 0
-IsSentText plan p None text = text ≡ []
-IsSentText plan p (Some superframes) text = AreSentLines plan p superframes text
-
--- What is written of a channel of rate set 2 that the cell sends is this text, behind the mark that
--- the first whole sending of the sync channel tells.
+-- what is written of a channel of rate set 2 has these lines
 abbrev pub SetTwoLinesComeBack : Type 0
-SetTwoLinesComeBack = (width : Width) (script : List ℕ) (plan : CellPlan) (p : TrafficPlan)
-    (span : ℕ) (receiver : Receiver) (traffic : Traffic) (header : Header) (samples : List Sample) →
-    IsCellFile width script plan span receiver.fingers header samples →
-    length samples ≡ header.count → Contains plan.traffic p → IsAssigned p traffic →
-    SendsSetTwo p →
-    IsSentText plan p (told_with_sync plan plan.sync)
-    (tuned_text RateSetTwo (tuning_for header (take span samples) receiver)
-    (traffic_channel traffic) samples)
+SetTwoLinesComeBack = LinesComeBack RateSetTwo SendsSetTwo IsLineOfSetTwo

@@ -3,8 +3,9 @@
 ghost use Rattle.std.specs.Prelude.{◌≡◌, ℕ, List};
 ghost use Rattle.cdma_words.specs.declared.job.Job.{Job as TheJob};
 ghost use Rattle.cdma_replay.specs.MadeLaws.{IsCleanWhenMade, IsCleanWhenSent, IsReadableWhenMade};
+ghost use Rattle.cdma_replay.specs.OneWord.{OneWordFollows, OneWordFollowsFrame};
 ghost use Rattle.cdma_replay.specs.Replies.{IsReply, Reply};
-ghost use Rattle.cdma_replay.specs.SentLines.{SetTwoLinesComeBack};
+ghost use Rattle.cdma_replay.specs.SentLines.{ListedLinesComeBack, SetTwoLinesComeBack};
 
 /// No input is owed two replies.
 pub fn inputs_are_owed_one_reply()
@@ -30,4 +31,21 @@ pub fn made_files_are_clean_links()
 /// a good frame.
 pub fn lines_of_rate_set_two_come_back()
     ensures { SetTwoLinesComeBack }
+{}
+
+/// What is listed of a traffic channel with one word of a rate is, frame by frame, the line of the
+/// frame that a handset hears as long as the reference's pilot is active alone; so is all that is
+/// written of the channel behind the mark.
+pub fn listing_one_word_is_following()
+    ensures frame { OneWordFollowsFrame }
+    ensures text { OneWordFollows }
+{}
+
+/// In such a file a traffic channel of rate set 1 that the cell sends has, however many words of a
+/// rate are listed, one line for each of its frames that begins at the mark or behind it and lies in
+/// the file, in order, at the frame's own end. Each has the power control bits that were sent, and,
+/// where no other word of any rate of the set has the frame's symbols at the places that they leave,
+/// it is the line of the frame that was sent, as a good frame.
+pub fn listed_lines_come_back()
+    ensures { ListedLinesComeBack }
 {}

@@ -1,0 +1,64 @@
+-- What is listed with one word of each rate is heard where the reference's pilot is active alone.
+use Rattle.std.proofs.Common.{◌≡◌, ℕ, ◌&&◌, sym, ap, ◌∙◌, List, length, nat_le, Option}
+use Rattle.std.specs.List.{flat_map}
+use Rattle.std.proofs.lemmas.List.Folds.{flat_map-map}
+use Rattle.chip_core.specs.Bits.{places}
+use Rattle.chip_core.specs.declared.sample.Sample.{Sample}
+use Rattle.chip_core.proofs.Ranges.{flat_map_ext_filter}
+use Rattle.frame_decoder.specs.declared.traffic.Decoded.{Decoded}
+use Rattle.listed_frame.proofs.Choice.{decoded_by_one_word}
+use Rattle.mobile_core.specs.Channels.{channel_stream}
+use Rattle.mobile_core.specs.FramesAlone.{reference_alone, traffic_channel}
+use Rattle.mobile_core.specs.PagingStreams.{paging_bound}
+use Rattle.mobile_core.specs.SoftFrames.{frames_within, soft_frame, soft_frames}
+use Rattle.mobile_core.specs.Streams.{is_in_file, known_at, known_by}
+use Rattle.mobile_core.specs.TrafficEvents.{commands_at, decoded_at}
+use Rattle.mobile_core.specs.TrafficStreams.{replaced_in}
+use Rattle.mobile_core.specs.Tuning.{Tuning}
+use Rattle.mobile_core.specs.declared.mark.Mark.{Mark}
+use Rattle.mobile_core.specs.declared.settings.Traffic.{Traffic}
+use Rattle.mobile_core.specs.declared.soft_frame.SoftFrame.{SoftFrame}
+use Rattle.mobile_core.proofs.FramesAlone.{decoded_alone, power_alone}
+use Rattle.cdma_replay.specs.OneWord.{followed_line, OneWordFollows, OneWordFollowsFrame}
+use Rattle.cdma_replay.specs.TunedTexts.{decoded_line, frame_text, frames_from, listed_text}
+use Rattle.cdma_replay.specs.TunedTexts.{tuned_text}
+use Rattle.cdma_replay.specs.declared.tuned_text.TunedText.TheVariants.{Listed}
+use Rattle.cdma_replay.proofs.SentLines.{line_of_event}
+
+-- of one frame
+pub one_frame : OneWordFollowsFrame
+one_frame t traffic m samples k =
+    let soft = soft_frame t (traffic_channel traffic) m samples k in
+    let heard = decoded_at t traffic m (reference_alone traffic m) samples k in
+    let commands = commands_at t traffic m (reference_alone traffic m) samples k in
+    ap (listed_text 1 soft.end soft.turned) (sym (power_alone t traffic m samples k))
+    ∙ ap (λ (d : Decoded). decoded_line soft.end d commands)
+    (decoded_by_one_word (replaced_in traffic m k) soft.turned
+    ∙ sym (decoded_alone t traffic m samples k))
+    ∙ line_of_event soft.end heard commands
+
+-- of those that end within these samples
+each_frame : (t : Tuning) (traffic : Traffic) (m : Mark) (samples : List Sample) →
+    flat_map (frame_text (Listed 1)) (soft_frames t (traffic_channel traffic) m samples) ≡
+    flat_map (followed_line t traffic m samples)
+    (soft_frames t (traffic_channel traffic) m samples)
+unfolding frames_within
+each_frame t traffic m samples =
+    let n = length samples in
+    let stream = channel_stream t (traffic_channel traffic) m in
+    let soft : ℕ → SoftFrame = soft_frame t (traffic_channel traffic) m samples in
+    let within : List ℕ = known_by t.count stream n (paging_bound n) in
+    flat_map-map (frame_text (Listed 1)) soft within
+    ∙ flat_map_ext_filter
+    (λ k. is_in_file t.count stream k && nat_le (known_at t.count stream k) n)
+    (λ k. frame_text (Listed 1) (soft k)) (λ k. followed_line t traffic m samples (soft k))
+    (places (paging_bound n)) (λ k kept. one_frame t traffic m samples k)
+    ∙ sym (flat_map-map (followed_line t traffic m samples) soft within)
+
+pub one_word_follows : OneWordFollows
+unfolding tuned_text
+one_word_follows t traffic m samples set =
+    ap
+    (λ (last : Option Mark). flat_map (frame_text (Listed 1))
+    (frames_from t (traffic_channel traffic) samples last)) set
+    ∙ each_frame t traffic m samples

@@ -1,0 +1,35 @@
+-- What is listed of a traffic channel where one word of each rate is looked at.
+use Rattle.std.specs.Prelude.{◌≡◌, ℕ, List, length, Some}
+use Rattle.std.specs.List.{flat_map}
+use Rattle.chip_core.specs.declared.sample.Sample.{Sample}
+use Rattle.event_tap.specs.EventLines.{event_line}
+use Rattle.mobile_core.specs.FramesAlone.{reference_alone, traffic_channel}
+use Rattle.mobile_core.specs.Marks.{mark}
+use Rattle.mobile_core.specs.SoftFrames.{soft_frame, soft_frames}
+use Rattle.mobile_core.specs.TrafficEvents.{frame_heard}
+use Rattle.mobile_core.specs.Tuning.{Tuning}
+use Rattle.mobile_core.specs.declared.mark.Mark.{Mark}
+use Rattle.mobile_core.specs.declared.settings.Traffic.{Traffic}
+use Rattle.mobile_core.specs.declared.soft_frame.SoftFrame.{SoftFrame}
+use Rattle.cdma_replay.specs.TunedTexts.{frame_text, tuned_text}
+use Rattle.cdma_replay.specs.declared.tuned_text.TunedText.TheVariants.{Listed}
+
+-- the line of the event that a handset hears at this frame's end, where the reference's pilot is
+-- active alone
+abbrev pub followed_line : Tuning → Traffic → Mark → List Sample → SoftFrame → List ℕ
+followed_line t traffic m samples frame =
+    event_line (frame_heard t traffic m (reference_alone traffic m) samples frame.end frame.number)
+
+-- With one word that is what is written of each frame,
+abbrev pub OneWordFollowsFrame : Type 0
+OneWordFollowsFrame = (t : Tuning) (traffic : Traffic) (m : Mark) (samples : List Sample) (k : ℕ) →
+    let frame = soft_frame t (traffic_channel traffic) m samples k in
+    frame_text (Listed 1) frame ≡ followed_line t traffic m samples frame
+
+-- so of all that end within these samples, behind the mark that these set.
+abbrev pub OneWordFollows : Type 0
+OneWordFollows = (t : Tuning) (traffic : Traffic) (m : Mark) (samples : List Sample) →
+    mark t samples (length samples) ≡ Some m →
+    tuned_text (Listed 1) t (traffic_channel traffic) samples ≡
+    flat_map (followed_line t traffic m samples)
+    (soft_frames t (traffic_channel traffic) m samples)
