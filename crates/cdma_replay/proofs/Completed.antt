@@ -7,6 +7,7 @@ use Rattle.base_modulator.specs.Script.{plan_named}
 use Rattle.event_tap.specs.Taps.{KeptTap, kept_by}
 use Rattle.cdma_words.specs.declared.job.Job.{Job}
 use Rattle.cdma_words.specs.declared.job.Job.TheVariants.{Find, Follow, Make, Rate2, Survey, Trial}
+use Rattle.cdma_words.specs.declared.job.Job.TheVariants as jobs
 use Rattle.cdma_replay.specs.declared.receiving.Reception.{Reception}
 use Rattle.cdma_replay.specs.declared.status.Status.{Status}
 use Rattle.cdma_replay.specs.Find.{IsEnd, IsSearchable}
@@ -15,7 +16,7 @@ use Rattle.cdma_replay.specs.Make.{made_file}
 use Rattle.cdma_replay.specs.Replies.{Answers, IsAnswered, IsEndOf, IsFileReply, IsLawfulInput}
 use Rattle.cdma_replay.specs.Replies.{IsReply, IsVerdict, ReadsInput, ReadsWell}
 use Rattle.cdma_replay.specs.Replies.{Reply, finding, following, hearing, surveying}
-use Rattle.cdma_replay.specs.declared.tuned_text.TunedText.TheVariants.{RateSetTwo}
+use Rattle.cdma_replay.specs.declared.tuned_text.TunedText.TheVariants.{Listed, RateSetTwo}
 use Rattle.cdma_replay.specs.Trials.{trial_line}
 use Rattle.cdma_replay.proofs.Replies.{named_well, one_reply}
 
@@ -60,6 +61,8 @@ all_owed forms (Follow span workers fingers paging traffic limits) bytes lawful 
     file_owed (kept_by limits forms) (following span workers fingers paging traffic) bytes lawful
 all_owed forms (Rate2 span workers fingers traffic) bytes lawful =
     file_owed [] (hearing span workers fingers traffic RateSetTwo) bytes lawful
+all_owed forms (jobs.List span workers fingers traffic k) bytes lawful =
+    file_owed [] (hearing span workers fingers traffic (Listed k)) bytes lawful
 all_owed forms (Survey span workers base width top) bytes lawful =
     file_owed [] (surveying span workers base width top) bytes lawful
 all_owed forms (Make width) bytes lawful =
@@ -89,6 +92,7 @@ file_read : (job : Job) (fault : FileFault) → IsEndOf job (Status.BadFile faul
 file_read (Find span workers) fault end = tt
 file_read (Follow span workers fingers paging traffic limits) fault end = tt
 file_read (Rate2 span workers fingers traffic) fault end = tt
+file_read (jobs.List span workers fingers traffic k) fault end = tt
 file_read (Survey span workers base width top) fault end = tt
 file_read (Make width) fault end = tt
 file_read (Trial number workers) fault end = absurd end
@@ -98,6 +102,7 @@ script_read : (job : Job) (fault : ScriptFault) → IsEndOf job (Status.BadScrip
 script_read (Find span workers) fault end = tt
 script_read (Follow span workers fingers paging traffic limits) fault end = tt
 script_read (Rate2 span workers fingers traffic) fault end = tt
+script_read (jobs.List span workers fingers traffic k) fault end = tt
 script_read (Survey span workers base width top) fault end = tt
 script_read (Make width) fault end = tt
 script_read (Trial number workers) fault end = absurd end
@@ -106,6 +111,7 @@ source_read : (job : Job) → IsEndOf job Status.ReadFault → ReadsInput job
 source_read (Find span workers) end = tt
 source_read (Follow span workers fingers paging traffic limits) end = tt
 source_read (Rate2 span workers fingers traffic) end = tt
+source_read (jobs.List span workers fingers traffic k) end = tt
 source_read (Survey span workers base width top) end = tt
 source_read (Make width) end = tt
 source_read (Trial number workers) end = absurd end
@@ -121,6 +127,9 @@ read_well (Follow span workers fingers paging traffic limits) (Some bytes) Faile
     (bytes, refl, well.0, well.1)
 read_well (Rate2 span workers fingers traffic) None Failed reads well = absurd well
 read_well (Rate2 span workers fingers traffic) (Some bytes) Failed reads well =
+    (bytes, refl, well.0, well.1)
+read_well (jobs.List span workers fingers traffic k) None Failed reads well = absurd well
+read_well (jobs.List span workers fingers traffic k) (Some bytes) Failed reads well =
     (bytes, refl, well.0, well.1)
 read_well (Survey span workers base width top) None Failed reads well = absurd well
 read_well (Survey span workers base width top) (Some bytes) Failed reads well =

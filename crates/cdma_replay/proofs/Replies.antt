@@ -20,6 +20,7 @@ use Rattle.base_modulator.specs.Script.{plan_named}
 use Rattle.event_tap.specs.Taps.{KeptTap, kept_by}
 use Rattle.cdma_words.specs.declared.job.Job.{Job}
 use Rattle.cdma_words.specs.declared.job.Job.TheVariants.{Find, Follow, Make, Rate2, Survey, Trial}
+use Rattle.cdma_words.specs.declared.job.Job.TheVariants as jobs
 use Rattle.cdma_replay.specs.declared.receiving.Reception.{Reception}
 use Rattle.cdma_replay.specs.declared.status.Status.{Status}
 use Rattle.cdma_replay.specs.Broken.{HasWritten, IsCut, WritesAll, WritesFirst}
@@ -29,7 +30,7 @@ use Rattle.cdma_replay.specs.Hearing.{IsUntapped, file_end_of, file_text, first_
 use Rattle.cdma_replay.specs.Hearing.{told}
 use Rattle.cdma_replay.specs.declared.purpose.Purpose.{Purpose}
 use Rattle.cdma_replay.specs.declared.purpose.Purpose.TheVariants as purposes
-use Rattle.cdma_replay.specs.declared.tuned_text.TunedText.TheVariants.{RateSetTwo}
+use Rattle.cdma_replay.specs.declared.tuned_text.TunedText.TheVariants.{Listed, RateSetTwo}
 use Rattle.cdma_replay.specs.Make.{BeginsMadeFile, WritesMadeFile, WritesNoMoreMade, made_file}
 use Rattle.cdma_replay.specs.Replies.{Answers, AnswersBehind, IsAnswered, IsEndOf, IsFaultyFile}
 use Rattle.cdma_replay.specs.Replies.{IsFaultyScript, IsFileEnd, IsFileReply, IsReply, IsScriptEnd}
@@ -471,6 +472,8 @@ one_reply forms (Follow span workers fingers paging traffic limits) bytes one ot
     one_file_reply (kept_by limits forms) (following span workers fingers paging traffic) bytes one other a b
 one_reply forms (Rate2 span workers fingers traffic) bytes one other a b =
     one_file_reply [] (hearing span workers fingers traffic RateSetTwo) bytes one other a b
+one_reply forms (jobs.List span workers fingers traffic k) bytes one other a b =
+    one_file_reply [] (hearing span workers fingers traffic (Listed k)) bytes one other a b
 one_reply forms (Survey span workers base width top) bytes one other a b =
     one_file_reply [] (surveying span workers base width top) bytes one other a b
 one_reply forms (Make width) bytes one other a b = one_script_reply width bytes one other a b
@@ -502,6 +505,7 @@ pub named_well : (job : Job) → ¬ (IsEndOf job Status.BadWords)
 named_well (Find span workers) end = end
 named_well (Follow span workers fingers paging traffic limits) end = end
 named_well (Rate2 span workers fingers traffic) end = end
+named_well (jobs.List span workers fingers traffic k) end = end
 named_well (Survey span workers base width top) end = end
 named_well (Make width) end = end
 named_well (Trial number workers) end = end

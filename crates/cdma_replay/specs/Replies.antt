@@ -18,6 +18,7 @@ use Rattle.event_tap.specs.Taps.{KeptTap, kept_by}
 use Rattle.cdma_words.specs.declared.job.Job.{Job}
 use Rattle.cdma_words.specs.declared.job.TrafficOptions.{TrafficOptions}
 use Rattle.cdma_words.specs.declared.job.Job.TheVariants.{Find, Follow, Make, Rate2, Survey, Trial}
+use Rattle.cdma_words.specs.declared.job.Job.TheVariants as jobs
 use Rattle.cdma_replay.specs.declared.purpose.Purpose.TheVariants as purposes
 use Rattle.cdma_replay.specs.declared.receiving.Reception.{Reception}
 use Rattle.cdma_replay.specs.declared.status.Status.{Status}
@@ -26,7 +27,7 @@ use Rattle.cdma_replay.specs.Broken.{WritesAll, WritesFirst}
 use Rattle.cdma_replay.specs.Find.{BeginsFile, BeginsText, IsFaultIn, IsHeaderFault, IsSearchable}
 use Rattle.cdma_replay.specs.Hearing.{file_end_of, file_text, traffic_of}
 use Rattle.cdma_replay.specs.declared.tuned_text.TunedText.{TunedText}
-use Rattle.cdma_replay.specs.declared.tuned_text.TunedText.TheVariants.{RateSetTwo}
+use Rattle.cdma_replay.specs.declared.tuned_text.TunedText.TheVariants.{Listed, RateSetTwo}
 use Rattle.mobile_core.specs.declared.channel.Channel.TheVariants as channels
 use Rattle.cdma_replay.specs.Make.{BeginsMadeFile, made_file}
 use Rattle.cdma_replay.specs.Trials.{trial_line}
@@ -82,7 +83,7 @@ IsTrialReply number (Err end) = ⊥
 
 -- ---- command by command
 
--- how `find`, `follow`, `rate2` and `survey` receive
+-- how `find`, `follow`, `rate2`, `list` and `survey` receive
 abbrev pub finding : ℕ → ℕ → Reception
 finding span workers = record { span = span; workers = workers; purpose = purposes.Find }
 
@@ -114,6 +115,8 @@ IsReply forms (Follow span workers fingers paging traffic limits) =
     IsFileReply (kept_by limits forms) (following span workers fingers paging traffic)
 IsReply forms (Rate2 span workers fingers traffic) =
     IsFileReply [] (hearing span workers fingers traffic RateSetTwo)
+IsReply forms (jobs.List span workers fingers traffic k) =
+    IsFileReply [] (hearing span workers fingers traffic (Listed k))
 IsReply forms (Survey span workers base width top) =
     IsFileReply [] (surveying span workers base width top)
 IsReply forms (Make width) = IsScriptReply width
@@ -124,6 +127,7 @@ abbrev pub IsPromising : Job → List ℕ → Type 0
 IsPromising (Find span workers) = BeginsFile span
 IsPromising (Follow span workers fingers paging traffic limits) = BeginsFile span
 IsPromising (Rate2 span workers fingers traffic) = BeginsFile span
+IsPromising (jobs.List span workers fingers traffic k) = BeginsFile span
 IsPromising (Survey span workers base width top) = BeginsFile span
 IsPromising (Make width) = λ bytes. IsOk (plan_named width bytes)
 IsPromising (Trial number workers) = λ bytes. Unit {0}
@@ -141,6 +145,8 @@ Begins forms (Follow span workers fingers paging traffic limits) =
     BeginsText (kept_by limits forms) (following span workers fingers paging traffic)
 Begins forms (Rate2 span workers fingers traffic) =
     BeginsText [] (hearing span workers fingers traffic RateSetTwo)
+Begins forms (jobs.List span workers fingers traffic k) =
+    BeginsText [] (hearing span workers fingers traffic (Listed k))
 Begins forms (Survey span workers base width top) =
     BeginsText [] (surveying span workers base width top)
 Begins forms (Make width) = BeginsMadeFile width
@@ -155,6 +161,8 @@ TellsFirst forms (Follow span workers fingers paging traffic limits) =
     WritesFirst (kept_by limits forms) (following span workers fingers paging traffic)
 TellsFirst forms (Rate2 span workers fingers traffic) =
     WritesFirst [] (hearing span workers fingers traffic RateSetTwo)
+TellsFirst forms (jobs.List span workers fingers traffic k) =
+    WritesFirst [] (hearing span workers fingers traffic (Listed k))
 TellsFirst forms (Survey span workers base width top) =
     WritesFirst [] (surveying span workers base width top)
 TellsFirst forms (Make width) = λ rest left old new. new ≡ old
@@ -167,6 +175,8 @@ TellsAll forms (Follow span workers fingers paging traffic limits) =
     WritesAll (kept_by limits forms) (following span workers fingers paging traffic)
 TellsAll forms (Rate2 span workers fingers traffic) =
     WritesAll [] (hearing span workers fingers traffic RateSetTwo)
+TellsAll forms (jobs.List span workers fingers traffic k) =
+    WritesAll [] (hearing span workers fingers traffic (Listed k))
 TellsAll forms (Survey span workers base width top) =
     WritesAll [] (surveying span workers base width top)
 TellsAll forms job = λ rest old new. Unit {0}
@@ -176,6 +186,7 @@ abbrev pub IsLawfulInput : Job → List ℕ → Type 0
 IsLawfulInput (Find span workers) = λ bytes. IsSearchable bytes span
 IsLawfulInput (Follow span workers fingers paging traffic limits) = λ bytes. IsSearchable bytes span
 IsLawfulInput (Rate2 span workers fingers traffic) = λ bytes. IsSearchable bytes span
+IsLawfulInput (jobs.List span workers fingers traffic k) = λ bytes. IsSearchable bytes span
 IsLawfulInput (Survey span workers base width top) = λ bytes. IsSearchable bytes span
 IsLawfulInput (Make width) = λ bytes. IsOk (plan_named width bytes)
 IsLawfulInput (Trial number workers) = λ bytes. Unit {0}
@@ -220,6 +231,7 @@ abbrev pub IsEndOf : Job → Status → Type 0
 IsEndOf (Find span workers) = IsSearchEnd
 IsEndOf (Follow span workers fingers paging traffic limits) = IsFileEnd
 IsEndOf (Rate2 span workers fingers traffic) = IsFileEnd
+IsEndOf (jobs.List span workers fingers traffic k) = IsFileEnd
 IsEndOf (Survey span workers base width top) = IsSearchEnd
 IsEndOf (Make width) = IsScriptEnd
 IsEndOf (Trial number workers) = IsTrialEnd

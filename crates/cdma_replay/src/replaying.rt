@@ -24,8 +24,8 @@ ghost use Rattle.cdma_replay.specs.Hearing.{traffic_of};
 ghost use Rattle.cdma_replay.specs.Openings.{IsLawfulPurpose};
 ghost use Rattle.cdma_replay.specs.Replies.{AnswersBehind, Begins, IsAnswered, IsEarlyFault};
 ghost use Rattle.cdma_replay.specs.Replies.{IsEndOf, IsFileEnd, IsFileReply, IsPromising, IsReply};
-ghost use Rattle.cdma_replay.specs.Replies.{IsVerdict, ReadsInput};
-ghost use Rattle.cdma_replay.specs.Replies.{ReadsWell, Reply, TellsAll, TellsFirst, WritesPart};
+ghost use Rattle.cdma_replay.specs.Replies.{IsVerdict, ReadsInput, ReadsWell, Reply, TellsAll};
+ghost use Rattle.cdma_replay.specs.Replies.{TellsFirst, WritesPart, hearing};
 ghost use Rattle.cdma_replay.specs.Trials.{trial_line};
 
 use crate::handset::{Receiver, followed};
@@ -36,7 +36,7 @@ use crate::status::Status;
 use crate::trial::trial;
 use crate::tuned_text::TunedText;
 use cdma_io::{Sink, Source};
-use cdma_words::{Job, WordFault, words_of};
+use cdma_words::{Job, TrafficOptions, WordFault, words_of};
 use event_tap::{Tap, Taps};
 use mobile_core::Channel;
 use pilot_search::Gate;
@@ -50,6 +50,27 @@ fn status_of(run: Result<(), Status>) -> Status
     match run {
         Ok(()) => Status::Done,
         Err(status) => status,
+    }
+}
+
+/// How a sample file is received for this text of a traffic channel's frames.
+fn hearing(
+    span: u16,
+    workers: u8,
+    fingers: u8,
+    traffic: TrafficOptions,
+    text: TunedText,
+) -> Reception
+    ensures { result ≡ hearing span workers fingers traffic text }
+{
+    Reception {
+        span,
+        workers,
+        purpose: Purpose::Tuned {
+            fingers,
+            channel: Channel::Traffic(followed(traffic)),
+            text,
+        },
     }
 }
 
@@ -169,15 +190,17 @@ fn run_job<R: Threads + Sync, S: Source, K: Sink, G: Gate + Sync>(
             fingers,
             traffic,
         } => {
-            let reception = Reception {
-                span,
-                workers,
-                purpose: Purpose::Tuned {
-                    fingers,
-                    channel: Channel::Traffic(followed(traffic)),
-                    text: TunedText::RateSetTwo,
-                },
-            };
+            let reception = hearing(span, workers, fingers, traffic, TunedText::RateSetTwo);
+            receive_untapped(rt, alloc, reception, source, sink, gate)
+        }
+        Job::List {
+            span,
+            workers,
+            fingers,
+            traffic,
+            k,
+        } => {
+            let reception = hearing(span, workers, fingers, traffic, TunedText::Listed { k });
             receive_untapped(rt, alloc, reception, source, sink, gate)
         }
         Job::Survey {
@@ -213,7 +236,8 @@ fn run_job<R: Threads + Sync, S: Source, K: Sink, G: Gate + Sync>(
 /// tells, follows it with a handset, and writes one line that counts what was heard.
 /// `rate2` searches as `find` does and writes no pilot's line: from the mark on that a sync message
 /// sets it decodes each frame of one traffic channel as one of rate set 2 (TIA/EIA-95-B, 7.1.3.5), and
-/// writes its line; it ends with `NoSync` as `follow` does.
+/// writes its line; it ends with `NoSync` as `follow` does. `list` does so with frames of rate set 1,
+/// each chosen of the first so many words of a rate whose quality bits are right.
 ///
 /// The words, their options and the numbers that stand where an option isn't given are those of
 /// [`cdma_words::words_of`].

@@ -19,11 +19,19 @@ returns-in-Find-clause-written g c = rw c.in-Find.is c.receive_untapped.ensures.
 
 pub returns-in-Rate2-clause-verdict : goal.returns-in-Rate2-clause-verdict
 returns-in-Rate2-clause-verdict g c =
-    rw c.in-Rate2.is (rw c.followed.ensures at c.receive_untapped-in-Rate2.ensures.verdict)
+    rw c.in-Rate2.is (rw c.hearing-reception.ensures at c.receive_untapped-in-Rate2.ensures.verdict)
+
+pub returns-in-List-clause-verdict : goal.returns-in-List-clause-verdict
+returns-in-List-clause-verdict g c =
+    rw c.in-List.is (rw c.hearing-reception-in-List.ensures at c.receive_untapped-in-List.ensures.verdict)
 
 pub returns-in-Rate2-clause-written : goal.returns-in-Rate2-clause-written
 returns-in-Rate2-clause-written g c =
-    rw c.in-Rate2.is (rw c.followed.ensures at c.receive_untapped-in-Rate2.ensures.written)
+    rw c.in-Rate2.is (rw c.hearing-reception.ensures at c.receive_untapped-in-Rate2.ensures.written)
+
+pub returns-in-List-clause-written : goal.returns-in-List-clause-written
+returns-in-List-clause-written g c =
+    rw c.in-List.is (rw c.hearing-reception-in-List.ensures at c.receive_untapped-in-List.ensures.written)
 
 pub returns-in-Survey-clause-verdict : goal.returns-in-Survey-clause-verdict
 returns-in-Survey-clause-verdict g c = rw c.in-Survey.is c.receive_untapped-in-Survey.ensures.verdict
@@ -142,11 +150,19 @@ returns-in-Find-clause-long g c = rw c.in-Find.is c.receive_untapped.ensures.lon
 
 pub returns-in-Rate2-clause-cut : goal.returns-in-Rate2-clause-cut
 returns-in-Rate2-clause-cut g c =
-    rw c.in-Rate2.is (rw c.followed.ensures at c.receive_untapped-in-Rate2.ensures.cut)
+    rw c.in-Rate2.is (rw c.hearing-reception.ensures at c.receive_untapped-in-Rate2.ensures.cut)
+
+pub returns-in-List-clause-cut : goal.returns-in-List-clause-cut
+returns-in-List-clause-cut g c =
+    rw c.in-List.is (rw c.hearing-reception-in-List.ensures at c.receive_untapped-in-List.ensures.cut)
 
 pub returns-in-Rate2-clause-long : goal.returns-in-Rate2-clause-long
 returns-in-Rate2-clause-long g c =
-    rw c.in-Rate2.is (rw c.followed.ensures at c.receive_untapped-in-Rate2.ensures.long)
+    rw c.in-Rate2.is (rw c.hearing-reception.ensures at c.receive_untapped-in-Rate2.ensures.long)
+
+pub returns-in-List-clause-long : goal.returns-in-List-clause-long
+returns-in-List-clause-long g c =
+    rw c.in-List.is (rw c.hearing-reception-in-List.ensures at c.receive_untapped-in-List.ensures.long)
 
 pub returns-in-Survey-clause-cut : goal.returns-in-Survey-clause-cut
 returns-in-Survey-clause-cut g c = rw c.in-Survey.is c.receive_untapped-in-Survey.ensures.cut
