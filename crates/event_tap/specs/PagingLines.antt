@@ -1,4 +1,5 @@
--- The lines of the messages of the paging channel, in the style of the lines of events.
+-- The lines of the messages of the paging channel, in the style of the lines of events, and of the
+-- slots in which a sleeping handset hears them.
 use Rattle.std.specs.Prelude.{ℕ, List, [], ◌∷◌, ◌++◌, map, codes, decimal}
 use Rattle.paging_message.specs.System.{system_values}
 use Rattle.paging_message.specs.Widths.{system_names}
@@ -59,3 +60,10 @@ paging_line place (messages.System m) = system_line place m
 paging_line place (messages.Neighbors m) = neighbor_line place m
 paging_line place (messages.Channels m) = channel_line place m
 paging_line place (messages.Other m) = other_line place m
+
+-- `slot at=A time=T messages=C` and LF: what begins the lines of a slot, with the number of samples
+-- behind which it ends, its system time in units of 80 ms and how many messages there are in it
+unfoldable pub slot_line : ℕ → ℕ → ℕ → List ℕ
+slot_line place time messages =
+    codes "slot at=" ++ decimal place ++ codes " time=" ++ decimal time ++ codes " messages="
+    ++ decimal messages ++ codes "\n"

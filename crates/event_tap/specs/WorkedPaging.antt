@@ -8,7 +8,7 @@ use Rattle.paging_message.specs.declared.message.PagingMessage.TheVariants.{Chan
 use Rattle.paging_message.specs.declared.message.PagingMessage.TheVariants.{Other, System}
 use Rattle.line_text.specs.Texts.{bit_text, octets, padded}
 use Rattle.event_tap.specs.PagingLines.{channel_line, neighbor_line, neighbor_texts, other_line}
-use Rattle.event_tap.specs.PagingLines.{paging_line, system_line}
+use Rattle.event_tap.specs.PagingLines.{paging_line, slot_line, system_line}
 use Rattle.event_tap.specs.Parts.{commas, named_values}
 use Rattle.event_tap.specs.Taps.{raw_paging_line}
 
@@ -65,3 +65,7 @@ places_of_fields = refl
 raw_message : raw_paging_line 737280 (binary 12 0x05a) ≡ codes "raw at=737280 paging 12:05a0\n"
 unfolding bit_text padded octets encode_with binary digits
 raw_message = refl
+
+slot_of_eight : slot_line 884736 1008 8 ≡ codes "slot at=884736 time=1008 messages=8\n"
+unfolding slot_line digits
+slot_of_eight = refl

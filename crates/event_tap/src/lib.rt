@@ -4,7 +4,8 @@
 //! a [`Text`] that needs no memory of its own, and [`write_event`] gives it to a sink. Whoever
 //! listens to a run hands in its [`Tap`]s, boxed: each hears the events of its form's kinds up to
 //! its limit, and [`Taps`] gives what they make of an event to a sink. A frame of rate set 2, which
-//! is no event of a handset, has a line too ([`write_frame2`]).
+//! is no event of a handset, has a line too ([`write_frame2`]), and so has a slot of a sleeping
+//! handset ([`write_slot`]).
 #![tactic(auto)]
 
 mod frame;
@@ -37,4 +38,4 @@ pub use line::line_into;
 pub use line_text::Text;
 pub use tap::{Heard, Tap};
 pub use taps::{KeepsTaps, Taps};
-pub use writing::{write_event, write_frame2};
+pub use writing::{write_event, write_frame2, write_slot};

@@ -1,9 +1,10 @@
-//! The lines of messages of the paging channel.
+//! The lines of messages of the paging channel, and of the slots of a sleeping handset.
 
 ghost use Rattle.std.specs.Prelude.{◌≡◌, ◌<◌, ◌≤◌, ◌+◌, ◌*◌, ◌^◌, [], ◌++◌, length};
 ghost use Rattle.chip_core.specs.Fields.{FieldsFit};
 ghost use Rattle.event_tap.specs.PagingLines.{channel_line, neighbor_line, other_line, system_line};
 ghost use Rattle.event_tap.specs.PagingLines.{neighbor_text, neighbor_texts, paging_line};
+ghost use Rattle.event_tap.specs.PagingLines.{slot_line};
 ghost use Rattle.event_tap.specs.Parts.{commas};
 ghost use Rattle.paging_message.specs.Channels.{IsChannelList};
 ghost use Rattle.paging_message.specs.Neighbors.{neighbor_records, IsNeighborList};
@@ -117,5 +118,21 @@ fn append_other(text: &mut Text, at: u64, fields: &OtherFields)
     text.append_named(" other type=", fields.kind);
     text.append_word(" bits=");
     text.append_bits(&fields.bits);
+    text.append_word("\n");
+}
+
+/// Adds the line with which the lines of a slot begin to the empty text, LF at its end.
+///
+/// `at` is the number of samples at which the slot ends, `time` its system time in units of 80 ms,
+/// and `messages` how many messages there are in it.
+#[tactic(auto, unfolding(crate::specs::PagingLines::slot_line))]
+pub(crate) fn append_slot(text: &mut Text, at: u64, time: u64, messages: u16)
+    requires { text.old ≡ [] }
+    ensures value { text.new ≡ slot_line at time messages }
+    ensures most { length text.new ≤ 1024 }
+{
+    text.append_named("slot at=", at);
+    text.append_named(" time=", time);
+    text.append_named(" messages=", messages);
     text.append_word("\n");
 }

@@ -1,8 +1,5 @@
 //! A paging channel as it is received.
 
-ghost use Rattle.std.specs.Prelude.{◌≡◌, Some, None, nat_lt, if◌then◌else◌};
-ghost use Rattle.mobile_core.specs.PagingStreams.{paging_rate};
-
 use crate::continued::Continued;
 use crate::fingers::reference_fingers;
 use crate::hearing::page_in;
@@ -32,17 +29,6 @@ pub(crate) struct PagingReceiver {
     place: u16,
 }
 
-/// The rate that a value of PRAT stands for; `None` for a value that stands for none.
-fn rate_of(prat: u8) -> Option<Rate>
-    ensures { result ≡ (if nat_lt prat 2 then Some (paging_rate prat) else None) }
-{
-    match prat {
-        0 => Some(Rate::R9600),
-        1 => Some(Rate::R4800),
-        _ => None,
-    }
-}
-
 impl PagingReceiver {
     ghost use Rattle.std.specs.Prelude.{◌≡◌, ◌<◌, ◌≤◌, ◌+◌, ◌^◌, ◌↔◌, IsTrue, List, [], length};
     ghost use Rattle.std.specs.Prelude.{take, slice_get, Some, pos, is_some, IfSome, nat_lt, ℕ};
@@ -50,7 +36,7 @@ impl PagingReceiver {
     ghost use Rattle.mobile_core.specs.Clocks.{IsDueAt};
     ghost use Rattle.mobile_core.specs.PagingReceiving.{HearsBit, HearsPaging, IsSoundPaging};
     ghost use Rattle.mobile_core.specs.PagingReceiving.{bit_passed, bits_heard};
-    ghost use Rattle.mobile_core.specs.PagingStreams.{paging_stream};
+    ghost use Rattle.mobile_core.specs.PagingStreams.{paging_rate, paging_stream};
     ghost use Rattle.mobile_core.specs.Sound.{IsSoundMark};
     ghost use Rattle.mobile_core.specs.Streams.{frame_own_bits};
     ghost use Rattle.mobile_core.specs.Tuning.{Tuning};
@@ -80,7 +66,7 @@ impl PagingReceiver {
             length heard ≤ mark.now.sample →
             IfSome result (λ r. HearsPaging t channel mark.now r heard) }
     {
-        let rate = rate_of(mark.prat)?;
+        let rate = mark.paging_rate()?;
         Some(PagingReceiver::at_rate(rate, mark, channel, phase, near))
     }
 
