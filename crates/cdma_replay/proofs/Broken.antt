@@ -17,6 +17,7 @@ use Rattle.cdma_io.specs.SampleFile.{opening, sample_len, sample_spelling, width
 use Rattle.cdma_io.proofs.Opening.{opening-spelled, length-header_spelling}
 use Rattle.cdma_io.proofs.Spelling.{length-samples, sample_len-mono}
 use Rattle.event_tap.specs.Taps.{KeptTap}
+use Rattle.tuned_listener.proofs.Prefixes.{front_begins}
 use Rattle.cdma_replay.specs.Broken.{HasWritten, HearsFirst, IsLong, IsUnopened, TakesFew}
 use Rattle.cdma_replay.specs.Broken.{WritesAll, WritesFirst}
 use Rattle.cdma_replay.specs.Hearing.{Listening, Listens, Tells, listening}
@@ -25,7 +26,6 @@ use Rattle.cdma_replay.specs.Status.{file_status}
 use Rattle.cdma_replay.specs.declared.receiving.Reception.{Reception}
 use Rattle.cdma_replay.proofs.Hearings.{more_behind}
 use Rattle.cdma_replay.proofs.Lines.{HasBegun, writes_whole}
-use Rattle.cdma_replay.proofs.Prefixes.{front_begins}
 
 -- ---- how many samples some bytes are
 

@@ -8,6 +8,7 @@ use Rattle.event_tap.specs.Taps.{KeptTap, kept_by}
 use Rattle.cdma_words.specs.declared.job.Job.{Job}
 use Rattle.cdma_words.specs.declared.job.Job.TheVariants.{Find, Follow, Make, Rate2, Survey, Trial}
 use Rattle.cdma_words.specs.declared.job.Job.TheVariants as jobs
+use Rattle.tuned_listener.specs.declared.tuned_text.TunedText.TheVariants.{Listed, RateSetTwo}
 use Rattle.cdma_replay.specs.declared.receiving.Reception.{Reception}
 use Rattle.cdma_replay.specs.declared.status.Status.{Status}
 use Rattle.cdma_replay.specs.Find.{IsEnd, IsSearchable}
@@ -16,7 +17,6 @@ use Rattle.cdma_replay.specs.Make.{made_file}
 use Rattle.cdma_replay.specs.Replies.{Answers, IsAnswered, IsEndOf, IsFileReply, IsLawfulInput}
 use Rattle.cdma_replay.specs.Replies.{IsReply, IsVerdict, ReadsInput, ReadsWell}
 use Rattle.cdma_replay.specs.Replies.{Reply, finding, following, hearing, surveying}
-use Rattle.cdma_replay.specs.declared.tuned_text.TunedText.TheVariants.{Listed, RateSetTwo}
 use Rattle.cdma_replay.specs.Trials.{trial_line}
 use Rattle.cdma_replay.proofs.Replies.{named_well, one_reply}
 

@@ -11,6 +11,7 @@ use Rattle.cdma_io.specs.declared.file_fault.FileFault.TheVariants.{Short, Extra
 use Rattle.cdma_io.specs.declared.header.Header.{Header}
 use Rattle.cdma_io.specs.SampleFile.{IsLawfulHeader, header_spelling, sample_spelling, width_of}
 use Rattle.event_tap.specs.Taps.{KeptTap}
+use Rattle.tuned_listener.proofs.Prefixes.{front_begins}
 use Rattle.cdma_replay.specs.declared.status.Status.{Status}
 use Rattle.cdma_replay.specs.declared.status.Status.TheVariants.{NoMemory, NoSync, WriteFault}
 use Rattle.cdma_replay.specs.Status.{file_status}
@@ -20,7 +21,6 @@ use Rattle.cdma_replay.specs.declared.purpose.Purpose.{Purpose}
 use Rattle.cdma_replay.specs.declared.purpose.Purpose.TheVariants.{Find, Follow, Survey}
 use Rattle.cdma_replay.specs.declared.purpose.Purpose.TheVariants.{Tuned}
 use Rattle.cdma_replay.proofs.Files.{ended_by}
-use Rattle.cdma_replay.proofs.Prefixes.{front_begins}
 
 -- a fault of the file is no want of memory
 fault_remembers : (fault : FileFault) → ¬ (file_status fault ≡ NoMemory)

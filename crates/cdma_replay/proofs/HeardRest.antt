@@ -14,9 +14,9 @@ use Rattle.cdma_io.specs.Outside.{ConsumesAtMost}
 use Rattle.cdma_io.specs.SampleFile.{HasBits, sample_spelling}
 use Rattle.chip_core.specs.declared.sample.Sample.{Sample}
 use Rattle.event_tap.specs.Taps.{KeptTap}
+use Rattle.tuned_listener.proofs.Prefixes.{front_begins}
 use Rattle.cdma_replay.specs.Broken.{HearsFirst}
 use Rattle.cdma_replay.specs.Find.{PassesSamples}
-use Rattle.cdma_replay.proofs.Prefixes.{front_begins}
 use Rattle.cdma_replay.proofs.Hearings.{all_part, more_behind, more_none, part_behind}
 use Rattle.cdma_replay.specs.Hearing.{HearsPart, HearsRest, Listening, Listens, Tells, TellsPart}
 use Rattle.cdma_replay.specs.declared.listener.Listener.{Listener}

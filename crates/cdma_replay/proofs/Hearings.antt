@@ -26,6 +26,13 @@ use Rattle.event_tap.specs.Taps.{KeptTap, heard_text, run_taps, run_text}
 use Rattle.event_tap.specs.Taps.{taps_behind}
 use Rattle.event_tap.proofs.Runs.{run_taps-append, run_taps-more, run_text-append, run_text-more}
 use Rattle.event_tap.proofs.Runs.{run_text-none}
+use Rattle.tuned_listener.proofs.Prefixes.{begins_more, front_begins, prefix_before, prefix_behind}
+use Rattle.tuned_listener.proofs.Prefixes.{taken_begins}
+use Rattle.tuned_listener.specs.TunedListening.{ListensTuned, TellsTuned, TellsTunedPart, tuned_room}
+use Rattle.tuned_listener.proofs.TunedMarks.{none_marked, stands_near}
+use Rattle.tuned_listener.proofs.TunedTexts.{text_of_nothing}
+use Rattle.tuned_listener.specs.declared.tuned.TunedListener.{TunedListener}
+use Rattle.tuned_listener.specs.declared.tuned_text.TunedText.{TunedText}
 use Rattle.cdma_replay.specs.declared.handset.Receiver.{Receiver}
 use Rattle.cdma_replay.specs.declared.status.Status.{Status}
 use Rattle.cdma_replay.specs.declared.status.Status.TheVariants.{Done, NoSync, BadWords, BadFile}
@@ -47,16 +54,9 @@ use Rattle.pilot_search.specs.declared.sweeping.Best.{Best}
 use Rattle.pilot_search.proofs.BestPhase.{best_phase-only}
 use Rattle.mobile_core.specs.declared.settings.Settings.{Settings}
 use Rattle.mobile_core.specs.Tuning.{tuning_by}
-use Rattle.cdma_replay.proofs.Prefixes.{begins_more, front_begins, prefix_before, prefix_behind}
-use Rattle.cdma_replay.proofs.Prefixes.{taken_begins}
 use Rattle.cdma_replay.specs.Hearing.{AreNearTo, AreReady, ByFrames, ByTaps, HasRoom, HasRoomFor, HasTold}
 use Rattle.cdma_replay.specs.Hearing.{Listening, Listens, Nobody, Tells, TellsMore, TellsPart}
 use Rattle.cdma_replay.specs.Hearing.{is_told, told, traffic_of, tuning_for}
-use Rattle.cdma_replay.specs.TunedListening.{ListensTuned, TellsTuned, TellsTunedPart, tuned_room}
-use Rattle.cdma_replay.proofs.TunedMarks.{none_marked, stands_near}
-use Rattle.cdma_replay.proofs.TunedTexts.{text_of_nothing}
-use Rattle.cdma_replay.specs.declared.tuned.TunedListener.{TunedListener}
-use Rattle.cdma_replay.specs.declared.tuned_text.TunedText.{TunedText}
 use Rattle.cdma_replay.specs.declared.listener.Listener.{Listener}
 use Rattle.cdma_replay.specs.declared.listener.Listener.TheVariants as by
 
@@ -471,14 +471,6 @@ fresh_given settings header first receiver best near mobile found count check30 
     near_is.0 most long near_is.1) stands
 
 -- ---- what follows where a call went well, or failed
-
-pub on_ok : {T E : Type 0} (r : Result T E) (P Q : Type 0) → (P → Q) → OnOk r P → OnOk r Q
-on_ok (Ok x) P Q f is = f is
-on_ok (Err e) P Q f is = is
-
-pub on_err : {T E : Type 0} (r : Result T E) (P Q : Type 0) → (P → Q) → OnErr r P → OnErr r Q
-on_err (Ok x) P Q f is = is
-on_err (Err e) P Q f is = f is
 
 pub if_ok : {T E : Type 0} (r : Result T E) (P Q : T → Type 0) → ((x : T) → P x → Q x) →
     IfOk r P → IfOk r Q

@@ -10,12 +10,7 @@ pub mod Lines
 pub mod MadeFiles
 pub mod MadeLinks
 pub mod OneWord
-pub mod Prefixes
 pub mod RankLines
 pub mod Replies
 pub mod SentLines
 mod Counting
-pub mod TunedFrames
-pub mod TunedMarks
-pub mod TunedTexts
-pub mod TunedListeners

@@ -22,6 +22,9 @@ use Rattle.mobile_core.specs.declared.event.Event.TheVariants.{Pilot}
 use Rattle.event_tap.specs.EventLines.{event_line}
 use Rattle.event_tap.specs.Taps.{KeptTap, heard_text, taps_behind}
 use Rattle.pilot_survey.specs.declared.rank.Rank.{Rank}
+use Rattle.tuned_listener.proofs.Prefixes.{begins_more, prefix_before, prefix_behind, prefix_of}
+use Rattle.tuned_listener.proofs.Prefixes.{taken_begins}
+use Rattle.tuned_listener.specs.declared.tuned_text.TunedText.{TunedText}
 use Rattle.cdma_replay.specs.declared.handset.Receiver.{Receiver}
 use Rattle.cdma_replay.specs.declared.listener.Listener.{Listener}
 use Rattle.cdma_replay.specs.declared.opening.Shown.{Shown}
@@ -33,14 +36,11 @@ use Rattle.cdma_replay.specs.declared.purpose.Purpose.TheVariants.{Tuned}
 use Rattle.cdma_replay.specs.declared.receiving.Reception.{Reception}
 use Rattle.cdma_replay.specs.declared.status.Status.{Status}
 use Rattle.cdma_replay.specs.Find.{WritesNoMore, WritesText}
-use Rattle.cdma_replay.proofs.Prefixes.{begins_more, prefix_before, prefix_behind, prefix_of}
-use Rattle.cdma_replay.proofs.Prefixes.{taken_begins}
 use Rattle.cdma_replay.proofs.Hearings.{more_behind, part_behind, told_of_none}
 use Rattle.cdma_replay.specs.Hearing.{ByTaps, HearsPart, HearsRest, Listening, Listens, Tells}
 use Rattle.cdma_replay.specs.Hearing.{TellsMore, TellsPart, best_pilot, end_when, file_end_of}
 use Rattle.cdma_replay.specs.Hearing.{file_text, first_text, is_told, listening, told, tuning_for}
 use Rattle.cdma_replay.specs.Openings.{IsBest, Shows, listening_in, shown_text, taps_after}
-use Rattle.cdma_replay.specs.declared.tuned_text.TunedText.{TunedText}
 use Rattle.mobile_core.specs.declared.channel.Channel.{Channel}
 use Rattle.pilot_search.specs.declared.sweeping.Best.{Best}
 use Rattle.pilot_survey.specs.Survey.{ranking}

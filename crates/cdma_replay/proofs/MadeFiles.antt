@@ -23,9 +23,9 @@ use Rattle.base_modulator.specs.declared.script_fault.ScriptFault.TheVariants.{O
 use Rattle.base_modulator.specs.Script.{named, plan_named, stated_plan}
 use Rattle.base_modulator.specs.Signal.{samples_of}
 use Rattle.base_modulator.specs.Transmitter.{header_of}
+use Rattle.tuned_listener.proofs.Prefixes.{prefix_before, prefix_behind, prefix_of, taken_begins}
 use Rattle.cdma_replay.specs.declared.status.Status.TheVariants as Status
 use Rattle.cdma_replay.specs.Status.{script_status}
-use Rattle.cdma_replay.proofs.Prefixes.{prefix_before, prefix_behind, prefix_of, taken_begins}
 use Rattle.clean_link.proofs.signal.Samples.{length-made}
 use Rattle.base_modulator.specs.Sampled.{made_samples, sample_with}
 use Rattle.cdma_replay.specs.Make.{WritesNoMoreMade, made_file, piece_bytes, sample_bytes}

@@ -19,10 +19,10 @@ use Rattle.mobile_core.specs.declared.mark.Mark.{Mark}
 use Rattle.mobile_core.specs.declared.settings.Traffic.{Traffic}
 use Rattle.mobile_core.specs.declared.soft_frame.SoftFrame.{SoftFrame}
 use Rattle.mobile_core.proofs.FramesAlone.{decoded_alone, power_alone}
+use Rattle.tuned_listener.specs.TunedTexts.{decoded_line, frame_text, frames_from, listed_text}
+use Rattle.tuned_listener.specs.TunedTexts.{tuned_text}
+use Rattle.tuned_listener.specs.declared.tuned_text.TunedText.TheVariants.{Listed}
 use Rattle.cdma_replay.specs.OneWord.{followed_line, OneWordFollows, OneWordFollowsFrame}
-use Rattle.cdma_replay.specs.TunedTexts.{decoded_line, frame_text, frames_from, listed_text}
-use Rattle.cdma_replay.specs.TunedTexts.{tuned_text}
-use Rattle.cdma_replay.specs.declared.tuned_text.TunedText.TheVariants.{Listed}
 use Rattle.cdma_replay.proofs.SentLines.{line_of_event}
 
 -- of one frame

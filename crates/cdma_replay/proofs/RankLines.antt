@@ -8,9 +8,9 @@ use Rattle.std.proofs.KnownBytes.{Appends-nil, Appends-trans}
 use Rattle.std.specs.Io.KnownBytes.{Appends}
 use Rattle.cdma_io.specs.Outside.{AppendsPrefix}
 use Rattle.pilot_survey.specs.declared.rank.Rank.{Rank}
+use Rattle.tuned_listener.proofs.Prefixes.{prefix_before, prefix_behind}
 use Rattle.cdma_replay.specs.Ranks.{rank_line, ranks_text}
 use Rattle.cdma_replay.proofs.Hearings.{taken_joined}
-use Rattle.cdma_replay.proofs.Prefixes.{prefix_before, prefix_behind}
 
 ranks_joined : (one other : List Rank) → ranks_text (one ++ other) ≡ ranks_text one ++ ranks_text other
 unfolding ranks_text

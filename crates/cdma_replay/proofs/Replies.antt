@@ -21,6 +21,8 @@ use Rattle.event_tap.specs.Taps.{KeptTap, kept_by}
 use Rattle.cdma_words.specs.declared.job.Job.{Job}
 use Rattle.cdma_words.specs.declared.job.Job.TheVariants.{Find, Follow, Make, Rate2, Survey, Trial}
 use Rattle.cdma_words.specs.declared.job.Job.TheVariants as jobs
+use Rattle.tuned_listener.specs.declared.tuned_text.TunedText.TheVariants.{Listed, RateSetTwo}
+use Rattle.tuned_listener.proofs.Prefixes.{front_begins, taken_begins}
 use Rattle.cdma_replay.specs.declared.receiving.Reception.{Reception}
 use Rattle.cdma_replay.specs.declared.status.Status.{Status}
 use Rattle.cdma_replay.specs.Broken.{HasWritten, IsCut, WritesAll, WritesFirst}
@@ -30,7 +32,6 @@ use Rattle.cdma_replay.specs.Hearing.{IsUntapped, file_end_of, file_text, first_
 use Rattle.cdma_replay.specs.Hearing.{told}
 use Rattle.cdma_replay.specs.declared.purpose.Purpose.{Purpose}
 use Rattle.cdma_replay.specs.declared.purpose.Purpose.TheVariants as purposes
-use Rattle.cdma_replay.specs.declared.tuned_text.TunedText.TheVariants.{Listed, RateSetTwo}
 use Rattle.cdma_replay.specs.Make.{BeginsMadeFile, WritesMadeFile, WritesNoMoreMade, made_file}
 use Rattle.cdma_replay.specs.Replies.{Answers, AnswersBehind, IsAnswered, IsEndOf, IsFaultyFile}
 use Rattle.cdma_replay.specs.Replies.{IsFaultyScript, IsFileEnd, IsFileReply, IsReply, IsScriptEnd}
@@ -40,7 +41,6 @@ use Rattle.cdma_replay.specs.Replies.{IsTrialEnd, IsTrialReply, following, heari
 use Rattle.cdma_replay.specs.Trials.{trial_line}
 use Rattle.cdma_io.specs.Outside.{AppendsPrefix}
 use Rattle.cdma_replay.proofs.Files.{no_fault, one_fault}
-use Rattle.cdma_replay.proofs.Prefixes.{front_begins, taken_begins}
 
 -- ---- a run over a sample file
 

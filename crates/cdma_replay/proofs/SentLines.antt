@@ -41,14 +41,14 @@ use Rattle.clean_link.proofs.traffic.Commands.{power_pairs}
 use Rattle.clean_link.proofs.traffic.Frames.{one_taken, one_there}
 use Rattle.clean_link.proofs.traffic.Received.{frames_behind_mark, set_two_behind_mark}
 use Rattle.clean_link.proofs.traffic.Signs.{lawful_traffic, set_one_sends}
+use Rattle.tuned_listener.specs.TunedTexts.{decoded_line, frame_text, frames_from, listed_text}
+use Rattle.tuned_listener.specs.TunedTexts.{rate2_text, tuned_text}
+use Rattle.tuned_listener.specs.declared.tuned_text.TunedText.{TunedText}
+use Rattle.tuned_listener.specs.declared.tuned_text.TunedText.TheVariants.{Listed, RateSetTwo}
 use Rattle.cdma_replay.specs.Hearing.{tuning_for}
 use Rattle.cdma_replay.specs.SentLines.{AreSentLines, IsLineOfSetOne, IsLineOfSetTwo, IsSentLine}
 use Rattle.cdma_replay.specs.SentLines.{IsSentLine2, IsSentText, LinesComeBack}
 use Rattle.cdma_replay.specs.SentLines.{ListedLinesComeBack, SetTwoLinesComeBack}
-use Rattle.cdma_replay.specs.TunedTexts.{decoded_line, frame_text, frames_from, listed_text}
-use Rattle.cdma_replay.specs.TunedTexts.{rate2_text, tuned_text}
-use Rattle.cdma_replay.specs.declared.tuned_text.TunedText.{TunedText}
-use Rattle.cdma_replay.specs.declared.tuned_text.TunedText.TheVariants.{Listed, RateSetTwo}
 use Rattle.cdma_replay.proofs.CleanTexts.{on_path, receivable}
 
 -- ---- any frames

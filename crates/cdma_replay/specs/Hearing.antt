@@ -32,10 +32,10 @@ use Rattle.event_tap.specs.EventLines.{event_line}
 use Rattle.event_tap.specs.Taps.{KeptTap, heard_text, run_taps, run_text, taps_behind}
 use Rattle.clean_link.specs.CleanLink.{sync_sent}
 use Rattle.clean_link.specs.SentEvents.{sent_events}
+use Rattle.tuned_listener.specs.TunedListening.{ListensTuned, tuned_room}
+use Rattle.tuned_listener.specs.TunedTexts.{tuned_text}
+use Rattle.tuned_listener.specs.declared.tuned_text.TunedText.{TunedText}
 use Rattle.cdma_replay.specs.Ranks.{survey_text}
-use Rattle.cdma_replay.specs.TunedListening.{ListensTuned, tuned_room}
-use Rattle.cdma_replay.specs.TunedTexts.{tuned_text}
-use Rattle.cdma_replay.specs.declared.tuned_text.TunedText.{TunedText}
 use Rattle.cdma_replay.specs.declared.handset.Receiver.{Receiver}
 use Rattle.cdma_replay.specs.declared.listener.Listener.{Listener}
 use Rattle.cdma_replay.specs.declared.listener.Listener.TheVariants as by

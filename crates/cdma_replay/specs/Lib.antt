@@ -1,17 +1,12 @@
 pub mod Broken
 pub mod Find
-pub mod FrameWriting
 pub mod Hearing
 pub mod MadeLaws
 pub mod Make
-pub mod Marking
 pub mod OneWord
 pub mod Openings
 pub mod Ranks
 pub mod Replies
 pub mod SentLines
-pub mod SoundListener
 pub mod Status
 pub mod Trials
-pub mod TunedListening
-pub mod TunedTexts

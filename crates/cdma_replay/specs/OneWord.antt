@@ -11,8 +11,8 @@ use Rattle.mobile_core.specs.Tuning.{Tuning}
 use Rattle.mobile_core.specs.declared.mark.Mark.{Mark}
 use Rattle.mobile_core.specs.declared.settings.Traffic.{Traffic}
 use Rattle.mobile_core.specs.declared.soft_frame.SoftFrame.{SoftFrame}
-use Rattle.cdma_replay.specs.TunedTexts.{frame_text, tuned_text}
-use Rattle.cdma_replay.specs.declared.tuned_text.TunedText.TheVariants.{Listed}
+use Rattle.tuned_listener.specs.TunedTexts.{frame_text, tuned_text}
+use Rattle.tuned_listener.specs.declared.tuned_text.TunedText.TheVariants.{Listed}
 
 -- the line of the event that a handset hears at this frame's end, where the reference's pilot is
 -- active alone

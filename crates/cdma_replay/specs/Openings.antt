@@ -9,9 +9,9 @@ use Rattle.mobile_core.specs.declared.event.Event.{Event}
 use Rattle.mobile_core.specs.declared.event.Event.TheVariants as told
 use Rattle.event_tap.specs.EventLines.{event_line}
 use Rattle.event_tap.specs.Taps.{KeptTap, heard_text, taps_behind}
+use Rattle.tuned_listener.specs.TunedTexts.{IsLawfulTuned}
 use Rattle.cdma_replay.specs.Hearing.{ByFrames, ByTaps, IsLawfulReceiver, Listening, Nobody}
 use Rattle.cdma_replay.specs.Hearing.{first_text, listening, tuning_for, waiting}
-use Rattle.cdma_replay.specs.TunedTexts.{IsLawfulTuned}
 use Rattle.cdma_replay.specs.Ranks.{ranks_text}
 use Rattle.cdma_replay.specs.declared.opening.Shown.{Shown}
 use Rattle.cdma_replay.specs.declared.opening.Shown.TheVariants.{Followed, Found, Ranks}

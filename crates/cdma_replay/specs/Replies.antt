@@ -19,6 +19,8 @@ use Rattle.cdma_words.specs.declared.job.Job.{Job}
 use Rattle.cdma_words.specs.declared.job.TrafficOptions.{TrafficOptions}
 use Rattle.cdma_words.specs.declared.job.Job.TheVariants.{Find, Follow, Make, Rate2, Survey, Trial}
 use Rattle.cdma_words.specs.declared.job.Job.TheVariants as jobs
+use Rattle.tuned_listener.specs.declared.tuned_text.TunedText.{TunedText}
+use Rattle.tuned_listener.specs.declared.tuned_text.TunedText.TheVariants.{Listed, RateSetTwo}
 use Rattle.cdma_replay.specs.declared.purpose.Purpose.TheVariants as purposes
 use Rattle.cdma_replay.specs.declared.receiving.Reception.{Reception}
 use Rattle.cdma_replay.specs.declared.status.Status.{Status}
@@ -26,8 +28,6 @@ use Rattle.cdma_replay.specs.declared.status.Status.TheVariants as ends
 use Rattle.cdma_replay.specs.Broken.{WritesAll, WritesFirst}
 use Rattle.cdma_replay.specs.Find.{BeginsFile, BeginsText, IsFaultIn, IsHeaderFault, IsSearchable}
 use Rattle.cdma_replay.specs.Hearing.{file_end_of, file_text, traffic_of}
-use Rattle.cdma_replay.specs.declared.tuned_text.TunedText.{TunedText}
-use Rattle.cdma_replay.specs.declared.tuned_text.TunedText.TheVariants.{Listed, RateSetTwo}
 use Rattle.mobile_core.specs.declared.channel.Channel.TheVariants as channels
 use Rattle.cdma_replay.specs.Make.{BeginsMadeFile, made_file}
 use Rattle.cdma_replay.specs.Trials.{trial_line}

@@ -24,11 +24,11 @@ use Rattle.clean_link.specs.HeardFrames.{sent_bits, sent_commands, sent_frame_ev
 use Rattle.clean_link.specs.HeardFrames.{IsDistinctFrame, SendsSetOne, SendsSetTwo}
 use Rattle.clean_link.specs.ReceivedFrames.{cycled_frame2, sent_decoded2, IsDistinctFrame2}
 use Rattle.clean_link.specs.SentEvents.{told_with_sync}
+use Rattle.tuned_listener.specs.TunedTexts.{tuned_text}
+use Rattle.tuned_listener.specs.declared.tuned_text.TunedText.{TunedText}
+use Rattle.tuned_listener.specs.declared.tuned_text.TunedText.TheVariants.{Listed, RateSetTwo}
 use Rattle.cdma_replay.specs.Hearing.{tuning_for}
-use Rattle.cdma_replay.specs.TunedTexts.{tuned_text}
 use Rattle.cdma_replay.specs.declared.handset.Receiver.{Receiver}
-use Rattle.cdma_replay.specs.declared.tuned_text.TunedText.{TunedText}
-use Rattle.cdma_replay.specs.declared.tuned_text.TunedText.TheVariants.{Listed, RateSetTwo}
 
 -- ---- any frames
 

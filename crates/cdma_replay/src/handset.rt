@@ -8,9 +8,9 @@ ghost use Rattle.pilot_search.specs.BestIn.{IsBestIn};
 ghost use Rattle.mobile_core.specs.Standing.{StandsFor, has_room};
 ghost use Rattle.mobile_core.specs.TrafficMonitoring.{IsSoundAssignment};
 ghost use Rattle.cdma_words.specs.Words.{IsLawfulTraffic};
+ghost use Rattle.tuned_listener.specs.Marking.{IsUntold};
 ghost use Rattle.cdma_replay.specs.Hearing.{AreNearTo, AreReady, IsLawfulReceiver, traffic_of};
 ghost use Rattle.cdma_replay.specs.Hearing.{tuning_for};
-ghost use Rattle.cdma_replay.specs.Marking.{IsUntold};
 
 use cdma_io::Header;
 use cdma_words::TrafficOptions;

@@ -9,11 +9,11 @@ ghost use Rattle.mobile_core.specs.Tuning.{Tuning};
 ghost use Rattle.event_tap.specs.Taps.{IsKept, KeptTap, run_taps};
 ghost use Rattle.cdma_replay.specs.Hearing.{ByTaps, Tells, TellsPart};
 
-use crate::tuned::TunedListener;
 use cdma_io::{Failed, Sink};
 use chip_core::Sample;
 use event_tap::KeepsTaps;
 use mobile_core::Mobile;
+use tuned_listener::TunedListener;
 
 /// Who hears the samples of a file.
 #[derive(Drop)]

@@ -11,7 +11,6 @@ ghost use Rattle.cdma_replay.specs.Find.{IsEnd};
 
 #[cfg(test)]
 mod capture_tests;
-mod frame_writer;
 #[cfg(test)]
 mod handoff_tests;
 mod handset;
@@ -22,7 +21,6 @@ pub mod laws;
 mod link_tests;
 mod listener;
 mod making;
-mod marking;
 #[cfg(test)]
 mod message_tests;
 mod opening;
@@ -50,8 +48,6 @@ mod traffic_tests;
 mod trial;
 #[cfg(test)]
 mod trial_tests;
-mod tuned;
-mod tuned_text;
 #[cfg(test)]
 mod worker_tests;
 mod workspace;

@@ -1,8 +1,8 @@
 //! What a sample file is received for.
 
 use crate::handset::Receiver;
-use crate::tuned_text::TunedText;
 use mobile_core::Channel;
+use tuned_listener::TunedText;
 
 /// What is wanted of a sample file.
 #[derive(Clone, Copy, PartialEq, Eq, Debug)]

@@ -34,7 +34,6 @@ use crate::purpose::Purpose;
 use crate::receiving::{Reception, receive};
 use crate::status::Status;
 use crate::trial::trial;
-use crate::tuned_text::TunedText;
 use cdma_io::{Sink, Source};
 use cdma_words::{Job, TrafficOptions, WordFault, words_of};
 use event_tap::{Tap, Taps};
@@ -42,6 +41,7 @@ use mobile_core::Channel;
 use pilot_search::Gate;
 use std::alloc::Global;
 use std::thread::Threads;
+use tuned_listener::TunedText;
 
 /// How a run ended that went through, or not.
 fn status_of(run: Result<(), Status>) -> Status

@@ -1,0 +1,5 @@
+pub mod Prefixes
+pub mod TunedFrames
+pub mod TunedMarks
+pub mod TunedTexts
+pub mod TunedListeners

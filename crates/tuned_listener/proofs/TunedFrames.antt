@@ -1,0 +1,271 @@
+-- The text of the frames behind a mark, as it is written frame by frame.
+use Rattle.std.proofs.Common.{◌≡◌, ℕ, zero, suc, ◌+◌, ◌*◌, ◌≤◌, ◌&&◌, Bool, true, false, List}
+use Rattle.std.proofs.Common.{[], ◌∷◌, ◌++◌, map, filter, length, take, drop, refl, sym, ap, ◌∙◌, subst}
+use Rattle.std.proofs.Common.{arith, inl, inr, nat_le, Option, None, Some, append-nil, append_assoc, take-add}
+use Rattle.std.proofs.Common.{length-append, flat_map}
+use Rattle.std.specs.Io.{StartsWith}
+use Rattle.std.specs.Io.KnownBytes.{Appends}
+use Rattle.std.specs.List.{range_with_len}
+use Rattle.std.specs.Option.{option_to_list}
+use Rattle.std.proofs.KnownBytes.{Appends-nil, Appends-trans}
+use Rattle.std.proofs.lemmas.Bool.{and_from, and_parts, cases_Bool, false_from_ne_true, le-leb}
+use Rattle.std.proofs.lemmas.Bool.{leb-true}
+use Rattle.std.proofs.lemmas.List.{map-append, take-append-drop, take_all, take_at}
+use Rattle.std.proofs.lemmas.List.Concat.{flat_map-append}
+use Rattle.chip_core.specs.Bits.{places}
+use Rattle.chip_core.specs.declared.sample.Sample.{Sample}
+use Rattle.chip_core.proofs.Ranges as ranges
+use Rattle.cdma_io.specs.Outside.{AppendsPrefix}
+use Rattle.rake_finger.specs.Soft.{frame_chips}
+use Rattle.rake_finger.specs.declared.form.Form.{Form}
+use Rattle.mobile_core.specs.Channels.{channel_stream}
+use Rattle.mobile_core.specs.PagingStreams.{paging_bound}
+use Rattle.mobile_core.specs.SoftFrames.{frames_within, soft_frame, soft_frames}
+use Rattle.mobile_core.specs.Streams.{is_in_file, known_at}
+use Rattle.mobile_core.specs.Timing.{IsTimed, stream_end}
+use Rattle.mobile_core.specs.Tuners.{IsTunedTo, IsTunerStep}
+use Rattle.mobile_core.specs.Tuning.{Tuning}
+use Rattle.mobile_core.specs.declared.channel.Channel.{Channel}
+use Rattle.mobile_core.specs.declared.mark.Mark.{Mark}
+use Rattle.mobile_core.specs.declared.soft_frame.SoftFrame.{SoftFrame}
+use Rattle.mobile_core.specs.declared.tuner.Tuner.{Tuner}
+use Rattle.mobile_core.specs.declared.tuner.TunerStep.{TunerStep}
+use Rattle.mobile_core.proofs.FrameTimes.{known_between, known_le}
+use Rattle.mobile_core.proofs.FramesGiven.{form_by, frames_of_first}
+use Rattle.tuned_listener.proofs.Prefixes.{begins_more, prefix_before, prefix_behind, taken_begins}
+use Rattle.tuned_listener.specs.TunedTexts.{WritesFrames, WritesFramesPart, frame_text, text_from}
+use Rattle.tuned_listener.specs.declared.tuned_text.TunedText.{TunedText}
+
+-- ---- frames go on
+
+-- What passes a test stands at the front of what passes a wider one, where each number that passes
+-- the wider one and lies before one that passes the first passes that too.
+filter_front : (p q : ℕ → Bool) (a n : ℕ) → ((k : ℕ) → p k ≡ true → q k ≡ true) →
+    ((j k : ℕ) → j ≤ k → q j ≡ true → p k ≡ true → p j ≡ true) →
+    (rest : List ℕ) × (filter q (range_with_len a n) ≡ filter p (range_with_len a n) ++ rest)
+filter_front p q a zero wider front = ([], refl)
+filter_front p q a (suc n) wider front =
+    let later = filter_front p q (a + 1) n wider front in
+    elim (cases_Bool (p a)) [
+      | inl here ↦
+          let there : q a ≡ true = wider a here in
+          (later.0, rw (here, there) (ap (λ (ks : List ℕ). a ∷ ks) later.1))
+      | inr gone ↦
+          elim (cases_Bool (q a)) [
+            | inl there ↦
+                let none : filter p (range_with_len (a + 1) n) ≡ [] =
+                ranges.filter_none_range p (a + 1) n
+                (λ k low below. false_from_ne_true (p k)
+                (λ e. let here = front a k (omega (arith, low)) there e in absurd (cc))) in
+                (filter q (range_with_len a (suc n)), rw (gone, none) refl)
+            | inr gone' ↦ (later.0, rw (gone, gone') later.1)
+          ]
+    ]
+
+module _ (t : Tuning) (channel : Channel) (m : Mark) {low : ℕ}
+    (timed : IsTimed t.count (channel_stream t channel m) low) where
+  -- whether a frame is known within so many samples
+  abbrev within : ℕ → ℕ → Bool
+  within n k =
+      let s = channel_stream t channel m in
+      is_in_file t.count s k && nat_le (known_at t.count s k) n
+
+  within_parts : (n k : ℕ) → within n k ≡ true →
+      (is_in_file t.count (channel_stream t channel m) k ≡ true)
+      × (known_at t.count (channel_stream t channel m) k ≤ n)
+  within_parts n k h =
+      let s = channel_stream t channel m in
+      let parts = and_parts (is_in_file t.count s k) (nat_le (known_at t.count s k) n) h in
+      (parts.0, leb-true (known_at t.count s k) n parts.1)
+
+  within_from : (n k : ℕ) → is_in_file t.count (channel_stream t channel m) k ≡ true →
+      known_at t.count (channel_stream t channel m) k ≤ n → within n k ≡ true
+  within_from n k inside known =
+      let s = channel_stream t channel m in
+      and_from (is_in_file t.count s k) (nat_le (known_at t.count s k) n) inside
+      (le-leb (known_at t.count s k) n known)
+
+  -- there are enough numbers of frames
+  within_bound : (n k : ℕ) → paging_bound n ≤ k → within n k ≡ false
+  within_bound n k high =
+      false_from_ne_true (within n k)
+      (λ h.
+      let s = channel_stream t channel m in
+      let parts = within_parts n k h in
+      let between = known_between s timed k parts.0 in
+      let early : 24576 * (k + 1) ≤ stream_end s k =
+      subst (λ (f : Form). frame_chips f * (k + 1) ≤ stream_end s k) (form_by t channel m)
+      (timed.early k) in
+      omega (arith, between.low, early, parts.1, high))
+
+  -- the frames of the first samples stand at the front
+  pub frames_go_on : (xs ys : List Sample) → (rest : List SoftFrame)
+      × (soft_frames t channel m (xs ++ ys) ≡ soft_frames t channel m xs ++ rest)
+  unfolding frames_within places
+  frames_go_on xs ys =
+      let s = channel_stream t channel m in
+      let n : ℕ = length xs in
+      let n' : ℕ = length (xs ++ ys) in
+      let more : n ≤ n' = omega (arith, length-append xs ys) in
+      let frame : ℕ → SoftFrame = soft_frame t channel m (xs ++ ys) in
+      let wider : (k : ℕ) → within n k ≡ true → within n' k ≡ true = λ k e.
+      let parts = within_parts n k e in
+      within_from n' k parts.0 (omega (arith, more, parts.1)) in
+      let front : (j k : ℕ) → j ≤ k → within n' j ≡ true → within n k ≡ true → within n j ≡ true =
+      λ j k le one other.
+      let there = within_parts n' j one in
+      let here = within_parts n k other in
+      let sooner = known_le s timed j k there.0 here.0 le in
+      within_from n j there.0 (omega (arith, sooner, here.1)) in
+      let (rest, parted) = filter_front (within n) (within n') 0 (paging_bound n') wider front in
+      let longer : filter (within n) (places (paging_bound n))
+      ≡ filter (within n) (places (paging_bound n')) =
+      ranges.filter_enough (within n) (paging_bound n) (paging_bound n') (within_bound n)
+      (λ k le. within_bound n k (omega (arith, le, more))) in
+      let first : frames_within t channel m (xs ++ ys) n ≡ soft_frames t channel m xs =
+      frames_of_first t channel m (xs ++ ys) n more
+      ∙ ap (λ (zs : List Sample). frames_within t channel m zs n) (take_at xs ys n refl) in (
+        map frame rest,
+        ap (map frame) parted
+            ∙ map-append frame (filter (within n) (places (paging_bound n'))) rest
+            ∙ ap (λ (fs : List SoftFrame). fs ++ map frame rest)
+            (ap (map frame) (sym longer) ∙ first),
+      )
+
+  -- and so does their text
+  pub text_goes_on : (form : TunedText) (xs ys : List Sample) → (rest : List ℕ)
+      × (text_from form t channel m (xs ++ ys) ≡ text_from form t channel m xs ++ rest)
+  text_goes_on form xs ys =
+      let (frames, more) = frames_go_on xs ys in (
+        flat_map (frame_text form) frames,
+        ap (flat_map (frame_text form)) more
+            ∙ flat_map-append (frame_text form) (soft_frames t channel m xs) frames,
+      )
+
+-- ---- writing
+
+-- the samples of a step behind those taken before
+pub step_joined : (heard samples next : List Sample) (taken n : ℕ) → next ≡ drop taken samples →
+    (heard ++ take taken samples) ++ take n next ≡ heard ++ take (taken + n) samples
+step_joined heard samples next taken n left =
+    ap (λ (xs : List Sample). (heard ++ take taken samples) ++ take n xs) left
+    ∙ append_assoc heard (take taken samples) (take n (drop taken samples))
+    ∙ ap (λ (xs : List Sample). heard ++ xs) (sym (take-add taken n samples))
+
+module _ (t : Tuning) (channel : Channel) (m : Mark) (form : TunedText) where
+  -- nothing was taken
+  pub writes_none : (tuner : Tuner) (heard samples : List Sample) (old : Option (List ℕ)) →
+      IsTunedTo t channel m tuner heard →
+      WritesFrames t channel m form tuner heard (heard ++ take 0 samples) old old
+  writes_none tuner heard samples old tuned = record {
+    text = [];
+    written = Appends-nil old;
+    all = append-nil (text_from form t channel m heard)
+        ∙ ap (text_from form t channel m) (sym (append-nil heard));
+    tuned = subst (IsTunedTo t channel m tuner) (sym (append-nil heard)) tuned;
+  }
+
+  -- the text of what a step gives
+  pub frame_written : (shown : Option SoftFrame) (frame : SoftFrame) (old new : Option (List ℕ)) →
+      shown ≡ Some frame → Appends old new (frame_text form frame) →
+      Appends old new (flat_map (frame_text form) (option_to_list shown))
+  frame_written shown frame old new is written =
+      subst (λ (x : Option SoftFrame). Appends old new
+      (flat_map (frame_text form) (option_to_list x))) (sym is)
+      (subst (Appends old new) (sym (append-nil (frame_text form frame))) written)
+
+  pub frame_cut : (shown : Option SoftFrame) (frame : SoftFrame) (old new : Option (List ℕ)) →
+      shown ≡ Some frame → AppendsPrefix old new (frame_text form frame) →
+      AppendsPrefix old new (flat_map (frame_text form) (option_to_list shown))
+  frame_cut shown frame old new is part =
+      subst (λ (x : Option SoftFrame). AppendsPrefix old new
+      (flat_map (frame_text form) (option_to_list x))) (sym is)
+      (subst (AppendsPrefix old new) (sym (append-nil (frame_text form frame))) part)
+
+  pub none_written : (shown : Option SoftFrame) (old : Option (List ℕ)) → shown ≡ None →
+      Appends old old (flat_map (frame_text form) (option_to_list shown))
+  none_written shown old is =
+      subst (λ (x : Option SoftFrame). Appends old old
+      (flat_map (frame_text form) (option_to_list x))) (sym is) (Appends-nil old)
+
+  module _ (one other : Tuner) (heard samples next : List Sample) (taken : ℕ) (step : TunerStep)
+      (old mid new : Option (List ℕ)) (left : next ≡ drop taken samples)
+      (does : IsTunerStep one other next step)
+      (so_far : WritesFrames t channel m form one heard (heard ++ take taken samples) old mid) where
+    -- the samples that were taken then
+    joined : (heard ++ take taken samples) ++ take step.taken next
+        ≡ heard ++ take (taken + step.taken) samples
+    joined = step_joined heard samples next taken step.taken left
+
+    tuned : IsTunedTo t channel m other (heard ++ take (taken + step.taken) samples)
+    tuned =
+        subst (IsTunedTo t channel m other) joined
+        (does.stands t channel m (heard ++ take taken samples) so_far.tuned)
+
+    -- the text of a step's frame
+    step_text : text_from form t channel m heard
+        ++ (so_far.text ++ flat_map (frame_text form) (option_to_list step.frame))
+        ≡ text_from form t channel m (heard ++ take (taken + step.taken) samples)
+    step_text =
+        let text = flat_map (frame_text form) (option_to_list step.frame) in
+        let now = heard ++ take taken samples in
+        sym (append_assoc (text_from form t channel m heard) so_far.text text)
+        ∙ ap (λ (bytes : List ℕ). bytes ++ text) so_far.all
+        ∙ sym (flat_map-append (frame_text form) (soft_frames t channel m now)
+        (option_to_list step.frame))
+        ∙ ap (flat_map (frame_text form)) (sym (does.gives t channel m now so_far.tuned))
+        ∙ ap (text_from form t channel m) joined
+
+    -- it was written
+    pub writes_more : Appends mid new (flat_map (frame_text form) (option_to_list step.frame)) →
+        WritesFrames t channel m form other heard (heard ++ take (taken + step.taken) samples) old
+        new
+    writes_more written =
+        let text = flat_map (frame_text form) (option_to_list step.frame) in
+        record {
+          text = so_far.text ++ text;
+          written = Appends-trans old mid new so_far.text text so_far.written written;
+          all = step_text;
+          tuned = tuned;
+        }
+
+    -- a write failed in the middle of it
+    pub writes_part : AppendsPrefix mid new
+        (flat_map (frame_text form) (option_to_list step.frame)) →
+        WritesFramesPart t channel m form heard (heard ++ samples) old new
+    writes_part part =
+        let now = heard ++ take (taken + step.taken) samples in
+        let last = drop (taken + step.taken) samples in
+        let text = flat_map (frame_text form) (option_to_list step.frame) in
+        let (rest, later) =
+        text_goes_on t channel m tuned.given.clocked.timed form now last in
+        let whole_samples : now ++ last ≡ heard ++ samples =
+        append_assoc heard (take (taken + step.taken) samples) last
+        ∙ ap (λ (xs : List Sample). heard ++ xs) (take-append-drop (taken + step.taken) samples) in
+        let before = text_from form t channel m heard in
+        let all = so_far.text ++ (text ++ rest) in
+        let whole : text_from form t channel m (heard ++ samples) ≡ before ++ all =
+        ap (text_from form t channel m) (sym whole_samples)
+        ∙ later
+        ∙ ap (λ (bytes : List ℕ). bytes ++ rest) (sym step_text)
+        ∙ append_assoc before (so_far.text ++ text) rest
+        ∙ ap (λ (bytes : List ℕ). before ++ bytes) (append_assoc so_far.text text rest) in
+        let cut : AppendsPrefix old new all =
+        prefix_behind old mid new so_far.text (text ++ rest) so_far.written
+        (prefix_before mid new text rest part) in
+        record {
+          text = take cut.count all;
+          written = cut.appended;
+          begins = subst (λ (bytes : List ℕ). StartsWith bytes (before ++ take cut.count all))
+              (sym whole)
+              (begins_more before all (take cut.count all) (taken_begins all cut.count cut.fits));
+        }
+
+  -- all samples were taken
+  pub writes_all : (tuner : Tuner) (heard samples : List Sample) (taken : ℕ)
+      (old new : Option (List ℕ)) → length samples ≤ taken →
+      WritesFrames t channel m form tuner heard (heard ++ take taken samples) old new →
+      WritesFrames t channel m form tuner heard (heard ++ samples) old new
+  writes_all tuner heard samples taken old new most =
+      subst (λ (xs : List Sample). WritesFrames t channel m form tuner heard (heard ++ xs) old new)
+      (take_all taken samples most)

@@ -1,0 +1,66 @@
+use Rattle.std.proofs.Common.{◌≡◌, ◌∙◌, List, None, Some, rules}
+use Rattle.std.proofs.lemmas.List.{take_rest}
+use Rattle.chip_core.specs.declared.sample.Sample.{Sample}
+use Rattle.mobile_core.specs.Tuning.{Tuning}
+use Rattle.tuned_listener.specs.Marking.{HasNoMark}
+use Rattle.tuned_listener.proofs.TunedMarks.{ahead_all, mark_is_ahead, marked_here, no_mark_here}
+use Rattle.tuned_listener.proofs.TunedMarks.{unset_untold, unset_without, untold_more}
+use Rattle.tuned_listener.proofs.marking.step_to_mark.Goals as goal
+
+pub returns-then-is_none-clause-untold : goal.returns-then-is_none-clause-untold
+returns-then-is_none-clause-untold c = λ _.
+    let before = c.loop-taken.mobile in
+    let after = c.step-step.new.self in
+    let does = c.step-step.ensures.steps in
+    let none : c.step-step.result.event ≡ None = search rules in
+    untold_more before after _ c.step-step.result does
+    (unset_without before after _ c.step-step.result does none) c.loop-taken.invariant.untold
+
+pub returns-then-is_none-clause-none : goal.returns-then-is_none-clause-none
+returns-then-is_none-clause-none c = λ _ t heard is.
+    let taken = c.loop-taken.taken in
+    let samples = c.args.samples.now in
+    let none : c.step-step.result.event ≡ None = search rules in
+    let all = c.step-step.ensures.none none in
+    ahead_all c.loop-taken.mobile c.step-step.new.self _ c.step-step.result
+    c.step-step.ensures.steps t heard samples taken (take_rest samples taken) none all.0 all.1
+    (c.loop-taken.invariant.none t heard is.has)
+
+pub returns-in-Some-clause-early : goal.returns-in-Some-clause-early
+returns-in-Some-clause-early c = λ m e.
+    let told : c.mark.result ≡ Some m = c.in-Some.is ∙ e in
+    mark_is_ahead c.loop-taken.mobile c.step-step.new.self _ c.step-step.result
+    c.step-step.ensures.steps c.mark.result m told c.mark.ensures.given
+    c.loop-taken.invariant.untold
+    (λ t heard given event stands here unset. c.mark.ensures.ahead t heard given event stands here
+    unset m told)
+
+pub returns-in-Some-clause-set : goal.returns-in-Some-clause-set
+returns-in-Some-clause-set c = λ m e t heard is.
+    let taken = c.loop-taken.taken in
+    let samples = c.args.samples.now in
+    let told : c.mark.result ≡ Some m = c.in-Some.is ∙ e in
+    marked_here c.loop-taken.mobile c.step-step.new.self _ c.step-step.result
+    c.step-step.ensures.steps t heard samples taken m (take_rest samples taken)
+    (c.loop-taken.invariant.none t heard is.has)
+    (λ now given stands. c.mark.ensures.set t now given stands m told)
+
+pub loop-taken-preserved : goal.loop-taken-preserved
+loop-taken-preserved c =
+    let inv = c.loop-taken.invariant in
+    let taken = c.loop-taken.taken in
+    let samples = c.args.samples.now in
+    let before = c.loop-taken.mobile in
+    let after = c.step-step.new.self in
+    let does = c.step-step.ensures.steps in
+    let none : c.mark.result ≡ None = search rules in
+    let unset = unset_untold before after _ c.step-step.result does c.mark.result none
+    c.mark.ensures.given in
+    record {
+      most = search rules;
+      room = search rules;
+      untold = untold_more before after _ c.step-step.result does unset inv.untold;
+      none = λ (t : Tuning) (heard : List Sample) (has : HasNoMark t c.args.mobile.now heard).
+          no_mark_here before after _ c.step-step.result does unset t heard samples taken
+          (take_rest samples taken) (inv.none t heard has);
+    }

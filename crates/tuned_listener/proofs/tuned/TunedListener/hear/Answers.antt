@@ -1,0 +1,27 @@
+use Rattle.std.proofs.Common.{◌++◌, take}
+use Rattle.std.proofs.lemmas.List.{take_rest}
+use Rattle.tuned_listener.proofs.Prefixes.{on_err, on_ok}
+use Rattle.tuned_listener.proofs.TunedListeners.{cut_after, tells_after}
+use Rattle.tuned_listener.proofs.tuned.TunedListener.hear.Goals as goal
+
+pub returns-clause-ok : goal.returns-clause-ok
+returns-clause-ok g c =
+    let samples = c.args.samples.now in
+    let taken = c.reach_mark-taken.result in
+    let reached = c.reach_mark-taken.ensures in
+    on_ok c.write_frames.result _ _
+    (λ tells t channel form heard is. tells_after t channel form heard samples _ taken _ _
+    (take_rest samples taken) (reached.silent t channel form heard is) c.write_frames.new.self
+    (tells t channel form (heard ++ take taken samples) (reached.listens t channel form heard is)))
+    c.write_frames.ensures.ok
+
+pub returns-clause-err : goal.returns-clause-err
+returns-clause-err g c =
+    let samples = c.args.samples.now in
+    let taken = c.reach_mark-taken.result in
+    let reached = c.reach_mark-taken.ensures in
+    on_err c.write_frames.result _ _
+    (λ tells t channel form heard is. cut_after t channel form heard samples _ taken _ _
+    (take_rest samples taken) (reached.silent t channel form heard is)
+    (tells t channel form (heard ++ take taken samples) (reached.listens t channel form heard is)))
+    c.write_frames.ensures.err

@@ -1,0 +1,18 @@
+use Rattle.std.proofs.Common.{[], refl}
+use Rattle.tuned_listener.proofs.TunedMarks.{none_marked, stands_near}
+use Rattle.tuned_listener.proofs.tuned.TunedListener.open.Goals as goal
+
+pub returns-clause-listens : goal.returns-clause-listens
+returns-clause-listens c t stands phase deltas =
+    let near = stands_near t c.args.mobile [] [] stands in
+    record {
+      phase_is = phase;
+      deltas_are = deltas;
+      channel_is = refl;
+      form_is = c.in_ok-open.ensures.text;
+      close = near;
+      listens = record {
+        has = record { given = []; stands = stands; unset = refl };
+        unmarked = none_marked t near;
+      };
+    }

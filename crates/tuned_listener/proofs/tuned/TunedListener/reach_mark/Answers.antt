@@ -1,0 +1,50 @@
+use Rattle.std.proofs.Common.{◌≡◌, ◌++◌, List, None, refl, rules, subst, take}
+use Rattle.chip_core.specs.declared.sample.Sample.{Sample}
+use Rattle.mobile_core.specs.Standing.{StandsFor}
+use Rattle.mobile_core.specs.declared.mobile.Mobile.{Mobile}
+use Rattle.tuned_listener.proofs.TunedListeners.{handset_alone, lawful_channel, listens_behind}
+use Rattle.tuned_listener.proofs.TunedListeners.{silent_ahead, silent_at_mark}
+use Rattle.tuned_listener.proofs.tuned.TunedListener.reach_mark.Goals as goal
+
+pub returns-in_default-mark-clause-silent : goal.returns-in_default-mark-clause-silent
+returns-in_default-mark-clause-silent c = λ t channel form heard is.
+    let l = c.args.self.now in
+    let reached = c.step_to_mark-taken in
+    let none : reached.result.mark ≡ None = search rules in
+    let ahead = (handset_alone t channel heard l.ahead l.behind c.in-Some.mobile c.in-Some.is
+    is.listens).1 in
+    silent_ahead t channel form heard c.args.samples.now reached.result.taken
+    (reached.ensures.all none) ahead.unmarked (reached.ensures.none none t heard ahead).unmarked
+
+pub tune-requires-clause-lawful : goal.tune-requires-clause-lawful
+tune-requires-clause-lawful c =
+    lawful_channel c.args.self.now.channel c.args.self.now.sound.lawful
+
+pub returns-in-Some-take-clause-listens : goal.returns-in-Some-take-clause-listens
+returns-in-Some-take-clause-listens c = λ t channel form heard is.
+    let l = c.args.self.now in
+    let m = c.in-Some-mark.mark in
+    let reached = c.step_to_mark-taken in
+    let now : List Sample = heard ++ take reached.result.taken c.args.samples.now in
+    let ahead = (handset_alone t channel heard l.ahead l.behind c.in-Some.mobile c.in-Some.is
+    is.listens).1 in
+    let set = reached.ensures.set m c.in-Some-mark.is t heard ahead in
+    let same : reached.new.mobile ≡ c.in-Some-take.mobile = search rules in
+    let stands = subst (λ (x : Mobile). StandsFor t x now set.given) same set.stands in
+    listens_behind t channel form l heard is _ c.tune.result m now refl refl refl refl
+    c.take.ensures.after refl set.marked
+    (c.tune.ensures.tuned t now set.given stands is.phase_is is.deltas_are)
+
+pub returns-in-Some-take-clause-silent : goal.returns-in-Some-take-clause-silent
+returns-in-Some-take-clause-silent c = λ t channel form heard is.
+    let l = c.args.self.now in
+    let m = c.in-Some-mark.mark in
+    let reached = c.step_to_mark-taken in
+    let now : List Sample = heard ++ take reached.result.taken c.args.samples.now in
+    let ahead = (handset_alone t channel heard l.ahead l.behind c.in-Some.mobile c.in-Some.is
+    is.listens).1 in
+    let set = reached.ensures.set m c.in-Some-mark.is t heard ahead in
+    let same : reached.new.mobile ≡ c.in-Some-take.mobile = search rules in
+    let stands = subst (λ (x : Mobile). StandsFor t x now set.given) same set.stands in
+    silent_at_mark t channel form l heard is m now ahead.unmarked set.marked
+    (c.tune.ensures.none t now set.given stands is.phase_is is.deltas_are)

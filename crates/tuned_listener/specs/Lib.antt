@@ -1,0 +1,5 @@
+pub mod FrameWriting
+pub mod Marking
+pub mod SoundListener
+pub mod TunedListening
+pub mod TunedTexts

@@ -1,0 +1,168 @@
+//! What decodes the frames of one channel, and writes what is made of them.
+
+ghost use Rattle.std.specs.Prelude.{◌≡◌, ◌≤◌, ◌+◌, ◌++◌, List, length, IfOk, OnOk, OnErr, sum_by};
+ghost use Rattle.std.specs.Prelude.{unsigned_abs};
+ghost use Rattle.std.specs.Io.KnownBytes.{Appends};
+ghost use Rattle.cdma_io.specs.Outside.{AppendsPrefix, HasCause};
+ghost use Rattle.chip_core.specs.declared.sample.Sample.{Sample as TheSample};
+ghost use Rattle.mobile_core.specs.Softs.{frame_most};
+ghost use Rattle.mobile_core.specs.Tuners.{IsTunedTo, samples_left};
+ghost use Rattle.mobile_core.specs.Tuning.{Tuning};
+ghost use Rattle.mobile_core.specs.declared.channel.Channel.{Channel as TheChannel};
+ghost use Rattle.mobile_core.specs.declared.mark.Mark.{Mark as TheMark};
+ghost use Rattle.tuned_listener.specs.FrameWriting.{IsLawfulText, IsReady, text_of};
+ghost use Rattle.tuned_listener.specs.TunedTexts.{WritesFrames, WritesFramesPart, frame_text};
+
+use crate::tuned_text::TunedText;
+use cdma_io::{Failed, Sink};
+use chip_core::{OutOfMemory, Sample};
+use event_tap::{write_event, write_frame2};
+use list_viterbi::ListDecoder;
+use listed_frame::listed_frame;
+use mobile_core::{Event, SoftFrame, Tuner};
+use rate_set_two::traffic2_frame;
+use std::alloc::Global;
+use viterbi::Decoder;
+
+/// The most bits of a word of rate set 1: a frame at 9,600 bits a second.
+const SET_ONE_BITS: u16 = 192;
+
+/// The most bits of a word of rate set 2: a frame at 14,400 bits a second.
+const SET_TWO_BITS: u16 = 288;
+
+/// What decodes the frames of one channel, and writes what is made of them.
+#[derive(Drop)]
+pub enum FrameWriter {
+    /// Decodes frames of rate set 2.
+    RateSetTwo { decoder: Decoder },
+    /// Decodes frames of rate set 1 with the first `k` words of a rate, from 1 to 16.
+    Listed { decoder: ListDecoder, k: u8 },
+}
+
+/// Writes the line of a frame of rate set 2, where the channel has power control bits.
+fn write_rate2<K: Sink>(
+    decoder: &mut Decoder,
+    frame: &SoftFrame,
+    sink: &mut K,
+) -> Result<(), Failed>
+    requires decodes { 288 ≤ decoder.old }
+    requires small { sum_by unsigned_abs frame.now.turned ≤ frame_most }
+    ensures kept { decoder.new ≡ decoder.old }
+    ensures ok { OnOk result (Appends (K.written sink.old) (K.written sink.new)
+        (frame_text TunedText.RateSetTwo frame.now)) }
+    ensures err { OnErr result (AppendsPrefix (K.written sink.old) (K.written sink.new)
+        (frame_text TunedText.RateSetTwo frame.now)) }
+    ensures cause { HasCause (K.faults sink.old) (K.faults sink.new) result }
+{
+    let Some(power) = frame.power else {
+        return Ok(());
+    };
+    let decoded = traffic2_frame(decoder, &frame.turned, &power.replaced);
+    write_frame2(frame.end, &decoded, &power.commands, sink)
+}
+
+/// Writes the line of a frame of rate set 1 with the first so many words of a rate, where the
+/// channel has power control bits.
+#[tactic(auto, unfolding(event_tap::specs::EventLines::event_line))]
+fn write_listed<K: Sink>(
+    decoder: &mut ListDecoder,
+    k: u8,
+    frame: &SoftFrame,
+    sink: &mut K,
+) -> Result<(), Failed>
+    requires decodes { 192 ≤ decoder.old }
+    requires some { 1 ≤ k }
+    requires few { k ≤ 16 }
+    requires small { sum_by unsigned_abs frame.now.turned ≤ frame_most }
+    ensures kept { decoder.new ≡ decoder.old }
+    ensures ok { OnOk result (Appends (K.written sink.old) (K.written sink.new)
+        (frame_text (TunedText.Listed k) frame.now)) }
+    ensures err { OnErr result (AppendsPrefix (K.written sink.old) (K.written sink.new)
+        (frame_text (TunedText.Listed k) frame.now)) }
+    ensures cause { HasCause (K.faults sink.old) (K.faults sink.new) result }
+{
+    let Some(power) = frame.power else {
+        return Ok(());
+    };
+    let decoded = listed_frame(decoder, k, &frame.turned, &power.replaced);
+    let event = Event::Frame {
+        at: frame.end,
+        rate: decoded.rate,
+        good: decoded.good,
+        bits: decoded.bits,
+        commands: power.commands,
+    };
+    write_event(&event, sink)
+}
+
+impl FrameWriter {
+    /// The writer of a text. It allocates a decoder, and that is all that can fail.
+    pub fn open(alloc: Global, text: TunedText) -> Result<FrameWriter, OutOfMemory>
+        requires { IsLawfulText text }
+        ensures ready { IfOk result IsReady }
+        ensures text { IfOk result (λ writer. text_of writer ≡ text) }
+    {
+        match text {
+            TunedText::RateSetTwo => Ok(FrameWriter::RateSetTwo {
+                decoder: Decoder::new(alloc, SET_TWO_BITS)?,
+            }),
+            TunedText::Listed { k } => Ok(FrameWriter::Listed {
+                decoder: ListDecoder::new(alloc, SET_ONE_BITS)?,
+                k,
+            }),
+        }
+    }
+
+    /// Writes what is made of a frame.
+    fn write<K: Sink>(&mut self, frame: &SoftFrame, sink: &mut K) -> Result<(), Failed>
+        requires ready { IsReady self.old }
+        requires small { sum_by unsigned_abs frame.now.turned ≤ frame_most }
+        ensures ready { IsReady self.new }
+        ensures text { text_of self.new ≡ text_of self.old }
+        ensures ok { OnOk result (Appends (K.written sink.old) (K.written sink.new)
+            (frame_text (text_of self.old) frame.now)) }
+        ensures err { OnErr result (AppendsPrefix (K.written sink.old) (K.written sink.new)
+            (frame_text (text_of self.old) frame.now)) }
+        ensures cause { HasCause (K.faults sink.old) (K.faults sink.new) result }
+    {
+        match self {
+            FrameWriter::RateSetTwo { decoder } => write_rate2(decoder, frame, sink),
+            FrameWriter::Listed { decoder, k } => write_listed(decoder, *k, frame, sink),
+        }
+    }
+}
+
+/// Gives samples to the receiver of a channel's frames, and writes what is made of each frame that
+/// ends within them.
+pub fn hear_frames<K: Sink>(
+    tuner: &mut Tuner,
+    writer: &mut FrameWriter,
+    samples: &[Sample],
+    sink: &mut K,
+) -> Result<(), Failed>
+    requires room { length samples.now ≤ samples_left tuner.old }
+    requires ready { IsReady writer.old }
+    ensures room { OnOk result (samples_left tuner.new + length samples.now
+        ≡ samples_left tuner.old) }
+    ensures ready { IsReady writer.new }
+    ensures text { text_of writer.new ≡ text_of writer.old }
+    ensures ok { OnOk result ((t : Tuning) (channel : TheChannel) (m : TheMark)
+        (heard : List TheSample) → IsTunedTo t channel m tuner.old heard →
+        WritesFrames t channel m (text_of writer.old) tuner.new heard (heard ++ samples.now)
+        (K.written sink.old) (K.written sink.new)) }
+    ensures err { OnErr result ((t : Tuning) (channel : TheChannel) (m : TheMark)
+        (heard : List TheSample) → IsTunedTo t channel m tuner.old heard →
+        WritesFramesPart t channel m (text_of writer.old) heard (heard ++ samples.now)
+        (K.written sink.old) (K.written sink.new)) }
+    ensures cause { HasCause (K.faults sink.old) (K.faults sink.new) result }
+{
+    let mut taken = 0;
+    while taken < samples.len() {
+        let step = tuner.step(&samples[taken..]);
+        taken += step.taken;
+        if let Some(frame) = step.frame {
+            writer.write(&frame, sink)?;
+        }
+    }
+    Ok(())
+}

@@ -1,0 +1,15 @@
+//! Who hears one channel of the reference base station, and what is written of it.
+//!
+//! A handset hears the sync channel until a message of it sets the mark; from there on the frames
+//! of one channel are received, decoded and written, a line or a few lines at a time, and nothing
+//! else is heard. What is made of the frames is a [`TunedText`]. All that is written depends on the
+//! samples alone, and not on the pieces in which they come.
+#![tactic(auto)]
+
+mod frame_writer;
+mod marking;
+mod tuned;
+mod tuned_text;
+
+pub use tuned::TunedListener;
+pub use tuned_text::TunedText;

@@ -1,0 +1,55 @@
+//! A handset up to the step that sets the mark.
+
+ghost use Rattle.std.specs.Prelude.{◌≡◌, ◌≤◌, ◌+◌, ◌++◌, List, length, take, None, is_some};
+ghost use Rattle.std.specs.Option.{ForSome};
+ghost use Rattle.chip_core.specs.declared.sample.Sample.{Sample as TheSample};
+ghost use Rattle.mobile_core.specs.Sound.{IsSoundMark};
+ghost use Rattle.mobile_core.specs.Standing.{has_room};
+ghost use Rattle.mobile_core.specs.Tuners.{samples_taken};
+ghost use Rattle.mobile_core.specs.Tuning.{Tuning};
+ghost use Rattle.mobile_core.specs.declared.mark.Mark.{Mark as TheMark};
+ghost use Rattle.tuned_listener.specs.Marking.{IsMarkedAt, IsUntold, ListensAhead};
+
+use chip_core::Sample;
+use mobile_core::{Mark, Mobile};
+
+/// How far a handset came.
+#[derive(Clone, Copy)]
+pub struct Reached {
+    /// How many of the samples it took.
+    pub taken: usize,
+    /// The mark; `None` where none is set, and then all samples were taken.
+    pub mark: Option<Mark>,
+}
+
+/// Gives samples to a handset that was told no mark, up to the step that sets one, or all.
+pub fn step_to_mark(mobile: &mut Mobile, samples: &[Sample]) -> Reached
+    requires room { length samples.now ≤ has_room mobile.old }
+    requires untold { IsUntold mobile.old }
+    ensures most { result.taken ≤ length samples.now }
+    ensures room { has_room mobile.new + result.taken ≡ has_room mobile.old }
+    ensures all { result.mark ≡ None → result.taken ≡ length samples.now }
+    ensures untold { result.mark ≡ None → IsUntold mobile.new }
+    ensures sound { ForSome result.mark IsSoundMark }
+    ensures early { ForSome result.mark (λ (m : TheMark). samples_taken mobile.new ≤ m.sample) }
+    ensures none { result.mark ≡ None → (t : Tuning) (heard : List TheSample) →
+        ListensAhead t mobile.old heard → ListensAhead t mobile.new (heard ++ samples.now) }
+    ensures set { ForSome result.mark (λ (m : TheMark). (t : Tuning) (heard : List TheSample) →
+        ListensAhead t mobile.old heard →
+        IsMarkedAt t mobile.new m (heard ++ take result.taken samples.now)) }
+{
+    let mut taken = 0;
+    loop {
+        let step = mobile.step(&samples[taken..]);
+        taken += step.taken;
+        if step.event.is_none() {
+            return Reached { taken, mark: None };
+        }
+        if let Some(mark) = mobile.mark() {
+            return Reached {
+                taken,
+                mark: Some(mark),
+            };
+        }
+    }
+}

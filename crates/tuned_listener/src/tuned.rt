@@ -1,0 +1,175 @@
+//! Who hears the frames of one channel: a handset up to the step that sets the mark, and behind it
+//! a receiver of these frames alone.
+
+ghost use Rattle.tuned_listener.specs.SoundListener.{IsSoundListener};
+
+use crate::frame_writer::{FrameWriter, hear_frames};
+use crate::marking::{Reached, step_to_mark};
+use crate::tuned_text::TunedText;
+use cdma_io::{Failed, Sink};
+use chip_core::{OutOfMemory, Phase, Sample};
+use mobile_core::{Channel, Mobile, Tuner};
+use pilot_search::Near;
+use std::alloc::Global;
+
+/// The listener of one channel of the reference base station, which writes what is made of its
+/// frames.
+///
+/// Up to the step that sets the mark a handset hears the samples, and behind it a receiver of the
+/// channel's frames, in place of the handset.
+#[derive(Drop)]
+pub struct TunedListener {
+    /// The handset that waits for the mark; `None` once it is set.
+    ahead: Option<Mobile>,
+    /// The receiver of the frames; `None` until the mark is set.
+    behind: Option<Tuner>,
+    channel: Channel,
+    /// What decodes the frames, and writes what is made of them.
+    writer: FrameWriter,
+    /// The phase of the reference base station's codes.
+    phase: Phase,
+    /// The paths near it.
+    near: Near,
+    ghost sound: { IsSoundListener ahead channel writer near },
+}
+
+impl TunedListener {
+    ghost use Rattle.std.specs.Prelude.{◌≡◌, ◌≤◌, ◌+◌, ◌++◌, List, [], length, pos, slice_get, take};
+    ghost use Rattle.std.specs.Prelude.{IfOk, OnOk, OnErr, Some, is_some, true};
+    ghost use Rattle.cdma_io.specs.Outside.{HasCause};
+    ghost use Rattle.chip_core.specs.declared.sample.Sample.{Sample as TheSample};
+    ghost use Rattle.mobile_core.specs.Marks.{mark};
+    ghost use Rattle.mobile_core.specs.Standing.{StandsFor, has_room};
+    ghost use Rattle.mobile_core.specs.Tuning.{Tuning};
+    ghost use Rattle.mobile_core.specs.declared.channel.Channel.{Channel as TheChannel};
+    ghost use Rattle.tuned_listener.specs.Marking.{IsUntold};
+    ghost use Rattle.tuned_listener.specs.TunedListening.{ListensTuned, TellsTuned, TellsTunedPart};
+    ghost use Rattle.tuned_listener.specs.TunedListening.{tuned_room};
+    ghost use Rattle.tuned_listener.specs.TunedTexts.{IsLawfulTuned, tuned_text};
+    ghost use Rattle.tuned_listener.specs.declared.tuned_text.TunedText.{TunedText as TheText};
+
+    /// The listener of a channel, for a base station at a phase and near it, in place of a handset
+    /// that has taken no sample of a file.
+    ///
+    /// It allocates a decoder, and that is all that can fail.
+    pub fn open(
+        alloc: Global,
+        mobile: Mobile,
+        channel: Channel,
+        text: TunedText,
+        phase: Phase,
+        near: Near,
+    ) -> Result<TunedListener, OutOfMemory>
+        requires untold { IsUntold mobile }
+        requires lawful { IsLawfulTuned channel text }
+        requires least { 1 ≤ near.count }
+        requires most { near.count ≤ 3 }
+        requires first { slice_get near.deltas 0 ≡ Some (pos 0) }
+        ensures room { IfOk result (λ l. tuned_room l ≡ has_room mobile) }
+        ensures listens { IfOk result (λ l. (t : Tuning) → StandsFor t mobile [] [] →
+            t.phase ≡ phase → t.deltas ≡ take near.count near.deltas →
+            ListensTuned t channel text l []) }
+    {
+        Ok(TunedListener {
+            ahead: Some(mobile),
+            behind: None,
+            channel,
+            writer: FrameWriter::open(alloc, text)?,
+            phase,
+            near,
+        })
+    }
+
+    /// Whether a mark is set.
+    pub fn is_told(&self) -> bool
+        ensures { (t : Tuning) (channel : TheChannel) (form : TheText) (heard : List TheSample) →
+            ListensTuned t channel form self.now heard →
+            result ≡ is_some (mark t heard (length heard)) }
+    {
+        self.behind.is_some()
+    }
+
+    /// Takes samples, and writes what is made of each frame that ends within them.
+    ///
+    /// The samples are those of the file that follow on those taken before, as many of them as
+    /// there are or fewer. [`Failed`] comes only where the sink's count of faults rose, and the
+    /// sink got then a beginning of the text.
+    pub fn hear<K: Sink>(&mut self, samples: &[Sample], sink: &mut K) -> Result<(), Failed>
+        requires room { length samples.now ≤ tuned_room self.old }
+        ensures room { OnOk result (tuned_room self.new + length samples.now
+            ≡ tuned_room self.old) }
+        ensures ok { OnOk result ((t : Tuning) (channel : TheChannel) (form : TheText)
+            (heard : List TheSample) → ListensTuned t channel form self.old heard →
+            TellsTuned t channel form self.new heard (heard ++ samples.now)
+            (K.written sink.old) (K.written sink.new)) }
+        ensures err { OnErr result ((t : Tuning) (channel : TheChannel) (form : TheText)
+            (heard : List TheSample) → ListensTuned t channel form self.old heard →
+            TellsTunedPart t channel form heard (heard ++ samples.now)
+            (K.written sink.old) (K.written sink.new)) }
+        ensures cause { HasCause (K.faults sink.old) (K.faults sink.new) result }
+    {
+        let taken = self.reach_mark(samples);
+        self.write_frames(&samples[taken..], sink)
+    }
+
+    /// Gives samples to the handset up to the step that sets the mark, or all, and puts the
+    /// receiver of the frames in its place where the mark is set. Where it was set before, no
+    /// sample is taken.
+    fn reach_mark(&mut self, samples: &[Sample]) -> usize
+        requires room { length samples.now ≤ tuned_room self.old }
+        ensures most { result ≤ length samples.now }
+        ensures room { tuned_room self.new + result ≡ tuned_room self.old }
+        ensures all { is_some self.new.ahead ≡ true → result ≡ length samples.now }
+        ensures listens { (t : Tuning) (channel : TheChannel) (form : TheText)
+            (heard : List TheSample) → ListensTuned t channel form self.old heard →
+            ListensTuned t channel form self.new (heard ++ take result samples.now) }
+        ensures silent { (t : Tuning) (channel : TheChannel) (form : TheText)
+            (heard : List TheSample) → ListensTuned t channel form self.old heard →
+            tuned_text form t channel (heard ++ take result samples.now)
+            ≡ tuned_text form t channel heard }
+    {
+        let TunedListener {
+            ahead,
+            behind,
+            channel,
+            phase,
+            near,
+            ..
+        } = self;
+        let Some(mobile) = ahead else {
+            return 0;
+        };
+        let Reached { taken, mark } = step_to_mark(mobile, samples);
+        let Some(mark) = mark else {
+            return taken;
+        };
+        if let Some(mobile) = ahead.take() {
+            *behind = Some(mobile.tune(&mark, channel, *phase, near));
+        }
+        taken
+    }
+
+    /// Gives samples to the receiver of the frames, where there is one, and writes what is made of
+    /// each frame that ends within them.
+    fn write_frames<K: Sink>(&mut self, samples: &[Sample], sink: &mut K) -> Result<(), Failed>
+        requires room { length samples.now ≤ tuned_room self.old }
+        requires all { is_some self.old.ahead ≡ true → length samples.now ≡ 0 }
+        ensures room { OnOk result (tuned_room self.new + length samples.now
+            ≡ tuned_room self.old) }
+        ensures ok { OnOk result ((t : Tuning) (channel : TheChannel) (form : TheText)
+            (heard : List TheSample) → ListensTuned t channel form self.old heard →
+            TellsTuned t channel form self.new heard (heard ++ samples.now)
+            (K.written sink.old) (K.written sink.new)) }
+        ensures err { OnErr result ((t : Tuning) (channel : TheChannel) (form : TheText)
+            (heard : List TheSample) → ListensTuned t channel form self.old heard →
+            TellsTunedPart t channel form heard (heard ++ samples.now)
+            (K.written sink.old) (K.written sink.new)) }
+        ensures cause { HasCause (K.faults sink.old) (K.faults sink.new) result }
+    {
+        let TunedListener { behind, writer, .. } = self;
+        match behind {
+            Some(tuner) => hear_frames(tuner, writer, samples, sink),
+            None => Ok(()),
+        }
+    }
+}
