@@ -26,7 +26,7 @@ class Page(unittest.TestCase):
         formats, page = text_of(os.path.join(ROOT, "docs", "FORMATS.md")), text_of(PAGE)
         usage = re.search(r"## Command line and exit status\n(.*?)\n\n[^ \n]", formats, re.S)[1]
         commands = re.findall(r"cdma_replay (\w+)", usage)
-        self.assertEqual(len(commands), 7)
+        self.assertEqual(len(commands), 8)
         for command in commands:
             self.assertIn(f".Cm {command}\n", page)
             self.assertIn(f".It Cm {command}\n", page)

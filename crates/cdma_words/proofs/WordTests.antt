@@ -21,11 +21,11 @@ use Rattle.hex.proofs.HexLemmas.{IsOk-decode_sized}
 use Rattle.clap.specs.Lexer.{long_of, long_of_rest, short_of, short_of_rest, strip_byte}
 use Rattle.cdma_words.specs.declared.grammar.OptionRule.{OptionRule}
 use Rattle.cdma_words.specs.declared.grammar.Form.{Form}
-use Rattle.cdma_words.specs.declared.grammar.Form.TheVariants.{Between, Either, SerialNumber}
+use Rattle.cdma_words.specs.declared.grammar.Form.TheVariants.{Between, EightDigits, Either}
 use Rattle.cdma_words.specs.Words.{Given, OptionRow, Text, added, admits, given_behind}
 use Rattle.cdma_words.specs.Words.{has_name, is_allowed, is_joined, is_named_in, joined}
 use Rattle.cdma_words.specs.Words.{names, number_in, part_by, part_of, parted}
-use Rattle.cdma_words.specs.Words.{serial_number_in, spelled_in, text_in, value_in}
+use Rattle.cdma_words.specs.Words.{eight_digits_in, spelled_in, text_in, value_in}
 
 -- ---- an item of a list behind the first k of them
 
@@ -115,9 +115,9 @@ no_dash-hex digit e = go (nat_eq digit 45) refl
         let bad : false ≡ true = subst (λ (d : ℕ). is_hex_digit d ≡ true) same e in
         search rules
 
-serial_plain : (text : Text) (number : ℕ) → serial_number_in text ≡ Some number → IsPlain text
-unfolding serial_number_in
-serial_plain text number e = go (decode_sized text 4) refl e
+eight_plain : (text : Text) (number : ℕ) → eight_digits_in text ≡ Some number → IsPlain text
+unfolding eight_digits_in
+eight_plain text number e = go (decode_sized text 4) refl e
   where
     digits : (text : Text) → length text ≡ 8 → AllPass is_hex_digit text → IsPlain text
     digits [] eight all = absurd (omega (arith, eight))
@@ -135,7 +135,7 @@ spelled_plain : (form : Form) (text : Text) (number : ℕ) → spelled_in form t
     IsPlain text
 spelled_plain (Between least most) text number e = number_plain text number e
 spelled_plain (Either one other) text number e = number_plain text number e
-spelled_plain SerialNumber text number e = serial_plain text number e
+spelled_plain EightDigits text number e = eight_plain text number e
 
 -- a value of an option is no flag
 value_plain-form : (form : Form) (text : Text) → is_some (value_in form text) ≡ true → IsPlain text

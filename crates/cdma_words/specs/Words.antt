@@ -20,13 +20,13 @@ use Rattle.hex.specs.Hex.{decode_sized}
 use Rattle.cdma_io.specs.declared.width.Width.{Width}
 use Rattle.cdma_io.specs.declared.width.Width.TheVariants.{Sixteen, Eight}
 use Rattle.cdma_words.specs.declared.job.Job.{Job}
-use Rattle.cdma_words.specs.declared.job.Job.TheVariants.{Find, Follow, Rate2, Survey, Make, Trial}
+use Rattle.cdma_words.specs.declared.job.Job.TheVariants.{Find, Follow, Rate2, Idle, Survey, Make, Trial}
 use Rattle.cdma_words.specs.declared.job.Job.TheVariants as jobs
 use Rattle.cdma_words.specs.declared.job.TrafficOptions.{TrafficOptions}
 use Rattle.cdma_words.specs.declared.commands.Command.{Command}
 use Rattle.cdma_words.specs.declared.commands.Command.TheVariants as named
 use Rattle.cdma_words.specs.declared.grammar.Form.{Form}
-use Rattle.cdma_words.specs.declared.grammar.Form.TheVariants.{Between, Either, SerialNumber}
+use Rattle.cdma_words.specs.declared.grammar.Form.TheVariants.{Between, EightDigits, Either}
 use Rattle.cdma_words.specs.declared.grammar.OptionRule.{OptionRule}
 use Rattle.cdma_words.specs.declared.receiving.ReceiverOptions.{ReceiverOptions}
 
@@ -58,9 +58,16 @@ fingers_row = record { name = codes "fingers"; form = Between 1 3; default = Som
 abbrev pub paging_row : OptionRow
 paging_row = record { name = codes "paging"; form = Between 1 7; default = Some 1 }
 
+-- the key that tells a handset's slots, which must be given, and the index of its slot cycle
+abbrev pub key_row : OptionRow
+key_row = record { name = codes "key"; form = EightDigits; default = None }
+
+abbrev pub cycle_row : OptionRow
+cycle_row = record { name = codes "cycle"; form = Between 0 7; default = Some 0 }
+
 -- the handset's electronic serial number, and the Walsh row and FRAME_OFFSET of its traffic channel
 abbrev pub serial_row : OptionRow
-serial_row = record { name = codes "esn"; form = SerialNumber; default = None }
+serial_row = record { name = codes "esn"; form = EightDigits; default = None }
 
 abbrev pub walsh_row : OptionRow
 walsh_row = record { name = codes "row"; form = Between 1 63; default = None }
@@ -170,6 +177,13 @@ list_with (span ∷ workers ∷ fingers ∷ esn ∷ row ∷ offset ∷ Some k �
     (channel_with (esn ∷ row ∷ offset ∷ []))) (receiver_with (span ∷ workers ∷ fingers ∷ []))
 list_with _ = None
 
+abbrev pub idle_with : List (Option ℕ) → Option Job
+idle_with (span ∷ workers ∷ fingers ∷ Some paging ∷ Some key ∷ Some cycle ∷ []) =
+    option_map (λ receiver.
+    Idle receiver.span receiver.workers receiver.fingers paging key cycle)
+    (receiver_with (span ∷ workers ∷ fingers ∷ []))
+idle_with _ = None
+
 abbrev pub survey_with : List (Option ℕ) → Option Job
 survey_with (Some span ∷ Some workers ∷ Some base ∷ Some width ∷ Some top ∷ []) =
     Some (Survey span workers base width top)
@@ -225,6 +239,13 @@ list_row = record {
   job = list_with;
 }
 
+abbrev pub idle_row : CommandRow
+idle_row = record {
+  name = codes "idle";
+  options = receiver_rows ++ paging_row ∷ key_row ∷ cycle_row ∷ [];
+  job = idle_with;
+}
+
 abbrev pub survey_row : CommandRow
 survey_row = record {
   name = codes "survey";
@@ -247,12 +268,14 @@ command_row named.Find = find_row
 command_row named.Follow = follow_row
 command_row named.Rate2 = rate2_row
 command_row named.List = list_row
+command_row named.Idle = idle_row
 command_row named.Survey = survey_row
 command_row named.Make = make_row
 command_row named.Trial = trial_row
 
 abbrev pub commands : List CommandRow
-commands = find_row ∷ follow_row ∷ rate2_row ∷ list_row ∷ survey_row ∷ make_row ∷ trial_row ∷ []
+commands =
+    find_row ∷ follow_row ∷ rate2_row ∷ list_row ∷ idle_row ∷ survey_row ∷ make_row ∷ trial_row ∷ []
 
 -- ---- values
 
@@ -263,25 +286,25 @@ number_in text =
     else None
 
 -- the number that eight hex digits of either case spell
-unfoldable pub serial_number_in : Text → Option ℕ
-serial_number_in text =
+unfoldable pub eight_digits_in : Text → Option ℕ
+eight_digits_in text =
     option_map (λ octets. from_be_bytes w32 octets) (result_ok (decode_sized text 4))
 
 -- the number that a text spells as values of this form are spelled
 abbrev pub spelled_in : Form → Text → Option ℕ
-spelled_in SerialNumber text = serial_number_in text
+spelled_in EightDigits text = eight_digits_in text
 spelled_in form text = number_in text
 
 -- the numbers that values of this form may have, as a test and as a fact
 abbrev pub admits : Form → ℕ → Bool
 admits (Between least most) number = nat_le least number && nat_le number most
 admits (Either one other) number = nat_eq number one || nat_eq number other
-admits SerialNumber number = nat_le number 4294967295
+admits EightDigits number = nat_le number 4294967295
 
 abbrev pub IsAdmitted : Form → ℕ → Type 0
 IsAdmitted (Between least most) number = (least ≤ number) × (number ≤ most)
 IsAdmitted (Either one other) number = (number ≡ one) ⊎ (number ≡ other)
-IsAdmitted SerialNumber number = number ≤ 4294967295
+IsAdmitted EightDigits number = number ≤ 4294967295
 
 -- the number of a text that is a value of this form
 unfoldable pub value_in : Form → Text → Option ℕ
@@ -427,6 +450,10 @@ IsFingers fingers = (1 ≤ fingers) × (fingers ≤ 3)
 abbrev pub IsPaging : ℕ → Type 0
 IsPaging paging = (1 ≤ paging) × (paging ≤ 7)
 
+-- the index of a slot cycle
+abbrev pub IsCycle : ℕ → Type 0
+IsCycle cycle = cycle ≤ 7
+
 -- how many words of a rate are listed
 abbrev pub IsListLength : ℕ → Type 0
 IsListLength k = (1 ≤ k) × (k ≤ 16)
@@ -469,6 +496,9 @@ IsLawfulJob (Rate2 span workers fingers traffic) =
     IsSpan span × IsWorkers workers × IsFingers fingers × IsLawfulChannel traffic
 IsLawfulJob (jobs.List span workers fingers traffic k) =
     IsSpan span × IsWorkers workers × IsFingers fingers × IsLawfulChannel traffic × IsListLength k
+IsLawfulJob (Idle span workers fingers paging key cycle) =
+    IsSpan span × IsWorkers workers × IsFingers fingers × IsPaging paging × (key < 2 ^ 32)
+    × IsCycle cycle
 IsLawfulJob (Survey span workers base width top) =
     IsSpan span × IsWorkers workers × IsBase base × IsWidth width × IsTop top
 IsLawfulJob (Make width) = Unit {0}

@@ -3,13 +3,13 @@
 ghost use Rattle.std.specs.Prelude.{◌≡◌, IfSome, find, map, nat_eq, option_map};
 ghost use Rattle.std.specs.Cmp.Lexicographic.{pointwise};
 ghost use Rattle.cdma_words.specs.Words.{IsLawfulJob, command_row, commands, find_row, follow_row};
-ghost use Rattle.cdma_words.specs.Words.{job_with, limit_rows, limits_with, list_row, make_row};
-ghost use Rattle.cdma_words.specs.Words.{numbers_by, rate2_row, row_of, survey_row, trial_row};
-ghost use Rattle.cdma_words.specs.Words.{width_of};
+ghost use Rattle.cdma_words.specs.Words.{idle_row, job_with, limit_rows, limits_with, list_row};
+ghost use Rattle.cdma_words.specs.Words.{make_row, numbers_by, rate2_row, row_of, survey_row};
+ghost use Rattle.cdma_words.specs.Words.{trial_row, width_of};
 
 use crate::grammar::{
-    BASE, BITS, FINGERS, FRAMES, LIST_LENGTH, MESSAGES, NUMBER, OFFSET, OptionRule, PAGING, PILOTS,
-    RAW, ROW, SERIAL_NUMBER, SPAN, TOP, WIDTH, WORKERS,
+    BASE, BITS, CYCLE, FINGERS, FRAMES, KEY, LIST_LENGTH, MESSAGES, NUMBER, OFFSET, OptionRule,
+    PAGING, PILOTS, RAW, ROW, SERIAL_NUMBER, SPAN, TOP, WIDTH, WORKERS,
 };
 use crate::job::Job;
 use crate::receiving::{channel_with, receiver_with, traffic_with};
@@ -27,6 +27,8 @@ pub enum Command {
     Rate2,
     /// `list`.
     List,
+    /// `idle`.
+    Idle,
     /// `survey`.
     Survey,
     /// `make`.
@@ -67,6 +69,9 @@ static LIST_OPTIONS: [OptionRule; 7] = [
     LIST_LENGTH,
 ];
 
+/// What `idle` takes.
+static IDLE_OPTIONS: [OptionRule; 6] = [SPAN, WORKERS, FINGERS, PAGING, KEY, CYCLE];
+
 /// What `survey` takes.
 static SURVEY_OPTIONS: [OptionRule; 5] = [SPAN, WORKERS, BASE, WIDTH, TOP];
 
@@ -87,6 +92,7 @@ impl Command {
             "follow" => Some(Command::Follow),
             "rate2" => Some(Command::Rate2),
             "list" => Some(Command::List),
+            "idle" => Some(Command::Idle),
             "survey" => Some(Command::Survey),
             "make" => Some(Command::Make),
             "trial" => Some(Command::Trial),
@@ -103,6 +109,7 @@ impl Command {
             Command::Follow => "follow",
             Command::Rate2 => "rate2",
             Command::List => "list",
+            Command::Idle => "idle",
             Command::Survey => "survey",
             Command::Make => "make",
             Command::Trial => "trial",
@@ -118,6 +125,7 @@ impl Command {
             Command::Follow => &FOLLOW_OPTIONS,
             Command::Rate2 => &RATE2_OPTIONS,
             Command::List => &LIST_OPTIONS,
+            Command::Idle => &IDLE_OPTIONS,
             Command::Survey => &SURVEY_OPTIONS,
             Command::Make => &MAKE_OPTIONS,
             Command::Trial => &TRIAL_OPTIONS,
@@ -135,6 +143,7 @@ impl Command {
             Command::Follow => follow_with(texts),
             Command::Rate2 => rate2_with(texts),
             Command::List => list_with(texts),
+            Command::Idle => idle_with(texts),
             Command::Survey => survey_with(texts),
             Command::Make => make_with(texts),
             Command::Trial => trial_with(texts),
@@ -203,6 +212,25 @@ fn list_with<T: Texts>(texts: &T) -> Option<Job>
         fingers: receiver.fingers,
         traffic,
         k: k as u8,
+    })
+}
+
+/// The job of `idle`.
+fn idle_with<T: Texts>(texts: &T) -> Option<Job>
+    ensures value { result ≡ job_with idle_row (T.text_at texts.now) }
+    ensures lawful { IfSome result IsLawfulJob }
+{
+    let paging = number_by(texts, &PAGING)?;
+    let key = number_by(texts, &KEY)?;
+    let cycle = number_by(texts, &CYCLE)?;
+    let receiver = receiver_with(texts)?;
+    Some(Job::Idle {
+        span: receiver.span,
+        workers: receiver.workers,
+        fingers: receiver.fingers,
+        paging: paging as u8,
+        key: key as u32,
+        cycle: cycle as u8,
     })
 }
 

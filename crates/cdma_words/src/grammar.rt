@@ -1,7 +1,7 @@
 //! The options of the commands, as data.
 
 ghost use Rattle.std.specs.Prelude.{◌≡◌, IfSome};
-ghost use Rattle.cdma_words.specs.Words.{IsAdmitted, admits, number_in, serial_number_in};
+ghost use Rattle.cdma_words.specs.Words.{IsAdmitted, admits, eight_digits_in, number_in};
 ghost use Rattle.cdma_words.specs.Words.{spelled_in, value_in};
 
 use chip_core::digits_in;
@@ -24,8 +24,8 @@ pub enum Form {
         /// The other.
         other: u128,
     },
-    /// An electronic serial number, in eight hex digits.
-    SerialNumber,
+    /// All numbers of 32 bits, in eight hex digits of either case.
+    EightDigits,
 }
 
 impl Form {
@@ -48,7 +48,7 @@ impl Form {
     {
         match self {
             Form::Between { .. } | Form::Either { .. } => number_in(text),
-            Form::SerialNumber => serial_number_in(text),
+            Form::EightDigits => eight_digits_in(text),
         }
     }
 
@@ -59,7 +59,7 @@ impl Form {
         match self {
             Form::Between { least, most } => least <= number && number <= most,
             Form::Either { one, other } => number == one || number == other,
-            Form::SerialNumber => number <= 4294967295,
+            Form::EightDigits => number <= 4294967295,
         }
     }
 }
@@ -106,10 +106,24 @@ pub const PAGING: OptionRule = OptionRule {
     default: Some(1),
 };
 
+/// `--key`: the key that tells a handset's slots.
+pub const KEY: OptionRule = OptionRule {
+    name: "key",
+    form: Form::EightDigits,
+    default: None,
+};
+
+/// `--cycle`: the index of its slot cycle.
+pub const CYCLE: OptionRule = OptionRule {
+    name: "cycle",
+    form: Form::Between { least: 0, most: 7 },
+    default: Some(0),
+};
+
 /// `--esn`: the handset's electronic serial number.
 pub const SERIAL_NUMBER: OptionRule = OptionRule {
     name: "esn",
-    form: Form::SerialNumber,
+    form: Form::EightDigits,
     default: None,
 };
 
@@ -229,9 +243,9 @@ fn number_in(text: &str) -> Option<u128>
 }
 
 /// The number that eight hex digits of either case spell.
-#[tactic(auto, unfolding(crate::specs::Words::serial_number_in))]
-fn serial_number_in(text: &str) -> Option<u128>
-    ensures { result ≡ serial_number_in text.now }
+#[tactic(auto, unfolding(crate::specs::Words::eight_digits_in))]
+fn eight_digits_in(text: &str) -> Option<u128>
+    ensures { result ≡ eight_digits_in text.now }
 {
     let octets = <[u8; 4] as FromHex>::from_hex(text).ok()?;
     Some(u128::from(u32::from_be_bytes(octets)))

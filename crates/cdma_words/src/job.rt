@@ -59,6 +59,21 @@ pub enum Job {
         /// How many of the best words of a rate are listed, 1 to 16.
         k: u8,
     },
+    /// `idle`: what a handset that sleeps between its slots hears of a paging channel.
+    Idle {
+        /// How many samples the pilot is searched in, 64 to 32,768.
+        span: u16,
+        /// How many workers search the pilot, 1 to 64.
+        workers: u8,
+        /// How many paths of the signal are followed, 1 to 3.
+        fingers: u8,
+        /// The number of the paging channel, 1 to 7.
+        paging: u8,
+        /// The key that tells its slots.
+        key: u32,
+        /// The index of its slot cycle, 0 to 7: it has 16 times 2^cycle slots of 80 ms.
+        cycle: u8,
+    },
     /// `survey`: how strong each pilot is.
     Survey {
         /// In how many samples the pilots are measured, 64 to 32,768.
@@ -107,8 +122,8 @@ pub enum WordFault {
 }
 
 /// The job that the words name: a command and then its options in any order, each at most once, as
-/// `--name VALUE` or `--name=VALUE`. A value is a number of 1 to 20 decimal digits; that of `--esn`
-/// has just eight hex digits, of either case.
+/// `--name VALUE` or `--name=VALUE`. A value is a number of 1 to 20 decimal digits; those of `--esn`
+/// and `--key` have just eight hex digits, of either case.
 ///
 /// `find` takes `--span`, 64 to 32,768, which is else 2,048, and `--workers`, 1 to 64, which is
 /// else 4. `follow` takes these, `--fingers`, 1 to 3, which is else 1, `--paging`, 1 to 7, which
@@ -117,11 +132,12 @@ pub enum WordFault {
 /// and `--row`, 1 to 63, both or neither, and with them `--offset`, 0 to 15, which is else 0. The
 /// row is neither 32 nor the paging channel's number. `rate2` takes `--span`, `--workers`,
 /// `--fingers`, and the same options of a traffic channel, of which `--esn` and `--row` must be
-/// given; the row isn't 32. `list` takes these and `--k`, 1 to 16, which must be given. `survey`
-/// takes `--span` and `--workers`, `--base`, 0 to 32,767, which is else 0, `--width`, 0 to 31,
-/// which is else 10, and `--top`, 1 to 512, which is else 512. `make` takes `--bits`, 8 or 16,
-/// which is else 16. `trial` takes `--number`, 0 to 2^64 - 1, which must be given, and
-/// `--workers`.
+/// given; the row isn't 32. `list` takes these and `--k`, 1 to 16, which must be given. `idle`
+/// takes `--span`, `--workers`, `--fingers` and `--paging`, `--key`, which must be given, and
+/// `--cycle`, 0 to 7, which is else 0. `survey` takes `--span` and `--workers`, `--base`, 0 to
+/// 32,767, which is else 0, `--width`, 0 to 31, which is else 10, and `--top`, 1 to 512, which is
+/// else 512. `make` takes `--bits`, 8 or 16, which is else 16. `trial` takes `--number`, 0 to
+/// 2^64 - 1, which must be given, and `--workers`.
 ///
 /// All other words are `Bad`, whatever memory there is.
 pub fn words_of(alloc: Global, words: &[String]) -> Result<Job, WordFault>

@@ -315,6 +315,68 @@ fn takes_the_length_of_a_list(rt: HostRuntime) -> Result<(), Fail> {
 }
 
 #[test]
+fn takes_the_key_and_the_cycle_of_slots(rt: HostRuntime) -> Result<(), Fail> {
+    for (line, span, workers, fingers, paging, key, cycle) in [
+        ("idle --key 00000000", 2048, 4, 1, 1, 0, 0),
+        (
+            "idle --cycle=7 --paging 7 --key=FFFFffff --fingers 3 --workers 64 --span 64",
+            64,
+            64,
+            3,
+            7,
+            4294967295,
+            7,
+        ),
+        (
+            "idle --key 12345678 --cycle 003 --span=32768",
+            32768,
+            4,
+            1,
+            1,
+            0x12345678,
+            3,
+        ),
+    ] {
+        assert_eq!(rt;
+            read(rt.alloc(), line)?,
+            Ok(Job::Idle {
+                span,
+                workers,
+                fingers,
+                paging,
+                key,
+                cycle,
+            }),
+            "{line}"
+        );
+    }
+    for line in [
+        "idle",
+        "idle --cycle 0",
+        "idle --key",
+        "idle --key=",
+        "idle --key 0000000",
+        "idle --key 000000000",
+        "idle --key 0x000000",
+        "idle --key 0000000g",
+        "idle --key 00000000 --key 00000000",
+        "idle --key 00000000 --cycle 8",
+        "idle --key 00000000 --cycle=",
+        "idle --key 00000000 --cycle -1",
+        "idle --key 00000000 --paging 0",
+        "idle --key 00000000 --esn 0000abcd",
+        "idle --key 00000000 --row 10",
+        "idle --key 00000000 --messages 1",
+        "follow --key 00000000",
+        "follow --cycle 0",
+        "sleep --key 00000000",
+    ] {
+        assert_eq!(rt; read(rt.alloc(), line)?, Err(WordFault::Bad), "{line}");
+    }
+    Ok(())
+}
+
+#[test]
 fn takes_the_number_of_a_trial(rt: HostRuntime) -> Result<(), Fail> {
     for (line, number, workers) in [
         ("trial --number 0", 0, 4),
