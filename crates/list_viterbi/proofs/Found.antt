@@ -6,7 +6,6 @@ use Rattle.std.proofs.lemmas.List.{take_more, length-take, length-take-le}
 use Rattle.std.proofs.lemmas.Option.{get_or_from_slice_get}
 use Rattle.viterbi.specs.Words.{Word, score_of}
 use Rattle.viterbi.specs.Best.{IsAllowed}
-use Rattle.viterbi.specs.States.{low_bits}
 use Rattle.viterbi.specs.Survivors.{end_count}
 use Rattle.viterbi.specs.declared.word.Ends.{Ends}
 use Rattle.viterbi.proofs.StateBits.{binary-turned}
@@ -15,7 +14,7 @@ use Rattle.viterbi.proofs.Made.{end_count_le}
 use Rattle.list_viterbi.specs.declared.words.Entry.{Entry}
 use Rattle.list_viterbi.specs.declared.finds.Find.{Find}
 use Rattle.list_viterbi.specs.First.{word_of}
-use Rattle.list_viterbi.specs.Merging.{score_in, merge, first_lists}
+use Rattle.list_viterbi.specs.Merging.{score_in, first_lists}
 use Rattle.list_viterbi.specs.Rows.{origin, find_score, finds_from, first_finds, entry_at}
 use Rattle.list_viterbi.proofs.Firsts.{Firsts}
 use Rattle.list_viterbi.proofs.Merges.{Lists, Scored}

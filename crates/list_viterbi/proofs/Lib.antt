@@ -18,3 +18,15 @@ pub mod Agreements
 pub mod Standing
 pub mod Found
 pub mod Tracings
+pub mod Turns
+pub mod LaneChoices
+pub mod LaneTurns
+pub mod Pairings
+pub mod LaneMerges
+pub mod LaneSums
+pub mod LanePuts
+pub mod LanePicks
+pub mod LaneBlocks
+pub mod LaneGains
+pub mod LanePairs
+pub mod RowLayouts

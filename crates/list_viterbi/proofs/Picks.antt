@@ -1,8 +1,8 @@
 -- Picks out of lists of scores, and how many were taken.
 use Rattle.std.proofs.Common.{◌≡◌, ℕ, zero, suc, ◌+◌, ◌*◌, ◌^◌, ◌<◌, ◌≤◌, Bool, true, false, List}
 use Rattle.std.proofs.Common.{[], ◌∷◌, ◌++◌, length, map, drop, get_or, refl, sym, ap, subst, ◌∙◌}
-use Rattle.std.proofs.Common.{arith, ℤ, pos, ◌+ℤ◌, Some, None, length-append}
-use Rattle.std.specs.Prelude.{slice_get, int_lt, All}
+use Rattle.std.proofs.Common.{arith, ℤ, pos, ◌+ℤ◌, Some, length-append}
+use Rattle.std.specs.Prelude.{slice_get, int_lt}
 use Rattle.std.proofs.lemmas.Option.{slice_get-get_or}
 use Rattle.std.proofs.lemmas.List.{map-append, length-map}
 use Rattle.chip_core.specs.Bits.{digit}

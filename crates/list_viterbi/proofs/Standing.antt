@@ -1,6 +1,6 @@
 -- Scores and rows of choices stand for the lists of the first words into each state.
-use Rattle.std.proofs.Common.{◌≡◌, ℕ, zero, suc, ◌+◌, ◌*◌, ◌^◌, ◌<◌, ◌≤◌, Bool, true, false, List}
-use Rattle.std.proofs.Common.{[], ◌∷◌, length, get_or, map, set, take, refl, sym, ap, subst, ◌∙◌}
+use Rattle.std.proofs.Common.{◌≡◌, ℕ, suc, ◌+◌, ◌*◌, ◌^◌, ◌<◌, ◌≤◌, Bool, true, false, List}
+use Rattle.std.proofs.Common.{[], ◌∷◌, length, get_or, map, set, take, refl, sym, subst, ◌∙◌}
 use Rattle.std.proofs.Common.{arith, ℤ, pos, unsigned_abs}
 use Rattle.std.specs.Prelude.{nat_eq, if◌then◌else◌, All}
 use Rattle.std.specs.Int.{reverse_bits_onto}
@@ -15,7 +15,7 @@ use Rattle.viterbi.proofs.StateBits.{binary-turned}
 use Rattle.viterbi.proofs.Steps.{Into}
 use Rattle.viterbi.proofs.Finish.{zero_start}
 use Rattle.list_viterbi.specs.declared.words.Entry.{Entry}
-use Rattle.list_viterbi.specs.Merging.{list_into, Start, HasRoom}
+use Rattle.list_viterbi.specs.Merging.{list_into, Start}
 use Rattle.list_viterbi.specs.Picks.{picks_into, HasPicks}
 use Rattle.list_viterbi.specs.Rows.{starts_at, start_scores, origin, path}
 use Rattle.list_viterbi.proofs.Merges.{Lists}

@@ -3,3 +3,5 @@ pub mod Laws
 pub mod Merging
 pub mod Picks
 pub mod Rows
+pub mod Turns
+pub mod Heads

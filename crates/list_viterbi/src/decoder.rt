@@ -5,11 +5,9 @@ ghost use Rattle.std.specs.Prelude.{map, vec_len, sum_by, unsigned_abs, IfOk};
 ghost use Rattle.viterbi.specs.Words.{score_of, word_count};
 ghost use Rattle.viterbi.specs.Best.{IsAllowed};
 ghost use Rattle.list_viterbi.specs.First.{AreFirst, HaveScores, word_of};
-ghost use Rattle.list_viterbi.specs.Rows.{starts_at, start_scores};
 
-use crate::finds::first_ends;
-use crate::picking::{Choices, step};
-use crate::scores::Scores;
+use crate::picking::Choices;
+use crate::row::Row;
 use crate::tracing::all_traced;
 use crate::words::Words;
 use chip_core::OutOfMemory;
@@ -18,16 +16,14 @@ use std::marker::Model;
 use viterbi::Ends;
 
 /// Finds the first words for a list of soft values, in memory that `new` takes: two rows of scores
-/// and a row of choices for each of 576 bits, less than 700 KiB.
+/// by states, two by places, and a row of choices for each of 576 bits, less than 700 KiB.
 ///
 /// Contracts see the greatest number of bits of a word.
 #[derive(Drop)]
 pub struct ListDecoder {
     max_bits: u16,
     /// The scores of the first words into each state after the bits so far.
-    row: Vec<Scores>,
-    /// The scores after one bit more.
-    next: Vec<Scores>,
+    row: Row,
     /// The choices of each bit.
     rows: Vec<Choices>,
 }
@@ -39,50 +35,7 @@ impl Model for ListDecoder {
 
     ghost view = { λ d. d.max_bits };
 
-    ghost invariant = { λ d. (d.max_bits ≤ 576) × (vec_len d.row ≡ 256) × (vec_len d.next ≡ 256)
-        × (vec_len d.rows ≡ 576) };
-}
-
-/// A row of states without words.
-fn empty_row(alloc: Global) -> Result<Vec<Scores>, OutOfMemory>
-    ensures { IfOk result (λ row. vec_len row ≡ 256) }
-{
-    let mut row = Vec::with_capacity(alloc, 256)?;
-    for _state in 0..256usize {
-        row.push(Scores::empty())?;
-    }
-    Ok(row)
-}
-
-/// Whether a word may start from a state.
-fn is_start(state: u8, ends: Ends) -> bool
-    ensures { result ≡ starts_at ends state }
-{
-    match ends {
-        Ends::Zero => state == 0,
-        Ends::Free => true,
-    }
-}
-
-/// The score of the word of no bits into a state, where a word may start from it.
-fn start_at(state: u8, ends: Ends) -> Scores
-    ensures { result ≡ start_scores ends state }
-{
-    let mut scores = Scores::empty();
-    if is_start(state, ends) {
-        scores.push(0);
-    }
-    scores
-}
-
-/// The scores before the first bit.
-fn start_row(row: &mut [Scores], ends: Ends)
-    requires { length row.old ≡ 256 }
-    ensures { (t : ℕ) → t < 256 → get_or row.new t [] ≡ start_scores ends t }
-{
-    for (state, scores) in row.iter_mut().enumerate() {
-        *scores = start_at(state as u8, ends);
-    }
+    ghost invariant = { λ d. (d.max_bits ≤ 576) × (vec_len d.rows ≡ 576) };
 }
 
 impl ListDecoder {
@@ -93,13 +46,11 @@ impl ListDecoder {
         requires most { max_bits ≤ 576 }
         ensures { IfOk result (λ decoder. decoder ≡ max_bits) }
     {
-        let row = empty_row(alloc)?;
-        let next = empty_row(alloc)?;
+        let row = Row::new(alloc)?;
         let rows = vec![in alloc; [0u32; 256]; 576]?;
         Ok(ListDecoder {
             max_bits,
             row,
-            next,
             rows,
         })
     }
@@ -128,21 +79,12 @@ impl ListDecoder {
         ensures kept { self.new ≡ self.old }
     {
         let count = softs.len() / 2;
-        start_row(&mut self.row, ends);
+        self.row.start(ends, k);
         for bit in 0..count {
-            let mut choices = [0u32; 256];
-            step(
-                &self.row,
-                softs[2 * bit],
-                softs[2 * bit + 1],
-                k,
-                &mut self.next,
-                &mut choices,
-            );
-            self.rows[bit] = choices;
-            std::mem::swap(&mut self.row, &mut self.next);
+            self.row
+                .step(softs[2 * bit], softs[2 * bit + 1], &mut self.rows[bit]);
         }
-        let finds = first_ends(&self.row, ends, k);
+        let finds = self.row.first_ends(ends);
         *out = all_traced(&self.rows[..count], &finds);
         out.len()
     }

@@ -13,10 +13,12 @@
 mod decoder;
 mod finds;
 mod gains;
+mod lanes;
 pub mod laws;
 #[cfg(test)]
 mod merging;
 mod picking;
+mod row;
 mod scores;
 #[cfg(test)]
 mod tests;

@@ -149,10 +149,6 @@ fn picked_of(
     if even.len() < k || odd.len() < k {
         return picked(even, even_gain, odd, odd_gain, k, scores);
     }
-    // With its length written out, a loop of four turns can be laid out whole.
-    if k == 4 {
-        return picked_of_full(even, even_gain, odd, odd_gain, 4, scores);
-    }
     picked_of_full(even, even_gain, odd, odd_gain, k, scores)
 }
 

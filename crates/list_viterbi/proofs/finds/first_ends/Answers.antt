@@ -1,7 +1,7 @@
-use Rattle.std.proofs.Common.{◌≡◌, ◌<◌, ℕ, [], List, ℤ, length, get_or, ap, ◌∙◌, arith, add-one}
+use Rattle.std.proofs.Common.{◌≡◌, ◌<◌, [], length, get_or, ◌∙◌, arith, add-one}
 use Rattle.std.proofs.lemmas.List.{get_or_read}
 use Rattle.viterbi.proofs.Made.{end_count_le}
-use Rattle.list_viterbi.specs.Rows.{finds_from, first_finds}
+use Rattle.list_viterbi.specs.Rows.{first_finds}
 use Rattle.list_viterbi.proofs.finds.first_ends.Goals as goal
 
 pub loop-state-init : goal.loop-state-init

@@ -1,5 +1,5 @@
-use Rattle.std.proofs.Common.{◌≡◌, ◌+ℤ◌, ◌+◌, ◌≤◌, ◌^◌, ℤ, get_or, pos, ap, ◌∙◌, sym, rules, arith}
-use Rattle.std.proofs.Common.{unsigned_abs, w64}
+use Rattle.std.proofs.Common.{◌≡◌, ◌+ℤ◌, ℤ, get_or, pos, ap, ◌∙◌, sym, rules, arith}
+use Rattle.std.proofs.Common.{w64}
 use Rattle.std.proofs.lemmas.Int.{ints, to_z-of_z, fits_signed_from_abs}
 use Rattle.std.proofs.lemmas.Option.{get_or_from_slice_get}
 use mir.Val.{SFits}

@@ -1,4 +1,4 @@
-use Rattle.std.proofs.Common.{◌≡◌, ◌+ℤ◌, get_or, pos, sym, arith, rules, w64}
+use Rattle.std.proofs.Common.{sym, arith, rules, w64}
 use Rattle.std.proofs.lemmas.Int.{to_z-of_z}
 use mir.Val.{SFits}
 use Rattle.list_viterbi.proofs.Picks.{odd_over, odd_only, odd_by_sum}

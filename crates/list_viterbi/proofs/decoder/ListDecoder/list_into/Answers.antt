@@ -1,8 +1,7 @@
-use Rattle.std.proofs.Common.{◌≡◌, ◌+◌, ◌*◌, ◌/◌, ◌<◌, ◌≤◌, ◌++◌, ℕ, List, [], length, map, take}
-use Rattle.std.proofs.Common.{drop}
+use Rattle.std.proofs.Common.{◌≡◌, ◌+◌, ◌*◌, ◌/◌, ◌<◌, ◌≤◌, ℕ, [], length, map, take}
 use Rattle.std.proofs.Common.{get_or, sym, ap, ◌∙◌, suc, rules, arith, add-one, pos, w64}
 use Rattle.std.proofs.lemmas.Int.{to_z-of_z}
-use Rattle.std.proofs.lemmas.List.{take_at, with_items_is, length-map, length-take-le}
+use Rattle.std.proofs.lemmas.List.{length-map, length-take-le}
 use mir.Val.{SFits}
 use Rattle.viterbi.specs.Best.{IsAllowed}
 use Rattle.viterbi.specs.Survivors.{end_count}
@@ -18,22 +17,13 @@ use Rattle.list_viterbi.proofs.Found.{found_words}
 use Rattle.list_viterbi.proofs.decoder.ListDecoder.list_into.Goals as goal
 
 pub loop-bit-init : goal.loop-bit-init
-loop-bit-init c =
-    let long : length c.start_row.new.row ≡ c.self.inside.row.len = omega arith in
-    let kept : take c.self.inside.row.len
-    (c.start_row.new.row ++ drop (length c.start_row.new.row) c.self.inside.row.items)
-    ≡ c.start_row.new.row =
-    take_at c.start_row.new.row (drop (length c.start_row.new.row) c.self.inside.row.items)
-    c.self.inside.row.len long in
-    record {
-      row_whole = search rules;
-      next_whole = search rules;
-      rows_whole = search rules;
-      kept = c.self.view_is;
-      stands =
-          rw kept (stands_first c.args.softs.now c.args.ends c.args.k c.start_row.new.row
-          c.self.inside.rows.items (omega (arith, c.requires.some)) c.start_row.ensures);
-    }
+loop-bit-init c = record {
+  rows_whole = search rules;
+  kept = c.self.view_is;
+  few = c.start.ensures.k;
+  stands = stands_first c.args.softs.now c.args.ends c.args.k c.start.new.self.scores
+      c.self.inside.rows.items (omega (arith, c.requires.some)) c.start.ensures.scores;
+}
 
 pub step-requires-clause-fits : goal.step-requires-clause-fits
 step-requires-clause-fits c =
@@ -53,8 +43,8 @@ step-requires-clause-room c =
     let fits' : SFits w64 (get_or softs (2 * bit + 1) (pos 0)) = search rules in
     let few : bit ≤ 576 =
     omega (arith, c.loop-bit-test.true, c.requires.most, c.self.view_is, c.self.invariant) in
-    rw (to_z-of_z w64 _ fits, to_z-of_z w64 _ fits', c.deref.ensures.value)
-    (score_rooms softs c.args.ends c.args.k bit c.loop-bit.self-inside.row.items
+    rw (to_z-of_z w64 _ fits, to_z-of_z w64 _ fits')
+    (score_rooms softs c.args.ends c.args.k bit c.loop-bit.self-inside.row.scores
     c.loop-bit.self-inside.rows.items (omega (arith, c.loop-bit-test.true)) c.requires.bound few
     c.loop-bit.invariant.stands)
 
@@ -62,31 +52,26 @@ pub loop-bit-preserved : goal.loop-bit-preserved
 loop-bit-preserved c =
     let softs = c.args.softs.now in
     let bit = c.loop-bit.bit in
-    let row = c.loop-bit.self-inside.row.items in
+    let row = c.loop-bit.self-inside.row.scores in
     let first = get_or softs (2 * bit) (pos 0) in
     let second = get_or softs (2 * bit + 1) (pos 0) in
     let fits : SFits w64 first = search rules in
     let fits' : SFits w64 second = search rules in
     let room : 2 * bit + 2 ≤ length softs = omega (arith, c.loop-bit-test.true) in
-    let long : length c.step.new.next ≡ c.loop-bit.self-inside.next.len = omega arith in
-    let items : c.swap.new.x.items ≡ c.step.new.next =
-    rw c.swap.ensures.x_after
-    (with_items_is c.loop-bit.self-inside.next c.step.new.next long) in
     let next : bit + 1 ≡ suc bit = add-one bit in
-    let each : (t : ℕ) → t < 256 → HasPicks (get_or c.step.new.next t [])
+    let each : (t : ℕ) → t < 256 → HasPicks (get_or c.step.new.self.scores t [])
     (get_or c.step.new.choices t 0) (picks_into row first second c.args.k t) =
-    λ t b. rw (to_z-of_z w64 first fits, to_z-of_z w64 second fits', c.deref.ensures.value)
+    λ t b. rw (to_z-of_z w64 first fits, to_z-of_z w64 second fits', c.loop-bit.invariant.few)
     at (c.step.ensures.each t b) in
     let few : bit < 576 =
     omega (arith, c.loop-bit-test.true, c.requires.most, c.self.view_is, c.self.invariant) in
     let within : bit < length c.loop-bit.self-inside.rows.items = search rules in
     record {
-      row_whole = search rules;
-      next_whole = search rules;
-      rows_whole = search rules;
+      rows_whole = c.loop-bit.invariant.rows_whole;
       kept = c.loop-bit.invariant.kept;
-      stands = rw (items, next)
-          (row_stands softs c.args.ends c.args.k bit row c.step.new.next
+      few = c.step.ensures.k ∙ c.loop-bit.invariant.few;
+      stands = rw next
+          (row_stands softs c.args.ends c.args.k bit row c.step.new.self.scores
           c.loop-bit.self-inside.rows.items c.step.new.choices room c.requires.few within
           c.loop-bit.invariant.stands each);
     }
@@ -97,18 +82,18 @@ returns-clause-first c =
     let ends = c.args.ends in
     let n = length softs / 2 in
     let rows = c.loop-bit.self-inside.rows.items in
-    let scores = c.loop-bit.self-inside.row.items in
+    let scores = c.loop-bit.self-inside.row.scores in
     let finds = c.first_ends-finds.result in
     let all : c.loop-bit.bit ≡ n = omega (arith, c.loop-bit-test.false) in
-    let long : length rows ≡ 576 = sym (ap length c.deref-3.ensures.value) ∙ c.deref-3.ensures.len
+    let long : length rows ≡ 576 = sym (ap length c.deref.ensures.value) ∙ c.deref.ensures.len
     ∙ c.loop-bit.invariant.rows_whole in
     let size : length (take n rows) ≡ n =
     length-take-le n rows
     (omega (arith, long, c.requires.most, c.self.view_is, c.self.invariant)) in
     let finds_are : finds ≡ first_finds scores c.args.k (end_count ends) =
-    rw c.deref-2.ensures.value at c.first_ends-finds.ensures in
+    rw c.loop-bit.invariant.few at c.first_ends-finds.ensures in
     let words_are : c.all_traced.result ≡ map (entry_at (take n rows)) finds =
-    rw c.deref-3.ensures.value at c.all_traced.ensures in
+    rw c.deref.ensures.value at c.all_traced.ensures in
     let lists : Lists softs (IsAllowed ends n) c.args.k c.all_traced.result =
     found_words softs ends c.args.k n scores (take n rows) finds c.all_traced.result
     (omega (arith, c.requires.least)) size
@@ -122,18 +107,18 @@ returns-clause-scores c =
     let ends = c.args.ends in
     let n = length softs / 2 in
     let rows = c.loop-bit.self-inside.rows.items in
-    let scores = c.loop-bit.self-inside.row.items in
+    let scores = c.loop-bit.self-inside.row.scores in
     let finds = c.first_ends-finds.result in
     let all : c.loop-bit.bit ≡ n = omega (arith, c.loop-bit-test.false) in
-    let long : length rows ≡ 576 = sym (ap length c.deref-3.ensures.value) ∙ c.deref-3.ensures.len
+    let long : length rows ≡ 576 = sym (ap length c.deref.ensures.value) ∙ c.deref.ensures.len
     ∙ c.loop-bit.invariant.rows_whole in
     let size : length (take n rows) ≡ n =
     length-take-le n rows
     (omega (arith, long, c.requires.most, c.self.view_is, c.self.invariant)) in
     let finds_are : finds ≡ first_finds scores c.args.k (end_count ends) =
-    rw c.deref-2.ensures.value at c.first_ends-finds.ensures in
+    rw c.loop-bit.invariant.few at c.first_ends-finds.ensures in
     let words_are : c.all_traced.result ≡ map (entry_at (take n rows)) finds =
-    rw c.deref-3.ensures.value at c.all_traced.ensures in
+    rw c.deref.ensures.value at c.all_traced.ensures in
     let lists : Lists softs (IsAllowed ends n) c.args.k c.all_traced.result =
     found_words softs ends c.args.k n scores (take n rows) finds c.all_traced.result
     (omega (arith, c.requires.least)) size
@@ -147,18 +132,18 @@ returns-clause-number c =
     let ends = c.args.ends in
     let n = length softs / 2 in
     let rows = c.loop-bit.self-inside.rows.items in
-    let scores = c.loop-bit.self-inside.row.items in
+    let scores = c.loop-bit.self-inside.row.scores in
     let finds = c.first_ends-finds.result in
     let all : c.loop-bit.bit ≡ n = omega (arith, c.loop-bit-test.false) in
-    let long : length rows ≡ 576 = sym (ap length c.deref-3.ensures.value) ∙ c.deref-3.ensures.len
+    let long : length rows ≡ 576 = sym (ap length c.deref.ensures.value) ∙ c.deref.ensures.len
     ∙ c.loop-bit.invariant.rows_whole in
     let size : length (take n rows) ≡ n =
     length-take-le n rows
     (omega (arith, long, c.requires.most, c.self.view_is, c.self.invariant)) in
     let finds_are : finds ≡ first_finds scores c.args.k (end_count ends) =
-    rw c.deref-2.ensures.value at c.first_ends-finds.ensures in
+    rw c.loop-bit.invariant.few at c.first_ends-finds.ensures in
     let words_are : c.all_traced.result ≡ map (entry_at (take n rows)) finds =
-    rw c.deref-3.ensures.value at c.all_traced.ensures in
+    rw c.deref.ensures.value at c.all_traced.ensures in
     let lists : Lists softs (IsAllowed ends n) c.args.k c.all_traced.result =
     found_words softs ends c.args.k n scores (take n rows) finds c.all_traced.result
     (omega (arith, c.requires.least)) size

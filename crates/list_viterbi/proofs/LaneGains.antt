@@ -1,0 +1,131 @@
+-- What a bit adds for two states, and for the two 128 on.
+use Rattle.std.proofs.Common.{◌≡◌, ℕ, zero, suc, ◌+◌, ◌-◌, ◌*◌, ◌/◌, ◌%◌, ◌<◌, ◌≤◌, Bool, true}
+use Rattle.std.proofs.Common.{false, List, length, map, take, drop, get_or, refl, sym, ap, subst}
+use Rattle.std.proofs.Common.{◌∙◌, ⊎_elim, arith, ℤ, pos, ◌-ℤ◌, FitsSigned, to_z, of_z}
+use Rattle.std.proofs.Common.{w64, nat_eq}
+use Rattle.std.specs.List.{list_all, range_with_len}
+use Rattle.std.proofs.lemmas.Int.{ints, to_z-of_z}
+use Rattle.std.proofs.lemmas.Bool.{cases_eq, cases_lt}
+use Rattle.std.proofs.lemmas.Bool.Decides.{nat_tests}
+use Rattle.std.proofs.lemmas.List.{get_or-map, get_or-drop, get_or-take, length-map, length-drop}
+use Rattle.std.proofs.lemmas.List.{length-take-le}
+use Rattle.std.proofs.lemmas.List.Folds.{list_all_at}
+use Rattle.std.proofs.lemmas.List.FromFn.{get_or-range_with_len, length-range_with_len}
+use Rattle.std.proofs.lemmas.Simd.{get_or-chunk, length-chunk}
+use lib.Lanes.{chunk}
+use Rattle.viterbi.specs.Lanes.{lane_codes, kinds, gain_by, code_of}
+use Rattle.viterbi.proofs.Blocks.{passed}
+use Rattle.list_viterbi.specs.Picks.{HasPicks, picks_by, picks_into}
+use Rattle.list_viterbi.specs.Heads.{four_of, row_of}
+
+-- two gains of a table
+pub gains_read : (xs : List ℤ) (at l : ℕ) → length xs ≡ 32 → at + 2 ≤ 32 → l < 2 →
+    FitsSigned w64 (get_or xs (at + l) (pos 0)) →
+    get_or (passed (chunk 0 2 (take (32 - at) (drop at xs)))) l (pos 0) ≡ get_or xs (at + l) (pos 0)
+gains_read xs at l long room b fits =
+    let part = take (32 - at) (drop at xs) in
+    let size : length part ≡ 32 - at = length-take-le (32 - at) (drop at xs)
+    (omega (arith, length-drop at xs, long)) in
+    let lanes = chunk 0 2 part in
+    let two : length lanes ≡ 2 = length-chunk 0 2 part (omega (arith, size, room)) in
+    let read : get_or lanes l (pos 0) ≡ get_or xs (at + l) (pos 0) =
+    get_or-chunk 0 2 part l (pos 0) b
+    ∙ ap (λ (i : ℕ). get_or part i (pos 0)) (omega arith)
+    ∙ get_or-take (32 - at) (drop at xs) l (pos 0) (omega (arith, room, b))
+    ∙ get_or-drop at xs l (pos 0) in
+    get_or-map (to_z w64) (map (of_z w64) lanes) l 0 (pos 0)
+    (omega (arith, b, two, length-map lanes (of_z w64)))
+    ∙ ap (to_z w64) (get_or-map (of_z w64) lanes l (pos 0) 0 (omega (arith, b, two)))
+    ∙ ap (λ (z : ℤ). to_z w64 (of_z w64 z)) read
+    ∙ to_z-of_z w64 _ fits
+
+-- their places in it
+pub code_two : (block l : ℕ) → l < 2 →
+    code_of (2 * block + l)
+    ≡ get_or lane_codes (8 * get_or kinds (block / 4) 0 + (2 * (block % 4) + l)) 0
+code_two block l b =
+    let row : (2 * block + l) / 8 ≡ block / 4 = omega (arith, b) in
+    let lane : (2 * block + l) % 8 ≡ 2 * (block % 4) + l = omega (arith, b) in
+    rw (row, lane) refl
+
+-- both symbols of a state 128 on are turned
+abbrev is_turned : ℕ → Bool
+is_turned t = nat_eq (code_of (128 + t) + code_of t) 3
+
+all_turned : list_all is_turned (range_with_len 0 128) ≡ true
+unfolding kinds lane_codes
+all_turned = refl
+
+no_both : {A : Type 0} → true ≡ false → A
+no_both e = absurd (grind (arith, e))
+
+turned_code : (t : ℕ) → t < 128 → code_of (128 + t) + code_of t ≡ 3
+turned_code t b = by_test (is_turned t) refl where
+  by_test : (r : Bool) → is_turned t ≡ r → code_of (128 + t) + code_of t ≡ 3
+  by_test true e = grind (arith, nat_tests, e)
+  by_test false e =
+      let place : get_or (range_with_len 0 128) t 0 ≡ t =
+      get_or-range_with_len 0 128 t 0 b ∙ (let same : 0 + t ≡ t = omega arith in same) in
+      no_both (sym all_turned ∙ list_all_at is_turned (range_with_len 0 128) t 0
+      (omega (arith, b, length-range_with_len 0 128)) (ap is_turned place ∙ e))
+
+turned_gain : (f s : ℤ) (c d : ℕ) → d + c ≡ 3 → gain_by f s d ≡ pos 0 -ℤ gain_by f s c
+unfolding gain_by
+turned_gain f s zero d e = let is : d ≡ 3 = omega (arith, e) in rw is (omega (arith, ints))
+turned_gain f s (suc zero) d e = let is : d ≡ 2 = omega (arith, e) in rw is (omega (arith, ints))
+turned_gain f s (suc (suc zero)) d e = let is : d ≡ 1 = omega (arith, e) in
+    rw is (omega (arith, ints))
+turned_gain f s (suc (suc (suc zero))) d e = let is : d ≡ 0 = omega (arith, e) in
+    rw is (omega (arith, ints))
+turned_gain f s (suc (suc (suc (suc c)))) d e = absurd (omega (arith, e))
+
+-- so that the bit takes off as much as it adds for the state 128 before
+pub upper_gain : (f s : ℤ) (t : ℕ) → t < 128 →
+    gain_by f s (code_of (128 + t)) ≡ pos 0 -ℤ gain_by f s (code_of t)
+upper_gain f s t b = turned_gain f s (code_of t) (code_of (128 + t)) (turned_code t b)
+
+-- one pair of blocks more
+pub pair_more : (ranks gain next new : List ℤ) (choices chosen : List ℕ) (f s : ℤ) (block : ℕ) →
+    block < 64 →
+    ((l : ℕ) → l < 2 → get_or gain l (pos 0) ≡ gain_by f s (code_of (2 * block + l))) →
+    ((t : ℕ) → t < 256 → t / 2 % 64 < block →
+    HasPicks (four_of next t) (get_or choices t 0) (picks_into (row_of ranks) f s 4 t)) →
+    ((l : ℕ) → l < 2 → HasPicks (four_of new (2 * block + l)) (get_or chosen (2 * block + l) 0)
+    (picks_by (row_of ranks) (get_or gain l (pos 0)) 4 (2 * block + l))) →
+    ((l : ℕ) → l < 2 →
+    HasPicks (four_of new (128 + 2 * block + l)) (get_or chosen (128 + 2 * block + l) 0)
+    (picks_by (row_of ranks) (pos 0 -ℤ get_or gain l (pos 0)) 4 (128 + 2 * block + l))) →
+    ((t : ℕ) → t < 256 → ¬ (t / 2 % 64 ≡ block) →
+    (four_of new t ≡ four_of next t) × (get_or chosen t 0 ≡ get_or choices t 0)) →
+    (t : ℕ) → t < 256 → t / 2 % 64 < block + 1 →
+    HasPicks (four_of new t) (get_or chosen t 0) (picks_into (row_of ranks) f s 4 t)
+pair_more ranks gain next new choices chosen f s block few gains before lower upper others t b lt =
+    ⊎_elim
+    (λ same. ⊎_elim
+    (λ low. let l = t % 2 in
+    let is : 2 * block + l ≡ t = omega (arith, same, low) in
+    let two : l < 2 = omega arith in
+    subst (λ (u : ℕ). HasPicks (four_of new u) (get_or chosen u 0)
+    (picks_into (row_of ranks) f s 4 u)) is
+    (subst (λ (g : ℤ). HasPicks (four_of new (2 * block + l)) (get_or chosen (2 * block + l) 0)
+    (picks_by (row_of ranks) g 4 (2 * block + l))) (gains l two) (lower l two)))
+    (λ high. let l = t % 2 in
+    let is : 128 + 2 * block + l ≡ t = omega (arith, same, high, b) in
+    let two : l < 2 = omega arith in
+    let place : 128 + (2 * block + l) ≡ 128 + 2 * block + l = omega arith in
+    let gain_is : pos 0 -ℤ get_or gain l (pos 0) ≡ gain_by f s (code_of (128 + 2 * block + l)) =
+    ap (λ (z : ℤ). pos 0 -ℤ z) (gains l two)
+    ∙ sym (upper_gain f s (2 * block + l) (omega (arith, few, two)))
+    ∙ ap (λ (u : ℕ). gain_by f s (code_of u)) place in
+    subst (λ (u : ℕ). HasPicks (four_of new u) (get_or chosen u 0)
+    (picks_into (row_of ranks) f s 4 u)) is
+    (subst (λ (g : ℤ). HasPicks (four_of new (128 + 2 * block + l))
+    (get_or chosen (128 + 2 * block + l) 0) (picks_by (row_of ranks) g 4 (128 + 2 * block + l)))
+    gain_is (upper l two)))
+    (cases_lt t 128))
+    (λ other. let kept = others t b other in
+    subst (λ (ss : List ℤ). HasPicks ss (get_or chosen t 0) (picks_into (row_of ranks) f s 4 t))
+    (sym kept.0)
+    (subst (λ (c : ℕ). HasPicks (four_of next t) c (picks_into (row_of ranks) f s 4 t))
+    (sym kept.1) (before t b (omega (arith, lt, other)))))
+    (cases_eq (t / 2 % 64) block)

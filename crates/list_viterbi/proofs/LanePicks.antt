@@ -1,0 +1,102 @@
+-- Four turns of a lane are the picks into its state.
+use Rattle.std.proofs.Common.{◌≡◌, ℕ, zero, suc, ◌+◌, ◌*◌, ◌%◌, ◌<◌}
+use Rattle.std.proofs.Common.{List, [], ◌∷◌, length, get_or, refl}
+use Rattle.std.proofs.Common.{sym, ap, subst, ◌∙◌, arith, ℤ, pos, ◌+ℤ◌, ◌-ℤ◌, unsigned_abs}
+use Rattle.std.proofs.lemmas.List.FromFn.{get_or-map-range_with_len}
+use lib.Lanes.{zip2}
+use Rattle.list_viterbi.specs.declared.lanes.Heads.{Heads}
+use Rattle.list_viterbi.specs.Merging.{merge}
+use Rattle.list_viterbi.specs.Picks.{pick_score, picks_from, picks_by, HasPicks}
+use Rattle.list_viterbi.specs.Turns.{turned_scores, turned_choices}
+use Rattle.list_viterbi.specs.Heads.{HeadsLong}
+use Rattle.list_viterbi.specs.Heads.{lane_of, lane_sum}
+use Rattle.list_viterbi.specs.Heads.{four_scores, four_choices, heads_from}
+use Rattle.list_viterbi.specs.Heads.{four_of, row_of}
+use Rattle.list_viterbi.proofs.LaneChoices.{heads_of}
+use Rattle.list_viterbi.proofs.LaneTurns.{lane_scores, lane_choices}
+use Rattle.list_viterbi.proofs.Turns.{AreSums, sum_at, all_turns}
+
+pub row_read : (ranks : List ℤ) (t : ℕ) → t < 256 → get_or (row_of ranks) t [] ≡ four_of ranks t
+unfolding row_of
+row_read ranks t b = get_or-map-range_with_len (four_of ranks) 0 256 t t [] b (omega arith)
+
+-- heads with what is made of each score and a gain
+abbrev pub made_heads : (ℤ → ℤ → ℤ) → Heads → List ℤ → Heads
+made_heads made h gain = heads_of (zip2 made h.first gain) (zip2 made h.second gain)
+    (zip2 made h.third gain) (zip2 made h.fourth gain)
+
+pub lane_sums : (made : ℤ → ℤ → ℤ) (ranks : List ℤ) (at l : ℕ) (gain : List ℤ) (g : ℤ) → l < 2 →
+    length gain ≡ 2 → ((x : ℤ) → made x (get_or gain l (pos 0)) ≡ x +ℤ g) →
+    AreSums (four_of ranks (at + 2 * l)) g 0 (lane_of l (made_heads made (heads_from ranks at) gain))
+lane_sums made ranks at l [] g b long is r c = absurd (omega (arith, long))
+lane_sums made ranks at l (x ∷ []) g b long is r c = absurd (omega (arith, long))
+lane_sums made ranks at l (x ∷ y ∷ z ∷ zs) g b long is r c = absurd (omega (arith, long))
+lane_sums made ranks at zero (x ∷ y ∷ []) g b long is zero c =
+    is _ ∙ sum_at ranks g at (at + 2 * 0) (omega arith)
+lane_sums made ranks at zero (x ∷ y ∷ []) g b long is (suc zero) c =
+    is _ ∙ sum_at ranks g (256 + at) (256 + (at + 2 * 0)) (omega arith)
+lane_sums made ranks at zero (x ∷ y ∷ []) g b long is (suc (suc zero)) c =
+    is _ ∙ sum_at ranks g (512 + at) (512 + (at + 2 * 0)) (omega arith)
+lane_sums made ranks at zero (x ∷ y ∷ []) g b long is (suc (suc (suc zero))) c =
+    is _ ∙ sum_at ranks g (768 + at) (768 + (at + 2 * 0)) (omega arith)
+lane_sums made ranks at zero (x ∷ y ∷ []) g b long is (suc (suc (suc (suc r)))) c =
+    absurd (omega (arith, c))
+lane_sums made ranks at (suc zero) (x ∷ y ∷ []) g b long is zero c =
+    is _ ∙ sum_at ranks g (at + 2) (at + 2 * 1) (omega arith)
+lane_sums made ranks at (suc zero) (x ∷ y ∷ []) g b long is (suc zero) c =
+    is _ ∙ sum_at ranks g (256 + at + 2) (256 + (at + 2 * 1)) (omega arith)
+lane_sums made ranks at (suc zero) (x ∷ y ∷ []) g b long is (suc (suc zero)) c =
+    is _ ∙ sum_at ranks g (512 + at + 2) (512 + (at + 2 * 1)) (omega arith)
+lane_sums made ranks at (suc zero) (x ∷ y ∷ []) g b long is (suc (suc (suc zero))) c =
+    is _ ∙ sum_at ranks g (768 + at + 2) (768 + (at + 2 * 1)) (omega arith)
+lane_sums made ranks at (suc zero) (x ∷ y ∷ []) g b long is (suc (suc (suc (suc r)))) c =
+    absurd (omega (arith, c))
+lane_sums made ranks at (suc (suc l)) (x ∷ y ∷ []) g b long is r c = absurd (omega (arith, b))
+
+-- the turns of a lane are the picks into its state
+pub lane_picks : (ranks xs ys : List ℤ) (t : ℕ) (g : ℤ) → length xs ≡ 4 → length ys ≡ 4 →
+    AreSums (four_of ranks (2 * (t % 128) + 0)) g 0 xs →
+    AreSums (four_of ranks (2 * (t % 128) + 1)) (pos 0 -ℤ g) 0 ys →
+    HasPicks (turned_scores 4 xs ys) (turned_choices 4 1 xs ys) (picks_by (row_of ranks) g 4 t)
+unfolding picks_by
+lane_picks ranks xs ys t g m n p q =
+    let a = 2 * (t % 128) + 0 in
+    let b = 2 * (t % 128) + 1 in
+    subst (λ (es : List ℤ). HasPicks (turned_scores 4 xs ys) (turned_choices 4 1 xs ys)
+    (merge pick_score 4 (picks_from 0 g 0 es)
+    (picks_from 1 (pos 0 -ℤ g) 0 (get_or (row_of ranks) b []))))
+    (sym (row_read ranks a (omega arith)))
+    (subst (λ (os : List ℤ). HasPicks (turned_scores 4 xs ys) (turned_choices 4 1 xs ys)
+    (merge pick_score 4 (picks_from 0 g 0 (four_of ranks a)) (picks_from 1 (pos 0 -ℤ g) 0 os)))
+    (sym (row_read ranks b (omega arith)))
+    (all_turns 4 (four_of ranks a) (four_of ranks b) g (pos 0 -ℤ g) xs ys (omega arith)
+    (omega arith) m n p q))
+
+-- both scores and choices of a lane of four turns
+pub block_picks : (made made' : ℤ → ℤ → ℤ) (ranks gain : List ℤ) (at l t : ℕ) (g : ℤ) → l < 2 →
+    length gain ≡ 2 → ((x : ℤ) → made x (get_or gain l (pos 0)) ≡ x +ℤ g) →
+    ((x : ℤ) → made' x (get_or gain l (pos 0)) ≡ x +ℤ (pos 0 -ℤ g)) →
+    at + 2 * l ≡ 2 * (t % 128) + 0 → HeadsLong (made_heads made (heads_from ranks at) gain) →
+    HeadsLong (made_heads made' (heads_from ranks (at + 1)) gain) →
+    HasPicks
+    (lane_of l (four_scores (made_heads made (heads_from ranks at) gain)
+    (made_heads made' (heads_from ranks (at + 1)) gain)))
+    (unsigned_abs (lane_sum l (four_choices (made_heads made (heads_from ranks at) gain)
+    (made_heads made' (heads_from ranks (at + 1)) gain)))) (picks_by (row_of ranks) g 4 t)
+block_picks made made' ranks gain at l t g b long is is' place p q =
+    let e = made_heads made (heads_from ranks at) gain in
+    let o = made_heads made' (heads_from ranks (at + 1)) gain in
+    let next : at + 1 + 2 * l ≡ 2 * (t % 128) + 1 = omega (arith, place) in
+    let xs = lane_of l e in
+    let ys = lane_of l o in
+    let even : AreSums (four_of ranks (2 * (t % 128) + 0)) g 0 xs =
+    subst (λ (n : ℕ). AreSums (four_of ranks n) g 0 xs) place
+    (lane_sums made ranks at l gain g b long is) in
+    let odd : AreSums (four_of ranks (2 * (t % 128) + 1)) (pos 0 -ℤ g) 0 ys =
+    subst (λ (n : ℕ). AreSums (four_of ranks n) (pos 0 -ℤ g) 0 ys) next
+    (lane_sums made' ranks (at + 1) l gain (pos 0 -ℤ g) b long is') in
+    subst (λ (ss : List ℤ). HasPicks ss (unsigned_abs (lane_sum l (four_choices e o)))
+    (picks_by (row_of ranks) g 4 t)) (sym (lane_scores e o l b p q))
+    (subst (λ (c : ℕ). HasPicks (turned_scores 4 xs ys) c (picks_by (row_of ranks) g 4 t))
+    (sym (ap unsigned_abs (lane_choices e o l b p q)))
+    (lane_picks ranks xs ys t g refl refl even odd))

@@ -1,0 +1,12 @@
+use Rattle.std.proofs.Common.{refl}
+use Rattle.viterbi.specs.Lanes.{kinds}
+use Rattle.viterbi.proofs.BlockSteps.{kind_small}
+use Rattle.list_viterbi.proofs.gains.kind_of.Goals as goal
+
+pub returns-clause-value : goal.returns-clause-value
+unfolding kinds
+returns-clause-value c = refl
+
+pub returns-clause-small : goal.returns-clause-small
+unfolding kinds
+returns-clause-small c = kind_small c.args.block c.requires

@@ -1,0 +1,152 @@
+use Rattle.std.proofs.Common.{◌≡◌, ◌+◌, ◌*◌, ◌+ℤ◌, ◌-ℤ◌, arith}
+use Rattle.list_viterbi.proofs.LaneBlocks.{lower_even, lower_odd, upper_even, upper_odd, with_both}
+use Rattle.list_viterbi.proofs.LaneBlocks.{chosen_both, pair_lower, pair_upper, pair_others}
+use Rattle.list_viterbi.proofs.LaneBlocks.{plus_size, minus_size}
+use Rattle.list_viterbi.proofs.LanePairs as pairs
+use Rattle.list_viterbi.proofs.lanes.merge_pair.Goals as goal
+
+pub heads_at-requires-clause-fit : goal.heads_at-requires-clause-fit
+heads_at-requires-clause-fit c =
+    pairs.ranks_fit c.args.ranks.now c.args.gain c.requires.whole c.requires.room
+
+pub raised-lower_even-requires : goal.raised-lower_even-requires
+raised-lower_even-requires c =
+    pairs.raised_fit c.args.ranks.now c.args.gain (4 * c.args.block) c.heads_at.result.0
+    c.requires.long (omega (arith, c.requires.block)) c.requires.room c.heads_at.ensures.even
+
+pub lowered-lower_odd-requires : goal.lowered-lower_odd-requires
+lowered-lower_odd-requires c =
+    pairs.lowered_fit c.args.ranks.now c.args.gain (4 * c.args.block + 1) c.heads_at.result.1
+    c.requires.long (omega (arith, c.requires.block)) c.requires.room c.heads_at.ensures.odd
+
+pub merge_block-requires-clause-even_fit : goal.merge_block-requires-clause-even_fit
+merge_block-requires-clause-even_fit c =
+    pairs.made_heads_fit (λ x y. x +ℤ y) c.args.ranks.now c.args.gain (4 * c.args.block)
+    c.raised-lower_even.result c.requires.long (omega (arith, c.requires.block)) c.requires.room
+    plus_size
+    (pairs.raised_is c.args.ranks.now c.args.gain (4 * c.args.block) c.heads_at.result.0
+    c.raised-lower_even.result c.requires.long c.requires.room c.heads_at.ensures.even
+    c.raised-lower_even.ensures)
+
+pub merge_block-requires-clause-odd_fit : goal.merge_block-requires-clause-odd_fit
+merge_block-requires-clause-odd_fit c =
+    pairs.made_heads_fit (λ x y. x -ℤ y) c.args.ranks.now c.args.gain (4 * c.args.block + 1)
+    c.lowered-lower_odd.result c.requires.long (omega (arith, c.requires.block)) c.requires.room
+    minus_size
+    (pairs.lowered_is c.args.ranks.now c.args.gain (4 * c.args.block + 1) c.heads_at.result.1
+    c.lowered-lower_odd.result c.requires.long c.requires.room c.heads_at.ensures.odd
+    c.lowered-lower_odd.ensures)
+
+pub lowered-upper_even-requires : goal.lowered-upper_even-requires
+lowered-upper_even-requires c =
+    pairs.lowered_fit c.args.ranks.now c.args.gain (4 * c.args.block) c.heads_at.result.0
+    c.requires.long (omega (arith, c.requires.block)) c.requires.room c.heads_at.ensures.even
+
+pub raised-upper_odd-requires : goal.raised-upper_odd-requires
+raised-upper_odd-requires c =
+    pairs.raised_fit c.args.ranks.now c.args.gain (4 * c.args.block + 1) c.heads_at.result.1
+    c.requires.long (omega (arith, c.requires.block)) c.requires.room c.heads_at.ensures.odd
+
+pub merge_block-requires-2-clause-even_fit : goal.merge_block-requires-2-clause-even_fit
+merge_block-requires-2-clause-even_fit c =
+    pairs.made_heads_fit (λ x y. x -ℤ y) c.args.ranks.now c.args.gain (4 * c.args.block)
+    c.lowered-upper_even.result c.requires.long (omega (arith, c.requires.block)) c.requires.room
+    minus_size
+    (pairs.lowered_is c.args.ranks.now c.args.gain (4 * c.args.block) c.heads_at.result.0
+    c.lowered-upper_even.result c.requires.long c.requires.room c.heads_at.ensures.even
+    c.lowered-upper_even.ensures)
+
+pub merge_block-requires-2-clause-odd_fit : goal.merge_block-requires-2-clause-odd_fit
+merge_block-requires-2-clause-odd_fit c =
+    pairs.made_heads_fit (λ x y. x +ℤ y) c.args.ranks.now c.args.gain (4 * c.args.block + 1)
+    c.raised-upper_odd.result c.requires.long (omega (arith, c.requires.block)) c.requires.room
+    plus_size
+    (pairs.raised_is c.args.ranks.now c.args.gain (4 * c.args.block + 1) c.heads_at.result.1
+    c.raised-upper_odd.result c.requires.long c.requires.room c.heads_at.ensures.odd
+    c.raised-upper_odd.ensures)
+
+pub returns-clause-lower : goal.returns-clause-lower
+returns-clause-lower c =
+    let ranks = c.args.ranks.now in
+    let gain = c.args.gain in
+    let block = c.args.block in
+    let next = c.args.next.now in
+    let choices = c.args.choices.now in
+    let le : c.raised-lower_even.result ≡ lower_even ranks gain block =
+    pairs.raised_is ranks gain (4 * block) c.heads_at.result.0 c.raised-lower_even.result
+    c.requires.long c.requires.room c.heads_at.ensures.even c.raised-lower_even.ensures in
+    let lo : c.lowered-lower_odd.result ≡ lower_odd ranks gain block =
+    pairs.lowered_is ranks gain (4 * block + 1) c.heads_at.result.1 c.lowered-lower_odd.result
+    c.requires.long c.requires.room c.heads_at.ensures.odd c.lowered-lower_odd.ensures in
+    let ue : c.lowered-upper_even.result ≡ upper_even ranks gain block =
+    pairs.lowered_is ranks gain (4 * block) c.heads_at.result.0 c.lowered-upper_even.result
+    c.requires.long c.requires.room c.heads_at.ensures.even c.lowered-upper_even.ensures in
+    let uo : c.raised-upper_odd.result ≡ upper_odd ranks gain block =
+    pairs.raised_is ranks gain (4 * block + 1) c.heads_at.result.1 c.raised-upper_odd.result
+    c.requires.long c.requires.room c.heads_at.ensures.odd c.raised-upper_odd.ensures in
+    let row : c.merge_block-2.new.next ≡ with_both ranks gain block next =
+    pairs.both_put ranks gain next c.merge_block.new.next c.merge_block-2.new.next block _ _ _ _ le
+    lo ue uo c.merge_block.ensures.scores c.merge_block-2.ensures.scores in
+    let chosen : c.merge_block-2.new.choices ≡ chosen_both ranks gain block choices =
+    pairs.both_chosen ranks gain choices c.merge_block.new.choices c.merge_block-2.new.choices block
+    _ _ _ _ le lo ue uo c.merge_block.ensures.choices c.merge_block-2.ensures.choices in
+    rw (row, chosen)
+    (pair_lower ranks gain next choices block c.requires.whole_next c.told-choices c.requires.long
+    c.requires.block)
+
+pub returns-clause-upper : goal.returns-clause-upper
+returns-clause-upper c =
+    let ranks = c.args.ranks.now in
+    let gain = c.args.gain in
+    let block = c.args.block in
+    let next = c.args.next.now in
+    let choices = c.args.choices.now in
+    let le : c.raised-lower_even.result ≡ lower_even ranks gain block =
+    pairs.raised_is ranks gain (4 * block) c.heads_at.result.0 c.raised-lower_even.result
+    c.requires.long c.requires.room c.heads_at.ensures.even c.raised-lower_even.ensures in
+    let lo : c.lowered-lower_odd.result ≡ lower_odd ranks gain block =
+    pairs.lowered_is ranks gain (4 * block + 1) c.heads_at.result.1 c.lowered-lower_odd.result
+    c.requires.long c.requires.room c.heads_at.ensures.odd c.lowered-lower_odd.ensures in
+    let ue : c.lowered-upper_even.result ≡ upper_even ranks gain block =
+    pairs.lowered_is ranks gain (4 * block) c.heads_at.result.0 c.lowered-upper_even.result
+    c.requires.long c.requires.room c.heads_at.ensures.even c.lowered-upper_even.ensures in
+    let uo : c.raised-upper_odd.result ≡ upper_odd ranks gain block =
+    pairs.raised_is ranks gain (4 * block + 1) c.heads_at.result.1 c.raised-upper_odd.result
+    c.requires.long c.requires.room c.heads_at.ensures.odd c.raised-upper_odd.ensures in
+    let row : c.merge_block-2.new.next ≡ with_both ranks gain block next =
+    pairs.both_put ranks gain next c.merge_block.new.next c.merge_block-2.new.next block _ _ _ _ le
+    lo ue uo c.merge_block.ensures.scores c.merge_block-2.ensures.scores in
+    let chosen : c.merge_block-2.new.choices ≡ chosen_both ranks gain block choices =
+    pairs.both_chosen ranks gain choices c.merge_block.new.choices c.merge_block-2.new.choices block
+    _ _ _ _ le lo ue uo c.merge_block.ensures.choices c.merge_block-2.ensures.choices in
+    rw (row, chosen)
+    (pair_upper ranks gain next choices block c.requires.whole_next c.told-choices c.requires.long
+    c.requires.block)
+
+pub returns-clause-others : goal.returns-clause-others
+returns-clause-others c =
+    let ranks = c.args.ranks.now in
+    let gain = c.args.gain in
+    let block = c.args.block in
+    let next = c.args.next.now in
+    let choices = c.args.choices.now in
+    let le : c.raised-lower_even.result ≡ lower_even ranks gain block =
+    pairs.raised_is ranks gain (4 * block) c.heads_at.result.0 c.raised-lower_even.result
+    c.requires.long c.requires.room c.heads_at.ensures.even c.raised-lower_even.ensures in
+    let lo : c.lowered-lower_odd.result ≡ lower_odd ranks gain block =
+    pairs.lowered_is ranks gain (4 * block + 1) c.heads_at.result.1 c.lowered-lower_odd.result
+    c.requires.long c.requires.room c.heads_at.ensures.odd c.lowered-lower_odd.ensures in
+    let ue : c.lowered-upper_even.result ≡ upper_even ranks gain block =
+    pairs.lowered_is ranks gain (4 * block) c.heads_at.result.0 c.lowered-upper_even.result
+    c.requires.long c.requires.room c.heads_at.ensures.even c.lowered-upper_even.ensures in
+    let uo : c.raised-upper_odd.result ≡ upper_odd ranks gain block =
+    pairs.raised_is ranks gain (4 * block + 1) c.heads_at.result.1 c.raised-upper_odd.result
+    c.requires.long c.requires.room c.heads_at.ensures.odd c.raised-upper_odd.ensures in
+    let row : c.merge_block-2.new.next ≡ with_both ranks gain block next =
+    pairs.both_put ranks gain next c.merge_block.new.next c.merge_block-2.new.next block _ _ _ _ le
+    lo ue uo c.merge_block.ensures.scores c.merge_block-2.ensures.scores in
+    let chosen : c.merge_block-2.new.choices ≡ chosen_both ranks gain block choices =
+    pairs.both_chosen ranks gain choices c.merge_block.new.choices c.merge_block-2.new.choices block
+    _ _ _ _ le lo ue uo c.merge_block.ensures.choices c.merge_block-2.ensures.choices in
+    rw (row, chosen)
+    (pair_others ranks gain next choices block c.requires.long c.requires.block)

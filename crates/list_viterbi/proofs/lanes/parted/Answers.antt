@@ -1,0 +1,27 @@
+use Rattle.std.proofs.Common.{◌+◌, ◌∙◌, arith}
+use Rattle.list_viterbi.proofs.Pairings.{lane_read, two_are, read_at}
+use Rattle.list_viterbi.proofs.lanes.parted.Goals as goal
+
+pub returns-clause-even : goal.returns-clause-even
+returns-clause-even c =
+    let row = c.args.ranks.now in
+    let at = c.args.at in
+    two_are
+    (lane_read row at 0 c.requires.room (omega arith)
+    (c.requires.fit _ (omega (arith, c.requires.room)))
+    ∙ read_at row (at + 0) (at) (omega arith))
+    (lane_read row at 2 c.requires.room (omega arith)
+    (c.requires.fit _ (omega (arith, c.requires.room)))
+    ∙ read_at row (at + 2) (at + 2) (omega arith))
+
+pub returns-clause-odd : goal.returns-clause-odd
+returns-clause-odd c =
+    let row = c.args.ranks.now in
+    let at = c.args.at in
+    two_are
+    (lane_read row at 1 c.requires.room (omega arith)
+    (c.requires.fit _ (omega (arith, c.requires.room)))
+    ∙ read_at row (at + 1) (at + 1) (omega arith))
+    (lane_read row at 3 c.requires.room (omega arith)
+    (c.requires.fit _ (omega (arith, c.requires.room)))
+    ∙ read_at row (at + 3) (at + 1 + 2) (omega arith))

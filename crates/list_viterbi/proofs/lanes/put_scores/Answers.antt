@@ -1,0 +1,26 @@
+use Rattle.std.proofs.Common.{◌∙◌, w64}
+use Rattle.std.proofs.lemmas.Int.{to_z-of_z}
+use mir.Val.{SFits}
+use Rattle.list_viterbi.proofs.RowLayouts.{four_here, four_read}
+use Rattle.list_viterbi.proofs.lanes.put_scores.Goals as goal
+
+pub returns-clause-here : goal.returns-clause-here
+returns-clause-here c =
+    let first = c.get.result in
+    let second = c.get-2.result in
+    let third = c.get-3.result in
+    let fourth = c.get-4.result in
+    let fits : SFits w64 first = record { sfits = c.get.type_inv } in
+    let fits2 : SFits w64 second = record { sfits = c.get-2.type_inv } in
+    let fits3 : SFits w64 third = record { sfits = c.get-3.type_inv } in
+    let fits4 : SFits w64 fourth = record { sfits = c.get-4.type_inv } in
+    rw (
+      to_z-of_z w64 first fits,
+      to_z-of_z w64 second fits2,
+      to_z-of_z w64 third fits3,
+      to_z-of_z w64 fourth fits4,
+    )
+    (four_here c.args.ranks.now c.args.state first second third fourth c.requires.whole
+    c.requires.state
+    ∙ four_read c.args.scores.now first second third fourth c.requires.four c.get.ensures.value
+    c.get-2.ensures.value c.get-3.ensures.value c.get-4.ensures.value)

@@ -1,0 +1,9 @@
+use Rattle.std.proofs.Common.{◌≡◌, ◌<◌, ℕ, [], length, get_or}
+use Rattle.list_viterbi.specs.Heads.{four_of}
+use Rattle.list_viterbi.proofs.lanes.scores_of.Given as goal
+
+abbrev pub invariant-loop-state : goal.invariant-loop-state
+invariant-loop-state l = record {
+  whole : length l.row ≡ 256;
+  each : (t : ℕ) → t < l.state → get_or l.row t [] ≡ four_of l.ranks t;
+}

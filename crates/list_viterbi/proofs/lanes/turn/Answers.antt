@@ -1,0 +1,129 @@
+use Rattle.std.proofs.Common.{[], ◌∷◌, pos, rules, FitsSigned, w64}
+use Rattle.list_viterbi.proofs.LaneChoices.{handed, chosen_is, heads_are}
+use Rattle.viterbi.proofs.Blocks.{kept}
+use Rattle.list_viterbi.proofs.lanes.turn.Goals as goal
+
+pub chosen-score-requires-clause-even_fit : goal.chosen-score-requires-clause-even_fit
+chosen-score-requires-clause-even_fit c = handed _ c.requires.even_fit.first
+
+pub chosen-score-requires-clause-odd_fit : goal.chosen-score-requires-clause-odd_fit
+chosen-score-requires-clause-odd_fit c = handed _ c.requires.odd_fit.first
+
+pub chosen-score-requires-clause-first_fit : goal.chosen-score-requires-clause-first_fit
+chosen-score-requires-clause-first_fit c = handed _ c.requires.even_fit.first
+
+pub chosen-score-requires-clause-second_fit : goal.chosen-score-requires-clause-second_fit
+chosen-score-requires-clause-second_fit c = handed _ c.requires.odd_fit.first
+
+pub chosen-choice-requires-clause-even_fit : goal.chosen-choice-requires-clause-even_fit
+chosen-choice-requires-clause-even_fit c = handed _ c.requires.even_fit.first
+
+pub chosen-choice-requires-clause-odd_fit : goal.chosen-choice-requires-clause-odd_fit
+chosen-choice-requires-clause-odd_fit c = handed _ c.requires.odd_fit.first
+
+pub chosen-requires-clause-even_fit : goal.chosen-requires-clause-even_fit
+chosen-requires-clause-even_fit c = handed _ c.requires.even_fit.first
+
+pub chosen-requires-clause-odd_fit : goal.chosen-requires-clause-odd_fit
+chosen-requires-clause-odd_fit c = handed _ c.requires.odd_fit.first
+
+pub chosen-requires-clause-first_fit : goal.chosen-requires-clause-first_fit
+chosen-requires-clause-first_fit c = handed _ c.requires.even_fit.second
+
+pub chosen-requires-clause-second_fit : goal.chosen-requires-clause-second_fit
+chosen-requires-clause-second_fit c = handed _ c.requires.even_fit.first
+
+pub chosen-requires-2-clause-even_fit : goal.chosen-requires-2-clause-even_fit
+chosen-requires-2-clause-even_fit c = handed _ c.requires.even_fit.first
+
+pub chosen-requires-2-clause-odd_fit : goal.chosen-requires-2-clause-odd_fit
+chosen-requires-2-clause-odd_fit c = handed _ c.requires.odd_fit.first
+
+pub chosen-requires-2-clause-first_fit : goal.chosen-requires-2-clause-first_fit
+chosen-requires-2-clause-first_fit c = handed _ c.requires.even_fit.third
+
+pub chosen-requires-2-clause-second_fit : goal.chosen-requires-2-clause-second_fit
+chosen-requires-2-clause-second_fit c = handed _ c.requires.even_fit.second
+
+pub chosen-requires-3-clause-even_fit : goal.chosen-requires-3-clause-even_fit
+chosen-requires-3-clause-even_fit c = handed _ c.requires.even_fit.first
+
+pub chosen-requires-3-clause-odd_fit : goal.chosen-requires-3-clause-odd_fit
+chosen-requires-3-clause-odd_fit c = handed _ c.requires.odd_fit.first
+
+pub chosen-requires-3-clause-first_fit : goal.chosen-requires-3-clause-first_fit
+chosen-requires-3-clause-first_fit c = handed _ c.requires.even_fit.fourth
+
+pub chosen-requires-3-clause-second_fit : goal.chosen-requires-3-clause-second_fit
+chosen-requires-3-clause-second_fit c = handed _ c.requires.even_fit.third
+
+pub chosen-requires-4-clause-even_fit : goal.chosen-requires-4-clause-even_fit
+chosen-requires-4-clause-even_fit c = handed _ c.requires.even_fit.first
+
+pub chosen-requires-4-clause-odd_fit : goal.chosen-requires-4-clause-odd_fit
+chosen-requires-4-clause-odd_fit c = handed _ c.requires.odd_fit.first
+
+pub chosen-requires-4-clause-first_fit : goal.chosen-requires-4-clause-first_fit
+chosen-requires-4-clause-first_fit c = handed _ c.requires.odd_fit.first
+
+pub chosen-requires-4-clause-second_fit : goal.chosen-requires-4-clause-second_fit
+chosen-requires-4-clause-second_fit c = handed _ c.requires.odd_fit.second
+
+pub chosen-requires-5-clause-even_fit : goal.chosen-requires-5-clause-even_fit
+chosen-requires-5-clause-even_fit c = handed _ c.requires.even_fit.first
+
+pub chosen-requires-5-clause-odd_fit : goal.chosen-requires-5-clause-odd_fit
+chosen-requires-5-clause-odd_fit c = handed _ c.requires.odd_fit.first
+
+pub chosen-requires-5-clause-first_fit : goal.chosen-requires-5-clause-first_fit
+chosen-requires-5-clause-first_fit c = handed _ c.requires.odd_fit.second
+
+pub chosen-requires-5-clause-second_fit : goal.chosen-requires-5-clause-second_fit
+chosen-requires-5-clause-second_fit c = handed _ c.requires.odd_fit.third
+
+pub chosen-requires-6-clause-even_fit : goal.chosen-requires-6-clause-even_fit
+chosen-requires-6-clause-even_fit c = handed _ c.requires.even_fit.first
+
+pub chosen-requires-6-clause-odd_fit : goal.chosen-requires-6-clause-odd_fit
+chosen-requires-6-clause-odd_fit c = handed _ c.requires.odd_fit.first
+
+pub chosen-requires-6-clause-first_fit : goal.chosen-requires-6-clause-first_fit
+chosen-requires-6-clause-first_fit c = handed _ c.requires.odd_fit.third
+
+pub chosen-requires-6-clause-second_fit : goal.chosen-requires-6-clause-second_fit
+chosen-requires-6-clause-second_fit c = handed _ c.requires.odd_fit.fourth
+
+pub returns-clause-score : goal.returns-clause-score
+returns-clause-score c =
+    chosen_is c.chosen-score.result _ _ _ _ c.requires.even_fit.first c.requires.odd_fit.first c.requires.even_fit.first c.requires.odd_fit.first
+    c.chosen-score.ensures
+
+pub returns-clause-choice : goal.returns-clause-choice
+returns-clause-choice c =
+    let fits : FitsSigned w64 c.args.weight = c.ranges.weight in
+    let zero : FitsSigned w64 (pos 0) = search rules in
+    chosen_is c.chosen-choice.result _ _ (pos 0 ∷ pos 0 ∷ []) (c.args.weight ∷ c.args.weight ∷ [])
+    c.requires.even_fit.first c.requires.odd_fit.first (zero, (zero, tt)) (fits, (fits, tt))
+    c.chosen-choice.ensures
+
+pub returns-clause-even : goal.returns-clause-even
+returns-clause-even c =
+    heads_are
+    (chosen_is c.chosen.result _ _ _ _ c.requires.even_fit.first c.requires.odd_fit.first c.requires.even_fit.second c.requires.even_fit.first
+    c.chosen.ensures)
+    (chosen_is c.chosen-2.result _ _ _ _ c.requires.even_fit.first c.requires.odd_fit.first c.requires.even_fit.third c.requires.even_fit.second
+    c.chosen-2.ensures)
+    (chosen_is c.chosen-3.result _ _ _ _ c.requires.even_fit.first c.requires.odd_fit.first c.requires.even_fit.fourth c.requires.even_fit.third
+    c.chosen-3.ensures)
+    (kept c.args.even.now.fourth c.requires.even_fit.fourth)
+
+pub returns-clause-odd : goal.returns-clause-odd
+returns-clause-odd c =
+    heads_are
+    (chosen_is c.chosen-4.result _ _ _ _ c.requires.even_fit.first c.requires.odd_fit.first c.requires.odd_fit.first c.requires.odd_fit.second
+    c.chosen-4.ensures)
+    (chosen_is c.chosen-5.result _ _ _ _ c.requires.even_fit.first c.requires.odd_fit.first c.requires.odd_fit.second c.requires.odd_fit.third
+    c.chosen-5.ensures)
+    (chosen_is c.chosen-6.result _ _ _ _ c.requires.even_fit.first c.requires.odd_fit.first c.requires.odd_fit.third c.requires.odd_fit.fourth
+    c.chosen-6.ensures)
+    (kept c.args.odd.now.fourth c.requires.odd_fit.fourth)
