@@ -1,4 +1,8 @@
+pub mod FrameTexts
+pub mod HeardSlots
 pub mod Prefixes
+pub mod SlotFrames
+pub mod SlotPages
 pub mod TunedFrames
 pub mod TunedMarks
 pub mod TunedTexts

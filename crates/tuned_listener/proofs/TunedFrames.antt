@@ -2,7 +2,7 @@
 use Rattle.std.proofs.Common.{◌≡◌, ℕ, zero, suc, ◌+◌, ◌*◌, ◌≤◌, ◌&&◌, Bool, true, false, List}
 use Rattle.std.proofs.Common.{[], ◌∷◌, ◌++◌, map, filter, length, take, drop, refl, sym, ap, ◌∙◌, subst}
 use Rattle.std.proofs.Common.{arith, inl, inr, nat_le, Option, None, Some, append-nil, append_assoc, take-add}
-use Rattle.std.proofs.Common.{length-append, flat_map}
+use Rattle.std.proofs.Common.{length-append}
 use Rattle.std.specs.Io.{StartsWith}
 use Rattle.std.specs.Io.KnownBytes.{Appends}
 use Rattle.std.specs.List.{range_with_len}
@@ -11,7 +11,6 @@ use Rattle.std.proofs.KnownBytes.{Appends-nil, Appends-trans}
 use Rattle.std.proofs.lemmas.Bool.{and_from, and_parts, cases_Bool, false_from_ne_true, le-leb}
 use Rattle.std.proofs.lemmas.Bool.{leb-true}
 use Rattle.std.proofs.lemmas.List.{map-append, take-append-drop, take_all, take_at}
-use Rattle.std.proofs.lemmas.List.Concat.{flat_map-append}
 use Rattle.chip_core.specs.Bits.{places}
 use Rattle.chip_core.specs.declared.sample.Sample.{Sample}
 use Rattle.chip_core.proofs.Ranges as ranges
@@ -32,8 +31,13 @@ use Rattle.mobile_core.specs.declared.tuner.Tuner.{Tuner}
 use Rattle.mobile_core.specs.declared.tuner.TunerStep.{TunerStep}
 use Rattle.mobile_core.proofs.FrameTimes.{known_between, known_le}
 use Rattle.mobile_core.proofs.FramesGiven.{form_by, frames_of_first}
+use Rattle.tuned_listener.proofs.FrameTexts.{kept_behind, kept_behind_none, kept_behind_one}
+use Rattle.tuned_listener.proofs.FrameTexts.{text_of_none, text_of_one, texts_joined}
 use Rattle.tuned_listener.proofs.Prefixes.{begins_more, prefix_before, prefix_behind, taken_begins}
-use Rattle.tuned_listener.specs.TunedTexts.{WritesFrames, WritesFramesPart, frame_text, text_from}
+use Rattle.tuned_listener.specs.FrameWriting.{HoldsFrames, WritesFrames, WritesFramesPart}
+use Rattle.tuned_listener.specs.Slots.{slot_behind, slot_more}
+use Rattle.tuned_listener.specs.TunedTexts.{frame_text, frames_text, text_from}
+use Rattle.tuned_listener.specs.declared.frame_writer.FrameWriter.{FrameWriter}
 use Rattle.tuned_listener.specs.declared.tuned_text.TunedText.{TunedText}
 
 -- ---- frames go on
@@ -136,10 +140,11 @@ module _ (t : Tuning) (channel : Channel) (m : Mark) {low : ℕ}
   pub text_goes_on : (form : TunedText) (xs ys : List Sample) → (rest : List ℕ)
       × (text_from form t channel m (xs ++ ys) ≡ text_from form t channel m xs ++ rest)
   text_goes_on form xs ys =
-      let (frames, more) = frames_go_on xs ys in (
-        flat_map (frame_text form) frames,
-        ap (flat_map (frame_text form)) more
-            ∙ flat_map-append (frame_text form) (soft_frames t channel m xs) frames,
+      let (frames, more) = frames_go_on xs ys in
+      let first = soft_frames t channel m xs in (
+        frames_text form t.check30 m (slot_behind [] first) frames,
+        ap (frames_text form t.check30 m []) more
+            ∙ texts_joined form t.check30 m [] first frames,
       )
 
 -- ---- writing
@@ -152,120 +157,176 @@ step_joined heard samples next taken n left =
     ∙ append_assoc heard (take taken samples) (take n (drop taken samples))
     ∙ ap (λ (xs : List Sample). heard ++ xs) (sym (take-add taken n samples))
 
+-- what a writer keeps of a slot behind these samples
+abbrev kept_of : Tuning → Channel → Mark → List Sample → List SoftFrame
+kept_of t channel m heard = slot_behind [] (soft_frames t channel m heard)
+
+-- the text of the frame that is shown behind those
+abbrev shown_text : TunedText → Tuning → Channel → Mark → List Sample → Option SoftFrame → List ℕ
+shown_text form t channel m heard shown =
+    frames_text form t.check30 m (kept_of t channel m heard) (option_to_list shown)
+
+-- what it keeps then
+abbrev kept_with : Tuning → Channel → Mark → List Sample → Option SoftFrame → List SoftFrame
+kept_with t channel m heard shown =
+    slot_behind (kept_of t channel m heard) (option_to_list shown)
+
 module _ (t : Tuning) (channel : Channel) (m : Mark) (form : TunedText) where
   -- nothing was taken
-  pub writes_none : (tuner : Tuner) (heard samples : List Sample) (old : Option (List ℕ)) →
-      IsTunedTo t channel m tuner heard →
-      WritesFrames t channel m form tuner heard (heard ++ take 0 samples) old old
-  writes_none tuner heard samples old tuned = record {
+  pub writes_none : (tuner : Tuner) (writer : FrameWriter) (heard samples : List Sample)
+      (old : Option (List ℕ)) → IsTunedTo t channel m tuner heard →
+      HoldsFrames writer t.check30 (kept_of t channel m heard) →
+      WritesFrames t channel m form tuner writer heard (heard ++ take 0 samples) old old
+  writes_none tuner writer heard samples old tuned holds = record {
     text = [];
     written = Appends-nil old;
     all = append-nil (text_from form t channel m heard)
         ∙ ap (text_from form t channel m) (sym (append-nil heard));
     tuned = subst (IsTunedTo t channel m tuner) (sym (append-nil heard)) tuned;
+    holds = subst (λ (xs : List Sample). HoldsFrames writer t.check30 (kept_of t channel m xs))
+        (sym (append-nil heard)) holds;
   }
 
-  -- the text of what a step gives
-  pub frame_written : (shown : Option SoftFrame) (frame : SoftFrame) (old new : Option (List ℕ)) →
-      shown ≡ Some frame → Appends old new (frame_text form frame) →
-      Appends old new (flat_map (frame_text form) (option_to_list shown))
-  frame_written shown frame old new is written =
-      subst (λ (x : Option SoftFrame). Appends old new
-      (flat_map (frame_text form) (option_to_list x))) (sym is)
-      (subst (Appends old new) (sym (append-nil (frame_text form frame))) written)
+  module _ (heard : List Sample) (shown : Option SoftFrame) where
+    -- the text of what a step gives
+    pub frame_written : (frame : SoftFrame) (old new : Option (List ℕ)) → shown ≡ Some frame →
+        Appends old new (frame_text form t.check30 m
+        (slot_more (kept_of t channel m heard) frame) frame) →
+        Appends old new (shown_text form t channel m heard shown)
+    frame_written frame old new is written =
+        subst (λ (x : Option SoftFrame). Appends old new (shown_text form t channel m heard x))
+        (sym is)
+        (subst (Appends old new)
+        (sym (text_of_one form t.check30 m (kept_of t channel m heard) frame)) written)
 
-  pub frame_cut : (shown : Option SoftFrame) (frame : SoftFrame) (old new : Option (List ℕ)) →
-      shown ≡ Some frame → AppendsPrefix old new (frame_text form frame) →
-      AppendsPrefix old new (flat_map (frame_text form) (option_to_list shown))
-  frame_cut shown frame old new is part =
-      subst (λ (x : Option SoftFrame). AppendsPrefix old new
-      (flat_map (frame_text form) (option_to_list x))) (sym is)
-      (subst (AppendsPrefix old new) (sym (append-nil (frame_text form frame))) part)
+    pub frame_cut : (frame : SoftFrame) (old new : Option (List ℕ)) → shown ≡ Some frame →
+        AppendsPrefix old new (frame_text form t.check30 m
+        (slot_more (kept_of t channel m heard) frame) frame) →
+        AppendsPrefix old new (shown_text form t channel m heard shown)
+    frame_cut frame old new is part =
+        subst (λ (x : Option SoftFrame). AppendsPrefix old new
+        (shown_text form t channel m heard x)) (sym is)
+        (subst (AppendsPrefix old new)
+        (sym (text_of_one form t.check30 m (kept_of t channel m heard) frame)) part)
 
-  pub none_written : (shown : Option SoftFrame) (old : Option (List ℕ)) → shown ≡ None →
-      Appends old old (flat_map (frame_text form) (option_to_list shown))
-  none_written shown old is =
-      subst (λ (x : Option SoftFrame). Appends old old
-      (flat_map (frame_text form) (option_to_list x))) (sym is) (Appends-nil old)
+    pub none_written : (old : Option (List ℕ)) → shown ≡ None →
+        Appends old old (shown_text form t channel m heard shown)
+    none_written old is =
+        subst (λ (x : Option SoftFrame). Appends old old (shown_text form t channel m heard x))
+        (sym is)
+        (subst (Appends old old)
+        (sym (text_of_none form t.check30 m (kept_of t channel m heard))) (Appends-nil old))
 
-  module _ (one other : Tuner) (heard samples next : List Sample) (taken : ℕ) (step : TunerStep)
-      (old mid new : Option (List ℕ)) (left : next ≡ drop taken samples)
-      (does : IsTunerStep one other next step)
-      (so_far : WritesFrames t channel m form one heard (heard ++ take taken samples) old mid) where
-    -- the samples that were taken then
-    joined : (heard ++ take taken samples) ++ take step.taken next
-        ≡ heard ++ take (taken + step.taken) samples
-    joined = step_joined heard samples next taken step.taken left
+    -- what a writer keeps of a slot then
+    pub frame_kept : (frame : SoftFrame) (writer : FrameWriter) → shown ≡ Some frame →
+        HoldsFrames writer t.check30 (slot_more (kept_of t channel m heard) frame) →
+        HoldsFrames writer t.check30 (kept_with t channel m heard shown)
+    frame_kept frame writer is =
+        subst (HoldsFrames writer t.check30)
+        (sym (ap (kept_with t channel m heard) is
+        ∙ kept_behind_one (kept_of t channel m heard) frame))
 
-    tuned : IsTunedTo t channel m other (heard ++ take (taken + step.taken) samples)
-    tuned =
-        subst (IsTunedTo t channel m other) joined
-        (does.stands t channel m (heard ++ take taken samples) so_far.tuned)
+    pub none_kept : (writer : FrameWriter) → shown ≡ None →
+        HoldsFrames writer t.check30 (kept_of t channel m heard) →
+        HoldsFrames writer t.check30 (kept_with t channel m heard shown)
+    none_kept writer is =
+        subst (HoldsFrames writer t.check30)
+        (sym (ap (kept_with t channel m heard) is
+        ∙ kept_behind_none (kept_of t channel m heard)))
 
-    -- the text of a step's frame
-    step_text : text_from form t channel m heard
-        ++ (so_far.text ++ flat_map (frame_text form) (option_to_list step.frame))
-        ≡ text_from form t channel m (heard ++ take (taken + step.taken) samples)
-    step_text =
-        let text = flat_map (frame_text form) (option_to_list step.frame) in
-        let now = heard ++ take taken samples in
-        sym (append_assoc (text_from form t channel m heard) so_far.text text)
-        ∙ ap (λ (bytes : List ℕ). bytes ++ text) so_far.all
-        ∙ sym (flat_map-append (frame_text form) (soft_frames t channel m now)
-        (option_to_list step.frame))
-        ∙ ap (flat_map (frame_text form)) (sym (does.gives t channel m now so_far.tuned))
-        ∙ ap (text_from form t channel m) joined
+  module _ (one other : Tuner) (writer : FrameWriter) (heard samples next : List Sample)
+      (taken : ℕ) (step : TunerStep) (old mid new : Option (List ℕ))
+      (left : next ≡ drop taken samples) (does : IsTunerStep one other next step)
+      (so_far : WritesFrames t channel m form one writer heard (heard ++ take taken samples) old mid)
+    where
+      abbrev so_many : List Sample
+      so_many = heard ++ take taken samples
 
-    -- it was written
-    pub writes_more : Appends mid new (flat_map (frame_text form) (option_to_list step.frame)) →
-        WritesFrames t channel m form other heard (heard ++ take (taken + step.taken) samples) old
-        new
-    writes_more written =
-        let text = flat_map (frame_text form) (option_to_list step.frame) in
-        record {
-          text = so_far.text ++ text;
-          written = Appends-trans old mid new so_far.text text so_far.written written;
-          all = step_text;
-          tuned = tuned;
-        }
+      -- the samples that were taken then
+      joined : so_many ++ take step.taken next ≡ heard ++ take (taken + step.taken) samples
+      joined = step_joined heard samples next taken step.taken left
 
-    -- a write failed in the middle of it
-    pub writes_part : AppendsPrefix mid new
-        (flat_map (frame_text form) (option_to_list step.frame)) →
-        WritesFramesPart t channel m form heard (heard ++ samples) old new
-    writes_part part =
-        let now = heard ++ take (taken + step.taken) samples in
-        let last = drop (taken + step.taken) samples in
-        let text = flat_map (frame_text form) (option_to_list step.frame) in
-        let (rest, later) =
-        text_goes_on t channel m tuned.given.clocked.timed form now last in
-        let whole_samples : now ++ last ≡ heard ++ samples =
-        append_assoc heard (take (taken + step.taken) samples) last
-        ∙ ap (λ (xs : List Sample). heard ++ xs) (take-append-drop (taken + step.taken) samples) in
-        let before = text_from form t channel m heard in
-        let all = so_far.text ++ (text ++ rest) in
-        let whole : text_from form t channel m (heard ++ samples) ≡ before ++ all =
-        ap (text_from form t channel m) (sym whole_samples)
-        ∙ later
-        ∙ ap (λ (bytes : List ℕ). bytes ++ rest) (sym step_text)
-        ∙ append_assoc before (so_far.text ++ text) rest
-        ∙ ap (λ (bytes : List ℕ). before ++ bytes) (append_assoc so_far.text text rest) in
-        let cut : AppendsPrefix old new all =
-        prefix_behind old mid new so_far.text (text ++ rest) so_far.written
-        (prefix_before mid new text rest part) in
-        record {
-          text = take cut.count all;
-          written = cut.appended;
-          begins = subst (λ (bytes : List ℕ). StartsWith bytes (before ++ take cut.count all))
-              (sym whole)
-              (begins_more before all (take cut.count all) (taken_begins all cut.count cut.fits));
-        }
+      tuned : IsTunedTo t channel m other (heard ++ take (taken + step.taken) samples)
+      tuned = subst (IsTunedTo t channel m other) joined (does.stands t channel m so_many so_far.tuned)
+
+      -- the frames that have ended then
+      frames_then : soft_frames t channel m (heard ++ take (taken + step.taken) samples)
+          ≡ soft_frames t channel m so_many ++ option_to_list step.frame
+      frames_then =
+          ap (soft_frames t channel m) (sym joined) ∙ does.gives t channel m so_many so_far.tuned
+
+      -- the text of a step's frame
+      step_text : text_from form t channel m heard
+          ++ (so_far.text ++ shown_text form t channel m so_many step.frame)
+          ≡ text_from form t channel m (heard ++ take (taken + step.taken) samples)
+      step_text =
+          let text = shown_text form t channel m so_many step.frame in
+          sym (append_assoc (text_from form t channel m heard) so_far.text text)
+          ∙ ap (λ (bytes : List ℕ). bytes ++ text) so_far.all
+          ∙ sym (texts_joined form t.check30 m [] (soft_frames t channel m so_many)
+          (option_to_list step.frame))
+          ∙ ap (frames_text form t.check30 m []) (sym frames_then)
+
+      -- what is kept of a slot behind it
+      step_kept : kept_with t channel m so_many step.frame
+          ≡ kept_of t channel m (heard ++ take (taken + step.taken) samples)
+      step_kept =
+          sym (kept_behind [] (soft_frames t channel m so_many) (option_to_list step.frame))
+          ∙ ap (slot_behind []) (sym frames_then)
+
+      -- it was written
+      pub writes_more : (writer' : FrameWriter) →
+          Appends mid new (shown_text form t channel m so_many step.frame) →
+          HoldsFrames writer' t.check30 (kept_with t channel m so_many step.frame) →
+          WritesFrames t channel m form other writer' heard
+          (heard ++ take (taken + step.taken) samples) old new
+      writes_more writer' written holds =
+          let text = shown_text form t channel m so_many step.frame in
+          record {
+            text = so_far.text ++ text;
+            written = Appends-trans old mid new so_far.text text so_far.written written;
+            all = step_text;
+            tuned = tuned;
+            holds = subst (HoldsFrames writer' t.check30) step_kept holds;
+          }
+
+      -- a write failed in the middle of it
+      pub writes_part : AppendsPrefix mid new (shown_text form t channel m so_many step.frame) →
+          WritesFramesPart t channel m form heard (heard ++ samples) old new
+      writes_part part =
+          let now = heard ++ take (taken + step.taken) samples in
+          let last = drop (taken + step.taken) samples in
+          let text = shown_text form t channel m so_many step.frame in
+          let (rest, later) =
+          text_goes_on t channel m tuned.given.clocked.timed form now last in
+          let whole_samples : now ++ last ≡ heard ++ samples =
+          append_assoc heard (take (taken + step.taken) samples) last
+          ∙ ap (λ (xs : List Sample). heard ++ xs) (take-append-drop (taken + step.taken) samples) in
+          let before = text_from form t channel m heard in
+          let all = so_far.text ++ (text ++ rest) in
+          let whole : text_from form t channel m (heard ++ samples) ≡ before ++ all =
+          ap (text_from form t channel m) (sym whole_samples)
+          ∙ later
+          ∙ ap (λ (bytes : List ℕ). bytes ++ rest) (sym step_text)
+          ∙ append_assoc before (so_far.text ++ text) rest
+          ∙ ap (λ (bytes : List ℕ). before ++ bytes) (append_assoc so_far.text text rest) in
+          let cut : AppendsPrefix old new all =
+          prefix_behind old mid new so_far.text (text ++ rest) so_far.written
+          (prefix_before mid new text rest part) in
+          record {
+            text = take cut.count all;
+            written = cut.appended;
+            begins = subst (λ (bytes : List ℕ). StartsWith bytes (before ++ take cut.count all))
+                (sym whole)
+                (begins_more before all (take cut.count all) (taken_begins all cut.count cut.fits));
+          }
 
   -- all samples were taken
-  pub writes_all : (tuner : Tuner) (heard samples : List Sample) (taken : ℕ)
+  pub writes_all : (tuner : Tuner) (writer : FrameWriter) (heard samples : List Sample) (taken : ℕ)
       (old new : Option (List ℕ)) → length samples ≤ taken →
-      WritesFrames t channel m form tuner heard (heard ++ take taken samples) old new →
-      WritesFrames t channel m form tuner heard (heard ++ samples) old new
-  writes_all tuner heard samples taken old new most =
-      subst (λ (xs : List Sample). WritesFrames t channel m form tuner heard (heard ++ xs) old new)
+      WritesFrames t channel m form tuner writer heard (heard ++ take taken samples) old new →
+      WritesFrames t channel m form tuner writer heard (heard ++ samples) old new
+  writes_all tuner writer heard samples taken old new most =
+      subst (λ (xs : List Sample). WritesFrames t channel m form tuner writer heard (heard ++ xs)
+      old new)
       (take_all taken samples most)

@@ -1,60 +1,70 @@
 -- A listener, and what it writes, where samples are taken.
 use Rattle.std.proofs.Common.{◌≡◌, ℕ, ◌+◌, true, List, [], ◌∷◌, ◌++◌, length, take, drop, refl, sym, ap, ◌∙◌}
-use Rattle.std.proofs.Common.{Option, None, Some, append-nil, append_assoc, arith, subst}
+use Rattle.std.proofs.Common.{Option, None, Some, append-nil, append_assoc, arith, subst, ◌*◌, ◌<◌, ◌≤◌}
+use Rattle.std.proofs.Common.{sum_by, unsigned_abs}
 use Rattle.std.specs.Io.{StartsWith}
 use Rattle.std.specs.Prelude.{is_some}
 use Rattle.std.proofs.KnownBytes.{Appends-nil}
 use Rattle.std.proofs.lemmas.List.{take-append-drop, take_all}
+use Rattle.chip_core.specs.declared.check_form.CheckForm.{CheckForm}
 use Rattle.chip_core.specs.declared.sample.Sample.{Sample}
 use Rattle.pilot_search.specs.declared.paths.Near.{Near}
 use Rattle.mobile_core.specs.Channels.{IsLawful}
 use Rattle.mobile_core.specs.Marks.{mark}
+use Rattle.mobile_core.specs.Near.{AreNear}
 use Rattle.mobile_core.specs.SoftFrames.{soft_frames}
+use Rattle.mobile_core.specs.Softs.{frame_most}
 use Rattle.mobile_core.specs.Tuners.{IsTunedTo}
-use Rattle.mobile_core.specs.Tuning.{Tuning}
+use Rattle.mobile_core.specs.Tuning.{Tuning, sync_stream}
 use Rattle.mobile_core.specs.declared.channel.Channel.{Channel}
 use Rattle.mobile_core.specs.declared.channel.Channel.TheVariants.{Paging, Traffic}
 use Rattle.mobile_core.specs.declared.mark.Mark.{Mark}
 use Rattle.mobile_core.specs.declared.mobile.Mobile.{Mobile}
+use Rattle.mobile_core.specs.declared.soft_frame.SoftFrame.{SoftFrame}
 use Rattle.mobile_core.specs.declared.tuner.Tuner.{Tuner}
-use Rattle.tuned_listener.specs.FrameWriting.{IsReady, text_of}
+use Rattle.tuned_listener.specs.FrameWriting.{HoldsFrames, IsReady, WritesFrames, WritesFramesPart}
+use Rattle.tuned_listener.specs.FrameWriting.{text_of}
 use Rattle.tuned_listener.specs.Marking.{ListensAhead}
 use Rattle.tuned_listener.specs.TunedListening.{ListensBehind, ListensFrom, ListensTuned, TellsTuned}
 use Rattle.tuned_listener.specs.TunedListening.{TellsTunedPart}
-use Rattle.tuned_listener.specs.TunedTexts.{WritesFrames, WritesFramesPart, text_from}
-use Rattle.tuned_listener.specs.TunedTexts.{tuned_text}
+use Rattle.tuned_listener.specs.SlotWriting.{IsReadyForSlots}
+use Rattle.tuned_listener.specs.Slots.{slot_behind}
+use Rattle.tuned_listener.specs.TunedTexts.{behind_mark, frames_from, text_from, tuned_text}
 use Rattle.tuned_listener.specs.declared.frame_writer.FrameWriter.{FrameWriter}
 use Rattle.tuned_listener.specs.declared.frame_writer.FrameWriter.TheVariants as writers
+use Rattle.tuned_listener.specs.declared.slot_writer.SlotWriter.{SlotWriter}
+use Rattle.tuned_listener.specs.declared.tuned.Behind.{Behind}
 use Rattle.tuned_listener.specs.declared.tuned.TunedListener.{TunedListener}
 use Rattle.tuned_listener.specs.declared.tuned_text.TunedText.{TunedText}
-use Rattle.tuned_listener.proofs.TunedMarks.{mark_kept, there_le}
+use Rattle.tuned_listener.proofs.FrameTexts.{kept_behind_none}
+use Rattle.tuned_listener.proofs.TunedMarks.{mark_kept, none_marked, there_eq, there_le}
 use Rattle.tuned_listener.proofs.TunedTexts.{text_at_mark, text_marked, text_unmarked}
 
 -- ---- who listens
 
 module _ (t : Tuning) (channel : Channel) (heard : List Sample) where
   -- a receiver of frames listens alone
-  receiver_parts : (ahead : Option Mobile) (tuner : Tuner) →
-      ListensFrom t channel ahead (Some tuner) heard →
-      (ahead ≡ None) × ListensBehind t channel tuner heard
-  receiver_parts None tuner from = (refl, from)
-  receiver_parts (Some mobile) tuner from = absurd from
+  receiver_parts : (ahead : Option Mobile) (b : Behind) →
+      ListensFrom t channel ahead (Some b) heard →
+      (ahead ≡ None) × ListensBehind t channel b heard
+  receiver_parts None b from = (refl, from)
+  receiver_parts (Some mobile) b from = absurd from
 
-  pub behind_alone : (ahead : Option Mobile) (behind : Option Tuner) (tuner : Tuner) →
-      behind ≡ Some tuner → ListensFrom t channel ahead behind heard →
-      (ahead ≡ None) × ListensBehind t channel tuner heard
-  behind_alone ahead behind tuner is from =
-      receiver_parts ahead tuner
-      (subst (λ (b : Option Tuner). ListensFrom t channel ahead b heard) is from)
+  pub behind_alone : (ahead : Option Mobile) (behind : Option Behind) (b : Behind) →
+      behind ≡ Some b → ListensFrom t channel ahead behind heard →
+      (ahead ≡ None) × ListensBehind t channel b heard
+  behind_alone ahead behind b is from =
+      receiver_parts ahead b
+      (subst (λ (x : Option Behind). ListensFrom t channel ahead x heard) is from)
 
   -- and so does a handset
-  handset_parts : (behind : Option Tuner) (mobile : Mobile) →
+  handset_parts : (behind : Option Behind) (mobile : Mobile) →
       ListensFrom t channel (Some mobile) behind heard →
       (behind ≡ None) × ListensAhead t mobile heard
   handset_parts None mobile from = (refl, from)
-  handset_parts (Some tuner) mobile from = absurd from
+  handset_parts (Some b) mobile from = absurd from
 
-  pub handset_alone : (ahead : Option Mobile) (behind : Option Tuner) (mobile : Mobile) →
+  pub handset_alone : (ahead : Option Mobile) (behind : Option Behind) (mobile : Mobile) →
       ahead ≡ Some mobile → ListensFrom t channel ahead behind heard →
       (behind ≡ None) × ListensAhead t mobile heard
   handset_alone ahead behind mobile is from =
@@ -62,42 +72,99 @@ module _ (t : Tuning) (channel : Channel) (heard : List Sample) where
       (subst (λ (a : Option Mobile). ListensFrom t channel a behind heard) is from)
 
   -- without a receiver a handset listens
-  pub ahead_alone : (ahead : Option Mobile) (behind : Option Tuner) → behind ≡ None →
+  pub ahead_alone : (ahead : Option Mobile) (behind : Option Behind) → behind ≡ None →
       ListensFrom t channel ahead behind heard → is_some ahead ≡ true
   ahead_alone (Some mobile) behind is from = refl
   ahead_alone None None is from = absurd from
-  ahead_alone None (Some tuner) is from = absurd (cc)
+  ahead_alone None (Some b) is from = absurd (cc)
+
+-- ---- the frames behind the mark
+
+module _ (t : Tuning) (channel : Channel) (heard : List Sample) where
+  -- there are none before the mark
+  pub frames_unmarked : mark t heard (length heard) ≡ None → behind_mark t channel heard ≡ []
+  frames_unmarked none = ap (frames_from t channel heard) none
+
+  -- and behind it those from there on
+  pub frames_marked : (m : Mark) → mark t heard (length heard) ≡ Some m →
+      behind_mark t channel heard ≡ soft_frames t channel m heard
+  frames_marked m is = ap (frames_from t channel heard) is
+
+-- a writer keeps nothing before any sample is taken
+pub holds_nothing : (t : Tuning) (channel : Channel) (writer : FrameWriter) (check : CheckForm) →
+    AreNear (sync_stream t).fingers → t.check30 ≡ check → HoldsFrames writer check [] →
+    HoldsFrames writer t.check30 (slot_behind [] (behind_mark t channel []))
+holds_nothing t channel writer check near same holds =
+    subst (HoldsFrames writer t.check30)
+    (sym (ap (slot_behind []) (frames_unmarked t channel [] (none_marked t near))
+    ∙ kept_behind_none []))
+    (subst (λ (c : CheckForm). HoldsFrames writer c []) (sym same) holds)
 
 module _ (t : Tuning) (channel : Channel) (form : TunedText) (l : TunedListener)
     (heard : List Sample) (is : ListensTuned t channel form l heard) where
   -- another takes its place, on the same channel
   pub listens_on : (l' : TunedListener) (heard' : List Sample) → l'.phase ≡ l.phase →
       l'.near ≡ l.near → l'.channel ≡ l.channel → text_of l'.writer ≡ text_of l.writer →
+      HoldsFrames l'.writer t.check30 (slot_behind [] (behind_mark t channel heard')) →
       ListensFrom t channel l'.ahead l'.behind heard' → ListensTuned t channel form l' heard'
-  listens_on l' heard' phase near same text from = record {
+  listens_on l' heard' phase near same text holds from = record {
     phase_is = is.phase_is ∙ sym phase;
     deltas_are = is.deltas_are ∙ ap (λ (paths : Near). take paths.count paths.deltas) (sym near);
     channel_is = same ∙ is.channel_is;
     form_is = text ∙ is.form_is;
     close = is.close;
+    holds = holds;
     listens = from;
   }
 
+  -- what the writer keeps doesn't change where the frames behind the mark are the same
+  pub holds_on : (heard' : List Sample) → behind_mark t channel heard' ≡ behind_mark t channel heard →
+      HoldsFrames l.writer t.check30 (slot_behind [] (behind_mark t channel heard'))
+  holds_on heard' same =
+      subst (λ (fs : List SoftFrame). HoldsFrames l.writer t.check30 (slot_behind [] fs)) (sym same)
+      is.holds
+
+  -- a handset hears on ahead of the mark
+  pub listens_ahead : (l' : TunedListener) (mobile : Mobile) (samples : List Sample) (taken : ℕ) →
+      taken ≡ length samples → l'.phase ≡ l.phase → l'.near ≡ l.near → l'.channel ≡ l.channel →
+      l'.writer ≡ l.writer → l'.ahead ≡ Some mobile → l'.behind ≡ None →
+      mark t heard (length heard) ≡ None → ListensAhead t mobile (heard ++ samples) →
+      ListensTuned t channel form l' (heard ++ take taken samples)
+  listens_ahead l' mobile samples taken all phase near same writer ahead behind unmarked hears =
+      let now = heard ++ samples in
+      let joined : heard ++ take taken samples ≡ now =
+      ap (λ (xs : List Sample). heard ++ xs) (take_all taken samples (omega (arith, all))) in
+      let silent = frames_unmarked t channel now hears.unmarked
+      ∙ sym (frames_unmarked t channel heard unmarked) in
+      subst (ListensTuned t channel form l') (sym joined)
+      (listens_on l' now phase near same (ap text_of writer)
+      (subst (λ (w : FrameWriter). HoldsFrames w t.check30 (slot_behind [] (behind_mark t channel now)))
+      (sym writer) (holds_on now silent))
+      (subst (λ (a : Option Mobile). ListensFrom t channel a l'.behind now) (sym ahead)
+      (subst (λ (b : Option Behind). ListensFrom t channel (Some mobile) b now) (sym behind) hears)))
+
   -- a receiver of frames takes the place of a handset where the mark is set
-  pub listens_behind : (l' : TunedListener) (tuner : Tuner) (m : Mark) (heard' : List Sample) →
-      l'.phase ≡ l.phase → l'.near ≡ l.near → l'.channel ≡ l.channel → text_of l'.writer ≡ text_of l.writer →
-      l'.ahead ≡ None → l'.behind ≡ Some tuner → mark t heard' (length heard') ≡ Some m →
-      IsTunedTo t l.channel m tuner heard' → ListensTuned t channel form l' heard'
-  listens_behind l' tuner m heard' phase near same text ahead behind marked tuned =
-      let there : ListensFrom t channel None (Some tuner) heard' =
+  pub listens_behind : (l' : TunedListener) (b : Behind) (heard' : List Sample) →
+      l'.phase ≡ l.phase → l'.near ≡ l.near → l'.channel ≡ l.channel → l'.writer ≡ l.writer →
+      l'.ahead ≡ None → l'.behind ≡ Some b → mark t heard (length heard) ≡ None →
+      mark t heard' (length heard') ≡ Some b.mark →
+      soft_frames t l.channel b.mark heard' ≡ [] →
+      IsTunedTo t l.channel b.mark b.tuner heard' → ListensTuned t channel form l' heard'
+  listens_behind l' b heard' phase near same writer ahead behind unmarked marked none tuned =
+      let there : ListensFrom t channel None (Some b) heard' =
       record {
-        at_mark = m;
         marked = marked;
-        tuned = subst (λ (c : Channel). IsTunedTo t c m tuner heard') is.channel_is tuned;
+        tuned = subst (λ (c : Channel). IsTunedTo t c b.mark b.tuner heard') is.channel_is tuned;
       } in
-      listens_on l' heard' phase near same text
+      let silent : behind_mark t channel heard' ≡ behind_mark t channel heard =
+      frames_marked t channel heard' b.mark marked
+      ∙ subst (λ (c : Channel). soft_frames t c b.mark heard' ≡ []) is.channel_is none
+      ∙ sym (frames_unmarked t channel heard unmarked) in
+      listens_on l' heard' phase near same (ap text_of writer)
+      (subst (λ (w : FrameWriter). HoldsFrames w t.check30
+      (slot_behind [] (behind_mark t channel heard'))) (sym writer) (holds_on heard' silent))
       (subst (λ (a : Option Mobile). ListensFrom t channel a l'.behind heard') (sym ahead)
-      (subst (λ (b : Option Tuner). ListensFrom t channel None b heard') (sym behind) there))
+      (subst (λ (x : Option Behind). ListensFrom t channel None x heard') (sym behind) there))
 
   -- no frame has ended there
   pub silent_at_mark : (m : Mark) (heard' : List Sample) → mark t heard (length heard) ≡ None →
@@ -133,6 +200,20 @@ lawful_channel (Traffic traffic) is =
       there_le traffic.offset 15 is (λ x. x.1),
     )
 
+there_small : (slots : SlotWriter) → ∥ IsReadyForSlots slots ∥₁ → (frame : ℕ) → frame < slots.kept →
+    sum_by unsigned_abs (take 384 (drop (384 * frame) slots.softs)) ≤ frame_most
+there_small slots is frame inside =
+    there_le (sum_by unsigned_abs (take 384 (drop (384 * frame) slots.softs))) frame_most is
+    (λ x. x.small frame inside)
+
+ready_slots : (slots : SlotWriter) → ∥ IsReadyForSlots slots ∥₁ → IsReadyForSlots slots
+ready_slots slots is = record {
+  decodes = there_eq slots.decoder 576 is (λ x. x.decodes);
+  few = there_le slots.kept 4 is (λ x. x.few);
+  lawful = there_le slots.cycle 7 is (λ x. x.lawful);
+  small = there_small slots is;
+}
+
 pub ready_writer : (writer : FrameWriter) → ∥ IsReady writer ∥₁ → IsReady writer
 ready_writer (writers.RateSetTwo decoder) is = there_le 288 decoder is (λ x. x)
 ready_writer (writers.Listed decoder k) is = (
@@ -140,30 +221,47 @@ ready_writer (writers.Listed decoder k) is = (
   there_le 1 k is (λ x. x.1),
   there_le k 16 is (λ x. x.2),
 )
+ready_writer (writers.Slots slots) is = ready_slots slots is
 
 -- ---- behind the mark
 
 module _ (t : Tuning) (channel : Channel) (form : TunedText) (l : TunedListener)
     (heard samples : List Sample) (old new : Option (List ℕ))
     (is : ListensTuned t channel form l heard) where
-  module _ (tuner : Tuner) (here : l.behind ≡ Some tuner) where
+  module _ (b : Behind) (here : l.behind ≡ Some b) where
+    from : ListensBehind t channel b heard
+    from = (behind_alone t channel heard l.ahead l.behind b here is.listens).1
+
+    abbrev now : List Sample
+    now = heard ++ samples
+
+    marked : mark t now (length now) ≡ Some b.mark
+    marked = mark_kept t is.close heard samples b.mark from.marked
+
+    -- what the writer keeps, by the frames from the mark on
+    pub keeps_behind : HoldsFrames l.writer t.check30
+        (slot_behind [] (soft_frames t channel b.mark heard))
+    keeps_behind =
+        subst (λ (fs : List SoftFrame). HoldsFrames l.writer t.check30 (slot_behind [] fs))
+        (frames_marked t channel heard b.mark from.marked) is.holds
+
     -- the frames were written
     pub tells_behind : (l' : TunedListener) (tuner' : Tuner) → l'.phase ≡ l.phase →
-        l'.near ≡ l.near → l'.channel ≡ l.channel → text_of l'.writer ≡ text_of l.writer → l'.ahead ≡ l.ahead →
-        l'.behind ≡ Some tuner' →
-        ((t : Tuning) (channel : Channel) (m : Mark) (heard : List Sample) →
-        IsTunedTo t channel m tuner heard →
-        WritesFrames t channel m (text_of l.writer) tuner' heard (heard ++ samples) old new) →
+        l'.near ≡ l.near → l'.channel ≡ l.channel → text_of l'.writer ≡ text_of l.writer →
+        l'.ahead ≡ l.ahead → l'.behind ≡ Some (record { mark = b.mark; tuner = tuner' }) →
+        ((t : Tuning) (channel : Channel) (heard : List Sample) →
+        IsTunedTo t channel b.mark b.tuner heard →
+        HoldsFrames l.writer t.check30 (slot_behind [] (soft_frames t channel b.mark heard)) →
+        WritesFrames t channel b.mark (text_of l.writer) tuner' l'.writer heard (heard ++ samples)
+        old new) →
         TellsTuned t channel form l' heard (heard ++ samples) old new
     tells_behind l' tuner' phase near same text ahead behind writes =
-        let (none, from) = behind_alone t channel heard l.ahead l.behind tuner here is.listens in
-        let m = from.at_mark in
-        let now = heard ++ samples in
-        let marked = mark_kept t is.close heard samples m from.marked in
-        let wrote = subst (λ (f : TunedText). WritesFrames t channel m f tuner' heard now old new)
-        is.form_is (writes t channel m heard from.tuned) in
-        let there : ListensFrom t channel None (Some tuner') now =
-        record { at_mark = m; marked = marked; tuned = wrote.tuned } in
+        let m = b.mark in
+        let none = (behind_alone t channel heard l.ahead l.behind b here is.listens).0 in
+        let wrote = subst (λ (f : TunedText). WritesFrames t channel m f tuner' l'.writer heard now
+        old new) is.form_is (writes t channel heard from.tuned keeps_behind) in
+        let there : ListensFrom t channel None (Some (record { mark = m; tuner = tuner' })) now =
+        record { marked = marked; tuned = wrote.tuned } in
         record {
           text = wrote.text;
           written = wrote.written;
@@ -173,23 +271,23 @@ module _ (t : Tuning) (channel : Channel) (form : TunedText) (l : TunedListener)
               ∙ sym (text_marked form t channel now m marked);
           listens =
               listens_on t channel form l heard is l' now phase near same text
+              (subst (λ (fs : List SoftFrame). HoldsFrames l'.writer t.check30 (slot_behind [] fs))
+              (sym (frames_marked t channel now m marked)) wrote.holds)
               (subst (λ (a : Option Mobile). ListensFrom t channel a l'.behind now)
               (sym (ahead ∙ none))
-              (subst (λ (b : Option Tuner). ListensFrom t channel None b now) (sym behind) there));
+              (subst (λ (x : Option Behind). ListensFrom t channel None x now) (sym behind) there));
         }
 
     -- a write failed
-    pub tells_cut : ((t : Tuning) (channel : Channel) (m : Mark) (heard : List Sample) →
-        IsTunedTo t channel m tuner heard →
-        WritesFramesPart t channel m (text_of l.writer) heard (heard ++ samples) old new) →
+    pub tells_cut : ((t : Tuning) (channel : Channel) (heard : List Sample) →
+        IsTunedTo t channel b.mark b.tuner heard →
+        HoldsFrames l.writer t.check30 (slot_behind [] (soft_frames t channel b.mark heard)) →
+        WritesFramesPart t channel b.mark (text_of l.writer) heard (heard ++ samples) old new) →
         TellsTunedPart t channel form heard (heard ++ samples) old new
     tells_cut writes =
-        let from = (behind_alone t channel heard l.ahead l.behind tuner here is.listens).1 in
-        let m = from.at_mark in
-        let now = heard ++ samples in
-        let marked = mark_kept t is.close heard samples m from.marked in
+        let m = b.mark in
         let wrote = subst (λ (f : TunedText). WritesFramesPart t channel m f heard now old new)
-        is.form_is (writes t channel m heard from.tuned) in
+        is.form_is (writes t channel heard from.tuned keeps_behind) in
         record {
           text = wrote.text;
           written = wrote.written;
@@ -210,10 +308,10 @@ none_left (x ∷ xs) h = absurd (omega (arith, h))
 pub tells_nothing : (t : Tuning) (channel : Channel) (form : TunedText) (l l' : TunedListener)
     (heard samples : List Sample) (old : Option (List ℕ)) → ListensTuned t channel form l heard →
     l.behind ≡ None → (is_some l.ahead ≡ true → length samples ≡ 0) → l'.phase ≡ l.phase →
-    l'.near ≡ l.near → l'.channel ≡ l.channel → text_of l'.writer ≡ text_of l.writer →
+    l'.near ≡ l.near → l'.channel ≡ l.channel → l'.writer ≡ l.writer →
     ListensFrom t channel l'.ahead l'.behind heard →
     TellsTuned t channel form l' heard (heard ++ samples) old old
-tells_nothing t channel form l l' heard samples old is none empty phase near same text from =
+tells_nothing t channel form l l' heard samples old is none empty phase near same writer from =
     let left = none_left samples (empty (ahead_alone t channel heard l.ahead l.behind none is.listens))
     in
     let now : heard ++ samples ≡ heard =
@@ -222,8 +320,11 @@ tells_nothing t channel form l l' heard samples old is none empty phase near sam
       text = [];
       written = Appends-nil old;
       all = append-nil (tuned_text form t channel heard) ∙ ap (tuned_text form t channel) (sym now);
-      listens = listens_on t channel form l heard is l' (heard ++ samples) phase near same text
-          (subst (ListensFrom t channel l'.ahead l'.behind) (sym now) from);
+      listens = subst (ListensTuned t channel form l') (sym now)
+          (listens_on t channel form l heard is l' heard phase near same (ap text_of writer)
+          (subst (λ (w : FrameWriter). HoldsFrames w t.check30
+          (slot_behind [] (behind_mark t channel heard))) (sym writer) is.holds)
+          from);
     }
 
 -- ---- samples ahead of the mark, and those behind it

@@ -37,6 +37,13 @@ there_le a b there follows =
       | inr le ↦ le
     ]
 
+-- and an equation of numbers
+pub there_eq : {P : Type 0} (a b : ℕ) → ∥ P ∥₁ → (P → a ≡ b) → a ≡ b
+there_eq a b there follows =
+    let le = there_le a b there (λ p. let is = follows p in omega (arith, is)) in
+    let ge = there_le b a there (λ p. let is = follows p in omega (arith, is)) in
+    omega (arith, le, ge)
+
 -- ---- the mark of samples
 
 -- a handset's fingers are near

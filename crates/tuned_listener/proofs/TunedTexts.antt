@@ -1,6 +1,6 @@
 -- The text of a channel's frames, as samples go on.
 use Rattle.std.proofs.Common.{◌≡◌, ℕ, List, [], ◌++◌, length, refl, sym, ap, ◌∙◌, Option, Some}
-use Rattle.std.proofs.Common.{None, subst, flat_map}
+use Rattle.std.proofs.Common.{None, subst}
 use Rattle.std.specs.Io.{StartsWith}
 use Rattle.chip_core.specs.declared.sample.Sample.{Sample}
 use Rattle.mobile_core.specs.Channels.{channel_stream}
@@ -14,30 +14,33 @@ use Rattle.mobile_core.specs.declared.channel.Channel.TheVariants.{Paging, Traff
 use Rattle.mobile_core.specs.declared.mark.Mark.{Mark}
 use Rattle.mobile_core.proofs.FingerTimes.{timed_in}
 use Rattle.mobile_core.proofs.MarkStays.{paging_near}
+pub use Rattle.tuned_listener.proofs.FrameTexts.{listed_texts, rate2_texts, texts_by_frame}
+use Rattle.tuned_listener.proofs.FrameTexts.{text_of_none}
 use Rattle.tuned_listener.proofs.Prefixes.{front_begins}
 use Rattle.tuned_listener.proofs.TunedFrames.{text_goes_on}
 use Rattle.tuned_listener.proofs.TunedMarks.{mark_kept, none_marked}
-use Rattle.tuned_listener.specs.TunedTexts.{frame_text, frames_from, text_from, tuned_text}
+use Rattle.tuned_listener.specs.TunedTexts.{frames_text, text_behind, text_from, tuned_text}
 use Rattle.tuned_listener.specs.declared.tuned_text.TunedText.{TunedText}
 
 module _ (form : TunedText) (t : Tuning) (channel : Channel) (heard : List Sample) where
   -- there is none before the mark
   pub text_unmarked : mark t heard (length heard) ≡ None → tuned_text form t channel heard ≡ []
   unfolding tuned_text
-  text_unmarked none =
-      ap (λ (m : Option Mark). flat_map (frame_text form) (frames_from t channel heard m)) none
+  text_unmarked none = ap (text_behind form t channel heard) none
 
   -- and behind it that of the frames from there on
   pub text_marked : (m : Mark) → mark t heard (length heard) ≡ Some m →
       tuned_text form t channel heard ≡ text_from form t channel m heard
   unfolding tuned_text
-  text_marked m is =
-      ap (λ (m' : Option Mark). flat_map (frame_text form) (frames_from t channel heard m')) is
+  text_marked m is = ap (text_behind form t channel heard) is
 
   -- where the mark is set no frame has ended
   pub text_at_mark : (m : Mark) → mark t heard (length heard) ≡ Some m →
       soft_frames t channel m heard ≡ [] → tuned_text form t channel heard ≡ []
-  text_at_mark m is none = text_marked m is ∙ ap (flat_map (frame_text form)) none
+  text_at_mark m is none =
+      text_marked m is
+      ∙ ap (frames_text form t.check30 m []) none
+      ∙ text_of_none form t.check30 m []
 
 module _ (t : Tuning) (near : AreNear (sync_stream t).fingers) where
   -- a channel's fingers are as near as those of the sync channel

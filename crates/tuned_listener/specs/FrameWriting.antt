@@ -1,21 +1,63 @@
--- What writes the text of a channel's frames.
-use Rattle.std.specs.Prelude.{◌≤◌}
+-- What writes the text of a channel's frames, and how far it has come.
+use Rattle.std.specs.Prelude.{◌≡◌, ◌≤◌, ℕ, List, [], ◌++◌, Option}
+use Rattle.std.specs.Io.{StartsWith}
+use Rattle.std.specs.Io.KnownBytes.{Appends}
+use Rattle.chip_core.specs.declared.check_form.CheckForm.{CheckForm}
+use Rattle.chip_core.specs.declared.sample.Sample.{Sample}
+use Rattle.mobile_core.specs.SoftFrames.{soft_frames}
+use Rattle.mobile_core.specs.Tuners.{IsTunedTo}
+use Rattle.mobile_core.specs.Tuning.{Tuning}
+use Rattle.mobile_core.specs.declared.channel.Channel.{Channel}
+use Rattle.mobile_core.specs.declared.mark.Mark.{Mark}
+use Rattle.mobile_core.specs.declared.soft_frame.SoftFrame.{SoftFrame}
+use Rattle.mobile_core.specs.declared.tuner.Tuner.{Tuner}
+use Rattle.tuned_listener.specs.SlotWriting.{HoldsSlot, IsReadyForSlots}
+use Rattle.tuned_listener.specs.Slots.{slot_behind}
+use Rattle.tuned_listener.specs.TunedTexts.{text_from}
 use Rattle.tuned_listener.specs.declared.frame_writer.FrameWriter.{FrameWriter}
 use Rattle.tuned_listener.specs.declared.frame_writer.FrameWriter.TheVariants as writers
 use Rattle.tuned_listener.specs.declared.tuned_text.TunedText.{TunedText}
-use Rattle.tuned_listener.specs.declared.tuned_text.TunedText.TheVariants.{Listed, RateSetTwo}
+use Rattle.tuned_listener.specs.declared.tuned_text.TunedText.TheVariants.{Listed, RateSetTwo, Slots}
 
 -- which text it writes
 abbrev pub text_of : FrameWriter → TunedText
 text_of (writers.RateSetTwo decoder) = RateSetTwo
 text_of (writers.Listed decoder k) = Listed k
+text_of (writers.Slots slots) = Slots slots.key slots.cycle
 
--- its decoder takes a frame, and lists from 1 to 16 words
+-- its decoder takes a frame, and lists from 1 to 16 words; or it is ready for slots
 abbrev pub IsReady : FrameWriter → Type 0
 IsReady (writers.RateSetTwo decoder) = 288 ≤ decoder
 IsReady (writers.Listed decoder k) = (192 ≤ decoder) × (1 ≤ k) × (k ≤ 16)
+IsReady (writers.Slots slots) = IsReadyForSlots slots
 
 -- which texts there are
 abbrev pub IsLawfulText : TunedText → Type 0
 IsLawfulText RateSetTwo = Unit {0}
 IsLawfulText (Listed k) = (1 ≤ k) × (k ≤ 16)
+IsLawfulText (Slots key cycle) = cycle ≤ 7
+
+-- where it hears slots it does by this check, and keeps these frames of a slot
+abbrev pub HoldsFrames : FrameWriter → CheckForm → List SoftFrame → Type 0
+HoldsFrames (writers.RateSetTwo decoder) check slot = Unit {0}
+HoldsFrames (writers.Listed decoder k) check slot = Unit {0}
+HoldsFrames (writers.Slots slots) check slot = (slots.check ≡ check) × HoldsSlot slots slot
+
+-- A receiver has taken these samples behind those, a sink got the text of the frames that end within
+-- them, and the writer keeps what they leave of a slot.
+pub record WritesFrames (t : Tuning) (channel : Channel) (m : Mark) (form : TunedText)
+    (tuner : Tuner) (writer : FrameWriter) (before heard : List Sample) (old new : Option (List ℕ))
+    : Type 0 where
+  pub text : List ℕ
+  pub written : Appends old new text
+  pub all : text_from form t channel m before ++ text ≡ text_from form t channel m heard
+  pub tuned : IsTunedTo t channel m tuner heard
+  pub holds : HoldsFrames writer t.check30 (slot_behind [] (soft_frames t channel m heard))
+
+-- a sink got a beginning of that text
+pub record WritesFramesPart (t : Tuning) (channel : Channel) (m : Mark) (form : TunedText)
+    (before heard : List Sample) (old new : Option (List ℕ)) : Type 0 where
+  pub text : List ℕ
+  pub written : Appends old new text
+  pub begins : StartsWith (text_from form t channel m heard)
+      (text_from form t channel m before ++ text)

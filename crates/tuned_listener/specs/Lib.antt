@@ -1,5 +1,7 @@
 pub mod FrameWriting
 pub mod Marking
+pub mod SlotWriting
+pub mod Slots
 pub mod SoundListener
 pub mod TunedListening
 pub mod TunedTexts

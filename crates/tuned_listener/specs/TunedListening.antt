@@ -1,5 +1,5 @@
 -- Who hears the frames of one channel.
-use Rattle.std.specs.Prelude.{◌≡◌, ℕ, List, ◌++◌, length, take, Option, None, Some}
+use Rattle.std.specs.Prelude.{◌≡◌, ℕ, List, [], ◌++◌, length, take, Option, None, Some}
 use Rattle.std.specs.Io.{StartsWith}
 use Rattle.std.specs.Io.KnownBytes.{Appends}
 use Rattle.chip_core.specs.declared.sample.Sample.{Sample}
@@ -9,27 +9,26 @@ use Rattle.mobile_core.specs.Standing.{has_room}
 use Rattle.mobile_core.specs.Tuners.{IsTunedTo, samples_left}
 use Rattle.mobile_core.specs.Tuning.{Tuning, sync_stream}
 use Rattle.mobile_core.specs.declared.channel.Channel.{Channel}
-use Rattle.mobile_core.specs.declared.mark.Mark.{Mark}
 use Rattle.mobile_core.specs.declared.mobile.Mobile.{Mobile}
-use Rattle.mobile_core.specs.declared.tuner.Tuner.{Tuner}
-use Rattle.tuned_listener.specs.FrameWriting.{text_of}
+use Rattle.tuned_listener.specs.FrameWriting.{HoldsFrames, text_of}
 use Rattle.tuned_listener.specs.Marking.{ListensAhead}
-use Rattle.tuned_listener.specs.TunedTexts.{tuned_text}
+use Rattle.tuned_listener.specs.Slots.{slot_behind}
+use Rattle.tuned_listener.specs.TunedTexts.{behind_mark, tuned_text}
+use Rattle.tuned_listener.specs.declared.tuned.Behind.{Behind}
 use Rattle.tuned_listener.specs.declared.tuned.TunedListener.{TunedListener}
 use Rattle.tuned_listener.specs.declared.tuned_text.TunedText.{TunedText}
 
 -- a receiver has taken these samples, which set the mark that it is behind
-pub record ListensBehind (t : Tuning) (channel : Channel) (tuner : Tuner) (heard : List Sample)
+pub record ListensBehind (t : Tuning) (channel : Channel) (b : Behind) (heard : List Sample)
     : Type 0 where
-  pub at_mark : Mark
-  pub marked : mark t heard (length heard) ≡ Some at_mark
-  pub tuned : IsTunedTo t channel at_mark tuner heard
+  pub marked : mark t heard (length heard) ≡ Some b.mark
+  pub tuned : IsTunedTo t channel b.mark b.tuner heard
 
 -- the one or the other
-abbrev pub ListensFrom : Tuning → Channel → Option Mobile → Option Tuner → List Sample → Type 0
+abbrev pub ListensFrom : Tuning → Channel → Option Mobile → Option Behind → List Sample → Type 0
 ListensFrom t channel (Some mobile) None heard = ListensAhead t mobile heard
-ListensFrom t channel None (Some tuner) heard = ListensBehind t channel tuner heard
-ListensFrom t channel (Some mobile) (Some tuner) heard = ⊥
+ListensFrom t channel None (Some b) heard = ListensBehind t channel b heard
+ListensFrom t channel (Some mobile) (Some b) heard = ⊥
 ListensFrom t channel None None heard = ⊥
 
 -- A listener for this text of this channel has taken these samples of a file, and written the lines
@@ -41,12 +40,13 @@ pub record ListensTuned (t : Tuning) (channel : Channel) (form : TunedText) (l :
   pub channel_is : l.channel ≡ channel
   pub form_is : text_of l.writer ≡ form
   pub close : AreNear (sync_stream t).fingers
+  pub holds : HoldsFrames l.writer t.check30 (slot_behind [] (behind_mark t channel heard))
   pub listens : ListensFrom t channel l.ahead l.behind heard
 
 -- how many samples of the file are left to whom
-abbrev pub room_of : Option Mobile → Option Tuner → ℕ
+abbrev pub room_of : Option Mobile → Option Behind → ℕ
 room_of (Some mobile) behind = has_room mobile
-room_of None (Some tuner) = samples_left tuner
+room_of None (Some b) = samples_left b.tuner
 room_of None None = 0
 
 -- how many samples of the file are left to it

@@ -1,8 +1,6 @@
 -- What is written of the frames of one channel behind the mark.
-use Rattle.std.specs.Prelude.{◌≡◌, ◌≤◌, ℕ, Bool, List, [], ◌++◌, length, ℤ, Option, None, Some}
-use Rattle.std.specs.List.{flat_map}
-use Rattle.std.specs.Io.{StartsWith}
-use Rattle.std.specs.Io.KnownBytes.{Appends}
+use Rattle.std.specs.Prelude.{◌≤◌, ℕ, Bool, List, [], ◌∷◌, ◌++◌, length, ℤ, Option, None, Some}
+use Rattle.chip_core.specs.declared.check_form.CheckForm.{CheckForm}
 use Rattle.chip_core.specs.declared.sample.Sample.{Sample}
 use Rattle.event_tap.specs.FrameLines.{frame2_line, frame_line}
 use Rattle.frame_decoder.specs.declared.traffic.Decoded.{Decoded}
@@ -11,15 +9,14 @@ use Rattle.rate_set_two.specs.TrafficFrames.{decoded2}
 use Rattle.mobile_core.specs.Channels.{IsLawful}
 use Rattle.mobile_core.specs.Marks.{mark}
 use Rattle.mobile_core.specs.SoftFrames.{soft_frames}
-use Rattle.mobile_core.specs.Tuners.{IsTunedTo}
 use Rattle.mobile_core.specs.Tuning.{Tuning}
 use Rattle.mobile_core.specs.declared.channel.Channel.{Channel}
 use Rattle.mobile_core.specs.declared.mark.Mark.{Mark}
 use Rattle.mobile_core.specs.declared.soft_frame.PowerControl.{PowerControl}
 use Rattle.mobile_core.specs.declared.soft_frame.SoftFrame.{SoftFrame}
-use Rattle.mobile_core.specs.declared.tuner.Tuner.{Tuner}
+use Rattle.tuned_listener.specs.Slots.{slot_more, slot_text}
 use Rattle.tuned_listener.specs.declared.tuned_text.TunedText.{TunedText}
-use Rattle.tuned_listener.specs.declared.tuned_text.TunedText.TheVariants.{Listed, RateSetTwo}
+use Rattle.tuned_listener.specs.declared.tuned_text.TunedText.TheVariants.{Listed, RateSetTwo, Slots}
 
 -- ---- the frames behind the mark, and their text
 
@@ -50,39 +47,36 @@ listed_text k place turned None = []
 listed_text k place turned (Some power) =
     decoded_line place (listed k power.replaced turned) power.commands
 
--- what is written of a frame
-abbrev pub frame_text : TunedText → SoftFrame → List ℕ
-frame_text RateSetTwo frame = rate2_text frame.end frame.turned frame.power
-frame_text (Listed k) frame = listed_text k frame.end frame.turned frame.power
+-- what is written of a frame, where these are the frames of its slot up to it
+abbrev pub frame_text : TunedText → CheckForm → Mark → List SoftFrame → SoftFrame → List ℕ
+frame_text RateSetTwo check m slot frame = rate2_text frame.end frame.turned frame.power
+frame_text (Listed k) check m slot frame = listed_text k frame.end frame.turned frame.power
+frame_text (Slots key cycle) check m slot frame = slot_text key cycle check m slot frame
 
--- what is written of all frames that end within these samples
+-- what is written of frames in order, where these of a slot are kept from those before
+unfoldable pub frames_text : TunedText → CheckForm → Mark → List SoftFrame → List SoftFrame → List ℕ
+frames_text form check m kept [] = []
+frames_text form check m kept (frame ∷ frames) =
+    let slot = slot_more kept frame in
+    frame_text form check m slot frame ++ frames_text form check m slot frames
+
+-- the text of the frames behind a mark
+abbrev pub text_from : TunedText → Tuning → Channel → Mark → List Sample → List ℕ
+text_from form t channel m samples =
+    frames_text form t.check30 m [] (soft_frames t channel m samples)
+
+-- the same where none may be set
+abbrev pub text_behind : TunedText → Tuning → Channel → List Sample → Option Mark → List ℕ
+text_behind form t channel samples None = []
+text_behind form t channel samples (Some m) = text_from form t channel m samples
+
+-- what is written of all frames that end within these samples, from the mark on that these set
 unfoldable pub tuned_text : TunedText → Tuning → Channel → List Sample → List ℕ
-tuned_text form t channel samples = flat_map (frame_text form) (behind_mark t channel samples)
+tuned_text form t channel samples =
+    text_behind form t channel samples (mark t samples (length samples))
 
 -- which channels have such a text
 abbrev pub IsLawfulTuned : Channel → TunedText → Type 0
 IsLawfulTuned channel RateSetTwo = IsLawful channel
 IsLawfulTuned channel (Listed k) = IsLawful channel × (1 ≤ k) × (k ≤ 16)
-
--- ---- a receiver of the frames on the way
-
--- the text of the frames behind a mark
-abbrev pub text_from : TunedText → Tuning → Channel → Mark → List Sample → List ℕ
-text_from form t channel m samples = flat_map (frame_text form) (soft_frames t channel m samples)
-
--- a receiver has taken these samples behind those, and a sink got the text of the frames that end
--- within them
-pub record WritesFrames (t : Tuning) (channel : Channel) (m : Mark) (form : TunedText)
-    (tuner : Tuner) (before heard : List Sample) (old new : Option (List ℕ)) : Type 0 where
-  pub text : List ℕ
-  pub written : Appends old new text
-  pub all : text_from form t channel m before ++ text ≡ text_from form t channel m heard
-  pub tuned : IsTunedTo t channel m tuner heard
-
--- a sink got a beginning of that text
-pub record WritesFramesPart (t : Tuning) (channel : Channel) (m : Mark) (form : TunedText)
-    (before heard : List Sample) (old new : Option (List ℕ)) : Type 0 where
-  pub text : List ℕ
-  pub written : Appends old new text
-  pub begins : StartsWith (text_from form t channel m heard)
-      (text_from form t channel m before ++ text)
+IsLawfulTuned channel (Slots key cycle) = IsLawful channel × (cycle ≤ 7)

@@ -1,25 +1,31 @@
 //! What decodes the frames of one channel, and writes what is made of them.
 
-ghost use Rattle.std.specs.Prelude.{◌≡◌, ◌≤◌, ◌+◌, ◌++◌, List, length, IfOk, OnOk, OnErr, sum_by};
+ghost use Rattle.std.specs.Prelude.{◌≡◌, ◌≤◌, ◌+◌, ◌++◌, List, [], length, IfOk, OnOk, OnErr, sum_by};
 ghost use Rattle.std.specs.Prelude.{unsigned_abs};
 ghost use Rattle.std.specs.Io.KnownBytes.{Appends};
 ghost use Rattle.cdma_io.specs.Outside.{AppendsPrefix, HasCause};
+ghost use Rattle.chip_core.specs.declared.check_form.CheckForm.{CheckForm as TheCheck};
 ghost use Rattle.chip_core.specs.declared.sample.Sample.{Sample as TheSample};
+ghost use Rattle.mobile_core.specs.SoftFrames.{soft_frames};
 ghost use Rattle.mobile_core.specs.Softs.{frame_most};
+ghost use Rattle.mobile_core.specs.Sound.{IsSoundMark};
 ghost use Rattle.mobile_core.specs.Tuners.{IsTunedTo, samples_left};
 ghost use Rattle.mobile_core.specs.Tuning.{Tuning};
 ghost use Rattle.mobile_core.specs.declared.channel.Channel.{Channel as TheChannel};
-ghost use Rattle.mobile_core.specs.declared.mark.Mark.{Mark as TheMark};
-ghost use Rattle.tuned_listener.specs.FrameWriting.{IsLawfulText, IsReady, text_of};
-ghost use Rattle.tuned_listener.specs.TunedTexts.{WritesFrames, WritesFramesPart, frame_text};
+ghost use Rattle.mobile_core.specs.declared.soft_frame.SoftFrame.{SoftFrame as TheFrame};
+ghost use Rattle.tuned_listener.specs.FrameWriting.{HoldsFrames, IsLawfulText, IsReady, text_of};
+ghost use Rattle.tuned_listener.specs.FrameWriting.{WritesFrames, WritesFramesPart};
+ghost use Rattle.tuned_listener.specs.Slots.{slot_behind, slot_more};
+ghost use Rattle.tuned_listener.specs.TunedTexts.{listed_text, rate2_text, frame_text};
 
+use crate::slot_writer::SlotWriter;
 use crate::tuned_text::TunedText;
 use cdma_io::{Failed, Sink};
-use chip_core::{OutOfMemory, Sample};
+use chip_core::{CheckForm, OutOfMemory, Sample};
 use event_tap::{write_event, write_frame2};
 use list_viterbi::ListDecoder;
 use listed_frame::listed_frame;
-use mobile_core::{Event, SoftFrame, Tuner};
+use mobile_core::{Event, Mark, SoftFrame, Tuner};
 use rate_set_two::traffic2_frame;
 use std::alloc::Global;
 use viterbi::Decoder;
@@ -32,11 +38,13 @@ const SET_TWO_BITS: u16 = 288;
 
 /// What decodes the frames of one channel, and writes what is made of them.
 #[derive(Drop)]
-pub enum FrameWriter {
+pub(crate) enum FrameWriter {
     /// Decodes frames of rate set 2.
     RateSetTwo { decoder: Decoder },
     /// Decodes frames of rate set 1 with the first `k` words of a rate, from 1 to 16.
     Listed { decoder: ListDecoder, k: u8 },
+    /// Hears the slots of a paging channel that a handset monitors.
+    Slots(SlotWriter),
 }
 
 /// Writes the line of a frame of rate set 2, where the channel has power control bits.
@@ -49,9 +57,9 @@ fn write_rate2<K: Sink>(
     requires small { sum_by unsigned_abs frame.now.turned ≤ frame_most }
     ensures kept { decoder.new ≡ decoder.old }
     ensures ok { OnOk result (Appends (K.written sink.old) (K.written sink.new)
-        (frame_text TunedText.RateSetTwo frame.now)) }
+        (rate2_text frame.now.end frame.now.turned frame.now.power)) }
     ensures err { OnErr result (AppendsPrefix (K.written sink.old) (K.written sink.new)
-        (frame_text TunedText.RateSetTwo frame.now)) }
+        (rate2_text frame.now.end frame.now.turned frame.now.power)) }
     ensures cause { HasCause (K.faults sink.old) (K.faults sink.new) result }
 {
     let Some(power) = frame.power else {
@@ -76,9 +84,9 @@ fn write_listed<K: Sink>(
     requires small { sum_by unsigned_abs frame.now.turned ≤ frame_most }
     ensures kept { decoder.new ≡ decoder.old }
     ensures ok { OnOk result (Appends (K.written sink.old) (K.written sink.new)
-        (frame_text (TunedText.Listed k) frame.now)) }
+        (listed_text k frame.now.end frame.now.turned frame.now.power)) }
     ensures err { OnErr result (AppendsPrefix (K.written sink.old) (K.written sink.new)
-        (frame_text (TunedText.Listed k) frame.now)) }
+        (listed_text k frame.now.end frame.now.turned frame.now.power)) }
     ensures cause { HasCause (K.faults sink.old) (K.faults sink.new) result }
 {
     let Some(power) = frame.power else {
@@ -96,11 +104,17 @@ fn write_listed<K: Sink>(
 }
 
 impl FrameWriter {
-    /// The writer of a text. It allocates a decoder, and that is all that can fail.
-    pub fn open(alloc: Global, text: TunedText) -> Result<FrameWriter, OutOfMemory>
+    /// The writer of a text, whose messages have a check of this form. It allocates a decoder, and
+    /// that is all that can fail.
+    pub(crate) fn open(
+        alloc: Global,
+        text: TunedText,
+        check: CheckForm,
+    ) -> Result<FrameWriter, OutOfMemory>
         requires { IsLawfulText text }
         ensures ready { IfOk result IsReady }
         ensures text { IfOk result (λ writer. text_of writer ≡ text) }
+        ensures holds { IfOk result (λ writer. HoldsFrames writer check []) }
     {
         match text {
             TunedText::RateSetTwo => Ok(FrameWriter::RateSetTwo {
@@ -110,49 +124,65 @@ impl FrameWriter {
                 decoder: ListDecoder::new(alloc, SET_ONE_BITS)?,
                 k,
             }),
+            TunedText::Slots { key, cycle } => {
+                let slots = SlotWriter::open(alloc, key, cycle, check)?;
+                Ok(FrameWriter::Slots(slots))
+            }
         }
     }
 
-    /// Writes what is made of a frame.
-    fn write<K: Sink>(&mut self, frame: &SoftFrame, sink: &mut K) -> Result<(), Failed>
+    /// Writes what is made of the next frame behind a mark.
+    fn write<K: Sink>(&mut self, mark: &Mark, frame: &SoftFrame, sink: &mut K) -> Result<(), Failed>
         requires ready { IsReady self.old }
+        requires mark { IsSoundMark mark.now }
         requires small { sum_by unsigned_abs frame.now.turned ≤ frame_most }
         ensures ready { IsReady self.new }
         ensures text { text_of self.new ≡ text_of self.old }
-        ensures ok { OnOk result (Appends (K.written sink.old) (K.written sink.new)
-            (frame_text (text_of self.old) frame.now)) }
-        ensures err { OnErr result (AppendsPrefix (K.written sink.old) (K.written sink.new)
-            (frame_text (text_of self.old) frame.now)) }
+        ensures holds { (check : TheCheck) (slot : List TheFrame) →
+            HoldsFrames self.old check slot →
+            HoldsFrames self.new check (slot_more slot frame.now) }
+        ensures ok { OnOk result ((check : TheCheck) (slot : List TheFrame) →
+            HoldsFrames self.old check slot → Appends (K.written sink.old) (K.written sink.new)
+            (frame_text (text_of self.old) check mark.now (slot_more slot frame.now) frame.now)) }
+        ensures err { OnErr result ((check : TheCheck) (slot : List TheFrame) →
+            HoldsFrames self.old check slot →
+            AppendsPrefix (K.written sink.old) (K.written sink.new)
+            (frame_text (text_of self.old) check mark.now (slot_more slot frame.now) frame.now)) }
         ensures cause { HasCause (K.faults sink.old) (K.faults sink.new) result }
     {
         match self {
             FrameWriter::RateSetTwo { decoder } => write_rate2(decoder, frame, sink),
             FrameWriter::Listed { decoder, k } => write_listed(decoder, *k, frame, sink),
+            FrameWriter::Slots(slots) => slots.write(mark, frame, sink),
         }
     }
 }
 
-/// Gives samples to the receiver of a channel's frames, and writes what is made of each frame that
-/// ends within them.
-pub fn hear_frames<K: Sink>(
+/// Gives samples to the receiver of a channel's frames behind a mark, and writes what is made of
+/// each frame that ends within them.
+pub(crate) fn hear_frames<K: Sink>(
     tuner: &mut Tuner,
+    mark: &Mark,
     writer: &mut FrameWriter,
     samples: &[Sample],
     sink: &mut K,
 ) -> Result<(), Failed>
     requires room { length samples.now ≤ samples_left tuner.old }
+    requires mark { IsSoundMark mark.now }
     requires ready { IsReady writer.old }
     ensures room { OnOk result (samples_left tuner.new + length samples.now
         ≡ samples_left tuner.old) }
     ensures ready { IsReady writer.new }
     ensures text { text_of writer.new ≡ text_of writer.old }
-    ensures ok { OnOk result ((t : Tuning) (channel : TheChannel) (m : TheMark)
-        (heard : List TheSample) → IsTunedTo t channel m tuner.old heard →
-        WritesFrames t channel m (text_of writer.old) tuner.new heard (heard ++ samples.now)
-        (K.written sink.old) (K.written sink.new)) }
-    ensures err { OnErr result ((t : Tuning) (channel : TheChannel) (m : TheMark)
-        (heard : List TheSample) → IsTunedTo t channel m tuner.old heard →
-        WritesFramesPart t channel m (text_of writer.old) heard (heard ++ samples.now)
+    ensures ok { OnOk result ((t : Tuning) (channel : TheChannel) (heard : List TheSample) →
+        IsTunedTo t channel mark.now tuner.old heard →
+        HoldsFrames writer.old t.check30 (slot_behind [] (soft_frames t channel mark.now heard)) →
+        WritesFrames t channel mark.now (text_of writer.old) tuner.new writer.new heard
+        (heard ++ samples.now) (K.written sink.old) (K.written sink.new)) }
+    ensures err { OnErr result ((t : Tuning) (channel : TheChannel) (heard : List TheSample) →
+        IsTunedTo t channel mark.now tuner.old heard →
+        HoldsFrames writer.old t.check30 (slot_behind [] (soft_frames t channel mark.now heard)) →
+        WritesFramesPart t channel mark.now (text_of writer.old) heard (heard ++ samples.now)
         (K.written sink.old) (K.written sink.new)) }
     ensures cause { HasCause (K.faults sink.old) (K.faults sink.new) result }
 {
@@ -161,7 +191,7 @@ pub fn hear_frames<K: Sink>(
         let step = tuner.step(&samples[taken..]);
         taken += step.taken;
         if let Some(frame) = step.frame {
-            writer.write(&frame, sink)?;
+            writer.write(mark, &frame, sink)?;
         }
     }
     Ok(())

@@ -7,10 +7,17 @@ use crate::frame_writer::{FrameWriter, hear_frames};
 use crate::marking::{Reached, step_to_mark};
 use crate::tuned_text::TunedText;
 use cdma_io::{Failed, Sink};
-use chip_core::{OutOfMemory, Phase, Sample};
-use mobile_core::{Channel, Mobile, Tuner};
+use chip_core::{CheckForm, OutOfMemory, Phase, Sample};
+use mobile_core::{Channel, Mark, Mobile, Tuner};
 use pilot_search::Near;
 use std::alloc::Global;
+
+/// The receiver of a channel's frames, and the mark that it is behind.
+#[derive(Drop)]
+struct Behind {
+    mark: Mark,
+    tuner: Tuner,
+}
 
 /// The listener of one channel of the reference base station, which writes what is made of its
 /// frames.
@@ -22,7 +29,7 @@ pub struct TunedListener {
     /// The handset that waits for the mark; `None` once it is set.
     ahead: Option<Mobile>,
     /// The receiver of the frames; `None` until the mark is set.
-    behind: Option<Tuner>,
+    behind: Option<Behind>,
     channel: Channel,
     /// What decodes the frames, and writes what is made of them.
     writer: FrameWriter,
@@ -30,7 +37,7 @@ pub struct TunedListener {
     phase: Phase,
     /// The paths near it.
     near: Near,
-    ghost sound: { IsSoundListener ahead channel writer near },
+    ghost sound: { IsSoundListener ahead behind channel writer near },
 }
 
 impl TunedListener {
@@ -49,7 +56,8 @@ impl TunedListener {
     ghost use Rattle.tuned_listener.specs.declared.tuned_text.TunedText.{TunedText as TheText};
 
     /// The listener of a channel, for a base station at a phase and near it, in place of a handset
-    /// that has taken no sample of a file.
+    /// that has taken no sample of a file. `check` is the form of the check that the messages of a
+    /// paging channel have.
     ///
     /// It allocates a decoder, and that is all that can fail.
     pub fn open(
@@ -57,6 +65,7 @@ impl TunedListener {
         mobile: Mobile,
         channel: Channel,
         text: TunedText,
+        check: CheckForm,
         phase: Phase,
         near: Near,
     ) -> Result<TunedListener, OutOfMemory>
@@ -67,14 +76,14 @@ impl TunedListener {
         requires first { slice_get near.deltas 0 ≡ Some (pos 0) }
         ensures room { IfOk result (λ l. tuned_room l ≡ has_room mobile) }
         ensures listens { IfOk result (λ l. (t : Tuning) → StandsFor t mobile [] [] →
-            t.phase ≡ phase → t.deltas ≡ take near.count near.deltas →
+            t.phase ≡ phase → t.deltas ≡ take near.count near.deltas → t.check30 ≡ check →
             ListensTuned t channel text l []) }
     {
         Ok(TunedListener {
             ahead: Some(mobile),
             behind: None,
             channel,
-            writer: FrameWriter::open(alloc, text)?,
+            writer: FrameWriter::open(alloc, text, check)?,
             phase,
             near,
         })
@@ -144,7 +153,8 @@ impl TunedListener {
             return taken;
         };
         if let Some(mobile) = ahead.take() {
-            *behind = Some(mobile.tune(&mark, channel, *phase, near));
+            let tuner = mobile.tune(&mark, channel, *phase, near);
+            *behind = Some(Behind { mark, tuner });
         }
         taken
     }
@@ -168,7 +178,7 @@ impl TunedListener {
     {
         let TunedListener { behind, writer, .. } = self;
         match behind {
-            Some(tuner) => hear_frames(tuner, writer, samples, sink),
+            Some(Behind { mark, tuner }) => hear_frames(tuner, mark, writer, samples, sink),
             None => Ok(()),
         }
     }

@@ -3,12 +3,20 @@
 /// What is made of the frames of one channel behind the mark.
 #[derive(Clone, Copy, PartialEq, Eq, Debug)]
 pub enum TunedText {
-    /// Each frame is decoded as one of rate set 2, and has its line.
+    /// Each frame is decoded as one of rate set 2 (TIA/EIA-95-B, 7.1.3.5), and has its line.
     RateSetTwo,
-    /// Each frame is decoded as one of rate set 1 with the first so many words of a rate, and has
-    /// its line.
+    /// Each frame is decoded as one of rate set 1 (7.1.3.5) with the first so many words of a rate,
+    /// and has its line.
     Listed {
         /// How many words of a rate are looked at, from 1 to 16.
         k: u8,
+    },
+    /// Each slot of a paging channel that a sleeping handset monitors (6.6.2.1.1.3) has its line, and
+    /// behind it those of its messages.
+    Slots {
+        /// The key of the handset.
+        key: u32,
+        /// The index of its cycle, 0 to 7.
+        cycle: u8,
     },
 }

@@ -1,18 +1,19 @@
-use Rattle.std.proofs.Common.{◌≡◌, List, None, Some, arith, rules, subst}
+use Rattle.std.proofs.Common.{◌≡◌, ◌++◌, [], List, None, Some, arith, rules, subst, take}
 use Rattle.std.specs.Io.KnownBytes.{Appends}
 use Rattle.std.proofs.lemmas.List.{take_rest}
 use Rattle.std.proofs.lemmas.Result.{err_from_is_err_and}
 use Rattle.cdma_io.specs.Outside.{AppendsPrefix}
 use Rattle.chip_core.specs.declared.sample.Sample.{Sample}
+use Rattle.mobile_core.specs.SoftFrames.{soft_frames}
 use Rattle.mobile_core.specs.Tuners.{IsTunedTo}
 use Rattle.mobile_core.specs.Tuning.{Tuning}
 use Rattle.mobile_core.specs.declared.channel.Channel.{Channel}
-use Rattle.mobile_core.specs.declared.mark.Mark.{Mark}
-use Rattle.tuned_listener.specs.FrameWriting.{text_of}
+use Rattle.tuned_listener.specs.FrameWriting.{HoldsFrames, text_of}
+use Rattle.tuned_listener.specs.Slots.{slot_behind, slot_more}
 use Rattle.tuned_listener.specs.TunedTexts.{frame_text}
 use Rattle.tuned_listener.specs.declared.tuned_text.TunedText.{TunedText}
-use Rattle.tuned_listener.proofs.TunedFrames.{frame_cut, frame_written, none_written, writes_all}
-use Rattle.tuned_listener.proofs.TunedFrames.{writes_more, writes_part}
+use Rattle.tuned_listener.proofs.TunedFrames.{frame_cut, frame_kept, frame_written, none_kept}
+use Rattle.tuned_listener.proofs.TunedFrames.{none_written, writes_all, writes_more, writes_part}
 use Rattle.tuned_listener.proofs.frame_writer.hear_frames.Goals as goal
 
 pub loop-taken-preserved-in-Continue-1 : goal.loop-taken-preserved-in-Continue-1
@@ -20,6 +21,8 @@ loop-taken-preserved-in-Continue-1 g c =
     let inv = c.loop-taken.invariant in
     let taken = c.loop-taken.taken in
     let samples = c.args.samples.now in
+    let m = c.args.mark.now in
+    let form = text_of c.args.writer.now in
     let frame = c.in-Some.frame in
     let some : c.step-step.result.frame ≡ Some frame = search rules in
     record {
@@ -27,16 +30,23 @@ loop-taken-preserved-in-Continue-1 g c =
       room = search rules;
       ready = search rules;
       text = search rules;
-      writes = λ (t : Tuning) (channel : Channel) (m : Mark) (heard : List Sample)
-          (tuned : IsTunedTo t channel m c.args.tuner.now heard).
-          writes_more t channel m (text_of c.args.writer.now) c.loop-taken.tuner c.step-step.new.self
+      writes = λ (t : Tuning) (channel : Channel) (heard : List Sample)
+          (tuned : IsTunedTo t channel m c.args.tuner.now heard)
+          (holds : HoldsFrames c.args.writer.now t.check30
+          (slot_behind [] (soft_frames t channel m heard))).
+          let now = heard ++ take taken samples in
+          let slot = slot_behind [] (soft_frames t channel m now) in
+          let so_far = inv.writes t channel heard tuned holds in
+          writes_more t channel m form c.loop-taken.tuner c.step-step.new.self c.loop-taken.writer
           heard samples _ taken c.step-step.result _ _ _ (take_rest samples taken) c.step-step.ensures
-          (inv.writes t channel m heard tuned)
-          (frame_written t channel m (text_of c.args.writer.now) c.step-step.result.frame frame _ _
-          some
+          so_far c.write.new.self
+          (frame_written t channel m form now c.step-step.result.frame frame _ _ some
           (subst (λ (f : TunedText). Appends (g.K.Sink.written c.loop-taken.sink)
-          (g.K.Sink.written c.write.new.sink) (frame_text f frame)) inv.text
-          c.in_ok-write.ensures.ok));
+          (g.K.Sink.written c.write.new.sink)
+          (frame_text f t.check30 m (slot_more slot frame) frame)) inv.text
+          (c.in_ok-write.ensures.ok t.check30 slot so_far.holds)))
+          (frame_kept t channel m form now c.step-step.result.frame frame c.write.new.self some
+          (c.write.ensures.holds t.check30 slot so_far.holds));
       later = search rules;
     }
 
@@ -45,18 +55,26 @@ loop-taken-preserved g c =
     let inv = c.loop-taken.invariant in
     let taken = c.loop-taken.taken in
     let samples = c.args.samples.now in
+    let m = c.args.mark.now in
+    let form = text_of c.args.writer.now in
     let none : c.step-step.result.frame ≡ None = search rules in
     record {
       most = search rules;
       room = search rules;
       ready = search rules;
       text = search rules;
-      writes = λ (t : Tuning) (channel : Channel) (m : Mark) (heard : List Sample)
-          (tuned : IsTunedTo t channel m c.args.tuner.now heard).
-          writes_more t channel m (text_of c.args.writer.now) c.loop-taken.tuner c.step-step.new.self
+      writes = λ (t : Tuning) (channel : Channel) (heard : List Sample)
+          (tuned : IsTunedTo t channel m c.args.tuner.now heard)
+          (holds : HoldsFrames c.args.writer.now t.check30
+          (slot_behind [] (soft_frames t channel m heard))).
+          let now = heard ++ take taken samples in
+          let so_far = inv.writes t channel heard tuned holds in
+          writes_more t channel m form c.loop-taken.tuner c.step-step.new.self c.loop-taken.writer
           heard samples _ taken c.step-step.result _ _ _ (take_rest samples taken) c.step-step.ensures
-          (inv.writes t channel m heard tuned)
-          (none_written t channel m (text_of c.args.writer.now) c.step-step.result.frame _ none);
+          so_far c.loop-taken.writer
+          (none_written t channel m form now c.step-step.result.frame _ none)
+          (none_kept t channel m form now c.step-step.result.frame c.loop-taken.writer none
+          so_far.holds);
       later = search rules;
     }
 
@@ -65,21 +83,29 @@ returns-in_err-write-clause-err g c =
     let inv = c.loop-taken.invariant in
     let taken = c.loop-taken.taken in
     let samples = c.args.samples.now in
+    let m = c.args.mark.now in
+    let form = text_of c.args.writer.now in
     let frame = c.in-Some.frame in
     let some : c.step-step.result.frame ≡ Some frame = search rules in
     let p = err_from_is_err_and c.from_residual.result c.from_residual.ensures.1 in
-    rw p.1 (λ (t : Tuning) (channel : Channel) (m : Mark) (heard : List Sample)
-    (tuned : IsTunedTo t channel m c.args.tuner.now heard).
-    writes_part t channel m (text_of c.args.writer.now) c.loop-taken.tuner c.step-step.new.self
+    rw p.1 (λ (t : Tuning) (channel : Channel) (heard : List Sample)
+    (tuned : IsTunedTo t channel m c.args.tuner.now heard)
+    (holds : HoldsFrames c.args.writer.now t.check30
+    (slot_behind [] (soft_frames t channel m heard))).
+    let now = heard ++ take taken samples in
+    let slot = slot_behind [] (soft_frames t channel m now) in
+    let so_far = inv.writes t channel heard tuned holds in
+    writes_part t channel m form c.loop-taken.tuner c.step-step.new.self c.loop-taken.writer
     heard samples _ taken c.step-step.result _ _ _ (take_rest samples taken) c.step-step.ensures
-    (inv.writes t channel m heard tuned)
-    (frame_cut t channel m (text_of c.args.writer.now) c.step-step.result.frame frame _ _ some
+    so_far
+    (frame_cut t channel m form now c.step-step.result.frame frame _ _ some
     (subst (λ (f : TunedText). AppendsPrefix (g.K.Sink.written c.loop-taken.sink)
-    (g.K.Sink.written c.write.new.sink) (frame_text f frame)) inv.text
-    c.in_err-write.ensures.err)))
+    (g.K.Sink.written c.write.new.sink)
+    (frame_text f t.check30 m (slot_more slot frame) frame)) inv.text
+    (c.in_err-write.ensures.err t.check30 slot so_far.holds))))
 
 pub returns-clause-ok : goal.returns-clause-ok
-returns-clause-ok g c t channel m heard tuned =
-    writes_all t channel m (text_of c.args.writer.now) c.loop-taken.tuner heard c.args.samples.now
-    c.loop-taken.taken _ _ (omega (arith, c.loop-taken-test.false))
-    (c.loop-taken.invariant.writes t channel m heard tuned)
+returns-clause-ok g c t channel heard tuned holds =
+    writes_all t channel c.args.mark.now (text_of c.args.writer.now) c.loop-taken.tuner
+    c.loop-taken.writer heard c.args.samples.now c.loop-taken.taken _ _
+    (omega (arith, c.loop-taken-test.false)) (c.loop-taken.invariant.writes t channel heard tuned holds)

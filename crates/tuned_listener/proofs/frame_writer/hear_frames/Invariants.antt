@@ -1,11 +1,11 @@
-use Rattle.std.proofs.Common.{◌≡◌, ◌≤◌, ◌+◌, ◌-◌, ◌++◌, List, length, take}
+use Rattle.std.proofs.Common.{◌≡◌, ◌≤◌, ◌+◌, ◌-◌, ◌++◌, [], List, length, take}
 use Rattle.chip_core.specs.declared.sample.Sample.{Sample}
+use Rattle.mobile_core.specs.SoftFrames.{soft_frames}
 use Rattle.mobile_core.specs.Tuners.{IsTunedTo, samples_left}
 use Rattle.mobile_core.specs.Tuning.{Tuning}
 use Rattle.mobile_core.specs.declared.channel.Channel.{Channel}
-use Rattle.mobile_core.specs.declared.mark.Mark.{Mark}
-use Rattle.tuned_listener.specs.FrameWriting.{IsReady, text_of}
-use Rattle.tuned_listener.specs.TunedTexts.{WritesFrames}
+use Rattle.tuned_listener.specs.FrameWriting.{HoldsFrames, IsReady, WritesFrames, text_of}
+use Rattle.tuned_listener.specs.Slots.{slot_behind}
 use Rattle.tuned_listener.proofs.frame_writer.hear_frames.Given as goal
 
 abbrev pub invariant-loop-taken : goal.invariant-loop-taken
@@ -14,10 +14,11 @@ invariant-loop-taken g l = record {
   room : samples_left l.tuner + l.taken ≡ samples_left l.fn.tuner;
   ready : IsReady l.writer;
   text : text_of l.writer ≡ text_of l.fn.writer;
-  writes : (t : Tuning) (channel : Channel) (m : Mark) (heard : List Sample) →
-      IsTunedTo t channel m l.fn.tuner heard →
-      WritesFrames t channel m (text_of l.fn.writer) l.tuner heard (heard ++ take l.taken l.samples)
-      (g.K.Sink.written l.fn.sink) (g.K.Sink.written l.sink);
+  writes : (t : Tuning) (channel : Channel) (heard : List Sample) →
+      IsTunedTo t channel l.mark l.fn.tuner heard →
+      HoldsFrames l.fn.writer t.check30 (slot_behind [] (soft_frames t channel l.mark heard)) →
+      WritesFrames t channel l.mark (text_of l.fn.writer) l.tuner l.writer heard
+      (heard ++ take l.taken l.samples) (g.K.Sink.written l.fn.sink) (g.K.Sink.written l.sink);
   later : g.K.Sink.faults l.fn.sink ≤ g.K.Sink.faults l.sink;
 }
 

@@ -2,7 +2,7 @@ use Rattle.std.proofs.Common.{◌≡◌, ◌++◌, List, None, refl, rules, subs
 use Rattle.chip_core.specs.declared.sample.Sample.{Sample}
 use Rattle.mobile_core.specs.Standing.{StandsFor}
 use Rattle.mobile_core.specs.declared.mobile.Mobile.{Mobile}
-use Rattle.tuned_listener.proofs.TunedListeners.{handset_alone, lawful_channel, listens_behind}
+use Rattle.tuned_listener.proofs.TunedListeners.{handset_alone, lawful_channel, listens_ahead, listens_behind}
 use Rattle.tuned_listener.proofs.TunedListeners.{silent_ahead, silent_at_mark}
 use Rattle.tuned_listener.proofs.tuned.TunedListener.reach_mark.Goals as goal
 
@@ -16,8 +16,19 @@ returns-in_default-mark-clause-silent c = λ t channel form heard is.
     silent_ahead t channel form heard c.args.samples.now reached.result.taken
     (reached.ensures.all none) ahead.unmarked (reached.ensures.none none t heard ahead).unmarked
 
-pub tune-requires-clause-lawful : goal.tune-requires-clause-lawful
-tune-requires-clause-lawful c =
+pub returns-in_default-mark-clause-listens : goal.returns-in_default-mark-clause-listens
+returns-in_default-mark-clause-listens c = λ t channel form heard is.
+    let l = c.args.self.now in
+    let reached = c.step_to_mark-taken in
+    let none : reached.result.mark ≡ None = search rules in
+    let (alone, ahead) = handset_alone t channel heard l.ahead l.behind c.in-Some.mobile c.in-Some.is
+    is.listens in
+    listens_ahead t channel form l heard is _ reached.new.mobile c.args.samples.now
+    reached.result.taken (reached.ensures.all none) refl refl refl refl refl alone ahead.unmarked
+    (reached.ensures.none none t heard ahead)
+
+pub tune-tuner-requires-clause-lawful : goal.tune-tuner-requires-clause-lawful
+tune-tuner-requires-clause-lawful c =
     lawful_channel c.args.self.now.channel c.args.self.now.sound.lawful
 
 pub returns-in-Some-take-clause-listens : goal.returns-in-Some-take-clause-listens
@@ -31,9 +42,10 @@ returns-in-Some-take-clause-listens c = λ t channel form heard is.
     let set = reached.ensures.set m c.in-Some-mark.is t heard ahead in
     let same : reached.new.mobile ≡ c.in-Some-take.mobile = search rules in
     let stands = subst (λ (x : Mobile). StandsFor t x now set.given) same set.stands in
-    listens_behind t channel form l heard is _ c.tune.result m now refl refl refl refl
-    c.take.ensures.after refl set.marked
-    (c.tune.ensures.tuned t now set.given stands is.phase_is is.deltas_are)
+    listens_behind t channel form l heard is _ (record { mark = m; tuner = c.tune-tuner.result }) now
+    refl refl refl refl c.take.ensures.after refl ahead.unmarked set.marked
+    (c.tune-tuner.ensures.none t now set.given stands is.phase_is is.deltas_are)
+    (c.tune-tuner.ensures.tuned t now set.given stands is.phase_is is.deltas_are)
 
 pub returns-in-Some-take-clause-silent : goal.returns-in-Some-take-clause-silent
 returns-in-Some-take-clause-silent c = λ t channel form heard is.
@@ -47,4 +59,4 @@ returns-in-Some-take-clause-silent c = λ t channel form heard is.
     let same : reached.new.mobile ≡ c.in-Some-take.mobile = search rules in
     let stands = subst (λ (x : Mobile). StandsFor t x now set.given) same set.stands in
     silent_at_mark t channel form l heard is m now ahead.unmarked set.marked
-    (c.tune.ensures.none t now set.given stands is.phase_is is.deltas_are)
+    (c.tune-tuner.ensures.none t now set.given stands is.phase_is is.deltas_are)

@@ -1,0 +1,73 @@
+-- What is written of frames in order, and what they leave of a slot, as frames go on.
+use Rattle.std.proofs.Common.{◌≡◌, ℕ, List, [], ◌∷◌, ◌++◌, refl, sym, ap, ◌∙◌, append-nil}
+use Rattle.std.proofs.Common.{append_assoc, flat_map}
+use Rattle.chip_core.specs.declared.check_form.CheckForm.{CheckForm}
+use Rattle.mobile_core.specs.declared.mark.Mark.{Mark}
+use Rattle.mobile_core.specs.declared.soft_frame.SoftFrame.{SoftFrame}
+use Rattle.tuned_listener.specs.Slots.{slot_behind, slot_more}
+use Rattle.tuned_listener.specs.TunedTexts.{frame_text, frames_text, listed_text, rate2_text}
+use Rattle.tuned_listener.specs.declared.tuned_text.TunedText.{TunedText}
+use Rattle.tuned_listener.specs.declared.tuned_text.TunedText.TheVariants.{Listed, RateSetTwo}
+
+-- what frames leave of a slot
+pub kept_behind : (kept xs ys : List SoftFrame) →
+    slot_behind kept (xs ++ ys) ≡ slot_behind (slot_behind kept xs) ys
+unfolding slot_behind
+kept_behind kept [] ys = refl
+kept_behind kept (frame ∷ xs) ys = kept_behind (slot_more kept frame) xs ys
+
+pub kept_behind_one : (kept : List SoftFrame) (frame : SoftFrame) →
+    slot_behind kept (frame ∷ []) ≡ slot_more kept frame
+unfolding slot_behind
+kept_behind_one kept frame = refl
+
+pub kept_behind_none : (kept : List SoftFrame) → slot_behind kept [] ≡ kept
+unfolding slot_behind
+kept_behind_none kept = refl
+
+module _ (form : TunedText) (check : CheckForm) (m : Mark) where
+  -- the text of frames, and of those behind them
+  pub texts_joined : (kept xs ys : List SoftFrame) →
+      frames_text form check m kept (xs ++ ys)
+      ≡ frames_text form check m kept xs ++ frames_text form check m (slot_behind kept xs) ys
+  unfolding frames_text slot_behind
+  texts_joined kept [] ys = refl
+  texts_joined kept (frame ∷ xs) ys =
+      let slot = slot_more kept frame in
+      let first = frame_text form check m slot frame in
+      ap (λ (text : List ℕ). first ++ text) (texts_joined slot xs ys)
+      ∙ sym (append_assoc first (frames_text form check m slot xs)
+      (frames_text form check m (slot_behind slot xs) ys))
+
+  pub text_of_one : (kept : List SoftFrame) (frame : SoftFrame) →
+      frames_text form check m kept (frame ∷ [])
+      ≡ frame_text form check m (slot_more kept frame) frame
+  unfolding frames_text
+  text_of_one kept frame = append-nil (frame_text form check m (slot_more kept frame) frame)
+
+  pub text_of_none : (kept : List SoftFrame) → frames_text form check m kept [] ≡ []
+  unfolding frames_text
+  text_of_none kept = refl
+
+  -- where the text of a frame is the same whatever is kept of its slot, that of frames is their
+  -- texts one after the other
+  pub texts_by_frame : ((slot : List SoftFrame) (frame : SoftFrame) →
+      frame_text form check m slot frame ≡ frame_text form check m [] frame) →
+      (kept frames : List SoftFrame) →
+      frames_text form check m kept frames ≡ flat_map (frame_text form check m []) frames
+  unfolding frames_text
+  texts_by_frame same kept [] = refl
+  texts_by_frame same kept (frame ∷ frames) =
+      let slot = slot_more kept frame in
+      rw (same slot frame, texts_by_frame same slot frames) refl
+
+module _ (check : CheckForm) (m : Mark) (kept frames : List SoftFrame) where
+  -- so it is with the frames of rate set 2
+  pub rate2_texts : frames_text RateSetTwo check m kept frames
+      ≡ flat_map (λ (f : SoftFrame). rate2_text f.end f.turned f.power) frames
+  rate2_texts = texts_by_frame RateSetTwo check m (λ slot frame. refl) kept frames
+
+  -- and with those of rate set 1 with the first words of a rate
+  pub listed_texts : (k : ℕ) → frames_text (Listed k) check m kept frames
+      ≡ flat_map (λ (f : SoftFrame). listed_text k f.end f.turned f.power) frames
+  listed_texts k = texts_by_frame (Listed k) check m (λ slot frame. refl) kept frames

@@ -1,0 +1,160 @@
+-- The messages of a slot, as its bits are taken one by one, and their lines.
+use Rattle.std.proofs.Common.{◌≡◌, ◌<◌, ◌≤◌, ℕ, zero, suc, ◌+◌, ◌-◌, Bool, List, [], ◌∷◌, ◌++◌}
+use Rattle.std.proofs.Common.{length, take, refl, sym, ap, ◌∙◌, subst, arith, append-nil, Option}
+use Rattle.std.proofs.Common.{None, Some, append_assoc, flat_map, length-append, slice_get}
+use Rattle.std.specs.Prelude.{is_some}
+use Rattle.std.specs.Io.KnownBytes.{Appends}
+use Rattle.std.specs.Option.{option_to_list}
+use Rattle.std.proofs.KnownBytes.{Appends-trans}
+use Rattle.std.proofs.lemmas.List.{length-take-le, take-take, take_all}
+use Rattle.std.proofs.lemmas.List.Concat.{flat_map-append}
+use Rattle.std.proofs.lemmas.Option.{slice_get_within}
+use mir.Val.{bool_byte}
+use Rattle.chip_core.specs.Bits.{places}
+use Rattle.chip_core.specs.declared.check_form.CheckForm.{CheckForm}
+use Rattle.chip_core.proofs.BitLists.{taken_more}
+use Rattle.chip_core.proofs.Ranges.{flat_map-places-more, flat_map_ext_places}
+use Rattle.cdma_io.specs.Outside.{AppendsPrefix}
+use Rattle.event_tap.specs.PagingLines.{paging_line}
+use Rattle.paging_message.specs.HalfFrames.{capsules_in, half_frame_body, half_frame_capsule_ending}
+use Rattle.paging_message.specs.Reading.{paging_reading}
+use Rattle.paging_message.specs.declared.message.PagingMessage.{PagingMessage}
+use Rattle.symbol_path.specs.declared.kinds.Rate.{Rate}
+use Rattle.tuned_listener.specs.SlotWriting.{page_list, pages_ending}
+use Rattle.tuned_listener.specs.Slots.{slot_pages}
+use Rattle.tuned_listener.specs.declared.slot_writer.Page.{Page}
+use Rattle.tuned_listener.proofs.Prefixes.{prefix_before, prefix_behind}
+
+-- what stands at the front of the pieces of more numbers
+pieces_begin : {X : Type 0} (f : ℕ → List X) (n d : ℕ) →
+    (rest : List X) × (flat_map f (places (n + d)) ≡ flat_map f (places n) ++ rest)
+pieces_begin {X = X} f n zero =
+    let all : n + 0 ≡ n = omega arith in
+    ([], ap (λ (k : ℕ). flat_map f (places k)) all ∙ sym (append-nil (flat_map f (places n))))
+pieces_begin {X = X} f n (suc d) =
+    let (rest, more) = pieces_begin f n d in
+    let next : n + suc d ≡ (n + d) + 1 = omega arith in (
+      rest ++ f (n + d),
+      ap (λ (k : ℕ). flat_map f (places k)) next
+          ∙ flat_map-places-more f (n + d)
+          ∙ ap (λ (xs : List X). xs ++ f (n + d)) more
+          ∙ append_assoc (flat_map f (places n)) rest (f (n + d)),
+    )
+
+-- how many messages one bit has
+length-page : (page : Option Page) → length (page_list page) ≡ bool_byte (is_some page)
+length-page None = refl
+length-page (Some page) = refl
+
+module _ (check : CheckForm) (rate : Rate) (bits : List Bool) where
+  abbrev reading : List Bool → List PagingMessage
+  reading capsule = option_to_list (paging_reading check capsule)
+
+  -- the capsule that ends with bit i
+  abbrev ending : ℕ → List (List Bool)
+  ending i = option_to_list (half_frame_capsule_ending (half_frame_body rate) (take (i + 1) bits))
+
+  -- the capsules of the first bits
+  capsules_first : (n : ℕ) → n ≤ length bits →
+      capsules_in (half_frame_body rate) (take n bits) ≡ flat_map ending (places n)
+  unfolding capsules_in
+  capsules_first n fits =
+      let size = half_frame_body rate in
+      let each = λ (i : ℕ). option_to_list
+      (half_frame_capsule_ending size (take (i + 1) (take n bits))) in
+      ap (λ (k : ℕ). flat_map each (places k)) (length-take-le n bits fits)
+      ∙ flat_map_ext_places each ending n
+      (λ k below. ap (λ (xs : List Bool). option_to_list (half_frame_capsule_ending size xs))
+      (take-take (k + 1) n bits (omega (arith, below))))
+
+  pages_first : (n : ℕ) → n ≤ length bits →
+      slot_pages check rate (take n bits) ≡ flat_map reading (flat_map ending (places n))
+  unfolding slot_pages
+  pages_first n fits = ap (flat_map reading) (capsules_first n fits)
+
+  -- no bit has a message
+  pub pages_none : slot_pages check rate [] ≡ []
+  unfolding places
+  pages_none = pages_first 0 (omega arith)
+
+  -- all bits have those of the slot
+  pub pages_all : (n : ℕ) → length bits ≤ n →
+      slot_pages check rate (take n bits) ≡ slot_pages check rate bits
+  pages_all n most = ap (slot_pages check rate) (take_all n bits most)
+
+  module _ (i : ℕ) (bit : Bool) (read : slice_get bits i ≡ Some bit) (page : Option Page)
+      (size : ℕ) (size_is : size ≡ half_frame_body rate)
+      (is : page_list page ≡ pages_ending check size (take i bits ++ bit ∷ [])) where
+    abbrev first : List PagingMessage
+    first = slot_pages check rate (take i bits)
+
+    -- the messages of one bit more
+    pub pages_more : slot_pages check rate (take (i + 1) bits) ≡ first ++ page_list page
+    pages_more =
+        let within : i < length bits = slice_get_within bits i bit read in
+        pages_first (i + 1) (omega (arith, within))
+        ∙ ap (flat_map reading) (flat_map-places-more ending i)
+        ∙ flat_map-append reading (flat_map ending (places i)) (ending i)
+        ∙ ap (λ (ms : List PagingMessage). ms ++ flat_map reading (ending i))
+        (sym (pages_first i (omega (arith, within))))
+        ∙ ap (λ (xs : List Bool). first ++ pages_ending check (half_frame_body rate) xs)
+        (taken_more bits i bit read)
+        ∙ ap (λ (n : ℕ). first ++ pages_ending check n (take i bits ++ bit ∷ [])) (sym size_is)
+        ∙ ap (λ (ms : List PagingMessage). first ++ ms) (sym is)
+
+    -- they stand at the front of those of all bits
+    pages_begin : (rest : List PagingMessage)
+        × (slot_pages check rate bits ≡ (first ++ page_list page) ++ rest)
+    pages_begin =
+        let within : i < length bits = slice_get_within bits i bit read in
+        let n : ℕ = length bits in
+        let (rest, parted) = pieces_begin ending (i + 1) (n - (i + 1)) in
+        let whole : (i + 1) + (n - (i + 1)) ≡ n = omega (arith, within) in (
+          flat_map reading rest,
+          ap (slot_pages check rate) (sym (take_all n bits (omega arith)))
+              ∙ pages_first n (omega arith)
+              ∙ ap (λ (k : ℕ). flat_map reading (flat_map ending (places k))) (sym whole)
+              ∙ ap (flat_map reading) parted
+              ∙ flat_map-append reading (flat_map ending (places (i + 1))) rest
+              ∙ ap (λ (ms : List PagingMessage). ms ++ flat_map reading rest)
+              (sym (pages_first (i + 1) (omega (arith, within))) ∙ pages_more),
+        )
+
+    -- how many they are
+    pub count_more : (count : ℕ) → count ≡ length first →
+        count + bool_byte (is_some page) ≡ length (slot_pages check rate (take (i + 1) bits))
+    count_more count so_far =
+        let all = ap length pages_more in
+        omega (arith, so_far, all, length-append first (page_list page), length-page page)
+
+    -- ---- their lines
+
+    module _ (at : ℕ) where
+      -- what the bit has was written
+      pub lines_more : (old mid new : Option (List ℕ)) →
+          Appends old mid (flat_map (paging_line at) first) →
+          Appends mid new (flat_map (paging_line at) (page_list page)) →
+          Appends old new (flat_map (paging_line at) (slot_pages check rate (take (i + 1) bits)))
+      lines_more old mid new lines line =
+          subst (Appends old new)
+          (sym (ap (flat_map (paging_line at)) pages_more
+          ∙ flat_map-append (paging_line at) first (page_list page)))
+          (Appends-trans old mid new (flat_map (paging_line at) first)
+          (flat_map (paging_line at) (page_list page)) lines line)
+
+      -- a write failed in the middle of it
+      pub lines_cut : (old mid new : Option (List ℕ)) →
+          Appends old mid (flat_map (paging_line at) first) →
+          AppendsPrefix mid new (flat_map (paging_line at) (page_list page)) →
+          AppendsPrefix old new (flat_map (paging_line at) (slot_pages check rate bits))
+      lines_cut old mid new lines part =
+          let (rest, parted) = pages_begin in
+          let line = flat_map (paging_line at) (page_list page) in
+          let last = flat_map (paging_line at) rest in
+          subst (AppendsPrefix old new)
+          (sym (ap (flat_map (paging_line at)) parted
+          ∙ flat_map-append (paging_line at) (first ++ page_list page) rest
+          ∙ ap (λ (text : List ℕ). text ++ last)
+          (flat_map-append (paging_line at) first (page_list page))))
+          (prefix_before old new (flat_map (paging_line at) first ++ line) last
+          (prefix_behind old mid new (flat_map (paging_line at) first) line lines part))

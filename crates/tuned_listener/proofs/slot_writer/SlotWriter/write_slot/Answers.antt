@@ -1,0 +1,49 @@
+use Rattle.std.proofs.Common.{◌≡◌, true, length, rules, arith, sym, subst, Some, None}
+use Rattle.std.proofs.Common.{nat_lt}
+use Rattle.std.specs.Prelude.{if◌then◌else◌}
+use Rattle.std.specs.Io.KnownBytes.{Appends}
+use Rattle.cdma_io.specs.Outside.{AppendsPrefix}
+use Rattle.mobile_core.specs.PagingStreams.{paging_rate}
+use Rattle.slot_mode.specs.Slots.{is_monitored}
+use Rattle.tuned_listener.proofs.HeardSlots.{slot_told, spans_small}
+use Rattle.tuned_listener.proofs.Prefixes.{on_err, on_ok}
+use Rattle.tuned_listener.proofs.slot_writer.SlotWriter.write_slot.Goals as goal
+
+pub slot_bits-bits-requires-clause-bound : goal.slot_bits-bits-requires-clause-bound
+slot_bits-bits-requires-clause-bound g c =
+    spans_small c.args.self.now.softs
+    (λ frame below. c.requires.ready.small frame (omega (arith, below, c.requires.whole)))
+
+pub returns-clause-ok : goal.returns-clause-ok
+returns-clause-ok g c =
+    let w = c.args.self.now in
+    let m = c.args.mark.now in
+    let long : length w.softs ≡ 1536 = search rules in
+    let awake : is_monitored c.slot_time-time.result w.key w.cycle ≡ true =
+    c.in-Some-Some.ensures.0 in
+    let told : (if nat_lt m.prat 2 then Some (paging_rate m.prat) else None)
+    ≡ Some c.in-Some-Some.rate = search rules in
+    on_ok c.write_lines.result _ _
+    (λ written slot holds. subst (Appends (g.K.Sink.written c.args.sink.now)
+    (g.K.Sink.written c.write_lines.new.sink))
+    (sym (slot_told w w.key w.cycle w.check m slot c.args.frame.now c.slot_time-time.result
+    c.in-Some-Some.rate c.slot_bits-bits.result holds c.requires.whole long c.slot_time-time.ensures
+    awake told c.slot_bits-bits.ensures.value)) written)
+    c.write_lines.ensures.ok
+
+pub returns-clause-err : goal.returns-clause-err
+returns-clause-err g c =
+    let w = c.args.self.now in
+    let m = c.args.mark.now in
+    let long : length w.softs ≡ 1536 = search rules in
+    let awake : is_monitored c.slot_time-time.result w.key w.cycle ≡ true =
+    c.in-Some-Some.ensures.0 in
+    let told : (if nat_lt m.prat 2 then Some (paging_rate m.prat) else None)
+    ≡ Some c.in-Some-Some.rate = search rules in
+    on_err c.write_lines.result _ _
+    (λ part slot holds. subst (AppendsPrefix (g.K.Sink.written c.args.sink.now)
+    (g.K.Sink.written c.write_lines.new.sink))
+    (sym (slot_told w w.key w.cycle w.check m slot c.args.frame.now c.slot_time-time.result
+    c.in-Some-Some.rate c.slot_bits-bits.result holds c.requires.whole long c.slot_time-time.ensures
+    awake told c.slot_bits-bits.ensures.value)) part)
+    c.write_lines.ensures.err

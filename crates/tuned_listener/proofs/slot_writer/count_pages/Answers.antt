@@ -1,0 +1,35 @@
+use Rattle.std.proofs.Common.{◌∙◌, ap, arith, length, rules, subst, sym, take}
+use Rattle.chip_core.proofs.BitLists.{taken_more}
+use Rattle.paging_message.specs.HalfFrames.{StandsFor}
+use Rattle.tuned_listener.proofs.SlotPages.{count_more, pages_all, pages_none}
+use Rattle.tuned_listener.proofs.slot_writer.count_pages.Goals as goal
+
+pub loop-i-init : goal.loop-i-init
+loop-i-init c = record {
+  size = c.new-framer.ensures.size;
+  stands = c.new-framer.ensures.stands;
+  count = sym (ap length (pages_none c.args.check c.args.rate c.args.bits.now));
+  few = omega arith;
+}
+
+pub loop-i-preserved : goal.loop-i-preserved
+loop-i-preserved c =
+    let inv = c.loop-i.invariant in
+    let i = c.loop-i.i in
+    let bits = c.args.bits.now in
+    let bit = c.get.result in
+    let page = c.page_behind-page in
+    record {
+      size = page.ensures.size ∙ inv.size;
+      stands = subst (StandsFor page.new.framer) (sym (taken_more bits i bit c.get.ensures))
+          (page.ensures.stands (take i bits) inv.stands);
+      count = rw (c.from-count.ensures, c.is_some.ensures)
+          (count_more c.args.check c.args.rate bits i bit c.get.ensures page.result _ inv.size
+          (page.ensures.page (take i bits) inv.stands) c.loop-i.count inv.count);
+      few = search rules;
+    }
+
+pub returns : goal.returns
+returns c =
+    c.loop-i.invariant.count
+    ∙ ap length (pages_all c.args.check c.args.rate c.args.bits.now c.loop-i.i (search rules))

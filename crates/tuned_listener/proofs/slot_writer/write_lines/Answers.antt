@@ -1,0 +1,20 @@
+use Rattle.std.proofs.Common.{ℕ, length, subst}
+use Rattle.std.specs.Io.KnownBytes.{Appends}
+use Rattle.std.specs.List.{flat_map}
+use Rattle.event_tap.specs.PagingLines.{paging_line, slot_line}
+use Rattle.tuned_listener.specs.Slots.{slot_pages}
+use Rattle.tuned_listener.proofs.Prefixes.{on_err, prefix_behind}
+use Rattle.tuned_listener.proofs.slot_writer.write_lines.Goals as goal
+
+pub returns-clause-err : goal.returns-clause-err
+returns-clause-err g c =
+    let at = c.args.at in
+    let time = c.args.time in
+    let pages = slot_pages c.args.check c.args.rate c.args.bits.now in
+    let line = subst (λ (count : ℕ). Appends (g.K.Sink.written c.args.sink.now)
+    (g.K.Sink.written c.write_slot.new.sink) (slot_line at time count)) c.count_pages.ensures
+    c.in_ok-write_slot.ensures.ok in
+    on_err c.write_pages.result _ _
+    (λ part. prefix_behind _ (g.K.Sink.written c.write_slot.new.sink) _
+    (slot_line at time (length pages)) (flat_map (paging_line at) pages) line part)
+    c.write_pages.ensures.err

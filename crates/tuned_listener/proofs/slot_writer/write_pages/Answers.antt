@@ -1,0 +1,60 @@
+use Rattle.std.proofs.Common.{◌∙◌, List, arith, rules, subst, sym, take}
+use Rattle.std.specs.Io.KnownBytes.{Appends}
+use Rattle.std.specs.List.{flat_map}
+use Rattle.std.proofs.KnownBytes.{Appends-nil}
+use Rattle.std.proofs.lemmas.Result.{err_from_is_err_and}
+use Rattle.chip_core.proofs.BitLists.{taken_more}
+use Rattle.event_tap.specs.PagingLines.{paging_line}
+use Rattle.paging_message.specs.HalfFrames.{StandsFor}
+use Rattle.paging_message.specs.declared.message.PagingMessage.{PagingMessage}
+use Rattle.tuned_listener.proofs.SlotPages.{lines_cut, lines_more, pages_all, pages_none}
+use Rattle.tuned_listener.proofs.slot_writer.write_pages.Goals as goal
+
+pub loop-i-init : goal.loop-i-init
+loop-i-init g c = record {
+  size = c.new-framer.ensures.size;
+  stands = c.new-framer.ensures.stands;
+  written =
+      subst (λ (ms : List PagingMessage). Appends (g.K.Sink.written c.args.sink.now)
+      (g.K.Sink.written c.args.sink.now) (flat_map (paging_line c.args.at) ms))
+      (sym (pages_none c.args.check c.args.rate c.args.bits.now))
+      (Appends-nil (g.K.Sink.written c.args.sink.now));
+  later = omega arith;
+}
+
+pub loop-i-preserved : goal.loop-i-preserved
+loop-i-preserved g c =
+    let inv = c.loop-i.invariant in
+    let i = c.loop-i.i in
+    let bits = c.args.bits.now in
+    let bit = c.get.result in
+    let page = c.page_behind-page in
+    record {
+      size = page.ensures.size ∙ inv.size;
+      stands = subst (StandsFor page.new.framer) (sym (taken_more bits i bit c.get.ensures))
+          (page.ensures.stands (take i bits) inv.stands);
+      written =
+          lines_more c.args.check c.args.rate bits i bit c.get.ensures page.result _ inv.size
+          (page.ensures.page (take i bits) inv.stands) c.args.at _
+          (g.K.Sink.written c.loop-i.sink) _ inv.written c.in_ok-write_page.ensures.ok;
+      later = omega (arith, inv.later, c.write_page.ensures.cause.later);
+    }
+
+pub returns-in_err-write_page-clause-err : goal.returns-in_err-write_page-clause-err
+returns-in_err-write_page-clause-err g c =
+    let inv = c.loop-i.invariant in
+    let i = c.loop-i.i in
+    let bits = c.args.bits.now in
+    let page = c.page_behind-page in
+    let p = err_from_is_err_and c.from_residual.result c.from_residual.ensures.1 in
+    rw p.1
+    (lines_cut c.args.check c.args.rate bits i c.get.result c.get.ensures page.result _ inv.size
+    (page.ensures.page (take i bits) inv.stands) c.args.at _ (g.K.Sink.written c.loop-i.sink) _
+    inv.written c.in_err-write_page.ensures.err)
+
+pub returns-clause-ok : goal.returns-clause-ok
+returns-clause-ok g c =
+    subst (λ (ms : List PagingMessage). Appends (g.K.Sink.written c.args.sink.now)
+    (g.K.Sink.written c.loop-i.sink) (flat_map (paging_line c.args.at) ms))
+    (pages_all c.args.check c.args.rate c.args.bits.now c.loop-i.i (search rules))
+    c.loop-i.invariant.written

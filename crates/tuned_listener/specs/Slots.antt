@@ -1,0 +1,61 @@
+-- The slots of a sleeping handset (TIA/EIA-95-B, 6.6.2.1.1.3), as the frames of its paging channel
+-- make them, and what is written of one.
+use Rattle.std.specs.Prelude.{ℕ, ◌+◌, ◌/◌, ◌%◌, ◌==◌, ◌&&◌, Bool, if◌then◌else◌, nat_lt}
+use Rattle.std.specs.Prelude.{List, [], ◌∷◌, ◌++◌, length}
+use Rattle.std.specs.List.{flat_map}
+use Rattle.std.specs.Option.{option_to_list}
+use Rattle.chip_core.specs.declared.check_form.CheckForm.{CheckForm}
+use Rattle.event_tap.specs.PagingLines.{paging_line, slot_line}
+use Rattle.mobile_core.specs.PagingStreams.{paging_rate}
+use Rattle.mobile_core.specs.declared.mark.Mark.{Mark}
+use Rattle.mobile_core.specs.declared.soft_frame.SoftFrame.{SoftFrame}
+use Rattle.paging_message.specs.HalfFrames.{capsules_in, half_frame_body}
+use Rattle.paging_message.specs.Reading.{paging_reading}
+use Rattle.paging_message.specs.declared.message.PagingMessage.{PagingMessage}
+use Rattle.slot_mode.specs.Frames.{slot_bits}
+use Rattle.slot_mode.specs.Slots.{is_monitored}
+use Rattle.symbol_path.specs.declared.kinds.Rate.{Rate}
+
+-- ---- the frames of a slot
+
+-- The four frames of a slot are those whose numbers, counted from the mark on, have one quotient by
+-- 4. The frames of a slot up to a frame, where those before that one are kept: a slot's first frame
+-- begins it anew, another one goes behind those before it, and where one of these is missing there
+-- are none.
+abbrev pub slot_more : List SoftFrame → SoftFrame → List SoftFrame
+slot_more kept frame =
+    if frame.number % 4 == 0 then frame ∷ []
+    else (if frame.number % 4 == length kept then kept ++ frame ∷ [] else [])
+
+-- the frames of a slot that are kept behind all of these
+unfoldable pub slot_behind : List SoftFrame → List SoftFrame → List SoftFrame
+slot_behind kept [] = kept
+slot_behind kept (frame ∷ frames) = slot_behind (slot_more kept frame) frames
+
+-- ---- its messages
+
+-- the messages of the bits of a slot: those of the capsules that lie in these bits alone
+unfoldable pub slot_pages : CheckForm → Rate → List Bool → List PagingMessage
+slot_pages check rate bits =
+    flat_map (λ capsule. option_to_list (paging_reading check capsule))
+    (capsules_in (half_frame_body rate) bits)
+
+-- ---- its lines
+
+-- the line of a slot that ends behind so many samples, and those of its messages
+abbrev pub slot_lines : ℕ → ℕ → List PagingMessage → List ℕ
+slot_lines place time pages =
+    slot_line place time (length pages) ++ flat_map (paging_line place) pages
+
+-- What is written of a slot's last frame, where the handset of a key sleeps through all slots but
+-- those of a cycle, and these are the slot's frames up to it: with all four of them, in a slot that
+-- it monitors, the lines of the slot; and nothing where the mark's data rate stands for none.
+abbrev pub slot_text : ℕ → ℕ → CheckForm → Mark → List SoftFrame → SoftFrame → List ℕ
+slot_text key cycle check m slot frame =
+    let time = m.time + frame.number / 4 in
+    let rate = paging_rate m.prat in
+    if length slot == 4 && is_monitored time key cycle && nat_lt m.prat 2
+    then slot_lines frame.end time
+    (slot_pages check rate
+    (slot_bits rate (flat_map (λ (f : SoftFrame). f.turned) slot)))
+    else []
