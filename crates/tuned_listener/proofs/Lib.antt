@@ -7,3 +7,4 @@ pub mod TunedFrames
 pub mod TunedMarks
 pub mod TunedTexts
 pub mod TunedListeners
+pub mod SlotTimes

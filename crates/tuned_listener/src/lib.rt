@@ -8,6 +8,7 @@
 #![tactic(auto)]
 
 mod frame_writer;
+pub mod laws;
 mod marking;
 mod slot_writer;
 mod tuned;
