@@ -8,3 +8,4 @@ pub mod TunedMarks
 pub mod TunedTexts
 pub mod TunedListeners
 pub mod SlotTimes
+pub mod Sleep

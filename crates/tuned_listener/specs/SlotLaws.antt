@@ -1,6 +1,6 @@
 -- The laws of what is written of a sleeping handset's slots.
-use Rattle.std.specs.Prelude.{◌≡◌, ℕ, ◌+◌, ◌*◌, ◌/◌, ◌&&◌, Bool, nat_le, nat_lt, List, []}
-use Rattle.std.specs.Prelude.{length, filter, ℤ, Some, None}
+use Rattle.std.specs.Prelude.{◌≡◌, ℕ, ◌+◌, ◌*◌, ◌/◌, ◌&&◌, Bool, IsTrue, nat_le, nat_lt, List, [], ◌∷◌}
+use Rattle.std.specs.Prelude.{length, filter, take, drop, ℤ, pos, ◌-ℤ◌, unsigned_abs, Some, None}
 use Rattle.std.specs.List.{flat_map, list_all}
 use Rattle.chip_core.specs.Bits.{places}
 use Rattle.chip_core.specs.declared.check_form.CheckForm.{CheckForm}
@@ -80,3 +80,32 @@ NeedsMark =
     (key cycle : ℕ) (t : Tuning) (number : ℕ) (samples : List Sample) →
     mark t samples (length samples) ≡ None →
     tuned_text (Slots key cycle) t (Paging number) samples ≡ []
+
+-- ---- sleep
+
+-- Two files agree in the samples of a slot that begins at reference sample u: those that a finger
+-- has of it begin as much earlier as the finger's samples come.
+abbrev pub AgreeInSlot : List Sample → List Sample → ℕ → List ℤ → Type 0
+AgreeInSlot one other u [] = Unit {0}
+AgreeInSlot one other u (delta ∷ deltas) =
+    (take 98304 (drop (unsigned_abs (pos u -ℤ delta)) one)
+    ≡ take 98304 (drop (unsigned_abs (pos u -ℤ delta)) other))
+    × AgreeInSlot one other u deltas
+
+-- they do in each slot that is heard in n samples
+abbrev pub AgreeWhereHeard : ℕ → ℕ → Tuning → ℕ → Mark → List Sample → List Sample → ℕ → Type 0
+AgreeWhereHeard key cycle t number m one other n =
+    (slot : ℕ) →
+    IsTrue (is_heard key cycle t.count (channel_stream t (Paging number) m) m n slot) →
+    AgreeInSlot one other (m.sample + 98304 * slot) t.deltas
+
+-- Two files of one length, and of one tuning, of which one sets a mark, and that agree before it and
+-- in the slots that are heard, have one text.
+abbrev pub SleepsThroughTheRest : Type 0
+SleepsThroughTheRest =
+    (key cycle : ℕ) (t : Tuning) (number : ℕ) (m : Mark) (one other : List Sample) →
+    AreNear (sync_stream t).fingers → length one ≡ length other →
+    mark t one (length one) ≡ Some m → take m.sample one ≡ take m.sample other →
+    AgreeWhereHeard key cycle t number m one other (length one) →
+    tuned_text (Slots key cycle) t (Paging number) one
+    ≡ tuned_text (Slots key cycle) t (Paging number) other

@@ -1,0 +1,158 @@
+-- What is written of a sleeping handset's slots hangs on the samples of these alone.
+use Rattle.std.proofs.Common.{◌≡◌, ℕ, ◌+◌, ◌-◌, ◌*◌, ◌<◌, ◌≤◌, true, List, [], ◌∷◌, length, refl}
+use Rattle.std.proofs.Common.{sym, ap, ◌∙◌, subst, arith, inl, inr, ℤ, pos, ◌-ℤ◌, Option, Some, None}
+use Rattle.std.proofs.Common.{take, drop, filter, length-take-le}
+use Rattle.std.specs.Prelude.{int_le, unsigned_abs}
+use Rattle.std.specs.List.{flat_map}
+use Rattle.std.proofs.lemmas.Bool.{and_parts, cases_lt}
+use Rattle.std.proofs.lemmas.Int.{ints}
+use Rattle.std.proofs.lemmas.List.{drop-drop, drop-take, take-append-drop, take-take, take_all}
+use Rattle.chip_core.specs.Bits.{places}
+use Rattle.chip_core.specs.declared.sample.Sample.{Sample}
+use Rattle.chip_core.proofs.Ranges as ranges
+use Rattle.rake_finger.specs.declared.form.Form.TheVariants.{Data}
+use Rattle.mobile_core.specs.Channels.{channel_stream}
+use Rattle.mobile_core.specs.FrameSamples.{AgreeIn}
+use Rattle.mobile_core.specs.Marks.{mark}
+use Rattle.mobile_core.specs.Near.{AreNear, all_near, has_reference, low_of}
+use Rattle.mobile_core.specs.PagingStreams.{paging_rate}
+use Rattle.mobile_core.specs.Streams.{Stream, frame_softs, frame_start}
+use Rattle.mobile_core.specs.Tuning.{Tuning, finger_of, fingers_of, sync_stream}
+use Rattle.mobile_core.specs.declared.channel.Channel.TheVariants.{Paging}
+use Rattle.mobile_core.specs.declared.mark.Mark.{Mark}
+use Rattle.mobile_core.specs.declared.soft_frame.SoftFrame.{SoftFrame}
+use Rattle.mobile_core.proofs.FingerTimes.{near_parts, timed_of}
+use Rattle.mobile_core.proofs.FrameSamples.{frame_same}
+use Rattle.mobile_core.proofs.MarkStays.{mark_behind, mark_pilot, mark_sooner, mark_stays}
+use Rattle.mobile_core.proofs.MarkStays.{paging_near}
+use Rattle.slot_mode.specs.Frames.{slot_bits}
+use Rattle.tuned_listener.specs.SlotLaws.{AgreeInSlot, SleepsThroughTheRest}
+use Rattle.tuned_listener.specs.SlotLaws.{frame_of_slot, frame_of_slot_end, is_heard}
+use Rattle.tuned_listener.specs.SlotLaws.{lines_of_slot, slot_bound}
+use Rattle.tuned_listener.specs.Slots.{slot_lines, slot_pages}
+use Rattle.tuned_listener.proofs.SlotTimes.{mark_is_late, written_by_times}
+
+-- ---- the samples of a slot, and of its frames
+-- lists that agree in a part do so in a part of that
+parts_agree : {A : Type 0} (one other : List A) (place off count rest : ℕ) →
+    take (off + (count + rest)) (drop place one) ≡ take (off + (count + rest)) (drop place other) →
+    take count (drop (place + off) one) ≡ take count (drop (place + off) other)
+parts_agree {A} one other place off count rest same =
+    sym (cut one) ∙ ap (λ (xs : List A). take count (drop off xs)) same ∙ cut other
+  where
+    cut : (xs : List A) →
+        take count (drop off (take (off + (count + rest)) (drop place xs)))
+        ≡ take count (drop (place + off) xs)
+    cut xs =
+        ap (take count) (drop-take off (count + rest) (drop place xs))
+        ∙ take-take count (count + rest) (drop off (drop place xs)) (omega arith)
+        ∙ ap (take count) (drop-drop off place xs)
+
+-- a finger reads the slot's frames as far behind one another as the reference path does
+place_on : (u n : ℕ) (d : ℤ) → int_le d (pos 127) ≡ true → 127 ≤ u →
+    unsigned_abs (pos u -ℤ d) + n ≡ unsigned_abs (pos (u + n) -ℤ d)
+place_on u n d near late = grind (arith, ints)
+
+-- two files that agree in the samples of a slot do so in those of one of its frames
+frame_agrees : (one other : List Sample) (row phase u i : ℕ) → 127 ≤ u → i < 4 → (deltas : List ℤ) →
+    all_near (fingers_of row phase deltas) ≡ true → AgreeInSlot one other u deltas →
+    AgreeIn one other Data (u + 24576 * i) (fingers_of row phase deltas)
+frame_agrees one other row phase u i late few [] near agree = tt
+frame_agrees one other row phase u i late few (d ∷ deltas) near agree =
+    let is = near_parts (finger_of row phase d) (fingers_of row phase deltas) near in
+    let place : ℕ = unsigned_abs (pos u -ℤ d) in
+    let off : ℕ = 24576 * i in
+    let rest : ℕ = 73728 - 24576 * i in
+    let whole : 98304 ≡ off + (24576 + rest) = omega (arith, few) in
+    let same = subst (λ (n : ℕ). take n (drop place one) ≡ take n (drop place other)) whole agree.0 in (
+      subst (λ (at' : ℕ). take 24576 (drop at' one) ≡ take 24576 (drop at' other))
+          (place_on u off d is.1 late) (parts_agree one other place off 24576 rest same),
+      frame_agrees one other row phase u i late few deltas is.2 agree.1,
+    )
+
+module _ (t : Tuning) (near : AreNear (sync_stream t).fingers) (m : Mark) (one other : List Sample) where
+  -- ---- a slot's lines
+  module _ (late : 127 ≤ m.sample) (number slot : ℕ)
+      (agree : AgreeInSlot one other (m.sample + 98304 * slot) t.deltas) where
+    abbrev stream : Stream
+    stream = channel_stream t (Paging number) m
+
+    softs_same : (i : ℕ) → i < 4 →
+        frame_softs one stream (frame_of_slot slot i) ≡ frame_softs other stream (frame_of_slot slot i)
+    softs_same i few =
+        let close = (and_parts (all_near stream.fingers) (has_reference stream.fingers)
+        (paging_near t near number m)).0 in
+        let start : m.sample + 98304 * slot + 24576 * i ≡ frame_start stream (frame_of_slot slot i) =
+        omega arith in
+        ap (λ (f : SoftFrame). f.turned)
+        (frame_same t (Paging number) m one other (frame_of_slot slot i)
+        (subst (λ (u : ℕ). AgreeIn one other Data u stream.fingers) start
+        (frame_agrees one other number t.phase (m.sample + 98304 * slot) i (omega (arith, late)) few
+        t.deltas close agree)))
+
+    lines_same : lines_of_slot t.check30 m one stream slot ≡ lines_of_slot t.check30 m other stream slot
+    lines_same =
+        ap
+        (λ (softs : List ℤ). slot_lines (frame_of_slot_end stream slot 3) (m.time + slot)
+        (slot_pages t.check30 (paging_rate m.prat) (slot_bits (paging_rate m.prat) softs)))
+        (ranges.flat_map_ext_places (λ i. frame_softs one stream (frame_of_slot slot i))
+        (λ i. frame_softs other stream (frame_of_slot slot i)) 4 softs_same)
+
+  -- ---- the mark
+  -- it is set by samples before it
+  set_before : mark t one (length one) ≡ Some m → m.sample ≤ length one →
+      mark t one m.sample ≡ Some m
+  set_before marked few = by_mark (mark t one m.sample) refl
+    where
+      by_mark : (found : Option Mark) → mark t one m.sample ≡ found → found ≡ Some m
+      by_mark None none =
+          let pilot = mark_pilot t one (length one) m marked in
+          let less = mark_behind t (low_of t) (timed_of t near) near one m.sample (length one) m pilot
+          none marked in
+          absurd (omega (arith, less))
+      by_mark (Some found) is =
+          sym (mark_stays t (low_of t) (timed_of t near) one m.sample (length one) found few is)
+          ∙ marked
+
+  -- and hangs on these alone
+  set_by_first : (samples : List Sample) → m.sample ≤ length samples →
+      mark t samples m.sample ≡ mark t (take m.sample samples) m.sample
+  set_by_first samples few =
+      let first = take m.sample samples in
+      ap (λ (xs : List Sample). mark t xs m.sample) (sym (take-append-drop m.sample samples))
+      ∙ mark_sooner t (low_of t) (timed_of t near) first (drop m.sample samples) m.sample
+      (omega (arith, length-take-le m.sample samples few))
+
+  pub same_mark : length one ≡ length other → mark t one (length one) ≡ Some m →
+      take m.sample one ≡ take m.sample other → mark t other (length other) ≡ Some m
+  same_mark long marked same =
+      elim (cases_lt (length one) m.sample) [
+        | inl less ↦
+            let all : one ≡ other =
+            sym (take_all m.sample one (omega (arith, less)))
+            ∙ same
+            ∙ take_all m.sample other (omega (arith, less, long)) in
+            subst (λ (xs : List Sample). mark t xs (length xs) ≡ Some m) all marked
+        | inr few ↦
+            let few' : m.sample ≤ length other = omega (arith, few, long) in
+            let set = set_by_first other few'
+            ∙ ap (λ (xs : List Sample). mark t xs m.sample) (sym same)
+            ∙ sym (set_by_first one few)
+            ∙ set_before marked few in
+            mark_stays t (low_of t) (timed_of t near) other m.sample (length other) m few' set
+      ]
+
+pub sleeps : SleepsThroughTheRest
+sleeps key cycle t number m one other near long marked same agree =
+    let s = channel_stream t (Paging number) m in
+    let late : 127 ≤ m.sample = omega (arith, mark_is_late t near one m marked) in
+    let heard = is_heard key cycle t.count s m (length one) in
+    let told = same_mark t near m one other long marked same in
+    written_by_times key cycle t number m one near marked
+    ∙ ranges.flat_map_ext_filter heard (lines_of_slot t.check30 m one s)
+    (lines_of_slot t.check30 m other s) (places (slot_bound (length one)))
+    (λ slot is. lines_same t near m one other late number slot (agree slot is))
+    ∙ ap
+    (λ (n : ℕ). flat_map (lines_of_slot t.check30 m other s)
+    (filter (is_heard key cycle t.count s m n) (places (slot_bound n)))) long
+    ∙ sym (written_by_times key cycle t number m other near told)
