@@ -1,0 +1,4 @@
+pub mod Laws
+pub mod SentSlots
+pub mod SlotPages
+mod Worked

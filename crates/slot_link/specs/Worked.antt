@@ -1,0 +1,45 @@
+-- Worked values of the pages in a slot, which the checker computes.
+use Rattle.std.specs.Prelude.{◌≡◌, refl, true, false, List, [], ◌∷◌, ◌++◌, replicate}
+use Rattle.chip_core.specs.Bits.{binary, places}
+use Rattle.chip_core.specs.declared.check_form.CheckForm.TheVariants.{Plain}
+use Rattle.quality_bits.specs.Capsules.{capsule}
+use Rattle.quality_bits.specs.Quality.{check_bits}
+use Rattle.symbol_path.specs.declared.kinds.Rate.TheVariants.{R9600}
+use Rattle.paging_message.specs.Laying.{fill, framed, half_frames_of, laid_on}
+use Rattle.paging_message.specs.Reading.{message_at}
+use Rattle.paging_message.specs.declared.message.PagingMessage.{PagingMessage}
+use Rattle.paging_message.specs.declared.message.PagingMessage.TheVariants.{Other}
+use Rattle.base_modulator.specs.Pages.{page_cycle}
+use Rattle.base_modulator.specs.declared.plan.Page.{Page}
+use Rattle.slot_link.specs.SlotPages.{pages_in_slot}
+
+-- A page of 10 bits of body, and one of 146: in half-frames of 95 bits the first one lies in a
+-- half-frame of its own, and the second in two. So the cycle has three half-frames.
+pages : List Page
+pages =
+    record { follows = false; body = replicate 8 true ++ replicate 2 false } ∷
+    record { follows = false; body = binary 8 6 ++ replicate 138 true } ∷ []
+
+short : PagingMessage
+short = Other (record { kind = 255; bits = replicate 2 false })
+
+long : PagingMessage
+long = Other (record { kind = 6; bits = replicate 138 true })
+
+-- The slot of half-frames 0 to 7: the third long page is cut off by its end.
+first_slot : pages_in_slot R9600 Plain pages 0 ≡ short ∷ long ∷ short ∷ long ∷ short ∷ []
+unfolding pages short long page_cycle pages_in_slot half_frames_of framed laid_on fill capsule
+    check_bits places binary message_at
+first_slot = refl
+
+-- That of half-frames 8 to 15 begins with the second half of that page, which isn't heard.
+second_slot : pages_in_slot R9600 Plain pages 4 ≡ short ∷ long ∷ short ∷ long ∷ short ∷ []
+unfolding pages short long page_cycle pages_in_slot half_frames_of framed laid_on fill capsule
+    check_bits places binary message_at
+second_slot = refl
+
+-- And that of half-frames 16 to 23 begins with a whole page, and ends with the last bit of one.
+third_slot : pages_in_slot R9600 Plain pages 8 ≡ long ∷ short ∷ long ∷ short ∷ long ∷ []
+unfolding pages short long page_cycle pages_in_slot half_frames_of framed laid_on fill capsule
+    check_bits places binary message_at
+third_slot = refl

@@ -1,0 +1,27 @@
+//! Laws of the definitions: each function does nothing, and its contract is the law.
+
+ghost use Rattle.slot_link.specs.Laws.{SpansComeBack, SlotBitsComeBack, SlotPagesComeBack};
+ghost use Rattle.slot_link.specs.Laws.{SlotsComeBack, SlotTextsComeBack};
+
+/// Of frames whose soft values are one positive number times the signs of what a channel sends,
+/// each comes back from any span that it lies in, whatever the encoder held before the span. So the
+/// bits of a slot are those that the channel sends in it.
+pub fn slot_bits_come_back()
+    ensures spans { SpansComeBack }
+    ensures slot { SlotBitsComeBack }
+{}
+
+/// The bits of a slot of a cycle of pages spell the pages whose run begins in the slot and which
+/// end in it, once for each round of the cycle, in order, and nothing else.
+pub fn slot_pages_come_back()
+    ensures { SlotPagesComeBack }
+{}
+
+/// On a clean link these pages come back of each slot that begins at the mark or behind it and ends
+/// in the file. What is written for a handset that sleeps through all slots but those of its cycle
+/// is the line of each monitored slot, with the number of samples at which it ends and its time,
+/// and the lines of its pages; and nothing where no mark is set or the cell's PRAT is 2 or 3.
+pub fn slots_come_back()
+    ensures slots { SlotsComeBack }
+    ensures text { SlotTextsComeBack }
+{}
