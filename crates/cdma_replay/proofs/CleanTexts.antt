@@ -32,7 +32,8 @@ use Rattle.clean_link.proofs.signal.Samples.{length-made}
 use Rattle.cdma_words.specs.declared.job.TrafficOptions.{TrafficOptions}
 use Rattle.cdma_replay.specs.Hearing.{best_pilot, clean_end, clean_events, end_when, told}
 use Rattle.cdma_replay.specs.Hearing.{file_end_of, file_text, traffic_of, tuning_for}
-use Rattle.cdma_replay.specs.Replies.{AnswersBehind, IsFileReply, IsWholeFile, Reply, following}
+use Rattle.cdma_replay.specs.Replies.{AnswersBehind, IsFileReply, IsWholeFile, Reply}
+use Rattle.cdma_replay.specs.Tasks.{following}
 use Rattle.cdma_replay.specs.declared.handset.Receiver.{Receiver}
 use Rattle.cdma_replay.specs.declared.status.Status.{Status}
 use Rattle.cdma_replay.specs.declared.status.Status.TheVariants.{NoMemory}

@@ -17,27 +17,26 @@ use Rattle.base_modulator.specs.declared.plan.CellPlan.{CellPlan}
 use Rattle.base_modulator.specs.declared.script_fault.ScriptFault.{ScriptFault}
 use Rattle.base_modulator.specs.declared.script_fault.ScriptFault.TheVariants.{OutOfMemory}
 use Rattle.base_modulator.specs.Script.{plan_named}
-use Rattle.event_tap.specs.Taps.{KeptTap, kept_by}
+use Rattle.event_tap.specs.Taps.{KeptTap}
 use Rattle.cdma_words.specs.declared.job.Job.{Job}
-use Rattle.cdma_words.specs.declared.job.Job.TheVariants.{Find, Follow, Make, Rate2, Survey, Trial}
-use Rattle.cdma_words.specs.declared.job.Job.TheVariants as jobs
-use Rattle.tuned_listener.specs.declared.tuned_text.TunedText.TheVariants.{Listed, RateSetTwo}
 use Rattle.tuned_listener.proofs.Prefixes.{front_begins, taken_begins}
 use Rattle.cdma_replay.specs.declared.receiving.Reception.{Reception}
 use Rattle.cdma_replay.specs.declared.status.Status.{Status}
-use Rattle.cdma_replay.specs.Broken.{HasWritten, IsCut, WritesAll, WritesFirst}
+use Rattle.cdma_replay.specs.declared.task.Task.{Task}
+use Rattle.cdma_replay.specs.declared.task.Task.TheVariants.{Make, Receive, Trial}
+use Rattle.cdma_replay.specs.Broken.{IsCut, WritesAll, WritesFirst}
 use Rattle.cdma_replay.specs.Find.{BeginsText, IsEnd, IsFaultIn, IsOfFiles, IsSearchable}
 use Rattle.cdma_replay.specs.Find.{WritesNoMore, WritesText, ended}
-use Rattle.cdma_replay.specs.Hearing.{IsUntapped, file_end_of, file_text, first_text, listening}
-use Rattle.cdma_replay.specs.Hearing.{told}
+use Rattle.cdma_replay.specs.Hearing.{IsUnheard, file_end_of, file_text}
 use Rattle.cdma_replay.specs.declared.purpose.Purpose.{Purpose}
 use Rattle.cdma_replay.specs.declared.purpose.Purpose.TheVariants as purposes
 use Rattle.cdma_replay.specs.Make.{BeginsMadeFile, WritesMadeFile, WritesNoMoreMade, made_file}
-use Rattle.cdma_replay.specs.Replies.{Answers, AnswersBehind, IsAnswered, IsEndOf, IsFaultyFile}
-use Rattle.cdma_replay.specs.Replies.{IsFaultyScript, IsFileEnd, IsFileReply, IsReply, IsScriptEnd}
-use Rattle.cdma_replay.specs.Replies.{IsScriptReply, IsSearchEnd, IsVerdict, IsWholeFile}
-use Rattle.cdma_replay.specs.Replies.{IsEarlyFault, IsWholeScript, Reply, WritesPart, finding}
-use Rattle.cdma_replay.specs.Replies.{IsTrialEnd, IsTrialReply, following, hearing, surveying}
+use Rattle.cdma_replay.specs.Replies.{Answers, AnswersBehind, IsAnswered, IsEarlyFault, IsFaultyFile}
+use Rattle.cdma_replay.specs.Replies.{IsFaultyScript, IsFileEnd, IsFileReply, IsPurposeEnd, IsReply}
+use Rattle.cdma_replay.specs.Replies.{IsScriptEnd, IsScriptReply, IsSearchEnd, IsTaskEnd}
+use Rattle.cdma_replay.specs.Replies.{IsTaskReply, IsTrialEnd, IsTrialReply, IsVerdict, IsWholeFile}
+use Rattle.cdma_replay.specs.Replies.{IsWholeScript, Reply, WritesPart, taps_by}
+use Rattle.cdma_replay.specs.Tasks.{task_of}
 use Rattle.cdma_replay.specs.Trials.{trial_line}
 use Rattle.cdma_io.specs.Outside.{AppendsPrefix}
 use Rattle.cdma_replay.proofs.Files.{no_fault, one_fault}
@@ -119,6 +118,14 @@ search_end Status.ReadFault end alone = tt
 search_end Status.WriteFault end alone = tt
 search_end Status.NoMemory end alone = tt
 
+-- for a purpose
+pub purpose_end : (purpose : Purpose) (status : Status) → IsFileEnd status →
+    (IsUnheard purpose → status ≢ Status.NoSync) → IsPurposeEnd purpose status
+purpose_end purposes.Find status end alone = search_end status end (alone tt)
+purpose_end (purposes.Follow receiver) status end alone = end
+purpose_end (purposes.Tuned fingers channel text) status end alone = end
+purpose_end (purposes.Survey base width top) status end alone = search_end status end (alone tt)
+
 -- taps have one name
 pub file_verdict_by : {taps named : List KeptTap} → taps ≡ named → (r : Reception)
     (status : Status) (rest old new : Option (List ℕ)) →
@@ -135,100 +142,7 @@ file_part {taps} {named} {r} {rest} {old} {new} same wrote =
     subst (λ (k : List KeptTap). WritesPart (BeginsText k r rest) old new) same
     (record { text = wrote.text; written = wrote.written; part = wrote.part })
 
--- the taps that are handed in don't matter
-abbrev pub HasOneText : List KeptTap → Reception → Type 0
-HasOneText taps r =
-    (header : Header) (samples : List Sample) →
-    file_text taps r header samples ≡ file_text [] r header samples
-
-same_text : (taps : List KeptTap) (purpose : Purpose) → IsUntapped purpose → (header : Header)
-    (first samples : List Sample) →
-    first_text taps purpose first ++ told (listening taps purpose header first) samples
-    ≡ first_text [] purpose first ++ told (listening [] purpose header first) samples
-same_text taps purposes.Find untapped header first samples = refl
-same_text taps (purposes.Follow receiver) untapped header first samples = absurd untapped
-same_text taps (purposes.Tuned fingers channel text) untapped header first samples = refl
-same_text taps (purposes.Survey base width top) untapped header first samples = refl
-
--- so it is where they hear nothing
-pub one_text : (taps : List KeptTap) (r : Reception) → IsUntapped r.purpose → HasOneText taps r
-unfolding file_text
-one_text taps r untapped header samples =
-    same_text taps r.purpose untapped header (take r.span samples) samples
-
-untapped_whole : (taps : List KeptTap) (r : Reception) (status : Status)
-    (rest old new : Option (List ℕ)) → HasOneText taps r →
-    IfSome rest (λ bytes. WritesText taps r status bytes old new) →
-    IfSome rest (λ bytes. WritesText [] r status bytes old new)
-untapped_whole taps r status None old new same wrote = tt
-untapped_whole taps r status (Some bytes) old new same wrote = record {
-  searchable = wrote.searchable;
-  written =
-      subst (Appends old new) (same wrote.searchable.header wrote.searchable.samples)
-      wrote.written;
-  ends = wrote.ends;
-}
-
-pub untapped_verdict : {taps : List KeptTap} (r : Reception) (status : Status)
-    (rest old new : Option (List ℕ)) → HasOneText taps r →
-    HasCauses taps r status rest old new → IsVerdict status →
-    IfSome rest (λ bytes. IsAnswered (IsFileReply [] r bytes) status old new)
-untapped_verdict {taps} r status rest old new same causes =
-    file_verdict [] r status rest old new (record {
-      done = λ (end : IsEnd status).
-          untapped_whole taps r status rest old new same (causes.done end);
-      others = causes.others;
-      bad_file = causes.bad_file;
-      place = causes.place;
-    })
-
-untapped_begins : {taps : List KeptTap} {r : Reception} {rest : Option (List ℕ)}
-    {text : List ℕ} → HasOneText taps r → (text ≡ []) ⊎ BeginsText taps r rest text →
-    (text ≡ []) ⊎ BeginsText [] r rest text
-untapped_begins same (inl none) = inl none
-untapped_begins {taps} {r} {rest} {text} same (inr part) = inr (record {
-  header = part.header;
-  samples = part.samples;
-  counted = part.counted;
-  first = part.first;
-  begins = subst (λ (all : List ℕ). StartsWith all text) (same part.header part.samples)
-      part.begins;
-})
-
-pub untapped_part : {taps : List KeptTap} (r : Reception) {rest old new : Option (List ℕ)} →
-    HasOneText taps r → WritesNoMore taps r rest old new →
-    WritesPart (BeginsText [] r rest) old new
-untapped_part r same wrote = record {
-  text = wrote.text;
-  written = wrote.written;
-  part = untapped_begins same wrote.part;
-}
-
-untapped_written : {taps : List KeptTap} {r : Reception} {header : Header} {bytes : List ℕ}
-    {counted : ℕ → Type 0} {old new : Option (List ℕ)} → HasOneText taps r →
-    HasWritten taps r header bytes counted old new → HasWritten [] r header bytes counted old new
-untapped_written {taps} {r} {header} {bytes} {counted} {old} {new} same w = record {
-  samples = w.samples;
-  enough = w.enough;
-  number = w.number;
-  first = w.first;
-  written = subst (Appends old new) (same header w.samples) w.written;
-}
-
 -- what was written where the file breaks off, or goes on
-pub untapped_first : (taps : List KeptTap) (r : Reception) (rest left old new : Option (List ℕ)) →
-    HasOneText taps r → WritesFirst taps r rest left old new → WritesFirst [] r rest left old new
-untapped_first taps r None left old new same wrote = tt
-untapped_first taps r (Some bytes) left old new same wrote =
-    λ (header : Header) taken n opened consumed long enough some.
-    untapped_written same (wrote header taken n opened consumed long enough some)
-
-pub untapped_all : (taps : List KeptTap) (r : Reception) (rest old new : Option (List ℕ)) →
-    HasOneText taps r → WritesAll taps r rest old new → WritesAll [] r rest old new
-untapped_all taps r None old new same wrote = tt
-untapped_all taps r (Some bytes) old new same wrote =
-    λ (header : Header) opened. untapped_written same (wrote header opened)
-
 pub file_first : {taps named : List KeptTap} (r : Reception) (rest left old new : Option (List ℕ)) →
     taps ≡ named → WritesFirst taps r rest left old new → WritesFirst named r rest left old new
 file_first {taps} {named} r rest left old new same wrote =
@@ -463,21 +377,21 @@ one_trial_reply number (Ok one) (Ok other) a b =
 one_trial_reply number (Ok one) (Err other) a b = absurd b
 one_trial_reply number (Err one) other a b = absurd a
 
--- whatever the command
+-- whatever the task
+pub one_task_reply : (forms : List ℕ) (task : Task) (bytes : List ℕ) (one other : Reply) →
+    IsTaskReply forms task bytes one → IsTaskReply forms task bytes other → one ≡ other
+one_task_reply forms (Receive r limits) bytes one other a b =
+    one_file_reply (taps_by limits forms) r bytes one other a b
+one_task_reply forms (Make width) bytes one other a b =
+    one_script_reply width bytes one other a b
+one_task_reply forms (Trial number workers) bytes one other a b =
+    one_trial_reply number one other a b
+
+-- and the command
 pub one_reply : (forms : List ℕ) (job : Job) (bytes : List ℕ) (one other : Reply) →
     IsReply forms job bytes one → IsReply forms job bytes other → one ≡ other
-one_reply forms (Find span workers) bytes one other a b =
-    one_file_reply [] (finding span workers) bytes one other a b
-one_reply forms (Follow span workers fingers paging traffic limits) bytes one other a b =
-    one_file_reply (kept_by limits forms) (following span workers fingers paging traffic) bytes one other a b
-one_reply forms (Rate2 span workers fingers traffic) bytes one other a b =
-    one_file_reply [] (hearing span workers fingers traffic RateSetTwo) bytes one other a b
-one_reply forms (jobs.List span workers fingers traffic k) bytes one other a b =
-    one_file_reply [] (hearing span workers fingers traffic (Listed k)) bytes one other a b
-one_reply forms (Survey span workers base width top) bytes one other a b =
-    one_file_reply [] (surveying span workers base width top) bytes one other a b
-one_reply forms (Make width) bytes one other a b = one_script_reply width bytes one other a b
-one_reply forms (Trial number workers) bytes one other a b = one_trial_reply number one other a b
+one_reply forms job bytes one other a b =
+    one_task_reply forms (task_of job) bytes one other a b
 
 -- ---- just that reply
 
@@ -489,66 +403,81 @@ settled held (Ok whole) status (Some now) answers =
 settled held (Err end) status new answers = answers
 
 -- an answer is that of the reply that the input is owed
-owed_answer : (forms : List ℕ) (job : Job) (status : Status) (bytes held : List ℕ) (reply : Reply)
+owed_answer : (forms : List ℕ) (task : Task) (status : Status) (bytes held : List ℕ) (reply : Reply)
     (rest old new : Option (List ℕ)) →
-    IfSome rest (λ bytes. IsAnswered (IsReply forms job bytes) status old new) →
-    rest ≡ Some bytes → old ≡ Some held → IsReply forms job bytes reply →
+    IfSome rest (λ bytes. IsAnswered (IsTaskReply forms task bytes) status old new) →
+    rest ≡ Some bytes → old ≡ Some held → IsTaskReply forms task bytes reply →
     AnswersBehind held reply status new
-owed_answer forms job status bytes held reply rest old new answered is was owed =
-    let a : IsAnswered (IsReply forms job bytes) status (Some held) new =
+owed_answer forms task status bytes held reply rest old new answered is was owed =
+    let a : IsAnswered (IsTaskReply forms task bytes) status (Some held) new =
     rw (is, was) at answered in
     subst (λ (r : Reply). AnswersBehind held r status new)
-    (one_reply forms job bytes a.reply reply a.owed owed)
+    (one_task_reply forms task bytes a.reply reply a.owed owed)
     (settled held a.reply status new a.answers)
 
-pub named_well : (job : Job) → ¬ (IsEndOf job Status.BadWords)
-named_well (Find span workers) end = end
-named_well (Follow span workers fingers paging traffic limits) end = end
-named_well (Rate2 span workers fingers traffic) end = end
-named_well (jobs.List span workers fingers traffic k) end = end
-named_well (Survey span workers base width top) end = end
+ends_otherwise : (purpose : Purpose) → ¬ (IsPurposeEnd purpose Status.BadWords)
+ends_otherwise purposes.Find end = end
+ends_otherwise (purposes.Follow receiver) end = end
+ends_otherwise (purposes.Tuned fingers channel text) end = end
+ends_otherwise (purposes.Survey base width top) end = end
+
+pub named_well : (task : Task) → ¬ (IsTaskEnd task Status.BadWords)
+named_well (Receive r limits) end = ends_otherwise r.purpose end
 named_well (Make width) end = end
 named_well (Trial number workers) end = end
 
 -- where nothing failed
-pub exact_answer : (forms : List ℕ) (job : Job) (status : Status) (rest old new : Option (List ℕ))
-    (R W : Type 0) → IsEndOf job status →
+pub exact_answer : (forms : List ℕ) (task : Task) (status : Status) (rest old new : Option (List ℕ))
+    (R W : Type 0) → IsTaskEnd task status →
     (IsVerdict status →
-    IfSome rest (λ bytes. IsAnswered (IsReply forms job bytes) status old new)) →
+    IfSome rest (λ bytes. IsAnswered (IsTaskReply forms task bytes) status old new)) →
     (status ≡ Status.ReadFault → R) → (status ≡ Status.WriteFault → W) →
     (bytes held : List ℕ) (reply : Reply) → rest ≡ Some bytes → old ≡ Some held →
-    IsReply forms job bytes reply → ¬ R → ¬ W →
+    IsTaskReply forms task bytes reply → ¬ R → ¬ W →
     (status ≡ Status.NoMemory) ⊎ AnswersBehind held reply status new
-exact_answer forms job Status.Done rest old new R W end verdict read write bytes held reply is was
+exact_answer forms task Status.Done rest old new R W end verdict read write bytes held reply is was
     owed reads writes =
-    inr (owed_answer forms job Status.Done bytes held reply rest old new (verdict tt) is was owed)
-exact_answer forms job Status.NoSync rest old new R W end verdict read write bytes held reply is was
+    inr (owed_answer forms task Status.Done bytes held reply rest old new (verdict tt) is was owed)
+exact_answer forms task Status.NoSync rest old new R W end verdict read write bytes held reply is was
     owed reads writes =
-    inr (owed_answer forms job Status.NoSync bytes held reply rest old new (verdict tt) is was owed)
-exact_answer forms job (Status.BadFile fault) rest old new R W end verdict read write bytes held
+    inr (owed_answer forms task Status.NoSync bytes held reply rest old new (verdict tt) is was owed)
+exact_answer forms task (Status.BadFile fault) rest old new R W end verdict read write bytes held
     reply is was owed reads writes =
-    inr (owed_answer forms job (Status.BadFile fault) bytes held reply rest old new (verdict tt) is
+    inr (owed_answer forms task (Status.BadFile fault) bytes held reply rest old new (verdict tt) is
     was owed)
-exact_answer forms job (Status.BadScript fault) rest old new R W end verdict read write bytes held
+exact_answer forms task (Status.BadScript fault) rest old new R W end verdict read write bytes held
     reply is was owed reads writes =
-    inr (owed_answer forms job (Status.BadScript fault) bytes held reply rest old new (verdict tt)
+    inr (owed_answer forms task (Status.BadScript fault) bytes held reply rest old new (verdict tt)
     is was owed)
-exact_answer forms job Status.BadWords rest old new R W end verdict read write bytes held reply is
-    was owed reads writes = absurd (named_well job end)
-exact_answer forms job Status.ReadFault rest old new R W end verdict read write bytes held reply is
+exact_answer forms task Status.BadWords rest old new R W end verdict read write bytes held reply is
+    was owed reads writes = absurd (named_well task end)
+exact_answer forms task Status.ReadFault rest old new R W end verdict read write bytes held reply is
     was owed reads writes = absurd (reads (read refl))
-exact_answer forms job Status.WriteFault rest old new R W end verdict read write bytes held reply is
+exact_answer forms task Status.WriteFault rest old new R W end verdict read write bytes held reply is
     was owed reads writes = absurd (writes (write refl))
-exact_answer forms job Status.NoMemory rest old new R W end verdict read write bytes held reply is
+exact_answer forms task Status.NoMemory rest old new R W end verdict read write bytes held reply is
     was owed reads writes = inl refl
 
 -- ---- what was asked for
 
-pub owed_at : (forms : List ℕ) (one other : Job) (bytes : List ℕ) (reply : Reply) → one ≡ other →
-    IsReply forms other bytes reply → IsReply forms one bytes reply
+pub owed_at : (forms : List ℕ) (one other : Task) (bytes : List ℕ) (reply : Reply) → one ≡ other →
+    IsTaskReply forms other bytes reply → IsTaskReply forms one bytes reply
 owed_at forms one other bytes reply same owed =
-    subst (λ (job : Job). IsReply forms job bytes reply) (sym same) owed
+    subst (λ (task : Task). IsTaskReply forms task bytes reply) (sym same) owed
 
 pub same_job : (named : Option Job) (one other : Job) → named ≡ Some one → named ≡ Some other →
     one ≡ other
 same_job named one other is so = cc
+
+-- the task of one is that of the other
+pub task_named : {named : Option Job} (task : Task) (one other : Job) → task ≡ task_of one →
+    named ≡ Some one → named ≡ Some other → task ≡ task_of other
+task_named {named} task one other is so also =
+    is ∙ ap (λ (job : Job). task_of job) (same_job named one other so also)
+
+-- so what is said of it is said of the other
+pub said_of : {named : Option Job} {task : Task} {one : Job} (other : Job) (Says : Task → Type 0) →
+    task ≡ task_of one → named ≡ Some one → named ≡ Some other → Says task →
+    Says (task_of other)
+said_of {named} {task} {one} other Says is so also said =
+    subst Says (task_named task one other is so also) said

@@ -99,11 +99,6 @@ listening taps (Tuned fingers channel text) header first =
     ByFrames (tuning_for header first (waiting fingers)) channel text
 listening taps (Survey base width top) header first = Nobody
 
--- a file whose taps hear nothing
-abbrev pub IsUntapped : Purpose → Type 0
-IsUntapped (Follow receiver) = ⊥
-IsUntapped purpose = Unit {0}
-
 -- what is told of samples
 unfoldable pub told : Listening → List Sample → List ℕ
 told Nobody samples = []

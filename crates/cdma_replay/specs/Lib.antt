@@ -9,4 +9,5 @@ pub mod Ranks
 pub mod Replies
 pub mod SentLines
 pub mod Status
+pub mod Tasks
 pub mod Trials

@@ -16,20 +16,18 @@ use Rattle.base_modulator.specs.declared.script_fault.ScriptFault.TheVariants as
 use Rattle.base_modulator.specs.Script.{plan_named}
 use Rattle.event_tap.specs.Taps.{KeptTap, kept_by}
 use Rattle.cdma_words.specs.declared.job.Job.{Job}
-use Rattle.cdma_words.specs.declared.job.TrafficOptions.{TrafficOptions}
-use Rattle.cdma_words.specs.declared.job.Job.TheVariants.{Find, Follow, Make, Rate2, Survey, Trial}
-use Rattle.cdma_words.specs.declared.job.Job.TheVariants as jobs
-use Rattle.tuned_listener.specs.declared.tuned_text.TunedText.{TunedText}
-use Rattle.tuned_listener.specs.declared.tuned_text.TunedText.TheVariants.{Listed, RateSetTwo}
+use Rattle.cdma_replay.specs.declared.purpose.Purpose.{Purpose}
 use Rattle.cdma_replay.specs.declared.purpose.Purpose.TheVariants as purposes
 use Rattle.cdma_replay.specs.declared.receiving.Reception.{Reception}
 use Rattle.cdma_replay.specs.declared.status.Status.{Status}
 use Rattle.cdma_replay.specs.declared.status.Status.TheVariants as ends
+use Rattle.cdma_replay.specs.declared.task.Task.{Task}
+use Rattle.cdma_replay.specs.declared.task.Task.TheVariants.{Make, Receive, Trial}
 use Rattle.cdma_replay.specs.Broken.{WritesAll, WritesFirst}
 use Rattle.cdma_replay.specs.Find.{BeginsFile, BeginsText, IsFaultIn, IsHeaderFault, IsSearchable}
-use Rattle.cdma_replay.specs.Hearing.{file_end_of, file_text, traffic_of}
-use Rattle.mobile_core.specs.declared.channel.Channel.TheVariants as channels
+use Rattle.cdma_replay.specs.Hearing.{file_end_of, file_text}
 use Rattle.cdma_replay.specs.Make.{BeginsMadeFile, made_file}
+use Rattle.cdma_replay.specs.Tasks.{task_of}
 use Rattle.cdma_replay.specs.Trials.{trial_line}
 
 -- ---- replies
@@ -81,121 +79,62 @@ abbrev pub IsTrialReply : ℕ → Reply → Type 0
 IsTrialReply number (Ok whole) = whole ≡ (trial_line number, ends.Done)
 IsTrialReply number (Err end) = ⊥
 
--- ---- command by command
+-- ---- task by task
 
--- how `find`, `follow`, `rate2`, `list` and `survey` receive
-abbrev pub finding : ℕ → ℕ → Reception
-finding span workers = record { span = span; workers = workers; purpose = purposes.Find }
+-- the taps that hear a file, by the limits of their forms; there are none where they hear nothing
+abbrev pub taps_by : Option (List ℕ) → List ℕ → List KeptTap
+taps_by None forms = []
+taps_by (Some limits) forms = kept_by limits forms
 
-abbrev pub following : ℕ → ℕ → ℕ → ℕ → Option TrafficOptions → Reception
-following span workers fingers paging traffic = record {
-  span = span;
-  workers = workers;
-  purpose = purposes.Follow (record { fingers = fingers; paging = paging; traffic = traffic });
-}
-
-abbrev pub hearing : ℕ → ℕ → ℕ → TrafficOptions → TunedText → Reception
-hearing span workers fingers traffic text = record {
-  span = span;
-  workers = workers;
-  purpose = purposes.Tuned fingers (channels.Traffic (traffic_of traffic)) text;
-}
-
-abbrev pub surveying : ℕ → ℕ → ℕ → ℕ → ℕ → Reception
-surveying span workers base width top = record {
-  span = span;
-  workers = workers;
-  purpose = purposes.Survey base width top;
-}
-
--- what a run over these bytes owes, with taps of these forms; `follow` alone uses them
-abbrev pub IsReply : List ℕ → Job → List ℕ → Reply → Type 0
-IsReply forms (Find span workers) = IsFileReply [] (finding span workers)
-IsReply forms (Follow span workers fingers paging traffic limits) =
-    IsFileReply (kept_by limits forms) (following span workers fingers paging traffic)
-IsReply forms (Rate2 span workers fingers traffic) =
-    IsFileReply [] (hearing span workers fingers traffic RateSetTwo)
-IsReply forms (jobs.List span workers fingers traffic k) =
-    IsFileReply [] (hearing span workers fingers traffic (Listed k))
-IsReply forms (Survey span workers base width top) =
-    IsFileReply [] (surveying span workers base width top)
-IsReply forms (Make width) = IsScriptReply width
-IsReply forms (Trial number workers) = λ bytes. IsTrialReply number
+-- what a run over these bytes owes, with taps of these forms
+abbrev pub IsTaskReply : List ℕ → Task → List ℕ → Reply → Type 0
+IsTaskReply forms (Receive r limits) = IsFileReply (taps_by limits forms) r
+IsTaskReply forms (Make width) = IsScriptReply width
+IsTaskReply forms (Trial number workers) = λ bytes. IsTrialReply number
 
 -- what memory may run out behind, or a write fail behind: a good beginning of the input
-abbrev pub IsPromising : Job → List ℕ → Type 0
-IsPromising (Find span workers) = BeginsFile span
-IsPromising (Follow span workers fingers paging traffic limits) = BeginsFile span
-IsPromising (Rate2 span workers fingers traffic) = BeginsFile span
-IsPromising (jobs.List span workers fingers traffic k) = BeginsFile span
-IsPromising (Survey span workers base width top) = BeginsFile span
-IsPromising (Make width) = λ bytes. IsOk (plan_named width bytes)
-IsPromising (Trial number workers) = λ bytes. Unit {0}
+abbrev pub IsTaskPromising : Task → List ℕ → Type 0
+IsTaskPromising (Receive r limits) = BeginsFile r.span
+IsTaskPromising (Make width) = λ bytes. IsOk (plan_named width bytes)
+IsTaskPromising (Trial number workers) = λ bytes. Unit {0}
 
 -- a run that reads its input to the end, where it ends well; a trial reads nothing
-abbrev pub ReadsInput : Job → Type 0
-ReadsInput (Trial number workers) = ⊥
-ReadsInput job = Unit {0}
+abbrev pub TaskReadsInput : Task → Type 0
+TaskReadsInput (Trial number workers) = ⊥
+TaskReadsInput task = Unit {0}
 
 -- what may have been written, whatever the answer: a beginning of the text of what the input begins
 -- with
-abbrev pub Begins : List ℕ → Job → Option (List ℕ) → List ℕ → Type 0
-Begins forms (Find span workers) = BeginsText [] (finding span workers)
-Begins forms (Follow span workers fingers paging traffic limits) =
-    BeginsText (kept_by limits forms) (following span workers fingers paging traffic)
-Begins forms (Rate2 span workers fingers traffic) =
-    BeginsText [] (hearing span workers fingers traffic RateSetTwo)
-Begins forms (jobs.List span workers fingers traffic k) =
-    BeginsText [] (hearing span workers fingers traffic (Listed k))
-Begins forms (Survey span workers base width top) =
-    BeginsText [] (surveying span workers base width top)
-Begins forms (Make width) = BeginsMadeFile width
-Begins forms (Trial number workers) = λ rest text. StartsWith (trial_line number) text
+abbrev pub TaskBegins : List ℕ → Task → Option (List ℕ) → List ℕ → Type 0
+TaskBegins forms (Receive r limits) = BeginsText (taps_by limits forms) r
+TaskBegins forms (Make width) = BeginsMadeFile width
+TaskBegins forms (Trial number workers) = λ rest text. StartsWith (trial_line number) text
 
 -- what was written where the input breaks off, or a read failed: the text of the first of the samples
 -- that were taken; and nothing of a script, which is read before anything is written
-abbrev pub TellsFirst : List ℕ → Job → Option (List ℕ) → Option (List ℕ) → Option (List ℕ) →
+abbrev pub TaskTellsFirst : List ℕ → Task → Option (List ℕ) → Option (List ℕ) → Option (List ℕ) →
     Option (List ℕ) → Type 0
-TellsFirst forms (Find span workers) = WritesFirst [] (finding span workers)
-TellsFirst forms (Follow span workers fingers paging traffic limits) =
-    WritesFirst (kept_by limits forms) (following span workers fingers paging traffic)
-TellsFirst forms (Rate2 span workers fingers traffic) =
-    WritesFirst [] (hearing span workers fingers traffic RateSetTwo)
-TellsFirst forms (jobs.List span workers fingers traffic k) =
-    WritesFirst [] (hearing span workers fingers traffic (Listed k))
-TellsFirst forms (Survey span workers base width top) =
-    WritesFirst [] (surveying span workers base width top)
-TellsFirst forms (Make width) = λ rest left old new. new ≡ old
-TellsFirst forms (Trial number workers) = λ rest left old new. Unit {0}
+TaskTellsFirst forms (Receive r limits) = WritesFirst (taps_by limits forms) r
+TaskTellsFirst forms (Make width) = λ rest left old new. new ≡ old
+TaskTellsFirst forms (Trial number workers) = λ rest left old new. Unit {0}
 
 -- and where it goes on behind its samples: their whole text
-abbrev pub TellsAll : List ℕ → Job → Option (List ℕ) → Option (List ℕ) → Option (List ℕ) → Type 0
-TellsAll forms (Find span workers) = WritesAll [] (finding span workers)
-TellsAll forms (Follow span workers fingers paging traffic limits) =
-    WritesAll (kept_by limits forms) (following span workers fingers paging traffic)
-TellsAll forms (Rate2 span workers fingers traffic) =
-    WritesAll [] (hearing span workers fingers traffic RateSetTwo)
-TellsAll forms (jobs.List span workers fingers traffic k) =
-    WritesAll [] (hearing span workers fingers traffic (Listed k))
-TellsAll forms (Survey span workers base width top) =
-    WritesAll [] (surveying span workers base width top)
-TellsAll forms job = λ rest old new. Unit {0}
+abbrev pub TaskTellsAll : List ℕ → Task → Option (List ℕ) → Option (List ℕ) → Option (List ℕ) →
+    Type 0
+TaskTellsAll forms (Receive r limits) = WritesAll (taps_by limits forms) r
+TaskTellsAll forms task = λ rest old new. Unit {0}
 
 -- an input without a fault
-abbrev pub IsLawfulInput : Job → List ℕ → Type 0
-IsLawfulInput (Find span workers) = λ bytes. IsSearchable bytes span
-IsLawfulInput (Follow span workers fingers paging traffic limits) = λ bytes. IsSearchable bytes span
-IsLawfulInput (Rate2 span workers fingers traffic) = λ bytes. IsSearchable bytes span
-IsLawfulInput (jobs.List span workers fingers traffic k) = λ bytes. IsSearchable bytes span
-IsLawfulInput (Survey span workers base width top) = λ bytes. IsSearchable bytes span
-IsLawfulInput (Make width) = λ bytes. IsOk (plan_named width bytes)
-IsLawfulInput (Trial number workers) = λ bytes. Unit {0}
+abbrev pub IsLawfulTaskInput : Task → List ℕ → Type 0
+IsLawfulTaskInput (Receive r limits) = λ bytes. IsSearchable bytes r.span
+IsLawfulTaskInput (Make width) = λ bytes. IsOk (plan_named width bytes)
+IsLawfulTaskInput (Trial number workers) = λ bytes. Unit {0}
 
 -- the input is known to have no fault, and no read of it failed; a trial has none
-abbrev pub ReadsWell : Job → Option (List ℕ) → Type 0 → Type 0
-ReadsWell (Trial number workers) rest Failed = Unit {0}
-ReadsWell job None Failed = ⊥
-ReadsWell job (Some bytes) Failed = IsLawfulInput job bytes × ¬ Failed
+abbrev pub TaskReadsWell : Task → Option (List ℕ) → Type 0 → Type 0
+TaskReadsWell (Trial number workers) rest Failed = Unit {0}
+TaskReadsWell task None Failed = ⊥
+TaskReadsWell task (Some bytes) Failed = IsLawfulTaskInput task bytes × ¬ Failed
 
 -- ---- ends
 
@@ -226,15 +165,51 @@ IsTrialEnd ends.WriteFault = Unit {0}
 IsTrialEnd ends.NoMemory = Unit {0}
 IsTrialEnd status = ⊥
 
--- the ends of a command
+-- the ends of a run over a sample file for a purpose
+abbrev pub IsPurposeEnd : Purpose → Status → Type 0
+IsPurposeEnd purposes.Find = IsSearchEnd
+IsPurposeEnd (purposes.Survey base width top) = IsSearchEnd
+IsPurposeEnd purpose = IsFileEnd
+
+-- the ends of a task
+abbrev pub IsTaskEnd : Task → Status → Type 0
+IsTaskEnd (Receive r limits) = IsPurposeEnd r.purpose
+IsTaskEnd (Make width) = IsScriptEnd
+IsTaskEnd (Trial number workers) = IsTrialEnd
+
+-- ---- command by command
+
+-- each of these of a job is that of its task; `follow` alone uses the taps
+
+abbrev pub IsReply : List ℕ → Job → List ℕ → Reply → Type 0
+IsReply forms job = IsTaskReply forms (task_of job)
+
+abbrev pub IsPromising : Job → List ℕ → Type 0
+IsPromising job = IsTaskPromising (task_of job)
+
+abbrev pub ReadsInput : Job → Type 0
+ReadsInput job = TaskReadsInput (task_of job)
+
+abbrev pub Begins : List ℕ → Job → Option (List ℕ) → List ℕ → Type 0
+Begins forms job = TaskBegins forms (task_of job)
+
+abbrev pub TellsFirst : List ℕ → Job → Option (List ℕ) → Option (List ℕ) → Option (List ℕ) →
+    Option (List ℕ) → Type 0
+TellsFirst forms job = TaskTellsFirst forms (task_of job)
+
+abbrev pub TellsAll : List ℕ → Job → Option (List ℕ) → Option (List ℕ) → Option (List ℕ) → Type 0
+TellsAll forms job = TaskTellsAll forms (task_of job)
+
+abbrev pub IsLawfulInput : Job → List ℕ → Type 0
+IsLawfulInput job = IsLawfulTaskInput (task_of job)
+
+abbrev pub ReadsWell : Job → Option (List ℕ) → Type 0 → Type 0
+ReadsWell job = TaskReadsWell (task_of job)
+
 abbrev pub IsEndOf : Job → Status → Type 0
-IsEndOf (Find span workers) = IsSearchEnd
-IsEndOf (Follow span workers fingers paging traffic limits) = IsFileEnd
-IsEndOf (Rate2 span workers fingers traffic) = IsFileEnd
-IsEndOf (jobs.List span workers fingers traffic k) = IsFileEnd
-IsEndOf (Survey span workers base width top) = IsSearchEnd
-IsEndOf (Make width) = IsScriptEnd
-IsEndOf (Trial number workers) = IsTrialEnd
+IsEndOf job = IsTaskEnd (task_of job)
+
+-- ---- answers
 
 -- an end that tells of the input: of all of it, or of its fault
 abbrev pub IsVerdict : Status → Type 0
@@ -249,8 +224,6 @@ abbrev pub IsEarlyFault : Status → Type 0
 IsEarlyFault (ends.BadFile fault) = IsHeaderFault fault
 IsEarlyFault (ends.BadScript fault) = Unit {0}
 IsEarlyFault status = ⊥
-
--- ---- answers
 
 -- a run answered this, and the sink's bytes grew by it; of a fault only the end is fixed
 abbrev pub Answers : Reply → Status → Option (List ℕ) → Option (List ℕ) → Type 0

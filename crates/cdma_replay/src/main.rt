@@ -39,6 +39,7 @@ mod status;
 mod survey_tests;
 #[cfg(test)]
 mod tap_tests;
+mod task;
 #[cfg(test)]
 mod test_runs;
 #[cfg(test)]

@@ -1,5 +1,4 @@
-//! The commands `find`, `follow`, `rate2` and `survey`: what the first samples of a file show, and
-//! what is heard in all.
+//! How a sample file is received: what its first samples show, and what is heard in all.
 
 ghost use Rattle.std.specs.Prelude.{◌≡◌, ◌≢◌, ◌≤◌, ◌+◌, ◌*◌, ◌++◌, ◌⊎◌};
 ghost use Rattle.std.specs.Prelude.{List, length, All, Err, None, IfOk};

@@ -1,6 +1,6 @@
 //! The top call: all that the program does.
 
-ghost use Rattle.std.specs.Prelude.{◌≡◌, ◌≢◌, ◌≤◌, ◌++◌, ◌⊎◌, ◌↔◌, ℕ, List, [], map};
+ghost use Rattle.std.specs.Prelude.{◌≡◌, ◌≤◌, ◌++◌, ◌⊎◌, ◌↔◌, ℕ, List, [], map};
 ghost use Rattle.std.specs.Prelude.{None, Option, Some, IfSome, length, option_map};
 ghost use Rattle.std.specs.Io.KnownBytes.{Appends, IsAtEnd};
 ghost use Rattle.chip_core.specs.declared.sample.Sample.{Sample};
@@ -16,32 +16,31 @@ ghost use Rattle.clean_link.specs.SentEvents.{FollowsSent};
 ghost use Rattle.cdma_words.specs.declared.job.Job.{Job as TheJob};
 ghost use Rattle.cdma_words.specs.declared.job.Job.TheVariants.{Follow, Trial};
 ghost use Rattle.cdma_words.specs.declared.job.TrafficOptions.{TrafficOptions as TheTraffic};
-ghost use Rattle.cdma_words.specs.Words.{IsLawfulJob, IsWorkers, job_named};
+ghost use Rattle.cdma_words.specs.Words.{IsWorkers, job_named};
 ghost use Rattle.cdma_replay.specs.Broken.{IsCut, IsLong, WritesAll, WritesFirst};
 ghost use Rattle.cdma_replay.specs.Find.{BeginsFile, BeginsText, IsEnd, IsHeaderFault, ended};
-ghost use Rattle.cdma_replay.specs.Hearing.{IsUnheard, IsUntapped, clean_end, clean_events};
-ghost use Rattle.cdma_replay.specs.Hearing.{traffic_of};
+ghost use Rattle.cdma_replay.specs.Hearing.{clean_end, clean_events, traffic_of};
 ghost use Rattle.cdma_replay.specs.Openings.{IsLawfulPurpose};
 ghost use Rattle.cdma_replay.specs.Replies.{AnswersBehind, Begins, IsAnswered, IsEarlyFault};
-ghost use Rattle.cdma_replay.specs.Replies.{IsEndOf, IsFileEnd, IsFileReply, IsPromising, IsReply};
-ghost use Rattle.cdma_replay.specs.Replies.{IsVerdict, ReadsInput, ReadsWell, Reply, TellsAll};
-ghost use Rattle.cdma_replay.specs.Replies.{TellsFirst, WritesPart, hearing};
+ghost use Rattle.cdma_replay.specs.Replies.{IsEndOf, IsFileReply, IsPromising, IsPurposeEnd, IsReply, IsTaskEnd};
+ghost use Rattle.cdma_replay.specs.Replies.{IsTaskPromising, IsTaskReply, IsVerdict, ReadsInput};
+ghost use Rattle.cdma_replay.specs.Replies.{ReadsWell, Reply, TaskBegins, TaskReadsInput};
+ghost use Rattle.cdma_replay.specs.Replies.{TaskTellsAll, TaskTellsFirst, TellsAll, TellsFirst};
+ghost use Rattle.cdma_replay.specs.Replies.{WritesPart};
+ghost use Rattle.cdma_replay.specs.Tasks.{IsLawfulTask};
 ghost use Rattle.cdma_replay.specs.Trials.{trial_line};
 
-use crate::handset::{Receiver, followed};
 use crate::making::make;
-use crate::purpose::Purpose;
 use crate::receiving::{Reception, receive};
 use crate::status::Status;
+use crate::task::{Task, task_of};
 use crate::trial::trial;
 use cdma_io::{Sink, Source};
-use cdma_words::{Job, TrafficOptions, WordFault, words_of};
+use cdma_words::{WordFault, words_of};
 use event_tap::{Tap, Taps};
-use mobile_core::Channel;
 use pilot_search::Gate;
 use std::alloc::Global;
 use std::thread::Threads;
-use tuned_listener::TunedText;
 
 /// How a run ended that went through, or not.
 fn status_of(run: Result<(), Status>) -> Status
@@ -53,28 +52,7 @@ fn status_of(run: Result<(), Status>) -> Status
     }
 }
 
-/// How a sample file is received for this text of a traffic channel's frames.
-fn hearing(
-    span: u16,
-    workers: u8,
-    fingers: u8,
-    traffic: TrafficOptions,
-    text: TunedText,
-) -> Reception
-    ensures { result ≡ hearing span workers fingers traffic text }
-{
-    Reception {
-        span,
-        workers,
-        purpose: Purpose::Tuned {
-            fingers,
-            channel: Channel::Traffic(followed(traffic)),
-            text,
-        },
-    }
-}
-
-/// Receives a sample file for a purpose for which taps hear nothing, and says how the run ended.
+/// Receives a sample file where taps hear nothing, and says how the run ended.
 fn receive_untapped<R: Threads + Sync, S: Source, K: Sink, G: Gate + Sync>(
     rt: &R,
     alloc: Global,
@@ -86,9 +64,7 @@ fn receive_untapped<R: Threads + Sync, S: Source, K: Sink, G: Gate + Sync>(
     requires span { reception.span ≤ 32768 }
     requires workers { IsWorkers reception.workers }
     requires purpose { IsLawfulPurpose reception.purpose }
-    requires untapped { IsUntapped reception.purpose }
-    ensures kind { IsFileEnd result }
-    ensures alone { IsUnheard reception.purpose → result ≢ Status.NoSync }
+    ensures kind { IsPurposeEnd reception.purpose result }
     ensures verdict { IsVerdict result → IfSome (S.rest source.old) (λ bytes.
         IsAnswered (IsFileReply [] reception bytes) result (K.written sink.old)
         (K.written sink.new)) }
@@ -116,109 +92,55 @@ fn receive_untapped<R: Threads + Sync, S: Source, K: Sink, G: Gate + Sync>(
     status_of(receive(rt, alloc, reception, source, sink, taps, gate))
 }
 
-/// Runs a job over a source and a sink, and says how it ended.
-fn run_job<R: Threads + Sync, S: Source, K: Sink, G: Gate + Sync>(
+/// Does a task over a source and a sink, and says how it ended.
+fn run_task<R: Threads + Sync, S: Source, K: Sink, G: Gate + Sync>(
     rt: &R,
     alloc: Global,
-    job: Job,
+    task: Task,
     source: &mut S,
     sink: &mut K,
     taps: Vec<Box<dyn Tap>>,
     gate: &G,
 ) -> Status
-    requires { IsLawfulJob job }
-    ensures kind { IsEndOf job result }
+    requires { IsLawfulTask task }
+    ensures kind { IsTaskEnd task result }
     ensures verdict { IsVerdict result → IfSome (S.rest source.old) (λ bytes.
-        IsAnswered (IsReply (map (λ b. shape b) taps.items) job bytes) result
+        IsAnswered (IsTaskReply (map (λ b. shape b) taps.items) task bytes) result
         (K.written sink.old) (K.written sink.new)) }
     ensures read_fault { result ≡ Status.ReadFault →
         Rose (S.faults source.old) (S.faults source.new) }
     ensures write_fault { result ≡ Status.WriteFault →
         Rose (K.faults sink.old) (K.faults sink.new) ×
-        IfSome (S.rest source.old) (IsPromising job) }
+        IfSome (S.rest source.old) (IsTaskPromising task) }
     ensures memory { result ≡ Status.NoMemory → (sink.new ≡ sink.old) ×
-        ((source.new ≡ source.old) ⊎ IfSome (S.rest source.old) (IsPromising job)) }
+        ((source.new ≡ source.old) ⊎ IfSome (S.rest source.old) (IsTaskPromising task)) }
     ensures early { IsEarlyFault result → sink.new ≡ sink.old }
     ensures header { (fault : FileFault) → result ≡ Status.BadFile fault → IsHeaderFault fault →
         ConsumesAtMost 16 (S.rest source.old) (S.rest source.new) }
-    ensures at_end { ReadsInput job → IsEnd result → IsAtEnd (S.rest source.new) }
-    ensures unread { ¬ (ReadsInput job) → source.new ≡ source.old }
-    ensures trial { (number workers : ℕ) → job ≡ Trial number workers → result ≡ Status.Done →
+    ensures at_end { TaskReadsInput task → IsEnd result → IsAtEnd (S.rest source.new) }
+    ensures unread { ¬ (TaskReadsInput task) → source.new ≡ source.old }
+    ensures trial { (number workers : ℕ) → task ≡ Task.Trial number workers → result ≡ Status.Done →
         Appends (K.written sink.old) (K.written sink.new) (trial_line number) }
     ensures written { WritesPart
-        (Begins (map (λ b. shape b) taps.items) job (S.rest source.old))
+        (TaskBegins (map (λ b. shape b) taps.items) task (S.rest source.old))
         (K.written sink.old) (K.written sink.new) }
-    ensures cut { IsCut result → TellsFirst (map (λ b. shape b) taps.items) job
+    ensures cut { IsCut result → TaskTellsFirst (map (λ b. shape b) taps.items) task
         (S.rest source.old) (S.rest source.new) (K.written sink.old) (K.written sink.new) }
-    ensures long { IsLong result → TellsAll (map (λ b. shape b) taps.items) job
+    ensures long { IsLong result → TaskTellsAll (map (λ b. shape b) taps.items) task
         (S.rest source.old) (K.written sink.old) (K.written sink.new) }
     ensures later_source { S.faults source.old ≤ S.faults source.new }
     ensures later_sink { K.faults sink.old ≤ K.faults sink.new }
 {
-    match job {
-        Job::Find { span, workers } => {
-            let reception = Reception {
-                span,
-                workers,
-                purpose: Purpose::Find,
-            };
-            receive_untapped(rt, alloc, reception, source, sink, gate)
-        }
-        Job::Follow {
-            span,
-            workers,
-            fingers,
-            paging,
-            traffic,
-            limits,
-        } => {
-            let reception = Reception {
-                span,
-                workers,
-                purpose: Purpose::Follow(Receiver {
-                    fingers,
-                    paging,
-                    traffic,
-                }),
-            };
-            let taps = Taps::new(taps, limits);
-            status_of(receive(rt, alloc, reception, source, sink, taps, gate))
-        }
-        Job::Rate2 {
-            span,
-            workers,
-            fingers,
-            traffic,
-        } => {
-            let reception = hearing(span, workers, fingers, traffic, TunedText::RateSetTwo);
-            receive_untapped(rt, alloc, reception, source, sink, gate)
-        }
-        Job::List {
-            span,
-            workers,
-            fingers,
-            traffic,
-            k,
-        } => {
-            let reception = hearing(span, workers, fingers, traffic, TunedText::Listed { k });
-            receive_untapped(rt, alloc, reception, source, sink, gate)
-        }
-        Job::Survey {
-            span,
-            workers,
-            base,
-            width,
-            top,
-        } => {
-            let reception = Reception {
-                span,
-                workers,
-                purpose: Purpose::Survey { base, width, top },
-            };
-            receive_untapped(rt, alloc, reception, source, sink, gate)
-        }
-        Job::Make { width } => status_of(make(alloc, width, source, sink)),
-        Job::Trial { number, workers } => {
+    match task {
+        Task::Receive { reception, limits } => match limits {
+            None => receive_untapped(rt, alloc, reception, source, sink, gate),
+            Some(limits) => {
+                let taps = Taps::new(taps, limits);
+                status_of(receive(rt, alloc, reception, source, sink, taps, gate))
+            }
+        },
+        Task::Make { width } => status_of(make(alloc, width, source, sink)),
+        Task::Trial { number, workers } => {
             status_of(trial(rt, alloc, number, workers, sink, gate))
         }
     }
@@ -238,6 +160,8 @@ fn run_job<R: Threads + Sync, S: Source, K: Sink, G: Gate + Sync>(
 /// sets it decodes each frame of one traffic channel as one of rate set 2 (TIA/EIA-95-B, 7.1.3.5), and
 /// writes its line; it ends with `NoSync` as `follow` does. `list` does so with frames of rate set 1,
 /// each chosen of the first so many words of a rate whose quality bits are right.
+/// `idle` hears, behind the mark too, the slots of one paging channel that a handset of a key wakes
+/// for (TIA/EIA-95-B, 6.6.2.1.1.3), and writes the line of each and those of its messages.
 ///
 /// The words, their options and the numbers that stand where an option isn't given are those of
 /// [`cdma_words::words_of`].
@@ -340,7 +264,7 @@ pub fn replay<R: Threads + Sync, S: Source, K: Sink, G: Gate + Sync>(
     ensures later_sink { K.faults sink.old ≤ K.faults sink.new }
 {
     match words_of(alloc, words) {
-        Ok(job) => run_job(rt, alloc, job, source, sink, taps, gate),
+        Ok(job) => run_task(rt, alloc, task_of(job), source, sink, taps, gate),
         Err(WordFault::Bad) => Status::BadWords,
         Err(WordFault::OutOfMemory) => Status::NoMemory,
     }

@@ -1,16 +1,32 @@
 use Rattle.std.proofs.Common.{subst}
 use Rattle.cdma_replay.specs.Broken.{IsCut, IsLong}
 use Rattle.cdma_replay.specs.Find.{ended}
-use Rattle.cdma_replay.proofs.Replies.{one_text, untapped_all, untapped_first, untapped_part}
-use Rattle.cdma_replay.proofs.Replies.{untapped_verdict}
+use Rattle.cdma_replay.proofs.Replies.{file_all, file_end, file_first, file_part, file_verdict_by}
+use Rattle.cdma_replay.proofs.Replies.{purpose_end}
 use Rattle.cdma_replay.proofs.replaying.receive_untapped.Goals as goal
+
+pub returns-clause-kind : goal.returns-clause-kind
+returns-clause-kind g c =
+    let ends = c.receive.ensures in
+    let r = c.args.reception in
+    rw c.status_of.ensures
+    (purpose_end r.purpose (ended c.receive.result)
+    (file_end _ r (ended c.receive.result) _ _ _ (record {
+      done = ends.done;
+      others = ends.others;
+      bad_file = ends.bad_file;
+      place = ends.place;
+    }))
+    ends.alone)
+
+-- no tap is kept of none
 
 pub returns-clause-verdict : goal.returns-clause-verdict
 returns-clause-verdict g c =
     let ends = c.receive.ensures in
-    let r = c.args.reception in
     rw c.status_of.ensures
-    (untapped_verdict r (ended c.receive.result) _ _ _ (one_text _ r c.requires.untapped) (record {
+    (file_verdict_by c.new-taps.ensures.value c.args.reception (ended c.receive.result) _ _ _
+    (record {
       done = ends.done;
       others = ends.others;
       bad_file = ends.bad_file;
@@ -18,18 +34,14 @@ returns-clause-verdict g c =
     }))
 
 pub returns-clause-written : goal.returns-clause-written
-returns-clause-written g c =
-    let r = c.args.reception in
-    untapped_part r (one_text _ r c.requires.untapped) c.receive.ensures.written
+returns-clause-written g c = file_part c.new-taps.ensures.value c.receive.ensures.written
 
 pub returns-clause-cut : goal.returns-clause-cut
 returns-clause-cut g c cut =
-    let r = c.args.reception in
-    untapped_first _ r (g.S.Source.rest c.args.source.now) _ _ _ (one_text _ r c.requires.untapped)
+    file_first c.args.reception (g.S.Source.rest c.args.source.now) _ _ _ c.new-taps.ensures.value
     (c.receive.ensures.cut (subst IsCut c.status_of.ensures cut))
 
 pub returns-clause-long : goal.returns-clause-long
 returns-clause-long g c long =
-    let r = c.args.reception in
-    untapped_all _ r (g.S.Source.rest c.args.source.now) _ _ (one_text _ r c.requires.untapped)
+    file_all c.args.reception (g.S.Source.rest c.args.source.now) _ _ c.new-taps.ensures.value
     (c.receive.ensures.long (subst IsLong c.status_of.ensures long))

@@ -1,51 +1,57 @@
 use Rattle.std.proofs.Common.{◌≡◌, ◌∙◌, ℕ, ap, subst, sym}
 use Rattle.std.specs.Io.KnownBytes.{Appends}
-use Rattle.cdma_words.specs.declared.job.Job.TheVariants.{Trial}
 use Rattle.cdma_replay.specs.Trials.{trial_line}
+use Rattle.cdma_replay.specs.declared.task.Task.TheVariants.{Trial}
 use Rattle.cdma_replay.specs.Broken.{IsCut, IsLong}
 use Rattle.cdma_replay.specs.Find.{ended}
-use Rattle.cdma_replay.specs.Replies.{following}
-use Rattle.cdma_replay.proofs.Replies.{file_all, file_first, file_part, file_verdict_by, script_cut}
+use Rattle.cdma_replay.proofs.Replies.{file_all, file_end, file_first, file_part, file_verdict_by, script_cut}
 use Rattle.cdma_replay.proofs.Replies.{HasTrialCauses, script_early, script_end, script_part}
 use Rattle.cdma_replay.proofs.Replies.{script_verdict, trial_done, trial_early, trial_end, trial_part}
-use Rattle.cdma_replay.proofs.Replies.{trial_verdict}
-use Rattle.cdma_replay.proofs.replaying.run_job.Goals as goal
+use Rattle.cdma_replay.proofs.Replies.{purpose_end, trial_verdict}
+use Rattle.cdma_replay.proofs.replaying.run_task.Goals as goal
 
-pub returns-in-Find-clause-verdict : goal.returns-in-Find-clause-verdict
-returns-in-Find-clause-verdict g c = rw c.in-Find.is c.receive_untapped.ensures.verdict
+-- where taps hear nothing
 
-pub returns-in-Find-clause-written : goal.returns-in-Find-clause-written
-returns-in-Find-clause-written g c = rw c.in-Find.is c.receive_untapped.ensures.written
+pub returns-in-None-clause-kind : goal.returns-in-None-clause-kind
+returns-in-None-clause-kind g c = rw c.in-Receive.is c.receive_untapped.ensures.kind
 
-pub returns-in-Rate2-clause-verdict : goal.returns-in-Rate2-clause-verdict
-returns-in-Rate2-clause-verdict g c =
-    rw c.in-Rate2.is (rw c.hearing-reception.ensures at c.receive_untapped-in-Rate2.ensures.verdict)
+pub returns-in-None-clause-verdict : goal.returns-in-None-clause-verdict
+returns-in-None-clause-verdict g c =
+    rw (c.in-Receive.is, c.in-None.is) c.receive_untapped.ensures.verdict
 
-pub returns-in-List-clause-verdict : goal.returns-in-List-clause-verdict
-returns-in-List-clause-verdict g c =
-    rw c.in-List.is (rw c.hearing-reception-in-List.ensures at c.receive_untapped-in-List.ensures.verdict)
+pub returns-in-None-clause-written : goal.returns-in-None-clause-written
+returns-in-None-clause-written g c =
+    rw (c.in-Receive.is, c.in-None.is) c.receive_untapped.ensures.written
 
-pub returns-in-Rate2-clause-written : goal.returns-in-Rate2-clause-written
-returns-in-Rate2-clause-written g c =
-    rw c.in-Rate2.is (rw c.hearing-reception.ensures at c.receive_untapped-in-Rate2.ensures.written)
+pub returns-in-None-clause-cut : goal.returns-in-None-clause-cut
+returns-in-None-clause-cut g c =
+    rw (c.in-Receive.is, c.in-None.is) c.receive_untapped.ensures.cut
 
-pub returns-in-List-clause-written : goal.returns-in-List-clause-written
-returns-in-List-clause-written g c =
-    rw c.in-List.is (rw c.hearing-reception-in-List.ensures at c.receive_untapped-in-List.ensures.written)
+pub returns-in-None-clause-long : goal.returns-in-None-clause-long
+returns-in-None-clause-long g c =
+    rw (c.in-Receive.is, c.in-None.is) c.receive_untapped.ensures.long
 
-pub returns-in-Survey-clause-verdict : goal.returns-in-Survey-clause-verdict
-returns-in-Survey-clause-verdict g c = rw c.in-Survey.is c.receive_untapped-in-Survey.ensures.verdict
+-- and where they do
 
-pub returns-in-Survey-clause-written : goal.returns-in-Survey-clause-written
-returns-in-Survey-clause-written g c = rw c.in-Survey.is c.receive_untapped-in-Survey.ensures.written
-
-pub returns-in-Follow-clause-verdict : goal.returns-in-Follow-clause-verdict
-returns-in-Follow-clause-verdict g c =
+pub returns-in-Some-clause-kind : goal.returns-in-Some-clause-kind
+returns-in-Some-clause-kind g c =
     let ends = c.receive.ensures in
-    rw (c.in-Follow.is, c.status_of.ensures)
+    let r = c.in-Receive.reception in
+    rw (c.in-Receive.is, c.in-Some.is, c.status_of.ensures)
+    (purpose_end r.purpose (ended c.receive.result)
+    (file_end _ r (ended c.receive.result) _ _ _ (record {
+      done = ends.done;
+      others = ends.others;
+      bad_file = ends.bad_file;
+      place = ends.place;
+    })) ends.alone)
+
+pub returns-in-Some-clause-verdict : goal.returns-in-Some-clause-verdict
+returns-in-Some-clause-verdict g c =
+    let ends = c.receive.ensures in
+    rw (c.in-Receive.is, c.in-Some.is, c.status_of.ensures)
     (file_verdict_by c.new-taps.ensures.value
-    (following c.in-Follow.span c.in-Follow.workers c.in-Follow.fingers c.in-Follow.paging
-    c.in-Follow.traffic)
+    c.in-Receive.reception
     (ended c.receive.result) _ _ _ (record {
       done = ends.done;
       others = ends.others;
@@ -53,9 +59,9 @@ returns-in-Follow-clause-verdict g c =
       place = ends.place;
     }))
 
-pub returns-in-Follow-clause-written : goal.returns-in-Follow-clause-written
-returns-in-Follow-clause-written g c =
-    rw c.in-Follow.is
+pub returns-in-Some-clause-written : goal.returns-in-Some-clause-written
+returns-in-Some-clause-written g c =
+    rw (c.in-Receive.is, c.in-Some.is)
     (file_part c.new-taps.ensures.value c.receive.ensures.written)
 
 pub returns-in-Make-clause-kind : goal.returns-in-Make-clause-kind
@@ -142,49 +148,19 @@ returns-in-Trial-clause-written g c =
       failed = ends.failed;
     }))
 
-pub returns-in-Find-clause-cut : goal.returns-in-Find-clause-cut
-returns-in-Find-clause-cut g c = rw c.in-Find.is c.receive_untapped.ensures.cut
-
-pub returns-in-Find-clause-long : goal.returns-in-Find-clause-long
-returns-in-Find-clause-long g c = rw c.in-Find.is c.receive_untapped.ensures.long
-
-pub returns-in-Rate2-clause-cut : goal.returns-in-Rate2-clause-cut
-returns-in-Rate2-clause-cut g c =
-    rw c.in-Rate2.is (rw c.hearing-reception.ensures at c.receive_untapped-in-Rate2.ensures.cut)
-
-pub returns-in-List-clause-cut : goal.returns-in-List-clause-cut
-returns-in-List-clause-cut g c =
-    rw c.in-List.is (rw c.hearing-reception-in-List.ensures at c.receive_untapped-in-List.ensures.cut)
-
-pub returns-in-Rate2-clause-long : goal.returns-in-Rate2-clause-long
-returns-in-Rate2-clause-long g c =
-    rw c.in-Rate2.is (rw c.hearing-reception.ensures at c.receive_untapped-in-Rate2.ensures.long)
-
-pub returns-in-List-clause-long : goal.returns-in-List-clause-long
-returns-in-List-clause-long g c =
-    rw c.in-List.is (rw c.hearing-reception-in-List.ensures at c.receive_untapped-in-List.ensures.long)
-
-pub returns-in-Survey-clause-cut : goal.returns-in-Survey-clause-cut
-returns-in-Survey-clause-cut g c = rw c.in-Survey.is c.receive_untapped-in-Survey.ensures.cut
-
-pub returns-in-Survey-clause-long : goal.returns-in-Survey-clause-long
-returns-in-Survey-clause-long g c = rw c.in-Survey.is c.receive_untapped-in-Survey.ensures.long
-
-pub returns-in-Follow-clause-cut : goal.returns-in-Follow-clause-cut
-returns-in-Follow-clause-cut g c cut =
-    rw c.in-Follow.is
+pub returns-in-Some-clause-cut : goal.returns-in-Some-clause-cut
+returns-in-Some-clause-cut g c cut =
+    rw (c.in-Receive.is, c.in-Some.is)
     (file_first
-    (following c.in-Follow.span c.in-Follow.workers c.in-Follow.fingers c.in-Follow.paging
-    c.in-Follow.traffic)
+    c.in-Receive.reception
     (g.S.Source.rest c.args.source.now) _ _ _ c.new-taps.ensures.value
     (c.receive.ensures.cut (subst IsCut c.status_of.ensures cut)))
 
-pub returns-in-Follow-clause-long : goal.returns-in-Follow-clause-long
-returns-in-Follow-clause-long g c long =
-    rw c.in-Follow.is
+pub returns-in-Some-clause-long : goal.returns-in-Some-clause-long
+returns-in-Some-clause-long g c long =
+    rw (c.in-Receive.is, c.in-Some.is)
     (file_all
-    (following c.in-Follow.span c.in-Follow.workers c.in-Follow.fingers c.in-Follow.paging
-    c.in-Follow.traffic)
+    c.in-Receive.reception
     (g.S.Source.rest c.args.source.now) _ _ c.new-taps.ensures.value
     (c.receive.ensures.long (subst IsLong c.status_of.ensures long)))
 

@@ -1,0 +1,73 @@
+-- What a run does for each job: the table of the commands.
+use Rattle.std.specs.Prelude.{ℕ, ◌≤◌, Option, None, Some}
+use Rattle.mobile_core.specs.declared.channel.Channel.{Channel}
+use Rattle.mobile_core.specs.declared.channel.Channel.TheVariants as channels
+use Rattle.tuned_listener.specs.declared.tuned_text.TunedText.{TunedText}
+use Rattle.tuned_listener.specs.declared.tuned_text.TunedText.TheVariants.{Listed, RateSetTwo, Slots}
+use Rattle.cdma_words.specs.Words.{IsWorkers}
+use Rattle.cdma_words.specs.declared.job.Job.{Job}
+use Rattle.cdma_words.specs.declared.job.Job.TheVariants as jobs
+use Rattle.cdma_words.specs.declared.job.TrafficOptions.{TrafficOptions}
+use Rattle.cdma_replay.specs.declared.purpose.Purpose.TheVariants as purposes
+use Rattle.cdma_replay.specs.declared.receiving.Reception.{Reception}
+use Rattle.cdma_replay.specs.declared.task.Task.{Task}
+use Rattle.cdma_replay.specs.declared.task.Task.TheVariants.{Make, Receive, Trial}
+use Rattle.cdma_replay.specs.Hearing.{traffic_of}
+use Rattle.cdma_replay.specs.Openings.{IsLawfulPurpose}
+
+-- ---- how sample files are received
+
+-- for `find`, `follow` and `survey`
+abbrev pub finding : ℕ → ℕ → Reception
+finding span workers = record { span = span; workers = workers; purpose = purposes.Find }
+
+abbrev pub following : ℕ → ℕ → ℕ → ℕ → Option TrafficOptions → Reception
+following span workers fingers paging traffic = record {
+  span = span;
+  workers = workers;
+  purpose = purposes.Follow (record { fingers = fingers; paging = paging; traffic = traffic });
+}
+
+abbrev pub surveying : ℕ → ℕ → ℕ → ℕ → ℕ → Reception
+surveying span workers base width top = record {
+  span = span;
+  workers = workers;
+  purpose = purposes.Survey base width top;
+}
+
+-- for the frames of one channel, as `rate2`, `list` and `idle` do
+abbrev pub hearing : ℕ → ℕ → ℕ → Channel → TunedText → Reception
+hearing span workers fingers channel text = record {
+  span = span;
+  workers = workers;
+  purpose = purposes.Tuned fingers channel text;
+}
+
+-- ---- the table
+
+-- a sample file is received, and taps hear nothing
+abbrev pub untapped : Reception → Task
+untapped reception = Receive reception None
+
+-- what a run does for each job; in `follow` alone taps hear events
+abbrev pub task_of : Job → Task
+task_of (jobs.Find span workers) = untapped (finding span workers)
+task_of (jobs.Follow span workers fingers paging traffic limits) =
+    Receive (following span workers fingers paging traffic) (Some limits)
+task_of (jobs.Rate2 span workers fingers traffic) =
+    untapped (hearing span workers fingers (channels.Traffic (traffic_of traffic)) RateSetTwo)
+task_of (jobs.List span workers fingers traffic k) =
+    untapped (hearing span workers fingers (channels.Traffic (traffic_of traffic)) (Listed k))
+task_of (jobs.Idle span workers fingers paging key cycle) =
+    untapped (hearing span workers fingers (channels.Paging paging) (Slots key cycle))
+task_of (jobs.Survey span workers base width top) =
+    untapped (surveying span workers base width top)
+task_of (jobs.Make width) = Make width
+task_of (jobs.Trial number workers) = Trial number workers
+
+-- its numbers are those that words may name
+abbrev pub IsLawfulTask : Task → Type 0
+IsLawfulTask (Receive r limits) =
+    (r.span ≤ 32768) × IsWorkers r.workers × IsLawfulPurpose r.purpose
+IsLawfulTask (Make width) = Unit {0}
+IsLawfulTask (Trial number workers) = IsWorkers workers
