@@ -1,5 +1,5 @@
 -- What is listed with one word of each rate is heard where the reference's pilot is active alone.
-use Rattle.std.proofs.Common.{◌≡◌, ℕ, ◌&&◌, sym, ap, ◌∙◌, List, length, nat_le, Option}
+use Rattle.std.proofs.Common.{◌≡◌, ℕ, ◌&&◌, sym, ap, ◌∙◌, List, [], length, nat_le, Option}
 use Rattle.std.specs.List.{flat_map}
 use Rattle.std.proofs.lemmas.List.Folds.{flat_map-map}
 use Rattle.chip_core.specs.Bits.{places}
@@ -19,15 +19,16 @@ use Rattle.mobile_core.specs.declared.mark.Mark.{Mark}
 use Rattle.mobile_core.specs.declared.settings.Traffic.{Traffic}
 use Rattle.mobile_core.specs.declared.soft_frame.SoftFrame.{SoftFrame}
 use Rattle.mobile_core.proofs.FramesAlone.{decoded_alone, power_alone}
-use Rattle.tuned_listener.specs.TunedTexts.{decoded_line, frame_text, frames_from, listed_text}
+use Rattle.tuned_listener.proofs.TunedTexts.{listed_texts}
+use Rattle.tuned_listener.specs.TunedTexts.{decoded_line, listed_text, text_behind, text_from}
 use Rattle.tuned_listener.specs.TunedTexts.{tuned_text}
 use Rattle.tuned_listener.specs.declared.tuned_text.TunedText.TheVariants.{Listed}
 use Rattle.cdma_replay.specs.OneWord.{followed_line, OneWordFollows, OneWordFollowsFrame}
-use Rattle.cdma_replay.proofs.SentLines.{line_of_event}
+use Rattle.cdma_replay.proofs.SentLines.{line_of_event, listed_of}
 
 -- of one frame
 pub one_frame : OneWordFollowsFrame
-one_frame t traffic m samples k =
+one_frame t traffic m samples slot k =
     let soft = soft_frame t (traffic_channel traffic) m samples k in
     let heard = decoded_at t traffic m (reference_alone traffic m) samples k in
     let commands = commands_at t traffic m (reference_alone traffic m) samples k in
@@ -39,7 +40,7 @@ one_frame t traffic m samples k =
 
 -- of those that end within these samples
 each_frame : (t : Tuning) (traffic : Traffic) (m : Mark) (samples : List Sample) →
-    flat_map (frame_text (Listed 1)) (soft_frames t (traffic_channel traffic) m samples) ≡
+    text_from (Listed 1) t (traffic_channel traffic) m samples ≡
     flat_map (followed_line t traffic m samples)
     (soft_frames t (traffic_channel traffic) m samples)
 unfolding frames_within
@@ -48,17 +49,17 @@ each_frame t traffic m samples =
     let stream = channel_stream t (traffic_channel traffic) m in
     let soft : ℕ → SoftFrame = soft_frame t (traffic_channel traffic) m samples in
     let within : List ℕ = known_by t.count stream n (paging_bound n) in
-    flat_map-map (frame_text (Listed 1)) soft within
+    listed_texts t.check30 m [] (soft_frames t (traffic_channel traffic) m samples) 1
+    ∙ flat_map-map (listed_of 1) soft within
     ∙ flat_map_ext_filter
     (λ k. is_in_file t.count stream k && nat_le (known_at t.count stream k) n)
-    (λ k. frame_text (Listed 1) (soft k)) (λ k. followed_line t traffic m samples (soft k))
-    (places (paging_bound n)) (λ k kept. one_frame t traffic m samples k)
+    (λ k. listed_of 1 (soft k)) (λ k. followed_line t traffic m samples (soft k))
+    (places (paging_bound n)) (λ k kept. one_frame t traffic m samples [] k)
     ∙ sym (flat_map-map (followed_line t traffic m samples) soft within)
 
 pub one_word_follows : OneWordFollows
 unfolding tuned_text
 one_word_follows t traffic m samples set =
     ap
-    (λ (last : Option Mark). flat_map (frame_text (Listed 1))
-    (frames_from t (traffic_channel traffic) samples last)) set
+    (λ (last : Option Mark). text_behind (Listed 1) t (traffic_channel traffic) samples last) set
     ∙ each_frame t traffic m samples

@@ -3,7 +3,7 @@
 use Rattle.std.proofs.Common.{◌≡◌, ◌≢◌, ℕ, ◌++◌, ◌⊎◌, inl, inr, List, [], refl, sym}
 use Rattle.std.proofs.Common.{ap}
 use Rattle.std.proofs.Common.{◌∙◌, subst, Option, None, Some, IfErr, IfSome, OnErr, OnOk, Result}
-use Rattle.std.proofs.Common.{Ok, Err, take}
+use Rattle.std.proofs.Common.{Ok, Err, map, take}
 use Rattle.std.specs.Io.{StartsWith}
 use Rattle.std.specs.Io.KnownBytes.{Appends}
 use Rattle.std.proofs.Common.{append-nil}
@@ -17,14 +17,14 @@ use Rattle.base_modulator.specs.declared.plan.CellPlan.{CellPlan}
 use Rattle.base_modulator.specs.declared.script_fault.ScriptFault.{ScriptFault}
 use Rattle.base_modulator.specs.declared.script_fault.ScriptFault.TheVariants.{OutOfMemory}
 use Rattle.base_modulator.specs.Script.{plan_named}
-use Rattle.event_tap.specs.Taps.{KeptTap}
+use Rattle.event_tap.specs.Taps.{KeptTap, kept_by}
 use Rattle.cdma_words.specs.declared.job.Job.{Job}
 use Rattle.tuned_listener.proofs.Prefixes.{front_begins, taken_begins}
 use Rattle.cdma_replay.specs.declared.receiving.Reception.{Reception}
 use Rattle.cdma_replay.specs.declared.status.Status.{Status}
 use Rattle.cdma_replay.specs.declared.task.Task.{Task}
 use Rattle.cdma_replay.specs.declared.task.Task.TheVariants.{Make, Receive, Trial}
-use Rattle.cdma_replay.specs.Broken.{IsCut, WritesAll, WritesFirst}
+use Rattle.cdma_replay.specs.Broken.{IsCut, IsLong, WritesAll, WritesFirst}
 use Rattle.cdma_replay.specs.Find.{BeginsText, IsEnd, IsFaultIn, IsOfFiles, IsSearchable}
 use Rattle.cdma_replay.specs.Find.{WritesNoMore, WritesText, ended}
 use Rattle.cdma_replay.specs.Hearing.{IsUnheard, file_end_of, file_text}
@@ -35,7 +35,8 @@ use Rattle.cdma_replay.specs.Replies.{Answers, AnswersBehind, IsAnswered, IsEarl
 use Rattle.cdma_replay.specs.Replies.{IsFaultyScript, IsFileEnd, IsFileReply, IsPurposeEnd, IsReply}
 use Rattle.cdma_replay.specs.Replies.{IsScriptEnd, IsScriptReply, IsSearchEnd, IsTaskEnd}
 use Rattle.cdma_replay.specs.Replies.{IsTaskReply, IsTrialEnd, IsTrialReply, IsVerdict, IsWholeFile}
-use Rattle.cdma_replay.specs.Replies.{IsWholeScript, Reply, WritesPart, taps_by}
+use Rattle.cdma_replay.specs.Replies.{Begins, IsWholeScript, Reply, TaskBegins, TaskTellsAll}
+use Rattle.cdma_replay.specs.Replies.{TaskTellsFirst, TellsAll, TellsFirst, WritesPart, taps_by}
 use Rattle.cdma_replay.specs.Tasks.{task_of}
 use Rattle.cdma_replay.specs.Trials.{trial_line}
 use Rattle.cdma_io.specs.Outside.{AppendsPrefix}
@@ -125,6 +126,11 @@ purpose_end purposes.Find status end alone = search_end status end (alone tt)
 purpose_end (purposes.Follow receiver) status end alone = end
 purpose_end (purposes.Tuned fingers channel text) status end alone = end
 purpose_end (purposes.Survey base width top) status end alone = search_end status end (alone tt)
+
+-- no tap is kept of none
+pub none_kept : {A : Type 0} (limits : List ℕ) (form : A → ℕ) (taps : List A) → taps ≡ [] →
+    kept_by limits (map form taps) ≡ []
+none_kept limits form taps none = ap (λ (all : List _). kept_by limits (map form all)) none
 
 -- taps have one name
 pub file_verdict_by : {taps named : List KeptTap} → taps ≡ named → (r : Reception)
@@ -481,3 +487,36 @@ pub said_of : {named : Option Job} {task : Task} {one : Job} (other : Job) (Says
     Says (task_of other)
 said_of {named} {task} {one} other Says is so also said =
     subst Says (task_named task one other is so also) said
+
+-- what was written by a task was written by the job
+
+pub verdict_at : (forms : List ℕ) (task : Task) (job : Job) (status : Status)
+    (rest old new : Option (List ℕ)) → task ≡ task_of job →
+    (IsVerdict status →
+    IfSome rest (λ bytes. IsAnswered (IsTaskReply forms task bytes) status old new)) →
+    IsVerdict status →
+    IfSome rest (λ bytes. IsAnswered (IsReply forms job bytes) status old new)
+verdict_at forms task job status rest old new same =
+    subst
+    (λ (t : Task). IsVerdict status →
+    IfSome rest (λ bytes. IsAnswered (IsTaskReply forms t bytes) status old new)) same
+
+pub written_at : (forms : List ℕ) (task : Task) (job : Job) (rest old new : Option (List ℕ)) →
+    task ≡ task_of job → WritesPart (TaskBegins forms task rest) old new →
+    WritesPart (Begins forms job rest) old new
+written_at forms task job rest old new same =
+    subst (λ (t : Task). WritesPart (TaskBegins forms t rest) old new) same
+
+pub cut_at : (forms : List ℕ) (task : Task) (job : Job) (status : Status)
+    (rest left old new : Option (List ℕ)) → task ≡ task_of job →
+    (IsCut status → TaskTellsFirst forms task rest left old new) → IsCut status →
+    TellsFirst forms job rest left old new
+cut_at forms task job status rest left old new same =
+    subst (λ (t : Task). IsCut status → TaskTellsFirst forms t rest left old new) same
+
+pub long_at : (forms : List ℕ) (task : Task) (job : Job) (status : Status)
+    (rest old new : Option (List ℕ)) → task ≡ task_of job →
+    (IsLong status → TaskTellsAll forms task rest old new) → IsLong status →
+    TellsAll forms job rest old new
+long_at forms task job status rest old new same =
+    subst (λ (t : Task). IsLong status → TaskTellsAll forms t rest old new) same

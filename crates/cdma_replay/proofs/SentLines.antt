@@ -3,6 +3,7 @@ use Rattle.std.proofs.Common.{◌≡◌, ◌≤◌, ℕ, ◌*◌, ◌%◌, refl,
 use Rattle.std.proofs.Common.{◌∷◌, length, take, Bool, Option, None, Some}
 use Rattle.std.specs.List.{Contains, flat_map}
 use Rattle.std.proofs.lemmas.List.Folds.{flat_map-map}
+use Rattle.chip_core.specs.declared.check_form.CheckForm.{CheckForm}
 use Rattle.chip_core.specs.declared.sample.Sample.{Sample}
 use Rattle.cdma_io.specs.declared.width.Width.{Width}
 use Rattle.long_code.specs.LongCode.{traffic_mask}
@@ -41,8 +42,9 @@ use Rattle.clean_link.proofs.traffic.Commands.{power_pairs}
 use Rattle.clean_link.proofs.traffic.Frames.{one_taken, one_there}
 use Rattle.clean_link.proofs.traffic.Received.{frames_behind_mark, set_two_behind_mark}
 use Rattle.clean_link.proofs.traffic.Signs.{lawful_traffic, set_one_sends}
-use Rattle.tuned_listener.specs.TunedTexts.{decoded_line, frame_text, frames_from, listed_text}
-use Rattle.tuned_listener.specs.TunedTexts.{rate2_text, tuned_text}
+use Rattle.tuned_listener.proofs.TunedTexts.{listed_texts, rate2_texts}
+use Rattle.tuned_listener.specs.TunedTexts.{decoded_line, frames_text, listed_text, rate2_text}
+use Rattle.tuned_listener.specs.TunedTexts.{text_behind, tuned_text}
 use Rattle.tuned_listener.specs.declared.tuned_text.TunedText.{TunedText}
 use Rattle.tuned_listener.specs.declared.tuned_text.TunedText.TheVariants.{Listed, RateSetTwo}
 use Rattle.cdma_replay.specs.Hearing.{tuning_for}
@@ -53,22 +55,27 @@ use Rattle.cdma_replay.proofs.CleanTexts.{on_path, receivable}
 
 -- ---- any frames
 
--- The frames behind a mark are those of which this is true, and what is written so of one of them
--- is a line of which that is true.
+-- what is written of frames one after the other is this line of each, whatever their slots
+abbrev IsLineByLine : TunedText → (SoftFrame → List ℕ) → Type 0
+IsLineByLine form line = (check : CheckForm) (m : Mark) (frames : List SoftFrame) →
+    frames_text form check m [] frames ≡ flat_map line frames
+
+-- The frames behind a mark are those of which this is true, and the line of one of them is one of
+-- which that is true.
 module _ (width : Width) (plan : CellPlan) (p : TrafficPlan) (t : Tuning) (traffic : Traffic)
-    (form : TunedText) (Says : ℕ → SoftFrame → Type 0) (Is : ℕ → List ℕ → Type 0)
+    (form : TunedText) (line : SoftFrame → List ℕ) (lines : IsLineByLine form line)
+    (Says : ℕ → SoftFrame → Type 0) (Is : ℕ → List ℕ → Type 0)
     (is : IsReceivable width plan) (on : IsOnPath plan t)
     (all : (m : Mark) → mark t (made_samples plan) (length (made_samples plan)) ≡ Some m →
     AreReceived plan p Says
     (soft_frames t (traffic_channel traffic) m (made_samples plan)))
-    (back : (frame : ℕ) (soft : SoftFrame) → Says frame soft → Is frame (frame_text form soft))
+    (back : (frame : ℕ) (soft : SoftFrame) → Says frame soft → Is frame (line soft))
   where
     -- behind the mark that is set, and where none is
     behind_last : (last : Option Mark) →
         mark t (made_samples plan) (length (made_samples plan)) ≡ last →
         IsSentText plan p Is (told_with_sync plan plan.sync)
-        (flat_map (frame_text form)
-        (frames_from t (traffic_channel traffic) (made_samples plan) last))
+        (text_behind form t (traffic_channel traffic) (made_samples plan) last)
     behind_last None unset =
         let count : length (made_samples plan) ≡ t.count = length-made plan ∙ sym on.count in
         let none = untold width plan t is on plan.sync refl
@@ -76,20 +83,17 @@ module _ (width : Width) (plan : CellPlan) (p : TrafficPlan) (t : Tuning) (traff
         subst (λ (told : Option ℕ). IsSentText plan p Is told []) (sym none) refl
     behind_last (Some m) set =
         let some = all m set in
-        let lines : AreSentLines plan p Is some.superframes
-        (flat_map (frame_text form)
-        (frames_from t (traffic_channel traffic) (made_samples plan) (Some m))) = record {
-          line = λ frame. frame_text form (some.soft frame);
-          each = ap (flat_map (frame_text form)) some.each
-              ∙ flat_map-map (frame_text form) some.soft
+        let text = text_behind form t (traffic_channel traffic) (made_samples plan) (Some m) in
+        let sent : AreSentLines plan p Is some.superframes text = record {
+          line = λ frame. line (some.soft frame);
+          each = lines t.check30 m
+              (soft_frames t (traffic_channel traffic) m (made_samples plan))
+              ∙ ap (flat_map line) some.each
+              ∙ flat_map-map line some.soft
               (received_frames plan p (98304 * some.superframes));
           are = λ frame received. back frame (some.soft frame) (some.are frame received);
         } in
-        subst
-        (λ (told : Option ℕ). IsSentText plan p Is told
-        (flat_map (frame_text form)
-        (frames_from t (traffic_channel traffic) (made_samples plan) (Some m))))
-        (sym some.told) lines
+        subst (λ (told : Option ℕ). IsSentText plan p Is told text) (sym some.told) sent
 
     text_back : IsSentText plan p Is (told_with_sync plan plan.sync)
         (tuned_text form t (traffic_channel traffic) (made_samples plan))
@@ -98,8 +102,8 @@ module _ (width : Width) (plan : CellPlan) (p : TrafficPlan) (t : Tuning) (traff
         behind_last (mark t (made_samples plan) (length (made_samples plan))) refl
 
 -- so of a file
-file_back : (form : TunedText) (Sends : TrafficPlan → Type 0)
-    (Is : CellPlan → TrafficPlan → ℕ → List ℕ → Type 0)
+file_back : (form : TunedText) (line : SoftFrame → List ℕ) → IsLineByLine form line →
+    (Sends : TrafficPlan → Type 0) (Is : CellPlan → TrafficPlan → ℕ → List ℕ → Type 0)
     (Says : CellPlan → TrafficPlan → ℕ → SoftFrame → Type 0) →
     ((width : Width) (plan : CellPlan) (p : TrafficPlan) (t : Tuning) (traffic : Traffic)
     (m : Mark) → IsReceivable width plan → IsOnPath plan t → Contains plan.traffic p →
@@ -109,10 +113,10 @@ file_back : (form : TunedText) (Sends : TrafficPlan → Type 0)
     (soft_frames t (traffic_channel traffic) m (made_samples plan))) →
     ((width : Width) (plan : CellPlan) (p : TrafficPlan) (frame : ℕ) (soft : SoftFrame) →
     IsReceivable width plan → Contains plan.traffic p → Sends p → Says plan p frame soft →
-    Is plan p frame (frame_text form soft)) →
+    Is plan p frame (line soft)) →
     LinesComeBack form Sends Is
-file_back form Sends Is Says behind line width script plan p span receiver traffic header samples
-    file counted has assigned some =
+file_back form line lines Sends Is Says behind back width script plan p span receiver traffic header
+    samples file counted has assigned some =
     let t = tuning_for header (take span samples) receiver in
     let is = receivable width script plan file.named in
     let on = on_path width script plan span receiver header samples file counted in
@@ -120,9 +124,9 @@ file_back form Sends Is Says behind line width script plan p span receiver traff
     (λ (heard : List Sample). IsSentText plan p (Is plan p) (told_with_sync plan plan.sync)
     (tuned_text form t (traffic_channel traffic) heard))
     (sym file.sent)
-    (text_back width plan p t traffic form (Says plan p) (Is plan p) is on
+    (text_back width plan p t traffic form line lines (Says plan p) (Is plan p) is on
     (λ m set. behind width plan p t traffic m is on has assigned some set)
-    (λ frame soft says. line width plan p frame soft is has some says))
+    (λ frame soft says. back width plan p frame soft is has some says))
 
 -- ---- frames of rate set 1
 
@@ -150,17 +154,21 @@ pub line_of_event : (n : ℕ) (decoded : Decoded) (commands : List Bool) →
 unfolding event_line
 line_of_event n decoded commands = refl
 
+-- what is listed of a frame
+abbrev pub listed_of : ℕ → SoftFrame → List ℕ
+listed_of k soft = listed_text k soft.end soft.turned soft.power
+
 -- the line of one that comes back
 listed_back : (k : ℕ) → 1 ≤ k → (plan : CellPlan) (p : TrafficPlan) (frame : ℕ) (f : TrafficFrame)
     (soft : SoftFrame) → IsTrafficFrame f →
     IsReceivedAs plan p frame (word_symbols f) f.commands soft →
-    IsSentLine plan p frame f (frame_text (Listed k) soft)
+    IsSentLine plan p frame f (listed_of k soft)
 listed_back k most plan p frame f soft sized received =
     let few = (power_pairs (frame_state (frames_of plan p) frame) (traffic_mask p.esn)).long in
     let shown = received.shown in
     let replaced = replaced_of plan p frame in
     let ends = frame_ends plan p frame in
-    let spelled : frame_text (Listed k) soft ≡
+    let spelled : listed_of k soft ≡
     event_line (frame_event ends (listed k replaced soft.turned) (sent_commands f)) =
     ap (listed_text k soft.end soft.turned) received.powered
     ∙ ap (λ (n : ℕ). decoded_line n (listed k replaced soft.turned) (sent_bits f.commands))
@@ -179,7 +187,7 @@ listed_back k most plan p frame f soft sized received =
 
 listed_line : (k : ℕ) → 1 ≤ k → (width : Width) (plan : CellPlan) (p : TrafficPlan) (frame : ℕ)
     (soft : SoftFrame) → IsReceivable width plan → Contains plan.traffic p → SendsSetOne p →
-    ShowsSent plan p frame soft → IsLineOfSetOne plan p frame (frame_text (Listed k) soft)
+    ShowsSent plan p frame soft → IsLineOfSetOne plan p frame (listed_of k soft)
 listed_line k most width plan p frame soft is has some shows =
     let (f, here, sized) = frame_there width plan p frame is has some in (
       f,
@@ -195,10 +203,14 @@ abbrev IsSent2 : CellPlan → TrafficPlan → ℕ → SoftFrame → Type 0
 IsSent2 plan p frame soft = (f : TrafficFrame2)
     × (cycled_frame2 (frames_of plan p) frame ≡ f ∷ []) × IsSentFrame2 plan p frame f soft
 
+-- what is written of a frame
+abbrev rate2_of : SoftFrame → List ℕ
+rate2_of soft = rate2_text soft.end soft.turned soft.power
+
 -- the line of one that comes back
 line_back : (plan : CellPlan) (p : TrafficPlan) (frame : ℕ) (f : TrafficFrame2)
     (soft : SoftFrame) → IsSentFrame2 plan p frame f soft →
-    IsSentLine2 plan p frame f (frame_text RateSetTwo soft)
+    IsSentLine2 plan p frame f (rate2_of soft)
 line_back plan p frame f soft sent =
     let decoded = decoded2 (replaced_of plan p frame) soft.turned in
     record {
@@ -210,19 +222,21 @@ line_back plan p frame f soft sent =
     }
 
 set_two_line : (plan : CellPlan) (p : TrafficPlan) (frame : ℕ) (soft : SoftFrame) →
-    IsSent2 plan p frame soft → IsLineOfSetTwo plan p frame (frame_text RateSetTwo soft)
+    IsSent2 plan p frame soft → IsLineOfSetTwo plan p frame (rate2_of soft)
 set_two_line plan p frame soft (f, here, sent) = (f, here, line_back plan p frame f soft sent)
 
 -- ---- the laws
 
 pub listed_lines : ListedLinesComeBack
 listed_lines k most =
-    file_back (Listed k) SendsSetOne IsLineOfSetOne ShowsSent
+    file_back (Listed k) (listed_of k) (λ check m frames. listed_texts check m [] frames k)
+    SendsSetOne IsLineOfSetOne ShowsSent
     (λ width plan p t traffic m is on has assigned some set.
     frames_behind_mark width plan p t traffic m is on has assigned set)
     (listed_line k most)
 
 pub set_two_lines : SetTwoLinesComeBack
 set_two_lines =
-    file_back RateSetTwo SendsSetTwo IsLineOfSetTwo IsSent2 set_two_behind_mark
+    file_back RateSetTwo rate2_of (λ check m frames. rate2_texts check m [] frames)
+    SendsSetTwo IsLineOfSetTwo IsSent2 set_two_behind_mark
     (λ width plan p frame soft is has some sent. set_two_line plan p frame soft sent)

@@ -20,11 +20,12 @@ abbrev pub followed_line : Tuning → Traffic → Mark → List Sample → SoftF
 followed_line t traffic m samples frame =
     event_line (frame_heard t traffic m (reference_alone traffic m) samples frame.end frame.number)
 
--- With one word that is what is written of each frame,
+-- With one word that is what is written of each frame, whatever is kept of its slot,
 abbrev pub OneWordFollowsFrame : Type 0
-OneWordFollowsFrame = (t : Tuning) (traffic : Traffic) (m : Mark) (samples : List Sample) (k : ℕ) →
+OneWordFollowsFrame = (t : Tuning) (traffic : Traffic) (m : Mark) (samples : List Sample)
+    (slot : List SoftFrame) (k : ℕ) →
     let frame = soft_frame t (traffic_channel traffic) m samples k in
-    frame_text (Listed 1) frame ≡ followed_line t traffic m samples frame
+    frame_text (Listed 1) t.check30 m slot frame ≡ followed_line t traffic m samples frame
 
 -- so of all that end within these samples, behind the mark that these set.
 abbrev pub OneWordFollows : Type 0

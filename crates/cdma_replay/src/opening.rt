@@ -28,6 +28,7 @@ use pilot_survey::{Survey, survey};
 use short_code::Codes;
 use std::alloc::Global;
 use std::thread::Threads;
+use tuned_listener::{TunedListener, TunedText};
 
 /// What was found in the first samples of a file.
 #[derive(Drop)]
@@ -135,7 +136,7 @@ fn tuned_listener(
         traffic: None,
     };
     let mobile = handset(alloc, header, receiver, best, near)?;
-    TunedListener::open(alloc, mobile, channel, text, phase, near)
+    TunedListener::open(alloc, mobile, channel, text, header.check30, phase, near)
 }
 
 /// Who hears a file of this header in whose first samples this was found.

@@ -1,4 +1,4 @@
-use Rattle.std.proofs.Common.{◌≡◌, length, rules, sym}
+use Rattle.std.proofs.Common.{◌≡◌, length, refl, rules, sym}
 use Rattle.pilot_search.proofs.BestPhase.{best_phase-only}
 use Rattle.cdma_replay.specs.Hearing.{tuning_for, waiting}
 use Rattle.cdma_replay.proofs.Hearings.{if_ok, near_taken}
@@ -13,5 +13,6 @@ returns-clause-listens c first found near =
     (λ tuned listens. listens (tuning_for c.args.header first (waiting fingers))
     (c.in_ok-mobile.ensures.given first found near)
     (sym (best_phase-only first best.phase best.energy found))
-    (sym (near_taken first fingers best c.args.near found near.0 c.requires.fingers.1 long near.1)))
+    (sym (near_taken first fingers best c.args.near found near.0 c.requires.fingers.1 long near.1))
+    refl)
     c.open.ensures.listens

@@ -1,19 +1,16 @@
-use Rattle.std.proofs.Common.{◌≡◌, ◌⊎◌, ◌++◌, map, subst, sym, Option, IfSome}
-use Rattle.std.specs.Io.KnownBytes.{Appends, IsAtEnd}
+use Rattle.std.proofs.Common.{◌≡◌, ◌⊎◌, subst, sym, IfSome}
+use Rattle.std.specs.Io.KnownBytes.{IsAtEnd}
 use Rattle.cdma_io.specs.Outside.{Rose}
 use Rattle.cdma_words.specs.Words.{IsLawfulJob}
-use Rattle.cdma_words.specs.declared.job.Job.{Job}
 use Rattle.cdma_words.specs.declared.job.Job.TheVariants.{Follow, Trial}
-use Rattle.cdma_replay.specs.Broken.{IsCut, IsLong}
 use Rattle.cdma_replay.specs.Find.{IsEnd}
-use Rattle.cdma_replay.specs.Replies.{IsAnswered, IsTaskEnd, IsTaskPromising, IsTaskReply, IsVerdict}
-use Rattle.cdma_replay.specs.Replies.{TaskBegins, TaskReadsInput, TaskReadsWell, TaskTellsAll}
-use Rattle.cdma_replay.specs.Replies.{TaskTellsFirst, WritesPart}
+use Rattle.cdma_replay.specs.Replies.{IsTaskEnd, IsTaskPromising, TaskReadsInput, TaskReadsWell}
 use Rattle.cdma_replay.specs.declared.status.Status.{Status}
 use Rattle.cdma_replay.specs.declared.task.Task.{Task}
 use Rattle.cdma_replay.proofs.CleanTexts.{clean_answer}
 use Rattle.cdma_replay.proofs.Completed.{complete_answer}
-use Rattle.cdma_replay.proofs.Replies.{exact_answer, owed_at, said_of, same_job, task_named}
+use Rattle.cdma_replay.proofs.Replies.{cut_at, exact_answer, long_at, owed_at, said_of, same_job}
+use Rattle.cdma_replay.proofs.Replies.{task_named, verdict_at, written_at}
 use Rattle.cdma_replay.proofs.replaying.replay.Goals as goal
 
 pub returns-in-Ok-clause-exact : goal.returns-in-Ok-clause-exact
@@ -57,12 +54,9 @@ returns-in-Ok-clause-kind g c job named =
 
 pub returns-in-Ok-clause-verdict : goal.returns-in-Ok-clause-verdict
 returns-in-Ok-clause-verdict g c job named =
-    said_of job
-    (λ (task : Task). IsVerdict c.run_task.result →
-    IfSome (g.S.Source.rest c.args.source.now) (λ bytes.
-    IsAnswered (IsTaskReply _ task bytes) c.run_task.result
-    (g.K.Sink.written c.args.sink.now) (g.K.Sink.written c.run_task.new.sink)))
-    c.task_of.ensures.value c.in-Ok.ensures.job named c.run_task.ensures.verdict
+    verdict_at _ c.task_of.result job c.run_task.result _ _ _
+    (task_named c.task_of.result c.in-Ok.job job c.task_of.ensures.value c.in-Ok.ensures.job named)
+    c.run_task.ensures.verdict
 
 pub returns-in-Ok-clause-write_fault : goal.returns-in-Ok-clause-write_fault
 returns-in-Ok-clause-write_fault g c job named =
@@ -101,23 +95,18 @@ returns-in-Ok-clause-at_end g c job named =
 
 pub returns-in-Ok-clause-written : goal.returns-in-Ok-clause-written
 returns-in-Ok-clause-written g c job named =
-    said_of job
-    (λ (task : Task). WritesPart (TaskBegins _ task (g.S.Source.rest c.args.source.now))
-    (g.K.Sink.written c.args.sink.now) (g.K.Sink.written c.run_task.new.sink))
-    c.task_of.ensures.value c.in-Ok.ensures.job named c.run_task.ensures.written
+    written_at _ c.task_of.result job _ _ _
+    (task_named c.task_of.result c.in-Ok.job job c.task_of.ensures.value c.in-Ok.ensures.job named)
+    c.run_task.ensures.written
 
 pub returns-in-Ok-clause-cut : goal.returns-in-Ok-clause-cut
 returns-in-Ok-clause-cut g c job named =
-    said_of job
-    (λ (task : Task). IsCut c.run_task.result → TaskTellsFirst _ task
-    (g.S.Source.rest c.args.source.now) (g.S.Source.rest c.run_task.new.source)
-    (g.K.Sink.written c.args.sink.now) (g.K.Sink.written c.run_task.new.sink))
-    c.task_of.ensures.value c.in-Ok.ensures.job named c.run_task.ensures.cut
+    cut_at _ c.task_of.result job c.run_task.result _ _ _ _
+    (task_named c.task_of.result c.in-Ok.job job c.task_of.ensures.value c.in-Ok.ensures.job named)
+    c.run_task.ensures.cut
 
 pub returns-in-Ok-clause-long : goal.returns-in-Ok-clause-long
 returns-in-Ok-clause-long g c job named =
-    said_of job
-    (λ (task : Task). IsLong c.run_task.result → TaskTellsAll _ task
-    (g.S.Source.rest c.args.source.now)
-    (g.K.Sink.written c.args.sink.now) (g.K.Sink.written c.run_task.new.sink))
-    c.task_of.ensures.value c.in-Ok.ensures.job named c.run_task.ensures.long
+    long_at _ c.task_of.result job c.run_task.result _ _ _
+    (task_named c.task_of.result c.in-Ok.job job c.task_of.ensures.value c.in-Ok.ensures.job named)
+    c.run_task.ensures.long

@@ -37,7 +37,7 @@ pub returns-in-Some-clause-kind : goal.returns-in-Some-clause-kind
 returns-in-Some-clause-kind g c =
     let ends = c.receive.ensures in
     let r = c.in-Receive.reception in
-    rw (c.in-Receive.is, c.in-Some.is, c.status_of.ensures)
+    rw (c.in-Receive.is, c.status_of.ensures)
     (purpose_end r.purpose (ended c.receive.result)
     (file_end _ r (ended c.receive.result) _ _ _ (record {
       done = ends.done;
