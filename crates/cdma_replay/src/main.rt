@@ -16,9 +16,13 @@ mod handoff_tests;
 mod handset;
 #[cfg(test)]
 mod hostile_tests;
+#[cfg(test)]
+mod idle_tests;
 pub mod laws;
 #[cfg(test)]
 mod link_tests;
+#[cfg(test)]
+mod list_tests;
 mod listener;
 mod making;
 #[cfg(test)]

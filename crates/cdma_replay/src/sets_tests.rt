@@ -9,7 +9,7 @@ use std::alloc::{AllocError, Global};
 use std::test::Fail;
 
 /// A cell that is heard for ten traffic frames behind its mark.
-const CELL: &str = "\
+pub const CELL: &str = "\
     cell pn=511 time=1000 lc=20000000000 checks=0\n\
     link re=0 im=-3 start=0 samples=933888\n\
     pilot gain=100\n";
@@ -24,7 +24,7 @@ const FIRST_FRAME: &str =
     "frame 9600 172:0a3141592653589793238462643383279502884197f0 0101010101010101\n";
 
 /// The last frame's direction to row 20 of the same base station: at time 1009,
-const AT_A_TIME: &str =
+pub const AT_A_TIME: &str =
     "frame 9600 172:8aaaaaaaaaaaaaaaaaaaa8508803880ff85006749800 0000111100001111\n";
 
 /// or at the second moment from the end of its message on.
@@ -66,7 +66,7 @@ const BEHIND: &str = "\
     frame at=933888 rate=9600 good=1 bits=172:14271828182845904523536028747135266249775720 commands=0011001100110011\n";
 
 /// The cell's channels, where the last frame of the first row's cycle carries a direction.
-fn channels(alloc: Global, direction: &str) -> Result<String, AllocError> {
+pub fn channels(alloc: Global, direction: &str) -> Result<String, AllocError> {
     let mut text = String::from_str(alloc, FIRST_ROW)?;
     for _n in 0..31 {
         text.push_str(FIRST_FRAME)?;
