@@ -9,8 +9,10 @@ pub mod Hearings
 pub mod Lines
 pub mod MadeFiles
 pub mod MadeLinks
+pub mod NearPaths
 pub mod OneWord
 pub mod RankLines
 pub mod Replies
 pub mod SentLines
+pub mod SleepLaw
 mod Counting

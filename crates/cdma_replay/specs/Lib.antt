@@ -8,6 +8,7 @@ pub mod Openings
 pub mod Ranks
 pub mod Replies
 pub mod SentLines
+pub mod SleepLaw
 pub mod Status
 pub mod Tasks
 pub mod Trials

@@ -6,6 +6,7 @@ ghost use Rattle.cdma_replay.specs.MadeLaws.{IsCleanWhenMade, IsCleanWhenSent, I
 ghost use Rattle.cdma_replay.specs.OneWord.{OneWordFollows, OneWordFollowsFrame};
 ghost use Rattle.cdma_replay.specs.Replies.{IsReply, Reply};
 ghost use Rattle.cdma_replay.specs.SentLines.{ListedLinesComeBack, SetTwoLinesComeBack};
+ghost use Rattle.cdma_replay.specs.SleepLaw.{SleepChangesNoReply};
 
 /// No input is owed two replies.
 pub fn inputs_are_owed_one_reply()
@@ -48,4 +49,12 @@ pub fn listing_one_word_is_following()
 /// it is the line of the frame that was sent, as a good frame.
 pub fn listed_lines_come_back()
     ensures { ListedLinesComeBack }
+{}
+
+/// What `idle` owes, with words that are lawful, doesn't hang on what its handset sleeps through: two
+/// sample files of one header, of which the first tells the handset a mark, and that agree before the
+/// mark and, path by path, in the samples of the slots that it hears, are owed the same bytes and the
+/// same end.
+pub fn what_is_slept_through_changes_no_reply()
+    ensures { SleepChangesNoReply }
 {}

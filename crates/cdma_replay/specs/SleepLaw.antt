@@ -1,0 +1,37 @@
+-- What is owed of a file whose slots a sleeping handset hears doesn't hang on what it sleeps through.
+use Rattle.std.specs.Prelude.{◌≡◌, ℕ, ◌≤◌, ◌↔◌, List, [], length, take, Some}
+use Rattle.chip_core.specs.declared.sample.Sample.{Sample}
+use Rattle.cdma_io.specs.SampleFile.{IsSampleFile}
+use Rattle.cdma_io.specs.declared.header.Header.{Header}
+use Rattle.mobile_core.specs.Marks.{mark}
+use Rattle.mobile_core.specs.Tuning.{Tuning}
+use Rattle.mobile_core.specs.declared.channel.Channel.TheVariants.{Paging}
+use Rattle.mobile_core.specs.declared.mark.Mark.{Mark}
+use Rattle.tuned_listener.specs.SlotLaws.{AgreeWhereHeard}
+use Rattle.tuned_listener.specs.declared.tuned_text.TunedText.TheVariants.{Slots}
+use Rattle.cdma_words.specs.Words.{IsFingers}
+use Rattle.cdma_replay.specs.Hearing.{tuning_for, waiting}
+use Rattle.cdma_replay.specs.Replies.{IsFileReply, Reply}
+use Rattle.cdma_replay.specs.declared.purpose.Purpose.TheVariants.{Tuned}
+use Rattle.cdma_replay.specs.declared.receiving.Reception.{Reception}
+
+-- Two files agree while a handset is awake: the first of them tells it a mark, and they agree before
+-- that and, path by path, in the samples of the slots that it hears.
+pub record AgreeWhileAwake (key cycle : ℕ) (t : Tuning) (number : ℕ) (one other : List Sample) :
+    Type 0 where
+  pub told : Mark
+  pub is_told : mark t one (length one) ≡ Some told
+  pub before : take told.sample one ≡ take told.sample other
+  pub slots : AgreeWhereHeard key cycle t number told one other (length one)
+
+-- Where the slots of a paging channel are wanted of two sample files of one header that agree so,
+-- each reply that the one is owed the other is owed.
+abbrev pub SleepChangesNoReply : Type 0
+SleepChangesNoReply =
+    (r : Reception) (fingers number key cycle : ℕ) (header : Header) (one other : List Sample)
+    (bytes changed : List ℕ) (reply : Reply) →
+    r.purpose ≡ Tuned fingers (Paging number) (Slots key cycle) → r.span ≤ 32768 →
+    IsFingers fingers → IsSampleFile bytes header one → IsSampleFile changed header other →
+    AgreeWhileAwake key cycle (tuning_for header (take r.span one) (waiting fingers)) number one
+    other →
+    IsFileReply [] r bytes reply ↔ IsFileReply [] r changed reply
