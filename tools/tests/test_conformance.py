@@ -16,6 +16,8 @@ from tools.tests.helping import ROOT, sample_file
 WORDS = {
     "find": {"span"},
     "rate2": {"span", "fingers", "esn", "row", "offset"},
+    "list": {"span", "fingers", "esn", "row", "offset", "k"},
+    "idle": {"span", "fingers", "paging", "key", "cycle"},
     "survey": {"span", "base", "width", "top"},
 }
 FOLLOW = {"span", "fingers", "paging", "esn", "row", "offset", "pilots", "messages", "frames", "raw"}
@@ -50,7 +52,7 @@ class TheCases(unittest.TestCase):
         command, options = case.words[0], case.words[1::2]
         allowed = WORDS.get(command, FOLLOW if command == "follow" else set())
         self.assertLessEqual({option[2:] for option in options}, allowed)
-        self.assertTrue(case.text or case.status == 1)
+        self.assertTrue(case.text or case.status == 1 or command == "idle")
         self.assertTrue(all(len(line) < 1_024 for line in case.text))
         self.assertRegex(case.fields["sha256"], "^[0-9a-f]{64}$")
         self.assertIn((case.status, case.bits), {(0, 16), (0, 8), (1, 16)})
@@ -72,6 +74,7 @@ class TheCases(unittest.TestCase):
             self.assertRegex(lines, rf"(?m)^frame at=\d+ rate={rate} good=1 ")
         for rate in (14400, 7200, 3600, 1800):
             self.assertRegex(lines, rf"(?m)^frame2 at=\d+ rate={rate} good=1 ")
+        self.assertRegex(lines, r"(?m)^slot at=\d+ time=\d+ messages=[1-9]")
         for text in ("page half", "page next", "prat=0", "prat=1", "prat=2", "prat=3", "checks=0", "checks=3"):
             self.assertIn(text, scripts)
         self.assertTrue(any(case.bits == 8 for case in cases) and any(case.noise for case in cases))
