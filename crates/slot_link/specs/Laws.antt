@@ -1,14 +1,18 @@
 -- The laws of slots on a clean link.
-use Rattle.std.specs.Prelude.{ℕ, ◌+◌, ◌*◌, ◌<◌, ◌≡◌, Bool, List, length, Some}
+use Rattle.std.specs.Prelude.{ℕ, ◌+◌, ◌*◌, ◌<◌, ◌≡◌, Bool, List, length, take, Some}
 use Rattle.std.specs.List.{Contains, flat_map}
 use Rattle.chip_core.specs.Bits.{places}
 use Rattle.chip_core.specs.declared.check_form.CheckForm.{CheckForm}
+use Rattle.chip_core.specs.declared.sample.Sample.{Sample}
+use Rattle.cdma_io.specs.declared.header.Header.{Header}
 use Rattle.cdma_io.specs.declared.width.Width.{Width}
 use Rattle.symbol_path.specs.SentOrder.{sent}
 use Rattle.symbol_path.specs.declared.kinds.Rate.{Rate}
 use Rattle.viterbi.specs.Laws.{signed}
 use Rattle.frame_decoder.specs.Spans.{Channel, own_bits, paging_channel}
 use Rattle.slot_mode.specs.Frames.{slot_bits}
+use Rattle.pilot_search.specs.Near.{near_deltas}
+use Rattle.pilot_search.specs.Search.{best_phase}
 use Rattle.base_modulator.specs.PageCycles.{cycled, paging_frame_size}
 use Rattle.base_modulator.specs.Pages.{page_cycle, paging_rate}
 use Rattle.base_modulator.specs.Sampled.{made_samples}
@@ -26,7 +30,7 @@ use Rattle.tuned_listener.specs.SlotLaws.{slot_softs}
 use Rattle.tuned_listener.specs.Slots.{slot_pages}
 use Rattle.tuned_listener.specs.TunedTexts.{tuned_text}
 use Rattle.tuned_listener.specs.declared.tuned_text.TunedText.TheVariants.{Slots}
-use Rattle.clean_link.specs.CleanLink.{IsOnPath, IsReceivable, IsTrueMark}
+use Rattle.clean_link.specs.CleanLink.{IsCellFile, IsOnPath, IsReceivable, IsTrueMark}
 use Rattle.clean_link.specs.SentWords.{IsWholeChannel}
 use Rattle.clean_link.specs.WholePages.{AreWholePages}
 use Rattle.slot_link.specs.SentSlots.{slots_sent, slots_to_end}
@@ -102,4 +106,25 @@ SlotTextsComeBack =
     (width : Width) (plan : CellPlan) (p : PagingPlan) (t : Tuning) (key cycle : ℕ) →
     IsReceivable width plan → IsOnPath plan t → Contains plan.paging p →
     tuned_text (Slots key cycle) t (channels.Paging p.number) (made_samples plan) ≡
+    slots_sent key cycle plan p
+
+-- A handset is tuned by the header of a file, and by the pilot that was searched in its first
+-- samples, over so many fingers.
+pub record IsTunedBy (span fingers : ℕ) (header : Header) (samples : List Sample) (t : Tuning) :
+    Type 0 where
+  pub count : t.count ≡ header.count
+  pub phase : t.phase ≡ best_phase (take span samples)
+  pub deltas : t.deltas ≡ near_deltas (take span samples) (best_phase (take span samples)) fingers
+  pub checks_of_30 : t.check30 ≡ header.check30
+  pub checks_of_16 : t.check16 ≡ header.check16
+
+-- So it is of a file that holds what a script's cell sends, where the search finds the cell's path
+-- and there is one finger.
+abbrev pub FileSlotsComeBack : Type 0
+FileSlotsComeBack =
+    (width : Width) (script : List ℕ) (plan : CellPlan) (p : PagingPlan) (span fingers : ℕ)
+    (header : Header) (samples : List Sample) (t : Tuning) (key cycle : ℕ) →
+    IsCellFile width script plan span fingers header samples → length samples ≡ header.count →
+    IsTunedBy span fingers header samples t → Contains plan.paging p →
+    tuned_text (Slots key cycle) t (channels.Paging p.number) samples ≡
     slots_sent key cycle plan p
