@@ -21,8 +21,8 @@ use Rattle.base_modulator.specs.declared.plan.PagingPlan.{PagingPlan}
 use Rattle.base_modulator.specs.declared.plan.SyncPlan.{SyncPlan}
 use Rattle.base_modulator.specs.declared.plan.TrafficPlan.{TrafficPlan}
 use Rattle.cdma_io.specs.SampleFile.{bits_of, HasBits}
-use Rattle.cdma_io.specs.declared.width.Width.{Width}
-use Rattle.cdma_io.specs.declared.width.Width.TheVariants.{Sixteen, Eight}
+use Rattle.chip_core.specs.declared.width.Width.{Width}
+use Rattle.chip_core.specs.declared.width.Width.TheVariants.{Sixteen, Eight}
 use Rattle.base_modulator.specs.Plan.{most_part, loudness, gain_sum, paging_gains, sync_gain}
 use Rattle.base_modulator.specs.Plan.{traffic_gains}
 use Rattle.base_modulator.proofs.MachineInts.{more_most}

@@ -4,11 +4,11 @@ use Rattle.std.proofs.Common.{◌∙◌, arith, Bool, Ok}
 use Rattle.std.specs.Prelude.{All}
 use Rattle.std.proofs.lemmas.List.Elements.{All-cons, All-nil, All-weaker}
 use Rattle.chip_core.specs.declared.check_form.CheckForm.{CheckForm}
-use Rattle.cdma_io.specs.declared.width.Width.{Width}
+use Rattle.chip_core.specs.declared.width.Width.{Width}
 use Rattle.quality_bits.specs.Capsules.{capsule}
 use Rattle.quality_bits.specs.declared.kind.Kind.TheVariants.{M30}
 use Rattle.quality_bits.proofs.Wholes.{length-capsule, whole-capsule}
-use Rattle.symbol_path.specs.declared.kinds.Rate.{Rate}
+use Rattle.quality_bits.specs.declared.rate.Rate.{Rate}
 use Rattle.paging_message.specs.Admitted.{HasMessage}
 use Rattle.paging_message.specs.HalfFrames.{bits_left, half_frame_body}
 use Rattle.paging_message.specs.Laying as laying

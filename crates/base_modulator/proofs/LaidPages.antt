@@ -14,8 +14,8 @@ use Rattle.chip_core.specs.declared.check_form.CheckForm.{CheckForm}
 use Rattle.quality_bits.specs.Capsules.{capsule}
 use Rattle.quality_bits.specs.declared.kind.Kind.TheVariants.{M30}
 use Rattle.quality_bits.proofs.Wholes.{length-capsule}
-use Rattle.symbol_path.specs.declared.kinds.Rate.{Rate}
-use Rattle.symbol_path.specs.declared.kinds.Rate.TheVariants as rates
+use Rattle.quality_bits.specs.declared.rate.Rate.{Rate}
+use Rattle.quality_bits.specs.declared.rate.Rate.TheVariants as rates
 use Rattle.paging_message.specs.HalfFrames.{half_frame_body}
 use Rattle.paging_message.specs.Laying as laying
 use Rattle.paging_message.proofs.Layings.{flat-more, flat-none, padded_framed}

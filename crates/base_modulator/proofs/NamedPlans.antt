@@ -10,11 +10,11 @@ use Rattle.std.proofs.lemmas.List.Elements.{All-nil, All-push}
 use Rattle.std.proofs.lemmas.Option.{cond_some, same_Some}
 use Rattle.chip_core.specs.Complex.{norm}
 use Rattle.cdma_io.specs.SampleFile.{most_samples}
-use Rattle.cdma_io.specs.declared.width.Width.{Width}
+use Rattle.chip_core.specs.declared.width.Width.{Width}
 use Rattle.quality_bits.specs.Capsules.{FillsCapsule}
 use Rattle.quality_bits.specs.declared.kind.Kind.TheVariants.{M30}
-use Rattle.symbol_path.specs.declared.kinds.Rate.{Rate}
-use Rattle.symbol_path.specs.declared.kinds.Rate.TheVariants.{R9600, R4800}
+use Rattle.quality_bits.specs.declared.rate.Rate.{Rate}
+use Rattle.quality_bits.specs.declared.rate.Rate.TheVariants.{R9600, R4800}
 use Rattle.paging_message.specs.Admitted.{HasMessage}
 use Rattle.paging_message.specs.HalfFrames.{bits_left, half_frame_body}
 use Rattle.base_modulator.specs.Pages.{half_frame_bits, laid_behind, paging_rate, AreSendable}

@@ -8,9 +8,9 @@ use Rattle.std.proofs.lemmas.List.{take_more, take_all, length-take-le}
 use Rattle.chip_core.specs.Bits.{places, xor, zip_with}
 use Rattle.chip_core.proofs.BitLists.{taken_more, zip_push}
 use Rattle.chip_core.proofs.Places.{places-none, map-places-more}
-use Rattle.symbol_path.specs.SentOrder.{repeats_of}
-use Rattle.symbol_path.specs.declared.kinds.Rate.{Rate}
-use Rattle.symbol_path.specs.declared.kinds.Rate.TheVariants as rates
+use Rattle.quality_bits.specs.TrafficWords.{repeats_of}
+use Rattle.quality_bits.specs.declared.rate.Rate.{Rate}
+use Rattle.quality_bits.specs.declared.rate.Rate.TheVariants as rates
 use Rattle.base_modulator.specs.PageCycles as cycles
 
 -- ---- scrambling

@@ -6,8 +6,8 @@ use Rattle.std.specs.Option.{option_to_list}
 use Rattle.std.proofs.lemmas.List.Elements.{All-cons, All-nil}
 use Rattle.quality_bits.specs.Capsules.{FillsCapsule}
 use Rattle.quality_bits.specs.declared.kind.Kind.TheVariants.{M30}
-use Rattle.symbol_path.specs.declared.kinds.Rate.{Rate}
-use Rattle.symbol_path.specs.declared.kinds.Rate.TheVariants.{R9600, R4800}
+use Rattle.quality_bits.specs.declared.rate.Rate.{Rate}
+use Rattle.quality_bits.specs.declared.rate.Rate.TheVariants.{R9600, R4800}
 use Rattle.paging_message.specs.Laying.{fill}
 use Rattle.base_modulator.specs.declared.plan.Page.{Page}
 use Rattle.base_modulator.specs.declared.plan.PagingPlan.{PagingPlan}

@@ -2,7 +2,7 @@
 use Rattle.std.proofs.Common.{◌≡◌, ℕ, ◌<◌, ◌≤◌, List, length, refl, sym, ap, subst, ◌∙◌}
 use Rattle.std.proofs.Common.{None, Some, Result, Ok, Err, IsOk}
 use Rattle.std.proofs.lemmas.Bool.{cond-true, cond-false, le-ltb, lt-ltb}
-use Rattle.cdma_io.specs.declared.width.Width.{Width}
+use Rattle.chip_core.specs.declared.width.Width.{Width}
 use Rattle.base_modulator.specs.declared.plan.CellPlan.{CellPlan}
 use Rattle.base_modulator.specs.declared.script.judge.Judge.{Judge}
 use Rattle.base_modulator.specs.declared.script_fault.ScriptFault.{ScriptFault}

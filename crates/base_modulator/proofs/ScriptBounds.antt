@@ -34,11 +34,11 @@ use Rattle.base_modulator.specs.declared.script.statements.PagingLine.{PagingLin
 use Rattle.base_modulator.specs.declared.script.statements.TrafficLine.{TrafficLine}
 use Rattle.base_modulator.specs.declared.traffic_frame.TrafficFrame.{TrafficFrame}
 use Rattle.base_modulator.specs.declared.traffic_frame2.TrafficFrame2.{TrafficFrame2}
-use Rattle.rate_set_two.specs.Rates as second
-use Rattle.rate_set_two.specs.declared.rate.Rate2.{Rate2}
+use Rattle.symbol_path.specs.RatesTwo as second
+use Rattle.symbol_path.specs.declared.rate_two.Rate2.{Rate2}
 use Rattle.base_modulator.specs.TrafficFrames.{IsTrafficFrame, IsTrafficFrame2}
-use Rattle.symbol_path.specs.TrafficWords.{information_of}
-use Rattle.symbol_path.specs.declared.kinds.Rate.{Rate}
+use Rattle.quality_bits.specs.TrafficWords.{information_of}
+use Rattle.quality_bits.specs.declared.rate.Rate.{Rate}
 use Rattle.base_modulator.specs.declared.script.statements.Statement.{Statement}
 use Rattle.base_modulator.specs.declared.script.statements.Statement.TheVariants as statements
 use Rattle.paging_message.specs.Admitted.{HasMessage}

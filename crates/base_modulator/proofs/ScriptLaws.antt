@@ -13,8 +13,8 @@ use Rattle.paging_message.specs.Admitted.{admits}
 use Rattle.paging_message.specs.HalfFrames.{bits_left}
 use Rattle.paging_message.specs.Laying.{fill}
 use Rattle.paging_message.specs.Reading.{is_body}
-use Rattle.symbol_path.specs.declared.kinds.Rate.{Rate}
-use Rattle.symbol_path.specs.declared.kinds.Rate.TheVariants.{R9600, R4800, R2400, R1200}
+use Rattle.quality_bits.specs.declared.rate.Rate.{Rate}
+use Rattle.quality_bits.specs.declared.rate.Rate.TheVariants.{R9600, R4800, R2400, R1200}
 use Rattle.base_modulator.specs.declared.plan.CellPlan.{CellPlan}
 use Rattle.base_modulator.specs.declared.plan.SyncPlan.{SyncPlan}
 use Rattle.base_modulator.specs.declared.script.stage.Stage.{Stage}
@@ -36,7 +36,7 @@ use Rattle.base_modulator.specs.ScriptStages.{pages_behind}
 use Rattle.base_modulator.specs.ScriptDrafts.{Draft, empty_draft, plan_at, with_line, with_next}
 use Rattle.base_modulator.specs.Script.{draft_after, is_line, lines, named, plan_fault, plan_named}
 use Rattle.base_modulator.specs.Script.{stated, stated_plan, sync_gain_fault, unless}
-use Rattle.cdma_io.specs.declared.width.Width.{Width}
+use Rattle.chip_core.specs.declared.width.Width.{Width}
 use Rattle.std.proofs.lemmas.Bool.{cond-true, cond-false, le-ltb, ltb-false}
 use Rattle.base_modulator.proofs.ScriptSplits.{lines-append, draft_after-other, stated-fault}
 use Rattle.base_modulator.proofs.ScriptSplits.{stated-next, stated-none}

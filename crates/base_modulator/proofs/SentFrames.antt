@@ -5,9 +5,10 @@ use Rattle.std.proofs.Math.Seq.{drop-append-add}
 use Rattle.chip_core.specs.Bits.{binary}
 use Rattle.chip_core.proofs.FieldLists.{length-binary}
 use Rattle.conv_code.specs.ConvCode.{code_symbols, state_after}
-use Rattle.symbol_path.specs.SentOrder.{data_shape, repeats_of, sent, shape_of, size}
-use Rattle.symbol_path.specs.declared.kinds.Rate.{Rate}
-use Rattle.symbol_path.specs.declared.kinds.Rate.TheVariants as rates
+use Rattle.symbol_path.specs.SentOrder.{data_shape, sent, shape_of, size}
+use Rattle.quality_bits.specs.TrafficWords.{repeats_of}
+use Rattle.quality_bits.specs.declared.rate.Rate.{Rate}
+use Rattle.quality_bits.specs.declared.rate.Rate.TheVariants as rates
 use Rattle.base_modulator.specs.PageCycles.{cycle_symbols, frame_scrambling, paging_frame_size}
 use Rattle.base_modulator.specs.PageCycles.{scrambled}
 use Rattle.base_modulator.specs.declared.frame_source.FrameSource.{FrameSource}

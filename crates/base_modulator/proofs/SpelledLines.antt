@@ -9,9 +9,9 @@ use Rattle.chip_core.specs.declared.check_form.CheckForm.TheVariants.{Plain, Com
 use Rattle.line_text.specs.Texts.{bit_text, digits_of, serial_digits, state_digits}
 use Rattle.paging_message.specs.Admitted.{admits}
 use Rattle.paging_message.specs.Reading.{is_body}
-use Rattle.symbol_path.specs.TrafficWords.{information_of}
-use Rattle.symbol_path.specs.declared.kinds.Rate.{Rate}
-use Rattle.symbol_path.specs.declared.kinds.Rate.TheVariants.{R9600, R4800, R2400, R1200}
+use Rattle.quality_bits.specs.TrafficWords.{information_of}
+use Rattle.quality_bits.specs.declared.rate.Rate.{Rate}
+use Rattle.quality_bits.specs.declared.rate.Rate.TheVariants.{R9600, R4800, R2400, R1200}
 use Rattle.base_modulator.specs.declared.plan.CellIdentity.{CellIdentity}
 use Rattle.base_modulator.specs.declared.plan.Page.{Page}
 use Rattle.base_modulator.specs.declared.script.statements.Statement.TheVariants as statements

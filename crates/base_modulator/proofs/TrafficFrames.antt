@@ -8,9 +8,9 @@ use Rattle.chip_core.specs.Bits.{binary}
 use Rattle.conv_code.specs.ConvCode.{code_symbols}
 use Rattle.conv_code.proofs.Continued.{length-code_symbols}
 use Rattle.quality_bits.specs.Kinds.{quality_indicator}
-use Rattle.symbol_path.specs.SentOrder.{repeats_of}
-use Rattle.symbol_path.specs.TrafficWords.{quality_of, traffic_word}
-use Rattle.symbol_path.specs.declared.kinds.Rate.{Rate}
+use Rattle.quality_bits.specs.TrafficWords.{repeats_of}
+use Rattle.quality_bits.specs.TrafficWords.{quality_of, traffic_word}
+use Rattle.quality_bits.specs.declared.rate.Rate.{Rate}
 use Rattle.base_modulator.specs.TrafficFrames.{cycled}
 
 -- the tail, and the state before a frame

@@ -3,7 +3,7 @@ use Rattle.std.proofs.Common.{◌≡◌, ℕ, ◌+◌, ◌*◌, ◌%◌, ◌^◌
 use Rattle.std.proofs.Common.{[], ◌∷◌, ◌++◌, length, refl, ap, ◌∙◌, arith, Some, None, Ok}
 use Rattle.std.proofs.Common.{codes, pos, length-append, option_map}
 use Rattle.std.proofs.lemmas.Bool.{cond-false, cond-true, eqb-false, le-ltb}
-use Rattle.cdma_io.specs.declared.width.Width.TheVariants.{Sixteen}
+use Rattle.chip_core.specs.declared.width.Width.TheVariants.{Sixteen}
 use Rattle.chip_core.specs.Bits.{binary}
 use Rattle.chip_core.specs.Decimals.{digits_from}
 use Rattle.hex.specs.Hex.{decode_pairs}
@@ -12,7 +12,7 @@ use Rattle.paging_message.specs.Admitted.{admits}
 use Rattle.paging_message.specs.HalfFrames.{bits_left}
 use Rattle.paging_message.specs.Laying.{fill}
 use Rattle.paging_message.specs.Reading.{is_body}
-use Rattle.symbol_path.specs.declared.kinds.Rate.TheVariants.{R9600}
+use Rattle.quality_bits.specs.declared.rate.Rate.TheVariants.{R9600}
 use Rattle.base_modulator.specs.declared.plan.CellIdentity.{CellIdentity}
 use Rattle.base_modulator.specs.declared.plan.CellPlan.{CellPlan}
 use Rattle.base_modulator.specs.declared.plan.LinkPlan.{LinkPlan}

@@ -5,7 +5,7 @@ use Rattle.symbol_path.specs.declared.kinds.Kind as kinds
 use Rattle.base_modulator.specs.declared.form.ChannelForm.{ChannelForm}
 use Rattle.base_modulator.specs.declared.frame_source.FrameSource.{FrameSource}
 use Rattle.base_modulator.specs.declared.frame_source.FrameSource.TheVariants.{Sync, Paging}
-use Rattle.symbol_path.specs.SentOrder.{repeats_of}
+use Rattle.quality_bits.specs.TrafficWords.{repeats_of}
 use Rattle.base_modulator.specs.PageCycles.{cycle_frame_bits, cycle_symbols, frame_scrambling}
 use Rattle.base_modulator.specs.PageCycles.{paging_frame_size, scrambled}
 use Rattle.base_modulator.specs.Sendings.{bits_before, sync_frame_bits, sync_symbols}

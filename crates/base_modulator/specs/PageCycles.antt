@@ -6,8 +6,9 @@ use Rattle.chip_core.specs.Bits.{places, xor, zip_with}
 use Rattle.long_code.specs.LongCode.{after, IsState}
 use Rattle.paging_message.specs.HalfFrames.{half_frame_body}
 use Rattle.symbol_path.specs.Scrambling.{scrambling}
-use Rattle.symbol_path.specs.SentOrder.{data_shape, repeats_of, sent}
-use Rattle.symbol_path.specs.declared.kinds.Rate.{Rate}
+use Rattle.symbol_path.specs.SentOrder.{data_shape, sent}
+use Rattle.quality_bits.specs.TrafficWords.{repeats_of}
+use Rattle.quality_bits.specs.declared.rate.Rate.{Rate}
 use Rattle.base_modulator.specs.declared.plan.CellIdentity.{CellIdentity}
 use Rattle.base_modulator.specs.Sendings.{continued_symbols}
 

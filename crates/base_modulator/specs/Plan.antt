@@ -3,10 +3,10 @@ use Rattle.std.specs.Prelude.{ℕ, ◌+◌, ◌*◌, ◌<◌, ◌≤◌, ◌^◌
 use Rattle.std.specs.Prelude.{Some, None, unsigned_abs}
 use Rattle.long_code.specs.LongCode.{IsState}
 use Rattle.cdma_io.specs.SampleFile.{most_samples}
-use Rattle.cdma_io.specs.declared.width.Width.{Width}
-use Rattle.cdma_io.specs.declared.width.Width.TheVariants.{Sixteen, Eight}
+use Rattle.chip_core.specs.declared.width.Width.{Width}
+use Rattle.chip_core.specs.declared.width.Width.TheVariants.{Sixteen, Eight}
 use Rattle.sync_message.specs.SyncMessage.{IsSyncMessage}
-use Rattle.symbol_path.specs.declared.kinds.Rate.{Rate}
+use Rattle.quality_bits.specs.declared.rate.Rate.{Rate}
 use Rattle.paging_message.specs.HalfFrames.{half_frame_body}
 use Rattle.base_modulator.specs.Pages.{paging_rate, AreSendable}
 use Rattle.base_modulator.specs.declared.plan.PagingPlan.{PagingPlan}

@@ -2,7 +2,7 @@
 use Rattle.std.specs.Prelude.{◌≡◌, ℕ, ◌+◌, ◌-◌, ◌%◌, ◌<◌, ◌≤◌, List, map, get_or}
 use Rattle.chip_core.specs.Complex.{origin}
 use Rattle.chip_core.specs.declared.sample.Pair.{Pair}
-use Rattle.cdma_io.specs.declared.width.Width.{Width}
+use Rattle.chip_core.specs.declared.width.Width.{Width}
 use Rattle.base_modulator.specs.declared.plan.CellPlan.{CellPlan}
 use Rattle.base_modulator.specs.Channels.{ChannelState, carrier_of}
 use Rattle.base_modulator.specs.Plan.{IsLawfulPlan}

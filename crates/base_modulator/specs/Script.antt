@@ -4,7 +4,7 @@ use Rattle.std.specs.Prelude.{◌∷◌, ◌++◌, length, map, take, Option, No
 use Rattle.std.specs.Prelude.{ok_or, option_map}
 use Rattle.std.specs.Option.{option_map_or, option_or}
 use Rattle.cdma_io.specs.SampleFile.{most_samples}
-use Rattle.cdma_io.specs.declared.width.Width.{Width}
+use Rattle.chip_core.specs.declared.width.Width.{Width}
 use Rattle.base_modulator.specs.declared.plan.CellPlan.{CellPlan}
 use Rattle.base_modulator.specs.declared.plan.PagingPlan.{PagingPlan}
 use Rattle.base_modulator.specs.declared.plan.PilotPlan.{PilotPlan}

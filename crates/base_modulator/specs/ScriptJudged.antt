@@ -2,7 +2,7 @@
 use Rattle.std.specs.Prelude.{◌≡◌, ℕ, ◌+◌, ◌*◌, ◌<◌, ◌^◌, false, length, get_or, List, [], ◌∷◌}
 use Rattle.std.specs.Prelude.{◌++◌, Option, Ok, unsigned_abs}
 use Rattle.std.specs.Option.{option_or}
-use Rattle.cdma_io.specs.declared.width.Width.{Width}
+use Rattle.chip_core.specs.declared.width.Width.{Width}
 use Rattle.base_modulator.specs.declared.plan.CellPlan.{CellPlan}
 use Rattle.base_modulator.specs.declared.script.judge.Judge.{Judge}
 use Rattle.base_modulator.specs.declared.script.judge.ChannelRows.{ChannelRows}

@@ -24,12 +24,12 @@ use Rattle.base_modulator.specs.ScriptFields.{StatementRow, formed, past_at, sig
 use Rattle.base_modulator.specs.ScriptValues.{begins_with, bits_in, commands_in, number_up_to}
 use Rattle.base_modulator.specs.declared.traffic_frame.TrafficFrame.{TrafficFrame}
 use Rattle.base_modulator.specs.declared.traffic_frame2.TrafficFrame2.{TrafficFrame2}
-use Rattle.rate_set_two.specs.Rates as second
-use Rattle.rate_set_two.specs.declared.rate.Rate2.{Rate2}
-use Rattle.rate_set_two.specs.declared.rate.Rate2.TheVariants.{R14400, R7200, R3600, R1800}
-use Rattle.symbol_path.specs.TrafficWords.{information_of}
-use Rattle.symbol_path.specs.declared.kinds.Rate.{Rate}
-use Rattle.symbol_path.specs.declared.kinds.Rate.TheVariants.{R9600, R4800, R2400, R1200}
+use Rattle.symbol_path.specs.RatesTwo as second
+use Rattle.symbol_path.specs.declared.rate_two.Rate2.{Rate2}
+use Rattle.symbol_path.specs.declared.rate_two.Rate2.TheVariants.{R14400, R7200, R3600, R1800}
+use Rattle.quality_bits.specs.TrafficWords.{information_of}
+use Rattle.quality_bits.specs.declared.rate.Rate.{Rate}
+use Rattle.quality_bits.specs.declared.rate.Rate.TheVariants.{R9600, R4800, R2400, R1200}
 
 -- ---- statements
 

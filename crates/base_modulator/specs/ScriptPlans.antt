@@ -5,7 +5,7 @@ use Rattle.chip_core.specs.declared.check_form.CheckForm.{CheckForm}
 use Rattle.chip_core.specs.Complex.{norm}
 use Rattle.long_code.specs.LongCode.{IsState}
 use Rattle.sync_message.specs.SyncMessage.{IsSyncMessage}
-use Rattle.symbol_path.specs.declared.kinds.Rate.{Rate}
+use Rattle.quality_bits.specs.declared.rate.Rate.{Rate}
 use Rattle.paging_message.specs.Admitted.{HasMessage}
 use Rattle.paging_message.specs.HalfFrames.{bits_left, capsules_in, half_frame_body}
 use Rattle.quality_bits.specs.Capsules.{capsule, FillsCapsule}

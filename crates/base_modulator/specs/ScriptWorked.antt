@@ -8,8 +8,8 @@ use Rattle.paging_message.specs.Laying.{fill}
 use Rattle.paging_message.specs.Reading.{is_body}
 use Rattle.chip_core.specs.Bits.{binary}
 use Rattle.chip_core.specs.declared.check_form.CheckForm.TheVariants.{Plain}
-use Rattle.cdma_io.specs.declared.width.Width.TheVariants.{Sixteen}
-use Rattle.rate_set_two.specs.declared.rate.Rate2.TheVariants.{R1800}
+use Rattle.chip_core.specs.declared.width.Width.TheVariants.{Sixteen}
+use Rattle.symbol_path.specs.declared.rate_two.Rate2.TheVariants.{R1800}
 use Rattle.base_modulator.specs.declared.frame_list.FrameList.TheVariants.{SetTwo}
 use Rattle.base_modulator.specs.declared.plan.CellPlan.{CellPlan}
 use Rattle.base_modulator.specs.declared.plan.Page.{Page}

@@ -5,10 +5,11 @@ use Rattle.std.specs.List.{flat_map}
 use Rattle.long_code.specs.LongCode.{after, IsState}
 use Rattle.conv_code.specs.ConvCode.{code_symbols}
 use Rattle.symbol_path.specs.Scrambling.{scrambling, with_commands}
-use Rattle.symbol_path.specs.SentOrder.{data_shape, repeats_of, sent}
-use Rattle.symbol_path.specs.TrafficWords.{information_of, traffic_word}
-use Rattle.rate_set_two.specs.Rates as second
-use Rattle.rate_set_two.specs.TrafficFrames as second_frames
+use Rattle.symbol_path.specs.SentOrder.{data_shape, sent}
+use Rattle.quality_bits.specs.TrafficWords.{repeats_of}
+use Rattle.quality_bits.specs.TrafficWords.{information_of, traffic_word}
+use Rattle.symbol_path.specs.RatesTwo as second
+use Rattle.symbol_path.specs.FramesTwo.{sent_frame2}
 use Rattle.base_modulator.specs.declared.plan.CellIdentity.{CellIdentity}
 use Rattle.base_modulator.specs.declared.frame_list.FrameList.{FrameList}
 use Rattle.base_modulator.specs.declared.frame_list.FrameList.TheVariants.{SetOne, SetTwo}
@@ -42,7 +43,7 @@ traffic_symbols state mask f =
 unfoldable pub traffic_symbols2 : ℕ → ℕ → TrafficFrame2 → List Bool
 traffic_symbols2 state mask f =
     sent_with state mask f.commands
-    (second_frames.frame_symbols f.rate (second_frames.frame_word f.rate f.information))
+    (sent_frame2 f.rate f.information)
 
 -- ---- a channel's frames
 

@@ -4,8 +4,8 @@ use Rattle.std.specs.Prelude.{ℤ, unsigned_abs, Option, None, Some}
 use Rattle.chip_core.specs.declared.sample.Pair.{Pair}
 use Rattle.long_code.specs.LongCode.{IsState}
 use Rattle.cdma_io.specs.declared.header.Header.{Header}
-use Rattle.cdma_io.specs.declared.width.Width.{Width}
-use Rattle.cdma_io.specs.declared.width.Width.TheVariants.{Sixteen, Eight}
+use Rattle.chip_core.specs.declared.width.Width.{Width}
+use Rattle.chip_core.specs.declared.width.Width.TheVariants.{Sixteen, Eight}
 use Rattle.sync_message.specs.SyncMessage.{IsSyncMessage}
 use Rattle.sync_message.specs.declared.fields.SyncFields.{SyncFields}
 use Rattle.base_modulator.specs.declared.plan.CellIdentity.{CellIdentity}

@@ -7,7 +7,7 @@ ghost use Rattle.base_modulator.specs.Plan.{IsLawfulPlan, IsPagingPlan, IsSyncPl
 ghost use Rattle.base_modulator.specs.Plan.{IsTrafficPlan};
 ghost use Rattle.base_modulator.specs.TrafficFrames.{IsTrafficFrame};
 ghost use Rattle.sync_message.specs.SyncMessage.{IsSyncMessage};
-ghost use Rattle.symbol_path.specs.declared.kinds.Rate.TheVariants.{R9600, R4800};
+ghost use Rattle.quality_bits.specs.declared.rate.Rate.TheVariants.{R9600, R4800};
 
 use crate::Cell;
 use crate::frame_list::FrameList;

@@ -5,8 +5,7 @@ ghost use Rattle.std.specs.Prelude.{◌≡◌, ◌<◌, ◌^◌, length};
 use crate::scrambling::scrambled;
 use chip_core::Bits;
 use long_code::State;
-use rate_set_two::{Rate2, encode2_into};
-use symbol_path::with_commands;
+use symbol_path::{Rate2, encode2_into, with_commands};
 
 /// A frame of a traffic channel of rate set 2, whose rates, quality indicators and dropped symbols
 /// are this project's profile.

@@ -11,10 +11,9 @@ use crate::traffic_cycle::TrafficCycle;
 use crate::traffic_frame::TrafficFrame;
 use crate::traffic_frame2::TrafficFrame2;
 use chip_core::{Bits, CheckForm};
-use rate_set_two::Rate2;
 use std::alloc::Global;
 use std::test::Fail;
-use symbol_path::Rate;
+use symbol_path::{Rate, Rate2};
 
 /// The public mask of the station with the electronic serial number 0000abcd.
 const MASK: u64 = 0x318_9112_6c01;

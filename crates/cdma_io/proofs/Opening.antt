@@ -15,8 +15,8 @@ use Rattle.chip_core.specs.declared.check_form.CheckForm.TheVariants.{Plain, Com
 use Rattle.cdma_io.specs.declared.file_fault.FileFault.{FileFault}
 use Rattle.cdma_io.specs.declared.file_fault.FileFault.TheVariants.{Magic, Version, Flags, Count, Short}
 use Rattle.cdma_io.specs.declared.header.Header.{Header}
-use Rattle.cdma_io.specs.declared.width.Width.{Width}
-use Rattle.cdma_io.specs.declared.width.Width.TheVariants.{Sixteen, Eight}
+use Rattle.chip_core.specs.declared.width.Width.{Width}
+use Rattle.chip_core.specs.declared.width.Width.TheVariants.{Sixteen, Eight}
 use Rattle.cdma_io.specs.SampleFile.{IsLawfulHeader, Opens, Reading, flags_of, form_flag, form_of, header_due, header_spelling, is_version, magic, most_samples, opening, width_in, width_of}
 use Rattle.cdma_io.proofs.ByteNumbers.{AreBytes, AreBytes-drop, big_bytes-front}
 

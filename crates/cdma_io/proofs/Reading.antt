@@ -10,7 +10,7 @@ use Rattle.chip_core.specs.declared.sample.Sample.{Sample}
 use Rattle.cdma_io.specs.declared.file_fault.FileFault.{FileFault}
 use Rattle.cdma_io.specs.declared.file_fault.FileFault.TheVariants.{Magic, Version, Flags, Count, Short, Extra, ReadFault, TooFew}
 use Rattle.cdma_io.specs.Outside.{ConsumesAtMost, ConsumesFewer}
-use Rattle.cdma_io.specs.declared.width.Width.{Width}
+use Rattle.chip_core.specs.declared.width.Width.{Width}
 use Rattle.cdma_io.specs.SampleFile.{CutsShort, HasBits, sample_len, sample_spelling}
 use Rattle.cdma_io.proofs.Moves.{filled_more}
 use Rattle.cdma_io.proofs.Spelling.{length-samples, sample_len-mono}

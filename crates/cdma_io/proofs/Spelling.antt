@@ -14,8 +14,8 @@ use Rattle.std.specs.List.{flat_map}
 use Rattle.byteorder.specs.Endian.{big_bytes, big_number}
 use Rattle.byteorder.specs.Numbers.{big_from-lt, big_number-reads_back, length-bytes_high_first}
 use Rattle.chip_core.specs.declared.sample.Sample.{Sample}
-use Rattle.cdma_io.specs.declared.width.Width.{Width}
-use Rattle.cdma_io.specs.declared.width.Width.TheVariants.{Sixteen, Eight}
+use Rattle.chip_core.specs.declared.width.Width.{Width}
+use Rattle.chip_core.specs.declared.width.Width.TheVariants.{Sixteen, Eight}
 use Rattle.cdma_io.specs.SampleFile.{HasBits, bits_of, part_len, part_spelling, sample_len, sample_spelling}
 use Rattle.cdma_io.proofs.ByteNumbers.{AreBytes, AreBytes-take, AreBytes-drop, big_bytes-number, big_number-take}
 

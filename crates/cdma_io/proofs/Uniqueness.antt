@@ -3,7 +3,7 @@ use Rattle.std.proofs.Common.{◌≡◌, ℕ, List, Ok, sym, ap, ◌∙◌, drop
 use Rattle.std.specs.List.{flat_map}
 use Rattle.chip_core.specs.declared.sample.Sample.{Sample}
 use Rattle.cdma_io.specs.declared.header.Header.{Header}
-use Rattle.cdma_io.specs.declared.width.Width.{Width}
+use Rattle.chip_core.specs.declared.width.Width.{Width}
 use Rattle.cdma_io.specs.SampleFile.{HasBits, IsSampleFile, header_spelling, opening, sample_spelling, width_of}
 use Rattle.cdma_io.proofs.Opening.{length-header_spelling, opening-spelled}
 use Rattle.cdma_io.proofs.Spelling.{flat_map-sample_spelling}

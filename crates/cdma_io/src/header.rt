@@ -4,9 +4,9 @@ ghost use Rattle.std.specs.Prelude.{◌≡◌, ◌≢◌, ◌≤◌, length, Err
 ghost use Rattle.cdma_io.specs.SampleFile.{IsLawfulHeader, flags_of, form_flag, form_of, header_spelling, opening, width_of};
 
 use crate::file_fault::FileFault;
-use crate::width::{Width, is_known, most_for, width_for};
+use crate::width::{is_known, most_for, width_for};
 use byteorder::{BigEndian, ByteOrder};
-use chip_core::CheckForm;
+use chip_core::{CheckForm, Width};
 
 /// How many bytes a header has.
 pub const HEADER_LEN: usize = 16;

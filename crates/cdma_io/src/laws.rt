@@ -6,7 +6,7 @@ ghost use Rattle.std.specs.Io.KnownBytes.{Consumes};
 ghost use Rattle.chip_core.specs.declared.sample.Sample.{Sample};
 ghost use Rattle.cdma_io.specs.declared.file_fault.FileFault.{FileFault};
 ghost use Rattle.cdma_io.specs.declared.header.Header.{Header};
-ghost use Rattle.cdma_io.specs.declared.width.Width.{Width};
+ghost use Rattle.chip_core.specs.declared.width.Width.{Width};
 ghost use Rattle.cdma_io.specs.SampleFile.{CutsShort, HasBits, IsLawfulHeader, IsSampleFile, Opens, Reading, RunsOn, header_spelling, opening, sample_len, sample_spelling};
 
 /// A file's bytes fix its header and its samples.

@@ -24,6 +24,7 @@ mod tests;
 mod width;
 mod writer_sink;
 
+pub use chip_core::Width;
 pub use file_fault::FileFault;
 pub use filling::fill;
 pub use header::{Header, header_bytes};
@@ -34,5 +35,4 @@ pub use sample_bytes::sample_bytes_into;
 pub use sample_reader::SampleReader;
 pub use sink::{Sink, write_all};
 pub use source::{Failed, Source};
-pub use width::Width;
 pub use writer_sink::WriterSink;

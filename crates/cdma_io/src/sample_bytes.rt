@@ -5,9 +5,9 @@ ghost use Rattle.std.specs.Int.{cast_unsigned, w8};
 ghost use Rattle.std.specs.List.{flat_map};
 ghost use Rattle.cdma_io.specs.SampleFile.{HasBits, sample_len, sample_spelling};
 
-use crate::width::{Width, bytes_for};
+use crate::width::bytes_for;
 use byteorder::{BigEndian, ByteOrder};
-use chip_core::Sample;
+use chip_core::{Sample, Width};
 
 /// The four bytes of a sample.
 fn wide_bytes(sample: Sample) -> [u8; 4]

@@ -9,9 +9,9 @@ ghost use Rattle.cdma_io.specs.SampleFile.{CutsShort, HasBits, sample_len, sampl
 use crate::file_fault::FileFault;
 use crate::filling::fill;
 use crate::source::Source;
-use crate::width::{Width, bytes_for};
+use crate::width::bytes_for;
 use byteorder::{BigEndian, ByteOrder};
-use chip_core::Sample;
+use chip_core::{Sample, Width};
 
 /// The most samples that are read at once.
 const PIECE: usize = 1024;

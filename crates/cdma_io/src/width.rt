@@ -3,14 +3,7 @@
 ghost use Rattle.std.specs.Prelude.{◌≡◌, ◌≤◌, ◌<◌, ◌*◌, ◌^◌};
 ghost use Rattle.cdma_io.specs.SampleFile.{is_version, most_samples, sample_len, width_in};
 
-/// How wide each part of a file's samples is.
-#[derive(Clone, Copy, PartialEq, Eq, Debug)]
-pub enum Width {
-    /// 16 bits, in a file of version 1.
-    Sixteen,
-    /// 8 bits, in a file of version 2.
-    Eight,
-}
+use chip_core::Width;
 
 /// Whether a file may have this version.
 pub fn is_known(version: u16) -> bool

@@ -10,8 +10,8 @@ use Rattle.cdma_io.specs.declared.file_fault.FileFault.{FileFault}
 use Rattle.cdma_io.specs.declared.file_fault.FileFault.TheVariants.{Magic, Version, Flags, Count}
 use Rattle.cdma_io.specs.declared.file_fault.FileFault.TheVariants.{Short, Extra, ReadFault, TooFew}
 use Rattle.cdma_io.specs.declared.header.Header.{Header}
-use Rattle.cdma_io.specs.declared.width.Width.{Width}
-use Rattle.cdma_io.specs.declared.width.Width.TheVariants.{Eight, Sixteen}
+use Rattle.chip_core.specs.declared.width.Width.{Width}
+use Rattle.chip_core.specs.declared.width.Width.TheVariants.{Eight, Sixteen}
 use Rattle.cdma_io.specs.SampleFile.{CutsShort, IsLawfulHeader, Opens, Reading, header_spelling}
 use Rattle.cdma_io.specs.SampleFile.{opening, sample_len, sample_spelling, width_of}
 use Rattle.cdma_io.proofs.Opening.{opening-spelled, length-header_spelling}

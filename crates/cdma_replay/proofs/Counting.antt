@@ -12,8 +12,8 @@ use Rattle.base_modulator.specs.Signal.{samples_of}
 use Rattle.base_modulator.specs.declared.plan.CellPlan.{CellPlan}
 use Rattle.base_modulator.specs.Transmitter.{CellState}
 use Rattle.base_modulator.specs.Trial.{trial_plan}
-use Rattle.cdma_io.specs.declared.width.Width.{Width}
-use Rattle.cdma_io.specs.declared.width.Width.TheVariants.{Sixteen}
+use Rattle.chip_core.specs.declared.width.Width.{Width}
+use Rattle.chip_core.specs.declared.width.Width.TheVariants.{Sixteen}
 use Rattle.pilot_search.specs.Search.{best_phase}
 use Rattle.clean_link.proofs.signal.Samples.{length-made}
 use Rattle.mobile_core.specs.Events.{events}

@@ -9,7 +9,7 @@ use Rattle.std.specs.Io.KnownBytes.{Consumes, Keeps}
 use Rattle.std.proofs.KnownBytes.{Consumes-kept, Consumes-nil}
 use Rattle.std.proofs.KnownBytes.{Consumes-trans}
 use Rattle.std.proofs.lemmas.List.Elements.{All-append}
-use Rattle.cdma_io.specs.declared.width.Width.{Width}
+use Rattle.chip_core.specs.declared.width.Width.{Width}
 use Rattle.cdma_io.specs.Outside.{ConsumesAtMost}
 use Rattle.cdma_io.specs.SampleFile.{HasBits, sample_spelling}
 use Rattle.chip_core.specs.declared.sample.Sample.{Sample}

@@ -14,8 +14,8 @@ use Rattle.chip_core.specs.declared.sample.Sample.{Sample}
 use Rattle.short_code.specs.ShortCode.{pilot_chip}
 use Rattle.cdma_io.specs.SampleFile.{HasBits, IsLawfulHeader, IsSampleFile, header_spelling}
 use Rattle.cdma_io.specs.SampleFile.{most_samples, sample_spelling, width_of}
-use Rattle.cdma_io.specs.declared.width.Width.{Width}
-use Rattle.cdma_io.specs.declared.width.Width.TheVariants.{Sixteen, Eight}
+use Rattle.chip_core.specs.declared.width.Width.{Width}
+use Rattle.chip_core.specs.declared.width.Width.TheVariants.{Sixteen, Eight}
 use Rattle.pilot_search.specs.Search.{best_phase}
 use Rattle.base_modulator.specs.declared.plan.CellPlan.{CellPlan}
 use Rattle.base_modulator.specs.Plan.{IsFreeOf, IsLawfulPlan, loudness, most_part}

@@ -11,7 +11,7 @@ use Rattle.cdma_io.specs.declared.file_fault.FileFault.TheVariants.{Short, Extra
 use Rattle.cdma_io.specs.SampleFile.{IsLawfulHeader, IsSampleFile, HasBits, Reading}
 use Rattle.cdma_io.specs.SampleFile.{header_spelling, next_place, opening, sample_len}
 use Rattle.cdma_io.specs.SampleFile.{sample_spelling, width_of}
-use Rattle.cdma_io.specs.declared.width.Width.{Width}
+use Rattle.chip_core.specs.declared.width.Width.{Width}
 use Rattle.cdma_replay.specs.declared.status.Status.{Status}
 use Rattle.cdma_replay.specs.declared.status.Status.TheVariants as ends
 use Rattle.cdma_replay.specs.declared.status.Status.TheVariants.{Done, NoSync, BadFile, WriteFault}

@@ -1,7 +1,7 @@
 -- What `make` writes is a clean link.
 use Rattle.std.specs.Prelude.{ℕ, ◌≡◌, List, take, All, Option, Ok}
 use Rattle.cdma_io.specs.SampleFile.{IsSampleFile}
-use Rattle.cdma_io.specs.declared.width.Width.{Width}
+use Rattle.chip_core.specs.declared.width.Width.{Width}
 use Rattle.pilot_search.specs.Search.{best_phase}
 use Rattle.base_modulator.specs.Plan.{IsFreeOf}
 use Rattle.base_modulator.specs.Sampled.{made_samples}

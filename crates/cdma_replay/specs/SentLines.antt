@@ -4,7 +4,7 @@ use Rattle.std.specs.Prelude.{None, Some}
 use Rattle.std.specs.List.{Contains, flat_map}
 use Rattle.chip_core.specs.declared.sample.Sample.{Sample}
 use Rattle.cdma_io.specs.declared.header.Header.{Header}
-use Rattle.cdma_io.specs.declared.width.Width.{Width}
+use Rattle.chip_core.specs.declared.width.Width.{Width}
 use Rattle.frame_decoder.specs.declared.traffic.Decoded.{Decoded}
 use Rattle.rate_set_two.specs.declared.traffic.Decoded2.{Decoded2}
 use Rattle.base_modulator.specs.Signal.{frames_of}

@@ -2,7 +2,7 @@
 use Rattle.std.specs.Prelude.{◌^◌, ℕ, ◌+◌, ◌≤◌, Bool, true, false, if◌then◌else◌, List, ◌++◌}
 use Rattle.std.specs.Prelude.{length, filter, take, codes, decimal, Some}
 use Rattle.chip_core.specs.declared.sample.Sample.{Sample}
-use Rattle.cdma_io.specs.declared.width.Width.TheVariants.{Sixteen}
+use Rattle.chip_core.specs.declared.width.Width.TheVariants.{Sixteen}
 use Rattle.pilot_search.specs.Search.{best_phase}
 use Rattle.base_modulator.specs.Sampled.{made_samples}
 use Rattle.base_modulator.specs.Transmitter.{header_of}

@@ -6,7 +6,7 @@ ghost use Rattle.std.specs.Io.KnownBytes.{Appends, IsAtEnd};
 ghost use Rattle.chip_core.specs.declared.sample.Sample.{Sample};
 ghost use Rattle.cdma_io.specs.declared.file_fault.FileFault.{FileFault};
 ghost use Rattle.cdma_io.specs.declared.header.Header.{Header};
-ghost use Rattle.cdma_io.specs.declared.width.Width.{Width};
+ghost use Rattle.chip_core.specs.declared.width.Width.{Width};
 ghost use Rattle.cdma_io.specs.Outside.{ConsumesAtMost, Rose};
 ghost use Rattle.cdma_io.specs.SampleFile.{IsSampleFile};
 ghost use Rattle.base_modulator.specs.declared.plan.CellPlan.{CellPlan};

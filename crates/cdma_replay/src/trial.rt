@@ -6,7 +6,7 @@ ghost use Rattle.std.specs.Prelude.{IfErr, OnOk, OnErr, ◌<◌, ◌^◌, take};
 ghost use Rattle.std.specs.Io.KnownBytes.{Appends};
 ghost use Rattle.chip_core.specs.declared.sample.Sample.{Sample as TheSample};
 ghost use Rattle.cdma_io.specs.Outside.{AppendsPrefix, Rose};
-ghost use Rattle.cdma_io.specs.declared.width.Width.TheVariants.{Sixteen};
+ghost use Rattle.chip_core.specs.declared.width.Width.TheVariants.{Sixteen};
 ghost use Rattle.cdma_words.specs.Words.{IsWorkers};
 ghost use Rattle.base_modulator.specs.Sampled.{made_samples};
 ghost use Rattle.base_modulator.specs.Trial.{trial_plan};

@@ -14,6 +14,7 @@ mod numbers;
 mod parities;
 mod phase;
 mod sample;
+mod width;
 
 pub use bit_list::{Bits, Full};
 pub use check_form::CheckForm;
@@ -25,6 +26,7 @@ pub use numbers::Numbers;
 pub use parities::parity_at;
 pub use phase::Phase;
 pub use sample::{Pair, Sample};
+pub use width::Width;
 
 #[cfg(test)]
 mod tests;

@@ -5,7 +5,7 @@ use Rattle.rake_finger.specs.Soft.{frame_chips, softs, symbols}
 use Rattle.rake_finger.specs.declared.form.Form.{Form}
 use Rattle.symbol_path.specs.SentOrder.{sent}
 use Rattle.viterbi.specs.Laws.{signed}
-use Rattle.cdma_io.specs.declared.width.Width.{Width}
+use Rattle.chip_core.specs.declared.width.Width.{Width}
 use Rattle.base_modulator.specs.Sampled.{made_samples}
 use Rattle.base_modulator.specs.Sendings.{continued_symbols}
 use Rattle.base_modulator.specs.Signal.{Carrier, carriers}

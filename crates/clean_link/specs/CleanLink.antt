@@ -8,7 +8,7 @@ use Rattle.chip_core.specs.Complex.{norm}
 use Rattle.chip_core.specs.declared.sample.Sample.{Sample}
 use Rattle.long_code.specs.LongCode.{after}
 use Rattle.cdma_io.specs.declared.header.Header.{Header}
-use Rattle.cdma_io.specs.declared.width.Width.{Width}
+use Rattle.chip_core.specs.declared.width.Width.{Width}
 use Rattle.pilot_search.specs.Search.{best_phase}
 use Rattle.rake_finger.specs.Soft.{symbol_chips, window_chips}
 use Rattle.rake_finger.specs.declared.form.Form.{Form}

@@ -6,8 +6,8 @@ use Rattle.std.specs.List.{list_all, list_any}
 use Rattle.chip_core.specs.Bits.{places, xor}
 use Rattle.conv_code.specs.ConvCode.{code_symbols, g0, g1, symbol}
 use Rattle.symbol_path.specs.SentOrder.{address, data_shape}
-use Rattle.symbol_path.specs.TrafficWords.{traffic_word}
-use Rattle.symbol_path.specs.declared.kinds.Rate.TheVariants.{R9600}
+use Rattle.quality_bits.specs.TrafficWords.{traffic_word}
+use Rattle.quality_bits.specs.declared.rate.Rate.TheVariants.{R9600}
 use Rattle.frame_decoder.specs.Laws.{frame_word, IsUnshared}
 use Rattle.frame_decoder.specs.TrafficFrames.{is_replaced}
 

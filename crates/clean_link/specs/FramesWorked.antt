@@ -3,7 +3,7 @@ use Rattle.std.specs.Prelude.{◌≡◌, ℕ, ◌^◌, refl, true, false, List, 
 use Rattle.std.specs.Prelude.{map, replicate, pos, negsuc, None}
 use Rattle.chip_core.specs.Bits.{places}
 use Rattle.chip_core.specs.declared.check_form.CheckForm.TheVariants.{Plain}
-use Rattle.symbol_path.specs.declared.kinds.Rate.TheVariants.{R1200, R2400}
+use Rattle.quality_bits.specs.declared.rate.Rate.TheVariants.{R1200, R2400}
 use Rattle.base_modulator.specs.declared.plan.CellPlan.{CellPlan}
 use Rattle.base_modulator.specs.declared.frame_list.FrameList.TheVariants.{SetOne}
 use Rattle.base_modulator.specs.declared.traffic_frame.TrafficFrame.{TrafficFrame}

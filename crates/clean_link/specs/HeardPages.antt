@@ -6,7 +6,7 @@ use Rattle.std.specs.Prelude.{None, Option, Some}
 use Rattle.std.specs.List.{flat_map}
 use Rattle.chip_core.specs.Bits.{places}
 use Rattle.chip_core.specs.declared.sample.Sample.{Sample}
-use Rattle.cdma_io.specs.declared.width.Width.{Width}
+use Rattle.chip_core.specs.declared.width.Width.{Width}
 use Rattle.quality_bits.specs.Capsules.{capsule}
 use Rattle.quality_bits.specs.declared.kind.Kind.TheVariants.{M30}
 use Rattle.paging_message.specs.HalfFrames.{half_frame_body}

@@ -1,7 +1,7 @@
 -- What the half-frames of a paging channel give back, heard from any frame on.
 use Rattle.std.specs.Prelude.{ℕ, ◌+◌, ◌-◌, ◌*◌, ◌/◌, ◌≤◌, ◌≡◌, List}
 use Rattle.chip_core.specs.declared.check_form.CheckForm.{CheckForm}
-use Rattle.symbol_path.specs.declared.kinds.Rate.{Rate}
+use Rattle.quality_bits.specs.declared.rate.Rate.{Rate}
 use Rattle.paging_message.specs.HalfFrames.{half_frame_body}
 use Rattle.base_modulator.specs.PageCycles.{cycled, paging_frame_size}
 use Rattle.base_modulator.specs.Pages.{page_cycle}

@@ -4,9 +4,10 @@ use Rattle.std.specs.Prelude.{ℕ, ◌+◌, ◌*◌, ◌<◌, ◌≤◌, ◌≡�
 use Rattle.std.specs.Prelude.{replicate, pos, None, Some}
 use Rattle.std.specs.List.{Contains}
 use Rattle.rake_finger.specs.declared.form.Form.TheVariants.{Data}
-use Rattle.symbol_path.specs.SentOrder.{data_shape, repeats_of, sent}
+use Rattle.symbol_path.specs.SentOrder.{data_shape, sent}
+use Rattle.quality_bits.specs.TrafficWords.{repeats_of}
 use Rattle.viterbi.specs.Laws.{signed}
-use Rattle.cdma_io.specs.declared.width.Width.{Width}
+use Rattle.chip_core.specs.declared.width.Width.{Width}
 use Rattle.base_modulator.specs.PageCycles.{Cycle, cycle_frame_bits}
 use Rattle.base_modulator.specs.Plan.{IsFreeOf}
 use Rattle.base_modulator.specs.Sampled.{made_samples}

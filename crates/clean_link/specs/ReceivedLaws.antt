@@ -2,7 +2,7 @@
 -- the reference base station alone.
 use Rattle.std.specs.Prelude.{ℕ, ◌+◌, ◌-◌, ◌*◌, ◌≡◌, true, Bool, List, [], ◌∷◌, length, map, Some}
 use Rattle.std.specs.List.{Contains}
-use Rattle.cdma_io.specs.declared.width.Width.{Width}
+use Rattle.chip_core.specs.declared.width.Width.{Width}
 use Rattle.base_modulator.specs.Sampled.{made_samples}
 use Rattle.base_modulator.specs.Signal.{frames_of}
 use Rattle.base_modulator.specs.TrafficFrames.{cycled_frame, IsTrafficFrame2}

@@ -3,7 +3,7 @@ use Rattle.std.specs.Prelude.{ℕ, ◌+◌, ◌*◌, ◌==◌, ◌≡◌, Bool, 
 use Rattle.std.specs.Prelude.{◌++◌, map, filter, All, Option, None, Some}
 use Rattle.std.specs.List.{Contains, flat_map}
 use Rattle.chip_core.specs.Bits.{places}
-use Rattle.cdma_io.specs.declared.width.Width.{Width}
+use Rattle.chip_core.specs.declared.width.Width.{Width}
 use Rattle.sync_message.specs.declared.fields.SyncFields.{SyncFields}
 use Rattle.base_modulator.specs.Sampled.{made_samples}
 use Rattle.base_modulator.specs.Sendings.{told_superframes}

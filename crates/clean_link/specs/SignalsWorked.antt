@@ -6,7 +6,7 @@ use Rattle.chip_core.specs.declared.check_form.CheckForm.TheVariants.{Complement
 use Rattle.quality_bits.specs.Capsules.{capsule, front_capsule, is_stated}
 use Rattle.quality_bits.specs.Pieces.{capsule_ending}
 use Rattle.quality_bits.specs.Quality.{check_bits}
-use Rattle.symbol_path.specs.declared.kinds.Rate.TheVariants.{R1200, R9600}
+use Rattle.quality_bits.specs.declared.rate.Rate.TheVariants.{R1200, R9600}
 use Rattle.traffic_message.specs.Messages.{Message, message_body, traffic_capsule}
 use Rattle.traffic_message.specs.Multiplex.{split, split_9600}
 use Rattle.traffic_message.specs.Reading.{body_reading, head_at, head_of, is_body, part_reading}

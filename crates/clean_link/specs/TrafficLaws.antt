@@ -4,7 +4,7 @@ use Rattle.std.specs.Prelude.{pos, All}
 use Rattle.std.specs.List.{Contains, flat_map}
 use Rattle.chip_core.specs.Bits.{places}
 use Rattle.chip_core.specs.declared.sample.Sample.{Sample}
-use Rattle.cdma_io.specs.declared.width.Width.{Width}
+use Rattle.chip_core.specs.declared.width.Width.{Width}
 use Rattle.frame_decoder.specs.Laws.{kept_count, ShowSymbols}
 use Rattle.rake_finger.specs.declared.form.Form.TheVariants.{Data}
 use Rattle.base_modulator.specs.Sampled.{made_samples}

@@ -4,8 +4,8 @@ use Rattle.std.specs.Fmt.{digits}
 use Rattle.chip_core.specs.Bits.{binary}
 use Rattle.hex.specs.Hex.{encode_with}
 use Rattle.line_text.specs.Texts.{bit_text, digits_of, octets, padded}
-use Rattle.rate_set_two.specs.declared.rate.Rate2.TheVariants.{R14400, R1800}
-use Rattle.symbol_path.specs.declared.kinds.Rate.TheVariants.{R2400}
+use Rattle.symbol_path.specs.declared.rate_two.Rate2.TheVariants.{R14400, R1800}
+use Rattle.quality_bits.specs.declared.rate.Rate.TheVariants.{R2400}
 use Rattle.event_tap.specs.FrameLines.{frame_line, frame2_line}
 
 quarter : frame_line 712704 R2400 true (binary 40 0) (binary 16 0) ≡

@@ -1,7 +1,7 @@
 -- The candidate that the code chooses is the definition's.
 use Rattle.std.proofs.Common.{◌≡◌, Bool, List, [], ◌∷◌, ap, ◌∙◌, ℤ}
-use Rattle.symbol_path.specs.declared.kinds.Rate.{Rate}
-use Rattle.symbol_path.specs.declared.kinds.Rate.TheVariants.{R9600, R4800, R2400, R1200}
+use Rattle.quality_bits.specs.declared.rate.Rate.{Rate}
+use Rattle.quality_bits.specs.declared.rate.Rate.TheVariants.{R9600, R4800, R2400, R1200}
 use Rattle.frame_decoder.specs.declared.traffic.Decoded.{Decoded}
 use Rattle.frame_decoder.specs.declared.traffic.RateWord.{RateWord}
 use Rattle.frame_decoder.specs.TrafficFrames.{frame_score, rate_word, has_quality, shown}

@@ -18,11 +18,12 @@ use Rattle.quality_bits.specs.declared.kind.Kind.{Kind as Check}
 use Rattle.quality_bits.specs.Kinds.{generator_of, body_length, IsChecked, quality_indicator}
 use Rattle.quality_bits.specs.Kinds.{quality_length}
 use Rattle.quality_bits.specs.Quality.{check_bits}
-use Rattle.symbol_path.specs.SentOrder.{data_shape, gathered, repeats_of}
-use Rattle.symbol_path.specs.TrafficWords.{information_of, quality_of}
+use Rattle.symbol_path.specs.SentOrder.{data_shape, gathered}
+use Rattle.quality_bits.specs.TrafficWords.{repeats_of}
+use Rattle.quality_bits.specs.TrafficWords.{information_of, quality_of}
 use Rattle.symbol_path.specs.declared.kinds.Kind.TheVariants.{Data}
-use Rattle.symbol_path.specs.declared.kinds.Rate.{Rate}
-use Rattle.symbol_path.specs.declared.kinds.Rate.TheVariants.{R9600, R4800, R2400, R1200}
+use Rattle.quality_bits.specs.declared.rate.Rate.{Rate}
+use Rattle.quality_bits.specs.declared.rate.Rate.TheVariants.{R9600, R4800, R2400, R1200}
 use Rattle.symbol_path.proofs.Agreement.{length-gathered, agreement-gathered}
 use Rattle.viterbi.specs.Words.{Word, score_of, word_count, word_at, best_word}
 use Rattle.viterbi.specs.Best.{IsBestWord}

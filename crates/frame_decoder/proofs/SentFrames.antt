@@ -17,10 +17,11 @@ use Rattle.chip_core.proofs.Places.{places_is}
 use Rattle.conv_code.specs.ConvCode.{code_symbols}
 use Rattle.quality_bits.specs.Kinds.{quality_indicator, quality_length}
 use Rattle.quality_bits.proofs.Ends.{length-quality_indicator}
-use Rattle.symbol_path.specs.SentOrder.{data_shape, repeats_of}
-use Rattle.symbol_path.specs.TrafficWords.{information_of, quality_of, traffic_word}
-use Rattle.symbol_path.specs.declared.kinds.Rate.{Rate}
-use Rattle.symbol_path.specs.declared.kinds.Rate.TheVariants.{R9600, R4800, R2400, R1200}
+use Rattle.symbol_path.specs.SentOrder.{data_shape}
+use Rattle.quality_bits.specs.TrafficWords.{repeats_of}
+use Rattle.quality_bits.specs.TrafficWords.{information_of, quality_of, traffic_word}
+use Rattle.quality_bits.specs.declared.rate.Rate.{Rate}
+use Rattle.quality_bits.specs.declared.rate.Rate.TheVariants.{R9600, R4800, R2400, R1200}
 use Rattle.symbol_path.proofs.Agreement.{length-sent}
 use Rattle.viterbi.specs.Words.{Word}
 use Rattle.viterbi.specs.Best.{IsAllowed}

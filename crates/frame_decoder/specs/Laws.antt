@@ -4,9 +4,9 @@ use Rattle.std.specs.Prelude.{get_or, replicate, ℤ, pos, ◌*ℤ◌}
 use Rattle.chip_core.specs.Bits.{places, sign}
 use Rattle.conv_code.specs.ConvCode.{code_symbols}
 use Rattle.symbol_path.specs.SentOrder.{sent}
-use Rattle.symbol_path.specs.TrafficWords.{information_of, traffic_word}
-use Rattle.symbol_path.specs.declared.kinds.Rate.{Rate}
-use Rattle.symbol_path.specs.declared.kinds.Rate.TheVariants.{R9600}
+use Rattle.quality_bits.specs.TrafficWords.{information_of, traffic_word}
+use Rattle.quality_bits.specs.declared.rate.Rate.{Rate}
+use Rattle.quality_bits.specs.declared.rate.Rate.TheVariants.{R9600}
 use Rattle.viterbi.specs.Best.{IsAllowed}
 use Rattle.viterbi.specs.Words.{Word, correlation, best_word}
 use Rattle.viterbi.specs.declared.word.Ends.TheVariants.{Zero, Free}

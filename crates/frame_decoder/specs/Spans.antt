@@ -5,8 +5,9 @@ use Rattle.std.specs.List.{flat_map}
 use Rattle.chip_core.specs.Bits.{places}
 use Rattle.conv_code.specs.ConvCode.{code_symbols}
 use Rattle.symbol_path.specs.SentOrder.{Shape, sync_shape, data_shape, shape_of, size, sent}
-use Rattle.symbol_path.specs.SentOrder.{gathered, repeats_of}
-use Rattle.symbol_path.specs.declared.kinds.Rate.{Rate}
+use Rattle.symbol_path.specs.SentOrder.{gathered}
+use Rattle.quality_bits.specs.TrafficWords.{repeats_of}
+use Rattle.quality_bits.specs.declared.rate.Rate.{Rate}
 use Rattle.viterbi.specs.Words.{Word, correlation, best_word}
 use Rattle.viterbi.specs.declared.word.Ends.TheVariants.{Free}
 use Rattle.frame_decoder.specs.declared.layout.FrameKind.{FrameKind}

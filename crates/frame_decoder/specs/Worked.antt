@@ -3,7 +3,7 @@ use Rattle.std.specs.Prelude.{◌≡◌, refl, true, false, [], ◌∷◌, ◌++
 use Rattle.chip_core.specs.Bits.{binary, places}
 use Rattle.quality_bits.specs.Quality.{check_bits}
 use Rattle.symbol_path.specs.SentOrder.{data_shape, sent, gathered}
-use Rattle.symbol_path.specs.declared.kinds.Rate.TheVariants.{R9600, R4800, R2400, R1200}
+use Rattle.quality_bits.specs.declared.rate.Rate.TheVariants.{R9600, R4800, R2400, R1200}
 use Rattle.frame_decoder.specs.Spans.{Channel, paging_channel, sending, sent_frames, gathered_span}
 use Rattle.frame_decoder.specs.TrafficFrames.{unreplaced, has_quality, shown, preferred, good_or}
 use Rattle.frame_decoder.specs.TrafficFrames.{group_sum, command}

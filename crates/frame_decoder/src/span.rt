@@ -2,7 +2,8 @@
 
 ghost use Rattle.std.specs.Prelude.{◌≡◌, ◌<◌, ◌≤◌, ◌*◌, ◌/◌, ◌%◌, ◌^◌, length, sum_by};
 ghost use Rattle.std.specs.Prelude.{unsigned_abs};
-ghost use Rattle.symbol_path.specs.SentOrder.{shape_of, size, repeats_of};
+ghost use Rattle.symbol_path.specs.SentOrder.{shape_of, size};
+ghost use Rattle.quality_bits.specs.TrafficWords.{repeats_of};
 ghost use Rattle.viterbi.specs.Best.{IsBestWord, spelled};
 ghost use Rattle.viterbi.specs.declared.word.Ends.TheVariants.{Free};
 ghost use Rattle.frame_decoder.specs.Spans.{sync_channel, paging_channel, channel_of, channel_for};

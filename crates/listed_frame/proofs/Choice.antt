@@ -1,7 +1,7 @@
 -- The frame that the code shows is the definition's, and with one word that of the best words.
 use Rattle.std.proofs.Common.{◌≡◌, ℕ, ◌<◌, List, [], ◌∷◌, ap, ◌∙◌, arith, ℤ, Option, Some}
 use Rattle.std.specs.Prelude.{slice_get}
-use Rattle.symbol_path.specs.declared.kinds.Rate.TheVariants.{R9600, R4800, R2400, R1200}
+use Rattle.quality_bits.specs.declared.rate.Rate.TheVariants.{R9600, R4800, R2400, R1200}
 use Rattle.viterbi.specs.Words.{Word}
 use Rattle.frame_decoder.specs.declared.traffic.Decoded.{Decoded}
 use Rattle.frame_decoder.specs.TrafficFrames.{unreplaced, rate_word, has_quality, shown, rate_frame}

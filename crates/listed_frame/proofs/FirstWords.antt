@@ -7,9 +7,10 @@ use Rattle.std.specs.List.{list_any}
 use Rattle.std.proofs.lemmas.List.{take-map, get_or-map, length-map}
 use Rattle.std.proofs.lemmas.Nat.{pow_pos}
 use Rattle.chip_core.specs.Sums.{value_unless, is_less, greatest_unless, first_places, first_greatest}
-use Rattle.symbol_path.specs.SentOrder.{data_shape, gathered, repeats_of}
-use Rattle.symbol_path.specs.declared.kinds.Rate.{Rate}
-use Rattle.symbol_path.specs.declared.kinds.Rate.TheVariants.{R9600, R4800, R2400, R1200}
+use Rattle.symbol_path.specs.SentOrder.{data_shape, gathered}
+use Rattle.quality_bits.specs.TrafficWords.{repeats_of}
+use Rattle.quality_bits.specs.declared.rate.Rate.{Rate}
+use Rattle.quality_bits.specs.declared.rate.Rate.TheVariants.{R9600, R4800, R2400, R1200}
 use Rattle.symbol_path.proofs.Agreement.{length-gathered}
 use Rattle.viterbi.specs.Words.{Word, score_of, word_count, word_at, best_word}
 use Rattle.viterbi.specs.Best.{IsAllowed}

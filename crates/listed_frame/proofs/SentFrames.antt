@@ -12,9 +12,10 @@ use Rattle.chip_core.specs.Bits.{sign}
 use Rattle.chip_core.specs.Sums.{first_places}
 use Rattle.chip_core.proofs.Places.{places_is}
 use Rattle.conv_code.specs.ConvCode.{code_symbols}
-use Rattle.symbol_path.specs.SentOrder.{data_shape, repeats_of}
-use Rattle.symbol_path.specs.declared.kinds.Rate.{Rate}
-use Rattle.symbol_path.specs.declared.kinds.Rate.TheVariants.{R9600, R4800, R2400}
+use Rattle.symbol_path.specs.SentOrder.{data_shape}
+use Rattle.quality_bits.specs.TrafficWords.{repeats_of}
+use Rattle.quality_bits.specs.declared.rate.Rate.{Rate}
+use Rattle.quality_bits.specs.declared.rate.Rate.TheVariants.{R9600, R4800, R2400}
 use Rattle.symbol_path.proofs.Agreement.{length-sent}
 use Rattle.viterbi.specs.Words.{Word, correlation, word_at, word_count}
 use Rattle.viterbi.specs.Best.{IsAllowed}

@@ -1,7 +1,7 @@
 -- The laws of listed frames.
 use Rattle.std.specs.Prelude.{◌≡◌, ℕ, ◌*◌, ◌<◌, Bool, true, List, length, ℤ, pos}
-use Rattle.symbol_path.specs.TrafficWords.{information_of}
-use Rattle.symbol_path.specs.declared.kinds.Rate.{Rate}
+use Rattle.quality_bits.specs.TrafficWords.{information_of}
+use Rattle.quality_bits.specs.declared.rate.Rate.{Rate}
 use Rattle.frame_decoder.specs.TrafficFrames.{frame_symbols, decoded}
 use Rattle.frame_decoder.specs.Laws.{frame_word, ShowSymbols, IsUnshared, kept_count}
 use Rattle.listed_frame.specs.ListedFrames.{listed}

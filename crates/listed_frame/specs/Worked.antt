@@ -3,7 +3,7 @@ use Rattle.std.specs.Prelude.{◌≡◌, refl, false, List, [], ◌∷◌, ◌++
 use Rattle.std.specs.Prelude.{None, Some}
 use Rattle.chip_core.specs.Bits.{binary, places}
 use Rattle.quality_bits.specs.Quality.{check_bits}
-use Rattle.symbol_path.specs.declared.kinds.Rate.TheVariants.{R4800, R2400}
+use Rattle.quality_bits.specs.declared.rate.Rate.TheVariants.{R4800, R2400}
 use Rattle.viterbi.specs.Words.{Word}
 use Rattle.frame_decoder.specs.TrafficFrames.{shown}
 use Rattle.frame_decoder.specs.declared.traffic.Decoded.{Decoded}

@@ -8,9 +8,9 @@ use Rattle.frame_decoder.specs.TrafficFrames.{has_quality, not_good, preferred, 
 use Rattle.frame_decoder.specs.TrafficFrames.{rate_word, unreplaced}
 use Rattle.frame_decoder.specs.declared.traffic.Decoded.{Decoded}
 use Rattle.frame_decoder.proofs.RateWords.{length-rate_word}
-use Rattle.symbol_path.specs.TrafficWords.{information_of}
-use Rattle.symbol_path.specs.declared.kinds.Rate.{Rate}
-use Rattle.symbol_path.specs.declared.kinds.Rate.TheVariants.{R9600, R4800, R2400, R1200}
+use Rattle.quality_bits.specs.TrafficWords.{information_of}
+use Rattle.quality_bits.specs.declared.rate.Rate.{Rate}
+use Rattle.quality_bits.specs.declared.rate.Rate.TheVariants.{R9600, R4800, R2400, R1200}
 use Rattle.traffic_message.specs.Multiplex.{primary_bits, split, split_9600}
 use Rattle.traffic_message.specs.declared.multiplex.Mux.{Mux}
 

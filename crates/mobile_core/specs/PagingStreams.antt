@@ -4,8 +4,8 @@ use Rattle.frame_decoder.specs.Spans.{paging_channel}
 use Rattle.long_code.specs.LongCode.{after, paging_mask}
 use Rattle.rake_finger.specs.declared.form.Form.TheVariants.{Data}
 use Rattle.symbol_path.specs.Scrambling.{scrambling}
-use Rattle.symbol_path.specs.declared.kinds.Rate.{Rate}
-use Rattle.symbol_path.specs.declared.kinds.Rate.TheVariants.{R9600, R4800}
+use Rattle.quality_bits.specs.declared.rate.Rate.{Rate}
+use Rattle.quality_bits.specs.declared.rate.Rate.TheVariants.{R9600, R4800}
 use Rattle.mobile_core.specs.Streams.{Stream}
 use Rattle.mobile_core.specs.Tuning.{Tuning, fingers_of}
 use Rattle.mobile_core.specs.declared.mark.Mark.{Mark}

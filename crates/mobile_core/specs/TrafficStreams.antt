@@ -6,7 +6,7 @@ use Rattle.long_code.specs.LongCode.{after, traffic_mask}
 use Rattle.rake_finger.specs.declared.finger.Finger.{Finger}
 use Rattle.rake_finger.specs.declared.form.Form.TheVariants.{Data}
 use Rattle.symbol_path.specs.Scrambling.{power_places, scrambling}
-use Rattle.symbol_path.specs.declared.kinds.Rate.TheVariants.{R9600}
+use Rattle.quality_bits.specs.declared.rate.Rate.TheVariants.{R9600}
 use Rattle.mobile_core.specs.Legs.{all_fingers}
 use Rattle.mobile_core.specs.Streams.{Stream, frame_start, is_in_file, known_at}
 use Rattle.mobile_core.specs.Tuning.{Tuning}

@@ -8,7 +8,7 @@ use Rattle.paging_message.specs.declared.fields.NeighborFields.{NeighborFields}
 use Rattle.paging_message.specs.declared.message.PagingMessage.TheVariants as pages
 use Rattle.pilot_sets.specs.PilotSets.{new_sets}
 use Rattle.pilot_sets.specs.Standing.{Standing}
-use Rattle.symbol_path.specs.declared.kinds.Rate.TheVariants.{R9600}
+use Rattle.quality_bits.specs.declared.rate.Rate.TheVariants.{R9600}
 use Rattle.sync_message.specs.declared.fields.SyncFields.{SyncFields}
 use Rattle.traffic_message.specs.Multiplex.{split, split_9600}
 use Rattle.traffic_message.specs.declared.body.TrafficBody.TheVariants as bodies

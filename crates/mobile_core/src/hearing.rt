@@ -11,7 +11,7 @@ ghost use Rattle.mobile_core.specs.Sound.{IsSoundMark};
 ghost use Rattle.mobile_core.specs.SyncEvents.{events_of, heard_in};
 ghost use Rattle.mobile_core.specs.TrafficEvents.{frame_event};
 ghost use Rattle.quality_bits.specs.Pieces.{StandsFor};
-ghost use Rattle.symbol_path.specs.TrafficWords.{information_of};
+ghost use Rattle.quality_bits.specs.TrafficWords.{information_of};
 
 use crate::event::Event;
 use crate::mark::Mark;

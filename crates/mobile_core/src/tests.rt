@@ -1,7 +1,7 @@
 //! A handset that hears nothing, a message that only a good frame carries, and frames of zeros.
 
 ghost use Rattle.std.specs.Prelude.{◌≡◌, ◌≤◌, IfOk, length};
-ghost use Rattle.symbol_path.specs.TrafficWords.{information_of};
+ghost use Rattle.quality_bits.specs.TrafficWords.{information_of};
 ghost use Rattle.mobile_core.specs.Standing.{has_room};
 ghost use Rattle.mobile_core.specs.Tuners.{samples_left};
 

@@ -87,7 +87,7 @@ impl TrafficReceiver {
     ghost use Rattle.rake_finger.specs.Soft.{softs};
     ghost use Rattle.rake_finger.specs.declared.form.Form.TheVariants.{Data};
     ghost use Rattle.symbol_path.specs.Scrambling.{power_places};
-    ghost use Rattle.symbol_path.specs.TrafficWords.{information_of};
+    ghost use Rattle.quality_bits.specs.TrafficWords.{information_of};
 
     /// A receiver that has heard no frame, for a base station at a phase and near it.
     pub(crate) fn open(mark: &Mark, traffic: &Traffic, phase: Phase, near: &Near) -> TrafficReceiver

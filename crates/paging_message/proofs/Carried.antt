@@ -8,8 +8,8 @@ use Rattle.std.proofs.lemmas.List.{append-nil, take-append-le, take_all, replica
 use Rattle.chip_core.specs.Bits.{number, places}
 use Rattle.quality_bits.specs.Capsules.{stated_bits, is_stated, front_capsule, awaits_more, still_open, continued, completed, IsWhole}
 use Rattle.quality_bits.proofs.Opened as opened
-use Rattle.symbol_path.specs.declared.kinds.Rate.{Rate}
-use Rattle.symbol_path.specs.declared.kinds.Rate.TheVariants.{R9600, R4800, R2400, R1200}
+use Rattle.quality_bits.specs.declared.rate.Rate.{Rate}
+use Rattle.quality_bits.specs.declared.rate.Rate.TheVariants.{R9600, R4800, R2400, R1200}
 use Rattle.paging_message.specs.HalfFrames.{bits_left, capsules_in, half_frame_body, half_frame_capsule_ending, half_under_way}
 use Rattle.paging_message.specs.Laying as laying
 use Rattle.paging_message.proofs.Chains.{after}

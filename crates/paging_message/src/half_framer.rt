@@ -4,9 +4,8 @@ ghost use Rattle.std.specs.Prelude.{◌≡◌, ◌≤◌, Bool, List, [], ◌∷
 ghost use Rattle.paging_message.specs.HalfFrames.{half_frame_body, half_frame_capsule_ending, IsPagingRate, StandsFor};
 
 use chip_core::Bits;
-use quality_bits::OpenCapsule;
+use quality_bits::{OpenCapsule, Rate};
 use std::marker::Model;
-use symbol_path::Rate;
 
 /// Cuts capsules out of the half-frames of a paging channel, bit by bit.
 ///

@@ -5,7 +5,7 @@ ghost use Rattle.chip_core.specs.Bits.{number};
 ghost use Rattle.quality_bits.specs.Capsules.{FillsCapsule};
 ghost use Rattle.quality_bits.specs.declared.kind.Kind.TheVariants.{M30};
 ghost use Rattle.paging_message.specs.Admitted.{admits, HasMessage};
-ghost use Rattle.symbol_path.specs.declared.kinds.Rate.{Rate as TheRate};
+ghost use Rattle.quality_bits.specs.declared.rate.Rate.{Rate as TheRate};
 ghost use Rattle.chip_core.specs.declared.check_form.CheckForm.{CheckForm as TheForm};
 ghost use Rattle.paging_message.specs.HalfFrames.{capsules_in, half_frame_body, IsPagingRate};
 ghost use Rattle.paging_message.specs.Laying.{fill, half_frames_of, laid_all, nothing_laid, AreLawful, HasLaid, Laid, Place, Put};

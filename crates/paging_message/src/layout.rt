@@ -8,7 +8,7 @@ use crate::half_bits::HalfBits;
 use crate::half_framer::body_bits;
 use chip_core::Bits;
 use std::marker::Model;
-use symbol_path::Rate;
+use quality_bits::Rate;
 
 /// Lays capsules in the half-frames of a paging channel.
 ///

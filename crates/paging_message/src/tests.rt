@@ -6,10 +6,9 @@ use crate::{
     HalfBits, HalfFramer, Layout, MessageFault, PagingMessage, SYSTEM_FIELDS, system_name,
 };
 use chip_core::{BitWriter, Bits, CheckForm, Full};
-use quality_bits::{Kind, Register};
+use quality_bits::{Kind, Rate, Register};
 use std::process::Abort;
 use std::test::Fail;
-use symbol_path::Rate;
 
 /// The bits of an octet and zeros behind it, in all so many.
 fn starting_with(octet: u8, count: u16) -> Bits {

@@ -6,3 +6,4 @@ pub mod Ends
 pub mod Streams
 pub mod Wholes
 pub mod Marked
+pub mod TrafficWords

@@ -2,4 +2,5 @@ pub mod Capsules
 pub mod Kinds
 pub mod Pieces
 pub mod Quality
+pub mod TrafficWords
 mod Worked

@@ -1,6 +1,7 @@
 //! Frame quality indicators and the checks of messages (TIA/EIA-95-B, 7.1.3.5 and 7.7):
 //! remainders of the bits, as a polynomial over the field of two elements, by a fixed generator.
-//! And the capsules of messages, which end with one.
+//! And the capsules of messages, which end with one; and the rates of frames, with what a frame of
+//! each has.
 #![tactic(auto)]
 
 mod capsule;
@@ -8,6 +9,7 @@ mod checking;
 mod kind;
 pub mod laws;
 mod open_capsule;
+mod rate;
 mod register;
 #[cfg(test)]
 mod tests;
@@ -16,4 +18,5 @@ pub use capsule::{CapsuleFault, body_of, capsule_of, stated_length};
 pub use checking::{append_check, check};
 pub use kind::Kind;
 pub use open_capsule::OpenCapsule;
+pub use rate::Rate;
 pub use register::Register;

@@ -9,11 +9,12 @@ use Rattle.chip_core.proofs.IndexSums.{sum_same, sum_front, sum_none, sum_change
 use Rattle.chip_core.proofs.Places.{length-map-places, get_or-map-places}
 use Rattle.chip_core.proofs.Ring.{distrib_right}
 use Rattle.symbol_path.proofs.Gathering.{part, part-none, part_here, part_other}
-use Rattle.rate_set_two.specs.declared.rate.Rate2.{Rate2}
-use Rattle.rate_set_two.specs.Rates.{symbols_of}
-use Rattle.rate_set_two.specs.SentOrder.{place2, sent2, gathered2}
+use Rattle.symbol_path.specs.declared.rate_two.Rate2.{Rate2}
+use Rattle.symbol_path.specs.RatesTwo.{symbols_of}
+use Rattle.symbol_path.specs.SentOrderTwo.{place2, sent2}
+use Rattle.rate_set_two.specs.SentOrder.{gathered2}
 use Rattle.rate_set_two.specs.Laws.{KeepsAgreement}
-use Rattle.rate_set_two.proofs.SentOnce.{place2_lt}
+use Rattle.symbol_path.proofs.SentOnceTwo.{place2_lt}
 
 agreement_is : (n : ℕ) (softs : List ℤ) (symbols : List Bool) → length softs ≡ n →
     length symbols ≡ n →
@@ -56,16 +57,6 @@ by_key f key symbol count (suc n) low =
     (by_key f key symbol count n (λ i lt. low i (omega (arith, lt))))
     ∙ sym changed
     ∙ ap (λ (m : ℕ). sum_below count (λ c. part f key m c *ℤ sign (symbol c))) next
-
-pub length-sent2 : (rate : Rate2) (code : List Bool) → length (sent2 rate code) ≡ 384
-unfolding sent2
-length-sent2 rate code = length-map-places (λ i. get_or code (place2 rate i) false) 384
-
-get_or-sent2 : (rate : Rate2) (code : List Bool) (i : ℕ) → i < 384 →
-    get_or (sent2 rate code) i false ≡ get_or code (place2 rate i) false
-unfolding sent2
-get_or-sent2 rate code i h =
-    get_or-map-places (λ i. get_or code (place2 rate i) false) 384 i false h
 
 -- the sum of the soft values that are sent for a code symbol
 abbrev pub sum_of : Rate2 → List ℤ → ℕ → ℤ

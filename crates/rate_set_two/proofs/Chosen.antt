@@ -2,8 +2,8 @@
 use Rattle.std.proofs.Common.{◌≡◌, ℕ, Bool, List, [], ◌∷◌, refl, ap, ◌∙◌, ℤ}
 use Rattle.std.specs.Prelude.{Option, None}
 use Rattle.frame_decoder.specs.TrafficFrames.{unreplaced}
-use Rattle.rate_set_two.specs.declared.rate.Rate2.{Rate2}
-use Rattle.rate_set_two.specs.declared.rate.Rate2.TheVariants.{R14400, R7200, R3600, R1800}
+use Rattle.symbol_path.specs.declared.rate_two.Rate2.{Rate2}
+use Rattle.symbol_path.specs.declared.rate_two.Rate2.TheVariants.{R14400, R7200, R3600, R1800}
 use Rattle.rate_set_two.specs.declared.traffic.Decoded2.{Decoded2}
 use Rattle.rate_set_two.specs.declared.traffic.RateWord.{RateWord}
 use Rattle.rate_set_two.specs.TrafficFrames.{frame_score, rate_word, has_quality, shown}

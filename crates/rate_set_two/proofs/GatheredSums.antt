@@ -5,8 +5,8 @@ use Rattle.std.proofs.lemmas.Bool.{cases_lt}
 use Rattle.std.proofs.lemmas.List.{get_or-replicate, get_or-take, get_or_past, length-replicate}
 use Rattle.std.proofs.lemmas.List.{length-take-le}
 use Rattle.chip_core.proofs.Places.{map-places-all}
-use Rattle.rate_set_two.specs.declared.rate.Rate2.{Rate2}
-use Rattle.rate_set_two.specs.Rates.{symbols_of}
+use Rattle.symbol_path.specs.declared.rate_two.Rate2.{Rate2}
+use Rattle.symbol_path.specs.RatesTwo.{symbols_of}
 use Rattle.rate_set_two.specs.SentOrder.{gathered2}
 use Rattle.rate_set_two.proofs.Agreement.{sum_of}
 

@@ -4,5 +4,3 @@ pub mod GatheredSums
 pub mod NothingHeard
 pub mod RateWords
 pub mod SentFrames
-pub mod SentOnce
-pub mod Words

@@ -11,14 +11,14 @@ use Rattle.viterbi.proofs.Sent.{zero_word_best}
 use Rattle.frame_decoder.specs.TrafficFrames.{is_replaced, unreplaced}
 use Rattle.frame_decoder.proofs.RateWords.{best_zero_word-same}
 use Rattle.frame_decoder.proofs.Unreplaced.{length-unreplaced, get_or-unreplaced}
-use Rattle.rate_set_two.specs.declared.rate.Rate2.{Rate2}
-use Rattle.rate_set_two.specs.declared.rate.Rate2.TheVariants.{R14400}
+use Rattle.symbol_path.specs.declared.rate_two.Rate2.{Rate2}
+use Rattle.symbol_path.specs.declared.rate_two.Rate2.TheVariants.{R14400}
 use Rattle.rate_set_two.specs.declared.traffic.Decoded2.{Decoded2}
 use Rattle.rate_set_two.specs.TrafficFrames.{frame_symbols, frame_score, rate_word, has_quality}
 use Rattle.rate_set_two.specs.TrafficFrames.{rate_frame, preferred, best_candidate, not_good}
 use Rattle.rate_set_two.specs.TrafficFrames.{good_or, rate_set_2, shown_of, decoded2}
 use Rattle.rate_set_two.specs.Laws.{IsNothingGood}
-use Rattle.rate_set_two.proofs.Words.{bits_least}
+use Rattle.symbol_path.proofs.WordsTwo.{bits_least}
 
 either_zero : (b : Bool) (x : ℤ) → x ≡ pos 0 → (if b then pos 0 else x) ≡ pos 0
 either_zero true x e = refl

@@ -17,12 +17,12 @@ use Rattle.viterbi.specs.Best.{IsBestWord}
 use Rattle.viterbi.specs.declared.word.Ends.TheVariants.{Zero}
 use Rattle.viterbi.proofs.Unique.{by_definition}
 use Rattle.frame_decoder.proofs.RateWords.{length-best_zero_word, best_zero_word-same}
-use Rattle.rate_set_two.specs.declared.rate.Rate2.{Rate2}
-use Rattle.rate_set_two.specs.Rates.{information_of, quality_of, frame_bits}
+use Rattle.symbol_path.specs.declared.rate_two.Rate2.{Rate2}
+use Rattle.symbol_path.specs.RatesTwo.{information_of, quality_of, frame_bits}
 use Rattle.rate_set_two.specs.SentOrder.{gathered2}
 use Rattle.rate_set_two.specs.TrafficFrames.{frame_score, rate_word, has_quality}
 use Rattle.rate_set_two.proofs.Agreement.{length-gathered2, keeps_agreement}
-use Rattle.rate_set_two.proofs.Words.{bits_least, parts_are, symbols_are, length-word_symbols}
+use Rattle.symbol_path.proofs.WordsTwo.{bits_least, parts_are, symbols_are, length-word_symbols}
 
 pub length-rate_word : (softs : List ℤ) (rate : Rate2) →
     length (rate_word softs rate).bits ≡ frame_bits rate

@@ -23,17 +23,18 @@ use Rattle.frame_decoder.proofs.Unreplaced.{length-unreplaced, get_or-unreplaced
 use Rattle.frame_decoder.proofs.ZeroWords.{best_zero_word_allowed, best_zero_word_greatest}
 use Rattle.frame_decoder.proofs.MaskedScores.{masked, weight, own_score, alone, length-masked}
 use Rattle.frame_decoder.proofs.MaskedScores.{get_or-masked, weight_is, weight_least}
-use Rattle.rate_set_two.specs.declared.rate.Rate2.{Rate2}
-use Rattle.rate_set_two.specs.declared.rate.Rate2.TheVariants.{R14400, R7200, R3600, R1800}
+use Rattle.symbol_path.specs.declared.rate_two.Rate2.{Rate2}
+use Rattle.symbol_path.specs.declared.rate_two.Rate2.TheVariants.{R14400, R7200, R3600, R1800}
 use Rattle.rate_set_two.specs.declared.traffic.Decoded2.{Decoded2}
-use Rattle.rate_set_two.specs.Rates.{information_of, quality_length, frame_bits}
-use Rattle.rate_set_two.specs.TrafficFrames.{quality_indicator, word_bits, frame_word}
+use Rattle.symbol_path.specs.RatesTwo.{information_of, quality_length, frame_bits}
+use Rattle.symbol_path.specs.FramesTwo.{quality_indicator, word_bits}
+use Rattle.rate_set_two.specs.TrafficFrames.{frame_word}
 use Rattle.rate_set_two.specs.TrafficFrames.{frame_symbols, frame_score, rate_word, has_quality}
 use Rattle.rate_set_two.specs.TrafficFrames.{shown, rate_frame, better, preferred, best_candidate}
 use Rattle.rate_set_two.specs.TrafficFrames.{good_or, rate_set_2, shown_of, decoded2}
 use Rattle.rate_set_two.specs.Laws.{IsUnshared, IsSentFrameDecoded}
-use Rattle.rate_set_two.proofs.Agreement.{length-sent2}
-use Rattle.rate_set_two.proofs.Words.{bits_least, length-quality_indicator, length-checked}
+use Rattle.symbol_path.proofs.SentTwo.{length-sent2}
+use Rattle.symbol_path.proofs.WordsTwo.{bits_least, length-quality_indicator, length-checked}
 
 -- ---- the word of a frame
 -- its parts, joined anew

@@ -6,32 +6,14 @@ use Rattle.viterbi.specs.Best.{IsAllowed}
 use Rattle.viterbi.specs.Words.{Word}
 use Rattle.viterbi.specs.declared.word.Ends.TheVariants.{Zero}
 use Rattle.frame_decoder.specs.Laws.{ShowSymbols, AgreeElsewhere, kept_count}
-use Rattle.rate_set_two.specs.declared.rate.Rate2.{Rate2}
-use Rattle.rate_set_two.specs.declared.rate.Rate2.TheVariants.{R14400}
-use Rattle.rate_set_two.specs.Rates.{information_of, frame_bits, symbols_of}
-use Rattle.rate_set_two.specs.SentOrder.{repeated_symbol, sent2, gathered2}
+use Rattle.symbol_path.specs.declared.rate_two.Rate2.{Rate2}
+use Rattle.symbol_path.specs.declared.rate_two.Rate2.TheVariants.{R14400}
+use Rattle.symbol_path.specs.RatesTwo.{information_of, frame_bits, symbols_of}
+use Rattle.symbol_path.specs.SentOrderTwo.{repeated_symbol, sent2}
+use Rattle.rate_set_two.specs.SentOrder.{gathered2}
 use Rattle.rate_set_two.specs.TrafficFrames.{frame_word, frame_symbols, decoded2}
 
--- ---- the order
--- whether a repeated symbol is the third or the fifth of its six
-abbrev pub is_dropped : ℕ → Bool
-is_dropped k = k % 6 == 2 || k % 6 == 4
-
--- repeated symbol k is sent as one symbol, and as no other
-pub record IsSentOnce (k : ℕ) : Type 0 where
-  pub sent_as : ℕ
-  pub below : sent_as < 384
-  pub is : repeated_symbol sent_as ≡ k
-  pub alone : (i : ℕ) → i < 384 → repeated_symbol i ≡ k → i ≡ sent_as
-
--- each of the others is sent once
-abbrev pub IsKeptOnce : Type 0
-IsKeptOnce = (k : ℕ) → k < 576 → is_dropped k ≡ false → IsSentOnce k
-
--- and these never
-abbrev pub IsDropped : Type 0
-IsDropped = (i : ℕ) → i < 384 → is_dropped (repeated_symbol i) ≡ false
-
+-- ---- the sums
 -- soft values agree with what is sent as their sums agree with the code symbols
 abbrev pub KeepsAgreement : Type 0
 KeepsAgreement =

@@ -9,20 +9,11 @@ use Rattle.quality_bits.specs.Quality.{check_bits}
 use Rattle.viterbi.specs.Words.{Word, correlation, best_word}
 use Rattle.viterbi.specs.declared.word.Ends.TheVariants.{Zero}
 use Rattle.frame_decoder.specs.TrafficFrames.{unreplaced}
-use Rattle.rate_set_two.specs.declared.rate.Rate2.{Rate2}
-use Rattle.rate_set_two.specs.declared.rate.Rate2.TheVariants.{R14400, R7200, R3600, R1800}
+use Rattle.symbol_path.specs.declared.rate_two.Rate2.{Rate2}
+use Rattle.symbol_path.specs.declared.rate_two.Rate2.TheVariants.{R14400, R7200, R3600, R1800}
 use Rattle.rate_set_two.specs.declared.traffic.Decoded2.{Decoded2}
-use Rattle.rate_set_two.specs.Rates.{information_of, quality_of, quality_length, frame_bits}
-use Rattle.rate_set_two.specs.SentOrder.{sent2}
-
--- the quality indicator behind a frame's information bits
-abbrev pub quality_indicator : Rate2 → List Bool → List Bool
-quality_indicator rate information = check_bits (generator_of (quality_of rate)) information
-
--- the bits of a frame: its information, its quality indicator, and eight tail bits
-abbrev pub word_bits : Rate2 → List Bool → List Bool
-word_bits rate information =
-    information ++ quality_indicator rate information ++ replicate 8 false
+use Rattle.symbol_path.specs.RatesTwo.{information_of, quality_of, quality_length, frame_bits}
+use Rattle.symbol_path.specs.SentOrderTwo.{sent2}
 
 -- a frame's word: its bits behind eight zeros
 abbrev pub frame_word : Rate2 → List Bool → Word

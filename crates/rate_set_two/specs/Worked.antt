@@ -3,10 +3,11 @@ use Rattle.std.specs.Prelude.{◌≡◌, refl, Bool, true, false, List, [], ◌�
 use Rattle.std.specs.Prelude.{pos, None, Some}
 use Rattle.chip_core.specs.Bits.{binary, number, places}
 use Rattle.quality_bits.specs.Quality.{check_bits}
-use Rattle.rate_set_two.specs.SentOrder.{place2, sent2}
-use Rattle.rate_set_two.specs.TrafficFrames.{word_bits, frame_word, frame_symbols, has_quality}
+use Rattle.symbol_path.specs.SentOrderTwo.{place2, sent2}
+use Rattle.symbol_path.specs.FramesTwo.{word_bits}
+use Rattle.rate_set_two.specs.TrafficFrames.{frame_word, frame_symbols, has_quality}
 use Rattle.rate_set_two.specs.TrafficFrames.{shown, preferred, good_or}
-use Rattle.rate_set_two.specs.declared.rate.Rate2.TheVariants.{R14400, R7200, R3600, R1800}
+use Rattle.symbol_path.specs.declared.rate_two.Rate2.TheVariants.{R14400, R7200, R3600, R1800}
 use Rattle.rate_set_two.specs.declared.traffic.Decoded2.{Decoded2}
 
 -- which code symbols are sent

@@ -1,12 +1,11 @@
 //! From the soft values of sent symbols to those of code symbols.
 
 ghost use Rattle.std.specs.Prelude.{◌≡◌, ◌≤◌, ◌^◌, ℕ, get_or, length, pos, sum_by, unsigned_abs};
-ghost use Rattle.rate_set_two.specs.Rates.{symbols_of};
+ghost use Rattle.symbol_path.specs.RatesTwo.{symbols_of};
 ghost use Rattle.rate_set_two.specs.SentOrder.{gathered2};
 
-use crate::order::place2;
-use crate::rate::Rate2;
 use chip_core::air::DATA_SYMBOLS;
+use symbol_path::{Rate2, place2};
 
 /// Adds to zeros, one for each code symbol of a frame, the soft values of the symbols that are sent
 /// for it. So a code symbol for which none is sent keeps 0.

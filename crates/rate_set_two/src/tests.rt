@@ -2,7 +2,7 @@
 
 ghost use Rattle.std.specs.Prelude.{◌≡◌, ◌≤◌, ◌^◌, ◌↔◌, IsTrue, All, length, sum_by};
 ghost use Rattle.std.specs.Prelude.{unsigned_abs};
-ghost use Rattle.rate_set_two.specs.Rates.{information_of};
+ghost use Rattle.symbol_path.specs.RatesTwo.{information_of};
 
 use crate::{Decoded2, Rate2, encode2_into, place2, traffic2_frame};
 use chip_core::Bits;

@@ -2,14 +2,14 @@
 
 ghost use Rattle.std.specs.Prelude.{◌≡◌, ◌≤◌, ◌^◌, length, pos, slice_set, sum_by, unsigned_abs};
 ghost use Rattle.frame_decoder.specs.TrafficFrames.{unreplaced};
-ghost use Rattle.rate_set_two.specs.Rates.{frame_bits};
+ghost use Rattle.symbol_path.specs.RatesTwo.{frame_bits};
 ghost use Rattle.rate_set_two.specs.TrafficFrames.{frame_score, rate_word, has_quality, shown};
 ghost use Rattle.rate_set_two.specs.TrafficFrames.{preferred, good_or, decoded2};
 
 use crate::gathering::gather2_into;
-use crate::rate::{REPEATED_SYMBOLS, Rate2};
 use chip_core::{Bits, CheckForm};
 use quality_bits::check;
+use symbol_path::{REPEATED_SYMBOLS, Rate2};
 use viterbi::{Decoder, Ends, Word};
 
 /// How many tail bits end a frame.

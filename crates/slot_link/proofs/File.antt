@@ -9,7 +9,7 @@ use Rattle.std.proofs.lemmas.Bool.{false_from_ne_true, le-leb}
 use Rattle.chip_core.specs.Bits.{places}
 use Rattle.chip_core.proofs.Ranges.{filter_enough, filter_ext_places, filter_none_places}
 use Rattle.chip_core.proofs.Ranges.{flat_map_ext_filter_places}
-use Rattle.cdma_io.specs.declared.width.Width.{Width}
+use Rattle.chip_core.specs.declared.width.Width.{Width}
 use Rattle.slot_mode.specs.Slots.{is_monitored}
 use Rattle.base_modulator.specs.Pages.{paging_rate}
 use Rattle.base_modulator.specs.Sampled.{made_samples}

@@ -14,7 +14,7 @@ use Rattle.chip_core.proofs.Counted.{flat_map-add, flat_map-next, flat_map-zero}
 use Rattle.chip_core.proofs.Ranges.{flat_map_ext_places}
 use Rattle.quality_bits.specs.Capsules.{capsule}
 use Rattle.quality_bits.specs.declared.kind.Kind.TheVariants.{M30}
-use Rattle.symbol_path.specs.declared.kinds.Rate.{Rate}
+use Rattle.quality_bits.specs.declared.rate.Rate.{Rate}
 use Rattle.paging_message.specs.HalfFrames.{capsules_in, half_frame_body, half_frame_capsule_ending}
 use Rattle.paging_message.specs.Reading.{paging_reading}
 use Rattle.paging_message.specs.declared.message.PagingMessage.{PagingMessage}

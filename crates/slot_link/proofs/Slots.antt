@@ -6,9 +6,9 @@ use Rattle.chip_core.specs.Bits.{places}
 use Rattle.chip_core.specs.declared.check_form.CheckForm.{CheckForm}
 use Rattle.chip_core.proofs.Places.{length-map-places}
 use Rattle.chip_core.proofs.Ranges.{flat_map_ext_places}
-use Rattle.cdma_io.specs.declared.width.Width.{Width}
-use Rattle.symbol_path.specs.declared.kinds.Rate.{Rate}
-use Rattle.symbol_path.specs.declared.kinds.Rate.TheVariants.{R9600, R4800, R2400, R1200}
+use Rattle.chip_core.specs.declared.width.Width.{Width}
+use Rattle.quality_bits.specs.declared.rate.Rate.{Rate}
+use Rattle.quality_bits.specs.declared.rate.Rate.TheVariants.{R9600, R4800, R2400, R1200}
 use Rattle.rake_finger.specs.declared.form.Form.TheVariants.{Data}
 use Rattle.viterbi.specs.Laws.{signed}
 use Rattle.frame_decoder.specs.Spans.{paging_channel}

@@ -7,8 +7,9 @@ use Rattle.std.proofs.lemmas.List.{drop_at, length-map, take_at}
 use Rattle.chip_core.specs.Bits.{places, sign}
 use Rattle.chip_core.proofs.Counted.{flat_map-add}
 use Rattle.chip_core.proofs.Ranges.{flat_map_ext_places}
-use Rattle.symbol_path.specs.SentOrder.{data_shape, repeats_of, sent}
-use Rattle.symbol_path.specs.declared.kinds.Rate.{Rate}
+use Rattle.symbol_path.specs.SentOrder.{data_shape, sent}
+use Rattle.quality_bits.specs.TrafficWords.{repeats_of}
+use Rattle.quality_bits.specs.declared.rate.Rate.{Rate}
 use Rattle.symbol_path.proofs.Agreement.{length-sent}
 use Rattle.viterbi.specs.Best.{IsAllowed}
 use Rattle.viterbi.specs.Laws.{signed}

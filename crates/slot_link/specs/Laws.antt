@@ -5,9 +5,9 @@ use Rattle.chip_core.specs.Bits.{places}
 use Rattle.chip_core.specs.declared.check_form.CheckForm.{CheckForm}
 use Rattle.chip_core.specs.declared.sample.Sample.{Sample}
 use Rattle.cdma_io.specs.declared.header.Header.{Header}
-use Rattle.cdma_io.specs.declared.width.Width.{Width}
+use Rattle.chip_core.specs.declared.width.Width.{Width}
 use Rattle.symbol_path.specs.SentOrder.{sent}
-use Rattle.symbol_path.specs.declared.kinds.Rate.{Rate}
+use Rattle.quality_bits.specs.declared.rate.Rate.{Rate}
 use Rattle.viterbi.specs.Laws.{signed}
 use Rattle.frame_decoder.specs.Spans.{Channel, own_bits, paging_channel}
 use Rattle.slot_mode.specs.Frames.{slot_bits}

@@ -4,7 +4,7 @@ use Rattle.std.specs.Prelude.{ℕ, ◌+◌, ◌*◌, Bool, List, map, filter}
 use Rattle.std.specs.List.{flat_map}
 use Rattle.chip_core.specs.Bits.{places}
 use Rattle.chip_core.specs.declared.check_form.CheckForm.{CheckForm}
-use Rattle.symbol_path.specs.declared.kinds.Rate.{Rate}
+use Rattle.quality_bits.specs.declared.rate.Rate.{Rate}
 use Rattle.paging_message.specs.HalfFrames.{half_frame_body}
 use Rattle.paging_message.specs.declared.message.PagingMessage.{PagingMessage}
 use Rattle.base_modulator.specs.declared.plan.Page.{Page}

@@ -4,7 +4,7 @@ use Rattle.chip_core.specs.Bits.{binary, places}
 use Rattle.chip_core.specs.declared.check_form.CheckForm.TheVariants.{Plain}
 use Rattle.quality_bits.specs.Capsules.{capsule}
 use Rattle.quality_bits.specs.Quality.{check_bits}
-use Rattle.symbol_path.specs.declared.kinds.Rate.TheVariants.{R9600}
+use Rattle.quality_bits.specs.declared.rate.Rate.TheVariants.{R9600}
 use Rattle.paging_message.specs.Laying.{fill, framed, half_frames_of, laid_on}
 use Rattle.paging_message.specs.Reading.{message_at}
 use Rattle.paging_message.specs.declared.message.PagingMessage.{PagingMessage}

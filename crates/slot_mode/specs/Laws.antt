@@ -1,7 +1,7 @@
 -- The laws of slots.
 use Rattle.std.specs.Prelude.{◌≡◌, ◌<◌, ◌≤◌, ◌↔◌, ℕ, ◌+◌, ◌-◌, ◌*◌, ◌%◌, List, ◌++◌}
 use Rattle.std.specs.Prelude.{length, take, drop, ℤ, IsTrue}
-use Rattle.symbol_path.specs.declared.kinds.Rate.{Rate}
+use Rattle.quality_bits.specs.declared.rate.Rate.{Rate}
 use Rattle.frame_decoder.specs.Spans.{paging_channel, own_bits}
 use Rattle.slot_mode.specs.Slots.{period, is_monitored, next_monitored}
 use Rattle.slot_mode.specs.Frames.{span_first, span_end, frame_bits}

@@ -6,4 +6,6 @@ pub mod PowerControl
 pub mod PowerPlaces
 pub mod Reversal
 pub mod SymbolChips
-pub mod TrafficWords
+pub mod SentOnceTwo
+pub mod SentTwo
+pub mod WordsTwo

@@ -1,4 +1,6 @@
 pub mod Scrambling
 pub mod SentOrder
-pub mod TrafficWords
+pub mod RatesTwo
+pub mod SentOrderTwo
+pub mod FramesTwo
 pub mod Worked

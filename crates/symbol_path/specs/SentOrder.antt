@@ -1,11 +1,9 @@
 -- Symbol repetition and block interleaving (TIA/EIA-95-B, 7.1.3.1.4 and 7.1.3.1.5).
-use Rattle.std.specs.Prelude.{ℕ, ◌+◌, ◌*◌, ◌/◌, ◌%◌, ◌^◌, ◌==◌, Bool, false, List, map, filter, get_or, reverse, ℤ, pos, ◌*ℤ◌}
-use Rattle.chip_core.specs.Bits.{number, binary, places, sign, zip_with}
+use Rattle.std.specs.Prelude.{ℕ, ◌+◌, ◌*◌, ◌/◌, ◌%◌, ◌^◌, ◌==◌, Bool, false, List, map, filter, get_or, reverse, ℤ, pos}
+use Rattle.chip_core.specs.Bits.{number, binary, places}
 use Rattle.chip_core.specs.Sums.{total}
 use Rattle.symbol_path.specs.declared.kinds.Kind.{Kind}
 use Rattle.symbol_path.specs.declared.kinds.Kind.TheVariants.{Sync, Data}
-use Rattle.symbol_path.specs.declared.kinds.Rate.{Rate}
-use Rattle.symbol_path.specs.declared.kinds.Rate.TheVariants.{R9600, R4800, R2400, R1200}
 
 -- the width m and the number of columns J of an interleaver
 pub record Shape : Type 0 where
@@ -48,10 +46,3 @@ gathered s repeats softs =
     map (λ c. total
     (map (λ i. get_or softs i (pos 0))
     (filter (λ i. address s i / repeats == c) (places (size s))))) (places (size s / repeats))
-
--- how often each code symbol of a rate is sent
-abbrev pub repeats_of : Rate → ℕ
-repeats_of R9600 = 1
-repeats_of R4800 = 2
-repeats_of R2400 = 4
-repeats_of R1200 = 8

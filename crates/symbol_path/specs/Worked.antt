@@ -5,8 +5,8 @@ use Rattle.long_code.specs.LongCode.{after, before, long_chip}
 use Rattle.quality_bits.specs.Quality.{check_bits}
 use Rattle.symbol_path.specs.Scrambling.{power_place, symbol_chips}
 use Rattle.symbol_path.specs.SentOrder.{address, sync_shape, data_shape}
-use Rattle.symbol_path.specs.TrafficWords.{traffic_word}
-use Rattle.symbol_path.specs.declared.kinds.Rate.TheVariants.{R9600, R4800, R1200}
+use Rattle.quality_bits.specs.TrafficWords.{traffic_word}
+use Rattle.quality_bits.specs.declared.rate.Rate.TheVariants.{R9600, R4800, R1200}
 
 places_data : map (address data_shape) (0 ∷ 1 ∷ 5 ∷ 6 ∷ 383 ∷ []) ≡ 0 ∷ 64 ∷ 320 ∷ 32 ∷ 383 ∷ []
 unfolding binary

@@ -5,7 +5,7 @@ use Rattle.chip_core.specs.declared.check_form.CheckForm.TheVariants.{Plain, Com
 use Rattle.quality_bits.specs.Capsules.{capsule, front_capsule, is_stated}
 use Rattle.quality_bits.specs.Pieces.{piece, capsule_ending}
 use Rattle.quality_bits.specs.Quality.{check_bits}
-use Rattle.symbol_path.specs.declared.kinds.Rate.TheVariants.{R9600, R4800}
+use Rattle.quality_bits.specs.declared.rate.Rate.TheVariants.{R9600, R4800}
 use Rattle.traffic_message.specs.Handoff.{added_bits, direction_at, direction_bits, direction_of, direction_reading, first_record, hard_place, has_records, is_hard, octets_at, search_at, search_of}
 use Rattle.traffic_message.specs.InTraffic.{in_traffic_at, in_traffic_of, in_traffic_reading}
 use Rattle.traffic_message.specs.Messages.{Message, message_body, traffic_capsule}

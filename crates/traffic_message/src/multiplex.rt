@@ -1,11 +1,11 @@
 //! The parts of a traffic frame.
 
 ghost use Rattle.std.specs.Prelude.{◌≡◌, ◌≤◌, cond, length, Some, None};
-ghost use Rattle.symbol_path.specs.TrafficWords.{information_of};
+ghost use Rattle.quality_bits.specs.TrafficWords.{information_of};
 ghost use Rattle.traffic_message.specs.Multiplex.{primary_bits, split, split_9600};
 
 use chip_core::Bits;
-use symbol_path::Rate;
+use quality_bits::Rate;
 
 /// The parts of a frame's information bits under multiplex option 1.
 ///

@@ -7,10 +7,9 @@ use crate::{
     TrafficBody, TrafficMessage, head_name, in_traffic_name, search_name, split_frame, time_name,
 };
 use chip_core::{BitWriter, Bits, CheckForm, Full};
-use quality_bits::{Kind, Register};
+use quality_bits::{Kind, Rate, Register};
 use std::process::Abort;
 use std::test::Fail;
-use symbol_path::Rate;
 
 /// So many bits that spell a number.
 fn spelling(width: u8, value: u64) -> Result<Bits, Full>

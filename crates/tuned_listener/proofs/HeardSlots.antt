@@ -13,7 +13,7 @@ use Rattle.mobile_core.specs.declared.mark.Mark.{Mark}
 use Rattle.mobile_core.specs.declared.soft_frame.SoftFrame.{SoftFrame}
 use Rattle.slot_mode.specs.Frames.{slot_bits, span_softs}
 use Rattle.slot_mode.specs.Slots.{is_monitored}
-use Rattle.symbol_path.specs.declared.kinds.Rate.{Rate}
+use Rattle.quality_bits.specs.declared.rate.Rate.{Rate}
 use Rattle.tuned_listener.specs.SlotWriting.{HoldsSlot}
 use Rattle.tuned_listener.specs.Slots.{slot_lines, slot_pages, slot_text}
 use Rattle.tuned_listener.specs.declared.slot_writer.SlotWriter.{SlotWriter}

@@ -19,7 +19,7 @@ use Rattle.event_tap.specs.PagingLines.{paging_line}
 use Rattle.paging_message.specs.HalfFrames.{capsules_in, half_frame_body, half_frame_capsule_ending}
 use Rattle.paging_message.specs.Reading.{paging_reading}
 use Rattle.paging_message.specs.declared.message.PagingMessage.{PagingMessage}
-use Rattle.symbol_path.specs.declared.kinds.Rate.{Rate}
+use Rattle.quality_bits.specs.declared.rate.Rate.{Rate}
 use Rattle.tuned_listener.specs.SlotWriting.{page_list, pages_ending}
 use Rattle.tuned_listener.specs.Slots.{slot_pages}
 use Rattle.tuned_listener.specs.declared.slot_writer.Page.{Page}

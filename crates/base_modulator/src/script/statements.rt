@@ -26,8 +26,7 @@ use crate::traffic_frame::TrafficFrame;
 use crate::traffic_frame2::TrafficFrame2;
 use chip_core::{Bits, CheckForm, Pair};
 use paging_message::PagingMessage;
-use rate_set_two::Rate2;
-use symbol_path::Rate;
+use symbol_path::{Rate, Rate2};
 use sync_message::{SyncFields, SyncMessage};
 
 /// What a line of a script states.

@@ -11,9 +11,8 @@ use crate::traffic_frame::TrafficFrame;
 use crate::traffic_frame2::TrafficFrame2;
 use cdma_io::Width;
 use chip_core::Bits;
-use rate_set_two::Rate2;
 use std::test::Fail;
-use symbol_path::Rate;
+use symbol_path::{Rate, Rate2};
 
 /// A lawful `traffic` line.
 const TRAFFIC: &str = "traffic row=8 esn=00000009 offset=0 gain=40\n";

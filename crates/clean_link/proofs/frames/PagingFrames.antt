@@ -8,12 +8,13 @@ use Rattle.std.proofs.lemmas.List.{length-map}
 use Rattle.std.proofs.lemmas.List.Elements.{All-contains}
 use Rattle.chip_core.specs.Bits.{places, xor, zip_with}
 use Rattle.chip_core.proofs.Places.{length-places}
-use Rattle.cdma_io.specs.declared.width.Width.{Width}
+use Rattle.chip_core.specs.declared.width.Width.{Width}
 use Rattle.long_code.specs.LongCode.{after, long_chip, paging_mask}
 use Rattle.symbol_path.specs.Scrambling.{scrambling, symbol_chips}
-use Rattle.symbol_path.specs.SentOrder.{data_shape, repeats_of, sent}
-use Rattle.symbol_path.specs.declared.kinds.Rate.{Rate}
-use Rattle.symbol_path.specs.declared.kinds.Rate.TheVariants.{R9600, R4800, R2400, R1200}
+use Rattle.symbol_path.specs.SentOrder.{data_shape, sent}
+use Rattle.quality_bits.specs.TrafficWords.{repeats_of}
+use Rattle.quality_bits.specs.declared.rate.Rate.{Rate}
+use Rattle.quality_bits.specs.declared.rate.Rate.TheVariants.{R9600, R4800, R2400, R1200}
 use Rattle.frame_decoder.specs.declared.layout.FrameKind as kinds
 use Rattle.base_modulator.specs.PageCycles as cycles
 use Rattle.base_modulator.specs.PageCycles.{Cycle, cycle_frame_bits, cycle_symbols, cycled}

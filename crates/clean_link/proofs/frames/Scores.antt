@@ -9,11 +9,12 @@ use Rattle.chip_core.specs.Bits.{places, sign}
 use Rattle.conv_code.specs.ConvCode.{code_symbols}
 use Rattle.conv_code.proofs.Continued.{length-code_symbols}
 use Rattle.conv_code.proofs.Distinct.{distinct}
-use Rattle.symbol_path.specs.SentOrder.{Shape, place, repeats_of, sent, shape_of, size}
+use Rattle.symbol_path.specs.SentOrder.{Shape, place, sent, shape_of, size}
+use Rattle.quality_bits.specs.TrafficWords.{repeats_of}
 use Rattle.symbol_path.specs.declared.kinds.Kind.{Kind}
 use Rattle.symbol_path.specs.declared.kinds.Kind as kinds
-use Rattle.symbol_path.specs.declared.kinds.Rate.{Rate}
-use Rattle.symbol_path.specs.declared.kinds.Rate.TheVariants.{R9600, R4800, R2400, R1200}
+use Rattle.quality_bits.specs.declared.rate.Rate.{Rate}
+use Rattle.quality_bits.specs.declared.rate.Rate.TheVariants.{R9600, R4800, R2400, R1200}
 use Rattle.frame_decoder.specs.declared.layout.FrameKind.{FrameKind}
 use Rattle.frame_decoder.specs.declared.layout.FrameKind.TheVariants.{Sync, Paging}
 use Rattle.symbol_path.proofs.Agreement.{length-sent, get_or-sent}

@@ -11,7 +11,7 @@ use Rattle.chip_core.specs.Bits.{places}
 use Rattle.chip_core.proofs.Places.{length-map-places}
 use Rattle.chip_core.specs.declared.check_form.CheckForm.{CheckForm}
 use Rattle.quality_bits.specs.Pieces.{Piece}
-use Rattle.symbol_path.specs.declared.kinds.Rate.{Rate}
+use Rattle.quality_bits.specs.declared.rate.Rate.{Rate}
 use Rattle.paging_message.specs.HalfFrames.{half_frame_body}
 use Rattle.paging_message.specs.Laying as laying
 use Rattle.base_modulator.specs.PageCycles.{cycled}

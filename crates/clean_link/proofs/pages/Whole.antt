@@ -9,7 +9,7 @@ use Rattle.std.proofs.lemmas.Bool.{le-ltb, lt-leb, lt-ltb}
 use Rattle.std.proofs.lemmas.Nat.{le-div}
 use Rattle.std.proofs.Math.Nat.{mul-le-mul_left}
 use Rattle.chip_core.specs.declared.check_form.CheckForm.{CheckForm}
-use Rattle.symbol_path.specs.declared.kinds.Rate.{Rate}
+use Rattle.quality_bits.specs.declared.rate.Rate.{Rate}
 use Rattle.paging_message.specs.HalfFrames.{half_frame_body}
 use Rattle.base_modulator.specs.PageCycles.{cycled, paging_frame_size}
 use Rattle.base_modulator.specs.Pages.{page_cycle}

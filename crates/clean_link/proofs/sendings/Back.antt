@@ -4,7 +4,7 @@ use Rattle.std.specs.List.{flat_map}
 use Rattle.std.proofs.Math.Nat.{mul-le-mul_left}
 use Rattle.std.proofs.lemmas.Bool.{and_parts, and_from, le-leb, lt-leb, leb-true, cases_Bool, false_from_ne_true}
 use Rattle.chip_core.specs.Bits.{places}
-use Rattle.cdma_io.specs.declared.width.Width.{Width}
+use Rattle.chip_core.specs.declared.width.Width.{Width}
 use Rattle.sync_message.specs.SyncMessage.{sync_capsule}
 use Rattle.base_modulator.specs.Sendings.{message_of}
 use Rattle.base_modulator.specs.declared.plan.CellPlan.{CellPlan}

@@ -8,8 +8,8 @@ use Rattle.chip_core.proofs.Places.{places-none, places-more}
 use Rattle.chip_core.specs.declared.check_form.CheckForm.{CheckForm}
 use Rattle.chip_core.specs.declared.sample.Sample.{Sample}
 use Rattle.cdma_io.specs.SampleFile.{most_samples}
-use Rattle.cdma_io.specs.declared.width.Width.{Width}
-use Rattle.cdma_io.specs.declared.width.Width.TheVariants.{Eight, Sixteen}
+use Rattle.chip_core.specs.declared.width.Width.{Width}
+use Rattle.chip_core.specs.declared.width.Width.TheVariants.{Eight, Sixteen}
 use Rattle.long_code.specs.LongCode.{after}
 use Rattle.long_code.proofs.After.{after_lt}
 use Rattle.quality_bits.specs.Pieces.{Piece, piece, from_last_start, capsule_ending}

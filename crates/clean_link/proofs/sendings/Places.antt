@@ -2,7 +2,7 @@
 use Rattle.std.proofs.Common.{◌≡◌, ℕ, ◌+◌, ◌-◌, ◌*◌, ◌/◌, ◌<◌, ◌≤◌, ◌&&◌, true, false, length, arith, nat_lt, nat_le}
 use Rattle.std.proofs.Math.Nat.{mul-le-mul_left}
 use Rattle.std.proofs.lemmas.Bool.{and_parts, and_from, and_right, lt-ltb, le-leb, lt-leb, leb-true, ltb-true}
-use Rattle.cdma_io.specs.declared.width.Width.{Width}
+use Rattle.chip_core.specs.declared.width.Width.{Width}
 use Rattle.sync_message.specs.SyncMessage.{sync_capsule}
 use Rattle.sync_message.specs.declared.fields.SyncFields.{SyncFields}
 use Rattle.base_modulator.specs.Plan.{IsLawfulPlan}

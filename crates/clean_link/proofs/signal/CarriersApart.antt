@@ -11,8 +11,8 @@ use Rattle.std.proofs.lemmas.List.Elements.{All-append, All-cons, All-head, All-
 use Rattle.std.proofs.lemmas.List.Elements.{All-tail, All-weaker, Contains-append_left}
 use Rattle.std.proofs.lemmas.List.Elements.{Contains-append_right}
 use Rattle.chip_core.specs.Bits.{sign}
-use Rattle.cdma_io.specs.declared.width.Width.{Width}
-use Rattle.symbol_path.specs.declared.kinds.Rate.{Rate}
+use Rattle.chip_core.specs.declared.width.Width.{Width}
+use Rattle.quality_bits.specs.declared.rate.Rate.{Rate}
 use Rattle.base_modulator.specs.Pages.{paging_rate}
 use Rattle.base_modulator.specs.Plan.{HaveOwnNumbers, HaveOwnTrafficRows, IsFreeOf, IsLawfulPlan}
 use Rattle.base_modulator.specs.Plan.{IsPagingPlan, IsTrafficPlan}

@@ -7,7 +7,7 @@ use Rattle.std.specs.List.{Contains, flat_map}
 use Rattle.std.proofs.lemmas.Bool.{eq-eqb, ne_eqb}
 use Rattle.std.proofs.lemmas.List.Elements.{All-contains}
 use Rattle.chip_core.specs.Bits.{places}
-use Rattle.cdma_io.specs.declared.width.Width.{Width}
+use Rattle.chip_core.specs.declared.width.Width.{Width}
 use Rattle.base_modulator.specs.Plan.{HaveOwnTrafficRows}
 use Rattle.base_modulator.specs.Sampled.{made_samples}
 use Rattle.base_modulator.specs.Sendings.{told_superframes}

@@ -10,7 +10,7 @@ use Rattle.std.proofs.lemmas.Bool.{le-leb, leb-true}
 use Rattle.std.proofs.lemmas.List.Elements.{All-head, All-tail}
 use Rattle.chip_core.specs.Bits.{places}
 use Rattle.chip_core.specs.declared.sample.Sample.{Sample}
-use Rattle.cdma_io.specs.declared.width.Width.{Width}
+use Rattle.chip_core.specs.declared.width.Width.{Width}
 use Rattle.long_code.specs.LongCode.{traffic_mask}
 use Rattle.symbol_path.specs.Scrambling.{power_places}
 use Rattle.frame_decoder.specs.Laws.{kept_count}

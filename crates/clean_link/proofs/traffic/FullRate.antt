@@ -10,9 +10,9 @@ use Rattle.conv_code.specs.ConvCode.{code_symbols, g0, g1, symbol}
 use Rattle.conv_code.proofs.Pairs.{symbols_at, AreAt}
 use Rattle.quality_bits.specs.Kinds.{quality_indicator}
 use Rattle.symbol_path.specs.SentOrder.{data_shape, sent}
-use Rattle.symbol_path.specs.TrafficWords.{quality_of, traffic_word}
-use Rattle.symbol_path.specs.declared.kinds.Rate.TheVariants.{R9600, R4800, R2400, R1200}
-use Rattle.symbol_path.proofs.TrafficWords.{word_fills}
+use Rattle.quality_bits.specs.TrafficWords.{quality_of, traffic_word}
+use Rattle.quality_bits.specs.declared.rate.Rate.TheVariants.{R9600, R4800, R2400, R1200}
+use Rattle.quality_bits.proofs.TrafficWords.{word_fills}
 use Rattle.viterbi.proofs.Choices.{words_same}
 use Rattle.frame_decoder.specs.Laws.{AgreeElsewhere, frame_word}
 use Rattle.clean_link.specs.DistinctFrames.{is_kept, is_seen, shows_full_rate, tells_all_bits}

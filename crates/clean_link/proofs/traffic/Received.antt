@@ -7,7 +7,7 @@ use Rattle.std.proofs.lemmas.Bool.{and_from, cases_Bool, cases_lt, le-leb}
 use Rattle.chip_core.specs.Bits.{places}
 use Rattle.chip_core.specs.declared.sample.Sample.{Sample}
 use Rattle.chip_core.proofs.Ranges.{filter_ext_places, flat_map_ext_filter_places}
-use Rattle.cdma_io.specs.declared.width.Width.{Width}
+use Rattle.chip_core.specs.declared.width.Width.{Width}
 use Rattle.long_code.specs.LongCode.{traffic_mask}
 use Rattle.rake_finger.specs.declared.form.Form.TheVariants.{Data}
 use Rattle.rate_set_two.proofs.SentFrames as second

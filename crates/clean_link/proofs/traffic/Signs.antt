@@ -7,20 +7,21 @@ use Rattle.std.specs.List.{Contains, flat_map}
 use Rattle.std.proofs.lemmas.List.{append-nil}
 use Rattle.std.proofs.lemmas.List.Elements.{All-contains}
 use Rattle.chip_core.specs.Bits.{sign, xor, zip_with}
-use Rattle.cdma_io.specs.declared.width.Width.{Width}
+use Rattle.chip_core.specs.declared.width.Width.{Width}
 use Rattle.long_code.specs.LongCode.{after, traffic_mask}
 use Rattle.conv_code.specs.ConvCode.{code_symbols}
 use Rattle.symbol_path.specs.Scrambling.{scrambling, with_commands}
-use Rattle.symbol_path.specs.SentOrder.{data_shape, repeats_of}
-use Rattle.symbol_path.specs.TrafficWords.{traffic_word}
+use Rattle.symbol_path.specs.SentOrder.{data_shape}
+use Rattle.quality_bits.specs.TrafficWords.{repeats_of}
+use Rattle.quality_bits.specs.TrafficWords.{traffic_word}
 use Rattle.symbol_path.proofs.Agreement.{length-sent}
 use Rattle.rake_finger.specs.Soft.{softs}
 use Rattle.rake_finger.specs.declared.finger.Finger.{Finger}
 use Rattle.rake_finger.specs.declared.form.Form.TheVariants.{Data}
 use Rattle.viterbi.specs.Laws.{signed}
 use Rattle.frame_decoder.specs.Laws.{ShowSymbols}
-use Rattle.rate_set_two.specs.TrafficFrames as second
-use Rattle.rate_set_two.proofs.Agreement.{length-sent2}
+use Rattle.symbol_path.specs.FramesTwo as second
+use Rattle.symbol_path.proofs.SentTwo.{length-sent2}
 use Rattle.base_modulator.specs.PageCycles as cycles
 use Rattle.base_modulator.specs.Plan.{IsLawfulPlan, IsTrafficPlan}
 use Rattle.base_modulator.specs.Sampled.{made_samples}

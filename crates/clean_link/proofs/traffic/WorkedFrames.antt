@@ -4,7 +4,7 @@ use Rattle.std.proofs.Common.{[], ◌∷◌, sym, ap, ◌∙◌}
 use Rattle.chip_core.specs.Bits.{binary, places}
 use Rattle.quality_bits.specs.Quality.{check_bits}
 use Rattle.symbol_path.specs.SentOrder.{sent}
-use Rattle.symbol_path.specs.declared.kinds.Rate.TheVariants.{R2400, R1200}
+use Rattle.quality_bits.specs.declared.rate.Rate.TheVariants.{R2400, R1200}
 use Rattle.viterbi.specs.Best.{IsAllowed}
 use Rattle.viterbi.specs.declared.word.Ends.TheVariants.{Zero}
 use Rattle.frame_decoder.specs.Laws.{frame_word, IsUnshared}

@@ -1,7 +1,7 @@
 use Rattle.std.proofs.Common.{arith}
 use Rattle.chip_core.specs.Bits.{binary}
-use Rattle.symbol_path.specs.TrafficWords.{traffic_word}
-use Rattle.symbol_path.proofs.TrafficWords.{repeated_most}
+use Rattle.quality_bits.specs.TrafficWords.{traffic_word}
+use Rattle.quality_bits.proofs.TrafficWords.{repeated_most}
 use Rattle.base_modulator.proofs.TrafficFrames.{code_fills, coded_from_zero}
 use Rattle.base_modulator.proofs.traffic_frame.code.Goals as goal
 

@@ -1,6 +1,6 @@
 use Rattle.std.proofs.Common.{◌*◌, List, Bool, length, ap, ◌∙◌, arith}
-use Rattle.symbol_path.specs.SentOrder.{repeats_of}
-use Rattle.symbol_path.proofs.TrafficWords.{checked_most, word_fills}
+use Rattle.quality_bits.specs.TrafficWords.{repeats_of}
+use Rattle.quality_bits.proofs.TrafficWords.{checked_most, word_fills}
 use Rattle.base_modulator.proofs.TrafficFrames.{tailed}
 use Rattle.base_modulator.proofs.traffic_frame.word.Goals as goal
 

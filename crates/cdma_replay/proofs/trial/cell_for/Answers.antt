@@ -1,5 +1,5 @@
 use Rattle.std.proofs.Common.{◌≡◌, ◌∙◌, ap, sym, Ok, rules}
-use Rattle.cdma_io.specs.declared.width.Width.TheVariants.{Sixteen}
+use Rattle.chip_core.specs.declared.width.Width.TheVariants.{Sixteen}
 use Rattle.base_modulator.specs.Script.{plan_named}
 use Rattle.base_modulator.specs.Trial.{trial_plan}
 use Rattle.base_modulator.proofs.TrialPlans.{trial_named}

@@ -1,7 +1,7 @@
 use Rattle.std.proofs.Common.{◌≡◌, ◌∙◌, List, [], ap, arith, length, rules, subst, sym}
 use Rattle.chip_core.specs.declared.sample.Sample.{Sample}
 use Rattle.cdma_io.specs.declared.header.Header.{Header}
-use Rattle.cdma_io.specs.declared.width.Width.TheVariants.{Sixteen}
+use Rattle.chip_core.specs.declared.width.Width.TheVariants.{Sixteen}
 use Rattle.base_modulator.specs.Sampled.{made_samples}
 use Rattle.base_modulator.specs.Transmitter.{CellState, header_of}
 use Rattle.base_modulator.specs.Trial.{trial_plan}

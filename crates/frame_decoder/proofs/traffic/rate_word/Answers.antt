@@ -4,7 +4,8 @@ use Rattle.std.proofs.lemmas.Int.{to_z-of_z}
 use Rattle.viterbi.specs.Words.{Word, score_of}
 use Rattle.viterbi.specs.Best.{IsBestWord, spelled}
 use Rattle.viterbi.specs.declared.word.Ends.TheVariants.{Zero}
-use Rattle.symbol_path.specs.SentOrder.{data_shape, gathered, repeats_of}
+use Rattle.symbol_path.specs.SentOrder.{data_shape, gathered}
+use Rattle.quality_bits.specs.TrafficWords.{repeats_of}
 use Rattle.frame_decoder.specs.TrafficFrames.{rate_word}
 use Rattle.frame_decoder.proofs.RateWords.{best_is, gathered_score, length-rate_word}
 use Rattle.frame_decoder.proofs.traffic.rate_word.Goals as goal

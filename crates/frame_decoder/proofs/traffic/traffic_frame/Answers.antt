@@ -1,4 +1,4 @@
-use Rattle.symbol_path.specs.declared.kinds.Rate.TheVariants.{R9600, R4800, R2400, R1200}
+use Rattle.quality_bits.specs.declared.rate.Rate.TheVariants.{R9600, R4800, R2400, R1200}
 use Rattle.frame_decoder.proofs.Chosen.{IsRateWord, decoded_is}
 use Rattle.frame_decoder.proofs.traffic.traffic_frame.Goals as goal
 

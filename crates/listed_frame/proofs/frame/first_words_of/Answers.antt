@@ -1,5 +1,6 @@
 use Rattle.std.proofs.Common.{◌≡◌, ap, ◌∙◌, ℕ, length, rules}
-use Rattle.symbol_path.specs.SentOrder.{data_shape, gathered, repeats_of}
+use Rattle.symbol_path.specs.SentOrder.{data_shape, gathered}
+use Rattle.quality_bits.specs.TrafficWords.{repeats_of}
 use Rattle.listed_frame.proofs.FirstWords.{AreFound, are_found, found_bits, found_scores}
 use Rattle.listed_frame.proofs.FirstWords.{found_words}
 use Rattle.listed_frame.proofs.frame.first_words_of.Goals as goal

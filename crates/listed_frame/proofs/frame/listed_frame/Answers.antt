@@ -1,5 +1,5 @@
 use Rattle.std.proofs.Common.{arith}
-use Rattle.symbol_path.specs.declared.kinds.Rate.TheVariants.{R9600, R4800, R2400, R1200}
+use Rattle.quality_bits.specs.declared.rate.Rate.TheVariants.{R9600, R4800, R2400, R1200}
 use Rattle.listed_frame.proofs.Candidates.{AreFirstWords, first_bits}
 use Rattle.listed_frame.proofs.Choice.{listed_is}
 use Rattle.listed_frame.proofs.frame.listed_frame.Goals as goal

@@ -1,8 +1,8 @@
 use Rattle.std.proofs.Common.{◌≡◌, ◌<◌, ℕ, arith, pos, get_or, length, sym, ap, ◌∙◌, rules}
 use Rattle.symbol_path.proofs.Gathering.{part-none, part, turn, turn_sizes, sum_has_room}
 use Rattle.symbol_path.proofs.Gathering.{added_fits, sizes_none}
-use Rattle.rate_set_two.specs.Rates.{symbols_of}
-use Rattle.rate_set_two.specs.SentOrder.{place2}
+use Rattle.symbol_path.specs.RatesTwo.{symbols_of}
+use Rattle.symbol_path.specs.SentOrderTwo.{place2}
 use Rattle.rate_set_two.proofs.GatheredSums.{gathered_all}
 use Rattle.rate_set_two.proofs.gathering.gather2_into.Goals as goal
 

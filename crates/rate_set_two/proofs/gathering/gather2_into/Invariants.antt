@@ -1,7 +1,7 @@
 use Rattle.std.proofs.Common.{◌≡◌, ◌≤◌, ℕ, get_or, take, pos}
 use Rattle.std.specs.Prelude.{sum_by, unsigned_abs}
 use Rattle.symbol_path.proofs.Gathering.{part}
-use Rattle.rate_set_two.specs.SentOrder.{place2}
+use Rattle.symbol_path.specs.SentOrderTwo.{place2}
 use Rattle.rate_set_two.proofs.gathering.gather2_into.Given as goal
 
 abbrev pub invariant-loop-i : goal.invariant-loop-i

@@ -1,4 +1,4 @@
-use Rattle.rate_set_two.proofs.SentOnce.{kept_once, dropped}
+use Rattle.symbol_path.proofs.SentOnceTwo.{kept_once, dropped}
 use Rattle.rate_set_two.proofs.laws.third_and_fifth_are_dropped.Goals as goal
 
 pub returns-clause-kept : goal.returns-clause-kept

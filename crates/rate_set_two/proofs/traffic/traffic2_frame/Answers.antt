@@ -1,4 +1,4 @@
-use Rattle.rate_set_two.specs.declared.rate.Rate2.TheVariants.{R14400, R7200, R3600, R1800}
+use Rattle.symbol_path.specs.declared.rate_two.Rate2.TheVariants.{R14400, R7200, R3600, R1800}
 use Rattle.rate_set_two.proofs.Chosen.{IsRateWord, decoded_is}
 use Rattle.rate_set_two.proofs.traffic.traffic2_frame.Goals as goal
 

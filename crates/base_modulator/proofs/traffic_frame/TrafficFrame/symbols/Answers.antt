@@ -1,6 +1,7 @@
 use Rattle.std.proofs.Common.{ℕ, ap, ◌∙◌}
 use Rattle.symbol_path.specs.Scrambling.{scrambling, with_commands}
-use Rattle.symbol_path.specs.SentOrder.{data_shape, repeats_of, sent}
+use Rattle.symbol_path.specs.SentOrder.{data_shape, sent}
+use Rattle.quality_bits.specs.TrafficWords.{repeats_of}
 use Rattle.base_modulator.specs.PageCycles.{scrambled}
 use Rattle.base_modulator.specs.TrafficFrames.{traffic_symbols}
 use Rattle.base_modulator.proofs.traffic_frame.TrafficFrame.symbols.Goals as goal

@@ -1,4 +1,4 @@
-use Rattle.std.proofs.Common.{◌≡◌, cond, [], Some, ap, ◌∙◌}
+use Rattle.std.proofs.Common.{◌∙◌}
 use Rattle.quality_bits.proofs.Marked.{marked_goes_on, marked_gives}
 use Rattle.quality_bits.proofs.open_capsule.OpenCapsule.push_piece.Goals as goal
 

@@ -6,11 +6,11 @@ use Rattle.std.proofs.lemmas.Nat.{div_below}
 use Rattle.symbol_path.specs.SentOrder.{data_shape, address, place}
 use Rattle.symbol_path.specs.declared.kinds.Kind.TheVariants.{Data}
 use Rattle.symbol_path.proofs.Permutation.{address_lt, place_lt, address-place, address-injective}
-use Rattle.rate_set_two.specs.declared.rate.Rate2.{Rate2}
-use Rattle.rate_set_two.specs.declared.rate.Rate2.TheVariants.{R14400, R7200, R3600, R1800}
-use Rattle.rate_set_two.specs.Rates.{symbols_of}
-use Rattle.rate_set_two.specs.SentOrder.{kept_symbol, repeated_symbol, place2}
-use Rattle.rate_set_two.specs.Laws.{is_dropped, IsKeptOnce, IsDropped}
+use Rattle.symbol_path.specs.declared.rate_two.Rate2.{Rate2}
+use Rattle.symbol_path.specs.declared.rate_two.Rate2.TheVariants.{R14400, R7200, R3600, R1800}
+use Rattle.symbol_path.specs.RatesTwo.{symbols_of}
+use Rattle.symbol_path.specs.SentOrderTwo.{kept_symbol, repeated_symbol, place2}
+use Rattle.symbol_path.specs.SentOrderTwo.{is_dropped, IsKeptOnce, IsDropped}
 
 -- as which symbol a repeated symbol is kept
 abbrev kept_as : ℕ → ℕ

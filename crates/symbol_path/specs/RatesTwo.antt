@@ -3,8 +3,8 @@ use Rattle.std.specs.Prelude.{ℕ, ◌/◌}
 use Rattle.quality_bits.specs.Kinds.{generator_of}
 use Rattle.quality_bits.specs.declared.kind.Kind.{Kind}
 use Rattle.quality_bits.specs.declared.kind.Kind.TheVariants.{Q6, Q8, Q10, Q12}
-use Rattle.rate_set_two.specs.declared.rate.Rate2.{Rate2}
-use Rattle.rate_set_two.specs.declared.rate.Rate2.TheVariants.{R14400, R7200, R3600, R1800}
+use Rattle.symbol_path.specs.declared.rate_two.Rate2.{Rate2}
+use Rattle.symbol_path.specs.declared.rate_two.Rate2.TheVariants.{R14400, R7200, R3600, R1800}
 
 -- how often each code symbol of a rate is repeated
 abbrev pub repeats_of : Rate2 → ℕ

@@ -1,10 +1,18 @@
--- The bits of the frames of traffic channels of rate set 1 (TIA/EIA-95-B, 7.1.3.5).
+-- The rates of rate set 1, and the bits of the frames of its traffic channels (TIA/EIA-95-B, 7.1.3.1.4
+-- and 7.1.3.5).
 use Rattle.std.specs.Prelude.{ℕ, Bool, false, List, ◌++◌, replicate, Option, Some, None}
 use Rattle.quality_bits.specs.Kinds.{quality_indicator}
 use Rattle.quality_bits.specs.declared.kind.Kind.{Kind}
 use Rattle.quality_bits.specs.declared.kind.Kind.TheVariants.{Q8, Q12}
-use Rattle.symbol_path.specs.declared.kinds.Rate.{Rate}
-use Rattle.symbol_path.specs.declared.kinds.Rate.TheVariants.{R9600, R4800, R2400, R1200}
+use Rattle.quality_bits.specs.declared.rate.Rate.{Rate}
+use Rattle.quality_bits.specs.declared.rate.Rate.TheVariants.{R9600, R4800, R2400, R1200}
+
+-- how often each code symbol of a rate is sent
+abbrev pub repeats_of : Rate → ℕ
+repeats_of R9600 = 1
+repeats_of R4800 = 2
+repeats_of R2400 = 4
+repeats_of R1200 = 8
 
 -- how many information bits a frame has
 abbrev pub information_of : Rate → ℕ

@@ -4,10 +4,10 @@ use Rattle.std.proofs.Common.{refl, ap, ◌∙◌, arith, length-append}
 use Rattle.std.proofs.lemmas.List.{length-replicate}
 use Rattle.quality_bits.specs.Kinds.{quality_indicator, quality_length}
 use Rattle.quality_bits.proofs.Ends.{length-quality_indicator}
-use Rattle.symbol_path.specs.SentOrder.{repeats_of}
-use Rattle.symbol_path.specs.TrafficWords.{information_of, quality_of, traffic_word}
-use Rattle.symbol_path.specs.declared.kinds.Rate.{Rate}
-use Rattle.symbol_path.specs.declared.kinds.Rate.TheVariants.{R9600, R4800, R2400, R1200}
+use Rattle.quality_bits.specs.TrafficWords.{repeats_of}
+use Rattle.quality_bits.specs.TrafficWords.{information_of, quality_of, traffic_word}
+use Rattle.quality_bits.specs.declared.rate.Rate.{Rate}
+use Rattle.quality_bits.specs.declared.rate.Rate.TheVariants.{R9600, R4800, R2400, R1200}
 
 -- the information, the quality indicator and the tail fill a frame
 parts_fill : (rate : Rate) →

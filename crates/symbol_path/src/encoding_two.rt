@@ -1,11 +1,11 @@
-//! From the information bits of a frame to its symbols.
+//! From the information bits of a frame of rate set 2 to its symbols.
 
 ghost use Rattle.std.specs.Prelude.{◌≡◌, length};
-ghost use Rattle.rate_set_two.specs.Rates.{information_of, frame_bits};
-ghost use Rattle.rate_set_two.specs.TrafficFrames.{word_bits, frame_word, frame_symbols};
+ghost use Rattle.symbol_path.specs.RatesTwo.{information_of, frame_bits};
+ghost use Rattle.symbol_path.specs.FramesTwo.{word_bits, sent_frame2};
 
-use crate::order::place2_into;
-use crate::rate::Rate2;
+use crate::order_two::place2_into;
+use crate::rate_two::Rate2;
 use chip_core::{Bits, CheckForm};
 use conv_code::encode_into;
 use quality_bits::append_check;
@@ -34,7 +34,7 @@ fn word(rate: Rate2, info: &Bits) -> Bits
 /// (TIA/EIA-95-B, 7.1.3.1.3).
 pub fn encode2_into(rate: Rate2, info: &Bits, out: &mut Bits)
     requires { length info.now ≡ information_of rate }
-    ensures value { out.new ≡ frame_symbols rate (frame_word rate info.now) }
+    ensures value { out.new ≡ sent_frame2 rate info.now }
     ensures count { length out.new ≡ 384 }
 {
     let mut code = Bits::empty();

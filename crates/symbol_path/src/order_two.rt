@@ -1,13 +1,14 @@
-//! Repetition, dropping and interleaving: which code symbol is sent when.
+//! Repetition, dropping and interleaving of rate set 2: which code symbol is sent when.
 
 ghost use Rattle.std.specs.Prelude.{◌≡◌, ◌<◌, length};
-ghost use Rattle.rate_set_two.specs.Rates.{symbols_of};
-ghost use Rattle.rate_set_two.specs.SentOrder.{kept_symbol, place2, sent2};
+ghost use Rattle.symbol_path.specs.RatesTwo.{symbols_of};
+ghost use Rattle.symbol_path.specs.SentOrderTwo.{kept_symbol, place2, sent2};
 
-use crate::rate::Rate2;
+use crate::kinds::Kind;
+use crate::order::address;
+use crate::rate_two::Rate2;
 use chip_core::Bits;
 use chip_core::air::DATA_SYMBOLS;
-use symbol_path::{Kind, address};
 
 /// Which of the repeated symbols is kept as symbol `a`: of each six the third and the fifth are
 /// dropped.

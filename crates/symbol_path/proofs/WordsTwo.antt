@@ -8,11 +8,11 @@ use Rattle.conv_code.proofs.Continued.{length-code_symbols}
 use Rattle.quality_bits.specs.Kinds.{generator_of}
 use Rattle.quality_bits.proofs.Ends.{degree_positive}
 use Rattle.quality_bits.proofs.Steps.{length-check_bits}
-use Rattle.rate_set_two.specs.declared.rate.Rate2.{Rate2}
-use Rattle.rate_set_two.specs.declared.rate.Rate2.TheVariants.{R14400, R7200, R3600, R1800}
-use Rattle.rate_set_two.specs.Rates.{information_of, quality_of, quality_length, frame_bits}
-use Rattle.rate_set_two.specs.Rates.{symbols_of}
-use Rattle.rate_set_two.specs.TrafficFrames.{quality_indicator, word_bits}
+use Rattle.symbol_path.specs.declared.rate_two.Rate2.{Rate2}
+use Rattle.symbol_path.specs.declared.rate_two.Rate2.TheVariants.{R14400, R7200, R3600, R1800}
+use Rattle.symbol_path.specs.RatesTwo.{information_of, quality_of, quality_length, frame_bits}
+use Rattle.symbol_path.specs.RatesTwo.{symbols_of}
+use Rattle.symbol_path.specs.FramesTwo.{quality_indicator, word_bits}
 
 -- how many bits a frame has
 pub bits_least : (rate : Rate2) → 8 ≤ frame_bits rate

@@ -1,11 +1,11 @@
-//! The rates, and what a frame of each has.
+//! The rates of rate set 2, and what a frame of each has.
 
 ghost use Rattle.std.specs.Prelude.{◌≡◌, ◌*◌, ◌≤◌};
 
 use quality_bits::Kind;
 
-/// How many symbols a frame has before some are dropped.
-pub(crate) const REPEATED_SYMBOLS: usize = 576;
+/// How many symbols a frame of rate set 2 has before some are dropped.
+pub const REPEATED_SYMBOLS: usize = 576;
 
 /// A data rate of a traffic channel of rate set 2, in bits a second: the lower the rate, the more
 /// often each code symbol is repeated.
@@ -22,7 +22,7 @@ pub enum Rate2 {
 }
 
 impl Rate2 {
-    ghost use Rattle.rate_set_two.specs.Rates.{repeats_of, information_of, quality_of, symbols_of};
+    ghost use Rattle.symbol_path.specs.RatesTwo.{repeats_of, information_of, quality_of, symbols_of};
 
     /// How often each code symbol is repeated: 1, 2, 4 or 8 times.
     pub fn repeats(&self) -> u8

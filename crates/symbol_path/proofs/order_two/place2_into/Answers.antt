@@ -2,8 +2,8 @@ use Rattle.std.proofs.Common.{◌≡◌, ℕ, Bool, arith, get_or, false, map, l
 use Rattle.std.proofs.lemmas.Option.{get_or_from_slice_get}
 use Rattle.chip_core.specs.Bits.{places}
 use Rattle.chip_core.proofs.Places.{places-none, map-places-more, length-map-places}
-use Rattle.rate_set_two.specs.SentOrder.{place2, sent2}
-use Rattle.rate_set_two.proofs.order.place2_into.Goals as goal
+use Rattle.symbol_path.specs.SentOrderTwo.{place2, sent2}
+use Rattle.symbol_path.proofs.order_two.place2_into.Goals as goal
 
 pub loop-i-init : goal.loop-i-init
 loop-i-init c = rw places-none c.empty.ensures

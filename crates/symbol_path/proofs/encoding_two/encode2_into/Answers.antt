@@ -1,9 +1,9 @@
 use Rattle.std.proofs.Common.{length, ap, ◌∙◌, arith}
 use Rattle.chip_core.specs.Bits.{binary}
-use Rattle.rate_set_two.specs.SentOrder.{sent2}
-use Rattle.rate_set_two.specs.TrafficFrames.{word_bits}
-use Rattle.rate_set_two.proofs.Words.{bits_most, length-word_symbols, coded_from_zero}
-use Rattle.rate_set_two.proofs.encoding.encode2_into.Goals as goal
+use Rattle.symbol_path.specs.SentOrderTwo.{sent2}
+use Rattle.symbol_path.specs.FramesTwo.{word_bits}
+use Rattle.symbol_path.proofs.WordsTwo.{bits_most, length-word_symbols, coded_from_zero}
+use Rattle.symbol_path.proofs.encoding_two.encode2_into.Goals as goal
 
 pub encode_into-requires : goal.encode_into-requires
 encode_into-requires c = omega (arith, c.word.ensures.count, bits_most c.args.rate)

@@ -2,8 +2,8 @@ use Rattle.std.proofs.Common.{◌++◌, length, ap, ◌∙◌, arith}
 use Rattle.chip_core.specs.declared.check_form.CheckForm.TheVariants.{Plain}
 use Rattle.quality_bits.specs.Kinds.{sent_check}
 use Rattle.quality_bits.specs.declared.kind.Kind.{Kind}
-use Rattle.rate_set_two.proofs.Words.{bits_most, length-checked, length-word_bits, tailed}
-use Rattle.rate_set_two.proofs.encoding.word.Goals as goal
+use Rattle.symbol_path.proofs.WordsTwo.{bits_most, length-checked, length-word_bits, tailed}
+use Rattle.symbol_path.proofs.encoding_two.word.Goals as goal
 
 pub append_number-requires-clause-room : goal.append_number-requires-clause-room
 append_number-requires-clause-room c =

@@ -1,0 +1,22 @@
+-- The bits of the frames of rate set 2, and their symbols as they are sent.
+use Rattle.std.specs.Prelude.{Bool, false, List, ◌++◌, replicate}
+use Rattle.conv_code.specs.ConvCode.{code_symbols}
+use Rattle.quality_bits.specs.Kinds.{generator_of}
+use Rattle.quality_bits.specs.Quality.{check_bits}
+use Rattle.symbol_path.specs.declared.rate_two.Rate2.{Rate2}
+use Rattle.symbol_path.specs.RatesTwo.{quality_of}
+use Rattle.symbol_path.specs.SentOrderTwo.{sent2}
+
+-- the quality indicator behind a frame's information bits
+abbrev pub quality_indicator : Rate2 → List Bool → List Bool
+quality_indicator rate information = check_bits (generator_of (quality_of rate)) information
+
+-- the bits of a frame: its information, its quality indicator, and eight tail bits
+abbrev pub word_bits : Rate2 → List Bool → List Bool
+word_bits rate information =
+    information ++ quality_indicator rate information ++ replicate 8 false
+
+-- a frame's symbols in the order in which they are sent: the encoder starts from eight zeros
+abbrev pub sent_frame2 : Rate2 → List Bool → List Bool
+sent_frame2 rate information =
+    sent2 rate (code_symbols (replicate 8 false) (word_bits rate information))

@@ -1,0 +1,42 @@
+-- Repetition, dropping and interleaving: which code symbol is sent when.
+use Rattle.std.specs.Prelude.{◌≡◌, ℕ, ◌+◌, ◌*◌, ◌/◌, ◌%◌, ◌<◌, ◌==◌, ◌||◌, Bool, false, List, [], ◌∷◌, map}
+use Rattle.std.specs.Prelude.{get_or}
+use Rattle.chip_core.specs.Bits.{places}
+use Rattle.symbol_path.specs.SentOrder.{data_shape, address}
+use Rattle.symbol_path.specs.declared.rate_two.Rate2.{Rate2}
+use Rattle.symbol_path.specs.RatesTwo.{repeats_of}
+
+-- which of the repeated symbols is kept as symbol a: the first, second, fourth and sixth of each six
+abbrev pub kept_symbol : ℕ → ℕ
+kept_symbol a = 6 * (a / 4) + get_or (0 ∷ 1 ∷ 3 ∷ 5 ∷ []) (a % 4) 0
+
+-- which of the repeated symbols is sent as symbol i
+abbrev pub repeated_symbol : ℕ → ℕ
+repeated_symbol i = kept_symbol (address data_shape i)
+
+-- which code symbol is
+abbrev pub place2 : Rate2 → ℕ → ℕ
+place2 rate i = repeated_symbol i / repeats_of rate
+
+-- the code symbols in the order in which they are sent
+unfoldable pub sent2 : Rate2 → List Bool → List Bool
+sent2 rate code = map (λ i. get_or code (place2 rate i) false) (places 384)
+
+-- whether a repeated symbol is the third or the fifth of its six
+abbrev pub is_dropped : ℕ → Bool
+is_dropped k = k % 6 == 2 || k % 6 == 4
+
+-- repeated symbol k is sent as one symbol, and as no other
+pub record IsSentOnce (k : ℕ) : Type 0 where
+  pub sent_as : ℕ
+  pub below : sent_as < 384
+  pub is : repeated_symbol sent_as ≡ k
+  pub alone : (i : ℕ) → i < 384 → repeated_symbol i ≡ k → i ≡ sent_as
+
+-- each of the others is sent once
+abbrev pub IsKeptOnce : Type 0
+IsKeptOnce = (k : ℕ) → k < 576 → is_dropped k ≡ false → IsSentOnce k
+
+-- and these never
+abbrev pub IsDropped : Type 0
+IsDropped = (i : ℕ) → i < 384 → is_dropped (repeated_symbol i) ≡ false
