@@ -19,8 +19,6 @@ mod sample_reader;
 mod samples;
 mod sink;
 mod source;
-#[cfg(test)]
-mod tests;
 mod width;
 mod writer_sink;
 

@@ -5,8 +5,11 @@ ghost use Rattle.std.specs.Io.{ReadsAtMost};
 ghost use Rattle.std.specs.Io.KnownBytes.{ReadConsumes};
 ghost use Rattle.cdma_io.specs.Outside.{HasCause};
 
+use thiserror::Error;
+
 /// A call on the outside failed.
-#[derive(Clone, Copy, PartialEq, Eq, Debug)]
+#[derive(Clone, Copy, PartialEq, Eq, Debug, Error)]
+#[error("a call on the outside failed")]
 pub struct Failed;
 
 /// A source of bytes that counts its faults.

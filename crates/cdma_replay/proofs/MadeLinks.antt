@@ -26,7 +26,7 @@ use Rattle.base_modulator.proofs.Amplitudes.{chip_fits, signal_of_carriers}
 use Rattle.base_modulator.proofs.NamedPlans.{named_plan}
 use Rattle.base_modulator.proofs.Pieces.{no_sample}
 use Rattle.mobile_core.specs.Events.{events}
-use Rattle.mobile_core.specs.declared.settings.Traffic.{Traffic}
+use Rattle.chip_core.specs.declared.assignment.Traffic.{Traffic}
 use Rattle.cdma_words.specs.Words.{IsPaging}
 use Rattle.clean_link.specs.CleanLink.{IsCleanLink, IsNotDirected, IsTunedTo, tuning_to}
 use Rattle.clean_link.specs.SentEvents.{FollowsSent, signaling_sent}

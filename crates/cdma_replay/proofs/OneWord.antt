@@ -16,7 +16,7 @@ use Rattle.mobile_core.specs.TrafficEvents.{commands_at, decoded_at}
 use Rattle.mobile_core.specs.TrafficStreams.{replaced_in}
 use Rattle.mobile_core.specs.Tuning.{Tuning}
 use Rattle.mobile_core.specs.declared.mark.Mark.{Mark}
-use Rattle.mobile_core.specs.declared.settings.Traffic.{Traffic}
+use Rattle.chip_core.specs.declared.assignment.Traffic.{Traffic}
 use Rattle.mobile_core.specs.declared.soft_frame.SoftFrame.{SoftFrame}
 use Rattle.mobile_core.proofs.FramesAlone.{decoded_alone, power_alone}
 use Rattle.tuned_listener.proofs.TunedTexts.{listed_texts}

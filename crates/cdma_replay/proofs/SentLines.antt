@@ -27,7 +27,7 @@ use Rattle.mobile_core.specs.SoftFrames.{soft_frames}
 use Rattle.mobile_core.specs.TrafficEvents.{frame_event}
 use Rattle.mobile_core.specs.Tuning.{Tuning}
 use Rattle.mobile_core.specs.declared.mark.Mark.{Mark}
-use Rattle.mobile_core.specs.declared.settings.Traffic.{Traffic}
+use Rattle.chip_core.specs.declared.assignment.Traffic.{Traffic}
 use Rattle.mobile_core.specs.declared.soft_frame.SoftFrame.{SoftFrame}
 use Rattle.clean_link.specs.CleanLink.{soft_strength, IsOnPath, IsReceivable}
 use Rattle.clean_link.specs.HeardFrames.{frame_ends, received_frames, replaced_of, sent_bits}

@@ -9,7 +9,7 @@ use Rattle.base_modulator.specs.Script.{plan_named}
 use Rattle.base_modulator.specs.Transmitter.{header_of, phase_at}
 use Rattle.base_modulator.specs.declared.plan.CellPlan.{CellPlan}
 use Rattle.mobile_core.specs.Events.{events}
-use Rattle.mobile_core.specs.declared.settings.Traffic.{Traffic}
+use Rattle.chip_core.specs.declared.assignment.Traffic.{Traffic}
 use Rattle.cdma_words.specs.Words.{IsPaging}
 use Rattle.clean_link.specs.CleanLink.{IsCleanLink, IsNotDirected, tuning_to}
 use Rattle.clean_link.specs.SentEvents.{FollowsSent, signaling_sent}

@@ -9,7 +9,7 @@ use Rattle.mobile_core.specs.SoftFrames.{soft_frame, soft_frames}
 use Rattle.mobile_core.specs.TrafficEvents.{frame_heard}
 use Rattle.mobile_core.specs.Tuning.{Tuning}
 use Rattle.mobile_core.specs.declared.mark.Mark.{Mark}
-use Rattle.mobile_core.specs.declared.settings.Traffic.{Traffic}
+use Rattle.chip_core.specs.declared.assignment.Traffic.{Traffic}
 use Rattle.mobile_core.specs.declared.soft_frame.SoftFrame.{SoftFrame}
 use Rattle.tuned_listener.specs.TunedTexts.{frame_text, tuned_text}
 use Rattle.tuned_listener.specs.declared.tuned_text.TunedText.TheVariants.{Listed}

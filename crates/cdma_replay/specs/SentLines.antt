@@ -17,7 +17,7 @@ use Rattle.event_tap.specs.EventLines.{event_line}
 use Rattle.event_tap.specs.FrameLines.{frame2_line}
 use Rattle.mobile_core.specs.FramesAlone.{traffic_channel}
 use Rattle.mobile_core.specs.TrafficEvents.{frame_event}
-use Rattle.mobile_core.specs.declared.settings.Traffic.{Traffic}
+use Rattle.chip_core.specs.declared.assignment.Traffic.{Traffic}
 use Rattle.clean_link.specs.CleanLink.{IsCellFile}
 use Rattle.clean_link.specs.HeardFrames.{frame_ends, is_received, received_frames, replaced_of}
 use Rattle.clean_link.specs.HeardFrames.{sent_bits, sent_commands, sent_frame_event, IsAssigned}

@@ -3,6 +3,7 @@
 #![tactic(auto)]
 
 pub mod air;
+mod assignment;
 mod bit_list;
 mod check_form;
 mod cursor;
@@ -16,6 +17,7 @@ mod phase;
 mod sample;
 mod width;
 
+pub use assignment::Traffic;
 pub use bit_list::{Bits, Full};
 pub use check_form::CheckForm;
 pub use cursor::{BitReader, BitWriter, Short};
@@ -27,6 +29,3 @@ pub use parities::parity_at;
 pub use phase::Phase;
 pub use sample::{Pair, Sample};
 pub use width::Width;
-
-#[cfg(test)]
-mod tests;

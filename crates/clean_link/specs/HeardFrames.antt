@@ -19,7 +19,7 @@ use Rattle.rake_finger.specs.declared.finger.Finger.{Finger}
 use Rattle.mobile_core.specs.declared.event.Event.{Event}
 use Rattle.mobile_core.specs.declared.event.Event.TheVariants.{Frame}
 use Rattle.mobile_core.specs.declared.legs.Leg.{Leg}
-use Rattle.mobile_core.specs.declared.settings.Traffic.{Traffic}
+use Rattle.chip_core.specs.declared.assignment.Traffic.{Traffic}
 use Rattle.clean_link.specs.HeardPages.{end_chip}
 
 -- ---- a channel that is followed

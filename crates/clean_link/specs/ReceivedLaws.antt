@@ -15,7 +15,7 @@ use Rattle.mobile_core.specs.Marks.{mark}
 use Rattle.mobile_core.specs.SoftFrames.{soft_frame, soft_frames}
 use Rattle.mobile_core.specs.Tuning.{Tuning}
 use Rattle.mobile_core.specs.declared.mark.Mark.{Mark}
-use Rattle.mobile_core.specs.declared.settings.Traffic.{Traffic}
+use Rattle.chip_core.specs.declared.assignment.Traffic.{Traffic}
 use Rattle.mobile_core.specs.declared.soft_frame.SoftFrame.{SoftFrame}
 use Rattle.clean_link.specs.CleanLink.{IsOnPath, IsReceivable}
 use Rattle.clean_link.specs.HeardFrames.{is_received, received_frames, word_symbols}

@@ -15,7 +15,7 @@ use Rattle.mobile_core.specs.Given.{at_of}
 use Rattle.mobile_core.specs.Tuning.{Tuning}
 use Rattle.mobile_core.specs.declared.event.Event.{Event}
 use Rattle.mobile_core.specs.declared.event.Event.TheVariants.{Paging}
-use Rattle.mobile_core.specs.declared.settings.Traffic.{Traffic}
+use Rattle.chip_core.specs.declared.assignment.Traffic.{Traffic}
 use Rattle.clean_link.specs.CleanLink.{IsNotDirected, IsReceivable, IsTunedTo, sync_sent}
 use Rattle.clean_link.specs.CleanLink.{tuning_to, whole_sendings}
 use Rattle.clean_link.specs.HeardFrames.{frames_sent, AreDistinct, IsAssigned, SendsSetOne}

@@ -5,8 +5,6 @@
 mod encoding;
 mod inversion;
 pub mod laws;
-#[cfg(test)]
-mod tests;
 
 pub use encoding::{Register, encode_into};
 pub use inversion::invert;

@@ -9,7 +9,7 @@ use Rattle.traffic_message.specs.declared.body.TrafficBody.TheVariants as bodies
 use Rattle.traffic_message.specs.declared.fields.DirectionFields.{DirectionFields}
 use Rattle.traffic_message.specs.declared.fields.Head.{Head}
 use Rattle.traffic_message.specs.declared.fields.InTrafficFields.{InTrafficFields}
-use Rattle.traffic_message.specs.declared.fields.SearchFields.{SearchFields}
+use Rattle.traffic_message.specs.declared.fields.Search.{Search}
 use Rattle.traffic_message.specs.declared.fields.UpdateFields.{UpdateFields}
 use Rattle.line_text.specs.Texts.{bit_text}
 use Rattle.event_tap.specs.Parts.{commas, named_values, rest_text}
@@ -32,7 +32,7 @@ update_text m =
     ++ rest_text m.rest
 
 -- the search parameters stand only where the direction brings them
-abbrev pub search_text : Option SearchFields → List ℕ
+abbrev pub search_text : Option Search → List ℕ
 search_text None = []
 search_text (Some s) = named_values search_names (search_values s)
 

@@ -17,7 +17,7 @@ use chip_core::Bits;
 use line_text::Text;
 use traffic_message::{
     DirectionFields, HEAD_FIELDS, HandoffDirection, Head, IN_TRAFFIC_FIELDS, InTraffic,
-    SEARCH_FIELDS, SearchFields, TIME_FIELDS, TrafficBody, TrafficMessage, UpdateFields,
+    SEARCH_FIELDS, Search, TIME_FIELDS, TrafficBody, TrafficMessage, UpdateFields,
 };
 
 /// Adds the line of a message to the empty text, LF at its end. No line is longer than 1,024 bytes.
@@ -99,7 +99,7 @@ fn append_direction(text: &mut Text, message: &HandoffDirection)
 
 /// Adds the search parameters where there are any.
 #[tactic(auto, unfolding(crate::specs::Parts::are_short))]
-fn append_search(text: &mut Text, search: &Option<SearchFields>)
+fn append_search(text: &mut Text, search: &Option<Search>)
     requires fit { FieldsFit (search_fields search.now) }
     requires room { length text.old + 93 ≤ 1024 }
     ensures value { text.new ≡ text.old ++ search_text search.now }

@@ -20,6 +20,3 @@ pub use layout::FrameKind;
 pub use power::{PowerSofts, commands};
 pub use span::{paging_span, span_bits, sync_span};
 pub use traffic::{Decoded, traffic_frame};
-
-#[cfg(test)]
-mod tests;

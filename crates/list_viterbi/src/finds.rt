@@ -7,7 +7,7 @@ ghost use Rattle.list_viterbi.specs.Rows.{find_score, finds_from, first_finds};
 
 use crate::scores::Scores;
 use std::marker::Model;
-use viterbi::Ends;
+use viterbi::{Ends, end_states};
 
 /// A word that leads into a state: its score, the state, and its place in the state's list.
 #[derive(Clone, Copy)]
@@ -132,16 +132,6 @@ fn merged(first: &Finds, second: &Finds, k: u8) -> Finds
         }
     }
     finds
-}
-
-/// In how many states, from the first on, a word may end.
-pub fn end_states(ends: Ends) -> usize
-    ensures { result ≡ end_count ends }
-{
-    match ends {
-        Ends::Zero => 1,
-        Ends::Free => 256,
-    }
 }
 
 /// The first words of the states in which a word may end.

@@ -15,18 +15,10 @@ mod finds;
 mod gains;
 mod lanes;
 pub mod laws;
-#[cfg(test)]
-mod merging;
 mod picking;
 mod row;
 mod scores;
-#[cfg(test)]
-mod tests;
 mod tracing;
-#[cfg(test)]
-mod trellis;
-#[cfg(test)]
-mod word_list_decoder;
 mod words;
 
 pub use decoder::ListDecoder;

@@ -8,7 +8,5 @@
 
 mod frame;
 pub mod laws;
-#[cfg(test)]
-mod tests;
 
 pub use frame::listed_frame;

@@ -44,14 +44,3 @@ pub fn traffic_mask(esn: u32) -> u64
     }
     mask
 }
-
-#[cfg(test)]
-mod tests {
-    use super::*;
-
-    #[test]
-    fn worked_masks(rt: HostRuntime) {
-        assert_eq!(rt; paging_mask(1, 511), 0x319_a020_01ff);
-        assert_eq!(rt; traffic_mask(1), 0x318_8000_0000);
-    }
-}

@@ -21,7 +21,7 @@ use Rattle.mobile_core.specs.Tuning.{Tuning, sync_stream}
 use Rattle.mobile_core.specs.declared.event.Event.{Event}
 use Rattle.mobile_core.specs.declared.followed.Followed.{Followed}
 use Rattle.mobile_core.specs.declared.mark.Mark.{Mark}
-use Rattle.mobile_core.specs.declared.settings.Traffic.{Traffic}
+use Rattle.chip_core.specs.declared.assignment.Traffic.{Traffic}
 use Rattle.mobile_core.proofs.ChannelsFollowed.{EndFrom, followed_behind, followed_come}
 use Rattle.mobile_core.proofs.ChannelsFollowed.{followed_quiet, unrated}
 use Rattle.mobile_core.proofs.FramesFollowed.{told_behind, told_unset}

@@ -13,7 +13,7 @@ use Rattle.mobile_core.specs.TrafficStreams.{traffic_start}
 use Rattle.mobile_core.specs.Tuning.{Tuning}
 use Rattle.mobile_core.specs.declared.legs.Leg.{Leg}
 use Rattle.mobile_core.specs.declared.mark.Mark.{Mark}
-use Rattle.mobile_core.specs.declared.settings.Traffic.{Traffic}
+use Rattle.chip_core.specs.declared.assignment.Traffic.{Traffic}
 use Rattle.mobile_core.proofs.CloseFingers.{close_begun, close_ends}
 use Rattle.mobile_core.proofs.FingerTimes.{within_is}
 

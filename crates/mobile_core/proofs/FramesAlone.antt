@@ -19,7 +19,7 @@ use Rattle.mobile_core.specs.TrafficEvents.{commands_at, decoded_at}
 use Rattle.mobile_core.specs.TrafficStreams.{replaced_in, stream_of, traffic_start, traffic_stream}
 use Rattle.mobile_core.specs.Tuning.{Tuning, fingers_of}
 use Rattle.mobile_core.specs.declared.mark.Mark.{Mark}
-use Rattle.mobile_core.specs.declared.settings.Traffic.{Traffic}
+use Rattle.chip_core.specs.declared.assignment.Traffic.{Traffic}
 use Rattle.mobile_core.specs.declared.soft_frame.PowerControl.{PowerControl}
 use Rattle.mobile_core.proofs.MarkStays.{pilot_alone}
 

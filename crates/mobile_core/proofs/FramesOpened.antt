@@ -28,7 +28,7 @@ use Rattle.mobile_core.specs.declared.legs.Leg.{Leg}
 use Rattle.mobile_core.specs.declared.mark.Mark.{Mark}
 use Rattle.mobile_core.specs.declared.scrambling.Scrambling.{Scrambling}
 use Rattle.mobile_core.specs.declared.sets_keeper.SetsKeeper.{SetsKeeper}
-use Rattle.mobile_core.specs.declared.settings.Traffic.{Traffic}
+use Rattle.chip_core.specs.declared.assignment.Traffic.{Traffic}
 use Rattle.mobile_core.specs.declared.traffic_receiver.TrafficReceiver.{TrafficReceiver}
 use Rattle.mobile_core.proofs.FrameBounds.{known_low}
 use Rattle.mobile_core.proofs.MarkStays.{pilot_alone}

@@ -38,7 +38,7 @@ use Rattle.mobile_core.specs.Tuning.{Tuning, fingers_of, sync_bound, sync_stream
 use Rattle.mobile_core.specs.declared.event.Event.{Event}
 use Rattle.mobile_core.specs.declared.legs.Leg.{Leg}
 use Rattle.mobile_core.specs.declared.mark.Mark.{Mark}
-use Rattle.mobile_core.specs.declared.settings.Traffic.{Traffic}
+use Rattle.chip_core.specs.declared.assignment.Traffic.{Traffic}
 use Rattle.mobile_core.specs.declared.spelled_message.SpelledMessage.{SpelledMessage}
 use Rattle.mobile_core.proofs.CloseFingers.{near_are_close}
 use Rattle.mobile_core.proofs.FingerTimes.{ends_bounds, timed_in, timed_of}

@@ -16,7 +16,7 @@ use Rattle.mobile_core.specs.TrafficStreams.{ends_now, frame_known, frames_bound
 use Rattle.mobile_core.specs.Tuning.{Tuning}
 use Rattle.mobile_core.specs.declared.legs.Leg.{Leg}
 use Rattle.mobile_core.specs.declared.mark.Mark.{Mark}
-use Rattle.mobile_core.specs.declared.settings.Traffic.{Traffic}
+use Rattle.chip_core.specs.declared.assignment.Traffic.{Traffic}
 use Rattle.mobile_core.specs.declared.spelled_signal.SpelledSignal.{SpelledSignal}
 use Rattle.mobile_core.proofs.Endings as endings
 use Rattle.mobile_core.proofs.FrameBounds.{AreCloseAll, known_later, not_now, now_from, now_parts}

@@ -12,7 +12,7 @@ use Rattle.mobile_core.specs.Noted.{all_noted, noted}
 use Rattle.mobile_core.specs.Tuning.{Tuning}
 use Rattle.mobile_core.specs.declared.event.Event.{Event}
 use Rattle.mobile_core.specs.declared.mark.Mark.{Mark}
-use Rattle.mobile_core.specs.declared.settings.Traffic.{Traffic}
+use Rattle.chip_core.specs.declared.assignment.Traffic.{Traffic}
 
 -- the first samples of a file that goes on
 pub first_same : (xs ys : List Sample) (n : ℕ) → n ≤ length xs → take n (xs ++ ys) ≡ take n xs

@@ -15,7 +15,7 @@ use Rattle.mobile_core.specs.declared.event.Event.{Event}
 use Rattle.mobile_core.specs.declared.event.Event.TheVariants.{Frame}
 use Rattle.mobile_core.specs.declared.legs.Leg.{Leg}
 use Rattle.mobile_core.specs.declared.mark.Mark.{Mark}
-use Rattle.mobile_core.specs.declared.settings.Traffic.{Traffic}
+use Rattle.chip_core.specs.declared.assignment.Traffic.{Traffic}
 
 -- what is decoded of frame k, from its soft values as the scrambling turns them
 unfoldable pub decoded_at : Tuning → Traffic → Mark → (ℕ → List Leg) → List Sample → ℕ → Decoded

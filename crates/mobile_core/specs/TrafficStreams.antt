@@ -12,7 +12,7 @@ use Rattle.mobile_core.specs.Streams.{Stream, frame_start, is_in_file, known_at}
 use Rattle.mobile_core.specs.Tuning.{Tuning}
 use Rattle.mobile_core.specs.declared.legs.Leg.{Leg}
 use Rattle.mobile_core.specs.declared.mark.Mark.{Mark}
-use Rattle.mobile_core.specs.declared.settings.Traffic.{Traffic}
+use Rattle.chip_core.specs.declared.assignment.Traffic.{Traffic}
 
 -- how many chips behind the mark frame k begins: the channel's offset is in units of 1,536 chips
 abbrev pub chips_behind : Traffic → ℕ → ℕ

@@ -10,7 +10,7 @@ use Rattle.rake_finger.specs.declared.finger.Finger.{Finger}
 use Rattle.rake_finger.specs.declared.form.Form.TheVariants.{Sync}
 use Rattle.mobile_core.specs.Streams.{Stream}
 use Rattle.mobile_core.specs.declared.settings.Settings.{Settings}
-use Rattle.mobile_core.specs.declared.settings.Traffic.{Traffic}
+use Rattle.chip_core.specs.declared.assignment.Traffic.{Traffic}
 
 -- the samples in the file, the best phase, how much earlier than there each finger's samples come,
 -- how the checks of 30 and of 16 bits are sent, the number of the paging channel, and the traffic

@@ -26,7 +26,7 @@ use Rattle.mobile_core.specs.Streams.{is_in_file, known_at, span_frames}
 use Rattle.mobile_core.specs.TrafficStreams.{traffic_stream}
 use Rattle.mobile_core.specs.Tuning.{Tuning, fingers_of, modulo_code, sync_stream}
 use Rattle.mobile_core.specs.declared.mark.Mark.{Mark}
-use Rattle.mobile_core.specs.declared.settings.Traffic.{Traffic}
+use Rattle.chip_core.specs.declared.assignment.Traffic.{Traffic}
 
 tuned : ℕ → List ℤ → Tuning
 tuned phase deltas = record {

@@ -2,7 +2,7 @@
 
 use crate::mark::Mark;
 use crate::scrambling::Scrambling;
-use crate::settings::Traffic;
+use chip_core::Traffic;
 use chip_core::air::FRAME_OFFSET_CHIPS;
 
 /// A channel of the reference base station whose frames are received from the mark on.

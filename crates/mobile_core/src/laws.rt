@@ -16,7 +16,7 @@ ghost use Rattle.mobile_core.specs.TrafficStreams.{replaced_in};
 ghost use Rattle.mobile_core.specs.Tuning.{Tuning};
 ghost use Rattle.mobile_core.specs.declared.channel.Channel.{Channel};
 ghost use Rattle.mobile_core.specs.declared.mark.Mark.{Mark};
-ghost use Rattle.mobile_core.specs.declared.settings.Traffic.{Traffic};
+ghost use Rattle.chip_core.specs.declared.assignment.Traffic.{Traffic};
 
 /// What a handset has heard by a sample doesn't hang on later samples: the events that end within
 /// the first n samples, and the mark that they set, are the same for all files with these first n

@@ -32,12 +32,10 @@ mod traffic_softs;
 mod tuner;
 
 pub use channel::Channel;
+pub use chip_core::Traffic;
 pub use event::Event;
 pub use mark::Mark;
 pub use mobile::{Mobile, Step};
-pub use settings::{Settings, Traffic};
+pub use settings::Settings;
 pub use soft_frame::{PowerControl, SoftFrame};
 pub use tuner::{Tuner, TunerStep};
-
-#[cfg(test)]
-mod tests;

@@ -1,7 +1,7 @@
 //! The scrambling of a paging or a traffic channel, frame by frame.
 
 use crate::mark::Mark;
-use crate::settings::Traffic;
+use chip_core::Traffic;
 use chip_core::air::{DATA_FRAME_CHIPS, DATA_SYMBOLS, FRAME_OFFSET_CHIPS};
 use long_code::{State, paging_mask, traffic_mask};
 use symbol_path::scramble_bits;

@@ -1,17 +1,6 @@
 //! How a handset is set up.
 
-use chip_core::CheckForm;
-
-/// The traffic channel that a base station assigned to a handset (TIA/EIA-95-B, 7.1.3.5).
-#[derive(Clone, Copy, PartialEq, Eq, Debug)]
-pub struct Traffic {
-    /// The handset's electronic serial number, by which the channel is scrambled.
-    pub esn: u32,
-    /// The channel's Walsh row, 1 to 63.
-    pub row: u8,
-    /// By how much its frames begin later than the system's, in units of 1.25 ms: 0 to 15.
-    pub offset: u8,
-}
+use chip_core::{CheckForm, Traffic};
 
 /// What a handset is told about a file, and how it is to receive it.
 #[derive(Clone, Copy, PartialEq, Eq, Debug)]

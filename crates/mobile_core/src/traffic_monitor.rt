@@ -2,9 +2,8 @@
 
 use crate::event::Event;
 use crate::mark::Mark;
-use crate::settings::Traffic;
 use crate::traffic_receiver::TrafficReceiver;
-use chip_core::{CheckForm, Phase};
+use chip_core::{CheckForm, Phase, Traffic};
 use pilot_search::Near;
 use rake_finger::SampleRing;
 use short_code::Codes;

@@ -7,8 +7,8 @@ ghost use Rattle.paging_message.specs.Laying.{bit_on, laid_on, left_in, nothing_
 use crate::half_bits::HalfBits;
 use crate::half_framer::body_bits;
 use chip_core::Bits;
-use std::marker::Model;
 use quality_bits::Rate;
+use std::marker::Model;
 
 /// Lays capsules in the half-frames of a paging channel.
 ///

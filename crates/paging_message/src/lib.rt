@@ -14,8 +14,6 @@ mod neighbors;
 mod other;
 mod system;
 mod table;
-#[cfg(test)]
-mod tests;
 
 pub use channels::ChannelList;
 pub use fault::MessageFault;

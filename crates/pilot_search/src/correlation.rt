@@ -93,6 +93,3 @@ pub fn energy_at(samples: &[Sample], codes: &Codes, phase: Phase) -> u64
 {
     norm_of(correlation_at(samples, codes, phase))
 }
-
-#[cfg(test)]
-mod tests;

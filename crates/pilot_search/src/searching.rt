@@ -209,6 +209,3 @@ pub fn search<R: Threads + Sync, G: Gate + Sync>(
     );
     Ok(best.unwrap())
 }
-
-#[cfg(test)]
-mod tests;

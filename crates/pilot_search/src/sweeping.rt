@@ -52,6 +52,3 @@ pub fn sweep(samples: &[Sample], codes: &Codes, from: u16, to: u16) -> Best
     }
     best
 }
-
-#[cfg(test)]
-mod tests;

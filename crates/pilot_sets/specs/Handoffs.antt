@@ -2,7 +2,7 @@
 use Rattle.std.specs.Prelude.{ℕ, ◌+◌, Bool, false, cond, not, if◌then◌else◌, ◌&&◌, ◌==◌, List, [], ◌∷◌, ◌++◌, length, map, filter, nat_lt, Option, Some, None}
 use Rattle.pilot_sets.specs.Pilots.{lacks, without}
 use Rattle.pilot_sets.specs.Timers.{is_expired}
-use Rattle.traffic_message.specs.declared.fields.SearchFields.{SearchFields}
+use Rattle.traffic_message.specs.declared.fields.Search.{Search}
 use Rattle.pilot_sets.specs.declared.thresholds.Thresholds.{Thresholds}
 use Rattle.pilot_sets.specs.declared.standing.ActivePilot.{ActivePilot}
 use Rattle.pilot_sets.specs.declared.standing.CandidatePilot.{CandidatePilot}
@@ -16,7 +16,7 @@ is_for time None = false
 is_for time (Some direction) = direction.time == time
 
 -- the thresholds with those that a direction carries, SRCH_WIN_N not among them
-abbrev pub with_search : Option SearchFields → Thresholds → Thresholds
+abbrev pub with_search : Option Search → Thresholds → Thresholds
 with_search None t = t
 with_search (Some s) t = record t {
   win_a = s.wina;

@@ -8,7 +8,7 @@ use crate::pilots::{has, without};
 use crate::standing::{Accepted, ActivePilot, CandidatePilot, NamedPilot, PilotSets};
 use crate::thresholds::Thresholds;
 use crate::timers::is_expired;
-use traffic_message::SearchFields;
+use traffic_message::Search;
 
 /// The pilots that a direction names.
 fn named_pilots(named: &[NamedPilot]) -> Few<u16, 6>
@@ -23,7 +23,7 @@ fn named_pilots(named: &[NamedPilot]) -> Few<u16, 6>
 }
 
 /// The thresholds with those that a direction carries.
-fn with_search(thresholds: Thresholds, search: Option<SearchFields>) -> Thresholds
+fn with_search(thresholds: Thresholds, search: Option<Search>) -> Thresholds
     ensures { result ≡ with_search_by search thresholds }
 {
     match search {

@@ -32,6 +32,3 @@ pub use lists::{Active, ActiveList, PilotList};
 pub use sets::Sets;
 pub use strengths::{Strength, Strengths};
 pub use thresholds::Thresholds;
-
-#[cfg(test)]
-mod tests;

@@ -2,7 +2,7 @@
 
 use crate::few::{Few, Filler};
 use crate::thresholds::Thresholds;
-use traffic_message::SearchFields;
+use traffic_message::Search;
 
 /// A pilot of the active set.
 #[derive(Clone, Copy, PartialEq, Eq, Debug)]
@@ -93,7 +93,7 @@ pub(crate) struct Accepted {
     /// The time at which it takes effect, in moments.
     pub time: u64,
     /// The thresholds that it carries.
-    pub search: Option<SearchFields>,
+    pub search: Option<Search>,
     /// The pilots of the new active set.
     pub named: Few<NamedPilot, 6>,
 }

@@ -142,6 +142,3 @@ pub fn survey<R: Threads + Sync, G: Gate + Sync>(
     );
     Ok(Survey::of(ranks))
 }
-
-#[cfg(test)]
-mod tests;

@@ -11,8 +11,6 @@ pub mod laws;
 mod open_capsule;
 mod rate;
 mod register;
-#[cfg(test)]
-mod tests;
 
 pub use capsule::{CapsuleFault, body_of, capsule_of, stated_length};
 pub use checking::{append_check, check};

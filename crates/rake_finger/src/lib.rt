@@ -28,6 +28,3 @@ pub use moments::power;
 pub use ring::SampleRing;
 pub use strengths::strength;
 pub use values::soft;
-
-#[cfg(test)]
-mod tests;

@@ -11,8 +11,6 @@
 
 mod gathering;
 pub mod laws;
-#[cfg(test)]
-mod tests;
 mod traffic;
 
 pub use symbol_path::{Rate2, encode2_into, place2};

@@ -12,8 +12,6 @@
 mod frames;
 mod hash;
 pub mod laws;
-#[cfg(test)]
-mod tests;
 mod wake;
 
 pub use frames::slot_bits;

@@ -26,6 +26,3 @@ pub use order_two::place2;
 pub use quality_bits::Rate;
 pub use rate_two::{REPEATED_SYMBOLS, Rate2};
 pub use scramble::{power_places, power_start, scramble_bits};
-
-#[cfg(test)]
-mod tests;

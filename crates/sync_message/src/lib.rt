@@ -9,8 +9,6 @@ mod framer;
 pub mod laws;
 mod message;
 mod table;
-#[cfg(test)]
-mod tests;
 
 pub use fault::MessageFault;
 pub use fields::SyncFields;

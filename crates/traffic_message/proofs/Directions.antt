@@ -11,7 +11,7 @@ use Rattle.chip_core.proofs.ValueLists.{behind_front, dropped, front, length-col
 use Rattle.traffic_message.specs.Handoff as handoff
 use Rattle.traffic_message.specs.Widths.{search_widths, time_widths}
 use Rattle.traffic_message.specs.declared.fields.DirectionFields.{DirectionFields}
-use Rattle.traffic_message.specs.declared.fields.SearchFields.{SearchFields}
+use Rattle.traffic_message.specs.declared.fields.Search.{Search}
 use Rattle.traffic_message.proofs.Records.{length-records, records_again, records_at, records_there}
 
 -- CLAUSES OF THE DEFINITIONS
@@ -54,7 +54,7 @@ search_fit vs long fit =
     subst (λ (us : List ℕ). FieldsFit (in_widths search_widths us)) (sym (search_of_these vs long))
     fit
 
-these_parameters : (s : SearchFields) → handoff.search_of (handoff.search_values s) ≡ s
+these_parameters : (s : Search) → handoff.search_of (handoff.search_values s) ≡ s
 unfolding handoff.search_of
 these_parameters s = refl
 
@@ -104,11 +104,11 @@ search_there bits room ten =
           )
     ]
 
-abbrev SearchAgain : Option SearchFields → List Bool → List Bool → Type 0
+abbrev SearchAgain : Option Search → List Bool → List Bool → Type 0
 SearchAgain s bits behind =
     (handoff.search_at bits ≡ s) × (drop (handoff.hard_place bits) bits ≡ behind)
 
-search_again : (s : Option SearchFields) (bits behind : List Bool) →
+search_again : (s : Option Search) (bits behind : List Bool) →
     FieldsFit (handoff.search_fields s) →
     drop 9 bits ≡ spelled (handoff.search_fields s) ++ behind → SearchAgain s bits behind
 search_again None bits behind fit is =
@@ -215,7 +215,7 @@ added_again a e bits left fit whole is =
     }
 
 -- ALL OF IT
-times_of_these : (vs : List ℕ) (s : Option SearchFields) (e : List Bool) (ps cs rs : List ℕ)
+times_of_these : (vs : List ℕ) (s : Option Search) (e : List Bool) (ps cs rs : List ℕ)
     (rest : List Bool) → length vs ≡ 3 →
     handoff.time_values (handoff.direction_of vs s e ps cs rs rest) ≡ vs
 unfolding handoff.direction_of places
@@ -223,7 +223,7 @@ times_of_these vs s e ps cs rs rest long =
     sym (map-places-all (λ k. get_or vs k 0) vs 3 0 long (λ k lt. refl))
 
 -- the fields of a direction that was made of its parts
-record HasParts (m : DirectionFields) (s : Option SearchFields) (e : List Bool)
+record HasParts (m : DirectionFields) (s : Option Search) (e : List Bool)
     (ps cs rs : List ℕ) (left : List Bool) : Type 0 where
   search : m.search ≡ s
   extra : m.extra ≡ e
@@ -232,7 +232,7 @@ record HasParts (m : DirectionFields) (s : Option SearchFields) (e : List Bool)
   rows : m.rows ≡ rs
   rest : m.rest ≡ left
 
-parts_of_these : (vs : List ℕ) (s : Option SearchFields) (e : List Bool) (ps cs rs : List ℕ)
+parts_of_these : (vs : List ℕ) (s : Option Search) (e : List Bool) (ps cs rs : List ℕ)
     (r : List Bool) → HasParts (handoff.direction_of vs s e ps cs rs r) s e ps cs rs r
 unfolding handoff.direction_of
 parts_of_these vs s e ps cs rs r =
@@ -245,14 +245,14 @@ parts_of_these vs s e ps cs rs r =
       rest = refl;
     }
 
-abbrev parts_bits : List ℕ → Option SearchFields → List Bool → List ℕ → List ℕ → List ℕ →
+abbrev parts_bits : List ℕ → Option Search → List Bool → List ℕ → List ℕ → List ℕ →
     List Bool → List Bool
 parts_bits vs s e ps cs rs rest =
     spelled (in_widths time_widths vs) ++ (spelled (handoff.search_fields s)
     ++ (handoff.added_bits e ++ (spelled (handoff.direction_records ps cs rs) ++ rest)))
 
 -- what parts that fit spell
-made_of : (vs : List ℕ) (s : Option SearchFields) (e : List Bool) (ps cs rs : List ℕ)
+made_of : (vs : List ℕ) (s : Option Search) (e : List Bool) (ps cs rs : List ℕ)
     (rest : List Bool) (m : DirectionFields) →
     handoff.time_values m ≡ vs → HasParts m s e ps cs rs rest →
     FieldsFit (in_widths time_widths vs) → FieldsFit (handoff.search_fields s) →
@@ -272,7 +272,7 @@ made_of vs s e ps cs rs rest m times p a b c d f g h i j =
       left = rw p.rest j;
     }
 
-parts_spelled : (vs : List ℕ) (s : Option SearchFields) (e : List Bool) (ps cs rs : List ℕ)
+parts_spelled : (vs : List ℕ) (s : Option Search) (e : List Bool) (ps cs rs : List ℕ)
     (rest : List Bool) → length vs ≡ 3 → parts_bits vs s e ps cs rs rest
     ≡ handoff.direction_bits (handoff.direction_of vs s e ps cs rs rest)
 unfolding handoff.direction_bits handoff.direction_of
@@ -334,7 +334,7 @@ unfolding handoff.direction_of
 these_parts m = refl
 
 -- what stands at the places, from its parts
-made_at : (bits : List Bool) (vs : List ℕ) (s : Option SearchFields) (e : List Bool)
+made_at : (bits : List Bool) (vs : List ℕ) (s : Option Search) (e : List Bool)
     (ps cs rs : List ℕ) (rest : List Bool) (n : ℕ) → values_at time_widths bits ≡ vs →
     handoff.search_at bits ≡ s →
     take (8 * handoff.octets_at bits) (drop (handoff.hard_place bits + 4) bits) ≡ e →
@@ -467,7 +467,7 @@ added_written extra first one two after n is a b c =
 pub length-no_search : length (spelled (handoff.search_fields None)) ≡ 1
 length-no_search = omega (arith, length-append (binary 1 0) [], length-binary 1 0)
 
-pub length-search : (s : SearchFields) → length (spelled (handoff.search_fields (Some s))) ≡ 25
+pub length-search : (s : Search) → length (spelled (handoff.search_fields (Some s))) ≡ 25
 length-search s =
     let vs = handoff.search_values s in
     omega (
@@ -543,7 +543,7 @@ pub direction_some : (bits : List Bool) (m : DirectionFields) →
     Some m ≡ handoff.direction_reading bits
 direction_some bits m has is = sym (read_from bits m has (sym is))
 
-pub direction_from : (bits : List Bool) (use_time action hdm : ℕ) (s : Option SearchFields)
+pub direction_from : (bits : List Bool) (use_time action hdm : ℕ) (s : Option Search)
     (e : List Bool) (ps cs rs : List ℕ) (rest : List Bool) (a first n : ℕ) →
     a ≡ handoff.hard_place bits → first ≡ handoff.first_record bits →
     n ≡ (length bits - first) / 18 →

@@ -5,7 +5,7 @@ use Rattle.chip_core.specs.Readings.{number_at, values_at, column_at}
 use Rattle.chip_core.specs.declared.field.Field.{Field}
 use Rattle.traffic_message.specs.Widths.{search_widths, time_widths}
 use Rattle.traffic_message.specs.declared.fields.DirectionFields.{DirectionFields}
-use Rattle.traffic_message.specs.declared.fields.SearchFields.{SearchFields}
+use Rattle.traffic_message.specs.declared.fields.Search.{Search}
 
 -- SPELLED
 -- when it takes effect, and its number
@@ -16,11 +16,11 @@ abbrev pub time_fields : DirectionFields → List Field
 time_fields m = in_widths time_widths (time_values m)
 
 -- the values of the search parameters, in the order of the table
-abbrev pub search_values : SearchFields → List ℕ
+abbrev pub search_values : Search → List ℕ
 search_values s = s.wina ∷ s.tadd ∷ s.tdrop ∷ s.tcomp ∷ s.ttdrop ∷ []
 
 -- SEARCH_INCLUDED, and the search parameters where it is 1
-abbrev pub search_fields : Option SearchFields → List Field
+abbrev pub search_fields : Option Search → List Field
 search_fields None = field 1 0 ∷ []
 search_fields (Some s) = field 1 1 ∷ in_widths search_widths (search_values s)
 
@@ -77,7 +77,7 @@ octets_at bits = number_at (hard_place bits + 1) 3 bits
 unfoldable pub first_record : List Bool → ℕ
 first_record bits = hard_place bits + 4 + 8 * octets_at bits
 
-unfoldable pub search_of : List ℕ → SearchFields
+unfoldable pub search_of : List ℕ → Search
 search_of values = record {
   wina = get_or values 0 0;
   tadd = get_or values 1 0;
@@ -86,12 +86,12 @@ search_of values = record {
   ttdrop = get_or values 4 0;
 }
 
-unfoldable pub search_at : List Bool → Option SearchFields
+unfoldable pub search_at : List Bool → Option Search
 search_at bits =
     if number_at 9 1 bits == 1 then Some (search_of (values_at search_widths (drop 10 bits)))
     else None
 
-unfoldable pub direction_of : List ℕ → Option SearchFields → List Bool → List ℕ → List ℕ → List ℕ →
+unfoldable pub direction_of : List ℕ → Option Search → List Bool → List ℕ → List ℕ → List ℕ →
     List Bool → DirectionFields
 direction_of times search extra pns combs rows rest = record {
   use_time = get_or times 0 0;

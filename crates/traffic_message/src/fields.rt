@@ -63,7 +63,7 @@ pub struct UpdateFields {
 /// The search parameters that a handoff direction may bring. `SEARCH_FIELDS` has the widths of the
 /// fields.
 #[derive(Clone, Copy, PartialEq, Eq, Debug)]
-pub struct SearchFields {
+pub struct Search {
     /// SRCH_WIN_A: the search window of active and candidate pilots.
     pub wina: u8,
     /// T_ADD: the strength at which a pilot becomes a candidate.
@@ -88,7 +88,7 @@ pub struct DirectionFields {
     /// HDM_SEQ, 2 bits: the number of this direction.
     pub hdm: u8,
     /// The search parameters, where SEARCH_INCLUDED, 1 bit, is 1.
-    pub search: Option<SearchFields>,
+    pub search: Option<Search>,
     /// The additional fields, whole octets: as many as ADD_LENGTH, 3 bits, says.
     pub extra: Bits,
     /// PILOT_PN of each record, 9 bits: the offset of the pilot code, in units of 64 chips.

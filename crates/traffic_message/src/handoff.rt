@@ -7,7 +7,7 @@ ghost use Rattle.chip_core.specs.Readings.{column_at, number_at, values_at};
 ghost use Rattle.traffic_message.specs.Handoff.{added_bits, added_fields, direction_at, direction_bits, direction_reading, direction_records, has_records, is_hard, hard_place, first_record, search_at, search_fields, search_of, search_values, time_values, IsHandoffDirection};
 ghost use Rattle.traffic_message.specs.Widths.{search_widths, time_widths};
 
-use crate::fields::{DirectionFields, SearchFields};
+use crate::fields::{DirectionFields, Search};
 use crate::table::{SEARCH_FIELDS, TIME_FIELDS};
 use crate::values::{append_values, is_set, push_number, read_number, read_values};
 use chip_core::{Bits, Numbers};
@@ -175,7 +175,7 @@ fn time_at(bits: &Bits, i: usize) -> u8
 }
 
 /// Reads the search parameters.
-fn read_search(bits: &Bits) -> Option<SearchFields>
+fn read_search(bits: &Bits) -> Option<Search>
     requires { hard_place bits.now ≤ length bits.now }
     ensures { result ≡ search_at bits.now }
 {
@@ -205,7 +205,7 @@ fn read_column(bits: &Bits, first: u16, place: u16, width: u8, count: u8) -> Num
 }
 
 /// Adds SEARCH_INCLUDED at the end, and the search parameters where there are any.
-fn append_search(body: &mut Bits, search: Option<SearchFields>)
+fn append_search(body: &mut Bits, search: Option<Search>)
     requires fit { FieldsFit (search_fields search) }
     requires room { length body.old + length (spelled (search_fields search)) ≤ 1184 }
     ensures { body.new ≡ body.old ++ spelled (search_fields search) }
@@ -257,7 +257,7 @@ fn times_of(fields: &DirectionFields) -> [u64; 3]
     ]
 }
 
-impl SearchFields {
+impl Search {
     /// The values of the parameters, in the order of `SEARCH_FIELDS`.
     pub fn values(&self) -> [u64; 5]
         ensures { result ≡ search_values self.now }
@@ -274,11 +274,11 @@ impl SearchFields {
 
 /// The search parameters of these values.
 #[tactic(auto, unfolding(crate::specs::Handoff::search_of))]
-fn search_from(values: &[u64; 5]) -> SearchFields
+fn search_from(values: &[u64; 5]) -> Search
     requires { FieldsFit (in_widths search_widths (search_values (search_of values.now))) }
     ensures { result ≡ search_of values.now }
 {
-    SearchFields {
+    Search {
         wina: values[0] as u8,
         tadd: values[1] as u8,
         tdrop: values[2] as u8,

@@ -14,13 +14,11 @@ mod message;
 mod multiplex;
 mod neighbors;
 mod table;
-#[cfg(test)]
-mod tests;
 mod values;
 
 pub use body::TrafficBody;
 pub use fault::MessageFault;
-pub use fields::{DirectionFields, Head, InTrafficFields, SearchFields, UpdateFields};
+pub use fields::{DirectionFields, Head, InTrafficFields, Search, UpdateFields};
 pub use framer::SignalFramer;
 pub use handoff::HandoffDirection;
 pub use in_traffic::InTraffic;

@@ -18,13 +18,9 @@ mod lanes;
 pub mod laws;
 mod metrics;
 mod survivor;
-#[cfg(test)]
-mod survivor_decoder;
-#[cfg(test)]
-mod tests;
-#[cfg(test)]
-mod trellis;
 mod word;
 
 pub use decoder::Decoder;
+pub use metrics::end_states;
+pub use survivor::Survivor;
 pub use word::{Ends, Word};

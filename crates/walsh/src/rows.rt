@@ -11,16 +11,3 @@ pub fn chip(row: u8, k: u8) -> bool
 {
     (row & k).count_ones() & 1 == 1
 }
-
-#[cfg(test)]
-mod tests {
-    use super::*;
-
-    #[test]
-    fn rows_32_and_63(rt: HostRuntime) {
-        assert!(rt; !chip(32, 31));
-        assert!(rt; chip(32, 32));
-        assert!(rt; !chip(63, 0));
-        assert!(rt; chip(63, 1));
-    }
-}

@@ -67,18 +67,3 @@ fn difference(x: Pair, y: Pair) -> Pair
         q: x.q - y.q,
     }
 }
-
-#[cfg(test)]
-mod tests {
-    use super::*;
-
-    #[test]
-    fn one_chip_on_all_rows(rt: HostRuntime) {
-        let mut values = [Pair { i: 0, q: 0 }; 64];
-        values[0] = Pair { i: 1, q: 0 };
-        transform64(&mut values);
-        for value in &values {
-            assert_eq!(rt; *value, Pair { i: 1, q: 0 });
-        }
-    }
-}

@@ -23,7 +23,7 @@ use Rattle.mobile_core.specs.TrafficEvents.{if_followed}
 use Rattle.mobile_core.specs.Tuning.{Tuning}
 use Rattle.mobile_core.specs.declared.event.Event.{Event}
 use Rattle.mobile_core.specs.declared.mark.Mark.{Mark}
-use Rattle.mobile_core.specs.declared.settings.Traffic.{Traffic}
+use Rattle.chip_core.specs.declared.assignment.Traffic.{Traffic}
 use Rattle.mobile_core.proofs.MarkStays.{messages_by_one_mark}
 use Rattle.clean_link.specs.CleanLink.{IsNotDirected, IsOnPath, IsReceivable, events_of_channel}
 use Rattle.clean_link.specs.CleanLink.{sending_event, sync_sent, whole_sendings}

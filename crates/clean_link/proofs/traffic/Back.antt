@@ -22,7 +22,7 @@ use Rattle.mobile_core.specs.TrafficEvents.{if_followed}
 use Rattle.mobile_core.specs.Tuning.{Tuning, sync_stream}
 use Rattle.mobile_core.specs.declared.event.Event.{Event}
 use Rattle.mobile_core.specs.declared.mark.Mark.{Mark}
-use Rattle.mobile_core.specs.declared.settings.Traffic.{Traffic}
+use Rattle.chip_core.specs.declared.assignment.Traffic.{Traffic}
 use Rattle.mobile_core.proofs.MarkStays.{frames_by_one_mark, messages_by_one_mark}
 use Rattle.chip_core.proofs.Ranges.{flat_map_ext_places}
 use Rattle.clean_link.specs.CleanLink.{IsNotDirected, IsOnPath, IsReceivable}

@@ -14,7 +14,7 @@ use Rattle.mobile_core.specs.Signaling.{messages_by}
 use Rattle.mobile_core.specs.Tuning.{Tuning}
 use Rattle.mobile_core.specs.declared.legs.Leg.{Leg}
 use Rattle.mobile_core.specs.declared.mark.Mark.{Mark}
-use Rattle.mobile_core.specs.declared.settings.Traffic.{Traffic}
+use Rattle.chip_core.specs.declared.assignment.Traffic.{Traffic}
 use Rattle.clean_link.specs.CleanLink.{IsNotDirected}
 use Rattle.clean_link.specs.HeardFrames.{AreDistinct, SendsSetOne}
 use Rattle.clean_link.specs.HeardSignals.{messages_of_channel}

@@ -27,7 +27,7 @@ use Rattle.mobile_core.specs.Tuning.{Tuning, fingers_of}
 use Rattle.mobile_core.specs.declared.event.Event.{Event}
 use Rattle.mobile_core.specs.declared.legs.Leg.{Leg}
 use Rattle.mobile_core.specs.declared.mark.Mark.{Mark}
-use Rattle.mobile_core.specs.declared.settings.Traffic.{Traffic}
+use Rattle.chip_core.specs.declared.assignment.Traffic.{Traffic}
 use Rattle.mobile_core.proofs.FrameBounds.{AreCloseAll}
 use Rattle.mobile_core.proofs.LegParts.{map_same}
 use Rattle.mobile_core.proofs.MarkStays.{pilot_alone}

@@ -25,7 +25,7 @@ use Rattle.mobile_core.specs.TrafficStreams as heard
 use Rattle.mobile_core.specs.TrafficStreams.{frames_bound, replaced_in}
 use Rattle.mobile_core.specs.Tuning.{Tuning}
 use Rattle.mobile_core.specs.declared.mark.Mark.{Mark}
-use Rattle.mobile_core.specs.declared.settings.Traffic.{Traffic}
+use Rattle.chip_core.specs.declared.assignment.Traffic.{Traffic}
 use Rattle.mobile_core.specs.declared.soft_frame.PowerControl.{PowerControl}
 use Rattle.mobile_core.specs.declared.soft_frame.SoftFrame.{SoftFrame}
 use Rattle.clean_link.specs.CleanLink.{soft_strength, IsOnPath, IsReceivable}

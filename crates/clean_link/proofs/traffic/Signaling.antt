@@ -25,7 +25,7 @@ use Rattle.mobile_core.specs.Tuning.{Tuning}
 use Rattle.mobile_core.specs.declared.event.Event.{Event}
 use Rattle.mobile_core.specs.declared.legs.Leg.{Leg}
 use Rattle.mobile_core.specs.declared.mark.Mark.{Mark}
-use Rattle.mobile_core.specs.declared.settings.Traffic.{Traffic}
+use Rattle.chip_core.specs.declared.assignment.Traffic.{Traffic}
 use Rattle.chip_core.proofs.Ranges.{filter_ext_places, flat_map_ext_filter_places}
 use Rattle.chip_core.proofs.Ranges.{flat_map_ext_places}
 use Rattle.clean_link.specs.HeardFrames.{frame_ends, AreDistinct, IsOnePilot, SendsSetOne}

@@ -41,7 +41,7 @@ use Rattle.mobile_core.specs.TrafficStreams.{traffic_start, traffic_stream}
 use Rattle.mobile_core.specs.Tuning.{Tuning, fingers_of}
 use Rattle.mobile_core.specs.declared.legs.Leg.{Leg}
 use Rattle.mobile_core.specs.declared.mark.Mark.{Mark}
-use Rattle.mobile_core.specs.declared.settings.Traffic.{Traffic}
+use Rattle.chip_core.specs.declared.assignment.Traffic.{Traffic}
 use Rattle.clean_link.specs.CleanLink.{IsTrueMark, soft_strength}
 use Rattle.clean_link.specs.HeardFrames.{word_symbols, IsAssigned, SendsSymbols, ShowCommands}
 use Rattle.clean_link.specs.HeardFrames.{ShowFrame}

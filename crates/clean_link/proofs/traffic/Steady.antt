@@ -36,7 +36,7 @@ use Rattle.mobile_core.specs.declared.event.Event.{Event}
 use Rattle.mobile_core.specs.declared.event.Event.TheVariants as kinds
 use Rattle.mobile_core.specs.declared.legs.Leg.{Leg}
 use Rattle.mobile_core.specs.declared.mark.Mark.{Mark}
-use Rattle.mobile_core.specs.declared.settings.Traffic.{Traffic}
+use Rattle.chip_core.specs.declared.assignment.Traffic.{Traffic}
 use Rattle.mobile_core.proofs.MomentGrowth.{kept_new, kept_old}
 use Rattle.clean_link.specs.CleanLink.{IsNoDirection, IsNotDirected}
 use Rattle.clean_link.specs.HeardFrames.{IsOnePilot}

@@ -5,7 +5,7 @@ use Rattle.mobile_core.specs.Streams.{is_in_file, known_at}
 use Rattle.mobile_core.specs.Timing.{IsTimed}
 use Rattle.mobile_core.specs.Tuning.{Tuning, fingers_of, modulo_code}
 use Rattle.mobile_core.specs.declared.mark.Mark.{Mark}
-use Rattle.mobile_core.specs.declared.settings.Traffic.{Traffic}
+use Rattle.chip_core.specs.declared.assignment.Traffic.{Traffic}
 use Rattle.clean_link.proofs.frames.Times.{IsAlone, inside_alone, known_at_once, room_alone}
 use Rattle.clean_link.proofs.frames.Times.{timed_alone}
 use Rattle.clean_link.proofs.frames.SyncTimes.{one_path}

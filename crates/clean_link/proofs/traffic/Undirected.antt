@@ -19,7 +19,7 @@ use Rattle.mobile_core.specs.Tuning.{Tuning, sync_stream}
 use Rattle.mobile_core.specs.declared.event.Event.{Event}
 use Rattle.mobile_core.specs.declared.legs.Leg.{Leg}
 use Rattle.mobile_core.specs.declared.mark.Mark.{Mark}
-use Rattle.mobile_core.specs.declared.settings.Traffic.{Traffic}
+use Rattle.chip_core.specs.declared.assignment.Traffic.{Traffic}
 use Rattle.mobile_core.proofs.FrameGrowth.{frames_sooner}
 use Rattle.mobile_core.proofs.MarkStays.{messages_by_one_mark}
 use Rattle.mobile_core.proofs.MessageGrowth.{messages_sooner}

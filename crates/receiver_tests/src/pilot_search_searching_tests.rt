@@ -1,0 +1,193 @@
+//! Workers that meet, and phases that are left.
+
+ghost use Rattle.std.specs.Prelude.{pos, ◌<◌, ◌≤ℤ◌};
+
+use chip_core::{Phase, Sample};
+use pilot_search::{Gate, Open, Shared, Tails, search, try_phase};
+use short_code::Codes;
+use std::sync::atomic::{AtomicU64, Ordering};
+use std::test::Fail;
+
+const NOTHING: Sample = Sample { i: 0, q: 0 };
+
+/// Counts the calls, and adds up what was left unfinished.
+#[derive(Drop)]
+struct Counting {
+    arrived: AtomicU64,
+    left: AtomicU64,
+    unfinished: AtomicU64,
+}
+
+impl Counting {
+    fn new() -> Counting {
+        Counting {
+            arrived: AtomicU64::new(0),
+            left: AtomicU64::new(0),
+            unfinished: AtomicU64::new(0),
+        }
+    }
+}
+
+impl Gate for Counting {
+    fn arrive(&self, _worker: u8) {
+        self.arrived.fetch_add(1, Ordering::SeqCst);
+    }
+
+    fn leave(&self, _worker: u8, unfinished: u16) {
+        self.left.fetch_add(1, Ordering::SeqCst);
+        self.unfinished
+            .fetch_add(u64::from(unfinished), Ordering::SeqCst);
+    }
+}
+
+/// Where two workers wait until each has seen the other, or so many turns are spent.
+#[derive(Drop)]
+struct Meeting {
+    flags: [AtomicU64; 2],
+    met: [AtomicU64; 2],
+    others: AtomicU64,
+}
+
+impl Gate for Meeting {
+    fn arrive(&self, worker: u8) {
+        if worker > 1 {
+            self.others.fetch_add(1, Ordering::SeqCst);
+            return;
+        }
+        let mine = usize::from(worker);
+        self.flags[mine].store(1, Ordering::SeqCst);
+        for _ in 0..100_000_000u32 {
+            if self.flags[1 - mine].load(Ordering::SeqCst) == 1 {
+                self.met[mine].store(1, Ordering::SeqCst);
+                break;
+            }
+        }
+    }
+
+    fn leave(&self, _worker: u8, _unfinished: u16) {}
+}
+
+/// A sample that shows a chip at an amplitude: negative for a 1.
+fn shown(chip: (bool, bool), amplitude: i16) -> Sample
+    requires { pos 0 ≤ℤ amplitude }
+{
+    let (i, q) = chip;
+    Sample {
+        i: if i { -amplitude } else { amplitude },
+        q: if q { -amplitude } else { amplitude },
+    }
+}
+
+/// 2,048 samples of the code, the first one at this phase.
+fn code_from(codes: &Codes, phase: u16) -> [Sample; 2048]
+    requires { phase < 32768 }
+{
+    let mut samples = [NOTHING; 2048];
+    for t in 0..2048u16 {
+        samples[usize::from(t)] = shown(codes.chip((phase + t) % 32768), 100);
+    }
+    samples
+}
+
+#[test]
+fn two_workers_meet(rt: HostRuntime) -> Result<(), Fail> {
+    let codes = Codes::new(rt.alloc())?;
+    let samples = code_from(&codes, 32767);
+    let gate = Meeting {
+        flags: [AtomicU64::new(0), AtomicU64::new(0)],
+        met: [AtomicU64::new(0), AtomicU64::new(0)],
+        others: AtomicU64::new(0),
+    };
+    let best = search(&rt, rt.alloc(), &samples, &codes, 2, &gate)?;
+    assert_eq!(rt; best.phase.get(), 32767);
+    assert_eq!(rt; best.energy, 167772160000);
+    assert_eq!(rt; gate.met[0].load(Ordering::SeqCst), 1);
+    assert_eq!(rt; gate.met[1].load(Ordering::SeqCst), 1);
+    assert_eq!(rt; gate.others.load(Ordering::SeqCst), 0);
+    Ok(())
+}
+
+#[test]
+fn leaves_most_phases_behind_the_code(rt: HostRuntime) -> Result<(), Fail> {
+    let codes = Codes::new(rt.alloc())?;
+    let samples = code_from(&codes, 0);
+    let gate = Counting::new();
+    let best = search(&rt, rt.alloc(), &samples, &codes, 1, &gate)?;
+    assert_eq!(rt; best.phase.get(), 0);
+    assert_eq!(rt; best.energy, 167772160000);
+    assert_eq!(rt; gate.arrived.load(Ordering::SeqCst), 1);
+    assert_eq!(rt; gate.left.load(Ordering::SeqCst), 1);
+    assert!(rt; gate.unfinished.load(Ordering::SeqCst) >= 30000);
+    Ok(())
+}
+
+#[test]
+fn leaves_no_phase_of_zeros(rt: HostRuntime) -> Result<(), Fail> {
+    let codes = Codes::new(rt.alloc())?;
+    let gate = Counting::new();
+    let best = search(&rt, rt.alloc(), &[NOTHING; 2048], &codes, 1, &gate)?;
+    assert_eq!(rt; best.phase.get(), 0);
+    assert_eq!(rt; best.energy, 0);
+    assert_eq!(rt; gate.left.load(Ordering::SeqCst), 1);
+    assert_eq!(rt; gate.unfinished.load(Ordering::SeqCst), 0);
+    Ok(())
+}
+
+#[test]
+fn each_worker_arrives_and_leaves_once(rt: HostRuntime) -> Result<(), Fail> {
+    let codes = Codes::new(rt.alloc())?;
+    let samples = code_from(&codes, 1000);
+    let gate = Counting::new();
+    let best = search(&rt, rt.alloc(), &samples, &codes, 64, &gate)?;
+    assert_eq!(rt; best.phase.get(), 1000);
+    assert_eq!(rt; gate.arrived.load(Ordering::SeqCst), 64);
+    assert_eq!(rt; gate.left.load(Ordering::SeqCst), 64);
+    Ok(())
+}
+
+#[test]
+fn any_number_of_workers_finds_the_same(rt: HostRuntime) -> Result<(), Fail> {
+    let codes = Codes::new(rt.alloc())?;
+    let mut two = [NOTHING; 64];
+    two[0].i = 1;
+    two[1].i = 1;
+    let wrapped = code_from(&codes, 32767);
+    for workers in [1, 3, 64] {
+        let best = search(&rt, rt.alloc(), &two, &codes, workers, &Open)?;
+        assert_eq!(rt; best.phase.get(), 5);
+        assert_eq!(rt; best.energy, 8);
+        let best = search(&rt, rt.alloc(), &wrapped, &codes, workers, &Open)?;
+        assert_eq!(rt; best.phase.get(), 32767);
+        assert_eq!(rt; best.energy, 167772160000);
+        let best = search(&rt, rt.alloc(), &[NOTHING; 64], &codes, workers, &Open)?;
+        assert_eq!(rt; best.phase.get(), 0);
+        assert_eq!(rt; best.energy, 0);
+    }
+    Ok(())
+}
+
+#[test]
+#[tactic(auto, using(crate::proofs::FoundLemmas::at_most_greatest))]
+fn leaves_a_phase_that_is_surely_below(rt: HostRuntime) -> Result<(), Fail> {
+    let codes = Codes::new(rt.alloc())?;
+    let mut samples = [NOTHING; 128];
+    samples[0].i = 1;
+    samples[1].i = 1;
+    let tails = Tails::of(&samples);
+    assert_eq!(rt; tails.get(0), 2);
+    assert_eq!(rt; tails.get(1), 0);
+    assert_eq!(rt; tails.get(511), 0);
+    let (shared, mut seat) = Shared::new(rt.alloc(), &samples, &codes)?;
+    let zero = Phase::new(0).unwrap();
+    let five = Phase::new(5).unwrap();
+    let ten = Phase::new(10).unwrap();
+    let first = try_phase(&shared, &mut seat, &samples, &codes, &tails, zero);
+    let second = try_phase(&shared, &mut seat, &samples, &codes, &tails, five);
+    let again = try_phase(&shared, &mut seat, &samples, &codes, &tails, zero);
+    let last = try_phase(&shared, &mut seat, &samples, &codes, &tails, ten);
+    assert_eq!(rt; first, Some(0));
+    assert_eq!(rt; second, Some(8));
+    assert_eq!(rt; again, None);
+    assert_eq!(rt; last, Some(8));
+    Ok(())
+}

@@ -1,0 +1,60 @@
+use Rattle.std.proofs.Common.{◌≡◌, ◌<◌, ◌≤◌, ◌∷◌, [], true, false, drop, length, sym, arith}
+use Rattle.std.proofs.Common.{length-append}
+use Rattle.list_viterbi.specs.Merging.{score_in, second_is_next}
+use Rattle.list_viterbi.proofs.Walks.{second_has, took_second, took_first, took_none, all_taken}
+use Rattle.reference_decoders.proofs.merging.merged.Goals.{then-takes_second}
+use Rattle.reference_decoders.proofs.merging.merged.Goals.{else-takes_second+then-i-len}
+use Rattle.reference_decoders.proofs.merging.merged.Goals.{else-takes_second+else-i-len}
+use Rattle.reference_decoders.proofs.merging.merged.Goals as goal
+
+pub loop-n-preserved : goal.loop-n-preserved
+loop-n-preserved c =
+    let xs = c.args.first.now in
+    let ys = c.args.second.now in
+    let before = c.loop-n.words in
+    let h = c.loop-n.invariant in
+    let few = h.few in
+    elim c.if-takes_second.branch [
+      | then-takes_second w ↦
+          let next : second_is_next score_in (drop c.loop-n.i xs) (drop c.loop-n.j ys) ≡ true =
+          sym w.if-takes_second.ensures in
+          let within = second_has score_in xs ys c.loop-n.i c.loop-n.j h.second_place next in
+          let long = length-append before (w.get.result.now ∷ []) in
+          rw (w.words-is, w.i-is, w.j-is, w.push.ensures) (record {
+            first_place = h.first_place;
+            second_place = omega (arith, within);
+            few = omega (arith, long, few);
+            part = took_second score_in c.args.k c.loop-n.i c.loop-n.j c.loop-n._n xs ys before
+                w.get.result.now within w.get.ensures.value next h.part;
+          })
+      | else-takes_second+then-i-len w ↦
+          let next : second_is_next score_in (drop c.loop-n.i xs) (drop c.loop-n.j ys) ≡ false =
+          sym w.if-takes_second.ensures in
+          let within : c.loop-n.i < length xs =
+          omega (arith, w.if-i-len.true, w.len.ensures.value) in
+          let long = length-append before (w.get-then-i-len.result.now ∷ []) in
+          rw (w.words-is, w.i-is, w.j-is, w.push-then-i-len.ensures) (record {
+            first_place = omega (arith, within);
+            second_place = h.second_place;
+            few = omega (arith, long, few);
+            part = took_first score_in c.args.k c.loop-n.i c.loop-n.j c.loop-n._n xs ys before
+                w.get-then-i-len.result.now within w.get-then-i-len.ensures.value next h.part;
+          })
+      | else-takes_second+else-i-len w ↦
+          let next : second_is_next score_in (drop c.loop-n.i xs) (drop c.loop-n.j ys) ≡ false =
+          sym w.if-takes_second.ensures in
+          let over : length xs ≤ c.loop-n.i =
+          omega (arith, w.if-i-len.false, w.len.ensures.value) in
+          rw (w.words-is, w.i-is, w.j-is) (record {
+            first_place = h.first_place;
+            second_place = h.second_place;
+            few = omega (arith, few);
+            part = took_none score_in c.args.k c.loop-n.i c.loop-n.j c.loop-n._n xs ys before over
+                next h.part;
+          })
+    ]
+
+pub returns : goal.returns
+returns c =
+    all_taken score_in c.args.k c.loop-n.i c.loop-n.j c.loop-n._n c.args.first.now c.args.second.now
+    c.loop-n.words (omega arith) c.loop-n.invariant.part

@@ -1,0 +1,74 @@
+//! Lists of words with one bit more, and the first of two lists.
+
+ghost use Rattle.std.specs.Prelude.{◌≡◌, ◌<◌, ◌≤◌, ◌+◌, ◌^◌, length, map, drop, unsigned_abs, All};
+ghost use Rattle.list_viterbi.specs.Merging.{score_in, extended_by, second_is_next, merge};
+
+use list_viterbi::{Entry, Words};
+use viterbi::Word;
+
+/// The word with one bit more, whose two symbols add `gain` to the score.
+fn extended_entry(before: &Entry, bit: bool, gain: i64) -> Entry
+    requires fits { unsigned_abs before.now.score + unsigned_abs gain ≤ 2 ^ 62 }
+    requires room { length before.now.word.bits < 1184 }
+    ensures { result ≡ extended_by bit gain before.now }
+{
+    let mut bits = before.word.bits;
+    bits.append(bit);
+    let word = Word {
+        start: before.word.start,
+        bits,
+    };
+    Entry {
+        word,
+        score: before.score + gain,
+    }
+}
+
+/// All words of a list with the same bit more.
+pub fn extended(words: &Words, bit: bool, gain: i64) -> Words
+    requires fits { All (λ e. unsigned_abs e.score + unsigned_abs gain ≤ 2 ^ 62) words.now }
+    requires room { All (λ e. length e.word.bits < 1184) words.now }
+    ensures { result ≡ map (extended_by bit gain) words.now }
+{
+    let mut longer = Words::empty();
+    for i in 0..words.len() {
+        longer.push(extended_entry(words.get(i), bit, gain));
+    }
+    longer
+}
+
+/// Whether the second list, from place `j` on, has a word that comes before those of the first from
+/// place `i` on.
+fn takes_second(first: &Words, i: u8, second: &Words, j: u8) -> bool
+    requires first_place { i ≤ length first.now }
+    requires second_place { j ≤ length second.now }
+    ensures { result ≡ second_is_next score_in (drop i first.now) (drop j second.now) }
+{
+    if j == second.len() {
+        return false;
+    }
+    if i == first.len() {
+        return true;
+    }
+    first.get(i).score < second.get(j).score
+}
+
+/// The first `k` words of two lists, by falling score; on a tie those of the first list come first.
+pub fn merged(first: &Words, second: &Words, k: u8) -> Words
+    requires { k ≤ 16 }
+    ensures { result ≡ merge score_in k first.now second.now }
+{
+    let mut words = Words::empty();
+    let mut i = 0;
+    let mut j = 0;
+    for _n in 0..k {
+        if takes_second(first, i, second, j) {
+            words.push(*second.get(j));
+            j += 1;
+        } else if i < first.len() {
+            words.push(*first.get(i));
+            i += 1;
+        }
+    }
+    words
+}

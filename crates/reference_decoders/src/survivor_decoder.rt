@@ -1,0 +1,93 @@
+//! The decoder that keeps a survivor's whole word in each state: plain and slow, under the contract
+//! of `Decoder`, against which tests hold that one.
+
+ghost use Rattle.std.specs.Prelude.{◌≡◌, ◌≤◌, ◌*◌, ◌%◌, ◌^◌, length, vec_len};
+ghost use Rattle.std.specs.Prelude.{sum_by, unsigned_abs, IfOk};
+ghost use Rattle.chip_core.specs.Bits.{binary};
+ghost use Rattle.conv_code.specs.ConvCode.{code_symbols};
+ghost use Rattle.viterbi.specs.Words.{correlation};
+ghost use Rattle.viterbi.specs.Best.{IsBestWord, spelled};
+
+use crate::survivor_trellis::{best_end, start_row, step};
+use chip_core::OutOfMemory;
+use std::alloc::Global;
+use std::marker::Model;
+use viterbi::{Ends, Survivor, Word};
+
+/// Finds the best word for a list of soft values, in memory that `new` takes.
+///
+/// Contracts see the greatest number of bits of a word.
+#[derive(Drop)]
+pub struct SurvivorDecoder {
+    max_bits: u16,
+    row: Vec<Option<Survivor>>,
+    next: Vec<Option<Survivor>>,
+}
+
+impl Model for SurvivorDecoder {
+    ghost use Rattle.std.specs.Prelude.{ℕ, ◌≡◌, ◌≤◌, vec_len};
+
+    ghost Value = { ℕ };
+
+    ghost view = { λ d. d.max_bits };
+
+    ghost invariant = { λ d. (d.max_bits ≤ 576) × (vec_len d.row ≡ 256) × (vec_len d.next ≡ 256) };
+}
+
+/// A row of states without survivors.
+fn empty_row(alloc: Global) -> Result<Vec<Option<Survivor>>, OutOfMemory>
+    ensures { IfOk result (λ row. vec_len row ≡ 256) }
+{
+    let mut row = Vec::with_capacity(alloc, 256)?;
+    for _state in 0..256usize {
+        row.push(None)?;
+    }
+    Ok(row)
+}
+
+impl SurvivorDecoder {
+    /// A decoder for words of at most `max_bits` bits, from 8 to 576; `OutOfMemory` where the
+    /// allocator has none.
+    pub fn new(alloc: Global, max_bits: u16) -> Result<SurvivorDecoder, OutOfMemory>
+        requires least { 8 ≤ max_bits }
+        requires most { max_bits ≤ 576 }
+        ensures { IfOk result (λ decoder. decoder ≡ max_bits) }
+    {
+        let row = empty_row(alloc)?;
+        let next = empty_row(alloc)?;
+        Ok(SurvivorDecoder {
+            max_bits,
+            row,
+            next,
+        })
+    }
+
+    /// Finds the first of all allowed words for these soft values, as `Decoder::best_into`.
+    pub fn best_into(&mut self, softs: &[i64], ends: Ends, out: &mut Word) -> i64
+        requires even { length softs.now % 2 ≡ 0 }
+        requires least { 16 ≤ length softs.now }
+        requires most { length softs.now ≤ 2 * self.old }
+        requires bound { sum_by unsigned_abs softs.now ≤ 2 ^ 62 }
+
+        ensures best { IsBestWord softs.now ends (spelled out.new) }
+        ensures score { result ≡
+            correlation softs.now (code_symbols (binary 8 out.new.start) out.new.bits) }
+        ensures kept { self.new ≡ self.old }
+    {
+        start_row(&mut self.row, ends);
+        for bit in 0..softs.len() / 2 {
+            step(
+                &self.row,
+                softs[2 * bit],
+                softs[2 * bit + 1],
+                &mut self.next,
+            );
+            std::mem::swap(&mut self.row, &mut self.next);
+        }
+        let Some(best) = best_end(&self.row, ends) else {
+            unreachable!()
+        };
+        *out = best.word;
+        best.score
+    }
+}

@@ -1,0 +1,146 @@
+//! One step of the search, from the survivors of all words of some bits to those of one bit more.
+
+ghost use Rattle.std.specs.Prelude.{◌≡◌, ◌<◌, ◌≤◌, ◌+◌, ◌^◌, ℕ, length, get_or, ◌*ℤ◌, unsigned_abs};
+ghost use Rattle.std.specs.Prelude.{IsTrue, ◌↔◌, IfSome};
+ghost use Rattle.chip_core.specs.Bits.{sign};
+ghost use Rattle.viterbi.specs.Best.{HasStart};
+ghost use Rattle.viterbi.specs.States.{low_bits};
+ghost use Rattle.viterbi.specs.Survivors.{Start, HasRoom, extended_by, better_of, gain_of};
+ghost use Rattle.viterbi.specs.Survivors.{survivor_into, first_best, end_count};
+
+use chip_core::{Bits, parity_at};
+use viterbi::{Ends, Survivor, Word, end_states};
+
+/// The taps of the first generator, 753 octal, on nine bits whose bit 8 is the newest.
+const G0: [u8; 7] = [8, 7, 6, 5, 3, 1, 0];
+
+/// The taps of the second generator, 561 octal.
+const G1: [u8; 5] = [8, 6, 5, 4, 0];
+
+/// The value, negated where the symbol is 1.
+fn signed(value: i64, symbol: bool) -> i64
+    requires { unsigned_abs value ≤ 2 ^ 62 }
+    ensures value { result ≡ value *ℤ sign symbol }
+    ensures size { unsigned_abs result ≡ unsigned_abs value }
+{
+    if symbol { -value } else { value }
+}
+
+/// What nine bits add to the score: their two soft values, each times the sign of its symbol. Bit 8
+/// is the newest.
+fn gain(first: i64, second: i64, nine: u64) -> i64
+    requires { unsigned_abs first + unsigned_abs second ≤ 2 ^ 62 }
+    ensures value { result ≡ gain_of first second (low_bits 9 nine) }
+    ensures size { unsigned_abs result ≤ unsigned_abs first + unsigned_abs second }
+{
+    signed(first, parity_at(nine, &G0)) + signed(second, parity_at(nine, &G1))
+}
+
+/// The survivor with one more bit, whose two symbols add `gain` to the score.
+fn extended(survivor: &Option<Survivor>, bit: bool, gain: i64) -> Option<Survivor>
+    requires fits { IfSome survivor.now (λ s. unsigned_abs s.score + unsigned_abs gain ≤ 2 ^ 62) }
+    requires room { IfSome survivor.now (λ s. length s.word.bits < 1184) }
+    ensures { result ≡ extended_by bit gain survivor.now }
+{
+    let Some(before) = survivor else {
+        return None;
+    };
+    let mut bits = before.word.bits;
+    bits.append(bit);
+    let word = Word {
+        start: before.word.start,
+        bits,
+    };
+    Some(Survivor {
+        score: before.score + gain,
+        word,
+    })
+}
+
+/// The survivor of greater score; the first where both have the same.
+fn better(first: &Option<Survivor>, second: &Option<Survivor>) -> Option<Survivor>
+    ensures { result ≡ better_of first.now second.now }
+{
+    match (first, second) {
+        (None, _) => *second,
+        (Some(one), Some(two)) if one.score < two.score => *second,
+        (Some(_), _) => *first,
+    }
+}
+
+/// The survivor of a state, one bit further: the better of those that come from the two states
+/// before it.
+fn survivor_of(row: &[Option<Survivor>], state: u8, first: i64, second: i64) -> Option<Survivor>
+    requires whole { length row.now ≡ 256 }
+    requires fits { unsigned_abs first + unsigned_abs second ≤ 2 ^ 62 }
+    requires room { (t : ℕ) → t < 256 → HasRoom first second (get_or row.now t None) }
+    ensures { result ≡ survivor_into row.now first second state }
+{
+    let bit = state >= 128;
+    let nine = 2 * u64::from(state);
+    let before = 2 * (state % 128) as usize;
+    let zero = extended(&row[before], bit, gain(first, second, nine));
+    let one = extended(&row[before + 1], bit, gain(first, second, nine + 1));
+    better(&zero, &one)
+}
+
+/// The survivors of all states, one bit further, by the soft values of its two symbols.
+pub fn step(row: &[Option<Survivor>], first: i64, second: i64, next: &mut [Option<Survivor>])
+    requires whole { length row.now ≡ 256 }
+    requires whole_next { length next.old ≡ 256 }
+    requires fits { unsigned_abs first + unsigned_abs second ≤ 2 ^ 62 }
+    requires room { (t : ℕ) → t < 256 → HasRoom first second (get_or row.now t None) }
+    ensures each { (t : ℕ) → t < 256 →
+        get_or next.new t None ≡ survivor_into row.now first second t }
+{
+    for (state, survivor) in next.iter_mut().enumerate() {
+        *survivor = survivor_of(row, state as u8, first, second);
+    }
+}
+
+/// Whether a word may start from a state.
+fn is_start(state: u8, ends: Ends) -> bool
+    ensures { IsTrue result ↔ HasStart ends (low_bits 8 state) }
+{
+    match ends {
+        Ends::Zero => state == 0,
+        Ends::Free => true,
+    }
+}
+
+/// The word of no bits into a state, where a word may start from it.
+fn start_at(state: u8, ends: Ends) -> Option<Survivor>
+    ensures { Start ends state result }
+{
+    if !is_start(state, ends) {
+        return None;
+    }
+    let word = Word {
+        start: state.reverse_bits(),
+        bits: Bits::empty(),
+    };
+    Some(Survivor { score: 0, word })
+}
+
+/// The survivors before the first bit.
+pub fn start_row(row: &mut [Option<Survivor>], ends: Ends)
+    requires { length row.old ≡ 256 }
+    ensures { (t : ℕ) → t < 256 → Start ends t (get_or row.new t None) }
+{
+    for (state, survivor) in row.iter_mut().enumerate() {
+        *survivor = start_at(state as u8, ends);
+    }
+}
+
+/// The best of the survivors of the states in which a word may end, the first of them where several
+/// have the same score.
+pub fn best_end(row: &[Option<Survivor>], ends: Ends) -> Option<Survivor>
+    requires { length row.now ≡ 256 }
+    ensures { result ≡ first_best row.now (end_count ends) }
+{
+    let mut best = None;
+    for state in 0..end_states(ends) {
+        best = better(&best, &row[state]);
+    }
+    best
+}

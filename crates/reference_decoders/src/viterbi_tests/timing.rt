@@ -1,0 +1,123 @@
+//! The work that `tools/bench` times: both bodies on the same soft values.
+
+ghost use Rattle.std.specs.Prelude.{◌≡◌};
+
+use super::{Generator, is_bounded};
+use chip_core::Bits;
+use conv_code::encode_into;
+use std::process::Abort;
+use std::test::Fail;
+use crate::survivor_decoder::SurvivorDecoder;
+use viterbi::{Decoder, Ends, Word};
+
+/// A word to be sent, and soft values of its symbols' signs, between 1 and 2,047 in absolute value.
+/// The word's score is the sum of the absolute values, so it is the best.
+fn sent(rt: &impl Abort, count: u16, ends: Ends, softs: &mut [i64]) -> Word {
+    let mut generator = Generator(8);
+    let mut bits = Bits::empty();
+    for i in 0..count {
+        let is_tail = ends == Ends::Zero && i.saturating_add(8) >= count;
+        let _ = bits.push(!is_tail && generator.next() % 2 == 1);
+    }
+    let start = match ends {
+        Ends::Zero => 0,
+        Ends::Free => 0o266,
+    };
+    let mut symbols = Bits::empty();
+    assert!(rt; bits.len() <= 576);
+    encode_into(start, &bits, &mut symbols);
+    assert_eq!(rt; usize::from(symbols.len()), softs.len());
+    for (i, soft) in softs.iter_mut().enumerate() {
+        let size = 1 + (generator.next() % 2_047) as i64;
+        let is_one = i < 1_152 && (i as u16) < symbols.len() && symbols.get(i as u16);
+        *soft = if is_one { -size } else { size };
+    }
+    Word { start, bits }
+}
+
+/// Sees that the decoder finds the sent word, so many times.
+fn decode_on_rows(
+    rt: &impl Abort,
+    decoder: &mut Decoder,
+    softs: &[i64],
+    ends: Ends,
+    sent: &Word,
+    turns: u16,
+)
+    requires { decoder.old ≡ 576 }
+{
+    assert!(rt; is_bounded(softs));
+    assert!(rt; softs.len() % 2 == 0);
+    assert!(rt; softs.len() >= 16);
+    assert!(rt; softs.len() <= 1152);
+    let mut word = Word {
+        start: 0,
+        bits: Bits::empty(),
+    };
+    for _turn in 0..turns {
+        decoder.best_into(softs, ends, &mut word);
+    }
+    assert!(rt; word == *sent);
+}
+
+/// The same by the decoder that keeps each state's best word whole.
+fn decode_by_survivors(
+    rt: &impl Abort,
+    decoder: &mut SurvivorDecoder,
+    softs: &[i64],
+    ends: Ends,
+    sent: &Word,
+    turns: u16,
+)
+    requires { decoder.old ≡ 576 }
+{
+    assert!(rt; is_bounded(softs));
+    assert!(rt; softs.len() % 2 == 0);
+    assert!(rt; softs.len() >= 16);
+    assert!(rt; softs.len() <= 1152);
+    let mut word = Word {
+        start: 0,
+        bits: Bits::empty(),
+    };
+    for _turn in 0..turns {
+        decoder.best_into(softs, ends, &mut word);
+    }
+    assert!(rt; word == *sent);
+}
+
+// `tools/bench` times these four tests, and knows how often each decodes.
+#[test]
+fn rows_decode_576_free_bits_100_times(rt: HostRuntime) -> Result<(), Fail> {
+    let mut decoder = Decoder::new(rt.alloc(), 576)?;
+    let mut softs = [0; 1152];
+    let word = sent(&rt, 576, Ends::Free, &mut softs);
+    decode_on_rows(&rt, &mut decoder, &softs, Ends::Free, &word, 100);
+    Ok(())
+}
+
+#[test]
+fn survivors_decode_576_free_bits_4_times(rt: HostRuntime) -> Result<(), Fail> {
+    let mut decoder = SurvivorDecoder::new(rt.alloc(), 576)?;
+    let mut softs = [0; 1152];
+    let word = sent(&rt, 576, Ends::Free, &mut softs);
+    decode_by_survivors(&rt, &mut decoder, &softs, Ends::Free, &word, 4);
+    Ok(())
+}
+
+#[test]
+fn rows_decode_192_bits_between_zeros_300_times(rt: HostRuntime) -> Result<(), Fail> {
+    let mut decoder = Decoder::new(rt.alloc(), 576)?;
+    let mut softs = [0; 384];
+    let word = sent(&rt, 192, Ends::Zero, &mut softs);
+    decode_on_rows(&rt, &mut decoder, &softs, Ends::Zero, &word, 300);
+    Ok(())
+}
+
+#[test]
+fn survivors_decode_192_bits_between_zeros_12_times(rt: HostRuntime) -> Result<(), Fail> {
+    let mut decoder = SurvivorDecoder::new(rt.alloc(), 576)?;
+    let mut softs = [0; 384];
+    let word = sent(&rt, 192, Ends::Zero, &mut softs);
+    decode_by_survivors(&rt, &mut decoder, &softs, Ends::Zero, &word, 12);
+    Ok(())
+}
