@@ -9,28 +9,16 @@
 #![tactic(auto)]
 
 mod frame;
-#[cfg(test)]
-mod frame_tests;
 mod kinds;
 pub mod laws;
 mod line;
 mod paging;
-#[cfg(test)]
-mod paging_tests;
 mod parts;
 mod sets;
-#[cfg(test)]
-mod sets_tests;
 mod sync;
 mod tap;
-#[cfg(test)]
-mod tap_tests;
 mod taps;
-#[cfg(test)]
-mod tests;
 mod traffic;
-#[cfg(test)]
-mod traffic_tests;
 mod writing;
 
 pub use kinds::{FrameTap, MessageTap, PilotTap, RawTap};

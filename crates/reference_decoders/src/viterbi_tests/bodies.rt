@@ -3,10 +3,10 @@
 ghost use Rattle.std.specs.Prelude.{◌≡◌};
 
 use super::{Generator, decoded, is_bounded};
+use crate::survivor_decoder::SurvivorDecoder;
 use chip_core::Bits;
 use std::process::Abort;
 use std::test::Fail;
-use crate::survivor_decoder::SurvivorDecoder;
 use viterbi::{Decoder, Ends, Word};
 
 /// Numbers of bits from the least to the greatest.

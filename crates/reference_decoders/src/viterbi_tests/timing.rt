@@ -3,11 +3,11 @@
 ghost use Rattle.std.specs.Prelude.{◌≡◌};
 
 use super::{Generator, is_bounded};
+use crate::survivor_decoder::SurvivorDecoder;
 use chip_core::Bits;
 use conv_code::encode_into;
 use std::process::Abort;
 use std::test::Fail;
-use crate::survivor_decoder::SurvivorDecoder;
 use viterbi::{Decoder, Ends, Word};
 
 /// A word to be sent, and soft values of its symbols' signs, between 1 and 2,047 in absolute value.

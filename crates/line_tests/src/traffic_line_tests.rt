@@ -1,10 +1,9 @@
 //! Whole lines of traffic messages, as they stand in the tables of lines, and who hears them.
 
-use crate::paging_tests::{add, body_of, long_line};
-use crate::traffic::append_traffic;
-use crate::{FrameTap, MessageTap, PilotTap, RawTap, Tap, Taps, Text};
+use crate::paging_line_tests::{add, body_of, long_line};
 use cdma_io::MemorySink;
 use chip_core::Bits;
+use event_tap::{FrameTap, MessageTap, PilotTap, RawTap, Tap, Taps, Text, line_into};
 use mobile_core::Event;
 use std::test::Fail;
 use traffic_message::TrafficMessage;
@@ -14,11 +13,20 @@ fn message_of(body: &Bits) -> Result<TrafficMessage, Fail> {
     Ok(TrafficMessage::from_body(body).ok_or("no message")?)
 }
 
+/// The event of a message.
+fn traffic(at: u64, message: TrafficMessage) -> Event {
+    Event::Traffic {
+        at,
+        capsule: Bits::empty(),
+        message,
+    }
+}
+
 /// The line of the message that a body spells.
 fn line_of(at: u64, body: &Bits) -> Result<Text, Fail> {
     let message = message_of(body)?;
     let mut text = Text::empty();
-    append_traffic(&mut text, at, &message);
+    line_into(&traffic(at, message), &mut text);
     Ok(text)
 }
 

@@ -1,9 +1,8 @@
 //! Whole lines of paging messages, as they stand in the tables of lines.
 
-use crate::Text;
-use crate::paging::append_paging;
-use crate::parts::append_raw;
+use crate::event_tests::paging;
 use chip_core::Bits;
+use event_tap::{Text, line_into};
 use paging_message::PagingMessage;
 use std::test::Fail;
 
@@ -27,7 +26,7 @@ pub(crate) fn body_of(values: &[(u8, u64)]) -> Bits {
 fn line_of(at: u64, body: &Bits) -> Result<Text, Fail> {
     let message = PagingMessage::from_body(body).ok_or("no message")?;
     let mut text = Text::empty();
-    append_paging(&mut text, at, &message);
+    line_into(&paging(at, message), &mut text);
     Ok(text)
 }
 
@@ -265,21 +264,5 @@ fn lines_of_other_messages(rt: HostRuntime) -> Result<(), Fail> {
     for (body, line) in cases {
         assert_eq!(rt; line_of(737280, &body)?.bytes(), line.as_bytes());
     }
-    Ok(())
-}
-
-#[test]
-fn raw_lines(rt: HostRuntime) -> Result<(), Fail> {
-    let mut text = Text::empty();
-    append_raw(
-        &mut text,
-        " paging ",
-        737280,
-        &body_of(&[(40, 0x09_04ff_8046)]),
-    );
-    assert_eq!(rt;
-        text.bytes(),
-        b"raw at=737280 paging 40:0904ff8046\n".as_slice()
-    );
     Ok(())
 }

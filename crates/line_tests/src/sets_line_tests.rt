@@ -1,6 +1,6 @@
 //! Whole lines of the pilot sets, and who hears them.
 
-use crate::{FrameTap, MessageTap, PilotTap, RawTap, Tap, line_into};
+use event_tap::{FrameTap, MessageTap, PilotTap, RawTap, Tap, line_into};
 use line_text::Text;
 use mobile_core::Event;
 use pilot_sets::Sets;

@@ -2,10 +2,10 @@
 
 ghost use Rattle.std.specs.Prelude.{◌-◌};
 
-use crate::tests::{first_fields, other_page, paging, phase_of, pilot, sync, sync_message};
-use crate::{FrameTap, Heard, MessageTap, PilotTap, RawTap, Tap, Taps, Text, line_into};
+use crate::event_tests::{first_fields, other_page, paging, phase_of, pilot, sync, sync_message};
 use cdma_io::{Failed, MemorySink};
 use chip_core::Bits;
+use event_tap::{FrameTap, Heard, MessageTap, PilotTap, RawTap, Tap, Taps, Text, line_into};
 use mobile_core::Event;
 use std::alloc::Global;
 use std::test::Fail;
@@ -50,7 +50,7 @@ impl Tap for CountingTap {
         self.limit = events;
     }
 
-    #[tactic(auto, unfolding(crate::specs::EventLines::event_line, crate::specs::Taps::form_line))]
+    #[tactic(auto, unfolding(Rattle::event_tap::specs::EventLines::event_line, Rattle::event_tap::specs::Taps::form_line))]
     fn hear(&mut self, event: &Event, out: &mut Text) -> Heard {
         match event {
             Event::Pilot { .. } | Event::Frame { .. } | Event::Sets { .. } => out.clear(),

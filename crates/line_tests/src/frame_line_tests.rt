@@ -1,8 +1,8 @@
 //! Whole lines of frames, as they stand in the table of lines, and who hears them.
 
-use crate::{FrameTap, MessageTap, PilotTap, RawTap, Tap, Taps, line_into, write_frame2};
 use cdma_io::MemorySink;
 use chip_core::Bits;
+use event_tap::{FrameTap, MessageTap, PilotTap, RawTap, Tap, Taps, line_into, write_frame2};
 use line_text::Text;
 use mobile_core::Event;
 use rate_set_two::{Decoded2, Rate2};

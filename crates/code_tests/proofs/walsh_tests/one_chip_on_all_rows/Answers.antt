@@ -6,7 +6,7 @@ use Rattle.chip_core.specs.Complex.{origin}
 use Rattle.chip_core.specs.declared.sample.Pair.{Pair}
 use Rattle.walsh.specs.Walsh.{IsWithin}
 use Rattle.walsh.specs.Butterfly.{entry}
-use Rattle.walsh.proofs.transform.tests.one_chip_on_all_rows.Goals as goal
+use Rattle.code_tests.proofs.walsh_tests.one_chip_on_all_rows.Goals as goal
 
 abbrev values : List Pair
 values = record { i = pos 1; q = pos 0 } ∷ replicate 63 origin
