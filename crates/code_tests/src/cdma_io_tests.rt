@@ -340,3 +340,54 @@ fn answers_faults_of_std(rt: HostRuntime) {
     assert_eq!(rt; sink.give(b"p"), Err(Failed));
     assert_eq!(rt; sink.flush(), Err(Failed));
 }
+
+/// A device whose first call fails, and no other.
+#[derive(Drop)]
+struct FailsOnce {
+    failed: bool,
+}
+
+impl FailsOnce {
+    fn new() -> FailsOnce {
+        FailsOnce { failed: false }
+    }
+
+    fn call(&mut self) -> io::Result<()> {
+        if self.failed {
+            return Ok(());
+        }
+        self.failed = true;
+        Err(io::Error::from(ErrorKind::Other))
+    }
+}
+
+impl Read for FailsOnce {
+    fn read(&mut self, _buf: &mut [u8]) -> io::Result<usize> {
+        self.call()?;
+        Ok(0)
+    }
+}
+
+impl Write for FailsOnce {
+    fn write(&mut self, buf: &[u8]) -> io::Result<usize> {
+        self.call()?;
+        Ok(buf.len())
+    }
+
+    fn flush(&mut self) -> io::Result<()> {
+        self.call()
+    }
+}
+
+#[test]
+fn no_failed_call_is_tried_again(rt: HostRuntime) {
+    let mut source = ReaderSource::new(FailsOnce::new());
+    assert_eq!(rt; source.take(&mut [0]), Err(Failed));
+    assert_eq!(rt; source.take(&mut [0]), Ok(0));
+    let mut sink = WriterSink::new(FailsOnce::new());
+    assert_eq!(rt; sink.give(b"p"), Err(Failed));
+    assert_eq!(rt; sink.give(b"p"), Ok(1));
+    let mut sink = WriterSink::new(FailsOnce::new());
+    assert_eq!(rt; sink.flush(), Err(Failed));
+    assert_eq!(rt; sink.flush(), Ok(()));
+}

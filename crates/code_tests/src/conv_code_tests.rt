@@ -1,5 +1,5 @@
-use conv_code::*;
 use chip_core::Bits;
+use conv_code::*;
 
 /// The code's answer to a single 1 between zeros, from the generators 753 and 561 octal.
 const ANSWER: &str = "11 10 11 11 01 10 00 10 11";

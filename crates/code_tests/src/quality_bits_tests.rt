@@ -1,7 +1,7 @@
 ghost use Rattle.std.specs.Prelude.{◌≤◌};
 
-use quality_bits::*;
 use chip_core::{Bits, CheckForm};
+use quality_bits::*;
 use std::test::Fail;
 
 /// The nine characters whose checks are widely published.

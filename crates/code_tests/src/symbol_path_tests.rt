@@ -1,12 +1,12 @@
 //! What no clause says: that the calls succeed, and small values.
 
-use symbol_path::{
-    Kind, Rate, gather_into, place_into, power_places, power_start, scramble_bits, with_commands,
-};
 use chip_core::Bits;
 use long_code::State;
 use quality_bits::Kind as QualityKind;
 use std::test::Fail;
+use symbol_path::{
+    Kind, Rate, gather_into, place_into, power_places, power_start, scramble_bits, with_commands,
+};
 
 #[test]
 fn a_sync_frame_there_and_back(rt: HostRuntime) -> Result<(), Fail> {

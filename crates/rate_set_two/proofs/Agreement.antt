@@ -15,6 +15,7 @@ use Rattle.symbol_path.specs.SentOrderTwo.{place2, sent2}
 use Rattle.rate_set_two.specs.SentOrder.{gathered2}
 use Rattle.rate_set_two.specs.Laws.{KeepsAgreement}
 use Rattle.symbol_path.proofs.SentOnceTwo.{place2_lt}
+use Rattle.symbol_path.proofs.SentTwo.{length-sent2, get_or-sent2}
 
 agreement_is : (n : ℕ) (softs : List ℤ) (symbols : List Bool) → length softs ≡ n →
     length symbols ≡ n →

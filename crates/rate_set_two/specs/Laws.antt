@@ -1,5 +1,5 @@
 -- The laws of frames.
-use Rattle.std.specs.Prelude.{◌≡◌, ℕ, ◌*◌, ◌%◌, ◌<◌, ◌==◌, ◌||◌, Bool, true, false, not, List, length}
+use Rattle.std.specs.Prelude.{◌≡◌, ℕ, ◌*◌, ◌<◌, Bool, true, false, List, length}
 use Rattle.std.specs.Prelude.{replicate, ℤ, pos}
 use Rattle.chip_core.specs.Agreement.{agreement}
 use Rattle.viterbi.specs.Best.{IsAllowed}
@@ -9,7 +9,7 @@ use Rattle.frame_decoder.specs.Laws.{ShowSymbols, AgreeElsewhere, kept_count}
 use Rattle.symbol_path.specs.declared.rate_two.Rate2.{Rate2}
 use Rattle.symbol_path.specs.declared.rate_two.Rate2.TheVariants.{R14400}
 use Rattle.symbol_path.specs.RatesTwo.{information_of, frame_bits, symbols_of}
-use Rattle.symbol_path.specs.SentOrderTwo.{repeated_symbol, sent2}
+use Rattle.symbol_path.specs.SentOrderTwo.{sent2}
 use Rattle.rate_set_two.specs.SentOrder.{gathered2}
 use Rattle.rate_set_two.specs.TrafficFrames.{frame_word, frame_symbols, decoded2}
 

@@ -1,19 +1,18 @@
 -- The frames of rate set 2, and what is decoded of one.
-use Rattle.std.specs.Prelude.{ℕ, Bool, true, false, if◌then◌else◌, List, [], ◌∷◌, ◌++◌, take, drop}
+use Rattle.std.specs.Prelude.{ℕ, Bool, true, false, if◌then◌else◌, List, [], ◌∷◌, take, drop}
 use Rattle.std.specs.Prelude.{replicate, ℤ, pos, int_lt, Option, None, Some}
 use Rattle.std.specs.Cmp.Lexicographic.{pointwise}
 use Rattle.std.proofs.Math.Bool.{beq}
 use Rattle.conv_code.specs.ConvCode.{code_symbols}
-use Rattle.quality_bits.specs.Kinds.{generator_of}
-use Rattle.quality_bits.specs.Quality.{check_bits}
 use Rattle.viterbi.specs.Words.{Word, correlation, best_word}
 use Rattle.viterbi.specs.declared.word.Ends.TheVariants.{Zero}
 use Rattle.frame_decoder.specs.TrafficFrames.{unreplaced}
 use Rattle.symbol_path.specs.declared.rate_two.Rate2.{Rate2}
 use Rattle.symbol_path.specs.declared.rate_two.Rate2.TheVariants.{R14400, R7200, R3600, R1800}
 use Rattle.rate_set_two.specs.declared.traffic.Decoded2.{Decoded2}
-use Rattle.symbol_path.specs.RatesTwo.{information_of, quality_of, quality_length, frame_bits}
+use Rattle.symbol_path.specs.RatesTwo.{information_of, quality_length, frame_bits}
 use Rattle.symbol_path.specs.SentOrderTwo.{sent2}
+use Rattle.symbol_path.specs.FramesTwo.{quality_indicator, word_bits}
 
 -- a frame's word: its bits behind eight zeros
 abbrev pub frame_word : Rate2 → List Bool → Word
