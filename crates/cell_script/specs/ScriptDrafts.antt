@@ -6,7 +6,7 @@ use Rattle.cell_plan.specs.declared.plan.CellPlan.{CellPlan}
 use Rattle.cell_plan.specs.declared.plan.Page.{Page}
 use Rattle.cell_plan.specs.declared.plan.PagingPlan.{PagingPlan}
 use Rattle.cell_plan.specs.declared.frame_list.FrameList.{FrameList}
-use Rattle.cell_plan.specs.declared.frame_list.FrameList.TheVariants.{SetOne, SetTwo}
+use Rattle.cell_plan.specs.declared.frame_list.FrameList.TheVariants.{SetOne}
 use Rattle.cell_script.specs.declared.stage.Stage.{Stage}
 use Rattle.cell_script.specs.declared.stage.Stage.TheVariants.{Cell}
 use Rattle.cell_plan.specs.declared.plan.TrafficPlan.{TrafficPlan}
@@ -18,7 +18,7 @@ use Rattle.cell_script.specs.declared.statements.Statement.{Statement}
 use Rattle.cell_script.specs.declared.statements.Statement.TheVariants as statements
 use Rattle.cell_script.specs.ScriptLines.{statement_in}
 use Rattle.cell_script.specs.ScriptStages.{is_complete, next_stage}
-use Rattle.cell_plan.specs.TrafficFrames.{set_one, set_two}
+use Rattle.cell_plan.specs.TrafficFrames.{with_one, with_two}
 
 -- what stands for the parts of a plan that weren't stated yet
 abbrev pub empty_plan : CellPlan
