@@ -5,10 +5,6 @@ use Rattle.std.proofs.Math.Seq.{drop-append-add}
 use Rattle.chip_core.specs.Bits.{binary}
 use Rattle.chip_core.proofs.FieldLists.{length-binary}
 use Rattle.conv_code.specs.ConvCode.{code_symbols, state_after}
-use Rattle.quality_bits.specs.TrafficWords.{repeats_of}
-use Rattle.quality_bits.specs.declared.rate.Rate.{Rate}
-use Rattle.quality_bits.specs.declared.rate.Rate.TheVariants as rates
-use Rattle.cell_plan.specs.PageCycles.{paging_frame_size}
 use Rattle.cell_plan.specs.Sendings.{bits_before, continued_symbols}
 
 pub before-first : (bits : ℕ → List Bool) → binary 8 0 ≡ bits_before bits 0
@@ -50,22 +46,3 @@ coded bits k start frame code is before coded_is =
     ∙ ap (λ (b : List Bool). code_symbols (binary 8 start) b) is
     ∙ ap (λ (s : List Bool). code_symbols s (bits k)) before
     ∙ sym (continued_is bits k)
-
-
-eight_of : (rate : Rate) → 8 ≤ paging_frame_size rate
-eight_of rates.R9600 = omega arith
-eight_of rates.R4800 = omega arith
-eight_of rates.R2400 = omega arith
-eight_of rates.R1200 = omega arith
-
-few_of : (rate : Rate) → paging_frame_size rate ≤ 192
-few_of rates.R9600 = omega arith
-few_of rates.R4800 = omega arith
-few_of rates.R2400 = omega arith
-few_of rates.R1200 = omega arith
-
-filled_by : (rate : Rate) → 2 * paging_frame_size rate * repeats_of rate ≡ 384
-filled_by rates.R9600 = refl
-filled_by rates.R4800 = refl
-filled_by rates.R2400 = refl
-filled_by rates.R1200 = refl

@@ -16,6 +16,24 @@ use Rattle.cell_samples.specs.declared.frame_source.FrameSource.TheVariants.{Syn
 use Rattle.cell_plan.specs.Sendings.{bits_before, continued_symbols, sync_symbols}
 use Rattle.cell_samples.specs.Continued as continued
 
+eight_of : (rate : Rate) → 8 ≤ paging_frame_size rate
+eight_of rates.R9600 = omega arith
+eight_of rates.R4800 = omega arith
+eight_of rates.R2400 = omega arith
+eight_of rates.R1200 = omega arith
+
+few_of : (rate : Rate) → paging_frame_size rate ≤ 192
+few_of rates.R9600 = omega arith
+few_of rates.R4800 = omega arith
+few_of rates.R2400 = omega arith
+few_of rates.R1200 = omega arith
+
+filled_by : (rate : Rate) → 2 * paging_frame_size rate * repeats_of rate ≡ 384
+filled_by rates.R9600 = refl
+filled_by rates.R4800 = refl
+filled_by rates.R2400 = refl
+filled_by rates.R1200 = refl
+
 pub eight_bits : (source : FrameSource) → 8 ≤ continued.frame_size source
 eight_bits (Sync sent) = omega arith
 eight_bits (Paging cycle) = eight_of cycle.rate

@@ -6,6 +6,7 @@ use Rattle.cell_samples.specs.Channels.{carrier_of}
 use Rattle.cell_plan.specs.Signal.{sample_of}
 use Rattle.cell_plan.specs.Transmitter.{CellState}
 use Rattle.cell_plan.proofs.Amplitudes as amplitudes
+use Rattle.cell_samples.proofs.Running as running
 use Rattle.cell_samples.proofs.Running.{few_states, written_back}
 use Rattle.cell_samples.proofs.samples.CellSamples.next.Goals as goal
 
@@ -17,7 +18,7 @@ turned-sample-requires-clause-small c =
     omega (
       arith,
       amplitudes.chip_most s.plan chip (get_or s.block (chip % 64) origin)
-          (amplitudes.chip_in s.plan chip s.block i.sums),
+          (running.chip_in s.plan chip s.block i.sums),
       i.lawful.loud,
       amplitudes.most_part_small s.width,
     )
@@ -48,9 +49,9 @@ invariant_of-self c =
       sent = ap (map carrier_of) (written_back s.channels.items _ s.channels.len kept
           (ap length c.fill_block.ensures.same ∙ c.deref_mut.ensures.len)) ∙ i.sent;
       code = rw place
-          (amplitudes.phase_next s.plan chip s.phase c.next_phase-self-inside.result i.lawful.pn
+          (running.phase_next s.plan chip s.phase c.next_phase-self-inside.result i.lawful.pn
           i.code c.next_phase-self-inside.ensures.value);
-      sums = amplitudes.block_at s.plan (chip + 1) (s.plan.link.start + (s.given + 1))
+      sums = running.block_at s.plan (chip + 1) (s.plan.link.start + (s.given + 1))
           (map carrier_of channels)
           c.fill_block.new.sums
           (ap (map carrier_of) c.deref_mut.ensures.value
@@ -62,9 +63,9 @@ returns-then-place-eq-BLOCK-clause-value c =
     let s = c.self.inside in
     let i = c.self.invariant in
     let chip = s.plan.link.start + s.given in
-    amplitudes.sample_is s.plan s.given s.phase
+    running.sample_is s.plan s.given s.phase
     (get_or s.block (chip % 64) origin) c.turned-sample.result c.signs.result
-    (amplitudes.chip_in s.plan chip s.block i.sums) i.code c.signs.ensures
+    (running.chip_in s.plan chip s.block i.sums) i.code c.signs.ensures
     c.turned-sample.ensures.value
     ∙ ap (λ (v : CellState). sample_of v.plan v.given) c.self.view_is
 
@@ -76,7 +77,7 @@ returns-then-place-eq-BLOCK-clause-fits c =
     let turned = c.turned-sample in
     subst (λ (v : CellState). HasBits v.width turned.result) c.self.view_is
     (amplitudes.chip_fits s.width s.plan chip (get_or s.block (chip % 64) origin) turned.result
-    (amplitudes.chip_in s.plan chip s.block i.sums) i.lawful.loud turned.ensures.in_phase
+    (running.chip_in s.plan chip s.block i.sums) i.lawful.loud turned.ensures.in_phase
     turned.ensures.quadrature)
 
 pub returns-else-place-eq-BLOCK-clause-value : goal.returns-else-place-eq-BLOCK-clause-value
@@ -84,9 +85,9 @@ returns-else-place-eq-BLOCK-clause-value c =
     let s = c.self.inside in
     let i = c.self.invariant in
     let chip = s.plan.link.start + s.given in
-    amplitudes.sample_is s.plan s.given s.phase
+    running.sample_is s.plan s.given s.phase
     (get_or s.block (chip % 64) origin) c.turned-sample.result c.signs.result
-    (amplitudes.chip_in s.plan chip s.block i.sums) i.code c.signs.ensures
+    (running.chip_in s.plan chip s.block i.sums) i.code c.signs.ensures
     c.turned-sample.ensures.value
     ∙ ap (λ (v : CellState). sample_of v.plan v.given) c.self.view_is
 
@@ -98,5 +99,5 @@ returns-else-place-eq-BLOCK-clause-fits c =
     let turned = c.turned-sample in
     subst (λ (v : CellState). HasBits v.width turned.result) c.self.view_is
     (amplitudes.chip_fits s.width s.plan chip (get_or s.block (chip % 64) origin) turned.result
-    (amplitudes.chip_in s.plan chip s.block i.sums) i.lawful.loud turned.ensures.in_phase
+    (running.chip_in s.plan chip s.block i.sums) i.lawful.loud turned.ensures.in_phase
     turned.ensures.quadrature)
