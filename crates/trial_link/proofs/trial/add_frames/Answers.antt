@@ -1,4 +1,4 @@
-use Rattle.std.proofs.Common.{◌≡◌, ◌++◌, ℕ, List, sym, ap, ◌∙◌, arith, append-nil, rules, refl}
+use Rattle.std.proofs.Common.{◌≡◌, ◌++◌, ℕ, List, sym, ap, ◌∙◌, arith, append-nil}
 use Rattle.trial_link.specs.Spelling.{frame_text}
 use Rattle.trial_link.specs.Trial.{behind_frame, behind_frames, ended, frame_drawn, frame_lines}
 use Rattle.trial_link.specs.Trial.{frames_drawn}

@@ -1,4 +1,4 @@
-use Rattle.std.proofs.Common.{◌≡◌, ◌++◌, ◌∙◌, List, ℕ, ap}
+use Rattle.std.proofs.Common.{◌++◌, ◌∙◌, List, ℕ, ap}
 use Rattle.std.proofs.lemmas.Result.{IfOk-weaker}
 use Rattle.cell_plan.specs.declared.plan.Page.{Page}
 use Rattle.trial_link.specs.Spelling.{page_text}

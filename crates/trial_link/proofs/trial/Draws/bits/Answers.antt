@@ -1,5 +1,5 @@
 use Rattle.std.proofs.Common.{◌≡◌, ◌+◌, ◌%◌, ◌==◌, ◌++◌, ◌∷◌, [], length, sym, ap, ◌∙◌, arith}
-use Rattle.std.proofs.Common.{length-append, List, Bool, ℕ}
+use Rattle.std.proofs.Common.{List, Bool, ℕ}
 use Rattle.trial_link.specs.Trial.{behind_draw, behind_draws, bits_drawn, drawn}
 use Rattle.trial_link.proofs.TrialDraws.{bits_more, draws_more, length-bits_drawn, no_bits_drawn}
 use Rattle.trial_link.proofs.TrialDraws.{no_draws}
