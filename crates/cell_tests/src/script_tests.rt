@@ -1,51 +1,17 @@
 //! Scripts written by hand, and what they name.
 
-use cell_plan::{CellIdentity, CellPlan, LinkPlan, Page, PilotPlan, SyncPlan};
-use crate::plan_of;
-use cell_script::script_fault::ScriptFault;
-use cell_plan::Series;
+use crate::scripts::{
+    CELL, FaultyChannels, HALF, LAWFUL, LINK, Lines, NEXT, OTHER_PAGING, PAGING, PILOT, SYNC,
+    SYNC_1200, SYNC_2400, SYNC_4800, expect, expect_faulty, expect_lawful, expect_orders,
+    expect_refused, script_of, with_channels,
+};
 use cdma_io::Width;
+use cell_plan::{CellIdentity, CellPlan, LinkPlan, Page, PilotPlan, SyncPlan};
+use cell_script::{ScriptFault, plan_of};
 use chip_core::{Bits, CheckForm, Pair};
-use std::alloc::{AllocError, Global};
+use std::alloc::Global;
 use std::test::Fail;
 use sync_message::SyncFields;
-
-/// A lawful `cell` line.
-pub(super) const CELL: &str = "cell pn=511 time=1000 lc=20000000000 checks=0\n";
-
-/// A lawful `link` line.
-pub(super) const LINK: &str = "link re=0 im=-3 start=0 samples=1228800\n";
-
-/// A lawful `pilot` line.
-pub(super) const PILOT: &str = "pilot gain=100\n";
-
-/// A lawful `sync` line.
-pub(super) const SYNC: &str =
-    "sync gain=30 prev=3 min=1 sid=1 nid=2 lp=13 ltm=0 daylt=0 prat=0 rest=3:00\n";
-
-/// A `sync` line that tells paging channels of 4800 bits per second.
-pub(super) const SYNC_4800: &str =
-    "sync gain=30 prev=3 min=1 sid=1 nid=2 lp=13 ltm=0 daylt=0 prat=1 rest=3:00\n";
-
-/// One whose PRAT is 2.
-pub(super) const SYNC_2400: &str =
-    "sync gain=30 prev=3 min=1 sid=1 nid=2 lp=13 ltm=0 daylt=0 prat=2 rest=3:00\n";
-
-/// One whose PRAT is 3.
-pub(super) const SYNC_1200: &str =
-    "sync gain=30 prev=3 min=1 sid=1 nid=2 lp=13 ltm=0 daylt=0 prat=3 rest=3:00\n";
-
-/// A lawful `paging` line.
-pub(super) const PAGING: &str = "paging channel=1 gain=60\n";
-
-/// A lawful `paging` line of another channel.
-pub(super) const OTHER_PAGING: &str = "paging channel=7 gain=1\n";
-
-/// A lawful `page` line: a channel list of 9 octets.
-pub(super) const HALF: &str = "page half 34:04ff8046c0\n";
-
-/// The same page, right behind the one before.
-pub(super) const NEXT: &str = "page next 34:04ff8046c0\n";
 
 /// A page of 11 octets.
 const ELEVEN_OCTETS: &str = "page half 50:00000000000000\n";
@@ -552,7 +518,7 @@ const FAULTY_PLANS: [(&[&str], Width, ScriptFault); 20] = [
 ];
 
 /// Paging channels behind the lawful lines, with another link or pilot, and the fault.
-const FAULTY_CHANNELS: [(&str, &str, &[&str], ScriptFault); 14] = [
+const FAULTY_CHANNELS: [FaultyChannels; 14] = [
     (
         "link re=32767 im=-3 start=0 samples=1228800\n",
         PILOT,
@@ -666,74 +632,86 @@ const FOLLOWING_PAGES: [(&str, u16, bool); 6] = [
     (SYNC_4800, 48, true),
 ];
 
-/// The script of these lines.
-fn script_of(alloc: Global, lines: &[&str]) -> Result<String, AllocError> {
-    let mut script = String::new(alloc);
-    for line in lines {
-        script.push_str(*line)?;
+/// Plans at the ends of their bounds, and the width of their samples.
+const LARGEST_PLANS: [(&[&str], Width); 3] = [
+    (
+        &[
+            CELL,
+            "link re=32767 im=0 start=0 samples=1\n",
+            "pilot gain=1\n",
+        ],
+        Width::Sixteen,
+    ),
+    (
+        &[
+            CELL,
+            "link re=1 im=0 start=0 samples=33554432\n",
+            "pilot gain=32767\n",
+        ],
+        Width::Sixteen,
+    ),
+    (
+        &[
+            CELL,
+            "link re=1 im=0 start=0 samples=67108864\n",
+            "pilot gain=127\n",
+        ],
+        Width::Eight,
+    ),
+];
+
+/// The text of each fault.
+const SHOWN_FAULTS: [(ScriptFault, &str); 7] = [
+    (ScriptFault::Line { n: 12 }, "line 12"),
+    (ScriptFault::Walsh { row: 63 }, "walsh 63"),
+    (ScriptFault::Gain { row: 32 }, "gain 32"),
+    (ScriptFault::TooLoud { sum: 4260100 }, "too loud 4260100"),
+    (ScriptFault::TooLong { n: 33554433 }, "too long 33554433"),
+    (ScriptFault::OutOfMemory, "out of memory"),
+    (ScriptFault::TooBig, "too big"),
+];
+
+/// Whether a plan says this of its cell, its link, its pilot and its sync channel, and has no other
+/// channels.
+fn says(
+    plan: &CellPlan,
+    cell: &CellIdentity,
+    link: &LinkPlan,
+    gain: u16,
+    sync: Option<SyncPlan>,
+) -> bool {
+    plan.cell == *cell
+        && plan.link == *link
+        && plan.pilot == PilotPlan { gain }
+        && plan.sync == sync
+        && plan.paging.as_slice().is_empty()
+        && plan.traffic.as_slice().is_empty()
+}
+
+/// The bits of a number of up to 64 bits, the highest first.
+fn bits_of(count: u8, number: u64) -> Bits {
+    let mut bits = Bits::empty();
+    for place in 0..count {
+        let _ = bits.push(number >> ((count - 1 - place) % 64) & 1 == 1);
     }
-    Ok(script)
+    bits
 }
 
-/// Why the script of these lines names no cell.
-pub(super) fn fault_of(
-    alloc: Global,
-    lines: &[&str],
-    width: Width,
-) -> Result<Option<ScriptFault>, AllocError> {
-    let script = script_of(alloc, lines)?;
-    match plan_of(alloc, script.as_bytes(), width) {
-        Ok(_) => Ok(None),
-        Err(fault) => Ok(Some(fault)),
-    }
-}
-
-/// Whether a script names this plan.
-fn names(alloc: Global, script: &str, width: Width, plan: &CellPlan) -> bool {
-    let Ok(named) = plan_of(alloc, script.as_bytes(), width) else {
-        return false;
-    };
-    named.cell == plan.cell
-        && named.link == plan.link
-        && named.pilot == plan.pilot
-        && named.sync == plan.sync
-        && named.paging.as_slice().is_empty()
-        && named.traffic.as_slice().is_empty()
-}
-
-/// The plan of the lawful lines, with this sync channel.
-fn lawful_plan(alloc: Global, sync: Option<SyncPlan>) -> CellPlan {
-    CellPlan {
-        cell: CellIdentity {
-            pn: 511,
-            time: 1000,
-            lc: 0x200_0000_0000,
-            check30: CheckForm::Plain,
-            check16: CheckForm::Plain,
-        },
-        link: LinkPlan {
-            factor: Pair { i: 0, q: -3 },
-            start: 0,
-            samples: 1_228_800,
-        },
-        pilot: PilotPlan { gain: 100 },
-        sync,
-        paging: Series::new(alloc),
-        traffic: Series::new(alloc),
-    }
-}
-
-/// A script without a sync channel, and one with it.
+/// A script without a sync channel, and one with a message that has no frequency.
 #[test]
 fn names_a_cell(rt: HostRuntime) -> Result<(), Fail> {
-    let script = script_of(rt.alloc(), &[CELL, LINK, PILOT])?;
-    let alone = lawful_plan(rt.alloc(), None);
-    assert!(rt; names(rt.alloc(), script.as_str(), Width::Sixteen, &alone));
-
-    let mut rest = Bits::empty();
-    for _bit in 0..3 {
-        rest.push(false)?;
-    }
+    let cell = CellIdentity {
+        pn: 511,
+        time: 1000,
+        lc: 0x200_0000_0000,
+        check30: CheckForm::Plain,
+        check16: CheckForm::Plain,
+    };
+    let link = LinkPlan {
+        factor: Pair { i: 0, q: -3 },
+        start: 0,
+        samples: 1_228_800,
+    };
     let message = SyncFields {
         prev: 3,
         min: 1,
@@ -747,26 +725,40 @@ fn names_a_cell(rt: HostRuntime) -> Result<(), Fail> {
         daylt: 0,
         prat: 0,
         freq: None,
-        rest,
+        rest: bits_of(3, 0),
     };
     let sync = Some(SyncPlan { gain: 30, message });
-    let script = script_of(rt.alloc(), &[CELL, LINK, PILOT, SYNC])?;
-    let both = lawful_plan(rt.alloc(), sync);
-    assert!(rt; names(rt.alloc(), script.as_str(), Width::Sixteen, &both));
+    for (last, wanted) in [("", None), (SYNC, sync)] {
+        let script = script_of(rt.alloc(), &[CELL, LINK, PILOT, last])?;
+        let plan = plan_of(rt.alloc(), script.as_bytes(), Width::Sixteen)?;
+        assert!(rt; says(&plan, &cell, &link, 100, wanted));
+    }
     Ok(())
 }
 
 /// Each field of each statement goes to its own part of the plan.
 #[test]
 fn names_what_each_word_says(rt: HostRuntime) -> Result<(), Fail> {
-    let cell = "cell pn=12 time=34 lc=1aB000000c0 checks=2\n";
-    let link = "link re=-1 im=2 start=5 samples=6\n";
-    let sync =
-        "sync gain=8 prev=9 min=10 sid=11 nid=12 lp=13 ltm=14 daylt=1 prat=2 freq=15 rest=8:a5\n";
-    let mut rest = Bits::empty();
-    for bit in [true, false, true, false, false, true, false, true] {
-        rest.push(bit)?;
-    }
+    let lines = [
+        "cell pn=12 time=34 lc=1aB000000c0 checks=2\n",
+        "link re=-1 im=2 start=5 samples=6\n",
+        "pilot gain=7\n",
+        "sync gain=8 prev=9 min=10 sid=11 nid=12 lp=13 ltm=14 daylt=1 prat=2 freq=15 rest=8:a5\n",
+    ];
+    let script = script_of(rt.alloc(), &lines)?;
+    let plan = plan_of(rt.alloc(), script.as_bytes(), Width::Eight)?;
+    let cell = CellIdentity {
+        pn: 12,
+        time: 34,
+        lc: 0x1ab_0000_00c0,
+        check30: CheckForm::Plain,
+        check16: CheckForm::Complemented,
+    };
+    let link = LinkPlan {
+        factor: Pair { i: -1, q: 2 },
+        start: 5,
+        samples: 6,
+    };
     let message = SyncFields {
         prev: 9,
         min: 10,
@@ -780,28 +772,10 @@ fn names_what_each_word_says(rt: HostRuntime) -> Result<(), Fail> {
         daylt: 1,
         prat: 2,
         freq: Some(15),
-        rest,
+        rest: bits_of(8, 0xa5),
     };
-    let plan = CellPlan {
-        cell: CellIdentity {
-            pn: 12,
-            time: 34,
-            lc: 0x1ab_0000_00c0,
-            check30: CheckForm::Plain,
-            check16: CheckForm::Complemented,
-        },
-        link: LinkPlan {
-            factor: Pair { i: -1, q: 2 },
-            start: 5,
-            samples: 6,
-        },
-        pilot: PilotPlan { gain: 7 },
-        sync: Some(SyncPlan { gain: 8, message }),
-        paging: Series::new(rt.alloc()),
-        traffic: Series::new(rt.alloc()),
-    };
-    let script = script_of(rt.alloc(), &[cell, link, "pilot gain=7\n", sync])?;
-    assert!(rt; names(rt.alloc(), script.as_str(), Width::Eight, &plan));
+    let sync = Some(SyncPlan { gain: 8, message });
+    assert!(rt; says(&plan, &cell, &link, 7, sync));
     Ok(())
 }
 
@@ -809,47 +783,19 @@ fn names_what_each_word_says(rt: HostRuntime) -> Result<(), Fail> {
 #[test]
 fn admits_the_ends_of_ranges(rt: HostRuntime) -> Result<(), Fail> {
     let alloc = rt.alloc();
-    for line in LAWFUL_CELLS {
-        assert_eq!(rt;
-            fault_of(alloc, &[line, LINK, PILOT, SYNC], Width::Sixteen)?,
-            None,
-            "{line}"
-        );
+    for line in &LAWFUL_CELLS {
+        let script = script_of(alloc, &[*line, LINK, PILOT, SYNC])?;
+        expect(alloc, script.as_str(), Width::Sixteen, None)?;
     }
-    for line in LAWFUL_LINKS {
-        assert_eq!(rt;
-            fault_of(alloc, &[CELL, line, PILOT, SYNC], Width::Sixteen)?,
-            None,
-            "{line}"
-        );
+    for line in &LAWFUL_LINKS {
+        let script = script_of(alloc, &[CELL, *line, PILOT, SYNC])?;
+        expect(alloc, script.as_str(), Width::Sixteen, None)?;
     }
-    for line in LAWFUL_SYNCS {
-        assert_eq!(rt;
-            fault_of(alloc, &[CELL, LINK, PILOT, line], Width::Sixteen)?,
-            None,
-            "{line}"
-        );
+    expect_lawful(alloc, &LAWFUL_SYNCS, &[&[]])?;
+    for (lines, width) in &LARGEST_PLANS {
+        let script = script_of(alloc, *lines)?;
+        expect(alloc, script.as_str(), *width, None)?;
     }
-    for lines in [
-        [
-            CELL,
-            "link re=32767 im=0 start=0 samples=1\n",
-            "pilot gain=1\n",
-        ],
-        [
-            CELL,
-            "link re=1 im=0 start=0 samples=33554432\n",
-            "pilot gain=32767\n",
-        ],
-    ] {
-        assert_eq!(rt; fault_of(alloc, &lines, Width::Sixteen)?, None);
-    }
-    let widest = [
-        CELL,
-        "link re=1 im=0 start=0 samples=67108864\n",
-        "pilot gain=127\n",
-    ];
-    assert_eq!(rt; fault_of(alloc, &widest, Width::Eight)?, None);
     Ok(())
 }
 
@@ -857,42 +803,31 @@ fn admits_the_ends_of_ranges(rt: HostRuntime) -> Result<(), Fail> {
 #[test]
 fn refuses_lines(rt: HostRuntime) -> Result<(), Fail> {
     let alloc = rt.alloc();
-    for line in FAULTY_CELLS {
-        let fault = fault_of(alloc, &[line, LINK, PILOT, SYNC], Width::Sixteen)?;
-        assert_eq!(rt; fault, Some(ScriptFault::Line { n: 1 }), "{line}");
-    }
-    for line in FAULTY_LINKS {
-        let fault = fault_of(alloc, &[CELL, line, PILOT, SYNC], Width::Sixteen)?;
-        assert_eq!(rt; fault, Some(ScriptFault::Line { n: 2 }), "{line}");
-    }
-    for line in FAULTY_PILOTS {
-        let fault = fault_of(alloc, &[CELL, LINK, line, SYNC], Width::Sixteen)?;
-        assert_eq!(rt; fault, Some(ScriptFault::Line { n: 3 }), "{line}");
-    }
-    for line in FAULTY_SYNCS {
-        let fault = fault_of(alloc, &[CELL, LINK, PILOT, line], Width::Sixteen)?;
-        assert_eq!(rt; fault, Some(ScriptFault::Line { n: 4 }), "{line}");
-    }
-    Ok(())
+    expect_refused(alloc, &[], &FAULTY_CELLS, &[LINK, PILOT, SYNC], 1)?;
+    expect_refused(alloc, &[CELL], &FAULTY_LINKS, &[PILOT, SYNC], 2)?;
+    expect_refused(alloc, &[CELL, LINK], &FAULTY_PILOTS, &[SYNC], 3)?;
+    expect_refused(alloc, &[CELL, LINK, PILOT], &FAULTY_SYNCS, &[], 4)?;
+    let synced = [CELL, LINK, PILOT, SYNC];
+    expect_refused(alloc, &synced, &FAULTY_PAGINGS, &[HALF], 5)?;
+    let paging = [CELL, LINK, PILOT, SYNC, PAGING];
+    expect_refused(alloc, &paging, &FAULTY_PAGES, &[HALF], 6)
 }
 
 /// Lines that stand where they can't, or are missing.
 #[test]
 fn refuses_orders(rt: HostRuntime) -> Result<(), Fail> {
-    for (lines, n) in FAULTY_ORDERS {
-        let fault = fault_of(rt.alloc(), lines, Width::Sixteen)?;
-        assert_eq!(rt; fault, Some(ScriptFault::Line { n }));
-    }
-    Ok(())
+    expect_orders(rt.alloc(), &FAULTY_ORDERS)?;
+    expect_orders(rt.alloc(), &FAULTY_PAGING_ORDERS)
 }
 
 /// Plans that can't be sent, with the first of their faults.
 #[test]
 fn refuses_plans(rt: HostRuntime) -> Result<(), Fail> {
-    for (lines, width, fault) in FAULTY_PLANS {
-        assert_eq!(rt; fault_of(rt.alloc(), lines, width)?, Some(fault));
+    for (lines, width, fault) in &FAULTY_PLANS {
+        let script = script_of(rt.alloc(), *lines)?;
+        expect(rt.alloc(), script.as_str(), *width, Some(*fault))?;
     }
-    Ok(())
+    expect_faulty(rt.alloc(), &FAULTY_CHANNELS)
 }
 
 /// A script of just as many bytes as one may have, and one of a byte more.
@@ -907,31 +842,22 @@ fn refuses_a_big_script(rt: HostRuntime) -> Result<(), Fail> {
     Ok(())
 }
 
-/// The text of each fault.
 #[test]
 fn shows_faults(rt: HostRuntime) -> Result<(), Fail> {
-    for (fault, text) in [
-        (ScriptFault::Line { n: 12 }, "line 12"),
-        (ScriptFault::Walsh { row: 63 }, "walsh 63"),
-        (ScriptFault::Gain { row: 32 }, "gain 32"),
-        (ScriptFault::TooLoud { sum: 4260100 }, "too loud 4260100"),
-        (ScriptFault::TooLong { n: 33554433 }, "too long 33554433"),
-        (ScriptFault::OutOfMemory, "out of memory"),
-        (ScriptFault::TooBig, "too big"),
-    ] {
+    for (fault, text) in &SHOWN_FAULTS {
         let shown = format!(in rt.alloc(); "{fault}")?;
-        assert_eq!(rt; shown.as_str(), text);
+        assert_eq!(rt; shown.as_str(), *text);
     }
     Ok(())
 }
 
 /// A line with a page of so many octets whose type and bits are 0.
-fn zero_page(alloc: Global, word: &str, octets: u16) -> Result<String, Fail> {
+fn zero_page(alloc: Global, octets: u16) -> Result<String, Fail> {
     if octets < 6 || octets > 148 {
         return Err("no such page".into());
     }
     let bits = 8 * octets - 38;
-    let mut line = format!(in alloc; "page {word} {bits}:")?;
+    let mut line = format!(in alloc; "page half {bits}:")?;
     for _octet in 0..bits.div_ceil(8) {
         line.push_str("00")?;
     }
@@ -939,95 +865,35 @@ fn zero_page(alloc: Global, word: &str, octets: u16) -> Result<String, Fail> {
     Ok(line)
 }
 
-/// Paging statements that no script has.
-#[test]
-fn refuses_paging_lines(rt: HostRuntime) -> Result<(), Fail> {
-    let alloc = rt.alloc();
-    for line in FAULTY_PAGINGS {
-        let fault = fault_of(
-            alloc,
-            &[CELL, LINK, PILOT, SYNC, line, HALF],
-            Width::Sixteen,
-        )?;
-        assert_eq!(rt; fault, Some(ScriptFault::Line { n: 5 }), "{line}");
-    }
-    for line in FAULTY_PAGES {
-        let fault = fault_of(
-            alloc,
-            &[CELL, LINK, PILOT, SYNC, PAGING, line, HALF],
-            Width::Sixteen,
-        )?;
-        assert_eq!(rt; fault, Some(ScriptFault::Line { n: 6 }), "{line}");
-    }
-    Ok(())
-}
-
-/// Paging statements that stand where they can't, or are missing.
-#[test]
-fn refuses_paging_orders(rt: HostRuntime) -> Result<(), Fail> {
-    for (lines, n) in FAULTY_PAGING_ORDERS {
-        let fault = fault_of(rt.alloc(), lines, Width::Sixteen)?;
-        assert_eq!(rt; fault, Some(ScriptFault::Line { n }));
-    }
-    Ok(())
-}
-
-/// The script of the lawful lines, with a link and a pilot, and more lines behind them.
-pub(super) fn with_channels(
-    alloc: Global,
-    link: &str,
-    pilot: &str,
-    sync: &str,
-    channels: &[&str],
-) -> Result<String, AllocError> {
-    let mut script = script_of(alloc, &[CELL, link, pilot, sync])?;
-    script.push_str(script_of(alloc, channels)?.as_str())?;
-    Ok(script)
-}
-
-/// Paging channels that can be sent, at both rates.
+/// Paging channels that can be sent, at both rates, and with the greatest sum of gains.
 #[test]
 fn admits_paging_channels(rt: HostRuntime) -> Result<(), Fail> {
-    let alloc = rt.alloc();
-    for channels in LAWFUL_PAGINGS {
-        for sync in [SYNC, SYNC_4800] {
-            let script = with_channels(alloc, LINK, PILOT, sync, channels)?;
-            let fault = plan_of(alloc, script.as_bytes(), Width::Sixteen).err();
-            assert_eq!(rt; fault, None, "{script}");
-        }
-    }
-    let loudest = "link re=1 im=0 start=0 samples=1\n";
-    let script = with_channels(alloc, loudest, "pilot gain=32677\n", SYNC, &[PAGING, HALF])?;
-    assert!(rt; plan_of(alloc, script.as_bytes(), Width::Sixteen).is_ok());
-    Ok(())
-}
-
-/// Paging channels that can't be sent, with the first fault.
-#[test]
-fn refuses_paging_channels(rt: HostRuntime) -> Result<(), Fail> {
-    let alloc = rt.alloc();
-    for (link, pilot, channels, wanted) in FAULTY_CHANNELS {
-        let script = with_channels(alloc, link, pilot, SYNC, channels)?;
-        let fault = plan_of(alloc, script.as_bytes(), Width::Sixteen).err();
-        assert_eq!(rt; fault, Some(wanted), "{script}");
-    }
-    Ok(())
+    expect_lawful(rt.alloc(), &[SYNC, SYNC_4800], &LAWFUL_PAGINGS)?;
+    let loudest = Lines {
+        link: "link re=1 im=0 start=0 samples=1\n",
+        pilot: "pilot gain=32677\n",
+        sync: SYNC,
+    };
+    let script = with_channels(rt.alloc(), &loudest, &[PAGING, HALF])?;
+    expect(rt.alloc(), script.as_str(), Width::Sixteen, None)
 }
 
 /// A page that follows at once needs 8 body bits of its half-frame.
 #[test]
 fn pages_follow_in_half_frames(rt: HostRuntime) -> Result<(), Fail> {
-    let alloc = rt.alloc();
-    for (sync, octets, lawful) in FOLLOWING_PAGES {
-        let first = zero_page(alloc, "half", octets)?;
-        let script = with_channels(alloc, LINK, PILOT, sync, &[PAGING, first.as_str(), NEXT])?;
-        let fault = plan_of(alloc, script.as_bytes(), Width::Sixteen).err();
-        let wanted = if lawful {
+    for (sync, octets, lawful) in &FOLLOWING_PAGES {
+        let first = zero_page(rt.alloc(), *octets)?;
+        let lines = Lines {
+            sync: *sync,
+            ..LAWFUL
+        };
+        let script = with_channels(rt.alloc(), &lines, &[PAGING, first.as_str(), NEXT])?;
+        let wanted = if *lawful {
             None
         } else {
             Some(ScriptFault::Line { n: 7 })
         };
-        assert_eq!(rt; fault, wanted, "{octets}");
+        expect(rt.alloc(), script.as_str(), Width::Sixteen, wanted)?;
     }
     Ok(())
 }
@@ -1035,15 +901,13 @@ fn pages_follow_in_half_frames(rt: HostRuntime) -> Result<(), Fail> {
 /// A cycle of 77 half-frames and 99 octets has 8,193 bits, and one of an octet less has 8,185.
 #[test]
 fn refuses_a_long_cycle(rt: HostRuntime) -> Result<(), Fail> {
-    let alloc = rt.alloc();
     for (octets, wanted) in [(98, None), (99, Some(ScriptFault::Line { n: 83 }))] {
-        let mut script = with_channels(alloc, LINK, PILOT, SYNC, &[PAGING])?;
+        let mut script = with_channels(rt.alloc(), &LAWFUL, &[PAGING])?;
         for _page in 0..77u8 {
             script.push_str("page half 10:0000\n")?;
         }
-        script.push_str(zero_page(alloc, "half", octets)?.as_str())?;
-        let fault = plan_of(alloc, script.as_bytes(), Width::Sixteen).err();
-        assert_eq!(rt; fault, wanted);
+        script.push_str(zero_page(rt.alloc(), octets)?.as_str())?;
+        expect(rt.alloc(), script.as_str(), Width::Sixteen, wanted)?;
     }
     Ok(())
 }
@@ -1051,22 +915,18 @@ fn refuses_a_long_cycle(rt: HostRuntime) -> Result<(), Fail> {
 /// Each page goes to the channel that it stands behind.
 #[test]
 fn names_each_page(rt: HostRuntime) -> Result<(), Fail> {
-    let alloc = rt.alloc();
     let channels = [OTHER_PAGING, "page half 10:0000\n", NEXT, PAGING, HALF];
-    let script = with_channels(alloc, LINK, PILOT, SYNC, &channels)?;
-    let plan = plan_of(alloc, script.as_bytes(), Width::Sixteen)?;
-    let mut body = Bits::empty();
-    body.append_number(34, 0x04ff_8046_c0 >> 6);
-    let mut zeros = Bits::empty();
-    zeros.append_number(10, 0);
+    let script = with_channels(rt.alloc(), &LAWFUL, &channels)?;
+    let plan = plan_of(rt.alloc(), script.as_bytes(), Width::Sixteen)?;
     let [first, second] = plan.paging.as_slice() else {
         return Err("not two channels".into());
     };
     assert_eq!(rt; (first.number, first.gain), (7, 1));
     assert_eq!(rt; (second.number, second.gain), (1, 60));
+    let body = bits_of(34, 0x04ff_8046_c0 >> 6);
     let half = Page {
         follows: false,
-        body: zeros,
+        body: bits_of(10, 0),
     };
     let next = Page {
         follows: true,

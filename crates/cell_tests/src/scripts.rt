@@ -42,7 +42,7 @@ pub const HALF: &str = "page half 34:04ff8046c0\n";
 /// The same page, right behind the one before.
 pub const NEXT: &str = "page next 34:04ff8046c0\n";
 
-/// A whole script: its link, its pilot and its sync line, and what stands behind them.
+/// Three lines of a script: its link, its pilot and its sync line.
 #[derive(Clone, Copy)]
 pub struct Lines<'a> {
     /// The `link` line.
@@ -69,7 +69,7 @@ pub fn script_of(alloc: Global, lines: &[&str]) -> Result<String, AllocError> {
     Ok(script)
 }
 
-/// The script of a cell with these lines, and channels behind them.
+/// The script of the lawful cell with these lines, and channels behind them.
 pub fn with_channels(
     alloc: Global,
     lines: &Lines,
@@ -82,8 +82,8 @@ pub fn with_channels(
     Ok(script)
 }
 
-/// Fails unless a script is answered with this fault, or with none.
-pub fn expect_fault(
+/// Fails unless a script is answered so: by this fault, or by a plan.
+pub fn expect(
     alloc: Global,
     script: &str,
     width: Width,
@@ -93,5 +93,65 @@ pub fn expect_fault(
     if fault == wanted {
         return Ok(());
     }
-    Err(script.into())
+    Err(Fail::from(format!(in alloc; "{script}")?))
+}
+
+/// Fails unless each of these lines is refused between some lines and others, as the line of this
+/// number.
+pub fn expect_refused(
+    alloc: Global,
+    before: &[&str],
+    lines: &[&str],
+    after: &[&str],
+    n: u32,
+) -> Result<(), Fail> {
+    for line in lines {
+        let mut script = script_of(alloc, before)?;
+        script.push_str(*line)?;
+        script.push_str(script_of(alloc, after)?.as_str())?;
+        expect(alloc, script.as_str(), Width::Sixteen, Some(ScriptFault::Line { n }))?;
+    }
+    Ok(())
+}
+
+/// Fails unless each of these scripts is refused at its line.
+pub fn expect_orders(alloc: Global, orders: &[(&[&str], u32)]) -> Result<(), Fail> {
+    for (lines, n) in orders {
+        let script = script_of(alloc, *lines)?;
+        expect(alloc, script.as_str(), Width::Sixteen, Some(ScriptFault::Line { n: *n }))?;
+    }
+    Ok(())
+}
+
+/// A row of a table of plans that can't be sent: the link, the pilot and the channels behind the
+/// sync line, and the fault.
+pub type FaultyChannels = (&'static str, &'static str, &'static [&'static str], ScriptFault);
+
+/// Fails unless each of these scripts has its fault.
+pub fn expect_faulty(alloc: Global, rows: &[FaultyChannels]) -> Result<(), Fail> {
+    for (link, pilot, channels, wanted) in rows {
+        let lines = Lines {
+            link: *link,
+            pilot: *pilot,
+            sync: SYNC,
+        };
+        let script = with_channels(alloc, &lines, *channels)?;
+        expect(alloc, script.as_str(), Width::Sixteen, Some(*wanted))?;
+    }
+    Ok(())
+}
+
+/// Fails unless scripts with these channels are at no fault, whichever of some sync lines they have.
+pub fn expect_lawful(alloc: Global, syncs: &[&str], rows: &[&[&str]]) -> Result<(), Fail> {
+    for channels in rows {
+        for sync in syncs {
+            let lines = Lines {
+                sync: *sync,
+                ..LAWFUL
+            };
+            let script = with_channels(alloc, &lines, *channels)?;
+            expect(alloc, script.as_str(), Width::Sixteen, None)?;
+        }
+    }
+    Ok(())
 }

@@ -1,15 +1,13 @@
 //! Scripts with traffic channels, written by hand, and what they name.
 
-use cell_plan::FrameList;
-use crate::plan_of;
-use crate::tests::{
-    CELL, HALF, LINK, NEXT, OTHER_PAGING, PAGING, PILOT, SYNC, SYNC_1200, SYNC_2400, SYNC_4800,
-    fault_of, with_channels,
+use crate::scripts::{
+    CELL, FaultyChannels, HALF, LAWFUL, LINK, Lines, NEXT, OTHER_PAGING, PAGING, PILOT, SYNC,
+    SYNC_1200, SYNC_2400, SYNC_4800, expect, expect_faulty, expect_lawful, expect_orders,
+    expect_refused, with_channels,
 };
-use cell_script::script_fault::ScriptFault;
-use cell_plan::TrafficFrame;
-use cell_plan::TrafficFrame2;
 use cdma_io::Width;
+use cell_plan::{FrameList, TrafficFrame, TrafficFrame2};
+use cell_script::{ScriptFault, plan_of};
 use chip_core::Bits;
 use std::test::Fail;
 use symbol_path::{Rate, Rate2};
@@ -140,14 +138,30 @@ const FAULTY_FRAMES2: [&str; 20] = [
     "frame2 14400 126:00000000000000000000000000000000 0101010101010101\n",
 ];
 
-/// The frames of a channel, of both rate sets, and the number of the first line of the other set.
+/// Scripts with frames of both rate sets, and the number of the first line of the other set.
 const MIXED_FRAMES: [(&[&str], u32); 6] = [
-    (&[TRAFFIC, FRAME, FRAME2], 7),
-    (&[TRAFFIC, FRAME2, FRAME], 7),
-    (&[TRAFFIC, FRAME, FRAME, FRAME2], 8),
-    (&[TRAFFIC, FRAME2, FRAME2, FRAME], 8),
-    (&[TRAFFIC, FRAME, ROW_9, FRAME2, FRAME], 9),
-    (&[TRAFFIC, FRAME2, ROW_9, FRAME, FRAME2], 9),
+    (&[CELL, LINK, PILOT, SYNC, TRAFFIC, FRAME, FRAME2], 7),
+    (&[CELL, LINK, PILOT, SYNC, TRAFFIC, FRAME2, FRAME], 7),
+    (
+        &[CELL, LINK, PILOT, SYNC, TRAFFIC, FRAME, FRAME, FRAME2],
+        8,
+    ),
+    (
+        &[CELL, LINK, PILOT, SYNC, TRAFFIC, FRAME2, FRAME2, FRAME],
+        8,
+    ),
+    (
+        &[
+            CELL, LINK, PILOT, SYNC, TRAFFIC, FRAME, ROW_9, FRAME2, FRAME,
+        ],
+        9,
+    ),
+    (
+        &[
+            CELL, LINK, PILOT, SYNC, TRAFFIC, FRAME2, ROW_9, FRAME, FRAME2,
+        ],
+        9,
+    ),
 ];
 
 /// Scripts whose lines don't follow one another, and the number of the first that can't stand where
@@ -247,7 +261,7 @@ const SILENT_PAGING: &str = "paging channel=1 gain=0\n";
 const SILENT_PILOT: &str = "pilot gain=0\n";
 
 /// Links, pilots and channels of scripts whose lines state a plan, and its first fault.
-const FAULTY_CHANNELS: [(&str, &str, &[&str], ScriptFault); 27] = [
+const FAULTY_CHANNELS: [FaultyChannels; 27] = [
     (LINK, PILOT, &[ROW_0, FRAME], ScriptFault::Walsh { row: 0 }),
     (
         LINK,
@@ -438,73 +452,38 @@ const LAWFUL_TRAFFICS: [&[&str]; 14] = [
 #[test]
 fn refuses_traffic_lines(rt: HostRuntime) -> Result<(), Fail> {
     let alloc = rt.alloc();
-    for line in FAULTY_TRAFFICS {
-        let lines = [CELL, LINK, PILOT, SYNC, line, FRAME];
-        let fault = fault_of(alloc, &lines, Width::Sixteen)?;
-        assert_eq!(rt; fault, Some(ScriptFault::Line { n: 5 }), "{line}");
-    }
-    for line in FAULTY_FRAMES {
-        let lines = [CELL, LINK, PILOT, SYNC, TRAFFIC, line, FRAME];
-        let fault = fault_of(alloc, &lines, Width::Sixteen)?;
-        assert_eq!(rt; fault, Some(ScriptFault::Line { n: 6 }), "{line}");
-    }
-    Ok(())
-}
-
-/// Lines of rate set 2 that no script has, and channels with frames of both rate sets.
-#[test]
-fn refuses_frames_of_rate_set_two(rt: HostRuntime) -> Result<(), Fail> {
-    let alloc = rt.alloc();
-    for line in FAULTY_FRAMES2 {
-        let lines = [CELL, LINK, PILOT, SYNC, TRAFFIC, line, FRAME2];
-        let fault = fault_of(alloc, &lines, Width::Sixteen)?;
-        assert_eq!(rt; fault, Some(ScriptFault::Line { n: 6 }), "{line}");
-    }
-    for (channels, n) in MIXED_FRAMES {
-        let script = with_channels(alloc, LINK, PILOT, SYNC, channels)?;
-        let fault = plan_of(alloc, script.as_bytes(), Width::Sixteen).err();
-        assert_eq!(rt; fault, Some(ScriptFault::Line { n }), "{script}");
-    }
-    Ok(())
+    let synced = [CELL, LINK, PILOT, SYNC];
+    expect_refused(alloc, &synced, &FAULTY_TRAFFICS, &[FRAME], 5)?;
+    let traffic = [CELL, LINK, PILOT, SYNC, TRAFFIC];
+    expect_refused(alloc, &traffic, &FAULTY_FRAMES, &[FRAME], 6)?;
+    expect_refused(alloc, &traffic, &FAULTY_FRAMES2, &[FRAME2], 6)
 }
 
 /// Lines that stand where they can't, or are missing.
 #[test]
 fn refuses_traffic_orders(rt: HostRuntime) -> Result<(), Fail> {
-    for (lines, n) in FAULTY_ORDERS {
-        let fault = fault_of(rt.alloc(), lines, Width::Sixteen)?;
-        assert_eq!(rt; fault, Some(ScriptFault::Line { n }));
-    }
-    Ok(())
+    expect_orders(rt.alloc(), &FAULTY_ORDERS)?;
+    expect_orders(rt.alloc(), &MIXED_FRAMES)
 }
 
 /// Channels that can't be sent, with the first fault.
 #[test]
 fn refuses_traffic_channels(rt: HostRuntime) -> Result<(), Fail> {
-    let alloc = rt.alloc();
-    for (link, pilot, channels, wanted) in FAULTY_CHANNELS {
-        let script = with_channels(alloc, link, pilot, SYNC, channels)?;
-        let fault = plan_of(alloc, script.as_bytes(), Width::Sixteen).err();
-        assert_eq!(rt; fault, Some(wanted), "{script}");
-    }
-    Ok(())
+    expect_faulty(rt.alloc(), &FAULTY_CHANNELS)
 }
 
 /// Channels that can be sent, with any PRAT, and with the greatest sum of gains.
 #[test]
 fn admits_traffic_channels(rt: HostRuntime) -> Result<(), Fail> {
-    let alloc = rt.alloc();
-    for channels in LAWFUL_TRAFFICS {
-        for sync in [SYNC, SYNC_4800, SYNC_2400, SYNC_1200] {
-            let script = with_channels(alloc, LINK, PILOT, sync, channels)?;
-            let fault = plan_of(alloc, script.as_bytes(), Width::Sixteen).err();
-            assert_eq!(rt; fault, None, "{script}");
-        }
-    }
-    let channels = [PAGING, HALF, TRAFFIC, FRAME];
-    let script = with_channels(alloc, ONE, "pilot gain=32637\n", SYNC, &channels)?;
-    assert!(rt; plan_of(alloc, script.as_bytes(), Width::Sixteen).is_ok());
-    Ok(())
+    let syncs = [SYNC, SYNC_4800, SYNC_2400, SYNC_1200];
+    expect_lawful(rt.alloc(), &syncs, &LAWFUL_TRAFFICS)?;
+    let loudest = Lines {
+        link: ONE,
+        pilot: "pilot gain=32637\n",
+        sync: SYNC,
+    };
+    let script = with_channels(rt.alloc(), &loudest, &[PAGING, HALF, TRAFFIC, FRAME])?;
+    expect(rt.alloc(), script.as_str(), Width::Sixteen, None)
 }
 
 /// The bits of a number, the highest first.
@@ -530,7 +509,7 @@ fn names_each_frame(rt: HostRuntime) -> Result<(), Fail> {
         "traffic row=8 esn=00000009 offset=0 gain=50\n",
         "frame 1200 16:8001 0000000011111111\n",
     ];
-    let script = with_channels(alloc, LINK, PILOT, SYNC, &channels)?;
+    let script = with_channels(alloc, &LAWFUL, &channels)?;
     let plan = plan_of(alloc, script.as_bytes(), Width::Sixteen)?;
     assert_eq!(rt; plan.paging.as_slice().len(), 1);
     let [first, second] = plan.traffic.as_slice() else {
@@ -583,7 +562,7 @@ fn names_a_frame_of_rate_set_two(rt: HostRuntime) -> Result<(), Fail> {
         "traffic row=10 esn=0000abcd offset=0 gain=40\n",
         FRAME2,
     ];
-    let script = with_channels(alloc, LINK, PILOT, SYNC, &channels)?;
+    let script = with_channels(alloc, &LAWFUL, &channels)?;
     let plan = plan_of(alloc, script.as_bytes(), Width::Sixteen)?;
     let [_, second] = plan.traffic.as_slice() else {
         return Err("not two channels".into());

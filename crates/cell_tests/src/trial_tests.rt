@@ -1,7 +1,7 @@
 //! The script of a trial: its length and its first and last lines as a model outside this program
 //! has them.
 
-use crate::trial_script;
+use base_modulator::trial_script;
 use std::test::Fail;
 
 #[test]
