@@ -1,6 +1,6 @@
 -- The text of a clean link.
 use Rattle.std.proofs.Common.{◌≡◌, ◌⊎◌, inl, inr, refl, ℕ, ◌≤◌, List, [], ◌∷◌, ◌++◌, length, take}
-use Rattle.std.proofs.Common.{sym, ap, ◌∙◌, subst, pos, All, Option, Some, Ok, option_map}
+use Rattle.std.proofs.Common.{sym, ap, ◌∙◌, subst, pos, All, Option, Some, option_map}
 use Rattle.std.specs.Prelude.{is_some, nat_lt}
 use Rattle.chip_core.specs.declared.sample.Sample.{Sample}
 use Rattle.cdma_io.specs.SampleFile.{IsSampleFile}
@@ -10,20 +10,21 @@ use Rattle.pilot_search.specs.Near.{near_deltas}
 use Rattle.pilot_search.specs.Search.{best_phase, energy}
 use Rattle.pilot_search.proofs.BestPhase.{best_phase-is}
 use Rattle.pilot_search.proofs.NearPlaces.{one_delta}
-use Rattle.base_modulator.specs.Script.{plan_named}
-use Rattle.base_modulator.specs.Transmitter.{phase_at}
-use Rattle.base_modulator.specs.declared.plan.CellPlan.{CellPlan}
-use Rattle.base_modulator.proofs.NamedPlans.{named_plan, named_said}
+use Rattle.cell_plan.specs.Transmitter.{phase_at}
+use Rattle.cell_plan.specs.declared.plan.CellPlan.{CellPlan}
+use Rattle.cell_script.proofs.NamedPages.{named_receivable}
 use Rattle.event_tap.specs.Taps.{KeptTap, run_text}
 use Rattle.mobile_core.specs.Events.{events}
 use Rattle.mobile_core.specs.Marks.{mark}
 use Rattle.mobile_core.specs.declared.event.Event.{Event}
 use Rattle.mobile_core.specs.declared.event.Event.TheVariants.{Pilot}
 use Rattle.cdma_words.specs.Words.{IsPaging}
-use Rattle.base_modulator.specs.Sampled.{made_samples}
+use Rattle.cell_plan.specs.Sampled.{made_samples}
 use Rattle.mobile_core.specs.Tuning.{Tuning}
-use Rattle.clean_link.specs.CleanLink.{IsCellFile, IsCleanLink, IsNotDirected, IsOnPath}
-use Rattle.clean_link.specs.CleanLink.{IsReceivable, IsTunedTo}
+use Rattle.cdma_replay.specs.CleanFiles.{IsCellFile, IsCleanLink}
+use Rattle.clean_link.specs.CleanLink.{IsNotDirected, IsOnPath}
+use Rattle.cell_plan.specs.Stated.{IsReceivable}
+use Rattle.clean_link.specs.CleanLink.{IsTunedTo}
 use Rattle.clean_link.specs.CleanLink.{sync_sent}
 use Rattle.clean_link.specs.SentEvents.{FollowsSent, sent_events}
 use Rattle.clean_link.proofs.marks.MarksTrue.{marked_where_heard}
@@ -37,17 +38,6 @@ use Rattle.cdma_replay.specs.Tasks.{following}
 use Rattle.cdma_replay.specs.declared.handset.Receiver.{Receiver}
 use Rattle.cdma_replay.specs.declared.status.Status.{Status}
 use Rattle.cdma_replay.specs.declared.status.Status.TheVariants.{NoMemory}
-
--- what a script names can be received
-pub receivable : (width : Width) (script : List ℕ) (plan : CellPlan) →
-    plan_named width script ≡ Ok plan → IsReceivable width plan
-receivable width script plan named =
-    let both = named_plan width script plan named in
-    record {
-      lawful = both.0;
-      link = both.1;
-      pages = (named_said width script plan named).lawful.paging;
-    }
 
 -- one finger is on the best phase
 own_delta : (samples : List Sample) →
@@ -132,7 +122,7 @@ clean_events-are width script plan span fingers paging traffic header samples cl
     tuned width script plan span receiver header samples clean counted one in
     let heard : events t samples ≡ sent_events plan paging followed =
     ap (events t) clean.file.sent
-    ∙ messages_back width plan t (receivable width script plan clean.file.named) tuned_to follows
+    ∙ messages_back width plan t (named_receivable width script plan clean.file.named) tuned_to follows
     (undirected width script plan span receiver header samples clean tuned_to) in
     ap (λ (es : List Event). best_pilot first ∷ es) heard
     ∙ ap (λ (e : Event). e ∷ sent_events plan paging followed) (best_pilot-at first phase clean.file.found)
@@ -156,7 +146,7 @@ clean_end-is width script plan span workers fingers paging traffic header sample
     let told : is_some (mark t samples (length samples)) ≡ nat_lt 0 (length (sync_sent plan)) =
     ap (λ (n : ℕ). is_some (mark t samples n)) size
     ∙ ap (λ (s : List Sample). is_some (mark t s plan.link.samples)) clean.file.sent
-    ∙ marked_where_heard width plan t (receivable width script plan clean.file.named)
+    ∙ marked_where_heard width plan t (named_receivable width script plan clean.file.named)
     (tuned width script plan span receiver header samples clean counted one).path in
     ap end_when told
 

@@ -2,8 +2,8 @@
 use Rattle.std.proofs.Common.{◌≡◌, ℕ, ◌⊎◌, inl, inr, List, [], refl, sym, subst, Bool, true}
 use Rattle.std.proofs.Common.{false, Option, None, Some, IfSome, Result, Ok, Err, IsOk}
 use Rattle.cdma_io.specs.declared.file_fault.FileFault.{FileFault}
-use Rattle.base_modulator.specs.declared.script_fault.ScriptFault.{ScriptFault}
-use Rattle.base_modulator.specs.Script.{plan_named}
+use Rattle.cell_script.specs.declared.script_fault.ScriptFault.{ScriptFault}
+use Rattle.cell_script.specs.Script.{plan_named}
 use Rattle.event_tap.specs.Taps.{KeptTap}
 use Rattle.cdma_replay.specs.declared.receiving.Reception.{Reception}
 use Rattle.cdma_replay.specs.declared.status.Status.{Status}

@@ -7,11 +7,11 @@ use Rattle.std.proofs.lemmas.List.Elements.{filter-append}
 use Rattle.std.proofs.Math.Seq.{take-add}
 use Rattle.chip_core.specs.Complex.{of_sample}
 use Rattle.chip_core.specs.declared.sample.Sample.{Sample}
-use Rattle.base_modulator.specs.Sampled.{made_samples, sample_with}
-use Rattle.base_modulator.specs.Signal.{samples_of}
-use Rattle.base_modulator.specs.declared.plan.CellPlan.{CellPlan}
-use Rattle.base_modulator.specs.Transmitter.{CellState}
-use Rattle.base_modulator.specs.Trial.{trial_plan}
+use Rattle.cell_plan.specs.Sampled.{made_samples, sample_with}
+use Rattle.cell_plan.specs.Signal.{samples_of}
+use Rattle.cell_plan.specs.declared.plan.CellPlan.{CellPlan}
+use Rattle.cell_plan.specs.Transmitter.{CellState}
+use Rattle.trial_link.specs.Trial.{trial_plan}
 use Rattle.chip_core.specs.declared.width.Width.{Width}
 use Rattle.chip_core.specs.declared.width.Width.TheVariants.{Sixteen}
 use Rattle.pilot_search.specs.Search.{best_phase}

@@ -15,19 +15,19 @@ use Rattle.chip_core.specs.declared.sample.Sample.{Sample}
 use Rattle.chip_core.specs.declared.width.Width.{Width}
 use Rattle.cdma_io.specs.Outside.{AppendsPrefix}
 use Rattle.cdma_io.specs.SampleFile.{header_spelling, sample_spelling}
-use Rattle.base_modulator.specs.declared.plan.CellPlan.{CellPlan}
-use Rattle.base_modulator.specs.declared.script_fault.ScriptFault.{ScriptFault}
-use Rattle.base_modulator.specs.declared.script_fault.ScriptFault.TheVariants.{Line, Walsh, Gain}
-use Rattle.base_modulator.specs.declared.script_fault.ScriptFault.TheVariants.{TooLoud, TooLong}
-use Rattle.base_modulator.specs.declared.script_fault.ScriptFault.TheVariants.{OutOfMemory, TooBig}
-use Rattle.base_modulator.specs.Script.{named, plan_named, stated_plan}
-use Rattle.base_modulator.specs.Signal.{samples_of}
-use Rattle.base_modulator.specs.Transmitter.{header_of}
+use Rattle.cell_plan.specs.declared.plan.CellPlan.{CellPlan}
+use Rattle.cell_script.specs.declared.script_fault.ScriptFault.{ScriptFault}
+use Rattle.cell_script.specs.declared.script_fault.ScriptFault.TheVariants.{Line, Walsh, Gain}
+use Rattle.cell_script.specs.declared.script_fault.ScriptFault.TheVariants.{TooLoud, TooLong}
+use Rattle.cell_script.specs.declared.script_fault.ScriptFault.TheVariants.{OutOfMemory, TooBig}
+use Rattle.cell_script.specs.Script.{named, plan_named, stated_plan}
+use Rattle.cell_plan.specs.Signal.{samples_of}
+use Rattle.cell_plan.specs.Transmitter.{header_of}
 use Rattle.tuned_listener.proofs.Prefixes.{prefix_before, prefix_behind, prefix_of, taken_begins}
 use Rattle.cdma_replay.specs.declared.status.Status.TheVariants as Status
 use Rattle.cdma_replay.specs.Status.{script_status}
 use Rattle.clean_link.proofs.signal.Samples.{length-made}
-use Rattle.base_modulator.specs.Sampled.{made_samples, sample_with}
+use Rattle.cell_plan.specs.Sampled.{made_samples, sample_with}
 use Rattle.cdma_replay.specs.Make.{WritesNoMoreMade, made_file, piece_bytes, sample_bytes}
 
 -- ---- scripts

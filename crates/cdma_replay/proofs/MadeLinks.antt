@@ -17,23 +17,24 @@ use Rattle.cdma_io.specs.SampleFile.{most_samples, sample_spelling, width_of}
 use Rattle.chip_core.specs.declared.width.Width.{Width}
 use Rattle.chip_core.specs.declared.width.Width.TheVariants.{Sixteen, Eight}
 use Rattle.pilot_search.specs.Search.{best_phase}
-use Rattle.base_modulator.specs.declared.plan.CellPlan.{CellPlan}
-use Rattle.base_modulator.specs.Plan.{IsFreeOf, IsLawfulPlan, loudness, most_part}
-use Rattle.base_modulator.specs.Script.{plan_named}
-use Rattle.base_modulator.specs.Signal.{amplitudes, carriers, scaled}
-use Rattle.base_modulator.specs.Transmitter.{header_of, phase_at, version_of}
-use Rattle.base_modulator.proofs.Amplitudes.{chip_fits, signal_of_carriers}
-use Rattle.base_modulator.proofs.NamedPlans.{named_plan}
-use Rattle.base_modulator.proofs.Pieces.{no_sample}
+use Rattle.cell_plan.specs.declared.plan.CellPlan.{CellPlan}
+use Rattle.cell_plan.specs.Plan.{IsFreeOf, IsLawfulPlan, loudness, most_part}
+use Rattle.cell_script.specs.Script.{plan_named}
+use Rattle.cell_plan.specs.Signal.{amplitudes, carriers, scaled}
+use Rattle.cell_plan.specs.Transmitter.{header_of, phase_at, version_of}
+use Rattle.cell_plan.proofs.Amplitudes.{chip_fits, signal_of_carriers}
+use Rattle.cell_script.proofs.NamedPlans.{named_plan}
+use Rattle.cell_plan.proofs.Pieces.{no_sample}
 use Rattle.mobile_core.specs.Events.{events}
 use Rattle.chip_core.specs.declared.assignment.Traffic.{Traffic}
 use Rattle.cdma_words.specs.Words.{IsPaging}
-use Rattle.clean_link.specs.CleanLink.{IsCleanLink, IsNotDirected, IsTunedTo, tuning_to}
+use Rattle.cdma_replay.specs.CleanFiles.{IsCleanLink}
+use Rattle.clean_link.specs.CleanLink.{IsNotDirected, IsTunedTo, tuning_to}
 use Rattle.clean_link.specs.SentEvents.{FollowsSent, signaling_sent}
 use Rattle.clean_link.proofs.messages.NoDirections.{no_event_directed}
-use Rattle.base_modulator.specs.Sampled.{made_samples}
+use Rattle.cell_plan.specs.Sampled.{made_samples}
 use Rattle.cdma_replay.specs.Make.{made_file}
-use Rattle.cdma_replay.proofs.CleanTexts.{receivable}
+use Rattle.cell_script.proofs.NamedPages.{named_receivable}
 use Rattle.clean_link.proofs.signal.Samples.{length-made, made_at}
 
 -- ---- the header
@@ -185,4 +186,4 @@ pub made_clean_sent : (width : Width) (script : List ℕ) (plan : CellPlan) (spa
 made_clean_sent width script plan span paging traffic named found free one follows none =
     made_clean width script plan span paging traffic named found free
     (no_event_directed width plan (tuning_to plan paging traffic)
-    (receivable width script plan named) (made_tuned plan paging traffic free one) follows none)
+    (named_receivable width script plan named) (made_tuned plan paging traffic free one) follows none)

@@ -12,13 +12,13 @@ use Rattle.rake_finger.specs.declared.form.Form.TheVariants.{Data}
 use Rattle.listed_frame.specs.ListedFrames.{listed}
 use Rattle.listed_frame.proofs.SentFrames.{sent_frame_listed}
 use Rattle.rate_set_two.specs.TrafficFrames.{decoded2}
-use Rattle.base_modulator.specs.Sampled.{made_samples}
-use Rattle.base_modulator.specs.Signal.{frames_of}
-use Rattle.base_modulator.specs.TrafficFrames.{cycled_frame, frame_state, set_one, IsTrafficFrame}
-use Rattle.base_modulator.specs.declared.plan.CellPlan.{CellPlan}
-use Rattle.base_modulator.specs.declared.plan.TrafficPlan.{TrafficPlan}
-use Rattle.base_modulator.specs.declared.traffic_frame.TrafficFrame.{TrafficFrame}
-use Rattle.base_modulator.specs.declared.traffic_frame2.TrafficFrame2.{TrafficFrame2}
+use Rattle.cell_plan.specs.Sampled.{made_samples}
+use Rattle.cell_plan.specs.Signal.{frames_of}
+use Rattle.cell_plan.specs.TrafficFrames.{cycled_frame, frame_state, set_one, IsTrafficFrame}
+use Rattle.cell_plan.specs.declared.plan.CellPlan.{CellPlan}
+use Rattle.cell_plan.specs.declared.plan.TrafficPlan.{TrafficPlan}
+use Rattle.cell_plan.specs.declared.traffic_frame.TrafficFrame.{TrafficFrame}
+use Rattle.cell_plan.specs.declared.traffic_frame2.TrafficFrame2.{TrafficFrame2}
 use Rattle.event_tap.specs.EventLines.{event_line}
 use Rattle.event_tap.specs.FrameLines.{frame2_line}
 use Rattle.mobile_core.specs.FramesAlone.{traffic_channel}
@@ -29,7 +29,8 @@ use Rattle.mobile_core.specs.Tuning.{Tuning}
 use Rattle.mobile_core.specs.declared.mark.Mark.{Mark}
 use Rattle.chip_core.specs.declared.assignment.Traffic.{Traffic}
 use Rattle.mobile_core.specs.declared.soft_frame.SoftFrame.{SoftFrame}
-use Rattle.clean_link.specs.CleanLink.{soft_strength, IsOnPath, IsReceivable}
+use Rattle.clean_link.specs.CleanLink.{soft_strength, IsOnPath}
+use Rattle.cell_plan.specs.Stated.{IsReceivable}
 use Rattle.clean_link.specs.HeardFrames.{frame_ends, received_frames, replaced_of, sent_bits}
 use Rattle.clean_link.specs.HeardFrames.{sent_commands, word_symbols, IsAssigned}
 use Rattle.clean_link.specs.HeardFrames.{SendsSetOne, SendsSetTwo, SendsSymbols}
@@ -51,7 +52,8 @@ use Rattle.cdma_replay.specs.Hearing.{tuning_for}
 use Rattle.cdma_replay.specs.SentLines.{AreSentLines, IsLineOfSetOne, IsLineOfSetTwo, IsSentLine}
 use Rattle.cdma_replay.specs.SentLines.{IsSentLine2, IsSentText, LinesComeBack}
 use Rattle.cdma_replay.specs.SentLines.{ListedLinesComeBack, SetTwoLinesComeBack}
-use Rattle.cdma_replay.proofs.CleanTexts.{on_path, receivable}
+use Rattle.cdma_replay.proofs.CleanTexts.{on_path}
+use Rattle.cell_script.proofs.NamedPages.{named_receivable}
 
 -- ---- any frames
 
@@ -118,7 +120,7 @@ file_back : (form : TunedText) (line : SoftFrame → List ℕ) → IsLineByLine 
 file_back form line lines Sends Is Says behind back width script plan p span receiver traffic header
     samples file counted has assigned some =
     let t = tuning_for header (take span samples) receiver in
-    let is = receivable width script plan file.named in
+    let is = named_receivable width script plan file.named in
     let on = on_path width script plan span receiver header samples file counted in
     subst
     (λ (heard : List Sample). IsSentText plan p (Is plan p) (told_with_sync plan plan.sync)

@@ -12,3 +12,4 @@ pub mod SleepLaw
 pub mod Status
 pub mod Tasks
 pub mod Trials
+pub mod CleanFiles

@@ -3,15 +3,16 @@ use Rattle.std.specs.Prelude.{ℕ, ◌≡◌, List, take, All, Option, Ok}
 use Rattle.cdma_io.specs.SampleFile.{IsSampleFile}
 use Rattle.chip_core.specs.declared.width.Width.{Width}
 use Rattle.pilot_search.specs.Search.{best_phase}
-use Rattle.base_modulator.specs.Plan.{IsFreeOf}
-use Rattle.base_modulator.specs.Sampled.{made_samples}
-use Rattle.base_modulator.specs.Script.{plan_named}
-use Rattle.base_modulator.specs.Transmitter.{header_of, phase_at}
-use Rattle.base_modulator.specs.declared.plan.CellPlan.{CellPlan}
+use Rattle.cell_plan.specs.Plan.{IsFreeOf}
+use Rattle.cell_plan.specs.Sampled.{made_samples}
+use Rattle.cell_script.specs.Script.{plan_named}
+use Rattle.cell_plan.specs.Transmitter.{header_of, phase_at}
+use Rattle.cell_plan.specs.declared.plan.CellPlan.{CellPlan}
 use Rattle.mobile_core.specs.Events.{events}
 use Rattle.chip_core.specs.declared.assignment.Traffic.{Traffic}
 use Rattle.cdma_words.specs.Words.{IsPaging}
-use Rattle.clean_link.specs.CleanLink.{IsCleanLink, IsNotDirected, tuning_to}
+use Rattle.cdma_replay.specs.CleanFiles.{IsCleanLink}
+use Rattle.clean_link.specs.CleanLink.{IsNotDirected, tuning_to}
 use Rattle.clean_link.specs.SentEvents.{FollowsSent, signaling_sent}
 use Rattle.cdma_replay.specs.Make.{made_file}
 

@@ -10,10 +10,10 @@ use Rattle.cdma_io.specs.declared.file_fault.FileFault.TheVariants as file
 use Rattle.cdma_io.specs.declared.header.Header.{Header}
 use Rattle.chip_core.specs.declared.width.Width.{Width}
 use Rattle.cdma_io.specs.SampleFile.{IsSampleFile}
-use Rattle.base_modulator.specs.declared.plan.CellPlan.{CellPlan}
-use Rattle.base_modulator.specs.declared.script_fault.ScriptFault.{ScriptFault}
-use Rattle.base_modulator.specs.declared.script_fault.ScriptFault.TheVariants as script
-use Rattle.base_modulator.specs.Script.{plan_named}
+use Rattle.cell_plan.specs.declared.plan.CellPlan.{CellPlan}
+use Rattle.cell_script.specs.declared.script_fault.ScriptFault.{ScriptFault}
+use Rattle.cell_script.specs.declared.script_fault.ScriptFault.TheVariants as script
+use Rattle.cell_script.specs.Script.{plan_named}
 use Rattle.event_tap.specs.Taps.{KeptTap, kept_by}
 use Rattle.cdma_words.specs.declared.job.Job.{Job}
 use Rattle.cdma_replay.specs.declared.purpose.Purpose.{Purpose}

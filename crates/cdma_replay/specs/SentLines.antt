@@ -7,18 +7,18 @@ use Rattle.cdma_io.specs.declared.header.Header.{Header}
 use Rattle.chip_core.specs.declared.width.Width.{Width}
 use Rattle.frame_decoder.specs.declared.traffic.Decoded.{Decoded}
 use Rattle.rate_set_two.specs.declared.traffic.Decoded2.{Decoded2}
-use Rattle.base_modulator.specs.Signal.{frames_of}
-use Rattle.base_modulator.specs.TrafficFrames.{cycled_frame}
-use Rattle.base_modulator.specs.declared.plan.CellPlan.{CellPlan}
-use Rattle.base_modulator.specs.declared.plan.TrafficPlan.{TrafficPlan}
-use Rattle.base_modulator.specs.declared.traffic_frame.TrafficFrame.{TrafficFrame}
-use Rattle.base_modulator.specs.declared.traffic_frame2.TrafficFrame2.{TrafficFrame2}
+use Rattle.cell_plan.specs.Signal.{frames_of}
+use Rattle.cell_plan.specs.TrafficFrames.{cycled_frame}
+use Rattle.cell_plan.specs.declared.plan.CellPlan.{CellPlan}
+use Rattle.cell_plan.specs.declared.plan.TrafficPlan.{TrafficPlan}
+use Rattle.cell_plan.specs.declared.traffic_frame.TrafficFrame.{TrafficFrame}
+use Rattle.cell_plan.specs.declared.traffic_frame2.TrafficFrame2.{TrafficFrame2}
 use Rattle.event_tap.specs.EventLines.{event_line}
 use Rattle.event_tap.specs.FrameLines.{frame2_line}
 use Rattle.mobile_core.specs.FramesAlone.{traffic_channel}
 use Rattle.mobile_core.specs.TrafficEvents.{frame_event}
 use Rattle.chip_core.specs.declared.assignment.Traffic.{Traffic}
-use Rattle.clean_link.specs.CleanLink.{IsCellFile}
+use Rattle.cdma_replay.specs.CleanFiles.{IsCellFile}
 use Rattle.clean_link.specs.HeardFrames.{frame_ends, is_received, received_frames, replaced_of}
 use Rattle.clean_link.specs.HeardFrames.{sent_bits, sent_commands, sent_frame_event, IsAssigned}
 use Rattle.clean_link.specs.HeardFrames.{IsDistinctFrame, SendsSetOne, SendsSetTwo}

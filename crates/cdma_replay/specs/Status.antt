@@ -4,8 +4,8 @@ use Rattle.std.specs.Prelude.{ℕ, List, ◌++◌, codes, decimal, Option, None,
 use Rattle.cdma_io.specs.declared.file_fault.FileFault.{FileFault}
 use Rattle.cdma_io.specs.declared.file_fault.FileFault.TheVariants as file
 use Rattle.cdma_io.specs.SampleFile.{place_of}
-use Rattle.base_modulator.specs.declared.script_fault.ScriptFault.{ScriptFault}
-use Rattle.base_modulator.specs.declared.script_fault.ScriptFault.TheVariants as script
+use Rattle.cell_script.specs.declared.script_fault.ScriptFault.{ScriptFault}
+use Rattle.cell_script.specs.declared.script_fault.ScriptFault.TheVariants as script
 use Rattle.cdma_replay.specs.declared.status.Status.{Status}
 use Rattle.cdma_replay.specs.declared.status.Status.TheVariants.{Done, NoSync, BadWords, BadFile}
 use Rattle.cdma_replay.specs.declared.status.Status.TheVariants.{ReadFault, WriteFault, NoMemory}

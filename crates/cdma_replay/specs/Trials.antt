@@ -4,9 +4,9 @@ use Rattle.std.specs.Prelude.{length, filter, take, codes, decimal, Some}
 use Rattle.chip_core.specs.declared.sample.Sample.{Sample}
 use Rattle.chip_core.specs.declared.width.Width.TheVariants.{Sixteen}
 use Rattle.pilot_search.specs.Search.{best_phase}
-use Rattle.base_modulator.specs.Sampled.{made_samples}
-use Rattle.base_modulator.specs.Transmitter.{header_of}
-use Rattle.base_modulator.specs.Trial.{trial_plan, trial_serial_number}
+use Rattle.cell_plan.specs.Sampled.{made_samples}
+use Rattle.cell_plan.specs.Transmitter.{header_of}
+use Rattle.trial_link.specs.Trial.{trial_plan, trial_serial_number}
 use Rattle.mobile_core.specs.Events.{events}
 use Rattle.mobile_core.specs.Tuning.{Tuning}
 use Rattle.mobile_core.specs.declared.event.Event.{Event}

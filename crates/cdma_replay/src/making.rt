@@ -5,8 +5,8 @@ ghost use Rattle.std.specs.Prelude.{IsOk, IfOk, IfErr, OnOk, IfSome};
 ghost use Rattle.std.specs.Io.KnownBytes.{IsAtEnd};
 ghost use Rattle.cdma_io.specs.declared.file_fault.FileFault.{FileFault};
 ghost use Rattle.cdma_io.specs.Outside.{Rose};
-ghost use Rattle.base_modulator.specs.declared.script_fault.ScriptFault.{ScriptFault};
-ghost use Rattle.base_modulator.specs.Script.{plan_named};
+ghost use Rattle.cell_script.specs.declared.script_fault.ScriptFault.{ScriptFault};
+ghost use Rattle.cell_script.specs.Script.{plan_named};
 ghost use Rattle.cdma_replay.specs.Find.{ended};
 ghost use Rattle.cdma_replay.specs.Make.{WritesMadeFile, WritesNoMoreMade};
 

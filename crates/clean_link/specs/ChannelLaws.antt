@@ -6,12 +6,13 @@ use Rattle.rake_finger.specs.declared.form.Form.{Form}
 use Rattle.symbol_path.specs.SentOrder.{sent}
 use Rattle.viterbi.specs.Laws.{signed}
 use Rattle.chip_core.specs.declared.width.Width.{Width}
-use Rattle.base_modulator.specs.Sampled.{made_samples}
-use Rattle.base_modulator.specs.Sendings.{continued_symbols}
-use Rattle.base_modulator.specs.Signal.{Carrier, carriers}
-use Rattle.base_modulator.specs.declared.plan.CellPlan.{CellPlan}
+use Rattle.cell_plan.specs.Sampled.{made_samples}
+use Rattle.cell_plan.specs.Sendings.{continued_symbols}
+use Rattle.cell_plan.specs.Signal.{Carrier, carriers}
+use Rattle.cell_plan.specs.declared.plan.CellPlan.{CellPlan}
 use Rattle.mobile_core.specs.Streams.{Stream, frame_own_bits, frame_softs, is_in_file, span_first, span_frames}
-use Rattle.clean_link.specs.CleanLink.{IsReceivable, soft_strength}
+use Rattle.cell_plan.specs.Stated.{IsReceivable}
+use Rattle.clean_link.specs.CleanLink.{soft_strength}
 use Rattle.clean_link.specs.SentWords.{AreReadBy, IsOnlyBest, span_word}
 use Rattle.clean_link.specs.Signals.{IsFrameAt, IsFrameOf, IsHeardBy, path_finger}
 

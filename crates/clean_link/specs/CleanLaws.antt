@@ -5,17 +5,18 @@ use Rattle.chip_core.specs.Bits.{places}
 use Rattle.rake_finger.specs.declared.form.Form.TheVariants.{Sync}
 use Rattle.viterbi.specs.Laws.{signed}
 use Rattle.chip_core.specs.declared.width.Width.{Width}
-use Rattle.base_modulator.specs.Sampled.{made_samples}
-use Rattle.base_modulator.specs.Sendings.{sync_frame_bits, sync_symbols}
-use Rattle.base_modulator.specs.declared.plan.CellPlan.{CellPlan}
-use Rattle.base_modulator.specs.declared.plan.SyncPlan.{SyncPlan}
+use Rattle.cell_plan.specs.Sampled.{made_samples}
+use Rattle.cell_plan.specs.Sendings.{sync_frame_bits, sync_symbols}
+use Rattle.cell_plan.specs.declared.plan.CellPlan.{CellPlan}
+use Rattle.cell_plan.specs.declared.plan.SyncPlan.{SyncPlan}
 use Rattle.mobile_core.specs.Marks.{mark}
 use Rattle.mobile_core.specs.Streams.{frame_own_bits, frame_softs, is_in_file, span_first, span_frames}
 use Rattle.mobile_core.specs.SyncEvents.{sync_events_at}
 use Rattle.mobile_core.specs.Tuning.{Tuning, sync_stream}
 use Rattle.mobile_core.specs.declared.mark.Mark.{Mark}
 use Rattle.clean_link.specs.SentWords.{IsOnlyBest, span_word}
-use Rattle.clean_link.specs.CleanLink.{IsOnPath, IsReceivable, IsTrueMark, first_sync_frame, soft_strength, sync_sent}
+use Rattle.clean_link.specs.CleanLink.{IsOnPath, IsTrueMark, first_sync_frame, soft_strength, sync_sent}
+use Rattle.cell_plan.specs.Stated.{IsReceivable}
 
 -- the soft values of a received sync frame are one positive number times the signs of the symbols
 -- that were sent

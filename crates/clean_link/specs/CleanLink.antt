@@ -2,7 +2,7 @@
 -- handset has to hear in it.
 use Rattle.std.specs.Prelude.{ℕ, ◌+◌, ◌-◌, ◌*◌, ◌/◌, ◌%◌, ◌<◌, ◌≤◌, ◌≡◌, ◌&&◌, Bool}
 use Rattle.std.specs.Prelude.{if◌then◌else◌, nat_le, List, [], ◌∷◌, length, map, take, filter, pos}
-use Rattle.std.specs.Prelude.{All, Option, None, Some, Ok}
+use Rattle.std.specs.Prelude.{All, Option, None, Some}
 use Rattle.chip_core.specs.Bits.{places}
 use Rattle.chip_core.specs.Complex.{norm}
 use Rattle.chip_core.specs.declared.sample.Sample.{Sample}
@@ -14,15 +14,13 @@ use Rattle.rake_finger.specs.Soft.{symbol_chips, window_chips}
 use Rattle.rake_finger.specs.declared.form.Form.{Form}
 use Rattle.sync_message.specs.SyncMessage.{sync_capsule}
 use Rattle.sync_message.specs.declared.fields.SyncFields.{SyncFields}
-use Rattle.base_modulator.specs.Pages.{paging_rate}
-use Rattle.base_modulator.specs.Plan.{IsFreeOf, IsLawfulPlan}
-use Rattle.base_modulator.specs.Sampled.{made_samples}
-use Rattle.base_modulator.specs.Script.{plan_named}
-use Rattle.base_modulator.specs.ScriptPlans.{IsStatedPaging}
-use Rattle.base_modulator.specs.Sendings.{message_of, superframes_a_sending}
-use Rattle.base_modulator.specs.Transmitter.{phase_at}
-use Rattle.base_modulator.specs.declared.plan.CellPlan.{CellPlan}
-use Rattle.base_modulator.specs.declared.plan.SyncPlan.{SyncPlan}
+use Rattle.cell_plan.specs.Plan.{IsFreeOf}
+use Rattle.cell_plan.specs.Sampled.{made_samples}
+use Rattle.cell_plan.specs.Stated.{IsReceivable}
+use Rattle.cell_plan.specs.Sendings.{message_of, superframes_a_sending}
+use Rattle.cell_plan.specs.Transmitter.{phase_at}
+use Rattle.cell_plan.specs.declared.plan.CellPlan.{CellPlan}
+use Rattle.cell_plan.specs.declared.plan.SyncPlan.{SyncPlan}
 use Rattle.traffic_message.specs.declared.body.TrafficBody.{TrafficBody}
 use Rattle.traffic_message.specs.declared.body.TrafficBody.TheVariants as bodies
 use Rattle.mobile_core.specs.Events.{events}
@@ -67,33 +65,17 @@ tuning_to plan paging traffic = record {
   traffic = traffic;
 }
 
--- A file holds what a script's cell sends: its flags and samples are the cell's, the search finds
--- the cell's path, and there is one finger. The link's delay is in the chip at which the file
--- starts, its rotation and strength are in the factor.
-pub record IsCellFile (width : Width) (script : List ℕ) (plan : CellPlan) (span fingers : ℕ)
-    (header : Header) (samples : List Sample) : Type 0 where
-  pub named : plan_named width script ≡ Ok plan
+-- A file holds what a lawful cell sends: its flags and samples are the cell's, the search finds the
+-- cell's path, and there is one finger. The link's delay is in the chip at which the file starts,
+-- its rotation and strength are in the factor.
+pub record IsPlanFile (width : Width) (plan : CellPlan) (span fingers : ℕ) (header : Header)
+    (samples : List Sample) : Type 0 where
+  pub receivable : IsReceivable width plan
   pub sent : samples ≡ made_samples plan
   pub checks_of_30 : header.check30 ≡ plan.cell.check30
   pub checks_of_16 : header.check16 ≡ plan.cell.check16
   pub found : best_phase (take span samples) ≡ phase_at plan plan.link.start
   pub alone : fingers ≡ 1
-
--- It is a clean link where moreover no traffic channel has the row of the paging channel that is
--- followed, and no message that is heard of the traffic channel that is followed, if any, directs a
--- handoff.
-pub record IsCleanLink (width : Width) (script : List ℕ) (plan : CellPlan) (span : ℕ)
-    (fingers paging : ℕ) (traffic : Option Traffic) (header : Header)
-    (samples : List Sample) : Type 0 where
-  pub file : IsCellFile width script plan span fingers header samples
-  pub free : IsFreeOf plan.traffic paging
-  pub undirected : All IsNotDirected (events (tuning_to plan paging traffic) samples)
-
--- a lawful cell, with a link, whose pages are messages that half-frames carry
-pub record IsReceivable (width : Width) (plan : CellPlan) : Type 0 where
-  pub lawful : IsLawfulPlan width plan
-  pub link : 0 < norm plan.link.factor
-  pub pages : All (IsStatedPaging (paging_rate plan.sync)) plan.paging
 
 -- a handset with one finger, which lies on the cell's path
 pub record IsOnPath (plan : CellPlan) (t : Tuning) : Type 0 where

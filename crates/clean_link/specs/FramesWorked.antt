@@ -4,9 +4,9 @@ use Rattle.std.specs.Prelude.{map, replicate, pos, negsuc, None}
 use Rattle.chip_core.specs.Bits.{places}
 use Rattle.chip_core.specs.declared.check_form.CheckForm.TheVariants.{Plain}
 use Rattle.quality_bits.specs.declared.rate.Rate.TheVariants.{R1200, R2400}
-use Rattle.base_modulator.specs.declared.plan.CellPlan.{CellPlan}
-use Rattle.base_modulator.specs.declared.frame_list.FrameList.TheVariants.{SetOne}
-use Rattle.base_modulator.specs.declared.traffic_frame.TrafficFrame.{TrafficFrame}
+use Rattle.cell_plan.specs.declared.plan.CellPlan.{CellPlan}
+use Rattle.cell_plan.specs.declared.frame_list.FrameList.TheVariants.{SetOne}
+use Rattle.cell_plan.specs.declared.traffic_frame.TrafficFrame.{TrafficFrame}
 use Rattle.mobile_core.specs.Given.{at_of}
 use Rattle.mobile_core.specs.declared.event.Event.{Event}
 use Rattle.mobile_core.specs.declared.event.Event.TheVariants.{Frame, Paging, Pilot, Sets, Sync}

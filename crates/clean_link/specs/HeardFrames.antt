@@ -9,12 +9,12 @@ use Rattle.long_code.specs.LongCode.{traffic_mask}
 use Rattle.symbol_path.specs.Scrambling.{power_places}
 use Rattle.frame_decoder.specs.Laws.{frame_word, IsUnshared, ShowSymbols}
 use Rattle.frame_decoder.specs.TrafficFrames.{frame_symbols, is_replaced}
-use Rattle.base_modulator.specs.Signal.{frames_of}
-use Rattle.base_modulator.specs.TrafficFrames.{cycled_frame, frame_state, sent_with, set_one}
-use Rattle.base_modulator.specs.TrafficFrames.{set_two, traffic_frame_symbols}
-use Rattle.base_modulator.specs.declared.plan.CellPlan.{CellPlan}
-use Rattle.base_modulator.specs.declared.plan.TrafficPlan.{TrafficPlan}
-use Rattle.base_modulator.specs.declared.traffic_frame.TrafficFrame.{TrafficFrame}
+use Rattle.cell_plan.specs.Signal.{frames_of}
+use Rattle.cell_plan.specs.TrafficFrames.{cycled_frame, frame_state, sent_with, set_one}
+use Rattle.cell_plan.specs.TrafficFrames.{set_two, traffic_frame_symbols}
+use Rattle.cell_plan.specs.declared.plan.CellPlan.{CellPlan}
+use Rattle.cell_plan.specs.declared.plan.TrafficPlan.{TrafficPlan}
+use Rattle.cell_plan.specs.declared.traffic_frame.TrafficFrame.{TrafficFrame}
 use Rattle.rake_finger.specs.declared.finger.Finger.{Finger}
 use Rattle.mobile_core.specs.declared.event.Event.{Event}
 use Rattle.mobile_core.specs.declared.event.Event.TheVariants.{Frame}

@@ -12,17 +12,18 @@ use Rattle.quality_bits.specs.declared.kind.Kind.TheVariants.{M30}
 use Rattle.paging_message.specs.HalfFrames.{half_frame_body}
 use Rattle.paging_message.specs.Reading.{message_at, number_at}
 use Rattle.paging_message.specs.declared.message.PagingMessage.{PagingMessage}
-use Rattle.base_modulator.specs.Pages.{paging_rate}
-use Rattle.base_modulator.specs.Plan.{IsFreeOf}
-use Rattle.base_modulator.specs.Sampled.{made_samples}
-use Rattle.base_modulator.specs.ScriptPlans.{IsStatedPaging}
-use Rattle.base_modulator.specs.declared.plan.CellPlan.{CellPlan}
-use Rattle.base_modulator.specs.declared.plan.PagingPlan.{PagingPlan}
-use Rattle.base_modulator.specs.declared.plan.SyncPlan.{SyncPlan}
+use Rattle.cell_plan.specs.Pages.{paging_rate}
+use Rattle.cell_plan.specs.Plan.{IsFreeOf}
+use Rattle.cell_plan.specs.Sampled.{made_samples}
+use Rattle.cell_plan.specs.Stated.{IsStatedPaging}
+use Rattle.cell_plan.specs.declared.plan.CellPlan.{CellPlan}
+use Rattle.cell_plan.specs.declared.plan.PagingPlan.{PagingPlan}
+use Rattle.cell_plan.specs.declared.plan.SyncPlan.{SyncPlan}
 use Rattle.mobile_core.specs.PagingEvents.{pages_behind, with_page}
 use Rattle.mobile_core.specs.Tuning.{Tuning}
 use Rattle.mobile_core.specs.declared.mark.Mark.{Mark}
-use Rattle.clean_link.specs.CleanLink.{heard_behind, IsOnPath, IsReceivable, IsTrueMark}
+use Rattle.clean_link.specs.CleanLink.{heard_behind, IsOnPath, IsTrueMark}
+use Rattle.cell_plan.specs.Stated.{IsReceivable}
 use Rattle.clean_link.specs.WholePages.{cycle_half_frames, is_whole_page, placed, Placed}
 
 -- a page, and the number of samples at which it is known

@@ -7,9 +7,9 @@ use Rattle.quality_bits.specs.Capsules.{capsule}
 use Rattle.quality_bits.specs.Quality.{check_bits}
 use Rattle.paging_message.specs.Laying.{fill, framed, half_frames_of, laid_on}
 use Rattle.paging_message.specs.Reading.{number_at}
-use Rattle.base_modulator.specs.Pages.{page_cycle}
-use Rattle.base_modulator.specs.declared.plan.CellPlan.{CellPlan}
-use Rattle.base_modulator.specs.declared.plan.Page.{Page}
+use Rattle.cell_plan.specs.Pages.{page_cycle}
+use Rattle.cell_plan.specs.declared.plan.CellPlan.{CellPlan}
+use Rattle.cell_plan.specs.declared.plan.Page.{Page}
 use Rattle.clean_link.specs.HeardPages.{KnownPage, pages_sent}
 
 -- nine octets with a message type

@@ -3,9 +3,9 @@ use Rattle.std.specs.Prelude.{ℕ, ◌+◌, ◌-◌, ◌*◌, ◌/◌, ◌≤◌
 use Rattle.chip_core.specs.declared.check_form.CheckForm.{CheckForm}
 use Rattle.quality_bits.specs.declared.rate.Rate.{Rate}
 use Rattle.paging_message.specs.HalfFrames.{half_frame_body}
-use Rattle.base_modulator.specs.PageCycles.{cycled, paging_frame_size}
-use Rattle.base_modulator.specs.Pages.{page_cycle}
-use Rattle.base_modulator.specs.declared.plan.Page.{Page}
+use Rattle.cell_plan.specs.PageCycles.{cycled, paging_frame_size}
+use Rattle.cell_plan.specs.Pages.{page_cycle}
+use Rattle.cell_plan.specs.declared.plan.Page.{Page}
 use Rattle.clean_link.specs.WholePages.{capsules_with_frames, cycle_half_frames, sendings_between}
 use Rattle.clean_link.specs.WholePages.{whole_page_sendings, AreWholePages}
 

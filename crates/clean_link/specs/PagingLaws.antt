@@ -8,21 +8,22 @@ use Rattle.symbol_path.specs.SentOrder.{data_shape, sent}
 use Rattle.quality_bits.specs.TrafficWords.{repeats_of}
 use Rattle.viterbi.specs.Laws.{signed}
 use Rattle.chip_core.specs.declared.width.Width.{Width}
-use Rattle.base_modulator.specs.PageCycles.{Cycle, cycle_frame_bits}
-use Rattle.base_modulator.specs.Plan.{IsFreeOf}
-use Rattle.base_modulator.specs.Sampled.{made_samples}
-use Rattle.base_modulator.specs.Sendings.{continued_symbols}
-use Rattle.base_modulator.specs.Signal.{cycle_of}
-use Rattle.base_modulator.specs.declared.plan.CellPlan.{CellPlan}
-use Rattle.base_modulator.specs.declared.plan.PagingPlan.{PagingPlan}
-use Rattle.base_modulator.specs.declared.plan.SyncPlan.{SyncPlan}
+use Rattle.cell_plan.specs.PageCycles.{Cycle, cycle_frame_bits}
+use Rattle.cell_plan.specs.Plan.{IsFreeOf}
+use Rattle.cell_plan.specs.Sampled.{made_samples}
+use Rattle.cell_plan.specs.Sendings.{continued_symbols}
+use Rattle.cell_plan.specs.Signal.{cycle_of}
+use Rattle.cell_plan.specs.declared.plan.CellPlan.{CellPlan}
+use Rattle.cell_plan.specs.declared.plan.PagingPlan.{PagingPlan}
+use Rattle.cell_plan.specs.declared.plan.SyncPlan.{SyncPlan}
 use Rattle.mobile_core.specs.Marks.{mark}
 use Rattle.mobile_core.specs.PagingStreams.{paging_stream}
 use Rattle.mobile_core.specs.Streams.{frame_own_bits, frame_softs, is_in_file, span_first}
 use Rattle.mobile_core.specs.Streams.{span_frames}
 use Rattle.mobile_core.specs.Tuning.{Tuning}
 use Rattle.mobile_core.specs.declared.mark.Mark.{Mark}
-use Rattle.clean_link.specs.CleanLink.{IsOnPath, IsReceivable, IsTrueMark, soft_strength}
+use Rattle.clean_link.specs.CleanLink.{IsOnPath, IsTrueMark, soft_strength}
+use Rattle.cell_plan.specs.Stated.{IsReceivable}
 use Rattle.clean_link.specs.SentWords.{IsOnlyBest, span_word}
 
 -- ---- channels that are sent

@@ -5,18 +5,19 @@ use Rattle.std.specs.List.{Contains, flat_map}
 use Rattle.chip_core.specs.Bits.{places}
 use Rattle.chip_core.specs.declared.width.Width.{Width}
 use Rattle.sync_message.specs.declared.fields.SyncFields.{SyncFields}
-use Rattle.base_modulator.specs.Sampled.{made_samples}
-use Rattle.base_modulator.specs.Sendings.{told_superframes}
-use Rattle.base_modulator.specs.declared.plan.CellPlan.{CellPlan}
-use Rattle.base_modulator.specs.declared.plan.SyncPlan.{SyncPlan}
-use Rattle.base_modulator.specs.declared.plan.TrafficPlan.{TrafficPlan}
+use Rattle.cell_plan.specs.Sampled.{made_samples}
+use Rattle.cell_plan.specs.Sendings.{told_superframes}
+use Rattle.cell_plan.specs.declared.plan.CellPlan.{CellPlan}
+use Rattle.cell_plan.specs.declared.plan.SyncPlan.{SyncPlan}
+use Rattle.cell_plan.specs.declared.plan.TrafficPlan.{TrafficPlan}
 use Rattle.mobile_core.specs.Events.{events, sets_events_at}
 use Rattle.mobile_core.specs.Given.{at_of}
 use Rattle.mobile_core.specs.Tuning.{Tuning}
 use Rattle.mobile_core.specs.declared.event.Event.{Event}
 use Rattle.mobile_core.specs.declared.event.Event.TheVariants.{Paging}
 use Rattle.chip_core.specs.declared.assignment.Traffic.{Traffic}
-use Rattle.clean_link.specs.CleanLink.{IsNotDirected, IsReceivable, IsTunedTo, sync_sent}
+use Rattle.clean_link.specs.CleanLink.{IsNotDirected, IsTunedTo, sync_sent}
+use Rattle.cell_plan.specs.Stated.{IsReceivable}
 use Rattle.clean_link.specs.CleanLink.{tuning_to, whole_sendings}
 use Rattle.clean_link.specs.HeardFrames.{frames_sent, AreDistinct, IsAssigned, SendsSetOne}
 use Rattle.clean_link.specs.HeardPages.{KnownPage, pages_sent}

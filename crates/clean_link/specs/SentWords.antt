@@ -11,8 +11,8 @@ use Rattle.viterbi.specs.Words.{Word}
 use Rattle.viterbi.specs.Best.{IsAllowed}
 use Rattle.viterbi.specs.declared.word.Ends.TheVariants.{Free}
 use Rattle.frame_decoder.specs.Spans.{Channel, score, sending}
-use Rattle.base_modulator.specs.Sendings.{bits_before, continued_symbols}
-use Rattle.base_modulator.specs.Signal.{Carrier}
+use Rattle.cell_plan.specs.Sendings.{bits_before, continued_symbols}
+use Rattle.cell_plan.specs.Signal.{Carrier}
 use Rattle.mobile_core.specs.Scrambled.{Scrambles}
 use Rattle.mobile_core.specs.Streams.{Stream, frame_softs, span_first, span_frames}
 

@@ -3,9 +3,9 @@ use Rattle.std.specs.Prelude.{ℕ, ◌+◌, ◌*◌, ◌%◌, ◌<◌, ◌≤◌
 use Rattle.rake_finger.specs.Soft as soft
 use Rattle.rake_finger.specs.declared.finger.Finger.{Finger}
 use Rattle.rake_finger.specs.declared.form.Form.{Form}
-use Rattle.base_modulator.specs.Signal.{Carrier, level}
-use Rattle.base_modulator.specs.Transmitter.{phase_at}
-use Rattle.base_modulator.specs.declared.plan.CellPlan.{CellPlan}
+use Rattle.cell_plan.specs.Signal.{Carrier, level}
+use Rattle.cell_plan.specs.Transmitter.{phase_at}
+use Rattle.cell_plan.specs.declared.plan.CellPlan.{CellPlan}
 use Rattle.mobile_core.specs.Streams.{Stream}
 
 -- ---- channels that can be told apart

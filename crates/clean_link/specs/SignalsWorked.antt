@@ -12,9 +12,9 @@ use Rattle.traffic_message.specs.Multiplex.{split, split_9600}
 use Rattle.traffic_message.specs.Reading.{body_reading, head_at, head_of, is_body, part_reading}
 use Rattle.traffic_message.specs.Reading.{traffic_reading}
 use Rattle.traffic_message.specs.declared.body.TrafficBody.TheVariants.{Other}
-use Rattle.base_modulator.specs.declared.plan.CellPlan.{CellPlan}
-use Rattle.base_modulator.specs.declared.frame_list.FrameList.TheVariants.{SetOne}
-use Rattle.base_modulator.specs.declared.traffic_frame.TrafficFrame.{TrafficFrame}
+use Rattle.cell_plan.specs.declared.plan.CellPlan.{CellPlan}
+use Rattle.cell_plan.specs.declared.frame_list.FrameList.TheVariants.{SetOne}
+use Rattle.cell_plan.specs.declared.traffic_frame.TrafficFrame.{TrafficFrame}
 use Rattle.mobile_core.specs.declared.event.Event.TheVariants.{Traffic}
 use Rattle.clean_link.specs.HeardSignals.{messages_sent}
 

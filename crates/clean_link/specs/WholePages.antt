@@ -10,9 +10,9 @@ use Rattle.quality_bits.specs.Capsules.{capsule}
 use Rattle.quality_bits.specs.declared.kind.Kind.TheVariants.{M30}
 use Rattle.quality_bits.specs.declared.rate.Rate.{Rate}
 use Rattle.paging_message.specs.HalfFrames.{half_frame_body, half_frame_capsule_ending}
-use Rattle.base_modulator.specs.Pages.{page_cycle, AreSendable}
-use Rattle.base_modulator.specs.ScriptPlans.{AreHeard}
-use Rattle.base_modulator.specs.declared.plan.Page.{Page}
+use Rattle.cell_plan.specs.Pages.{page_cycle, AreSendable}
+use Rattle.cell_plan.specs.Stated.{AreHeard}
+use Rattle.cell_plan.specs.declared.plan.Page.{Page}
 
 -- ---- what is heard
 

@@ -7,7 +7,7 @@ use Rattle.chip_core.specs.Bits.{binary, places}
 use Rattle.rake_finger.specs.declared.form.Form.TheVariants.{Sync, Data}
 use Rattle.sync_message.specs.SyncMessage.{sync_body, sync_capsule}
 use Rattle.sync_message.specs.declared.fields.SyncFields.{SyncFields}
-use Rattle.base_modulator.specs.declared.plan.CellPlan.{CellPlan}
+use Rattle.cell_plan.specs.declared.plan.CellPlan.{CellPlan}
 use Rattle.clean_link.specs.CleanLink.{first_sync_frame, heard_behind, sending_ends, soft_strength, whole_sendings}
 
 -- 25 octets, and so nine frames of which seven have bits of it

@@ -7,8 +7,8 @@ use Rattle.quality_bits.specs.Quality.{check_bits}
 use Rattle.quality_bits.specs.declared.kind.Kind.TheVariants.{M30}
 use Rattle.quality_bits.specs.declared.rate.Rate.TheVariants.{R9600}
 use Rattle.paging_message.specs.Laying.{fill, framed, half_frames_of, laid_on}
-use Rattle.base_modulator.specs.Pages.{page_cycle}
-use Rattle.base_modulator.specs.declared.plan.Page.{Page}
+use Rattle.cell_plan.specs.Pages.{page_cycle}
+use Rattle.cell_plan.specs.declared.plan.Page.{Page}
 use Rattle.clean_link.specs.WholePages.{cycle_half_frames, sendings_between, whole_page_sendings}
 
 -- The second page follows the first, 48 and 56 bits in two half-frames, and the third begins a run

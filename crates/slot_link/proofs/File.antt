@@ -11,11 +11,11 @@ use Rattle.chip_core.proofs.Ranges.{filter_enough, filter_ext_places, filter_non
 use Rattle.chip_core.proofs.Ranges.{flat_map_ext_filter_places}
 use Rattle.chip_core.specs.declared.width.Width.{Width}
 use Rattle.slot_mode.specs.Slots.{is_monitored}
-use Rattle.base_modulator.specs.Pages.{paging_rate}
-use Rattle.base_modulator.specs.Sampled.{made_samples}
-use Rattle.base_modulator.specs.declared.plan.CellPlan.{CellPlan}
-use Rattle.base_modulator.specs.declared.plan.PagingPlan.{PagingPlan}
-use Rattle.base_modulator.specs.declared.plan.SyncPlan.{SyncPlan}
+use Rattle.cell_plan.specs.Pages.{paging_rate}
+use Rattle.cell_plan.specs.Sampled.{made_samples}
+use Rattle.cell_plan.specs.declared.plan.CellPlan.{CellPlan}
+use Rattle.cell_plan.specs.declared.plan.PagingPlan.{PagingPlan}
+use Rattle.cell_plan.specs.declared.plan.SyncPlan.{SyncPlan}
 use Rattle.mobile_core.specs.Channels.{channel_stream}
 use Rattle.mobile_core.specs.Marks.{mark}
 use Rattle.mobile_core.specs.Near.{AreNear}
@@ -30,7 +30,8 @@ use Rattle.tuned_listener.specs.Slots.{slot_lines}
 use Rattle.tuned_listener.specs.TunedTexts.{tuned_text}
 use Rattle.tuned_listener.specs.declared.tuned_text.TunedText.TheVariants.{Slots}
 use Rattle.tuned_listener.proofs.SlotTimes.{needs_mark, written_by_times}
-use Rattle.clean_link.specs.CleanLink.{IsOnPath, IsReceivable, IsTrueMark}
+use Rattle.clean_link.specs.CleanLink.{IsOnPath, IsTrueMark}
+use Rattle.cell_plan.specs.Stated.{IsReceivable}
 use Rattle.clean_link.specs.SentEvents.{told_with_sync}
 use Rattle.clean_link.proofs.frames.PagingTimes.{paging_alone, paging_file_from, paging_file_to}
 use Rattle.clean_link.proofs.frames.Times.{known_at_once, IsAlone}

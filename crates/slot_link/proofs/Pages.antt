@@ -18,9 +18,9 @@ use Rattle.quality_bits.specs.declared.rate.Rate.{Rate}
 use Rattle.paging_message.specs.HalfFrames.{capsules_in, half_frame_body, half_frame_capsule_ending}
 use Rattle.paging_message.specs.Reading.{paging_reading}
 use Rattle.paging_message.specs.declared.message.PagingMessage.{PagingMessage}
-use Rattle.base_modulator.specs.PageCycles.{cycled, paging_frame_size}
-use Rattle.base_modulator.specs.Pages.{page_cycle}
-use Rattle.base_modulator.proofs.LaidPages.{size_large}
+use Rattle.cell_plan.specs.PageCycles.{cycled, paging_frame_size}
+use Rattle.cell_plan.specs.Pages.{page_cycle}
+use Rattle.cell_plan.proofs.LaidPages.{size_large}
 use Rattle.mobile_core.specs.PagingEvents.{with_page}
 use Rattle.tuned_listener.specs.Slots.{slot_pages}
 use Rattle.clean_link.specs.HeardPages.{ReadPage}

@@ -13,14 +13,14 @@ use Rattle.rake_finger.specs.declared.form.Form.TheVariants.{Data}
 use Rattle.viterbi.specs.Laws.{signed}
 use Rattle.frame_decoder.specs.Spans.{paging_channel}
 use Rattle.slot_mode.specs.Frames.{slot_bits}
-use Rattle.base_modulator.specs.PageCycles.{cycle_frame_bits, cycled, paging_frame_size}
-use Rattle.base_modulator.specs.Pages.{paging_rate}
-use Rattle.base_modulator.specs.Sampled.{made_samples}
-use Rattle.base_modulator.specs.ScriptPlans.{IsStatedPaging}
-use Rattle.base_modulator.specs.Signal.{cycle_of}
-use Rattle.base_modulator.specs.declared.plan.CellPlan.{CellPlan}
-use Rattle.base_modulator.specs.declared.plan.PagingPlan.{PagingPlan}
-use Rattle.base_modulator.specs.declared.plan.SyncPlan.{SyncPlan}
+use Rattle.cell_plan.specs.PageCycles.{cycle_frame_bits, cycled, paging_frame_size}
+use Rattle.cell_plan.specs.Pages.{paging_rate}
+use Rattle.cell_plan.specs.Sampled.{made_samples}
+use Rattle.cell_plan.specs.Stated.{IsStatedPaging}
+use Rattle.cell_plan.specs.Signal.{cycle_of}
+use Rattle.cell_plan.specs.declared.plan.CellPlan.{CellPlan}
+use Rattle.cell_plan.specs.declared.plan.PagingPlan.{PagingPlan}
+use Rattle.cell_plan.specs.declared.plan.SyncPlan.{SyncPlan}
 use Rattle.mobile_core.specs.Channels.{channel_stream}
 use Rattle.mobile_core.specs.PagingStreams as heard
 use Rattle.mobile_core.specs.Streams.{is_in_file}

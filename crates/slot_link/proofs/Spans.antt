@@ -18,7 +18,7 @@ use Rattle.frame_decoder.specs.Spans.{own_bits, paging_channel, Channel}
 use Rattle.frame_decoder.specs.declared.layout.FrameKind.TheVariants.{Paging}
 use Rattle.frame_decoder.proofs.Parts.{length-frames}
 use Rattle.slot_mode.specs.Frames.{frame_bits, slot_bits}
-use Rattle.base_modulator.specs.Sendings.{continued_symbols}
+use Rattle.cell_plan.specs.Sendings.{continued_symbols}
 use Rattle.clean_link.specs.SentWords.{span_word}
 use Rattle.clean_link.proofs.frames.Scores.{sent_own, whole_frames}
 use Rattle.clean_link.proofs.frames.Words.{frame_at, length-before, sent_as_one, signed-frames}

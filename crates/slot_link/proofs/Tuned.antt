@@ -7,13 +7,12 @@ use Rattle.pilot_search.specs.Near.{near_deltas}
 use Rattle.pilot_search.specs.Search.{best_phase, energy}
 use Rattle.pilot_search.proofs.BestPhase.{best_phase-is}
 use Rattle.pilot_search.proofs.NearPlaces.{one_delta}
-use Rattle.base_modulator.specs.declared.plan.CellPlan.{CellPlan}
-use Rattle.base_modulator.proofs.NamedPlans.{named_plan, named_said}
+use Rattle.cell_plan.specs.declared.plan.CellPlan.{CellPlan}
 use Rattle.mobile_core.specs.Tuning.{Tuning}
 use Rattle.mobile_core.specs.declared.channel.Channel.TheVariants.{Paging}
 use Rattle.tuned_listener.specs.TunedTexts.{tuned_text}
 use Rattle.tuned_listener.specs.declared.tuned_text.TunedText.TheVariants.{Slots}
-use Rattle.clean_link.specs.CleanLink.{IsCellFile, IsOnPath, IsReceivable}
+use Rattle.clean_link.specs.CleanLink.{IsOnPath, IsPlanFile}
 use Rattle.clean_link.proofs.signal.Samples.{length-made}
 use Rattle.slot_link.specs.Laws.{FileSlotsComeBack, IsTunedBy}
 use Rattle.slot_link.specs.SentSlots.{slots_sent}
@@ -26,11 +25,11 @@ own_delta samples =
     one_delta samples (best_phase samples) (energy samples (best_phase samples))
     (best_phase-is samples)
 
-on_path : (width : Width) (script : List ℕ) (plan : CellPlan) (span fingers : ℕ)
+on_path : (width : Width) (plan : CellPlan) (span fingers : ℕ)
     (header : Header) (samples : List Sample) (t : Tuning) →
-    IsCellFile width script plan span fingers header samples → length samples ≡ header.count →
+    IsPlanFile width plan span fingers header samples → length samples ≡ header.count →
     IsTunedBy span fingers header samples t → IsOnPath plan t
-on_path width script plan span fingers header samples t file counted tuned =
+on_path width plan span fingers header samples t file counted tuned =
     let first = take span samples in
     record {
       count = tuned.count ∙ sym counted ∙ ap length file.sent ∙ length-made plan;
@@ -43,15 +42,9 @@ on_path width script plan span fingers header samples t file counted tuned =
     }
 
 pub file_slots_back : FileSlotsComeBack
-file_slots_back width script plan p span fingers header samples t key cycle file counted tuned has =
-    let both = named_plan width script plan file.named in
-    let is : IsReceivable width plan = record {
-      lawful = both.0;
-      link = both.1;
-      pages = (named_said width script plan file.named).lawful.paging;
-    } in
-    let on = on_path width script plan span fingers header samples t file counted tuned in
+file_slots_back width plan p span fingers header samples t key cycle file counted tuned has =
+    let on = on_path width plan span fingers header samples t file counted tuned in
     subst
     (λ (heard : List Sample). tuned_text (Slots key cycle) t (Paging p.number) heard
     ≡ slots_sent key cycle plan p)
-    (sym file.sent) (slot_texts_back width plan p t key cycle is on has)
+    (sym file.sent) (slot_texts_back width plan p t key cycle file.receivable on has)

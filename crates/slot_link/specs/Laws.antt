@@ -13,14 +13,14 @@ use Rattle.frame_decoder.specs.Spans.{Channel, own_bits, paging_channel}
 use Rattle.slot_mode.specs.Frames.{slot_bits}
 use Rattle.pilot_search.specs.Near.{near_deltas}
 use Rattle.pilot_search.specs.Search.{best_phase}
-use Rattle.base_modulator.specs.PageCycles.{cycled, paging_frame_size}
-use Rattle.base_modulator.specs.Pages.{page_cycle, paging_rate}
-use Rattle.base_modulator.specs.Sampled.{made_samples}
-use Rattle.base_modulator.specs.Sendings.{continued_symbols}
-use Rattle.base_modulator.specs.declared.plan.CellPlan.{CellPlan}
-use Rattle.base_modulator.specs.declared.plan.Page.{Page}
-use Rattle.base_modulator.specs.declared.plan.PagingPlan.{PagingPlan}
-use Rattle.base_modulator.specs.declared.plan.SyncPlan.{SyncPlan}
+use Rattle.cell_plan.specs.PageCycles.{cycled, paging_frame_size}
+use Rattle.cell_plan.specs.Pages.{page_cycle, paging_rate}
+use Rattle.cell_plan.specs.Sampled.{made_samples}
+use Rattle.cell_plan.specs.Sendings.{continued_symbols}
+use Rattle.cell_plan.specs.declared.plan.CellPlan.{CellPlan}
+use Rattle.cell_plan.specs.declared.plan.Page.{Page}
+use Rattle.cell_plan.specs.declared.plan.PagingPlan.{PagingPlan}
+use Rattle.cell_plan.specs.declared.plan.SyncPlan.{SyncPlan}
 use Rattle.mobile_core.specs.Channels.{channel_stream}
 use Rattle.mobile_core.specs.PagingStreams as heard
 use Rattle.mobile_core.specs.Tuning.{Tuning}
@@ -30,7 +30,8 @@ use Rattle.tuned_listener.specs.SlotLaws.{slot_softs}
 use Rattle.tuned_listener.specs.Slots.{slot_pages}
 use Rattle.tuned_listener.specs.TunedTexts.{tuned_text}
 use Rattle.tuned_listener.specs.declared.tuned_text.TunedText.TheVariants.{Slots}
-use Rattle.clean_link.specs.CleanLink.{IsCellFile, IsOnPath, IsReceivable, IsTrueMark}
+use Rattle.clean_link.specs.CleanLink.{IsOnPath, IsPlanFile, IsTrueMark}
+use Rattle.cell_plan.specs.Stated.{IsReceivable}
 use Rattle.clean_link.specs.SentWords.{IsWholeChannel}
 use Rattle.clean_link.specs.WholePages.{AreWholePages}
 use Rattle.slot_link.specs.SentSlots.{slots_sent, slots_to_end}
@@ -118,13 +119,13 @@ pub record IsTunedBy (span fingers : ℕ) (header : Header) (samples : List Samp
   pub checks_of_30 : t.check30 ≡ header.check30
   pub checks_of_16 : t.check16 ≡ header.check16
 
--- So it is of a file that holds what a script's cell sends, where the search finds the cell's path
--- and there is one finger.
+-- So it is of a file that holds what a lawful cell sends, where the search finds the cell's path and
+-- there is one finger.
 abbrev pub FileSlotsComeBack : Type 0
 FileSlotsComeBack =
-    (width : Width) (script : List ℕ) (plan : CellPlan) (p : PagingPlan) (span fingers : ℕ)
+    (width : Width) (plan : CellPlan) (p : PagingPlan) (span fingers : ℕ)
     (header : Header) (samples : List Sample) (t : Tuning) (key cycle : ℕ) →
-    IsCellFile width script plan span fingers header samples → length samples ≡ header.count →
+    IsPlanFile width plan span fingers header samples → length samples ≡ header.count →
     IsTunedBy span fingers header samples t → Contains plan.paging p →
     tuned_text (Slots key cycle) t (channels.Paging p.number) samples ≡
     slots_sent key cycle plan p

@@ -5,10 +5,10 @@ use Rattle.std.specs.Prelude.{Option, None, Some}
 use Rattle.std.specs.List.{flat_map}
 use Rattle.chip_core.specs.Bits.{places}
 use Rattle.slot_mode.specs.Slots.{is_monitored}
-use Rattle.base_modulator.specs.Pages.{paging_rate}
-use Rattle.base_modulator.specs.declared.plan.CellPlan.{CellPlan}
-use Rattle.base_modulator.specs.declared.plan.PagingPlan.{PagingPlan}
-use Rattle.base_modulator.specs.declared.plan.SyncPlan.{SyncPlan}
+use Rattle.cell_plan.specs.Pages.{paging_rate}
+use Rattle.cell_plan.specs.declared.plan.CellPlan.{CellPlan}
+use Rattle.cell_plan.specs.declared.plan.PagingPlan.{PagingPlan}
+use Rattle.cell_plan.specs.declared.plan.SyncPlan.{SyncPlan}
 use Rattle.tuned_listener.specs.Slots.{slot_lines}
 use Rattle.clean_link.specs.CleanLink.{whole_sendings}
 use Rattle.clean_link.specs.HeardPages.{end_chip}

@@ -7,7 +7,7 @@ use Rattle.chip_core.specs.declared.check_form.CheckForm.{CheckForm}
 use Rattle.quality_bits.specs.declared.rate.Rate.{Rate}
 use Rattle.paging_message.specs.HalfFrames.{half_frame_body}
 use Rattle.paging_message.specs.declared.message.PagingMessage.{PagingMessage}
-use Rattle.base_modulator.specs.declared.plan.Page.{Page}
+use Rattle.cell_plan.specs.declared.plan.Page.{Page}
 use Rattle.clean_link.specs.HeardPages.{message_in}
 use Rattle.clean_link.specs.WholePages.{cycle_half_frames, is_between, placed, Placed}
 

@@ -9,8 +9,8 @@ use Rattle.paging_message.specs.Laying.{fill, framed, half_frames_of, laid_on}
 use Rattle.paging_message.specs.Reading.{message_at}
 use Rattle.paging_message.specs.declared.message.PagingMessage.{PagingMessage}
 use Rattle.paging_message.specs.declared.message.PagingMessage.TheVariants.{Other}
-use Rattle.base_modulator.specs.Pages.{page_cycle}
-use Rattle.base_modulator.specs.declared.plan.Page.{Page}
+use Rattle.cell_plan.specs.Pages.{page_cycle}
+use Rattle.cell_plan.specs.declared.plan.Page.{Page}
 use Rattle.slot_link.specs.SlotPages.{pages_in_slot}
 
 -- A page of 10 bits of body, and one of 146: in half-frames of 95 bits the first one lies in a

@@ -21,7 +21,7 @@ pub fn slot_pages_come_back()
 /// in the file. What is written for a handset that sleeps through all slots but those of its cycle
 /// is the line of each monitored slot, with the number of samples at which it ends and its time,
 /// and the lines of its pages; and nothing where no mark is set or the cell's PRAT is 2 or 3. So it
-/// is of a file that holds what a script's cell sends, for the handset that the file's header and
+/// is of a file that holds what a lawful cell sends, for the handset that the file's header and
 /// the pilot in its first samples tune.
 pub fn slots_come_back()
     ensures slots { SlotsComeBack }

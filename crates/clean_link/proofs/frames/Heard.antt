@@ -21,11 +21,11 @@ use Rattle.viterbi.specs.Words.{Word}
 use Rattle.viterbi.specs.declared.word.Ends.TheVariants.{Free}
 use Rattle.frame_decoder.specs.Spans.{own_bits, score, sending}
 use Rattle.frame_decoder.proofs.Parts.{frames-none, frames-more, length-frames}
-use Rattle.base_modulator.specs.declared.plan.CellPlan.{CellPlan}
-use Rattle.base_modulator.specs.Sampled.{made_samples}
-use Rattle.base_modulator.specs.Sendings.{continued_symbols}
-use Rattle.base_modulator.specs.Signal.{Carrier, carriers}
-use Rattle.base_modulator.specs.Transmitter.{phase_at}
+use Rattle.cell_plan.specs.declared.plan.CellPlan.{CellPlan}
+use Rattle.cell_plan.specs.Sampled.{made_samples}
+use Rattle.cell_plan.specs.Sendings.{continued_symbols}
+use Rattle.cell_plan.specs.Signal.{Carrier, carriers}
+use Rattle.cell_plan.specs.Transmitter.{phase_at}
 use Rattle.mobile_core.specs.Scrambled.{Scrambles, turned, unscrambled}
 use Rattle.mobile_core.specs.Streams.{Stream, frame_own_bits, frame_softs, frame_start, is_in_file, span_first, span_frames}
 use Rattle.chip_core.proofs.Ranges.{flat_map_ext_places}

@@ -16,17 +16,17 @@ use Rattle.quality_bits.specs.TrafficWords.{repeats_of}
 use Rattle.quality_bits.specs.declared.rate.Rate.{Rate}
 use Rattle.quality_bits.specs.declared.rate.Rate.TheVariants.{R9600, R4800, R2400, R1200}
 use Rattle.frame_decoder.specs.declared.layout.FrameKind as kinds
-use Rattle.base_modulator.specs.PageCycles as cycles
-use Rattle.base_modulator.specs.PageCycles.{Cycle, cycle_frame_bits, cycle_symbols, cycled}
-use Rattle.base_modulator.specs.PageCycles.{frame_scrambling, paging_frame_size}
-use Rattle.base_modulator.specs.Pages as pages
-use Rattle.base_modulator.specs.Plan.{IsLawfulPlan, IsPagingPlan}
-use Rattle.base_modulator.specs.Sampled.{made_samples}
-use Rattle.base_modulator.specs.Sendings.{continued_symbols}
-use Rattle.base_modulator.specs.Signal.{cycle_of, paging_carrier}
-use Rattle.base_modulator.specs.declared.plan.CellPlan.{CellPlan}
-use Rattle.base_modulator.specs.declared.plan.PagingPlan.{PagingPlan}
-use Rattle.base_modulator.specs.declared.plan.SyncPlan.{SyncPlan}
+use Rattle.cell_plan.specs.PageCycles as cycles
+use Rattle.cell_plan.specs.PageCycles.{Cycle, cycle_frame_bits, cycle_symbols, cycled}
+use Rattle.cell_plan.specs.PageCycles.{frame_scrambling, paging_frame_size}
+use Rattle.cell_plan.specs.Pages as pages
+use Rattle.cell_plan.specs.Plan.{IsLawfulPlan, IsPagingPlan}
+use Rattle.cell_plan.specs.Sampled.{made_samples}
+use Rattle.cell_plan.specs.Sendings.{continued_symbols}
+use Rattle.cell_plan.specs.Signal.{cycle_of, paging_carrier}
+use Rattle.cell_plan.specs.declared.plan.CellPlan.{CellPlan}
+use Rattle.cell_plan.specs.declared.plan.PagingPlan.{PagingPlan}
+use Rattle.cell_plan.specs.declared.plan.SyncPlan.{SyncPlan}
 use Rattle.rake_finger.specs.Soft.{softs}
 use Rattle.rake_finger.specs.declared.finger.Finger.{Finger}
 use Rattle.rake_finger.specs.declared.form.Form.TheVariants.{Data}

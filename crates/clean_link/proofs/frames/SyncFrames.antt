@@ -5,14 +5,14 @@ use Rattle.std.proofs.lemmas.Int.{ints, int_rem_euclid_is}
 use Rattle.symbol_path.specs.SentOrder.{sent, sync_shape}
 use Rattle.frame_decoder.specs.declared.layout.FrameKind as kinds
 use Rattle.sync_message.specs.declared.fields.SyncFields.{SyncFields}
-use Rattle.base_modulator.specs.Plan.{IsSyncPlan}
-use Rattle.base_modulator.specs.Sampled.{made_samples}
-use Rattle.base_modulator.specs.Sendings.{continued_symbols, sync_frame_bits, sync_symbols}
-use Rattle.base_modulator.specs.Signal.{sync_carrier}
-use Rattle.base_modulator.specs.Transmitter.{phase_at}
-use Rattle.base_modulator.specs.declared.plan.CellPlan.{CellPlan}
-use Rattle.base_modulator.specs.declared.plan.SyncPlan.{SyncPlan}
-use Rattle.base_modulator.proofs.SyncFrames.{length-sync_frame_bits}
+use Rattle.cell_plan.specs.Plan.{IsSyncPlan}
+use Rattle.cell_plan.specs.Sampled.{made_samples}
+use Rattle.cell_plan.specs.Sendings.{continued_symbols, sync_frame_bits, sync_symbols}
+use Rattle.cell_plan.specs.Signal.{sync_carrier}
+use Rattle.cell_plan.specs.Transmitter.{phase_at}
+use Rattle.cell_plan.specs.declared.plan.CellPlan.{CellPlan}
+use Rattle.cell_plan.specs.declared.plan.SyncPlan.{SyncPlan}
+use Rattle.cell_plan.proofs.SyncFrames.{length-sync_frame_bits}
 use Rattle.rake_finger.specs.Soft.{softs}
 use Rattle.rake_finger.specs.declared.finger.Finger.{Finger}
 use Rattle.rake_finger.specs.declared.form.Form.TheVariants.{Sync}

@@ -11,8 +11,8 @@ use Rattle.symbol_path.specs.SentOrder.{sent}
 use Rattle.viterbi.specs.Laws.{signed}
 use Rattle.frame_decoder.specs.Spans.{Channel, sending, sent_symbols}
 use Rattle.frame_decoder.proofs.Parts.{within, frames-none, frames-more, length-frames}
-use Rattle.base_modulator.specs.Sendings.{bits_before, continued_symbols}
-use Rattle.base_modulator.proofs.SentFrames.{last_eight}
+use Rattle.cell_plan.specs.Sendings.{bits_before, continued_symbols}
+use Rattle.cell_plan.proofs.SentBits.{last_eight}
 use Rattle.chip_core.proofs.Ranges.{flat_map_ext_places}
 use Rattle.clean_link.specs.SentWords.{span_word}
 

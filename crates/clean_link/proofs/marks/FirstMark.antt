@@ -9,10 +9,10 @@ use Rattle.chip_core.specs.declared.width.Width.{Width}
 use Rattle.sync_message.specs.SyncMessage.{sync_capsule}
 use Rattle.sync_message.specs.declared.fields.SyncFields.{SyncFields}
 use Rattle.long_code.specs.LongCode.{IsState}
-use Rattle.base_modulator.specs.Sampled.{made_samples}
-use Rattle.base_modulator.specs.Sendings.{message_of}
-use Rattle.base_modulator.specs.declared.plan.CellPlan.{CellPlan}
-use Rattle.base_modulator.specs.declared.plan.SyncPlan.{SyncPlan}
+use Rattle.cell_plan.specs.Sampled.{made_samples}
+use Rattle.cell_plan.specs.Sendings.{message_of}
+use Rattle.cell_plan.specs.declared.plan.CellPlan.{CellPlan}
+use Rattle.cell_plan.specs.declared.plan.SyncPlan.{SyncPlan}
 use Rattle.mobile_core.specs.Marks.{first_of, mark, marks_at, marks_of}
 use Rattle.mobile_core.specs.SyncEvents.{events_of, with_message}
 use Rattle.mobile_core.specs.Tuning.{Tuning}
@@ -21,7 +21,8 @@ use Rattle.mobile_core.specs.declared.event.Event.TheVariants.{Frame, Paging, Pi
 use Rattle.mobile_core.specs.declared.event.Event.TheVariants.{Traffic}
 use Rattle.mobile_core.specs.declared.mark.Mark.{Mark}
 use Rattle.clean_link.specs.CleanLaws.{FramesAreZeros, FramesComeBack}
-use Rattle.clean_link.specs.CleanLink.{IsOnPath, IsReceivable, events_of_channel}
+use Rattle.clean_link.specs.CleanLink.{IsOnPath, events_of_channel}
+use Rattle.cell_plan.specs.Stated.{IsReceivable}
 use Rattle.clean_link.specs.CleanLink.{first_sync_frame, sending_event, sync_sent, whole_sendings}
 use Rattle.clean_link.proofs.marks.MarksTrue.{marks_sent}
 use Rattle.clean_link.proofs.sendings.Capsules.{IsSentAt, is_at, sending_frames}

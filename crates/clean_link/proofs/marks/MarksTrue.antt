@@ -15,20 +15,21 @@ use Rattle.quality_bits.specs.Pieces.{Piece, from_last_start}
 use Rattle.sync_message.specs.Framing.{superframes_of}
 use Rattle.sync_message.specs.SyncMessage.{sync_capsule}
 use Rattle.sync_message.specs.declared.fields.SyncFields.{SyncFields}
-use Rattle.base_modulator.specs.Plan.{IsLawfulPlan}
-use Rattle.base_modulator.specs.Sendings.{message_of, superframes_a_sending, told_superframes}
-use Rattle.base_modulator.specs.declared.plan.CellPlan.{CellPlan}
-use Rattle.base_modulator.specs.declared.plan.SyncPlan.{SyncPlan}
-use Rattle.base_modulator.proofs.SentMessages.{length-sending}
+use Rattle.cell_plan.specs.Plan.{IsLawfulPlan}
+use Rattle.cell_plan.specs.Sendings.{message_of, superframes_a_sending, told_superframes}
+use Rattle.cell_plan.specs.declared.plan.CellPlan.{CellPlan}
+use Rattle.cell_plan.specs.declared.plan.SyncPlan.{SyncPlan}
+use Rattle.cell_plan.proofs.SentMessages.{length-sending}
 use Rattle.mobile_core.specs.Marks.{first_of, frames_open, mark, marks_at, marks_of}
 use Rattle.mobile_core.specs.Streams.{frame_start}
 use Rattle.mobile_core.specs.SyncEvents.{events_of, heard_at, with_message}
 use Rattle.mobile_core.specs.Tuning.{Tuning, sync_stream, sync_bound}
 use Rattle.mobile_core.specs.declared.mark.Mark.{Mark}
 use Rattle.clean_link.specs.CleanLaws.{FramesAreZeros, FramesComeBack, IsMarkedWhereHeard, MarksAreTrue}
-use Rattle.clean_link.specs.CleanLink.{IsOnPath, IsReceivable, IsTrueMark, first_sync_frame}
+use Rattle.clean_link.specs.CleanLink.{IsOnPath, IsTrueMark, first_sync_frame}
+use Rattle.cell_plan.specs.Stated.{IsReceivable}
 use Rattle.clean_link.specs.PagingLaws.{MarksTellTheRate, UnmarkedWithoutSync}
-use Rattle.base_modulator.specs.Sampled.{made_samples}
+use Rattle.cell_plan.specs.Sampled.{made_samples}
 use Rattle.clean_link.proofs.frames.SyncFrames.{frames_back, frames_zero}
 use Rattle.clean_link.proofs.sendings.Pieces.{length-run}
 use Rattle.clean_link.proofs.sendings.Capsules.{IsSentAt, begun, is_at, piece_of, sending_frames}

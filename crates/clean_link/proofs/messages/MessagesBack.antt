@@ -12,11 +12,11 @@ use Rattle.chip_core.specs.Bits.{places}
 use Rattle.chip_core.specs.declared.check_form.CheckForm.{CheckForm}
 use Rattle.chip_core.specs.declared.sample.Sample.{Sample}
 use Rattle.chip_core.specs.declared.width.Width.{Width}
-use Rattle.base_modulator.specs.Sampled.{made_samples}
-use Rattle.base_modulator.specs.Sendings.{told_superframes}
-use Rattle.base_modulator.specs.Transmitter.{phase_at}
-use Rattle.base_modulator.specs.declared.plan.CellPlan.{CellPlan}
-use Rattle.base_modulator.specs.declared.plan.SyncPlan.{SyncPlan}
+use Rattle.cell_plan.specs.Sampled.{made_samples}
+use Rattle.cell_plan.specs.Sendings.{told_superframes}
+use Rattle.cell_plan.specs.Transmitter.{phase_at}
+use Rattle.cell_plan.specs.declared.plan.CellPlan.{CellPlan}
+use Rattle.cell_plan.specs.declared.plan.SyncPlan.{SyncPlan}
 use Rattle.mobile_core.specs.Events.{events, events_at, events_within, frame_events_at}
 use Rattle.mobile_core.specs.Events.{message_events_at, paging_events_at, sets_events_at}
 use Rattle.mobile_core.specs.Marks.{mark}
@@ -29,7 +29,8 @@ use Rattle.mobile_core.proofs.EventPlaces.{AreAt, messages_at_end, paging_at, se
 use Rattle.mobile_core.proofs.EventPlaces.{traffic_at}
 use Rattle.mobile_core.proofs.MarkStays.{pages_by_one_mark}
 use Rattle.chip_core.proofs.Ranges.{flat_map_ext_places}
-use Rattle.clean_link.specs.CleanLink.{IsNotDirected, IsOnPath, IsReceivable, IsTunedTo}
+use Rattle.clean_link.specs.CleanLink.{IsNotDirected, IsOnPath, IsTunedTo}
+use Rattle.cell_plan.specs.Stated.{IsReceivable}
 use Rattle.clean_link.specs.CleanLink.{sync_sent, tuning_to, whole_sendings}
 use Rattle.clean_link.specs.HeardPages.{ReadPage, known_page, pages_sent, pages_within}
 use Rattle.clean_link.specs.SentEvents.{FollowsSent, WholeMessagesComeBack, known_event, paging_sent}

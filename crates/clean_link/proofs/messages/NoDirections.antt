@@ -7,9 +7,9 @@ use Rattle.std.proofs.lemmas.List.Elements.{All-append, All-cons, All-map, All-n
 use Rattle.chip_core.specs.Bits.{places}
 use Rattle.chip_core.specs.declared.sample.Sample.{Sample}
 use Rattle.chip_core.specs.declared.width.Width.{Width}
-use Rattle.base_modulator.specs.Sampled.{made_samples}
-use Rattle.base_modulator.specs.declared.plan.CellPlan.{CellPlan}
-use Rattle.base_modulator.specs.declared.plan.SyncPlan.{SyncPlan}
+use Rattle.cell_plan.specs.Sampled.{made_samples}
+use Rattle.cell_plan.specs.declared.plan.CellPlan.{CellPlan}
+use Rattle.cell_plan.specs.declared.plan.SyncPlan.{SyncPlan}
 use Rattle.pilot_sets.specs.Standing.{Standing}
 use Rattle.pilot_sets.specs.declared.change.SetChange.{SetChange}
 use Rattle.mobile_core.specs.Events.{events_at, events_within, frame_events_at}
@@ -25,7 +25,8 @@ use Rattle.mobile_core.specs.declared.event.Event.{Event}
 use Rattle.mobile_core.specs.declared.mark.Mark.{Mark}
 use Rattle.chip_core.specs.declared.assignment.Traffic.{Traffic}
 use Rattle.mobile_core.proofs.MarkStays.{messages_by_one_mark}
-use Rattle.clean_link.specs.CleanLink.{IsNotDirected, IsOnPath, IsReceivable, events_of_channel}
+use Rattle.clean_link.specs.CleanLink.{IsNotDirected, IsOnPath, events_of_channel}
+use Rattle.cell_plan.specs.Stated.{IsReceivable}
 use Rattle.clean_link.specs.CleanLink.{sending_event, sync_sent, whole_sendings}
 use Rattle.clean_link.specs.HeardSignals.{messages_of_channel, messages_sent}
 use Rattle.clean_link.specs.SentEvents.{FollowsSent, NoEventIsDirected, signaling_sent}

@@ -14,11 +14,11 @@ use Rattle.quality_bits.specs.Pieces.{Piece}
 use Rattle.quality_bits.specs.declared.rate.Rate.{Rate}
 use Rattle.paging_message.specs.HalfFrames.{half_frame_body}
 use Rattle.paging_message.specs.Laying as laying
-use Rattle.base_modulator.specs.PageCycles.{cycled}
-use Rattle.base_modulator.specs.Pages.{laid_pages, page_cycle, put_of, AreSendable}
-use Rattle.base_modulator.specs.ScriptPlans.{AreHeard}
-use Rattle.base_modulator.specs.declared.plan.Page.{Page}
-use Rattle.base_modulator.proofs.LaidPages.{size_large}
+use Rattle.cell_plan.specs.PageCycles.{cycled}
+use Rattle.cell_plan.specs.Pages.{laid_pages, page_cycle, put_of, AreSendable}
+use Rattle.cell_plan.specs.Stated.{AreHeard}
+use Rattle.cell_plan.specs.declared.plan.Page.{Page}
+use Rattle.cell_plan.proofs.LaidPages.{size_large}
 use Rattle.clean_link.specs.PageLaws.{PageSendingsComeBack}
 use Rattle.clean_link.specs.WholePages.{capsules_with_frames, cycle_half_frames, is_between, placed}
 use Rattle.clean_link.specs.WholePages.{sending_of, AreWholePages, Placed}

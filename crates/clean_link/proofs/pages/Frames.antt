@@ -7,7 +7,7 @@ use Rattle.std.proofs.Math.Nat.{div-add-mod, mul-le-mul_left}
 use Rattle.chip_core.specs.Bits.{places}
 use Rattle.chip_core.proofs.Places.{map-places-all}
 use Rattle.quality_bits.specs.Pieces.{Piece}
-use Rattle.base_modulator.specs.PageCycles.{cycled}
+use Rattle.cell_plan.specs.PageCycles.{cycled}
 use Rattle.chip_core.proofs.Ranges.{map_ext_places}
 use Rattle.chip_core.proofs.Counted.{map-add}
 use Rattle.clean_link.proofs.pages.Pieces.{bits_of, length-stream, no_piece, stream, AreWhole}

@@ -20,8 +20,8 @@ use Rattle.quality_bits.specs.declared.kind.Kind.TheVariants.{M30}
 use Rattle.quality_bits.proofs.Wholes.{length-capsule}
 use Rattle.paging_message.specs.Laying as laying
 use Rattle.paging_message.proofs.Layings.{below_more, below_push, framed_whole, not_begun}
-use Rattle.base_modulator.specs.Pages.{put_of}
-use Rattle.base_modulator.specs.declared.plan.Page.{Page}
+use Rattle.cell_plan.specs.Pages.{put_of}
+use Rattle.cell_plan.specs.declared.plan.Page.{Page}
 use Rattle.chip_core.proofs.Ranges.{flat_map_ext_places}
 use Rattle.clean_link.specs.WholePages.{placed, Placed}
 use Rattle.clean_link.proofs.pages.Chains.{joined}

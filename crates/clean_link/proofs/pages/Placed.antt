@@ -13,10 +13,10 @@ use Rattle.quality_bits.specs.Capsules.{capsule}
 use Rattle.quality_bits.specs.declared.kind.Kind.TheVariants.{M30}
 use Rattle.quality_bits.proofs.Wholes.{length-capsule}
 use Rattle.paging_message.specs.Admitted.{HasMessage}
-use Rattle.base_modulator.specs.Pages.{laid_behind}
-use Rattle.base_modulator.specs.ScriptPlans.{AreHeard}
-use Rattle.base_modulator.specs.declared.plan.CellPlan.{CellPlan}
-use Rattle.base_modulator.specs.declared.plan.Page.{Page}
+use Rattle.cell_plan.specs.Pages.{laid_behind}
+use Rattle.cell_plan.specs.Stated.{AreHeard}
+use Rattle.cell_plan.specs.declared.plan.CellPlan.{CellPlan}
+use Rattle.cell_plan.specs.declared.plan.Page.{Page}
 use Rattle.clean_link.specs.HeardPages.{end_chip}
 use Rattle.clean_link.specs.WholePages.{is_whole_page, placed, Placed}
 

@@ -10,7 +10,7 @@ use Rattle.std.proofs.Math.Nat.{mul-add-div}
 use Rattle.chip_core.specs.Bits.{places}
 use Rattle.chip_core.proofs.Places.{length-map-places}
 use Rattle.quality_bits.specs.Pieces.{Piece}
-use Rattle.base_modulator.specs.declared.plan.Page.{Page}
+use Rattle.cell_plan.specs.declared.plan.Page.{Page}
 use Rattle.clean_link.specs.WholePages.{is_between, Placed}
 use Rattle.clean_link.proofs.pages.Chains.{AreChained}
 use Rattle.chip_core.proofs.Counted.{flat_map-next, flat_map-zero}

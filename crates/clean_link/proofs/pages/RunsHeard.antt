@@ -15,7 +15,7 @@ use Rattle.std.proofs.Math.Seq.{take-append-add, take-nil}
 use Rattle.chip_core.specs.Bits.{places}
 use Rattle.chip_core.proofs.Places.{length-map-places}
 use Rattle.quality_bits.specs.Pieces.{Piece}
-use Rattle.base_modulator.specs.declared.plan.Page.{Page}
+use Rattle.cell_plan.specs.declared.plan.Page.{Page}
 use Rattle.chip_core.proofs.Ranges.{flat_map_ext_places}
 use Rattle.clean_link.specs.WholePages.{Placed}
 use Rattle.clean_link.proofs.pages.Chains.{ended_of, joined, AreChained}

@@ -11,9 +11,9 @@ use Rattle.quality_bits.specs.declared.kind.Kind.TheVariants.{M30}
 use Rattle.quality_bits.proofs.Wholes.{whole-capsule}
 use Rattle.paging_message.specs.HalfFrames.{bits_left}
 use Rattle.paging_message.specs.Laying.{fill}
-use Rattle.base_modulator.specs.Pages.{laid_behind, AreSendable}
-use Rattle.base_modulator.specs.ScriptPlans.{AreHeard}
-use Rattle.base_modulator.specs.declared.plan.Page.{Page}
+use Rattle.cell_plan.specs.Pages.{laid_behind, AreSendable}
+use Rattle.cell_plan.specs.Stated.{AreHeard}
+use Rattle.cell_plan.specs.declared.plan.Page.{Page}
 use Rattle.clean_link.proofs.pages.Chains.{joined, AreChained}
 use Rattle.clean_link.proofs.pages.Runs.{fills, no_width, width}
 use Rattle.clean_link.proofs.pages.Laid.{length-page, page_capsule, runs-begin, runs-follow}

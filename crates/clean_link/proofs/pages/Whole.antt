@@ -11,12 +11,12 @@ use Rattle.std.proofs.Math.Nat.{mul-le-mul_left}
 use Rattle.chip_core.specs.declared.check_form.CheckForm.{CheckForm}
 use Rattle.quality_bits.specs.declared.rate.Rate.{Rate}
 use Rattle.paging_message.specs.HalfFrames.{half_frame_body}
-use Rattle.base_modulator.specs.PageCycles.{cycled, paging_frame_size}
-use Rattle.base_modulator.specs.Pages.{page_cycle}
-use Rattle.base_modulator.specs.ScriptPlans.{IsStatedPaging}
-use Rattle.base_modulator.specs.declared.plan.Page.{Page}
-use Rattle.base_modulator.specs.declared.plan.PagingPlan.{PagingPlan}
-use Rattle.base_modulator.proofs.LaidPages.{size_large}
+use Rattle.cell_plan.specs.PageCycles.{cycled, paging_frame_size}
+use Rattle.cell_plan.specs.Pages.{page_cycle}
+use Rattle.cell_plan.specs.Stated.{IsStatedPaging}
+use Rattle.cell_plan.specs.declared.plan.Page.{Page}
+use Rattle.cell_plan.specs.declared.plan.PagingPlan.{PagingPlan}
+use Rattle.cell_plan.proofs.LaidPages.{size_large}
 use Rattle.chip_core.proofs.Ranges.{flat_map_ext_places}
 use Rattle.clean_link.specs.PageLaws.{WholePagesComeBack}
 use Rattle.clean_link.specs.WholePages.{capsules_with_frames, cycle_half_frames, frame_capsules}

@@ -6,18 +6,19 @@ use Rattle.std.proofs.lemmas.Bool.{and_parts, and_from, le-leb, lt-leb, leb-true
 use Rattle.chip_core.specs.Bits.{places}
 use Rattle.chip_core.specs.declared.width.Width.{Width}
 use Rattle.sync_message.specs.SyncMessage.{sync_capsule}
-use Rattle.base_modulator.specs.Sendings.{message_of}
-use Rattle.base_modulator.specs.declared.plan.CellPlan.{CellPlan}
-use Rattle.base_modulator.specs.declared.plan.SyncPlan.{SyncPlan}
-use Rattle.base_modulator.proofs.SentMessages.{length-sync}
+use Rattle.cell_plan.specs.Sendings.{message_of}
+use Rattle.cell_plan.specs.declared.plan.CellPlan.{CellPlan}
+use Rattle.cell_plan.specs.declared.plan.SyncPlan.{SyncPlan}
+use Rattle.cell_plan.proofs.SentMessages.{length-sync}
 use Rattle.mobile_core.specs.SyncEvents.{events_of, sync_events_at}
 use Rattle.mobile_core.specs.Tuning.{Tuning, sync_bound}
 use Rattle.mobile_core.specs.declared.event.Event.{Event}
 use Rattle.mobile_core.specs.declared.event.Event.TheVariants.{Sync}
 use Rattle.chip_core.proofs.Ranges.{flat_map_ext_filter}
 use Rattle.clean_link.specs.CleanLaws.{FramesAreZeros, FramesComeBack, WholeSendingsComeBack}
-use Rattle.clean_link.specs.CleanLink.{IsOnPath, IsReceivable, events_of_channel, first_sync_frame, heard_behind, is_whole, sending_ends, sending_event, sync_sent}
-use Rattle.base_modulator.specs.Sampled.{made_samples}
+use Rattle.clean_link.specs.CleanLink.{IsOnPath, events_of_channel, first_sync_frame, heard_behind, is_whole, sending_ends, sending_event, sync_sent}
+use Rattle.cell_plan.specs.Stated.{IsReceivable}
+use Rattle.cell_plan.specs.Sampled.{made_samples}
 use Rattle.clean_link.proofs.sendings.Capsules.{IsSentAt, sending_frames}
 use Rattle.clean_link.proofs.frames.SyncFrames.{frames_back, frames_zero}
 use Rattle.clean_link.proofs.frames.SyncTimes.{end_of_frame, in_file_to, known_is, sync_timed}

@@ -16,9 +16,9 @@ use Rattle.chip_core.specs.declared.check_form.CheckForm.{CheckForm}
 use Rattle.sync_message.specs.SyncMessage.{sync_body, sync_capsule}
 use Rattle.sync_message.specs.declared.fields.SyncFields.{SyncFields}
 use Rattle.sync_message.proofs.Bodies.{length-body}
-use Rattle.base_modulator.specs.Sendings.{message_of, padded_sending, superframes_a_sending, sync_frame_bits}
-use Rattle.base_modulator.specs.declared.plan.CellPlan.{CellPlan}
-use Rattle.base_modulator.proofs.SentMessages.{length-sending, length-sync}
+use Rattle.cell_plan.specs.Sendings.{message_of, padded_sending, superframes_a_sending, sync_frame_bits}
+use Rattle.cell_plan.specs.declared.plan.CellPlan.{CellPlan}
+use Rattle.cell_plan.proofs.SentMessages.{length-sending, length-sync}
 use Rattle.clean_link.proofs.sendings.Pieces.{run, length-run, run-push, run-append, none_starts, first_starts, started_behind}
 
 -- ---- the end of a message

@@ -16,19 +16,20 @@ use Rattle.quality_bits.specs.Pieces.{Piece, piece, from_last_start, capsule_end
 use Rattle.sync_message.specs.SyncMessage.{IsSyncMessage, sync_capsule}
 use Rattle.sync_message.specs.declared.fields.SyncFields.{SyncFields}
 use Rattle.sync_message.proofs.Readings.{reads_capsule}
-use Rattle.base_modulator.specs.Plan.{IsLawfulPlan, IsSyncPlan}
-use Rattle.base_modulator.specs.Sendings.{message_of, told_superframes, superframes_a_sending, sync_frame_bits}
-use Rattle.base_modulator.specs.Transmitter.{IsSendable}
-use Rattle.base_modulator.specs.declared.plan.CellPlan.{CellPlan}
-use Rattle.base_modulator.specs.declared.plan.SyncPlan.{SyncPlan}
-use Rattle.base_modulator.proofs.SentMessages.{length-sync, refilled_is, superframes_few, told_early}
+use Rattle.cell_plan.specs.Plan.{IsLawfulPlan, IsSyncPlan}
+use Rattle.cell_plan.specs.Sendings.{message_of, told_superframes, superframes_a_sending, sync_frame_bits}
+use Rattle.cell_plan.specs.Transmitter.{IsSendable}
+use Rattle.cell_plan.specs.declared.plan.CellPlan.{CellPlan}
+use Rattle.cell_plan.specs.declared.plan.SyncPlan.{SyncPlan}
+use Rattle.cell_plan.proofs.SentMessages.{length-sync, refilled_is, superframes_few, told_early}
 use Rattle.mobile_core.specs.Streams.{frame_own_bits}
 use Rattle.mobile_core.specs.SyncEvents.{frames_before, sync_capsule_at, heard_in, heard_at, with_message}
 use Rattle.mobile_core.specs.Tuning.{Tuning, sync_stream}
 use Rattle.chip_core.proofs.Ranges.{map_ext_filter_places, filter-places-more}
 use Rattle.clean_link.specs.CleanLaws.{FramesAreZeros, FramesComeBack}
-use Rattle.clean_link.specs.CleanLink.{IsOnPath, IsReceivable, first_sync_frame}
-use Rattle.base_modulator.specs.Sampled.{made_samples}
+use Rattle.clean_link.specs.CleanLink.{IsOnPath, first_sync_frame}
+use Rattle.cell_plan.specs.Stated.{IsReceivable}
+use Rattle.cell_plan.specs.Sampled.{made_samples}
 use Rattle.clean_link.proofs.sendings.Pieces.{run, run-places, none_starts}
 use Rattle.clean_link.proofs.sendings.Capsules.{IsSentAt, piece_of, pieces_end, sending_frames}
 use Rattle.clean_link.proofs.frames.SyncTimes.{frames_begin, in_file_from, in_file_to, one_path}

@@ -5,10 +5,10 @@ use Rattle.std.proofs.lemmas.Bool.{and_parts, and_from, and_right, lt-ltb, le-le
 use Rattle.chip_core.specs.declared.width.Width.{Width}
 use Rattle.sync_message.specs.SyncMessage.{sync_capsule}
 use Rattle.sync_message.specs.declared.fields.SyncFields.{SyncFields}
-use Rattle.base_modulator.specs.Plan.{IsLawfulPlan}
-use Rattle.base_modulator.specs.Sendings.{superframes_a_sending}
-use Rattle.base_modulator.specs.declared.plan.CellPlan.{CellPlan}
-use Rattle.base_modulator.proofs.SentMessages.{length-sync, superframes_some}
+use Rattle.cell_plan.specs.Plan.{IsLawfulPlan}
+use Rattle.cell_plan.specs.Sendings.{superframes_a_sending}
+use Rattle.cell_plan.specs.declared.plan.CellPlan.{CellPlan}
+use Rattle.cell_plan.proofs.SentMessages.{length-sync, superframes_some}
 use Rattle.mobile_core.specs.Tuning.{Tuning}
 use Rattle.clean_link.specs.CleanLink.{IsOnPath, first_sync_frame, is_whole, sending_begins, sending_ends}
 use Rattle.clean_link.proofs.sendings.Capsules.{IsSentAt, sending_frames}

@@ -13,16 +13,16 @@ use Rattle.std.proofs.lemmas.List.Elements.{Contains-append_right}
 use Rattle.chip_core.specs.Bits.{sign}
 use Rattle.chip_core.specs.declared.width.Width.{Width}
 use Rattle.quality_bits.specs.declared.rate.Rate.{Rate}
-use Rattle.base_modulator.specs.Pages.{paging_rate}
-use Rattle.base_modulator.specs.Plan.{HaveOwnNumbers, HaveOwnTrafficRows, IsFreeOf, IsLawfulPlan}
-use Rattle.base_modulator.specs.Plan.{IsPagingPlan, IsTrafficPlan}
-use Rattle.base_modulator.specs.Signal.{Carrier, carriers, level, paging_carrier, pilot_carrier}
-use Rattle.base_modulator.specs.Signal.{sync_carrier, sync_carriers, traffic_carrier}
-use Rattle.base_modulator.specs.declared.plan.CellPlan.{CellPlan}
-use Rattle.base_modulator.specs.declared.plan.PagingPlan.{PagingPlan}
-use Rattle.base_modulator.specs.declared.plan.SyncPlan.{SyncPlan}
-use Rattle.base_modulator.specs.declared.plan.TrafficPlan.{TrafficPlan}
-use Rattle.base_modulator.proofs.Amplitudes.{pilot_amplitude, walsh-pilot}
+use Rattle.cell_plan.specs.Pages.{paging_rate}
+use Rattle.cell_plan.specs.Plan.{HaveOwnNumbers, HaveOwnTrafficRows, IsFreeOf, IsLawfulPlan}
+use Rattle.cell_plan.specs.Plan.{IsPagingPlan, IsTrafficPlan}
+use Rattle.cell_plan.specs.Signal.{Carrier, carriers, level, paging_carrier, pilot_carrier}
+use Rattle.cell_plan.specs.Signal.{sync_carrier, sync_carriers, traffic_carrier}
+use Rattle.cell_plan.specs.declared.plan.CellPlan.{CellPlan}
+use Rattle.cell_plan.specs.declared.plan.PagingPlan.{PagingPlan}
+use Rattle.cell_plan.specs.declared.plan.SyncPlan.{SyncPlan}
+use Rattle.cell_plan.specs.declared.plan.TrafficPlan.{TrafficPlan}
+use Rattle.cell_plan.proofs.Amplitudes.{pilot_amplitude, walsh-pilot}
 use Rattle.clean_link.specs.Signals.{AreApart, HaveOwnRows, IsAligned}
 use Rattle.clean_link.proofs.signal.Levels.{level_at-none}
 

@@ -7,8 +7,8 @@ use Rattle.chip_core.specs.Complex.{norm}
 use Rattle.rake_finger.specs.Soft.{symbol_chips, window_chips}
 use Rattle.rake_finger.specs.declared.form.Form.{Form}
 use Rattle.rake_finger.specs.declared.form.Form.TheVariants.{Sync, Data}
-use Rattle.base_modulator.specs.Sampled.{made_samples}
-use Rattle.base_modulator.specs.Signal.{Carrier, carriers, level}
+use Rattle.cell_plan.specs.Sampled.{made_samples}
+use Rattle.cell_plan.specs.Signal.{Carrier, carriers, level}
 use Rattle.clean_link.specs.ChannelLaws as laws
 use Rattle.clean_link.specs.CleanLink.{soft_strength}
 use Rattle.clean_link.proofs.signal.CarriersApart.{plan_apart}

@@ -10,9 +10,9 @@ use Rattle.rake_finger.specs.Soft.{frame_chips, soft, softs, symbol_chips, symbo
 use Rattle.rake_finger.specs.declared.form.Form.{Form}
 use Rattle.rake_finger.specs.declared.form.Form.TheVariants.{Sync, Data}
 use Rattle.viterbi.specs.Laws.{signed}
-use Rattle.base_modulator.specs.declared.plan.CellPlan.{CellPlan}
-use Rattle.base_modulator.specs.Sampled.{made_samples}
-use Rattle.base_modulator.specs.Signal.{Carrier, carriers}
+use Rattle.cell_plan.specs.declared.plan.CellPlan.{CellPlan}
+use Rattle.cell_plan.specs.Sampled.{made_samples}
+use Rattle.cell_plan.specs.Signal.{Carrier, carriers}
 use Rattle.clean_link.specs.CleanLink.{soft_strength}
 use Rattle.clean_link.specs.Signals.{AreApart, IsAligned, IsFrameAt, IsFrameOf, level_at, path_finger}
 use Rattle.clean_link.proofs.signal.Levels.{level_at-alone, level_in}

@@ -7,7 +7,7 @@ use Rattle.std.proofs.lemmas.Bool.{le-ltb, ne_eqb, eq-eqb}
 use Rattle.std.proofs.lemmas.List.Elements.{All-head, All-tail, All-get_or}
 use Rattle.std.proofs.lemmas.Nat.{div-mul-add, mod-mul-add}
 use Rattle.chip_core.specs.Bits.{sign}
-use Rattle.base_modulator.specs.Signal.{Carrier, level, level_of, symbol_at}
+use Rattle.cell_plan.specs.Signal.{Carrier, level, level_of, symbol_at}
 use Rattle.clean_link.specs.Signals.{HaveOwnRows, level_at, row_level}
 
 -- ---- a channel

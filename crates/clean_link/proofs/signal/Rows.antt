@@ -11,7 +11,7 @@ use Rattle.chip_core.proofs.IndexSums.{sum_same, sum_append, sum_none}
 use Rattle.chip_core.proofs.Ring.{distrib, mul_assoc_ℤ, split, diff-times, diff-same}
 use Rattle.walsh.specs.Walsh.{walsh, row_sum}
 use Rattle.walsh.proofs.RowTable.{orthogonal}
-use Rattle.base_modulator.specs.Signal.{Carrier, amplitude, amplitudes, level, level_of, symbol_at}
+use Rattle.cell_plan.specs.Signal.{Carrier, amplitude, amplitudes, level, level_of, symbol_at}
 use Rattle.clean_link.specs.Signals.{IsAligned, level_at, row_level}
 
 -- ---- sums by index

@@ -15,12 +15,12 @@ use Rattle.short_code.specs.ShortCode.{pilot_chip}
 use Rattle.walsh.specs.Walsh.{walsh}
 use Rattle.rake_finger.specs.Soft.{covered_from, despread_at}
 use Rattle.rake_finger.proofs.CoveredSums.{row_sign, covered_sum-more, same_parts}
-use Rattle.base_modulator.specs.declared.plan.CellPlan.{CellPlan}
-use Rattle.base_modulator.specs.Signal.{amplitudes, carriers, scaled, sample_of, samples_of}
-use Rattle.base_modulator.specs.Transmitter.{phase_at}
-use Rattle.base_modulator.proofs.Amplitudes.{signal_of_carriers}
-use Rattle.base_modulator.proofs.Pieces.{no_sample}
-use Rattle.base_modulator.specs.Sampled.{made_samples, sample_with}
+use Rattle.cell_plan.specs.declared.plan.CellPlan.{CellPlan}
+use Rattle.cell_plan.specs.Signal.{amplitudes, carriers, scaled, sample_of, samples_of}
+use Rattle.cell_plan.specs.Transmitter.{phase_at}
+use Rattle.cell_plan.proofs.Amplitudes.{signal_of_carriers}
+use Rattle.cell_plan.proofs.Pieces.{no_sample}
+use Rattle.cell_plan.specs.Sampled.{made_samples, sample_with}
 
 -- ---- a code point times its conjugate is 2
 

@@ -19,10 +19,10 @@ use Rattle.rake_finger.specs.declared.form.Form.{Form}
 use Rattle.rake_finger.specs.declared.form.Form.TheVariants.{Sync, Data}
 use Rattle.rake_finger.proofs.SoftValues.{pilot_is, symbol_is, soft_is}
 use Rattle.viterbi.specs.Laws.{signed}
-use Rattle.base_modulator.specs.declared.plan.CellPlan.{CellPlan}
-use Rattle.base_modulator.specs.Sampled.{made_samples}
-use Rattle.base_modulator.specs.Signal.{amplitudes, carriers, scaled}
-use Rattle.base_modulator.specs.Transmitter.{phase_at}
+use Rattle.cell_plan.specs.declared.plan.CellPlan.{CellPlan}
+use Rattle.cell_plan.specs.Sampled.{made_samples}
+use Rattle.cell_plan.specs.Signal.{amplitudes, carriers, scaled}
+use Rattle.cell_plan.specs.Transmitter.{phase_at}
 use Rattle.clean_link.specs.Signals.{AreApart, level_at, path_finger}
 use Rattle.clean_link.proofs.signal.Rows.{chips_sum}
 use Rattle.clean_link.proofs.signal.Samples.{file_total}

@@ -8,12 +8,12 @@ use Rattle.std.proofs.lemmas.Bool.{eq-eqb, ne_eqb}
 use Rattle.std.proofs.lemmas.List.Elements.{All-contains}
 use Rattle.chip_core.specs.Bits.{places}
 use Rattle.chip_core.specs.declared.width.Width.{Width}
-use Rattle.base_modulator.specs.Plan.{HaveOwnTrafficRows}
-use Rattle.base_modulator.specs.Sampled.{made_samples}
-use Rattle.base_modulator.specs.Sendings.{told_superframes}
-use Rattle.base_modulator.specs.declared.plan.CellPlan.{CellPlan}
-use Rattle.base_modulator.specs.declared.plan.SyncPlan.{SyncPlan}
-use Rattle.base_modulator.specs.declared.plan.TrafficPlan.{TrafficPlan}
+use Rattle.cell_plan.specs.Plan.{HaveOwnTrafficRows}
+use Rattle.cell_plan.specs.Sampled.{made_samples}
+use Rattle.cell_plan.specs.Sendings.{told_superframes}
+use Rattle.cell_plan.specs.declared.plan.CellPlan.{CellPlan}
+use Rattle.cell_plan.specs.declared.plan.SyncPlan.{SyncPlan}
+use Rattle.cell_plan.specs.declared.plan.TrafficPlan.{TrafficPlan}
 use Rattle.mobile_core.specs.Events.{events, frame_events_at, message_events_at}
 use Rattle.mobile_core.specs.Marks.{mark}
 use Rattle.mobile_core.specs.Near.{AreNear}
@@ -25,7 +25,8 @@ use Rattle.mobile_core.specs.declared.mark.Mark.{Mark}
 use Rattle.chip_core.specs.declared.assignment.Traffic.{Traffic}
 use Rattle.mobile_core.proofs.MarkStays.{frames_by_one_mark, messages_by_one_mark}
 use Rattle.chip_core.proofs.Ranges.{flat_map_ext_places}
-use Rattle.clean_link.specs.CleanLink.{IsNotDirected, IsOnPath, IsReceivable}
+use Rattle.clean_link.specs.CleanLink.{IsNotDirected, IsOnPath}
+use Rattle.cell_plan.specs.Stated.{IsReceivable}
 use Rattle.clean_link.specs.HeardFrames.{frames_of_channel, frames_sent, told_on, AreDistinct}
 use Rattle.clean_link.specs.HeardFrames.{SendsSetOne}
 use Rattle.clean_link.specs.HeardSignals.{messages_of_channel, messages_sent}

@@ -15,7 +15,7 @@ use Rattle.symbol_path.proofs.PowerPlaces.{power_place_in_groups, pairs_below, p
 use Rattle.symbol_path.proofs.PowerPlaces.{pairs_neighbours, ArePairs}
 use Rattle.frame_decoder.specs.TrafficFrames.{command, group_sum, group_sums, is_replaced}
 use Rattle.rake_finger.specs.declared.form.Form.TheVariants.{Data}
-use Rattle.base_modulator.specs.Sampled.{made_samples}
+use Rattle.cell_plan.specs.Sampled.{made_samples}
 use Rattle.chip_core.proofs.Ranges.{map_ext_places}
 use Rattle.mobile_core.specs.TrafficEvents.{commands_at, unturned_softs}
 use Rattle.mobile_core.specs.TrafficStreams.{frame_state}

@@ -11,12 +11,12 @@ use Rattle.chip_core.specs.declared.width.Width.{Width}
 use Rattle.long_code.specs.LongCode.{traffic_mask}
 use Rattle.rake_finger.specs.declared.form.Form.TheVariants.{Data}
 use Rattle.rate_set_two.proofs.SentFrames as second
-use Rattle.base_modulator.specs.Sampled.{made_samples}
-use Rattle.base_modulator.specs.Signal.{frames_of}
-use Rattle.base_modulator.specs.TrafficFrames.{frame_state, set_two, IsTrafficFrame2}
-use Rattle.base_modulator.specs.declared.plan.CellPlan.{CellPlan}
-use Rattle.base_modulator.specs.declared.plan.TrafficPlan.{TrafficPlan}
-use Rattle.base_modulator.specs.declared.traffic_frame2.TrafficFrame2.{TrafficFrame2}
+use Rattle.cell_plan.specs.Sampled.{made_samples}
+use Rattle.cell_plan.specs.Signal.{frames_of}
+use Rattle.cell_plan.specs.TrafficFrames.{frame_state, set_two, IsTrafficFrame2}
+use Rattle.cell_plan.specs.declared.plan.CellPlan.{CellPlan}
+use Rattle.cell_plan.specs.declared.plan.TrafficPlan.{TrafficPlan}
+use Rattle.cell_plan.specs.declared.traffic_frame2.TrafficFrame2.{TrafficFrame2}
 use Rattle.mobile_core.specs.FramesAlone.{traffic_channel}
 use Rattle.mobile_core.specs.Marks.{mark}
 use Rattle.mobile_core.specs.SoftFrames.{frames_within, soft_frame, soft_frames, unturned_at}
@@ -28,7 +28,8 @@ use Rattle.mobile_core.specs.declared.mark.Mark.{Mark}
 use Rattle.chip_core.specs.declared.assignment.Traffic.{Traffic}
 use Rattle.mobile_core.specs.declared.soft_frame.PowerControl.{PowerControl}
 use Rattle.mobile_core.specs.declared.soft_frame.SoftFrame.{SoftFrame}
-use Rattle.clean_link.specs.CleanLink.{soft_strength, IsOnPath, IsReceivable}
+use Rattle.clean_link.specs.CleanLink.{soft_strength, IsOnPath}
+use Rattle.cell_plan.specs.Stated.{IsReceivable}
 use Rattle.clean_link.specs.HeardFrames.{is_received, received_frames, replaced_of, sent_bits}
 use Rattle.clean_link.specs.HeardFrames.{IsAssigned, SendsSetTwo, SendsSymbols, ShowFrame}
 use Rattle.clean_link.specs.ReceivedFrames.{cycled_frame2, word_symbols2}

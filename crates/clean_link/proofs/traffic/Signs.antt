@@ -22,17 +22,17 @@ use Rattle.viterbi.specs.Laws.{signed}
 use Rattle.frame_decoder.specs.Laws.{ShowSymbols}
 use Rattle.symbol_path.specs.FramesTwo as second
 use Rattle.symbol_path.proofs.SentTwo.{length-sent2}
-use Rattle.base_modulator.specs.PageCycles as cycles
-use Rattle.base_modulator.specs.Plan.{IsLawfulPlan, IsTrafficPlan}
-use Rattle.base_modulator.specs.Sampled.{made_samples}
-use Rattle.base_modulator.specs.Signal.{frames_of, traffic_carrier}
-use Rattle.base_modulator.specs.TrafficFrames as sends
-use Rattle.base_modulator.specs.declared.plan.CellPlan.{CellPlan}
-use Rattle.base_modulator.specs.declared.plan.TrafficPlan.{TrafficPlan}
-use Rattle.base_modulator.specs.declared.frame_list.FrameList.{FrameList}
-use Rattle.base_modulator.specs.declared.frame_list.FrameList.TheVariants.{SetOne, SetTwo}
-use Rattle.base_modulator.specs.declared.traffic_frame.TrafficFrame.{TrafficFrame}
-use Rattle.base_modulator.specs.declared.traffic_frame2.TrafficFrame2.{TrafficFrame2}
+use Rattle.cell_plan.specs.PageCycles as cycles
+use Rattle.cell_plan.specs.Plan.{IsLawfulPlan, IsTrafficPlan}
+use Rattle.cell_plan.specs.Sampled.{made_samples}
+use Rattle.cell_plan.specs.Signal.{frames_of, traffic_carrier}
+use Rattle.cell_plan.specs.TrafficFrames as sends
+use Rattle.cell_plan.specs.declared.plan.CellPlan.{CellPlan}
+use Rattle.cell_plan.specs.declared.plan.TrafficPlan.{TrafficPlan}
+use Rattle.cell_plan.specs.declared.frame_list.FrameList.{FrameList}
+use Rattle.cell_plan.specs.declared.frame_list.FrameList.TheVariants.{SetOne, SetTwo}
+use Rattle.cell_plan.specs.declared.traffic_frame.TrafficFrame.{TrafficFrame}
+use Rattle.cell_plan.specs.declared.traffic_frame2.TrafficFrame2.{TrafficFrame2}
 use Rattle.mobile_core.specs.Scrambled.{turned, unscrambled}
 use Rattle.mobile_core.specs.Streams.{frame_softs, frame_start, is_in_file, Stream}
 use Rattle.mobile_core.specs.TrafficEvents.{unturned_softs}

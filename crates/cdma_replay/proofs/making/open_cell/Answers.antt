@@ -1,7 +1,7 @@
 use Rattle.std.proofs.Common.{◌≡◌, ◌≢◌, ◌≤◌, sym, ap, ◌∙◌, subst, rules, Ok, Err, take, length}
-use Rattle.base_modulator.specs.Script.{plan_named}
-use Rattle.base_modulator.specs.declared.script_fault.ScriptFault.{ScriptFault}
-use Rattle.base_modulator.specs.declared.script_fault.ScriptFault.TheVariants.{OutOfMemory}
+use Rattle.cell_script.specs.Script.{plan_named}
+use Rattle.cell_script.specs.declared.script_fault.ScriptFault.{ScriptFault}
+use Rattle.cell_script.specs.declared.script_fault.ScriptFault.TheVariants.{OutOfMemory}
 use Rattle.cdma_replay.specs.Status.{script_status}
 use Rattle.cdma_replay.proofs.Files.{ended_by}
 use Rattle.cdma_replay.proofs.MadeFiles.{bad_script_is, memory_is, read_lawful, read_named}

@@ -1,8 +1,8 @@
 use Rattle.std.proofs.Common.{◌≡◌, ◌∙◌, ap, sym, Ok, rules}
 use Rattle.chip_core.specs.declared.width.Width.TheVariants.{Sixteen}
-use Rattle.base_modulator.specs.Script.{plan_named}
-use Rattle.base_modulator.specs.Trial.{trial_plan}
-use Rattle.base_modulator.proofs.TrialPlans.{trial_named}
+use Rattle.cell_script.specs.Script.{plan_named}
+use Rattle.trial_link.specs.Trial.{trial_plan}
+use Rattle.trial_link.proofs.TrialPlans.{trial_named}
 use Rattle.cdma_replay.proofs.Counting.{state_is}
 use Rattle.cdma_replay.proofs.trial.cell_for.Goals as goal
 

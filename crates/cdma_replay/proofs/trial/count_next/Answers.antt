@@ -1,6 +1,6 @@
 use Rattle.std.proofs.Common.{◌≡◌, List, length, subst, take}
 use Rattle.chip_core.specs.declared.sample.Sample.{Sample}
-use Rattle.base_modulator.specs.Sampled.{made_samples}
+use Rattle.cell_plan.specs.Sampled.{made_samples}
 use Rattle.mobile_core.specs.Events.{events}
 use Rattle.mobile_core.specs.Standing.{StandsFor}
 use Rattle.cdma_replay.specs.Trials.{counts_of}

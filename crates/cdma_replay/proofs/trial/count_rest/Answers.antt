@@ -1,6 +1,6 @@
 use Rattle.std.proofs.Common.{◌≤◌, ◌∙◌, List, ap, arith}
 use Rattle.chip_core.specs.declared.sample.Sample.{Sample}
-use Rattle.base_modulator.specs.declared.plan.CellPlan.{CellPlan}
+use Rattle.cell_plan.specs.declared.plan.CellPlan.{CellPlan}
 use Rattle.mobile_core.specs.Events.{events}
 use Rattle.cdma_replay.specs.Trials.{counts_of}
 use Rattle.cdma_replay.proofs.Counting.{made_all}

@@ -1,5 +1,5 @@
 use Rattle.std.proofs.Common.{◌≡◌, ◌-◌, ◌+◌, length, take}
-use Rattle.base_modulator.specs.Sampled.{made_samples}
+use Rattle.cell_plan.specs.Sampled.{made_samples}
 use Rattle.mobile_core.specs.Events.{events}
 use Rattle.mobile_core.specs.Standing.{StandsFor, has_room, steps_left}
 use Rattle.mobile_core.specs.Tuning.{Tuning}

@@ -2,10 +2,10 @@ use Rattle.std.proofs.Common.{◌≡◌, ◌∙◌, List, [], ap, arith, length,
 use Rattle.chip_core.specs.declared.sample.Sample.{Sample}
 use Rattle.cdma_io.specs.declared.header.Header.{Header}
 use Rattle.chip_core.specs.declared.width.Width.TheVariants.{Sixteen}
-use Rattle.base_modulator.specs.Sampled.{made_samples}
-use Rattle.base_modulator.specs.Transmitter.{CellState, header_of}
-use Rattle.base_modulator.specs.Trial.{trial_plan}
-use Rattle.base_modulator.specs.declared.plan.CellPlan.{CellPlan}
+use Rattle.cell_plan.specs.Sampled.{made_samples}
+use Rattle.cell_plan.specs.Transmitter.{CellState, header_of}
+use Rattle.trial_link.specs.Trial.{trial_plan}
+use Rattle.cell_plan.specs.declared.plan.CellPlan.{CellPlan}
 use Rattle.pilot_search.specs.BestIn.{IsBestIn}
 use Rattle.pilot_search.specs.Search.{best_phase}
 use Rattle.pilot_search.proofs.BestPhase.{best_phase-only}

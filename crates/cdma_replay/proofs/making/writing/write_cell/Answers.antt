@@ -4,7 +4,7 @@ use Rattle.std.specs.Io.KnownBytes.{Appends}
 use Rattle.chip_core.specs.declared.width.Width.{Width}
 use Rattle.cdma_io.specs.Outside.{AppendsPrefix}
 use Rattle.cdma_io.specs.SampleFile.{header_spelling}
-use Rattle.base_modulator.specs.Transmitter.{header_of}
+use Rattle.cell_plan.specs.Transmitter.{header_of}
 use Rattle.cdma_replay.proofs.MadeFiles.{file_whole, header_cut, samples_cut}
 use Rattle.cdma_replay.proofs.making.writing.write_cell.Goals as goal
 

@@ -1,7 +1,7 @@
 use Rattle.std.proofs.Common.{◌≡◌, ◌-◌, min, ap, ◌∙◌, arith, rules}
 use Rattle.std.proofs.lemmas.Result.{err_from_is_err_and}
-use Rattle.base_modulator.specs.declared.plan.CellPlan.{CellPlan}
-use Rattle.base_modulator.specs.Transmitter.{CellState}
+use Rattle.cell_plan.specs.declared.plan.CellPlan.{CellPlan}
+use Rattle.cell_plan.specs.Transmitter.{CellState}
 use Rattle.cdma_replay.proofs.MadeFiles.{piece_cut, piece_more, pieces_all}
 use Rattle.cdma_replay.proofs.making.writing.write_samples.Goals as goal
 

@@ -1,8 +1,0 @@
-use Rattle.base_modulator.proofs.CarriedPages.{pages_are_carried, pages_are_messages}
-use Rattle.base_modulator.proofs.laws.named_pages_are_carried.Goals as goal
-
-pub returns-clause-messages : goal.returns-clause-messages
-returns-clause-messages c = pages_are_messages
-
-pub returns-clause-carried : goal.returns-clause-carried
-returns-clause-carried c = pages_are_carried

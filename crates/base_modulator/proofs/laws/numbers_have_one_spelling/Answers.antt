@@ -1,8 +1,0 @@
-use Rattle.base_modulator.proofs.ScriptNumerals.{one_numeral, one_signed_numeral}
-use Rattle.base_modulator.proofs.laws.numbers_have_one_spelling.Goals as goal
-
-pub returns-clause-signed : goal.returns-clause-signed
-returns-clause-signed c = one_signed_numeral
-
-pub returns-clause-unsigned : goal.returns-clause-unsigned
-returns-clause-unsigned c = one_numeral

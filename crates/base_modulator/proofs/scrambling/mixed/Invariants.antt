@@ -1,9 +1,0 @@
-use Rattle.std.proofs.Common.{◌≡◌, length, take}
-use Rattle.chip_core.specs.Bits.{xor, zip_with}
-use Rattle.base_modulator.proofs.scrambling.mixed.Given as goal
-
-abbrev pub invariant-loop-k : goal.invariant-loop-k
-invariant-loop-k l = record {
-  bits : l.out ≡ zip_with xor (take l.k l.symbols) (take l.k l.chips);
-  count : length l.out ≡ l.k;
-}

@@ -1,5 +1,0 @@
-use Rattle.base_modulator.proofs.ScriptTables.{AreRead}
-use Rattle.base_modulator.proofs.script.fields.Fields.numbers.Given as goal
-
-abbrev pub invariant-loop-k : goal.invariant-loop-k
-invariant-loop-k l = AreRead l.table l.fn.self l.k l.out l.self

@@ -1,7 +1,0 @@
-use Rattle.std.proofs.Common.{refl}
-use Rattle.base_modulator.proofs.ScriptRows.{first_rows}
-use Rattle.base_modulator.proofs.script.judge.ChannelRows.none.Goals as goal
-
-pub returns-clause-seen : goal.returns-clause-seen
-returns-clause-seen c =
-    first_rows _ _ _ c.from-pilot.ensures c.from-sync.ensures refl refl refl refl

@@ -1,9 +1,0 @@
-use Rattle.std.proofs.Common.{length}
-use Rattle.base_modulator.proofs.ScriptReading.{HasRead}
-use Rattle.base_modulator.proofs.script.judged.Given as goal
-
-abbrev pub invariant-loop-rest : goal.invariant-loop-rest
-invariant-loop-rest l = HasRead l.script l.stage l.judge l.n l.rest
-
-abbrev pub decreases-loop-rest : goal.decreases-loop-rest
-decreases-loop-rest l = length l.rest

@@ -1,9 +1,0 @@
-use Rattle.std.proofs.Common.{◌∙◌}
-use Rattle.base_modulator.proofs.ScriptPages.{body_found}
-use Rattle.base_modulator.proofs.script.statements.is_body.Goals as goal
-
-pub returns : goal.returns
-returns c =
-    c.is_some.ensures
-    ∙ body_found c.args.body.now c.from_body.result c.from_body.ensures.found
-    c.from_body.ensures.only

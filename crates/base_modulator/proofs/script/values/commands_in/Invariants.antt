@@ -1,9 +1,0 @@
-use Rattle.std.proofs.Common.{◌≡◌, length}
-use Rattle.base_modulator.proofs.ScriptTexts.{AreBits}
-use Rattle.base_modulator.proofs.script.values.commands_in.Given as goal
-
-abbrev pub invariant-loop-k : goal.invariant-loop-k
-invariant-loop-k l = record {
-  bits : AreBits l.text l.commands l.k;
-  long : length l.commands ≡ 16;
-}

@@ -1,9 +1,0 @@
-use Rattle.std.proofs.Common.{◌≡◌, ◌+◌, ◌*◌, ◌==◌, ◌∷◌, length, take, drop}
-use Rattle.base_modulator.proofs.SentMessages.{padded}
-use Rattle.base_modulator.proofs.sendings.piece_of.Given as goal
-
-abbrev pub invariant-loop-k : goal.invariant-loop-k
-invariant-loop-k l = record {
-  bits : l.bits ≡ (l.place == 0) ∷ take l.k (drop (31 * l.place) (padded l.capsule));
-  count : length l.bits ≡ l.k + 1;
-}

@@ -1,9 +1,0 @@
-use Rattle.base_modulator.specs.TrafficFrames.{traffic_symbols2}
-use Rattle.base_modulator.proofs.TrafficFrames.{made_of}
-use Rattle.base_modulator.proofs.traffic_cycle.symbols_of_two.Goals as goal
-
-pub returns-clause-value : goal.returns-clause-value
-returns-clause-value c =
-    made_of (traffic_symbols2 c.args.state.now c.args.mask) c.args.frames.now c.args.frame
-    c.index-frames-place.result _ c.symbols.result c.requires.some c.index-frames-place.is
-    c.symbols.ensures.value

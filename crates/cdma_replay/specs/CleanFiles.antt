@@ -1,0 +1,36 @@
+-- A clean link whose cell a script names.
+use Rattle.std.specs.Prelude.{ℕ, ◌≡◌, List, take, All, Option, Ok}
+use Rattle.chip_core.specs.declared.sample.Sample.{Sample}
+use Rattle.chip_core.specs.declared.width.Width.{Width}
+use Rattle.cdma_io.specs.declared.header.Header.{Header}
+use Rattle.pilot_search.specs.Search.{best_phase}
+use Rattle.cell_plan.specs.Plan.{IsFreeOf}
+use Rattle.cell_plan.specs.Sampled.{made_samples}
+use Rattle.cell_plan.specs.Transmitter.{phase_at}
+use Rattle.cell_plan.specs.declared.plan.CellPlan.{CellPlan}
+use Rattle.cell_script.specs.Script.{plan_named}
+use Rattle.mobile_core.specs.Events.{events}
+use Rattle.mobile_core.specs.declared.settings.Traffic.{Traffic}
+use Rattle.clean_link.specs.CleanLink.{IsNotDirected, tuning_to}
+
+-- A file holds what a script's cell sends: its flags and samples are the cell's, the search finds
+-- the cell's path, and there is one finger. The link's delay is in the chip at which the file
+-- starts, its rotation and strength are in the factor.
+pub record IsCellFile (width : Width) (script : List ℕ) (plan : CellPlan) (span fingers : ℕ)
+    (header : Header) (samples : List Sample) : Type 0 where
+  pub named : plan_named width script ≡ Ok plan
+  pub sent : samples ≡ made_samples plan
+  pub checks_of_30 : header.check30 ≡ plan.cell.check30
+  pub checks_of_16 : header.check16 ≡ plan.cell.check16
+  pub found : best_phase (take span samples) ≡ phase_at plan plan.link.start
+  pub alone : fingers ≡ 1
+
+-- It is a clean link where moreover no traffic channel has the row of the paging channel that is
+-- followed, and no message that is heard of the traffic channel that is followed, if any, directs a
+-- handoff.
+pub record IsCleanLink (width : Width) (script : List ℕ) (plan : CellPlan) (span : ℕ)
+    (fingers paging : ℕ) (traffic : Option Traffic) (header : Header)
+    (samples : List Sample) : Type 0 where
+  pub file : IsCellFile width script plan span fingers header samples
+  pub free : IsFreeOf plan.traffic paging
+  pub undirected : All IsNotDirected (events (tuning_to plan paging traffic) samples)

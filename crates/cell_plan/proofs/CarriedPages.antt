@@ -1,0 +1,62 @@
+-- The pages of a paging channel whose pages are messages: what they lay carries just their capsules.
+use Rattle.std.proofs.Common.{◌≡◌, ℕ, ◌+◌, ◌≤◌, List, [], ◌∷◌, length, map, refl, sym, ap, subst}
+use Rattle.std.proofs.Common.{◌∙◌, arith, Bool}
+use Rattle.std.specs.Prelude.{All}
+use Rattle.std.proofs.lemmas.List.Elements.{All-cons, All-nil}
+use Rattle.chip_core.specs.declared.check_form.CheckForm.{CheckForm}
+use Rattle.quality_bits.specs.Capsules.{capsule}
+use Rattle.quality_bits.specs.declared.kind.Kind.TheVariants.{M30}
+use Rattle.quality_bits.proofs.Wholes.{length-capsule, whole-capsule}
+use Rattle.quality_bits.specs.declared.rate.Rate.{Rate}
+use Rattle.paging_message.specs.Admitted.{HasMessage}
+use Rattle.paging_message.specs.HalfFrames.{bits_left, half_frame_body}
+use Rattle.paging_message.specs.Laying as laying
+use Rattle.paging_message.proofs.Carried.{laid_is_carried, rate_large}
+use Rattle.cell_plan.specs.declared.plan.Page.{Page}
+use Rattle.cell_plan.specs.declared.plan.PagingPlan.{PagingPlan}
+use Rattle.cell_plan.specs.Pages.{laid_behind, page_cycle, put_of, AreSendable}
+use Rattle.cell_plan.specs.Stated.{AreHeard, IsCarried, IsStatedPaging}
+use Rattle.cell_plan.proofs.LaidPages.{length-on}
+
+-- pages behind what was laid are lawful puts
+puts_lawful : (size : ℕ) (form : CheckForm) (l : laying.Laid) (pages : List Page) (count : ℕ) →
+    length l.body ≡ count → AreSendable size count pages → AreHeard size count pages →
+    laying.AreLawful size l (map (put_of form) pages)
+puts_lawful size form l [] count laid are heard = tt
+puts_lawful size form l (page ∷ pages) count laid are heard =
+    let c = capsule M30 form page.body in
+    let long : length c ≡ 38 + length page.body =
+    omega (arith, length-capsule M30 form page.body) in
+    let next : length (laying.laid_on size l page.follows c).body
+    ≡ laid_behind size count page.follows (38 + length page.body) =
+    length-on size l page.follows c
+    ∙ ap (λ (n : ℕ). laid_behind size n page.follows (length c)) laid
+    ∙ ap (laid_behind size count page.follows) long in (
+      whole-capsule M30 form page.body are.0,
+      λ follows. subst (λ (n : ℕ). 8 ≤ bits_left size n) (sym laid) (heard.1 follows),
+      puts_lawful size form (laying.laid_on size l page.follows c) pages
+          (laid_behind size count page.follows (38 + length page.body)) next are.2 heard.2,
+    )
+
+capsules_of : (form : CheckForm) (pages : List Page) →
+    map (λ (p : laying.Put). p.capsule) (map (put_of form) pages)
+    ≡ map (λ (page : Page). capsule M30 form page.body) pages
+capsules_of form [] = refl
+capsules_of form (page ∷ pages) =
+    ap (λ (cs : List (List Bool)). capsule M30 form page.body ∷ cs) (capsules_of form pages)
+
+pub channel_carried : (rate : Rate) (form : CheckForm) (p : PagingPlan) → IsStatedPaging rate p →
+    IsCarried rate form p
+unfolding page_cycle
+channel_carried rate form p is =
+    laid_is_carried (half_frame_body rate) (map (put_of form) p.pages) (rate_large rate)
+    (puts_lawful (half_frame_body rate) form laying.nothing_laid p.pages 0 refl is.pages is.heard)
+    ∙ capsules_of form p.pages
+
+pub heard_messages : (size count : ℕ) (pages : List Page) → AreHeard size count pages →
+    All (λ (page : Page). HasMessage page.body) pages
+heard_messages size count [] heard = All-nil (λ (page : Page). HasMessage page.body)
+heard_messages size count (page ∷ pages) heard =
+    All-cons (λ (page : Page). HasMessage page.body) page pages heard.0
+    (heard_messages size (laid_behind size count page.follows (38 + length page.body)) pages
+    heard.2)

@@ -1,0 +1,10 @@
+pub mod Amplitudes
+pub mod CarriedPages
+pub mod LaidPages
+pub mod MachineInts
+pub mod PageCycles
+pub mod Pieces
+pub mod SentBits
+pub mod SentMessages
+pub mod SyncFrames
+pub mod TrafficFrames

@@ -1,0 +1,36 @@
+-- How many bits the frames of the sync channel have.
+use Rattle.std.proofs.Common.{◌≡◌, ℕ, suc, ◌+◌, ◌*◌, ◌/◌, ◌%◌, ◌≤◌, false, ◌++◌, length, take, drop}
+use Rattle.std.proofs.Common.{replicate, refl, ap, ◌∙◌, arith}
+use Rattle.std.proofs.lemmas.List.{length-append, length-drop, length-take-le}
+use Rattle.sync_message.specs.SyncMessage.{sync_capsule}
+use Rattle.sync_message.specs.declared.fields.SyncFields.{SyncFields}
+use Rattle.cell_plan.specs.declared.plan.CellIdentity.{CellIdentity}
+use Rattle.cell_plan.specs.Sendings.{message_of, padded_sending, superframes_a_sending}
+use Rattle.cell_plan.specs.Sendings.{sync_frame_bits}
+use Rattle.cell_plan.proofs.SentMessages.{piece_within, superframes_some}
+
+frame_bits-is : (cell : CellIdentity) (m : SyncFields) (frame : ℕ) →
+    length (sync_frame_bits cell m frame)
+    ≡ suc (length
+    (take 31 (drop (31 * (frame % (3 * superframes_a_sending cell m)))
+    (padded_sending cell m (frame / (3 * superframes_a_sending cell m))))))
+unfolding sync_frame_bits
+frame_bits-is cell m frame = refl
+
+-- a frame has 32 bits
+pub length-sync_frame_bits : (cell : CellIdentity) (m : SyncFields) (frame : ℕ) →
+    length (sync_frame_bits cell m frame) ≡ 32
+length-sync_frame_bits cell m frame =
+    let n = superframes_a_sending cell m in
+    let sending = frame / (3 * n) in
+    let place = 31 * (frame % (3 * n)) in
+    let capsule = sync_capsule cell.check30 (message_of cell m sending) in
+    let room : place ≤ length capsule + 62 =
+    piece_within cell m frame n sending capsule refl (superframes_some cell.check30 m) refl
+    in
+    let whole : length (capsule ++ replicate 93 false) ≡ length capsule + 93 =
+    length-append capsule (replicate 93 false) in
+    let enough : 31 ≤ length (drop place (capsule ++ replicate 93 false)) =
+    omega (arith, room, whole, length-drop place (capsule ++ replicate 93 false)) in
+    frame_bits-is cell m frame ∙
+    ap suc (length-take-le 31 (drop place (capsule ++ replicate 93 false)) enough)

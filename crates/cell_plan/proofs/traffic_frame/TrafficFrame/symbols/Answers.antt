@@ -1,0 +1,20 @@
+use Rattle.std.proofs.Common.{ℕ, ap, ◌∙◌}
+use Rattle.symbol_path.specs.Scrambling.{scrambling, with_commands}
+use Rattle.symbol_path.specs.SentOrder.{data_shape, sent}
+use Rattle.quality_bits.specs.TrafficWords.{repeats_of}
+use Rattle.cell_plan.specs.PageCycles.{scrambled}
+use Rattle.cell_plan.specs.TrafficFrames.{traffic_symbols}
+use Rattle.cell_plan.proofs.traffic_frame.TrafficFrame.symbols.Goals as goal
+
+pub returns-clause-value : goal.returns-clause-value
+unfolding traffic_symbols
+returns-clause-value c =
+    let f = c.args.self.now in
+    let state = c.args.state.now in
+    let mask = c.args.mask in
+    let placed = c.place_into.ensures.value
+    ∙ ap (λ (n : ℕ). sent data_shape n c.code-code.result) c.repeats.ensures.value
+    ∙ ap (sent data_shape (repeats_of f.rate)) c.code-code.ensures.value in
+    c.with_commands.ensures.value
+    ∙ ap (with_commands state mask f.commands)
+    (c.scrambled-mixed.ensures.value ∙ ap (scrambled (scrambling state mask)) placed)

@@ -1,0 +1,10 @@
+pub mod Pages
+pub mod PageCycles
+pub mod Plan
+pub mod Sampled
+pub mod Sendings
+pub mod Signal
+pub mod Stated
+pub mod TrafficFrames
+pub mod Transmitter
+mod Worked

@@ -1,0 +1,52 @@
+-- Pages, and the half-frames in which a paging channel sends them (TIA/EIA-95-B, 7.7.2.1).
+use Rattle.std.specs.Prelude.{ℕ, ◌+◌, ◌-◌, ◌/◌, ◌≤◌, ◌==◌, if◌then◌else◌, Bool, List, [], ◌∷◌}
+use Rattle.std.specs.Prelude.{length}
+use Rattle.std.specs.Prelude.{map, Option, None, Some}
+use Rattle.chip_core.specs.declared.check_form.CheckForm.{CheckForm}
+use Rattle.quality_bits.specs.Capsules.{capsule, FillsCapsule}
+use Rattle.quality_bits.specs.declared.kind.Kind.TheVariants.{M30}
+use Rattle.quality_bits.specs.declared.rate.Rate.{Rate}
+use Rattle.quality_bits.specs.declared.rate.Rate.TheVariants.{R9600, R4800}
+use Rattle.paging_message.specs.HalfFrames.{half_frame_body}
+use Rattle.paging_message.specs.Laying.{fill, half_frames_of, laid_all, nothing_laid, Laid, Put}
+use Rattle.cell_plan.specs.declared.plan.Page.{Page}
+use Rattle.cell_plan.specs.declared.plan.SyncPlan.{SyncPlan}
+
+-- the rate of a cell's paging channels: 4800 where its sync message has PRAT 1, and else 9600
+-- (7.7.1.3)
+abbrev pub paging_rate : Option SyncPlan → Rate
+paging_rate None = R9600
+paging_rate (Some sync) = if sync.message.prat == 1 then R4800 else R9600
+
+-- a page's capsule, and whether it follows the one before at once
+abbrev pub put_of : CheckForm → Page → Put
+put_of form page = record { follows = page.follows; capsule = capsule M30 form page.body }
+
+-- what pages lay in half-frames of so many body bits
+abbrev pub laid_pages : ℕ → CheckForm → List Page → Laid
+laid_pages size form pages = laid_all size nothing_laid (map (put_of form) pages)
+
+-- the half-frames of pages, padded with zeros to whole ones
+unfoldable pub page_cycle : Rate → CheckForm → List Page → List Bool
+page_cycle rate form pages =
+    half_frames_of (half_frame_body rate) (laid_pages (half_frame_body rate) form pages)
+
+-- ---- how many bits they have
+
+-- the body bits behind a capsule of so many bits that is laid behind others
+abbrev pub laid_behind : ℕ → ℕ → Bool → ℕ → ℕ
+laid_behind size count follows bits =
+    if follows then count + bits else count + fill size count + bits
+
+-- the bits of half-frames up to the last of so many body bits, SCI bits among them
+abbrev pub half_frame_bits : ℕ → ℕ → ℕ
+half_frame_bits size count = count + (count + size - 1) / size
+
+-- Pages behind so many body bits: each fills a capsule, and the half-frames have at most 8,192 bits
+-- up to the end of the last capsule.
+abbrev pub AreSendable : ℕ → ℕ → List Page → Type 0
+AreSendable size count [] = Unit {0}
+AreSendable size count (page ∷ pages) =
+    let behind = laid_behind size count page.follows (38 + length page.body) in
+    FillsCapsule M30 page.body × (half_frame_bits size behind ≤ 8192)
+    × AreSendable size behind pages

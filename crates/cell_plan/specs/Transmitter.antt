@@ -1,0 +1,62 @@
+-- What the transmitter's parts stand for.
+use Rattle.std.specs.Prelude.{ℕ, ◌+◌, ◌-◌, ◌*◌, ◌<◌, ◌≤◌, ◌%◌}
+use Rattle.std.specs.Prelude.{ℤ, unsigned_abs, Option, None, Some}
+use Rattle.chip_core.specs.declared.sample.Pair.{Pair}
+use Rattle.long_code.specs.LongCode.{IsState}
+use Rattle.cdma_io.specs.declared.header.Header.{Header}
+use Rattle.chip_core.specs.declared.width.Width.{Width}
+use Rattle.chip_core.specs.declared.width.Width.TheVariants.{Sixteen, Eight}
+use Rattle.sync_message.specs.SyncMessage.{IsSyncMessage}
+use Rattle.sync_message.specs.declared.fields.SyncFields.{SyncFields}
+use Rattle.cell_plan.specs.declared.plan.CellIdentity.{CellIdentity}
+use Rattle.cell_plan.specs.declared.plan.CellPlan.{CellPlan}
+use Rattle.cell_plan.specs.declared.plan.SyncPlan.{SyncPlan}
+
+-- a cell: the width of its samples, its plan, and how many samples it has given
+pub record CellState : Type 0 where
+  pub width : Width
+  pub plan : CellPlan
+  pub given : ℕ
+
+-- the version of a file of this width
+abbrev pub version_of : Width → ℕ
+version_of Sixteen = 1
+version_of Eight = 2
+
+-- the header of a cell's file
+abbrev pub header_of : Width → CellPlan → Header
+header_of width plan =
+    record {
+      version = version_of width;
+      check30 = plan.cell.check30;
+      check16 = plan.cell.check16;
+      count = plan.link.samples;
+    }
+
+-- the sendings of a message by a cell
+pub record Sent : Type 0 where
+  pub cell : CellIdentity
+  pub message : SyncFields
+
+-- a cell that can send a message: what each sending fills in fits its field
+pub record IsSendable (cell : CellIdentity) (m : SyncFields) : Type 0 where
+  pub pn : cell.pn < 512
+  pub time : cell.time ≤ 34359738368
+  pub lc : IsState cell.lc
+  pub message : IsSyncMessage m
+
+-- the code's phase at a local chip
+abbrev pub phase_at : CellPlan → ℕ → ℕ
+phase_at plan chip = (chip + 32768 - 64 * plan.cell.pn) % 32768
+
+-- two signs, and the point that they name
+abbrev pub IsPoint : ℤ × ℤ → Type 0
+IsPoint signs = (unsigned_abs signs.0 ≤ 1) × (unsigned_abs signs.1 ≤ 1)
+
+abbrev pub point_of : ℤ × ℤ → Pair
+point_of signs = record { i = signs.0; q = signs.1 }
+
+-- the message of a plan's sync channel can be sent
+abbrev pub IsSendableSync : CellPlan → Option SyncPlan → Type 0
+IsSendableSync plan None = Unit {0}
+IsSendableSync plan (Some sync) = IsSendable plan.cell sync.message

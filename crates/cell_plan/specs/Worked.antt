@@ -1,0 +1,56 @@
+-- Worked values of what a cell sends, which the checker computes.
+use Rattle.std.specs.Prelude.{◌≡◌, [], refl, ◌^◌, replicate, false, pos, negsuc, Option, Some, None}
+use Rattle.chip_core.specs.Bits.{binary, places}
+use Rattle.chip_core.specs.declared.check_form.CheckForm.TheVariants.{Plain}
+use Rattle.long_code.specs.LongCode.{after}
+use Rattle.short_code.specs.ShortCode.{chips_to}
+use Rattle.quality_bits.specs.Capsules.{capsule}
+use Rattle.quality_bits.specs.Quality.{check_bits}
+use Rattle.symbol_path.specs.SentOrder.{sent}
+use Rattle.sync_message.specs.SyncMessage.{sync_body, sync_capsule}
+use Rattle.walsh.specs.Walsh.{walsh}
+use Rattle.cell_plan.specs.declared.plan.CellPlan.{CellPlan}
+use Rattle.cell_plan.specs.declared.plan.SyncPlan.{SyncPlan}
+use Rattle.cell_plan.specs.Sendings.{message_of, sync_frame_bits, continued_symbols}
+use Rattle.cell_plan.specs.Sendings.{sync_symbols}
+use Rattle.cell_plan.specs.Signal.{carriers, sent_chip, sample_of}
+
+cell : Option SyncPlan → CellPlan
+cell sync = record {
+  cell = record { pn = 0; time = 1000; lc = 2 ^ 41; check30 = Plain; check16 = Plain };
+  link = record { factor = record { i = pos 0; q = negsuc 2 }; start = 0; samples = 1 };
+  pilot = record { gain = 100 };
+  sync = sync;
+  paging = [];
+  traffic = [];
+}
+
+channel : SyncPlan
+channel = record {
+  gain = 30;
+  message = record {
+    prev = 3;
+    min = 1;
+    sid = 1;
+    nid = 2;
+    pn = 0;
+    lc = 1;
+    time = 0;
+    lp = 13;
+    ltm = 0;
+    daylt = 0;
+    prat = 0;
+    freq = None;
+    rest = replicate 3 false;
+  };
+}
+
+pilot_alone : sample_of (cell None) 0 ≡ record { i = negsuc 299; q = pos 300 }
+unfolding cell sample_of carriers sent_chip chips_to walsh binary
+pilot_alone = refl
+
+with_sync : sample_of (cell (Some channel)) 0 ≡ record { i = negsuc 209; q = pos 210 }
+unfolding cell channel sample_of carriers sent_chip chips_to walsh binary sync_symbols
+    continued_symbols sync_frame_bits message_of after sync_capsule sync_body capsule check_bits
+    places sent
+with_sync = refl

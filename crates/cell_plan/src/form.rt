@@ -1,0 +1,33 @@
+//! How the frames of a channel follow one another.
+
+use chip_core::air::{
+    DATA_FRAME_CHIPS, DATA_SYMBOL_CHIPS, SYNC_FRAME_CHIPS, SYNC_SYMBOL_CHIPS, WALSH_CHIPS,
+};
+
+/// How long the frames and the symbols of a channel are as it is sent, in chips: a frame is a
+/// number of symbols, and a symbol a number of periods of the channel's row (TIA/EIA-95-B, 7.1.3).
+#[derive(Clone, Copy, PartialEq, Eq, Debug)]
+pub struct ChannelForm {
+    /// The chips of a frame.
+    pub frame_chips: u64,
+    /// The chips of a symbol.
+    pub symbol_chips: u64,
+}
+
+/// The pilot's form: it sends one symbol after the other (7.1.3.2).
+pub const PILOT_FORM: ChannelForm = ChannelForm {
+    frame_chips: WALSH_CHIPS,
+    symbol_chips: WALSH_CHIPS,
+};
+
+/// The form of the sync channel (7.1.3.3).
+pub const SYNC_FORM: ChannelForm = ChannelForm {
+    frame_chips: SYNC_FRAME_CHIPS,
+    symbol_chips: SYNC_SYMBOL_CHIPS,
+};
+
+/// The form of a paging channel, and of a traffic channel (7.1.3.4, 7.1.3.5).
+pub const PAGING_FORM: ChannelForm = ChannelForm {
+    frame_chips: DATA_FRAME_CHIPS,
+    symbol_chips: DATA_SYMBOL_CHIPS,
+};

@@ -1,0 +1,4 @@
+pub mod Blocks
+pub mod Levels
+pub mod Running
+pub mod SentFrames

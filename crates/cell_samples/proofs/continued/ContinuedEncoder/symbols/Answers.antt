@@ -1,0 +1,24 @@
+use Rattle.std.proofs.Common.{◌≡◌, ℕ, ap, ◌∙◌}
+use Rattle.symbol_path.specs.SentOrder.{sent, shape_of}
+use Rattle.symbol_path.specs.declared.kinds.Kind.{Kind}
+use Rattle.cell_samples.specs.declared.frame_source.FrameSource.{FrameSource}
+use Rattle.cell_samples.specs.Continued.{kind_of, repeats_in, scrambled_by}
+use Rattle.cell_samples.proofs.SentFrames.{symbols_are}
+use Rattle.cell_samples.proofs.continued.ContinuedEncoder.symbols.Goals as goal
+
+pub returns-clause-value : goal.returns-clause-value
+returns-clause-value c =
+    let source = c.args.self.now in
+    let code = c.code-code in
+    let same : c.self.inside.source ≡ source = c.self.view_is ∙ code.ensures.same in
+    let placed : c.place_into.new.out
+    ≡ sent (shape_of (kind_of source)) (repeats_in source) code.result =
+    c.place_into.ensures.value
+    ∙ ap (λ (k : Kind). sent (shape_of k) c.repeats.result code.result)
+    (c.kind.ensures ∙ ap kind_of same)
+    ∙ ap (λ (n : ℕ). sent (shape_of (kind_of source)) n code.result)
+    (c.repeats.ensures ∙ ap repeats_in same) in
+    symbols_are source c.args.frame code.result c.scrambled.result code.ensures.value
+    (c.scrambled.ensures.value
+    ∙ ap (λ (s : FrameSource). scrambled_by s c.args.frame c.place_into.new.out) same
+    ∙ ap (scrambled_by source c.args.frame) placed)

@@ -1,0 +1,44 @@
+use Rattle.std.proofs.Common.{◌≡◌, ℕ, ◌%◌, Bool, false, ◌∷◌, [], ◌++◌, length, get_or, refl, sym}
+use Rattle.std.proofs.Common.{ap, ◌∙◌, arith, length-append}
+use Rattle.cell_plan.specs.PageCycles.{Cycle}
+use Rattle.cell_plan.proofs.PageCycles.{bit_more, bit_of_frame, frame_bits-is, frame_is}
+use Rattle.cell_plan.proofs.PageCycles.{no_bits}
+use Rattle.cell_samples.proofs.page_cycle.PageCycle.frame_bits.Goals as goal
+
+pub loop-k-init : goal.loop-k-init
+loop-k-init c = record {
+  value = c.empty-bits.ensures
+      ∙ no_bits c.args.self.now.bits c.frame_bits-size.result c.args.frame;
+  count = ap length c.empty-bits.ensures;
+}
+
+pub loop-k-preserved : goal.loop-k-preserved
+loop-k-preserved c =
+    let i = c.loop-k.invariant in
+    let size = c.frame_bits-size.result in
+    let cycle = c.args.self.now.bits in
+    let bit = c.bit.result in
+    let e : c.append.new.self ≡ c.loop-k.bits ++ bit_of_frame cycle size c.args.frame c.loop-k.k
+    ∷ [] =
+    c.append.ensures
+    ∙ ap (λ (b : Bool). c.loop-k.bits ++ b ∷ [])
+    (c.bit.ensures
+    ∙ ap (λ (n : ℕ). get_or cycle (n % length cycle) false)
+    (rw (c.from.ensures, c.from-in-loop-k.ensures) refl)) in
+    record {
+      value = e ∙ bit_more cycle c.loop-k.bits size c.args.frame c.loop-k.k i.value;
+      count = omega (
+        arith,
+        ap length e,
+        length-append c.loop-k.bits (bit_of_frame cycle size c.args.frame c.loop-k.k ∷ []),
+        i.count,
+      );
+    }
+
+pub returns-clause-value : goal.returns-clause-value
+returns-clause-value c =
+    let size = c.frame_bits-size in
+    frame_is c.args.self.now c.loop-k.bits size.result c.args.frame c.loop-k.k
+    (frame_bits-is c.args.self.now.rate size.result
+    (rw (sym (ap (λ (v : Cycle). v.rate) c.self.view_is)) size.ensures))
+    (omega (arith, c.loop-k-test.false)) c.loop-k.invariant.value

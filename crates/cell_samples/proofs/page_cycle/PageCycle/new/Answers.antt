@@ -1,0 +1,23 @@
+use Rattle.std.proofs.Common.{◌≡◌, ℕ, ◌+◌, ◌/◌, Bool, List, ap, arith}
+use Rattle.quality_bits.specs.declared.rate.Rate.{Rate}
+use Rattle.paging_message.specs.HalfFrames.{half_frame_body}
+use Rattle.cell_plan.specs.declared.plan.CellIdentity.{CellIdentity}
+use Rattle.cell_plan.specs.PageCycles.{Cycle}
+use Rattle.cell_plan.specs.Pages.{page_cycle}
+use Rattle.cell_plan.proofs.LaidPages.{cycle_is}
+use Rattle.cell_plan.proofs.PageCycles.{frame_bits-is}
+use Rattle.cell_samples.proofs.page_cycle.PageCycle.new.Goals as goal
+
+abbrev cycle_with : CellIdentity → ℕ → Rate → List Bool → Cycle
+cycle_with cell mask rate bits = record { cell = cell; mask = mask; rate = rate; bits = bits }
+
+pub returns : goal.returns
+returns c =
+    let rate = c.args.rate in
+    let form = c.args.cell.now.check30 in
+    let half : c.frame_bits.result / 2 ≡ half_frame_body rate + 1 =
+    omega (arith, frame_bits-is rate c.frame_bits.result c.frame_bits.ensures) in
+    let same : c.fill_up.new.bits ≡ page_cycle rate form c.args.pages.now =
+    cycle_is rate form c.args.pages.now (c.frame_bits.result / 2) c.laid-bits.result
+    c.fill_up.new.bits half c.laid-bits.ensures.value c.fill_up.ensures in
+    ap (cycle_with c.args.cell.now c.args.mask rate) same

@@ -1,0 +1,7 @@
+use Rattle.paging_message.specs.HalfFrames.{half_frame_body}
+use Rattle.cell_plan.proofs.LaidPages.{IsLaying}
+use Rattle.cell_samples.proofs.page_cycle.laid.Given as goal
+
+abbrev pub invariant-loop-page : goal.invariant-loop-page
+invariant-loop-page l =
+    IsLaying (half_frame_body l.fn.rate) l.form l.pages l.page-index l.layout l.bits

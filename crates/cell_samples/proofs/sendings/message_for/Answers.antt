@@ -1,0 +1,31 @@
+use Rattle.std.proofs.Common.{◌≡◌, ◌+◌, ◌*◌, ◌<◌, ◌^◌, ℕ, ap, ◌∙◌}
+use Rattle.long_code.specs.LongCode.{after}
+use Rattle.cell_plan.specs.Sendings.{message_of, told_superframes}
+use Rattle.cell_plan.proofs.SentMessages.{refilled, refilled_is, told_early}
+use Rattle.cell_samples.proofs.sendings.message_for.Goals as goal
+
+pub returns-clause-value : goal.returns-clause-value
+unfolding message_of
+returns-clause-value c =
+    let cell = c.args.cell.now in
+    let m = c.args.message.now in
+    let told = (c.args.sending + 1) * c.args.superframes + 4 in
+    let same : told ≡ told_superframes cell m c.args.sending =
+    ap (λ (n : ℕ). (c.args.sending + 1) * n + 4) c.requires.superframes in
+    let state : c.unwrap-state.result ≡ cell.lc =
+    (rw c.unwrap-state.ensures at c.new.ensures).1 in
+    let lc : c.value.result ≡ after cell.lc (98304 * told) = c.value.ensures.value
+    ∙ c.jump.ensures.later ∙ ap (λ (s : ℕ). after s (98304 * told)) state in
+    ap (λ (lc : ℕ). refilled m cell.pn (cell.time + told) lc) lc
+    ∙ ap (λ (t : ℕ). refilled m cell.pn (cell.time + t) (after cell.lc (98304 * t)))
+    same
+
+pub returns-clause-is : goal.returns-clause-is
+returns-clause-is c =
+    let cell = c.args.cell.now in
+    let r = c.requires in
+    let early : cell.time + ((c.args.sending + 1) * c.args.superframes + 4) < 2 ^ 36 =
+    told_early cell.time c.args.sending c.args.superframes r.sendable.time r.few r.early in
+    refilled_is c.args.message.now cell.pn
+    (cell.time + ((c.args.sending + 1) * c.args.superframes + 4)) c.value.result
+    r.sendable.message r.sendable.pn early c.value.ensures.state.1

@@ -1,0 +1,4 @@
+pub mod Channels
+pub mod Continued
+pub mod Kept
+pub mod Running

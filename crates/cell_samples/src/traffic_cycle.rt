@@ -1,0 +1,126 @@
+//! The frames of a traffic channel.
+
+ghost use Rattle.std.specs.Prelude.{◌≡◌, ◌+◌, ◌*◌, ◌<◌, ◌≤◌, ◌^◌, length, All};
+ghost use Rattle.std.specs.List.{flat_map};
+ghost use Rattle.long_code.specs.LongCode.{IsState};
+ghost use Rattle.cell_plan.specs.TrafficFrames.{frame_state, traffic_frame_symbols};
+ghost use Rattle.cell_plan.specs.TrafficFrames.{cycled, frame_count, traffic_symbols};
+ghost use Rattle.cell_plan.specs.TrafficFrames.{traffic_symbols2, AreTrafficFrames};
+ghost use Rattle.cell_plan.specs.TrafficFrames.{IsTrafficFrame, IsTrafficFrame2};
+
+use cell_plan::{CellIdentity, FrameList, TrafficFrame, TrafficFrame2};
+use chip_core::Bits;
+use chip_core::air::{DATA_FRAME_CHIPS, FRAME_OFFSET_CHIPS};
+use long_code::State;
+use std::marker::Model;
+
+/// The frames of a traffic channel, which a cell sends again and again. Contracts see the cell, the
+/// long code's mask, FRAME_OFFSET, and the frames.
+///
+/// TIA/EIA-95-B, 7.1.3.5: each frame is encoded by itself, so a frame's symbols don't depend on the
+/// frames before it. Nothing is allocated while symbols are made.
+#[derive(Drop)]
+pub struct TrafficCycle {
+    cell: CellIdentity,
+    mask: u64,
+    offset: u8,
+    frames: FrameList,
+}
+
+impl Model for TrafficCycle {
+    ghost use Rattle.cell_plan.specs.TrafficFrames.{FrameCycle, IsFrameCycle};
+
+    ghost Value = { FrameCycle };
+
+    ghost view = { λ c.
+        record { cell = c.cell; mask = c.mask; offset = c.offset; frames = c.frames } };
+
+    ghost invariant = { λ c. IsFrameCycle
+        (record { cell = c.cell; mask = c.mask; offset = c.offset; frames = c.frames }) };
+}
+
+/// The 384 symbols of a frame of rate set 1, which begins at a state of the long code.
+fn symbols_of_one(frames: &[TrafficFrame], frame: u64, state: &State, mask: u64) -> Bits
+    requires mask { mask < 2 ^ 42 }
+    requires some { 1 ≤ length frames.now }
+    requires frames { All IsTrafficFrame frames.now }
+    ensures value { result ≡
+        flat_map (traffic_symbols state.now mask) (cycled frames.now frame) }
+    ensures count { length result ≡ 384 }
+{
+    let place = (frame % frames.len() as u64) as usize;
+    frames[place].symbols(state, mask)
+}
+
+/// The 384 symbols of a frame of rate set 2, which begins at a state of the long code.
+fn symbols_of_two(frames: &[TrafficFrame2], frame: u64, state: &State, mask: u64) -> Bits
+    requires mask { mask < 2 ^ 42 }
+    requires some { 1 ≤ length frames.now }
+    requires frames { All IsTrafficFrame2 frames.now }
+    ensures value { result ≡
+        flat_map (traffic_symbols2 state.now mask) (cycled frames.now frame) }
+    ensures count { length result ≡ 384 }
+{
+    let place = (frame % frames.len() as u64) as usize;
+    frames[place].symbols(state, mask)
+}
+
+impl TrafficCycle {
+    /// The frames that a cell sends under a mask of the long code, with a FRAME_OFFSET.
+    pub fn new(cell: &CellIdentity, mask: u64, offset: u8, frames: FrameList) -> TrafficCycle
+        requires lc { IsState cell.now.lc }
+        requires mask { mask < 2 ^ 42 }
+        requires offset { offset ≤ 15 }
+        requires some { 1 ≤ frame_count frames }
+        requires frames { AreTrafficFrames frames }
+        ensures { result ≡ record {
+          cell = cell.now;
+          mask = mask;
+          offset = offset;
+          frames = frames;
+        } }
+    {
+        TrafficCycle {
+            cell: *cell,
+            mask,
+            offset,
+            frames,
+        }
+    }
+
+    /// The local chip at which a frame begins.
+    pub fn first_chip(&self, frame: u64) -> u64
+        requires { frame < 2 ^ 20 }
+        ensures { result ≡ 24576 * frame + 1536 * self.now.offset }
+    {
+        DATA_FRAME_CHIPS * frame + FRAME_OFFSET_CHIPS * u64::from(self.offset)
+    }
+
+    /// The long code's state at a frame's first chip.
+    fn state_at(&self, frame: u64) -> State
+        requires { frame < 2 ^ 20 }
+        ensures { result ≡ frame_state self.now frame }
+    {
+        let mut state = State::new(self.cell.lc).unwrap();
+        state.jump(self.first_chip(frame));
+        state
+    }
+
+    /// The 384 symbols of a frame as they are sent.
+    #[tactic(auto, unfolding(cell_plan::specs::TrafficFrames::traffic_frame_symbols))]
+    pub fn symbols(&self, frame: u64) -> Bits
+        requires { frame < 2 ^ 20 }
+        ensures value { result ≡ traffic_frame_symbols self.now frame }
+        ensures count { length result ≡ 384 }
+    {
+        let state = self.state_at(frame);
+        match &self.frames {
+            FrameList::SetOne(frames) => {
+                symbols_of_one(frames.as_slice(), frame, &state, self.mask)
+            }
+            FrameList::SetTwo(frames) => {
+                symbols_of_two(frames.as_slice(), frame, &state, self.mask)
+            }
+        }
+    }
+}

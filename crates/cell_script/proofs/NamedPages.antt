@@ -1,0 +1,40 @@
+-- The pages of a named plan: what they lay carries just their capsules.
+use Rattle.std.proofs.Common.{◌≡◌, ℕ, List, Ok}
+use Rattle.std.specs.Prelude.{All}
+use Rattle.std.proofs.lemmas.List.Elements.{All-weaker}
+use Rattle.chip_core.specs.declared.check_form.CheckForm.{CheckForm}
+use Rattle.chip_core.specs.declared.width.Width.{Width}
+use Rattle.paging_message.specs.HalfFrames.{half_frame_body}
+use Rattle.cell_plan.specs.declared.plan.CellPlan.{CellPlan}
+use Rattle.cell_plan.specs.declared.plan.PagingPlan.{PagingPlan}
+use Rattle.cell_plan.specs.Pages.{paging_rate}
+use Rattle.cell_script.specs.Script.{plan_named}
+use Rattle.cell_plan.specs.Stated.{HasMessages, IsCarried, IsReceivable, IsStatedPaging}
+use Rattle.cell_plan.proofs.CarriedPages.{channel_carried, heard_messages}
+use Rattle.cell_script.proofs.NamedPlans.{named_plan, named_said}
+
+pub pages_are_messages : (width : Width) (script : List ℕ) (plan : CellPlan) →
+    plan_named width script ≡ Ok plan → All HasMessages plan.paging
+pages_are_messages width script plan e =
+    let rate = paging_rate plan.sync in
+    All-weaker (IsStatedPaging rate) HasMessages
+    (λ (p : PagingPlan) is. heard_messages (half_frame_body rate) 0 p.pages is.heard) plan.paging
+    (named_said width script plan e).lawful.paging
+
+pub pages_are_carried : (width : Width) (script : List ℕ) (plan : CellPlan) (form : CheckForm) →
+    plan_named width script ≡ Ok plan → All (IsCarried (paging_rate plan.sync) form) plan.paging
+pages_are_carried width script plan form e =
+    let rate = paging_rate plan.sync in
+    All-weaker (IsStatedPaging rate) (IsCarried rate form)
+    (λ (p : PagingPlan) is. channel_carried rate form p is) plan.paging
+    (named_said width script plan e).lawful.paging
+
+pub named_receivable : (width : Width) (script : List ℕ) (plan : CellPlan) →
+    plan_named width script ≡ Ok plan → IsReceivable width plan
+named_receivable width script plan e =
+    let both = named_plan width script plan e in
+    record {
+      lawful = both.0;
+      link = both.1;
+      pages = (named_said width script plan e).lawful.paging;
+    }

@@ -1,0 +1,895 @@
+-- The plan that a script names is lawful, and its link isn't 0.
+use Rattle.std.proofs.Common.{◌≡◌, ℕ, zero, suc, ◌+◌, ◌-◌, ◌<◌, ◌≤◌, Bool, true, false, cond}
+use Rattle.std.proofs.Common.{List, [], ◌∷◌, ◌++◌, length, take, refl, sym, ap, subst, ◌∙◌}
+use Rattle.std.proofs.Common.{arith, Option, None, Some, Result, Ok, Err}
+use Rattle.std.specs.Option.{option_or}
+use Rattle.std.specs.Prelude.{nat_lt, ◌==◌, ok_or, option_map, option_and_then, All}
+use Rattle.std.proofs.lemmas.Bool.{and_parts, cond-true, cond-false, eqb-true, leb-true, ltb-false}
+use Rattle.std.proofs.lemmas.List.{length-append}
+use Rattle.std.proofs.lemmas.List.Elements.{All-nil, All-push}
+use Rattle.std.proofs.lemmas.Option.{cond_some, same_Some}
+use Rattle.chip_core.specs.Complex.{norm}
+use Rattle.cdma_io.specs.SampleFile.{most_samples}
+use Rattle.chip_core.specs.declared.width.Width.{Width}
+use Rattle.quality_bits.specs.Capsules.{FillsCapsule}
+use Rattle.quality_bits.specs.declared.kind.Kind.TheVariants.{M30}
+use Rattle.quality_bits.specs.declared.rate.Rate.{Rate}
+use Rattle.quality_bits.specs.declared.rate.Rate.TheVariants.{R9600, R4800}
+use Rattle.paging_message.specs.Admitted.{HasMessage}
+use Rattle.paging_message.specs.HalfFrames.{bits_left, half_frame_body}
+use Rattle.cell_plan.specs.Pages.{half_frame_bits, laid_behind, paging_rate, AreSendable}
+use Rattle.cell_plan.specs.declared.plan.CellPlan.{CellPlan}
+use Rattle.cell_plan.specs.declared.plan.Page.{Page}
+use Rattle.cell_plan.specs.declared.plan.PagingPlan.{PagingPlan}
+use Rattle.cell_plan.specs.declared.plan.CellIdentity.{CellIdentity}
+use Rattle.cell_plan.specs.declared.plan.LinkPlan.{LinkPlan}
+use Rattle.cell_plan.specs.declared.plan.PilotPlan.{PilotPlan}
+use Rattle.cell_plan.specs.declared.plan.SyncPlan.{SyncPlan}
+use Rattle.cell_script.specs.declared.stage.Stage.{Stage}
+use Rattle.cell_script.specs.declared.stage.Stage.TheVariants.{Cell, Link, Pilot, Sync}
+use Rattle.cell_script.specs.declared.stage.Stage.TheVariants.{Paging, FirstPage, Pages}
+use Rattle.cell_script.specs.declared.stage.Stage.TheVariants.{Traffic, FirstFrame}
+use Rattle.cell_script.specs.declared.stage.Stage.TheVariants.{Frames, Frames2}
+use Rattle.cell_plan.specs.declared.plan.TrafficPlan.{TrafficPlan}
+use Rattle.cell_plan.specs.declared.frame_list.FrameList.{FrameList}
+use Rattle.cell_plan.specs.declared.traffic_frame.TrafficFrame.{TrafficFrame}
+use Rattle.cell_plan.specs.declared.traffic_frame2.TrafficFrame2.{TrafficFrame2}
+use Rattle.cell_script.specs.declared.statements.PagingLine.{PagingLine}
+use Rattle.cell_script.specs.declared.statements.TrafficLine.{TrafficLine}
+use Rattle.cell_script.specs.declared.statements.Statement.{Statement}
+use Rattle.cell_script.specs.declared.statements.Statement.TheVariants as statements
+use Rattle.cell_script.specs.declared.script_fault.ScriptFault.{ScriptFault}
+use Rattle.cell_script.specs.declared.script_fault.ScriptFault.TheVariants.{Gain, TooBig, Walsh}
+use Rattle.cell_plan.specs.Plan.{loudness, most_part, IsLawfulPlan, IsSyncPlan}
+use Rattle.cell_script.specs.Script.{draft_after, gain_fault, is_line, lines, long_fault}
+use Rattle.cell_script.specs.Script.{channel_lines, loud_fault, named, plan_fault, plan_named}
+use Rattle.cell_script.specs.Script.{traffic_lines}
+use Rattle.cell_script.specs.Script.{repeated, silent, stated, stated_plan, sync_gain_fault}
+use Rattle.cell_script.specs.Script.{unless, walsh_fault}
+use Rattle.cell_script.specs.ScriptDrafts.{draft_at, Draft, empty_draft, empty_plan, opened}
+use Rattle.cell_script.specs.ScriptDrafts.{on_last, opened_traffic}
+use Rattle.cell_plan.specs.TrafficFrames.{with_one, with_two}
+use Rattle.cell_script.specs.ScriptJudged.{IsInOrder}
+use Rattle.cell_script.specs.ScriptDrafts.{plan_at, with_line, with_next, with_page}
+use Rattle.cell_script.specs.ScriptDrafts.{with_statement}
+use Rattle.cell_script.specs.ScriptLines.{statement_in}
+use Rattle.cell_plan.specs.Stated.{AreHeard, HasSaid, IsStatedCell}
+use Rattle.cell_script.specs.ScriptPlans.{IsLawful}
+use Rattle.cell_plan.specs.Stated.{IsStatedLink, IsStatedPaging, IsStatedPlan}
+use Rattle.cell_plan.specs.Stated.{IsStatedSync, IsStatedTraffic}
+use Rattle.cell_plan.specs.TrafficFrames.{frame_count, set_one, set_two, AreTrafficFrames}
+use Rattle.cell_plan.specs.TrafficFrames.{IsTrafficFrame, IsTrafficFrame2}
+use Rattle.cell_script.specs.ScriptStages.{after_cell, after_frame, after_link, after_page}
+use Rattle.cell_script.specs.ScriptStages.{after_paging, after_pilot, after_sync, after_traffic}
+use Rattle.cell_script.specs.ScriptStages.{after_frame2, behind_sync, count_behind}
+use Rattle.cell_script.specs.ScriptStages.{is_cycle, may_follow, next_stage}
+use Rattle.cell_script.specs.ScriptStages.{pages_behind}
+use Rattle.cell_script.proofs.ScriptBounds.{line_bounds, passed}
+use Rattle.cell_script.proofs.ScriptPages.{with_page-last}
+use Rattle.cell_script.proofs.ScriptNumbers.{few_channels, have_own_numbers, lawful_beside}
+use Rattle.cell_script.proofs.ScriptNumbers.{some_gains}
+use Rattle.cell_script.proofs.ScriptSplits.{stated-fault, stated-next, stated-none}
+use Rattle.cell_script.proofs.ScriptFrames.{on_last-last}
+
+-- ---- pages of a cycle
+
+-- the body bits of a cycle behind these pages
+abbrev pub count_of : ℕ → ℕ → List Page → ℕ
+count_of size count [] = count
+count_of size count (page ∷ pages) =
+    count_of size (laid_behind size count page.follows (38 + length page.body)) pages
+
+count_of-append : (size count : ℕ) (pages : List Page) (page : Page) →
+    count_of size count (pages ++ page ∷ [])
+    ≡ laid_behind size (count_of size count pages) page.follows (38 + length page.body)
+count_of-append size count [] page = refl
+count_of-append size count (p ∷ pages) page =
+    count_of-append size (laid_behind size count p.follows (38 + length p.body)) pages page
+
+sendable-append : (size count : ℕ) (pages : List Page) (page : Page) →
+    AreSendable size count pages → FillsCapsule M30 page.body →
+    half_frame_bits size
+    (laid_behind size (count_of size count pages) page.follows (38 + length page.body)) ≤ 8192 →
+    AreSendable size count (pages ++ page ∷ [])
+sendable-append size count [] page are fills few = (fills, few, tt)
+sendable-append size count (p ∷ pages) page are fills few = (
+  are.0,
+  are.1,
+  sendable-append size (laid_behind size count p.follows (38 + length p.body)) pages page are.2
+      fills few,
+)
+
+heard-append : (size count : ℕ) (pages : List Page) (page : Page) → AreHeard size count pages →
+    HasMessage page.body → (page.follows ≡ true → 8 ≤ bits_left size (count_of size count pages)) →
+    AreHeard size count (pages ++ page ∷ [])
+heard-append size count [] page are is room = (is, room, tt)
+heard-append size count (p ∷ pages) page are is room = (
+  are.0,
+  are.1,
+  heard-append size (laid_behind size count p.follows (38 + length p.body)) pages page are.2 is
+      room,
+)
+
+-- ---- the channels at a stage
+
+-- the last channel is under way: its pages have so many body bits
+pub record IsOpen (rate : Rate) (count : ℕ) (plan : CellPlan) : Type 0 where
+  pub rate_is : paging_rate plan.sync ≡ rate
+  pub before : List PagingPlan
+  pub last : PagingPlan
+  pub channels : plan.paging ≡ before ++ last ∷ []
+  pub bare : plan.traffic ≡ []
+  pub stated : All (IsStatedPaging rate) before
+  pub number : (1 ≤ last.number) × (last.number ≤ 7)
+  pub pages : AreSendable (half_frame_body rate) 0 last.pages
+  pub heard : AreHeard (half_frame_body rate) 0 last.pages
+  pub laid : count ≡ count_of (half_frame_body rate) 0 last.pages
+
+abbrev pub HasPages : Rate → ℕ → CellPlan → Type 0
+HasPages rate count plan = (o : IsOpen rate count plan) × (1 ≤ length o.last.pages)
+
+-- the last traffic channel is under way
+pub record IsOpenTraffic (plan : CellPlan) : Type 0 where
+  pub paging : All (IsStatedPaging (paging_rate plan.sync)) plan.paging
+  pub before : List TrafficPlan
+  pub last : TrafficPlan
+  pub channels : plan.traffic ≡ before ++ last ∷ []
+  pub stated : All IsStatedTraffic before
+  pub bounds : (last.row ≤ 63) × (last.offset ≤ 15)
+  pub frames : AreTrafficFrames last.frames
+
+abbrev pub HasFrames : CellPlan → Type 0
+HasFrames plan = (o : IsOpenTraffic plan) × (1 ≤ frame_count o.last.frames)
+
+-- no paging channel and no traffic channel
+abbrev pub IsBare : CellPlan → Type 0
+IsBare plan = (plan.paging ≡ []) × (plan.traffic ≡ [])
+
+abbrev pub HasChannels : Stage → CellPlan → Type 0
+HasChannels Cell plan = IsBare plan
+HasChannels Link plan = IsBare plan
+HasChannels Pilot plan = IsBare plan
+HasChannels Sync plan = IsBare plan
+HasChannels (Paging rate) plan = IsBare plan × (paging_rate plan.sync ≡ rate)
+HasChannels (FirstPage rate) plan = IsOpen rate 0 plan
+HasChannels (Pages rate count) plan = HasPages rate count plan
+HasChannels Traffic plan = IsBare plan
+HasChannels FirstFrame plan = IsOpenTraffic plan
+HasChannels Frames plan = HasFrames plan
+HasChannels Frames2 plan = HasFrames plan
+
+-- ---- one statement more
+
+channels_cell : (stage next : Stage) (plan : CellPlan) (cell : CellIdentity) →
+    HasChannels stage plan → after_cell stage ≡ Some next →
+    HasChannels next (record plan { cell = cell })
+channels_cell Cell next plan cell has e =
+    subst (λ (s : Stage). HasChannels s (record plan { cell = cell }))
+    (same_Some Link next e) has
+channels_cell Link next plan cell has e = absurd (cc e)
+channels_cell Pilot next plan cell has e = absurd (cc e)
+channels_cell Sync next plan cell has e = absurd (cc e)
+channels_cell (Paging rate) next plan cell has e = absurd (cc e)
+channels_cell (FirstPage rate) next plan cell has e = absurd (cc e)
+channels_cell (Pages rate count) next plan cell has e = absurd (cc e)
+channels_cell Traffic next plan cell has e = absurd (cc e)
+channels_cell FirstFrame next plan cell has e = absurd (cc e)
+channels_cell Frames next plan cell has e = absurd (cc e)
+channels_cell Frames2 next plan cell has e = absurd (cc e)
+
+channels_link : (stage next : Stage) (plan : CellPlan) (link : LinkPlan) →
+    HasChannels stage plan → after_link stage ≡ Some next →
+    HasChannels next (record plan { link = link })
+channels_link Cell next plan link has e = absurd (cc e)
+channels_link Link next plan link has e =
+    subst (λ (s : Stage). HasChannels s (record plan { link = link }))
+    (same_Some Pilot next e) has
+channels_link Pilot next plan link has e = absurd (cc e)
+channels_link Sync next plan link has e = absurd (cc e)
+channels_link (Paging rate) next plan link has e = absurd (cc e)
+channels_link (FirstPage rate) next plan link has e = absurd (cc e)
+channels_link (Pages rate count) next plan link has e = absurd (cc e)
+channels_link Traffic next plan link has e = absurd (cc e)
+channels_link FirstFrame next plan link has e = absurd (cc e)
+channels_link Frames next plan link has e = absurd (cc e)
+channels_link Frames2 next plan link has e = absurd (cc e)
+
+channels_pilot : (stage next : Stage) (plan : CellPlan) (pilot : PilotPlan) →
+    HasChannels stage plan → after_pilot stage ≡ Some next →
+    HasChannels next (record plan { pilot = pilot })
+channels_pilot Cell next plan pilot has e = absurd (cc e)
+channels_pilot Link next plan pilot has e = absurd (cc e)
+channels_pilot Pilot next plan pilot has e =
+    subst (λ (s : Stage). HasChannels s (record plan { pilot = pilot }))
+    (same_Some Sync next e) has
+channels_pilot Sync next plan pilot has e = absurd (cc e)
+channels_pilot (Paging rate) next plan pilot has e = absurd (cc e)
+channels_pilot (FirstPage rate) next plan pilot has e = absurd (cc e)
+channels_pilot (Pages rate count) next plan pilot has e = absurd (cc e)
+channels_pilot Traffic next plan pilot has e = absurd (cc e)
+channels_pilot FirstFrame next plan pilot has e = absurd (cc e)
+channels_pilot Frames next plan pilot has e = absurd (cc e)
+channels_pilot Frames2 next plan pilot has e = absurd (cc e)
+
+sync_channels : (plan : CellPlan) (sync : SyncPlan) (full half : Bool) →
+    (sync.message.prat == 0) ≡ full → (sync.message.prat == 1) ≡ half → IsBare plan →
+    HasChannels (behind_sync sync) (record plan { sync = Some sync })
+sync_channels plan sync true half full e none =
+    let none_half : (sync.message.prat == 1) ≡ false =
+    ap (λ (n : ℕ). n == 1) (eqb-true sync.message.prat 0 full) in
+    subst (λ (s : Stage). HasChannels s (record plan { sync = Some sync }))
+    (sym (cond-true _ (Paging R9600) (cond (sync.message.prat == 1) (Paging R4800) Traffic) full))
+    (none, cond-false _ R4800 R9600 none_half)
+sync_channels plan sync false true other one none =
+    subst (λ (s : Stage). HasChannels s (record plan { sync = Some sync }))
+    (sym (cond-false _ (Paging R9600) (cond (sync.message.prat == 1) (Paging R4800) Traffic) other
+    ∙ cond-true _ (Paging R4800) Traffic one))
+    (none, cond-true _ R4800 R9600 one)
+sync_channels plan sync false false other more none =
+    subst (λ (s : Stage). HasChannels s (record plan { sync = Some sync }))
+    (sym (cond-false _ (Paging R9600) (cond (sync.message.prat == 1) (Paging R4800) Traffic) other
+    ∙ cond-false _ (Paging R4800) Traffic more))
+    none
+
+channels_sync : (stage next : Stage) (plan : CellPlan) (sync : SyncPlan) →
+    HasChannels stage plan → after_sync stage sync ≡ Some next →
+    HasChannels next (record plan { sync = Some sync })
+channels_sync Cell next plan sync has e = absurd (cc e)
+channels_sync Link next plan sync has e = absurd (cc e)
+channels_sync Pilot next plan sync has e = absurd (cc e)
+channels_sync Sync next plan sync has e =
+    subst (λ (s : Stage). HasChannels s (record plan { sync = Some sync }))
+    (same_Some (behind_sync sync) next e)
+    (sync_channels plan sync (sync.message.prat == 0) (sync.message.prat == 1) refl refl has)
+channels_sync (Paging rate) next plan sync has e = absurd (cc e)
+channels_sync (FirstPage rate) next plan sync has e = absurd (cc e)
+channels_sync (Pages rate count) next plan sync has e = absurd (cc e)
+channels_sync Traffic next plan sync has e = absurd (cc e)
+channels_sync FirstFrame next plan sync has e = absurd (cc e)
+channels_sync Frames next plan sync has e = absurd (cc e)
+channels_sync Frames2 next plan sync has e = absurd (cc e)
+
+-- ---- one paging channel more
+
+abbrev with_channel : CellPlan → PagingLine → CellPlan
+with_channel plan line = record plan { paging = plan.paging ++ opened line ∷ [] }
+
+-- a channel is opened behind others
+opened_behind : (rate : Rate) (plan : CellPlan) (line : PagingLine) →
+    (1 ≤ line.number) × (line.number ≤ 7) → paging_rate plan.sync ≡ rate →
+    plan.traffic ≡ [] → All (IsStatedPaging rate) plan.paging →
+    IsOpen rate 0 (with_channel plan line)
+opened_behind rate plan line number rate_is bare are = record {
+  rate_is = rate_is;
+  before = plan.paging;
+  last = opened line;
+  channels = refl;
+  bare = bare;
+  stated = are;
+  number = number;
+  pages = tt;
+  heard = tt;
+  laid = refl;
+}
+
+-- the channel that was under way is one of them
+closed : (rate : Rate) (count : ℕ) (plan : CellPlan) → HasPages rate count plan →
+    All (IsStatedPaging rate) plan.paging
+closed rate count plan has =
+    let o = has.0 in
+    let last : IsStatedPaging rate o.last =
+    record {
+      first = o.number.0;
+      last = o.number.1;
+      some = has.1;
+      pages = o.pages;
+      heard = o.heard;
+    } in
+    subst (All (IsStatedPaging rate)) (sym o.channels)
+    (All-push (IsStatedPaging rate) o.before o.last o.stated last)
+
+no_channels : (rate : Rate) (plan : CellPlan) → plan.paging ≡ [] →
+    All (IsStatedPaging rate) plan.paging
+no_channels rate plan none =
+    subst (All (IsStatedPaging rate)) (sym none) (All-nil (IsStatedPaging rate))
+
+channels_paging : (stage next : Stage) (plan : CellPlan) (line : PagingLine) →
+    (1 ≤ line.number) × (line.number ≤ 7) → HasChannels stage plan →
+    after_paging stage ≡ Some next →
+    HasChannels next (with_channel plan line)
+channels_paging Cell next plan line number has e = absurd (cc e)
+channels_paging Link next plan line number has e = absurd (cc e)
+channels_paging Pilot next plan line number has e = absurd (cc e)
+channels_paging Sync next plan line number has e = absurd (cc e)
+channels_paging (Paging rate) next plan line number has e =
+    subst (λ (s : Stage). HasChannels s (with_channel plan line))
+    (same_Some (FirstPage rate) next e)
+    (opened_behind rate plan line number has.1 has.0.1 (no_channels rate plan has.0.0))
+channels_paging (FirstPage rate) next plan line number has e = absurd (cc e)
+channels_paging (Pages rate count) next plan line number has e =
+    subst (λ (s : Stage). HasChannels s (with_channel plan line))
+    (same_Some (FirstPage rate) next e)
+    (opened_behind rate plan line number has.0.rate_is has.0.bare (closed rate count plan has))
+channels_paging Traffic next plan line number has e = absurd (cc e)
+channels_paging FirstFrame next plan line number has e = absurd (cc e)
+channels_paging Frames next plan line number has e = absurd (cc e)
+channels_paging Frames2 next plan line number has e = absurd (cc e)
+
+abbrev with_more : CellPlan → Page → CellPlan
+with_more plan page = record plan { paging = with_page plan.paging page }
+
+-- the channel under way has one page more
+page_laid : (rate : Rate) (count : ℕ) (plan : CellPlan) (page : Page) →
+    FillsCapsule M30 page.body × HasMessage page.body → IsOpen rate count plan →
+    (page.follows ≡ true → 8 ≤ bits_left (half_frame_body rate) count) →
+    half_frame_bits (half_frame_body rate) (count_behind rate count page) ≤ 8192 →
+    HasPages rate (count_behind rate count page) (with_more plan page)
+page_laid rate count plan page is o room few =
+    let size = half_frame_body rate in
+    let pages = o.last.pages ++ page ∷ [] in
+    let last : PagingPlan = record o.last { pages = pages } in
+    let behind : count_behind rate count page
+    ≡ laid_behind size (count_of size 0 o.last.pages) page.follows (38 + length page.body) =
+    ap (λ (n : ℕ). laid_behind size n page.follows (38 + length page.body)) o.laid in
+    let all : with_page plan.paging page ≡ o.before ++ last ∷ [] =
+    ap (λ (ps : List PagingPlan). with_page ps page) o.channels
+    ∙ with_page-last o.before o.last page in
+    let open_now : IsOpen rate (count_behind rate count page) (with_more plan page) = record {
+      rate_is = o.rate_is;
+      before = o.before;
+      last = last;
+      channels = all;
+      bare = o.bare;
+      stated = o.stated;
+      number = o.number;
+      pages = sendable-append size 0 o.last.pages page o.pages is.0
+          (subst (λ (n : ℕ). half_frame_bits size n ≤ 8192) behind few);
+      heard = heard-append size 0 o.last.pages page o.heard is.1
+          (λ follows. subst (λ (n : ℕ). 8 ≤ bits_left size n) o.laid (room follows));
+      laid = behind ∙ sym (count_of-append size 0 o.last.pages page);
+    } in
+    (open_now, omega (arith, length-append o.last.pages (page ∷ [])))
+
+follow_room : (rate : Rate) (count : ℕ) (follows : Bool) → may_follow rate count follows ≡ true →
+    follows ≡ true → 8 ≤ bits_left (half_frame_body rate) count
+follow_room rate count true test same = leb-true 8 (bits_left (half_frame_body rate) count) test
+follow_room rate count false test same = absurd (cc same)
+
+page_taken : (rate : Rate) (count : ℕ) (next : Stage) (plan : CellPlan) (page : Page) →
+    FillsCapsule M30 page.body × HasMessage page.body → IsOpen rate count plan →
+    pages_behind rate count page ≡ Some next → HasChannels next (with_more plan page)
+unfolding pages_behind
+page_taken rate count next plan page is o e =
+    let behind = count_behind rate count page in
+    let told = cond_some _ (Pages rate behind) next e in
+    let both = and_parts (may_follow rate count page.follows) (is_cycle rate behind) told.0 in
+    subst (λ (s : Stage). HasChannels s (with_more plan page)) told.1
+    (page_laid rate count plan page is o (follow_room rate count page.follows both.0)
+    (leb-true (half_frame_bits (half_frame_body rate) behind) 8192 both.1))
+
+channels_page : (stage next : Stage) (plan : CellPlan) (page : Page) →
+    FillsCapsule M30 page.body × HasMessage page.body → HasChannels stage plan →
+    after_page stage page ≡ Some next →
+    HasChannels next (with_more plan page)
+channels_page Cell next plan page is has e = absurd (cc e)
+channels_page Link next plan page is has e = absurd (cc e)
+channels_page Pilot next plan page is has e = absurd (cc e)
+channels_page Sync next plan page is has e = absurd (cc e)
+channels_page (Paging rate) next plan page is has e = absurd (cc e)
+channels_page (FirstPage rate) next plan page is has e =
+    page_taken rate 0 next plan page is has e
+channels_page (Pages rate count) next plan page is has e =
+    page_taken rate count next plan page is has.0 e
+channels_page Traffic next plan page is has e = absurd (cc e)
+channels_page FirstFrame next plan page is has e = absurd (cc e)
+channels_page Frames next plan page is has e = absurd (cc e)
+channels_page Frames2 next plan page is has e = absurd (cc e)
+
+-- ---- one traffic channel and one frame more
+
+abbrev with_traffic : CellPlan → TrafficLine → CellPlan
+with_traffic plan line = record plan { traffic = plan.traffic ++ opened_traffic line ∷ [] }
+
+abbrev IsRowed : TrafficLine → Type 0
+IsRowed line = (line.row ≤ 63) × (line.offset ≤ 15)
+
+-- a traffic channel is opened behind others
+traffic_behind : (plan : CellPlan) (line : TrafficLine) → IsRowed line →
+    All (IsStatedPaging (paging_rate plan.sync)) plan.paging → All IsStatedTraffic plan.traffic →
+    IsOpenTraffic (with_traffic plan line)
+traffic_behind plan line bounds paging are = record {
+  paging = paging;
+  before = plan.traffic;
+  last = opened_traffic line;
+  channels = refl;
+  stated = are;
+  bounds = bounds;
+  frames = record { one = All-nil IsTrafficFrame; two = All-nil IsTrafficFrame2 };
+}
+
+no_traffic : (plan : CellPlan) → plan.traffic ≡ [] → All IsStatedTraffic plan.traffic
+no_traffic plan none = subst (All IsStatedTraffic) (sym none) (All-nil IsStatedTraffic)
+
+-- the traffic channel that was under way is one of them
+traffic_closed : (plan : CellPlan) → HasFrames plan → All IsStatedTraffic plan.traffic
+traffic_closed plan has =
+    let o = has.0 in
+    let last : IsStatedTraffic o.last =
+    record { last = o.bounds.0; latest = o.bounds.1; some = has.1; sized = o.frames } in
+    subst (All IsStatedTraffic) (sym o.channels)
+    (All-push IsStatedTraffic o.before o.last o.stated last)
+
+-- the paging channels before the first traffic channel
+at_rate : (rate : Rate) (plan : CellPlan) → paging_rate plan.sync ≡ rate →
+    All (IsStatedPaging rate) plan.paging →
+    All (IsStatedPaging (paging_rate plan.sync)) plan.paging
+at_rate rate plan is are = subst (λ (r : Rate). All (IsStatedPaging r) plan.paging) (sym is) are
+
+paging_closed : (rate : Rate) (count : ℕ) (plan : CellPlan) → HasPages rate count plan →
+    All (IsStatedPaging (paging_rate plan.sync)) plan.paging
+paging_closed rate count plan has =
+    at_rate rate plan has.0.rate_is (closed rate count plan has)
+
+channels_traffic : (stage next : Stage) (plan : CellPlan) (line : TrafficLine) → IsRowed line →
+    HasChannels stage plan → after_traffic stage ≡ Some next →
+    HasChannels next (with_traffic plan line)
+channels_traffic Cell next plan line bounds has e = absurd (cc e)
+channels_traffic Link next plan line bounds has e = absurd (cc e)
+channels_traffic Pilot next plan line bounds has e = absurd (cc e)
+channels_traffic Sync next plan line bounds has e = absurd (cc e)
+channels_traffic (Paging rate) next plan line bounds has e =
+    subst (λ (s : Stage). HasChannels s (with_traffic plan line)) (same_Some FirstFrame next e)
+    (traffic_behind plan line bounds (no_channels (paging_rate plan.sync) plan has.0.0)
+    (no_traffic plan has.0.1))
+channels_traffic (FirstPage rate) next plan line bounds has e = absurd (cc e)
+channels_traffic (Pages rate count) next plan line bounds has e =
+    subst (λ (s : Stage). HasChannels s (with_traffic plan line)) (same_Some FirstFrame next e)
+    (traffic_behind plan line bounds (paging_closed rate count plan has)
+    (no_traffic plan has.0.bare))
+channels_traffic Traffic next plan line bounds has e =
+    subst (λ (s : Stage). HasChannels s (with_traffic plan line)) (same_Some FirstFrame next e)
+    (traffic_behind plan line bounds (no_channels (paging_rate plan.sync) plan has.0)
+    (no_traffic plan has.1))
+channels_traffic FirstFrame next plan line bounds has e = absurd (cc e)
+channels_traffic Frames next plan line bounds has e =
+    subst (λ (s : Stage). HasChannels s (with_traffic plan line)) (same_Some FirstFrame next e)
+    (traffic_behind plan line bounds has.0.paging (traffic_closed plan has))
+channels_traffic Frames2 next plan line bounds has e =
+    subst (λ (s : Stage). HasChannels s (with_traffic plan line)) (same_Some FirstFrame next e)
+    (traffic_behind plan line bounds has.0.paging (traffic_closed plan has))
+
+abbrev with_change : CellPlan → (FrameList → FrameList) → CellPlan
+with_change plan change = record plan { traffic = on_last change plan.traffic }
+
+-- the traffic channel under way has other frames, and some
+frames_changed : (plan : CellPlan) (change : FrameList → FrameList) (o : IsOpenTraffic plan) →
+    AreTrafficFrames (change o.last.frames) → 1 ≤ frame_count (change o.last.frames) →
+    HasFrames (with_change plan change)
+frames_changed plan change o are some =
+    let last : TrafficPlan = record o.last { frames = change o.last.frames } in
+    let all : on_last change plan.traffic ≡ o.before ++ last ∷ [] =
+    ap (on_last change) o.channels ∙ on_last-last change o.before o.last in
+    let open_now : IsOpenTraffic (with_change plan change) = record {
+      paging = o.paging;
+      before = o.before;
+      last = last;
+      channels = all;
+      stated = o.stated;
+      bounds = o.bounds;
+      frames = are;
+    } in
+    (open_now, some)
+
+-- it has one frame of rate set 1 more
+frame_sent : (plan : CellPlan) (frame : TrafficFrame) → IsTrafficFrame frame →
+    IsOpenTraffic plan → HasFrames (with_change plan (with_one frame))
+frame_sent plan frame is o =
+    let frames = set_one o.last.frames in
+    frames_changed plan (with_one frame) o
+    (record {
+      one = All-push IsTrafficFrame frames frame o.frames.one is;
+      two = All-nil IsTrafficFrame2;
+    })
+    (omega (arith, length-append frames (frame ∷ [])))
+
+-- or one of rate set 2
+frame2_sent : (plan : CellPlan) (frame : TrafficFrame2) → IsTrafficFrame2 frame →
+    IsOpenTraffic plan → HasFrames (with_change plan (with_two frame))
+frame2_sent plan frame is o =
+    let frames = set_two o.last.frames in
+    frames_changed plan (with_two frame) o
+    (record {
+      one = All-nil IsTrafficFrame;
+      two = All-push IsTrafficFrame2 frames frame o.frames.two is;
+    })
+    (omega (arith, length-append frames (frame ∷ [])))
+
+channels_frame : (stage next : Stage) (plan : CellPlan) (frame : TrafficFrame) →
+    IsTrafficFrame frame → HasChannels stage plan → after_frame stage ≡ Some next →
+    HasChannels next (with_change plan (with_one frame))
+channels_frame Cell next plan frame is has e = absurd (cc e)
+channels_frame Link next plan frame is has e = absurd (cc e)
+channels_frame Pilot next plan frame is has e = absurd (cc e)
+channels_frame Sync next plan frame is has e = absurd (cc e)
+channels_frame (Paging rate) next plan frame is has e = absurd (cc e)
+channels_frame (FirstPage rate) next plan frame is has e = absurd (cc e)
+channels_frame (Pages rate count) next plan frame is has e = absurd (cc e)
+channels_frame Traffic next plan frame is has e = absurd (cc e)
+channels_frame FirstFrame next plan frame is has e =
+    subst (λ (s : Stage). HasChannels s (with_change plan (with_one frame)))
+    (same_Some Frames next e) (frame_sent plan frame is has)
+channels_frame Frames next plan frame is has e =
+    subst (λ (s : Stage). HasChannels s (with_change plan (with_one frame)))
+    (same_Some Frames next e) (frame_sent plan frame is has.0)
+channels_frame Frames2 next plan frame is has e = absurd (cc e)
+
+channels_frame2 : (stage next : Stage) (plan : CellPlan) (frame : TrafficFrame2) →
+    IsTrafficFrame2 frame → HasChannels stage plan → after_frame2 stage ≡ Some next →
+    HasChannels next (with_change plan (with_two frame))
+channels_frame2 Cell next plan frame is has e = absurd (cc e)
+channels_frame2 Link next plan frame is has e = absurd (cc e)
+channels_frame2 Pilot next plan frame is has e = absurd (cc e)
+channels_frame2 Sync next plan frame is has e = absurd (cc e)
+channels_frame2 (Paging rate) next plan frame is has e = absurd (cc e)
+channels_frame2 (FirstPage rate) next plan frame is has e = absurd (cc e)
+channels_frame2 (Pages rate count) next plan frame is has e = absurd (cc e)
+channels_frame2 Traffic next plan frame is has e = absurd (cc e)
+channels_frame2 FirstFrame next plan frame is has e =
+    subst (λ (s : Stage). HasChannels s (with_change plan (with_two frame)))
+    (same_Some Frames2 next e) (frame2_sent plan frame is has)
+channels_frame2 Frames next plan frame is has e = absurd (cc e)
+channels_frame2 Frames2 next plan frame is has e =
+    subst (λ (s : Stage). HasChannels s (with_change plan (with_two frame)))
+    (same_Some Frames2 next e) (frame2_sent plan frame is has.0)
+
+-- ---- what was said at a stage
+
+pub record HasParts (plan : CellPlan) : Type 0 where
+  pub cell : IsStatedCell plan.cell
+  pub link : IsStatedLink plan.link
+  pub sync : IsStatedSync plan.sync
+  pub linked : 0 < norm plan.link.factor
+
+pub record IsAt (stage : Stage) (plan : CellPlan) : Type 0 where
+  pub parts : HasParts plan
+  pub channels : HasChannels stage plan
+
+-- a statement adds what is within its bounds to a plan that is
+pub added : (stage next : Stage) (plan : CellPlan) (statement : Statement) → IsLawful statement →
+    IsAt stage plan → next_stage stage statement ≡ Some next →
+    IsAt next (with_statement plan statement)
+added stage next plan (statements.Cell cell) is before e = record {
+  parts = record {
+    cell = is;
+    link = before.parts.link;
+    sync = before.parts.sync;
+    linked = before.parts.linked;
+  };
+  channels = channels_cell stage next plan cell before.channels e;
+}
+added stage next plan (statements.Link link) is before e = record {
+  parts = record {
+    cell = before.parts.cell;
+    link = is.0;
+    sync = before.parts.sync;
+    linked = is.1;
+  };
+  channels = channels_link stage next plan link before.channels e;
+}
+added stage next plan (statements.Pilot pilot) is before e = record {
+  parts = record {
+    cell = before.parts.cell;
+    link = before.parts.link;
+    sync = before.parts.sync;
+    linked = before.parts.linked;
+  };
+  channels = channels_pilot stage next plan pilot before.channels e;
+}
+added stage next plan (statements.Sync sync) is before e = record {
+  parts = record {
+    cell = before.parts.cell;
+    link = before.parts.link;
+    sync = is;
+    linked = before.parts.linked;
+  };
+  channels = channels_sync stage next plan sync before.channels e;
+}
+added stage next plan (statements.Paging line) is before e = record {
+  parts = record {
+    cell = before.parts.cell;
+    link = before.parts.link;
+    sync = before.parts.sync;
+    linked = before.parts.linked;
+  };
+  channels = channels_paging stage next plan line is before.channels e;
+}
+added stage next plan (statements.Page page) is before e = record {
+  parts = record {
+    cell = before.parts.cell;
+    link = before.parts.link;
+    sync = before.parts.sync;
+    linked = before.parts.linked;
+  };
+  channels = channels_page stage next plan page is before.channels e;
+}
+added stage next plan (statements.Traffic line) is before e = record {
+  parts = record {
+    cell = before.parts.cell;
+    link = before.parts.link;
+    sync = before.parts.sync;
+    linked = before.parts.linked;
+  };
+  channels = channels_traffic stage next plan line is before.channels e;
+}
+added stage next plan (statements.Frame frame) is before e = record {
+  parts = record {
+    cell = before.parts.cell;
+    link = before.parts.link;
+    sync = before.parts.sync;
+    linked = before.parts.linked;
+  };
+  channels = channels_frame stage next plan frame is before.channels e;
+}
+added stage next plan (statements.Frame2 frame) is before e = record {
+  parts = record {
+    cell = before.parts.cell;
+    link = before.parts.link;
+    sync = before.parts.sync;
+    linked = before.parts.linked;
+  };
+  channels = channels_frame2 stage next plan frame is before.channels e;
+}
+
+-- no traffic channel stands before a paging channel
+paging_first : (stage next : Stage) (plan : CellPlan) → HasChannels stage plan →
+    after_paging stage ≡ Some next → plan.traffic ≡ []
+paging_first Cell next plan has e = absurd (cc e)
+paging_first Link next plan has e = absurd (cc e)
+paging_first Pilot next plan has e = absurd (cc e)
+paging_first Sync next plan has e = absurd (cc e)
+paging_first (Paging rate) next plan has e = has.0.1
+paging_first (FirstPage rate) next plan has e = absurd (cc e)
+paging_first (Pages rate count) next plan has e = has.0.bare
+paging_first Traffic next plan has e = absurd (cc e)
+paging_first FirstFrame next plan has e = absurd (cc e)
+paging_first Frames next plan has e = absurd (cc e)
+paging_first Frames2 next plan has e = absurd (cc e)
+
+-- a statement that may stand next stands behind those whose channels come first
+pub in_order : (stage next : Stage) (plan : CellPlan) (statement : Statement) → IsAt stage plan →
+    next_stage stage statement ≡ Some next → IsInOrder plan statement
+in_order stage next plan (statements.Cell cell) before e = tt
+in_order stage next plan (statements.Link link) before e = tt
+in_order stage next plan (statements.Pilot pilot) before e = tt
+in_order stage next plan (statements.Sync sync) before e = tt
+in_order stage next plan (statements.Paging line) before e =
+    paging_first stage next plan before.channels e
+in_order stage next plan (statements.Page page) before e = tt
+in_order stage next plan (statements.Traffic line) before e = tt
+in_order stage next plan (statements.Frame frame) before e = tt
+in_order stage next plan (statements.Frame2 frame) before e = tt
+
+-- ---- the draft behind a line
+
+abbrev Said : Draft → Type 0
+Said draft = IsAt draft.stage draft.plan
+
+next_said : (draft next : Draft) (statement : Statement) (stage : Option Stage) →
+    next_stage draft.stage statement ≡ stage → IsLawful statement → Said draft →
+    option_map (draft_at (with_statement draft.plan statement)) stage ≡ Some next → Said next
+next_said draft next statement None after is said e = absurd (cc e)
+next_said draft next statement (Some stage) after is said e =
+    let behind : Draft = draft_at (with_statement draft.plan statement) stage in
+    let here : Said behind = added draft.stage stage draft.plan statement is said after in
+    subst Said (same_Some behind next e) here
+
+text_said : (draft next : Draft) (text : List ℕ) (read : Option Statement) →
+    statement_in text ≡ read → Said draft →
+    option_and_then (with_next draft) read ≡ Some next → Said next
+unfolding with_next
+text_said draft next text None is said e = absurd (cc e)
+text_said draft next text (Some statement) is said e =
+    next_said draft next statement (next_stage draft.stage statement) refl
+    (line_bounds text statement is) said e
+
+draft_said : (draft next : Draft) (line : List ℕ) → Said draft →
+    draft_after draft line ≡ Some next → Said next
+unfolding draft_after with_line
+draft_said draft next line said e =
+    let text = take (length line - 1) line in
+    text_said draft next text (statement_in text) refl said
+    (passed (is_line line) (with_line draft text) next e)
+
+-- ---- the plan that lines state
+
+whole : (plan : CellPlan) → HasParts plan →
+    All (IsStatedPaging (paging_rate plan.sync)) plan.paging → All IsStatedTraffic plan.traffic →
+    HasSaid plan
+whole plan parts are traffic = record {
+  lawful = record {
+    cell = parts.cell;
+    link = parts.link;
+    sync = parts.sync;
+    paging = are;
+    traffic = traffic;
+  };
+  linked = parts.linked;
+}
+
+whole_bare : (plan : CellPlan) → HasParts plan → IsBare plan → HasSaid plan
+whole_bare plan parts bare =
+    whole plan parts (no_channels (paging_rate plan.sync) plan bare.0) (no_traffic plan bare.1)
+
+plan_said : (stage : Stage) (n : ℕ) (said plan : CellPlan) → IsAt stage said →
+    ok_or (plan_at (draft_at said stage)) n ≡ Ok plan → HasSaid plan
+plan_said Cell n said plan is e = absurd (cc e)
+plan_said Link n said plan is e = absurd (cc e)
+plan_said Pilot n said plan is e = absurd (cc e)
+plan_said Sync n said plan is e = subst HasSaid (cc e) (whole_bare said is.parts is.channels)
+plan_said (Paging rate) n said plan is e =
+    subst HasSaid (cc e) (whole_bare said is.parts is.channels.0)
+plan_said (FirstPage rate) n said plan is e = absurd (cc e)
+plan_said (Pages rate count) n said plan is e =
+    subst HasSaid (cc e)
+    (whole said is.parts (paging_closed rate count said is.channels)
+    (no_traffic said is.channels.0.bare))
+plan_said Traffic n said plan is e =
+    subst HasSaid (cc e) (whole_bare said is.parts is.channels)
+plan_said FirstFrame n said plan is e = absurd (cc e)
+plan_said Frames n said plan is e =
+    subst HasSaid (cc e)
+    (whole said is.parts is.channels.0.paging (traffic_closed said is.channels))
+plan_said Frames2 n said plan is e =
+    subst HasSaid (cc e)
+    (whole said is.parts is.channels.0.paging (traffic_closed said is.channels))
+
+line_step : (draft : Draft) (n : ℕ) (line : List ℕ) (more : List (List ℕ)) (plan : CellPlan)
+    (next : Option Draft) →
+    draft_after draft line ≡ next → Said draft →
+    ((s : Draft) → Said s → stated s (n + 1) more ≡ Ok plan → HasSaid plan) →
+    stated draft n (line ∷ more) ≡ Ok plan → HasSaid plan
+line_step draft n line more plan None after is rest e =
+    absurd (cc (stated-fault draft n line more after, e))
+line_step draft n line more plan (Some next) after is rest e =
+    rest next (draft_said draft next line is after)
+    (sym (stated-next draft next n line more after) ∙ e)
+
+lines_said : (draft : Draft) (n : ℕ) (ls : List (List ℕ)) (plan : CellPlan) → Said draft →
+    stated draft n ls ≡ Ok plan → HasSaid plan
+lines_said draft n [] plan is e =
+    plan_said draft.stage n draft.plan plan is (sym (stated-none draft n) ∙ e)
+lines_said draft n (line ∷ more) plan is e =
+    line_step draft n line more plan (draft_after draft line) refl is
+    (λ s said told. lines_said s (n + 1) more plan said told) e
+
+pub empty_said : IsAt Cell empty_plan
+empty_said = record {
+  parts = record {
+    cell = record { pn = omega arith; time = omega arith; lc = (omega arith, omega arith) };
+    link = record { in_phase = omega arith; quadrature = omega arith; start = omega arith };
+    sync = tt;
+    linked = omega arith;
+  };
+  channels = (refl, refl);
+}
+
+-- what the lines of a script state is within its bounds
+pub stated_said : (script : List ℕ) (plan : CellPlan) → stated_plan script ≡ Ok plan → HasSaid plan
+unfolding stated_plan
+stated_said script plan e = lines_said empty_draft 1 (lines script) plan empty_said e
+
+-- ---- a plan without a fault
+
+neither : (fault later : Option ScriptFault) → option_or fault later ≡ None →
+    (fault ≡ None) × (later ≡ None)
+neither None later e = (refl, e)
+neither (Some fault) later e = absurd (cc e)
+
+-- the test of a fault failed
+failed : (test : Bool) (fault : ScriptFault) (later : Option ScriptFault) →
+    cond test (Some fault) later ≡ None → (test ≡ false) × (later ≡ None)
+failed true fault later e = absurd (cc e)
+failed false fault later e = (refl, e)
+
+no_row : (fault : ℕ → ScriptFault) (row : Option ℕ) → option_map fault row ≡ None → row ≡ None
+no_row fault None e = refl
+no_row fault (Some row) e = absurd (cc e)
+
+-- no gain is 0
+some_gain : (gain : ℕ) → (gain == 0) ≡ false → 0 < gain
+some_gain zero e = absurd (cc e)
+some_gain (suc gain) e = omega arith
+
+sync_gains : (sync : Option SyncPlan) → IsStatedSync sync → sync_gain_fault sync ≡ None →
+    IsSyncPlan sync
+sync_gains None said e = tt
+sync_gains (Some sync) said e =
+    (some_gain sync.gain (failed (sync.gain == 0) (Gain 32) None e).0, said)
+
+-- what was said and no fault make a lawful plan
+lawful : (width : Width) (plan : CellPlan) → IsStatedPlan plan → plan_fault width plan ≡ None →
+    IsLawfulPlan width plan
+lawful width plan said e =
+    let ls = channel_lines plan in
+    let more = traffic_lines plan.traffic in
+    let rate = paging_rate plan.sync in
+    let rows = neither (walsh_fault (repeated ls))
+    (option_or (gain_fault plan.pilot plan.sync (silent ls))
+    (option_or (loud_fault width (loudness plan)) (long_fault width plan.link.samples))) e in
+    let gain = neither (gain_fault plan.pilot plan.sync (silent ls))
+    (option_or (loud_fault width (loudness plan)) (long_fault width plan.link.samples)) rows.1 in
+    let size = neither (loud_fault width (loudness plan)) (long_fault width plan.link.samples)
+    gain.1 in
+    let pilot = failed (plan.pilot.gain == 0) (Gain 0)
+    (option_or (sync_gain_fault plan.sync) (option_map Gain (silent ls))) gain.0 in
+    let gains = neither (sync_gain_fault plan.sync) (option_map Gain (silent ls)) pilot.1 in
+    let own = have_own_numbers plan.paging more (no_row Walsh (repeated ls) rows.0) in
+    record {
+      pn = said.cell.pn;
+      time = said.cell.time;
+      lc = said.cell.lc;
+      start = said.link.start;
+      samples = ltb-false (most_samples width) plan.link.samples
+          (failed (nat_lt (most_samples width) plan.link.samples) _ None size.1).0;
+      pilot = some_gain plan.pilot.gain pilot.0;
+      sync = sync_gains plan.sync said.sync gains.0;
+      few = few_channels rate plan.paging said.paging own;
+      paging = some_gains rate plan.paging more said.paging (no_row Gain (silent ls) gains.1);
+      apart = own;
+      traffic = lawful_beside plan.paging plan.traffic said.traffic
+          (no_row Walsh (repeated ls) rows.0) (no_row Gain (silent ls) gains.1);
+      loud = ltb-false (most_part width) (loudness plan)
+          (failed (nat_lt (most_part width) (loudness plan)) _ None size.0).0;
+    }
+
+-- ---- the law
+
+abbrev CanBeSent : Width → CellPlan → Type 0
+CanBeSent width plan = IsLawfulPlan width plan × (0 < norm plan.link.factor)
+
+without_fault : (width : Width) (said plan : CellPlan) (fault : Option ScriptFault) →
+    plan_fault width said ≡ fault → HasSaid said → unless said fault ≡ Ok plan →
+    CanBeSent width plan
+without_fault width said plan None none has e =
+    subst (CanBeSent width) (cc e) (lawful width said has.lawful none, has.linked)
+without_fault width said plan (Some fault) is has e = absurd (cc e)
+
+named_sent : (width : Width) (read : Result CellPlan ℕ) (plan : CellPlan) →
+    ((said : CellPlan) → read ≡ Ok said → HasSaid said) → named width read ≡ Ok plan →
+    CanBeSent width plan
+named_sent width (Err n) plan has e = absurd (cc e)
+named_sent width (Ok said) plan has e =
+    without_fault width said plan (plan_fault width said) refl (has said refl) e
+
+small_script : (big : Bool) (read : Result CellPlan ScriptFault) (plan : CellPlan) →
+    cond big (Err TooBig) read ≡ Ok plan → read ≡ Ok plan
+small_script true read plan e = absurd (cc e)
+small_script false read plan e = e
+
+-- the plan that a script names
+pub named_plan : (width : Width) (script : List ℕ) (plan : CellPlan) →
+    plan_named width script ≡ Ok plan → IsLawfulPlan width plan × (0 < norm plan.link.factor)
+unfolding plan_named
+named_plan width script plan e =
+    named_sent width (stated_plan script) plan (stated_said script)
+    (small_script (nat_lt 1048576 (length script)) (named width (stated_plan script)) plan e)
+
+without_said : (said plan : CellPlan) (fault : Option ScriptFault) → HasSaid said →
+    unless said fault ≡ Ok plan → HasSaid plan
+without_said said plan None has e = subst HasSaid (cc e) has
+without_said said plan (Some fault) has e = absurd (cc e)
+
+read_said : (width : Width) (read : Result CellPlan ℕ) (plan : CellPlan) →
+    ((said : CellPlan) → read ≡ Ok said → HasSaid said) → named width read ≡ Ok plan →
+    HasSaid plan
+read_said width (Err n) plan has e = absurd (cc e)
+read_said width (Ok said) plan has e =
+    without_said said plan (plan_fault width said) (has said refl) e
+
+-- what a named plan says is within its bounds
+pub named_said : (width : Width) (script : List ℕ) (plan : CellPlan) →
+    plan_named width script ≡ Ok plan → HasSaid plan
+unfolding plan_named
+named_said width script plan e =
+    read_said width (stated_plan script) plan (stated_said script)
+    (small_script (nat_lt 1048576 (length script)) (named width (stated_plan script)) plan e)

@@ -1,0 +1,84 @@
+-- The answer of both readings of a script: the plan that it names, or its fault.
+use Rattle.std.proofs.Common.{◌≡◌, ℕ, ◌<◌, ◌≤◌, List, length, refl, sym, ap, subst, ◌∙◌}
+use Rattle.std.proofs.Common.{None, Some, Result, Ok, Err, IsOk}
+use Rattle.std.proofs.lemmas.Bool.{cond-true, cond-false, le-ltb, lt-ltb}
+use Rattle.chip_core.specs.declared.width.Width.{Width}
+use Rattle.cell_plan.specs.declared.plan.CellPlan.{CellPlan}
+use Rattle.cell_script.specs.declared.judge.Judge.{Judge}
+use Rattle.cell_script.specs.declared.script_fault.ScriptFault.{ScriptFault}
+use Rattle.cell_script.specs.declared.script_fault.ScriptFault.TheVariants.{Line, TooBig}
+use Rattle.cell_plan.specs.Plan.{IsLawfulPlan}
+use Rattle.cell_script.specs.Script.{named, plan_named, stated_plan, unless}
+use Rattle.cell_script.specs.ScriptJudged.{judged_fault, IsJudged}
+use Rattle.cell_plan.specs.Stated.{IsStatedLink}
+use Rattle.cell_script.proofs.NamedPlans.{named_plan, stated_said}
+use Rattle.cell_script.proofs.ScriptRows.{judged_fault_is}
+
+pub too_big : (width : Width) (script : List ℕ) → 1048576 < length script →
+    plan_named width script ≡ Err TooBig
+unfolding plan_named
+too_big width script big =
+    cond-true _ (Err TooBig) (named width (stated_plan script))
+    (lt-ltb 1048576 (length script) big)
+
+small_named : (width : Width) (script : List ℕ) → length script ≤ 1048576 →
+    plan_named width script ≡ named width (stated_plan script)
+unfolding plan_named
+small_named width script small =
+    cond-false _ (Err TooBig) (named width (stated_plan script))
+    (le-ltb 1048576 (length script) small)
+
+pub line_named : (width : Width) (script : List ℕ) (n : ℕ) → length script ≤ 1048576 →
+    stated_plan script ≡ Err n → plan_named width script ≡ Err (Line n)
+line_named width script n small fault = small_named width script small ∙ ap (named width) fault
+
+pub link_stated : (script : List ℕ) (judge : Judge) → IsJudged script judge →
+    IsStatedLink judge.link
+link_stated script judge is =
+    subst IsStatedLink (sym is.judged.link) (stated_said script is.plan is.stated).lawful.link
+
+judged_named : (width : Width) (script : List ℕ) (judge : Judge) → length script ≤ 1048576 →
+    (is : IsJudged script judge) →
+    plan_named width script ≡ unless is.plan (judged_fault width judge)
+judged_named width script judge small is =
+    small_named width script small
+    ∙ ap (named width) is.stated
+    ∙ ap (unless is.plan) (sym (judged_fault_is width judge is.plan is.judged))
+
+pub fault_named : (width : Width) (script : List ℕ) (judge : Judge) (fault : ScriptFault) →
+    length script ≤ 1048576 → IsJudged script judge → judged_fault width judge ≡ Some fault →
+    plan_named width script ≡ Err fault
+fault_named width script judge fault small is told =
+    judged_named width script judge small is ∙ ap (unless is.plan) told
+
+no_fault_named : (width : Width) (script : List ℕ) (judge : Judge) → length script ≤ 1048576 →
+    (is : IsJudged script judge) → judged_fault width judge ≡ None →
+    plan_named width script ≡ Ok is.plan
+no_fault_named width script judge small is none =
+    judged_named width script judge small is ∙ ap (unless is.plan) none
+
+is_ok : (r : Result CellPlan ScriptFault) (plan : CellPlan) → r ≡ Ok plan → IsOk r
+is_ok r plan e = subst (λ (x : Result CellPlan ScriptFault). IsOk x) (sym e) refl
+
+-- a script without a fault names a plan
+pub names_some : (width : Width) (script : List ℕ) (judge : Judge) → length script ≤ 1048576 →
+    IsJudged script judge → judged_fault width judge ≡ None → IsOk (plan_named width script)
+names_some width script judge small is none =
+    is_ok (plan_named width script) is.plan (no_fault_named width script judge small is none)
+
+same_plan : (r : Result CellPlan ℕ) (a b : CellPlan) → r ≡ Ok a → r ≡ Ok b → a ≡ b
+same_plan r a b e f = cc
+
+-- which is the one that its lines state
+pub names_plan : (width : Width) (script : List ℕ) (judge : Judge) (plan : CellPlan) →
+    length script ≤ 1048576 → IsJudged script judge → judged_fault width judge ≡ None →
+    stated_plan script ≡ Ok plan → plan_named width script ≡ Ok plan
+names_plan width script judge plan small is none made =
+    no_fault_named width script judge small is none
+    ∙ ap Ok (same_plan (stated_plan script) is.plan plan is.stated made)
+
+pub names_lawful : (width : Width) (script : List ℕ) (judge : Judge) (plan : CellPlan) →
+    length script ≤ 1048576 → IsJudged script judge → judged_fault width judge ≡ None →
+    stated_plan script ≡ Ok plan → IsLawfulPlan width plan
+names_lawful width script judge plan small is none made =
+    (named_plan width script plan (names_plan width script judge plan small is none made)).0

@@ -1,0 +1,437 @@
+-- What the statements of a script say is within its bounds.
+use Rattle.std.proofs.Common.{◌≡◌, ℕ, zero, suc, ◌+◌, ◌*◌, ◌^◌, ◌<◌, ◌≤◌, Bool, true, false, cond}
+use Rattle.std.proofs.Common.{List, [], ◌∷◌, length, get_or, refl, sym, subst, ◌∙◌, arith, ℤ}
+use Rattle.std.proofs.Common.{unsigned_abs}
+use Rattle.std.proofs.Common.{Option, None, Some, IfSome}
+use Rattle.std.specs.Prelude.{codes, nat_le, nat_lt, ◌==◌, option_and_then, option_map, FitsSigned}
+use Rattle.std.specs.Int.{w16}
+use Rattle.std.proofs.lemmas.Bool.{and_parts, cond-false, cond-true, eqb-false, eqb-true, leb-true}
+use Rattle.std.proofs.lemmas.Bool.{ltb-true}
+use Rattle.std.proofs.lemmas.Int.{ints}
+use Rattle.std.proofs.lemmas.Option.{cond_some, same_Some}
+use Rattle.chip_core.specs.Complex.{norm}
+use Rattle.chip_core.specs.Fields.{FieldsFit}
+use Rattle.long_code.specs.LongCode.{IsState}
+use Rattle.sync_message.specs.SyncMessage.{fixed_fields, IsSyncMessage}
+use Rattle.sync_message.specs.declared.fields.SyncFields.{SyncFields}
+use Rattle.sync_message.proofs.Bodies.{admitted}
+use Rattle.cell_plan.specs.declared.plan.SyncPlan.{SyncPlan}
+use Rattle.cell_plan.specs.declared.plan.CellIdentity.{CellIdentity}
+use Rattle.cell_plan.specs.declared.plan.LinkPlan.{LinkPlan}
+use Rattle.cell_script.specs.ScriptFields.{NumberRow, AreUpTo, at_end, field, numbers_in, past}
+use Rattle.cell_script.specs.ScriptFields.{value_of}
+use Rattle.cell_script.specs.ScriptLines.{cell_in, cell_line, freq_in, has_lawful_rest, is_link}
+use Rattle.cell_script.specs.ScriptLines.{link_in, link_line, sync_behind, sync_fields, sync_in}
+use Rattle.cell_script.specs.ScriptLines.{frame_in, frame_key, frame_rate, frame_with}
+use Rattle.cell_script.specs.ScriptLines.{frame2_in, frame2_key, frame2_rate, frame2_with}
+use Rattle.cell_script.specs.ScriptLines.{lawful_frame2}
+use Rattle.cell_script.specs.ScriptLines.{lawful_frame, traffic_in, traffic_line}
+use Rattle.cell_script.specs.ScriptLines.{lawful_message, lawful_page, page_in, page_key}
+use Rattle.cell_script.specs.ScriptLines.{page_with, paging_in, paging_line, pilot_in}
+use Rattle.cell_script.specs.ScriptLines.{statement_in, sync_table}
+use Rattle.cell_plan.specs.declared.plan.Page.{Page}
+use Rattle.cell_script.specs.declared.statements.PagingLine.{PagingLine}
+use Rattle.cell_script.specs.declared.statements.TrafficLine.{TrafficLine}
+use Rattle.cell_plan.specs.declared.traffic_frame.TrafficFrame.{TrafficFrame}
+use Rattle.cell_plan.specs.declared.traffic_frame2.TrafficFrame2.{TrafficFrame2}
+use Rattle.symbol_path.specs.RatesTwo as second
+use Rattle.symbol_path.specs.declared.rate_two.Rate2.{Rate2}
+use Rattle.cell_plan.specs.TrafficFrames.{IsTrafficFrame, IsTrafficFrame2}
+use Rattle.quality_bits.specs.TrafficWords.{information_of}
+use Rattle.quality_bits.specs.declared.rate.Rate.{Rate}
+use Rattle.cell_script.specs.declared.statements.Statement.{Statement}
+use Rattle.cell_script.specs.declared.statements.Statement.TheVariants as statements
+use Rattle.paging_message.specs.Admitted.{HasMessage}
+use Rattle.paging_message.specs.Reading.{is_body}
+use Rattle.quality_bits.specs.Capsules.{FillsCapsule}
+use Rattle.quality_bits.specs.declared.kind.Kind.TheVariants.{M30}
+use Rattle.cell_script.specs.ScriptPlans.{IsLawful}
+use Rattle.cell_plan.specs.Stated.{IsStatedCell, IsStatedLink}
+use Rattle.cell_script.specs.ScriptValues.{as_state, begins_with, bits_in, hex_from, number_in}
+use Rattle.cell_script.specs.ScriptValues.{commands_in, number_up_to, serial_number_in}
+use Rattle.cell_script.specs.ScriptValues.{signed_in, state_in, up_to}
+use Rattle.cell_script.proofs.ScriptMessages.{is_tail}
+use Rattle.cell_script.proofs.ScriptPages.{body_fills, body_message}
+use Rattle.cell_script.proofs.ScriptNumerals.{one_signed_numeral}
+
+-- ---- steps that may fail
+
+-- a step that may fail and the steps behind it, as the statements' readings have them
+abbrev step : {A B : Type 0} → Option A → (A → Option B) → Option B
+step (Some x) f = f x
+step None f = None
+
+-- what holds of each value of the steps behind holds of each value of all
+both_steps : {A B : Type 0} {P : B → Type 0} (o : Option A) (f : A → Option B) →
+    ((x : A) → o ≡ Some x → (y : B) → f x ≡ Some y → P y) → (y : B) → step o f ≡ Some y → P y
+both_steps (Some x) f has y e = has x refl y e
+both_steps None f has y e = absurd (cc e)
+
+-- both steps gave a value
+tried : {A B : Type 0} (f : A → Option B) (o : Option A) (y : B) → option_and_then f o ≡ Some y →
+    (x : A) × (o ≡ Some x) × (f x ≡ Some y)
+tried f (Some x) y e = (x, refl, e)
+tried f None y e = absurd (cc e)
+
+-- the test held
+pub passed : {A : Type 0} (test : Bool) (o : Option A) (x : A) → cond test o None ≡ Some x →
+    o ≡ Some x
+passed true o x e = e
+passed false o x e = absurd (cc e)
+
+-- the whole text was read
+ended : {A : Type 0} (text : List ℕ) (value x : A) → at_end text value ≡ Some x → value ≡ x
+ended [] value x e = same_Some value x e
+ended (byte ∷ bytes) value x e = absurd (cc e)
+
+-- ---- fields
+
+-- the value of a field is read from its text
+field_read : {A : Type 0} (key : List ℕ) (read : List ℕ → Option A) (text : List ℕ) (x : A) →
+    field key read text ≡ Some x → read (value_of key text) ≡ Some x
+unfolding field
+field_read key read text x e = passed (begins_with text key) (read (value_of key text)) x e
+
+number_most : (most : ℕ) (text : List ℕ) (n : ℕ) → number_up_to most text ≡ Some n → n ≤ most
+unfolding number_up_to
+number_most most text n e =
+    let told = tried (up_to most) (number_in text) n e in
+    let test = cond_some (nat_le told.0 most) told.0 n told.2 in
+    omega (arith, leb-true told.0 most test.0, test.1)
+
+number_field : (key : List ℕ) (most : ℕ) (text : List ℕ) (n : ℕ) →
+    field key (number_up_to most) text ≡ Some n → n ≤ most
+number_field key most text n e =
+    number_most most (value_of key text) n (field_read key (number_up_to most) text n e)
+
+first_up_to : (f : NumberRow) (fields : List NumberRow) (n : ℕ) (ns : List ℕ) → n ≤ f.most →
+    AreUpTo fields ns →
+    AreUpTo (f ∷ fields) (n ∷ ns)
+first_up_to f fields n ns first rest zero inside = first
+first_up_to f fields n ns first rest (suc k) inside = rest k (omega (arith, inside))
+
+-- so are the numbers of fields that follow one another
+numbers_up_to : (fields : List NumberRow) (text numbers : List ℕ) →
+    numbers_in fields text ≡ Some numbers → AreUpTo fields numbers
+unfolding numbers_in
+numbers_up_to [] text = λ numbers e k inside. absurd (omega (arith, inside))
+numbers_up_to (f ∷ fields) text =
+    both_steps (field f.key (number_up_to f.most) _) _ λ n n_is.
+    both_steps (numbers_in fields _) _ λ ns ns_is numbers e.
+    subst (AreUpTo (f ∷ fields)) (same_Some (n ∷ ns) numbers e)
+    (first_up_to f fields n ns (number_field f.key f.most text n n_is)
+    (numbers_up_to fields (past f.key text) ns ns_is))
+
+signed_most : (z : ℤ) → FitsSigned w16 z → unsigned_abs z ≤ 32768
+signed_most z fits = omega (arith, ints, fits.sfits)
+
+signed_field : (key text : List ℕ) (z : ℤ) → field key signed_in text ≡ Some z →
+    unsigned_abs z ≤ 32768
+signed_field key text z e =
+    signed_most z
+    ((one_signed_numeral z (value_of key text)).0 (field_read key signed_in text z e)).1
+
+state_some : (n state : ℕ) (none : Bool) → (n == 0) ≡ none →
+    cond none None (cond (nat_lt n (2 ^ 42)) (Some n) None) ≡ Some state → IsState state
+state_some n state true is e = absurd (cc e)
+state_some n state false is e =
+    let told = cond_some (nat_lt n (2 ^ 42)) n state e in
+    let below : n < 2 ^ 42 = ltb-true n (2 ^ 42) told.0 in
+    let other : ¬ (n ≡ 0) = eqb-false n 0 is in
+    (omega (arith, told.1, other), omega (arith, told.1, below))
+
+state_read : (text : List ℕ) (state : ℕ) → state_in text ≡ Some state → IsState state
+unfolding state_in
+state_read text state e =
+    let told = tried as_state (hex_from 0 text) state
+    (passed (length text == 11) (option_and_then as_state (hex_from 0 text)) state e) in
+    state_some told.0 state (told.0 == 0) refl told.2
+
+state_field : (key text : List ℕ) (state : ℕ) → field key state_in text ≡ Some state → IsState state
+state_field key text state e =
+    state_read (value_of key text) state (field_read key state_in text state e)
+
+-- ---- statements
+
+cell_fields : (pn time lc checks : ℕ) → pn ≤ 511 → time ≤ 34359738368 → IsState lc →
+    IsStatedCell (cell_line pn time lc checks)
+cell_fields pn time lc checks small short state =
+    record { pn = omega (arith, small); time = short; lc = state }
+
+pub cell_bounds : (text : List ℕ) (cell : CellIdentity) → cell_in text ≡ Some cell →
+    IsStatedCell cell
+unfolding cell_in
+cell_bounds text =
+    both_steps (field (codes "cell pn=") (number_up_to 511) _) _ λ pn pn_is.
+    both_steps (field (codes " time=") (number_up_to 34359738368) _) _ λ time time_is.
+    both_steps (field (codes " lc=") state_in _) _ λ lc lc_is.
+    both_steps (field (codes " checks=") (number_up_to 3) _) _ λ checks checks_is cell e.
+    subst IsStatedCell (ended _ (cell_line pn time lc checks) cell e)
+    (cell_fields pn time lc checks (number_field _ 511 _ pn pn_is)
+    (number_field _ 34359738368 _ time time_is) (state_field _ _ lc lc_is))
+
+-- a link of which a part isn't 0 has a norm above 0
+square_some : (n : ℕ) → 0 < n → 0 < n * n
+square_some zero some = absurd (omega (arith, some))
+square_some (suc n) some = omega arith
+
+norm_some : (a b : ℕ) → 0 < a + b → 0 < a * a + b * b
+norm_some zero b some = omega (arith, square_some b (omega (arith, some)))
+norm_some (suc a) b some = omega (arith, square_some (suc a) (omega arith))
+
+abbrev LinkBounds : LinkPlan → Type 0
+LinkBounds link = IsStatedLink link × (0 < norm link.factor)
+
+link_line_bounds : (re im : ℤ) (start samples : ℕ) (link : LinkPlan) → unsigned_abs re ≤ 32768 →
+    unsigned_abs im ≤ 32768 → start ≤ 4294967295 →
+    link_line re im start samples ≡ Some link → LinkBounds link
+link_line_bounds re im start samples link in_phase quadrature small e =
+    let told = cond_some (is_link re im samples)
+    (record { factor = record { i = re; q = im }; start = start; samples = samples }) link e in
+    let some = and_parts (nat_lt 0 (unsigned_abs re + unsigned_abs im)) (nat_lt 0 samples) told.0 in
+    let heard = norm_some (unsigned_abs re) (unsigned_abs im)
+    (ltb-true 0 (unsigned_abs re + unsigned_abs im) some.0) in
+    subst LinkBounds told.1
+    (record { in_phase = in_phase; quadrature = quadrature; start = omega (arith, small) }, heard)
+
+pub link_bounds : (text : List ℕ) (link : LinkPlan) → link_in text ≡ Some link →
+    IsStatedLink link × (0 < norm link.factor)
+unfolding link_in
+link_bounds text =
+    both_steps (field (codes "link re=") signed_in _) _ λ re re_is.
+    both_steps (field (codes " im=") signed_in _) _ λ im im_is.
+    both_steps (field (codes " start=") (number_up_to 4294967295) _) _ λ start start_is.
+    both_steps (field (codes " samples=") (number_up_to 18446744073709551615) _) _
+    λ samples samples_is.
+    both_steps (link_line re im start samples) _ λ line line_is link e.
+    subst LinkBounds (ended _ line link e)
+    (link_line_bounds re im start samples line (signed_field _ _ re re_is)
+    (signed_field _ _ im im_is) (number_field _ 4294967295 _ start start_is) line_is)
+
+-- ---- the message of a sync line
+
+abbrev IsFreq : Option ℕ → Type 0
+IsFreq freq = IfSome freq (λ n. n < 2 ^ 11)
+
+-- the frequency may be left out
+freq_some : (given : Bool) (number : Option ℕ) (freq : Option ℕ) →
+    ((n : ℕ) → number ≡ Some n → n ≤ 2047) →
+    cond given (option_map Some number) (Some None) ≡ Some freq → IsFreq freq
+freq_some true None freq most e = absurd (cc e)
+freq_some true (Some n) freq most e =
+    subst IsFreq (same_Some (Some n) freq e) (omega (arith, most n refl))
+freq_some false number freq most e = subst IsFreq (same_Some None freq e) tt
+
+freq_bounds : (text : List ℕ) (freq : Option ℕ) → freq_in text ≡ Some freq → IsFreq freq
+unfolding freq_in
+freq_bounds text freq e = freq_some _ _ freq (λ n is. number_field _ 2047 _ n is) e
+
+-- the rest has a length that the message admits
+message_bounds : (m message : SyncFields) → FieldsFit (fixed_fields m) → IsFreq m.freq →
+    lawful_message m ≡ Some message → IsSyncMessage message
+message_bounds m message fixed freq e =
+    let told = cond_some (has_lawful_rest m.freq m.rest) m message e in
+    subst IsSyncMessage told.1 (admitted m m.freq refl fixed (is_tail m.freq m.rest freq told.0))
+
+fields_fit : (numbers : List ℕ) (freq : Option ℕ) (rest : List Bool) → AreUpTo sync_table numbers →
+    FieldsFit (fixed_fields (sync_fields numbers freq rest))
+fields_fit numbers freq rest up =
+    let prev : get_or numbers 1 0 ≤ 255 = up 1 (omega arith) in
+    let min : get_or numbers 2 0 ≤ 255 = up 2 (omega arith) in
+    let sid : get_or numbers 3 0 ≤ 32767 = up 3 (omega arith) in
+    let nid : get_or numbers 4 0 ≤ 65535 = up 4 (omega arith) in
+    let lp : get_or numbers 5 0 ≤ 255 = up 5 (omega arith) in
+    let ltm : get_or numbers 6 0 ≤ 63 = up 6 (omega arith) in
+    let daylt : get_or numbers 7 0 ≤ 1 = up 7 (omega arith) in
+    let prat : get_or numbers 8 0 ≤ 3 = up 8 (omega arith) in (
+      omega arith,
+      (
+        omega (arith, prev),
+        (
+          omega (arith, min),
+          (
+            omega (arith, sid),
+            (
+              omega (arith, nid),
+              (
+                omega arith,
+                (
+                  omega arith,
+                  (
+                    omega arith,
+                    (
+                      omega (arith, lp),
+                      (omega (arith, ltm), (omega (arith, daylt), (omega (arith, prat), tt))),
+                    ),
+                  ),
+                ),
+              ),
+            ),
+          ),
+        ),
+      ),
+    )
+
+abbrev SyncBounds : SyncPlan → Type 0
+SyncBounds sync = IsSyncMessage sync.message
+
+behind_bounds : (numbers text : List ℕ) (sync : SyncPlan) → AreUpTo sync_table numbers →
+    sync_behind numbers text ≡ Some sync → IsSyncMessage sync.message
+unfolding sync_behind
+behind_bounds numbers text sync up =
+    both_steps (freq_in _) _
+    (λ freq freq_is.
+    both_steps (field (codes " rest=") bits_in _) _ λ rest rest_is.
+    both_steps (lawful_message (sync_fields numbers freq rest)) _ λ message message_is sync e.
+    subst SyncBounds (ended _ (record { gain = get_or numbers 0 0; message = message }) sync e)
+    (message_bounds (sync_fields numbers freq rest) message (fields_fit numbers freq rest up)
+    (freq_bounds _ freq freq_is) message_is))
+    sync
+
+pub sync_bounds : (text : List ℕ) (sync : SyncPlan) → sync_in text ≡ Some sync →
+    IsSyncMessage sync.message
+unfolding sync_in
+sync_bounds text =
+    both_steps (numbers_in sync_table _) _ λ numbers numbers_is sync e.
+    behind_bounds numbers _ sync (numbers_up_to sync_table _ numbers numbers_is) e
+
+-- ---- paging channels and pages
+
+abbrev PagingBounds : PagingLine → Type 0
+PagingBounds line = (1 ≤ line.number) × (line.number ≤ 7)
+
+abbrev given : ℕ → ℕ → PagingLine
+given number gain = record { number = number; gain = gain }
+
+paging_some : (number gain : ℕ) (line : PagingLine) (none : Bool) → (number == 0) ≡ none →
+    number ≤ 7 → paging_line number gain ≡ Some line → PagingBounds line
+paging_some number gain line true e small is =
+    absurd (cc (cond-true (number == 0) None (Some (given number gain)) e, is))
+paging_some number gain line false e small is =
+    let same : given number gain ≡ line =
+    same_Some (given number gain) line
+    (sym (cond-false (number == 0) None (Some (given number gain)) e) ∙ is) in
+    let other : ¬ (number ≡ 0) = eqb-false number 0 e in
+    subst PagingBounds same (omega (arith, other), small)
+
+pub paging_bounds : (text : List ℕ) (line : PagingLine) → paging_in text ≡ Some line →
+    (1 ≤ line.number) × (line.number ≤ 7)
+unfolding paging_in
+paging_bounds text =
+    both_steps (field (codes "paging channel=") (number_up_to 7) _) _ λ number number_is.
+    both_steps (field (codes " gain=") (number_up_to 65535) _) _ λ gain gain_is.
+    both_steps (paging_line number gain) _ λ line line_is all e.
+    subst PagingBounds (ended _ line all e)
+    (paging_some number gain line (number == 0) refl (number_field _ 7 _ number number_is) line_is)
+
+abbrev PageBounds : Page → Type 0
+PageBounds page = FillsCapsule M30 page.body × HasMessage page.body
+
+page_some : (follows : Bool) (body : List Bool) (page : Page) →
+    lawful_page follows body ≡ Some page → PageBounds page
+page_some follows body page e =
+    let told = cond_some (is_body body) (record { follows = follows; body = body }) page e in
+    subst PageBounds told.1 (body_fills body told.0, body_message body told.0)
+
+page_with_bounds : (follows : Bool) (text : List ℕ) (page : Page) →
+    page_with follows text ≡ Some page → PageBounds page
+page_with_bounds follows text =
+    both_steps (field (page_key follows) bits_in _) _ λ body body_is.
+    both_steps (lawful_page follows body) _ λ page page_is all e.
+    subst PageBounds (ended _ page all e) (page_some follows body page page_is)
+
+pub page_bounds : (text : List ℕ) (page : Page) → page_in text ≡ Some page →
+    FillsCapsule M30 page.body × HasMessage page.body
+unfolding page_in
+page_bounds text = page_with_bounds (begins_with text (codes "page next ")) text
+
+-- ---- traffic channels and frames
+
+abbrev TrafficBounds : TrafficLine → Type 0
+TrafficBounds line = (line.row ≤ 63) × (line.offset ≤ 15)
+
+pub traffic_bounds : (text : List ℕ) (line : TrafficLine) → traffic_in text ≡ Some line →
+    (line.row ≤ 63) × (line.offset ≤ 15)
+unfolding traffic_in
+traffic_bounds text =
+    both_steps (field (codes "traffic row=") (number_up_to 63) _) _ λ row row_is.
+    both_steps (field (codes " esn=") serial_number_in _) _ λ esn esn_is.
+    both_steps (field (codes " offset=") (number_up_to 15) _) _ λ offset offset_is.
+    both_steps (field (codes " gain=") (number_up_to 65535) _) _ λ gain gain_is line e.
+    subst TrafficBounds (ended _ (traffic_line row esn offset gain) line e)
+    (number_field _ 63 _ row row_is, number_field _ 15 _ offset offset_is)
+
+frame_some : (rate : Rate) (information commands : List Bool) (frame : TrafficFrame) →
+    lawful_frame rate information commands ≡ Some frame → IsTrafficFrame frame
+frame_some rate information commands frame e =
+    let told = cond_some (length information == information_of rate)
+    (record { rate = rate; information = information; commands = commands }) frame e in
+    subst IsTrafficFrame told.1 (eqb-true (length information) (information_of rate) told.0)
+
+frame_with_bounds : (rate : Rate) (text : List ℕ) (frame : TrafficFrame) →
+    frame_with rate text ≡ Some frame → IsTrafficFrame frame
+frame_with_bounds rate text =
+    both_steps (field (frame_key rate) bits_in _) _ λ information information_is.
+    both_steps (field (codes " ") commands_in _) _ λ commands commands_is.
+    both_steps (lawful_frame rate information commands) _ λ frame frame_is all e.
+    subst IsTrafficFrame (ended _ frame all e)
+    (frame_some rate information commands frame frame_is)
+
+pub frame_bounds : (text : List ℕ) (frame : TrafficFrame) → frame_in text ≡ Some frame →
+    IsTrafficFrame frame
+unfolding frame_in
+frame_bounds text =
+    both_steps (frame_rate text) _ λ rate rate_is frame e. frame_with_bounds rate text frame e
+
+frame2_some : (rate : Rate2) (information commands : List Bool) (frame : TrafficFrame2) →
+    lawful_frame2 rate information commands ≡ Some frame → IsTrafficFrame2 frame
+frame2_some rate information commands frame e =
+    let told = cond_some (length information == second.information_of rate)
+    (record { rate = rate; information = information; commands = commands }) frame e in
+    subst IsTrafficFrame2 told.1
+    (eqb-true (length information) (second.information_of rate) told.0)
+
+frame2_with_bounds : (rate : Rate2) (text : List ℕ) (frame : TrafficFrame2) →
+    frame2_with rate text ≡ Some frame → IsTrafficFrame2 frame
+frame2_with_bounds rate text =
+    both_steps (field (frame2_key rate) bits_in _) _ λ information information_is.
+    both_steps (field (codes " ") commands_in _) _ λ commands commands_is.
+    both_steps (lawful_frame2 rate information commands) _ λ frame frame_is all e.
+    subst IsTrafficFrame2 (ended _ frame all e)
+    (frame2_some rate information commands frame frame_is)
+
+pub frame2_bounds : (text : List ℕ) (frame : TrafficFrame2) → frame2_in text ≡ Some frame →
+    IsTrafficFrame2 frame
+unfolding frame2_in
+frame2_bounds text =
+    both_steps (frame2_rate text) _ λ rate rate_is frame e. frame2_with_bounds rate text frame e
+
+-- ---- any line
+
+step_told : {A : Type 0} (f : A → Statement) (read : Option A) (test : Bool)
+    (other : Option Statement) (statement : Statement) →
+    ((x : A) → read ≡ Some x → IsLawful (f x)) → (other ≡ Some statement → IsLawful statement) →
+    cond test (option_map f read) other ≡ Some statement → IsLawful statement
+step_told f (Some x) true other statement here rest e =
+    subst IsLawful (same_Some (f x) statement e) (here x refl)
+step_told f None true other statement here rest e = absurd (cc e)
+step_told f read false other statement here rest e = rest e
+
+no_line : (statement : Statement) → None ≡ Some statement → IsLawful statement
+no_line statement e = absurd (cc e)
+
+-- what a line states is within its bounds
+pub line_bounds : (text : List ℕ) (statement : Statement) → statement_in text ≡ Some statement →
+    IsLawful statement
+unfolding statement_in
+line_bounds text statement =
+    step_told statements.Cell (cell_in text) _ _ statement (cell_bounds text)
+    (step_told statements.Link (link_in text) _ _ statement (link_bounds text)
+    (step_told statements.Pilot (pilot_in text) _ _ statement (λ pilot is. tt)
+    (step_told statements.Sync (sync_in text) _ _ statement (sync_bounds text)
+    (step_told statements.Paging (paging_in text) _ _ statement (paging_bounds text)
+    (step_told statements.Page (page_in text) _ _ statement (page_bounds text)
+    (step_told statements.Traffic (traffic_in text) _ _ statement (traffic_bounds text)
+    (step_told statements.Frame (frame_in text) _ _ statement (frame_bounds text)
+    (step_told statements.Frame2 (frame2_in text) _ None statement (frame2_bounds text)
+    (no_line statement)))))))))

@@ -1,0 +1,393 @@
+-- Rows and gains of the channels of a script: there are at most seven paging channels of different
+-- numbers, and 62 traffic channels of different rows.
+use Rattle.std.proofs.Common.{◌≡◌, ◌≢◌, ℕ, zero, suc, ◌+◌, ◌<◌, ◌≤◌, Bool, true, false, cond}
+use Rattle.std.proofs.Common.{List, [], ◌∷◌, ◌++◌, length, refl, sym, subst, arith}
+use Rattle.std.proofs.Common.{None, Some}
+use Rattle.std.specs.Prelude.{◌==◌, All}
+use Rattle.std.proofs.lemmas.Bool.{eqb-false, eqb-true}
+use Rattle.std.proofs.lemmas.List.{length-map}
+use Rattle.std.proofs.lemmas.List.Elements.{All-cons, All-head, All-map, All-nil, All-tail}
+use Rattle.std.proofs.lemmas.List.Elements.{All-weaker}
+use Rattle.quality_bits.specs.declared.rate.Rate.{Rate}
+use Rattle.cell_plan.specs.declared.plan.PagingPlan.{PagingPlan}
+use Rattle.cell_plan.specs.declared.plan.TrafficPlan.{TrafficPlan}
+use Rattle.cell_plan.specs.Plan.{AreLawfulBeside, HaveOwnNumbers, HaveOwnTrafficRows, IsFreeOf}
+use Rattle.cell_plan.specs.Plan.{IsPagingPlan, IsTrafficPlan}
+use Rattle.cell_script.specs.Script.{ChannelLine, channel, first_channels, is_used, paging_lines}
+use Rattle.cell_script.specs.Script.{repeated, repeated_behind, silent, traffic_lines}
+use Rattle.cell_plan.specs.Stated.{IsStatedPaging, IsStatedTraffic}
+
+-- ---- gains
+
+abbrev HaveGains : List ChannelLine → Type 0
+HaveGains ls = All (λ (l : ChannelLine). 0 < l.gain) ls
+
+gains_step : (l : ChannelLine) (ls : List ChannelLine) (none : Bool) → (l.gain == 0) ≡ none →
+    cond none (Some l.row) (silent ls) ≡ None → (silent ls ≡ None → HaveGains ls) →
+    HaveGains (l ∷ ls)
+gains_step l ls true e quiet rest = absurd (cc quiet)
+gains_step l ls false e quiet rest =
+    let other : ¬ (l.gain ≡ 0) = eqb-false l.gain 0 e in
+    All-cons (λ (x : ChannelLine). 0 < x.gain) l ls (omega (arith, other)) (rest quiet)
+
+-- no gain is 0
+some_gain : (ls : List ChannelLine) → silent ls ≡ None → HaveGains ls
+some_gain [] quiet = All-nil (λ (x : ChannelLine). 0 < x.gain)
+some_gain (l ∷ ls) quiet = gains_step l ls (l.gain == 0) refl quiet (some_gain ls)
+
+-- ---- no row is used twice
+
+-- a row that isn't used is that of none of the lines
+unused-cons : (k : ℕ) (l : ChannelLine) (ls : List ChannelLine) → is_used k (l ∷ ls) ≡ false →
+    (l.row ≢ k) × (is_used k ls ≡ false)
+unused-cons k l ls e = step (l.row == k) refl e
+  where
+    step : (same : Bool) → (l.row == k) ≡ same → cond same true (is_used k ls) ≡ false →
+        (l.row ≢ k) × (is_used k ls ≡ false)
+    step true is none = absurd (cc none)
+    step false is none = (eqb-false l.row k is, none)
+
+used-front : (k : ℕ) (before : List ChannelLine) (l : ChannelLine) →
+    is_used k (before ++ l ∷ []) ≡ false → (is_used k before ≡ false) × (l.row ≢ k)
+used-front k [] l e = (refl, (unused-cons k l [] e).0)
+used-front k (x ∷ before) l e =
+    let told = unused-cons k x (before ++ l ∷ []) e in
+    let rest = used-front k before l told.1 in
+    (unused-both k x before told.0 rest.0, rest.1)
+  where
+    unused-both : (k : ℕ) (x : ChannelLine) (before : List ChannelLine) → x.row ≢ k →
+        is_used k before ≡ false → is_used k (x ∷ before) ≡ false
+    unused-both k x before other rest = step (x.row == k) refl
+      where
+        step : (same : Bool) → (x.row == k) ≡ same → cond same true (is_used k before) ≡ false
+        step true is = absurd (other (eqb-true x.row k is))
+        step false is = rest
+
+-- no two lines have one row
+abbrev HaveOwnRows : List ChannelLine → Type 0
+HaveOwnRows [] = Unit {0}
+HaveOwnRows (l ∷ ls) = All (λ (q : ChannelLine). q.row ≢ l.row) ls × HaveOwnRows ls
+
+-- none of the lines has the row of one before it
+abbrev AreUnused : List ChannelLine → List ChannelLine → Type 0
+AreUnused before ls = All (λ (q : ChannelLine). is_used q.row before ≡ false) ls
+
+abbrev Apart : List ChannelLine → List ChannelLine → Type 0
+Apart before ls = AreUnused before ls × HaveOwnRows ls
+
+apart_step : (before : List ChannelLine) (l : ChannelLine) (ls : List ChannelLine) (used : Bool) →
+    is_used l.row before ≡ used →
+    cond used (Some l.row) (repeated_behind (before ++ l ∷ []) ls) ≡ None →
+    (repeated_behind (before ++ l ∷ []) ls ≡ None → Apart (before ++ l ∷ []) ls) →
+    Apart before (l ∷ ls)
+apart_step before l ls true e none rest = absurd (cc none)
+apart_step before l ls false e none rest =
+    let told = rest none in
+    let behind : All (λ (q : ChannelLine). is_used q.row before ≡ false) ls =
+    All-weaker (λ (q : ChannelLine). is_used q.row (before ++ l ∷ []) ≡ false)
+    (λ (q : ChannelLine). is_used q.row before ≡ false)
+    (λ q is. (used-front q.row before l is).0) ls told.0 in
+    let others : All (λ (q : ChannelLine). q.row ≢ l.row) ls =
+    All-weaker (λ (q : ChannelLine). is_used q.row (before ++ l ∷ []) ≡ false)
+    (λ (q : ChannelLine). q.row ≢ l.row)
+    (λ q is same. (used-front q.row before l is).1 (sym same)) ls told.0 in (
+      All-cons (λ (q : ChannelLine). is_used q.row before ≡ false) l ls e behind,
+      (others, told.1),
+    )
+
+apart_behind : (before ls : List ChannelLine) → repeated_behind before ls ≡ None → Apart before ls
+apart_behind before [] none = (All-nil (λ (q : ChannelLine). is_used q.row before ≡ false), tt)
+apart_behind before (l ∷ ls) none =
+    apart_step before l ls (is_used l.row before) refl none (apart_behind (before ++ l ∷ []) ls)
+
+-- ---- at most so many rows
+
+abbrev keep : Bool → ChannelLine → List ChannelLine → List ChannelLine
+keep drops l ls = cond drops ls (l ∷ ls)
+
+-- those with another row
+abbrev without : ℕ → List ChannelLine → List ChannelLine
+without k [] = []
+without k (l ∷ ls) = keep (l.row == k) l (without k ls)
+
+abbrev Others : ℕ → List ChannelLine → Type 0
+Others k ls = All (λ (q : ChannelLine). q.row ≢ k) ls
+
+abbrev IsWithin : ℕ → ChannelLine → Type 0
+IsWithin most q = (1 ≤ q.row) × (q.row ≤ most)
+
+abbrev Within : ℕ → List ChannelLine → Type 0
+Within most ls = All (IsWithin most) ls
+
+-- what holds of all holds of those that are kept
+kept_all : (P : ChannelLine → Type 0) (k : ℕ) (ls : List ChannelLine) → All P ls →
+    All P (without k ls)
+kept_all P k [] are = are
+kept_all P k (l ∷ ls) are =
+    step (l.row == k) (All-head P l ls are) (kept_all P k ls (All-tail P l ls are))
+  where
+    step : (drops : Bool) → P l → All P (without k ls) → All P (keep drops l (without k ls))
+    step true here rest = rest
+    step false here rest = All-cons P l (without k ls) here rest
+
+kept_own : (k : ℕ) (ls : List ChannelLine) → HaveOwnRows ls → HaveOwnRows (without k ls)
+kept_own k [] own = tt
+kept_own k (l ∷ ls) own =
+    step (l.row == k)
+    (kept_all (λ (q : ChannelLine). q.row ≢ l.row) k ls own.0, kept_own k ls own.1)
+  where
+    step : (drops : Bool) → HaveOwnRows (l ∷ without k ls) →
+        HaveOwnRows (keep drops l (without k ls))
+    step true both = both.1
+    step false both = both
+
+kept_others : (k : ℕ) (ls : List ChannelLine) → Others k (without k ls)
+kept_others k [] = All-nil (λ (q : ChannelLine). q.row ≢ k)
+kept_others k (l ∷ ls) = step (l.row == k) refl (kept_others k ls)
+  where
+    step : (drops : Bool) → (l.row == k) ≡ drops → Others k (without k ls) →
+        Others k (keep drops l (without k ls))
+    step true is rest = rest
+    step false is rest =
+        All-cons (λ (q : ChannelLine). q.row ≢ k) l (without k ls) (eqb-false l.row k is) rest
+
+-- where none has the row, all are kept
+none_dropped : (k : ℕ) (ls : List ChannelLine) → Others k ls → length (without k ls) ≡ length ls
+none_dropped k [] are = refl
+none_dropped k (l ∷ ls) are =
+    step (l.row == k) refl
+    (none_dropped k ls (All-tail (λ (q : ChannelLine). q.row ≢ k) l ls are))
+  where
+    step : (drops : Bool) → (l.row == k) ≡ drops → length (without k ls) ≡ length ls →
+        length (keep drops l (without k ls)) ≡ length (l ∷ ls)
+    step true is rest =
+        absurd (All-head (λ (q : ChannelLine). q.row ≢ k) l ls are (eqb-true l.row k is))
+    step false is rest = omega (arith, rest)
+
+-- at most one has it
+one_dropped : (k : ℕ) (ls : List ChannelLine) → HaveOwnRows ls →
+    length ls ≤ length (without k ls) + 1
+one_dropped k [] own = omega arith
+one_dropped k (l ∷ ls) own = step (l.row == k) refl (one_dropped k ls own.1)
+  where
+    step : (drops : Bool) → (l.row == k) ≡ drops → length ls ≤ length (without k ls) + 1 →
+        length (l ∷ ls) ≤ length (keep drops l (without k ls)) + 1
+    step true is rest =
+        let others : Others k ls =
+        subst (λ (n : ℕ). Others n ls) (eqb-true l.row k is) own.0 in
+        omega (arith, none_dropped k ls others)
+    step false is rest = omega (arith, rest)
+
+within_less : (most : ℕ) (ls : List ChannelLine) → Within (suc most) ls → Others (suc most) ls →
+    Within most ls
+within_less most [] are others = All-nil (IsWithin most)
+within_less most (l ∷ ls) are others =
+    let here = All-head (IsWithin (suc most)) l ls are in
+    let other = All-head (λ (q : ChannelLine). q.row ≢ suc most) l ls others in
+    All-cons (IsWithin most) l ls (here.0, omega (arith, here.1, other))
+    (within_less most ls (All-tail (IsWithin (suc most)) l ls are)
+    (All-tail (λ (q : ChannelLine). q.row ≢ suc most) l ls others))
+
+at_most : (most : ℕ) (ls : List ChannelLine) → HaveOwnRows ls → Within most ls → length ls ≤ most
+at_most zero [] own are = omega arith
+at_most zero (l ∷ ls) own are =
+    let here = All-head (IsWithin 0) l ls are in
+    absurd (omega (arith, here.0, here.1))
+at_most (suc most) ls own are =
+    let fewer = without (suc most) ls in
+    let within : Within most fewer =
+    within_less most fewer (kept_all (IsWithin (suc most)) (suc most) ls are)
+    (kept_others (suc most) ls) in
+    let rest = at_most most fewer (kept_own (suc most) ls own) within in
+    omega (arith, rest, one_dropped (suc most) ls own)
+
+-- ---- the paging channels
+
+abbrev line_of : PagingPlan → ChannelLine
+line_of p = channel p.number p.gain
+
+abbrev traffic_line_of : TrafficPlan → ChannelLine
+traffic_line_of t = channel t.row t.gain
+
+-- what holds of the lines of paging channels and of lines behind them holds of each
+parted : (P : ChannelLine → Type 0) (paging : List PagingPlan) (ls : List ChannelLine) →
+    All P (paging_lines paging ++ ls) → All (λ (p : PagingPlan). P (line_of p)) paging × All P ls
+parted P [] ls are = (All-nil (λ (p : PagingPlan). P (line_of p)), are)
+parted P (p ∷ paging) ls are =
+    let told = parted P paging ls (All-tail P (line_of p) (paging_lines paging ++ ls) are) in (
+      All-cons (λ (q : PagingPlan). P (line_of q)) p paging
+          (All-head P (line_of p) (paging_lines paging ++ ls) are) told.0,
+      told.1,
+    )
+
+own_numbers : (paging : List PagingPlan) (ls : List ChannelLine) →
+    HaveOwnRows (paging_lines paging ++ ls) → HaveOwnNumbers paging
+own_numbers [] ls own = tt
+own_numbers (p ∷ paging) ls own = (
+  (parted (λ (q : ChannelLine). q.row ≢ p.number) paging ls own.0).0,
+  own_numbers paging ls own.1,
+)
+
+-- no two paging channels have one number
+pub have_own_numbers : (paging : List PagingPlan) (ls : List ChannelLine) →
+    repeated (paging_lines paging ++ ls) ≡ None → HaveOwnNumbers paging
+have_own_numbers paging ls none =
+    own_numbers paging ls (apart_behind first_channels (paging_lines paging ++ ls) none).1
+
+own_lines : (paging : List PagingPlan) → HaveOwnNumbers paging → HaveOwnRows (paging_lines paging)
+own_lines [] own = tt
+own_lines (p ∷ paging) own =
+    (All-map (λ (q : ChannelLine). q.row ≢ p.number) line_of paging own.0, own_lines paging own.1)
+
+pub few_channels : (rate : Rate) (paging : List PagingPlan) → All (IsStatedPaging rate) paging →
+    HaveOwnNumbers paging → length paging ≤ 7
+few_channels rate paging are own =
+    let within : Within 7 (paging_lines paging) =
+    All-map (IsWithin 7) line_of paging
+    (All-weaker (IsStatedPaging rate) (λ (q : PagingPlan). IsWithin 7 (line_of q))
+    (λ q is. (is.first, is.last)) paging are) in
+    omega (
+      arith,
+      at_most 7 (paging_lines paging) (own_lines paging own) within,
+      length-map paging line_of,
+    )
+
+gains_of_all : (rate : Rate) (paging : List PagingPlan) → All (IsStatedPaging rate) paging →
+    All (λ (p : PagingPlan). 0 < p.gain) paging → All (IsPagingPlan rate) paging
+gains_of_all rate [] are gains = All-nil (IsPagingPlan rate)
+gains_of_all rate (p ∷ paging) are gains =
+    let here = All-head (IsStatedPaging rate) p paging are in
+    All-cons (IsPagingPlan rate) p paging
+    (record {
+      first = here.first;
+      last = here.last;
+      gain = All-head (λ (q : PagingPlan). 0 < q.gain) p paging gains;
+      some = here.some;
+      pages = here.pages;
+    })
+    (gains_of_all rate paging (All-tail (IsStatedPaging rate) p paging are)
+    (All-tail (λ (q : PagingPlan). 0 < q.gain) p paging gains))
+
+-- no gain of a paging channel is 0
+pub some_gains : (rate : Rate) (paging : List PagingPlan) (ls : List ChannelLine) →
+    All (IsStatedPaging rate) paging → silent (paging_lines paging ++ ls) ≡ None →
+    All (IsPagingPlan rate) paging
+some_gains rate paging ls are quiet =
+    gains_of_all rate paging are
+    (parted (λ (l : ChannelLine). 0 < l.gain) paging ls
+    (some_gain (paging_lines paging ++ ls) quiet)).0
+
+-- ---- the traffic channels
+
+-- what holds of the lines of traffic channels
+traffic_all : (P : ChannelLine → Type 0) (traffic : List TrafficPlan) →
+    All P (traffic_lines traffic) → All (λ (t : TrafficPlan). P (traffic_line_of t)) traffic
+traffic_all P [] are = All-nil (λ (t : TrafficPlan). P (traffic_line_of t))
+traffic_all P (t ∷ traffic) are =
+    All-cons (λ (u : TrafficPlan). P (traffic_line_of u)) t traffic
+    (All-head P (traffic_line_of t) (traffic_lines traffic) are)
+    (traffic_all P traffic (All-tail P (traffic_line_of t) (traffic_lines traffic) are))
+
+-- the lines behind those of paging channels have rows of their own
+own_behind : (paging : List PagingPlan) (ls : List ChannelLine) →
+    HaveOwnRows (paging_lines paging ++ ls) → HaveOwnRows ls
+own_behind [] ls own = own
+own_behind (p ∷ paging) ls own = own_behind paging ls own.1
+
+own_traffic_rows : (traffic : List TrafficPlan) → HaveOwnRows (traffic_lines traffic) →
+    HaveOwnTrafficRows traffic
+own_traffic_rows [] own = tt
+own_traffic_rows (t ∷ traffic) own = (
+  traffic_all (λ (q : ChannelLine). q.row ≢ t.row) traffic own.0,
+  own_traffic_rows traffic own.1,
+)
+
+-- and none is that of a paging channel
+free_rows : (paging : List PagingPlan) (traffic : List TrafficPlan) →
+    HaveOwnRows (paging_lines paging ++ traffic_lines traffic) →
+    All (λ (p : PagingPlan). IsFreeOf traffic p.number) paging
+free_rows [] traffic own = All-nil (λ (p : PagingPlan). IsFreeOf traffic p.number)
+free_rows (p ∷ paging) traffic own =
+    All-cons (λ (q : PagingPlan). IsFreeOf traffic q.number) p paging
+    (traffic_all (λ (q : ChannelLine). q.row ≢ p.number) traffic
+    (parted (λ (q : ChannelLine). q.row ≢ p.number) paging (traffic_lines traffic) own.0).1)
+    (free_rows paging traffic own.1)
+
+-- a row that neither the pilot nor the sync channel has
+not_first : (row : ℕ) → is_used row first_channels ≡ false → (row ≢ 0) × (row ≢ 32)
+not_first row unused =
+    let pilot = unused-cons row (channel 0 1) (channel 32 1 ∷ []) unused in
+    let sync = unused-cons row (channel 32 1) [] pilot.1 in
+    (λ is. pilot.0 (sym is), λ is. sync.0 (sym is))
+
+traffic_sent : (t : TrafficPlan) → IsStatedTraffic t → 0 < t.gain →
+    is_used t.row first_channels ≡ false → IsTrafficPlan t
+traffic_sent t is gain unused =
+    let other = not_first t.row unused in
+    let pilot : ¬ (t.row ≡ 0) = other.0 in
+    record {
+      first = omega (arith, pilot);
+      last = is.last;
+      other = other.1;
+      latest = is.latest;
+      gain = gain;
+      some = is.some;
+      sized = is.sized;
+    }
+
+all_sent : (traffic : List TrafficPlan) → All IsStatedTraffic traffic →
+    All (λ (t : TrafficPlan). 0 < t.gain) traffic →
+    All (λ (t : TrafficPlan). is_used t.row first_channels ≡ false) traffic →
+    All IsTrafficPlan traffic
+all_sent [] are gains unused = All-nil IsTrafficPlan
+all_sent (t ∷ traffic) are gains unused =
+    All-cons IsTrafficPlan t traffic
+    (traffic_sent t (All-head IsStatedTraffic t traffic are)
+    (All-head (λ (u : TrafficPlan). 0 < u.gain) t traffic gains)
+    (All-head (λ (u : TrafficPlan). is_used u.row first_channels ≡ false) t traffic unused))
+    (all_sent traffic (All-tail IsStatedTraffic t traffic are)
+    (All-tail (λ (u : TrafficPlan). 0 < u.gain) t traffic gains)
+    (All-tail (λ (u : TrafficPlan). is_used u.row first_channels ≡ false) t traffic unused))
+
+-- there are 63 rows but the pilot's, and one of them is the sync channel's
+few_rows : (traffic : List TrafficPlan) → All IsTrafficPlan traffic →
+    HaveOwnRows (traffic_lines traffic) → length traffic ≤ 62
+few_rows traffic are own =
+    let ls = traffic_lines traffic in
+    let within : Within 63 ls =
+    All-map (IsWithin 63) traffic_line_of traffic
+    (All-weaker IsTrafficPlan (λ (t : TrafficPlan). IsWithin 63 (traffic_line_of t))
+    (λ t is. (is.first, is.last)) traffic are) in
+    let others : Others 32 ls =
+    All-map (λ (q : ChannelLine). q.row ≢ 32) traffic_line_of traffic
+    (All-weaker IsTrafficPlan (λ (t : TrafficPlan). t.row ≢ 32) (λ t is. is.other) traffic are) in
+    let sync : IsWithin 63 (channel 32 1) = (omega arith, omega arith) in
+    omega (
+      arith,
+      at_most 63 (channel 32 1 ∷ ls) (others, own)
+          (All-cons (IsWithin 63) (channel 32 1) ls sync within),
+      length-map traffic traffic_line_of,
+    )
+
+-- traffic channels that can be sent beside the paging channels
+pub lawful_beside : (paging : List PagingPlan) (traffic : List TrafficPlan) →
+    All IsStatedTraffic traffic → repeated (paging_lines paging ++ traffic_lines traffic) ≡ None →
+    silent (paging_lines paging ++ traffic_lines traffic) ≡ None → AreLawfulBeside paging traffic
+lawful_beside paging traffic are none quiet =
+    let ls = traffic_lines traffic in
+    let told = apart_behind first_channels (paging_lines paging ++ ls) none in
+    let unused : All (λ (t : TrafficPlan). is_used t.row first_channels ≡ false) traffic =
+    traffic_all (λ (q : ChannelLine). is_used q.row first_channels ≡ false) traffic
+    (parted (λ (q : ChannelLine). is_used q.row first_channels ≡ false) paging ls told.0).1 in
+    let gains : All (λ (t : TrafficPlan). 0 < t.gain) traffic =
+    traffic_all (λ (l : ChannelLine). 0 < l.gain) traffic
+    (parted (λ (l : ChannelLine). 0 < l.gain) paging ls
+    (some_gain (paging_lines paging ++ ls) quiet)).1 in
+    let sent = all_sent traffic are gains unused in
+    let own = own_behind paging ls told.1 in
+    record {
+      few = few_rows traffic sent own;
+      are = sent;
+      apart = own_traffic_rows traffic own;
+      free = free_rows paging traffic told.1;
+    }

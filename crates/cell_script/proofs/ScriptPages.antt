@@ -1,0 +1,89 @@
+-- Pages: the test of their bodies, and the channel that one more page goes to.
+use Rattle.std.proofs.Common.{◌≡◌, Bool, true, false, List, refl, sym, ap, subst, ◌∙◌}
+use Rattle.std.proofs.Common.{Option, None, Some, IfSome, drop, is_some, [], ◌∷◌, ◌++◌}
+use Rattle.std.proofs.Common.{Result, Ok, Err, OnOk}
+use Rattle.std.proofs.lemmas.Bool.{cond-false, cond-true}
+use Rattle.quality_bits.specs.Capsules.{FillsCapsule}
+use Rattle.quality_bits.specs.declared.kind.Kind.TheVariants.{M30}
+use Rattle.paging_message.specs.Admitted.{HasMessage}
+use Rattle.paging_message.specs.Messages.{message_body, IsPagingMessage}
+use Rattle.paging_message.specs.Reading.{body_reading, is_body, message_at, number_at}
+use Rattle.paging_message.specs.declared.message.PagingMessage.{PagingMessage}
+use Rattle.cell_plan.specs.declared.plan.Page.{Page}
+use Rattle.cell_plan.specs.declared.plan.PagingPlan.{PagingPlan}
+use Rattle.cell_script.specs.ScriptDrafts.{with_page}
+use Rattle.paging_message.proofs.Messages.{message_fills}
+use Rattle.paging_message.proofs.Readings.{body_is_read, reads_body}
+
+abbrev message_in : List Bool → PagingMessage
+message_in body = message_at (number_at 0 8 body) (drop 8 body)
+
+read-body : (body : List Bool) → is_body body ≡ true → body_reading body ≡ Some (message_in body)
+unfolding body_reading
+read-body body is = cond-true _ (Some (message_in body)) None is
+
+read-other : (body : List Bool) → is_body body ≡ false → body_reading body ≡ None
+unfolding body_reading
+read-other body is = cond-false _ (Some (message_in body)) None is
+
+-- such a body fills a capsule
+pub body_fills : (body : List Bool) → is_body body ≡ true → FillsCapsule M30 body
+body_fills body is =
+    let told = body_is_read body (message_in body) (read-body body is) in
+    subst (FillsCapsule M30) (sym told.1) (message_fills (message_in body) told.0)
+
+-- and is that of a message
+pub body_message : (body : List Bool) → is_body body ≡ true → HasMessage body
+body_message body is =
+    let told = body_is_read body (message_in body) (read-body body is) in
+    record { message = message_in body; spelled = told.0; same = told.1 }
+
+abbrev Spells : List Bool → PagingMessage → Type 0
+Spells body m = IsPagingMessage m × (body ≡ message_body m)
+
+-- a message was found exactly where there is one
+pub body_found : (body : List Bool) (found : Option PagingMessage) →
+    IfSome found (λ m. IsPagingMessage m × (body ≡ message_body m)) →
+    ((m : PagingMessage) → IsPagingMessage m → body ≡ message_body m → found ≡ Some m) →
+    is_some found ≡ is_body body
+body_found body found told only = by_test found told only (is_body body) refl
+  where
+    by_test : (found : Option PagingMessage) → IfSome found (Spells body) →
+        ((m : PagingMessage) → IsPagingMessage m → body ≡ message_body m → found ≡ Some m) →
+        (test : Bool) → is_body body ≡ test → is_some found ≡ is_body body
+    by_test found told only true is =
+        let read = body_is_read body (message_in body) (read-body body is) in
+        ap is_some (only (message_in body) read.0 read.1) ∙ sym is
+    by_test None told only false is = sym is
+    by_test (Some m) told only false is =
+        let read : body_reading body ≡ Some m = ap body_reading told.1 ∙ reads_body m told.0 in
+        absurd (cc (read-other body is, read))
+
+-- ---- a page more for the last channel
+
+pub with_page-last : (before : List PagingPlan) (last : PagingPlan) (page : Page) →
+    with_page (before ++ last ∷ []) page
+    ≡ before ++ record last { pages = last.pages ++ page ∷ [] } ∷ []
+with_page-last [] last page = refl
+with_page-last (p ∷ []) last page = refl
+with_page-last (p ∷ (q ∷ before)) last page =
+    ap (λ (ps : List PagingPlan). p ∷ ps) (with_page-last (q ∷ before) last page)
+
+page_added : (old before new : List PagingPlan) (last : PagingPlan) (page : Page)
+    (pages : List Page) →
+    old ≡ before ++ last ∷ [] → pages ≡ last.pages ++ page ∷ [] →
+    new ≡ before ++ record last { pages = pages } ∷ [] → new ≡ with_page old page
+page_added old before new last page pages old_is pages_is new_is =
+    new_is
+    ∙ ap (λ (ps : List Page). before ++ record last { pages = ps } ∷ []) pages_is
+    ∙ sym (with_page-last before last page)
+    ∙ sym (ap (λ (ps : List PagingPlan). with_page ps page) old_is)
+
+pub push_added : {E : Type 0} (r : Result (Unit {0}) E) (old before new : List PagingPlan)
+    (last : PagingPlan) (page : Page) (pages : List Page) →
+    old ≡ before ++ last ∷ [] → pages ≡ last.pages ++ page ∷ [] →
+    OnOk r (new ≡ before ++ record last { pages = pages } ∷ []) →
+    OnOk r (new ≡ with_page old page)
+push_added (Ok u) old before new last page pages old_is pages_is new_is =
+    page_added old before new last page pages old_is pages_is new_is
+push_added (Err e) old before new last page pages old_is pages_is new_is = tt

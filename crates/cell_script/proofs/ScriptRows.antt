@@ -1,0 +1,323 @@
+-- What a judge knows of the paging and traffic channels, one statement after another.
+use Rattle.std.proofs.Common.{◌≡◌, ℕ, ◌+◌, ◌*◌, ◌<◌, ◌==◌, Bool, true, false}
+use Rattle.std.proofs.Common.{cond, List, [], ◌∷◌, ◌++◌, length, get_or, refl, sym, ap, ◌∙◌}
+use Rattle.std.proofs.Common.{arith, append_assoc, replicate, subst, inl, inr, Option, None, Some}
+use Rattle.std.proofs.Math.ListN.{set}
+use Rattle.std.specs.Prelude.{◌||◌, unsigned_abs}
+use Rattle.std.specs.Option.{option_or}
+use Rattle.std.proofs.lemmas.Bool.{cases_eq, eq-eqb, ne_eqb, or_right}
+use Rattle.std.proofs.lemmas.List.{append-nil, get_or-set_other, get_or-set_same, length-set}
+use Rattle.std.proofs.lemmas.List.{get_or-replicate, map-append}
+use Rattle.chip_core.specs.declared.width.Width.{Width}
+use Rattle.cell_plan.specs.Plan.{paging_gains, sync_gain, traffic_gains}
+use Rattle.cell_plan.specs.declared.plan.CellPlan.{CellPlan}
+use Rattle.cell_plan.specs.declared.plan.LinkPlan.{LinkPlan}
+use Rattle.cell_plan.specs.declared.plan.Page.{Page}
+use Rattle.cell_plan.specs.declared.plan.PagingPlan.{PagingPlan}
+use Rattle.cell_plan.specs.declared.plan.PilotPlan.{PilotPlan}
+use Rattle.cell_plan.specs.declared.plan.SyncPlan.{SyncPlan}
+use Rattle.cell_plan.specs.declared.plan.TrafficPlan.{TrafficPlan}
+use Rattle.cell_script.specs.declared.judge.Judge.{Judge}
+use Rattle.cell_script.specs.declared.judge.ChannelRows.{ChannelRows}
+use Rattle.cell_script.specs.declared.statements.PagingLine.{PagingLine}
+use Rattle.cell_script.specs.declared.statements.TrafficLine.{TrafficLine}
+use Rattle.cell_script.specs.declared.script_fault.ScriptFault.{ScriptFault}
+use Rattle.cell_plan.specs.declared.frame_list.FrameList.{FrameList}
+use Rattle.cell_script.specs.Script.{ChannelLine, channel, channel_lines, first_channels}
+use Rattle.cell_script.specs.Script.{gain_fault, is_used, long_fault, loud_fault, paging_lines}
+use Rattle.cell_script.specs.Script.{plan_fault, repeated, repeated_behind, silent}
+use Rattle.cell_script.specs.Script.{traffic_lines, walsh_fault}
+use Rattle.cell_script.specs.ScriptDrafts.{on_last, opened, opened_traffic, with_page}
+use Rattle.cell_script.specs.ScriptJudged.{gains_of, judged_fault, HasJudged, HasSeen}
+
+-- ---- one line more
+
+-- the row where something is so
+abbrev row_if : Bool → ℕ → Option ℕ
+row_if is row = cond is (Some row) None
+
+used-append : (k : ℕ) (ls : List ChannelLine) (l : ChannelLine) →
+    is_used k (ls ++ l ∷ []) ≡ (is_used k ls || (l.row == k))
+used-append k [] l = one (l.row == k)
+  where
+    one : (b : Bool) → cond b true false ≡ b
+    one true = refl
+    one false = refl
+used-append k (x ∷ ls) l = step (x.row == k) (used-append k ls l)
+  where
+    step : (b : Bool) → is_used k (ls ++ l ∷ []) ≡ (is_used k ls || (l.row == k)) →
+        cond b true (is_used k (ls ++ l ∷ [])) ≡ (cond b true (is_used k ls) || (l.row == k))
+    step true e = refl
+    step false e = e
+
+repeated-append : (before ls : List ChannelLine) (l : ChannelLine) →
+    repeated_behind before (ls ++ l ∷ [])
+    ≡ option_or (repeated_behind before ls) (row_if (is_used l.row (before ++ ls)) l.row)
+repeated-append before [] l =
+    ap (λ (b : List ChannelLine). row_if (is_used l.row b) l.row) (sym (append-nil before))
+repeated-append before (x ∷ ls) l =
+    step (is_used x.row before)
+    (repeated-append (before ++ x ∷ []) ls l
+    ∙ ap (λ (b : List ChannelLine).
+    option_or (repeated_behind (before ++ x ∷ []) ls) (row_if (is_used l.row b) l.row))
+    (append_assoc before (x ∷ []) ls))
+  where
+    step : (b : Bool) →
+        repeated_behind (before ++ x ∷ []) (ls ++ l ∷ [])
+        ≡ option_or (repeated_behind (before ++ x ∷ []) ls)
+        (row_if (is_used l.row (before ++ x ∷ ls)) l.row) →
+        cond b (Some x.row) (repeated_behind (before ++ x ∷ []) (ls ++ l ∷ []))
+        ≡ option_or (cond b (Some x.row) (repeated_behind (before ++ x ∷ []) ls))
+        (row_if (is_used l.row (before ++ x ∷ ls)) l.row)
+    step true e = refl
+    step false e = e
+
+silent-append : (ls : List ChannelLine) (l : ChannelLine) →
+    silent (ls ++ l ∷ []) ≡ option_or (silent ls) (row_if (l.gain == 0) l.row)
+silent-append [] l = refl
+silent-append (x ∷ ls) l = step (x.gain == 0) (silent-append ls l)
+  where
+    step : (b : Bool) →
+        silent (ls ++ l ∷ []) ≡ option_or (silent ls) (row_if (l.gain == 0) l.row) →
+        cond b (Some x.row) (silent (ls ++ l ∷ []))
+        ≡ option_or (cond b (Some x.row) (silent ls)) (row_if (l.gain == 0) l.row)
+    step true e = refl
+    step false e = e
+
+gains-append : (ls : List ChannelLine) (l : ChannelLine) →
+    gains_of (ls ++ l ∷ []) ≡ gains_of ls + l.gain
+gains-append [] l = omega arith
+gains-append (x ∷ ls) l = omega (arith, gains-append ls l)
+
+-- ---- the rows of one more channel
+
+pub used_row : (used : List Bool) (ls : List ChannelLine) (l : ChannelLine) (k : ℕ) →
+    length used ≡ 64 → l.row < 64 → get_or used k false ≡ is_used k ls →
+    get_or (set used l.row true) k false ≡ is_used k (ls ++ l ∷ [])
+used_row used ls l k long inside before = elim (cases_eq l.row k) [
+  | inl same ↦
+      ap (λ (n : ℕ). get_or (set used l.row true) n false) (sym same)
+      ∙ get_or-set_same used l.row true false (omega (arith, long, inside))
+      ∙ sym (used-append k ls l
+      ∙ or_right (is_used k ls) (l.row == k) (eq-eqb l.row k same))
+  | inr other ↦
+      get_or-set_other used l.row k true false (λ e. other (sym e))
+      ∙ before
+      ∙ sym (used-append k ls l
+      ∙ ap (λ (b : Bool). is_used k ls || b) (ne_eqb l.row k other)
+      ∙ or_false (is_used k ls))
+]
+  where
+    or_false : (b : Bool) → (b || false) ≡ b
+    or_false true = refl
+    or_false false = refl
+
+pub one_row : (rows more : ChannelRows) (ls : List ChannelLine) (l : ChannelLine) (is : Bool) →
+    l.row < 64 → is ≡ get_or rows.used l.row false →
+    more.used ≡ set rows.used l.row true →
+    more.repeated ≡ option_or rows.repeated (row_if is l.row) →
+    more.silent ≡ option_or rows.silent (row_if (l.gain == 0) l.row) →
+    more.gains ≡ rows.gains + l.gain → HasSeen rows ls → HasSeen more (ls ++ l ∷ [])
+one_row rows more ls l is inside is_used_is used repeated_is silent_is gains before = record {
+  long = ap length used ∙ length-set rows.used l.row true ∙ before.long;
+  used = λ k small.
+      ap (λ (u : List Bool). get_or u k false) used
+      ∙ used_row rows.used (first_channels ++ ls) l k before.long inside (before.used k small);
+  repeated =
+      repeated_is
+      ∙ ap (λ (b : Bool). option_or rows.repeated (row_if b l.row))
+      (is_used_is ∙ before.used l.row inside)
+      ∙ ap (λ (o : Option ℕ).
+      option_or o (row_if (is_used l.row (first_channels ++ ls)) l.row)) before.repeated
+      ∙ sym (repeated-append first_channels ls l);
+  silent =
+      silent_is
+      ∙ ap (λ (o : Option ℕ). option_or o (row_if (l.gain == 0) l.row)) before.silent
+      ∙ sym (silent-append ls l);
+  gains = gains ∙ ap (λ (n : ℕ). n + l.gain) before.gains ∙ sym (gains-append ls l);
+}
+
+-- before all channels of the script the pilot and the sync channel have rows
+pub first_rows : (rows : ChannelRows) (pilot sync : ℕ) → pilot ≡ 0 → sync ≡ 32 →
+    rows.used ≡ set (set (replicate 64 false) pilot true) sync true → rows.repeated ≡ None →
+    rows.silent ≡ None → rows.gains ≡ 0 → HasSeen rows []
+first_rows rows pilot sync first second used repeated_is silent_is gains =
+    let blank = replicate 64 false in
+    let with_pilot = set blank 0 true in
+    let is : rows.used ≡ set with_pilot 32 true =
+    used
+    ∙ ap (λ (n : ℕ). set (set blank n true) sync true) first
+    ∙ ap (λ (n : ℕ). set with_pilot n true) second in
+    record {
+      long = ap length is ∙ length-set with_pilot 32 true ∙ length-set blank 0 true;
+      used = λ k small.
+          ap (λ (u : List Bool). get_or u k false) is
+          ∙ used_row with_pilot (channel 0 1 ∷ []) (channel 32 1) k (length-set blank 0 true)
+          (omega arith)
+          (used_row blank [] (channel 0 1) k refl (omega arith)
+          (get_or-replicate 64 k false false small));
+      repeated = repeated_is;
+      silent = silent_is;
+      gains = gains;
+    }
+
+-- ---- statements
+
+abbrev line_of : PagingPlan → ChannelLine
+line_of p = channel p.number p.gain
+
+abbrev traffic_line_of : TrafficPlan → ChannelLine
+traffic_line_of t = channel t.row t.gain
+
+-- a page leaves the rows and the gains
+lines-with_page : (paging : List PagingPlan) (page : Page) →
+    paging_lines (with_page paging page) ≡ paging_lines paging
+lines-with_page [] page = refl
+lines-with_page (p ∷ []) page = refl
+lines-with_page (p ∷ (q ∷ paging)) page =
+    ap (λ (ls : List ChannelLine). line_of p ∷ ls) (lines-with_page (q ∷ paging) page)
+
+-- and so does a change of frames
+lines-on_last : (change : FrameList → FrameList) (traffic : List TrafficPlan) →
+    traffic_lines (on_last change traffic) ≡ traffic_lines traffic
+lines-on_last change [] = refl
+lines-on_last change (t ∷ []) = refl
+lines-on_last change (t ∷ (u ∷ traffic)) =
+    ap (λ (ls : List ChannelLine). traffic_line_of t ∷ ls) (lines-on_last change (u ∷ traffic))
+
+-- a paging channel more, where there is no traffic channel
+lines-opened : (paging : List PagingPlan) (traffic : List TrafficPlan) (l : PagingLine) →
+    traffic ≡ [] →
+    paging_lines (paging ++ opened l ∷ []) ++ traffic_lines traffic
+    ≡ paging_lines paging ++ traffic_lines traffic ++ channel l.number l.gain ∷ []
+lines-opened paging traffic l none =
+    subst (λ (ts : List TrafficPlan).
+    paging_lines (paging ++ opened l ∷ []) ++ traffic_lines ts
+    ≡ paging_lines paging ++ traffic_lines ts ++ channel l.number l.gain ∷ []) (sym none)
+    (append-nil (paging_lines (paging ++ opened l ∷ []))
+    ∙ map-append line_of paging (opened l ∷ [])
+    ∙ ap (λ (ls : List ChannelLine). ls ++ channel l.number l.gain ∷ [])
+    (sym (append-nil (paging_lines paging))))
+
+-- a traffic channel more
+lines-opened_traffic : (before : List ChannelLine) (traffic : List TrafficPlan) (l : TrafficLine) →
+    before ++ traffic_lines (traffic ++ opened_traffic l ∷ [])
+    ≡ before ++ traffic_lines traffic ++ channel l.row l.gain ∷ []
+lines-opened_traffic before traffic l =
+    ap (λ (ls : List ChannelLine). before ++ ls)
+    (map-append traffic_line_of traffic (opened_traffic l ∷ []))
+    ∙ sym (append_assoc before (traffic_lines traffic) (channel l.row l.gain ∷ []))
+
+pub judged_page : (judge : Judge) (plan : CellPlan) (page : Page) → HasJudged judge plan →
+    HasJudged judge (record plan { paging = with_page plan.paging page })
+judged_page judge plan page before = record {
+  link = before.link;
+  pilot = before.pilot;
+  sync = before.sync;
+  channels = subst (HasSeen judge.channels)
+      (sym (ap (λ (ls : List ChannelLine). ls ++ traffic_lines plan.traffic)
+      (lines-with_page plan.paging page))) before.channels;
+}
+
+pub judged_frames : (judge : Judge) (plan : CellPlan) (change : FrameList → FrameList) →
+    HasJudged judge plan →
+    HasJudged judge (record plan { traffic = on_last change plan.traffic })
+judged_frames judge plan change before = record {
+  link = before.link;
+  pilot = before.pilot;
+  sync = before.sync;
+  channels = subst (HasSeen judge.channels)
+      (sym (ap (λ (ls : List ChannelLine). paging_lines plan.paging ++ ls)
+      (lines-on_last change plan.traffic))) before.channels;
+}
+
+-- a judge that differs in its channels alone
+abbrev pub IsAlike : Judge → Judge → Type 0
+IsAlike judge more =
+    (more.link ≡ judge.link) × (more.pilot ≡ judge.pilot) × (more.sync ≡ judge.sync)
+
+pub judged_paging : (judge more : Judge) (plan : CellPlan) (l : PagingLine) →
+    IsAlike judge more →
+    ((ls : List ChannelLine) → HasSeen judge.channels ls →
+    HasSeen more.channels (ls ++ channel l.number l.gain ∷ [])) →
+    plan.traffic ≡ [] → HasJudged judge plan →
+    HasJudged more (record plan { paging = plan.paging ++ opened l ∷ [] })
+judged_paging judge more plan l alike step none before = record {
+  link = alike.0 ∙ before.link;
+  pilot = alike.1 ∙ before.pilot;
+  sync = alike.2 ∙ before.sync;
+  channels = subst (HasSeen more.channels) (sym (lines-opened plan.paging plan.traffic l none))
+      (step (channel_lines plan) before.channels);
+}
+
+pub judged_traffic : (judge more : Judge) (plan : CellPlan) (l : TrafficLine) →
+    IsAlike judge more →
+    ((ls : List ChannelLine) → HasSeen judge.channels ls →
+    HasSeen more.channels (ls ++ channel l.row l.gain ∷ [])) →
+    HasJudged judge plan →
+    HasJudged more (record plan { traffic = plan.traffic ++ opened_traffic l ∷ [] })
+judged_traffic judge more plan l alike step before = record {
+  link = alike.0 ∙ before.link;
+  pilot = alike.1 ∙ before.pilot;
+  sync = alike.2 ∙ before.sync;
+  channels = subst (HasSeen more.channels)
+      (sym (lines-opened_traffic (paging_lines plan.paging) plan.traffic l))
+      (step (channel_lines plan) before.channels);
+}
+
+-- ---- faults
+
+gains-both : (ls more : List ChannelLine) → gains_of (ls ++ more) ≡ gains_of ls + gains_of more
+gains-both [] more = omega arith
+gains-both (l ∷ ls) more = omega (arith, gains-both ls more)
+
+paging_gains-is : (paging : List PagingPlan) → gains_of (paging_lines paging) ≡ paging_gains paging
+paging_gains-is [] = refl
+paging_gains-is (p ∷ paging) = ap (λ (n : ℕ). p.gain + n) (paging_gains-is paging)
+
+traffic_gains-is : (traffic : List TrafficPlan) →
+    gains_of (traffic_lines traffic) ≡ traffic_gains traffic
+traffic_gains-is [] = refl
+traffic_gains-is (t ∷ traffic) = ap (λ (n : ℕ). t.gain + n) (traffic_gains-is traffic)
+
+gains_are : (plan : CellPlan) →
+    gains_of (channel_lines plan) ≡ paging_gains plan.paging + traffic_gains plan.traffic
+gains_are plan =
+    omega (
+      arith,
+      gains-both (paging_lines plan.paging) (traffic_lines plan.traffic),
+      paging_gains-is plan.paging,
+      traffic_gains-is plan.traffic,
+    )
+
+abbrev fault_from : Width → LinkPlan → PilotPlan → Option SyncPlan → Option ℕ → Option ℕ → ℕ →
+    Option ScriptFault
+fault_from width link pilot sync number quiet gains =
+    option_or (walsh_fault number)
+    (option_or (gain_fault pilot sync quiet)
+    (option_or
+    (loud_fault width
+    ((unsigned_abs link.factor.i + unsigned_abs link.factor.q)
+    * (pilot.gain + (sync_gain sync + gains))))
+    (long_fault width link.samples)))
+
+-- a judge tells the plan's first fault
+pub judged_fault_is : (width : Width) (judge : Judge) (plan : CellPlan) → HasJudged judge plan →
+    judged_fault width judge ≡ plan_fault width plan
+judged_fault_is width judge plan is =
+    let rows = judge.channels in
+    let seen = is.channels in
+    let ls = channel_lines plan in
+    ap (λ (x : LinkPlan).
+    fault_from width x judge.pilot judge.sync rows.repeated rows.silent rows.gains) is.link
+    ∙ ap (λ (x : PilotPlan).
+    fault_from width plan.link x judge.sync rows.repeated rows.silent rows.gains) is.pilot
+    ∙ ap (λ (x : Option SyncPlan).
+    fault_from width plan.link plan.pilot x rows.repeated rows.silent rows.gains) is.sync
+    ∙ ap (λ (x : Option ℕ).
+    fault_from width plan.link plan.pilot plan.sync x rows.silent rows.gains) seen.repeated
+    ∙ ap (λ (x : Option ℕ).
+    fault_from width plan.link plan.pilot plan.sync (repeated ls) x rows.gains) seen.silent
+    ∙ ap (λ (x : ℕ).
+    fault_from width plan.link plan.pilot plan.sync (repeated ls) (silent ls) x)
+    (seen.gains ∙ gains_are plan)

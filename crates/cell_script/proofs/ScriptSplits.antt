@@ -1,0 +1,253 @@
+-- The lines of a script, one after another, and the plan that they state.
+use Rattle.std.proofs.Common.{◌≡◌, ℕ, zero, suc, ◌+◌, ◌-◌, ◌<◌, ◌≤◌, ◌==◌, Bool, true, false, List}
+use Rattle.std.proofs.Common.{[], ◌∷◌, ◌++◌, length, take, drop, refl, sym, ap, ◌∙◌, arith, Option}
+use Rattle.std.proofs.Common.{None, Some, Err}
+use Rattle.std.specs.Option.{option_map_or}
+use Rattle.std.specs.Prelude.{ok_or}
+use Rattle.std.proofs.lemmas.Bool.{cond-true, cond-false, eqb-true, false≢true}
+use Rattle.std.proofs.lemmas.List.{take-append-drop, take_all, length-drop, length-take-le}
+use Rattle.cell_plan.specs.declared.plan.CellPlan.{CellPlan}
+use Rattle.cell_script.specs.ScriptValues.{length_before}
+use Rattle.cell_script.specs.ScriptDrafts.{Draft, plan_at, with_line}
+use Rattle.cell_script.specs.Script.{is_line, lines, onto_first, draft_after, stated}
+use Rattle.cell_script.specs.Script.{stated_plan}
+
+-- ---- clauses
+
+lines-none : lines [] ≡ []
+unfolding lines
+lines-none = refl
+
+lines-end : (byte : ℕ) (bytes : List ℕ) → (byte == 10) ≡ true →
+    lines (byte ∷ bytes) ≡ (byte ∷ []) ∷ lines bytes
+unfolding lines
+lines-end byte bytes lf = cond-true _ _ _ lf
+
+lines-more : (byte : ℕ) (bytes : List ℕ) → (byte == 10) ≡ false →
+    lines (byte ∷ bytes) ≡ onto_first byte (lines bytes)
+unfolding lines
+lines-more byte bytes other = cond-false _ _ _ other
+
+is_line-none : is_line [] ≡ false
+unfolding is_line
+is_line-none = refl
+
+is_line-end : (byte : ℕ) (bytes : List ℕ) → (byte == 10) ≡ true →
+    is_line (byte ∷ bytes) ≡ (length bytes == 0)
+unfolding is_line
+is_line-end byte bytes lf = cond-true _ _ _ lf
+
+is_line-more : (byte : ℕ) (bytes : List ℕ) → (byte == 10) ≡ false →
+    is_line (byte ∷ bytes) ≡ is_line bytes
+unfolding is_line
+is_line-more byte bytes other = cond-false _ _ _ other
+
+before-end : (byte : ℕ) (bytes : List ℕ) → (byte == 10) ≡ true → length_before 10 (byte ∷ bytes) ≡ 0
+unfolding length_before
+before-end byte bytes lf = cond-true _ _ _ lf
+
+before-more : (byte : ℕ) (bytes : List ℕ) → (byte == 10) ≡ false →
+    length_before 10 (byte ∷ bytes) ≡ suc (length_before 10 bytes)
+unfolding length_before
+before-more byte bytes other = cond-false _ _ _ other
+
+pub stated-none : (draft : Draft) (n : ℕ) → stated draft n [] ≡ ok_or (plan_at draft) n
+unfolding stated
+stated-none draft n = refl
+
+stated-line : (draft : Draft) (n : ℕ) (line : List ℕ) (more : List (List ℕ)) →
+    stated draft n (line ∷ more)
+    ≡ option_map_or (λ next. stated next (n + 1) more) (draft_after draft line) (Err n)
+unfolding stated
+stated-line draft n line more = refl
+
+pub stated-next : (draft next : Draft) (n : ℕ) (line : List ℕ) (more : List (List ℕ)) →
+    draft_after draft line ≡ Some next →
+    stated draft n (line ∷ more) ≡ stated next (n + 1) more
+stated-next draft next n line more is = stated-line draft n line more
+    ∙ ap (λ (o : Option Draft). option_map_or (λ s. stated s (n + 1) more) o (Err n)) is
+
+pub stated-fault : (draft : Draft) (n : ℕ) (line : List ℕ) (more : List (List ℕ)) →
+    draft_after draft line ≡ None →
+    stated draft n (line ∷ more) ≡ Err n
+stated-fault draft n line more is = stated-line draft n line more
+    ∙ ap (λ (o : Option Draft). option_map_or (λ s. stated s (n + 1) more) o (Err n)) is
+
+pub draft_after-line : (draft : Draft) (line : List ℕ) → is_line line ≡ true →
+    draft_after draft line ≡ with_line draft (take (length line - 1) line)
+unfolding draft_after
+draft_after-line draft line is = cond-true _ _ _ is
+
+pub draft_after-other : (draft : Draft) (line : List ℕ) → is_line line ≡ false →
+    draft_after draft line ≡ None
+unfolding draft_after
+draft_after-other draft line is = cond-false _ _ _ is
+
+-- ---- a line and what is behind it
+
+no_bytes : (bytes : List ℕ) → (length bytes == 0) ≡ true → bytes ≡ []
+no_bytes [] none = refl
+no_bytes (byte ∷ bytes) none = absurd (omega (arith, eqb-true (length (byte ∷ bytes)) 0 none))
+
+lines_step : (byte : ℕ) (bytes behind : List ℕ) (lf : Bool) → (byte == 10) ≡ lf →
+    is_line (byte ∷ bytes) ≡ true →
+    (is_line bytes ≡ true → lines (bytes ++ behind) ≡ bytes ∷ lines behind) →
+    lines (byte ∷ bytes ++ behind) ≡ (byte ∷ bytes) ∷ lines behind
+lines_step byte bytes behind true lf is rest =
+    let none = no_bytes bytes (sym (is_line-end byte bytes lf) ∙ is) in
+    lines-end byte (bytes ++ behind) lf
+    ∙ ap (λ (b : List ℕ). (byte ∷ []) ∷ lines (b ++ behind)) none
+    ∙ ap (λ (b : List ℕ). (byte ∷ b) ∷ lines behind) (sym none)
+lines_step byte bytes behind false other is rest =
+    lines-more byte (bytes ++ behind) other
+    ∙ ap (onto_first byte) (rest (sym (is_line-more byte bytes other) ∙ is))
+
+-- a whole line is the first of the lines that begin with it
+pub lines-append : (line behind : List ℕ) → is_line line ≡ true →
+    lines (line ++ behind) ≡ line ∷ lines behind
+lines-append [] behind is = absurd (cc (is_line-none, is))
+lines-append (byte ∷ bytes) behind is =
+    lines_step byte bytes behind (byte == 10) refl is (lines-append bytes behind)
+
+-- ---- the first line of a script
+
+abbrev first : List ℕ → List ℕ
+first script = take (suc (length_before 10 script)) script
+
+whole_step : (byte : ℕ) (bytes : List ℕ) (lf : Bool) → (byte == 10) ≡ lf →
+    length_before 10 (byte ∷ bytes) < length (byte ∷ bytes) →
+    (length_before 10 bytes < length bytes → is_line (first bytes) ≡ true) →
+    is_line (first (byte ∷ bytes)) ≡ true
+whole_step byte bytes true lf inside rest =
+    ap (λ (k : ℕ). is_line (take (suc k) (byte ∷ bytes))) (before-end byte bytes lf)
+    ∙ is_line-end byte [] lf
+whole_step byte bytes false other inside rest =
+    let k = before-more byte bytes other in
+    ap (λ (k : ℕ). is_line (take (suc k) (byte ∷ bytes))) k ∙ is_line-more byte (first bytes) other
+    ∙ rest (omega (arith, k, inside))
+
+whole_line : (script : List ℕ) → length_before 10 script < length script →
+    is_line (first script) ≡ true
+whole_line [] inside = absurd (omega (arith, inside))
+whole_line (byte ∷ bytes) inside = whole_step byte bytes (byte == 10) refl inside (whole_line bytes)
+
+lines-first : (script : List ℕ) → length_before 10 script < length script →
+    lines script ≡ first script ∷ lines (drop (suc (length_before 10 script)) script)
+lines-first script inside =
+    let k = suc (length_before 10 script) in
+    ap lines (sym (take-append-drop k script))
+    ∙ lines-append (first script) (drop k script) (whole_line script inside)
+
+take_fewer : (k : ℕ) (bytes : List ℕ) → take k (take (suc k) bytes) ≡ take k bytes
+take_fewer zero bytes = refl
+take_fewer (suc k) [] = refl
+take_fewer (suc k) (byte ∷ bytes) = ap (λ (b : List ℕ). byte ∷ b) (take_fewer k bytes)
+
+first_text : (script : List ℕ) → length_before 10 script < length script →
+    take (length (first script) - 1) (first script) ≡ take (length_before 10 script) script
+first_text script inside =
+    let k = length_before 10 script in
+    let long : length (first script) - 1 ≡ k =
+    omega (arith, length-take-le (suc k) script inside) in
+    ap (λ (n : ℕ). take n (first script)) long ∙ take_fewer k script
+
+draft_after-first : (draft : Draft) (script : List ℕ) → length_before 10 script < length script →
+    draft_after draft (first script) ≡ with_line draft (take (length_before 10 script) script)
+draft_after-first draft script inside =
+    draft_after-line draft (first script) (whole_line script inside)
+    ∙ ap (with_line draft) (first_text script inside)
+
+-- ---- a last line without LF
+
+unended_step : (byte : ℕ) (bytes : List ℕ) (lf : Bool) → (byte == 10) ≡ lf →
+    length_before 10 (byte ∷ bytes) ≡ length (byte ∷ bytes) →
+    (length_before 10 bytes ≡ length bytes → 0 < length bytes →
+    (lines bytes ≡ bytes ∷ []) × (is_line bytes ≡ false)) →
+    (lines (byte ∷ bytes) ≡ (byte ∷ bytes) ∷ []) × (is_line (byte ∷ bytes) ≡ false)
+unended_step byte bytes true lf none rest = absurd (omega (arith, before-end byte bytes lf, none))
+unended_step byte [] false other none rest = (
+  lines-more byte [] other ∙ ap (onto_first byte) lines-none,
+  is_line-more byte [] other
+      ∙ is_line-none,
+)
+unended_step byte (next ∷ bytes) false other none rest =
+    let told = rest (omega (arith, before-more byte (next ∷ bytes) other, none)) (omega arith) in (
+      lines-more byte (next ∷ bytes) other
+          ∙ ap (onto_first byte) told.0,
+      is_line-more byte (next ∷ bytes) other ∙ told.1,
+    )
+
+unended : (script : List ℕ) → length_before 10 script ≡ length script → 0 < length script →
+    (lines script ≡ script ∷ []) × (is_line script ≡ false)
+unended [] none some = absurd (omega (arith, some))
+unended (byte ∷ bytes) none some = unended_step byte bytes (byte == 10) refl none (unended bytes)
+
+-- ---- reading a script line by line
+
+-- the first line can stand
+pub line_read : (script : List ℕ) (draft next : Draft) (n end : ℕ) (rest : List ℕ) →
+    end ≡ length_before 10 rest → end < length rest → with_line draft (take end rest) ≡ Some next →
+    stated_plan script ≡ stated draft n (lines rest) →
+    stated_plan script
+    ≡ stated next (n + 1) (lines (take (length rest - (end + 1)) (drop (end + 1) rest)))
+line_read script draft next n end rest end_is inside is before =
+    let at_mark : length_before 10 rest < length rest = omega (arith, end_is, inside) in
+    let told : draft_after draft (first rest) ≡ Some next = draft_after-first draft rest at_mark
+    ∙ ap (λ (k : ℕ). with_line draft (take k rest)) (sym end_is) ∙ is in
+    let one_more : suc (length_before 10 rest) ≡ end + 1 = omega (arith, end_is) in
+    let left : take (length rest - (end + 1)) (drop (end + 1) rest) ≡ drop (end + 1) rest =
+    take_all (length rest - (end + 1)) (drop (end + 1) rest)
+    (omega (arith, length-drop (end + 1) rest)) in
+    before
+    ∙ ap (stated draft n) (lines-first rest at_mark)
+    ∙ stated-next draft next n (first rest) (lines (drop (suc (length_before 10 rest)) rest)) told
+    ∙ ap (λ (k : ℕ). stated next (n + 1) (lines (drop k rest))) one_more
+    ∙ ap (λ (r : List ℕ). stated next (n + 1) (lines r)) (sym left)
+
+-- the first line can't
+pub line_refused : (script : List ℕ) (draft : Draft) (n end : ℕ) (rest : List ℕ) →
+    end ≡ length_before 10 rest → end < length rest → with_line draft (take end rest) ≡ None →
+    stated_plan script ≡ stated draft n (lines rest) → Err n ≡ stated_plan script
+line_refused script draft n end rest end_is inside is before =
+    let at_mark : length_before 10 rest < length rest = omega (arith, end_is, inside) in
+    let told : draft_after draft (first rest) ≡ None = draft_after-first draft rest at_mark
+    ∙ ap (λ (k : ℕ). with_line draft (take k rest)) (sym end_is) ∙ is in
+    sym (before ∙ ap (stated draft n) (lines-first rest at_mark)
+    ∙ stated-fault draft n (first rest) (lines (drop (suc (length_before 10 rest)) rest)) told)
+
+-- there is no LF
+pub line_unended : (script : List ℕ) (draft : Draft) (n : ℕ) (rest : List ℕ) →
+    length_before 10 rest ≡ length rest → 0 < length rest →
+    stated_plan script ≡ stated draft n (lines rest) → Err n ≡ stated_plan script
+line_unended script draft n rest none some before =
+    let told = unended rest none some in
+    sym (before ∙ ap (stated draft n) told.0
+    ∙ stated-fault draft n rest [] (draft_after-other draft rest told.1))
+
+-- there are no more lines
+pub lines_read : (script : List ℕ) (draft : Draft) (n : ℕ) (rest : List ℕ)
+    (plan : Option CellPlan) → length rest ≡ 0 → plan ≡ plan_at draft →
+    stated_plan script ≡ stated draft n (lines rest) → ok_or plan n ≡ stated_plan script
+lines_read script draft n [] plan none is before =
+    sym (before ∙ ap (stated draft n) lines-none ∙ stated-none draft n
+    ∙ ap (λ (p : Option CellPlan). ok_or p n) (sym is))
+lines_read script draft n (byte ∷ rest) plan none is before = absurd (omega (arith, none))
+
+-- how many bytes are left
+pub line_counted : (rest : List ℕ) (n end most : ℕ) → end < length rest → n + length rest ≤ most →
+    n + 1 + length (take (length rest - (end + 1)) (drop (end + 1) rest)) ≤ most
+line_counted rest n end most inside few =
+    let left = length-drop (end + 1) rest in
+    omega (
+      arith,
+      length-take-le (length rest - (end + 1)) (drop (end + 1) rest) (omega (arith, left)),
+      inside,
+      few,
+    )
+
+pub is_left : (empty : Bool) (n : ℕ) → empty ≡ (n == 0) → empty ≡ false → 0 < n
+is_left empty zero test none = absurd (false≢true (sym none ∙ test))
+is_left empty (suc n) test none = omega arith
+
+pub none_left : (empty : Bool) (n : ℕ) → empty ≡ (n == 0) → empty ≡ true → n ≡ 0
+none_left empty n test all = eqb-true n 0 (sym test ∙ all)

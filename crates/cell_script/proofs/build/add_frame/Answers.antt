@@ -1,0 +1,17 @@
+use Rattle.std.proofs.Common.{List, ap, sym, ◌∙◌}
+use Rattle.cell_script.specs.ScriptDrafts.{with_frame}
+use Rattle.cell_plan.specs.TrafficFrames.{with_one}
+use Rattle.cell_plan.specs.declared.plan.TrafficPlan.{TrafficPlan}
+use Rattle.cell_script.proofs.ScriptFrames.{push_changed}
+use Rattle.cell_script.proofs.build.add_frame.Goals as goal
+
+pub returns-in_default : goal.returns-in_default
+returns-in_default c =
+    c.in_default.ensures.1
+    ∙ ap (λ (ts : List TrafficPlan). with_frame ts c.args.frame.now) (sym c.in_default.ensures.0)
+
+pub returns : goal.returns
+returns c =
+    push_changed c.push.result (with_one c.args.frame.now) c.args.traffic.now c.pop.new.self
+    c.push.new.self c.in-Some.channel c.push_one.new.self c.in-Some.ensures
+    c.in_ok-push_one.ensures c.push.ensures.ok

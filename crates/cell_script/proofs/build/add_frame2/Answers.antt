@@ -1,0 +1,17 @@
+use Rattle.std.proofs.Common.{List, ap, sym, ◌∙◌}
+use Rattle.cell_script.specs.ScriptDrafts.{with_frame2}
+use Rattle.cell_plan.specs.TrafficFrames.{with_two}
+use Rattle.cell_plan.specs.declared.plan.TrafficPlan.{TrafficPlan}
+use Rattle.cell_script.proofs.ScriptFrames.{push_changed}
+use Rattle.cell_script.proofs.build.add_frame2.Goals as goal
+
+pub returns-in_default : goal.returns-in_default
+returns-in_default c =
+    c.in_default.ensures.1
+    ∙ ap (λ (ts : List TrafficPlan). with_frame2 ts c.args.frame.now) (sym c.in_default.ensures.0)
+
+pub returns : goal.returns
+returns c =
+    push_changed c.push.result (with_two c.args.frame.now) c.args.traffic.now c.pop.new.self
+    c.push.new.self c.in-Some.channel c.push_two.new.self c.in-Some.ensures
+    c.in_ok-push_two.ensures c.push.ensures.ok

@@ -1,0 +1,22 @@
+use Rattle.std.proofs.Common.{sym, subst}
+use Rattle.cell_plan.specs.TrafficFrames.{with_one, with_two}
+use Rattle.cell_script.specs.ScriptDrafts.{with_statement}
+use Rattle.cell_script.specs.ScriptJudged.{HasJudged}
+use Rattle.cell_script.specs.declared.statements.Statement.{Statement}
+use Rattle.cell_script.proofs.ScriptRows.{judged_frames, judged_page}
+use Rattle.cell_script.proofs.judge.Judge.with.Goals as goal
+
+pub returns-in-Page-clause-judged : goal.returns-in-Page-clause-judged
+returns-in-Page-clause-judged c plan order before =
+    subst (λ (s : Statement). HasJudged c.args.self (with_statement plan s)) (sym c.in-Page.is)
+    (judged_page c.args.self plan c.in-Page.field-0 before)
+
+pub returns-in-Frame-clause-judged : goal.returns-in-Frame-clause-judged
+returns-in-Frame-clause-judged c plan order before =
+    subst (λ (s : Statement). HasJudged c.args.self (with_statement plan s)) (sym c.in-Frame.is)
+    (judged_frames c.args.self plan (with_one c.in-Frame.field-0) before)
+
+pub returns-in-Frame2-clause-judged : goal.returns-in-Frame2-clause-judged
+returns-in-Frame2-clause-judged c plan order before =
+    subst (λ (s : Statement). HasJudged c.args.self (with_statement plan s)) (sym c.in-Frame2.is)
+    (judged_frames c.args.self plan (with_two c.in-Frame2.field-0) before)

@@ -1,0 +1,15 @@
+use Rattle.std.proofs.Common.{refl, sym, ap, ◌∙◌}
+use Rattle.cell_script.specs.ScriptLines.{traffic_in}
+use Rattle.cell_script.proofs.ScriptTables.{traffic_read}
+use Rattle.cell_script.proofs.statements.traffic_in.Goals as goal
+
+pub returns-clause-value : goal.returns-clause-value
+returns-clause-value c =
+    let first = c.in_ok-row.ensures in
+    let second = c.in_ok-esn.ensures in
+    let third = c.in_ok-offset.ensures in
+    let fourth = c.in_ok-gain.ensures in
+    sym (traffic_read c.new-fields.result _ _ _ _ _ _ _ _ (sym first.value) first.rest
+    (sym second.value) second.rest (sym third.value) third.rest (sym fourth.value) fourth.rest
+    (c.if-not-at_end.ensures.0 refl))
+    ∙ ap traffic_in c.new-fields.ensures

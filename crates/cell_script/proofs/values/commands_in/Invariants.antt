@@ -1,0 +1,9 @@
+use Rattle.std.proofs.Common.{◌≡◌, length}
+use Rattle.cell_script.proofs.ScriptTexts.{AreBits}
+use Rattle.cell_script.proofs.values.commands_in.Given as goal
+
+abbrev pub invariant-loop-k : goal.invariant-loop-k
+invariant-loop-k l = record {
+  bits : AreBits l.text l.commands l.k;
+  long : length l.commands ≡ 16;
+}

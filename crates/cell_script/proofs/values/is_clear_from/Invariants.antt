@@ -1,0 +1,6 @@
+use Rattle.std.proofs.Common.{◌≡◌, drop}
+use Rattle.cell_script.specs.ScriptValues.{all_clear}
+use Rattle.cell_script.proofs.values.is_clear_from.Given as goal
+
+abbrev pub invariant-loop-place : goal.invariant-loop-place
+invariant-loop-place l = all_clear (drop l.from l.bits) ≡ all_clear (drop l.place l.bits)

@@ -1,0 +1,10 @@
+pub mod Script
+pub mod ScriptDrafts
+pub mod ScriptFields
+pub mod ScriptJudged
+pub mod ScriptLines
+pub mod ScriptPlans
+pub mod ScriptSplitting
+pub mod ScriptStages
+pub mod ScriptValues
+mod ScriptWorked

@@ -1,0 +1,105 @@
+-- The plan that the statements of a script make, one after another.
+use Rattle.std.specs.Prelude.{ℕ, if◌then◌else◌, List, [], ◌∷◌, ◌++◌, pos}
+use Rattle.std.specs.Prelude.{option_map, option_and_then, Option, None, Some}
+use Rattle.chip_core.specs.declared.check_form.CheckForm.TheVariants.{Plain}
+use Rattle.cell_plan.specs.declared.plan.CellPlan.{CellPlan}
+use Rattle.cell_plan.specs.declared.plan.Page.{Page}
+use Rattle.cell_plan.specs.declared.plan.PagingPlan.{PagingPlan}
+use Rattle.cell_plan.specs.declared.frame_list.FrameList.{FrameList}
+use Rattle.cell_plan.specs.declared.frame_list.FrameList.TheVariants.{SetOne}
+use Rattle.cell_script.specs.declared.stage.Stage.{Stage}
+use Rattle.cell_script.specs.declared.stage.Stage.TheVariants.{Cell}
+use Rattle.cell_plan.specs.declared.plan.TrafficPlan.{TrafficPlan}
+use Rattle.cell_script.specs.declared.statements.PagingLine.{PagingLine}
+use Rattle.cell_script.specs.declared.statements.TrafficLine.{TrafficLine}
+use Rattle.cell_plan.specs.declared.traffic_frame.TrafficFrame.{TrafficFrame}
+use Rattle.cell_plan.specs.declared.traffic_frame2.TrafficFrame2.{TrafficFrame2}
+use Rattle.cell_script.specs.declared.statements.Statement.{Statement}
+use Rattle.cell_script.specs.declared.statements.Statement.TheVariants as statements
+use Rattle.cell_script.specs.ScriptLines.{statement_in}
+use Rattle.cell_script.specs.ScriptStages.{is_complete, next_stage}
+use Rattle.cell_plan.specs.TrafficFrames.{with_one, with_two}
+
+-- what stands for the parts of a plan that weren't stated yet
+abbrev pub empty_plan : CellPlan
+empty_plan = record {
+  cell = record { pn = 0; time = 0; lc = 1; check30 = Plain; check16 = Plain };
+  link = record { factor = record { i = pos 1; q = pos 0 }; start = 0; samples = 1 };
+  pilot = record { gain = 1 };
+  sync = None;
+  paging = [];
+  traffic = [];
+}
+
+-- a channel without pages
+abbrev pub opened : PagingLine → PagingPlan
+opened line = record { number = line.number; gain = line.gain; pages = [] }
+
+-- one page more for the last of the channels
+abbrev pub with_page : List PagingPlan → Page → List PagingPlan
+with_page [] page = []
+with_page (p ∷ []) page = record p { pages = p.pages ++ page ∷ [] } ∷ []
+with_page (p ∷ (q ∷ paging)) page = p ∷ with_page (q ∷ paging) page
+
+-- a traffic channel without frames
+abbrev pub opened_traffic : TrafficLine → TrafficPlan
+opened_traffic line = record {
+  row = line.row;
+  esn = line.esn;
+  offset = line.offset;
+  gain = line.gain;
+  frames = SetOne [];
+}
+
+-- what becomes of the channels where the frames of the last of them change
+abbrev pub on_last : (FrameList → FrameList) → List TrafficPlan → List TrafficPlan
+on_last change [] = []
+on_last change (t ∷ []) = record t { frames = change t.frames } ∷ []
+on_last change (t ∷ (u ∷ traffic)) = t ∷ on_last change (u ∷ traffic)
+
+-- one frame more for the last of the traffic channels
+abbrev pub with_frame : List TrafficPlan → TrafficFrame → List TrafficPlan
+with_frame traffic frame = on_last (with_one frame) traffic
+
+abbrev pub with_frame2 : List TrafficPlan → TrafficFrame2 → List TrafficPlan
+with_frame2 traffic frame = on_last (with_two frame) traffic
+
+-- what a statement makes of a plan
+abbrev pub with_statement : CellPlan → Statement → CellPlan
+with_statement plan (statements.Cell cell) = record plan { cell = cell }
+with_statement plan (statements.Link link) = record plan { link = link }
+with_statement plan (statements.Pilot pilot) = record plan { pilot = pilot }
+with_statement plan (statements.Sync sync) = record plan { sync = Some sync }
+with_statement plan (statements.Paging line) =
+    record plan { paging = plan.paging ++ opened line ∷ [] }
+with_statement plan (statements.Page page) = record plan { paging = with_page plan.paging page }
+with_statement plan (statements.Traffic line) =
+    record plan { traffic = plan.traffic ++ opened_traffic line ∷ [] }
+with_statement plan (statements.Frame frame) =
+    record plan { traffic = with_frame plan.traffic frame }
+with_statement plan (statements.Frame2 frame) =
+    record plan { traffic = with_frame2 plan.traffic frame }
+
+-- what the lines of a script have stated, and what may stand next
+pub record Draft : Type 0 where
+  pub stage : Stage
+  pub plan : CellPlan
+
+abbrev pub empty_draft : Draft
+empty_draft = record { stage = Cell; plan = empty_plan }
+
+abbrev pub draft_at : CellPlan → Stage → Draft
+draft_at plan stage = record { stage = stage; plan = plan }
+
+-- the draft behind a statement; None where it can't stand next
+unfoldable pub with_next : Draft → Statement → Option Draft
+with_next draft statement =
+    option_map (draft_at (with_statement draft.plan statement)) (next_stage draft.stage statement)
+
+-- the draft behind a line's text
+unfoldable pub with_line : Draft → List ℕ → Option Draft
+with_line draft text = option_and_then (with_next draft) (statement_in text)
+
+-- the plan, where no line is missing
+abbrev pub plan_at : Draft → Option CellPlan
+plan_at draft = if is_complete draft.stage then Some draft.plan else None

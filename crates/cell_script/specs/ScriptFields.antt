@@ -1,0 +1,112 @@
+-- The fields of a script's lines, read one after another.
+use Rattle.std.specs.Prelude.{ℕ, if◌then◌else◌, List, [], ◌∷◌, length, take, drop, map}
+use Rattle.std.specs.Prelude.{get_or, ◌<◌, ◌≤◌, ◌^◌, Option, None, Some, ℤ}
+use Rattle.long_code.specs.LongCode.{IsState}
+use Rattle.cell_script.specs.declared.tables.FieldForm.{FieldForm}
+use Rattle.cell_script.specs.declared.tables.FieldForm.TheVariants as forms
+use Rattle.cell_script.specs.declared.tables.NumberField.{NumberField}
+use Rattle.cell_script.specs.ScriptValues.{begins_with, length_before, number_up_to}
+use Rattle.cell_script.specs.ScriptValues.{serial_number_in, signed_in, state_in}
+
+-- what stands behind a key, from there up to the next space, and from that space on
+abbrev pub keyed : List ℕ → List ℕ → List ℕ
+keyed key text = drop (length key) text
+
+abbrev pub value_of : List ℕ → List ℕ → List ℕ
+value_of key text = take (length_before 32 (keyed key text)) (keyed key text)
+
+unfoldable pub past : List ℕ → List ℕ → List ℕ
+past key text = drop (length_before 32 (keyed key text)) (keyed key text)
+
+-- the value of the field with which a text begins, read by a reader of values
+unfoldable pub field : {A : Type 0} → List ℕ → (List ℕ → Option A) → List ℕ → Option A
+field key read text = if begins_with text key then read (value_of key text) else None
+
+infixl 10 ◌>>=◌
+abbrev pub ◌>>=◌ : {A B : Type 0} → Option A → (A → Option B) → Option B
+Some x >>= f = f x
+None >>= f = None
+
+-- the value, where the whole text was read
+abbrev pub at_end : {A : Type 0} → List ℕ → A → Option A
+at_end [] value = Some value
+at_end (byte ∷ bytes) value = None
+
+-- ---- fields by their forms
+
+-- the reader of the values of a form that has no sign
+abbrev pub unsigned_of : FieldForm → (List ℕ → Option ℕ)
+unsigned_of (forms.UpTo most) = number_up_to most
+unsigned_of forms.Signed = λ text. None
+unsigned_of forms.State = state_in
+unsigned_of forms.SerialNumber = serial_number_in
+
+-- the reader of the values of a form that has one
+abbrev pub signed_of : FieldForm → (List ℕ → Option ℤ)
+signed_of (forms.UpTo most) = λ text. None
+signed_of forms.Signed = signed_in
+signed_of forms.State = λ text. None
+signed_of forms.SerialNumber = λ text. None
+
+-- in the range of a form that has no sign
+abbrev pub IsOfForm : FieldForm → ℕ → Type 0
+IsOfForm (forms.UpTo most) n = n ≤ most
+IsOfForm forms.Signed n = Unit {0}
+IsOfForm forms.State n = IsState n
+IsOfForm forms.SerialNumber n = n < 2 ^ 32
+
+-- a field of a statement: its key, and the form of its value
+pub record StatementRow : Type 0 where
+  pub key : List ℕ
+  pub form : FieldForm
+
+abbrev pub formed : List ℕ → FieldForm → StatementRow
+formed key form = record { key = key; form = form }
+
+-- row i of a statement's table
+abbrev pub row_at : List StatementRow → ℕ → StatementRow
+row_at rows i = get_or rows i (formed [] forms.State)
+
+-- its value at the beginning of a text, and the text behind it
+abbrev pub unsigned_at : List StatementRow → ℕ → List ℕ → Option ℕ
+unsigned_at rows i text = field (row_at rows i).key (unsigned_of (row_at rows i).form) text
+
+abbrev pub signed_at : List StatementRow → ℕ → List ℕ → Option ℤ
+signed_at rows i text = field (row_at rows i).key (signed_of (row_at rows i).form) text
+
+abbrev pub past_at : List StatementRow → ℕ → List ℕ → List ℕ
+past_at rows i text = past (row_at rows i).key text
+
+-- ---- numbers that follow one another
+
+-- a field that holds a number: its key, and the greatest number
+pub record NumberRow : Type 0 where
+  pub key : List ℕ
+  pub most : ℕ
+
+abbrev pub row : List ℕ → ℕ → NumberRow
+row key most = record { key = key; most = most }
+
+-- the rows of a table of the code's
+abbrev pub rows_of : List NumberField → List NumberRow
+rows_of table = map (λ (f : NumberField). row f.key.now f.most) table
+
+-- the numbers of fields that follow one another, and the text behind them
+unfoldable pub numbers_in : List NumberRow → List ℕ → Option (List ℕ)
+numbers_in [] text = Some []
+numbers_in (f ∷ fields) text = do
+  number ← field f.key (number_up_to f.most) text
+  numbers ← numbers_in fields (past f.key text)
+  Some (number ∷ numbers)
+
+unfoldable pub past_numbers : List NumberRow → List ℕ → List ℕ
+past_numbers [] text = text
+past_numbers (f ∷ fields) text = past_numbers fields (past f.key text)
+
+-- numbers of which none is above the greatest of its field
+abbrev pub mosts : List NumberRow → List ℕ
+mosts fields = map (λ (f : NumberRow). f.most) fields
+
+abbrev pub AreUpTo : List NumberRow → List ℕ → Type 0
+AreUpTo fields numbers = (k : ℕ) → k < length fields →
+    get_or numbers k 0 ≤ get_or (mosts fields) k 0

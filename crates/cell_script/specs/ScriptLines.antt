@@ -1,0 +1,350 @@
+-- The lines of a script: what each kind of statement says, whatever stands before it.
+use Rattle.std.specs.Prelude.{ℕ, ◌+◌, ◌/◌, ◌%◌, ◌==◌, nat_le, nat_lt, Bool, false, if◌then◌else◌}
+use Rattle.std.specs.Prelude.{◌&&◌, List, [], ◌∷◌, length, get_or, codes, Option, None, Some, ℤ}
+use Rattle.std.specs.Prelude.{unsigned_abs, option_map, ◌++◌, ◌-◌, ◌^◌}
+use Rattle.chip_core.specs.declared.check_form.CheckForm.{CheckForm}
+use Rattle.chip_core.specs.declared.check_form.CheckForm.TheVariants.{Plain, Complemented}
+use Rattle.chip_core.specs.declared.sample.Pair.{Pair}
+use Rattle.paging_message.specs.Reading.{is_body}
+use Rattle.sync_message.specs.Rows.{freq_row, sync_names, sync_widths}
+use Rattle.sync_message.specs.declared.fields.SyncFields.{SyncFields}
+use Rattle.cell_plan.specs.declared.plan.PilotPlan.{PilotPlan}
+use Rattle.cell_plan.specs.declared.plan.SyncPlan.{SyncPlan}
+use Rattle.cell_plan.specs.declared.plan.CellIdentity.{CellIdentity}
+use Rattle.cell_plan.specs.declared.plan.LinkPlan.{LinkPlan}
+use Rattle.cell_plan.specs.declared.plan.Page.{Page}
+use Rattle.cell_script.specs.declared.statements.PagingLine.{PagingLine}
+use Rattle.cell_script.specs.declared.statements.TrafficLine.{TrafficLine}
+use Rattle.cell_script.specs.declared.statements.Statement.{Statement}
+use Rattle.cell_script.specs.declared.statements.Statement.TheVariants as statements
+use Rattle.cell_script.specs.declared.tables.FieldForm.TheVariants as forms
+use Rattle.cell_script.specs.ScriptFields.{NumberRow, ◌>>=◌, at_end, field, numbers_in, past}
+use Rattle.cell_script.specs.ScriptFields.{past_numbers, row}
+use Rattle.cell_script.specs.ScriptFields.{StatementRow, formed, past_at, signed_at, unsigned_at}
+use Rattle.cell_script.specs.ScriptValues.{begins_with, bits_in, commands_in, number_up_to}
+use Rattle.cell_plan.specs.declared.traffic_frame.TrafficFrame.{TrafficFrame}
+use Rattle.cell_plan.specs.declared.traffic_frame2.TrafficFrame2.{TrafficFrame2}
+use Rattle.symbol_path.specs.RatesTwo as second
+use Rattle.symbol_path.specs.declared.rate_two.Rate2.{Rate2}
+use Rattle.symbol_path.specs.declared.rate_two.Rate2.TheVariants.{R14400, R7200, R3600, R1800}
+use Rattle.quality_bits.specs.TrafficWords.{information_of}
+use Rattle.quality_bits.specs.declared.rate.Rate.{Rate}
+use Rattle.quality_bits.specs.declared.rate.Rate.TheVariants.{R9600, R4800, R2400, R1200}
+
+-- ---- statements
+
+-- the form of checks: complemented where the bit is 1
+abbrev pub check_form : ℕ → CheckForm
+check_form bit = if bit == 1 then Complemented else Plain
+
+-- `cell pn=P time=T lc=H checks=C`
+abbrev pub cell_line : ℕ → ℕ → ℕ → ℕ → CellIdentity
+cell_line pn time lc checks =
+    record {
+      pn = pn;
+      time = time;
+      lc = lc;
+      check30 = check_form (checks % 2);
+      check16 = check_form (checks / 2);
+    }
+
+abbrev pub cell_rows : List StatementRow
+cell_rows =
+    formed (codes "cell pn=") (forms.UpTo 511)
+    ∷ formed (codes " time=") (forms.UpTo 34359738368)
+    ∷ formed (codes " lc=") forms.State
+    ∷ formed (codes " checks=") (forms.UpTo 3)
+    ∷ []
+
+unfoldable pub cell_in : List ℕ → Option CellIdentity
+cell_in text0 =
+    let text1 = past_at cell_rows 0 text0 in
+    let text2 = past_at cell_rows 1 text1 in
+    let text3 = past_at cell_rows 2 text2 in
+    let text4 = past_at cell_rows 3 text3 in
+    do
+      pn ← unsigned_at cell_rows 0 text0
+      time ← unsigned_at cell_rows 1 text1
+      lc ← unsigned_at cell_rows 2 text2
+      checks ← unsigned_at cell_rows 3 text3
+      at_end text4 (cell_line pn time lc checks)
+
+-- `link re=A im=B start=S samples=N`: A and B aren't both 0, and neither is N
+abbrev pub is_link : ℤ → ℤ → ℕ → Bool
+is_link re im samples = nat_lt 0 (unsigned_abs re + unsigned_abs im) && nat_lt 0 samples
+
+abbrev pub link_line : ℤ → ℤ → ℕ → ℕ → Option LinkPlan
+link_line re im start samples =
+    let factor : Pair = record { i = re; q = im } in
+    let link : LinkPlan = record { factor = factor; start = start; samples = samples } in
+    if is_link re im samples then Some link else None
+
+abbrev pub link_rows : List StatementRow
+link_rows =
+    formed (codes "link re=") forms.Signed
+    ∷ formed (codes " im=") forms.Signed
+    ∷ formed (codes " start=") (forms.UpTo 4294967295)
+    ∷ formed (codes " samples=") (forms.UpTo 18446744073709551615)
+    ∷ []
+
+unfoldable pub link_in : List ℕ → Option LinkPlan
+link_in text0 =
+    let text1 = past_at link_rows 0 text0 in
+    let text2 = past_at link_rows 1 text1 in
+    let text3 = past_at link_rows 2 text2 in
+    let text4 = past_at link_rows 3 text3 in
+    do
+      re ← signed_at link_rows 0 text0
+      im ← signed_at link_rows 1 text1
+      start ← unsigned_at link_rows 2 text2
+      samples ← unsigned_at link_rows 3 text3
+      line ← link_line re im start samples
+      at_end text4 line
+
+-- `pilot gain=G`
+abbrev pub pilot_rows : List StatementRow
+pilot_rows = formed (codes "pilot gain=") (forms.UpTo 65535) ∷ []
+
+unfoldable pub pilot_in : List ℕ → Option PilotPlan
+pilot_in text = do
+  gain ← unsigned_at pilot_rows 0 text
+  at_end (past_at pilot_rows 0 text) (record { gain = gain })
+
+-- `sync gain=G prev=.. min=.. sid=.. nid=.. lp=.. ltm=.. daylt=.. prat=.. [freq=..] rest=BITS`
+
+-- a field of the message by its name, with the range of its width
+abbrev pub ranged : List ℕ → ℕ → NumberRow
+ranged name width = row (codes " " ++ name ++ codes "=") (2 ^ width - 1)
+
+-- the frequency may be left out
+abbrev pub freq_number : NumberRow
+freq_number = ranged freq_row.name freq_row.width
+
+unfoldable pub freq_in : List ℕ → Option (Option ℕ)
+freq_in text =
+    if begins_with text freq_number.key
+    then option_map Some (field freq_number.key (number_up_to freq_number.most) text)
+    else Some None
+
+unfoldable pub past_freq : List ℕ → List ℕ
+past_freq text = if begins_with text freq_number.key then past freq_number.key text else text
+
+-- the message has 3 bits of rest without a frequency, and 0 to 976 in steps of 8 with one
+abbrev pub has_lawful_rest : Option ℕ → List Bool → Bool
+has_lawful_rest None rest = length rest == 3
+has_lawful_rest (Some freq) rest = if length rest % 8 == 0 then nat_le (length rest) 976 else false
+
+abbrev pub lawful_message : SyncFields → Option SyncFields
+lawful_message message = if has_lawful_rest message.freq message.rest then Some message else None
+
+-- field i of the message's table
+abbrev pub sync_row : ℕ → NumberRow
+sync_row i = ranged (get_or sync_names i []) (get_or sync_widths i 0)
+
+-- the numbers that the line always has
+abbrev pub sync_table : List NumberRow
+sync_table =
+    row (codes "sync gain=") 65535
+    ∷ sync_row 0
+    ∷ sync_row 1
+    ∷ sync_row 2
+    ∷ sync_row 3
+    ∷ sync_row 7
+    ∷ sync_row 8
+    ∷ sync_row 9
+    ∷ sync_row 10
+    ∷ []
+
+-- what they say; its message has zeros for PILOT_PN, SYS_TIME and LC_STATE
+abbrev pub sync_fields : List ℕ → Option ℕ → List Bool → SyncFields
+sync_fields numbers freq rest = record {
+  prev = get_or numbers 1 0;
+  min = get_or numbers 2 0;
+  sid = get_or numbers 3 0;
+  nid = get_or numbers 4 0;
+  pn = 0;
+  lc = 0;
+  time = 0;
+  lp = get_or numbers 5 0;
+  ltm = get_or numbers 6 0;
+  daylt = get_or numbers 7 0;
+  prat = get_or numbers 8 0;
+  freq = freq;
+  rest = rest;
+}
+
+-- what the line says by its numbers and by the text behind them
+unfoldable pub sync_behind : List ℕ → List ℕ → Option SyncPlan
+sync_behind numbers text0 =
+    let text1 = past_freq text0 in
+    let text2 = past (codes " rest=") text1 in
+    do
+      freq ← freq_in text0
+      rest ← field (codes " rest=") bits_in text1
+      message ← lawful_message (sync_fields numbers freq rest)
+      at_end text2 (record { gain = get_or numbers 0 0; message = message })
+
+unfoldable pub sync_in : List ℕ → Option SyncPlan
+sync_in text =
+    numbers_in sync_table text >>= (λ numbers. sync_behind numbers (past_numbers sync_table text))
+
+-- `paging channel=C gain=G`: C isn't 0
+abbrev pub paging_line : ℕ → ℕ → Option PagingLine
+paging_line number gain = if number == 0 then None else Some (record {
+  number = number;
+  gain = gain;
+})
+
+abbrev pub paging_rows : List StatementRow
+paging_rows =
+    formed (codes "paging channel=") (forms.UpTo 7) ∷ formed (codes " gain=") (forms.UpTo 65535)
+    ∷ []
+
+unfoldable pub paging_in : List ℕ → Option PagingLine
+paging_in text0 =
+    let text1 = past_at paging_rows 0 text0 in
+    let text2 = past_at paging_rows 1 text1 in
+    do
+      number ← unsigned_at paging_rows 0 text0
+      gain ← unsigned_at paging_rows 1 text1
+      line ← paging_line number gain
+      at_end text2 line
+
+-- `page half BITS` or `page next BITS`: the bits are the body of a paging message
+
+-- what stands before the bits
+abbrev pub page_key : Bool → List ℕ
+page_key follows = if follows then codes "page next " else codes "page half "
+
+abbrev pub lawful_page : Bool → List Bool → Option Page
+lawful_page follows body =
+    if is_body body then Some (record { follows = follows; body = body }) else None
+
+abbrev pub page_with : Bool → List ℕ → Option Page
+page_with follows text = do
+  body ← field (page_key follows) bits_in text
+  page ← lawful_page follows body
+  at_end (past (page_key follows) text) page
+
+unfoldable pub page_in : List ℕ → Option Page
+page_in text = page_with (begins_with text (codes "page next ")) text
+
+-- `traffic row=R esn=H offset=O gain=G`
+abbrev pub traffic_line : ℕ → ℕ → ℕ → ℕ → TrafficLine
+traffic_line row esn offset gain =
+    record { row = row; esn = esn; offset = offset; gain = gain }
+
+abbrev pub traffic_rows : List StatementRow
+traffic_rows =
+    formed (codes "traffic row=") (forms.UpTo 63)
+    ∷ formed (codes " esn=") forms.SerialNumber
+    ∷ formed (codes " offset=") (forms.UpTo 15)
+    ∷ formed (codes " gain=") (forms.UpTo 65535)
+    ∷ []
+
+unfoldable pub traffic_in : List ℕ → Option TrafficLine
+traffic_in text0 =
+    let text1 = past_at traffic_rows 0 text0 in
+    let text2 = past_at traffic_rows 1 text1 in
+    let text3 = past_at traffic_rows 2 text2 in
+    let text4 = past_at traffic_rows 3 text3 in
+    do
+      row ← unsigned_at traffic_rows 0 text0
+      esn ← unsigned_at traffic_rows 1 text1
+      offset ← unsigned_at traffic_rows 2 text2
+      gain ← unsigned_at traffic_rows 3 text3
+      at_end text4 (traffic_line row esn offset gain)
+
+-- `frame RATE BITS COMMANDS`: as many bits as a frame of the rate has
+
+-- what stands before the bits
+abbrev pub frame_key : Rate → List ℕ
+frame_key R9600 = codes "frame 9600 "
+frame_key R4800 = codes "frame 4800 "
+frame_key R2400 = codes "frame 2400 "
+frame_key R1200 = codes "frame 1200 "
+
+-- the rate that a line begins with
+abbrev pub frame_rate : List ℕ → Option Rate
+frame_rate text =
+    if begins_with text (codes "frame 9600 ") then Some R9600
+    else (if begins_with text (codes "frame 4800 ") then Some R4800
+    else (if begins_with text (codes "frame 2400 ") then Some R2400
+    else (if begins_with text (codes "frame 1200 ") then Some R1200
+    else None)))
+
+abbrev pub lawful_frame : Rate → List Bool → List Bool → Option TrafficFrame
+lawful_frame rate information commands =
+    if length information == information_of rate
+    then Some (record { rate = rate; information = information; commands = commands }) else None
+
+abbrev pub frame_with : Rate → List ℕ → Option TrafficFrame
+frame_with rate text0 =
+    let text1 = past (frame_key rate) text0 in
+    let text2 = past (codes " ") text1 in
+    do
+      information ← field (frame_key rate) bits_in text0
+      commands ← field (codes " ") commands_in text1
+      frame ← lawful_frame rate information commands
+      at_end text2 frame
+
+unfoldable pub frame_in : List ℕ → Option TrafficFrame
+frame_in text = do
+  rate ← frame_rate text
+  frame_with rate text
+
+-- `frame2 RATE BITS COMMANDS`: a frame of rate set 2, in the same way
+
+-- what stands before the bits
+abbrev pub frame2_key : Rate2 → List ℕ
+frame2_key R14400 = codes "frame2 14400 "
+frame2_key R7200 = codes "frame2 7200 "
+frame2_key R3600 = codes "frame2 3600 "
+frame2_key R1800 = codes "frame2 1800 "
+
+-- the rate that a line begins with
+abbrev pub frame2_rate : List ℕ → Option Rate2
+frame2_rate text =
+    if begins_with text (codes "frame2 14400 ") then Some R14400
+    else (if begins_with text (codes "frame2 7200 ") then Some R7200
+    else (if begins_with text (codes "frame2 3600 ") then Some R3600
+    else (if begins_with text (codes "frame2 1800 ") then Some R1800
+    else None)))
+
+abbrev pub lawful_frame2 : Rate2 → List Bool → List Bool → Option TrafficFrame2
+lawful_frame2 rate information commands =
+    if length information == second.information_of rate
+    then Some (record { rate = rate; information = information; commands = commands }) else None
+
+abbrev pub frame2_with : Rate2 → List ℕ → Option TrafficFrame2
+frame2_with rate text0 =
+    let text1 = past (frame2_key rate) text0 in
+    let text2 = past (codes " ") text1 in
+    do
+      information ← field (frame2_key rate) bits_in text0
+      commands ← field (codes " ") commands_in text1
+      frame ← lawful_frame2 rate information commands
+      at_end text2 frame
+
+unfoldable pub frame2_in : List ℕ → Option TrafficFrame2
+frame2_in text = do
+  rate ← frame2_rate text
+  frame2_with rate text
+
+-- ---- what a line states
+
+-- the kind of a statement is told by its first word
+unfoldable pub statement_in : List ℕ → Option Statement
+statement_in text =
+    if begins_with text (codes "cell ") then option_map statements.Cell (cell_in text)
+    else (if begins_with text (codes "link ") then option_map statements.Link (link_in text)
+    else (if begins_with text (codes "pilot ") then option_map statements.Pilot (pilot_in text)
+    else (if begins_with text (codes "sync ") then option_map statements.Sync (sync_in text)
+    else (if begins_with text (codes "paging ") then option_map statements.Paging (paging_in text)
+    else (if begins_with text (codes "page ") then option_map statements.Page (page_in text)
+    else (if begins_with text (codes "traffic ")
+    then option_map statements.Traffic (traffic_in text)
+    else (if begins_with text (codes "frame ") then option_map statements.Frame (frame_in text)
+    else (if begins_with text (codes "frame2 ")
+    then option_map statements.Frame2 (frame2_in text)
+    else None))))))))

@@ -1,0 +1,35 @@
+-- What a statement says, within its bounds.
+use Rattle.std.specs.Prelude.{◌≤◌, ◌<◌, length}
+use Rattle.chip_core.specs.Complex.{norm}
+use Rattle.sync_message.specs.SyncMessage.{IsSyncMessage}
+use Rattle.paging_message.specs.Admitted.{HasMessage}
+use Rattle.quality_bits.specs.Capsules.{FillsCapsule}
+use Rattle.quality_bits.specs.declared.kind.Kind.TheVariants.{M30}
+use Rattle.cell_plan.specs.Stated.{IsStatedCell, IsStatedLink}
+use Rattle.cell_plan.specs.TrafficFrames.{IsTrafficFrame, IsTrafficFrame2}
+use Rattle.cell_script.specs.declared.statements.Statement.{Statement}
+use Rattle.cell_script.specs.declared.statements.Statement.TheVariants as statements
+
+-- a channel's Walsh row is one
+abbrev pub HasRow : Statement → Type 0
+HasRow (statements.Cell cell) = Unit {0}
+HasRow (statements.Link link) = Unit {0}
+HasRow (statements.Pilot pilot) = Unit {0}
+HasRow (statements.Sync sync) = Unit {0}
+HasRow (statements.Paging line) = line.number < 64
+HasRow (statements.Page page) = Unit {0}
+HasRow (statements.Traffic line) = line.row < 64
+HasRow (statements.Frame frame) = Unit {0}
+HasRow (statements.Frame2 frame) = Unit {0}
+
+-- what a statement says is within its bounds
+abbrev pub IsLawful : Statement → Type 0
+IsLawful (statements.Cell cell) = IsStatedCell cell
+IsLawful (statements.Link link) = IsStatedLink link × (0 < norm link.factor)
+IsLawful (statements.Pilot pilot) = Unit {0}
+IsLawful (statements.Sync sync) = IsSyncMessage sync.message
+IsLawful (statements.Paging line) = (1 ≤ line.number) × (line.number ≤ 7)
+IsLawful (statements.Page page) = FillsCapsule M30 page.body × HasMessage page.body
+IsLawful (statements.Traffic line) = (line.row ≤ 63) × (line.offset ≤ 15)
+IsLawful (statements.Frame frame) = IsTrafficFrame frame
+IsLawful (statements.Frame2 frame) = IsTrafficFrame2 frame

@@ -1,0 +1,11 @@
+-- The first line of a script and the lines behind it.
+use Rattle.std.specs.Prelude.{ℕ, nat_lt, if◌then◌else◌, List, length, take, Option, None}
+use Rattle.cell_script.specs.declared.statements.Statement.{Statement}
+use Rattle.cell_script.specs.ScriptLines.{statement_in}
+use Rattle.cell_script.specs.ScriptValues.{length_before}
+
+-- what the first line of a text states; None where it has no LF
+unfoldable pub first_stated : List ℕ → Option Statement
+first_stated text =
+    if nat_lt (length_before 10 text) (length text)
+    then statement_in (take (length_before 10 text) text) else None

@@ -1,0 +1,189 @@
+-- Worked values of scripts, which the checker computes.
+use Rattle.std.specs.Prelude.{ℕ, ◌≡◌, refl, ◌/◌, ◌^◌, ◌++◌, List, [], ◌∷◌, codes, replicate, false}
+use Rattle.std.specs.Prelude.{pos, negsuc, take, Some, None, Ok, Err}
+use Rattle.hex.specs.Hex.{decode_pairs}
+use Rattle.paging_message.specs.Admitted.{admits}
+use Rattle.paging_message.specs.HalfFrames.{bits_left}
+use Rattle.paging_message.specs.Laying.{fill}
+use Rattle.paging_message.specs.Reading.{is_body}
+use Rattle.chip_core.specs.Bits.{binary}
+use Rattle.chip_core.specs.declared.check_form.CheckForm.TheVariants.{Plain}
+use Rattle.chip_core.specs.declared.width.Width.TheVariants.{Sixteen}
+use Rattle.symbol_path.specs.declared.rate_two.Rate2.TheVariants.{R1800}
+use Rattle.cell_plan.specs.declared.frame_list.FrameList.TheVariants.{SetTwo}
+use Rattle.cell_plan.specs.declared.plan.CellPlan.{CellPlan}
+use Rattle.cell_plan.specs.declared.plan.Page.{Page}
+use Rattle.cell_plan.specs.declared.plan.PagingPlan.{PagingPlan}
+use Rattle.cell_plan.specs.declared.plan.SyncPlan.{SyncPlan}
+use Rattle.cell_plan.specs.declared.plan.TrafficPlan.{TrafficPlan}
+use Rattle.cell_script.specs.declared.script_fault.ScriptFault.TheVariants.{Line, TooLoud}
+use Rattle.cell_script.specs.declared.script_fault.ScriptFault.TheVariants.{TooLong}
+use Rattle.chip_core.specs.Decimals.{digits_from}
+use Rattle.cell_script.specs.ScriptValues.{bits_in, commands_in, digits_behind, hex_bits}
+use Rattle.cell_script.specs.ScriptValues.{hex_from, length_before, number_up_to}
+use Rattle.cell_script.specs.ScriptValues.{serial_number_in}
+use Rattle.cell_script.specs.ScriptValues.{signed_in, state_in}
+use Rattle.cell_script.specs.ScriptFields.{field, numbers_in, past, past_numbers}
+use Rattle.cell_script.specs.ScriptDrafts.{with_line, with_next}
+use Rattle.cell_script.specs.ScriptLines.{cell_in, freq_in, link_in, page_in, paging_in}
+use Rattle.cell_script.specs.ScriptLines.{past_freq, pilot_in, statement_in, sync_behind}
+use Rattle.cell_script.specs.ScriptLines.{frame_in, frame2_in, sync_in, traffic_in}
+use Rattle.cell_script.specs.ScriptStages.{pages_behind}
+use Rattle.cell_script.specs.Script.{is_line, lines, plan_named, draft_after, stated}
+use Rattle.cell_script.specs.Script.{stated_plan}
+
+-- a script with this link
+script : List ℕ → List ℕ
+script link =
+    codes "cell pn=511 time=1000 lc=20000000000 checks=0" ++ 10 ∷ codes
+    "link " ++ link ++ 10 ∷ codes "pilot gain=100" ++ 10
+    ∷ codes "sync gain=30 prev=3 min=1 sid=1 nid=2 lp=13 ltm=0 daylt=0 prat=0 rest=3:00" ++ 10 ∷ []
+
+-- one with a paging channel
+paging_script : List ℕ → List ℕ
+paging_script link =
+    script link ++ codes "paging channel=1 gain=60" ++ 10 ∷ codes "page half 34:04ff8046c0" ++ 10
+    ∷ []
+
+-- one with a traffic channel of rate set 2, and these lines behind its frame
+traffic_script : List ℕ → List ℕ
+traffic_script behind =
+    script (codes "re=0 im=-3 start=0 samples=1228800")
+    ++ codes "traffic row=10 esn=0000abcd offset=0 gain=40" ++ 10
+    ∷ codes "frame2 1800 22:5a5a58 0101010101010101" ++ 10 ∷ behind
+
+sync_plan : SyncPlan
+sync_plan = record {
+  gain = 30;
+  message = record {
+    prev = 3;
+    min = 1;
+    sid = 1;
+    nid = 2;
+    pn = 0;
+    lc = 0;
+    time = 0;
+    lp = 13;
+    ltm = 0;
+    daylt = 0;
+    prat = 0;
+    freq = None;
+    rest = replicate 3 false;
+  };
+}
+
+plan : List PagingPlan → CellPlan
+plan paging = record {
+  cell = record { pn = 511; time = 1000; lc = 2 ^ 41; check30 = Plain; check16 = Plain };
+  link = record { factor = record { i = pos 0; q = negsuc 2 }; start = 0; samples = 1228800 };
+  pilot = record { gain = 100 };
+  sync = Some sync_plan;
+  paging = paging;
+  traffic = [];
+}
+
+-- type 4, and then 26 bits
+page : Page
+page = record { follows = false; body = binary 34 (0x04ff8046c0 / 64) }
+
+paging_plan : PagingPlan
+paging_plan = record { number = 1; gain = 60; pages = page ∷ [] }
+
+traffic_plan : TrafficPlan
+traffic_plan = record {
+  row = 10;
+  esn = 43981;
+  offset = 0;
+  gain = 40;
+  frames = SetTwo (record {
+    rate = R1800;
+    information = take 22 (binary 24 0x5a5a58);
+    commands = binary 16 0x5555;
+  } ∷ []);
+}
+
+empty : plan_named Sixteen [] ≡ Err (Line 1)
+unfolding plan_named stated_plan stated lines
+empty = refl
+
+whole : plan_named Sixteen (script (codes "re=0 im=-3 start=0 samples=1228800"))
+    ≡ Ok (plan [])
+unfolding script plan sync_plan plan_named stated_plan stated draft_after lines is_line with_line
+    with_next statement_in cell_in link_in pilot_in sync_in sync_behind freq_in past_freq numbers_in
+    past_numbers field past length_before number_up_to digits_from signed_in state_in hex_from
+    bits_in hex_bits decode_pairs binary
+whole = refl
+
+paged : plan_named Sixteen (paging_script (codes "re=0 im=-3 start=0 samples=1228800"))
+    ≡ Ok (plan (paging_plan ∷ []))
+unfolding paging_script script plan sync_plan paging_plan page plan_named stated_plan stated
+    draft_after lines is_line with_line with_next statement_in cell_in link_in pilot_in sync_in
+    sync_behind freq_in past_freq paging_in page_in numbers_in past_numbers field past length_before
+    number_up_to digits_from signed_in state_in hex_from bits_in hex_bits decode_pairs binary
+    is_body admits pages_behind bits_left fill
+paged = refl
+
+paged_loud : plan_named Sixteen (paging_script (codes "re=32767 im=-3 start=0 samples=1228800"))
+    ≡ Err (TooLoud 6226300)
+unfolding paging_script script plan_named stated_plan stated draft_after lines is_line with_line
+    with_next statement_in cell_in link_in pilot_in sync_in sync_behind freq_in past_freq paging_in
+    page_in numbers_in past_numbers field past length_before number_up_to digits_from signed_in
+    state_in hex_from bits_in hex_bits decode_pairs binary is_body admits pages_behind bits_left
+    fill
+paged_loud = refl
+
+loud : plan_named Sixteen (script (codes "re=32767 im=-3 start=0 samples=1228800"))
+    ≡ Err (TooLoud 4260100)
+unfolding script plan_named stated_plan stated draft_after lines is_line with_line with_next
+    statement_in cell_in link_in pilot_in sync_in sync_behind freq_in past_freq numbers_in
+    past_numbers field past length_before number_up_to digits_from signed_in state_in hex_from
+    bits_in hex_bits decode_pairs binary
+loud = refl
+
+long : plan_named Sixteen (script (codes "re=0 im=-3 start=0 samples=33554433"))
+    ≡ Err (TooLong 33554433)
+unfolding script plan_named stated_plan stated draft_after lines is_line with_line with_next
+    statement_in cell_in link_in pilot_in sync_in sync_behind freq_in past_freq numbers_in
+    past_numbers field past length_before number_up_to digits_from signed_in state_in hex_from
+    bits_in hex_bits decode_pairs binary
+long = refl
+
+two_blanks : plan_named Sixteen (script (codes "re=0  im=-3 start=0 samples=1228800"))
+    ≡ Err (Line 2)
+unfolding script plan_named stated_plan stated draft_after lines is_line with_line with_next
+    statement_in cell_in link_in field past length_before number_up_to digits_from signed_in
+    state_in hex_from
+two_blanks = refl
+
+minus_zero : plan_named Sixteen (script (codes "re=-0 im=-3 start=0 samples=1228800"))
+    ≡ Err (Line 2)
+unfolding script plan_named stated_plan stated draft_after lines is_line with_line with_next
+    statement_in cell_in link_in field past length_before number_up_to digits_from signed_in
+    state_in hex_from
+minus_zero = refl
+
+past_64_bits : plan_named Sixteen (script (codes "re=0 im=-3 start=0 samples=18446744073709551616"))
+    ≡ Err (Line 2)
+unfolding script plan_named stated_plan stated draft_after lines is_line with_line with_next
+    statement_in cell_in link_in field past length_before number_up_to digits_from signed_in
+    state_in hex_from
+past_64_bits = refl
+
+of_rate_set_two : plan_named Sixteen (traffic_script [])
+    ≡ Ok (record (plan []) { traffic = traffic_plan ∷ [] })
+unfolding traffic_script script plan sync_plan traffic_plan plan_named stated_plan stated
+    draft_after lines is_line with_line with_next statement_in cell_in link_in pilot_in sync_in
+    sync_behind freq_in past_freq traffic_in frame2_in numbers_in past_numbers field past
+    length_before number_up_to digits_from signed_in state_in serial_number_in hex_from bits_in
+    hex_bits decode_pairs commands_in digits_behind binary
+of_rate_set_two = refl
+
+-- a frame of rate set 1 behind one of rate set 2
+of_both : plan_named Sixteen
+    (traffic_script (codes "frame 1200 16:ffff 0101010101010101" ++ 10 ∷ [])) ≡ Err (Line 7)
+unfolding traffic_script script plan_named stated_plan stated draft_after lines is_line with_line
+    with_next statement_in cell_in link_in pilot_in sync_in sync_behind freq_in past_freq traffic_in
+    frame_in frame2_in numbers_in past_numbers field past length_before number_up_to digits_from
+    signed_in state_in serial_number_in hex_from bits_in hex_bits decode_pairs commands_in
+    digits_behind binary
+of_both = refl

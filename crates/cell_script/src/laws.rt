@@ -1,0 +1,71 @@
+//! Laws of the definitions: each function does nothing, and its contract is the law.
+
+ghost use Rattle.std.specs.Prelude.{◌≡◌, ◌≢◌, ◌↔◌, ◌≤◌, ◌<◌, ◌+◌, ◌^◌, ℕ, ℤ, List};
+ghost use Rattle.std.specs.Prelude.{length, take};
+ghost use Rattle.std.specs.Prelude.{Some, Ok, Err, IsOk, All, FitsSigned, decimal};
+ghost use Rattle.std.specs.Fmt.{signed_decimal};
+ghost use Rattle.std.specs.Int.{w16};
+ghost use Rattle.chip_core.specs.declared.width.Width.{Width as TheWidth};
+ghost use Rattle.chip_core.specs.Complex.{norm};
+ghost use Rattle.chip_core.specs.declared.check_form.CheckForm.{CheckForm as TheForm};
+ghost use Rattle.cell_plan.specs.Pages.{paging_rate};
+ghost use Rattle.cell_plan.specs.Plan.{IsLawfulPlan};
+ghost use Rattle.cell_script.specs.Script.{lines, plan_named, stated_plan};
+ghost use Rattle.cell_plan.specs.Stated.{HasMessages, IsCarried, IsReceivable};
+ghost use Rattle.cell_script.specs.ScriptValues.{number_up_to, signed_in};
+ghost use Rattle.cell_plan.specs.declared.plan.CellPlan.{CellPlan};
+ghost use Rattle.cell_script.specs.declared.script_fault.ScriptFault.TheVariants.{Line};
+
+/// `Line { n }` is the least number n, counted from 1, such that no script whose lines state a plan
+/// begins with lines 1 to n. Where a script ends too early n is the number of the line after the
+/// last, and some script whose lines state a plan begins with all of its lines.
+pub fn line_fault_is_the_first_that_no_script_has()
+    ensures counted { (script : List ℕ) (n : ℕ) → stated_plan script ≡ Err n → 1 ≤ n }
+    ensures refused { (script other : List ℕ) (n : ℕ) → stated_plan script ≡ Err n →
+        n ≤ length (lines script) →
+        IsOk (stated_plan other) → take n (lines other) ≢ take n (lines script) }
+    ensures missing { (script : List ℕ) (n : ℕ) → stated_plan script ≡ Err n →
+        length (lines script) < n →
+        n ≡ length (lines script) + 1 }
+    ensures least { (script : List ℕ) (n m : ℕ) → stated_plan script ≡ Err n → m < n →
+        (other : List ℕ) × IsOk (stated_plan other) ×
+        (take m (lines other) ≡ take m (lines script)) }
+{}
+
+/// A script is answered `Line { n }` exactly where it isn't too big, and its lines state no plan
+/// with this n.
+pub fn line_faults_come_first()
+    ensures { (width : TheWidth) (script : List ℕ) (n : ℕ) →
+        (plan_named width script ≡ Err (Line n)) ↔
+        ((length script ≤ 1048576) × (stated_plan script ≡ Err n)) }
+{}
+
+/// A number has one spelling in a script, which is the decimal numeral that is printed; so has a
+/// number with a sign, of 16 bits.
+pub fn numbers_have_one_spelling()
+    ensures signed { (z : ℤ) (text : List ℕ) → (signed_in text ≡ Some z) ↔
+        ((text ≡ signed_decimal z) × FitsSigned w16 z) }
+    ensures unsigned { (most n : ℕ) (text : List ℕ) → most < 2 ^ 64 →
+        (number_up_to most text ≡ Some n) ↔ ((text ≡ decimal n) × (n ≤ most)) }
+{}
+
+/// The plan that a script names is lawful, its link isn't 0, and a handset can receive it: its pages
+/// are messages that half-frames carry.
+pub fn named_plan_is_lawful()
+    ensures lawful { (width : TheWidth) (script : List ℕ) (plan : CellPlan) →
+        plan_named width script ≡ Ok plan →
+        IsLawfulPlan width plan × (0 < norm plan.link.factor) }
+    ensures receivable { (width : TheWidth) (script : List ℕ) (plan : CellPlan) →
+        plan_named width script ≡ Ok plan → IsReceivable width plan }
+{}
+
+/// Each page of the plan that a script names is a message of the paging channel, and the
+/// half-frames of a channel's pages carry just their capsules, in order, whatever the form of the
+/// checks.
+pub fn named_pages_are_carried()
+    ensures messages { (width : TheWidth) (script : List ℕ) (plan : CellPlan) →
+        plan_named width script ≡ Ok plan → All HasMessages plan.paging }
+    ensures carried { (width : TheWidth) (script : List ℕ) (plan : CellPlan) (form : TheForm) →
+        plan_named width script ≡ Ok plan →
+        All (IsCarried (paging_rate plan.sync) form) plan.paging }
+{}

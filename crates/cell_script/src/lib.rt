@@ -1,0 +1,24 @@
+//! Scripts of cells: lines of text that say what a cell sends, and what a handset receives of it.
+//!
+//! Each line is a statement and ends with LF: `cell`, `link`, `pilot`, and perhaps `sync`, in this
+//! order; behind `sync` any number of `paging` lines, each with one or more `page` lines behind it,
+//! and then any number of `traffic` lines, each with one or more `frame` lines behind it, or one or
+//! more `frame2` lines.
+//!
+//! A script is read twice. First its statements are judged one after another, without memory; only
+//! of a script without a fault is a plan made.
+#![tactic(auto)]
+
+mod build;
+mod fields;
+mod judge;
+pub mod laws;
+mod reading;
+mod script_fault;
+pub mod stage;
+pub mod statements;
+pub mod tables;
+mod values;
+
+pub use reading::plan_of;
+pub use script_fault::ScriptFault;

@@ -1,0 +1,271 @@
+//! Which statements of a script may follow one another.
+
+ghost use Rattle.std.specs.Prelude.{◌≡◌, ◌<◌, ◌≤◌, true};
+ghost use Rattle.paging_message.specs.HalfFrames.{bits_left, half_frame_body};
+ghost use Rattle.paging_message.specs.Laying.{fill};
+ghost use Rattle.cell_script.specs.ScriptStages.{after_cell, after_frame, after_link};
+ghost use Rattle.cell_script.specs.ScriptStages.{after_frame2, after_page};
+ghost use Rattle.cell_script.specs.ScriptStages.{after_paging, after_pilot, after_sync};
+ghost use Rattle.cell_script.specs.ScriptStages.{after_traffic};
+ghost use Rattle.cell_script.specs.ScriptStages.{behind_sync, count_behind, is_complete};
+ghost use Rattle.cell_script.specs.ScriptStages.{is_cycle, may_follow, next_stage, pages_behind};
+
+use cell_plan::{Page, SyncPlan};
+use crate::statements::Statement;
+use symbol_path::Rate;
+
+/// The most bits of a cycle up to the end of its last capsule, SCI bits among them.
+const MOST_CYCLE_BITS: u32 = 8192;
+
+/// How many bits of a capsule stand before and behind its body: its length and its check
+/// (TIA/EIA-95-B, 7.7.2).
+const CAPSULE_BITS: u32 = 38;
+
+/// How many body bits of a half-frame are left at least where a capsule may follow another one at
+/// once (TIA/EIA-95-B, 7.7.2.1).
+const LEAST_LEFT: u32 = 8;
+
+/// Which statement may stand next.
+#[derive(Clone, Copy)]
+pub enum Stage {
+    /// `cell`, the first one.
+    Cell,
+    /// `link`.
+    Link,
+    /// `pilot`.
+    Pilot,
+    /// `sync`, or none.
+    Sync,
+    /// `paging`, `traffic`, or none. Paging channels have this rate.
+    Paging(Rate),
+    /// `page`, the first one of a channel with this rate.
+    FirstPage(Rate),
+    /// `page`, `paging`, `traffic`, or none.
+    Pages {
+        /// The rate of paging channels.
+        rate: Rate,
+        /// How many body bits the pages of the channel fill so far.
+        count: u16,
+    },
+    /// `traffic`, or none.
+    Traffic,
+    /// `frame` or `frame2`, the first one of a channel.
+    FirstFrame,
+    /// `frame`, `traffic`, or none.
+    Frames,
+    /// `frame2`, `traffic`, or none.
+    Frames2,
+}
+
+/// How many body bits a half-frame has: 95 at 9600 bits per second, 47 at 4800 (TIA/EIA-95-B,
+/// 7.7.2.1).
+fn half_frame_body(rate: Rate) -> u32
+    ensures value { result ≡ half_frame_body rate }
+    ensures some { 1 ≤ result }
+    ensures most { result ≤ 95 }
+{
+    match rate {
+        Rate::R9600 => 95,
+        Rate::R4800 => 47,
+        Rate::R2400 => 23,
+        Rate::R1200 => 11,
+    }
+}
+
+/// How many body bits of the half-frame under way are left behind so many.
+fn bits_left(size: u32, count: u16) -> u32
+    requires some { 1 ≤ size }
+    requires most { size ≤ 95 }
+    ensures left { result ≡ bits_left size count }
+    ensures fill { result ≡ fill size count }
+    ensures below { result < size }
+{
+    (size - u32::from(count) % size) % size
+}
+
+/// How many body bits a cycle has behind one more page. It begins with a half-frame unless it
+/// follows at once.
+fn count_behind(rate: Rate, count: u16, page: &Page) -> u32
+    ensures value { result ≡ count_behind rate count page.now }
+    ensures most { result ≤ 70000 }
+{
+    let capsule = CAPSULE_BITS + u32::from(page.body.len());
+    if page.follows {
+        return u32::from(count) + capsule;
+    }
+    u32::from(count) + bits_left(half_frame_body(rate), count) + capsule
+}
+
+/// Whether a page may stand behind so many body bits: one that follows at once needs room for its
+/// capsule's length in the half-frame.
+fn may_follow(rate: Rate, count: u16, follows: bool) -> bool
+    ensures { result ≡ may_follow rate count follows }
+{
+    if !follows {
+        return true;
+    }
+    bits_left(half_frame_body(rate), count) >= LEAST_LEFT
+}
+
+/// Whether a cycle of so many body bits isn't too long.
+fn is_cycle(rate: Rate, count: u32) -> bool
+    requires { count ≤ 70000 }
+    ensures value { result ≡ is_cycle rate count }
+    ensures few { result ≡ true → count ≤ 8192 }
+{
+    let size = half_frame_body(rate);
+    count + (count + size - 1) / size <= MOST_CYCLE_BITS
+}
+
+/// The stage behind a page that stands behind so many body bits of its cycle.
+#[tactic(auto, unfolding(crate::specs::ScriptStages::pages_behind))]
+fn pages_behind(rate: Rate, count: u16, page: &Page) -> Option<Stage>
+    ensures { result ≡ pages_behind rate count page.now }
+{
+    if !may_follow(rate, count, page.follows) {
+        return None;
+    }
+    let behind = count_behind(rate, count, page);
+    if !is_cycle(rate, behind) {
+        return None;
+    }
+    Some(Stage::Pages {
+        rate,
+        count: behind as u16,
+    })
+}
+
+/// What may stand behind a `sync` line: traffic channels, and before them paging channels where its
+/// message says that they have 9600 or 4800 bits per second (TIA/EIA-95-B, 7.7.1.3).
+fn behind_sync(sync: &SyncPlan) -> Stage
+    ensures { result ≡ behind_sync sync.now }
+{
+    match sync.message.prat {
+        0 => Stage::Paging(Rate::R9600),
+        1 => Stage::Paging(Rate::R4800),
+        _ => Stage::Traffic,
+    }
+}
+
+impl Stage {
+    /// What may stand behind a statement; `None` where it can't stand.
+    pub fn after(self, statement: &Statement) -> Option<Stage>
+        ensures { result ≡ next_stage self statement.now }
+    {
+        match statement {
+            Statement::Cell(_) => self.after_cell(),
+            Statement::Link(_) => self.after_link(),
+            Statement::Pilot(_) => self.after_pilot(),
+            Statement::Sync(sync) => self.after_sync(sync),
+            Statement::Paging(_) => self.after_paging(),
+            Statement::Page(page) => self.after_page(page),
+            Statement::Traffic(_) => self.after_traffic(),
+            Statement::Frame(_) => self.after_frame(),
+            Statement::Frame2(_) => self.after_frame2(),
+        }
+    }
+
+    /// What may stand behind a `cell` line.
+    fn after_cell(self) -> Option<Stage>
+        ensures { result ≡ after_cell self }
+    {
+        match self {
+            Stage::Cell => Some(Stage::Link),
+            _ => None,
+        }
+    }
+
+    /// What may stand behind a `link` line.
+    fn after_link(self) -> Option<Stage>
+        ensures { result ≡ after_link self }
+    {
+        match self {
+            Stage::Link => Some(Stage::Pilot),
+            _ => None,
+        }
+    }
+
+    /// What may stand behind a `pilot` line.
+    fn after_pilot(self) -> Option<Stage>
+        ensures { result ≡ after_pilot self }
+    {
+        match self {
+            Stage::Pilot => Some(Stage::Sync),
+            _ => None,
+        }
+    }
+
+    /// What may stand behind a `sync` line.
+    fn after_sync(self, sync: &SyncPlan) -> Option<Stage>
+        ensures { result ≡ after_sync self sync.now }
+    {
+        match self {
+            Stage::Sync => Some(behind_sync(sync)),
+            _ => None,
+        }
+    }
+
+    /// What may stand behind a `paging` line.
+    fn after_paging(self) -> Option<Stage>
+        ensures { result ≡ after_paging self }
+    {
+        match self {
+            Stage::Paging(rate) | Stage::Pages { rate, .. } => Some(Stage::FirstPage(rate)),
+            _ => None,
+        }
+    }
+
+    /// What may stand behind a `page` line.
+    fn after_page(self, page: &Page) -> Option<Stage>
+        ensures { result ≡ after_page self page.now }
+    {
+        match self {
+            Stage::FirstPage(rate) => pages_behind(rate, 0, page),
+            Stage::Pages { rate, count } => pages_behind(rate, count, page),
+            _ => None,
+        }
+    }
+
+    /// What may stand behind a `traffic` line.
+    fn after_traffic(self) -> Option<Stage>
+        ensures { result ≡ after_traffic self }
+    {
+        match self {
+            Stage::Paging(_) | Stage::Pages { .. } | Stage::Traffic => Some(Stage::FirstFrame),
+            Stage::Frames | Stage::Frames2 => Some(Stage::FirstFrame),
+            _ => None,
+        }
+    }
+
+    /// What may stand behind a `frame` line.
+    fn after_frame(self) -> Option<Stage>
+        ensures { result ≡ after_frame self }
+    {
+        match self {
+            Stage::FirstFrame | Stage::Frames => Some(Stage::Frames),
+            _ => None,
+        }
+    }
+
+    /// What may stand behind a `frame2` line: the frames of a channel are all of one rate set.
+    fn after_frame2(self) -> Option<Stage>
+        ensures { result ≡ after_frame2 self }
+    {
+        match self {
+            Stage::FirstFrame | Stage::Frames2 => Some(Stage::Frames2),
+            _ => None,
+        }
+    }
+
+    /// Whether a script may end.
+    pub fn is_complete(self) -> bool
+        ensures { result ≡ is_complete self }
+    {
+        match self {
+            Stage::Cell | Stage::Link | Stage::Pilot => false,
+            Stage::FirstPage(_) | Stage::FirstFrame => false,
+            Stage::Sync | Stage::Paging(_) | Stage::Pages { .. } => true,
+            Stage::Traffic | Stage::Frames | Stage::Frames2 => true,
+        }
+    }
+}

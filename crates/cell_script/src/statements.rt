@@ -1,0 +1,447 @@
+//! The statements of a script, each on a line.
+
+ghost use Rattle.std.specs.Prelude.{◌≡◌, ◌≤◌, ◌<◌, ◌^◌, IfSome, IsAscii, OnSome, length};
+ghost use Rattle.cell_script.specs.ScriptLines.{cell_in, check_form, freq_in, link_in};
+ghost use Rattle.cell_script.specs.ScriptLines.{page_in, page_key, page_with, paging_in};
+ghost use Rattle.cell_script.specs.ScriptLines.{past_freq, pilot_in, sync_behind, sync_fields};
+ghost use Rattle.cell_script.specs.ScriptLines.{statement_in, sync_in, lawful_message};
+ghost use Rattle.cell_script.specs.ScriptLines.{frame_in, frame_key, frame_rate, frame_with};
+ghost use Rattle.cell_script.specs.ScriptLines.{frame2_in, frame2_key, frame2_rate};
+ghost use Rattle.cell_script.specs.ScriptLines.{frame2_with, sync_table, traffic_in};
+ghost use Rattle.cell_script.specs.ScriptFields.{AreUpTo};
+ghost use Rattle.cell_script.specs.ScriptPlans.{HasRow};
+ghost use Rattle.cell_plan.specs.Stated.{IsStatedCell, IsStatedLink};
+ghost use Rattle.paging_message.specs.Reading.{is_body};
+ghost use Rattle.sync_message.specs.SyncMessage.{IsSyncMessage};
+ghost use Rattle.chip_core.specs.Fields.{FieldsFit};
+ghost use Rattle.sync_message.specs.SyncMessage.{fixed_fields};
+
+use cell_plan::{
+    CellIdentity, LinkPlan, Page, PilotPlan, SyncPlan, TrafficFrame, TrafficFrame2,
+};
+use crate::fields::Fields;
+use crate::tables::{
+    CELL_FIELDS, FREQ_NUMBER, LINK_FIELDS, PAGING_FIELDS, PILOT_FIELDS, SYNC_NUMBERS,
+    TRAFFIC_FIELDS,
+};
+use crate::values::begins_with;
+use chip_core::{Bits, CheckForm, Pair};
+use paging_message::PagingMessage;
+use symbol_path::{Rate, Rate2};
+use sync_message::{SyncFields, SyncMessage};
+
+/// What a line of a script states.
+#[derive(Clone, Copy)]
+pub enum Statement {
+    /// Which cell it is.
+    Cell(CellIdentity),
+    /// The link to it.
+    Link(LinkPlan),
+    /// Its pilot channel.
+    Pilot(PilotPlan),
+    /// Its sync channel.
+    Sync(SyncPlan),
+    /// One more paging channel, whose pages the lines behind state.
+    Paging(PagingLine),
+    /// One more page of that channel.
+    Page(Page),
+    /// One more traffic channel, whose frames the lines behind state.
+    Traffic(TrafficLine),
+    /// One more frame of that channel, of rate set 1.
+    Frame(TrafficFrame),
+    /// One more frame of that channel, of rate set 2.
+    Frame2(TrafficFrame2),
+}
+
+/// A paging channel without its pages.
+#[derive(Clone, Copy)]
+pub struct PagingLine {
+    /// The number of the channel, which is its Walsh row: 1 to 7.
+    pub number: u8,
+    /// The gain of the channel.
+    pub gain: u16,
+}
+
+/// A traffic channel without its frames.
+#[derive(Clone, Copy)]
+pub struct TrafficLine {
+    /// The Walsh row: 0 to 63.
+    pub row: u8,
+    /// The handset's electronic serial number.
+    pub esn: u32,
+    /// FRAME_OFFSET: 0 to 15.
+    pub offset: u8,
+    /// The gain of the channel.
+    pub gain: u16,
+}
+
+/// What a line states, given without its LF and whatever stands before it.
+#[tactic(auto, unfolding(crate::specs::ScriptLines::statement_in))]
+pub fn statement_in(text: &[u8]) -> Option<Statement>
+    ensures value { result ≡ statement_in text.now }
+    ensures row { IfSome result HasRow }
+{
+    if begins_with(text, b"cell ") {
+        return Some(Statement::Cell(cell_in(text)?));
+    }
+    if begins_with(text, b"link ") {
+        return Some(Statement::Link(link_in(text)?));
+    }
+    if begins_with(text, b"pilot ") {
+        return Some(Statement::Pilot(pilot_in(text)?));
+    }
+    if begins_with(text, b"sync ") {
+        return Some(Statement::Sync(sync_in(text)?));
+    }
+    if begins_with(text, b"paging ") {
+        return Some(Statement::Paging(paging_in(text)?));
+    }
+    if begins_with(text, b"page ") {
+        return Some(Statement::Page(page_in(text)?));
+    }
+    if begins_with(text, b"traffic ") {
+        return Some(Statement::Traffic(traffic_in(text)?));
+    }
+    if begins_with(text, b"frame ") {
+        return Some(Statement::Frame(frame_in(text)?));
+    }
+    if begins_with(text, b"frame2 ") {
+        return Some(Statement::Frame2(frame2_in(text)?));
+    }
+    None
+}
+
+/// The form of checks: complemented where the bit is 1.
+fn check_form(bit: u64) -> CheckForm
+    ensures { result ≡ check_form bit }
+{
+    if bit == 1 {
+        CheckForm::Complemented
+    } else {
+        CheckForm::Plain
+    }
+}
+
+/// What a `cell` line says.
+#[tactic(auto, unfolding(crate::specs::ScriptLines::cell_in))]
+fn cell_in(text: &[u8]) -> Option<CellIdentity>
+    ensures value { result ≡ cell_in text.now }
+    ensures lawful { IfSome result IsStatedCell }
+{
+    let mut fields = Fields::new(text);
+    let pn = fields.unsigned(CELL_FIELDS[0])?;
+    let time = fields.unsigned(CELL_FIELDS[1])?;
+    let lc = fields.unsigned(CELL_FIELDS[2])?;
+    let checks = fields.unsigned(CELL_FIELDS[3])?;
+    if !fields.at_end() {
+        return None;
+    }
+    Some(CellIdentity {
+        pn: pn as u16,
+        time,
+        lc,
+        check30: check_form(checks % 2),
+        check16: check_form(checks / 2),
+    })
+}
+
+/// What a `link` line says.
+#[tactic(auto, unfolding(crate::specs::ScriptLines::link_in))]
+fn link_in(text: &[u8]) -> Option<LinkPlan>
+    ensures value { result ≡ link_in text.now }
+    ensures lawful { IfSome result IsStatedLink }
+{
+    let mut fields = Fields::new(text);
+    let re = fields.signed(LINK_FIELDS[0])?;
+    let im = fields.signed(LINK_FIELDS[1])?;
+    let start = fields.unsigned(LINK_FIELDS[2])?;
+    let samples = fields.unsigned(LINK_FIELDS[3])?;
+    if re.unsigned_abs() + im.unsigned_abs() == 0 || samples == 0 || !fields.at_end() {
+        return None;
+    }
+    Some(LinkPlan {
+        factor: Pair { i: re, q: im },
+        start,
+        samples,
+    })
+}
+
+/// What a `pilot` line says.
+#[tactic(auto, unfolding(crate::specs::ScriptLines::pilot_in))]
+fn pilot_in(text: &[u8]) -> Option<PilotPlan>
+    ensures { result ≡ pilot_in text.now }
+{
+    let mut fields = Fields::new(text);
+    let gain = fields.unsigned(PILOT_FIELDS[0])?;
+    if !fields.at_end() {
+        return None;
+    }
+    Some(PilotPlan { gain: gain as u16 })
+}
+
+/// What a `sync` line says. Its message has zeros for PILOT_PN, SYS_TIME and LC_STATE.
+fn sync_in(text: &[u8]) -> Option<SyncPlan>
+    ensures value { result ≡ sync_in text.now }
+    ensures lawful { IfSome result (λ sync. IsSyncMessage sync.message) }
+{
+    let mut fields = Fields::new(text);
+    let mut numbers = [0; SYNC_NUMBERS.len()];
+    fields.numbers(&SYNC_NUMBERS, &mut numbers)?;
+    sync_behind(&numbers, fields)
+}
+
+/// What a `sync` line says by its numbers and by the fields behind them.
+#[tactic(auto, unfolding(crate::specs::ScriptLines::sync_behind))]
+fn sync_behind(numbers: &[u64; 9], mut fields: Fields<'_>) -> Option<SyncPlan>
+    requires { AreUpTo sync_table numbers.now }
+    ensures value { result ≡ sync_behind numbers.now fields.entry }
+    ensures lawful { IfSome result (λ sync. IsSyncMessage sync.message) }
+{
+    let freq = freq_in(&mut fields)?;
+    let rest = fields.bits(b" rest=")?;
+    let message = message_with(sync_fields(numbers, freq, rest))?;
+    if !fields.at_end() {
+        return None;
+    }
+    let gain = numbers[0] as u16;
+    Some(SyncPlan { gain, message })
+}
+
+/// What the numbers of a `sync` line say.
+fn sync_fields(numbers: &[u64; 9], freq: Option<u16>, rest: Bits) -> SyncFields
+    requires { AreUpTo sync_table numbers.now }
+    ensures value { result ≡ sync_fields numbers.now freq rest }
+    ensures fixed { FieldsFit (fixed_fields result) }
+{
+    SyncFields {
+        prev: numbers[1] as u8,
+        min: numbers[2] as u8,
+        sid: numbers[3] as u16,
+        nid: numbers[4] as u16,
+        pn: 0,
+        lc: 0,
+        time: 0,
+        lp: numbers[5] as u8,
+        ltm: numbers[6] as u8,
+        daylt: numbers[7] as u8,
+        prat: numbers[8] as u8,
+        freq,
+        rest,
+    }
+}
+
+/// The frequency of a `sync` line, which may be left out.
+#[tactic(auto, unfolding(crate::specs::ScriptLines::freq_in, crate::specs::ScriptLines::past_freq))]
+fn freq_in(fields: &mut Fields<'_>) -> Option<Option<u16>>
+    ensures value { result ≡ freq_in fields.old }
+    ensures range { IfSome result (λ freq. IfSome freq (λ n. n < 2 ^ 11)) }
+    ensures rest { OnSome result (fields.new ≡ past_freq fields.old) }
+{
+    if !fields.begin_with(FREQ_NUMBER.key) {
+        return Some(None);
+    }
+    Some(Some(fields.number(FREQ_NUMBER.key, FREQ_NUMBER.most)? as u16))
+}
+
+/// The message of these fields, if its rest has a length that it admits.
+fn message_with(fields: SyncFields) -> Option<SyncFields>
+    requires fixed { FieldsFit (fixed_fields fields) }
+    requires freq { IfSome fields.freq (λ n. n < 2 ^ 11) }
+    ensures value { result ≡ lawful_message fields }
+    ensures lawful { IfSome result IsSyncMessage }
+{
+    Some(SyncMessage::new(fields)?.fields())
+}
+
+/// What a `paging` line says.
+#[tactic(auto, unfolding(crate::specs::ScriptLines::paging_in))]
+fn paging_in(text: &[u8]) -> Option<PagingLine>
+    ensures value { result ≡ paging_in text.now }
+    ensures row { IfSome result (λ line. line.number < 64) }
+{
+    let mut fields = Fields::new(text);
+    let number = fields.unsigned(PAGING_FIELDS[0])?;
+    let gain = fields.unsigned(PAGING_FIELDS[1])?;
+    if number == 0 || !fields.at_end() {
+        return None;
+    }
+    Some(PagingLine {
+        number: number as u8,
+        gain: gain as u16,
+    })
+}
+
+/// What a `page` line says: where its capsule begins, and the body of a message.
+#[tactic(auto, unfolding(crate::specs::ScriptLines::page_in))]
+fn page_in(text: &[u8]) -> Option<Page>
+    ensures { result ≡ page_in text.now }
+{
+    page_with(begins_with(text, b"page next "), Fields::new(text))
+}
+
+/// What a `page` line says whose capsule follows the one before at once, or doesn't.
+fn page_with(follows: bool, mut fields: Fields<'_>) -> Option<Page>
+    ensures { result ≡ page_with follows fields.entry }
+{
+    let body = fields.bits(page_key(follows))?;
+    if !is_body(&body) || !fields.at_end() {
+        return None;
+    }
+    Some(Page { follows, body })
+}
+
+/// What stands before the bits of a `page` line.
+pub fn page_key(follows: bool) -> &'static [u8]
+    ensures value { result.now ≡ page_key follows }
+    ensures ascii { IsAscii result.now }
+    ensures most { length result.now ≤ 11 }
+{
+    if follows {
+        b"page next "
+    } else {
+        b"page half "
+    }
+}
+
+/// Whether bits are the body of a paging message.
+fn is_body(body: &Bits) -> bool
+    ensures { result ≡ is_body body.now }
+{
+    PagingMessage::from_body(body).is_some()
+}
+
+/// What a `traffic` line says.
+#[tactic(auto, unfolding(crate::specs::ScriptLines::traffic_in))]
+fn traffic_in(text: &[u8]) -> Option<TrafficLine>
+    ensures value { result ≡ traffic_in text.now }
+    ensures row { IfSome result (λ line. line.row < 64) }
+{
+    let mut fields = Fields::new(text);
+    let row = fields.unsigned(TRAFFIC_FIELDS[0])?;
+    let esn = fields.unsigned(TRAFFIC_FIELDS[1])?;
+    let offset = fields.unsigned(TRAFFIC_FIELDS[2])?;
+    let gain = fields.unsigned(TRAFFIC_FIELDS[3])?;
+    if !fields.at_end() {
+        return None;
+    }
+    Some(TrafficLine {
+        row: row as u8,
+        esn: esn as u32,
+        offset: offset as u8,
+        gain: gain as u16,
+    })
+}
+
+/// What a `frame` line says: a rate, as many information bits as a frame of it has, and sixteen
+/// power control bits.
+#[tactic(auto, unfolding(crate::specs::ScriptLines::frame_in))]
+fn frame_in(text: &[u8]) -> Option<TrafficFrame>
+    ensures { result ≡ frame_in text.now }
+{
+    frame_with(frame_rate(text)?, Fields::new(text))
+}
+
+/// The rate that a `frame` line begins with.
+fn frame_rate(text: &[u8]) -> Option<Rate>
+    ensures { result ≡ frame_rate text.now }
+{
+    if begins_with(text, b"frame 9600 ") {
+        return Some(Rate::R9600);
+    }
+    if begins_with(text, b"frame 4800 ") {
+        return Some(Rate::R4800);
+    }
+    if begins_with(text, b"frame 2400 ") {
+        return Some(Rate::R2400);
+    }
+    if begins_with(text, b"frame 1200 ") {
+        return Some(Rate::R1200);
+    }
+    None
+}
+
+/// What a `frame` line of this rate says.
+fn frame_with(rate: Rate, mut fields: Fields<'_>) -> Option<TrafficFrame>
+    ensures { result ≡ frame_with rate fields.entry }
+{
+    let information = fields.bits(frame_key(rate))?;
+    let commands = fields.commands(b" ")?;
+    if information.len() != rate.information_bits() || !fields.at_end() {
+        return None;
+    }
+    Some(TrafficFrame {
+        rate,
+        information,
+        commands,
+    })
+}
+
+/// What stands before the bits of a `frame` line.
+pub fn frame_key(rate: Rate) -> &'static [u8]
+    ensures value { result.now ≡ frame_key rate }
+    ensures ascii { IsAscii result.now }
+    ensures most { length result.now ≤ 11 }
+{
+    match rate {
+        Rate::R9600 => b"frame 9600 ",
+        Rate::R4800 => b"frame 4800 ",
+        Rate::R2400 => b"frame 2400 ",
+        Rate::R1200 => b"frame 1200 ",
+    }
+}
+
+/// What a `frame2` line says, which states a frame of rate set 2 as a `frame` line does one of rate
+/// set 1.
+#[tactic(auto, unfolding(crate::specs::ScriptLines::frame2_in))]
+fn frame2_in(text: &[u8]) -> Option<TrafficFrame2>
+    ensures { result ≡ frame2_in text.now }
+{
+    frame2_with(frame2_rate(text)?, Fields::new(text))
+}
+
+/// The rate that a `frame2` line begins with.
+fn frame2_rate(text: &[u8]) -> Option<Rate2>
+    ensures { result ≡ frame2_rate text.now }
+{
+    if begins_with(text, b"frame2 14400 ") {
+        return Some(Rate2::R14400);
+    }
+    if begins_with(text, b"frame2 7200 ") {
+        return Some(Rate2::R7200);
+    }
+    if begins_with(text, b"frame2 3600 ") {
+        return Some(Rate2::R3600);
+    }
+    if begins_with(text, b"frame2 1800 ") {
+        return Some(Rate2::R1800);
+    }
+    None
+}
+
+/// What a `frame2` line of this rate says.
+fn frame2_with(rate: Rate2, mut fields: Fields<'_>) -> Option<TrafficFrame2>
+    ensures { result ≡ frame2_with rate fields.entry }
+{
+    let information = fields.bits(frame2_key(rate))?;
+    let commands = fields.commands(b" ")?;
+    if information.len() != rate.information_bits() || !fields.at_end() {
+        return None;
+    }
+    Some(TrafficFrame2 {
+        rate,
+        information,
+        commands,
+    })
+}
+
+/// What stands before the bits of a `frame2` line.
+fn frame2_key(rate: Rate2) -> &'static [u8]
+    ensures { result.now ≡ frame2_key rate }
+{
+    match rate {
+        Rate2::R14400 => b"frame2 14400 ",
+        Rate2::R7200 => b"frame2 7200 ",
+        Rate2::R3600 => b"frame2 3600 ",
+        Rate2::R1800 => b"frame2 1800 ",
+    }
+}

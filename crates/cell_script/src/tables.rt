@@ -1,0 +1,160 @@
+//! The fields of statements, which reading and its definition both go by.
+
+use sync_message::{FREQ_FIELD, SYNC_FIELDS};
+
+/// A field that holds a number: its key, with which it begins, and the greatest number.
+#[derive(Clone, Copy)]
+pub struct NumberField {
+    /// What stands before the number: ` name=`, with the statement's word before the first.
+    pub key: &'static [u8],
+    /// The greatest number that it admits.
+    pub most: u64,
+}
+
+/// How the value of a field is written, and in which range it lies.
+#[derive(Clone, Copy)]
+pub enum FieldForm {
+    /// A number of at most this.
+    UpTo(u64),
+    /// A number with a sign, from -32,768 to 32,767.
+    Signed,
+    /// A state of the long code, in eleven hex digits.
+    State,
+    /// An electronic serial number, in eight hex digits.
+    SerialNumber,
+}
+
+/// A field of a statement: its key, with which it begins, and the form of its value.
+#[derive(Clone, Copy)]
+pub struct StatementField {
+    /// What stands before the value: ` name=`, with the statement's word before the first.
+    pub key: &'static [u8],
+    /// How the value is written.
+    pub form: FieldForm,
+}
+
+/// The fields of a `cell` line, in their order.
+pub const CELL_FIELDS: [StatementField; 4] = [
+    StatementField {
+        key: b"cell pn=",
+        form: FieldForm::UpTo(511),
+    },
+    StatementField {
+        key: b" time=",
+        form: FieldForm::UpTo(34_359_738_368),
+    },
+    StatementField {
+        key: b" lc=",
+        form: FieldForm::State,
+    },
+    StatementField {
+        key: b" checks=",
+        form: FieldForm::UpTo(3),
+    },
+];
+
+/// The fields of a `link` line, in their order.
+pub const LINK_FIELDS: [StatementField; 4] = [
+    StatementField {
+        key: b"link re=",
+        form: FieldForm::Signed,
+    },
+    StatementField {
+        key: b" im=",
+        form: FieldForm::Signed,
+    },
+    StatementField {
+        key: b" start=",
+        form: FieldForm::UpTo(4_294_967_295),
+    },
+    StatementField {
+        key: b" samples=",
+        form: FieldForm::UpTo(18_446_744_073_709_551_615),
+    },
+];
+
+/// The fields of a `pilot` line.
+pub const PILOT_FIELDS: [StatementField; 1] = [StatementField {
+    key: b"pilot gain=",
+    form: FieldForm::UpTo(65_535),
+}];
+
+/// The fields of a `paging` line, in their order.
+pub const PAGING_FIELDS: [StatementField; 2] = [
+    StatementField {
+        key: b"paging channel=",
+        form: FieldForm::UpTo(7),
+    },
+    StatementField {
+        key: b" gain=",
+        form: FieldForm::UpTo(65_535),
+    },
+];
+
+/// The fields of a `traffic` line, in their order.
+pub const TRAFFIC_FIELDS: [StatementField; 4] = [
+    StatementField {
+        key: b"traffic row=",
+        form: FieldForm::UpTo(63),
+    },
+    StatementField {
+        key: b" esn=",
+        form: FieldForm::SerialNumber,
+    },
+    StatementField {
+        key: b" offset=",
+        form: FieldForm::UpTo(15),
+    },
+    StatementField {
+        key: b" gain=",
+        form: FieldForm::UpTo(65_535),
+    },
+];
+
+/// The numbers of a `sync` line that it always has, in their order: the channel's gain, and then
+/// the fields of the message with the ranges of their widths, but for those that each sending fills
+/// in (TIA/EIA-95-B, 7.7.1.3). Their keys are ` name=` by the message's table.
+pub const SYNC_NUMBERS: [NumberField; 9] = [
+    NumberField {
+        key: b"sync gain=",
+        most: 65_535,
+    },
+    NumberField {
+        key: b" prev=",
+        most: (1 << SYNC_FIELDS[0].width) - 1,
+    },
+    NumberField {
+        key: b" min=",
+        most: (1 << SYNC_FIELDS[1].width) - 1,
+    },
+    NumberField {
+        key: b" sid=",
+        most: (1 << SYNC_FIELDS[2].width) - 1,
+    },
+    NumberField {
+        key: b" nid=",
+        most: (1 << SYNC_FIELDS[3].width) - 1,
+    },
+    NumberField {
+        key: b" lp=",
+        most: (1 << SYNC_FIELDS[7].width) - 1,
+    },
+    NumberField {
+        key: b" ltm=",
+        most: (1 << SYNC_FIELDS[8].width) - 1,
+    },
+    NumberField {
+        key: b" daylt=",
+        most: (1 << SYNC_FIELDS[9].width) - 1,
+    },
+    NumberField {
+        key: b" prat=",
+        most: (1 << SYNC_FIELDS[10].width) - 1,
+    },
+];
+
+/// The frequency of a `sync` line, which may be left out.
+pub const FREQ_NUMBER: NumberField = NumberField {
+    key: b" freq=",
+    most: (1 << FREQ_FIELD.width) - 1,
+};

@@ -1,0 +1,248 @@
+//! The texts of values in a script.
+
+ghost use Rattle.std.specs.Prelude.{◌≡◌, ◌≤◌, ◌<◌, ◌+◌, ◌*◌, ◌-◌, ◌^◌, ℕ, true, length};
+ghost use Rattle.std.specs.Prelude.{take, drop};
+ghost use Rattle.std.specs.Prelude.{codes, Some, None, IfSome, unsigned_abs, flat_map};
+ghost use Rattle.std.specs.Char.{is_ascii_digit};
+ghost use Rattle.chip_core.specs.Bits.{binary};
+ghost use Rattle.long_code.specs.LongCode.{IsState};
+ghost use Rattle.cell_script.specs.ScriptValues.{all_clear, begins_with, behind, binary_digit};
+ghost use Rattle.cell_script.specs.ScriptValues.{bits_in, commands_in, serial_number_in};
+ghost use Rattle.cell_script.specs.ScriptValues.{hex_bits, hex_digit, hex_from, is_plain};
+ghost use Rattle.cell_script.specs.ScriptValues.{length_before, negative, number_in};
+ghost use Rattle.cell_script.specs.ScriptValues.{number_up_to, signed_in, state_in, unpadded};
+
+use chip_core::{Bits, digits_in};
+use long_code::State;
+
+/// How many octets hold the bits of the longest list.
+const MOST_OCTETS: usize = 148;
+
+/// How many bytes of a text stand before the first mark; all where it has none.
+pub(crate) fn length_before(text: &[u8], mark: u8) -> usize
+    ensures value { result ≡ length_before mark text.now }
+    ensures most { result ≤ length text.now }
+{
+    let mut length = 0;
+    for &byte in text {
+        if byte == mark {
+            return length;
+        }
+        length += 1;
+    }
+    length
+}
+
+/// Whether a text begins with another one.
+pub(crate) fn begins_with(text: &[u8], front: &[u8]) -> bool
+    ensures { result ≡ begins_with text.now front.now }
+{
+    text.strip_prefix(front).is_some()
+}
+
+/// The number that a text spells in decimal without leading zeros, if it is at most `most`.
+#[tactic(auto, unfolding(crate::specs::ScriptValues::number_up_to))]
+pub(crate) fn number_up_to(text: &[u8], most: u64) -> Option<u64>
+    ensures value { result ≡ number_up_to most text.now }
+    ensures range { IfSome result (λ n. n ≤ most) }
+{
+    let number = number_in(text)?;
+    if number > u128::from(most) {
+        return None;
+    }
+    Some(number as u64)
+}
+
+/// The number that 1 to 20 digits spell.
+fn number_in(text: &[u8]) -> Option<u128>
+    ensures { result ≡ number_in text.now }
+{
+    if !is_plain(text) {
+        return None;
+    }
+    digits_in(text)
+}
+
+/// Whether a text has 1 to 20 bytes, and no 0 before others.
+fn is_plain(text: &[u8]) -> bool
+    ensures value { result ≡ is_plain text.now }
+    ensures short { result ≡ true → length text.now ≤ 20 }
+{
+    if text.len() < 2 {
+        return text.len() == 1;
+    }
+    if text.len() > 20 {
+        return false;
+    }
+    text[0] != b'0'
+}
+
+/// The number with a sign that a text spells, from -32,768 to 32,767; `-0` isn't one.
+#[tactic(auto, unfolding(crate::specs::ScriptValues::signed_in))]
+pub(crate) fn signed_in(text: &[u8]) -> Option<i64>
+    ensures value { result ≡ signed_in text.now }
+    ensures range { IfSome result (λ n. unsigned_abs n ≤ 32768) }
+{
+    match text.strip_prefix(b"-") {
+        Some(digits) => negative(number_up_to(digits, 32_768)?),
+        None => Some(number_up_to(text, 32_767)? as i64),
+    }
+}
+
+/// The negative number of this size.
+fn negative(size: u64) -> Option<i64>
+    requires { size ≤ 32768 }
+    ensures value { result ≡ negative size }
+    ensures range { IfSome result (λ n. unsigned_abs n ≤ 32768) }
+{
+    if size == 0 {
+        return None;
+    }
+    Some(-(size as i64))
+}
+
+/// The state of the long code that eleven hex digits spell.
+#[tactic(auto, unfolding(crate::specs::ScriptValues::state_in))]
+pub(crate) fn state_in(text: &[u8]) -> Option<u64>
+    ensures value { result ≡ state_in text.now }
+    ensures range { IfSome result IsState }
+{
+    if text.len() != 11 {
+        return None;
+    }
+    let state = State::new(hex_in(text)?)?;
+    Some(state.value())
+}
+
+/// The electronic serial number that eight hex digits spell.
+#[tactic(auto, unfolding(crate::specs::ScriptValues::serial_number_in))]
+pub(crate) fn serial_number_in(text: &[u8]) -> Option<u64>
+    ensures value { result ≡ serial_number_in text.now }
+    ensures range { IfSome result (λ n. n < 2 ^ 32) }
+{
+    if text.len() != 8 {
+        return None;
+    }
+    hex_in(text)
+}
+
+/// The number that hex digits spell.
+fn hex_in(text: &[u8]) -> Option<u64>
+    requires { length text.now ≤ 11 }
+    ensures value { result ≡ hex_from 0 text.now }
+    ensures range { IfSome result (λ n. n < 16 ^ length text.now) }
+{
+    let mut number = 0;
+    for &digit in text {
+        number = with_hex_digit(number, hex_digit(digit)?);
+    }
+    Some(number)
+}
+
+/// The value of a hex digit of either case.
+fn hex_digit(byte: u8) -> Option<u8>
+    ensures value { result ≡ hex_digit byte }
+    ensures range { IfSome result (λ n. n < 16) }
+{
+    let value = char::from(byte).to_digit(16)?;
+    Some(value as u8)
+}
+
+/// A number with one more hex digit behind it.
+fn with_hex_digit(number: u64, digit: u8) -> u64
+    requires number { number < 16 ^ 11 }
+    requires digit { digit < 16 }
+    ensures value { result ≡ 16 * number + digit }
+    ensures most { result ≤ 16 * number + 15 }
+{
+    16 * number + u64::from(digit)
+}
+
+/// The bit that a digit is; `None` for other digits than 0 and 1.
+fn binary_digit(byte: u8) -> Option<bool>
+    ensures { result ≡ binary_digit byte }
+{
+    match byte {
+        b'0' => Some(false),
+        b'1' => Some(true),
+        _ => None,
+    }
+}
+
+/// The bits of sixteen digits 0 or 1.
+pub(crate) fn commands_in(text: &[u8]) -> Option<[bool; 16]>
+    ensures { result ≡ commands_in text.now }
+{
+    if text.len() != 16 {
+        return None;
+    }
+    let mut commands = [false; 16];
+    for (k, &digit) in text.iter().enumerate() {
+        commands[k] = binary_digit(digit)?;
+    }
+    Some(commands)
+}
+
+/// The bits of a text `N:HEX`: N of them, at most 1,184, in two hex digits of either case for each
+/// octet of them, padded at the end with zero bits.
+#[tactic(auto, unfolding(crate::specs::ScriptValues::bits_in))]
+pub(crate) fn bits_in(text: &[u8]) -> Option<Bits>
+    ensures { result ≡ bits_in text.now }
+{
+    let colon = length_before(text, b':');
+    let count = number_up_to(&text[..colon], 1184)?;
+    let digits = text[colon..].strip_prefix(b":")?;
+    unpadded(count as u16, &hex_bits(digits)?)
+}
+
+/// The bits that hex digits spell.
+#[tactic(auto, unfolding(crate::specs::ScriptValues::hex_bits))]
+fn hex_bits(digits: &[u8]) -> Option<Bits>
+    ensures { result ≡ hex_bits digits.now }
+{
+    if digits.len() > 2 * MOST_OCTETS {
+        return None;
+    }
+    let mut octets = [0; MOST_OCTETS];
+    let octets = &mut octets[..digits.len() / 2];
+    match hex::decode_to_slice(digits, octets) {
+        Ok(()) => Some(bits_of(octets)),
+        Err(_) => None,
+    }
+}
+
+/// The bits of octets, each with its highest bit first.
+fn bits_of(octets: &[u8]) -> Bits
+    requires { length octets.now ≤ 148 }
+    ensures { result ≡ flat_map (binary 8) octets.now }
+{
+    let mut bits = Bits::empty();
+    for &octet in octets {
+        bits.append_number(8, u64::from(octet));
+    }
+    bits
+}
+
+/// The first so many bits of octets, if there are just as many octets as they need, and the bits
+/// behind them are 0.
+fn unpadded(count: u16, bits: &Bits) -> Option<Bits>
+    requires { count ≤ 1184 }
+    ensures { result ≡ unpadded count bits.now }
+{
+    if bits.len() < count || bits.len() >= count + 8 || !is_clear_from(bits, count) {
+        return None;
+    }
+    Some(bits.part(0, count))
+}
+
+/// Whether all bits from a place on are 0.
+fn is_clear_from(bits: &Bits, from: u16) -> bool
+    ensures { result ≡ all_clear (drop from bits.now) }
+{
+    for place in from..bits.len() {
+        if bits.get(place) {
+            return false;
+        }
+    }
+    true
+}

@@ -1,0 +1,90 @@
+-- Texts of whole lines that lead from one draft to another.
+use Rattle.std.proofs.Common.{◌≡◌, ℕ, ◌+◌, ◌-◌, true, List, []}
+use Rattle.std.proofs.Common.{◌∷◌, ◌++◌, length, take, refl, sym, ap, ◌∙◌, arith, Option, Some}
+use Rattle.std.proofs.Common.{append_assoc, length-append, Ok, append-nil}
+use Rattle.std.specs.Prelude.{option_and_then, ok_or}
+use Rattle.std.proofs.Math.Seq.{take-append_seam}
+use Rattle.cell_plan.specs.declared.plan.CellPlan.{CellPlan}
+use Rattle.cell_script.specs.declared.statements.Statement.{Statement}
+use Rattle.cell_script.specs.Script.{draft_after, lines, stated, stated_plan}
+use Rattle.cell_script.specs.ScriptDrafts.{Draft, empty_draft, plan_at, with_line, with_next}
+use Rattle.cell_script.specs.ScriptLines.{statement_in}
+use Rattle.trial_link.specs.Trial.{ended}
+use Rattle.cell_script.proofs.ScriptSplits.{draft_after-line, lines-append, stated-next, stated-none}
+use Rattle.trial_link.proofs.SpelledBytes.{are_within, is_line-within}
+
+-- ---- one line
+
+with_line-of : (draft : Draft) (text : List ℕ) (statement : Statement) →
+    statement_in text ≡ Some statement → with_line draft text ≡ with_next draft statement
+unfolding with_line
+with_line-of draft text statement is = ap (option_and_then (with_next draft)) is
+
+-- how long a line is
+pub ended_long : (text : List ℕ) → length (ended text) ≡ length text + 1
+ended_long text = length-append text (10 ∷ [])
+
+line_text : (text : List ℕ) → take (length (ended text) - 1) (ended text) ≡ text
+line_text text =
+    let long : length (ended text) - 1 ≡ length text =
+    omega (arith, length-append text (10 ∷ [])) in
+    ap (λ (n : ℕ). take n (ended text)) long ∙ take-append_seam text (10 ∷ [])
+
+-- ---- lines behind one another
+
+-- from a draft and a text on, the lines state what those behind the text state from the next draft
+-- on
+pub record Leads (draft : Draft) (text : List ℕ) (next : Draft) : Type 0 where
+  pub on : (n : ℕ) (behind : List ℕ) →
+      (m : ℕ) × (stated draft n (lines (text ++ behind)) ≡ stated next m (lines behind))
+
+-- one line
+pub one_leads : (draft next : Draft) (text : List ℕ) (statement : Statement) →
+    are_within 32 126 text ≡ true → statement_in text ≡ Some statement →
+    with_next draft statement ≡ Some next → Leads draft (ended text) next
+one_leads draft next text statement are is behind_it =
+    let line = is_line-within text are in
+    let after : draft_after draft (ended text) ≡ Some next =
+    draft_after-line draft (ended text) line ∙ ap (with_line draft) (line_text text)
+    ∙ with_line-of draft text statement is ∙ behind_it in
+    record {
+      on = λ n behind. (
+        n + 1,
+        ap (stated draft n) (lines-append (ended text) behind line)
+            ∙ stated-next draft next n (ended text) (lines behind) after,
+      );
+    }
+
+-- lines behind lines
+pub both_lead : (draft middle next : Draft) (first second : List ℕ) → Leads draft first middle →
+    Leads middle second next → Leads draft (first ++ second) next
+both_lead draft middle next first second one two =
+    record {
+      on = λ n behind.
+          let a = one.on n (second ++ behind) in
+          let b = two.on a.0 behind in (
+            b.0,
+            ap (λ (t : List ℕ). stated draft n (lines t)) (append_assoc first second behind)
+                ∙ a.1 ∙ b.1,
+          );
+    }
+
+-- no lines
+pub none_leads : (draft : Draft) → Leads draft [] draft
+none_leads draft = record { on = λ n behind. (n, refl) }
+
+lines-none : lines [] ≡ []
+unfolding lines
+lines-none = refl
+
+-- a text that leads to a whole plan states it
+pub leads_to_plan : (text : List ℕ) (draft : Draft) (plan : CellPlan) →
+    Leads empty_draft text draft → plan_at draft ≡ Some plan → stated_plan text ≡ Ok plan
+unfolding stated_plan
+leads_to_plan text draft plan leads is =
+    let all = leads.on 1 [] in
+    ap (λ (t : List ℕ). stated empty_draft 1 (lines t)) (sym (append-nil text))
+    ∙ all.1
+    ∙ ap (stated draft all.0) lines-none
+    ∙ stated-none draft all.0
+    ∙ ap (λ (p : Option CellPlan). ok_or p all.0) is

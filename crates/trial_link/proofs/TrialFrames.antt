@@ -1,0 +1,167 @@
+-- The lines of a traffic channel with its frames, and the draft that they lead to.
+use Rattle.std.proofs.Common.{◌≡◌, ℕ, ◌+◌, ◌*◌, ◌%◌, ◌<◌, ◌≤◌, ◌==◌, List, [], ◌∷◌}
+use Rattle.std.proofs.Common.{◌++◌, length, map, refl, sym, ap, ◌∙◌, arith, subst, Some}
+use Rattle.std.proofs.Common.{append_assoc, append-nil, length-append, option_map}
+use Rattle.std.proofs.lemmas.List.FromFn.{length-map-range_with_len}
+use Rattle.chip_core.specs.Bits.{places}
+use Rattle.cell_plan.specs.declared.plan.CellPlan.{CellPlan}
+use Rattle.cell_plan.specs.declared.plan.TrafficPlan.{TrafficPlan}
+use Rattle.cell_script.specs.declared.stage.Stage.{Stage}
+use Rattle.cell_script.specs.declared.stage.Stage.TheVariants.{FirstFrame, Frames}
+use Rattle.cell_script.specs.declared.statements.Statement.TheVariants as statements
+use Rattle.cell_script.specs.declared.statements.TrafficLine.{TrafficLine}
+use Rattle.cell_plan.specs.declared.traffic_frame.TrafficFrame.{TrafficFrame}
+use Rattle.cell_script.specs.ScriptDrafts.{Draft, draft_at, with_frame, with_next}
+use Rattle.cell_plan.specs.TrafficFrames.{with_one}
+use Rattle.cell_script.specs.ScriptStages.{after_frame, after_traffic}
+use Rattle.trial_link.specs.Spelling.{frame_text, traffic_text}
+use Rattle.cell_plan.specs.TrafficFrames.{IsTrafficFrame}
+use Rattle.trial_link.specs.Trial.{behind_draw, behind_draws, behind_frames, bits_drawn}
+use Rattle.trial_link.specs.Trial.{bits_of_frame, channel_of, channel_text, drawn, ended}
+use Rattle.trial_link.specs.Trial.{frame_drawn, frame_lines, frames_drawn}
+use Rattle.cell_script.proofs.ScriptFrames.{on_last-last}
+use Rattle.trial_link.proofs.SpelledLines.{IsStatedLine, frame_line_within, frame_spelled}
+use Rattle.trial_link.proofs.SpelledLines.{frame_text_short, traffic_line_within}
+use Rattle.trial_link.proofs.SpelledLines.{traffic_spelled, traffic_text_short}
+use Rattle.trial_link.proofs.StatedLines.{Leads, both_lead, ended_long, none_leads, one_leads}
+
+-- frames that lines can tell
+abbrev pub AreToldFrames : List TrafficFrame → Type 0
+AreToldFrames [] = Unit {0}
+AreToldFrames (f ∷ frames) =
+    IsTrafficFrame f × (length f.commands ≡ 16) × AreToldFrames frames
+
+-- a plan whose last traffic channel has these frames
+abbrev pub with_last : CellPlan → List TrafficPlan → TrafficLine → List TrafficFrame → CellPlan
+with_last plan before line frames =
+    record plan { traffic = before ++ channel_of line frames ∷ [] }
+
+abbrev pub on_frames : CellPlan → List TrafficPlan → TrafficLine → List TrafficFrame → Draft
+on_frames plan before line frames = draft_at (with_last plan before line frames) Frames
+
+frame_next : (plan : CellPlan) (stage : Stage) (f : TrafficFrame) →
+    after_frame stage ≡ Some Frames →
+    with_next (draft_at plan stage) (statements.Frame f)
+    ≡ Some (draft_at (record plan { traffic = with_frame plan.traffic f }) Frames)
+unfolding with_next
+frame_next plan stage f is =
+    ap (option_map (draft_at (record plan { traffic = with_frame plan.traffic f }))) is
+
+frame_added : (plan : CellPlan) (before : List TrafficPlan) (line : TrafficLine)
+    (got : List TrafficFrame) (f : TrafficFrame) (stage : Stage) →
+    after_frame stage ≡ Some Frames →
+    with_next (draft_at (with_last plan before line got) stage) (statements.Frame f)
+    ≡ Some (on_frames plan before line (got ++ f ∷ []))
+frame_added plan before line got f stage is =
+    frame_next (with_last plan before line got) stage f is
+    ∙ ap (λ (ts : List TrafficPlan). Some (draft_at (record plan { traffic = ts }) Frames))
+    (on_last-last (with_one f) before (channel_of line got))
+
+frame_leads : (plan : CellPlan) (before : List TrafficPlan) (line : TrafficLine)
+    (got : List TrafficFrame) (f : TrafficFrame) (stage : Stage) →
+    after_frame stage ≡ Some Frames → IsTrafficFrame f → length f.commands ≡ 16 →
+    Leads (draft_at (with_last plan before line got) stage) (ended (frame_text f))
+    (on_frames plan before line (got ++ f ∷ []))
+frame_leads plan before line got f stage is long sixteen =
+    one_leads (draft_at (with_last plan before line got) stage)
+    (on_frames plan before line (got ++ f ∷ [])) (frame_text f) (statements.Frame f)
+    (frame_line_within f long) (frame_spelled f long sixteen)
+    (frame_added plan before line got f stage is)
+
+frames_lead : (plan : CellPlan) (before : List TrafficPlan) (line : TrafficLine)
+    (got frames : List TrafficFrame) → AreToldFrames frames →
+    Leads (on_frames plan before line got) (frame_lines frames)
+    (on_frames plan before line (got ++ frames))
+frames_lead plan before line got [] are =
+    subst (λ (fs : List TrafficFrame). Leads (on_frames plan before line got) []
+    (on_frames plan before line fs)) (sym (append-nil got))
+    (none_leads (on_frames plan before line got))
+frames_lead plan before line got (f ∷ frames) are =
+    subst (λ (fs : List TrafficFrame).
+    Leads (on_frames plan before line got) (frame_lines (f ∷ frames))
+    (on_frames plan before line fs)) (append_assoc got (f ∷ []) frames)
+    (both_lead (on_frames plan before line got) (on_frames plan before line (got ++ f ∷ []))
+    (on_frames plan before line ((got ++ f ∷ []) ++ frames)) (ended (frame_text f))
+    (frame_lines frames)
+    (frame_leads plan before line got f Frames refl are.0 are.1)
+    (frames_lead plan before line (got ++ f ∷ []) frames are.2))
+
+-- ---- a channel
+
+traffic_next : (plan : CellPlan) (stage : Stage) (line : TrafficLine) →
+    after_traffic stage ≡ Some FirstFrame →
+    with_next (draft_at plan stage) (statements.Traffic line)
+    ≡ Some (draft_at (with_last plan plan.traffic line []) FirstFrame)
+unfolding with_next
+traffic_next plan stage line is =
+    ap (option_map (draft_at (with_last plan plan.traffic line []))) is
+
+-- a traffic channel with its frames: one channel more
+pub channel_leads : (plan : CellPlan) (stage : Stage) (line : TrafficLine)
+    (frames : List TrafficFrame) → after_traffic stage ≡ Some FirstFrame → IsStatedLine line →
+    AreToldFrames frames → 0 < length frames →
+    Leads (draft_at plan stage) (channel_text line frames)
+    (on_frames plan plan.traffic line frames)
+channel_leads plan stage line [] is stated are some = absurd (omega (arith, some))
+channel_leads plan stage line (f ∷ frames) is stated are some =
+    let opened = draft_at (with_last plan plan.traffic line []) FirstFrame in
+    both_lead (draft_at plan stage) opened (on_frames plan plan.traffic line (f ∷ frames))
+    (ended (traffic_text line)) (frame_lines (f ∷ frames))
+    (one_leads (draft_at plan stage) opened (traffic_text line) (statements.Traffic line)
+    (traffic_line_within line stated) (traffic_spelled line stated)
+    (traffic_next plan stage line is))
+    (both_lead opened (on_frames plan plan.traffic line (f ∷ []))
+    (on_frames plan plan.traffic line (f ∷ frames)) (ended (frame_text f)) (frame_lines frames)
+    (frame_leads plan plan.traffic line [] f FirstFrame refl are.0 are.1)
+    (frames_lead plan plan.traffic line (f ∷ []) frames are.2))
+
+frame_lines_short : (frames : List TrafficFrame) → AreToldFrames frames →
+    length (frame_lines frames) ≤ 301 * length frames
+frame_lines_short [] are = omega arith
+frame_lines_short (f ∷ frames) are =
+    omega (
+      arith,
+      length-append (ended (frame_text f)) (frame_lines frames),
+      ended_long (frame_text f),
+      frame_text_short f are.0 are.1,
+      frame_lines_short frames are.2,
+    )
+
+-- its lines are short
+pub channel_short : (line : TrafficLine) (frames : List TrafficFrame) → IsStatedLine line →
+    AreToldFrames frames → length (channel_text line frames) ≤ 201 + 301 * length frames
+channel_short line frames is are =
+    omega (
+      arith,
+      length-append (ended (traffic_text line)) (frame_lines frames),
+      ended_long (traffic_text line),
+      traffic_text_short line is,
+      frame_lines_short frames are,
+    )
+
+-- ---- frames that are drawn
+
+bits_drawn-long : (state n : ℕ) → length (bits_drawn state n) ≡ n
+unfolding bits_drawn places
+bits_drawn-long state n =
+    length-map-range_with_len (λ k. drawn (behind_draws state k) % 2 == 1) 0 n
+
+drawn_are : (state : ℕ) (ks : List ℕ) →
+    AreToldFrames (map (λ k. frame_drawn (behind_frames state k)) ks)
+drawn_are state [] = tt
+drawn_are state (k ∷ ks) =
+    let from = behind_frames state k in (
+      bits_drawn-long (behind_draw from) (bits_of_frame from),
+      bits_drawn-long (behind_draws (behind_draw from) (bits_of_frame from)) 16,
+      drawn_are state ks,
+    )
+
+-- frames that are drawn can be told, and how many they are
+pub frames_drawn_are : (state n : ℕ) → AreToldFrames (frames_drawn state n)
+unfolding frames_drawn
+frames_drawn_are state n = drawn_are state (places n)
+
+pub frames_drawn-long : (state n : ℕ) → length (frames_drawn state n) ≡ n
+unfolding frames_drawn places
+frames_drawn-long state n =
+    length-map-range_with_len (λ k. frame_drawn (behind_frames state k)) 0 n

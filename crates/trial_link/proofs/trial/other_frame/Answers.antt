@@ -1,0 +1,14 @@
+use Rattle.std.proofs.Common.{length, ap, arith, length-append}
+use Rattle.chip_core.specs.Bits.{binary}
+use Rattle.chip_core.proofs.FieldLists.{length-binary}
+use Rattle.trial_link.proofs.trial.other_frame.Goals as goal
+
+pub sixteen-requires : goal.sixteen-requires
+sixteen-requires c =
+    omega (
+      arith,
+      ap length c.append_number-2.ensures,
+      length-append c.empty-commands.result (binary 16 0x5555),
+      length-binary 16 0x5555,
+      ap length c.empty-commands.ensures,
+    )
