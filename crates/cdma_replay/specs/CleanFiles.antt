@@ -10,7 +10,7 @@ use Rattle.cell_plan.specs.Transmitter.{phase_at}
 use Rattle.cell_plan.specs.declared.plan.CellPlan.{CellPlan}
 use Rattle.cell_script.specs.Script.{plan_named}
 use Rattle.mobile_core.specs.Events.{events}
-use Rattle.mobile_core.specs.declared.settings.Traffic.{Traffic}
+use Rattle.chip_core.specs.declared.assignment.Traffic.{Traffic}
 use Rattle.clean_link.specs.CleanLink.{IsNotDirected, tuning_to}
 
 -- A file holds what a script's cell sends: its flags and samples are the cell's, the search finds
