@@ -10,8 +10,6 @@ ghost use Rattle.base_modulator.specs.Script.{plan_named};
 ghost use Rattle.cdma_replay.specs.Find.{ended};
 ghost use Rattle.cdma_replay.specs.Make.{WritesMadeFile, WritesNoMoreMade};
 
-#[cfg(test)]
-mod tests;
 mod writing;
 
 use crate::status::Status;
