@@ -12,6 +12,7 @@ use Rattle.frame_decoder.specs.TrafficFrames.{unreplaced}
 use Rattle.symbol_path.specs.declared.rate_two.Rate2.{Rate2}
 use Rattle.symbol_path.specs.declared.rate_two.Rate2.TheVariants.{R14400, R7200, R3600, R1800}
 use Rattle.rate_set_two.specs.declared.traffic.Decoded2.{Decoded2}
+use Rattle.symbol_path.specs.FramesTwo.{quality_indicator, word_bits}
 use Rattle.symbol_path.specs.RatesTwo.{information_of, quality_of, quality_length, frame_bits}
 use Rattle.symbol_path.specs.SentOrderTwo.{sent2}
 
