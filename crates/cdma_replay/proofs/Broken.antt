@@ -12,7 +12,9 @@ use Rattle.cdma_io.specs.declared.file_fault.FileFault.TheVariants.{Short, Extra
 use Rattle.cdma_io.specs.declared.header.Header.{Header}
 use Rattle.chip_core.specs.declared.width.Width.{Width}
 use Rattle.chip_core.specs.declared.width.Width.TheVariants.{Eight, Sixteen}
-use Rattle.cdma_io.specs.SampleFile.{CutsShort, IsLawfulHeader, Opens, Reading, header_spelling}
+use Rattle.cdma_io.specs.SampleFile.{CutsShort, HasBits, IsLawfulHeader, Opens, Reading}
+use Rattle.cdma_io.specs.SampleFile.{header_spelling}
+use Rattle.std.proofs.lemmas.List.Elements.{All-append}
 use Rattle.cdma_io.specs.SampleFile.{opening, sample_len, sample_spelling, width_of}
 use Rattle.cdma_io.proofs.Opening.{opening-spelled, length-header_spelling}
 use Rattle.cdma_io.proofs.Spelling.{length-samples, sample_len-mono}
@@ -150,11 +152,11 @@ pub has_written : {taps : List KeptTap} {r : Reception} {header : Header} {sampl
     Tells l other behind heard (heard ++ samples) between later) →
     (heard : HearsFirst (listening taps r.purpose header samples) (width_of header) counted most
     samples (Some more) left later new) →
-    number (length (samples ++ heard.samples)) →
+    number (length (samples ++ heard.samples)) → length (samples ++ heard.samples) ≤ header.count →
     HasWritten taps r header bytes number old new
-has_written {taps} {r} {header} {samples} bytes more None number begun tells heard fits =
+has_written {taps} {r} {header} {samples} bytes more None number begun tells heard fits most =
     absurd heard.consumed
-has_written {taps} {r} {header} {samples} bytes more (Some after) number begun tells heard fits =
+has_written {taps} {r} {header} {samples} bytes more (Some after) number begun tells heard fits most =
     let first = tells (listening taps r.purpose header samples) [] begun.listens in
     let front = header_spelling header in
     let spelled = flat_map (sample_spelling (width_of header)) in
@@ -162,8 +164,12 @@ has_written {taps} {r} {header} {samples} bytes more (Some after) number begun t
     let behind = heard.more ++ after in
     record {
       samples = samples ++ others;
+      lawful = begun.lawful;
       enough = omega (arith, length-append samples others, begun.counted);
+      most = most;
       number = fits;
+      in_range =
+          All-append (HasBits (width_of header)) samples others begun.in_range heard.in_range;
       first = front_begins bytes (front ++ spelled (samples ++ others)) behind
           (begun.consumed
           ∙ ap (λ (bs : List ℕ). (front ++ spelled samples) ++ bs)
@@ -191,24 +197,24 @@ same_header bytes more header also samples lawful is opened =
 
 -- where a file breaks off, or a read fails, fewer samples are missing than are read at once
 pub writes_first : {taps : List KeptTap} {r : Reception} {header : Header} {samples : List Sample}
-    {one other : Listener} {kept behind : List KeptTap} {counted : ℕ → Type 0}
+    {count : ℕ} {one other : Listener} {kept behind : List KeptTap}
     (rest mid left old : Option (List ℕ)) {between later : Option (List ℕ)} (new : Option (List ℕ)) →
-    IsLawfulHeader header →
+    IsLawfulHeader header → count + r.span ≡ header.count →
     HasBegun taps r header samples one kept rest mid old between →
     ((l : Listening) (heard : List Sample) → Listens l one kept heard →
     Tells l other behind heard (heard ++ samples) between later) →
     ((l : Listening) (heard : List Sample) → Listens l other behind heard →
-    HearsFirst l (width_of header) counted (sample_len (width_of header) * 4096) heard mid left later
-    new) →
+    HearsFirst l (width_of header) (λ k. k ≤ count) (sample_len (width_of header) * 4096) heard mid left
+    later new) →
     WritesFirst taps r rest left old new
-writes_first None mid left old new lawful begun tells hears = tt
-writes_first (Some bytes) None left old new lawful begun tells hears = absurd begun.consumed
-writes_first {taps} {r} {header} {samples} (Some bytes) (Some more) None old new lawful begun tells
-    hears =
+writes_first None mid left old new lawful counts begun tells hears = tt
+writes_first (Some bytes) None left old new lawful counts begun tells hears = absurd begun.consumed
+writes_first {taps} {r} {header} {samples} (Some bytes) (Some more) None old new lawful counts begun
+    tells hears =
     let l = listening taps r.purpose header samples in
     absurd (hears l samples (tells l [] begun.listens).listens).consumed
-writes_first {taps} {r} {header} {samples} (Some bytes) (Some more) (Some after) old {between}
-    {later} new lawful begun tells hears =
+writes_first {taps} {r} {header} {samples} {count} (Some bytes) (Some more) (Some after) old {between}
+    {later} new lawful counts begun tells hears =
     λ (also : Header) (taken : List ℕ) (n : ℕ) (opened : opening bytes ≡ Ok also)
     (consumed : bytes ≡ taken ++ after)
     (long : 16 + sample_len (width_of also) * n ≤ length taken) (enough : r.span ≤ n) (some : 0 < n).
@@ -220,28 +226,41 @@ writes_first {taps} {r} {header} {samples} (Some bytes) (Some more) (Some after)
     let same = same_header bytes more header also samples lawful begun.consumed opened in
     let long : 16 + sample_len width * n ≤ length taken =
     subst (λ (h : Header). 16 + sample_len (width_of h) * n ≤ length taken) (sym same) long in
-    let bytes_of : sample_len width * n ≤
-    sample_len width * (length samples + length heard.samples + 4096) =
+    let others = heard.samples in
+    let fewer : length others ≤ count = heard.number in
+    let taken_is : length taken ≡
+    16 + sample_len width * length samples + sample_len width * length others + length heard.more =
     omega (
       arith,
-      long,
       lost bytes after taken consumed,
       lost bytes more (front ++ spelled samples) begun.consumed,
       length-append front (spelled samples),
       length-header_spelling header,
       length-samples width samples,
-      lost more after (spelled heard.samples ++ heard.more) heard.consumed,
-      length-append (spelled heard.samples) heard.more,
-      length-samples width heard.samples,
-      heard.few,
+      lost more after (spelled others ++ heard.more) heard.consumed,
+      length-append (spelled others) heard.more,
+      length-samples width others,
     ) in
-    subst (λ (h : Header). HasWritten taps r h bytes (λ k. n ≤ k + 4096) old new) same
-    (has_written bytes more (Some after) (λ (k : ℕ). n ≤ k + 4096) begun tells heard
-    (omega (
-      arith,
-      length-append samples heard.samples,
-      no_fewer width n (length samples + length heard.samples + 4096) bytes_of,
-    )))
+    let both : sample_len width * length (samples ++ others) ≡
+    sample_len width * (length samples + length others) =
+    ap (λ (k : ℕ). sample_len width * k) (length-append samples others) in
+    let bytes_of : sample_len width * n ≤
+    sample_len width * (length samples + length others + 4096) =
+    omega (arith, long, taken_is, heard.few) in
+    subst
+    (λ (h : Header). HasWritten taps r h bytes
+    (λ k. (n ≤ k + 4096) × (16 + sample_len (width_of h) * k ≤ length taken)) old new)
+    same
+    (has_written bytes more (Some after)
+    (λ (k : ℕ). (n ≤ k + 4096) × (16 + sample_len width * k ≤ length taken)) begun tells heard (
+      omega (
+        arith,
+        length-append samples others,
+        no_fewer width n (length samples + length others + 4096) bytes_of,
+      ),
+      omega (arith, both, taken_is),
+    )
+    (omega (arith, length-append samples others, begun.counted, fewer, counts)))
 
 -- where a file goes on behind its samples, all of them were told of
 pub writes_all : {taps : List KeptTap} {r : Reception} {header : Header} {samples : List Sample}
@@ -264,6 +283,13 @@ writes_all {taps} {r} {header} {samples} (Some bytes) (Some more) left old {betw
     let same = same_header bytes more header also samples lawful begun.consumed opened in
     subst (λ (h : Header). HasWritten taps r h bytes (λ k. k ≡ h.count) old new) same
     (has_written bytes more left (λ (k : ℕ). k ≡ header.count) begun tells heard
+    (omega (
+      arith,
+      length-append samples heard.samples,
+      heard.number,
+      begun.counted,
+      counted,
+    ))
     (omega (
       arith,
       length-append samples heard.samples,

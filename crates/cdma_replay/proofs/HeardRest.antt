@@ -1,10 +1,9 @@
 -- A listener hears the samples behind the first ones, piece by piece, to the end of the file.
-use Rattle.std.proofs.Common.{◌≡◌, ℕ, ◌-◌, ◌≤◌, ◌++◌, [], List, length, take, sym, subst}
+use Rattle.std.proofs.Common.{◌≡◌, ℕ, ◌+◌, ◌-◌, ◌≤◌, ◌++◌, [], List, length, take, sym, subst}
 use Rattle.std.proofs.Common.{arith, append_assoc, append-nil, length-append, length-take-le, All}
-use Rattle.std.proofs.Common.{IfSome, Option, None, Some}
+use Rattle.std.proofs.Common.{Option}
 use Rattle.std.proofs.lemmas.List.Concat.{flat_map-append}
 use Rattle.std.specs.List.{flat_map}
-use Rattle.std.specs.Io.{StartsWith}
 use Rattle.std.specs.Io.KnownBytes.{Consumes, Keeps}
 use Rattle.std.proofs.KnownBytes.{Consumes-kept, Consumes-nil}
 use Rattle.std.proofs.KnownBytes.{Consumes-trans}
@@ -14,7 +13,6 @@ use Rattle.cdma_io.specs.Outside.{ConsumesAtMost}
 use Rattle.cdma_io.specs.SampleFile.{HasBits, sample_spelling}
 use Rattle.chip_core.specs.declared.sample.Sample.{Sample}
 use Rattle.event_tap.specs.Taps.{KeptTap}
-use Rattle.tuned_listener.proofs.Prefixes.{front_begins}
 use Rattle.cdma_replay.specs.Broken.{HearsFirst}
 use Rattle.cdma_replay.specs.Find.{PassesSamples}
 use Rattle.cdma_replay.proofs.Hearings.{all_part, more_behind, more_none, part_behind}
@@ -114,43 +112,48 @@ hears_all {width} {one} {other} {kept} {behind} {rest} {mid} {left} all now h do
       tells = h.tells l heard is;
     }
 
--- known bytes begin with those that were lost at their front
-consumed_first : (old new : Option (List ℕ)) (bytes : List ℕ) → Consumes old new bytes →
-    IfSome old (λ all. StartsWith all bytes)
-consumed_first None new bytes consumed = tt
-consumed_first (Some all) None bytes consumed = absurd consumed
-consumed_first (Some all) (Some rest) bytes consumed = front_begins all bytes rest consumed
-
--- what was told so far is a part of it
-pub hears_part : {width : Width} {count : ℕ} {one other : Listener} {kept behind : List KeptTap}
-    {rest left old new : Option (List ℕ)} →
-    Hears width count one other kept behind rest left old new →
+-- what was told so far is a part of it, whatever few bytes were taken behind it
+pub hears_part : {width : Width} {count limit : ℕ} {one other : Listener}
+    {kept behind : List KeptTap} {rest mid left old new : Option (List ℕ)} (most : ℕ) →
+    Hears width count one other kept behind rest mid old new → count ≤ most →
+    ConsumesAtMost limit mid left →
     (l : Listening) (heard : List Sample) → Listens l one kept heard →
-    HearsPart l width heard rest old new
-hears_part {width} {count} {one} {other} {kept} {behind} {rest} {left} h l heard is = record {
-  samples = h.passed.samples;
-  first = consumed_first rest left (flat_map (sample_spelling width) h.passed.samples)
-      h.passed.consumed;
-  tells = all_part (h.tells l heard is).more;
-}
+    HearsPart l width most heard rest left old new
+hears_part {width} {count} {limit} {one} {other} {kept} {behind} {rest} {mid} {left} most h few part l
+    heard is = record {
+      samples = h.passed.samples;
+      more = part.bytes;
+      number = omega (arith, h.passed.counted, few);
+      in_range = h.passed.in_range;
+      consumed =
+          Consumes-trans rest mid left (flat_map (sample_spelling width) h.passed.samples)
+          part.bytes h.passed.consumed part.consumed;
+      tells = all_part (h.tells l heard is).more;
+    }
 
 -- a write failed behind what was told so far
 pub hears_stopped : {width same : Width} {count : ℕ} {one other : Listener}
     {kept behind : List KeptTap} {rest mid old between new : Option (List ℕ)}
-    (left : Option (List ℕ)) (more : List Sample) → same ≡ width →
-    Hears width count one other kept behind rest mid old between →
-    Consumes mid left (flat_map (sample_spelling same) more) →
+    (left : Option (List ℕ)) (more : List Sample) (most : ℕ) → same ≡ width →
+    Hears width count one other kept behind rest mid old between → count + length more ≤ most →
+    All (HasBits same) more → Consumes mid left (flat_map (sample_spelling same) more) →
     ((l : Listening) (heard : List Sample) → Listens l other behind heard →
     TellsPart l heard (heard ++ more) between new) →
     (l : Listening) (heard : List Sample) → Listens l one kept heard →
-    HearsPart l width heard rest old new
+    HearsPart l width most heard rest left old new
 hears_stopped {width} {same} {count} {one} {other} {kept} {behind} {rest} {mid} {old} {between}
-    {new} left more same_is h consumed part l heard is =
+    {new} left more most same_is h fits range consumed part l heard is =
     let samples = h.passed.samples in
     let first = h.tells l heard is in
     record {
       samples = samples ++ more;
-      first = consumed_first rest left (flat_map (sample_spelling width) (samples ++ more))
+      more = [];
+      number = omega (arith, length-append samples more, h.passed.counted, fits);
+      in_range =
+          All-append (HasBits width) samples more h.passed.in_range
+          (subst (λ (w : Width). All (HasBits w) more) same_is range);
+      consumed = subst (Consumes rest left)
+          (sym (append-nil (flat_map (sample_spelling width) (samples ++ more))))
           (consumes_more width same rest mid left samples more same_is h.passed.consumed consumed);
       tells = subst (λ (xs : List Sample). TellsPart l heard xs old new)
           (append_assoc heard samples more)
@@ -170,6 +173,7 @@ hears_first {width} {count} {limit} {one} {other} {kept} {behind} {rest} {mid} {
       samples = h.passed.samples;
       more = part.bytes;
       number = subst counted (sym h.passed.counted) number;
+      in_range = h.passed.in_range;
       few = omega (arith, part.fits, few);
       consumed =
           Consumes-trans rest mid left (flat_map (sample_spelling width) h.passed.samples)

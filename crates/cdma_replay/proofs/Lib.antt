@@ -1,3 +1,4 @@
+pub mod Bounds
 pub mod Broken
 pub mod CleanTexts
 pub mod Completed
@@ -11,6 +12,7 @@ pub mod MadeFiles
 pub mod MadeLinks
 pub mod NearPaths
 pub mod OneWord
+pub mod Owed
 pub mod RankLines
 pub mod Replies
 pub mod SentLines

@@ -1,5 +1,5 @@
 -- Lemmas on the text that is written, and on the file whose beginning it tells of.
-use Rattle.std.proofs.Common.{◌≡◌, ℕ, ◌+◌, ◌++◌, List, [], length, take, refl, sym, ap, ◌∙◌, subst}
+use Rattle.std.proofs.Common.{◌≡◌, ℕ, ◌+◌, ◌≤◌, ◌++◌, List, [], length, take, refl, sym, ap, ◌∙◌, subst}
 use Rattle.std.proofs.Common.{arith, inr, append_assoc, append-nil, length-append, All, Option}
 use Rattle.std.proofs.Common.{None, Some, IfSome}
 use Rattle.std.proofs.lemmas.List.{take_at}
@@ -8,9 +8,10 @@ use Rattle.std.proofs.lemmas.List.Elements.{All-append}
 use Rattle.std.specs.List.{flat_map}
 use Rattle.std.specs.Io.{StartsWith}
 use Rattle.std.specs.Io.KnownBytes.{Appends, Consumes, IsAtEnd}
-use Rattle.std.proofs.KnownBytes.{Appends-trans}
+use Rattle.std.proofs.KnownBytes.{Appends-trans, Consumes-nil, Consumes-trans}
 use Rattle.chip_core.specs.declared.sample.Sample.{Sample}
 use Rattle.cdma_io.specs.declared.header.Header.{Header}
+use Rattle.chip_core.specs.declared.width.Width.{Width}
 use Rattle.cdma_io.specs.Outside.{AppendsPrefix}
 use Rattle.cdma_io.specs.SampleFile.{HasBits, IsLawfulHeader, header_spelling, sample_spelling}
 use Rattle.cdma_io.specs.SampleFile.{width_of}
@@ -22,7 +23,7 @@ use Rattle.mobile_core.specs.declared.event.Event.TheVariants.{Pilot}
 use Rattle.event_tap.specs.EventLines.{event_line}
 use Rattle.event_tap.specs.Taps.{KeptTap, heard_text, taps_behind}
 use Rattle.pilot_survey.specs.declared.rank.Rank.{Rank}
-use Rattle.tuned_listener.proofs.Prefixes.{begins_more, prefix_before, prefix_behind, prefix_of}
+use Rattle.tuned_listener.proofs.Prefixes.{prefix_before, prefix_behind, prefix_of}
 use Rattle.tuned_listener.proofs.Prefixes.{taken_begins}
 use Rattle.tuned_listener.specs.declared.tuned_text.TunedText.{TunedText}
 use Rattle.cdma_replay.specs.declared.handset.Receiver.{Receiver}
@@ -125,31 +126,28 @@ end_behind taps r header samples others counted =
 
 -- ---- beginnings
 
-first_bytes : (rest mid : Option (List ℕ)) (front back : List ℕ) → Consumes rest mid front →
-    IfSome mid (λ bytes. StartsWith bytes back) →
-    IfSome rest (λ bytes. StartsWith bytes (front ++ back))
-first_bytes None mid front back consumed begins = tt
-first_bytes (Some bytes) None front back consumed begins = absurd consumed
-first_bytes (Some bytes) (Some more) front back consumed begins =
-    subst (λ (xs : List ℕ). StartsWith xs (front ++ back)) (sym consumed)
-    (begins_more front more back begins)
-
-no_bytes : (mid : Option (List ℕ)) → IfSome mid (λ bytes. StartsWith bytes [])
-no_bytes None = tt
-no_bytes (Some bytes) = refl
+-- a header and samples, and then others, and then more bytes
+parted : (front one other more : List ℕ) →
+    (front ++ one) ++ (other ++ more) ≡ (front ++ (one ++ other)) ++ more
+parted front one other more =
+    append_assoc front one (other ++ more)
+    ∙ ap (λ (xs : List ℕ). front ++ xs) (sym (append_assoc one other more))
+    ∙ sym (append_assoc front (one ++ other) more)
 
 -- a beginning of the text of the first samples and those behind them was written
-begins_text : {taps : List KeptTap} {r : Reception} {rest old new : Option (List ℕ)}
-    (mid : Option (List ℕ)) (header : Header) (samples others : List Sample) →
-    length samples ≡ r.span →
+begins_text : {taps : List KeptTap} {r : Reception} {rest left old new : Option (List ℕ)}
+    (mid : Option (List ℕ)) (header : Header) (samples others : List Sample) (more : List ℕ) →
+    length samples ≡ r.span → IsLawfulHeader header → All (HasBits (width_of header)) samples →
+    length samples + length others ≤ header.count →
     Consumes rest mid
     (header_spelling header ++ flat_map (sample_spelling (width_of header)) samples) →
-    IfSome mid
-    (λ bytes. StartsWith bytes (flat_map (sample_spelling (width_of header)) others)) →
+    All (HasBits (width_of header)) others →
+    Consumes mid left (flat_map (sample_spelling (width_of header)) others ++ more) →
     AppendsPrefix old new
     (told_first taps r samples ++ told (listening taps r.purpose header samples) (samples ++ others)) →
-    WritesNoMore taps r rest old new
-begins_text {taps} {r} {rest} mid header samples others counted consumed behind part =
+    WritesNoMore taps r rest left old new
+begins_text {taps} {r} {rest} {left} mid header samples others more counted lawful range fits consumed
+    also behind part =
     let spelled = flat_map (sample_spelling (width_of header)) in
     let front = header_spelling header in
     let text =
@@ -160,30 +158,40 @@ begins_text {taps} {r} {rest} mid header samples others counted consumed behind 
       part = inr (record {
         header = header;
         samples = samples ++ others;
+        more = more;
+        lawful = lawful;
         counted = omega (arith, counted, length-append samples others);
-        first =
-            subst (λ (xs : List ℕ). IfSome rest (λ bytes. StartsWith bytes xs))
-            (append_assoc front (spelled samples) (spelled others) ∙
-            ap (λ (xs : List ℕ). front ++ xs)
+        most = omega (arith, fits, length-append samples others);
+        in_range = All-append (HasBits (width_of header)) samples others range also;
+        taken = subst (Consumes rest left)
+            (parted front (spelled samples) (spelled others) more
+            ∙ ap (λ (xs : List ℕ). (front ++ xs) ++ more)
             (sym (flat_map-append (sample_spelling (width_of header)) samples others)))
-            (first_bytes rest mid (front ++ spelled samples) (spelled others) consumed behind);
+            (Consumes-trans rest mid left (front ++ spelled samples) (spelled others ++ more) consumed
+            behind);
         begins = subst (λ (xs : List ℕ). StartsWith xs (take part.count text))
             (sym (text_behind taps r header samples others counted))
             (taken_begins text part.count part.fits);
       });
     }
 
+-- no samples are within any width
+none_within : (width : Width) → All (HasBits width) []
+none_within width = λ k d h. absurd (omega (arith, h))
+
 -- a beginning of the text of the first samples
 pub writes_first_text : {taps : List KeptTap} {r : Reception} {rest old new : Option (List ℕ)}
     (mid : Option (List ℕ)) (header : Header) (samples : List Sample) (shown : Shown) →
-    length samples ≡ r.span →
+    length samples ≡ r.span → IsLawfulHeader header → All (HasBits (width_of header)) samples →
+    r.span ≤ header.count →
     Consumes rest mid
     (header_spelling header ++ flat_map (sample_spelling (width_of header)) samples) →
     Shows r.purpose samples shown → AppendsPrefix old new (shown_text taps shown) →
-    WritesNoMore taps r rest old new
-writes_first_text {taps} {r} {rest} {old} {new} mid header samples shown counted consumed shows
-    part =
-    begins_text mid header samples [] counted consumed (no_bytes mid)
+    WritesNoMore taps r rest mid old new
+writes_first_text {taps} {r} {rest} {old} {new} mid header samples shown counted lawful range enough
+    consumed shows part =
+    begins_text mid header samples [] [] counted lawful range (omega (arith, counted, enough)) consumed
+    (none_within (width_of header)) (Consumes-nil mid)
     (prefix_before old new (told_first taps r samples) _
     (subst (AppendsPrefix old new) (shows.text taps) part))
 
@@ -194,6 +202,9 @@ pub record HasBegun (taps : List KeptTap) (r : Reception) (header : Header) (sam
     (listener : Listener) (kept : List KeptTap) (rest mid old new : Option (List ℕ)) :
     Type 0 where
   pub counted : length samples ≡ r.span
+  pub lawful : IsLawfulHeader header
+  pub in_range : All (HasBits (width_of header)) samples
+  pub enough : r.span ≤ header.count
   pub consumed : Consumes rest mid
       (header_spelling header ++ flat_map (sample_spelling (width_of header)) samples)
   pub line : Appends old new (told_first taps r samples)
@@ -203,7 +214,8 @@ pub record HasBegun (taps : List KeptTap) (r : Reception) (header : Header) (sam
 pub has_begun : (taps : List KeptTap) (r : Reception) {header same : Header}
     (samples : List Sample) (shown : Shown) {listener : Listener} {kept : List KeptTap}
     {rest mid old new : Option (List ℕ)} →
-    length samples ≡ r.span →
+    length samples ≡ r.span → IsLawfulHeader header → All (HasBits (width_of header)) samples →
+    r.span ≤ header.count →
     Consumes rest mid
     (header_spelling header ++ flat_map (sample_spelling (width_of header)) samples) →
     Shows r.purpose samples shown → same ≡ header →
@@ -211,10 +223,13 @@ pub has_begun : (taps : List KeptTap) (r : Reception) {header same : Header}
     Appends old new (shown_text taps shown) → kept ≡ taps_after taps shown →
     HasBegun taps r header samples listener kept rest mid old new
 has_begun taps r {header} {same} samples shown {listener} {kept} {rest} {mid} {old} {new} counted
-    consumed shows is listens line behind =
+    lawful range enough consumed shows is listens line behind =
     let later = taps_after taps shown in
     record {
       counted = counted;
+      lawful = lawful;
+      in_range = range;
+      enough = enough;
       consumed = consumed;
       line = subst (Appends old new) (shows.text taps) line;
       listens =
@@ -250,30 +265,34 @@ pub writes_first_part : {taps : List KeptTap} {r : Reception} {header : Header}
     HasBegun taps r header samples listener kept rest mid old between →
     ((l : Listening) (heard : List Sample) → Listens l listener kept heard →
     TellsPart l heard (heard ++ samples) between new) →
-    WritesNoMore taps r rest old new
+    WritesNoMore taps r rest mid old new
 writes_first_part {taps} {r} {header} {samples} {listener} {kept} {rest} {mid} {old} {between} {new}
     begun tells =
     let l = listening taps r.purpose header samples in
-    begins_text mid header samples [] begun.counted begun.consumed (no_bytes mid)
+    begins_text mid header samples [] [] begun.counted begun.lawful begun.in_range
+    (omega (arith, begun.counted, begun.enough)) begun.consumed (none_within (width_of header))
+    (Consumes-nil mid)
     (prefix_behind old between new (told_first taps r samples) (told l (samples ++ [])) begun.line
     (subst (λ (xs : List Sample). AppendsPrefix between new (told l xs)) (sym (append-nil samples))
     (part_text l listener kept begun.listens (tells l [] begun.listens))))
 
 -- that text and what is told of the first samples, and a beginning of what is told behind them
 pub writes_rest_part : {taps : List KeptTap} {r : Reception} {header : Header}
-    {samples : List Sample} {one other : Listener} {kept behind : List KeptTap}
-    {rest mid old between later new : Option (List ℕ)} →
+    {samples : List Sample} {count : ℕ} {one other : Listener} {kept behind : List KeptTap}
+    {rest mid left old between later new : Option (List ℕ)} → count + r.span ≡ header.count →
     HasBegun taps r header samples one kept rest mid old between →
     ((l : Listening) (heard : List Sample) → Listens l one kept heard →
     Tells l other behind heard (heard ++ samples) between later) →
     ((l : Listening) (heard : List Sample) → Listens l other behind heard →
-    HearsPart l (width_of header) heard mid later new) → WritesNoMore taps r rest old new
-writes_rest_part {taps} {r} {header} {samples} {one} {other} {kept} {behind} {rest} {mid} {old}
-    {between} {later} {new} begun tells hears =
+    HearsPart l (width_of header) count heard mid left later new) →
+    WritesNoMore taps r rest left old new
+writes_rest_part {taps} {r} {header} {samples} {count} {one} {other} {kept} {behind} {rest} {mid}
+    {left} {old} {between} {later} {new} counts begun tells hears =
     let l = listening taps r.purpose header samples in
     let first = tells l [] begun.listens in
     let part = hears l samples first.listens in
-    begins_text mid header samples part.samples begun.counted begun.consumed part.first
+    begins_text mid header samples part.samples part.more begun.counted begun.lawful begun.in_range
+    (omega (arith, begun.counted, counts, part.number)) begun.consumed part.in_range part.consumed
     (prefix_behind old between new (told_first taps r samples) (told l (samples ++ part.samples))
     begun.line (part_text l one kept begun.listens (part_behind first.more part.tells)))
 

@@ -141,11 +141,11 @@ file_verdict_by {taps} {named} same r status rest old new causes =
     file_verdict named r status rest old new
     (subst (λ (k : List KeptTap). HasCauses k r status rest old new) same causes)
 
-pub file_part : {taps named : List KeptTap} {r : Reception} {rest old new : Option (List ℕ)} →
-    taps ≡ named → WritesNoMore taps r rest old new →
-    WritesPart (BeginsText named r rest) old new
-file_part {taps} {named} {r} {rest} {old} {new} same wrote =
-    subst (λ (k : List KeptTap). WritesPart (BeginsText k r rest) old new) same
+pub file_part : {taps named : List KeptTap} {r : Reception}
+    {rest left old new : Option (List ℕ)} → taps ≡ named →
+    WritesNoMore taps r rest left old new → WritesPart (BeginsText named r rest left) old new
+file_part {taps} {named} {r} {rest} {left} {old} {new} same wrote =
+    subst (λ (k : List KeptTap). WritesPart (BeginsText k r rest left) old new) same
     (record { text = wrote.text; written = wrote.written; part = wrote.part })
 
 -- what was written where the file breaks off, or goes on
@@ -501,11 +501,11 @@ verdict_at forms task job status rest old new same =
     (λ (t : Task). IsVerdict status →
     IfSome rest (λ bytes. IsAnswered (IsTaskReply forms t bytes) status old new)) same
 
-pub written_at : (forms : List ℕ) (task : Task) (job : Job) (rest old new : Option (List ℕ)) →
-    task ≡ task_of job → WritesPart (TaskBegins forms task rest) old new →
-    WritesPart (Begins forms job rest) old new
-written_at forms task job rest old new same =
-    subst (λ (t : Task). WritesPart (TaskBegins forms t rest) old new) same
+pub written_at : (forms : List ℕ) (task : Task) (job : Job) (rest left old new : Option (List ℕ)) →
+    task ≡ task_of job → WritesPart (TaskBegins forms task rest left) old new →
+    WritesPart (Begins forms job rest left) old new
+written_at forms task job rest left old new same =
+    subst (λ (t : Task). WritesPart (TaskBegins forms t rest left) old new) same
 
 pub cut_at : (forms : List ℕ) (task : Task) (job : Job) (status : Status)
     (rest left old new : Option (List ℕ)) → task ≡ task_of job →

@@ -5,6 +5,7 @@ use Rattle.std.specs.List.{flat_map}
 use Rattle.std.specs.Io.{StartsWith}
 use Rattle.std.specs.Io.KnownBytes.{Appends, Consumes}
 use Rattle.chip_core.specs.declared.sample.Sample.{Sample}
+use Rattle.cdma_io.specs.Outside.{ConsumesAtMost}
 use Rattle.cdma_io.specs.declared.header.Header.{Header}
 use Rattle.cdma_io.specs.declared.file_fault.FileFault.{FileFault}
 use Rattle.cdma_io.specs.declared.file_fault.FileFault.TheVariants.{Short, Extra, ReadFault, TooFew}
@@ -52,25 +53,29 @@ pub record WritesText (taps : List KeptTap) (r : Reception) (status : Status) (b
   pub written : Appends old new (file_text taps r searchable.header searchable.samples)
   pub ends : status ≡ file_end_of r searchable.header searchable.samples
 
--- a text is a beginning of the text of samples, as many as the span is or more, with which the file
--- of these bytes begins
-pub record BeginsText (taps : List KeptTap) (r : Reception) (rest : Option (List ℕ))
+-- A text is a beginning of the text of samples, as many as the span is or more and no more than the
+-- header counts, each within its width, with which the file of these bytes begins behind that lawful
+-- header, which so is the one that they open with; and all of these samples were taken, with more
+-- bytes or none.
+pub record BeginsText (taps : List KeptTap) (r : Reception) (rest left : Option (List ℕ))
     (text : List ℕ) : Type 0 where
   pub header : Header
   pub samples : List Sample
+  pub more : List ℕ
+  pub lawful : IsLawfulHeader header
   pub counted : r.span ≤ length samples
-  pub first :
-      IfSome rest
-      (λ bytes. StartsWith bytes
-      (header_spelling header ++ flat_map (sample_spelling (width_of header)) samples))
+  pub most : length samples ≤ header.count
+  pub in_range : All (HasBits (width_of header)) samples
+  pub taken : Consumes rest left
+      ((header_spelling header ++ flat_map (sample_spelling (width_of header)) samples) ++ more)
   pub begins : StartsWith (file_text taps r header samples) text
 
 -- known bytes grew by nothing, or by a beginning of that text
-pub record WritesNoMore (taps : List KeptTap) (r : Reception) (rest old new : Option (List ℕ)) :
-    Type 0 where
+pub record WritesNoMore (taps : List KeptTap) (r : Reception)
+    (rest left old new : Option (List ℕ)) : Type 0 where
   pub text : List ℕ
   pub written : Appends old new text
-  pub part : (text ≡ []) ⊎ BeginsText taps r rest text
+  pub part : (text ≡ []) ⊎ BeginsText taps r rest left text
 
 -- a run that read its input to the end and wrote all of its text
 abbrev pub IsEnd : Status → Type 0
@@ -88,6 +93,17 @@ IsHeaderFault _ = Unit {0}
 -- where a file of this header ends
 abbrev pub file_end : Header → ℕ
 file_end header = 16 + sample_len (width_of header) * header.count
+
+-- how many bytes are taken at most of a file that opens so: a byte more than it has, which shows that
+-- it ends; or no more than a header has
+abbrev pub most_taken : Result Header FileFault → ℕ
+most_taken (Ok header) = file_end header + 1
+most_taken (Err fault) = 16
+
+-- known bytes lost no more
+abbrev pub TakesNoMore : Option (List ℕ) → Option (List ℕ) → Type 0
+TakesNoMore rest left =
+    IfSome rest (λ bytes. ConsumesAtMost (most_taken (opening bytes)) (Some bytes) left)
 
 -- a fault that a file of this header and of so many bytes has behind the header
 abbrev pub IsLaterFault : ℕ → Header → ℕ → FileFault → Type 0

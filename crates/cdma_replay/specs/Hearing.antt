@@ -225,9 +225,13 @@ pub record HearsRest (l : Listening) (width : Width) (count : ℕ) (listener : L
   pub consumed : Consumes rest left (flat_map (sample_spelling width) samples)
   pub tells : Tells l listener kept heard (heard ++ samples) old new
 
--- a source begins with the spellings of samples, and a sink got a beginning of what is told of them
-pub record HearsPart (l : Listening) (width : Width) (heard : List Sample)
-    (rest old new : Option (List ℕ)) : Type 0 where
+-- a source lost the spellings of samples, at most so many, each within its width, with more bytes or
+-- none; and a sink got a beginning of what is told of them
+pub record HearsPart (l : Listening) (width : Width) (most : ℕ) (heard : List Sample)
+    (rest left old new : Option (List ℕ)) : Type 0 where
   pub samples : List Sample
-  pub first : IfSome rest (λ bytes. StartsWith bytes (flat_map (sample_spelling width) samples))
+  pub more : List ℕ
+  pub number : length samples ≤ most
+  pub in_range : All (HasBits width) samples
+  pub consumed : Consumes rest left (flat_map (sample_spelling width) samples ++ more)
   pub tells : TellsPart l heard (heard ++ samples) old new

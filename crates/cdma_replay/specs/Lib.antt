@@ -7,6 +7,7 @@ pub mod OneWord
 pub mod Openings
 pub mod Ranks
 pub mod Replies
+pub mod ReplyLaws
 pub mod SentLines
 pub mod SleepLaw
 pub mod Status

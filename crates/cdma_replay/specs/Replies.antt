@@ -9,6 +9,7 @@ use Rattle.cdma_io.specs.declared.file_fault.FileFault.{FileFault}
 use Rattle.cdma_io.specs.declared.file_fault.FileFault.TheVariants as file
 use Rattle.cdma_io.specs.declared.header.Header.{Header}
 use Rattle.chip_core.specs.declared.width.Width.{Width}
+use Rattle.cdma_io.specs.Outside.{ConsumesAtMost}
 use Rattle.cdma_io.specs.SampleFile.{IsSampleFile}
 use Rattle.cell_plan.specs.declared.plan.CellPlan.{CellPlan}
 use Rattle.cell_script.specs.declared.script_fault.ScriptFault.{ScriptFault}
@@ -25,6 +26,7 @@ use Rattle.cdma_replay.specs.declared.task.Task.{Task}
 use Rattle.cdma_replay.specs.declared.task.Task.TheVariants.{Make, Receive, Trial}
 use Rattle.cdma_replay.specs.Broken.{WritesAll, WritesFirst}
 use Rattle.cdma_replay.specs.Find.{BeginsFile, BeginsText, IsFaultIn, IsHeaderFault, IsSearchable}
+use Rattle.cdma_replay.specs.Find.{TakesNoMore}
 use Rattle.cdma_replay.specs.Hearing.{file_end_of, file_text}
 use Rattle.cdma_replay.specs.Make.{BeginsMadeFile, made_file}
 use Rattle.cdma_replay.specs.Tasks.{task_of}
@@ -104,11 +106,11 @@ TaskReadsInput (Trial number workers) = ⊥
 TaskReadsInput task = Unit {0}
 
 -- what may have been written, whatever the answer: a beginning of the text of what the input begins
--- with
-abbrev pub TaskBegins : List ℕ → Task → Option (List ℕ) → List ℕ → Type 0
+-- with, and of no more than was taken of it
+abbrev pub TaskBegins : List ℕ → Task → Option (List ℕ) → Option (List ℕ) → List ℕ → Type 0
 TaskBegins forms (Receive r limits) = BeginsText (taps_by limits forms) r
-TaskBegins forms (Make width) = BeginsMadeFile width
-TaskBegins forms (Trial number workers) = λ rest text. StartsWith (trial_line number) text
+TaskBegins forms (Make width) = λ rest left text. BeginsMadeFile width rest text
+TaskBegins forms (Trial number workers) = λ rest left text. StartsWith (trial_line number) text
 
 -- what was written where the input breaks off, or a read failed: the text of the first of the samples
 -- that were taken; and nothing of a script, which is read before anything is written
@@ -123,6 +125,13 @@ abbrev pub TaskTellsAll : List ℕ → Task → Option (List ℕ) → Option (Li
     Type 0
 TaskTellsAll forms (Receive r limits) = WritesAll (taps_by limits forms) r
 TaskTellsAll forms task = λ rest old new. Unit {0}
+
+-- how many bytes are taken of the input at most, however the run ends: of a file a byte more than its
+-- header counts, of a script a byte more than it may have, and for a trial none
+abbrev pub TaskTakesNoMore : Task → Option (List ℕ) → Option (List ℕ) → Type 0
+TaskTakesNoMore (Receive r limits) = TakesNoMore
+TaskTakesNoMore (Make width) = λ rest left. ConsumesAtMost 1048577 rest left
+TaskTakesNoMore (Trial number workers) = λ rest left. ConsumesAtMost 0 rest left
 
 -- an input without a fault
 abbrev pub IsLawfulTaskInput : Task → List ℕ → Type 0
@@ -190,7 +199,7 @@ IsPromising job = IsTaskPromising (task_of job)
 abbrev pub ReadsInput : Job → Type 0
 ReadsInput job = TaskReadsInput (task_of job)
 
-abbrev pub Begins : List ℕ → Job → Option (List ℕ) → List ℕ → Type 0
+abbrev pub Begins : List ℕ → Job → Option (List ℕ) → Option (List ℕ) → List ℕ → Type 0
 Begins forms job = TaskBegins forms (task_of job)
 
 abbrev pub TellsFirst : List ℕ → Job → Option (List ℕ) → Option (List ℕ) → Option (List ℕ) →
@@ -199,6 +208,9 @@ TellsFirst forms job = TaskTellsFirst forms (task_of job)
 
 abbrev pub TellsAll : List ℕ → Job → Option (List ℕ) → Option (List ℕ) → Option (List ℕ) → Type 0
 TellsAll forms job = TaskTellsAll forms (task_of job)
+
+abbrev pub BoundsInput : Job → Option (List ℕ) → Option (List ℕ) → Type 0
+BoundsInput job = TaskTakesNoMore (task_of job)
 
 abbrev pub IsLawfulInput : Job → List ℕ → Type 0
 IsLawfulInput job = IsLawfulTaskInput (task_of job)

@@ -5,6 +5,11 @@ ghost use Rattle.cdma_words.specs.declared.job.Job.{Job as TheJob};
 ghost use Rattle.cdma_replay.specs.MadeLaws.{IsCleanWhenMade, IsCleanWhenSent, IsReadableWhenMade};
 ghost use Rattle.cdma_replay.specs.OneWord.{OneWordFollows, OneWordFollowsFrame};
 ghost use Rattle.cdma_replay.specs.Replies.{IsReply, Reply};
+ghost use Rattle.cdma_replay.specs.ReplyLaws.{EachInputIsOwed, FindOwesThePilot};
+ghost use Rattle.cdma_replay.specs.ReplyLaws.{FollowOwesTheEvents, IdleOwesTheSlots};
+ghost use Rattle.cdma_replay.specs.ReplyLaws.{ListOwesTheFrames, MakeOwesTheFile};
+ghost use Rattle.cdma_replay.specs.ReplyLaws.{Rate2OwesTheFrames, SurveyOwesTheRanks};
+ghost use Rattle.cdma_replay.specs.ReplyLaws.{TrialOwesItsLine, WorkersChangeNoReply};
 ghost use Rattle.cdma_replay.specs.SentLines.{ListedLinesComeBack, SetTwoLinesComeBack};
 ghost use Rattle.cdma_replay.specs.SleepLaw.{SleepChangesNoReply};
 
@@ -12,6 +17,57 @@ ghost use Rattle.cdma_replay.specs.SleepLaw.{SleepChangesNoReply};
 pub fn inputs_are_owed_one_reply()
     ensures { (forms : List ℕ) (job : TheJob) (bytes : List ℕ) (one other : Reply) →
         IsReply forms job bytes one → IsReply forms job bytes other → one ≡ other }
+{}
+
+/// Each input is owed a reply: for every job and every list of bytes there is one.
+pub fn each_input_is_owed_a_reply()
+    ensures { EachInputIsOwed }
+{}
+
+/// The number of workers changes no reply.
+pub fn workers_change_no_reply()
+    ensures { WorkersChangeNoReply }
+{}
+
+/// Of a sample file with as many samples as its span is, or more, `find` owes just the line of the
+/// pilot that is strongest in the first of them.
+pub fn find_owes_the_pilots_line()
+    ensures { FindOwesThePilot }
+{}
+
+/// `follow` owes of it what the taps make of the pilot and then of each event that a handset hears.
+pub fn follow_owes_the_events()
+    ensures { FollowOwesTheEvents }
+{}
+
+/// `rate2` owes of it the lines of a traffic channel's frames of rate set 2, from the mark on.
+pub fn rate2_owes_the_frames()
+    ensures { Rate2OwesTheFrames }
+{}
+
+/// `list` owes of it the lines of a traffic channel's frames by lists of words, from the mark on.
+pub fn list_owes_the_frames()
+    ensures { ListOwesTheFrames }
+{}
+
+/// `idle` owes of it the lines of the slots that the handset of a key monitors, from the mark on.
+pub fn idle_owes_the_slots()
+    ensures { IdleOwesTheSlots }
+{}
+
+/// `survey` owes of it the lines of the first ranks of the pilots in the first samples.
+pub fn survey_owes_the_ranks()
+    ensures { SurveyOwesTheRanks }
+{}
+
+/// `make` owes the file of the cell that a script names.
+pub fn make_owes_the_file()
+    ensures { MakeOwesTheFile }
+{}
+
+/// `trial` owes the line of its number, whatever the input.
+pub fn trial_owes_its_line()
+    ensures { TrialOwesItsLine }
 {}
 
 /// What `make` writes is a sample file of the cell's samples; where the search finds the cell's

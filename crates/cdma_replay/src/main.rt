@@ -9,50 +9,26 @@ ghost use Rattle.std.specs.Prelude.{◌≡◌, ◌≢◌, OnErr, OnOk};
 ghost use Rattle.std.specs.IoError.{error_kind};
 ghost use Rattle.cdma_replay.specs.Find.{IsEnd};
 
-#[cfg(test)]
-mod capture_tests;
-#[cfg(test)]
-mod handoff_tests;
 mod handset;
-#[cfg(test)]
-mod hostile_tests;
-#[cfg(test)]
-mod idle_tests;
 pub mod laws;
-#[cfg(test)]
-mod link_tests;
-#[cfg(test)]
-mod list_tests;
 mod listener;
 mod making;
-#[cfg(test)]
-mod message_tests;
 mod opening;
 #[cfg(test)]
-mod paging_tests;
+mod outside_tests;
 mod purpose;
 mod ranks;
-#[cfg(test)]
-mod rate2_tests;
 mod receiving;
 mod replaying;
-#[cfg(test)]
-mod sets_tests;
 mod status;
-#[cfg(test)]
-mod survey_tests;
-#[cfg(test)]
-mod tap_tests;
 mod task;
+#[cfg(test)]
+mod test_inputs;
 #[cfg(test)]
 mod test_runs;
 #[cfg(test)]
 mod tests;
-#[cfg(test)]
-mod traffic_tests;
 mod trial;
-#[cfg(test)]
-mod trial_tests;
 #[cfg(test)]
 mod worker_tests;
 mod workspace;

@@ -4,14 +4,12 @@ ghost use Rattle.std.specs.Prelude.{◌≡◌, ◌≢◌, ◌<◌, ◌≤◌, �
 ghost use Rattle.std.specs.Prelude.{IsOk, IfOk, IfErr, OnOk, IfSome};
 ghost use Rattle.std.specs.Io.KnownBytes.{IsAtEnd};
 ghost use Rattle.cdma_io.specs.declared.file_fault.FileFault.{FileFault};
-ghost use Rattle.cdma_io.specs.Outside.{Rose};
+ghost use Rattle.cdma_io.specs.Outside.{ConsumesAtMost, Rose};
 ghost use Rattle.cell_script.specs.declared.script_fault.ScriptFault.{ScriptFault};
 ghost use Rattle.cell_script.specs.Script.{plan_named};
 ghost use Rattle.cdma_replay.specs.Find.{ended};
 ghost use Rattle.cdma_replay.specs.Make.{WritesMadeFile, WritesNoMoreMade};
 
-#[cfg(test)]
-mod tests;
 mod writing;
 
 use crate::status::Status;
@@ -74,6 +72,7 @@ fn open_cell<S: Source>(
         IfSome (S.rest source.old) (λ bytes. IsOk (plan_named width bytes)) }
     ensures read_fault { ended result ≡ Status.ReadFault →
         Rose (S.faults source.old) (S.faults source.new) }
+    ensures bound { ConsumesAtMost 1048577 (S.rest source.old) (S.rest source.new) }
     ensures later { S.faults source.old ≤ S.faults source.new }
 {
     let Ok(count) = fill(source, script) else {
@@ -115,6 +114,7 @@ fn make_file<S: Source, K: Sink>(
         IfSome (S.rest source.old) (λ bytes. IsOk (plan_named width bytes)) }
     ensures written { WritesNoMoreMade width (S.rest source.old) (K.written sink.old)
         (K.written sink.new) }
+    ensures bound { ConsumesAtMost 1048577 (S.rest source.old) (S.rest source.new) }
     ensures later_source { S.faults source.old ≤ S.faults source.new }
     ensures later_sink { K.faults sink.old ≤ K.faults sink.new }
 {
@@ -156,6 +156,7 @@ pub fn make<S: Source, K: Sink>(
         IfSome (S.rest source.old) (λ bytes. IsOk (plan_named width bytes)) }
     ensures written { WritesNoMoreMade width (S.rest source.old) (K.written sink.old)
         (K.written sink.new) }
+    ensures bound { ConsumesAtMost 1048577 (S.rest source.old) (S.rest source.new) }
     ensures later_source { S.faults source.old ≤ S.faults source.new }
     ensures later_sink { K.faults sink.old ≤ K.faults sink.new }
 {

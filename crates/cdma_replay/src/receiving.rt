@@ -1,13 +1,14 @@
 //! How a sample file is received: what its first samples show, and what is heard in all.
 
 ghost use Rattle.std.specs.Prelude.{◌≡◌, ◌≢◌, ◌≤◌, ◌+◌, ◌*◌, ◌++◌, ◌⊎◌};
-ghost use Rattle.std.specs.Prelude.{List, length, All, Err, None, IfOk};
+ghost use Rattle.std.specs.Prelude.{List, length, All, Err, None, Ok, IfOk};
 ghost use Rattle.std.specs.Prelude.{OnOk, IfErr, OnErr, IfSome};
 ghost use Rattle.std.specs.List.{flat_map};
 ghost use Rattle.std.specs.Io.KnownBytes.{Consumes, IsAtEnd};
 ghost use Rattle.cdma_io.specs.declared.file_fault.FileFault.{FileFault};
 ghost use Rattle.cdma_io.specs.Outside.{ConsumesAtMost, Rose};
-ghost use Rattle.cdma_io.specs.SampleFile.{HasBits, IsLawfulHeader, header_spelling, sample_len};
+ghost use Rattle.cdma_io.specs.SampleFile.{HasBits, IsLawfulHeader, header_spelling, opening};
+ghost use Rattle.cdma_io.specs.SampleFile.{sample_len};
 ghost use Rattle.cdma_io.specs.SampleFile.{sample_spelling, width_of};
 ghost use Rattle.event_tap.specs.Taps.{IsKept};
 ghost use Rattle.cdma_words.specs.Words.{IsWorkers};
@@ -18,7 +19,8 @@ ghost use Rattle.cdma_replay.specs.Openings.{IsLawfulPurpose};
 ghost use Rattle.cdma_replay.specs.Broken.{HearsFirst, IsCut, IsLong, IsUnopened, TakesFew};
 ghost use Rattle.cdma_replay.specs.Broken.{WritesAll, WritesFirst};
 ghost use Rattle.cdma_replay.specs.Find.{BeginsFile, IsEnd, IsFault, IsFaultIn, IsOfFiles};
-ghost use Rattle.cdma_replay.specs.Find.{IsHeaderFault, IsRestFault, IsSearchable, WritesNoMore};
+ghost use Rattle.cdma_replay.specs.Find.{IsHeaderFault, IsRestFault, IsSearchable, TakesNoMore};
+ghost use Rattle.cdma_replay.specs.Find.{WritesNoMore};
 ghost use Rattle.cdma_replay.specs.Find.{WritesText, ended};
 ghost use Rattle.cdma_replay.specs.Status.{file_status};
 
@@ -62,6 +64,9 @@ fn open_span<S: Source>(source: &mut S, span: &mut [Sample]) -> Result<SampleRea
         ConsumesAtMost 16 (S.rest source.old) (S.rest source.new)) }
     ensures few { OnErr result
         (TakesFew (length span.old) (S.rest source.old) (S.rest source.new)) }
+    ensures bound { OnErr result (TakesNoMore (S.rest source.old) (S.rest source.new)) }
+    ensures told { IfOk result (λ r. IfSome (S.rest source.old)
+        (λ bytes. opening bytes ≡ Ok r.header)) }
     ensures no_longer { IfErr result (λ e. IsLong (file_status e) →
         IsUnopened (S.rest source.old)) }
     ensures later { S.faults source.old ≤ S.faults source.new }
@@ -100,8 +105,8 @@ fn hear_rest<S: Source, T: KeepsTaps, K: Sink>(
         (K.written sink.old) (K.written sink.new)) }
     ensures written { (l : Listening) (heard : List Sample) →
         Listens l listener.old (T.kept taps.old) heard →
-        HearsPart l (width_of reader.old.header) heard (S.rest source.old)
-        (K.written sink.old) (K.written sink.new) }
+        HearsPart l (width_of reader.old.header) reader.old.left heard (S.rest source.old)
+        (S.rest source.new) (K.written sink.old) (K.written sink.new) }
     ensures cut { IsCut (ended result) → (l : Listening) (heard : List Sample) →
         Listens l listener.old (T.kept taps.old) heard →
         HearsFirst l (width_of reader.old.header) (λ k. k ≤ reader.old.left)
@@ -119,6 +124,9 @@ fn hear_rest<S: Source, T: KeepsTaps, K: Sink>(
         IfSome (S.rest source.old) (λ bytes. IsRestFault reader.old (length bytes) fault) }
     ensures sample_fault { (fault : FileFault) → ended result ≡ Status.BadFile fault →
         ¬ (IsHeaderFault fault) }
+    ensures bound { ConsumesAtMost
+        (sample_len (width_of reader.old.header) * reader.old.left + 1)
+        (S.rest source.old) (S.rest source.new) }
     ensures others { IfErr result IsFault }
     ensures read_fault { ended result ≡ Status.ReadFault →
         Rose (S.faults source.old) (S.faults source.new) }
@@ -190,8 +198,9 @@ fn receive_file<R: Threads + Sync, S: Source, K: Sink, T: KeepsTaps, G: Gate + S
     ensures header_alone { (fault : FileFault) → ended result ≡ Status.BadFile fault →
         IsHeaderFault fault →
         ConsumesAtMost 16 (S.rest source.old) (S.rest source.new) }
+    ensures bound { TakesNoMore (S.rest source.old) (S.rest source.new) }
     ensures written { WritesNoMore (T.kept taps) reception (S.rest source.old)
-        (K.written sink.old) (K.written sink.new) }
+        (S.rest source.new) (K.written sink.old) (K.written sink.new) }
     ensures cut { IsCut (ended result) → WritesFirst (T.kept taps) reception (S.rest source.old)
         (S.rest source.new) (K.written sink.old) (K.written sink.new) }
     ensures long { IsLong (ended result) → WritesAll (T.kept taps) reception (S.rest source.old)
@@ -263,8 +272,9 @@ pub fn receive<R: Threads + Sync, S: Source, K: Sink, T: KeepsTaps, G: Gate + Sy
     ensures header_alone { (fault : FileFault) → ended result ≡ Status.BadFile fault →
         IsHeaderFault fault →
         ConsumesAtMost 16 (S.rest source.old) (S.rest source.new) }
+    ensures bound { TakesNoMore (S.rest source.old) (S.rest source.new) }
     ensures written { WritesNoMore (T.kept taps) reception (S.rest source.old)
-        (K.written sink.old) (K.written sink.new) }
+        (S.rest source.new) (K.written sink.old) (K.written sink.new) }
     ensures cut { IsCut (ended result) → WritesFirst (T.kept taps) reception (S.rest source.old)
         (S.rest source.new) (K.written sink.old) (K.written sink.new) }
     ensures long { IsLong (ended result) → WritesAll (T.kept taps) reception (S.rest source.old)

@@ -18,10 +18,12 @@ ghost use Rattle.cdma_words.specs.declared.job.Job.TheVariants.{Follow, Trial};
 ghost use Rattle.cdma_words.specs.declared.job.TrafficOptions.{TrafficOptions as TheTraffic};
 ghost use Rattle.cdma_words.specs.Words.{IsWorkers, job_named};
 ghost use Rattle.cdma_replay.specs.Broken.{IsCut, IsLong, WritesAll, WritesFirst};
-ghost use Rattle.cdma_replay.specs.Find.{BeginsFile, BeginsText, IsEnd, IsHeaderFault, ended};
+ghost use Rattle.cdma_replay.specs.Find.{BeginsFile, BeginsText, IsEnd, IsHeaderFault, TakesNoMore};
+ghost use Rattle.cdma_replay.specs.Find.{ended};
 ghost use Rattle.cdma_replay.specs.Hearing.{clean_end, clean_events, traffic_of};
 ghost use Rattle.cdma_replay.specs.Openings.{IsLawfulPurpose};
-ghost use Rattle.cdma_replay.specs.Replies.{AnswersBehind, Begins, IsAnswered, IsEarlyFault};
+ghost use Rattle.cdma_replay.specs.Replies.{AnswersBehind, Begins, BoundsInput, IsAnswered};
+ghost use Rattle.cdma_replay.specs.Replies.{IsEarlyFault, TaskTakesNoMore};
 ghost use Rattle.cdma_replay.specs.Replies.{IsEndOf, IsFileReply, IsPromising, IsPurposeEnd, IsReply, IsTaskEnd};
 ghost use Rattle.cdma_replay.specs.Replies.{IsTaskPromising, IsTaskReply, IsVerdict, ReadsInput};
 ghost use Rattle.cdma_replay.specs.Replies.{ReadsWell, Reply, TaskBegins, TaskReadsInput};
@@ -79,7 +81,9 @@ fn receive_untapped<R: Threads + Sync, S: Source, K: Sink, G: Gate + Sync>(
     ensures header { (fault : FileFault) → result ≡ Status.BadFile fault → IsHeaderFault fault →
         ConsumesAtMost 16 (S.rest source.old) (S.rest source.new) }
     ensures at_end { IsEnd result → IsAtEnd (S.rest source.new) }
-    ensures written { WritesPart (BeginsText [] reception (S.rest source.old))
+    ensures bound { TakesNoMore (S.rest source.old) (S.rest source.new) }
+    ensures written { WritesPart
+        (BeginsText [] reception (S.rest source.old) (S.rest source.new))
         (K.written sink.old) (K.written sink.new) }
     ensures cut { IsCut result → WritesFirst [] reception (S.rest source.old) (S.rest source.new)
         (K.written sink.old) (K.written sink.new) }
@@ -119,10 +123,11 @@ fn run_task<R: Threads + Sync, S: Source, K: Sink, G: Gate + Sync>(
         ConsumesAtMost 16 (S.rest source.old) (S.rest source.new) }
     ensures at_end { TaskReadsInput task → IsEnd result → IsAtEnd (S.rest source.new) }
     ensures unread { ¬ (TaskReadsInput task) → source.new ≡ source.old }
+    ensures bound { TaskTakesNoMore task (S.rest source.old) (S.rest source.new) }
     ensures trial { (number workers : ℕ) → task ≡ Task.Trial number workers → result ≡ Status.Done →
         Appends (K.written sink.old) (K.written sink.new) (trial_line number) }
     ensures written { WritesPart
-        (TaskBegins (map (λ b. shape b) taps.items) task (S.rest source.old))
+        (TaskBegins (map (λ b. shape b) taps.items) task (S.rest source.old) (S.rest source.new))
         (K.written sink.old) (K.written sink.new) }
     ensures cut { IsCut result → TaskTellsFirst (map (λ b. shape b) taps.items) task
         (S.rest source.old) (S.rest source.new) (K.written sink.old) (K.written sink.new) }
@@ -248,8 +253,13 @@ pub fn replay<R: Threads + Sync, S: Source, K: Sink, G: Gate + Sync>(
     ensures early { IsEarlyFault result → sink.new ≡ sink.old }
     ensures header { (fault : FileFault) → result ≡ Status.BadFile fault → IsHeaderFault fault →
         ConsumesAtMost 16 (S.rest source.old) (S.rest source.new) }
+    // Of a file at most a byte more is taken than its header counts, of a script at most a byte more
+    // than it may have, behind a failed write too.
+    ensures bound { (job : TheJob) → job_named words.now ≡ Some job →
+        BoundsInput job (S.rest source.old) (S.rest source.new) }
     ensures written { (job : TheJob) → job_named words.now ≡ Some job →
-        WritesPart (Begins (map (λ b. shape b) taps.items) job (S.rest source.old))
+        WritesPart (Begins (map (λ b. shape b) taps.items) job (S.rest source.old)
+        (S.rest source.new))
         (K.written sink.old) (K.written sink.new) }
     // Where a sample file breaks off or a read of it failed, the text of the samples that were taken
     // was written, but for the last 4,096 or fewer; and where it goes on behind its samples, all

@@ -1,12 +1,9 @@
-//! Whole runs over memory for the tests, and files for them.
-
-ghost use Rattle.std.specs.Prelude.{◌≤◌};
+//! Whole runs over memory for the tests.
 
 use crate::{Status, replay};
 use cdma_io::{MemorySink, MemorySource};
 use event_tap::{FrameTap, MessageTap, PilotTap, RawTap, Tap};
 use pilot_search::{Gate, Open};
-use short_code::Codes;
 use std::alloc::Global;
 use std::test::Fail;
 use std::thread::Threads;
@@ -47,7 +44,7 @@ fn words_of(alloc: Global, line: &str) -> Result<Vec<String>, Fail> {
 }
 
 /// The calls that fail: one, or none for 0.
-pub fn failing(alloc: Global, call: u64) -> Result<Vec<u64>, Fail> {
+fn failing(alloc: Global, call: u64) -> Result<Vec<u64>, Fail> {
     let mut calls = Vec::new(alloc);
     if call > 0 {
         calls.push(call)?;
@@ -61,9 +58,7 @@ pub fn run<R: AllocGlobal + Threads + Sync>(
     line: &str,
     input: &[u8],
     outside: Outside,
-) -> Result<(Status, Vec<u8>), Fail>
-    requires { (1 ≤ outside.source_piece) × (1 ≤ outside.sink_piece) }
-{
+) -> Result<(Status, Vec<u8>), Fail> {
     run_through(rt, line, input, outside, &Open)
 }
 
@@ -74,9 +69,7 @@ pub fn run_through<R: AllocGlobal + Threads + Sync, G: Gate + Sync>(
     input: &[u8],
     outside: Outside,
     gate: &G,
-) -> Result<(Status, Vec<u8>), Fail>
-    requires { (1 ≤ outside.source_piece) × (1 ≤ outside.sink_piece) }
-{
+) -> Result<(Status, Vec<u8>), Fail> {
     let alloc = rt.alloc();
     let mut taps: Vec<Box<dyn Tap>> = Vec::new(alloc);
     taps.push(Box::new(alloc, PilotTap::new())?)?;
@@ -94,20 +87,18 @@ pub fn run_tapped<R: AllocGlobal + Threads + Sync, G: Gate + Sync>(
     outside: Outside,
     taps: Vec<Box<dyn Tap>>,
     gate: &G,
-) -> Result<(Status, Vec<u8>), Fail>
-    requires { (1 ≤ outside.source_piece) × (1 ≤ outside.sink_piece) }
-{
+) -> Result<(Status, Vec<u8>), Fail> {
     let alloc = rt.alloc();
     let words = words_of(alloc, line)?;
     let mut source = MemorySource::new(
         Vec::from_slice(alloc, input)?,
-        outside.source_piece,
+        outside.source_piece.max(1),
         failing(alloc, outside.source_fails)?,
     );
     let mut sink = MemorySink::new(
         alloc,
         outside.room,
-        outside.sink_piece,
+        outside.sink_piece.max(1),
         failing(alloc, outside.sink_fails)?,
     )?;
     let status = replay(
@@ -122,43 +113,22 @@ pub fn run_tapped<R: AllocGlobal + Threads + Sync, G: Gate + Sync>(
     Ok((status, Vec::from_slice(alloc, sink.bytes())?))
 }
 
-/// The header of a file of a version, 1 or 2, with no flags.
-pub fn file_with(alloc: Global, version: u8, count: u64) -> Result<Vec<u8>, Fail> {
-    let mut file = Vec::from_slice(alloc, b"IS95\x00")?;
-    file.extend_from_slice(&[version, 0, 0])?;
-    file.extend_from_slice(&count.to_be_bytes())?;
-    Ok(file)
-}
-
-/// A file of version 1 with so many samples of zeros.
-pub fn zero_file(alloc: Global, count: u64) -> Result<Vec<u8>, Fail> {
-    let mut file = file_with(alloc, 1, count)?;
-    for _n in 0..count {
-        file.extend_from_slice(&[0; 4])?;
+/// Fails where a run of a command line over an input doesn't end so, or doesn't write just that.
+pub fn expect<R: AllocGlobal + Threads + Sync>(
+    rt: &R,
+    line: &str,
+    input: &[u8],
+    outside: Outside,
+    status: Status,
+    written: &[u8],
+) -> Result<(), Fail> {
+    let (ended, text) = run(rt, line, input, outside)?;
+    if ended == status && text.as_slice() == written {
+        return Ok(());
     }
-    Ok(file)
-}
-
-/// A file of so many samples of the pilot's code at a phase, with an amplitude.
-pub fn pilot_file(alloc: Global, count: u16, phase: u16, amplitude: i16) -> Result<Vec<u8>, Fail> {
-    let codes = Codes::new(alloc)?;
-    let mut file = file_with(alloc, 1, u64::from(count))?;
-    for t in 0..count {
-        let n = (u32::from(phase) + u32::from(t)) % 32768;
-        let (i, q) = codes.signs(n as u16);
-        file.extend_from_slice(&amplitude.wrapping_mul(i16::from(i)).to_be_bytes())?;
-        file.extend_from_slice(&amplitude.wrapping_mul(i16::from(q)).to_be_bytes())?;
-    }
-    Ok(file)
-}
-
-/// A file of so many samples, 2 or more, of which two aren't 0: several phases have the greatest
-/// energy.
-pub fn two_samples_file(alloc: Global, count: u64) -> Result<Vec<u8>, Fail> {
-    let mut file = file_with(alloc, 1, count)?;
-    file.extend_from_slice(&[0, 1, 0, 0, 0, 1, 0, 0])?;
-    for _n in 2..count {
-        file.extend_from_slice(&[0; 4])?;
-    }
-    Ok(file)
+    let length = input.len();
+    Err(Fail::from(format!(in rt.alloc();
+        "{line} over {length} bytes, calls {} and {} failing: {ended}",
+        outside.source_fails, outside.sink_fails
+    )?))
 }

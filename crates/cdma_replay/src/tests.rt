@@ -1,301 +1,344 @@
-//! Whole runs over memory: that they succeed, and what they print.
+//! Whole runs over memory: that they succeed, what they write, and how they end where a call on the
+//! outside fails. Other runs are cases of `conformance/`.
 
-use crate::test_runs::{Outside, SMALL, file_with, pilot_file, run, two_samples_file, zero_file};
-use crate::{Status, flushed};
+use crate::Status;
+use crate::test_inputs::{Input, RAW_LINE, SECOND, SECOND_LINES, SLOT_LINES, first_lines};
+use crate::test_runs::{Outside, SMALL, STEADY, expect, run, run_tapped};
 use base_modulator::ScriptFault;
-use cdma_io::{Failed, FileFault};
+use cdma_io::FileFault;
+use event_tap::{MessageTap, Tap};
+use pilot_search::Open;
+use std::alloc::Global;
 use std::test::Fail;
+use std::thread::Threads;
 
-#[test]
-fn finds_the_phase(rt: HostRuntime) -> Result<(), Fail> {
-    let alloc = rt.alloc();
-    let (status, text) = run(
-        &rt,
-        "find",
-        pilot_file(alloc, 2048, 32767, 100)?.as_slice(),
-        SMALL,
-    )?;
-    assert_eq!(rt; status, Status::Done);
-    assert_eq!(rt;
-        text.as_slice(),
-        b"pilot phase=32767 energy=167772160000\n".as_slice()
-    );
+/// A command line, its input, what it writes, and how it ends.
+type Row = (&'static str, Input, &'static [u8], Status);
 
-    let (status, text) = run(
-        &rt,
-        "find",
-        pilot_file(alloc, 10000, 777, 3)?.as_slice(),
-        SMALL,
-    )?;
-    assert_eq!(rt; status, Status::Done);
-    assert_eq!(rt;
-        text.as_slice(),
-        b"pilot phase=777 energy=150994944\n".as_slice()
-    );
-    Ok(())
-}
+/// 2,048 samples of zeros,
+const ZEROS: Input = Input::Zeros(1, 2048, 8192);
 
-#[test]
-fn finds_in_samples_of_8_bits(rt: HostRuntime) -> Result<(), Fail> {
-    let alloc = rt.alloc();
-    let mut file = file_with(alloc, 2, 2048)?;
-    file.extend_from_slice(&[0; 4096])?;
-    let (status, text) = run(&rt, "find", file.as_slice(), SMALL)?;
-    assert_eq!(rt; status, Status::Done);
-    assert_eq!(rt; text.as_slice(), b"pilot phase=0 energy=0\n".as_slice());
-    Ok(())
-}
+/// and their line.
+const ZERO_LINE: &[u8] = b"pilot phase=0 energy=0\n";
 
-#[test]
-fn finds_in_the_longest_span(rt: HostRuntime) -> Result<(), Fail> {
-    let alloc = rt.alloc();
-    let mut least = file_with(alloc, 1, 32768)?;
-    for _n in 0..65536 {
-        least.extend_from_slice(&i16::MIN.to_be_bytes())?;
-    }
-    let greatest = pilot_file(alloc, 32768, 0, 32767)?;
-    for line in [
+/// Their first two ranks.
+const ZERO_RANKS: &[u8] = b"survey pn=0 delta=-10 energy=0\nsurvey pn=1 delta=-10 energy=0\n";
+
+/// As many of the pilot's code from its last phase on,
+const LAST: Input = Input::Code(2048, 32767, 100);
+
+/// their line,
+const LAST_LINE: &[u8] = b"pilot phase=32767 energy=167772160000\n";
+
+/// and their first rank.
+const LAST_RANK: &[u8] = b"survey pn=0 delta=-1 energy=167772160000\n";
+
+/// The longest span, of the least samples: each code has as many ones as zeros.
+const LEAST: Input = Input::Least(32768);
+
+/// The same of the greatest that the code has,
+const GREATEST: Input = Input::Code(32768, 0, 32767);
+
+/// and its line.
+const GREATEST_LINE: &[u8] = b"pilot phase=0 energy=4611404547745644544\n";
+
+/// The shortest span, in which two samples aren't 0,
+const TWO: Input = Input::Two(64);
+
+/// and its line.
+const TWO_LINE: &[u8] = b"pilot phase=5 energy=8\n";
+
+/// A header that is cut off.
+const CUT: Input = Input::Bytes(b"IS95\x00\x01\x00\x00\x00\x00\x00\x00\x00\x00\x08");
+
+/// A script of one sample of a pilot and a sync channel,
+const SYNC: Input = Input::Bytes(
+    b"cell pn=0 time=1000 lc=20000000000 checks=0\n\
+    link re=0 im=-3 start=0 samples=1\n\
+    pilot gain=100\n\
+    sync gain=30 prev=3 min=1 sid=1 nid=2 lp=13 ltm=0 daylt=0 prat=0 rest=3:00\n",
+);
+
+/// and its file: magic, version, flags, count and the sample.
+const SYNC_FILE: &[u8] = b"IS95\x00\x01\x00\x00\x00\x00\x00\x00\x00\x00\x00\x01\xff\x2e\x00\xd2";
+
+/// The same without the sync channel.
+const PILOT: Input = Input::Bytes(
+    b"cell pn=0 time=1000 lc=20000000000 checks=0\n\
+    link re=0 im=-3 start=0 samples=1\n\
+    pilot gain=100\n",
+);
+
+const PILOT_FILE: &[u8] = b"IS95\x00\x01\x00\x00\x00\x00\x00\x00\x00\x00\x00\x01\xfe\xd4\x01\x2c";
+
+/// The script of a pilot with both forms of checks complemented, received at the last chip of its
+/// code. The inserted chip is 0 in both codes, so both signs are positive.
+const CHIP: Input = Input::Bytes(
+    b"cell pn=0 time=0 lc=00000000001 checks=3\n\
+    link re=1 im=0 start=32767 samples=1\n\
+    pilot gain=127\n",
+);
+
+const CHIP_FILE: &[u8] = b"IS95\x00\x02\x00\x03\x00\x00\x00\x00\x00\x00\x00\x01\x7f\x7f";
+
+/// No input,
+const NOTHING: Input = Input::Bytes(b"");
+
+/// and the line of the trial of 0, which needs none.
+const TRIAL_LINE: &[u8] =
+    b"trial number=0 samples=2457600 phase=8320 syncs=8 pagings=144 frames=72 good=72\n";
+
+/// Runs over files.
+static FILES: [Row; 27] = [
+    ("find", LAST, LAST_LINE, Status::Done),
+    ("find --workers 1", LAST, LAST_LINE, Status::Done),
+    ("find --workers=3", LAST, LAST_LINE, Status::Done),
+    ("find --workers 64", LAST, LAST_LINE, Status::Done),
+    (
         "find --span 32768 --workers 1",
-        "find --span 32768 --workers=3",
-        "find --workers 64 --span=32768",
-    ] {
-        // Each code has as many ones as zeros.
-        let (status, text) = run(&rt, line, least.as_slice(), SMALL)?;
-        assert_eq!(rt; status, Status::Done, "{line}");
-        assert_eq!(rt;
-            text.as_slice(),
-            b"pilot phase=0 energy=0\n".as_slice(),
-            "{line}"
-        );
-        let (status, text) = run(&rt, line, greatest.as_slice(), SMALL)?;
-        assert_eq!(rt; status, Status::Done, "{line}");
-        assert_eq!(rt;
-            text.as_slice(),
-            b"pilot phase=0 energy=4611404547745644544\n".as_slice(),
-            "{line}"
-        );
-    }
-    Ok(())
-}
-
-#[test]
-fn finds_in_the_shortest_span(rt: HostRuntime) -> Result<(), Fail> {
-    let alloc = rt.alloc();
-    let file = two_samples_file(alloc, 64)?;
-    let (status, text) = run(&rt, "find --span 64", file.as_slice(), SMALL)?;
-    assert_eq!(rt; status, Status::Done);
-    assert_eq!(rt; text.as_slice(), b"pilot phase=5 energy=8\n".as_slice());
-
-    let file = zero_file(alloc, 64)?;
-    for line in ["find --span=0064", "find --span 00000000000000000064"] {
-        let (status, text) = run(&rt, line, file.as_slice(), SMALL)?;
-        assert_eq!(rt; status, Status::Done, "{line}");
-        assert_eq!(rt; text.as_slice(), b"pilot phase=0 energy=0\n".as_slice());
-    }
-    let file = zero_file(alloc, 63)?;
-    let (status, _) = run(&rt, "find --span 64", file.as_slice(), SMALL)?;
-    assert_eq!(rt; status, Status::BadFile(FileFault::TooFew { count: 63 }));
-    Ok(())
-}
-
-#[test]
-fn answers_in_any_pieces(rt: HostRuntime) -> Result<(), Fail> {
-    let file = zero_file(rt.alloc(), 2048)?;
-    for (source_piece, sink_piece) in [(7, 1), (1, 3), (8208, 100)] {
-        assert!(rt; source_piece > 0 && sink_piece > 0);
-        let outside = Outside {
-            source_piece,
-            sink_piece,
-            ..SMALL
-        };
-        let (status, text) = run(&rt, "find", file.as_slice(), outside)?;
-        assert_eq!(rt; status, Status::Done);
-        assert_eq!(rt; text.as_slice(), b"pilot phase=0 energy=0\n".as_slice());
-    }
-    Ok(())
-}
-
-#[test]
-fn names_each_fault(rt: HostRuntime) -> Result<(), Fail> {
-    let alloc = rt.alloc();
-    let (status, text) = run(&rt, "find", zero_file(alloc, 2047)?.as_slice(), SMALL)?;
-    assert_eq!(rt; status, Status::BadFile(FileFault::TooFew { count: 2047 }));
-    assert_eq!(rt; text.len(), 0);
-
-    let (status, text) = run(
-        &rt,
+        LEAST,
+        ZERO_LINE,
+        Status::Done,
+    ),
+    (
+        "find --span 32768 --workers 3",
+        LEAST,
+        ZERO_LINE,
+        Status::Done,
+    ),
+    (
+        "find --span 32768 --workers 64",
+        LEAST,
+        ZERO_LINE,
+        Status::Done,
+    ),
+    (
+        "find --span 32768 --workers 1",
+        GREATEST,
+        GREATEST_LINE,
+        Status::Done,
+    ),
+    (
+        "find --span 32768 --workers 3",
+        GREATEST,
+        GREATEST_LINE,
+        Status::Done,
+    ),
+    (
+        "find --span 32768 --workers 64",
+        GREATEST,
+        GREATEST_LINE,
+        Status::Done,
+    ),
+    ("find --span 64 --workers 1", TWO, TWO_LINE, Status::Done),
+    ("find --span 64 --workers 3", TWO, TWO_LINE, Status::Done),
+    ("find --span 64 --workers 64", TWO, TWO_LINE, Status::Done),
+    (
+        "find --span=0064",
+        Input::Zeros(1, 64, 256),
+        ZERO_LINE,
+        Status::Done,
+    ),
+    ("find", Input::Zeros(2, 2048, 4096), ZERO_LINE, Status::Done),
+    (
         "find",
-        file_with(alloc, 1, 33_554_433)?.as_slice(),
-        SMALL,
-    )?;
-    assert_eq!(rt; status, Status::BadFile(FileFault::Count));
-    assert_eq!(rt; text.len(), 0);
+        Input::Zeros(1, 2047, 8188),
+        b"",
+        Status::BadFile(FileFault::TooFew { count: 2047 }),
+    ),
+    (
+        "find",
+        CUT,
+        b"",
+        Status::BadFile(FileFault::Short { at: 15 }),
+    ),
+    (
+        "find",
+        Input::Zeros(1, 2048, 8190),
+        b"",
+        Status::BadFile(FileFault::Short { at: 8206 }),
+    ),
+    (
+        "find",
+        Input::Zeros(1, 2048, 8193),
+        ZERO_LINE,
+        Status::BadFile(FileFault::Extra { at: 8208 }),
+    ),
+    (
+        "find",
+        Input::Zeros(2, 33_554_433, 0),
+        b"",
+        Status::BadFile(FileFault::Short { at: 16 }),
+    ),
+    (
+        "find",
+        Input::Zeros(2, 67_108_865, 0),
+        b"",
+        Status::BadFile(FileFault::Count),
+    ),
+    (
+        "find",
+        Input::Zeros(3, 2048, 8192),
+        b"",
+        Status::BadFile(FileFault::Version),
+    ),
+    ("follow", ZEROS, ZERO_LINE, Status::NoSync),
+    ("follow --pilots 0", ZEROS, b"", Status::NoSync),
+    ("rate2 --esn 0000abcd --row 10", ZEROS, b"", Status::NoSync),
+    ("survey --top 2", ZEROS, ZERO_RANKS, Status::Done),
+    ("survey --top 1", LAST, LAST_RANK, Status::Done),
+];
 
-    for (count, fault) in [
-        (33_554_433, FileFault::Short { at: 16 }),
-        (67_108_865, FileFault::Count),
-    ] {
-        let file = file_with(alloc, 2, count)?;
-        let (status, text) = run(&rt, "find", file.as_slice(), SMALL)?;
-        assert_eq!(rt; status, Status::BadFile(fault), "{count}");
-        assert_eq!(rt; text.len(), 0);
+/// Runs over scripts, and over nothing.
+static SCRIPTS: [Row; 8] = [
+    ("make", SYNC, SYNC_FILE, Status::Done),
+    ("make", PILOT, PILOT_FILE, Status::Done),
+    ("make --bits 8", CHIP, CHIP_FILE, Status::Done),
+    (
+        "make",
+        Input::Letters(1_048_576),
+        b"",
+        Status::BadScript(ScriptFault::Line { n: 1 }),
+    ),
+    (
+        "make",
+        Input::Letters(1_048_577),
+        b"",
+        Status::BadScript(ScriptFault::TooBig),
+    ),
+    ("trial --number 0", NOTHING, TRIAL_LINE, Status::Done),
+    (
+        "trial --number 0 --workers 1",
+        NOTHING,
+        TRIAL_LINE,
+        Status::Done,
+    ),
+    (
+        "trial --workers=64 --number 0",
+        NOTHING,
+        TRIAL_LINE,
+        Status::Done,
+    ),
+];
+
+/// Sees that each row's run ends so, and writes just that.
+fn expect_all<R: AllocGlobal + Threads + Sync>(rt: &R, rows: &[Row]) -> Result<(), Fail> {
+    for (words, input, written, status) in rows {
+        let input = input.bytes(rt.alloc())?;
+        expect(rt, words, input.as_slice(), SMALL, *status, written)?;
     }
-
-    for (place, byte, fault) in [
-        (0, b'i', FileFault::Magic),
-        (3, b'6', FileFault::Magic),
-        (5, 3, FileFault::Version),
-        (4, 1, FileFault::Version),
-        (7, 4, FileFault::Flags),
-        (6, 1, FileFault::Flags),
-    ] {
-        let mut file = zero_file(alloc, 2048)?;
-        assert!(rt; place < file.len());
-        file[place] = byte;
-        let (status, text) = run(&rt, "find", file.as_slice(), SMALL)?;
-        assert_eq!(rt; status, Status::BadFile(fault), "byte {place}");
-        assert_eq!(rt; text.len(), 0);
-    }
-
-    let mut longer = zero_file(alloc, 2048)?;
-    longer.push(0)?;
-    let (status, text) = run(&rt, "find", longer.as_slice(), SMALL)?;
-    assert_eq!(rt; status, Status::BadFile(FileFault::Extra { at: 8208 }));
-    assert_eq!(rt; text.as_slice(), b"pilot phase=0 energy=0\n".as_slice());
     Ok(())
 }
 
 #[test]
-fn names_the_end_of_every_cut(rt: HostRuntime) -> Result<(), Fail> {
+fn files_are_received(rt: HostRuntime) -> Result<(), Fail> {
+    expect_all(&rt, &FILES)
+}
+
+#[test]
+fn scripts_are_made_and_links_tried(rt: HostRuntime) -> Result<(), Fail> {
+    expect_all(&rt, &SCRIPTS)
+}
+
+/// Words over a second of a cell, and how many of its first lines they write.
+static LIMITS: [(&str, usize); 10] = [
+    ("follow --paging 1", 49),
+    ("follow --messages 0", 1),
+    ("follow --messages 1", 2),
+    ("follow --messages 2", 3),
+    ("follow --messages 24", 25),
+    ("follow --messages 47", 48),
+    ("follow --messages 48", 49),
+    ("follow --pilots 0 --messages 0", 0),
+    ("follow --pilots 1 --messages 0", 1),
+    ("follow --pilots 2 --messages 0", 1),
+];
+
+/// Other words over it, and what they write.
+static OTHERS: [(&str, &str); 3] = [
+    ("follow --pilots 0 --messages 0 --raw 1", RAW_LINE),
+    ("idle --key 00000000", SLOT_LINES),
+    ("idle --key 00000001", ""),
+];
+
+/// The file of a second of a cell.
+fn second<R: AllocGlobal + Threads + Sync>(rt: &R) -> Result<Vec<u8>, Fail> {
+    let script = SECOND.bytes(rt.alloc())?;
+    let (_status, file) = run(rt, "make", script.as_slice(), STEADY)?;
+    Ok(file)
+}
+
+#[test]
+fn a_second_of_a_cell_is_followed(rt: HostRuntime) -> Result<(), Fail> {
+    let file = second(&rt)?;
+    for (words, lines) in &LIMITS {
+        let written = first_lines(SECOND_LINES, *lines);
+        expect(&rt, words, file.as_slice(), STEADY, Status::Done, written)?;
+    }
+    for (words, written) in &OTHERS {
+        let written = written.as_bytes();
+        expect(&rt, words, file.as_slice(), STEADY, Status::Done, written)?;
+    }
+    Ok(())
+}
+
+#[test]
+fn pieces_change_nothing(rt: HostRuntime) -> Result<(), Fail> {
+    let file = second(&rt)?;
+    let pieces = Outside {
+        source_piece: 7,
+        sink_piece: 1,
+        ..STEADY
+    };
+    let written = SECOND_LINES.as_bytes();
+    expect(
+        &rt,
+        "follow",
+        file.as_slice(),
+        pieces,
+        Status::Done,
+        written,
+    )
+}
+
+#[test]
+fn each_tap_handed_in_tells(rt: HostRuntime) -> Result<(), Fail> {
     let alloc = rt.alloc();
-    for len in 0..8208usize {
-        let mut file = zero_file(alloc, 2048)?;
-        file.truncate(len);
-        let (status, text) = run(&rt, "find", file.as_slice(), SMALL)?;
-        assert_eq!(rt;
-            status,
-            Status::BadFile(FileFault::Short { at: len as u64 })
-        );
-        assert_eq!(rt; text.len(), 0, "after {len} bytes");
+    let file = second(&rt)?;
+    let mut taps: Vec<Box<dyn Tap>> = Vec::new(alloc);
+    taps.push(Box::new(alloc, MessageTap::new())?)?;
+    taps.push(Box::new(alloc, MessageTap::new())?)?;
+    let mut twice = String::new(alloc);
+    for line in SECOND_LINES.split_inclusive('\n').skip(1) {
+        twice.push_str(line)?;
+        twice.push_str(line)?;
     }
+    let (status, text) = run_tapped(&rt, "follow", file.as_slice(), STEADY, taps, &Open)?;
+    assert_eq!(rt; status, Status::Done);
+    assert_eq!(rt; text.as_slice(), twice.as_bytes());
     Ok(())
 }
 
 #[test]
-fn ends_where_a_call_fails(rt: HostRuntime) -> Result<(), Fail> {
-    let file = zero_file(rt.alloc(), 2048)?;
-    // A header, two pieces of 1,024 samples, and the look for a further byte. Only one call fails, so
-    // a run that tried it again would be done.
-    for source_fails in 1..6u64 {
-        let outside = Outside {
-            source_fails,
-            ..SMALL
-        };
-        let (status, text) = run(&rt, "find", file.as_slice(), outside)?;
-        let end = if source_fails < 5 {
-            Status::ReadFault
-        } else {
-            Status::Done
-        };
-        assert_eq!(rt; status, end, "call {source_fails}");
-        assert_eq!(rt; text.is_empty(), source_fails < 4, "call {source_fails}");
-    }
-    for (sink_piece, sink_fails, written) in [(65536, 1, ""), (5, 3, "pilot phas")] {
-        assert!(rt; sink_piece > 0);
-        let outside = Outside {
-            sink_piece,
-            sink_fails,
-            ..SMALL
-        };
-        let (status, text) = run(&rt, "find", file.as_slice(), outside)?;
-        assert_eq!(rt; status, Status::WriteFault);
-        assert_eq!(rt; text.as_slice(), written.as_bytes());
-    }
-    Ok(())
-}
-
-#[test]
-fn a_flush_that_fails_is_a_lost_write(rt: HostRuntime) {
-    assert_eq!(rt; flushed(Status::Done, Err(Failed)), Status::WriteFault);
-    assert_eq!(rt; flushed(Status::NoSync, Err(Failed)), Status::WriteFault);
-    assert_eq!(rt; flushed(Status::ReadFault, Err(Failed)), Status::ReadFault);
-    assert_eq!(rt; flushed(Status::NoSync, Ok(())), Status::NoSync);
-}
-
-#[test]
-fn refuses_other_words(rt: HostRuntime) -> Result<(), Fail> {
-    let file = zero_file(rt.alloc(), 2048)?;
-    for line in [
-        "",
-        "finds",
-        "find --",
-        "find --help",
-        "find --span 63",
-        "find --span 64 --span 64",
-        "find --span --",
-        "--span 64 find",
-        "find --fingers 1",
-        "find --paging 1",
-        "follow --paging 8",
-        "follow --bits=8",
-        "make --workers 4",
-        "survey --top 0",
+fn no_tap_tells_nothing(rt: HostRuntime) -> Result<(), Fail> {
+    let alloc = rt.alloc();
+    let file = ZEROS.bytes(alloc)?;
+    for (words, end, written) in [
+        ("follow", Status::NoSync, b"".as_slice()),
+        ("find", Status::Done, ZERO_LINE),
     ] {
-        let (status, text) = run(&rt, line, file.as_slice(), SMALL)?;
-        assert_eq!(rt; status, Status::BadWords, "{line}");
-        assert_eq!(rt; status.code(), 2);
-        assert_eq!(rt; text.len(), 0);
+        let taps = Vec::new(alloc);
+        let (status, text) = run_tapped(&rt, words, file.as_slice(), SMALL, taps, &Open)?;
+        assert_eq!(rt; status, end, "{words}");
+        assert_eq!(rt; text.as_slice(), written, "{words}");
     }
     Ok(())
 }
 
 #[test]
-fn says_how_a_run_ended(rt: HostRuntime) -> Result<(), Fail> {
-    for (status, text) in [
-        (Status::Done, ""),
-        (Status::NoSync, "no sync message"),
-        (Status::BadWords, "bad words"),
-        (
-            Status::BadFile(FileFault::Version),
-            "bad file: version at 4",
-        ),
-        (
-            Status::BadFile(FileFault::Short { at: 8206 }),
-            "bad file: short at 8206",
-        ),
-        (
-            Status::BadFile(FileFault::TooFew { count: 2047 }),
-            "bad file: too few at 8",
-        ),
-        (Status::ReadFault, "read fault"),
-        (Status::WriteFault, "write fault"),
-        (Status::NoMemory, "out of memory"),
-        (
-            Status::BadScript(ScriptFault::TooLoud { sum: 390 }),
-            "bad script: too loud 390",
-        ),
-        (
-            Status::BadScript(ScriptFault::Line { n: 1 }),
-            "bad script: line 1",
-        ),
-    ] {
-        let shown = format!(in rt.alloc(); "{status}")?;
-        assert_eq!(rt; shown.as_str(), text);
-    }
+fn says_that_memory_ran_out(rt: HostRuntime) -> Result<(), Fail> {
+    let shown = format!(in rt.alloc(); "{}", Status::NoMemory)?;
+    assert_eq!(rt; shown.as_str(), "out of memory");
+    assert_eq!(rt; Status::NoMemory.code(), 6);
     Ok(())
-}
-
-#[test]
-fn exit_statuses(rt: HostRuntime) {
-    for (status, code) in [
-        (Status::Done, 0),
-        (Status::NoSync, 1),
-        (Status::BadFile(FileFault::Magic), 3),
-        (Status::ReadFault, 4),
-        (Status::WriteFault, 5),
-        (Status::NoMemory, 6),
-        (Status::BadScript(ScriptFault::TooBig), 8),
-    ] {
-        assert_eq!(rt; status.code(), code);
-    }
 }

@@ -1,7 +1,8 @@
-//! Runs by several workers: that they run at once, and that their number changes nothing.
+//! Runs by two workers: that they run at once.
 
 use crate::Status;
-use crate::test_runs::{SMALL, pilot_file, run, run_through, two_samples_file, zero_file};
+use crate::test_inputs::Input;
+use crate::test_runs::{SMALL, run_through};
 use pilot_search::Gate;
 use std::sync::atomic::{AtomicU64, Ordering};
 use std::test::Fail;
@@ -22,6 +23,13 @@ impl Meeting {
             met: [AtomicU64::new(0), AtomicU64::new(0)],
             others: AtomicU64::new(0),
         }
+    }
+
+    /// Whether both have met, and no other worker was there.
+    fn are_met(&self) -> bool {
+        self.met[0].load(Ordering::SeqCst) == 1
+            && self.met[1].load(Ordering::SeqCst) == 1
+            && self.others.load(Ordering::SeqCst) == 0
     }
 }
 
@@ -44,102 +52,54 @@ impl Gate for Meeting {
     fn leave(&self, _worker: u8, _unfinished: u16) {}
 }
 
-/// The line of 2,048 samples of the pilot's code at its last phase.
-const LINE: &[u8] = b"pilot phase=32767 energy=167772160000\n";
+/// Words, an input, what is written, and how the run ends.
+type Row = (&'static str, Input, &'static [u8], Status);
+
+/// 2,048 samples of zeros.
+const ZEROS: Input = Input::Zeros(1, 2048, 8192);
+
+/// Runs by two workers.
+static ROWS: [Row; 4] = [
+    (
+        "find --workers 2",
+        ZEROS,
+        b"pilot phase=0 energy=0\n",
+        Status::Done,
+    ),
+    (
+        "follow --workers=2",
+        ZEROS,
+        b"pilot phase=0 energy=0\n",
+        Status::NoSync,
+    ),
+    (
+        "survey --workers 2 --top=1",
+        ZEROS,
+        b"survey pn=0 delta=-10 energy=0\n",
+        Status::Done,
+    ),
+    (
+        "trial --workers 2 --number=0",
+        Input::Bytes(b""),
+        TRIAL_LINE,
+        Status::Done,
+    ),
+];
 
 /// The line of the trial of 0.
 const TRIAL_LINE: &[u8] =
     b"trial number=0 samples=2457600 phase=8320 syncs=8 pagings=144 frames=72 good=72\n";
 
-/// The line of samples of zeros.
-const ZERO_LINE: &[u8] = b"pilot phase=0 energy=0\n";
-
-/// Their first rank.
-const RANK_LINE: &[u8] = b"survey pn=0 delta=-10 energy=0\n";
-
 #[test]
-fn two_workers_meet_in_find(rt: HostRuntime) -> Result<(), Fail> {
-    let file = zero_file(rt.alloc(), 2048)?;
-    let gate = Meeting::new();
-    let (status, text) = run_through(&rt, "find --workers 2", file.as_slice(), SMALL, &gate)?;
-    assert_eq!(rt; status, Status::Done);
-    assert_eq!(rt; text.as_slice(), ZERO_LINE);
-    assert_eq!(rt; gate.met[0].load(Ordering::SeqCst), 1);
-    assert_eq!(rt; gate.met[1].load(Ordering::SeqCst), 1);
-    assert_eq!(rt; gate.others.load(Ordering::SeqCst), 0);
-    Ok(())
-}
-
-#[test]
-fn two_workers_meet_in_follow(rt: HostRuntime) -> Result<(), Fail> {
-    let file = zero_file(rt.alloc(), 2048)?;
-    let gate = Meeting::new();
-    let (status, text) = run_through(&rt, "follow --workers=2", file.as_slice(), SMALL, &gate)?;
-    assert_eq!(rt; status, Status::NoSync);
-    assert_eq!(rt; text.as_slice(), ZERO_LINE);
-    assert_eq!(rt; gate.met[0].load(Ordering::SeqCst), 1);
-    assert_eq!(rt; gate.met[1].load(Ordering::SeqCst), 1);
-    assert_eq!(rt; gate.others.load(Ordering::SeqCst), 0);
-    Ok(())
-}
-
-#[test]
-fn two_workers_meet_in_survey(rt: HostRuntime) -> Result<(), Fail> {
-    let file = zero_file(rt.alloc(), 2048)?;
-    let gate = Meeting::new();
-    let line = "survey --workers 2 --top=1";
-    let (status, text) = run_through(&rt, line, file.as_slice(), SMALL, &gate)?;
-    assert_eq!(rt; status, Status::Done);
-    assert_eq!(rt; text.as_slice(), RANK_LINE);
-    assert_eq!(rt; gate.met[0].load(Ordering::SeqCst), 1);
-    assert_eq!(rt; gate.met[1].load(Ordering::SeqCst), 1);
-    assert_eq!(rt; gate.others.load(Ordering::SeqCst), 0);
-    Ok(())
-}
-
-#[test]
-fn two_workers_meet_in_trial(rt: HostRuntime) -> Result<(), Fail> {
-    let gate = Meeting::new();
-    let (status, text) = run_through(&rt, "trial --workers 2 --number=0", b"", SMALL, &gate)?;
-    assert_eq!(rt; status, Status::Done);
-    assert_eq!(rt; text.as_slice(), TRIAL_LINE);
-    assert_eq!(rt; gate.met[0].load(Ordering::SeqCst), 1);
-    assert_eq!(rt; gate.met[1].load(Ordering::SeqCst), 1);
-    assert_eq!(rt; gate.others.load(Ordering::SeqCst), 0);
-    Ok(())
-}
-
-#[test]
-fn any_number_of_workers_writes_the_same(rt: HostRuntime) -> Result<(), Fail> {
-    let file = pilot_file(rt.alloc(), 2048, 32767, 100)?;
-    for line in [
-        "find",
-        "find --workers 1",
-        "find --workers=3",
-        "find --span 2048 --workers 64",
-    ] {
-        let (status, text) = run(&rt, line, file.as_slice(), SMALL)?;
-        assert_eq!(rt; status, Status::Done, "{line}");
-        assert_eq!(rt; text.as_slice(), LINE, "{line}");
-    }
-    Ok(())
-}
-
-#[test]
-fn any_number_of_workers_takes_the_least_phase(rt: HostRuntime) -> Result<(), Fail> {
-    let file = two_samples_file(rt.alloc(), 64)?;
-    for line in [
-        "find --span 64 --workers 1",
-        "find --span 64 --workers=3",
-        "find --workers 64 --span=64",
-    ] {
-        let (status, text) = run(&rt, line, file.as_slice(), SMALL)?;
-        assert_eq!(rt; status, Status::Done, "{line}");
-        assert_eq!(rt;
-            text.as_slice(),
-            b"pilot phase=5 energy=8\n".as_slice(),
-            "{line}"
-        );
+fn two_workers_meet(rt: HostRuntime) -> Result<(), Fail> {
+    for (words, input, written, end) in &ROWS {
+        let input = input.bytes(rt.alloc())?;
+        let gate = Meeting::new();
+        let (status, text) = run_through(&rt, words, input.as_slice(), SMALL, &gate)?;
+        if status != *end || text.as_slice() != *written {
+            return Err(Fail::from("another end or another text"));
+        }
+        assert!(rt; gate.are_met(), "{words}");
     }
     Ok(())
 }

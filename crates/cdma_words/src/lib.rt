@@ -14,8 +14,6 @@ mod job;
 mod matching;
 mod receiving;
 mod testing;
-#[cfg(test)]
-mod tests;
 mod texts;
 
 pub use job::{Job, TrafficOptions, WordFault, words_of};

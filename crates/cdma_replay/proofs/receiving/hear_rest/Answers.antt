@@ -16,6 +16,7 @@ use Rattle.cdma_replay.proofs.Files.{blamed, ended_by, wrong_length}
 use Rattle.cdma_replay.proofs.HeardRest.{hears_all, hears_first, hears_more, hears_nothing, hears_part}
 use Rattle.cdma_replay.proofs.HeardRest.{hears_stopped}
 use Rattle.cdma_replay.proofs.Hearings.{room_for}
+use Rattle.cdma_replay.proofs.Bounds.{passed_most, shared_out}
 use Rattle.cdma_replay.proofs.receiving.hear_rest.Goals as goal
 
 pub loop-reader-init : goal.loop-reader-init
@@ -32,7 +33,8 @@ loop-reader-init g c = record {
 }
 
 pub returns-in_err-count-clause-written : goal.returns-in_err-count-clause-written
-returns-in_err-count-clause-written g c = hears_part c.loop-reader.invariant.hears
+returns-in_err-count-clause-written g c =
+    hears_part c.args.reader.now.left c.loop-reader.invariant.hears (omega arith) c.read.ensures.taken
 
 pub returns-in_err-count-clause-place : goal.returns-in_err-count-clause-place
 returns-in_err-count-clause-place g c fault is =
@@ -98,11 +100,21 @@ loop-reader-preserved g c =
 pub returns-in-Err-clause-written : goal.returns-in-Err-clause-written
 returns-in-Err-clause-written g c =
     let inv = c.loop-reader.invariant in
-    hears_stopped _ _ (ap width_of inv.same) inv.hears c.in_ok-count.ensures.samples
-    c.in-Err.ensures.err
+    let n = c.in_ok-count.count in
+    let long : length c.read.new.out ≡ length c.loop-reader.piece = search rules in
+    let room : n ≤ length c.read.new.out = omega (arith, long, c.in_ok-count.ensures.count) in
+    hears_stopped _ _ c.args.reader.now.left (ap width_of inv.same) inv.hears
+    (omega (
+      arith,
+      length-take-le n c.read.new.out room,
+      c.in_ok-count.ensures.count,
+      inv.low,
+    ))
+    c.in_ok-count.ensures.in_range c.in_ok-count.ensures.samples c.in-Err.ensures.err
 
 pub returns-in_err-finish-clause-written : goal.returns-in_err-finish-clause-written
-returns-in_err-finish-clause-written g c = hears_part c.loop-reader.invariant.hears
+returns-in_err-finish-clause-written g c =
+    hears_part c.args.reader.now.left c.loop-reader.invariant.hears (omega arith) c.finish.ensures.taken
 
 pub returns-in_err-finish-clause-place : goal.returns-in_err-finish-clause-place
 returns-in_err-finish-clause-place g c fault is =
@@ -127,7 +139,8 @@ returns-in_err-finish-clause-fault g c fault is =
     )
 
 pub returns-clause-written : goal.returns-clause-written
-returns-clause-written g c = hears_part c.loop-reader.invariant.hears
+returns-clause-written g c =
+    hears_part c.args.reader.now.left c.loop-reader.invariant.hears (omega arith) c.finish.ensures.taken
 
 pub returns-clause-ok : goal.returns-clause-ok
 returns-clause-ok g c =
@@ -172,3 +185,57 @@ returns-in_err-finish-clause-long g c long =
     omega (arith, c.left.ensures.value, c.loop-reader-test.false) in
     hears_first (λ (k : ℕ). k ≡ left) 1 c.loop-reader.invariant.hears (omega (arith, done))
     c.finish.ensures.taken (omega arith)
+
+-- no more bytes were taken than those of the samples that were left, and one
+
+pub returns-in_err-count-clause-bound : goal.returns-in_err-count-clause-bound
+returns-in_err-count-clause-bound g c =
+    let inv = c.loop-reader.invariant in
+    let left = c.args.reader.now.left in
+    let now = c.loop-reader.reader.left in
+    let width = width_of c.args.reader.now.header in
+    let room = min (length c.loop-reader.piece) now in
+    passed_most (g.S.Source.rest c.args.source.now) _ _ inv.hears.passed
+    (subst (λ (h : Header). ConsumesAtMost (sample_len (width_of h) * room)
+    (g.S.Source.rest c.loop-reader.source) (g.S.Source.rest c.read.new.source)) inv.same
+    c.read.ensures.taken)
+    (omega (
+      arith,
+      sample_len-mono width room now (omega arith),
+      shared_out width (left - now) now left (omega (arith, inv.low)),
+    ))
+
+pub returns-in-Err-clause-bound : goal.returns-in-Err-clause-bound
+returns-in-Err-clause-bound g c =
+    let inv = c.loop-reader.invariant in
+    let left = c.args.reader.now.left in
+    let now = c.loop-reader.reader.left in
+    let width = width_of c.args.reader.now.header in
+    let room = min (length c.loop-reader.piece) now in
+    passed_most (g.S.Source.rest c.args.source.now) _ _ inv.hears.passed
+    (subst (λ (h : Header). ConsumesAtMost (sample_len (width_of h) * room)
+    (g.S.Source.rest c.loop-reader.source) (g.S.Source.rest c.read.new.source)) inv.same
+    c.read.ensures.taken)
+    (omega (
+      arith,
+      sample_len-mono width room now (omega arith),
+      shared_out width (left - now) now left (omega (arith, inv.low)),
+    ))
+
+pub returns-in_err-finish-clause-bound : goal.returns-in_err-finish-clause-bound
+returns-in_err-finish-clause-bound g c =
+    let left = c.args.reader.now.left in
+    let now = c.loop-reader.reader.left in
+    let width = width_of c.args.reader.now.header in
+    passed_most (g.S.Source.rest c.args.source.now) _ _ c.loop-reader.invariant.hears.passed
+    c.finish.ensures.taken
+    (omega (arith, sample_len-mono width (left - now) left (omega arith)))
+
+pub returns-clause-bound : goal.returns-clause-bound
+returns-clause-bound g c =
+    let left = c.args.reader.now.left in
+    let now = c.loop-reader.reader.left in
+    let width = width_of c.args.reader.now.header in
+    passed_most (g.S.Source.rest c.args.source.now) _ _ c.loop-reader.invariant.hears.passed
+    c.finish.ensures.taken
+    (omega (arith, sample_len-mono width (left - now) left (omega arith)))

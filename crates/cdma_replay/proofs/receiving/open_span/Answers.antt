@@ -5,6 +5,7 @@ use Rattle.cdma_io.specs.SampleFile.{Reading}
 use Rattle.cdma_replay.proofs.Broken.{no_long_cut, opening_few, span_few, unopened}
 use Rattle.cdma_replay.proofs.Faults.{fault_of_opening, fault_of_count, fault_of_span}
 use Rattle.cdma_replay.proofs.Files.{no_file, unsearchable}
+use Rattle.cdma_replay.proofs.Bounds.{opening_most, span_most}
 use Rattle.cdma_replay.proofs.receiving.open_span.Goals as goal
 
 pub returns-in_err-reader-clause-place : goal.returns-in_err-reader-clause-place
@@ -86,3 +87,23 @@ returns-in_err-read-clause-no_longer g c =
     c.from_residual-in_err-read.ensures.1 in
     rw (p.1, p.2)
     (λ long. absurd (no_long_cut _ _ _ _ _ (c.in_err-read.ensures.fault none) long))
+
+-- no more bytes were taken than the header has, or than it counts
+pub returns-in_err-reader-clause-bound : goal.returns-in_err-reader-clause-bound
+returns-in_err-reader-clause-bound g c =
+    let p = err_from_is_err_and c.from_residual.result c.from_residual.ensures.1 in
+    rw p.1 (opening_most (g.S.Source.rest c.args.source.now) _ c.open.ensures.taken)
+
+pub returns-then-count-span-clause-bound : goal.returns-then-count-span-clause-bound
+returns-then-count-span-clause-bound g c =
+    opening_most (g.S.Source.rest c.args.source.now) _ c.open.ensures.taken
+
+pub returns-in_err-read-clause-bound : goal.returns-in_err-read-clause-bound
+returns-in_err-read-clause-bound g c =
+    let reading = c.in_ok-reader.reader in
+    let p = err_from_is_err_and c.from_residual-in_err-read.result
+    c.from_residual-in_err-read.ensures.1 in
+    rw p.1
+    (span_most (length c.args.span.now) (g.S.Source.rest c.args.source.now) _ _ reading
+    c.in_ok-reader.ensures.told c.in_ok-reader.ensures.header
+    (ap (λ (r : Reading). r.left) c.in_ok-reader.ensures.fresh) c.read.ensures.taken)

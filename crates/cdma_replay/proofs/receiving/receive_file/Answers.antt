@@ -13,6 +13,7 @@ use Rattle.cdma_replay.proofs.Files.{blamed, ended_by, unsearchable}
 use Rattle.cdma_replay.proofs.Hearings.{fault_no_end}
 use Rattle.cdma_replay.proofs.Lines.{has_begun, writes_first_part, writes_first_text}
 use Rattle.cdma_replay.proofs.Lines.{writes_rest_part, writes_text}
+use Rattle.cdma_replay.proofs.Bounds.{none_most, rest_most}
 use Rattle.cdma_replay.proofs.receiving.receive_file.Goals as goal
 
 pub returns-in_err-reader-clause-place : goal.returns-in_err-reader-clause-place
@@ -28,12 +29,15 @@ returns-in_err-reader-clause-place g c fault is =
 pub returns-in-Err-clause-written : goal.returns-in-Err-clause-written
 returns-in-Err-clause-written g c =
     writes_first_text _ c.in_ok-reader.reader.header c.open_span.new.span c.in_ok-shown.shown
-    (search rules) c.in_ok-reader.ensures.file c.in_ok-shown.ensures.shown c.in-Err.ensures.err
+    (search rules) c.in_ok-reader.ensures.lawful c.in_ok-reader.ensures.in_range
+    (omega (arith, c.in_ok-reader.ensures.reader.0, c.requires.span.0)) c.in_ok-reader.ensures.file c.in_ok-shown.ensures.shown c.in-Err.ensures.err
 
 pub returns-in-Err-hear-clause-written : goal.returns-in-Err-hear-clause-written
 returns-in-Err-hear-clause-written g c =
     let begun =
     has_begun _ c.args.reception c.open_span.new.span c.in_ok-shown.shown (search rules)
+    c.in_ok-reader.ensures.lawful c.in_ok-reader.ensures.in_range
+    (omega (arith, c.in_ok-reader.ensures.reader.0, c.requires.span.0))
     c.in_ok-reader.ensures.file c.in_ok-shown.ensures.shown c.header.ensures.value
     c.in_ok-listener.ensures.listens c.in-Ok.ensures.ok c.in-Ok.ensures.behind in
     writes_first_part begun c.in-Err-hear.ensures.err
@@ -79,14 +83,18 @@ pub returns-in_err-hear_rest-clause-written : goal.returns-in_err-hear_rest-clau
 returns-in_err-hear_rest-clause-written g c =
     let begun =
     has_begun _ c.args.reception c.open_span.new.span c.in_ok-shown.shown (search rules)
+    c.in_ok-reader.ensures.lawful c.in_ok-reader.ensures.in_range
+    (omega (arith, c.in_ok-reader.ensures.reader.0, c.requires.span.0))
     c.in_ok-reader.ensures.file c.in_ok-shown.ensures.shown c.header.ensures.value
     c.in_ok-listener.ensures.listens c.in-Ok.ensures.ok c.in-Ok.ensures.behind in
-    writes_rest_part begun c.in-Ok-hear.ensures.ok c.in_err-hear_rest.ensures.written
+    writes_rest_part (omega (arith, c.in_ok-reader.ensures.reader.0, c.requires.span.0)) begun c.in-Ok-hear.ensures.ok c.in_err-hear_rest.ensures.written
 
 pub returns-clause-done : goal.returns-clause-done
 returns-clause-done g c end =
     let begun =
     has_begun _ c.args.reception c.open_span.new.span c.in_ok-shown.shown (search rules)
+    c.in_ok-reader.ensures.lawful c.in_ok-reader.ensures.in_range
+    (omega (arith, c.in_ok-reader.ensures.reader.0, c.requires.span.0))
     c.in_ok-reader.ensures.file c.in_ok-shown.ensures.shown c.header.ensures.value
     c.in_ok-listener.ensures.listens c.in-Ok.ensures.ok c.in-Ok.ensures.behind in
     writes_text (g.S.Source.rest c.args.source.now) _ _ c.in_ok-reader.ensures.lawful (search rules)
@@ -100,9 +108,11 @@ pub returns-clause-written : goal.returns-clause-written
 returns-clause-written g c =
     let begun =
     has_begun _ c.args.reception c.open_span.new.span c.in_ok-shown.shown (search rules)
+    c.in_ok-reader.ensures.lawful c.in_ok-reader.ensures.in_range
+    (omega (arith, c.in_ok-reader.ensures.reader.0, c.requires.span.0))
     c.in_ok-reader.ensures.file c.in_ok-shown.ensures.shown c.header.ensures.value
     c.in_ok-listener.ensures.listens c.in-Ok.ensures.ok c.in-Ok.ensures.behind in
-    writes_rest_part begun c.in-Ok-hear.ensures.ok c.in_ok-hear_rest.ensures.written
+    writes_rest_part (omega (arith, c.in_ok-reader.ensures.reader.0, c.requires.span.0)) begun c.in-Ok-hear.ensures.ok c.in_ok-hear_rest.ensures.written
 
 pub returns-in_err-reader-clause-early : goal.returns-in_err-reader-clause-early
 returns-in_err-reader-clause-early g c none =
@@ -131,6 +141,8 @@ returns-clause-alone g c none unheard =
     let l = listening _ purpose header span in
     let begun =
     has_begun _ c.args.reception span c.in_ok-shown.shown (search rules)
+    c.in_ok-reader.ensures.lawful c.in_ok-reader.ensures.in_range
+    (omega (arith, c.in_ok-reader.ensures.reader.0, c.requires.span.0))
     c.in_ok-reader.ensures.file c.in_ok-shown.ensures.shown c.header.ensures.value
     c.in_ok-listener.ensures.listens c.in-Ok.ensures.ok c.in-Ok.ensures.behind in
     let first = c.in-Ok-hear.ensures.ok l [] begun.listens in
@@ -183,9 +195,12 @@ pub returns-in_err-hear_rest-clause-cut : goal.returns-in_err-hear_rest-clause-c
 returns-in_err-hear_rest-clause-cut g c cut =
     let begun =
     has_begun _ c.args.reception c.open_span.new.span c.in_ok-shown.shown (search rules)
+    c.in_ok-reader.ensures.lawful c.in_ok-reader.ensures.in_range
+    (omega (arith, c.in_ok-reader.ensures.reader.0, c.requires.span.0))
     c.in_ok-reader.ensures.file c.in_ok-shown.ensures.shown c.header.ensures.value
     c.in_ok-listener.ensures.listens c.in-Ok.ensures.ok c.in-Ok.ensures.behind in
-    writes_first (g.S.Source.rest c.args.source.now) _ _ _ _ c.in_ok-reader.ensures.lawful begun
+    writes_first (g.S.Source.rest c.args.source.now) _ _ _ _ c.in_ok-reader.ensures.lawful
+    (omega (arith, c.in_ok-reader.ensures.reader.0, c.requires.span.0)) begun
     c.in-Ok-hear.ensures.ok
     (c.in_err-hear_rest.ensures.cut
     (subst IsCut
@@ -196,6 +211,8 @@ pub returns-in_err-hear_rest-clause-long : goal.returns-in_err-hear_rest-clause-
 returns-in_err-hear_rest-clause-long g c long =
     let begun =
     has_begun _ c.args.reception c.open_span.new.span c.in_ok-shown.shown (search rules)
+    c.in_ok-reader.ensures.lawful c.in_ok-reader.ensures.in_range
+    (omega (arith, c.in_ok-reader.ensures.reader.0, c.requires.span.0))
     c.in_ok-reader.ensures.file c.in_ok-shown.ensures.shown c.header.ensures.value
     c.in_ok-listener.ensures.listens c.in-Ok.ensures.ok c.in-Ok.ensures.behind in
     writes_all (g.S.Source.rest c.args.source.now) _ _ _ _ c.in_ok-reader.ensures.lawful
@@ -205,3 +222,41 @@ returns-in_err-hear_rest-clause-long g c long =
     (subst IsLong
     (ended_by c.from_residual-in_err-hear_rest.result c.in_err-hear_rest.field-0.0
     c.from_residual-in_err-hear_rest.ensures.1) long))
+
+-- ---- no more bytes were taken than the file has, and one
+
+pub returns-in_err-shown-clause-bound : goal.returns-in_err-shown-clause-bound
+returns-in_err-shown-clause-bound g c =
+    rest_most c.in_ok-reader.reader.header c.open_span.new.span c.in_ok-reader.reader.left
+    (g.S.Source.rest c.args.source.now) _ _ c.in_ok-reader.ensures.told (search rules)
+    c.in_ok-reader.ensures.file (none_most _ _)
+
+pub returns-in_err-listener-clause-bound : goal.returns-in_err-listener-clause-bound
+returns-in_err-listener-clause-bound g c =
+    rest_most c.in_ok-reader.reader.header c.open_span.new.span c.in_ok-reader.reader.left
+    (g.S.Source.rest c.args.source.now) _ _ c.in_ok-reader.ensures.told (search rules)
+    c.in_ok-reader.ensures.file (none_most _ _)
+
+pub returns-in-Err-clause-bound : goal.returns-in-Err-clause-bound
+returns-in-Err-clause-bound g c =
+    rest_most c.in_ok-reader.reader.header c.open_span.new.span c.in_ok-reader.reader.left
+    (g.S.Source.rest c.args.source.now) _ _ c.in_ok-reader.ensures.told (search rules)
+    c.in_ok-reader.ensures.file (none_most _ _)
+
+pub returns-in-Err-hear-clause-bound : goal.returns-in-Err-hear-clause-bound
+returns-in-Err-hear-clause-bound g c =
+    rest_most c.in_ok-reader.reader.header c.open_span.new.span c.in_ok-reader.reader.left
+    (g.S.Source.rest c.args.source.now) _ _ c.in_ok-reader.ensures.told (search rules)
+    c.in_ok-reader.ensures.file (none_most _ _)
+
+pub returns-in_err-hear_rest-clause-bound : goal.returns-in_err-hear_rest-clause-bound
+returns-in_err-hear_rest-clause-bound g c =
+    rest_most c.in_ok-reader.reader.header c.open_span.new.span c.in_ok-reader.reader.left
+    (g.S.Source.rest c.args.source.now) _ _ c.in_ok-reader.ensures.told (search rules)
+    c.in_ok-reader.ensures.file c.hear_rest.ensures.bound
+
+pub returns-clause-bound : goal.returns-clause-bound
+returns-clause-bound g c =
+    rest_most c.in_ok-reader.reader.header c.open_span.new.span c.in_ok-reader.reader.left
+    (g.S.Source.rest c.args.source.now) _ _ c.in_ok-reader.ensures.told (search rules)
+    c.in_ok-reader.ensures.file c.hear_rest.ensures.bound

@@ -5,6 +5,7 @@ use Rattle.cdma_words.specs.Words.{IsLawfulJob}
 use Rattle.cdma_words.specs.declared.job.Job.TheVariants.{Follow, Trial}
 use Rattle.cdma_replay.specs.Find.{IsEnd}
 use Rattle.cdma_replay.specs.Replies.{IsTaskEnd, IsTaskPromising, TaskReadsInput, TaskReadsWell}
+use Rattle.cdma_replay.specs.Replies.{TaskTakesNoMore}
 use Rattle.cdma_replay.specs.declared.status.Status.{Status}
 use Rattle.cdma_replay.specs.declared.task.Task.{Task}
 use Rattle.cdma_replay.proofs.CleanTexts.{clean_answer}
@@ -95,7 +96,7 @@ returns-in-Ok-clause-at_end g c job named =
 
 pub returns-in-Ok-clause-written : goal.returns-in-Ok-clause-written
 returns-in-Ok-clause-written g c job named =
-    written_at _ c.task_of.result job _ _ _
+    written_at _ c.task_of.result job _ _ _ _
     (task_named c.task_of.result c.in-Ok.job job c.task_of.ensures.value c.in-Ok.ensures.job named)
     c.run_task.ensures.written
 
@@ -110,3 +111,10 @@ returns-in-Ok-clause-long g c job named =
     long_at _ c.task_of.result job c.run_task.result _ _ _
     (task_named c.task_of.result c.in-Ok.job job c.task_of.ensures.value c.in-Ok.ensures.job named)
     c.run_task.ensures.long
+
+pub returns-in-Ok-clause-bound : goal.returns-in-Ok-clause-bound
+returns-in-Ok-clause-bound g c job named =
+    said_of job
+    (λ (task : Task). TaskTakesNoMore task (g.S.Source.rest c.args.source.now)
+    (g.S.Source.rest c.run_task.new.source))
+    c.task_of.ensures.value c.in-Ok.ensures.job named c.run_task.ensures.bound

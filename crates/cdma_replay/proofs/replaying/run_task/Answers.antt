@@ -8,6 +8,7 @@ use Rattle.cdma_replay.proofs.Replies.{file_all, file_end, file_first, file_part
 use Rattle.cdma_replay.proofs.Replies.{HasTrialCauses, script_early, script_end, script_part}
 use Rattle.cdma_replay.proofs.Replies.{script_verdict, trial_done, trial_early, trial_end, trial_part}
 use Rattle.cdma_replay.proofs.Replies.{purpose_end, trial_verdict}
+use Rattle.cdma_replay.proofs.Bounds.{none_most}
 use Rattle.cdma_replay.proofs.replaying.run_task.Goals as goal
 
 -- where taps hear nothing
@@ -180,3 +181,15 @@ returns-in-Trial-clause-cut g c cut = rw c.in-Trial.is tt
 
 pub returns-in-Trial-clause-long : goal.returns-in-Trial-clause-long
 returns-in-Trial-clause-long g c long = rw c.in-Trial.is tt
+
+pub returns-in-None-clause-bound : goal.returns-in-None-clause-bound
+returns-in-None-clause-bound g c = rw c.in-Receive.is c.receive_untapped.ensures.bound
+
+pub returns-in-Some-clause-bound : goal.returns-in-Some-clause-bound
+returns-in-Some-clause-bound g c = rw c.in-Receive.is c.receive.ensures.bound
+
+pub returns-in-Make-clause-bound : goal.returns-in-Make-clause-bound
+returns-in-Make-clause-bound g c = rw c.in-Make.is c.make.ensures.bound
+
+pub returns-in-Trial-clause-bound : goal.returns-in-Trial-clause-bound
+returns-in-Trial-clause-bound g c = rw c.in-Trial.is (none_most 0 _)
