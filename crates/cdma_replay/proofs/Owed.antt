@@ -18,9 +18,9 @@ use Rattle.cdma_io.specs.declared.header.Header.{Header}
 use Rattle.cdma_io.proofs.ByteNumbers.{AreBytes, AreBytes-drop, AreBytes-from_all, AreBytes-take}
 use Rattle.cdma_io.proofs.Opening.{length-header_spelling, opening-ok}
 use Rattle.cdma_io.proofs.Spelling.{sample_bytes, sample_in}
-use Rattle.base_modulator.specs.Script.{plan_named}
-use Rattle.base_modulator.specs.declared.plan.CellPlan.{CellPlan}
-use Rattle.base_modulator.specs.declared.script_fault.ScriptFault.{ScriptFault}
+use Rattle.cell_script.specs.Script.{plan_named}
+use Rattle.cell_plan.specs.declared.plan.CellPlan.{CellPlan}
+use Rattle.cell_script.specs.declared.script_fault.ScriptFault.{ScriptFault}
 use Rattle.event_tap.specs.Taps.{KeptTap, kept_by, run_text}
 use Rattle.mobile_core.specs.declared.channel.Channel.{Channel}
 use Rattle.tuned_listener.specs.declared.tuned_text.TunedText.{TunedText}
