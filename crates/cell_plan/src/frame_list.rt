@@ -29,11 +29,7 @@ impl FrameList {
     }
 
     /// Adds a frame of rate set 1 at the end. Frames of rate set 2 don't stay.
-    pub fn push_one(
-        &mut self,
-        alloc: Global,
-        frame: &TrafficFrame,
-    ) -> Result<(), OutOfMemory>
+    pub fn push_one(&mut self, alloc: Global, frame: &TrafficFrame) -> Result<(), OutOfMemory>
         ensures { OnOk result (self.new ≡ with_one frame.now self.old) }
     {
         match self {
@@ -48,11 +44,7 @@ impl FrameList {
     }
 
     /// Adds a frame of rate set 2 at the end. Frames of rate set 1 don't stay.
-    pub fn push_two(
-        &mut self,
-        alloc: Global,
-        frame: &TrafficFrame2,
-    ) -> Result<(), OutOfMemory>
+    pub fn push_two(&mut self, alloc: Global, frame: &TrafficFrame2) -> Result<(), OutOfMemory>
         ensures { OnOk result (self.new ≡ with_two frame.now self.old) }
     {
         match self {

@@ -6,8 +6,8 @@ ghost use Rattle.cell_plan.specs.Sendings.{bits_before, continued_symbols};
 ghost use Rattle.cell_samples.specs.Continued.{continued_frames, frame_bits_of, frame_size};
 ghost use Rattle.cell_samples.specs.Continued.{continued_form, symbol_count};
 
-use cell_plan::ChannelForm;
 use crate::frame_source::FrameSource;
+use cell_plan::ChannelForm;
 use chip_core::Bits;
 use conv_code::encode_into;
 use std::marker::Model;

@@ -5,9 +5,9 @@ ghost use Rattle.symbol_path.specs.SentOrder.{shape_of, size};
 ghost use Rattle.cell_samples.specs.Continued.{frame_bits_of, frame_size};
 ghost use Rattle.cell_samples.specs.Continued.{continued_form, kind_of, repeats_in, scrambled_by};
 
-use cell_plan::{ChannelForm, PAGING_FORM, SYNC_FORM};
 use crate::page_cycle::PageCycle;
 use crate::sendings::Sendings;
+use cell_plan::{ChannelForm, PAGING_FORM, SYNC_FORM};
 use chip_core::Bits;
 use symbol_path::Kind;
 

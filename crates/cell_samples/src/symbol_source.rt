@@ -5,8 +5,8 @@ ghost use Rattle.cell_samples.specs.Continued.{symbol_count};
 ghost use Rattle.cell_samples.specs.Channels.{form_of, symbols_of};
 
 use crate::continued::ContinuedEncoder;
-use cell_plan::{ChannelForm, PAGING_FORM, PILOT_FORM};
 use crate::traffic_cycle::TrafficCycle;
+use cell_plan::{ChannelForm, PAGING_FORM, PILOT_FORM};
 use chip_core::Bits;
 
 /// Where the symbols of a channel's frames come from.

@@ -16,10 +16,10 @@ ghost use Rattle.cell_script.specs.ScriptJudged.{HasJudged, HasSeen, IsInOrder};
 ghost use Rattle.cell_script.specs.ScriptPlans.{HasRow};
 ghost use Rattle.cell_plan.specs.Stated.{IsStatedLink};
 
-use cell_plan::{LinkPlan, PilotPlan, SyncPlan};
-use crate::statements::Statement;
 use crate::script_fault::ScriptFault;
+use crate::statements::Statement;
 use cdma_io::Width;
+use cell_plan::{LinkPlan, PilotPlan, SyncPlan};
 use chip_core::Pair;
 use chip_core::air::{PILOT_ROW, SYNC_ROW};
 

@@ -10,14 +10,14 @@ ghost use Rattle.cell_script.specs.ScriptPlans.{HasRow};
 ghost use Rattle.cell_script.specs.ScriptSplitting.{first_stated};
 ghost use Rattle.cell_script.specs.ScriptValues.{length_before};
 
-use cell_plan::CellPlan;
 use crate::build::{add_statement, empty_plan};
 use crate::judge::Judge;
+use crate::script_fault::ScriptFault;
 use crate::stage::Stage;
 use crate::statements::{Statement, statement_in};
 use crate::values::length_before;
-use crate::script_fault::ScriptFault;
 use cdma_io::Width;
+use cell_plan::CellPlan;
 use chip_core::OutOfMemory;
 use std::alloc::Global;
 

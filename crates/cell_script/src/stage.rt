@@ -10,8 +10,8 @@ ghost use Rattle.cell_script.specs.ScriptStages.{after_traffic};
 ghost use Rattle.cell_script.specs.ScriptStages.{behind_sync, count_behind, is_complete};
 ghost use Rattle.cell_script.specs.ScriptStages.{is_cycle, may_follow, next_stage, pages_behind};
 
-use cell_plan::{Page, SyncPlan};
 use crate::statements::Statement;
+use cell_plan::{Page, SyncPlan};
 use symbol_path::Rate;
 
 /// The most bits of a cycle up to the end of its last capsule, SCI bits among them.

@@ -16,15 +16,13 @@ ghost use Rattle.sync_message.specs.SyncMessage.{IsSyncMessage};
 ghost use Rattle.chip_core.specs.Fields.{FieldsFit};
 ghost use Rattle.sync_message.specs.SyncMessage.{fixed_fields};
 
-use cell_plan::{
-    CellIdentity, LinkPlan, Page, PilotPlan, SyncPlan, TrafficFrame, TrafficFrame2,
-};
 use crate::fields::Fields;
 use crate::tables::{
     CELL_FIELDS, FREQ_NUMBER, LINK_FIELDS, PAGING_FIELDS, PILOT_FIELDS, SYNC_NUMBERS,
     TRAFFIC_FIELDS,
 };
 use crate::values::begins_with;
+use cell_plan::{CellIdentity, LinkPlan, Page, PilotPlan, SyncPlan, TrafficFrame, TrafficFrame2};
 use chip_core::{Bits, CheckForm, Pair};
 use paging_message::PagingMessage;
 use symbol_path::{Rate, Rate2};

@@ -78,10 +78,7 @@ const SET_ONE: [(Rate, Row); 9] = [
     (
         Rate::R4800,
         Row {
-            numbers: &[
-                0xe17e_1018_de3b_9058,
-                0x4cd9 << 48,
-            ],
+            numbers: &[0xe17e_1018_de3b_9058, 0x4cd9 << 48],
             commands: 0x0ff3,
             state: 0x12_3456_789a,
             mask: MASK,
@@ -99,10 +96,7 @@ const SET_ONE: [(Rate, Row); 9] = [
     (
         Rate::R4800,
         Row {
-            numbers: &[
-                0xe17e_1018_de3b_9058,
-                0x4cd9 << 48,
-            ],
+            numbers: &[0xe17e_1018_de3b_9058, 0x4cd9 << 48],
             commands: 0x0ff3,
             state: 0x12_3456_789a,
             mask: MASK,
@@ -120,9 +114,7 @@ const SET_ONE: [(Rate, Row); 9] = [
     (
         Rate::R2400,
         Row {
-            numbers: &[
-                0x2a_f752_0981 << 24,
-            ],
+            numbers: &[0x2a_f752_0981 << 24],
             commands: 0x8001,
             state: 1,
             mask: 0x318_8000_0000,
@@ -140,9 +132,7 @@ const SET_ONE: [(Rate, Row); 9] = [
     (
         Rate::R2400,
         Row {
-            numbers: &[
-                0x2a_f752_0981 << 24,
-            ],
+            numbers: &[0x2a_f752_0981 << 24],
             commands: 0x8001,
             state: 1,
             mask: 0x318_8000_0000,
@@ -160,9 +150,7 @@ const SET_ONE: [(Rate, Row); 9] = [
     (
         Rate::R1200,
         Row {
-            numbers: &[
-                0xffff << 48,
-            ],
+            numbers: &[0xffff << 48],
             commands: 0x5555,
             state: 0x3ff_ffff_ffff,
             mask: MASK,
@@ -202,9 +190,7 @@ const SET_ONE: [(Rate, Row); 9] = [
     (
         Rate::R1200,
         Row {
-            numbers: &[
-                0xffff << 48,
-            ],
+            numbers: &[0xffff << 48],
             commands: 0x5555,
             state: 0x3ff_ffff_ffff,
             mask: MASK,
@@ -226,9 +212,7 @@ const SET_TWO: [(Rate2, Row); 5] = [
     (
         Rate2::R1800,
         Row {
-            numbers: &[
-                0x5a_5a58 << 40,
-            ],
+            numbers: &[0x5a_5a58 << 40],
             commands: 0x5555,
             state: 1 << 41,
             mask: MASK,
@@ -246,9 +230,7 @@ const SET_TWO: [(Rate2, Row); 5] = [
     (
         Rate2::R1800,
         Row {
-            numbers: &[
-                0x5a_5a58 << 40,
-            ],
+            numbers: &[0x5a_5a58 << 40],
             commands: 0x5555,
             state: 1 << 41,
             mask: MASK,
@@ -290,10 +272,7 @@ const SET_TWO: [(Rate2, Row); 5] = [
     (
         Rate2::R7200,
         Row {
-            numbers: &[
-                0x7b41_f3ba_74f6_b323,
-                0xe2e6_eab2_cb9f_cfb0,
-            ],
+            numbers: &[0x7b41_f3ba_74f6_b323, 0xe2e6_eab2_cb9f_cfb0],
             commands: 0x8001,
             state: 0x3ff_ffff_ffff,
             mask: MASK,
@@ -311,9 +290,7 @@ const SET_TWO: [(Rate2, Row); 5] = [
     (
         Rate2::R3600,
         Row {
-            numbers: &[
-                0x59b5_1110_6985_5d00,
-            ],
+            numbers: &[0x59b5_1110_6985_5d00],
             commands: 0x5a31,
             state: 0x3ff_ffff_ffff,
             mask: MASK,

@@ -58,8 +58,7 @@ fn cell_of(
     samples: u64,
     channels: &[&str],
 ) -> Result<Cell, Fail> {
-    let mut script =
-        format!(in alloc; "{cell}link {link} start={start} samples={samples}\n")?;
+    let mut script = format!(in alloc; "{cell}link {link} start={start} samples={samples}\n")?;
     for lines in channels {
         script.push_str(*lines)?;
     }
@@ -87,12 +86,7 @@ fn has_one(part: i16, sums: &[u16]) -> bool {
 
 /// The next 64 symbols of a channel that last so many chips each, the first one highest: a 0 where
 /// the in-phase part of a symbol's first chip is as loud as the sum of the gains makes it.
-fn next_symbols(
-    alloc: Global,
-    cell: &mut Cell,
-    chips: usize,
-    sums: &[u16],
-) -> Result<u64, Fail> {
+fn next_symbols(alloc: Global, cell: &mut Cell, chips: usize, sums: &[u16]) -> Result<u64, Fail> {
     let mut out = vec![in alloc; Sample { i: 0, q: 0 }; chips]?;
     let mut symbols = 0;
     for _symbol in 0..64u8 {
@@ -212,7 +206,13 @@ fn one_run_through_a_sending(rt: HostRuntime) -> Result<(), Fail> {
     expect_symbols(rt.alloc(), &mut cell, 256, &[130, 650], &SENDING)?;
     assert_eq!(rt; cell.left(), 0);
     let mut late = cell_of(rt.alloc(), FAR, LOUDER, 4_292_313_024, 16_384, &[LONG])?;
-    expect_symbols(rt.alloc(), &mut late, 256, &[130, 650], &[0x4311_1161_4452_4523])
+    expect_symbols(
+        rt.alloc(),
+        &mut late,
+        256,
+        &[130, 650],
+        &[0x4311_1161_4452_4523],
+    )
 }
 
 /// Samples of a pilot and a paging channel of 9600 bits a second over the near link: the start, and
@@ -350,7 +350,14 @@ const LOUD: [u16; 2] = [477, 483];
 #[test]
 fn traffic_behind_its_offset(rt: HostRuntime) -> Result<(), Fail> {
     let channels = [FAINT, TRAFFIC];
-    let mut cell = cell_of(rt.alloc(), EARLY, TURNED, 23_040 - 64, 64 + 24_576, &channels)?;
+    let mut cell = cell_of(
+        rt.alloc(),
+        EARLY,
+        TURNED,
+        23_040 - 64,
+        64 + 24_576,
+        &channels,
+    )?;
     let mut out = [Sample { i: 0, q: 0 }; 64];
     fill_next(&mut cell, &mut out)?;
     for sample in &out {

@@ -109,7 +109,12 @@ pub fn expect_refused(
         let mut script = script_of(alloc, before)?;
         script.push_str(*line)?;
         script.push_str(script_of(alloc, after)?.as_str())?;
-        expect(alloc, script.as_str(), Width::Sixteen, Some(ScriptFault::Line { n }))?;
+        expect(
+            alloc,
+            script.as_str(),
+            Width::Sixteen,
+            Some(ScriptFault::Line { n }),
+        )?;
     }
     Ok(())
 }
@@ -118,14 +123,24 @@ pub fn expect_refused(
 pub fn expect_orders(alloc: Global, orders: &[(&[&str], u32)]) -> Result<(), Fail> {
     for (lines, n) in orders {
         let script = script_of(alloc, *lines)?;
-        expect(alloc, script.as_str(), Width::Sixteen, Some(ScriptFault::Line { n: *n }))?;
+        expect(
+            alloc,
+            script.as_str(),
+            Width::Sixteen,
+            Some(ScriptFault::Line { n: *n }),
+        )?;
     }
     Ok(())
 }
 
 /// A row of a table of plans that can't be sent: the link, the pilot and the channels behind the
 /// sync line, and the fault.
-pub type FaultyChannels = (&'static str, &'static str, &'static [&'static str], ScriptFault);
+pub type FaultyChannels = (
+    &'static str,
+    &'static str,
+    &'static [&'static str],
+    ScriptFault,
+);
 
 /// Fails unless each of these scripts has its fault.
 pub fn expect_faulty(alloc: Global, rows: &[FaultyChannels]) -> Result<(), Fail> {

@@ -142,10 +142,7 @@ const FAULTY_FRAMES2: [&str; 20] = [
 const MIXED_FRAMES: [(&[&str], u32); 6] = [
     (&[CELL, LINK, PILOT, SYNC, TRAFFIC, FRAME, FRAME2], 7),
     (&[CELL, LINK, PILOT, SYNC, TRAFFIC, FRAME2, FRAME], 7),
-    (
-        &[CELL, LINK, PILOT, SYNC, TRAFFIC, FRAME, FRAME, FRAME2],
-        8,
-    ),
+    (&[CELL, LINK, PILOT, SYNC, TRAFFIC, FRAME, FRAME, FRAME2], 8),
     (
         &[CELL, LINK, PILOT, SYNC, TRAFFIC, FRAME2, FRAME2, FRAME],
         8,

@@ -5,8 +5,8 @@ ghost use Rattle.cell_plan.specs.Stated.{IsStatedCell};
 ghost use Rattle.trial_link.specs.Spelling.{frame_text, traffic_text};
 ghost use Rattle.trial_link.specs.Trial as trial;
 
-use cell_plan::{CellIdentity, Page, TrafficFrame};
 use crate::spelling::{append_cell, append_frame, append_page, append_traffic};
+use cell_plan::{CellIdentity, Page, TrafficFrame};
 use cell_script::statements::TrafficLine;
 use chip_core::{Bits, CheckForm, OutOfMemory};
 use line_text::Text;
