@@ -295,6 +295,9 @@ class AsksOfBytes(Asks):
         self.write("purpose: a directory", "words: find", "input: directory", "status: 4", "text:")
         self.accepts("cat 2> /dev/null || exit 4")
         self.refuses("exit 0", "status 0, wanted 4")
+        self.write("purpose: a connection", "words: find", "input: dropped", "status: 4", "text:")
+        self.accepts("cat 2> /dev/null || exit 4")
+        self.refuses("cat 2> /dev/null || cat && exit 3", "status 3, wanted 4")
 
     def test_several_runs(self) -> None:
         """Each must answer the same; that of no words too."""
@@ -354,7 +357,7 @@ class AsksOfBytes(Asks):
             ((*head, "text:"), "has no bits, sha256"),
             ((*head, "input: nothing", *end), "has input: nothing, and a script or a file"),
             ((*head, "input: script", *end), "has input: script, and not just one script"),
-            ((*head, "input: air", "text:"), "has input: air, which is none of samples, script, nothing, directory"),
+            ((*head, "input: air", "text:"), "has input: air, which is none of samples, script, nothing, directory, dropped"),
             ((*head, "bits: 16", "sha256: 00", "text:"), "has no script"),
             ((*head, "bits: 12", "sha256: 00", "script:", "text:"), "has bits: neither 8 nor 16"),
             ((*head, "bits: 16", "sha256: 00", "script:", "script:", "text:"), "has 2 scripts and 0 places"),
