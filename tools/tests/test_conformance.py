@@ -120,7 +120,7 @@ class TheCases(unittest.TestCase):
         for fault in ("too big", "line 1", "walsh 1", "gain 1", "too loud 6226300", "too long 33554433"):
             self.assertIn(f"bad script: {fault}", errors)
         self.assertLessEqual({"", "no sync message", "bad words", "read fault", "write fault"}, errors)
-        self.assertTrue(all(case.most_read == 0 or case.input == "directory" for case in cases if case.status == 2))
+        self.assertTrue(all(case.most_read == 0 or case.input == "dropped" for case in cases if case.status == 2))
         taps = [line.split(" ")[0] for line in RUN.Case("all_taps").text]
         self.assertEqual(set(taps), {"pilot", "sync", "paging", "frame", "traffic", "sets", "raw"})
 
