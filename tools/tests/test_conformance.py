@@ -40,6 +40,7 @@ ERRORS = {
     5: "^write fault$",
     8: "^bad script: (too big|(line|walsh|gain|too loud|too long) (0|[1-9][0-9]*))$",
 }
+SCRIPT = ("script:", "  cell pn=1")
 SAMPLES = [(1, -1), (300, 2), (-3, 77)]
 
 
@@ -258,11 +259,19 @@ class AsksOfSamples(Asks):
         self.assertIn("3 cases, 3 differ\n", self.run_with([], f'cat {self.at("made.is95")}')[1])
 
     def test_refusals(self) -> None:
-        for words, why in ((["--only", "none"], "no case none"), (["--keep", self.at("none")], "no folder"), (["--minutes", "0"], "1 to 1440")):
+        for words, why in (
+            (["--only", "none"], "no case none"),
+            (["--keep", self.at("none")], "no folder"),
+            (["--minutes", "0"], "1 to 1440"),
+        ):
             status, said = self.asked("exit 0", *words)
             self.assertEqual(status, 2)
             self.assertIn(why, said)
-        for maker, why in (("echo bad script >&2; exit 8", "ended with 8: bad script"), ("printf IS95", "wrote no sample file"), ("printf IS95567890123456789", "ends within a sample")):
+        for maker, why in (
+            ("echo bad script >&2; exit 8", "ended with 8: bad script"),
+            ("printf IS95", "wrote no sample file"),
+            ("printf IS95567890123456789", "ends within a sample"),
+        ):
             self.program("maker", maker)
             status, said = self.asked("exit 0")
             self.assertEqual(status, 2)
@@ -283,9 +292,7 @@ class AsksOfBytes(Asks):
         self.assertEqual(self.kept("heard"), bytes.fromhex("0aff07"))
 
     def test_a_script_as_it_is(self) -> None:
-        self.write("purpose: a script", "words: make", "input: script", "status: 8", "cut: -1", "script:", "  cell pn=1", "", name="first")
-        self.assertEqual(self.asked("exit 0")[0], 2)
-        self.write("purpose: a script", "words: make", "input: script", "status: 8", "cut: -1", "script:", "  cell pn=1", "text:")
+        self.write("purpose: a script", "words: make", "input: script", "status: 8", "cut: -1", *SCRIPT, "text:")
         self.assertEqual(self.asked(f'cat > {self.at("heard")}; exit 8', "--only", "first")[0], 0)
         self.assertEqual(self.kept("heard"), b"cell pn=1")
 
@@ -317,7 +324,7 @@ class AsksOfBytes(Asks):
         self.refuses("echo said; exit 2", told, "standard error written: nothing")
         self.refuses("echo said; echo worse words >&2; exit 2", told, "standard error written: worse words")
         self.refuses("echo said; printf 'bad words' >&2; exit 2", told, "standard error written: 'bad words'")
-        self.refuses("echo said; echo bad words >&2; echo more >&2; exit 2", told, "standard error written: 'bad words\\nmore\\n'")
+        self.refuses("echo said; printf 'bad words\\nmore\\n' >&2; exit 2", told, "standard error written: 'bad words\\nmore\\n'")
         self.refuses("echo said; echo bad words >&2; exit 1", "status 1, wanted 2")
         self.given("error:")
         self.accepts("echo said")
@@ -350,6 +357,7 @@ class AsksOfBytes(Asks):
     def test_cases_that_are_none(self) -> None:
         """Each with a line that names the case, and no run."""
         head = ("purpose: p", "words: find", "status: 0")
+        made = (*head, "bits: 16", "sha256: 00")
         end = ("file:", "  00", "text:")
         for lines, why in (
             (("purpose: no words",), "has no bits, sha256, status, words"),
@@ -358,12 +366,12 @@ class AsksOfBytes(Asks):
             ((*head, "input: nothing", *end), "has input: nothing, and a script or a file"),
             ((*head, "input: script", *end), "has input: script, and not just one script"),
             ((*head, "input: air", "text:"), "has input: air, which is none of samples, script, nothing, directory, dropped"),
-            ((*head, "bits: 16", "sha256: 00", "text:"), "has no script"),
+            ((*made, "text:"), "has no script"),
             ((*head, "bits: 12", "sha256: 00", "script:", "text:"), "has bits: neither 8 nor 16"),
-            ((*head, "bits: 16", "sha256: 00", "script:", "script:", "text:"), "has 2 scripts and 0 places"),
-            ((*head, "bits: 16", "sha256: 00", "places: 1 2", "script:", "script:", "text:"), "has places: 1 2, which isn't 1 numbers"),
-            ((*head, "bits: 16", "sha256: 00", "noise: 1", "script:", "text:"), "has noise: 1, which isn't 2 numbers"),
-            ((*head, "bits: 16", "sha256: 00", "script:", *end), "has scripts and a file"),
+            ((*made, "script:", "script:", "text:"), "has 2 scripts and 0 places"),
+            ((*made, "places: 1 2", "script:", "script:", "text:"), "has places: 1 2, which isn't 1 numbers"),
+            ((*made, "noise: 1", "script:", "text:"), "has noise: 1, which isn't 2 numbers"),
+            ((*made, "script:", *end), "has scripts and a file"),
             ((head[0], head[1], "status: 9", *end), "has status: 9, which isn't 1 numbers from 0 to 8"),
             ((head[0], head[1], "status: x", *end), "has status: x, which isn't"),
             ((*head, "read: -1", *end), "has read: -1, which isn't"),

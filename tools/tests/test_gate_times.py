@@ -85,7 +85,11 @@ class GateTimes(unittest.TestCase):
         self.assertEqual(self.told(lines)[:2], (0, TABLE))
 
     def test_over_midnight(self) -> None:
-        for first, second in (("23:59:50", "00:00:20"), ("Nov 30 23:59:50", "Dec  1 00:00:20"), ("Dec 31 23:59:50", "Jan  1 00:00:20")):
+        for first, second in (
+            ("23:59:50", "00:00:20"),
+            ("Nov 30 23:59:50", "Dec  1 00:00:20"),
+            ("Dec 31 23:59:50", "Jan  1 00:00:20"),
+        ):
             with self.subTest(first):
                 status, wrote, _ = self.told([f"{first} == core", f"{second} rt: core proved"])
                 self.assertEqual(status, 0)
@@ -121,7 +125,11 @@ class GateTimes(unittest.TestCase):
                 status, wrote, faults = self.told(lines)
                 self.assertEqual((status, wrote), (2, ""))
                 self.assertIn(f"tools/gate_times: {why}", faults)
-        for text, why in (("core", "has a line that is none"), ("core: top\ntop: core\n", "has a circle: core top core"), ("core:\nnew:\n", "no folder")):
+        for text, why in (
+            ("core", "has a line that is none"),
+            ("core: top\ntop: core\n", "has a circle: core top core"),
+            ("core:\nnew:\n", "no folder"),
+        ):
             with self.subTest(why):
                 self.write("crates.txt", text)
                 status, wrote, faults = self.told([good])
@@ -129,7 +137,8 @@ class GateTimes(unittest.TestCase):
                 self.assertIn(why, faults)
         self.assertEqual(run_tool("gate_times", os.path.join(self.root, "none"))[0], 2)
         self.assertEqual(run_tool("gate_times")[0], 2)
-        self.assertIn("crates.txt: No such file", run_tool("gate_times", self.write("a.log", good), "--root", self.root + "/none")[2])
+        faults = run_tool("gate_times", self.write("a.log", good), "--root", self.root + "/none")[2]
+        self.assertIn("crates.txt: No such file", faults)
 
 
 if __name__ == "__main__":
