@@ -3,6 +3,7 @@
 from __future__ import annotations
 
 import os
+import subprocess
 import tempfile
 import unittest
 
@@ -111,6 +112,15 @@ class GateTimes(unittest.TestCase):
         status, wrote, _ = self.told(["00:00:01 rt: chip_core proved"], root=ROOT)
         self.assertEqual(status, 0)
         self.assertRegex(wrote, r"(?m)^longest chain: \d crates: chip_core .*cdma_replay$")
+
+    def test_the_gate_says_how_long_it_took(self) -> None:
+        """A gate whose first part fails says how long that took, keeps what it wrote and ends with its status."""
+        gate = self.write("rt", "#!/bin/sh\necho 1 passed, 2 failed\nexit 3\n")
+        os.chmod(gate, 0o700)
+        path = self.root + os.pathsep + os.environ["PATH"]
+        ran = subprocess.run([os.path.join(ROOT, ".ci", "run")], env={**os.environ, "PATH": path}, capture_output=True)
+        self.assertEqual((ran.returncode, ran.stdout), (3, b"1 passed, 2 failed\n"))
+        self.assertRegex(ran.stderr, rb"^rt ci took 0:0[0-9]:[0-9]{2}\n$")
 
     def test_bad_input(self) -> None:
         good = "00:00:01 rt: core proved"
