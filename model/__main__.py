@@ -1,0 +1,31 @@
+"""The model's command line: `python3 -m model COMMAND ..`, with the words, the texts and the statuses of `cdma_replay`.
+
+    python3 -m model make < SCRIPT > FILE
+    python3 -m model follow --esn 0000abcd --row 10 < FILE
+"""
+
+import os
+import sys
+
+from model.run import run
+
+
+def main() -> int:
+    """Runs a command on standard input, and answers its exit status."""
+    words = sys.argv[1:]
+    outcome = run(words, lambda: sys.stdin.buffer.read())
+    try:
+        for piece in outcome.written:
+            sys.stdout.buffer.write(piece)
+        sys.stdout.buffer.flush()
+    except OSError:
+        os.dup2(os.open(os.devnull, os.O_WRONLY), 1)
+        print("write fault", file=sys.stderr)
+        return 5
+    if outcome.said:
+        print(outcome.said, file=sys.stderr)
+    return outcome.status
+
+
+if __name__ == "__main__":
+    sys.exit(main())
