@@ -240,7 +240,7 @@ def hear_traffic(
         at = mark.sample + SLOT * moment
         if at > taken:
             return
-        for event in sorted(event for event in unheard if event.at <= at):
+        for event in sorted((event for event in unheard if event.at <= at), key=lambda event: event[:2]):
             hear(sets, event.message, mark.time + max(1, -(-(event.at - mark.sample) // SLOT)))
         unheard = [event for event in unheard if event.at > at]
         yield from moment_event(capture, mark, sets, deltas, moment)

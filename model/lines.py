@@ -47,7 +47,8 @@ def paging_line(at: int, message: Message) -> str:
     if what == "system":
         told = fields(message, SYSTEM_FIELDS)
     elif what == "neighbors":
-        told = f"{fields(message, ('pn', 'seq', 'inc'))} pilots={joined(message['pilots'])}"
+        pilots = joined(zip(message["configs"], message["pilots"]))
+        told = f"{fields(message, ('pn', 'seq', 'inc'))} pilots={pilots}"
     else:
         told = f"{fields(message, ('pn', 'seq'))} freqs={joined(message['freqs'])}"
     return f"paging at={at} {what}{told} rest={text_of_bits(message['rest'])}"

@@ -168,7 +168,8 @@ def paging_fields(reader: Reader) -> Message:
         message: Message = {"what": "system"} | reader.fields(SYSTEM_FIELDS)
     elif kind == 3:
         message = {"what": "neighbors"} | reader.fields(NEIGHBOR_FIELDS)
-        message["pilots"] = [(record.take(3), record.take(9)) for record in reader.records(12)]
+        records = [(record.take(3), record.take(9)) for record in reader.records(12)]
+        message |= {"configs": [config for config, _ in records], "pilots": [pilot for _, pilot in records]}
     elif kind == 4:
         message = {"what": "channels"} | reader.fields(CHANNEL_FIELDS)
         message["freqs"] = [record.take(11) for record in reader.records(11)]
