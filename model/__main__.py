@@ -7,21 +7,19 @@
 import os
 import sys
 
-from model.run import run
+from model.run import WRITE_FAULT, run
 
 
 def main() -> int:
     """Runs a command on standard input, and answers its exit status."""
-    words = sys.argv[1:]
-    outcome = run(words, lambda: sys.stdin.buffer.read())
+    outcome = run(sys.argv[1:], sys.stdin.buffer.read)
     try:
         for piece in outcome.written:
             sys.stdout.buffer.write(piece)
         sys.stdout.buffer.flush()
     except OSError:
-        os.dup2(os.open(os.devnull, os.O_WRONLY), 1)
-        print("write fault", file=sys.stderr)
-        return 5
+        os.dup2(os.open(os.devnull, os.O_WRONLY), sys.stdout.fileno())  # what is left in the buffer goes there
+        outcome = WRITE_FAULT
     if outcome.said:
         print(outcome.said, file=sys.stderr)
     return outcome.status

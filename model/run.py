@@ -14,10 +14,10 @@ from model.lists import listed_frame
 from model.script import TRIAL_ROW, BadScript, read_script, trial_script
 from model.search import search, survey
 from model.slots import slot_lines
-from model.words import BadWords, Options, read_words
+from model.words import DEFAULTS, BadWords, Options, read_words
 
 DONE, NO_SYNC, BAD_WORDS, BAD_FILE, BAD_SCRIPT = 0, 1, 2, 3, 8
-TRIAL_SPAN = 2_048
+SPAN = DEFAULTS["span"]
 
 
 class Outcome(NamedTuple):
@@ -30,6 +30,10 @@ class Outcome(NamedTuple):
     def text(self) -> bytes:
         """All that is written."""
         return b"".join(self.written)
+
+
+READ_FAULT = Outcome(4, [], "read fault")
+WRITE_FAULT = Outcome(5, [], "write fault")
 
 
 def run(words: list[str], read: Callable[[], bytes]) -> Outcome:
@@ -47,6 +51,8 @@ def run(words: list[str], read: Callable[[], bytes]) -> Outcome:
         return Outcome(BAD_SCRIPT, [], f"bad script: {why}")
     except BadFile as why:
         return Outcome(BAD_FILE, [], f"bad file: {why}")
+    except OSError:
+        return READ_FAULT
 
 
 def as_bytes(lines: Iterable[str]) -> bytes:
@@ -116,7 +122,7 @@ def trial(number: int) -> str:
     cell = read_script(script.encode("ascii"))
     link = np.concatenate([piece.astype(np.complex64) for piece in samples(cell)])
     capture = Capture(bool(cell.checks & 1), bool(cell.checks & 2), len(link), link, None)
-    found = search(link[:TRIAL_SPAN])
+    found = search(link[:SPAN])
     events, _ = follow(capture, found, 1, Assigned(serial, TRIAL_ROW, 0), len(link))
     counts = {"syncs": 0, "pagings": 0, "frames": 0, "good": 0}
     for event in events:
