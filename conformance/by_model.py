@@ -11,6 +11,7 @@ import os
 import sys
 from collections.abc import Sequence
 from types import ModuleType
+from typing import NamedTuple
 
 HERE = os.path.dirname(os.path.abspath(__file__))
 ROOT = os.path.dirname(HERE)
@@ -40,6 +41,48 @@ def loaded(name: str) -> ModuleType:
 RUN = loaded("run")
 HELD_IN_MEMORY = 8_000_000
 """The most samples of a file that a check takes without being told to take long ones: some seconds and 0.5 GiB."""
+
+
+class Item(NamedTuple):
+    """A line of a case with a key, and the lines of the block behind it."""
+
+    key: str
+    line: str
+    block: list[str]
+
+
+class Draft(RUN.Case):
+    """A case whose wants may be missing: others stand in for them while it is read."""
+
+    def __init__(self, name: str, items: list[Item]) -> None:
+        self.items = items
+        super().__init__(name)
+
+    def has(self, key: str) -> bool:
+        """Whether there is such a line in the file."""
+        return any(item.key == key for item in self.items)
+
+    def read_lines(self) -> None:
+        """Takes the lines of the items, and of those that are missing."""
+        stand_ins = [("status", "status: 0"), ("sha256", "sha256: " + 64 * "0")]
+        lines = [line for item in self.items for line in [item.line, *item.block]]
+        lines += [line for key, line in stand_ins if not self.has(key)]
+        if not self.has("text") and not self.has("output"):
+            lines.append("text:")
+        block: list[str] | None = None
+        for line in lines:
+            block = self.take(line, block)
+
+
+def items_of(text: str) -> list[Item]:
+    """The lines with keys of a case's file, each with its block."""
+    items: list[Item] = []
+    for line in text.splitlines():
+        if line.startswith("  ") and items:
+            items[-1].block.append(line)
+        else:
+            items.append(Item(line.partition(":")[0], line, []))
+    return items
 
 
 def samples_of(case: RUN.Case) -> bytes:
