@@ -7,6 +7,7 @@ short: no more samples than a handset needs to hear what the case is about.
 from __future__ import annotations
 
 import random
+import re
 import shlex
 from dataclasses import dataclass, field
 
@@ -43,10 +44,12 @@ class Scene:
     second: int = 0
     sync: str = ""
     rate_set_2: bool = False
+    handoff: bool = False
+    weak: bool = False
 
     def gain(self) -> int:
-        """A gain of which ten stay in the range of the samples, with two other cells and noise."""
-        return self.rng.randint(6, 10) if self.bits == 8 else self.rng.randint(25, 150)
+        """A gain of which seven stay in the range of the samples, in three cells and with noise."""
+        return self.rng.randint(3, 5) if self.bits == 8 else self.rng.randint(25, 150)
 
 
 def drawn_bits(rng: random.Random, count: int) -> Bits:
@@ -127,7 +130,10 @@ def drawn_direction(scene: Scene) -> Bits:
     """What stands behind the head of a handoff direction, which may be one that is refused."""
     rng = scene.rng
     search = rng.random() < 0.4
-    body = drawn_fields(rng, {"use": 1, "action": 6, "hdm": 2}, {}) + [int(search)]
+    use = rng.choice([{"use": 0}, {"use": 1}, {"use": 1, "action": (scene.time + rng.randrange(12)) % 64}])
+    if scene.handoff:
+        return spelled(10, 0) + spelled(4, 0) + both_pilots(scene)
+    body = drawn_fields(rng, {"use": 1, "action": 6, "hdm": 2}, use) + [int(search)]
     if search:
         body += drawn_fields(rng, SEARCH_FIELDS, {})
     extra = rng.choice([0, 0, rng.randrange(8)])
@@ -139,11 +145,21 @@ def drawn_direction(scene: Scene) -> Bits:
     return body
 
 
+def both_pilots(scene: Scene) -> Bits:
+    """The records of a direction to the two cells, or to one of them, in either order."""
+    rng = scene.rng
+    records = [(scene.pn, rng.choice(scene.rows)), (scene.second, rng.choice(scene.rows))]
+    rng.shuffle(records)
+    records = records[: rng.choice([1, 2, 2, 2])]
+    return [bit for pilot, row in records for bit in spelled(9, pilot) + [rng.getrandbits(1)] + spelled(8, row)]
+
+
 def drawn_message(scene: Scene) -> Bits:
     """The body of a traffic message, which may be none of its type."""
     rng = scene.rng
-    kind = rng.choice([7, 8, 17, 17, rng.randrange(256)])
-    head = spelled(8, kind) + drawn_bits(rng, 7) + rng.choice([[0, 0], [0, 0], [0, 0], drawn_bits(rng, 2)])
+    kind = rng.choice([8, 17, 17] if scene.handoff else [7, 8, 17, 17, rng.randrange(256)])
+    clear = scene.handoff or rng.random() < 0.8
+    head = spelled(8, kind) + drawn_bits(rng, 7) + ([0, 0] if clear else drawn_bits(rng, 2))
     if kind == 7:
         body = head + drawn_fields(rng, IN_TRAFFIC_FIELDS, {}) + drawn_bits(rng, 8 * rng.randrange(3))
     elif kind == 8:
@@ -181,7 +197,7 @@ def traffic_lines(scene: Scene, row: int, signals: bool) -> list[str]:
     rng = scene.rng
     lines = [f"traffic row={row} esn={scene.serial:08x} offset={scene.offset} gain={scene.gain()}"]
     for _ in range(rng.randint(1, 4)):
-        if signals and rng.random() < 0.6:
+        if signals and (scene.handoff or rng.random() < 0.6):
             lines += [frame_line(scene, RATE_SET_1[0], information) for information in signalling(scene)]
         else:
             rate = rng.choice(RATE_SET_2 if scene.rate_set_2 else RATE_SET_1)
@@ -194,7 +210,9 @@ def traffic_lines(scene: Scene, row: int, signals: bool) -> list[str]:
 
 def link_line(scene: Scene, start: int, samples: int) -> str:
     """A link of any direction, which amplifies little."""
-    links = [(1, 0), (0, 1), (-1, 0), (0, -1)] if scene.bits == 8 else [(2, 1), (1, -2), (-1, 1), (0, -3), (3, 0), (1, 0)]
+    links = [(1, 0), (0, 1), (-1, 0), (0, -1)]
+    if scene.bits == 16 and not scene.weak:
+        links = [(2, 1), (1, -2), (-1, 1), (0, -3), (3, 0)]
     real, imaginary = scene.rng.choice(links)
     return f"link re={real} im={imaginary} start={start} samples={samples}"
 
@@ -207,7 +225,7 @@ def script_of(scene: Scene, samples: int, what: str) -> list[str]:
         lines.append(f"sync gain={scene.gain()} {scene.sync}")
     if what == "all":
         lines += [line for channel in scene.channels for line in paging_lines(scene, channel)]
-        signals = not scene.rate_set_2 and scene.rng.random() < 0.7
+        signals = scene.handoff or not scene.rate_set_2 and scene.rng.random() < 0.7
         lines += [line for row in scene.rows for line in traffic_lines(scene, row, signals)]
     return lines
 
@@ -223,6 +241,7 @@ def other_cell(scene: Scene, samples: int) -> list[str]:
     other = drawn_scene(scene.rng)
     other.bits, other.pn, other.time, other.lc, other.serial = scene.bits, scene.second, scene.time, scene.lc, scene.serial
     other.offset, other.start, other.rows = scene.offset, max(0, scene.start + scene.rng.randint(-30, 30)), scene.rows
+    other.checks, other.weak, other.handoff = scene.checks, scene.handoff or scene.rng.random() < 0.5, scene.handoff
     other.channels = [channel for channel in other.channels if channel not in other.rows]
     return script_of(other, samples, "all")
 
@@ -233,14 +252,14 @@ def air(scene: Scene, samples: int, what: str) -> list[str]:
     scripts = [script_of(scene, samples, what)]
     if rng.random() < 0.3:
         scripts.append(other_path(scene, scripts[0], samples))
-    if what == "all" and rng.random() < 0.3:
+    if what == "all" and (scene.handoff or rng.random() < 0.3):
         scripts.append(other_cell(scene, samples))
     lines = [f"bits: {scene.bits}"]
     if len(scripts) > 1:
         lines.append("places: " + " ".join("0" for _ in scripts[1:]))
     if rng.random() < 0.4:
-        bound = rng.randint(1, 12) if scene.bits == 8 else rng.choice([100, 500, 1_500, 4_000])
-        lines.append(f"noise: {rng.getrandbits(32)} {rng.randint(0, bound)}")
+        bound = rng.choice([0, 3, 8, 20]) if scene.bits == 8 else rng.choice([0, 100, 1_000, 4_000, 8_000])
+        lines.append(f"noise: {rng.getrandbits(32)} {bound}")
     return lines + [line for script in scripts for line in ["script:", *("  " + line for line in script)]]
 
 
@@ -273,10 +292,10 @@ def heard_options(scene: Scene, command: str, samples: int) -> dict[str, str]:
         options["fingers"] = str(rng.randint(1, 3))
     if command in ("follow", "idle") and scene.channels and rng.random() < 0.9:
         options["paging"] = str(rng.choice(scene.channels))
-    if command in ("rate2", "list") or command == "follow" and rng.random() < 0.8:
-        options["esn"] = f"{scene.serial if rng.random() < 0.9 else rng.getrandbits(32):08x}"
-        options["row"] = str(scene.rows[0] if rng.random() < 0.9 else rng.randrange(1, 64))
-        options["offset"] = str(scene.offset if rng.random() < 0.9 else rng.randrange(16))
+    if command in ("rate2", "list") or scene.handoff or command == "follow" and rng.random() < 0.8:
+        options["esn"] = f"{scene.serial if rng.random() < 0.95 else rng.getrandbits(32):08x}"
+        options["row"] = str(scene.rows[0] if rng.random() < 0.95 else rng.randrange(1, 64))
+        options["offset"] = str(scene.offset if rng.random() < 0.95 else rng.randrange(16))
     if command == "list":
         options["k"] = str(rng.choice([1, 2, 3, 4, 16]))
     if command == "follow":
@@ -310,11 +329,27 @@ def synced(rng: random.Random) -> list[str]:
 
 def followed(rng: random.Random) -> list[str]:
     """`follow`, `rate2`, `list` or `idle` over a file that ends some frames behind the mark."""
+    return heard(drawn_scene(rng), rng.choice(["follow", "follow", "follow", "rate2", "list", "idle"]))
+
+
+def handed(rng: random.Random) -> list[str]:
+    """`follow` over two cells, with directions to both of them."""
     scene = drawn_scene(rng)
-    command = rng.choice(["follow", "follow", "follow", "rate2", "list", "idle"])
-    scene.rate_set_2 = command == "rate2" and rng.random() < 0.9 or rng.random() < 0.1
+    scene.handoff, scene.prat = True, 3
+    scene.channels = []
+    scene.sync = re.sub(r"prat=\d", "prat=3", scene.sync)
+    return heard(scene, "follow")
+
+
+def heard(scene: Scene, command: str) -> list[str]:
+    """A command that hears frames, over a file that ends some frames behind the mark."""
+    rng = scene.rng
+    scene.rate_set_2 = command == "rate2" and rng.random() < 0.9 or command == "follow" and rng.random() < 0.1
     begin = -(-(scene.start - 64 * scene.pn) // (SLOT * SENDING)) * SLOT * SENDING
-    behind = rng.choice([rng.randint(1, 5), rng.randint(4, 9), 9] if command == "follow" else [2, 3])
+    if scene.handoff:
+        scene.rate_set_2 = False
+    counts = [rng.randint(1, 5), rng.randint(6, 9), rng.randint(10, 14)] if command == "follow" else [2, 3]
+    behind = rng.randint(9, 14) if scene.handoff else rng.choice(counts)
     mark = begin + SLOT * (SENDING + AHEAD) - scene.start
     samples = mark + FRAME * behind + rng.choice([0, rng.randrange(-50, 50), rng.randrange(FRAME)])
     options = heard_options(scene, command, samples)
@@ -376,7 +411,9 @@ def spoiled(rng: random.Random, script: list[str]) -> list[str]:
     """A script with a line too many, too few, or in which a word is another."""
     script = list(script)
     at = rng.randrange(len(script))
-    how = rng.choice(["drop", "double", "swap", "word", "word", "word", "letter"])
+    how = rng.choice(["drop", "double", "swap", "word", "word", "letter", "gain", "row", "long"])
+    if how in ("gain", "row", "long"):
+        return [unfit(rng, how, line, script) for line in script]
     if how == "drop":
         del script[at]
     elif how == "double":
@@ -396,6 +433,19 @@ def spoiled(rng: random.Random, script: list[str]) -> list[str]:
         place = rng.randrange(len(script[at]))
         script[at] = script[at][:place] + rng.choice(" =0fF:-\t") + script[at][place + rng.randrange(2) :]
     return script if not any(is_too_long(line) for line in script) else script[:1]
+
+
+def unfit(rng: random.Random, how: str, line: str, script: list[str]) -> str:
+    """A lawful line that some rule of the whole script may refuse: a gain of 0, a row that is taken, too many samples."""
+    words = line.split(" ")
+    if how == "gain" and rng.random() < 0.4:
+        words = ["gain=0" if word.startswith("gain=") else word for word in words]
+    if how == "row" and rng.random() < 0.7:
+        taken = [word[8:] for other in script for word in other.split(" ") if word.startswith("channel=")]
+        words = [f"row={rng.choice([*taken, '0', '32', '40'])}" if word.startswith("row=") else word for word in words]
+    if how == "long":
+        words = ["samples=67108865" if word.startswith("samples=") else word for word in words]
+    return " ".join(words)
 
 
 def is_too_long(line: str) -> bool:
@@ -431,7 +481,8 @@ def tried(rng: random.Random) -> list[str]:
     return [f"words: trial --number {rng.choice([rng.randrange(1000), rng.getrandbits(64)])}", "input: nothing"]
 
 
-KINDS = [(made, 25), (searched, 20), (worded, 15), (damaged_file, 10), (synced, 8), (followed, 21.6), (tried, 0.4)]
+KINDS = [(made, 25), (searched, 16), (worded, 14), (damaged_file, 10), (synced, 8), (followed, 20.6), (handed, 6),
+         (tried, 0.4)]  # fmt: skip
 """The kinds of case, and how many of 100 are of each."""
 
 
