@@ -52,6 +52,12 @@ class Scene:
         return self.rng.randint(3, 5) if self.bits == 8 else self.rng.randint(25, 150)
 
 
+    def mark_slots(self) -> int:
+        """How many units of the system time behind the cell's time the mark lies that the first whole sending sets."""
+        sendings = -(-(self.start - 64 * self.pn) // (SLOT * SENDING))
+        return SENDING * sendings + SENDING + AHEAD
+
+
 def drawn_bits(rng: random.Random, count: int) -> Bits:
     """So many random bits."""
     return spelled(count, rng.getrandbits(count)) if count else []
@@ -130,9 +136,10 @@ def drawn_direction(scene: Scene) -> Bits:
     """What stands behind the head of a handoff direction, which may be one that is refused."""
     rng = scene.rng
     search = rng.random() < 0.4
-    use = rng.choice([{"use": 0}, {"use": 1}, {"use": 1, "action": (scene.time + rng.randrange(12)) % 64}])
+    soon = (scene.time + scene.mark_slots() + rng.randint(1, 2)) % 64
+    use = rng.choice([{"use": 0}, {"use": 1}, {"use": 1, "action": soon}])
     if scene.handoff:
-        return spelled(10, 0) + spelled(4, 0) + both_pilots(scene)
+        return [1] + spelled(6, soon) + spelled(3, 0) + spelled(4, 0) + both_pilots(scene)
     body = drawn_fields(rng, {"use": 1, "action": 6, "hdm": 2}, use) + [int(search)]
     if search:
         body += drawn_fields(rng, SEARCH_FIELDS, {})
@@ -345,25 +352,24 @@ def heard(scene: Scene, command: str) -> list[str]:
     """A command that hears frames, over a file that ends some frames behind the mark."""
     rng = scene.rng
     scene.rate_set_2 = command == "rate2" and rng.random() < 0.9 or command == "follow" and rng.random() < 0.1
-    begin = -(-(scene.start - 64 * scene.pn) // (SLOT * SENDING)) * SLOT * SENDING
     if scene.handoff:
         scene.rate_set_2 = False
     counts = [rng.randint(1, 5), rng.randint(6, 9), rng.randint(10, 14)] if command == "follow" else [2, 3]
     behind = rng.randint(9, 14) if scene.handoff else rng.choice(counts)
-    mark = begin + SLOT * (SENDING + AHEAD) - scene.start
+    mark = SLOT * scene.mark_slots() - scene.start
     samples = mark + FRAME * behind + rng.choice([0, rng.randrange(-50, 50), rng.randrange(FRAME)])
     options = heard_options(scene, command, samples)
     if command == "idle":
-        samples, options = slot_heard(scene, options, mark, (begin + SLOT * (SENDING + AHEAD)) // SLOT)
+        samples, options = slot_heard(scene, options, mark)
     return [words_of(rng, command, options), *air(scene, samples, "all")]
 
 
-def slot_heard(scene: Scene, options: dict[str, str], mark: int, slots: int) -> tuple[int, dict[str, str]]:
+def slot_heard(scene: Scene, options: dict[str, str], mark: int) -> tuple[int, dict[str, str]]:
     """A file of one to three slots behind the mark, and a key that mostly has one of them."""
     rng = scene.rng
     count = rng.randint(1, 3)
     cycle = rng.choice([0, 0, 1, 7])
-    wanted = (scene.time + slots + rng.randrange(count)) % (16 << cycle)
+    wanted = (scene.time + scene.mark_slots() + rng.randrange(count)) % (16 << cycle)
     keys = (rng.getrandbits(32) for _ in range(200 if rng.random() < 0.9 else 1))
     key = next((key for key in keys if slot_of(key) % (16 << cycle) == wanted), rng.getrandbits(32))
     return mark + SLOT * count + rng.randrange(100), options | {"key": f"{key:08x}", "cycle": str(cycle)}
