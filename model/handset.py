@@ -229,7 +229,8 @@ def hear_traffic(
             if heard is None:
                 continue
             at, frame, told = heard
-            yield Event(at, FRAME_RANK, "frames", frame_line("frame", at, frame, told), {"good": frame.good})
+            kept = {"good": frame.good, "index": index - 1, "fingers": fingers}
+            yield Event(at, FRAME_RANK, "frames", frame_line("frame", at, frame, told), kept)
             part = signalling_part(frame.speed, frame.bits) if frame.good else None
             if part:
                 held, capsule = take_piece(held, part)
