@@ -26,7 +26,7 @@ def draw(steps: Steps, path: str) -> None:
     """Draws the panels to a file, PNG or SVG by the end of its name: whole or not at all."""
     figure = Figure(figsize=SIZE, dpi=DOTS, layout="constrained")
     figure.suptitle(steps.title, fontsize=13)
-    grid = figure.add_gridspec(5, 3, height_ratios=[2.4, 0.35, 1.3, 1.3, 1.6])
+    grid = figure.add_gridspec(5, 3, height_ratios=[2.4, 0.35, 1.2, 1.2, 1.7])
     pilot_panel(figure.add_subplot(grid[0, 0]), steps)
     symbol_panel(figure.add_subplot(grid[0, 1]), steps, turned=False)
     symbol_panel(figure.add_subplot(grid[0, 2]), steps, turned=True)
@@ -120,7 +120,7 @@ def sent_panel(axes: Axes, steps: Steps) -> None:
     kinds = [Patch(color=ZERO, label="0 is likelier"), Patch(color=ONE, label="1 is likelier")]
     if len(steps.replaced):
         kinds.append(Patch(color=REPLACED, label="power control bit: counts as 0"))
-    axes.legend(handles=kinds, fontsize=7, loc="upper right", ncols=3)
+    axes.legend(handles=kinds, fontsize=8, loc="lower right", bbox_to_anchor=(1, 0.98), ncols=3, frameon=False)
 
 
 def code_panel(axes: Axes, steps: Steps) -> None:
@@ -139,13 +139,19 @@ def score_panel(axes: Axes, steps: Steps) -> None:
         color = ZERO if reading.is_candidate else "0.7"
         axes.barh(place - 0.18, best, height=0.34, color=color)
         axes.barh(place + 0.18, other, height=0.34, color=color, alpha=0.45)
+        axes.text(0.02, place + 0.18, next_best(best, other), transform=axes.get_yaxis_transform(), fontsize=7, va="center")
     axes.set_yticks(range(len(steps.readings)), [score_label(steps, place) for place in range(len(steps.readings))],
                     fontsize=8)  # fmt: skip
     axes.invert_yaxis()
     axes.tick_params(axis="x", labelsize=7)
     axes.xaxis.get_offset_text().set_fontsize(7)
-    quality = "5, 6  best word's score, and next best" + (" (grey: quality wrong)" if len(steps.readings) > 1 else "")
+    quality = "5, 6  scores" + (" (grey: the quality indicator is wrong)" if len(steps.readings) > 1 else "")
     axes.set_title(quality, fontsize=10, loc="left")
+
+
+def next_best(best: int, other: int) -> str:
+    """How near the next best word comes to the best one."""
+    return f"next best: {100 * other / best:.1f} %" if best > 0 else "next best: the same" if best == other else "next best"
 
 
 def score_label(steps: Steps, place: int) -> str:
