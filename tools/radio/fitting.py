@@ -4,14 +4,12 @@ A base station's clock and a radio's are rigid, and paths that fade aren't to be
 once and stay. So the delays get a stiff curve, and the carrier a less stiff one, whose integral is the phase.
 """
 
-from typing import NamedTuple
-
 import numpy
 from numpy.typing import ArrayLike, NDArray
 from scipy import fft
 from scipy.interpolate import CubicSpline, LSQUnivariateSpline
 
-from .air import CHIP_RATE, decibels, equaliser_spectrum
+from .air import CHIP_RATE, equaliser_spectrum, ratio_of
 from .tracking import REACH, SEGMENT, SUM, SUMS, Point
 
 # Seconds between the knots of the delay and of the carrier: a crystal's clock bends over tens of seconds, its carrier,
@@ -21,22 +19,14 @@ DELAY_KNOTS, CARRIER_KNOTS = 2.0, 0.4
 POINTS_A_KNOT, POINTS_A_SPLINE = 8, 8
 # Rounds in which points far from the curve lose weight.
 ROUNDS = 4
-# Squared energies that the inverse of the phase equaliser must gain to be taken: a single path gains 12 parts in 100
-# where the transmitter has one, and loses 11 where it has none.
-EQUALISED = 1.05
+# The gain in squared energies from which the inverse of the phase equaliser is taken: any. A single path gains 13 parts
+# in 100 where the transmitter has one, and loses 12 where it has none; two paths gain 1 or more, and lose 6 or more.
+EQUALISED = 1.0
 # The finer grid of delays: sixteenths of a chip.
 FINE = 16
-# The part of the greatest peak from which a peak is a path: -10 dB.
-LEAST_PATH = 0.1
-# Chips in which a receiver sets its fingers, and the part of a path's mean energy that it should have there.
+# Chips in which a receiver sets its fingers, the part of its mean energy that a path should have there, and the level
+# in dB from which a path counts.
 FIRST_CHIPS, UNFADED, STRONG_PATH = 2_048, 0.5, -5.0
-
-
-class Way(NamedTuple):
-    """A path: its delay in chips against the chips that are written, and its level in dB below the greatest."""
-
-    delay: float
-    level: float
 
 
 class Curve:
@@ -169,19 +159,19 @@ class Fit:
         self.delays = fine - self.shift
         self.against = self.against - self.shift
 
-    def paths(self) -> list[Way]:
-        """The peaks of the mean energies within 10 dB of the greatest, in the order of their delays."""
+    def strong_delays(self) -> NDArray[numpy.float64]:
+        """The delays of the peaks of the mean energies within 5 dB of the greatest."""
         energy = self.profile
-        least = LEAST_PATH * energy.max()
-        inner = (energy[1:-1] > least) & (energy[1:-1] > energy[:-2]) & (energy[1:-1] >= energy[2:])
-        tops = numpy.flatnonzero(inner) + 1
-        return [Way(float(self.delays[top]), decibels(float(energy[top] / energy.max()))) for top in tops]
+        inner = (energy[1:-1] > energy[:-2]) & (energy[1:-1] >= energy[2:])
+        strong = energy[1:-1] > ratio_of(STRONG_PATH) * energy.max()
+        tops = numpy.flatnonzero(inner & strong) + 1
+        return self.delays[tops] if len(tops) else numpy.zeros(1)
 
     def strong_start(self, seconds: float) -> int:
         """The first chip of a run of 2,048 in which no strong path is faded, among the first seconds."""
         runs = FIRST_CHIPS // SUM
         early = self.chip <= self.chip[0] + seconds * CHIP_RATE
-        delays = numpy.array([path.delay for path in self.paths() if path.level > STRONG_PATH] or [0.0])
+        delays = self.strong_delays()
         places = numpy.rint((delays[None, :] - self.against[early][:, None]) * 2).astype(int) + REACH
         places = numpy.clip(places, 0, 2 * REACH)
         here = numpy.take_along_axis(numpy.abs(self.sums[early]) ** 2, places[:, :, None], axis=1)

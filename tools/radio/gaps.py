@@ -11,7 +11,7 @@ from .acquisition import BIN, MOST_STRETCHES, STEP, STRETCH, Found, strongest
 from .air import CHIP_RATE, PERIOD
 from .fitting import Fit
 from .front import GUARD, Front, turn
-from .tracking import SUM, code_at
+from .tracking import SEGMENT, SUM, code_at
 
 # Chips that the clock may have gone astray while nothing was heard: so many fewer than before aren't a whole period less.
 ASTRAY = 64
@@ -67,10 +67,10 @@ def energies(front: Front, fit: Fit, first: int, count: int) -> list[float]:
 def part_ways(front: Front, before: Fit, after: Fit) -> tuple[int, int]:
     """The chip behind the last one by the fit before, and the first one by the fit behind a loss.
 
-    Between the last segment heard and the first one heard again, sums of 512 chips by the one timing and by the other
-    tell where the loss lies: where the energies of the one before it and of the other behind it are greatest together.
+    From the last segment heard, in which it may lie, to the first one heard again, sums of 512 chips by the one timing
+    and by the other tell where it lies: where the energies of the one before and of the other behind are greatest.
     """
-    begin, end = float(before.times(before.chip[-1])), float(after.times(after.chip[0]))
+    begin, end = float(before.times(before.chip[-1] - SEGMENT / 2)), float(after.times(after.chip[0]))
     count = max(0, int(end - begin) // SUM)
     old, new = (round(fit.chip_at(begin)) for fit in (before, after))
     ahead = numpy.concatenate([[0.0], numpy.cumsum(energies(front, before, old, count))])

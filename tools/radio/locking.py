@@ -6,13 +6,14 @@ from typing import IO, Callable, NamedTuple
 
 from .acquisition import SPAN, Found, acquire, finer
 from .air import CHIP_RATE, PERIOD
-from .fitting import EQUALISED, Fit, Way, equaliser_gain
+from .fitting import EQUALISED, Fit, equaliser_gain
 from .front import Front
 from .gaps import Gap, find_again, part_ways
+from .paths import Way, mean_energies, peaks
+from .sample_file import MOST_CHIPS, header
 from .samples import Recording, Refused
 from .second_pass import ROOT_MEAN_SQUARE, Piece, Written, write_chips
 from .tracking import EVERY, SEGMENT, Track, clock_error, track
-from .writing import MOST_CHIPS, header
 
 # What an option of three words lets be tried, in turn.
 TRIES = {"yes": (True,), "no": (False,), "try": (False, True)}
@@ -200,6 +201,7 @@ def lock(
 
         stretches = fit_all(front, follow(front, found, reached), options, reached)
         front.set_filter(stretches.has_equaliser)
+        ways = peaks(mean_energies(front, stretches.fits[0]))
         pieces, gaps = pieces_of(front, stretches)
         first, behind = pieces[0].first, pieces[-1].behind
         most = min(options.count or behind - first, MOST_CHIPS[options.version])
@@ -211,12 +213,13 @@ def lock(
             front, pieces, file, count, scale, options.version,
             lambda part: tell(STEPS[1] + (STEPS[2] - STEPS[1]) * part, "chips"),
         )  # fmt: skip
-    return summary(front, stretches, pieces, gaps, found, count, scale, written)
+    return summary(front, stretches, ways, pieces, gaps, found, count, scale, written)
 
 
 def summary(
     front: Front,
     stretches: Stretches,
+    ways: list[Way],
     pieces: list[Piece],
     gaps: list[Gap],
     found: Found,
@@ -236,7 +239,7 @@ def summary(
         clock_ppm=-1e6 * float(fit.offset.derivative(middle)),
         phase=first % PERIOD,
         ec_io_db=written.ec_io,
-        paths=fit.paths(),
+        paths=ways,
         equaliser=stretches.has_equaliser,
         conjugate=found.is_conjugate,
         lost=written.lost,

@@ -8,9 +8,9 @@ from numpy.typing import NDArray
 
 from .air import CHIP_RATE
 from .samples import TYPES, Refused, sample_count
+from .sample_file import FORM, GREATEST, MOST_CHIPS
 from .sigmf import META, recording_of
 from .words import text_of
-from .writing import FORM, GREATEST, MOST_CHIPS
 
 # The ratio up to which a rate is resampled at once: scipy's filter has some 20 taps for each unit of it.
 LARGEST_RATIO = 100_000

@@ -8,8 +8,8 @@ from numpy.typing import NDArray
 from .air import PERIOD, decibels, short_code
 from .fitting import Fit
 from .front import AT_ONCE, GUARD, Front, turn
+from .sample_file import FORM, GREATEST
 from .tracking import SUM
-from .writing import FORM, GREATEST
 
 # The root mean square at which chips are written, by the file's version. A part is a Gaussian variable or nearly so;
 # 16 bits leave it 22 dB for bursts, 8 bits 16 dB.

@@ -131,13 +131,17 @@ class Described(Protocol):
         """The figures as name=value."""
 
 
+def check_note(path: str, samples: str) -> None:
+    """Refuses a .sigmf-meta that doesn't stand beside the samples."""
+    if os.path.abspath(os.path.dirname(path)) != os.path.abspath(os.path.dirname(samples)):
+        raise Refused(f"{path}: it must stand in the folder of the samples, {os.path.dirname(samples) or '.'}")
+
+
 def note_lock(path: str, recording: str, kind: str, rate: Fraction, samples: str, skip: int, found: Described) -> None:
     """Writes a .sigmf-meta at `path` that names the samples, with a note of what a lock found.
 
-    It keeps what is there already, or what the recording's own .sigmf-meta tells. It has to stand beside the samples.
+    It keeps what is there already, or what the recording's own .sigmf-meta tells.
     """
-    if os.path.abspath(os.path.dirname(path)) != os.path.abspath(os.path.dirname(samples)):
-        raise Refused(f"{path}: it must stand in the folder of the samples, {os.path.dirname(samples) or '.'}")
     if os.path.exists(path):
         meta = read_json(path)
     else:

@@ -1,23 +1,11 @@
-"""Sample files: their form (docs/FORMATS.md), and writing a whole file or none."""
+"""Writing a whole file, or none."""
 
 import contextlib
 import os
 import shutil
-import struct
 import sys
 import tempfile
 from typing import IO, Iterator
-
-HEADER = struct.Struct(">4sHHQ")  # its word, version, flags and count
-# Of each version: how a part is kept, the greatest part, and the most samples.
-FORM = {1: ">i2", 2: "i1"}
-GREATEST = {1: 32_767, 2: 127}
-MOST_CHIPS = {1: 33_554_432, 2: 67_108_864}
-
-
-def header(version: int, flags: int, count: int) -> bytes:
-    """The 16 bytes before the samples."""
-    return HEADER.pack(b"IS95", version, flags, count)
 
 
 @contextlib.contextmanager
