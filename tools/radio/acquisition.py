@@ -119,7 +119,7 @@ def strongest(
     return best
 
 
-def places_of(front: Front) -> list[float]:
+def places_of(front: Front, parts: tuple[float, ...]) -> list[float]:
     """The times at which a pilot is looked for; refuses a recording that is shorter than one period of the code."""
     if front.length < PERIOD:
         raise Refused(
@@ -127,16 +127,16 @@ def places_of(front: Front) -> list[float]:
             f" {1000 * PERIOD / CHIP_RATE:.1f} ms"
         )
     room = front.length - MOST_STRETCHES * STRETCH - 2 * GUARD
-    return sorted({float(int(GUARD + room * part)) for part in PLACES})
+    return sorted({float(int(GUARD + room * part)) for part in parts})
 
 
-def looks(front: Front, span: float, is_conjugate: tuple[bool, ...]) -> Iterator[Found]:
+def looks(front: Front, span: float, is_conjugate: tuple[bool, ...], parts: tuple[float, ...]) -> Iterator[Found]:
     """The strongest cell at each place, of the recording and of its conjugate, one behind the other.
 
     The conjugate of the samples is looked at where the code is met turned round: so both share the front's work.
     """
     bins = bins_within(span)
-    places = places_of(front)
+    places = places_of(front, parts)
     shift = front.carrier
     for place in places:
         kept: dict[int, NDArray[numpy.complex64]] = {}
@@ -152,18 +152,29 @@ def looks(front: Front, span: float, is_conjugate: tuple[bool, ...]) -> Iterator
             yield Found(place + best.late, best.phase, hertz, best.excess, turned)
 
 
-def acquire(front: Front, span: float = SPAN, is_conjugate: tuple[bool, ...] = (False,)) -> Found:
-    """The first place at which a pilot stands out within span Hz of the front's carrier; refuses where there is none.
+def best_found(
+    front: Front, span: float, is_conjugate: tuple[bool, ...] = (False,), parts: tuple[float, ...] = PLACES
+) -> Found:
+    """The first place, of some parts of the recording, at which a pilot stands out: its excess is above 1.
 
-    Where is_conjugate has both, the recording's conjugate is tried too; the carrier is then that of the conjugate.
+    Where none does it is the strongest cell of all. Where is_conjugate has both, the recording's conjugate is tried
+    too; the carrier is then that of the conjugate.
     """
     best: Found | None = None
-    for found in looks(front, span, is_conjugate):
+    for found in looks(front, span, is_conjugate, parts):
         if best is None or found.excess > best.excess:
             best = found
         if best.excess > 1:
-            return best
+            break
     assert best is not None
+    return best
+
+
+def acquire(front: Front, span: float = SPAN, is_conjugate: tuple[bool, ...] = (False,)) -> Found:
+    """The place at which a pilot stands out within span Hz of the front's carrier; refuses where there is none."""
+    best = best_found(front, span, is_conjugate)
+    if best.excess > 1:
+        return best
     raise Refused(
         f"no pilot stands out within {span:.0f} Hz: the best energy is {best.excess:.2f} of the threshold, which noise"
         f" alone reaches in one recording of {ONE_IN:,.0f}"
