@@ -1,0 +1,115 @@
+"""Handing batches to workers by dask.distributed (Debian's package python3-distributed).
+
+A batch is a task without effects, so where a worker dies dask gives its tasks to another one, and where two workers
+did one batch the counts are the same. Only the process that asks for batches keeps counts.
+"""
+
+import asyncio
+import contextlib
+import logging
+import tempfile
+from typing import Any, Callable, Iterator
+
+from tools.curves import Refused
+from tools.curves.batch import Setup, run_batch
+from tools.curves.counting import Counts
+from tools.curves.plan import Ledger
+
+# Seconds until a scheduler that doesn't answer isn't there, and until one that has no worker never gets one.
+CONNECT = 10
+FIRST_WORKER = 60
+# Batches under way for each worker: one that it does and one that waits, so that none is idle.
+AHEAD = 2
+
+Sink = Callable[[int, int, list[Counts]], None]
+
+
+def quiet() -> Any:
+    """dask.distributed, which says nothing of its own from here on."""
+    try:
+        import distributed
+    except ImportError as missing:
+        raise Refused(f"{missing}: install the package python3-distributed, and run /usr/bin/python3") from None
+    for name in ("distributed", "tornado", "asyncio", "bokeh"):
+        logging.getLogger(name).setLevel(logging.CRITICAL + 1)
+    return distributed
+
+
+@contextlib.contextmanager
+def connected(address: str | None, workers: int) -> Iterator[Any]:
+    """A client of the scheduler at an address, or of a cluster of processes on this machine."""
+    distributed = quiet()
+    with contextlib.ExitStack() as stack:
+        try:
+            if address is None:
+                folder = stack.enter_context(tempfile.TemporaryDirectory(prefix="curve-"))
+                cluster = distributed.LocalCluster(
+                    n_workers=workers,
+                    threads_per_worker=1,
+                    processes=True,
+                    dashboard_address=None,
+                    memory_limit=0,
+                    local_directory=folder,
+                    silence_logs=logging.CRITICAL + 1,
+                )
+                stack.enter_context(cluster)
+                client = stack.enter_context(distributed.Client(cluster))
+            else:
+                client = stack.enter_context(distributed.Client(address, timeout=CONNECT))
+        except (OSError, TimeoutError, asyncio.TimeoutError, ValueError) as why:
+            where = "no cluster on this machine" if address is None else f"no scheduler at {address}"
+            raise Refused(f"{where}: {why or 'it does not answer'}") from None
+        try:
+            client.wait_for_workers(1, timeout=FIRST_WORKER)
+        except (TimeoutError, asyncio.TimeoutError):
+            raise Refused(f"the scheduler at {address} has no worker") from None
+        yield client
+
+
+def result_of(future: Any) -> list[Counts]:
+    """A batch's counts; Refused in words where it failed, or where the scheduler lost it."""
+    if future.status == "finished":
+        return future.result()
+    if future.status != "error":
+        raise Refused("the scheduler is gone, or gave up the run")
+    why = future.exception()
+    if isinstance(why, Refused):
+        raise why
+    if type(why).__name__ == "KilledWorker":
+        raise Refused("one batch ended several workers: they were killed, or have no memory")
+    if isinstance(why, ModuleNotFoundError):
+        raise Refused(f"a worker has {why}: start it at the top of this repository, with PYTHONPATH=.")
+    raise Refused(f"a worker failed: {type(why).__name__}: {why}")
+
+
+def hand_out(client: Any, setup: Setup, ledger: Ledger, sigmas: dict[int, float], sink: Sink) -> None:
+    """Does a ledger's batches until each point has enough; `sink` gets each as it comes, once."""
+    from distributed import as_completed
+
+    under_way: dict[Any, tuple[int, int]] = {}
+    coming = as_completed()
+
+    def fill() -> None:
+        room = AHEAD * max(1, len(client.scheduler_info()["workers"])) - len(under_way)
+        asked = set(under_way.values())
+        for point, batch in ledger.wanted():
+            if room <= 0:
+                break
+            if (point, batch) in asked:
+                continue
+            future = client.submit(run_batch, setup, point, sigmas[point], batch, pure=False)
+            under_way[future] = (point, batch)
+            coming.add(future)
+            room -= 1
+
+    try:
+        fill()
+        while under_way and ledger.left():
+            future = next(coming)
+            point, batch = under_way.pop(future)
+            counts = result_of(future)
+            ledger.take(point, batch, counts)
+            sink(point, batch, counts)
+            fill()
+    finally:
+        client.cancel(list(under_way), force=True)
