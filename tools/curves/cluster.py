@@ -5,6 +5,7 @@ did one batch the counts are the same. Only the process that asks for batches ke
 """
 
 import asyncio
+import concurrent.futures
 import contextlib
 import logging
 import tempfile
@@ -15,9 +16,12 @@ from tools.curves.batch import Setup, run_batch
 from tools.curves.counting import Counts
 from tools.curves.plan import Ledger
 
-# Seconds until a scheduler that doesn't answer isn't there, and until one that has no worker never gets one.
+# Above every level of a logger.
+SILENT = logging.CRITICAL + 1
+# Seconds until a scheduler that doesn't answer isn't there, and until one that has no worker, or none any more, gets
+# none.
 CONNECT = 10
-FIRST_WORKER = 60
+FIRST_WORKER = LAST_WORKER = 60
 # Batches under way for each worker: one that it does and one that waits, so that none is idle.
 AHEAD = 2
 
@@ -30,8 +34,9 @@ def quiet() -> Any:
         import distributed
     except ImportError as missing:
         raise Refused(f"{missing}: install the package python3-distributed, and run /usr/bin/python3") from None
-    for name in ("distributed", "tornado", "asyncio", "bokeh"):
-        logging.getLogger(name).setLevel(logging.CRITICAL + 1)
+    for name in ("distributed", "tornado", "asyncio", *logging.root.manager.loggerDict):
+        if name.split(".")[0] in ("distributed", "tornado", "asyncio"):
+            logging.getLogger(name).setLevel(SILENT)
     return distributed
 
 
@@ -50,7 +55,7 @@ def connected(address: str | None, workers: int) -> Iterator[Any]:
                     dashboard_address=None,
                     memory_limit=0,
                     local_directory=folder,
-                    silence_logs=logging.CRITICAL + 1,
+                    silence_logs=SILENT,
                 )
                 stack.enter_context(cluster)
                 client = stack.enter_context(distributed.Client(cluster))
@@ -82,34 +87,58 @@ def result_of(future: Any) -> list[Counts]:
     raise Refused(f"a worker failed: {type(why).__name__}: {why}")
 
 
-def hand_out(client: Any, setup: Setup, ledger: Ledger, sigmas: dict[int, float], sink: Sink) -> None:
-    """Does a ledger's batches until each point has enough; `sink` gets each as it comes, once."""
-    from distributed import as_completed
+class Hands:
+    """The batches of a ledger that are under way, by their futures."""
 
-    under_way: dict[Any, tuple[int, int]] = {}
-    coming = as_completed()
+    def __init__(self, client: Any, setup: Setup, ledger: Ledger, sigmas: dict[int, float]) -> None:
+        self.client, self.setup, self.ledger, self.sigmas = client, setup, ledger, sigmas
+        self.under_way: dict[Any, tuple[int, int]] = {}
 
-    def fill() -> None:
-        room = AHEAD * max(1, len(client.scheduler_info()["workers"])) - len(under_way)
-        asked = set(under_way.values())
-        for point, batch in ledger.wanted():
+    def workers(self) -> int:
+        """How many workers there are now."""
+        return len(self.client.scheduler_info()["workers"])
+
+    def fill(self) -> None:
+        """Hands out batches, the first needed first, until each worker has enough."""
+        room = AHEAD * max(1, self.workers()) - len(self.under_way)
+        asked = set(self.under_way.values())
+        for point, batch in self.ledger.wanted():
             if room <= 0:
                 break
-            if (point, batch) in asked:
-                continue
-            future = client.submit(run_batch, setup, point, sigmas[point], batch, pure=False)
-            under_way[future] = (point, batch)
-            coming.add(future)
-            room -= 1
+            if (point, batch) not in asked:
+                future = self.client.submit(run_batch, self.setup, point, self.sigmas[point], batch, pure=False)
+                self.under_way[future] = (point, batch)
+                room -= 1
 
-    try:
-        fill()
-        while under_way and ledger.left():
-            future = next(coming)
-            point, batch = under_way.pop(future)
+    def ended(self) -> list[Any]:
+        """The futures that have ended, one or more; Refused where no worker is left that could end one."""
+        from distributed import wait
+
+        while True:
+            try:
+                return list(wait(list(self.under_way), timeout=LAST_WORKER, return_when="FIRST_COMPLETED").done)
+            except (TimeoutError, asyncio.TimeoutError):
+                if not self.workers():
+                    raise Refused("the scheduler has no worker any more") from None
+
+    def step(self, sink: Sink) -> None:
+        """Waits for batches, and takes those that have ended."""
+        for future in sorted(self.ended(), key=lambda future: self.under_way[future]):
+            point, batch = self.under_way.pop(future)
             counts = result_of(future)
-            ledger.take(point, batch, counts)
+            self.ledger.take(point, batch, counts)
             sink(point, batch, counts)
-            fill()
+
+
+def hand_out(client: Any, setup: Setup, ledger: Ledger, sigmas: dict[int, float], sink: Sink) -> None:
+    """Does a ledger's batches until each point has enough; `sink` gets each as it comes, once."""
+    hands = Hands(client, setup, ledger, sigmas)
+    try:
+        while ledger.left():
+            hands.fill()
+            hands.step(sink)
+    except (OSError, concurrent.futures.CancelledError, asyncio.CancelledError):
+        raise Refused("the scheduler is gone, or gave up the run") from None
     finally:
-        client.cancel(list(under_way), force=True)
+        with contextlib.suppress(Exception):
+            client.cancel(list(hands.under_way), force=True)
