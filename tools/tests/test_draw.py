@@ -14,7 +14,7 @@ needs("numpy", "matplotlib")
 FOLLOWED = """\
 pilot phase=64 energy=1509949440000
 sync at=294848 prev=3 min=1 sid=1 nid=2 pn=511 lc=102a1d2e508 time=1007 lp=13 ltm=0 daylt=0 prat=0 rest=3:00
-frame at=712704 rate=9600 good=1 bits=172:80 commands=0000000000000011
+frame at=712704 rate=9600 good=1 bits=172:80000000000000000000000000000000000000000000 commands=0000000000000011
 paging at=737280 channels pn=511 seq=0 freqs=283 rest=0:
 frame at=737280 rate=2400 good=0 bits=40:0000000000 commands=1111111111111111
 traffic at=737280 ack=0 seq=0 req=0 enc=0 handoff use=1 action=49 hdm=0 extra=0: records=511/20/0 rest=7:00
@@ -131,8 +131,8 @@ class Pictures(unittest.TestCase):
         self.refused("line 1 is no line of survey: 'pilot", "survey", out, data=b"pilot phase=0 energy=0\n")
         self.refused("no line of follow that tells an event", "follow", out, data=b"pilot phase=0 energy=0\n")
         self.refused("line 1 is no line of follow: 'survey", "follow", out, data=b"survey pn=0 delta=0 energy=0\n")
-        sets = b"sets at=1 time=1 active=5/1 candidate= report=0\n"
-        self.refused("line 1 has an active pilot without its three numbers", "follow", out, data=sets)
+        sets = b"sets at=1 time=1 active=511/10 candidate= report=0\n"
+        self.refused("line 1 is no line of follow: active: '511/10' hasn't 3 numbers", "follow", out, data=sets)
         self.refused("isn't text of the program", "follow", out, data=b"\xff\n")
         self.refused("ends within the header", "correlation", out, data=b"IS95")
         self.refused("no sample file", "correlation", out, data=b"is95" + short[4:])
