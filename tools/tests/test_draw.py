@@ -65,14 +65,14 @@ class Reading(unittest.TestCase):
         self.assertEqual(found, [(5, -3, 12), (0, 0, 7)])
 
     def test_a_run(self):
-        run = DRAW.Run(FOLLOWED.splitlines())
-        self.assertEqual(run.lanes, {"sync": [294_848], "paging channels": [737_280], "traffic handoff": [737_280]})
-        self.assertEqual([frame[:3] for frame in run.frames], [(712_704, 9_600, True), (737_280, 2_400, False)])
+        run = DRAW.run_of(FOLLOWED.splitlines())
+        self.assertEqual(run.lanes, {"sync": [(2, 294_848)], "paging channels": [(4, 737_280)], "traffic handoff": [(6, 737_280)]})
+        self.assertEqual([frame[:4] for frame in run.frames], [(3, 712_704, 9_600, True), (5, 737_280, 2_400, False)])
         places, levels = run.steps()
         self.assertEqual((places[0], places[15], places[16]), (689_664, 712_704, 714_240))
         self.assertEqual((levels[13], levels[15], levels[31]), (14, 12, -4))
-        self.assertEqual(run.sets[1], (884_736, [511, 5], [], False))
-        active, candidates = DRAW.spans_of(run, 1), DRAW.spans_of(run, 2)
+        self.assertEqual(run.sets[1], (8, 884_736, [511, 5], [], False))
+        active, candidates = run.spans("active"), run.spans("candidate")
         self.assertEqual(active, {511: [(786_432, 983_040)], 5: [(884_736, 983_040)]})
         self.assertEqual(candidates, {5: [(786_432, 884_736)], 511: [(983_040, 983_041)]})
 
