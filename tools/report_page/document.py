@@ -5,6 +5,7 @@ their checksums, and nothing be fetched. Text of a recording comes in by `text_o
 """
 
 import base64
+import functools
 import gzip
 import hashlib
 import html
@@ -19,7 +20,7 @@ from tools.heard_run import CHIP_RATE, LANES, Run
 from tools.line_table import BY_WORDS, RATES, Shape
 from tools.report_page.figures import Plot, decibels, plots_of, strengths
 from tools.report_page.gathering import Gathered, Ran
-from tools.report_page.meaning import CONFIGURATIONS, MEANINGS, degrees, megahertz, rows_of, utc_of
+from tools.report_page.meaning import CONFIGURATIONS, MEANINGS, degrees, megahertz, rows_of, times_of, utc_of
 from tools.report_page.measures import GREATEST, Measured
 
 HERE = os.path.dirname(os.path.abspath(__file__))
@@ -119,7 +120,7 @@ def problems(gathered: Gathered, measured: Measured) -> list[str]:
         said.append(f"The recording can't be imported: {'; '.join(imported.said) or f'status {imported.status}'}.")
         return said
     if follow.status == BAD_FILE:
-        said.append(f"The file is broken ({follow.said}): this page has what was read before.")
+        said.append(f"The file is broken ({follow.said}): this page has what was read before that.")
     elif follow.status > NO_SYNC:
         said.append(f"follow ended with status {follow.status} ({follow.said}): this page has what was written before.")
     if measured.ratio is None:
@@ -148,10 +149,12 @@ def state_of(gathered: Gathered, measured: Measured) -> Markup:
 
 def recording_card(gathered: Gathered, measured: Measured) -> Markup:
     """What the recording is."""
-    kind = f"sample file, version {measured.version}" if not gathered.imported else "recording, imported with its lock"
+    kind = f"sample file, version {measured.version}, {16 if measured.version == 1 else 8} bits a part"
+    if gathered.imported:
+        kind = "recording, imported with its lock"
     rows = [
         ("File", gathered.name),
-        ("Kind", f"{kind}, {16 if measured.version == 1 else 8} bits a part"),
+        ("Kind", kind if measured.version else "no sample file"),
         ("Rate", f"{CHIP_RATE:,} samples a second, one a chip"),
         ("Chips", f"{measured.count:,}" + (f" of {measured.told:,}" if measured.told != measured.count else "")),
         ("Length", f"{measured.seconds:.3f} s"),
@@ -203,31 +206,27 @@ def station_card(gathered: Gathered) -> Markup:
         rows.append(("PN offset", str(first["pn"])))
         rows.append(("System, network", f"SID {first['sid']}, NID {first['nid']}"))
         rows.append(("Revision", MEANINGS["P_REV"](first["prev"], first)))
-        rows.append(("Time", MEANINGS["SYS_TIME"](first["time"], first)))
+        utc, local, offset = times_of(first)
+        rows += [("Time, UTC", utc), ("Time, local", f"{local}, UTC{offset}")]
     if found := last_of(gathered.follow, "paging", "system"):
         system = found[1]
         rows.append(("Base station", str(system["base"])))
-        rows.append(("Position", f"{degrees(system['lat'], 22, 'NS')}; {degrees(system['long'], 23, 'EW')}"))
+        rows += [("Latitude", degrees(system["lat"], 22, "NS")), ("Longitude", degrees(system["long"], 23, "EW"))]
     return section("Base station", table_of(Table((), rows or [("", "none was heard")])), level="h3")
 
 
 def heard_card(run: Run) -> Markup:
     """How many messages and frames were heard."""
-    rows = []
-    for name in LANES:
-        if messages := run.lanes.get(name):
-            ends = [f"{messages[at].at / CHIP_RATE:.2f}" for at in (0, -1)]
-            rows.append((name, str(len(messages)), *ends))
+    told: list[tuple[str, list[int]]] = [(name, [one.at for one in run.lanes[name]]) for name in LANES if name in run.lanes]
     for rate in RATES:
-        if frames := [frame for frame in run.frames if frame.rate == rate]:
-            bad = sum(not frame.is_good for frame in frames)
-            ends = [f"{frames[at].at / CHIP_RATE:.2f}" for at in (0, -1)]
-            rows.append((f"frames {rate}" + (f", {bad} bad" if bad else ""), str(len(frames)), *ends))
-    if run.sets:
-        rows.append(("pilot sets", str(len(run.sets)), *(f"{run.sets[at].at / CHIP_RATE:.2f}" for at in (0, -1))))
-    if not rows:
-        rows = [("nothing", "0", "", "")]
-    return section("Heard", table_of(Table(("Event", "#Count", "#First, s", "#Last, s"), rows)), level="h3")
+        frames = [frame for frame in run.frames if frame.rate == rate]
+        bad = sum(not frame.is_good for frame in frames)
+        told.append((f"frames {rate}" + (f", {bad} bad" if bad else ""), [frame.at for frame in frames]))
+    told.append(("pilot sets", [moment.at for moment in run.sets]))
+    rows = [
+        (name, str(len(at)), f"{at[0] / CHIP_RATE:.2f} to {at[-1] / CHIP_RATE:.2f}") for name, at in told if at
+    ]
+    return section("Heard", table_of(Table(("Event", "#Count", "#Seconds"), rows or [("nothing", "0", "")])), level="h3")
 
 
 def fields_section(heading: str, name: str, shape: Shape, read: dict[str, Any], note: str) -> Markup:
@@ -323,6 +322,12 @@ def checksum(script: str) -> str:
     return "'sha256-" + base64.b64encode(hashlib.sha256(script.encode()).digest()).decode() + "'"
 
 
+@functools.cache
+def packed(script: str) -> str:
+    """A script compressed by gzip, in base 64."""
+    return base64.b64encode(gzip.compress(script.encode(), mtime=0, compresslevel=6)).decode()
+
+
 def asset(name: str) -> str:
     """A file beside this one."""
     with open(os.path.join(HERE, name), encoding="utf-8") as file:
@@ -355,10 +360,11 @@ def plots_part(plots: list[Plot]) -> Markup:
 
 def links_of(plots: list[Plot], tables: dict[str, Markup]) -> list[tuple[str, str]]:
     """The names of the page's parts that are there, and what their links say."""
-    named = [(f"{plot.name}-part", plot.heading.split(" ")[0] if plot.name != "survey" else "Survey") for plot in plots]
+    named = [(f"{plot.name}-part", PLOT_NAMES[plot.name]) for plot in plots]
     return [("summary", "Summary"), *named, *((name, told) for name, told in TABLE_NAMES if tables[name]), ("lines", "Lines")]
 
 
+PLOT_NAMES = {"correlation": "Correlation", "constellation": "Constellation", "survey": "Survey", "timeline": "Time line"}
 TABLE_NAMES = [("sync", "Sync"), ("system", "System"), ("neighbors", "Neighbors"), ("channels", "Channels"), ("notes", "Notes")]
 
 
@@ -395,7 +401,6 @@ def page_of(gathered: Gathered, measured: Measured, notes: dict[str, str]) -> st
     has_offset = bool(gathered.follow.reads("sync"))
     plots = plots_of(gathered, measured, has_offset)
     plotly, own = get_plotlyjs(), asset("page.js")
-    packed = base64.b64encode(gzip.compress(plotly.encode(), 9, mtime=0)).decode()
     figures = {plot.name: json.loads(plot.figure.to_json()) for plot in plots}
     for figure in figures.values():
         figure["layout"].pop("template", None)
@@ -404,6 +409,6 @@ def page_of(gathered: Gathered, measured: Measured, notes: dict[str, str]) -> st
         f"<!DOCTYPE html>\n<html lang=\"en\"><head>{head_of(gathered.name, [plotly, own])}</head>\n<body>"
         f"{body_of(gathered, measured, notes, plots)}{foot}\n"
         f'<script type="application/json" id="plots">{script_text(figures)}</script>\n'
-        f'<script type="application/octet-stream" id="plotly">{packed}</script>\n'
+        f'<script type="application/octet-stream" id="plotly">{packed(plotly)}</script>\n'
         f"<script>{own}</script>\n</body></html>\n"
     )

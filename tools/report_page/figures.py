@@ -132,6 +132,7 @@ def survey_plot(gathered: Gathered, measured: Measured, has_offset: bool) -> Plo
     powers = strengths(gathered, measured)
     levels = decibels(numpy.array(powers))
     bottom = float(min(levels.min(), decibels(measured.floor))) - 1
+    colors = [BLUE if power >= measured.floor else GREY for power in powers]
     figure = graph_objects.Figure(
         graph_objects.Bar(
             x=[read["pn"] for _, read in reads],
@@ -140,7 +141,7 @@ def survey_plot(gathered: Gathered, measured: Measured, has_offset: bool) -> Plo
             width=1,
             customdata=[at for at, _ in reads],
             meta={"lines": "survey"},
-            marker={"color": [BLUE if power >= measured.floor else GREY for power in powers], "line": {"width": 0}},
+            marker={"color": colors, "line": {"color": colors, "width": 0.5}},
             hovertemplate="%{text}" + HIDDEN_TEXT,
         )
     )

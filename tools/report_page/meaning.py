@@ -31,9 +31,9 @@ ZONE_MINUTES = (1, 2, 5, 10, 20, 30, 45, 60)  # of ZONE_TIMER (7.7.2.3.2.1)
 WINDOW_CHIPS = (4, 6, 8, 10, 14, 20, 28, 40, 60, 80, 100, 130, 160, 226, 320, 452)  # of a search window (6.6.6.2.1)
 DROP_SECONDS = (0.1, 1, 2, 4, 6, 9, 13, 19, 27, 39, 55, 79, 112, 159, 225, 319)  # of T_TDROP (6.6.6.2.3)
 CONFIGURATIONS = {  # of a neighbor (7.7.2.3.2.3)
-    0: "as this base station: the same frequencies, and paging channels on the same of them",
-    1: "the same number of frequencies, with other numbers of paging channels",
-    2: "perhaps another number of frequencies, this one among them",
+    0: "as this base station",
+    1: "as many frequencies, other paging channels",
+    2: "perhaps other frequencies",
     3: "unknown",
 }
 
@@ -72,10 +72,16 @@ def hours_of(offset: datetime.timedelta) -> str:
     return f"{'-' if minutes < 0 else '+'}{abs(minutes) // 60:02}:{abs(minutes) % 60:02}"
 
 
-def time_told(value: int, fields: dict[str, Any]) -> str:
-    """SYS_TIME as date and time, in UTC and local (7.7.1.3)."""
-    utc, offset = utc_of(value, fields["lp"]), HALF_HOUR * signed(fields["ltm"], 6)
-    return f"{dated(utc)} UTC, {dated(utc + offset)} local time ({hours_of(offset)})"
+def times_of(fields: dict[str, Any]) -> tuple[str, str, str]:
+    """The time that a sync message tells: in UTC, local, and how far local time is from UTC (7.7.1.3)."""
+    utc, offset = utc_of(fields["time"], fields["lp"]), HALF_HOUR * signed(fields["ltm"], 6)
+    return dated(utc), dated(utc + offset), hours_of(offset)
+
+
+def time_told(_: int, fields: dict[str, Any]) -> str:
+    """SYS_TIME as date and time."""
+    utc, local, offset = times_of(fields)
+    return f"{utc} UTC, {local} local time (UTC{offset})"
 
 
 def degrees(value: int, width: int, ends: str) -> str:

@@ -5,6 +5,7 @@ whose squares add up to W that is 2 N W, since a point of the code has two parts
 energy is 2 W on average, and above x times that with the chance exp(-x).
 """
 
+import functools
 import os
 from typing import NamedTuple
 
@@ -49,10 +50,12 @@ class Symbols(NamedTuple):
 
 
 class Measured(NamedTuple):
-    """What was measured of a sample file; None where it is too short, or no pilot stands out."""
+    """What was measured of a sample file; None where it is too short, or no pilot stands out.
+
+    `version` is 0 where it is no sample file; `told` samples are those of its header, and `count` it has.
+    """
 
     version: int
-    bytes: int
     told: int
     count: int
     span: int
@@ -83,14 +86,14 @@ class SampleFile:
     """A sample file, or as much as there is of it."""
 
     def __init__(self, path: str) -> None:
-        """Reads the header; a version that is unknown counts as 1, and only whole samples count."""
-        self.path, self.bytes = path, os.path.getsize(path)
+        """Reads the header; only whole samples count, and a file that is none has version 0 and no samples."""
+        self.path, self.version, self.told, self.count = path, 0, 0, 0
         with open(path, "rb") as file:
             head = file.read(HEADER.size).ljust(HEADER.size, b"\0")
-        _, version, _, self.told = HEADER.unpack(head)
-        self.version = version if version in FILE_TYPE else 1
-        self.form = numpy.dtype(FILE_TYPE[self.version])
-        self.count = min(self.told, max(0, self.bytes - HEADER.size) // (2 * self.form.itemsize))
+        magic, version, _, told = HEADER.unpack(head)
+        if magic == b"IS95" and version in FILE_TYPE:
+            self.version, self.told, self.form = version, told, numpy.dtype(FILE_TYPE[version])
+            self.count = min(told, max(0, os.path.getsize(path) - HEADER.size) // (2 * self.form.itemsize))
 
     def read(self, first: int, count: int) -> NDArray[numpy.complex128]:
         """Samples first to first + count - 1, which the file has."""
@@ -109,6 +112,7 @@ def level_of(file: SampleFile) -> Level:
     return Level(power / file.count, top)
 
 
+@functools.cache
 def code_points() -> NDArray[numpy.complex128]:
     """The points of the pilot's code, 32,768 of them."""
     in_phase, quadrature = codes()
@@ -174,7 +178,7 @@ def drift_of(file: SampleFile, points: NDArray[numpy.complex128], phase: int, sp
 def measured(path: str, phase: int | None, span: int) -> Measured:
     """What a sample file says by itself, at the phase that the program found in its first samples, if it did."""
     file = SampleFile(path)
-    plain = Measured(file.version, file.bytes, file.told, file.count, span)
+    plain = Measured(file.version, file.told, file.count, span)
     if not file.count:
         return plain
     plain = plain._replace(level=level_of(file))

@@ -1,13 +1,10 @@
 """tools/draw: what it reads of lines and of a sample file, the pictures that it writes, and each error."""
 
-import importlib.machinery
-import importlib.util
 import os
-import sys
 import tempfile
 import unittest
 
-from tools.tests.helping import EXAMPLES, NO_PROGRAM, PROGRAM, TOOLS, example, needs, run_program, run_tool, sample_file
+from tools.tests.helping import EXAMPLES, NO_PROGRAM, PROGRAM, example, loaded, needs, run_program, run_tool, sample_file
 
 needs("numpy", "matplotlib")
 
@@ -23,15 +20,6 @@ sets at=884736 time=1009 active=511/20/0,5/21/1 candidate= report=0
 sets at=983040 time=1010 active=5/21/0 candidate=511 report=0
 raw at=983040 paging 8:04
 """
-
-
-def loaded(name):
-    """A tool as a module."""
-    sys.dont_write_bytecode = True
-    loader = importlib.machinery.SourceFileLoader(name, os.path.join(TOOLS, name))
-    module = importlib.util.module_from_spec(importlib.util.spec_from_loader(name, loader))
-    loader.exec_module(module)
-    return module
 
 
 DRAW = loaded("draw")
