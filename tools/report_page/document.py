@@ -26,16 +26,16 @@ from tools.report_page.measures import GREATEST, Measured
 HERE = os.path.dirname(os.path.abspath(__file__))
 NO_SYNC, BAD_FILE = 1, 3  # statuses of follow (docs/FORMATS.md)
 FOUND = {  # what an import tells by name, and its unit
-    "carrier_hz": ("Carrier", "Hz from the recording's middle"),
+    "carrier_hz": ("Carrier", "Hz above the recording's middle"),
     "drift": ("Carrier's drift", "Hz a second"),
-    "clock_ppm": ("Clock", "ppm from the recording's rate"),
+    "clock_ppm": ("Clock", "ppm slower than the base station's"),
     "ec_io_db": ("Pilot", "dB of all power"),
     "phase": ("Phase", "of the pilot's code at the first chip"),
-    "paths": ("Paths", ""),
+    "paths": ("Paths", "chips later, and dB"),
     "equaliser": ("Phase equaliser", ""),
     "conjugate": ("Conjugate", ""),
-    "lost": ("Lost stretches", ""),
-    "chips": ("Chips", ""),
+    "lost": ("Lost", "chips"),
+    "chips": ("Written", "chips"),
     "scale": ("Scale", ""),
 }
 MOST_TEXT = 300  # characters of a text of the recording's own that are shown
@@ -128,7 +128,7 @@ def problems(gathered: Gathered, measured: Measured) -> list[str]:
     elif not measured.stands_out:
         least = f"{decibels(measured.floor):.1f} dB"
         said.append(f"No pilot stands out: the best phase has {decibels(measured.ratio):.1f} dB of all power, and noise reaches {least}.")
-    if follow.status != BAD_FILE and not follow.reads("sync"):
+    if follow.status in (0, NO_SYNC) and not follow.reads("sync"):
         said.append("No sync message was heard, so neither the time nor any other channel is known.")
     elif follow.status == NO_SYNC:
         said.append(f"follow ended with status {NO_SYNC}: {follow.said}.")
@@ -147,18 +147,26 @@ def state_of(gathered: Gathered, measured: Measured) -> Markup:
     return element("div", joined([element("strong", "Not all is well:"), element("ul", rows)]), class_="state bad", role="alert")
 
 
-def recording_card(gathered: Gathered, measured: Measured) -> Markup:
-    """What the recording is."""
-    kind = f"sample file, version {measured.version}, {16 if measured.version == 1 else 8} bits a part"
+def kind_of(gathered: Gathered, measured: Measured) -> str:
+    """What a file is."""
     if gathered.imported:
-        kind = "recording, imported with its lock"
-    rows = [
-        ("File", gathered.name),
-        ("Kind", kind if measured.version else "no sample file"),
+        return f"recording, imported with {' '.join(gathered.imported.words)}"
+    if not measured.version:
+        return "no sample file"
+    return f"sample file, version {measured.version}, {16 if measured.version == 1 else 8} bits a part"
+
+
+def recording_card(gathered: Gathered, measured: Measured, notes: dict[str, str]) -> Markup:
+    """What the recording is."""
+    rows = [("File", gathered.name), ("Kind", kind_of(gathered, measured))]
+    if told := notes.get("core:sample_rate"):
+        rows.append(("Recorded", f"{told} samples a second, {notes.get('core:datatype', 'of an unknown type')}"))
+    rows += [
         ("Rate", f"{CHIP_RATE:,} samples a second, one a chip"),
         ("Chips", f"{measured.count:,}" + (f" of {measured.told:,}" if measured.told != measured.count else "")),
         ("Length", f"{measured.seconds:.3f} s"),
     ]
+    rows = [(name, value[:MOST_TEXT]) for name, value in rows]
     return section("Recording", table_of(Table((), rows)), level="h3")
 
 
@@ -371,7 +379,7 @@ TABLE_NAMES = [("sync", "Sync"), ("system", "System"), ("neighbors", "Neighbors"
 def body_of(gathered: Gathered, measured: Measured, notes: dict[str, str], plots: list[Plot]) -> Markup:
     """What the page shows."""
     run = Run(gathered.follow.reads("sync", "paging", "frame", "traffic", "sets"))
-    cards = [recording_card(gathered, measured), signal_card(gathered, measured), found_card(gathered), station_card(gathered), heard_card(run)]
+    cards = [recording_card(gathered, measured, notes), signal_card(gathered, measured), found_card(gathered), station_card(gathered), heard_card(run)]
     tables = {
         "sync": sync_section(gathered),
         "system": last_section(gathered, "System Parameters", "system", "system"),

@@ -261,7 +261,7 @@ def timeline_plot(gathered: Gathered) -> Plot | None:
     figure.update_xaxes(range=[0, 1.01 * run.ends() / CHIP_RATE])
     figure.update_xaxes(title="seconds from the first sample", row=len(panels), col=1)
     note = "Rest on a mark to read its line, click it to keep the line below; drag to zoom, double-click to see all."
-    if run.frames:
+    if any(not frame.is_good for frame in run.frames):
         note += " Hollow red squares are frames that aren't good."
     return Plot("timeline", "Time line", note, figure)
 

@@ -1,12 +1,15 @@
 """What a report is made of: the import of a recording, and one run each of `find`, `survey` and `follow`."""
 
 import contextlib
+import fcntl
 import os
+import pty
+import re
 import shutil
 import subprocess
 import sys
 import tempfile
-import time
+import termios
 from typing import Any, IO, NamedTuple
 
 from tools.heard_run import CHIP_RATE, FOLLOWED
@@ -20,8 +23,10 @@ PIECE = 1 << 20  # bytes of a sample file that are given at once
 HEADER_BYTES = 16  # of a sample file (docs/FORMATS.md)
 SAMPLE_BYTES = {1: 4, 2: 2}
 BAD_WORDS = 2  # the program's status where its words are none (docs/FORMATS.md)
+FOUND = re.compile(r"[a-z_]+=\S*")  # a word of the line that tells what an import found
 SEARCH = ("span", "workers")  # words of follow that find and survey take too
 PERIOD = 32_768  # phases of the pilot's code (7.1.3.1.9)
+WIDTH = 31  # chips on each side of its own phase on which each pilot is surveyed: the most, 25 microseconds
 STEP = 64  # chips between the codes of neighboring offsets (7.1.3.1.9)
 
 
@@ -41,13 +46,12 @@ class Line(NamedTuple):
 
 
 class Ran(NamedTuple):
-    """A run of a command: its words, its status, its lines, what it said on standard error, and its seconds."""
+    """A run of a command: its words, its status, its lines, and what it said on standard error."""
 
     words: list[str]
     status: int
     lines: list[Line]
     said: str
-    seconds: float
 
     def reads(self, *kinds: str) -> list[tuple[int, dict[str, Any]]]:
         """The objects of the lines that begin with one of these words, each with the line's place from 0 on."""
@@ -61,18 +65,16 @@ class Imported(NamedTuple):
     status: int
     found: dict[str, str]
     said: list[str]
-    seconds: float
 
 
 class Gathered(NamedTuple):
-    """All that a report shows. `file` is the sample file, which needn't be a whole one."""
+    """All that a report shows, but what is measured of the samples."""
 
     name: str
     imported: Imported | None
     find: Ran
     survey: Ran
     follow: Ran
-    base: int
 
     @property
     def runs(self) -> tuple[Ran, Ran, Ran]:
@@ -138,7 +140,6 @@ def feed(file: IO[bytes], into: IO[bytes], size: int, shown: Any, text: str) -> 
 
 def run_program(program: str, words: list[str], path: str, kinds: tuple[str, ...], shown: Any) -> Ran:
     """A run of the program over a sample file; `shown` is told of the samples that it took."""
-    began = time.monotonic()
     with open(path, "rb") as file, tempfile.TemporaryFile() as out, tempfile.TemporaryFile() as said:
         try:
             child = subprocess.Popen([program, *words], stdin=subprocess.PIPE, stdout=out, stderr=said)
@@ -149,8 +150,7 @@ def run_program(program: str, words: list[str], path: str, kinds: tuple[str, ...
             child.wait()
         out.seek(0)
         said.seek(0)
-        lines = lines_of(out.read(), kinds)
-        return Ran(words, child.returncode, lines, escaped(said.read().strip()), time.monotonic() - began)
+        return Ran(words, child.returncode, lines_of(out.read(), kinds), escaped(said.read().strip()))
 
 
 def base_of(find: Ran, follow: Ran) -> int:
@@ -163,38 +163,62 @@ def base_of(find: Ran, follow: Ran) -> int:
     return (phases[0] + STEP * (offsets[0] if offsets else 0)) % PERIOD if phases else 0
 
 
-def gather_runs(program: str, path: str, words: dict[str, str]) -> tuple[Ran, Ran, Ran, int]:
-    """One run each of find, survey and follow, and the base that the survey was told; `words` are those of follow."""
+def gather_runs(program: str, path: str, words: dict[str, str]) -> tuple[Ran, Ran, Ran]:
+    """One run each of find, survey and follow; `words` are those of follow."""
     search = [f"--{name}={words[name]}" for name in SEARCH if name in words]
     whole = [f"--{name}={value}" for name, value in words.items()]
-    samples = max(0, os.path.getsize(path) - HEADER_BYTES) // sample_bytes(path)
-    with bar(total=3 * samples, text="find", unit="chips") as shown:
+    samples = os.path.getsize(path) // sample_bytes(path)
+    with bar(total=3 * samples, text="follow", unit="chips") as shown:
         follow = run_program(program, ["follow", *whole], path, FOLLOWED, shown)
         if follow.status == BAD_WORDS:
             raise BadWords(f"no words of follow: {' '.join(whole)}")
         find = run_program(program, ["find", *search], path, ("pilot",), shown)
         base = base_of(find, follow)
-        survey = run_program(program, ["survey", *search, f"--base={base}"], path, ("survey",), shown)
-    return find, survey, follow, base
+        survey = run_program(program, ["survey", *search, f"--base={base}", f"--width={WIDTH}"], path, ("survey",), shown)
+    return find, survey, follow
 
 
-def found_in(said: str) -> tuple[dict[str, str], list[str]]:
-    """What an import found, from the line of name=value words, and the other lines."""
+def found_in(said: bytes) -> tuple[dict[str, str], list[str]]:
+    """What an import found, from the line of name=value words, and its own other lines; bars aren't among them."""
     found: dict[str, str] = {}
     others = []
-    for line in said.splitlines():
-        words = line.split()
-        if words and all("=" in word and word.split("=")[0].isidentifier() for word in words):
+    for line in re.split(rb"[\r\n]+", said):
+        words = escaped(line).split()
+        if words and all(FOUND.fullmatch(word) for word in words):
             found.update(word.split("=", 1) for word in words)
-        elif line.strip():
-            others.append(line)
+        elif words and words[0] == "import_capture:":
+            others.append(" ".join(words[1:]))
     return found, others
+
+
+def said_on_terminal(given: list[str]) -> tuple[int, bytes]:
+    """The status of a tool and what it says on standard error, which is a terminal to it, and goes on to ours as it comes.
+
+    So the tool shows how far it is, in as many columns as there are.
+    """
+    ours, theirs = pty.openpty()
+    fcntl.ioctl(theirs, termios.TIOCSWINSZ, fcntl.ioctl(sys.stderr, termios.TIOCGWINSZ, bytes(8)))
+    said = b""
+    with subprocess.Popen(given, stdin=subprocess.DEVNULL, stdout=subprocess.DEVNULL, stderr=theirs) as child:
+        os.close(theirs)
+        with contextlib.suppress(OSError):  # which is how a terminal ends that nobody holds
+            while piece := os.read(ours, 4_096):
+                said += piece
+                os.write(sys.stderr.fileno(), piece)
+    os.close(ours)
+    return child.returncode, said
+
+
+def said_by(given: list[str]) -> tuple[int, bytes]:
+    """The status of a tool and what it says on standard error; what it shows of its way is shown where that is a terminal."""
+    if sys.stderr and sys.stderr.isatty():
+        return said_on_terminal(given)
+    ran = subprocess.run(given, stdin=subprocess.DEVNULL, stdout=subprocess.DEVNULL, stderr=subprocess.PIPE)
+    return ran.returncode, ran.stderr
 
 
 def run_import(recording: str, file: str, words: list[str]) -> Imported:
     """Imports a recording, and locks to its pilot."""
-    began = time.monotonic()
-    given = [sys.executable, "-B", IMPORT, "--lock", *words, recording, file]
-    ran = subprocess.run(given, stdin=subprocess.DEVNULL, capture_output=True)
-    found, said = found_in(ran.stderr.decode("ascii", "backslashreplace"))
-    return Imported(["--lock", *words], ran.returncode, found, said, time.monotonic() - began)
+    status, text = said_by([sys.executable, "-B", IMPORT, "--lock", *words, recording, file])
+    found, said = found_in(text)
+    return Imported(["--lock", *words], status, found, said)

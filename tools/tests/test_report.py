@@ -221,7 +221,7 @@ class Pages(Folder):
             "follow --span=2048 --workers=2 --fingers=3 --esn=8badf00d --row=10",
             "find --span=2048 --workers=2",
             # The pilot of offset 0 lies 64 chips for each of the 300 steps above the best one, modulo 32,768.
-            f"survey --span=2048 --workers=2 --base={(PHASE + 64 * 300) % 32_768}",
+            f"survey --span=2048 --workers=2 --base={(PHASE + 64 * 300) % 32_768} --width=31",
         ]
         self.assertEqual(self.fake.words(), runs)
 
@@ -319,7 +319,7 @@ class BadInput(Folder):
         self.assert_holds(page, "No pilot stands out: the best phase has -")
         self.assert_holds(page, "No sync message was heard")
         self.assertEqual(list(self.plots(page)), ["correlation", "survey"])
-        self.assertEqual(self.fake.words()[-1], "survey --base=77")
+        self.assertEqual(self.fake.words()[-1], "survey --base=77 --width=31")
 
     def test_a_broken_file(self) -> None:
         for command in ("find", "survey", "follow"):
