@@ -126,8 +126,8 @@ def problems(gathered: Gathered, measured: Measured) -> list[str]:
     if measured.ratio is None:
         said.append("No pilot was looked for: there are fewer samples than the search takes.")
     elif not measured.stands_out:
-        least = f"{decibels(measured.floor):.1f} dB"
-        said.append(f"No pilot stands out: the best phase has {decibels(measured.ratio):.1f} dB of all power, and noise reaches {least}.")
+        best, noise = (f"{decibels(ratio):.1f} dB" for ratio in (measured.ratio, measured.floor))
+        said.append(f"No pilot stands out: the best phase has {best} of all power, and noise reaches {noise}.")
     if follow.status in (0, NO_SYNC) and not follow.reads("sync"):
         said.append("No sync message was heard, so neither the time nor any other channel is known.")
     elif follow.status == NO_SYNC:
@@ -143,8 +143,8 @@ def state_of(gathered: Gathered, measured: Measured) -> Markup:
     said = problems(gathered, measured)
     if not said:
         return element("div", "All was read, and follow ended with status 0.", class_="state")
-    rows = joined(element("li", one) for one in said)
-    return element("div", joined([element("strong", "Not all is well:"), element("ul", rows)]), class_="state bad", role="alert")
+    told = [element("strong", "Not all is well:"), element("ul", joined(element("li", one) for one in said))]
+    return element("div", joined(told), class_="state bad", role="alert")
 
 
 def kind_of(gathered: Gathered, measured: Measured) -> str:
@@ -160,7 +160,7 @@ def recording_card(gathered: Gathered, measured: Measured, notes: dict[str, str]
     """What the recording is."""
     rows = [("File", gathered.name), ("Kind", kind_of(gathered, measured))]
     if told := notes.get("core:sample_rate"):
-        rows.append(("Recorded", f"{told} samples a second, {notes.get('core:datatype', 'of an unknown type')}"))
+        rows.append(("Recorded at", f"{told} samples a second, {notes.get('core:datatype', 'of an unknown type')}"))
     rows += [
         ("Rate", f"{CHIP_RATE:,} samples a second, one a chip"),
         ("Chips", f"{measured.count:,}" + (f" of {measured.told:,}" if measured.told != measured.count else "")),
@@ -186,7 +186,8 @@ def signal_card(gathered: Gathered, measured: Measured) -> Markup:
     if pilots := gathered.find.reads("pilot"):
         rows.append(("Best phase", f"{pilots[0][1]['phase']:,} of 32,768"))
     if measured.ratio is not None:
-        rows.append(("Pilot", f"{decibels(measured.ratio):.1f} dB of all power" + ("" if measured.stands_out else ", no more than noise")))
+        noise = "" if measured.stands_out else ", no more than noise"
+        rows.append(("Pilot", f"{decibels(measured.ratio):.1f} dB of all power{noise}"))
     if measured.carrier is not None:
         rows.append(("Carrier left", f"{measured.carrier:+.2f} Hz"))
     if measured.drift is not None and measured.seconds:
@@ -344,7 +345,8 @@ def asset(name: str) -> str:
 
 def head_of(name: str, scripts: list[str]) -> Markup:
     """The page's head: its policy lets the page's own scripts run, and nothing be fetched."""
-    policy = f"default-src 'none'; script-src {' '.join(map(checksum, scripts))}; style-src 'unsafe-inline'; img-src data: blob:"
+    allowed = " ".join(map(checksum, scripts))
+    policy = f"default-src 'none'; script-src {allowed}; style-src 'unsafe-inline'; img-src data: blob:"
     return Markup(
         f'<meta charset="utf-8"><meta http-equiv="Content-Security-Policy" content="{html.escape(policy)}">'
         '<meta name="viewport" content="width=device-width, initial-scale=1">'
@@ -379,7 +381,13 @@ TABLE_NAMES = [("sync", "Sync"), ("system", "System"), ("neighbors", "Neighbors"
 def body_of(gathered: Gathered, measured: Measured, notes: dict[str, str], plots: list[Plot]) -> Markup:
     """What the page shows."""
     run = Run(gathered.follow.reads("sync", "paging", "frame", "traffic", "sets"))
-    cards = [recording_card(gathered, measured, notes), signal_card(gathered, measured), found_card(gathered), station_card(gathered), heard_card(run)]
+    cards = [
+        recording_card(gathered, measured, notes),
+        signal_card(gathered, measured),
+        found_card(gathered),
+        station_card(gathered),
+        heard_card(run),
+    ]
     tables = {
         "sync": sync_section(gathered),
         "system": last_section(gathered, "System Parameters", "system", "system"),

@@ -62,9 +62,8 @@ def threshold(figure: graph_objects.Figure, ratio: float, note: str) -> None:
     """A line across a figure of strengths, which noise hardly ever reaches."""
     level = float(decibels(ratio))
     figure.add_hline(y=level, line={"color": RED, "dash": "dot", "width": 1})
-    figure.add_annotation(
-        xref="paper", x=1, y=level, text=note, showarrow=False, yanchor="bottom", xanchor="right", font={"color": RED, "size": 11}
-    )
+    place = {"xref": "paper", "x": 1, "y": level, "yanchor": "bottom", "xanchor": "right"}
+    figure.add_annotation(text=note, showarrow=False, font={"color": RED, "size": 11}, **place)
 
 
 def correlation_plot(measured: Measured, phase: int) -> Plot | None:
@@ -88,7 +87,7 @@ def correlation_plot(measured: Measured, phase: int) -> Plot | None:
     threshold(figure, measured.floor, "noise stays below")
     figure.update_xaxes(title="chips from the best phase", range=[-WINDOW - 0.5, WINDOW + 0.5])
     figure.update_yaxes(title="dB of all power", range=[bottom, max(0.0, float(levels.max())) + 1])
-    note = f"The first {measured.span:,} samples against the pilot's code, at phase {phase} and {WINDOW} chips on each side of it."
+    note = f"The first {measured.span:,} samples against the pilot's code, at phase {phase} and {WINDOW} chips on each side."
     return Plot("correlation", "Correlation round the best phase", note, styled(figure, 360))
 
 
@@ -149,7 +148,8 @@ def survey_plot(gathered: Gathered, measured: Measured, has_offset: bool) -> Plo
         if power >= measured.floor:
             figure.add_annotation(x=read["pn"], y=float(level), text=f"PN {read['pn']}", showarrow=False, yanchor="bottom")
     threshold(figure, measured.floor, "noise stays below")
-    figure.update_xaxes(title="PN offset" if has_offset else "offset above the best pilot's, which isn't known", range=[-2, 513])
+    title = "PN offset" if has_offset else "offset above the best pilot's, which isn't known"
+    figure.update_xaxes(title=title, range=[-2, 513])
     figure.update_yaxes(title="dB of all power", range=[bottom, max(0.0, float(levels.max())) + 2])
     count = sum(power >= measured.floor for power in powers)
     note = f"Each of the {len(reads)} pilots at its own phase; {count} can't be noise. Drag to zoom, double-click to see all."
@@ -207,13 +207,16 @@ def power_line(run: Run) -> list[graph_objects.Scatter]:
     places, levels = run.steps()
     if not places:
         return []
-    line = {"shape": "hv", "width": 1.2, "color": ORANGE}
-    told = "%{x:.4f} s: %{y:+d} steps" + HIDDEN_TEXT
-    return [
-        graph_objects.Scatter(
-            x=seconds(places).tolist(), y=levels, name="power control", mode="lines", line=line, hovertemplate=told, showlegend=False
-        )
-    ]
+    made = graph_objects.Scatter(
+        x=seconds(places).tolist(),
+        y=levels,
+        name="power control",
+        mode="lines",
+        line={"shape": "hv", "width": 1.2, "color": ORANGE},
+        hovertemplate="%{x:.4f} s: %{y:+d} steps" + HIDDEN_TEXT,
+        showlegend=False,
+    )
+    return [made]
 
 
 def set_bars(run: Run) -> list[graph_objects.Scatter]:
@@ -229,10 +232,10 @@ def set_bars(run: Run) -> list[graph_objects.Scatter]:
         if x:
             line = {"width": width, "color": color}
             bars.append(graph_objects.Scatter(x=x, y=y, name=part, mode="lines", line=line, hoverinfo="skip"))
-    due = [moment.is_due for moment in run.sets]
-    marker = {"size": 9, "symbol": ["triangle-down" if is_due else "circle" for is_due in due], "color": [RED if is_due else INK for is_due in due]}
-    bars.append(marks("pilot sets", "sets told", [moment.at for moment in run.sets], [moment.number for moment in run.sets], marker))
-    return bars
+    looks = [("triangle-down", RED) if moment.is_due else ("circle", INK) for moment in run.sets]
+    marker = {"size": 9, "symbol": [symbol for symbol, _ in looks], "color": [color for _, color in looks]}
+    at, numbers = [moment.at for moment in run.sets], [moment.number for moment in run.sets]
+    return bars + [marks("pilot sets", "sets told", at, numbers, marker)]
 
 
 def timeline_plot(gathered: Gathered) -> Plot | None:

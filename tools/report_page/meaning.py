@@ -27,6 +27,7 @@ REVISIONS = {  # of the air interface (7.7.1.3)
     8: "IS-2000-B",
     9: "IS-2000-C",
 }
+PAGING_RATES = (9_600, 4_800)  # of PRAT (7.7.1.3)
 ZONE_MINUTES = (1, 2, 5, 10, 20, 30, 45, 60)  # of ZONE_TIMER (7.7.2.3.2.1)
 WINDOW_CHIPS = (4, 6, 8, 10, 14, 20, 28, 40, 60, 80, 100, 130, 160, 226, 320, 452)  # of a search window (6.6.6.2.1)
 DROP_SECONDS = (0.1, 1, 2, 4, 6, 9, 13, 19, 27, 39, 55, 79, 112, 159, 225, 319)  # of T_TDROP (6.6.6.2.3)
@@ -162,7 +163,7 @@ SYNC_MEANINGS: dict[str, Meaning] = {  # 7.7.1.3
     "LP_SEC": alone(lambda value: f"system time is {value} s ahead of UTC"),
     "LTM_OFF": alone(lambda value: f"local time is UTC{hours_of(HALF_HOUR * signed(value, 6))}"),
     "DAYLT": whether("daylight saving time holds", "no daylight saving time"),
-    "PRAT": alone(lambda value: ("9,600 bits a second on paging channels", "4,800 bits a second on paging channels")[value] if value < 2 else "reserved"),
+    "PRAT": alone(lambda value: f"{PAGING_RATES[value]:,} bits a second on paging channels" if value < 2 else "reserved"),
     "CDMA_FREQ": alone(megahertz),
 }
 SYSTEM_MEANINGS: dict[str, Meaning] = {  # 7.7.2.3.2.1

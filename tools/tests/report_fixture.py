@@ -15,11 +15,12 @@ SPAN = 2_048
 FOLLOWED = (
     f"pilot phase={PHASE} energy=167772160000",
     # GPS second 1,167,264,018 was 2017-01-01 00:00:00 UTC, 18 leap seconds behind it; 54 is -10 half hours.
-    "sync at=294848 prev=5 min=1 sid=4139 nid=65535 pn=300 lc=00000000010 time=14590800225 lp=18 ltm=54 daylt=0 prat=0 freq=283 rest=0:",
+    "sync at=294848 prev=5 min=1 sid=4139 nid=65535 pn=300 lc=00000000010 time=14590800225 lp=18 ltm=54 daylt=0 prat=0"
+    " freq=283 rest=0:",
     "frame at=712704 rate=9600 good=1 bits=172:80000000000000000000000000000000000000000000 commands=0000000000000011",
     # Base station 58,253 at 37.774931 degrees north and 122.419375 west: 543,959 and -1,762,839 quarter seconds of arc.
-    "paging at=737280 system pn=300 seq=46 sid=4139 nid=65535 zone=3105 zones=7 ztimer=5 msids=1 mnids=1 base=58253 bclass=0 pages=2"
-    " cycle=2 home=1 fsid=0 fnid=0 up=1 down=0 param=1 prd=58 lat=543959 long=6625769 dist=844 wina=5 winn=11 winr=1 age=2"
+    "paging at=737280 system pn=300 seq=46 sid=4139 nid=65535 zone=3105 zones=7 ztimer=5 msids=1 mnids=1 base=58253"
+    " bclass=0 pages=2 cycle=2 home=1 fsid=0 fnid=0 up=1 down=0 param=1 prd=58 lat=543959 long=6625769 dist=844 wina=5 winn=11 winr=1 age=2"
     " pthresh=15 pframes=8 pthen=1 pperen=1 pdelay=27 rescan=0 tadd=28 tdrop=32 tcomp=5 ttdrop=3 rest=4:40",
     "paging at=737280 neighbors pn=300 seq=46 inc=4 pilots=0/300,1/168,3/4 rest=0:",
     "frame at=737280 rate=2400 good=0 bits=40:0000000000 commands=1111111111111111",
@@ -67,9 +68,8 @@ class Fake:
         self.path, self.folder = os.path.join(folder, "cdma_replay"), folder
         told = shlex.quote(self.path)
         with open(self.path, "w") as file:
-            file.write(
-                f'#!/bin/sh\ncat > /dev/null\necho "$*" >> {told}.words\ncat {told}.$1\ncat {told}.$1.said >&2\nexit "$(cat {told}.$1.status)"\n'
-            )
+            file.write('#!/bin/sh\ncat > /dev/null\n')
+            file.write(f'echo "$*" >> {told}.words\ncat {told}.$1\ncat {told}.$1.said >&2\nexit "$(cat {told}.$1.status)"\n')
         os.chmod(self.path, 0o700)
         self.tell("find", [FOLLOWED[0]])
         self.tell("survey", survey_lines({300: 167772160000, 168: 20000000000}))

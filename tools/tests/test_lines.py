@@ -137,7 +137,8 @@ class Turning(unittest.TestCase):
             self.assertEqual(spell_line(json.loads(json.dumps(read))), line)
             for name, value in read.items():
                 self.check_value(line, name, value)
-        self.assertLessEqual({(shape.line, shape.word) for shape in SHAPES} - kinds, {("trial", None), ("raw", "paging"), ("raw", "traffic")})
+        not_in_cases = {("trial", None), ("raw", "paging"), ("raw", "traffic")}
+        self.assertLessEqual({(shape.line, shape.word) for shape in SHAPES} - kinds, not_in_cases)
 
     def check_value(self, line: str, name: str, value: object) -> None:
         """Numbers are those of the line's text, and other texts stand in it."""

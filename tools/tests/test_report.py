@@ -76,8 +76,9 @@ class Meanings(unittest.TestCase):
                 self.assertTrue(row[1], (name, value))
 
     def test_channels(self) -> None:
-        for channel, wanted in ((384, "881.52 MHz"), (1_013, "869.70 MHz"), (1_199, "1989.95 MHz"), (25, "1931.25 MHz"), (2_047, "no channel")):
-            self.assertIn(wanted, meaning.megahertz(channel))
+        wanted = {384: "881.52 MHz", 1_013: "869.70 MHz", 1_199: "1989.95 MHz", 25: "1931.25 MHz", 2_047: "no channel"}
+        for channel, told in wanted.items():
+            self.assertIn(told, meaning.megahertz(channel))
 
     def test_places(self) -> None:
         self.assertEqual(meaning.degrees(2**22 - 1, 22, "NS"), "-0.000069°, 0° 0′ 0.25″ S")
@@ -229,7 +230,8 @@ class Pages(Folder):
         page = self.page()
         self.assertLess(len(page.encode()), MOST_BYTES)
         policy = html.unescape(re.search(r'Content-Security-Policy" content="(.*?)"', page)[1])
-        self.assertRegex(policy, "^default-src 'none'; script-src 'sha256-[^']+' 'sha256-[^']+'; style-src 'unsafe-inline'; img-src data: blob:$")
+        scripts, others = "script-src 'sha256-[^']+' 'sha256-[^']+'", "style-src 'unsafe-inline'; img-src data: blob:"
+        self.assertRegex(policy, f"^default-src 'none'; {scripts}; {others}$")
         names = {name for _, names in Parsed(page).elements for name in names}
         self.assertNotIn("src", names)
         self.assertEqual(set(re.findall(r'href="(.)', page)), {"#"})
@@ -323,7 +325,8 @@ class BadInput(Folder):
 
     def test_a_broken_file(self) -> None:
         for command in ("find", "survey", "follow"):
-            self.fake.tell(command, list(FOLLOWED[:3]) if command == "follow" else [], status=3, said="bad file: short at 400001\n")
+            lines = list(FOLLOWED[:3]) if command == "follow" else []
+            self.fake.tell(command, lines, status=3, said="bad file: short at 400001\n")
         page = self.page(status=3, file=self.keep("cut.is95", file_of(signal())[:400_001]))
         self.assert_holds(page, "The file is broken (bad file: short at 400001)")
         self.assert_holds(page, "99,996 of 120,000")

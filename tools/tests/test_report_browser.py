@@ -30,7 +30,7 @@ SECONDS = 120  # the longest that a page may take to draw, on a busy machine
 def started() -> webdriver.Chrome:
     """A headless Chromium that keeps what its console says."""
     options = webdriver.ChromeOptions()
-    for word in ("headless=new", "no-sandbox", "disable-gpu", "disable-dev-shm-usage", "window-size=1280,1000", "hide-scrollbars"):
+    for word in ("headless=new", "no-sandbox", "disable-gpu", "disable-dev-shm-usage", "window-size=1280,1000"):
         options.add_argument(f"--{word}")
     options.set_capability("goog:loggingPrefs", {"browser": "ALL"})
     return webdriver.Chrome(service=Service(shutil.which("chromedriver")), options=options)
@@ -64,8 +64,10 @@ class Browser(Folder):
 
     def rows(self, name: str) -> dict[str, list[str]]:
         """The rows of a part's table, by their first cells."""
-        told = "return [...document.querySelectorAll(arguments[0])].map((row) => [...row.cells].map((cell) => cell.textContent))"
-        rows = self.driver.execute_script(told, f"#{name} tbody tr")
+        rows = self.driver.execute_script(
+            "return [...document.querySelectorAll(arguments[0])].map((row) => [...row.cells].map((cell) => cell.textContent))",
+            f"#{name} tbody tr",
+        )
         return {cells[0]: cells[1:] for cells in rows}
 
     def marks(self) -> int:
