@@ -147,6 +147,14 @@ def state_of(gathered: Gathered, measured: Measured) -> Markup:
     return element("div", joined(told), class_="state bad", role="alert")
 
 
+def grouped(number: str) -> str:
+    """A number with commas; any other text as it is."""
+    try:
+        return f"{float(number):,.12g}"
+    except ValueError:
+        return number
+
+
 def kind_of(gathered: Gathered, measured: Measured) -> str:
     """What a file is."""
     if gathered.imported:
@@ -160,7 +168,7 @@ def recording_card(gathered: Gathered, measured: Measured, notes: dict[str, str]
     """What the recording is."""
     rows = [("File", gathered.name), ("Kind", kind_of(gathered, measured))]
     if told := notes.get("core:sample_rate"):
-        rows.append(("Recorded at", f"{told} samples a second, {notes.get('core:datatype', 'of an unknown type')}"))
+        rows.append(("Recorded at", f"{grouped(told)} samples a second, {notes.get('core:datatype', 'of an unknown type')}"))
     rows += [
         ("Rate", f"{CHIP_RATE:,} samples a second, one a chip"),
         ("Chips", f"{measured.count:,}" + (f" of {measured.told:,}" if measured.told != measured.count else "")),

@@ -9,6 +9,7 @@ import os
 import re
 import tempfile
 import unittest
+from unittest import mock
 
 from tools.tests.helping import NO_PROGRAM, PROGRAM, ROOT, example, loaded, needs, run_program, run_tool, sample_file
 
@@ -364,6 +365,76 @@ class BadInput(Folder):
         self.assertIn("no words of follow: --row=77", said)
         self.assertFalse(os.path.exists(self.out))
         self.assertEqual([name for name in os.listdir(self.folder) if name.startswith(".report-")], [])
+
+
+FOUND = (
+    "carrier_hz=1999.6 drift=1.75 clock_ppm=4.989 phase=12345 ec_io_db=-10.01 paths=0.00:0.0 equaliser=no conjugate=no lost=0"
+    " chips=120000 scale=111.101"
+)
+
+
+class Recordings(Folder):
+    """An import that the tests write takes the place of tools/import_capture."""
+
+    def setUp(self) -> None:
+        super().setUp()
+        self.addCleanup(setattr, gathering, "IMPORT", gathering.IMPORT)
+        gathering.IMPORT = self.at("import")
+        self.imports(f"shutil.copy({self.file!r}, sys.argv[-1])", [FOUND, "import_capture: 3 parts were cut"])
+
+    def imports(self, does: str, says: list[str], status: int = 0) -> None:
+        """What the import does, says and ends with; it keeps its words."""
+        program = f"import json, shutil, sys\njson.dump(sys.argv[1:], open({self.at('words')!r}, 'w'))\n{does}\n"
+        self.keep("import", f"{program}sys.stderr.write({chr(10).join(says)!r} + chr(10))\nsys.exit({status})\n".encode())
+
+    def words(self) -> list[str]:
+        with open(self.at("words")) as file:
+            return json.load(file)
+
+    def meta(self, **told: object) -> str:
+        meta = {"global": {"core:datatype": "cu8", "core:sample_rate": 2_400_000, **told}, "captures": [{"core:frequency": 878490000}]}
+        return self.keep("radio.sigmf-meta", json.dumps(meta).encode())
+
+    def test_a_recording(self) -> None:
+        meta = self.meta()
+        page = self.page("--fingers", "3", "--import=--skip 100 --search 3000", file=meta)
+        self.assertEqual(self.words()[:-1], ["--lock", "--fingers=3", "--skip", "100", "--search", "3000", meta])
+        self.assertFalse(os.path.exists(self.words()[-1]))
+        for text in ("1999.6 Hz above", "4.989 ppm", "2,400,000 samples a second, cu8", "3 parts were cut", "878490000", "-10.01 dB"):
+            self.assert_holds(page, text)
+        self.assertEqual(len(self.plots(page)), 4)
+
+    def test_raw_samples(self) -> None:
+        raw = self.keep("radio.bin", b"raw")
+        self.page("--type", "cu8", "--rate", "2400000", file=raw)
+        self.assertEqual(self.words()[:-1], ["--lock", "--type=cu8", "--rate=2400000", raw])
+
+    def test_one_that_cannot_be_imported(self) -> None:
+        self.imports("", ["import_capture: radio.bin: no pilot <b>"], status=1)
+        page = self.page(status=10, file=self.meta())
+        self.assert_holds(page, "The recording can&#x27;t be imported: radio.bin: no pilot &lt;b&gt;.")
+        self.assertEqual(self.plots(page), {})
+        self.assertFalse(os.path.exists(f"{self.fake.path}.words"))
+
+    def test_hostile_notes(self) -> None:
+        """Names and texts of a recording's notes are shown as text, whatever they hold."""
+        plain = Parsed(self.page(file=self.meta(**{"a": "b"})))
+        every = "".join(map(chr, range(256)))
+        hostile = Parsed(self.page(file=self.meta(**{MARKUP: MARKUP + every})))
+        self.assertEqual(hostile.elements, plain.elements)
+        self.assertIn(MARKUP, hostile.texts["td"])
+        for told in (b"[]", b"{", b'{"global": 3, "captures": 4}', b'{"captures": {"a": 1}}', b"\xff", b"[" * 100_000):
+            self.page(file=self.keep("strange.sigmf-meta", told))
+
+    def test_a_bar_of_the_import(self) -> None:
+        """On a terminal the import sees one too, and what it shows goes on as it comes."""
+        ours, theirs = os.openpty()
+        self.imports("sys.stderr.write('50%\\r' if sys.stderr.isatty() else 'none')", [FOUND])
+        with open(theirs, "w") as terminal, mock.patch("sys.stderr", terminal):
+            imported = gathering.run_import("radio.bin", self.at("out"), [])
+        self.assertIn(b"50%\r", os.read(ours, 4_096))
+        os.close(ours)
+        self.assertEqual((imported.status, imported.found["clock_ppm"], imported.said), (0, "4.989", []))
 
 
 @unittest.skipUnless(PROGRAM, NO_PROGRAM)
