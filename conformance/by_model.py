@@ -104,13 +104,13 @@ def input_of(case: RUN.Case) -> bytes:
 def answer_of(case: RUN.Case, words: Sequence[str], data: bytes) -> RUN.Answer:
     """How a run of the model ends, in this process.
 
-    A directory is an input whose reads fail. An output whose reader is gone, or that is full, fails where something
-    is written.
+    A directory and a connection that was dropped are inputs whose first read fails. An output whose reader is gone, or
+    that is full, fails where something is written.
     """
     source = io.BytesIO(data)
 
     def read() -> bytes:
-        if case.input == "directory":
+        if case.input in ("directory", "dropped"):
             raise OSError(errno.EISDIR, os.strerror(errno.EISDIR))
         return source.read()
 
