@@ -101,7 +101,8 @@ def replaced(path: str, write: Callable[[str], None]) -> None:
     room = None
     try:
         end = os.path.splitext(path)[1]
-        with tempfile.NamedTemporaryFile(dir=os.path.dirname(path) or ".", prefix=".curve-", suffix=end, delete=False) as file:
+        folder = os.path.dirname(path) or "."
+        with tempfile.NamedTemporaryFile(dir=folder, prefix=".curve-", suffix=end, delete=False) as file:
             room = file.name
         write(room)
         mask = os.umask(0)
@@ -172,9 +173,12 @@ def text_of(counts: tuple[int, ...] | None) -> str:
     return " ".join(f"{name}={count}" for name, count in zip(COMPARED, counts) if count) or "nothing"
 
 
-def lines_drawn(rows: Iterable[Row]) -> dict[tuple[str, str], list[Row]]:
+Lines = dict[tuple[str, str], list[Row]]
+
+
+def lines_drawn(rows: Iterable[Row]) -> Lines:
     """The rows of frames, by receiver and channel, by rising Eb/Nt."""
-    found: dict[tuple[str, str], list[Row]] = {}
+    found: Lines = {}
     for row in rows:
         if is_frames(row.channel):
             found.setdefault((row.receiver, row.channel), []).append(row)
@@ -188,7 +192,7 @@ def plotting() -> Any:
     except ImportError as missing:
         raise Refused(f"{missing}: install the package python3-matplotlib, and run /usr/bin/python3") from None
     matplotlib.use("Agg")
-    matplotlib.rcParams.update({"svg.fonttype": "none", "svg.hashsalt": "cdma_replay", "font.size": 9, "axes.axisbelow": True})
+    matplotlib.rcParams.update({"font.size": 9, "axes.axisbelow": True})
     from matplotlib import pyplot
 
     return pyplot
@@ -228,21 +232,25 @@ def draw_bounds(axes: Any, channels: Mapping[str, str], begin: float, end: float
         axes.plot([place for place, _ in drawn], [bound for _, bound in drawn], "--", lw=1.1, color=color, label=name)
 
 
-def draw(path: str, rows: Sequence[Row], title: str) -> None:
-    """Writes the picture of rows: share of frames in error over Eb/Nt, and the union bound of each rate."""
-    pyplot = plotting()
-    lines = lines_drawn(rows)
-    channels = list(dict.fromkeys(channel for _, channel in lines))
-    figure, axes = pyplot.subplots(figsize=(8, 5.2), layout="constrained")
-    by_channel = len(channels) > 1 and len({receiver for receiver, _ in lines}) == 1
+def bound_colors(lines: Lines) -> dict[str, str]:
+    """The color of each channel's bound: that of its curve where a channel has one, and black where it has several."""
+    colors: dict[str, str] = {}
+    for number, (_, channel) in enumerate(lines):
+        colors[channel] = "black" if channel in colors else COLORS[number % len(COLORS)]
+    return colors
+
+
+def draw_axes(axes: Any, lines: Lines, title: str) -> None:
+    """Curves and bounds, the scales and the legend."""
+    colors = bound_colors(lines)
     for number, ((receiver, channel), line) in enumerate(lines.items()):
-        name = f"{receiver}, {channel.split()[1]}" if len(channels) > 1 else receiver
+        name = f"{receiver}, {channel.split()[1]}" if len(colors) > 1 else receiver
         draw_line(axes, line, name, COLORS[number % len(COLORS)], MARKERS[number % len(MARKERS)])
     places = [row.ebnt_db for line in lines.values() for row in line]
     margin = max(0.1, 0.04 * (max(places) - min(places)))
-    colors = {channel: COLORS[n % len(COLORS)] if by_channel else "black" for n, channel in enumerate(channels)}
     axes.set_xlim(min(places) - margin, max(places) + margin)
-    draw_bounds(axes, {channel: color for channel, color in colors.items() if int(channel.split()[1]) in FORMS}, *axes.get_xlim())
+    known = {channel: color for channel, color in colors.items() if int(channel.split()[1]) in FORMS}
+    draw_bounds(axes, known, *axes.get_xlim())
     axes.set_yscale("log")
     least = min([row.low for line in lines.values() for row in line if row.errors], default=0.01)
     axes.set_ylim(max(LEAST_SHARE, least / 1.5), 1.3)
@@ -252,7 +260,12 @@ def draw(path: str, rows: Sequence[Row], title: str) -> None:
     axes.grid(which="major", alpha=0.4)
     axes.grid(which="minor", alpha=0.15)
     axes.legend(loc="lower left", fontsize=8)
-    form = os.path.splitext(path)[1][1:]
-    metadata = {"Date": None} if form == "svg" else None
-    replaced(path, lambda room: figure.savefig(room, format=form, dpi=110, metadata=metadata))
+
+
+def draw(path: str, rows: Sequence[Row], title: str) -> None:
+    """Writes the picture of rows as PNG: share of frames in error over Eb/Nt, and the union bound of each rate."""
+    pyplot = plotting()
+    figure, axes = pyplot.subplots(figsize=(8, 5.2), layout="constrained")
+    draw_axes(axes, lines_drawn(rows), title)
+    replaced(path, lambda room: figure.savefig(room, format="png", dpi=110))
     pyplot.close(figure)

@@ -36,11 +36,13 @@ class Scripts(unittest.TestCase):
         self.assertEqual(script.gains, {0: 100, 32: 35, 1: 56, 10: 34})
         channel = chosen_channel(script, None, "it")
         self.assertEqual((channel.row, channel.esn, channel.offset, channel.gain), (10, "0000abcd", 0, 34))
-        self.assertEqual({(frame.kind, frame.rate, frame.bits[:4]) for frame in channel.frames}, {("frame", 9_600, "172:")})
+        frames = {(frame.kind, frame.rate, frame.bits[:4]) for frame in channel.frames}
+        self.assertEqual(frames, {("frame", 9_600, "172:")})
         self.assertEqual(script.power(), 2 * (100**2 + 35**2 + 56**2 + 34**2))
 
     def test_a_row_is_chosen(self):
-        text = example("frames_9600.script").decode() + "traffic row=11 esn=00000001 offset=2 gain=5\nframe 1200 16:0000 " + 16 * "0"
+        text = example("frames_9600.script").decode()
+        text += f"traffic row=11 esn=00000001 offset=2 gain=5\nframe 1200 16:0000 {16 * '0'}\n"
         script = read_script(text, "it")
         self.assertEqual(chosen_channel(script, 11, "it").gain, 5)
         with self.assertRaisesRegex(Refused, "no traffic channel on row 12, only on 10, 11"):
@@ -62,7 +64,8 @@ class Scripts(unittest.TestCase):
 class Levels(unittest.TestCase):
     def test_rows_of_the_minimum_performance_standard(self):
         """Traffic Ec/Ior, bits a second and Eb/Nt in dB of its tests in white noise, where Ior/Ioc is -1 dB."""
-        for traffic, rate, wanted in ((-16.3, 9_600, 3.8), (-15.8, 9_600, 4.3), (-19.1, 4_800, 4.0), (-21.6, 2_400, 4.5)):
+        rows = ((-16.3, 9_600, 3.8), (-15.8, 9_600, 4.3), (-19.1, 4_800, 4.0), (-21.6, 2_400, 4.5))
+        for traffic, rate, wanted in rows:
             with self.subTest(rate=rate, traffic=traffic):
                 total = 1e8
                 gain = math.sqrt(total * 10 ** (traffic / 10) / levels.TRAFFIC_SHARE)
@@ -93,7 +96,7 @@ class Levels(unittest.TestCase):
 
     def test_what_no_level_gives_is_refused(self):
         air = levels.air_of(cell(), (1j,), 0.0)
-        with self.assertRaisesRegex(Refused, "no level of noise gives the channel 30 dB"):
+        with self.assertRaisesRegex(Refused, "no level of noise gives 30 dB"):
             air.sigma(levels.Channel("frame", 40, 9_600, 1.0), 30)
 
     def test_the_fastest_frames_come_first_then_messages(self):
@@ -147,7 +150,8 @@ def encoded(words, repeats):
     """The repeated code symbols of words (a row of bits each, the tail too), by the two polynomials' powers of D."""
     padded = numpy.hstack([numpy.zeros((len(words), 8), dtype=int), words])
     steps = words.shape[1]
-    symbols = [sum(padded[:, 8 - lag : 8 - lag + steps] for lag in lags) % 2 for lags in ((0, 1, 2, 3, 5, 7, 8), (0, 2, 3, 4, 8))]
+    powers = ((0, 1, 2, 3, 5, 7, 8), (0, 2, 3, 4, 8))
+    symbols = [sum(padded[:, 8 - lag : 8 - lag + steps] for lag in lags) % 2 for lags in powers]
     return numpy.repeat(numpy.stack(symbols, axis=2).reshape(len(words), -1), repeats, axis=1)
 
 
@@ -169,7 +173,7 @@ def leaves_once(words):
 
 class Bounds(unittest.TestCase):
     def test_the_codes_weights_are_those_in_the_literature(self):
-        """The distance spectrum of the rate 1/2 code of constraint length 9 with generators 753 and 561 (J. Conan, 1984)."""
+        """The spectrum of the code of rate 1/2 with constraint length 9 and generators 753, 561 (J. Conan, 1984)."""
         wanted = dict(zip(range(12, 22, 2), (11, 50, 286, 1_630, 9_639)))
         found = bound.code_weights(21)
         self.assertEqual({weight: int(count) for weight, count in enumerate(found) if count}, wanted)
@@ -280,7 +284,7 @@ class Counting(unittest.TestCase):
 class Words(unittest.TestCase):
     def test_the_channel_is_added_where_it_is_not_named(self):
         for given, wanted in (
-            (None, "follow --esn 0000abcd --row 10 --offset 3"),
+            ("follow", "follow --esn 0000abcd --row 10 --offset 3"),
             ("list --k 4", "list --k 4 --esn 0000abcd --row 10 --offset 3"),
             ("follow --row=11 --fingers 2", "follow --row=11 --fingers 2 --esn 0000abcd --offset 3"),
         ):
@@ -290,10 +294,6 @@ class Words(unittest.TestCase):
         for given in ("rate2", "idle --key 00000000", "", "follow '"):
             with self.subTest(given), self.assertRaises(Refused):
                 receiver.words_of(given, TRAFFIC)
-
-    def test_a_label_leaves_the_channel_out(self):
-        curve = Curve("/bin/it", "", "list --k 4 --esn 0000abcd --row=10 --offset 3")
-        self.assertEqual(curve.label(), "it list --k 4")
 
 
 def batch_of(errors, sent=10):
@@ -343,7 +343,7 @@ class Plans(unittest.TestCase):
 
 
 def setup_for(seed=1, words="follow"):
-    return Setup("it", "text", 10, (), (), "/m", "aa", (Curve("/m", "aa", words),), seed, 5.0, "1.0")
+    return Setup("it", "text", 10, (), (), "/m", "aa", (Curve("/m", "aa", words, "m"),), seed, 5.0, "1.0")
 
 
 class Stores(unittest.TestCase):
