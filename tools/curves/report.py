@@ -2,15 +2,15 @@
 
 import csv
 import dataclasses
-import os
-import tempfile
-from typing import Any, Callable, Iterable, Mapping, Sequence, TextIO
+import io
+from typing import Any, Iterable, Mapping, Sequence, TextIO
 
 from tools.curves import Refused
 from tools.curves.bound import FORMS, frame_bound
 from tools.curves.counting import OUTCOMES, Count
 from tools.curves.levels import Air, Channel
 from tools.curves.plan import is_frames
+from tools.radio.writing import write_beside
 
 CONFIDENCE = 0.95
 # Where curves are drawn: no share below the least one is of use with the frames that a run can count.
@@ -96,36 +96,22 @@ def print_table(rows: Iterable[Row], out: TextIO) -> None:
         )
 
 
-def replaced(path: str, write: Callable[[str], None]) -> None:
-    """A file that is written beside its place first, and then put in its place."""
-    room = None
+def write_whole(path: str, data: bytes) -> None:
+    """Writes a whole file, or none."""
     try:
-        end = os.path.splitext(path)[1]
-        folder = os.path.dirname(path) or "."
-        with tempfile.NamedTemporaryFile(dir=folder, prefix=".curve-", suffix=end, delete=False) as file:
-            room = file.name
-        write(room)
-        mask = os.umask(0)
-        os.umask(mask)
-        os.chmod(room, 0o666 & ~mask)
-        os.replace(room, path)
+        with write_beside(path) as file:
+            file.write(data)
     except OSError as why:
         raise Refused(f"{path}: {why.strerror}") from None
-    finally:
-        if room and os.path.exists(room):
-            os.unlink(room)
 
 
 def write_csv(path: str, rows: Sequence[Row]) -> None:
     """Writes rows as CSV, with a line of their names first."""
-
-    def write(room: str) -> None:
-        with open(room, "w", newline="", encoding="ascii", errors="replace") as file:
-            table = csv.writer(file, lineterminator="\n")
-            table.writerow(FIELDS)
-            table.writerows(["" if value is None else value for value in dataclasses.astuple(row)] for row in rows)
-
-    replaced(path, write)
+    text = io.StringIO()
+    table = csv.writer(text, lineterminator="\n")
+    table.writerow(FIELDS)
+    table.writerows(["" if value is None else value for value in dataclasses.astuple(row)] for row in rows)
+    write_whole(path, text.getvalue().encode("ascii", errors="replace"))
 
 
 def read_csv(path: str) -> list[Row]:
@@ -267,5 +253,7 @@ def draw(path: str, rows: Sequence[Row], title: str) -> None:
     pyplot = plotting()
     figure, axes = pyplot.subplots(figsize=(8, 5.2), layout="constrained")
     draw_axes(axes, lines_drawn(rows), title)
-    replaced(path, lambda room: figure.savefig(room, format="png", dpi=110))
+    data = io.BytesIO()
+    figure.savefig(data, format="png", dpi=110, metadata={"Software": None})
     pyplot.close(figure)
+    write_whole(path, data.getvalue())

@@ -275,7 +275,7 @@ class Faults(Curves):
         for fault, said in (
             ("status 5", "curve: .*/bad follow --esn 0000abcd --row 10 --offset 0 ended with 5"),
             ("silent", "ended with 0 and wrote no lines"),
-            ("garbage", "line 1 is none of docs/FORMATS.md: 'frame at=x'"),
+            ("garbage", "line 1 is none of docs/FORMATS.md: at: 'x' is no number"),
         ):
             with self.subTest(fault):
                 bad = self.program("bad", fault)

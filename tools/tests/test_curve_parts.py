@@ -19,7 +19,7 @@ from tools.curves.batch import Curve, Setup  # noqa: E402
 from tools.curves.counting import Count, Heard  # noqa: E402
 from tools.curves.script import Frame, Script, Traffic, chosen_channel, read_script  # noqa: E402
 
-FRAMES = (Frame("frame", 9_600, "172:aa"), Frame("frame", 1_200, "16:0102"))
+FRAMES = (Frame("frame", 9_600, "8:aa"), Frame("frame", 1_200, "16:0102"))
 TRAFFIC = Traffic(10, "0000abcd", 3, 40, FRAMES)
 
 
@@ -238,13 +238,13 @@ class Counting(unittest.TestCase):
     def test_each_bad_end(self):
         sent = FRAMES[0]
         for line, wanted in (
-            (Heard("frame", 0, 9_600, True, "172:aa"), None),
-            (Heard("frame", 0, 9_600, False, "172:ab"), "marked_bad"),
-            (Heard("frame", 0, 1_200, False, "172:aa"), "marked_bad"),
-            (Heard("frame", 0, 9_600, False, "172:aa"), "bad_but_right"),
+            (Heard("frame", 0, 9_600, True, "8:aa"), None),
+            (Heard("frame", 0, 9_600, False, "8:ab"), "marked_bad"),
+            (Heard("frame", 0, 1_200, False, "8:aa"), "marked_bad"),
+            (Heard("frame", 0, 9_600, False, "8:aa"), "bad_but_right"),
             (Heard("frame", 0, 1_200, True, "16:0102"), "other_rate"),
-            (Heard("frame2", 0, 9_600, True, "172:aa"), "other_rate"),
-            (Heard("frame", 0, 9_600, True, "172:ab"), "wrong_but_good"),
+            (Heard("frame2", 0, 9_600, True, "8:aa"), "other_rate"),
+            (Heard("frame", 0, 9_600, True, "8:ab"), "wrong_but_good"),
         ):
             with self.subTest(line=line):
                 self.assertEqual(counting.outcome_of(sent, line), wanted)
@@ -252,10 +252,10 @@ class Counting(unittest.TestCase):
     def test_lines_belong_to_the_frames_near_them(self):
         sent = {50_000: FRAMES[0], 74_576: FRAMES[1], 99_152: FRAMES[0]}
         lines = [
-            Heard("frame", 50_012, 9_600, True, "172:aa"),
+            Heard("frame", 50_012, 9_600, True, "8:aa"),
             Heard("frame", 74_576 - 900, 1_200, True, "16:0102"),
-            Heard("frame", 50_000, 9_600, True, "172:ab"),
-            Heard("frame", 123_728, 9_600, True, "172:aa"),
+            Heard("frame", 50_000, 9_600, True, "8:ab"),
+            Heard("frame", 123_728, 9_600, True, "8:aa"),
         ]
         counts = {}
         counting.count_frames(sent, lines, counts)
@@ -269,11 +269,13 @@ class Counting(unittest.TestCase):
         self.assertEqual(counts, {"sync": Count(1, lost=1), "paging": Count(3, lost=1)})
 
     def test_what_is_to_be_heard_begins_at_the_mark(self):
-        clean = ["sync at=20000 x=1", f"frame at={4_608 + 3 * 24_576} rate=9600 good=1 bits=172:aa commands={16 * '0'}"]
+        sync = "prev=3 min=1 sid=1 nid=2 pn=1 lc=20000000000 time=1 lp=13 ltm=0 daylt=0 prat=0 rest=3:00"
+        frame = f"frame at={4_608 + 3 * 24_576} rate=9600 good=1 bits=8:aa commands={16 * '0'}"
+        clean = [f"sync at=20000 {sync}", frame]
         wanted = counting.expected(cell(), TRAFFIC, clean, "it")
         self.assertEqual(min(wanted.frames), 4_608 + 3 * 24_576)
         self.assertEqual(len(wanted.frames), 5)
-        self.assertEqual(wanted.messages, {("sync", "x=1"): [20_000]})
+        self.assertEqual(wanted.messages, {("sync", sync): [20_000]})
         with self.assertRaisesRegex(Refused, "hears no frame"):
             counting.expected(cell(), TRAFFIC, clean[:1], "it")
 
