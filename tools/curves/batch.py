@@ -6,8 +6,6 @@ the samples without noise, which each process makes once.
 
 import dataclasses
 import functools
-import os
-import shlex
 
 import numpy
 from numpy.typing import NDArray
@@ -22,18 +20,12 @@ from tools.curves.script import Script, Traffic, chosen_channel, read_script
 
 @dataclasses.dataclass(frozen=True)
 class Curve:
-    """A receiver whose frames are counted: its program, the program's checksum, and its words."""
+    """A receiver whose frames are counted: its program, the program's checksum, its words, and its name in tables."""
 
     program: str
     checksum: str
     words: str
-
-    def label(self) -> str:
-        """The receiver's name in tables: the program's name and the words, without those that name the channel."""
-        words = shlex.split(self.words)
-        named = {at + step for at, word in enumerate(words) if word in ("--esn", "--row", "--offset") for step in (0, 1)}
-        left = [word for at, word in enumerate(words) if at not in named and not word.startswith(("--esn=", "--row="))]
-        return " ".join([os.path.basename(self.program), *left])
+    label: str
 
 
 @dataclasses.dataclass(frozen=True)

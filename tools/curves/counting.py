@@ -10,10 +10,10 @@ import re
 from typing import Iterable, Iterator, Mapping
 
 from tools.curves import Refused
-from tools.curves.script import Frame, Script, Traffic
+from tools.curves.script import FRAME_KINDS, Frame, Script, Traffic
+from tools.heard_run import FRAME, GROUP
+from tools.line_table import NoLine, read_line
 
-FRAME = 24_576
-GROUP = 1_536
 # A line belongs to the frame that ends within half a group of its place: paths come some chips later, and a receiver
 # that is further off can't unscramble a symbol.
 NEAR = GROUP // 2
@@ -21,11 +21,7 @@ NEAR = GROUP // 2
 # be that a finger has no samples.
 EDGE = 64
 OUTCOMES = ("lost", "marked_bad", "bad_but_right", "other_rate", "wrong_but_good")
-LINE = re.compile(
-    r"(frame2?) at=(\d+) rate=(\d+) good=([01]) bits=(\d+:(?:[0-9a-f]{2})*) commands=[01]{16}"
-)
 MESSAGE = re.compile(r"(sync|paging) at=(\d+) (.+)")
-OTHERS = ("pilot", "sync", "paging", "traffic", "sets", "raw")
 
 
 @dataclasses.dataclass(frozen=True)
@@ -78,10 +74,12 @@ class Expected:
 def frames_in(lines: Iterable[str], name: str) -> Iterator[Heard]:
     """The frames that lines tell; Refused at a line that docs/FORMATS.md doesn't have."""
     for number, line in enumerate(lines, 1):
-        if match := LINE.fullmatch(line):
-            yield Heard(match[1], int(match[2]), int(match[3]), match[4] == "1", match[5])
-        elif line.split(" ", 1)[0] not in OTHERS:
-            raise Refused(f"{name}: line {number} is none of docs/FORMATS.md: {line[:60]!r}")
+        try:
+            read = read_line(line)
+        except NoLine as why:
+            raise Refused(f"{name}: line {number} is none of docs/FORMATS.md: {why}") from None
+        if read["line"] in FRAME_KINDS:
+            yield Heard(read["line"], read["at"], read["rate"], read["good"] == 1, read["bits"])
 
 
 def messages_in(lines: Iterable[str]) -> Messages:

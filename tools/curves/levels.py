@@ -37,7 +37,7 @@ class Channel:
 
 @dataclasses.dataclass(frozen=True)
 class Air:
-    """What reaches the receiver beside noise: each path's |h|², the sum of the cell's squared gains, and other cells."""
+    """What a receiver gets beside noise: each path's |h|², the sum of the cell's squared gains, and other cells."""
 
     paths: tuple[float, ...]
     squares: float
@@ -58,7 +58,7 @@ class Air:
         """The level of noise at which the channel has an Eb/Nt in dB; Refused where none gives it."""
         most = self.decibels(channel, LEAST_SIGMA)
         if not self.decibels(channel, GREATEST_SIGMA) < decibels < most:
-            raise Refused(f"no level of noise gives the channel {decibels:g} dB: with next to none it has {most:.2f} dB")
+            raise Refused(f"no level of noise gives {decibels:g} dB: with next to none the channel has {most:.2f} dB")
 
         def above(log_sigma: float) -> float:
             return self.decibels(channel, math.exp(log_sigma)) - decibels

@@ -59,12 +59,11 @@ def sample_file(flags: int, parts: NDArray[numpy.int16]) -> bytes:
     return HEADER.pack(b"IS95", VERSION, flags, len(parts) // 2) + parts.astype(">i2", copy=False).tobytes()
 
 
-def words_of(given: str | None, traffic: Traffic) -> str:
-    """A receiver's words: those given, or the plain command for the channel's frames, and the channel where it isn't
-    named in them."""
+def words_of(given: str, traffic: Traffic) -> str:
+    """A receiver's words: those given, and those that name the channel where they aren't among them."""
     kind = traffic.frames[0].kind
     try:
-        words = shlex.split(given) if given is not None else [COMMANDS[kind][0]]
+        words = shlex.split(given)
     except ValueError as why:
         raise Refused(f"--words {given!r}: {why}") from None
     if not words or words[0] not in COMMANDS[kind]:
@@ -76,7 +75,7 @@ def words_of(given: str | None, traffic: Traffic) -> str:
 
 
 def heard(program: str, words: str, data: bytes, minutes: float) -> list[str]:
-    """The lines of a receiver; none where it heard no sync message. Refused on every other ending, and without lines."""
+    """The lines of a receiver; none where it heard no sync message. Refused on other endings, and without lines."""
     status, wrote, said = run(program, shlex.split(words), data, minutes)
     if status not in (0, NO_SYNC):
         raise Refused(f"{program} {words} ended with {status}" + (f": {said}" if said else ""))

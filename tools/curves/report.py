@@ -2,15 +2,15 @@
 
 import csv
 import dataclasses
-import os
-import tempfile
-from typing import Any, Callable, Iterable, Mapping, Sequence, TextIO
+import io
+from typing import Any, Iterable, Mapping, Sequence, TextIO
 
 from tools.curves import Refused
 from tools.curves.bound import FORMS, frame_bound
 from tools.curves.counting import OUTCOMES, Count
 from tools.curves.levels import Air, Channel
 from tools.curves.plan import is_frames
+from tools.radio.writing import write_beside
 
 CONFIDENCE = 0.95
 # Where curves are drawn: no share below the least one is of use with the frames that a run can count.
@@ -96,35 +96,22 @@ def print_table(rows: Iterable[Row], out: TextIO) -> None:
         )
 
 
-def replaced(path: str, write: Callable[[str], None]) -> None:
-    """A file that is written beside its place first, and then put in its place."""
-    room = None
+def write_whole(path: str, data: bytes) -> None:
+    """Writes a whole file, or none."""
     try:
-        end = os.path.splitext(path)[1]
-        with tempfile.NamedTemporaryFile(dir=os.path.dirname(path) or ".", prefix=".curve-", suffix=end, delete=False) as file:
-            room = file.name
-        write(room)
-        mask = os.umask(0)
-        os.umask(mask)
-        os.chmod(room, 0o666 & ~mask)
-        os.replace(room, path)
+        with write_beside(path) as file:
+            file.write(data)
     except OSError as why:
         raise Refused(f"{path}: {why.strerror}") from None
-    finally:
-        if room and os.path.exists(room):
-            os.unlink(room)
 
 
 def write_csv(path: str, rows: Sequence[Row]) -> None:
     """Writes rows as CSV, with a line of their names first."""
-
-    def write(room: str) -> None:
-        with open(room, "w", newline="", encoding="ascii", errors="replace") as file:
-            table = csv.writer(file, lineterminator="\n")
-            table.writerow(FIELDS)
-            table.writerows(["" if value is None else value for value in dataclasses.astuple(row)] for row in rows)
-
-    replaced(path, write)
+    text = io.StringIO()
+    table = csv.writer(text, lineterminator="\n")
+    table.writerow(FIELDS)
+    table.writerows(["" if value is None else value for value in dataclasses.astuple(row)] for row in rows)
+    write_whole(path, text.getvalue().encode("ascii", errors="replace"))
 
 
 def read_csv(path: str) -> list[Row]:
@@ -172,9 +159,12 @@ def text_of(counts: tuple[int, ...] | None) -> str:
     return " ".join(f"{name}={count}" for name, count in zip(COMPARED, counts) if count) or "nothing"
 
 
-def lines_drawn(rows: Iterable[Row]) -> dict[tuple[str, str], list[Row]]:
+Lines = dict[tuple[str, str], list[Row]]
+
+
+def lines_drawn(rows: Iterable[Row]) -> Lines:
     """The rows of frames, by receiver and channel, by rising Eb/Nt."""
-    found: dict[tuple[str, str], list[Row]] = {}
+    found: Lines = {}
     for row in rows:
         if is_frames(row.channel):
             found.setdefault((row.receiver, row.channel), []).append(row)
@@ -188,7 +178,7 @@ def plotting() -> Any:
     except ImportError as missing:
         raise Refused(f"{missing}: install the package python3-matplotlib, and run /usr/bin/python3") from None
     matplotlib.use("Agg")
-    matplotlib.rcParams.update({"svg.fonttype": "none", "svg.hashsalt": "cdma_replay", "font.size": 9, "axes.axisbelow": True})
+    matplotlib.rcParams.update({"font.size": 9, "axes.axisbelow": True})
     from matplotlib import pyplot
 
     return pyplot
@@ -228,21 +218,25 @@ def draw_bounds(axes: Any, channels: Mapping[str, str], begin: float, end: float
         axes.plot([place for place, _ in drawn], [bound for _, bound in drawn], "--", lw=1.1, color=color, label=name)
 
 
-def draw(path: str, rows: Sequence[Row], title: str) -> None:
-    """Writes the picture of rows: share of frames in error over Eb/Nt, and the union bound of each rate."""
-    pyplot = plotting()
-    lines = lines_drawn(rows)
-    channels = list(dict.fromkeys(channel for _, channel in lines))
-    figure, axes = pyplot.subplots(figsize=(8, 5.2), layout="constrained")
-    by_channel = len(channels) > 1 and len({receiver for receiver, _ in lines}) == 1
+def bound_colors(lines: Lines) -> dict[str, str]:
+    """The color of each channel's bound: that of its curve where a channel has one, and black where it has several."""
+    colors: dict[str, str] = {}
+    for number, (_, channel) in enumerate(lines):
+        colors[channel] = "black" if channel in colors else COLORS[number % len(COLORS)]
+    return colors
+
+
+def draw_axes(axes: Any, lines: Lines, title: str) -> None:
+    """Curves and bounds, the scales and the legend."""
+    colors = bound_colors(lines)
     for number, ((receiver, channel), line) in enumerate(lines.items()):
-        name = f"{receiver}, {channel.split()[1]}" if len(channels) > 1 else receiver
+        name = f"{receiver}, {channel.split()[1]}" if len(colors) > 1 else receiver
         draw_line(axes, line, name, COLORS[number % len(COLORS)], MARKERS[number % len(MARKERS)])
     places = [row.ebnt_db for line in lines.values() for row in line]
     margin = max(0.1, 0.04 * (max(places) - min(places)))
-    colors = {channel: COLORS[n % len(COLORS)] if by_channel else "black" for n, channel in enumerate(channels)}
     axes.set_xlim(min(places) - margin, max(places) + margin)
-    draw_bounds(axes, {channel: color for channel, color in colors.items() if int(channel.split()[1]) in FORMS}, *axes.get_xlim())
+    known = {channel: color for channel, color in colors.items() if int(channel.split()[1]) in FORMS}
+    draw_bounds(axes, known, *axes.get_xlim())
     axes.set_yscale("log")
     least = min([row.low for line in lines.values() for row in line if row.errors], default=0.01)
     axes.set_ylim(max(LEAST_SHARE, least / 1.5), 1.3)
@@ -252,7 +246,14 @@ def draw(path: str, rows: Sequence[Row], title: str) -> None:
     axes.grid(which="major", alpha=0.4)
     axes.grid(which="minor", alpha=0.15)
     axes.legend(loc="lower left", fontsize=8)
-    form = os.path.splitext(path)[1][1:]
-    metadata = {"Date": None} if form == "svg" else None
-    replaced(path, lambda room: figure.savefig(room, format=form, dpi=110, metadata=metadata))
+
+
+def draw(path: str, rows: Sequence[Row], title: str) -> None:
+    """Writes the picture of rows as PNG: share of frames in error over Eb/Nt, and the union bound of each rate."""
+    pyplot = plotting()
+    figure, axes = pyplot.subplots(figsize=(8, 5.2), layout="constrained")
+    draw_axes(axes, lines_drawn(rows), title)
+    data = io.BytesIO()
+    figure.savefig(data, format="png", dpi=110, metadata={"Software": None})
     pyplot.close(figure)
+    write_whole(path, data.getvalue())

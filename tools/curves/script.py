@@ -4,7 +4,6 @@ Whether the script names a cell is judged by `make` alone (docs/FORMATS.md). Wha
 """
 
 import dataclasses
-import re
 from typing import Mapping
 
 from tools.curves import Refused
@@ -94,7 +93,13 @@ class Reader:
     def channels(self) -> tuple[Traffic, ...]:
         """The traffic channels that were taken."""
         return tuple(
-            Traffic(int(fields["row"]), fields["esn"].lower(), int(fields["offset"]), int(fields["gain"]), tuple(frames))
+            Traffic(
+                row=int(fields["row"]),
+                esn=fields["esn"].lower(),
+                offset=int(fields["offset"]),
+                gain=int(fields["gain"]),
+                frames=tuple(frames),
+            )
             for fields, frames in self.traffic
         )
 
@@ -124,12 +129,8 @@ def chosen_channel(script: Script, row: int | None, name: str) -> Traffic:
         raise Refused(f"{name}: no traffic channel")
     found = [channel for channel in script.traffic if row is None or channel.row == row]
     if not found:
-        raise Refused(f"{name}: no traffic channel on row {row}, only on {', '.join(str(c.row) for c in script.traffic)}")
+        rows = ", ".join(str(channel.row) for channel in script.traffic)
+        raise Refused(f"{name}: no traffic channel on row {row}, only on {rows}")
     if not found[0].frames:
         raise Refused(f"{name}: the traffic channel on row {found[0].row} has no frames")
     return found[0]
-
-
-def with_samples(text: str, samples: int) -> str:
-    """The script's text with another count of samples."""
-    return re.sub(r"(?m)^(link .*samples=)\d+$", rf"\g<1>{samples}", text, count=1)

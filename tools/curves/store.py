@@ -32,6 +32,9 @@ create table if not exists counts (
     primary key (point, batch, curve, channel)
 );
 """
+# A killed process loses nothing so, and a machine that loses power the last batches at most; and no batch waits for the
+# disk.
+FAST = "pragma journal_mode = wal; pragma synchronous = normal;"
 COLUMNS = ("sent", *OUTCOMES)
 
 
@@ -57,6 +60,7 @@ class Store:
         self.path = path
         with self.faults():
             self.base = sqlite3.connect(path)
+            self.base.executescript(FAST)
             self.base.executescript(TABLES)
             self.check(identity(setup))
 

@@ -15,6 +15,7 @@ import time
 LEVEL = 100
 FRAME = 24_576
 MARK = 2
+SYNC = "prev=3 min=1 sid=1 nid=2 pn=100 lc=20000000000 time=1007 lp=13 ltm=0 daylt=0 prat=0 rest=3:00"
 HEADER = struct.Struct(">4sHHQ")
 
 
@@ -36,7 +37,7 @@ def make(text: str) -> None:
 def told(total: int, rate: str, bits: str) -> str:
     """A frame's line behind its place, by the sum of its noise: six ways to be heard, in turn by the sum modulo 16."""
     kind = total % 16
-    wrong = bits[:-1] + ("0" if bits[-1] != "0" else "8")
+    wrong = bits[:4] + ("0" if bits[4] != "0" else "8") + bits[5:]
     rate, good, bits = {
         1: (rate, 0, wrong),
         2: (rate, 0, bits),
@@ -52,7 +53,7 @@ def follow(data: bytes) -> None:
     parts = array.array("h", data[HEADER.size :])
     parts.byteswap()
     frames = frames_of(os.environ["FAKE_SCRIPT"])
-    lines = ["pilot phase=0 energy=1", "sync at=1000 prev=3 rest=3:00"]
+    lines = ["pilot phase=0 energy=1", "sync at=1000 " + SYNC]
     for number in range(MARK, count // FRAME):
         total = sum(parts[2 * FRAME * number : 2 * FRAME * (number + 1)]) - 2 * FRAME * LEVEL
         if total == 0 or total % 16:

@@ -19,7 +19,7 @@ from tools.curves.batch import Curve, Setup  # noqa: E402
 from tools.curves.counting import Count, Heard  # noqa: E402
 from tools.curves.script import Frame, Script, Traffic, chosen_channel, read_script  # noqa: E402
 
-FRAMES = (Frame("frame", 9_600, "172:aa"), Frame("frame", 1_200, "16:0102"))
+FRAMES = (Frame("frame", 9_600, "8:aa"), Frame("frame", 1_200, "16:0102"))
 TRAFFIC = Traffic(10, "0000abcd", 3, 40, FRAMES)
 
 
@@ -36,11 +36,13 @@ class Scripts(unittest.TestCase):
         self.assertEqual(script.gains, {0: 100, 32: 35, 1: 56, 10: 34})
         channel = chosen_channel(script, None, "it")
         self.assertEqual((channel.row, channel.esn, channel.offset, channel.gain), (10, "0000abcd", 0, 34))
-        self.assertEqual({(frame.kind, frame.rate, frame.bits[:4]) for frame in channel.frames}, {("frame", 9_600, "172:")})
+        frames = {(frame.kind, frame.rate, frame.bits[:4]) for frame in channel.frames}
+        self.assertEqual(frames, {("frame", 9_600, "172:")})
         self.assertEqual(script.power(), 2 * (100**2 + 35**2 + 56**2 + 34**2))
 
     def test_a_row_is_chosen(self):
-        text = example("frames_9600.script").decode() + "traffic row=11 esn=00000001 offset=2 gain=5\nframe 1200 16:0000 " + 16 * "0"
+        text = example("frames_9600.script").decode()
+        text += f"traffic row=11 esn=00000001 offset=2 gain=5\nframe 1200 16:0000 {16 * '0'}\n"
         script = read_script(text, "it")
         self.assertEqual(chosen_channel(script, 11, "it").gain, 5)
         with self.assertRaisesRegex(Refused, "no traffic channel on row 12, only on 10, 11"):
@@ -62,7 +64,8 @@ class Scripts(unittest.TestCase):
 class Levels(unittest.TestCase):
     def test_rows_of_the_minimum_performance_standard(self):
         """Traffic Ec/Ior, bits a second and Eb/Nt in dB of its tests in white noise, where Ior/Ioc is -1 dB."""
-        for traffic, rate, wanted in ((-16.3, 9_600, 3.8), (-15.8, 9_600, 4.3), (-19.1, 4_800, 4.0), (-21.6, 2_400, 4.5)):
+        rows = ((-16.3, 9_600, 3.8), (-15.8, 9_600, 4.3), (-19.1, 4_800, 4.0), (-21.6, 2_400, 4.5))
+        for traffic, rate, wanted in rows:
             with self.subTest(rate=rate, traffic=traffic):
                 total = 1e8
                 gain = math.sqrt(total * 10 ** (traffic / 10) / levels.TRAFFIC_SHARE)
@@ -93,7 +96,7 @@ class Levels(unittest.TestCase):
 
     def test_what_no_level_gives_is_refused(self):
         air = levels.air_of(cell(), (1j,), 0.0)
-        with self.assertRaisesRegex(Refused, "no level of noise gives the channel 30 dB"):
+        with self.assertRaisesRegex(Refused, "no level of noise gives 30 dB"):
             air.sigma(levels.Channel("frame", 40, 9_600, 1.0), 30)
 
     def test_the_fastest_frames_come_first_then_messages(self):
@@ -147,7 +150,8 @@ def encoded(words, repeats):
     """The repeated code symbols of words (a row of bits each, the tail too), by the two polynomials' powers of D."""
     padded = numpy.hstack([numpy.zeros((len(words), 8), dtype=int), words])
     steps = words.shape[1]
-    symbols = [sum(padded[:, 8 - lag : 8 - lag + steps] for lag in lags) % 2 for lags in ((0, 1, 2, 3, 5, 7, 8), (0, 2, 3, 4, 8))]
+    powers = ((0, 1, 2, 3, 5, 7, 8), (0, 2, 3, 4, 8))
+    symbols = [sum(padded[:, 8 - lag : 8 - lag + steps] for lag in lags) % 2 for lags in powers]
     return numpy.repeat(numpy.stack(symbols, axis=2).reshape(len(words), -1), repeats, axis=1)
 
 
@@ -160,16 +164,18 @@ def all_words(bits):
 
 def leaves_once(words):
     """Whether a word leaves that of zeros once: between its first and its last 1 no eight zeros stand in a row."""
-    found = []
-    for word in words:
-        ones = numpy.flatnonzero(word)
-        found.append(numpy.diff(ones).max(initial=0) <= 8)
-    return numpy.array(found)
+    zeros, leaves = numpy.zeros(len(words), dtype=int), numpy.ones(len(words), dtype=bool)
+    has_begun = numpy.zeros(len(words), dtype=bool)
+    for bits in words.T == 1:
+        leaves &= ~(bits & has_begun & (zeros >= 8))
+        has_begun |= bits
+        zeros = numpy.where(bits, 0, zeros + 1)
+    return leaves
 
 
 class Bounds(unittest.TestCase):
     def test_the_codes_weights_are_those_in_the_literature(self):
-        """The distance spectrum of the rate 1/2 code of constraint length 9 with generators 753 and 561 (J. Conan, 1984)."""
+        """The spectrum of the code of rate 1/2 with constraint length 9 and generators 753, 561 (J. Conan, 1984)."""
         wanted = dict(zip(range(12, 22, 2), (11, 50, 286, 1_630, 9_639)))
         found = bound.code_weights(21)
         self.assertEqual({weight: int(count) for weight, count in enumerate(found) if count}, wanted)
@@ -197,15 +203,15 @@ class Bounds(unittest.TestCase):
                 self.assertEqual(2 * (form.bits + 8) * form.repeats, 384 if form.rate_set == 1 else 576)
 
     def test_frames_that_err_are_no_more_than_the_bound_and_not_many_fewer(self):
-        """The best of all 65,536 words of 1,200 bits a second, by plain comparison, at 1 dB."""
-        ratio, frames, draws = 10**0.1, 1_500, numpy.random.default_rng(5)
+        """The best of all 65,536 words of 1,200 bits a second, by plain comparison, at 0.5 dB."""
+        ratio, frames, draws = 10**0.05, 600, numpy.random.default_rng(5)
         signs = 1.0 - 2 * numpy.vstack([numpy.zeros((1, 48), dtype=int), encoded(all_words(16), 1)])
         left = draws.binomial(8, 22 / 24, size=(frames, 48))
         level = math.sqrt(2 * bound.symbol_ratio(1_200, ratio))
         soft = left * level + numpy.sqrt(left) * draws.standard_normal(left.shape)
         errors = 0
-        for begin in range(0, frames, 500):
-            scores = soft[begin : begin + 500].astype(numpy.float32) @ signs.T.astype(numpy.float32)
+        for begin in range(0, frames, 100):
+            scores = soft[begin : begin + 100].astype(numpy.float32) @ signs.T.astype(numpy.float32)
             errors += int((scores.argmax(axis=1) != 0).sum())
         low, high = report.interval(errors, frames)
         self.assertLess(low, bound.frame_bound(1_200, ratio))
@@ -232,13 +238,13 @@ class Counting(unittest.TestCase):
     def test_each_bad_end(self):
         sent = FRAMES[0]
         for line, wanted in (
-            (Heard("frame", 0, 9_600, True, "172:aa"), None),
-            (Heard("frame", 0, 9_600, False, "172:ab"), "marked_bad"),
-            (Heard("frame", 0, 1_200, False, "172:aa"), "marked_bad"),
-            (Heard("frame", 0, 9_600, False, "172:aa"), "bad_but_right"),
+            (Heard("frame", 0, 9_600, True, "8:aa"), None),
+            (Heard("frame", 0, 9_600, False, "8:ab"), "marked_bad"),
+            (Heard("frame", 0, 1_200, False, "8:aa"), "marked_bad"),
+            (Heard("frame", 0, 9_600, False, "8:aa"), "bad_but_right"),
             (Heard("frame", 0, 1_200, True, "16:0102"), "other_rate"),
-            (Heard("frame2", 0, 9_600, True, "172:aa"), "other_rate"),
-            (Heard("frame", 0, 9_600, True, "172:ab"), "wrong_but_good"),
+            (Heard("frame2", 0, 9_600, True, "8:aa"), "other_rate"),
+            (Heard("frame", 0, 9_600, True, "8:ab"), "wrong_but_good"),
         ):
             with self.subTest(line=line):
                 self.assertEqual(counting.outcome_of(sent, line), wanted)
@@ -246,10 +252,10 @@ class Counting(unittest.TestCase):
     def test_lines_belong_to_the_frames_near_them(self):
         sent = {50_000: FRAMES[0], 74_576: FRAMES[1], 99_152: FRAMES[0]}
         lines = [
-            Heard("frame", 50_012, 9_600, True, "172:aa"),
+            Heard("frame", 50_012, 9_600, True, "8:aa"),
             Heard("frame", 74_576 - 900, 1_200, True, "16:0102"),
-            Heard("frame", 50_000, 9_600, True, "172:ab"),
-            Heard("frame", 123_728, 9_600, True, "172:aa"),
+            Heard("frame", 50_000, 9_600, True, "8:ab"),
+            Heard("frame", 123_728, 9_600, True, "8:aa"),
         ]
         counts = {}
         counting.count_frames(sent, lines, counts)
@@ -263,11 +269,13 @@ class Counting(unittest.TestCase):
         self.assertEqual(counts, {"sync": Count(1, lost=1), "paging": Count(3, lost=1)})
 
     def test_what_is_to_be_heard_begins_at_the_mark(self):
-        clean = ["sync at=20000 x=1", f"frame at={4_608 + 3 * 24_576} rate=9600 good=1 bits=172:aa commands={16 * '0'}"]
+        sync = "prev=3 min=1 sid=1 nid=2 pn=1 lc=20000000000 time=1 lp=13 ltm=0 daylt=0 prat=0 rest=3:00"
+        frame = f"frame at={4_608 + 3 * 24_576} rate=9600 good=1 bits=8:aa commands={16 * '0'}"
+        clean = [f"sync at=20000 {sync}", frame]
         wanted = counting.expected(cell(), TRAFFIC, clean, "it")
         self.assertEqual(min(wanted.frames), 4_608 + 3 * 24_576)
         self.assertEqual(len(wanted.frames), 5)
-        self.assertEqual(wanted.messages, {("sync", "x=1"): [20_000]})
+        self.assertEqual(wanted.messages, {("sync", sync): [20_000]})
         with self.assertRaisesRegex(Refused, "hears no frame"):
             counting.expected(cell(), TRAFFIC, clean[:1], "it")
 
@@ -280,7 +288,7 @@ class Counting(unittest.TestCase):
 class Words(unittest.TestCase):
     def test_the_channel_is_added_where_it_is_not_named(self):
         for given, wanted in (
-            (None, "follow --esn 0000abcd --row 10 --offset 3"),
+            ("follow", "follow --esn 0000abcd --row 10 --offset 3"),
             ("list --k 4", "list --k 4 --esn 0000abcd --row 10 --offset 3"),
             ("follow --row=11 --fingers 2", "follow --row=11 --fingers 2 --esn 0000abcd --offset 3"),
         ):
@@ -290,10 +298,6 @@ class Words(unittest.TestCase):
         for given in ("rate2", "idle --key 00000000", "", "follow '"):
             with self.subTest(given), self.assertRaises(Refused):
                 receiver.words_of(given, TRAFFIC)
-
-    def test_a_label_leaves_the_channel_out(self):
-        curve = Curve("/bin/it", "", "list --k 4 --esn 0000abcd --row=10 --offset 3")
-        self.assertEqual(curve.label(), "it list --k 4")
 
 
 def batch_of(errors, sent=10):
@@ -343,7 +347,7 @@ class Plans(unittest.TestCase):
 
 
 def setup_for(seed=1, words="follow"):
-    return Setup("it", "text", 10, (), (), "/m", "aa", (Curve("/m", "aa", words),), seed, 5.0, "1.0")
+    return Setup("it", "text", 10, (), (), "/m", "aa", (Curve("/m", "aa", words, "m"),), seed, 5.0, "1.0")
 
 
 class Stores(unittest.TestCase):
