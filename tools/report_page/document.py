@@ -18,10 +18,11 @@ from plotly.offline import get_plotlyjs
 
 from tools.heard_run import CHIP_RATE, LANES, Run
 from tools.line_table import BY_WORDS, RATES, Shape
+from tools.radio.sample_file import GREATEST
 from tools.report_page.figures import Plot, decibels, plots_of, strengths
 from tools.report_page.gathering import Gathered, Ran
 from tools.report_page.meaning import CONFIGURATIONS, MEANINGS, degrees, megahertz, rows_of, times_of, utc_of
-from tools.report_page.measures import GREATEST, Measured
+from tools.report_page.measures import Measured
 
 HERE = os.path.dirname(os.path.abspath(__file__))
 NO_SYNC, BAD_FILE = 1, 3  # statuses of follow (docs/FORMATS.md)

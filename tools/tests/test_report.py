@@ -372,7 +372,7 @@ class BadInput(Folder):
         self.assertEqual(ended, 2)
         self.assertIn("no words of follow: --row=77", said)
         self.assertFalse(os.path.exists(self.out))
-        self.assertEqual([name for name in os.listdir(self.folder) if name.startswith(".report-")], [])
+        self.assertEqual([name for name in os.listdir(self.folder) if name.startswith(".part-")], [])
 
 
 FOUND = (
