@@ -1,17 +1,10 @@
 """The correlation of samples with the pilot's code, computed apart from the program (docs/LINK.md)."""
 
-import struct
-
 import numpy
 from numpy.typing import NDArray
 
-PERIOD = 32_768  # chips of the pilot's codes (7.1.3.1.9)
-# The recurrences of the two codes: how many chips back the terms lie (7.1.3.1.9).
-I_LAGS = (15, 10, 8, 7, 6, 2)
-Q_LAGS = (15, 12, 11, 10, 9, 5, 4, 3)
-# A sample file's header, and how a part of a sample is kept in each version (docs/FORMATS.md).
-HEADER = struct.Struct(">4sHHQ")
-FILE_TYPE = {1: ">i2", 2: "i1"}
+from tools.radio.air import I_LAGS, PERIOD, Q_LAGS, branch_signs
+from tools.radio.sample_file import FORM, HEADER
 
 Parts = tuple[NDArray[numpy.int64], NDArray[numpy.int64]]
 """The in-phase and the quadrature parts of samples, or of the code's points, as two arrays of one length."""
@@ -21,17 +14,9 @@ class Refused(Exception):
     """What isn't so of the input, in words."""
 
 
-def short_code(lags: tuple[int, ...]) -> NDArray[numpy.int64]:
-    """The 32,768 signs of one of the pilot's codes: a recurrence, one chip of 0 behind it, and 0 as +1."""
-    chips = [1]
-    for n in range(1, PERIOD - 1):
-        chips.append(sum(chips[n - lag] for lag in lags if lag <= n) % 2)
-    return 1 - 2 * numpy.array(chips + [0], dtype=numpy.int64)
-
-
 def codes() -> Parts:
     """The signs of both codes."""
-    return short_code(I_LAGS), short_code(Q_LAGS)
+    return branch_signs(I_LAGS).astype(numpy.int64), branch_signs(Q_LAGS).astype(numpy.int64)
 
 
 def read_samples(data: bytes, span: int) -> Parts:
@@ -39,11 +24,11 @@ def read_samples(data: bytes, span: int) -> Parts:
     if len(data) < HEADER.size:
         raise Refused("it ends within the header of a sample file")
     magic, version, _, count = HEADER.unpack(data[: HEADER.size])
-    if magic != b"IS95" or version not in FILE_TYPE:
+    if magic != b"IS95" or version not in FORM:
         raise Refused("it is no sample file of version 1 or 2")
     if count < span:
         raise Refused(f"it has {count} samples, and the span is {span}")
-    form = numpy.dtype(FILE_TYPE[version])
+    form = numpy.dtype(FORM[version])
     body = data[HEADER.size : HEADER.size + 2 * span * form.itemsize]
     if len(body) < 2 * span * form.itemsize:
         raise Refused("it ends before the span's samples")

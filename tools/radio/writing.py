@@ -27,7 +27,7 @@ def write_beside(path: str) -> Iterator[IO[bytes]]:
     """A file beside `path` that takes its place at the end; where anything fails it goes, and `path` is as it was."""
     room = None
     try:
-        with tempfile.NamedTemporaryFile(dir=os.path.dirname(path) or ".", prefix=".import-", delete=False) as file:
+        with tempfile.NamedTemporaryFile(dir=os.path.dirname(path) or ".", prefix=".part-", delete=False) as file:
             room = file.name
             yield file
         mask = os.umask(0)

@@ -18,10 +18,11 @@ from plotly.offline import get_plotlyjs
 
 from tools.heard_run import CHIP_RATE, LANES, Run
 from tools.line_table import BY_WORDS, RATES, Shape
+from tools.radio.sample_file import GREATEST
 from tools.report_page.figures import Plot, decibels, plots_of, strengths
 from tools.report_page.gathering import Gathered, Ran
 from tools.report_page.meaning import CONFIGURATIONS, MEANINGS, degrees, megahertz, rows_of, times_of, utc_of
-from tools.report_page.measures import GREATEST, Measured
+from tools.report_page.measures import Measured
 
 HERE = os.path.dirname(os.path.abspath(__file__))
 NO_SYNC, BAD_FILE = 1, 3  # statuses of follow (docs/FORMATS.md)
@@ -128,10 +129,8 @@ def problems(gathered: Gathered, measured: Measured) -> list[str]:
     elif not measured.stands_out:
         best, noise = (f"{decibels(ratio):.1f} dB" for ratio in (measured.ratio, measured.floor))
         said.append(f"No pilot stands out: the best phase has {best} of all power, and noise reaches {noise}.")
-    if follow.status in (0, NO_SYNC) and not follow.reads("sync"):
-        said.append("No sync message was heard, so neither the time nor any other channel is known.")
-    elif follow.status == NO_SYNC:
-        said.append(f"follow ended with status {NO_SYNC}: {follow.said}.")
+    if follow.status == NO_SYNC:
+        said.append("No sync message was heard that tells the long code's state, so no other channel was heard either.")
     strange = sum(line.read is None for ran in gathered.runs for line in ran.lines)
     if strange:
         said.append(f"{strange} of the lines are none of the program's: they stand among the lines, and nowhere else.")

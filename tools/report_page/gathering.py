@@ -117,7 +117,9 @@ def lines_of(text: bytes, kinds: tuple[str, ...]) -> list[Line]:
 
 
 def sample_bytes(path: str) -> int:
-    """The bytes of a sample, by the file's version; 4 where it has none."""
+    """The bytes of a sample, by the file's version; 4 where it has none. Refuses what can't be read several times."""
+    if os.path.exists(path) and not os.path.isfile(path):
+        raise Failed(f"{path}: no plain file")
     with open(path, "rb") as file:
         head = file.read(HEADER_BYTES)
     return SAMPLE_BYTES.get(int.from_bytes(head[4:6], "big"), 4)

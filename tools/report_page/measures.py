@@ -5,18 +5,16 @@ whose squares add up to W that is 2 N W, since a point of the code has two parts
 energy is 2 W on average, and above x times that with the chance exp(-x).
 """
 
-import functools
 import os
 from typing import NamedTuple
 
 import numpy
 from numpy.typing import NDArray
 
-from tools.correlation import FILE_TYPE, HEADER, PERIOD, codes
-from tools.heard_run import CHIP_RATE
+from tools.radio.air import CHIP_RATE, PERIOD, short_code
+from tools.radio.sample_file import FORM, GREATEST, HEADER
 
 PIECE = 1 << 20  # samples that are measured at once
-GREATEST = {1: 32_767, 2: 127}  # of a part of a sample, by the file's version
 # How often an energy must be that of noise to stand out. The greatest of 32,768 phases in noise passes 20 times its
 # mean with a chance below 32,768 exp(-20), 1 in 14,000.
 STANDING_OUT = 20
@@ -91,8 +89,8 @@ class SampleFile:
         with open(path, "rb") as file:
             head = file.read(HEADER.size).ljust(HEADER.size, b"\0")
         magic, version, _, told = HEADER.unpack(head)
-        if magic == b"IS95" and version in FILE_TYPE:
-            self.version, self.told, self.form = version, told, numpy.dtype(FILE_TYPE[version])
+        if magic == b"IS95" and version in FORM:
+            self.version, self.told, self.form = version, told, numpy.dtype(FORM[version])
             self.count = min(told, max(0, os.path.getsize(path) - HEADER.size) // (2 * self.form.itemsize))
 
     def read(self, first: int, count: int) -> NDArray[numpy.complex128]:
@@ -110,13 +108,6 @@ def level_of(file: SampleFile) -> Level:
         power += float(parts @ parts)
         top = max(top, int(numpy.abs(parts).max()))
     return Level(power / file.count, top)
-
-
-@functools.cache
-def code_points() -> NDArray[numpy.complex128]:
-    """The points of the pilot's code, 32,768 of them."""
-    in_phase, quadrature = codes()
-    return in_phase + 1j * quadrature
 
 
 def code_at(points: NDArray[numpy.complex128], phase: int, count: int) -> NDArray[numpy.complex128]:
@@ -184,7 +175,7 @@ def measured(path: str, phase: int | None, span: int) -> Measured:
     plain = plain._replace(level=level_of(file))
     if phase is None or file.count < span:
         return plain
-    points = code_points()
+    points = short_code().astype(complex)
     ratios = ratios_at(file.read(0, span), points, phase)
     found = Correlation(numpy.arange(-WINDOW, WINDOW + 1), ratios)
     plain = plain._replace(correlation=found, ratio=float(ratios[WINDOW]))

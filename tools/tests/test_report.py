@@ -341,6 +341,13 @@ class BadInput(Folder):
             self.assert_holds(page, "bad file: magic at 0")
             self.assertEqual(self.plots(page), {})
 
+    def test_what_was_not_asked_for(self) -> None:
+        """Where the words of follow leave messages out, that is no fault."""
+        self.fake.tell("follow", [line for line in FOLLOWED if line.startswith("frame")])
+        page = self.page("--messages", "0", "--pilots", "0")
+        self.assert_holds(page, "All was read")
+        self.assertEqual(len(self.plots(page)), 4)
+
     def test_other_endings(self) -> None:
         self.fake.tell("follow", list(FOLLOWED[:2]), status=6, said="out of memory\n")
         self.assert_holds(self.page(status=6), "follow ended with status 6 (out of memory)")
@@ -348,6 +355,7 @@ class BadInput(Folder):
     def test_refusals(self) -> None:
         for why, status, *words in (
             ("No such file", 9, self.at("none.is95"), "--out", self.out),
+            ("no plain file", 9, self.folder, "--out", self.out),
             ("page.html: No such file", 9, self.file, "--out", self.at("none/page.html")),
             ("no program at /none", 9, self.file, "--out", self.out, "--program", "/none"),
             ("required: --out", 2, self.file),
@@ -364,7 +372,7 @@ class BadInput(Folder):
         self.assertEqual(ended, 2)
         self.assertIn("no words of follow: --row=77", said)
         self.assertFalse(os.path.exists(self.out))
-        self.assertEqual([name for name in os.listdir(self.folder) if name.startswith(".report-")], [])
+        self.assertEqual([name for name in os.listdir(self.folder) if name.startswith(".part-")], [])
 
 
 FOUND = (
