@@ -1,9 +1,11 @@
 """What the tests of the tools share: where things stand, and how a tool and the program are run."""
 
+import importlib.machinery
 import importlib.util
 import os
 import struct
 import subprocess
+import sys
 import unittest
 
 ROOT = os.path.dirname(os.path.dirname(os.path.dirname(os.path.abspath(__file__))))
@@ -20,6 +22,15 @@ def needs(*names):
     for name in names:
         if importlib.util.find_spec(name) is None:
             raise unittest.SkipTest(f"no {name}: install the package python3-{name}")
+
+
+def loaded(name):
+    """A tool as a module."""
+    sys.dont_write_bytecode = True
+    loader = importlib.machinery.SourceFileLoader(name, os.path.join(TOOLS, name))
+    module = importlib.util.module_from_spec(importlib.util.spec_from_loader(name, loader))
+    loader.exec_module(module)
+    return module
 
 
 def run_tool(name, *words, data=b""):

@@ -1,5 +1,7 @@
 """conformance/run: its cases are whole, and it says what differs. Scripts of the shell stand for makers and receivers."""
 
+from __future__ import annotations
+
 import contextlib
 import hashlib
 import importlib.machinery
@@ -10,21 +12,39 @@ import re
 import sys
 import tempfile
 import unittest
+from types import ModuleType
+from typing import Any
 
 from tools.tests.helping import ROOT, sample_file
 
+SEARCH = {"span", "workers"}
+PATHS = SEARCH | {"fingers"}
+TRAFFIC = PATHS | {"esn", "row", "offset"}
 WORDS = {
-    "find": {"span"},
-    "rate2": {"span", "fingers", "esn", "row", "offset"},
-    "list": {"span", "fingers", "esn", "row", "offset", "k"},
-    "idle": {"span", "fingers", "paging", "key", "cycle"},
-    "survey": {"span", "base", "width", "top"},
+    "find": SEARCH,
+    "follow": TRAFFIC | {"paging", "pilots", "messages", "frames", "raw"},
+    "rate2": TRAFFIC,
+    "list": TRAFFIC | {"k"},
+    "idle": PATHS | {"paging", "key", "cycle"},
+    "survey": SEARCH | {"base", "width", "top"},
+    "make": {"bits"},
+    "trial": {"number", "workers"},
 }
-FOLLOW = {"span", "fingers", "paging", "esn", "row", "offset", "pilots", "messages", "frames", "raw"}
+# The lines of docs/FORMATS.md on standard error.
+ERRORS = {
+    0: "^$",
+    1: "^no sync message$",
+    2: "^bad words$",
+    3: "^bad file: (magic at 0|version at 4|flags at 6|count at 8|too few at 8|(short|extra) at (0|[1-9][0-9]*))$",
+    4: "^read fault$",
+    5: "^write fault$",
+    8: "^bad script: (too big|(line|walsh|gain|too loud|too long) (0|[1-9][0-9]*))$",
+}
+SCRIPT = ("script:", "  cell pn=1")
 SAMPLES = [(1, -1), (300, 2), (-3, 77)]
 
 
-def loaded():
+def loaded() -> ModuleType:
     """conformance/run as a module."""
     sys.dont_write_bytecode = True
     loader = importlib.machinery.SourceFileLoader("conformance_run", os.path.join(ROOT, "conformance", "run"))
@@ -37,7 +57,7 @@ RUN = loaded()
 
 
 class TheCases(unittest.TestCase):
-    def test_there_are_enough_and_each_is_whole(self):
+    def test_there_are_enough_and_each_is_whole(self) -> None:
         names = RUN.names_of_cases()
         self.assertGreaterEqual(len(names), 40)
         purposes = {}
@@ -48,21 +68,30 @@ class TheCases(unittest.TestCase):
                 purposes[case.purpose] = name
                 self.check_case(case)
 
-    def check_case(self, case):
-        command, options = case.words[0], case.words[1::2]
-        allowed = WORDS.get(command, FOLLOW if command == "follow" else set())
-        self.assertLessEqual({option[2:] for option in options}, allowed)
-        self.assertTrue(case.text or case.status == 1 or command == "idle")
-        self.assertTrue(all(len(line) < 1_024 for line in case.text))
-        self.assertRegex(case.fields["sha256"], "^[0-9a-f]{64}$")
-        self.assertIn((case.status, case.bits), {(0, 16), (0, 8), (1, 16)})
-        for script in case.scripts:
-            self.assertTrue(script[0].startswith("cell pn=") and script[1].startswith("link re="))
+    def check_case(self, case: Any) -> None:
+        """That what a case wants can be met, and that its words are some of the receiver's."""
+        self.assertTrue(all(len(line) < 1_024 for line in case.text or []))
+        if case.input == "samples" and case.scripts:
+            self.assertRegex(case.fields["sha256"], "^[0-9a-f]{64}$")
+            self.assertTrue(all(s[0].startswith("cell pn=") and s[1].startswith("link re=") for s in case.scripts))
+        if case.status != 2:
+            for words in case.runs:
+                self.check_words(words)
+        if case.error is not None:
+            self.assertRegex(case.error, ERRORS[case.status])
+        if case.status in (2, 4, 8):
+            self.assertEqual((case.text, case.written), ([], None))
 
-    def test_what_they_cover(self):
+    def check_words(self, words: list[str]) -> None:
+        """That a command has options of its own alone, each with a value."""
+        options = [part for word in words[1:] for part in word.split("=", 1)]
+        self.assertLessEqual({option[2:] for option in options[::2]}, WORDS[words[0]])
+        self.assertEqual(len(options) % 2, 0)
+
+    def test_what_they_cover(self) -> None:
         cases = [RUN.Case(name) for name in RUN.names_of_cases()]
         words = [" ".join(case.words) + " " for case in cases]
-        lines = "\n".join(line for case in cases for line in case.text)
+        lines = "\n".join(line for case in cases for line in case.text or [])
         scripts = "\n".join(line for case in cases for script in case.scripts for line in script)
         for number in range(1, 8):
             self.assertTrue(any(f"--paging {number} " in text for text in words), number)
@@ -78,11 +107,29 @@ class TheCases(unittest.TestCase):
         for text in ("page half", "page next", "prat=0", "prat=1", "prat=2", "prat=3", "checks=0", "checks=3"):
             self.assertIn(text, scripts)
         self.assertTrue(any(case.bits == 8 for case in cases) and any(case.noise for case in cases))
-        self.assertGreater(max(int(n) for n in re.findall(r"samples=(\d+)", scripts)), 3_000_000)
+        made = "\n".join(line for case in cases if case.status == 0 for script in case.scripts for line in script)
+        self.assertGreater(max(int(n) for n in re.findall(r"samples=(\d+)", made)), 3_000_000)
+
+    def test_each_end_is_asked_for(self) -> None:
+        """Each status but want of memory, each fault of a file and of a script, a closed and a full output."""
+        cases = [RUN.Case(name) for name in RUN.names_of_cases()]
+        errors = {case.error for case in cases}
+        self.assertEqual({case.status for case in cases}, {0, 1, 2, 3, 4, 5, 8})
+        self.assertEqual({case.sink for case in cases}, {None, "closed", "full"})
+        for kind in ("magic at 0", "version at 4", "flags at 6", "count at 8", "short at 0", "extra at 8208", "too few at 8"):
+            self.assertIn(f"bad file: {kind}", errors)
+        for fault in ("too big", "line 1", "walsh 1", "gain 1", "too loud 6226300", "too long 33554433"):
+            self.assertIn(f"bad script: {fault}", errors)
+        self.assertLessEqual({"", "no sync message", "bad words", "read fault", "write fault"}, errors)
+        self.assertTrue(all(case.most_read == 0 or case.input == "dropped" for case in cases if case.status == 2))
+        taps = [line.split(" ")[0] for line in RUN.Case("all_taps").text]
+        self.assertEqual(set(taps), {"pilot", "sync", "paging", "frame", "traffic", "sets", "raw"})
 
 
 class Asks(unittest.TestCase):
-    def setUp(self):
+    """Receivers and makers that are scripts of the shell, over cases of a folder of their own."""
+
+    def setUp(self) -> None:
         folder = tempfile.TemporaryDirectory()
         self.addCleanup(folder.cleanup)
         self.folder = folder.name
@@ -90,47 +137,76 @@ class Asks(unittest.TestCase):
         RUN.CASES = self.folder
         self.keep("made.is95", sample_file(SAMPLES, flags=2))
         self.maker = self.program("maker", 'cat > "$0.script"; cat ' + self.at("made.is95"))
-        self.case("first", sample_file(SAMPLES, flags=2))
 
-    def at(self, name):
+    def at(self, name: str) -> str:
         return os.path.join(self.folder, name)
 
-    def keep(self, name, data):
+    def keep(self, name: str, data: bytes) -> None:
         with open(self.at(name), "wb") as file:
             file.write(data)
 
-    def program(self, name, text):
+    def kept(self, name: str) -> bytes:
+        with open(self.at(name), "rb") as file:
+            return file.read()
+
+    def program(self, name: str, text: str) -> str:
         self.keep(name, f"#!/bin/sh\n{text}\n".encode())
         os.chmod(self.at(name), 0o700)
         return self.at(name)
 
-    def case(self, name, samples, more="", status=0):
-        sha = hashlib.sha256(samples).hexdigest()
-        text = f"purpose: a first one\nwords: find --span 64\nstatus: {status}\nbits: 16\n{more}sha256: {sha}\n"
-        text += "script:\n  cell pn=1\n  pilot gain=3\n" * (2 if "places" in more else 1) + "text:\n  pilot phase=1\n  last\n"
-        self.keep(name + ".case", text.encode())
+    def write(self, *lines: str, name: str = "first") -> None:
+        """A case of these lines."""
+        self.keep(name + ".case", "".join(line + "\n" for line in lines).encode())
 
-    def asked(self, receiver, *words):
-        """The status, and what is said of a receiver that runs this text."""
+    def case(self, samples: bytes, more: tuple[str, ...] = (), status: int = 0, words: str = "find --span 64") -> None:
+        """A case over samples that are made, whose text is of two lines."""
+        sha = f"sha256: {hashlib.sha256(samples).hexdigest()}"
+        script = ["script:", "  cell pn=1", "  pilot gain=3"] * (2 if any(line.startswith("places") for line in more) else 1)
+        head = ["purpose: a first one", f"words: {words}", f"status: {status}", "bits: 16", *more, sha]
+        self.write(*head, *script, "text:", "  pilot phase=1", "  last")
+
+    def given(self, *more: str, status: int = 0, text: tuple[str, ...] = ("text:", "  said")) -> None:
+        """A case over three bytes, whose text is `said`."""
+        self.write("purpose: bytes", "words: find", f"status: {status}", *more, "file:", "  0a 0b0C", *text)
+
+    def asked(self, receiver: str, *words: str) -> tuple[int, str]:
+        """The status, and what is said of a receiver that runs this text, where another program makes samples."""
+        return self.run_with(["--maker", self.maker, *words], receiver)
+
+    def run_with(self, words: list[str], receiver: str) -> tuple[int, str]:
         said, faults = io.StringIO(), io.StringIO()
         with contextlib.redirect_stdout(said), contextlib.redirect_stderr(faults):
             try:
-                status = RUN.main([*words, "--maker", self.maker, self.program("receiver", receiver)])
+                status = RUN.main([*words, self.program("receiver", receiver)])
             except SystemExit as end:
                 status = end.code
         return status, said.getvalue() + faults.getvalue()
 
-    def test_nothing_differs(self):
-        answers = f'cat > {self.at("heard.is95")}; echo "$@" > {self.at("words")}; printf "pilot phase=1\\nlast\\n"'
-        self.assertEqual(self.asked(answers), (0, "1 cases, 0 differ\n"))
-        with open(self.at("heard.is95"), "rb") as file:
-            self.assertEqual(file.read(), sample_file(SAMPLES, flags=2))
-        with open(self.at("words")) as file:
-            self.assertEqual(file.read(), "find --span 64\n")
-        with open(self.at("maker.script")) as file:
-            self.assertEqual(file.read(), "cell pn=1\npilot gain=3\n")
+    def refuses(self, receiver: str, *wanted: str) -> None:
+        """That a receiver differs, and that all this is said of it."""
+        status, said = self.asked(receiver)
+        self.assertEqual(status, 1, said)
+        for line in wanted:
+            self.assertIn(f"    {line}\n", said)
 
-    def test_what_differs(self):
+    def accepts(self, receiver: str) -> None:
+        self.assertEqual(self.asked(receiver), (0, "1 cases, 0 differ\n"))
+
+
+class AsksOfSamples(Asks):
+    """Cases over samples that are made of scripts."""
+
+    def setUp(self) -> None:
+        super().setUp()
+        self.case(sample_file(SAMPLES, flags=2))
+
+    def test_nothing_differs(self) -> None:
+        self.accepts(f'cat > {self.at("heard.is95")}; echo "$@" > {self.at("words")}; printf "pilot phase=1\\nlast\\n"')
+        self.assertEqual(self.kept("heard.is95"), sample_file(SAMPLES, flags=2))
+        self.assertEqual(self.kept("words"), b"find --span 64\n")
+        self.assertEqual(self.kept("maker.script"), b"cell pn=1\npilot gain=3\n")
+
+    def test_what_differs(self) -> None:
         status, said = self.asked('printf "pilot phase=2\\nlast\\n"; exit 1')
         self.assertEqual(status, 1)
         self.assertEqual(
@@ -138,48 +214,189 @@ class Asks(unittest.TestCase):
             "first: a first one: find --span 64\n    status 1, wanted 0\n    line 1 wanted: pilot phase=1\n"
             "    line 1 written: pilot phase=2\n1 cases, 1 differ\n",
         )
-        _, said = self.asked('printf "a\\nb\\nc\\nlast\\nd\\n"')
-        self.assertIn("    line 2 written: b\n    line 5 written: d\n    .. and 1 more\n", said)
-        self.assertIn("no line feed", self.asked('printf "pilot phase=1\\nlast"')[1])
-        self.assertEqual(self.asked("exit 0")[0], 1)
+        self.refuses('printf "a\\nb\\nc\\nlast\\nd\\n"', "line 2 written: b", "line 5 written: d", ".. and 1 more")
+        self.refuses('printf "pilot phase=1\\nlast"', "the last line has no line feed")
+        self.refuses("exit 0", "line 1 wanted: pilot phase=1")
+        self.refuses("kill -9 $$", "ended by SIGKILL, wanted 0")
 
-    def test_a_wanted_status(self):
-        self.case("first", sample_file(SAMPLES, flags=2), status=1)
-        self.assertEqual(self.asked('printf "pilot phase=1\\nlast\\n"; exit 1')[0], 0)
+    def test_a_wanted_status(self) -> None:
+        self.case(sample_file(SAMPLES, flags=2), status=1)
+        self.accepts('printf "pilot phase=1\\nlast\\n"; exit 1')
 
-    def test_samples_that_are_others(self):
-        self.case("first", sample_file(SAMPLES))
-        status, said = self.asked("exit 0")
-        self.assertEqual(status, 1)
-        self.assertIn("aren't the case's", said)
+    def test_samples_that_are_others(self) -> None:
+        self.case(sample_file(SAMPLES))
+        self.refuses("exit 0", f"the samples that {self.maker} makes aren't the case's: their checksum is another")
 
-    def test_sums_and_noise(self):
+    def test_sums_and_noise(self) -> None:
         """The second script's samples from the first sample on, and noise by hand."""
         state, noise = 7, []
         for _ in range(6):
             state = (1_664_525 * state + 1_013_904_223) % 2**32
             noise.append((state >> 16) * 21 // 65_536 - 10)
         sums = [(2 * i + noise[2 * t], 2 * q + noise[2 * t + 1]) for t, (i, q) in enumerate(SAMPLES)]
-        self.case("first", sample_file(sums, flags=2), more="places: 0\nnoise: 7 10\n")
-        self.assertEqual(self.asked('printf "pilot phase=1\\nlast\\n"'), (0, "1 cases, 0 differ\n"))
+        self.case(sample_file(sums, flags=2), ("places: 0", "noise: 7 10"))
+        self.accepts('printf "pilot phase=1\\nlast\\n"')
         self.assertTrue(any(noise))
 
-    def test_what_is_kept(self):
+    def test_samples_that_are_changed_cut_and_added_to(self) -> None:
+        whole = sample_file(SAMPLES, flags=2)
+        self.case(b"\x01" + whole[1:-3] + b"\xff\xff", ("change: 0 01", "cut: -3", "add: 2 * ff"))
+        self.accepts(f'cat > {self.at("heard.is95")}; printf "pilot phase=1\\nlast\\n"')
+        self.assertEqual(self.kept("heard.is95"), b"\x01" + whole[1:-3] + b"\xff\xff")
+
+    def test_what_is_kept(self) -> None:
         os.mkdir(self.at("kept"))
         self.asked("exit 0", "--keep", self.at("kept"))
-        with open(self.at("kept/first.is95"), "rb") as file:
-            self.assertEqual(file.read(), sample_file(SAMPLES, flags=2))
+        self.assertEqual(self.kept("kept/first.is95"), sample_file(SAMPLES, flags=2))
 
-    def test_refusals(self):
-        for words, why in ((["--only", "none"], "no case none"), (["--keep", self.at("none")], "no folder"), (["--minutes", "0"], "1 to 1440")):
+    def test_a_receiver_that_makes_no_samples(self) -> None:
+        """Where another program makes the samples, cases of `make` and `trial` are left out, unless they are named."""
+        self.write("purpose: two", "words: make", "input: script", "status: 0", "script:", "  cell", "text:", name="second")
+        self.write("purpose: three", "words: trial --number 0", "input: nothing", "status: 0", "text:", name="third")
+        answers = 'printf "pilot phase=1\\nlast\\n"'
+        self.assertEqual(self.asked(answers), (0, "1 cases, 0 differ; 2 of make and trial are left out\n"))
+        self.assertEqual(self.asked(answers, "--only", "second")[0], 1)
+        self.assertIn("3 cases, 3 differ\n", self.run_with([], f'cat {self.at("made.is95")}')[1])
+
+    def test_refusals(self) -> None:
+        for words, why in (
+            (["--only", "none"], "no case none"),
+            (["--keep", self.at("none")], "no folder"),
+            (["--minutes", "0"], "1 to 1440"),
+        ):
             status, said = self.asked("exit 0", *words)
             self.assertEqual(status, 2)
             self.assertIn(why, said)
-        self.program("maker", "echo bad script >&2; exit 8")
-        self.assertEqual(self.asked("exit 0")[0], 2)
-        self.assertIn("ended with 8: bad script", self.asked("exit 0")[1])
-        self.keep("first.case", b"purpose: no words\n")
-        self.assertIn("has no bits, sha256, status, words", self.asked("exit 0")[1])
+        for maker, why in (
+            ("echo bad script >&2; exit 8", "ended with 8: bad script"),
+            ("printf IS95", "wrote no sample file"),
+            ("printf IS95567890123456789", "ends within a sample"),
+        ):
+            self.program("maker", maker)
+            status, said = self.asked("exit 0")
+            self.assertEqual(status, 2)
+            self.assertIn(why, said)
+
+
+class AsksOfBytes(Asks):
+    """Cases over bytes that a case gives, over scripts, and over no input; and the ends of runs."""
+
+    def test_bytes(self) -> None:
+        self.write("purpose: bytes", "words: find", "status: 0", "file:", "  0a 0b0C", "  3 * 01 02", "text:", "  said")
+        self.accepts(f'cat > {self.at("heard")}; echo said')
+        self.assertEqual(self.kept("heard"), bytes.fromhex("0a0b0c010201020102"))
+
+    def test_changed_cut_and_added_to(self) -> None:
+        self.given("change: 1 ff", "cut: 2", "add: 07")
+        self.accepts(f'cat > {self.at("heard")}; echo said')
+        self.assertEqual(self.kept("heard"), bytes.fromhex("0aff07"))
+
+    def test_a_script_as_it_is(self) -> None:
+        self.write("purpose: a script", "words: make", "input: script", "status: 8", "cut: -1", *SCRIPT, "text:")
+        self.assertEqual(self.asked(f'cat > {self.at("heard")}; exit 8', "--only", "first")[0], 0)
+        self.assertEqual(self.kept("heard"), b"cell pn=1")
+
+    def test_no_input(self) -> None:
+        self.write("purpose: nothing", "words: find", "input: nothing", "status: 3", "text:")
+        self.accepts('[ "$(wc -c)" -eq 0 ] && exit 3')
+        self.write("purpose: a directory", "words: find", "input: directory", "status: 4", "text:")
+        self.accepts("cat 2> /dev/null || exit 4")
+        self.refuses("exit 0", "status 0, wanted 4")
+        self.write("purpose: a connection", "words: find", "input: dropped", "status: 4", "text:")
+        self.accepts("cat 2> /dev/null || exit 4")
+        self.refuses("cat 2> /dev/null || cat && exit 3", "status 3, wanted 4")
+
+    def test_several_runs(self) -> None:
+        """Each must answer the same; that of no words too."""
+        self.write("purpose: two", "words: find", "words:", "words: find ''", "status: 0", "file:", "  00", "text:", "  said")
+        self.accepts("echo said")
+        status, said = self.asked('[ $# -eq 1 ] && echo said')
+        self.assertEqual(status, 1)
+        self.assertIn("first: two: \n    status 1, wanted 0\n", said)
+        self.assertIn("first: two: find ''\n", said)
+        self.assertNotIn("two: find\n", said)
+        self.assertIn("1 cases, 1 differ", said)
+
+    def test_the_line_on_standard_error(self) -> None:
+        self.given("error: bad words", status=2)
+        self.accepts("echo said; echo bad words >&2; exit 2")
+        told = "standard error wanted: bad words"
+        self.refuses("echo said; exit 2", told, "standard error written: nothing")
+        self.refuses("echo said; echo worse words >&2; exit 2", told, "standard error written: worse words")
+        self.refuses("echo said; printf 'bad words' >&2; exit 2", told, "standard error written: 'bad words'")
+        self.refuses("echo said; printf 'bad words\\nmore\\n' >&2; exit 2", told, "standard error written: 'bad words\\nmore\\n'")
+        self.refuses("echo said; echo bad words >&2; exit 1", "status 1, wanted 2")
+        self.given("error:")
+        self.accepts("echo said")
+        self.refuses("echo said; echo done >&2", "standard error wanted: nothing", "standard error written: done")
+        self.given()
+        self.accepts("echo said; echo done >&2")
+
+    def test_what_is_taken(self) -> None:
+        self.given("read: 0")
+        self.accepts("echo said")
+        self.refuses("cat > /dev/null; echo said", "3 bytes of the input were taken, wanted at most 0")
+        self.given("read: 2")
+        self.accepts("dd bs=1 count=2 > /dev/null 2> /dev/null; echo said")
+
+    def test_a_checksum_of_what_is_written(self) -> None:
+        checksum = hashlib.sha256(b"said\n").hexdigest()
+        self.write("purpose: bytes", "words: make", "input: script", "status: 0", f"output: 5 {checksum}", "script:", "  cell")
+        self.assertEqual(self.asked("echo said", "--only", "first")[0], 0)
+        for receiver, length, first in (("echo soid", 5, "736f69640a"), ("printf said", 4, "73616964"), ("exit 0", 0, "")):
+            status, said = self.asked(receiver, "--only", "first")
+            self.assertEqual(status, 1)
+            self.assertIn(f"5 bytes with another checksum wanted, {length} written, the first: {first}", said)
+
+    def test_a_lost_output(self) -> None:
+        for sink in ("closed", "full"):
+            self.write("purpose: lost", "words: find", "status: 5", "error: write fault", f"output: {sink}", "file:", "  00")
+            self.accepts("(echo said) 2> /dev/null || { echo write fault >&2; exit 5; }")
+            self.refuses("(echo said) 2> /dev/null; exit 0", "status 0, wanted 5", "standard error wanted: write fault")
+
+    def test_cases_that_are_none(self) -> None:
+        """Each with a line that names the case, and no run."""
+        head = ("purpose: p", "words: find", "status: 0")
+        made = (*head, "bits: 16", "sha256: 00")
+        end = ("file:", "  00", "text:")
+        for lines, why in (
+            (("purpose: no words",), "has no bits, sha256, status, words"),
+            ((*head, *end[:2]), "has not just one of text: and output:"),
+            ((*head, "text:"), "has no bits, sha256"),
+            ((*head, "input: nothing", *end), "has input: nothing, and a script or a file"),
+            ((*head, "input: script", *end), "has input: script, and not just one script"),
+            ((*head, "input: air", "text:"), "has input: air, which is none of samples, script, nothing, directory, dropped"),
+            ((*made, "text:"), "has no script"),
+            ((*head, "bits: 12", "sha256: 00", "script:", "text:"), "has bits: neither 8 nor 16"),
+            ((*made, "script:", "script:", "text:"), "has 2 scripts and 0 places"),
+            ((*made, "places: 1 2", "script:", "script:", "text:"), "has places: 1 2, which isn't 1 numbers"),
+            ((*made, "noise: 1", "script:", "text:"), "has noise: 1, which isn't 2 numbers"),
+            ((*made, "script:", *end), "has scripts and a file"),
+            ((head[0], head[1], "status: 9", *end), "has status: 9, which isn't 1 numbers from 0 to 8"),
+            ((head[0], head[1], "status: x", *end), "has status: x, which isn't"),
+            ((*head, "read: -1", *end), "has read: -1, which isn't"),
+            ((*head, "status: 0", *end), "has two lines status:"),
+            ((*head, *end, "text:"), "has two blocks text:"),
+            ((*head, "output: closed", *end), "has not just one of text: and output:"),
+            ((*head, "output: 5", "file:", "  00"), "has output: 5, which is none of closed, full"),
+            ((*head, "change: x 00", *end), "has bytes or a place that are none"),
+            ((*head, "cut: x", *end), "has bytes or a place that are none"),
+            ((*head, "add: 0", *end), "has bytes or a place that are none"),
+            ((*head, "add: 300000000 * 00", *end), "has bytes or a place that are none: more than 268435456 bytes"),
+            ((*head, "file:", "  0g", "text:"), "has bytes or a place that are none"),
+            ((head[0], "words: 'find", head[2], *end), "has words that are none"),
+            ((*head, "colour: red", *end), "has a line that is none: 'colour: red'"),
+            ((*head, "bits:", *end), "has a line that is none: 'bits:'"),
+            ((*head, "text:x", *end), "has a line that is none: 'text:x'"),
+            ((*head, "a line", *end), "has a line that is none: 'a line'"),
+            ((*head, "\u00e9", *end), "isn't ASCII text"),
+        ):
+            with self.subTest(why, lines=lines):
+                self.write(*lines)
+                status, said = self.asked(f'touch {self.at("ran")}')
+                self.assertEqual(status, 2)
+                self.assertIn(f"conformance/run: the case first {why}", said)
+                self.assertFalse(os.path.exists(self.at("ran")))
 
 
 if __name__ == "__main__":

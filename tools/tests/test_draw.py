@@ -1,20 +1,17 @@
 """tools/draw: what it reads of lines and of a sample file, the pictures that it writes, and each error."""
 
-import importlib.machinery
-import importlib.util
 import os
-import sys
 import tempfile
 import unittest
 
-from tools.tests.helping import EXAMPLES, NO_PROGRAM, PROGRAM, TOOLS, example, needs, run_program, run_tool, sample_file
+from tools.tests.helping import EXAMPLES, NO_PROGRAM, PROGRAM, example, loaded, needs, run_program, run_tool, sample_file
 
 needs("numpy", "matplotlib")
 
 FOLLOWED = """\
 pilot phase=64 energy=1509949440000
 sync at=294848 prev=3 min=1 sid=1 nid=2 pn=511 lc=102a1d2e508 time=1007 lp=13 ltm=0 daylt=0 prat=0 rest=3:00
-frame at=712704 rate=9600 good=1 bits=172:80 commands=0000000000000011
+frame at=712704 rate=9600 good=1 bits=172:80000000000000000000000000000000000000000000 commands=0000000000000011
 paging at=737280 channels pn=511 seq=0 freqs=283 rest=0:
 frame at=737280 rate=2400 good=0 bits=40:0000000000 commands=1111111111111111
 traffic at=737280 ack=0 seq=0 req=0 enc=0 handoff use=1 action=49 hdm=0 extra=0: records=511/20/0 rest=7:00
@@ -23,15 +20,6 @@ sets at=884736 time=1009 active=511/20/0,5/21/1 candidate= report=0
 sets at=983040 time=1010 active=5/21/0 candidate=511 report=0
 raw at=983040 paging 8:04
 """
-
-
-def loaded(name):
-    """A tool as a module."""
-    sys.dont_write_bytecode = True
-    loader = importlib.machinery.SourceFileLoader(name, os.path.join(TOOLS, name))
-    module = importlib.util.module_from_spec(importlib.util.spec_from_loader(name, loader))
-    loader.exec_module(module)
-    return module
 
 
 DRAW = loaded("draw")
@@ -65,14 +53,14 @@ class Reading(unittest.TestCase):
         self.assertEqual(found, [(5, -3, 12), (0, 0, 7)])
 
     def test_a_run(self):
-        run = DRAW.Run(FOLLOWED.splitlines())
-        self.assertEqual(run.lanes, {"sync": [294_848], "paging channels": [737_280], "traffic handoff": [737_280]})
-        self.assertEqual([frame[:3] for frame in run.frames], [(712_704, 9_600, True), (737_280, 2_400, False)])
+        run = DRAW.run_of(FOLLOWED.splitlines())
+        self.assertEqual(run.lanes, {"sync": [(2, 294_848)], "paging channels": [(4, 737_280)], "traffic handoff": [(6, 737_280)]})
+        self.assertEqual([frame[:4] for frame in run.frames], [(3, 712_704, 9_600, True), (5, 737_280, 2_400, False)])
         places, levels = run.steps()
         self.assertEqual((places[0], places[15], places[16]), (689_664, 712_704, 714_240))
         self.assertEqual((levels[13], levels[15], levels[31]), (14, 12, -4))
-        self.assertEqual(run.sets[1], (884_736, [511, 5], [], False))
-        active, candidates = DRAW.spans_of(run, 1), DRAW.spans_of(run, 2)
+        self.assertEqual(run.sets[1], (8, 884_736, [511, 5], [], False))
+        active, candidates = run.spans("active"), run.spans("candidate")
         self.assertEqual(active, {511: [(786_432, 983_040)], 5: [(884_736, 983_040)]})
         self.assertEqual(candidates, {5: [(786_432, 884_736)], 511: [(983_040, 983_041)]})
 
@@ -131,8 +119,8 @@ class Pictures(unittest.TestCase):
         self.refused("line 1 is no line of survey: 'pilot", "survey", out, data=b"pilot phase=0 energy=0\n")
         self.refused("no line of follow that tells an event", "follow", out, data=b"pilot phase=0 energy=0\n")
         self.refused("line 1 is no line of follow: 'survey", "follow", out, data=b"survey pn=0 delta=0 energy=0\n")
-        sets = b"sets at=1 time=1 active=5/1 candidate= report=0\n"
-        self.refused("line 1 has an active pilot without its three numbers", "follow", out, data=sets)
+        sets = b"sets at=1 time=1 active=511/10 candidate= report=0\n"
+        self.refused("line 1 is no line of follow: active: '511/10' hasn't 3 numbers", "follow", out, data=sets)
         self.refused("isn't text of the program", "follow", out, data=b"\xff\n")
         self.refused("ends within the header", "correlation", out, data=b"IS95")
         self.refused("no sample file", "correlation", out, data=b"is95" + short[4:])

@@ -73,7 +73,7 @@ class Imports(unittest.TestCase):
         self.assertRegex(said, why)
         self.assertNotIn("Traceback", said)
         self.assertFalse(os.path.exists(self.out))
-        self.assertEqual([name for name in os.listdir(self.folder) if name.startswith(".import-")], [])
+        self.assertEqual([name for name in os.listdir(self.folder) if name.startswith(".part-")], [])
 
 
 class WholeSamples(Imports):

@@ -1,0 +1,29 @@
+"""The model's command line: `python3 -m model COMMAND ..`, with the words, the texts and the statuses of `cdma_replay`.
+
+    python3 -m model make < SCRIPT > FILE
+    python3 -m model follow --esn 0000abcd --row 10 < FILE
+"""
+
+import os
+import sys
+
+from model.run import WRITE_FAULT, run
+
+
+def main() -> int:
+    """Runs a command on standard input, and answers its exit status."""
+    outcome = run(sys.argv[1:], sys.stdin.buffer.read)
+    try:
+        for piece in outcome.written:
+            sys.stdout.buffer.write(piece)
+        sys.stdout.buffer.flush()
+    except OSError:
+        os.dup2(os.open(os.devnull, os.O_WRONLY), sys.stdout.fileno())  # what is left in the buffer goes there
+        outcome = WRITE_FAULT
+    if outcome.said:
+        print(outcome.said, file=sys.stderr)
+    return outcome.status
+
+
+if __name__ == "__main__":
+    sys.exit(main())

@@ -1,0 +1,48 @@
+"""The first so many code words, and frames that are taken from such lists (docs/FORMATS.md, `list`)."""
+
+import numpy as np
+
+from model.bits import Bits
+from model.coding import BRANCH_SIGNS, NEVER, RATE_SET_1, REVERSED, STATES, Rate
+from model.frames import Decoded, chosen, rate_softs, without
+
+
+def first_words(count: int, softs: np.ndarray, zero_ends: bool) -> list[tuple[int, Bits]]:
+    """The first words of soft values, two for each bit, in the order of words: scores, and bits.
+
+    Of each state so many words are kept, first ones first. Those of the state before whose leaving bit is 0 come
+    before those of the other one on a tie, so a stable sort by score merges the two lists in the order of words.
+    """
+    steps = len(softs) // 2
+    scores = np.full((256, count), NEVER)
+    scores[: 1 if zero_ends else 256, 0] = 0
+    taken = np.empty((steps, 256, count), int)
+    for step in range(steps):
+        branch = (softs[2 * step] * BRANCH_SIGNS[0] + softs[2 * step + 1] * BRANCH_SIGNS[1])[:, None]
+        both = np.hstack([scores[STATES >> 1] + branch, scores[STATES >> 1 | 128] - branch])
+        taken[step] = np.argsort(-both, axis=1, kind="stable")[:, :count]
+        scores = np.take_along_axis(both, taken[step], axis=1)
+    ends = [0] if zero_ends else sorted(range(256), key=lambda state: REVERSED[state])
+    first = sorted(((state, rank) for state in ends for rank in range(count)), key=lambda end: -scores[end])[:count]
+    return [(int(scores[end]), bits_back(taken, *end)) for end in first]
+
+
+def bits_back(taken: np.ndarray, state: int, rank: int) -> Bits:
+    """The bits of the word of a rank in a last state, by which word each step took: of either state before."""
+    bits = []
+    for step in reversed(range(len(taken))):
+        bits.append(state & 1)
+        left_one, rank = divmod(int(taken[step, state, rank]), taken.shape[2])
+        state = state >> 1 | left_one << 7
+    return bits[::-1]
+
+
+def listed_words(count: int, rate: Rate, softs: np.ndarray) -> list[tuple[int, Bits]]:
+    """The words of a rate that are looked through: so many where it has a quality indicator, else the best one."""
+    return first_words(count if rate.check else 1, rate_softs(rate, softs), zero_ends=True)
+
+
+def listed_frame(count: int, softs: np.ndarray, places: np.ndarray) -> Decoded:
+    """The frame of rate set 1 that turned soft values tell, by so many words of each rate."""
+    kept = without(softs, places)
+    return chosen(RATE_SET_1, [listed_words(count, rate, kept) for rate in RATE_SET_1])

@@ -1,0 +1,133 @@
+"""The union bound on frame errors: how far the words of a frame lie apart, and how often noise takes one for another.
+
+The code has rate 1/2, constraint length 9 and the generators 753 and 561, octal (7.1.3.1.3.1). A receiver that takes
+the best word errs only where some word whose path leaves the right one once, and comes back to it once, fits better:
+for a word that differs in several stretches, one of the stretches alone does too. The code is linear, so the right
+word may be that of zeros.
+"""
+
+import dataclasses
+import functools
+
+import numpy
+from numpy.typing import NDArray
+from scipy.special import ndtr
+from scipy.stats import binom
+
+GENERATORS = (0o753, 0o561)
+MEMORY = 8
+STATES = 1 << MEMORY
+SYMBOLS = 384
+SYMBOL_RATE = 19_200
+# Of the 24 symbols of a group 2 carry the power control bit (7.1.3.1.7).
+KEPT = 22 / 24
+# Of six repeated symbols of rate set 2, those that are sent (docs/LINK.md, "Rate set 2").
+SENT_OF_SIX = (0, 1, 3, 5)
+
+
+@dataclasses.dataclass(frozen=True)
+class Form:
+    """A frame: its bits before the tail (information and quality), how often each code symbol is repeated, its set."""
+
+    bits: int
+    repeats: int
+    rate_set: int
+
+
+# docs/LINK.md, "Channels and their frames" and "Rate set 2".
+FORMS = {
+    9_600: Form(184, 1, 1),
+    4_800: Form(88, 2, 1),
+    2_400: Form(40, 4, 1),
+    1_200: Form(16, 8, 1),
+    14_400: Form(280, 1, 2),
+    7_200: Form(136, 2, 2),
+    3_600: Form(64, 4, 2),
+    1_800: Form(28, 8, 2),
+}
+
+
+def times_sent(form: Form) -> NDArray[numpy.int64]:
+    """How often each code symbol is sent in a frame: a row of two for each bit, the tail's bits too."""
+    steps = form.bits + MEMORY
+    repeated = numpy.arange(2 * steps * form.repeats)
+    if form.rate_set == 2:
+        repeated = repeated[numpy.isin(repeated % 6, SENT_OF_SIX)]
+    return numpy.bincount(repeated // form.repeats, minlength=2 * steps).reshape(steps, 2)
+
+
+def branches() -> list[tuple[int, NDArray[numpy.int64], NDArray[numpy.int64]]]:
+    """The code's steps, parted so that no two of a part meet: the bit, the states before, the code symbols after.
+
+    A state's bit 7 is the newest bit; bit 8 of a window is the bit that comes in. The symbols are a row of two a state.
+    """
+    parts = []
+    for bit in (0, 1):
+        for oldest in (0, 1):
+            states = numpy.arange(oldest, STATES, 2)
+            windows = bit << MEMORY | states
+            symbols = [[(int(window) & taps).bit_count() & 1 for taps in GENERATORS] for window in windows]
+            parts.append((bit, states, numpy.array(symbols)))
+    return parts
+
+
+def words_by_weight(
+    sent: NDArray[numpy.int64], free: int, starts: int, most: int
+) -> NDArray[numpy.float64]:
+    """How many words of each weight 0 to `most` leave the word of zeros once and come back to it once.
+
+    `sent` says how often each step's two symbols are sent: a symbol of 1 weighs so much. The first `free` steps have
+    bits, the others zeros; words leave in the first `starts` steps, and come back before the end.
+    """
+    parts, counts, back = branches(), numpy.zeros((STATES, most + 1)), numpy.zeros(most + 1)
+    for step, weights in enumerate(sent):
+        after = numpy.zeros_like(counts)
+        for bit, states, symbols in parts:
+            if bit and step >= free:
+                continue
+            for weight in numpy.unique(symbols @ weights):
+                if weight <= most:
+                    chosen = states[symbols @ weights == weight]
+                    after[(bit << MEMORY | chosen) >> 1, weight:] += counts[chosen, : most + 1 - weight]
+        if step < min(free, starts) and sum(weights) <= most:
+            after[STATES >> 1, sum(weights)] += 1
+        back += after[0]
+        after[0] = 0
+        counts = after
+    return back
+
+
+def code_weights(most: int) -> NDArray[numpy.float64]:
+    """Of the code itself: how many words that leave at one step have each weight up to `most`.
+
+    Sixteen steps for each unit of weight are more than a word of that weight takes: the code isn't catastrophic, and
+    its words gain weight faster.
+    """
+    steps = 16 * most
+    return words_by_weight(numpy.ones((steps, 2), dtype=numpy.int64), steps, 1, most)
+
+
+@functools.cache
+def frame_weights(rate: int) -> NDArray[numpy.float64]:
+    """How many words of a frame of a rate have each weight, 0 to 384, in sent symbols."""
+    form = FORMS[rate]
+    return words_by_weight(times_sent(form), form.bits, form.bits, SYMBOLS)
+
+
+def symbol_ratio(rate: int, ratio: float) -> float:
+    """Es/Nt of a sent symbol, of an Eb/Nt: the channel's energy is that of its bits and of its power control bits."""
+    return ratio * rate / SYMBOL_RATE / KEPT
+
+
+def frame_bound(rate: int, ratio: float) -> float:
+    """The union bound on the share of frames that err at an Eb/Nt (a ratio), where the pilot is known; at most 1.
+
+    Each sent symbol is taken to be lost to a power control bit with the chance of 1 in 12, one by one: so of a word's
+    w symbols k are left with the binomial chance, and such a word is taken with the chance Q(sqrt(2 k Es/Nt)).
+    """
+    words = frame_weights(rate)
+    left = numpy.arange(SYMBOLS + 1)
+    taken = ndtr(-numpy.sqrt(2 * left * symbol_ratio(rate, ratio)))
+    weights = numpy.flatnonzero(words)
+    chances = binom.pmf(left[None, :], weights[:, None], KEPT) @ taken
+    return float(min(1.0, words[weights] @ chances))

@@ -1,0 +1,156 @@
+"""What the tests of the radio tools share: cells and recordings that are made without the program."""
+
+import contextlib
+import functools
+import importlib.machinery
+import importlib.util
+import io
+import os
+import subprocess
+import sys
+import tempfile
+import unittest
+from types import ModuleType
+from typing import Any
+
+import numpy
+from numpy.typing import NDArray
+
+from tools.make_capture import I_LAGS, Q_LAGS, signs
+from tools.tests.helping import HEADER, PYTHON, TOOLS
+
+CHIP_RATE = 1_228_800
+PERIOD = 32_768
+PHASE = 12_345
+# Amplitudes of a cell's Walsh rows: a pilot of -3.6 dB of the whole, as base stations have it or a little more.
+GAINS = {0: 100, 32: 40, 1: 80, 10: 70}
+
+
+def code() -> NDArray[numpy.complex128]:
+    """The pilot's code, by the recursions that make_capture has."""
+    return numpy.array(signs(I_LAGS)) + 1j * numpy.array(signs(Q_LAGS))
+
+
+def cell_chips(count: int, seed: int = 1, phase: int = PHASE, gains: dict[int, int] = GAINS) -> NDArray[numpy.complex128]:
+    """Chips of a cell whose first has a code phase: a pilot, and rows of random symbols."""
+    draws = numpy.random.default_rng(seed)
+    chip = phase + numpy.arange(count)
+    level = numpy.zeros(count)
+    for row, gain in gains.items():
+        signs_of_row = numpy.array([1 - 2 * (bin(row & place).count("1") % 2) for place in range(64)])
+        symbols = 1 - 2 * draws.integers(0, 2, count // 64 + 2) if row else numpy.ones(count // 64 + 2)
+        level += gain * signs_of_row[chip % 64] * symbols[(chip - phase // 64 * 64) // 64]
+    return level * code()[chip % PERIOD]
+
+
+def write_cell(path: str, chips: NDArray[numpy.complex128]) -> str:
+    """Writes a sample file of version 1."""
+    parts = numpy.stack([chips.real, chips.imag], axis=1)
+    with open(path, "wb") as file:
+        file.write(HEADER.pack(b"IS95", 1, 0, len(chips)) + parts.astype(">i2").tobytes())
+    return path
+
+
+def read_chips(path: str) -> NDArray[numpy.complex128]:
+    """The samples of a sample file of version 1."""
+    with open(path, "rb") as file:
+        data = file.read()
+    parts = numpy.frombuffer(data[HEADER.size :], dtype=">i2").astype(float)
+    return parts[0::2] + 1j * parts[1::2]
+
+
+def signal_to_noise(received: NDArray[numpy.complex128], sent: NDArray[numpy.complex128], window: int = 1_536) -> float:
+    """How well chips are the sent ones, times a gain that is fitted over each window as a handset does it: dB."""
+    count = min(len(received), len(sent)) // window * window
+    got, wanted = received[:count].reshape(-1, window), sent[:count].reshape(-1, window)
+    power = numpy.sum(numpy.abs(wanted) ** 2, axis=1)
+    gain = numpy.sum(got * wanted.conj(), axis=1) / power
+    noise = numpy.sum(numpy.abs(got - gain[:, None] * wanted) ** 2)
+    return float(10 * numpy.log10(numpy.sum(numpy.abs(gain) ** 2 * power) / noise))
+
+
+def figures(said: str) -> dict[str, str]:
+    """The name=value of the one line of a lock that has them."""
+    lines = [line for line in said.splitlines() if line.startswith("carrier_hz=")]
+    assert len(lines) == 1, said
+    return dict(word.split("=", 1) for word in lines[0].split())
+
+
+@functools.lru_cache(maxsize=None)
+def loaded(name: str) -> ModuleType:
+    """A tool as a module: so a run needs no new interpreter, which would load scipy each time."""
+    path = os.path.join(TOOLS, name)
+    loader = importlib.machinery.SourceFileLoader(f"tool_{name}", path)
+    module = importlib.util.module_from_spec(importlib.util.spec_from_loader(loader.name, loader))
+    sys.path.insert(0, TOOLS)
+    try:
+        loader.exec_module(module)
+        if name == "import_capture":
+            importlib.import_module("radio.locking")  # which it loads where it is asked to lock
+    finally:
+        sys.path.remove(TOOLS)
+    return module
+
+
+def run_main(name: str, *words: Any) -> tuple[int, str, str]:
+    """A run of a tool within this process: its status, what it wrote, and what it wrote on standard error."""
+    wrote, said = io.StringIO(), io.StringIO()
+    with contextlib.redirect_stdout(wrote), contextlib.redirect_stderr(said):
+        try:
+            status = loaded(name).main([str(word) for word in words])
+        except SystemExit as end:
+            status = end.code
+    return status, wrote.getvalue(), said.getvalue()
+
+
+class Recordings(unittest.TestCase):
+    """A folder with a cell of some length, and the two tools."""
+
+    CHIPS = 500_000
+
+    @classmethod
+    def setUpClass(cls) -> None:
+        folder = tempfile.TemporaryDirectory()
+        cls.addClassCleanup(folder.cleanup)
+        cls.folder = folder.name
+        cls.sent = cell_chips(cls.CHIPS)
+        cls.cell = write_cell(cls.at("cell.is95"), cls.sent)
+
+    @classmethod
+    def at(cls, name: str) -> str:
+        return os.path.join(cls.folder, name)
+
+    def run_tool(self, name: str, *words: Any, data: bytes = b"") -> tuple[int, bytes, str]:
+        """A tool's run: its status, what it wrote, and what it wrote on standard error."""
+        command = [PYTHON, "-B", os.path.join(TOOLS, name), *map(str, words)]
+        ran = subprocess.run(command, input=data, capture_output=True, timeout=300)
+        return ran.returncode, ran.stdout, ran.stderr.decode()
+
+    def recorded(self, *words: Any, cells: tuple[str, ...] | None = None, name: str = "in.sigmf-meta") -> str:
+        """A recording of the cell with the words of tools/channel."""
+        status, wrote, said = run_main("channel", *words, *(cells or (self.cell,)), self.at(name))
+        self.assertEqual((status, wrote), (0, ""), said)
+        return self.at(name)
+
+    def locked(self, recording: str, *words: Any, name: str = "out.is95") -> dict[str, str]:
+        """The figures of a lock; what it said is kept."""
+        status, wrote, self.said = run_main("import_capture", "--lock", *words, recording, self.at(name))
+        self.assertEqual((status, wrote), (0, ""), self.said)
+        return figures(self.said)
+
+    def refused(self, why: str, recording: str, *words: Any, status: int = 1) -> str:
+        """A lock that ends with words of why, and leaves no file."""
+        before = set(os.listdir(self.folder))
+        ended, wrote, said = run_main("import_capture", "--lock", *words, recording, self.at("none.is95"))
+        self.assertEqual((ended, wrote), (status, ""), said)
+        self.assertRegex(said, why)
+        self.assertNotIn("Traceback", said)
+        self.assertEqual(set(os.listdir(self.folder)), before)
+        return said
+
+    def aligned(self, path: str, found: dict[str, str]) -> tuple[NDArray[numpy.complex128], NDArray[numpy.complex128]]:
+        """The chips of a file, and those that the cell sent at the same places."""
+        chips = read_chips(path)
+        first = (int(found["phase"]) - PHASE) % PERIOD
+        first -= PERIOD if first > PERIOD // 2 else 0
+        return chips[max(0, -first) :], self.sent[max(0, first) :]

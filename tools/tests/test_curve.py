@@ -1,0 +1,368 @@
+"""`tools/curve` as a program: counts that don't hang on workers, broken runs, each fault; and curves of the program.
+
+Most of it runs over a stand-in for the program, `fake_receiver.py`, which lets the noise alone decide what is heard.
+"""
+
+import csv
+import json
+import os
+import re
+import resource
+import signal
+import sqlite3
+import subprocess
+import tempfile
+import time
+import unittest
+
+from tools.tests.helping import EXAMPLES, NO_PROGRAM, PROGRAM, PYTHON, ROOT, TOOLS, example, needs
+
+needs("numpy", "scipy", "matplotlib", "distributed")
+
+FAKE = os.path.join(ROOT, "tools", "tests", "fake_receiver.py")
+# A file of the stand-in has six frames to be heard; a run has 36 frames at each of two points, and so 12 batches.
+SAMPLES = 200_000
+FRAMES_A_FILE = 6
+FRAMES = 36
+BATCHES = 12
+SECONDS = 240
+# A worker's or a scheduler's command, as docs/CURVES.md has it.
+SERVER = [PYTHON, "-B", "-m"]
+ENDS = ("lost", "marked_bad", "bad_but_right", "other_rate", "wrong_but_good")
+
+
+class Curves(unittest.TestCase):
+    whole: list = []
+
+    def setUp(self):
+        folder = tempfile.TemporaryDirectory()
+        self.addCleanup(folder.cleanup)
+        self.folder = folder.name
+        text = re.sub(r"samples=\d+", f"samples={SAMPLES}", example("frames_9600.script").decode())
+        self.script = self.keep("it.script", text)
+        self.fake = self.program("fake")
+
+    def at(self, name):
+        return os.path.join(self.folder, name)
+
+    def keep(self, name, text):
+        with open(self.at(name), "w", encoding="ascii") as file:
+            file.write(text)
+        return self.at(name)
+
+    def program(self, name, fault=""):
+        """A stand-in for the program, with a fault."""
+        path = self.keep(
+            name,
+            f"#!/bin/sh\nFAKE_SCRIPT='{self.at('it.script')}' FAKE_FAULT='{fault}' exec {PYTHON} -B {FAKE} \"$@\"\n",
+        )
+        os.chmod(path, 0o755)
+        return path
+
+    def words(self, *more, frames=FRAMES, maker=None, out="out"):
+        """A run's command: two points of the script in a folder of its own, over the stand-in."""
+        maker = maker or self.fake
+        return [
+            PYTHON, "-B", os.path.join(TOOLS, "curve"), self.script, "--from", "1", "--to", "1.5", "--step", "0.5",
+            "--frames", str(frames), "--maker", maker, "--out", self.at(out),
+            *(() if {"--workers", "--scheduler"} & set(more) else ("--workers", "1")), *more,
+        ]  # fmt: skip
+
+    def rows_of_one_worker(self):
+        """The rows of a whole run by one worker, which is made once."""
+        if not Curves.whole:
+            self.assertEqual(self.ran(self.words(out="whole"))[0::2], (0, []))
+            Curves.whole = self.rows("whole")
+        return Curves.whole
+
+    def ran(self, words, **more):
+        """A run: its status, and its lines on both outputs."""
+        ended = subprocess.run(words, capture_output=True, text=True, timeout=SECONDS, cwd=self.folder, **more)
+        return ended.returncode, ended.stdout.splitlines(), ended.stderr.splitlines()
+
+    def refused(self, said, words, status=1, **more):
+        """A run that ends with a status, and with one line that says why."""
+        code, _, lines = self.ran(words, **more)
+        self.assertEqual(code, status, lines)
+        self.assertRegex(lines[-1], said)
+        if status == 1:
+            self.assertEqual(len(lines), 1, lines)
+
+    def rows(self, out="out"):
+        with open(os.path.join(self.at(out), "curve.csv"), newline="", encoding="ascii") as file:
+            return list(csv.DictReader(file))
+
+    def batches(self, out="out"):
+        """How many batches are kept."""
+        path = os.path.join(self.at(out), "counts.sqlite")
+        if not os.path.exists(path):
+            return 0
+        base = sqlite3.connect(path)
+        try:
+            return base.execute("select count(*) from batches").fetchone()[0]
+        except sqlite3.OperationalError:
+            return 0
+        finally:
+            base.close()
+
+    def wait_for(self, condition, ended):
+        """Waits until a condition holds; it must before a process ends."""
+        until = time.monotonic() + SECONDS
+        while not condition():
+            self.assertIsNone(ended.poll(), "the run ended too soon")
+            self.assertLess(time.monotonic(), until, "too slow")
+            time.sleep(0.05)
+
+    def start(self, words, **more):
+        """A process of its own, which ends with the test."""
+        child = subprocess.Popen(words, stdout=subprocess.DEVNULL, stderr=subprocess.DEVNULL, cwd=ROOT, **more)
+
+        def end():
+            child.kill()
+            child.wait()
+
+        self.addCleanup(end)
+        return child
+
+
+class Counts(Curves):
+    def test_one_worker_and_three_count_the_same(self):
+        code, table, lines = self.ran(self.words("--workers", "3"))
+        self.assertEqual((code, lines), (0, []))
+        self.assertEqual(len(table), 5)
+        self.assertEqual(self.rows(), self.rows_of_one_worker())
+        self.assertEqual(sorted(os.listdir(self.at("out"))), ["counts.sqlite", "curve.csv", "curve.png"])
+        with open(os.path.join(self.at("out"), "curve.png"), "rb") as file:
+            self.assertEqual(file.read(8), b"\x89PNG\r\n\x1a\n")
+
+    def test_each_frame_has_one_end(self):
+        frames = [row for row in self.rows_of_one_worker() if row["channel"] == "frame 9600"]
+        self.assertEqual([int(row["sent"]) for row in frames], [FRAMES, FRAMES])
+        for row in frames:
+            self.assertEqual(sum(int(row[end]) for end in ENDS), int(row["errors"]))
+            self.assertAlmostEqual(float(row["share"]), int(row["errors"]) / FRAMES, places=5)
+        self.assertTrue(all(sum(int(row[end]) for row in frames) for end in ENDS), frames)
+
+    def test_another_seed_counts_otherwise(self):
+        self.assertEqual(self.ran(self.words("--seed", "2"))[0], 0)
+        ends = [[[row[end] for end in ENDS] for row in rows] for rows in (self.rows(), self.rows_of_one_worker())]
+        self.assertNotEqual(*ends)
+
+    def test_errors_end_a_point_behind_the_file_that_has_them(self):
+        code, _, lines = self.ran(self.words("--errors", "1", frames=600))
+        self.assertEqual((code, lines), (0, []))
+        for row in self.rows():
+            if row["channel"] == "frame 9600":
+                self.assertGreaterEqual(int(row["errors"]), 1)
+                self.assertLess(int(row["sent"]), 600)
+                self.assertEqual(int(row["sent"]) % FRAMES_A_FILE, 0)
+
+    def test_a_finished_run_is_told_again_and_a_longer_one_goes_on(self):
+        self.assertEqual(self.ran(self.words(frames=12))[0], 0)
+        rows = self.rows()
+        kept = os.path.join(self.at("out"), "curve.csv")
+        self.assertEqual(self.ran(self.words("--against", kept, frames=12))[0], 0)
+        self.assertEqual((self.rows(), self.batches()), (rows, 4))
+        code, _, lines = self.ran(self.words("--against", kept))
+        self.assertEqual((self.rows(), self.batches()), (self.rows_of_one_worker(), BATCHES))
+        self.assertEqual((code, len(lines)), (1, 4))
+        self.assertRegex(lines[0], r"frame 9600 at 1 dB, seed 1995: kept sent=12 .*counted sent=36 ")
+        self.refused("has counts of another run .seed differ", self.words("--seed", "2"))
+
+    def test_another_receiver_stands_beside_ours(self):
+        other = self.program("other")
+        with open(other, "a", encoding="ascii") as file:
+            file.write("# another program\n")
+        more = ("--receiver", other, "--words", "follow", "--words", "list --k 2")
+        self.assertEqual(self.ran(self.words(*more, frames=6))[0::2], (0, []))
+        names = {row["receiver"] for row in self.rows()}
+        self.assertEqual(names, {"fake follow", "other follow", "fake list --k 2", "other list --k 2"})
+
+
+class Broken(Curves):
+    def test_a_killed_run_goes_on_where_it_was(self):
+        slow = self.program("fake", "slow")
+        child = self.start(self.words("--workers", "2", maker=slow))
+        self.wait_for(lambda: self.batches() >= 3, child)
+        child.send_signal(signal.SIGKILL)
+        child.wait()
+        self.assertLess(self.batches(), BATCHES)
+        self.assertEqual(self.ran(self.words(maker=slow))[0::2], (0, []))
+        self.assertEqual((self.rows(), self.batches()), (self.rows_of_one_worker(), BATCHES))
+
+    def test_an_interrupted_run_says_so(self):
+        slow = self.program("fake", "slow")
+        words = self.words(frames=600, maker=slow)
+        child = subprocess.Popen(words, stdout=subprocess.DEVNULL, stderr=subprocess.PIPE, text=True)
+        self.addCleanup(child.stderr.close)
+        self.wait_for(lambda: self.batches() >= 1, child)
+        child.send_signal(signal.SIGINT)
+        _, said = child.communicate(timeout=SECONDS)
+        self.assertEqual(said, "curve: broken off; the same words go on from what was counted\n")
+        self.assertEqual(child.returncode, 1)
+
+    def test_a_disk_that_is_full_keeps_what_was_counted(self):
+        """A limit on the size of files stands for the disk: a page of SQLite more than an empty file of counts."""
+        limit = 8 * 4_096
+
+        def limited():
+            signal.signal(signal.SIGXFSZ, signal.SIG_IGN)
+            resource.setrlimit(resource.RLIMIT_FSIZE, (limit, limit))
+
+        words = self.words("--errors", "6000", frames=6_000)
+        self.refused("counts.sqlite: (disk I/O error|database or disk is full)", words, preexec_fn=limited)
+        self.assertGreater(self.batches(), 0)
+        self.assertFalse(os.path.exists(os.path.join(self.at("out"), "curve.csv")))
+
+
+class Cluster(Curves):
+    def scheduler(self):
+        """A scheduler of its own on this machine, and its address."""
+        path = self.at("scheduler.json")
+        child = self.start(
+            [*SERVER, "distributed.cli.dask_scheduler", "--host", "127.0.0.1", "--port", "0", "--no-dashboard",
+             "--scheduler-file", path]
+        )  # fmt: skip
+
+        def address():
+            try:
+                with open(path, encoding="ascii") as file:
+                    return json.load(file)["address"]
+            except (OSError, ValueError):
+                return None
+
+        self.wait_for(address, child)
+        return child, address()
+
+    def worker(self, address):
+        """A worker of its own on this machine."""
+        return self.start(
+            [*SERVER, "distributed.cli.dask_worker", address, "--nthreads", "1", "--no-nanny", "--no-dashboard",
+             "--local-directory", self.folder]
+        )  # fmt: skip
+
+    def test_a_worker_that_dies_loses_nothing_and_counts_nothing_twice(self):
+        slow = self.program("fake", "slow")
+        _, address = self.scheduler()
+        first, second = self.worker(address), self.worker(address)
+        child = self.start(self.words("--scheduler", address, maker=slow))
+        self.wait_for(lambda: self.batches() >= 2, child)
+        first.send_signal(signal.SIGKILL)
+        self.assertEqual(child.wait(timeout=SECONDS), 0)
+        self.assertIsNone(second.poll())
+        self.assertEqual((self.rows(), self.batches()), (self.rows_of_one_worker(), BATCHES))
+
+    def test_a_scheduler_that_is_not_there(self):
+        self.refused("no scheduler at tcp://127.0.0.1:9", self.words("--scheduler", "tcp://127.0.0.1:9"))
+        self.refused("no scheduler at nonsense", self.words("--scheduler", "nonsense"))
+
+    def test_a_scheduler_that_dies(self):
+        slow = self.program("fake", "slow")
+        scheduler, address = self.scheduler()
+        self.worker(address)
+        words = self.words("--scheduler", address, frames=600, maker=slow)
+        child = subprocess.Popen(words, stdout=subprocess.DEVNULL, stderr=subprocess.PIPE, text=True)
+        self.addCleanup(child.stderr.close)
+        self.wait_for(lambda: self.batches() >= 1, child)
+        scheduler.send_signal(signal.SIGKILL)
+        _, said = child.communicate(timeout=SECONDS)
+        self.assertEqual((child.returncode, said), (1, "curve: the scheduler is gone, or gave up the run\n"))
+        self.assertGreater(self.batches(), 0)
+
+
+class Faults(Curves):
+    def test_receivers_that_fail(self):
+        for fault, said in (
+            ("status 5", "curve: .*/bad follow --esn 0000abcd --row 10 --offset 0 ended with 5"),
+            ("silent", "ended with 0 and wrote no lines"),
+            ("garbage", "line 1 is none of docs/FORMATS.md: at: 'x' is no number"),
+        ):
+            with self.subTest(fault):
+                bad = self.program("bad", fault)
+                self.refused(said, self.words("--receiver", bad, out=fault.split()[0]))
+
+    def test_a_receiver_that_does_not_end(self):
+        bad = self.program("bad", "hang")
+        self.refused("didn't end within 0.05 minutes", self.words("--receiver", bad, "--minutes", "0.05"))
+
+    def test_a_receiver_that_hears_no_sync_message_loses_all(self):
+        bad = self.program("bad", "status 1")
+        self.assertEqual(self.ran(self.words("--receiver", bad, frames=6))[0], 0)
+        lost = [row for row in self.rows() if row["receiver"] == "bad follow"]
+        self.assertEqual([(row["lost"], row["share"]) for row in lost if row["sent"] == "6"], 2 * [("6", "1.0")])
+
+    def test_what_is_kept_when_a_receiver_fails_in_mid_run(self):
+        flag = self.at("flag")
+        bad = self.keep("bad", f"#!/bin/sh\n[ -e '{flag}' ] && exit 5\nexec '{self.fake}' \"$@\"\n")
+        os.chmod(bad, 0o755)
+        words = self.words("--receiver", bad, frames=600)
+        child = self.start(words)
+        self.wait_for(lambda: self.batches() >= 2, child)
+        open(flag, "w", encoding="ascii").close()
+        self.assertEqual(child.wait(timeout=SECONDS), 1)
+        self.assertGreaterEqual(self.batches(), 2)
+
+    def test_programs_that_are_not_there(self):
+        self.refused("no program at .*/missing", self.words(maker=self.at("missing")))
+        self.refused("no program at .*/it.script", self.words("--receiver", self.script))
+
+    def test_scripts_that_name_no_channel(self):
+        self.script = os.path.join(EXAMPLES, "second_of_sync.script")
+        self.refused("second_of_sync.script: no traffic channel", self.words())
+        self.script = self.at("missing.script")
+        self.refused("missing.script: No such file", self.words())
+
+    def test_levels_that_samples_cannot_hold(self):
+        with open(self.script, encoding="ascii") as file:
+            self.script = self.keep("loud.script", file.read().replace("gain=34", "gain=3000"))
+        self.refused("leaves the range of samples", self.words())
+
+    def test_wrong_words(self):
+        for more in (
+            ("--frames", "0"), ("--seed", "-1"), ("--path", "0:1"), ("--path", "7"), ("--minutes", "0"),
+            ("--from", "nan"), ("--unknown",),
+        ):  # fmt: skip
+            with self.subTest(more):
+                self.refused("curve: error: ", self.words(*more), status=2)
+        self.refused("--to is below --from", self.words("--from", "3"))
+        self.refused("is heard by follow or list", self.words("--words", "rate2"))
+
+
+@unittest.skipUnless(PROGRAM, NO_PROGRAM)
+class OfTheProgram(Curves):
+    def measured(self, script, *more, begin, end="", frames=700, out="out"):
+        words = [
+            PYTHON, "-B", os.path.join(TOOLS, "curve"), os.path.join(EXAMPLES, script), "--from", str(begin),
+            "--to", str(end or begin), "--step", "1", "--frames", str(frames), "--errors", "1000",
+            "--maker", PROGRAM, "--out", self.at(out), *more,
+        ]  # fmt: skip
+        code, _, lines = self.ran(words)
+        self.assertEqual((code, lines), (0, []))
+        return self.rows(out)
+
+    def test_a_list_saves_frames_of_the_same_noise(self):
+        rows = self.measured("frames_9600.script", "--words", "follow", "--words", "list --k 4", begin=2)
+        found = {row["receiver"].split(" ", 1)[1]: int(row["errors"]) for row in rows if row["channel"] == "frame 9600"}
+        self.assertLess(found["list --k 4"], found["follow"])
+        self.assertGreater(found["list --k 4"], 0)
+
+    def test_frames_of_rate_set_2_and_none_lost_where_noise_is_weak(self):
+        rows = self.measured("frames_14400.script", begin=9, frames=300)
+        self.assertEqual([(row["channel"], row["errors"]) for row in rows], [("frame2 14400", "0")])
+
+    def test_messages_are_lost_in_strong_noise(self):
+        rows = {row["channel"]: row for row in self.measured("frames_1200.script", begin=-10, frames=300)}
+        self.assertGreater(int(rows["paging"]["errors"]), 0)
+        self.assertGreater(int(rows["sync"]["sent"]), 0)
+        self.assertEqual(rows["paging"]["errors"], rows["paging"]["lost"])
+
+    def test_a_second_finger_hears_the_second_path(self):
+        rows = self.measured(
+            "frames_9600.script", "--path", "7:1j", "--words", "follow", "--words", "follow --fingers 2", begin=5
+        )
+        found = {row["receiver"].split(" ", 1)[1]: int(row["errors"]) for row in rows if row["channel"] == "frame 9600"}
+        self.assertLess(10 * found["follow --fingers 2"], found["follow"])
+
+
+if __name__ == "__main__":
+    unittest.main()

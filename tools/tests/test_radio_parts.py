@@ -1,0 +1,246 @@
+"""The parts of tools/radio: the air, raw samples, the front, acquisition, tracking, fitting, each against what is known."""
+
+import os
+import tempfile
+import unittest
+
+from tools.tests.helping import needs
+
+needs("numpy", "scipy")
+
+import numpy  # noqa: E402
+
+from tools.radio import acquisition, air, fitting, front, paths, samples, second_pass, tracking  # noqa: E402
+from tools.tests.radio_helping import CHIP_RATE, PERIOD, cell_chips, code  # noqa: E402
+
+
+class Air(unittest.TestCase):
+    def test_the_code_is_that_of_the_recursions(self) -> None:
+        self.assertTrue(numpy.array_equal(air.short_code(), code()))
+
+    def test_the_filter_keeps_the_bounds_of_the_standard(self) -> None:
+        # 7.1.3.1.10: within 1.5 dB up to 590 kHz, and 40 dB down from 740 kHz on.
+        hertz = numpy.linspace(0, 900_000, 2_000)
+        level = 20 * numpy.log10(numpy.abs(air.pulse_spectrum(hertz / CHIP_RATE)) + 1e-9)
+        inside = level[hertz <= 590_000]
+        self.assertLessEqual(inside.max() - inside.min(), 3.0)
+        self.assertLess(level[hertz >= 740_000].max() - inside.max(), -40 + 1.5)
+
+    def test_a_pulse_has_unit_energy(self) -> None:
+        frequency = numpy.arange(-0.8, 0.8, 1e-4)
+        self.assertAlmostEqual(float(numpy.sum(air.pulse_spectrum(frequency) ** 2) * 1e-4), 1.0, delta=2e-3)
+
+    def test_the_phase_equaliser_is_an_all_pass(self) -> None:
+        frequency = numpy.linspace(-0.6, 0.6, 101)
+        response = air.equaliser_spectrum(frequency)
+        self.assertLess(numpy.abs(numpy.abs(response) - 1).max(), 1e-12)
+        self.assertAlmostEqual(response[50].real, 1.0)
+        # At w0 the formula is (j a) / (-j a).
+        self.assertAlmostEqual(complex(air.equaliser_spectrum(315_000 / CHIP_RATE)), -1 + 0j)
+
+
+class Raw(unittest.TestCase):
+    def setUp(self) -> None:
+        folder = tempfile.TemporaryDirectory()
+        self.addCleanup(folder.cleanup)
+        self.path = os.path.join(folder.name, "raw")
+
+    def kept(self, data: bytes, kind: str, **more: object) -> samples.Recording:
+        with open(self.path, "wb") as file:
+            file.write(data)
+        recording = samples.Recording(self.path, kind, 1e6, **more)
+        self.addCleanup(recording.close)
+        return recording
+
+    def test_each_type(self) -> None:
+        for kind, form, middle in (("cu8", "u1", 127.5), ("ci8", "i1", 0), ("ci16_le", "<i2", 0), ("ci16_be", ">i2", 0), ("cf32_le", "<f4", 0)):
+            parts = numpy.array([1, 2, 3, 4, 5, 6]).astype(form)
+            recording = self.kept(parts.tobytes(), kind)
+            self.assertEqual(recording.count, 3)
+            wanted = numpy.array([1 + 2j, 3 + 4j, 5 + 6j]) - middle * (1 + 1j)
+            self.assertTrue(numpy.array_equal(recording.read(0, 3), wanted), kind)
+
+    def test_places_outside_are_zeros(self) -> None:
+        recording = self.kept(bytes([1, 2, 3, 4]), "ci8")
+        self.assertEqual(recording.read(-1, 4).tolist(), [0, 1 + 2j, 3 + 4j, 0])
+        self.assertEqual(recording.read(7, 2).tolist(), [0, 0])
+
+    def test_skip_and_conjugate(self) -> None:
+        recording = self.kept(bytes([1, 2, 3, 4, 5, 6]), "ci8", skip=1, is_conjugate=True)
+        self.assertEqual(recording.read(0, 2).tolist(), [3 - 4j, 5 - 6j])
+
+    def test_faults(self) -> None:
+        with self.assertRaisesRegex(samples.Refused, "3 bytes are no whole number of samples of 2 bytes"):
+            self.kept(bytes(3), "ci8")
+        with self.assertRaisesRegex(samples.Refused, "none left behind --skip 4"):
+            self.kept(bytes(8), "ci8", skip=4)
+        recording = self.kept(numpy.array([0, 0, 0, numpy.nan], dtype="<f4").tobytes(), "cf32_le")
+        with self.assertRaisesRegex(samples.Refused, "sample 1 isn't finite"):
+            recording.read(0, 2)
+        with self.assertRaisesRegex(samples.Refused, "No such file"):
+            samples.Recording(self.path + ".none", "ci8", 1e6)
+
+
+class Given:
+    """Samples in memory, as a recording."""
+
+    def __init__(self, raw: numpy.ndarray, rate: float) -> None:
+        self.raw, self.rate, self.count = raw.astype(numpy.complex64), rate, len(raw)
+
+    def read(self, first: int, count: int) -> numpy.ndarray:
+        places = first + numpy.arange(count)
+        inside = (places >= 0) & (places < self.count)
+        return numpy.where(inside, self.raw[numpy.clip(places, 0, self.count - 1)], 0).astype(numpy.complex64)
+
+
+class Fronts(unittest.TestCase):
+    def test_blocks_are_exact_where_they_can_be(self) -> None:
+        for rate, chips, length in ((2_400_000, 1_024, 2_000), (4_000_000, 960, 3_125), (2_500_000, 1_536, 3_125), (4_915_200, 1_024, 4_096)):
+            self.assertEqual(front.block_size(rate / CHIP_RATE), (chips, length))
+
+    def test_any_rate_has_a_block(self) -> None:
+        for rate in (1_228_800, 1_500_000, 2_048_000, 2_399_987.1, 3_200_000, 20_000_000, 61_440_000):
+            block = front.block_size(rate / CHIP_RATE)
+            self.assertLess(abs(block.samples / block.chips * CHIP_RATE / rate - 1), 4e-5)
+
+    def test_a_tone_keeps_its_phase_and_takes_the_filters_level(self) -> None:
+        # Over rates, coarse carriers, paces and fractions: the output is the tone at the times that were asked for.
+        for rate, hertz, carrier, slope in ((2_400_000, 31_000.0, 0.0, 0.0), (4_000_000, -150_000.0, 12_000.0, 2e-5), (2_400_123, 70_000.0, -4_000.0, -3e-5)):
+            n = numpy.arange(60_000)
+            given = Given(numpy.exp(2j * numpy.pi * hertz / rate * n) + 0.5, rate)
+            made = front.Front(given)
+            made.set_carrier(carrier)
+            start, count = 1_234.567, 5_000
+            got = made.steady(start, count, 1, slope)
+            times = start + (1 + slope) * numpy.arange(count)
+            wanted = numpy.exp(2j * numpy.pi * (hertz - made.carrier) / CHIP_RATE * times)
+            level = complex(numpy.vdot(wanted, got)) / count
+            self.assertAlmostEqual(abs(level), float(air.pulse_spectrum((hertz - made.carrier) / CHIP_RATE)), delta=2e-3)
+            self.assertLess(abs(numpy.angle(level)), 2e-3)
+            self.assertLess(float(numpy.abs(got - level * wanted).max()), 0.02)
+
+    def test_turn(self) -> None:
+        turns = numpy.array([0, 0.25, 1e6 + 0.5, -0.25])
+        self.assertLess(float(numpy.abs(front.turn(turns) - [1, 1j, -1, -1j]).max()), 1e-6)
+
+
+class Acquisitions(unittest.TestCase):
+    def noisy(self, level: float, count: int = 60_000, hertz: float = 0.0, is_conjugate: bool = False) -> front.Front:
+        """A pilot of Ec/Io near `level` dB in white noise, at one sample a chip, half a chip off nowhere."""
+        draws = numpy.random.default_rng(5)
+        chips = cell_chips(count, phase=777, gains={0: 1}) * numpy.sqrt(10 ** (level / 10) / 2)
+        chips = chips * numpy.exp(2j * numpy.pi * hertz / CHIP_RATE * numpy.arange(count))
+        chips = chips + (draws.standard_normal(count) + 1j * draws.standard_normal(count)) / numpy.sqrt(2)
+        return front.Front(Given(chips.conj() if is_conjugate else chips, CHIP_RATE))
+
+    def test_phase_and_carrier(self) -> None:
+        for level, hertz in ((-10, 0.0), (-15, 9_100.0), (-19, -20_300.0)):
+            made = self.noisy(level, hertz=hertz)
+            found = acquisition.acquire(made, 21_000)
+            self.assertEqual((found.phase - 777 - round(found.time)) % PERIOD, 0)
+            self.assertLess(abs(acquisition.finer(made, found).hertz - hertz), 60)
+
+    def test_conjugate(self) -> None:
+        made = self.noisy(-10, hertz=3_000.0, is_conjugate=True)
+        found = acquisition.acquire(made, 9_000, (False, True))
+        self.assertTrue(found.is_conjugate)
+        self.assertLess(abs(found.hertz - 3_000), 200)
+        with self.assertRaises(samples.Refused):
+            acquisition.acquire(made, 9_000, (False,))
+
+    def test_noise_is_no_pilot(self) -> None:
+        with self.assertRaisesRegex(samples.Refused, r"the best energy is 0\.\d\d of the threshold"):
+            acquisition.acquire(self.noisy(-99), 9_000)
+
+    def test_the_threshold_is_the_tail_of_the_noise(self) -> None:
+        # One degree: exp(-x) cells of one recording in a million.
+        self.assertAlmostEqual(acquisition.least_energy(1_000, 1), float(numpy.log(1e9)), delta=1e-6)
+        draws = numpy.random.default_rng(2).gamma(4, size=2_000_000)
+        self.assertAlmostEqual(float(numpy.mean(draws > acquisition.least_energy(1e-2, 4))) / 1e-4, 1.0, delta=0.4)
+
+    def test_shorter_than_a_period(self) -> None:
+        with self.assertRaisesRegex(samples.Refused, "32767 chips are too few"):
+            acquisition.acquire(front.Front(Given(numpy.ones(32_767), CHIP_RATE)))
+
+
+class Lines(unittest.TestCase):
+    def test_a_line_goes_on(self) -> None:
+        line = tracking.Line(10, 0.0)
+        for x in range(20):
+            line.add(x, 3 + 0.5 * x, 1.0 + x % 3)
+        self.assertAlmostEqual(line.at(30)[0], 18.0)
+        self.assertAlmostEqual(line.at(30)[1], 0.5)
+
+    def test_stiffness_keeps_the_slope_near_0(self) -> None:
+        line = tracking.Line(10, 1e6)
+        for x in range(10):
+            line.add(x, 5.0 * x, 1.0)
+        self.assertLess(abs(line.at(100)[1]), 1e-3)
+
+    def test_the_clock_is_the_slope_of_most_energy(self) -> None:
+        # A path that goes away by 12 millionths, silent for a third of the time, and one that stands still and is weaker.
+        middles = tracking.SEGMENT * (numpy.arange(24) + 0.5)
+        delays = numpy.arange(-34, 35) / 2
+        rows = [
+            (0 if 6 <= number < 14 else 1) * numpy.sinc(delays - 0.5 - 12e-6 * middle) ** 2 + 0.4 * numpy.sinc(delays + 3) ** 2
+            for number, middle in enumerate(middles)
+        ]
+        slope, start = tracking.best_line(middles, numpy.array(rows), 34)
+        self.assertAlmostEqual(slope * 1e6, 12, delta=1.01)
+        self.assertAlmostEqual(start, 0.5, delta=0.26)
+
+
+class Curves(unittest.TestCase):
+    def test_a_curve_is_found_through_outliers(self) -> None:
+        x = numpy.linspace(0, 10, 200)
+        wanted = 0.3 * x + 0.02 * x**2
+        y = wanted + numpy.random.default_rng(1).normal(0, 0.01, len(x))
+        y[::17] += 3
+        curve = fitting.Curve(x, y, numpy.ones(len(x)), 5.0)
+        self.assertLess(float(numpy.abs(curve(x) - wanted).max()), 0.1)
+        self.assertAlmostEqual(float(curve.derivative(5.0)), 0.5, delta=0.05)
+
+    def test_few_points(self) -> None:
+        self.assertEqual(fitting.Curve([1], [7], [1], 2.0)(numpy.array([5.0])).tolist(), [7])
+        self.assertAlmostEqual(float(fitting.Curve([1, 2, 3], [1, 2, 3], [1, 1, 1], 2.0)(9.0)), 9.0)
+
+    def test_points_of_no_weight_do_not_count(self) -> None:
+        curve = fitting.Curve([0, 1, 2, 3], [0, 1, 99, 3], [1, 1, 0, 1], 9.0)
+        self.assertAlmostEqual(float(curve(2.0)), 2.0)
+
+
+class Paths(unittest.TestCase):
+    def test_peaks_of_two_paths(self) -> None:
+        delays = numpy.arange(-16, 17) / 2
+        energies = numpy.sinc(delays) ** 2 + 0.25 * numpy.sinc(delays - 4.5) ** 2
+        found = paths.peaks(energies)
+        self.assertEqual([round(way.delay, 1) for way in found], [0.0, 4.5])
+        self.assertAlmostEqual(found[1].level, -6.0, delta=0.5)
+
+
+class SecondPass(unittest.TestCase):
+    def test_ramps_are_turns(self) -> None:
+        turns, rates = numpy.array([0.1, 7.3]), numpy.array([1e-4, -3e-4])
+        wanted = front.turn(turns[:, None] + rates[:, None] * numpy.arange(976))
+        self.assertLess(float(numpy.abs(second_pass.ramps(turns, rates, 976) - wanted).max()), 1e-5)
+
+    def test_the_meter_measures_the_pilot(self) -> None:
+        draws = numpy.random.default_rng(1)
+        count = 20 * PERIOD + 700
+        chips = cell_chips(count, phase=99, gains={0: 1}) / numpy.sqrt(2)  # of power 1
+        chips = chips + (draws.standard_normal(count) + 1j * draws.standard_normal(count)) * numpy.sqrt(9 / 2)
+        meter = second_pass.PilotMeter()
+        meter.add(99, chips[:40_000].astype(numpy.complex64))
+        meter.add(99 + 40_000, chips[40_000:].astype(numpy.complex64))
+        self.assertAlmostEqual(meter.ec_io, -10.0, delta=0.1)
+
+    def test_parts_are_rounded_and_cut(self) -> None:
+        chips = numpy.array([1.4 - 2.6j, 400 + 5j], dtype=numpy.complex64)
+        parts, cut = second_pass.whole_parts(chips, 1.0, 2)
+        self.assertEqual((parts.tolist(), cut), ([1, -3, 127, 5], 1))
+        parts, cut = second_pass.whole_parts(chips, 100.0, 1)
+        self.assertEqual((parts.tolist(), cut), ([140, -260, 32_767, 500], 1))
+
+
+if __name__ == "__main__":
+    unittest.main()

@@ -1,0 +1,75 @@
+"""tools/scan: where a pilot stands out in recordings that tools/channel makes."""
+
+import unittest
+
+from tools.tests.helping import needs
+
+needs("numpy", "scipy")
+
+from tools.radio import scanning  # noqa: E402
+from tools.tests.radio_helping import Recordings, run_main  # noqa: E402
+
+
+class Centres(unittest.TestCase):
+    def test_a_raster_keeps_whole_channels(self) -> None:
+        self.assertEqual(scanning.raster(2_400_000), [0])
+        self.assertEqual(scanning.raster(5_000_000), [-1_250_000, 0, 1_250_000])
+        self.assertEqual(scanning.raster(5_000_000, 900_000), [-1_800_000, -900_000, 0, 900_000, 1_800_000])
+
+    def test_everywhere_leaves_no_gap(self) -> None:
+        centres = scanning.everywhere(2_400_000, 20_000)
+        steps = {round(b - a) for a, b in zip(centres, centres[1:])}
+        self.assertEqual(steps, {36_000})
+        self.assertGreater(centres[-1] + 20_000, 2_400_000 / 2 - scanning.HALF)
+
+
+class Scans(Recordings):
+    CHIPS = 120_000
+
+    def scanned(self, *words: object) -> tuple[int, list[dict[str, str]], str]:
+        """A scan's status, the figures of its lines, and what it said."""
+        status, wrote, said = run_main("scan", *words)
+        return status, [dict(word.split("=") for word in line.split()) for line in wrote.splitlines()], said
+
+    def test_a_wide_recording(self) -> None:
+        path = self.recorded("--type", "ci8", "--rate", 5_000_000, "--carrier", 1_250_300, "--clock", 4, "--ec-io", -10)
+        status, lines, _ = self.scanned("--search", 4_000, path)
+        self.assertEqual((status, len(lines)), (0, 1))
+        self.assertAlmostEqual(float(lines[0]["carrier_hz"]), 1_250_300, delta=30)
+        self.assertAlmostEqual(float(lines[0]["ec_io_db"]), -10, delta=1)
+        self.assertGreater(float(lines[0]["excess"]), 1)
+        self.assertEqual(lines[0]["conjugate"], "no")
+        # The carrier that it tells is one that the lock takes.
+        found = self.locked(path, "--shift", lines[0]["carrier_hz"], "--search", 500)
+        self.assertAlmostEqual(float(found["carrier_hz"]), 1_250_300, delta=10)
+
+    def test_all_frequencies(self) -> None:
+        path = self.recorded("--rate", 1_600_000, "--carrier", -310_700, "--ec-io", -8)
+        self.assertEqual(self.scanned("--search", 4_000, path)[0], 1)
+        status, lines, _ = self.scanned("--all", "--search", 100_000, path)
+        self.assertEqual((status, len(lines)), (0, 1))
+        self.assertAlmostEqual(float(lines[0]["carrier_hz"]), -310_700, delta=30)
+
+    def test_no_pilot(self) -> None:
+        path = self.recorded("--rate", 2_400_000, "--carrier", 100_000, "--ec-io", -8)
+        status, lines, said = self.scanned("--search", 4_000, path)
+        self.assertEqual((status, lines), (1, []))
+        self.assertRegex(said, r"scan: no pilot stands out at 1 centres: the best energy is 0\.\d\d of the threshold")
+        status, wrote, _ = run_main("scan", "--verbose", "--search", 4_000, path)
+        self.assertRegex(wrote, r"^no pilot round 0 Hz, excess=0\.\d\d\n$")
+
+    def test_words(self) -> None:
+        path = self.recorded()
+        for why, words in (
+            ("not allowed with", ("--all", "--step", "9", path)),
+            ("--type and --rate needed", (self.at("in.sigmf-data"),)),
+            ("--type can't be given", ("--type", "ci8", path)),
+            ("--search is at most 614400", ("--search", "1e6", path)),
+        ):
+            status, _, said = self.scanned(*words)
+            self.assertEqual(status, 2)
+            self.assertIn(why, said)
+
+
+if __name__ == "__main__":
+    unittest.main()
