@@ -50,7 +50,7 @@ impl Tap for CountingTap {
         self.limit = events;
     }
 
-    #[tactic(auto, unfolding(Rattle::event_tap::specs::EventLines::event_line, Rattle::event_tap::specs::Taps::form_line))]
+    #[tactic(auto, unfolding(event_tap::specs::EventLines::event_line, event_tap::specs::Taps::form_line))]
     fn hear(&mut self, event: &Event, out: &mut Text) -> Heard {
         match event {
             Event::Pilot { .. } | Event::Frame { .. } | Event::Sets { .. } => out.clear(),

@@ -14,10 +14,10 @@ fn message_of(body: &Bits) -> Result<TrafficMessage, Fail> {
 }
 
 /// The event of a message.
-fn traffic(at: u64, message: TrafficMessage) -> Event {
+fn traffic(at: u64, capsule: Bits, message: TrafficMessage) -> Event {
     Event::Traffic {
         at,
-        capsule: Bits::empty(),
+        capsule,
         message,
     }
 }
@@ -26,7 +26,7 @@ fn traffic(at: u64, message: TrafficMessage) -> Event {
 fn line_of(at: u64, body: &Bits) -> Result<Text, Fail> {
     let message = message_of(body)?;
     let mut text = Text::empty();
-    line_into(&traffic(at, message), &mut text);
+    line_into(&traffic(at, Bits::empty(), message), &mut text);
     Ok(text)
 }
 
@@ -158,15 +158,6 @@ fn lines_of_other_messages(rt: HostRuntime) -> Result<(), Fail> {
         assert_eq!(rt; line_of(737280, &body)?.bytes(), line.as_bytes());
     }
     Ok(())
-}
-
-/// The event of a message.
-fn traffic(at: u64, capsule: Bits, message: TrafficMessage) -> Event {
-    Event::Traffic {
-        at,
-        capsule,
-        message,
-    }
 }
 
 #[test]
