@@ -7,6 +7,7 @@ pub mod Times
 pub mod Signs
 pub mod Commands
 pub mod Frames
+pub mod OnlyBest
 pub mod Signaling
 pub mod NoneSent
 pub mod Back

@@ -6,6 +6,7 @@ pub mod DistinctWorked
 pub mod HeardFrames
 pub mod HeardPages
 pub mod HeardSignals
+pub mod OnlyBestFrames
 pub mod PageLaws
 pub mod PagingLaws
 pub mod ReceivedFrames

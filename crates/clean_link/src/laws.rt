@@ -10,6 +10,7 @@ ghost use Rattle.clean_link.specs.CleanLaws.{AreZeroWithoutSync, FramesAreZeros,
 ghost use Rattle.clean_link.specs.DistinctFrames.{FullRateFramesAreDistinct};
 ghost use Rattle.clean_link.specs.DistinctWorked.{AFullRateFrameIsDistinct, ZerosAreShared};
 ghost use Rattle.clean_link.specs.HeardPages.{PagesComeBack};
+ghost use Rattle.clean_link.specs.OnlyBestFrames.{HeardAreTheOnlyBest, ReceivedAreTheOnlyBest, SetTwoAreTheOnlyBest};
 ghost use Rattle.clean_link.specs.PageLaws.{PageSendingsComeBack, WholePagesComeBack};
 ghost use Rattle.clean_link.specs.PagingLaws.{MarksTellTheRate, PagingFramesComeBack};
 ghost use Rattle.clean_link.specs.PagingLaws.{PagingHaveSentSigns, PagingWordsAreTheOnlyBest};
@@ -58,6 +59,15 @@ pub fn sent_words_are_the_only_best()
     ensures channel { ChannelWordsAreTheOnlyBest }
     ensures sent { SentWordsAreTheOnlyBest }
     ensures paging { PagingWordsAreTheOnlyBest }
+{}
+
+/// The frames of a traffic channel are encoded one by one. Of all words of every rate of its rate set,
+/// their quality indicators right or not, the word of a distinct frame alone has the greatest score
+/// under the frame's soft values, at the places that power control bits leave.
+pub fn sent_frames_are_the_only_best()
+    ensures heard { HeardAreTheOnlyBest }
+    ensures received { ReceivedAreTheOnlyBest }
+    ensures set_two { SetTwoAreTheOnlyBest }
 {}
 
 /// On the sync channel a handset hears the sendings that lie in the file whole, each with its

@@ -82,7 +82,7 @@ one_each {A} {B} f (x ∷ xs) = ap (λ (ys : List B). f x ∷ ys) (one_each f xs
 -- ---- one frame
 
 -- it has as many information bits as its rate
-sized : (width : Width) (plan : CellPlan) (p : TrafficPlan) (t : Tuning) (traffic : Traffic)
+pub sized : (width : Width) (plan : CellPlan) (p : TrafficPlan) (t : Tuning) (traffic : Traffic)
     (m : Mark) (legs : ℕ → List Leg) (superframes k : ℕ) (f : TrafficFrame) →
     HearsTraffic width plan p t traffic m superframes →
     IsHeardAs plan p t traffic m legs superframes k f → IsTrafficFrame f
