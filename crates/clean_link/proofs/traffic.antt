@@ -16,3 +16,7 @@ pub mod KeptSymbols
 pub mod HiddenWords
 pub mod FullRate
 pub mod WorkedFrames
+pub mod SharedWords
+pub mod SharedFrames
+pub mod PowerPlaces
+pub mod DistinctPlan

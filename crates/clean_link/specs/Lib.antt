@@ -2,6 +2,7 @@ pub mod ChannelLaws
 pub mod CleanLaws
 pub mod CleanLink
 pub mod DistinctFrames
+pub mod DistinctPlan
 pub mod DistinctWorked
 pub mod HeardFrames
 pub mod HeardPages
@@ -13,6 +14,7 @@ pub mod ReceivedFrames
 pub mod ReceivedLaws
 pub mod SentEvents
 pub mod SentWords
+pub mod SharedWords
 pub mod Signals
 pub mod TrafficLaws
 pub mod WholePages

@@ -8,6 +8,7 @@
 ghost use Rattle.clean_link.specs.ChannelLaws.{ChannelFramesComeBack, ChannelWordsAreTheOnlyBest, ChannelsHaveSentSigns, EarlyFramesAreZero, SilentRowsAreZero, StreamsShowSymbols, StrengthsArePositive};
 ghost use Rattle.clean_link.specs.CleanLaws.{AreZeroWithoutSync, FramesAreZeros, FramesComeBack, HaveSentSigns, IsMarkedWhereHeard, MarksAreTrue, SentWordsAreTheOnlyBest, WholeSendingsComeBack};
 ghost use Rattle.clean_link.specs.DistinctFrames.{FullRateFramesAreDistinct};
+ghost use Rattle.clean_link.specs.DistinctPlan.{HasMark, HasSetOne, HasSetTwo};
 ghost use Rattle.clean_link.specs.DistinctWorked.{AFullRateFrameIsDistinct, ZerosAreShared};
 ghost use Rattle.clean_link.specs.HeardPages.{PagesComeBack};
 ghost use Rattle.clean_link.specs.OnlyBestFrames.{HeardAreTheOnlyBest, ReceivedAreTheOnlyBest, SetTwoAreTheOnlyBest};
@@ -20,6 +21,7 @@ ghost use Rattle.clean_link.specs.ReceivedLaws.{EachFrameIsReceived, FramesBehin
 ghost use Rattle.clean_link.specs.ReceivedLaws.{FramesShowSymbols, SetOneSends, SetTwoBehindMark};
 ghost use Rattle.clean_link.specs.ReceivedLaws.{SetTwoFramesComeBack, SetTwoSends};
 ghost use Rattle.clean_link.specs.SentEvents.{NoEventIsDirected, WholeMessagesComeBack};
+ghost use Rattle.clean_link.specs.SharedWords.{AreDistinctBySharing, AreDistinctBySharing2};
 ghost use Rattle.clean_link.specs.TrafficLaws.{CommandsComeBack, EachFrameIsHeard};
 ghost use Rattle.clean_link.specs.TrafficLaws.{NoneIsDirected, OnePilotIsHeard};
 ghost use Rattle.clean_link.specs.TrafficLaws.{SentFramesComeBack, SentMessagesComeBack};
@@ -157,4 +159,17 @@ pub fn some_frames_are_distinct()
     ensures full_rate { FullRateFramesAreDistinct }
     ensures worked { AFullRateFrameIsDistinct }
     ensures zeros { ZerosAreShared }
+{}
+
+/// A frame of any rate is distinct where a search bit by bit, of the words of every rate of its rate
+/// set that share its symbols at the places that power control bits leave, finds just its own. Of one
+/// lawful cell with a mark, which follows from its first whole sending, the frames of two channels
+/// that begin there or later and lie in the file are distinct, and there is one of each rate of both
+/// rate sets.
+pub fn frames_of_each_rate_are_distinct()
+    ensures shared { AreDistinctBySharing }
+    ensures shared_two { AreDistinctBySharing2 }
+    ensures marked { HasMark }
+    ensures set_one { HasSetOne }
+    ensures set_two { HasSetTwo }
 {}
