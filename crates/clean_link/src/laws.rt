@@ -10,6 +10,7 @@ ghost use Rattle.clean_link.specs.CleanLaws.{AreZeroWithoutSync, FramesAreZeros,
 ghost use Rattle.clean_link.specs.DistinctFrames.{FullRateFramesAreDistinct};
 ghost use Rattle.clean_link.specs.DistinctPlan.{HasMark, HasSetOne, HasSetTwo};
 ghost use Rattle.clean_link.specs.DistinctWorked.{AFullRateFrameIsDistinct, ZerosAreShared};
+ghost use Rattle.clean_link.specs.HeardEach.{EachChannelComesBack};
 ghost use Rattle.clean_link.specs.HeardPages.{PagesComeBack};
 ghost use Rattle.clean_link.specs.OnlyBestFrames.{HeardAreTheOnlyBest, ReceivedAreTheOnlyBest, SetTwoAreTheOnlyBest};
 ghost use Rattle.clean_link.specs.PageLaws.{PageSendingsComeBack, WholePagesComeBack};
@@ -149,6 +150,16 @@ pub fn frames_are_received_of_the_reference()
 pub fn whole_messages_come_back()
     ensures undirected { NoEventIsDirected }
     ensures heard { WholeMessagesComeBack }
+{}
+
+/// Where no handoff is directed, a handset hears of the sync channel just the whole sendings; of the
+/// paging channel that it follows just the whole pages, where the cell sends the channel or no traffic
+/// channel has its row; and of a traffic channel that it follows, where the cell sends the channel with
+/// frames of rate set 1, one frame for each that begins at the mark or behind it and lies in the file,
+/// with its power control bits, and with its rate and its information bits, as a good frame, where it
+/// is distinct; and where each of them is, just the messages that the signaling in them spells.
+pub fn each_channel_comes_back()
+    ensures { EachChannelComesBack }
 {}
 
 /// A frame of 9,600 bits a second is distinct where the code symbols that power control bits leave

@@ -103,7 +103,7 @@ frame_back width plan p t traffic m legs superframes k f is heard distinct =
     (sized width plan p t traffic m legs superframes k f is heard) shown.shows distinct
 
 -- what is heard of it
-heard_as : (n : ℕ) (f : TrafficFrame) (score : ℕ) (frame : Decoded) (commands : List Bool) →
+pub heard_as : (n : ℕ) (f : TrafficFrame) (score : ℕ) (frame : Decoded) (commands : List Bool) →
     frame ≡ record { rate = f.rate; good = true; bits = f.information; score = pos score } →
     commands ≡ sent_commands f → frame_event n frame commands ≡ sent_frame_event n f
 heard_as n f score frame commands is sent =
