@@ -11,15 +11,15 @@ use Rattle.quality_bits.specs.declared.rate.Rate.TheVariants.{R9600, R4800, R240
 use Rattle.symbol_path.specs.declared.rate_two.Rate2.{Rate2}
 use Rattle.symbol_path.specs.declared.rate_two.Rate2.TheVariants.{R14400, R7200, R3600, R1800}
 use Rattle.sync_message.specs.declared.fields.SyncFields.{SyncFields}
-use Rattle.base_modulator.specs.Signal.{frames_of}
-use Rattle.base_modulator.specs.TrafficFrames.{cycled_frame}
-use Rattle.base_modulator.specs.declared.frame_list.FrameList.TheVariants.{SetOne, SetTwo}
-use Rattle.base_modulator.specs.declared.plan.CellPlan.{CellPlan}
-use Rattle.base_modulator.specs.declared.plan.TrafficPlan.{TrafficPlan}
-use Rattle.base_modulator.specs.declared.traffic_frame.TrafficFrame.{TrafficFrame}
-use Rattle.base_modulator.specs.declared.traffic_frame2.TrafficFrame2.{TrafficFrame2}
-use Rattle.mobile_core.specs.declared.settings.Traffic.{Traffic}
-use Rattle.clean_link.specs.CleanLink.{IsReceivable}
+use Rattle.cell_plan.specs.Signal.{frames_of}
+use Rattle.cell_plan.specs.TrafficFrames.{cycled_frame}
+use Rattle.cell_plan.specs.declared.frame_list.FrameList.TheVariants.{SetOne, SetTwo}
+use Rattle.cell_plan.specs.declared.plan.CellPlan.{CellPlan}
+use Rattle.cell_plan.specs.declared.plan.TrafficPlan.{TrafficPlan}
+use Rattle.cell_plan.specs.declared.traffic_frame.TrafficFrame.{TrafficFrame}
+use Rattle.cell_plan.specs.declared.traffic_frame2.TrafficFrame2.{TrafficFrame2}
+use Rattle.chip_core.specs.declared.assignment.Traffic.{Traffic}
+use Rattle.cell_plan.specs.Stated.{IsReceivable}
 use Rattle.clean_link.specs.HeardFrames.{is_received, received_frames, replaced_of, IsAssigned}
 use Rattle.clean_link.specs.HeardFrames.{SendsSetTwo}
 use Rattle.clean_link.specs.ReceivedFrames.{cycled_frame2, IsDistinctFrame2}
@@ -96,8 +96,8 @@ first_channel = record {
   offset = 0;
   gain = 20;
   frames = SetOne (
-    frame_at R9600 bits_9600 ∷ frame_at R4800 bits_4800
-    ∷ frame_at R2400 bits_2400 ∷ frame_at R1200 bits_1200 ∷ []);
+      frame_at R9600 bits_9600 ∷ frame_at R4800 bits_4800
+      ∷ frame_at R2400 bits_2400 ∷ frame_at R1200 bits_1200 ∷ []);
 }
 
 abbrev pub second_channel : TrafficPlan
@@ -107,8 +107,8 @@ second_channel = record {
   offset = 0;
   gain = 20;
   frames = SetTwo (
-    frame2_at R14400 bits_14400 ∷ frame2_at R7200 bits_7200
-    ∷ frame2_at R3600 bits_3600 ∷ frame2_at R1800 bits_1800 ∷ []);
+      frame2_at R14400 bits_14400 ∷ frame2_at R7200 bits_7200
+      ∷ frame2_at R3600 bits_3600 ∷ frame2_at R1800 bits_1800 ∷ []);
 }
 
 -- The cell sends both, and the file has eight superframes. The long code's state is 1 at chip

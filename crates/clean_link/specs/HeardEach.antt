@@ -4,22 +4,23 @@ use Rattle.std.specs.Prelude.{None, Option, Some}
 use Rattle.std.specs.List.{Contains}
 use Rattle.chip_core.specs.declared.width.Width.{Width}
 use Rattle.frame_decoder.specs.declared.traffic.Decoded.{Decoded}
-use Rattle.base_modulator.specs.Plan.{IsFreeOf}
-use Rattle.base_modulator.specs.Sampled.{made_samples}
-use Rattle.base_modulator.specs.Signal.{frames_of}
-use Rattle.base_modulator.specs.TrafficFrames.{cycled_frame}
-use Rattle.base_modulator.specs.declared.plan.CellPlan.{CellPlan}
-use Rattle.base_modulator.specs.declared.plan.PagingPlan.{PagingPlan}
-use Rattle.base_modulator.specs.declared.plan.TrafficPlan.{TrafficPlan}
-use Rattle.base_modulator.specs.declared.traffic_frame.TrafficFrame.{TrafficFrame}
+use Rattle.cell_plan.specs.Plan.{IsFreeOf}
+use Rattle.cell_plan.specs.Sampled.{made_samples}
+use Rattle.cell_plan.specs.Signal.{frames_of}
+use Rattle.cell_plan.specs.TrafficFrames.{cycled_frame}
+use Rattle.cell_plan.specs.declared.plan.CellPlan.{CellPlan}
+use Rattle.cell_plan.specs.declared.plan.PagingPlan.{PagingPlan}
+use Rattle.cell_plan.specs.declared.plan.TrafficPlan.{TrafficPlan}
+use Rattle.cell_plan.specs.declared.traffic_frame.TrafficFrame.{TrafficFrame}
 use Rattle.mobile_core.specs.Events.{events}
 use Rattle.mobile_core.specs.TrafficEvents.{frame_event}
 use Rattle.mobile_core.specs.Tuning.{Tuning}
 use Rattle.mobile_core.specs.declared.event.Event.{Event}
 use Rattle.mobile_core.specs.declared.event.Event.TheVariants.{Frame, Paging, Sync}
 use Rattle.mobile_core.specs.declared.event.Event.TheVariants.{Traffic as OnTraffic}
-use Rattle.mobile_core.specs.declared.settings.Traffic.{Traffic}
-use Rattle.clean_link.specs.CleanLink.{IsNotDirected, IsOnPath, IsReceivable, sync_sent}
+use Rattle.chip_core.specs.declared.assignment.Traffic.{Traffic}
+use Rattle.clean_link.specs.CleanLink.{IsNotDirected, IsOnPath, sync_sent}
+use Rattle.cell_plan.specs.Stated.{IsReceivable}
 use Rattle.clean_link.specs.HeardFrames.{frame_ends, is_received, received_frames, replaced_of}
 use Rattle.clean_link.specs.HeardFrames.{sent_commands, sent_frame_event, AreDistinct}
 use Rattle.clean_link.specs.HeardFrames.{IsAssigned, IsDistinctFrame, SendsSetOne}

@@ -11,18 +11,18 @@ use Rattle.viterbi.specs.declared.word.Ends.TheVariants.{Zero}
 use Rattle.frame_decoder.specs.Laws.{frame_word}
 use Rattle.frame_decoder.specs.TrafficFrames.{frame_bits, frame_score, unreplaced}
 use Rattle.rate_set_two.specs.TrafficFrames as second
-use Rattle.base_modulator.specs.Sampled.{made_samples}
-use Rattle.base_modulator.specs.TrafficFrames.{IsTrafficFrame, IsTrafficFrame2}
-use Rattle.base_modulator.specs.declared.plan.CellPlan.{CellPlan}
-use Rattle.base_modulator.specs.declared.plan.TrafficPlan.{TrafficPlan}
-use Rattle.base_modulator.specs.declared.traffic_frame.TrafficFrame.{TrafficFrame}
-use Rattle.base_modulator.specs.declared.traffic_frame2.TrafficFrame2.{TrafficFrame2}
+use Rattle.cell_plan.specs.Sampled.{made_samples}
+use Rattle.cell_plan.specs.TrafficFrames.{IsTrafficFrame, IsTrafficFrame2}
+use Rattle.cell_plan.specs.declared.plan.CellPlan.{CellPlan}
+use Rattle.cell_plan.specs.declared.plan.TrafficPlan.{TrafficPlan}
+use Rattle.cell_plan.specs.declared.traffic_frame.TrafficFrame.{TrafficFrame}
+use Rattle.cell_plan.specs.declared.traffic_frame2.TrafficFrame2.{TrafficFrame2}
 use Rattle.mobile_core.specs.Streams.{frame_softs}
 use Rattle.mobile_core.specs.TrafficStreams.{replaced_in, stream_of}
 use Rattle.mobile_core.specs.Tuning.{Tuning}
 use Rattle.mobile_core.specs.declared.legs.Leg.{Leg}
 use Rattle.mobile_core.specs.declared.mark.Mark.{Mark}
-use Rattle.mobile_core.specs.declared.settings.Traffic.{Traffic}
+use Rattle.chip_core.specs.declared.assignment.Traffic.{Traffic}
 use Rattle.mobile_core.specs.declared.soft_frame.SoftFrame.{SoftFrame}
 use Rattle.clean_link.specs.HeardFrames.{replaced_of, word_symbols, IsDistinctFrame}
 use Rattle.clean_link.specs.ReceivedFrames.{word_symbols2, IsDistinctFrame2, IsReceivedAs}

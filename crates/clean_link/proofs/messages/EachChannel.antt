@@ -12,14 +12,14 @@ use Rattle.chip_core.specs.declared.width.Width.{Width}
 use Rattle.chip_core.proofs.Ranges.{flat_map_ext_places}
 use Rattle.frame_decoder.specs.Laws.{kept_count}
 use Rattle.rake_finger.specs.declared.form.Form.TheVariants.{Data}
-use Rattle.base_modulator.specs.Plan.{IsFreeOf}
-use Rattle.base_modulator.specs.Sampled.{made_samples}
-use Rattle.base_modulator.specs.Signal.{frames_of}
-use Rattle.base_modulator.specs.TrafficFrames.{cycled_frame}
-use Rattle.base_modulator.specs.declared.plan.CellPlan.{CellPlan}
-use Rattle.base_modulator.specs.declared.plan.PagingPlan.{PagingPlan}
-use Rattle.base_modulator.specs.declared.plan.TrafficPlan.{TrafficPlan}
-use Rattle.base_modulator.specs.declared.traffic_frame.TrafficFrame.{TrafficFrame}
+use Rattle.cell_plan.specs.Plan.{IsFreeOf}
+use Rattle.cell_plan.specs.Sampled.{made_samples}
+use Rattle.cell_plan.specs.Signal.{frames_of}
+use Rattle.cell_plan.specs.TrafficFrames.{cycled_frame}
+use Rattle.cell_plan.specs.declared.plan.CellPlan.{CellPlan}
+use Rattle.cell_plan.specs.declared.plan.PagingPlan.{PagingPlan}
+use Rattle.cell_plan.specs.declared.plan.TrafficPlan.{TrafficPlan}
+use Rattle.cell_plan.specs.declared.traffic_frame.TrafficFrame.{TrafficFrame}
 use Rattle.mobile_core.specs.Events.{events, events_at, events_within, frame_events_at}
 use Rattle.mobile_core.specs.Events.{message_events_at, paging_events_at}
 use Rattle.mobile_core.specs.Marks.{mark}
@@ -33,10 +33,11 @@ use Rattle.mobile_core.specs.Tuning.{Tuning}
 use Rattle.mobile_core.specs.declared.event.Event.{Event}
 use Rattle.mobile_core.specs.declared.legs.Leg.{Leg}
 use Rattle.mobile_core.specs.declared.mark.Mark.{Mark}
-use Rattle.mobile_core.specs.declared.settings.Traffic.{Traffic}
+use Rattle.chip_core.specs.declared.assignment.Traffic.{Traffic}
 use Rattle.mobile_core.proofs.MarkStays.{frames_by_one_mark, messages_by_one_mark}
 use Rattle.clean_link.specs.CleanLink.{soft_strength, sync_sent, IsNotDirected, IsOnPath}
-use Rattle.clean_link.specs.CleanLink.{IsReceivable, IsTunedTo}
+use Rattle.clean_link.specs.CleanLink.{IsTunedTo}
+use Rattle.cell_plan.specs.Stated.{IsReceivable}
 use Rattle.clean_link.specs.HeardEach.{is_frame, is_message, is_page, is_sync, AreEventsOf}
 use Rattle.clean_link.specs.HeardEach.{AreFramesBehind, AreMessagesBehind, EachChannelComesBack}
 use Rattle.clean_link.specs.HeardEach.{FollowsOne, IsEventOf}
@@ -92,17 +93,20 @@ module _ (width : Width) (plan : CellPlan) (p : TrafficPlan) (t : Tuning) (traff
       let ends = frame_ends plan p number in
       let decoded = decoded_at t traffic m legs samples k in
       let commands = commands_back width plan p t traffic m legs superframes k f is heard in
-      let score = soft_strength plan Data p.gain * kept_count (replaced_in traffic m k) in
-      (f, frame, record {
-        decoded = decoded;
-        powered = ap (frame_event ends decoded) commands;
-        back = λ distinct.
-            heard_as ends f score decoded (commands_at t traffic m legs samples k)
-            (frame_back width plan p t traffic m legs superframes k f is heard
-            (subst (λ (ps : List ℕ). IsDistinctFrame ps f)
-            (same_places width plan p t traffic m superframes is latest k) distinct))
-            commands;
-      })
+      let score = soft_strength plan Data p.gain * kept_count (replaced_in traffic m k) in (
+        f,
+        frame,
+        record {
+          decoded = decoded;
+          powered = ap (frame_event ends decoded) commands;
+          back = λ distinct.
+              heard_as ends f score decoded (commands_at t traffic m legs samples k)
+              (frame_back width plan p t traffic m legs superframes k f is heard
+              (subst (λ (ps : List ℕ). IsDistinctFrame ps f)
+              (same_places width plan p t traffic m superframes is latest k) distinct))
+              commands;
+        },
+      )
 
   -- of one that is received
   event_of : SendsSetOne p → (frame : ℕ) →

@@ -28,7 +28,7 @@ use Rattle.mobile_core.specs.declared.event.Event.TheVariants.{Frame, Paging, Pi
 use Rattle.mobile_core.specs.declared.event.Event.TheVariants.{Traffic as OnTraffic}
 use Rattle.mobile_core.specs.declared.legs.Leg.{Leg}
 use Rattle.mobile_core.specs.declared.mark.Mark.{Mark}
-use Rattle.mobile_core.specs.declared.settings.Traffic.{Traffic}
+use Rattle.chip_core.specs.declared.assignment.Traffic.{Traffic}
 use Rattle.clean_link.specs.HeardEach.{is_frame, is_message, is_page, is_sync}
 use Rattle.clean_link.specs.HeardPages.{type_within}
 

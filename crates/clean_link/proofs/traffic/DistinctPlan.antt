@@ -25,17 +25,17 @@ use Rattle.symbol_path.specs.declared.rate_two.Rate2.TheVariants.{R14400, R7200,
 use Rattle.symbol_path.proofs.SymbolChips.{on_again}
 use Rattle.sync_message.specs.SyncMessage.{sync_body, sync_capsule, IsSyncMessage}
 use Rattle.traffic_message.specs.Multiplex.{split, split_9600}
-use Rattle.base_modulator.specs.Plan.{loudness, AreLawfulBeside, IsFreeOf}
-use Rattle.base_modulator.specs.Plan.{IsLawfulPlan, IsPagingPlan, IsTrafficPlan}
-use Rattle.base_modulator.specs.Pages.{paging_rate}
-use Rattle.base_modulator.specs.ScriptPlans.{IsStatedPaging}
-use Rattle.base_modulator.specs.Signal.{frames_of}
-use Rattle.base_modulator.specs.TrafficFrames.{cycled_frame, IsTrafficFrame, IsTrafficFrame2}
-use Rattle.base_modulator.specs.declared.plan.PagingPlan.{PagingPlan}
-use Rattle.base_modulator.specs.declared.plan.TrafficPlan.{TrafficPlan}
-use Rattle.base_modulator.specs.declared.traffic_frame.TrafficFrame.{TrafficFrame}
-use Rattle.base_modulator.specs.declared.traffic_frame2.TrafficFrame2.{TrafficFrame2}
-use Rattle.clean_link.specs.CleanLink.{IsReceivable}
+use Rattle.cell_plan.specs.Plan.{loudness, AreLawfulBeside, IsFreeOf}
+use Rattle.cell_plan.specs.Plan.{IsLawfulPlan, IsPagingPlan, IsTrafficPlan}
+use Rattle.cell_plan.specs.Pages.{paging_rate}
+use Rattle.cell_plan.specs.Stated.{IsStatedPaging}
+use Rattle.cell_plan.specs.Signal.{frames_of}
+use Rattle.cell_plan.specs.TrafficFrames.{cycled_frame, IsTrafficFrame, IsTrafficFrame2}
+use Rattle.cell_plan.specs.declared.plan.PagingPlan.{PagingPlan}
+use Rattle.cell_plan.specs.declared.plan.TrafficPlan.{TrafficPlan}
+use Rattle.cell_plan.specs.declared.traffic_frame.TrafficFrame.{TrafficFrame}
+use Rattle.cell_plan.specs.declared.traffic_frame2.TrafficFrame2.{TrafficFrame2}
+use Rattle.cell_plan.specs.Stated.{IsReceivable}
 use Rattle.clean_link.specs.DistinctFrames.{lost_symbols}
 use Rattle.clean_link.specs.DistinctPlan.{bits_1200, bits_14400, bits_1800, bits_2400, bits_3600}
 use Rattle.clean_link.specs.DistinctPlan.{bits_4800, bits_7200, bits_9600, distinct_plan}
@@ -429,12 +429,11 @@ channels_lawful = record {
   few = omega arith;
   are = All-cons IsTrafficPlan first_channel (second_channel ∷ []) first_lawful
       (All-cons IsTrafficPlan second_channel [] second_lawful (All-nil IsTrafficPlan));
-  apart =
-      (
-        All-cons (λ (u : TrafficPlan). u.row ≢ 8) second_channel [] (omega arith)
-            (All-nil (λ (u : TrafficPlan). u.row ≢ 8)),
-        (All-nil (λ (u : TrafficPlan). u.row ≢ 9), tt),
-      );
+  apart = (
+    All-cons (λ (u : TrafficPlan). u.row ≢ 8) second_channel [] (omega arith)
+        (All-nil (λ (u : TrafficPlan). u.row ≢ 8)),
+    (All-nil (λ (u : TrafficPlan). u.row ≢ 9), tt),
+  );
   free = All-nil
       (λ (p : PagingPlan). IsFreeOf (first_channel ∷ second_channel ∷ []) p.number);
 }

@@ -31,7 +31,7 @@ use Rattle.frame_decoder.proofs.Unreplaced.{get_or-unreplaced, length-unreplaced
 use Rattle.rate_set_two.specs.Laws as laws_two
 use Rattle.rate_set_two.specs.TrafficFrames as second
 use Rattle.rake_finger.specs.declared.form.Form.TheVariants.{Data}
-use Rattle.base_modulator.specs.Sampled.{made_samples}
+use Rattle.cell_plan.specs.Sampled.{made_samples}
 use Rattle.mobile_core.specs.Streams.{frame_softs}
 use Rattle.mobile_core.specs.TrafficStreams.{replaced_in, stream_of}
 use Rattle.clean_link.specs.CleanLink.{soft_strength}
