@@ -24,7 +24,6 @@ use Rattle.cell_plan.specs.Sampled.{made_samples}
 use Rattle.mobile_core.specs.Tuning.{Tuning}
 use Rattle.cdma_replay.specs.CleanFiles.{IsCellFile, IsCleanLink}
 use Rattle.clean_link.specs.CleanLink.{IsNotDirected, IsOnPath}
-use Rattle.cell_plan.specs.Stated.{IsReceivable}
 use Rattle.clean_link.specs.CleanLink.{IsTunedTo}
 use Rattle.clean_link.specs.CleanLink.{sync_sent}
 use Rattle.clean_link.specs.SentEvents.{FollowsSent, sent_events}
