@@ -19,4 +19,5 @@ pub mod Replies
 pub mod SentLines
 pub mod SentReplies
 pub mod SleepLaw
+pub mod TuningLaw
 mod Counting

@@ -15,4 +15,5 @@ pub mod SleepLaw
 pub mod Status
 pub mod Tasks
 pub mod Trials
+pub mod TuningLaw
 pub mod CleanFiles

@@ -13,6 +13,7 @@ ghost use Rattle.cdma_replay.specs.ReplyLaws.{TrialOwesItsLine, WorkersChangeNoR
 ghost use Rattle.cdma_replay.specs.SentReplies.{ListRepliesComeBack, Rate2RepliesComeBack};
 ghost use Rattle.cdma_replay.specs.SentLines.{ListedLinesComeBack, SetTwoLinesComeBack};
 ghost use Rattle.cdma_replay.specs.SleepLaw.{SleepChangesNoReply};
+ghost use Rattle.cdma_replay.specs.TuningLaw.{HandsetsAreTuned};
 
 /// No input is owed two replies.
 pub fn inputs_are_owed_one_reply()
@@ -114,6 +115,12 @@ pub fn listed_lines_come_back()
 pub fn replies_come_back()
     ensures rate2 { Rate2RepliesComeBack }
     ensures list { ListRepliesComeBack }
+{}
+
+/// Each handset that hears a file is tuned by the file's header and by the pilot in its first samples,
+/// as many as the span is. So the laws on a handset that a file tunes, of slots too, speak of it.
+pub fn handsets_are_tuned_by_the_file()
+    ensures { HandsetsAreTuned }
 {}
 
 /// What `idle` owes, with words that are lawful, doesn't hang on what its handset sleeps through: two
