@@ -1,6 +1,6 @@
 -- The text of a clean link.
 use Rattle.std.proofs.Common.{◌≡◌, ◌⊎◌, inl, inr, refl, ℕ, ◌≤◌, List, [], ◌∷◌, ◌++◌, length, take}
-use Rattle.std.proofs.Common.{sym, ap, ◌∙◌, subst, pos, All, Option, Some, option_map}
+use Rattle.std.proofs.Common.{sym, ap, ◌∙◌, subst, pos, All, Option, Some, Ok, option_map}
 use Rattle.std.specs.Prelude.{is_some, nat_lt}
 use Rattle.chip_core.specs.declared.sample.Sample.{Sample}
 use Rattle.cdma_io.specs.SampleFile.{IsSampleFile}

@@ -1,5 +1,5 @@
 -- What `rate2` and `list` owe of a clean link's file comes back frame by frame.
-use Rattle.std.proofs.Common.{◌≡◌, ℕ, List, length, take, refl, sym, ap, ◌∙◌, subst, Ok}
+use Rattle.std.proofs.Common.{◌≡◌, ℕ, List, [], length, take, refl, sym, ap, ◌∙◌, subst, Ok}
 use Rattle.std.specs.Prelude.{is_some, nat_lt}
 use Rattle.chip_core.specs.declared.sample.Sample.{Sample}
 use Rattle.chip_core.specs.declared.width.Width.{Width}
