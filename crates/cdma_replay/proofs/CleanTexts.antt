@@ -1,6 +1,6 @@
 -- The text of a clean link.
 use Rattle.std.proofs.Common.{◌≡◌, ◌⊎◌, inl, inr, refl, ℕ, ◌≤◌, List, [], ◌∷◌, ◌++◌, length, take}
-use Rattle.std.proofs.Common.{sym, ap, ◌∙◌, subst, pos, All, Option, Some, option_map}
+use Rattle.std.proofs.Common.{sym, ap, ◌∙◌, subst, pos, All, Option, Some, Ok, option_map}
 use Rattle.std.specs.Prelude.{is_some, nat_lt}
 use Rattle.chip_core.specs.declared.sample.Sample.{Sample}
 use Rattle.cdma_io.specs.SampleFile.{IsSampleFile}
@@ -10,6 +10,7 @@ use Rattle.pilot_search.specs.Near.{near_deltas}
 use Rattle.pilot_search.specs.Search.{best_phase, energy}
 use Rattle.pilot_search.proofs.BestPhase.{best_phase-is}
 use Rattle.pilot_search.proofs.NearPlaces.{one_delta}
+use Rattle.cell_plan.specs.Plan.{IsFreeOf}
 use Rattle.cell_plan.specs.Transmitter.{phase_at}
 use Rattle.cell_plan.specs.declared.plan.CellPlan.{CellPlan}
 use Rattle.cell_script.proofs.NamedPages.{named_receivable}
@@ -23,7 +24,6 @@ use Rattle.cell_plan.specs.Sampled.{made_samples}
 use Rattle.mobile_core.specs.Tuning.{Tuning}
 use Rattle.cdma_replay.specs.CleanFiles.{IsCellFile, IsCleanLink}
 use Rattle.clean_link.specs.CleanLink.{IsNotDirected, IsOnPath}
-use Rattle.cell_plan.specs.Stated.{IsReceivable}
 use Rattle.clean_link.specs.CleanLink.{IsTunedTo}
 use Rattle.clean_link.specs.CleanLink.{sync_sent}
 use Rattle.clean_link.specs.SentEvents.{FollowsSent, sent_events}
@@ -65,14 +65,14 @@ on_path width script plan span receiver header samples file counted =
 tuned : (width : Width) (script : List ℕ) (plan : CellPlan) (span : ℕ) (receiver : Receiver)
     (header : Header) (samples : List Sample) →
     IsCleanLink width script plan span receiver.fingers receiver.paging
-    (option_map traffic_of receiver.traffic) header samples →
+    (option_map traffic_of receiver.traffic) header samples → IsFreeOf plan.traffic receiver.paging →
     length samples ≡ header.count → IsPaging receiver.paging →
     IsTunedTo plan (tuning_for header (take span samples) receiver)
-tuned width script plan span receiver header samples clean counted paging = record {
+tuned width script plan span receiver header samples clean free counted paging = record {
   path = on_path width script plan span receiver header samples clean.file counted;
   first_channel = paging.0;
   last_channel = paging.1;
-  free = clean.free;
+  free = free;
 }
 
 -- and hears no direction
@@ -89,7 +89,7 @@ undirected width script plan span receiver header samples clean tuned_to =
     (subst (λ (k : Tuning). All IsNotDirected (events k samples)) (sym (tuned_is plan t tuned_to.path))
     clean.undirected)
 
-best_pilot-at : (samples : List Sample) (phase : ℕ) → best_phase samples ≡ phase →
+pub best_pilot-at : (samples : List Sample) (phase : ℕ) → best_phase samples ≡ phase →
     best_pilot samples ≡ Pilot phase (energy samples phase)
 unfolding best_pilot
 best_pilot-at samples phase is = ap (λ (p : ℕ). Pilot p (energy samples p)) is
@@ -104,14 +104,14 @@ clean_events-are : (width : Width) (script : List ℕ) (plan : CellPlan)
     (span fingers paging : ℕ) (traffic : Option TrafficOptions) (header : Header)
     (samples : List Sample) →
     IsCleanLink width script plan span fingers paging (option_map traffic_of traffic) header
-    samples →
+    samples → IsFreeOf plan.traffic paging →
     FollowsSent plan (option_map traffic_of traffic) → length samples ≡ header.count →
     IsPaging paging →
     file_events span (record { fingers = fingers; paging = paging; traffic = traffic }) header samples
     ≡ clean_events span plan paging traffic
 unfolding clean_events
-clean_events-are width script plan span fingers paging traffic header samples clean follows counted
-    one =
+clean_events-are width script plan span fingers paging traffic header samples clean free follows
+    counted one =
     let followed = option_map traffic_of traffic in
     let first = take span samples in
     let phase = phase_at plan plan.link.start in
@@ -119,7 +119,7 @@ clean_events-are width script plan span fingers paging traffic header samples cl
     record { fingers = fingers; paging = paging; traffic = traffic } in
     let t = tuning_for header first receiver in
     let tuned_to : IsTunedTo plan t =
-    tuned width script plan span receiver header samples clean counted one in
+    tuned width script plan span receiver header samples clean free counted one in
     let heard : events t samples ≡ sent_events plan paging followed =
     ap (events t) clean.file.sent
     ∙ messages_back width plan t (named_receivable width script plan clean.file.named) tuned_to follows
@@ -135,10 +135,10 @@ pub clean_end-is : (width : Width) (script : List ℕ) (plan : CellPlan)
     (samples : List Sample) →
     IsCleanLink width script plan span fingers paging (option_map traffic_of traffic) header
     samples →
-    length samples ≡ header.count → IsPaging paging →
+    length samples ≡ header.count →
     file_end_of (following span workers fingers paging traffic) header samples ≡ clean_end plan
 unfolding file_end_of
-clean_end-is width script plan span workers fingers paging traffic header samples clean counted one =
+clean_end-is width script plan span workers fingers paging traffic header samples clean counted =
     let receiver : Receiver =
     record { fingers = fingers; paging = paging; traffic = traffic } in
     let t = tuning_for header (take span samples) receiver in
@@ -147,7 +147,7 @@ clean_end-is width script plan span workers fingers paging traffic header sample
     ap (λ (n : ℕ). is_some (mark t samples n)) size
     ∙ ap (λ (s : List Sample). is_some (mark t s plan.link.samples)) clean.file.sent
     ∙ marked_where_heard width plan t (named_receivable width script plan clean.file.named)
-    (tuned width script plan span receiver header samples clean counted one).path in
+    (on_path width script plan span receiver header samples clean.file counted) in
     ap end_when told
 
 -- so what is written of the file is written of the cell
@@ -155,22 +155,22 @@ clean_text-is : (taps : List KeptTap) (width : Width) (script : List ℕ) (plan 
     (span workers fingers paging : ℕ) (traffic : Option TrafficOptions) (header : Header)
     (samples : List Sample) →
     IsCleanLink width script plan span fingers paging (option_map traffic_of traffic) header
-    samples →
+    samples → IsFreeOf plan.traffic paging →
     FollowsSent plan (option_map traffic_of traffic) → length samples ≡ header.count →
     IsPaging paging →
     file_text taps (following span workers fingers paging traffic) header samples ≡
     run_text taps (clean_events span plan paging traffic)
 unfolding file_text run_text told
-clean_text-is taps width script plan span workers fingers paging traffic header samples clean follows
-    counted one =
+clean_text-is taps width script plan span workers fingers paging traffic header samples clean free
+    follows counted one =
     ap (run_text taps)
-    (clean_events-are width script plan span fingers paging traffic header samples clean follows
+    (clean_events-are width script plan span fingers paging traffic header samples clean free follows
     counted one)
 
 -- the reply that such a file is owed
-clean_owed : (taps : List KeptTap) (span workers fingers paging : ℕ)
-    (traffic : Option TrafficOptions) (bytes : List ℕ) (header : Header) (samples : List Sample) → IsSampleFile bytes header samples →
-    span ≤ length samples →
+pub clean_owed : (taps : List KeptTap) (span workers fingers paging : ℕ)
+    (traffic : Option TrafficOptions) (bytes : List ℕ) (header : Header) (samples : List Sample) →
+    IsSampleFile bytes header samples → span ≤ length samples →
     IsWholeFile taps (following span workers fingers paging traffic) bytes
     (file_text taps (following span workers fingers paging traffic) header samples)
     (file_end_of (following span workers fingers paging traffic) header samples)
@@ -187,8 +187,9 @@ clean_reply : (taps : List KeptTap) (width : Width) (script held : List ℕ)
     (plan : CellPlan) (span workers fingers paging : ℕ) (traffic : Option TrafficOptions)
     (header : Header) (samples : List Sample) (status : Status) (written : Option (List ℕ)) →
     IsCleanLink width script plan span fingers paging (option_map traffic_of traffic) header
-    samples →
-    FollowsSent plan (option_map traffic_of traffic) → length samples ≡ header.count → IsPaging paging →
+    samples → IsFreeOf plan.traffic paging →
+    FollowsSent plan (option_map traffic_of traffic) → length samples ≡ header.count →
+    IsPaging paging →
     (status ≡ NoMemory) ⊎
     ((status ≡ file_end_of (following span workers fingers paging traffic) header samples) ×
     (written ≡ Some (held ++ file_text taps (following span workers fingers paging traffic) header samples))) →
@@ -196,16 +197,16 @@ clean_reply : (taps : List KeptTap) (width : Width) (script held : List ℕ)
     ((status ≡ clean_end plan) ×
     (written ≡ Some (held ++ run_text taps (clean_events span plan paging traffic))))
 clean_reply taps width script held plan span workers fingers paging traffic header samples status
-    written clean follows counted one (inl none) = inl none
+    written clean free follows counted one (inl none) = inl none
 clean_reply taps width script held plan span workers fingers paging traffic header samples status
-    written clean follows counted one (inr all) =
+    written clean free follows counted one (inr all) =
     inr (
       all.0
           ∙ clean_end-is width script plan span workers fingers paging traffic header samples clean
-          counted one,
+          counted,
       all.1 ∙ ap (λ (t : List ℕ). Some (held ++ t))
           (clean_text-is taps width script plan span workers fingers paging traffic header samples
-          clean follows counted one),
+          clean free follows counted one),
     )
 
 -- so a run that answers what it owes answers that
@@ -214,17 +215,16 @@ pub clean_answer : (taps : List KeptTap) (width : Width) (script bytes held : Li
     (header : Header) (samples : List Sample) (status : Status) (written : Option (List ℕ)) →
     IsSampleFile bytes header samples → span ≤ length samples → IsPaging paging →
     IsCleanLink width script plan span fingers paging (option_map traffic_of traffic) header
-    samples →
-    FollowsSent plan (option_map traffic_of traffic) →
+    samples → IsFreeOf plan.traffic paging → FollowsSent plan (option_map traffic_of traffic) →
     ((reply : Reply) → IsFileReply taps (following span workers fingers paging traffic) bytes reply →
     (status ≡ NoMemory) ⊎ AnswersBehind held reply status written) →
     (status ≡ NoMemory) ⊎
     ((status ≡ clean_end plan) ×
     (written ≡ Some (held ++ run_text taps (clean_events span plan paging traffic))))
 clean_answer taps width script bytes held plan span workers fingers paging traffic header samples
-    status written file enough one clean follows exact =
+    status written file enough one clean free follows exact =
     clean_reply taps width script held plan span workers fingers paging traffic header samples status
-    written clean follows file.counted one
+    written clean free follows file.counted one
     (exact (Ok (
       file_text taps (following span workers fingers paging traffic) header samples,
       file_end_of (following span workers fingers paging traffic) header samples,

@@ -1,5 +1,6 @@
 pub mod Bounds
 pub mod Broken
+pub mod CleanLinks
 pub mod CleanTexts
 pub mod Completed
 pub mod Ends
@@ -16,5 +17,7 @@ pub mod Owed
 pub mod RankLines
 pub mod Replies
 pub mod SentLines
+pub mod SentReplies
 pub mod SleepLaw
+pub mod TuningLaw
 mod Counting

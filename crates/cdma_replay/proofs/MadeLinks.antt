@@ -18,7 +18,7 @@ use Rattle.chip_core.specs.declared.width.Width.{Width}
 use Rattle.chip_core.specs.declared.width.Width.TheVariants.{Sixteen, Eight}
 use Rattle.pilot_search.specs.Search.{best_phase}
 use Rattle.cell_plan.specs.declared.plan.CellPlan.{CellPlan}
-use Rattle.cell_plan.specs.Plan.{IsFreeOf, IsLawfulPlan, loudness, most_part}
+use Rattle.cell_plan.specs.Plan.{IsLawfulPlan, loudness, most_part}
 use Rattle.cell_script.specs.Script.{plan_named}
 use Rattle.cell_plan.specs.Signal.{amplitudes, carriers, scaled}
 use Rattle.cell_plan.specs.Transmitter.{header_of, phase_at, version_of}
@@ -27,9 +27,8 @@ use Rattle.cell_script.proofs.NamedPlans.{named_plan}
 use Rattle.cell_plan.proofs.Pieces.{no_sample}
 use Rattle.mobile_core.specs.Events.{events}
 use Rattle.chip_core.specs.declared.assignment.Traffic.{Traffic}
-use Rattle.cdma_words.specs.Words.{IsPaging}
+use Rattle.clean_link.specs.CleanLink.{IsNotDirected, IsOnPath, tuning_to}
 use Rattle.cdma_replay.specs.CleanFiles.{IsCleanLink}
-use Rattle.clean_link.specs.CleanLink.{IsNotDirected, IsTunedTo, tuning_to}
 use Rattle.clean_link.specs.SentEvents.{FollowsSent, signaling_sent}
 use Rattle.clean_link.proofs.messages.NoDirections.{no_event_directed}
 use Rattle.cell_plan.specs.Sampled.{made_samples}
@@ -138,15 +137,14 @@ pub made_readable : (width : Width) (script : List ℕ) (plan : CellPlan) →
 made_readable width script plan named =
     lawful_readable width plan (named_plan width script plan named).0
 
--- and a clean link, where the search finds the cell's path, there is one finger, the paging
--- channel's row is free, and no handoff is directed
+-- and a clean link, where the search finds the cell's path, there is one finger, and no handoff is
+-- directed
 pub made_clean : (width : Width) (script : List ℕ) (plan : CellPlan) (span paging : ℕ)
     (traffic : Option Traffic) → plan_named width script ≡ Ok plan →
     best_phase (take span (made_samples plan)) ≡ phase_at plan plan.link.start →
-    IsFreeOf plan.traffic paging →
     All IsNotDirected (events (tuning_to plan paging traffic) (made_samples plan)) →
     IsCleanLink width script plan span 1 paging traffic (header_of width plan) (made_samples plan)
-made_clean width script plan span paging traffic named found free undirected =
+made_clean width script plan span paging traffic named found undirected =
     record {
       file = record {
         named = named;
@@ -156,34 +154,28 @@ made_clean width script plan span paging traffic named found free undirected =
         found = found;
         alone = refl;
       };
-      free = free;
       undirected = undirected;
     }
 
--- a handset on it is tuned to the cell
+-- a handset on it lies on the cell's path
 made_tuned : (plan : CellPlan) (paging : ℕ) (traffic : Option Traffic) →
-    IsFreeOf plan.traffic paging → IsPaging paging → IsTunedTo plan (tuning_to plan paging traffic)
-made_tuned plan paging traffic free one = record {
-  path = record {
-    count = refl;
-    checks_of_30 = refl;
-    checks_of_16 = refl;
-    phase = refl;
-    alone = refl;
-  };
-  first_channel = one.0;
-  last_channel = one.1;
-  free = free;
+    IsOnPath plan (tuning_to plan paging traffic)
+made_tuned plan paging traffic = record {
+  count = refl;
+  checks_of_30 = refl;
+  checks_of_16 = refl;
+  phase = refl;
+  alone = refl;
 }
 
 -- so no handoff is directed where none of the messages that are sent does that
 pub made_clean_sent : (width : Width) (script : List ℕ) (plan : CellPlan) (span paging : ℕ)
     (traffic : Option Traffic) → plan_named width script ≡ Ok plan →
     best_phase (take span (made_samples plan)) ≡ phase_at plan plan.link.start →
-    IsFreeOf plan.traffic paging → IsPaging paging → FollowsSent plan traffic →
+    FollowsSent plan traffic →
     All IsNotDirected (signaling_sent plan traffic) →
     IsCleanLink width script plan span 1 paging traffic (header_of width plan) (made_samples plan)
-made_clean_sent width script plan span paging traffic named found free one follows none =
-    made_clean width script plan span paging traffic named found free
+made_clean_sent width script plan span paging traffic named found follows none =
+    made_clean width script plan span paging traffic named found
     (no_event_directed width plan (tuning_to plan paging traffic)
-    (named_receivable width script plan named) (made_tuned plan paging traffic free one) follows none)
+    (named_receivable width script plan named) (made_tuned plan paging traffic) follows none)

@@ -53,7 +53,7 @@ fewer_agree one other few many less same =
 -- ---- what is owed
 
 -- the text of a file whose channel is heard
-text_heard : (r : Reception) (fingers : ℕ) (channel : Channel) (text : TunedText) (header : Header)
+pub text_heard : (r : Reception) (fingers : ℕ) (channel : Channel) (text : TunedText) (header : Header)
     (samples : List Sample) → r.purpose ≡ Tuned fingers channel text →
     file_text [] r header samples
     ≡ tuned_text text (tuning_for header (take r.span samples) (waiting fingers)) channel samples
@@ -64,7 +64,7 @@ text_heard r fingers channel text header samples purpose =
     ++ told (listening [] p header (take r.span samples)) samples) purpose
 
 -- and its end
-end_heard : (r : Reception) (fingers : ℕ) (channel : Channel) (text : TunedText) (header : Header)
+pub end_heard : (r : Reception) (fingers : ℕ) (channel : Channel) (text : TunedText) (header : Header)
     (samples : List Sample) → r.purpose ≡ Tuned fingers channel text →
     file_end_of r header samples
     ≡ end_when
@@ -76,7 +76,7 @@ end_heard r fingers channel text header samples purpose =
     purpose
 
 -- the reply that a sample file is owed
-whole_reply : (taps : List KeptTap) (r : Reception) (bytes : List ℕ) (header : Header)
+pub whole_reply : (taps : List KeptTap) (r : Reception) (bytes : List ℕ) (header : Header)
     (samples : List Sample) → IsSampleFile bytes header samples → r.span ≤ length samples →
     IsFileReply taps r bytes (Ok (file_text taps r header samples, file_end_of r header samples))
 whole_reply taps r bytes header samples file enough = record {

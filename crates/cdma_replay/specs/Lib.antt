@@ -1,4 +1,5 @@
 pub mod Broken
+pub mod CleanLinks
 pub mod Find
 pub mod Hearing
 pub mod MadeLaws
@@ -9,8 +10,10 @@ pub mod Ranks
 pub mod Replies
 pub mod ReplyLaws
 pub mod SentLines
+pub mod SentReplies
 pub mod SleepLaw
 pub mod Status
 pub mod Tasks
 pub mod Trials
+pub mod TuningLaw
 pub mod CleanFiles

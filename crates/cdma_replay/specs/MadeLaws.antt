@@ -3,16 +3,14 @@ use Rattle.std.specs.Prelude.{ℕ, ◌≡◌, List, take, All, Option, Ok}
 use Rattle.cdma_io.specs.SampleFile.{IsSampleFile}
 use Rattle.chip_core.specs.declared.width.Width.{Width}
 use Rattle.pilot_search.specs.Search.{best_phase}
-use Rattle.cell_plan.specs.Plan.{IsFreeOf}
 use Rattle.cell_plan.specs.Sampled.{made_samples}
 use Rattle.cell_script.specs.Script.{plan_named}
 use Rattle.cell_plan.specs.Transmitter.{header_of, phase_at}
 use Rattle.cell_plan.specs.declared.plan.CellPlan.{CellPlan}
 use Rattle.mobile_core.specs.Events.{events}
 use Rattle.chip_core.specs.declared.assignment.Traffic.{Traffic}
-use Rattle.cdma_words.specs.Words.{IsPaging}
-use Rattle.cdma_replay.specs.CleanFiles.{IsCleanLink}
 use Rattle.clean_link.specs.CleanLink.{IsNotDirected, tuning_to}
+use Rattle.cdma_replay.specs.CleanFiles.{IsCleanLink}
 use Rattle.clean_link.specs.SentEvents.{FollowsSent, signaling_sent}
 use Rattle.cdma_replay.specs.Make.{made_file}
 
@@ -22,14 +20,13 @@ IsReadableWhenMade =
     (width : Width) (script : List ℕ) (plan : CellPlan) → plan_named width script ≡ Ok plan →
     IsSampleFile (made_file width plan) (header_of width plan) (made_samples plan)
 
--- and a clean link, where the search finds the cell's path, there is one finger, no traffic channel
--- has the row of the paging channel that is followed, and no handoff is directed
+-- and a clean link, where the search finds the cell's path, there is one finger, and no handoff is
+-- directed
 abbrev pub IsCleanWhenMade : Type 0
 IsCleanWhenMade =
     (width : Width) (script : List ℕ) (plan : CellPlan) (span paging : ℕ)
     (traffic : Option Traffic) → plan_named width script ≡ Ok plan →
     best_phase (take span (made_samples plan)) ≡ phase_at plan plan.link.start →
-    IsFreeOf plan.traffic paging →
     All IsNotDirected (events (tuning_to plan paging traffic) (made_samples plan)) →
     IsCleanLink width script plan span 1 paging traffic (header_of width plan) (made_samples plan)
 
@@ -40,6 +37,6 @@ IsCleanWhenSent =
     (width : Width) (script : List ℕ) (plan : CellPlan) (span paging : ℕ)
     (traffic : Option Traffic) → plan_named width script ≡ Ok plan →
     best_phase (take span (made_samples plan)) ≡ phase_at plan plan.link.start →
-    IsFreeOf plan.traffic paging → IsPaging paging → FollowsSent plan traffic →
+    FollowsSent plan traffic →
     All IsNotDirected (signaling_sent plan traffic) →
     IsCleanLink width script plan span 1 paging traffic (header_of width plan) (made_samples plan)

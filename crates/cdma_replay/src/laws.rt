@@ -10,8 +10,10 @@ ghost use Rattle.cdma_replay.specs.ReplyLaws.{FollowOwesTheEvents, IdleOwesTheSl
 ghost use Rattle.cdma_replay.specs.ReplyLaws.{ListOwesTheFrames, MakeOwesTheFile};
 ghost use Rattle.cdma_replay.specs.ReplyLaws.{Rate2OwesTheFrames, SurveyOwesTheRanks};
 ghost use Rattle.cdma_replay.specs.ReplyLaws.{TrialOwesItsLine, WorkersChangeNoReply};
+ghost use Rattle.cdma_replay.specs.SentReplies.{ListRepliesComeBack, Rate2RepliesComeBack};
 ghost use Rattle.cdma_replay.specs.SentLines.{ListedLinesComeBack, SetTwoLinesComeBack};
 ghost use Rattle.cdma_replay.specs.SleepLaw.{SleepChangesNoReply};
+ghost use Rattle.cdma_replay.specs.TuningLaw.{HandsetsAreTuned};
 
 /// No input is owed two replies.
 pub fn inputs_are_owed_one_reply()
@@ -71,9 +73,9 @@ pub fn trial_owes_its_line()
 {}
 
 /// What `make` writes is a sample file of the cell's samples; where the search finds the cell's
-/// path in it, it is a clean link for one finger, for each paging channel on whose row there is
-/// no traffic channel, and for no traffic channel or one on which no message that is heard directs
-/// a handoff; so for one of the cell's, each of whose frames is distinct, on which none is sent.
+/// path in it, it is a clean link for one finger, for each paging channel, and for no traffic channel
+/// or one on which no message that is heard directs a handoff; so for one of the cell's, each of whose
+/// frames is distinct, on which none is sent.
 pub fn made_files_are_clean_links()
     ensures file { IsReadableWhenMade }
     ensures clean { IsCleanWhenMade }
@@ -105,6 +107,20 @@ pub fn listing_one_word_is_following()
 /// it is the line of the frame that was sent, as a good frame.
 pub fn listed_lines_come_back()
     ensures { ListedLinesComeBack }
+{}
+
+/// Each reply that `rate2` owes of such a file, of a traffic channel of rate set 2 that the cell sends,
+/// is a whole text of just these lines, and that which `list` owes, of one of rate set 1; the run ends
+/// well where a sending of the sync channel lies in the file whole, and else with `NoSync`.
+pub fn replies_come_back()
+    ensures rate2 { Rate2RepliesComeBack }
+    ensures list { ListRepliesComeBack }
+{}
+
+/// Each handset that hears a file is tuned by the file's header and by the pilot in its first samples,
+/// as many as the span is. So the laws on a handset that a file tunes, of slots too, speak of it.
+pub fn handsets_are_tuned_by_the_file()
+    ensures { HandsetsAreTuned }
 {}
 
 /// What `idle` owes, with words that are lawful, doesn't hang on what its handset sleeps through: two

@@ -9,6 +9,7 @@ ghost use Rattle.cdma_io.specs.declared.header.Header.{Header};
 ghost use Rattle.chip_core.specs.declared.width.Width.{Width};
 ghost use Rattle.cdma_io.specs.Outside.{ConsumesAtMost, Rose};
 ghost use Rattle.cdma_io.specs.SampleFile.{IsSampleFile};
+ghost use Rattle.cell_plan.specs.Plan.{IsFreeOf};
 ghost use Rattle.cell_plan.specs.declared.plan.CellPlan.{CellPlan};
 ghost use Rattle.event_tap.specs.Taps.{kept_by, run_text};
 ghost use Rattle.cdma_replay.specs.CleanFiles.{IsCleanLink};
@@ -17,6 +18,7 @@ ghost use Rattle.cdma_words.specs.declared.job.Job.{Job as TheJob};
 ghost use Rattle.cdma_words.specs.declared.job.Job.TheVariants.{Follow, Trial};
 ghost use Rattle.cdma_words.specs.declared.job.TrafficOptions.{TrafficOptions as TheTraffic};
 ghost use Rattle.cdma_words.specs.Words.{IsWorkers, job_named};
+ghost use Rattle.cdma_replay.specs.CleanLinks.{WritesEach};
 ghost use Rattle.cdma_replay.specs.Broken.{IsCut, IsLong, WritesAll, WritesFirst};
 ghost use Rattle.cdma_replay.specs.Find.{BeginsFile, BeginsText, IsEnd, IsHeaderFault, TakesNoMore};
 ghost use Rattle.cdma_replay.specs.Find.{ended};
@@ -196,11 +198,14 @@ pub fn replay<R: Threads + Sync, S: Source, K: Sink, G: Gate + Sync>(
         ¬ (Rose (S.faults source.old) (S.faults source.new)) →
         ¬ (Rose (K.faults sink.old) (K.faults sink.new)) →
         (result ≡ Status.NoMemory) ⊎ AnswersBehind held reply result (K.written sink.new) }
-    // On a clean link, where the traffic channel that is followed is one of the cell's, each of
-    // whose frames is distinct, or none is, that is the text of the pilot at the cell's phase, of
-    // the sendings and the followed paging channel's pages that lie in the file whole, each with its
-    // message, of that traffic channel's frames with the messages that their signaling spells, and of
-    // the pilot sets behind it, in the order in which they are known.
+    // On a clean link, one of one cell over one path, without noise, where one finger lies on it and no
+    // message directs a handoff, that is the text of the pilot at the cell's phase and of a list of
+    // events. Those of the sync channel are just the sendings that lie in the file whole. Where the
+    // cell sends the followed paging channel, those of it are just its whole pages. Where the cell
+    // sends the followed traffic channel, with frames of rate set 1, there is one for each of its
+    // frames from the mark on that lies in the file, with the power control bits that were sent, and
+    // where the frame is distinct, with its rate and bits, as a good frame; and where each of them is,
+    // its messages are just those that the signaling in these frames spells.
     ensures clean { (width : Width) (script bytes held : List ℕ) (plan : CellPlan)
         (span workers fingers paging : ℕ) (traffic : Option TheTraffic) (limits : List ℕ)
         (header : Header) (samples : List Sample) →
@@ -208,7 +213,26 @@ pub fn replay<R: Threads + Sync, S: Source, K: Sink, G: Gate + Sync>(
         S.rest source.old ≡ Some bytes → K.written sink.old ≡ Some held →
         IsSampleFile bytes header samples → span ≤ length samples →
         IsCleanLink width script plan span fingers paging (option_map traffic_of traffic) header
-        samples → FollowsSent plan (option_map traffic_of traffic) →
+        samples →
+        ¬ (Rose (S.faults source.old) (S.faults source.new)) →
+        ¬ (Rose (K.faults sink.old) (K.faults sink.new)) →
+        (result ≡ Status.NoMemory) ⊎ ((result ≡ clean_end plan) ×
+        WritesEach (kept_by limits (map (λ b. shape b) taps.items)) span plan paging
+        (option_map traffic_of traffic) held (K.written sink.new)) }
+    // Where moreover no traffic channel has the followed paging channel's row, and the traffic channel
+    // that is followed is one of the cell's, each of whose frames is distinct, or none is, that is the
+    // text of the pilot, of the whole sendings, of the followed paging channel's whole pages, of that
+    // traffic channel's frames with the messages that their signaling spells, and of the pilot sets
+    // behind it, in the order in which they are known.
+    ensures all_distinct { (width : Width) (script bytes held : List ℕ) (plan : CellPlan)
+        (span workers fingers paging : ℕ) (traffic : Option TheTraffic) (limits : List ℕ)
+        (header : Header) (samples : List Sample) →
+        job_named words.now ≡ Some (Follow span workers fingers paging traffic limits) →
+        S.rest source.old ≡ Some bytes → K.written sink.old ≡ Some held →
+        IsSampleFile bytes header samples → span ≤ length samples →
+        IsCleanLink width script plan span fingers paging (option_map traffic_of traffic) header
+        samples → IsFreeOf plan.traffic paging →
+        FollowsSent plan (option_map traffic_of traffic) →
         ¬ (Rose (S.faults source.old) (S.faults source.new)) →
         ¬ (Rose (K.faults sink.old) (K.faults sink.new)) →
         (result ≡ Status.NoMemory) ⊎ ((result ≡ clean_end plan) ×

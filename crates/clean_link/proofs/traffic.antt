@@ -7,6 +7,7 @@ pub mod Times
 pub mod Signs
 pub mod Commands
 pub mod Frames
+pub mod OnlyBest
 pub mod Signaling
 pub mod NoneSent
 pub mod Back
@@ -15,3 +16,7 @@ pub mod KeptSymbols
 pub mod HiddenWords
 pub mod FullRate
 pub mod WorkedFrames
+pub mod SharedWords
+pub mod SharedFrames
+pub mod PowerPlaces
+pub mod DistinctPlan

@@ -16,8 +16,9 @@ use Rattle.mobile_core.specs.Tuning.{Tuning}
 use Rattle.mobile_core.specs.declared.event.Event.{Event}
 use Rattle.mobile_core.specs.declared.event.Event.TheVariants.{Paging}
 use Rattle.chip_core.specs.declared.assignment.Traffic.{Traffic}
-use Rattle.clean_link.specs.CleanLink.{IsNotDirected, IsTunedTo, sync_sent}
+use Rattle.clean_link.specs.CleanLink.{sync_sent, IsNotDirected, IsOnPath}
 use Rattle.cell_plan.specs.Stated.{IsReceivable}
+use Rattle.clean_link.specs.CleanLink.{IsTunedTo}
 use Rattle.clean_link.specs.CleanLink.{tuning_to, whole_sendings}
 use Rattle.clean_link.specs.HeardFrames.{frames_sent, AreDistinct, IsAssigned, SendsSetOne}
 use Rattle.clean_link.specs.HeardPages.{KnownPage, pages_sent}
@@ -127,7 +128,7 @@ sent_events plan channel followed =
 -- where no channel is followed.
 abbrev pub NoEventIsDirected : Type 0
 NoEventIsDirected = (width : Width) (plan : CellPlan) (t : Tuning) →
-    IsReceivable width plan → IsTunedTo plan t → FollowsSent plan t.traffic →
+    IsReceivable width plan → IsOnPath plan t → FollowsSent plan t.traffic →
     All IsNotDirected (signaling_sent plan t.traffic) →
     All IsNotDirected (events t (made_samples plan))
 

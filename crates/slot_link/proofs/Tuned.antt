@@ -14,7 +14,8 @@ use Rattle.tuned_listener.specs.TunedTexts.{tuned_text}
 use Rattle.tuned_listener.specs.declared.tuned_text.TunedText.TheVariants.{Slots}
 use Rattle.clean_link.specs.CleanLink.{IsOnPath, IsPlanFile}
 use Rattle.clean_link.proofs.signal.Samples.{length-made}
-use Rattle.slot_link.specs.Laws.{FileSlotsComeBack, IsTunedBy}
+use Rattle.clean_link.specs.FileTuning.{IsTunedBy}
+use Rattle.slot_link.specs.Laws.{FileSlotsComeBack}
 use Rattle.slot_link.specs.SentSlots.{slots_sent}
 use Rattle.slot_link.proofs.File.{slot_texts_back}
 

@@ -1,5 +1,5 @@
 -- The laws of slots on a clean link.
-use Rattle.std.specs.Prelude.{ℕ, ◌+◌, ◌*◌, ◌<◌, ◌≡◌, Bool, List, length, take, Some}
+use Rattle.std.specs.Prelude.{ℕ, ◌+◌, ◌*◌, ◌<◌, ◌≡◌, Bool, List, length, Some}
 use Rattle.std.specs.List.{Contains, flat_map}
 use Rattle.chip_core.specs.Bits.{places}
 use Rattle.chip_core.specs.declared.check_form.CheckForm.{CheckForm}
@@ -11,8 +11,6 @@ use Rattle.quality_bits.specs.declared.rate.Rate.{Rate}
 use Rattle.viterbi.specs.Laws.{signed}
 use Rattle.frame_decoder.specs.Spans.{Channel, own_bits, paging_channel}
 use Rattle.slot_mode.specs.Frames.{slot_bits}
-use Rattle.pilot_search.specs.Near.{near_deltas}
-use Rattle.pilot_search.specs.Search.{best_phase}
 use Rattle.cell_plan.specs.PageCycles.{cycled, paging_frame_size}
 use Rattle.cell_plan.specs.Pages.{page_cycle, paging_rate}
 use Rattle.cell_plan.specs.Sampled.{made_samples}
@@ -30,6 +28,7 @@ use Rattle.tuned_listener.specs.SlotLaws.{slot_softs}
 use Rattle.tuned_listener.specs.Slots.{slot_pages}
 use Rattle.tuned_listener.specs.TunedTexts.{tuned_text}
 use Rattle.tuned_listener.specs.declared.tuned_text.TunedText.TheVariants.{Slots}
+use Rattle.clean_link.specs.FileTuning.{IsTunedBy}
 use Rattle.clean_link.specs.CleanLink.{IsOnPath, IsPlanFile, IsTrueMark}
 use Rattle.cell_plan.specs.Stated.{IsReceivable}
 use Rattle.clean_link.specs.SentWords.{IsWholeChannel}
@@ -108,16 +107,6 @@ SlotTextsComeBack =
     IsReceivable width plan → IsOnPath plan t → Contains plan.paging p →
     tuned_text (Slots key cycle) t (channels.Paging p.number) (made_samples plan) ≡
     slots_sent key cycle plan p
-
--- A handset is tuned by the header of a file, and by the pilot that was searched in its first
--- samples, over so many fingers.
-pub record IsTunedBy (span fingers : ℕ) (header : Header) (samples : List Sample) (t : Tuning) :
-    Type 0 where
-  pub count : t.count ≡ header.count
-  pub phase : t.phase ≡ best_phase (take span samples)
-  pub deltas : t.deltas ≡ near_deltas (take span samples) (best_phase (take span samples)) fingers
-  pub checks_of_30 : t.check30 ≡ header.check30
-  pub checks_of_16 : t.check16 ≡ header.check16
 
 -- So it is of a file that holds what a lawful cell sends, where the search finds the cell's path and
 -- there is one finger.

@@ -170,4 +170,4 @@ no_event_directed width plan t is tuned follows none =
     let long = length-made plan in
     gathered_all IsNotDirected (events_at t samples) 0 (length samples + 1)
     (λ n low below.
-    all_undirected width plan t is tuned.path follows none n (omega (arith, below, long)))
+    all_undirected width plan t is tuned follows none n (omega (arith, below, long)))

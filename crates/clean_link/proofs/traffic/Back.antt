@@ -45,7 +45,7 @@ pub one_near : (t : Tuning) (plan : CellPlan) → IsOnPath plan t →
 one_near t plan tuned = rw tuned.alone refl
 
 -- numbers of samples at which nothing is known
-none_known : (ks : List ℕ) →
+pub none_known : (ks : List ℕ) →
     flat_map (λ (n : ℕ). let none : List Event = [] in none) ks ≡ []
 none_known [] = refl
 none_known (k ∷ ks) = none_known ks
@@ -227,7 +227,7 @@ module _ (width : Width) (plan : CellPlan) (t : Tuning) (is : IsReceivable width
     (tuned : IsOnPath plan t)
     (not_directed : All IsNotDirected (events t (made_samples plan))) where
   -- no handoff is directed behind the mark of all samples
-  undirected : (traffic : Traffic) (m : Mark) → t.traffic ≡ Some traffic →
+  pub undirected : (traffic : Traffic) (m : Mark) → t.traffic ≡ Some traffic →
       mark t (made_samples plan) t.count ≡ Some m →
       IsUndirected t traffic m (made_samples plan) plan.link.samples
   undirected traffic m followed set =

@@ -82,7 +82,7 @@ one_each {A} {B} f (x ∷ xs) = ap (λ (ys : List B). f x ∷ ys) (one_each f xs
 -- ---- one frame
 
 -- it has as many information bits as its rate
-sized : (width : Width) (plan : CellPlan) (p : TrafficPlan) (t : Tuning) (traffic : Traffic)
+pub sized : (width : Width) (plan : CellPlan) (p : TrafficPlan) (t : Tuning) (traffic : Traffic)
     (m : Mark) (legs : ℕ → List Leg) (superframes k : ℕ) (f : TrafficFrame) →
     HearsTraffic width plan p t traffic m superframes →
     IsHeardAs plan p t traffic m legs superframes k f → IsTrafficFrame f
@@ -103,7 +103,7 @@ frame_back width plan p t traffic m legs superframes k f is heard distinct =
     (sized width plan p t traffic m legs superframes k f is heard) shown.shows distinct
 
 -- what is heard of it
-heard_as : (n : ℕ) (f : TrafficFrame) (score : ℕ) (frame : Decoded) (commands : List Bool) →
+pub heard_as : (n : ℕ) (f : TrafficFrame) (score : ℕ) (frame : Decoded) (commands : List Bool) →
     frame ≡ record { rate = f.rate; good = true; bits = f.information; score = pos score } →
     commands ≡ sent_commands f → frame_event n frame commands ≡ sent_frame_event n f
 heard_as n f score frame commands is sent =

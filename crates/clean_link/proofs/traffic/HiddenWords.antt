@@ -113,11 +113,11 @@ pub record AreHidden (lost : List ℕ) (j : ℕ) (eight bits : List Bool) : Type
       symbol g1 (eight ++ bits) i ≡ false
 
 -- equal pairs have equal first symbols,
-first_of : (x y : List Bool) (i j : ℕ) → pair x i ≡ pair y j → symbol g0 x i ≡ symbol g0 y j
+pub first_of : (x y : List Bool) (i j : ℕ) → pair x i ≡ pair y j → symbol g0 x i ≡ symbol g0 y j
 first_of x y i j same = ap (λ (r : List Bool). get_or r 0 false) same
 
 -- and equal second ones
-second_of : (x y : List Bool) (i j : ℕ) → pair x i ≡ pair y j → symbol g1 x i ≡ symbol g1 y j
+pub second_of : (x y : List Bool) (i j : ℕ) → pair x i ≡ pair y j → symbol g1 x i ≡ symbol g1 y j
 second_of x y i j same = ap (λ (r : List Bool). get_or r 1 false) same
 
 -- a symbol that is 0 if it is kept
@@ -164,7 +164,7 @@ hidden_next lost j eight bit bits long are =
     }
 
 -- the next eight bits are eight
-next_long : (eight : List Bool) (bit : Bool) → length eight ≡ 8 →
+pub next_long : (eight : List Bool) (bit : Bool) → length eight ≡ 8 →
     length (state_after eight (bit ∷ [])) ≡ 8
 next_long eight bit long = length-state_after eight (bit ∷ []) ∙ long
 
@@ -174,7 +174,7 @@ kept_or_not : {X : Type 0} (p : X → Bool) (x : X) (xs : List X) (b : Bool) →
 kept_or_not p x xs true = refl
 kept_or_not p x xs false = refl
 
-all_kept : {X : Type 0} (p q : X → Bool) (xs : List X) →
+pub all_kept : {X : Type 0} (p q : X → Bool) (xs : List X) →
     list_all p (filter q xs) ≡ list_all (λ x. not (q x) || p x) xs
 all_kept p q [] = refl
 all_kept p q (x ∷ xs) =
@@ -182,7 +182,7 @@ all_kept p q (x ∷ xs) =
     ∙ ap (λ (b : Bool). (not (q x) || p x) && b) (all_kept p q xs)
 
 -- of a bit that is hidden
-left_over : (hidden apart : Bool) → (not hidden || apart) ≡ true → hidden ≡ true → apart ≡ true
+pub left_over : (hidden apart : Bool) → (not hidden || apart) ≡ true → hidden ≡ true → apart ≡ true
 left_over true apart h is = h
 left_over false apart h is = cc
 

@@ -8,6 +8,7 @@ use Rattle.cdma_replay.specs.Replies.{IsTaskEnd, IsTaskPromising, TaskReadsInput
 use Rattle.cdma_replay.specs.Replies.{TaskTakesNoMore}
 use Rattle.cdma_replay.specs.declared.status.Status.{Status}
 use Rattle.cdma_replay.specs.declared.task.Task.{Task}
+use Rattle.cdma_replay.proofs.CleanLinks.{each_answer}
 use Rattle.cdma_replay.proofs.CleanTexts.{clean_answer}
 use Rattle.cdma_replay.proofs.Completed.{complete_answer}
 use Rattle.cdma_replay.proofs.Replies.{cut_at, exact_answer, long_at, owed_at, said_of, same_job}
@@ -25,12 +26,23 @@ returns-in-Ok-clause-exact g c job bytes held reply named is was owed reads writ
 
 pub returns-in-Ok-clause-clean : goal.returns-in-Ok-clause-clean
 returns-in-Ok-clause-clean g c width script bytes held plan span workers fingers paging traffic
-    limits header samples named is was file enough clean follows reads writes =
+    limits header samples named is was file enough clean reads writes =
+    let job = Follow span workers fingers paging traffic limits in
+    let same = same_job _ c.in-Ok.job job c.in-Ok.ensures.job named in
+    let lawful = subst IsLawfulJob same c.in-Ok.ensures.lawful in
+    each_answer width script plan span workers fingers paging traffic header samples clean
+    file.counted lawful.3 _ bytes held c.run_task.result _ file enough
+    (λ reply owed. returns-in-Ok-clause-exact g c job bytes held reply named is was owed reads
+    writes)
+
+pub returns-in-Ok-clause-all_distinct : goal.returns-in-Ok-clause-all_distinct
+returns-in-Ok-clause-all_distinct g c width script bytes held plan span workers fingers paging traffic
+    limits header samples named is was file enough clean free follows reads writes =
     let job = Follow span workers fingers paging traffic limits in
     let same = same_job _ c.in-Ok.job job c.in-Ok.ensures.job named in
     let lawful = subst IsLawfulJob same c.in-Ok.ensures.lawful in
     clean_answer _ width script bytes held plan span workers fingers paging traffic header samples
-    c.run_task.result _ file enough lawful.3 clean follows
+    c.run_task.result _ file enough lawful.3 clean free follows
     (λ reply owed. returns-in-Ok-clause-exact g c job bytes held reply named is was owed reads
     writes)
 

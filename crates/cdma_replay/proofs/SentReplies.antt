@@ -1,0 +1,95 @@
+-- What `rate2` and `list` owe of a clean link's file comes back frame by frame.
+use Rattle.std.proofs.Common.{◌≡◌, ℕ, List, [], length, take, refl, sym, ap, ◌∙◌, subst, Ok}
+use Rattle.std.specs.Prelude.{is_some, nat_lt}
+use Rattle.chip_core.specs.declared.sample.Sample.{Sample}
+use Rattle.chip_core.specs.declared.width.Width.{Width}
+use Rattle.cdma_io.specs.declared.header.Header.{Header}
+use Rattle.cell_plan.specs.declared.plan.CellPlan.{CellPlan}
+use Rattle.cell_plan.specs.declared.plan.TrafficPlan.{TrafficPlan}
+use Rattle.mobile_core.specs.Marks.{mark}
+use Rattle.mobile_core.specs.Tuning.{Tuning}
+use Rattle.mobile_core.specs.declared.channel.Channel.TheVariants as channels
+use Rattle.cdma_words.specs.declared.job.TrafficOptions.{TrafficOptions}
+use Rattle.clean_link.specs.CleanLink.{sync_sent}
+use Rattle.clean_link.specs.HeardFrames.{SendsSetOne, SendsSetTwo}
+use Rattle.clean_link.specs.SentEvents.{told_with_sync}
+use Rattle.clean_link.proofs.marks.MarksTrue.{marked_where_heard}
+use Rattle.clean_link.proofs.signal.Samples.{length-made}
+use Rattle.tuned_listener.specs.declared.tuned_text.TunedText.{TunedText}
+use Rattle.tuned_listener.specs.declared.tuned_text.TunedText.TheVariants.{Listed, RateSetTwo}
+use Rattle.cdma_replay.specs.Hearing.{clean_end, end_when, file_end_of, file_text, traffic_of}
+use Rattle.cdma_replay.specs.Hearing.{tuning_for, waiting}
+use Rattle.cdma_replay.specs.Replies.{IsFileReply, Reply}
+use Rattle.cdma_replay.specs.SentLines.{IsLineOfSetOne, IsLineOfSetTwo, IsSentText, LinesComeBack}
+use Rattle.cdma_replay.specs.SentReplies.{IsHeardFrom, IsSentReply, ListRepliesComeBack}
+use Rattle.cdma_replay.specs.SentReplies.{Rate2RepliesComeBack}
+use Rattle.cdma_replay.specs.Tasks.{hearing}
+use Rattle.cdma_replay.specs.declared.handset.Receiver.{Receiver}
+use Rattle.cdma_replay.specs.declared.receiving.Reception.{Reception}
+use Rattle.cell_script.proofs.NamedPages.{named_receivable}
+use Rattle.cdma_replay.proofs.CleanTexts.{on_path}
+use Rattle.cdma_replay.proofs.Replies.{one_file_reply}
+use Rattle.cdma_replay.proofs.SentLines.{listed_lines, set_two_lines}
+use Rattle.cdma_replay.proofs.SleepLaw.{end_heard, text_heard, whole_reply}
+
+module _ (form : TunedText) (Sends : TrafficPlan → Type 0)
+    (Is : CellPlan → TrafficPlan → ℕ → List ℕ → Type 0) (lines : LinesComeBack form Sends Is)
+    (script bytes : List ℕ) (width : Width) (plan : CellPlan) (p : TrafficPlan)
+    (span workers fingers : ℕ) (traffic : TrafficOptions) (header : Header)
+    (samples : List Sample)
+    (heard : IsHeardFrom script bytes width plan p span fingers traffic header samples)
+    (sends : Sends p) where
+  abbrev r : Reception
+  r = hearing span workers fingers (channels.Traffic (traffic_of traffic)) form
+
+  abbrev receiver : Receiver
+  receiver = waiting fingers
+
+  abbrev t : Tuning
+  t = tuning_for header (take span samples) receiver
+
+  -- the text has the sent lines
+  text_is : IsSentText plan p (Is plan p) (told_with_sync plan plan.sync)
+      (file_text [] r header samples)
+  text_is =
+      subst (IsSentText plan p (Is plan p) (told_with_sync plan plan.sync))
+      (sym (text_heard r fingers (channels.Traffic (traffic_of traffic)) form header samples refl))
+      (lines width script plan p span receiver (traffic_of traffic) header samples heard.cell
+      heard.file.counted heard.sent heard.assigned sends)
+
+  -- and the end is that of the whole sendings
+  end_is : file_end_of r header samples ≡ clean_end plan
+  end_is =
+      let size : length samples ≡ plan.link.samples =
+      ap length heard.cell.sent ∙ length-made plan in
+      let told : is_some (mark t samples (length samples)) ≡ nat_lt 0 (length (sync_sent plan)) =
+      ap (λ (n : ℕ). is_some (mark t samples n)) size
+      ∙ ap (λ (s : List Sample). is_some (mark t s plan.link.samples)) heard.cell.sent
+      ∙ marked_where_heard width plan t (named_receivable width script plan heard.cell.named)
+      (on_path width script plan span receiver header samples heard.cell heard.file.counted) in
+      end_heard r fingers (channels.Traffic (traffic_of traffic)) form header samples refl
+      ∙ ap end_when told
+
+  -- so it is of each reply that is owed
+  pub reply_back : (reply : Reply) → IsFileReply [] r bytes reply →
+      IsSentReply plan p (Is plan p) reply
+  reply_back reply owed =
+      subst (IsSentReply plan p (Is plan p))
+      (one_file_reply [] r bytes
+      (Ok (file_text [] r header samples, file_end_of r header samples)) reply
+      (whole_reply [] r bytes header samples heard.file heard.enough) owed)
+      (text_is, end_is)
+
+-- ---- the laws
+
+pub rate2_replies : Rate2RepliesComeBack
+rate2_replies forms script bytes width plan p span workers fingers traffic header samples reply heard
+    sends owed =
+    reply_back RateSetTwo SendsSetTwo IsLineOfSetTwo set_two_lines script bytes width plan p span
+    workers fingers traffic header samples heard sends reply owed
+
+pub list_replies : ListRepliesComeBack
+list_replies k least forms script bytes width plan p span workers fingers traffic header samples reply
+    heard sends owed =
+    reply_back (Listed k) SendsSetOne IsLineOfSetOne (listed_lines k least) script bytes width plan
+    p span workers fingers traffic header samples heard sends reply owed

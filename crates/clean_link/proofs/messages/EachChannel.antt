@@ -1,0 +1,321 @@
+-- A handset hears what a clean link's cell sends, channel by channel and frame by frame.
+use Rattle.std.proofs.Common.{◌≡◌, ℕ, ◌+◌, ◌-◌, ◌*◌, ◌≤◌, true, Bool, List, [], ◌∷◌}
+use Rattle.std.proofs.Common.{map, refl, sym, ap, ◌∙◌, arith, subst, inl, inr, Option, None}
+use Rattle.std.proofs.Common.{Some, filter}
+use Rattle.std.specs.Prelude.{All}
+use Rattle.std.specs.List.{Contains, flat_map}
+use Rattle.std.proofs.lemmas.Bool.{cases_lt}
+use Rattle.std.proofs.lemmas.List.Elements.{All-contains, All-map}
+use Rattle.chip_core.specs.Bits.{places}
+use Rattle.chip_core.specs.declared.sample.Sample.{Sample}
+use Rattle.chip_core.specs.declared.width.Width.{Width}
+use Rattle.chip_core.proofs.Ranges.{flat_map_ext_places}
+use Rattle.frame_decoder.specs.Laws.{kept_count}
+use Rattle.rake_finger.specs.declared.form.Form.TheVariants.{Data}
+use Rattle.cell_plan.specs.Plan.{IsFreeOf}
+use Rattle.cell_plan.specs.Sampled.{made_samples}
+use Rattle.cell_plan.specs.Signal.{frames_of}
+use Rattle.cell_plan.specs.TrafficFrames.{cycled_frame}
+use Rattle.cell_plan.specs.declared.plan.CellPlan.{CellPlan}
+use Rattle.cell_plan.specs.declared.plan.PagingPlan.{PagingPlan}
+use Rattle.cell_plan.specs.declared.plan.TrafficPlan.{TrafficPlan}
+use Rattle.cell_plan.specs.declared.traffic_frame.TrafficFrame.{TrafficFrame}
+use Rattle.mobile_core.specs.Events.{events, events_at, events_within, frame_events_at}
+use Rattle.mobile_core.specs.Events.{message_events_at, paging_events_at}
+use Rattle.mobile_core.specs.Marks.{mark}
+use Rattle.mobile_core.specs.Moments.{frames_at, messages_at}
+use Rattle.mobile_core.specs.Streams.{is_in_file}
+use Rattle.mobile_core.specs.SyncEvents.{sync_events_at}
+use Rattle.mobile_core.specs.TrafficEvents.{commands_at, decoded_at, frame_event, frame_heard}
+use Rattle.mobile_core.specs.TrafficEvents.{if_followed}
+use Rattle.mobile_core.specs.TrafficStreams.{replaced_in}
+use Rattle.mobile_core.specs.Tuning.{Tuning}
+use Rattle.mobile_core.specs.declared.event.Event.{Event}
+use Rattle.mobile_core.specs.declared.legs.Leg.{Leg}
+use Rattle.mobile_core.specs.declared.mark.Mark.{Mark}
+use Rattle.chip_core.specs.declared.assignment.Traffic.{Traffic}
+use Rattle.mobile_core.proofs.MarkStays.{frames_by_one_mark, messages_by_one_mark}
+use Rattle.clean_link.specs.CleanLink.{soft_strength, sync_sent, IsNotDirected, IsOnPath}
+use Rattle.clean_link.specs.CleanLink.{IsTunedTo}
+use Rattle.cell_plan.specs.Stated.{IsReceivable}
+use Rattle.clean_link.specs.HeardEach.{is_frame, is_message, is_page, is_sync, AreEventsOf}
+use Rattle.clean_link.specs.HeardEach.{AreFramesBehind, AreMessagesBehind, EachChannelComesBack}
+use Rattle.clean_link.specs.HeardEach.{FollowsOne, IsEventOf}
+use Rattle.clean_link.specs.HeardFrames.{frame_ends, is_received, received_frames}
+use Rattle.clean_link.specs.HeardFrames.{AreDistinct, IsDistinctFrame, SendsSetOne}
+use Rattle.clean_link.specs.HeardSignals.{messages_of_channel}
+use Rattle.clean_link.specs.SentEvents.{paging_sent, told_with_sync}
+use Rattle.clean_link.specs.TrafficLaws.{HearsTraffic, IsHeardAs}
+use Rattle.clean_link.proofs.marks.MarksTrue.{marks_true}
+use Rattle.clean_link.proofs.messages.Kinds.{frames_of_all, messages_of_all, pages_of_all}
+use Rattle.clean_link.proofs.messages.Kinds.{sync_of_all}
+use Rattle.clean_link.proofs.messages.MessagesBack.{pages_all}
+use Rattle.clean_link.proofs.sendings.Back.{sendings_back}
+use Rattle.clean_link.proofs.signal.Samples.{length-made}
+use Rattle.clean_link.proofs.traffic.Back.{none_known, one_near, told_behind_mark, undirected}
+use Rattle.clean_link.proofs.traffic.Back.{untold}
+use Rattle.clean_link.proofs.traffic.Commands.{commands_back}
+use Rattle.clean_link.proofs.traffic.Frames.{each_frame_heard, early, frame_back, frame_there}
+use Rattle.clean_link.proofs.traffic.Frames.{heard_as, heard_there, received_is, same_places}
+use Rattle.clean_link.proofs.traffic.OnePilot.{one_stream}
+use Rattle.clean_link.proofs.traffic.Signaling.{sent_messages_back}
+use Rattle.clean_link.proofs.traffic.Signs.{lawful_traffic}
+use Rattle.clean_link.proofs.traffic.Undirected.{first_legs, first_pilot}
+
+-- ---- frames behind a true mark
+
+module _ (width : Width) (plan : CellPlan) (p : TrafficPlan) (t : Tuning) (traffic : Traffic)
+    (m : Mark) (superframes : ℕ) (is : HearsTraffic width plan p t traffic m superframes) where
+  abbrev samples : List Sample
+  samples = made_samples plan
+
+  abbrev legs : ℕ → List Leg
+  legs = first_legs traffic m
+
+  latest : p.offset ≤ 15
+  latest = (lawful_traffic width plan p is.receivable.lawful is.sent).latest
+
+  abbrev event : ℕ → Event
+  event frame =
+      frame_heard t traffic m legs samples (frame_ends plan p frame) (frame - 4 * superframes)
+
+  -- what is heard of one that is in the file
+  event_there : (k : ℕ) (f : TrafficFrame) →
+      is_in_file t.count (one_stream t traffic m) k ≡ true →
+      cycled_frame (frames_of plan p) (4 * superframes + k) ≡ f ∷ [] →
+      IsEventOf plan p (4 * superframes + k)
+      (frame_heard t traffic m legs samples (frame_ends plan p (4 * superframes + k)) k)
+  event_there k f there frame =
+      let heard : IsHeardAs plan p t traffic m legs superframes k f =
+      heard_there width plan p t traffic m superframes is latest legs (first_pilot traffic m) k f
+      there frame in
+      let number = 4 * superframes + k in
+      let ends = frame_ends plan p number in
+      let decoded = decoded_at t traffic m legs samples k in
+      let commands = commands_back width plan p t traffic m legs superframes k f is heard in
+      let score = soft_strength plan Data p.gain * kept_count (replaced_in traffic m k) in (
+        f,
+        frame,
+        record {
+          decoded = decoded;
+          powered = ap (frame_event ends decoded) commands;
+          back = λ distinct.
+              heard_as ends f score decoded (commands_at t traffic m legs samples k)
+              (frame_back width plan p t traffic m legs superframes k f is heard
+              (subst (λ (ps : List ℕ). IsDistinctFrame ps f)
+              (same_places width plan p t traffic m superframes is latest k) distinct))
+              commands;
+        },
+      )
+
+  -- of one that is received
+  event_of : SendsSetOne p → (frame : ℕ) →
+      is_received plan p (plan.link.start + m.sample) frame ≡ true →
+      IsEventOf plan p frame (event frame)
+  event_of some frame received =
+      let k : ℕ = frame - 4 * superframes in
+      elim (cases_lt frame (4 * superframes)) [
+        | inl less ↦
+            let before = early width plan p t traffic m superframes is latest frame less in
+            absurd (cc)
+        | inr most ↦
+            let here : 4 * superframes + k ≡ frame = omega (arith, most) in
+            let there : is_in_file t.count (one_stream t traffic m) k ≡ true =
+            sym (received_is width plan p t traffic m superframes is latest k)
+            ∙ ap (is_received plan p (plan.link.start + m.sample)) here ∙ received in
+            let (f, sent) = frame_there width plan p t traffic m superframes is latest some k in
+            subst (λ (n : ℕ). IsEventOf plan p n
+            (frame_heard t traffic m legs samples (frame_ends plan p n) k)) here
+            (event_there k f there sent)
+      ]
+
+-- ---- a handset that follows a channel
+
+module _ (width : Width) (plan : CellPlan) (t : Tuning) (is : IsReceivable width plan)
+    (tuned : IsOnPath plan t)
+    (not_directed : All IsNotDirected (events t (made_samples plan)))
+    (p : TrafficPlan) (f : FollowsOne plan t.traffic p) where
+  abbrev all_samples : List Sample
+  all_samples = made_samples plan
+
+  abbrev last : Option Mark
+  last = mark t all_samples t.count
+
+  -- behind the mark that is set
+  hears_behind : (m : Mark) → last ≡ Some m →
+      (superframes : ℕ) × HearsTraffic width plan p t f.traffic m superframes
+  hears_behind m set =
+      let (superframes, true_mark) = marks_true width plan t t.count m is tuned set in (
+        superframes,
+        record {
+          receivable = is;
+          sent = f.sent;
+          assigned = f.assigned;
+          tuned = tuned;
+          marked = true_mark;
+        },
+      )
+
+  told_is : (m : Mark) (superframes : ℕ) → last ≡ Some m →
+      HearsTraffic width plan p t f.traffic m superframes →
+      told_with_sync plan plan.sync ≡ Some superframes
+  told_is m superframes set hears =
+      told_behind_mark width plan t is tuned plan.sync m refl set superframes hears.marked.time
+
+  -- what is heard by the mark of all samples, where a channel is followed
+  followed_is : (heard : ℕ → Traffic → Mark → List Event) (m : Option Mark) →
+      flat_map (λ n. if_followed (heard n) t.traffic m) (places (plan.link.samples + 1))
+      ≡ flat_map (λ n. if_followed (heard n) (Some f.traffic) m) (places (plan.link.samples + 1))
+  followed_is heard m =
+      ap (λ (followed : Option Traffic). flat_map (λ n. if_followed (heard n) followed m)
+      (places (plan.link.samples + 1))) f.follows
+
+  -- its frames
+  abbrev frames_heard : Option Mark → List Event
+  frames_heard m =
+      flat_map (λ n. if_followed (λ traffic k. frames_at t traffic k all_samples n)
+      (Some f.traffic) m) (places (plan.link.samples + 1))
+
+  frames_by : (m : Option Mark) → last ≡ m →
+      AreFramesBehind plan p (told_with_sync plan plan.sync) (frames_heard m)
+  frames_by None unset =
+      subst (λ (told : Option ℕ). AreFramesBehind plan p told (frames_heard None))
+      (sym (untold width plan t is tuned plan.sync refl unset))
+      (none_known (places (plan.link.samples + 1)))
+  frames_by (Some m) set =
+      let (superframes, hears) = hears_behind m set in
+      let place = hears.marked.place in
+      let frames : AreEventsOf plan p superframes
+      (flat_map (frames_at t f.traffic m all_samples) (places (plan.link.samples + 1))) =
+      record {
+        event = event width plan p t f.traffic m superframes hears;
+        each = each_frame_heard width plan p t f.traffic m superframes
+            (first_legs f.traffic m) hears
+            (undirected width plan t is tuned not_directed f.traffic m f.follows set)
+            (first_pilot f.traffic m)
+            ∙ ap (λ (chip : ℕ). map (event width plan p t f.traffic m superframes hears)
+            (received_frames plan p chip)) place;
+        are = λ frame received.
+            event_of width plan p t f.traffic m superframes hears f.one frame
+            (ap (λ (chip : ℕ). is_received plan p chip frame) place ∙ received);
+      } in
+      subst (λ (told : Option ℕ). AreFramesBehind plan p told (frames_heard (Some m)))
+      (sym (told_is m superframes set hears)) frames
+
+  -- and its messages
+  abbrev messages_heard : Option Mark → List Event
+  messages_heard m =
+      flat_map (λ n. if_followed (λ traffic k. messages_at t traffic k all_samples n)
+      (Some f.traffic) m) (places (plan.link.samples + 1))
+
+  messages_by : (m : Option Mark) → last ≡ m →
+      AreMessagesBehind plan p (told_with_sync plan plan.sync) (messages_heard m)
+  messages_by None unset =
+      subst (λ (told : Option ℕ). AreMessagesBehind plan p told (messages_heard None))
+      (sym (untold width plan t is tuned plan.sync refl unset))
+      (none_known (places (plan.link.samples + 1)))
+  messages_by (Some m) set =
+      let (superframes, hears) = hears_behind m set in
+      let place = hears.marked.place in
+      let back : AreDistinct plan p (98304 * superframes) →
+      flat_map (messages_at t f.traffic m all_samples) (places (plan.link.samples + 1))
+      ≡ messages_of_channel plan p (98304 * superframes) =
+      λ distinct.
+      sent_messages_back width plan p t f.traffic m superframes hears f.one
+      (undirected width plan t is tuned not_directed f.traffic m f.follows set)
+      (subst (AreDistinct plan p) (sym place) distinct)
+      ∙ ap (messages_of_channel plan p) place in
+      subst (λ (told : Option ℕ). AreMessagesBehind plan p told (messages_heard (Some m)))
+      (sym (told_is m superframes set hears)) back
+
+  -- by the mark that each number of samples has
+  pub frames_each : AreFramesBehind plan p (told_with_sync plan plan.sync)
+      (flat_map (frame_events_at t all_samples) (places (plan.link.samples + 1)))
+  unfolding frame_events_at
+  frames_each =
+      let heard : ℕ → Traffic → Mark → List Event =
+      λ n traffic m. frames_at t traffic m all_samples n in
+      let count = tuned.count in
+      let by_last = flat_map_ext_places
+      (λ n. if_followed (heard n) t.traffic (mark t all_samples n))
+      (λ n. if_followed (heard n) t.traffic last) (plan.link.samples + 1)
+      (λ n below. frames_by_one_mark t (one_near t plan tuned) t.traffic all_samples n t.count
+      (omega (arith, below, count))) in
+      subst (AreFramesBehind plan p (told_with_sync plan plan.sync))
+      (sym (by_last ∙ followed_is heard last)) (frames_by last refl)
+
+  pub messages_each : AreMessagesBehind plan p (told_with_sync plan plan.sync)
+      (flat_map (message_events_at t all_samples) (places (plan.link.samples + 1)))
+  unfolding message_events_at
+  messages_each =
+      let heard : ℕ → Traffic → Mark → List Event =
+      λ n traffic m. messages_at t traffic m all_samples n in
+      let count = tuned.count in
+      let by_last = flat_map_ext_places
+      (λ n. if_followed (heard n) t.traffic (mark t all_samples n))
+      (λ n. if_followed (heard n) t.traffic last) (plan.link.samples + 1)
+      (λ n below. messages_by_one_mark t (one_near t plan tuned) t.traffic all_samples n t.count
+      (omega (arith, below, count))) in
+      subst (AreMessagesBehind plan p (told_with_sync plan plan.sync))
+      (sym (by_last ∙ followed_is heard last)) (messages_by last refl)
+
+-- ---- all channels
+
+-- no traffic channel has the row of a paging channel that is sent
+free_where_sent : (traffic : List TrafficPlan) (paging : List PagingPlan) (number : ℕ) →
+    All (λ (q : PagingPlan). IsFreeOf traffic q.number) paging →
+    Contains (map (λ (q : PagingPlan). q.number) paging) number → IsFreeOf traffic number
+free_where_sent traffic paging number free sent =
+    All-contains (IsFreeOf traffic) (map (λ (q : PagingPlan). q.number) paging) number
+    (All-map (IsFreeOf traffic) (λ (q : PagingPlan). q.number) paging free) sent
+
+module _ (width : Width) (plan : CellPlan) (t : Tuning) (is : IsReceivable width plan)
+    (tuned : IsOnPath plan t) where
+  -- the events of one kind are those of all numbers of samples
+  gathered : (test : Event → Bool) (g : ℕ → List Event) →
+      filter test (flat_map (events_at t (made_samples plan)) (places (plan.link.samples + 1)))
+      ≡ flat_map g (places (plan.link.samples + 1)) →
+      filter test (events t (made_samples plan)) ≡ flat_map g (places (plan.link.samples + 1))
+  unfolding events_within
+  gathered test g left =
+      ap (λ (n : ℕ). filter test (flat_map (events_at t (made_samples plan)) (places (n + 1))))
+      (length-made plan) ∙ left
+
+  sync_back : filter is_sync (events t (made_samples plan)) ≡ sync_sent plan
+  sync_back =
+      gathered is_sync (sync_events_at t (made_samples plan))
+      (sync_of_all t (made_samples plan) (places (plan.link.samples + 1)))
+      ∙ sendings_back width plan t is tuned
+
+  pages_back : 1 ≤ t.paging → t.paging ≤ 7 → IsFreeOf plan.traffic t.paging →
+      filter is_page (events t (made_samples plan)) ≡ paging_sent plan t.paging
+  pages_back least most free =
+      let to : IsTunedTo plan t =
+      record { path = tuned; first_channel = least; last_channel = most; free = free } in
+      gathered is_page (paging_events_at t (made_samples plan))
+      (pages_of_all t (made_samples plan) (places (plan.link.samples + 1)))
+      ∙ pages_all width plan t is to
+
+-- ---- the law
+
+pub each_channel : EachChannelComesBack
+each_channel width plan t is tuned least most not_directed =
+    let samples = made_samples plan in
+    let all = places (plan.link.samples + 1) in
+    record {
+      sync = sync_back width plan t is tuned;
+      pages = λ sent.
+          pages_back width plan t is tuned least most
+          (free_where_sent plan.traffic plan.paging t.paging is.lawful.traffic.free sent);
+      free = pages_back width plan t is tuned least most;
+      frames = λ p follows.
+          subst (AreFramesBehind plan p (told_with_sync plan plan.sync))
+          (sym (gathered width plan t is tuned is_frame (frame_events_at t samples)
+          (frames_of_all t samples all)))
+          (frames_each width plan t is tuned not_directed p follows);
+      messages = λ p follows.
+          subst (AreMessagesBehind plan p (told_with_sync plan plan.sync))
+          (sym (gathered width plan t is tuned is_message (message_events_at t samples)
+          (messages_of_all t samples all)))
+          (messages_each width plan t is tuned not_directed p follows);
+    }

@@ -1,0 +1,319 @@
+-- Which of a handset's events are of which kind.
+use Rattle.std.proofs.Common.{◌≡◌, ℕ, ◌+◌, ◌==◌, ◌||◌, Bool, true, false, List, [], ◌∷◌, ◌++◌}
+use Rattle.std.proofs.Common.{filter, refl, ap, ◌∙◌, take, Option, None, Some, nat_eq}
+use Rattle.std.specs.Prelude.{if◌then◌else◌, All}
+use Rattle.std.specs.List.{flat_map}
+use Rattle.std.proofs.lemmas.List.{append-nil}
+use Rattle.std.proofs.lemmas.List.Elements.{All-append, All-cons, All-head, All-map, All-nil}
+use Rattle.std.proofs.lemmas.List.Elements.{All-tail, filter-append}
+use Rattle.chip_core.specs.declared.check_form.CheckForm.TheVariants.{Plain}
+use Rattle.chip_core.specs.declared.sample.Sample.{Sample}
+use Rattle.pilot_sets.specs.Standing.{Standing}
+use Rattle.pilot_sets.specs.declared.change.SetChange.{SetChange}
+use Rattle.mobile_core.specs.Events.{events_at, frame_events_at, message_events_at}
+use Rattle.mobile_core.specs.Events.{paging_events_at, sets_events_at}
+use Rattle.mobile_core.specs.Marks.{mark}
+use Rattle.mobile_core.specs.Moments.{changed, frames_at, heard_from, kept_to, legs_at, messages_at}
+use Rattle.mobile_core.specs.Moments.{moment_events, moment_place, moments_before, passed, sets_at}
+use Rattle.mobile_core.specs.PagingEvents.{page_event, pages_behind}
+use Rattle.mobile_core.specs.Signaling.{message_at, message_events, message_heard, messages_by}
+use Rattle.mobile_core.specs.Signaling.{signal_in}
+use Rattle.mobile_core.specs.Streams.{known_now}
+use Rattle.mobile_core.specs.SyncEvents.{events_of, heard_at, sync_events_at, with_message}
+use Rattle.mobile_core.specs.TrafficEvents.{frame_heard, frames_by, if_followed}
+use Rattle.mobile_core.specs.TrafficStreams.{frames_now}
+use Rattle.mobile_core.specs.Tuning.{Tuning, sync_bound, sync_stream}
+use Rattle.mobile_core.specs.declared.event.Event.{Event}
+use Rattle.mobile_core.specs.declared.event.Event.TheVariants.{Frame, Paging, Pilot, Sets, Sync}
+use Rattle.mobile_core.specs.declared.event.Event.TheVariants.{Traffic as OnTraffic}
+use Rattle.mobile_core.specs.declared.legs.Leg.{Leg}
+use Rattle.mobile_core.specs.declared.mark.Mark.{Mark}
+use Rattle.chip_core.specs.declared.assignment.Traffic.{Traffic}
+use Rattle.clean_link.specs.HeardEach.{is_frame, is_message, is_page, is_sync}
+use Rattle.clean_link.specs.HeardPages.{type_within}
+
+-- ---- kinds by number
+
+abbrev pub kind_of : Event → ℕ
+kind_of (Pilot phase energy) = 0
+kind_of (Sync n capsule message) = 1
+kind_of (Paging n capsule message) = 2
+kind_of (Frame n rate good bits commands) = 3
+kind_of (OnTraffic n capsule message) = 4
+kind_of (Sets n time active candidate report) = 5
+
+abbrev pub IsKind : ℕ → Event → Type 0
+IsKind kind event = kind_of event ≡ kind
+
+-- a message as a handset reads it: a capsule, and what it spells
+abbrev ReadMessage : Type 0
+ReadMessage = type_within (with_message [] None)
+
+abbrev ReadSignal : Type 0
+ReadSignal = type_within (signal_in Plain None)
+
+-- ---- the lists of a number of samples
+
+all_in : (kind : ℕ) (f : ℕ → List Event) (ks : List ℕ) → ((k : ℕ) → All (IsKind kind) (f k)) →
+    All (IsKind kind) (flat_map f ks)
+all_in kind f [] each = All-nil (IsKind kind)
+all_in kind f (k ∷ ks) each =
+    All-append (IsKind kind) (f k) (flat_map f ks) (each k) (all_in kind f ks each)
+
+told_kind : (n : ℕ) (told : Option ReadMessage) → All (IsKind 1) (events_of n told)
+told_kind n None = All-nil (IsKind 1)
+told_kind n (Some told) = All-cons (IsKind 1) _ [] refl (All-nil (IsKind 1))
+
+sync_kind : (t : Tuning) (samples : List Sample) (n : ℕ) →
+    All (IsKind 1) (sync_events_at t samples n)
+unfolding sync_events_at
+sync_kind t samples n =
+    all_in 1 (λ k. events_of n (heard_at t samples k))
+    (known_now t.count (sync_stream t) n (sync_bound n)) (λ k. told_kind n (heard_at t samples k))
+
+paging_kind : (t : Tuning) (samples : List Sample) (n : ℕ) →
+    All (IsKind 2) (paging_events_at t samples n)
+unfolding paging_events_at
+paging_kind t samples n =
+    All-map (IsKind 2) (page_event n) (pages_behind t t.paging (mark t samples n) samples n)
+    (λ k d below. refl)
+
+behind_kind : (kind : ℕ) (heard : Traffic → Mark → List Event) (followed : Option Traffic)
+    (m : Option Mark) → ((traffic : Traffic) (m' : Mark) → All (IsKind kind) (heard traffic m')) →
+    All (IsKind kind) (if_followed heard followed m)
+behind_kind kind heard None m each = All-nil (IsKind kind)
+behind_kind kind heard (Some traffic) None each = All-nil (IsKind kind)
+behind_kind kind heard (Some traffic) (Some m) each = each traffic m
+
+frames_kind : (t : Tuning) (traffic : Traffic) (m : Mark) (legs : ℕ → List Leg)
+    (samples : List Sample) (n : ℕ) → All (IsKind 3) (frames_by t traffic m legs samples n)
+unfolding frames_by
+frames_kind t traffic m legs samples n =
+    All-map (IsKind 3) (frame_heard t traffic m legs samples n) (frames_now t traffic m legs n)
+    (λ k d below. refl)
+
+frame_kind : (t : Tuning) (samples : List Sample) (n : ℕ) →
+    All (IsKind 3) (frame_events_at t samples n)
+unfolding frame_events_at
+frame_kind t samples n =
+    behind_kind 3 (λ traffic m. frames_at t traffic m samples n) t.traffic (mark t samples n)
+    (λ traffic m. frames_kind t traffic m (legs_at t traffic m samples n) (take n samples) n)
+
+signal_kind : (n : ℕ) (heard : Option ReadSignal) → All (IsKind 4) (message_events n heard)
+signal_kind n None = All-nil (IsKind 4)
+signal_kind n (Some heard) = All-cons (IsKind 4) _ [] refl (All-nil (IsKind 4))
+
+messages_kind : (t : Tuning) (traffic : Traffic) (m : Mark) (legs : ℕ → List Leg)
+    (samples : List Sample) (n : ℕ) → All (IsKind 4) (messages_by t traffic m legs samples n)
+unfolding messages_by
+messages_kind t traffic m legs samples n =
+    all_in 4 (message_heard t traffic m legs samples n) (frames_now t traffic m legs n)
+    (λ k. signal_kind n (message_at t traffic m legs samples k))
+
+message_kind : (t : Tuning) (samples : List Sample) (n : ℕ) →
+    All (IsKind 4) (message_events_at t samples n)
+unfolding message_events_at
+message_kind t samples n =
+    behind_kind 4 (λ traffic m. messages_at t traffic m samples n) t.traffic (mark t samples n)
+    (λ traffic m. messages_kind t traffic m (legs_at t traffic m samples n) (take n samples) n)
+
+either_kind : (b : Bool) (es : List Event) → All (IsKind 5) es →
+    All (IsKind 5) (if b then es else [])
+either_kind true es is = is
+either_kind false es is = All-nil (IsKind 5)
+
+change_kind : (m : Mark) (j : ℕ) (change : SetChange) (s : Standing) →
+    All (IsKind 5) (moment_events m j change s)
+change_kind m j change s =
+    either_kind (change.changed || change.report) _
+    (All-cons (IsKind 5) _ [] refl (All-nil (IsKind 5)))
+
+moment_kind : (t : Tuning) (traffic : Traffic) (m : Mark) (samples : List Sample) (n : ℕ) →
+    All (IsKind 5) (sets_at t traffic m samples n)
+unfolding sets_at
+moment_kind t traffic m samples n =
+    let j : ℕ = moments_before m n in
+    let first = take n samples in
+    let before = heard_from t traffic m (kept_to t traffic m samples j) first j 98304 in
+    either_kind (moment_place m (j + 1) == n) _
+    (change_kind m (j + 1) (changed m first (j + 1) before) (passed m first (j + 1) before))
+
+sets_kind : (t : Tuning) (samples : List Sample) (n : ℕ) →
+    All (IsKind 5) (sets_events_at t samples n)
+unfolding sets_events_at
+sets_kind t samples n =
+    behind_kind 5 (λ traffic m. sets_at t traffic m samples n) t.traffic (mark t samples n)
+    (λ traffic m. moment_kind t traffic m samples n)
+
+-- ---- those of one kind
+
+-- a test that all events of a kind pass, or none
+abbrev Passes : (Event → Bool) → ℕ → Bool → Type 0
+Passes test kind pass = (e : Event) → kind_of e ≡ kind → test e ≡ pass
+
+kept : (test : Event → Bool) (kind : ℕ) (es : List Event) → Passes test kind true →
+    All (IsKind kind) es → filter test es ≡ es
+kept test kind [] pass are = refl
+kept test kind (e ∷ es) pass are =
+    let here = pass e (All-head (IsKind kind) e es are) in
+    let rest = kept test kind es pass (All-tail (IsKind kind) e es are) in
+    rw (here, rest) refl
+
+dropped : (test : Event → Bool) (kind : ℕ) (es : List Event) → Passes test kind false →
+    All (IsKind kind) es → filter test es ≡ []
+dropped test kind [] pass are = refl
+dropped test kind (e ∷ es) pass are =
+    let here = pass e (All-head (IsKind kind) e es are) in
+    let rest = dropped test kind es pass (All-tail (IsKind kind) e es are) in
+    rw (here, rest) refl
+
+-- each of the four kinds of event passes its own test alone
+sync_passes : (e : Event) → is_sync e ≡ nat_eq (kind_of e) 1
+sync_passes (Pilot phase energy) = refl
+sync_passes (Sync n capsule message) = refl
+sync_passes (Paging n capsule message) = refl
+sync_passes (Frame n rate good bits commands) = refl
+sync_passes (OnTraffic n capsule message) = refl
+sync_passes (Sets n time active candidate report) = refl
+
+page_passes : (e : Event) → is_page e ≡ nat_eq (kind_of e) 2
+page_passes (Pilot phase energy) = refl
+page_passes (Sync n capsule message) = refl
+page_passes (Paging n capsule message) = refl
+page_passes (Frame n rate good bits commands) = refl
+page_passes (OnTraffic n capsule message) = refl
+page_passes (Sets n time active candidate report) = refl
+
+frame_passes : (e : Event) → is_frame e ≡ nat_eq (kind_of e) 3
+frame_passes (Pilot phase energy) = refl
+frame_passes (Sync n capsule message) = refl
+frame_passes (Paging n capsule message) = refl
+frame_passes (Frame n rate good bits commands) = refl
+frame_passes (OnTraffic n capsule message) = refl
+frame_passes (Sets n time active candidate report) = refl
+
+message_passes : (e : Event) → is_message e ≡ nat_eq (kind_of e) 4
+message_passes (Pilot phase energy) = refl
+message_passes (Sync n capsule message) = refl
+message_passes (Paging n capsule message) = refl
+message_passes (Frame n rate good bits commands) = refl
+message_passes (OnTraffic n capsule message) = refl
+message_passes (Sets n time active candidate report) = refl
+
+-- by the kind's number
+pass_by : (test : Event → Bool) (own kind : ℕ) (pass : Bool) →
+    ((e : Event) → test e ≡ nat_eq (kind_of e) own) → nat_eq kind own ≡ pass →
+    Passes test kind pass
+pass_by test own kind pass by is e same =
+    by e ∙ ap (λ (n : ℕ). nat_eq n own) same ∙ is
+
+-- what is left of lists whose tests are known
+left_of : (test : Event → Bool) (a b c d e a' b' c' d' e' : List Event) →
+    filter test a ≡ a' → filter test b ≡ b' → filter test c ≡ c' → filter test d ≡ d' →
+    filter test e ≡ e' →
+    filter test (a ++ (b ++ (c ++ (d ++ e)))) ≡ a' ++ (b' ++ (c' ++ (d' ++ e')))
+left_of test a b c d e a' b' c' d' e' fa fb fc fd fe =
+    rw (filter-append, filter-append, filter-append, filter-append, fa, fb, fc, fd, fe) refl
+
+module _ (t : Tuning) (samples : List Sample) where
+  module _ (test : Event → Bool) (own : ℕ)
+      (by : (e : Event) → test e ≡ nat_eq (kind_of e) own) where
+    out : (kind : ℕ) (es : List Event) → nat_eq kind own ≡ false → All (IsKind kind) es →
+        filter test es ≡ []
+    out kind es other are = dropped test kind es (pass_by test own kind false by other) are
+
+    in_all : (es : List Event) → nat_eq own own ≡ true → All (IsKind own) es →
+        filter test es ≡ es
+    in_all es same are = kept test own es (pass_by test own own true by same) are
+
+  sync_left : (n : ℕ) → filter is_sync (events_at t samples n) ≡ sync_events_at t samples n
+  unfolding events_at
+  sync_left n =
+      left_of is_sync (sync_events_at t samples n) (paging_events_at t samples n)
+      (frame_events_at t samples n) (message_events_at t samples n) (sets_events_at t samples n)
+      (sync_events_at t samples n) [] [] [] []
+      (in_all is_sync 1 sync_passes (sync_events_at t samples n) refl (sync_kind t samples n))
+      (out is_sync 1 sync_passes 2 (paging_events_at t samples n) refl (paging_kind t samples n))
+      (out is_sync 1 sync_passes 3 (frame_events_at t samples n) refl (frame_kind t samples n))
+      (out is_sync 1 sync_passes 4 (message_events_at t samples n) refl (message_kind t samples n))
+      (out is_sync 1 sync_passes 5 (sets_events_at t samples n) refl (sets_kind t samples n))
+      ∙ append-nil (sync_events_at t samples n)
+
+  page_left : (n : ℕ) → filter is_page (events_at t samples n) ≡ paging_events_at t samples n
+  unfolding events_at
+  page_left n =
+      left_of is_page (sync_events_at t samples n) (paging_events_at t samples n)
+      (frame_events_at t samples n) (message_events_at t samples n) (sets_events_at t samples n)
+      [] (paging_events_at t samples n) [] [] []
+      (out is_page 2 page_passes 1 (sync_events_at t samples n) refl (sync_kind t samples n))
+      (in_all is_page 2 page_passes (paging_events_at t samples n) refl (paging_kind t samples n))
+      (out is_page 2 page_passes 3 (frame_events_at t samples n) refl (frame_kind t samples n))
+      (out is_page 2 page_passes 4 (message_events_at t samples n) refl (message_kind t samples n))
+      (out is_page 2 page_passes 5 (sets_events_at t samples n) refl (sets_kind t samples n))
+      ∙ append-nil (paging_events_at t samples n)
+
+  frame_left : (n : ℕ) → filter is_frame (events_at t samples n) ≡ frame_events_at t samples n
+  unfolding events_at
+  frame_left n =
+      left_of is_frame (sync_events_at t samples n) (paging_events_at t samples n)
+      (frame_events_at t samples n) (message_events_at t samples n) (sets_events_at t samples n)
+      [] [] (frame_events_at t samples n) [] []
+      (out is_frame 3 frame_passes 1 (sync_events_at t samples n) refl (sync_kind t samples n))
+      (out is_frame 3 frame_passes 2 (paging_events_at t samples n) refl (paging_kind t samples n))
+      (in_all is_frame 3 frame_passes (frame_events_at t samples n) refl (frame_kind t samples n))
+      (out is_frame 3 frame_passes 4 (message_events_at t samples n) refl
+      (message_kind t samples n))
+      (out is_frame 3 frame_passes 5 (sets_events_at t samples n) refl (sets_kind t samples n))
+      ∙ append-nil (frame_events_at t samples n)
+
+  message_left : (n : ℕ) →
+      filter is_message (events_at t samples n) ≡ message_events_at t samples n
+  unfolding events_at
+  message_left n =
+      left_of is_message (sync_events_at t samples n) (paging_events_at t samples n)
+      (frame_events_at t samples n) (message_events_at t samples n) (sets_events_at t samples n)
+      [] [] [] (message_events_at t samples n) []
+      (out is_message 4 message_passes 1 (sync_events_at t samples n) refl
+      (sync_kind t samples n))
+      (out is_message 4 message_passes 2 (paging_events_at t samples n) refl
+      (paging_kind t samples n))
+      (out is_message 4 message_passes 3 (frame_events_at t samples n) refl
+      (frame_kind t samples n))
+      (in_all is_message 4 message_passes (message_events_at t samples n) refl
+      (message_kind t samples n))
+      (out is_message 4 message_passes 5 (sets_events_at t samples n) refl
+      (sets_kind t samples n))
+      ∙ append-nil (message_events_at t samples n)
+
+-- ---- of all numbers of samples
+
+left_each : (test : Event → Bool) (f g : ℕ → List Event) (ks : List ℕ) →
+    ((n : ℕ) → filter test (f n) ≡ g n) → filter test (flat_map f ks) ≡ flat_map g ks
+left_each test f g [] each = refl
+left_each test f g (k ∷ ks) each =
+    let here = each k in
+    let rest = left_each test f g ks each in
+    rw (filter-append, here, rest) refl
+
+module _ (t : Tuning) (samples : List Sample) (ks : List ℕ) where
+  pub sync_of_all : filter is_sync (flat_map (events_at t samples) ks)
+      ≡ flat_map (sync_events_at t samples) ks
+  sync_of_all =
+      left_each is_sync (events_at t samples) (sync_events_at t samples) ks (sync_left t samples)
+
+  pub pages_of_all : filter is_page (flat_map (events_at t samples) ks)
+      ≡ flat_map (paging_events_at t samples) ks
+  pages_of_all =
+      left_each is_page (events_at t samples) (paging_events_at t samples) ks (page_left t samples)
+
+  pub frames_of_all : filter is_frame (flat_map (events_at t samples) ks)
+      ≡ flat_map (frame_events_at t samples) ks
+  frames_of_all =
+      left_each is_frame (events_at t samples) (frame_events_at t samples) ks
+      (frame_left t samples)
+
+  pub messages_of_all : filter is_message (flat_map (events_at t samples) ks)
+      ≡ flat_map (message_events_at t samples) ks
+  messages_of_all =
+      left_each is_message (events_at t samples) (message_events_at t samples) ks
+      (message_left t samples)

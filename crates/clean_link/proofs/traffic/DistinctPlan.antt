@@ -1,0 +1,524 @@
+-- A cell with a distinct frame of each rate.
+use Rattle.std.proofs.Common.{◌≡◌, ◌≢◌, ℕ, ◌+◌, ◌*◌, ◌^◌, ◌<◌, ◌≤◌, Bool, true}
+use Rattle.std.proofs.Common.{List, [], ◌∷◌, length, map, refl, sym, ap, ◌∙◌, arith, subst, nat_le}
+use Rattle.std.proofs.Common.{inl, inr, Some}
+use Rattle.std.specs.Prelude.{All}
+use Rattle.std.specs.List.{flat_map}
+use Rattle.std.proofs.lemmas.Bool.{and_parts, cases_eq, leb-true}
+use Rattle.std.proofs.lemmas.List.Elements.{All-cons, All-nil}
+use Rattle.chip_core.specs.Bits.{binary, places}
+use Rattle.chip_core.specs.Complex.{norm}
+use Rattle.chip_core.specs.declared.width.Width.TheVariants.{Sixteen}
+use Rattle.long_code.specs.LongCode.{after, before, traffic_mask}
+use Rattle.long_code.proofs.After.{after-after}
+use Rattle.long_code.proofs.Period.{IsState-before}
+use Rattle.quality_bits.specs.Capsules.{capsule, octets}
+use Rattle.quality_bits.specs.Quality.{check_bits}
+use Rattle.quality_bits.specs.TrafficWords.{traffic_word}
+use Rattle.quality_bits.specs.declared.kind.Kind.TheVariants.{M30}
+use Rattle.quality_bits.specs.declared.rate.Rate.{Rate}
+use Rattle.quality_bits.specs.declared.rate.Rate.TheVariants.{R9600, R4800, R2400, R1200}
+use Rattle.symbol_path.specs.FramesTwo.{word_bits}
+use Rattle.symbol_path.specs.Scrambling.{power_places}
+use Rattle.symbol_path.specs.declared.rate_two.Rate2.{Rate2}
+use Rattle.symbol_path.specs.declared.rate_two.Rate2.TheVariants.{R14400, R7200, R3600, R1800}
+use Rattle.symbol_path.proofs.SymbolChips.{on_again}
+use Rattle.sync_message.specs.SyncMessage.{sync_body, sync_capsule, IsSyncMessage}
+use Rattle.traffic_message.specs.Multiplex.{split, split_9600}
+use Rattle.cell_plan.specs.Plan.{loudness, AreLawfulBeside, IsFreeOf}
+use Rattle.cell_plan.specs.Plan.{IsLawfulPlan, IsPagingPlan, IsTrafficPlan}
+use Rattle.cell_plan.specs.Pages.{paging_rate}
+use Rattle.cell_plan.specs.Stated.{IsStatedPaging}
+use Rattle.cell_plan.specs.Signal.{frames_of}
+use Rattle.cell_plan.specs.TrafficFrames.{cycled_frame, IsTrafficFrame, IsTrafficFrame2}
+use Rattle.cell_plan.specs.declared.plan.PagingPlan.{PagingPlan}
+use Rattle.cell_plan.specs.declared.plan.TrafficPlan.{TrafficPlan}
+use Rattle.cell_plan.specs.declared.traffic_frame.TrafficFrame.{TrafficFrame}
+use Rattle.cell_plan.specs.declared.traffic_frame2.TrafficFrame2.{TrafficFrame2}
+use Rattle.cell_plan.specs.Stated.{IsReceivable}
+use Rattle.clean_link.specs.DistinctFrames.{lost_symbols}
+use Rattle.clean_link.specs.DistinctPlan.{bits_1200, bits_14400, bits_1800, bits_2400, bits_3600}
+use Rattle.clean_link.specs.DistinctPlan.{bits_4800, bits_7200, bits_9600, distinct_plan}
+use Rattle.clean_link.specs.DistinctPlan.{first_channel, frame2_at, frame_at, on_row}
+use Rattle.clean_link.specs.DistinctPlan.{second_channel, told_message}
+use Rattle.clean_link.specs.DistinctPlan.{HasMark, HasSetOne, HasSetTwo}
+use Rattle.clean_link.specs.HeardFrames.{frame_chip, is_received, received_frames, replaced_of}
+use Rattle.clean_link.specs.HeardFrames.{AreDistinct, IsDistinctFrame}
+use Rattle.clean_link.specs.HeardPages.{end_chip}
+use Rattle.clean_link.specs.HeardSignals.{messages_sent}
+use Rattle.clean_link.specs.ReceivedFrames.{cycled_frame2, IsDistinctFrame2}
+use Rattle.clean_link.specs.SentEvents.{signaling_sent, told_with_sync}
+use Rattle.clean_link.specs.SharedWords.{lost_symbols2, sharing, sharing2, words_giving}
+use Rattle.clean_link.specs.SharedWords.{SharesNone, SharesNone2}
+use Rattle.clean_link.proofs.traffic.PowerPlaces.{pairs_by, places_are, starts, walked, walked_is}
+use Rattle.clean_link.proofs.traffic.SharedFrames.{distinct_by_sharing, distinct_by_sharing2}
+
+-- ---- the long code
+
+-- the states a group before each of the four frames behind the mark
+first_state : after (before 1 686592) 688128 ≡ after 1 1536
+first_state = on_again 1 686592 1536
+
+walk_1 : walked 24576 1 ≡ 2395420971681
+walk_1 = refl
+
+walk_2 : walked 24576 2395420971681 ≡ 1799602966513
+walk_2 = refl
+
+walk_3 : walked 24576 1799602966513 ≡ 1907663947772
+walk_3 = refl
+
+-- a frame later
+frame_on : (n v w : ℕ) → after 1 n ≡ v → v < 2 ^ 42 → walked 24576 v ≡ w →
+    after 1 (n + 24576) ≡ w
+frame_on n v w here low walk =
+    sym (after-after 1 n 24576) ∙ ap (λ (s : ℕ). after s 24576) here
+    ∙ sym (walked_is 24576 v low) ∙ walk
+
+state_1 : after 1 24576 ≡ 2395420971681
+state_1 = sym (walked_is 24576 1 (omega arith)) ∙ walk_1
+
+state_2 : after 1 49152 ≡ 1799602966513
+state_2 = frame_on 24576 2395420971681 1799602966513 state_1 (omega arith) walk_2
+
+state_3 : after 1 73728 ≡ 1907663947772
+state_3 = frame_on 49152 1799602966513 1907663947772 state_2 (omega arith) walk_3
+
+-- so those at the frames
+state_at : (n v : ℕ) → after 1 n ≡ v →
+    after (before 1 686592) (686592 + (n + 1536)) ≡ after v 1536
+state_at n v here =
+    on_again 1 686592 (n + 1536) ∙ sym (after-after 1 n 1536)
+    ∙ ap (λ (s : ℕ). after s 1536) here
+
+mask_is : traffic_mask 0x9f1c0a37 ≡ 0x318cc08f34f
+unfolding traffic_mask binary
+mask_is = refl
+
+-- ---- the places of power control bits
+
+abbrev starts_0 : List ℕ
+starts_0 =
+    8 ∷ 10 ∷ 14 ∷ 0 ∷ 3 ∷ 1 ∷ 4 ∷ 8 ∷ 12 ∷ 0 ∷ 8 ∷ 3 ∷ 1 ∷ 11 ∷ 15 ∷ 1 ∷ []
+
+abbrev starts_1 : List ℕ
+starts_1 =
+    0 ∷ 11 ∷ 3 ∷ 14 ∷ 5 ∷ 15 ∷ 8 ∷ 15 ∷ 10 ∷ 6 ∷ 14 ∷ 1 ∷ 3 ∷ 2 ∷ 13 ∷ 15 ∷ []
+
+abbrev starts_2 : List ℕ
+starts_2 =
+    10 ∷ 14 ∷ 8 ∷ 12 ∷ 3 ∷ 9 ∷ 13 ∷ 3 ∷ 1 ∷ 2 ∷ 2 ∷ 15 ∷ 9 ∷ 6 ∷ 5 ∷ 3 ∷ []
+
+abbrev starts_3 : List ℕ
+starts_3 =
+    15 ∷ 5 ∷ 12 ∷ 15 ∷ 4 ∷ 6 ∷ 9 ∷ 7 ∷ 12 ∷ 6 ∷ 8 ∷ 8 ∷ 6 ∷ 1 ∷ 8 ∷ 13 ∷ []
+
+starts_are_0 : starts 0x318cc08f34f 16 1 ≡ starts_0
+unfolding binary
+starts_are_0 = refl
+
+starts_are_1 : starts 0x318cc08f34f 16 2395420971681 ≡ starts_1
+unfolding binary
+starts_are_1 = refl
+
+starts_are_2 : starts 0x318cc08f34f 16 1799602966513 ≡ starts_2
+unfolding binary
+starts_are_2 = refl
+
+starts_are_3 : starts 0x318cc08f34f 16 1907663947772 ≡ starts_3
+unfolding binary
+starts_are_3 = refl
+
+places_by : (state v : ℕ) (found : List ℕ) → v < 2 ^ 42 → state ≡ after v 1536 →
+    starts 0x318cc08f34f 16 v ≡ found →
+    power_places state (traffic_mask 0x9f1c0a37) ≡ pairs_by found
+places_by state v found low here are =
+    ap (λ (s : ℕ). power_places s (traffic_mask 0x9f1c0a37)) here
+    ∙ ap (power_places (after v 1536)) mask_is
+    ∙ places_are 0x318cc08f34f v low ∙ ap pairs_by are
+
+abbrev places_in : ℕ → List ℕ
+places_in chip = power_places (after (before 1 686592) chip) (traffic_mask 0x9f1c0a37)
+
+places_0 : places_in 688128 ≡ pairs_by starts_0
+places_0 =
+    places_by (after (before 1 686592) 688128) 1 starts_0 (omega arith) first_state starts_are_0
+
+places_1 : places_in 712704 ≡ pairs_by starts_1
+places_1 =
+    places_by (after (before 1 686592) 712704) 2395420971681 starts_1 (omega arith)
+    (state_at 24576 2395420971681 state_1) starts_are_1
+
+places_2 : places_in 737280 ≡ pairs_by starts_2
+places_2 =
+    places_by (after (before 1 686592) 737280) 1799602966513 starts_2 (omega arith)
+    (state_at 49152 1799602966513 state_2) starts_are_2
+
+places_3 : places_in 761856 ≡ pairs_by starts_3
+places_3 =
+    places_by (after (before 1 686592) 761856) 1907663947772 starts_3 (omega arith)
+    (state_at 73728 1907663947772 state_3) starts_are_3
+
+-- ---- frames of rate set 1
+
+own_9600 : sharing (lost_symbols (pairs_by starts_0)) R9600 (traffic_word R9600 bits_9600) R9600
+    ≡ traffic_word R9600 bits_9600 ∷ []
+unfolding binary places check_bits words_giving
+own_9600 = refl
+
+others_9600 : (r : Rate) → r ≢ R9600 →
+    sharing (lost_symbols (pairs_by starts_0)) R9600 (traffic_word R9600 bits_9600) r ≡ []
+unfolding binary places check_bits words_giving
+others_9600 R9600 other = absurd (other refl)
+others_9600 R4800 other = refl
+others_9600 R2400 other = refl
+others_9600 R1200 other = refl
+
+own_4800 : sharing (lost_symbols (pairs_by starts_1)) R4800 (traffic_word R4800 bits_4800) R4800
+    ≡ traffic_word R4800 bits_4800 ∷ []
+unfolding binary places check_bits words_giving
+own_4800 = refl
+
+others_4800 : (r : Rate) → r ≢ R4800 →
+    sharing (lost_symbols (pairs_by starts_1)) R4800 (traffic_word R4800 bits_4800) r ≡ []
+unfolding binary places check_bits words_giving
+others_4800 R9600 other = refl
+others_4800 R4800 other = absurd (other refl)
+others_4800 R2400 other = refl
+others_4800 R1200 other = refl
+
+own_2400 : sharing (lost_symbols (pairs_by starts_2)) R2400 (traffic_word R2400 bits_2400) R2400
+    ≡ traffic_word R2400 bits_2400 ∷ []
+unfolding binary places check_bits words_giving
+own_2400 = refl
+
+others_2400 : (r : Rate) → r ≢ R2400 →
+    sharing (lost_symbols (pairs_by starts_2)) R2400 (traffic_word R2400 bits_2400) r ≡ []
+unfolding binary places check_bits words_giving
+others_2400 R9600 other = refl
+others_2400 R4800 other = refl
+others_2400 R2400 other = absurd (other refl)
+others_2400 R1200 other = refl
+
+own_1200 : sharing (lost_symbols (pairs_by starts_3)) R1200 (traffic_word R1200 bits_1200) R1200
+    ≡ traffic_word R1200 bits_1200 ∷ []
+unfolding binary places check_bits words_giving
+own_1200 = refl
+
+others_1200 : (r : Rate) → r ≢ R1200 →
+    sharing (lost_symbols (pairs_by starts_3)) R1200 (traffic_word R1200 bits_1200) r ≡ []
+unfolding binary places check_bits words_giving
+others_1200 R9600 other = refl
+others_1200 R4800 other = refl
+others_1200 R2400 other = refl
+others_1200 R1200 other = absurd (other refl)
+
+-- one of them is distinct where power control bits replace these places
+distinct_at : (replaced found : List ℕ) (rate : Rate) (information : List Bool) →
+    replaced ≡ found →
+    sharing (lost_symbols found) rate (traffic_word rate information) rate
+    ≡ traffic_word rate information ∷ [] →
+    ((r : Rate) → r ≢ rate →
+    sharing (lost_symbols found) rate (traffic_word rate information) r ≡ []) →
+    All (IsDistinctFrame replaced) (frame_at rate information ∷ [])
+distinct_at replaced found rate information are own others =
+    let alone : SharesNone (lost_symbols found) rate (traffic_word rate information) =
+    record { own = own; others = others } in
+    All-cons (IsDistinctFrame replaced) (frame_at rate information) []
+    (subst (λ (ps : List ℕ). IsDistinctFrame ps (frame_at rate information)) (sym are)
+    (distinct_by_sharing found rate information alone)) (All-nil (IsDistinctFrame replaced))
+
+-- ---- frames of rate set 2
+
+own_14400 : sharing2 (lost_symbols2 (pairs_by starts_0)) R14400 (word_bits R14400 bits_14400) R14400
+    ≡ word_bits R14400 bits_14400 ∷ []
+unfolding binary places check_bits words_giving
+own_14400 = refl
+
+others_14400 : (r : Rate2) → r ≢ R14400 →
+    sharing2 (lost_symbols2 (pairs_by starts_0)) R14400 (word_bits R14400 bits_14400) r ≡ []
+unfolding binary places check_bits words_giving
+others_14400 R14400 other = absurd (other refl)
+others_14400 R7200 other = refl
+others_14400 R3600 other = refl
+others_14400 R1800 other = refl
+
+own_7200 : sharing2 (lost_symbols2 (pairs_by starts_1)) R7200 (word_bits R7200 bits_7200) R7200
+    ≡ word_bits R7200 bits_7200 ∷ []
+unfolding binary places check_bits words_giving
+own_7200 = refl
+
+others_7200 : (r : Rate2) → r ≢ R7200 →
+    sharing2 (lost_symbols2 (pairs_by starts_1)) R7200 (word_bits R7200 bits_7200) r ≡ []
+unfolding binary places check_bits words_giving
+others_7200 R14400 other = refl
+others_7200 R7200 other = absurd (other refl)
+others_7200 R3600 other = refl
+others_7200 R1800 other = refl
+
+own_3600 : sharing2 (lost_symbols2 (pairs_by starts_2)) R3600 (word_bits R3600 bits_3600) R3600
+    ≡ word_bits R3600 bits_3600 ∷ []
+unfolding binary places check_bits words_giving
+own_3600 = refl
+
+others_3600 : (r : Rate2) → r ≢ R3600 →
+    sharing2 (lost_symbols2 (pairs_by starts_2)) R3600 (word_bits R3600 bits_3600) r ≡ []
+unfolding binary places check_bits words_giving
+others_3600 R14400 other = refl
+others_3600 R7200 other = refl
+others_3600 R3600 other = absurd (other refl)
+others_3600 R1800 other = refl
+
+own_1800 : sharing2 (lost_symbols2 (pairs_by starts_3)) R1800 (word_bits R1800 bits_1800) R1800
+    ≡ word_bits R1800 bits_1800 ∷ []
+unfolding binary places check_bits words_giving
+own_1800 = refl
+
+others_1800 : (r : Rate2) → r ≢ R1800 →
+    sharing2 (lost_symbols2 (pairs_by starts_3)) R1800 (word_bits R1800 bits_1800) r ≡ []
+unfolding binary places check_bits words_giving
+others_1800 R14400 other = refl
+others_1800 R7200 other = refl
+others_1800 R3600 other = refl
+others_1800 R1800 other = absurd (other refl)
+
+distinct2_at : (replaced found : List ℕ) (rate : Rate2) (information : List Bool) →
+    replaced ≡ found →
+    sharing2 (lost_symbols2 found) rate (word_bits rate information) rate
+    ≡ word_bits rate information ∷ [] →
+    ((r : Rate2) → r ≢ rate →
+    sharing2 (lost_symbols2 found) rate (word_bits rate information) r ≡ []) →
+    All (IsDistinctFrame2 replaced) (frame2_at rate information ∷ [])
+distinct2_at replaced found rate information are own others =
+    let alone : SharesNone2 (lost_symbols2 found) rate (word_bits rate information) =
+    record { own = own; others = others } in
+    All-cons (IsDistinctFrame2 replaced) (frame2_at rate information) []
+    (subst (λ (ps : List ℕ). IsDistinctFrame2 ps (frame2_at rate information)) (sym are)
+    (distinct_by_sharing2 found rate information alone)) (All-nil (IsDistinctFrame2 replaced))
+
+-- ---- which frames are received
+
+-- what is true of frames 28 to 31
+by_four : (P : ℕ → Type 0) → P 28 → P 29 → P 30 → P 31 → (n : ℕ) → 28 ≤ n → n ≤ 31 → P n
+by_four P a b c d n low high =
+    elim (cases_eq n 28) [
+      | inl is ↦ subst P (sym is) a
+      | inr not_28 ↦
+          elim (cases_eq n 29) [
+            | inl is ↦ subst P (sym is) b
+            | inr not_29 ↦
+                elim (cases_eq n 30) [
+                  | inl is ↦ subst P (sym is) c
+                  | inr not_30 ↦
+                      let is : 31 ≡ n = omega (arith, low, high, not_28, not_29, not_30) in
+                      subst P is d
+                ]
+          ]
+    ]
+
+-- is true of those that are received
+received_four : (p : TrafficPlan) → p.offset ≡ 0 → (P : ℕ → Type 0) → P 28 → P 29 → P 30 → P 31 →
+    (frame : ℕ) → is_received distinct_plan p 688128 frame ≡ true → P frame
+received_four p offset P a b c d frame received =
+    let both = and_parts (nat_le 688128 (frame_chip p frame))
+    (nat_le (frame_chip p (frame + 1)) (end_chip distinct_plan)) received in
+    let begun : 688128 ≤ frame_chip p frame = leb-true 688128 (frame_chip p frame) both.0 in
+    let ends : frame_chip p (frame + 1) ≤ 786432 =
+    leb-true (frame_chip p (frame + 1)) (end_chip distinct_plan) both.1 in
+    by_four P a b c d frame (omega (arith, begun, offset)) (omega (arith, ends, offset))
+
+distinct_one : AreDistinct distinct_plan first_channel 688128
+distinct_one =
+    received_four first_channel refl
+    (λ frame. All (IsDistinctFrame (replaced_of distinct_plan first_channel frame))
+    (cycled_frame (frames_of distinct_plan first_channel) frame))
+    (distinct_at (places_in 688128) (pairs_by starts_0) R9600 bits_9600 places_0 own_9600
+    others_9600)
+    (distinct_at (places_in 712704) (pairs_by starts_1) R4800 bits_4800 places_1 own_4800
+    others_4800)
+    (distinct_at (places_in 737280) (pairs_by starts_2) R2400 bits_2400 places_2 own_2400
+    others_2400)
+    (distinct_at (places_in 761856) (pairs_by starts_3) R1200 bits_1200 places_3 own_1200
+    others_1200)
+
+distinct_two : (frame : ℕ) → is_received distinct_plan second_channel 688128 frame ≡ true →
+    All (IsDistinctFrame2 (replaced_of distinct_plan second_channel frame))
+    (cycled_frame2 (frames_of distinct_plan second_channel) frame)
+distinct_two =
+    received_four second_channel refl
+    (λ frame. All (IsDistinctFrame2 (replaced_of distinct_plan second_channel frame))
+    (cycled_frame2 (frames_of distinct_plan second_channel) frame))
+    (distinct2_at (places_in 688128) (pairs_by starts_0) R14400 bits_14400 places_0 own_14400
+    others_14400)
+    (distinct2_at (places_in 712704) (pairs_by starts_1) R7200 bits_7200 places_1 own_7200
+    others_7200)
+    (distinct2_at (places_in 737280) (pairs_by starts_2) R3600 bits_3600 places_2 own_3600
+    others_3600)
+    (distinct2_at (places_in 761856) (pairs_by starts_3) R1800 bits_1800 places_3 own_1800
+    others_1800)
+
+-- ---- the cell
+
+told_octets : octets M30 (sync_body told_message) ≡ 25
+unfolding sync_body binary
+told_octets = refl
+
+told_fills : 8 * octets M30 (sync_body told_message) ≡ 8 + length (sync_body told_message) + 30
+unfolding sync_body binary
+told_fills = refl
+
+told_lawful : IsSyncMessage told_message
+told_lawful = record {
+  fits = (omega arith, (omega arith, (omega arith, (omega arith, (omega arith, (omega arith, (omega arith, (omega arith, (omega arith, (omega arith, (omega arith, (omega arith, tt))))))))))));
+  rest = refl;
+  fills = record {
+    whole = told_fills;
+    least = omega (arith, told_octets);
+    most = omega (arith, told_octets);
+  };
+}
+
+sized_one : All IsTrafficFrame (
+    frame_at R9600 bits_9600 ∷ frame_at R4800 bits_4800
+    ∷ frame_at R2400 bits_2400 ∷ frame_at R1200 bits_1200 ∷ [])
+unfolding binary
+sized_one =
+    All-cons IsTrafficFrame (frame_at R9600 bits_9600)
+    (frame_at R4800 bits_4800 ∷ frame_at R2400 bits_2400 ∷ frame_at R1200 bits_1200 ∷ []) refl
+    (All-cons IsTrafficFrame (frame_at R4800 bits_4800)
+    (frame_at R2400 bits_2400 ∷ frame_at R1200 bits_1200 ∷ []) refl
+    (All-cons IsTrafficFrame (frame_at R2400 bits_2400) (frame_at R1200 bits_1200 ∷ []) refl
+    (All-cons IsTrafficFrame (frame_at R1200 bits_1200) [] refl (All-nil IsTrafficFrame))))
+
+sized_two : All IsTrafficFrame2 (
+    frame2_at R14400 bits_14400 ∷ frame2_at R7200 bits_7200
+    ∷ frame2_at R3600 bits_3600 ∷ frame2_at R1800 bits_1800 ∷ [])
+unfolding binary
+sized_two =
+    All-cons IsTrafficFrame2 (frame2_at R14400 bits_14400)
+    (frame2_at R7200 bits_7200 ∷ frame2_at R3600 bits_3600 ∷ frame2_at R1800 bits_1800 ∷ []) refl
+    (All-cons IsTrafficFrame2 (frame2_at R7200 bits_7200)
+    (frame2_at R3600 bits_3600 ∷ frame2_at R1800 bits_1800 ∷ []) refl
+    (All-cons IsTrafficFrame2 (frame2_at R3600 bits_3600) (frame2_at R1800 bits_1800 ∷ []) refl
+    (All-cons IsTrafficFrame2 (frame2_at R1800 bits_1800) [] refl (All-nil IsTrafficFrame2))))
+
+first_lawful : IsTrafficPlan first_channel
+first_lawful = record {
+  first = omega arith;
+  last = omega arith;
+  other = omega arith;
+  latest = omega arith;
+  gain = omega arith;
+  some = omega arith;
+  sized = record { one = sized_one; two = All-nil IsTrafficFrame2 };
+}
+
+second_lawful : IsTrafficPlan second_channel
+second_lawful = record {
+  first = omega arith;
+  last = omega arith;
+  other = omega arith;
+  latest = omega arith;
+  gain = omega arith;
+  some = omega arith;
+  sized = record { one = All-nil IsTrafficFrame; two = sized_two };
+}
+
+channels_lawful : AreLawfulBeside [] (first_channel ∷ second_channel ∷ [])
+channels_lawful = record {
+  few = omega arith;
+  are = All-cons IsTrafficPlan first_channel (second_channel ∷ []) first_lawful
+      (All-cons IsTrafficPlan second_channel [] second_lawful (All-nil IsTrafficPlan));
+  apart = (
+    All-cons (λ (u : TrafficPlan). u.row ≢ 8) second_channel [] (omega arith)
+        (All-nil (λ (u : TrafficPlan). u.row ≢ 8)),
+    (All-nil (λ (u : TrafficPlan). u.row ≢ 9), tt),
+  );
+  free = All-nil
+      (λ (p : PagingPlan). IsFreeOf (first_channel ∷ second_channel ∷ []) p.number);
+}
+
+loud_is : loudness distinct_plan ≡ 510
+loud_is = refl
+
+norm_is : norm distinct_plan.link.factor ≡ 9
+norm_is = refl
+
+plan_lawful : IsLawfulPlan Sixteen distinct_plan
+plan_lawful = record {
+  pn = omega arith;
+  time = omega arith;
+  lc = IsState-before 1 686592 (omega arith, omega arith);
+  start = omega arith;
+  samples = omega arith;
+  pilot = omega arith;
+  sync = (omega arith, told_lawful);
+  few = omega arith;
+  paging = All-nil (IsPagingPlan (paging_rate distinct_plan.sync));
+  apart = tt;
+  traffic = channels_lawful;
+  loud = omega (arith, loud_is);
+}
+
+receivable : IsReceivable Sixteen distinct_plan
+receivable = record {
+  lawful = plan_lawful;
+  link = omega (arith, norm_is);
+  pages = All-nil (IsStatedPaging (paging_rate distinct_plan.sync));
+}
+
+told_is : told_with_sync distinct_plan distinct_plan.sync ≡ Some 7
+unfolding sync_capsule sync_body capsule check_bits places binary
+told_is = refl
+
+-- ---- the laws
+
+pub has_mark : HasMark
+has_mark = (receivable, told_is)
+
+only_seven : (n : ℕ) → told_with_sync distinct_plan distinct_plan.sync ≡ Some n → n ≡ 7
+only_seven n told = let same : Some n ≡ Some 7 = sym told ∙ told_is in cc
+
+rates_one : flat_map
+    (λ frame. map (λ (f : TrafficFrame). f.rate)
+    (cycled_frame (frames_of distinct_plan first_channel) frame))
+    (received_frames distinct_plan first_channel 688128)
+    ≡ R9600 ∷ R4800 ∷ R2400 ∷ R1200 ∷ []
+unfolding places
+rates_one = refl
+
+rates_two : flat_map
+    (λ frame. map (λ (f : TrafficFrame2). f.rate)
+    (cycled_frame2 (frames_of distinct_plan second_channel) frame))
+    (received_frames distinct_plan second_channel 688128)
+    ≡ R14400 ∷ R7200 ∷ R3600 ∷ R1800 ∷ []
+unfolding places
+rates_two = refl
+
+silent : signaling_sent distinct_plan (Some (on_row 8)) ≡ []
+unfolding signaling_sent messages_sent split split_9600 sync_capsule sync_body capsule check_bits
+    places binary
+silent = refl
+
+pub has_set_one : HasSetOne
+has_set_one = record {
+  followed = record {
+    sent = (0, omega arith, refl);
+    assigned = record { row = refl; esn = refl; offset = refl };
+    one = omega arith;
+    distinct = λ superframes told.
+        subst (λ (n : ℕ). AreDistinct distinct_plan first_channel (98304 * n))
+        (sym (only_seven superframes told)) distinct_one;
+  };
+  rates = rates_one;
+  silent = silent;
+}
+
+pub has_set_two : HasSetTwo
+has_set_two = record {
+  sent = (1, omega arith, refl);
+  assigned = record { row = refl; esn = refl; offset = refl };
+  two = omega arith;
+  distinct = distinct_two;
+  rates = rates_two;
+}

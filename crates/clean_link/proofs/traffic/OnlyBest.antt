@@ -1,0 +1,188 @@
+-- The word of a distinct frame alone has the greatest score.
+use Rattle.std.proofs.Common.{◌≡◌, ℕ, ◌-◌, ◌*◌, ◌<◌, Bool, true, false, List}
+use Rattle.std.proofs.Common.{◌++◌, length, get_or, drop, replicate, refl, sym, ap, ◌∙◌, arith}
+use Rattle.std.proofs.Common.{⊎_elim, ℤ, pos, subst, length-append}
+use Rattle.std.specs.Prelude.{◌≤ℤ◌, ◌<ℤ◌, ◌*ℤ◌, if◌then◌else◌, int_lt}
+use Rattle.std.proofs.lemmas.Int.{ints}
+use Rattle.std.proofs.lemmas.Bool.{cases_Bool}
+use Rattle.std.proofs.lemmas.List.{drop_at, ext_get_or}
+use Rattle.chip_core.specs.Bits.{sign}
+use Rattle.conv_code.specs.ConvCode.{code_symbols}
+use Rattle.quality_bits.specs.Kinds.{quality_indicator}
+use Rattle.quality_bits.specs.TrafficWords.{information_of, quality_of, repeats_of, traffic_word}
+use Rattle.quality_bits.specs.declared.rate.Rate.{Rate}
+use Rattle.quality_bits.specs.declared.rate.Rate.TheVariants.{R9600, R4800, R2400, R1200}
+use Rattle.quality_bits.proofs.TrafficWords.{word_fills}
+use Rattle.symbol_path.specs.SentOrder.{data_shape}
+use Rattle.symbol_path.specs.FramesTwo as words_two
+use Rattle.symbol_path.specs.RatesTwo as rates_two
+use Rattle.symbol_path.specs.declared.rate_two.Rate2.{Rate2}
+use Rattle.symbol_path.proofs.Agreement.{length-sent}
+use Rattle.symbol_path.proofs.SentTwo.{length-sent2}
+use Rattle.symbol_path.proofs.WordsTwo.{length-word_bits}
+use Rattle.viterbi.specs.Best.{IsAllowed}
+use Rattle.viterbi.specs.Words.{Word, correlation}
+use Rattle.viterbi.specs.declared.word.Ends.TheVariants.{Zero}
+use Rattle.frame_decoder.specs.Laws.{frame_word, AgreeElsewhere, IsUnshared, ShowSymbols}
+use Rattle.frame_decoder.specs.TrafficFrames.{frame_bits, frame_symbols, is_replaced, unreplaced}
+use Rattle.frame_decoder.proofs.MaskedScores.{alone, get_or-masked, length-masked, masked}
+use Rattle.frame_decoder.proofs.MaskedScores.{own_score, weight}
+use Rattle.frame_decoder.proofs.Unreplaced.{get_or-unreplaced, length-unreplaced}
+use Rattle.rate_set_two.specs.Laws as laws_two
+use Rattle.rate_set_two.specs.TrafficFrames as second
+use Rattle.rake_finger.specs.declared.form.Form.TheVariants.{Data}
+use Rattle.cell_plan.specs.Sampled.{made_samples}
+use Rattle.mobile_core.specs.Streams.{frame_softs}
+use Rattle.mobile_core.specs.TrafficStreams.{replaced_in, stream_of}
+use Rattle.clean_link.specs.CleanLink.{soft_strength}
+use Rattle.clean_link.specs.HeardFrames.{replaced_of}
+use Rattle.clean_link.specs.OnlyBestFrames.{HeardAreTheOnlyBest, IsOnlyBestFrame}
+use Rattle.clean_link.specs.OnlyBestFrames.{IsOnlyBestFrame2, ReceivedAreTheOnlyBest}
+use Rattle.clean_link.specs.OnlyBestFrames.{SetTwoAreTheOnlyBest}
+use Rattle.clean_link.proofs.traffic.Frames.{sized}
+use Rattle.clean_link.proofs.traffic.Signs.{heard_shown}
+
+-- ---- any symbols
+
+shown_at : (b : Bool) (x y : ℤ) → (b ≡ false → x ≡ y) →
+    (if b then pos 0 else x) ≡ (if b then pos 0 else y)
+shown_at true x y h = refl
+shown_at false x y h = h refl
+
+-- soft values that show symbols, with 0 at the replaced places
+masked_is : (n : ℕ) (replaced : List ℕ) (xs : List Bool) (softs : List ℤ) →
+    length softs ≡ 384 → length xs ≡ 384 → ShowSymbols replaced n xs softs →
+    unreplaced replaced softs ≡ masked n (is_replaced replaced) 0 xs
+masked_is n replaced xs softs long size shows =
+    let out = is_replaced replaced in
+    let all : length (unreplaced replaced softs) ≡ 384 = length-unreplaced replaced softs ∙ long in
+    ext_get_or (pos 0) (unreplaced replaced softs) (masked n out 0 xs)
+    (all ∙ sym (length-masked n out 0 xs ∙ size))
+    (λ i lt.
+    let low : i < 384 = omega (arith, lt, all) in
+    get_or-unreplaced replaced softs i (omega (arith, low, long))
+    ∙ shown_at (out i) (get_or softs i (pos 0)) (pos n *ℤ sign (get_or xs i false)) (shows i low)
+    ∙ sym (get_or-masked n out xs i (omega (arith, low, size))))
+
+lt_of_true : (x y : ℤ) → int_lt x y ≡ true → x <ℤ y
+lt_of_true x y e = grind (arith, ints, e)
+
+le_of_false : (x y : ℤ) → int_lt x y ≡ false → y ≤ℤ x
+le_of_false x y e = grind (arith, ints, e)
+
+-- agree less with others that differ from them at the other places
+others_less : (n : ℕ) (replaced : List ℕ) (xs ys : List Bool) (softs : List ℤ) → 0 < n →
+    length softs ≡ 384 → length xs ≡ 384 → length ys ≡ 384 → ShowSymbols replaced n xs softs →
+    ¬ (AgreeElsewhere replaced xs ys) →
+    correlation (unreplaced replaced softs) ys <ℤ correlation (unreplaced replaced softs) xs
+others_less n replaced xs ys softs some long size size' shows apart =
+    let out = is_replaced replaced in
+    let kept = masked n out 0 xs in
+    let own : correlation kept xs ≡ pos (n * weight out 0 xs) = own_score n out xs in
+    let less : correlation kept ys <ℤ correlation kept xs =
+    ⊎_elim
+    (λ (t : int_lt (correlation kept ys) (correlation kept xs) ≡ true).
+    lt_of_true (correlation kept ys) (correlation kept xs) t)
+    (λ (t : int_lt (correlation kept ys) (correlation kept xs) ≡ false).
+    let reaches : pos (n * weight out 0 xs) ≤ℤ correlation kept ys =
+    subst (λ (z : ℤ). z ≤ℤ correlation kept ys) own
+    (le_of_false (correlation kept ys) (correlation kept xs) t) in
+    absurd (apart (λ i lt h.
+    alone n out xs ys some (size ∙ sym size') reaches i (omega (arith, lt, size)) h)))
+    (cases_Bool (int_lt (correlation kept ys) (correlation kept xs))) in
+    subst (λ (zs : List ℤ). correlation zs ys <ℤ correlation zs xs)
+    (sym (masked_is n replaced xs softs long size shows)) less
+
+-- ---- words
+
+-- bits behind which a tail stands are an allowed word
+tailed_allowed : (front : List Bool) (n : ℕ) → length (front ++ replicate 8 false) ≡ n →
+    IsAllowed Zero n (record { start = replicate 8 false; bits = front ++ replicate 8 false })
+tailed_allowed front n long =
+    let size : length (front ++ replicate 8 false) - 8 ≡ length front =
+    omega (arith, length-append front (replicate 8 false)) in
+    record {
+      start_long = refl;
+      bits_long = long;
+      begins = refl;
+      closes = ap (λ (k : ℕ). drop k (front ++ replicate 8 false)) size
+          ∙ drop_at front (replicate 8 false) (length front) refl;
+    }
+
+-- a frame's bits are as many as its rate has
+bits_fill : (rate : Rate) (n : ℕ) → n * repeats_of rate ≡ 192 → n ≡ frame_bits rate
+bits_fill R9600 n h = omega (arith, h)
+bits_fill R4800 n h = omega (arith, h)
+bits_fill R2400 n h = omega (arith, h)
+bits_fill R1200 n h = omega (arith, h)
+
+word_allowed : (rate : Rate) (information : List Bool) → length information ≡ information_of rate →
+    IsAllowed Zero (frame_bits rate) (frame_word rate information)
+word_allowed rate information long =
+    tailed_allowed (information ++ quality_indicator (quality_of rate) information)
+    (frame_bits rate)
+    (bits_fill rate (length (traffic_word rate information)) (word_fills rate information long))
+
+word_allowed2 : (rate : Rate2) (information : List Bool) →
+    length information ≡ rates_two.information_of rate →
+    IsAllowed Zero (rates_two.frame_bits rate) (second.frame_word rate information)
+word_allowed2 rate information long =
+    tailed_allowed (information ++ words_two.quality_indicator rate information)
+    (rates_two.frame_bits rate) (length-word_bits rate information long)
+
+-- so an unshared frame's word is the only one of greatest score,
+only_best : (n : ℕ) (replaced : List ℕ) (softs : List ℤ) (rate : Rate) (information : List Bool) →
+    0 < n → length softs ≡ 384 → length information ≡ information_of rate →
+    ShowSymbols replaced n (frame_symbols rate (frame_word rate information)) softs →
+    IsUnshared replaced rate (frame_word rate information) →
+    IsOnlyBestFrame replaced softs rate (frame_word rate information)
+only_best n replaced softs rate information some long size shows unshared =
+    let w = frame_word rate information in
+    let sent : (r : Rate) (v : Word) → length (frame_symbols r v) ≡ 384 =
+    λ r v. length-sent data_shape (repeats_of r) (code_symbols v.start v.bits) in
+    record {
+      allowed = word_allowed rate information size;
+      lesser = λ r v allowed other.
+          others_less n replaced (frame_symbols rate w) (frame_symbols r v) softs some long
+          (sent rate w) (sent r v) shows (λ agree. other (unshared r v allowed agree));
+    }
+
+-- and so of the other rate set
+only_best2 : (n : ℕ) (replaced : List ℕ) (softs : List ℤ) (rate : Rate2)
+    (information : List Bool) →
+    0 < n → length softs ≡ 384 → length information ≡ rates_two.information_of rate →
+    ShowSymbols replaced n (second.frame_symbols rate (second.frame_word rate information)) softs →
+    laws_two.IsUnshared replaced rate (second.frame_word rate information) →
+    IsOnlyBestFrame2 replaced softs rate (second.frame_word rate information)
+only_best2 n replaced softs rate information some long size shows unshared =
+    let w = second.frame_word rate information in
+    let sent : (r : Rate2) (v : Word) → length (second.frame_symbols r v) ≡ 384 =
+    λ r v. length-sent2 r (code_symbols v.start v.bits) in
+    record {
+      allowed = word_allowed2 rate information size;
+      lesser = λ r v allowed other.
+          others_less n replaced (second.frame_symbols rate w) (second.frame_symbols r v) softs
+          some long (sent rate w) (sent r v) shows (λ agree. other (unshared r v allowed agree));
+    }
+
+-- ---- the laws
+
+pub heard_only_best : HeardAreTheOnlyBest
+heard_only_best width plan p t traffic m legs superframes k f is heard distinct =
+    let shown = heard_shown width plan p t traffic m legs superframes k f is heard in
+    only_best (soft_strength plan Data p.gain) (replaced_in traffic m k)
+    (frame_softs (made_samples plan) (stream_of t traffic m legs k) k) f.rate f.information
+    shown.strong shown.long (sized width plan p t traffic m legs superframes k f is heard)
+    shown.shows distinct
+
+pub received_only_best : ReceivedAreTheOnlyBest
+received_only_best plan p frame f soft size received distinct =
+    let shown = received.shown in
+    only_best (soft_strength plan Data p.gain) (replaced_of plan p frame) soft.turned f.rate
+    f.information shown.strong shown.long size shown.shows distinct
+
+pub set_two_only_best : SetTwoAreTheOnlyBest
+set_two_only_best plan p frame f soft size received distinct =
+    let shown = received.shown in
+    only_best2 (soft_strength plan Data p.gain) (replaced_of plan p frame) soft.turned f.rate
+    f.information shown.strong shown.long size shown.shows distinct

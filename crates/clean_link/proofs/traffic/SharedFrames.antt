@@ -1,0 +1,238 @@
+-- Frames of both rate sets are distinct where no other word shares their symbols.
+use Rattle.std.proofs.Common.{◌≡◌, ℕ, ◌+◌, ◌-◌, ◌*◌, ◌/◌, ◌<◌, ◌≤◌, ◌⊎◌, Bool, true, false, not}
+use Rattle.std.proofs.Common.{List, [], ◌∷◌, ◌++◌, length, get_or, drop, replicate, refl, sym, ap}
+use Rattle.std.proofs.Common.{◌∙◌, arith, subst, ⊎_elim, inl, inr, nat_eq}
+use Rattle.std.specs.Prelude.{◌≢◌}
+use Rattle.std.specs.List.{list_any}
+use Rattle.std.proofs.lemmas.Bool.{and_parts, cases_Bool, eq-eqb, eqb-true, not-true, or_cases}
+use Rattle.std.proofs.lemmas.Bool.{or_left, or_right}
+use Rattle.std.proofs.lemmas.List.{drop_at, drop-drop}
+use Rattle.conv_code.specs.ConvCode.{code_symbols, state_after}
+use Rattle.quality_bits.specs.TrafficWords.{repeats_of, traffic_word}
+use Rattle.quality_bits.specs.declared.rate.Rate.{Rate}
+use Rattle.quality_bits.specs.declared.rate.Rate.TheVariants.{R9600, R4800, R2400, R1200}
+use Rattle.symbol_path.specs.SentOrder.{data_shape, sent}
+use Rattle.symbol_path.specs.FramesTwo.{word_bits}
+use Rattle.symbol_path.specs.RatesTwo as rates_two
+use Rattle.symbol_path.specs.SentOrderTwo.{is_dropped, repeated_symbol, sent2}
+use Rattle.symbol_path.specs.declared.rate_two.Rate2.{Rate2}
+use Rattle.symbol_path.specs.declared.rate_two.Rate2.TheVariants.{R14400, R7200, R3600, R1800}
+use Rattle.symbol_path.proofs.SentOnceTwo.{kept_once}
+use Rattle.symbol_path.proofs.SentTwo.{get_or-sent2}
+use Rattle.viterbi.specs.Best.{IsAllowed}
+use Rattle.viterbi.specs.Words.{Word}
+use Rattle.viterbi.specs.declared.word.Ends.TheVariants.{Zero}
+use Rattle.viterbi.proofs.Choices.{words_same}
+use Rattle.frame_decoder.specs.Laws.{frame_word, AgreeElsewhere}
+use Rattle.frame_decoder.specs.TrafficFrames.{frame_bits, frame_symbols, is_replaced}
+use Rattle.rate_set_two.specs.TrafficFrames as frames_two
+use Rattle.clean_link.specs.DistinctFrames.{is_kept, lost_symbols}
+use Rattle.clean_link.specs.SharedWords.{is_known2, lost_symbols2, shown_of, words_giving}
+use Rattle.clean_link.specs.SharedWords.{AreDistinctBySharing, AreDistinctBySharing2}
+use Rattle.clean_link.proofs.traffic.KeptSymbols.{kept_agree}
+use Rattle.clean_link.proofs.traffic.SharedWords.{agreeing_give, given_none, given_one, AreGiving}
+
+-- ---- words that end in zeros
+
+-- the state behind such a word, of eight bits or more
+ended_zeros : (bits : List Bool) → 8 ≤ length bits →
+    drop (length bits - 8) bits ≡ replicate 8 false →
+    list_any (λ bit. bit) (state_after (replicate 8 false) bits) ≡ false
+ended_zeros bits long ends =
+    let zeros = replicate 8 false in
+    let place : length bits ≡ 8 + (length bits - 8) = omega (arith, long) in
+    ap (list_any (λ bit. bit))
+    (ap (λ (n : ℕ). drop n (zeros ++ bits)) place
+    ∙ sym (drop-drop (length bits - 8) 8 (zeros ++ bits))
+    ∙ ap (drop (length bits - 8)) (drop_at zeros bits 8 refl)
+    ∙ ends)
+
+-- ---- rate set 1
+
+-- the repeated symbols of a code symbol
+copies_of : (rate : Rate) (c k : ℕ) → c < 2 * frame_bits rate → repeats_of rate * c ≤ k →
+    k < repeats_of rate * c + repeats_of rate → (k < 384) × (k / repeats_of rate ≡ c)
+copies_of R9600 c k low least most = (omega (arith, low, least, most), omega (arith, least, most))
+copies_of R4800 c k low least most = (omega (arith, low, least, most), omega (arith, least, most))
+copies_of R2400 c k low least most = (omega (arith, low, least, most), omega (arith, least, most))
+copies_of R1200 c k low least most = (omega (arith, low, least, most), omega (arith, least, most))
+
+enough_bits : (rate : Rate) → 8 ≤ frame_bits rate
+enough_bits R9600 = omega arith
+enough_bits R4800 = omega arith
+enough_bits R2400 = omega arith
+enough_bits R1200 = omega arith
+
+-- whether two rates are one
+same_rate : (r s : Rate) → (r ≡ s) ⊎ (r ≢ s)
+same_rate R9600 R9600 = inl refl
+same_rate R9600 R4800 = inr (λ e. cc)
+same_rate R9600 R2400 = inr (λ e. cc)
+same_rate R9600 R1200 = inr (λ e. cc)
+same_rate R4800 R9600 = inr (λ e. cc)
+same_rate R4800 R4800 = inl refl
+same_rate R4800 R2400 = inr (λ e. cc)
+same_rate R4800 R1200 = inr (λ e. cc)
+same_rate R2400 R9600 = inr (λ e. cc)
+same_rate R2400 R4800 = inr (λ e. cc)
+same_rate R2400 R2400 = inl refl
+same_rate R2400 R1200 = inr (λ e. cc)
+same_rate R1200 R9600 = inr (λ e. cc)
+same_rate R1200 R4800 = inr (λ e. cc)
+same_rate R1200 R2400 = inr (λ e. cc)
+same_rate R1200 R1200 = inl refl
+
+-- an allowed word that agrees with a frame elsewhere gives what the frame shows
+giving_word : (replaced : List ℕ) (rate r : Rate) (information : List Bool) (v : Word) →
+    IsAllowed Zero (frame_bits r) v →
+    AgreeElsewhere replaced (frame_symbols rate (frame_word rate information)) (frame_symbols r v) →
+    AreGiving (shown_of (is_kept (lost_symbols replaced))
+    (code_symbols (replicate 8 false) (traffic_word rate information)) (repeats_of rate)
+    (repeats_of r)) 0 (replicate 8 false) v.bits
+giving_word replaced rate r information v allowed agree =
+    let xs = code_symbols (replicate 8 false) (traffic_word rate information) in
+    let from_zeros : AgreeElsewhere replaced (sent data_shape (repeats_of rate) xs)
+    (sent data_shape (repeats_of r) (code_symbols (replicate 8 false) v.bits)) =
+    subst (λ (s : List Bool). AgreeElsewhere replaced (sent data_shape (repeats_of rate) xs)
+    (sent data_shape (repeats_of r) (code_symbols s v.bits))) allowed.begins agree in
+    agreeing_give (is_kept (lost_symbols replaced)) xs (repeats_of rate) (repeats_of r)
+    (frame_bits r) 384 v.bits allowed.bits_long (copies_of r)
+    (λ k low kept. kept_agree replaced xs (code_symbols (replicate 8 false) v.bits)
+    (repeats_of rate) (repeats_of r) k low kept from_zeros)
+
+closed : (n : ℕ) (v : Word) → 8 ≤ n → IsAllowed Zero n v →
+    list_any (λ bit. bit) (state_after (replicate 8 false) v.bits) ≡ false
+closed n v enough allowed =
+    let long = allowed.bits_long in
+    ended_zeros v.bits (omega (arith, long, enough)) allowed.closes
+
+pub distinct_by_sharing : AreDistinctBySharing
+distinct_by_sharing replaced rate information none r v allowed agree =
+    let giving = giving_word replaced rate r information v allowed agree in
+    let ends = closed (frame_bits r) v (enough_bits r) allowed in
+    let shown : Rate → ℕ → List Bool = λ q. shown_of (is_kept (lost_symbols replaced))
+    (code_symbols (replicate 8 false) (traffic_word rate information)) (repeats_of rate)
+    (repeats_of q) in
+    ⊎_elim
+    (λ (same : r ≡ rate).
+    let own = subst
+    (λ (q : Rate). words_giving (shown q) (frame_bits q) 0 (replicate 8 false)
+    ≡ traffic_word rate information ∷ []) (sym same) none.own in
+    let bits = given_one (shown r) (frame_bits r) 0 (replicate 8 false) v.bits
+    (traffic_word rate information) refl allowed.bits_long ends giving own in
+    (same, words_same v (frame_word rate information) allowed.begins (sym bits)))
+    (λ (other : r ≢ rate).
+    absurd (given_none (shown r) (frame_bits r) 0 (replicate 8 false) v.bits refl
+    allowed.bits_long ends giving (none.others r other)))
+    (same_rate r rate)
+
+-- ---- rate set 2
+
+copies_of2 : (rate : Rate2) (c k : ℕ) → c < 2 * rates_two.frame_bits rate →
+    rates_two.repeats_of rate * c ≤ k → k < rates_two.repeats_of rate * c + rates_two.repeats_of rate →
+    (k < 576) × (k / rates_two.repeats_of rate ≡ c)
+copies_of2 R14400 c k low least most = (omega (arith, low, least, most), omega (arith, least, most))
+copies_of2 R7200 c k low least most = (omega (arith, low, least, most), omega (arith, least, most))
+copies_of2 R3600 c k low least most = (omega (arith, low, least, most), omega (arith, least, most))
+copies_of2 R1800 c k low least most = (omega (arith, low, least, most), omega (arith, least, most))
+
+enough_bits2 : (rate : Rate2) → 8 ≤ rates_two.frame_bits rate
+enough_bits2 R14400 = omega arith
+enough_bits2 R7200 = omega arith
+enough_bits2 R3600 = omega arith
+enough_bits2 R1800 = omega arith
+
+same_rate2 : (r s : Rate2) → (r ≡ s) ⊎ (r ≢ s)
+same_rate2 R14400 R14400 = inl refl
+same_rate2 R14400 R7200 = inr (λ e. cc)
+same_rate2 R14400 R3600 = inr (λ e. cc)
+same_rate2 R14400 R1800 = inr (λ e. cc)
+same_rate2 R7200 R14400 = inr (λ e. cc)
+same_rate2 R7200 R7200 = inl refl
+same_rate2 R7200 R3600 = inr (λ e. cc)
+same_rate2 R7200 R1800 = inr (λ e. cc)
+same_rate2 R3600 R14400 = inr (λ e. cc)
+same_rate2 R3600 R7200 = inr (λ e. cc)
+same_rate2 R3600 R3600 = inl refl
+same_rate2 R3600 R1800 = inr (λ e. cc)
+same_rate2 R1800 R14400 = inr (λ e. cc)
+same_rate2 R1800 R7200 = inr (λ e. cc)
+same_rate2 R1800 R3600 = inr (λ e. cc)
+same_rate2 R1800 R1800 = inl refl
+
+-- a replaced place loses its repeated symbol
+replaced_lost2 : (replaced : List ℕ) (i : ℕ) → is_replaced replaced i ≡ true →
+    is_replaced (lost_symbols2 replaced) (repeated_symbol i) ≡ true
+replaced_lost2 [] i out = out
+replaced_lost2 (q ∷ places) i out =
+    let k = repeated_symbol i in
+    ⊎_elim
+    (λ (here : nat_eq i q ≡ true).
+    or_left (nat_eq k (repeated_symbol q)) (is_replaced (lost_symbols2 places) k)
+    (eq-eqb k (repeated_symbol q) (ap repeated_symbol (eqb-true i q here))))
+    (λ (behind : is_replaced places i ≡ true).
+    or_right (nat_eq k (repeated_symbol q)) (is_replaced (lost_symbols2 places) k)
+    (replaced_lost2 places i behind))
+    (or_cases (nat_eq i q) (is_replaced places i) out)
+
+-- where a repeated symbol is known, two frames that agree elsewhere have the same one
+known_agree : (replaced : List ℕ) (xs ys : List Bool) (r s : Rate2) (k : ℕ) → k < 576 →
+    is_known2 (lost_symbols2 replaced) k ≡ true →
+    AgreeElsewhere replaced (sent2 r xs) (sent2 s ys) →
+    get_or xs (k / rates_two.repeats_of r) false ≡ get_or ys (k / rates_two.repeats_of s) false
+known_agree replaced xs ys r s k low known agree =
+    let lost = lost_symbols2 replaced in
+    let both = and_parts (not (is_dropped k)) (is_kept lost k) known in
+    let once = kept_once k low (not-true (is_dropped k) both.0) in
+    let i = once.sent_as in
+    let left : is_replaced replaced i ≡ false = ⊎_elim
+    (λ (out : is_replaced replaced i ≡ true).
+    let gone : is_replaced lost k ≡ true =
+    ap (is_replaced lost) (sym once.is) ∙ replaced_lost2 replaced i out in
+    let kept = not-true (is_replaced lost k) both.1 in
+    absurd (cc))
+    (λ (in_place : is_replaced replaced i ≡ false). in_place)
+    (cases_Bool (is_replaced replaced i)) in
+    sym (get_or-sent2 r xs i once.below
+    ∙ ap (λ (n : ℕ). get_or xs (n / rates_two.repeats_of r) false) once.is)
+    ∙ agree i once.below left
+    ∙ get_or-sent2 s ys i once.below
+    ∙ ap (λ (n : ℕ). get_or ys (n / rates_two.repeats_of s) false) once.is
+
+giving_word2 : (replaced : List ℕ) (rate r : Rate2) (information : List Bool) (v : Word) →
+    IsAllowed Zero (rates_two.frame_bits r) v →
+    AgreeElsewhere replaced (frames_two.frame_symbols rate (frames_two.frame_word rate information))
+    (frames_two.frame_symbols r v) →
+    AreGiving (shown_of (is_known2 (lost_symbols2 replaced))
+    (code_symbols (replicate 8 false) (word_bits rate information)) (rates_two.repeats_of rate)
+    (rates_two.repeats_of r)) 0 (replicate 8 false) v.bits
+giving_word2 replaced rate r information v allowed agree =
+    let xs = code_symbols (replicate 8 false) (word_bits rate information) in
+    let from_zeros : AgreeElsewhere replaced (sent2 rate xs)
+    (sent2 r (code_symbols (replicate 8 false) v.bits)) =
+    subst (λ (s : List Bool). AgreeElsewhere replaced (sent2 rate xs)
+    (sent2 r (code_symbols s v.bits))) allowed.begins agree in
+    agreeing_give (is_known2 (lost_symbols2 replaced)) xs (rates_two.repeats_of rate)
+    (rates_two.repeats_of r) (rates_two.frame_bits r) 576 v.bits allowed.bits_long (copies_of2 r)
+    (λ k low known. known_agree replaced xs (code_symbols (replicate 8 false) v.bits) rate r k low
+    known from_zeros)
+
+pub distinct_by_sharing2 : AreDistinctBySharing2
+distinct_by_sharing2 replaced rate information none r v allowed agree =
+    let giving = giving_word2 replaced rate r information v allowed agree in
+    let ends = closed (rates_two.frame_bits r) v (enough_bits2 r) allowed in
+    let shown : Rate2 → ℕ → List Bool = λ q. shown_of (is_known2 (lost_symbols2 replaced))
+    (code_symbols (replicate 8 false) (word_bits rate information)) (rates_two.repeats_of rate)
+    (rates_two.repeats_of q) in
+    ⊎_elim
+    (λ (same : r ≡ rate).
+    let own = subst
+    (λ (q : Rate2). words_giving (shown q) (rates_two.frame_bits q) 0 (replicate 8 false)
+    ≡ word_bits rate information ∷ []) (sym same) none.own in
+    let bits = given_one (shown r) (rates_two.frame_bits r) 0 (replicate 8 false) v.bits
+    (word_bits rate information) refl allowed.bits_long ends giving own in
+    (same, words_same v (frames_two.frame_word rate information) allowed.begins (sym bits)))
+    (λ (other : r ≢ rate).
+    absurd (given_none (shown r) (rates_two.frame_bits r) 0 (replicate 8 false) v.bits refl
+    allowed.bits_long ends giving (none.others r other)))
+    (same_rate2 r rate)

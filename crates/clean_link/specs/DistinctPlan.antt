@@ -1,0 +1,166 @@
+-- A cell with a mark, and behind it a distinct frame of each rate of both rate sets.
+use Rattle.std.specs.Prelude.{◌≡◌, ℕ, true, false, All, Bool, List, [], ◌∷◌, ◌++◌, map}
+use Rattle.std.specs.Prelude.{replicate, pos, negsuc, Some, None}
+use Rattle.std.specs.List.{Contains, flat_map}
+use Rattle.chip_core.specs.Bits.{binary}
+use Rattle.chip_core.specs.declared.check_form.CheckForm.TheVariants.{Plain}
+use Rattle.chip_core.specs.declared.width.Width.TheVariants.{Sixteen}
+use Rattle.long_code.specs.LongCode.{before}
+use Rattle.quality_bits.specs.declared.rate.Rate.{Rate}
+use Rattle.quality_bits.specs.declared.rate.Rate.TheVariants.{R9600, R4800, R2400, R1200}
+use Rattle.symbol_path.specs.declared.rate_two.Rate2.{Rate2}
+use Rattle.symbol_path.specs.declared.rate_two.Rate2.TheVariants.{R14400, R7200, R3600, R1800}
+use Rattle.sync_message.specs.declared.fields.SyncFields.{SyncFields}
+use Rattle.cell_plan.specs.Signal.{frames_of}
+use Rattle.cell_plan.specs.TrafficFrames.{cycled_frame}
+use Rattle.cell_plan.specs.declared.frame_list.FrameList.TheVariants.{SetOne, SetTwo}
+use Rattle.cell_plan.specs.declared.plan.CellPlan.{CellPlan}
+use Rattle.cell_plan.specs.declared.plan.TrafficPlan.{TrafficPlan}
+use Rattle.cell_plan.specs.declared.traffic_frame.TrafficFrame.{TrafficFrame}
+use Rattle.cell_plan.specs.declared.traffic_frame2.TrafficFrame2.{TrafficFrame2}
+use Rattle.chip_core.specs.declared.assignment.Traffic.{Traffic}
+use Rattle.cell_plan.specs.Stated.{IsReceivable}
+use Rattle.clean_link.specs.HeardFrames.{is_received, received_frames, replaced_of, IsAssigned}
+use Rattle.clean_link.specs.HeardFrames.{SendsSetTwo}
+use Rattle.clean_link.specs.ReceivedFrames.{cycled_frame2, IsDistinctFrame2}
+use Rattle.clean_link.specs.SentEvents.{signaling_sent, told_with_sync, IsFollowed}
+
+-- ---- the cell
+
+-- a sync message of 25 octets, whose first sending tells the time of superframe 7
+abbrev pub told_message : SyncFields
+told_message = record {
+  prev = 3;
+  min = 1;
+  sid = 1;
+  nid = 2;
+  pn = 0;
+  lc = 1;
+  time = 0;
+  lp = 13;
+  ltm = 0;
+  daylt = 0;
+  prat = 0;
+  freq = None;
+  rest = replicate 3 false;
+}
+
+-- frames that tell a handset to lower its power
+abbrev pub frame_at : Rate → List Bool → TrafficFrame
+frame_at rate information = record {
+  rate = rate;
+  information = information;
+  commands = replicate 16 true;
+}
+
+abbrev pub frame2_at : Rate2 → List Bool → TrafficFrame2
+frame2_at rate information = record {
+  rate = rate;
+  information = information;
+  commands = replicate 16 true;
+}
+
+-- information bits of each rate; those at 9,600 bits a second are primary traffic alone
+abbrev pub bits_9600 : List Bool
+bits_9600 =
+    binary 64 0x66ead69800f6c1c5 ++ binary 64 0xa65d1b54066a284c ++ binary 44 0x6547829256
+
+abbrev pub bits_4800 : List Bool
+bits_4800 = binary 64 0x6f0dbecf19b63b60 ++ binary 16 0xdc17
+
+abbrev pub bits_2400 : List Bool
+bits_2400 = binary 40 0x6afb64b799
+
+abbrev pub bits_1200 : List Bool
+bits_1200 = binary 16 0x6060
+
+abbrev pub bits_14400 : List Bool
+bits_14400 =
+    binary 64 0x15e08e4b2708292f ++ binary 64 0xcc0a97475591f043 ++ binary 64 0x7e7539761e440232
+    ++ binary 64 0xaf40c2e43a5b249d ++ binary 12 0x96f
+
+abbrev pub bits_7200 : List Bool
+bits_7200 = binary 64 0x6ab5c5ac7d237d8d ++ binary 62 0x1221de457012e2f5
+
+abbrev pub bits_3600 : List Bool
+bits_3600 = binary 56 0x7f7f6ad5e9ac66
+
+abbrev pub bits_1800 : List Bool
+bits_1800 = binary 22 0xa13a0
+
+-- channels with a frame of each rate of their rate set, the highest first
+abbrev pub first_channel : TrafficPlan
+first_channel = record {
+  row = 8;
+  esn = 0x9f1c0a37;
+  offset = 0;
+  gain = 20;
+  frames = SetOne (
+      frame_at R9600 bits_9600 ∷ frame_at R4800 bits_4800
+      ∷ frame_at R2400 bits_2400 ∷ frame_at R1200 bits_1200 ∷ []);
+}
+
+abbrev pub second_channel : TrafficPlan
+second_channel = record {
+  row = 9;
+  esn = 0x9f1c0a37;
+  offset = 0;
+  gain = 20;
+  frames = SetTwo (
+      frame2_at R14400 bits_14400 ∷ frame2_at R7200 bits_7200
+      ∷ frame2_at R3600 bits_3600 ∷ frame2_at R1800 bits_1800 ∷ []);
+}
+
+-- The cell sends both, and the file has eight superframes. The long code's state is 1 at chip
+-- 686,592, a power control group before superframe 7.
+abbrev pub distinct_plan : CellPlan
+distinct_plan = record {
+  cell = record { pn = 0; time = 1000; lc = before 1 686592; check30 = Plain; check16 = Plain };
+  link = record {
+    factor = record { i = pos 0; q = negsuc 2 };
+    start = 0;
+    samples = 786432;
+  };
+  pilot = record { gain = 100 };
+  sync = Some (record { gain = 30; message = told_message });
+  paging = [];
+  traffic = first_channel ∷ second_channel ∷ [];
+}
+
+-- a handset that is assigned one of them
+abbrev pub on_row : ℕ → Traffic
+on_row row = record { esn = 0x9f1c0a37; row = row; offset = 0 }
+
+-- ---- the laws
+
+-- The cell is lawful, and its first whole sending tells the mark of superframe 7.
+abbrev pub HasMark : Type 0
+HasMark = IsReceivable Sixteen distinct_plan
+    × (told_with_sync distinct_plan distinct_plan.sync ≡ Some 7)
+
+-- A handset that follows the first channel follows one of the cell's, each of whose frames from the
+-- mark on that lies in the file is distinct: there is one of each rate of rate set 1. None of them
+-- has signaling, so no message directs a handoff.
+pub record HasSetOne : Type 0 where
+  pub followed : IsFollowed distinct_plan (on_row 8) first_channel
+  pub rates : flat_map
+      (λ frame. map (λ (f : TrafficFrame). f.rate)
+      (cycled_frame (frames_of distinct_plan first_channel) frame))
+      (received_frames distinct_plan first_channel 688128)
+      ≡ R9600 ∷ R4800 ∷ R2400 ∷ R1200 ∷ []
+  pub silent : signaling_sent distinct_plan (Some (on_row 8)) ≡ []
+
+-- And so it is of the second channel and rate set 2.
+pub record HasSetTwo : Type 0 where
+  pub sent : Contains distinct_plan.traffic second_channel
+  pub assigned : IsAssigned second_channel (on_row 9)
+  pub two : SendsSetTwo second_channel
+  pub distinct : (frame : ℕ) →
+      is_received distinct_plan second_channel 688128 frame ≡ true →
+      All (IsDistinctFrame2 (replaced_of distinct_plan second_channel frame))
+      (cycled_frame2 (frames_of distinct_plan second_channel) frame)
+  pub rates : flat_map
+      (λ frame. map (λ (f : TrafficFrame2). f.rate)
+      (cycled_frame2 (frames_of distinct_plan second_channel) frame))
+      (received_frames distinct_plan second_channel 688128)
+      ≡ R14400 ∷ R7200 ∷ R3600 ∷ R1800 ∷ []

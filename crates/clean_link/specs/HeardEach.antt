@@ -1,0 +1,120 @@
+-- What a handset hears of a clean link's cell, channel by channel and frame by frame.
+use Rattle.std.specs.Prelude.{◌≡◌, ◌≤◌, ℕ, ◌*◌, true, false, All, Bool, List, [], ◌∷◌, map, filter}
+use Rattle.std.specs.Prelude.{None, Option, Some}
+use Rattle.std.specs.List.{Contains}
+use Rattle.chip_core.specs.declared.width.Width.{Width}
+use Rattle.frame_decoder.specs.declared.traffic.Decoded.{Decoded}
+use Rattle.cell_plan.specs.Plan.{IsFreeOf}
+use Rattle.cell_plan.specs.Sampled.{made_samples}
+use Rattle.cell_plan.specs.Signal.{frames_of}
+use Rattle.cell_plan.specs.TrafficFrames.{cycled_frame}
+use Rattle.cell_plan.specs.declared.plan.CellPlan.{CellPlan}
+use Rattle.cell_plan.specs.declared.plan.PagingPlan.{PagingPlan}
+use Rattle.cell_plan.specs.declared.plan.TrafficPlan.{TrafficPlan}
+use Rattle.cell_plan.specs.declared.traffic_frame.TrafficFrame.{TrafficFrame}
+use Rattle.mobile_core.specs.Events.{events}
+use Rattle.mobile_core.specs.TrafficEvents.{frame_event}
+use Rattle.mobile_core.specs.Tuning.{Tuning}
+use Rattle.mobile_core.specs.declared.event.Event.{Event}
+use Rattle.mobile_core.specs.declared.event.Event.TheVariants.{Frame, Paging, Sync}
+use Rattle.mobile_core.specs.declared.event.Event.TheVariants.{Traffic as OnTraffic}
+use Rattle.chip_core.specs.declared.assignment.Traffic.{Traffic}
+use Rattle.clean_link.specs.CleanLink.{IsNotDirected, IsOnPath, sync_sent}
+use Rattle.cell_plan.specs.Stated.{IsReceivable}
+use Rattle.clean_link.specs.HeardFrames.{frame_ends, is_received, received_frames, replaced_of}
+use Rattle.clean_link.specs.HeardFrames.{sent_commands, sent_frame_event, AreDistinct}
+use Rattle.clean_link.specs.HeardFrames.{IsAssigned, IsDistinctFrame, SendsSetOne}
+use Rattle.clean_link.specs.HeardSignals.{messages_of_channel}
+use Rattle.clean_link.specs.SentEvents.{paging_sent, told_with_sync}
+
+-- ---- events of a kind
+
+abbrev pub is_sync : Event → Bool
+is_sync (Sync n capsule message) = true
+is_sync event = false
+
+abbrev pub is_page : Event → Bool
+is_page (Paging n capsule message) = true
+is_page event = false
+
+abbrev pub is_frame : Event → Bool
+is_frame (Frame n rate good bits commands) = true
+is_frame event = false
+
+abbrev pub is_message : Event → Bool
+is_message (OnTraffic n capsule message) = true
+is_message event = false
+
+-- ---- a traffic channel's frames
+
+-- The event of frame `frame` of a channel, which is this one: it has the frame's end and the power
+-- control bits that were sent, and where the frame is distinct, its rate and its information bits, as
+-- a good frame.
+pub record IsSentFrame (plan : CellPlan) (p : TrafficPlan) (frame : ℕ) (f : TrafficFrame)
+    (event : Event) : Type 0 where
+  pub decoded : Decoded
+  pub powered : event ≡ frame_event (frame_ends plan p frame) decoded (sent_commands f)
+  pub back : IsDistinctFrame (replaced_of plan p frame) f →
+      event ≡ sent_frame_event (frame_ends plan p frame) f
+
+-- the one that is sent at a number has this event
+abbrev pub IsEventOf : CellPlan → TrafficPlan → ℕ → Event → Type 0
+IsEventOf plan p frame event = (f : TrafficFrame)
+    × (cycled_frame (frames_of plan p) frame ≡ f ∷ []) × IsSentFrame plan p frame f event
+
+-- One event for each frame of a channel that begins at the mark, so many superframes behind local
+-- chip 0, or later, and lies in the file, in order.
+pub record AreEventsOf (plan : CellPlan) (p : TrafficPlan) (superframes : ℕ)
+    (frames : List Event) : Type 0 where
+  pub event : ℕ → Event
+  pub each : frames ≡ map event (received_frames plan p (98304 * superframes))
+  pub are : (frame : ℕ) → is_received plan p (98304 * superframes) frame ≡ true →
+      IsEventOf plan p frame (event frame)
+
+-- and none where no mark is set
+abbrev pub AreFramesBehind : CellPlan → TrafficPlan → Option ℕ → List Event → Type 0
+AreFramesBehind plan p None frames = frames ≡ []
+AreFramesBehind plan p (Some superframes) frames = AreEventsOf plan p superframes frames
+
+-- ---- its messages
+
+-- Where each of these frames is distinct, just the messages that the signaling in them spells, as they
+-- are sent, and none where no mark is set.
+abbrev pub AreMessagesBehind : CellPlan → TrafficPlan → Option ℕ → List Event → Type 0
+AreMessagesBehind plan p None messages = messages ≡ []
+AreMessagesBehind plan p (Some superframes) messages =
+    AreDistinct plan p (98304 * superframes) →
+    messages ≡ messages_of_channel plan p (98304 * superframes)
+
+-- ---- all channels
+
+-- a handset that may follow a channel follows this one of the cell's, whose frames are of rate set 1
+pub record FollowsOne (plan : CellPlan) (followed : Option Traffic) (p : TrafficPlan) : Type 0 where
+  pub traffic : Traffic
+  pub follows : followed ≡ Some traffic
+  pub sent : Contains plan.traffic p
+  pub assigned : IsAssigned p traffic
+  pub one : SendsSetOne p
+
+-- What a handset hears of a cell that follows a paging channel, and a traffic channel or none: of the
+-- sync channel just the whole sendings; where the cell sends the paging channel, or no traffic channel
+-- has its row, just the channel's whole pages; and where the cell sends the traffic channel, with
+-- frames of rate set 1, one event for each of them from the mark on, and the messages in them.
+pub record HearsEach (plan : CellPlan) (paging : ℕ) (followed : Option Traffic)
+    (heard : List Event) : Type 0 where
+  pub sync : filter is_sync heard ≡ sync_sent plan
+  pub pages : Contains (map (λ (p : PagingPlan). p.number) plan.paging) paging →
+      filter is_page heard ≡ paging_sent plan paging
+  pub free : IsFreeOf plan.traffic paging → filter is_page heard ≡ paging_sent plan paging
+  pub frames : (p : TrafficPlan) → FollowsOne plan followed p →
+      AreFramesBehind plan p (told_with_sync plan plan.sync) (filter is_frame heard)
+  pub messages : (p : TrafficPlan) → FollowsOne plan followed p →
+      AreMessagesBehind plan p (told_with_sync plan plan.sync) (filter is_message heard)
+
+-- So it is of a handset with one finger on the cell's path, in a file of what the cell sends, where no
+-- handoff is directed.
+abbrev pub EachChannelComesBack : Type 0
+EachChannelComesBack = (width : Width) (plan : CellPlan) (t : Tuning) →
+    IsReceivable width plan → IsOnPath plan t → 1 ≤ t.paging → t.paging ≤ 7 →
+    All IsNotDirected (events t (made_samples plan)) →
+    HearsEach plan t.paging t.traffic (events t (made_samples plan))
