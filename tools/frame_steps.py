@@ -29,10 +29,11 @@ from model.frames import commands as power_commands
 from model.handset import (
     Assigned,
     Mark,
-    follow,
     frame_clock,
     half_frames,
+    hear_paging,
     hear_sync,
+    hear_traffic,
     paging_stream,
     reference_fingers,
     sync_stream,
@@ -345,10 +346,15 @@ def reading_of(rate: Rate, kept: np.ndarray) -> Reading:
                    quality(rate, bits[: rate.information]), is_right(rate, bits))  # fmt: skip
 
 
-def traffic_fingers(capture: Capture, found: Found, assigned: Assigned, index: int) -> dict[int, list[Finger]]:
-    """The fingers over which a handset hears a frame, by their power control subchannel: those of its active pilots."""
-    events, mark = follow(capture, found, 1, assigned, capture.count)
-    for event in events:
+def traffic_fingers(
+    capture: Capture, found: Found, mark: Mark, assigned: Assigned, index: int
+) -> dict[int, list[Finger]]:
+    """The fingers over which a handset hears a frame, by their power control subchannel: those of its active pilots.
+
+    Messages of paging channel 1 move its pilot sets too.
+    """
+    pages = list(hear_paging(capture, found, mark, 1, capture.count))
+    for event in hear_traffic(capture, found, mark, assigned, pages, capture.count):
         if event.message.get("index") == index:
             return event.message["fingers"]
     raise NoFrame(f"frame {index} of the traffic channel doesn't lie in the file")
@@ -359,7 +365,7 @@ def traffic_steps(capture: Capture, found: Found, mark: Mark, assigned: Assigned
     rates = RATE_SET_1 if rate_set == 1 else RATE_SET_2
     subchannels = {0: reference_fingers(found, assigned.row)}
     if rate_set == 1:
-        subchannels = traffic_fingers(capture, found, assigned, index)
+        subchannels = traffic_fingers(capture, found, mark, assigned, index)
     fingers = [finger for own in subchannels.values() for finger in own]
     clock = frame_clock(mark, assigned, index)
     if not is_inside(capture.count, fingers, DATA_FORM, clock.start):

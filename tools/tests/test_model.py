@@ -257,7 +257,7 @@ class Runs(unittest.TestCase):
             "": "line 1",
             text[:-1]: "line 6",
             text.replace("prat=0", "prat=2"): "line 5",
-            text + "page next 34:04ff8046c0\n": "line 7",
+            text.replace("34:04ff8046c0", "50:05000000000000") + "page next 34:04ff8046c0\n": "line 7",
             " " * 1_048_577: "too big",
         }
         for data, fault in wanted.items():
