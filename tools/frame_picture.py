@@ -172,7 +172,7 @@ def field_panel(axes: Axes, steps: Steps) -> None:
             axes.add_patch(Rectangle((column, -row - 1), 1, 0.92, color=color))
             axes.text(column + 0.5, -row - 0.54, str(bit), ha="center", va="center", fontsize=6)
             at += 1
-        value = f" {part.value}" if part.value else f" ({len(part.bits)} bits)"
+        value = f" {part.value}" if part.value else f" ({part.remark or f'{len(part.bits)} bits'})"
         handles.append(Patch(color=color, label=part.name + value))
     rows = -(-at // ROW_BITS)
     axes.set(xlim=(0, min(at, ROW_BITS)), ylim=(-rows, 0))

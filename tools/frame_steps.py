@@ -91,11 +91,12 @@ class Reading:
 
 @dataclass
 class Part:
-    """Some bits of the frame with their name; the value, or which part of it they are."""
+    """Some bits of the frame with their name; the value of a whole field, or a remark."""
 
     name: str
     bits: Bits
     value: str = ""
+    remark: str = ""
 
 
 @dataclass
@@ -213,8 +214,10 @@ def capsule_parts(channel: str, capsule: Bits, begin: int) -> list[Part]:
     for name, width in capsule_fields(channel, capsule):
         bits = capsule[max(at, begin) : at + width]
         if bits and at + width > begin:
-            whole = len(bits) == width
-            found.append(Part(name, bits, str(number(bits)) if whole else f"{len(bits)} of {width} bits"))
+            if len(bits) == width:
+                found.append(Part(name, bits, str(number(bits))))
+            else:
+                found.append(Part(name, bits, remark=f"{len(bits)} of {width} bits"))
         at += width
     return found
 
@@ -283,18 +286,18 @@ def fill_piece(steps: Steps, channel: str, held: Bits | None, piece: Bits, compl
     """Adds the fields of a piece behind its start bit, and what ends in it, to the steps of a frame."""
     before = [] if piece[0] else held
     if before is None:
-        steps.parts.append(Part("body", piece[1:], "no capsule is open"))
+        steps.parts.append(Part("body", piece[1:], remark="no capsule is open"))
         return
     bits = before + piece[1:]
     length = stated_length(bits) if len(bits) >= LENGTH else None
     if length is None:
-        steps.parts.append(Part("body", piece[1:], "MSG_LENGTH is none"))
+        steps.parts.append(Part("body", piece[1:], remark="MSG_LENGTH is none"))
         return
     steps.parts += capsule_parts(channel, bits[:length], len(before))
     _, capsule = take_piece(held, piece)
     if capsule:
         if bits[length:]:
-            steps.parts.append(Part("zeros" if not any(bits[length:]) else "behind", bits[length:], ""))
+            steps.parts.append(Part("zeros" if not any(bits[length:]) else "behind", bits[length:]))
         steps.verdict.append(ended(channel, capsule, complemented))
 
 
@@ -320,7 +323,7 @@ def fill_half(steps: Steps, held: Bits | None, half: Bits, complemented: bool) -
     after, capsules = take_half_frame(held, half)
     before, rest = ([] if half[0] else held), half[1:]
     if before is None:
-        steps.parts.append(Part("body", rest, "no capsule is open"))
+        steps.parts.append(Part("body", rest, remark="no capsule is open"))
         return after
     for capsule in capsules:
         steps.parts += capsule_parts("paging", capsule, len(before))

@@ -204,7 +204,7 @@ class Explain(unittest.TestCase):
         text = "\n".join(self.lines("--sync"))
         self.assertIn("32 pilot sums, all 409600+204800j", text)
         self.assertRegex(text, r"symbol sums: (-40960-20480j|40960\+20480j) ")
-        self.assertIn("7 bits: SOM=1 MSG_LENGTH=25 MSG_TYPE=1 prev=3 min=0", text)
+        self.assertIn("7 bits: SOM=1 MSG_LENGTH=25 MSG_TYPE=1 prev=3 min=7:00 (7 of 8", text)
 
     def test_a_paging_frame(self) -> None:
         text = " ".join(" ".join(self.lines("--paging", 1)).split())
