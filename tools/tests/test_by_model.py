@@ -151,7 +151,7 @@ class Agree(unittest.TestCase):
         self.assertRegex(out.decode(), r"^4 runs, 0 differ, \d+ s: ")
 
     def test_another_program_is_found_out(self) -> None:
-        seed = next(seed for seed in range(1_000) if "words: find\n" in random_case.random_case(seed))
+        seed = next(seed for seed in range(1_000) if "words: find\nbits:" in random_case.random_case(seed))
         program = self.program(" | sed s/phase=/phase=1/")
         status, out, _ = run_tool("agree", "--seed", seed, "--count", 1, "--jobs", 1, "--keep", self.folder, program)
         self.assertEqual(status, 1)
