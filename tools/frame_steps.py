@@ -442,7 +442,8 @@ def add_traffic_verdict(steps: Steps, good: bool) -> None:
     """Says whether a traffic frame is good, and if not, which step shows it."""
     reading = steps.readings[steps.shown]
     if good:
-        steps.verdict.append(f"good, at {reading.name} bits a second: the greatest score of those whose quality indicator is right")
+        why = "the greatest score of those whose quality indicator is right"
+        steps.verdict.append(f"good, at {reading.name} bits a second: {why}")
     elif not any(other.is_candidate for other in steps.readings):
         steps.verdict.append("not good: no rate's quality indicator is right (step 6)")
     else:
