@@ -1,5 +1,6 @@
 """The parts of `tools/curve`, by numbers from outside: published weights, brute force, and the definitions."""
 
+import dataclasses
 import math
 import os
 import sqlite3
@@ -15,7 +16,7 @@ import numpy  # noqa: E402
 from scipy import stats  # noqa: E402
 
 from tools.curves import Refused, bound, counting, levels, noise, plan, receiver, report, store  # noqa: E402
-from tools.curves.batch import Curve, Setup  # noqa: E402
+from tools.curves.batch import Curve, Setup, on_air  # noqa: E402
 from tools.curves.counting import Count, Heard  # noqa: E402
 from tools.curves.script import Frame, Script, Traffic, chosen_channel, read_script  # noqa: E402
 
@@ -330,6 +331,19 @@ class Cases(unittest.TestCase):
         """A frame of zeros at 1,200 bits a second has the symbols of one at 2,400, and is heard as that."""
         count = self.counted("traffic_three_fingers", None)["frame 1200"]
         self.assertEqual((count.other_rate, count.errors()), (count.sent, count.sent))
+
+
+class OnAir(unittest.TestCase):
+    def test_a_second_path_comes_later_by_its_factor(self):
+        """50 + 60j and (0.5 - 1j)(100 + 20j) are 120 - 30j; 1 + 2j and (0.5 - 1j)(-7 + 3j) are 0.5 + 10.5j."""
+        setup = dataclasses.replace(setup_for(), paths=((2, 0.5 - 1j),))
+        parts = numpy.array([100, 20, -7, 3, 50, 60, 1, 2], dtype=numpy.int16)
+        self.assertEqual(on_air(setup, parts).tolist(), [100, 20, -7, 3, 120, -30, 0, 10])
+
+    def test_paths_that_leave_the_range_are_refused(self):
+        setup = dataclasses.replace(setup_for(), paths=((1, 1j),))
+        with self.assertRaisesRegex(Refused, "leave the range of samples"):
+            on_air(setup, numpy.array([32_000, 0, 0, 1_000], dtype=numpy.int16))
 
 
 class Words(unittest.TestCase):
