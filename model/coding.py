@@ -129,7 +129,6 @@ def is_right(rate: Rate, bits: Bits) -> bool:
 
 # ---- the best code word (own)
 
-STATES = np.arange(256)
 REVERSED = np.array([number(spelled(8, state)[::-1]) for state in range(256)])
 """A state's eight bits read from the newest back, as a number: how words are ordered that end in different states."""
 

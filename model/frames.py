@@ -6,7 +6,7 @@ import numpy as np
 
 from model.bits import Bits
 from model.codes import WALSH, despread
-from model.coding import TAIL, Rate, best_words, gathered, is_right
+from model.coding import Rate, best_words, gathered, is_right
 from model.files import Capture
 
 

@@ -5,7 +5,7 @@ from typing import Callable, Iterator, NamedTuple
 import numpy as np
 
 from model.bits import Bits
-from model.cell import FRAME, GROUP, OFFSET_STEP, SLOT, SUPERFRAME_BITS, SYNC_FRAME, AHEAD, power_places
+from model.cell import AHEAD, FRAME, GROUP, OFFSET_STEP, SLOT, SUPERFRAME_BITS, power_places
 from model.codes import PERIOD, paging_mask, scrambling_bits, state_after, traffic_mask
 from model.coding import MESSAGE_16, PAGING_ORDERS, RATE_SET_1, SYNC_ORDER
 from model.files import Capture

@@ -3,7 +3,7 @@
 import numpy as np
 
 from model.bits import Bits
-from model.coding import BRANCH_SIGNS, NEVER, RATE_SET_1, REVERSED, STATES, Rate
+from model.coding import BRANCH_SIGNS, NEVER, RATE_SET_1, REVERSED, Rate
 from model.frames import Decoded, chosen, rate_softs, without
 
 
@@ -19,7 +19,7 @@ def first_words(count: int, softs: np.ndarray, zero_ends: bool) -> list[tuple[in
     taken = np.empty((steps, 256, count), int)
     for step in range(steps):
         branch = (softs[2 * step] * BRANCH_SIGNS[0] + softs[2 * step + 1] * BRANCH_SIGNS[1])[:, None]
-        both = np.hstack([scores[STATES >> 1] + branch, scores[STATES >> 1 | 128] - branch])
+        both = np.hstack([np.repeat(scores[:128], 2, axis=0) + branch, np.repeat(scores[128:], 2, axis=0) - branch])
         taken[step] = np.argsort(-both, axis=1, kind="stable")[:, :count]
         scores = np.take_along_axis(both, taken[step], axis=1)
     ends = [0] if zero_ends else sorted(range(256), key=lambda state: REVERSED[state])

@@ -114,7 +114,8 @@ def bars(axes: Axes, softs: np.ndarray, replaced: np.ndarray) -> None:
 def sent_panel(axes: Axes, steps: Steps) -> None:
     """Step 3: the soft values as sent, and where power control bits stand."""
     softs = steps.turned.copy().astype(float)
-    softs[steps.replaced] = np.where(steps.scrambling, -steps.heard, steps.heard)[steps.replaced] if len(steps.replaced) else 0
+    if steps.scrambling is not None:
+        softs[steps.replaced] = np.where(steps.scrambling, -steps.heard, steps.heard)[steps.replaced]
     bars(axes, softs, steps.replaced)
     axes.set_title("3  soft values in the sent order, turned back by the scrambling bits", fontsize=10, loc="left")
     kinds = [Patch(color=ZERO, label="0 is likelier"), Patch(color=ONE, label="1 is likelier")]
@@ -172,7 +173,7 @@ def field_panel(axes: Axes, steps: Steps) -> None:
             axes.add_patch(Rectangle((column, -row - 1), 1, 0.92, color=color))
             axes.text(column + 0.5, -row - 0.54, str(bit), ha="center", va="center", fontsize=6)
             at += 1
-        value = f" {part.value}" if part.value else f" ({len(part.bits)} bits)"
+        value = f" {part.value}" if part.value else f" ({part.remark or f'{len(part.bits)} bits'})"
         handles.append(Patch(color=color, label=part.name + value))
     rows = -(-at // ROW_BITS)
     axes.set(xlim=(0, min(at, ROW_BITS)), ylim=(-rows, 0))

@@ -29,10 +29,11 @@ from model.frames import commands as power_commands
 from model.handset import (
     Assigned,
     Mark,
-    follow,
     frame_clock,
     half_frames,
+    hear_paging,
     hear_sync,
+    hear_traffic,
     paging_stream,
     reference_fingers,
     sync_stream,
@@ -90,11 +91,12 @@ class Reading:
 
 @dataclass
 class Part:
-    """Some bits of the frame with their name; the value, or which part of it they are."""
+    """Some bits of the frame with their name; the value of a whole field, or a remark."""
 
     name: str
     bits: Bits
     value: str = ""
+    remark: str = ""
 
 
 @dataclass
@@ -212,8 +214,10 @@ def capsule_parts(channel: str, capsule: Bits, begin: int) -> list[Part]:
     for name, width in capsule_fields(channel, capsule):
         bits = capsule[max(at, begin) : at + width]
         if bits and at + width > begin:
-            whole = len(bits) == width
-            found.append(Part(name, bits, str(number(bits)) if whole else f"{len(bits)} of {width} bits"))
+            if len(bits) == width:
+                found.append(Part(name, bits, str(number(bits))))
+            else:
+                found.append(Part(name, bits, remark=f"{len(bits)} of {width} bits"))
         at += width
     return found
 
@@ -282,18 +286,18 @@ def fill_piece(steps: Steps, channel: str, held: Bits | None, piece: Bits, compl
     """Adds the fields of a piece behind its start bit, and what ends in it, to the steps of a frame."""
     before = [] if piece[0] else held
     if before is None:
-        steps.parts.append(Part("body", piece[1:], "no capsule is open"))
+        steps.parts.append(Part("body", piece[1:], remark="no capsule is open"))
         return
     bits = before + piece[1:]
     length = stated_length(bits) if len(bits) >= LENGTH else None
     if length is None:
-        steps.parts.append(Part("body", piece[1:], "MSG_LENGTH is none"))
+        steps.parts.append(Part("body", piece[1:], remark="MSG_LENGTH is none"))
         return
     steps.parts += capsule_parts(channel, bits[:length], len(before))
     _, capsule = take_piece(held, piece)
     if capsule:
         if bits[length:]:
-            steps.parts.append(Part("zeros" if not any(bits[length:]) else "behind", bits[length:], ""))
+            steps.parts.append(Part("zeros" if not any(bits[length:]) else "behind", bits[length:]))
         steps.verdict.append(ended(channel, capsule, complemented))
 
 
@@ -319,7 +323,7 @@ def fill_half(steps: Steps, held: Bits | None, half: Bits, complemented: bool) -
     after, capsules = take_half_frame(held, half)
     before, rest = ([] if half[0] else held), half[1:]
     if before is None:
-        steps.parts.append(Part("body", rest, "no capsule is open"))
+        steps.parts.append(Part("body", rest, remark="no capsule is open"))
         return after
     for capsule in capsules:
         steps.parts += capsule_parts("paging", capsule, len(before))
@@ -345,10 +349,15 @@ def reading_of(rate: Rate, kept: np.ndarray) -> Reading:
                    quality(rate, bits[: rate.information]), is_right(rate, bits))  # fmt: skip
 
 
-def traffic_fingers(capture: Capture, found: Found, assigned: Assigned, index: int) -> dict[int, list[Finger]]:
-    """The fingers over which a handset hears a frame, by their power control subchannel: those of its active pilots."""
-    events, mark = follow(capture, found, 1, assigned, capture.count)
-    for event in events:
+def traffic_fingers(
+    capture: Capture, found: Found, mark: Mark, assigned: Assigned, index: int
+) -> dict[int, list[Finger]]:
+    """The fingers over which a handset hears a frame, by their power control subchannel: those of its active pilots.
+
+    Messages of paging channel 1 move its pilot sets too.
+    """
+    pages = list(hear_paging(capture, found, mark, 1, capture.count))
+    for event in hear_traffic(capture, found, mark, assigned, pages, capture.count):
         if event.message.get("index") == index:
             return event.message["fingers"]
     raise NoFrame(f"frame {index} of the traffic channel doesn't lie in the file")
@@ -359,7 +368,7 @@ def traffic_steps(capture: Capture, found: Found, mark: Mark, assigned: Assigned
     rates = RATE_SET_1 if rate_set == 1 else RATE_SET_2
     subchannels = {0: reference_fingers(found, assigned.row)}
     if rate_set == 1:
-        subchannels = traffic_fingers(capture, found, assigned, index)
+        subchannels = traffic_fingers(capture, found, mark, assigned, index)
     fingers = [finger for own in subchannels.values() for finger in own]
     clock = frame_clock(mark, assigned, index)
     if not is_inside(capture.count, fingers, DATA_FORM, clock.start):
@@ -433,7 +442,8 @@ def add_traffic_verdict(steps: Steps, good: bool) -> None:
     """Says whether a traffic frame is good, and if not, which step shows it."""
     reading = steps.readings[steps.shown]
     if good:
-        steps.verdict.append(f"good, at {reading.name} bits a second: the greatest score of those whose quality indicator is right")
+        why = "the greatest score of those whose quality indicator is right"
+        steps.verdict.append(f"good, at {reading.name} bits a second: {why}")
     elif not any(other.is_candidate for other in steps.readings):
         steps.verdict.append("not good: no rate's quality indicator is right (step 6)")
     else:

@@ -11,7 +11,7 @@ import re
 import shlex
 from dataclasses import dataclass, field
 
-from model.bits import Bits, number, spelled, text_of_bits
+from model.bits import Bits, spelled, text_of_bits
 from model.coding import MESSAGE_16, RATE_SET_1, RATE_SET_2, Rate
 from model.messages import IN_TRAFFIC_FIELDS, PRIMARY_BITS, SEARCH_FIELDS, SYSTEM_FIELDS, capsule_of
 

@@ -72,15 +72,15 @@ def on_air(setup: Setup, parts: NDArray[numpy.int16]) -> NDArray[numpy.int16]:
     """The samples of all paths and of the other cells, rounded, for the parts of the script's own path."""
     if not (setup.paths or setup.others):
         return parts
-    own = parts[::2] + 1j * parts[1::2]
+    own = parts.astype(numpy.float32).view(numpy.complex64)
     sums = own.copy()
     for delay, factor in setup.paths:
-        sums[delay:] += factor * own[: len(own) - delay]
+        sums[delay:] += numpy.complex64(factor) * own[: len(own) - delay]
     for number, text in enumerate(setup.others, 1):
         _, other = made(setup.maker, text, f"--other {number}", setup.minutes)
         length = min(len(sums), len(other) // 2)
-        sums[:length] += other[: 2 * length : 2] + 1j * other[1 : 2 * length : 2]
-    rounded = numpy.rint(sums.view(numpy.float64))
+        sums[:length] += other[: 2 * length].astype(numpy.float32).view(numpy.complex64)
+    rounded = numpy.rint(sums.view(numpy.float32))
     if rounded.min() < LEAST or rounded.max() > GREATEST:
         raise Refused("the paths and cells together leave the range of samples: give the scripts lesser gains")
     return rounded.astype(numpy.int16)

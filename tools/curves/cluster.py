@@ -123,12 +123,19 @@ class Hands:
                     raise Refused("the scheduler has no worker any more") from None
 
     def step(self, sink: Sink) -> None:
-        """Waits for batches, and takes those that have ended."""
-        for future in sorted(self.ended(), key=lambda future: self.under_way[future]):
+        """Waits for batches, and takes those that have ended; where one failed, the others are taken first."""
+        fault: Refused | None = None
+        for future in self.ended():
             point, batch = self.under_way.pop(future)
-            counts = result_of(future)
+            try:
+                counts = result_of(future)
+            except Refused as why:
+                fault = why
+                continue
             self.ledger.take(point, batch, counts)
             sink(point, batch, counts)
+        if fault:
+            raise fault
 
 
 def hand_out(client: Any, setup: Setup, ledger: Ledger, sigmas: dict[int, float], sink: Sink) -> None:

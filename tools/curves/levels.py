@@ -18,6 +18,8 @@ CHIP_RATE = 1_228_800
 # the power control subchannel is no part of the traffic channel's Ec.
 TRAFFIC_SHARE = 22 / 24
 SYNC_RATE = 1_200
+# The paging channel that receivers hear where their words name none.
+FIRST_PAGING = 1
 PAGING_RATES = {0: 9_600, 1: 4_800}
 ROUNDING = 2 / 12
 # The levels between which one is looked for: below the first rounding is most of the noise, and the second is
@@ -85,5 +87,6 @@ def channels_of(script: Script, traffic: Traffic) -> dict[str, Channel]:
     if script.prat is not None:
         found.append(Channel("sync", script.gains[SYNC_ROW], SYNC_RATE, 1.0))
         if script.paging and script.prat in PAGING_RATES:
-            found.append(Channel("paging", script.gains[script.paging[0]], PAGING_RATES[script.prat], 1.0))
+            heard = FIRST_PAGING if FIRST_PAGING in script.paging else script.paging[0]
+            found.append(Channel("paging", script.gains[heard], PAGING_RATES[script.prat], 1.0))
     return {channel.name: channel for channel in found}

@@ -100,7 +100,8 @@ class Ledger:
 
     def left(self) -> int:
         """How many batches may still be needed."""
-        return sum(1 for _ in self.wanted())
+        is_open = [point for point in self.points if not self.is_closed(point)]
+        return sum(self.most - sum(batch < self.most for batch in self.done.get(point, {})) for point in is_open)
 
     def counted(self, point: int) -> list[Counts] | None:
         """The sums of a point that has enough, curve by curve."""

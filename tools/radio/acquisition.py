@@ -30,7 +30,9 @@ ONE_IN = 1e6
 SPAN = 21_000.0
 # Parts of the recording at which it is looked for a pilot in turn: any one may lie in a fade, or before a switch-on.
 PLACES = (0.0, 0.05, 0.13, 0.29, 0.41, 0.57, 0.71, 0.87)
-# Bins of a batch of transforms: 8 MB of numbers.
+# What an option of three words lets be tried: the recording, its conjugate, or both in turn.
+TRIES = {"yes": (True,), "no": (False,), "try": (False, True)}
+# Bins of a batch of transforms: 4 MB of numbers.
 BATCH = 16
 # The finer carrier: chips of a sum, and bins of its transform; the span is one step of the search and a half more.
 FINE_CHIPS, FINE_BINS, FINE_SPAN = 64, 4_096, 1.5 * STEP * BIN

@@ -160,6 +160,11 @@ class Link:
         self.pilot = gain * cells[0].pilot
         self.noise = 0.0
 
+    def close(self) -> None:
+        """Closes the cells' files."""
+        for cell in self.cells:
+            cell.file.close()
+
     def set_ec_io(self, level: float) -> None:
         """Adds so much noise that the first cell's pilot has this share of all power, in dB."""
         self.noise = self.pilot / ratio_of(level) - self.power

@@ -4,7 +4,7 @@ import math
 from fractions import Fraction
 from typing import IO, Callable, NamedTuple
 
-from .acquisition import SPAN, Found, acquire, finer
+from .acquisition import SPAN, TRIES, Found, acquire, finer
 from .air import CHIP_RATE, PERIOD
 from .fitting import EQUALISED, Fit, equaliser_gain
 from .front import Front
@@ -15,8 +15,6 @@ from .samples import Recording, Refused
 from .second_pass import ROOT_MEAN_SQUARE, Piece, Written, write_chips
 from .tracking import EVERY, SEGMENT, Track, clock_error, track
 
-# What an option of three words lets be tried, in turn.
-TRIES = {"yes": (True,), "no": (False,), "try": (False, True)}
 # Chips at both ends of the recording that the filter needs.
 EDGE = 8
 # A strong start is looked for in so many seconds, and in so much of the recording: a short one shouldn't lose a message.

@@ -2,8 +2,7 @@
 
 import contextlib
 import functools
-import importlib.machinery
-import importlib.util
+import importlib
 import io
 import os
 import subprocess
@@ -17,7 +16,7 @@ import numpy
 from numpy.typing import NDArray
 
 from tools.make_capture import I_LAGS, Q_LAGS, signs
-from tools.tests.helping import HEADER, PYTHON, TOOLS
+from tools.tests.helping import HEADER, PYTHON, TOOLS, loaded
 
 CHIP_RATE = 1_228_800
 PERIOD = 32_768
@@ -77,14 +76,11 @@ def figures(said: str) -> dict[str, str]:
 
 
 @functools.lru_cache(maxsize=None)
-def loaded(name: str) -> ModuleType:
-    """A tool as a module: so a run needs no new interpreter, which would load scipy each time."""
-    path = os.path.join(TOOLS, name)
-    loader = importlib.machinery.SourceFileLoader(f"tool_{name}", path)
-    module = importlib.util.module_from_spec(importlib.util.spec_from_loader(loader.name, loader))
+def tool(name: str) -> ModuleType:
+    """A tool as a module, loaded once: so a run needs no new interpreter, which would load scipy each time."""
     sys.path.insert(0, TOOLS)
     try:
-        loader.exec_module(module)
+        module = loaded(name)
         if name == "import_capture":
             importlib.import_module("radio.locking")  # which it loads where it is asked to lock
     finally:
@@ -97,7 +93,7 @@ def run_main(name: str, *words: Any) -> tuple[int, str, str]:
     wrote, said = io.StringIO(), io.StringIO()
     with contextlib.redirect_stdout(wrote), contextlib.redirect_stderr(said):
         try:
-            status = loaded(name).main([str(word) for word in words])
+            status = tool(name).main([str(word) for word in words])
         except SystemExit as end:
             status = end.code
     return status, wrote.getvalue(), said.getvalue()

@@ -55,11 +55,12 @@ class Recorded(Recordings):
         self.assertAlmostEqual(abs(self.pilot(late, 0.5)), abs(self.pilot(clean)), delta=0.01)
 
     def test_the_spectrum_is_the_filters(self) -> None:
-        power = numpy.abs(numpy.fft.fft(self.samples(rate=4_915_200)[:250_000].reshape(-1, 500), axis=1)) ** 2
+        pieces = self.samples(rate=4_915_200)[:250_000].reshape(-1, 500) * numpy.hanning(500)
+        power = numpy.abs(numpy.fft.fft(pieces, axis=1)) ** 2
         level = 10 * numpy.log10(power.mean(axis=0))
         hertz = numpy.abs(numpy.fft.fftfreq(500, 1 / 4_915_200))
         inside = level[hertz < 500_000].mean()
-        self.assertLess(abs(level[hertz < 590_000] - inside).max(), 3)
+        self.assertLess(abs(level[hertz < 580_000] - inside).max(), 3)
         self.assertLess(level[(hertz > 760_000) & (hertz < 2_000_000)].max(), inside - 25)
 
     def test_carrier_and_drift(self) -> None:
@@ -95,8 +96,9 @@ class Recorded(Recordings):
         self.assertAlmostEqual(link.noise, 2 * 70**2 * 128 / ratio(7), delta=1)
 
     def test_paths_and_their_phases(self) -> None:
-        samples = self.samples("--paths", "0:0:0,4:-6:90", "--seed", 5)
-        one, two = self.pilot(samples), self.pilot(samples, 4)
+        samples = self.samples("--paths", "0:0:0,9:-6:90", "--seed", 5)
+        # Nine chips apart neither path's pulse reaches the other.
+        one, two = self.pilot(samples), self.pilot(samples, 9)
         self.assertAlmostEqual(20 * numpy.log10(abs(two / one)), -6, delta=0.5)
         self.assertAlmostEqual(float(numpy.degrees(numpy.angle(two / one))), 90, delta=5)
 

@@ -1,5 +1,6 @@
 """The parts of `tools/curve`, by numbers from outside: published weights, brute force, and the definitions."""
 
+import dataclasses
 import math
 import os
 import sqlite3
@@ -7,7 +8,7 @@ import tempfile
 import unittest
 from decimal import Decimal
 
-from tools.tests.helping import example, needs
+from tools.tests.helping import ROOT, example, needs
 
 needs("numpy", "scipy")
 
@@ -15,7 +16,7 @@ import numpy  # noqa: E402
 from scipy import stats  # noqa: E402
 
 from tools.curves import Refused, bound, counting, levels, noise, plan, receiver, report, store  # noqa: E402
-from tools.curves.batch import Curve, Setup  # noqa: E402
+from tools.curves.batch import Curve, Setup, on_air  # noqa: E402
 from tools.curves.counting import Count, Heard  # noqa: E402
 from tools.curves.script import Frame, Script, Traffic, chosen_channel, read_script  # noqa: E402
 
@@ -283,6 +284,66 @@ class Counting(unittest.TestCase):
         for line in ("frame at=1 rate=9600 good=2 bits=8:00 commands=" + 16 * "0", "hello", "", "frame at=x"):
             with self.subTest(line), self.assertRaisesRegex(Refused, "it: line 2 is none of docs/FORMATS.md"):
                 counting.counted(counting.Expected({9: FRAMES[0]}, {}), ["pilot phase=1 energy=2", line], "it")
+
+
+def case(name):
+    """The script and the lines of a case of conformance/, which a program of its own computed."""
+    blocks = {"script:": [], "text:": []}
+    block = None
+    with open(os.path.join(ROOT, "conformance", "cases", name + ".case"), encoding="ascii") as file:
+        for line in file.read().splitlines():
+            if block is not None and line.startswith("  "):
+                block.append(line[2:])
+            else:
+                block = blocks.get(line)
+    return "".join(line + "\n" for line in blocks["script:"]), blocks["text:"]
+
+
+class Cases(unittest.TestCase):
+    """The frames that were sent stand in the lines of cases without noise, each at its place."""
+
+    def counted(self, name, row):
+        text, lines = case(name)
+        script = read_script(text, name)
+        wanted = counting.expected(script, chosen_channel(script, row, name), lines, name)
+        return counting.counted(wanted, lines, name)
+
+    def test_all_frames_and_messages_are_found(self):
+        for name, row, channels in (
+            ("three_seconds", None, 6),
+            ("rate2_four_rates", None, 4),
+            ("rate2_offset", None, 4),
+            ("traffic_row_63", None, 6),
+        ):
+            with self.subTest(name):
+                counts = self.counted(name, row)
+                self.assertEqual(len(counts), channels)
+                self.assertEqual({count.errors() for count in counts.values()}, {0})
+                self.assertTrue(all(count.sent for count in counts.values()))
+
+    def test_frames_that_another_serial_number_hides_are_errors(self):
+        counts = self.counted("traffic_wrong_serial", None)
+        for channel in ("frame 2400", "frame 1200"):
+            self.assertEqual(counts[channel].errors(), counts[channel].sent)
+            self.assertEqual(counts[channel].lost, 0)
+
+    def test_frames_that_are_one_at_two_rates(self):
+        """A frame of zeros at 1,200 bits a second has the symbols of one at 2,400, and is heard as that."""
+        count = self.counted("traffic_three_fingers", None)["frame 1200"]
+        self.assertEqual((count.other_rate, count.errors()), (count.sent, count.sent))
+
+
+class OnAir(unittest.TestCase):
+    def test_a_second_path_comes_later_by_its_factor(self):
+        """50 + 60j and (0.5 - 1j)(100 + 20j) are 120 - 30j; 1 + 2j and (0.5 - 1j)(-7 + 3j) are 0.5 + 10.5j."""
+        setup = dataclasses.replace(setup_for(), paths=((2, 0.5 - 1j),))
+        parts = numpy.array([100, 20, -7, 3, 50, 60, 1, 2], dtype=numpy.int16)
+        self.assertEqual(on_air(setup, parts).tolist(), [100, 20, -7, 3, 120, -30, 0, 10])
+
+    def test_paths_that_leave_the_range_are_refused(self):
+        setup = dataclasses.replace(setup_for(), paths=((1, 1j),))
+        with self.assertRaisesRegex(Refused, "leave the range of samples"):
+            on_air(setup, numpy.array([32_000, 0, 0, 1_000], dtype=numpy.int16))
 
 
 class Words(unittest.TestCase):

@@ -135,6 +135,11 @@ class Written(Recordings):
         self.locked(self.recorded("--ec-io", -9), "--scale", 5_000)
         self.assertRegex(self.said, r"import_capture: \d+ parts were cut at the ends of the range")
 
+    def test_little_more_than_a_period(self) -> None:
+        found = self.locked(self.recorded("--ec-io", -9, "--clock", 5, "--carrier", 900, "--seconds", 0.028))
+        self.assertGreater(int(found["chips"]), PERIOD)
+        self.assertGreater(signal_to_noise(*self.aligned(self.at("out.is95"), found)), -6)
+
     def test_standard_output(self) -> None:
         path = self.recorded("--ec-io", -9)
         self.locked(path)
