@@ -5,7 +5,7 @@ ghost use Rattle.std.specs.Prelude.{unsigned_abs};
 
 use chip_core::{Bits, CheckForm};
 use conv_code::encode_into;
-use frame_decoder::{Decoded, PowerSofts, commands, paging_span, sync_span, traffic_frame};
+use frame_decoder::{Decoded, PowerSofts, commands, paging_span, traffic_frame};
 use quality_bits::{Kind as QualityKind, append_check};
 use std::process::Abort;
 use std::test::Fail;
@@ -52,29 +52,6 @@ fn is_bounded(softs: &[i64]) -> bool
 }
 
 #[test]
-fn three_sync_frames(rt: HostRuntime) -> Result<(), Fail> {
-    let mut decoder = Decoder::new(rt.alloc(), 96)?;
-    let bits = some_bits(96);
-    let mut symbols = Bits::empty();
-    encode_into(0o266, &bits, &mut symbols);
-    assert_eq!(rt; symbols.len(), 192);
-    let mut softs = [0; 384];
-    for frame in 0..3u16 {
-        let code = symbols.part(64 * frame, 64);
-        assert_eq!(rt; code.len(), 64);
-        let mut sent = Bits::empty();
-        place_into(Kind::Sync, 2, &code, &mut sent);
-        let first = 128 * usize::from(frame);
-        hear(&sent, &mut softs[first..first + 128]);
-    }
-    assert!(rt; is_bounded(&softs));
-    assert!(rt; sync_span(&mut decoder, &softs, 0) == bits.part(0, 32));
-    assert!(rt; sync_span(&mut decoder, &softs, 1) == bits.part(32, 32));
-    assert!(rt; sync_span(&mut decoder, &softs, 2) == bits.part(64, 32));
-    Ok(())
-}
-
-#[test]
 fn three_paging_frames(rt: HostRuntime) -> Result<(), Fail> {
     let mut decoder = Decoder::new(rt.alloc(), 576)?;
     let bits = some_bits(576);
@@ -95,44 +72,6 @@ fn three_paging_frames(rt: HostRuntime) -> Result<(), Fail> {
     assert!(rt; paging_span(&mut decoder, rate, &softs, 0) == bits.part(0, 192));
     assert!(rt; paging_span(&mut decoder, rate, &softs, 1) == bits.part(192, 192));
     assert!(rt; paging_span(&mut decoder, rate, &softs, 2) == bits.part(384, 192));
-    Ok(())
-}
-
-#[test]
-fn two_paging_frames_at_half_the_rate(rt: HostRuntime) -> Result<(), Fail> {
-    let mut decoder = Decoder::new(rt.alloc(), 192)?;
-    let bits = some_bits(192);
-    let mut symbols = Bits::empty();
-    encode_into(0o377, &bits, &mut symbols);
-    assert_eq!(rt; symbols.len(), 384);
-    let mut softs = [0; 768];
-    for frame in 0..2u16 {
-        let code = symbols.part(192 * frame, 192);
-        assert_eq!(rt; code.len(), 192);
-        let mut sent = Bits::empty();
-        place_into(Kind::Data, 2, &code, &mut sent);
-        let first = 384 * usize::from(frame);
-        hear(&sent, &mut softs[first..first + 384]);
-    }
-    assert!(rt; is_bounded(&softs));
-    let rate = Rate::R4800;
-    assert!(rt; paging_span(&mut decoder, rate, &softs, 0) == bits.part(0, 96));
-    assert!(rt; paging_span(&mut decoder, rate, &softs, 1) == bits.part(96, 96));
-    Ok(())
-}
-
-#[test]
-fn nothing_heard(rt: HostRuntime) -> Result<(), Fail> {
-    let mut decoder = Decoder::new(rt.alloc(), 192)?;
-    let softs = [0; 384];
-    assert!(rt; is_bounded(&softs));
-    let sync = sync_span(&mut decoder, &softs, 1);
-    let paging = paging_span(&mut decoder, Rate::R9600, &softs, 0);
-    assert_eq!(rt; sync.len(), 32);
-    assert_eq!(rt; paging.len(), 192);
-    for i in 0..32u16 {
-        assert!(rt; !sync.get(i) && !paging.get(i));
-    }
     Ok(())
 }
 
@@ -170,53 +109,6 @@ fn a_traffic_frame_at_9600(rt: HostRuntime) -> Result<(), Fail> {
     assert_eq!(rt; bits.len(), 192);
     let frame = decoded_of(&rt, &mut decoder, Rate::R9600, &bits);
     assert!(rt; frame.good && frame.rate == Rate::R9600 && frame.bits == information);
-    Ok(())
-}
-
-#[test]
-fn a_traffic_frame_at_4800(rt: HostRuntime) -> Result<(), Fail> {
-    let mut decoder = Decoder::new(rt.alloc(), 192)?;
-    let information = some_bits(80);
-    let mut bits = information;
-    append_check(QualityKind::Q8, CheckForm::Plain, &mut bits);
-    assert_eq!(rt; bits.len(), 88);
-    bits.append_number(8, 0);
-    assert_eq!(rt; bits.len(), 96);
-    let frame = decoded_of(&rt, &mut decoder, Rate::R4800, &bits);
-    assert!(rt; frame.good && frame.rate == Rate::R4800 && frame.bits == information);
-    Ok(())
-}
-
-#[test]
-fn traffic_frames_without_a_quality_indicator(rt: HostRuntime) -> Result<(), Fail> {
-    let mut decoder = Decoder::new(rt.alloc(), 192)?;
-    let information = some_bits(40);
-    let mut bits = information;
-    bits.append_number(8, 0);
-    assert_eq!(rt; bits.len(), 48);
-    let frame = decoded_of(&rt, &mut decoder, Rate::R2400, &bits);
-    assert!(rt; frame.good && frame.rate == Rate::R2400 && frame.bits == information);
-
-    let information = some_bits(16);
-    let mut bits = information;
-    bits.append_number(8, 0);
-    assert_eq!(rt; bits.len(), 24);
-    let frame = decoded_of(&rt, &mut decoder, Rate::R1200, &bits);
-    assert!(rt; frame.good && frame.rate == Rate::R1200 && frame.bits == information);
-    Ok(())
-}
-
-// Zeros are a word of each rate, with the same symbols at all four; at 9,600 and 4,800 their
-// quality indicator would not be zeros.
-#[test]
-fn the_higher_rate_on_a_tie(rt: HostRuntime) -> Result<(), Fail> {
-    let mut decoder = Decoder::new(rt.alloc(), 192)?;
-    let softs = [2; 384];
-    assert!(rt; is_bounded(&softs));
-    let frame = traffic_frame(&mut decoder, &softs, &REPLACED);
-    assert!(rt; frame.good && frame.rate == Rate::R2400);
-    assert_eq!(rt; frame.score, 704);
-    assert_eq!(rt; frame.bits.len(), 40);
     Ok(())
 }
 

@@ -5,14 +5,12 @@ ghost use Rattle.std.specs.Prelude.{unsigned_abs};
 
 use chip_core::{Bits, CheckForm};
 use conv_code::encode_into;
-use frame_decoder::traffic_frame;
 use list_viterbi::ListDecoder;
 use listed_frame::listed_frame;
 use quality_bits::{Kind as QualityKind, append_check};
 use std::process::Abort;
 use std::test::Fail;
 use symbol_path::{Kind, Rate, place_into};
-use viterbi::Decoder;
 
 /// The next number of a linear congruential generator.
 fn next(state: u32) -> u32 {
@@ -109,35 +107,5 @@ fn the_second_word_saves_a_frame(rt: HostRuntime) -> Result<(), Fail> {
     assert!(rt; best.rate != Rate::R9600);
     let saved = listed_frame(&mut decoder, 2, &softs, &REPLACED);
     assert!(rt; saved.good && saved.rate == Rate::R9600 && saved.bits == information);
-    Ok(())
-}
-
-#[test]
-fn one_word_is_the_best_word(rt: HostRuntime) -> Result<(), Fail> {
-    let mut lists = ListDecoder::new(rt.alloc(), 192)?;
-    let mut decoder = Decoder::new(rt.alloc(), 192)?;
-    let mut softs = [0; 384];
-    let mut state = 7u32;
-    for i in 0..384usize {
-        state = next(state);
-        softs[i] = i64::from(state >> 29) - 3;
-    }
-    assert!(rt; is_bounded(&softs));
-    let listed = listed_frame(&mut lists, 1, &softs, &REPLACED);
-    let frame = traffic_frame(&mut decoder, &softs, &REPLACED);
-    assert!(rt; listed == frame);
-    Ok(())
-}
-
-// Zeros are a word of each rate, with the same symbols at all four. At 9,600 and 4,800 a later word
-// may have a right quality indicator, but none has as great a score.
-#[test]
-fn the_higher_rate_on_a_tie(rt: HostRuntime) -> Result<(), Fail> {
-    let mut decoder = ListDecoder::new(rt.alloc(), 192)?;
-    let softs = [2; 384];
-    assert!(rt; is_bounded(&softs));
-    let frame = listed_frame(&mut decoder, 16, &softs, &REPLACED);
-    assert!(rt; frame.good && frame.rate == Rate::R2400);
-    assert_eq!(rt; frame.score, 704);
     Ok(())
 }

@@ -5,8 +5,7 @@ ghost use Rattle.std.specs.Prelude.{unsigned_abs};
 ghost use Rattle.symbol_path.specs.RatesTwo.{information_of};
 
 use chip_core::Bits;
-use quality_bits::Kind;
-use rate_set_two::{Decoded2, Rate2, encode2_into, place2, traffic2_frame};
+use rate_set_two::{Decoded2, Rate2, encode2_into, traffic2_frame};
 use std::process::Abort;
 use std::test::Fail;
 use viterbi::Decoder;
@@ -69,20 +68,6 @@ fn decoded_of(rt: &impl Abort, decoder: &mut Decoder, rate: Rate2, info: &Bits) 
 }
 
 #[test]
-fn frames_at_14400_and_7200(rt: HostRuntime) -> Result<(), Fail> {
-    let mut decoder = Decoder::new(rt.alloc(), 288)?;
-    let info = some_bits(268);
-    let frame = decoded_of(&rt, &mut decoder, Rate2::R14400, &info);
-    assert!(rt; frame.good && frame.rate == Rate2::R14400 && frame.bits == info);
-    assert_eq!(rt; frame.score, 704);
-
-    let info = some_bits(126);
-    let frame = decoded_of(&rt, &mut decoder, Rate2::R7200, &info);
-    assert!(rt; frame.good && frame.rate == Rate2::R7200 && frame.bits == info);
-    Ok(())
-}
-
-#[test]
 fn frames_at_3600_and_1800(rt: HostRuntime) -> Result<(), Fail> {
     let mut decoder = Decoder::new(rt.alloc(), 288)?;
     let info = some_bits(56);
@@ -93,35 +78,4 @@ fn frames_at_3600_and_1800(rt: HostRuntime) -> Result<(), Fail> {
     let frame = decoded_of(&rt, &mut decoder, Rate2::R1800, &info);
     assert!(rt; frame.good && frame.rate == Rate2::R1800 && frame.bits == info);
     Ok(())
-}
-
-// Zeros are a word of each rate, but at none is their quality indicator zeros: so there is no
-// candidate, and the score is that of the best word at 14,400 bits a second.
-#[test]
-fn no_candidate(rt: HostRuntime) -> Result<(), Fail> {
-    let mut decoder = Decoder::new(rt.alloc(), 288)?;
-    let softs = [2; 384];
-    assert!(rt; is_bounded(&softs));
-    let frame = traffic2_frame(&mut decoder, &softs, &REPLACED);
-    assert!(rt; !frame.good && frame.rate == Rate2::R14400);
-    assert_eq!(rt; frame.score, 704);
-    assert_eq!(rt; frame.bits.len(), 268);
-    Ok(())
-}
-
-#[test]
-fn which_code_symbol_is_sent(rt: HostRuntime) {
-    assert_eq!(rt; place2(Rate2::R14400, 1), 96);
-    assert_eq!(rt; place2(Rate2::R14400, 288), 5);
-    assert_eq!(rt; place2(Rate2::R14400, 383), 575);
-    assert_eq!(rt; place2(Rate2::R1800, 1), 12);
-}
-
-#[test]
-fn rates(rt: HostRuntime) {
-    assert_eq!(rt; Rate2::R3600.bits_per_second(), 3600);
-    assert_eq!(rt; Rate2::R7200.information_bits(), 126);
-    assert_eq!(rt; Rate2::R1800.code_symbols(), 72);
-    assert_eq!(rt; Rate2::R14400.repeats(), 1);
-    assert_eq!(rt; Rate2::R7200.quality(), Kind::Q10);
 }

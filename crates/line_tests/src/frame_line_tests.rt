@@ -2,8 +2,7 @@
 
 use cdma_io::MemorySink;
 use chip_core::Bits;
-use event_tap::{FrameTap, MessageTap, PilotTap, RawTap, Tap, Taps, line_into, write_frame2};
-use line_text::Text;
+use event_tap::{FrameTap, MessageTap, PilotTap, RawTap, Tap, Taps, write_frame2};
 use mobile_core::Event;
 use rate_set_two::{Decoded2, Rate2};
 use std::alloc::Global;
@@ -32,54 +31,6 @@ fn frame(at: u64, rate: Rate, good: bool, bit: bool) -> Event {
         bits: bits_of(rate.information_bits(), bit),
         commands: [bit; 16],
     }
-}
-
-#[test]
-fn each_rate_has_its_line(rt: HostRuntime) -> Result<(), Fail> {
-    let cases = [
-        (frame(712_704, Rate::R2400, true, false), QUARTER),
-        (
-            frame(1_228_800, Rate::R1200, true, true),
-            "frame at=1228800 rate=1200 good=1 bits=16:ffff commands=1111111111111111\n",
-        ),
-        (
-            frame(0, Rate::R4800, true, true),
-            "frame at=0 rate=4800 good=1 bits=80:ffffffffffffffffffff commands=1111111111111111\n",
-        ),
-        (
-            frame(u64::MAX, Rate::R9600, false, true),
-            "frame at=18446744073709551615 rate=9600 good=0 \
-             bits=172:fffffffffffffffffffffffffffffffffffffffffff0 commands=1111111111111111\n",
-        ),
-    ];
-    for (event, line) in cases {
-        let mut text = Text::empty();
-        line_into(&event, &mut text);
-        assert_eq!(rt; text.bytes(), line.as_bytes(), "{line}");
-    }
-    Ok(())
-}
-
-#[test]
-fn commands_stand_in_their_order(rt: HostRuntime) -> Result<(), Fail> {
-    let mut commands = [false; 16];
-    commands[0] = true;
-    commands[1] = true;
-    commands[14] = true;
-    let event = Event::Frame {
-        at: 737_280,
-        rate: Rate::R1200,
-        good: true,
-        bits: bits_of(16, false),
-        commands,
-    };
-    let mut text = Text::empty();
-    line_into(&event, &mut text);
-    assert_eq!(rt;
-        text.bytes(),
-        b"frame at=737280 rate=1200 good=1 bits=16:0000 commands=1100000000000010\n".as_slice()
-    );
-    Ok(())
 }
 
 #[test]

@@ -1,6 +1,6 @@
 //! A handset that hears nothing, and frames of zeros.
 
-ghost use Rattle.std.specs.Prelude.{◌≡◌, ◌≤◌, IfOk, length};
+ghost use Rattle.std.specs.Prelude.{◌≡◌, ◌≤◌, IfOk};
 ghost use Rattle.mobile_core.specs.Standing.{has_room};
 ghost use Rattle.mobile_core.specs.Tuners.{samples_left};
 

@@ -13,8 +13,6 @@ mod handset_tests;
 #[cfg(test)]
 mod paging_line_tests;
 #[cfg(test)]
-mod sets_line_tests;
-#[cfg(test)]
 mod tap_tests;
 #[cfg(test)]
 mod traffic_line_tests;

@@ -2,7 +2,7 @@
 
 ghost use Rattle.std.specs.Prelude.{◌-◌};
 
-use crate::event_tests::{first_fields, other_page, paging, phase_of, pilot, sync, sync_message};
+use crate::event_tests::{first_fields, phase_of, pilot, sync, sync_message};
 use cdma_io::{Failed, MemorySink};
 use chip_core::Bits;
 use event_tap::{FrameTap, Heard, MessageTap, PilotTap, RawTap, Tap, Taps, Text, line_into};
@@ -23,11 +23,6 @@ const SECOND: &str =
 
 /// How far the line of the first sync message goes whose capsule has no frequency, as it came.
 const RAW: &str = "raw at=294848 sync 200:1901030100020005ff";
-
-/// The line of a paging message, and of its capsule as it came.
-const PAGE: &str = "paging at=737280 other type=9 bits=2:00\n";
-
-const RAW_PAGE: &str = "raw at=737280 paging 48:06090dc63d78\n";
 
 /// A tap of messages that counts those that it heard.
 #[derive(Drop)]
@@ -103,25 +98,6 @@ fn are_lines(bytes: &[u8], lines: &[&str]) -> bool {
 }
 
 #[test]
-fn each_message_tap_writes_each_message(rt: HostRuntime) -> Result<(), Fail> {
-    let alloc = rt.alloc();
-    let mut taps: Vec<Box<dyn Tap>> = Vec::new(alloc);
-    taps.push(Box::new(alloc, MessageTap::new())?)?;
-    taps.push(Box::new(alloc, MessageTap::new())?)?;
-    let sink = written(alloc, taps, [u32::MAX; 4])?;
-    assert!(rt; are_lines(sink.bytes(), &[FIRST, FIRST, SECOND, SECOND]));
-    Ok(())
-}
-
-#[test]
-fn no_tap_writes_nothing(rt: HostRuntime) -> Result<(), Fail> {
-    let alloc = rt.alloc();
-    let sink = written(alloc, Vec::new(alloc), [u32::MAX; 4])?;
-    assert!(rt; sink.bytes().is_empty());
-    Ok(())
-}
-
-#[test]
 fn taps_hear_up_to_their_limits(rt: HostRuntime) -> Result<(), Fail> {
     let alloc = rt.alloc();
     let most = u32::MAX;
@@ -182,22 +158,5 @@ fn a_full_sink_takes_the_first_bytes(rt: HostRuntime) -> Result<(), Fail> {
     let event = pilot(phase_of(64)?, 9);
     assert_eq!(rt; taps.hear(&event, &mut sink), Err(Failed));
     assert_eq!(rt; sink.bytes(), b"pilot phas".as_slice());
-    Ok(())
-}
-
-#[test]
-fn taps_hear_pages_as_messages(rt: HostRuntime) -> Result<(), Fail> {
-    let alloc = rt.alloc();
-    let mut taps: Vec<Box<dyn Tap>> = Vec::new(alloc);
-    taps.push(Box::new(alloc, PilotTap::new())?)?;
-    taps.push(Box::new(alloc, MessageTap::new())?)?;
-    taps.push(Box::new(alloc, FrameTap::new())?)?;
-    taps.push(Box::new(alloc, RawTap::new())?)?;
-    let mut taps = Taps::new(taps, [1; 4]);
-    let mut sink = MemorySink::new(alloc, 2000, 7, Vec::new(alloc))?;
-    let page = other_page(9)?;
-    taps.hear(&paging(737280, page), &mut sink)?;
-    taps.hear(&paging(761856, page), &mut sink)?;
-    assert!(rt; are_lines(sink.bytes(), &[PAGE, RAW_PAGE]));
     Ok(())
 }

@@ -7,7 +7,6 @@ use paging_message::{
     HalfBits, HalfFramer, Layout, MessageFault, PagingMessage, SYSTEM_FIELDS, system_name,
 };
 use quality_bits::{Kind, Rate, Register};
-use std::process::Abort;
 use std::test::Fail;
 
 /// The bits of an octet and zeros behind it, in all so many.
@@ -172,31 +171,6 @@ fn system_parameters_come_back(rt: HostRuntime) -> Result<(), Fail> {
 }
 
 #[test]
-fn neighbors_come_back(rt: HostRuntime) -> Result<(), Fail> {
-    let mut writer = BitWriter::new();
-    writer.put(27, 0x18_02a1)?;
-    for (config, pn) in [(1, 17), (7, 511)] {
-        writer.put(3, config)?;
-        writer.put(9, pn)?;
-    }
-    writer.put(7, 0)?;
-    let body = writer.done();
-    assert_eq!(rt; body.len(), 58);
-    let message = PagingMessage::from_body(&body).ok_or("not admitted")?;
-    let PagingMessage::Neighbors(neighbors) = message else {
-        return Err("another type".into());
-    };
-    let fields = neighbors.fields();
-    assert_eq!(rt; (fields.pn, fields.seq, fields.inc), (0, 42, 1));
-    assert!(rt; fields.configs.len() == 2 && fields.pns.len() == 2);
-    assert_eq!(rt; (fields.configs.get(0), fields.pns.get(0)), (1, 17));
-    assert_eq!(rt; (fields.configs.get(1), fields.pns.get(1)), (7, 511));
-    assert_eq!(rt; fields.rest.len(), 7);
-    assert!(rt; PagingMessage::decode(&capsule_with(&body), CheckForm::Plain) == Ok(message));
-    Ok(())
-}
-
-#[test]
 fn lists_at_fault(rt: HostRuntime) -> Result<(), Fail> {
     let message = PagingMessage::from_body(&channels_body()?).ok_or("not admitted")?;
     let capsule = message.encode(CheckForm::Plain);
@@ -213,73 +187,6 @@ fn lists_at_fault(rt: HostRuntime) -> Result<(), Fail> {
     }
     assert_eq!(rt; PagingMessage::from_body(&starting_with(9, 7)), None);
     Ok(())
-}
-
-/// Whether the table of formats admits a body of zeros behind its type.
-fn is_admitted(kind: u8, count: u16) -> bool {
-    let fits = match kind {
-        1 => count >= 222,
-        3 => count >= 27 && (count - 27) % 12 <= 7,
-        4 => count >= 23 && (count - 23) % 11 <= 7,
-        _ => count >= 8,
-    };
-    fits && count % 8 == 2
-}
-
-/// Decodes bodies of 32 types from the first on, with each number of bits that fits a capsule or
-/// not, and sees that just the admitted ones are messages.
-fn try_types(rt: &impl Abort, first: u8)
-    requires { first ≤ 224 }
-{
-    for kind in first..=first + 31 {
-        for count in 1..=1146u16 {
-            let body = starting_with(kind, count);
-            let capsule = capsule_with(&body);
-            let decoded = PagingMessage::decode(&capsule, CheckForm::Plain);
-            assert_eq!(rt; decoded.is_ok(), is_admitted(kind, count));
-            assert_eq!(rt; PagingMessage::from_body(&body), decoded.ok());
-        }
-    }
-}
-
-#[test]
-fn bodies_of_types_0_to_31(rt: HostRuntime) {
-    try_types(&rt, 0);
-}
-
-#[test]
-fn bodies_of_types_32_to_63(rt: HostRuntime) {
-    try_types(&rt, 32);
-}
-
-#[test]
-fn bodies_of_types_64_to_95(rt: HostRuntime) {
-    try_types(&rt, 64);
-}
-
-#[test]
-fn bodies_of_types_96_to_127(rt: HostRuntime) {
-    try_types(&rt, 96);
-}
-
-#[test]
-fn bodies_of_types_128_to_159(rt: HostRuntime) {
-    try_types(&rt, 128);
-}
-
-#[test]
-fn bodies_of_types_160_to_191(rt: HostRuntime) {
-    try_types(&rt, 160);
-}
-
-#[test]
-fn bodies_of_types_192_to_223(rt: HostRuntime) {
-    try_types(&rt, 192);
-}
-
-#[test]
-fn bodies_of_types_224_to_255(rt: HostRuntime) {
-    try_types(&rt, 224);
 }
 
 /// Lays a capsule, and tells whether another one may follow it at once.
@@ -322,19 +229,6 @@ fn laid_capsules_are_heard(rt: HostRuntime) -> Result<(), Fail> {
         }
     }
     assert_eq!(rt; heard, 3);
-    Ok(())
-}
-
-#[test]
-fn the_list_is_full(rt: HostRuntime) -> Result<(), Fail> {
-    let mut bits = HalfBits::empty();
-    assert!(rt; bits.is_empty());
-    for i in 0..11264u16 {
-        bits.push(i == 11263)?;
-    }
-    assert_eq!(rt; bits.push(true), Err(Full));
-    assert_eq!(rt; bits.len(), 11264);
-    assert!(rt; !bits.get(11262) && bits.get(11263));
     Ok(())
 }
 

@@ -1,7 +1,6 @@
 ghost use Rattle.std.specs.Prelude.{◌≤◌};
 
 use chip_core::{Bits, CheckForm};
-use quality_bits::{Kind, Register};
 use std::test::Fail;
 use sync_message::{CapsuleFramer, MessageFault, SyncFields, SyncMessage};
 
@@ -56,19 +55,6 @@ fn changed(bits: &Bits, turned: bool) -> Bits {
     changed
 }
 
-/// The bits and their check of 30 bits behind them.
-fn checked(bits: &Bits) -> Bits {
-    let mut checked = *bits;
-    let mut register = Register::new(Kind::M30);
-    for i in 0..bits.len() {
-        register.push(bits.get(i));
-    }
-    for place in 0..30u32 {
-        let _ = checked.push(register.value() >> (29 - place) & 1 == 1);
-    }
-    checked
-}
-
 /// A frame: the SOM bit, and 31 bits from a place on, zeros where there are no more.
 fn frame(som: bool, bits: &Bits, from: u16) -> Bits
     requires { from ≤ 60000 }
@@ -100,32 +86,6 @@ fn messages_come_back(rt: HostRuntime) -> Result<(), Fail> {
 }
 
 #[test]
-fn lists_at_fault(rt: HostRuntime) -> Result<(), Fail> {
-    let message = SyncMessage::new(shortest()).ok_or("no spelling")?;
-    let capsule = message.encode(CheckForm::Complemented);
-    let cases = [
-        (changed(&capsule, true), MessageFault::BadCheck),
-        (changed(&capsule, false), MessageFault::BadLength),
-        (Bits::empty(), MessageFault::BadLength),
-        (starting_with(4, 32), MessageFault::BadLength),
-        (starting_with(149, 1184), MessageFault::BadLength),
-    ];
-    for (bits, fault) in cases {
-        assert_eq!(rt;
-            SyncMessage::decode(&bits, CheckForm::Complemented),
-            Err(fault)
-        );
-    }
-    let five = checked(&starting_with(5, 10));
-    assert_eq!(rt; five.len(), 40);
-    assert_eq!(rt;
-        SyncMessage::decode(&five, CheckForm::Plain),
-        Err(MessageFault::BadBody)
-    );
-    Ok(())
-}
-
-#[test]
 fn frames_give_the_capsule(rt: HostRuntime) -> Result<(), Fail> {
     let message = SyncMessage::new(shortest()).ok_or("no spelling")?;
     let capsule = message.encode(CheckForm::Plain);
@@ -140,16 +100,6 @@ fn frames_give_the_capsule(rt: HostRuntime) -> Result<(), Fail> {
     assert_eq!(rt; long.len(), 32);
     assert_eq!(rt; framer.push(&long), None);
     assert!(rt; framer == CapsuleFramer::new());
-    Ok(())
-}
-
-#[test]
-fn fields_without_a_spelling(rt: HostRuntime) -> Result<(), Fail> {
-    let mut wide = shortest();
-    wide.pn = 512;
-    let mut loose = shortest();
-    loose.rest = Bits::empty();
-    assert!(rt; SyncMessage::new(wide).is_none() && SyncMessage::new(loose).is_none());
     Ok(())
 }
 

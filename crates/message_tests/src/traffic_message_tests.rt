@@ -3,12 +3,11 @@
 ghost use Rattle.std.specs.Prelude.{◌≤◌, ◌<◌, ◌^◌};
 
 use chip_core::{BitWriter, Bits, CheckForm, Full};
-use quality_bits::{Kind, Rate, Register};
-use std::process::Abort;
+use quality_bits::{Kind, Register};
 use std::test::Fail;
 use traffic_message::{
-    HEAD_FIELDS, IN_TRAFFIC_FIELDS, MessageFault, Mux, SEARCH_FIELDS, SignalFramer, TIME_FIELDS,
-    TrafficBody, TrafficMessage, head_name, in_traffic_name, search_name, split_frame, time_name,
+    HEAD_FIELDS, IN_TRAFFIC_FIELDS, MessageFault, SEARCH_FIELDS, SignalFramer, TIME_FIELDS,
+    TrafficBody, TrafficMessage, head_name, in_traffic_name, search_name, time_name,
 };
 
 /// So many bits that spell a number.
@@ -60,22 +59,6 @@ fn capsule_with(body: &Bits) -> Bits {
 }
 
 #[test]
-fn another_type_comes_back(rt: HostRuntime) -> Result<(), Fail> {
-    let body = spelling(24, 0x01_4e00)?;
-    let message = TrafficMessage::from_body(&body).ok_or("not admitted")?;
-    let head = message.head();
-    assert_eq!(rt; head.values(), [2, 3, 1, 0]);
-    let TrafficBody::Other { kind, bits } = message.body() else {
-        return Err("another type".into());
-    };
-    assert_eq!(rt; (kind, bits.len()), (1, 7));
-    let capsule = message.encode(CheckForm::Plain);
-    assert!(rt; capsule == capsule_with(&body));
-    assert!(rt; TrafficMessage::decode(&capsule, CheckForm::Plain) == Ok(message));
-    Ok(())
-}
-
-#[test]
 fn a_direction_comes_back(rt: HostRuntime) -> Result<(), Fail> {
     let body = spelling(56, 0x11_0071_01ff_0a00)?;
     let message = TrafficMessage::from_body(&body).ok_or("not admitted")?;
@@ -93,100 +76,6 @@ fn a_direction_comes_back(rt: HostRuntime) -> Result<(), Fail> {
     let capsule = message.encode(CheckForm::Complemented);
     assert!(rt; TrafficMessage::decode(&capsule, CheckForm::Complemented) == Ok(message));
     Ok(())
-}
-
-#[test]
-fn neighbors_come_back(rt: HostRuntime) -> Result<(), Fail> {
-    let body = spelling(32, 0x0800_08ff)?;
-    let message = TrafficMessage::from_body(&body).ok_or("not admitted")?;
-    let TrafficBody::Neighbors(update) = message.body() else {
-        return Err("another type".into());
-    };
-    let fields = update.fields();
-    assert_eq!(rt;
-        (fields.inc, fields.pns.len(), fields.rest.len()),
-        (1, 1, 2)
-    );
-    assert_eq!(rt; fields.pns.get(0), 63);
-    assert!(rt; message.encode(CheckForm::Plain) == capsule_with(&body));
-    Ok(())
-}
-
-#[test]
-fn parameters_come_back(rt: HostRuntime) -> Result<(), Fail> {
-    let mut writer = BitWriter::new();
-    writer.put(17, 7 << 9)?;
-    for (width, value) in [
-        (15, 32739),
-        (16, 65472),
-        (4, 8),
-        (4, 15),
-        (4, 8),
-        (6, 56),
-        (6, 35),
-        (4, 0),
-        (4, 15),
-        (4, 3),
-    ] {
-        assert!(rt; 1 <= width && width <= 32 && value < 1 << width);
-        writer.put(width, value)?;
-    }
-    writer.put(4, 5)?;
-    let body = writer.done();
-    let message = TrafficMessage::from_body(&body).ok_or("not admitted")?;
-    let TrafficBody::System(parameters) = message.body() else {
-        return Err("another type".into());
-    };
-    assert_eq!(rt;
-        parameters.values(),
-        [32739, 65472, 8, 15, 8, 56, 35, 0, 15, 3]
-    );
-    assert_eq!(rt; parameters.fields().rest.len(), 4);
-    assert!(rt; message.encode(CheckForm::Plain) == capsule_with(&body));
-    Ok(())
-}
-
-#[test]
-fn lists_at_fault(rt: HostRuntime) -> Result<(), Fail> {
-    let message = TrafficMessage::from_body(&spelling(24, 0x01_4e00)?).ok_or("not admitted")?;
-    let capsule = message.encode(CheckForm::Plain);
-    let cases = [
-        (changed(&capsule, false), MessageFault::BadLength),
-        (starting_with(4, 32), MessageFault::BadLength),
-        (starting_with(149, 1184), MessageFault::BadLength),
-        (changed(&capsule, true), MessageFault::BadCheck),
-        (capsule_with(&starting_with(9, 16)), MessageFault::BadBody),
-        (capsule_with(&starting_with(8, 24)), MessageFault::BadBody),
-        (capsule_with(&starting_with(17, 40)), MessageFault::BadBody),
-    ];
-    for (bits, fault) in cases {
-        assert!(rt; TrafficMessage::decode(&bits, CheckForm::Plain) == Err(fault));
-    }
-    assert!(rt; TrafficMessage::from_body(&starting_with(0, 16)).is_none());
-    Ok(())
-}
-
-/// The parts of a frame that begins with these bits, zeros behind them.
-fn split(rt: &impl Abort, rate: Rate, octet: u8) -> Mux {
-    let bits = starting_with(octet, rate.information_bits());
-    assert!(rt; bits.len() == rate.information_bits());
-    split_frame(rate, &bits)
-}
-
-#[test]
-fn frames_are_split(rt: HostRuntime) {
-    let signaled = split(&rt, Rate::R9600, 0x80);
-    assert_eq!(rt; signaled.primary.len(), 80);
-    assert!(rt; matches!(&signaled.signal, Some(bits) if bits.len() == 88));
-    assert!(rt; signaled.secondary.is_none());
-    let seconded = split(&rt, Rate::R9600, 0xd0);
-    assert_eq!(rt; seconded.primary.len(), 40);
-    assert!(rt; matches!(&seconded.secondary, Some(bits) if bits.len() == 128));
-    assert!(rt; seconded.signal.is_none());
-    let plain = split(&rt, Rate::R9600, 0);
-    assert!(rt; plain.primary.len() == 171 && plain.signal.is_none());
-    let slow = split(&rt, Rate::R4800, 0x80);
-    assert!(rt; slow.primary.len() == 80 && slow.signal.is_none());
 }
 
 #[test]

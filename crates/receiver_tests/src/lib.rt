@@ -7,8 +7,6 @@
 #[cfg(test)]
 mod pilot_search_searching_tests;
 #[cfg(test)]
-mod pilot_search_sweeping_tests;
-#[cfg(test)]
 mod pilot_survey_surveying_tests;
 #[cfg(test)]
 mod rake_finger_tests;

@@ -2,8 +2,8 @@
 
 ghost use Rattle.std.specs.Prelude.{pos, ◌<◌, ◌≤ℤ◌};
 
-use chip_core::{Phase, Sample};
-use pilot_search::{Gate, Open, Shared, Tails, search, try_phase};
+use chip_core::Sample;
+use pilot_search::{Gate, search};
 use short_code::Codes;
 use std::sync::atomic::{AtomicU64, Ordering};
 use std::test::Fail;
@@ -122,18 +122,6 @@ fn leaves_most_phases_behind_the_code(rt: HostRuntime) -> Result<(), Fail> {
 }
 
 #[test]
-fn leaves_no_phase_of_zeros(rt: HostRuntime) -> Result<(), Fail> {
-    let codes = Codes::new(rt.alloc())?;
-    let gate = Counting::new();
-    let best = search(&rt, rt.alloc(), &[NOTHING; 2048], &codes, 1, &gate)?;
-    assert_eq!(rt; best.phase.get(), 0);
-    assert_eq!(rt; best.energy, 0);
-    assert_eq!(rt; gate.left.load(Ordering::SeqCst), 1);
-    assert_eq!(rt; gate.unfinished.load(Ordering::SeqCst), 0);
-    Ok(())
-}
-
-#[test]
 fn each_worker_arrives_and_leaves_once(rt: HostRuntime) -> Result<(), Fail> {
     let codes = Codes::new(rt.alloc())?;
     let samples = code_from(&codes, 1000);
@@ -142,52 +130,5 @@ fn each_worker_arrives_and_leaves_once(rt: HostRuntime) -> Result<(), Fail> {
     assert_eq!(rt; best.phase.get(), 1000);
     assert_eq!(rt; gate.arrived.load(Ordering::SeqCst), 64);
     assert_eq!(rt; gate.left.load(Ordering::SeqCst), 64);
-    Ok(())
-}
-
-#[test]
-fn any_number_of_workers_finds_the_same(rt: HostRuntime) -> Result<(), Fail> {
-    let codes = Codes::new(rt.alloc())?;
-    let mut two = [NOTHING; 64];
-    two[0].i = 1;
-    two[1].i = 1;
-    let wrapped = code_from(&codes, 32767);
-    for workers in [1, 3, 64] {
-        let best = search(&rt, rt.alloc(), &two, &codes, workers, &Open)?;
-        assert_eq!(rt; best.phase.get(), 5);
-        assert_eq!(rt; best.energy, 8);
-        let best = search(&rt, rt.alloc(), &wrapped, &codes, workers, &Open)?;
-        assert_eq!(rt; best.phase.get(), 32767);
-        assert_eq!(rt; best.energy, 167772160000);
-        let best = search(&rt, rt.alloc(), &[NOTHING; 64], &codes, workers, &Open)?;
-        assert_eq!(rt; best.phase.get(), 0);
-        assert_eq!(rt; best.energy, 0);
-    }
-    Ok(())
-}
-
-#[test]
-#[tactic(auto, using(crate::proofs::FoundLemmas::at_most_greatest))]
-fn leaves_a_phase_that_is_surely_below(rt: HostRuntime) -> Result<(), Fail> {
-    let codes = Codes::new(rt.alloc())?;
-    let mut samples = [NOTHING; 128];
-    samples[0].i = 1;
-    samples[1].i = 1;
-    let tails = Tails::of(&samples);
-    assert_eq!(rt; tails.get(0), 2);
-    assert_eq!(rt; tails.get(1), 0);
-    assert_eq!(rt; tails.get(511), 0);
-    let (shared, mut seat) = Shared::new(rt.alloc(), &samples, &codes)?;
-    let zero = Phase::new(0).unwrap();
-    let five = Phase::new(5).unwrap();
-    let ten = Phase::new(10).unwrap();
-    let first = try_phase(&shared, &mut seat, &samples, &codes, &tails, zero);
-    let second = try_phase(&shared, &mut seat, &samples, &codes, &tails, five);
-    let again = try_phase(&shared, &mut seat, &samples, &codes, &tails, zero);
-    let last = try_phase(&shared, &mut seat, &samples, &codes, &tails, ten);
-    assert_eq!(rt; first, Some(0));
-    assert_eq!(rt; second, Some(8));
-    assert_eq!(rt; again, None);
-    assert_eq!(rt; last, Some(8));
     Ok(())
 }

@@ -1,15 +1,13 @@
 //! Surveys whose ranks are known, and workers that meet.
 
-ghost use Rattle.std.specs.Prelude.{pos, ◌<◌, ◌≤◌, ◌≤ℤ◌, length};
+ghost use Rattle.std.specs.Prelude.{pos, ◌<◌, ◌≤◌, ◌≤ℤ◌};
 
 use chip_core::{Phase, Sample};
-use pilot_search::{Gate, Open};
-use pilot_survey::{Rank, Survey, survey};
+use pilot_search::Gate;
+use pilot_survey::survey;
 use short_code::Codes;
-use std::alloc::Global;
 use std::sync::atomic::{AtomicU64, Ordering};
 use std::test::Fail;
-use std::thread::Threads;
 
 const NOTHING: Sample = Sample { i: 0, q: 0 };
 
@@ -80,79 +78,6 @@ fn code_from(codes: &Codes, phase: u16) -> [Sample; 2048]
         samples[usize::from(t)] = shown(codes.chip((phase + t) % 32768), 100);
     }
     samples
-}
-
-/// The survey of these samples round phase 0.
-fn surveyed_by<R: Threads + Sync>(
-    rt: &R,
-    alloc: Global,
-    samples: &[Sample],
-    codes: &Codes,
-    width: u8,
-    workers: u8,
-) -> Result<Survey, Fail>
-    requires few { length samples.now ≤ 32768 }
-    requires width { width ≤ 31 }
-    requires least { 1 ≤ workers }
-    requires most { workers ≤ 64 }
-{
-    let base = Phase::new(0).unwrap();
-    Ok(survey(rt, alloc, samples, codes, base, width, workers, &Open)?)
-}
-
-#[test]
-fn zeros_rank_pilots_by_number(rt: HostRuntime) -> Result<(), Fail> {
-    let codes = Codes::new(rt.alloc())?;
-    let ranks = surveyed_by(&rt, rt.alloc(), &[NOTHING; 2048], &codes, 10, 4)?;
-    for pilot in 0..512u16 {
-        let expected = Rank {
-            pilot,
-            delta: -10,
-            energy: 0,
-        };
-        assert_eq!(rt; ranks.get(pilot), expected);
-    }
-    Ok(())
-}
-
-#[test]
-fn finds_the_code_a_chip_early(rt: HostRuntime) -> Result<(), Fail> {
-    let codes = Codes::new(rt.alloc())?;
-    let ranks = surveyed_by(&rt, rt.alloc(), &code_from(&codes, 32767), &codes, 10, 4)?;
-    let expected = Rank {
-        pilot: 0,
-        delta: -1,
-        energy: 167772160000,
-    };
-    assert_eq!(rt; ranks.get(0), expected);
-    Ok(())
-}
-
-#[test]
-fn finds_the_last_pilot_at_the_edge_of_its_width(rt: HostRuntime) -> Result<(), Fail> {
-    let codes = Codes::new(rt.alloc())?;
-    let ranks = surveyed_by(&rt, rt.alloc(), &code_from(&codes, 95), &codes, 31, 3)?;
-    let expected = Rank {
-        pilot: 511,
-        delta: 31,
-        energy: 167772160000,
-    };
-    assert_eq!(rt; ranks.get(0), expected);
-    Ok(())
-}
-
-#[test]
-fn any_number_of_workers_ranks_alike(rt: HostRuntime) -> Result<(), Fail> {
-    let codes = Codes::new(rt.alloc())?;
-    let samples = code_from(&codes, 20000);
-    let one = surveyed_by(&rt, rt.alloc(), &samples, &codes, 2, 1)?;
-    for workers in [2, 3, 7, 64] {
-        let ranks = surveyed_by(&rt, rt.alloc(), &samples, &codes, 2, workers)?;
-        for i in 0..512u16 {
-            assert_eq!(rt; ranks.get(i), one.get(i));
-        }
-    }
-    Ok(())
 }
 
 #[test]

@@ -2,8 +2,8 @@
 
 ghost use Rattle.std.specs.Prelude.{◌≡◌, IfOk};
 
-use chip_core::{Full, OutOfMemory, Phase, Sample};
-use rake_finger::{Finger, Fingers, Form, SampleRing, combine_into, power, soft, strength};
+use chip_core::{OutOfMemory, Phase, Sample};
+use rake_finger::{Finger, Fingers, Form, SampleRing, combine_into, soft};
 use short_code::Codes;
 use std::alloc::Global;
 use std::test::Fail;
@@ -56,50 +56,5 @@ fn despreads_a_pilot(rt: HostRuntime) -> Result<(), Fail> {
     let mut softs = [7; 128];
     combine_into(&ring, &codes, &fingers, Form::Sync, 0, &mut softs);
     assert_eq!(rt; softs, [20971520000; 128]);
-    Ok(())
-}
-
-#[test]
-fn lists_eight_fingers(rt: HostRuntime) -> Result<(), Fail> {
-    let finger = Finger {
-        phase: Phase::new(5).ok_or("a phase")?,
-        delta: -3,
-        row: 32,
-    };
-    let mut fingers = Fingers::one(finger);
-    for _n in 1..8u8 {
-        fingers.push(finger)?;
-    }
-    assert_eq!(rt; fingers.len(), 8);
-    assert_eq!(rt; fingers.get(7), finger);
-    assert_eq!(rt; fingers.push(finger), Err(Full));
-    Ok(())
-}
-
-#[test]
-fn measures_a_pilot(rt: HostRuntime) -> Result<(), Fail> {
-    let codes = Codes::new(rt.alloc())?;
-    let ring = pilot_ring(rt.alloc(), &codes)?;
-    let phase = Phase::new(0).ok_or("a phase")?;
-    let behind = Phase::new(32765).ok_or("a phase")?;
-    let ahead = Phase::new(1).ok_or("a phase")?;
-    assert_eq!(rt;
-        strength(&ring, &codes, phase, 452, 32768),
-        (10485760000, 0)
-    );
-    assert_eq!(rt; strength(&ring, &codes, behind, 60, 512), (10485760000, 3));
-    assert_eq!(rt; strength(&ring, &codes, ahead, 2, 16384), (10485760000, -1));
-    assert_eq!(rt; power(&ring, 32768), 10240000);
-    Ok(())
-}
-
-#[test]
-fn measures_nothing(rt: HostRuntime) -> Result<(), Fail> {
-    let codes = Codes::new(rt.alloc())?;
-    let mut ring = SampleRing::new(rt.alloc(), 512)?;
-    ring.push_all(&[Sample { i: 0, q: 0 }; 600]);
-    let phase = Phase::new(7).ok_or("a phase")?;
-    assert_eq!(rt; strength(&ring, &codes, phase, 4, 600), (0, -2));
-    assert_eq!(rt; power(&ring, 600), 0);
     Ok(())
 }

@@ -58,37 +58,6 @@ fn two_words_between_zeros(rt: HostRuntime) -> Result<(), Fail> {
     Ok(())
 }
 
-#[test]
-fn three_words_of_four(rt: HostRuntime) -> Result<(), Fail> {
-    let mut decoder = ListDecoder::new(rt.alloc(), 576)?;
-    let words = listed(&rt, &mut decoder, &[0; 20], Ends::Zero, 3);
-    assert!(rt; words.len() == 3);
-    assert!(rt; joined(&words.get(0).word) == 0);
-    assert!(rt; joined(&words.get(1).word) == 256);
-    assert!(rt; joined(&words.get(2).word) == 512);
-    Ok(())
-}
-
-/// The soft values are the encoder's symbols of a 1 and eight zeros. Words of 9 bits reach all 18
-/// symbols but those that break one parity check, which leaves six symbols out: so just six words
-/// differ from this one in a single symbol.
-#[test]
-fn near_a_single_one(rt: HostRuntime) -> Result<(), Fail> {
-    let mut decoder = ListDecoder::new(rt.alloc(), 576)?;
-    let softs = [
-        -1, -1, -1, 1, -1, -1, -1, -1, 1, -1, -1, 1, 1, 1, -1, 1, -1, -1,
-    ];
-    let words = listed(&rt, &mut decoder, &softs, Ends::Free, 8);
-    assert!(rt; words.len() == 8);
-    assert!(rt; joined(&words.get(0).word) == 256);
-    assert!(rt; words.get(0).score == 18);
-    for i in 1..7 {
-        assert!(rt; words.get(i).score == 16);
-    }
-    assert!(rt; words.get(7).score == 14);
-    Ok(())
-}
-
 /// A linear congruential generator.
 #[derive(Drop)]
 struct Generator(u64);
@@ -170,23 +139,6 @@ fn are_enumerated(words: &Words, found: &[(i64, u64); 16]) -> bool {
         same = same && entry.score == score && joined(&entry.word) == number;
     }
     same
-}
-
-#[test]
-fn agrees_with_all_words_between_zeros(rt: HostRuntime) -> Result<(), Fail> {
-    let mut decoder = ListDecoder::new(rt.alloc(), 576)?;
-    let mut generator = Generator(1);
-    for case in 0..64usize {
-        let bits = 8 + case % 7;
-        let softs = generator.softs(bits);
-        let softs = &softs[..2 * bits];
-        let k = (case % 16) as u8 + 1;
-        let all = 1u64 << (bits - 8);
-        let words = listed(&rt, &mut decoder, softs, Ends::Zero, k);
-        assert!(rt; u64::from(words.len()) == all.min(u64::from(k)));
-        assert!(rt; are_enumerated(&words, &enumerated(softs, all, 256)));
-    }
-    Ok(())
 }
 
 #[test]

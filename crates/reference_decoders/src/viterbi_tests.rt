@@ -4,10 +4,8 @@ ghost use Rattle.std.specs.Prelude.{◌≡◌, ◌<◌, ◌≤◌, ◌^◌, IsTr
 
 mod bodies;
 mod timing;
-mod truncated;
 
 use chip_core::Bits;
-use conv_code::encode_into;
 use std::process::Abort;
 use std::test::Fail;
 use viterbi::{Decoder, Ends, Word};
@@ -143,57 +141,6 @@ fn agrees_with_all_words_between_zeros(rt: HostRuntime) -> Result<(), Fail> {
 }
 
 #[test]
-fn agrees_with_all_free_words(rt: HostRuntime) -> Result<(), Fail> {
-    let mut decoder = Decoder::new(rt.alloc(), 576)?;
-    let mut generator = Generator(2);
-    for case in 0..12usize {
-        let bits = 8 + case % 3;
-        let softs = generator.softs(bits);
-        let softs = &softs[..2 * bits];
-        let all = best_of_all(softs, 1 << (bits + 8), 1);
-        let (word, score) = decoded(&rt, &mut decoder, softs, Ends::Free);
-        assert_eq!(rt; (joined(&word), score), all, "case {case}");
-    }
-    Ok(())
-}
-
-#[test]
-fn a_single_one(rt: HostRuntime) -> Result<(), Fail> {
-    let mut decoder = Decoder::new(rt.alloc(), 576)?;
-    // 11 10 11 11 01 10 00 10 11
-    let softs = [
-        -1, -1, -1, 1, -1, -1, -1, -1, 1, -1, -1, 1, 1, 1, -1, 1, -1, -1,
-    ];
-    for ends in [Ends::Free, Ends::Zero] {
-        let (word, score) = decoded(&rt, &mut decoder, &softs, ends);
-        assert_eq!(rt; word.start, 0);
-        assert_eq!(rt; word.bits.len(), 9);
-        assert_eq!(rt; joined(&word), 0x100);
-        assert_eq!(rt; score, 18);
-    }
-    Ok(())
-}
-
-/// The soft values of `a_single_one` in a decoder that has room for 16 bits alone.
-#[test]
-fn sixteen_bits_are_room_enough(rt: HostRuntime) -> Result<(), Fail> {
-    let mut decoder = Decoder::new(rt.alloc(), 16)?;
-    let softs = [
-        -1, -1, -1, 1, -1, -1, -1, -1, 1, -1, -1, 1, 1, 1, -1, 1, -1, -1,
-    ];
-    let mut word = Word {
-        start: 1,
-        bits: Bits::empty(),
-    };
-    assert!(rt; is_bounded(&softs));
-    assert_eq!(rt; decoder.best_into(&softs, Ends::Free, &mut word), 18);
-    assert_eq!(rt; word.start, 0);
-    assert_eq!(rt; word.bits.len(), 9);
-    assert_eq!(rt; joined(&word), 0x100);
-    Ok(())
-}
-
-#[test]
 fn nothing_heard(rt: HostRuntime) -> Result<(), Fail> {
     let mut decoder = Decoder::new(rt.alloc(), 576)?;
     for ends in [Ends::Free, Ends::Zero] {
@@ -202,30 +149,5 @@ fn nothing_heard(rt: HostRuntime) -> Result<(), Fail> {
         assert_eq!(rt; joined(&word), 0);
         assert_eq!(rt; score, 0);
     }
-    Ok(())
-}
-
-#[test]
-fn the_longest_word_comes_back(rt: HostRuntime) -> Result<(), Fail> {
-    let mut decoder = Decoder::new(rt.alloc(), 576)?;
-    let mut generator = Generator(3);
-    let mut bits = Bits::empty();
-    for _bit in 0..576u16 {
-        let _ = bits.push(generator.next_soft() > 0);
-    }
-    assert_eq!(rt; bits.len(), 576);
-    let mut symbols = Bits::empty();
-    encode_into(0o266, &bits, &mut symbols);
-    assert_eq!(rt; symbols.len(), 1152);
-    let mut softs = [1i64; 1152];
-    for i in 0..1152u16 {
-        if symbols.get(i) {
-            softs[i as usize] = -1;
-        }
-    }
-    let (word, score) = decoded(&rt, &mut decoder, &softs, Ends::Free);
-    assert_eq!(rt; score, 1152);
-    assert_eq!(rt; word.start, 0o266);
-    assert!(rt; word.bits == bits);
     Ok(())
 }
