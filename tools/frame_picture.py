@@ -3,7 +3,6 @@
 from __future__ import annotations
 
 import os
-import tempfile
 
 import matplotlib
 
@@ -14,6 +13,8 @@ from frame_steps import Steps  # noqa: E402
 from matplotlib.axes import Axes  # noqa: E402
 from matplotlib.figure import Figure  # noqa: E402
 from matplotlib.patches import Patch, Rectangle  # noqa: E402
+
+from tools.radio.writing import write_beside  # noqa: E402
 
 ZERO, ONE, REPLACED, PLAIN = "#1f6fb2", "#d1661f", "#7d3c98", "#555555"
 FIELD_COLORS = ["#cfe3f5", "#fbe0c8", "#d5ecd0", "#eadcf4", "#f7eeb8", "#e2e2e2"]
@@ -39,17 +40,10 @@ def draw(steps: Steps, path: str) -> None:
 
 
 def saved(figure: Figure, path: str) -> None:
-    """Writes a figure beside its place, and then puts it there."""
-    ending = os.path.splitext(path)[1]
-    descriptor, written = tempfile.mkstemp(suffix=ending, dir=os.path.dirname(path) or ".")
-    os.close(descriptor)
-    try:
-        figure.savefig(written, metadata={"Software": None} if ending == ".png" else {"Date": None})
-        os.chmod(written, 0o644)
-        os.replace(written, path)
-    except BaseException:
-        os.unlink(written)
-        raise
+    """Writes a figure to a file, whole or not at all."""
+    form = os.path.splitext(path)[1][1:]
+    with write_beside(path) as file:
+        figure.savefig(file, format=form, metadata={"Software": None} if form == "png" else {"Date": None})
 
 
 def square(axes: Axes, values: np.ndarray, title: str) -> None:

@@ -255,7 +255,7 @@ def stream_steps(capture: Capture, stream: Stream, index: int, what: str) -> Ste
     skipped = 0 if place else 16  # the first symbols of a span hang on its start bits too
     name = f"frames {span[0]} to {span[-1]} as one word" if len(span) > 1 else f"frame {index} alone"
     reading = Reading(name, softs[own], words, unlike(softs[own][skipped:], symbols[skipped:]))
-    title = f"frame {index} of the {what}: from reference sample {start} on, known at {stream.end(span[-1])}"
+    title = f"frame {index}, {what}: from sample {start} on, known at {stream.end(span[-1])}"
     return Steps(title, stream.form, paths_of(capture, stream.fingers, stream.form, start), scrambling,
                  np.array([], int), heard, turned, [reading], 0, bits, [], [])  # fmt: skip
 
@@ -380,7 +380,7 @@ def traffic_steps(capture: Capture, found: Found, mark: Mark, assigned: Assigned
     readings = [reading_of(rate, turned) for rate in rates]
     shown = [rate.speed for rate in rates].index(frame.speed)
     end = end_of(fingers, DATA_FORM, clock.start)
-    title = f"frame {index} of the traffic channel on row {assigned.row}: from reference sample {clock.start} on, at {end}"
+    title = f"frame {index}, traffic channel on row {assigned.row}: from sample {clock.start} on, at {end}"
     steps = Steps(title, DATA_FORM, paths_of(capture, fingers, DATA_FORM, clock.start), clock.scrambling, clock.places,
                   heard, turned, readings, shown, readings[shown].words[0][1], [], [],
                   power_commands(softs, clock.places))  # fmt: skip
@@ -442,7 +442,7 @@ def add_traffic_verdict(steps: Steps, good: bool) -> None:
     """Says whether a traffic frame is good, and if not, which step shows it."""
     reading = steps.readings[steps.shown]
     if good:
-        why = "the greatest score of those whose quality indicator is right"
+        why = "the greatest score where the quality is right"
         steps.verdict.append(f"good, at {reading.name} bits a second: {why}")
     elif not any(other.is_candidate for other in steps.readings):
         steps.verdict.append("not good: no rate's quality indicator is right (step 6)")

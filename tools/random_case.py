@@ -12,12 +12,11 @@ import shlex
 from dataclasses import dataclass, field
 
 from model.bits import Bits, spelled, text_of_bits
+from model.cell import AHEAD, FRAME, SLOT
 from model.coding import MESSAGE_16, RATE_SET_1, RATE_SET_2, Rate
 from model.messages import IN_TRAFFIC_FIELDS, PRIMARY_BITS, SEARCH_FIELDS, SYSTEM_FIELDS, capsule_of
+from model.slots import slot_of
 
-SLOT = 98_304
-FRAME = 24_576
-AHEAD = 4
 SENDING = 3
 """Superframes of a sending of the shortest sync message; longer ones aren't sent here where more is heard."""
 
@@ -373,11 +372,6 @@ def slot_heard(scene: Scene, options: dict[str, str], mark: int) -> tuple[int, d
     keys = (rng.getrandbits(32) for _ in range(200 if rng.random() < 0.9 else 1))
     key = next((key for key in keys if slot_of(key) % (16 << cycle) == wanted), rng.getrandbits(32))
     return mark + SLOT * count + rng.randrange(100), options | {"key": f"{key:08x}", "cycle": str(cycle)}
-
-
-def slot_of(key: int) -> int:
-    """The slot of a key."""
-    return 40_503 * ((key & 0xFFFF) ^ (key >> 16) ^ (6 * (key & 0xFFF))) % 65_536 // 32
 
 
 def damaged_file(rng: random.Random) -> list[str]:

@@ -15,6 +15,7 @@ import time
 LEVEL = 100
 FRAME = 24_576
 MARK = 2
+KINDS = 8
 SYNC = "prev=3 min=1 sid=1 nid=2 pn=100 lc=20000000000 time=1007 lp=13 ltm=0 daylt=0 prat=0 rest=3:00"
 HEADER = struct.Struct(">4sHHQ")
 
@@ -35,8 +36,8 @@ def make(text: str) -> None:
 
 
 def told(total: int, rate: str, bits: str) -> str:
-    """A frame's line behind its place, by the sum of its noise: six ways to be heard, in turn by the sum modulo 16."""
-    kind = total % 16
+    """A frame's line behind its place, by the sum of its noise: five ways to be heard, by the sum modulo KINDS."""
+    kind = total % KINDS
     wrong = bits[:4] + ("0" if bits[4] != "0" else "8") + bits[5:]
     rate, good, bits = {
         1: (rate, 0, wrong),
@@ -56,7 +57,7 @@ def follow(data: bytes) -> None:
     lines = ["pilot phase=0 energy=1", "sync at=1000 " + SYNC]
     for number in range(MARK, count // FRAME):
         total = sum(parts[2 * FRAME * number : 2 * FRAME * (number + 1)]) - 2 * FRAME * LEVEL
-        if total == 0 or total % 16:
+        if total == 0 or total % KINDS:
             lines.append(f"frame at={FRAME * (number + 1)} " + told(total, *frames[number % len(frames)]))
     sys.stdout.write("".join(line + "\n" for line in lines))
 

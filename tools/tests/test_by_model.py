@@ -65,7 +65,8 @@ class Write(Folder):
         self.put(DRAFT)
         self.assertEqual(self.said(WRITE, "one")[:2], (0, "one: written\n"))
         found = self.got()
-        self.assertTrue(found.startswith("purpose: a pilot that turns the other way\nwords: find\nstatus: 0\nbits: 16\nsha256: "))
+        front = "purpose: a pilot that turns the other way\nwords: find\nstatus: 0\nbits: 16\nsha256: "
+        self.assertTrue(found.startswith(front))
         self.assertTrue(found.endswith("  pilot gain=100\ntext:\n" + WANTED))
         self.assertEqual(self.said(WRITE, "one")[:2], (0, "one: nothing to change\n"))
         self.assertEqual(self.said(CHECK, "--jobs", "1", "one")[:2], (0, "1 cases, 0 differ\n"))
@@ -178,8 +179,9 @@ class Agree(unittest.TestCase):
                 self.assertTrue(input_of(case) or case.input == "nothing")
         self.assertLessEqual({"find", "follow", "rate2", "list", "idle", "survey", "make"}, commands)
 
-    def test_jobs_of_long_cases(self) -> None:
-        self.assertTrue(all(not by_model.is_long(Draft("one", items_of(random_case.random_case(seed)))) for seed in range(50)))
+    def test_no_case_is_long(self) -> None:
+        drawn = [Draft("one", items_of(random_case.random_case(seed))) for seed in range(50)]
+        self.assertFalse(any(by_model.is_long(case) for case in drawn))
 
 
 class Explain(unittest.TestCase):

@@ -19,6 +19,12 @@ from tools.tests.helping import EXAMPLES, NO_PROGRAM, PROGRAM, PYTHON, ROOT, TOO
 
 needs("numpy", "scipy", "matplotlib", "distributed")
 
+import numpy  # noqa: E402
+
+from tools.curves import levels, noise  # noqa: E402
+from tools.curves.script import read_script  # noqa: E402
+from tools.tests import fake_receiver  # noqa: E402
+
 FAKE = os.path.join(ROOT, "tools", "tests", "fake_receiver.py")
 # A file of the stand-in has six frames to be heard; a run has 36 frames at each of two points, and so 12 batches.
 SAMPLES = 200_000
@@ -135,13 +141,26 @@ class Counts(Curves):
         with open(os.path.join(self.at("out"), "curve.png"), "rb") as file:
             self.assertEqual(file.read(8), b"\x89PNG\r\n\x1a\n")
 
-    def test_each_frame_has_one_end(self):
+    def test_each_frame_has_the_end_that_its_noise_gives_it(self):
         frames = [row for row in self.rows_of_one_worker() if row["channel"] == "frame 9600"]
-        self.assertEqual([int(row["sent"]) for row in frames], [FRAMES, FRAMES])
-        for row in frames:
-            self.assertEqual(sum(int(row[end]) for end in ENDS), int(row["errors"]))
+        script = read_script(example("frames_9600.script").decode(), "it")
+        channel = levels.channels_of(script, script.traffic[0])["frame 9600"]
+        self.assertEqual([row["point_db"] for row in frames], ["1.0", "1.5"])
+        for row, point in zip(frames, (1_000, 1_500)):
+            sigma = levels.air_of(script, (), 0.0).sigma(channel, point / 1_000)
+            kinds = [kind for batch in range(BATCHES // 2) for kind in self.kinds(point, sigma, batch)]
+            self.assertEqual([int(row[end]) for end in ENDS], [kinds.count(kind) for kind in range(len(ENDS))])
+            self.assertEqual(int(row["errors"]), sum(kind < len(ENDS) for kind in kinds))
+            self.assertEqual((int(row["sent"]), len(kinds)), (FRAMES, FRAMES))
             self.assertAlmostEqual(float(row["share"]), int(row["errors"]) / FRAMES, places=5)
-        self.assertTrue(all(sum(int(row[end]) for row in frames) for end in ENDS), frames)
+
+    def kinds(self, point, sigma, batch):
+        """By the noise itself: how the stand-in tells each frame of a batch."""
+        level = numpy.full(2 * SAMPLES, fake_receiver.LEVEL, dtype=numpy.int16)
+        made = noise.noisy(level, sigma, noise.generator(1_995, point, batch)).astype(int) - fake_receiver.LEVEL
+        chips = 2 * fake_receiver.FRAME
+        sums = made[: SAMPLES // fake_receiver.FRAME * chips].reshape(-1, chips).sum(axis=1)
+        return [int(total) % fake_receiver.KINDS for total in sums[fake_receiver.MARK :]]
 
     def test_another_seed_counts_otherwise(self):
         self.assertEqual(self.ran(self.words("--seed", "2"))[0], 0)

@@ -236,7 +236,9 @@ class Program(unittest.TestCase):
             self.skipTest(f"{missing}: install the package python3-pandas")
         # A state and power control bits of decimal digits alone, which no reader may take for other numbers.
         first = "sync at=294848 prev=3 min=1 sid=1 nid=2 pn=511 lc=00000000010 time=1007 lp=13 ltm=0 daylt=0 prat=0 rest=3:00"
-        lines = [first, *(line for line in LINES if line.split()[0] in ("pilot", "frame", "paging", "sets", "traffic"))]
+        heard = [line for line in LINES if line.split()[0] in ("pilot", "frame", "paging", "sets", "traffic")]
+        large = [line for line in heard if read_line(line).get("energy", 0) >= 2**53]
+        lines = [first, *(line for line in heard[:1_500] + heard[-1_500:] if line not in large)]
         _, objects, _ = run_tool("lines", data="".join(line + "\n" for line in lines).encode())
         with tempfile.NamedTemporaryFile() as file:
             file.write(objects)
@@ -250,6 +252,13 @@ class Program(unittest.TestCase):
         back = table.to_json(orient="records", lines=True).encode()
         back += b"" if back.endswith(b"\n") else b"\n"
         self.assertEqual(run_tool("lines", "--back", data=back), (0, "".join(line + "\n" for line in lines).encode(), ""))
+
+    def test_a_rounded_number_is_refused(self) -> None:
+        """A table with empty cells rounds numbers from 2^53 on: they are never taken for those of a line."""
+        for energy in (b"9007199254740992.0", b"4611404547745644544.0", b"1.8446744073709552e19"):
+            self.refused("energy: .* is no whole number", "--back", data=b'{"line":"pilot","phase":0,"energy":%b}\n' % energy)
+        exact = b'{"line":"pilot","phase":0,"energy":4611404547745644544}\n'
+        self.assertEqual(run_tool("lines", "--back", data=exact), (0, b"pilot phase=0 energy=4611404547745644544\n", ""))
 
     def refused(self, why: str, *words: str, data: bytes = b"", wrote: bytes = b"", status: int = 1) -> None:
         ended, text, said = run_tool("lines", *words, data=data)

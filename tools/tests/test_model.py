@@ -206,7 +206,8 @@ class PilotSets(unittest.TestCase):
         self.assertEqual(self.moved(0, 0, 0), 1)
 
     def test_ratios(self) -> None:
-        self.assertEqual([sets.RATIOS[k] for k in (0, 1, 20, 28, 32, 63)], [1_000_000, 891_251, 100_000, 39_811, 25_119, 708])
+        found = [sets.RATIOS[k] for k in (0, 1, 20, 28, 32, 63)]
+        self.assertEqual(found, [1_000_000, 891_251, 100_000, 39_811, 25_119, 708])
 
     def test_directions(self) -> None:
         records: dict[str, Any] = {"use": 0, "action": 0, "search": {}}
