@@ -121,15 +121,16 @@ fn is_near(part: i16, wanted: i16, beside: u16) -> bool {
     part.abs_diff(wanted) == beside
 }
 
-/// Fails unless a cell's first 30,001 samples are these at these places, each part with so much
+/// Fails unless a cell's first samples, so many, are these at these places, each part with so much
 /// added or taken away.
 fn expect_samples(
     alloc: Global,
     cell: &mut Cell,
+    count: usize,
     beside: u16,
     wanted: &[(usize, i16, i16)],
 ) -> Result<(), Fail> {
-    let mut out = vec![in alloc; Sample { i: 0, q: 0 }; 30001]?;
+    let mut out = vec![in alloc; Sample { i: 0, q: 0 }; count]?;
     fill_next(cell, &mut out)?;
     for (place, i, q) in wanted {
         let Some(sample) = out.as_slice().get(*place) else {
@@ -283,39 +284,28 @@ const HALF_RATE: [(u64, [(usize, i16, i16); 8]); 2] = [
 fn paging_at_both_rates(rt: HostRuntime) -> Result<(), Fail> {
     for (start, samples) in &FULL_RATE {
         let mut cell = cell_of(rt.alloc(), NEAR, TURNED, *start, 30_001, &[FAINT, PAGING])?;
-        expect_samples(rt.alloc(), &mut cell, FAINT_PART, samples)?;
+        expect_samples(rt.alloc(), &mut cell, 30_001, FAINT_PART, samples)?;
     }
     for (start, samples) in &HALF_RATE {
         let mut cell = cell_of(rt.alloc(), FAR, LOUDER, *start, 30_001, &[LONG, PAGING])?;
-        expect_samples(rt.alloc(), &mut cell, 0, samples)?;
+        expect_samples(rt.alloc(), &mut cell, 30_001, 0, samples)?;
     }
     Ok(())
 }
 
-/// Samples in one piece and in pieces of seven, from a start within a block.
+/// Samples from a start within a block of 64 chips, up to its end and from the next one's start.
 #[test]
-fn any_cut_gives_the_same_samples(rt: HostRuntime) -> Result<(), Fail> {
+fn samples_within_a_block(rt: HostRuntime) -> Result<(), Fail> {
     let mut cell = cell_of(rt.alloc(), FAR, LOUDER, 32_001, 3_000, &[LONG])?;
-    let mut out = [Sample { i: 0, q: 0 }; 3000];
-    fill_next(&mut cell, &mut out)?;
-    for (place, i, q) in [
-        (0usize, -100, -500),
+    let samples = [
+        (0, -100, -500),
         (702, 500, -100),
         (703, -350, 70),
         (704, 350, -70),
         (735, 650, -130),
         (2999, -650, 130),
-    ] {
-        assert_eq!(rt; out[place], Sample { i, q });
-    }
-    let mut again = cell_of(rt.alloc(), FAR, LOUDER, 32_001, 3_000, &[LONG])?;
-    let mut piece = [Sample { i: 0, q: 0 }; 7];
-    for k in 0..428usize {
-        fill_next(&mut again, &mut piece)?;
-        assert!(rt; &piece[..] == &out[7 * k..7 * k + 7]);
-    }
-    assert_eq!(rt; again.left(), 4);
-    Ok(())
+    ];
+    expect_samples(rt.alloc(), &mut cell, 3_000, 0, &samples)
 }
 
 /// The header of a cell's file.
