@@ -110,7 +110,7 @@ first_part header samples rest mid consumed = record {
   consumed = consumed;
 }
 
-shared_out : (width : Width) (one other all : ℕ) → other + one ≡ all →
+pub shared_out : (width : Width) (one other all : ℕ) → other + one ≡ all →
     sample_len width * one + sample_len width * other ≡ sample_len width * all
 shared_out width one other all is =
     let e : sample_len width * (other + one) ≡ sample_len width * all =

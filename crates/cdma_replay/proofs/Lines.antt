@@ -176,7 +176,7 @@ begins_text {taps} {r} {rest} {left} mid header samples others more counted lawf
     }
 
 -- no samples are within any width
-none_within : (width : Width) → All (HasBits width) []
+pub none_within : (width : Width) → All (HasBits width) []
 none_within width = λ k d h. absurd (omega (arith, h))
 
 -- a beginning of the text of the first samples
