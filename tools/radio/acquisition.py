@@ -32,8 +32,8 @@ SPAN = 21_000.0
 PLACES = (0.0, 0.05, 0.13, 0.29, 0.41, 0.57, 0.71, 0.87)
 # What an option of three words lets be tried: the recording, its conjugate, or both in turn.
 TRIES = {"yes": (True,), "no": (False,), "try": (False, True)}
-# Bins of a batch of transforms: 4 MB of numbers.
-BATCH = 16
+# Bins of a batch of transforms, 4 MB of numbers, and those whose energies are kept at once, 64 MB.
+BATCH, MOST_BINS = 16, 256
 # The finer carrier: chips of a sum, and bins of its transform; the span is one step of the search and a half more.
 FINE_CHIPS, FINE_BINS, FINE_SPAN = 64, 4_096, 1.5 * STEP * BIN
 
@@ -138,7 +138,9 @@ def looks(front: Front, span: float, is_conjugate: tuple[bool, ...], parts: tupl
     The conjugate of the samples is looked at where the code is met turned round: so both share the front's work.
     """
     bins = bins_within(span)
+    bands = numpy.array_split(bins, -(-len(bins) // MOST_BINS))
     places = places_of(front, parts)
+    tries = len(places) * len(is_conjugate) * len(bands)
     shift = front.carrier
     for place in places:
         kept: dict[int, NDArray[numpy.complex64]] = {}
@@ -149,9 +151,10 @@ def looks(front: Front, span: float, is_conjugate: tuple[bool, ...], parts: tupl
             return kept[number]
 
         for turned in is_conjugate:
-            best = strongest(lambda k: halves(k).conj() if turned else halves(k), bins, len(places) * len(is_conjugate))
-            hertz = (-shift if turned else shift) + best.bin * BIN
-            yield Found(place + best.late, best.phase, hertz, best.excess, turned)
+            for band in bands:
+                best = strongest(lambda k: halves(k).conj() if turned else halves(k), band, tries)
+                hertz = (-shift if turned else shift) + best.bin * BIN
+                yield Found(place + best.late, best.phase, hertz, best.excess, turned)
 
 
 def best_found(

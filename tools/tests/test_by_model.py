@@ -176,7 +176,7 @@ class Agree(unittest.TestCase):
             case = Draft(f"seed_{seed}", items_of(text))
             commands |= set(case.words[:1])
             if not case.scripts or "samples=2100" in text:
-                self.assertTrue(input_of(case) or case.input == "nothing")
+                self.assertEqual(input_of(case) == b"", case.input == "nothing" or case.cut == 0)
         self.assertLessEqual({"find", "follow", "rate2", "list", "idle", "survey", "make"}, commands)
 
     def test_no_case_is_long(self) -> None:

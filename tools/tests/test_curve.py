@@ -221,8 +221,9 @@ class Broken(Curves):
         self.assertEqual(child.returncode, 1)
 
     def test_a_disk_that_is_full_keeps_what_was_counted(self):
-        """A limit on the size of files stands for the disk: a page of SQLite more than an empty file of counts."""
-        limit = 8 * 4_096
+        """A limit on the size of files stands for the disk: SQLite's log has 24 pages, 11 of them without a batch, and
+        takes four for each."""
+        limit = 24 * 4_096
 
         def limited():
             signal.signal(signal.SIGXFSZ, signal.SIG_IGN)

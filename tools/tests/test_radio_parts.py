@@ -148,6 +148,11 @@ class Acquisitions(unittest.TestCase):
         with self.assertRaises(samples.Refused):
             acquisition.acquire(made, 9_000, (False,))
 
+    def test_a_wide_search_is_parted(self) -> None:
+        # 400 bins of 300 Hz, of which 256 are kept at once.
+        found = acquisition.acquire(self.noisy(-10, hertz=-51_000.0), 60_000)
+        self.assertLess(abs(found.hertz + 51_000), 200)
+
     def test_noise_is_no_pilot(self) -> None:
         with self.assertRaisesRegex(samples.Refused, r"the best energy is 0\.\d\d of the threshold"):
             acquisition.acquire(self.noisy(-99), 9_000)

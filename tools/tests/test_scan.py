@@ -1,13 +1,14 @@
 """tools/scan: where a pilot stands out in recordings that tools/channel makes."""
 
 import unittest
+from unittest import mock
 
 from tools.tests.helping import needs
 
 needs("numpy", "scipy")
 
 from tools.radio import scanning  # noqa: E402
-from tools.tests.radio_helping import Recordings, run_main  # noqa: E402
+from tools.tests.radio_helping import Recordings, run_main, tool  # noqa: E402
 
 
 class Centres(unittest.TestCase):
@@ -44,9 +45,10 @@ class Scans(Recordings):
         self.assertAlmostEqual(float(found["carrier_hz"]), 1_250_300, delta=10)
 
     def test_all_frequencies(self) -> None:
-        path = self.recorded("--rate", 1_600_000, "--carrier", -310_700, "--ec-io", -8)
-        self.assertEqual(self.scanned("--search", 4_000, path)[0], 1)
-        status, lines, _ = self.scanned("--all", "--search", 100_000, path)
+        path = self.recorded("--rate", 2_400_000, "--carrier", -310_700, "--ec-io", -8)
+        with mock.patch.object(tool("scan"), "everywhere", lambda rate, search: [-304_000.0, -310_400.0, 0.0]):
+            status, lines, _ = self.scanned("--all", "--search", 8_000, path)
+        # Two neighbouring centres see one pilot.
         self.assertEqual((status, len(lines)), (0, 1))
         self.assertAlmostEqual(float(lines[0]["carrier_hz"]), -310_700, delta=30)
 
