@@ -53,7 +53,7 @@ def connected(address: str | None, workers: int) -> Iterator[Any]:
                     n_workers=workers,
                     threads_per_worker=1,
                     processes=workers > 1,
-                    dashboard_address=None,
+                    dashboard_address="127.0.0.1:0",
                     memory_limit=0,
                     local_directory=folder,
                     silence_logs=SILENT,

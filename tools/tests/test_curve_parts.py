@@ -204,7 +204,8 @@ class Bounds(unittest.TestCase):
                 self.assertEqual(2 * (form.bits + 8) * form.repeats, 384 if form.rate_set == 1 else 576)
 
     def test_frames_that_err_are_no_more_than_the_bound_and_not_many_fewer(self):
-        """The best of all 65,536 words of 1,200 bits a second, by plain comparison, at 0.5 dB."""
+        """The best of all 65,536 words of 1,200 bits a second, by plain comparison, at 0.5 dB, where a union bound is
+        two or three times the share that it bounds: an error often has several words nearer than the one that was sent."""
         ratio, frames, draws = 10**0.05, 600, numpy.random.default_rng(5)
         signs = 1.0 - 2 * numpy.vstack([numpy.zeros((1, 48), dtype=int), encoded(all_words(16), 1)])
         left = draws.binomial(8, 22 / 24, size=(frames, 48))
@@ -216,7 +217,7 @@ class Bounds(unittest.TestCase):
             errors += int((scores.argmax(axis=1) != 0).sum())
         low, high = report.interval(errors, frames)
         self.assertLess(low, bound.frame_bound(1_200, ratio))
-        self.assertGreater(high, 0.5 * bound.frame_bound(1_200, ratio))
+        self.assertGreater(high, 0.25 * bound.frame_bound(1_200, ratio))
 
     def test_energy_of_symbols(self):
         """All symbols of a second share the energy of its bits and of its power control bits, 1 in 12."""
