@@ -1,10 +1,11 @@
-//! What no clause says: files written by hand, the texts of faults, and std's readers and writers.
+//! What no clause says: the texts of faults, std's readers and writers, and that a call that failed
+//! isn't tried again.
 
 use cdma_io::{
-    Failed, FileFault, Header, MemorySink, MemorySource, ReaderSource, SampleReader, Sink, Source,
-    Width, WriterSink, fill, header_bytes, sample_bytes_into, write_all,
+    Failed, FileFault, MemorySink, MemorySource, ReaderSource, SampleReader, Sink, Source,
+    WriterSink, fill, write_all,
 };
-use chip_core::{CheckForm, Sample};
+use chip_core::Sample;
 use std::alloc::{AllocError, Global};
 use std::io;
 use std::io::{ErrorKind, Read, Write};
@@ -16,26 +17,6 @@ const FILE: [u8; 28] = [
     0x00, 0x01, 0xff, 0xff, 0x80, 0x00, 0x7f, 0xff, 0x12, 0x34, 0xab, 0xcd,
 ];
 
-const HEADER: Header = Header {
-    version: 1,
-    check30: CheckForm::Plain,
-    check16: CheckForm::Complemented,
-    count: 3,
-};
-
-/// A file of the same samples but the last, in 8 bits, whose 30-bit checks are complemented.
-const NARROW_FILE: [u8; 20] = [
-    0x49, 0x53, 0x39, 0x35, 0x00, 0x02, 0x00, 0x01, 0, 0, 0, 0, 0, 0, 0, 2, // header
-    0x01, 0xff, 0x80, 0x7f,
-];
-
-const NARROW_HEADER: Header = Header {
-    version: 2,
-    check30: CheckForm::Complemented,
-    check16: CheckForm::Plain,
-    count: 2,
-};
-
 const NONE: Sample = Sample { i: 0, q: 0 };
 
 /// A source over these bytes, which gives 7 a call and fails at one call.
@@ -43,163 +24,6 @@ fn source_of(alloc: Global, bytes: &[u8], failing: u64) -> Result<MemorySource, 
     let bytes = bytes.to_vec(alloc)?;
     let failing = [failing].to_vec(alloc)?;
     Ok(MemorySource::new(bytes, 7, failing))
-}
-
-#[test]
-fn reads_a_file_in_pieces(rt: HostRuntime) -> Result<(), Fail> {
-    let mut source = source_of(rt.alloc(), &FILE, 0)?;
-    let mut reader = SampleReader::open(&mut source)?;
-    assert_eq!(rt; reader.header(), HEADER);
-    let mut out = [NONE; 2];
-    assert_eq!(rt; reader.read(&mut source, &mut out)?, 2);
-    assert_eq!(rt;
-        out,
-        [
-            Sample { i: 1, q: -1 },
-            Sample {
-                i: -32768,
-                q: 32767
-            }
-        ]
-    );
-    assert_eq!(rt; reader.left(), 1);
-    assert_eq!(rt; reader.read(&mut source, &mut out)?, 1);
-    assert_eq!(rt; out[0], Sample { i: 4660, q: -21555 });
-    assert_eq!(rt; reader.left(), 0);
-    reader.finish(&mut source)?;
-    Ok(())
-}
-
-#[test]
-fn reads_samples_of_8_bits(rt: HostRuntime) -> Result<(), Fail> {
-    let mut source = source_of(rt.alloc(), &NARROW_FILE, 0)?;
-    let mut reader = SampleReader::open(&mut source)?;
-    assert_eq!(rt; reader.header(), NARROW_HEADER);
-    assert_eq!(rt; reader.header().width(), Width::Eight);
-    let mut out = [NONE; 3];
-    assert_eq!(rt; reader.read(&mut source, &mut out)?, 2);
-    assert_eq!(rt;
-        out,
-        [Sample { i: 1, q: -1 }, Sample { i: -128, q: 127 }, NONE]
-    );
-    assert_eq!(rt; reader.left(), 0);
-    reader.finish(&mut source)?;
-
-    let mut source = source_of(rt.alloc(), &NARROW_FILE[..19], 0)?;
-    let mut reader = SampleReader::open(&mut source)?;
-    assert_eq!(rt;
-        reader.read(&mut source, &mut out),
-        Err(FileFault::Short { at: 19 })
-    );
-    Ok(())
-}
-
-#[test]
-fn counts_up_to_the_limit_of_the_version(rt: HostRuntime) -> Result<(), Fail> {
-    let headers = [
-        (1, 33_554_432, None),
-        (1, 33_554_433, Some(FileFault::Count)),
-        (2, 33_554_433, None),
-        (2, 67_108_864, None),
-        (2, 67_108_865, Some(FileFault::Count)),
-        (3, 0, Some(FileFault::Version)),
-        (0, 0, Some(FileFault::Version)),
-        (513, 0, Some(FileFault::Version)),
-    ];
-    for (version, count, fault) in headers {
-        let header = Header {
-            version,
-            count,
-            ..HEADER
-        };
-        let mut source = source_of(rt.alloc(), &header_bytes(&header), 0)?;
-        match SampleReader::open(&mut source) {
-            Ok(mut reader) => {
-                assert_eq!(rt; fault, None, "version {version}");
-                assert_eq!(rt;
-                    reader.read(&mut source, &mut [NONE]),
-                    Err(FileFault::Short { at: 16 })
-                );
-            }
-            Err(e) => assert_eq!(rt; Some(e), fault, "version {version}"),
-        }
-    }
-    Ok(())
-}
-
-#[test]
-fn writes_headers(rt: HostRuntime) {
-    assert_eq!(rt; header_bytes(&HEADER).as_slice(), &FILE[..16]);
-    assert_eq!(rt; header_bytes(&NARROW_HEADER).as_slice(), &NARROW_FILE[..16]);
-}
-
-#[test]
-fn refuses_headers(rt: HostRuntime) -> Result<(), Fail> {
-    let bad = [
-        (0, b'X', FileFault::Magic),
-        (3, b'4', FileFault::Magic),
-        (4, 1, FileFault::Version),
-        (5, 3, FileFault::Version),
-        (6, 1, FileFault::Flags),
-        (7, 4, FileFault::Flags),
-        (8, 1, FileFault::Count),
-        (12, 3, FileFault::Count),
-    ];
-    for (at, byte, fault) in bad {
-        let mut file = FILE;
-        file[at] = byte;
-        let mut source = source_of(rt.alloc(), &file, 0)?;
-        assert_eq!(rt;
-            SampleReader::open(&mut source).err(),
-            Some(fault),
-            "byte {at}"
-        );
-    }
-    let mut source = source_of(rt.alloc(), &FILE[..15], 0)?;
-    assert_eq!(rt;
-        SampleReader::open(&mut source).err(),
-        Some(FileFault::Short { at: 15 })
-    );
-    Ok(())
-}
-
-#[test]
-fn keeps_a_fault(rt: HostRuntime) -> Result<(), Fail> {
-    let mut source = source_of(rt.alloc(), &FILE[..27], 0)?;
-    let mut reader = SampleReader::open(&mut source)?;
-    let mut out = [NONE; 3];
-    for _ in 0..2 {
-        assert_eq!(rt;
-            reader.read(&mut source, &mut out),
-            Err(FileFault::Short { at: 27 })
-        );
-    }
-
-    // The fourth call fails; the first three give the header.
-    let mut source = source_of(rt.alloc(), &FILE, 4)?;
-    let mut reader = SampleReader::open(&mut source)?;
-    for _ in 0..2 {
-        assert_eq!(rt;
-            reader.read(&mut source, &mut out),
-            Err(FileFault::ReadFault)
-        );
-    }
-
-    let mut longer = FILE.to_vec(rt.alloc())?;
-    longer.push(0)?;
-    let mut source = source_of(rt.alloc(), &longer, 0)?;
-    let mut reader = SampleReader::open(&mut source)?;
-    assert_eq!(rt; reader.read(&mut source, &mut out)?, 3);
-    assert_eq!(rt; reader.left(), 0);
-    assert_eq!(rt;
-        reader.finish(&mut source),
-        Err(FileFault::Extra { at: 28 })
-    );
-    assert_eq!(rt;
-        reader.read(&mut source, &mut out),
-        Err(FileFault::Extra { at: 28 })
-    );
-    Ok(())
 }
 
 #[test]
@@ -219,17 +43,6 @@ fn names_faults(rt: HostRuntime) -> Result<(), Fail> {
         assert_eq!(rt; shown.as_str(), text);
         assert_eq!(rt; fault.place(), place, "{text}");
     }
-    Ok(())
-}
-
-#[test]
-fn fills_a_sink(rt: HostRuntime) -> Result<(), Fail> {
-    let failing = Vec::new(rt.alloc());
-    let mut sink = MemorySink::new(rt.alloc(), 4, 3, failing)?;
-    assert_eq!(rt; write_all(&mut sink, b"pilot"), Err(Failed));
-    assert_eq!(rt; sink.bytes(), b"pilo".as_slice());
-    assert_eq!(rt; sink.give(b""), Ok(0));
-    assert_eq!(rt; sink.give(b"t"), Err(Failed));
     Ok(())
 }
 
@@ -275,26 +88,6 @@ fn reads_a_reader_of_std(rt: HostRuntime) -> Result<(), Fail> {
     assert_eq!(rt; reader.left(), 0);
     reader.finish(&mut source)?;
     Ok(())
-}
-
-#[test]
-fn spells_samples(rt: HostRuntime) {
-    let samples = [
-        Sample { i: 1, q: -1 },
-        Sample {
-            i: -32768,
-            q: 32767,
-        },
-        Sample { i: 4660, q: -21555 },
-    ];
-    let mut bytes = [0; 12];
-    sample_bytes_into(Width::Sixteen, &samples, &mut bytes);
-    assert_eq!(rt; bytes.as_slice(), &FILE[16..]);
-
-    let samples = [Sample { i: 1, q: -1 }, Sample { i: -128, q: 127 }];
-    let mut bytes = [0; 4];
-    sample_bytes_into(Width::Eight, &samples, &mut bytes);
-    assert_eq!(rt; bytes.as_slice(), &NARROW_FILE[16..]);
 }
 
 #[test]

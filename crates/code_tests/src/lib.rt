@@ -1,5 +1,5 @@
-//! Tests of codes, files and checks by what their crates make public: values that are published or
-//! worked out by hand, and reads and writes that fail.
+//! Tests of codes, files and checks by what their crates make public, of what no clause says: the
+//! printed texts, reads and writes that fail, and the pilot's codes as a whole.
 //!
 //! They stand apart from the crates, so that each of those is proved once.
 #![tactic(auto)]
@@ -9,14 +9,6 @@ mod cdma_io_tests;
 #[cfg(test)]
 mod chip_core_tests;
 #[cfg(test)]
-mod conv_code_tests;
-#[cfg(test)]
-mod long_code_tests;
-#[cfg(test)]
 mod quality_bits_tests;
 #[cfg(test)]
 mod short_code_tests;
-#[cfg(test)]
-mod symbol_path_tests;
-#[cfg(test)]
-mod walsh_tests;

@@ -1,5 +1,5 @@
-//! Tests of messages and of pilot sets by what their crates make public: worked messages bit by bit,
-//! capsules that are cut, and directions that are refused.
+//! Tests of messages and of pilot sets by what their crates make public, of what no clause says: the
+//! printed texts, and the names of fields. What a message's bits are, clauses and worked values say.
 //!
 //! They stand apart from the crates, so that each of those is proved once.
 #![tactic(auto)]
