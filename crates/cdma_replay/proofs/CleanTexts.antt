@@ -1,15 +1,12 @@
 -- The text of a clean link.
-use Rattle.std.proofs.Common.{◌≡◌, ◌⊎◌, inl, inr, refl, ℕ, ◌≤◌, List, [], ◌∷◌, ◌++◌, length, take}
-use Rattle.std.proofs.Common.{sym, ap, ◌∙◌, subst, pos, All, Option, Some, Ok, option_map}
+use Rattle.std.proofs.Common.{◌≡◌, ◌⊎◌, inl, inr, refl, ℕ, ◌≤◌, List, ◌∷◌, ◌++◌, length, take}
+use Rattle.std.proofs.Common.{sym, ap, ◌∙◌, subst, All, Option, Some, Ok, option_map}
 use Rattle.std.specs.Prelude.{is_some, nat_lt}
 use Rattle.chip_core.specs.declared.sample.Sample.{Sample}
 use Rattle.cdma_io.specs.SampleFile.{IsSampleFile}
 use Rattle.cdma_io.specs.declared.header.Header.{Header}
 use Rattle.chip_core.specs.declared.width.Width.{Width}
-use Rattle.pilot_search.specs.Near.{near_deltas}
 use Rattle.pilot_search.specs.Search.{best_phase, energy}
-use Rattle.pilot_search.proofs.BestPhase.{best_phase-is}
-use Rattle.pilot_search.proofs.NearPlaces.{one_delta}
 use Rattle.cell_plan.specs.Plan.{IsFreeOf}
 use Rattle.cell_plan.specs.Transmitter.{phase_at}
 use Rattle.cell_plan.specs.declared.plan.CellPlan.{CellPlan}
@@ -23,7 +20,7 @@ use Rattle.cdma_words.specs.Words.{IsPaging}
 use Rattle.cell_plan.specs.Sampled.{made_samples}
 use Rattle.mobile_core.specs.Tuning.{Tuning}
 use Rattle.cdma_replay.specs.CleanFiles.{IsCellFile, IsCleanLink}
-use Rattle.clean_link.specs.CleanLink.{IsNotDirected, IsOnPath}
+use Rattle.clean_link.specs.CleanLink.{IsNotDirected, IsOnPath, IsPlanFile}
 use Rattle.clean_link.specs.CleanLink.{IsTunedTo}
 use Rattle.clean_link.specs.CleanLink.{sync_sent}
 use Rattle.clean_link.specs.SentEvents.{FollowsSent, sent_events}
@@ -38,13 +35,21 @@ use Rattle.cdma_replay.specs.Tasks.{following}
 use Rattle.cdma_replay.specs.declared.handset.Receiver.{Receiver}
 use Rattle.cdma_replay.specs.declared.status.Status.{Status}
 use Rattle.cdma_replay.specs.declared.status.Status.TheVariants.{NoMemory}
+use Rattle.cdma_replay.proofs.TuningLaw.{on_plans_path}
 
--- one finger is on the best phase
-own_delta : (samples : List Sample) →
-    near_deltas samples (best_phase samples) 1 ≡ pos 0 ∷ []
-own_delta samples =
-    one_delta samples (best_phase samples) (energy samples (best_phase samples))
-    (best_phase-is samples)
+-- the plan of a script can be received
+pub plan_file : (width : Width) (script : List ℕ) (plan : CellPlan) (span fingers : ℕ)
+    (header : Header) (samples : List Sample) →
+    IsCellFile width script plan span fingers header samples →
+    IsPlanFile width plan span fingers header samples
+plan_file width script plan span fingers header samples file = record {
+  receivable = named_receivable width script plan file.named;
+  sent = file.sent;
+  checks_of_30 = file.checks_of_30;
+  checks_of_16 = file.checks_of_16;
+  found = file.found;
+  alone = file.alone;
+}
 
 -- a handset lies on the path of a cell whose file it hears
 pub on_path : (width : Width) (script : List ℕ) (plan : CellPlan) (span : ℕ) (receiver : Receiver)
@@ -52,14 +57,8 @@ pub on_path : (width : Width) (script : List ℕ) (plan : CellPlan) (span : ℕ)
     IsCellFile width script plan span receiver.fingers header samples →
     length samples ≡ header.count → IsOnPath plan (tuning_for header (take span samples) receiver)
 on_path width script plan span receiver header samples file counted =
-    let first = take span samples in
-    record {
-      count = sym counted ∙ ap length file.sent ∙ length-made plan;
-      checks_of_30 = file.checks_of_30;
-      checks_of_16 = file.checks_of_16;
-      phase = file.found;
-      alone = ap (near_deltas first (best_phase first)) file.alone ∙ own_delta first;
-    }
+    on_plans_path width plan span receiver header samples
+    (plan_file width script plan span receiver.fingers header samples file) counted
 
 -- on a clean link it is tuned to the cell
 tuned : (width : Width) (script : List ℕ) (plan : CellPlan) (span : ℕ) (receiver : Receiver)

@@ -19,5 +19,6 @@ pub mod Replies
 pub mod SentLines
 pub mod SentReplies
 pub mod SleepLaw
+pub mod SlotReplies
 pub mod TuningLaw
 mod Counting

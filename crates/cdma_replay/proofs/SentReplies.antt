@@ -7,7 +7,6 @@ use Rattle.cdma_io.specs.declared.header.Header.{Header}
 use Rattle.cell_plan.specs.declared.plan.CellPlan.{CellPlan}
 use Rattle.cell_plan.specs.declared.plan.TrafficPlan.{TrafficPlan}
 use Rattle.mobile_core.specs.Marks.{mark}
-use Rattle.mobile_core.specs.Tuning.{Tuning}
 use Rattle.mobile_core.specs.declared.channel.Channel.TheVariants as channels
 use Rattle.cdma_words.specs.declared.job.TrafficOptions.{TrafficOptions}
 use Rattle.clean_link.specs.CleanLink.{sync_sent}
@@ -17,6 +16,7 @@ use Rattle.clean_link.proofs.marks.MarksTrue.{marked_where_heard}
 use Rattle.clean_link.proofs.signal.Samples.{length-made}
 use Rattle.tuned_listener.specs.declared.tuned_text.TunedText.{TunedText}
 use Rattle.tuned_listener.specs.declared.tuned_text.TunedText.TheVariants.{Listed, RateSetTwo}
+use Rattle.cdma_replay.specs.CleanFiles.{IsCellFile}
 use Rattle.cdma_replay.specs.Hearing.{clean_end, end_when, file_end_of, file_text, traffic_of}
 use Rattle.cdma_replay.specs.Hearing.{tuning_for, waiting}
 use Rattle.cdma_replay.specs.Replies.{IsFileReply, Reply}
@@ -32,6 +32,24 @@ use Rattle.cdma_replay.proofs.Replies.{one_file_reply}
 use Rattle.cdma_replay.proofs.SentLines.{listed_lines, set_two_lines}
 use Rattle.cdma_replay.proofs.SleepLaw.{end_heard, text_heard, whole_reply}
 
+-- each whole sending tells the time
+pub cell_end : (width : Width) (script : List ℕ) (plan : CellPlan) (span : ℕ) (receiver : Receiver)
+    (header : Header) (samples : List Sample) →
+    IsCellFile width script plan span receiver.fingers header samples →
+    length samples ≡ header.count →
+    end_when
+    (is_some (mark (tuning_for header (take span samples) receiver) samples (length samples)))
+    ≡ clean_end plan
+cell_end width script plan span receiver header samples cell counted =
+    let t = tuning_for header (take span samples) receiver in
+    let size : length samples ≡ plan.link.samples = ap length cell.sent ∙ length-made plan in
+    let told : is_some (mark t samples (length samples)) ≡ nat_lt 0 (length (sync_sent plan)) =
+    ap (λ (n : ℕ). is_some (mark t samples n)) size
+    ∙ ap (λ (s : List Sample). is_some (mark t s plan.link.samples)) cell.sent
+    ∙ marked_where_heard width plan t (named_receivable width script plan cell.named)
+    (on_path width script plan span receiver header samples cell counted) in
+    ap end_when told
+
 module _ (form : TunedText) (Sends : TrafficPlan → Type 0)
     (Is : CellPlan → TrafficPlan → ℕ → List ℕ → Type 0) (lines : LinesComeBack form Sends Is)
     (script bytes : List ℕ) (width : Width) (plan : CellPlan) (p : TrafficPlan)
@@ -45,9 +63,6 @@ module _ (form : TunedText) (Sends : TrafficPlan → Type 0)
   abbrev receiver : Receiver
   receiver = waiting fingers
 
-  abbrev t : Tuning
-  t = tuning_for header (take span samples) receiver
-
   -- the text has the sent lines
   text_is : IsSentText plan p (Is plan p) (told_with_sync plan plan.sync)
       (file_text [] r header samples)
@@ -60,15 +75,8 @@ module _ (form : TunedText) (Sends : TrafficPlan → Type 0)
   -- and the end is that of the whole sendings
   end_is : file_end_of r header samples ≡ clean_end plan
   end_is =
-      let size : length samples ≡ plan.link.samples =
-      ap length heard.cell.sent ∙ length-made plan in
-      let told : is_some (mark t samples (length samples)) ≡ nat_lt 0 (length (sync_sent plan)) =
-      ap (λ (n : ℕ). is_some (mark t samples n)) size
-      ∙ ap (λ (s : List Sample). is_some (mark t s plan.link.samples)) heard.cell.sent
-      ∙ marked_where_heard width plan t (named_receivable width script plan heard.cell.named)
-      (on_path width script plan span receiver header samples heard.cell heard.file.counted) in
       end_heard r fingers (channels.Traffic (traffic_of traffic)) form header samples refl
-      ∙ ap end_when told
+      ∙ cell_end width script plan span receiver header samples heard.cell heard.file.counted
 
   -- so it is of each reply that is owed
   pub reply_back : (reply : Reply) → IsFileReply [] r bytes reply →

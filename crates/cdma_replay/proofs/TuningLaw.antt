@@ -1,12 +1,30 @@
--- The handset that hears a file is the one that the file tunes.
-use Rattle.std.proofs.Common.{refl}
-use Rattle.cdma_replay.specs.TuningLaw.{HandsetsAreTuned}
+-- The handset that hears a file is tuned by it, and lies on the path of the cell that it holds.
+use Rattle.std.proofs.Common.{◌≡◌, List, [], ◌∷◌, length, pos, take, refl, sym, ap, ◌∙◌}
+use Rattle.chip_core.specs.declared.sample.Sample.{Sample}
+use Rattle.pilot_search.specs.Near.{near_deltas}
+use Rattle.pilot_search.specs.Search.{best_phase, energy}
+use Rattle.pilot_search.proofs.BestPhase.{best_phase-is}
+use Rattle.pilot_search.proofs.NearPlaces.{one_delta}
+use Rattle.clean_link.proofs.signal.Samples.{length-made}
+use Rattle.cdma_replay.specs.TuningLaw.{HandsetsAreTuned, HandsetsLieOnThePath}
 
 pub handsets_tuned : HandsetsAreTuned
-handsets_tuned span header samples receiver = record {
-  count = refl;
-  phase = refl;
-  deltas = refl;
-  checks_of_30 = refl;
-  checks_of_16 = refl;
-}
+handsets_tuned span header samples receiver = (refl, refl, refl, refl, refl)
+
+-- one finger is on the best phase
+own_delta : (samples : List Sample) →
+    near_deltas samples (best_phase samples) 1 ≡ pos 0 ∷ []
+own_delta samples =
+    one_delta samples (best_phase samples) (energy samples (best_phase samples))
+    (best_phase-is samples)
+
+pub on_plans_path : HandsetsLieOnThePath
+on_plans_path width plan span receiver header samples file counted =
+    let first = take span samples in
+    record {
+      count = sym counted ∙ ap length file.sent ∙ length-made plan;
+      checks_of_30 = file.checks_of_30;
+      checks_of_16 = file.checks_of_16;
+      phase = file.found;
+      alone = ap (near_deltas first (best_phase first)) file.alone ∙ own_delta first;
+    }

@@ -12,6 +12,7 @@ pub mod ReplyLaws
 pub mod SentLines
 pub mod SentReplies
 pub mod SleepLaw
+pub mod SlotReplies
 pub mod Status
 pub mod Tasks
 pub mod Trials

@@ -1,8 +1,12 @@
--- The handset that hears a file is the one that the file tunes.
-use Rattle.std.specs.Prelude.{ℕ, List, take}
+-- The handset that hears a file is tuned by it, and lies on the path of the cell that it holds.
+use Rattle.std.specs.Prelude.{◌≡◌, ℕ, List, length, take}
 use Rattle.chip_core.specs.declared.sample.Sample.{Sample}
+use Rattle.chip_core.specs.declared.width.Width.{Width}
 use Rattle.cdma_io.specs.declared.header.Header.{Header}
-use Rattle.clean_link.specs.FileTuning.{IsTunedBy}
+use Rattle.pilot_search.specs.Near.{near_deltas}
+use Rattle.pilot_search.specs.Search.{best_phase}
+use Rattle.cell_plan.specs.declared.plan.CellPlan.{CellPlan}
+use Rattle.clean_link.specs.CleanLink.{IsOnPath, IsPlanFile}
 use Rattle.cdma_replay.specs.Hearing.{tuning_for}
 use Rattle.cdma_replay.specs.declared.handset.Receiver.{Receiver}
 
@@ -11,5 +15,17 @@ use Rattle.cdma_replay.specs.declared.handset.Receiver.{Receiver}
 abbrev pub HandsetsAreTuned : Type 0
 HandsetsAreTuned =
     (span : ℕ) (header : Header) (samples : List Sample) (receiver : Receiver) →
-    IsTunedBy span receiver.fingers header samples
-    (tuning_for header (take span samples) receiver)
+    let first = take span samples in
+    let t = tuning_for header first receiver in
+    (t.count ≡ header.count) × (t.phase ≡ best_phase first)
+    × (t.deltas ≡ near_deltas first (best_phase first) receiver.fingers)
+    × (t.check30 ≡ header.check30) × (t.check16 ≡ header.check16)
+
+-- So where the file holds what a lawful cell sends, the search finds the cell's path and there is one
+-- finger, it lies on that path.
+abbrev pub HandsetsLieOnThePath : Type 0
+HandsetsLieOnThePath =
+    (width : Width) (plan : CellPlan) (span : ℕ) (receiver : Receiver) (header : Header)
+    (samples : List Sample) →
+    IsPlanFile width plan span receiver.fingers header samples → length samples ≡ header.count →
+    IsOnPath plan (tuning_for header (take span samples) receiver)

@@ -13,7 +13,8 @@ ghost use Rattle.cdma_replay.specs.ReplyLaws.{TrialOwesItsLine, WorkersChangeNoR
 ghost use Rattle.cdma_replay.specs.SentReplies.{ListRepliesComeBack, Rate2RepliesComeBack};
 ghost use Rattle.cdma_replay.specs.SentLines.{ListedLinesComeBack, SetTwoLinesComeBack};
 ghost use Rattle.cdma_replay.specs.SleepLaw.{SleepChangesNoReply};
-ghost use Rattle.cdma_replay.specs.TuningLaw.{HandsetsAreTuned};
+ghost use Rattle.cdma_replay.specs.SlotReplies.{FileSlotsComeBack, IdleRepliesComeBack};
+ghost use Rattle.cdma_replay.specs.TuningLaw.{HandsetsAreTuned, HandsetsLieOnThePath};
 
 /// No input is owed two replies.
 pub fn inputs_are_owed_one_reply()
@@ -109,18 +110,32 @@ pub fn listed_lines_come_back()
     ensures { ListedLinesComeBack }
 {}
 
+/// In such a file, of any plan that can be received, what is written of a paging channel that the cell
+/// sends, for a handset that sleeps through all slots but those of a key and a cycle, is slot by slot
+/// what the cell sends: for each slot that it monitors, that begins at the mark or behind it and ends
+/// in the file, the slot's line and the lines of the pages whose run begins in it and which end in it,
+/// in order.
+pub fn slots_of_a_file_come_back()
+    ensures { FileSlotsComeBack }
+{}
+
 /// Each reply that `rate2` owes of such a file, of a traffic channel of rate set 2 that the cell sends,
-/// is a whole text of just these lines, and that which `list` owes, of one of rate set 1; the run ends
-/// well where a sending of the sync channel lies in the file whole, and else with `NoSync`.
+/// is a whole text of just these lines, and so is that which `list` owes, of one of rate set 1, and
+/// that which `idle` owes, of a paging channel that the cell sends; the run ends well where a sending
+/// of the sync channel lies in the file whole, and else with `NoSync`.
 pub fn replies_come_back()
     ensures rate2 { Rate2RepliesComeBack }
     ensures list { ListRepliesComeBack }
+    ensures idle { IdleRepliesComeBack }
 {}
 
 /// Each handset that hears a file is tuned by the file's header and by the pilot in its first samples,
-/// as many as the span is. So the laws on a handset that a file tunes, of slots too, speak of it.
+/// as many as the span is. So in a file that holds what a cell sends it lies on the cell's path, where
+/// the search finds that and there is one finger, and the laws of the clean link, of slots too, speak
+/// of it.
 pub fn handsets_are_tuned_by_the_file()
-    ensures { HandsetsAreTuned }
+    ensures tuned { HandsetsAreTuned }
+    ensures path { HandsetsLieOnThePath }
 {}
 
 /// What `idle` owes, with words that are lawful, doesn't hang on what its handset sleeps through: two

@@ -4,7 +4,6 @@ pub mod CleanLink
 pub mod DistinctFrames
 pub mod DistinctPlan
 pub mod DistinctWorked
-pub mod FileTuning
 pub mod HeardEach
 pub mod HeardFrames
 pub mod HeardPages

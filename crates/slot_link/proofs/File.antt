@@ -1,6 +1,6 @@
 -- What is written of a clean link's file, slot by slot.
 use Rattle.std.proofs.Common.{◌≡◌, ℕ, ◌+◌, ◌-◌, ◌*◌, ◌<◌, ◌≤◌, ◌&&◌, Bool, true, false, List}
-use Rattle.std.proofs.Common.{[], length, filter, refl, sym, ap, subst, ◌∙◌, arith, ℤ}
+use Rattle.std.proofs.Common.{[], length, filter, refl, sym, ap, ◌∙◌, arith}
 use Rattle.std.proofs.Common.{inl, inr, nat_le, nat_lt, Option, None, Some}
 use Rattle.std.specs.Prelude.{if◌then◌else◌}
 use Rattle.std.specs.List.{Contains, flat_map}
@@ -18,18 +18,13 @@ use Rattle.cell_plan.specs.declared.plan.PagingPlan.{PagingPlan}
 use Rattle.cell_plan.specs.declared.plan.SyncPlan.{SyncPlan}
 use Rattle.mobile_core.specs.Channels.{channel_stream}
 use Rattle.mobile_core.specs.Marks.{mark}
-use Rattle.mobile_core.specs.Near.{AreNear}
 use Rattle.mobile_core.specs.Streams.{is_in_file, Stream}
-use Rattle.mobile_core.specs.Tuning.{fingers_of, sync_stream, Tuning}
+use Rattle.mobile_core.specs.Tuning.{Tuning}
 use Rattle.mobile_core.specs.declared.channel.Channel.TheVariants.{Paging}
 use Rattle.mobile_core.specs.declared.mark.Mark.{Mark}
-use Rattle.tuned_listener.specs.SlotLaws.{frame_of_slot, frame_of_slot_end, is_heard}
-use Rattle.tuned_listener.specs.SlotLaws.{is_slot_within, lines_by_times, lines_of_slot}
-use Rattle.tuned_listener.specs.SlotLaws.{slot_bound}
-use Rattle.tuned_listener.specs.Slots.{slot_lines}
-use Rattle.tuned_listener.specs.TunedTexts.{tuned_text}
-use Rattle.tuned_listener.specs.declared.tuned_text.TunedText.TheVariants.{Slots}
-use Rattle.tuned_listener.proofs.SlotTimes.{needs_mark, written_by_times}
+use Rattle.event_tap.specs.SlotLines.{frame_of_slot, frame_of_slot_end, is_heard, is_slot_within}
+use Rattle.event_tap.specs.SlotLines.{lines_behind, lines_by_times, lines_of_slot, slot_bound}
+use Rattle.event_tap.specs.SlotLines.{slot_lines}
 use Rattle.clean_link.specs.CleanLink.{IsOnPath, IsTrueMark}
 use Rattle.cell_plan.specs.Stated.{IsReceivable}
 use Rattle.clean_link.specs.SentEvents.{told_with_sync}
@@ -243,14 +238,8 @@ either_none false xs none = refl
 
 module _ (width : Width) (plan : CellPlan) (p : PagingPlan) (t : Tuning) (key cycle : ℕ)
     (is : IsReceivable width plan) (tuned : IsOnPath plan t) (sent : Contains plan.paging p) where
-  abbrev text : List ℕ
-  text = tuned_text (Slots key cycle) t (Paging p.number) (made_samples plan)
-
   count : length (made_samples plan) ≡ t.count
   count = length-made plan ∙ sym tuned.count
-
-  near : AreNear (sync_stream t).fingers
-  near = subst (λ (deltas : List ℤ). AreNear (fingers_of 32 t.phase deltas)) (sym tuned.alone) refl
 
   -- without a mark none is sent
   none_sent : (sync : Option SyncPlan) → told_with_sync plan sync ≡ None →
@@ -283,17 +272,14 @@ module _ (width : Width) (plan : CellPlan) (p : PagingPlan) (t : Tuning) (key cy
       (told_behind_mark width plan t is tuned (Some sync) m sends set superframes true_mark.time)
 
   by_mark : (set : Option Mark) → mark t (made_samples plan) t.count ≡ set →
-      text ≡ slots_sent key cycle plan p
+      lines_behind key cycle t p.number (made_samples plan) set ≡ slots_sent key cycle plan p
   unfolding slots_sent
-  by_mark None unset =
-      needs_mark key cycle t p.number (made_samples plan)
-      (ap (mark t (made_samples plan)) count ∙ unset)
-      ∙ sym (none_sent plan.sync (untold width plan t is tuned plan.sync refl unset))
-  by_mark (Some m) set =
-      written_by_times key cycle t p.number m (made_samples plan) near
-      (ap (mark t (made_samples plan)) count ∙ set)
-      ∙ by_sync plan.sync m refl set
+  by_mark None unset = sym (none_sent plan.sync (untold width plan t is tuned plan.sync refl unset))
+  by_mark (Some m) set = by_sync plan.sync m refl set
 
 pub slot_texts_back : SlotTextsComeBack
 slot_texts_back width plan p t key cycle is tuned sent =
-    by_mark width plan p t key cycle is tuned sent (mark t (made_samples plan) t.count) refl
+    ap
+    (λ (n : ℕ). lines_behind key cycle t p.number (made_samples plan)
+    (mark t (made_samples plan) n)) (count width plan p t key cycle is tuned sent)
+    ∙ by_mark width plan p t key cycle is tuned sent (mark t (made_samples plan) t.count) refl

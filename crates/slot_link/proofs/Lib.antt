@@ -4,4 +4,3 @@ pub mod Pages
 -- in a file: its slots, and what is written of them
 pub mod Slots
 pub mod File
-pub mod Tuned

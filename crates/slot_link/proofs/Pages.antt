@@ -22,7 +22,7 @@ use Rattle.cell_plan.specs.PageCycles.{cycled, paging_frame_size}
 use Rattle.cell_plan.specs.Pages.{page_cycle}
 use Rattle.cell_plan.proofs.LaidPages.{size_large}
 use Rattle.mobile_core.specs.PagingEvents.{with_page}
-use Rattle.tuned_listener.specs.Slots.{slot_pages}
+use Rattle.event_tap.specs.SlotLines.{slot_pages}
 use Rattle.clean_link.specs.HeardPages.{ReadPage}
 use Rattle.clean_link.specs.WholePages.{capsules_with_frames, cycle_half_frames, frame_capsules}
 use Rattle.clean_link.specs.WholePages.{is_between, placed, sending_of, Placed}

@@ -27,8 +27,7 @@ use Rattle.mobile_core.specs.Streams.{is_in_file}
 use Rattle.mobile_core.specs.Tuning.{Tuning}
 use Rattle.mobile_core.specs.declared.channel.Channel.TheVariants as channels
 use Rattle.mobile_core.specs.declared.mark.Mark.{Mark}
-use Rattle.tuned_listener.specs.SlotLaws.{slot_softs}
-use Rattle.tuned_listener.specs.Slots.{slot_pages}
+use Rattle.event_tap.specs.SlotLines.{slot_softs, slot_pages}
 use Rattle.clean_link.specs.CleanLink.{soft_strength}
 use Rattle.clean_link.specs.PagingLaws.{ordered_symbols}
 use Rattle.clean_link.proofs.frames.PagingFrames.{paging_signs}

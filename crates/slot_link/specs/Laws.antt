@@ -3,8 +3,6 @@ use Rattle.std.specs.Prelude.{ℕ, ◌+◌, ◌*◌, ◌<◌, ◌≡◌, Bool, L
 use Rattle.std.specs.List.{Contains, flat_map}
 use Rattle.chip_core.specs.Bits.{places}
 use Rattle.chip_core.specs.declared.check_form.CheckForm.{CheckForm}
-use Rattle.chip_core.specs.declared.sample.Sample.{Sample}
-use Rattle.cdma_io.specs.declared.header.Header.{Header}
 use Rattle.chip_core.specs.declared.width.Width.{Width}
 use Rattle.symbol_path.specs.SentOrder.{sent}
 use Rattle.quality_bits.specs.declared.rate.Rate.{Rate}
@@ -24,12 +22,8 @@ use Rattle.mobile_core.specs.PagingStreams as heard
 use Rattle.mobile_core.specs.Tuning.{Tuning}
 use Rattle.mobile_core.specs.declared.channel.Channel.TheVariants as channels
 use Rattle.mobile_core.specs.declared.mark.Mark.{Mark}
-use Rattle.tuned_listener.specs.SlotLaws.{slot_softs}
-use Rattle.tuned_listener.specs.Slots.{slot_pages}
-use Rattle.tuned_listener.specs.TunedTexts.{tuned_text}
-use Rattle.tuned_listener.specs.declared.tuned_text.TunedText.TheVariants.{Slots}
-use Rattle.clean_link.specs.FileTuning.{IsTunedBy}
-use Rattle.clean_link.specs.CleanLink.{IsOnPath, IsPlanFile, IsTrueMark}
+use Rattle.event_tap.specs.SlotLines.{lines_of_slots, slot_pages, slot_softs}
+use Rattle.clean_link.specs.CleanLink.{IsOnPath, IsTrueMark}
 use Rattle.cell_plan.specs.Stated.{IsReceivable}
 use Rattle.clean_link.specs.SentWords.{IsWholeChannel}
 use Rattle.clean_link.specs.WholePages.{AreWholePages}
@@ -99,22 +93,10 @@ SlotsComeBack =
     (slot_softs (made_samples plan) (channel_stream t (channels.Paging p.number) m) i))
     ≡ pages_in_slot (paging_rate plan.sync) plan.cell.check30 p.pages (4 * (superframes + i))
 
--- So what is written of a file, for a handset that sleeps through all slots but those of a key and
--- a cycle, is what the cell sends: slot by slot the slot's line, and the lines of its pages.
+-- So the lines of the slots of a file, for a handset that sleeps through all but those of a key and
+-- a cycle, are what the cell sends: slot by slot the slot's line, and the lines of its pages.
 abbrev pub SlotTextsComeBack : Type 0
 SlotTextsComeBack =
     (width : Width) (plan : CellPlan) (p : PagingPlan) (t : Tuning) (key cycle : ℕ) →
     IsReceivable width plan → IsOnPath plan t → Contains plan.paging p →
-    tuned_text (Slots key cycle) t (channels.Paging p.number) (made_samples plan) ≡
-    slots_sent key cycle plan p
-
--- So it is of a file that holds what a lawful cell sends, where the search finds the cell's path and
--- there is one finger.
-abbrev pub FileSlotsComeBack : Type 0
-FileSlotsComeBack =
-    (width : Width) (plan : CellPlan) (p : PagingPlan) (span fingers : ℕ)
-    (header : Header) (samples : List Sample) (t : Tuning) (key cycle : ℕ) →
-    IsPlanFile width plan span fingers header samples → length samples ≡ header.count →
-    IsTunedBy span fingers header samples t → Contains plan.paging p →
-    tuned_text (Slots key cycle) t (channels.Paging p.number) samples ≡
-    slots_sent key cycle plan p
+    lines_of_slots key cycle t p.number (made_samples plan) ≡ slots_sent key cycle plan p

@@ -9,7 +9,7 @@ use Rattle.cell_plan.specs.Pages.{paging_rate}
 use Rattle.cell_plan.specs.declared.plan.CellPlan.{CellPlan}
 use Rattle.cell_plan.specs.declared.plan.PagingPlan.{PagingPlan}
 use Rattle.cell_plan.specs.declared.plan.SyncPlan.{SyncPlan}
-use Rattle.tuned_listener.specs.Slots.{slot_lines}
+use Rattle.event_tap.specs.SlotLines.{slot_lines}
 use Rattle.clean_link.specs.CleanLink.{whole_sendings}
 use Rattle.clean_link.specs.HeardPages.{end_chip}
 use Rattle.clean_link.specs.SentEvents.{told_by_first}

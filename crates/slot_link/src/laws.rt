@@ -1,7 +1,7 @@
 //! Laws of the definitions: each function does nothing, and its contract is the law.
 
 ghost use Rattle.slot_link.specs.Laws.{SpansComeBack, SlotBitsComeBack, SlotPagesComeBack};
-ghost use Rattle.slot_link.specs.Laws.{FileSlotsComeBack, SlotsComeBack, SlotTextsComeBack};
+ghost use Rattle.slot_link.specs.Laws.{SlotsComeBack, SlotTextsComeBack};
 
 /// Of frames whose soft values are one positive number times the signs of what a channel sends,
 /// each comes back from any span that it lies in, whatever the encoder held before the span. So the
@@ -18,13 +18,11 @@ pub fn slot_pages_come_back()
 {}
 
 /// On a clean link these pages come back of each slot that begins at the mark or behind it and ends
-/// in the file. What is written for a handset that sleeps through all slots but those of its cycle
-/// is the line of each monitored slot, with the number of samples at which it ends and its time,
-/// and the lines of its pages; and nothing where no mark is set or the cell's PRAT is 2 or 3. So it
-/// is of a file that holds what a lawful cell sends, for the handset that the file's header and
-/// the pilot in its first samples tune.
+/// in the file. The lines of the slots, for a handset that sleeps through all but those of its
+/// cycle, are the line of each monitored slot, with the number of samples at which it ends and its
+/// time, and the lines of its pages; and there are none where no mark is set or the cell's PRAT is
+/// 2 or 3.
 pub fn slots_come_back()
     ensures slots { SlotsComeBack }
     ensures text { SlotTextsComeBack }
-    ensures file { FileSlotsComeBack }
 {}

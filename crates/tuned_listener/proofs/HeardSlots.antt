@@ -14,8 +14,9 @@ use Rattle.mobile_core.specs.declared.soft_frame.SoftFrame.{SoftFrame}
 use Rattle.slot_mode.specs.Frames.{slot_bits, span_softs}
 use Rattle.slot_mode.specs.Slots.{is_monitored}
 use Rattle.quality_bits.specs.declared.rate.Rate.{Rate}
+use Rattle.event_tap.specs.SlotLines.{slot_lines, slot_pages}
 use Rattle.tuned_listener.specs.SlotWriting.{HoldsSlot}
-use Rattle.tuned_listener.specs.Slots.{slot_lines, slot_pages, slot_text}
+use Rattle.tuned_listener.specs.Slots.{slot_text}
 use Rattle.tuned_listener.specs.declared.slot_writer.SlotWriter.{SlotWriter}
 
 -- ---- its soft values

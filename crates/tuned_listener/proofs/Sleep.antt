@@ -26,10 +26,9 @@ use Rattle.mobile_core.proofs.FrameSamples.{frame_same}
 use Rattle.mobile_core.proofs.MarkStays.{mark_behind, mark_pilot, mark_sooner, mark_stays}
 use Rattle.mobile_core.proofs.MarkStays.{paging_near}
 use Rattle.slot_mode.specs.Frames.{slot_bits}
+use Rattle.event_tap.specs.SlotLines.{frame_of_slot, frame_of_slot_end, is_heard, lines_of_slot}
+use Rattle.event_tap.specs.SlotLines.{slot_bound, slot_lines, slot_pages}
 use Rattle.tuned_listener.specs.SlotLaws.{AgreeInSlot, SleepsThroughTheRest}
-use Rattle.tuned_listener.specs.SlotLaws.{frame_of_slot, frame_of_slot_end, is_heard}
-use Rattle.tuned_listener.specs.SlotLaws.{lines_of_slot, slot_bound}
-use Rattle.tuned_listener.specs.Slots.{slot_lines, slot_pages}
 use Rattle.tuned_listener.proofs.SlotTimes.{mark_is_late, written_by_times}
 
 -- ---- the samples of a slot, and of its frames

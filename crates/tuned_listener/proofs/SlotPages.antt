@@ -20,8 +20,8 @@ use Rattle.paging_message.specs.HalfFrames.{capsules_in, half_frame_body, half_f
 use Rattle.paging_message.specs.Reading.{paging_reading}
 use Rattle.paging_message.specs.declared.message.PagingMessage.{PagingMessage}
 use Rattle.quality_bits.specs.declared.rate.Rate.{Rate}
+use Rattle.event_tap.specs.SlotLines.{slot_pages}
 use Rattle.tuned_listener.specs.SlotWriting.{page_list, pages_ending}
-use Rattle.tuned_listener.specs.Slots.{slot_pages}
 use Rattle.tuned_listener.specs.declared.slot_writer.Page.{Page}
 use Rattle.tuned_listener.proofs.Prefixes.{prefix_before, prefix_behind}
 

@@ -1,7 +1,7 @@
 -- What is written of a sleeping handset's slots, slot by slot.
 use Rattle.std.proofs.Common.{◌≡◌, ℕ, zero, suc, ◌+◌, ◌*◌, ◌/◌, ◌%◌, ◌<◌, ◌≤◌, ◌&&◌, Bool}
 use Rattle.std.proofs.Common.{true, false, List, [], ◌∷◌, ◌++◌, length, map, filter, nat_le, refl, sym}
-use Rattle.std.proofs.Common.{ap, ◌∙◌, subst, arith, inl, inr, Some}
+use Rattle.std.proofs.Common.{ap, ◌∙◌, subst, arith, inl, inr, Option, Some, None}
 use Rattle.std.specs.Prelude.{if◌then◌else◌, nat_lt}
 use Rattle.std.specs.List.{flat_map, range_with_len}
 use Rattle.std.proofs.lemmas.Bool.{and_from, and_parts, and_right, cases_Bool, cases_lt}
@@ -29,10 +29,11 @@ use Rattle.mobile_core.proofs.MarkLater.{mark_later}
 use Rattle.mobile_core.proofs.MarkStays.{mark_pilot, mark_set, paging_near}
 use Rattle.slot_mode.specs.Frames.{slot_bits}
 use Rattle.slot_mode.specs.Slots.{is_monitored}
-use Rattle.tuned_listener.specs.SlotLaws.{frame_of_slot, frame_of_slot_end, is_heard, is_slot_within}
+use Rattle.event_tap.specs.SlotLines.{frame_of_slot, frame_of_slot_end, is_heard, is_slot_within}
+use Rattle.event_tap.specs.SlotLines.{lines_behind, lines_by_times, lines_of_slot, lines_of_slots}
+use Rattle.event_tap.specs.SlotLines.{slot_bound, slot_lines, slot_pages}
 use Rattle.tuned_listener.specs.SlotLaws.{IsWrittenByTimes, NeedsMark}
-use Rattle.tuned_listener.specs.SlotLaws.{lines_by_times, lines_of_slot, slot_bound}
-use Rattle.tuned_listener.specs.Slots.{slot_lines, slot_more, slot_pages, slot_text}
+use Rattle.tuned_listener.specs.Slots.{slot_more, slot_text}
 use Rattle.tuned_listener.specs.TunedTexts.{frames_text, text_behind, tuned_text}
 use Rattle.tuned_listener.specs.declared.tuned_text.TunedText.TheVariants.{Slots}
 
@@ -452,3 +453,16 @@ pub needs_mark : NeedsMark
 unfolding tuned_text
 needs_mark key cycle t number samples unmarked =
     ap (text_behind (Slots key cycle) t (Paging number) samples) unmarked
+
+-- both in one: what is written are the lines behind the mark, where one is set
+pub written_of_slots : (key cycle : ℕ) (t : Tuning) (number : ℕ) (samples : List Sample) →
+    AreNear (sync_stream t).fingers →
+    tuned_text (Slots key cycle) t (Paging number) samples
+    ≡ lines_of_slots key cycle t number samples
+written_of_slots key cycle t number samples near = by_mark (mark t samples (length samples)) refl
+  where
+    by_mark : (set : Option Mark) → mark t samples (length samples) ≡ set →
+        tuned_text (Slots key cycle) t (Paging number) samples
+        ≡ lines_behind key cycle t number samples set
+    by_mark None unset = needs_mark key cycle t number samples unset
+    by_mark (Some m) set = written_by_times key cycle t number m samples near set

@@ -6,4 +6,3 @@ pub mod Slots
 pub mod SoundListener
 pub mod TunedListening
 pub mod TunedTexts
-pub mod WorkedSlotLaws

@@ -1,20 +1,15 @@
 -- The slots of a sleeping handset (TIA/EIA-95-B, 6.6.2.1.1.3), as the frames of its paging channel
 -- make them, and what is written of one.
-use Rattle.std.specs.Prelude.{ℕ, ◌+◌, ◌/◌, ◌%◌, ◌==◌, ◌&&◌, Bool, if◌then◌else◌, nat_lt}
+use Rattle.std.specs.Prelude.{ℕ, ◌+◌, ◌/◌, ◌%◌, ◌==◌, ◌&&◌, if◌then◌else◌, nat_lt}
 use Rattle.std.specs.Prelude.{List, [], ◌∷◌, ◌++◌, length}
 use Rattle.std.specs.List.{flat_map}
-use Rattle.std.specs.Option.{option_to_list}
 use Rattle.chip_core.specs.declared.check_form.CheckForm.{CheckForm}
-use Rattle.event_tap.specs.PagingLines.{paging_line, slot_line}
 use Rattle.mobile_core.specs.PagingStreams.{paging_rate}
 use Rattle.mobile_core.specs.declared.mark.Mark.{Mark}
 use Rattle.mobile_core.specs.declared.soft_frame.SoftFrame.{SoftFrame}
-use Rattle.paging_message.specs.HalfFrames.{capsules_in, half_frame_body}
-use Rattle.paging_message.specs.Reading.{paging_reading}
-use Rattle.paging_message.specs.declared.message.PagingMessage.{PagingMessage}
 use Rattle.slot_mode.specs.Frames.{slot_bits}
 use Rattle.slot_mode.specs.Slots.{is_monitored}
-use Rattle.quality_bits.specs.declared.rate.Rate.{Rate}
+use Rattle.event_tap.specs.SlotLines.{slot_lines, slot_pages}
 
 -- ---- the frames of a slot
 
@@ -32,20 +27,7 @@ unfoldable pub slot_behind : List SoftFrame → List SoftFrame → List SoftFram
 slot_behind kept [] = kept
 slot_behind kept (frame ∷ frames) = slot_behind (slot_more kept frame) frames
 
--- ---- its messages
-
--- the messages of the bits of a slot: those of the capsules that lie in these bits alone
-unfoldable pub slot_pages : CheckForm → Rate → List Bool → List PagingMessage
-slot_pages check rate bits =
-    flat_map (λ capsule. option_to_list (paging_reading check capsule))
-    (capsules_in (half_frame_body rate) bits)
-
 -- ---- its lines
-
--- the line of a slot that ends behind so many samples, and those of its messages
-abbrev pub slot_lines : ℕ → ℕ → List PagingMessage → List ℕ
-slot_lines place time pages =
-    slot_line place time (length pages) ++ flat_map (paging_line place) pages
 
 -- What is written of a slot's last frame, where the handset of a key sleeps through all slots but
 -- those of a cycle, and these are the slot's frames up to it: with all four of them, in a slot that

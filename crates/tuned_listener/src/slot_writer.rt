@@ -10,9 +10,10 @@ ghost use Rattle.mobile_core.specs.Softs.{frame_most};
 ghost use Rattle.mobile_core.specs.Sound.{IsSoundMark};
 ghost use Rattle.mobile_core.specs.declared.soft_frame.SoftFrame.{SoftFrame as TheFrame};
 ghost use Rattle.paging_message.specs.HalfFrames.{IsPagingRate, StandsFor};
+ghost use Rattle.event_tap.specs.SlotLines.{slot_lines, slot_pages};
 ghost use Rattle.tuned_listener.specs.SlotWriting.{HoldsSlot, IsReadyForSlots, page_list};
 ghost use Rattle.tuned_listener.specs.SlotWriting.{pages_ending};
-ghost use Rattle.tuned_listener.specs.Slots.{slot_lines, slot_more, slot_pages, slot_text};
+ghost use Rattle.tuned_listener.specs.Slots.{slot_more, slot_text};
 
 use cdma_io::{Failed, Sink};
 use chip_core::air::DATA_SYMBOLS;

@@ -1,6 +1,5 @@
 use Rattle.slot_link.proofs.File.{slot_texts_back}
 use Rattle.slot_link.proofs.Slots.{slots_back}
-use Rattle.slot_link.proofs.Tuned.{file_slots_back}
 use Rattle.slot_link.proofs.laws.slots_come_back.Goals as goal
 
 pub returns-clause-slots : goal.returns-clause-slots
@@ -8,6 +7,3 @@ returns-clause-slots c = slots_back
 
 pub returns-clause-text : goal.returns-clause-text
 returns-clause-text c = slot_texts_back
-
-pub returns-clause-file : goal.returns-clause-file
-returns-clause-file c = file_slots_back

@@ -1,6 +1,6 @@
 use Rattle.std.proofs.Common.{◌≡◌, ◌≤◌, length, take}
 use Rattle.paging_message.specs.HalfFrames.{StandsFor, half_frame_body}
-use Rattle.tuned_listener.specs.Slots.{slot_pages}
+use Rattle.event_tap.specs.SlotLines.{slot_pages}
 use Rattle.tuned_listener.proofs.slot_writer.count_pages.Given as goal
 
 abbrev pub invariant-loop-i : goal.invariant-loop-i

@@ -2,7 +2,7 @@ use Rattle.std.proofs.Common.{ℕ, length, subst}
 use Rattle.std.specs.Io.KnownBytes.{Appends}
 use Rattle.std.specs.List.{flat_map}
 use Rattle.event_tap.specs.PagingLines.{paging_line, slot_line}
-use Rattle.tuned_listener.specs.Slots.{slot_pages}
+use Rattle.event_tap.specs.SlotLines.{slot_pages}
 use Rattle.tuned_listener.proofs.Prefixes.{on_err, prefix_behind}
 use Rattle.tuned_listener.proofs.slot_writer.write_lines.Goals as goal
 

@@ -3,7 +3,7 @@ use Rattle.std.specs.Io.KnownBytes.{Appends}
 use Rattle.std.specs.List.{flat_map}
 use Rattle.event_tap.specs.PagingLines.{paging_line}
 use Rattle.paging_message.specs.HalfFrames.{StandsFor, half_frame_body}
-use Rattle.tuned_listener.specs.Slots.{slot_pages}
+use Rattle.event_tap.specs.SlotLines.{slot_pages}
 use Rattle.tuned_listener.proofs.slot_writer.write_pages.Given as goal
 
 abbrev pub invariant-loop-i : goal.invariant-loop-i

@@ -8,7 +8,7 @@ use Rattle.mobile_core.specs.Streams.{Stream}
 use Rattle.mobile_core.specs.Tuning.{Tuning}
 use Rattle.mobile_core.specs.declared.channel.Channel.TheVariants.{Paging}
 use Rattle.mobile_core.specs.declared.mark.Mark.{Mark}
-use Rattle.tuned_listener.specs.SlotLaws.{frame_of_slot_end, is_heard, is_slot_within, slot_bound}
+use Rattle.event_tap.specs.SlotLines.{frame_of_slot_end, is_heard, is_slot_within, slot_bound}
 
 tuned : List ℤ → Tuning
 tuned deltas = record {

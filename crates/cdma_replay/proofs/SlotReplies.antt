@@ -1,0 +1,45 @@
+-- What `idle` owes of a clean link's file comes back slot by slot.
+use Rattle.std.proofs.Common.{◌≡◌, ℕ, List, take, ap, ◌∙◌, Ok}
+use Rattle.clean_link.proofs.traffic.Back.{one_near}
+use Rattle.event_tap.specs.SlotLines.{lines_of_slots}
+use Rattle.slot_link.proofs.File.{slot_texts_back}
+use Rattle.tuned_listener.proofs.SlotTimes.{written_of_slots}
+use Rattle.cdma_words.specs.declared.job.Job.{Job}
+use Rattle.cdma_words.specs.declared.job.Job.TheVariants as jobs
+use Rattle.cdma_replay.specs.Hearing.{tuning_for, waiting}
+use Rattle.cdma_replay.specs.Replies.{Reply}
+use Rattle.cdma_replay.specs.SlotReplies.{FileSlotsComeBack, IdleRepliesComeBack}
+use Rattle.cdma_replay.specs.declared.status.Status.{Status}
+use Rattle.cdma_replay.proofs.CleanTexts.{plan_file}
+use Rattle.cdma_replay.proofs.Owed.{idle_owes}
+use Rattle.cdma_replay.proofs.Replies.{one_reply}
+use Rattle.cdma_replay.proofs.SentReplies.{cell_end}
+use Rattle.cdma_replay.proofs.TuningLaw.{on_plans_path}
+
+pub file_slots : FileSlotsComeBack
+file_slots width plan p span receiver header samples key cycle file counted has =
+    let t = tuning_for header (take span samples) receiver in
+    let on = on_plans_path width plan span receiver header samples file counted in
+    written_of_slots key cycle t p.number samples (one_near t plan on)
+    ∙ ap (lines_of_slots key cycle t p.number) file.sent
+    ∙ slot_texts_back width plan p t key cycle file.receivable on has
+
+-- a whole text and its end
+abbrev whole : List ℕ → Status → Reply
+whole text end = Ok (text, end)
+
+same_whole : (text other : List ℕ) (end last : Status) → text ≡ other → end ≡ last →
+    whole text end ≡ whole other last
+same_whole text other end last texts ends =
+    ap (whole text) ends ∙ ap (λ (t : List ℕ). whole t last) texts
+
+pub idle_replies : IdleRepliesComeBack
+idle_replies forms script bytes width plan p span workers fingers key cycle header samples reply file
+    enough cell has owed =
+    let job : Job = jobs.Idle span workers fingers p.number key cycle in
+    one_reply forms job bytes reply _ owed
+    (idle_owes span workers fingers p.number key cycle forms bytes header samples file enough)
+    ∙ same_whole _ _ _ _
+    (file_slots width plan p span (waiting fingers) header samples key cycle
+    (plan_file width script plan span fingers header samples cell) file.counted has)
+    (cell_end width script plan span (waiting fingers) header samples cell file.counted)

@@ -1,0 +1,44 @@
+-- What `idle` owes of a file that holds what a cell sends: slot by slot what the paging channel sends.
+use Rattle.std.specs.Prelude.{◌≡◌, ◌≤◌, ℕ, List, length, take, Ok}
+use Rattle.std.specs.List.{Contains}
+use Rattle.chip_core.specs.declared.sample.Sample.{Sample}
+use Rattle.chip_core.specs.declared.width.Width.{Width}
+use Rattle.cdma_io.specs.SampleFile.{IsSampleFile}
+use Rattle.cdma_io.specs.declared.header.Header.{Header}
+use Rattle.cell_plan.specs.declared.plan.CellPlan.{CellPlan}
+use Rattle.cell_plan.specs.declared.plan.PagingPlan.{PagingPlan}
+use Rattle.mobile_core.specs.declared.channel.Channel.TheVariants.{Paging}
+use Rattle.clean_link.specs.CleanLink.{IsPlanFile}
+use Rattle.slot_link.specs.SentSlots.{slots_sent}
+use Rattle.tuned_listener.specs.TunedTexts.{tuned_text}
+use Rattle.tuned_listener.specs.declared.tuned_text.TunedText.TheVariants.{Slots}
+use Rattle.cdma_words.specs.declared.job.Job.TheVariants as jobs
+use Rattle.cdma_replay.specs.CleanFiles.{IsCellFile}
+use Rattle.cdma_replay.specs.Hearing.{clean_end, tuning_for}
+use Rattle.cdma_replay.specs.Replies.{IsReply, Reply}
+use Rattle.cdma_replay.specs.declared.handset.Receiver.{Receiver}
+
+-- What is written of a paging channel that a lawful cell sends, for a handset that sleeps through all
+-- slots but those of a key and a cycle, is slot by slot the slot's line and the lines of its pages.
+abbrev pub FileSlotsComeBack : Type 0
+FileSlotsComeBack =
+    (width : Width) (plan : CellPlan) (p : PagingPlan) (span : ℕ) (receiver : Receiver)
+    (header : Header) (samples : List Sample) (key cycle : ℕ) →
+    IsPlanFile width plan span receiver.fingers header samples → length samples ≡ header.count →
+    Contains plan.paging p →
+    tuned_text (Slots key cycle) (tuning_for header (take span samples) receiver) (Paging p.number)
+    samples
+    ≡ slots_sent key cycle plan p
+
+-- So each reply that `idle` is owed of a sample file with as many samples as the span is, or more,
+-- which holds what a script's cell sends, where its words name a paging channel that the cell sends,
+-- is a whole text of just these lines, with the end that the whole sendings tell.
+abbrev pub IdleRepliesComeBack : Type 0
+IdleRepliesComeBack =
+    (forms script bytes : List ℕ) (width : Width) (plan : CellPlan) (p : PagingPlan)
+    (span workers fingers key cycle : ℕ) (header : Header) (samples : List Sample)
+    (reply : Reply) →
+    IsSampleFile bytes header samples → span ≤ length samples →
+    IsCellFile width script plan span fingers header samples → Contains plan.paging p →
+    IsReply forms (jobs.Idle span workers fingers p.number key cycle) bytes reply →
+    reply ≡ Ok (slots_sent key cycle plan p, clean_end plan)

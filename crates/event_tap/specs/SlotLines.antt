@@ -1,0 +1,93 @@
+-- The slots of a sleeping handset (TIA/EIA-95-B, 6.6.2.1.1.3) behind a mark, by their times: the
+-- messages of a slot, and what is written of it.
+use Rattle.std.specs.Prelude.{ℕ, ◌+◌, ◌*◌, ◌/◌, ◌&&◌, Bool, nat_le, nat_lt, List, [], ◌++◌}
+use Rattle.std.specs.Prelude.{length, filter, ℤ, Option, None, Some}
+use Rattle.std.specs.List.{flat_map, list_all}
+use Rattle.std.specs.Option.{option_to_list}
+use Rattle.chip_core.specs.Bits.{places}
+use Rattle.chip_core.specs.declared.check_form.CheckForm.{CheckForm}
+use Rattle.chip_core.specs.declared.sample.Sample.{Sample}
+use Rattle.quality_bits.specs.declared.rate.Rate.{Rate}
+use Rattle.paging_message.specs.HalfFrames.{capsules_in, half_frame_body}
+use Rattle.paging_message.specs.Reading.{paging_reading}
+use Rattle.paging_message.specs.declared.message.PagingMessage.{PagingMessage}
+use Rattle.mobile_core.specs.Channels.{channel_stream}
+use Rattle.mobile_core.specs.Marks.{mark}
+use Rattle.mobile_core.specs.PagingStreams.{paging_rate}
+use Rattle.mobile_core.specs.Streams.{Stream, frame_end, frame_softs, frame_start, is_in_file}
+use Rattle.mobile_core.specs.Tuning.{Tuning}
+use Rattle.mobile_core.specs.declared.channel.Channel.TheVariants.{Paging}
+use Rattle.mobile_core.specs.declared.mark.Mark.{Mark}
+use Rattle.slot_mode.specs.Frames.{slot_bits}
+use Rattle.slot_mode.specs.Slots.{is_monitored}
+use Rattle.event_tap.specs.PagingLines.{paging_line, slot_line}
+
+-- ---- a slot's messages and lines
+
+-- the messages of the bits of a slot: those of the capsules that lie in these bits alone
+unfoldable pub slot_pages : CheckForm → Rate → List Bool → List PagingMessage
+slot_pages check rate bits =
+    flat_map (λ capsule. option_to_list (paging_reading check capsule))
+    (capsules_in (half_frame_body rate) bits)
+
+-- the line of a slot that ends behind so many samples, and those of its messages
+abbrev pub slot_lines : ℕ → ℕ → List PagingMessage → List ℕ
+slot_lines place time pages =
+    slot_line place time (length pages) ++ flat_map (paging_line place) pages
+
+-- ---- slots by their times
+
+-- Slots are counted from the mark on. Each has four frames.
+abbrev pub frame_of_slot : ℕ → ℕ → ℕ
+frame_of_slot slot i = 4 * slot + i
+
+-- the number of samples at which one of its frames ends
+abbrev pub frame_of_slot_end : Stream → ℕ → ℕ → ℕ
+frame_of_slot_end s slot i = frame_end s.fingers s.form (frame_start s (frame_of_slot slot i))
+
+-- whether all of its frames lie in a file of so many samples, and end within the first n
+abbrev pub is_slot_within : ℕ → Stream → ℕ → ℕ → Bool
+is_slot_within count s n slot =
+    list_all
+    (λ i. is_in_file count s (frame_of_slot slot i) && nat_le (frame_of_slot_end s slot i) n)
+    (places 4)
+
+-- Whether it is heard in the first n samples: the handset monitors its time, the mark's data rate is
+-- one of the two that a paging channel has, and its frames lie there.
+abbrev pub is_heard : ℕ → ℕ → ℕ → Stream → Mark → ℕ → ℕ → Bool
+is_heard key cycle count s m n slot =
+    is_monitored (m.time + slot) key cycle && nat_lt m.prat 2 && is_slot_within count s n slot
+
+-- the soft values of its frames
+abbrev pub slot_softs : List Sample → Stream → ℕ → List ℤ
+slot_softs samples s slot =
+    flat_map (λ i. frame_softs samples s (frame_of_slot slot i)) (places 4)
+
+-- its line, and those of the messages of its bits
+abbrev pub lines_of_slot : CheckForm → Mark → List Sample → Stream → ℕ → List ℕ
+lines_of_slot check m samples s slot =
+    let rate = paging_rate m.prat in
+    slot_lines (frame_of_slot_end s slot 3) (m.time + slot)
+    (slot_pages check rate (slot_bits rate (slot_softs samples s slot)))
+
+-- more slots than end within so many samples
+abbrev pub slot_bound : ℕ → ℕ
+slot_bound n = n / 98304 + 1
+
+-- those of all slots that are heard in these samples, in the order of their times
+abbrev pub lines_by_times : ℕ → ℕ → Tuning → ℕ → Mark → List Sample → List ℕ
+lines_by_times key cycle t number m samples =
+    let s = channel_stream t (Paging number) m in
+    let n = length samples in
+    flat_map (lines_of_slot t.check30 m samples s)
+    (filter (is_heard key cycle t.count s m n) (places (slot_bound n)))
+
+-- the same where no mark may be set, and then there are none
+abbrev pub lines_behind : ℕ → ℕ → Tuning → ℕ → List Sample → Option Mark → List ℕ
+lines_behind key cycle t number samples None = []
+lines_behind key cycle t number samples (Some m) = lines_by_times key cycle t number m samples
+
+-- those behind the mark that the samples set
+abbrev pub lines_of_slots : ℕ → ℕ → Tuning → ℕ → List Sample → List ℕ
+lines_of_slots key cycle t number samples =
+    lines_behind key cycle t number samples (mark t samples (length samples))
