@@ -1,36 +1,32 @@
 -- What is written of a clean link is what its cell sends, channel by channel.
-use Rattle.std.proofs.Common.{◌≡◌, ◌⊎◌, inl, inr, ℕ, ◌≤◌, List, ◌∷◌, ◌++◌, length, take, refl}
+use Rattle.std.proofs.Common.{◌≡◌, ◌⊎◌, inl, inr, ℕ, ◌≤◌, List, ◌++◌, length, take, refl}
 use Rattle.std.proofs.Common.{ap, ◌∙◌, subst, All, Option, Some, Ok, option_map}
 use Rattle.chip_core.specs.declared.sample.Sample.{Sample}
 use Rattle.chip_core.specs.declared.width.Width.{Width}
 use Rattle.cdma_io.specs.SampleFile.{IsSampleFile}
 use Rattle.cdma_io.specs.declared.header.Header.{Header}
-use Rattle.pilot_search.specs.Search.{energy}
 use Rattle.cell_plan.specs.Sampled.{made_samples}
-use Rattle.cell_plan.specs.Transmitter.{phase_at}
 use Rattle.cell_plan.specs.declared.plan.CellPlan.{CellPlan}
 use Rattle.event_tap.specs.Taps.{KeptTap, run_text}
 use Rattle.mobile_core.specs.Events.{events}
 use Rattle.mobile_core.specs.Tuning.{Tuning}
 use Rattle.mobile_core.specs.declared.event.Event.{Event}
-use Rattle.mobile_core.specs.declared.event.Event.TheVariants.{Pilot}
 use Rattle.chip_core.specs.declared.assignment.Traffic.{Traffic}
 use Rattle.cdma_words.specs.Words.{IsPaging}
 use Rattle.cdma_words.specs.declared.job.TrafficOptions.{TrafficOptions}
 use Rattle.clean_link.specs.CleanLink.{tuning_to, IsNotDirected, IsOnPath}
-use Rattle.cdma_replay.specs.CleanFiles.{IsCleanLink}
+use Rattle.cdma_replay.specs.CleanFiles.{IsCleanLink, cell_energy}
 use Rattle.clean_link.specs.HeardEach.{HearsEach}
 use Rattle.clean_link.proofs.messages.EachChannel.{each_channel}
-use Rattle.clean_link.proofs.messages.MessagesBack.{tuned_is}
-use Rattle.cdma_replay.specs.CleanLinks.{cell_pilot, WritesEach}
-use Rattle.cdma_replay.specs.Hearing.{best_pilot, clean_end, file_end_of, file_text, told}
+use Rattle.cdma_replay.specs.CleanLinks.{WritesEach}
+use Rattle.cdma_replay.specs.Hearing.{clean_end, file_end_of, file_text, told}
 use Rattle.cdma_replay.specs.Hearing.{traffic_of, tuning_for}
 use Rattle.cdma_replay.specs.Replies.{AnswersBehind, IsFileReply, Reply}
 use Rattle.cdma_replay.specs.Tasks.{following}
 use Rattle.cdma_replay.specs.declared.handset.Receiver.{Receiver}
 use Rattle.cdma_replay.specs.declared.status.Status.{Status}
 use Rattle.cdma_replay.specs.declared.status.Status.TheVariants.{NoMemory}
-use Rattle.cdma_replay.proofs.CleanTexts.{best_pilot-at, clean_end-is, clean_owed, on_path}
+use Rattle.cdma_replay.proofs.CleanTexts.{clean_end-is, clean_owed, on_path, tuned_to_cell}
 use Rattle.cell_script.proofs.NamedPages.{named_receivable}
 
 module _ (width : Width) (script : List ℕ) (plan : CellPlan)
@@ -54,38 +50,34 @@ module _ (width : Width) (script : List ℕ) (plan : CellPlan)
   path : IsOnPath plan tuning
   path = on_path width script plan span receiver header samples clean.file counted
 
-  abbrev heard : List Event
-  heard = events (tuning_to plan paging followed) (made_samples plan)
+  abbrev to_cell : Tuning
+  to_cell = tuning_to plan (cell_energy span plan) paging followed
 
-  -- the handset hears these
+  tuned_so : tuning ≡ to_cell
+  tuned_so = tuned_to_cell width script plan span receiver header samples clean.file counted
+
+  abbrev heard : List Event
+  heard = events to_cell (made_samples plan)
+
+  -- the handset gives these
   heard_is : events tuning samples ≡ heard
   heard_is =
       ap (events tuning) clean.file.sent
-      ∙ ap (λ (t : Tuning). events t (made_samples plan)) (tuned_is plan tuning path)
-
-  -- behind the pilot at the cell's phase
-  pilot_is : best_pilot first ≡ cell_pilot span plan
-  pilot_is =
-      let phase = phase_at plan plan.link.start in
-      best_pilot-at first phase clean.file.found
-      ∙ ap (λ (s : List Sample). Pilot phase (energy (take span s) phase)) clean.file.sent
+      ∙ ap (λ (t : Tuning). events t (made_samples plan)) tuned_so
 
   each_text : (taps : List KeptTap) →
       file_text taps (following span workers fingers paging traffic) header samples
-      ≡ run_text taps (cell_pilot span plan ∷ heard)
-  unfolding file_text run_text told
-  each_text taps =
-      ap (λ (es : List Event). run_text taps (best_pilot first ∷ es)) heard_is
-      ∙ ap (λ (e : Event). run_text taps (e ∷ heard)) pilot_is
+      ≡ run_text taps heard
+  unfolding file_text told
+  each_text taps = ap (run_text taps) heard_is
 
   -- and of each channel that is what is sent
   each_heard : HearsEach plan paging followed heard
   each_heard =
-      each_channel width plan (tuning_to plan paging followed)
-      (named_receivable width script plan clean.file.named)
-      (subst (IsOnPath plan) (tuned_is plan tuning path) path) one.0 one.1
-      (subst (λ (s : List Sample). All IsNotDirected (events (tuning_to plan paging followed) s))
-      clean.file.sent clean.undirected)
+      each_channel width plan to_cell (named_receivable width script plan clean.file.named)
+      (subst (IsOnPath plan) tuned_so path) one.0 one.1
+      (subst (λ (s : List Sample). All IsNotDirected (events to_cell s)) clean.file.sent
+      clean.undirected)
 
   -- so a run that answers what it owes answers that
   pub each_answer : (taps : List KeptTap) (bytes held : List ℕ) (status : Status)

@@ -15,20 +15,19 @@ use Rattle.event_tap.specs.Taps.{KeptTap, run_text}
 use Rattle.mobile_core.specs.Events.{events}
 use Rattle.mobile_core.specs.Marks.{mark}
 use Rattle.mobile_core.specs.declared.event.Event.{Event}
-use Rattle.mobile_core.specs.declared.event.Event.TheVariants.{Pilot}
 use Rattle.cdma_words.specs.Words.{IsPaging}
 use Rattle.cell_plan.specs.Sampled.{made_samples}
 use Rattle.mobile_core.specs.Tuning.{Tuning}
-use Rattle.cdma_replay.specs.CleanFiles.{IsCellFile, IsCleanLink}
+use Rattle.cdma_replay.specs.CleanFiles.{IsCellFile, IsCleanLink, cell_energy}
 use Rattle.clean_link.specs.CleanLink.{IsNotDirected, IsOnPath, IsPlanFile}
-use Rattle.clean_link.specs.CleanLink.{IsTunedTo}
+use Rattle.clean_link.specs.CleanLink.{IsTunedTo, tuning_to}
 use Rattle.clean_link.specs.CleanLink.{sync_sent}
 use Rattle.clean_link.specs.SentEvents.{FollowsSent, sent_events}
 use Rattle.clean_link.proofs.marks.MarksTrue.{marked_where_heard}
 use Rattle.clean_link.proofs.messages.MessagesBack.{messages_back, tuned_is}
 use Rattle.clean_link.proofs.signal.Samples.{length-made}
 use Rattle.cdma_words.specs.declared.job.TrafficOptions.{TrafficOptions}
-use Rattle.cdma_replay.specs.Hearing.{best_pilot, clean_end, clean_events, end_when, told}
+use Rattle.cdma_replay.specs.Hearing.{clean_end, clean_events, end_when, told}
 use Rattle.cdma_replay.specs.Hearing.{file_end_of, file_text, traffic_of, tuning_for}
 use Rattle.cdma_replay.specs.Replies.{AnswersBehind, IsFileReply, IsWholeFile, Reply}
 use Rattle.cdma_replay.specs.Tasks.{following}
@@ -74,29 +73,42 @@ tuned width script plan span receiver header samples clean free counted paging =
   free = free;
 }
 
+-- and so it is tuned as the definition of a clean link has it
+pub tuned_to_cell : (width : Width) (script : List ℕ) (plan : CellPlan) (span : ℕ)
+    (receiver : Receiver) (header : Header) (samples : List Sample) →
+    IsCellFile width script plan span receiver.fingers header samples →
+    length samples ≡ header.count →
+    tuning_for header (take span samples) receiver
+    ≡ tuning_to plan (cell_energy span plan) receiver.paging (option_map traffic_of receiver.traffic)
+tuned_to_cell width script plan span receiver header samples file counted =
+    let t = tuning_for header (take span samples) receiver in
+    let phase = phase_at plan plan.link.start in
+    let followed = option_map traffic_of receiver.traffic in
+    let energy_is : t.energy ≡ cell_energy span plan =
+    ap (energy (take span samples)) file.found
+    ∙ ap (λ (s : List Sample). energy (take span s) phase) file.sent in
+    tuned_is plan t (on_path width script plan span receiver header samples file counted)
+    ∙ ap (λ (e : ℕ). tuning_to plan e receiver.paging followed) energy_is
+
 -- and hears no direction
 undirected : (width : Width) (script : List ℕ) (plan : CellPlan) (span : ℕ) (receiver : Receiver)
     (header : Header) (samples : List Sample) →
     IsCleanLink width script plan span receiver.fingers receiver.paging
     (option_map traffic_of receiver.traffic) header samples →
-    IsTunedTo plan (tuning_for header (take span samples) receiver) →
+    length samples ≡ header.count →
     All IsNotDirected
     (events (tuning_for header (take span samples) receiver) (made_samples plan))
-undirected width script plan span receiver header samples clean tuned_to =
+undirected width script plan span receiver header samples clean counted =
     let t = tuning_for header (take span samples) receiver in
     subst (λ (s : List Sample). All IsNotDirected (events t s)) clean.file.sent
-    (subst (λ (k : Tuning). All IsNotDirected (events k samples)) (sym (tuned_is plan t tuned_to.path))
+    (subst (λ (k : Tuning). All IsNotDirected (events k samples))
+    (sym (tuned_to_cell width script plan span receiver header samples clean.file counted))
     clean.undirected)
-
-pub best_pilot-at : (samples : List Sample) (phase : ℕ) → best_phase samples ≡ phase →
-    best_pilot samples ≡ Pilot phase (energy samples phase)
-unfolding best_pilot
-best_pilot-at samples phase is = ap (λ (p : ℕ). Pilot p (energy samples p)) is
 
 -- the events of a file: the pilot of the first samples, and what a handset hears in all
 abbrev file_events : ℕ → Receiver → Header → List Sample → List Event
 file_events span receiver header samples =
-    best_pilot (take span samples) ∷ events (tuning_for header (take span samples) receiver) samples
+    events (tuning_for header (take span samples) receiver) samples
 
 -- those of a clean link are the cell's
 clean_events-are : (width : Width) (script : List ℕ) (plan : CellPlan)
@@ -112,21 +124,16 @@ unfolding clean_events
 clean_events-are width script plan span fingers paging traffic header samples clean free follows
     counted one =
     let followed = option_map traffic_of traffic in
-    let first = take span samples in
-    let phase = phase_at plan plan.link.start in
     let receiver : Receiver =
     record { fingers = fingers; paging = paging; traffic = traffic } in
-    let t = tuning_for header first receiver in
+    let t = tuning_for header (take span samples) receiver in
     let tuned_to : IsTunedTo plan t =
     tuned width script plan span receiver header samples clean free counted one in
-    let heard : events t samples ≡ sent_events plan paging followed =
     ap (events t) clean.file.sent
     ∙ messages_back width plan t (named_receivable width script plan clean.file.named) tuned_to follows
-    (undirected width script plan span receiver header samples clean tuned_to) in
-    ap (λ (es : List Event). best_pilot first ∷ es) heard
-    ∙ ap (λ (e : Event). e ∷ sent_events plan paging followed) (best_pilot-at first phase clean.file.found)
-    ∙ ap (λ (s : List Sample). Pilot phase (energy (take span s) phase) ∷ sent_events plan paging followed)
-    clean.file.sent
+    (undirected width script plan span receiver header samples clean counted)
+    ∙ ap (λ (k : Tuning). sent_events plan k.energy paging followed)
+    (tuned_to_cell width script plan span receiver header samples clean.file counted)
 
 -- and how the run ends
 pub clean_end-is : (width : Width) (script : List ℕ) (plan : CellPlan)
@@ -159,7 +166,7 @@ clean_text-is : (taps : List KeptTap) (width : Width) (script : List ℕ) (plan 
     IsPaging paging →
     file_text taps (following span workers fingers paging traffic) header samples ≡
     run_text taps (clean_events span plan paging traffic)
-unfolding file_text run_text told
+unfolding file_text told
 clean_text-is taps width script plan span workers fingers paging traffic header samples clean free
     follows counted one =
     ap (run_text taps)

@@ -1,7 +1,7 @@
 -- Lemmas on a handset whose events are told to a sink.
 use Rattle.std.proofs.Common.{◌≡◌, ℕ, zero, suc, ◌+◌, ◌-◌, ◌≤◌, ◌++◌, ◌∷◌, [], List, length, take}
 use Rattle.std.proofs.Common.{drop, refl, sym, ap, ◌∙◌, subst, arith, append_assoc, append-nil}
-use Rattle.std.proofs.Common.{length-append, true, ℤ, pos, replicate, Option, None}
+use Rattle.std.proofs.Common.{length-append, true, ℤ, pos, replicate, Option, None, Some}
 use Rattle.std.proofs.Common.{Result, Ok, Err, IfOk, OnErr, OnOk, option_map}
 use Rattle.std.proofs.lemmas.List.{length-replicate, take_all, take_at, take-append-drop}
 use Rattle.std.proofs.lemmas.List.Concat.{flat_map-append}
@@ -14,14 +14,17 @@ use Rattle.chip_core.proofs.Places.{places-more, places-none}
 use Rattle.chip_core.proofs.Ranges.{flat_map-places-more, flat_map_ext_places}
 use Rattle.chip_core.specs.declared.sample.Sample.{Sample}
 use Rattle.cdma_io.specs.Outside.{AppendsPrefix}
-use Rattle.mobile_core.specs.Events.{events, events_at, events_within}
+use Rattle.mobile_core.specs.Events.{events, events_at, heard_within}
+use Rattle.mobile_core.specs.Given.{listed}
 use Rattle.mobile_core.specs.Near.{AreNear, low_of}
-use Rattle.mobile_core.specs.Standing.{StandsFor, events_left, has_room, parts}
+use Rattle.mobile_core.specs.Standing.{IsStep, StandsFor, events_left, has_room, parts}
 use Rattle.mobile_core.specs.Timing.{IsTimed}
 use Rattle.mobile_core.specs.Tuning.{Tuning, sync_stream}
 use Rattle.mobile_core.specs.declared.channel.Channel.{Channel}
 use Rattle.mobile_core.specs.declared.event.Event.{Event}
+use Rattle.mobile_core.specs.declared.event.Event.TheVariants.{Pilot}
 use Rattle.mobile_core.specs.declared.mobile.Mobile.{Mobile}
+use Rattle.mobile_core.specs.declared.mobile.Step.{Step}
 use Rattle.event_tap.specs.Taps.{KeptTap, heard_text, run_taps, run_text}
 use Rattle.event_tap.specs.Taps.{taps_behind}
 use Rattle.event_tap.proofs.Runs.{run_taps-append, run_taps-more, run_text-append, run_text-more}
@@ -48,13 +51,14 @@ use Rattle.mobile_core.proofs.Growth.{KnownFrom, left_all, left_none}
 use Rattle.cdma_io.specs.declared.header.Header.{Header}
 use Rattle.pilot_search.specs.BestIn.{IsBestIn}
 use Rattle.pilot_search.specs.Near.{near_deltas}
-use Rattle.pilot_search.specs.Search.{best_phase}
+use Rattle.pilot_search.specs.Search.{best_phase, energy as energy_at}
 use Rattle.pilot_search.specs.declared.paths.Near.{Near}
 use Rattle.pilot_search.specs.declared.sweeping.Best.{Best}
-use Rattle.pilot_search.proofs.BestPhase.{best_phase-only}
+use Rattle.pilot_search.proofs.BestPhase.{best_energy-only, best_phase-only}
 use Rattle.mobile_core.specs.declared.settings.Settings.{Settings}
 use Rattle.mobile_core.specs.Tuning.{tuning_by}
-use Rattle.cdma_replay.specs.Hearing.{AreNearTo, AreReady, ByFrames, ByTaps, HasRoom, HasRoomFor, HasTold}
+use Rattle.cdma_replay.specs.Hearing.{AreNearTo, AreReady, BeginsBehind, ByFrames, ByTaps, HasRoom}
+use Rattle.cdma_replay.specs.Hearing.{HasRoomFor, HasTold, IsFresh}
 use Rattle.cdma_replay.specs.Hearing.{Listening, Listens, Nobody, Tells, TellsMore, TellsPart}
 use Rattle.cdma_replay.specs.Hearing.{is_told, told, traffic_of, tuning_for}
 use Rattle.cdma_replay.specs.declared.listener.Listener.{Listener}
@@ -184,7 +188,7 @@ told_all t taps one other kept heard samples taken n old new so_far all stepped 
 first_events : (t : Tuning) (low : ℕ) → IsTimed t.count (sync_stream t) low →
     AreNear (sync_stream t).fingers →
     (xs ys : List Sample) → (more : List Event) × (events t (xs ++ ys) ≡ events t xs ++ more)
-unfolding events_within
+unfolding heard_within
 first_events t low timed near xs ys =
     let n = length xs in
     let g = events_at t (xs ++ ys) in
@@ -198,8 +202,9 @@ first_events t low timed near xs ys =
     ap (flat_map g) (places_parted (n + 1) (length ys)) ∙
     flat_map-append g (places (n + 1)) (range_with_len (n + 1) (length ys)) in (
       flat_map g (range_with_len (n + 1) (length ys)),
-      parted ∙
-          ap (λ (es : List Event). es ++ flat_map g (range_with_len (n + 1) (length ys))) sooner,
+      ap (λ (es : List Event). Pilot t.phase t.energy ∷ es)
+          (parted ∙
+          ap (λ (es : List Event). es ++ flat_map g (range_with_len (n + 1) (length ys))) sooner),
     )
 
 -- the text of events behind others begins with that of the next ones, and so far as it goes of one
@@ -274,9 +279,10 @@ told_part t taps one other kept heard samples taken n event old mid new so_far s
           (taken_begins all cut.count cut.fits));
     }
 
--- before any sample is taken nothing is heard
-events_none : (t : Tuning) → AreNear (sync_stream t).fingers → events t [] ≡ []
-unfolding events_within
+-- before any sample is taken the pilot is told, and nothing is heard
+events_none : (t : Tuning) → AreNear (sync_stream t).fingers →
+    events t [] ≡ Pilot t.phase t.energy ∷ []
+unfolding heard_within
 events_none t near =
     let low = low_of t in
     let timed = timed_of t near in
@@ -289,11 +295,69 @@ events_none t near =
     let silent : sync_events_at t [] 0 ≡ [] =
     sym (left_all t low timed [] 0 (λ k less. absurd (omega (arith, less))))
     ∙ left_none t low timed [] 0 later in
-    flat_map-places-more (events_at t []) 0
+    ap (λ (es : List Event). Pilot t.phase t.energy ∷ es)
+    (flat_map-places-more (events_at t []) 0
     ∙ ap (λ (ks : List ℕ). flat_map (events_at t []) ks ++ events_at t [] 0) places-none
     ∙ events_at_by t [] 0 None (none_marked t near)
     ∙ ap (λ (es : List Event). sync_events_at t [] 0 ++ es) (told_unset t t.traffic [] 0)
-    ∙ append-nil (sync_events_at t [] 0) ∙ silent
+    ∙ append-nil (sync_events_at t [] 0) ∙ silent)
+
+same_head : {A : Type 0} (x y : A) (xs ys : List A) → x ∷ xs ≡ y ∷ ys → x ≡ y
+same_head x y xs ys e = cc
+
+-- the first event of a handset is the pilot
+module _ (t : Tuning) (one other : Mobile) (step : Step) (event : Event)
+    (does : IsStep one other [] step) (gave : step.event ≡ Some event)
+    (stands : StandsFor t one [] []) where
+  stands_behind : StandsFor t other [] (event ∷ [])
+  stands_behind =
+      subst (λ (e : Option Event). StandsFor t other [] (listed e)) gave
+      (subst (λ (xs : List Sample). StandsFor t other xs (listed step.event)) (nil_taken step.taken)
+      (does.steps.stands t [] [] stands))
+
+  event_is : event ≡ Pilot t.phase t.energy
+  event_is =
+      same_head event (Pilot t.phase t.energy) (events_left t (parts other) [])
+      (heard_within t [] 0) stands_behind.told
+
+  none_more : events t [] ≡ event ∷ []
+  none_more =
+      events_none t (stands_near t other [] (event ∷ []) stands_behind)
+      ∙ ap (λ (e : Event). e ∷ []) (sym event_is)
+
+  -- so where the taps have heard it, all is told that is before any sample
+  pub pilot_begins : (kept behind : List KeptTap) (old new : Option (List ℕ)) →
+      Appends old new (heard_text kept event) → behind ≡ taps_behind kept event →
+      BeginsBehind [] (ByTaps t kept) (by.Handset other) behind old new
+  unfolding told run_text run_taps
+  pilot_begins kept behind old new written next = record {
+    written = subst (Appends old new)
+        (sym (ap (run_text kept) none_more ∙ append-nil (heard_text kept event))) written;
+    listens = (
+      subst (StandsFor t other []) (sym none_more) stands_behind,
+      next ∙ ap (run_taps kept) (sym none_more),
+    );
+  }
+
+  -- and a beginning of its text is one of what is told of any samples
+  pub pilot_part : (kept : List KeptTap) (samples : List Sample) (old new : Option (List ℕ)) →
+      AppendsPrefix old new (heard_text kept event) →
+      AppendsPrefix old new (told (ByTaps t kept) samples)
+  unfolding told run_text
+  pilot_part kept samples old new part =
+      let pilot = Pilot t.phase t.energy in
+      prefix_before old new (heard_text kept pilot)
+      (run_text (taps_behind kept pilot) (heard_within t samples (length samples)))
+      (subst (λ (e : Event). AppendsPrefix old new (heard_text kept e)) event_is part)
+
+-- it has one
+pub pilot_there : (t : Tuning) (one other : Mobile) (step : Step) → IsStep one other [] step →
+    StandsFor t one [] [] → step.event ≡ None → ⊥
+pilot_there t one other step does stands none =
+    no_cons (Pilot t.phase t.energy) (heard_within t [] 0) ((does.none none).1 t [] [] stands)
+  where
+    no_cons : (e : Event) (es : List Event) → [] ≡ e ∷ es → ⊥
+    no_cons e es is = absurd (cc)
 
 -- ---- what is told of more samples
 
@@ -386,30 +450,36 @@ pub tuned_part : {t : Tuning} {channel : Channel} {text : TunedText} {before hea
 unfolding told
 tuned_part part = record { text = part.text; written = part.written; begins = part.begins }
 
--- a handset that has taken nothing
-pub listens_new : (t : Tuning) (mobile : Mobile) (kept : List KeptTap) → StandsFor t mobile [] [] →
-    Listens (ByTaps t kept) (by.Handset mobile) kept []
-unfolding run_taps
-listens_new t mobile kept stands =
-    let none = events_none t (stands_near t mobile [] [] stands) in (
-      subst (StandsFor t mobile []) (sym none) stands,
-      ap (run_taps kept) (sym none),
-    )
+-- ---- before any sample
 
--- nothing is told of no samples
-pub told_of_none : (l : Listening) (listener : Listener) (kept : List KeptTap) →
-    Listens l listener kept [] → told l [] ≡ []
+-- what holds where a handset has taken nothing
+pub on_fresh : (P : Listening → Type 0) (l : Listening) (mobile : Mobile) (kept : List KeptTap) →
+    IsFresh l (by.Handset mobile) kept → ((t : Tuning) → StandsFor t mobile [] [] → P (ByTaps t kept)) →
+    P l
+on_fresh P Nobody mobile kept fresh holds = absurd fresh
+on_fresh P (ByTaps t taps) mobile kept fresh holds =
+    subst (λ (ks : List KeptTap). P (ByTaps t ks)) fresh.1 (holds t fresh.0)
+on_fresh P (ByFrames t channel text) mobile kept fresh holds = absurd fresh
+
+-- the others tell nothing
+pub nobody_begins : (l : Listening) (kept : List KeptTap) (old : Option (List ℕ)) →
+    IsFresh l by.Nobody kept → BeginsBehind [] l by.Nobody kept old old
 unfolding told
-told_of_none Nobody listener kept listens = refl
-told_of_none (ByTaps t taps) by.Nobody kept listens = absurd listens
-told_of_none (ByTaps t taps) (by.Handset mobile) kept listens =
-    ap (run_text taps) (events_none t (stands_near t mobile [] (events t []) listens.0))
-    ∙ run_text-none taps
-told_of_none (ByTaps t taps) (by.Tuned tuned) kept listens = absurd listens
-told_of_none (ByFrames t channel text) by.Nobody kept listens = absurd listens
-told_of_none (ByFrames t channel text) (by.Handset mobile) kept listens = absurd listens
-told_of_none (ByFrames t channel text) (by.Tuned tuned) kept listens =
-    text_of_nothing t listens.close text channel
+nobody_begins Nobody kept old fresh = record { written = Appends-nil old; listens = tt }
+nobody_begins (ByTaps t taps) kept old fresh = absurd fresh
+nobody_begins (ByFrames t channel text) kept old fresh = absurd fresh
+
+pub tuned_begins : (l : Listening) (tuned : TunedListener) (kept : List KeptTap)
+    (old : Option (List ℕ)) → IsFresh l (by.Tuned tuned) kept →
+    BeginsBehind [] l (by.Tuned tuned) kept old old
+unfolding told
+tuned_begins Nobody tuned kept old fresh = absurd fresh
+tuned_begins (ByTaps t taps) tuned kept old fresh = absurd fresh
+tuned_begins (ByFrames t channel text) tuned kept old fresh = record {
+  written = subst (Appends old old) (sym (text_of_nothing t fresh.close text channel))
+      (Appends-nil old);
+  listens = fresh;
+}
 
 -- ---- a handset that has taken nothing
 
@@ -451,8 +521,10 @@ tuned_alike header first receiver settings best near found count check30 check16
     counted most long deltas =
     let phase : best.phase ≡ best_phase first =
     best_phase-only first best.phase best.energy found in
+    let energy : best.energy ≡ energy_at first (best_phase first) =
+    best_energy-only first best.phase best.energy found in
     let near_is = near_taken first receiver.fingers best near found counted most long deltas in
-    rw (count, check30, check16, paging, traffic, phase, near_is) refl
+    rw (count, check30, check16, paging, traffic, phase, energy, near_is) refl
 
 pub fresh_given : (settings : Settings) (header : Header) (first : List Sample)
     (receiver : Receiver)
@@ -471,6 +543,11 @@ fresh_given settings header first receiver best near mobile found count check30 
     near_is.0 most long near_is.1) stands
 
 -- ---- what follows where a call went well, or failed
+
+pub on_ok_both : {T E : Type 0} (r : Result T E) (P Q S : Type 0) → (P → Q → S) → OnOk r P →
+    OnOk r Q → OnOk r S
+on_ok_both (Ok x) P Q S f one other = f one other
+on_ok_both (Err e) P Q S f one other = one
 
 pub if_ok : {T E : Type 0} (r : Result T E) (P Q : T → Type 0) → ((x : T) → P x → Q x) →
     IfOk r P → IfOk r Q

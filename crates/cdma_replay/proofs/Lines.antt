@@ -18,16 +18,16 @@ use Rattle.cdma_io.specs.SampleFile.{width_of}
 use Rattle.pilot_search.specs.BestIn.{IsBestIn}
 use Rattle.pilot_search.specs.Search.{best_phase}
 use Rattle.pilot_search.proofs.BestPhase.{best_phase-only, best_energy-only}
-use Rattle.mobile_core.specs.declared.event.Event.{Event}
 use Rattle.mobile_core.specs.declared.event.Event.TheVariants.{Pilot}
 use Rattle.event_tap.specs.EventLines.{event_line}
-use Rattle.event_tap.specs.Taps.{KeptTap, heard_text, taps_behind}
+use Rattle.event_tap.specs.Taps.{KeptTap}
 use Rattle.pilot_survey.specs.declared.rank.Rank.{Rank}
-use Rattle.tuned_listener.proofs.Prefixes.{prefix_before, prefix_behind, prefix_of}
+use Rattle.tuned_listener.proofs.Prefixes.{begins_more, prefix_of}
 use Rattle.tuned_listener.proofs.Prefixes.{taken_begins}
 use Rattle.tuned_listener.specs.declared.tuned_text.TunedText.{TunedText}
 use Rattle.cdma_replay.specs.declared.handset.Receiver.{Receiver}
 use Rattle.cdma_replay.specs.declared.listener.Listener.{Listener}
+use Rattle.cdma_replay.specs.declared.listener.Listener.TheVariants as by
 use Rattle.cdma_replay.specs.declared.opening.Shown.{Shown}
 use Rattle.cdma_replay.specs.declared.opening.Shown.TheVariants.{Followed, Found, Ranks}
 use Rattle.cdma_replay.specs.declared.opening.Shown.TheVariants.{TunedTo}
@@ -37,11 +37,12 @@ use Rattle.cdma_replay.specs.declared.purpose.Purpose.TheVariants.{Tuned}
 use Rattle.cdma_replay.specs.declared.receiving.Reception.{Reception}
 use Rattle.cdma_replay.specs.declared.status.Status.{Status}
 use Rattle.cdma_replay.specs.Find.{WritesNoMore, WritesText}
-use Rattle.cdma_replay.proofs.Hearings.{more_behind, part_behind, told_of_none}
-use Rattle.cdma_replay.specs.Hearing.{ByTaps, HearsPart, HearsRest, Listening, Listens, Tells}
+use Rattle.cdma_replay.proofs.Hearings.{more_behind, part_behind}
+use Rattle.cdma_replay.specs.Hearing.{BeginsBehind, HearsPart, HearsRest, IsFresh, Listening, Listens}
+use Rattle.cdma_replay.specs.Hearing.{Nobody, Tells}
 use Rattle.cdma_replay.specs.Hearing.{TellsMore, TellsPart, best_pilot, end_when, file_end_of}
-use Rattle.cdma_replay.specs.Hearing.{file_text, first_text, is_told, listening, told, tuning_for}
-use Rattle.cdma_replay.specs.Openings.{IsBest, Shows, listening_in, shown_text, taps_after}
+use Rattle.cdma_replay.specs.Hearing.{file_text, first_text, is_told, listening, told}
+use Rattle.cdma_replay.specs.Openings.{IsBest, Shows, listening_in, shown_text}
 use Rattle.mobile_core.specs.declared.channel.Channel.{Channel}
 use Rattle.pilot_search.specs.declared.sweeping.Best.{Best}
 use Rattle.pilot_survey.specs.Survey.{ranking}
@@ -56,32 +57,29 @@ pilot-best samples phase energy best =
     ∙ ap (λ (e : ℕ). Pilot (best_phase samples) e) (best_energy-only samples phase energy best)
 
 -- the text of the first samples
-abbrev pub told_first : List KeptTap → Reception → List Sample → List ℕ
-told_first taps r samples = first_text taps r.purpose samples
+abbrev pub told_first : Reception → List Sample → List ℕ
+told_first r samples = first_text r.purpose samples
 
 -- what was found is told by that text
 pub found_shows : {first : List Sample} {best : Best} → IsBest first best →
     Shows Find first (Found best)
 found_shows {first} {best} is = record {
-  text = λ (taps : List KeptTap). ap event_line (pilot-best first best.phase best.energy is);
+  text = ap event_line (pilot-best first best.phase best.energy is);
   hears = λ (taps : List KeptTap) (header : Header). refl;
 }
 
 pub followed_shows : {first : List Sample} {best : Best} (receiver : Receiver) →
-    IsBest first best → Shows (Follow receiver) first (Followed best receiver)
-followed_shows {first} {best} receiver is =
-    let same = pilot-best first best.phase best.energy is in
-    record {
-      text = λ (taps : List KeptTap). ap (heard_text taps) same;
-      hears = λ (taps : List KeptTap) (header : Header).
-          ap (λ (e : Event). ByTaps (tuning_for header first receiver) (taps_behind taps e)) same;
-    }
+    Shows (Follow receiver) first (Followed best receiver)
+followed_shows receiver = record {
+  text = refl;
+  hears = λ (taps : List KeptTap) (header : Header). refl;
+}
 
 pub tuned_shows : {first : List Sample} {best : Best} (fingers : ℕ) (channel : Channel)
     (text : TunedText) →
     Shows (Tuned fingers channel text) first (TunedTo best fingers channel text)
 tuned_shows fingers channel text = record {
-  text = λ (taps : List KeptTap). refl;
+  text = refl;
   hears = λ (taps : List KeptTap) (header : Header). refl;
 }
 
@@ -89,18 +87,40 @@ pub ranks_show : {first : List Sample} {ranks : List Rank} (base width top : ℕ
     ranks ≡ ranking first base width → Shows (Survey base width top) first (Ranks ranks top)
 unfolding survey_text
 ranks_show base width top is = record {
-  text = λ (taps : List KeptTap). ap (λ (rs : List Rank). ranks_text (take top rs)) is;
+  text = ap (λ (rs : List Rank). ranks_text (take top rs)) is;
   hears = λ (taps : List KeptTap) (header : Header). refl;
 }
 
--- the text of a file whose first samples are these
+-- ---- before any sample
+
+-- nothing is told beyond what was found where nobody hears the file
+pub alone_begins : (text : List ℕ) (listener : Listener) (kept : List KeptTap)
+    (old new : Option (List ℕ)) → Appends old new text → IsFresh Nobody listener kept →
+    BeginsBehind text Nobody listener kept old new
+unfolding told
+alone_begins text by.Nobody kept old new written fresh = record {
+  written = subst (Appends old new) (sym (append-nil text)) written;
+  listens = tt;
+}
+alone_begins text (by.Handset mobile) kept old new written fresh = absurd fresh
+alone_begins text (by.Tuned tuned) kept old new written fresh = absurd fresh
+
+pub alone_part : (text : List ℕ) (samples : List Sample) (old new : Option (List ℕ)) →
+    AppendsPrefix old new text → AppendsPrefix old new (text ++ told Nobody samples)
+unfolding told
+alone_part text samples old new part =
+    subst (AppendsPrefix old new) (sym (append-nil text)) part
+
+-- ---- the text of a file
+
+-- that of one whose first samples are these
 text_behind : (taps : List KeptTap) (r : Reception) (header : Header)
     (samples others : List Sample) → length samples ≡ r.span →
     file_text taps r header (samples ++ others) ≡
-    told_first taps r samples ++ told (listening taps r.purpose header samples) (samples ++ others)
+    told_first r samples ++ told (listening taps r.purpose header samples) (samples ++ others)
 unfolding file_text
 text_behind taps r header samples others counted =
-    ap (λ (xs : List Sample). told_first taps r xs
+    ap (λ (xs : List Sample). told_first r xs
     ++ told (listening taps r.purpose header xs) (samples ++ others))
     (take_at samples others r.span counted)
 
@@ -144,14 +164,14 @@ begins_text : {taps : List KeptTap} {r : Reception} {rest left old new : Option 
     All (HasBits (width_of header)) others →
     Consumes mid left (flat_map (sample_spelling (width_of header)) others ++ more) →
     AppendsPrefix old new
-    (told_first taps r samples ++ told (listening taps r.purpose header samples) (samples ++ others)) →
+    (told_first r samples ++ told (listening taps r.purpose header samples) (samples ++ others)) →
     WritesNoMore taps r rest left old new
 begins_text {taps} {r} {rest} {left} mid header samples others more counted lawful range fits consumed
     also behind part =
     let spelled = flat_map (sample_spelling (width_of header)) in
     let front = header_spelling header in
     let text =
-    told_first taps r samples ++ told (listening taps r.purpose header samples) (samples ++ others) in
+    told_first r samples ++ told (listening taps r.purpose header samples) (samples ++ others) in
     record {
       text = take part.count text;
       written = part.appended;
@@ -179,25 +199,37 @@ begins_text {taps} {r} {rest} {left} mid header samples others more counted lawf
 pub none_within : (width : Width) → All (HasBits width) []
 none_within width = λ k d h. absurd (omega (arith, h))
 
--- a beginning of the text of the first samples
+-- a beginning of the text of the first samples, and of what is told of them
 pub writes_first_text : {taps : List KeptTap} {r : Reception} {rest old new : Option (List ℕ)}
-    (mid : Option (List ℕ)) (header : Header) (samples : List Sample) (shown : Shown) →
+    (mid : Option (List ℕ)) (header : Header) {same : Header} (samples : List Sample) (shown : Shown)
+    {listener : Listener} →
     length samples ≡ r.span → IsLawfulHeader header → All (HasBits (width_of header)) samples →
     r.span ≤ header.count →
     Consumes rest mid
     (header_spelling header ++ flat_map (sample_spelling (width_of header)) samples) →
-    Shows r.purpose samples shown → AppendsPrefix old new (shown_text taps shown) →
+    Shows r.purpose samples shown → same ≡ header →
+    ((taps : List KeptTap) → IsFresh (listening_in taps shown same samples) listener taps) →
+    ((header : Header) (first samples : List Sample) →
+    let l = listening_in taps shown header first in
+    IsFresh l listener taps → AppendsPrefix old new (shown_text shown ++ told l samples)) →
     WritesNoMore taps r rest mid old new
-writes_first_text {taps} {r} {rest} {old} {new} mid header samples shown counted lawful range enough
-    consumed shows part =
+writes_first_text {taps} {r} {rest} {old} {new} mid header {same} samples shown {listener} counted
+    lawful range enough consumed shows is fresh part =
+    let all = samples ++ [] in
     begins_text mid header samples [] [] counted lawful range (omega (arith, counted, enough)) consumed
     (none_within (width_of header)) (Consumes-nil mid)
-    (prefix_before old new (told_first taps r samples) _
-    (subst (AppendsPrefix old new) (shows.text taps) part))
+    (subst (λ (xs : List ℕ). AppendsPrefix old new
+    (xs ++ told (listening taps r.purpose header samples) all)) shows.text
+    (subst (λ (l : Listening). AppendsPrefix old new (shown_text shown ++ told l all))
+    (shows.hears taps header)
+    (subst (λ (h : Header).
+    AppendsPrefix old new (shown_text shown ++ told (listening_in taps shown h samples) all)) is
+    (part same samples all (fresh taps)))))
 
 -- ---- the first samples, and those behind them
 
--- the first samples were read and their text was written, and a listener has heard nothing yet
+-- the first samples were read, their text was written and what is told before any sample, and a
+-- listener has heard nothing yet
 pub record HasBegun (taps : List KeptTap) (r : Reception) (header : Header) (samples : List Sample)
     (listener : Listener) (kept : List KeptTap) (rest mid old new : Option (List ℕ)) :
     Type 0 where
@@ -207,56 +239,63 @@ pub record HasBegun (taps : List KeptTap) (r : Reception) (header : Header) (sam
   pub enough : r.span ≤ header.count
   pub consumed : Consumes rest mid
       (header_spelling header ++ flat_map (sample_spelling (width_of header)) samples)
-  pub line : Appends old new (told_first taps r samples)
+  pub line : Appends old new
+      (told_first r samples ++ told (listening taps r.purpose header samples) [])
   pub listens : Listens (listening taps r.purpose header samples) listener kept []
 
 -- from what was found in the first samples, and the new listener
 pub has_begun : (taps : List KeptTap) (r : Reception) {header same : Header}
-    (samples : List Sample) (shown : Shown) {listener : Listener} {kept : List KeptTap}
+    (samples : List Sample) (shown : Shown) {one other : Listener} {kept : List KeptTap}
     {rest mid old new : Option (List ℕ)} →
     length samples ≡ r.span → IsLawfulHeader header → All (HasBits (width_of header)) samples →
     r.span ≤ header.count →
     Consumes rest mid
     (header_spelling header ++ flat_map (sample_spelling (width_of header)) samples) →
     Shows r.purpose samples shown → same ≡ header →
-    ((kept : List KeptTap) → Listens (listening_in kept shown same samples) listener kept []) →
-    Appends old new (shown_text taps shown) → kept ≡ taps_after taps shown →
-    HasBegun taps r header samples listener kept rest mid old new
-has_begun taps r {header} {same} samples shown {listener} {kept} {rest} {mid} {old} {new} counted
-    lawful range enough consumed shows is listens line behind =
-    let later = taps_after taps shown in
+    ((taps : List KeptTap) → IsFresh (listening_in taps shown same samples) one taps) →
+    ((header : Header) (first : List Sample) →
+    let l = listening_in taps shown header first in
+    IsFresh l one taps → BeginsBehind (shown_text shown) l other kept old new) →
+    HasBegun taps r header samples other kept rest mid old new
+has_begun taps r {header} {same} samples shown {one} {other} {kept} {rest} {mid} {old} {new} counted
+    lawful range enough consumed shows is fresh begins =
+    let begun : BeginsBehind (told_first r samples) (listening taps r.purpose header samples) other
+    kept old new =
+    subst (λ (xs : List ℕ).
+    BeginsBehind xs (listening taps r.purpose header samples) other kept old new) shows.text
+    (subst (λ (l : Listening). BeginsBehind (shown_text shown) l other kept old new)
+    (shows.hears taps header)
+    (subst (λ (h : Header).
+    BeginsBehind (shown_text shown) (listening_in taps shown h samples) other kept old new) is
+    (begins same samples (fresh taps)))) in
     record {
       counted = counted;
       lawful = lawful;
       in_range = range;
       enough = enough;
       consumed = consumed;
-      line = subst (Appends old new) (shows.text taps) line;
-      listens =
-          subst (λ (k : List KeptTap). Listens (listening taps r.purpose header samples) listener k [])
-          (sym behind)
-          (subst (λ (l : Listening). Listens l listener later [])
-          (shows.hears taps header)
-          (subst (λ (h : Header). Listens (listening_in later shown h samples) listener later []) is
-          (listens later)));
+      line = begun.written;
+      listens = begun.listens;
     }
 
--- of a listener that had heard nothing, a sink got what is told, or a beginning of it
-more_text : (l : Listening) (listener : Listener) (kept : List KeptTap) {heard : List Sample}
-    {old new : Option (List ℕ)} → Listens l listener kept [] → TellsMore l [] heard old new →
-    Appends old new (told l heard)
-more_text l listener kept {heard} {old} {new} listens more =
+-- behind a text and what is told before any sample, a sink got what is told of samples, or a beginning
+-- of it
+more_text : (front : List ℕ) (l : Listening) {heard : List Sample}
+    {old between new : Option (List ℕ)} → Appends old between (front ++ told l []) →
+    TellsMore l [] heard between new → Appends old new (front ++ told l heard)
+more_text front l {heard} {old} {between} {new} line more =
     subst (Appends old new)
-    (sym (ap (λ (xs : List ℕ). xs ++ more.text) (told_of_none l listener kept listens)) ∙ more.all)
-    more.written
+    (append_assoc front (told l []) more.text ∙ ap (λ (xs : List ℕ). front ++ xs) more.all)
+    (Appends-trans old between new (front ++ told l []) more.text line more.written)
 
-part_text : (l : Listening) (listener : Listener) (kept : List KeptTap) {heard : List Sample}
-    {old new : Option (List ℕ)} → Listens l listener kept [] → TellsPart l [] heard old new →
-    AppendsPrefix old new (told l heard)
-part_text l listener kept {heard} {old} {new} listens part =
-    prefix_of old new (told l heard) part.text part.written
-    (subst (λ (xs : List ℕ). StartsWith (told l heard) (xs ++ part.text))
-    (told_of_none l listener kept listens) part.begins)
+part_text : (front : List ℕ) (l : Listening) {heard : List Sample}
+    {old between new : Option (List ℕ)} → Appends old between (front ++ told l []) →
+    TellsPart l [] heard between new → AppendsPrefix old new (front ++ told l heard)
+part_text front l {heard} {old} {between} {new} line part =
+    prefix_of old new (front ++ told l heard) ((front ++ told l []) ++ part.text)
+    (Appends-trans old between new (front ++ told l []) part.text line part.written)
+    (subst (StartsWith (front ++ told l heard)) (sym (append_assoc front (told l []) part.text))
+    (begins_more front (told l heard) (told l [] ++ part.text) part.begins))
 
 -- the text of the first samples, and a beginning of what is told of them
 pub writes_first_part : {taps : List KeptTap} {r : Reception} {header : Header}
@@ -272,9 +311,9 @@ writes_first_part {taps} {r} {header} {samples} {listener} {kept} {rest} {mid} {
     begins_text mid header samples [] [] begun.counted begun.lawful begun.in_range
     (omega (arith, begun.counted, begun.enough)) begun.consumed (none_within (width_of header))
     (Consumes-nil mid)
-    (prefix_behind old between new (told_first taps r samples) (told l (samples ++ [])) begun.line
-    (subst (λ (xs : List Sample). AppendsPrefix between new (told l xs)) (sym (append-nil samples))
-    (part_text l listener kept begun.listens (tells l [] begun.listens))))
+    (subst (λ (xs : List Sample). AppendsPrefix old new (told_first r samples ++ told l xs))
+    (sym (append-nil samples))
+    (part_text (told_first r samples) l begun.line (tells l [] begun.listens)))
 
 -- that text and what is told of the first samples, and a beginning of what is told behind them
 pub writes_rest_part : {taps : List KeptTap} {r : Reception} {header : Header}
@@ -293,8 +332,7 @@ writes_rest_part {taps} {r} {header} {samples} {count} {one} {other} {kept} {beh
     let part = hears l samples first.listens in
     begins_text mid header samples part.samples part.more begun.counted begun.lawful begun.in_range
     (omega (arith, begun.counted, counts, part.number)) begun.consumed part.in_range part.consumed
-    (prefix_behind old between new (told_first taps r samples) (told l (samples ++ part.samples))
-    begun.line (part_text l one kept begun.listens (part_behind first.more part.tells)))
+    (part_text (told_first r samples) l begun.line (part_behind first.more part.tells))
 
 -- ---- the whole text
 
@@ -308,8 +346,7 @@ writes_whole {taps} {r} {header} {samples} {listener} {kept} {rest} {mid} {old} 
     others begun more =
     let l = listening taps r.purpose header samples in
     subst (Appends old new) (sym (text_behind taps r header samples others begun.counted))
-    (Appends-trans old between new (told_first taps r samples) (told l (samples ++ others)) begun.line
-    (more_text l listener kept begun.listens more))
+    (more_text (told_first r samples) l begun.line more)
 
 -- the file was read to its end, and its text written
 pub writes_text : {taps : List KeptTap} {r : Reception} {status : Status} {header : Header}

@@ -142,7 +142,8 @@ made_readable width script plan named =
 pub made_clean : (width : Width) (script : List ℕ) (plan : CellPlan) (span paging : ℕ)
     (traffic : Option Traffic) → plan_named width script ≡ Ok plan →
     best_phase (take span (made_samples plan)) ≡ phase_at plan plan.link.start →
-    All IsNotDirected (events (tuning_to plan paging traffic) (made_samples plan)) →
+    All IsNotDirected
+    (events (tuning_to plan (cell_energy span plan) paging traffic) (made_samples plan)) →
     IsCleanLink width script plan span 1 paging traffic (header_of width plan) (made_samples plan)
 made_clean width script plan span paging traffic named found undirected =
     record {
@@ -158,9 +159,9 @@ made_clean width script plan span paging traffic named found undirected =
     }
 
 -- a handset on it lies on the cell's path
-made_tuned : (plan : CellPlan) (paging : ℕ) (traffic : Option Traffic) →
-    IsOnPath plan (tuning_to plan paging traffic)
-made_tuned plan paging traffic = record {
+made_tuned : (plan : CellPlan) (energy paging : ℕ) (traffic : Option Traffic) →
+    IsOnPath plan (tuning_to plan energy paging traffic)
+made_tuned plan energy paging traffic = record {
   count = refl;
   checks_of_30 = refl;
   checks_of_16 = refl;
@@ -177,5 +178,6 @@ pub made_clean_sent : (width : Width) (script : List ℕ) (plan : CellPlan) (spa
     IsCleanLink width script plan span 1 paging traffic (header_of width plan) (made_samples plan)
 made_clean_sent width script plan span paging traffic named found follows none =
     made_clean width script plan span paging traffic named found
-    (no_event_directed width plan (tuning_to plan paging traffic)
-    (named_receivable width script plan named) (made_tuned plan paging traffic) follows none)
+    (no_event_directed width plan (tuning_to plan (cell_energy span plan) paging traffic)
+    (named_receivable width script plan named)
+    (made_tuned plan (cell_energy span plan) paging traffic) follows none)

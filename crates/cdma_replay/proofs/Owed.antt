@@ -236,7 +236,7 @@ find_owes forms span workers bytes header samples file enough =
     named (append-nil _) (whole file enough)
 
 pub follow_owes : FollowOwesTheEvents
-unfolding file_text file_end_of told best_pilot run_text
+unfolding file_text file_end_of told
 follow_owes forms span workers receiver limits bytes header samples file enough = whole file enough
 
 frames_owed : (span workers fingers : ℕ) (channel : Channel) (text : TunedText) (bytes : List ℕ)

@@ -60,7 +60,7 @@ pub text_heard : (r : Reception) (fingers : ℕ) (channel : Channel) (text : Tun
 unfolding file_text told
 text_heard r fingers channel text header samples purpose =
     ap
-    (λ (p : Purpose). first_text [] p (take r.span samples)
+    (λ (p : Purpose). first_text p (take r.span samples)
     ++ told (listening [] p header (take r.span samples)) samples) purpose
 
 -- and its end

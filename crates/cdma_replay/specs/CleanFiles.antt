@@ -3,7 +3,7 @@ use Rattle.std.specs.Prelude.{ℕ, ◌≡◌, List, take, All, Option, Ok}
 use Rattle.chip_core.specs.declared.sample.Sample.{Sample}
 use Rattle.chip_core.specs.declared.width.Width.{Width}
 use Rattle.cdma_io.specs.declared.header.Header.{Header}
-use Rattle.pilot_search.specs.Search.{best_phase}
+use Rattle.pilot_search.specs.Search.{best_phase, energy}
 use Rattle.cell_plan.specs.Sampled.{made_samples}
 use Rattle.cell_plan.specs.Transmitter.{phase_at}
 use Rattle.cell_plan.specs.declared.plan.CellPlan.{CellPlan}
@@ -24,10 +24,15 @@ pub record IsCellFile (width : Width) (script : List ℕ) (plan : CellPlan) (spa
   pub found : best_phase (take span samples) ≡ phase_at plan plan.link.start
   pub alone : fingers ≡ 1
 
+-- the energy that so many first samples of a cell have at its phase
+abbrev pub cell_energy : ℕ → CellPlan → ℕ
+cell_energy span plan = energy (take span (made_samples plan)) (phase_at plan plan.link.start)
+
 -- It is a clean link where moreover no message that is heard of the traffic channel that is followed,
 -- if any, directs a handoff.
 pub record IsCleanLink (width : Width) (script : List ℕ) (plan : CellPlan) (span : ℕ)
     (fingers paging : ℕ) (traffic : Option Traffic) (header : Header)
     (samples : List Sample) : Type 0 where
   pub file : IsCellFile width script plan span fingers header samples
-  pub undirected : All IsNotDirected (events (tuning_to plan paging traffic) samples)
+  pub undirected : All IsNotDirected
+      (events (tuning_to plan (cell_energy span plan) paging traffic) samples)

@@ -15,8 +15,6 @@ use Rattle.pilot_search.specs.Near.{near_deltas}
 use Rattle.pilot_search.specs.Search.{energy, best_phase}
 use Rattle.pilot_search.specs.declared.paths.Near.{Near}
 use Rattle.cell_plan.specs.declared.plan.CellPlan.{CellPlan}
-use Rattle.cell_plan.specs.Sampled.{made_samples}
-use Rattle.cell_plan.specs.Transmitter.{phase_at}
 use Rattle.mobile_core.specs.Events.{events}
 use Rattle.mobile_core.specs.Marks.{mark}
 use Rattle.mobile_core.specs.Standing.{StandsFor, has_room}
@@ -29,12 +27,13 @@ use Rattle.chip_core.specs.declared.assignment.Traffic.{Traffic}
 use Rattle.cdma_words.specs.Words.{IsFingers, IsLawfulTraffic, IsPaging}
 use Rattle.cdma_words.specs.declared.job.TrafficOptions.{TrafficOptions}
 use Rattle.event_tap.specs.EventLines.{event_line}
-use Rattle.event_tap.specs.Taps.{KeptTap, heard_text, run_taps, run_text, taps_behind}
+use Rattle.event_tap.specs.Taps.{KeptTap, run_taps, run_text}
 use Rattle.clean_link.specs.CleanLink.{sync_sent}
 use Rattle.clean_link.specs.SentEvents.{sent_events}
 use Rattle.tuned_listener.specs.TunedListening.{ListensTuned, tuned_room}
 use Rattle.tuned_listener.specs.TunedTexts.{tuned_text}
 use Rattle.tuned_listener.specs.declared.tuned_text.TunedText.{TunedText}
+use Rattle.cdma_replay.specs.CleanFiles.{cell_energy}
 use Rattle.cdma_replay.specs.Ranks.{survey_text}
 use Rattle.cdma_replay.specs.declared.handset.Receiver.{Receiver}
 use Rattle.cdma_replay.specs.declared.listener.Listener.{Listener}
@@ -52,13 +51,13 @@ use Rattle.cdma_replay.specs.declared.status.Status.TheVariants.{Done, NoSync}
 unfoldable pub best_pilot : List Sample → Event
 best_pilot samples = Pilot (best_phase samples) (energy samples (best_phase samples))
 
--- the text of the first samples: the pilot's line, or what taps make of the pilot, or the lines of the
--- ranks; there is none where the frames of one channel are wanted
-abbrev pub first_text : List KeptTap → Purpose → List Sample → List ℕ
-first_text taps Find first = event_line (best_pilot first)
-first_text taps (Follow receiver) first = heard_text taps (best_pilot first)
-first_text taps (Tuned fingers channel text) first = []
-first_text taps (Survey base width top) first = survey_text base width top first
+-- the text of the first samples alone: the pilot's line, or the lines of the ranks; there is none where
+-- the file is heard
+abbrev pub first_text : Purpose → List Sample → List ℕ
+first_text Find first = event_line (best_pilot first)
+first_text (Follow receiver) first = []
+first_text (Tuned fingers channel text) first = []
+first_text (Survey base width top) first = survey_text base width top first
 
 -- the traffic channel that words name, as a handset is told of it
 abbrev pub traffic_of : TrafficOptions → Traffic
@@ -71,6 +70,7 @@ tuning_for header first receiver =
     record {
       count = header.count;
       phase = best_phase first;
+      energy = energy first (best_phase first);
       deltas = near_deltas first (best_phase first) receiver.fingers;
       check30 = header.check30;
       check16 = header.check16;
@@ -89,12 +89,11 @@ pub data Listening : Type 0 where
   ByTaps : Tuning → List KeptTap → Listening
   ByFrames : Tuning → Channel → TunedText → Listening
 
--- who hears one of this header with these first samples: the taps that are kept behind the pilot,
--- where a handset follows it
+-- who hears one of this header with these first samples: these taps, where a handset follows it
 abbrev pub listening : List KeptTap → Purpose → Header → List Sample → Listening
 listening taps Find header first = Nobody
 listening taps (Follow receiver) header first =
-    ByTaps (tuning_for header first receiver) (taps_behind taps (best_pilot first))
+    ByTaps (tuning_for header first receiver) taps
 listening taps (Tuned fingers channel text) header first =
     ByFrames (tuning_for header first (waiting fingers)) channel text
 listening taps (Survey base width top) header first = Nobody
@@ -109,7 +108,7 @@ told (ByFrames t channel text) samples = tuned_text text t channel samples
 -- what is told of all
 unfoldable pub file_text : List KeptTap → Reception → Header → List Sample → List ℕ
 file_text taps r header samples =
-    first_text taps r.purpose (take r.span samples)
+    first_text r.purpose (take r.span samples)
     ++ told (listening taps r.purpose header (take r.span samples)) samples
 
 -- who hears ends well where a message told the time
@@ -137,8 +136,7 @@ IsUnheard purpose = ⊥
 -- messages that their signaling spells and the pilot sets
 unfoldable pub clean_events : ℕ → CellPlan → ℕ → Option TrafficOptions → List Event
 clean_events span plan paging traffic =
-    let phase = phase_at plan plan.link.start in
-    Pilot phase (energy (take span (made_samples plan)) phase) ∷ sent_events plan paging (option_map traffic_of traffic)
+    sent_events plan (cell_energy span plan) paging (option_map traffic_of traffic)
 
 -- how a run over a clean link ends: each whole sending tells the time
 abbrev pub clean_end : CellPlan → Status
@@ -166,6 +164,13 @@ AreReady near =
 
 -- ---- a listener on the way
 
+-- it has taken no sample and told nothing, and these taps are to hear it
+abbrev pub IsFresh : Listening → Listener → List KeptTap → Type 0
+IsFresh Nobody by.Nobody kept = Unit {0}
+IsFresh (ByTaps t taps) (by.Handset mobile) kept = StandsFor t mobile [] [] × (kept ≡ taps)
+IsFresh (ByFrames t channel text) (by.Tuned tuned) kept = ListensTuned t channel text tuned []
+IsFresh l listener kept = ⊥
+
 -- it has taken these samples and told all of them, and these taps are kept behind them
 abbrev pub Listens : Listening → Listener → List KeptTap → List Sample → Type 0
 Listens Nobody by.Nobody kept heard = Unit {0}
@@ -186,6 +191,13 @@ abbrev pub HasRoomFor : Listener → ℕ → Type 0
 HasRoomFor by.Nobody count = Unit {0}
 HasRoomFor (by.Handset mobile) count = count ≤ has_room mobile
 HasRoomFor (by.Tuned tuned) count = count ≤ tuned_room tuned
+
+-- it has taken no sample, and a sink got a text and what is told before any sample: the pilot, where
+-- taps hear a handset
+pub record BeginsBehind (text : List ℕ) (l : Listening) (listener : Listener)
+    (kept : List KeptTap) (old new : Option (List ℕ)) : Type 0 where
+  pub written : Appends old new (text ++ told l [])
+  pub listens : Listens l listener kept []
 
 -- a sink got what is told of these samples beyond what is told of those before
 pub record TellsMore (l : Listening) (before heard : List Sample) (old new : Option (List ℕ)) :

@@ -10,7 +10,7 @@ use Rattle.cell_plan.specs.declared.plan.CellPlan.{CellPlan}
 use Rattle.mobile_core.specs.Events.{events}
 use Rattle.chip_core.specs.declared.assignment.Traffic.{Traffic}
 use Rattle.clean_link.specs.CleanLink.{IsNotDirected, tuning_to}
-use Rattle.cdma_replay.specs.CleanFiles.{IsCleanLink}
+use Rattle.cdma_replay.specs.CleanFiles.{IsCleanLink, cell_energy}
 use Rattle.clean_link.specs.SentEvents.{FollowsSent, signaling_sent}
 use Rattle.cdma_replay.specs.Make.{made_file}
 
@@ -27,7 +27,8 @@ IsCleanWhenMade =
     (width : Width) (script : List ℕ) (plan : CellPlan) (span paging : ℕ)
     (traffic : Option Traffic) → plan_named width script ≡ Ok plan →
     best_phase (take span (made_samples plan)) ≡ phase_at plan plan.link.start →
-    All IsNotDirected (events (tuning_to plan paging traffic) (made_samples plan)) →
+    All IsNotDirected
+    (events (tuning_to plan (cell_energy span plan) paging traffic) (made_samples plan)) →
     IsCleanLink width script plan span 1 paging traffic (header_of width plan) (made_samples plan)
 
 -- and so it is where that channel is one of the cell's, each of whose frames is distinct, and none of

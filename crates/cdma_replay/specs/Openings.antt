@@ -8,7 +8,7 @@ use Rattle.pilot_search.specs.declared.sweeping.Best.{Best}
 use Rattle.mobile_core.specs.declared.event.Event.{Event}
 use Rattle.mobile_core.specs.declared.event.Event.TheVariants as told
 use Rattle.event_tap.specs.EventLines.{event_line}
-use Rattle.event_tap.specs.Taps.{KeptTap, heard_text, taps_behind}
+use Rattle.event_tap.specs.Taps.{KeptTap}
 use Rattle.tuned_listener.specs.TunedTexts.{IsLawfulTuned}
 use Rattle.cdma_replay.specs.Hearing.{ByFrames, ByTaps, IsLawfulReceiver, Listening, Nobody}
 use Rattle.cdma_replay.specs.Hearing.{first_text, listening, tuning_for, waiting}
@@ -31,13 +31,13 @@ IsLawfulPurpose (Survey base width top) = IsBase base × IsWidth width × IsTop 
 abbrev pub IsBest : List Sample → Best → Type 0
 IsBest first best = IsBestIn first 0 32768 best.phase best.energy
 
--- who hears the file, where these taps are kept behind what was found
+-- who hears the file: these taps, where a handset follows the pilot that was found
 abbrev pub listening_in : List KeptTap → Shown → Header → List Sample → Listening
-listening_in kept (Followed best receiver) header first =
-    ByTaps (tuning_for header first receiver) kept
-listening_in kept (TunedTo best fingers channel text) header first =
+listening_in taps (Followed best receiver) header first =
+    ByTaps (tuning_for header first receiver) taps
+listening_in taps (TunedTo best fingers channel text) header first =
     ByFrames (tuning_for header first (waiting fingers)) channel text
-listening_in kept shown header first = Nobody
+listening_in taps shown header first = Nobody
 
 -- a handset can follow it, where one does
 abbrev pub IsFollowable : List Sample → Shown → Type 0
@@ -54,21 +54,16 @@ IsTellable shown = Unit {0}
 abbrev pub pilot_event : Best → Event
 pilot_event best = told.Pilot best.phase best.energy
 
--- the text that tells of it, by these taps
-abbrev pub shown_text : List KeptTap → Shown → List ℕ
-shown_text taps (Found best) = event_line (pilot_event best)
-shown_text taps (Followed best receiver) = heard_text taps (pilot_event best)
-shown_text taps (TunedTo best fingers channel text) = []
-shown_text taps (Ranks ranks top) = ranks_text (take top ranks)
-
--- the taps that are kept behind it
-abbrev pub taps_after : List KeptTap → Shown → List KeptTap
-taps_after taps (Followed best receiver) = taps_behind taps (pilot_event best)
-taps_after taps shown = taps
+-- the text that tells of it, where nobody hears the file
+abbrev pub shown_text : Shown → List ℕ
+shown_text (Found best) = event_line (pilot_event best)
+shown_text (Followed best receiver) = []
+shown_text (TunedTo best fingers channel text) = []
+shown_text (Ranks ranks top) = ranks_text (take top ranks)
 
 -- what a purpose wants of the first samples was found in them: what is told of it is their text, and
--- who hears the file behind it is who hears it for this purpose
+-- who hears the file is who hears it for this purpose
 pub record Shows (purpose : Purpose) (first : List Sample) (shown : Shown) : Type 0 where
-  pub text : (taps : List KeptTap) → shown_text taps shown ≡ first_text taps purpose first
+  pub text : shown_text shown ≡ first_text purpose first
   pub hears : (taps : List KeptTap) (header : Header) →
-      listening_in (taps_after taps shown) shown header first ≡ listening taps purpose header first
+      listening_in taps shown header first ≡ listening taps purpose header first

@@ -1,6 +1,6 @@
 -- Laws of replies: each input is owed one, the number of workers changes none, and what each command
 -- owes of a good input.
-use Rattle.std.specs.Prelude.{◌≡◌, ℕ, ◌<◌, ◌≤◌, List, ◌∷◌, length, take, All, Option, Ok}
+use Rattle.std.specs.Prelude.{◌≡◌, ℕ, ◌<◌, ◌≤◌, List, length, take, All, Option, Ok}
 use Rattle.std.specs.Prelude.{is_some}
 use Rattle.chip_core.specs.declared.sample.Sample.{Sample}
 use Rattle.chip_core.specs.declared.width.Width.{Width}
@@ -65,19 +65,17 @@ FindOwesThePilot =
     IsReply forms (jobs.Find span workers) bytes
     (Ok (event_line (Pilot phase (energy (take span samples) phase)), Done))
 
--- what the taps make of the pilot and of all events that a handset hears
+-- what the taps make of all events of a handset, the pilot first
 abbrev pub FollowOwesTheEvents : Type 0
 FollowOwesTheEvents =
     (forms : List ℕ) (span workers : ℕ) (receiver : Receiver) (limits bytes : List ℕ)
     (header : Header) (samples : List Sample) →
     IsSampleFile bytes header samples → span ≤ length samples →
-    let phase = best_phase (take span samples) in
     let t = tuning_for header (take span samples) receiver in
     IsReply forms
     (jobs.Follow span workers receiver.fingers receiver.paging receiver.traffic limits) bytes
     (Ok (
-      run_text (kept_by limits forms)
-          (Pilot phase (energy (take span samples) phase) ∷ events t samples),
+      run_text (kept_by limits forms) (events t samples),
       end_when (is_some (mark t samples (length samples))),
     ))
 

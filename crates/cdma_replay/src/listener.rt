@@ -1,13 +1,13 @@
 //! Who hears the samples of a file.
 
-ghost use Rattle.std.specs.Prelude.{◌≡◌, ◌≤◌, ◌+◌, ◌++◌, List, length, All, OnOk, OnErr};
+ghost use Rattle.std.specs.Prelude.{◌≡◌, ◌≤◌, ◌+◌, ◌++◌, List, [], length, All, OnOk, OnErr};
 ghost use Rattle.chip_core.specs.declared.sample.Sample.{Sample as TheSample};
-ghost use Rattle.cdma_io.specs.Outside.{HasCause};
+ghost use Rattle.cdma_io.specs.Outside.{AppendsPrefix, HasCause};
 ghost use Rattle.mobile_core.specs.Events.{events};
 ghost use Rattle.mobile_core.specs.Standing.{StandsFor, has_room};
 ghost use Rattle.mobile_core.specs.Tuning.{Tuning};
 ghost use Rattle.event_tap.specs.Taps.{IsKept, KeptTap, run_taps};
-ghost use Rattle.cdma_replay.specs.Hearing.{ByTaps, Tells, TellsPart};
+ghost use Rattle.cdma_replay.specs.Hearing.{BeginsBehind, ByTaps, Tells, TellsPart, told};
 
 use cdma_io::{Failed, Sink};
 use chip_core::Sample;
@@ -27,12 +27,39 @@ pub enum Listener {
 }
 
 impl Listener {
-    ghost use Rattle.std.specs.Prelude.{◌≡◌, ◌-◌, ◌++◌, ℕ, List, length, All, OnOk, OnErr};
+    ghost use Rattle.std.specs.Prelude.{◌≡◌, ◌-◌, ◌++◌, ℕ, List, [], length, All, OnOk, OnErr};
     ghost use Rattle.chip_core.specs.declared.sample.Sample.{Sample as TheSample};
-    ghost use Rattle.cdma_io.specs.Outside.{HasCause};
+    ghost use Rattle.cdma_io.specs.Outside.{AppendsPrefix, HasCause};
     ghost use Rattle.event_tap.specs.Taps.{IsKept, KeptTap};
-    ghost use Rattle.cdma_replay.specs.Hearing.{HasRoom, HasRoomFor, Listening, Listens, Tells};
-    ghost use Rattle.cdma_replay.specs.Hearing.{TellsPart, is_told};
+    ghost use Rattle.cdma_replay.specs.Hearing.{BeginsBehind, HasRoom, HasRoomFor, IsFresh};
+    ghost use Rattle.cdma_replay.specs.Hearing.{Listening, Listens, Tells, TellsPart, is_told, told};
+
+    /// Tells what is told before any sample is taken: the taps hear the pilot of a handset.
+    ///
+    /// [`Failed`] comes only where the sink's count of faults rose, and the sink got then a beginning
+    /// of the text.
+    pub fn begin<T: KeepsTaps, K: Sink>(
+        &mut self,
+        taps: &mut T,
+        sink: &mut K,
+    ) -> Result<(), Failed>
+        requires { All IsKept (T.kept taps.old) }
+        ensures room { (left : ℕ) → HasRoom self.old left → HasRoom self.new left }
+        ensures kept { All IsKept (T.kept taps.new) }
+        ensures ok { OnOk result ((l : Listening) → IsFresh l self.old (T.kept taps.old) →
+            BeginsBehind [] l self.new (T.kept taps.new)
+            (K.written sink.old) (K.written sink.new)) }
+        ensures err { OnErr result ((l : Listening) (samples : List TheSample) →
+            IsFresh l self.old (T.kept taps.old) →
+            AppendsPrefix (K.written sink.old) (K.written sink.new) (told l samples)) }
+        ensures cause { HasCause (K.faults sink.old) (K.faults sink.new) result }
+    {
+        match self {
+            Listener::Nobody => Ok(()),
+            Listener::Handset(mobile) => tell_pilot(mobile, taps, sink),
+            Listener::Tuned(_) => Ok(()),
+        }
+    }
 
     /// Takes samples, and tells what is heard in them.
     ///
@@ -77,6 +104,30 @@ impl Listener {
             Listener::Tuned(tuned) => tuned.is_told(),
         }
     }
+}
+
+/// Lets the taps hear the first event of a handset, which is the pilot.
+fn tell_pilot<T: KeepsTaps, K: Sink>(
+    mobile: &mut Mobile,
+    taps: &mut T,
+    sink: &mut K,
+) -> Result<(), Failed>
+    requires { All IsKept (T.kept taps.old) }
+    ensures room { has_room mobile.new ≡ has_room mobile.old }
+    ensures kept { All IsKept (T.kept taps.new) }
+    ensures ok { OnOk result ((t : Tuning) → StandsFor t mobile.old [] [] →
+        BeginsBehind [] (ByTaps t (T.kept taps.old)) (Listener.Handset mobile.new)
+        (T.kept taps.new) (K.written sink.old) (K.written sink.new)) }
+    ensures err { OnErr result ((t : Tuning) (samples : List TheSample) →
+        StandsFor t mobile.old [] [] → AppendsPrefix (K.written sink.old) (K.written sink.new)
+        (told (ByTaps t (T.kept taps.old)) samples)) }
+    ensures cause { HasCause (K.faults sink.old) (K.faults sink.new) result }
+{
+    let step = mobile.step(&[]);
+    let Some(event) = step.event else {
+        return Ok(());
+    };
+    taps.tell(&event, sink)
 }
 
 /// Gives samples to a handset, and lets the taps hear each event.

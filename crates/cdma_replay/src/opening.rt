@@ -1,19 +1,19 @@
 //! What the first samples of a file show, and how it is told.
 
 ghost use Rattle.chip_core.specs.declared.sample.Sample.{Sample as TheSample};
-ghost use Rattle.std.specs.Prelude.{◌≡◌, ◌≤◌, List, [], All, IfOk, OnErr, OnOk, length};
-ghost use Rattle.std.specs.Io.KnownBytes.{Appends};
+ghost use Rattle.std.specs.Prelude.{◌≡◌, ◌≤◌, ◌++◌, ℕ, List, [], All, IfOk, OnErr, OnOk, length};
 ghost use Rattle.cdma_io.specs.Outside.{AppendsPrefix, HasCause};
 ghost use Rattle.cdma_io.specs.SampleFile.{IsLawfulHeader};
+ghost use Rattle.cdma_io.specs.declared.header.Header.{Header as TheHeader};
 ghost use Rattle.cdma_words.specs.Words.{IsFingers, IsWorkers};
 ghost use Rattle.event_tap.specs.Taps.{IsKept, KeptTap};
 ghost use Rattle.tuned_listener.specs.TunedListening.{ListensTuned, tuned_room};
 ghost use Rattle.tuned_listener.specs.TunedTexts.{IsLawfulTuned};
-ghost use Rattle.cdma_replay.specs.Hearing.{AreNearTo, AreReady, HasRoom, Listens, tuning_for};
-ghost use Rattle.cdma_replay.specs.Hearing.{waiting};
+ghost use Rattle.cdma_replay.specs.Hearing.{AreNearTo, AreReady, BeginsBehind, HasRoom, IsFresh};
+ghost use Rattle.cdma_replay.specs.Hearing.{told, tuning_for, waiting};
 ghost use Rattle.cdma_replay.specs.Openings.{IsBest};
 ghost use Rattle.cdma_replay.specs.Openings.{IsFollowable, IsLawfulPurpose, IsTellable, Shows};
-ghost use Rattle.cdma_replay.specs.Openings.{listening_in, pilot_event, shown_text, taps_after};
+ghost use Rattle.cdma_replay.specs.Openings.{listening_in, pilot_event, shown_text};
 
 use crate::handset::{Receiver, handset};
 use crate::listener::Listener;
@@ -150,8 +150,8 @@ pub fn listener_for(
     requires few { length first.now ≤ 32768 }
     requires header { IsLawfulHeader header }
     requires shown { IsFollowable first.now shown.now }
-    ensures listens { IfOk result (λ listener. (kept : List KeptTap) →
-        Listens (listening_in kept shown.now header first.now) listener kept []) }
+    ensures fresh { IfOk result (λ listener. (taps : List KeptTap) →
+        IsFresh (listening_in taps shown.now header first.now) listener taps) }
     ensures room { IfOk result (λ listener. HasRoom listener header.count) }
 {
     match shown {
@@ -174,7 +174,7 @@ pub fn listener_for(
     }
 }
 
-/// The event of the pilot that was found.
+/// The event of the pilot that was found, which no handset tells.
 fn event_of(best: &Best) -> Event
     ensures { result ≡ pilot_event best.now }
 {
@@ -184,27 +184,34 @@ fn event_of(best: &Best) -> Event
     }
 }
 
-/// Tells what was found: the taps hear the pilot that a handset follows; and else its line is
-/// written, or those of the ranks.
+/// Tells what is told before any sample is heard: the pilot's line, or those of the ranks; and where a
+/// handset hears the file, the taps hear the pilot of it.
 pub fn tell_first<T: KeepsTaps, K: Sink>(
     shown: &Shown,
+    listener: &mut Listener,
     taps: &mut T,
     sink: &mut K,
 ) -> Result<(), Failed>
     requires shown { IsTellable shown.now }
     requires kept { All IsKept (T.kept taps.old) }
-    ensures ok { OnOk result (Appends (K.written sink.old) (K.written sink.new)
-        (shown_text (T.kept taps.old) shown.now)) }
-    ensures behind { OnOk result (T.kept taps.new ≡ taps_after (T.kept taps.old) shown.now) }
+    ensures room { (left : ℕ) → HasRoom listener.old left → HasRoom listener.new left }
     ensures kept { All IsKept (T.kept taps.new) }
-    ensures err { OnErr result (AppendsPrefix (K.written sink.old) (K.written sink.new)
-        (shown_text (T.kept taps.old) shown.now)) }
+    ensures ok { OnOk result ((header : TheHeader) (first : List TheSample) →
+        let l = listening_in (T.kept taps.old) shown.now header first in
+        IsFresh l listener.old (T.kept taps.old) →
+        BeginsBehind (shown_text shown.now) l listener.new (T.kept taps.new)
+        (K.written sink.old) (K.written sink.new)) }
+    ensures err { OnErr result ((header : TheHeader) (first samples : List TheSample) →
+        let l = listening_in (T.kept taps.old) shown.now header first in
+        IsFresh l listener.old (T.kept taps.old) →
+        AppendsPrefix (K.written sink.old) (K.written sink.new)
+        (shown_text shown.now ++ told l samples)) }
     ensures cause { HasCause (K.faults sink.old) (K.faults sink.new) result }
 {
     match shown {
         Shown::Found(best) => write_event(&event_of(best), sink),
-        Shown::Followed { best, .. } => taps.tell(&event_of(best), sink),
-        Shown::TunedTo { .. } => Ok(()),
+        Shown::Followed { .. } => listener.begin(taps, sink),
+        Shown::TunedTo { .. } => listener.begin(taps, sink),
         Shown::Ranks { ranks, top } => write_ranks(ranks, *top, sink),
     }
 }

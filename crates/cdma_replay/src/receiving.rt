@@ -217,7 +217,7 @@ fn receive_file<R: Threads + Sync, S: Source, K: Sink, T: KeepsTaps, G: Gate + S
     let shown = find_first(rt, alloc, purpose, codes, span, workers, gate)?;
     let mut listener = listener_for(alloc, reader.header(), codes, span, &shown)?;
     let mut taps = taps;
-    match tell_first(&shown, &mut taps, sink) {
+    match tell_first(&shown, &mut listener, &mut taps, sink) {
         Ok(()) => {}
         Err(Failed) => return Err(Status::WriteFault),
     }
@@ -230,8 +230,8 @@ fn receive_file<R: Threads + Sync, S: Source, K: Sink, T: KeepsTaps, G: Gate + S
 }
 
 /// Tells what is wanted of the file's first samples, and then reads on to the end of the file; where
-/// the purpose has a listener, it hears all samples. Where that is a handset, the taps hear the pilot
-/// and each event.
+/// the purpose has a listener, it hears all samples. Where that is a handset, the taps hear each of its
+/// events, the pilot first.
 ///
 /// All memory is taken before the first line is written.
 pub fn receive<R: Threads + Sync, S: Source, K: Sink, T: KeepsTaps, G: Gate + Sync>(

@@ -52,12 +52,13 @@ IsNotDirected (Sets n time active candidate report) = Unit {0}
 
 -- ---- the link
 
--- a handset with one finger, which lies on the cell's path, that follows a paging channel, and a
--- traffic channel or none
-abbrev pub tuning_to : CellPlan → ℕ → Option Traffic → Tuning
-tuning_to plan paging traffic = record {
+-- a handset with one finger, which lies on the cell's path, where the search found this energy, that
+-- follows a paging channel, and a traffic channel or none
+abbrev pub tuning_to : CellPlan → ℕ → ℕ → Option Traffic → Tuning
+tuning_to plan energy paging traffic = record {
   count = plan.link.samples;
   phase = phase_at plan plan.link.start;
+  energy = energy;
   deltas = pos 0 ∷ [];
   check30 = plan.cell.check30;
   check16 = plan.cell.check16;

@@ -7,6 +7,7 @@ use Rattle.chip_core.specs.declared.width.Width.{Width}
 use Rattle.sync_message.specs.declared.fields.SyncFields.{SyncFields}
 use Rattle.cell_plan.specs.Sampled.{made_samples}
 use Rattle.cell_plan.specs.Sendings.{told_superframes}
+use Rattle.cell_plan.specs.Transmitter.{phase_at}
 use Rattle.cell_plan.specs.declared.plan.CellPlan.{CellPlan}
 use Rattle.cell_plan.specs.declared.plan.SyncPlan.{SyncPlan}
 use Rattle.cell_plan.specs.declared.plan.TrafficPlan.{TrafficPlan}
@@ -14,7 +15,7 @@ use Rattle.mobile_core.specs.Events.{events, sets_events_at}
 use Rattle.mobile_core.specs.Given.{at_of}
 use Rattle.mobile_core.specs.Tuning.{Tuning}
 use Rattle.mobile_core.specs.declared.event.Event.{Event}
-use Rattle.mobile_core.specs.declared.event.Event.TheVariants.{Paging}
+use Rattle.mobile_core.specs.declared.event.Event.TheVariants.{Paging, Pilot}
 use Rattle.chip_core.specs.declared.assignment.Traffic.{Traffic}
 use Rattle.clean_link.specs.CleanLink.{sync_sent, IsNotDirected, IsOnPath}
 use Rattle.cell_plan.specs.Stated.{IsReceivable}
@@ -96,9 +97,9 @@ FollowsSent plan (Some traffic) = (p : TrafficPlan) × IsFollowed plan traffic p
 
 -- Those of the pilot sets are those of the handset's definition, at each number of samples: the
 -- strengths that it measures are as the cell's samples show them.
-unfoldable pub sets_heard : CellPlan → ℕ → Option Traffic → List Event
-sets_heard plan channel followed =
-    flat_map (sets_events_at (tuning_to plan channel followed) (made_samples plan))
+unfoldable pub sets_heard : CellPlan → ℕ → ℕ → Option Traffic → List Event
+sets_heard plan energy channel followed =
+    flat_map (sets_events_at (tuning_to plan energy channel followed) (made_samples plan))
     (places (plan.link.samples + 1))
 
 -- ---- all channels
@@ -112,15 +113,17 @@ abbrev pub by_places : ℕ → List Event → List Event → List Event
 by_places count one other =
     flat_map (λ n. filter (is_at n) one ++ filter (is_at n) other) (places (count + 1))
 
--- the whole sendings, the whole pages of a paging channel, the frames of the traffic channel that
--- is followed with the messages that they complete, and the events of its pilot sets
-unfoldable pub sent_events : CellPlan → ℕ → Option Traffic → List Event
-sent_events plan channel followed =
+-- The pilot at the cell's phase, where the search found this energy; then the whole sendings, the
+-- whole pages of a paging channel, the frames of the traffic channel that is followed with the
+-- messages that they complete, and the events of its pilot sets.
+unfoldable pub sent_events : CellPlan → ℕ → ℕ → Option Traffic → List Event
+sent_events plan energy channel followed =
     let count = plan.link.samples in
-    by_places count (sync_sent plan)
+    Pilot (phase_at plan plan.link.start) energy
+    ∷ by_places count (sync_sent plan)
     (by_places count (paging_sent plan channel)
     (by_places count (traffic_sent plan followed)
-    (by_places count (signaling_sent plan followed) (sets_heard plan channel followed))))
+    (by_places count (signaling_sent plan followed) (sets_heard plan energy channel followed))))
 
 -- ---- the laws
 
@@ -137,4 +140,4 @@ abbrev pub WholeMessagesComeBack : Type 0
 WholeMessagesComeBack = (width : Width) (plan : CellPlan) (t : Tuning) →
     IsReceivable width plan → IsTunedTo plan t → FollowsSent plan t.traffic →
     All IsNotDirected (events t (made_samples plan)) →
-    events t (made_samples plan) ≡ sent_events plan t.paging t.traffic
+    events t (made_samples plan) ≡ sent_events plan t.energy t.paging t.traffic

@@ -14,6 +14,7 @@ tuned : List ℤ → Tuning
 tuned deltas = record {
   count = 1228800;
   phase = 64;
+  energy = 0;
   deltas = deltas;
   check30 = Plain;
   check16 = Plain;

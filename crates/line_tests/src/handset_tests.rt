@@ -1,4 +1,4 @@
-//! A handset that hears nothing, and frames of zeros.
+//! A handset that hears nothing behind the pilot, and frames of zeros.
 
 ghost use Rattle.std.specs.Prelude.{◌≡◌, ◌≤◌, IfOk};
 ghost use Rattle.mobile_core.specs.Standing.{has_room};
@@ -6,7 +6,7 @@ ghost use Rattle.mobile_core.specs.Tuners.{samples_left};
 
 use chip_core::{CheckForm, OutOfMemory, Phase, Sample};
 use long_code::State;
-use mobile_core::{Channel, Mark, Mobile, Settings, Step, Traffic, Tuner};
+use mobile_core::{Channel, Event, Mark, Mobile, Settings, Step, Traffic, Tuner};
 use pilot_search::{Best, Near};
 use rake_finger::SampleRing;
 use short_code::Codes;
@@ -32,7 +32,7 @@ fn handset(alloc: Global, codes: Codes, count: u64) -> Result<Mobile, OutOfMemor
     };
     let best = Best {
         phase: Phase::new(64).unwrap(),
-        energy: 0,
+        energy: 25,
     };
     let near = Near {
         count: 2,
@@ -46,6 +46,13 @@ fn hears_nothing_in_zeros(rt: HostRuntime) -> Result<(), Fail> {
     let codes = Codes::new(rt.alloc())?;
     let mut mobile = handset(rt.alloc(), codes, 80_000)?;
     let zeros = [Sample { i: 0, q: 0 }; 40_000];
+    let pilot = Step {
+        taken: 0,
+        event: Some(Event::Pilot {
+            phase: Phase::new(64).unwrap(),
+            energy: 25,
+        }),
+    };
     let none = Step {
         taken: 0,
         event: None,
@@ -54,7 +61,7 @@ fn hears_nothing_in_zeros(rt: HostRuntime) -> Result<(), Fail> {
         taken: 40_000,
         event: None,
     };
-    assert_eq!(rt; mobile.step(&[]), none);
+    assert_eq!(rt; mobile.step(&[]), pilot);
     assert_eq!(rt; mobile.step(&zeros), all);
     assert_eq!(rt; mobile.step(&zeros), all);
     assert_eq!(rt; mobile.step(&[]), none);

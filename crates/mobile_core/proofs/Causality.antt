@@ -9,10 +9,12 @@ use Rattle.std.proofs.lemmas.Bool.{and_from}
 use Rattle.std.proofs.lemmas.List.{take-append-drop, length-take-le}
 use Rattle.chip_core.specs.Bits.{places}
 use Rattle.chip_core.specs.declared.sample.Sample.{Sample}
-use Rattle.mobile_core.specs.Events.{events_at, events_within}
+use Rattle.mobile_core.specs.Events.{events_at, events_within, heard_within}
 use Rattle.mobile_core.specs.Marks.{mark}
 use Rattle.mobile_core.specs.Near.{is_near, all_near, has_reference, AreNear, IsTuned, low_of}
 use Rattle.mobile_core.specs.Tuning.{Tuning, fingers_of, sync_stream}
+use Rattle.mobile_core.specs.declared.event.Event.{Event}
+use Rattle.mobile_core.specs.declared.event.Event.TheVariants.{Pilot}
 use Rattle.mobile_core.proofs.EventsGrown.{events_sooner}
 use Rattle.mobile_core.proofs.FingerTimes.{timed_of}
 use Rattle.mobile_core.proofs.Growth.{IsSyncTimed}
@@ -51,10 +53,10 @@ module _ (t : Tuning) (is : IsTuned t) where
   timed : IsSyncTimed t (low_of t)
   timed = timed_of t (tuned_near t is)
 
-  events_of_first : (samples : List Sample) (n : ℕ) → n ≤ length samples →
-      events_within t samples n ≡ events_within t (take n samples) n
-  unfolding events_within
-  events_of_first samples n h =
+  heard_of_first : (samples : List Sample) (n : ℕ) → n ≤ length samples →
+      heard_within t samples n ≡ heard_within t (take n samples) n
+  unfolding heard_within
+  heard_of_first samples n h =
       let first = take n samples in
       let rest = drop n samples in
       let long : length first ≡ n = length-take-le n samples h in
@@ -75,9 +77,10 @@ module _ (t : Tuning) (one other : List Sample) (n : ℕ) (is : IsTuned t) where
   pub same_events : n ≤ length one → n ≤ length other → take n one ≡ take n other →
       events_within t one n ≡ events_within t other n
   same_events few few' same =
-      events_of_first t is one n few
-      ∙ ap (λ s. events_within t s n) same
-      ∙ sym (events_of_first t is other n few')
+      ap (λ (heard : List Event). Pilot t.phase t.energy ∷ heard)
+      (heard_of_first t is one n few
+      ∙ ap (λ s. heard_within t s n) same
+      ∙ sym (heard_of_first t is other n few'))
 
   pub same_mark : n ≤ length one → n ≤ length other → take n one ≡ take n other →
       mark t one n ≡ mark t other n

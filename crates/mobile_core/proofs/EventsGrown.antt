@@ -6,7 +6,7 @@ use Rattle.std.specs.Prelude.{if◌then◌else◌}
 use Rattle.std.proofs.lemmas.Bool.{cases_lt}
 use Rattle.std.proofs.lemmas.List.{append_assoc}
 use Rattle.chip_core.specs.declared.sample.Sample.{Sample}
-use Rattle.mobile_core.specs.Events.{events, events_at, events_within, frame_events_at}
+use Rattle.mobile_core.specs.Events.{events, events_at, frame_events_at, heard_within}
 use Rattle.mobile_core.specs.Events.{message_events_at, paging_events_at, sets_events_at}
 use Rattle.mobile_core.specs.FollowedChannels.{HearsFollowed, IsFollowedDue, IsSoundFollowed}
 use Rattle.mobile_core.specs.FollowedChannels.{followed_events_left}
@@ -165,7 +165,7 @@ module _ (t : Tuning) (low : ℕ) (timed : IsSyncTimed t low)
     pub events_grown : events t (xs ++ ys)
         ≡ events t xs ++ (sync_events_left t (xs ++ ys) next
         ++ followed_events_left t (mark_before t xs next) (xs ++ ys) f)
-    unfolding events_within
+    unfolding heard_within
     events_grown =
         let d = length ys - 1 in
         let long : length (xs ++ ys) ≡ length xs + suc d =

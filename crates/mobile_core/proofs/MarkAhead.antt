@@ -11,7 +11,7 @@ use Rattle.std.proofs.lemmas.List.Folds.{list_all-append, list_any-append}
 use Rattle.chip_core.proofs.Ranges.{flat_map-places-more}
 use Rattle.chip_core.specs.Bits.{places}
 use Rattle.chip_core.specs.declared.sample.Sample.{Sample}
-use Rattle.mobile_core.specs.Events.{events_at, events_within, frame_events_at, message_events_at}
+use Rattle.mobile_core.specs.Events.{events_at, frame_events_at, heard_within, message_events_at}
 use Rattle.mobile_core.specs.Events.{paging_events_at, sets_events_at}
 use Rattle.mobile_core.specs.Given.{at_of}
 use Rattle.mobile_core.specs.Marks.{first_of, frames_open, mark, marks_at, sets_mark}
@@ -21,6 +21,7 @@ use Rattle.mobile_core.specs.Streams.{frame_start}
 use Rattle.mobile_core.specs.SyncEvents.{events_of, heard_at, sync_events_at}
 use Rattle.mobile_core.specs.Tuning.{Tuning, sync_bound, sync_stream}
 use Rattle.mobile_core.specs.declared.event.Event.{Event}
+use Rattle.mobile_core.specs.declared.event.Event.TheVariants.{Pilot}
 use Rattle.mobile_core.specs.declared.mark.Mark.{Mark}
 use Rattle.mobile_core.proofs.ClockSteps.{before_next}
 use Rattle.mobile_core.proofs.EventPlaces.{AreAt, all_at}
@@ -171,11 +172,11 @@ module _ (t : Tuning) (samples : List Sample) where
   unfolding places
   ends_before n = all_before (events_at t samples) n 0 n (all_at t samples) (omega arith)
 
-  events_split : events_within t samples (length samples)
+  heard_split : heard_within t samples (length samples)
       ≡ flat_map (events_at t samples) (places (length samples))
       ++ events_at t samples (length samples)
-  unfolding events_within
-  events_split = flat_map-places-more (events_at t samples) (length samples)
+  unfolding heard_within
+  heard_split = flat_map-places-more (events_at t samples) (length samples)
 
 module _ {t : Tuning} {p : Parts} {heard : List Sample} (given : List Event) (event : Event)
     (st : Stands t p heard (given ++ event ∷ [])) (near : AreNear (sync_stream t).fingers) where
@@ -197,12 +198,18 @@ module _ {t : Tuning} {p : Parts} {heard : List Sample} (given : List Event) (ev
             let left = events_left t p heard in
             let late : is_before n event ≡ false =
             lt-leb (at_of event + 1) n (omega (arith, here)) in
-            let same : given ++ event ∷ left
-            ≡ flat_map (events_at t heard) (places n) ++ events_at t heard n =
-            sym (append_assoc given (event ∷ []) left) ∙ st.told ∙ events_split t heard in
+            let pilot = Pilot t.phase t.energy in
+            let before = pilot ∷ flat_map (events_at t heard) (places n) in
+            let same : given ++ event ∷ left ≡ before ++ events_at t heard n =
+            sym (append_assoc given (event ∷ []) left)
+            ∙ st.told
+            ∙ ap (λ (es : List Event). pilot ∷ es) (heard_split t heard) in
+            let early : list_all (is_before n) before ≡ true =
+            and_from (nat_le 1 n) (list_all (is_before n) (flat_map (events_at t heard) (places n)))
+            (le-leb 1 n (omega (arith, less))) (ends_before t heard n) in
             let found : list_any sets_mark given ≡ true =
-            first_part (is_before n) sets_mark given (flat_map (events_at t heard) (places n))
-            (events_at t heard n) left event late (ends_before t heard n)
+            first_part (is_before n) sets_mark given before
+            (events_at t heard n) left event late early
             (among_before t heard k clock.low is.timed set.inside m set.sets n less) same in
             let both : true ≡ false = sym found ∙ none in
             absurd (cc)

@@ -2,21 +2,22 @@
 use Rattle.std.proofs.Common.{◌≡◌, ℕ, ◌+◌, ◌<◌, ◌≤◌, false, ◌||◌, List, [], ◌∷◌, ◌++◌, length}
 use Rattle.std.proofs.Common.{length-append, refl, sym, ap, subst, ◌∙◌, arith, inl, inr, Option}
 use Rattle.std.proofs.Common.{Some, None, Bool, true}
-use Rattle.std.specs.Prelude.{is_some}
+use Rattle.std.specs.Prelude.{IsTrue, is_some}
 use Rattle.std.specs.List.{flat_map, list_any}
-use Rattle.std.specs.Option.{option_or}
+use Rattle.std.specs.Option.{ForSome, option_or}
 use Rattle.std.proofs.lemmas.Bool.{both_ways}
 use Rattle.std.proofs.lemmas.List.{append-nil, append_assoc}
 use Rattle.std.proofs.lemmas.List.Folds.{list_any-append}
 use Rattle.chip_core.proofs.Places.{places-none}
 use Rattle.chip_core.specs.declared.sample.Sample.{Sample}
+use Rattle.pilot_search.specs.declared.sweeping.Best.{Best}
 use Rattle.rake_finger.specs.Held.{Held, HoldsLast}
 use Rattle.mobile_core.specs.Clocks.{IsDueAt}
-use Rattle.mobile_core.specs.Events.{events_at, events_within, events}
+use Rattle.mobile_core.specs.Events.{events_at, heard_within, events}
 use Rattle.mobile_core.specs.FollowedChannels.{HearsFollowed, IsFollowedDue, IsSoundFollowed}
 use Rattle.mobile_core.specs.FollowedChannels.{WaitFrom, followed_events_left}
 use Rattle.mobile_core.specs.Given.{listed}
-use Rattle.mobile_core.specs.Left.{sync_events_left}
+use Rattle.mobile_core.specs.Left.{pilot_left, sync_events_left}
 use Rattle.mobile_core.specs.Marks.{first_of, mark, mark_before, marks_at, sets_mark}
 use Rattle.mobile_core.specs.Near.{AreNear}
 use Rattle.mobile_core.specs.PagingMonitoring.{SetsMark, paging_events_left}
@@ -29,6 +30,7 @@ use Rattle.mobile_core.specs.Timing.{IsTimed}
 use Rattle.mobile_core.specs.TrafficMonitoring.{traffic_events_left}
 use Rattle.mobile_core.specs.Tuning.{Tuning, sync_stream}
 use Rattle.mobile_core.specs.declared.event.Event.{Event}
+use Rattle.mobile_core.specs.declared.event.Event.TheVariants.{Pilot}
 use Rattle.mobile_core.specs.declared.followed.Followed.{Followed}
 use Rattle.mobile_core.specs.declared.mark.Mark.{Mark}
 use Rattle.mobile_core.specs.declared.sync_receiver.SyncReceiver.{SyncReceiver}
@@ -56,6 +58,16 @@ first_empty : {A : Type 0} (xs ys : List A) → xs ++ ys ≡ [] → xs ≡ []
 first_empty [] ys e = refl
 first_empty (x ∷ xs) ys e = absurd (cc)
 
+second_empty : {A : Type 0} (xs ys : List A) → xs ++ ys ≡ [] → ys ≡ []
+second_empty [] ys e = e
+second_empty (x ∷ xs) ys e = absurd (cc)
+
+-- where the pilot has been told, how many samples were taken doesn't matter
+told_before : {pilot : Option Best} {n : ℕ} → pilot ≡ None → ForSome pilot (λ best. n ≡ 0)
+told_before told best e =
+    let both : None ≡ Some best = sym told ∙ e in
+    absurd (cc)
+
 -- before any sample is taken no mark is set
 unmarked : (t : Tuning) (low : ℕ) → IsTimed t.count (sync_stream t) low → mark t [] 0 ≡ None
 unmarked t low timed =
@@ -75,19 +87,25 @@ unmarked t low timed =
 silent : (t : Tuning) → followed_behind t None [] 0 ≡ []
 silent t = told_unset t t.traffic [] 0
 
-first_moment : (t : Tuning) → events_at t [] 0 ≡ events t []
-unfolding events_within
+-- a pilot that isn't due has been told
+pub was_told : (pilot : Option Best) → ¬ IsTrue (is_some pilot) → pilot ≡ None
+was_told None none = refl
+was_told (Some best) none = absurd (none refl)
+
+first_moment : (t : Tuning) → events_at t [] 0 ≡ heard_within t [] 0
+unfolding heard_within
 first_moment t =
     sym (flat_map-places-more (events_at t []) 0
     ∙ ap (λ ks. flat_map (events_at t []) ks ++ events_at t [] 0) places-none)
 
--- a handset that has taken nothing
+-- a handset that has taken nothing, and given nothing
 pub stands_new : (t : Tuning) (p : Parts) → p.count ≡ t.count → p.check ≡ t.check30 →
+    pilot_left p.pilot ≡ Pilot t.phase t.energy ∷ [] →
     HoldsLast p.ring [] → HearsSync t p.sync [] → HearsFollowed t p.followed None [] →
     p.sync.received.clock.next ≡ p.sync.received.clock.low → p.sync.mark ≡ None →
     (p.followed.paging.receiver ≡ None) × (p.followed.traffic.receiver ≡ None) →
     Stands t p [] []
-stands_new t p count check holds hears follows next unset closed =
+stands_new t p count check untold holds hears follows next unset closed =
     let clock = p.sync.received.clock in
     let s = sync_stream t in
     let timed = hears.receives.clocked.timed in
@@ -105,11 +123,14 @@ stands_new t p count check holds hears follows next unset closed =
     record {
       count_is = count;
       check_is = check;
+      early = λ best e. refl;
       ring = holds;
       sync = hears;
       followed = subst (λ (m : Option Mark). HearsFollowed t p.followed m []) (sym unset) follows;
       noted = ap is_some unset;
-      told = rw (left, pages, frames) (append-nil here ∙ sym all ∙ first_moment t);
+      told = rw (untold, left, pages, frames)
+          (ap (λ (es : List Event). Pilot t.phase t.energy ∷ es)
+          (append-nil here ∙ sym all ∙ first_moment t));
     }
 
 module _ {t : Tuning} {p : Parts} {heard : List Sample} {given : List Event}
@@ -130,37 +151,39 @@ module _ {t : Tuning} {p : Parts} {heard : List Sample} {given : List Event}
       left_none t clock.low is.timed heard clock.next
       (from_next is (length heard + 1) (due_here none) (omega (arith, waits)))
 
-  -- all events have been given where no frame is due
-  pub all_given : IsSoundFollowed p.followed → ¬ IsDueAt p.count p.sync.received.clock →
+  -- all events have been given where the pilot has been told, and no frame is due
+  pub all_given : p.pilot ≡ None → IsSoundFollowed p.followed → ¬ IsDueAt p.count p.sync.received.clock →
       ¬ IsFollowedDue p.count p.followed → length heard < p.sync.received.clock.end →
       WaitFrom (length heard) p.followed → given ≡ events t heard
-  all_given sound none idle waits others_wait =
+  all_given told sound none idle waits others_wait =
+      let gone : pilot_left p.pilot ≡ [] = ap pilot_left told in
       let left = sync_given none waits in
       let others = followed_given st.followed sound (others_due_here idle) others_wait in
-      let all : given ++ ([] ++ []) ≡ events t heard = rw (left, others) at st.told in
+      let all : given ++ ([] ++ ([] ++ [])) ≡ events t heard = rw (gone, left, others) at st.told in
       sym (append-nil given) ∙ all
 
-  module _ (more : List Sample) (near : AreNear (sync_stream t).fingers)
+  module _ (more : List Sample) (told : p.pilot ≡ None) (near : AreNear (sync_stream t).fingers)
       (sound : IsSoundFollowed p.followed) (others_wait : WaitFrom (length heard) p.followed)
       (none : ¬ IsDueAt p.count p.sync.received.clock)
       (idle : ¬ IsFollowedDue p.count p.followed) where
     more_told : 0 < length more → length heard + length more ≤ p.sync.received.clock.end →
         EndFrom (length heard + length more) p.followed →
-        given ++ (sync_events_left t (heard ++ more) p.sync.received.clock.next
-        ++ followed_events_left t p.sync.mark (heard ++ more) p.followed)
+        given ++ (pilot_left p.pilot
+        ++ (sync_events_left t (heard ++ more) p.sync.received.clock.next
+        ++ followed_events_left t p.sync.mark (heard ++ more) p.followed))
         ≡ events t (heard ++ more)
     more_told some most ends =
         let clock = p.sync.received.clock in
         let is = st.sync.receives.clocked in
         let n : ℕ = length heard + length more in
-        let all = all_given sound none idle (omega (arith, most, some)) others_wait in
+        let gone : pilot_left p.pilot ≡ [] = ap pilot_left told in
+        let all = all_given told sound none idle (omega (arith, most, some)) others_wait in
         let behind = subst (λ (m : Option Mark). HearsFollowed t p.followed m heard)
         st.sync.marked st.followed in
         let grown = events_grown t clock.low is.timed near heard more clock.next p.followed some
         (before_next is) (from_next is n (due_here none) most) behind sound
         (others_due_here idle) ends in
-        let sync_left = sync_events_left t (heard ++ more) clock.next in
-        rw (all, st.sync.marked) (sym grown)
+        rw (gone, all, st.sync.marked) (sym grown)
 
     -- more samples, up to the end of the frame that comes next
     stands_some : (ring : Held) → length heard + length more ≤ p.count →
@@ -172,6 +195,7 @@ module _ {t : Tuning} {p : Parts} {heard : List Sample} {given : List Event}
         record {
           count_is = count;
           check_is = st.check_is;
+          early = told_before told;
           ring = holds;
           sync = sync.hears_more st.sync more (due_here none) (omega (arith, within, count)) most;
           followed = followed_more st.followed sound (others_due_here idle) near more some
@@ -188,6 +212,7 @@ module _ {t : Tuning} {p : Parts} {heard : List Sample} {given : List Event}
       rw e (record {
         count_is = st.count_is;
         check_is = st.check_is;
+        early = st.early;
         ring = holds';
         sync = st.sync;
         followed = st.followed;
@@ -195,15 +220,38 @@ module _ {t : Tuning} {p : Parts} {heard : List Sample} {given : List Event}
         told = st.told;
       })
 
-  pub stands_taken : (more : List Sample) (ring : Held) → AreNear (sync_stream t).fingers →
-      IsSoundFollowed p.followed → WaitFrom (length heard) p.followed → ¬ IsDueAt p.count p.sync.received.clock → ¬ IsFollowedDue p.count p.followed →
+  pub stands_taken : (more : List Sample) (ring : Held) → p.pilot ≡ None →
+      AreNear (sync_stream t).fingers → IsSoundFollowed p.followed →
+      WaitFrom (length heard) p.followed → ¬ IsDueAt p.count p.sync.received.clock →
+      ¬ IsFollowedDue p.count p.followed →
       length heard + length more ≤ p.count →
       length heard + length more ≤ p.sync.received.clock.end →
       EndFrom (length heard + length more) p.followed → HoldsLast ring (heard ++ more) →
       Stands t (record p { ring = ring }) (heard ++ more) given
-  stands_taken [] ring near sound waits none idle within most ends holds = stands_none ring holds
-  stands_taken (x ∷ more) ring near sound waits none idle within most ends holds =
-      stands_some (x ∷ more) near sound waits none idle ring within most ends holds (omega arith)
+  stands_taken [] ring told near sound waits none idle within most ends holds =
+      stands_none ring holds
+  stands_taken (x ∷ more) ring told near sound waits none idle within most ends holds =
+      stands_some (x ∷ more) told near sound waits none idle ring within most ends holds (omega arith)
+
+  -- the pilot is told
+  pub stands_told : (best : Best) → p.pilot ≡ Some best →
+      Stands t (record p { pilot = None }) heard (given ++ Pilot best.phase best.energy ∷ [])
+  stands_told best is =
+      let event = Pilot best.phase best.energy in
+      let left = sync_events_left t heard p.sync.received.clock.next
+      ++ followed_events_left t p.sync.mark heard p.followed in
+      record {
+        count_is = st.count_is;
+        check_is = st.check_is;
+        early = told_before refl;
+        ring = st.ring;
+        sync = st.sync;
+        followed = st.followed;
+        noted = st.noted
+            ∙ sym (list_any-append sets_mark given (event ∷ [])
+            ∙ or-false (list_any sets_mark given));
+        told = append_assoc given (event ∷ []) left ∙ rw is at st.told;
+      }
 
   -- soft values of frames have come
   pub stands_come : (after : SyncReceiver) (followed : Followed) → HearsSync t after heard →
@@ -215,6 +263,7 @@ module _ {t : Tuning} {p : Parts} {heard : List Sample} {given : List Event}
   stands_come after followed hears next set follows left = record {
     count_is = st.count_is;
     check_is = st.check_is;
+    early = st.early;
     ring = st.ring;
     sync = hears;
     followed = subst (λ (m : Option Mark). HearsFollowed t followed m heard) (sym set) follows;
@@ -247,51 +296,56 @@ module _ {t : Tuning} {p : Parts} {heard : List Sample} {given : List Event}
 
   -- the sync channel's frame that is due has been heard
   pub stands_heard : (after : SyncReceiver) (followed : Followed) (event : Option Event) →
+      p.pilot ≡ None →
       HearsNext t heard p.sync after event → HearsFollowed t followed after.mark heard →
       followed_events_left t after.mark heard followed
       ≡ followed_events_left t p.sync.mark heard p.followed →
       Stands t (record p { sync = after; followed = followed }) heard (given ++ listed event)
-  stands_heard after followed event next follows left =
+  stands_heard after followed event untold next follows left =
+      let gone : pilot_left p.pilot ≡ [] = ap pilot_left untold in
       let later = sync_events_left t heard after.received.clock.next in
       let others = followed_events_left t p.sync.mark heard p.followed in
       record {
         count_is = st.count_is;
         check_is = st.check_is;
+        early = st.early;
         ring = st.ring;
         sync = next.hears;
         followed = follows;
         noted = next.noted
             ∙ ap (λ b. b || list_any sets_mark (listed event)) st.noted
             ∙ sym (list_any-append sets_mark given (listed event));
-        told = ap (λ (es : List Event). (given ++ listed event) ++ (later ++ es)) left
+        told = rw gone (ap (λ (es : List Event). (given ++ listed event) ++ (later ++ es)) left
             ∙ append_assoc given (listed event) (later ++ others)
             ∙ ap (λ (es : List Event). given ++ es)
             (sym (append_assoc (listed event) later others)
             ∙ ap (λ (es : List Event). es ++ others) next.left)
-            ∙ st.told;
+            ∙ rw gone at st.told);
       }
 
   -- what is due of the other channels has been heard: a bit, or a frame
-  pub stands_followed : (followed : Followed) (event : Option Event) →
+  pub stands_followed : (followed : Followed) (event : Option Event) → p.pilot ≡ None →
       ¬ IsDueAt p.count p.sync.received.clock → length heard < p.sync.received.clock.end →
       list_any sets_mark (listed event) ≡ false → HearsFollowed t followed p.sync.mark heard →
       listed event ++ followed_events_left t p.sync.mark heard followed
       ≡ followed_events_left t p.sync.mark heard p.followed →
       Stands t (record p { followed = followed }) heard (given ++ listed event)
-  stands_followed followed event none waits unset follows left =
+  stands_followed followed event untold none waits unset follows left =
+      let gone : pilot_left p.pilot ≡ [] = ap pilot_left untold in
       let quiet = sync_given none waits in
       let others = followed_events_left t p.sync.mark heard followed in
       record {
         count_is = st.count_is;
         check_is = st.check_is;
+        early = st.early;
         ring = st.ring;
         sync = st.sync;
         followed = follows;
         noted = st.noted ∙ sym (list_any-append sets_mark given (listed event)
             ∙ rw unset (or-false (list_any sets_mark given)));
-        told = rw quiet (append_assoc given (listed event) others
+        told = rw (gone, quiet) (append_assoc given (listed event) others
             ∙ ap (λ (es : List Event). given ++ es) left
-            ∙ rw quiet at st.told);
+            ∙ rw (gone, quiet) at st.told);
       }
 
 -- where all events have been given, the mark is that of all samples
@@ -301,5 +355,6 @@ pub marked_all : (t : Tuning) (p : Parts) (heard : List Sample) →
 marked_all t p heard st waits =
     let left = sync_events_left t heard p.sync.received.clock.next in
     let others = followed_events_left t p.sync.mark heard p.followed in
+    let none = append_none (events t heard) (pilot_left p.pilot ++ (left ++ others)) st.told in
     sync.marked_all t p.sync heard st.sync
-    (first_empty left others (append_none (events t heard) (left ++ others) st.told)) waits
+    (first_empty left others (second_empty (pilot_left p.pilot) (left ++ others) none)) waits

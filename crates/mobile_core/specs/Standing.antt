@@ -1,14 +1,16 @@
 -- What a handset stands for, and what a step does.
 use Rattle.std.specs.Prelude.{◌≡◌, ◌⊎◌, ℕ, ◌+◌, ◌-◌, ◌^◌, ◌≤◌, List, ◌++◌, length, take, is_some}
-use Rattle.std.specs.Prelude.{None, IfSome}
+use Rattle.std.specs.Prelude.{None, Option, IfSome, IsTrue}
 use Rattle.std.specs.List.{list_any}
+use Rattle.std.specs.Option.{ForSome}
 use Rattle.chip_core.specs.declared.check_form.CheckForm.{CheckForm}
 use Rattle.chip_core.specs.declared.sample.Sample.{Sample}
+use Rattle.pilot_search.specs.declared.sweeping.Best.{Best}
 use Rattle.rake_finger.specs.Held.{Held, HoldsLast}
 use Rattle.mobile_core.specs.Clocks.{IsDueAt}
 use Rattle.mobile_core.specs.Events.{events}
 use Rattle.mobile_core.specs.Given.{listed, at_of}
-use Rattle.mobile_core.specs.Left.{sync_events_left}
+use Rattle.mobile_core.specs.Left.{pilot_left, sync_events_left}
 use Rattle.mobile_core.specs.Marks.{sets_mark}
 use Rattle.mobile_core.specs.FollowedChannels.{HearsFollowed, IsFollowedDue, followed_due}
 use Rattle.mobile_core.specs.FollowedChannels.{followed_events_left, followed_heard}
@@ -20,10 +22,11 @@ use Rattle.mobile_core.specs.declared.mobile.Step.{Step}
 use Rattle.mobile_core.specs.declared.followed.Followed.{Followed}
 use Rattle.mobile_core.specs.declared.sync_receiver.SyncReceiver.{SyncReceiver}
 
--- what a handset carries from step to step
+-- what a handset carries from step to step; the pilot until its event has been given
 pub record Parts : Type 0 where
   pub count : ℕ
   pub check : CheckForm
+  pub pilot : Option Best
   pub ring : Held
   pub sync : SyncReceiver
   pub followed : Followed
@@ -31,13 +34,16 @@ pub record Parts : Type 0 where
 -- the events of these samples' end that are still to be given
 abbrev pub events_left : Tuning → Parts → List Sample → List Event
 events_left t p heard =
-    sync_events_left t heard p.sync.received.clock.next
-    ++ followed_events_left t p.sync.mark heard p.followed
+    pilot_left p.pilot
+    ++ (sync_events_left t heard p.sync.received.clock.next
+    ++ followed_events_left t p.sync.mark heard p.followed)
 
--- The handset has taken these samples of a file, and given these events.
+-- The handset has taken these samples of a file, and given these events: the pilot's before it took
+-- any sample.
 pub record Stands (t : Tuning) (p : Parts) (heard : List Sample) (given : List Event) : Type 0 where
   pub count_is : p.count ≡ t.count
   pub check_is : p.check ≡ t.check30
+  pub early : ForSome p.pilot (λ best. length heard ≡ 0)
   pub ring : HoldsLast p.ring heard
   pub sync : HearsSync t p.sync heard
   pub followed : HearsFollowed t p.followed p.sync.mark heard
@@ -48,6 +54,7 @@ abbrev pub parts : Mobile → Parts
 parts m = record {
   count = m.count;
   check = m.check;
+  pilot = m.pilot;
   ring = m.ring;
   sync = m.sync;
   followed = m.followed;
@@ -56,18 +63,20 @@ parts m = record {
 abbrev pub StandsFor : Tuning → Mobile → List Sample → List Event → Type 0
 StandsFor t mobile heard given = Stands t (parts mobile) heard given
 
--- whether a frame is known that hasn't been heard
+-- whether the pilot hasn't been told, or a frame is known that hasn't been heard
 abbrev pub IsDueFor : Mobile → Type 0
 IsDueFor mobile =
-    IsDueAt mobile.count mobile.sync.received.clock
-    ⊎ IsFollowedDue mobile.count mobile.followed
+    IsTrue (is_some mobile.pilot)
+    ⊎ (IsDueAt mobile.count mobile.sync.received.clock
+    ⊎ IsFollowedDue mobile.count mobile.followed)
 
--- how many frames of the sync channel have come that haven't been heard, and how much of the
--- channels behind the mark
+-- whether the pilot hasn't been told, how many frames of the sync channel have come that haven't been
+-- heard, and how much of the channels behind the mark
 abbrev pub due_parts : Mobile → ℕ
 due_parts mobile =
-    (mobile.sync.received.clock.have - mobile.sync.received.clock.next)
-    + followed_due mobile.followed
+    length (pilot_left mobile.pilot)
+    + ((mobile.sync.received.clock.have - mobile.sync.received.clock.next)
+    + followed_due mobile.followed)
 
 -- how many samples of the file are left
 abbrev pub has_room : Mobile → ℕ
@@ -76,7 +85,9 @@ has_room mobile = mobile.count - mobile.ring.taken
 -- a bound on the events that are still to be given
 abbrev pub steps_left : Mobile → ℕ
 steps_left mobile =
-    2 ^ 63 - (mobile.sync.received.clock.next + followed_heard mobile.followed)
+    2 ^ 63
+    - ((1 - length (pilot_left mobile.pilot))
+    + (mobile.sync.received.clock.next + followed_heard mobile.followed))
 
 -- of how many samples the last are kept
 abbrev pub ring_room : Mobile → ℕ

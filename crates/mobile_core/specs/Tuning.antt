@@ -12,24 +12,26 @@ use Rattle.mobile_core.specs.Streams.{Stream}
 use Rattle.mobile_core.specs.declared.settings.Settings.{Settings}
 use Rattle.chip_core.specs.declared.assignment.Traffic.{Traffic}
 
--- the samples in the file, the best phase, how much earlier than there each finger's samples come,
--- how the checks of 30 and of 16 bits are sent, the number of the paging channel, and the traffic
--- channel, where one is followed
+-- the samples in the file, the best phase and the energy there, how much earlier than there each
+-- finger's samples come, how the checks of 30 and of 16 bits are sent, the number of the paging
+-- channel, and the traffic channel, where one is followed
 pub record Tuning : Type 0 where
   pub count : ℕ
   pub phase : ℕ
+  pub energy : ℕ
   pub deltas : List ℤ
   pub check30 : CheckForm
   pub check16 : CheckForm
   pub paging : ℕ
   pub traffic : Option Traffic
 
--- of these settings, where the search found this phase and these deltas
+-- of these settings, where the search found this phase, with its energy, and these deltas
 abbrev pub tuning_by : Settings → Best → Near → Tuning
 tuning_by settings best near =
     record {
       count = settings.count;
       phase = best.phase;
+      energy = best.energy;
       deltas = take near.count near.deltas;
       check30 = settings.check30;
       check16 = settings.check16;

@@ -32,6 +32,7 @@ tuned : ℕ → List ℤ → Tuning
 tuned phase deltas = record {
   count = 1228800;
   phase = phase;
+  energy = 0;
   deltas = deltas;
   check30 = Plain;
   check16 = Plain;

@@ -10,7 +10,7 @@ use traffic_message::TrafficMessage;
 /// Something that a handset found or heard in the samples.
 #[derive(Clone, Copy, PartialEq, Eq, Debug)]
 pub enum Event {
-    /// The pilot was found (TIA/EIA-95-B, 7.1.3.2).
+    /// The pilot was found (TIA/EIA-95-B, 7.1.3.2): the first event, before any sample is taken.
     Pilot {
         /// The phase of the pilot's codes at the first sample.
         phase: Phase,

@@ -1,9 +1,10 @@
-//! What capsules of the channels say, and frames of a traffic channel.
+//! What the pilot and capsules of the channels say, and frames of a traffic channel.
 
 ghost use Rattle.std.specs.Prelude.{◌≡◌, ◌<◌, ◌≤◌, ◌^◌, [], ◌∷◌, ◌++◌, Some, false, Bool, List};
 ghost use Rattle.std.specs.Prelude.{length, IfSome};
 ghost use Rattle.std.specs.Option.{ForSome, option_or, option_to_list};
 ghost use Rattle.mobile_core.specs.Given.{at_of};
+ghost use Rattle.mobile_core.specs.declared.event.Event.{Event as TheEvent};
 ghost use Rattle.mobile_core.specs.Marks.{first_of, frames_with, marks_of, sets_mark};
 ghost use Rattle.mobile_core.specs.PagingEvents.{page_event, page_in};
 ghost use Rattle.mobile_core.specs.Signaling.{capsule_with, message_events, signal_in, signal_of};
@@ -23,6 +24,7 @@ use chip_core::{Bits, CheckForm};
 use frame_decoder::Decoded;
 use long_code::State;
 use paging_message::PagingMessage;
+use pilot_search::Best;
 use sync_message::SyncMessage;
 use traffic_message::{SignalFramer, TrafficMessage, split_frame};
 
@@ -139,6 +141,16 @@ pub(crate) fn mark_with(mark: Option<Mark>, first: u64, told: &SpelledMessage) -
         return mark;
     }
     mark_of(first, told)
+}
+
+/// The event of the pilot that the search found.
+pub(crate) fn pilot_event(best: &Best) -> Event
+    ensures { result ≡ TheEvent.Pilot best.now.phase best.now.energy }
+{
+    Event::Pilot {
+        phase: best.phase,
+        energy: best.energy,
+    }
 }
 
 /// The event of what is told when so many samples have been taken.

@@ -5,6 +5,7 @@ ghost use Rattle.mobile_core.specs.SoundHandset.{IsSound};
 use crate::channel::Channel;
 use crate::event::Event;
 use crate::followed::Followed;
+use crate::hearing::pilot_event;
 use crate::mark::Mark;
 use crate::settings::Settings;
 use crate::sync_receiver::SyncReceiver;
@@ -34,8 +35,9 @@ pub struct Step {
     pub event: Option<Event>,
 }
 
-/// A handset: it takes the samples of a file in pieces of any size, and gives what it hears as
-/// events, each when its last sample has been taken.
+/// A handset: it takes the samples of a file in pieces of any size, and gives the pilot that the
+/// search found, and what it hears, as events: the pilot before it takes a sample, and each other one
+/// when its last sample has been taken.
 ///
 /// It decodes each frame of the sync channel together with the frame before it and the frame behind
 /// it, where these lie in the file, and so knows a frame one frame later (TIA/EIA-95-B, 7.7.1).
@@ -48,6 +50,8 @@ pub struct Mobile {
     count: u64,
     /// How the checks of 30 bits are sent.
     check: CheckForm,
+    /// The pilot that the search found, until its event has been given.
+    pilot: Option<Best>,
     /// The last samples, which all receivers read.
     ring: SampleRing,
     codes: Codes,
@@ -80,7 +84,7 @@ impl Mobile {
     ghost use Rattle.mobile_core.specs.Tuners.{IsTunedTo, samples_left, samples_taken};
     ghost use Rattle.mobile_core.specs.declared.event.Event.{Event as TheEvent};
 
-    /// A handset that has taken no sample of a file.
+    /// A handset that has taken no sample of a file, and given no event.
     ///
     /// `best` and `near` are what the search found in the file's first samples. A `Near` whose
     /// first path is the best one, at delta 0, is of the shape that `pilot_search::near` gives.
@@ -110,6 +114,7 @@ impl Mobile {
         Ok(Mobile {
             count: settings.count,
             check: settings.check30,
+            pilot: Some(best),
             ring: SampleRing::new(alloc, RING_ROOM)?,
             codes,
             decoder: Decoder::new(alloc, MOST_BITS)?,
@@ -183,17 +188,28 @@ impl Mobile {
         Tuner::open(count, ring, codes, mark, channel, phase, near)
     }
 
-    /// Whether a frame is known that hasn't been heard.
+    /// Whether the pilot hasn't been told, or a frame is known that hasn't been heard.
     fn is_due(&self) -> bool
         ensures { IsTrue result ↔ IsDueFor self.now }
     {
-        self.sync.is_due(self.count) || self.followed.is_due(self.count)
+        self.pilot.is_some() || self.sync.is_due(self.count) || self.followed.is_due(self.count)
+    }
+
+    /// Gives the pilot's event.
+    fn tell_pilot(&mut self) -> Option<Event>
+        requires { IsTrue (is_some self.old.pilot) }
+        ensures steps { Steps self.old self.new [] (record { taken = 0; event = result }) }
+        ensures nearer { due_parts self.new < due_parts self.old }
+    {
+        let best = self.pilot.take()?;
+        Some(pilot_event(&best))
     }
 
     /// Hears the frame of the sync channel that is due, and gives the event that it completes.
     /// Where that sets a mark the other channels are followed from there on.
     fn hear_sync(&mut self) -> Option<Event>
-        requires { IsDueAt self.old.count self.old.sync.received.clock }
+        requires told { self.old.pilot ≡ None }
+        requires due { IsDueAt self.old.count self.old.sync.received.clock }
         ensures steps { Steps self.old self.new [] (record { taken = 0; event = result }) }
         ensures nearer { due_parts self.new < due_parts self.old }
     {
@@ -212,6 +228,7 @@ impl Mobile {
 
     /// Hears what is due of the channels behind the mark, and gives the event that it completes.
     fn hear_followed(&mut self) -> Option<Event>
+        requires told { self.old.pilot ≡ None }
         requires silent { ¬ IsDueAt self.old.count self.old.sync.received.clock }
         requires due { IsFollowedDue self.old.count self.old.followed }
         ensures steps { Steps self.old self.new [] (record { taken = 0; event = result }) }
@@ -229,12 +246,16 @@ impl Mobile {
         followed.hear_next(decoder, ring, codes, *check, *count)
     }
 
-    /// Hears what is due next, the sync channel first, and gives the event that it completes.
+    /// Tells the pilot, or hears what is due next, the sync channel first, and gives the event that it
+    /// completes.
     fn hear_next(&mut self) -> Option<Event>
         requires { IsDueFor self.old }
         ensures steps { Steps self.old self.new [] (record { taken = 0; event = result }) }
         ensures nearer { due_parts self.new < due_parts self.old }
     {
+        if self.pilot.is_some() {
+            return self.tell_pilot();
+        }
         if self.sync.is_due(self.count) {
             return self.hear_sync();
         }
@@ -294,6 +315,8 @@ impl Mobile {
     }
 
     /// Takes samples up to the end of the next event.
+    ///
+    /// The first event is the pilot, for which no sample is taken, be there any or none.
     ///
     /// The samples are those of the file that follow on those taken before, as many of them as
     /// there are or fewer. Where the step gives an event, the samples taken are exactly those up to

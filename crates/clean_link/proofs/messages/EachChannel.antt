@@ -1,8 +1,8 @@
 -- A handset hears what a clean link's cell sends, channel by channel and frame by frame.
-use Rattle.std.proofs.Common.{◌≡◌, ℕ, ◌+◌, ◌-◌, ◌*◌, ◌≤◌, true, Bool, List, [], ◌∷◌}
-use Rattle.std.proofs.Common.{map, refl, sym, ap, ◌∙◌, arith, subst, inl, inr, Option, None}
+use Rattle.std.proofs.Common.{◌≡◌, ℕ, ◌+◌, ◌-◌, ◌*◌, ◌≤◌, true, false, Bool, List, [], ◌∷◌}
+use Rattle.std.proofs.Common.{length, map, refl, sym, ap, ◌∙◌, arith, subst, inl, inr, Option, None}
 use Rattle.std.proofs.Common.{Some, filter}
-use Rattle.std.specs.Prelude.{All}
+use Rattle.std.specs.Prelude.{if◌then◌else◌, All}
 use Rattle.std.specs.List.{Contains, flat_map}
 use Rattle.std.proofs.lemmas.Bool.{cases_lt}
 use Rattle.std.proofs.lemmas.List.Elements.{All-contains, All-map}
@@ -20,7 +20,7 @@ use Rattle.cell_plan.specs.declared.plan.CellPlan.{CellPlan}
 use Rattle.cell_plan.specs.declared.plan.PagingPlan.{PagingPlan}
 use Rattle.cell_plan.specs.declared.plan.TrafficPlan.{TrafficPlan}
 use Rattle.cell_plan.specs.declared.traffic_frame.TrafficFrame.{TrafficFrame}
-use Rattle.mobile_core.specs.Events.{events, events_at, events_within, frame_events_at}
+use Rattle.mobile_core.specs.Events.{events, events_at, frame_events_at, heard_within}
 use Rattle.mobile_core.specs.Events.{message_events_at, paging_events_at}
 use Rattle.mobile_core.specs.Marks.{mark}
 use Rattle.mobile_core.specs.Moments.{frames_at, messages_at}
@@ -31,6 +31,7 @@ use Rattle.mobile_core.specs.TrafficEvents.{if_followed}
 use Rattle.mobile_core.specs.TrafficStreams.{replaced_in}
 use Rattle.mobile_core.specs.Tuning.{Tuning}
 use Rattle.mobile_core.specs.declared.event.Event.{Event}
+use Rattle.mobile_core.specs.declared.event.Event.TheVariants.{Pilot}
 use Rattle.mobile_core.specs.declared.legs.Leg.{Leg}
 use Rattle.mobile_core.specs.declared.mark.Mark.{Mark}
 use Rattle.chip_core.specs.declared.assignment.Traffic.{Traffic}
@@ -269,21 +270,29 @@ free_where_sent traffic paging number free sent =
     All-contains (IsFreeOf traffic) (map (λ (q : PagingPlan). q.number) paging) number
     (All-map (IsFreeOf traffic) (λ (q : PagingPlan). q.number) paging free) sent
 
+-- an event of another kind is left out
+filter_apart : (test : Event → Bool) (event : Event) (es : List Event) → test event ≡ false →
+    filter test (event ∷ es) ≡ filter test es
+filter_apart test event es apart =
+    ap (λ (b : Bool). if b then event ∷ filter test es else filter test es) apart
+
 module _ (width : Width) (plan : CellPlan) (t : Tuning) (is : IsReceivable width plan)
     (tuned : IsOnPath plan t) where
-  -- the events of one kind are those of all numbers of samples
-  gathered : (test : Event → Bool) (g : ℕ → List Event) →
+  -- the events of one kind are those of all numbers of samples, where the pilot's isn't of it
+  gathered : (test : Event → Bool) (g : ℕ → List Event) → test (Pilot t.phase t.energy) ≡ false →
       filter test (flat_map (events_at t (made_samples plan)) (places (plan.link.samples + 1)))
       ≡ flat_map g (places (plan.link.samples + 1)) →
       filter test (events t (made_samples plan)) ≡ flat_map g (places (plan.link.samples + 1))
-  unfolding events_within
-  gathered test g left =
-      ap (λ (n : ℕ). filter test (flat_map (events_at t (made_samples plan)) (places (n + 1))))
+  unfolding heard_within
+  gathered test g apart left =
+      filter_apart test (Pilot t.phase t.energy)
+      (flat_map (events_at t (made_samples plan)) (places (length (made_samples plan) + 1))) apart
+      ∙ ap (λ (n : ℕ). filter test (flat_map (events_at t (made_samples plan)) (places (n + 1))))
       (length-made plan) ∙ left
 
   sync_back : filter is_sync (events t (made_samples plan)) ≡ sync_sent plan
   sync_back =
-      gathered is_sync (sync_events_at t (made_samples plan))
+      gathered is_sync (sync_events_at t (made_samples plan)) refl
       (sync_of_all t (made_samples plan) (places (plan.link.samples + 1)))
       ∙ sendings_back width plan t is tuned
 
@@ -292,7 +301,7 @@ module _ (width : Width) (plan : CellPlan) (t : Tuning) (is : IsReceivable width
   pages_back least most free =
       let to : IsTunedTo plan t =
       record { path = tuned; first_channel = least; last_channel = most; free = free } in
-      gathered is_page (paging_events_at t (made_samples plan))
+      gathered is_page (paging_events_at t (made_samples plan)) refl
       (pages_of_all t (made_samples plan) (places (plan.link.samples + 1)))
       ∙ pages_all width plan t is to
 
@@ -310,12 +319,12 @@ each_channel width plan t is tuned least most not_directed =
       free = pages_back width plan t is tuned least most;
       frames = λ p follows.
           subst (AreFramesBehind plan p (told_with_sync plan plan.sync))
-          (sym (gathered width plan t is tuned is_frame (frame_events_at t samples)
+          (sym (gathered width plan t is tuned is_frame (frame_events_at t samples) refl
           (frames_of_all t samples all)))
           (frames_each width plan t is tuned not_directed p follows);
       messages = λ p follows.
           subst (AreMessagesBehind plan p (told_with_sync plan plan.sync))
-          (sym (gathered width plan t is tuned is_message (message_events_at t samples)
+          (sym (gathered width plan t is tuned is_message (message_events_at t samples) refl
           (messages_of_all t samples all)))
           (messages_each width plan t is tuned not_directed p follows);
     }

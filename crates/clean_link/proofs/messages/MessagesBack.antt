@@ -2,7 +2,7 @@
 -- channel of a clean link's cell, with the events of its pilot sets, in the order in which they are
 -- known, and nothing else.
 use Rattle.std.proofs.Common.{◌≡◌, ℕ, ◌+◌, ◌*◌, Bool, true, false, List, [], ◌∷◌, ◌++◌}
-use Rattle.std.proofs.Common.{map, refl, sym, ap, ◌∙◌, arith, inl, inr, nat_lt}
+use Rattle.std.proofs.Common.{length, map, refl, sym, ap, ◌∙◌, arith, inl, inr, nat_lt}
 use Rattle.std.proofs.Common.{Option, None, Some, ℤ, pos}
 use Rattle.std.specs.Prelude.{if◌then◌else◌, All}
 use Rattle.std.specs.List.{flat_map}
@@ -17,13 +17,14 @@ use Rattle.cell_plan.specs.Sendings.{told_superframes}
 use Rattle.cell_plan.specs.Transmitter.{phase_at}
 use Rattle.cell_plan.specs.declared.plan.CellPlan.{CellPlan}
 use Rattle.cell_plan.specs.declared.plan.SyncPlan.{SyncPlan}
-use Rattle.mobile_core.specs.Events.{events, events_at, events_within, frame_events_at}
+use Rattle.mobile_core.specs.Events.{events, events_at, frame_events_at, heard_within}
 use Rattle.mobile_core.specs.Events.{message_events_at, paging_events_at, sets_events_at}
 use Rattle.mobile_core.specs.Marks.{mark}
 use Rattle.mobile_core.specs.PagingEvents.{page_event, pages_at, pages_behind}
 use Rattle.mobile_core.specs.SyncEvents.{sync_events_at}
 use Rattle.mobile_core.specs.Tuning.{Tuning}
 use Rattle.mobile_core.specs.declared.event.Event.{Event}
+use Rattle.mobile_core.specs.declared.event.Event.TheVariants.{Pilot}
 use Rattle.mobile_core.specs.declared.mark.Mark.{Mark}
 use Rattle.mobile_core.proofs.EventPlaces.{AreAt, messages_at_end, paging_at, sets_at_end, sync_at}
 use Rattle.mobile_core.proofs.EventPlaces.{traffic_at}
@@ -182,12 +183,13 @@ module _ (width : Width) (plan : CellPlan) (t : Tuning) (is : IsReceivable width
 
 -- a handset on the path is tuned so
 pub tuned_is : (plan : CellPlan) (t : Tuning) → IsOnPath plan t →
-    t ≡ tuning_to plan t.paging t.traffic
+    t ≡ tuning_to plan t.energy t.paging t.traffic
 tuned_is plan t tuned =
     let of : ℕ → ℕ → List ℤ → CheckForm → CheckForm → Tuning = λ count phase deltas thirty sixteen.
     record {
       count = count;
       phase = phase;
+      energy = t.energy;
       deltas = deltas;
       check30 = thirty;
       check16 = sixteen;
@@ -205,7 +207,7 @@ tuned_is plan t tuned =
 -- its events are those of the definition
 sets_all : (plan : CellPlan) (t : Tuning) → IsOnPath plan t →
     flat_map (sets_events_at t (made_samples plan)) (places (plan.link.samples + 1))
-    ≡ sets_heard plan t.paging t.traffic
+    ≡ sets_heard plan t.energy t.paging t.traffic
 unfolding sets_heard
 sets_all plan t tuned =
     ap (λ (u : Tuning).
@@ -247,7 +249,7 @@ module _ (width : Width) (plan : CellPlan) (t : Tuning) (is : IsReceivable width
   -- what comes back of them
   abbrev messages_told : List Event
   messages_told =
-      by_places count (signaling_sent plan t.traffic) (sets_heard plan t.paging t.traffic)
+      by_places count (signaling_sent plan t.traffic) (sets_heard plan t.energy t.paging t.traffic)
 
   abbrev traffic_told : List Event
   traffic_told = by_places count (traffic_sent plan t.traffic) messages_told
@@ -256,7 +258,7 @@ module _ (width : Width) (plan : CellPlan) (t : Tuning) (is : IsReceivable width
   known_back : flat_map messages_known (places (count + 1)) ≡ messages_told
   known_back =
       gathered_by_places (message_events_at t samples) (sets_events_at t samples) count
-      (signaling_sent plan t.traffic) (sets_heard plan t.paging t.traffic)
+      (signaling_sent plan t.traffic) (sets_heard plan t.energy t.paging t.traffic)
       (messages_at_end t samples) (sets_at_end t samples)
       (messages_all width plan t is tuned.path not_directed follows) (sets_all plan t tuned.path)
 
@@ -277,8 +279,8 @@ module _ (width : Width) (plan : CellPlan) (t : Tuning) (is : IsReceivable width
 
   -- and with the sync channel
   all_back : flat_map (λ n. sync_events_at t samples n ++ data_known n) (places (count + 1))
-      ≡ sent_events plan t.paging t.traffic
-  unfolding sent_events
+      ≡ by_places count (sync_sent plan)
+      (by_places count (paging_sent plan t.paging) traffic_told)
   all_back =
       gathered_by_places (sync_events_at t samples) data_known count (sync_sent plan)
       (by_places count (paging_sent plan t.paging) traffic_told)
@@ -287,7 +289,10 @@ module _ (width : Width) (plan : CellPlan) (t : Tuning) (is : IsReceivable width
       (traffic_known_at n)) (sendings_back width plan t is tuned.path) data_back
 
 pub messages_back : WholeMessagesComeBack
-unfolding events_within events_at
+unfolding heard_within events_at sent_events
 messages_back width plan t is tuned follows not_directed =
-    ap (λ (n : ℕ). flat_map (events_at t (made_samples plan)) (places (n + 1))) (length-made plan)
-    ∙ all_back width plan t is tuned follows not_directed
+    let heard : ℕ → List Event =
+    λ n. flat_map (events_at t (made_samples plan)) (places (n + 1)) in
+    ap (λ (phase : ℕ). Pilot phase t.energy ∷ heard (length (made_samples plan))) tuned.path.phase
+    ∙ ap (λ (es : List Event). Pilot (phase_at plan plan.link.start) t.energy ∷ es)
+    (ap heard (length-made plan) ∙ all_back width plan t is tuned follows not_directed)

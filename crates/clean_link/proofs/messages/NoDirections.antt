@@ -12,7 +12,7 @@ use Rattle.cell_plan.specs.declared.plan.CellPlan.{CellPlan}
 use Rattle.cell_plan.specs.declared.plan.SyncPlan.{SyncPlan}
 use Rattle.pilot_sets.specs.Standing.{Standing}
 use Rattle.pilot_sets.specs.declared.change.SetChange.{SetChange}
-use Rattle.mobile_core.specs.Events.{events_at, events_within, frame_events_at}
+use Rattle.mobile_core.specs.Events.{events_at, frame_events_at, heard_within}
 use Rattle.mobile_core.specs.Events.{message_events_at, paging_events_at, sets_events_at}
 use Rattle.mobile_core.specs.Marks.{mark}
 use Rattle.mobile_core.specs.Moments.{changed, frames_at, heard_from, kept_to, legs_at, messages_at}
@@ -22,6 +22,7 @@ use Rattle.mobile_core.specs.SyncEvents.{sync_events_at}
 use Rattle.mobile_core.specs.TrafficEvents.{if_followed}
 use Rattle.mobile_core.specs.Tuning.{Tuning}
 use Rattle.mobile_core.specs.declared.event.Event.{Event}
+use Rattle.mobile_core.specs.declared.event.Event.TheVariants.{Pilot}
 use Rattle.mobile_core.specs.declared.mark.Mark.{Mark}
 use Rattle.chip_core.specs.declared.assignment.Traffic.{Traffic}
 use Rattle.mobile_core.proofs.MarkStays.{messages_by_one_mark}
@@ -164,10 +165,11 @@ module _ (width : Width) (plan : CellPlan) (t : Tuning) (is : IsReceivable width
 -- ---- the law
 
 pub no_event_directed : NoEventIsDirected
-unfolding events_within places
+unfolding heard_within places
 no_event_directed width plan t is tuned follows none =
     let samples = made_samples plan in
     let long = length-made plan in
-    gathered_all IsNotDirected (events_at t samples) 0 (length samples + 1)
+    All-cons IsNotDirected (Pilot t.phase t.energy) (heard_within t samples (length samples)) tt
+    (gathered_all IsNotDirected (events_at t samples) 0 (length samples + 1)
     (λ n low below.
-    all_undirected width plan t is tuned follows none n (omega (arith, below, long)))
+    all_undirected width plan t is tuned follows none n (omega (arith, below, long))))

@@ -2,11 +2,12 @@
 use Rattle.std.proofs.Common.{◌≡◌, ℕ, ◌+◌, ◌≤◌, List, ◌++◌, length, take, drop, sym, ap, ◌∙◌, arith}
 use Rattle.std.proofs.Common.{subst, Option, Some}
 use Rattle.std.specs.Prelude.{All}
+use Rattle.std.proofs.lemmas.List.Elements.{All-tail}
 use Rattle.std.proofs.lemmas.List.{length-take-le, take-append-drop}
 use Rattle.chip_core.specs.Bits.{places}
 use Rattle.chip_core.specs.declared.sample.Sample.{Sample}
 use Rattle.pilot_sets.specs.Standing.{new_standing}
-use Rattle.mobile_core.specs.Events.{events, events_at, events_within, message_events_at}
+use Rattle.mobile_core.specs.Events.{events, events_at, heard_within, message_events_at}
 use Rattle.mobile_core.specs.Events.{frame_events_at, paging_events_at, sets_events_at}
 use Rattle.mobile_core.specs.Legs.{legs_of}
 use Rattle.mobile_core.specs.Marks.{mark}
@@ -17,6 +18,7 @@ use Rattle.mobile_core.specs.SyncEvents.{sync_events_at}
 use Rattle.mobile_core.specs.TrafficEvents.{frames_by, if_followed}
 use Rattle.mobile_core.specs.Tuning.{Tuning, sync_stream}
 use Rattle.mobile_core.specs.declared.event.Event.{Event}
+use Rattle.mobile_core.specs.declared.event.Event.TheVariants.{Pilot}
 use Rattle.mobile_core.specs.declared.legs.Leg.{Leg}
 use Rattle.mobile_core.specs.declared.mark.Mark.{Mark}
 use Rattle.chip_core.specs.declared.assignment.Traffic.{Traffic}
@@ -75,10 +77,11 @@ module _ (t : Tuning) (near : AreNear (sync_stream t).fingers) (samples : List S
     (none : All IsNotDirected (events t samples)) where
   -- those of each number of samples
   there : (n : ℕ) → n ≤ length samples → All IsNotDirected (message_events_at t samples n)
-  unfolding events_within events_at places
+  unfolding heard_within events_at places
   there n few =
       let all = each_of_all IsNotDirected (events_at t samples) 0 (length samples + 1) n
-      (omega arith) (omega (arith, few)) none in
+      (omega arith) (omega (arith, few))
+      (All-tail IsNotDirected (Pilot t.phase t.energy) (heard_within t samples (length samples)) none) in
       let sync = sync_events_at t samples n in
       let paging = paging_events_at t samples n in
       let frames = frame_events_at t samples n in

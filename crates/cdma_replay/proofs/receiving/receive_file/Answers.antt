@@ -30,7 +30,8 @@ pub returns-in-Err-clause-written : goal.returns-in-Err-clause-written
 returns-in-Err-clause-written g c =
     writes_first_text _ c.in_ok-reader.reader.header c.open_span.new.span c.in_ok-shown.shown
     (search rules) c.in_ok-reader.ensures.lawful c.in_ok-reader.ensures.in_range
-    (omega (arith, c.in_ok-reader.ensures.reader.0, c.requires.span.0)) c.in_ok-reader.ensures.file c.in_ok-shown.ensures.shown c.in-Err.ensures.err
+    (omega (arith, c.in_ok-reader.ensures.reader.0, c.requires.span.0)) c.in_ok-reader.ensures.file
+    c.in_ok-shown.ensures.shown c.header.ensures.value c.in_ok-listener.ensures.fresh c.in-Err.ensures.err
 
 pub returns-in-Err-hear-clause-written : goal.returns-in-Err-hear-clause-written
 returns-in-Err-hear-clause-written g c =
@@ -39,7 +40,7 @@ returns-in-Err-hear-clause-written g c =
     c.in_ok-reader.ensures.lawful c.in_ok-reader.ensures.in_range
     (omega (arith, c.in_ok-reader.ensures.reader.0, c.requires.span.0))
     c.in_ok-reader.ensures.file c.in_ok-shown.ensures.shown c.header.ensures.value
-    c.in_ok-listener.ensures.listens c.in-Ok.ensures.ok c.in-Ok.ensures.behind in
+    c.in_ok-listener.ensures.fresh c.in-Ok.ensures.ok in
     writes_first_part begun c.in-Err-hear.ensures.err
 
 pub returns-in_err-hear_rest-clause-done : goal.returns-in_err-hear_rest-clause-done
@@ -86,7 +87,7 @@ returns-in_err-hear_rest-clause-written g c =
     c.in_ok-reader.ensures.lawful c.in_ok-reader.ensures.in_range
     (omega (arith, c.in_ok-reader.ensures.reader.0, c.requires.span.0))
     c.in_ok-reader.ensures.file c.in_ok-shown.ensures.shown c.header.ensures.value
-    c.in_ok-listener.ensures.listens c.in-Ok.ensures.ok c.in-Ok.ensures.behind in
+    c.in_ok-listener.ensures.fresh c.in-Ok.ensures.ok in
     writes_rest_part (omega (arith, c.in_ok-reader.ensures.reader.0, c.requires.span.0)) begun c.in-Ok-hear.ensures.ok c.in_err-hear_rest.ensures.written
 
 pub returns-clause-done : goal.returns-clause-done
@@ -96,7 +97,7 @@ returns-clause-done g c end =
     c.in_ok-reader.ensures.lawful c.in_ok-reader.ensures.in_range
     (omega (arith, c.in_ok-reader.ensures.reader.0, c.requires.span.0))
     c.in_ok-reader.ensures.file c.in_ok-shown.ensures.shown c.header.ensures.value
-    c.in_ok-listener.ensures.listens c.in-Ok.ensures.ok c.in-Ok.ensures.behind in
+    c.in_ok-listener.ensures.fresh c.in-Ok.ensures.ok in
     writes_text (g.S.Source.rest c.args.source.now) _ _ c.in_ok-reader.ensures.lawful (search rules)
     c.in_ok-reader.ensures.in_range begun c.in-Ok-hear.ensures.ok c.in_ok-hear_rest.ensures.ok
     c.in_ok-hear_rest.ensures.ends
@@ -111,7 +112,7 @@ returns-clause-written g c =
     c.in_ok-reader.ensures.lawful c.in_ok-reader.ensures.in_range
     (omega (arith, c.in_ok-reader.ensures.reader.0, c.requires.span.0))
     c.in_ok-reader.ensures.file c.in_ok-shown.ensures.shown c.header.ensures.value
-    c.in_ok-listener.ensures.listens c.in-Ok.ensures.ok c.in-Ok.ensures.behind in
+    c.in_ok-listener.ensures.fresh c.in-Ok.ensures.ok in
     writes_rest_part (omega (arith, c.in_ok-reader.ensures.reader.0, c.requires.span.0)) begun c.in-Ok-hear.ensures.ok c.in_ok-hear_rest.ensures.written
 
 pub returns-in_err-reader-clause-early : goal.returns-in_err-reader-clause-early
@@ -144,7 +145,7 @@ returns-clause-alone g c none unheard =
     c.in_ok-reader.ensures.lawful c.in_ok-reader.ensures.in_range
     (omega (arith, c.in_ok-reader.ensures.reader.0, c.requires.span.0))
     c.in_ok-reader.ensures.file c.in_ok-shown.ensures.shown c.header.ensures.value
-    c.in_ok-listener.ensures.listens c.in-Ok.ensures.ok c.in-Ok.ensures.behind in
+    c.in_ok-listener.ensures.fresh c.in-Ok.ensures.ok in
     let first = c.in-Ok-hear.ensures.ok l [] begun.listens in
     let last = c.in_ok-hear_rest.ensures.ok l _ first.listens in
     ends_well _ purpose header span _ _ c.end_when.result none c.end_when.ensures.value
@@ -198,7 +199,7 @@ returns-in_err-hear_rest-clause-cut g c cut =
     c.in_ok-reader.ensures.lawful c.in_ok-reader.ensures.in_range
     (omega (arith, c.in_ok-reader.ensures.reader.0, c.requires.span.0))
     c.in_ok-reader.ensures.file c.in_ok-shown.ensures.shown c.header.ensures.value
-    c.in_ok-listener.ensures.listens c.in-Ok.ensures.ok c.in-Ok.ensures.behind in
+    c.in_ok-listener.ensures.fresh c.in-Ok.ensures.ok in
     writes_first (g.S.Source.rest c.args.source.now) _ _ _ _ c.in_ok-reader.ensures.lawful
     (omega (arith, c.in_ok-reader.ensures.reader.0, c.requires.span.0)) begun
     c.in-Ok-hear.ensures.ok
@@ -214,7 +215,7 @@ returns-in_err-hear_rest-clause-long g c long =
     c.in_ok-reader.ensures.lawful c.in_ok-reader.ensures.in_range
     (omega (arith, c.in_ok-reader.ensures.reader.0, c.requires.span.0))
     c.in_ok-reader.ensures.file c.in_ok-shown.ensures.shown c.header.ensures.value
-    c.in_ok-listener.ensures.listens c.in-Ok.ensures.ok c.in-Ok.ensures.behind in
+    c.in_ok-listener.ensures.fresh c.in-Ok.ensures.ok in
     writes_all (g.S.Source.rest c.args.source.now) _ _ _ _ c.in_ok-reader.ensures.lawful
     (omega (arith, c.in_ok-reader.ensures.reader.0, c.requires.span.0)) begun
     c.in-Ok-hear.ensures.ok

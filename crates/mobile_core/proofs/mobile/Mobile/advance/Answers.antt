@@ -5,7 +5,7 @@ use Rattle.mobile_core.specs.Clocks.{IsDueAt}
 use Rattle.mobile_core.specs.Near.{AreNear}
 use Rattle.mobile_core.specs.FollowedChannels.{IsFollowedDue, WaitFrom}
 use Rattle.mobile_core.specs.TrafficMonitoring.{IsFrameDue}
-use Rattle.mobile_core.proofs.Stood.{due_here, others_due_here, stands_taken, stands_come}
+use Rattle.mobile_core.proofs.Stood.{due_here, others_due_here, stands_taken, stands_come, was_told}
 use Rattle.mobile_core.proofs.mobile.Mobile.advance.Goals as goal
 
 -- where samples are left over nothing has come
@@ -31,7 +31,7 @@ invariant_of-self c =
           traffic = λ r e. record {
             before = omega (arith, least.traffic r e, pushed.taken, few);
             due = λ due.
-                absurd (c.requires.not_due (inr (inr (subst IsFrameDue (sym e) (inr due)))));
+                absurd (c.requires.not_due (inr (inr (inr (subst IsFrameDue (sym e) (inr due))))));
           };
         };
       };
@@ -56,9 +56,11 @@ returns-then-samples-left-clause-steps c =
           let holds = c.push_all.ensures.holds heard st.ring in
           let near = subst AreNear st.sync.receives.fingers_are m.sound.hears.channel.near in
           rw (whole, append-nil given)
-          (stands_taken st more c.push_all.new.self near m.sound.follows
-          (subst (λ (n : ℕ). WaitFrom n m.followed) taken m.sound.others_wait) (λ d. c.requires.not_due (inl d))
-          (λ d. c.requires.not_due (inr d)) (omega arith) (omega (arith, least.sync))
+          (stands_taken st more c.push_all.new.self (was_told m.pilot (λ d. c.requires.not_due (inl d)))
+          near m.sound.follows
+          (subst (λ (n : ℕ). WaitFrom n m.followed) taken m.sound.others_wait)
+          (λ d. c.requires.not_due (inr (inl d))) (λ d. c.requires.not_due (inr (inr d)))
+          (omega arith) (omega (arith, least.sync))
           (record {
             paging = λ r e. omega (arith, least.paging r e);
             traffic = λ r e. omega (arith, least.traffic r e);
@@ -77,8 +79,9 @@ returns-clause-steps c =
     let long : length more ≡ n = omega (arith, length-take n c.args.samples.now) in
     let sync = c.take_ended.ensures in
     let others = c.take_ended-2.ensures in
-    let none : ¬ IsDueAt m.count m.sync.received.clock = λ d. c.requires.not_due (inl d) in
-    let idle : ¬ IsFollowedDue m.count m.followed = λ d. c.requires.not_due (inr d) in
+    let told = was_told m.pilot (λ d. c.requires.not_due (inl d)) in
+    let none : ¬ IsDueAt m.count m.sync.received.clock = λ d. c.requires.not_due (inr (inl d)) in
+    let idle : ¬ IsFollowedDue m.count m.followed = λ d. c.requires.not_due (inr (inr d)) in
     record {
       most = omega arith;
       room = omega arith;
@@ -88,7 +91,7 @@ returns-clause-steps c =
           let taken = st.ring.taken in
           let holds = c.push_all-2.ensures.holds heard st.ring in
           let near = subst AreNear st.sync.receives.fingers_are m.sound.hears.channel.near in
-          let on = stands_taken st more c.push_all-2.new.self near m.sound.follows
+          let on = stands_taken st more c.push_all-2.new.self told near m.sound.follows
           (subst (λ (n : ℕ). WaitFrom n m.followed) taken m.sound.others_wait) none idle
           (omega arith)
           (omega (arith, least.sync)) (record {

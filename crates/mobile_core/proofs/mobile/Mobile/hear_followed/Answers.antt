@@ -49,6 +49,6 @@ returns-clause-steps c =
           in
           let left = next.left t m.sync.mark heard st.ring st.check_is st.count_is st.followed in
           rw (append-nil heard)
-          (stands_followed st c.hear_next.new.self c.hear_next.result c.requires.silent
+          (stands_followed st c.hear_next.new.self c.hear_next.result c.requires.told c.requires.silent
           (omega (arith, taken, m.sound.waits)) next.unset follows left);
     }

@@ -40,7 +40,7 @@ returns-clause-steps c =
           let at' = c.taken-at.ensures in
           let here : c.taken-at.result ≡ length heard = omega (arith, taken, at') in
           let after = c.hear_next-event.new.self in
-          let due = rw st.count_is at c.requires in
+          let due = rw st.count_is at c.requires.due in
           let hears = next.hears t heard here st.check_is due st.sync in
           let sets = subst (λ n. SetsMark n m.sync.mark after.mark) (sym here)
           (heard_sets st after hears.hears next.sound due next_is) in
@@ -54,7 +54,7 @@ returns-clause-steps c =
           let set = c.mark.ensures in
           let others = c.follow.new.self in
           rw (append-nil heard)
-          (stands_heard st after others c.hear_next-event.result hears
+          (stands_heard st after others c.hear_next-event.result c.requires.told hears
           (subst (λ (x : Option Mark). HearsFollowed t others x heard) set follows)
           (ap (λ (x : Option Mark). followed_events_left t x heard others) (sym set)
           ∙ left));

@@ -3,7 +3,7 @@ use Rattle.std.proofs.lemmas.List.{take_all, take_rest}
 use Rattle.chip_core.specs.declared.sample.Sample.{Sample}
 use Rattle.mobile_core.specs.FollowedChannels.{WaitFrom}
 use Rattle.mobile_core.specs.Standing.{StandsFor, Steps}
-use Rattle.mobile_core.proofs.Stood.{all_given}
+use Rattle.mobile_core.proofs.Stood.{all_given, was_told}
 use Rattle.mobile_core.proofs.StepJoins.{steps_heard, steps_taken}
 use Rattle.mobile_core.proofs.mobile.Mobile.step.Goals as goal
 
@@ -30,8 +30,8 @@ returns-then-taken-samples c =
             let count = now.ring.taken in
             let waits = mobile.sound.waits in
             let none = c.hear_due.ensures.none c.in_default.is in
-            let all = all_given now mobile.sound.follows (λ d. none (inl d)) (λ d. none (inr d))
-            (omega arith)
+            let all = all_given now (was_told mobile.pilot (λ d. none (inl d))) mobile.sound.follows
+            (λ d. none (inr (inl d))) (λ d. none (inr (inr d))) (omega arith)
             (subst (λ (n : ℕ). WaitFrom n mobile.followed) count mobile.sound.others_wait) in
             let whole : take taken samples ≡ samples = take_all taken samples (omega arith) in
             rw whole at all,

@@ -1,0 +1,45 @@
+use Rattle.std.proofs.Common.{◌≡◌, ◌∙◌, ◌+◌, ◌++◌, ◌∷◌, [], Option, Some, None, ap, arith, append-nil}
+use Rattle.std.proofs.Common.{length, subst, sym}
+use Rattle.pilot_search.specs.declared.sweeping.Best.{Best}
+use Rattle.mobile_core.specs.Given.{at_of}
+use Rattle.mobile_core.specs.Left.{pilot_left}
+use Rattle.mobile_core.specs.Standing.{Stands, parts}
+use Rattle.mobile_core.specs.declared.event.Event.{Event}
+use Rattle.mobile_core.specs.declared.event.Event.TheVariants.{Pilot}
+use Rattle.mobile_core.proofs.FramesFollowed.{frames_few}
+use Rattle.mobile_core.proofs.PagesFollowed.{heard_few}
+use Rattle.mobile_core.proofs.Stood.{stands_told}
+use Rattle.mobile_core.proofs.mobile.Mobile.tell_pilot.Goals as goal
+
+pub returns-clause-steps : goal.returns-clause-steps
+returns-clause-steps c =
+    let m = c.args.self.now in
+    let best = c.in_ok-best.best in
+    let is : m.pilot ≡ Some best = sym c.in_ok-best.ensures.value in
+    let gone : c.take.new.self ≡ None = c.take.ensures.after in
+    let event = c.pilot_event.ensures in
+    let clock = m.sound.hears.channel.clocked in
+    record {
+      most = omega arith;
+      room = omega arith;
+      fewer = omega (
+        arith,
+        ap (λ (pilot : Option Best). length (pilot_left pilot)) is,
+        ap (λ (pilot : Option Best). length (pilot_left pilot)) gone,
+        heard_few m.followed.paging.receiver m.sound.follows.paging.receives,
+        frames_few m.followed.traffic.receiver m.sound.follows.traffic.receives,
+        clock.next_have,
+        clock.have_end,
+        clock.end_most,
+      );
+      ends = λ t heard given st.
+          let before : 0 ≡ length heard + 0 = omega (arith, st.early best is) in
+          ap at_of event ∙ before;
+      stands = λ t heard given st.
+          rw (append-nil heard)
+          (subst (λ (e : Event).
+          Stands t (record (parts m) { pilot = c.take.new.self }) heard (given ++ e ∷ [])) (sym event)
+          (subst (λ (pilot : Option Best).
+          Stands t (record (parts m) { pilot = pilot }) heard (given ++ Pilot best.phase best.energy ∷ [])) (sym gone)
+          (stands_told st best is)));
+    }
