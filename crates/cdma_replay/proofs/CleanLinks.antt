@@ -1,6 +1,6 @@
 -- What is written of a clean link is what its cell sends, channel by channel.
 use Rattle.std.proofs.Common.{◌≡◌, ◌⊎◌, inl, inr, ℕ, ◌≤◌, List, ◌++◌, length, take, refl}
-use Rattle.std.proofs.Common.{ap, ◌∙◌, subst, All, Option, Some, Ok, option_map}
+use Rattle.std.proofs.Common.{ap, ◌∙◌, subst, All, Option, Some, Ok}
 use Rattle.chip_core.specs.declared.sample.Sample.{Sample}
 use Rattle.chip_core.specs.declared.width.Width.{Width}
 use Rattle.cdma_io.specs.SampleFile.{IsSampleFile}
@@ -13,14 +13,13 @@ use Rattle.mobile_core.specs.Tuning.{Tuning}
 use Rattle.mobile_core.specs.declared.event.Event.{Event}
 use Rattle.chip_core.specs.declared.assignment.Traffic.{Traffic}
 use Rattle.cdma_words.specs.Words.{IsPaging}
-use Rattle.cdma_words.specs.declared.job.TrafficOptions.{TrafficOptions}
 use Rattle.clean_link.specs.CleanLink.{tuning_to, IsNotDirected, IsOnPath}
 use Rattle.cdma_replay.specs.CleanFiles.{IsCleanLink, cell_energy}
 use Rattle.clean_link.specs.HeardEach.{HearsEach}
 use Rattle.clean_link.proofs.messages.EachChannel.{each_channel}
 use Rattle.cdma_replay.specs.CleanLinks.{WritesEach}
 use Rattle.cdma_replay.specs.Hearing.{clean_end, file_end_of, file_text, told}
-use Rattle.cdma_replay.specs.Hearing.{traffic_of, tuning_for}
+use Rattle.cdma_replay.specs.Hearing.{tuning_for}
 use Rattle.cdma_replay.specs.Replies.{AnswersBehind, IsFileReply, Reply}
 use Rattle.cdma_replay.specs.Tasks.{following}
 use Rattle.cdma_replay.specs.declared.handset.Receiver.{Receiver}
@@ -30,14 +29,11 @@ use Rattle.cdma_replay.proofs.CleanTexts.{clean_end-is, clean_owed, on_path, tun
 use Rattle.cell_script.proofs.NamedPages.{named_receivable}
 
 module _ (width : Width) (script : List ℕ) (plan : CellPlan)
-    (span workers fingers paging : ℕ) (traffic : Option TrafficOptions) (header : Header)
+    (span workers fingers paging : ℕ) (traffic : Option Traffic) (header : Header)
     (samples : List Sample)
-    (clean : IsCleanLink width script plan span fingers paging (option_map traffic_of traffic)
+    (clean : IsCleanLink width script plan span fingers paging traffic
     header samples)
     (counted : length samples ≡ header.count) (one : IsPaging paging) where
-  abbrev followed : Option Traffic
-  followed = option_map traffic_of traffic
-
   abbrev receiver : Receiver
   receiver = record { fingers = fingers; paging = paging; traffic = traffic }
 
@@ -51,7 +47,7 @@ module _ (width : Width) (script : List ℕ) (plan : CellPlan)
   path = on_path width script plan span receiver header samples clean.file counted
 
   abbrev to_cell : Tuning
-  to_cell = tuning_to plan (cell_energy span plan) paging followed
+  to_cell = tuning_to plan (cell_energy span plan) paging traffic
 
   tuned_so : tuning ≡ to_cell
   tuned_so = tuned_to_cell width script plan span receiver header samples clean.file counted
@@ -72,7 +68,7 @@ module _ (width : Width) (script : List ℕ) (plan : CellPlan)
   each_text taps = ap (run_text taps) heard_is
 
   -- and of each channel that is what is sent
-  each_heard : HearsEach plan paging followed heard
+  each_heard : HearsEach plan paging traffic heard
   each_heard =
       each_channel width plan to_cell (named_receivable width script plan clean.file.named)
       (subst (IsOnPath plan) tuned_so path) one.0 one.1
@@ -86,7 +82,7 @@ module _ (width : Width) (script : List ℕ) (plan : CellPlan)
       IsFileReply taps (following span workers fingers paging traffic) bytes reply →
       (status ≡ NoMemory) ⊎ AnswersBehind held reply status written) →
       (status ≡ NoMemory) ⊎
-      ((status ≡ clean_end plan) × WritesEach taps span plan paging followed held written)
+      ((status ≡ clean_end plan) × WritesEach taps span plan paging traffic held written)
   each_answer taps bytes held status written file enough exact =
       let text = file_text taps (following span workers fingers paging traffic) header samples in
       let end = file_end_of (following span workers fingers paging traffic) header samples in

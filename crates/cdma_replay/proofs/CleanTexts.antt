@@ -1,6 +1,6 @@
 -- The text of a clean link.
 use Rattle.std.proofs.Common.{◌≡◌, ◌⊎◌, inl, inr, refl, ℕ, ◌≤◌, List, ◌∷◌, ◌++◌, length, take}
-use Rattle.std.proofs.Common.{sym, ap, ◌∙◌, subst, All, Option, Some, Ok, option_map}
+use Rattle.std.proofs.Common.{sym, ap, ◌∙◌, subst, All, Option, Some, Ok}
 use Rattle.std.specs.Prelude.{is_some, nat_lt}
 use Rattle.chip_core.specs.declared.sample.Sample.{Sample}
 use Rattle.cdma_io.specs.SampleFile.{IsSampleFile}
@@ -26,9 +26,9 @@ use Rattle.clean_link.specs.SentEvents.{FollowsSent, sent_events}
 use Rattle.clean_link.proofs.marks.MarksTrue.{marked_where_heard}
 use Rattle.clean_link.proofs.messages.MessagesBack.{messages_back, tuned_is}
 use Rattle.clean_link.proofs.signal.Samples.{length-made}
-use Rattle.cdma_words.specs.declared.job.TrafficOptions.{TrafficOptions}
+use Rattle.chip_core.specs.declared.assignment.Traffic.{Traffic}
 use Rattle.cdma_replay.specs.Hearing.{clean_end, clean_events, end_when, told}
-use Rattle.cdma_replay.specs.Hearing.{file_end_of, file_text, traffic_of, tuning_for}
+use Rattle.cdma_replay.specs.Hearing.{file_end_of, file_text, tuning_for}
 use Rattle.cdma_replay.specs.Replies.{AnswersBehind, IsFileReply, IsWholeFile, Reply}
 use Rattle.cdma_replay.specs.Tasks.{following}
 use Rattle.cdma_replay.specs.declared.handset.Receiver.{Receiver}
@@ -63,7 +63,7 @@ on_path width script plan span receiver header samples file counted =
 tuned : (width : Width) (script : List ℕ) (plan : CellPlan) (span : ℕ) (receiver : Receiver)
     (header : Header) (samples : List Sample) →
     IsCleanLink width script plan span receiver.fingers receiver.paging
-    (option_map traffic_of receiver.traffic) header samples → IsFreeOf plan.traffic receiver.paging →
+    receiver.traffic header samples → IsFreeOf plan.traffic receiver.paging →
     length samples ≡ header.count → IsPaging receiver.paging →
     IsTunedTo plan (tuning_for header (take span samples) receiver)
 tuned width script plan span receiver header samples clean free counted paging = record {
@@ -79,22 +79,21 @@ pub tuned_to_cell : (width : Width) (script : List ℕ) (plan : CellPlan) (span 
     IsCellFile width script plan span receiver.fingers header samples →
     length samples ≡ header.count →
     tuning_for header (take span samples) receiver
-    ≡ tuning_to plan (cell_energy span plan) receiver.paging (option_map traffic_of receiver.traffic)
+    ≡ tuning_to plan (cell_energy span plan) receiver.paging receiver.traffic
 tuned_to_cell width script plan span receiver header samples file counted =
     let t = tuning_for header (take span samples) receiver in
     let phase = phase_at plan plan.link.start in
-    let followed = option_map traffic_of receiver.traffic in
     let energy_is : t.energy ≡ cell_energy span plan =
     ap (energy (take span samples)) file.found
     ∙ ap (λ (s : List Sample). energy (take span s) phase) file.sent in
     tuned_is plan t (on_path width script plan span receiver header samples file counted)
-    ∙ ap (λ (e : ℕ). tuning_to plan e receiver.paging followed) energy_is
+    ∙ ap (λ (e : ℕ). tuning_to plan e receiver.paging receiver.traffic) energy_is
 
 -- and hears no direction
 undirected : (width : Width) (script : List ℕ) (plan : CellPlan) (span : ℕ) (receiver : Receiver)
     (header : Header) (samples : List Sample) →
     IsCleanLink width script plan span receiver.fingers receiver.paging
-    (option_map traffic_of receiver.traffic) header samples →
+    receiver.traffic header samples →
     length samples ≡ header.count →
     All IsNotDirected
     (events (tuning_for header (take span samples) receiver) (made_samples plan))
@@ -112,18 +111,17 @@ file_events span receiver header samples =
 
 -- those of a clean link are the cell's
 clean_events-are : (width : Width) (script : List ℕ) (plan : CellPlan)
-    (span fingers paging : ℕ) (traffic : Option TrafficOptions) (header : Header)
+    (span fingers paging : ℕ) (traffic : Option Traffic) (header : Header)
     (samples : List Sample) →
-    IsCleanLink width script plan span fingers paging (option_map traffic_of traffic) header
+    IsCleanLink width script plan span fingers paging traffic header
     samples → IsFreeOf plan.traffic paging →
-    FollowsSent plan (option_map traffic_of traffic) → length samples ≡ header.count →
+    FollowsSent plan traffic → length samples ≡ header.count →
     IsPaging paging →
     file_events span (record { fingers = fingers; paging = paging; traffic = traffic }) header samples
     ≡ clean_events span plan paging traffic
 unfolding clean_events
 clean_events-are width script plan span fingers paging traffic header samples clean free follows
     counted one =
-    let followed = option_map traffic_of traffic in
     let receiver : Receiver =
     record { fingers = fingers; paging = paging; traffic = traffic } in
     let t = tuning_for header (take span samples) receiver in
@@ -132,14 +130,14 @@ clean_events-are width script plan span fingers paging traffic header samples cl
     ap (events t) clean.file.sent
     ∙ messages_back width plan t (named_receivable width script plan clean.file.named) tuned_to follows
     (undirected width script plan span receiver header samples clean counted)
-    ∙ ap (λ (k : Tuning). sent_events plan k.energy paging followed)
+    ∙ ap (λ (k : Tuning). sent_events plan k.energy paging traffic)
     (tuned_to_cell width script plan span receiver header samples clean.file counted)
 
 -- and how the run ends
 pub clean_end-is : (width : Width) (script : List ℕ) (plan : CellPlan)
-    (span workers fingers paging : ℕ) (traffic : Option TrafficOptions) (header : Header)
+    (span workers fingers paging : ℕ) (traffic : Option Traffic) (header : Header)
     (samples : List Sample) →
-    IsCleanLink width script plan span fingers paging (option_map traffic_of traffic) header
+    IsCleanLink width script plan span fingers paging traffic header
     samples →
     length samples ≡ header.count →
     file_end_of (following span workers fingers paging traffic) header samples ≡ clean_end plan
@@ -158,11 +156,11 @@ clean_end-is width script plan span workers fingers paging traffic header sample
 
 -- so what is written of the file is written of the cell
 clean_text-is : (taps : List KeptTap) (width : Width) (script : List ℕ) (plan : CellPlan)
-    (span workers fingers paging : ℕ) (traffic : Option TrafficOptions) (header : Header)
+    (span workers fingers paging : ℕ) (traffic : Option Traffic) (header : Header)
     (samples : List Sample) →
-    IsCleanLink width script plan span fingers paging (option_map traffic_of traffic) header
+    IsCleanLink width script plan span fingers paging traffic header
     samples → IsFreeOf plan.traffic paging →
-    FollowsSent plan (option_map traffic_of traffic) → length samples ≡ header.count →
+    FollowsSent plan traffic → length samples ≡ header.count →
     IsPaging paging →
     file_text taps (following span workers fingers paging traffic) header samples ≡
     run_text taps (clean_events span plan paging traffic)
@@ -175,7 +173,7 @@ clean_text-is taps width script plan span workers fingers paging traffic header 
 
 -- the reply that such a file is owed
 pub clean_owed : (taps : List KeptTap) (span workers fingers paging : ℕ)
-    (traffic : Option TrafficOptions) (bytes : List ℕ) (header : Header) (samples : List Sample) →
+    (traffic : Option Traffic) (bytes : List ℕ) (header : Header) (samples : List Sample) →
     IsSampleFile bytes header samples → span ≤ length samples →
     IsWholeFile taps (following span workers fingers paging traffic) bytes
     (file_text taps (following span workers fingers paging traffic) header samples)
@@ -190,11 +188,11 @@ clean_owed taps span workers fingers paging traffic bytes header samples file en
 }
 
 clean_reply : (taps : List KeptTap) (width : Width) (script held : List ℕ)
-    (plan : CellPlan) (span workers fingers paging : ℕ) (traffic : Option TrafficOptions)
+    (plan : CellPlan) (span workers fingers paging : ℕ) (traffic : Option Traffic)
     (header : Header) (samples : List Sample) (status : Status) (written : Option (List ℕ)) →
-    IsCleanLink width script plan span fingers paging (option_map traffic_of traffic) header
+    IsCleanLink width script plan span fingers paging traffic header
     samples → IsFreeOf plan.traffic paging →
-    FollowsSent plan (option_map traffic_of traffic) → length samples ≡ header.count →
+    FollowsSent plan traffic → length samples ≡ header.count →
     IsPaging paging →
     (status ≡ NoMemory) ⊎
     ((status ≡ file_end_of (following span workers fingers paging traffic) header samples) ×
@@ -217,11 +215,11 @@ clean_reply taps width script held plan span workers fingers paging traffic head
 
 -- so a run that answers what it owes answers that
 pub clean_answer : (taps : List KeptTap) (width : Width) (script bytes held : List ℕ)
-    (plan : CellPlan) (span workers fingers paging : ℕ) (traffic : Option TrafficOptions)
+    (plan : CellPlan) (span workers fingers paging : ℕ) (traffic : Option Traffic)
     (header : Header) (samples : List Sample) (status : Status) (written : Option (List ℕ)) →
     IsSampleFile bytes header samples → span ≤ length samples → IsPaging paging →
-    IsCleanLink width script plan span fingers paging (option_map traffic_of traffic) header
-    samples → IsFreeOf plan.traffic paging → FollowsSent plan (option_map traffic_of traffic) →
+    IsCleanLink width script plan span fingers paging traffic header
+    samples → IsFreeOf plan.traffic paging → FollowsSent plan traffic →
     ((reply : Reply) → IsFileReply taps (following span workers fingers paging traffic) bytes reply →
     (status ≡ NoMemory) ⊎ AnswersBehind held reply status written) →
     (status ≡ NoMemory) ⊎

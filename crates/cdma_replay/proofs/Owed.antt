@@ -205,9 +205,9 @@ workers_change_nothing forms (jobs.Find span workers) n bytes reply owed =
     shared _ _ n bytes reply owed
 workers_change_nothing forms (jobs.Follow span workers fingers paging traffic limits) n bytes reply
     owed = shared _ _ n bytes reply owed
-workers_change_nothing forms (jobs.Rate2 span workers fingers traffic) n bytes reply owed =
+workers_change_nothing forms (jobs.Rate2 span workers fingers offset esn row) n bytes reply owed =
     shared _ _ n bytes reply owed
-workers_change_nothing forms (jobs.List span workers fingers traffic k) n bytes reply owed =
+workers_change_nothing forms (jobs.List span workers fingers offset esn row k) n bytes reply owed =
     shared _ _ n bytes reply owed
 workers_change_nothing forms (jobs.Idle span workers fingers paging key cycle) n bytes reply owed =
     shared _ _ n bytes reply owed
@@ -253,12 +253,12 @@ frames_owed span workers fingers channel text bytes header samples file enough =
 
 pub rate2_owes : Rate2OwesTheFrames
 unfolding file_end_of told
-rate2_owes span workers fingers traffic forms bytes header samples file enough =
+rate2_owes span workers fingers offset esn row forms bytes header samples file enough =
     frames_owed span workers fingers _ _ bytes header samples file enough
 
 pub list_owes : ListOwesTheFrames
 unfolding file_end_of told
-list_owes span workers fingers traffic k forms bytes header samples file enough =
+list_owes span workers fingers offset esn row k forms bytes header samples file enough =
     frames_owed span workers fingers _ _ bytes header samples file enough
 
 pub idle_owes : IdleOwesTheSlots

@@ -8,7 +8,7 @@ use Rattle.cell_plan.specs.declared.plan.CellPlan.{CellPlan}
 use Rattle.cell_plan.specs.declared.plan.TrafficPlan.{TrafficPlan}
 use Rattle.mobile_core.specs.Marks.{mark}
 use Rattle.mobile_core.specs.declared.channel.Channel.TheVariants as channels
-use Rattle.cdma_words.specs.declared.job.TrafficOptions.{TrafficOptions}
+use Rattle.chip_core.specs.declared.assignment.Traffic.{Traffic}
 use Rattle.clean_link.specs.CleanLink.{sync_sent}
 use Rattle.clean_link.specs.HeardFrames.{SendsSetOne, SendsSetTwo}
 use Rattle.clean_link.specs.SentEvents.{told_with_sync}
@@ -17,7 +17,7 @@ use Rattle.clean_link.proofs.signal.Samples.{length-made}
 use Rattle.tuned_listener.specs.declared.tuned_text.TunedText.{TunedText}
 use Rattle.tuned_listener.specs.declared.tuned_text.TunedText.TheVariants.{Listed, RateSetTwo}
 use Rattle.cdma_replay.specs.CleanFiles.{IsCellFile}
-use Rattle.cdma_replay.specs.Hearing.{clean_end, end_when, file_end_of, file_text, traffic_of}
+use Rattle.cdma_replay.specs.Hearing.{clean_end, end_when, file_end_of, file_text}
 use Rattle.cdma_replay.specs.Hearing.{tuning_for, waiting}
 use Rattle.cdma_replay.specs.Replies.{IsFileReply, Reply}
 use Rattle.cdma_replay.specs.SentLines.{IsLineOfSetOne, IsLineOfSetTwo, IsSentText, LinesComeBack}
@@ -53,12 +53,12 @@ cell_end width script plan span receiver header samples cell counted =
 module _ (form : TunedText) (Sends : TrafficPlan → Type 0)
     (Is : CellPlan → TrafficPlan → ℕ → List ℕ → Type 0) (lines : LinesComeBack form Sends Is)
     (script bytes : List ℕ) (width : Width) (plan : CellPlan) (p : TrafficPlan)
-    (span workers fingers : ℕ) (traffic : TrafficOptions) (header : Header)
+    (span workers fingers : ℕ) (traffic : Traffic) (header : Header)
     (samples : List Sample)
     (heard : IsHeardFrom script bytes width plan p span fingers traffic header samples)
     (sends : Sends p) where
   abbrev r : Reception
-  r = hearing span workers fingers (channels.Traffic (traffic_of traffic)) form
+  r = hearing span workers fingers (channels.Traffic traffic) form
 
   abbrev receiver : Receiver
   receiver = waiting fingers
@@ -68,14 +68,14 @@ module _ (form : TunedText) (Sends : TrafficPlan → Type 0)
       (file_text [] r header samples)
   text_is =
       subst (IsSentText plan p (Is plan p) (told_with_sync plan plan.sync))
-      (sym (text_heard r fingers (channels.Traffic (traffic_of traffic)) form header samples refl))
-      (lines width script plan p span receiver (traffic_of traffic) header samples heard.cell
+      (sym (text_heard r fingers (channels.Traffic traffic) form header samples refl))
+      (lines width script plan p span receiver traffic header samples heard.cell
       heard.file.counted heard.sent heard.assigned sends)
 
   -- and the end is that of the whole sendings
   end_is : file_end_of r header samples ≡ clean_end plan
   end_is =
-      end_heard r fingers (channels.Traffic (traffic_of traffic)) form header samples refl
+      end_heard r fingers (channels.Traffic traffic) form header samples refl
       ∙ cell_end width script plan span receiver header samples heard.cell heard.file.counted
 
   -- so it is of each reply that is owed

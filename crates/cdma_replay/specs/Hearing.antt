@@ -2,7 +2,7 @@
 use Rattle.std.specs.Prelude.{◌≡◌, ℕ, ◌-◌, ◌≤◌, replicate, pos, slice_get, Bool, true}
 use Rattle.std.specs.Prelude.{if◌then◌else◌}
 use Rattle.std.specs.Prelude.{List, [], ◌∷◌, ◌++◌, length, take, All, Option, None, Some, IfSome}
-use Rattle.std.specs.Prelude.{is_some, option_map}
+use Rattle.std.specs.Prelude.{is_some}
 use Rattle.std.specs.Prelude.{nat_lt}
 use Rattle.std.specs.List.{flat_map}
 use Rattle.std.specs.Io.{StartsWith}
@@ -25,7 +25,6 @@ use Rattle.mobile_core.specs.declared.event.Event.TheVariants.{Pilot}
 use Rattle.mobile_core.specs.declared.mobile.Mobile.{Mobile}
 use Rattle.chip_core.specs.declared.assignment.Traffic.{Traffic}
 use Rattle.cdma_words.specs.Words.{IsFingers, IsLawfulTraffic, IsPaging}
-use Rattle.cdma_words.specs.declared.job.TrafficOptions.{TrafficOptions}
 use Rattle.event_tap.specs.EventLines.{event_line}
 use Rattle.event_tap.specs.Taps.{KeptTap, run_taps, run_text}
 use Rattle.clean_link.specs.CleanLink.{sync_sent}
@@ -59,11 +58,6 @@ first_text (Follow receiver) first = []
 first_text (Tuned fingers channel text) first = []
 first_text (Survey base width top) first = survey_text base width top first
 
--- the traffic channel that words name, as a handset is told of it
-abbrev pub traffic_of : TrafficOptions → Traffic
-traffic_of options =
-    record { esn = options.esn; row = options.row; offset = options.offset }
-
 -- a handset that follows a file of this header, where the pilot was searched in its first samples
 abbrev pub tuning_for : Header → List Sample → Receiver → Tuning
 tuning_for header first receiver =
@@ -75,7 +69,7 @@ tuning_for header first receiver =
       check30 = header.check30;
       check16 = header.check16;
       paging = receiver.paging;
-      traffic = option_map traffic_of receiver.traffic;
+      traffic = receiver.traffic;
     }
 
 -- one that waits for the mark: which paging channel it would follow from there on doesn't matter
@@ -134,9 +128,9 @@ IsUnheard purpose = ⊥
 -- what is told of a clean link: the pilot at the cell's phase, all whole sendings, the whole pages of
 -- the paging channel that is followed, and the frames of the traffic channel that is, with the
 -- messages that their signaling spells and the pilot sets
-unfoldable pub clean_events : ℕ → CellPlan → ℕ → Option TrafficOptions → List Event
+unfoldable pub clean_events : ℕ → CellPlan → ℕ → Option Traffic → List Event
 clean_events span plan paging traffic =
-    sent_events plan (cell_energy span plan) paging (option_map traffic_of traffic)
+    sent_events plan (cell_energy span plan) paging traffic
 
 -- how a run over a clean link ends: each whole sending tells the time
 abbrev pub clean_end : CellPlan → Status

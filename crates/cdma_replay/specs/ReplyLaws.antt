@@ -21,8 +21,8 @@ use Rattle.tuned_listener.specs.declared.tuned_text.TunedText.{TunedText}
 use Rattle.tuned_listener.specs.declared.tuned_text.TunedText.TheVariants.{Listed, RateSetTwo, Slots}
 use Rattle.cdma_words.specs.declared.job.Job.{Job}
 use Rattle.cdma_words.specs.declared.job.Job.TheVariants as jobs
-use Rattle.cdma_words.specs.declared.job.TrafficOptions.{TrafficOptions}
-use Rattle.cdma_replay.specs.Hearing.{end_when, traffic_of, tuning_for, waiting}
+use Rattle.cdma_replay.specs.Hearing.{end_when, tuning_for, waiting}
+use Rattle.cdma_replay.specs.Tasks.{traffic_with}
 use Rattle.cdma_replay.specs.Make.{made_file}
 use Rattle.cdma_replay.specs.Ranks.{survey_text}
 use Rattle.cdma_replay.specs.Replies.{IsReply, Reply}
@@ -41,8 +41,10 @@ abbrev pub with_workers : ℕ → Job → Job
 with_workers n (jobs.Find span workers) = jobs.Find span n
 with_workers n (jobs.Follow span workers fingers paging traffic limits) =
     jobs.Follow span n fingers paging traffic limits
-with_workers n (jobs.Rate2 span workers fingers traffic) = jobs.Rate2 span n fingers traffic
-with_workers n (jobs.List span workers fingers traffic k) = jobs.List span n fingers traffic k
+with_workers n (jobs.Rate2 span workers fingers offset esn row) =
+    jobs.Rate2 span n fingers offset esn row
+with_workers n (jobs.List span workers fingers offset esn row k) =
+    jobs.List span n fingers offset esn row k
 with_workers n (jobs.Idle span workers fingers paging key cycle) =
     jobs.Idle span n fingers paging key cycle
 with_workers n (jobs.Survey span workers base width top) = jobs.Survey span n base width top
@@ -91,15 +93,15 @@ OwesTheFrames job span fingers channel text =
 -- for `rate2` of rate set 2, for `list` of rate set 1 by lists of words, for `idle` in slots
 abbrev pub Rate2OwesTheFrames : Type 0
 Rate2OwesTheFrames =
-    (span workers fingers : ℕ) (traffic : TrafficOptions) →
-    OwesTheFrames (jobs.Rate2 span workers fingers traffic) span fingers
-    (channels.Traffic (traffic_of traffic)) RateSetTwo
+    (span workers fingers offset esn row : ℕ) →
+    OwesTheFrames (jobs.Rate2 span workers fingers offset esn row) span fingers
+    (traffic_with esn row offset) RateSetTwo
 
 abbrev pub ListOwesTheFrames : Type 0
 ListOwesTheFrames =
-    (span workers fingers : ℕ) (traffic : TrafficOptions) (k : ℕ) →
-    OwesTheFrames (jobs.List span workers fingers traffic k) span fingers
-    (channels.Traffic (traffic_of traffic)) (Listed k)
+    (span workers fingers offset esn row k : ℕ) →
+    OwesTheFrames (jobs.List span workers fingers offset esn row k) span fingers
+    (traffic_with esn row offset) (Listed k)
 
 abbrev pub IdleOwesTheSlots : Type 0
 IdleOwesTheSlots =

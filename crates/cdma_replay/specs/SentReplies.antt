@@ -10,11 +10,11 @@ use Rattle.cell_plan.specs.declared.plan.CellPlan.{CellPlan}
 use Rattle.cell_plan.specs.declared.plan.TrafficPlan.{TrafficPlan}
 use Rattle.cdma_words.specs.declared.job.Job.{Job}
 use Rattle.cdma_words.specs.declared.job.Job.TheVariants as jobs
-use Rattle.cdma_words.specs.declared.job.TrafficOptions.{TrafficOptions}
+use Rattle.chip_core.specs.declared.assignment.Traffic.{Traffic}
 use Rattle.cdma_replay.specs.CleanFiles.{IsCellFile}
 use Rattle.clean_link.specs.HeardFrames.{IsAssigned, SendsSetOne, SendsSetTwo}
 use Rattle.clean_link.specs.SentEvents.{told_with_sync}
-use Rattle.cdma_replay.specs.Hearing.{clean_end, traffic_of}
+use Rattle.cdma_replay.specs.Hearing.{clean_end}
 use Rattle.cdma_replay.specs.Replies.{IsReply, Reply}
 use Rattle.cdma_replay.specs.SentLines.{IsLineOfSetOne, IsLineOfSetTwo, IsSentText}
 
@@ -27,19 +27,19 @@ IsSentReply plan p Is (Err end) = ⊥
 -- A sample file of as many samples as the span is or more, which holds what a script's cell sends, and
 -- words that name a traffic channel that the cell sends.
 pub record IsHeardFrom (script bytes : List ℕ) (width : Width) (plan : CellPlan) (p : TrafficPlan)
-    (span fingers : ℕ) (traffic : TrafficOptions) (header : Header) (samples : List Sample) :
+    (span fingers : ℕ) (traffic : Traffic) (header : Header) (samples : List Sample) :
     Type 0 where
   pub file : IsSampleFile bytes header samples
   pub enough : span ≤ length samples
   pub cell : IsCellFile width script plan span fingers header samples
   pub sent : Contains plan.traffic p
-  pub assigned : IsAssigned p (traffic_of traffic)
+  pub assigned : IsAssigned p traffic
 
 -- Of such a file a job owes just the lines of the channel's frames.
-abbrev pub RepliesComeBack : (ℕ → ℕ → ℕ → TrafficOptions → Job) → (TrafficPlan → Type 0) →
+abbrev pub RepliesComeBack : (ℕ → ℕ → ℕ → Traffic → Job) → (TrafficPlan → Type 0) →
     (CellPlan → TrafficPlan → ℕ → List ℕ → Type 0) → Type 0
 RepliesComeBack job Sends Is = (forms script bytes : List ℕ) (width : Width) (plan : CellPlan)
-    (p : TrafficPlan) (span workers fingers : ℕ) (traffic : TrafficOptions) (header : Header)
+    (p : TrafficPlan) (span workers fingers : ℕ) (traffic : Traffic) (header : Header)
     (samples : List Sample) (reply : Reply) →
     IsHeardFrom script bytes width plan p span fingers traffic header samples → Sends p →
     IsReply forms (job span workers fingers traffic) bytes reply →
@@ -48,11 +48,13 @@ RepliesComeBack job Sends Is = (forms script bytes : List ℕ) (width : Width) (
 -- so does `rate2` of a channel of rate set 2
 abbrev pub Rate2RepliesComeBack : Type 0
 Rate2RepliesComeBack = RepliesComeBack
-    (λ span workers fingers traffic. jobs.Rate2 span workers fingers traffic) SendsSetTwo
+    (λ span workers fingers traffic.
+    jobs.Rate2 span workers fingers traffic.offset traffic.esn traffic.row) SendsSetTwo
     IsLineOfSetTwo
 
 -- and `list` of a channel of rate set 1, with any number of words of a rate from 1 on
 abbrev pub ListRepliesComeBack : Type 0
 ListRepliesComeBack = (k : ℕ) → 1 ≤ k → RepliesComeBack
-    (λ span workers fingers traffic. jobs.List span workers fingers traffic k) SendsSetOne
+    (λ span workers fingers traffic.
+    jobs.List span workers fingers traffic.offset traffic.esn traffic.row k) SendsSetOne
     IsLineOfSetOne

@@ -7,12 +7,11 @@ use Rattle.tuned_listener.specs.declared.tuned_text.TunedText.TheVariants.{Liste
 use Rattle.cdma_words.specs.Words.{IsWorkers}
 use Rattle.cdma_words.specs.declared.job.Job.{Job}
 use Rattle.cdma_words.specs.declared.job.Job.TheVariants as jobs
-use Rattle.cdma_words.specs.declared.job.TrafficOptions.{TrafficOptions}
+use Rattle.chip_core.specs.declared.assignment.Traffic.{Traffic}
 use Rattle.cdma_replay.specs.declared.purpose.Purpose.TheVariants as purposes
 use Rattle.cdma_replay.specs.declared.receiving.Reception.{Reception}
 use Rattle.cdma_replay.specs.declared.task.Task.{Task}
 use Rattle.cdma_replay.specs.declared.task.Task.TheVariants.{Make, Receive, Trial}
-use Rattle.cdma_replay.specs.Hearing.{traffic_of}
 use Rattle.cdma_replay.specs.Openings.{IsLawfulPurpose}
 
 -- ---- how sample files are received
@@ -21,7 +20,7 @@ use Rattle.cdma_replay.specs.Openings.{IsLawfulPurpose}
 abbrev pub finding : ℕ → ℕ → Reception
 finding span workers = record { span = span; workers = workers; purpose = purposes.Find }
 
-abbrev pub following : ℕ → ℕ → ℕ → ℕ → Option TrafficOptions → Reception
+abbrev pub following : ℕ → ℕ → ℕ → ℕ → Option Traffic → Reception
 following span workers fingers paging traffic = record {
   span = span;
   workers = workers;
@@ -43,6 +42,11 @@ hearing span workers fingers channel text = record {
   purpose = purposes.Tuned fingers channel text;
 }
 
+-- a traffic channel of these numbers
+abbrev pub traffic_with : ℕ → ℕ → ℕ → Channel
+traffic_with esn row offset =
+    channels.Traffic (record { esn = esn; row = row; offset = offset })
+
 -- ---- the table
 
 -- a sample file is received, and taps hear nothing
@@ -54,10 +58,10 @@ abbrev pub task_of : Job → Task
 task_of (jobs.Find span workers) = untapped (finding span workers)
 task_of (jobs.Follow span workers fingers paging traffic limits) =
     Receive (following span workers fingers paging traffic) (Some limits)
-task_of (jobs.Rate2 span workers fingers traffic) =
-    untapped (hearing span workers fingers (channels.Traffic (traffic_of traffic)) RateSetTwo)
-task_of (jobs.List span workers fingers traffic k) =
-    untapped (hearing span workers fingers (channels.Traffic (traffic_of traffic)) (Listed k))
+task_of (jobs.Rate2 span workers fingers offset esn row) =
+    untapped (hearing span workers fingers (traffic_with esn row offset) RateSetTwo)
+task_of (jobs.List span workers fingers offset esn row k) =
+    untapped (hearing span workers fingers (traffic_with esn row offset) (Listed k))
 task_of (jobs.Idle span workers fingers paging key cycle) =
     untapped (hearing span workers fingers (channels.Paging paging) (Slots key cycle))
 task_of (jobs.Survey span workers base width top) =

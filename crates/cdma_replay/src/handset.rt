@@ -1,19 +1,14 @@
 //! How a handset receives samples, and how it is opened on the pilot's paths.
 
-ghost use Rattle.std.specs.Prelude.{◌≡◌, List, [], ℕ, IfOk, option_map};
-ghost use Rattle.std.specs.Option.{ForSome};
+ghost use Rattle.std.specs.Prelude.{◌≡◌, List, [], IfOk};
 ghost use Rattle.chip_core.specs.declared.sample.Sample.{Sample as TheSample};
 ghost use Rattle.cdma_io.specs.SampleFile.{IsLawfulHeader};
 ghost use Rattle.pilot_search.specs.BestIn.{IsBestIn};
 ghost use Rattle.mobile_core.specs.Standing.{StandsFor, has_room};
-ghost use Rattle.mobile_core.specs.TrafficMonitoring.{IsSoundAssignment};
-ghost use Rattle.cdma_words.specs.Words.{IsLawfulTraffic};
 ghost use Rattle.tuned_listener.specs.Marking.{IsUntold};
-ghost use Rattle.cdma_replay.specs.Hearing.{AreNearTo, AreReady, IsLawfulReceiver, traffic_of};
-ghost use Rattle.cdma_replay.specs.Hearing.{tuning_for};
+ghost use Rattle.cdma_replay.specs.Hearing.{AreNearTo, AreReady, IsLawfulReceiver, tuning_for};
 
 use cdma_io::Header;
-use cdma_words::TrafficOptions;
 use chip_core::OutOfMemory;
 use mobile_core::{Mobile, Settings, Traffic};
 use pilot_search::{Best, Near};
@@ -28,28 +23,12 @@ pub struct Receiver {
     /// The number of the paging channel that it follows, 1 to 7.
     pub paging: u8,
     /// The traffic channel that it follows; `None` where it follows none.
-    pub traffic: Option<TrafficOptions>,
-}
-
-/// The traffic channel that words name, as a handset is told of it.
-pub fn followed(options: TrafficOptions) -> Traffic
-    ensures { result ≡ traffic_of options }
-{
-    let TrafficOptions { esn, row, offset } = options;
-    Traffic { esn, row, offset }
-}
-
-/// The same, where words name one.
-fn assigned(options: Option<TrafficOptions>) -> Option<Traffic>
-    ensures value { result ≡ option_map traffic_of options }
-    ensures sound { (paging : ℕ) → IsLawfulTraffic paging options →
-        ForSome result IsSoundAssignment }
-{
-    Some(followed(options?))
+    pub traffic: Option<Traffic>,
 }
 
 /// A handset for samples of this header, with paths near the pilot's phase. It has a table of the
 /// codes of its own.
+#[tactic(auto, using(crate::proofs::Hearings::sound_assignment))]
 pub fn handset(
     alloc: Global,
     header: Header,
@@ -70,7 +49,7 @@ pub fn handset(
     let settings = Settings {
         fingers: near.count,
         paging: receiver.paging,
-        traffic: assigned(receiver.traffic),
+        traffic: receiver.traffic,
         check30: header.check30,
         check16: header.check16,
         count: header.count,

@@ -34,6 +34,7 @@ mod worker_tests;
 mod workspace;
 
 use cdma_io::{Failed, ReaderSource, WriterSink};
+pub use cdma_words::{Job, WordFault, words_of};
 use event_tap::{FrameTap, MessageTap, PilotTap, RawTap, Tap};
 use pilot_search::Open;
 pub use replaying::replay;

@@ -16,13 +16,13 @@ ghost use Rattle.cdma_replay.specs.CleanFiles.{IsCleanLink};
 ghost use Rattle.clean_link.specs.SentEvents.{FollowsSent};
 ghost use Rattle.cdma_words.specs.declared.job.Job.{Job as TheJob};
 ghost use Rattle.cdma_words.specs.declared.job.Job.TheVariants.{Follow, Trial};
-ghost use Rattle.cdma_words.specs.declared.job.TrafficOptions.{TrafficOptions as TheTraffic};
+ghost use Rattle.chip_core.specs.declared.assignment.Traffic.{Traffic as TheTraffic};
 ghost use Rattle.cdma_words.specs.Words.{IsWorkers, job_named};
 ghost use Rattle.cdma_replay.specs.CleanLinks.{WritesEach};
 ghost use Rattle.cdma_replay.specs.Broken.{IsCut, IsLong, WritesAll, WritesFirst};
 ghost use Rattle.cdma_replay.specs.Find.{BeginsFile, BeginsText, IsEnd, IsHeaderFault, TakesNoMore};
 ghost use Rattle.cdma_replay.specs.Find.{ended};
-ghost use Rattle.cdma_replay.specs.Hearing.{clean_end, clean_events, traffic_of};
+ghost use Rattle.cdma_replay.specs.Hearing.{clean_end, clean_events};
 ghost use Rattle.cdma_replay.specs.Openings.{IsLawfulPurpose};
 ghost use Rattle.cdma_replay.specs.Replies.{AnswersBehind, Begins, BoundsInput, IsAnswered};
 ghost use Rattle.cdma_replay.specs.Replies.{IsEarlyFault, TaskTakesNoMore};
@@ -212,13 +212,13 @@ pub fn replay<R: Threads + Sync, S: Source, K: Sink, G: Gate + Sync>(
         job_named words.now ≡ Some (Follow span workers fingers paging traffic limits) →
         S.rest source.old ≡ Some bytes → K.written sink.old ≡ Some held →
         IsSampleFile bytes header samples → span ≤ length samples →
-        IsCleanLink width script plan span fingers paging (option_map traffic_of traffic) header
+        IsCleanLink width script plan span fingers paging traffic header
         samples →
         ¬ (Rose (S.faults source.old) (S.faults source.new)) →
         ¬ (Rose (K.faults sink.old) (K.faults sink.new)) →
         (result ≡ Status.NoMemory) ⊎ ((result ≡ clean_end plan) ×
         WritesEach (kept_by limits (map (λ b. shape b) taps.items)) span plan paging
-        (option_map traffic_of traffic) held (K.written sink.new)) }
+        traffic held (K.written sink.new)) }
     // Where moreover no traffic channel has the followed paging channel's row, and the traffic channel
     // that is followed is one of the cell's, each of whose frames is distinct, or none is, that is the
     // text of the pilot, of the whole sendings, of the followed paging channel's whole pages, of that
@@ -230,9 +230,9 @@ pub fn replay<R: Threads + Sync, S: Source, K: Sink, G: Gate + Sync>(
         job_named words.now ≡ Some (Follow span workers fingers paging traffic limits) →
         S.rest source.old ≡ Some bytes → K.written sink.old ≡ Some held →
         IsSampleFile bytes header samples → span ≤ length samples →
-        IsCleanLink width script plan span fingers paging (option_map traffic_of traffic) header
+        IsCleanLink width script plan span fingers paging traffic header
         samples → IsFreeOf plan.traffic paging →
-        FollowsSent plan (option_map traffic_of traffic) →
+        FollowsSent plan traffic →
         ¬ (Rose (S.faults source.old) (S.faults source.new)) →
         ¬ (Rose (K.faults sink.old) (K.faults sink.new)) →
         (result ≡ Status.NoMemory) ⊎ ((result ≡ clean_end plan) ×

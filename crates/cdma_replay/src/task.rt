@@ -4,12 +4,12 @@ ghost use Rattle.std.specs.Prelude.{◌≡◌};
 ghost use Rattle.cdma_words.specs.Words.{IsLawfulJob};
 ghost use Rattle.cdma_replay.specs.Tasks.{IsLawfulTask, hearing, task_of, untapped};
 
-use crate::handset::{Receiver, followed};
+use crate::handset::Receiver;
 use crate::purpose::Purpose;
 use crate::receiving::Reception;
 use cdma_io::Width;
 use cdma_words::Job;
-use mobile_core::Channel;
+use mobile_core::{Channel, Traffic};
 use tuned_listener::TunedText;
 
 /// What a run does for a job.
@@ -97,19 +97,23 @@ pub fn task_of(job: Job) -> Task
             span,
             workers,
             fingers,
-            traffic,
+            offset,
+            esn,
+            row,
         } => {
-            let channel = Channel::Traffic(followed(traffic));
+            let channel = Channel::Traffic(Traffic { esn, row, offset });
             untapped(hearing(span, workers, fingers, channel, TunedText::RateSetTwo))
         }
         Job::List {
             span,
             workers,
             fingers,
-            traffic,
+            offset,
+            esn,
+            row,
             k,
         } => {
-            let channel = Channel::Traffic(followed(traffic));
+            let channel = Channel::Traffic(Traffic { esn, row, offset });
             untapped(hearing(span, workers, fingers, channel, TunedText::Listed { k }))
         }
         Job::Idle {

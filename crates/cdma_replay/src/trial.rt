@@ -22,10 +22,9 @@ use crate::status::Status;
 use crate::workspace::Workspace;
 use base_modulator::{Cell, trial_script, trial_serial_number};
 use cdma_io::{Failed, Sink, Width, write_all};
-use cdma_words::TrafficOptions;
 use chip_core::{OutOfMemory, Sample};
 use event_tap::Text;
-use mobile_core::{Event, Mobile};
+use mobile_core::{Event, Mobile, Traffic};
 use pilot_search::{Gate, near, search};
 use short_code::Codes;
 use std::alloc::Global;
@@ -88,7 +87,7 @@ fn receiver_for(number: u64) -> Receiver
     Receiver {
         fingers: 1,
         paging: 1,
-        traffic: Some(TrafficOptions {
+        traffic: Some(Traffic {
             esn: trial_serial_number(number),
             row: 8,
             offset: 0,

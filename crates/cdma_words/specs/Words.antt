@@ -22,7 +22,7 @@ use Rattle.chip_core.specs.declared.width.Width.TheVariants.{Sixteen, Eight}
 use Rattle.cdma_words.specs.declared.job.Job.{Job}
 use Rattle.cdma_words.specs.declared.job.Job.TheVariants.{Find, Follow, Rate2, Idle, Survey, Make, Trial}
 use Rattle.cdma_words.specs.declared.job.Job.TheVariants as jobs
-use Rattle.cdma_words.specs.declared.job.TrafficOptions.{TrafficOptions}
+use Rattle.chip_core.specs.declared.assignment.Traffic.{Traffic}
 use Rattle.cdma_words.specs.declared.commands.Command.{Command}
 use Rattle.cdma_words.specs.declared.commands.Command.TheVariants as named
 use Rattle.cdma_words.specs.declared.grammar.Form.{Form}
@@ -128,7 +128,7 @@ receiver_with _ = None
 
 -- the traffic channel of a serial number, a row and an offset, which is else 0; the sync channel
 -- has row 32
-abbrev pub channel_with : List (Option ℕ) → Option TrafficOptions
+abbrev pub channel_with : List (Option ℕ) → Option Traffic
 channel_with (Some esn ∷ Some row ∷ offset ∷ []) =
     if nat_eq row 32 then None
     else Some (record { esn = esn; row = row; offset = unwrap_or offset 0 })
@@ -139,12 +139,12 @@ abbrev pub has_none : List (Option ℕ) → Bool
 has_none numbers = list_all (λ number. not (is_some number)) numbers
 
 -- a traffic channel beside a paging channel, which has a row of its own
-abbrev pub beside : ℕ → TrafficOptions → Option TrafficOptions
+abbrev pub beside : ℕ → Traffic → Option Traffic
 beside paging channel = if nat_eq channel.row paging then None else Some channel
 
 -- the traffic channel of these numbers beside a paging channel: where none of them is there, none
 -- is followed
-abbrev pub traffic_with : ℕ → List (Option ℕ) → Option (Option TrafficOptions)
+abbrev pub traffic_with : ℕ → List (Option ℕ) → Option (Option Traffic)
 traffic_with paging numbers =
     if has_none numbers then Some None
     else option_map Some (option_and_then (beside paging) (channel_with numbers))
@@ -166,14 +166,15 @@ follow_with _ = None
 abbrev pub rate2_with : List (Option ℕ) → Option Job
 rate2_with (span ∷ workers ∷ fingers ∷ channel) =
     option_and_then (λ receiver. option_map (λ traffic.
-    Rate2 receiver.span receiver.workers receiver.fingers traffic) (channel_with channel))
+    Rate2 receiver.span receiver.workers receiver.fingers traffic.offset traffic.esn traffic.row)
+    (channel_with channel))
     (receiver_with (span ∷ workers ∷ fingers ∷ []))
 rate2_with _ = None
 
 abbrev pub list_with : List (Option ℕ) → Option Job
 list_with (span ∷ workers ∷ fingers ∷ esn ∷ row ∷ offset ∷ Some k ∷ []) =
     option_and_then (λ receiver. option_map (λ traffic.
-    jobs.List receiver.span receiver.workers receiver.fingers traffic k)
+    jobs.List receiver.span receiver.workers receiver.fingers traffic.offset traffic.esn traffic.row k)
     (channel_with (esn ∷ row ∷ offset ∷ []))) (receiver_with (span ∷ workers ∷ fingers ∷ []))
 list_with _ = None
 
@@ -474,7 +475,7 @@ IsLawfulReceiver receiver =
     IsSpan receiver.span × IsWorkers receiver.workers × IsFingers receiver.fingers
 
 -- a traffic channel, whose Walsh row isn't the sync channel's
-pub record IsLawfulChannel (channel : TrafficOptions) : Type 0 where
+pub record IsLawfulChannel (channel : Traffic) : Type 0 where
   pub esn : channel.esn < 2 ^ 32
   pub least : 1 ≤ channel.row
   pub most : channel.row ≤ 63
@@ -482,7 +483,7 @@ pub record IsLawfulChannel (channel : TrafficOptions) : Type 0 where
   pub offset : channel.offset ≤ 15
 
 -- a traffic channel, or none, beside a paging channel
-abbrev pub IsLawfulTraffic : ℕ → Option TrafficOptions → Type 0
+abbrev pub IsLawfulTraffic : ℕ → Option Traffic → Type 0
 IsLawfulTraffic paging None = Unit {0}
 IsLawfulTraffic paging (Some channel) = IsLawfulChannel channel × (channel.row ≢ paging)
 
@@ -492,10 +493,12 @@ IsLawfulJob (Find span workers) = IsSpan span × IsWorkers workers
 IsLawfulJob (Follow span workers fingers paging traffic limits) =
     IsSpan span × IsWorkers workers × IsFingers fingers × IsPaging paging
     × IsLawfulTraffic paging traffic
-IsLawfulJob (Rate2 span workers fingers traffic) =
-    IsSpan span × IsWorkers workers × IsFingers fingers × IsLawfulChannel traffic
-IsLawfulJob (jobs.List span workers fingers traffic k) =
-    IsSpan span × IsWorkers workers × IsFingers fingers × IsLawfulChannel traffic × IsListLength k
+IsLawfulJob (Rate2 span workers fingers offset esn row) =
+    IsSpan span × IsWorkers workers × IsFingers fingers
+    × IsLawfulChannel (record { esn = esn; row = row; offset = offset })
+IsLawfulJob (jobs.List span workers fingers offset esn row k) =
+    IsSpan span × IsWorkers workers × IsFingers fingers
+    × IsLawfulChannel (record { esn = esn; row = row; offset = offset }) × IsListLength k
 IsLawfulJob (Idle span workers fingers paging key cycle) =
     IsSpan span × IsWorkers workers × IsFingers fingers × IsPaging paging × (key < 2 ^ 32)
     × IsCycle cycle

@@ -15,6 +15,7 @@ use crate::job::Job;
 use crate::receiving::{channel_with, receiver_with, traffic_with};
 use crate::texts::{Texts, number_by};
 use cdma_io::Width;
+use chip_core::Traffic;
 
 /// A command.
 #[derive(Clone, Copy)]
@@ -189,12 +190,14 @@ fn rate2_with<T: Texts>(texts: &T) -> Option<Job>
     ensures lawful { IfSome result IsLawfulJob }
 {
     let receiver = receiver_with(texts)?;
-    let traffic = channel_with(texts)?;
+    let Traffic { esn, row, offset } = channel_with(texts)?;
     Some(Job::Rate2 {
         span: receiver.span,
         workers: receiver.workers,
         fingers: receiver.fingers,
-        traffic,
+        offset,
+        esn,
+        row,
     })
 }
 
@@ -205,12 +208,14 @@ fn list_with<T: Texts>(texts: &T) -> Option<Job>
 {
     let k = number_by(texts, &LIST_LENGTH)?;
     let receiver = receiver_with(texts)?;
-    let traffic = channel_with(texts)?;
+    let Traffic { esn, row, offset } = channel_with(texts)?;
     Some(Job::List {
         span: receiver.span,
         workers: receiver.workers,
         fingers: receiver.fingers,
-        traffic,
+        offset,
+        esn,
+        row,
         k: k as u8,
     })
 }

@@ -8,6 +8,7 @@ use crate::matching::matches_by;
 use crate::testing::are_lawful;
 use crate::texts::Words;
 use cdma_io::Width;
+use chip_core::Traffic;
 use std::alloc::Global;
 
 /// What the words of the command line ask for.
@@ -30,8 +31,9 @@ pub enum Job {
         fingers: u8,
         /// The number of the paging channel that is followed, 1 to 7.
         paging: u8,
-        /// The traffic channel that is followed too, if one is.
-        traffic: Option<TrafficOptions>,
+        /// The traffic channel that is followed too, if one is. It has another row than the sync
+        /// channel and the paging channel.
+        traffic: Option<Traffic>,
         /// How many events are told in each form: pilots, messages, frames, and raw capsules.
         limits: [u32; 4],
     },
@@ -43,8 +45,12 @@ pub enum Job {
         workers: u8,
         /// How many paths of the signal are followed, 1 to 3.
         fingers: u8,
-        /// The traffic channel.
-        traffic: TrafficOptions,
+        /// FRAME_OFFSET of the traffic channel, 0 to 15.
+        offset: u8,
+        /// The handset's electronic serial number.
+        esn: u32,
+        /// The channel's Walsh row, 1 to 63 but not 32.
+        row: u8,
     },
     /// `list`: the frames of a traffic channel, each chosen of several words of a rate.
     List {
@@ -54,8 +60,12 @@ pub enum Job {
         workers: u8,
         /// How many paths of the signal are followed, 1 to 3.
         fingers: u8,
-        /// The traffic channel.
-        traffic: TrafficOptions,
+        /// FRAME_OFFSET of the traffic channel, 0 to 15.
+        offset: u8,
+        /// The handset's electronic serial number.
+        esn: u32,
+        /// The channel's Walsh row, 1 to 63 but not 32.
+        row: u8,
         /// How many of the best words of a rate are listed, 1 to 16.
         k: u8,
     },
@@ -99,17 +109,6 @@ pub enum Job {
         /// How many workers search the pilot, 1 to 64.
         workers: u8,
     },
-}
-
-/// The traffic channel that a handset is told to follow. It has another row than the sync channel.
-#[derive(Clone, Copy, PartialEq, Eq, Debug)]
-pub struct TrafficOptions {
-    /// The handset's electronic serial number.
-    pub esn: u32,
-    /// The Walsh row of its traffic channel, 1 to 63 but not 32.
-    pub row: u8,
-    /// FRAME_OFFSET, 0 to 15.
-    pub offset: u8,
 }
 
 /// Why words give no job.

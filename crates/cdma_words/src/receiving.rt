@@ -7,8 +7,8 @@ ghost use Rattle.cdma_words.specs.Words.{channel_rows, channel_with, has_none, n
 ghost use Rattle.cdma_words.specs.Words.{receiver_rows, receiver_with, traffic_with};
 
 use crate::grammar::{FINGERS, OFFSET, ROW, SERIAL_NUMBER, SPAN, WORKERS};
-use crate::job::TrafficOptions;
 use crate::texts::{Texts, number_by};
+use chip_core::Traffic;
 
 /// The Walsh row of the sync channel (TIA/EIA-95-B, 7.1.3.1.8).
 const SYNC_ROW: u128 = 32;
@@ -41,7 +41,7 @@ pub fn receiver_with<T: Texts>(texts: &T) -> Option<ReceiverOptions>
 
 /// The traffic channel of a serial number, a row and an offset, which is else 0; none where one of
 /// the first two is missing, and where the row is the sync channel's.
-pub fn channel_with<T: Texts>(texts: &T) -> Option<TrafficOptions>
+pub fn channel_with<T: Texts>(texts: &T) -> Option<Traffic>
     ensures value { result ≡ channel_with (numbers_by channel_rows (T.text_at texts.now)) }
     ensures lawful { IfSome result IsLawfulChannel }
 {
@@ -51,7 +51,7 @@ pub fn channel_with<T: Texts>(texts: &T) -> Option<TrafficOptions>
     if row == SYNC_ROW {
         return None;
     }
-    Some(TrafficOptions {
+    Some(Traffic {
         esn: esn as u32,
         row: row as u8,
         offset: offset.unwrap_or(0) as u8,
@@ -60,7 +60,7 @@ pub fn channel_with<T: Texts>(texts: &T) -> Option<TrafficOptions>
 
 /// The traffic channel beside a paging channel, if one is told; none where its options don't go
 /// together, and where its row is the paging channel's.
-pub fn traffic_with<T: Texts>(texts: &T, paging: u128) -> Option<Option<TrafficOptions>>
+pub fn traffic_with<T: Texts>(texts: &T, paging: u128) -> Option<Option<Traffic>>
     ensures value { result ≡ traffic_with paging (numbers_by channel_rows (T.text_at texts.now)) }
     ensures lawful { IfSome result (IsLawfulTraffic paging) }
 {

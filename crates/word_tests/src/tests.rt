@@ -1,7 +1,8 @@
 //! Words that are in the grammar, and words that aren't.
 
 use cdma_io::Width;
-use cdma_words::{Job, TrafficOptions, WordFault, words_of};
+use cdma_words::{Job, WordFault, words_of};
+use chip_core::Traffic;
 use std::alloc::Global;
 use std::test::Fail;
 
@@ -85,7 +86,7 @@ static RECEIVING: [(&str, Job); 13] = [
             workers: 4,
             fingers: 1,
             paging: 1,
-            traffic: Some(TrafficOptions {
+            traffic: Some(Traffic {
                 esn: 0,
                 row: 31,
                 offset: 0,
@@ -111,7 +112,7 @@ static RECEIVING: [(&str, Job); 13] = [
             workers: 4,
             fingers: 1,
             paging: 2,
-            traffic: Some(TrafficOptions {
+            traffic: Some(Traffic {
                 esn: 0xdeadbeef,
                 row: 1,
                 offset: 0,
@@ -125,11 +126,9 @@ static RECEIVING: [(&str, Job); 13] = [
             span: 2048,
             workers: 4,
             fingers: 1,
-            traffic: TrafficOptions {
-                esn: 0xabcd,
-                row: 10,
-                offset: 0,
-            },
+            offset: 0,
+            esn: 0xabcd,
+            row: 10,
         },
     ),
     (
@@ -138,11 +137,9 @@ static RECEIVING: [(&str, Job); 13] = [
             span: 64,
             workers: 64,
             fingers: 3,
-            traffic: TrafficOptions {
-                esn: 4294967295,
-                row: 63,
-                offset: 15,
-            },
+            offset: 15,
+            esn: 4294967295,
+            row: 63,
         },
     ),
     (
@@ -151,11 +148,9 @@ static RECEIVING: [(&str, Job); 13] = [
             span: 64,
             workers: 64,
             fingers: 1,
-            traffic: TrafficOptions {
-                esn: 0xabcd,
-                row: 1,
-                offset: 2,
-            },
+            offset: 2,
+            esn: 0xabcd,
+            row: 1,
             k: 16,
         },
     ),

@@ -17,10 +17,10 @@ returns-clause-given c first found near =
     fresh_given (record {
       fingers = paths.count;
       paging = c.args.receiver.paging;
-      traffic = c.assigned.result;
+      traffic = c.args.receiver.traffic;
       check30 = c.args.header.check30;
       check16 = c.args.header.check16;
       count = c.args.header.count;
     })
     c.args.header first c.args.receiver c.args.best paths c.in_ok-mobile.mobile found refl refl refl refl
-    c.assigned.ensures.value long near c.requires.near (search rules)
+    refl long near c.requires.near (search rules)
