@@ -1,12 +1,12 @@
-//! Tests of the search, the survey and the fingers by what their crates make public: samples whose
-//! best phase is known, workers that meet, and memory that is refused.
+//! Tests of the search and the survey by what their crates make public, of what no clause says: what
+//! the gates of workers are told, that workers are at work at once, and that phases are left.
 //!
 //! They stand apart from the crates, so that each of those is proved once.
 #![tactic(auto)]
 
 #[cfg(test)]
-mod pilot_search_searching_tests;
+mod gates;
 #[cfg(test)]
-mod pilot_survey_surveying_tests;
+mod search_tests;
 #[cfg(test)]
-mod rake_finger_tests;
+mod survey_tests;
