@@ -85,6 +85,22 @@ room_left counts left before room fewer = record {
 
 -- ---- a handset that has taken samples, whose events were counted
 
+-- the next samples of a cell were taken, and the events of all counted
+pub counted_next : (t : Tuning) (one other : Mobile) (counts next : Counts) (plan same : CellPlan)
+    (given later n : ℕ) → same ≡ plan →
+    (let all = made_samples same in
+    (before : List Event) → StandsFor t one (take given all) before → counts ≡ counts_of before →
+    StandsFor t other (take (given + n) all) (events t (take (given + n) all))
+    × (next ≡ counts_of (events t (take (given + n) all)))) →
+    later ≡ given + n →
+    (let had = take given (made_samples plan) in
+    StandsFor t one had (events t had) × (counts ≡ counts_of (events t had))) →
+    let has = take later (made_samples plan) in
+    StandsFor t other has (events t has) × (next ≡ counts_of (events t has))
+counted_next t one other counts next plan same given later n is told more was =
+    let told' = rw is at told in
+    rw more (told' (events t (take given (made_samples plan))) was.0 was.1)
+
 -- it stands for some events, and the counts are theirs
 abbrev pub IsCounted : Tuning → Mobile → Counts → List Sample → Type 0
 IsCounted t mobile counts heard =

@@ -28,7 +28,7 @@ use Rattle.cell_plan.proofs.Pieces.{no_sample}
 use Rattle.mobile_core.specs.Events.{events}
 use Rattle.chip_core.specs.declared.assignment.Traffic.{Traffic}
 use Rattle.clean_link.specs.CleanLink.{IsNotDirected, IsOnPath, tuning_to}
-use Rattle.cdma_replay.specs.CleanFiles.{IsCleanLink}
+use Rattle.cdma_replay.specs.CleanFiles.{IsCleanLink, cell_energy}
 use Rattle.clean_link.specs.SentEvents.{FollowsSent, signaling_sent}
 use Rattle.clean_link.proofs.messages.NoDirections.{no_event_directed}
 use Rattle.cell_plan.specs.Sampled.{made_samples}

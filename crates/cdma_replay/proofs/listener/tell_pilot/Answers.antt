@@ -23,19 +23,22 @@ pub returns-clause-ok : goal.returns-clause-ok
 returns-clause-ok g c =
     let event = c.in-Some.event in
     let gave : c.step-step.result.event ≡ Some event = search rules in
+    let told = rw gave at c.tell.ensures.ok in
+    let behind = rw gave at c.tell.ensures.behind in
     on_ok_both c.tell.result _ _ _
-    (λ written behind t stands. pilot_begins t c.args.mobile.now c.step-step.new.self
+    (λ written next t stands. pilot_begins t c.args.mobile.now c.step-step.new.self
     c.step-step.result event c.step-step.ensures gave stands (g.T.KeepsTaps.kept c.args.taps.now)
     (g.T.KeepsTaps.kept c.tell.new.self) (g.K.Sink.written c.args.sink.now)
-    (g.K.Sink.written c.tell.new.sink) written behind)
-    c.tell.ensures.ok c.tell.ensures.behind
+    (g.K.Sink.written c.tell.new.sink) written next)
+    told behind
 
 pub returns-clause-err : goal.returns-clause-err
 returns-clause-err g c =
     let event = c.in-Some.event in
     let gave : c.step-step.result.event ≡ Some event = search rules in
+    let begins = rw gave at c.tell.ensures.err in
     on_err c.tell.result _ _
     (λ part t samples stands. pilot_part t c.args.mobile.now c.step-step.new.self
     c.step-step.result event c.step-step.ensures gave stands (g.T.KeepsTaps.kept c.args.taps.now)
     samples (g.K.Sink.written c.args.sink.now) (g.K.Sink.written c.tell.new.sink) part)
-    c.tell.ensures.err
+    begins

@@ -1,10 +1,23 @@
-use Rattle.std.proofs.Common.{◌≤◌, ◌∙◌, List, ap, arith}
+use Rattle.std.proofs.Common.{◌≤◌, ◌∙◌, List, ap, arith, rules}
 use Rattle.chip_core.specs.declared.sample.Sample.{Sample}
 use Rattle.cell_plan.specs.declared.plan.CellPlan.{CellPlan}
 use Rattle.mobile_core.specs.Events.{events}
 use Rattle.cdma_replay.specs.Trials.{counts_of}
-use Rattle.cdma_replay.proofs.Counting.{made_all}
+use Rattle.cdma_replay.proofs.Counting.{counted_next, made_all}
 use Rattle.cdma_replay.proofs.trial.count_rest.Goals as goal
+
+pub loop-cell-preserved : goal.loop-cell-preserved
+loop-cell-preserved c =
+    let inv = c.loop-cell.invariant in
+    record {
+      plan = search rules;
+      room = search rules;
+      few = c.count_next.ensures.few;
+      piece = search rules;
+      told = λ t stands is. counted_next t c.loop-cell.mobile c.count_next.new.mobile
+          c.loop-cell.counts c.count_next.new.counts _ _ _ _ _ inv.plan (c.count_next.ensures.told t)
+          (search rules) (inv.told t stands is);
+    }
 
 pub returns : goal.returns
 returns c t stands is =
