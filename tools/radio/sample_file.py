@@ -6,7 +6,7 @@ import struct
 import numpy
 from numpy.typing import NDArray
 
-from .samples import Refused
+from .samples import Refused, with_zeros
 
 HEADER = struct.Struct(">4sHHQ")  # its word, version, flags and count
 # Of each version: how a part is kept, the greatest part, and the most samples.
@@ -49,10 +49,10 @@ class SampleFile:
 
     def read(self, first: int, count: int) -> NDArray[numpy.complex64]:
         """Samples first to first + count - 1, zeros where the file has none."""
-        out = numpy.zeros(count, dtype=numpy.complex64)
-        low, high = max(first, 0), min(first + count, self.count)
-        if low < high:
-            self.file.seek(HEADER.size + self.size * low)
-            parts = numpy.frombuffer(self.file.read(self.size * (high - low)), dtype=FORM[self.version])
-            out[low - first : high - first] = parts.astype(numpy.float32).view(numpy.complex64)
-        return out
+        return with_zeros(first, count, self.count, self.inside)
+
+    def inside(self, low: int, high: int) -> NDArray[numpy.complex64]:
+        """Samples low to high - 1, which the file has."""
+        self.file.seek(HEADER.size + self.size * low)
+        parts = numpy.frombuffer(self.file.read(self.size * (high - low)), dtype=FORM[self.version])
+        return parts.astype(numpy.float32).view(numpy.complex64)

@@ -1,6 +1,7 @@
 """Raw samples of a radio: their types, and reading them in any place."""
 
 import os
+from collections.abc import Callable
 from typing import NamedTuple
 
 import numpy
@@ -46,6 +47,17 @@ def sample_count(path: str, kind: str) -> int:
     return total // size
 
 
+def with_zeros(
+    first: int, count: int, held: int, inside: Callable[[int, int], NDArray[numpy.complex64]]
+) -> NDArray[numpy.complex64]:
+    """Samples first to first + count - 1, zeros where there are none of so many held: `inside` gives those low to high - 1."""
+    out = numpy.zeros(count, dtype=numpy.complex64)
+    low, high = max(first, 0), min(first + count, held)
+    if low < high:
+        out[low - first : high - first] = inside(low, high)
+    return out
+
+
 class Recording:
     """The samples of a recording as complex numbers of single precision, read where they are wanted.
 
@@ -77,11 +89,7 @@ class Recording:
 
     def read(self, first: int, count: int) -> NDArray[numpy.complex64]:
         """Samples first to first + count - 1, zeros where the recording has none."""
-        out = numpy.zeros(count, dtype=numpy.complex64)
-        low, high = max(first, 0), min(first + count, self.count)
-        if low < high:
-            out[low - first : high - first] = self.inside(low, high)
-        return out
+        return with_zeros(first, count, self.count, self.inside)
 
     def inside(self, low: int, high: int) -> NDArray[numpy.complex64]:
         """Samples low to high - 1, which the recording has."""

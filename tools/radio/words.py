@@ -2,15 +2,24 @@
 
 import argparse
 import math
+from collections.abc import Callable
 from fractions import Fraction
+from typing import TypeVar
+
+Number = TypeVar("Number")
+
+
+def read_by(form: Callable[[str], Number], text: str, fault: str) -> Number:
+    """A number of a form, as int or Fraction; where the text is none, the fault is said of it."""
+    try:
+        return form(text)
+    except (ValueError, ArithmeticError):
+        raise argparse.ArgumentTypeError(f"{fault}: {text!r}") from None
 
 
 def rate_of(text: str) -> Fraction:
     """A rate in samples a second, as a fraction."""
-    try:
-        rate = Fraction(text)
-    except (ValueError, ZeroDivisionError):
-        raise argparse.ArgumentTypeError(f"no number: {text!r}") from None
+    rate = read_by(Fraction, text, "no number")
     if rate <= 0:
         raise argparse.ArgumentTypeError(f"not above 0: {text!r}")
     return rate
@@ -18,23 +27,20 @@ def rate_of(text: str) -> Fraction:
 
 def scale_of(text: str) -> float | str:
     """A scale above 0, or the word fit."""
-    if text == "fit":
-        return text
-    try:
-        scale = float(text)
-    except ValueError:
-        raise argparse.ArgumentTypeError(f"neither a number nor the word fit: {text!r}") from None
-    if not 0 < scale < math.inf:
+    return text if text == "fit" else finite_of(text, "neither a number nor the word fit")
+
+
+def finite_of(text: str, fault: str = "no number") -> float:
+    """A finite number above 0."""
+    number = read_by(float, text, fault)
+    if not 0 < number < math.inf:
         raise argparse.ArgumentTypeError(f"not a finite number above 0: {text!r}")
-    return scale
+    return number
 
 
 def number_of(text: str) -> float:
     """A finite number."""
-    try:
-        number = float(text)
-    except ValueError:
-        raise argparse.ArgumentTypeError(f"no number: {text!r}") from None
+    number = read_by(float, text, "no number")
     if not math.isfinite(number):
         raise argparse.ArgumentTypeError(f"not finite: {text!r}")
     return number
@@ -50,10 +56,7 @@ def positive_of(text: str) -> float:
 
 def count_of(text: str) -> int:
     """A whole number from 0 on."""
-    try:
-        count = int(text)
-    except ValueError:
-        raise argparse.ArgumentTypeError(f"no whole number: {text!r}") from None
+    count = read_by(int, text, "no whole number")
     if count < 0:
         raise argparse.ArgumentTypeError(f"below 0: {text!r}")
     return count

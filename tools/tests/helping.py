@@ -6,6 +6,7 @@ import os
 import struct
 import subprocess
 import sys
+import tempfile
 import unittest
 
 ROOT = os.path.dirname(os.path.dirname(os.path.dirname(os.path.abspath(__file__))))
@@ -22,6 +23,13 @@ def needs(*names):
     for name in names:
         if importlib.util.find_spec(name) is None:
             raise unittest.SkipTest(f"no {name}: install the package python3-{name}")
+
+
+def temporary_folder(clean):
+    """The path of a new folder that goes with a test, or with a class of them: clean is its addCleanup or addClassCleanup."""
+    folder = tempfile.TemporaryDirectory()
+    clean(folder.cleanup)
+    return folder.name
 
 
 def loaded(name):

@@ -7,7 +7,6 @@ import io
 import os
 import subprocess
 import sys
-import tempfile
 import unittest
 from types import ModuleType
 from typing import Any
@@ -16,7 +15,7 @@ import numpy
 from numpy.typing import NDArray
 
 from tools.make_capture import I_LAGS, Q_LAGS, signs
-from tools.tests.helping import HEADER, PYTHON, TOOLS, loaded
+from tools.tests.helping import HEADER, PYTHON, TOOLS, loaded, temporary_folder
 
 CHIP_RATE = 1_228_800
 PERIOD = 32_768
@@ -106,9 +105,7 @@ class Recordings(unittest.TestCase):
 
     @classmethod
     def setUpClass(cls) -> None:
-        folder = tempfile.TemporaryDirectory()
-        cls.addClassCleanup(folder.cleanup)
-        cls.folder = folder.name
+        cls.folder = temporary_folder(cls.addClassCleanup)
         cls.sent = cell_chips(cls.CHIPS)
         cls.cell = write_cell(cls.at("cell.is95"), cls.sent)
 

@@ -3,14 +3,12 @@
 import contextlib
 import io
 import os
-import shutil
 import sys
-import tempfile
 import unittest
 from collections.abc import Callable
 from types import ModuleType
 
-from tools.tests.helping import EXAMPLES, PYTHON, ROOT, TOOLS, needs, run_tool, sample_file
+from tools.tests.helping import EXAMPLES, PYTHON, ROOT, TOOLS, needs, run_tool, sample_file, temporary_folder
 
 needs("numpy")
 
@@ -36,8 +34,7 @@ class Folder(unittest.TestCase):
     """A folder of cases of one's own."""
 
     def setUp(self) -> None:
-        self.folder = tempfile.mkdtemp()
-        self.addCleanup(shutil.rmtree, self.folder)
+        self.folder = temporary_folder(self.addCleanup)
         before = RUN.CASES
         self.addCleanup(setattr, RUN, "CASES", before)
         RUN.CASES = self.folder
@@ -135,8 +132,7 @@ class Check(Folder):
 
 class Agree(unittest.TestCase):
     def setUp(self) -> None:
-        self.folder = tempfile.mkdtemp()
-        self.addCleanup(shutil.rmtree, self.folder)
+        self.folder = temporary_folder(self.addCleanup)
 
     def program(self, behind: str = "") -> str:
         """The model as a program, whose output may go through something."""
@@ -187,8 +183,7 @@ class Agree(unittest.TestCase):
 class Explain(unittest.TestCase):
     @classmethod
     def setUpClass(cls) -> None:
-        cls.folder = tempfile.mkdtemp()
-        cls.addClassCleanup(shutil.rmtree, cls.folder)
+        cls.folder = temporary_folder(cls.addClassCleanup)
         cls.path = os.path.join(cls.folder, "lesson.is95")
         with open(os.path.join(EXAMPLES, "lesson.script"), "rb") as file, open(cls.path, "wb") as made:
             made.write(by_model.run(["make"], file.read).text())

@@ -10,12 +10,11 @@ import io
 import os
 import re
 import sys
-import tempfile
 import unittest
 from types import ModuleType
 from typing import Any
 
-from tools.tests.helping import ROOT, sample_file
+from tools.tests.helping import ROOT, sample_file, temporary_folder
 
 SEARCH = {"span", "workers"}
 PATHS = SEARCH | {"fingers"}
@@ -130,9 +129,7 @@ class Asks(unittest.TestCase):
     """Receivers and makers that are scripts of the shell, over cases of a folder of their own."""
 
     def setUp(self) -> None:
-        folder = tempfile.TemporaryDirectory()
-        self.addCleanup(folder.cleanup)
-        self.folder = folder.name
+        self.folder = temporary_folder(self.addCleanup)
         self.addCleanup(setattr, RUN, "CASES", RUN.CASES)
         RUN.CASES = self.folder
         self.keep("made.is95", sample_file(SAMPLES, flags=2))

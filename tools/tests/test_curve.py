@@ -11,11 +11,10 @@ import resource
 import signal
 import sqlite3
 import subprocess
-import tempfile
 import time
 import unittest
 
-from tools.tests.helping import EXAMPLES, NO_PROGRAM, PROGRAM, PYTHON, ROOT, TOOLS, example, needs
+from tools.tests.helping import EXAMPLES, NO_PROGRAM, PROGRAM, PYTHON, ROOT, TOOLS, example, needs, temporary_folder
 
 needs("numpy", "scipy", "matplotlib", "distributed")
 
@@ -41,9 +40,7 @@ class Curves(unittest.TestCase):
     whole: list = []
 
     def setUp(self):
-        folder = tempfile.TemporaryDirectory()
-        self.addCleanup(folder.cleanup)
-        self.folder = folder.name
+        self.folder = temporary_folder(self.addCleanup)
         text = re.sub(r"samples=\d+", f"samples={SAMPLES}", example("frames_9600.script").decode())
         self.script = self.keep("it.script", text)
         self.fake = self.program("fake")
@@ -118,6 +115,13 @@ class Curves(unittest.TestCase):
             self.assertIsNone(ended.poll(), "the run ended too soon")
             self.assertLess(time.monotonic(), until, "too slow")
             time.sleep(0.05)
+
+    def begun(self, words):
+        """A run that has counted a batch; what it says is read later."""
+        child = subprocess.Popen(words, stdout=subprocess.DEVNULL, stderr=subprocess.PIPE, text=True)
+        self.addCleanup(child.stderr.close)
+        self.wait_for(lambda: self.batches() >= 1, child)
+        return child
 
     def start(self, words, **more):
         """A process of its own, which ends with the test."""
@@ -212,9 +216,7 @@ class Broken(Curves):
     def test_an_interrupted_run_says_so(self):
         slow = self.program("fake", "slow")
         words = self.words(frames=600, maker=slow)
-        child = subprocess.Popen(words, stdout=subprocess.DEVNULL, stderr=subprocess.PIPE, text=True)
-        self.addCleanup(child.stderr.close)
-        self.wait_for(lambda: self.batches() >= 1, child)
+        child = self.begun(words)
         child.send_signal(signal.SIGINT)
         _, said = child.communicate(timeout=SECONDS)
         self.assertEqual(said, "curve: broken off; the same words go on from what was counted\n")
@@ -281,9 +283,7 @@ class Cluster(Curves):
         scheduler, address = self.scheduler()
         self.worker(address)
         words = self.words("--scheduler", address, frames=600, maker=slow)
-        child = subprocess.Popen(words, stdout=subprocess.DEVNULL, stderr=subprocess.PIPE, text=True)
-        self.addCleanup(child.stderr.close)
-        self.wait_for(lambda: self.batches() >= 1, child)
+        child = self.begun(words)
         scheduler.send_signal(signal.SIGKILL)
         _, said = child.communicate(timeout=SECONDS)
         self.assertEqual((child.returncode, said), (1, "curve: the scheduler is gone, or gave up the run\n"))

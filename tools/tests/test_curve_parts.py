@@ -8,7 +8,7 @@ import tempfile
 import unittest
 from decimal import Decimal
 
-from tools.tests.helping import ROOT, example, needs
+from tools.tests.helping import ROOT, example, needs, temporary_folder
 
 needs("numpy", "scipy")
 
@@ -414,9 +414,7 @@ def setup_for(seed=1, words="follow"):
 
 class Stores(unittest.TestCase):
     def setUp(self):
-        folder = tempfile.TemporaryDirectory()
-        self.addCleanup(folder.cleanup)
-        self.folder = folder.name
+        self.folder = temporary_folder(self.addCleanup)
 
     def test_a_batch_is_kept_once_and_read_back(self):
         kept = store.opened(self.folder, setup_for())

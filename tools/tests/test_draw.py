@@ -1,10 +1,20 @@
 """tools/draw: what it reads of lines and of a sample file, the pictures that it writes, and each error."""
 
 import os
-import tempfile
 import unittest
 
-from tools.tests.helping import EXAMPLES, NO_PROGRAM, PROGRAM, example, loaded, needs, run_program, run_tool, sample_file
+from tools.tests.helping import (
+    EXAMPLES,
+    NO_PROGRAM,
+    PROGRAM,
+    example,
+    loaded,
+    needs,
+    run_program,
+    run_tool,
+    sample_file,
+    temporary_folder,
+)
 
 needs("numpy", "matplotlib")
 
@@ -67,9 +77,7 @@ class Reading(unittest.TestCase):
 
 class Pictures(unittest.TestCase):
     def setUp(self):
-        folder = tempfile.TemporaryDirectory()
-        self.addCleanup(folder.cleanup)
-        self.folder = folder.name
+        self.folder = temporary_folder(self.addCleanup)
 
     def at(self, name):
         return os.path.join(self.folder, name)

@@ -4,10 +4,9 @@ from __future__ import annotations
 
 import os
 import subprocess
-import tempfile
 import unittest
 
-from tools.tests.helping import ROOT, run_tool
+from tools.tests.helping import ROOT, run_tool, temporary_folder
 
 CRATES = """# Those that stand on nothing come first.
 core:
@@ -45,9 +44,7 @@ class GateTimes(unittest.TestCase):
     """A repository of four crates, and logs of runs over it."""
 
     def setUp(self) -> None:
-        folder = tempfile.TemporaryDirectory()
-        self.addCleanup(folder.cleanup)
-        self.root = folder.name
+        self.root = temporary_folder(self.addCleanup)
         self.write("crates.txt", CRATES)
         self.write("crates/core/src/lib.rt", "\n" * 900)
         self.write("crates/core/src/tests.rt", "#[test]\n" + "\n" * 99)

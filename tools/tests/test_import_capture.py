@@ -4,7 +4,6 @@ import hashlib
 import json
 import os
 import struct
-import tempfile
 import unittest
 
 from tools.tests.helping import (
@@ -17,6 +16,7 @@ from tools.tests.helping import (
     run_tool,
     sample_file,
     taken_apart,
+    temporary_folder,
 )
 
 needs("numpy", "scipy")
@@ -44,9 +44,7 @@ def recorded(samples, kind):
 
 class Imports(unittest.TestCase):
     def setUp(self):
-        folder = tempfile.TemporaryDirectory()
-        self.addCleanup(folder.cleanup)
-        self.folder = folder.name
+        self.folder = temporary_folder(self.addCleanup)
         self.out = self.at("out.is95")
 
     def at(self, name):

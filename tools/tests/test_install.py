@@ -1,20 +1,18 @@
 """tools/install: what it puts in place, and where it refuses. A script stands for the program."""
 
 import os
-import tempfile
 import unittest
 
-from tools.tests.helping import ROOT, run_tool
+from tools.tests.helping import ROOT, run_tool, temporary_folder
 
 STANDS_FOR = b"#!/bin/sh\necho bad words >&2\nexit 2\n"
 
 
 class Installs(unittest.TestCase):
     def setUp(self):
-        folder = tempfile.TemporaryDirectory()
-        self.addCleanup(folder.cleanup)
-        self.prefix = os.path.join(folder.name, "usr")
-        self.program = os.path.join(folder.name, "program")
+        folder = temporary_folder(self.addCleanup)
+        self.prefix = os.path.join(folder, "usr")
+        self.program = os.path.join(folder, "program")
         self.keep(STANDS_FOR)
 
     def keep(self, data, mode=0o700):

@@ -2,12 +2,10 @@
 
 import os
 import re
-import shutil
 import subprocess
-import tempfile
 import unittest
 
-from tools.tests.helping import PROGRAM, PYTHON, ROOT, needs
+from tools.tests.helping import PROGRAM, PYTHON, ROOT, needs, temporary_folder
 
 needs("numpy", "matplotlib")
 
@@ -37,8 +35,7 @@ class Lesson(unittest.TestCase):
     def setUpClass(cls) -> None:
         with open(PAGE, encoding="utf-8") as file:
             cls.text = file.read()
-        cls.folder = tempfile.mkdtemp()
-        cls.addClassCleanup(shutil.rmtree, cls.folder)
+        cls.folder = temporary_folder(cls.addClassCleanup)
 
     def environment(self) -> dict[str, str]:
         """Where `cdma_replay` is the built program, or the model where none is built."""

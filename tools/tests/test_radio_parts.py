@@ -1,10 +1,9 @@
 """The parts of tools/radio: the air, raw samples, the front, acquisition, tracking, fitting, each against what is known."""
 
 import os
-import tempfile
 import unittest
 
-from tools.tests.helping import needs
+from tools.tests.helping import needs, temporary_folder
 
 needs("numpy", "scipy")
 
@@ -41,9 +40,7 @@ class Air(unittest.TestCase):
 
 class Raw(unittest.TestCase):
     def setUp(self) -> None:
-        folder = tempfile.TemporaryDirectory()
-        self.addCleanup(folder.cleanup)
-        self.path = os.path.join(folder.name, "raw")
+        self.path = os.path.join(temporary_folder(self.addCleanup), "raw")
 
     def kept(self, data: bytes, kind: str, **more: object) -> samples.Recording:
         with open(self.path, "wb") as file:

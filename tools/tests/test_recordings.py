@@ -5,10 +5,9 @@ import contextlib
 import io
 import os
 import subprocess
-import tempfile
 import unittest
 
-from tools.tests.helping import NO_PROGRAM, PROGRAM, PYTHON, ROOT, needs
+from tools.tests.helping import NO_PROGRAM, PROGRAM, PYTHON, ROOT, needs, temporary_folder
 
 needs("numpy", "scipy")
 
@@ -31,9 +30,7 @@ class Programs(unittest.TestCase):
     """A folder with the model as a program."""
 
     def setUp(self) -> None:
-        folder = tempfile.TemporaryDirectory()
-        self.addCleanup(folder.cleanup)
-        self.folder = folder.name
+        self.folder = temporary_folder(self.addCleanup)
         self.model = self.program("model_program", MODEL)
 
     def program(self, name: str, text: str) -> str:

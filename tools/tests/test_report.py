@@ -11,7 +11,18 @@ import tempfile
 import unittest
 from unittest import mock
 
-from tools.tests.helping import NO_PROGRAM, PROGRAM, ROOT, example, loaded, needs, run_program, run_tool, sample_file
+from tools.tests.helping import (
+    NO_PROGRAM,
+    PROGRAM,
+    ROOT,
+    example,
+    loaded,
+    needs,
+    run_program,
+    run_tool,
+    sample_file,
+    temporary_folder,
+)
 
 needs("numpy", "plotly")
 
@@ -175,9 +186,7 @@ class Parsed(html.parser.HTMLParser):
 
 class Folder(unittest.TestCase):
     def setUp(self) -> None:
-        folder = tempfile.TemporaryDirectory()
-        self.addCleanup(folder.cleanup)
-        self.folder = folder.name
+        self.folder = temporary_folder(self.addCleanup)
         self.fake = Fake(self.folder)
         self.file = self.keep("radio.is95", file_of(signal()))
         self.out = self.at("page.html")
