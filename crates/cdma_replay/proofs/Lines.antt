@@ -202,7 +202,7 @@ none_within width = λ k d h. absurd (omega (arith, h))
 -- a beginning of the text of the first samples, and of what is told of them
 pub writes_first_text : {taps : List KeptTap} {r : Reception} {rest old new : Option (List ℕ)}
     (mid : Option (List ℕ)) (header : Header) {same : Header} (samples : List Sample) (shown : Shown)
-    {listener : Listener} →
+    (listener : Listener) →
     length samples ≡ r.span → IsLawfulHeader header → All (HasBits (width_of header)) samples →
     r.span ≤ header.count →
     Consumes rest mid
@@ -213,7 +213,7 @@ pub writes_first_text : {taps : List KeptTap} {r : Reception} {rest old new : Op
     let l = listening_in taps shown header first in
     IsFresh l listener taps → AppendsPrefix old new (shown_text shown ++ told l samples)) →
     WritesNoMore taps r rest mid old new
-writes_first_text {taps} {r} {rest} {old} {new} mid header {same} samples shown {listener} counted
+writes_first_text {taps} {r} {rest} {old} {new} mid header {same} samples shown listener counted
     lawful range enough consumed shows is fresh part =
     let all = samples ++ [] in
     begins_text mid header samples [] [] counted lawful range (omega (arith, counted, enough)) consumed
@@ -245,7 +245,7 @@ pub record HasBegun (taps : List KeptTap) (r : Reception) (header : Header) (sam
 
 -- from what was found in the first samples, and the new listener
 pub has_begun : (taps : List KeptTap) (r : Reception) {header same : Header}
-    (samples : List Sample) (shown : Shown) {one other : Listener} {kept : List KeptTap}
+    (samples : List Sample) (shown : Shown) (one : Listener) {other : Listener} {kept : List KeptTap}
     {rest mid old new : Option (List ℕ)} →
     length samples ≡ r.span → IsLawfulHeader header → All (HasBits (width_of header)) samples →
     r.span ≤ header.count →
@@ -257,7 +257,7 @@ pub has_begun : (taps : List KeptTap) (r : Reception) {header same : Header}
     let l = listening_in taps shown header first in
     IsFresh l one taps → BeginsBehind (shown_text shown) l other kept old new) →
     HasBegun taps r header samples other kept rest mid old new
-has_begun taps r {header} {same} samples shown {one} {other} {kept} {rest} {mid} {old} {new} counted
+has_begun taps r {header} {same} samples shown one {other} {kept} {rest} {mid} {old} {new} counted
     lawful range enough consumed shows is fresh begins =
     let begun : BeginsBehind (told_first r samples) (listening taps r.purpose header samples) other
     kept old new =
@@ -280,18 +280,18 @@ has_begun taps r {header} {same} samples shown {one} {other} {kept} {rest} {mid}
 
 -- behind a text and what is told before any sample, a sink got what is told of samples, or a beginning
 -- of it
-more_text : (front : List ℕ) (l : Listening) {heard : List Sample}
-    {old between new : Option (List ℕ)} → Appends old between (front ++ told l []) →
+more_text : (front : List ℕ) (l : Listening) {heard : List Sample} (old : Option (List ℕ))
+    {between new : Option (List ℕ)} → Appends old between (front ++ told l []) →
     TellsMore l [] heard between new → Appends old new (front ++ told l heard)
-more_text front l {heard} {old} {between} {new} line more =
+more_text front l {heard} old {between} {new} line more =
     subst (Appends old new)
     (append_assoc front (told l []) more.text ∙ ap (λ (xs : List ℕ). front ++ xs) more.all)
     (Appends-trans old between new (front ++ told l []) more.text line more.written)
 
-part_text : (front : List ℕ) (l : Listening) {heard : List Sample}
-    {old between new : Option (List ℕ)} → Appends old between (front ++ told l []) →
+part_text : (front : List ℕ) (l : Listening) {heard : List Sample} (old : Option (List ℕ))
+    {between new : Option (List ℕ)} → Appends old between (front ++ told l []) →
     TellsPart l [] heard between new → AppendsPrefix old new (front ++ told l heard)
-part_text front l {heard} {old} {between} {new} line part =
+part_text front l {heard} old {between} {new} line part =
     prefix_of old new (front ++ told l heard) ((front ++ told l []) ++ part.text)
     (Appends-trans old between new (front ++ told l []) part.text line part.written)
     (subst (StartsWith (front ++ told l heard)) (sym (append_assoc front (told l []) part.text))
@@ -313,7 +313,7 @@ writes_first_part {taps} {r} {header} {samples} {listener} {kept} {rest} {mid} {
     (Consumes-nil mid)
     (subst (λ (xs : List Sample). AppendsPrefix old new (told_first r samples ++ told l xs))
     (sym (append-nil samples))
-    (part_text (told_first r samples) l begun.line (tells l [] begun.listens)))
+    (part_text (told_first r samples) l old begun.line (tells l [] begun.listens)))
 
 -- that text and what is told of the first samples, and a beginning of what is told behind them
 pub writes_rest_part : {taps : List KeptTap} {r : Reception} {header : Header}
@@ -332,7 +332,7 @@ writes_rest_part {taps} {r} {header} {samples} {count} {one} {other} {kept} {beh
     let part = hears l samples first.listens in
     begins_text mid header samples part.samples part.more begun.counted begun.lawful begun.in_range
     (omega (arith, begun.counted, counts, part.number)) begun.consumed part.in_range part.consumed
-    (part_text (told_first r samples) l begun.line (part_behind first.more part.tells))
+    (part_text (told_first r samples) l old begun.line (part_behind first.more part.tells))
 
 -- ---- the whole text
 
@@ -346,7 +346,7 @@ writes_whole {taps} {r} {header} {samples} {listener} {kept} {rest} {mid} {old} 
     others begun more =
     let l = listening taps r.purpose header samples in
     subst (Appends old new) (sym (text_behind taps r header samples others begun.counted))
-    (more_text (told_first r samples) l begun.line more)
+    (more_text (told_first r samples) l old begun.line more)
 
 -- the file was read to its end, and its text written
 pub writes_text : {taps : List KeptTap} {r : Reception} {status : Status} {header : Header}

@@ -1,8 +1,11 @@
 use Rattle.std.proofs.Common.{ℕ, List, ◌++◌, ap, subst, sym}
+use Rattle.std.specs.Io.KnownBytes.{Appends}
 use Rattle.cdma_io.specs.Outside.{AppendsPrefix}
+use Rattle.event_tap.specs.EventLines.{event_line}
+use Rattle.mobile_core.specs.declared.event.Event.{Event}
 use Rattle.tuned_listener.proofs.Prefixes.{on_err, on_ok}
 use Rattle.cdma_replay.specs.Hearing.{BeginsBehind, told}
-use Rattle.cdma_replay.specs.Openings.{listening_in, shown_text}
+use Rattle.cdma_replay.specs.Openings.{listening_in, pilot_event, shown_text}
 use Rattle.cdma_replay.proofs.Lines.{alone_begins, alone_part}
 use Rattle.cdma_replay.proofs.opening.tell_first.Goals as goal
 
@@ -10,14 +13,20 @@ pub returns-in-Found-clause-ok : goal.returns-in-Found-clause-ok
 returns-in-Found-clause-ok g c =
     rw c.in-Found.is
     (on_ok c.write_event.result _ _
-    (λ written header first fresh. alone_begins _ c.args.listener.now
-    (g.T.KeepsTaps.kept c.args.taps.now) _ _ written fresh)
+    (λ written header first fresh. alone_begins (event_line (pilot_event c.in-Found.best))
+    c.args.listener.now (g.T.KeepsTaps.kept c.args.taps.now) _ _
+    (subst (λ (e : Event). Appends (g.K.Sink.written c.args.sink.now)
+    (g.K.Sink.written c.write_event.new.sink) (event_line e)) c.event_of.ensures written) fresh)
     c.write_event.ensures.ok)
 
 pub returns-in-Found-clause-err : goal.returns-in-Found-clause-err
 returns-in-Found-clause-err g c =
     rw c.in-Found.is
-    (on_err c.write_event.result _ _ (λ part header first samples fresh. alone_part _ samples _ _ part)
+    (on_err c.write_event.result _ _
+    (λ part header first samples fresh. alone_part (event_line (pilot_event c.in-Found.best)) samples
+    _ _
+    (subst (λ (e : Event). AppendsPrefix (g.K.Sink.written c.args.sink.now)
+    (g.K.Sink.written c.write_event.new.sink) (event_line e)) c.event_of.ensures part))
     c.write_event.ensures.err)
 
 pub returns-in-Followed-clause-ok : goal.returns-in-Followed-clause-ok

@@ -29,14 +29,15 @@ returns-in_err-reader-clause-place g c fault is =
 pub returns-in-Err-clause-written : goal.returns-in-Err-clause-written
 returns-in-Err-clause-written g c =
     writes_first_text _ c.in_ok-reader.reader.header c.open_span.new.span c.in_ok-shown.shown
-    (search rules) c.in_ok-reader.ensures.lawful c.in_ok-reader.ensures.in_range
+    c.in_ok-listener.listener (search rules) c.in_ok-reader.ensures.lawful c.in_ok-reader.ensures.in_range
     (omega (arith, c.in_ok-reader.ensures.reader.0, c.requires.span.0)) c.in_ok-reader.ensures.file
     c.in_ok-shown.ensures.shown c.header.ensures.value c.in_ok-listener.ensures.fresh c.in-Err.ensures.err
 
 pub returns-in-Err-hear-clause-written : goal.returns-in-Err-hear-clause-written
 returns-in-Err-hear-clause-written g c =
     let begun =
-    has_begun _ c.args.reception c.open_span.new.span c.in_ok-shown.shown (search rules)
+    has_begun _ c.args.reception c.open_span.new.span c.in_ok-shown.shown c.in_ok-listener.listener
+    (search rules)
     c.in_ok-reader.ensures.lawful c.in_ok-reader.ensures.in_range
     (omega (arith, c.in_ok-reader.ensures.reader.0, c.requires.span.0))
     c.in_ok-reader.ensures.file c.in_ok-shown.ensures.shown c.header.ensures.value
@@ -83,7 +84,8 @@ returns-in_err-hear_rest-clause-bad_file g c fault is =
 pub returns-in_err-hear_rest-clause-written : goal.returns-in_err-hear_rest-clause-written
 returns-in_err-hear_rest-clause-written g c =
     let begun =
-    has_begun _ c.args.reception c.open_span.new.span c.in_ok-shown.shown (search rules)
+    has_begun _ c.args.reception c.open_span.new.span c.in_ok-shown.shown c.in_ok-listener.listener
+    (search rules)
     c.in_ok-reader.ensures.lawful c.in_ok-reader.ensures.in_range
     (omega (arith, c.in_ok-reader.ensures.reader.0, c.requires.span.0))
     c.in_ok-reader.ensures.file c.in_ok-shown.ensures.shown c.header.ensures.value
@@ -93,7 +95,8 @@ returns-in_err-hear_rest-clause-written g c =
 pub returns-clause-done : goal.returns-clause-done
 returns-clause-done g c end =
     let begun =
-    has_begun _ c.args.reception c.open_span.new.span c.in_ok-shown.shown (search rules)
+    has_begun _ c.args.reception c.open_span.new.span c.in_ok-shown.shown c.in_ok-listener.listener
+    (search rules)
     c.in_ok-reader.ensures.lawful c.in_ok-reader.ensures.in_range
     (omega (arith, c.in_ok-reader.ensures.reader.0, c.requires.span.0))
     c.in_ok-reader.ensures.file c.in_ok-shown.ensures.shown c.header.ensures.value
@@ -108,7 +111,8 @@ returns-clause-done g c end =
 pub returns-clause-written : goal.returns-clause-written
 returns-clause-written g c =
     let begun =
-    has_begun _ c.args.reception c.open_span.new.span c.in_ok-shown.shown (search rules)
+    has_begun _ c.args.reception c.open_span.new.span c.in_ok-shown.shown c.in_ok-listener.listener
+    (search rules)
     c.in_ok-reader.ensures.lawful c.in_ok-reader.ensures.in_range
     (omega (arith, c.in_ok-reader.ensures.reader.0, c.requires.span.0))
     c.in_ok-reader.ensures.file c.in_ok-shown.ensures.shown c.header.ensures.value
@@ -141,7 +145,7 @@ returns-clause-alone g c none unheard =
     let header = c.in_ok-reader.reader.header in
     let l = listening _ purpose header span in
     let begun =
-    has_begun _ c.args.reception span c.in_ok-shown.shown (search rules)
+    has_begun _ c.args.reception span c.in_ok-shown.shown c.in_ok-listener.listener (search rules)
     c.in_ok-reader.ensures.lawful c.in_ok-reader.ensures.in_range
     (omega (arith, c.in_ok-reader.ensures.reader.0, c.requires.span.0))
     c.in_ok-reader.ensures.file c.in_ok-shown.ensures.shown c.header.ensures.value
@@ -195,7 +199,8 @@ returns-in_err-reader-clause-long g c long =
 pub returns-in_err-hear_rest-clause-cut : goal.returns-in_err-hear_rest-clause-cut
 returns-in_err-hear_rest-clause-cut g c cut =
     let begun =
-    has_begun _ c.args.reception c.open_span.new.span c.in_ok-shown.shown (search rules)
+    has_begun _ c.args.reception c.open_span.new.span c.in_ok-shown.shown c.in_ok-listener.listener
+    (search rules)
     c.in_ok-reader.ensures.lawful c.in_ok-reader.ensures.in_range
     (omega (arith, c.in_ok-reader.ensures.reader.0, c.requires.span.0))
     c.in_ok-reader.ensures.file c.in_ok-shown.ensures.shown c.header.ensures.value
@@ -211,7 +216,8 @@ returns-in_err-hear_rest-clause-cut g c cut =
 pub returns-in_err-hear_rest-clause-long : goal.returns-in_err-hear_rest-clause-long
 returns-in_err-hear_rest-clause-long g c long =
     let begun =
-    has_begun _ c.args.reception c.open_span.new.span c.in_ok-shown.shown (search rules)
+    has_begun _ c.args.reception c.open_span.new.span c.in_ok-shown.shown c.in_ok-listener.listener
+    (search rules)
     c.in_ok-reader.ensures.lawful c.in_ok-reader.ensures.in_range
     (omega (arith, c.in_ok-reader.ensures.reader.0, c.requires.span.0))
     c.in_ok-reader.ensures.file c.in_ok-shown.ensures.shown c.header.ensures.value

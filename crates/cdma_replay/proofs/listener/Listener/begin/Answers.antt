@@ -41,5 +41,5 @@ returns-in-Tuned-clause-ok g c l fresh =
     let kept = g.T.KeepsTaps.kept c.args.taps.now in
     let held = g.K.Sink.written c.args.sink.now in
     subst (λ (h : Listener). BeginsBehind [] l h kept held held) (sym c.in-Tuned.is)
-    (tuned_begins l c.in-Tuned.tuned kept held
+    (tuned_begins l c.in-Tuned.field-0 kept held
     (subst (λ (h : Listener). IsFresh l h kept) c.in-Tuned.is fresh))
