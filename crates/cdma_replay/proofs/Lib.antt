@@ -16,6 +16,7 @@ pub mod OneWord
 pub mod Owed
 pub mod RankLines
 pub mod Replies
+pub mod Runs
 pub mod SentLines
 pub mod SentReplies
 pub mod SleepLaw

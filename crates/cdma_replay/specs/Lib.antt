@@ -9,6 +9,7 @@ pub mod Openings
 pub mod Ranks
 pub mod Replies
 pub mod ReplyLaws
+pub mod Runs
 pub mod SentLines
 pub mod SentReplies
 pub mod SleepLaw
