@@ -26,6 +26,9 @@ BIN = CHIP_RATE / PERIOD
 STEP = PERIOD // STRETCH // 2
 # A recording without a pilot is taken for one with a pilot once in so many.
 ONE_IN = 1e6
+# Times the median magnitude to which a chip is cut: noise exceeds it once in 500 chips, so a pilot loses nothing, and
+# a strong pulse of some chips, which many stretches of the code are like, can't stand out.
+PULSE = 3.0
 # Hz to each side in which the carrier is searched: some 25 millionths at 850 MHz, and 11 at 1,900 MHz.
 SPAN = 21_000.0
 # Parts of the recording at which it is looked for a pilot in turn: any one may lie in a fade, or before a switch-on.
@@ -132,6 +135,15 @@ def places_of(front: Front, parts: tuple[float, ...]) -> list[float]:
     return sorted({float(int(GUARD + room * part)) for part in parts})
 
 
+def limited(chips: NDArray[numpy.complex64]) -> NDArray[numpy.complex64]:
+    """Chips with what is above PULSE times their median magnitude cut to that."""
+    size = numpy.abs(chips)
+    most = PULSE * numpy.median(size)
+    if most == 0:
+        return chips
+    return (chips * (most / numpy.maximum(size, most))).astype(chips.dtype)
+
+
 def looks(front: Front, span: float, is_conjugate: tuple[bool, ...], parts: tuple[float, ...]) -> Iterator[Found]:
     """The strongest cell at each place, of the recording and of its conjugate, one behind the other.
 
@@ -147,7 +159,7 @@ def looks(front: Front, span: float, is_conjugate: tuple[bool, ...], parts: tupl
 
         def halves(number: int) -> NDArray[numpy.complex64]:
             if number not in kept:
-                kept[number] = front.steady(place + number * STRETCH, 2 * STRETCH, 2)
+                kept[number] = limited(front.steady(place + number * STRETCH, 2 * STRETCH, 2))
             return kept[number]
 
         for turned in is_conjugate:

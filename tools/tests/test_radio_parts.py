@@ -154,6 +154,20 @@ class Acquisitions(unittest.TestCase):
         with self.assertRaisesRegex(samples.Refused, r"the best energy is 0\.\d\d of the threshold"):
             acquisition.acquire(self.noisy(-99), 9_000)
 
+    def test_pulses_are_cut(self) -> None:
+        draws = numpy.random.default_rng(1995)
+        noise = (draws.standard_normal(4_096) + 1j * draws.standard_normal(4_096)).astype(numpy.complex64)
+        kept = acquisition.limited(noise)
+        self.assertLess(float(numpy.mean(kept != noise)), 0.01)
+        self.assertEqual(kept.dtype, noise.dtype)
+        pulsed = noise.copy()
+        pulsed[100:120] += 100
+        cut = acquisition.limited(pulsed)
+        self.assertLess(float(numpy.abs(cut).max()), 4.0)
+        self.assertTrue(numpy.allclose(numpy.angle(cut), numpy.angle(pulsed), atol=1e-5))
+        nothing = numpy.zeros(64, numpy.complex64)
+        self.assertTrue(numpy.array_equal(acquisition.limited(nothing), nothing))
+
     def test_the_threshold_is_the_tail_of_the_noise(self) -> None:
         # One degree: exp(-x) cells of one recording in a million.
         self.assertAlmostEqual(acquisition.least_energy(1_000, 1), float(numpy.log(1e9)), delta=1e-6)
