@@ -24,6 +24,8 @@ ROUNDS = 4
 EQUALISED = 1.0
 # The finer grid of delays: sixteenths of a chip.
 FINE = 16
+# Points whose sums are filtered at once: some 6 MB of transforms.
+BATCH = 128
 # Chips in which a receiver sets its fingers, the part of its mean energy that a path should have there, and the level
 # in dB from which a path counts.
 FIRST_CHIPS, UNFADED, STRONG_PATH = 2_048, 0.5, -5.0
@@ -76,10 +78,14 @@ def equalised(sums: NDArray[numpy.complex64]) -> NDArray[numpy.complex64]:
     """
     size = 8 * REACH  # the all-pass rings on for some chips
     delays = numpy.arange(-REACH, REACH + 1) % size
-    room = numpy.zeros((len(sums), size, sums.shape[2]), dtype=numpy.complex64)
-    room[:, delays] = sums
     response = equaliser_spectrum(fft.fftfreq(size, 0.5)).conj().astype(numpy.complex64)
-    return fft.ifft(fft.fft(room, axis=1) * response[:, None], axis=1)[:, delays]
+    turned = numpy.empty_like(sums)
+    for first in range(0, len(sums), BATCH):
+        rows = sums[first : first + BATCH]
+        room = numpy.zeros((len(rows), size, sums.shape[2]), dtype=numpy.complex64)
+        room[:, delays] = rows
+        turned[first : first + BATCH] = fft.ifft(fft.fft(room, axis=1) * response[:, None], axis=1)[:, delays]
+    return turned
 
 
 def profiles(sums: NDArray[numpy.complex64], powers: NDArray[numpy.float64]) -> NDArray[numpy.float64]:
