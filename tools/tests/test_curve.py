@@ -117,8 +117,13 @@ class Curves(unittest.TestCase):
             time.sleep(0.05)
 
     def begun(self, words):
-        """A run that has counted a batch; what it says is read later."""
-        child = subprocess.Popen(words, stdout=subprocess.DEVNULL, stderr=subprocess.PIPE, text=True)
+        """A run that has counted a batch; what it says is read later. It hears an interrupt though the tests themselves
+        run behind a shell that has it ignored."""
+
+        def heard():
+            signal.signal(signal.SIGINT, signal.SIG_DFL)
+
+        child = subprocess.Popen(words, stdout=subprocess.DEVNULL, stderr=subprocess.PIPE, text=True, preexec_fn=heard)
         self.addCleanup(child.stderr.close)
         self.wait_for(lambda: self.batches() >= 1, child)
         return child
