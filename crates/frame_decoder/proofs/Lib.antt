@@ -9,5 +9,6 @@ pub mod Chosen
 pub mod PowerSums
 pub mod ZeroWords
 pub mod MaskedScores
+pub mod ShownSymbols
 pub mod SentFrames
 pub mod NothingHeard

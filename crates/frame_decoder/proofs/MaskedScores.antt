@@ -1,7 +1,7 @@
 -- Scores under soft values that are 0 at some places, and elsewhere one number times the signs of
 -- symbols.
 use Rattle.std.proofs.Common.{◌≡◌, ◌≢◌, ℕ, zero, suc, ◌+◌, ◌*◌, ◌<◌, ◌≤◌, Bool, true, false, List}
-use Rattle.std.proofs.Common.{[]}
+use Rattle.std.proofs.Common.{[], replicate}
 use Rattle.std.proofs.Common.{◌∷◌, length, get_or, filter, refl, sym, ap, ◌∙◌, arith, ℤ, pos}
 use Rattle.std.proofs.Common.{not, cond, ⊎_elim}
 use Rattle.std.specs.Prelude.{negsuc, neg_ℤ, ◌+ℤ◌, ◌*ℤ◌, ◌≤ℤ◌, if◌then◌else◌}
@@ -194,3 +194,10 @@ weight_least (q ∷ qs) xs =
     let one = weight_one q qs 0 xs in
     let rest = weight_least qs xs in
     omega (arith, one, rest)
+
+-- where all soft values are 0 every word has the same score
+pub zeros_score : (n : ℕ) (ys : List Bool) → correlation (replicate n (pos 0)) ys ≡ pos 0
+zeros_score zero ys = refl
+zeros_score (suc n) [] = refl
+zeros_score (suc n) (true ∷ ys) = rw (zeros_score n ys) refl
+zeros_score (suc n) (false ∷ ys) = rw (zeros_score n ys) refl

@@ -1,10 +1,11 @@
 -- Soft values with 0 at the places of power control bits.
 use Rattle.std.proofs.Common.{◌≡◌, ◌≢◌, ℕ, ◌<◌, ◌≤◌, Bool, true, false, List, [], ◌∷◌, ◌++◌}
 use Rattle.std.proofs.Common.{length, get_or, set, refl, sym, ap, ◌∙◌, arith, ℤ, pos, nat_eq, map}
-use Rattle.std.proofs.Common.{⊎_elim, ◌||◌}
+use Rattle.std.proofs.Common.{⊎_elim, ◌||◌, replicate}
 use Rattle.std.specs.Prelude.{if◌then◌else◌, sum_by, unsigned_abs}
 use Rattle.std.proofs.lemmas.Bool.{ne_eqb, eq-eqb, cases_eq, cases_lt}
 use Rattle.std.proofs.lemmas.List.{get_or-set_same, get_or-set_other, length-set, set_past}
+use Rattle.std.proofs.lemmas.List.{ext_get_or, length-replicate, get_or-replicate}
 use Rattle.std.proofs.lemmas.List.Folds.{list_any-append}
 use Rattle.std.proofs.lemmas.List.Sums.{sum_by-set}
 use Rattle.chip_core.specs.Bits.{places}
@@ -84,3 +85,22 @@ one_small xs p = ⊎_elim
     let e = sum_by-set unsigned_abs xs p (pos 0) (pos 0) within in omega (arith, e))
     (λ (past : length xs ≤ p). rw (set_past xs p (pos 0) past) (omega arith))
     (cases_lt p (length xs))
+
+-- soft values of 0 stay so
+either_zero : (b : Bool) (x : ℤ) → x ≡ pos 0 → (if b then pos 0 else x) ≡ pos 0
+either_zero true x e = refl
+either_zero false x e = e
+
+pub zeros_kept : (replaced : List ℕ) (n : ℕ) →
+    unreplaced replaced (replicate n (pos 0)) ≡ replicate n (pos 0)
+zeros_kept replaced n =
+    let zeros : List ℤ = replicate n (pos 0) in
+    let long = length-unreplaced replaced zeros in
+    ext_get_or (pos 0) (unreplaced replaced zeros) zeros long
+    (λ i lt.
+    let low : i < length zeros = omega (arith, lt, long) in
+    let none : get_or zeros i (pos 0) ≡ pos 0 =
+    get_or-replicate n i (pos 0) (pos 0) (omega (arith, low, length-replicate n (pos 0))) in
+    get_or-unreplaced replaced zeros i low
+    ∙ either_zero (is_replaced replaced i) (get_or zeros i (pos 0)) none
+    ∙ sym none)

@@ -13,10 +13,12 @@
 pub mod laws;
 mod layout;
 mod power;
+mod replaced;
 mod span;
 mod traffic;
 
 pub use layout::FrameKind;
 pub use power::{PowerSofts, commands};
+pub use replaced::without_commands;
 pub use span::{paging_span, span_bits, sync_span};
 pub use traffic::{Decoded, traffic_frame};

@@ -1,10 +1,11 @@
 //! The frames of traffic channels.
 
-ghost use Rattle.std.specs.Prelude.{◌≡◌, ◌≤◌, ◌^◌, length, pos, slice_set, sum_by, unsigned_abs};
-ghost use Rattle.frame_decoder.specs.TrafficFrames.{frame_bits, unreplaced, rate_word, frame_score};
+ghost use Rattle.std.specs.Prelude.{◌≡◌, ◌≤◌, ◌^◌, length, sum_by, unsigned_abs};
+ghost use Rattle.frame_decoder.specs.TrafficFrames.{frame_bits, rate_word, frame_score};
 ghost use Rattle.frame_decoder.specs.TrafficFrames.{has_quality, shown, preferred, good_or};
 ghost use Rattle.frame_decoder.specs.TrafficFrames.{decoded};
 
+use crate::replaced::without_commands;
 use chip_core::air::DATA_SYMBOLS;
 use chip_core::{Bits, CheckForm};
 use quality_bits::check;
@@ -77,28 +78,6 @@ impl RateWord {
             lower
         }
     }
-}
-
-/// Sets the value at a place to 0, where there is one.
-fn clear_at(values: &mut [i64; 384], place: u16)
-    ensures { values.new ≡ slice_set values.old place (pos 0) }
-{
-    let at = usize::from(place);
-    if at < values.len() {
-        values[at] = 0;
-    }
-}
-
-/// The soft values with 0 in place of those of power control bits.
-fn without_commands(softs: &[i64; 384], places: &[u16; 32]) -> [i64; 384]
-    ensures value { result ≡ unreplaced places.now softs.now }
-    ensures bound { sum_by unsigned_abs result ≤ sum_by unsigned_abs softs.now }
-{
-    let mut kept = *softs;
-    for place in places {
-        clear_at(&mut kept, *place);
-    }
-    kept
 }
 
 /// The best word of a rate, for a frame's soft values in the sent order.

@@ -1,16 +1,13 @@
 -- A sent frame is shown, however many words are listed.
 use Rattle.std.proofs.Common.{◌≡◌, ℕ, ◌*◌, ◌<◌, ◌≤◌, ⊎_elim, Bool, true, false, List, [], ◌∷◌}
-use Rattle.std.proofs.Common.{length, map, take, get_or, filter, not, refl, sym, ap, subst, ◌∙◌}
+use Rattle.std.proofs.Common.{length, map, take, get_or, refl, sym, ap, subst, ◌∙◌}
 use Rattle.std.proofs.Common.{arith, ℤ, pos, Option, None, Some}
-use Rattle.std.specs.Prelude.{◌≤ℤ◌, ◌<ℤ◌, ◌*ℤ◌, if◌then◌else◌, int_lt, cond}
-use Rattle.std.specs.List.{find, range_with_len}
+use Rattle.std.specs.Prelude.{◌≤ℤ◌, ◌<ℤ◌, if◌then◌else◌, int_lt, cond}
+use Rattle.std.specs.List.{find}
 use Rattle.std.specs.Option.{option_map, unwrap_or}
 use Rattle.std.proofs.lemmas.Int.{ints}
 use Rattle.std.proofs.lemmas.Bool.{cases_Bool}
-use Rattle.std.proofs.lemmas.List.{ext_get_or}
-use Rattle.chip_core.specs.Bits.{sign}
 use Rattle.chip_core.specs.Sums.{first_places}
-use Rattle.chip_core.proofs.Places.{places_is}
 use Rattle.conv_code.specs.ConvCode.{code_symbols}
 use Rattle.symbol_path.specs.SentOrder.{data_shape}
 use Rattle.quality_bits.specs.TrafficWords.{repeats_of}
@@ -27,49 +24,20 @@ use Rattle.frame_decoder.specs.TrafficFrames.{better, preferred, best_candidate,
 use Rattle.frame_decoder.specs.TrafficFrames.{decoded}
 use Rattle.frame_decoder.specs.Laws.{frame_word, ShowSymbols, IsUnshared, kept_count}
 use Rattle.frame_decoder.proofs.RateWords.{bits_least}
-use Rattle.frame_decoder.proofs.Unreplaced.{length-unreplaced, get_or-unreplaced}
 use Rattle.frame_decoder.proofs.ZeroWords.{best_zero_word_allowed, best_zero_word_greatest}
-use Rattle.frame_decoder.proofs.MaskedScores.{masked, weight, alone, length-masked, get_or-masked}
-use Rattle.frame_decoder.proofs.MaskedScores.{weight_is}
+use Rattle.frame_decoder.proofs.MaskedScores.{masked, weight, alone}
 use Rattle.frame_decoder.proofs.SentFrames.{word_has_quality, sent_frame}
 use Rattle.list_viterbi.proofs.Numbered.{word_at_allowed}
 use Rattle.listed_frame.specs.ListedFrames.{first_words_of, first_right, word_frame, candidate}
 use Rattle.listed_frame.specs.ListedFrames.{preferred_if, listed}
 use Rattle.listed_frame.specs.Laws.{IsSentFrameListed}
 use Rattle.listed_frame.proofs.FirstWords.{no_first, best_first}
+use Rattle.frame_decoder.proofs.ShownSymbols.{lt_true, le_false, le_of_false, lt_of_true, kept_is, count_is}
 
 no_true : {A : Type 0} → false ≡ true → A
 no_true e = absurd (grind (arith, e))
 
 -- ---- the sent word is alone
--- what is kept of soft values that show symbols
-either_same : (b : Bool) (x y : ℤ) → (b ≡ false → x ≡ y) →
-    (if b then pos 0 else x) ≡ (if b then pos 0 else y)
-either_same true x y h = refl
-either_same false x y h = h refl
-
-kept_is : (n : ℕ) (replaced : List ℕ) (xs : List Bool) (softs : List ℤ) →
-    length softs ≡ 384 → length xs ≡ 384 → ShowSymbols replaced n xs softs →
-    unreplaced replaced softs ≡ masked n (is_replaced replaced) 0 xs
-kept_is n replaced xs softs long size shows =
-    let out = is_replaced replaced in
-    let all : length (unreplaced replaced softs) ≡ 384 = length-unreplaced replaced softs ∙ long in
-    ext_get_or (pos 0) (unreplaced replaced softs) (masked n out 0 xs)
-    (all ∙ sym (length-masked n out 0 xs ∙ size))
-    (λ i lt.
-    let low : i < 384 = omega (arith, lt, all) in
-    get_or-unreplaced replaced softs i (omega (arith, low, long))
-    ∙ either_same (out i) (get_or softs i (pos 0)) (pos n *ℤ sign (get_or xs i false)) (shows i low)
-    ∙ sym (get_or-masked n out xs i (omega (arith, low, size))))
-
-weight_counts : (replaced : List ℕ) (xs : List Bool) → length xs ≡ 384 →
-    weight (is_replaced replaced) 0 xs ≡ kept_count replaced
-weight_counts replaced xs size =
-    let kept : List ℕ → ℕ = λ is. length (filter (λ i. not (is_replaced replaced i)) is) in
-    weight_is (is_replaced replaced) 0 xs
-    ∙ ap (λ (n : ℕ). kept (range_with_len 0 n)) size
-    ∙ ap kept (sym (places_is 384))
-
 length-symbols : (rate : Rate) (w : Word) → length (frame_symbols rate w) ≡ 384
 length-symbols rate w =
     length-sent data_shape (repeats_of rate) (code_symbols w.start w.bits)
@@ -87,7 +55,7 @@ sent_alone n replaced rate r w v softs some long shows unshared allowed reaches 
     let size = length-symbols rate w in
     let counted : pos (n * weight out 0 xs) ≤ℤ correlation (unreplaced replaced softs) ys =
     subst (λ (m : ℕ). pos (n * m) ≤ℤ correlation (unreplaced replaced softs) ys)
-    (sym (weight_counts replaced xs size)) reaches in
+    (sym (count_is replaced xs size)) reaches in
     let reached : pos (n * weight out 0 xs) ≤ℤ correlation (masked n out 0 xs) ys =
     subst (λ (ks : List ℤ). pos (n * weight out 0 xs) ≤ℤ correlation ks ys)
     (kept_is n replaced xs softs long size shows) counted in
@@ -168,18 +136,6 @@ offers k softs rate top false some is low =
     (right_allowed k softs rate)
 
 -- ---- the choice among the offers is that among the best words
-lt_true : (x y : ℤ) → x <ℤ y → int_lt x y ≡ true
-lt_true x y h = grind (arith, ints, h)
-
-le_false : (x y : ℤ) → y ≤ℤ x → int_lt x y ≡ false
-le_false x y h = grind (arith, ints, h)
-
-le_of_false : (x y : ℤ) → int_lt x y ≡ false → y ≤ℤ x
-le_of_false x y e = grind (arith, ints, e)
-
-lt_of_true : (x y : ℤ) → int_lt x y ≡ true → x <ℤ y
-lt_of_true x y e = grind (arith, ints, e)
-
 same_offer : (right : Bool) (offer : Option Decoded) (best lower : Decoded) →
     Offers right offer best (preferred right best lower).score →
     preferred_if offer lower ≡ preferred right best lower

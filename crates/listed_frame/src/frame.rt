@@ -1,17 +1,16 @@
 //! What is decoded of a frame.
 
-ghost use Rattle.std.specs.Prelude.{◌≡◌, ◌≤◌, ◌^◌, All, length, map, pos, slice_set, sum_by};
-ghost use Rattle.std.specs.Prelude.{unsigned_abs};
+ghost use Rattle.std.specs.Prelude.{◌≡◌, ◌≤◌, ◌^◌, All, length, map, sum_by, unsigned_abs};
 ghost use Rattle.std.specs.List.{find};
 ghost use Rattle.std.specs.Option.{option_map};
-ghost use Rattle.frame_decoder.specs.TrafficFrames.{frame_bits, frame_score, unreplaced, has_quality};
+ghost use Rattle.frame_decoder.specs.TrafficFrames.{frame_bits, frame_score, has_quality};
 ghost use Rattle.frame_decoder.specs.TrafficFrames.{shown, good_or};
 ghost use Rattle.list_viterbi.specs.First.{word_of};
 ghost use Rattle.listed_frame.specs.ListedFrames.{first_words_of, preferred_if, listed};
 
 use chip_core::air::DATA_SYMBOLS;
 use chip_core::{Bits, CheckForm};
-use frame_decoder::Decoded;
+use frame_decoder::{Decoded, without_commands};
 use list_viterbi::{Entry, ListDecoder, Words};
 use quality_bits::check;
 use symbol_path::{Kind, Rate, gather_into};
@@ -19,28 +18,6 @@ use viterbi::Ends;
 
 /// How many tail bits end a frame (TIA/EIA-95-B, 7.1.3.5).
 const TAIL_BITS: u16 = 8;
-
-/// Sets the value at a place to 0, where there is one.
-fn clear_at(values: &mut [i64; 384], place: u16)
-    ensures { values.new ≡ slice_set values.old place (pos 0) }
-{
-    let at = usize::from(place);
-    if at < values.len() {
-        values[at] = 0;
-    }
-}
-
-/// The soft values with 0 in place of those of power control bits.
-fn without_commands(softs: &[i64; 384], places: &[u16; 32]) -> [i64; 384]
-    ensures value { result ≡ unreplaced places.now softs.now }
-    ensures bound { sum_by unsigned_abs result ≤ sum_by unsigned_abs softs.now }
-{
-    let mut kept = *softs;
-    for place in places {
-        clear_at(&mut kept, *place);
-    }
-    kept
-}
 
 /// The first words of a rate, for a frame's soft values in the sent order.
 fn first_words_of(decoder: &mut ListDecoder, k: u8, rate: Rate, softs: &[i64; 384]) -> Words

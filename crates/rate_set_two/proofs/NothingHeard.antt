@@ -1,16 +1,16 @@
 -- Soft values of 0 give no good frame.
-use Rattle.std.proofs.Common.{◌≡◌, ℕ, zero, suc, ◌*◌, ◌<◌, Bool, true, false, List, [], ◌∷◌, length}
-use Rattle.std.proofs.Common.{get_or, replicate, refl, sym, ap, ◌∙◌, arith, ℤ, pos}
+use Rattle.std.proofs.Common.{◌≡◌, ℕ, ◌*◌, Bool, true, false, List, [], ◌∷◌}
+use Rattle.std.proofs.Common.{replicate, sym, ap, ◌∙◌, ℤ, pos}
 use Rattle.std.specs.Prelude.{if◌then◌else◌, int_lt, Option, None, Some}
-use Rattle.std.proofs.lemmas.List.{ext_get_or, length-replicate, get_or-replicate}
+use Rattle.std.proofs.lemmas.List.{length-replicate}
 use Rattle.conv_code.specs.ConvCode.{code_symbols}
-use Rattle.viterbi.specs.Words.{Word, correlation, score_of}
+use Rattle.viterbi.specs.Words.{Word, score_of}
 use Rattle.viterbi.specs.declared.word.Ends.TheVariants.{Zero}
 use Rattle.viterbi.proofs.Unique.{by_definition}
 use Rattle.viterbi.proofs.Sent.{zero_word_best}
-use Rattle.frame_decoder.specs.TrafficFrames.{is_replaced, unreplaced}
 use Rattle.frame_decoder.proofs.RateWords.{best_zero_word-same}
-use Rattle.frame_decoder.proofs.Unreplaced.{length-unreplaced, get_or-unreplaced}
+use Rattle.frame_decoder.proofs.Unreplaced.{zeros_kept}
+use Rattle.frame_decoder.proofs.MaskedScores.{zeros_score}
 use Rattle.symbol_path.specs.declared.rate_two.Rate2.{Rate2}
 use Rattle.symbol_path.specs.declared.rate_two.Rate2.TheVariants.{R14400}
 use Rattle.rate_set_two.specs.declared.traffic.Decoded2.{Decoded2}
@@ -19,31 +19,6 @@ use Rattle.rate_set_two.specs.TrafficFrames.{rate_frame, preferred, best_candida
 use Rattle.rate_set_two.specs.TrafficFrames.{good_or, rate_set_2, shown_of, decoded2}
 use Rattle.rate_set_two.specs.Laws.{IsNothingGood}
 use Rattle.symbol_path.proofs.WordsTwo.{bits_least}
-
-either_zero : (b : Bool) (x : ℤ) → x ≡ pos 0 → (if b then pos 0 else x) ≡ pos 0
-either_zero true x e = refl
-either_zero false x e = e
-
-zeros_kept : (replaced : List ℕ) (n : ℕ) →
-    unreplaced replaced (replicate n (pos 0)) ≡ replicate n (pos 0)
-zeros_kept replaced n =
-    let zeros : List ℤ = replicate n (pos 0) in
-    let long = length-unreplaced replaced zeros in
-    ext_get_or (pos 0) (unreplaced replaced zeros) zeros long
-    (λ i lt.
-    let low : i < length zeros = omega (arith, lt, long) in
-    let none : get_or zeros i (pos 0) ≡ pos 0 =
-    get_or-replicate n i (pos 0) (pos 0) (omega (arith, low, length-replicate n (pos 0))) in
-    get_or-unreplaced replaced zeros i low
-    ∙ either_zero (is_replaced replaced i) (get_or zeros i (pos 0)) none
-    ∙ sym none)
-
--- every word has the same score there
-zeros_score : (n : ℕ) (ys : List Bool) → correlation (replicate n (pos 0)) ys ≡ pos 0
-zeros_score zero ys = refl
-zeros_score (suc n) [] = refl
-zeros_score (suc n) (true ∷ ys) = rw (zeros_score n ys) refl
-zeros_score (suc n) (false ∷ ys) = rw (zeros_score n ys) refl
 
 -- a frame that isn't good, with a score of 0
 record IsSilent (d : Decoded2) : Type 0 where

@@ -1,28 +1,20 @@
 -- A sent frame is decoded.
 use Rattle.std.proofs.Common.{◌≡◌, ℕ, ◌-◌, ◌*◌, ◌<◌, ◌≤◌, ◌⊎◌, inl, inr, ⊎_elim, Bool, true}
-use Rattle.std.proofs.Common.{false, List, [], ◌∷◌, ◌++◌, length, get_or, take, drop, replicate}
+use Rattle.std.proofs.Common.{false, List, [], ◌∷◌, ◌++◌, length, take, drop, replicate}
 use Rattle.std.proofs.Common.{refl, sym, ap, subst, ◌∙◌, arith, ℤ, pos, length-append, append_assoc}
-use Rattle.std.proofs.Common.{filter, not}
-use Rattle.std.specs.Prelude.{◌≤ℤ◌, ◌<ℤ◌, ◌*ℤ◌, if◌then◌else◌, int_lt, Option, None, Some}
-use Rattle.std.specs.List.{range_with_len}
+use Rattle.std.specs.Prelude.{◌≤ℤ◌, ◌<ℤ◌, if◌then◌else◌, int_lt, Option, None, Some}
 use Rattle.std.specs.Cmp.{booleans_Decides}
 use Rattle.std.specs.Cmp.Lexicographic.{pointwise_decides}
-use Rattle.std.proofs.Math.Nat.{mul-le-mul}
 use Rattle.std.proofs.lemmas.Int.{ints}
 use Rattle.std.proofs.lemmas.Bool.{cases_Bool}
-use Rattle.std.proofs.lemmas.List.{ext_get_or, take_at, drop_at}
-use Rattle.chip_core.specs.Bits.{sign}
-use Rattle.chip_core.proofs.Places.{places_is}
+use Rattle.std.proofs.lemmas.List.{take_at, drop_at}
 use Rattle.conv_code.specs.ConvCode.{code_symbols}
 use Rattle.viterbi.specs.Words.{Word}
 use Rattle.viterbi.specs.Best.{IsAllowed}
 use Rattle.viterbi.specs.declared.word.Ends.TheVariants.{Zero}
-use Rattle.frame_decoder.specs.TrafficFrames.{is_replaced, unreplaced}
-use Rattle.frame_decoder.specs.Laws.{ShowSymbols, kept_count}
-use Rattle.frame_decoder.proofs.Unreplaced.{length-unreplaced, get_or-unreplaced}
+use Rattle.frame_decoder.specs.TrafficFrames.{is_replaced}
 use Rattle.frame_decoder.proofs.ZeroWords.{best_zero_word_allowed, best_zero_word_greatest}
-use Rattle.frame_decoder.proofs.MaskedScores.{masked, weight, own_score, alone, length-masked}
-use Rattle.frame_decoder.proofs.MaskedScores.{get_or-masked, weight_is, weight_least}
+use Rattle.frame_decoder.proofs.MaskedScores.{masked, weight, own_score, alone}
 use Rattle.symbol_path.specs.declared.rate_two.Rate2.{Rate2}
 use Rattle.symbol_path.specs.declared.rate_two.Rate2.TheVariants.{R14400, R7200, R3600, R1800}
 use Rattle.rate_set_two.specs.declared.traffic.Decoded2.{Decoded2}
@@ -35,6 +27,8 @@ use Rattle.rate_set_two.specs.TrafficFrames.{good_or, rate_set_2, shown_of, deco
 use Rattle.rate_set_two.specs.Laws.{IsUnshared, IsSentFrameDecoded}
 use Rattle.symbol_path.proofs.SentTwo.{length-sent2}
 use Rattle.symbol_path.proofs.WordsTwo.{bits_least, length-quality_indicator, length-checked}
+use Rattle.frame_decoder.proofs.ShownSymbols.{lt_true, le_false, le_of_false, lt_of_true}
+use Rattle.frame_decoder.proofs.ShownSymbols.{kept_is, count_is, some_left, positive}
 
 -- ---- the word of a frame
 -- its parts, joined anew
@@ -93,18 +87,6 @@ Below d e = (e ≡ d) ⊎ (e.score <ℤ d.score)
 abbrev IsBelow : Decoded2 → Option Decoded2 → Type 0
 IsBelow d None = Unit {0}
 IsBelow d (Some e) = Below d e
-
-lt_true : (x y : ℤ) → x <ℤ y → int_lt x y ≡ true
-lt_true x y h = grind (arith, ints, h)
-
-le_false : (x y : ℤ) → y ≤ℤ x → int_lt x y ≡ false
-le_false x y h = grind (arith, ints, h)
-
-le_of_false : (x y : ℤ) → int_lt x y ≡ false → y ≤ℤ x
-le_of_false x y e = grind (arith, ints, e)
-
-lt_of_true : (x y : ℤ) → int_lt x y ≡ true → x <ℤ y
-lt_of_true x y e = grind (arith, ints, e)
 
 chosen_below : (d x y : Decoded2) (b : Bool) → Below d x → Below d y →
     Below d (if b then y else x)
@@ -192,42 +174,6 @@ best_is softs R1800 d h =
 -- ---- the soft values of a sent frame
 length-frame_symbols : (rate : Rate2) (w : Word) → length (frame_symbols rate w) ≡ 384
 length-frame_symbols rate w = length-sent2 rate (code_symbols w.start w.bits)
-
-shown_at : (b : Bool) (x y : ℤ) → (b ≡ false → x ≡ y) →
-    (if b then pos 0 else x) ≡ (if b then pos 0 else y)
-shown_at true x y h = refl
-shown_at false x y h = h refl
-
-kept_is : (strength : ℕ) (replaced : List ℕ) (xs : List Bool) (softs : List ℤ) →
-    length softs ≡ 384 → length xs ≡ 384 → ShowSymbols replaced strength xs softs →
-    unreplaced replaced softs ≡ masked strength (is_replaced replaced) 0 xs
-kept_is n replaced xs softs long long' shows =
-    let out = is_replaced replaced in
-    let size : length (unreplaced replaced softs) ≡ 384 = length-unreplaced replaced softs ∙ long in
-    ext_get_or (pos 0) (unreplaced replaced softs) (masked n out 0 xs)
-    (size ∙ sym (length-masked n out 0 xs ∙ long'))
-    (λ i lt.
-    let low : i < 384 = omega (arith, lt, size) in
-    get_or-unreplaced replaced softs i (omega (arith, low, long))
-    ∙ shown_at (out i) (get_or softs i (pos 0)) (pos n *ℤ sign (get_or xs i false)) (shows i low)
-    ∙ sym (get_or-masked n out xs i (omega (arith, low, long'))))
-
-count_is : (replaced : List ℕ) (xs : List Bool) → length xs ≡ 384 →
-    weight (is_replaced replaced) 0 xs ≡ kept_count replaced
-count_is replaced xs long =
-    let kept : List ℕ → ℕ = λ is. length (filter (λ i. not (is_replaced replaced i)) is) in
-    weight_is (is_replaced replaced) 0 xs
-    ∙ ap (λ (n : ℕ). kept (range_with_len 0 n)) long
-    ∙ ap kept (sym (places_is 384))
-
-some_left : (replaced : List ℕ) (xs : List Bool) → length replaced < 384 → length xs ≡ 384 →
-    0 < weight (is_replaced replaced) 0 xs
-some_left replaced xs few long =
-    let least = weight_least replaced xs in omega (arith, few, long, least)
-
-positive : (n m : ℕ) → 0 < n → 0 < m → 0 < n * m
-positive n m a b =
-    let one : 1 * 1 ≤ n * m = mul-le-mul a b in omega (arith, one)
 
 abbrev good_frame : Rate2 → List Bool → ℕ → Decoded2
 good_frame rate information m =

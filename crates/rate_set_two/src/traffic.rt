@@ -1,13 +1,13 @@
 //! What is decoded of a frame.
 
-ghost use Rattle.std.specs.Prelude.{◌≡◌, ◌≤◌, ◌^◌, length, pos, slice_set, sum_by, unsigned_abs};
-ghost use Rattle.frame_decoder.specs.TrafficFrames.{unreplaced};
+ghost use Rattle.std.specs.Prelude.{◌≡◌, ◌≤◌, ◌^◌, length, sum_by, unsigned_abs};
 ghost use Rattle.symbol_path.specs.RatesTwo.{frame_bits};
 ghost use Rattle.rate_set_two.specs.TrafficFrames.{frame_score, rate_word, has_quality, shown};
 ghost use Rattle.rate_set_two.specs.TrafficFrames.{preferred, good_or, decoded2};
 
 use crate::gathering::gather2_into;
 use chip_core::{Bits, CheckForm};
+use frame_decoder::without_commands;
 use quality_bits::check;
 use symbol_path::{REPEATED_SYMBOLS, Rate2};
 use viterbi::{Decoder, Ends, Word};
@@ -79,28 +79,6 @@ impl RateWord {
             }
         }
     }
-}
-
-/// Sets the value at a place to 0, where there is one.
-fn clear_at(values: &mut [i64; 384], place: u16)
-    ensures { values.new ≡ slice_set values.old place (pos 0) }
-{
-    let at = usize::from(place);
-    if at < values.len() {
-        values[at] = 0;
-    }
-}
-
-/// The soft values with 0 in place of those of power control bits.
-fn without_commands(softs: &[i64; 384], places: &[u16; 32]) -> [i64; 384]
-    ensures value { result ≡ unreplaced places.now softs.now }
-    ensures bound { sum_by unsigned_abs result ≤ sum_by unsigned_abs softs.now }
-{
-    let mut kept = *softs;
-    for place in places {
-        clear_at(&mut kept, *place);
-    }
-    kept
 }
 
 /// The best word of a rate, for a frame's soft values in the sent order.

@@ -55,6 +55,26 @@ by_key f key symbol count (suc n) low =
     ∙ sym changed
     ∙ ap (λ (m : ℕ). sum_below count (λ c. part f key m c *ℤ sign (symbol c))) next
 
+-- What is sent for code symbols by a key, number by number, agrees with soft values as the code symbols
+-- agree with the sums of the soft values of each key.
+pub agreement-keyed : (n count : ℕ) (key : ℕ → ℕ) (softs sums : List ℤ) (sent code : List Bool) →
+    length softs ≡ n → length sent ≡ n → length sums ≡ count → length code ≡ count →
+    ((i : ℕ) → i < n → key i < count) →
+    ((i : ℕ) → i < n → get_or sent i false ≡ get_or code (key i) false) →
+    ((c : ℕ) → c < count → get_or sums c (pos 0) ≡ part (λ i. get_or softs i (pos 0)) key n c) →
+    agreement softs sent ≡ agreement sums code
+agreement-keyed n count key softs sums sent code long long' all all' low each summed =
+    let soft = λ (i : ℕ). get_or softs i (pos 0) in
+    agreement_is n softs sent long long'
+    ∙ sum_same n (λ i. soft i *ℤ sign (get_or sent i false))
+    (λ i. soft i *ℤ sign (get_or code (key i) false))
+    (λ i lt. ap (λ (b : Bool). soft i *ℤ sign b) (each i lt))
+    ∙ by_key soft key (λ c. get_or code c false) count n low
+    ∙ sum_same count (λ c. part soft key n c *ℤ sign (get_or code c false))
+    (λ c. get_or sums c (pos 0) *ℤ sign (get_or code c false))
+    (λ c lt. ap (λ (z : ℤ). z *ℤ sign (get_or code c false)) (sym (summed c lt)))
+    ∙ sym (agreement_is count sums code all all')
+
 pub length-sent : (s : Shape) (repeats : ℕ) (code : List Bool) →
     length (sent s repeats code) ≡ size s
 unfolding sent
@@ -90,17 +110,9 @@ agreement-gathered kind repeats softs code p q =
     let s = shape_of kind in
     let count : size s / repeats ≡ length code =
     count_is (length code) repeats (size s) q (size_some kind) in
-    let soft = λ (i : ℕ). get_or softs i (pos 0) in
     let key = λ (i : ℕ). address s i / repeats in
-    agreement_is (size s) softs (sent s repeats code) p (length-sent s repeats code)
-    ∙ sum_same (size s) (λ i. soft i *ℤ sign (get_or (sent s repeats code) i false))
-    (λ i. soft i *ℤ sign (get_or code (key i) false))
-    (λ i lt. ap (λ (b : Bool). soft i *ℤ sign b) (get_or-sent s repeats code i lt))
-    ∙ by_key soft key (λ c. get_or code c false) (length code) (size s)
+    agreement-keyed (size s) (length code) key softs (gathered s repeats softs) (sent s repeats code)
+    code p (length-sent s repeats code) (length-gathered s repeats softs ∙ count) refl
     (λ i lt. symbol_lt (address s i) (length code) repeats (size s) q (address_lt kind i lt))
-    ∙ sum_same (length code) (λ c. part soft key (size s) c *ℤ sign (get_or code c false))
-    (λ c. get_or (gathered s repeats softs) c (pos 0) *ℤ sign (get_or code c false))
-    (λ c lt. ap (λ (z : ℤ). z *ℤ sign (get_or code c false))
-    (sym (get_or-gathered s repeats softs c (omega (arith, lt, count)))))
-    ∙ sym (agreement_is (length code) (gathered s repeats softs) code
-    (length-gathered s repeats softs ∙ count) refl)
+    (λ i lt. get_or-sent s repeats code i lt)
+    (λ c lt. get_or-gathered s repeats softs c (omega (arith, lt, count)))

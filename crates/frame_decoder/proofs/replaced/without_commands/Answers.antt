@@ -3,7 +3,7 @@ use Rattle.std.proofs.Common.{take, ap, ◌∙◌, arith, pos, sym, set, get_or,
 use Rattle.std.proofs.lemmas.List.{take_more}
 use Rattle.frame_decoder.specs.TrafficFrames.{unreplaced}
 use Rattle.frame_decoder.proofs.Unreplaced.{none_replaced, one_replaced, one_small}
-use Rattle.frame_decoder.proofs.traffic.without_commands.Goals as goal
+use Rattle.frame_decoder.proofs.replaced.without_commands.Goals as goal
 
 pub loop-place-init : goal.loop-place-init
 loop-place-init c =

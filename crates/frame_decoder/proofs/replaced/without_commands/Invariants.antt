@@ -1,6 +1,6 @@
 use Rattle.std.proofs.Common.{◌≡◌, ◌≤◌, sum_by, unsigned_abs, take}
 use Rattle.frame_decoder.specs.TrafficFrames.{unreplaced}
-use Rattle.listed_frame.proofs.frame.without_commands.Given as goal
+use Rattle.frame_decoder.proofs.replaced.without_commands.Given as goal
 
 abbrev pub invariant-loop-place : goal.invariant-loop-place
 invariant-loop-place l = record {

@@ -1,6 +1,6 @@
 use Rattle.std.proofs.Common.{◌≡◌, sym, ap, pos, arith, length, set, rules}
 use Rattle.std.proofs.lemmas.List.{set_past}
-use Rattle.listed_frame.proofs.frame.clear_at.Goals as goal
+use Rattle.frame_decoder.proofs.replaced.clear_at.Goals as goal
 
 pub returns-then-at-lt384 : goal.returns-then-at-lt384
 returns-then-at-lt384 c =

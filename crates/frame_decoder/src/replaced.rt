@@ -1,0 +1,29 @@
+//! The symbols that power control bits replace.
+
+ghost use Rattle.std.specs.Prelude.{◌≡◌, ◌≤◌, pos, slice_set, sum_by, unsigned_abs};
+ghost use Rattle.frame_decoder.specs.TrafficFrames.{unreplaced};
+
+/// Sets the value at a place to 0, where there is one.
+fn clear_at(values: &mut [i64; 384], place: u16)
+    ensures { values.new ≡ slice_set values.old place (pos 0) }
+{
+    let at = usize::from(place);
+    if at < values.len() {
+        values[at] = 0;
+    }
+}
+
+/// The soft values of a frame's 384 symbols with 0 in place of those of power control bits: `places`
+/// has their places, as `symbol_path::power_places` gives them. No absolute value grows.
+///
+/// TIA/EIA-95-B, 7.1.3.1.7: a power control bit is sent in place of two symbols.
+pub fn without_commands(softs: &[i64; 384], places: &[u16; 32]) -> [i64; 384]
+    ensures value { result ≡ unreplaced places.now softs.now }
+    ensures bound { sum_by unsigned_abs result ≤ sum_by unsigned_abs softs.now }
+{
+    let mut kept = *softs;
+    for place in places {
+        clear_at(&mut kept, *place);
+    }
+    kept
+}
