@@ -1,60 +1,147 @@
--- The candidate that the code chooses is the definition's.
-use Rattle.std.proofs.Common.{◌≡◌, Bool, List, [], ◌∷◌, ap, ◌∙◌, ℤ}
+-- What is decoded by the rows of rate set 1 is the definition's.
+use Rattle.std.proofs.Common.{◌≡◌, ℕ, Bool, true, false, List, [], ◌∷◌, map, refl, ap, ◌∙◌, arith, ℤ}
+use Rattle.std.specs.Prelude.{if◌then◌else◌, int_lt, cond, Option, None, Some}
+use Rattle.std.specs.Option.{option_map, unwrap_or}
 use Rattle.quality_bits.specs.declared.rate.Rate.{Rate}
 use Rattle.quality_bits.specs.declared.rate.Rate.TheVariants.{R9600, R4800, R2400, R1200}
+use Rattle.symbol_path.specs.SentOrder.{sent}
+use Rattle.viterbi.specs.Words.{Word}
+use Rattle.frame_decoder.specs.declared.rows.Row.{Row}
+use Rattle.frame_decoder.specs.declared.rows.RowFrame.{RowFrame}
 use Rattle.frame_decoder.specs.declared.traffic.Decoded.{Decoded}
-use Rattle.frame_decoder.specs.declared.traffic.RateWord.{RateWord}
-use Rattle.frame_decoder.specs.TrafficFrames.{frame_score, rate_word, has_quality, shown}
-use Rattle.frame_decoder.specs.TrafficFrames.{rate_frame}
-use Rattle.frame_decoder.specs.TrafficFrames.{preferred, best_candidate, good_or, unreplaced}
-use Rattle.frame_decoder.specs.TrafficFrames.{decoded}
+use Rattle.frame_decoder.specs.Rows.{row_of, symbols_in, score_in, word_in, frame_in, candidate_in}
+use Rattle.frame_decoder.specs.Rows.{frame_of, rising}
+use Rattle.frame_decoder.specs.Rows as rows
+use Rattle.frame_decoder.specs.TrafficFrames.{frame_score, rate_word, has_quality, shown, rate_frame}
+use Rattle.frame_decoder.specs.TrafficFrames.{better, preferred, best_candidate, not_good, good_or}
+use Rattle.frame_decoder.specs.TrafficFrames.{unreplaced, decoded}
+use Rattle.frame_decoder.proofs.RateWords.{word_is}
 
--- a word of the code is the best word of a rate
-pub record IsRateWord (softs : List ℤ) (rate : Rate) (w : RateWord) : Type 0 where
-  pub rate_is : w.rate ≡ rate
-  pub bits_are : w.bits ≡ (rate_word softs rate).bits
-  pub score_is : w.score ≡ frame_score softs rate (rate_word softs rate)
+-- a frame of the rows as a frame of rate set 1
+abbrev pub as_decoded : RowFrame Rate → Decoded
+as_decoded d = record { rate = d.rate; good = d.good; bits = d.bits; score = d.score }
 
--- as a frame
-pub frame_is : (softs : List ℤ) (rate : Rate) (w : RateWord) → IsRateWord softs rate w →
-    shown w.rate w.bits w.score ≡ rate_frame softs rate
-frame_is softs rate w h =
-    ap (λ (r : Rate). shown r w.bits w.score) h.rate_is
-    ∙ ap (λ (bits : List Bool). shown rate bits w.score) h.bits_are
-    ∙ ap (shown rate (rate_word softs rate).bits) h.score_is
+-- a word of a rate as such a frame
+abbrev pub framed : List ℤ → Rate → Word → RowFrame Rate
+framed softs rate w = frame_in (row_of rate) w.bits (score_in softs (row_of rate) w)
 
--- against the lower rates
-pub preferred_is : (softs : List ℤ) (rate : Rate) (rates : List Rate) (w : RateWord)
-    (lower : Decoded) → IsRateWord softs rate w → lower ≡ best_candidate softs rates →
-    preferred (has_quality w.rate w.bits) (shown w.rate w.bits w.score) lower
-    ≡ best_candidate softs (rate ∷ rates)
-preferred_is softs rate rates w lower h is =
-    let candidate = has_quality rate (rate_word softs rate).bits in
-    ap (λ (r : Rate). preferred (has_quality r w.bits) (shown w.rate w.bits w.score) lower)
-    h.rate_is
-    ∙ ap (λ (bits : List Bool).
-    preferred (has_quality rate bits) (shown w.rate w.bits w.score) lower) h.bits_are
-    ∙ ap (λ (d : Decoded). preferred candidate d lower) (frame_is softs rate w h)
-    ∙ ap (preferred candidate (rate_frame softs rate)) is
+pub framed_is : (softs : List ℤ) (rate : Rate) (w : Word) →
+    as_decoded (framed softs rate w) ≡ shown rate w.bits (frame_score softs rate w)
+unfolding symbols_in sent
+framed_is softs rate w = refl
 
--- the whole choice
-pub decoded_is : (replaced : List _) (softs kept : List ℤ) (full half quarter eighth : RateWord) →
-    kept ≡ unreplaced replaced softs →
-    IsRateWord kept R9600 full → IsRateWord kept R4800 half → IsRateWord kept R2400 quarter →
-    IsRateWord kept R1200 eighth →
-    good_or full.bits
-    (preferred (has_quality full.rate full.bits) (shown full.rate full.bits full.score)
-    (preferred (has_quality half.rate half.bits) (shown half.rate half.bits half.score)
-    (preferred (has_quality quarter.rate quarter.bits)
-    (shown quarter.rate quarter.bits quarter.score)
-    (shown eighth.rate eighth.bits eighth.score))))
-    ≡ decoded replaced softs
-unfolding decoded
-decoded_is replaced softs kept full half quarter eighth is a b c d =
-    let best : List ℤ → Decoded = λ xs. best_candidate xs (R9600 ∷ R4800 ∷ R2400 ∷ []) in
-    let all = preferred_is kept R9600 (R4800 ∷ R2400 ∷ []) full _ a
-    (preferred_is kept R4800 (R2400 ∷ []) half _ b
-    (preferred_is kept R2400 [] quarter _ c (frame_is kept R1200 eighth d))) in
-    ap (good_or full.bits) all
-    ∙ ap (λ (bits : List Bool). good_or bits (best kept)) a.bits_are
-    ∙ ap (λ (xs : List ℤ). good_or (rate_word xs R9600).bits (best xs)) is
+either_is : (b : Bool) (x y : RowFrame Rate) →
+    as_decoded (if b then y else x) ≡ (if b then as_decoded y else as_decoded x)
+either_is true x y = refl
+either_is false x y = refl
+
+-- the best of the lower rates is a frame
+abbrev pub Is : Option (RowFrame Rate) → Decoded → Type 0
+Is best d = option_map as_decoded best ≡ Some d
+
+none_is : {A : Type 0} (d : Decoded) → None ≡ Some d → A
+none_is d e = absurd (grind (arith, e))
+
+-- a frame against the best of the lower rates, if it is a candidate
+pub more_is : (found : Option (RowFrame Rate)) (x d : Decoded) (best : Option (RowFrame Rate))
+    (right : Bool) → Is found x → Is best d →
+    Is (rows.preferred (cond right found None) best) (preferred right x d)
+more_is found x d best false e h = h
+more_is None x d best true e h = none_is x e
+more_is (Some f) x d None true e h = none_is d h
+more_is (Some f) x d (Some g) true e h =
+    let e' : as_decoded f ≡ x = ap (λ (o : Option Decoded). unwrap_or o x) e in
+    let h' : as_decoded g ≡ d = ap (λ (o : Option Decoded). unwrap_or o d) h in
+    ap Some
+    (either_is (int_lt f.score g.score) f g
+    ∙ ap (λ (z : Decoded). better z (as_decoded g)) e'
+    ∙ ap (better x) h')
+
+-- a found word as a candidate
+one_is : (softs : List ℤ) (rate : Rate) (w : Word) (right : Bool) →
+    option_map (framed softs rate) (cond right (Some w) None)
+    ≡ cond right (Some (framed softs rate w)) None
+one_is softs rate w true = refl
+one_is softs rate w false = refl
+
+-- the best word of a rate against the best of the lower rates
+pub best_is : (softs : List ℤ) (rate : Rate) (best : Option (RowFrame Rate)) (d : Decoded) →
+    Is best d →
+    Is (rows.preferred (candidate_in softs (row_of rate)) best)
+    (preferred (has_quality rate (rate_word softs rate).bits) (rate_frame softs rate) d)
+best_is softs rate best d h =
+    let w = word_in softs (row_of rate) in
+    let right = has_quality rate w.bits in
+    let frame : Word → Decoded = λ v. shown rate v.bits (frame_score softs rate v) in
+    ap (λ (c : Option (RowFrame Rate)). option_map as_decoded (rows.preferred c best))
+    (one_is softs rate w right)
+    ∙ more_is (Some (framed softs rate w)) (frame w) d best right
+    (ap Some (framed_is softs rate w)) h
+    ∙ ap (λ (v : Word). Some (preferred (has_quality rate v.bits) (frame v) d)) (word_is softs rate)
+
+-- the lowest rate's best word is a candidate
+lowest_is : (softs : List ℤ) →
+    Is (rows.preferred (candidate_in softs (row_of R1200)) None) (rate_frame softs R1200)
+lowest_is softs =
+    ap (λ (d : Decoded). Some d) (framed_is softs R1200 (word_in softs (row_of R1200)))
+    ∙ ap (λ (w : Word). Some (shown R1200 w.bits (frame_score softs R1200 w))) (word_is softs R1200)
+
+pub lower_is : (softs : List ℤ) →
+    Is (rising None (map (candidate_in softs) (row_of R1200 ∷ row_of R2400 ∷ [])))
+    (best_candidate softs (R2400 ∷ []))
+lower_is softs =
+    best_is softs R2400 (rows.preferred (candidate_in softs (row_of R1200)) None)
+    (rate_frame softs R1200) (lowest_is softs)
+
+-- what is shown
+either_good : (b : Bool) (best : RowFrame Rate) (bits : List Bool) →
+    as_decoded (if b then best else rows.not_good (row_of R9600) bits best.score)
+    ≡ (if b then as_decoded best else not_good bits best.score)
+either_good true best bits = refl
+either_good false best bits = refl
+
+pub shown_is : (bits : List Bool) (score : ℤ) (best : Option (RowFrame Rate)) (d : Decoded) →
+    Is best d → as_decoded (rows.good_or (row_of R9600) bits score best) ≡ good_or bits d
+shown_is bits score None d h = none_is d h
+shown_is bits score (Some best) d h =
+    either_good best.good best bits
+    ∙ ap (λ (o : Option Decoded). good_or bits (unwrap_or o d)) h
+
+-- the rows of the lower rates
+abbrev pub lower_rows : List (Row Rate)
+lower_rows = row_of R1200 ∷ row_of R2400 ∷ row_of R4800 ∷ []
+
+pub decoded_is : (replaced : List ℕ) (softs : List ℤ) →
+    as_decoded (frame_of (row_of R9600) lower_rows replaced softs) ≡ decoded replaced softs
+unfolding frame_of decoded
+decoded_is replaced softs =
+    let kept = unreplaced replaced softs in
+    let low = rising None (map (candidate_in kept) (row_of R1200 ∷ row_of R2400 ∷ [])) in
+    let half = best_is kept R4800 low (best_candidate kept (R2400 ∷ [])) (lower_is kept) in
+    let best = best_candidate kept (R9600 ∷ R4800 ∷ R2400 ∷ []) in
+    let word = word_in kept (row_of R9600) in
+    shown_is word.bits (score_in kept (row_of R9600) word)
+    (rows.preferred (candidate_in kept (row_of R9600))
+    (rows.preferred (candidate_in kept (row_of R4800)) low)) best
+    (best_is kept R9600 (rows.preferred (candidate_in kept (row_of R4800)) low)
+    (best_candidate kept (R4800 ∷ R2400 ∷ [])) half)
+    ∙ ap (λ (w : Word). good_or w.bits best) (word_is kept R9600)
+
+-- so is the code's
+pub decoded_by : (replaced : List ℕ) (softs : List ℤ) (eighth quarter half full : Row Rate)
+    (f : RowFrame Rate) (score : ℤ) → eighth ≡ row_of R1200 → quarter ≡ row_of R2400 →
+    half ≡ row_of R4800 → full ≡ row_of R9600 →
+    f ≡ frame_of full (eighth ∷ quarter ∷ half ∷ []) replaced softs → score ≡ f.score →
+    as_decoded (record f { score = score }) ≡ decoded replaced softs
+decoded_by replaced softs eighth quarter half full f score a b d e is scored =
+    let of : Row Rate → List (Row Rate) → RowFrame Rate =
+    λ highest lower. frame_of highest lower replaced softs in
+    let rows : of full (eighth ∷ quarter ∷ half ∷ []) ≡ of (row_of R9600) lower_rows =
+    ap (λ (r : Row Rate). of r (eighth ∷ quarter ∷ half ∷ [])) e
+    ∙ ap (λ (r : Row Rate). of (row_of R9600) (r ∷ quarter ∷ half ∷ [])) a
+    ∙ ap (λ (r : Row Rate). of (row_of R9600) (row_of R1200 ∷ r ∷ half ∷ [])) b
+    ∙ ap (λ (r : Row Rate).
+    of (row_of R9600) (row_of R1200 ∷ row_of R2400 ∷ r ∷ [])) d in
+    ap (λ (z : ℤ). as_decoded (record f { score = z })) scored
+    ∙ ap as_decoded (is ∙ rows)
+    ∙ decoded_is replaced softs

@@ -1,11 +1,12 @@
 -- Soft values with 0 at the places of power control bits.
 use Rattle.std.proofs.Common.{◌≡◌, ◌≢◌, ℕ, ◌<◌, ◌≤◌, Bool, true, false, List, [], ◌∷◌, ◌++◌}
 use Rattle.std.proofs.Common.{length, get_or, set, refl, sym, ap, ◌∙◌, arith, ℤ, pos, nat_eq, map}
-use Rattle.std.proofs.Common.{⊎_elim, ◌||◌, replicate}
+use Rattle.std.proofs.Common.{⊎_elim, ◌||◌, replicate, take}
 use Rattle.std.specs.Prelude.{if◌then◌else◌, sum_by, unsigned_abs}
 use Rattle.std.proofs.lemmas.Bool.{ne_eqb, eq-eqb, cases_eq, cases_lt}
 use Rattle.std.proofs.lemmas.List.{get_or-set_same, get_or-set_other, length-set, set_past}
 use Rattle.std.proofs.lemmas.List.{ext_get_or, length-replicate, get_or-replicate}
+use Rattle.std.proofs.lemmas.List.{get_or-take, get_or_past, length-take-le}
 use Rattle.std.proofs.lemmas.List.Folds.{list_any-append}
 use Rattle.std.proofs.lemmas.List.Sums.{sum_by-set}
 use Rattle.chip_core.specs.Bits.{places}
@@ -104,3 +105,23 @@ zeros_kept replaced n =
     get_or-unreplaced replaced zeros i low
     ∙ either_zero (is_replaced replaced i) (get_or zeros i (pos 0)) none
     ∙ sym none)
+
+-- zeros, wherever they are read
+pub zeros_read : (n k : ℕ) → get_or (replicate n (pos 0)) k (pos 0) ≡ pos 0
+zeros_read n k = ⊎_elim
+    (λ (within : k < n). get_or-replicate n k (pos 0) (pos 0) within)
+    (λ (past : n ≤ k).
+    get_or_past (replicate n (pos 0)) k (pos 0) (omega (arith, past, length-replicate n (pos 0))))
+    (cases_lt k n)
+
+-- and of them the first so many
+pub first_zeros_read : (count n k : ℕ) → count ≤ n →
+    get_or (take count (replicate n (pos 0))) k (pos 0) ≡ pos 0
+first_zeros_read count n k few = ⊎_elim
+    (λ (within : k < count).
+    get_or-take count (replicate n (pos 0)) k (pos 0) within ∙ zeros_read n k)
+    (λ (past : count ≤ k).
+    let size = length-take-le count (replicate n (pos 0))
+    (omega (arith, few, length-replicate n (pos 0))) in
+    get_or_past (take count (replicate n (pos 0))) k (pos 0) (omega (arith, past, size)))
+    (cases_lt k count)

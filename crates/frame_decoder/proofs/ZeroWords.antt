@@ -16,6 +16,7 @@ use Rattle.viterbi.specs.declared.word.Ends.TheVariants.{Zero}
 use Rattle.viterbi.proofs.Ranks.{low_first_below}
 use Rattle.viterbi.proofs.StateBits.{reverse-binary, low_bits-low_first}
 use Rattle.viterbi.proofs.Choices.{words_same}
+use Rattle.frame_decoder.proofs.BestWords.{first_greatest-same}
 
 -- each word of the definition is allowed
 zero_word_allowed : (n r : ℕ) → 8 ≤ n → IsAllowed Zero n (word_at Zero n r)
@@ -32,6 +33,24 @@ zero_word_allowed n r least =
       closes = ap (λ (k : ℕ). drop (k - 8) (middle ++ replicate 8 false)) size
           ∙ drop_at middle (replicate 8 false) (n - 8) long;
     }
+
+length-zero_word : (n r : ℕ) → 8 ≤ n → length (word_at Zero n r).bits ≡ n
+length-zero_word n r least = (zero_word_allowed n r least).bits_long
+
+pub length-best_zero_word : (f : Word → ℤ) (n : ℕ) → 8 ≤ n →
+    length (best_word f Zero n).bits ≡ n
+unfolding best_word
+length-best_zero_word f n least = length-zero_word n _ least
+
+-- scores that agree on the words of n bits have the same best word of n bits
+pub best_zero_word-same : (f g : Word → ℤ) (n : ℕ) → 8 ≤ n →
+    ((w : Word) → length w.bits ≡ n → f w ≡ g w) →
+    best_word f Zero n ≡ best_word g Zero n
+unfolding best_word
+best_zero_word-same f g n least h =
+    ap (word_at Zero n)
+    (first_greatest-same (λ r. f (word_at Zero n r)) (λ r. g (word_at Zero n r)) (word_count Zero n)
+    (λ r. h (word_at Zero n r) (length-zero_word n r least)))
 
 -- and each allowed word is one of them
 record IsAt (n : ℕ) (w : Word) : Type 0 where

@@ -1,4 +1,5 @@
 pub mod Laws
+pub mod Rows
 pub mod Spans
 pub mod TrafficFrames
 mod Worked

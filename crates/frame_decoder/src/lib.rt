@@ -10,15 +10,19 @@
 //! are read beside it.
 #![tactic(auto)]
 
+mod choice;
 pub mod laws;
 mod layout;
 mod power;
 mod replaced;
+mod rows;
 mod span;
 mod traffic;
 
+pub use choice::{frame_of, good_or, preferred};
 pub use layout::FrameKind;
 pub use power::{PowerSofts, commands};
 pub use replaced::without_commands;
+pub use rows::{Row, RowFrame, RowWord};
 pub use span::{paging_span, span_bits, sync_span};
-pub use traffic::{Decoded, traffic_frame};
+pub use traffic::{Decoded, row_of, traffic_frame};

@@ -1,19 +1,14 @@
-//! The frames of traffic channels.
+//! The frames of traffic channels of rate set 1.
 
-ghost use Rattle.std.specs.Prelude.{◌≡◌, ◌≤◌, ◌^◌, length, sum_by, unsigned_abs};
-ghost use Rattle.frame_decoder.specs.TrafficFrames.{frame_bits, rate_word, frame_score};
-ghost use Rattle.frame_decoder.specs.TrafficFrames.{has_quality, shown, preferred, good_or};
+ghost use Rattle.std.specs.Prelude.{◌≡◌, ◌≤◌, ◌^◌, sum_by, unsigned_abs};
+ghost use Rattle.frame_decoder.specs.Rows.{IsRow, row_of};
 ghost use Rattle.frame_decoder.specs.TrafficFrames.{decoded};
 
-use crate::replaced::without_commands;
-use chip_core::air::DATA_SYMBOLS;
-use chip_core::{Bits, CheckForm};
-use quality_bits::check;
-use symbol_path::{Kind, Rate, gather_into};
-use viterbi::{Decoder, Ends, Word};
-
-/// How many tail bits end a frame (TIA/EIA-95-B, 7.1.3.5).
-const TAIL_BITS: u16 = 8;
+use crate::choice::frame_of;
+use crate::rows::Row;
+use chip_core::Bits;
+use symbol_path::Rate;
+use viterbi::Decoder;
 
 /// What is decoded of a traffic frame.
 #[derive(Clone, Copy, PartialEq, Eq, Debug)]
@@ -28,98 +23,17 @@ pub struct Decoded {
     pub score: i64,
 }
 
-/// The best word of a rate.
-#[derive(Clone, Copy)]
-struct RateWord {
-    rate: Rate,
-    /// All bits of the frame.
-    bits: Bits,
-    score: i64,
-}
-
-impl RateWord {
-    /// Whether the quality indicator is that of the information bits.
-    fn has_quality(&self) -> bool
-        requires { length self.now.bits ≡ frame_bits self.now.rate }
-        ensures { result ≡ has_quality self.now.rate self.now.bits }
-    {
-        match self.rate.quality() {
-            None => true,
-            Some(kind) => {
-                let checked = self.bits.part(0, self.bits.len() - TAIL_BITS);
-                check(kind, CheckForm::Plain, &checked)
-            }
-        }
-    }
-
-    /// The word as a frame.
-    fn frame(&self) -> Decoded
-        requires { length self.now.bits ≡ frame_bits self.now.rate }
-        ensures { result ≡ shown self.now.rate self.now.bits self.now.score }
-    {
-        Decoded {
-            rate: self.rate,
-            good: self.score > 0,
-            bits: self.bits.part(0, self.rate.information_bits()),
-            score: self.score,
-        }
-    }
-
-    /// The word's frame, where it is a candidate and no lower rate's has a greater score, and else
-    /// the best of the lower rates.
-    fn preferred(&self, lower: Decoded) -> Decoded
-        requires { length self.now.bits ≡ frame_bits self.now.rate }
-        ensures { result ≡ preferred (has_quality self.now.rate self.now.bits)
-            (shown self.now.rate self.now.bits self.now.score) lower }
-    {
-        if self.has_quality() && lower.score <= self.score {
-            self.frame()
-        } else {
-            lower
-        }
-    }
-}
-
-/// The best word of a rate, for a frame's soft values in the sent order.
-fn rate_word(decoder: &mut Decoder, rate: Rate, softs: &[i64; 384]) -> RateWord
-    requires room { 192 ≤ decoder.old }
-    requires bound { sum_by unsigned_abs softs.now ≤ 2 ^ 62 }
-    ensures rate { result.rate ≡ rate }
-    ensures bits { result.bits ≡ (rate_word softs.now rate).bits }
-    ensures score { result.score ≡ frame_score softs.now rate (rate_word softs.now rate) }
-    ensures count { length result.bits ≡ frame_bits rate }
-    ensures kept { decoder.new ≡ decoder.old }
+/// What the frames of a rate of rate set 1 are made of (TIA/EIA-95-B, 7.1.3.1.4 and 7.1.3.5).
+pub fn row_of(rate: Rate) -> Row<Rate>
+    ensures value { result ≡ row_of rate }
+    ensures row { IsRow result }
 {
-    let mut gathered = [0; DATA_SYMBOLS];
-    let code = &mut gathered[..usize::from(rate.code_symbols())];
-    gather_into(Kind::Data, rate.repeats(), softs, code);
-    let mut word = Word {
-        start: 0,
-        bits: Bits::empty(),
-    };
-    let score = decoder.best_into(code, Ends::Zero, &mut word);
-    RateWord {
+    Row {
         rate,
-        bits: word.bits,
-        score,
-    }
-}
-
-/// The frame that is shown: the best candidate where it is good, and else the information bits of
-/// the best word at 9,600 bits a second.
-fn good_or(highest: &RateWord, best: Decoded) -> Decoded
-    requires rate { highest.now.rate ≡ Rate.R9600 }
-    requires count { length highest.now.bits ≡ 192 }
-    ensures { result ≡ good_or highest.now.bits best }
-{
-    if best.good {
-        return best;
-    }
-    Decoded {
-        rate: Rate::R9600,
-        good: false,
-        bits: highest.bits.part(0, Rate::R9600.information_bits()),
-        score: best.score,
+        information: rate.information_bits(),
+        quality: rate.quality(),
+        repeats: rate.repeats(),
+        drops: false,
     }
 }
 
@@ -141,12 +55,16 @@ pub fn traffic_frame(decoder: &mut Decoder, softs: &[i64; 384], places: &[u16; 3
     ensures value { result ≡ decoded places.now softs.now }
     ensures kept { decoder.new ≡ decoder.old }
 {
-    let kept = without_commands(softs, places);
-    let full = rate_word(decoder, Rate::R9600, &kept);
-    let half = rate_word(decoder, Rate::R4800, &kept);
-    let quarter = rate_word(decoder, Rate::R2400, &kept);
-    let eighth = rate_word(decoder, Rate::R1200, &kept);
-    let lower = quarter.preferred(eighth.frame());
-    let best = full.preferred(half.preferred(lower));
-    good_or(&full, best)
+    let lower = [
+        row_of(Rate::R1200),
+        row_of(Rate::R2400),
+        row_of(Rate::R4800),
+    ];
+    let frame = frame_of(decoder, &row_of(Rate::R9600), &lower, softs, places);
+    Decoded {
+        rate: frame.rate,
+        good: frame.good,
+        bits: frame.bits,
+        score: frame.score,
+    }
 }

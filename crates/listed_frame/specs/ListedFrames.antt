@@ -6,10 +6,16 @@ use Rattle.quality_bits.specs.declared.rate.Rate.{Rate}
 use Rattle.quality_bits.specs.declared.rate.Rate.TheVariants.{R9600, R4800, R2400}
 use Rattle.viterbi.specs.Words.{Word}
 use Rattle.viterbi.specs.declared.word.Ends.TheVariants.{Zero}
+use Rattle.frame_decoder.specs.declared.rows.Row.{Row}
 use Rattle.frame_decoder.specs.declared.traffic.Decoded.{Decoded}
+use Rattle.frame_decoder.specs.Rows.{bits_in, score_in}
 use Rattle.frame_decoder.specs.TrafficFrames.{frame_bits, unreplaced, frame_score, rate_word}
 use Rattle.frame_decoder.specs.TrafficFrames.{has_quality, shown, better, best_candidate, good_or}
 use Rattle.list_viterbi.specs.First.{first_words}
+
+-- the first k words of a row: of all that start from eight zeros and end with eight zeros
+abbrev pub words_in : ℕ → List ℤ → Row Rate → List Word
+words_in k softs row = first_words k (score_in softs row) Zero (bits_in row)
 
 -- the first k words of a rate: of all that start from eight zeros and end with eight zeros
 unfoldable pub first_words_of : ℕ → List ℤ → Rate → List Word

@@ -1,63 +1,120 @@
--- The candidate that the code chooses is the definition's.
-use Rattle.std.proofs.Common.{◌≡◌, ℕ, Bool, List, [], ◌∷◌, refl, ap, ◌∙◌, ℤ}
-use Rattle.std.specs.Prelude.{Option, None}
-use Rattle.frame_decoder.specs.TrafficFrames.{unreplaced}
+-- What is decoded by the rows of the rates is the definition's.
+use Rattle.std.proofs.Common.{◌≡◌, ℕ, Bool, true, false, List, [], ◌∷◌, refl, ap, ◌∙◌, ℤ}
+use Rattle.std.specs.Prelude.{if◌then◌else◌, int_lt, cond, Option, None, Some}
+use Rattle.std.specs.Option.{option_map}
 use Rattle.symbol_path.specs.declared.rate_two.Rate2.{Rate2}
 use Rattle.symbol_path.specs.declared.rate_two.Rate2.TheVariants.{R14400, R7200, R3600, R1800}
+use Rattle.symbol_path.specs.SentOrderTwo.{sent2}
+use Rattle.viterbi.specs.Words.{Word}
+use Rattle.frame_decoder.specs.declared.rows.Row.{Row}
+use Rattle.frame_decoder.specs.declared.rows.RowFrame.{RowFrame}
+use Rattle.frame_decoder.specs.Rows.{symbols_in, score_in, word_in, frame_in, candidate_in, frame_of}
+use Rattle.frame_decoder.specs.Rows as rows
+use Rattle.frame_decoder.specs.TrafficFrames.{unreplaced}
 use Rattle.rate_set_two.specs.declared.traffic.Decoded2.{Decoded2}
-use Rattle.rate_set_two.specs.declared.traffic.RateWord.{RateWord}
-use Rattle.rate_set_two.specs.TrafficFrames.{frame_score, rate_word, has_quality, shown}
-use Rattle.rate_set_two.specs.TrafficFrames.{rate_frame, preferred, best_candidate, good_or}
-use Rattle.rate_set_two.specs.TrafficFrames.{rate_set_2, shown_of, decoded2}
+use Rattle.rate_set_two.specs.TrafficFrames.{row_of, frame_score, has_quality, shown}
+use Rattle.rate_set_two.specs.TrafficFrames.{preferred, best_candidate, not_good}
+use Rattle.rate_set_two.specs.TrafficFrames.{good_or, rate_set_2, decoded2}
+use Rattle.rate_set_two.proofs.RateRows.{word_is}
 
--- a word of the code is the best word of a rate
-pub record IsRateWord (softs : List ℤ) (rate : Rate2) (w : RateWord) : Type 0 where
-  pub rate_is : w.rate ≡ rate
-  pub bits_are : w.bits ≡ (rate_word softs rate).bits
-  pub score_is : w.score ≡ frame_score softs rate (rate_word softs rate)
+-- a frame of the rows as a frame of rate set 2
+abbrev pub as_decoded : RowFrame Rate2 → Decoded2
+as_decoded d = record { rate = d.rate; good = d.good; bits = d.bits; score = d.score }
 
--- a word of the code against the best candidate of lower rates
-abbrev pub preferred_word : RateWord → Option Decoded2 → Option Decoded2
-preferred_word w lower = preferred (has_quality w.rate w.bits) (shown w.rate w.bits w.score) lower
+-- a word of a rate as such a frame
+abbrev framed : List ℤ → Rate2 → Word → RowFrame Rate2
+framed softs rate w = frame_in (row_of rate) w.bits (score_in softs (row_of rate) w)
 
--- as a frame
-frame_is : (softs : List ℤ) (rate : Rate2) (w : RateWord) → IsRateWord softs rate w →
-    shown w.rate w.bits w.score ≡ rate_frame softs rate
-frame_is softs rate w h =
-    ap (λ (r : Rate2). shown r w.bits w.score) h.rate_is
-    ∙ ap (λ (bits : List Bool). shown rate bits w.score) h.bits_are
-    ∙ ap (shown rate (rate_word softs rate).bits) h.score_is
+framed_is : (softs : List ℤ) (rate : Rate2) (w : Word) →
+    as_decoded (framed softs rate w) ≡ shown rate w.bits (frame_score softs rate w)
+unfolding symbols_in sent2
+framed_is softs rate w = refl
 
--- one rate more
-pub preferred_is : (softs : List ℤ) (rate : Rate2) (rates : List Rate2) (w : RateWord)
-    (lower : Option Decoded2) → IsRateWord softs rate w → lower ≡ best_candidate softs rates →
-    preferred_word w lower ≡ best_candidate softs (rate ∷ rates)
-preferred_is softs rate rates w lower h is =
-    let candidate = has_quality rate (rate_word softs rate).bits in
-    ap (λ (r : Rate2). preferred (has_quality r w.bits) (shown w.rate w.bits w.score) lower)
-    h.rate_is
-    ∙ ap (λ (bits : List Bool).
-    preferred (has_quality rate bits) (shown w.rate w.bits w.score) lower) h.bits_are
-    ∙ ap (λ (d : Decoded2). preferred candidate d lower) (frame_is softs rate w h)
-    ∙ ap (preferred candidate (rate_frame softs rate)) is
+either_is : (b : Bool) (x y : RowFrame Rate2) →
+    as_decoded (if b then y else x) ≡ (if b then as_decoded y else as_decoded x)
+either_is true x y = refl
+either_is false x y = refl
 
--- the whole choice
-pub decoded_is : (replaced : List ℕ) (softs kept : List ℤ) (full half quarter eighth : RateWord) →
-    kept ≡ unreplaced replaced softs →
-    IsRateWord kept R14400 full → IsRateWord kept R7200 half → IsRateWord kept R3600 quarter →
-    IsRateWord kept R1800 eighth →
-    good_or full.bits full.score
-    (preferred_word full
-    (preferred_word half (preferred_word quarter (preferred_word eighth None))))
-    ≡ decoded2 replaced softs
-unfolding decoded2
-decoded_is replaced softs kept full half quarter eighth is a b c d =
-    let all = preferred_is kept R14400 (R7200 ∷ R3600 ∷ R1800 ∷ []) full _ a
-    (preferred_is kept R7200 (R3600 ∷ R1800 ∷ []) half _ b
-    (preferred_is kept R3600 (R1800 ∷ []) quarter _ c
-    (preferred_is kept R1800 [] eighth _ d refl))) in
-    let best = best_candidate kept rate_set_2 in
-    ap (good_or full.bits full.score) all
-    ∙ ap (λ (bits : List Bool). good_or bits full.score best) a.bits_are
-    ∙ ap (λ (score : ℤ). good_or (rate_word kept R14400).bits score best) a.score_is
-    ∙ ap shown_of is
+-- a frame against the best candidate of the lower rates, if any, where it is a candidate
+more_is : (g : Word → RowFrame Rate2) (w : Word) (best : Option (RowFrame Rate2)) (right : Bool) →
+    option_map as_decoded (rows.preferred (option_map g (cond right (Some w) None)) best)
+    ≡ preferred right (as_decoded (g w)) (option_map as_decoded best)
+more_is g w best false = refl
+more_is g w None true = refl
+more_is g w (Some b) true = ap Some (either_is (int_lt (g w).score b.score) (g w) b)
+
+-- the best word of a rate against the best candidate of the lower rates
+best_is : (softs : List ℤ) (rate : Rate2) (rates : List Rate2) (best : Option (RowFrame Rate2)) →
+    option_map as_decoded best ≡ best_candidate softs rates →
+    option_map as_decoded (rows.preferred (candidate_in softs (row_of rate)) best)
+    ≡ best_candidate softs (rate ∷ rates)
+best_is softs rate rates best is =
+    let w = word_in softs (row_of rate) in
+    let right = has_quality rate w.bits in
+    let lower : Option Decoded2 = best_candidate softs rates in
+    let frame : Word → Decoded2 = λ v. shown rate v.bits (frame_score softs rate v) in
+    more_is (framed softs rate) w best right
+    ∙ ap (preferred right (as_decoded (framed softs rate w))) is
+    ∙ ap (λ (d : Decoded2). preferred right d lower) (framed_is softs rate w)
+    ∙ ap (λ (v : Word). preferred (has_quality rate v.bits) (frame v) lower) (word_is softs rate)
+
+-- what is shown
+either_good : (b : Bool) (best : RowFrame Rate2) (bits : List Bool) →
+    as_decoded (if b then best else rows.not_good (row_of R14400) bits best.score)
+    ≡ (if b then as_decoded best else not_good bits best.score)
+either_good true best bits = refl
+either_good false best bits = refl
+
+shown_is : (bits : List Bool) (score : ℤ) (best : Option (RowFrame Rate2)) →
+    as_decoded (rows.good_or (row_of R14400) bits score best)
+    ≡ good_or bits score (option_map as_decoded best)
+shown_is bits score None = refl
+shown_is bits score (Some best) = either_good best.good best bits
+
+score_is : (softs : List ℤ) (w : Word) →
+    score_in softs (row_of R14400) w ≡ frame_score softs R14400 w
+unfolding symbols_in sent2
+score_is softs w = refl
+
+-- the rows of the lower rates
+abbrev pub lower_rows : List (Row Rate2)
+lower_rows = row_of R1800 ∷ row_of R3600 ∷ row_of R7200 ∷ []
+
+pub decoded_is : (replaced : List ℕ) (softs : List ℤ) →
+    as_decoded (frame_of (row_of R14400) lower_rows replaced softs) ≡ decoded2 replaced softs
+unfolding frame_of decoded2
+decoded_is replaced softs =
+    let kept = unreplaced replaced softs in
+    let step : Rate2 → Option (RowFrame Rate2) → Option (RowFrame Rate2) =
+    λ r b. rows.preferred (candidate_in kept (row_of r)) b in
+    let word = word_in kept (row_of R14400) in
+    let score = score_in kept (row_of R14400) word in
+    let eighth = best_is kept R1800 [] None refl in
+    let quarter = best_is kept R3600 (R1800 ∷ []) (step R1800 None) eighth in
+    let half = best_is kept R7200 (R3600 ∷ R1800 ∷ []) (step R3600 (step R1800 None)) quarter in
+    let full = best_is kept R14400 (R7200 ∷ R3600 ∷ R1800 ∷ [])
+    (step R7200 (step R3600 (step R1800 None))) half in
+    let best : Option Decoded2 = best_candidate kept rate_set_2 in
+    shown_is word.bits score (step R14400 (step R7200 (step R3600 (step R1800 None))))
+    ∙ ap (good_or word.bits score) full
+    ∙ ap (λ (z : ℤ). good_or word.bits z best) (score_is kept word)
+    ∙ ap (λ (w : Word). good_or w.bits (frame_score kept R14400 w) best) (word_is kept R14400)
+
+-- so is the code's
+pub decoded_by : (replaced : List ℕ) (softs : List ℤ) (eighth quarter half full : Row Rate2)
+    (f : RowFrame Rate2) (score : ℤ) → eighth ≡ row_of R1800 → quarter ≡ row_of R3600 →
+    half ≡ row_of R7200 → full ≡ row_of R14400 →
+    f ≡ frame_of full (eighth ∷ quarter ∷ half ∷ []) replaced softs → score ≡ f.score →
+    as_decoded (record f { score = score }) ≡ decoded2 replaced softs
+decoded_by replaced softs eighth quarter half full f score a b d e is scored =
+    let of : Row Rate2 → List (Row Rate2) → RowFrame Rate2 =
+    λ highest lower. frame_of highest lower replaced softs in
+    let rows : of full (eighth ∷ quarter ∷ half ∷ []) ≡ of (row_of R14400) lower_rows =
+    ap (λ (r : Row Rate2). of r (eighth ∷ quarter ∷ half ∷ [])) e
+    ∙ ap (λ (r : Row Rate2). of (row_of R14400) (r ∷ quarter ∷ half ∷ [])) a
+    ∙ ap (λ (r : Row Rate2). of (row_of R14400) (row_of R1800 ∷ r ∷ half ∷ [])) b
+    ∙ ap (λ (r : Row Rate2).
+    of (row_of R14400) (row_of R1800 ∷ row_of R3600 ∷ r ∷ [])) d in
+    ap (λ (z : ℤ). as_decoded (record f { score = z })) scored
+    ∙ ap as_decoded (is ∙ rows)
+    ∙ decoded_is replaced softs

@@ -1,6 +1,5 @@
 pub mod Agreement
+pub mod RateRows
 pub mod Chosen
-pub mod GatheredSums
-pub mod NothingHeard
-pub mod RateWords
 pub mod SentFrames
+pub mod NothingHeard

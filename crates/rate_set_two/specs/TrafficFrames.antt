@@ -7,12 +7,24 @@ use Rattle.conv_code.specs.ConvCode.{code_symbols}
 use Rattle.viterbi.specs.Words.{Word, correlation, best_word}
 use Rattle.viterbi.specs.declared.word.Ends.TheVariants.{Zero}
 use Rattle.frame_decoder.specs.TrafficFrames.{unreplaced}
+use Rattle.frame_decoder.specs.declared.rows.Row.{Row}
 use Rattle.symbol_path.specs.declared.rate_two.Rate2.{Rate2}
 use Rattle.symbol_path.specs.declared.rate_two.Rate2.TheVariants.{R14400, R7200, R3600, R1800}
 use Rattle.rate_set_two.specs.declared.traffic.Decoded2.{Decoded2}
-use Rattle.symbol_path.specs.RatesTwo.{information_of, quality_length, frame_bits}
+use Rattle.symbol_path.specs.RatesTwo.{information_of, quality_of, quality_length, frame_bits}
+use Rattle.symbol_path.specs.RatesTwo.{repeats_of}
 use Rattle.symbol_path.specs.SentOrderTwo.{sent2}
 use Rattle.symbol_path.specs.FramesTwo.{quality_indicator, word_bits}
+
+-- what the frames of a rate are made of
+abbrev pub row_of : Rate2 → Row Rate2
+row_of rate = record {
+  rate = rate;
+  information = information_of rate;
+  quality = Some (quality_of rate);
+  repeats = repeats_of rate;
+  drops = true;
+}
 
 -- a frame's word: its bits behind eight zeros
 abbrev pub frame_word : Rate2 → List Bool → Word

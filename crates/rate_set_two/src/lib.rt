@@ -9,7 +9,6 @@
 //! 384 are sent in the order of rate set 1.
 #![tactic(auto)]
 
-mod gathering;
 pub mod laws;
 mod traffic;
 

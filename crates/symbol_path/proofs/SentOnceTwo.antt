@@ -45,7 +45,7 @@ repeated_there k h e =
     either (is_dropped k) (nat_lt (kept_as k) 384 && nat_eq (kept_symbol (kept_as k)) k)
     (agree_below_at is_there (λ k. true) 576 k repeated_all h) e
 
-kept_lt : (a : ℕ) → a < 384 → kept_symbol a < 576
+pub kept_lt : (a : ℕ) → a < 384 → kept_symbol a < 576
 kept_lt a h = ltb-true _ _ (and_parts _ _ (and_parts _ _ (kept_back a h)).0).0
 
 kept-injective : (a b : ℕ) → a < 384 → b < 384 → kept_symbol a ≡ kept_symbol b → a ≡ b

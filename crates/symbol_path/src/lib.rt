@@ -22,7 +22,7 @@ pub use commands::with_commands;
 pub use encoding_two::encode2_into;
 pub use kinds::Kind;
 pub use order::{address, gather_into, place_into};
-pub use order_two::place2;
+pub use order_two::{place2, repeated_symbol};
 pub use quality_bits::Rate;
 pub use rate_two::{REPEATED_SYMBOLS, Rate2};
 pub use scramble::{power_places, power_start, scramble_bits};

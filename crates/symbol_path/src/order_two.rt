@@ -2,7 +2,7 @@
 
 ghost use Rattle.std.specs.Prelude.{◌≡◌, ◌<◌, length};
 ghost use Rattle.symbol_path.specs.RatesTwo.{symbols_of};
-ghost use Rattle.symbol_path.specs.SentOrderTwo.{kept_symbol, place2, sent2};
+ghost use Rattle.symbol_path.specs.SentOrderTwo.{kept_symbol, repeated_symbol, place2, sent2};
 
 use crate::kinds::Kind;
 use crate::order::address;
@@ -26,15 +26,24 @@ fn kept_symbol(a: u16) -> u16
     6 * (a / 4) + kept
 }
 
-/// Which code symbol a frame sends as its symbol `i`.
+/// Which of the repeated symbols a frame sends as its symbol `i`.
 ///
 /// Of the kept symbols it sends them in the order of rate set 1 (TIA/EIA-95-B, 7.1.3.1.5).
+pub fn repeated_symbol(i: u16) -> u16
+    requires { i < 384 }
+    ensures value { result ≡ repeated_symbol i }
+    ensures below { result < 576 }
+{
+    kept_symbol(address(Kind::Data, i))
+}
+
+/// Which code symbol a frame sends as its symbol `i`: that of the repeated symbol.
 pub fn place2(rate: Rate2, i: u16) -> u16
     requires { i < 384 }
     ensures value { result ≡ place2 rate i }
     ensures below { result < symbols_of rate }
 {
-    kept_symbol(address(Kind::Data, i)) / u16::from(rate.repeats())
+    repeated_symbol(i) / u16::from(rate.repeats())
 }
 
 /// Writes the 384 symbols that a frame with these code symbols sends.

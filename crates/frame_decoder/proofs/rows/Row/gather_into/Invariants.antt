@@ -1,12 +1,11 @@
 use Rattle.std.proofs.Common.{◌≡◌, ◌≤◌, ℕ, get_or, take, pos}
 use Rattle.std.specs.Prelude.{sum_by, unsigned_abs}
 use Rattle.symbol_path.proofs.Gathering.{part}
-use Rattle.symbol_path.specs.SentOrderTwo.{place2}
-use Rattle.rate_set_two.proofs.gathering.gather2_into.Given as goal
+use Rattle.frame_decoder.specs.Rows.{place_in}
+use Rattle.frame_decoder.proofs.rows.Row.gather_into.Given as goal
 
 abbrev pub invariant-loop-i : goal.invariant-loop-i
-invariant-loop-i l = record {
-  sums : (c : ℕ) →
-      get_or l.out c (pos 0) ≡ part (λ i. get_or l.softs i (pos 0)) (place2 l.rate) l.i c;
+invariant-loop-i g l = record {
+  sums : (c : ℕ) → get_or l.out c (pos 0) ≡ part (λ i. get_or l.softs i (pos 0)) (place_in l.self) l.i c;
   sizes : sum_by unsigned_abs l.out ≤ sum_by unsigned_abs (take l.i l.softs);
 }
