@@ -3,13 +3,11 @@
 ghost use Rattle.std.specs.Prelude.{◌≡◌, ◌≤◌, ◌^◌, All, length, map, sum_by, unsigned_abs};
 ghost use Rattle.std.specs.List.{find};
 ghost use Rattle.std.specs.Option.{option_map};
-ghost use Rattle.quality_bits.specs.declared.rate.Rate.{Rate};
 ghost use Rattle.frame_decoder.specs.Rows.{IsRow, row_of, bits_in, score_in, is_right, frame_in};
 ghost use Rattle.frame_decoder.specs.Rows.{candidate_of};
 ghost use Rattle.list_viterbi.specs.First.{word_of};
 ghost use Rattle.listed_frame.specs.ListedFrames.{words_in, listed};
 
-use chip_core::Bits;
 use frame_decoder::{
     Decoded, Row, RowFrame, RowWord, good_or, preferred, row_of, without_commands,
 };
