@@ -1,11 +1,9 @@
 -- Sums of a part of the samples, and how great an energy can become.
-use Rattle.std.proofs.Common.{◌≡◌, ℕ, zero, suc, ◌+◌, ◌*◌, ◌%◌, ◌<◌, ◌≤◌, Bool, true, false, List, [], ◌∷◌, ◌++◌, length, take, drop, min, refl, sym, ap, ◌∙◌, subst, ⊎_elim, arith, ℤ, ◌+ℤ◌, unsigned_abs}
-use Rattle.std.specs.Int.{div_ceil}
+use Rattle.std.proofs.Common.{◌≡◌, ℕ, zero, suc, ◌+◌, ◌-◌, ◌*◌, ◌%◌, ◌<◌, ◌≤◌, Bool, true, false, List, [], ◌∷◌, ◌++◌, length, take, drop, refl, sym, ap, ◌∙◌, subst, arith, ℤ, ◌+ℤ◌, unsigned_abs}
 use Rattle.std.proofs.Math.Nat.{mul-le-mul}
 use Rattle.std.proofs.Math.Seq.{take-add}
 use Rattle.std.proofs.lemmas.Int.{ints}
-use Rattle.std.proofs.lemmas.Bool.{cases_order, cases_lt}
-use Rattle.std.proofs.lemmas.List.{length-take-le, take_all, drop_all, drop-drop}
+use Rattle.std.proofs.lemmas.List.{length-take-le, drop-drop}
 use Rattle.chip_core.specs.Complex.{origin, plus, times, conjugate, point, of_sample, sum_of, norm}
 use Rattle.chip_core.specs.declared.sample.Pair.{Pair}
 use Rattle.chip_core.specs.declared.sample.Sample.{Sample}
@@ -14,7 +12,7 @@ use Rattle.short_code.specs.Despread.{code_point, despread}
 use Rattle.short_code.specs.ShortCode.{pilot_chip}
 use Rattle.short_code.proofs.Despreading.{despread-append}
 use Rattle.pilot_search.specs.Search.{correlation, energy}
-use Rattle.pilot_search.specs.Bounds.{magnitudes, square_of, bound}
+use Rattle.pilot_search.specs.Bounds.{magnitudes, square_of, bound, HasBoundBelow, HasNoBoundBelow, IsSumOf}
 use Rattle.pilot_search.proofs.CorrelationSums.{plus_is}
 
 -- PARTS OF THE SAMPLES
@@ -131,15 +129,59 @@ bounds samples phase done =
     let both : norm (plus x y) ≤ bound samples phase done = omega arith in
     rw (parted samples phase done) both
 
--- A LOOK BEFORE EACH CHUNK
-pub clear_more : (samples : List Sample) (phase limit k : ℕ) →
-    ((j : ℕ) → j < k → limit ≤ bound samples phase (64 * j)) → limit ≤ bound samples phase (64 * k)
-    → (j : ℕ) → j < k + 1 → limit ≤ bound samples phase (64 * j)
-clear_more samples phase limit k before here j lt =
-    ⊎_elim
-    (λ (e : j ≡ k). subst (λ (n : ℕ). limit ≤ bound samples phase (64 * n)) (sym e) here)
-    (⊎_elim (λ (less : j < k). before j less) (λ (more : k < j). absurd (omega arith)))
-    (cases_order j k)
+-- A BOUND NEVER RISES
+magnitudes_parted : (samples : List Sample) (n : ℕ) →
+    magnitudes samples ≡ magnitudes (take n samples) + magnitudes (drop n samples)
+magnitudes_parted [] zero = refl
+magnitudes_parted [] (suc n) = refl
+magnitudes_parted (s ∷ samples) zero = omega arith
+magnitudes_parted (s ∷ samples) (suc n) =
+    let rest = magnitudes_parted samples n in
+    omega (arith, rest)
+
+chunk_i : (samples : List Sample) (phase : ℕ) →
+    unsigned_abs (correlation samples phase).i ≤ magnitudes samples
+unfolding correlation
+chunk_i samples phase = rest_i phase samples
+
+chunk_q : (samples : List Sample) (phase : ℕ) →
+    unsigned_abs (correlation samples phase).q ≤ magnitudes samples
+unfolding correlation
+chunk_q samples phase = rest_q phase samples
+
+nearer : (a b : ℤ) (all some left : ℕ) → unsigned_abs b ≤ some → all ≡ some + left →
+    square_of (unsigned_abs (a +ℤ b) + left) ≤ square_of (unsigned_abs a + all)
+nearer a b all some left h e =
+    let w : unsigned_abs (a +ℤ b) + left ≤ unsigned_abs a + all = omega (arith, ints, h, e) in
+    mul-le-mul w w
+
+bound_falls : (samples : List Sample) (phase k n : ℕ) → k ≤ length samples →
+    bound samples phase (k + n) ≤ bound samples phase k
+bound_falls samples phase k n le =
+    let x = correlation (take k samples) phase in
+    let chunk = take n (drop k samples) in
+    let y = correlation chunk ((phase + k) % 32768) in
+    let left = magnitudes (drop (k + n) samples) in
+    let all : magnitudes (drop k samples) ≡ magnitudes chunk + left =
+    magnitudes_parted (drop k samples) n
+    ∙ ap (λ (zs : List Sample). magnitudes chunk + magnitudes zs) (drop-drop n k samples) in
+    let i = nearer x.i y.i (magnitudes (drop k samples)) (magnitudes chunk) left
+    (chunk_i chunk ((phase + k) % 32768)) all in
+    let q = nearer x.q y.q (magnitudes (drop k samples)) (magnitudes chunk) left
+    (chunk_q chunk ((phase + k) % 32768)) all in
+    let both : square_of (unsigned_abs (plus x y).i + left) +
+    square_of (unsigned_abs (plus x y).q + left) ≤ bound samples phase k = omega arith in
+    rw (chunk_more samples phase k n le) both
+
+-- where the bound before the last chunk isn't below the limit, none is
+pub none_below : (samples : List Sample) (phase limit last : ℕ) → length samples ≤ 64 * last + 64 →
+    limit ≤ bound samples phase (64 * last) → HasNoBoundBelow samples phase limit
+none_below samples phase limit last all here j lt =
+    let place : 64 * j + 64 * (last - j) ≡ 64 * last = omega (arith, all, lt) in
+    let falls : bound samples phase (64 * last) ≤ bound samples phase (64 * j) =
+    subst (λ (n : ℕ). bound samples phase n ≤ bound samples phase (64 * j)) place
+    (bound_falls samples phase (64 * j) (64 * (last - j)) (omega (arith, lt))) in
+    omega (arith, here, falls)
 
 -- the bound that the program looks at
 pub bound_is : (samples : List Sample) (phase k tail found : ℕ) (sum : Pair) →
@@ -150,59 +192,72 @@ bound_is samples phase k tail found sum e f is =
     is ∙ ap (λ (x : Pair × ℕ). square_of (unsigned_abs x.0.i + x.1) +
     square_of (unsigned_abs x.0.q + x.1)) (λ i. (e i, f i))
 
--- CHUNKS
--- a chunk is left where the count of chunks says so
-pub chunk_left : (n j count : ℕ) → count ≡ div_ceil n 64 → j < count → 64 * j < n
-chunk_left n j count is lt = omega (arith, is, lt)
+-- the bound that the program looks at is below the limit
+pub bound_below : (samples : List Sample) (phase j limit tail found : ℕ) (sum : Pair) →
+    IsSumOf samples phase (64 * j) sum → tail ≡ magnitudes (drop (64 * j) samples) →
+    found ≡ square_of (unsigned_abs sum.i + tail) + square_of (unsigned_abs sum.q + tail) →
+    64 * j < length samples → found < limit → HasBoundBelow samples phase limit
+bound_below samples phase j limit tail found sum so_far left is lt less =
+    let here = bound_is samples phase (64 * j) tail found sum so_far.value left is in
+    (j, lt, omega (arith, here, less))
 
-pub chunks_over : (n j count : ℕ) → count ≡ div_ceil n 64 → count ≤ j → n ≤ 64 * j
-chunks_over n j count is le = omega (arith, is, le)
+-- no samples
+pub none_left : (samples : List Sample) (phase limit : ℕ) → length samples ≡ 0 →
+    (0 ≡ energy samples phase) × HasNoBoundBelow samples phase limit
+unfolding energy correlation
+none_left [] phase limit e = (refl, λ j lt. absurd (omega (arith, lt)))
+none_left (s ∷ samples) phase limit e = absurd (omega (arith, e))
 
-pub few_chunks : (n count : ℕ) → n ≤ 32768 → count ≡ div_ceil n 64 → count ≤ 512
-few_chunks n count few is = omega (arith, few, is)
+-- THE SUM SO FAR
+pub none_added : (samples : List Sample) (phase : ℕ) → IsSumOf samples phase 0 origin
+none_added samples phase =
+    record {
+      value = sym (nothing_yet samples phase);
+      i_bound = omega arith;
+      q_bound = omega arith;
+    }
 
--- the first 64, or all where there are fewer
-pub first_chunk : (xs : List Sample) (n : ℕ) → n ≡ min (length xs) 64 → take n xs ≡ take 64 xs
-first_chunk xs n is = ⊎_elim
-    (λ (few : length xs < 64). let e : n ≡ length xs = omega (arith, is, few) in
-    rw e (take_all (length xs) xs (omega arith) ∙ sym (take_all 64 xs (omega (arith, few)))))
-    (λ (many : 64 ≤ length xs). let e : n ≡ 64 = omega (arith, is, many) in rw e)
-    (cases_lt (length xs) 64)
+-- the step of the loop over blocks of chunks
+pub sum_more : (samples rest : List Sample) (phase j chunks : ℕ) (sum part : Pair) (i q : ℤ) →
+    64 * j ≤ length samples → rest ≡ drop (64 * j) samples → IsSumOf samples phase (64 * j) sum →
+    part ≡ correlation (take (64 * chunks) rest) ((phase + 64 * j) % 32768) →
+    unsigned_abs part.i ≤ 65536 * (64 * chunks) → unsigned_abs part.q ≤ 65536 * (64 * chunks) →
+    i ≡ sum.i +ℤ part.i → q ≡ sum.q +ℤ part.q →
+    IsSumOf samples phase (64 * (j + chunks)) (record { i = i; q = q })
+sum_more samples rest phase j chunks sum part i q le is so_far added near_i near_q ei eq =
+    let place : 64 * j + 64 * chunks ≡ 64 * (j + chunks) = omega arith in
+    let block = λ (xs : List Sample).
+    correlation (take (64 * chunks) xs) ((phase + 64 * j) % 32768) in
+    record {
+      value = plus_is sum part i q ei eq
+          ∙ ap (λ (x : Pair). plus x part) so_far.value
+          ∙ ap (plus (correlation (take (64 * j) samples) phase)) (added ∙ ap block is)
+          ∙ sym (chunk_more samples phase (64 * j) (64 * chunks) le)
+          ∙ ap (λ (m : ℕ). correlation (take m samples) phase) place;
+      i_bound = far sum.i part.i i _ _ _ ei so_far.i_bound near_i (omega arith);
+      q_bound = far sum.q part.q q _ _ _ eq so_far.q_bound near_q (omega arith);
+    }
+  where
+    far : (a b c : ℤ) (m n k : ℕ) → c ≡ a +ℤ b → unsigned_abs a ≤ m → unsigned_abs b ≤ n →
+        k ≡ m + n → unsigned_abs c ≤ k
+    far a b c m n k e h g is = omega (arith, ints, e, h, g, is)
 
-pub after_chunk : (samples rest : List Sample) (k n : ℕ) → rest ≡ drop (64 * k) samples →
-    n ≡ min (length rest) 64 → drop n rest ≡ drop (64 * (k + 1)) samples
-after_chunk samples rest k n is least =
-    let place : 64 * k + 64 ≡ 64 * (k + 1) = omega arith in
-    let whole : drop 64 rest ≡ drop (64 * (k + 1)) samples = ap (drop 64) is ∙
-    drop-drop 64 (64 * k) samples ∙ ap (λ (m : ℕ). drop m samples) place in
-    ⊎_elim
-    (λ (few : length rest < 64). let e : n ≡ length rest = omega (arith, least, few) in
-    rw e (drop_all (length rest) rest (omega arith) ∙ sym (drop_all 64 rest (omega (arith, few))) ∙
-    whole))
-    (λ (many : 64 ≤ length rest). let e : n ≡ 64 = omega (arith, least, many) in rw e whole)
-    (cases_lt (length rest) 64)
+whole_parted : (samples : List Sample) (phase done : ℕ) →
+    plus (correlation (take done samples) phase) (correlation (drop done samples) (phase + done)) ≡
+    correlation samples phase
+unfolding correlation
+whole_parted samples phase done = sym (parted samples phase done)
 
--- the step of the loop over chunks
-pub sum_more : (samples rest : List Sample) (phase k n : ℕ) (sum part : Pair) (i q : ℤ) →
-    64 * k < length samples → rest ≡ drop (64 * k) samples → n ≡ min (length rest) 64 →
-    sum ≡ correlation (take (64 * k) samples) phase →
-    part ≡ correlation (take n rest) ((phase + 64 * k) % 32768) → i ≡ sum.i +ℤ part.i →
-    q ≡ sum.q +ℤ part.q →
-    ◌≡◌ {A = Pair} record { i = i; q = q } (correlation (take (64 * (k + 1)) samples) phase)
-sum_more samples rest phase k n sum part i q within is least so_far added ei eq =
-    let place : 64 * k + 64 ≡ 64 * (k + 1) = omega arith in
-    let chunk : take n rest ≡ take 64 (drop (64 * k) samples) = first_chunk rest n least ∙
-    ap (take 64) is in
-    plus_is sum part i q ei eq
-    ∙ ap (λ (x : Pair). plus x part) so_far
-    ∙ ap (plus (correlation (take (64 * k) samples) phase)) (added ∙
-    ap (λ (xs : List Sample). correlation xs ((phase + 64 * k) % 32768)) chunk)
-    ∙ sym (chunk_more samples phase (64 * k) 64 (omega (arith, within)))
-    ∙ ap (λ (m : ℕ). correlation (take m samples) phase) place
-
--- all samples are added up
-pub sum_whole : (samples : List Sample) (phase k : ℕ) (sum : Pair) → length samples ≤ 64 * k →
-    sum ≡ correlation (take (64 * k) samples) phase → norm sum ≡ energy samples phase
+-- the last chunk is added
+pub sum_whole : (samples : List Sample) (phase done : ℕ) (sum part all : Pair) →
+    IsSumOf samples phase done sum →
+    part ≡ correlation (drop done samples) ((phase + done) % 32768) → all ≡ plus sum part →
+    norm all ≡ energy samples phase
 unfolding energy
-sum_whole samples phase k sum all is =
-    ap norm (is ∙ ap (λ (xs : List Sample). correlation xs phase) (take_all (64 * k) samples all))
+sum_whole samples phase done sum part all so_far added is =
+    ap norm
+    (is
+    ∙ ap (λ (x : Pair). plus x part) so_far.value
+    ∙ ap (plus (correlation (take done samples) phase))
+    (added ∙ correlation_mod (drop done samples) (phase + done))
+    ∙ whole_parted samples phase done)

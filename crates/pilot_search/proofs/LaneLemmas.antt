@@ -1,10 +1,11 @@
 -- Lanes of 32 bits that hold products of samples with signs, and sums of them.
-use Rattle.std.proofs.Common.{◌≡◌, ℕ, zero, suc, ◌+◌, ◌*◌, ◌%◌, ◌^◌, ◌<◌, ◌≤◌, List, [], ◌∷◌, map, length, get_or, take, drop, add-one, All, refl, sym, ap, ◌∙◌, arith, ℤ, pos, negsuc, ◌+ℤ◌, ◌-ℤ◌, ◌*ℤ◌, unsigned_abs, to_z, of_z, FitsSigned, w8, w16, w32, w64}
+use Rattle.std.proofs.Common.{◌≡◌, ℕ, zero, suc, ◌+◌, ◌*◌, ◌%◌, ◌^◌, ◌<◌, ◌≤◌, List, [], ◌∷◌, map, length, get_or, take, drop, add-one, All, refl, sym, ap, ◌∙◌, subst, arith, ℤ, pos, negsuc, ◌+ℤ◌, ◌-ℤ◌, ◌*ℤ◌, unsigned_abs, to_z, of_z, FitsSigned, w8, w16, w32, w64}
 use Rattle.std.proofs.Math.IntN.{neg_ℤ, +ℤ_assoc}
 use Rattle.std.proofs.Math.Facts.{Fits-of_z}
 use Rattle.std.specs.Int.{int_wrap}
 use Rattle.std.proofs.lemmas.Int.{ints, to_z-of_z, int_wrap_fits, wrapping_add-bits, wrapping_mul_onto, fits_signed_from_abs, unsigned_abs-mul}
 use lib.Lanes.{Each1, Each2, zip2}
+use Rattle.std.proofs.lemmas.List.{get_or-map}
 use Rattle.std.proofs.lemmas.List.Elements.{All-get_or}
 use Rattle.std.proofs.lemmas.Simd.{Each2-of}
 use Rattle.chip_core.specs.Complex.{plus}
@@ -12,7 +13,7 @@ use Rattle.chip_core.specs.Sums.{total}
 use Rattle.chip_core.specs.declared.sample.Pair.{Pair}
 use Rattle.chip_core.proofs.ComplexSums.{real_part}
 use Rattle.chip_core.specs.declared.sample.Sample.{Sample}
-use Rattle.pilot_search.specs.BySigns.{correlation_with}
+use Rattle.pilot_search.specs.BySigns.{across, correlation_with}
 use Rattle.short_code.specs.Despread.{IsUnit, turned}
 use Rattle.pilot_search.specs.Lanes.{product_at, real_lanes, imaginary_lanes}
 use Rattle.pilot_search.proofs.CorrelationSums.{correlation_with-more}
@@ -133,6 +134,27 @@ pub imaginary_product : (s : Sample) (g : ℤ × ℤ) → unsigned_abs s.i ≤ 3
     to_z w32 ((wide s.i * wide_turned g.1 % 4294967296 + wide s.q * wide_same g.0 % 4294967296) %
     4294967296) ≡ (turned s g).q
 imaginary_product s g hi hq fi fq u = imaginary_lane s.i s.q g.0 g.1 hi hq fi fq u.i u.q
+
+-- the same by signs that are turned already
+pub imaginary_across : (s : Sample) (g t : ℤ × ℤ) → t ≡ across g → unsigned_abs s.i ≤ 32768 →
+    unsigned_abs s.q ≤ 32768 → FitsSigned w16 s.i → FitsSigned w16 s.q → IsUnit g →
+    to_z w32 ((wide s.i * wide_sign t.0 % 4294967296 + wide s.q * wide_sign t.1 % 4294967296) %
+    4294967296) ≡ (turned s g).q
+imaginary_across s g t is hi hq fi fq u =
+    subst (λ (t : ℤ × ℤ). to_z w32 ((wide s.i * wide_sign t.0 % 4294967296 +
+    wide s.q * wide_sign t.1 % 4294967296) % 4294967296) ≡ (turned s g).q) (sym is)
+    (rw (
+      wide-is s.i hi fi,
+      wide-is s.q hq fq,
+      wide_sign-is (neg_ℤ g.1) (neg_bound g.1 u.q),
+      wide_sign-is g.0 u.i,
+    ) (both s.i s.q (neg_ℤ g.1) g.0 hi hq (neg_bound g.1 u.q) u.i))
+
+pub across_at : (signs turned : List (ℤ × ℤ)) (k : ℕ) → turned ≡ map across signs →
+    k < length signs → get_or turned k no_sign ≡ across (get_or signs k no_sign)
+across_at signs turned k is lt =
+    ap (λ (xs : List (ℤ × ℤ)). get_or xs k no_sign) is
+    ∙ get_or-map across signs k no_sign no_sign lt
 
 pub real_bound : (s : Sample) (g : ℤ × ℤ) → unsigned_abs s.i ≤ 32768 → unsigned_abs s.q ≤ 32768 →
     IsUnit g → unsigned_abs (turned s g).i ≤ 65536

@@ -1,5 +1,6 @@
 -- How great the energy of a phase can still become, after some of the samples.
 use Rattle.std.specs.Prelude.{◌≡◌, ◌<◌, ◌≤◌, ℕ, ◌+◌, ◌*◌, List, [], ◌∷◌, length, take, drop, unsigned_abs, slice_index}
+use Rattle.chip_core.specs.declared.sample.Pair.{Pair}
 use Rattle.chip_core.specs.declared.sample.Sample.{Sample}
 use Rattle.pilot_search.specs.Search.{correlation, energy, best_phase}
 
@@ -35,3 +36,9 @@ HasNoBoundBelow samples phase limit =
 abbrev pub AreTails : List Sample → List ℕ → Type 0
 AreTails samples tails =
     (j : ℕ) → j < 512 → slice_index tails j ≡ magnitudes (drop (64 * j) samples)
+
+-- the sum over the first `done` samples
+pub record IsSumOf (samples : List Sample) (phase done : ℕ) (sum : Pair) : Type 0 where
+  pub value : sum ≡ correlation (take done samples) phase
+  pub i_bound : unsigned_abs sum.i ≤ 65536 * done
+  pub q_bound : unsigned_abs sum.q ≤ 65536 * done

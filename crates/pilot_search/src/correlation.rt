@@ -6,7 +6,10 @@ ghost use Rattle.pilot_search.specs.Search.{correlation, energy};
 ghost use Rattle.pilot_search.specs.BySigns.{correlation_with};
 ghost use Rattle.short_code.specs.Despread.{IsUnit};
 
+use crate::blocks::{BLOCK, sum_of_blocks};
 use crate::lanes::sums_on_lanes;
+use crate::turned_signs::TurnedSigns;
+use chip_core::air::CODE_CHIPS;
 use chip_core::{Pair, Phase, Sample};
 use short_code::{Codes, despread};
 
@@ -66,6 +69,28 @@ pub(crate) fn correlation_at(samples: &[Sample], codes: &Codes, phase: Phase) ->
         i: first.i + rest.i,
         q: first.q + rest.q,
     }
+}
+
+/// The same correlation, by both tables of signs where the samples are whole blocks and the code
+/// doesn't begin again before their end.
+pub(crate) fn correlation_by(
+    samples: &[Sample],
+    codes: &Codes,
+    turned: &TurnedSigns,
+    phase: Phase,
+) -> Pair
+    requires { length samples.now ≤ 32768 }
+    ensures value { result ≡ correlation samples.now phase }
+    ensures i_bound { unsigned_abs result.i ≤ 65536 * length samples.now }
+    ensures q_bound { unsigned_abs result.q ≤ 65536 * length samples.now }
+{
+    let from = usize::from(phase.get());
+    if samples.len() % BLOCK != 0 || from + samples.len() > CODE_CHIPS as usize {
+        return correlation_at(samples, codes, phase);
+    }
+    let (_, signs_ahead) = codes.table().split_at(from);
+    let (_, turned_ahead) = turned.table().split_at(from);
+    sum_of_blocks(samples, signs_ahead, turned_ahead)
 }
 
 /// The square of a complex number's absolute value.

@@ -69,7 +69,7 @@ fn products(samples: &[Sample], signs: &[(i8, i8)], at: usize) -> (i32x8, i32x8)
 }
 
 /// Lanes added one to one.
-fn added(one: i32x8, other: i32x8) -> i32x8
+pub(crate) fn added(one: i32x8, other: i32x8) -> i32x8
     requires { Each2 (λ a b. unsigned_abs a + unsigned_abs b < 2 ^ 31) one other }
     ensures { result ≡ zip2 (λ a b. a +ℤ b) one other }
 {
@@ -77,7 +77,7 @@ fn added(one: i32x8, other: i32x8) -> i32x8
 }
 
 /// The sum of all lanes.
-fn total_of(lanes: i32x8) -> i64
+pub(crate) fn total_of(lanes: i32x8) -> i64
     requires long { length lanes ≡ 8 }
     requires fit { Each1 (λ x. unsigned_abs x < 2 ^ 31) lanes }
     ensures { result ≡ total lanes }

@@ -6,6 +6,7 @@
 //! where the sum has the greatest energy.
 #![tactic(auto)]
 
+mod blocks;
 mod correlation;
 mod gate;
 mod lanes;
@@ -19,6 +20,7 @@ mod steps;
 mod sweeping;
 mod tails;
 mod trying;
+mod turned_signs;
 mod view;
 
 pub use correlation::energy_at;

@@ -1,17 +1,20 @@
 //! The word that workers share, and their seats.
 
 use crate::rule::BestRule;
+use crate::turned_signs::TurnedSigns;
 use crate::view::View;
 use atomic_table::{Seat, Table};
 use std::alloc::Global;
 use std::marker::Model;
 
-/// The greatest energy that any worker has published, in one word that only rises. It begins at 0.
+/// What the workers share: the greatest energy that any of them has published, in one word that
+/// only rises and begins at 0; and a table that makes correlations faster.
 ///
 /// Contracts see which word it is.
 #[derive(Drop)]
 pub struct Shared {
     pub(crate) table: Table<(), View, (), BestRule, Global>,
+    pub(crate) turned: TurnedSigns,
 }
 
 impl Model for Shared {

@@ -6,37 +6,40 @@ ghost use Rattle.pilot_search.specs.Bounds.{greatest};
 
 use crate::rule::{Begin, Ceiling, Greater, Load, Raise, Same};
 use crate::shared::{BestSeat, Shared};
+use crate::turned_signs::TurnedSigns;
 use atomic_table::Table;
 use chip_core::{OutOfMemory, Sample};
 use short_code::Codes;
-use std::alloc::{AllocError, Global};
+use std::alloc::Global;
 use std::marker::Brand;
 
 impl Shared {
     /// A word of 0, and its first seat.
     ///
     /// The ceiling is the greatest energy of these samples at any phase. It stands in contracts
-    /// alone, and nothing computes it. [`OutOfMemory`]: there was no memory for the word.
+    /// alone, and nothing computes it. [`OutOfMemory`]: there was no memory for the word, or for
+    /// 65,536 bytes of the codes' signs in another form.
     pub fn new(
         alloc: Global,
         samples: &[Sample],
-        _codes: &Codes,
+        codes: &Codes,
     ) -> Result<(Shared, BestSeat), OutOfMemory>
         ensures held { IfOk result (λ made. IsHeld made.1 made.0) }
         ensures floor { IfOk result (λ made. made.1.floor ≡ 0) }
         ensures ceiling { IfOk result (λ made. made.1.ceiling ≡ greatest samples.now) }
     {
-        let (shared, mut seat) = Shared::open(alloc)?;
+        let (shared, mut seat) = Shared::open(alloc, codes)?;
         shared.begin::<Brand>(&mut seat, samples);
         Ok((shared, seat))
     }
 
     /// A word of 0 with a seat that has no ceiling yet.
-    fn open(alloc: Global) -> Result<(Shared, BestSeat), AllocError>
+    fn open(alloc: Global, codes: &Codes) -> Result<(Shared, BestSeat), OutOfMemory>
         ensures { IfOk result (λ made. (made.1.word ≡ made.0) × (made.1.fresh ≡ true)) }
     {
+        let turned = TurnedSigns::of(alloc, codes)?;
         let (table, seat) = Table::of_words(alloc, &[0], &())?;
-        Ok((Shared { table }, BestSeat { seat }))
+        Ok((Shared { table, turned }, BestSeat { seat }))
     }
 
     /// Gives the first seat its ceiling, by one load.

@@ -1,17 +1,22 @@
 //! A worker's try of one phase.
 
 ghost use Rattle.std.specs.Prelude.{◌≡◌, ◌<◌, ◌≤◌, ◌+◌, ◌*◌, ◌%◌, ◌^◌, ℕ, length, unsigned_abs, MatchOption, IfSome, IfNone};
+ghost use Rattle.chip_core.specs.Complex.{plus};
 ghost use Rattle.pilot_search.specs.Search.{energy};
 ghost use Rattle.pilot_search.specs.Knowledge.{IsHeld};
 ghost use Rattle.pilot_search.specs.SearchRun.{IsTry};
-ghost use Rattle.pilot_search.specs.Bounds.{AreTails, HasBoundBelow, HasNoBoundBelow, square_of};
+ghost use Rattle.pilot_search.specs.Bounds.{AreTails, HasBoundBelow, HasNoBoundBelow, IsSumOf, square_of};
 
-use crate::correlation::{correlation_at, norm_of};
+use crate::correlation::{correlation_by, norm_of};
 use crate::shared::{BestSeat, Shared};
 use crate::tails::{CHUNK, Tails};
+use crate::turned_signs::TurnedSigns;
 use chip_core::air::CODE_CHIPS;
 use chip_core::{Pair, Phase, Sample};
 use short_code::Codes;
+
+/// How many chunks are added up, at most, from one look at the bound to the next.
+const STRIDE: u16 = 4;
 
 /// The greatest energy that these sums can lead to, where each part may still change by so much.
 fn bound_of(sum: Pair, left: u64) -> u64
@@ -25,6 +30,20 @@ fn bound_of(sum: Pair, left: u64) -> u64
     i * i + q * q
 }
 
+/// Two sums added.
+fn joined(one: Pair, other: Pair) -> Pair
+    requires i { unsigned_abs one.i + unsigned_abs other.i ≤ 2 ^ 31 }
+    requires q { unsigned_abs one.q + unsigned_abs other.q ≤ 2 ^ 31 }
+    ensures value { result ≡ plus one other }
+    ensures i_bound { unsigned_abs result.i ≤ 2 ^ 31 }
+    ensures q_bound { unsigned_abs result.q ≤ 2 ^ 31 }
+{
+    Pair {
+        i: one.i + other.i,
+        q: one.q + other.q,
+    }
+}
+
 /// The phase of the code so many chips on.
 fn later(phase: Phase, chips: u16) -> Phase
     requires { chips ≤ 32768 }
@@ -33,10 +52,48 @@ fn later(phase: Phase, chips: u16) -> Phase
     Phase::new((phase.get() + chips) % CODE_CHIPS as u16).unwrap()
 }
 
+/// The sum over the chunks before the last one, unless a bound that is looked at before is below the
+/// limit.
+fn sum_unless_below(
+    samples: &[Sample],
+    codes: &Codes,
+    turned: &TurnedSigns,
+    tails: &Tails,
+    phase: Phase,
+    limit: u64,
+    last: u16,
+) -> Option<Pair>
+    requires samples { length samples.now ≤ 32768 }
+    requires last { 64 * last < length samples.now }
+    requires tails { AreTails samples.now tails.now }
+    ensures { MatchOption result (HasBoundBelow samples.now phase limit)
+        (IsSumOf samples.now phase (64 * last)) }
+{
+    let mut sum = Pair { i: 0, q: 0 };
+    let mut rest = samples;
+    let mut j = 0;
+    while j < last {
+        if bound_of(sum, tails.get(j)) < limit {
+            return None;
+        }
+        let chunks = (last - j).min(STRIDE);
+        let (block, after) = rest.split_at(CHUNK * usize::from(chunks));
+        let part = correlation_by(block, codes, turned, later(phase, 64 * j));
+        sum.i += part.i;
+        sum.q += part.q;
+        rest = after;
+        j += chunks;
+    }
+    Some(sum)
+}
+
 /// The energy at a phase, unless a bound on it is below the limit.
+///
+/// A bound never rises from chunk to chunk, so the one before the last chunk tells.
 fn energy_unless_below(
     samples: &[Sample],
     codes: &Codes,
+    turned: &TurnedSigns,
     tails: &Tails,
     phase: Phase,
     limit: u64,
@@ -46,30 +103,28 @@ fn energy_unless_below(
     ensures { MatchOption result (HasBoundBelow samples.now phase limit)
         (λ e. (e ≡ energy samples.now phase) × HasNoBoundBelow samples.now phase limit) }
 {
-    let mut sum = Pair { i: 0, q: 0 };
-    let mut rest = samples;
-    for j in 0..samples.len().div_ceil(CHUNK) as u16 {
-        if bound_of(sum, tails.get(j)) < limit {
-            return None;
-        }
-        let (chunk, after) = rest.split_at(rest.len().min(CHUNK));
-        let part = correlation_at(chunk, codes, later(phase, 64 * j));
-        sum.i += part.i;
-        sum.q += part.q;
-        rest = after;
+    if samples.is_empty() {
+        return Some(0);
     }
-    Some(norm_of(sum))
+    let last = ((samples.len() - 1) / CHUNK) as u16;
+    let sum = sum_unless_below(samples, codes, turned, tails, phase, limit, last)?;
+    if bound_of(sum, tails.get(last)) < limit {
+        return None;
+    }
+    let (_, chunk) = samples.split_at(CHUNK * usize::from(last));
+    let part = correlation_by(chunk, codes, turned, later(phase, 64 * last));
+    Some(norm_of(joined(sum, part)))
 }
 
 /// The energy of the samples at a phase, which is then published; `None` where it can't be the
 /// greatest.
 ///
-/// It reads the shared word once. Then it adds the samples up by chunks of 64. Before each chunk it
-/// looks at the bound: with the sums so far, and the sum of |I| + |Q| over the samples that are
-/// left, the energy is at most (|re| + left)^2 + (|im| + left)^2. Where this is below the value
-/// read, some other phase has a greater energy, and the phase is left. Where the bound equals the
-/// value read the phase isn't left, since it may be the first of several that have the greatest
-/// energy.
+/// It reads the shared word once. Then it adds the samples up. With the sums so far, and the sum of
+/// |I| + |Q| over the samples that are left, the energy is at most (|re| + left)^2 + (|im| +
+/// left)^2. Where this is below the value read before any chunk of 64 samples, some other phase has
+/// a greater energy, and the phase is left. Where the bound equals the value read the phase isn't
+/// left, since it may be the first of several that have the greatest energy. Since the bound never
+/// rises, it is looked at before each four chunks and before the last one alone.
 pub fn try_phase(
     shared: &Shared,
     seat: &mut BestSeat,
@@ -94,7 +149,7 @@ pub fn try_phase(
     ensures held { IsHeld seat.new shared.now }
 {
     let read = shared.load(seat);
-    let energy = energy_unless_below(samples, codes, tails, phase, read)?;
+    let energy = energy_unless_below(samples, codes, &shared.turned, tails, phase, read)?;
     shared.fetch_max(seat, energy);
     Some(energy)
 }

@@ -1,62 +1,49 @@
-use Rattle.std.proofs.Common.{◌≡◌, ◌≤◌, ◌<◌, ◌+◌, ◌*◌, ◌%◌, ◌∙◌, List, arith, ap, sym, refl, take, drop, length}
-use Rattle.std.proofs.lemmas.Int.{ints}
+use Rattle.std.proofs.Common.{◌≡◌, ◌<◌, ◌+◌, ◌*◌, ◌-◌, ◌/◌, ◌%◌, ◌∙◌, ℕ, List, arith, rules, ap, drop, length}
+use Rattle.std.proofs.lemmas.Grind.{common_steps}
 use Rattle.chip_core.specs.declared.sample.Sample.{Sample}
 use Rattle.pilot_search.specs.Search.{correlation}
 use Rattle.pilot_search.specs.Bounds.{bound, magnitudes}
-use Rattle.pilot_search.proofs.BoundLemmas.{nothing_yet, clear_more, bound_is, chunk_left, chunks_over, few_chunks, after_chunk, sum_more, sum_whole}
+use Rattle.pilot_search.proofs.BoundLemmas.{bound_is, bound_below, none_left, none_below, sum_whole}
 use Rattle.pilot_search.proofs.trying.energy_unless_below.Goals as goal
 
-pub loop-j-init : goal.loop-j-init
-loop-j-init c = record {
-  sum = sym (nothing_yet c.args.samples.now c.args.phase);
-  i_bound = omega arith;
-  q_bound = omega arith;
-  rest = refl;
-  clear = λ j lt. absurd (omega arith);
-}
+pub returns-then-is_empty : goal.returns-then-is_empty
+returns-then-is_empty c =
+    let none : length c.args.samples.now ≡ 0 =
+    (first_of (search rules, grind (arith, common_steps))) in
+    none_left c.args.samples.now c.args.phase c.args.limit none
 
-pub loop-j-preserved : goal.loop-j-preserved
-loop-j-preserved c =
-    let inv = c.loop-j.invariant in
-    let k = c.loop-j.j in
+pub returns-then-bound_of-limit : goal.returns-then-bound_of-limit
+returns-then-bound_of-limit c =
     let xs = c.args.samples.now in
-    let rest = c.loop-j.rest.now in
-    let few : k < 512 =
-    omega (
-      arith,
-      few_chunks (length xs) c.div_ceil-j-end.result c.requires.samples c.div_ceil-j-end.ensures,
-    )
-    in
-    let left : 64 * k < length xs =
-    chunk_left (length xs) k c.div_ceil-j-end.result c.div_ceil-j-end.ensures c.loop-j-test.true
-    in
-    let tail : c.get.result ≡ magnitudes (drop (64 * k) xs) = c.get.ensures.value ∙
-    c.requires.tails k few in
-    let here : c.bound_of.result ≡ bound xs c.args.phase (64 * k) =
-    bound_is xs c.args.phase (64 * k) c.get.result c.bound_of.result c.loop-j.sum inv.sum tail
-    c.bound_of.ensures in
-    let chunk : c.correlation_at-part.result ≡
-    correlation (take c.min.result rest) ((c.args.phase + 64 * k) % 32768) =
-    c.correlation_at-part.ensures.value
-    ∙ ap (λ (ys : List Sample). correlation ys c.later.result) c.split_at.ensures.front
-    ∙ ap (correlation (take c.min.result rest)) c.later.ensures in
-    record {
-      sum = sum_more xs rest c.args.phase k c.min.result c.loop-j.sum c.correlation_at-part.result _
-          _ left inv.rest c.min.ensures inv.sum chunk (omega (arith, ints)) (omega (arith, ints));
-      i_bound = omega (arith, ints);
-      q_bound = omega (arith, ints);
-      rest = c.split_at.ensures.back ∙ after_chunk xs rest k c.min.result inv.rest c.min.ensures;
-      clear = clear_more xs c.args.phase c.args.limit k inv.clear
-          (omega (arith, here, c.if-bound_of-limit.false));
-    }
+    let last : ℕ = (length xs - 1) / 64 in
+    let some : 0 < length xs = (first_of (search rules, grind (arith, common_steps))) in
+    bound_below xs c.args.phase last c.args.limit c.get.result c.bound_of.result
+    c.in_ok-sum.sum c.in_ok-sum.ensures
+    (c.get.ensures.value ∙ c.requires.tails last (omega (arith, some, c.requires.samples)))
+    c.bound_of.ensures (omega (arith, some)) c.if-bound_of-limit.true
 
 pub returns : goal.returns
 returns c =
     let xs = c.args.samples.now in
-    let all : length xs ≤ 64 * c.loop-j.j =
-    chunks_over (length xs) c.loop-j.j c.div_ceil-j-end.result c.div_ceil-j-end.ensures
-    c.loop-j-test.false in (
+    let last : ℕ = (length xs - 1) / 64 in
+    let some : 0 < length xs = (first_of (search rules, grind (arith, common_steps))) in
+    let sum = c.in_ok-sum.sum in
+    let tail : c.get.result ≡ magnitudes (drop (64 * last) xs) =
+    c.get.ensures.value ∙ c.requires.tails last (omega (arith, some, c.requires.samples)) in
+    let here : c.bound_of.result ≡ bound xs c.args.phase (64 * last) =
+    bound_is xs c.args.phase (64 * last) c.get.result c.bound_of.result sum
+    c.in_ok-sum.ensures.value tail c.bound_of.ensures in
+    let from : c.from.result ≡ last = omega arith in
+    let back : c.split_at.result.1.now ≡ drop (64 * last) xs =
+    c.split_at.ensures.back ∙ ap (λ (n : ℕ). drop (64 * n) xs) from in
+    let part : c.correlation_by-part.result ≡
+    correlation (drop (64 * last) xs) ((c.args.phase + 64 * last) % 32768) =
+    c.correlation_by-part.ensures.value
+    ∙ ap (λ (ys : List Sample). correlation ys c.later.result) back
+    ∙ ap (correlation (drop (64 * last) xs)) c.later.ensures in (
       c.norm_of.ensures.value ∙
-          sum_whole xs c.args.phase c.loop-j.j c.loop-j.sum all c.loop-j.invariant.sum,
-      λ j lt. c.loop-j.invariant.clear j (omega (arith, lt, all)),
+          sum_whole xs c.args.phase (64 * last) sum c.correlation_by-part.result c.joined.result
+          c.in_ok-sum.ensures part c.joined.ensures.value,
+      none_below xs c.args.phase c.args.limit last (omega arith)
+          (omega (arith, here, c.if-bound_of-limit.false)),
     )

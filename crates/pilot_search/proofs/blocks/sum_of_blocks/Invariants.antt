@@ -1,0 +1,9 @@
+use Rattle.std.proofs.Common.{◌*◌, map, to_z, w32}
+use Rattle.pilot_search.specs.Lanes.{AreSums}
+use Rattle.pilot_search.proofs.blocks.sum_of_blocks.Given as goal
+
+abbrev pub invariant-loop-k : goal.invariant-loop-k
+invariant-loop-k l = record {
+  sums : AreSums l.samples l.signs (4 * l.k) (map (to_z w32) l.real)
+      (map (to_z w32) l.imaginary);
+}

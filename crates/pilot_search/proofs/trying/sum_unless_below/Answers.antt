@@ -1,0 +1,62 @@
+use Rattle.std.proofs.Common.{◌≡◌, ◌≤◌, ◌<◌, ◌+◌, ◌*◌, ◌-◌, ◌%◌, ◌∙◌, ℕ, List, arith, ap, refl, take, drop, length}
+use Rattle.std.proofs.lemmas.Int.{ints}
+use Rattle.std.proofs.lemmas.List.{length-drop, length-take-le, drop-drop}
+use Rattle.chip_core.specs.declared.sample.Sample.{Sample}
+use Rattle.pilot_search.specs.Search.{correlation}
+use Rattle.pilot_search.proofs.BoundLemmas.{none_added, bound_below, sum_more}
+use Rattle.pilot_search.proofs.trying.sum_unless_below.Goals as goal
+
+pub loop-j-init : goal.loop-j-init
+loop-j-init c = record {
+  within = omega arith;
+  sum = none_added c.args.samples.now c.args.phase;
+  rest = refl;
+  left = omega arith;
+}
+
+pub returns-then-bound_of-limit : goal.returns-then-bound_of-limit
+returns-then-bound_of-limit c =
+    let j = c.loop-j.j in
+    let few : j < 512 =
+    omega (arith, c.loop-j-test.true, c.requires.last, c.requires.samples) in
+    bound_below c.args.samples.now c.args.phase j c.args.limit c.get.result c.bound_of.result
+    c.loop-j.sum c.loop-j.invariant.sum (c.get.ensures.value ∙ c.requires.tails j few)
+    c.bound_of.ensures (omega (arith, c.loop-j-test.true, c.requires.last))
+    c.if-bound_of-limit.true
+
+pub loop-j-preserved : goal.loop-j-preserved
+loop-j-preserved c =
+    let inv = c.loop-j.invariant in
+    let xs = c.args.samples.now in
+    let j = c.loop-j.j in
+    let rest = c.loop-j.rest.now in
+    let chunks = c.min-chunks.result in
+    let some : chunks ≤ c.args.last - j = omega (arith, c.min-chunks.ensures) in
+    let room : 64 * chunks ≤ length rest =
+    omega (arith, some, inv.left, inv.within, c.requires.last) in
+    let from : c.from.result ≡ chunks = omega arith in
+    let front : c.split_at.result.0.now ≡ take (64 * chunks) rest =
+    c.split_at.ensures.front ∙ ap (λ (n : ℕ). take (64 * n) rest) from in
+    let back : c.split_at.result.1.now ≡ drop (64 * chunks) rest =
+    c.split_at.ensures.back ∙ ap (λ (n : ℕ). drop (64 * n) rest) from in
+    let size : length c.split_at.result.0.now ≡ 64 * chunks =
+    ap (λ (ys : List Sample). length ys) front ∙ length-take-le (64 * chunks) rest room in
+    let part : c.correlation_by-part.result ≡
+    correlation (take (64 * chunks) rest) ((c.args.phase + 64 * j) % 32768) =
+    c.correlation_by-part.ensures.value
+    ∙ ap (λ (ys : List Sample). correlation ys c.later.result) front
+    ∙ ap (correlation (take (64 * chunks) rest)) c.later.ensures in
+    let place : 64 * j + 64 * chunks ≡ 64 * (j + chunks) = omega arith in
+    let after : length c.split_at.result.1.now ≡ length rest - 64 * chunks =
+    ap (λ (ys : List Sample). length ys) back ∙ length-drop (64 * chunks) rest in
+    record {
+      within = omega (arith, some, c.loop-j-test.true);
+      sum = sum_more xs rest c.args.phase j chunks c.loop-j.sum c.correlation_by-part.result _ _
+          (omega (arith, inv.left)) inv.rest inv.sum part
+          (omega (arith, c.correlation_by-part.ensures.i_bound, size))
+          (omega (arith, c.correlation_by-part.ensures.q_bound, size))
+          (omega (arith, ints)) (omega (arith, ints));
+      rest = back ∙ ap (drop (64 * chunks)) inv.rest ∙ drop-drop (64 * chunks) (64 * j) xs
+          ∙ ap (λ (n : ℕ). drop n xs) place;
+      left = omega (arith, after, room, inv.left);
+    }
