@@ -1,0 +1,6 @@
+pub mod Columns
+pub mod Lawful
+pub mod Loops
+pub mod Parts
+pub mod Round
+pub mod Written

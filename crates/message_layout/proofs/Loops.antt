@@ -1,0 +1,162 @@
+-- Loops over the fields of a table and over records: what holds after so many of them.
+use Rattle.std.proofs.Common.{◌≡◌, ℕ, zero, suc, ◌+◌, ◌*◌, ◌<◌, ◌≤◌, Bool, List, [], ◌∷◌, ◌++◌, length, get_or, map, take, drop, refl, sym, ap, ◌∙◌, arith, Some, None}
+use Rattle.std.proofs.lemmas.Bool.{le-leb, lt-leb}
+use Rattle.std.proofs.lemmas.List.{length-drop, length-take-le, take_all}
+use Rattle.std.proofs.Math.Nat.{mul-le-mul_right, suc-mul}
+use Rattle.chip_core.specs.Bits.{number}
+use Rattle.chip_core.specs.Fields.{total, AreWidths}
+use Rattle.chip_core.specs.Readings.{number_at, values_at, column_at}
+use Rattle.chip_core.proofs.ValueLists.{column_more, dropped, length-column, total_more, total_room, values_more, width_within}
+use Rattle.message_layout.specs.Contents.{count_in}
+use Rattle.message_layout.specs.Reading.{fields_at}
+use Rattle.message_layout.proofs.Lawful.{count_room}
+
+-- FIELDS THAT ARE READ
+pub record FieldsRead (ws : List ℕ) (i : ℕ) (bits : List Bool) (values : List ℕ)
+    (reader : List Bool) : Type 0 where
+  pub read : values ≡ values_at (take i ws) bits
+  pub left : reader ≡ drop (total (take i ws)) bits
+  pub room : total (take i ws) ≤ length bits
+
+pub fields_begin : (ws : List ℕ) (bits reader : List Bool) (values : List ℕ) → values ≡ [] →
+    reader ≡ bits → FieldsRead ws 0 bits values reader
+fields_begin ws bits reader values none all =
+    record { read = none; left = all; room = omega arith }
+
+pub length-values : (ws : List ℕ) (bits : List Bool) → length (values_at ws bits) ≡ length ws
+length-values [] bits = refl
+length-values (w ∷ ws) bits = ap suc (length-values ws (drop w bits))
+
+pub fields_more : (ws : List ℕ) (i : ℕ) (bits reader after : List Bool) (values next : List ℕ)
+    (w n : ℕ) → i < length ws → FieldsRead ws i bits values reader → w ≡ get_or ws i 0 →
+    w ≤ length reader → n ≡ number (take w reader) → after ≡ drop w reader →
+    next ≡ values ++ n ∷ [] → FieldsRead ws (i + 1) bits next after
+fields_more ws i bits reader after values next w n h so_far width room value behind push =
+    let place = total (take i ws) in
+    let more = total_more ws i h in
+    let there : n ≡ number_at place (get_or ws i 0) bits =
+    value ∙ ap (λ (r : List Bool). number (take w r)) so_far.left
+    ∙ ap (λ (k : ℕ). number_at place k bits) width in
+    record {
+      read = push ∙ ap (λ (vs : List ℕ). vs ++ n ∷ []) so_far.read
+          ∙ ap (λ (v : ℕ). values_at (take i ws) bits ++ v ∷ []) there
+          ∙ sym (values_more ws i bits h);
+      left = behind ∙ ap (drop w) so_far.left ∙ dropped w place bits
+          ∙ ap (λ (k : ℕ). drop k bits)
+          (let e : place + w ≡ total (take (i + 1) ws) = omega (arith, more, width) in e);
+      room = omega (
+        arith,
+        more,
+        width,
+        room,
+        so_far.room,
+        ap length so_far.left,
+        length-drop place bits,
+      );
+    }
+
+pub fields_end : (ws : List ℕ) (i : ℕ) (bits reader : List Bool) (values : List ℕ) →
+    length ws ≤ i → FieldsRead ws i bits values reader →
+    Some (values, reader) ≡ fields_at ws bits
+unfolding fields_at
+fields_end ws i bits reader values h so_far =
+    let all : take i ws ≡ ws = take_all i ws h in
+    let room : total ws ≤ length bits = rw all at so_far.room in
+    let read : values ≡ values_at ws bits = rw all at so_far.read in
+    let left : reader ≡ drop (total ws) bits = rw all at so_far.left in
+    rw (le-leb (total ws) (length bits) room, read, left) refl
+
+pub fields_stop : (ws : List ℕ) (i : ℕ) (bits reader : List Bool) (values : List ℕ) (w : ℕ) →
+    i < length ws → FieldsRead ws i bits values reader → w ≡ get_or ws i 0 →
+    length reader < w → None ≡ fields_at ws bits
+unfolding fields_at
+fields_stop ws i bits reader values w h so_far width short =
+    let place = total (take i ws) in
+    let long : length bits < total ws =
+    omega (
+      arith,
+      total_room ws i h,
+      width,
+      short,
+      so_far.room,
+      ap length so_far.left,
+      length-drop place bits,
+    ) in
+    rw (lt-leb (total ws) (length bits) long) refl
+
+pub fields_few : (ws : List ℕ) (i : ℕ) (bits reader : List Bool) (values : List ℕ) →
+    i ≤ length ws → FieldsRead ws i bits values reader → length values ≡ i
+fields_few ws i bits reader values h so_far =
+    ap length so_far.read ∙ length-values (take i ws) bits ∙ length-take-le i ws h
+
+-- WIDTHS THAT ARE ADDED UP
+pub record Summed (ws : List ℕ) (i size : ℕ) : Type 0 where
+  pub value : size ≡ total (take i ws)
+  pub small : size ≤ 64 * i
+
+pub summed_more : (ws : List ℕ) (i size w next : ℕ) → AreWidths ws → i < length ws →
+    Summed ws i size → w ≡ get_or ws i 0 → next ≡ size + w → Summed ws (i + 1) next
+summed_more ws i size w next are h so_far width push =
+    let one = width_within ws i are h in
+    record {
+      value = omega (arith, push, so_far.value, width, total_more ws i h);
+      small = omega (arith, push, so_far.small, width, one.1);
+    }
+
+pub summed_all : (ws : List ℕ) (i size : ℕ) → length ws ≤ i → Summed ws i size → size ≡ total ws
+summed_all ws i size h so_far = so_far.value ∙ ap total (take_all i ws h)
+
+-- the first rows of a table have widths where all do
+pub widths_taken : {A : Type 0} (f : A → ℕ) (rows : List A) (j : ℕ) → AreWidths (map f rows) →
+    AreWidths (map f (take j rows))
+widths_taken f rows zero are = tt
+widths_taken f [] (suc j) are = tt
+widths_taken f (row ∷ rows) (suc j) are = (are.0, are.1, widths_taken f rows j are.2)
+
+-- NUMBERS OF RECORDS
+-- as many records as fit end within the bits
+pub records_end : (ws : List ℕ) (count size few all : ℕ) → count ≡ count_in ws few →
+    size ≡ total ws → few ≡ all → count * size ≤ all
+records_end ws count size few all a b c = rw (a, b, ← c) (count_room ws few)
+
+pub record PlacesRead (size place width i : ℕ) (bits : List Bool) (at_place : ℕ)
+    (numbers : List ℕ) : Type 0 where
+  pub there : at_place ≡ i * size + place
+  pub read : numbers ≡ column_at size place width i bits
+
+pub places_begin : (size place width : ℕ) (bits : List Bool) (numbers : List ℕ) →
+    numbers ≡ [] → PlacesRead size place width 0 bits place numbers
+places_begin size place width bits numbers none =
+    record { there = omega arith; read = none }
+
+-- a record that is read has all its bits
+pub places_room : (size place width i count : ℕ) (bits : List Bool) (at_place : ℕ)
+    (numbers : List ℕ) → i < count → count * size ≤ length bits → place + width ≤ size →
+    PlacesRead size place width i bits at_place numbers →
+    at_place + width ≤ length bits
+places_room size place width i count bits at_place numbers h room part so_far =
+    let next : suc i * size ≤ count * size = mul-le-mul_right size (omega (arith, h)) in
+    omega (arith, next, suc-mul i size, room, part, so_far.there)
+
+pub places_more : (size place width i : ℕ) (bits : List Bool) (at_place n after : ℕ)
+    (numbers next : List ℕ) → PlacesRead size place width i bits at_place numbers →
+    n ≡ number_at at_place width bits → next ≡ numbers ++ n ∷ [] → after ≡ at_place + size →
+    PlacesRead size place width (i + 1) bits after next
+places_more size place width i bits at_place n after numbers next so_far value push step =
+    let there : n ≡ number_at (i * size + place) width bits =
+    value ∙ ap (λ (k : ℕ). number_at k width bits) so_far.there in
+    let e : i + 1 ≡ suc i = omega arith in
+    let place_is : (i + 1) * size ≡ i * size + size =
+    ap (λ (k : ℕ). k * size) e ∙ suc-mul i size in
+    record {
+      there = omega (arith, step, so_far.there, place_is);
+      read = push ∙ ap (λ (ns : List ℕ). ns ++ n ∷ []) so_far.read
+          ∙ ap (λ (v : ℕ). column_at size place width i bits ++ v ∷ []) there
+          ∙ sym (column_more size place width i bits);
+    }
+
+pub places_few : (size place width i : ℕ) (bits : List Bool) (at_place : ℕ)
+    (numbers : List ℕ) → PlacesRead size place width i bits at_place numbers →
+    length numbers ≡ i
+places_few size place width i bits at_place numbers so_far =
+    ap length so_far.read ∙ length-column size place width i bits

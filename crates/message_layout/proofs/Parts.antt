@@ -1,0 +1,327 @@
+-- The parts of a body, each spelled and read again.
+use Rattle.std.proofs.Common.{◌≡◌, ℕ, zero, suc, ◌+◌, ◌*◌, ◌/◌, ◌%◌, ◌^◌, ◌<◌, ◌≤◌, ◌==◌, Bool, true, false, cond, List, [], ◌∷◌, ◌++◌, length, get_or, map, take, drop, refl, sym, ap, subst, ◌∙◌, arith, append_assoc, length-append, nat_le, inl, inr, Option, Some, None}
+use Rattle.std.proofs.lemmas.Bool.{cases_Bool, eq-eqb, eqb-true, le-leb, leb-true, lt-ltb, ltb-true, ne_eqb}
+use Rattle.std.proofs.lemmas.List.{append-nil, drop_at, length-take-le, take-append-drop, take_at}
+use Rattle.std.proofs.lemmas.Nat.{pow_pos}
+use Rattle.chip_core.specs.Bits.{binary}
+use Rattle.chip_core.specs.Fields.{field, spelled, in_widths, total, FieldsFit}
+use Rattle.chip_core.specs.Readings.{number_at, values_at}
+use Rattle.chip_core.proofs.FieldLists.{length-binary}
+use Rattle.chip_core.proofs.ValueLists.{behind_front, front, length-in_widths, number_front, values_again, values_there}
+use Rattle.message_layout.specs.Contents.{columns_in, count_in, height, record_fields, share, shares}
+use Rattle.message_layout.specs.Reading.{◌>>=◌, fields_at, group_at, number_part, octets_at, part_at, presence_at, present_at, records_at, records_from}
+use Rattle.message_layout.specs.Shapes.{ends, is_told}
+use Rattle.message_layout.specs.Spelling.{group_fields, octet_bits, HaveValues, IsGroup, IsRest}
+use Rattle.message_layout.specs.declared.layout.Presence.{Presence}
+use Rattle.message_layout.specs.declared.layout.Presence.TheVariants.{Never, Flagged, UnlessLeft}
+use Rattle.message_layout.proofs.Columns.{column_long, columns_again, columns_long, get-lengths, length-records, records_there, three_long}
+use Rattle.message_layout.proofs.Lawful.{count_room, counted}
+
+-- STEPS
+abbrev found : {A : Type 0} → A → Option A
+found x = Some x
+
+pub some_is : {A : Type 0} (x y : A) → found x ≡ found y → x ≡ y
+some_is x y e = cc
+
+-- a step that was taken
+pub bind_some : {A B : Type 0} (read : Option A) (f : A → Option B) (y : B) →
+    (read >>= f) ≡ Some y → (x : A) × (read ≡ Some x) × (f x ≡ Some y)
+bind_some None f y e = absurd (cc)
+bind_some (Some x) f y e = (x, refl, e)
+
+-- a test that was passed
+pub guard_some : {A : Type 0} (b : Bool) (read : Option A) (y : A) →
+    cond b read None ≡ Some y → (b ≡ true) × (read ≡ Some y)
+guard_some true read y e = (refl, e)
+guard_some false read y e = absurd (cc)
+
+-- FIELDS
+pub fields_again : (ws vs : List ℕ) (rest : List Bool) → HaveValues ws vs →
+    fields_at ws (spelled (in_widths ws vs) ++ rest) ≡ Some (vs, rest)
+unfolding fields_at
+fields_again ws vs rest have =
+    let first = spelled (in_widths ws vs) in
+    let all : length ws ≡ length vs = sym have.all in
+    let long : length first ≡ total ws = length-in_widths ws vs all in
+    let room = le-leb (total ws) (length (first ++ rest))
+    (omega (arith, length-append first rest, long)) in
+    rw (room, values_again ws vs rest all have.fit, drop_at first rest (total ws) long) refl
+
+pub fields_there : (ws vs : List ℕ) (bits after : List Bool) →
+    fields_at ws bits ≡ Some (vs, after) →
+    HaveValues ws vs × (bits ≡ spelled (in_widths ws vs) ++ after)
+unfolding fields_at
+fields_there ws vs bits after e =
+    let read : List ℕ × List Bool = (values_at ws bits, drop (total ws) bits) in
+    let g = guard_some (nat_le (total ws) (length bits)) (Some read) (vs, after) e in
+    let there = values_there ws bits (leb-true (total ws) (length bits) g.0) in
+    subst (λ (x : List ℕ × List Bool).
+    HaveValues ws x.0 × (bits ≡ spelled (in_widths ws x.0) ++ x.1))
+    (some_is read (vs, after) g.1) (record { all = there.0; fit = there.1 }, there.2)
+
+-- BITS AND NUMBERS
+pub part_again : (xs rest : List Bool) → part_at (length xs) (xs ++ rest) ≡ Some (xs, rest)
+unfolding part_at
+part_again xs rest =
+    let room = le-leb (length xs) (length (xs ++ rest)) (omega (arith, length-append xs rest)) in
+    rw (room, take_at xs rest (length xs) refl, drop_at xs rest (length xs) refl) refl
+
+pub part_there : (n : ℕ) (bits xs after : List Bool) → part_at n bits ≡ Some (xs, after) →
+    (length xs ≡ n) × (bits ≡ xs ++ after)
+unfolding part_at
+part_there n bits xs after e =
+    let read : List Bool × List Bool = (take n bits, drop n bits) in
+    let g = guard_some (nat_le n (length bits)) (Some read) (xs, after) e in
+    subst (λ (x : List Bool × List Bool). (length x.0 ≡ n) × (bits ≡ x.0 ++ x.1))
+    (some_is read (xs, after) g.1)
+    (length-take-le n bits (leb-true n (length bits) g.0), sym (take-append-drop n bits))
+
+pub number_again : (w n : ℕ) (rest : List Bool) → n < 2 ^ w →
+    number_part w (binary w n ++ rest) ≡ Some (n, rest)
+unfolding number_part
+number_again w n rest fits =
+    let room = le-leb w (length (binary w n ++ rest))
+    (omega (arith, length-append (binary w n) rest, length-binary w n)) in
+    rw (room, number_front w n rest fits, behind_front w n rest) refl
+
+pub number_there : (w n : ℕ) (bits after : List Bool) → number_part w bits ≡ Some (n, after) →
+    (n < 2 ^ w) × (bits ≡ binary w n ++ after)
+unfolding number_part
+number_there w n bits after e =
+    let read : ℕ × List Bool = (number_at 0 w bits, drop w bits) in
+    let g = guard_some (nat_le w (length bits)) (Some read) (n, after) e in
+    subst (λ (x : ℕ × List Bool). (x.0 < 2 ^ w) × (bits ≡ binary w x.0 ++ x.1))
+    (some_is read (n, after) g.1) (front w bits (leb-true w (length bits) g.0))
+
+-- GROUPS
+one_bit : (n : ℕ) (rest : List Bool) →
+    spelled (field 1 n ∷ []) ++ rest ≡ binary 1 n ++ rest
+one_bit n rest = ap (λ (r : List Bool). r ++ rest) (append-nil (binary 1 n))
+
+pub group_again : (p : Presence) (ws : List ℕ) (group : Option (List ℕ)) (rest : List Bool) →
+    is_told p ws ≡ true → IsGroup p ws group (length rest) →
+    group_at p ws (spelled (group_fields p ws group) ++ rest) ≡ Some (group, rest)
+unfolding group_at presence_at
+group_again Never ws group rest told is = rw is refl
+group_again Flagged ws None rest told is =
+    rw (one_bit 0 rest, number_again 1 0 rest (omega arith)) refl
+group_again Flagged ws (Some vs) rest told is =
+    let first = spelled (in_widths ws vs) in
+    rw (
+      append_assoc (binary 1 1) first rest,
+      number_again 1 1 (first ++ rest) (omega arith),
+      fields_again ws vs rest is,
+    ) refl
+group_again (UnlessLeft count) ws None rest told is =
+    let t = eq-eqb (length rest) count is in
+    rw t refl
+group_again (UnlessLeft count) ws (Some vs) rest told is =
+    let first = spelled (in_widths ws vs) in
+    let long : length first ≡ total ws = length-in_widths ws vs (sym is.all) in
+    let more = ltb-true count (total ws) told in
+    let f = ne_eqb (length (first ++ rest)) count
+    (λ same. omega (arith, same, more, long, length-append first rest)) in
+    rw (f, fields_again ws vs rest is) refl
+
+-- a group with its sign, and what was read of it
+abbrev GroupThere : Presence → List ℕ → List Bool → Option (List ℕ) × List Bool → Type 0
+GroupThere p ws bits read =
+    IsGroup p ws read.0 (length read.1) × (bits ≡ spelled (group_fields p ws read.0) ++ read.1)
+
+flag_there : (ws : List ℕ) (group : Option (List ℕ)) (bits behind after : List Bool) (n : ℕ) →
+    number_part 1 bits ≡ Some (n, behind) → present_at ws (n == 1) behind ≡ Some (group, after) →
+    GroupThere Flagged ws bits (group, after)
+flag_there ws group bits behind after zero a b =
+    let flag = number_there 1 0 bits behind a in
+    subst (GroupThere Flagged ws bits) (some_is (None, behind) (group, after) b)
+    (tt, flag.1 ∙ sym (one_bit 0 behind))
+flag_there ws group bits behind after (suc zero) a b =
+    let flag = number_there 1 1 bits behind a in
+    let d = bind_some (fields_at ws behind) (λ values. Some (Some values.0, values.1))
+    (group, after) b in
+    let fields = fields_there ws d.0.0 behind d.0.1 d.1 in
+    let first = spelled (in_widths ws d.0.0) in
+    subst (GroupThere Flagged ws bits) (some_is (Some d.0.0, d.0.1) (group, after) d.2) (
+      fields.0,
+      flag.1 ∙ ap (λ (r : List Bool). binary 1 1 ++ r) fields.1
+          ∙ sym (append_assoc (binary 1 1) first d.0.1),
+    )
+flag_there ws group bits behind after (suc (suc n)) a b =
+    absurd (omega (arith, (number_there 1 (suc (suc n)) bits behind a).0))
+
+pub group_there : (p : Presence) (ws : List ℕ) (group : Option (List ℕ)) (bits after : List Bool) →
+    group_at p ws bits ≡ Some (group, after) → GroupThere p ws bits (group, after)
+unfolding group_at presence_at
+group_there Never ws group bits after e =
+    subst (GroupThere Never ws bits) (some_is (None, bits) (group, after) e) (refl, refl)
+group_there Flagged ws group bits after e =
+    let a = bind_some (presence_at Flagged bits) (λ there. present_at ws there.0 there.1)
+    (group, after) e in
+    let b = bind_some (number_part 1 bits) (λ flag. Some (flag.0 == 1, flag.1)) a.0 a.1 in
+    let same : (b.0.0 == 1, b.0.1) ≡ a.0 = some_is (b.0.0 == 1, b.0.1) a.0 b.2 in
+    let present : present_at ws (b.0.0 == 1) b.0.1 ≡ Some (group, after) =
+    ap (λ (x : Bool × List Bool). present_at ws x.0 x.1) same ∙ a.2 in
+    flag_there ws group bits b.0.1 after b.0.0 b.1 present
+group_there (UnlessLeft count) ws group bits after e =
+    elim (cases_Bool (length bits == count)) [
+      | inl t ↦
+          let none : Some (None, bits) ≡ Some (group, after) = rw t at e in
+          subst (GroupThere (UnlessLeft count) ws bits)
+          (some_is (None, bits) (group, after) none) (eqb-true (length bits) count t, refl)
+      | inr f ↦
+          let some : present_at ws true bits ≡ Some (group, after) = rw f at e in
+          let d = bind_some (fields_at ws bits) (λ values. Some (Some values.0, values.1))
+          (group, after) some in
+          subst (GroupThere (UnlessLeft count) ws bits)
+          (some_is (Some d.0.0, d.0.1) (group, after) d.2)
+          (fields_there ws d.0.0 bits d.0.1 d.1)
+    ]
+
+-- OCTETS
+octet_parts : (z w : ℕ) (octets rest : List Bool) →
+    octet_bits z w octets ++ rest
+    ≡ binary z 0 ++ (binary w (length octets / 8) ++ (octets ++ rest))
+octet_parts z w octets rest =
+    let count = binary w (length octets / 8) in
+    ap (λ (r : List Bool). ((binary z 0 ++ r) ++ octets) ++ rest) (append-nil count)
+    ∙ append_assoc (binary z 0 ++ count) octets rest
+    ∙ append_assoc (binary z 0) count (octets ++ rest)
+
+pub octets_again : (z w : ℕ) (octets rest : List Bool) → length octets % 8 ≡ 0 →
+    length octets / 8 < 2 ^ w →
+    octets_at z w (octet_bits z w octets ++ rest) ≡ Some (octets, rest)
+unfolding octets_at
+octets_again z w octets rest whole counted =
+    let n = length octets / 8 in
+    let all : 8 * n ≡ length octets = omega (arith, whole) in
+    let behind = octets ++ rest in
+    rw (
+      octet_parts z w octets rest,
+      number_again z 0 (binary w n ++ behind) (pow_pos z),
+      number_again w n behind counted,
+    ) (ap (λ (k : ℕ). part_at k behind) all ∙ part_again octets rest)
+
+pub octets_there : (z w : ℕ) (bits octets after : List Bool) →
+    octets_at z w bits ≡ Some (octets, after) →
+    (length octets % 8 ≡ 0) × (length octets / 8 < 2 ^ w)
+    × (bits ≡ octet_bits z w octets ++ after)
+unfolding octets_at
+octets_there z w bits octets after e =
+    let a = bind_some (number_part z bits) (λ none. number_part w none.1 >>= λ count.
+    cond (none.0 == 0) (part_at (8 * count.0) count.1) None) (octets, after) e in
+    let b = bind_some (number_part w a.0.1) (λ count.
+    cond (a.0.0 == 0) (part_at (8 * count.0) count.1) None) (octets, after) a.2 in
+    let g = guard_some (a.0.0 == 0) (part_at (8 * b.0.0) b.0.1) (octets, after) b.2 in
+    let none = eqb-true a.0.0 0 g.0 in
+    let first = number_there z a.0.0 bits a.0.1 a.1 in
+    let second = number_there w b.0.0 a.0.1 b.0.1 b.1 in
+    let third = part_there (8 * b.0.0) b.0.1 octets after g.1 in
+    let n : b.0.0 ≡ length octets / 8 = omega (arith, third.0) in
+    let count = binary w (length octets / 8) in
+    let behind : a.0.1 ≡ count ++ (octets ++ after) =
+    second.1 ∙ ap (λ (k : ℕ). binary w k ++ b.0.1) n
+    ∙ ap (λ (r : List Bool). count ++ r) third.1 in (
+      omega (arith, third.0),
+      subst (λ (k : ℕ). k < 2 ^ w) n second.0,
+      first.1 ∙ ap (λ (k : ℕ). binary z k ++ a.0.1) none
+          ∙ ap (λ (r : List Bool). binary z 0 ++ r) behind ∙ sym (octet_parts z w octets after),
+    )
+
+-- RECORDS
+pub records_part_again : (ws : List ℕ) (least : ℕ) (most : Option ℕ) (columns : List (List ℕ))
+    (rest : List Bool) → length ws ≤ 3 → ends ws most ≡ true →
+    map length columns ≡ shares ws (height columns) →
+    FieldsFit (record_fields ws (height columns) columns) → least ≤ height columns →
+    IsRest most rest →
+    records_at ws least (spelled (record_fields ws (height columns) columns) ++ rest)
+    ≡ Some (columns, rest)
+unfolding records_at
+records_part_again ws least most columns rest few last even fit some short =
+    let n = height columns in
+    let first = spelled (record_fields ws n columns) in
+    let bits = first ++ rest in
+    let wide : length ws ≤ length columns = omega (arith, few, three_long ws n columns even) in
+    let long : length first ≡ n * total ws = length-records ws n columns wide in
+    let share_of : n ≡ share ws n 0 =
+    sym (get-lengths columns 0) ∙ ap (λ (ls : List ℕ). get_or ls 0 0) even in
+    let count : count_in ws (length bits) ≡ n =
+    counted ws n most rest (length bits) last short share_of
+    (omega (arith, length-append first rest, long)) in
+    ap (λ (k : ℕ). records_from ws least k bits) count
+    ∙ rw (
+      le-leb least n some,
+      drop_at first rest (n * total ws) long,
+    ) (ap (λ (cs : List (List ℕ)). Some (cs, rest))
+    (columns_again ws n columns rest few even fit))
+
+height_read : (ws : List ℕ) (all : ℕ) (bits : List Bool) →
+    height (columns_in ws (count_in ws all) bits) ≡ count_in ws all
+height_read [] all bits = refl
+height_read (w ∷ ws) all bits =
+    let n = count_in (w ∷ ws) all in
+    let t = lt-ltb 0 (length (w ∷ ws)) (omega arith) in
+    let one : share (w ∷ ws) n 0 ≡ n = rw t refl in
+    column_long (w ∷ ws) n 0 bits ∙ one
+
+-- what was read of records
+abbrev RecordsThere : List ℕ → ℕ → List Bool → List (List ℕ) × List Bool → Type 0
+RecordsThere ws least bits read =
+    (map length read.0 ≡ shares ws (height read.0))
+    × FieldsFit (record_fields ws (height read.0) read.0) × (least ≤ height read.0)
+    × (bits ≡ spelled (record_fields ws (height read.0) read.0) ++ read.1)
+
+pub records_part_there : (ws : List ℕ) (least : ℕ) (bits : List Bool) (columns : List (List ℕ))
+    (after : List Bool) → length ws ≤ 3 → records_at ws least bits ≡ Some (columns, after) →
+    RecordsThere ws least bits (columns, after)
+unfolding records_at
+records_part_there ws least bits columns after few e =
+    let n = count_in ws (length bits) in
+    let all = columns_in ws n bits in
+    let read : List (List ℕ) × List Bool = (all, drop (n * total ws) bits) in
+    let g = guard_some (nat_le least n) (Some read) (columns, after) e in
+    let there = records_there ws n bits few (count_room ws (length bits)) in
+    let tall : n ≡ height all = sym (height_read ws (length bits) bits) in
+    let fields : FieldsFit (record_fields ws (height all) all)
+    × (bits ≡ spelled (record_fields ws (height all) all) ++ read.1) =
+    subst (λ (k : ℕ). FieldsFit (record_fields ws k all)
+    × (bits ≡ spelled (record_fields ws k all) ++ read.1)) tall there in
+    subst (RecordsThere ws least bits) (some_is read (columns, after) g.1) (
+      columns_long ws n bits ∙ ap (shares ws) tall,
+      fields.0,
+      subst (λ (k : ℕ). least ≤ k) tall (leb-true least n g.0),
+      fields.1,
+    )
+
+-- LEFT
+-- no part leaves more bits than there were
+behind_less : (first after bits : List Bool) → bits ≡ first ++ after → length after ≤ length bits
+behind_less first after bits is = omega (arith, ap length is, length-append first after)
+
+pub octets_left : (p : Presence) (fixed group : List ℕ) (z w : ℕ) (bits b1 b2 b3 : List Bool)
+    (vs : List ℕ) (g : Option (List ℕ)) (octets : List Bool) →
+    Some (vs, b1) ≡ fields_at fixed bits → Some (g, b2) ≡ group_at p group b1 →
+    Some (octets, b3) ≡ octets_at z w b2 → length b3 ≤ length bits
+octets_left p fixed group z w bits b1 b2 b3 vs g octets a b c =
+    let x = fields_there fixed vs bits b1 (sym a) in
+    let y = group_there p group g b1 b2 (sym b) in
+    let d = octets_there z w b2 octets b3 (sym c) in
+    omega (
+      arith,
+      behind_less (spelled (in_widths fixed vs)) b1 bits x.1,
+      behind_less (spelled (group_fields p group g)) b2 b1 y.1,
+      behind_less (octet_bits z w octets) b3 b2 d.2,
+    )
+
+pub length-octets : (z w : ℕ) (octets : List Bool) →
+    length (octet_bits z w octets) ≡ z + w + length octets
+length-octets z w octets =
+    let count = binary w (length octets / 8) in
+    omega (
+      arith,
+      length-append (binary z 0 ++ (count ++ [])) octets,
+      length-append (binary z 0) (count ++ []),
+      length-append count [],
+      length-binary z 0,
+      length-binary w (length octets / 8),
+    )

@@ -1,0 +1,72 @@
+-- Contents that are written part by part.
+use Rattle.std.proofs.Common.{◌≡◌, ℕ, ◌+◌, ◌≤◌, List, Bool, [], ◌++◌, length, ap, ◌∙◌, arith, append_assoc, length-append, Option, None, Some}
+use Rattle.chip_core.specs.Bits.{binary}
+use Rattle.chip_core.specs.Fields.{spelled, in_widths}
+use Rattle.chip_core.proofs.FieldLists.{length-binary}
+use Rattle.message_layout.specs.Shapes.{Shape}
+use Rattle.message_layout.specs.Spelling.{behind_group, group_fields, octet_bits, records_of, spelling}
+use Rattle.message_layout.specs.declared.contents.Contents.{Contents}
+use Rattle.message_layout.specs.declared.layout.Presence.{Presence}
+use Rattle.message_layout.specs.declared.layout.Presence.TheVariants.{Never, Flagged, UnlessLeft}
+
+abbrev pub fixed_bits : Shape → Contents → List Bool
+fixed_bits s c = spelled (in_widths s.fixed c.fixed)
+
+abbrev pub group_bits : Shape → Contents → List Bool
+group_bits s c = spelled (group_fields s.presence s.group c.group)
+
+abbrev pub octets_of : Shape → Contents → List Bool
+octets_of s c = octet_bits s.zeros s.count c.octets
+
+abbrev pub record_bits : Shape → Contents → List Bool
+record_bits s c = spelled (records_of s c)
+
+pub length-spelling : (s : Shape) (c : Contents) →
+    length (spelling s c)
+    ≡ length (fixed_bits s c) + length (group_bits s c) + length (octets_of s c)
+    + length (record_bits s c) + length c.rest
+unfolding spelling
+length-spelling s c =
+    omega (
+      arith,
+      length-append (fixed_bits s c) (group_bits s c ++ behind_group s c),
+      length-append (group_bits s c) (behind_group s c),
+      length-append (octets_of s c) (record_bits s c ++ c.rest),
+      length-append (record_bits s c) c.rest,
+    )
+
+-- so many bits were written
+pub longer : (before part after : List Bool) → after ≡ before ++ part →
+    length after ≡ length before + length part
+longer before part after is = ap length is ∙ length-append before part
+
+pub written : (s : Shape) (c : Contents) (first a b d e after : List Bool) →
+    a ≡ first ++ fixed_bits s c → b ≡ a ++ group_bits s c → d ≡ b ++ octets_of s c →
+    e ≡ d ++ record_bits s c → after ≡ e ++ c.rest → after ≡ first ++ spelling s c
+unfolding spelling
+written s c first a b d e after p q r t u =
+    let x = fixed_bits s c in
+    let y = group_bits s c in
+    let z = octets_of s c in
+    let w = record_bits s c in
+    u ∙ ap (λ (l : List Bool). l ++ c.rest) (t ∙ ap (λ (l : List Bool). l ++ w)
+    (r ∙ ap (λ (l : List Bool). l ++ z) (q ∙ ap (λ (l : List Bool). l ++ y) p)))
+    ∙ append_assoc (((first ++ x) ++ y) ++ z) w c.rest
+    ∙ append_assoc ((first ++ x) ++ y) z (w ++ c.rest)
+    ∙ append_assoc (first ++ x) y (z ++ (w ++ c.rest))
+    ∙ append_assoc first x (y ++ (z ++ (w ++ c.rest)))
+
+-- there is room for the bit before a group
+pub flagged_room : (p : Presence) (ws : List ℕ) (group : Option (List ℕ)) (body : ℕ) →
+    p ≡ Flagged → body + length (spelled (group_fields p ws group)) ≤ 1184 → body + 1 ≤ 1184
+flagged_room Never ws group body is room = absurd (cc)
+flagged_room (UnlessLeft count) ws group body is room = absurd (cc)
+flagged_room Flagged ws None body is room =
+    omega (arith, room, length-append (binary 1 0) [], length-binary 1 0)
+flagged_room Flagged ws (Some vs) body is room =
+    omega (
+      arith,
+      room,
+      length-append (binary 1 1) (spelled (in_widths ws vs)),
+      length-binary 1 1,
+    )

@@ -1,0 +1,62 @@
+use Rattle.std.proofs.Common.{length, arith}
+use Rattle.std.proofs.lemmas.List.{length-map}
+use Rattle.message_layout.specs.Shapes.{shape}
+use Rattle.message_layout.proofs.Lawful.{count_below, lawful}
+use Rattle.message_layout.proofs.Parts.{octets_left}
+use Rattle.message_layout.proofs.reading.read_parts.Goals as goal
+
+pub read_fields-requires-clause-widths : goal.read_fields-requires-clause-widths
+read_fields-requires-clause-widths c = (lawful (shape c.args.layout.now) c.requires.lawful).fixed
+
+pub read_fields-requires-clause-room : goal.read_fields-requires-clause-room
+read_fields-requires-clause-room c =
+    omega (
+      arith,
+      (lawful (shape c.args.layout.now) c.requires.lawful).fixed_room,
+      length-map c.args.layout.now.fixed.now (λ row. row.1),
+    )
+
+pub read_group-requires-clause-widths : goal.read_group-requires-clause-widths
+read_group-requires-clause-widths c = (lawful (shape c.args.layout.now) c.requires.lawful).group
+
+pub read_group-requires-clause-room : goal.read_group-requires-clause-room
+read_group-requires-clause-room c =
+    omega (
+      arith,
+      (lawful (shape c.args.layout.now) c.requires.lawful).group_room,
+      length-map c.args.layout.now.group.fields.now (λ row. row.1),
+    )
+
+pub read_octets-requires-clause-zeros : goal.read_octets-requires-clause-zeros
+read_octets-requires-clause-zeros c = (lawful (shape c.args.layout.now) c.requires.lawful).zeros
+
+pub read_octets-requires-clause-width : goal.read_octets-requires-clause-width
+read_octets-requires-clause-width c = (lawful (shape c.args.layout.now) c.requires.lawful).count
+
+pub read_records-requires-clause-widths : goal.read_records-requires-clause-widths
+read_records-requires-clause-widths c = (lawful (shape c.args.layout.now) c.requires.lawful).records
+
+pub read_records-requires-clause-narrow : goal.read_records-requires-clause-narrow
+read_records-requires-clause-narrow c = (lawful (shape c.args.layout.now) c.requires.lawful).narrow
+
+pub read_records-requires-clause-few : goal.read_records-requires-clause-few
+read_records-requires-clause-few c =
+    omega (
+      arith,
+      (lawful (shape c.args.layout.now) c.requires.lawful).few,
+      length-map c.args.layout.now.records.fields.now (λ row. row.1),
+    )
+
+pub read_records-requires-clause-room : goal.read_records-requires-clause-room
+read_records-requires-clause-room c =
+    let s = shape c.args.layout.now in
+    let left = octets_left s.presence s.fixed s.group s.zeros s.count c.args.bits.now
+    c.in_ok-fixed.bits c.in_ok-group.bits c.in_ok-octets.bits c.in_ok-fixed.fixed
+    c.in_ok-group.group c.in_ok-octets.octets c.in_ok-fixed.ensures c.in_ok-group.ensures
+    c.in_ok-octets.ensures in
+    omega (
+      arith,
+      count_below s.records (length c.in_ok-octets.bits) (length c.args.bits.now)
+          (lawful s c.requires.lawful).records left,
+      c.requires.room,
+    )

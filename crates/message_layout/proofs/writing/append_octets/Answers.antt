@@ -1,0 +1,24 @@
+use Rattle.std.proofs.Common.{length, ap, arith, length-append}
+use Rattle.chip_core.specs.Bits.{binary}
+use Rattle.chip_core.proofs.FieldLists.{length-binary}
+use Rattle.message_layout.proofs.Parts.{length-octets}
+use Rattle.message_layout.proofs.writing.append_octets.Goals as goal
+
+pub append_number-requires-clause-room : goal.append_number-requires-clause-room
+append_number-requires-clause-room c =
+    omega (
+      arith,
+      c.requires.room,
+      length-octets c.args.layout.zeros c.args.layout.width c.args.octets.now,
+    )
+
+pub append_number-requires-2-clause-room : goal.append_number-requires-2-clause-room
+append_number-requires-2-clause-room c =
+    omega (
+      arith,
+      c.requires.room,
+      length-octets c.args.layout.zeros c.args.layout.width c.args.octets.now,
+      ap length c.append_number.ensures,
+      length-append c.args.body.now (binary c.args.layout.zeros 0),
+      length-binary c.args.layout.zeros 0,
+    )

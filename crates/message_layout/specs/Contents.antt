@@ -1,0 +1,48 @@
+-- Numbers of the fields of records, column by column.
+use Rattle.std.specs.Prelude.{ℕ, zero, suc, ◌/◌, if◌then◌else◌, List, [], ◌∷◌, ◌++◌, Bool, length, map, take, drop, get_or, nat_lt}
+use Rattle.chip_core.specs.Fields.{in_widths, total}
+use Rattle.chip_core.specs.Readings.{column_at}
+use Rattle.chip_core.specs.declared.field.Field.{Field}
+
+-- the first number of a column, and the others
+abbrev pub head : List ℕ → ℕ
+head column = get_or column 0 0
+
+abbrev pub tail : List ℕ → List ℕ
+tail column = drop 1 column
+
+-- the fields of the first so many records, each number in the width of its column
+abbrev pub record_fields : List ℕ → ℕ → List (List ℕ) → List Field
+record_fields widths zero columns = []
+record_fields widths (suc n) columns =
+    in_widths widths (map head columns) ++ record_fields widths n (map tail columns)
+
+-- the numbers of record i
+abbrev pub record_at : ℕ → List (List ℕ) → List ℕ
+record_at i columns = map (λ column. get_or column i 0) columns
+
+-- how many records there are
+abbrev pub height : List (List ℕ) → ℕ
+height columns = length (get_or columns 0 [])
+
+-- how many numbers column j has where there are n records of these fields
+abbrev pub share : List ℕ → ℕ → ℕ → ℕ
+share widths n j = if nat_lt j (length widths) then n else 0
+
+abbrev pub shares : List ℕ → ℕ → List ℕ
+shares widths n = share widths n 0 ∷ share widths n 1 ∷ share widths n 2 ∷ []
+
+-- how many records fit into so many bits
+abbrev pub count_in : List ℕ → ℕ → ℕ
+count_in [] bits = 0
+count_in (width ∷ widths) bits = bits / total (width ∷ widths)
+
+-- the numbers of column j in the first n records
+abbrev pub column_in : List ℕ → ℕ → ℕ → List Bool → List ℕ
+column_in widths n j bits =
+    if nat_lt j (length widths)
+    then column_at (total widths) (total (take j widths)) (get_or widths j 0) n bits else []
+
+abbrev pub columns_in : List ℕ → ℕ → List Bool → List (List ℕ)
+columns_in widths n bits =
+    column_in widths n 0 bits ∷ column_in widths n 1 bits ∷ column_in widths n 2 bits ∷ []

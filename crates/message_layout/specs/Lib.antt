@@ -1,0 +1,5 @@
+pub mod Contents
+pub mod Reading
+pub mod Shapes
+pub mod Spelling
+mod Worked

@@ -1,0 +1,62 @@
+-- The bits that contents of a layout are sent as.
+use Rattle.std.specs.Prelude.{ℕ, ◌≡◌, ◌/◌, ◌%◌, ◌^◌, ◌<◌, ◌≤◌, Bool, List, [], ◌∷◌, ◌++◌, length, map, Option, None, Some}
+use Rattle.chip_core.specs.Fields.{field, spelled, in_widths, FieldsFit}
+use Rattle.chip_core.specs.declared.field.Field.{Field}
+use Rattle.message_layout.specs.Contents.{height, record_fields, shares}
+use Rattle.message_layout.specs.Shapes.{Shape}
+use Rattle.message_layout.specs.declared.contents.Contents.{Contents}
+use Rattle.message_layout.specs.declared.layout.Presence.{Presence}
+use Rattle.message_layout.specs.declared.layout.Presence.TheVariants.{Never, Flagged, UnlessLeft}
+
+-- the bit that says whether the group is there, where there is one, and the group
+abbrev pub group_fields : Presence → List ℕ → Option (List ℕ) → List Field
+group_fields Never widths group = []
+group_fields Flagged widths None = field 1 0 ∷ []
+group_fields Flagged widths (Some values) = field 1 1 ∷ in_widths widths values
+group_fields (UnlessLeft count) widths None = []
+group_fields (UnlessLeft count) widths (Some values) = in_widths widths values
+
+-- bits that are 0, the number of octets, and the octets
+abbrev pub octet_bits : ℕ → ℕ → List Bool → List Bool
+octet_bits zeros count octets = spelled (field zeros 0 ∷ field count (length octets / 8) ∷ []) ++ octets
+
+abbrev pub records_of : Shape → Contents → List Field
+records_of s c = record_fields s.records (height c.columns) c.columns
+
+-- behind the group
+abbrev pub behind_group : Shape → Contents → List Bool
+behind_group s c = octet_bits s.zeros s.count c.octets ++ (spelled (records_of s c) ++ c.rest)
+
+unfoldable pub spelling : Shape → Contents → List Bool
+spelling s c =
+    spelled (in_widths s.fixed c.fixed)
+    ++ (spelled (group_fields s.presence s.group c.group) ++ behind_group s c)
+
+-- each field has a value that fits
+pub record HaveValues (widths values : List ℕ) : Type 0 where
+  pub all : length values ≡ length widths
+  pub fit : FieldsFit (in_widths widths values)
+
+-- the group may be there, or not, where so many bits stand behind it
+abbrev pub IsGroup : Presence → List ℕ → Option (List ℕ) → ℕ → Type 0
+IsGroup Never widths group behind = group ≡ None
+IsGroup Flagged widths None behind = Unit {0}
+IsGroup Flagged widths (Some values) behind = HaveValues widths values
+IsGroup (UnlessLeft count) widths None behind = behind ≡ count
+IsGroup (UnlessLeft count) widths (Some values) behind = HaveValues widths values
+
+-- no more bits are left than may be
+abbrev pub IsRest : Option ℕ → List Bool → Type 0
+IsRest None rest = Unit {0}
+IsRest (Some most) rest = length rest ≤ most
+
+-- the contents have a spelling by the layout
+pub record IsOf (s : Shape) (c : Contents) : Type 0 where
+  pub fixed : HaveValues s.fixed c.fixed
+  pub group : IsGroup s.presence s.group c.group (length (behind_group s c))
+  pub whole : length c.octets % 8 ≡ 0
+  pub counted : length c.octets / 8 < 2 ^ s.count
+  pub columns : map length c.columns ≡ shares s.records (height c.columns)
+  pub records : FieldsFit (records_of s c)
+  pub least : s.least ≤ height c.columns
+  pub left : IsRest s.most c.rest

@@ -1,0 +1,93 @@
+//! Layouts as tables.
+
+ghost use Rattle.std.specs.Prelude.{◌≡◌, ◌<◌, [], length, map, get_or};
+
+/// A field of a message: its name in lines of text, and in how many bits it is sent.
+pub type FieldRow = (&'static str, u8);
+
+/// The fields of a body behind its message type, in the order in which they are sent.
+///
+/// A layout has at most 48 fixed fields and 48 fields in its group, of 1 to 64 bits each, at most
+/// three fields in a record, of 1 to 32 bits each, and a rest that is shorter than a record.
+#[derive(Clone, Copy)]
+pub struct Layout {
+    /// The fields that each body has.
+    pub fixed: &'static [FieldRow],
+    /// The fields that may be there.
+    pub group: Group,
+    /// The octets that are counted.
+    pub octets: Octets,
+    /// The records to the end.
+    pub records: Records,
+    /// How many bits are left at most behind all of these; `None` where any number may be left.
+    pub most: Option<u16>,
+}
+
+/// Fields that stand in a body together or not at all.
+#[derive(Clone, Copy)]
+pub struct Group {
+    /// Where they are there.
+    pub presence: Presence,
+    /// The fields.
+    pub fields: &'static [FieldRow],
+}
+
+/// Where a group is there.
+#[derive(Clone, Copy, PartialEq, Eq, Debug)]
+pub enum Presence {
+    /// Nowhere.
+    Never,
+    /// Behind a bit that is 1; where that bit is 0 there is none.
+    Flagged,
+    /// Unless just so many bits are left, fewer than the group has.
+    UnlessLeft(u16),
+}
+
+/// Octets, whose number stands before them.
+#[derive(Clone, Copy, PartialEq, Eq, Debug)]
+pub struct Octets {
+    /// How many bits that are 0 stand before the number, at most 64.
+    pub zeros: u8,
+    /// In how many bits the number is sent, at most 8; with 0 there are no octets.
+    pub width: u8,
+}
+
+/// Records of the same fields, as many as fit.
+#[derive(Clone, Copy)]
+pub struct Records {
+    /// The fields of a record; none where there are no records.
+    pub fields: &'static [FieldRow],
+    /// How many records there are at least.
+    pub least: u8,
+}
+
+/// For a layout without a group.
+pub const NO_GROUP: Group = Group {
+    presence: Presence::Never,
+    fields: &[],
+};
+
+/// For a layout without octets that are counted.
+pub const NO_OCTETS: Octets = Octets { zeros: 0, width: 0 };
+
+/// For a layout without records.
+pub const NO_RECORDS: Records = Records {
+    fields: &[],
+    least: 0,
+};
+
+/// The name in row `i` of a table, counted from 0.
+pub fn name_in(rows: &[FieldRow], i: usize) -> &'static str
+    requires { i < length rows.now }
+    ensures { result.now ≡ get_or (map (λ row. row.0.now) rows.now) i [] }
+{
+    rows[i].0
+}
+
+/// The number of bits in row `i` of a table, counted from 0.
+pub fn width_in(rows: &[FieldRow], i: usize) -> u8
+    requires { i < length rows.now }
+    ensures { result ≡ get_or (map (λ row. row.1) rows.now) i 0 }
+{
+    rows[i].1
+}

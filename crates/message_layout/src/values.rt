@@ -1,0 +1,74 @@
+//! The values of fields, in a fixed room.
+
+ghost use Rattle.std.specs.Prelude.{◌≡◌, ◌<◌, ◌≤◌, [], ◌∷◌, ◌++◌, length, get_or};
+
+use std::marker::Model;
+
+/// The values of at most 48 fields, in the order of their table. Contracts see the list.
+#[derive(Drop)]
+pub struct FieldValues {
+    places: [u64; 48],
+    count: u8,
+}
+
+impl Model for FieldValues {
+    ghost use Rattle.std.specs.Prelude.{List, ℕ, ◌≤◌, ◌≡◌, length, take};
+
+    ghost Value = { List ℕ };
+
+    ghost view = { λ v. take v.count v.places };
+
+    ghost invariant = { λ v. (v.count ≤ 48) × (length v.places ≡ 48) };
+}
+
+impl FieldValues {
+    /// No values.
+    pub fn empty() -> FieldValues
+        ensures { result ≡ [] }
+    {
+        FieldValues {
+            places: [0; 48],
+            count: 0,
+        }
+    }
+
+    /// These values, at most 48.
+    pub fn of(values: &[u64]) -> FieldValues
+        requires { length values.now ≤ 48 }
+        ensures { result ≡ values.now }
+    {
+        let mut all = FieldValues::empty();
+        for i in 0..values.len() {
+            all.append(values[i]);
+        }
+        all
+    }
+
+    /// How many values there are.
+    pub fn len(&self) -> u8
+        ensures value { result ≡ length self.now }
+        ensures most { result ≤ 48 }
+    {
+        self.count
+    }
+
+    /// Value `i`, counted from 0; 0 where there are fewer.
+    pub fn get(&self, i: u8) -> u64
+        ensures { result ≡ get_or self.now i 0 }
+    {
+        if i < self.count {
+            self.places[i as usize]
+        } else {
+            0
+        }
+    }
+
+    /// Adds a value at the end, where there is room.
+    pub(crate) fn append(&mut self, value: u64)
+        requires { length self.old < 48 }
+        ensures { self.new ≡ self.old ++ value ∷ [] }
+    {
+        self.places[self.count as usize] = value;
+        self.count += 1;
+    }
+}
