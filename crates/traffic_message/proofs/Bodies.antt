@@ -22,16 +22,9 @@ use Rattle.traffic_message.specs.declared.fields.DirectionFields.{DirectionField
 use Rattle.traffic_message.specs.declared.fields.Head.{Head}
 use Rattle.traffic_message.specs.declared.fields.InTrafficFields.{InTrafficFields}
 use Rattle.traffic_message.specs.declared.fields.UpdateFields.{UpdateFields}
-use Rattle.traffic_message.proofs.Directions.{direction_again, direction_read}
-use Rattle.traffic_message.proofs.Parameters.{parameters_again, parameters_read}
-use Rattle.traffic_message.proofs.Updates.{update_again, update_read}
+use Rattle.traffic_message.proofs.ByLayout.{direction_again, direction_read, mapped_some, parameters_again, parameters_read, update_again, update_read}
 
 -- WHAT STANDS BEHIND THE HEAD
-mapped_some : {A B : Type 0} (f : A → B) (read : Option A) (y : B) →
-    reading.mapped f read ≡ Some y → (x : A) × (read ≡ Some x) × (f x ≡ y)
-mapped_some f None y e = absurd (cc)
-mapped_some f (Some x) y e = let same : f x ≡ y = cc in (x, refl, same)
-
 -- another body is read as it is
 other_plain : (h : Head) (kind : ℕ) (bits : List Bool) → kind ≢ 7 → kind ≢ 8 →
     (kind ≢ 17) ⊎ (is_hard bits ≡ true) →

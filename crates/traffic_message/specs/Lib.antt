@@ -2,6 +2,7 @@ pub mod Admitted
 pub mod Faults
 pub mod Handoff
 pub mod InTraffic
+pub mod Layouts
 pub mod Messages
 pub mod Multiplex
 pub mod Neighbors

@@ -3,12 +3,13 @@
 ghost use Rattle.std.specs.Prelude.{◌≡◌, ◌+◌, ◌≤◌, ◌++◌, length};
 ghost use Rattle.chip_core.specs.Fields.{in_widths, FieldsFit};
 ghost use Rattle.traffic_message.specs.InTraffic.{in_traffic_bits, in_traffic_of, in_traffic_reading, in_traffic_values, IsInTraffic};
+ghost use Rattle.traffic_message.specs.Layouts.{in_traffic_contents};
 ghost use Rattle.traffic_message.specs.Widths.{in_traffic_widths};
 
 use crate::fields::InTrafficFields;
-use crate::table::IN_TRAFFIC_FIELDS;
-use crate::values::{append_values, read_values};
-use chip_core::Bits;
+use crate::layouts::IN_TRAFFIC;
+use chip_core::{Bits, Numbers};
+use message_layout::{Contents, FieldValues, append, read};
 use std::marker::Model;
 
 /// What an In-Traffic System Parameters Message says behind its head: fields that fit. Contracts
@@ -53,12 +54,8 @@ impl InTraffic {
     pub(crate) fn read(bits: &Bits) -> Option<InTraffic>
         ensures { result ≡ in_traffic_reading bits.now }
     {
-        if bits.len() < 67 {
-            return None;
-        }
-        let mut values = [0; 10];
-        read_values(bits, 0, &IN_TRAFFIC_FIELDS, &mut values);
-        let fields = fields_of(&values, bits.part(67, bits.len() - 67));
+        let contents = read(&IN_TRAFFIC, bits)?;
+        let fields = fields_of(&contents.fixed, contents.rest);
         Some(InTraffic { fields })
     }
 
@@ -67,8 +64,20 @@ impl InTraffic {
         requires { length body.old + length (in_traffic_bits self.now) ≤ 1184 }
         ensures { body.new ≡ body.old ++ in_traffic_bits self.now }
     {
-        append_values(body, &IN_TRAFFIC_FIELDS, &values_of(&self.fields));
-        body.append_all(&self.fields.rest);
+        append(&IN_TRAFFIC, &contents_of(&self.fields), body);
+    }
+}
+
+/// The fields as the layout has them.
+fn contents_of(fields: &InTrafficFields) -> Contents
+    ensures { result ≡ in_traffic_contents fields.now }
+{
+    Contents {
+        fixed: FieldValues::of(&values_of(fields)),
+        group: None,
+        octets: Bits::empty(),
+        columns: [Numbers::empty(), Numbers::empty(), Numbers::empty()],
+        rest: fields.rest,
     }
 }
 
@@ -92,22 +101,22 @@ fn values_of(fields: &InTrafficFields) -> [u64; 10]
 
 /// The fields of these values.
 #[tactic(auto, unfolding(crate::specs::InTraffic::in_traffic_of))]
-fn fields_of(values: &[u64; 10], rest: Bits) -> InTrafficFields
+fn fields_of(values: &FieldValues, rest: Bits) -> InTrafficFields
     requires { FieldsFit (in_widths in_traffic_widths
         (in_traffic_values (in_traffic_of values.now rest))) }
     ensures { result ≡ in_traffic_of values.now rest }
 {
     InTrafficFields {
-        sid: values[0] as u16,
-        nid: values[1] as u16,
-        wina: values[2] as u8,
-        winn: values[3] as u8,
-        winr: values[4] as u8,
-        tadd: values[5] as u8,
-        tdrop: values[6] as u8,
-        tcomp: values[7] as u8,
-        ttdrop: values[8] as u8,
-        age: values[9] as u8,
+        sid: values.get(0) as u16,
+        nid: values.get(1) as u16,
+        wina: values.get(2) as u8,
+        winn: values.get(3) as u8,
+        winr: values.get(4) as u8,
+        tadd: values.get(5) as u8,
+        tdrop: values.get(6) as u8,
+        tcomp: values.get(7) as u8,
+        ttdrop: values.get(8) as u8,
+        age: values.get(9) as u8,
         rest,
     }
 }

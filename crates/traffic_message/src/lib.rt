@@ -10,6 +10,7 @@ mod framer;
 mod handoff;
 mod in_traffic;
 pub mod laws;
+mod layouts;
 mod message;
 mod multiplex;
 mod neighbors;

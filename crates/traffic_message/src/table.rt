@@ -1,7 +1,9 @@
 //! The fields of the messages by name and width.
 
-ghost use Rattle.std.specs.Prelude.{◌≡◌, ◌<◌, [], length, map, get_or};
+ghost use Rattle.std.specs.Prelude.{◌≡◌, ◌<◌, [], get_or};
 ghost use Rattle.traffic_message.specs.Widths.{head_names, in_traffic_names, search_names, time_names};
+
+use message_layout::name_in;
 
 /// The names of the fields that stand behind the type of each message, in the order in which they
 /// are sent, each with its number of bits: ACK_SEQ, MSG_SEQ, ACK_REQ and ENCRYPTION.
@@ -71,20 +73,4 @@ pub fn search_name(i: usize) -> &'static str
     ensures { result.now ≡ get_or search_names i [] }
 {
     name_in(&SEARCH_FIELDS, i)
-}
-
-/// The name in row `i` of a table.
-fn name_in(table: &[(&'static str, u8)], i: usize) -> &'static str
-    requires { i < length table.now }
-    ensures { result.now ≡ get_or (map (λ row. row.0.now) table.now) i [] }
-{
-    table[i].0
-}
-
-/// The number of bits in row `i` of a table.
-pub(crate) fn width_in(table: &[(&'static str, u8)], i: usize) -> u8
-    requires { i < length table.now }
-    ensures { result ≡ get_or (map (λ row. row.1) table.now) i 0 }
-{
-    table[i].1
 }

@@ -1,11 +1,11 @@
 //! Numbers read out of bits and written into them, field by field.
 
-ghost use Rattle.std.specs.Prelude.{◌≡◌, ◌<◌, ◌≤◌, ◌+◌, ◌^◌, ◌++◌, ◌∷◌, ◌==◌, [], length, map, drop};
+ghost use Rattle.std.specs.Prelude.{◌≡◌, ◌<◌, ◌≤◌, ◌+◌, ◌^◌, ◌++◌, ◌==◌, length, map, drop};
 ghost use Rattle.chip_core.specs.Fields.{in_widths, spelled, total, AreWidths, FieldsFit};
 ghost use Rattle.chip_core.specs.Readings.{number_at, values_at};
 
-use crate::table::width_in;
-use chip_core::{BitReader, Bits, Numbers, Short};
+use chip_core::{BitReader, Bits, Short};
+use message_layout::width_in;
 
 /// The number that `width` bits from a place on spell, the highest first.
 pub(crate) fn read_number(bits: &Bits, place: u16, width: u8) -> u64
@@ -50,14 +50,6 @@ pub(crate) fn append_values(body: &mut Bits, table: &[(&'static str, u8)], value
     for i in 0..table.len() {
         body.append_number(width_in(table, i), values[i]);
     }
-}
-
-/// Adds a number at the end of a list that is known to have room.
-pub(crate) fn push_number(numbers: &mut Numbers, number: u32)
-    requires { length numbers.old < 128 }
-    ensures { numbers.new ≡ numbers.old ++ number ∷ [] }
-{
-    let _pushed = numbers.push(number);
 }
 
 /// Whether the bit at a place is there and set.

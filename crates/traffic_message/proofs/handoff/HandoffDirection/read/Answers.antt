@@ -1,34 +1,30 @@
-use Rattle.std.proofs.Common.{sym, subst, ◌∙◌, arith}
+use Rattle.std.proofs.Common.{◌≡◌, Some, None, ap, sym, subst, ◌∙◌}
 use Rattle.traffic_message.specs.Handoff.{IsHandoffDirection}
-use Rattle.traffic_message.proofs.Directions.{direction_none, direction_some, direction_there, no_records, some_record}
+use Rattle.traffic_message.proofs.ByLayout.{direction_lawful, direction_told, direction_in, search_read}
 use Rattle.traffic_message.proofs.handoff.HandoffDirection.read.Goals as goal
 
-pub returns-then-len-at : goal.returns-then-len-at
-returns-then-len-at c =
-    direction_none c.args.bits.now
-    (no_records c.args.bits.now
-    (omega (arith, c.len.ensures.value, c.hard_at-at.ensures.value, c.if-len-at.true)))
+pub read-requires-clause-lawful : goal.read-requires-clause-lawful
+read-requires-clause-lawful c = direction_lawful
 
-pub returns-then-not-holds_records : goal.returns-then-not-holds_records
-returns-then-not-holds_records c =
-    direction_none c.args.bits.now
-    (sym c.holds_records.ensures ∙ c.if-not-holds_records.true)
+pub returns-in_err-contents : goal.returns-in_err-contents
+returns-in_err-contents c =
+    let none : c.from_residual.result ≡ None = cc in
+    none ∙ direction_told c.args.bits.now None c.requires.soft c.in_err-contents.ensures.reading
 
-pub fields_from-requires-clause-some : goal.fields_from-requires-clause-some
-fields_from-requires-clause-some c =
-    omega (
-      arith,
-      c.first_at-first.ensures.value,
-      some_record c.args.bits.now (sym c.holds_records.ensures ∙ c.if-not-holds_records.false),
-    )
+pub fields_from-requires-clause-times : goal.fields_from-requires-clause-times
+fields_from-requires-clause-times c =
+    (direction_in c.in_ok-contents.contents c.in_ok-contents.ensures.found.0).times
+
+pub fields_from-requires-clause-search : goal.fields_from-requires-clause-search
+fields_from-requires-clause-search c =
+    search_read c.in_ok-contents.contents c.in_ok-contents.ensures.found.0
 
 pub invariant_of-result : goal.invariant_of-result
 invariant_of-result c =
-    subst IsHandoffDirection (sym c.fields_from.ensures)
-    (direction_there c.args.bits.now c.requires.soft
-    (sym c.holds_records.ensures ∙ c.if-not-holds_records.false)).0
+    subst IsHandoffDirection (sym c.fields_from.ensures) (direction_in c.in_ok-contents.contents c.in_ok-contents.ensures.found.0)
 
 pub returns : goal.returns
 returns c =
-    direction_some c.args.bits.now c.fields_from.result
-    (sym c.holds_records.ensures ∙ c.if-not-holds_records.false) c.fields_from.ensures
+    ap Some c.fields_from.ensures
+    ∙ direction_told c.args.bits.now (Some c.in_ok-contents.contents) c.requires.soft
+    c.in_ok-contents.ensures.reading

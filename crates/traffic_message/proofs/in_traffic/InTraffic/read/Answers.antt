@@ -1,30 +1,26 @@
-use Rattle.std.proofs.Common.{◌≡◌, ◌-◌, ◌≤◌, length, take, drop, sym, ap, subst, ◌∙◌, arith}
+use Rattle.std.proofs.Common.{◌≡◌, Some, None, ap, sym, subst, ◌∙◌}
 use Rattle.traffic_message.specs.InTraffic.{IsInTraffic}
-use Rattle.traffic_message.proofs.Parameters.{parameters_from, parameters_none, parameters_some, values_fit}
+use Rattle.traffic_message.proofs.ByLayout.{parameters_lawful, parameters_told, parameters_in}
 use Rattle.traffic_message.proofs.in_traffic.InTraffic.read.Goals as goal
 
-pub returns-then-len-lt67 : goal.returns-then-len-lt67
-returns-then-len-lt67 c =
-    parameters_none c.args.bits.now (omega (arith, c.len.ensures.value, c.if-len-lt67.true))
+pub read-requires-clause-lawful : goal.read-requires-clause-lawful
+read-requires-clause-lawful c = parameters_lawful
+
+pub returns-in_err-contents : goal.returns-in_err-contents
+returns-in_err-contents c =
+    let none : c.from_residual.result ≡ None = cc in
+    none ∙ parameters_told c.args.bits.now None c.in_err-contents.ensures.reading
 
 pub fields_of-fields-requires : goal.fields_of-fields-requires
 fields_of-fields-requires c =
-    values_fit c.args.bits.now c.read_values.new.values c.part.result
-    (omega (arith, c.len.ensures.value, c.if-len-lt67.false)) c.read_values.ensures
+    parameters_in c.in_ok-contents.contents c.in_ok-contents.ensures.found.0
 
 pub invariant_of-result : goal.invariant_of-result
 invariant_of-result c =
-    let room : 67 ≤ length c.args.bits.now =
-    omega (arith, c.len.ensures.value, c.if-len-lt67.false) in
-    subst IsInTraffic (sym c.fields_of-fields.ensures)
-    (values_fit c.args.bits.now c.read_values.new.values c.part.result room c.read_values.ensures)
+    subst IsInTraffic (sym c.fields_of-fields.ensures) (parameters_in c.in_ok-contents.contents c.in_ok-contents.ensures.found.0)
 
 pub returns : goal.returns
 returns c =
-    let bits = c.args.bits.now in
-    let room : 67 ≤ length bits = omega (arith, c.len.ensures.value, c.if-len-lt67.false) in
-    let rest : c.part.result ≡ take (length bits - 67) (drop 67 bits) =
-    c.part.ensures ∙ ap (λ k. take (k - 67) (drop 67 bits)) c.len-2.ensures.value in
-    parameters_some bits c.fields_of-fields.result room
-    (parameters_from bits c.read_values.new.values c.part.result
-    c.fields_of-fields.result room c.read_values.ensures rest c.fields_of-fields.ensures)
+    ap Some c.fields_of-fields.ensures
+    ∙ parameters_told c.args.bits.now (Some c.in_ok-contents.contents)
+    c.in_ok-contents.ensures.reading

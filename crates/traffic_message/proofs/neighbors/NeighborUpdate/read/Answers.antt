@@ -1,23 +1,25 @@
-use Rattle.std.proofs.Common.{sym, subst, ◌∙◌}
+use Rattle.std.proofs.Common.{◌≡◌, Some, None, ap, sym, subst, ◌∙◌}
 use Rattle.traffic_message.specs.Neighbors.{IsNeighborUpdate}
-use Rattle.traffic_message.proofs.Updates.{some_neighbor, update_none, update_some, update_there}
+use Rattle.traffic_message.proofs.ByLayout.{update_lawful, update_told, update_in, step_fits}
 use Rattle.traffic_message.proofs.neighbors.NeighborUpdate.read.Goals as goal
 
-pub returns-then-not-holds_neighbors : goal.returns-then-not-holds_neighbors
-returns-then-not-holds_neighbors c =
-    update_none c.args.bits.now (sym c.holds_neighbors.ensures ∙ c.if-not-holds_neighbors.true)
+pub read-requires-clause-lawful : goal.read-requires-clause-lawful
+read-requires-clause-lawful c = update_lawful
 
-pub fields_from-requires-clause-some : goal.fields_from-requires-clause-some
-fields_from-requires-clause-some c =
-    some_neighbor c.args.bits.now (sym c.holds_neighbors.ensures ∙ c.if-not-holds_neighbors.false)
+pub returns-in_err-contents : goal.returns-in_err-contents
+returns-in_err-contents c =
+    let none : c.from_residual.result ≡ None = cc in
+    none ∙ update_told c.args.bits.now None c.in_err-contents.ensures.reading
+
+pub fields_from-requires : goal.fields_from-requires
+fields_from-requires c = step_fits c.in_ok-contents.contents c.in_ok-contents.ensures.found.0
 
 pub invariant_of-result : goal.invariant_of-result
 invariant_of-result c =
-    subst IsNeighborUpdate (sym c.fields_from.ensures)
-    (update_there c.args.bits.now
-    (sym c.holds_neighbors.ensures ∙ c.if-not-holds_neighbors.false)).0
+    subst IsNeighborUpdate (sym c.fields_from.ensures) (update_in c.in_ok-contents.contents c.in_ok-contents.ensures.found.0)
 
 pub returns : goal.returns
 returns c =
-    update_some c.args.bits.now c.fields_from.result
-    (sym c.holds_neighbors.ensures ∙ c.if-not-holds_neighbors.false) c.fields_from.ensures
+    ap Some c.fields_from.ensures
+    ∙ update_told c.args.bits.now (Some c.in_ok-contents.contents)
+    c.in_ok-contents.ensures.reading

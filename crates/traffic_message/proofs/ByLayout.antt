@@ -1,0 +1,775 @@
+-- What stands behind the head, by its layouts.
+use Rattle.std.proofs.Common.{◌≡◌, ℕ, zero, suc, ◌+◌, ◌-◌, ◌*◌, ◌/◌, ◌%◌, ◌^◌, ◌<◌, ◌≤◌, ◌==◌, Bool, true, false, List, [], ◌∷◌, ◌++◌, length, get_or, map, take, drop, refl, sym, ap, subst, ◌∙◌, arith, nat_le, inl, inr, Option, Some, None}
+use Rattle.std.proofs.lemmas.Bool.{and_parts, cases_Bool, cases_lt, eqb-false, le-leb, leb-false, leb-true, lt-leb}
+use Rattle.std.proofs.lemmas.List.{append-nil, length-drop, nil_from_length}
+use Rattle.chip_core.specs.Bits.{binary, number, places}
+use Rattle.chip_core.specs.Fields.{field, spelled, FieldsFit}
+use Rattle.chip_core.specs.Readings.{number_at, values_at, column_at}
+use Rattle.chip_core.specs.declared.field.Field.{Field}
+use Rattle.chip_core.proofs.Places.{map-places-all}
+use Rattle.chip_core.proofs.ValueLists.{dropped, front}
+use Rattle.message_layout.specs.Contents.{height, record_fields}
+use Rattle.message_layout.specs.Reading.{◌>>=◌, fields_at, group_at, number_part, octets_at, part_at, presence_at, reading, records_at, rest_at}
+use Rattle.message_layout.specs.Shapes.{is_lawful}
+use Rattle.message_layout.specs.Spelling.{behind_group, group_fields, spelling, IsGroup, IsOf}
+use Rattle.message_layout.specs.declared.contents.Contents.{Contents}
+use Rattle.message_layout.specs.declared.layout.Presence.TheVariants.{Flagged}
+use Rattle.message_layout.proofs.Columns.{get-lengths, three_columns, three_long}
+use Rattle.message_layout.proofs.Round.{reading_again, reading_there}
+use Rattle.traffic_message.specs.Handoff as handoff
+use Rattle.traffic_message.specs.InTraffic as parameters
+use Rattle.traffic_message.specs.Layouts as layouts
+use Rattle.traffic_message.specs.Neighbors as updates
+use Rattle.traffic_message.specs.Reading.{mapped}
+use Rattle.traffic_message.specs.Widths.{search_widths, time_widths}
+use Rattle.traffic_message.specs.declared.fields.DirectionFields.{DirectionFields}
+use Rattle.traffic_message.specs.declared.fields.InTrafficFields.{InTrafficFields}
+use Rattle.traffic_message.specs.declared.fields.Search.{Search}
+use Rattle.traffic_message.specs.declared.fields.UpdateFields.{UpdateFields}
+use Rattle.traffic_message.proofs.Directions.{first_is, hard_is, octets_is, place_clear, place_set, soft_bits}
+
+-- what a reading gave
+pub mapped_some : {A B : Type 0} (f : A → B) (read : Option A) (y : B) →
+    mapped f read ≡ Some y → (x : A) × (read ≡ Some x) × (f x ≡ y)
+mapped_some f None y e = absurd (cc)
+mapped_some f (Some x) y e = let same : f x ≡ y = cc in (x, refl, same)
+
+not_both : {b : Bool} → b ≡ false → ¬ (b ≡ true)
+not_both left right = cc
+
+-- NOTHING COUNTED
+-- no octets stand where none are counted
+no_octets : (octets : List Bool) → length octets % 8 ≡ 0 → length octets / 8 < 2 ^ 0 → octets ≡ []
+no_octets octets whole counted =
+    nil_from_length octets (let e : length octets ≡ 0 = omega (arith, whole, counted) in e)
+
+-- three columns
+column_parts : (ls : List (List ℕ)) (a b c : List ℕ) → length ls ≡ 3 → get_or ls 0 [] ≡ a →
+    get_or ls 1 [] ≡ b → get_or ls 2 [] ≡ c → a ∷ b ∷ c ∷ [] ≡ ls
+column_parts ls a b c long p q r = rw (← p, ← q, ← r) (three_columns ls long)
+
+empty_column : (ls : List (List ℕ)) (lengths : List ℕ) (j : ℕ) → map length ls ≡ lengths →
+    get_or lengths j 0 ≡ 0 → get_or ls j [] ≡ []
+empty_column ls lengths j long none =
+    nil_from_length (get_or ls j [])
+    (sym (get-lengths ls j) ∙ ap (λ (ns : List ℕ). get_or ns j 0) long ∙ none)
+
+-- IN-TRAFFIC SYSTEM PARAMETERS
+pub parameters_lawful : is_lawful layouts.in_traffic_shape ≡ true
+unfolding is_lawful
+parameters_lawful = refl
+
+pub parameters_values : (vs : List ℕ) (rest : List Bool) → length vs ≡ 10 →
+    parameters.in_traffic_values (parameters.in_traffic_of vs rest) ≡ vs
+unfolding parameters.in_traffic_of places
+parameters_values vs rest long =
+    sym (map-places-all (λ k. get_or vs k 0) vs 10 0 long (λ k lt. refl))
+
+pub parameters_of : (m : InTrafficFields) → parameters.IsInTraffic m →
+    IsOf layouts.in_traffic_shape (layouts.in_traffic_contents m)
+parameters_of m is =
+    record {
+      fixed = record { all = refl; fit = is };
+      group = refl;
+      whole = refl;
+      counted = omega arith;
+      columns = refl;
+      records = tt;
+      least = omega arith;
+      left = tt;
+    }
+
+pub parameters_spelled : (m : InTrafficFields) →
+    spelling layouts.in_traffic_shape (layouts.in_traffic_contents m)
+    ≡ parameters.in_traffic_bits m
+unfolding spelling parameters.in_traffic_bits binary
+parameters_spelled m = refl
+
+-- contents of the layout are those of a message
+pub parameters_back : (c : Contents) → IsOf layouts.in_traffic_shape c →
+    layouts.in_traffic_contents (layouts.in_traffic_from c) ≡ c
+unfolding parameters.in_traffic_of places
+parameters_back c is =
+    let values : parameters.in_traffic_values (layouts.in_traffic_from c) ≡ c.fixed =
+    sym (map-places-all (λ k. get_or c.fixed k 0) c.fixed 10 0 is.fixed.all (λ k lt. refl)) in
+    let none : c.octets ≡ [] = no_octets c.octets is.whole is.counted in
+    let empty = empty_column c.columns (0 ∷ 0 ∷ 0 ∷ []) in
+    let columns : [] ∷ [] ∷ [] ∷ [] ≡ c.columns =
+    column_parts c.columns [] [] [] (three_long [] (height c.columns) c.columns is.columns)
+    (empty 0 is.columns refl) (empty 1 is.columns refl) (empty 2 is.columns refl) in
+    let group : None ≡ c.group = sym is.group in
+    rw (values, ← none, columns, group) refl
+
+pub parameters_by_layout : (bits : List Bool) →
+    parameters.in_traffic_reading bits
+    ≡ mapped layouts.in_traffic_from (reading layouts.in_traffic_shape bits)
+unfolding parameters.in_traffic_reading parameters.in_traffic_at reading fields_at group_at
+    presence_at octets_at number_part part_at records_at
+parameters_by_layout bits =
+    elim (cases_Bool (nat_le 67 (length bits))) [
+      | inl t ↦ let some = le-leb 0 (length (drop 67 bits)) (omega arith) in rw (t, some, some, some) refl
+      | inr f ↦ rw f refl
+    ]
+
+-- NEIGHBOR LIST UPDATE
+pub update_lawful : is_lawful layouts.update_shape ≡ true
+unfolding is_lawful
+update_lawful = refl
+
+pub update_records : (pns : List ℕ) →
+    record_fields (9 ∷ []) (length pns) (pns ∷ [] ∷ [] ∷ []) ≡ map (field 9) pns
+update_records [] = refl
+update_records (pn ∷ pns) = ap (λ (fs : List Field). field 9 pn ∷ fs) (update_records pns)
+
+pub update_of : (m : UpdateFields) → updates.IsNeighborUpdate m →
+    IsOf layouts.update_shape (layouts.update_contents m)
+update_of m is =
+    record {
+      fixed = record { all = refl; fit = (is.fits.0, tt) };
+      group = refl;
+      whole = refl;
+      counted = omega arith;
+      columns = refl;
+      records = subst FieldsFit (sym (update_records m.pns)) is.fits.1;
+      least = is.some;
+      left = is.left;
+    }
+
+pub update_is : (m : UpdateFields) → IsOf layouts.update_shape (layouts.update_contents m) →
+    updates.IsNeighborUpdate m
+update_is m is =
+    record {
+      fits = (is.fixed.fit.0, subst FieldsFit (update_records m.pns) is.records);
+      some = is.least;
+      left = is.left;
+    }
+
+pub update_spelled : (m : UpdateFields) →
+    spelling layouts.update_shape (layouts.update_contents m) ≡ updates.update_bits m
+unfolding spelling updates.update_bits binary
+update_spelled m =
+    ap (λ (fs : List Field). (binary 4 m.inc ++ []) ++ (spelled fs ++ m.rest))
+    (update_records m.pns)
+    ∙ ap (λ (r : List Bool). r ++ (spelled (map (field 9) m.pns) ++ m.rest))
+    (append-nil (binary 4 m.inc))
+
+one_value : (vs : List ℕ) → length vs ≡ 1 → get_or vs 0 0 ∷ [] ≡ vs
+one_value [] long = absurd (omega (arith, long))
+one_value (v ∷ []) long = refl
+one_value (v ∷ w ∷ vs) long = absurd (omega (arith, long))
+
+pub update_back : (c : Contents) → IsOf layouts.update_shape c →
+    layouts.update_contents (layouts.update_from c) ≡ c
+update_back c is =
+    let values : get_or c.fixed 0 0 ∷ [] ≡ c.fixed = one_value c.fixed is.fixed.all in
+    let none : c.octets ≡ [] = no_octets c.octets is.whole is.counted in
+    let empty = empty_column c.columns (height c.columns ∷ 0 ∷ 0 ∷ []) in
+    let columns : get_or c.columns 0 [] ∷ [] ∷ [] ∷ [] ≡ c.columns =
+    column_parts c.columns (get_or c.columns 0 []) [] []
+    (three_long (9 ∷ []) (height c.columns) c.columns is.columns)
+    refl (empty 1 is.columns refl) (empty 2 is.columns refl) in
+    let group : None ≡ c.group = sym is.group in
+    rw (values, ← none, columns, group) refl
+
+pub update_by_layout : (bits : List Bool) →
+    updates.update_reading bits ≡ mapped layouts.update_from (reading layouts.update_shape bits)
+unfolding updates.update_reading updates.has_neighbors updates.update_at reading fields_at
+    group_at presence_at octets_at number_part part_at records_at
+update_by_layout bits =
+    let count = length bits in
+    let w = drop 4 bits in
+    let long : length w ≡ count - 4 = length-drop 4 bits in
+    let n = length w / 9 in
+    let any = le-leb 0 (length w) (omega arith) in
+    elim (cases_Bool (nat_le 4 count)) [
+      | inr f ↦
+          let short = lt-leb 13 count (let e : count < 13 = short_of count f in e) in
+          rw (f, short) refl
+      | inl t ↦
+          elim (cases_Bool (nat_le 13 count)) [
+            | inr f13 ↦
+                let none : nat_le 1 n ≡ false =
+                lt-leb 1 n (let e : n < 1 = few_of count n f13 (ap (λ k. k / 9) long) in e) in
+                rw (t, any, any, any, f13, none) refl
+            | inl t13 ↦
+                let some : nat_le 1 n ≡ true =
+                le-leb 1 n (some_of count n (leb-true 13 count t13) (ap (λ k. k / 9) long)) in
+                let left : length (drop (n * 9) w) ≡ (count - 4) % 9 =
+                omega (arith, length-drop (n * 9) w, long) in
+                let same : (count - 4) / 9 ≡ n = ap (λ k. k / 9) (sym long) in
+                let place : drop (n * 9) w ≡ drop (4 + 9 * n) bits =
+                dropped (n * 9) 4 bits ∙ ap (λ (k : ℕ). drop k bits)
+                (let e : 4 + n * 9 ≡ 4 + 9 * n = omega arith in e) in
+                elim (cases_Bool (nat_le ((count - 4) % 9) 7)) [
+                  | inl few ↦ rw (t, any, any, any, t13, some, left, few, same, place) refl
+                  | inr many ↦ rw (t, any, any, any, t13, some, left, many) refl
+                ]
+          ]
+    ]
+  where
+    short_of : (k : ℕ) → nat_le 4 k ≡ false → k < 13
+    short_of k f = let e = leb-false 4 k f in omega (arith, e)
+
+    few_of : (k n : ℕ) → nat_le 13 k ≡ false → n ≡ (k - 4) / 9 → n < 1
+    few_of k n f is = let e = leb-false 13 k f in omega (arith, e, is)
+
+    some_of : (k n : ℕ) → 13 ≤ k → n ≡ (k - 4) / 9 → 1 ≤ n
+    some_of k n h is = omega (arith, h, is)
+
+-- what was spelled is read again, and what is read is spelled so
+pub update_again : (m : UpdateFields) → updates.IsNeighborUpdate m →
+    updates.update_reading (updates.update_bits m) ≡ Some m
+update_again m is =
+    update_by_layout (updates.update_bits m)
+    ∙ ap (λ (r : List Bool). mapped layouts.update_from (reading layouts.update_shape r))
+    (sym (update_spelled m))
+    ∙ ap (mapped layouts.update_from)
+    (reading_again layouts.update_shape (layouts.update_contents m) update_lawful (update_of m is))
+
+pub update_read : (bits : List Bool) (m : UpdateFields) → updates.update_reading bits ≡ Some m →
+    updates.IsNeighborUpdate m × (bits ≡ updates.update_bits m)
+update_read bits m e =
+    let some = mapped_some layouts.update_from (reading layouts.update_shape bits) m
+    (sym (update_by_layout bits) ∙ e) in
+    let there = reading_there layouts.update_shape bits some.0 update_lawful some.1 in
+    let back = update_back some.0 there.0 in
+    let is : IsOf layouts.update_shape (layouts.update_contents (layouts.update_from some.0)) =
+    subst (IsOf layouts.update_shape) (sym back) there.0 in
+    subst (λ (u : UpdateFields). updates.IsNeighborUpdate u × (bits ≡ updates.update_bits u)) some.2 (
+      update_is (layouts.update_from some.0) is,
+      there.1 ∙ ap (spelling layouts.update_shape) (sym back)
+          ∙ update_spelled (layouts.update_from some.0),
+    )
+
+pub parameters_again : (m : InTrafficFields) → parameters.IsInTraffic m →
+    parameters.in_traffic_reading (parameters.in_traffic_bits m) ≡ Some m
+unfolding parameters.in_traffic_of
+parameters_again m is =
+    parameters_by_layout (parameters.in_traffic_bits m)
+    ∙ ap (λ (r : List Bool). mapped layouts.in_traffic_from (reading layouts.in_traffic_shape r))
+    (sym (parameters_spelled m))
+    ∙ ap (mapped layouts.in_traffic_from)
+    (reading_again layouts.in_traffic_shape (layouts.in_traffic_contents m) parameters_lawful
+    (parameters_of m is))
+
+pub parameters_read : (bits : List Bool) (m : InTrafficFields) →
+    parameters.in_traffic_reading bits ≡ Some m →
+    parameters.IsInTraffic m × (bits ≡ parameters.in_traffic_bits m)
+parameters_read bits m e =
+    let some = mapped_some layouts.in_traffic_from (reading layouts.in_traffic_shape bits) m
+    (sym (parameters_by_layout bits) ∙ e) in
+    let there = reading_there layouts.in_traffic_shape bits some.0 parameters_lawful some.1 in
+    let back = parameters_back some.0 there.0 in
+    let is : IsOf layouts.in_traffic_shape
+    (layouts.in_traffic_contents (layouts.in_traffic_from some.0)) =
+    subst (IsOf layouts.in_traffic_shape) (sym back) there.0 in
+    subst (λ (u : InTrafficFields). parameters.IsInTraffic u
+    × (bits ≡ parameters.in_traffic_bits u)) some.2 (
+      is.fixed.fit,
+      there.1 ∙ ap (spelling layouts.in_traffic_shape) (sym back)
+          ∙ parameters_spelled (layouts.in_traffic_from some.0),
+    )
+
+-- EXTENDED HANDOFF DIRECTION
+pub direction_lawful : is_lawful layouts.direction_shape ≡ true
+unfolding is_lawful
+direction_lawful = refl
+
+pub direction_fields : (pns combs rows : List ℕ) → length combs ≡ length pns →
+    length rows ≡ length pns →
+    record_fields (9 ∷ 1 ∷ 8 ∷ []) (length pns) (pns ∷ combs ∷ rows ∷ [])
+    ≡ handoff.direction_records pns combs rows
+direction_fields [] combs rows a b = refl
+direction_fields (p ∷ ps) [] rows a b = absurd (omega (arith, a))
+direction_fields (p ∷ ps) (c ∷ cs) [] a b = absurd (omega (arith, b))
+direction_fields (p ∷ ps) (c ∷ cs) (r ∷ rs) a b =
+    ap (λ (fs : List Field). field 9 p ∷ field 1 c ∷ field 8 r ∷ fs)
+    (direction_fields ps cs rs (omega (arith, a)) (omega (arith, b)))
+
+group_of : (search : Option Search) (behind : ℕ) → FieldsFit (handoff.search_fields search) →
+    IsGroup Flagged search_widths (layouts.search_group search) behind
+group_of None behind fit = tt
+group_of (Some search) behind fit = record { all = refl; fit = fit.1 }
+
+pub search_fit : (search : Option Search) (behind : ℕ) →
+    IsGroup Flagged search_widths (layouts.search_group search) behind →
+    FieldsFit (handoff.search_fields search)
+search_fit None behind is = (omega arith, tt)
+search_fit (Some search) behind is = (omega arith, is.fit)
+
+group_same : (search : Option Search) →
+    group_fields Flagged search_widths (layouts.search_group search)
+    ≡ handoff.search_fields search
+group_same None = refl
+group_same (Some search) = refl
+
+group_back : (group : Option (List ℕ)) (behind : ℕ) →
+    IsGroup Flagged search_widths group behind →
+    layouts.search_group (layouts.search_from group) ≡ group
+unfolding handoff.search_of places
+group_back None behind is = refl
+group_back (Some vs) behind is =
+    ap Some (sym (map-places-all (λ k. get_or vs k 0) vs 5 0 is.all (λ k lt. refl)))
+
+pub direction_of_message : (m : DirectionFields) → handoff.IsHandoffDirection m →
+    IsOf layouts.direction_shape (layouts.direction_contents m)
+direction_of_message m is =
+    let c = layouts.direction_contents m in
+    record {
+      fixed = record { all = refl; fit = is.times };
+      group = group_of m.search (length (behind_group layouts.direction_shape c)) is.search;
+      whole = is.octets;
+      counted = is.added.1.0;
+      columns = rw (is.combs, is.rows) refl;
+      records = subst FieldsFit (sym (direction_fields m.pns m.combs m.rows is.combs is.rows))
+          is.records;
+      least = is.some;
+      left = is.left;
+    }
+
+pub direction_is : (m : DirectionFields) →
+    IsOf layouts.direction_shape (layouts.direction_contents m) → handoff.IsHandoffDirection m
+direction_is m is =
+    let c = layouts.direction_contents m in
+    let combs : length m.combs ≡ length m.pns = ap (λ (ls : List ℕ). get_or ls 1 0) is.columns in
+    let rows : length m.rows ≡ length m.pns = ap (λ (ls : List ℕ). get_or ls 2 0) is.columns in
+    record {
+      times = is.fixed.fit;
+      search = search_fit m.search (length (behind_group layouts.direction_shape c)) is.group;
+      added = (omega arith, (is.counted, tt));
+      octets = is.whole;
+      records = subst FieldsFit (direction_fields m.pns m.combs m.rows combs rows) is.records;
+      combs = combs;
+      rows = rows;
+      some = is.least;
+      left = is.left;
+    }
+
+pub direction_spelled : (m : DirectionFields) → length m.combs ≡ length m.pns →
+    length m.rows ≡ length m.pns →
+    spelling layouts.direction_shape (layouts.direction_contents m) ≡ handoff.direction_bits m
+unfolding spelling handoff.direction_bits handoff.added_bits
+direction_spelled m a b =
+    let times = spelled (handoff.time_fields m) in
+    let added = spelled (handoff.added_fields m.extra) ++ m.extra in
+    ap (λ (fs : List Field). times
+    ++ (spelled (group_fields Flagged search_widths (layouts.search_group m.search))
+    ++ (added ++ (spelled fs ++ m.rest)))) (direction_fields m.pns m.combs m.rows a b)
+    ∙ ap (λ (fs : List Field). times
+    ++ (spelled fs ++ (added ++ (spelled (handoff.records_of m) ++ m.rest)))) (group_same m.search)
+
+pub direction_back : (c : Contents) → IsOf layouts.direction_shape c →
+    layouts.direction_contents (layouts.direction_from c) ≡ c
+unfolding handoff.direction_of places
+direction_back c is =
+    let values : get_or c.fixed 0 0 ∷ get_or c.fixed 1 0 ∷ get_or c.fixed 2 0 ∷ [] ≡ c.fixed =
+    sym (map-places-all (λ k. get_or c.fixed k 0) c.fixed 3 0 is.fixed.all (λ k lt. refl)) in
+    let group = group_back c.group (length (behind_group layouts.direction_shape c)) is.group in
+    let columns : get_or c.columns 0 [] ∷ get_or c.columns 1 [] ∷ get_or c.columns 2 [] ∷ []
+    ≡ c.columns =
+    three_columns c.columns (three_long (9 ∷ 1 ∷ 8 ∷ []) (height c.columns) c.columns is.columns)
+    in
+    rw (values, group, columns) refl
+
+search_made : (search : Option Search) →
+    layouts.search_from (layouts.search_group search) ≡ search
+unfolding handoff.search_of
+search_made None = refl
+search_made (Some search) = refl
+
+direction_made : (m : DirectionFields) → layouts.direction_from (layouts.direction_contents m) ≡ m
+unfolding handoff.direction_of
+direction_made m = rw (search_made m.search) refl
+
+-- what stands behind the search parameters
+abbrev behind_search : List ℕ → Option (List ℕ) → List Bool → Option Contents
+behind_search times group w = octets_at 1 3 w >>= λ octets.
+    records_at (9 ∷ 1 ∷ 8 ∷ []) 1 octets.1 >>= λ records.
+    rest_at (Some 7) times group octets.0 records.0 records.1
+
+-- what it says, where the first record begins behind so many octets
+abbrev says : List ℕ → Option (List ℕ) → ℕ → List Bool → Contents
+says times group k w =
+    let r = drop (4 + 8 * k) w in
+    let n = length r / 18 in
+    record {
+      fixed = times;
+      group = group;
+      octets = take (8 * k) (drop 4 w);
+      columns = column_at 18 0 9 n r ∷ column_at 18 9 1 n r ∷ column_at 18 10 8 n r ∷ [];
+      rest = drop (n * 18) r;
+    }
+
+small_bit : (w : List Bool) → 1 ≤ length w → (number_at 0 1 w == 1) ≡ false → number_at 0 1 w ≡ 0
+small_bit w room soft =
+    let small = (front 1 w room).0 in
+    let other = eqb-false (number_at 0 1 w) 1 soft in
+    omega (arith, small, other)
+
+abbrev HasRecords : ℕ → List Bool → Type 0
+HasRecords k w =
+    (4 + 8 * k + 18 ≤ length w) × ((length w - (4 + 8 * k)) % 18 ≤ 7)
+
+behind_is : (times : List ℕ) (group : Option (List ℕ)) (w : List Bool) →
+    (number_at 0 1 w == 1) ≡ false → HasRecords (number_at 1 3 w) w →
+    behind_search times group w ≡ Some (says times group (number_at 1 3 w) w)
+unfolding octets_at number_part part_at records_at
+behind_is times group w soft has =
+    let b1 = drop 1 w in
+    let k = number_at 0 3 b1 in
+    let same : number_at 1 3 w ≡ k = refl in
+    let b4 = drop 3 b1 in
+    let r = drop (8 * k) b4 in
+    let n = length r / 18 in
+    let l1 = length-drop 1 w in
+    let l4 = length-drop 3 b1 in
+    let lr = length-drop (8 * k) b4 in
+    let zero = small_bit w (omega (arith, has.0)) soft in
+    let fourth : drop 3 b1 ≡ drop 4 w = dropped 3 1 w in
+    let first : drop (8 * k) (drop 4 w) ≡ drop (4 + 8 * k) w = dropped (8 * k) 4 w in
+    rw (
+      le-leb 1 (length w) (omega (arith, has.0)),
+      le-leb 3 (length b1) (omega (arith, has.0, same, l1)),
+      zero,
+      le-leb (8 * k) (length b4) (omega (arith, has.0, same, l1, l4)),
+      le-leb 1 n (omega (arith, has.0, same, l1, l4, lr)),
+      le-leb (length (drop (n * 18) r)) 7
+          (omega (arith, has.0, has.1, same, l1, l4, lr, length-drop (n * 18) r)),
+      fourth,
+      first,
+    ) refl
+
+behind_isnt : (times : List ℕ) (group : Option (List ℕ)) (w : List Bool) →
+    (number_at 0 1 w == 1) ≡ false → ¬ (HasRecords (number_at 1 3 w) w) →
+    behind_search times group w ≡ None
+unfolding octets_at number_part part_at records_at
+behind_isnt times group w soft none =
+    let b1 = drop 1 w in
+    let k = number_at 0 3 b1 in
+    let same : number_at 1 3 w ≡ k = refl in
+    let b4 = drop 3 b1 in
+    let r = drop (8 * k) b4 in
+    let n = length r / 18 in
+    let l1 = length-drop 1 w in
+    let l4 = length-drop 3 b1 in
+    let lr = length-drop (8 * k) b4 in
+    elim (cases_Bool (nat_le 1 (length w))) [
+      | inr f ↦ rw f refl
+      | inl t1 ↦
+          let zero = small_bit w (leb-true 1 (length w) t1) soft in
+          elim (cases_Bool (nat_le 3 (length b1))) [
+            | inr f ↦ rw (t1, f) refl
+            | inl t3 ↦
+                elim (cases_Bool (nat_le (8 * k) (length b4))) [
+                  | inr f ↦ rw (t1, t3, zero, f) refl
+                  | inl t8 ↦
+                      elim (cases_Bool (nat_le 1 n)) [
+                        | inr f ↦ rw (t1, t3, zero, t8, f) refl
+                        | inl tn ↦
+                            elim (cases_Bool (nat_le (length (drop (n * 18) r)) 7)) [
+                              | inr f ↦ rw (t1, t3, zero, t8, tn, f) refl
+                              | inl t7 ↦
+                                  let a = leb-true 3 (length b1) t3 in
+                                  let b = leb-true (8 * k) (length b4) t8 in
+                                  let c = leb-true 1 n tn in
+                                  let d = leb-true (length (drop (n * 18) r)) 7 t7 in
+                                  let e = length-drop (n * 18) r in
+                                  absurd (none (
+                                    omega (arith, same, a, b, c, l1, l4, lr),
+                                    omega (arith, same, a, b, c, d, e, l1, l4, lr),
+                                  ))
+                            ]
+                      ]
+                ]
+          ]
+    ]
+
+-- the fields and the search parameters, which are read first
+front_set : (bits : List Bool) → (number_at 9 1 bits == 1) ≡ true → 34 ≤ length bits →
+    reading layouts.direction_shape bits
+    ≡ behind_search (values_at time_widths bits)
+    (Some (values_at search_widths (drop 10 bits))) (drop 34 bits)
+unfolding reading fields_at group_at presence_at number_part
+front_set bits set room =
+    let b9 = drop 9 bits in
+    let b10 = drop 1 b9 in
+    let l9 = length-drop 9 bits in
+    let l10 = length-drop 1 b9 in
+    let flag : (number_at 0 1 b9 == 1) ≡ true = set in
+    rw (
+      le-leb 9 (length bits) (omega (arith, room)),
+      le-leb 1 (length b9) (omega (arith, room, l9)),
+      flag,
+      le-leb 24 (length b10) (omega (arith, room, l9, l10)),
+      dropped 1 9 bits,
+      dropped 24 10 bits,
+    ) refl
+
+front_clear : (bits : List Bool) → (number_at 9 1 bits == 1) ≡ false → 10 ≤ length bits →
+    reading layouts.direction_shape bits
+    ≡ behind_search (values_at time_widths bits) None (drop 10 bits)
+unfolding reading fields_at group_at presence_at number_part
+front_clear bits clear room =
+    let b9 = drop 9 bits in
+    let flag : (number_at 0 1 b9 == 1) ≡ false = clear in
+    rw (
+      le-leb 9 (length bits) (omega (arith, room)),
+      le-leb 1 (length b9) (omega (arith, room, length-drop 9 bits)),
+      flag,
+      dropped 1 9 bits,
+    ) refl
+
+front_short : (bits : List Bool) → length bits < 10 →
+    reading layouts.direction_shape bits ≡ None
+unfolding reading fields_at group_at presence_at number_part
+front_short bits short =
+    let b9 = drop 9 bits in
+    elim (cases_Bool (nat_le 9 (length bits))) [
+      | inr f ↦ rw f refl
+      | inl t ↦
+          rw (t, lt-leb 1 (length b9) (omega (arith, short, length-drop 9 bits))) refl
+    ]
+
+front_short_set : (bits : List Bool) → (number_at 9 1 bits == 1) ≡ true → length bits < 34 →
+    10 ≤ length bits → reading layouts.direction_shape bits ≡ None
+unfolding reading fields_at group_at presence_at number_part
+front_short_set bits set short room =
+    let b9 = drop 9 bits in
+    let b10 = drop 1 b9 in
+    let l9 = length-drop 9 bits in
+    let flag : (number_at 0 1 b9 == 1) ≡ true = set in
+    rw (
+      le-leb 9 (length bits) (omega (arith, room)),
+      le-leb 1 (length b9) (omega (arith, room, l9)),
+      flag,
+      lt-leb 24 (length b10) (omega (arith, short, room, l9, length-drop 1 b9)),
+    ) refl
+
+same_parts : (t : List ℕ) (s s' : Option Search) (e e' : List Bool)
+    (p p' c c' r r' : List ℕ) (x x' : List Bool) → s ≡ s' → e ≡ e' → p ≡ p' → c ≡ c' → r ≡ r' →
+    x ≡ x' → handoff.direction_of t s e p c r x ≡ handoff.direction_of t s' e' p' c' r' x'
+same_parts t s s' e e' p p' c c' r r' x x' a b d f g h = rw (a, b, d, f, g, h) refl
+
+-- what is said behind the search parameters is what stands at the places of the fields
+says_at : (bits : List Bool) (group : Option (List ℕ)) (a k first : ℕ) →
+    handoff.hard_place bits ≡ a → handoff.search_at bits ≡ layouts.search_from group →
+    k ≡ handoff.octets_at bits → handoff.first_record bits ≡ first → first ≡ a + (4 + 8 * k) →
+    layouts.direction_from (says (values_at time_widths bits) group k (drop a bits))
+    ≡ handoff.direction_at bits
+unfolding handoff.direction_at
+says_at bits group a k first hard search octets record_place place =
+    let w = drop a bits in
+    let r = drop (4 + 8 * k) w in
+    let behind : r ≡ drop first bits =
+    dropped (4 + 8 * k) a bits ∙ ap (λ (j : ℕ). drop j bits) (sym place) in
+    let n : length r / 18 ≡ (length bits - first) / 18 =
+    ap (λ (xs : List Bool). length xs / 18) behind
+    ∙ ap (λ (j : ℕ). j / 18) (length-drop first bits) in
+    let column : (p v : ℕ) → column_at 18 p v (length r / 18) r
+    ≡ column_at 18 p v ((length bits - first) / 18) (drop first bits) =
+    λ p v. ap (λ (j : ℕ). column_at 18 p v j r) n
+    ∙ ap (column_at 18 p v ((length bits - first) / 18)) behind in
+    let count = (length bits - first) / 18 in
+    let last : drop (length r / 18 * 18) r ≡ drop (first + 18 * count) bits =
+    ap (λ (j : ℕ). drop (j * 18) r) n ∙ ap (drop (count * 18)) behind
+    ∙ dropped (count * 18) first bits
+    ∙ ap (λ (j : ℕ). drop j bits) (let e : first + count * 18 ≡ first + 18 * count =
+    omega arith in e) in
+    let extra : take (8 * k) (drop 4 w)
+    ≡ take (8 * handoff.octets_at bits) (drop (handoff.hard_place bits + 4) bits) =
+    ap (take (8 * k)) (dropped 4 a bits)
+    ∙ ap (λ (j : ℕ). take (8 * j) (drop (a + 4) bits)) octets
+    ∙ ap (λ (j : ℕ). take (8 * handoff.octets_at bits) (drop (j + 4) bits)) (sym hard) in
+    rw record_place (same_parts (values_at time_widths bits) (layouts.search_from group)
+    (handoff.search_at bits) (take (8 * k) (drop 4 w))
+    (take (8 * handoff.octets_at bits) (drop (handoff.hard_place bits + 4) bits))
+    (column_at 18 0 9 (length r / 18) r) (column_at 18 0 9 count (drop first bits))
+    (column_at 18 9 1 (length r / 18) r) (column_at 18 9 1 count (drop first bits))
+    (column_at 18 10 8 (length r / 18) r) (column_at 18 10 8 count (drop first bits))
+    (drop (length r / 18 * 18) r) (drop (first + 18 * count) bits)
+    (sym search) extra (column 0 9) (column 9 1) (column 10 8) last)
+
+records_told : (bits : List Bool) (first : ℕ) → handoff.first_record bits ≡ first →
+    handoff.has_records bits ≡ true →
+    (first + 18 ≤ length bits) × ((length bits - first) % 18 ≤ 7)
+unfolding handoff.has_records
+records_told bits first is has =
+    let p = handoff.first_record bits in
+    let both = and_parts (nat_le (p + 18) (length bits)) (nat_le ((length bits - p) % 18) 7) has in
+    subst (λ (j : ℕ). (j + 18 ≤ length bits) × ((length bits - j) % 18 ≤ 7)) is (
+      leb-true (p + 18) (length bits) both.0,
+      leb-true ((length bits - p) % 18) 7 both.1,
+    )
+
+records_tell : (bits : List Bool) (first : ℕ) → handoff.first_record bits ≡ first →
+    first + 18 ≤ length bits → (length bits - first) % 18 ≤ 7 → handoff.has_records bits ≡ true
+unfolding handoff.has_records
+records_tell bits first is some few =
+    rw (is, le-leb (first + 18) (length bits) some, le-leb ((length bits - first) % 18) 7 few) refl
+
+reading_some : (bits : List Bool) → handoff.has_records bits ≡ true →
+    handoff.direction_reading bits ≡ Some (handoff.direction_at bits)
+unfolding handoff.direction_reading
+reading_some bits has = rw has refl
+
+reading_none : (bits : List Bool) → handoff.has_records bits ≡ false →
+    handoff.direction_reading bits ≡ None
+unfolding handoff.direction_reading
+reading_none bits has = rw has refl
+
+by_group : (bits : List Bool) (group : Option (List ℕ)) (a : ℕ) →
+    handoff.hard_place bits ≡ a → handoff.search_at bits ≡ layouts.search_from group →
+    handoff.is_hard bits ≡ false →
+    (a ≤ length bits → reading layouts.direction_shape bits
+    ≡ behind_search (values_at time_widths bits) group (drop a bits)) →
+    (length bits < a → reading layouts.direction_shape bits ≡ None) →
+    handoff.direction_reading bits
+    ≡ mapped layouts.direction_from (reading layouts.direction_shape bits)
+by_group bits group a hard search soft long short =
+    let times = values_at time_widths bits in
+    let w = drop a bits in
+    let k = number_at 1 3 w in
+    let first = a + (4 + 8 * k) in
+    let lw = length-drop a bits in
+    let octets : k ≡ handoff.octets_at bits =
+    ap (λ (r : List Bool). number (take 3 r)) (dropped 1 a bits)
+    ∙ ap (λ (j : ℕ). number_at (j + 1) 3 bits) (sym hard) ∙ sym (octets_is bits) in
+    let record_place : handoff.first_record bits ≡ first =
+    omega (arith, first_is bits, hard, octets) in
+    let clear : (number_at 0 1 w == 1) ≡ false =
+    ap (λ (j : ℕ). number_at j 1 bits == 1) (sym hard) ∙ sym (hard_is bits) ∙ soft in
+    elim (cases_Bool (handoff.has_records bits)) [
+      | inl has ↦
+          let told = records_told bits first record_place has in
+          let some : HasRecords k w = (
+            omega (arith, told.0, lw),
+            (let e : (length w - (4 + 8 * k)) % 18 ≤ 7 =
+                subst (λ (j : ℕ). j % 18 ≤ 7) (let f : length bits - first ≡ length w - (4 + 8 * k) =
+                omega (arith, told.0, lw) in f) told.1 in e),
+          ) in
+          let there : reading layouts.direction_shape bits ≡ Some (says times group k w) =
+          long (omega (arith, told.0)) ∙ behind_is times group w clear some in
+          reading_some bits has
+          ∙ ap Some (sym (says_at bits group a k first hard search octets record_place refl))
+          ∙ ap (mapped layouts.direction_from) (sym there)
+      | inr hasnt ↦
+          let never : ¬ (HasRecords k w) = λ h.
+          let some : first + 18 ≤ length bits = omega (arith, h.0, lw) in
+          let few : (length bits - first) % 18 ≤ 7 =
+          subst (λ (j : ℕ). j % 18 ≤ 7) (let f : length w - (4 + 8 * k) ≡ length bits - first =
+          omega (arith, h.0, lw) in f) h.1 in
+          let has = records_tell bits first record_place some few in
+          not_both hasnt has in
+          let none : reading layouts.direction_shape bits ≡ None =
+          elim (cases_lt (length bits) a) [
+            | inl less ↦ short less
+            | inr more ↦ long more ∙ behind_isnt times group w clear never
+          ] in
+          reading_none bits hasnt ∙ ap (mapped layouts.direction_from) (sym none)
+    ]
+
+pub direction_by_layout : (bits : List Bool) → handoff.is_hard bits ≡ false →
+    handoff.direction_reading bits
+    ≡ mapped layouts.direction_from (reading layouts.direction_shape bits)
+direction_by_layout bits soft =
+    elim (cases_Bool (number_at 9 1 bits == 1)) [
+      | inl t ↦
+          let p = place_set bits t in
+          by_group bits (Some (values_at search_widths (drop 10 bits))) 34 p.0 p.1 soft
+          (front_set bits t)
+          (λ less. elim (cases_lt (length bits) 10) [
+            | inl few ↦ front_short bits few
+            | inr more ↦ front_short_set bits t less more
+          ])
+      | inr f ↦
+          let p = place_clear bits f in
+          by_group bits None 10 p.0 p.1 soft (front_clear bits f) (front_short bits)
+    ]
+
+-- what was spelled is read again, and what is read is spelled so
+abbrev pub DirectionAgain : DirectionFields → List Bool → Type 0
+DirectionAgain m bits =
+    (handoff.is_hard bits ≡ false) × (handoff.direction_reading bits ≡ Some m)
+
+pub direction_again : (m : DirectionFields) → handoff.IsHandoffDirection m →
+    DirectionAgain m (handoff.direction_bits m)
+direction_again m is =
+    let soft = soft_bits m is in (
+      soft,
+      direction_by_layout (handoff.direction_bits m) soft
+          ∙ ap (λ (r : List Bool). mapped layouts.direction_from
+          (reading layouts.direction_shape r)) (sym (direction_spelled m is.combs is.rows))
+          ∙ ap (mapped layouts.direction_from)
+          (reading_again layouts.direction_shape (layouts.direction_contents m) direction_lawful
+          (direction_of_message m is))
+          ∙ ap Some (direction_made m),
+    )
+
+pub direction_read : (bits : List Bool) (m : DirectionFields) → handoff.is_hard bits ≡ false →
+    handoff.direction_reading bits ≡ Some m →
+    handoff.IsHandoffDirection m × (bits ≡ handoff.direction_bits m)
+direction_read bits m soft e =
+    let some = mapped_some layouts.direction_from (reading layouts.direction_shape bits) m
+    (sym (direction_by_layout bits soft) ∙ e) in
+    let there = reading_there layouts.direction_shape bits some.0 direction_lawful some.1 in
+    let back = direction_back some.0 there.0 in
+    let made = layouts.direction_from some.0 in
+    let is = direction_is made (subst (IsOf layouts.direction_shape) (sym back) there.0) in
+    subst (λ (u : DirectionFields). handoff.IsHandoffDirection u
+    × (bits ≡ handoff.direction_bits u)) some.2 (
+      is,
+      there.1 ∙ ap (spelling layouts.direction_shape) (sym back)
+          ∙ direction_spelled made is.combs is.rows,
+    )
+
+-- THE NEIGHBORS
+pub neighbor_fits : (pns : List ℕ) (i : ℕ) → FieldsFit (map (field 9) pns) → i < length pns →
+    get_or pns i 0 < 2 ^ 9
+neighbor_fits [] i fit h = absurd (omega (arith, h))
+neighbor_fits (pn ∷ pns) zero fit h = fit.0
+neighbor_fits (pn ∷ pns) (suc i) fit h = neighbor_fits pns i fit.1 (omega (arith, h))
+
+-- WHAT THE CODE READS
+pub parameters_told : (bits : List Bool) (told : Option Contents) →
+    told ≡ reading layouts.in_traffic_shape bits →
+    mapped layouts.in_traffic_from told ≡ parameters.in_traffic_reading bits
+parameters_told bits told e =
+    ap (mapped layouts.in_traffic_from) e ∙ sym (parameters_by_layout bits)
+
+pub update_told : (bits : List Bool) (told : Option Contents) →
+    told ≡ reading layouts.update_shape bits →
+    mapped layouts.update_from told ≡ updates.update_reading bits
+update_told bits told e = ap (mapped layouts.update_from) e ∙ sym (update_by_layout bits)
+
+pub direction_told : (bits : List Bool) (told : Option Contents) →
+    handoff.is_hard bits ≡ false → told ≡ reading layouts.direction_shape bits →
+    mapped layouts.direction_from told ≡ handoff.direction_reading bits
+direction_told bits told soft e =
+    ap (mapped layouts.direction_from) e ∙ sym (direction_by_layout bits soft)
+
+-- the contents of a layout are a message
+pub parameters_in : (c : Contents) → IsOf layouts.in_traffic_shape c →
+    parameters.IsInTraffic (layouts.in_traffic_from c)
+parameters_in c is =
+    (subst (IsOf layouts.in_traffic_shape) (sym (parameters_back c is)) is).fixed.fit
+
+pub update_in : (c : Contents) → IsOf layouts.update_shape c →
+    updates.IsNeighborUpdate (layouts.update_from c)
+update_in c is =
+    update_is (layouts.update_from c)
+    (subst (IsOf layouts.update_shape) (sym (update_back c is)) is)
+
+pub direction_in : (c : Contents) → IsOf layouts.direction_shape c →
+    handoff.IsHandoffDirection (layouts.direction_from c)
+direction_in c is =
+    direction_is (layouts.direction_from c)
+    (subst (IsOf layouts.direction_shape) (sym (direction_back c is)) is)
+
+-- each value that was read fits
+pub step_fits : (c : Contents) → IsOf layouts.update_shape c → get_or c.fixed 0 0 < 2 ^ 4
+step_fits c is = (update_in c is).fits.0
+
+pub search_read : (c : Contents) → IsOf layouts.direction_shape c →
+    FieldsFit (handoff.search_fields (layouts.search_from c.group))
+unfolding handoff.direction_of
+search_read c is = (direction_in c is).search
