@@ -1,10 +1,9 @@
 -- The first samples alone decide what is heard within them.
 use Rattle.std.proofs.Common.{◌≡◌, ℕ, suc, ◌+◌, ◌≤◌, true, List, [], ◌∷◌, ◌++◌, length}
 use Rattle.std.proofs.Common.{take}
-use Rattle.std.proofs.Common.{drop, refl, sym, ap, ◌∙◌, arith, ℤ, pos, negsuc, All, Some, slice_get}
-use Rattle.std.specs.Prelude.{unsigned_abs, int_le}
+use Rattle.std.proofs.Common.{drop, refl, sym, ap, ◌∙◌, arith, ℤ, pos, All, Some, slice_get}
+use Rattle.std.specs.Prelude.{IsTrue}
 use Rattle.std.specs.List.{flat_map}
-use Rattle.std.proofs.lemmas.Int.{ints}
 use Rattle.std.proofs.lemmas.Bool.{and_from}
 use Rattle.std.proofs.lemmas.List.{take-append-drop, length-take-le}
 use Rattle.chip_core.specs.Bits.{places}
@@ -22,17 +21,11 @@ use Rattle.mobile_core.proofs.MarkStays.{mark_sooner}
 use Rattle.chip_core.proofs.Ranges.{flat_map_ext_places}
 
 -- FINGERS THAT ARE TUNED
-near_one : (d : ℤ) → unsigned_abs d ≤ 127 → is_near d ≡ true
-near_one d h =
-    let a : int_le (negsuc 127) d ≡ true = grind (arith, ints) in
-    let b : int_le d (pos 127) ≡ true = grind (arith, ints) in
-    and_from (int_le (negsuc 127) d) (int_le d (pos 127)) a b
-
-near_all : (phase : ℕ) (deltas : List ℤ) → All (λ d. unsigned_abs d ≤ 127) deltas →
+near_all : (phase : ℕ) (deltas : List ℤ) → All (λ d. IsTrue (is_near d)) deltas →
     all_near (fingers_of 32 phase deltas) ≡ true
 near_all phase [] h = refl
 near_all phase (d ∷ deltas) h =
-    and_from (is_near d) (all_near (fingers_of 32 phase deltas)) (near_one d (h 0 d (omega arith)))
+    and_from (is_near d) (all_near (fingers_of 32 phase deltas)) (h 0 d (omega arith))
     (near_all phase deltas (λ k e less. h (suc k) e (omega arith)))
 
 reference_first : (phase : ℕ) (deltas : List ℤ) → slice_get deltas 0 ≡ Some (pos 0) →

@@ -1,6 +1,6 @@
 -- How far a handset's fingers may be from the reference path.
-use Rattle.std.specs.Prelude.{◌≡◌, ◌≤◌, ℕ, ◌&&◌, Bool, List, ℤ, pos, negsuc, int_le, nat_lt}
-use Rattle.std.specs.Prelude.{unsigned_abs, IsTrue, All, Some, slice_get, if◌then◌else◌}
+use Rattle.std.specs.Prelude.{◌≡◌, ℕ, ◌&&◌, Bool, List, ℤ, pos, negsuc, int_le, nat_lt}
+use Rattle.std.specs.Prelude.{IsTrue, All, Some, slice_get, if◌then◌else◌}
 use Rattle.std.specs.Ordering.{int_eq}
 use Rattle.std.specs.List.{list_all, list_any}
 use Rattle.rake_finger.specs.declared.finger.Finger.{Finger}
@@ -40,7 +40,7 @@ low_in s = if all_begun s.first s.fingers then 0 else 1
 abbrev pub low_of : Tuning → ℕ
 low_of t = low_in (sync_stream t)
 
--- The fingers' deltas are small, and the first is the reference path's.
+-- The fingers are near the reference path, and the first is on it.
 pub record IsTuned (t : Tuning) : Type 0 where
-  pub near : All (λ d. unsigned_abs d ≤ 127) t.deltas
+  pub near : All (λ d. IsTrue (is_near d)) t.deltas
   pub first : slice_get t.deltas 0 ≡ Some (pos 0)
