@@ -1,35 +1,18 @@
 -- A cell that runs: its channels, its blocks, and the sample that is next.
-use Rattle.std.proofs.Common.{◌≡◌, ◌≢◌, ℕ, zero, suc, ◌+◌, ◌-◌, ◌*◌, ◌/◌, ◌%◌, ◌<◌, ◌≤◌, Bool, true}
-use Rattle.std.proofs.Common.{false, List, [], ◌∷◌, refl, sym, ap, ◌∙◌, arith, ℤ, pos, ◌+ℤ◌, ◌*ℤ◌}
-use Rattle.std.proofs.Common.{unsigned_abs, Option, Some, None, cond, replicate}
-use Rattle.std.proofs.Common.{◌++◌, length, length-append, map, get_or, FitsSigned}
-use Rattle.std.proofs.lemmas.Bool.{le-ltb}
-use Rattle.std.proofs.lemmas.Int.{ints, unsigned_abs-mul, fits_signed_from_abs}
+use Rattle.std.proofs.Common.{◌≡◌, ◌≢◌, ℕ, ◌+◌, ◌-◌, ◌*◌, ◌/◌, ◌%◌, ◌<◌, ◌≤◌}
+use Rattle.std.proofs.Common.{List, [], ◌∷◌, refl, sym, ap, ◌∙◌, arith, ℤ, ◌+ℤ◌, ◌*ℤ◌}
+use Rattle.std.proofs.Common.{◌++◌, length, map, get_or}
 use Rattle.std.proofs.lemmas.List.{length-map}
-use Rattle.std.specs.Int.{w8, w16}
-use Rattle.std.proofs.Math.Nat.{mul-le-mul_left}
-use Rattle.chip_core.specs.Bits.{binary, sign, parity, zip_with}
-use Rattle.chip_core.specs.Complex.{origin, plus, times, of_sample}
+use Rattle.chip_core.specs.Complex.{origin, times, of_sample}
 use Rattle.chip_core.specs.declared.sample.Pair.{Pair}
 use Rattle.chip_core.specs.declared.sample.Sample.{Sample}
-use Rattle.chip_core.proofs.Ring.{split, diff-times, diff-same, distrib_right}
 use Rattle.short_code.specs.Despread.{code_point}
 use Rattle.short_code.specs.ShortCode.{pilot_chip, chip_signs}
-use Rattle.walsh.specs.Walsh.{IsWithin, walsh}
 use Rattle.cell_plan.specs.declared.plan.CellPlan.{CellPlan}
-use Rattle.cell_plan.specs.declared.plan.PagingPlan.{PagingPlan}
-use Rattle.cell_plan.specs.declared.plan.SyncPlan.{SyncPlan}
-use Rattle.cell_plan.specs.declared.plan.TrafficPlan.{TrafficPlan}
-use Rattle.cdma_io.specs.SampleFile.{bits_of, HasBits}
-use Rattle.chip_core.specs.declared.width.Width.{Width}
-use Rattle.chip_core.specs.declared.width.Width.TheVariants.{Sixteen, Eight}
-use Rattle.cell_plan.specs.Plan.{most_part, loudness, gain_sum, paging_gains, sync_gain}
-use Rattle.cell_plan.specs.Plan.{traffic_gains}
-use Rattle.cell_plan.specs.Signal.{Carrier, amplitude, amplitudes, level, level_of, scaled}
-use Rattle.cell_plan.specs.Signal.{sent_chip, sync_carriers, paging_carrier, pilot_carrier}
-use Rattle.cell_plan.specs.Signal.{carriers, sample_of, symbol_of, traffic_carrier}
+use Rattle.cell_plan.specs.Signal.{Carrier, amplitudes, scaled}
+use Rattle.cell_plan.specs.Signal.{carriers, sample_of}
 use Rattle.cell_samples.specs.Running.{IsBlock}
-use Rattle.cell_plan.specs.Transmitter.{phase_at, point_of, IsPoint}
+use Rattle.cell_plan.specs.Transmitter.{phase_at, point_of}
 use Rattle.std.proofs.Common.{take, drop}
 use Rattle.cell_plan.proofs.Amplitudes.{few_channels, signal_of_carriers}
 use Rattle.cell_samples.specs.Channels.{ChannelState, carrier_of}

@@ -1,10 +1,6 @@
 -- The frames of channels whose encoder goes on from one to the next.
-use Rattle.std.proofs.Common.{◌≡◌, ℕ, zero, suc, ◌+◌, ◌-◌, ◌*◌, ◌≤◌, Bool, List, ◌++◌, length, drop}
-use Rattle.std.proofs.Common.{refl, sym, ap, ◌∙◌, arith, add-one}
-use Rattle.std.proofs.Math.Seq.{drop-append-add}
-use Rattle.chip_core.specs.Bits.{binary}
-use Rattle.chip_core.proofs.FieldLists.{length-binary}
-use Rattle.conv_code.specs.ConvCode.{code_symbols, state_after}
+use Rattle.std.proofs.Common.{◌≡◌, ℕ, ◌+◌, ◌-◌, ◌*◌, ◌≤◌, Bool, List, ◌++◌}
+use Rattle.std.proofs.Common.{refl, ap, ◌∙◌, arith}
 use Rattle.symbol_path.specs.SentOrder.{data_shape, sent, shape_of, size}
 use Rattle.quality_bits.specs.TrafficWords.{repeats_of}
 use Rattle.quality_bits.specs.declared.rate.Rate.{Rate}
@@ -13,7 +9,7 @@ use Rattle.cell_plan.specs.PageCycles.{cycle_symbols, frame_scrambling, paging_f
 use Rattle.cell_plan.specs.PageCycles.{scrambled}
 use Rattle.cell_samples.specs.declared.frame_source.FrameSource.{FrameSource}
 use Rattle.cell_samples.specs.declared.frame_source.FrameSource.TheVariants.{Sync, Paging}
-use Rattle.cell_plan.specs.Sendings.{bits_before, continued_symbols, sync_symbols}
+use Rattle.cell_plan.specs.Sendings.{continued_symbols, sync_symbols}
 use Rattle.cell_samples.specs.Continued as continued
 
 eight_of : (rate : Rate) → 8 ≤ paging_frame_size rate

@@ -3,7 +3,7 @@
 ghost use Rattle.std.specs.Prelude.{◌≡◌, ◌≢◌, ◌<◌, ◌≤◌, ◌+◌, ◌++◌, ◌%◌, ◌^◌, length, map};
 ghost use Rattle.std.specs.Prelude.{take, drop};
 ghost use Rattle.std.specs.Prelude.{All};
-ghost use Rattle.std.specs.Prelude.{Ok, Err, IsOk, IfOk, IfErr};
+ghost use Rattle.std.specs.Prelude.{Ok, IfOk};
 ghost use Rattle.chip_core.specs.Complex.{of_sample};
 ghost use Rattle.cdma_io.specs.SampleFile.{HasBits, IsLawfulHeader};
 ghost use Rattle.cell_samples.specs.Channels.{carrier_of};

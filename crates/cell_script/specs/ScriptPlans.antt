@@ -1,5 +1,5 @@
 -- What a statement says, within its bounds.
-use Rattle.std.specs.Prelude.{◌≤◌, ◌<◌, length}
+use Rattle.std.specs.Prelude.{◌≤◌, ◌<◌}
 use Rattle.chip_core.specs.Complex.{norm}
 use Rattle.sync_message.specs.SyncMessage.{IsSyncMessage}
 use Rattle.paging_message.specs.Admitted.{HasMessage}
