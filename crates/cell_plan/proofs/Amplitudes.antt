@@ -1,5 +1,5 @@
 -- The amplitudes of a cell's channels, and the samples that they make.
-use Rattle.std.proofs.Common.{◌≡◌, ℕ, zero, suc, ◌+◌, ◌-◌, ◌*◌, ◌/◌, ◌%◌, ◌<◌, ◌≤◌, Bool, true}
+use Rattle.std.proofs.Common.{◌≡◌, ℕ, zero, suc, ◌+◌, ◌-◌, ◌*◌, ◌/◌, ◌%◌, ◌≤◌, Bool, true}
 use Rattle.std.proofs.Common.{false, List, [], ◌∷◌, refl, sym, ap, ◌∙◌, arith, ℤ, pos, ◌+ℤ◌, ◌*ℤ◌}
 use Rattle.std.proofs.Common.{unsigned_abs, Option, Some, None, cond, replicate}
 use Rattle.std.proofs.Common.{◌++◌, length, length-append, map, get_or, FitsSigned}
@@ -14,8 +14,7 @@ use Rattle.chip_core.specs.declared.sample.Pair.{Pair}
 use Rattle.chip_core.specs.declared.sample.Sample.{Sample}
 use Rattle.chip_core.proofs.Ring.{split, diff-times, diff-same, distrib_right}
 use Rattle.short_code.specs.Despread.{code_point}
-use Rattle.short_code.specs.ShortCode.{chip_signs}
-use Rattle.walsh.specs.Walsh.{IsWithin, walsh}
+use Rattle.walsh.specs.Walsh.{walsh}
 use Rattle.cell_plan.specs.declared.plan.CellPlan.{CellPlan}
 use Rattle.cell_plan.specs.declared.plan.PagingPlan.{PagingPlan}
 use Rattle.cell_plan.specs.declared.plan.SyncPlan.{SyncPlan}
@@ -29,7 +28,6 @@ use Rattle.cell_plan.proofs.MachineInts.{more_most}
 use Rattle.cell_plan.specs.Signal.{Carrier, amplitude, amplitudes, level, level_of, scaled}
 use Rattle.cell_plan.specs.Signal.{sent_chip, sync_carriers, paging_carrier, pilot_carrier}
 use Rattle.cell_plan.specs.Signal.{carriers, sample_of, symbol_of, traffic_carrier}
-use Rattle.cell_plan.specs.Transmitter.{IsPoint}
 
 -- ROWS
 
@@ -106,9 +104,6 @@ signal_of_carriers plan t =
 sign_unit : (b : Bool) → unsigned_abs (sign b) ≤ 1
 sign_unit true = omega arith
 sign_unit false = omega arith
-
-pub point_unit : (chip : Bool × Bool) → IsPoint (chip_signs chip)
-point_unit chip = (sign_unit chip.0, sign_unit chip.1)
 
 product_most : (a b : ℤ) → unsigned_abs b ≤ 1 → unsigned_abs (a *ℤ b) ≤ unsigned_abs a
 product_most a b unit =
@@ -192,15 +187,6 @@ chip_most plan chip z is =
     let most : unsigned_abs sum ≤ gain_sum plan =
     omega (arith, amplitudes_most chip (carriers plan), plan_gains plan) in
     rw is (scaled_most sum plan.link.factor.i plan.link.factor.q (gain_sum plan) most)
-
--- a part of the link of a lawful plan
-pub factor_most : (plan : CellPlan) → 0 < plan.pilot.gain → loudness plan ≤ 32767 →
-    IsWithin 32768 plan.link.factor
-factor_most plan some loud =
-    let link = unsigned_abs plan.link.factor.i + unsigned_abs plan.link.factor.q in
-    let few : 1 ≤ gain_sum plan = omega (arith, some) in
-    let least : link * 1 ≤ link * gain_sum plan = mul-le-mul_left link few in
-    (omega (arith, least, loud), omega (arith, least, loud))
 
 -- a cell has few channels
 one_sync : (plan : CellPlan) (sync : Option SyncPlan) → length (sync_carriers plan sync) ≤ 1

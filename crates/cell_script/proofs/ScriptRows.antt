@@ -236,35 +236,6 @@ abbrev pub IsAlike : Judge → Judge → Type 0
 IsAlike judge more =
     (more.link ≡ judge.link) × (more.pilot ≡ judge.pilot) × (more.sync ≡ judge.sync)
 
-pub judged_paging : (judge more : Judge) (plan : CellPlan) (l : PagingLine) →
-    IsAlike judge more →
-    ((ls : List ChannelLine) → HasSeen judge.channels ls →
-    HasSeen more.channels (ls ++ channel l.number l.gain ∷ [])) →
-    plan.traffic ≡ [] → HasJudged judge plan →
-    HasJudged more (record plan { paging = plan.paging ++ opened l ∷ [] })
-judged_paging judge more plan l alike step none before = record {
-  link = alike.0 ∙ before.link;
-  pilot = alike.1 ∙ before.pilot;
-  sync = alike.2 ∙ before.sync;
-  channels = subst (HasSeen more.channels) (sym (lines-opened plan.paging plan.traffic l none))
-      (step (channel_lines plan) before.channels);
-}
-
-pub judged_traffic : (judge more : Judge) (plan : CellPlan) (l : TrafficLine) →
-    IsAlike judge more →
-    ((ls : List ChannelLine) → HasSeen judge.channels ls →
-    HasSeen more.channels (ls ++ channel l.row l.gain ∷ [])) →
-    HasJudged judge plan →
-    HasJudged more (record plan { traffic = plan.traffic ++ opened_traffic l ∷ [] })
-judged_traffic judge more plan l alike step before = record {
-  link = alike.0 ∙ before.link;
-  pilot = alike.1 ∙ before.pilot;
-  sync = alike.2 ∙ before.sync;
-  channels = subst (HasSeen more.channels)
-      (sym (lines-opened_traffic (paging_lines plan.paging) plan.traffic l))
-      (step (channel_lines plan) before.channels);
-}
-
 -- ---- faults
 
 gains-both : (ls more : List ChannelLine) → gains_of (ls ++ more) ≡ gains_of ls + gains_of more

@@ -152,17 +152,6 @@ octet_longer bits next octet k next_is long =
       long,
     )
 
-pub octets_added : (octets : List ℕ) (bits : List Bool) (k : ℕ) → length octets ≤ k →
-    flat_map (binary 8) octets ≡ bits ++ flat_map (binary 8) (drop k octets) →
-    bits ≡ flat_map (binary 8) octets
-octets_added octets bits k past before =
-    sym (before ∙ ap (λ (r : List ℕ). bits ++ flat_map (binary 8) r) (drop_all k octets past)
-    ∙ append-none bits)
-  where
-    append-none : (xs : List Bool) → xs ++ [] ≡ xs
-    append-none [] = refl
-    append-none (x ∷ xs) = ap (λ (ys : List Bool). x ∷ ys) (append-none xs)
-
 -- ---- padding
 
 pub clear_bit : (bits : List Bool) (from k : ℕ) → k < length bits → get_or bits k false ≡ false →
@@ -175,10 +164,6 @@ pub set_bit : (bits : List Bool) (from k : ℕ) → k < length bits → get_or b
     all_clear (drop from bits) ≡ all_clear (drop k bits) → false ≡ all_clear (drop from bits)
 set_bit bits from k inside set before =
     sym (before ∙ at_drop_more all_clear bits k false inside ∙ cond-true _ _ _ set)
-
-pub clear_to_the_end : (bits : List Bool) (from k : ℕ) → length bits ≤ k →
-    all_clear (drop from bits) ≡ all_clear (drop k bits) → true ≡ all_clear (drop from bits)
-clear_to_the_end bits from k past before = sym (before ∙ ap all_clear (drop_all k bits past))
 
 -- ---- power control bits
 

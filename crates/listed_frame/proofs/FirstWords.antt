@@ -2,7 +2,7 @@
 use Rattle.std.proofs.Common.{◌≡◌, ℕ, zero, suc, ◌-◌, ◌/◌, ◌<◌, ◌≤◌, Bool, true, false, List}
 use Rattle.std.proofs.Common.{[], ◌∷◌, ◌++◌, length, map, take, get_or, refl, sym, ap, subst, ◌∙◌}
 use Rattle.std.proofs.Common.{arith, ℤ, Option, None, Some}
-use Rattle.std.specs.Prelude.{if◌then◌else◌, nat_eq, nat_lt, min, All}
+use Rattle.std.specs.Prelude.{if◌then◌else◌, nat_eq, nat_lt, All}
 use Rattle.std.specs.List.{list_any}
 use Rattle.std.proofs.lemmas.List.{take-map, get_or-map, length-map}
 use Rattle.std.proofs.lemmas.Nat.{pow_pos}
@@ -169,7 +169,3 @@ found_words k softs row entries fills long h =
     by_definition values Zero n k (map word_of entries) (bits_least row) h.first
     ∙ first_words-same (score_of values) (score_in softs row) n k (bits_least row)
     (λ w long'. gathered_score softs row w fills long long')
-
--- there is at least one
-pub some_found : (k n : ℕ) → 1 ≤ k → 1 ≤ min k (word_count Zero n)
-some_found k n some = let all = pow_pos (n - 8) in omega (arith, some, all)

@@ -2,7 +2,7 @@
 use Rattle.std.proofs.Common.{◌≡◌, ℕ, zero, suc, ◌+◌, ◌*◌, ◌<◌, ◌≤◌, Bool, List, [], ◌∷◌, ◌++◌, length, get_or, map, take, drop, refl, sym, ap, ◌∙◌, arith, Some, None}
 use Rattle.std.proofs.lemmas.Bool.{le-leb, lt-leb}
 use Rattle.std.proofs.lemmas.List.{length-drop, length-take-le, take_all}
-use Rattle.std.proofs.Math.Nat.{mul-le-mul_right, suc-mul}
+use Rattle.std.proofs.Math.Nat.{suc-mul}
 use Rattle.chip_core.specs.Bits.{number}
 use Rattle.chip_core.specs.Fields.{total, AreWidths}
 use Rattle.chip_core.specs.Readings.{number_at, values_at, column_at}
@@ -17,11 +17,6 @@ pub record FieldsRead (ws : List ℕ) (i : ℕ) (bits : List Bool) (values : Lis
   pub read : values ≡ values_at (take i ws) bits
   pub left : reader ≡ drop (total (take i ws)) bits
   pub room : total (take i ws) ≤ length bits
-
-pub fields_begin : (ws : List ℕ) (bits reader : List Bool) (values : List ℕ) → values ≡ [] →
-    reader ≡ bits → FieldsRead ws 0 bits values reader
-fields_begin ws bits reader values none all =
-    record { read = none; left = all; room = omega arith }
 
 pub length-values : (ws : List ℕ) (bits : List Bool) → length (values_at ws bits) ≡ length ws
 length-values [] bits = refl
@@ -103,9 +98,6 @@ summed_more ws i size w next are h so_far width push =
       small = omega (arith, push, so_far.small, width, one.1);
     }
 
-pub summed_all : (ws : List ℕ) (i size : ℕ) → length ws ≤ i → Summed ws i size → size ≡ total ws
-summed_all ws i size h so_far = so_far.value ∙ ap total (take_all i ws h)
-
 -- the first rows of a table have widths where all do
 pub widths_taken : {A : Type 0} (f : A → ℕ) (rows : List A) (j : ℕ) → AreWidths (map f rows) →
     AreWidths (map f (take j rows))
@@ -123,20 +115,6 @@ pub record PlacesRead (size place width i : ℕ) (bits : List Bool) (at_place : 
     (numbers : List ℕ) : Type 0 where
   pub there : at_place ≡ i * size + place
   pub read : numbers ≡ column_at size place width i bits
-
-pub places_begin : (size place width : ℕ) (bits : List Bool) (numbers : List ℕ) →
-    numbers ≡ [] → PlacesRead size place width 0 bits place numbers
-places_begin size place width bits numbers none =
-    record { there = omega arith; read = none }
-
--- a record that is read has all its bits
-pub places_room : (size place width i count : ℕ) (bits : List Bool) (at_place : ℕ)
-    (numbers : List ℕ) → i < count → count * size ≤ length bits → place + width ≤ size →
-    PlacesRead size place width i bits at_place numbers →
-    at_place + width ≤ length bits
-places_room size place width i count bits at_place numbers h room part so_far =
-    let next : suc i * size ≤ count * size = mul-le-mul_right size (omega (arith, h)) in
-    omega (arith, next, suc-mul i size, room, part, so_far.there)
 
 pub places_more : (size place width i : ℕ) (bits : List Bool) (at_place n after : ℕ)
     (numbers next : List ℕ) → PlacesRead size place width i bits at_place numbers →

@@ -9,7 +9,7 @@ use Rattle.std.proofs.lemmas.List.Folds.{list_all-append, list_any-append}
 use Rattle.std.proofs.lemmas.Option.{get_or_from_slice_get, slice_get_within}
 use Rattle.rake_finger.specs.declared.finger.Finger.{Finger}
 use Rattle.rake_finger.specs.declared.form.Form.{Form}
-use Rattle.mobile_core.specs.Near.{is_near, all_near, has_reference, AreNear, have_rows, all_begun}
+use Rattle.mobile_core.specs.Near.{is_near, all_near, has_reference, have_rows, all_begun}
 use Rattle.mobile_core.specs.Streams.{frame_end, finger_end}
 use Rattle.mobile_core.specs.Tuning.{finger_of, fingers_of}
 
@@ -42,11 +42,6 @@ near_here (g ∷ fingers) zero f h read =
     ap (λ (k : Finger). is_near k.delta) (sym same) ∙ here
 near_here (g ∷ fingers) (suc i) f h read =
     near_here fingers i f (and_parts (is_near g.delta) (all_near fingers) h).1 read
-
-pub near_at : (fingers : List Finger) (i : ℕ) (f : Finger) → AreNear fingers →
-    slice_get fingers i ≡ Some f → is_near f.delta ≡ true
-near_at fingers i f h read =
-    near_here fingers i f (and_parts (all_near fingers) (has_reference fingers) h).0 read
 
 -- one more finger
 pub near_more : (fingers : List Finger) (f : Finger) → all_near fingers ≡ true →

@@ -300,11 +300,3 @@ all_end u fingers = frame_end fingers Sync u
 pub timed_of : (t : Tuning) → AreNear (sync_stream t).fingers →
     IsTimed t.count (sync_stream t) (near.low_of t)
 timed_of t h = timed_in t.count (sync_stream t) h
-
-pub low_from : (t : Tuning) → AreBegun (sync_stream t).first (sync_stream t).fingers →
-    near.low_of t ≡ 0
-low_from t h = rw h refl
-
-pub low_none : (t : Tuning) → all_begun (sync_stream t).first (sync_stream t).fingers ≡ false →
-    near.low_of t ≡ 1
-low_none t h = rw h refl

@@ -12,7 +12,6 @@ use Rattle.mobile_core.specs.Moments.{frames_at, frames_behind, heard_from, kept
 use Rattle.mobile_core.specs.Moments.{messages_at, messages_behind, moment_place, moments_before}
 use Rattle.mobile_core.specs.Moments.{sets_at, sets_behind, sets_events}
 use Rattle.mobile_core.specs.PagingEvents.{page_event, pages_behind}
-use Rattle.mobile_core.specs.PagingMonitoring.{SetsMark}
 use Rattle.mobile_core.specs.SetsKeeping.{coming_place}
 use Rattle.mobile_core.specs.TrafficMonitoring.{FramesWaitFrom, HearsFrames, HearsFramesBehind}
 use Rattle.mobile_core.specs.TrafficMonitoring.{IsFrameDue, IsUnheard, traffic_events_left}
@@ -296,20 +295,6 @@ module _ (t : Tuning) (mark : Option Mark) (heard : List Sample) (pages : List E
       }
 
 -- WHERE A MARK IS SET
--- an open receiver has its mark
-pub stays_followed : (t : Tuning) (heard : List Sample) (pages : List Event)
-    (before after : Option Mark) → SetsMark (length heard) before after →
-    (receiver : Option TrafficReceiver) (r : TrafficReceiver) → receiver ≡ Some r →
-    HearsFramesBehind t before receiver heard pages → after ≡ before
-stays_followed t heard pages before after sets None r e behind = absurd (cc)
-stays_followed t heard pages before after sets (Some r') r e behind =
-    elim sets [
-      | inl same ↦ same
-      | inr new ↦
-          let set = behind.set_is in
-          let none = new.0 in
-          absurd (cc)
-    ]
 
 -- nothing is due of a receiver that has heard nothing
 none_opened : (r : TrafficReceiver) → r.have ≡ r.next → r.kept ≡ None → r.sets.due ≡ false →
@@ -407,12 +392,6 @@ frames_few (Some r) sound =
     let order = is.next_have in
     let few = is.keeper.few in
     omega (arith, least, most, order, few)
-
--- what an event tells of the sets leaves what is left
-pub noted_left : (t : Tuning) (traffic : Traffic) (m : Mark) (heard : List Sample)
-    (r : TrafficReceiver) (event : Event) →
-    traffic_left_of t traffic m heard (noted_by event r) ≡ traffic_left_of t traffic m heard r
-noted_left t traffic m heard r event = refl
 
 -- a receiver that isn't open has no mark
 pub not_open : (t : Tuning) (traffic : Traffic) (before : Option Mark)

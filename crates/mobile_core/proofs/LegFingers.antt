@@ -32,19 +32,6 @@ leg_few phase deltas leg few =
       | inr e ↦ rw e (omega arith)
     ]
 
-pub all_few : (phase : ℕ) (deltas : List ℤ) (legs : List Leg) → length deltas ≤ 3 →
-    length (all_fingers phase deltas legs) ≤ places_in legs
-all_few phase deltas [] few = omega arith
-all_few phase deltas (leg ∷ legs) few =
-    let one = leg_few phase deltas leg few in
-    let rest = all_few phase deltas legs few in
-    omega (
-      arith,
-      one,
-      rest,
-      length-append (leg_fingers phase deltas leg) (all_fingers phase deltas legs),
-    )
-
 leg_some : (phase : ℕ) (deltas : List ℤ) (leg : Leg) → 1 ≤ length deltas →
     1 ≤ length (leg_fingers phase deltas leg)
 leg_some phase deltas leg some =

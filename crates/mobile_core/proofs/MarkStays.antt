@@ -493,12 +493,3 @@ module _ (t : Tuning) (near : AreNear (sync_stream t).fingers) where
   messages_by_one_mark followed samples n n' more =
       by_one_mark (λ traffic m. messages_at t traffic m samples n) followed samples n n' more
       (messages_before_mark followed samples n)
-
-  -- And so is the moment that lies there.
-  pub sets_by_one_mark : (followed : Option Traffic) (samples : List Sample) (n n' : ℕ) →
-      n ≤ n' →
-      sets_behind t followed (mark t samples n) samples n
-      ≡ sets_behind t followed (mark t samples n') samples n
-  sets_by_one_mark followed samples n n' more =
-      by_one_mark (λ traffic m. sets_at t traffic m samples n) followed samples n n' more
-      (sets_before_mark followed samples n)

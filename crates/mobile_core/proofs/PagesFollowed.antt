@@ -100,34 +100,6 @@ module _ (t : Tuning) (mark : Option Mark) (heard : List Sample) where
 -- WHERE A MARK IS SET
 module _ (t : Tuning) (heard : List Sample) (before after : Option Mark)
     (sets : SetsMark (length heard) before after) where
-  -- an open receiver has its mark
-  pub stays_open : (receiver : Option PagingReceiver) (r : PagingReceiver) → receiver ≡ Some r →
-      HearsBehind t before receiver heard → after ≡ before
-  stays_open None r e behind = absurd (cc)
-  stays_open (Some r') r e behind =
-      elim sets [
-        | inl same ↦ same
-        | inr new ↦
-            let set = behind.set_is in
-            let none = new.0 in
-            absurd (cc)
-      ]
-
-  -- a mark that lies within the samples was set before
-  pub stays_closed : (m : Mark) → after ≡ Some m → m.sample ≤ length heard → after ≡ before
-  stays_closed m e late =
-      elim sets [
-        | inl same ↦ same
-        | inr new ↦ let later = new.1 m e in absurd (omega (arith, later, late))
-      ]
-
-  -- where none is set now, none was before
-  pub stays_unset : after ≡ None → before ≡ None
-  stays_unset e =
-      elim sets [
-        | inl same ↦ sym same ∙ e
-        | inr new ↦ new.0
-      ]
 
 -- a receiver that is open now has heard nothing
 module _ (t : Tuning) (heard : List Sample) (m : Mark) where

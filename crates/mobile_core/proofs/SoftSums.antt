@@ -1,11 +1,11 @@
 -- The soft values of the last frames, and what their absolute values add up to.
-use Rattle.std.proofs.Common.{◌≡◌, ℕ, zero, suc, ◌+◌, ◌-◌, ◌*◌, ◌^◌, ◌<◌, ◌≤◌}
-use Rattle.std.proofs.Common.{List, [], ◌∷◌, ◌++◌, length, take, drop, refl, ap, ◌∙◌, arith, ℤ}
+use Rattle.std.proofs.Common.{◌≡◌, ℕ, zero, suc, ◌+◌, ◌-◌, ◌*◌, ◌≤◌}
+use Rattle.std.proofs.Common.{List, [], ◌∷◌, ◌++◌, length, drop, refl, ap, ◌∙◌, arith, ℤ}
 use Rattle.std.proofs.Common.{pos, replicate, length-drop}
 use Rattle.std.specs.Prelude.{sum_by, unsigned_abs}
 use Rattle.std.proofs.lemmas.List.{drop-append-le, drop-drop, drop-replicate}
 use Rattle.std.proofs.lemmas.List.Folds.{sum_by-replicate}
-use Rattle.std.proofs.lemmas.List.Sums.{sum_by-append, sum_by-take-drop}
+use Rattle.std.proofs.lemmas.List.Sums.{sum_by-append}
 use Rattle.rake_finger.specs.Soft.{symbols, soft_bound}
 use Rattle.rake_finger.specs.declared.form.Form.{Form}
 use Rattle.rake_finger.specs.declared.form.Form.TheVariants.{Sync, Data}
@@ -28,23 +28,6 @@ frames_fit symbols (suc zero) few most = omega arith
 frames_fit symbols (suc (suc zero)) few most = omega arith
 frames_fit symbols (suc (suc (suc zero))) few most = omega arith
 frames_fit symbols (suc (suc (suc (suc n)))) few most = absurd (omega arith)
-
-pub span_small : (symbols : ℕ) (softs : List ℤ) (frames : ℕ) → AreSmall symbols softs →
-    0 < frames → frames ≤ 3 → sum_by unsigned_abs (last_softs symbols frames softs) ≤ 2 ^ 62
-span_small symbols softs zero small some few = absurd (omega arith)
-span_small symbols softs (suc zero) small some few = let e = small.one in omega arith
-span_small symbols softs (suc (suc zero)) small some few = let e = small.two in omega arith
-span_small symbols softs (suc (suc (suc zero))) small some few =
-    let e = small.three in omega arith
-span_small symbols softs (suc (suc (suc (suc n)))) small some few = absurd (omega arith)
-
-pub part_small : (symbols : ℕ) (softs : List ℤ) (frames many : ℕ) → AreSmall symbols softs →
-    0 < frames → frames ≤ 3 →
-    sum_by unsigned_abs (take many (last_softs symbols frames softs)) ≤ 2 ^ 62
-part_small symbols softs frames many small some few =
-    let rest : List ℤ = last_softs symbols frames softs in
-    let all = span_small symbols softs frames small some few in
-    omega (arith, sum_by-take-drop unsigned_abs rest many, all)
 
 -- ONE FRAME MORE
 -- the last frames, with one frame more behind them

@@ -20,17 +20,6 @@ pub ends_here : {place n : ℕ} (event : Option Event) → IfSome event (λ e. a
 ends_here None ends same = tt
 ends_here (Some event) ends same = omega (arith, ends, same)
 
--- nothing was taken, and nothing given
-pub steps_none : (mobile : Mobile) (samples : List Sample) →
-    Steps mobile mobile samples (record { taken = 0; event = None })
-steps_none mobile samples = record {
-  most = omega arith;
-  room = omega arith;
-  fewer = omega arith;
-  ends = λ t heard given st. tt;
-  stands = λ t heard given st. rw (append-nil heard, append-nil given) st;
-}
-
 module _ {one two three : Mobile} {samples : List Sample} {n : ℕ}
     (before : Steps one two samples (record { taken = n; event = None })) where
   -- samples were taken, then an event may have been given

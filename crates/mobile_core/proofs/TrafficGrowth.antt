@@ -19,9 +19,8 @@ use Rattle.mobile_core.specs.declared.mark.Mark.{Mark}
 use Rattle.chip_core.specs.declared.assignment.Traffic.{Traffic}
 use Rattle.mobile_core.proofs.FrameBounds.{AreCloseAll, known_later}
 use Rattle.mobile_core.proofs.FrameGrowth.{frames_left_all, frames_left_none, frames_none}
-use Rattle.mobile_core.proofs.FrameGrowth.{frames_sooner}
 use Rattle.mobile_core.proofs.MessageGrowth.{messages_left_all, messages_left_none}
-use Rattle.mobile_core.proofs.MessageGrowth.{messages_none, messages_sooner}
+use Rattle.mobile_core.proofs.MessageGrowth.{messages_none}
 use Rattle.mobile_core.proofs.MomentGrowth.{first_same, noted-append}
 use Rattle.chip_core.proofs.Ranges.{flat_map-places-more, flat_map_ext_places}
 
@@ -78,13 +77,6 @@ module _ (t : Tuning) (traffic : Traffic) (m : Mark) (legs : ℕ → List Leg) w
         (λ k above.
         let later = known_later t traffic m legs close next k (omega (arith, above)) in
         omega (arith, known, later))
-
-    pub told_sooner : (xs ys : List Sample) (n : ℕ) → n ≤ length xs →
-        told_at t traffic m legs (xs ++ ys) n ≡ told_at t traffic m legs xs n
-    told_sooner xs ys n h =
-        let frames = frames_sooner t traffic m legs xs ys n h in
-        let messages = messages_sooner t traffic m legs close xs ys n h in
-        rw (frames, messages) refl
 
 -- A LIST THAT HAS GROWN BY ITS LAST PIECE
 none_more : {A : Type 0} (g : ℕ → List A) (a d : ℕ) →

@@ -18,9 +18,6 @@ pub at_most_greatest : (samples : List Sample) (k : ℕ) → k < 32768 →
     energy samples k ≤ greatest samples
 at_most_greatest samples k lt = (best_phase-is samples).greatest k (omega arith) lt
 
-pub nothing_found : (samples : List Sample) (from : ℕ) → IsFound samples from from None
-nothing_found samples from = record { real = tt; first = λ k low high e. absurd (omega arith) }
-
 -- a phase whose bound is below a value of the word isn't the best
 pub left_out : (samples : List Sample) (phase limit : ℕ) → HasBoundBelow samples phase limit →
     limit ≤ greatest samples → IsFound samples phase (phase + 1) None
@@ -32,14 +29,6 @@ left_out samples phase limit has low = record {
       let under = bounds samples phase (64 * has.0) in
       let strictly = has.2 in
       absurd (omega arith);
-}
-
-pub one_found : (samples : List Sample) (b : Best) → b.energy ≡ energy samples b.phase →
-    IsFound samples b.phase (b.phase + 1) (Some b)
-one_found samples b is = record {
-  real = (is, omega arith, omega arith);
-  first = λ k from to e. let same : k ≡ b.phase = omega arith in
-      (is ∙ ap (energy samples) (sym same) ∙ e, omega arith);
 }
 
 pub both_found : (samples : List Sample) (from middle to : ℕ) (left right : Option Best) →

@@ -1,12 +1,12 @@
 -- In each complete run of the workers the best phase is evaluated.
 use Rattle.std.proofs.Common.{◌≡◌, ◌⊎◌, ℕ, zero, suc, ◌*◌, ◌<◌, ◌≤◌, max, List, [], ◌∷◌, set, refl, sym, ap, ◌∙◌, subst, ⊎_elim, inl, inr, arith}
-use Rattle.std.specs.Prelude.{Option, Some, None, Contains, All, slice_get, MatchOption}
+use Rattle.std.specs.Prelude.{Some, None, Contains, All, slice_get}
 use Rattle.std.proofs.lemmas.Bool.{cases_order, cases_lt}
 use Rattle.std.proofs.lemmas.List.Elements.{All-set, All-contains, All-get_or, All-nil, All-cons, All-head, All-tail}
 use Rattle.std.proofs.lemmas.Option.{slice_get_within, get_or_from_slice_get}
 use Rattle.chip_core.specs.declared.sample.Sample.{Sample}
 use Rattle.pilot_search.specs.Search.{energy, best_phase}
-use Rattle.pilot_search.specs.Bounds.{greatest, bound, HasBoundBelow, HasNoBoundBelow}
+use Rattle.pilot_search.specs.Bounds.{greatest, bound, HasBoundBelow}
 use Rattle.pilot_search.specs.SearchRun.{Worker, State, Step, Evaluate, Publish, Read, Skip, Goes, Run, Parts, IsDone, FindsBest, ComesFirst, BestComesFirst, IsTry}
 use Rattle.pilot_search.proofs.BoundLemmas.{bounds}
 use Rattle.pilot_search.proofs.FoundLemmas.{at_most_greatest}
@@ -237,10 +237,3 @@ told_is_try samples phase read e is old k w at fresh seen =
         ap (λ (n : ℕ). let s : State = record mid { shared = max mid.shared n } in s) is,
       ),
     )
-
--- a try with either answer
-pub is_try : (samples : List Sample) (phase read : ℕ) (answer : Option ℕ) →
-    MatchOption answer (HasBoundBelow samples phase read) (λ e. (e ≡ energy samples phase) ×
-    HasNoBoundBelow samples phase read) → IsTry samples phase read answer
-is_try samples phase read None h = left_is_try samples phase read h
-is_try samples phase read (Some e) h = told_is_try samples phase read e h.0

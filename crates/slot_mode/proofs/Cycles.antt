@@ -7,7 +7,7 @@ use Rattle.std.proofs.Math.Nat.{div-add-mod, add-mod-mod, add-mul-mod_self_right
 use Rattle.std.proofs.Math.Nat.{mod-mod_of_dvd, dvd-mul_right, mul_assoc}
 use Rattle.frame_decoder.proofs.Parts.{within}
 use Rattle.slot_mode.specs.Slots.{slot_of, period, next_monitored}
-use Rattle.slot_mode.specs.Laws.{ComesAgain, ComesInTime, ComesOnce, HasOneRemainder}
+use Rattle.slot_mode.specs.Laws.{ComesAgain, ComesInTime, ComesOnce}
 use Rattle.slot_mode.specs.Laws.{IsAmongShorter}
 
 -- a cycle has slots
@@ -89,11 +89,6 @@ comes_once from key cycle time first last is =
     same_in_row from p time (next_monitored from key cycle) first last next.0 next.1
     (eqb-true (time % p) (slot_of key % p) is
     ∙ sym (eqb-true (next_monitored from key cycle % p) (slot_of key % p) next.2))
-
-pub one_remainder : HasOneRemainder
-one_remainder one other key cycle is is' =
-    eqb-true (one % period cycle) (slot_of key % period cycle) is
-    ∙ sym (eqb-true (other % period cycle) (slot_of key % period cycle) is')
 
 -- a longer cycle is whole shorter ones
 longer : (cycle more : ℕ) → period (cycle + more) ≡ period cycle * 2 ^ more

@@ -1,11 +1,9 @@
 -- The frames of a slot.
-use Rattle.std.proofs.Common.{◌≡◌, ◌≤◌, ℕ, zero, suc, ◌+◌, ◌-◌, ◌*◌, List, ◌++◌, length, take, drop}
-use Rattle.std.proofs.Common.{append_assoc, sym, ap, ◌∙◌, arith, ℤ, sum_by, unsigned_abs}
+use Rattle.std.proofs.Common.{◌≡◌, ◌≤◌, ℕ, zero, suc, ◌+◌, ◌-◌, List, ◌++◌, length, take, drop}
+use Rattle.std.proofs.Common.{append_assoc, sym, ap, ◌∙◌, arith, ℤ}
 use Rattle.std.proofs.Math.Seq.{drop-append-add}
 use Rattle.std.proofs.lemmas.List.{drop-append-le, take-append-le, length-drop}
-use Rattle.std.proofs.lemmas.List.Sums.{sum_by-take-drop, sum_by-take-le}
 use Rattle.frame_decoder.specs.Spans.{paging_channel, own_bits}
-use Rattle.slot_mode.specs.Frames.{span_first, span_end, span_softs}
 use Rattle.slot_mode.specs.Laws.{IsHeardAsEver}
 
 -- a part of the soft values of a slot, wherever the slot lies
@@ -30,13 +28,3 @@ heard_as_ever rate before softs behind (suc (suc zero)) long low high =
     (sym (part 384 1152 before softs behind (omega (arith, long))))
 heard_as_ever rate before softs behind (suc (suc (suc n))) long low high =
     absurd (omega (arith, high))
-
--- a span's soft values are no more than those of the slot
-pub span_is_small : (softs : List ℤ) (frame : ℕ) →
-    sum_by unsigned_abs (span_softs softs frame) ≤ sum_by unsigned_abs softs
-span_is_small softs frame =
-    let from = 384 * span_first frame in
-    let count = 384 * (span_end frame - span_first frame) in
-    let parts = sum_by-take-drop unsigned_abs softs from in
-    let part = sum_by-take-le unsigned_abs (drop from softs) count in
-    omega (arith, parts, part)

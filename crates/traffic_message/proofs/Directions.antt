@@ -116,19 +116,6 @@ length-added extra =
       length-binary 3 (length extra / 8),
     )
 
-pub length-no_search : length (spelled (handoff.search_fields None)) ≡ 1
-length-no_search = omega (arith, length-append (binary 1 0) [], length-binary 1 0)
-
-pub length-search : (s : Search) → length (spelled (handoff.search_fields (Some s))) ≡ 25
-length-search s =
-    let vs = handoff.search_values s in
-    omega (
-      arith,
-      length-append (binary 1 1) (spelled (in_widths search_widths vs)),
-      length-binary 1 1,
-      length-in_widths search_widths vs refl,
-    )
-
 pub length-direction : (m : DirectionFields) →
     length (handoff.direction_bits m)
     ≡ 13 + length (spelled (handoff.search_fields m.search)) + length m.extra

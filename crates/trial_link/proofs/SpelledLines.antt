@@ -1,6 +1,6 @@
 -- Lines read back: what each kind of statement is, from the text that it is written with.
 use Rattle.std.proofs.Common.{◌≡◌, ℕ, ◌+◌, ◌*◌, ◌/◌, ◌%◌, ◌^◌, ◌<◌, ◌≤◌, Bool, true, false, List}
-use Rattle.std.proofs.Common.{[], ◌∷◌, ◌++◌, length, refl, sym, ap, ◌∙◌, arith, Some, codes}
+use Rattle.std.proofs.Common.{[], ◌++◌, length, refl, sym, ap, ◌∙◌, arith, Some, codes}
 use Rattle.std.proofs.Common.{decimal, nat_le, ◌&&◌, ◌==◌, option_map, take, length-append}
 use Rattle.std.proofs.lemmas.Bool.{and_parts, cond-true, eq-eqb, leb-true}
 use Rattle.chip_core.specs.Bits.{number}
@@ -25,13 +25,12 @@ use Rattle.cell_script.specs.ScriptLines.{traffic_in}
 use Rattle.cell_plan.specs.Stated.{IsStatedCell}
 use Rattle.cell_script.specs.ScriptValues.{bits_in, commands_in, number_up_to, serial_number_in}
 use Rattle.cell_script.specs.ScriptValues.{state_in}
-use Rattle.cell_script.specs.Script.{is_line}
 use Rattle.trial_link.specs.Spelling.{cell_text, form_bit, frame_text, page_text, traffic_text}
 use Rattle.cell_plan.specs.TrafficFrames.{IsTrafficFrame}
 use Rattle.cell_script.proofs.ScriptTables.{traffic_read}
 use Rattle.trial_link.proofs.SpelledBytes.{are_within, bit_text_short, bit_text_within}
 use Rattle.trial_link.proofs.SpelledBytes.{decimal_short, decimal_within, digits_of_long}
-use Rattle.trial_link.proofs.SpelledBytes.{digits_of_within, is_line-within, serial_long}
+use Rattle.trial_link.proofs.SpelledBytes.{digits_of_within, serial_long}
 use Rattle.trial_link.proofs.SpelledBytes.{serial_within}
 use Rattle.trial_link.proofs.SpelledBytes.{state_long, state_within, within-append}
 use Rattle.trial_link.proofs.SpelledBytes.{within-wider}
@@ -400,22 +399,6 @@ frame_line_within f long =
     (digits_word f.commands)))
 
 -- ---- each is one line
-
-pub cell_is_line : (cell : CellIdentity) → IsStatedCell cell →
-    is_line (cell_text cell ++ 10 ∷ []) ≡ true
-cell_is_line cell is = is_line-within (cell_text cell) (cell_line_within cell is)
-
-pub traffic_is_line : (line : TrafficLine) → IsStatedLine line →
-    is_line (traffic_text line ++ 10 ∷ []) ≡ true
-traffic_is_line line is = is_line-within (traffic_text line) (traffic_line_within line is)
-
-pub page_is_line : (page : Page) → is_body page.body ≡ true →
-    is_line (page_text page ++ 10 ∷ []) ≡ true
-page_is_line page is = is_line-within (page_text page) (page_line_within page is)
-
-pub frame_is_line : (f : TrafficFrame) → IsTrafficFrame f →
-    is_line (frame_text f ++ 10 ∷ []) ≡ true
-frame_is_line f long = is_line-within (frame_text f) (frame_line_within f long)
 
 -- ---- how long they are
 

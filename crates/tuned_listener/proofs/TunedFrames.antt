@@ -1,7 +1,7 @@
 -- The text of the frames behind a mark, as it is written frame by frame.
 use Rattle.std.proofs.Common.{◌≡◌, ℕ, zero, suc, ◌+◌, ◌*◌, ◌≤◌, ◌&&◌, Bool, true, false, List}
 use Rattle.std.proofs.Common.{[], ◌∷◌, ◌++◌, map, filter, length, take, drop, refl, sym, ap, ◌∙◌, subst}
-use Rattle.std.proofs.Common.{arith, inl, inr, nat_le, Option, None, Some, append-nil, append_assoc, take-add}
+use Rattle.std.proofs.Common.{arith, inl, inr, nat_le, Option, None, Some, append_assoc, take-add}
 use Rattle.std.proofs.Common.{length-append}
 use Rattle.std.specs.Io.{StartsWith}
 use Rattle.std.specs.Io.KnownBytes.{Appends}
@@ -172,20 +172,6 @@ kept_with t channel m heard shown =
     slot_behind (kept_of t channel m heard) (option_to_list shown)
 
 module _ (t : Tuning) (channel : Channel) (m : Mark) (form : TunedText) where
-  -- nothing was taken
-  pub writes_none : (tuner : Tuner) (writer : FrameWriter) (heard samples : List Sample)
-      (old : Option (List ℕ)) → IsTunedTo t channel m tuner heard →
-      HoldsFrames writer t.check30 (kept_of t channel m heard) →
-      WritesFrames t channel m form tuner writer heard (heard ++ take 0 samples) old old
-  writes_none tuner writer heard samples old tuned holds = record {
-    text = [];
-    written = Appends-nil old;
-    all = append-nil (text_from form t channel m heard)
-        ∙ ap (text_from form t channel m) (sym (append-nil heard));
-    tuned = subst (IsTunedTo t channel m tuner) (sym (append-nil heard)) tuned;
-    holds = subst (λ (xs : List Sample). HoldsFrames writer t.check30 (kept_of t channel m xs))
-        (sym (append-nil heard)) holds;
-  }
 
   module _ (heard : List Sample) (shown : Option SoftFrame) where
     -- the text of what a step gives
