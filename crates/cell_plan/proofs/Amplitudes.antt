@@ -1,8 +1,7 @@
 -- The amplitudes of a cell's channels, and the samples that they make.
-use Rattle.std.proofs.Common.{◌≡◌, ℕ, zero, suc, ◌+◌, ◌-◌, ◌*◌, ◌/◌, ◌%◌, ◌≤◌, Bool, true}
-use Rattle.std.proofs.Common.{false, List, [], ◌∷◌, refl, sym, ap, ◌∙◌, arith, ℤ, pos, ◌+ℤ◌, ◌*ℤ◌}
-use Rattle.std.proofs.Common.{unsigned_abs, Option, Some, None, cond, replicate}
-use Rattle.std.proofs.Common.{◌++◌, length, length-append, map, get_or, FitsSigned}
+use Rattle.std.proofs.Common.{◌≡◌, ℕ, zero, suc, ◌+◌, ◌-◌, ◌*◌, ◌/◌, ◌%◌, ◌≤◌, Bool, true, false, List, [], ◌∷◌, refl, sym, ap, ◌∙◌, arith}
+use Rattle.std.proofs.Common.{ℤ, pos, ◌+ℤ◌, ◌*ℤ◌, unsigned_abs, Option, Some, None, cond, replicate, ◌++◌, length, length-append, map}
+use Rattle.std.proofs.Common.{get_or, FitsSigned}
 use Rattle.std.proofs.lemmas.Bool.{le-ltb}
 use Rattle.std.proofs.lemmas.Int.{ints, unsigned_abs-mul, fits_signed_from_abs}
 use Rattle.std.proofs.lemmas.List.{length-map}
@@ -22,12 +21,10 @@ use Rattle.cell_plan.specs.declared.plan.TrafficPlan.{TrafficPlan}
 use Rattle.cdma_io.specs.SampleFile.{bits_of, HasBits}
 use Rattle.chip_core.specs.declared.width.Width.{Width}
 use Rattle.chip_core.specs.declared.width.Width.TheVariants.{Sixteen, Eight}
-use Rattle.cell_plan.specs.Plan.{most_part, loudness, gain_sum, paging_gains, sync_gain}
-use Rattle.cell_plan.specs.Plan.{traffic_gains}
+use Rattle.cell_plan.specs.Plan.{most_part, loudness, gain_sum, paging_gains, sync_gain, traffic_gains}
 use Rattle.cell_plan.proofs.MachineInts.{more_most}
-use Rattle.cell_plan.specs.Signal.{Carrier, amplitude, amplitudes, level, level_of, scaled}
-use Rattle.cell_plan.specs.Signal.{sent_chip, sync_carriers, paging_carrier, pilot_carrier}
-use Rattle.cell_plan.specs.Signal.{carriers, sample_of, symbol_of, traffic_carrier}
+use Rattle.cell_plan.specs.Signal.{Carrier, amplitude, amplitudes, level, level_of, scaled, sent_chip, sync_carriers, paging_carrier}
+use Rattle.cell_plan.specs.Signal.{pilot_carrier, carriers, sample_of, symbol_of, traffic_carrier}
 
 -- ROWS
 

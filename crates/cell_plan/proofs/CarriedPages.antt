@@ -1,6 +1,5 @@
 -- The pages of a paging channel whose pages are messages: what they lay carries just their capsules.
-use Rattle.std.proofs.Common.{◌≡◌, ℕ, ◌+◌, ◌≤◌, List, [], ◌∷◌, length, map, refl, sym, ap, subst}
-use Rattle.std.proofs.Common.{◌∙◌, arith, Bool}
+use Rattle.std.proofs.Common.{◌≡◌, ℕ, ◌+◌, ◌≤◌, List, [], ◌∷◌, length, map, refl, sym, ap, subst, ◌∙◌, arith, Bool}
 use Rattle.std.specs.Prelude.{All}
 use Rattle.std.proofs.lemmas.List.Elements.{All-cons, All-nil}
 use Rattle.chip_core.specs.declared.check_form.CheckForm.{CheckForm}

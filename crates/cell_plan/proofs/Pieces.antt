@@ -1,8 +1,6 @@
 -- Pieces of a cell's samples.
-use Rattle.std.proofs.Common.{◌≡◌, ℕ, ◌+◌, ◌<◌, ◌≤◌, List, length, get_or, take, drop, map}
-use Rattle.std.proofs.Common.{sym, ◌∙◌, arith, pos}
-use Rattle.std.proofs.lemmas.List.{get_or-drop, length-drop, length-take-le, get_or-take}
-use Rattle.std.proofs.lemmas.List.{get_or-map, length-map}
+use Rattle.std.proofs.Common.{◌≡◌, ℕ, ◌+◌, ◌<◌, ◌≤◌, List, length, get_or, take, drop, map, sym, ◌∙◌, arith, pos}
+use Rattle.std.proofs.lemmas.List.{get_or-drop, length-drop, length-take-le, get_or-take, get_or-map, length-map}
 use Rattle.chip_core.specs.Bits.{places}
 use Rattle.chip_core.specs.Complex.{origin, of_sample}
 use Rattle.chip_core.specs.declared.sample.Sample.{Sample}

@@ -1,10 +1,8 @@
 -- The messages of sendings, and the frames that they fill.
-use Rattle.std.proofs.Common.{◌≡◌, ℕ, ◌+◌, ◌*◌, ◌/◌, ◌%◌, ◌^◌, ◌<◌, ◌≤◌, ◌==◌, zero, suc, Bool}
-use Rattle.std.proofs.Common.{false, List, [], ◌∷◌, ◌++◌, length, get_or, take, drop, replicate}
-use Rattle.std.proofs.Common.{refl, sym, ap, ◌∙◌, arith, length-append}
+use Rattle.std.proofs.Common.{◌≡◌, ℕ, ◌+◌, ◌*◌, ◌/◌, ◌%◌, ◌^◌, ◌<◌, ◌≤◌, ◌==◌, zero, suc, Bool, false, List, [], ◌∷◌, ◌++◌, length, get_or}
+use Rattle.std.proofs.Common.{take, drop, replicate, refl, sym, ap, ◌∙◌, arith, length-append}
 use Rattle.std.proofs.Math.Nat.{mod-lt, mul-le-mul_left}
-use Rattle.std.proofs.lemmas.List.{take_more, get_or-drop, length-drop, get_or-replicate}
-use Rattle.std.proofs.lemmas.List.{length-replicate}
+use Rattle.std.proofs.lemmas.List.{take_more, get_or-drop, length-drop, get_or-replicate, length-replicate}
 use Rattle.chip_core.specs.Fields.{FieldsFit}
 use Rattle.chip_core.specs.declared.check_form.CheckForm.{CheckForm}
 use Rattle.quality_bits.specs.declared.kind.Kind.TheVariants.{M30}
@@ -14,8 +12,7 @@ use Rattle.sync_message.specs.SyncMessage.{fixed_fields, sync_body, sync_capsule
 use Rattle.sync_message.specs.declared.fields.SyncFields.{SyncFields}
 use Rattle.sync_message.proofs.Bodies.{admitted, fixed_fit, tail_of, length-body}
 use Rattle.cell_plan.specs.declared.plan.CellIdentity.{CellIdentity}
-use Rattle.cell_plan.specs.Sendings.{message_of, superframes_a_sending, padded_sending}
-use Rattle.cell_plan.specs.Sendings.{sync_frame_bits}
+use Rattle.cell_plan.specs.Sendings.{message_of, superframes_a_sending, padded_sending, sync_frame_bits}
 
 -- a message with another offset, time and state
 abbrev pub refilled : SyncFields → ℕ → ℕ → ℕ → SyncFields

@@ -1,13 +1,12 @@
 -- What a traffic channel sends (TIA/EIA-95-B, 7.1.3.5): frames of one rate set, again and again.
-use Rattle.std.specs.Prelude.{◌≡◌, ℕ, ◌+◌, ◌*◌, ◌%◌, ◌^◌, ◌<◌, ◌≤◌, Bool, false, List, [], ◌∷◌, ◌++◌}
-use Rattle.std.specs.Prelude.{length, replicate, take, drop, All}
+use Rattle.std.specs.Prelude.{◌≡◌, ℕ, ◌+◌, ◌*◌, ◌%◌, ◌^◌, ◌<◌, ◌≤◌, Bool, false, List, [], ◌∷◌}
+use Rattle.std.specs.Prelude.{◌++◌, length, replicate, take, drop, All}
 use Rattle.std.specs.List.{flat_map}
 use Rattle.long_code.specs.LongCode.{after, IsState}
 use Rattle.conv_code.specs.ConvCode.{code_symbols}
 use Rattle.symbol_path.specs.Scrambling.{scrambling, with_commands}
 use Rattle.symbol_path.specs.SentOrder.{data_shape, sent}
-use Rattle.quality_bits.specs.TrafficWords.{repeats_of}
-use Rattle.quality_bits.specs.TrafficWords.{information_of, traffic_word}
+use Rattle.quality_bits.specs.TrafficWords.{repeats_of, information_of, traffic_word}
 use Rattle.symbol_path.specs.RatesTwo as second
 use Rattle.symbol_path.specs.FramesTwo.{sent_frame2}
 use Rattle.cell_plan.specs.declared.plan.CellIdentity.{CellIdentity}

@@ -1,6 +1,5 @@
 -- What the transmitter's parts stand for.
-use Rattle.std.specs.Prelude.{ℕ, ◌+◌, ◌-◌, ◌*◌, ◌<◌, ◌≤◌, ◌%◌}
-use Rattle.std.specs.Prelude.{ℤ, unsigned_abs, Option, None, Some}
+use Rattle.std.specs.Prelude.{ℕ, ◌+◌, ◌-◌, ◌*◌, ◌<◌, ◌≤◌, ◌%◌, ℤ, unsigned_abs, Option, None, Some}
 use Rattle.chip_core.specs.declared.sample.Pair.{Pair}
 use Rattle.long_code.specs.LongCode.{IsState}
 use Rattle.cdma_io.specs.declared.header.Header.{Header}

@@ -11,8 +11,7 @@ use Rattle.sync_message.specs.SyncMessage.{sync_body, sync_capsule}
 use Rattle.walsh.specs.Walsh.{walsh}
 use Rattle.cell_plan.specs.declared.plan.CellPlan.{CellPlan}
 use Rattle.cell_plan.specs.declared.plan.SyncPlan.{SyncPlan}
-use Rattle.cell_plan.specs.Sendings.{message_of, sync_frame_bits, continued_symbols}
-use Rattle.cell_plan.specs.Sendings.{sync_symbols}
+use Rattle.cell_plan.specs.Sendings.{message_of, sync_frame_bits, continued_symbols, sync_symbols}
 use Rattle.cell_plan.specs.Signal.{carriers, sent_chip, sample_of}
 
 cell : Option SyncPlan → CellPlan

@@ -3,8 +3,8 @@
 ghost use Rattle.std.specs.Prelude.{◌≡◌, ◌<◌, ◌*◌, ◌^◌, ◌++◌, false, length, replicate};
 ghost use Rattle.conv_code.specs.ConvCode.{code_symbols};
 ghost use Rattle.quality_bits.specs.Kinds.{quality_indicator};
-ghost use Rattle.quality_bits.specs.TrafficWords.{repeats_of};
-ghost use Rattle.quality_bits.specs.TrafficWords.{information_of, quality_of, traffic_word};
+ghost use Rattle.quality_bits.specs.TrafficWords.{repeats_of, information_of, quality_of};
+ghost use Rattle.quality_bits.specs.TrafficWords.{traffic_word};
 
 use crate::scrambling::scrambled;
 use chip_core::{Bits, CheckForm};

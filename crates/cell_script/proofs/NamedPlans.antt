@@ -1,7 +1,6 @@
 -- The plan that a script names is lawful, and its link isn't 0.
-use Rattle.std.proofs.Common.{◌≡◌, ℕ, zero, suc, ◌+◌, ◌-◌, ◌<◌, ◌≤◌, Bool, true, false, cond}
-use Rattle.std.proofs.Common.{List, [], ◌∷◌, ◌++◌, length, take, refl, sym, ap, subst, ◌∙◌}
-use Rattle.std.proofs.Common.{arith, Option, None, Some, Result, Ok, Err}
+use Rattle.std.proofs.Common.{◌≡◌, ℕ, zero, suc, ◌+◌, ◌-◌, ◌<◌, ◌≤◌, Bool, true, false, cond, List, [], ◌∷◌, ◌++◌, length, take, refl, sym}
+use Rattle.std.proofs.Common.{ap, subst, ◌∙◌, arith, Option, None, Some, Result, Ok, Err}
 use Rattle.std.specs.Option.{option_or}
 use Rattle.std.specs.Prelude.{nat_lt, ◌==◌, ok_or, option_map, option_and_then, All}
 use Rattle.std.proofs.lemmas.Bool.{and_parts, cond-true, cond-false, eqb-true, leb-true, ltb-false}
@@ -26,9 +25,7 @@ use Rattle.cell_plan.specs.declared.plan.LinkPlan.{LinkPlan}
 use Rattle.cell_plan.specs.declared.plan.PilotPlan.{PilotPlan}
 use Rattle.cell_plan.specs.declared.plan.SyncPlan.{SyncPlan}
 use Rattle.cell_script.specs.declared.stage.Stage.{Stage}
-use Rattle.cell_script.specs.declared.stage.Stage.TheVariants.{Cell, Link, Pilot, Sync}
-use Rattle.cell_script.specs.declared.stage.Stage.TheVariants.{Paging, FirstPage, Pages}
-use Rattle.cell_script.specs.declared.stage.Stage.TheVariants.{Traffic, FirstFrame}
+use Rattle.cell_script.specs.declared.stage.Stage.TheVariants.{Cell, Link, Pilot, Sync, Paging, FirstPage, Pages, Traffic, FirstFrame}
 use Rattle.cell_script.specs.declared.stage.Stage.TheVariants.{Frames, Frames2}
 use Rattle.cell_plan.specs.declared.plan.TrafficPlan.{TrafficPlan}
 use Rattle.cell_plan.specs.declared.frame_list.FrameList.{FrameList}
@@ -41,33 +38,23 @@ use Rattle.cell_script.specs.declared.statements.Statement.TheVariants as statem
 use Rattle.cell_script.specs.declared.script_fault.ScriptFault.{ScriptFault}
 use Rattle.cell_script.specs.declared.script_fault.ScriptFault.TheVariants.{Gain, TooBig, Walsh}
 use Rattle.cell_plan.specs.Plan.{loudness, most_part, IsLawfulPlan, IsSyncPlan}
-use Rattle.cell_script.specs.Script.{draft_after, gain_fault, is_line, lines, long_fault}
-use Rattle.cell_script.specs.Script.{channel_lines, loud_fault, named, plan_fault, plan_named}
-use Rattle.cell_script.specs.Script.{traffic_lines}
-use Rattle.cell_script.specs.Script.{repeated, silent, stated, stated_plan, sync_gain_fault}
-use Rattle.cell_script.specs.Script.{unless, walsh_fault}
-use Rattle.cell_script.specs.ScriptDrafts.{draft_at, Draft, empty_draft, empty_plan, opened}
-use Rattle.cell_script.specs.ScriptDrafts.{on_last, opened_traffic}
-use Rattle.cell_plan.specs.TrafficFrames.{with_one, with_two}
+use Rattle.cell_script.specs.Script.{draft_after, gain_fault, is_line, lines, long_fault, channel_lines, loud_fault, named, plan_fault}
+use Rattle.cell_script.specs.Script.{plan_named, traffic_lines, repeated, silent, stated, stated_plan, sync_gain_fault, unless, walsh_fault}
+use Rattle.cell_script.specs.ScriptDrafts.{draft_at, Draft, empty_draft, empty_plan, opened, on_last, opened_traffic, plan_at, with_line}
+use Rattle.cell_script.specs.ScriptDrafts.{with_next, with_page, with_statement}
+use Rattle.cell_plan.specs.TrafficFrames.{with_one, with_two, frame_count, set_one, set_two, AreTrafficFrames, IsTrafficFrame}
+use Rattle.cell_plan.specs.TrafficFrames.{IsTrafficFrame2}
 use Rattle.cell_script.specs.ScriptJudged.{IsInOrder}
-use Rattle.cell_script.specs.ScriptDrafts.{plan_at, with_line, with_next, with_page}
-use Rattle.cell_script.specs.ScriptDrafts.{with_statement}
 use Rattle.cell_script.specs.ScriptLines.{statement_in}
-use Rattle.cell_plan.specs.Stated.{AreHeard, HasSaid, IsStatedCell}
+use Rattle.cell_plan.specs.Stated.{AreHeard, HasSaid, IsStatedCell, IsStatedLink, IsStatedPaging, IsStatedPlan, IsStatedSync}
+use Rattle.cell_plan.specs.Stated.{IsStatedTraffic}
 use Rattle.cell_script.specs.ScriptPlans.{IsLawful}
-use Rattle.cell_plan.specs.Stated.{IsStatedLink, IsStatedPaging, IsStatedPlan}
-use Rattle.cell_plan.specs.Stated.{IsStatedSync, IsStatedTraffic}
-use Rattle.cell_plan.specs.TrafficFrames.{frame_count, set_one, set_two, AreTrafficFrames}
-use Rattle.cell_plan.specs.TrafficFrames.{IsTrafficFrame, IsTrafficFrame2}
-use Rattle.cell_script.specs.ScriptStages.{after_cell, after_frame, after_link, after_page}
-use Rattle.cell_script.specs.ScriptStages.{after_paging, after_pilot, after_sync, after_traffic}
-use Rattle.cell_script.specs.ScriptStages.{after_frame2, behind_sync, count_behind}
-use Rattle.cell_script.specs.ScriptStages.{is_cycle, may_follow, next_stage}
+use Rattle.cell_script.specs.ScriptStages.{after_cell, after_frame, after_link, after_page, after_paging, after_pilot, after_sync}
+use Rattle.cell_script.specs.ScriptStages.{after_traffic, after_frame2, behind_sync, count_behind, is_cycle, may_follow, next_stage}
 use Rattle.cell_script.specs.ScriptStages.{pages_behind}
 use Rattle.cell_script.proofs.ScriptBounds.{line_bounds, passed}
 use Rattle.cell_script.proofs.ScriptPages.{with_page-last}
-use Rattle.cell_script.proofs.ScriptNumbers.{few_channels, have_own_numbers, lawful_beside}
-use Rattle.cell_script.proofs.ScriptNumbers.{some_gains}
+use Rattle.cell_script.proofs.ScriptNumbers.{few_channels, have_own_numbers, lawful_beside, some_gains}
 use Rattle.cell_script.proofs.ScriptSplits.{stated-fault, stated-next, stated-none}
 use Rattle.cell_script.proofs.ScriptFrames.{on_last-last}
 

@@ -1,6 +1,5 @@
 -- The answer of both readings of a script: the plan that it names, or its fault.
-use Rattle.std.proofs.Common.{◌≡◌, ℕ, ◌<◌, ◌≤◌, List, length, refl, sym, ap, subst, ◌∙◌}
-use Rattle.std.proofs.Common.{None, Some, Result, Ok, Err, IsOk}
+use Rattle.std.proofs.Common.{◌≡◌, ℕ, ◌<◌, ◌≤◌, List, length, refl, sym, ap, subst, ◌∙◌, None, Some, Result, Ok, Err, IsOk}
 use Rattle.std.proofs.lemmas.Bool.{cond-true, cond-false, le-ltb, lt-ltb}
 use Rattle.chip_core.specs.declared.width.Width.{Width}
 use Rattle.cell_plan.specs.declared.plan.CellPlan.{CellPlan}

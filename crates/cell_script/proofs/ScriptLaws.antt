@@ -1,8 +1,7 @@
 -- Which line of a script is at fault: what is read can be completed up to that line, and no
 -- further.
-use Rattle.std.proofs.Common.{◌≡◌, ◌≢◌, ℕ, zero, suc, ◌+◌, ◌-◌, ◌<◌, ◌≤◌, Bool, true, false, cond}
-use Rattle.std.proofs.Common.{List, [], ◌∷◌, ◌++◌, length, take, refl, sym, ap, ◌∙◌, arith}
-use Rattle.std.proofs.Common.{append_assoc, Option, None, Some, Result, Ok, Err, IsOk}
+use Rattle.std.proofs.Common.{◌≡◌, ◌≢◌, ℕ, zero, suc, ◌+◌, ◌-◌, ◌<◌, ◌≤◌, Bool, true, false, cond, List, [], ◌∷◌, ◌++◌, length, take, refl}
+use Rattle.std.proofs.Common.{sym, ap, ◌∙◌, arith, append_assoc, Option, None, Some, Result, Ok, Err, IsOk}
 use Rattle.std.specs.Option.{option_or}
 use Rattle.std.specs.Prelude.{codes, nat_lt, ok_or, option_map, ◌↔◌}
 use Rattle.std.proofs.lemmas.List.{take_at, length-take-le}
@@ -18,28 +17,21 @@ use Rattle.quality_bits.specs.declared.rate.Rate.TheVariants.{R9600, R4800, R240
 use Rattle.cell_plan.specs.declared.plan.CellPlan.{CellPlan}
 use Rattle.cell_plan.specs.declared.plan.SyncPlan.{SyncPlan}
 use Rattle.cell_script.specs.declared.stage.Stage.{Stage}
-use Rattle.cell_script.specs.declared.stage.Stage.TheVariants.{Cell, Link, Pilot, Sync}
-use Rattle.cell_script.specs.declared.stage.Stage.TheVariants.{Paging, FirstPage, Pages}
-use Rattle.cell_script.specs.declared.stage.Stage.TheVariants.{Traffic, FirstFrame}
+use Rattle.cell_script.specs.declared.stage.Stage.TheVariants.{Cell, Link, Pilot, Sync, Paging, FirstPage, Pages, Traffic, FirstFrame}
 use Rattle.cell_script.specs.declared.stage.Stage.TheVariants.{Frames, Frames2}
 use Rattle.cell_script.specs.declared.script_fault.ScriptFault.{ScriptFault}
-use Rattle.cell_script.specs.declared.script_fault.ScriptFault.TheVariants.{Line, Walsh, Gain}
-use Rattle.cell_script.specs.declared.script_fault.ScriptFault.TheVariants.{TooLoud, TooLong}
-use Rattle.cell_script.specs.declared.script_fault.ScriptFault.TheVariants.{TooBig}
-use Rattle.cell_script.specs.ScriptValues.{bits_in, hex_bits, hex_from, length_before}
-use Rattle.cell_script.specs.ScriptValues.{commands_in, digits_behind, number_up_to}
-use Rattle.cell_script.specs.ScriptValues.{signed_in, state_in}
+use Rattle.cell_script.specs.declared.script_fault.ScriptFault.TheVariants.{Line, Walsh, Gain, TooLoud, TooLong, TooBig}
+use Rattle.cell_script.specs.ScriptValues.{bits_in, hex_bits, hex_from, length_before, commands_in, digits_behind, number_up_to, signed_in}
+use Rattle.cell_script.specs.ScriptValues.{state_in}
 use Rattle.cell_script.specs.ScriptFields.{field, past}
-use Rattle.cell_script.specs.ScriptLines.{cell_in, frame_in, link_in, page_in, pilot_in}
-use Rattle.cell_script.specs.ScriptLines.{statement_in}
+use Rattle.cell_script.specs.ScriptLines.{cell_in, frame_in, link_in, page_in, pilot_in, statement_in}
 use Rattle.cell_script.specs.ScriptStages.{pages_behind}
 use Rattle.cell_script.specs.ScriptDrafts.{Draft, empty_draft, plan_at, with_line, with_next}
-use Rattle.cell_script.specs.Script.{draft_after, is_line, lines, named, plan_fault, plan_named}
-use Rattle.cell_script.specs.Script.{stated, stated_plan, sync_gain_fault, unless}
+use Rattle.cell_script.specs.Script.{draft_after, is_line, lines, named, plan_fault, plan_named, stated, stated_plan, sync_gain_fault}
+use Rattle.cell_script.specs.Script.{unless}
 use Rattle.chip_core.specs.declared.width.Width.{Width}
 use Rattle.std.proofs.lemmas.Bool.{cond-true, cond-false, le-ltb, ltb-false}
-use Rattle.cell_script.proofs.ScriptSplits.{lines-append, draft_after-other, stated-fault}
-use Rattle.cell_script.proofs.ScriptSplits.{stated-next, stated-none}
+use Rattle.cell_script.proofs.ScriptSplits.{lines-append, draft_after-other, stated-fault, stated-next, stated-none}
 
 -- ---- completions
 

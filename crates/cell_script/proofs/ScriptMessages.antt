@@ -1,6 +1,5 @@
 -- The message of a `sync` line: its rest is tested, and then it has a spelling.
-use Rattle.std.proofs.Common.{◌≡◌, ℕ, ◌%◌, ◌^◌, ◌<◌, Bool, true, false, cond, List, length, refl}
-use Rattle.std.proofs.Common.{◌∙◌, Option, None, Some, IfSome}
+use Rattle.std.proofs.Common.{◌≡◌, ℕ, ◌%◌, ◌^◌, ◌<◌, Bool, true, false, cond, List, length, refl, ◌∙◌, Option, None, Some, IfSome}
 use Rattle.std.specs.Prelude.{nat_le, ◌==◌}
 use Rattle.std.proofs.lemmas.Bool.{cond-true, cond-false, eq-eqb, eqb-true, le-leb, leb-true}
 use Rattle.chip_core.specs.Fields.{FieldsFit}

@@ -1,7 +1,6 @@
 -- The two readings of a script: what was read so far, and what one more line adds.
-use Rattle.std.proofs.Common.{◌≡◌, ℕ, zero, suc, ◌+◌, ◌*◌, ◌-◌, ◌^◌, ◌<◌, ◌≤◌, Bool, true, false}
-use Rattle.std.proofs.Common.{List, length, take, drop, refl, sym, ap, ◌∙◌, arith, cond}
-use Rattle.std.proofs.Common.{Option, None, Some, Result, Ok, Err, IsOk, subst}
+use Rattle.std.proofs.Common.{◌≡◌, ℕ, zero, suc, ◌+◌, ◌*◌, ◌-◌, ◌^◌, ◌<◌, ◌≤◌, Bool, true, false, List, length, take, drop, refl, sym, ap}
+use Rattle.std.proofs.Common.{◌∙◌, arith, cond, Option, None, Some, Result, Ok, Err, IsOk, subst}
 use Rattle.std.specs.Prelude.{nat_lt, ok_or, option_map, option_and_then}
 use Rattle.std.proofs.lemmas.Bool.{cond-true, cond-false, lt-ltb, ltb-false, ltb-true}
 use Rattle.cell_plan.specs.declared.plan.CellPlan.{CellPlan}
@@ -10,8 +9,7 @@ use Rattle.cell_script.specs.declared.stage.Stage.{Stage}
 use Rattle.cell_script.specs.declared.stage.Stage.TheVariants.{Cell}
 use Rattle.cell_script.specs.declared.statements.Statement.{Statement}
 use Rattle.cell_script.specs.Script.{lines, stated, stated_plan}
-use Rattle.cell_script.specs.ScriptDrafts.{draft_at, empty_plan, plan_at, with_line, with_next}
-use Rattle.cell_script.specs.ScriptDrafts.{with_statement}
+use Rattle.cell_script.specs.ScriptDrafts.{draft_at, empty_plan, plan_at, with_line, with_next, with_statement}
 use Rattle.cell_script.specs.ScriptJudged.{HasJudged, IsInOrder, IsJudged}
 use Rattle.cell_script.specs.ScriptLines.{statement_in}
 use Rattle.cell_script.specs.ScriptSplitting.{first_stated}
@@ -19,8 +17,7 @@ use Rattle.cell_script.specs.ScriptStages.{is_complete, next_stage}
 use Rattle.cell_script.specs.ScriptValues.{length_before}
 use Rattle.cell_script.proofs.NamedPlans.{added, empty_said, in_order, IsAt}
 use Rattle.cell_script.proofs.ScriptBounds.{line_bounds}
-use Rattle.cell_script.proofs.ScriptSplits.{line_counted, line_read, line_refused, line_unended}
-use Rattle.cell_script.proofs.ScriptSplits.{lines_read}
+use Rattle.cell_script.proofs.ScriptSplits.{line_counted, line_read, line_refused, line_unended, lines_read}
 use Rattle.cell_script.proofs.ScriptTexts.{before_most}
 
 -- ---- the first line of a text

@@ -1,6 +1,6 @@
 -- The plan that the statements of a script make, one after another.
-use Rattle.std.specs.Prelude.{ℕ, if◌then◌else◌, List, [], ◌∷◌, ◌++◌, pos}
-use Rattle.std.specs.Prelude.{option_map, option_and_then, Option, None, Some}
+use Rattle.std.specs.Prelude.{ℕ, if◌then◌else◌, List, [], ◌∷◌, ◌++◌, pos, option_map}
+use Rattle.std.specs.Prelude.{option_and_then, Option, None, Some}
 use Rattle.chip_core.specs.declared.check_form.CheckForm.TheVariants.{Plain}
 use Rattle.cell_plan.specs.declared.plan.CellPlan.{CellPlan}
 use Rattle.cell_plan.specs.declared.plan.Page.{Page}

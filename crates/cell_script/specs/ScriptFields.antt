@@ -1,6 +1,6 @@
 -- The fields of a script's lines, read one after another.
-use Rattle.std.specs.Prelude.{ℕ, if◌then◌else◌, List, [], ◌∷◌, length, take, drop, map}
-use Rattle.std.specs.Prelude.{get_or, ◌<◌, ◌≤◌, ◌^◌, Option, None, Some, ℤ}
+use Rattle.std.specs.Prelude.{ℕ, if◌then◌else◌, List, [], ◌∷◌, length, take, drop, map, get_or, ◌<◌}
+use Rattle.std.specs.Prelude.{◌≤◌, ◌^◌, Option, None, Some, ℤ}
 use Rattle.long_code.specs.LongCode.{IsState}
 use Rattle.cell_script.specs.declared.tables.FieldForm.{FieldForm}
 use Rattle.cell_script.specs.declared.tables.FieldForm.TheVariants as forms

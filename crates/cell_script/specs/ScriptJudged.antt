@@ -11,8 +11,8 @@ use Rattle.cell_script.specs.declared.statements.Statement.TheVariants as statem
 use Rattle.cell_script.specs.declared.script_fault.ScriptFault.{ScriptFault}
 use Rattle.cell_plan.specs.Plan.{sync_gain}
 use Rattle.cell_script.specs.Script.{ChannelLine, channel_lines, first_channels, gain_fault}
-use Rattle.cell_script.specs.Script.{is_used, long_fault, loud_fault, repeated, silent}
-use Rattle.cell_script.specs.Script.{stated_plan, walsh_fault}
+use Rattle.cell_script.specs.Script.{is_used, long_fault, loud_fault, repeated, silent, stated_plan}
+use Rattle.cell_script.specs.Script.{walsh_fault}
 
 abbrev pub gains_of : List ChannelLine → ℕ
 gains_of [] = 0

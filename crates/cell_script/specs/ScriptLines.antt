@@ -19,8 +19,8 @@ use Rattle.cell_script.specs.declared.statements.Statement.{Statement}
 use Rattle.cell_script.specs.declared.statements.Statement.TheVariants as statements
 use Rattle.cell_script.specs.declared.tables.FieldForm.TheVariants as forms
 use Rattle.cell_script.specs.ScriptFields.{NumberRow, ◌>>=◌, at_end, field, numbers_in, past}
-use Rattle.cell_script.specs.ScriptFields.{past_numbers, row}
-use Rattle.cell_script.specs.ScriptFields.{StatementRow, formed, past_at, signed_at, unsigned_at}
+use Rattle.cell_script.specs.ScriptFields.{past_numbers, row, StatementRow, formed, past_at}
+use Rattle.cell_script.specs.ScriptFields.{signed_at, unsigned_at}
 use Rattle.cell_script.specs.ScriptValues.{begins_with, bits_in, commands_in, number_up_to}
 use Rattle.cell_plan.specs.declared.traffic_frame.TrafficFrame.{TrafficFrame}
 use Rattle.cell_plan.specs.declared.traffic_frame2.TrafficFrame2.{TrafficFrame2}

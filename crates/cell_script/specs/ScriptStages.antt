@@ -7,10 +7,9 @@ use Rattle.paging_message.specs.HalfFrames.{bits_left, half_frame_body}
 use Rattle.cell_plan.specs.declared.plan.Page.{Page}
 use Rattle.cell_plan.specs.declared.plan.SyncPlan.{SyncPlan}
 use Rattle.cell_script.specs.declared.stage.Stage.{Stage}
-use Rattle.cell_script.specs.declared.stage.Stage.TheVariants.{Cell, Link, Pilot, Sync}
-use Rattle.cell_script.specs.declared.stage.Stage.TheVariants.{Paging, FirstPage, Pages}
-use Rattle.cell_script.specs.declared.stage.Stage.TheVariants.{Traffic, FirstFrame}
-use Rattle.cell_script.specs.declared.stage.Stage.TheVariants.{Frames, Frames2}
+use Rattle.cell_script.specs.declared.stage.Stage.TheVariants.{Cell, Link, Pilot, Sync, Paging}
+use Rattle.cell_script.specs.declared.stage.Stage.TheVariants.{FirstPage, Pages, Traffic}
+use Rattle.cell_script.specs.declared.stage.Stage.TheVariants.{FirstFrame, Frames, Frames2}
 use Rattle.cell_script.specs.declared.statements.Statement.{Statement}
 use Rattle.cell_script.specs.declared.statements.Statement.TheVariants as statements
 use Rattle.cell_plan.specs.Pages.{half_frame_bits, laid_behind}

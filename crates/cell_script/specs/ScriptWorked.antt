@@ -16,21 +16,18 @@ use Rattle.cell_plan.specs.declared.plan.Page.{Page}
 use Rattle.cell_plan.specs.declared.plan.PagingPlan.{PagingPlan}
 use Rattle.cell_plan.specs.declared.plan.SyncPlan.{SyncPlan}
 use Rattle.cell_plan.specs.declared.plan.TrafficPlan.{TrafficPlan}
-use Rattle.cell_script.specs.declared.script_fault.ScriptFault.TheVariants.{Line, TooLoud}
-use Rattle.cell_script.specs.declared.script_fault.ScriptFault.TheVariants.{TooLong}
+use Rattle.cell_script.specs.declared.script_fault.ScriptFault.TheVariants.{Line, TooLoud, TooLong}
 use Rattle.chip_core.specs.Decimals.{digits_from}
-use Rattle.cell_script.specs.ScriptValues.{bits_in, commands_in, digits_behind, hex_bits}
-use Rattle.cell_script.specs.ScriptValues.{hex_from, length_before, number_up_to}
-use Rattle.cell_script.specs.ScriptValues.{serial_number_in}
-use Rattle.cell_script.specs.ScriptValues.{signed_in, state_in}
+use Rattle.cell_script.specs.ScriptValues.{bits_in, commands_in, digits_behind, hex_bits, hex_from}
+use Rattle.cell_script.specs.ScriptValues.{length_before, number_up_to, serial_number_in, signed_in}
+use Rattle.cell_script.specs.ScriptValues.{state_in}
 use Rattle.cell_script.specs.ScriptFields.{field, numbers_in, past, past_numbers}
 use Rattle.cell_script.specs.ScriptDrafts.{with_line, with_next}
-use Rattle.cell_script.specs.ScriptLines.{cell_in, freq_in, link_in, page_in, paging_in}
-use Rattle.cell_script.specs.ScriptLines.{past_freq, pilot_in, statement_in, sync_behind}
-use Rattle.cell_script.specs.ScriptLines.{frame_in, frame2_in, sync_in, traffic_in}
+use Rattle.cell_script.specs.ScriptLines.{cell_in, freq_in, link_in, page_in, paging_in, past_freq}
+use Rattle.cell_script.specs.ScriptLines.{pilot_in, statement_in, sync_behind, frame_in, frame2_in}
+use Rattle.cell_script.specs.ScriptLines.{sync_in, traffic_in}
 use Rattle.cell_script.specs.ScriptStages.{pages_behind}
-use Rattle.cell_script.specs.Script.{is_line, lines, plan_named, draft_after, stated}
-use Rattle.cell_script.specs.Script.{stated_plan}
+use Rattle.cell_script.specs.Script.{is_line, lines, plan_named, draft_after, stated, stated_plan}
 
 -- a script with this link
 script : List ℕ → List ℕ

@@ -2,11 +2,10 @@
 
 ghost use Rattle.std.specs.Prelude.{◌≡◌, ◌≤◌, ℕ, Bool, List, true, false, length, IfSome, OnSome};
 ghost use Rattle.std.specs.Prelude.{MatchOption, IsTrue, ◌↔◌, unsigned_abs, [], None, Some};
-ghost use Rattle.cell_script.specs.ScriptValues.{begins_with, bits_in, commands_in};
-ghost use Rattle.cell_script.specs.ScriptValues.{number_up_to};
+ghost use Rattle.cell_script.specs.ScriptValues.{begins_with, bits_in, commands_in, number_up_to};
 ghost use Rattle.cell_script.specs.ScriptFields.{AreUpTo, field, numbers_in, past, past_numbers};
-ghost use Rattle.cell_script.specs.ScriptFields.{rows_of, value_of};
-ghost use Rattle.cell_script.specs.ScriptFields.{IsOfForm, signed_of, unsigned_of};
+ghost use Rattle.cell_script.specs.ScriptFields.{rows_of, value_of, IsOfForm, signed_of};
+ghost use Rattle.cell_script.specs.ScriptFields.{unsigned_of};
 
 use crate::tables::{FieldForm, NumberField, StatementField};
 use crate::values::{

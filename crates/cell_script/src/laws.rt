@@ -1,7 +1,6 @@
 //! Laws of the definitions: each function does nothing, and its contract is the law.
 
-ghost use Rattle.std.specs.Prelude.{◌≡◌, ◌≢◌, ◌↔◌, ◌≤◌, ◌<◌, ◌+◌, ◌^◌, ℕ, ℤ, List};
-ghost use Rattle.std.specs.Prelude.{length, take};
+ghost use Rattle.std.specs.Prelude.{◌≡◌, ◌≢◌, ◌↔◌, ◌≤◌, ◌<◌, ◌+◌, ◌^◌, ℕ, ℤ, List, length, take};
 ghost use Rattle.std.specs.Prelude.{Some, Ok, Err, IsOk, All, FitsSigned, decimal};
 ghost use Rattle.std.specs.Fmt.{signed_decimal};
 ghost use Rattle.std.specs.Int.{w16};
@@ -49,8 +48,8 @@ pub fn numbers_have_one_spelling()
         (number_up_to most text ≡ Some n) ↔ ((text ≡ decimal n) × (n ≤ most)) }
 {}
 
-/// The plan that a script names is lawful, its link isn't 0, and a handset can receive it: its pages
-/// are messages that half-frames carry.
+/// The plan that a script names is lawful, its link isn't 0, and a handset can receive it: its
+/// pages are messages that half-frames carry.
 pub fn named_plan_is_lawful()
     ensures lawful { (width : TheWidth) (script : List ℕ) (plan : CellPlan) →
         plan_named width script ≡ Ok plan →

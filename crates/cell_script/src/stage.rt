@@ -3,12 +3,11 @@
 ghost use Rattle.std.specs.Prelude.{◌≡◌, ◌<◌, ◌≤◌, true};
 ghost use Rattle.paging_message.specs.HalfFrames.{bits_left, half_frame_body};
 ghost use Rattle.paging_message.specs.Laying.{fill};
-ghost use Rattle.cell_script.specs.ScriptStages.{after_cell, after_frame, after_link};
-ghost use Rattle.cell_script.specs.ScriptStages.{after_frame2, after_page};
-ghost use Rattle.cell_script.specs.ScriptStages.{after_paging, after_pilot, after_sync};
-ghost use Rattle.cell_script.specs.ScriptStages.{after_traffic};
-ghost use Rattle.cell_script.specs.ScriptStages.{behind_sync, count_behind, is_complete};
-ghost use Rattle.cell_script.specs.ScriptStages.{is_cycle, may_follow, next_stage, pages_behind};
+ghost use Rattle.cell_script.specs.ScriptStages.{after_cell, after_frame, after_link, after_frame2};
+ghost use Rattle.cell_script.specs.ScriptStages.{after_page, after_paging, after_pilot, after_sync};
+ghost use Rattle.cell_script.specs.ScriptStages.{after_traffic, behind_sync, count_behind};
+ghost use Rattle.cell_script.specs.ScriptStages.{is_complete, is_cycle, may_follow, next_stage};
+ghost use Rattle.cell_script.specs.ScriptStages.{pages_behind};
 
 use crate::statements::Statement;
 use cell_plan::{Page, SyncPlan};

@@ -1,20 +1,18 @@
 //! The statements of a script, each on a line.
 
 ghost use Rattle.std.specs.Prelude.{◌≡◌, ◌≤◌, ◌<◌, ◌^◌, IfSome, IsAscii, OnSome, length};
-ghost use Rattle.cell_script.specs.ScriptLines.{cell_in, check_form, freq_in, link_in};
-ghost use Rattle.cell_script.specs.ScriptLines.{page_in, page_key, page_with, paging_in};
-ghost use Rattle.cell_script.specs.ScriptLines.{past_freq, pilot_in, sync_behind, sync_fields};
-ghost use Rattle.cell_script.specs.ScriptLines.{statement_in, sync_in, lawful_message};
-ghost use Rattle.cell_script.specs.ScriptLines.{frame_in, frame_key, frame_rate, frame_with};
-ghost use Rattle.cell_script.specs.ScriptLines.{frame2_in, frame2_key, frame2_rate};
-ghost use Rattle.cell_script.specs.ScriptLines.{frame2_with, sync_table, traffic_in};
+ghost use Rattle.cell_script.specs.ScriptLines.{cell_in, check_form, freq_in, link_in, page_in};
+ghost use Rattle.cell_script.specs.ScriptLines.{page_key, page_with, paging_in, past_freq};
+ghost use Rattle.cell_script.specs.ScriptLines.{pilot_in, sync_behind, sync_fields, statement_in};
+ghost use Rattle.cell_script.specs.ScriptLines.{sync_in, lawful_message, frame_in, frame_key};
+ghost use Rattle.cell_script.specs.ScriptLines.{frame_rate, frame_with, frame2_in, frame2_key};
+ghost use Rattle.cell_script.specs.ScriptLines.{frame2_rate, frame2_with, sync_table, traffic_in};
 ghost use Rattle.cell_script.specs.ScriptFields.{AreUpTo};
 ghost use Rattle.cell_script.specs.ScriptPlans.{HasRow};
 ghost use Rattle.cell_plan.specs.Stated.{IsStatedCell, IsStatedLink};
 ghost use Rattle.paging_message.specs.Reading.{is_body};
-ghost use Rattle.sync_message.specs.SyncMessage.{IsSyncMessage};
+ghost use Rattle.sync_message.specs.SyncMessage.{IsSyncMessage, fixed_fields};
 ghost use Rattle.chip_core.specs.Fields.{FieldsFit};
-ghost use Rattle.sync_message.specs.SyncMessage.{fixed_fields};
 
 use crate::fields::Fields;
 use crate::tables::{

@@ -1,16 +1,15 @@
 //! The texts of values in a script.
 
-ghost use Rattle.std.specs.Prelude.{◌≡◌, ◌≤◌, ◌<◌, ◌+◌, ◌*◌, ◌-◌, ◌^◌, ℕ, true, length};
-ghost use Rattle.std.specs.Prelude.{take, drop};
+ghost use Rattle.std.specs.Prelude.{◌≡◌, ◌≤◌, ◌<◌, ◌+◌, ◌*◌, ◌-◌, ◌^◌, ℕ, true, length, take, drop};
 ghost use Rattle.std.specs.Prelude.{codes, Some, None, IfSome, unsigned_abs, flat_map};
 ghost use Rattle.std.specs.Char.{is_ascii_digit};
 ghost use Rattle.chip_core.specs.Bits.{binary};
 ghost use Rattle.long_code.specs.LongCode.{IsState};
 ghost use Rattle.cell_script.specs.ScriptValues.{all_clear, begins_with, behind, binary_digit};
-ghost use Rattle.cell_script.specs.ScriptValues.{bits_in, commands_in, serial_number_in};
-ghost use Rattle.cell_script.specs.ScriptValues.{hex_bits, hex_digit, hex_from, is_plain};
-ghost use Rattle.cell_script.specs.ScriptValues.{length_before, negative, number_in};
-ghost use Rattle.cell_script.specs.ScriptValues.{number_up_to, signed_in, state_in, unpadded};
+ghost use Rattle.cell_script.specs.ScriptValues.{bits_in, commands_in, serial_number_in, hex_bits};
+ghost use Rattle.cell_script.specs.ScriptValues.{hex_digit, hex_from, is_plain, length_before};
+ghost use Rattle.cell_script.specs.ScriptValues.{negative, number_in, number_up_to, signed_in};
+ghost use Rattle.cell_script.specs.ScriptValues.{state_in, unpadded};
 
 use chip_core::{Bits, digits_in};
 use long_code::State;

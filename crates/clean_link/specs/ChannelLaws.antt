@@ -1,5 +1,6 @@
 -- What a clean link gives back of any channel that is sent, to any stream that hears it.
-use Rattle.std.specs.Prelude.{ℕ, ◌+◌, ◌<◌, ◌≤◌, ◌≡◌, ◌≢◌, true, All, Bool, List, [], ◌∷◌, length, pos, replicate}
+use Rattle.std.specs.Prelude.{ℕ, ◌+◌, ◌<◌, ◌≤◌, ◌≡◌, ◌≢◌, true, All, Bool, List, [], ◌∷◌, length}
+use Rattle.std.specs.Prelude.{pos, replicate}
 use Rattle.std.specs.List.{Contains}
 use Rattle.rake_finger.specs.Soft.{frame_chips, softs, symbols}
 use Rattle.rake_finger.specs.declared.form.Form.{Form}
@@ -10,7 +11,8 @@ use Rattle.cell_plan.specs.Sampled.{made_samples}
 use Rattle.cell_plan.specs.Sendings.{continued_symbols}
 use Rattle.cell_plan.specs.Signal.{Carrier, carriers}
 use Rattle.cell_plan.specs.declared.plan.CellPlan.{CellPlan}
-use Rattle.mobile_core.specs.Streams.{Stream, frame_own_bits, frame_softs, is_in_file, span_first, span_frames}
+use Rattle.mobile_core.specs.Streams.{Stream, frame_own_bits, frame_softs, is_in_file, span_first}
+use Rattle.mobile_core.specs.Streams.{span_frames}
 use Rattle.cell_plan.specs.Stated.{IsReceivable}
 use Rattle.clean_link.specs.CleanLink.{soft_strength}
 use Rattle.clean_link.specs.SentWords.{AreReadBy, IsOnlyBest, span_word}

@@ -1,5 +1,6 @@
 -- What a clean link gives back of the sync channel.
-use Rattle.std.specs.Prelude.{ℕ, ◌+◌, ◌<◌, ◌≡◌, true, false, nat_lt, length, replicate, pos, is_some, None, Some}
+use Rattle.std.specs.Prelude.{ℕ, ◌+◌, ◌<◌, ◌≡◌, true, false, nat_lt, length, replicate, pos}
+use Rattle.std.specs.Prelude.{is_some, None, Some}
 use Rattle.std.specs.List.{flat_map}
 use Rattle.chip_core.specs.Bits.{places}
 use Rattle.rake_finger.specs.declared.form.Form.TheVariants.{Sync}
@@ -10,12 +11,14 @@ use Rattle.cell_plan.specs.Sendings.{sync_frame_bits, sync_symbols}
 use Rattle.cell_plan.specs.declared.plan.CellPlan.{CellPlan}
 use Rattle.cell_plan.specs.declared.plan.SyncPlan.{SyncPlan}
 use Rattle.mobile_core.specs.Marks.{mark}
-use Rattle.mobile_core.specs.Streams.{frame_own_bits, frame_softs, is_in_file, span_first, span_frames}
+use Rattle.mobile_core.specs.Streams.{frame_own_bits, frame_softs, is_in_file, span_first}
+use Rattle.mobile_core.specs.Streams.{span_frames}
 use Rattle.mobile_core.specs.SyncEvents.{sync_events_at}
 use Rattle.mobile_core.specs.Tuning.{Tuning, sync_stream}
 use Rattle.mobile_core.specs.declared.mark.Mark.{Mark}
 use Rattle.clean_link.specs.SentWords.{IsOnlyBest, span_word}
-use Rattle.clean_link.specs.CleanLink.{IsOnPath, IsTrueMark, first_sync_frame, soft_strength, sync_sent}
+use Rattle.clean_link.specs.CleanLink.{IsOnPath, IsTrueMark, first_sync_frame, soft_strength}
+use Rattle.clean_link.specs.CleanLink.{sync_sent}
 use Rattle.cell_plan.specs.Stated.{IsReceivable}
 
 -- the soft values of a received sync frame are one positive number times the signs of the symbols

@@ -1,8 +1,8 @@
 -- A clean link: a file that holds what one cell sends over one path, without noise, and what a
 -- handset has to hear in it.
-use Rattle.std.specs.Prelude.{ℕ, ◌+◌, ◌-◌, ◌*◌, ◌/◌, ◌%◌, ◌<◌, ◌≤◌, ◌≡◌, ◌&&◌, Bool}
-use Rattle.std.specs.Prelude.{if◌then◌else◌, nat_le, List, [], ◌∷◌, length, map, take, filter, pos}
-use Rattle.std.specs.Prelude.{Option, None, Some}
+use Rattle.std.specs.Prelude.{ℕ, ◌+◌, ◌-◌, ◌*◌, ◌/◌, ◌%◌, ◌<◌, ◌≤◌, ◌≡◌, ◌&&◌, Bool, if◌then◌else◌}
+use Rattle.std.specs.Prelude.{nat_le, List, [], ◌∷◌, length, map, take, filter, pos, Option, None}
+use Rattle.std.specs.Prelude.{Some}
 use Rattle.chip_core.specs.Bits.{places}
 use Rattle.chip_core.specs.Complex.{norm}
 use Rattle.chip_core.specs.declared.sample.Sample.{Sample}
@@ -51,8 +51,8 @@ IsNotDirected (Sets n time active candidate report) = Unit {0}
 
 -- ---- the link
 
--- a handset with one finger, which lies on the cell's path, where the search found this energy, that
--- follows a paging channel, and a traffic channel or none
+-- a handset with one finger, which lies on the cell's path, where the search found this energy,
+-- that follows a paging channel, and a traffic channel or none
 abbrev pub tuning_to : CellPlan → ℕ → ℕ → Option Traffic → Tuning
 tuning_to plan energy paging traffic = record {
   count = plan.link.samples;
@@ -157,4 +157,5 @@ pub record IsTrueMark (plan : CellPlan) (mark : Mark) (superframes : ℕ) : Type
   pub place : plan.link.start + mark.sample ≡ 98304 * superframes
   pub time : mark.time ≡ plan.cell.time + superframes
   pub pn : mark.pilot ≡ plan.cell.pn
-  pub state : (chips : ℕ) → after mark.state chips ≡ after plan.cell.lc (98304 * superframes + chips)
+  pub state : (chips : ℕ) →
+      after mark.state chips ≡ after plan.cell.lc (98304 * superframes + chips)

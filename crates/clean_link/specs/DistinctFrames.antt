@@ -1,7 +1,6 @@
 -- Frames of 9,600 bits a second of a traffic channel that no other word shares.
-use Rattle.std.specs.Prelude.{◌≡◌, ℕ, zero, suc, ◌+◌, ◌-◌, ◌*◌, Bool, true, false, not, ◌&&◌}
-use Rattle.std.specs.Prelude.{List, [], ◌∷◌, ◌++◌, length, map, filter, get_or}
-use Rattle.std.specs.Prelude.{drop, replicate}
+use Rattle.std.specs.Prelude.{◌≡◌, ℕ, zero, suc, ◌+◌, ◌-◌, ◌*◌, Bool, true, false, not, ◌&&◌, List}
+use Rattle.std.specs.Prelude.{[], ◌∷◌, ◌++◌, length, map, filter, get_or, drop, replicate}
 use Rattle.std.specs.List.{list_all, list_any}
 use Rattle.chip_core.specs.Bits.{places, xor}
 use Rattle.conv_code.specs.ConvCode.{code_symbols, g0, g1, symbol}

@@ -1,6 +1,6 @@
 -- A cell with a mark, and behind it a distinct frame of each rate of both rate sets.
-use Rattle.std.specs.Prelude.{◌≡◌, ℕ, true, false, All, Bool, List, [], ◌∷◌, ◌++◌, map}
-use Rattle.std.specs.Prelude.{replicate, pos, negsuc, Some, None}
+use Rattle.std.specs.Prelude.{◌≡◌, ℕ, true, false, All, Bool, List, [], ◌∷◌, ◌++◌, map, replicate}
+use Rattle.std.specs.Prelude.{pos, negsuc, Some, None}
 use Rattle.std.specs.List.{Contains, flat_map}
 use Rattle.chip_core.specs.Bits.{binary}
 use Rattle.chip_core.specs.declared.check_form.CheckForm.TheVariants.{Plain}

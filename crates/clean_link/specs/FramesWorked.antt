@@ -1,6 +1,6 @@
 -- Worked values of the frames of a traffic channel on a clean link, which the checker computes.
-use Rattle.std.specs.Prelude.{◌≡◌, ℕ, ◌^◌, refl, true, false, List, [], ◌∷◌, length}
-use Rattle.std.specs.Prelude.{map, replicate, pos, negsuc, None}
+use Rattle.std.specs.Prelude.{◌≡◌, ℕ, ◌^◌, refl, true, false, List, [], ◌∷◌, length, map, replicate}
+use Rattle.std.specs.Prelude.{pos, negsuc, None}
 use Rattle.chip_core.specs.Bits.{places}
 use Rattle.chip_core.specs.declared.check_form.CheckForm.TheVariants.{Plain}
 use Rattle.quality_bits.specs.declared.rate.Rate.TheVariants.{R1200, R2400}

@@ -22,8 +22,8 @@ use Rattle.chip_core.specs.declared.assignment.Traffic.{Traffic}
 use Rattle.clean_link.specs.CleanLink.{IsNotDirected, IsOnPath, sync_sent}
 use Rattle.cell_plan.specs.Stated.{IsReceivable}
 use Rattle.clean_link.specs.HeardFrames.{frame_ends, is_received, received_frames, replaced_of}
-use Rattle.clean_link.specs.HeardFrames.{sent_commands, sent_frame_event, AreDistinct}
-use Rattle.clean_link.specs.HeardFrames.{IsAssigned, IsDistinctFrame, SendsSetOne}
+use Rattle.clean_link.specs.HeardFrames.{sent_commands, sent_frame_event, AreDistinct, IsAssigned}
+use Rattle.clean_link.specs.HeardFrames.{IsDistinctFrame, SendsSetOne}
 use Rattle.clean_link.specs.HeardSignals.{messages_of_channel}
 use Rattle.clean_link.specs.SentEvents.{paging_sent, told_with_sync}
 
@@ -48,8 +48,8 @@ is_message event = false
 -- ---- a traffic channel's frames
 
 -- The event of frame `frame` of a channel, which is this one: it has the frame's end and the power
--- control bits that were sent, and where the frame is distinct, its rate and its information bits, as
--- a good frame.
+-- control bits that were sent, and where the frame is distinct, its rate and its information bits,
+-- as a good frame.
 pub record IsSentFrame (plan : CellPlan) (p : TrafficPlan) (frame : ℕ) (f : TrafficFrame)
     (event : Event) : Type 0 where
   pub decoded : Decoded
@@ -78,8 +78,8 @@ AreFramesBehind plan p (Some superframes) frames = AreEventsOf plan p superframe
 
 -- ---- its messages
 
--- Where each of these frames is distinct, just the messages that the signaling in them spells, as they
--- are sent, and none where no mark is set.
+-- Where each of these frames is distinct, just the messages that the signaling in them spells, as
+-- they are sent, and none where no mark is set.
 abbrev pub AreMessagesBehind : CellPlan → TrafficPlan → Option ℕ → List Event → Type 0
 AreMessagesBehind plan p None messages = messages ≡ []
 AreMessagesBehind plan p (Some superframes) messages =
@@ -88,7 +88,8 @@ AreMessagesBehind plan p (Some superframes) messages =
 
 -- ---- all channels
 
--- a handset that may follow a channel follows this one of the cell's, whose frames are of rate set 1
+-- a handset that may follow a channel follows this one of the cell's, whose frames are of rate set
+-- 1
 pub record FollowsOne (plan : CellPlan) (followed : Option Traffic) (p : TrafficPlan) : Type 0 where
   pub traffic : Traffic
   pub follows : followed ≡ Some traffic
@@ -96,10 +97,11 @@ pub record FollowsOne (plan : CellPlan) (followed : Option Traffic) (p : Traffic
   pub assigned : IsAssigned p traffic
   pub one : SendsSetOne p
 
--- What a handset hears of a cell that follows a paging channel, and a traffic channel or none: of the
--- sync channel just the whole sendings; where the cell sends the paging channel, or no traffic channel
--- has its row, just the channel's whole pages; and where the cell sends the traffic channel, with
--- frames of rate set 1, one event for each of them from the mark on, and the messages in them.
+-- What a handset hears of a cell that follows a paging channel, and a traffic channel or none: of
+-- the sync channel just the whole sendings; where the cell sends the paging channel, or no traffic
+-- channel has its row, just the channel's whole pages; and where the cell sends the traffic
+-- channel, with frames of rate set 1, one event for each of them from the mark on, and the messages
+-- in them.
 pub record HearsEach (plan : CellPlan) (paging : ℕ) (followed : Option Traffic)
     (heard : List Event) : Type 0 where
   pub sync : filter is_sync heard ≡ sync_sent plan
@@ -111,8 +113,8 @@ pub record HearsEach (plan : CellPlan) (paging : ℕ) (followed : Option Traffic
   pub messages : (p : TrafficPlan) → FollowsOne plan followed p →
       AreMessagesBehind plan p (told_with_sync plan plan.sync) (filter is_message heard)
 
--- So it is of a handset with one finger on the cell's path, in a file of what the cell sends, where no
--- handoff is directed.
+-- So it is of a handset with one finger on the cell's path, in a file of what the cell sends, where
+-- no handoff is directed.
 abbrev pub EachChannelComesBack : Type 0
 EachChannelComesBack = (width : Width) (plan : CellPlan) (t : Tuning) →
     IsReceivable width plan → IsOnPath plan t → 1 ≤ t.paging → t.paging ≤ 7 →

@@ -10,8 +10,8 @@ use Rattle.symbol_path.specs.Scrambling.{power_places}
 use Rattle.frame_decoder.specs.Laws.{frame_word, IsUnshared, ShowSymbols}
 use Rattle.frame_decoder.specs.TrafficFrames.{frame_symbols, is_replaced}
 use Rattle.cell_plan.specs.Signal.{frames_of}
-use Rattle.cell_plan.specs.TrafficFrames.{cycled_frame, frame_state, sent_with, set_one}
-use Rattle.cell_plan.specs.TrafficFrames.{set_two, traffic_frame_symbols}
+use Rattle.cell_plan.specs.TrafficFrames.{cycled_frame, frame_state, sent_with, set_one, set_two}
+use Rattle.cell_plan.specs.TrafficFrames.{traffic_frame_symbols}
 use Rattle.cell_plan.specs.declared.plan.CellPlan.{CellPlan}
 use Rattle.cell_plan.specs.declared.plan.TrafficPlan.{TrafficPlan}
 use Rattle.cell_plan.specs.declared.traffic_frame.TrafficFrame.{TrafficFrame}
@@ -69,8 +69,8 @@ ShowCommands replaced strength commands softs =
 abbrev pub IsDistinctFrame : List ℕ → TrafficFrame → Type 0
 IsDistinctFrame replaced f = IsUnshared replaced f.rate (frame_word f.rate f.information)
 
--- What frame `frame` of a channel of any rate set sends: these 384 symbols before scrambling, in the
--- order in which they are sent, some of which these power control bits replace.
+-- What frame `frame` of a channel of any rate set sends: these 384 symbols before scrambling, in
+-- the order in which they are sent, some of which these power control bits replace.
 pub record SendsSymbols (plan : CellPlan) (p : TrafficPlan) (frame : ℕ)
     (symbols commands : List Bool) : Type 0 where
   pub all : length symbols ≡ 384

@@ -1,8 +1,7 @@
 -- The pages that a handset hears of a paging channel on a clean link, each with the number of
 -- samples at which it is known, and those that the cell sends whole.
-use Rattle.std.specs.Prelude.{ℕ, ◌+◌, ◌-◌, ◌*◌, ◌/◌, ◌<◌, ◌≤◌, ◌≡◌, ◌==◌, Bool, All}
-use Rattle.std.specs.Prelude.{if◌then◌else◌, List, [], ◌∷◌, map, filter, drop}
-use Rattle.std.specs.Prelude.{None, Option, Some}
+use Rattle.std.specs.Prelude.{ℕ, ◌+◌, ◌-◌, ◌*◌, ◌/◌, ◌<◌, ◌≤◌, ◌≡◌, ◌==◌, Bool, All, if◌then◌else◌}
+use Rattle.std.specs.Prelude.{List, [], ◌∷◌, map, filter, drop, None, Option, Some}
 use Rattle.std.specs.List.{flat_map}
 use Rattle.chip_core.specs.Bits.{places}
 use Rattle.chip_core.specs.declared.sample.Sample.{Sample}
@@ -15,7 +14,7 @@ use Rattle.paging_message.specs.declared.message.PagingMessage.{PagingMessage}
 use Rattle.cell_plan.specs.Pages.{paging_rate}
 use Rattle.cell_plan.specs.Plan.{IsFreeOf}
 use Rattle.cell_plan.specs.Sampled.{made_samples}
-use Rattle.cell_plan.specs.Stated.{IsStatedPaging}
+use Rattle.cell_plan.specs.Stated.{IsStatedPaging, IsReceivable}
 use Rattle.cell_plan.specs.declared.plan.CellPlan.{CellPlan}
 use Rattle.cell_plan.specs.declared.plan.PagingPlan.{PagingPlan}
 use Rattle.cell_plan.specs.declared.plan.SyncPlan.{SyncPlan}
@@ -23,7 +22,6 @@ use Rattle.mobile_core.specs.PagingEvents.{pages_behind, with_page}
 use Rattle.mobile_core.specs.Tuning.{Tuning}
 use Rattle.mobile_core.specs.declared.mark.Mark.{Mark}
 use Rattle.clean_link.specs.CleanLink.{heard_behind, IsOnPath, IsTrueMark}
-use Rattle.cell_plan.specs.Stated.{IsReceivable}
 use Rattle.clean_link.specs.WholePages.{cycle_half_frames, is_whole_page, placed, Placed}
 
 -- a page, and the number of samples at which it is known

@@ -30,8 +30,8 @@ abbrev pub signals_received : CellPlan → TrafficPlan → ℕ → ℕ → List 
 signals_received plan p mark_chip frame =
     flat_map (signals_in plan p) (filter (is_received plan p mark_chip) (places frame))
 
--- what a handset tells, at the end of frame `frame`, of a capsule whose last bit lies in that frame,
--- where the capsule spells a message
+-- what a handset tells, at the end of frame `frame`, of a capsule whose last bit lies in that
+-- frame, where the capsule spells a message
 abbrev pub message_told : CellPlan → TrafficPlan → ℕ → ℕ → List Event
 message_told plan p mark_chip frame =
     flat_map

@@ -1,5 +1,5 @@
--- Of all words of every rate, the one that a distinct traffic frame sends alone agrees best with its
--- soft values (TIA/EIA-95-B, 7.1.3.5).
+-- Of all words of every rate, the one that a distinct traffic frame sends alone agrees best with
+-- its soft values (TIA/EIA-95-B, 7.1.3.5).
 use Rattle.std.specs.Prelude.{ℕ, ◌≡◌, ◌<ℤ◌, List, ℤ}
 use Rattle.chip_core.specs.declared.width.Width.{Width}
 use Rattle.quality_bits.specs.declared.rate.Rate.{Rate}
@@ -35,8 +35,8 @@ use Rattle.clean_link.specs.TrafficLaws.{HearsTraffic, IsHeardAs}
 abbrev pub kept_score : List ℕ → List ℤ → Rate → Word → ℤ
 kept_score replaced softs rate w = frame_score (unreplaced replaced softs) rate w
 
--- A word of a rate, such that every other word of any of the four rates, its quality indicator right
--- or not, has a lesser score.
+-- A word of a rate, such that every other word of any of the four rates, its quality indicator
+-- right or not, has a lesser score.
 pub record IsOnlyBestFrame (replaced : List ℕ) (softs : List ℤ) (rate : Rate) (best : Word) :
     Type 0 where
   pub allowed : IsAllowed Zero (frame_bits rate) best

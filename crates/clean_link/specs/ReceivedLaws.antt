@@ -1,5 +1,5 @@
--- What a clean link gives back of a traffic channel of either rate set, whose frames are received of
--- the reference base station alone.
+-- What a clean link gives back of a traffic channel of either rate set, whose frames are received
+-- of the reference base station alone.
 use Rattle.std.specs.Prelude.{ℕ, ◌+◌, ◌-◌, ◌*◌, ◌≡◌, true, Bool, List, [], ◌∷◌, length, map, Some}
 use Rattle.std.specs.List.{Contains}
 use Rattle.chip_core.specs.declared.width.Width.{Width}
@@ -19,10 +19,10 @@ use Rattle.chip_core.specs.declared.assignment.Traffic.{Traffic}
 use Rattle.mobile_core.specs.declared.soft_frame.SoftFrame.{SoftFrame}
 use Rattle.clean_link.specs.CleanLink.{IsOnPath}
 use Rattle.cell_plan.specs.Stated.{IsReceivable}
-use Rattle.clean_link.specs.HeardFrames.{is_received, received_frames, word_symbols}
-use Rattle.clean_link.specs.HeardFrames.{IsAssigned, SendsSetTwo, SendsSymbols}
-use Rattle.clean_link.specs.ReceivedFrames.{cycled_frame2, word_symbols2, AreReceived}
-use Rattle.clean_link.specs.ReceivedFrames.{IsReceivedAs, IsSentFrame2}
+use Rattle.clean_link.specs.HeardFrames.{is_received, received_frames, word_symbols, IsAssigned}
+use Rattle.clean_link.specs.HeardFrames.{SendsSetTwo, SendsSymbols}
+use Rattle.clean_link.specs.ReceivedFrames.{cycled_frame2, word_symbols2, AreReceived, IsReceivedAs}
+use Rattle.clean_link.specs.ReceivedFrames.{IsSentFrame2}
 use Rattle.clean_link.specs.TrafficLaws.{HearsTraffic}
 
 -- ---- what is sent

@@ -17,10 +17,9 @@ use Rattle.mobile_core.specs.Tuning.{Tuning}
 use Rattle.mobile_core.specs.declared.event.Event.{Event}
 use Rattle.mobile_core.specs.declared.event.Event.TheVariants.{Paging, Pilot}
 use Rattle.chip_core.specs.declared.assignment.Traffic.{Traffic}
-use Rattle.clean_link.specs.CleanLink.{sync_sent, IsNotDirected, IsOnPath}
+use Rattle.clean_link.specs.CleanLink.{sync_sent, IsNotDirected, IsOnPath, IsTunedTo, tuning_to}
+use Rattle.clean_link.specs.CleanLink.{whole_sendings}
 use Rattle.cell_plan.specs.Stated.{IsReceivable}
-use Rattle.clean_link.specs.CleanLink.{IsTunedTo}
-use Rattle.clean_link.specs.CleanLink.{tuning_to, whole_sendings}
 use Rattle.clean_link.specs.HeardFrames.{frames_sent, AreDistinct, IsAssigned, SendsSetOne}
 use Rattle.clean_link.specs.HeardPages.{KnownPage, pages_sent}
 use Rattle.clean_link.specs.HeardSignals.{messages_sent}

@@ -1,7 +1,8 @@
--- The words of every rate that share a traffic frame's symbols, at the places that power control bits
--- leave. Where they are just the frame's own word, the frame is distinct.
+-- The words of every rate that share a traffic frame's symbols, at the places that power control
+-- bits leave. Where they are just the frame's own word, the frame is distinct.
 use Rattle.std.specs.Prelude.{◌≡◌, ◌≢◌, ℕ, zero, suc, ◌+◌, ◌*◌, ◌/◌, Bool, true, false, not, ◌&&◌}
-use Rattle.std.specs.Prelude.{if◌then◌else◌, List, [], ◌∷◌, ◌++◌, map, filter, get_or, drop, replicate}
+use Rattle.std.specs.Prelude.{if◌then◌else◌, List, [], ◌∷◌, ◌++◌, map, filter, get_or, drop}
+use Rattle.std.specs.Prelude.{replicate}
 use Rattle.std.specs.List.{flat_map, list_all, list_any, range_with_len}
 use Rattle.std.proofs.Math.Bool.{beq}
 use Rattle.conv_code.specs.ConvCode.{code_symbols, g0, g1, symbol}

@@ -21,9 +21,8 @@ use Rattle.mobile_core.specs.Tuning.{Tuning}
 use Rattle.mobile_core.specs.declared.legs.Leg.{Leg}
 use Rattle.mobile_core.specs.declared.mark.Mark.{Mark}
 use Rattle.chip_core.specs.declared.assignment.Traffic.{Traffic}
-use Rattle.clean_link.specs.CleanLink.{IsNotDirected, IsOnPath, IsTrueMark}
+use Rattle.clean_link.specs.CleanLink.{IsNotDirected, IsOnPath, IsTrueMark, soft_strength}
 use Rattle.cell_plan.specs.Stated.{IsReceivable}
-use Rattle.clean_link.specs.CleanLink.{soft_strength}
 use Rattle.clean_link.specs.HeardFrames.{frame_ends, frames_of_channel, received_frames}
 use Rattle.clean_link.specs.HeardFrames.{sent_commands, word_symbols, AreDistinct, IsAssigned}
 use Rattle.clean_link.specs.HeardFrames.{IsDistinctFrame, IsOnePilot, SendsSetOne, ShowCommands}

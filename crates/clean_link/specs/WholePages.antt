@@ -1,7 +1,7 @@
 -- Which sendings of its pages a paging channel's frames hold whole, and in which frame each ends
 -- (TIA/EIA-95-B, 7.1.3.4 and 7.7.2.1).
-use Rattle.std.specs.Prelude.{ℕ, ◌+◌, ◌-◌, ◌*◌, ◌/◌, ◌≤◌, ◌&&◌, if◌then◌else◌, Bool, List, []}
-use Rattle.std.specs.Prelude.{◌∷◌, ◌++◌, length, map, filter, take, nat_le, nat_lt}
+use Rattle.std.specs.Prelude.{ℕ, ◌+◌, ◌-◌, ◌*◌, ◌/◌, ◌≤◌, ◌&&◌, if◌then◌else◌, Bool, List, [], ◌∷◌}
+use Rattle.std.specs.Prelude.{◌++◌, length, map, filter, take, nat_le, nat_lt}
 use Rattle.std.specs.List.{flat_map}
 use Rattle.std.specs.Option.{option_to_list}
 use Rattle.chip_core.specs.Bits.{places}

@@ -1,5 +1,6 @@
 -- Worked values of a clean link, which the checker computes.
-use Rattle.std.specs.Prelude.{◌≡◌, refl, ℕ, ◌^◌, ◌-◌, replicate, false, pos, negsuc, List, [], ◌∷◌, map, Some, None}
+use Rattle.std.specs.Prelude.{◌≡◌, refl, ℕ, ◌^◌, ◌-◌, replicate, false, pos, negsuc, List, [], ◌∷◌}
+use Rattle.std.specs.Prelude.{map, Some, None}
 use Rattle.chip_core.specs.declared.check_form.CheckForm.TheVariants.{Plain}
 use Rattle.quality_bits.specs.Capsules.{capsule}
 use Rattle.quality_bits.specs.Quality.{check_bits}
@@ -8,7 +9,8 @@ use Rattle.rake_finger.specs.declared.form.Form.TheVariants.{Sync, Data}
 use Rattle.sync_message.specs.SyncMessage.{sync_body, sync_capsule}
 use Rattle.sync_message.specs.declared.fields.SyncFields.{SyncFields}
 use Rattle.cell_plan.specs.declared.plan.CellPlan.{CellPlan}
-use Rattle.clean_link.specs.CleanLink.{first_sync_frame, heard_behind, sending_ends, soft_strength, whole_sendings}
+use Rattle.clean_link.specs.CleanLink.{first_sync_frame, heard_behind, sending_ends, soft_strength}
+use Rattle.clean_link.specs.CleanLink.{whole_sendings}
 
 -- 25 octets, and so nine frames of which seven have bits of it
 message : SyncFields

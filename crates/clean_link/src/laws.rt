@@ -2,17 +2,23 @@
 //!
 //! Those of any channel hold of what is sent on any Walsh row, to any stream with one finger on the
 //! path; those of the sync channel are their first case, and those of the paging channels behind a
-//! mark their second. Soft values of a traffic channel behind a mark are a third. Those of a cycle of
-//! pages speak of bits alone.
+//! mark their second. Soft values of a traffic channel behind a mark are a third. Those of a cycle
+//! of pages speak of bits alone.
 
-ghost use Rattle.clean_link.specs.ChannelLaws.{ChannelFramesComeBack, ChannelWordsAreTheOnlyBest, ChannelsHaveSentSigns, EarlyFramesAreZero, SilentRowsAreZero, StreamsShowSymbols, StrengthsArePositive};
-ghost use Rattle.clean_link.specs.CleanLaws.{AreZeroWithoutSync, FramesAreZeros, FramesComeBack, HaveSentSigns, IsMarkedWhereHeard, MarksAreTrue, SentWordsAreTheOnlyBest, WholeSendingsComeBack};
+ghost use Rattle.clean_link.specs.ChannelLaws.{ChannelFramesComeBack, ChannelWordsAreTheOnlyBest};
+ghost use Rattle.clean_link.specs.ChannelLaws.{ChannelsHaveSentSigns, EarlyFramesAreZero};
+ghost use Rattle.clean_link.specs.ChannelLaws.{SilentRowsAreZero, StreamsShowSymbols};
+ghost use Rattle.clean_link.specs.ChannelLaws.{StrengthsArePositive};
+ghost use Rattle.clean_link.specs.CleanLaws.{AreZeroWithoutSync, FramesAreZeros, FramesComeBack};
+ghost use Rattle.clean_link.specs.CleanLaws.{HaveSentSigns, IsMarkedWhereHeard, MarksAreTrue};
+ghost use Rattle.clean_link.specs.CleanLaws.{SentWordsAreTheOnlyBest, WholeSendingsComeBack};
 ghost use Rattle.clean_link.specs.DistinctFrames.{FullRateFramesAreDistinct};
 ghost use Rattle.clean_link.specs.DistinctPlan.{HasMark, HasSetOne, HasSetTwo};
 ghost use Rattle.clean_link.specs.DistinctWorked.{AFullRateFrameIsDistinct, ZerosAreShared};
 ghost use Rattle.clean_link.specs.HeardEach.{EachChannelComesBack};
 ghost use Rattle.clean_link.specs.HeardPages.{PagesComeBack};
-ghost use Rattle.clean_link.specs.OnlyBestFrames.{HeardAreTheOnlyBest, ReceivedAreTheOnlyBest, SetTwoAreTheOnlyBest};
+ghost use Rattle.clean_link.specs.OnlyBestFrames.{HeardAreTheOnlyBest, ReceivedAreTheOnlyBest};
+ghost use Rattle.clean_link.specs.OnlyBestFrames.{SetTwoAreTheOnlyBest};
 ghost use Rattle.clean_link.specs.PageLaws.{PageSendingsComeBack, WholePagesComeBack};
 ghost use Rattle.clean_link.specs.PagingLaws.{MarksTellTheRate, PagingFramesComeBack};
 ghost use Rattle.clean_link.specs.PagingLaws.{PagingHaveSentSigns, PagingWordsAreTheOnlyBest};
@@ -23,10 +29,9 @@ ghost use Rattle.clean_link.specs.ReceivedLaws.{FramesShowSymbols, SetOneSends, 
 ghost use Rattle.clean_link.specs.ReceivedLaws.{SetTwoFramesComeBack, SetTwoSends};
 ghost use Rattle.clean_link.specs.SentEvents.{NoEventIsDirected, WholeMessagesComeBack};
 ghost use Rattle.clean_link.specs.SharedWords.{AreDistinctBySharing, AreDistinctBySharing2};
-ghost use Rattle.clean_link.specs.TrafficLaws.{CommandsComeBack, EachFrameIsHeard};
-ghost use Rattle.clean_link.specs.TrafficLaws.{NoneIsDirected, OnePilotIsHeard};
-ghost use Rattle.clean_link.specs.TrafficLaws.{SentFramesComeBack, SentMessagesComeBack};
-ghost use Rattle.clean_link.specs.TrafficLaws.{SixteenCommandsAreSent};
+ghost use Rattle.clean_link.specs.TrafficLaws.{CommandsComeBack, EachFrameIsHeard, NoneIsDirected};
+ghost use Rattle.clean_link.specs.TrafficLaws.{OnePilotIsHeard, SentFramesComeBack};
+ghost use Rattle.clean_link.specs.TrafficLaws.{SentMessagesComeBack, SixteenCommandsAreSent};
 ghost use Rattle.clean_link.specs.TrafficLaws.{TrafficFramesComeBack, TrafficHaveSentSigns};
 
 /// On a clean link the soft values of each frame in the file are `4 |h|^2 g0 g V C` times the signs
@@ -64,9 +69,9 @@ pub fn sent_words_are_the_only_best()
     ensures paging { PagingWordsAreTheOnlyBest }
 {}
 
-/// The frames of a traffic channel are encoded one by one. Of all words of every rate of its rate set,
-/// their quality indicators right or not, the word of a distinct frame alone has the greatest score
-/// under the frame's soft values, at the places that power control bits leave.
+/// The frames of a traffic channel are encoded one by one. Of all words of every rate of its rate
+/// set, their quality indicators right or not, the word of a distinct frame alone has the greatest
+/// score under the frame's soft values, at the places that power control bits leave.
 pub fn sent_frames_are_the_only_best()
     ensures heard { HeardAreTheOnlyBest }
     ensures received { ReceivedAreTheOnlyBest }
@@ -152,31 +157,32 @@ pub fn whole_messages_come_back()
     ensures heard { WholeMessagesComeBack }
 {}
 
-/// Where no handoff is directed, a handset hears of the sync channel just the whole sendings; of the
-/// paging channel that it follows just the whole pages, where the cell sends the channel or no traffic
-/// channel has its row; and of a traffic channel that it follows, where the cell sends the channel with
-/// frames of rate set 1, one frame for each that begins at the mark or behind it and lies in the file,
-/// with its power control bits, and with its rate and its information bits, as a good frame, where it
-/// is distinct; and where each of them is, just the messages that the signaling in them spells.
+/// Where no handoff is directed, a handset hears of the sync channel just the whole sendings; of
+/// the paging channel that it follows just the whole pages, where the cell sends the channel or no
+/// traffic channel has its row; and of a traffic channel that it follows, where the cell sends the
+/// channel with frames of rate set 1, one frame for each that begins at the mark or behind it and
+/// lies in the file, with its power control bits, and with its rate and its information bits, as a
+/// good frame, where it is distinct; and where each of them is, just the messages that the
+/// signaling in them spells.
 pub fn each_channel_comes_back()
     ensures { EachChannelComesBack }
 {}
 
 /// A frame of 9,600 bits a second is distinct where the code symbols that power control bits leave
-/// tell all words of 192 bits apart, and some bit keeps both of its code symbols, which differ: at a
-/// lower rate they would be one. One such frame is worked out. Frames of zeros at 2,400 and at 1,200
-/// bits a second have one another's symbols, so neither is distinct.
+/// tell all words of 192 bits apart, and some bit keeps both of its code symbols, which differ: at
+/// a lower rate they would be one. One such frame is worked out. Frames of zeros at 2,400 and at
+/// 1,200 bits a second have one another's symbols, so neither is distinct.
 pub fn some_frames_are_distinct()
     ensures full_rate { FullRateFramesAreDistinct }
     ensures worked { AFullRateFrameIsDistinct }
     ensures zeros { ZerosAreShared }
 {}
 
-/// A frame of any rate is distinct where a search bit by bit, of the words of every rate of its rate
-/// set that share its symbols at the places that power control bits leave, finds just its own. Of one
-/// lawful cell with a mark, which follows from its first whole sending, the frames of two channels
-/// that begin there or later and lie in the file are distinct, and there is one of each rate of both
-/// rate sets.
+/// A frame of any rate is distinct where a search bit by bit, of the words of every rate of its
+/// rate set that share its symbols at the places that power control bits leave, finds just its own.
+/// Of one lawful cell with a mark, which follows from its first whole sending, the frames of two
+/// channels that begin there or later and lie in the file are distinct, and there is one of each
+/// rate of both rate sets.
 pub fn frames_of_each_rate_are_distinct()
     ensures shared { AreDistinctBySharing }
     ensures shared_two { AreDistinctBySharing2 }

@@ -14,8 +14,8 @@
 //! frames of a traffic channel are encoded one by one, and take of them the soft values
 //! (`TrafficLaws`). Those that are received of the reference base station alone come back whatever
 //! messages are heard, of either rate set (`ReceivedLaws`). What a handset hears of all channels is
-//! said channel by channel and frame by frame (`HeardEach`), and, where each frame is distinct, as one
-//! list (`SentEvents`).
+//! said channel by channel and frame by frame (`HeardEach`), and, where each frame is distinct, as
+//! one list (`SentEvents`).
 #![tactic(auto)]
 
 pub mod laws;

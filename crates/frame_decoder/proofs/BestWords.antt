@@ -1,6 +1,6 @@
 -- The best word of the gathered soft values is the best word of the span.
-use Rattle.std.proofs.Common.{◌≡◌, ℕ, zero, suc, ◌+◌, ◌*◌, ◌<◌, ◌≤◌, List, length, take, drop}
-use Rattle.std.proofs.Common.{reverse, refl, ap, ◌∙◌, arith, ℤ, length-drop}
+use Rattle.std.proofs.Common.{◌≡◌, ℕ, zero, suc, ◌+◌, ◌*◌, ◌<◌, ◌≤◌, List, length, take, drop, reverse, refl, ap, ◌∙◌, arith, ℤ}
+use Rattle.std.proofs.Common.{length-drop}
 use Rattle.std.specs.Prelude.{if◌then◌else◌, int_lt}
 use Rattle.std.proofs.lemmas.List.{length-reverse}
 use Rattle.chip_core.specs.Bits.{binary}

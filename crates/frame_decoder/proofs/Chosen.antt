@@ -9,12 +9,10 @@ use Rattle.viterbi.specs.Words.{Word}
 use Rattle.frame_decoder.specs.declared.rows.Row.{Row}
 use Rattle.frame_decoder.specs.declared.rows.RowFrame.{RowFrame}
 use Rattle.frame_decoder.specs.declared.traffic.Decoded.{Decoded}
-use Rattle.frame_decoder.specs.Rows.{row_of, symbols_in, score_in, word_in, frame_in, candidate_in}
-use Rattle.frame_decoder.specs.Rows.{frame_of, rising}
+use Rattle.frame_decoder.specs.Rows.{row_of, symbols_in, score_in, word_in, frame_in, candidate_in, frame_of, rising}
 use Rattle.frame_decoder.specs.Rows as rows
-use Rattle.frame_decoder.specs.TrafficFrames.{frame_score, rate_word, has_quality, shown, rate_frame}
-use Rattle.frame_decoder.specs.TrafficFrames.{better, preferred, best_candidate, not_good, good_or}
-use Rattle.frame_decoder.specs.TrafficFrames.{unreplaced, decoded}
+use Rattle.frame_decoder.specs.TrafficFrames.{frame_score, rate_word, has_quality, shown, rate_frame, better, preferred, best_candidate}
+use Rattle.frame_decoder.specs.TrafficFrames.{not_good, good_or, unreplaced, decoded}
 use Rattle.frame_decoder.proofs.RateWords.{word_is}
 
 -- a frame of the rows as a frame of rate set 1

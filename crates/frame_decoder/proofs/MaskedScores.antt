@@ -1,9 +1,7 @@
 -- Scores under soft values that are 0 at some places, and elsewhere one number times the signs of
 -- symbols.
-use Rattle.std.proofs.Common.{◌≡◌, ◌≢◌, ℕ, zero, suc, ◌+◌, ◌*◌, ◌<◌, ◌≤◌, Bool, true, false, List}
-use Rattle.std.proofs.Common.{[], replicate}
-use Rattle.std.proofs.Common.{◌∷◌, length, get_or, filter, refl, sym, ap, ◌∙◌, arith, ℤ, pos}
-use Rattle.std.proofs.Common.{not, cond, ⊎_elim}
+use Rattle.std.proofs.Common.{◌≡◌, ◌≢◌, ℕ, zero, suc, ◌+◌, ◌*◌, ◌<◌, ◌≤◌, Bool, true, false, List, [], replicate, ◌∷◌, length, get_or}
+use Rattle.std.proofs.Common.{filter, refl, sym, ap, ◌∙◌, arith, ℤ, pos, not, cond, ⊎_elim}
 use Rattle.std.specs.Prelude.{negsuc, neg_ℤ, ◌+ℤ◌, ◌*ℤ◌, ◌≤ℤ◌, if◌then◌else◌}
 use Rattle.std.specs.List.{range_with_len}
 use Rattle.std.proofs.lemmas.Int.{ints}

@@ -1,6 +1,5 @@
 -- A span of one frame.
-use Rattle.std.proofs.Common.{◌≡◌, ℕ, ◌*◌, Bool, List, ◌++◌, length, take, drop, ap, ◌∙◌, arith}
-use Rattle.std.proofs.Common.{take_all}
+use Rattle.std.proofs.Common.{◌≡◌, ℕ, ◌*◌, Bool, List, ◌++◌, length, take, drop, ap, ◌∙◌, arith, take_all}
 use Rattle.conv_code.specs.ConvCode.{code_symbols}
 use Rattle.conv_code.proofs.Continued.{length-code_symbols}
 use Rattle.symbol_path.specs.SentOrder.{sent}

@@ -1,6 +1,6 @@
 -- The sums of the soft values of power control bits.
-use Rattle.std.proofs.Common.{◌≡◌, ℕ, ◌+◌, ◌*◌, ◌^◌, ◌<◌, ◌≤◌, ◌≢◌, List, length, get_or, set}
-use Rattle.std.proofs.Common.{ap, ◌∙◌, arith, ℤ, pos, ◌+ℤ◌, below_more, All}
+use Rattle.std.proofs.Common.{◌≡◌, ℕ, ◌+◌, ◌*◌, ◌^◌, ◌<◌, ◌≤◌, ◌≢◌, List, length, get_or, set, ap, ◌∙◌, arith, ℤ, pos, ◌+ℤ◌, below_more}
+use Rattle.std.proofs.Common.{All}
 use Rattle.std.specs.Prelude.{sum_by, unsigned_abs}
 use Rattle.std.specs.List.Sorted.{IsStrictlyIncreasing}
 use Rattle.std.proofs.lemmas.List.{get_or-set_same, get_or-set_other, length-set}

@@ -1,6 +1,6 @@
 -- The choice among candidates, where one frame is above all others or none is good.
-use Rattle.std.proofs.Common.{◌≡◌, ℕ, ◌+◌, ◌<◌, ◌≤◌, drop, ◌⊎◌, inl, ⊎_elim, Bool, true, false, List, [], ◌∷◌, ◌++◌}
-use Rattle.std.proofs.Common.{length, map, take, get_or, refl, sym, ap, ◌∙◌, arith, ℤ, pos}
+use Rattle.std.proofs.Common.{◌≡◌, ℕ, ◌+◌, ◌<◌, ◌≤◌, drop, ◌⊎◌, inl, ⊎_elim, Bool, true, false, List, [], ◌∷◌, ◌++◌, length, map, take}
+use Rattle.std.proofs.Common.{get_or, refl, sym, ap, ◌∙◌, arith, ℤ, pos}
 use Rattle.std.specs.Prelude.{◌<ℤ◌, if◌then◌else◌, int_lt, cond, All, Option, None, Some}
 use Rattle.std.specs.List.{find}
 use Rattle.std.specs.Option.{option_map}
@@ -10,8 +10,7 @@ use Rattle.std.proofs.lemmas.List.Elements.{All-head, All-tail}
 use Rattle.viterbi.specs.Words.{Word}
 use Rattle.frame_decoder.specs.declared.rows.Row.{Row}
 use Rattle.frame_decoder.specs.declared.rows.RowFrame.{RowFrame}
-use Rattle.frame_decoder.specs.Rows.{better, preferred, rising, not_good, good_or}
-use Rattle.frame_decoder.specs.Rows.{frame_in, is_right, score_in, word_in, candidate_of}
+use Rattle.frame_decoder.specs.Rows.{better, preferred, rising, not_good, good_or, frame_in, is_right, score_in, word_in, candidate_of}
 use Rattle.frame_decoder.specs.Rows.{candidate_in, shown_of, frame_of}
 use Rattle.frame_decoder.specs.TrafficFrames.{unreplaced}
 use Rattle.frame_decoder.proofs.ShownSymbols.{lt_true, le_false}

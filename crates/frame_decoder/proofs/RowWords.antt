@@ -1,6 +1,6 @@
 -- The words of a row, their scores, and their quality indicators.
-use Rattle.std.proofs.Common.{◌≡◌, ℕ, ◌+◌, ◌-◌, ◌*◌, ◌<◌, ◌≤◌, Bool, true, false, List, length}
-use Rattle.std.proofs.Common.{get_or, take, drop, sym, ap, ◌∙◌, arith, subst, ℤ, pos}
+use Rattle.std.proofs.Common.{◌≡◌, ℕ, ◌+◌, ◌-◌, ◌*◌, ◌<◌, ◌≤◌, Bool, true, false, List, length, get_or, take, drop, sym, ap, ◌∙◌, arith}
+use Rattle.std.proofs.Common.{subst, ℤ, pos}
 use Rattle.std.specs.Prelude.{◌↔◌, IsTrue, if◌then◌else◌, Option, None, Some}
 use Rattle.std.specs.Bool.{Decides, one_answer}
 use Rattle.std.specs.Cmp.{booleans_Decides}
@@ -12,8 +12,7 @@ use Rattle.chip_core.proofs.Places.{length-map-places, get_or-map-places, map-pl
 use Rattle.conv_code.specs.ConvCode.{code_symbols}
 use Rattle.conv_code.proofs.Continued.{length-code_symbols}
 use Rattle.quality_bits.specs.declared.kind.Kind.{Kind as Check}
-use Rattle.quality_bits.specs.Kinds.{generator_of, body_length, IsChecked, quality_indicator}
-use Rattle.quality_bits.specs.Kinds.{quality_length}
+use Rattle.quality_bits.specs.Kinds.{generator_of, body_length, IsChecked, quality_indicator, quality_length}
 use Rattle.quality_bits.specs.Quality.{check_bits}
 use Rattle.symbol_path.specs.SentOrder.{data_shape, address}
 use Rattle.symbol_path.specs.SentOrderTwo.{repeated_symbol}
@@ -28,8 +27,7 @@ use Rattle.viterbi.specs.Best.{IsBestWord}
 use Rattle.viterbi.specs.declared.word.Ends.TheVariants.{Zero}
 use Rattle.viterbi.proofs.Unique.{by_definition}
 use Rattle.frame_decoder.specs.declared.rows.Row.{Row}
-use Rattle.frame_decoder.specs.Rows.{IsRow, bits_in, repeated_in, place_in, symbols_in, gathered_in}
-use Rattle.frame_decoder.specs.Rows.{score_in, word_in, is_right}
+use Rattle.frame_decoder.specs.Rows.{IsRow, bits_in, repeated_in, place_in, symbols_in, gathered_in, score_in, word_in, is_right}
 use Rattle.frame_decoder.proofs.ZeroWords.{length-best_zero_word, best_zero_word-same}
 
 -- ---- places

@@ -1,7 +1,6 @@
 -- A word's score under a span's soft values is its score under the gathered ones.
-use Rattle.std.proofs.Common.{◌≡◌, ℕ, zero, suc, ◌+◌, ◌*◌, ◌≤◌, Bool, List, [], ◌∷◌, ◌++◌, length}
-use Rattle.std.proofs.Common.{take, drop, refl, sym, ap, ◌∙◌, arith, ℤ, ◌+ℤ◌, length-drop}
-use Rattle.std.proofs.Common.{length-take-le, take_all}
+use Rattle.std.proofs.Common.{◌≡◌, ℕ, zero, suc, ◌+◌, ◌*◌, ◌≤◌, Bool, List, [], ◌∷◌, ◌++◌, length, take, drop, refl, sym, ap, ◌∙◌, arith, ℤ}
+use Rattle.std.proofs.Common.{◌+ℤ◌, length-drop, length-take-le, take_all}
 use Rattle.std.proofs.lemmas.Int.{ints}
 use Rattle.conv_code.specs.ConvCode.{code_symbols}
 use Rattle.conv_code.proofs.Continued.{length-code_symbols}

@@ -1,7 +1,6 @@
 -- A sent frame of any rate set comes back, and soft values of 0 give none.
-use Rattle.std.proofs.Common.{◌≡◌, ℕ, ◌-◌, ◌*◌, ◌<◌, inl, inr, ⊎_elim, Bool, true}
-use Rattle.std.proofs.Common.{false, List, [], ◌∷◌, ◌++◌, length, map, take, drop, replicate, refl}
-use Rattle.std.proofs.Common.{sym, ap, subst, ◌∙◌, arith, ℤ, pos, length-append, append_assoc}
+use Rattle.std.proofs.Common.{◌≡◌, ℕ, ◌-◌, ◌*◌, ◌<◌, inl, inr, ⊎_elim, Bool, true, false, List, [], ◌∷◌, ◌++◌, length, map, take, drop}
+use Rattle.std.proofs.Common.{replicate, refl, sym, ap, subst, ◌∙◌, arith, ℤ, pos, length-append, append_assoc}
 use Rattle.std.specs.Prelude.{◌≤ℤ◌, int_lt, All, get_or, None, Some}
 use Rattle.std.specs.Option.{option_map}
 use Rattle.std.specs.Cmp.{booleans_Decides}
@@ -22,16 +21,12 @@ use Rattle.frame_decoder.specs.declared.rows.Row.{Row}
 use Rattle.frame_decoder.specs.declared.rows.RowFrame.{RowFrame}
 use Rattle.frame_decoder.specs.TrafficFrames.{is_replaced, unreplaced}
 use Rattle.frame_decoder.specs.Laws.{ShowSymbols, AgreeElsewhere, kept_count}
-use Rattle.frame_decoder.specs.Rows.{bits_in, symbols_in, score_in, word_in, is_right, frame_in}
-use Rattle.frame_decoder.specs.Rows.{candidate_of, rising, not_good, shown_of}
+use Rattle.frame_decoder.specs.Rows.{bits_in, symbols_in, score_in, word_in, is_right, frame_in, candidate_of, rising, not_good, shown_of}
 use Rattle.frame_decoder.proofs.MaskedScores.{masked, weight, own_score, alone, zeros_score}
-use Rattle.frame_decoder.proofs.RowChoice.{Below, IsAmong, chosen_is, candidate_below, first_found}
-use Rattle.frame_decoder.proofs.RowChoice.{silent_shown}
+use Rattle.frame_decoder.proofs.RowChoice.{Below, IsAmong, chosen_is, candidate_below, first_found, silent_shown}
 use Rattle.frame_decoder.proofs.RowWords.{bits_least, length-symbols_in}
-use Rattle.frame_decoder.proofs.ShownSymbols.{lt_true, le_of_false, lt_of_true}
-use Rattle.frame_decoder.proofs.ShownSymbols.{kept_is, count_is, some_left, positive}
-use Rattle.frame_decoder.proofs.ZeroWords.{best_zero_word_allowed, best_zero_word_greatest}
-use Rattle.frame_decoder.proofs.ZeroWords.{best_zero_word-same}
+use Rattle.frame_decoder.proofs.ShownSymbols.{lt_true, le_of_false, lt_of_true, kept_is, count_is, some_left, positive}
+use Rattle.frame_decoder.proofs.ZeroWords.{best_zero_word_allowed, best_zero_word_greatest, best_zero_word-same}
 
 -- ---- the word of a frame
 -- its information, its quality indicator, and eight tail bits

@@ -1,6 +1,6 @@
 -- What is kept of soft values that show the symbols of a sent frame, and how two scores compare.
-use Rattle.std.proofs.Common.{◌≡◌, ℕ, ◌*◌, ◌<◌, ◌≤◌, Bool, true, false, List, length, get_or}
-use Rattle.std.proofs.Common.{filter, not, refl, sym, ap, ◌∙◌, arith, ℤ, pos}
+use Rattle.std.proofs.Common.{◌≡◌, ℕ, ◌*◌, ◌<◌, ◌≤◌, Bool, true, false, List, length, get_or, filter, not, refl, sym, ap, ◌∙◌, arith, ℤ}
+use Rattle.std.proofs.Common.{pos}
 use Rattle.std.specs.Prelude.{◌≤ℤ◌, ◌<ℤ◌, ◌*ℤ◌, if◌then◌else◌, int_lt}
 use Rattle.std.specs.List.{range_with_len}
 use Rattle.std.proofs.Math.Nat.{mul-le-mul}
@@ -11,8 +11,7 @@ use Rattle.chip_core.proofs.Places.{places_is}
 use Rattle.frame_decoder.specs.TrafficFrames.{is_replaced, unreplaced}
 use Rattle.frame_decoder.specs.Laws.{ShowSymbols, kept_count}
 use Rattle.frame_decoder.proofs.Unreplaced.{length-unreplaced, get_or-unreplaced}
-use Rattle.frame_decoder.proofs.MaskedScores.{masked, weight, length-masked, get_or-masked}
-use Rattle.frame_decoder.proofs.MaskedScores.{weight_is, weight_least}
+use Rattle.frame_decoder.proofs.MaskedScores.{masked, weight, length-masked, get_or-masked, weight_is, weight_least}
 
 -- ---- scores
 pub lt_true : (x y : ℤ) → x <ℤ y → int_lt x y ≡ true

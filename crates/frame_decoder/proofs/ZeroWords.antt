@@ -1,7 +1,6 @@
 -- The words that start from eight zeros and end with eight zeros, and the best of them.
-use Rattle.std.proofs.Common.{◌≡◌, ℕ, ◌-◌, ◌^◌, ◌<◌, ◌≤◌, Bool, false, List, ◌++◌, length}
-use Rattle.std.proofs.Common.{take, drop, reverse, replicate, refl, sym, ap, subst, ◌∙◌, arith}
-use Rattle.std.proofs.Common.{ℤ, ◌≤ℤ◌, length-append}
+use Rattle.std.proofs.Common.{◌≡◌, ℕ, ◌-◌, ◌^◌, ◌<◌, ◌≤◌, Bool, false, List, ◌++◌, length, take, drop, reverse, replicate, refl, sym, ap}
+use Rattle.std.proofs.Common.{subst, ◌∙◌, arith, ℤ, ◌≤ℤ◌, length-append}
 use Rattle.std.proofs.lemmas.List.{length-take-le, length-reverse, take-append-drop, drop_at}
 use Rattle.std.proofs.lemmas.Nat.{pow_pos}
 use Rattle.chip_core.specs.Bits.{binary}

@@ -1,7 +1,9 @@
--- The frames of a traffic channel, whatever its rate set: each rate is a row that says what its frames
--- are made of. How well words agree with soft values, and the choice among the candidates of the rates.
-use Rattle.std.specs.Prelude.{◌≡◌, ℕ, ◌+◌, ◌*◌, ◌/◌, ◌≤◌, ◌==◌, Bool, false, if◌then◌else◌, List, [], ◌∷◌}
-use Rattle.std.specs.Prelude.{map, filter, take, drop, get_or, ℤ, pos, int_lt, Option, None, Some}
+-- The frames of a traffic channel, whatever its rate set: each rate is a row that says what its
+-- frames are made of. How well words agree with soft values, and the choice among the candidates of
+-- the rates.
+use Rattle.std.specs.Prelude.{◌≡◌, ℕ, ◌+◌, ◌*◌, ◌/◌, ◌≤◌, ◌==◌, Bool, false, if◌then◌else◌, List}
+use Rattle.std.specs.Prelude.{[], ◌∷◌, map, filter, take, drop, get_or, ℤ, pos, int_lt, Option}
+use Rattle.std.specs.Prelude.{None, Some}
 use Rattle.std.specs.List.{find}
 use Rattle.std.specs.Option.{option_map}
 use Rattle.std.specs.Cmp.Lexicographic.{pointwise}
@@ -130,8 +132,8 @@ abbrev pub good_or : {R : Type 0} → Row R → List Bool → ℤ → Option (Ro
 good_or row bits score None = not_good row bits score
 good_or row bits score (Some best) = if best.good then best else not_good row bits best.score
 
--- what is shown of the soft values that are kept, with the highest rate's row and those of the lower
--- rates, the lowest first
+-- what is shown of the soft values that are kept, with the highest rate's row and those of the
+-- lower rates, the lowest first
 abbrev pub shown_of : {R : Type 0} → Row R → List (Row R) → List ℤ → RowFrame R
 shown_of highest lower kept =
     let word = word_in kept highest in

@@ -1,7 +1,7 @@
 -- What a handset decodes of a traffic frame of rate set 1 (TIA/EIA-95-B, 7.1.3.5), and the power
 -- control bits that it hears in it (7.1.3.1.7).
-use Rattle.std.specs.Prelude.{ℕ, ◌+◌, ◌*◌, ◌/◌, Bool, false, not, if◌then◌else◌, nat_eq}
-use Rattle.std.specs.Prelude.{List, [], ◌∷◌, map, take, drop, length, get_or, ℤ, pos, ◌+ℤ◌, int_lt}
+use Rattle.std.specs.Prelude.{ℕ, ◌+◌, ◌*◌, ◌/◌, Bool, false, not, if◌then◌else◌, nat_eq, List, []}
+use Rattle.std.specs.Prelude.{◌∷◌, map, take, drop, length, get_or, ℤ, pos, ◌+ℤ◌, int_lt}
 use Rattle.std.specs.List.{list_any, list_all}
 use Rattle.std.specs.Cmp.Lexicographic.{pointwise}
 use Rattle.std.proofs.Math.Bool.{beq}
@@ -9,8 +9,7 @@ use Rattle.chip_core.specs.Bits.{places}
 use Rattle.conv_code.specs.ConvCode.{code_symbols}
 use Rattle.quality_bits.specs.Kinds.{quality_indicator, quality_length}
 use Rattle.symbol_path.specs.SentOrder.{data_shape, sent}
-use Rattle.quality_bits.specs.TrafficWords.{repeats_of}
-use Rattle.quality_bits.specs.TrafficWords.{information_of, quality_of}
+use Rattle.quality_bits.specs.TrafficWords.{repeats_of, information_of, quality_of}
 use Rattle.quality_bits.specs.declared.rate.Rate.{Rate}
 use Rattle.quality_bits.specs.declared.rate.Rate.TheVariants.{R9600, R4800, R2400, R1200}
 use Rattle.viterbi.specs.Words.{Word, correlation, best_word}

@@ -102,8 +102,8 @@ fn best_candidate<R: Copy>(
 /// those of dropped symbols do. Of each rate the best word is found, of those that start from eight
 /// zeros and end with eight zeros, and is a candidate where its quality indicator is right, and
 /// where it has none. The candidate of the greatest score is taken, the higher rate on a tie, and
-/// is good exactly where that score is above 0. Where it isn't, and where there is no candidate, the
-/// rate is the highest, with the information bits of the best word at that rate.
+/// is good exactly where that score is above 0. Where it isn't, and where there is no candidate,
+/// the rate is the highest, with the information bits of the best word at that rate.
 pub fn frame_of<R: Copy>(
     decoder: &mut Decoder,
     highest: &Row<R>,

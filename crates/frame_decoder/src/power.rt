@@ -1,7 +1,7 @@
 //! Power control bits, as a handset hears them.
 
-ghost use Rattle.std.specs.Prelude.{◌≡◌, ◌<◌, ◌≤◌, ◌+◌, ◌*◌, ◌^◌, ◌++◌, ◌∷◌, [], map};
-ghost use Rattle.std.specs.Prelude.{sum_by, unsigned_abs, All, get_or, pos, int_lt};
+ghost use Rattle.std.specs.Prelude.{◌≡◌, ◌<◌, ◌≤◌, ◌+◌, ◌*◌, ◌^◌, ◌++◌, ◌∷◌, [], map, sum_by};
+ghost use Rattle.std.specs.Prelude.{unsigned_abs, All, get_or, pos, int_lt};
 ghost use Rattle.std.specs.List.Sorted.{IsStrictlyIncreasing};
 ghost use Rattle.chip_core.specs.Bits.{places};
 ghost use Rattle.frame_decoder.specs.TrafficFrames.{group_sums, subchannels, is_up, command};

@@ -13,8 +13,8 @@ fn clear_at(values: &mut [i64; 384], place: u16)
     }
 }
 
-/// The soft values of a frame's 384 symbols with 0 in place of those of power control bits: `places`
-/// has their places, as `symbol_path::power_places` gives them. No absolute value grows.
+/// The soft values of a frame's 384 symbols with 0 in place of those of power control bits:
+/// `places` has their places, as `symbol_path::power_places` gives them. No absolute value grows.
 ///
 /// TIA/EIA-95-B, 7.1.3.1.7: a power control bit is sent in place of two symbols.
 pub fn without_commands(softs: &[i64; 384], places: &[u16; 32]) -> [i64; 384]

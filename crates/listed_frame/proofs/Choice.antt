@@ -10,19 +10,15 @@ use Rattle.viterbi.specs.declared.word.Ends.TheVariants.{Zero}
 use Rattle.frame_decoder.specs.declared.rows.Row.{Row}
 use Rattle.frame_decoder.specs.declared.rows.RowFrame.{RowFrame}
 use Rattle.frame_decoder.specs.declared.traffic.Decoded.{Decoded}
-use Rattle.frame_decoder.specs.Rows.{row_of, symbols_in, score_in, word_in, candidate_of, rising}
-use Rattle.frame_decoder.specs.Rows.{frame_of}
+use Rattle.frame_decoder.specs.Rows.{row_of, symbols_in, score_in, word_in, candidate_of, rising, frame_of}
 use Rattle.frame_decoder.specs.Rows as rows
-use Rattle.frame_decoder.specs.TrafficFrames.{frame_score, unreplaced, shown, best_candidate}
-use Rattle.frame_decoder.specs.TrafficFrames.{good_or}
-use Rattle.frame_decoder.proofs.Chosen.{as_decoded, framed, framed_is, Is, more_is, lower_is}
-use Rattle.frame_decoder.proofs.Chosen.{shown_is, decoded_is}
+use Rattle.frame_decoder.specs.TrafficFrames.{frame_score, unreplaced, shown, best_candidate, good_or}
+use Rattle.frame_decoder.proofs.Chosen.{as_decoded, framed, framed_is, Is, more_is, lower_is, shown_is, decoded_is}
 use Rattle.frame_decoder.proofs.RateWords.{bits_are, word_is}
 use Rattle.frame_decoder.proofs.SentFrames.{rates}
 use Rattle.list_viterbi.specs.First.{first_words, word_of}
 use Rattle.list_viterbi.specs.declared.words.Entry.{Entry}
-use Rattle.listed_frame.specs.ListedFrames.{words_in, first_words_of, first_right, word_frame}
-use Rattle.listed_frame.specs.ListedFrames.{candidate, preferred_if, best_listed, listed}
+use Rattle.listed_frame.specs.ListedFrames.{words_in, first_words_of, first_right, word_frame, candidate, preferred_if, best_listed, listed}
 use Rattle.listed_frame.specs.Laws.{IsDecodedByOneWord}
 use Rattle.listed_frame.proofs.FirstWords.{one_word}
 use Rattle.listed_frame.proofs.Candidates.{listed_candidate, candidate_is, best_bits, best_score}

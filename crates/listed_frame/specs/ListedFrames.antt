@@ -1,4 +1,5 @@
--- What a handset decodes of a traffic frame of rate set 1 (TIA/EIA-95-B, 7.1.3.5) by lists of words.
+-- What a handset decodes of a traffic frame of rate set 1 (TIA/EIA-95-B, 7.1.3.5) by lists of
+-- words.
 use Rattle.std.specs.Prelude.{ℕ, List, [], ◌∷◌, ℤ, Option, None, Some}
 use Rattle.std.specs.List.{find}
 use Rattle.std.specs.Option.{option_map}

@@ -1,6 +1,6 @@
 -- Worked values, which the checker computes.
-use Rattle.std.specs.Prelude.{◌≡◌, refl, false, List, [], ◌∷◌, ◌++◌, replicate, pos, Bool}
-use Rattle.std.specs.Prelude.{None, Some}
+use Rattle.std.specs.Prelude.{◌≡◌, refl, false, List, [], ◌∷◌, ◌++◌, replicate, pos, Bool, None}
+use Rattle.std.specs.Prelude.{Some}
 use Rattle.chip_core.specs.Bits.{binary, places}
 use Rattle.quality_bits.specs.Quality.{check_bits}
 use Rattle.quality_bits.specs.declared.rate.Rate.TheVariants.{R4800, R2400}

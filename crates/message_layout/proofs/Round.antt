@@ -8,7 +8,8 @@ use Rattle.message_layout.specs.Shapes.{is_lawful, Shape}
 use Rattle.message_layout.specs.Spelling.{behind_group, group_fields, octet_bits, records_of, spelling, IsGroup, IsOf, IsRest}
 use Rattle.message_layout.specs.declared.contents.Contents.{Contents}
 use Rattle.message_layout.proofs.Lawful.{lawful}
-use Rattle.message_layout.proofs.Parts.{bind_some, fields_again, fields_there, group_again, group_there, guard_some, octets_again, octets_there, records_part_again, records_part_there, some_is}
+use Rattle.message_layout.proofs.Parts.{bind_some, fields_again, fields_there, group_again, group_there, guard_some, octets_again}
+use Rattle.message_layout.proofs.Parts.{octets_there, records_part_again, records_part_there, some_is}
 
 rest_to : (most : Option ℕ) (rest : List Bool) → IsRest most rest → is_rest most rest ≡ true
 rest_to None rest h = refl

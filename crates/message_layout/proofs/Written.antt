@@ -1,5 +1,6 @@
 -- Contents that are written part by part.
-use Rattle.std.proofs.Common.{◌≡◌, ℕ, ◌+◌, ◌≤◌, List, Bool, [], ◌++◌, length, ap, ◌∙◌, arith, append_assoc, length-append, Option, None, Some}
+use Rattle.std.proofs.Common.{◌≡◌, ℕ, ◌+◌, ◌≤◌, List, Bool, [], ◌++◌, length, ap, ◌∙◌, arith, append_assoc, length-append, Option, None}
+use Rattle.std.proofs.Common.{Some}
 use Rattle.chip_core.specs.Bits.{binary}
 use Rattle.chip_core.specs.Fields.{spelled, in_widths}
 use Rattle.chip_core.proofs.FieldLists.{length-binary}

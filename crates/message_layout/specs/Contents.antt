@@ -1,5 +1,6 @@
 -- Numbers of the fields of records, column by column.
-use Rattle.std.specs.Prelude.{ℕ, zero, suc, ◌/◌, if◌then◌else◌, List, [], ◌∷◌, ◌++◌, Bool, length, map, take, drop, get_or, nat_lt}
+use Rattle.std.specs.Prelude.{ℕ, zero, suc, ◌/◌, if◌then◌else◌, List, [], ◌∷◌, ◌++◌, Bool, length}
+use Rattle.std.specs.Prelude.{map, take, drop, get_or, nat_lt}
 use Rattle.chip_core.specs.Fields.{in_widths, total}
 use Rattle.chip_core.specs.Readings.{column_at}
 use Rattle.chip_core.specs.declared.field.Field.{Field}

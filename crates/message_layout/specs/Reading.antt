@@ -1,5 +1,6 @@
 -- Bits read by a layout, part by part: of each part what it says, and the bits behind it.
-use Rattle.std.specs.Prelude.{ℕ, ◌*◌, ◌==◌, if◌then◌else◌, not, Bool, true, false, List, length, take, drop, nat_le, Option, None, Some}
+use Rattle.std.specs.Prelude.{ℕ, ◌*◌, ◌==◌, if◌then◌else◌, not, Bool, true, false, List, length}
+use Rattle.std.specs.Prelude.{take, drop, nat_le, Option, None, Some}
 use Rattle.chip_core.specs.Fields.{total}
 use Rattle.chip_core.specs.Readings.{number_at, values_at}
 use Rattle.message_layout.specs.Contents.{columns_in, count_in}

@@ -1,5 +1,6 @@
 -- Layouts of bodies as plain numbers: which fields stand in one, and in how many bits.
-use Rattle.std.specs.Prelude.{ℕ, ◌≤◌, ◌&&◌, Bool, true, false, List, [], ◌∷◌, length, map, nat_lt, nat_le, Option, None, Some}
+use Rattle.std.specs.Prelude.{ℕ, ◌≤◌, ◌&&◌, Bool, true, false, List, [], ◌∷◌, length, map, nat_lt}
+use Rattle.std.specs.Prelude.{nat_le, Option, None, Some}
 use Rattle.chip_core.specs.Fields.{total}
 use Rattle.message_layout.specs.declared.layout.Layout.{Layout}
 use Rattle.message_layout.specs.declared.layout.Presence.{Presence}

@@ -1,5 +1,6 @@
 -- The bits that contents of a layout are sent as.
-use Rattle.std.specs.Prelude.{ℕ, ◌≡◌, ◌/◌, ◌%◌, ◌^◌, ◌<◌, ◌≤◌, Bool, List, [], ◌∷◌, ◌++◌, length, map, Option, None, Some}
+use Rattle.std.specs.Prelude.{ℕ, ◌≡◌, ◌/◌, ◌%◌, ◌^◌, ◌<◌, ◌≤◌, Bool, List, [], ◌∷◌, ◌++◌, length}
+use Rattle.std.specs.Prelude.{map, Option, None, Some}
 use Rattle.chip_core.specs.Fields.{field, spelled, in_widths, FieldsFit}
 use Rattle.chip_core.specs.declared.field.Field.{Field}
 use Rattle.message_layout.specs.Contents.{height, record_fields, shares}
@@ -18,7 +19,8 @@ group_fields (UnlessLeft count) widths (Some values) = in_widths widths values
 
 -- bits that are 0, the number of octets, and the octets
 abbrev pub octet_bits : ℕ → ℕ → List Bool → List Bool
-octet_bits zeros count octets = spelled (field zeros 0 ∷ field count (length octets / 8) ∷ []) ++ octets
+octet_bits zeros count octets =
+    spelled (field zeros 0 ∷ field count (length octets / 8) ∷ []) ++ octets
 
 abbrev pub records_of : Shape → Contents → List Field
 records_of s c = record_fields s.records (height c.columns) c.columns

@@ -1,7 +1,8 @@
 -- Worked values.
 use Rattle.std.specs.Prelude.{◌≡◌, refl, true, false, [], ◌∷◌, None, Some}
 use Rattle.chip_core.specs.Bits.{number, binary}
-use Rattle.message_layout.specs.Reading.{fields_at, group_at, number_part, octets_at, part_at, presence_at, reading, records_at}
+use Rattle.message_layout.specs.Reading.{fields_at, group_at, number_part, octets_at, part_at}
+use Rattle.message_layout.specs.Reading.{presence_at, reading, records_at}
 use Rattle.message_layout.specs.Shapes.{is_lawful, Shape}
 use Rattle.message_layout.specs.Spelling.{spelling}
 use Rattle.message_layout.specs.declared.contents.Contents.{Contents}
@@ -73,7 +74,8 @@ unfolding unless_left reading fields_at group_at presence_at octets_at number_pa
 no_group = refl
 
 -- and four bits are neither
-too_short : reading unless_left (false ∷ true ∷ true ∷ false ∷ true ∷ true ∷ false ∷ true ∷ []) ≡ None
+too_short : reading unless_left
+    (false ∷ true ∷ true ∷ false ∷ true ∷ true ∷ false ∷ true ∷ []) ≡ None
 unfolding unless_left reading fields_at group_at presence_at octets_at number_part part_at
     records_at
 too_short = refl

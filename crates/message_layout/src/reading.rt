@@ -1,10 +1,13 @@
 //! Bits read by a layout.
 
-ghost use Rattle.std.specs.Prelude.{◌≡◌, ◌≤◌, ◌<◌, ◌+◌, ◌*◌, ◌^◌, ◌++◌, ◌∷◌, [], true, length, map, IfSome, Some};
+ghost use Rattle.std.specs.Prelude.{◌≡◌, ◌≤◌, ◌<◌, ◌+◌, ◌*◌, ◌^◌, ◌++◌, ◌∷◌, [], true, length, map};
+ghost use Rattle.std.specs.Prelude.{IfSome, Some};
 ghost use Rattle.chip_core.specs.Fields.{total, AreWidths};
 ghost use Rattle.chip_core.specs.Readings.{column_at, number_at};
 ghost use Rattle.message_layout.specs.Contents.{column_in, count_in};
-ghost use Rattle.message_layout.specs.Reading.{fields_at, group_at, is_rest, number_part, octets_at, part_at, presence_at, reading, records_at};
+ghost use Rattle.message_layout.specs.Reading.{fields_at, group_at, is_rest, number_part};
+ghost use Rattle.message_layout.specs.Reading.{octets_at, part_at, presence_at, reading};
+ghost use Rattle.message_layout.specs.Reading.{records_at};
 ghost use Rattle.message_layout.specs.Shapes.{is_lawful, shape, AreNarrow};
 ghost use Rattle.message_layout.specs.Spelling.{spelling, IsOf};
 ghost use Rattle.message_layout.specs.declared.contents.Contents.{Contents as TheContents};
@@ -14,8 +17,8 @@ use crate::layout::{FieldRow, Group, Layout, Octets, Presence, Records, width_in
 use crate::values::FieldValues;
 use chip_core::{BitReader, Bits, Numbers};
 
-/// What bits say by a layout, with at most 128 records; `None` exactly where no contents of the layout
-/// are spelled so.
+/// What bits say by a layout, with at most 128 records; `None` exactly where no contents of the
+/// layout are spelled so.
 pub fn read(layout: &Layout, bits: &Bits) -> Option<Contents>
     requires lawful { is_lawful (shape layout.now) ≡ true }
     requires room { count_in (shape layout.now).records (length bits.now) ≤ 128 }
@@ -83,7 +86,8 @@ fn read_fields(rows: &[FieldRow], bits: &Bits) -> Option<(FieldValues, Bits)>
 fn read_group(group: &Group, bits: &Bits) -> Option<(Option<FieldValues>, Bits)>
     requires widths { AreWidths (map (λ row. row.1) group.now.fields.now) }
     requires room { length group.now.fields.now ≤ 48 }
-    ensures { result ≡ group_at group.now.presence (map (λ row. row.1) group.now.fields.now) bits.now }
+    ensures { result ≡ group_at group.now.presence (map (λ row. row.1) group.now.fields.now)
+        bits.now }
 {
     let (is_there, bits) = read_presence(group.presence, bits)?;
     if !is_there {
@@ -159,7 +163,8 @@ fn read_records(records: &Records, bits: &Bits) -> Option<([Numbers; 3], Bits)>
     requires narrow { AreNarrow (map (λ row. row.1) records.now.fields.now) }
     requires few { length records.now.fields.now ≤ 3 }
     requires room { count_in (map (λ row. row.1) records.now.fields.now) (length bits.now) ≤ 128 }
-    ensures { result ≡ records_at (map (λ row. row.1) records.now.fields.now) records.now.least bits.now }
+    ensures { result ≡ records_at (map (λ row. row.1) records.now.fields.now) records.now.least
+        bits.now }
 {
     let fields = records.fields;
     let count = records_within(fields, bits.len());

@@ -5,7 +5,8 @@ ghost use Rattle.chip_core.specs.Bits.{binary};
 ghost use Rattle.chip_core.specs.Fields.{in_widths, spelled, AreWidths, FieldsFit};
 ghost use Rattle.message_layout.specs.Contents.{height, record_at, record_fields, shares};
 ghost use Rattle.message_layout.specs.Shapes.{is_lawful, shape};
-ghost use Rattle.message_layout.specs.Spelling.{group_fields, octet_bits, spelling, HaveValues, IsOf};
+ghost use Rattle.message_layout.specs.Spelling.{group_fields, octet_bits, spelling, HaveValues};
+ghost use Rattle.message_layout.specs.Spelling.{IsOf};
 
 use crate::contents::Contents;
 use crate::layout::{FieldRow, Group, Layout, Octets, Presence, width_in};
@@ -70,7 +71,8 @@ fn append_octets(body: &mut Bits, layout: Octets, octets: &Bits)
     requires zeros { layout.zeros ≤ 64 }
     requires width { layout.width ≤ 8 }
     requires counted { length octets.now / 8 < 2 ^ layout.width }
-    requires room { length body.old + length (octet_bits layout.zeros layout.width octets.now) ≤ 1184 }
+    requires room { length body.old + length (octet_bits layout.zeros layout.width octets.now) ≤
+        1184 }
     ensures { body.new ≡ body.old ++ octet_bits layout.zeros layout.width octets.now }
 {
     append_number(body, layout.zeros, 0);
@@ -95,8 +97,10 @@ fn append_number(body: &mut Bits, width: u8, value: u64)
 fn append_records(body: &mut Bits, fields: &[FieldRow], columns: &[Numbers; 3])
     requires widths { AreWidths (map (λ row. row.1) fields.now) }
     requires few { length fields.now ≤ 3 }
-    requires columns { map length columns.now ≡ shares (map (λ row. row.1) fields.now) (height columns.now) }
-    requires fit { FieldsFit (record_fields (map (λ row. row.1) fields.now) (height columns.now) columns.now) }
+    requires columns { map length columns.now ≡ shares (map (λ row. row.1) fields.now)
+        (height columns.now) }
+    requires fit { FieldsFit (record_fields (map (λ row. row.1) fields.now) (height columns.now)
+        columns.now) }
     requires room { length body.old + length (spelled
         (record_fields (map (λ row. row.1) fields.now) (height columns.now) columns.now)) ≤ 1184 }
     ensures { body.new ≡ body.old ++ spelled
@@ -111,11 +115,13 @@ fn append_records(body: &mut Bits, fields: &[FieldRow], columns: &[Numbers; 3])
 fn append_record(body: &mut Bits, fields: &[FieldRow], columns: &[Numbers; 3], i: u8)
     requires widths { AreWidths (map (λ row. row.1) fields.now) }
     requires few { length fields.now ≤ 3 }
-    requires columns { map length columns.now ≡ shares (map (λ row. row.1) fields.now) (height columns.now) }
+    requires columns { map length columns.now ≡ shares (map (λ row. row.1) fields.now)
+        (height columns.now) }
     requires within { i < height columns.now }
     requires fit { FieldsFit (in_widths (map (λ row. row.1) fields.now) (record_at i columns.now)) }
     requires room { length body.old
-        + length (spelled (in_widths (map (λ row. row.1) fields.now) (record_at i columns.now))) ≤ 1184 }
+        + length (spelled (in_widths (map (λ row. row.1) fields.now)
+            (record_at i columns.now))) ≤ 1184 }
     ensures { body.new ≡ body.old
         ++ spelled (in_widths (map (λ row. row.1) fields.now) (record_at i columns.now)) }
 {

@@ -1,18 +1,15 @@
 -- The active pilots of sets in order, actives a traffic channel is heard from them.
-use Rattle.std.proofs.Common.{◌≡◌, ℕ, zero, suc, ◌+◌, ◌*◌, ◌<◌, ◌≤◌, ◌==◌, Bool, true, false}
-use Rattle.std.proofs.Common.{List, [], ◌∷◌, ◌++◌, length, map, refl, sym, ap, arith, Some, slice_get}
-use Rattle.std.proofs.Common.{nat_lt, nat_le, ℤ, pos, get_or, All, inl, inr, cond, slice_set, replicate}
-use Rattle.std.proofs.Common.{subst, Option, None}
+use Rattle.std.proofs.Common.{◌≡◌, ℕ, zero, suc, ◌+◌, ◌*◌, ◌<◌, ◌≤◌, ◌==◌, Bool, true, false, List, [], ◌∷◌, ◌++◌, length, map, refl, sym}
+use Rattle.std.proofs.Common.{ap, arith, Some, slice_get, nat_lt, nat_le, ℤ, pos, get_or, All, inl, inr, cond, slice_set, replicate, subst}
+use Rattle.std.proofs.Common.{Option, None}
 use Rattle.std.specs.Prelude.{unsigned_abs, nat_eq, if◌then◌else◌}
-use Rattle.std.proofs.lemmas.Bool.{and_from, cases_Bool, cases_lt, eqb-true, eqb-false, eq-eqb}
-use Rattle.std.proofs.lemmas.Bool.{ne_eqb, le-leb, le-ltb, lt-ltb}
+use Rattle.std.proofs.lemmas.Bool.{and_from, cases_Bool, cases_lt, eqb-true, eqb-false, eq-eqb, ne_eqb, le-leb, le-ltb, lt-ltb}
 use Rattle.std.proofs.lemmas.List.Elements.{All-set}
 use Rattle.pilot_sets.specs.Orderly.{IsOrderly, IsStanding, times, times_in}
 use Rattle.pilot_sets.specs.Orderly as orderly
 use Rattle.pilot_sets.specs.PilotSets.{pilots_of_actives}
 use Rattle.pilot_sets.specs.Handoffs.{handed_off}
-use Rattle.pilot_sets.specs.Standing.{Standing, began_in, deltas_with, due_at, due_for, shown}
-use Rattle.pilot_sets.specs.Standing.{shown_active}
+use Rattle.pilot_sets.specs.Standing.{Standing, began_in, deltas_with, due_at, due_for, shown, shown_active}
 use Rattle.pilot_sets.specs.declared.lists.Active.{Active}
 use Rattle.pilot_sets.specs.declared.standing.Accepted.{Accepted}
 use Rattle.pilot_sets.specs.declared.standing.ActivePilot.{ActivePilot}

@@ -1,10 +1,9 @@
 -- What the channels behind the mark have still to give, as samples come.
-use Rattle.std.proofs.Common.{◌≡◌, ℕ, ◌+◌, ◌<◌, ◌≤◌, List, [], ◌++◌, length, map, refl, ap}
-use Rattle.std.proofs.Common.{◌∙◌, inl, inr, Bool, true, false, Option, Some, None, arith, length-append, nat_lt}
+use Rattle.std.proofs.Common.{◌≡◌, ℕ, ◌+◌, ◌<◌, ◌≤◌, List, [], ◌++◌, length, map, refl, ap, ◌∙◌, inl, inr, Bool, true, false, Option, Some}
+use Rattle.std.proofs.Common.{None, arith, length-append, nat_lt}
 use Rattle.std.specs.Prelude.{IsTrue, ◌↔◌, if◌then◌else◌}
 use Rattle.chip_core.specs.declared.sample.Sample.{Sample}
-use Rattle.mobile_core.specs.FollowedChannels.{HearsFollowed, IsFollowedDue, WaitFrom}
-use Rattle.mobile_core.specs.FollowedChannels.{IsSoundFollowed, followed_events_left}
+use Rattle.mobile_core.specs.FollowedChannels.{HearsFollowed, IsFollowedDue, WaitFrom, IsSoundFollowed, followed_events_left}
 use Rattle.mobile_core.specs.Near.{AreNear}
 use Rattle.mobile_core.specs.PagingEvents.{page_event, pages_behind}
 use Rattle.mobile_core.specs.PagingMonitoring.{IsReceiverDue, paging_events_left}

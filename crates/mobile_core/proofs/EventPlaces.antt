@@ -1,17 +1,15 @@
 -- The events that end at a number of samples have that number.
-use Rattle.std.proofs.Common.{◌≡◌, ℕ, ◌+◌, ◌==◌, ◌||◌, List, [], ◌∷◌, ◌++◌, map, refl, Option, None}
-use Rattle.std.proofs.Common.{Some, inl, inr, take}
+use Rattle.std.proofs.Common.{◌≡◌, ℕ, ◌+◌, ◌==◌, ◌||◌, List, [], ◌∷◌, ◌++◌, map, refl, Option, None, Some, inl, inr, take}
 use Rattle.std.specs.List.{flat_map}
 use Rattle.std.proofs.lemmas.Bool.{cases_Bool, eqb-true}
 use Rattle.chip_core.specs.declared.sample.Sample.{Sample}
 use Rattle.pilot_sets.specs.Standing.{Standing}
 use Rattle.pilot_sets.specs.declared.change.SetChange.{SetChange}
-use Rattle.mobile_core.specs.Events.{events_at, frame_events_at, message_events_at}
-use Rattle.mobile_core.specs.Events.{paging_events_at, sets_events_at}
+use Rattle.mobile_core.specs.Events.{events_at, frame_events_at, message_events_at, paging_events_at, sets_events_at}
 use Rattle.mobile_core.specs.Given.{at_of}
 use Rattle.mobile_core.specs.Marks.{mark}
-use Rattle.mobile_core.specs.Moments.{changed, frames_at, heard_from, kept_to, legs_at, messages_at}
-use Rattle.mobile_core.specs.Moments.{moment_events, moment_place, moments_before, passed, sets_at}
+use Rattle.mobile_core.specs.Moments.{changed, frames_at, heard_from, kept_to, legs_at, messages_at, moment_events, moment_place}
+use Rattle.mobile_core.specs.Moments.{moments_before, passed, sets_at}
 use Rattle.mobile_core.specs.PagingEvents.{page_event, pages_behind}
 use Rattle.mobile_core.specs.Signaling.{message_at, message_events, message_heard, messages_by}
 use Rattle.mobile_core.specs.Streams.{known_now}

@@ -1,20 +1,16 @@
 -- How the events of a file grow with its samples.
-use Rattle.std.proofs.Common.{◌≡◌, ℕ, suc, ◌+◌, ◌-◌, ◌<◌, ◌≤◌, List, [], ◌++◌, length}
-use Rattle.std.proofs.Common.{length-append, refl, sym, ap, ◌∙◌, arith, inl, inr, map, subst}
-use Rattle.std.proofs.Common.{Option, Some, None, nat_lt}
+use Rattle.std.proofs.Common.{◌≡◌, ℕ, suc, ◌+◌, ◌-◌, ◌<◌, ◌≤◌, List, [], ◌++◌, length, length-append, refl, sym, ap, ◌∙◌, arith, inl, inr}
+use Rattle.std.proofs.Common.{map, subst, Option, Some, None, nat_lt}
 use Rattle.std.specs.Prelude.{if◌then◌else◌}
 use Rattle.std.proofs.lemmas.Bool.{cases_lt}
 use Rattle.std.proofs.lemmas.List.{append_assoc}
 use Rattle.chip_core.specs.declared.sample.Sample.{Sample}
-use Rattle.mobile_core.specs.Events.{events, events_at, frame_events_at, heard_within}
-use Rattle.mobile_core.specs.Events.{message_events_at, paging_events_at, sets_events_at}
-use Rattle.mobile_core.specs.FollowedChannels.{HearsFollowed, IsFollowedDue, IsSoundFollowed}
-use Rattle.mobile_core.specs.FollowedChannels.{followed_events_left}
+use Rattle.mobile_core.specs.Events.{events, events_at, frame_events_at, heard_within, message_events_at, paging_events_at, sets_events_at}
+use Rattle.mobile_core.specs.FollowedChannels.{HearsFollowed, IsFollowedDue, IsSoundFollowed, followed_events_left}
 use Rattle.mobile_core.specs.Left.{sync_events_left}
 use Rattle.mobile_core.specs.Marks.{mark, mark_before}
 use Rattle.mobile_core.specs.Near.{AreNear}
-use Rattle.mobile_core.specs.Moments.{frames_behind, messages_behind}
-use Rattle.mobile_core.specs.Moments.{moments_before, sets_behind}
+use Rattle.mobile_core.specs.Moments.{frames_behind, messages_behind, moments_before, sets_behind}
 use Rattle.mobile_core.specs.PagingEvents.{page_event, pages_at, pages_behind}
 use Rattle.mobile_core.specs.SyncEvents.{sync_events_at}
 use Rattle.mobile_core.specs.Tuning.{Tuning, sync_stream}
@@ -22,8 +18,7 @@ use Rattle.mobile_core.specs.declared.event.Event.{Event}
 use Rattle.mobile_core.specs.declared.followed.Followed.{Followed}
 use Rattle.mobile_core.specs.declared.mark.Mark.{Mark}
 use Rattle.chip_core.specs.declared.assignment.Traffic.{Traffic}
-use Rattle.mobile_core.proofs.ChannelsFollowed.{EndFrom, followed_behind, followed_come}
-use Rattle.mobile_core.proofs.ChannelsFollowed.{followed_quiet, unrated}
+use Rattle.mobile_core.proofs.ChannelsFollowed.{EndFrom, followed_behind, followed_come, followed_quiet, unrated}
 use Rattle.mobile_core.proofs.FramesFollowed.{told_behind, told_unset}
 use Rattle.mobile_core.proofs.Growth as growth
 use Rattle.mobile_core.proofs.Growth.{IsSyncTimed, KnownBefore, KnownFrom}

@@ -1,6 +1,5 @@
 -- How the frames that are heard of a traffic channel grow with a file's samples.
-use Rattle.std.proofs.Common.{◌≡◌, ℕ, ◌+◌, ◌<◌, ◌≤◌, true, List, [], ◌∷◌, ◌++◌, length, map}
-use Rattle.std.proofs.Common.{ℤ, sym, ap, ◌∙◌, arith}
+use Rattle.std.proofs.Common.{◌≡◌, ℕ, ◌+◌, ◌<◌, ◌≤◌, true, List, [], ◌∷◌, ◌++◌, length, map, ℤ, sym, ap, ◌∙◌, arith}
 use Rattle.chip_core.specs.Bits.{places}
 use Rattle.chip_core.specs.declared.sample.Sample.{Sample}
 use Rattle.frame_decoder.specs.TrafficFrames.{command, decoded, group_sums}
@@ -9,11 +8,10 @@ use Rattle.rake_finger.specs.Soft.{softs}
 use Rattle.rake_finger.specs.declared.form.Form.TheVariants.{Data}
 use Rattle.mobile_core.specs.Legs.{all_fingers, on_subchannel, subchannels}
 use Rattle.mobile_core.specs.Scrambled.{unscrambled}
-use Rattle.mobile_core.specs.TrafficEvents.{all_sums, commands_at, decoded_at, frame_event}
-use Rattle.mobile_core.specs.TrafficEvents.{frame_heard, frames_by, subchannel_sums}
+use Rattle.mobile_core.specs.TrafficEvents.{all_sums, commands_at, decoded_at, frame_event, frame_heard, frames_by, subchannel_sums}
 use Rattle.mobile_core.specs.TrafficReceiving.{frames_left_of}
-use Rattle.mobile_core.specs.TrafficStreams.{ends_now, frame_known, frames_bound, frames_now}
-use Rattle.mobile_core.specs.TrafficStreams.{has_frame, replaced_in, stream_of, traffic_start}
+use Rattle.mobile_core.specs.TrafficStreams.{ends_now, frame_known, frames_bound, frames_now, has_frame, replaced_in, stream_of}
+use Rattle.mobile_core.specs.TrafficStreams.{traffic_start}
 use Rattle.mobile_core.specs.Tuning.{Tuning}
 use Rattle.mobile_core.specs.declared.event.Event.{Event}
 use Rattle.mobile_core.specs.declared.legs.Leg.{Leg}

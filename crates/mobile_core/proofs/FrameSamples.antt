@@ -1,13 +1,12 @@
 -- A frame's soft values hang on its fingers' samples alone.
-use Rattle.std.proofs.Common.{◌≡◌, ℕ, ◌+◌, ◌-◌, ◌*◌, ◌/◌, ◌<◌, ◌≤◌, List, [], ◌∷◌, map}
-use Rattle.std.proofs.Common.{take, drop, refl, sym, ap, ◌∙◌, arith}
+use Rattle.std.proofs.Common.{◌≡◌, ℕ, ◌+◌, ◌-◌, ◌*◌, ◌/◌, ◌<◌, ◌≤◌, List, [], ◌∷◌, map, take, drop, refl, sym, ap, ◌∙◌, arith}
 use Rattle.std.proofs.lemmas.List.{drop-drop, drop-take, take-take}
 use Rattle.chip_core.specs.Complex.{sum_of}
 use Rattle.chip_core.specs.Sums.{total}
 use Rattle.chip_core.specs.declared.sample.Sample.{Sample}
 use Rattle.short_code.specs.Despread.{despread}
-use Rattle.rake_finger.specs.Soft.{symbol_chips, window_chips, symbols, frame_chips, finger_place}
-use Rattle.rake_finger.specs.Soft.{covered_from, despread_at, pilot_sum, symbol_sum, soft, softs}
+use Rattle.rake_finger.specs.Soft.{symbol_chips, window_chips, symbols, frame_chips, finger_place, covered_from, despread_at, pilot_sum}
+use Rattle.rake_finger.specs.Soft.{symbol_sum, soft, softs}
 use Rattle.rake_finger.specs.declared.finger.Finger.{Finger}
 use Rattle.rake_finger.specs.declared.form.Form.{Form}
 use Rattle.mobile_core.specs.Channels.{channel_stream}

@@ -1,9 +1,6 @@
 -- When frames end and are known, over any stream.
-use Rattle.std.proofs.Common.{◌≡◌, ◌⊎◌, ℕ, zero, suc, ◌+◌, ◌-◌, ◌<◌, ◌≤◌, true, false, refl, sym}
-use Rattle.std.proofs.Common.{◌∙◌, arith}
-use Rattle.std.proofs.Common.{nat_le, inl, inr}
-use Rattle.std.proofs.lemmas.Bool.{and_parts, and_from, and_left, and_right, leb-true, le-leb}
-use Rattle.std.proofs.lemmas.Bool.{lt-leb, cases_lt, cases_order, cases_Bool}
+use Rattle.std.proofs.Common.{◌≡◌, ◌⊎◌, ℕ, zero, suc, ◌+◌, ◌-◌, ◌<◌, ◌≤◌, true, false, refl, sym, ◌∙◌, arith, nat_le, inl, inr}
+use Rattle.std.proofs.lemmas.Bool.{and_parts, and_from, and_left, and_right, leb-true, le-leb, lt-leb, cases_lt, cases_order, cases_Bool}
 use Rattle.mobile_core.specs.Streams.{Stream, is_in_file, known_at}
 use Rattle.rake_finger.specs.Soft.{frame_chips}
 use Rattle.mobile_core.specs.Timing.{stream_end, IsTimed}

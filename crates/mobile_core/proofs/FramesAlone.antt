@@ -1,7 +1,6 @@
 -- What is received of a traffic channel's frame is heard where the reference's pilot is active
 -- alone.
-use Rattle.std.proofs.Common.{◌≡◌, ℕ, ◌==◌, Bool, List, [], ◌∷◌, map, refl, ap, ◌∙◌, pos, get_or}
-use Rattle.std.proofs.Common.{append-nil, Option, Some}
+use Rattle.std.proofs.Common.{◌≡◌, ℕ, ◌==◌, Bool, List, [], ◌∷◌, map, refl, ap, ◌∙◌, pos, get_or, append-nil, Option, Some}
 use Rattle.std.proofs.lemmas.Bool.{eq-eqb}
 use Rattle.chip_core.specs.Bits.{places}
 use Rattle.chip_core.specs.declared.sample.Sample.{Sample}

@@ -1,25 +1,20 @@
 -- What a handset's traffic channel has still to give, as samples come.
-use Rattle.std.proofs.Common.{◌≡◌, ℕ, ◌+◌, ◌^◌, ◌<◌, ◌≤◌, ◌==◌, List, [], ◌++◌, length}
-use Rattle.std.proofs.Common.{refl, sym, ap, subst, ◌∙◌, arith, inl, inr, Option, Some, None, take, map}
-use Rattle.std.proofs.Common.{true, false, length-append, Bool}
+use Rattle.std.proofs.Common.{◌≡◌, ℕ, ◌+◌, ◌^◌, ◌<◌, ◌≤◌, ◌==◌, List, [], ◌++◌, length, refl, sym, ap, subst, ◌∙◌, arith, inl, inr, Option}
+use Rattle.std.proofs.Common.{Some, None, take, map, true, false, length-append, Bool}
 use Rattle.std.specs.Prelude.{is_some, if◌then◌else◌}
 use Rattle.std.specs.Option.{ForSome}
 use Rattle.std.proofs.lemmas.Bool.{cases_lt, false_from_ne_true, ne_eqb}
 use Rattle.std.proofs.lemmas.List.{take_all}
 use Rattle.chip_core.specs.declared.sample.Sample.{Sample}
 use Rattle.mobile_core.specs.Given.{listed}
-use Rattle.mobile_core.specs.Moments.{frames_at, frames_behind, heard_from, kept_to, legs_at, legs_by}
-use Rattle.mobile_core.specs.Moments.{messages_at, messages_behind, moment_place, moments_before}
-use Rattle.mobile_core.specs.Moments.{sets_at, sets_behind, sets_events}
+use Rattle.mobile_core.specs.Moments.{frames_at, frames_behind, heard_from, kept_to, legs_at, legs_by, messages_at, messages_behind}
+use Rattle.mobile_core.specs.Moments.{moment_place, moments_before, sets_at, sets_behind, sets_events}
 use Rattle.mobile_core.specs.PagingEvents.{page_event, pages_behind}
 use Rattle.mobile_core.specs.SetsKeeping.{coming_place}
-use Rattle.mobile_core.specs.TrafficMonitoring.{FramesWaitFrom, HearsFrames, HearsFramesBehind}
-use Rattle.mobile_core.specs.TrafficMonitoring.{IsFrameDue, IsUnheard, traffic_events_left}
-use Rattle.mobile_core.specs.TrafficMonitoring.{traffic_due_by, traffic_heard_by}
-use Rattle.mobile_core.specs.TrafficMonitoring.{traffic_left_behind}
-use Rattle.mobile_core.specs.TrafficReceiving.{HearsTraffic, HearsWith, IsSoundTraffic, IsTrafficDue}
-use Rattle.mobile_core.specs.TrafficReceiving.{kept_in, next_end, noted_by, sets_left_of, traffic_due}
-use Rattle.mobile_core.specs.TrafficReceiving.{WaitsAt, traffic_left_of, told_left_with}
+use Rattle.mobile_core.specs.TrafficMonitoring.{FramesWaitFrom, HearsFrames, HearsFramesBehind, IsFrameDue, IsUnheard, traffic_events_left}
+use Rattle.mobile_core.specs.TrafficMonitoring.{traffic_due_by, traffic_heard_by, traffic_left_behind}
+use Rattle.mobile_core.specs.TrafficReceiving.{HearsTraffic, HearsWith, IsSoundTraffic, IsTrafficDue, kept_in, next_end, noted_by}
+use Rattle.mobile_core.specs.TrafficReceiving.{sets_left_of, traffic_due, WaitsAt, traffic_left_of, told_left_with}
 use Rattle.mobile_core.specs.Tuning.{Tuning}
 use Rattle.mobile_core.specs.declared.event.Event.{Event}
 use Rattle.mobile_core.specs.declared.legs.Leg.{Leg}

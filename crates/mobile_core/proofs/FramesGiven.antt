@@ -1,7 +1,6 @@
 -- The frames of a channel behind the mark, as they are given one by one.
-use Rattle.std.proofs.Common.{◌≡◌, ℕ, ◌+◌, ◌*◌, ◌<◌, ◌≤◌, Bool, true, false, ◌&&◌, List}
-use Rattle.std.proofs.Common.{[], ◌∷◌, ◌++◌, map, filter, length, nat_le, refl, sym, ap, ◌∙◌, arith}
-use Rattle.std.proofs.Common.{inl, inr, ℤ, Option, Some, None, length-append, take, drop, subst}
+use Rattle.std.proofs.Common.{◌≡◌, ℕ, ◌+◌, ◌*◌, ◌<◌, ◌≤◌, Bool, true, false, ◌&&◌, List, [], ◌∷◌, ◌++◌, map, filter, length, nat_le, refl}
+use Rattle.std.proofs.Common.{sym, ap, ◌∙◌, arith, inl, inr, ℤ, Option, Some, None, length-append, take, drop, subst}
 use Rattle.std.proofs.lemmas.Bool.{and_parts, cases_Bool, false_from_ne_true, le-leb, leb-true}
 use Rattle.std.proofs.lemmas.List.{length-take-le, map-append, take-append-drop}
 use Rattle.chip_core.specs.Bits.{places}
@@ -13,18 +12,14 @@ use Rattle.rake_finger.specs.declared.form.Form.{Form}
 use Rattle.rake_finger.specs.declared.form.Form.TheVariants.{Data}
 use Rattle.frame_decoder.specs.TrafficFrames.{command, group_sums}
 use Rattle.symbol_path.specs.Scrambling.{power_places, scrambling}
-use Rattle.mobile_core.specs.Channels.{channel_stream, has_power_control, mask_of, offset_of}
-use Rattle.mobile_core.specs.Channels.{row_of, state_at}
-use Rattle.mobile_core.specs.Clocks.{IsAt, IsDueAt, clock_from, first_frame, frame_come}
-use Rattle.mobile_core.specs.Clocks.{frame_heard}
+use Rattle.mobile_core.specs.Channels.{channel_stream, has_power_control, mask_of, offset_of, row_of, state_at}
+use Rattle.mobile_core.specs.Clocks.{IsAt, IsDueAt, clock_from, first_frame, frame_come, frame_heard}
 use Rattle.mobile_core.specs.FrameReceiving.{HasGiven}
 use Rattle.mobile_core.specs.Near.{AreNear}
 use Rattle.mobile_core.specs.PagingStreams.{paging_bound}
 use Rattle.mobile_core.specs.Scrambled.{unscrambled}
-use Rattle.mobile_core.specs.SoftFrames.{frames_within, power_of, soft_frame, soft_frames}
-use Rattle.mobile_core.specs.SoftFrames.{unturned_at}
-use Rattle.mobile_core.specs.Streams.{Stream, frame_end, frame_start, is_in_file, known_at}
-use Rattle.mobile_core.specs.Streams.{known_by}
+use Rattle.mobile_core.specs.SoftFrames.{frames_within, power_of, soft_frame, soft_frames, unturned_at}
+use Rattle.mobile_core.specs.Streams.{Stream, frame_end, frame_start, is_in_file, known_at, known_by}
 use Rattle.mobile_core.specs.Timing.{IsTimed, stream_end}
 use Rattle.mobile_core.specs.Tuning.{Tuning, fingers_of}
 use Rattle.mobile_core.specs.declared.channel.Channel.{Channel}
@@ -33,8 +28,7 @@ use Rattle.mobile_core.specs.declared.frame_receiver.FrameReceiver.{FrameReceive
 use Rattle.mobile_core.specs.declared.mark.Mark.{Mark}
 use Rattle.mobile_core.specs.declared.soft_frame.PowerControl.{PowerControl}
 use Rattle.mobile_core.specs.declared.soft_frame.SoftFrame.{SoftFrame}
-use Rattle.mobile_core.proofs.ClockSteps.{before_next, clock_come, clock_heard, clock_more}
-use Rattle.mobile_core.proofs.ClockSteps.{clock_new, due_inside, from_next}
+use Rattle.mobile_core.proofs.ClockSteps.{before_next, clock_come, clock_heard, clock_more, clock_new, due_inside, from_next}
 use Rattle.mobile_core.proofs.FrameTimes.{known_between, outside_low}
 use Rattle.mobile_core.proofs.Sooner.{all_fit, softs_sooner}
 

@@ -1,7 +1,6 @@
 -- What the receiver of a traffic channel stands for, step by step.
-use Rattle.std.proofs.Common.{◌≡◌, ℕ, ◌+◌, ◌-◌, ◌*◌, ◌/◌, ◌^◌, ◌<◌, ◌≤◌, List, []}
-use Rattle.std.proofs.Common.{◌++◌, Bool, ℤ, length, map, take, refl, sym, length-append, ap}
-use Rattle.std.proofs.Common.{◌∙◌, arith, inl, inr, subst, true, Option, None, Some}
+use Rattle.std.proofs.Common.{◌≡◌, ℕ, ◌+◌, ◌-◌, ◌*◌, ◌/◌, ◌^◌, ◌<◌, ◌≤◌, List, [], ◌++◌, Bool, ℤ, length, map, take, refl, sym}
+use Rattle.std.proofs.Common.{length-append, ap, ◌∙◌, arith, inl, inr, subst, true, Option, None, Some}
 use Rattle.std.specs.Prelude.{IsTrue, is_some}
 use Rattle.std.proofs.lemmas.Bool.{cases_lt, cases_order}
 use Rattle.std.proofs.lemmas.List.{take_all}
@@ -27,13 +26,9 @@ use Rattle.mobile_core.specs.PagingEvents.{page_event, pages_behind}
 use Rattle.mobile_core.specs.Scrambled.{unscrambled}
 use Rattle.mobile_core.specs.Signaling.{message_events}
 use Rattle.mobile_core.specs.Streams.{frame_end}
-use Rattle.mobile_core.specs.TrafficEvents.{all_sums, commands_at, decoded_at}
-use Rattle.mobile_core.specs.TrafficEvents.{unturned_softs}
-use Rattle.mobile_core.specs.TrafficReceiving.{HasTold, HearsWith, IsSoundTraffic, IsTrafficDue}
-use Rattle.mobile_core.specs.TrafficReceiving.{fingers_in}
-use Rattle.mobile_core.specs.TrafficReceiving.{kept_by, told_left_with}
-use Rattle.mobile_core.specs.TrafficStreams.{chips_behind, frame_known, frame_state, has_frame}
-use Rattle.mobile_core.specs.TrafficStreams.{replaced_in, traffic_start}
+use Rattle.mobile_core.specs.TrafficEvents.{all_sums, commands_at, decoded_at, unturned_softs}
+use Rattle.mobile_core.specs.TrafficReceiving.{HasTold, HearsWith, IsSoundTraffic, IsTrafficDue, fingers_in, kept_by, told_left_with}
+use Rattle.mobile_core.specs.TrafficStreams.{chips_behind, frame_known, frame_state, has_frame, replaced_in, traffic_start}
 use Rattle.mobile_core.specs.Tuning.{Tuning}
 use Rattle.mobile_core.specs.declared.event.Event.{Event}
 use Rattle.mobile_core.specs.declared.legs.Leg.{Leg}
@@ -43,12 +38,10 @@ use Rattle.chip_core.specs.declared.assignment.Traffic.{Traffic}
 use Rattle.mobile_core.specs.declared.spelled_signal.SpelledSignal.{SpelledSignal}
 use Rattle.mobile_core.specs.declared.traffic_receiver.TrafficReceiver.{TrafficReceiver}
 use Rattle.mobile_core.proofs.CloseFingers.{close_ends}
-use Rattle.mobile_core.proofs.FrameBounds.{AreCloseAll, has_here, known_high, known_is}
-use Rattle.mobile_core.proofs.FrameBounds.{known_later, known_low}
+use Rattle.mobile_core.proofs.FrameBounds.{AreCloseAll, has_here, known_high, known_is, known_later, known_low}
 use Rattle.mobile_core.proofs.MessageGrowth.{signals_sooner}
-use Rattle.mobile_core.proofs.TrafficGrowth.{heard_grown, heard_none, told_at, told_first}
-use Rattle.mobile_core.proofs.TrafficGrowth.{told_is, told_left, told_left_all, told_left_none}
-use Rattle.mobile_core.proofs.TrafficGrowth.{told_none}
+use Rattle.mobile_core.proofs.TrafficGrowth.{heard_grown, heard_none, told_at, told_first, told_is, told_left, told_left_all}
+use Rattle.mobile_core.proofs.TrafficGrowth.{told_left_none, told_none}
 
 -- the long code's state at a frame's first chip
 pub state_on : (traffic : Traffic) (m : Mark) (state k : ℕ) → state ≡ frame_state traffic m 0 →

@@ -1,7 +1,6 @@
 -- What the receiver of a traffic channel stands for as it is opened.
-use Rattle.std.proofs.Common.{◌≡◌, ℕ, ◌-◌, ◌≤◌, List, [], ◌∷◌, length, ℤ, refl, sym}
-use Rattle.std.proofs.Common.{ap, ◌∙◌, arith, subst, Option, None, true, false, ◌&&◌, Bool, nat_le, pos}
-use Rattle.std.proofs.Common.{replicate, take, append-nil, get_or, ◌==◌, Some, slice_get}
+use Rattle.std.proofs.Common.{◌≡◌, ℕ, ◌-◌, ◌≤◌, List, [], ◌∷◌, length, ℤ, refl, sym, ap, ◌∙◌, arith, subst, Option, None, true, false, ◌&&◌}
+use Rattle.std.proofs.Common.{Bool, nat_le, pos, replicate, take, append-nil, get_or, ◌==◌, Some, slice_get}
 use Rattle.std.proofs.lemmas.Bool.{eq-eqb}
 use Rattle.std.specs.Prelude.{unsigned_abs, sum_by}
 use Rattle.std.proofs.lemmas.List.Folds.{sum_by-replicate}

@@ -1,6 +1,6 @@
 -- What the receiver of a traffic channel stands for as it tells what has come.
-use Rattle.std.proofs.Common.{◌≡◌, ℕ, ◌+◌, ◌<◌, ◌≤◌, List, [], ◌∷◌, ◌++◌, Bool, true, false}
-use Rattle.std.proofs.Common.{length, refl, sym, ap, ◌∙◌, arith, subst, Option, None, Some, inl, inr}
+use Rattle.std.proofs.Common.{◌≡◌, ℕ, ◌+◌, ◌<◌, ◌≤◌, List, [], ◌∷◌, ◌++◌, Bool, true, false, length, refl, sym, ap, ◌∙◌, arith, subst}
+use Rattle.std.proofs.Common.{Option, None, Some, inl, inr}
 use Rattle.std.specs.Prelude.{◌==◌, if◌then◌else◌, is_some}
 use Rattle.std.specs.Option.{option_to_list}
 use Rattle.std.proofs.lemmas.Bool.{cases_lt}
@@ -19,15 +19,11 @@ use Rattle.traffic_message.specs.declared.body.TrafficBody.TheVariants as bodies
 use Rattle.mobile_core.specs.Given.{at_of}
 use Rattle.mobile_core.specs.Legs.{legs_of}
 use Rattle.mobile_core.specs.Moments.{legs_by, moment_place}
-use Rattle.mobile_core.specs.Noted.{all_noted, body_noted, moment_from, noted, noted_with, page_noted}
-use Rattle.mobile_core.specs.Noted.{system_thresholds}
-use Rattle.mobile_core.specs.Signaling.{capsule_with, message_at, message_events, signal_at}
-use Rattle.mobile_core.specs.Signaling.{signal_in, signal_of, signals_before}
-use Rattle.mobile_core.specs.TrafficEvents.{commands_at, decoded_at, frame_event}
-use Rattle.mobile_core.specs.TrafficEvents.{frame_heard as heard_frame}
-use Rattle.mobile_core.specs.TrafficReceiving.{HasTold, HearsWith, IsSoundTraffic, noted_by}
-use Rattle.mobile_core.specs.TrafficReceiving.{told_left_with}
-use Rattle.mobile_core.specs.TrafficReceiving.{frames_left_of, messages_left_of}
+use Rattle.mobile_core.specs.Noted.{all_noted, body_noted, moment_from, noted, noted_with, page_noted, system_thresholds}
+use Rattle.mobile_core.specs.Signaling.{capsule_with, message_at, message_events, signal_at, signal_in, signal_of, signals_before}
+use Rattle.mobile_core.specs.TrafficEvents.{commands_at, decoded_at, frame_event, frame_heard as heard_frame}
+use Rattle.mobile_core.specs.TrafficReceiving.{HasTold, HearsWith, IsSoundTraffic, noted_by, told_left_with, frames_left_of}
+use Rattle.mobile_core.specs.TrafficReceiving.{messages_left_of}
 use Rattle.mobile_core.specs.TrafficStreams.{frame_known}
 use Rattle.mobile_core.specs.Tuning.{Tuning}
 use Rattle.mobile_core.specs.declared.event.Event.{Event}

@@ -1,15 +1,12 @@
 -- The fingers of active pilots, gone over one by one.
-use Rattle.std.proofs.Common.{◌≡◌, ℕ, zero, suc, ◌+◌, ◌≤◌, Bool, true, ◌&&◌, List}
-use Rattle.std.proofs.Common.{[], ◌∷◌, ◌++◌, length, take, drop, refl, sym, ap, ◌∙◌, arith, Some}
-use Rattle.std.proofs.Common.{slice_get, nat_lt, ℤ, inl, inr, length-append, append-nil}
-use Rattle.std.proofs.Common.{length-take, nat_le}
+use Rattle.std.proofs.Common.{◌≡◌, ℕ, zero, suc, ◌+◌, ◌≤◌, Bool, true, ◌&&◌, List, [], ◌∷◌, ◌++◌, length, take, drop, refl, sym, ap, ◌∙◌}
+use Rattle.std.proofs.Common.{arith, Some, slice_get, nat_lt, ℤ, inl, inr, length-append, append-nil, length-take, nat_le}
 use Rattle.std.specs.Prelude.{unsigned_abs}
 use Rattle.std.proofs.lemmas.Bool.{and_from, and_parts, cases_Bool}
 use Rattle.std.proofs.lemmas.List.Folds.{list_all-append}
 use Rattle.std.proofs.lemmas.Grind.{flat_map-append}
 use Rattle.rake_finger.specs.declared.finger.Finger.{Finger}
-use Rattle.mobile_core.specs.Close.{all_close, is_close, legs_close, legs_rows, paths_close}
-use Rattle.mobile_core.specs.Close.{places_for, places_in}
+use Rattle.mobile_core.specs.Close.{all_close, is_close, legs_close, legs_rows, paths_close, places_for, places_in}
 use Rattle.mobile_core.specs.Legs.{all_fingers, leg_fingers}
 use Rattle.mobile_core.specs.Near.{have_rows}
 use Rattle.mobile_core.specs.Tuning.{fingers_of}

@@ -1,7 +1,5 @@
 -- Lists of active pilots, gone over one by one.
-use Rattle.std.proofs.Common.{◌≡◌, ℕ, ◌+◌, true, false}
-use Rattle.std.proofs.Common.{◌||◌, List, [], ◌∷◌, ◌++◌, take, drop, refl, sym, ap}
-use Rattle.std.proofs.Common.{◌∙◌, Some, slice_get}
+use Rattle.std.proofs.Common.{◌≡◌, ℕ, ◌+◌, true, false, ◌||◌, List, [], ◌∷◌, ◌++◌, take, drop, refl, sym, ap, ◌∙◌, Some, slice_get}
 use Rattle.std.proofs.Common.{append-nil}
 use Rattle.std.specs.List.{list_any}
 use Rattle.std.proofs.lemmas.Bool.{eq-eqb, ne_eqb}

@@ -1,18 +1,15 @@
 -- A handset that has just told a mark has taken no sample behind it.
-use Rattle.std.proofs.Common.{◌≡◌, ℕ, zero, suc, ◌+◌, ◌-◌, ◌<◌, ◌≤◌, Bool, true, false, List, []}
-use Rattle.std.proofs.Common.{◌∷◌, ◌++◌, length, refl, sym, ap, ◌∙◌, arith, inl, inr, nat_le}
-use Rattle.std.proofs.Common.{◌==◌, ◌&&◌, Some}
+use Rattle.std.proofs.Common.{◌≡◌, ℕ, zero, suc, ◌+◌, ◌-◌, ◌<◌, ◌≤◌, Bool, true, false, List, [], ◌∷◌, ◌++◌, length, refl, sym, ap, ◌∙◌}
+use Rattle.std.proofs.Common.{arith, inl, inr, nat_le, ◌==◌, ◌&&◌, Some}
 use Rattle.std.specs.Prelude.{is_some}
 use Rattle.std.specs.List.{filter, flat_map, list_all, list_any, range_with_len}
-use Rattle.std.proofs.lemmas.Bool.{and_from, and_parts, cases_Bool, cases_lt, eq-eqb, le-leb}
-use Rattle.std.proofs.lemmas.Bool.{lt-leb, or_cases, or_left, or_right}
+use Rattle.std.proofs.lemmas.Bool.{and_from, and_parts, cases_Bool, cases_lt, eq-eqb, le-leb, lt-leb, or_cases, or_left, or_right}
 use Rattle.std.proofs.lemmas.List.{append_assoc}
 use Rattle.std.proofs.lemmas.List.Folds.{list_all-append, list_any-append}
 use Rattle.chip_core.proofs.Ranges.{flat_map-places-more}
 use Rattle.chip_core.specs.Bits.{places}
 use Rattle.chip_core.specs.declared.sample.Sample.{Sample}
-use Rattle.mobile_core.specs.Events.{events_at, frame_events_at, heard_within, message_events_at}
-use Rattle.mobile_core.specs.Events.{paging_events_at, sets_events_at}
+use Rattle.mobile_core.specs.Events.{events_at, frame_events_at, heard_within, message_events_at, paging_events_at, sets_events_at}
 use Rattle.mobile_core.specs.Given.{at_of}
 use Rattle.mobile_core.specs.Marks.{first_of, frames_open, mark, marks_at, sets_mark}
 use Rattle.mobile_core.specs.Near.{AreNear}

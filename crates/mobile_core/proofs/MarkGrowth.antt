@@ -1,7 +1,6 @@
 -- The mark, as frames are heard.
-use Rattle.std.proofs.Common.{◌≡◌, ℕ, ◌+◌, ◌<◌, ◌≤◌, Bool, true, false, ◌&&◌, List, [], ◌∷◌, ◌++◌}
-use Rattle.std.proofs.Common.{refl}
-use Rattle.std.proofs.Common.{length, ap, ◌∙◌, arith, nat_le, inl, inr, None}
+use Rattle.std.proofs.Common.{◌≡◌, ℕ, ◌+◌, ◌<◌, ◌≤◌, Bool, true, false, ◌&&◌, List, [], ◌∷◌, ◌++◌, refl, length, ap, ◌∙◌, arith, nat_le}
+use Rattle.std.proofs.Common.{inl, inr, None}
 use Rattle.std.specs.List.{flat_map, filter}
 use Rattle.std.specs.Option.{option_or}
 use Rattle.std.proofs.lemmas.Bool.{and_parts, leb-true, le-leb, cases_Bool, false_from_ne_true}
@@ -13,8 +12,8 @@ use Rattle.mobile_core.specs.Marks.{frames_open, marks_at, first_of, mark, mark_
 use Rattle.mobile_core.specs.Streams.{known_by}
 use Rattle.mobile_core.specs.Tuning.{Tuning, sync_stream, sync_bound}
 use Rattle.mobile_core.proofs.FrameTimes.{known_between}
-use Rattle.mobile_core.proofs.Growth.{IsSyncTimed, KnownBefore, KnownFrom, sync_in_file}
-use Rattle.mobile_core.proofs.Growth.{sync_known, frames_before_sooner, heard_sooner, known_with}
+use Rattle.mobile_core.proofs.Growth.{IsSyncTimed, KnownBefore, KnownFrom, sync_in_file, sync_known, frames_before_sooner, heard_sooner}
+use Rattle.mobile_core.proofs.Growth.{known_with}
 use Rattle.chip_core.proofs.Ranges as ranges
 
 -- the frames known within n samples are those before `next`, where the next one is known later

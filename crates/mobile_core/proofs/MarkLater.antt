@@ -1,9 +1,8 @@
 -- The mark lies behind the samples within which its message is known, so a channel that begins
 -- there hasn't begun.
-use Rattle.std.proofs.Common.{◌≡◌, ℕ, zero, suc, ◌+◌, ◌-◌, ◌*◌, ◌/◌, ◌<◌, ◌≤◌, ◌==◌, ◌&&◌, Bool}
-use Rattle.std.proofs.Common.{true, false, cond, List, [], ◌∷◌, length, length-append, map, take}
-use Rattle.std.proofs.Common.{drop, length-take, length-drop, refl, sym, ap, ◌∙◌, subst, arith, inl}
-use Rattle.std.proofs.Common.{inr, nat_le, nat_lt, Option, Some, None, ℤ}
+use Rattle.std.proofs.Common.{◌≡◌, ℕ, zero, suc, ◌+◌, ◌-◌, ◌*◌, ◌/◌, ◌<◌, ◌≤◌, ◌==◌, ◌&&◌, Bool, true, false, cond, List, [], ◌∷◌, length}
+use Rattle.std.proofs.Common.{length-append, map, take, drop, length-take, length-drop, refl, sym, ap, ◌∙◌, subst, arith, inl, inr, nat_le}
+use Rattle.std.proofs.Common.{nat_lt, Option, Some, None, ℤ}
 use Rattle.std.specs.Prelude.{if◌then◌else◌}
 use Rattle.std.specs.List.{filter, flat_map}
 use Rattle.std.specs.Option.{option_or}
@@ -15,8 +14,7 @@ use Rattle.frame_decoder.specs.Spans.{Channel, own_bits, score, sending}
 use Rattle.frame_decoder.proofs.BestWords.{length-best_word}
 use Rattle.frame_decoder.proofs.Parts.{within}
 use Rattle.quality_bits.specs.Capsules.{front_capsule, is_stated, stated_bits}
-use Rattle.quality_bits.specs.Pieces.{Piece, piece, bodies, but_last, capsule_ending}
-use Rattle.quality_bits.specs.Pieces.{from_last_start}
+use Rattle.quality_bits.specs.Pieces.{Piece, piece, bodies, but_last, capsule_ending, from_last_start}
 use Rattle.rake_finger.specs.declared.form.Form.TheVariants.{Sync}
 use Rattle.sync_message.specs.declared.fields.SyncFields.{SyncFields}
 use Rattle.viterbi.specs.Words.{Word, best_word}
@@ -25,10 +23,8 @@ use Rattle.mobile_core.specs.Clocks.{IsDueAt}
 use Rattle.mobile_core.specs.Marks.{first_of, frames_open, marks_at, marks_of, mark_at, mark_before}
 use Rattle.mobile_core.specs.Near.{AreNear}
 use Rattle.mobile_core.specs.Sound.{IsSoundSync}
-use Rattle.mobile_core.specs.Streams.{Stream, frame_own_bits, frame_softs, frame_start, is_in_file}
-use Rattle.mobile_core.specs.Streams.{known_at, span_first, span_frames}
-use Rattle.mobile_core.specs.SyncEvents.{frames_before, heard_at, heard_in, sync_capsule_at}
-use Rattle.mobile_core.specs.SyncEvents.{with_message}
+use Rattle.mobile_core.specs.Streams.{Stream, frame_own_bits, frame_softs, frame_start, is_in_file, known_at, span_first, span_frames}
+use Rattle.mobile_core.specs.SyncEvents.{frames_before, heard_at, heard_in, sync_capsule_at, with_message}
 use Rattle.mobile_core.specs.SyncReceiving.{HearsSync}
 use Rattle.mobile_core.specs.Timing.{IsTimed, stream_end}
 use Rattle.mobile_core.specs.Tuning.{Tuning, sync_stream}

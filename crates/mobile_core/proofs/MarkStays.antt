@@ -1,12 +1,9 @@
 -- The mark stays where more samples are taken, and before it nothing is heard of other channels.
-use Rattle.std.proofs.Common.{◌≡◌, ℕ, zero, suc, ◌+◌, ◌-◌, ◌^◌, ◌<◌, ◌≤◌, ◌==◌, ◌&&◌, Bool}
-use Rattle.std.proofs.Common.{true, false, List, [], ◌∷◌, ◌++◌, length, refl, sym, ap, ◌∙◌, subst}
-use Rattle.std.proofs.Common.{arith, inl, inr, nat_le, nat_lt, Option, Some, None, ℤ, pos, take, get_or}
-use Rattle.std.proofs.Common.{append-nil}
+use Rattle.std.proofs.Common.{◌≡◌, ℕ, zero, suc, ◌+◌, ◌-◌, ◌^◌, ◌<◌, ◌≤◌, ◌==◌, ◌&&◌, Bool, true, false, List, [], ◌∷◌, ◌++◌, length, refl}
+use Rattle.std.proofs.Common.{sym, ap, ◌∙◌, subst, arith, inl, inr, nat_le, nat_lt, Option, Some, None, ℤ, pos, take, get_or, append-nil}
 use Rattle.std.specs.Prelude.{if◌then◌else◌}
 use Rattle.std.specs.List.{filter, flat_map, range_with_len}
-use Rattle.std.proofs.lemmas.Bool.{and_parts, and_from, cases_Bool, cases_lt, false_from_ne_true}
-use Rattle.std.proofs.lemmas.Bool.{leb-true, le-leb, eq-eqb, ne_eqb}
+use Rattle.std.proofs.lemmas.Bool.{and_parts, and_from, cases_Bool, cases_lt, false_from_ne_true, leb-true, le-leb, eq-eqb, ne_eqb}
 use Rattle.pilot_sets.specs.Standing.{new_standing}
 use Rattle.chip_core.specs.Bits.{places}
 use Rattle.chip_core.specs.Fields.{FieldsFit}
@@ -21,11 +18,9 @@ use Rattle.sync_message.proofs.Bodies.{fixed_fit}
 use Rattle.sync_message.proofs.Readings.{reading_is_message}
 use Rattle.mobile_core.specs.Close.{AreClose}
 use Rattle.mobile_core.specs.Legs.{all_fingers, legs_of, pilot_finger}
-use Rattle.mobile_core.specs.Marks.{first_of, frames_open, mark, mark_at, mark_before, marks_at}
-use Rattle.mobile_core.specs.Marks.{marks_of}
-use Rattle.mobile_core.specs.Moments.{frames_at, frames_behind, kept_to, legs_at, legs_by}
-use Rattle.mobile_core.specs.Moments.{messages_at, messages_behind, moment_place, moments_before}
-use Rattle.mobile_core.specs.Moments.{sets_at, sets_behind}
+use Rattle.mobile_core.specs.Marks.{first_of, frames_open, mark, mark_at, mark_before, marks_at, marks_of}
+use Rattle.mobile_core.specs.Moments.{frames_at, frames_behind, kept_to, legs_at, legs_by, messages_at, messages_behind, moment_place}
+use Rattle.mobile_core.specs.Moments.{moments_before, sets_at, sets_behind}
 use Rattle.mobile_core.specs.Near.{AreNear, all_near, has_reference, low_in}
 use Rattle.mobile_core.specs.PagingEvents.{pages_at, pages_behind}
 use Rattle.mobile_core.specs.PagingStreams.{paging_stream}

@@ -1,13 +1,12 @@
 -- What is kept behind each moment hangs on the samples before it.
-use Rattle.std.proofs.Common.{◌≡◌, ℕ, zero, suc, ◌+◌, ◌<◌, ◌≤◌, ◌==◌, true, false, List}
-use Rattle.std.proofs.Common.{[], ◌∷◌, ◌++◌, length, take, refl, ap, ◌∙◌, arith, nat_le}
+use Rattle.std.proofs.Common.{◌≡◌, ℕ, zero, suc, ◌+◌, ◌<◌, ◌≤◌, ◌==◌, true, false, List, [], ◌∷◌, ◌++◌, length, take, refl, ap, ◌∙◌, arith}
+use Rattle.std.proofs.Common.{nat_le}
 use Rattle.std.specs.Prelude.{if◌then◌else◌}
 use Rattle.std.proofs.lemmas.Bool.{le-leb, lt-leb}
 use Rattle.std.proofs.lemmas.List.{take-append-le}
 use Rattle.chip_core.specs.declared.sample.Sample.{Sample}
 use Rattle.pilot_sets.specs.Standing.{Standing}
-use Rattle.mobile_core.specs.Moments.{heard_from, kept_to, moment_place}
-use Rattle.mobile_core.specs.Moments.{moments_before, passed, sets_at, sets_events}
+use Rattle.mobile_core.specs.Moments.{heard_from, kept_to, moment_place, moments_before, passed, sets_at, sets_events}
 use Rattle.mobile_core.specs.Noted.{all_noted, noted}
 use Rattle.mobile_core.specs.Tuning.{Tuning}
 use Rattle.mobile_core.specs.declared.event.Event.{Event}

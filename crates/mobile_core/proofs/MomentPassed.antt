@@ -1,7 +1,6 @@
 -- What the receiver of a traffic channel stands for as a moment passes.
-use Rattle.std.proofs.Common.{◌≡◌, ℕ, ◌+◌, ◌-◌, ◌/◌, ◌<◌, ◌≤◌, List, [], ◌∷◌, ◌++◌, Bool}
-use Rattle.std.proofs.Common.{length, take, refl, sym, ap, ◌∙◌, arith, subst, Option, None}
-use Rattle.std.proofs.Common.{inl, inr, true, false, ◌==◌}
+use Rattle.std.proofs.Common.{◌≡◌, ℕ, ◌+◌, ◌-◌, ◌/◌, ◌<◌, ◌≤◌, List, [], ◌∷◌, ◌++◌, Bool, length, take, refl, sym, ap, ◌∙◌, arith, subst}
+use Rattle.std.proofs.Common.{Option, None, inl, inr, true, false, ◌==◌}
 use Rattle.std.specs.List.{flat_map}
 use Rattle.std.specs.Option.{option_to_list}
 use Rattle.std.proofs.lemmas.Bool.{cases_lt, eq-eqb, ne_eqb}
@@ -13,13 +12,11 @@ use Rattle.quality_bits.specs.Pieces.{StandsFor}
 use Rattle.mobile_core.specs.Close.{AreClose}
 use Rattle.mobile_core.specs.Given.{listed}
 use Rattle.mobile_core.specs.Legs.{all_fingers, legs_of}
-use Rattle.mobile_core.specs.Moments.{heard_from, kept_to, legs_by, moment_of, moment_place, passed}
-use Rattle.mobile_core.specs.Moments.{sets_events}
+use Rattle.mobile_core.specs.Moments.{heard_from, kept_to, legs_by, moment_of, moment_place, passed, sets_events}
 use Rattle.mobile_core.specs.Noted.{all_noted}
 use Rattle.mobile_core.specs.Signaling.{signal_at, signals_before}
 use Rattle.mobile_core.specs.TrafficEvents.{decoded_at}
-use Rattle.mobile_core.specs.TrafficReceiving.{HearsWith, IsSoundTraffic, kept_in, sets_left_of}
-use Rattle.mobile_core.specs.TrafficReceiving.{told_left_with, traffic_left_of}
+use Rattle.mobile_core.specs.TrafficReceiving.{HearsWith, IsSoundTraffic, kept_in, sets_left_of, told_left_with, traffic_left_of}
 use Rattle.mobile_core.specs.TrafficStreams.{frame_known, has_frame}
 use Rattle.mobile_core.specs.Tuning.{Tuning}
 use Rattle.mobile_core.specs.declared.event.Event.{Event}

@@ -1,6 +1,5 @@
 -- The bits of the frames in a file that follow one another, over any stream.
-use Rattle.std.proofs.Common.{◌≡◌, ℕ, ◌+◌, ◌<◌, ◌≤◌, true, List, [], ◌∷◌, ◌++◌, length}
-use Rattle.std.proofs.Common.{refl, ap, ◌∙◌, arith}
+use Rattle.std.proofs.Common.{◌≡◌, ℕ, ◌+◌, ◌<◌, ◌≤◌, true, List, [], ◌∷◌, ◌++◌, length, refl, ap, ◌∙◌, arith}
 use Rattle.std.specs.Prelude.{if◌then◌else◌}
 use Rattle.std.specs.List.{filter, flat_map}
 use Rattle.std.proofs.lemmas.List.{append-nil}
@@ -13,8 +12,7 @@ use Rattle.mobile_core.specs.Streams.{Stream, frame_own_bits, is_in_file, known_
 use Rattle.mobile_core.specs.Timing.{IsTimed}
 use Rattle.mobile_core.proofs.FingerTimes.{timed_in}
 use Rattle.mobile_core.proofs.FrameTimes.{ends_lt, inside_from, inside_to, outside_low}
-use Rattle.chip_core.proofs.Ranges.{filter-places-more, filter_ext_places, filter_none_places}
-use Rattle.chip_core.proofs.Ranges.{flat_map_ext_filter_places}
+use Rattle.chip_core.proofs.Ranges.{filter-places-more, filter_ext_places, filter_none_places, flat_map_ext_filter_places}
 use Rattle.mobile_core.proofs.Spans.{own_bits_sooner}
 
 -- those of one frame more

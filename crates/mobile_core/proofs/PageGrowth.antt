@@ -1,14 +1,13 @@
 -- How the messages of a paging channel grow with a file's samples.
-use Rattle.std.proofs.Common.{◌≡◌, ℕ, ◌+◌, ◌-◌, ◌<◌, ◌≤◌, ◌==◌, ◌&&◌, Bool, true, List, [], ◌++◌}
-use Rattle.std.proofs.Common.{length, nat_le, take, refl, ap, ◌∙◌, arith, Option}
+use Rattle.std.proofs.Common.{◌≡◌, ℕ, ◌+◌, ◌-◌, ◌<◌, ◌≤◌, ◌==◌, ◌&&◌, Bool, true, List, [], ◌++◌, length, nat_le, take, refl, ap, ◌∙◌}
+use Rattle.std.proofs.Common.{arith, Option}
 use Rattle.std.specs.Prelude.{if◌then◌else◌}
 use Rattle.std.specs.List.{flat_map, range_with_len}
 use Rattle.std.specs.Option.{option_to_list}
 use Rattle.chip_core.specs.Bits.{places}
 use Rattle.chip_core.specs.declared.sample.Sample.{Sample}
 use Rattle.paging_message.specs.HalfFrames.{half_frame_body, half_frame_capsule_ending}
-use Rattle.mobile_core.specs.PagingEvents.{bits_before, bits_up_to, page_at, page_in, pages_at}
-use Rattle.mobile_core.specs.PagingEvents.{pages_from}
+use Rattle.mobile_core.specs.PagingEvents.{bits_before, bits_up_to, page_at, page_in, pages_at, pages_from}
 use Rattle.mobile_core.specs.PagingReceiving.{pages_left}
 use Rattle.mobile_core.specs.PagingStreams.{paging_bound, paging_rate, paging_stream}
 use Rattle.mobile_core.specs.Streams.{frame_own_bits, is_in_file, known_at}

@@ -1,15 +1,13 @@
 -- What the receiver of a paging channel stands for, step by step.
-use Rattle.std.proofs.Common.{◌≡◌, ℕ, ◌+◌, ◌<◌, ◌≤◌, Bool, true, false, List, [], ◌∷◌, ◌++◌, length}
-use Rattle.std.proofs.Common.{take, refl, sym, ap, ◌∙◌, subst, arith, inl, inr, Option, Some}
-use Rattle.std.proofs.Common.{slice_get, nat_lt}
+use Rattle.std.proofs.Common.{◌≡◌, ℕ, ◌+◌, ◌<◌, ◌≤◌, Bool, true, false, List, [], ◌∷◌, ◌++◌, length, take, refl, sym, ap, ◌∙◌, subst, arith}
+use Rattle.std.proofs.Common.{inl, inr, Option, Some, slice_get, nat_lt}
 use Rattle.std.specs.Option.{option_to_list}
 use Rattle.std.proofs.lemmas.Bool.{cases_lt, lt-ltb, le-ltb}
 use Rattle.std.proofs.lemmas.List.{append-nil, append_assoc, take_all}
 use Rattle.chip_core.proofs.BitLists.{taken_more}
 use Rattle.chip_core.specs.declared.sample.Sample.{Sample}
 use Rattle.long_code.specs.LongCode.{paging_mask}
-use Rattle.paging_message.specs.HalfFrames.{Framing, StandsFor, half_frame_body}
-use Rattle.paging_message.specs.HalfFrames.{half_frame_capsule_ending}
+use Rattle.paging_message.specs.HalfFrames.{Framing, StandsFor, half_frame_body, half_frame_capsule_ending}
 use Rattle.mobile_core.specs.Clocks.{IsDueAt, clock_from, first_frame, frame_heard}
 use Rattle.mobile_core.specs.Near.{AreNear}
 use Rattle.mobile_core.specs.PagingEvents.{bits_before, bits_up_to, page_at, page_in, pages_from}

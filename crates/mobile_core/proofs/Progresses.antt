@@ -3,8 +3,7 @@ use Rattle.std.proofs.Common.{◌≡◌, ℕ, ◌+◌, ◌-◌, ◌<◌, ◌≤�
 use Rattle.std.proofs.lemmas.Bool.{cases_lt, cases_Bool}
 use Rattle.mobile_core.specs.Streams.{Stream, is_in_file, known_at}
 use Rattle.mobile_core.specs.Timing.{stream_end, IsTimed}
-use Rattle.mobile_core.proofs.FrameTimes.{ends_le, ends_lt, inside_from, inside_to, known_more}
-use Rattle.mobile_core.proofs.FrameTimes.{known_between, known_le, known_parts}
+use Rattle.mobile_core.proofs.FrameTimes.{ends_le, ends_lt, inside_from, inside_to, known_more, known_between, known_le, known_parts}
 use Rattle.mobile_core.specs.Progress.{IsReached, IsDue}
 
 pub reached_none : {count low : ℕ} (s : Stream) → IsTimed count s low →

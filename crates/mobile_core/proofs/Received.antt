@@ -1,7 +1,6 @@
 -- What a continued channel stands for, step by step, over any stream.
-use Rattle.std.proofs.Common.{◌≡◌, ℕ, zero, suc, ◌+◌, ◌-◌, ◌*◌, ◌≤◌, List, [], ◌++◌}
-use Rattle.std.proofs.Common.{length, length-append, take, drop, refl, sym, ap, ◌∙◌, arith}
-use Rattle.std.proofs.Common.{true, ℤ}
+use Rattle.std.proofs.Common.{◌≡◌, ℕ, zero, suc, ◌+◌, ◌-◌, ◌*◌, ◌≤◌, List, [], ◌++◌, length, length-append, take, drop, refl, sym, ap, ◌∙◌}
+use Rattle.std.proofs.Common.{arith, true, ℤ}
 use Rattle.std.specs.List.{flat_map}
 use Rattle.std.proofs.lemmas.List.{drop_all, length-drop, take_all}
 use Rattle.chip_core.proofs.Places.{places-none}
@@ -9,15 +8,13 @@ use Rattle.chip_core.specs.Bits.{places}
 use Rattle.chip_core.specs.declared.sample.Sample.{Sample}
 use Rattle.frame_decoder.specs.Spans.{own_bits}
 use Rattle.rake_finger.specs.Soft.{symbols}
-use Rattle.mobile_core.specs.Clocks.{IsDueAt, clock_from, first_frame, frame_come}
-use Rattle.mobile_core.specs.Clocks.{frame_heard, span_from}
+use Rattle.mobile_core.specs.Clocks.{IsDueAt, clock_from, first_frame, frame_come, frame_heard, span_from}
 use Rattle.mobile_core.specs.Near.{AreNear}
 use Rattle.mobile_core.specs.Receiving.{Receives}
 use Rattle.mobile_core.specs.Softs.{last_softs}
 use Rattle.mobile_core.specs.Streams.{Stream, frame_softs, frame_own_bits}
 use Rattle.mobile_core.specs.declared.continued.Continued.{Continued}
-use Rattle.mobile_core.proofs.ClockSteps.{clock_new, clock_more, clock_come, clock_heard}
-use Rattle.mobile_core.proofs.ClockSteps.{span_bounds, span_is}
+use Rattle.mobile_core.proofs.ClockSteps.{clock_new, clock_more, clock_come, clock_heard, span_bounds, span_is}
 use Rattle.mobile_core.proofs.FrameTimes.{inside_from}
 use Rattle.mobile_core.proofs.Spans.{frame_softs_sooner}
 use Rattle.chip_core.proofs.Ranges.{flat_map_ext_places, flat_map-places-more}

@@ -1,10 +1,8 @@
 -- The signaling of a decoded frame.
-use Rattle.std.proofs.Common.{◌≡◌, ℕ, ◌≤◌, Bool, true, false, List, length, take, drop, ℤ, arith}
-use Rattle.std.proofs.Common.{Option, Some, None, length-drop, [], ◌∷◌}
+use Rattle.std.proofs.Common.{◌≡◌, ℕ, ◌≤◌, Bool, true, false, List, length, take, drop, ℤ, arith, Option, Some, None, length-drop, [], ◌∷◌}
 use Rattle.std.specs.Prelude.{cond, get_or, if◌then◌else◌, int_lt, IfSome}
 use Rattle.std.proofs.lemmas.List.{length-take-le}
-use Rattle.frame_decoder.specs.TrafficFrames.{best_candidate, better, decoded, frame_bits}
-use Rattle.frame_decoder.specs.TrafficFrames.{has_quality, not_good, preferred, rate_frame}
+use Rattle.frame_decoder.specs.TrafficFrames.{best_candidate, better, decoded, frame_bits, has_quality, not_good, preferred, rate_frame}
 use Rattle.frame_decoder.specs.TrafficFrames.{rate_word, unreplaced}
 use Rattle.frame_decoder.specs.declared.traffic.Decoded.{Decoded}
 use Rattle.frame_decoder.proofs.RateWords.{length-rate_word}

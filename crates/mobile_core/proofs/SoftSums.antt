@@ -1,7 +1,6 @@
 -- The soft values of the last frames, and what their absolute values add up to.
-use Rattle.std.proofs.Common.{◌≡◌, ℕ, zero, suc, ◌+◌, ◌-◌, ◌*◌, ◌≤◌}
-use Rattle.std.proofs.Common.{List, [], ◌∷◌, ◌++◌, length, drop, refl, ap, ◌∙◌, arith, ℤ}
-use Rattle.std.proofs.Common.{pos, replicate, length-drop}
+use Rattle.std.proofs.Common.{◌≡◌, ℕ, zero, suc, ◌+◌, ◌-◌, ◌*◌, ◌≤◌, List, [], ◌∷◌, ◌++◌, length, drop, refl, ap, ◌∙◌, arith, ℤ, pos}
+use Rattle.std.proofs.Common.{replicate, length-drop}
 use Rattle.std.specs.Prelude.{sum_by, unsigned_abs}
 use Rattle.std.proofs.lemmas.List.{drop-append-le, drop-drop, drop-replicate}
 use Rattle.std.proofs.lemmas.List.Folds.{sum_by-replicate}

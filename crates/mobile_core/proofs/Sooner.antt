@@ -1,6 +1,6 @@
 -- What is read from the first samples stays where more samples follow.
-use Rattle.std.proofs.Common.{◌≡◌, ℕ, ◌+◌, ◌*◌, ◌/◌, ◌<◌, ◌≤◌, true, ◌&&◌, List, [], ◌∷◌, ◌++◌, map}
-use Rattle.std.proofs.Common.{length, take, drop, refl, ap, arith, ℤ, pos, ◌+ℤ◌, ◌-ℤ◌, length-drop}
+use Rattle.std.proofs.Common.{◌≡◌, ℕ, ◌+◌, ◌*◌, ◌/◌, ◌<◌, ◌≤◌, true, ◌&&◌, List, [], ◌∷◌, ◌++◌, map, length, take, drop, refl, ap, arith, ℤ}
+use Rattle.std.proofs.Common.{pos, ◌+ℤ◌, ◌-ℤ◌, length-drop}
 use Rattle.std.specs.Prelude.{unsigned_abs, int_le}
 use Rattle.std.proofs.lemmas.Int.{ints}
 use Rattle.std.proofs.lemmas.Bool.{and_parts}
@@ -9,8 +9,8 @@ use Rattle.chip_core.specs.Complex.{sum_of}
 use Rattle.chip_core.specs.Sums.{total}
 use Rattle.chip_core.specs.declared.sample.Sample.{Sample}
 use Rattle.short_code.specs.Despread.{despread}
-use Rattle.rake_finger.specs.Soft.{symbol_chips, window_chips, symbols, frame_chips, finger_place}
-use Rattle.rake_finger.specs.Soft.{despread_at, covered_from, pilot_sum, symbol_sum, soft, softs}
+use Rattle.rake_finger.specs.Soft.{symbol_chips, window_chips, symbols, frame_chips, finger_place, despread_at, covered_from, pilot_sum}
+use Rattle.rake_finger.specs.Soft.{symbol_sum, soft, softs}
 use Rattle.rake_finger.specs.declared.finger.Finger.{Finger}
 use Rattle.rake_finger.specs.declared.form.Form.{Form}
 use Rattle.rake_finger.specs.declared.form.Form.TheVariants.{Sync, Data}

@@ -1,6 +1,6 @@
 -- What always holds of the receiver of a traffic channel, as it goes on.
-use Rattle.std.proofs.Common.{◌≡◌, ℕ, ◌+◌, ◌*◌, ◌^◌, ◌<◌, ◌≤◌, true, List, Bool, length, take, ℤ, sym, ap}
-use Rattle.std.proofs.Common.{◌∙◌, arith, Option, None, subst, false}
+use Rattle.std.proofs.Common.{◌≡◌, ℕ, ◌+◌, ◌*◌, ◌^◌, ◌<◌, ◌≤◌, true, List, Bool, length, take, ℤ, sym, ap, ◌∙◌, arith, Option, None, subst}
+use Rattle.std.proofs.Common.{false}
 use Rattle.std.specs.Prelude.{sum_by, unsigned_abs, if◌then◌else◌}
 use Rattle.frame_decoder.specs.declared.power.PowerSofts.{PowerSofts}
 use Rattle.rake_finger.specs.declared.finger.Finger.{Finger}

@@ -1,6 +1,5 @@
 -- Steps of a handset that follow one another.
-use Rattle.std.proofs.Common.{◌≡◌, ℕ, ◌+◌, List, [], ◌++◌, length, length-append}
-use Rattle.std.proofs.Common.{length-take, length-drop, take, drop, sym, ap, ◌∙◌, subst}
+use Rattle.std.proofs.Common.{◌≡◌, ℕ, ◌+◌, List, [], ◌++◌, length, length-append, length-take, length-drop, take, drop, sym, ap, ◌∙◌, subst}
 use Rattle.std.proofs.Common.{◌≤◌, arith, Option, Some, None, IfSome}
 use Rattle.std.proofs.lemmas.List.{append-nil, append_assoc}
 use Rattle.std.proofs.Math.Seq.{take-add}

@@ -1,7 +1,6 @@
 -- What a handset stands for, step by step.
-use Rattle.std.proofs.Common.{◌≡◌, ℕ, ◌+◌, ◌<◌, ◌≤◌, false, ◌||◌, List, [], ◌∷◌, ◌++◌, length}
-use Rattle.std.proofs.Common.{length-append, refl, sym, ap, subst, ◌∙◌, arith, inl, inr, Option}
-use Rattle.std.proofs.Common.{Some, None, Bool, true}
+use Rattle.std.proofs.Common.{◌≡◌, ℕ, ◌+◌, ◌<◌, ◌≤◌, false, ◌||◌, List, [], ◌∷◌, ◌++◌, length, length-append, refl, sym, ap, subst, ◌∙◌}
+use Rattle.std.proofs.Common.{arith, inl, inr, Option, Some, None, Bool, true}
 use Rattle.std.specs.Prelude.{IsTrue, is_some}
 use Rattle.std.specs.List.{flat_map, list_any}
 use Rattle.std.specs.Option.{ForSome, option_or}
@@ -14,8 +13,7 @@ use Rattle.pilot_search.specs.declared.sweeping.Best.{Best}
 use Rattle.rake_finger.specs.Held.{Held, HoldsLast}
 use Rattle.mobile_core.specs.Clocks.{IsDueAt}
 use Rattle.mobile_core.specs.Events.{events_at, heard_within, events}
-use Rattle.mobile_core.specs.FollowedChannels.{HearsFollowed, IsFollowedDue, IsSoundFollowed}
-use Rattle.mobile_core.specs.FollowedChannels.{WaitFrom, followed_events_left}
+use Rattle.mobile_core.specs.FollowedChannels.{HearsFollowed, IsFollowedDue, IsSoundFollowed, WaitFrom, followed_events_left}
 use Rattle.mobile_core.specs.Given.{listed}
 use Rattle.mobile_core.specs.Left.{pilot_left, sync_events_left}
 use Rattle.mobile_core.specs.Marks.{first_of, mark, mark_before, marks_at, sets_mark}
@@ -34,8 +32,7 @@ use Rattle.mobile_core.specs.declared.event.Event.TheVariants.{Pilot}
 use Rattle.mobile_core.specs.declared.followed.Followed.{Followed}
 use Rattle.mobile_core.specs.declared.mark.Mark.{Mark}
 use Rattle.mobile_core.specs.declared.sync_receiver.SyncReceiver.{SyncReceiver}
-use Rattle.mobile_core.proofs.ChannelsFollowed.{EndFrom, followed_behind, followed_given}
-use Rattle.mobile_core.proofs.ChannelsFollowed.{followed_more}
+use Rattle.mobile_core.proofs.ChannelsFollowed.{EndFrom, followed_behind, followed_given, followed_more}
 use Rattle.mobile_core.proofs.ClockSteps.{before_next, from_next, due_inside}
 use Rattle.mobile_core.proofs.EventsGrown.{events_at_by, events_grown}
 use Rattle.mobile_core.proofs.FrameTimes.{known_between, outside_low}

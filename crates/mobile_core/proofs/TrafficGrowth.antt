@@ -1,6 +1,6 @@
 -- How the frames of a traffic channel and the messages that they complete grow together.
-use Rattle.std.proofs.Common.{◌≡◌, ℕ, zero, suc, ◌+◌, ◌<◌, ◌≤◌, true, List, [], ◌∷◌, ◌++◌, length}
-use Rattle.std.proofs.Common.{refl, arith, Some, map, ap, ◌∙◌, append-nil, take}
+use Rattle.std.proofs.Common.{◌≡◌, ℕ, zero, suc, ◌+◌, ◌<◌, ◌≤◌, true, List, [], ◌∷◌, ◌++◌, length, refl, arith, Some, map, ap, ◌∙◌}
+use Rattle.std.proofs.Common.{append-nil, take}
 use Rattle.std.specs.List.{flat_map}
 use Rattle.chip_core.specs.Bits.{places}
 use Rattle.chip_core.specs.declared.sample.Sample.{Sample}
@@ -19,8 +19,7 @@ use Rattle.mobile_core.specs.declared.mark.Mark.{Mark}
 use Rattle.chip_core.specs.declared.assignment.Traffic.{Traffic}
 use Rattle.mobile_core.proofs.FrameBounds.{AreCloseAll, known_later}
 use Rattle.mobile_core.proofs.FrameGrowth.{frames_left_all, frames_left_none, frames_none}
-use Rattle.mobile_core.proofs.MessageGrowth.{messages_left_all, messages_left_none}
-use Rattle.mobile_core.proofs.MessageGrowth.{messages_none}
+use Rattle.mobile_core.proofs.MessageGrowth.{messages_left_all, messages_left_none, messages_none}
 use Rattle.mobile_core.proofs.MomentGrowth.{first_same, noted-append}
 use Rattle.chip_core.proofs.Ranges.{flat_map-places-more, flat_map_ext_places}
 

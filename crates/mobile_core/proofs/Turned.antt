@@ -1,7 +1,6 @@
 -- Soft values turned one by one.
-use Rattle.std.proofs.Common.{◌≡◌, ℕ, zero, suc, ◌+◌, ◌<◌, Bool, false, List, [], ◌∷◌, ◌++◌, length}
-use Rattle.std.proofs.Common.{take, drop, refl, ap, ◌∙◌, arith, ℤ, pos, ◌*ℤ◌, get_or}
-use Rattle.std.proofs.Common.{slice_set}
+use Rattle.std.proofs.Common.{◌≡◌, ℕ, zero, suc, ◌+◌, ◌<◌, Bool, false, List, [], ◌∷◌, ◌++◌, length, take, drop, refl, ap, ◌∙◌, arith, ℤ}
+use Rattle.std.proofs.Common.{pos, ◌*ℤ◌, get_or, slice_set}
 use Rattle.chip_core.specs.Bits.{sign}
 use Rattle.mobile_core.specs.Scrambled.{turned}
 

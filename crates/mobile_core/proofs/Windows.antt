@@ -1,6 +1,5 @@
 -- Search windows are even, and none is wider than 452 chips.
-use Rattle.std.proofs.Common.{◌≡◌, ℕ, zero, suc, ◌%◌, ◌≤◌, ◌==◌, ◌&&◌, Bool, true, List, []}
-use Rattle.std.proofs.Common.{◌∷◌, get_or, refl, nat_le}
+use Rattle.std.proofs.Common.{◌≡◌, ℕ, zero, suc, ◌%◌, ◌≤◌, ◌==◌, ◌&&◌, Bool, true, List, [], ◌∷◌, get_or, refl, nat_le}
 use Rattle.std.specs.List.{list_all}
 use Rattle.std.proofs.lemmas.Bool.{and_parts, eqb-true, leb-true}
 use Rattle.pilot_sets.specs.Tables.{window_chips, windows}

@@ -28,9 +28,9 @@ message_events_at t samples n = messages_behind t t.traffic (mark t samples n) s
 unfoldable pub sets_events_at : Tuning → List Sample → ℕ → List Event
 sets_events_at t samples n = sets_behind t t.traffic (mark t samples n) samples n
 
--- All that are heard when just n samples have been taken: those of the sync channel come first, then
--- those of the paging channel, the traffic channel's frame, the message that it completes, and that
--- of the pilot sets.
+-- All that are heard when just n samples have been taken: those of the sync channel come first,
+-- then those of the paging channel, the traffic channel's frame, the message that it completes, and
+-- that of the pilot sets.
 unfoldable pub events_at : Tuning → List Sample → ℕ → List Event
 events_at t samples n =
     sync_events_at t samples n
@@ -42,8 +42,8 @@ events_at t samples n =
 unfoldable pub heard_within : Tuning → List Sample → ℕ → List Event
 heard_within t samples n = flat_map (events_at t samples) (places (n + 1))
 
--- The events that end within the first n samples. The first is the pilot, which was found before any
--- sample is taken.
+-- The events that end within the first n samples. The first is the pilot, which was found before
+-- any sample is taken.
 abbrev pub events_within : Tuning → List Sample → ℕ → List Event
 events_within t samples n = Pilot t.phase t.energy ∷ heard_within t samples n
 

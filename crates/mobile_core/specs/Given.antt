@@ -1,7 +1,8 @@
 -- Events as they are given.
 use Rattle.std.specs.Prelude.{ℕ, List, [], ◌∷◌, Option, Some, None}
 use Rattle.mobile_core.specs.declared.event.Event.{Event}
-use Rattle.mobile_core.specs.declared.event.Event.TheVariants.{Pilot, Sync, Paging, Frame, Traffic, Sets}
+use Rattle.mobile_core.specs.declared.event.Event.TheVariants.{Pilot, Sync, Paging, Frame, Traffic}
+use Rattle.mobile_core.specs.declared.event.Event.TheVariants.{Sets}
 
 -- one or none, as a list
 abbrev pub listed : Option Event → List Event

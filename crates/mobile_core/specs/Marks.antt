@@ -10,7 +10,8 @@ use Rattle.mobile_core.specs.Streams.{frame_start, is_in_file, known_by}
 use Rattle.mobile_core.specs.SyncEvents.{frames_before, heard_at}
 use Rattle.mobile_core.specs.Tuning.{Tuning, sync_stream, sync_bound}
 use Rattle.mobile_core.specs.declared.event.Event.{Event}
-use Rattle.mobile_core.specs.declared.event.Event.TheVariants.{Pilot, Sync, Paging, Frame, Traffic, Sets}
+use Rattle.mobile_core.specs.declared.event.Event.TheVariants.{Pilot, Sync, Paging, Frame, Traffic}
+use Rattle.mobile_core.specs.declared.event.Event.TheVariants.{Sets}
 use Rattle.mobile_core.specs.declared.spelled_message.SpelledMessage.{SpelledMessage}
 use Rattle.mobile_core.specs.declared.mark.Mark.{Mark}
 

@@ -1,6 +1,6 @@
 -- How far a handset's fingers may be from the reference path.
-use Rattle.std.specs.Prelude.{◌≡◌, ℕ, ◌&&◌, Bool, List, ℤ, pos, negsuc, int_le, nat_lt}
-use Rattle.std.specs.Prelude.{IsTrue, All, Some, slice_get, if◌then◌else◌}
+use Rattle.std.specs.Prelude.{◌≡◌, ℕ, ◌&&◌, Bool, List, ℤ, pos, negsuc, int_le, nat_lt, IsTrue, All}
+use Rattle.std.specs.Prelude.{Some, slice_get, if◌then◌else◌}
 use Rattle.std.specs.Ordering.{int_eq}
 use Rattle.std.specs.List.{list_all, list_any}
 use Rattle.rake_finger.specs.declared.finger.Finger.{Finger}

@@ -10,7 +10,8 @@ use Rattle.traffic_message.specs.declared.body.TrafficBody.TheVariants as bodies
 use Rattle.traffic_message.specs.declared.fields.InTrafficFields.{InTrafficFields}
 use Rattle.mobile_core.specs.Given.{at_of}
 use Rattle.mobile_core.specs.declared.event.Event.{Event}
-use Rattle.mobile_core.specs.declared.event.Event.TheVariants.{Pilot, Sync, Paging, Frame, Traffic, Sets}
+use Rattle.mobile_core.specs.declared.event.Event.TheVariants.{Pilot, Sync, Paging, Frame, Traffic}
+use Rattle.mobile_core.specs.declared.event.Event.TheVariants.{Sets}
 use Rattle.mobile_core.specs.declared.mark.Mark.{Mark}
 
 -- the thresholds of a System Parameters Message, and of an In-Traffic one

@@ -70,8 +70,8 @@ IsDueFor mobile =
     ⊎ (IsDueAt mobile.count mobile.sync.received.clock
     ⊎ IsFollowedDue mobile.count mobile.followed)
 
--- whether the pilot hasn't been told, how many frames of the sync channel have come that haven't been
--- heard, and how much of the channels behind the mark
+-- whether the pilot hasn't been told, how many frames of the sync channel have come that haven't
+-- been heard, and how much of the channels behind the mark
 abbrev pub due_parts : Mobile → ℕ
 due_parts mobile =
     length (pilot_left mobile.pilot)

@@ -8,8 +8,7 @@ use Rattle.rake_finger.specs.Soft.{softs}
 use Rattle.rake_finger.specs.declared.form.Form.TheVariants.{Data}
 use Rattle.mobile_core.specs.Legs.{all_fingers, on_subchannel, subchannels}
 use Rattle.mobile_core.specs.Streams.{frame_softs}
-use Rattle.mobile_core.specs.TrafficStreams.{frames_now, replaced_in, stream_of}
-use Rattle.mobile_core.specs.TrafficStreams.{traffic_start}
+use Rattle.mobile_core.specs.TrafficStreams.{frames_now, replaced_in, stream_of, traffic_start}
 use Rattle.mobile_core.specs.Tuning.{Tuning}
 use Rattle.mobile_core.specs.declared.event.Event.{Event}
 use Rattle.mobile_core.specs.declared.event.Event.TheVariants.{Frame}

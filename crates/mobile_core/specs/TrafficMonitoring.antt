@@ -1,12 +1,10 @@
 -- What a handset's traffic channel stands for, before it is open and from there on.
-use Rattle.std.specs.Prelude.{◌≡◌, ℕ, ◌<◌, ◌≤◌, List, [], take, pos, slice_get, Option, Some}
-use Rattle.std.specs.Prelude.{None}
+use Rattle.std.specs.Prelude.{◌≡◌, ℕ, ◌<◌, ◌≤◌, List, [], take, pos, slice_get, Option, Some, None}
 use Rattle.std.specs.Option.{ForSome}
 use Rattle.chip_core.specs.declared.sample.Sample.{Sample}
 use Rattle.mobile_core.specs.TrafficEvents.{if_followed}
-use Rattle.mobile_core.specs.TrafficReceiving.{HearsTraffic, IsSoundTraffic, IsTrafficDue}
-use Rattle.mobile_core.specs.TrafficReceiving.{WaitsAt, traffic_due, traffic_heard}
-use Rattle.mobile_core.specs.TrafficReceiving.{traffic_left_of}
+use Rattle.mobile_core.specs.TrafficReceiving.{HearsTraffic, IsSoundTraffic, IsTrafficDue, WaitsAt}
+use Rattle.mobile_core.specs.TrafficReceiving.{traffic_due, traffic_heard, traffic_left_of}
 use Rattle.mobile_core.specs.Tuning.{Tuning}
 use Rattle.mobile_core.specs.declared.event.Event.{Event}
 use Rattle.mobile_core.specs.declared.mark.Mark.{Mark}

@@ -1,7 +1,7 @@
 -- What the receiver of a traffic channel stands for.
 use Rattle.std.specs.Prelude.{◌≡◌, ◌⊎◌, ℕ, ◌+◌, ◌-◌, ◌*◌, ◌<◌, ◌≤◌, ◌^◌, ◌==◌, ◌&&◌, true, List, []}
-use Rattle.std.specs.Prelude.{◌∷◌, ◌++◌, length, map, filter, take, sum_by, unsigned_abs, IsTrue, Option}
-use Rattle.std.specs.Prelude.{Some, None, is_some, nat_le, min, if◌then◌else◌}
+use Rattle.std.specs.Prelude.{◌∷◌, ◌++◌, length, map, filter, take, sum_by, unsigned_abs, IsTrue}
+use Rattle.std.specs.Prelude.{Option, Some, None, is_some, nat_le, min, if◌then◌else◌}
 use Rattle.std.specs.List.{flat_map}
 use Rattle.chip_core.specs.Bits.{places}
 use Rattle.chip_core.specs.declared.sample.Sample.{Sample}
@@ -165,7 +165,8 @@ abbrev pub noted_by : Event → TrafficReceiver → TrafficReceiver
 noted_by event r =
     record r {
       sets = record r.sets {
-        sets = noted_with r.sets.mark.pilot (r.sets.mark.time + (r.sets.passed + 1)) event r.sets.sets;
+        sets = noted_with r.sets.mark.pilot (r.sets.mark.time + (r.sets.passed + 1)) event
+            r.sets.sets;
       };
     }
 

@@ -123,7 +123,9 @@ turned_by_none = refl
 
 -- a mark of that file, at 28 frames of 20 ms
 paged : ℕ → Mark
-paged prat = record { sample = 688128; time = 1007; state = 0x102a1d2e508; pilot = 511; prat = prat }
+paged prat = record {
+  sample = 688128; time = 1007; state = 0x102a1d2e508; pilot = 511; prat = prat
+}
 
 -- the frame at the mark is known when the one behind it has ended, two frames behind the mark
 first_page : known_at 1228800 (paging_stream (tuned 64 (pos 0 ∷ [])) 1 (paged 0)) 0 ≡ 737280
@@ -270,8 +272,8 @@ two_subchannels : subchannels (legs_of (paged 0) two_pilots) ≡ 0 ∷ 1 ∷ []
 unfolding places paged two_pilots
 two_subchannels = refl
 
--- another pilot's message of the paging channel tells nothing of the sets, and one whose bits aren't
--- known neither
+-- another pilot's message of the paging channel tells nothing of the sets, and one whose bits
+-- aren't known neither
 neighbors_of : ℕ → NeighborFields
 neighbors_of pn = record {
   pn = pn;

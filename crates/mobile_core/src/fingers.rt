@@ -2,8 +2,8 @@
 
 ghost use Rattle.std.specs.Prelude.{◌≡◌, ◌<◌, ◌≤◌, ◌+◌, ◌^◌, ◌++◌, ◌∷◌, [], true, pos, ◌+ℤ◌};
 ghost use Rattle.std.specs.Prelude.{int_le, slice_get, Some, length, take};
-ghost use Rattle.mobile_core.specs.Close.{all_close, fingers_in, is_close, legs_close};
-ghost use Rattle.mobile_core.specs.Close.{legs_rows, places_for, places_in};
+ghost use Rattle.mobile_core.specs.Close.{all_close, fingers_in, is_close, legs_close, legs_rows};
+ghost use Rattle.mobile_core.specs.Close.{places_for, places_in};
 ghost use Rattle.mobile_core.specs.Legs.{all_fingers, leg_fingers};
 ghost use Rattle.mobile_core.specs.Near.{is_near, AreNear, have_rows, all_begun};
 ghost use Rattle.mobile_core.specs.Streams.{finger_end, frame_end};

@@ -104,8 +104,8 @@ impl Followed {
         self.paging.is_due(count) || self.traffic.is_due()
     }
 
-    /// Takes the soft values of the frames whose last sample has come, and lets the moment come that
-    /// lies there.
+    /// Takes the soft values of the frames whose last sample has come, and lets the moment come
+    /// that lies there.
     pub(crate) fn take_ended(&mut self, ring: &SampleRing, codes: &Codes)
         requires sound { IsSoundFollowed self.old }
         requires paging { ForSome self.old.paging.receiver (λ r.

@@ -36,8 +36,8 @@ pub struct Step {
 }
 
 /// A handset: it takes the samples of a file in pieces of any size, and gives the pilot that the
-/// search found, and what it hears, as events: the pilot before it takes a sample, and each other one
-/// when its last sample has been taken.
+/// search found, and what it hears, as events: the pilot before it takes a sample, and each other
+/// one when its last sample has been taken.
 ///
 /// It decodes each frame of the sync channel together with the frame before it and the frame behind
 /// it, where these lie in the file, and so knows a frame one frame later (TIA/EIA-95-B, 7.7.1).
@@ -246,8 +246,8 @@ impl Mobile {
         followed.hear_next(decoder, ring, codes, *check, *count)
     }
 
-    /// Tells the pilot, or hears what is due next, the sync channel first, and gives the event that it
-    /// completes.
+    /// Tells the pilot, or hears what is due next, the sync channel first, and gives the event that
+    /// it completes.
     fn hear_next(&mut self) -> Option<Event>
         requires { IsDueFor self.old }
         ensures steps { Steps self.old self.new [] (record { taken = 0; event = result }) }

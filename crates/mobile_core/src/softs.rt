@@ -1,7 +1,7 @@
 //! The soft values of the last three frames.
 
-ghost use Rattle.std.specs.Prelude.{◌≡◌, ◌≤◌, ◌++◌, ◌+◌, ◌-◌, ◌*◌, ◌*ℤ◌, ◌^◌, drop, length};
-ghost use Rattle.std.specs.Prelude.{sum_by, unsigned_abs};
+ghost use Rattle.std.specs.Prelude.{◌≡◌, ◌≤◌, ◌++◌, ◌+◌, ◌-◌, ◌*◌, ◌*ℤ◌, ◌^◌, drop, length, sum_by};
+ghost use Rattle.std.specs.Prelude.{unsigned_abs};
 ghost use Rattle.chip_core.specs.Bits.{sign};
 ghost use Rattle.mobile_core.specs.Scrambled.{Scrambles, unscrambled};
 ghost use Rattle.mobile_core.specs.Softs.{AreSmall, frame_most};

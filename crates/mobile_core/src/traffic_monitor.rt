@@ -88,7 +88,8 @@ impl TrafficMonitor {
         ensures hears { (t : Tuning) (before : Option TheMark) (heard : List Sample)
             (pages : List TheEvent) → (before ≡ None → pages ≡ []) →
             taken ≡ length heard → taken ≤ t.count → SetsMark taken before mark.now →
-            HearsFrames t self.old before heard pages → HearsFrames t self.new mark.now heard pages }
+            HearsFrames t self.old before heard pages →
+            HearsFrames t self.new mark.now heard pages }
         ensures left { (t : Tuning) (before : Option TheMark) (heard : List Sample)
             (pages : List TheEvent) →
             taken ≡ length heard → taken ≤ t.count → SetsMark taken before mark.now →

@@ -75,7 +75,8 @@ impl TrafficReceiver {
     ghost use Rattle.mobile_core.specs.TrafficReceiving.{HasTold, HearsTraffic, IsSoundTraffic};
     ghost use Rattle.mobile_core.specs.TrafficReceiving.{IsTrafficDue, WaitsAt};
     ghost use Rattle.mobile_core.specs.TrafficReceiving.{HearsWith, fingers_in, next_end, noted_by};
-    ghost use Rattle.mobile_core.specs.TrafficReceiving.{told_left_with, traffic_due, traffic_heard};
+    ghost use Rattle.mobile_core.specs.TrafficReceiving.{told_left_with, traffic_due};
+    ghost use Rattle.mobile_core.specs.TrafficReceiving.{traffic_heard};
     ghost use Rattle.mobile_core.specs.TrafficReceiving.{traffic_left_of};
     ghost use Rattle.pilot_sets.specs.Standing.{Standing};
     ghost use Rattle.mobile_core.specs.Tuning.{Tuning};

@@ -1,14 +1,13 @@
 //! The soft values of a traffic frame, over all fingers and by power control subchannels.
 
-ghost use Rattle.std.specs.Prelude.{◌≡◌, ◌<◌, ◌≤◌, ◌*◌, ◌^◌, ◌++◌, List, [], true, length, take, map};
-ghost use Rattle.std.specs.Prelude.{sum_by, unsigned_abs, filter};
+ghost use Rattle.std.specs.Prelude.{◌≡◌, ◌<◌, ◌≤◌, ◌*◌, ◌^◌, ◌++◌, List, [], true, length, take};
+ghost use Rattle.std.specs.Prelude.{map, sum_by, unsigned_abs, filter};
 ghost use Rattle.std.specs.List.{All};
 ghost use Rattle.std.specs.List.Sorted.{IsStrictlyIncreasing};
 ghost use Rattle.chip_core.specs.declared.sample.Sample.{Sample};
 ghost use Rattle.frame_decoder.specs.TrafficFrames.{group_sums, subchannels};
 ghost use Rattle.mobile_core.specs.Close.{AreClose, places_in};
-ghost use Rattle.mobile_core.specs.Legs.{all_fingers, on_subchannel};
-ghost use Rattle.mobile_core.specs.Legs.{subchannels as subchannels_of};
+ghost use Rattle.mobile_core.specs.Legs.{all_fingers, on_subchannel, subchannels as subchannels_of};
 ghost use Rattle.mobile_core.specs.LegSofts.{IsHeldFrom, sums_on};
 ghost use Rattle.rake_finger.specs.Held.{HoldsLast};
 ghost use Rattle.rake_finger.specs.Soft.{softs};

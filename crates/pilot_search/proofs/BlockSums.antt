@@ -1,5 +1,6 @@
 -- Sums with the products of one more group of eight samples, as lanes that are kept as bits.
-use Rattle.std.proofs.Common.{◌≡◌, ℕ, ◌+◌, ◌*◌, ◌^◌, ◌<◌, ◌≤◌, List, length, map, drop, refl, sym, ap, ◌∙◌, subst, arith, ℤ, ◌+ℤ◌, unsigned_abs, to_z, of_z, w32, w64}
+use Rattle.std.proofs.Common.{◌≡◌, ℕ, ◌+◌, ◌*◌, ◌^◌, ◌<◌, ◌≤◌, List, length, map, drop, refl, sym, ap, ◌∙◌, subst, arith, ℤ, ◌+ℤ◌}
+use Rattle.std.proofs.Common.{unsigned_abs, to_z, of_z, w32, w64}
 use lib.Lanes.{Each1, Each2, zip2}
 use Rattle.std.proofs.lemmas.List.{length-map}
 use Rattle.chip_core.specs.Complex.{plus}

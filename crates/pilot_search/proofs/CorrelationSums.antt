@@ -1,5 +1,6 @@
 -- Lemmas on the sums of a correlation.
-use Rattle.std.proofs.Common.{◌≡◌, ℕ, suc, ◌+◌, ◌-◌, ◌*◌, ◌%◌, ◌<◌, ◌≤◌, Bool, true, false, List, [], ◌∷◌, ◌++◌, length, get_or, take, drop, All, min, refl, ◌⊎◌, ⊎_elim, inl, inr, sym, ap, ◌∙◌, arith, add-one, ℤ, pos, ◌+ℤ◌, unsigned_abs}
+use Rattle.std.proofs.Common.{◌≡◌, ℕ, suc, ◌+◌, ◌-◌, ◌*◌, ◌%◌, ◌<◌, ◌≤◌, Bool, true, false, List, [], ◌∷◌, ◌++◌, length, get_or, take, drop}
+use Rattle.std.proofs.Common.{All, min, refl, ◌⊎◌, ⊎_elim, inl, inr, sym, ap, ◌∙◌, arith, add-one, ℤ, pos, ◌+ℤ◌, unsigned_abs}
 use Rattle.std.proofs.lemmas.List.{drop_all, take-append-drop, length-take-le, length-drop}
 use Rattle.std.proofs.lemmas.List.Elements.{All-from_get_or}
 use Rattle.std.proofs.lemmas.Bool.{cases_order}
@@ -10,12 +11,11 @@ use Rattle.chip_core.proofs.ComplexSums.{plus_assoc, plus-origin, sum_of-append}
 use Rattle.chip_core.specs.declared.sample.Pair.{Pair}
 use Rattle.chip_core.specs.declared.sample.Sample.{Sample}
 use Rattle.short_code.specs.ShortCode.{pilot_chip, chip_signs, pilot_signs}
-use Rattle.short_code.specs.Despread.{despread}
+use Rattle.short_code.specs.Despread.{despread, IsUnit, turned}
 use Rattle.short_code.proofs.Despreading.{despread-append}
 use Rattle.short_code.proofs.Signs.{length-pilot_signs, get_or-pilot_signs}
 use Rattle.pilot_search.specs.Search.{correlation}
 use Rattle.pilot_search.specs.BySigns.{correlation_with}
-use Rattle.short_code.specs.Despread.{IsUnit, turned}
 
 abbrev pub no_sample : Sample
 no_sample = record { i = pos 0; q = pos 0 }

@@ -1,5 +1,6 @@
 -- Eight products of samples with the code, side by side.
-use Rattle.std.specs.Prelude.{◌≡◌, ◌≤◌, ℕ, ◌+◌, ◌*◌, unsigned_abs, List, [], ◌∷◌, map, get_or, drop, length, ℤ, pos}
+use Rattle.std.specs.Prelude.{◌≡◌, ◌≤◌, ℕ, ◌+◌, ◌*◌, unsigned_abs, List, [], ◌∷◌, map, get_or, drop}
+use Rattle.std.specs.Prelude.{length, ℤ, pos}
 use lib.Lanes.{Each1}
 use Rattle.chip_core.specs.Complex.{plus}
 use Rattle.chip_core.specs.Sums.{total}

@@ -1,5 +1,6 @@
 -- The phases of greatest energy near the best one.
-use Rattle.std.specs.Prelude.{ℕ, ◌+◌, ◌-◌, ◌%◌, if◌then◌else◌, nat_le, List, map, ℤ, pos, negsuc, ◌-ℤ◌}
+use Rattle.std.specs.Prelude.{ℕ, ◌+◌, ◌-◌, ◌%◌, if◌then◌else◌, nat_le, List, map, ℤ, pos, negsuc}
+use Rattle.std.specs.Prelude.{◌-ℤ◌}
 use Rattle.chip_core.specs.Sums.{first_places}
 use Rattle.chip_core.specs.declared.sample.Sample.{Sample}
 use Rattle.pilot_search.specs.Search.{energy}

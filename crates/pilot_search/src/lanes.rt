@@ -1,6 +1,7 @@
 //! Sums of many samples on lanes, eight samples at a time.
 
-ghost use Rattle.std.specs.Prelude.{◌≡◌, ◌<◌, ◌≤◌, ◌+◌, ◌*◌, ◌/◌, ◌^◌, ◌+ℤ◌, length, drop, All, unsigned_abs};
+ghost use Rattle.std.specs.Prelude.{◌≡◌, ◌<◌, ◌≤◌, ◌+◌, ◌*◌, ◌/◌, ◌^◌, ◌+ℤ◌, length, drop, All};
+ghost use Rattle.std.specs.Prelude.{unsigned_abs};
 ghost use lib.Lanes.{Each1, Each2, zip2};
 ghost use Rattle.chip_core.specs.Complex.{plus};
 ghost use Rattle.chip_core.specs.Sums.{total};

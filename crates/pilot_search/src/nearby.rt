@@ -1,6 +1,7 @@
 //! The best phases near the best phase.
 
-ghost use Rattle.std.specs.Prelude.{◌≡◌, ◌≢◌, ◌<◌, ◌≤◌, ◌+◌, ◌-◌, ◌*◌, ◌↔◌, ◌++◌, IsTrue, length, replicate, slice_get, Some, pos, ◌-ℤ◌};
+ghost use Rattle.std.specs.Prelude.{◌≡◌, ◌≢◌, ◌<◌, ◌≤◌, ◌+◌, ◌-◌, ◌*◌, ◌↔◌, ◌++◌, IsTrue, length};
+ghost use Rattle.std.specs.Prelude.{replicate, slice_get, Some, pos, ◌-ℤ◌};
 ghost use Rattle.pilot_search.specs.BestIn.{IsBestIn};
 ghost use Rattle.pilot_search.specs.Near.{phase_at, near_deltas};
 ghost use Rattle.pilot_search.specs.Ranked.{IsBefore, IsRound, IsNext};

@@ -1,7 +1,8 @@
 //! The rule of the shared word, and what each step on it tells.
 
 ghost use Rattle.std.specs.Prelude.{ℕ};
-ghost use Rattle.pilot_search.specs.SharedRule.{IsKept, Begun, Loaded, Raised, fresh, spent, joined};
+ghost use Rattle.pilot_search.specs.SharedRule.{IsKept, Begun, Loaded, Raised, fresh, spent};
+ghost use Rattle.pilot_search.specs.SharedRule.{joined};
 
 use crate::view::View;
 use atomic_table::{Join, Play, Split, TableRule};

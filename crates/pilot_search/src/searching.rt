@@ -122,7 +122,8 @@ fn run<R: Threads + Sync, G: Gate + Sync>(
     requires some { 0 < count }
     requires all { first + count ≤ workers }
     requires few { workers ≤ 64 }
-    ensures found { IsFound samples.now (start_of first workers) (start_of (first + count) workers) result.0 }
+    ensures found { IsFound samples.now (start_of first workers) (start_of (first + count) workers)
+        result.0 }
     ensures held { IsHeld result.1 shared.now }
     ensures ceiling { result.1.ceiling ≡ greatest samples.now }
 {
@@ -148,7 +149,8 @@ fn run<R: Threads + Sync, G: Gate + Sync>(
             requires held { IsHeld seat shared.now }
             requires ceiling { seat.ceiling ≡ greatest samples.now }
             requires workers { (0 < few) × (first + few ≤ workers) × (workers ≤ 64) }
-            ensures found { IsFound samples.entry.now (start_of first workers) (start_of (first + few) workers) result.0 }
+            ensures found { IsFound samples.entry.now (start_of first workers)
+                (start_of (first + few) workers) result.0 }
             ensures held { IsHeld result.1 shared.entry.now }
             ensures ceiling { result.1.ceiling ≡ greatest samples.entry.now }
         {
@@ -163,7 +165,8 @@ fn run<R: Threads + Sync, G: Gate + Sync>(
             requires held { IsHeld other shared.now }
             requires ceiling { other.ceiling ≡ greatest samples.now }
             requires workers { (0 < others) × (middle + others ≤ workers) × (workers ≤ 64) }
-            ensures found { IsFound samples.entry.now (start_of middle workers) (start_of (middle + others) workers) result.0 }
+            ensures found { IsFound samples.entry.now (start_of middle workers)
+                (start_of (middle + others) workers) result.0 }
             ensures held { IsHeld result.1 shared.entry.now }
             ensures ceiling { result.1.ceiling ≡ greatest samples.entry.now }
         {
@@ -188,8 +191,8 @@ fn run<R: Threads + Sync, G: Gate + Sync>(
 /// its last, with the number of its phases for which `try_phase` answered
 /// `None`.
 ///
-/// [`OutOfMemory`]: there was no memory for the shared word, or for 65,536 bytes of the codes' signs
-/// in another form. Nothing else allocates.
+/// [`OutOfMemory`]: there was no memory for the shared word, or for 65,536 bytes of the codes'
+/// signs in another form. Nothing else allocates.
 pub fn search<R: Threads + Sync, G: Gate + Sync>(
     rt: &R,
     alloc: Global,

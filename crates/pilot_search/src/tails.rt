@@ -1,6 +1,7 @@
 //! How much the samples that are left can still add.
 
-ghost use Rattle.std.specs.Prelude.{◌≡◌, ◌<◌, ◌≤◌, ◌+◌, ◌*◌, ◌^◌, length, slice_index, unsigned_abs};
+ghost use Rattle.std.specs.Prelude.{◌≡◌, ◌<◌, ◌≤◌, ◌+◌, ◌*◌, ◌^◌, length, slice_index};
+ghost use Rattle.std.specs.Prelude.{unsigned_abs};
 ghost use Rattle.pilot_search.specs.Bounds.{AreTails};
 
 use chip_core::Sample;
@@ -25,7 +26,8 @@ impl Model for Tails {
 
     ghost view = { λ tails. tails.sums };
 
-    ghost invariant = { λ tails. (j : ℕ) → j < 512 → slice_index tails.sums j + 65536 * (64 * j) ≤ 2 ^ 31 };
+    ghost invariant = { λ tails. (j : ℕ) → j < 512 →
+        slice_index tails.sums j + 65536 * (64 * j) ≤ 2 ^ 31 };
 }
 
 /// |I| + |Q| of a sample.

@@ -1,11 +1,13 @@
 //! A worker's try of one phase.
 
-ghost use Rattle.std.specs.Prelude.{◌≡◌, ◌<◌, ◌≤◌, ◌+◌, ◌*◌, ◌%◌, ◌^◌, ℕ, length, unsigned_abs, MatchOption, IfSome, IfNone};
+ghost use Rattle.std.specs.Prelude.{◌≡◌, ◌<◌, ◌≤◌, ◌+◌, ◌*◌, ◌%◌, ◌^◌, ℕ, length, unsigned_abs};
+ghost use Rattle.std.specs.Prelude.{MatchOption, IfSome, IfNone};
 ghost use Rattle.chip_core.specs.Complex.{plus};
 ghost use Rattle.pilot_search.specs.Search.{energy};
 ghost use Rattle.pilot_search.specs.Knowledge.{IsHeld};
 ghost use Rattle.pilot_search.specs.SearchRun.{IsTry};
-ghost use Rattle.pilot_search.specs.Bounds.{AreTails, HasBoundBelow, HasNoBoundBelow, IsSumOf, square_of};
+ghost use Rattle.pilot_search.specs.Bounds.{AreTails, HasBoundBelow, HasNoBoundBelow, IsSumOf};
+ghost use Rattle.pilot_search.specs.Bounds.{square_of};
 
 use crate::correlation::{correlation_by, norm_of};
 use crate::shared::{BestSeat, Shared};
@@ -52,8 +54,8 @@ fn later(phase: Phase, chips: u16) -> Phase
     Phase::new((phase.get() + chips) % CODE_CHIPS as u16).unwrap()
 }
 
-/// The sum over the chunks before the last one, unless a bound that is looked at before is below the
-/// limit.
+/// The sum over the chunks before the last one, unless a bound that is looked at before is below
+/// the limit.
 fn sum_unless_below(
     samples: &[Sample],
     codes: &Codes,

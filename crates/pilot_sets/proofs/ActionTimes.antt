@@ -1,6 +1,5 @@
 -- The next time that is an action time modulo 64.
-use Rattle.std.proofs.Common.{◌≡◌, ◌≢◌, ◌<◌, ◌+◌, ◌-◌, ◌%◌, ℕ, if◌then◌else◌}
-use Rattle.std.proofs.Common.{ap, sym, subst, arith}
+use Rattle.std.proofs.Common.{◌≡◌, ◌≢◌, ◌<◌, ◌+◌, ◌-◌, ◌%◌, ℕ, if◌then◌else◌, ap, sym, subst, arith}
 use Rattle.std.proofs.lemmas.Bool.{ne_eqb, eq-eqb}
 use Rattle.traffic_message.specs.declared.fields.DirectionFields.{DirectionFields}
 use Rattle.pilot_sets.specs.Directions.{direction_time}

@@ -1,7 +1,6 @@
 -- What lasts over any sequence of calls.
-use Rattle.std.proofs.Common.{◌≡◌, ◌≢◌, ◌<◌, ◌≤◌, ◌-◌, ℕ, Bool, true, false, cond, if◌then◌else◌, ◌&&◌, ◌==◌, not}
-use Rattle.std.proofs.Common.{List, [], ◌∷◌, ◌++◌, length, map, filter, take, nat_lt, suc, Option, Some, None}
-use Rattle.std.proofs.Common.{refl, ap, sym, ◌∙◌, subst, arith, length-append}
+use Rattle.std.proofs.Common.{◌≡◌, ◌≢◌, ◌<◌, ◌≤◌, ◌-◌, ℕ, Bool, true, false, cond, if◌then◌else◌, ◌&&◌, ◌==◌, not, List, [], ◌∷◌, ◌++◌}
+use Rattle.std.proofs.Common.{length, map, filter, take, nat_lt, suc, Option, Some, None, refl, ap, sym, ◌∙◌, subst, arith, length-append}
 use Rattle.std.proofs.lemmas.List.{length-map, length-take}
 use Rattle.std.proofs.lemmas.Bool.{ne_eqb, eq-eqb, ltb-true}
 use Rattle.std.proofs.lemmas.List.Elements.{All-head, All-tail}
@@ -12,7 +11,8 @@ use Rattle.pilot_sets.specs.PilotSets.{timed_pilots}
 use Rattle.pilot_sets.specs.Directions.{IsDirection, direction_fault, named_pilots, accepted_of}
 use Rattle.pilot_sets.specs.Timers.{is_expired}
 use Rattle.pilot_sets.specs.Handoffs.{pilots_named, actives_without, fresh, left, all_left, cleared, handed_off}
-use Rattle.pilot_sets.specs.Moments.{energy_in, active_timed, candidate_timed, timed, stays, pilots_going, rises, dropped, moving_up, measured}
+use Rattle.pilot_sets.specs.Moments.{energy_in, active_timed, candidate_timed, timed, stays, pilots_going, rises, dropped, moving_up}
+use Rattle.pilot_sets.specs.Moments.{measured}
 use Rattle.pilot_sets.specs.Orderly.{IsActiveSetIfAny, IsOrderly}
 use Rattle.pilot_sets.specs.Standing.{Standing, new_standing, unless_refused, directed, began_in, due_for, due_at}
 use Rattle.pilot_sets.specs.Histories.{Call, after, after_all, IsLawful, AreApart, LeavesWaiting}
@@ -24,7 +24,8 @@ use Rattle.pilot_sets.specs.declared.standing.Accepted.{Accepted}
 use Rattle.pilot_sets.specs.declared.standing.PilotSets.{PilotSets}
 use Rattle.pilot_sets.proofs.Refusals.{accepted_few}
 use Rattle.pilot_sets.proofs.Times.{once_at_most}
-use Rattle.pilot_sets.proofs.Orders.{new_orderly, neighbors_orderly, thresholds_orderly, waiting_orderly, accepted_active_set, handed_off_orderly, measured_orderly, length-after, all_left-waiting}
+use Rattle.pilot_sets.proofs.Orders.{new_orderly, neighbors_orderly, thresholds_orderly, waiting_orderly, accepted_active_set}
+use Rattle.pilot_sets.proofs.Orders.{handed_off_orderly, measured_orderly, length-after, all_left-waiting}
 
 -- IN ORDER
 pub due_orderly : (waiting : Option Accepted) (time : ℕ) (s : Standing) → IsOrderly s.sets →

@@ -1,6 +1,6 @@
 -- The pilots of a direction's records, record by record.
-use Rattle.std.proofs.Common.{◌≡◌, ◌<◌, ◌+◌, ℕ, List, [], ◌∷◌, ◌++◌, drop, length, Some, slice_get, ◌==◌}
-use Rattle.std.proofs.Common.{ap, sym, ◌∙◌, arith, append_assoc, length-append}
+use Rattle.std.proofs.Common.{◌≡◌, ◌<◌, ◌+◌, ℕ, List, [], ◌∷◌, ◌++◌, drop, length, Some, slice_get, ◌==◌, ap, sym, ◌∙◌, arith, append_assoc}
+use Rattle.std.proofs.Common.{length-append}
 use Rattle.pilot_sets.specs.Directions.{named_pilots}
 use Rattle.pilot_sets.specs.declared.standing.NamedPilot.{NamedPilot}
 use Rattle.pilot_sets.proofs.Firsts.{drop_at}

@@ -1,6 +1,5 @@
 -- Why a direction is refused, case by case.
-use Rattle.std.proofs.Common.{◌≡◌, ◌<◌, ◌≤◌, ℕ, Bool, true, false, List, [], length, Option, Some, None}
-use Rattle.std.proofs.Common.{nat_lt, refl, sym, ◌∙◌, arith}
+use Rattle.std.proofs.Common.{◌≡◌, ◌<◌, ◌≤◌, ℕ, Bool, true, false, List, [], length, Option, Some, None, nat_lt, refl, sym, ◌∙◌, arith}
 use Rattle.std.proofs.lemmas.Bool.{lt-ltb, ltb-true, ltb-false}
 use Rattle.std.specs.List.{find}
 use Rattle.pilot_sets.specs.Directions.{is_unknown_row, first_repeated, fault_of, unknown_or_twice}

@@ -1,7 +1,6 @@
 -- Which timers run behind a call.
-use Rattle.std.proofs.Common.{◌≡◌, ℕ, Bool, true, false, cond, if◌then◌else◌, ◌&&◌, ◌||◌, ◌==◌, not, ◌⊎◌, inl, inr}
-use Rattle.std.proofs.Common.{List, [], ◌∷◌, ◌++◌, length, map, filter, nat_lt, nat_eq, Option, Some, None, unwrap_or}
-use Rattle.std.proofs.Common.{refl, ap, sym, ◌∙◌}
+use Rattle.std.proofs.Common.{◌≡◌, ℕ, Bool, true, false, cond, if◌then◌else◌, ◌&&◌, ◌||◌, ◌==◌, not, ◌⊎◌, inl, inr, List, [], ◌∷◌, ◌++◌}
+use Rattle.std.proofs.Common.{length, map, filter, nat_lt, nat_eq, Option, Some, None, unwrap_or, refl, ap, sym, ◌∙◌}
 use Rattle.std.proofs.lemmas.Bool.{eqb-true, eq-eqb}
 use Rattle.std.proofs.lemmas.List.Folds.{list_any-append}
 use Rattle.traffic_message.specs.declared.fields.DirectionFields.{DirectionFields}
@@ -9,7 +8,8 @@ use Rattle.pilot_sets.specs.Pilots.{has, lacks}
 use Rattle.pilot_sets.specs.PilotSets.{active_pilots, candidate_pilots, timed_pilots, pilots_of_actives, pilots_of_candidates}
 use Rattle.pilot_sets.specs.Directions.{direction_fault, accepted_of}
 use Rattle.pilot_sets.specs.Timers.{is_strong, is_expired, timer_after}
-use Rattle.pilot_sets.specs.Handoffs.{pilots_named, actives_without, timer_of, next_subchannel, actives_after, fresh, left, all_left, cleared, handed_off}
+use Rattle.pilot_sets.specs.Handoffs.{pilots_named, actives_without, timer_of, next_subchannel, actives_after, fresh, left, all_left}
+use Rattle.pilot_sets.specs.Handoffs.{cleared, handed_off}
 use Rattle.pilot_sets.specs.Moments.{energy_in, active_timed, candidate_timed, timed, stays, dropped, moving_up, measured}
 use Rattle.pilot_sets.specs.Standing.{Standing, unless_refused, began_in, due_for}
 use Rattle.pilot_sets.specs.Histories.{Call, after, active_timers, candidate_timers, IsAmong, RunsSince, Starts}

@@ -1,5 +1,6 @@
 -- A handoff direction: when it is refused, and when it takes effect (after TIA/EIA-95-B, 6.6.6.2).
-use Rattle.std.specs.Prelude.{ℕ, ◌+◌, ◌-◌, ◌%◌, ◌<◌, ◌≤◌, ◌≡◌, Bool, if◌then◌else◌, ◌||◌, ◌==◌, List, [], ◌∷◌, length, nat_lt, Option, Some, None}
+use Rattle.std.specs.Prelude.{ℕ, ◌+◌, ◌-◌, ◌%◌, ◌<◌, ◌≤◌, ◌≡◌, Bool, if◌then◌else◌, ◌||◌, ◌==◌}
+use Rattle.std.specs.Prelude.{List, [], ◌∷◌, length, nat_lt, Option, Some, None}
 use Rattle.std.specs.List.{find, All}
 use Rattle.pilot_sets.specs.Pilots.{has}
 use Rattle.traffic_message.specs.declared.fields.DirectionFields.{DirectionFields}

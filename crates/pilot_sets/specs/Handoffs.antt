@@ -1,5 +1,6 @@
 -- The first thing of a moment: the direction for its time takes effect.
-use Rattle.std.specs.Prelude.{ℕ, ◌+◌, Bool, false, cond, not, if◌then◌else◌, ◌&&◌, ◌==◌, List, [], ◌∷◌, ◌++◌, length, map, filter, nat_lt, Option, Some, None}
+use Rattle.std.specs.Prelude.{ℕ, ◌+◌, Bool, false, cond, not, if◌then◌else◌, ◌&&◌, ◌==◌, List, []}
+use Rattle.std.specs.Prelude.{◌∷◌, ◌++◌, length, map, filter, nat_lt, Option, Some, None}
 use Rattle.pilot_sets.specs.Pilots.{lacks, without}
 use Rattle.pilot_sets.specs.Timers.{is_expired}
 use Rattle.traffic_message.specs.declared.fields.Search.{Search}

@@ -1,9 +1,11 @@
 -- What happens to the sets, call by call.
-use Rattle.std.specs.Prelude.{ℕ, ◌≡◌, ◌≢◌, ◌≤◌, ◌<◌, ◌%◌, ◌⊎◌, List, [], ◌∷◌, ◌++◌, length, map, Option, Some}
+use Rattle.std.specs.Prelude.{ℕ, ◌≡◌, ◌≢◌, ◌≤◌, ◌<◌, ◌%◌, ◌⊎◌, List, [], ◌∷◌, ◌++◌, length, map}
+use Rattle.std.specs.Prelude.{Option, Some}
 use Rattle.std.specs.List.{All}
 use Rattle.pilot_sets.specs.Directions.{IsDirection, direction_fault}
 use Rattle.pilot_sets.specs.Orderly.{times_in}
-use Rattle.pilot_sets.specs.Standing.{Standing, with_thresholds, with_neighbors, directed, due_at, stepped}
+use Rattle.pilot_sets.specs.Standing.{Standing, with_thresholds, with_neighbors, directed, due_at}
+use Rattle.pilot_sets.specs.Standing.{stepped}
 use Rattle.traffic_message.specs.declared.fields.DirectionFields.{DirectionFields}
 use Rattle.pilot_sets.specs.declared.fault.DirectionFault.{DirectionFault}
 use Rattle.pilot_sets.specs.declared.strengths.Strength.{Strength}

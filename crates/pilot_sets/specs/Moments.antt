@@ -1,6 +1,7 @@
 -- The other things of a moment: timers start, stop and run out, pilots move between the candidates
 -- and the neighbors, and a report may be due.
-use Rattle.std.specs.Prelude.{ℕ, ◌-◌, ◌*◌, Bool, not, ◌&&◌, ◌||◌, ◌==◌, if◌then◌else◌, List, [], ◌∷◌, ◌++◌, length, map, filter, take, nat_lt}
+use Rattle.std.specs.Prelude.{ℕ, ◌-◌, ◌*◌, Bool, not, ◌&&◌, ◌||◌, ◌==◌, if◌then◌else◌, List, []}
+use Rattle.std.specs.Prelude.{◌∷◌, ◌++◌, length, map, filter, take, nat_lt}
 use Rattle.std.specs.List.{list_any}
 use Rattle.pilot_sets.specs.Tables.{ratio}
 use Rattle.pilot_sets.specs.Pilots.{has, without}

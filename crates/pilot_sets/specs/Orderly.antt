@@ -1,6 +1,7 @@
 -- Sets in order: no pilot is in two sets or in one twice, each is an offset below 512, some pilot
 -- is active, and the direction that waits orders such an active set.
-use Rattle.std.specs.Prelude.{ℕ, ℤ, ◌+◌, ◌<◌, ◌≤◌, ◌≡◌, cond, List, [], ◌∷◌, length, nat_eq, nat_lt, Option, Some, None}
+use Rattle.std.specs.Prelude.{ℕ, ℤ, ◌+◌, ◌<◌, ◌≤◌, ◌≡◌, cond, List, [], ◌∷◌, length, nat_eq, nat_lt}
+use Rattle.std.specs.Prelude.{Option, Some, None}
 use Rattle.std.specs.List.{All}
 use Rattle.pilot_sets.specs.PilotSets.{active_pilots, candidate_pilots}
 use Rattle.pilot_sets.specs.Handoffs.{pilots_named}

@@ -1,8 +1,10 @@
 -- What the sets keep, and how each call changes it.
-use Rattle.std.specs.Prelude.{ℕ, ℤ, pos, Bool, not, if◌then◌else◌, ◌&&◌, ◌==◌, List, [], ◌∷◌, map, nat_eq, replicate, slice_set, Option, Some, None, unwrap_or}
+use Rattle.std.specs.Prelude.{ℕ, ℤ, pos, Bool, not, if◌then◌else◌, ◌&&◌, ◌==◌, List, [], ◌∷◌, map}
+use Rattle.std.specs.Prelude.{nat_eq, replicate, slice_set, Option, Some, None, unwrap_or}
 use Rattle.std.specs.Cmp.Lexicographic.{pointwise}
 use Rattle.pilot_sets.specs.Pilots.{has}
-use Rattle.pilot_sets.specs.PilotSets.{new_sets, neighbors_heard, thresholds_heard, timed_pilots, pilots_of_candidates, candidate_pilots}
+use Rattle.pilot_sets.specs.PilotSets.{new_sets, neighbors_heard, thresholds_heard, timed_pilots}
+use Rattle.pilot_sets.specs.PilotSets.{pilots_of_candidates, candidate_pilots}
 use Rattle.pilot_sets.specs.Directions.{direction_fault, accepted_of}
 use Rattle.pilot_sets.specs.Handoffs.{handed_off}
 use Rattle.pilot_sets.specs.Moments.{energy_in, measured, is_reported}

@@ -1,5 +1,6 @@
 -- Worked values of the pilot sets.
-use Rattle.std.specs.Prelude.{◌≡◌, refl, ℕ, Bool, true, false, List, [], ◌∷◌, ◌++◌, length, map, pos, Option, Some, None}
+use Rattle.std.specs.Prelude.{◌≡◌, refl, ℕ, Bool, true, false, List, [], ◌∷◌, ◌++◌, length, map}
+use Rattle.std.specs.Prelude.{pos, Option, Some, None}
 use Rattle.std.specs.List.{range_with_len}
 use Rattle.traffic_message.specs.declared.fields.DirectionFields.{DirectionFields}
 use Rattle.pilot_sets.specs.PilotSets.{first_thresholds, candidate_pilots}

@@ -1,7 +1,13 @@
 //! The first thing of a moment: a handoff direction takes effect.
 
 ghost use Rattle.std.specs.Prelude.{◌≡◌, ◌<◌, ◌≤◌, ◌^◌, ◌+◌, length};
-ghost use Rattle.pilot_sets.specs.Handoffs.{with_search as with_search_by, pilots_named, candidates_without as candidates_left, actives_without as actives_left, timer_of as timer_among, active_of as active_by, subchannel_after as subchannel_behind, actives_after as actives_by, fresh as fresh_candidate, left, all_left, handed_off};
+ghost use Rattle.pilot_sets.specs.Handoffs.{with_search as with_search_by, pilots_named};
+ghost use Rattle.pilot_sets.specs.Handoffs.{candidates_without as candidates_left};
+ghost use Rattle.pilot_sets.specs.Handoffs.{actives_without as actives_left};
+ghost use Rattle.pilot_sets.specs.Handoffs.{timer_of as timer_among, active_of as active_by};
+ghost use Rattle.pilot_sets.specs.Handoffs.{subchannel_after as subchannel_behind};
+ghost use Rattle.pilot_sets.specs.Handoffs.{actives_after as actives_by, fresh as fresh_candidate};
+ghost use Rattle.pilot_sets.specs.Handoffs.{left, all_left, handed_off};
 
 use crate::few::Few;
 use crate::pilots::{has, without};

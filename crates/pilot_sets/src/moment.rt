@@ -5,7 +5,8 @@ ghost use Rattle.std.specs.Prelude.{◌≡◌, ◌<◌, ◌≤◌, ◌^◌, leng
 ghost use Rattle.std.specs.Cmp.Lexicographic.{pointwise};
 ghost use Rattle.pilot_sets.specs.PilotSets.{pilots_of_candidates};
 ghost use Rattle.pilot_sets.specs.Moments.{energy_in, measured, is_reported};
-ghost use Rattle.pilot_sets.specs.Standing.{began_now as lists_of, is_same_active as is_same_by, is_changed as is_changed_by};
+ghost use Rattle.pilot_sets.specs.Standing.{began_now as lists_of, is_same_active as is_same_by};
+ghost use Rattle.pilot_sets.specs.Standing.{is_changed as is_changed_by};
 
 use crate::moves::move_pilots;
 use crate::pilots::candidate_pilots;

@@ -3,7 +3,9 @@
 
 ghost use Rattle.std.specs.Prelude.{◌≡◌, ◌<◌, ◌≤◌, ◌+◌, ◌^◌, ◌++◌, length, map, filter, take};
 ghost use Rattle.pilot_sets.specs.Handoffs.{fresh as fresh_candidate};
-ghost use Rattle.pilot_sets.specs.Moments.{energy_in, active_timed, candidate_timed, timed, stays, pilots_going, expired_moved, rises, rising as rising_of, risen, moving_up, measured};
+ghost use Rattle.pilot_sets.specs.Moments.{energy_in, active_timed, candidate_timed, timed, stays};
+ghost use Rattle.pilot_sets.specs.Moments.{pilots_going, expired_moved, rises, rising as rising_of};
+ghost use Rattle.pilot_sets.specs.Moments.{risen, moving_up, measured};
 
 use crate::few::Few;
 use crate::handoff::fresh;

@@ -2,7 +2,8 @@
 
 ghost use Rattle.std.specs.Prelude.{◌≡◌, ◌≤◌, ◌++◌, length};
 ghost use Rattle.pilot_sets.specs.Pilots.{has as has_pilot, without as without_pilots};
-ghost use Rattle.pilot_sets.specs.PilotSets.{pilots_of_actives, pilots_of_candidates, timed_pilots as timed_pilots_of};
+ghost use Rattle.pilot_sets.specs.PilotSets.{pilots_of_actives, pilots_of_candidates};
+ghost use Rattle.pilot_sets.specs.PilotSets.{timed_pilots as timed_pilots_of};
 
 use crate::few::Few;
 use crate::standing::{ActivePilot, CandidatePilot, PilotSets};

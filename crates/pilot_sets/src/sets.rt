@@ -1,14 +1,19 @@
 //! The pilot sets.
 
-ghost use Rattle.std.specs.Prelude.{◌≡◌, ◌<◌, ◌≤◌, ◌^◌, length, Some, None, slice_get, unwrap_or, OnErr};
+ghost use Rattle.std.specs.Prelude.{◌≡◌, ◌<◌, ◌≤◌, ◌^◌, length, Some, None, slice_get, unwrap_or};
+ghost use Rattle.std.specs.Prelude.{OnErr};
 ghost use Rattle.std.specs.List.{All};
 ghost use Rattle.std.specs.Result.{MatchResult};
 ghost use Rattle.pilot_sets.specs.Tables.{window_chips as window_of};
-ghost use Rattle.pilot_sets.specs.PilotSets.{pilots as pilots_of, candidate_pilots as candidates_of};
-ghost use Rattle.pilot_sets.specs.Directions.{direction_fault as fault_of_direction, direction_time as time_of_direction};
+ghost use Rattle.pilot_sets.specs.PilotSets.{pilots as pilots_of};
+ghost use Rattle.pilot_sets.specs.PilotSets.{candidate_pilots as candidates_of};
+ghost use Rattle.pilot_sets.specs.Directions.{direction_fault as fault_of_direction};
+ghost use Rattle.pilot_sets.specs.Directions.{direction_time as time_of_direction};
 ghost use Rattle.pilot_sets.specs.Handoffs.{is_for};
 ghost use Rattle.pilot_sets.specs.Orderly.{IsOrderly, IsStanding};
-ghost use Rattle.pilot_sets.specs.Standing.{new_standing, shown, window_number, with_thresholds, with_neighbors, directed, due_at, stepped, change_at, deltas_with, began_now as lists_of};
+ghost use Rattle.pilot_sets.specs.Standing.{new_standing, shown, window_number, with_thresholds};
+ghost use Rattle.pilot_sets.specs.Standing.{with_neighbors, directed, due_at, stepped, change_at};
+ghost use Rattle.pilot_sets.specs.Standing.{deltas_with, began_now as lists_of};
 ghost use Rattle.pilot_sets.specs.declared.lists.Active.{Active as TheActive};
 ghost use Rattle.pilot_sets.specs.declared.strengths.Strength.{Strength as TheStrength};
 

@@ -1,6 +1,7 @@
 //! How strong pilots were measured.
 
-ghost use Rattle.std.specs.Prelude.{◌≡◌, ◌<◌, ◌≤◌, List, [], ◌∷◌, ◌++◌, length, slice_get, Some, IsOk, OnOk, OnErr, ◌↔◌, IsTrue};
+ghost use Rattle.std.specs.Prelude.{◌≡◌, ◌<◌, ◌≤◌, List, [], ◌∷◌, ◌++◌, length, slice_get, Some};
+ghost use Rattle.std.specs.Prelude.{IsOk, OnOk, OnErr, ◌↔◌, IsTrue};
 ghost use Rattle.pilot_sets.specs.Moments.{energy_in};
 
 use crate::few::{Few, Filler};

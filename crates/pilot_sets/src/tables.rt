@@ -1,7 +1,8 @@
 //! The standard's tables of search windows and drop timers, and the ratios of half decibels.
 
 ghost use Rattle.std.specs.Prelude.{◌≡◌, ◌≤◌};
-ghost use Rattle.pilot_sets.specs.Tables.{drop_timer_ms as drop_timer_of, ratio as ratio_of, window_chips as window_of};
+ghost use Rattle.pilot_sets.specs.Tables.{drop_timer_ms as drop_timer_of, ratio as ratio_of};
+ghost use Rattle.pilot_sets.specs.Tables.{window_chips as window_of};
 
 /// The drop timers in milliseconds.
 const DROP_TIMERS: [u32; 16] = [

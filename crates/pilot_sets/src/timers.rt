@@ -2,7 +2,8 @@
 
 ghost use Rattle.std.specs.Prelude.{◌≡◌, ◌<◌, ◌≤◌, ◌^◌, ◌*◌};
 ghost use Rattle.pilot_sets.specs.Tables.{ratio as ratio_of};
-ghost use Rattle.pilot_sets.specs.Timers.{is_strong as is_strong_by, is_expired as is_expired_by, timer_after as timer_behind};
+ghost use Rattle.pilot_sets.specs.Timers.{is_strong as is_strong_by, is_expired as is_expired_by};
+ghost use Rattle.pilot_sets.specs.Timers.{timer_after as timer_behind};
 
 use crate::tables::{drop_timer_ms, ratio};
 use crate::thresholds::Thresholds;

@@ -1,5 +1,6 @@
 -- Numbers in falling order of what a function gives: its first places.
-use Rattle.std.proofs.Common.{◌≡◌, ℕ, zero, suc, ◌<◌, ◌≤◌, ◌⊎◌, inl, inr, ⊎_elim, true, false, List, length, get_or, take, sym, ap, ◌∙◌, subst, arith, pos, ◌<ℤ◌, ◌≤ℤ◌, add-one, nat_eq}
+use Rattle.std.proofs.Common.{◌≡◌, ℕ, zero, suc, ◌<◌, ◌≤◌, ◌⊎◌, inl, inr, ⊎_elim, true, false, List, length, get_or, take, sym, ap, ◌∙◌}
+use Rattle.std.proofs.Common.{subst, arith, pos, ◌<ℤ◌, ◌≤ℤ◌, add-one, nat_eq}
 use Rattle.std.specs.List.{list_any, Contains}
 use Rattle.std.proofs.lemmas.Int.{ints}
 use Rattle.std.proofs.lemmas.Bool.{cases_order, eq-eqb, ne_eqb}

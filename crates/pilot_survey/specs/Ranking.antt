@@ -1,5 +1,6 @@
 -- What a ranking of pilots is.
-use Rattle.std.specs.Prelude.{◌≡◌, ◌<◌, ◌≤◌, ◌⊎◌, ℕ, ◌+◌, List, length, slice_index_or, All, Contains}
+use Rattle.std.specs.Prelude.{◌≡◌, ◌<◌, ◌≤◌, ◌⊎◌, ℕ, ◌+◌, List, length, slice_index_or, All}
+use Rattle.std.specs.Prelude.{Contains}
 use Rattle.chip_core.specs.declared.sample.Sample.{Sample}
 use Rattle.pilot_survey.specs.Survey.{surveyed}
 use Rattle.pilot_survey.specs.declared.rank.Rank.{Rank}

@@ -34,8 +34,8 @@ fn share(first: u8, end: u8, workers: u8) -> u16
     start(end, workers) - start(first, workers)
 }
 
-/// Runs the workers from the number `first` to before `end`, each in a thread and with a part of the
-/// ranks.
+/// Runs the workers from the number `first` to before `end`, each in a thread and with a part of
+/// the ranks.
 fn run<R: Threads + Sync, G: Gate + Sync>(
     rt: &R,
     samples: &[Sample],

@@ -12,9 +12,8 @@ use Rattle.frame_decoder.specs.Rows.{symbols_in, score_in, word_in, frame_in, ca
 use Rattle.frame_decoder.specs.Rows as rows
 use Rattle.frame_decoder.specs.TrafficFrames.{unreplaced}
 use Rattle.rate_set_two.specs.declared.traffic.Decoded2.{Decoded2}
-use Rattle.rate_set_two.specs.TrafficFrames.{row_of, frame_score, has_quality, shown}
-use Rattle.rate_set_two.specs.TrafficFrames.{preferred, best_candidate, not_good}
-use Rattle.rate_set_two.specs.TrafficFrames.{good_or, rate_set_2, decoded2}
+use Rattle.rate_set_two.specs.TrafficFrames.{row_of, frame_score, has_quality, shown, preferred, best_candidate, not_good, good_or}
+use Rattle.rate_set_two.specs.TrafficFrames.{rate_set_2, decoded2}
 use Rattle.rate_set_two.proofs.RateRows.{word_is}
 
 -- a frame of the rows as a frame of rate set 2

@@ -1,6 +1,5 @@
 -- The laws of frames.
-use Rattle.std.specs.Prelude.{◌≡◌, ℕ, ◌*◌, ◌<◌, Bool, true, false, List, length}
-use Rattle.std.specs.Prelude.{replicate, ℤ, pos}
+use Rattle.std.specs.Prelude.{◌≡◌, ℕ, ◌*◌, ◌<◌, Bool, true, false, List, length, replicate, ℤ, pos}
 use Rattle.chip_core.specs.Agreement.{agreement}
 use Rattle.viterbi.specs.Best.{IsAllowed}
 use Rattle.viterbi.specs.Words.{Word}

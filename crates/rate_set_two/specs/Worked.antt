@@ -1,12 +1,12 @@
 -- Worked values, which the checker computes.
-use Rattle.std.specs.Prelude.{◌≡◌, refl, Bool, true, false, List, [], ◌∷◌, ◌++◌, map, take, replicate}
-use Rattle.std.specs.Prelude.{pos, None, Some}
+use Rattle.std.specs.Prelude.{◌≡◌, refl, Bool, true, false, List, [], ◌∷◌, ◌++◌, map, take}
+use Rattle.std.specs.Prelude.{replicate, pos, None, Some}
 use Rattle.chip_core.specs.Bits.{binary, number, places}
 use Rattle.quality_bits.specs.Quality.{check_bits}
 use Rattle.symbol_path.specs.SentOrderTwo.{place2, sent2}
 use Rattle.symbol_path.specs.FramesTwo.{word_bits}
-use Rattle.rate_set_two.specs.TrafficFrames.{frame_word, frame_symbols, has_quality}
-use Rattle.rate_set_two.specs.TrafficFrames.{shown, preferred, good_or}
+use Rattle.rate_set_two.specs.TrafficFrames.{frame_word, frame_symbols, has_quality, shown}
+use Rattle.rate_set_two.specs.TrafficFrames.{preferred, good_or}
 use Rattle.symbol_path.specs.declared.rate_two.Rate2.TheVariants.{R14400, R7200, R3600, R1800}
 use Rattle.rate_set_two.specs.declared.traffic.Decoded2.{Decoded2}
 
@@ -76,7 +76,8 @@ no_candidate : preferred false half (Some eighth) ≡ Some eighth
 no_candidate = refl
 
 -- a score of 0 isn't good, and only it is kept then
-nothing_good : good_or (replicate 288 false) (pos 7) (Some (shown R1800 (replicate 36 true) (pos 0)))
+nothing_good : good_or (replicate 288 false) (pos 7)
+    (Some (shown R1800 (replicate 36 true) (pos 0)))
     ≡ record { rate = R14400; good = false; bits = replicate 268 false; score = pos 0 }
 nothing_good = refl
 

@@ -1,8 +1,7 @@
 //! Laws of the definitions: each function does nothing, and its contract is the law.
 
 ghost use Rattle.symbol_path.specs.SentOrderTwo.{IsKeptOnce, IsDropped};
-ghost use Rattle.rate_set_two.specs.Laws.{KeepsAgreement};
-ghost use Rattle.rate_set_two.specs.Laws.{IsSentFrameDecoded, IsNothingGood};
+ghost use Rattle.rate_set_two.specs.Laws.{KeepsAgreement, IsSentFrameDecoded, IsNothingGood};
 
 /// A frame sends each of its repeated symbols exactly once, but for the third and the fifth of each
 /// six, which it doesn't send.

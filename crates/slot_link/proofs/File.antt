@@ -1,14 +1,11 @@
 -- What is written of a clean link's file, slot by slot.
-use Rattle.std.proofs.Common.{◌≡◌, ℕ, ◌+◌, ◌-◌, ◌*◌, ◌<◌, ◌≤◌, ◌&&◌, Bool, true, false, List}
-use Rattle.std.proofs.Common.{[], length, filter, refl, sym, ap, ◌∙◌, arith}
+use Rattle.std.proofs.Common.{◌≡◌, ℕ, ◌+◌, ◌-◌, ◌*◌, ◌<◌, ◌≤◌, ◌&&◌, Bool, true, false, List, [], length, filter, refl, sym, ap, ◌∙◌, arith}
 use Rattle.std.proofs.Common.{inl, inr, nat_le, nat_lt, Option, None, Some}
 use Rattle.std.specs.Prelude.{if◌then◌else◌}
 use Rattle.std.specs.List.{Contains, flat_map}
-use Rattle.std.proofs.lemmas.Bool.{and_from, and_parts, cases_Bool}
-use Rattle.std.proofs.lemmas.Bool.{false_from_ne_true, le-leb}
+use Rattle.std.proofs.lemmas.Bool.{and_from, and_parts, cases_Bool, false_from_ne_true, le-leb}
 use Rattle.chip_core.specs.Bits.{places}
-use Rattle.chip_core.proofs.Ranges.{filter_enough, filter_ext_places, filter_none_places}
-use Rattle.chip_core.proofs.Ranges.{flat_map_ext_filter_places}
+use Rattle.chip_core.proofs.Ranges.{filter_enough, filter_ext_places, filter_none_places, flat_map_ext_filter_places}
 use Rattle.chip_core.specs.declared.width.Width.{Width}
 use Rattle.slot_mode.specs.Slots.{is_monitored}
 use Rattle.cell_plan.specs.Pages.{paging_rate}
@@ -22,9 +19,8 @@ use Rattle.mobile_core.specs.Streams.{is_in_file, Stream}
 use Rattle.mobile_core.specs.Tuning.{Tuning}
 use Rattle.mobile_core.specs.declared.channel.Channel.TheVariants.{Paging}
 use Rattle.mobile_core.specs.declared.mark.Mark.{Mark}
-use Rattle.event_tap.specs.SlotLines.{frame_of_slot, frame_of_slot_end, is_heard, is_slot_within}
-use Rattle.event_tap.specs.SlotLines.{lines_behind, lines_by_times, lines_of_slot, slot_bound}
-use Rattle.event_tap.specs.SlotLines.{slot_lines}
+use Rattle.event_tap.specs.SlotLines.{frame_of_slot, frame_of_slot_end, is_heard, is_slot_within, lines_behind, lines_by_times}
+use Rattle.event_tap.specs.SlotLines.{lines_of_slot, slot_bound, slot_lines}
 use Rattle.clean_link.specs.CleanLink.{IsOnPath, IsTrueMark}
 use Rattle.cell_plan.specs.Stated.{IsReceivable}
 use Rattle.clean_link.specs.SentEvents.{told_with_sync}
@@ -34,8 +30,7 @@ use Rattle.clean_link.proofs.marks.MarksTrue.{marks_rate, marks_true, unmarked}
 use Rattle.clean_link.proofs.signal.Samples.{length-made}
 use Rattle.clean_link.proofs.traffic.Back.{told_behind_mark, untold}
 use Rattle.slot_link.specs.Laws.{HearsSlots, SlotTextsComeBack}
-use Rattle.slot_link.specs.SentSlots.{monitored_slots, sent_slot, slots_behind_mark, slots_sent}
-use Rattle.slot_link.specs.SentSlots.{slots_to_end, slots_with_sync}
+use Rattle.slot_link.specs.SentSlots.{monitored_slots, sent_slot, slots_behind_mark, slots_sent, slots_to_end, slots_with_sync}
 use Rattle.slot_link.specs.SlotPages.{pages_in_slot}
 use Rattle.slot_link.proofs.Slots.{slot_back}
 

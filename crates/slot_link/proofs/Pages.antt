@@ -1,7 +1,6 @@
 -- The pages that the bits of a slot spell.
-use Rattle.std.proofs.Common.{◌≡◌, ℕ, zero, suc, ◌+◌, ◌*◌, ◌≤◌, Bool, List, [], ◌∷◌}
-use Rattle.std.proofs.Common.{◌++◌, length, map, filter, take, refl, sym, ap, ◌∙◌, arith}
-use Rattle.std.proofs.Common.{length-append, Option, Some, None}
+use Rattle.std.proofs.Common.{◌≡◌, ℕ, zero, suc, ◌+◌, ◌*◌, ◌≤◌, Bool, List, [], ◌∷◌, ◌++◌, length, map, filter, take, refl, sym, ap, ◌∙◌}
+use Rattle.std.proofs.Common.{arith, length-append, Option, Some, None}
 use Rattle.std.specs.List.{flat_map}
 use Rattle.std.specs.Option.{option_to_list}
 use Rattle.std.proofs.Math.Nat.{mul-le-mul_right}
@@ -24,8 +23,7 @@ use Rattle.cell_plan.proofs.LaidPages.{size_large}
 use Rattle.mobile_core.specs.PagingEvents.{with_page}
 use Rattle.event_tap.specs.SlotLines.{slot_pages}
 use Rattle.clean_link.specs.HeardPages.{ReadPage}
-use Rattle.clean_link.specs.WholePages.{capsules_with_frames, cycle_half_frames, frame_capsules}
-use Rattle.clean_link.specs.WholePages.{is_between, placed, sending_of, Placed}
+use Rattle.clean_link.specs.WholePages.{capsules_with_frames, cycle_half_frames, frame_capsules, is_between, placed, sending_of, Placed}
 use Rattle.clean_link.proofs.pages.CyclesBack.{cycle_some, page_sendings_back}
 use Rattle.clean_link.proofs.pages.InOrder.{flat_map-flat_map}
 use Rattle.clean_link.proofs.pages.Placed.{pages_placed, told_each, IsPlaced}

@@ -1,6 +1,5 @@
 -- The slots of a clean link's file: their soft values, and the pages that come back of them.
-use Rattle.std.proofs.Common.{◌≡◌, ℕ, ◌+◌, ◌*◌, ◌<◌, Bool, true, List, length}
-use Rattle.std.proofs.Common.{refl, sym, ap, ◌∙◌, arith, ℤ}
+use Rattle.std.proofs.Common.{◌≡◌, ℕ, ◌+◌, ◌*◌, ◌<◌, Bool, true, List, length, refl, sym, ap, ◌∙◌, arith, ℤ}
 use Rattle.std.proofs.lemmas.List.Elements.{All-contains}
 use Rattle.chip_core.specs.Bits.{places}
 use Rattle.chip_core.specs.declared.check_form.CheckForm.{CheckForm}

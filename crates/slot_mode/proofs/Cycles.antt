@@ -1,14 +1,11 @@
 -- The monitored times of a key in a cycle.
-use Rattle.std.proofs.Common.{◌≡◌, ◌<◌, ◌≤◌, ℕ, ◌+◌, ◌-◌, ◌*◌, ◌/◌, ◌%◌, ◌^◌, nat_eq}
-use Rattle.std.proofs.Common.{sym, ap, ◌∙◌, arith, inl, inr}
+use Rattle.std.proofs.Common.{◌≡◌, ◌<◌, ◌≤◌, ℕ, ◌+◌, ◌-◌, ◌*◌, ◌/◌, ◌%◌, ◌^◌, nat_eq, sym, ap, ◌∙◌, arith, inl, inr}
 use Rattle.std.proofs.lemmas.Bool.{cases_lt, eqb-true, eq-eqb}
 use Rattle.std.proofs.lemmas.Nat.{mod_below, pow_pos, pow-add}
-use Rattle.std.proofs.Math.Nat.{div-add-mod, add-mod-mod, add-mul-mod_self_right, mod-eq_of_lt}
-use Rattle.std.proofs.Math.Nat.{mod-mod_of_dvd, dvd-mul_right, mul_assoc}
+use Rattle.std.proofs.Math.Nat.{div-add-mod, add-mod-mod, add-mul-mod_self_right, mod-eq_of_lt, mod-mod_of_dvd, dvd-mul_right, mul_assoc}
 use Rattle.frame_decoder.proofs.Parts.{within}
 use Rattle.slot_mode.specs.Slots.{slot_of, period, next_monitored}
-use Rattle.slot_mode.specs.Laws.{ComesAgain, ComesInTime, ComesOnce}
-use Rattle.slot_mode.specs.Laws.{IsAmongShorter}
+use Rattle.slot_mode.specs.Laws.{ComesAgain, ComesInTime, ComesOnce, IsAmongShorter}
 
 -- a cycle has slots
 has_slots : (cycle : ℕ) → 0 < period cycle

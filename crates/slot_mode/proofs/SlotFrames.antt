@@ -1,6 +1,5 @@
 -- The frames of a slot.
-use Rattle.std.proofs.Common.{◌≡◌, ◌≤◌, ℕ, zero, suc, ◌+◌, ◌-◌, List, ◌++◌, length, take, drop}
-use Rattle.std.proofs.Common.{append_assoc, sym, ap, ◌∙◌, arith, ℤ}
+use Rattle.std.proofs.Common.{◌≡◌, ◌≤◌, ℕ, zero, suc, ◌+◌, ◌-◌, List, ◌++◌, length, take, drop, append_assoc, sym, ap, ◌∙◌, arith, ℤ}
 use Rattle.std.proofs.Math.Seq.{drop-append-add}
 use Rattle.std.proofs.lemmas.List.{drop-append-le, take-append-le, length-drop}
 use Rattle.frame_decoder.specs.Spans.{paging_channel, own_bits}

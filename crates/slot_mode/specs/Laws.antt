@@ -1,6 +1,6 @@
 -- The laws of slots.
-use Rattle.std.specs.Prelude.{◌≡◌, ◌<◌, ◌≤◌, ◌↔◌, ℕ, ◌+◌, ◌-◌, ◌*◌, ◌%◌, List, ◌++◌}
-use Rattle.std.specs.Prelude.{length, take, drop, ℤ, IsTrue}
+use Rattle.std.specs.Prelude.{◌≡◌, ◌<◌, ◌≤◌, ◌↔◌, ℕ, ◌+◌, ◌-◌, ◌*◌, ◌%◌, List, ◌++◌, length, take}
+use Rattle.std.specs.Prelude.{drop, ℤ, IsTrue}
 use Rattle.quality_bits.specs.declared.rate.Rate.{Rate}
 use Rattle.frame_decoder.specs.Spans.{paging_channel, own_bits}
 use Rattle.slot_mode.specs.Slots.{period, is_monitored, next_monitored}

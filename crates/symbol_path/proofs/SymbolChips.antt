@@ -1,5 +1,6 @@
 -- The long code's chips at the first chips of symbols, and the places of the power control bits.
-use Rattle.std.proofs.Common.{◌≡◌, ℕ, zero, suc, ◌+◌, ◌-◌, ◌*◌, ◌%◌, ◌^◌, ◌<◌, ◌≤◌, Bool, false, List, length, get_or, refl, sym, ap, ◌∙◌, arith, zero-add}
+use Rattle.std.proofs.Common.{◌≡◌, ℕ, zero, suc, ◌+◌, ◌-◌, ◌*◌, ◌%◌, ◌^◌, ◌<◌, ◌≤◌, Bool, false, List, length, get_or, refl, sym, ap, ◌∙◌}
+use Rattle.std.proofs.Common.{arith, zero-add}
 use Rattle.chip_core.specs.Bits.{binary, common_parity}
 use Rattle.chip_core.proofs.Places.{map-places-all}
 use Rattle.long_code.specs.LongCode.{after, before, long_chip, period}

@@ -1,6 +1,5 @@
 -- How many bits and code symbols a frame has, and how its word is made.
-use Rattle.std.proofs.Common.{◌≡◌, ℕ, ◌+◌, ◌*◌, ◌≤◌, Bool, false, List, ◌++◌, length, replicate}
-use Rattle.std.proofs.Common.{refl, sym, ap, ◌∙◌, arith, length-append}
+use Rattle.std.proofs.Common.{◌≡◌, ℕ, ◌+◌, ◌*◌, ◌≤◌, Bool, false, List, ◌++◌, length, replicate, refl, sym, ap, ◌∙◌, arith, length-append}
 use Rattle.std.proofs.lemmas.List.{length-replicate}
 use Rattle.chip_core.specs.Bits.{binary}
 use Rattle.conv_code.specs.ConvCode.{code_symbols}
@@ -10,8 +9,7 @@ use Rattle.quality_bits.proofs.Ends.{degree_positive}
 use Rattle.quality_bits.proofs.Steps.{length-check_bits}
 use Rattle.symbol_path.specs.declared.rate_two.Rate2.{Rate2}
 use Rattle.symbol_path.specs.declared.rate_two.Rate2.TheVariants.{R14400, R7200, R3600, R1800}
-use Rattle.symbol_path.specs.RatesTwo.{information_of, quality_of, quality_length, frame_bits}
-use Rattle.symbol_path.specs.RatesTwo.{symbols_of}
+use Rattle.symbol_path.specs.RatesTwo.{information_of, quality_of, quality_length, frame_bits, symbols_of}
 use Rattle.symbol_path.specs.FramesTwo.{quality_indicator, word_bits}
 
 -- how many bits a frame has

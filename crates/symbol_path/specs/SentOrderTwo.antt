@@ -1,12 +1,13 @@
 -- Repetition, dropping and interleaving: which code symbol is sent when.
-use Rattle.std.specs.Prelude.{◌≡◌, ℕ, ◌+◌, ◌*◌, ◌/◌, ◌%◌, ◌<◌, ◌==◌, ◌||◌, Bool, false, List, [], ◌∷◌, map}
-use Rattle.std.specs.Prelude.{get_or}
+use Rattle.std.specs.Prelude.{◌≡◌, ℕ, ◌+◌, ◌*◌, ◌/◌, ◌%◌, ◌<◌, ◌==◌, ◌||◌, Bool, false, List, []}
+use Rattle.std.specs.Prelude.{◌∷◌, map, get_or}
 use Rattle.chip_core.specs.Bits.{places}
 use Rattle.symbol_path.specs.SentOrder.{data_shape, address}
 use Rattle.symbol_path.specs.declared.rate_two.Rate2.{Rate2}
 use Rattle.symbol_path.specs.RatesTwo.{repeats_of}
 
--- which of the repeated symbols is kept as symbol a: the first, second, fourth and sixth of each six
+-- which of the repeated symbols is kept as symbol a: the first, second, fourth and sixth of each
+-- six
 abbrev pub kept_symbol : ℕ → ℕ
 kept_symbol a = 6 * (a / 4) + get_or (0 ∷ 1 ∷ 3 ∷ 5 ∷ []) (a % 4) 0
 

@@ -4,7 +4,8 @@
 //! number of symbols. 7.1.3.1.5: the repeated symbols are sent in another order, in which
 //! neighbours stand far apart.
 
-ghost use Rattle.std.specs.Prelude.{◌≡◌, ◌+◌, ◌*◌, ◌/◌, ◌<◌, ◌≤◌, ◌^◌, ℕ, length, get_or, ℤ, pos, sum_by, unsigned_abs};
+ghost use Rattle.std.specs.Prelude.{◌≡◌, ◌+◌, ◌*◌, ◌/◌, ◌<◌, ◌≤◌, ◌^◌, ℕ, length, get_or, ℤ, pos};
+ghost use Rattle.std.specs.Prelude.{sum_by, unsigned_abs};
 ghost use Rattle.symbol_path.specs.SentOrder.{shape_of, size, reversed, address, sent, gathered};
 
 use crate::kinds::Kind;

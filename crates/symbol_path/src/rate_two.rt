@@ -22,7 +22,8 @@ pub enum Rate2 {
 }
 
 impl Rate2 {
-    ghost use Rattle.symbol_path.specs.RatesTwo.{repeats_of, information_of, quality_of, symbols_of};
+    ghost use Rattle.symbol_path.specs.RatesTwo.{repeats_of, information_of, quality_of};
+    ghost use Rattle.symbol_path.specs.RatesTwo.{symbols_of};
 
     /// How often each code symbol is repeated: 1, 2, 4 or 8 times.
     pub fn repeats(&self) -> u8

@@ -3,7 +3,8 @@
 ghost use Rattle.std.specs.Prelude.{◌≡◌, ◌+◌, ◌*◌, ◌<◌, ◌≤◌, ◌^◌, ℕ, length, slice_index, All};
 ghost use Rattle.std.specs.List.Sorted.{IsStrictlyIncreasing};
 ghost use Rattle.long_code.specs.LongCode.{IsState, after};
-ghost use Rattle.symbol_path.specs.Scrambling.{symbol_chips, scrambling, group_scrambling, power_start, power_places};
+ghost use Rattle.symbol_path.specs.Scrambling.{symbol_chips, scrambling, group_scrambling};
+ghost use Rattle.symbol_path.specs.Scrambling.{power_start, power_places};
 
 use long_code::State;
 

@@ -1,5 +1,6 @@
 -- Which bodies are those of messages.
-use Rattle.std.proofs.Common.{◌≡◌, ℕ, ◌==◌, ◌&&◌, Bool, true, false, not, cond, List, length, drop, refl, sym, ap, ◌∙◌, nat_le, Option, Some, None}
+use Rattle.std.proofs.Common.{◌≡◌, ℕ, ◌==◌, ◌&&◌, Bool, true, false, not, cond, List, length, drop, refl, sym, ap, ◌∙◌, nat_le, Option}
+use Rattle.std.proofs.Common.{Some, None}
 use Rattle.std.proofs.lemmas.Bool.{and_from, and_parts, le-leb, leb-true}
 use Rattle.chip_core.specs.Readings.{number_at}
 use Rattle.quality_bits.specs.Capsules.{FillsCapsule}

@@ -1,5 +1,7 @@
 -- Bodies of messages, spelled and read again.
-use Rattle.std.proofs.Common.{◌≡◌, ◌≢◌, ◌⊎◌, ℕ, ◌+◌, ◌-◌, ◌%◌, ◌^◌, ◌<◌, ◌≤◌, ◌==◌, ◌&&◌, Bool, true, false, List, [], ◌∷◌, ◌++◌, length, take, drop, refl, sym, ap, subst, ◌∙◌, arith, append_assoc, length-append, nat_le, inl, inr, Option, Some, None}
+use Rattle.std.proofs.Common.{◌≡◌, ◌≢◌, ◌⊎◌, ℕ, ◌+◌, ◌-◌, ◌%◌, ◌^◌, ◌<◌, ◌≤◌, ◌==◌, ◌&&◌, Bool, true, false, List, [], ◌∷◌, ◌++◌, length}
+use Rattle.std.proofs.Common.{take, drop, refl, sym, ap, subst, ◌∙◌, arith, append_assoc, length-append, nat_le, inl, inr, Option, Some}
+use Rattle.std.proofs.Common.{None}
 use Rattle.std.proofs.lemmas.Bool.{and_from, and_parts, cases_Bool, eq-eqb, eqb-false, eqb-true, le-leb, leb-true, ne_eqb}
 use Rattle.std.proofs.lemmas.List.{drop_at, length-drop, take_all}
 use Rattle.chip_core.specs.Bits.{binary, digit}
@@ -22,7 +24,8 @@ use Rattle.traffic_message.specs.declared.fields.DirectionFields.{DirectionField
 use Rattle.traffic_message.specs.declared.fields.Head.{Head}
 use Rattle.traffic_message.specs.declared.fields.InTrafficFields.{InTrafficFields}
 use Rattle.traffic_message.specs.declared.fields.UpdateFields.{UpdateFields}
-use Rattle.traffic_message.proofs.ByLayout.{direction_again, direction_read, mapped_some, parameters_again, parameters_read, update_again, update_read}
+use Rattle.traffic_message.proofs.ByLayout.{direction_again, direction_read, mapped_some, parameters_again, parameters_read, update_again}
+use Rattle.traffic_message.proofs.ByLayout.{update_read}
 
 -- WHAT STANDS BEHIND THE HEAD
 -- another body is read as it is

@@ -1,5 +1,6 @@
 -- What stands behind the head, by its layouts.
-use Rattle.std.proofs.Common.{◌≡◌, ℕ, zero, suc, ◌+◌, ◌-◌, ◌*◌, ◌/◌, ◌%◌, ◌^◌, ◌<◌, ◌≤◌, ◌==◌, Bool, true, false, List, [], ◌∷◌, ◌++◌, length, get_or, map, take, drop, refl, sym, ap, subst, ◌∙◌, arith, nat_le, inl, inr, Option, Some, None}
+use Rattle.std.proofs.Common.{◌≡◌, ℕ, zero, suc, ◌+◌, ◌-◌, ◌*◌, ◌/◌, ◌%◌, ◌^◌, ◌<◌, ◌≤◌, ◌==◌, Bool, true, false, List, [], ◌∷◌, ◌++◌}
+use Rattle.std.proofs.Common.{length, get_or, map, take, drop, refl, sym, ap, subst, ◌∙◌, arith, nat_le, inl, inr, Option, Some, None}
 use Rattle.std.proofs.lemmas.Bool.{and_parts, cases_Bool, cases_lt, eqb-false, le-leb, leb-false, leb-true, lt-leb}
 use Rattle.std.proofs.lemmas.List.{append-nil, length-drop, nil_from_length}
 use Rattle.chip_core.specs.Bits.{binary, number, places}
@@ -9,7 +10,8 @@ use Rattle.chip_core.specs.declared.field.Field.{Field}
 use Rattle.chip_core.proofs.Places.{map-places-all}
 use Rattle.chip_core.proofs.ValueLists.{dropped, front}
 use Rattle.message_layout.specs.Contents.{height, record_fields}
-use Rattle.message_layout.specs.Reading.{◌>>=◌, fields_at, group_at, number_part, octets_at, part_at, presence_at, reading, records_at, rest_at}
+use Rattle.message_layout.specs.Reading.{◌>>=◌, fields_at, group_at, number_part, octets_at, part_at, presence_at, reading, records_at}
+use Rattle.message_layout.specs.Reading.{rest_at}
 use Rattle.message_layout.specs.Shapes.{is_lawful}
 use Rattle.message_layout.specs.Spelling.{behind_group, group_fields, spelling, IsGroup, IsOf}
 use Rattle.message_layout.specs.declared.contents.Contents.{Contents}

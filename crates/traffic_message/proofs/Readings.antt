@@ -1,5 +1,6 @@
 -- Bodies and capsules read as messages.
-use Rattle.std.proofs.Common.{◌≡◌, ℕ, ◌-◌, Bool, List, length, take, drop, refl, sym, ap, ◌∙◌, arith, inl, inr, Option, Some, None, Result, Ok, Err}
+use Rattle.std.proofs.Common.{◌≡◌, ℕ, ◌-◌, Bool, List, length, take, drop, refl, sym, ap, ◌∙◌, arith, inl, inr, Option, Some, None, Result}
+use Rattle.std.proofs.Common.{Ok, Err}
 use Rattle.std.specs.Prelude.{IfOk, IfSome}
 use Rattle.std.proofs.lemmas.Bool.{cases_Bool}
 use Rattle.chip_core.specs.Bits.{are_same}

@@ -1,5 +1,6 @@
 -- The records of a handoff direction.
-use Rattle.std.proofs.Common.{◌≡◌, ℕ, zero, suc, ◌*◌, ◌^◌, ◌<◌, Bool, List, [], ◌∷◌, ◌++◌, length, get_or, refl, sym, ap, ◌∙◌, arith, append_assoc, length-append}
+use Rattle.std.proofs.Common.{◌≡◌, ℕ, zero, suc, ◌*◌, ◌^◌, ◌<◌, Bool, List, [], ◌∷◌, ◌++◌, length, get_or, refl, sym, ap, ◌∙◌, arith}
+use Rattle.std.proofs.Common.{append_assoc, length-append}
 use Rattle.chip_core.specs.Bits.{binary}
 use Rattle.chip_core.specs.Fields.{spelled, FieldsFit}
 use Rattle.chip_core.proofs.FieldLists.{length-binary}

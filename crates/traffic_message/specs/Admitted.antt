@@ -1,5 +1,6 @@
 -- Which bodies are those of messages, by their type and length.
-use Rattle.std.specs.Prelude.{ℕ, ◌≡◌, ◌==◌, ◌&&◌, if◌then◌else◌, Bool, true, not, List, length, drop, nat_le}
+use Rattle.std.specs.Prelude.{ℕ, ◌≡◌, ◌==◌, ◌&&◌, if◌then◌else◌, Bool, true, not, List, length}
+use Rattle.std.specs.Prelude.{drop, nat_le}
 use Rattle.chip_core.specs.Readings.{number_at}
 use Rattle.traffic_message.specs.Handoff.{has_records, is_hard}
 use Rattle.traffic_message.specs.Messages.{Message, message_body, IsTrafficMessage}

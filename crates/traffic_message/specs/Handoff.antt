@@ -1,5 +1,7 @@
 -- The Extended Handoff Direction Message (TIA/EIA-95-B, 7.7.3.3.2.17).
-use Rattle.std.specs.Prelude.{ℕ, ◌≡◌, ◌+◌, ◌-◌, ◌*◌, ◌≤◌, ◌/◌, ◌%◌, ◌==◌, ◌&&◌, if◌then◌else◌, Bool, List, [], ◌∷◌, ◌++◌, length, take, drop, get_or, nat_le, Option, Some, None}
+use Rattle.std.specs.Prelude.{ℕ, ◌≡◌, ◌+◌, ◌-◌, ◌*◌, ◌≤◌, ◌/◌, ◌%◌, ◌==◌, ◌&&◌, if◌then◌else◌, Bool}
+use Rattle.std.specs.Prelude.{List, [], ◌∷◌, ◌++◌, length, take, drop, get_or, nat_le, Option, Some}
+use Rattle.std.specs.Prelude.{None}
 use Rattle.chip_core.specs.Fields.{field, spelled, in_widths, FieldsFit}
 use Rattle.chip_core.specs.Readings.{number_at, values_at, column_at}
 use Rattle.chip_core.specs.declared.field.Field.{Field}

@@ -1,5 +1,6 @@
 -- The In-Traffic System Parameters Message (TIA/EIA-95-B, 7.7.3.3.2.7).
-use Rattle.std.specs.Prelude.{ℕ, if◌then◌else◌, Bool, List, [], ◌∷◌, ◌++◌, length, drop, get_or, nat_le, Option, Some, None}
+use Rattle.std.specs.Prelude.{ℕ, if◌then◌else◌, Bool, List, [], ◌∷◌, ◌++◌, length, drop, get_or}
+use Rattle.std.specs.Prelude.{nat_le, Option, Some, None}
 use Rattle.chip_core.specs.Fields.{spelled, in_widths, FieldsFit}
 use Rattle.chip_core.specs.Readings.{values_at}
 use Rattle.chip_core.specs.declared.field.Field.{Field}

@@ -1,6 +1,7 @@
 -- The message that a body or a capsule spells, as a function of its bits: each field is the number
 -- that stands at its place.
-use Rattle.std.specs.Prelude.{ℕ, ◌-◌, ◌%◌, ◌==◌, ◌&&◌, if◌then◌else◌, Bool, not, List, length, take, drop, get_or, nat_le, Option, Some, None, Result, Ok, Err}
+use Rattle.std.specs.Prelude.{ℕ, ◌-◌, ◌%◌, ◌==◌, ◌&&◌, if◌then◌else◌, Bool, not, List, length, take}
+use Rattle.std.specs.Prelude.{drop, get_or, nat_le, Option, Some, None, Result, Ok, Err}
 use Rattle.chip_core.specs.Bits.{are_same}
 use Rattle.chip_core.specs.Readings.{number_at, values_at}
 use Rattle.chip_core.specs.declared.check_form.CheckForm.{CheckForm}

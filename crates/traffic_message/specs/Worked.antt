@@ -1,18 +1,23 @@
 -- Worked values.
-use Rattle.std.specs.Prelude.{◌≡◌, refl, Bool, true, false, List, [], ◌∷◌, ◌++◌, replicate, length, take, drop, map, Some, None}
+use Rattle.std.specs.Prelude.{◌≡◌, refl, Bool, true, false, List, [], ◌∷◌, ◌++◌, replicate, length}
+use Rattle.std.specs.Prelude.{take, drop, map, Some, None}
 use Rattle.chip_core.specs.Bits.{binary, places}
 use Rattle.chip_core.specs.declared.check_form.CheckForm.TheVariants.{Plain, Complemented}
 use Rattle.quality_bits.specs.Capsules.{capsule, front_capsule, is_stated}
 use Rattle.quality_bits.specs.Pieces.{piece, capsule_ending}
 use Rattle.quality_bits.specs.Quality.{check_bits}
 use Rattle.quality_bits.specs.declared.rate.Rate.TheVariants.{R9600, R4800}
-use Rattle.traffic_message.specs.Handoff.{added_bits, direction_at, direction_bits, direction_of, direction_reading, first_record, hard_place, has_records, is_hard, octets_at, search_at, search_of}
+use Rattle.traffic_message.specs.Handoff.{added_bits, direction_at, direction_bits, direction_of}
+use Rattle.traffic_message.specs.Handoff.{direction_reading, first_record, hard_place, has_records}
+use Rattle.traffic_message.specs.Handoff.{is_hard, octets_at, search_at, search_of}
 use Rattle.traffic_message.specs.InTraffic.{in_traffic_at, in_traffic_of, in_traffic_reading}
 use Rattle.traffic_message.specs.Messages.{Message, message_body, traffic_capsule}
 use Rattle.traffic_message.specs.Multiplex.{split, split_9600}
 use Rattle.traffic_message.specs.Neighbors.{has_neighbors, update_at, update_reading}
-use Rattle.traffic_message.specs.Reading.{body_reading, head_at, head_of, is_body, part_reading, traffic_reading}
-use Rattle.traffic_message.specs.declared.body.TrafficBody.TheVariants.{Handoff, Neighbors, Other, System}
+use Rattle.traffic_message.specs.Reading.{body_reading, head_at, head_of, is_body, part_reading}
+use Rattle.traffic_message.specs.Reading.{traffic_reading}
+use Rattle.traffic_message.specs.declared.body.TrafficBody.TheVariants.{Handoff, Neighbors, Other}
+use Rattle.traffic_message.specs.declared.body.TrafficBody.TheVariants.{System}
 use Rattle.traffic_message.specs.declared.fields.Head.{Head}
 use Rattle.traffic_message.specs.declared.multiplex.Mux.{Mux}
 

@@ -3,8 +3,11 @@
 ghost use Rattle.std.specs.Prelude.{◌≡◌, ◌<◌, ◌≤◌, ◌+◌, ◌++◌, false, length};
 ghost use Rattle.std.specs.List.{All};
 ghost use Rattle.chip_core.specs.Fields.{in_widths, FieldsFit};
-ghost use Rattle.traffic_message.specs.Handoff.{direction_bits, direction_reading, is_hard, hard_place, search_fields, search_of, search_values, time_values, IsHandoffDirection};
-ghost use Rattle.traffic_message.specs.Layouts.{direction_contents, direction_from, search_from, search_group};
+ghost use Rattle.traffic_message.specs.Handoff.{direction_bits, direction_reading, is_hard};
+ghost use Rattle.traffic_message.specs.Handoff.{hard_place, search_fields, search_of};
+ghost use Rattle.traffic_message.specs.Handoff.{search_values, time_values, IsHandoffDirection};
+ghost use Rattle.traffic_message.specs.Layouts.{direction_contents, direction_from, search_from};
+ghost use Rattle.traffic_message.specs.Layouts.{search_group};
 ghost use Rattle.traffic_message.specs.Widths.{search_widths, time_widths};
 
 use crate::fields::{DirectionFields, Search};

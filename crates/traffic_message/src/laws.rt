@@ -1,11 +1,13 @@
 //! Laws of the definitions: each function does nothing, and its contract is the law.
 
-ghost use Rattle.std.specs.Prelude.{◌≡◌, ◌↔◌, ◌++◌, Bool, true, false, List, Some, drop, get_or, length};
+ghost use Rattle.std.specs.Prelude.{◌≡◌, ◌↔◌, ◌++◌, Bool, true, false, List, Some, drop, get_or};
+ghost use Rattle.std.specs.Prelude.{length};
 ghost use Rattle.chip_core.specs.declared.check_form.CheckForm.{CheckForm as TheForm};
 ghost use Rattle.quality_bits.specs.Capsules.{FillsCapsule};
 ghost use Rattle.quality_bits.specs.declared.kind.Kind.TheVariants.{M16};
 ghost use Rattle.traffic_message.specs.Admitted.{admits, HasMessage};
-ghost use Rattle.traffic_message.specs.Messages.{message_body, traffic_capsule, IsTrafficMessage, Message};
+ghost use Rattle.traffic_message.specs.Messages.{message_body, traffic_capsule, IsTrafficMessage};
+ghost use Rattle.traffic_message.specs.Messages.{Message};
 ghost use Rattle.traffic_message.specs.Multiplex.{joined, split_9600};
 ghost use Rattle.traffic_message.specs.Reading.{body_reading, traffic_reading};
 

@@ -5,8 +5,10 @@ ghost use Rattle.chip_core.specs.Fields.{in_widths, FieldsFit};
 ghost use Rattle.quality_bits.specs.Capsules.{FillsCapsule, IsWhole};
 ghost use Rattle.quality_bits.specs.Kinds.{IsChecked};
 ghost use Rattle.quality_bits.specs.declared.kind.Kind.TheVariants.{M16};
-ghost use Rattle.traffic_message.specs.Messages.{head_values, message_body, traffic_capsule, IsTrafficMessage, Message};
-ghost use Rattle.traffic_message.specs.Reading.{body_reading, head_at, head_of, is_body, reading_of, traffic_reading};
+ghost use Rattle.traffic_message.specs.Messages.{head_values, message_body, traffic_capsule};
+ghost use Rattle.traffic_message.specs.Messages.{IsTrafficMessage, Message};
+ghost use Rattle.traffic_message.specs.Reading.{body_reading, head_at, head_of, is_body};
+ghost use Rattle.traffic_message.specs.Reading.{reading_of, traffic_reading};
 ghost use Rattle.traffic_message.specs.Widths.{head_widths};
 
 use crate::body::TrafficBody;

@@ -1,7 +1,8 @@
 //! The fields of the messages by name and width.
 
 ghost use Rattle.std.specs.Prelude.{◌≡◌, ◌<◌, [], get_or};
-ghost use Rattle.traffic_message.specs.Widths.{head_names, in_traffic_names, search_names, time_names};
+ghost use Rattle.traffic_message.specs.Widths.{head_names, in_traffic_names, search_names};
+ghost use Rattle.traffic_message.specs.Widths.{time_names};
 
 use message_layout::name_in;
 

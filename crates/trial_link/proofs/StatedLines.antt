@@ -1,6 +1,5 @@
 -- Texts of whole lines that lead from one draft to another.
-use Rattle.std.proofs.Common.{◌≡◌, ℕ, ◌+◌, ◌-◌, true, List, []}
-use Rattle.std.proofs.Common.{◌∷◌, ◌++◌, length, take, refl, sym, ap, ◌∙◌, arith, Option, Some}
+use Rattle.std.proofs.Common.{◌≡◌, ℕ, ◌+◌, ◌-◌, true, List, [], ◌∷◌, ◌++◌, length, take, refl, sym, ap, ◌∙◌, arith, Option, Some}
 use Rattle.std.proofs.Common.{append_assoc, length-append, Ok, append-nil}
 use Rattle.std.specs.Prelude.{option_and_then, ok_or}
 use Rattle.std.proofs.Math.Seq.{take-append_seam}

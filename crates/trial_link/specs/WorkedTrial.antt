@@ -5,9 +5,9 @@ use Rattle.hex.specs.Hex.{encode_with}
 use Rattle.line_text.specs.Texts.{bit_text, digits_of, octets, padded, serial_digits, state_digits}
 use Rattle.chip_core.specs.Bits.{binary, places}
 use Rattle.trial_link.specs.Spelling.{cell_text, frame_text, page_text, traffic_text}
-use Rattle.trial_link.specs.Trial.{behind_draws, bits_drawn, drawn, frame_drawn}
-use Rattle.trial_link.specs.Trial.{behind_frames, other_frame, trial_cell, trial_page}
-use Rattle.trial_link.specs.Trial.{followed_line, trial_serial_number}
+use Rattle.trial_link.specs.Trial.{behind_draws, bits_drawn, drawn, frame_drawn, behind_frames}
+use Rattle.trial_link.specs.Trial.{other_frame, trial_cell, trial_page, followed_line}
+use Rattle.trial_link.specs.Trial.{trial_serial_number}
 
 first_draw : drawn 0 ≡ 0x14057b7e
 first_draw = refl

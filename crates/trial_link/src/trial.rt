@@ -152,10 +152,10 @@ pub fn trial_serial_number(number: u64) -> u32
     draws.draw()
 }
 
-/// The script of a number: two seconds of a cell with a pilot, a sync and a paging channel and three
-/// traffic channels, of which the first has a hundred frames of all rates. Its values are drawn from
-/// the number, and the same number gives the same script. It names a lawful plan, whatever the
-/// number: see [`crate::laws::trial_scripts_are_lawful`].
+/// The script of a number: two seconds of a cell with a pilot, a sync and a paging channel and
+/// three traffic channels, of which the first has a hundred frames of all rates. Its values are
+/// drawn from the number, and the same number gives the same script. It names a lawful plan,
+/// whatever the number: see [`crate::laws::trial_scripts_are_lawful`].
 ///
 /// [`OutOfMemory`]: there was none.
 pub fn trial_script(alloc: Global, number: u64) -> Result<Vec<u8>, OutOfMemory>

@@ -1,6 +1,5 @@
 -- What is written of frames in order, and what they leave of a slot, as frames go on.
-use Rattle.std.proofs.Common.{◌≡◌, ℕ, List, [], ◌∷◌, ◌++◌, refl, sym, ap, ◌∙◌, append-nil}
-use Rattle.std.proofs.Common.{append_assoc, flat_map}
+use Rattle.std.proofs.Common.{◌≡◌, ℕ, List, [], ◌∷◌, ◌++◌, refl, sym, ap, ◌∙◌, append-nil, append_assoc, flat_map}
 use Rattle.chip_core.specs.declared.check_form.CheckForm.{CheckForm}
 use Rattle.mobile_core.specs.declared.mark.Mark.{Mark}
 use Rattle.mobile_core.specs.declared.soft_frame.SoftFrame.{SoftFrame}

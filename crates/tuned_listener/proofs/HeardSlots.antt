@@ -1,7 +1,6 @@
 -- A slot whose four frames were kept: its soft values are small, and its lines are those told.
-use Rattle.std.proofs.Common.{◌≡◌, ◌<◌, ◌≤◌, ℕ, zero, suc, ◌+◌, ◌*◌, ◌/◌, Bool, true, false}
-use Rattle.std.proofs.Common.{List, length, take, drop, ℤ, refl, sym, ap, ◌∙◌, arith}
-use Rattle.std.proofs.Common.{Some, None, flat_map, nat_lt, sum_by, unsigned_abs, take-add}
+use Rattle.std.proofs.Common.{◌≡◌, ◌<◌, ◌≤◌, ℕ, zero, suc, ◌+◌, ◌*◌, ◌/◌, Bool, true, false, List, length, take, drop, ℤ, refl, sym, ap}
+use Rattle.std.proofs.Common.{◌∙◌, arith, Some, None, flat_map, nat_lt, sum_by, unsigned_abs, take-add}
 use Rattle.std.specs.Prelude.{if◌then◌else◌}
 use Rattle.std.proofs.lemmas.Bool.{eq-eqb}
 use Rattle.std.proofs.lemmas.List.{drop-drop, take_all}

@@ -1,7 +1,6 @@
 -- What is written of a sleeping handset's slots hangs on the samples of these alone.
-use Rattle.std.proofs.Common.{◌≡◌, ℕ, ◌+◌, ◌-◌, ◌*◌, ◌<◌, ◌≤◌, true, List, [], ◌∷◌, length, refl}
-use Rattle.std.proofs.Common.{sym, ap, ◌∙◌, subst, arith, inl, inr, ℤ, pos, ◌-ℤ◌, Option, Some, None}
-use Rattle.std.proofs.Common.{take, drop, filter, length-take-le}
+use Rattle.std.proofs.Common.{◌≡◌, ℕ, ◌+◌, ◌-◌, ◌*◌, ◌<◌, ◌≤◌, true, List, [], ◌∷◌, length, refl, sym, ap, ◌∙◌, subst, arith, inl, inr, ℤ}
+use Rattle.std.proofs.Common.{pos, ◌-ℤ◌, Option, Some, None, take, drop, filter, length-take-le}
 use Rattle.std.specs.Prelude.{int_le, unsigned_abs}
 use Rattle.std.specs.List.{flat_map}
 use Rattle.std.proofs.lemmas.Bool.{and_parts, cases_lt}
@@ -23,11 +22,9 @@ use Rattle.mobile_core.specs.declared.mark.Mark.{Mark}
 use Rattle.mobile_core.specs.declared.soft_frame.SoftFrame.{SoftFrame}
 use Rattle.mobile_core.proofs.FingerTimes.{near_parts, timed_of}
 use Rattle.mobile_core.proofs.FrameSamples.{frame_same}
-use Rattle.mobile_core.proofs.MarkStays.{mark_behind, mark_pilot, mark_sooner, mark_stays}
-use Rattle.mobile_core.proofs.MarkStays.{paging_near}
+use Rattle.mobile_core.proofs.MarkStays.{mark_behind, mark_pilot, mark_sooner, mark_stays, paging_near}
 use Rattle.slot_mode.specs.Frames.{slot_bits}
-use Rattle.event_tap.specs.SlotLines.{frame_of_slot, frame_of_slot_end, is_heard, lines_of_slot}
-use Rattle.event_tap.specs.SlotLines.{slot_bound, slot_lines, slot_pages}
+use Rattle.event_tap.specs.SlotLines.{frame_of_slot, frame_of_slot_end, is_heard, lines_of_slot, slot_bound, slot_lines, slot_pages}
 use Rattle.tuned_listener.specs.SlotLaws.{AgreeInSlot, SleepsThroughTheRest}
 use Rattle.tuned_listener.proofs.SlotTimes.{mark_is_late, written_by_times}
 

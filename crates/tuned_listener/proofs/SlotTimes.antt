@@ -1,11 +1,9 @@
 -- What is written of a sleeping handset's slots, slot by slot.
-use Rattle.std.proofs.Common.{◌≡◌, ℕ, zero, suc, ◌+◌, ◌*◌, ◌/◌, ◌%◌, ◌<◌, ◌≤◌, ◌&&◌, Bool}
-use Rattle.std.proofs.Common.{true, false, List, [], ◌∷◌, ◌++◌, length, map, filter, nat_le, refl, sym}
-use Rattle.std.proofs.Common.{ap, ◌∙◌, subst, arith, inl, inr, Option, Some, None}
+use Rattle.std.proofs.Common.{◌≡◌, ℕ, zero, suc, ◌+◌, ◌*◌, ◌/◌, ◌%◌, ◌<◌, ◌≤◌, ◌&&◌, Bool, true, false, List, [], ◌∷◌, ◌++◌, length, map}
+use Rattle.std.proofs.Common.{filter, nat_le, refl, sym, ap, ◌∙◌, subst, arith, inl, inr, Option, Some, None}
 use Rattle.std.specs.Prelude.{if◌then◌else◌, nat_lt}
 use Rattle.std.specs.List.{flat_map, range_with_len}
-use Rattle.std.proofs.lemmas.Bool.{and_from, and_parts, and_right, cases_Bool, cases_lt}
-use Rattle.std.proofs.lemmas.Bool.{false_from_ne_true, le-leb, leb-true, lt-leb}
+use Rattle.std.proofs.lemmas.Bool.{and_from, and_parts, and_right, cases_Bool, cases_lt, false_from_ne_true, le-leb, leb-true, lt-leb}
 use Rattle.chip_core.specs.Bits.{places}
 use Rattle.chip_core.specs.declared.check_form.CheckForm.{CheckForm}
 use Rattle.chip_core.specs.declared.sample.Sample.{Sample}
@@ -29,9 +27,8 @@ use Rattle.mobile_core.proofs.MarkLater.{mark_later}
 use Rattle.mobile_core.proofs.MarkStays.{mark_pilot, mark_set, paging_near}
 use Rattle.slot_mode.specs.Frames.{slot_bits}
 use Rattle.slot_mode.specs.Slots.{is_monitored}
-use Rattle.event_tap.specs.SlotLines.{frame_of_slot, frame_of_slot_end, is_heard, is_slot_within}
-use Rattle.event_tap.specs.SlotLines.{lines_behind, lines_by_times, lines_of_slot, lines_of_slots}
-use Rattle.event_tap.specs.SlotLines.{slot_bound, slot_lines, slot_pages}
+use Rattle.event_tap.specs.SlotLines.{frame_of_slot, frame_of_slot_end, is_heard, is_slot_within, lines_behind, lines_by_times}
+use Rattle.event_tap.specs.SlotLines.{lines_of_slot, lines_of_slots, slot_bound, slot_lines, slot_pages}
 use Rattle.tuned_listener.specs.SlotLaws.{IsWrittenByTimes, NeedsMark}
 use Rattle.tuned_listener.specs.Slots.{slot_more, slot_text}
 use Rattle.tuned_listener.specs.TunedTexts.{frames_text, text_behind, tuned_text}

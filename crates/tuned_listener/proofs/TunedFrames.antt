@@ -1,15 +1,13 @@
 -- The text of the frames behind a mark, as it is written frame by frame.
-use Rattle.std.proofs.Common.{◌≡◌, ℕ, zero, suc, ◌+◌, ◌*◌, ◌≤◌, ◌&&◌, Bool, true, false, List}
-use Rattle.std.proofs.Common.{[], ◌∷◌, ◌++◌, map, filter, length, take, drop, refl, sym, ap, ◌∙◌, subst}
-use Rattle.std.proofs.Common.{arith, inl, inr, nat_le, Option, None, Some, append_assoc, take-add}
+use Rattle.std.proofs.Common.{◌≡◌, ℕ, zero, suc, ◌+◌, ◌*◌, ◌≤◌, ◌&&◌, Bool, true, false, List, [], ◌∷◌, ◌++◌, map, filter, length, take}
+use Rattle.std.proofs.Common.{drop, refl, sym, ap, ◌∙◌, subst, arith, inl, inr, nat_le, Option, None, Some, append_assoc, take-add}
 use Rattle.std.proofs.Common.{length-append}
 use Rattle.std.specs.Io.{StartsWith}
 use Rattle.std.specs.Io.KnownBytes.{Appends}
 use Rattle.std.specs.List.{range_with_len}
 use Rattle.std.specs.Option.{option_to_list}
 use Rattle.std.proofs.KnownBytes.{Appends-nil, Appends-trans}
-use Rattle.std.proofs.lemmas.Bool.{and_from, and_parts, cases_Bool, false_from_ne_true, le-leb}
-use Rattle.std.proofs.lemmas.Bool.{leb-true}
+use Rattle.std.proofs.lemmas.Bool.{and_from, and_parts, cases_Bool, false_from_ne_true, le-leb, leb-true}
 use Rattle.std.proofs.lemmas.List.{map-append, take-append-drop, take_all, take_at}
 use Rattle.chip_core.specs.Bits.{places}
 use Rattle.chip_core.specs.declared.sample.Sample.{Sample}
@@ -31,8 +29,7 @@ use Rattle.mobile_core.specs.declared.tuner.Tuner.{Tuner}
 use Rattle.mobile_core.specs.declared.tuner.TunerStep.{TunerStep}
 use Rattle.mobile_core.proofs.FrameTimes.{known_between, known_le}
 use Rattle.mobile_core.proofs.FramesGiven.{form_by, frames_of_first}
-use Rattle.tuned_listener.proofs.FrameTexts.{kept_behind, kept_behind_none, kept_behind_one}
-use Rattle.tuned_listener.proofs.FrameTexts.{text_of_none, text_of_one, texts_joined}
+use Rattle.tuned_listener.proofs.FrameTexts.{kept_behind, kept_behind_none, kept_behind_one, text_of_none, text_of_one, texts_joined}
 use Rattle.tuned_listener.proofs.Prefixes.{begins_more, prefix_before, prefix_behind, taken_begins}
 use Rattle.tuned_listener.specs.FrameWriting.{HoldsFrames, WritesFrames, WritesFramesPart}
 use Rattle.tuned_listener.specs.Slots.{slot_behind, slot_more}

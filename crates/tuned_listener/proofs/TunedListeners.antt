@@ -1,7 +1,6 @@
 -- A listener, and what it writes, where samples are taken.
-use Rattle.std.proofs.Common.{◌≡◌, ℕ, ◌+◌, true, List, [], ◌∷◌, ◌++◌, length, take, drop, refl, sym, ap, ◌∙◌}
-use Rattle.std.proofs.Common.{Option, None, Some, append-nil, append_assoc, arith, subst, ◌*◌, ◌<◌, ◌≤◌}
-use Rattle.std.proofs.Common.{sum_by, unsigned_abs}
+use Rattle.std.proofs.Common.{◌≡◌, ℕ, ◌+◌, true, List, [], ◌∷◌, ◌++◌, length, take, drop, refl, sym, ap, ◌∙◌, Option, None, Some}
+use Rattle.std.proofs.Common.{append-nil, append_assoc, arith, subst, ◌*◌, ◌<◌, ◌≤◌, sum_by, unsigned_abs}
 use Rattle.std.specs.Io.{StartsWith}
 use Rattle.std.specs.Prelude.{is_some}
 use Rattle.std.proofs.KnownBytes.{Appends-nil}
@@ -22,11 +21,9 @@ use Rattle.mobile_core.specs.declared.mark.Mark.{Mark}
 use Rattle.mobile_core.specs.declared.mobile.Mobile.{Mobile}
 use Rattle.mobile_core.specs.declared.soft_frame.SoftFrame.{SoftFrame}
 use Rattle.mobile_core.specs.declared.tuner.Tuner.{Tuner}
-use Rattle.tuned_listener.specs.FrameWriting.{HoldsFrames, IsReady, WritesFrames, WritesFramesPart}
-use Rattle.tuned_listener.specs.FrameWriting.{text_of}
+use Rattle.tuned_listener.specs.FrameWriting.{HoldsFrames, IsReady, WritesFrames, WritesFramesPart, text_of}
 use Rattle.tuned_listener.specs.Marking.{ListensAhead}
-use Rattle.tuned_listener.specs.TunedListening.{ListensBehind, ListensFrom, ListensTuned, TellsTuned}
-use Rattle.tuned_listener.specs.TunedListening.{TellsTunedPart}
+use Rattle.tuned_listener.specs.TunedListening.{ListensBehind, ListensFrom, ListensTuned, TellsTuned, TellsTunedPart}
 use Rattle.tuned_listener.specs.SlotWriting.{IsReadyForSlots}
 use Rattle.tuned_listener.specs.Slots.{slot_behind}
 use Rattle.tuned_listener.specs.TunedTexts.{behind_mark, frames_from, text_from, tuned_text}

@@ -1,6 +1,5 @@
 -- The text of a channel's frames, as samples go on.
-use Rattle.std.proofs.Common.{◌≡◌, ℕ, List, [], ◌++◌, length, refl, sym, ap, ◌∙◌, Option, Some}
-use Rattle.std.proofs.Common.{None, subst}
+use Rattle.std.proofs.Common.{◌≡◌, ℕ, List, [], ◌++◌, length, refl, sym, ap, ◌∙◌, Option, Some, None, subst}
 use Rattle.std.specs.Io.{StartsWith}
 use Rattle.chip_core.specs.declared.sample.Sample.{Sample}
 use Rattle.mobile_core.specs.Channels.{channel_stream}

@@ -17,7 +17,8 @@ use Rattle.tuned_listener.specs.TunedTexts.{text_from}
 use Rattle.tuned_listener.specs.declared.frame_writer.FrameWriter.{FrameWriter}
 use Rattle.tuned_listener.specs.declared.frame_writer.FrameWriter.TheVariants as writers
 use Rattle.tuned_listener.specs.declared.tuned_text.TunedText.{TunedText}
-use Rattle.tuned_listener.specs.declared.tuned_text.TunedText.TheVariants.{Listed, RateSetTwo, Slots}
+use Rattle.tuned_listener.specs.declared.tuned_text.TunedText.TheVariants.{Listed, RateSetTwo}
+use Rattle.tuned_listener.specs.declared.tuned_text.TunedText.TheVariants.{Slots}
 
 -- which text it writes
 abbrev pub text_of : FrameWriter → TunedText
@@ -43,8 +44,8 @@ HoldsFrames (writers.RateSetTwo decoder) check slot = Unit {0}
 HoldsFrames (writers.Listed decoder k) check slot = Unit {0}
 HoldsFrames (writers.Slots slots) check slot = (slots.check ≡ check) × HoldsSlot slots slot
 
--- A receiver has taken these samples behind those, a sink got the text of the frames that end within
--- them, and the writer keeps what they leave of a slot.
+-- A receiver has taken these samples behind those, a sink got the text of the frames that end
+-- within them, and the writer keeps what they leave of a slot.
 pub record WritesFrames (t : Tuning) (channel : Channel) (m : Mark) (form : TunedText)
     (tuner : Tuner) (writer : FrameWriter) (before heard : List Sample) (old new : Option (List ℕ))
     : Type 0 where

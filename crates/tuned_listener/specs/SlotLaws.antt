@@ -47,8 +47,8 @@ AgreeWhereHeard key cycle t number m one other n =
     IsTrue (is_heard key cycle t.count (channel_stream t (Paging number) m) m n slot) →
     AgreeInSlot one other (m.sample + 98304 * slot) t.deltas
 
--- Two files of one length, and of one tuning, of which one sets a mark, and that agree before it and
--- in the slots that are heard, have one text.
+-- Two files of one length, and of one tuning, of which one sets a mark, and that agree before it
+-- and in the slots that are heard, have one text.
 abbrev pub SleepsThroughTheRest : Type 0
 SleepsThroughTheRest =
     (key cycle : ℕ) (t : Tuning) (number : ℕ) (m : Mark) (one other : List Sample) →

@@ -16,7 +16,8 @@ use Rattle.mobile_core.specs.declared.soft_frame.PowerControl.{PowerControl}
 use Rattle.mobile_core.specs.declared.soft_frame.SoftFrame.{SoftFrame}
 use Rattle.tuned_listener.specs.Slots.{slot_more, slot_text}
 use Rattle.tuned_listener.specs.declared.tuned_text.TunedText.{TunedText}
-use Rattle.tuned_listener.specs.declared.tuned_text.TunedText.TheVariants.{Listed, RateSetTwo, Slots}
+use Rattle.tuned_listener.specs.declared.tuned_text.TunedText.TheVariants.{Listed, RateSetTwo}
+use Rattle.tuned_listener.specs.declared.tuned_text.TunedText.TheVariants.{Slots}
 
 -- ---- the frames behind the mark, and their text
 
@@ -40,8 +41,8 @@ abbrev pub decoded_line : ℕ → Decoded → List Bool → List ℕ
 decoded_line place frame commands =
     frame_line place frame.rate frame.good frame.bits commands
 
--- the line of a frame of rate set 1 with the first k words of a rate; one of a channel without power
--- control bits has none
+-- the line of a frame of rate set 1 with the first k words of a rate; one of a channel without
+-- power control bits has none
 abbrev pub listed_text : ℕ → ℕ → List ℤ → Option PowerControl → List ℕ
 listed_text k place turned None = []
 listed_text k place turned (Some power) =

@@ -1,7 +1,7 @@
 //! What hears the slots of a sleeping handset, and writes what is heard in them.
 
-ghost use Rattle.std.specs.Prelude.{◌≡◌, ◌≤◌, ◌⊎◌, ◌↔◌, ◌+◌, ◌*◌, ◌/◌, ◌%◌, ℕ, Bool, List, [], ◌∷◌, ◌++◌, length, IfOk, OnOk, OnErr, sum_by};
-ghost use Rattle.std.specs.Prelude.{unsigned_abs, IsTrue};
+ghost use Rattle.std.specs.Prelude.{◌≡◌, ◌≤◌, ◌⊎◌, ◌↔◌, ◌+◌, ◌*◌, ◌/◌, ◌%◌, ℕ, Bool, List, [], ◌∷◌};
+ghost use Rattle.std.specs.Prelude.{◌++◌, length, IfOk, OnOk, OnErr, sum_by, unsigned_abs, IsTrue};
 ghost use Rattle.std.specs.List.{flat_map};
 ghost use Rattle.std.specs.Io.KnownBytes.{Appends};
 ghost use Rattle.cdma_io.specs.Outside.{AppendsPrefix, HasCause};
@@ -225,8 +225,8 @@ impl SlotWriter {
         self.kept = place + 1;
     }
 
-    /// Writes the lines of the slot whose four frames are kept, where it is one that is monitored and
-    /// the mark's data rate stands for a rate. `frame` is its last frame.
+    /// Writes the lines of the slot whose four frames are kept, where it is one that is monitored
+    /// and the mark's data rate stands for a rate. `frame` is its last frame.
     fn write_slot<K: Sink>(
         &mut self,
         mark: &Mark,

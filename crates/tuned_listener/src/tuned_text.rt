@@ -11,8 +11,8 @@ pub enum TunedText {
         /// How many words of a rate are looked at, from 1 to 16.
         k: u8,
     },
-    /// Each slot of a paging channel that a sleeping handset monitors (6.6.2.1.1.3) has its line, and
-    /// behind it those of its messages.
+    /// Each slot of a paging channel that a sleeping handset monitors (6.6.2.1.1.3) has its line,
+    /// and behind it those of its messages.
     Slots {
         /// The key of the handset.
         key: u32,

@@ -1,8 +1,7 @@
 -- The paging channels of a clean link are heard and read by the handset's streams behind a true
 -- mark.
-use Rattle.std.proofs.Common.{◌≡◌, ℕ, ◌+◌, ◌*◌, ◌/◌, ◌<◌, true, false, Bool, List, [], ◌∷◌}
-use Rattle.std.proofs.Common.{length, refl, sym, ap, subst, inr, ◌∙◌, arith, ℤ, pos, replicate}
-use Rattle.std.proofs.Common.{Some}
+use Rattle.std.proofs.Common.{◌≡◌, ℕ, ◌+◌, ◌*◌, ◌/◌, ◌<◌, true, false, Bool, List, [], ◌∷◌, length, refl, sym, ap, subst, inr, ◌∙◌, arith}
+use Rattle.std.proofs.Common.{ℤ, pos, replicate, Some}
 use Rattle.std.specs.List.{Contains}
 use Rattle.std.proofs.lemmas.List.{length-map}
 use Rattle.std.proofs.lemmas.List.Elements.{All-contains}
@@ -17,8 +16,7 @@ use Rattle.quality_bits.specs.declared.rate.Rate.{Rate}
 use Rattle.quality_bits.specs.declared.rate.Rate.TheVariants.{R9600, R4800, R2400, R1200}
 use Rattle.frame_decoder.specs.declared.layout.FrameKind as kinds
 use Rattle.cell_plan.specs.PageCycles as cycles
-use Rattle.cell_plan.specs.PageCycles.{Cycle, cycle_frame_bits, cycle_symbols, cycled}
-use Rattle.cell_plan.specs.PageCycles.{frame_scrambling, paging_frame_size}
+use Rattle.cell_plan.specs.PageCycles.{Cycle, cycle_frame_bits, cycle_symbols, cycled, frame_scrambling, paging_frame_size}
 use Rattle.cell_plan.specs.Pages as pages
 use Rattle.cell_plan.specs.Plan.{IsLawfulPlan, IsPagingPlan}
 use Rattle.cell_plan.specs.Sampled.{made_samples}
@@ -37,14 +35,12 @@ use Rattle.mobile_core.specs.Streams.{Stream, frame_own_bits, frame_start, is_in
 use Rattle.mobile_core.specs.Tuning.{Tuning}
 use Rattle.mobile_core.specs.declared.mark.Mark.{Mark}
 use Rattle.clean_link.specs.CleanLink.{IsOnPath, IsTrueMark, soft_strength}
-use Rattle.clean_link.specs.PagingLaws.{PagingFramesComeBack, PagingHaveSentSigns}
-use Rattle.clean_link.specs.PagingLaws.{PagingWordsAreTheOnlyBest, SilentPagingFramesAreZeros}
+use Rattle.clean_link.specs.PagingLaws.{PagingFramesComeBack, PagingHaveSentSigns, PagingWordsAreTheOnlyBest, SilentPagingFramesAreZeros}
 use Rattle.clean_link.specs.PagingLaws.{SilentPagingIsZero, ordered_symbols}
 use Rattle.clean_link.specs.SentWords.{AreReadBy, IsOnlyBest, scrambled}
 use Rattle.clean_link.specs.Signals.{IsHeardBy}
 use Rattle.clean_link.proofs.signal.CarriersApart.{paging_sent, paging_silent}
-use Rattle.clean_link.proofs.signal.ChannelsBack.{channel_frames, channel_words, silent_rows}
-use Rattle.clean_link.proofs.signal.ChannelsBack.{strength_some, stream_symbols}
+use Rattle.clean_link.proofs.signal.ChannelsBack.{channel_frames, channel_words, silent_rows, strength_some, stream_symbols}
 use Rattle.clean_link.proofs.frames.Scores.{whole_frames}
 use Rattle.clean_link.proofs.frames.Heard.{sent_word, silent_back}
 use Rattle.clean_link.proofs.frames.PagingTimes.{paging_file_to}

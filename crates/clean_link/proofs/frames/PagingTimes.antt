@@ -7,8 +7,7 @@ use Rattle.mobile_core.specs.Timing.{IsTimed}
 use Rattle.mobile_core.specs.Tuning.{Tuning, fingers_of, modulo_code}
 use Rattle.mobile_core.specs.declared.mark.Mark.{Mark}
 use Rattle.clean_link.specs.CleanLink.{heard_behind}
-use Rattle.clean_link.proofs.frames.Times.{IsAlone, inside_alone, known_alone, room_alone}
-use Rattle.clean_link.proofs.frames.Times.{timed_alone}
+use Rattle.clean_link.proofs.frames.Times.{IsAlone, inside_alone, known_alone, room_alone, timed_alone}
 use Rattle.clean_link.proofs.frames.SyncTimes.{one_path}
 
 -- the number of samples at which frame k ends

@@ -1,10 +1,12 @@
 -- The word that clean soft values show has the greatest score alone, and so it is decoded.
-use Rattle.std.proofs.Common.{◌≡◌, ◌≢◌, ℕ, zero, suc, ◌+◌, ◌-◌, ◌*◌, ◌/◌, ◌<◌, ◌≤◌, Bool, true, false, List, [], ◌∷◌, ◌++◌, length, get_or, take, drop, replicate, refl, sym, ap, subst, ◌∙◌, arith, inl, ℤ}
+use Rattle.std.proofs.Common.{◌≡◌, ◌≢◌, ℕ, zero, suc, ◌+◌, ◌-◌, ◌*◌, ◌/◌, ◌<◌, ◌≤◌, Bool, true, false, List, [], ◌∷◌, ◌++◌, length, get_or}
+use Rattle.std.proofs.Common.{take, drop, replicate, refl, sym, ap, subst, ◌∙◌, arith, inl, ℤ}
 use Rattle.std.specs.Prelude.{◌<ℤ◌, ◌*ℤ◌, pos}
 use Rattle.std.specs.List.{flat_map}
 use Rattle.std.proofs.Math.Nat.{mul-le-mul_right, div-eq_of_eq-mul_left}
 use Rattle.std.proofs.lemmas.Int.{by_lt_z, ints}
-use Rattle.std.proofs.lemmas.List.{ext_get_or, length-drop, length-map, length-replicate, length-take-le, drop-replicate, take-replicate, take_all}
+use Rattle.std.proofs.lemmas.List.{ext_get_or, length-drop, length-map, length-replicate, length-take-le, drop-replicate, take-replicate}
+use Rattle.std.proofs.lemmas.List.{take_all}
 use Rattle.chip_core.specs.Bits.{places, sign}
 use Rattle.conv_code.specs.ConvCode.{code_symbols}
 use Rattle.conv_code.proofs.Continued.{length-code_symbols}

@@ -1,5 +1,6 @@
 -- When the frames of a stream end and are known, where it has one finger, on the reference path.
-use Rattle.std.proofs.Common.{◌≡◌, ℕ, ◌+◌, ◌≤◌, ◌&&◌, Bool, true, false, [], ◌∷◌, refl, sym, ap, ◌∙◌, arith, subst, max, nat_le, pos, unsigned_abs}
+use Rattle.std.proofs.Common.{◌≡◌, ℕ, ◌+◌, ◌≤◌, ◌&&◌, Bool, true, false, [], ◌∷◌, refl, sym, ap, ◌∙◌, arith, subst, max, nat_le, pos}
+use Rattle.std.proofs.Common.{unsigned_abs}
 use Rattle.std.specs.Prelude.{◌+ℤ◌, ◌-ℤ◌, if◌then◌else◌, int_le, List}
 use Rattle.std.proofs.lemmas.Bool.{le-leb, leb-true}
 use Rattle.std.proofs.lemmas.Int.{ints}

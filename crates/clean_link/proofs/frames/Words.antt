@@ -1,12 +1,14 @@
 -- The frames of a span are one word, of a source of any number of bits a frame.
-use Rattle.std.proofs.Common.{◌≡◌, ℕ, zero, suc, ◌+◌, ◌-◌, ◌*◌, ◌<◌, ◌≤◌, Bool, List, [], ◌∷◌, ◌++◌, length, take, drop, refl, sym, ap, ◌∙◌, arith, inl, inr, ℤ}
+use Rattle.std.proofs.Common.{◌≡◌, ℕ, zero, suc, ◌+◌, ◌-◌, ◌*◌, ◌<◌, ◌≤◌, Bool, List, [], ◌∷◌, ◌++◌, length, take, drop, refl, sym, ap, ◌∙◌}
+use Rattle.std.proofs.Common.{arith, inl, inr, ℤ}
 use Rattle.std.specs.Prelude.{◌*ℤ◌, pos}
 use Rattle.std.specs.List.{flat_map}
 use Rattle.std.proofs.lemmas.Bool.{cases_lt}
 use Rattle.std.proofs.lemmas.List.{length-drop, take_all, drop_at, drop-append-le, take-append-le, map-append}
 use Rattle.chip_core.specs.Bits.{places, sign}
 use Rattle.conv_code.specs.ConvCode.{code_symbols, state_after}
-use Rattle.conv_code.proofs.Continued.{continued, code_symbols-none, length-code_symbols, length-state_after, state_after-none, state_after-append}
+use Rattle.conv_code.proofs.Continued.{continued, code_symbols-none, length-code_symbols, length-state_after, state_after-none}
+use Rattle.conv_code.proofs.Continued.{state_after-append}
 use Rattle.symbol_path.specs.SentOrder.{sent}
 use Rattle.viterbi.specs.Laws.{signed}
 use Rattle.frame_decoder.specs.Spans.{Channel, sending, sent_symbols}

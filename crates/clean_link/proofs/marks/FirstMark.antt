@@ -1,6 +1,6 @@
 -- The mark's time is that of the first whole sending.
-use Rattle.std.proofs.Common.{◌≡◌, ℕ, ◌+◌, ◌/◌, ◌%◌, ⊎_elim, Bool, true, false, List, [], ◌∷◌, map, filter}
-use Rattle.std.proofs.Common.{refl, sym, ap, ◌∙◌, Option, Some, None}
+use Rattle.std.proofs.Common.{◌≡◌, ℕ, ◌+◌, ◌/◌, ◌%◌, ⊎_elim, Bool, true, false, List, [], ◌∷◌, map, filter, refl, sym, ap, ◌∙◌, Option}
+use Rattle.std.proofs.Common.{Some, None}
 use Rattle.std.specs.List.{flat_map}
 use Rattle.std.proofs.lemmas.Bool.{cases_Bool}
 use Rattle.std.proofs.lemmas.List.{map-append}
@@ -17,13 +17,11 @@ use Rattle.mobile_core.specs.Marks.{first_of, mark, marks_at, marks_of}
 use Rattle.mobile_core.specs.SyncEvents.{events_of, with_message}
 use Rattle.mobile_core.specs.Tuning.{Tuning}
 use Rattle.mobile_core.specs.declared.event.Event.{Event}
-use Rattle.mobile_core.specs.declared.event.Event.TheVariants.{Frame, Paging, Pilot, Sets, Sync}
-use Rattle.mobile_core.specs.declared.event.Event.TheVariants.{Traffic}
+use Rattle.mobile_core.specs.declared.event.Event.TheVariants.{Frame, Paging, Pilot, Sets, Sync, Traffic}
 use Rattle.mobile_core.specs.declared.mark.Mark.{Mark}
 use Rattle.clean_link.specs.CleanLaws.{FramesAreZeros, FramesComeBack}
-use Rattle.clean_link.specs.CleanLink.{IsOnPath, events_of_channel}
+use Rattle.clean_link.specs.CleanLink.{IsOnPath, events_of_channel, first_sync_frame, sending_event, sync_sent, whole_sendings}
 use Rattle.cell_plan.specs.Stated.{IsReceivable}
-use Rattle.clean_link.specs.CleanLink.{first_sync_frame, sending_event, sync_sent, whole_sendings}
 use Rattle.clean_link.proofs.marks.MarksTrue.{marks_sent}
 use Rattle.clean_link.proofs.sendings.Capsules.{IsSentAt, is_at, sending_frames}
 use Rattle.clean_link.proofs.sendings.Events.{frame_events, frames_of, in_file, known, mark_of_all}

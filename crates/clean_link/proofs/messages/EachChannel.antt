@@ -1,7 +1,6 @@
 -- A handset hears what a clean link's cell sends, channel by channel and frame by frame.
-use Rattle.std.proofs.Common.{◌≡◌, ℕ, ◌+◌, ◌-◌, ◌*◌, ◌≤◌, true, false, Bool, List, [], ◌∷◌}
-use Rattle.std.proofs.Common.{length, map, refl, sym, ap, ◌∙◌, arith, subst, inl, inr, Option, None}
-use Rattle.std.proofs.Common.{Some, filter}
+use Rattle.std.proofs.Common.{◌≡◌, ℕ, ◌+◌, ◌-◌, ◌*◌, ◌≤◌, true, false, Bool, List, [], ◌∷◌, length, map, refl, sym, ap, ◌∙◌, arith, subst}
+use Rattle.std.proofs.Common.{inl, inr, Option, None, Some, filter}
 use Rattle.std.specs.Prelude.{if◌then◌else◌, All}
 use Rattle.std.specs.List.{Contains, flat_map}
 use Rattle.std.proofs.lemmas.Bool.{cases_lt}
@@ -20,14 +19,12 @@ use Rattle.cell_plan.specs.declared.plan.CellPlan.{CellPlan}
 use Rattle.cell_plan.specs.declared.plan.PagingPlan.{PagingPlan}
 use Rattle.cell_plan.specs.declared.plan.TrafficPlan.{TrafficPlan}
 use Rattle.cell_plan.specs.declared.traffic_frame.TrafficFrame.{TrafficFrame}
-use Rattle.mobile_core.specs.Events.{events, events_at, frame_events_at, heard_within}
-use Rattle.mobile_core.specs.Events.{message_events_at, paging_events_at}
+use Rattle.mobile_core.specs.Events.{events, events_at, frame_events_at, heard_within, message_events_at, paging_events_at}
 use Rattle.mobile_core.specs.Marks.{mark}
 use Rattle.mobile_core.specs.Moments.{frames_at, messages_at}
 use Rattle.mobile_core.specs.Streams.{is_in_file}
 use Rattle.mobile_core.specs.SyncEvents.{sync_events_at}
-use Rattle.mobile_core.specs.TrafficEvents.{commands_at, decoded_at, frame_event, frame_heard}
-use Rattle.mobile_core.specs.TrafficEvents.{if_followed}
+use Rattle.mobile_core.specs.TrafficEvents.{commands_at, decoded_at, frame_event, frame_heard, if_followed}
 use Rattle.mobile_core.specs.TrafficStreams.{replaced_in}
 use Rattle.mobile_core.specs.Tuning.{Tuning}
 use Rattle.mobile_core.specs.declared.event.Event.{Event}
@@ -36,28 +33,23 @@ use Rattle.mobile_core.specs.declared.legs.Leg.{Leg}
 use Rattle.mobile_core.specs.declared.mark.Mark.{Mark}
 use Rattle.chip_core.specs.declared.assignment.Traffic.{Traffic}
 use Rattle.mobile_core.proofs.MarkStays.{frames_by_one_mark, messages_by_one_mark}
-use Rattle.clean_link.specs.CleanLink.{soft_strength, sync_sent, IsNotDirected, IsOnPath}
-use Rattle.clean_link.specs.CleanLink.{IsTunedTo}
+use Rattle.clean_link.specs.CleanLink.{soft_strength, sync_sent, IsNotDirected, IsOnPath, IsTunedTo}
 use Rattle.cell_plan.specs.Stated.{IsReceivable}
-use Rattle.clean_link.specs.HeardEach.{is_frame, is_message, is_page, is_sync, AreEventsOf}
-use Rattle.clean_link.specs.HeardEach.{AreFramesBehind, AreMessagesBehind, EachChannelComesBack}
-use Rattle.clean_link.specs.HeardEach.{FollowsOne, IsEventOf}
-use Rattle.clean_link.specs.HeardFrames.{frame_ends, is_received, received_frames}
-use Rattle.clean_link.specs.HeardFrames.{AreDistinct, IsDistinctFrame, SendsSetOne}
+use Rattle.clean_link.specs.HeardEach.{is_frame, is_message, is_page, is_sync, AreEventsOf, AreFramesBehind, AreMessagesBehind}
+use Rattle.clean_link.specs.HeardEach.{EachChannelComesBack, FollowsOne, IsEventOf}
+use Rattle.clean_link.specs.HeardFrames.{frame_ends, is_received, received_frames, AreDistinct, IsDistinctFrame, SendsSetOne}
 use Rattle.clean_link.specs.HeardSignals.{messages_of_channel}
 use Rattle.clean_link.specs.SentEvents.{paging_sent, told_with_sync}
 use Rattle.clean_link.specs.TrafficLaws.{HearsTraffic, IsHeardAs}
 use Rattle.clean_link.proofs.marks.MarksTrue.{marks_true}
-use Rattle.clean_link.proofs.messages.Kinds.{frames_of_all, messages_of_all, pages_of_all}
-use Rattle.clean_link.proofs.messages.Kinds.{sync_of_all}
+use Rattle.clean_link.proofs.messages.Kinds.{frames_of_all, messages_of_all, pages_of_all, sync_of_all}
 use Rattle.clean_link.proofs.messages.MessagesBack.{pages_all}
 use Rattle.clean_link.proofs.sendings.Back.{sendings_back}
 use Rattle.clean_link.proofs.signal.Samples.{length-made}
-use Rattle.clean_link.proofs.traffic.Back.{none_known, one_near, told_behind_mark, undirected}
-use Rattle.clean_link.proofs.traffic.Back.{untold}
+use Rattle.clean_link.proofs.traffic.Back.{none_known, one_near, told_behind_mark, undirected, untold}
 use Rattle.clean_link.proofs.traffic.Commands.{commands_back}
-use Rattle.clean_link.proofs.traffic.Frames.{each_frame_heard, early, frame_back, frame_there}
-use Rattle.clean_link.proofs.traffic.Frames.{heard_as, heard_there, received_is, same_places}
+use Rattle.clean_link.proofs.traffic.Frames.{each_frame_heard, early, frame_back, frame_there, heard_as, heard_there, received_is}
+use Rattle.clean_link.proofs.traffic.Frames.{same_places}
 use Rattle.clean_link.proofs.traffic.OnePilot.{one_stream}
 use Rattle.clean_link.proofs.traffic.Signaling.{sent_messages_back}
 use Rattle.clean_link.proofs.traffic.Signs.{lawful_traffic}

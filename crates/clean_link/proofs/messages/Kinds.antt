@@ -1,31 +1,27 @@
 -- Which of a handset's events are of which kind.
-use Rattle.std.proofs.Common.{◌≡◌, ℕ, ◌+◌, ◌==◌, ◌||◌, Bool, true, false, List, [], ◌∷◌, ◌++◌}
-use Rattle.std.proofs.Common.{filter, refl, ap, ◌∙◌, take, Option, None, Some, nat_eq}
+use Rattle.std.proofs.Common.{◌≡◌, ℕ, ◌+◌, ◌==◌, ◌||◌, Bool, true, false, List, [], ◌∷◌, ◌++◌, filter, refl, ap, ◌∙◌, take, Option, None}
+use Rattle.std.proofs.Common.{Some, nat_eq}
 use Rattle.std.specs.Prelude.{if◌then◌else◌, All}
 use Rattle.std.specs.List.{flat_map}
 use Rattle.std.proofs.lemmas.List.{append-nil}
-use Rattle.std.proofs.lemmas.List.Elements.{All-append, All-cons, All-head, All-map, All-nil}
-use Rattle.std.proofs.lemmas.List.Elements.{All-tail, filter-append}
+use Rattle.std.proofs.lemmas.List.Elements.{All-append, All-cons, All-head, All-map, All-nil, All-tail, filter-append}
 use Rattle.chip_core.specs.declared.check_form.CheckForm.TheVariants.{Plain}
 use Rattle.chip_core.specs.declared.sample.Sample.{Sample}
 use Rattle.pilot_sets.specs.Standing.{Standing}
 use Rattle.pilot_sets.specs.declared.change.SetChange.{SetChange}
-use Rattle.mobile_core.specs.Events.{events_at, frame_events_at, message_events_at}
-use Rattle.mobile_core.specs.Events.{paging_events_at, sets_events_at}
+use Rattle.mobile_core.specs.Events.{events_at, frame_events_at, message_events_at, paging_events_at, sets_events_at}
 use Rattle.mobile_core.specs.Marks.{mark}
-use Rattle.mobile_core.specs.Moments.{changed, frames_at, heard_from, kept_to, legs_at, messages_at}
-use Rattle.mobile_core.specs.Moments.{moment_events, moment_place, moments_before, passed, sets_at}
+use Rattle.mobile_core.specs.Moments.{changed, frames_at, heard_from, kept_to, legs_at, messages_at, moment_events, moment_place}
+use Rattle.mobile_core.specs.Moments.{moments_before, passed, sets_at}
 use Rattle.mobile_core.specs.PagingEvents.{page_event, pages_behind}
-use Rattle.mobile_core.specs.Signaling.{message_at, message_events, message_heard, messages_by}
-use Rattle.mobile_core.specs.Signaling.{signal_in}
+use Rattle.mobile_core.specs.Signaling.{message_at, message_events, message_heard, messages_by, signal_in}
 use Rattle.mobile_core.specs.Streams.{known_now}
 use Rattle.mobile_core.specs.SyncEvents.{events_of, heard_at, sync_events_at, with_message}
 use Rattle.mobile_core.specs.TrafficEvents.{frame_heard, frames_by, if_followed}
 use Rattle.mobile_core.specs.TrafficStreams.{frames_now}
 use Rattle.mobile_core.specs.Tuning.{Tuning, sync_bound, sync_stream}
 use Rattle.mobile_core.specs.declared.event.Event.{Event}
-use Rattle.mobile_core.specs.declared.event.Event.TheVariants.{Frame, Paging, Pilot, Sets, Sync}
-use Rattle.mobile_core.specs.declared.event.Event.TheVariants.{Traffic as OnTraffic}
+use Rattle.mobile_core.specs.declared.event.Event.TheVariants.{Frame, Paging, Pilot, Sets, Sync, Traffic as OnTraffic}
 use Rattle.mobile_core.specs.declared.legs.Leg.{Leg}
 use Rattle.mobile_core.specs.declared.mark.Mark.{Mark}
 use Rattle.chip_core.specs.declared.assignment.Traffic.{Traffic}

@@ -1,7 +1,6 @@
 -- None of a handset's events directs a handoff where no message does that is sent to it.
-use Rattle.std.proofs.Common.{◌≡◌, ℕ, ◌+◌, ◌≤◌, ◌==◌, ◌||◌, Bool, true, false, List, []}
-use Rattle.std.proofs.Common.{◌++◌, length, take, refl, sym, arith, subst, Option, None}
-use Rattle.std.proofs.Common.{Some}
+use Rattle.std.proofs.Common.{◌≡◌, ℕ, ◌+◌, ◌≤◌, ◌==◌, ◌||◌, Bool, true, false, List, [], ◌++◌, length, take, refl, sym, arith, subst}
+use Rattle.std.proofs.Common.{Option, None, Some}
 use Rattle.std.specs.Prelude.{if◌then◌else◌, All}
 use Rattle.std.proofs.lemmas.List.Elements.{All-append, All-cons, All-map, All-nil, All-same}
 use Rattle.chip_core.specs.Bits.{places}
@@ -12,11 +11,10 @@ use Rattle.cell_plan.specs.declared.plan.CellPlan.{CellPlan}
 use Rattle.cell_plan.specs.declared.plan.SyncPlan.{SyncPlan}
 use Rattle.pilot_sets.specs.Standing.{Standing}
 use Rattle.pilot_sets.specs.declared.change.SetChange.{SetChange}
-use Rattle.mobile_core.specs.Events.{events_at, frame_events_at, heard_within}
-use Rattle.mobile_core.specs.Events.{message_events_at, paging_events_at, sets_events_at}
+use Rattle.mobile_core.specs.Events.{events_at, frame_events_at, heard_within, message_events_at, paging_events_at, sets_events_at}
 use Rattle.mobile_core.specs.Marks.{mark}
-use Rattle.mobile_core.specs.Moments.{changed, frames_at, heard_from, kept_to, legs_at, messages_at}
-use Rattle.mobile_core.specs.Moments.{moment_events, moment_place, moments_before, passed, sets_at}
+use Rattle.mobile_core.specs.Moments.{changed, frames_at, heard_from, kept_to, legs_at, messages_at, moment_events, moment_place}
+use Rattle.mobile_core.specs.Moments.{moments_before, passed, sets_at}
 use Rattle.mobile_core.specs.PagingEvents.{pages_behind}
 use Rattle.mobile_core.specs.SyncEvents.{sync_events_at}
 use Rattle.mobile_core.specs.TrafficEvents.{if_followed}
@@ -26,9 +24,8 @@ use Rattle.mobile_core.specs.declared.event.Event.TheVariants.{Pilot}
 use Rattle.mobile_core.specs.declared.mark.Mark.{Mark}
 use Rattle.chip_core.specs.declared.assignment.Traffic.{Traffic}
 use Rattle.mobile_core.proofs.MarkStays.{messages_by_one_mark}
-use Rattle.clean_link.specs.CleanLink.{IsNotDirected, IsOnPath, events_of_channel}
+use Rattle.clean_link.specs.CleanLink.{IsNotDirected, IsOnPath, events_of_channel, sending_event, sync_sent, whole_sendings}
 use Rattle.cell_plan.specs.Stated.{IsReceivable}
-use Rattle.clean_link.specs.CleanLink.{sending_event, sync_sent, whole_sendings}
 use Rattle.clean_link.specs.HeardSignals.{messages_of_channel, messages_sent}
 use Rattle.clean_link.specs.SentEvents.{FollowsSent, NoEventIsDirected, signaling_sent}
 use Rattle.clean_link.proofs.marks.MarksTrue.{unmarked}
@@ -36,8 +33,7 @@ use Rattle.clean_link.proofs.sendings.Back.{sendings_back}
 use Rattle.clean_link.proofs.signal.Samples.{length-made}
 use Rattle.clean_link.proofs.traffic.Back.{heard_behind_mark, one_near, told_there}
 use Rattle.clean_link.proofs.traffic.NoneSent.{none_directed}
-use Rattle.clean_link.proofs.traffic.Steady.{each_of_all, frames_undirected, gathered_all}
-use Rattle.clean_link.proofs.traffic.Steady.{pages_undirected}
+use Rattle.clean_link.proofs.traffic.Steady.{each_of_all, frames_undirected, gathered_all, pages_undirected}
 
 -- ---- channel by channel
 

@@ -1,13 +1,11 @@
 -- On a clean link a handset hears the whole pages of a paging channel, in order, and nothing else.
-use Rattle.std.proofs.Common.{◌≡◌, ◌≢◌, ℕ, ◌+◌, ◌-◌, ◌*◌, ◌/◌, ◌<◌, ◌≤◌, ◌==◌, ⊎_elim, Bool}
-use Rattle.std.proofs.Common.{true, false, List, [], ◌∷◌, map, filter, replicate, refl, sym, ap}
-use Rattle.std.proofs.Common.{◌∙◌, arith, subst, Option, Some}
+use Rattle.std.proofs.Common.{◌≡◌, ◌≢◌, ℕ, ◌+◌, ◌-◌, ◌*◌, ◌/◌, ◌<◌, ◌≤◌, ◌==◌, ⊎_elim, Bool, true, false, List, [], ◌∷◌, map, filter}
+use Rattle.std.proofs.Common.{replicate, refl, sym, ap, ◌∙◌, arith, subst, Option, Some}
 use Rattle.std.specs.Prelude.{All}
 use Rattle.std.specs.List.{Contains, flat_map}
 use Rattle.std.specs.Option.{option_to_list}
 use Rattle.std.proofs.lemmas.Bool.{cases_Bool, eqb-true, eqb-false, false_from_ne_true}
-use Rattle.std.proofs.lemmas.List.Elements.{All-cons, All-contains, All-contains_itself, All-head}
-use Rattle.std.proofs.lemmas.List.Elements.{All-nil, All-tail, All-weaker}
+use Rattle.std.proofs.lemmas.List.Elements.{All-cons, All-contains, All-contains_itself, All-head, All-nil, All-tail, All-weaker}
 use Rattle.chip_core.specs.Bits.{places}
 use Rattle.chip_core.specs.declared.check_form.CheckForm.{CheckForm}
 use Rattle.chip_core.specs.declared.width.Width.{Width}
@@ -33,11 +31,9 @@ use Rattle.mobile_core.specs.declared.mark.Mark.{Mark}
 use Rattle.chip_core.proofs.Ranges.{flat_map_ext_places}
 use Rattle.clean_link.specs.CleanLink.{heard_behind, IsOnPath, IsTrueMark}
 use Rattle.cell_plan.specs.Stated.{IsReceivable}
-use Rattle.clean_link.specs.HeardPages.{end_chip, known_page, KnownPage, message_in, page_told}
-use Rattle.clean_link.specs.HeardPages.{pages_numbered, pages_of_channel, pages_sent, pages_within}
-use Rattle.clean_link.specs.HeardPages.{PagesComeBack, placed_pages, ReadPage, round_sent}
-use Rattle.clean_link.specs.WholePages.{AreWholePages, capsules_with_frames, cycle_half_frames}
-use Rattle.clean_link.specs.WholePages.{is_whole_page, Placed, sending_of}
+use Rattle.clean_link.specs.HeardPages.{end_chip, known_page, KnownPage, message_in, page_told, pages_numbered, pages_of_channel}
+use Rattle.clean_link.specs.HeardPages.{pages_sent, pages_within, PagesComeBack, placed_pages, ReadPage, round_sent}
+use Rattle.clean_link.specs.WholePages.{AreWholePages, capsules_with_frames, cycle_half_frames, is_whole_page, Placed, sending_of}
 use Rattle.clean_link.specs.PageLaws.{WholePagesComeBack}
 use Rattle.clean_link.specs.PagingLaws.{PagingFramesComeBack, SilentPagingFramesAreZeros}
 use Rattle.clean_link.proofs.pages.InOrder.{flat_map-flat_map, HasFrames, pages_by_capsules, told_of}
@@ -46,8 +42,7 @@ use Rattle.clean_link.proofs.pages.Read.{page_read}
 use Rattle.clean_link.proofs.pages.Silent.{zero_frames_end_none}
 use Rattle.clean_link.proofs.pages.Whole.{stated_pages, whole_pages_back}
 use Rattle.clean_link.proofs.frames.PagingFrames.{paging_frames_back, silent_paging_back}
-use Rattle.clean_link.proofs.frames.PagingTimes.{paging_file_from, paging_file_to, paging_known_is}
-use Rattle.clean_link.proofs.frames.PagingTimes.{paging_timed}
+use Rattle.clean_link.proofs.frames.PagingTimes.{paging_file_from, paging_file_to, paging_known_is, paging_timed}
 
 -- ---- when frames are known
 

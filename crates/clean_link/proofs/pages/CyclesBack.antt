@@ -1,7 +1,6 @@
 -- What is heard of a cycle of pages that goes round, from any frame on.
-use Rattle.std.proofs.Common.{◌≡◌, ℕ, suc, ◌+◌, ◌-◌, ◌*◌, ◌/◌, ◌<◌, ◌≤◌, Bool, false}
-use Rattle.std.proofs.Common.{List, [], ◌∷◌, ◌++◌, length, map, take, drop, refl, sym, ap, ◌∙◌}
-use Rattle.std.proofs.Common.{subst, arith, inl, inr, length-append, length-drop}
+use Rattle.std.proofs.Common.{◌≡◌, ℕ, suc, ◌+◌, ◌-◌, ◌*◌, ◌/◌, ◌<◌, ◌≤◌, Bool, false, List, [], ◌∷◌, ◌++◌, length, map, take, drop, refl}
+use Rattle.std.proofs.Common.{sym, ap, ◌∙◌, subst, arith, inl, inr, length-append, length-drop}
 use Rattle.std.specs.List.{filter, flat_map}
 use Rattle.std.proofs.lemmas.Bool.{cases_Bool}
 use Rattle.std.proofs.lemmas.List.{append-nil, length-take-le, nil_from_length}
@@ -20,23 +19,18 @@ use Rattle.cell_plan.specs.Stated.{AreHeard}
 use Rattle.cell_plan.specs.declared.plan.Page.{Page}
 use Rattle.cell_plan.proofs.LaidPages.{size_large}
 use Rattle.clean_link.specs.PageLaws.{PageSendingsComeBack}
-use Rattle.clean_link.specs.WholePages.{capsules_with_frames, cycle_half_frames, is_between, placed}
-use Rattle.clean_link.specs.WholePages.{sending_of, AreWholePages, Placed}
+use Rattle.clean_link.specs.WholePages.{capsules_with_frames, cycle_half_frames, is_between, placed, sending_of, AreWholePages, Placed}
 use Rattle.clean_link.proofs.pages.Chains.{joined}
 use Rattle.clean_link.proofs.pages.Frames.{cycle_has_frames, heard_piece}
 use Rattle.chip_core.proofs.Counted.{flat_map-zero}
 use Rattle.chip_core.proofs.Repeated.{flat_map-repeated, repeated, repeated-part}
-use Rattle.clean_link.proofs.pages.Pieces.{length-stream, no_piece, stream, whole-append, whole-map}
-use Rattle.clean_link.proofs.pages.Pieces.{AreWhole}
+use Rattle.clean_link.proofs.pages.Pieces.{length-stream, no_piece, stream, whole-append, whole-map, AreWhole}
 use Rattle.clean_link.proofs.pages.Rounds.{later, repeated_are_runs, rounds_placed, rounds_said}
-use Rattle.clean_link.proofs.pages.Runs.{length-padded, no_width, run_bits, run_piece, run_pieces}
-use Rattle.clean_link.proofs.pages.Runs.{run_width, run_width_some}
+use Rattle.clean_link.proofs.pages.Runs.{length-padded, no_width, run_bits, run_piece, run_pieces, run_width, run_width_some}
 use Rattle.clean_link.proofs.pages.Scans.{frames_scanned, in_frame, scan}
-use Rattle.clean_link.proofs.pages.Laid.{length-page, page_capsule, pages_placed, placed-begins}
-use Rattle.clean_link.proofs.pages.Laid.{runs-begin, runs-follow, runs_laid, runs_of, turned_back}
-use Rattle.clean_link.proofs.pages.Laid.{under_way, whole_rows}
-use Rattle.clean_link.proofs.pages.RunsHeard.{from_within, is_inside, pieces_of, placed_runs}
-use Rattle.clean_link.proofs.pages.RunsHeard.{selected, spelled, told, AreRuns}
+use Rattle.clean_link.proofs.pages.Laid.{length-page, page_capsule, pages_placed, placed-begins, runs-begin, runs-follow, runs_laid}
+use Rattle.clean_link.proofs.pages.Laid.{runs_of, turned_back, under_way, whole_rows}
+use Rattle.clean_link.proofs.pages.RunsHeard.{from_within, is_inside, pieces_of, placed_runs, selected, spelled, told, AreRuns}
 use Rattle.clean_link.proofs.pages.RunsLawful.{first_begins, first_runs}
 
 -- ---- the half-frames of runs

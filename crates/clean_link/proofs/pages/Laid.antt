@@ -1,14 +1,12 @@
 -- A cycle of pages as runs: where its pages lie, and its half-frames.
-use Rattle.std.proofs.Common.{◌≡◌, ℕ, zero, suc, ◌+◌, ◌-◌, ◌*◌, ◌/◌, ◌%◌, ◌<◌, ◌≤◌, ◌==◌, ◌||◌}
-use Rattle.std.proofs.Common.{Bool, true, false, List, [], ◌∷◌, ◌++◌, length, map, take, drop}
-use Rattle.std.proofs.Common.{replicate, refl, sym, ap, ◌∙◌, arith, inl, inr, append_assoc}
-use Rattle.std.proofs.Common.{length-append, length-drop}
+use Rattle.std.proofs.Common.{◌≡◌, ℕ, zero, suc, ◌+◌, ◌-◌, ◌*◌, ◌/◌, ◌%◌, ◌<◌, ◌≤◌, ◌==◌, ◌||◌, Bool, true, false, List, [], ◌∷◌, ◌++◌}
+use Rattle.std.proofs.Common.{length, map, take, drop, replicate, refl, sym, ap, ◌∙◌, arith, inl, inr, append_assoc, length-append}
+use Rattle.std.proofs.Common.{length-drop}
 use Rattle.std.specs.Prelude.{if◌then◌else◌}
 use Rattle.std.specs.List.{flat_map, list_any}
 use Rattle.std.proofs.lemmas.Bool.{cases_Bool, eq-eqb, ne_eqb}
 use Rattle.std.proofs.lemmas.Grind.{flat_map-append}
-use Rattle.std.proofs.lemmas.List.{append-nil, drop-append-le, drop-drop, drop_at, map-append}
-use Rattle.std.proofs.lemmas.List.{take-append-le}
+use Rattle.std.proofs.lemmas.List.{append-nil, drop-append-le, drop-drop, drop_at, map-append, take-append-le}
 use Rattle.std.proofs.lemmas.List.Folds.{list_any-append}
 use Rattle.std.proofs.lemmas.Nat.{div-mul-add}
 use Rattle.std.proofs.Math.Nat.{mul-add-div, mul-add-mod_self_left, mul-le-mul_left}
@@ -27,8 +25,7 @@ use Rattle.clean_link.specs.WholePages.{placed, Placed}
 use Rattle.clean_link.proofs.pages.Chains.{joined}
 use Rattle.chip_core.proofs.Counted.{flat_map-add}
 use Rattle.clean_link.proofs.pages.Pieces.{bits_of, stream}
-use Rattle.clean_link.proofs.pages.Runs.{length-padded, run_bits, run_piece, run_pieces}
-use Rattle.clean_link.proofs.pages.Runs.{run_width, run_width_some, width}
+use Rattle.clean_link.proofs.pages.Runs.{length-padded, run_bits, run_piece, run_pieces, run_width, run_width_some, width}
 use Rattle.clean_link.proofs.pages.RunsHeard.{pieces_of, placed_run, placed_runs, spelled}
 
 -- ---- runs

@@ -1,7 +1,6 @@
 -- The rounds of a cycle of runs, and their pages.
-use Rattle.std.proofs.Common.{◌≡◌, ℕ, zero, suc, ◌+◌, ◌-◌, ◌*◌, ◌/◌, ◌<◌, Bool}
-use Rattle.std.proofs.Common.{List, [], ◌∷◌, ◌++◌, length, map, refl, sym, ap, ◌∙◌, arith, inl, inr}
-use Rattle.std.proofs.Common.{append_assoc, length-append}
+use Rattle.std.proofs.Common.{◌≡◌, ℕ, zero, suc, ◌+◌, ◌-◌, ◌*◌, ◌/◌, ◌<◌, Bool, List, [], ◌∷◌, ◌++◌, length, map, refl, sym, ap, ◌∙◌, arith}
+use Rattle.std.proofs.Common.{inl, inr, append_assoc, length-append}
 use Rattle.std.specs.List.{filter, flat_map}
 use Rattle.std.proofs.lemmas.Bool.{cases_Bool}
 use Rattle.std.proofs.lemmas.List.{map-append}
@@ -14,8 +13,7 @@ use Rattle.cell_plan.specs.declared.plan.Page.{Page}
 use Rattle.clean_link.specs.WholePages.{is_between, Placed}
 use Rattle.clean_link.proofs.pages.Chains.{AreChained}
 use Rattle.chip_core.proofs.Counted.{flat_map-next, flat_map-zero}
-use Rattle.chip_core.proofs.Repeated.{flat_map-repeated}
-use Rattle.chip_core.proofs.Repeated.{length-repeated, repeated}
+use Rattle.chip_core.proofs.Repeated.{flat_map-repeated, length-repeated, repeated}
 use Rattle.clean_link.proofs.pages.Runs.{run_piece, run_pieces, run_width}
 use Rattle.clean_link.proofs.pages.RunsHeard.{is_inside, pieces_of, placed_run, placed_runs, AreRuns}
 

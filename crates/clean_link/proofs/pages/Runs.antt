@@ -1,14 +1,12 @@
 -- The half-frames of a run of capsules, and what their bits end.
-use Rattle.std.proofs.Common.{◌≡◌, ℕ, zero, suc, ◌+◌, ◌-◌, ◌*◌, ◌/◌, ◌%◌, ◌<◌, ◌≤◌, ◌==◌, Bool}
-use Rattle.std.proofs.Common.{true, false, List, [], ◌∷◌, ◌++◌, length, map, take, drop, replicate}
-use Rattle.std.proofs.Common.{refl, sym, ap, ◌∙◌, arith, Some, None, inl, inr}
-use Rattle.std.proofs.Common.{append_assoc, length-append, nat_le, nat_lt}
+use Rattle.std.proofs.Common.{◌≡◌, ℕ, zero, suc, ◌+◌, ◌-◌, ◌*◌, ◌/◌, ◌%◌, ◌<◌, ◌≤◌, ◌==◌, Bool, true, false, List, [], ◌∷◌, ◌++◌, length}
+use Rattle.std.proofs.Common.{map, take, drop, replicate, refl, sym, ap, ◌∙◌, arith, Some, None, inl, inr, append_assoc, length-append}
+use Rattle.std.proofs.Common.{nat_le, nat_lt}
 use Rattle.std.specs.List.{flat_map}
 use Rattle.std.specs.Option.{option_to_list}
 use Rattle.std.proofs.lemmas.Bool.{cases_lt, eq-eqb, le-leb, le-ltb, lt-leb, lt-ltb, ne_eqb}
 use Rattle.std.proofs.lemmas.Grind.{flat_map-append}
-use Rattle.std.proofs.lemmas.List.{append-nil, length-replicate, length-take-le, take-take}
-use Rattle.std.proofs.lemmas.List.{map-append}
+use Rattle.std.proofs.lemmas.List.{append-nil, length-replicate, length-take-le, take-take, map-append}
 use Rattle.std.proofs.lemmas.Nat.{div-add-mod', div-mul-add, mod-mul-add, mod_below}
 use Rattle.std.proofs.Math.Nat.{mul-le-mul_left}
 use Rattle.std.proofs.Math.Seq.{take-add}
@@ -21,8 +19,7 @@ use Rattle.chip_core.proofs.Ranges.{flat_map_ext_places}
 use Rattle.clean_link.proofs.pages.Chains.{chain_ends, ended_of, joined, AreChained}
 use Rattle.chip_core.proofs.Counted.{flat_map-add, flat_map-zero, map-next, map-zero}
 use Rattle.clean_link.proofs.pages.Pieces.{from_start_of_run, none_starts-append, NoneStarts}
-use Rattle.clean_link.proofs.pages.Scans.{chain_of, cut_short, ended, scan, scan-next, told_in}
-use Rattle.clean_link.proofs.pages.Scans.{with_number}
+use Rattle.clean_link.proofs.pages.Scans.{chain_of, cut_short, ended, scan, scan-next, told_in, with_number}
 use Rattle.clean_link.proofs.sendings.Pieces.{run, run-places}
 
 -- ---- room

@@ -1,7 +1,6 @@
 -- Pages that can be sent and heard make lawful runs.
-use Rattle.std.proofs.Common.{◌≡◌, ℕ, ◌+◌, ◌-◌, ◌*◌, ◌%◌, ◌<◌, ◌≤◌, Bool, false, List, []}
-use Rattle.std.proofs.Common.{◌∷◌, ◌++◌, length, map, sym, ap, ◌∙◌, subst, arith, inl, inr}
-use Rattle.std.proofs.Common.{length-append}
+use Rattle.std.proofs.Common.{◌≡◌, ℕ, ◌+◌, ◌-◌, ◌*◌, ◌%◌, ◌<◌, ◌≤◌, Bool, false, List, [], ◌∷◌, ◌++◌, length, map, sym, ap, ◌∙◌, subst}
+use Rattle.std.proofs.Common.{arith, inl, inr, length-append}
 use Rattle.std.proofs.lemmas.Bool.{cases_Bool, false_from_ne_true}
 use Rattle.std.proofs.lemmas.List.{map-append}
 use Rattle.std.proofs.Math.Nat.{mod_self, mul-add-mod_self_left}
@@ -16,8 +15,7 @@ use Rattle.cell_plan.specs.Stated.{AreHeard}
 use Rattle.cell_plan.specs.declared.plan.Page.{Page}
 use Rattle.clean_link.proofs.pages.Chains.{joined, AreChained}
 use Rattle.clean_link.proofs.pages.Runs.{fills, no_width, width}
-use Rattle.clean_link.proofs.pages.Laid.{length-page, page_capsule, runs-begin, runs-follow}
-use Rattle.clean_link.proofs.pages.Laid.{runs_of, spelled-push}
+use Rattle.clean_link.proofs.pages.Laid.{length-page, page_capsule, runs-begin, runs-follow, runs_of, spelled-push}
 use Rattle.clean_link.proofs.pages.RunsHeard.{spelled, AreRuns}
 
 -- ---- chained capsules

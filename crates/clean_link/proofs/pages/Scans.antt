@@ -1,7 +1,6 @@
 -- What the half-frames of a stream end, one half-frame after another.
-use Rattle.std.proofs.Common.{◌≡◌, ℕ, zero, suc, ◌+◌, ◌-◌, ◌*◌, ◌/◌, ◌%◌, ◌<◌, ◌≤◌, ◌==◌, Bool}
-use Rattle.std.proofs.Common.{false, List, [], ◌∷◌, ◌++◌, length, map, take, refl, sym}
-use Rattle.std.proofs.Common.{ap, ◌∙◌, arith, append_assoc, length-append, Option, None, inl, inr}
+use Rattle.std.proofs.Common.{◌≡◌, ℕ, zero, suc, ◌+◌, ◌-◌, ◌*◌, ◌/◌, ◌%◌, ◌<◌, ◌≤◌, ◌==◌, Bool, false, List, [], ◌∷◌, ◌++◌, length, map}
+use Rattle.std.proofs.Common.{take, refl, sym, ap, ◌∙◌, arith, append_assoc, length-append, Option, None, inl, inr}
 use Rattle.std.specs.List.{flat_map}
 use Rattle.std.specs.Option.{option_to_list}
 use Rattle.std.proofs.lemmas.Bool.{cases_lt, ne_eqb}
@@ -16,11 +15,9 @@ use Rattle.paging_message.specs.HalfFrames.{ends_chain, half_frames, half_frame_
 use Rattle.paging_message.proofs.Cutting.{mark_ends}
 use Rattle.chip_core.proofs.Ranges.{flat_map_ext_places}
 use Rattle.clean_link.specs.WholePages.{capsules_with_frames, frame_capsules}
-use Rattle.chip_core.proofs.Counted.{flat_map-add, flat_map-next, flat_map-nothing}
-use Rattle.chip_core.proofs.Counted.{flat_map-zero, map-next, map-zero}
-use Rattle.clean_link.proofs.pages.Pieces.{bits_of, from_no_start, half_frames_of_stream}
-use Rattle.clean_link.proofs.pages.Pieces.{length-stream, none_starts-append, stream, whole-append}
-use Rattle.clean_link.proofs.pages.Pieces.{whole-map, AreWhole, NoneStarts}
+use Rattle.chip_core.proofs.Counted.{flat_map-add, flat_map-next, flat_map-nothing, flat_map-zero, map-next, map-zero}
+use Rattle.clean_link.proofs.pages.Pieces.{bits_of, from_no_start, half_frames_of_stream, length-stream, none_starts-append, stream}
+use Rattle.clean_link.proofs.pages.Pieces.{whole-append, whole-map, AreWhole, NoneStarts}
 
 -- ---- the capsules that half-frames end
 

@@ -1,11 +1,9 @@
 -- The pages that a file holds whole behind a mark.
-use Rattle.std.proofs.Common.{◌≡◌, ℕ, ◌+◌, ◌-◌, ◌*◌, ◌/◌, ◌<◌, ◌≤◌, Bool, true, false}
-use Rattle.std.proofs.Common.{List, [], ◌∷◌, length, map, refl, sym, ap, ◌∙◌, subst, arith}
-use Rattle.std.proofs.Common.{inl, inr, nat_le, nat_lt}
+use Rattle.std.proofs.Common.{◌≡◌, ℕ, ◌+◌, ◌-◌, ◌*◌, ◌/◌, ◌<◌, ◌≤◌, Bool, true, false, List, [], ◌∷◌, length, map, refl, sym, ap, ◌∙◌}
+use Rattle.std.proofs.Common.{subst, arith, inl, inr, nat_le, nat_lt}
 use Rattle.std.specs.Prelude.{◌&&◌}
 use Rattle.std.specs.List.{filter}
-use Rattle.std.proofs.lemmas.Bool.{and_left, and_right, cases_Bool, cases_lt, le-leb}
-use Rattle.std.proofs.lemmas.Bool.{le-ltb, lt-leb, lt-ltb}
+use Rattle.std.proofs.lemmas.Bool.{and_left, and_right, cases_Bool, cases_lt, le-leb, le-ltb, lt-leb, lt-ltb}
 use Rattle.std.proofs.lemmas.Nat.{le-div}
 use Rattle.std.proofs.Math.Nat.{mul-le-mul_left}
 use Rattle.chip_core.specs.declared.check_form.CheckForm.{CheckForm}
@@ -19,13 +17,11 @@ use Rattle.cell_plan.specs.declared.plan.PagingPlan.{PagingPlan}
 use Rattle.cell_plan.proofs.LaidPages.{size_large}
 use Rattle.chip_core.proofs.Ranges.{flat_map_ext_places}
 use Rattle.clean_link.specs.PageLaws.{WholePagesComeBack}
-use Rattle.clean_link.specs.WholePages.{capsules_with_frames, cycle_half_frames, frame_capsules}
-use Rattle.clean_link.specs.WholePages.{is_between, is_whole_page, placed, sending_of}
-use Rattle.clean_link.specs.WholePages.{AreWholePages, Placed}
+use Rattle.clean_link.specs.WholePages.{capsules_with_frames, cycle_half_frames, frame_capsules, is_between, is_whole_page, placed}
+use Rattle.clean_link.specs.WholePages.{sending_of, AreWholePages, Placed}
 use Rattle.chip_core.proofs.Counted.{flat_map-nothing, flat_map-zero}
 use Rattle.clean_link.proofs.pages.CyclesBack.{cycle_some, page_sendings_back}
-use Rattle.clean_link.proofs.pages.Laid.{length-page, page_capsule, placed-begins, placed-follows}
-use Rattle.clean_link.proofs.pages.Laid.{turned_back}
+use Rattle.clean_link.proofs.pages.Laid.{length-page, page_capsule, placed-begins, placed-follows, turned_back}
 
 -- ---- the two tests
 

@@ -1,5 +1,6 @@
 -- A handset hears the whole sendings of a clean link's cell, in order, and nothing else.
-use Rattle.std.proofs.Common.{◌≡◌, ℕ, ◌+◌, ◌-◌, ◌*◌, ◌/◌, ◌<◌, ◌≤◌, ◌&&◌, ◌≢◌, ⊎_elim, true, false, cond, List, [], ◌∷◌, filter, refl, sym, ap, ◌∙◌, arith, nat_le, Option, Some, None}
+use Rattle.std.proofs.Common.{◌≡◌, ℕ, ◌+◌, ◌-◌, ◌*◌, ◌/◌, ◌<◌, ◌≤◌, ◌&&◌, ◌≢◌, ⊎_elim, true, false, cond, List, [], ◌∷◌, filter, refl, sym}
+use Rattle.std.proofs.Common.{ap, ◌∙◌, arith, nat_le, Option, Some, None}
 use Rattle.std.specs.List.{flat_map}
 use Rattle.std.proofs.Math.Nat.{mul-le-mul_left}
 use Rattle.std.proofs.lemmas.Bool.{and_parts, and_from, le-leb, lt-leb, leb-true, cases_Bool, false_from_ne_true}
@@ -16,7 +17,8 @@ use Rattle.mobile_core.specs.declared.event.Event.{Event}
 use Rattle.mobile_core.specs.declared.event.Event.TheVariants.{Sync}
 use Rattle.chip_core.proofs.Ranges.{flat_map_ext_filter}
 use Rattle.clean_link.specs.CleanLaws.{FramesAreZeros, FramesComeBack, WholeSendingsComeBack}
-use Rattle.clean_link.specs.CleanLink.{IsOnPath, events_of_channel, first_sync_frame, heard_behind, is_whole, sending_ends, sending_event, sync_sent}
+use Rattle.clean_link.specs.CleanLink.{IsOnPath, events_of_channel, first_sync_frame, heard_behind, is_whole, sending_ends, sending_event}
+use Rattle.clean_link.specs.CleanLink.{sync_sent}
 use Rattle.cell_plan.specs.Stated.{IsReceivable}
 use Rattle.cell_plan.specs.Sampled.{made_samples}
 use Rattle.clean_link.proofs.sendings.Capsules.{IsSentAt, sending_frames}
@@ -25,7 +27,8 @@ use Rattle.clean_link.proofs.frames.SyncTimes.{end_of_frame, in_file_to, known_i
 use Rattle.clean_link.proofs.sendings.Order.{blocks, given_where, flat_map-filter, map-filter, moved_up, quiet}
 use Rattle.clean_link.proofs.sendings.Events.{events_by_frames, frame_events, frames_of, in_file, known}
 use Rattle.clean_link.proofs.sendings.Heard.{ends_sending, heard_nothing, heard_sending, none_heard}
-use Rattle.clean_link.proofs.sendings.Places.{IsInside, ends_tells, ends_there, ends_where, last_frame, last_within, late_sending, whole_from, whole_to}
+use Rattle.clean_link.proofs.sendings.Places.{IsInside, ends_tells, ends_there, ends_where, last_frame, last_within, late_sending}
+use Rattle.clean_link.proofs.sendings.Places.{whole_from, whole_to}
 
 -- ---- what frames tell
 tells_none : FramesComeBack →

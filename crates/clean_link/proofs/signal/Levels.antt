@@ -1,5 +1,6 @@
 -- The level of a channel at its symbols, and what a row has of channels that are apart.
-use Rattle.std.proofs.Common.{◌≡◌, ◌≢◌, ℕ, zero, suc, ◌+◌, ◌-◌, ◌*◌, ◌<◌, Bool, false, List, [], ◌∷◌, length, get_or, All, refl, sym, ap, subst, ◌∙◌, arith, ℤ, pos, Some}
+use Rattle.std.proofs.Common.{◌≡◌, ◌≢◌, ℕ, zero, suc, ◌+◌, ◌-◌, ◌*◌, ◌<◌, Bool, false, List, [], ◌∷◌, length, get_or, All, refl, sym, ap}
+use Rattle.std.proofs.Common.{subst, ◌∙◌, arith, ℤ, pos, Some}
 use Rattle.std.specs.Prelude.{◌+ℤ◌, ◌*ℤ◌}
 use Rattle.std.specs.List.{Contains}
 use Rattle.std.proofs.Math.IntN.{+ℤ_idl, +ℤ_idr}

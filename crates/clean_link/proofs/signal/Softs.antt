@@ -1,5 +1,6 @@
 -- The soft values of a finger on the path of a clean link.
-use Rattle.std.proofs.Common.{◌≡◌, ℕ, ◌+◌, ◌*◌, ◌/◌, ◌%◌, ◌<◌, ◌≤◌, Bool, false, List, [], ◌∷◌, length, get_or, map, replicate, refl, sym, ap, ◌∙◌, arith, ℤ, pos, negsuc, unsigned_abs}
+use Rattle.std.proofs.Common.{◌≡◌, ℕ, ◌+◌, ◌*◌, ◌/◌, ◌%◌, ◌<◌, ◌≤◌, Bool, false, List, [], ◌∷◌, length, get_or, map, replicate, refl, sym}
+use Rattle.std.proofs.Common.{ap, ◌∙◌, arith, ℤ, pos, negsuc, unsigned_abs}
 use Rattle.std.specs.Prelude.{◌+ℤ◌, ◌-ℤ◌, ◌*ℤ◌, neg_ℤ}
 use Rattle.std.proofs.Math.IntN.{+ℤ_idr}
 use Rattle.std.proofs.lemmas.Int.{ints}
@@ -13,7 +14,8 @@ use Rattle.chip_core.proofs.IndexSums.{sum_same}
 use Rattle.chip_core.proofs.Places.{map-places-all}
 use Rattle.chip_core.proofs.Ring.{distrib, mul_assoc_ℤ, swap_products, neg_times, split, diff-times, diff-same}
 use Rattle.walsh.specs.Walsh.{walsh}
-use Rattle.rake_finger.specs.Soft.{covered_from, despread_at, frame_chips, pilot_sum, soft, softs, symbol_chips, symbol_sum, symbols, turned_part, window_chips}
+use Rattle.rake_finger.specs.Soft.{covered_from, despread_at, frame_chips, pilot_sum, soft, softs, symbol_chips, symbol_sum, symbols}
+use Rattle.rake_finger.specs.Soft.{turned_part, window_chips}
 use Rattle.rake_finger.specs.declared.finger.Finger.{Finger}
 use Rattle.rake_finger.specs.declared.form.Form.{Form}
 use Rattle.rake_finger.specs.declared.form.Form.TheVariants.{Sync, Data}

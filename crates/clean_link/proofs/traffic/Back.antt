@@ -1,7 +1,7 @@
 -- What a handset hears of the traffic channel that it follows: the frames that the cell sends from
 -- its mark on, and the messages in them.
-use Rattle.std.proofs.Common.{◌≡◌, ℕ, zero, suc, ◌+◌, ◌*◌, ◌<◌, ◌≤◌, List, [], ◌∷◌, length, get_or}
-use Rattle.std.proofs.Common.{refl, sym, ap, ◌∙◌, arith, subst, Option, None, Some}
+use Rattle.std.proofs.Common.{◌≡◌, ℕ, zero, suc, ◌+◌, ◌*◌, ◌<◌, ◌≤◌, List, [], ◌∷◌, length, get_or, refl, sym, ap, ◌∙◌, arith, subst}
+use Rattle.std.proofs.Common.{Option, None, Some}
 use Rattle.std.specs.Prelude.{◌≢◌, All}
 use Rattle.std.specs.List.{Contains, flat_map}
 use Rattle.std.proofs.lemmas.Bool.{eq-eqb, ne_eqb}
@@ -27,11 +27,9 @@ use Rattle.mobile_core.proofs.MarkStays.{frames_by_one_mark, messages_by_one_mar
 use Rattle.chip_core.proofs.Ranges.{flat_map_ext_places}
 use Rattle.clean_link.specs.CleanLink.{IsNotDirected, IsOnPath}
 use Rattle.cell_plan.specs.Stated.{IsReceivable}
-use Rattle.clean_link.specs.HeardFrames.{frames_of_channel, frames_sent, told_on, AreDistinct}
-use Rattle.clean_link.specs.HeardFrames.{SendsSetOne}
+use Rattle.clean_link.specs.HeardFrames.{frames_of_channel, frames_sent, told_on, AreDistinct, SendsSetOne}
 use Rattle.clean_link.specs.HeardSignals.{messages_of_channel, messages_sent}
-use Rattle.clean_link.specs.SentEvents.{signaling_sent, told_by_first, told_followed}
-use Rattle.clean_link.specs.SentEvents.{told_with_sync, traffic_sent, FollowsSent}
+use Rattle.clean_link.specs.SentEvents.{signaling_sent, told_by_first, told_followed, told_with_sync, traffic_sent, FollowsSent}
 use Rattle.clean_link.specs.TrafficLaws.{HearsTraffic, IsUndirected}
 use Rattle.clean_link.proofs.marks.FirstMark.{mark_of_first, unset_without}
 use Rattle.clean_link.proofs.marks.MarksTrue.{marks_true, time_of, unmarked}

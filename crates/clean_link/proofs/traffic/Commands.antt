@@ -1,7 +1,6 @@
 -- The power control bits of the frames of a traffic channel come back.
-use Rattle.std.proofs.Common.{◌≡◌, ℕ, zero, suc, ◌+◌, ◌*◌, ◌/◌, ◌<◌, Bool, true, false, not}
-use Rattle.std.proofs.Common.{List, [], ◌∷◌, length, map, get_or, refl, sym, ap, ◌∙◌, arith, ℤ}
-use Rattle.std.proofs.Common.{nat_eq, negsuc, pos}
+use Rattle.std.proofs.Common.{◌≡◌, ℕ, zero, suc, ◌+◌, ◌*◌, ◌/◌, ◌<◌, Bool, true, false, not, List, [], ◌∷◌, length, map, get_or, refl, sym}
+use Rattle.std.proofs.Common.{ap, ◌∙◌, arith, ℤ, nat_eq, negsuc, pos}
 use Rattle.std.specs.Prelude.{◌*ℤ◌, ◌+ℤ◌, ◌<ℤ◌, ◌≤ℤ◌, ◌&&◌, int_lt, neg_ℤ}
 use Rattle.std.specs.List.{flat_map, range_with_len}
 use Rattle.std.proofs.lemmas.Bool.{eq-eqb}
@@ -11,8 +10,7 @@ use Rattle.chip_core.specs.Bits.{places, sign}
 use Rattle.chip_core.proofs.Places.{get_or-map-places, map-places-all}
 use Rattle.long_code.specs.LongCode.{traffic_mask}
 use Rattle.symbol_path.specs.Scrambling.{power_place, power_places}
-use Rattle.symbol_path.proofs.PowerPlaces.{power_place_in_groups, pairs_below, pairs_in_groups}
-use Rattle.symbol_path.proofs.PowerPlaces.{pairs_neighbours, ArePairs}
+use Rattle.symbol_path.proofs.PowerPlaces.{power_place_in_groups, pairs_below, pairs_in_groups, pairs_neighbours, ArePairs}
 use Rattle.frame_decoder.specs.TrafficFrames.{command, group_sum, group_sums, is_replaced}
 use Rattle.rake_finger.specs.declared.form.Form.TheVariants.{Data}
 use Rattle.cell_plan.specs.Sampled.{made_samples}

@@ -1,7 +1,6 @@
 -- A cell with a distinct frame of each rate.
-use Rattle.std.proofs.Common.{◌≡◌, ◌≢◌, ℕ, ◌+◌, ◌*◌, ◌^◌, ◌<◌, ◌≤◌, Bool, true}
-use Rattle.std.proofs.Common.{List, [], ◌∷◌, length, map, refl, sym, ap, ◌∙◌, arith, subst, nat_le}
-use Rattle.std.proofs.Common.{inl, inr, Some}
+use Rattle.std.proofs.Common.{◌≡◌, ◌≢◌, ℕ, ◌+◌, ◌*◌, ◌^◌, ◌<◌, ◌≤◌, Bool, true, List, [], ◌∷◌, length, map, refl, sym, ap, ◌∙◌, arith}
+use Rattle.std.proofs.Common.{subst, nat_le, inl, inr, Some}
 use Rattle.std.specs.Prelude.{All}
 use Rattle.std.specs.List.{flat_map}
 use Rattle.std.proofs.lemmas.Bool.{and_parts, cases_eq, leb-true}
@@ -25,31 +24,25 @@ use Rattle.symbol_path.specs.declared.rate_two.Rate2.TheVariants.{R14400, R7200,
 use Rattle.symbol_path.proofs.SymbolChips.{on_again}
 use Rattle.sync_message.specs.SyncMessage.{sync_body, sync_capsule, IsSyncMessage}
 use Rattle.traffic_message.specs.Multiplex.{split, split_9600}
-use Rattle.cell_plan.specs.Plan.{loudness, AreLawfulBeside, IsFreeOf}
-use Rattle.cell_plan.specs.Plan.{IsLawfulPlan, IsPagingPlan, IsTrafficPlan}
+use Rattle.cell_plan.specs.Plan.{loudness, AreLawfulBeside, IsFreeOf, IsLawfulPlan, IsPagingPlan, IsTrafficPlan}
 use Rattle.cell_plan.specs.Pages.{paging_rate}
-use Rattle.cell_plan.specs.Stated.{IsStatedPaging}
+use Rattle.cell_plan.specs.Stated.{IsStatedPaging, IsReceivable}
 use Rattle.cell_plan.specs.Signal.{frames_of}
 use Rattle.cell_plan.specs.TrafficFrames.{cycled_frame, IsTrafficFrame, IsTrafficFrame2}
 use Rattle.cell_plan.specs.declared.plan.PagingPlan.{PagingPlan}
 use Rattle.cell_plan.specs.declared.plan.TrafficPlan.{TrafficPlan}
 use Rattle.cell_plan.specs.declared.traffic_frame.TrafficFrame.{TrafficFrame}
 use Rattle.cell_plan.specs.declared.traffic_frame2.TrafficFrame2.{TrafficFrame2}
-use Rattle.cell_plan.specs.Stated.{IsReceivable}
 use Rattle.clean_link.specs.DistinctFrames.{lost_symbols}
-use Rattle.clean_link.specs.DistinctPlan.{bits_1200, bits_14400, bits_1800, bits_2400, bits_3600}
-use Rattle.clean_link.specs.DistinctPlan.{bits_4800, bits_7200, bits_9600, distinct_plan}
-use Rattle.clean_link.specs.DistinctPlan.{first_channel, frame2_at, frame_at, on_row}
-use Rattle.clean_link.specs.DistinctPlan.{second_channel, told_message}
-use Rattle.clean_link.specs.DistinctPlan.{HasMark, HasSetOne, HasSetTwo}
-use Rattle.clean_link.specs.HeardFrames.{frame_chip, is_received, received_frames, replaced_of}
-use Rattle.clean_link.specs.HeardFrames.{AreDistinct, IsDistinctFrame}
+use Rattle.clean_link.specs.DistinctPlan.{bits_1200, bits_14400, bits_1800, bits_2400, bits_3600, bits_4800, bits_7200, bits_9600}
+use Rattle.clean_link.specs.DistinctPlan.{distinct_plan, first_channel, frame2_at, frame_at, on_row, second_channel, told_message, HasMark}
+use Rattle.clean_link.specs.DistinctPlan.{HasSetOne, HasSetTwo}
+use Rattle.clean_link.specs.HeardFrames.{frame_chip, is_received, received_frames, replaced_of, AreDistinct, IsDistinctFrame}
 use Rattle.clean_link.specs.HeardPages.{end_chip}
 use Rattle.clean_link.specs.HeardSignals.{messages_sent}
 use Rattle.clean_link.specs.ReceivedFrames.{cycled_frame2, IsDistinctFrame2}
 use Rattle.clean_link.specs.SentEvents.{signaling_sent, told_with_sync}
-use Rattle.clean_link.specs.SharedWords.{lost_symbols2, sharing, sharing2, words_giving}
-use Rattle.clean_link.specs.SharedWords.{SharesNone, SharesNone2}
+use Rattle.clean_link.specs.SharedWords.{lost_symbols2, sharing, sharing2, words_giving, SharesNone, SharesNone2}
 use Rattle.clean_link.proofs.traffic.PowerPlaces.{pairs_by, places_are, starts, walked, walked_is}
 use Rattle.clean_link.proofs.traffic.SharedFrames.{distinct_by_sharing, distinct_by_sharing2}
 
@@ -369,7 +362,8 @@ told_fills = refl
 
 told_lawful : IsSyncMessage told_message
 told_lawful = record {
-  fits = (omega arith, (omega arith, (omega arith, (omega arith, (omega arith, (omega arith, (omega arith, (omega arith, (omega arith, (omega arith, (omega arith, (omega arith, tt))))))))))));
+  fits = (omega arith, (omega arith, (omega arith, (omega arith, (omega arith, (omega arith, (omega arith, (omega arith,
+      (omega arith, (omega arith, (omega arith, (omega arith, tt))))))))))));
   rest = refl;
   fills = record {
     whole = told_fills;

@@ -1,12 +1,10 @@
 -- The frames of a traffic channel come back: each received one is heard at its own end, as it was
 -- sent where it is distinct.
-use Rattle.std.proofs.Common.{◌≡◌, ℕ, zero, suc, ◌+◌, ◌-◌, ◌*◌, ◌/◌, ◌%◌, ◌<◌, ◌≤◌, ⊎_elim, Bool}
-use Rattle.std.proofs.Common.{true, false, List, [], ◌∷◌, length, map, filter, take, drop, refl}
-use Rattle.std.proofs.Common.{sym, ap, ◌∙◌, arith, subst, nat_le, cond, pos}
+use Rattle.std.proofs.Common.{◌≡◌, ℕ, zero, suc, ◌+◌, ◌-◌, ◌*◌, ◌/◌, ◌%◌, ◌<◌, ◌≤◌, ⊎_elim, Bool, true, false, List, [], ◌∷◌, length, map}
+use Rattle.std.proofs.Common.{filter, take, drop, refl, sym, ap, ◌∙◌, arith, subst, nat_le, cond, pos}
 use Rattle.std.specs.Prelude.{All}
 use Rattle.std.specs.List.{flat_map}
-use Rattle.std.proofs.lemmas.Bool.{and_from, and_parts, cases_Bool, false_from_ne_true}
-use Rattle.std.proofs.lemmas.Bool.{le-leb, leb-true}
+use Rattle.std.proofs.lemmas.Bool.{and_from, and_parts, cases_Bool, false_from_ne_true, le-leb, leb-true}
 use Rattle.std.proofs.lemmas.List.Elements.{All-head, All-tail}
 use Rattle.chip_core.specs.Bits.{places}
 use Rattle.chip_core.specs.declared.sample.Sample.{Sample}
@@ -25,33 +23,26 @@ use Rattle.cell_plan.specs.declared.plan.TrafficPlan.{TrafficPlan}
 use Rattle.cell_plan.specs.declared.traffic_frame.TrafficFrame.{TrafficFrame}
 use Rattle.mobile_core.specs.Streams.{frame_softs, is_in_file, known_at, known_now, Stream}
 use Rattle.mobile_core.specs.Moments.{frames_at}
-use Rattle.mobile_core.specs.TrafficEvents.{commands_at, decoded_at, frame_event, frame_heard}
-use Rattle.mobile_core.specs.TrafficEvents.{frames_by}
-use Rattle.mobile_core.specs.TrafficStreams.{frame_state, frames_bound, frames_now, replaced_in}
-use Rattle.mobile_core.specs.TrafficStreams.{stream_of}
+use Rattle.mobile_core.specs.TrafficEvents.{commands_at, decoded_at, frame_event, frame_heard, frames_by}
+use Rattle.mobile_core.specs.TrafficStreams.{frame_state, frames_bound, frames_now, replaced_in, stream_of}
 use Rattle.mobile_core.specs.Tuning.{Tuning}
 use Rattle.mobile_core.specs.declared.event.Event.{Event}
 use Rattle.mobile_core.specs.declared.legs.Leg.{Leg}
 use Rattle.mobile_core.specs.declared.mark.Mark.{Mark}
 use Rattle.chip_core.specs.declared.assignment.Traffic.{Traffic}
-use Rattle.chip_core.proofs.Ranges.{filter_enough, flat_map_ext_filter_places}
-use Rattle.chip_core.proofs.Ranges.{flat_map_ext_places}
+use Rattle.chip_core.proofs.Ranges.{filter_enough, flat_map_ext_filter_places, flat_map_ext_places}
 use Rattle.clean_link.specs.CleanLink.{soft_strength}
-use Rattle.clean_link.specs.HeardFrames.{frame_chip, frame_ends, frame_told, frames_of_channel}
-use Rattle.clean_link.specs.HeardFrames.{is_received, received_frames, replaced_of}
-use Rattle.clean_link.specs.HeardFrames.{sent_commands, sent_frame_event, AreDistinct}
-use Rattle.clean_link.specs.HeardFrames.{IsDistinctFrame, IsOnePilot, SendsSetOne}
+use Rattle.clean_link.specs.HeardFrames.{frame_chip, frame_ends, frame_told, frames_of_channel, is_received, received_frames, replaced_of}
+use Rattle.clean_link.specs.HeardFrames.{sent_commands, sent_frame_event, AreDistinct, IsDistinctFrame, IsOnePilot, SendsSetOne}
 use Rattle.clean_link.specs.HeardPages.{end_chip}
-use Rattle.clean_link.specs.TrafficLaws.{EachFrameIsHeard, HearsTraffic, IsHeardAs, IsUndirected}
-use Rattle.clean_link.specs.TrafficLaws.{SentFramesComeBack, TrafficFramesComeBack}
+use Rattle.clean_link.specs.TrafficLaws.{EachFrameIsHeard, HearsTraffic, IsHeardAs, IsUndirected, SentFramesComeBack, TrafficFramesComeBack}
 use Rattle.clean_link.proofs.pages.InOrder.{given_in_order, IsBound}
 use Rattle.clean_link.proofs.sendings.Order.{flat_map-filter, given_where, moved_up}
 use Rattle.clean_link.proofs.traffic.Commands.{commands_back, power_pairs}
 use Rattle.clean_link.proofs.signal.Samples.{length-made}
 use Rattle.clean_link.proofs.traffic.OnePilot.{one_now, one_stream, one_stream_is}
 use Rattle.clean_link.proofs.traffic.Signs.{heard_shown, lawful_traffic, same_state}
-use Rattle.clean_link.proofs.traffic.Times.{traffic_file_from, traffic_file_to, traffic_known_is}
-use Rattle.clean_link.proofs.traffic.Times.{traffic_timed}
+use Rattle.clean_link.proofs.traffic.Times.{traffic_file_from, traffic_file_to, traffic_known_is, traffic_timed}
 use Rattle.clean_link.proofs.traffic.Steady.{one_pilot_heard}
 use Rattle.clean_link.proofs.traffic.Undirected.{first_legs, first_pilot, frames_of_one}
 

@@ -1,7 +1,6 @@
 -- Frames of 9,600 bits a second that no other word shares.
-use Rattle.std.proofs.Common.{◌≡◌, ℕ, ◌+◌, ◌-◌, ◌*◌, ◌/◌, ◌<◌, Bool, true, false, List}
-use Rattle.std.proofs.Common.{◌++◌, length, get_or, drop, replicate, refl, sym, ap, ◌∙◌, arith}
-use Rattle.std.proofs.Common.{subst, ◌&&◌, length-append}
+use Rattle.std.proofs.Common.{◌≡◌, ℕ, ◌+◌, ◌-◌, ◌*◌, ◌/◌, ◌<◌, Bool, true, false, List, ◌++◌, length, get_or, drop, replicate, refl, sym}
+use Rattle.std.proofs.Common.{ap, ◌∙◌, arith, subst, ◌&&◌, length-append}
 use Rattle.std.proofs.lemmas.Bool.{and_parts}
 use Rattle.std.proofs.lemmas.List.{drop_at}
 use Rattle.chip_core.specs.Bits.{xor}
@@ -15,11 +14,9 @@ use Rattle.quality_bits.specs.declared.rate.Rate.TheVariants.{R9600, R4800, R240
 use Rattle.quality_bits.proofs.TrafficWords.{word_fills}
 use Rattle.viterbi.proofs.Choices.{words_same}
 use Rattle.frame_decoder.specs.Laws.{AgreeElsewhere, frame_word}
-use Rattle.clean_link.specs.DistinctFrames.{is_kept, is_seen, shows_full_rate, tells_all_bits}
-use Rattle.clean_link.specs.DistinctFrames.{full_rate_symbols, lost_symbols}
+use Rattle.clean_link.specs.DistinctFrames.{is_kept, is_seen, shows_full_rate, tells_all_bits, full_rate_symbols, lost_symbols}
 use Rattle.clean_link.specs.DistinctFrames.{FullRateFramesAreDistinct}
-use Rattle.clean_link.proofs.traffic.HiddenWords.{hidden_none, same_by_sum, same_is_none}
-use Rattle.clean_link.proofs.traffic.HiddenWords.{sum_ends, symbol_add, AreHidden}
+use Rattle.clean_link.proofs.traffic.HiddenWords.{hidden_none, same_by_sum, same_is_none, sum_ends, symbol_add, AreHidden}
 use Rattle.clean_link.proofs.traffic.KeptSymbols.{at_each, at_one, kept_agree}
 
 -- ---- the same rate

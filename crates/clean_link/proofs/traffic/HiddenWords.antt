@@ -1,7 +1,6 @@
 -- Two words whose kept symbols are the same add up to a word whose kept symbols are 0.
-use Rattle.std.proofs.Common.{◌≡◌, ℕ, zero, suc, ◌+◌, ◌-◌, ◌*◌, ◌<◌, Bool, true, false, not, ◌&&◌}
-use Rattle.std.proofs.Common.{◌||◌, List, [], ◌∷◌, ◌++◌, length, get_or, drop, replicate, refl, sym}
-use Rattle.std.proofs.Common.{ap, ◌∙◌, arith}
+use Rattle.std.proofs.Common.{◌≡◌, ℕ, zero, suc, ◌+◌, ◌-◌, ◌*◌, ◌<◌, Bool, true, false, not, ◌&&◌, ◌||◌, List, [], ◌∷◌, ◌++◌, length}
+use Rattle.std.proofs.Common.{get_or, drop, replicate, refl, sym, ap, ◌∙◌, arith}
 use Rattle.std.specs.Prelude.{filter, if◌then◌else◌}
 use Rattle.std.specs.List.{list_all, list_any}
 use Rattle.std.proofs.lemmas.Bool.{and_from, and_parts}
@@ -9,8 +8,7 @@ use Rattle.std.proofs.lemmas.List.{drop_at, drop-drop}
 use Rattle.chip_core.specs.Bits.{xor}
 use Rattle.chip_core.proofs.BitLists.{add, length_add}
 use Rattle.conv_code.specs.ConvCode.{g0, g1, state_after, symbol}
-use Rattle.conv_code.proofs.Continued.{before, behind, length-state_after, pair}
-use Rattle.conv_code.proofs.Continued.{state_after-append, state_after-none}
+use Rattle.conv_code.proofs.Continued.{before, behind, length-state_after, pair, state_after-append, state_after-none}
 use Rattle.clean_link.specs.DistinctFrames.{is_hidden, is_kept, is_seen, stays_apart}
 
 -- ---- sums of words

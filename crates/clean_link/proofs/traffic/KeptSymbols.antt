@@ -1,13 +1,11 @@
 -- Symbols of two frames that agree where no power control bit replaces them.
-use Rattle.std.proofs.Common.{◌≡◌, ℕ, zero, suc, ◌+◌, ◌/◌, ◌<◌, Bool, true, false, ◌||◌, List, []}
-use Rattle.std.proofs.Common.{◌∷◌, get_or, refl, sym, ap, ◌∙◌, arith, ⊎_elim, nat_eq}
+use Rattle.std.proofs.Common.{◌≡◌, ℕ, zero, suc, ◌+◌, ◌/◌, ◌<◌, Bool, true, false, ◌||◌, List, [], ◌∷◌, get_or, refl, sym, ap, ◌∙◌, arith}
+use Rattle.std.proofs.Common.{⊎_elim, nat_eq}
 use Rattle.std.specs.List.{list_all, list_any}
-use Rattle.std.proofs.lemmas.Bool.{cases_Bool, eq-eqb, eqb-true, not-true, or_cases}
-use Rattle.std.proofs.lemmas.Bool.{or_left, or_right}
+use Rattle.std.proofs.lemmas.Bool.{cases_Bool, eq-eqb, eqb-true, not-true, or_cases, or_left, or_right}
 use Rattle.std.proofs.lemmas.List.Folds.{list_all_at, list_any-append}
 use Rattle.chip_core.specs.Bits.{places}
-use Rattle.chip_core.proofs.Places.{places-none, places-more, length-places, get_or-places}
-use Rattle.chip_core.proofs.Places.{get_or-map-places}
+use Rattle.chip_core.proofs.Places.{places-none, places-more, length-places, get_or-places, get_or-map-places}
 use Rattle.symbol_path.specs.SentOrder.{address, data_shape, place, sent, size}
 use Rattle.symbol_path.specs.declared.kinds.Kind.TheVariants.{Data}
 use Rattle.symbol_path.proofs.Permutation.{address-place, place_lt}

@@ -1,6 +1,5 @@
 -- What is heard of a traffic channel's frames from the reference's pilot alone.
-use Rattle.std.proofs.Common.{◌≡◌, ℕ, ◌==◌, ◌&&◌, Bool, true, List, [], ◌∷◌, map, refl, sym}
-use Rattle.std.proofs.Common.{ap, ◌∙◌, arith, subst, ℤ, Option}
+use Rattle.std.proofs.Common.{◌≡◌, ℕ, ◌==◌, ◌&&◌, Bool, true, List, [], ◌∷◌, map, refl, sym, ap, ◌∙◌, arith, subst, ℤ, Option}
 use Rattle.std.specs.List.{flat_map}
 use Rattle.std.specs.Option.{option_to_list}
 use Rattle.std.proofs.lemmas.List.{append-nil}
@@ -13,15 +12,12 @@ use Rattle.rake_finger.specs.declared.finger.Finger.{Finger}
 use Rattle.rake_finger.specs.declared.form.Form.TheVariants.{Data}
 use Rattle.mobile_core.specs.Close.{AreClose}
 use Rattle.mobile_core.specs.Legs.{all_fingers, subchannels}
-use Rattle.mobile_core.specs.Signaling.{capsule_with, message_at, message_events, message_heard}
-use Rattle.mobile_core.specs.Signaling.{messages_by, signal_at, signal_in, signal_of}
-use Rattle.mobile_core.specs.Signaling.{signals_before}
+use Rattle.mobile_core.specs.Signaling.{capsule_with, message_at, message_events, message_heard, messages_by, signal_at, signal_in}
+use Rattle.mobile_core.specs.Signaling.{signal_of, signals_before}
 use Rattle.mobile_core.specs.Streams.{frame_softs, is_in_file, known_at, known_now, Stream}
-use Rattle.mobile_core.specs.TrafficEvents.{all_sums, commands_at, decoded_at, frame_event}
-use Rattle.mobile_core.specs.TrafficEvents.{frame_heard, frames_by, subchannel_sums, unturned_by}
-use Rattle.mobile_core.specs.TrafficEvents.{unturned_softs}
-use Rattle.mobile_core.specs.TrafficStreams.{ends_now, frames_bound, frames_now, has_frame}
-use Rattle.mobile_core.specs.TrafficStreams.{replaced_in, stream_of, traffic_start}
+use Rattle.mobile_core.specs.TrafficEvents.{all_sums, commands_at, decoded_at, frame_event, frame_heard, frames_by, subchannel_sums}
+use Rattle.mobile_core.specs.TrafficEvents.{unturned_by, unturned_softs}
+use Rattle.mobile_core.specs.TrafficStreams.{ends_now, frames_bound, frames_now, has_frame, replaced_in, stream_of, traffic_start}
 use Rattle.mobile_core.specs.TrafficStreams.{traffic_stream}
 use Rattle.mobile_core.specs.Tuning.{Tuning, fingers_of}
 use Rattle.mobile_core.specs.declared.event.Event.{Event}
@@ -31,8 +27,7 @@ use Rattle.chip_core.specs.declared.assignment.Traffic.{Traffic}
 use Rattle.mobile_core.proofs.FrameBounds.{AreCloseAll}
 use Rattle.mobile_core.proofs.LegParts.{map_same}
 use Rattle.mobile_core.proofs.MarkStays.{pilot_alone}
-use Rattle.chip_core.proofs.Ranges.{filter_ext_places, flat_map_ext_filter}
-use Rattle.chip_core.proofs.Ranges.{flat_map_ext_filter_places}
+use Rattle.chip_core.proofs.Ranges.{filter_ext_places, flat_map_ext_filter, flat_map_ext_filter_places}
 use Rattle.clean_link.specs.HeardFrames.{IsOnePilot}
 use Rattle.clean_link.proofs.frames.SyncTimes.{one_path}
 

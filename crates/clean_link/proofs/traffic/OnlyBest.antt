@@ -1,7 +1,6 @@
 -- The word of a distinct frame alone has the greatest score.
-use Rattle.std.proofs.Common.{◌≡◌, ℕ, ◌-◌, ◌*◌, ◌<◌, Bool, true, false, List}
-use Rattle.std.proofs.Common.{◌++◌, length, get_or, drop, replicate, refl, sym, ap, ◌∙◌, arith}
-use Rattle.std.proofs.Common.{⊎_elim, ℤ, pos, subst, length-append}
+use Rattle.std.proofs.Common.{◌≡◌, ℕ, ◌-◌, ◌*◌, ◌<◌, Bool, true, false, List, ◌++◌, length, get_or, drop, replicate, refl, sym, ap, ◌∙◌}
+use Rattle.std.proofs.Common.{arith, ⊎_elim, ℤ, pos, subst, length-append}
 use Rattle.std.specs.Prelude.{◌≤ℤ◌, ◌<ℤ◌, ◌*ℤ◌, if◌then◌else◌, int_lt}
 use Rattle.std.proofs.lemmas.Int.{ints}
 use Rattle.std.proofs.lemmas.Bool.{cases_Bool}
@@ -25,8 +24,7 @@ use Rattle.viterbi.specs.Words.{Word, correlation}
 use Rattle.viterbi.specs.declared.word.Ends.TheVariants.{Zero}
 use Rattle.frame_decoder.specs.Laws.{frame_word, AgreeElsewhere, IsUnshared, ShowSymbols}
 use Rattle.frame_decoder.specs.TrafficFrames.{frame_bits, frame_symbols, is_replaced, unreplaced}
-use Rattle.frame_decoder.proofs.MaskedScores.{alone, get_or-masked, length-masked, masked}
-use Rattle.frame_decoder.proofs.MaskedScores.{own_score, weight}
+use Rattle.frame_decoder.proofs.MaskedScores.{alone, get_or-masked, length-masked, masked, own_score, weight}
 use Rattle.frame_decoder.proofs.Unreplaced.{get_or-unreplaced, length-unreplaced}
 use Rattle.rate_set_two.specs.Laws as laws_two
 use Rattle.rate_set_two.specs.TrafficFrames as second
@@ -36,8 +34,7 @@ use Rattle.mobile_core.specs.Streams.{frame_softs}
 use Rattle.mobile_core.specs.TrafficStreams.{replaced_in, stream_of}
 use Rattle.clean_link.specs.CleanLink.{soft_strength}
 use Rattle.clean_link.specs.HeardFrames.{replaced_of}
-use Rattle.clean_link.specs.OnlyBestFrames.{HeardAreTheOnlyBest, IsOnlyBestFrame}
-use Rattle.clean_link.specs.OnlyBestFrames.{IsOnlyBestFrame2, ReceivedAreTheOnlyBest}
+use Rattle.clean_link.specs.OnlyBestFrames.{HeardAreTheOnlyBest, IsOnlyBestFrame, IsOnlyBestFrame2, ReceivedAreTheOnlyBest}
 use Rattle.clean_link.specs.OnlyBestFrames.{SetTwoAreTheOnlyBest}
 use Rattle.clean_link.proofs.traffic.Frames.{sized}
 use Rattle.clean_link.proofs.traffic.Signs.{heard_shown}

@@ -1,7 +1,6 @@
 -- The frames of a traffic channel, as they are received of the reference base station alone.
-use Rattle.std.proofs.Common.{◌≡◌, ℕ, ◌+◌, ◌-◌, ◌*◌, ◌%◌, ◌≤◌, ◌&&◌, Bool, true}
-use Rattle.std.proofs.Common.{List, [], ◌∷◌, length, map, filter, refl, sym, ap, ◌∙◌, arith, subst}
-use Rattle.std.proofs.Common.{nat_le, inl, inr, Option, Some}
+use Rattle.std.proofs.Common.{◌≡◌, ℕ, ◌+◌, ◌-◌, ◌*◌, ◌%◌, ◌≤◌, ◌&&◌, Bool, true, List, [], ◌∷◌, length, map, filter, refl, sym, ap, ◌∙◌}
+use Rattle.std.proofs.Common.{arith, subst, nat_le, inl, inr, Option, Some}
 use Rattle.std.specs.List.{Contains}
 use Rattle.std.proofs.lemmas.Bool.{and_from, cases_Bool, cases_lt, le-leb}
 use Rattle.chip_core.specs.Bits.{places}
@@ -30,20 +29,16 @@ use Rattle.mobile_core.specs.declared.soft_frame.PowerControl.{PowerControl}
 use Rattle.mobile_core.specs.declared.soft_frame.SoftFrame.{SoftFrame}
 use Rattle.clean_link.specs.CleanLink.{soft_strength, IsOnPath}
 use Rattle.cell_plan.specs.Stated.{IsReceivable}
-use Rattle.clean_link.specs.HeardFrames.{is_received, received_frames, replaced_of, sent_bits}
-use Rattle.clean_link.specs.HeardFrames.{IsAssigned, SendsSetTwo, SendsSymbols, ShowFrame}
-use Rattle.clean_link.specs.ReceivedFrames.{cycled_frame2, word_symbols2}
-use Rattle.clean_link.specs.ReceivedFrames.{AreReceived, IsReceivedAs, IsSentFrame2}
-use Rattle.clean_link.specs.ReceivedLaws.{EachFrameIsReceived, FramesBehindMark}
-use Rattle.clean_link.specs.ReceivedLaws.{FramesShowSymbols, SetTwoBehindMark}
-use Rattle.clean_link.specs.ReceivedLaws.{SetTwoFramesComeBack}
+use Rattle.clean_link.specs.HeardFrames.{is_received, received_frames, replaced_of, sent_bits, IsAssigned, SendsSetTwo, SendsSymbols}
+use Rattle.clean_link.specs.HeardFrames.{ShowFrame}
+use Rattle.clean_link.specs.ReceivedFrames.{cycled_frame2, word_symbols2, AreReceived, IsReceivedAs, IsSentFrame2}
+use Rattle.clean_link.specs.ReceivedLaws.{EachFrameIsReceived, FramesBehindMark, FramesShowSymbols, SetTwoBehindMark, SetTwoFramesComeBack}
 use Rattle.clean_link.specs.TrafficLaws.{HearsTraffic}
 use Rattle.clean_link.proofs.marks.MarksTrue.{marks_true}
 use Rattle.clean_link.proofs.signal.Samples.{length-made}
 use Rattle.clean_link.proofs.traffic.Back.{told_behind_mark}
 use Rattle.clean_link.proofs.traffic.Commands.{power_pairs, shown_commands}
-use Rattle.clean_link.proofs.traffic.Frames.{by_marks_frames, early, known_is, one_each, one_taken}
-use Rattle.clean_link.proofs.traffic.Frames.{one_there, received_is, same_places}
+use Rattle.clean_link.proofs.traffic.Frames.{by_marks_frames, early, known_is, one_each, one_taken, one_there, received_is, same_places}
 use Rattle.clean_link.proofs.traffic.OnePilot.{one_stream}
 use Rattle.clean_link.proofs.traffic.Signs.{frame_shown, lawful_traffic, set_two_sends}
 use Rattle.clean_link.proofs.traffic.Times.{traffic_file_to, traffic_known_is}

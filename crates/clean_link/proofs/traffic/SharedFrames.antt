@@ -1,11 +1,9 @@
 -- Frames of both rate sets are distinct where no other word shares their symbols.
-use Rattle.std.proofs.Common.{◌≡◌, ℕ, ◌+◌, ◌-◌, ◌*◌, ◌/◌, ◌<◌, ◌≤◌, ◌⊎◌, Bool, true, false, not}
-use Rattle.std.proofs.Common.{List, [], ◌∷◌, ◌++◌, length, get_or, drop, replicate, refl, sym, ap}
-use Rattle.std.proofs.Common.{◌∙◌, arith, subst, ⊎_elim, inl, inr, nat_eq}
+use Rattle.std.proofs.Common.{◌≡◌, ℕ, ◌+◌, ◌-◌, ◌*◌, ◌/◌, ◌<◌, ◌≤◌, ◌⊎◌, Bool, true, false, not, List, [], ◌∷◌, ◌++◌, length, get_or, drop}
+use Rattle.std.proofs.Common.{replicate, refl, sym, ap, ◌∙◌, arith, subst, ⊎_elim, inl, inr, nat_eq}
 use Rattle.std.specs.Prelude.{◌≢◌}
 use Rattle.std.specs.List.{list_any}
-use Rattle.std.proofs.lemmas.Bool.{and_parts, cases_Bool, eq-eqb, eqb-true, not-true, or_cases}
-use Rattle.std.proofs.lemmas.Bool.{or_left, or_right}
+use Rattle.std.proofs.lemmas.Bool.{and_parts, cases_Bool, eq-eqb, eqb-true, not-true, or_cases, or_left, or_right}
 use Rattle.std.proofs.lemmas.List.{drop_at, drop-drop}
 use Rattle.conv_code.specs.ConvCode.{code_symbols, state_after}
 use Rattle.quality_bits.specs.TrafficWords.{repeats_of, traffic_word}
@@ -27,8 +25,7 @@ use Rattle.frame_decoder.specs.Laws.{frame_word, AgreeElsewhere}
 use Rattle.frame_decoder.specs.TrafficFrames.{frame_bits, frame_symbols, is_replaced}
 use Rattle.rate_set_two.specs.TrafficFrames as frames_two
 use Rattle.clean_link.specs.DistinctFrames.{is_kept, lost_symbols}
-use Rattle.clean_link.specs.SharedWords.{is_known2, lost_symbols2, shown_of, words_giving}
-use Rattle.clean_link.specs.SharedWords.{AreDistinctBySharing, AreDistinctBySharing2}
+use Rattle.clean_link.specs.SharedWords.{is_known2, lost_symbols2, shown_of, words_giving, AreDistinctBySharing, AreDistinctBySharing2}
 use Rattle.clean_link.proofs.traffic.KeptSymbols.{kept_agree}
 use Rattle.clean_link.proofs.traffic.SharedWords.{agreeing_give, given_none, given_one, AreGiving}
 

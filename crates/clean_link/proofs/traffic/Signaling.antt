@@ -1,7 +1,6 @@
 -- The messages of a traffic channel come back: where each received frame is distinct, the signaling
 -- that is heard is what was sent, and so are the capsules that it spells.
-use Rattle.std.proofs.Common.{◌≡◌, ℕ, ◌+◌, ◌*◌, ◌≤◌, Bool, true, List, [], ◌∷◌}
-use Rattle.std.proofs.Common.{sym, ap, ◌∙◌, arith, Option}
+use Rattle.std.proofs.Common.{◌≡◌, ℕ, ◌+◌, ◌*◌, ◌≤◌, Bool, true, List, [], ◌∷◌, sym, ap, ◌∙◌, arith, Option}
 use Rattle.std.specs.List.{flat_map}
 use Rattle.std.specs.Option.{option_to_list}
 use Rattle.std.proofs.lemmas.List.{append-nil}
@@ -16,9 +15,8 @@ use Rattle.cell_plan.specs.declared.plan.CellPlan.{CellPlan}
 use Rattle.cell_plan.specs.declared.plan.TrafficPlan.{TrafficPlan}
 use Rattle.cell_plan.specs.declared.traffic_frame.TrafficFrame.{TrafficFrame}
 use Rattle.mobile_core.specs.Moments.{messages_at}
-use Rattle.mobile_core.specs.Signaling.{capsule_with, message_at, message_events, message_heard}
-use Rattle.mobile_core.specs.Signaling.{messages_by, signal_at, signal_in, signal_of}
-use Rattle.mobile_core.specs.Signaling.{signals_before}
+use Rattle.mobile_core.specs.Signaling.{capsule_with, message_at, message_events, message_heard, messages_by, signal_at, signal_in}
+use Rattle.mobile_core.specs.Signaling.{signal_of, signals_before}
 use Rattle.mobile_core.specs.Streams.{is_in_file, known_at, known_now, Stream}
 use Rattle.mobile_core.specs.TrafficStreams.{frames_bound, has_frame}
 use Rattle.mobile_core.specs.Tuning.{Tuning}
@@ -26,17 +24,13 @@ use Rattle.mobile_core.specs.declared.event.Event.{Event}
 use Rattle.mobile_core.specs.declared.legs.Leg.{Leg}
 use Rattle.mobile_core.specs.declared.mark.Mark.{Mark}
 use Rattle.chip_core.specs.declared.assignment.Traffic.{Traffic}
-use Rattle.chip_core.proofs.Ranges.{filter_ext_places, flat_map_ext_filter_places}
-use Rattle.chip_core.proofs.Ranges.{flat_map_ext_places}
+use Rattle.chip_core.proofs.Ranges.{filter_ext_places, flat_map_ext_filter_places, flat_map_ext_places}
 use Rattle.clean_link.specs.HeardFrames.{frame_ends, AreDistinct, IsOnePilot, SendsSetOne}
-use Rattle.clean_link.specs.HeardSignals.{message_told, messages_of_channel, signal_sent}
-use Rattle.clean_link.specs.HeardSignals.{signals_in, signals_received}
-use Rattle.clean_link.specs.TrafficLaws.{HearsTraffic, IsHeardAs, IsUndirected}
-use Rattle.clean_link.specs.TrafficLaws.{SentMessagesComeBack}
+use Rattle.clean_link.specs.HeardSignals.{message_told, messages_of_channel, signal_sent, signals_in, signals_received}
+use Rattle.clean_link.specs.TrafficLaws.{HearsTraffic, IsHeardAs, IsUndirected, SentMessagesComeBack}
 use Rattle.clean_link.proofs.pages.InOrder.{given_in_order}
-use Rattle.clean_link.proofs.traffic.Frames.{bound_enough, by_marks_frames, by_marks_numbers}
-use Rattle.clean_link.proofs.traffic.Frames.{distinct_there, frame_back, frame_there, heard_there}
-use Rattle.clean_link.proofs.traffic.Frames.{known_is}
+use Rattle.clean_link.proofs.traffic.Frames.{bound_enough, by_marks_frames, by_marks_numbers, distinct_there, frame_back, frame_there}
+use Rattle.clean_link.proofs.traffic.Frames.{heard_there, known_is}
 use Rattle.clean_link.proofs.signal.Samples.{length-made}
 use Rattle.clean_link.proofs.traffic.OnePilot.{one_now, one_stream, one_stream_is}
 use Rattle.clean_link.proofs.traffic.Signs.{lawful_traffic}
@@ -98,7 +92,8 @@ module _ (width : Width) (plan : CellPlan) (p : TrafficPlan) (t : Tuning) (traff
       (λ j below.
       ap (λ (s : Stream). is_in_file t.count s j) (one_stream_is t traffic m legs j (one j))))
       ∙ flat_map_ext_filter_places inside
-      (λ j. option_to_list (signal_at t traffic m legs samples j)) (λ j. signals_in plan p (4 * superframes + j)) k (λ j below there. signals_is j there)
+      (λ j. option_to_list (signal_at t traffic m legs samples j)) (λ j. signals_in plan p (4 * superframes + j)) k
+      (λ j below there. signals_is j there)
       ∙ sym
       (by_marks_numbers width plan p t traffic m superframes is latest (signals_in plan p) k)
 

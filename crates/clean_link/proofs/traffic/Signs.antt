@@ -1,7 +1,6 @@
 -- The soft values of the frames of a traffic channel have the signs that were sent.
-use Rattle.std.proofs.Common.{◌≡◌, ℕ, zero, suc, ◌+◌, ◌*◌, ◌%◌, Bool, true, false, List, []}
-use Rattle.std.proofs.Common.{◌∷◌, length, take, drop, refl, sym, ap, ◌∙◌, arith, subst, ℤ}
-use Rattle.std.proofs.Common.{replicate}
+use Rattle.std.proofs.Common.{◌≡◌, ℕ, zero, suc, ◌+◌, ◌*◌, ◌%◌, Bool, true, false, List, [], ◌∷◌, length, take, drop, refl, sym, ap, ◌∙◌}
+use Rattle.std.proofs.Common.{arith, subst, ℤ, replicate}
 use Rattle.std.specs.Prelude.{◌*ℤ◌}
 use Rattle.std.specs.List.{Contains, flat_map}
 use Rattle.std.proofs.lemmas.List.{append-nil}
@@ -12,8 +11,7 @@ use Rattle.long_code.specs.LongCode.{after, traffic_mask}
 use Rattle.conv_code.specs.ConvCode.{code_symbols}
 use Rattle.symbol_path.specs.Scrambling.{scrambling, with_commands}
 use Rattle.symbol_path.specs.SentOrder.{data_shape}
-use Rattle.quality_bits.specs.TrafficWords.{repeats_of}
-use Rattle.quality_bits.specs.TrafficWords.{traffic_word}
+use Rattle.quality_bits.specs.TrafficWords.{repeats_of, traffic_word}
 use Rattle.symbol_path.proofs.Agreement.{length-sent}
 use Rattle.rake_finger.specs.Soft.{softs}
 use Rattle.rake_finger.specs.declared.finger.Finger.{Finger}
@@ -36,23 +34,21 @@ use Rattle.cell_plan.specs.declared.traffic_frame2.TrafficFrame2.{TrafficFrame2}
 use Rattle.mobile_core.specs.Scrambled.{turned, unscrambled}
 use Rattle.mobile_core.specs.Streams.{frame_softs, frame_start, is_in_file, Stream}
 use Rattle.mobile_core.specs.TrafficEvents.{unturned_softs}
-use Rattle.mobile_core.specs.TrafficStreams.{frame_state, replaced_in, stream_of}
-use Rattle.mobile_core.specs.TrafficStreams.{traffic_start, traffic_stream}
+use Rattle.mobile_core.specs.TrafficStreams.{frame_state, replaced_in, stream_of, traffic_start, traffic_stream}
 use Rattle.mobile_core.specs.Tuning.{Tuning, fingers_of}
 use Rattle.mobile_core.specs.declared.legs.Leg.{Leg}
 use Rattle.mobile_core.specs.declared.mark.Mark.{Mark}
 use Rattle.chip_core.specs.declared.assignment.Traffic.{Traffic}
 use Rattle.clean_link.specs.CleanLink.{IsTrueMark, soft_strength}
-use Rattle.clean_link.specs.HeardFrames.{word_symbols, IsAssigned, SendsSymbols, ShowCommands}
-use Rattle.clean_link.specs.HeardFrames.{ShowFrame}
+use Rattle.clean_link.specs.HeardFrames.{word_symbols, IsAssigned, SendsSymbols, ShowCommands, ShowFrame}
 use Rattle.clean_link.specs.Signals.{IsFrameOf, path_finger}
 use Rattle.clean_link.specs.ReceivedLaws.{SetOneSends, SetTwoSends}
 use Rattle.clean_link.specs.TrafficLaws.{HearsTraffic, IsHeardAs, TrafficHaveSentSigns}
 use Rattle.clean_link.proofs.signal.CarriersApart.{traffic_sent}
 use Rattle.clean_link.proofs.signal.ChannelsBack.{channel_signs, strength_some}
 use Rattle.clean_link.proofs.traffic.OnePilot.{one_fingers, one_stream, one_stream_is}
-use Rattle.clean_link.proofs.traffic.Symbols.{length-signed, length-with_commands, length-zipped}
-use Rattle.clean_link.proofs.traffic.Symbols.{shows_commands, shows_symbols, turned_some}
+use Rattle.clean_link.proofs.traffic.Symbols.{length-signed, length-with_commands, length-zipped, shows_commands, shows_symbols}
+use Rattle.clean_link.proofs.traffic.Symbols.{turned_some}
 use Rattle.clean_link.proofs.frames.PagingFrames.{length-scrambling}
 use Rattle.clean_link.proofs.frames.SyncFrames.{fingers_are}
 use Rattle.clean_link.proofs.traffic.Times.{traffic_file_to}

@@ -1,13 +1,11 @@
 -- Where no message directs a handoff, the reference's pilot stays the only active one.
-use Rattle.std.proofs.Common.{◌≡◌, ℕ, zero, suc, ◌+◌, ◌<◌, ◌≤◌, ◌==◌, Bool, true, false, List}
-use Rattle.std.proofs.Common.{[], ◌∷◌, ◌++◌, map, take, refl, sym, ap, ◌∙◌, arith, subst, inl, inr}
-use Rattle.std.proofs.Common.{Option, None, Some, get_or, pos}
+use Rattle.std.proofs.Common.{◌≡◌, ℕ, zero, suc, ◌+◌, ◌<◌, ◌≤◌, ◌==◌, Bool, true, false, List, [], ◌∷◌, ◌++◌, map, take, refl, sym, ap, ◌∙◌}
+use Rattle.std.proofs.Common.{arith, subst, inl, inr, Option, None, Some, get_or, pos}
 use Rattle.std.specs.Prelude.{if◌then◌else◌, All}
 use Rattle.std.specs.List.{flat_map, range_with_len}
 use Rattle.std.proofs.lemmas.Bool.{cases_lt, eq-eqb}
 use Rattle.std.proofs.lemmas.List.{take-take}
-use Rattle.std.proofs.lemmas.List.Elements.{All-append, All-cons, All-head, All-map, All-nil}
-use Rattle.std.proofs.lemmas.List.Elements.{All-same, All-tail}
+use Rattle.std.proofs.lemmas.List.Elements.{All-append, All-cons, All-head, All-map, All-nil, All-same, All-tail}
 use Rattle.chip_core.specs.Bits.{places}
 use Rattle.chip_core.specs.declared.sample.Sample.{Sample}
 use Rattle.paging_message.specs.declared.message.PagingMessage.{PagingMessage}
@@ -15,18 +13,17 @@ use Rattle.paging_message.specs.declared.message.PagingMessage.TheVariants as pa
 use Rattle.traffic_message.specs.declared.body.TrafficBody.{TrafficBody}
 use Rattle.traffic_message.specs.declared.body.TrafficBody.TheVariants as bodies
 use Rattle.pilot_sets.specs.Moments.{active_timed, energy_in}
-use Rattle.pilot_sets.specs.Standing.{Standing, due_at, due_for, new_standing, shown, shown_active}
-use Rattle.pilot_sets.specs.Standing.{stepped, with_neighbors, with_thresholds}
+use Rattle.pilot_sets.specs.Standing.{Standing, due_at, due_for, new_standing, shown, shown_active, stepped, with_neighbors}
+use Rattle.pilot_sets.specs.Standing.{with_thresholds}
 use Rattle.pilot_sets.specs.declared.lists.Active.{Active}
 use Rattle.pilot_sets.specs.declared.standing.Accepted.{Accepted}
 use Rattle.pilot_sets.specs.declared.standing.ActivePilot.{ActivePilot}
 use Rattle.pilot_sets.specs.declared.strengths.Strength.{Strength}
 use Rattle.pilot_sets.specs.declared.thresholds.Thresholds.{Thresholds}
 use Rattle.mobile_core.specs.Legs.{legs_of, leg_of, pilot_finger}
-use Rattle.mobile_core.specs.Moments.{heard_from, kept_to, legs_at, legs_by, messages_at}
-use Rattle.mobile_core.specs.Moments.{moment_of, moment_place, moments_before, passed, told_by}
-use Rattle.mobile_core.specs.Noted.{all_noted, body_noted, in_traffic_thresholds, noted}
-use Rattle.mobile_core.specs.Noted.{noted_with, page_noted, system_thresholds}
+use Rattle.mobile_core.specs.Moments.{heard_from, kept_to, legs_at, legs_by, messages_at, moment_of, moment_place, moments_before, passed}
+use Rattle.mobile_core.specs.Moments.{told_by}
+use Rattle.mobile_core.specs.Noted.{all_noted, body_noted, in_traffic_thresholds, noted, noted_with, page_noted, system_thresholds}
 use Rattle.mobile_core.specs.PagingEvents.{page_event, pages_behind}
 use Rattle.mobile_core.specs.Signaling.{messages_by}
 use Rattle.mobile_core.specs.TrafficEvents.{frame_heard, frames_by}

@@ -1,14 +1,12 @@
 -- The symbols of a traffic frame, place by place: its own, or its power control bits.
-use Rattle.std.proofs.Common.{◌≡◌, ℕ, zero, suc, ◌/◌, ◌<◌, Bool, true, false, List, []}
-use Rattle.std.proofs.Common.{◌∷◌, length, get_or, nat_eq, refl, sym, ap, ◌∙◌, arith, ⊎_elim}
-use Rattle.std.proofs.Common.{◌⊎◌, ℤ, pos}
+use Rattle.std.proofs.Common.{◌≡◌, ℕ, zero, suc, ◌/◌, ◌<◌, Bool, true, false, List, [], ◌∷◌, length, get_or, nat_eq, refl, sym, ap, ◌∙◌}
+use Rattle.std.proofs.Common.{arith, ⊎_elim, ◌⊎◌, ℤ, pos}
 use Rattle.std.specs.Prelude.{◌*ℤ◌}
 use Rattle.std.specs.List.{list_any}
 use Rattle.std.proofs.lemmas.Bool.{cases_order, eq-eqb, ne_eqb}
 use Rattle.chip_core.specs.Bits.{sign, xor, zip_with}
 use Rattle.chip_core.proofs.Places.{get_or-map-places, length-map-places}
-use Rattle.symbol_path.specs.Scrambling.{power_places, symbol_or_command}
-use Rattle.symbol_path.specs.Scrambling.{with_commands}
+use Rattle.symbol_path.specs.Scrambling.{power_places, symbol_or_command, with_commands}
 use Rattle.viterbi.specs.Laws.{signed}
 use Rattle.frame_decoder.specs.Laws.{ShowSymbols}
 use Rattle.frame_decoder.specs.TrafficFrames.{is_replaced}

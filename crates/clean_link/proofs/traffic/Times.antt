@@ -6,8 +6,7 @@ use Rattle.mobile_core.specs.Timing.{IsTimed}
 use Rattle.mobile_core.specs.Tuning.{Tuning, fingers_of, modulo_code}
 use Rattle.mobile_core.specs.declared.mark.Mark.{Mark}
 use Rattle.chip_core.specs.declared.assignment.Traffic.{Traffic}
-use Rattle.clean_link.proofs.frames.Times.{IsAlone, inside_alone, known_at_once, room_alone}
-use Rattle.clean_link.proofs.frames.Times.{timed_alone}
+use Rattle.clean_link.proofs.frames.Times.{IsAlone, inside_alone, known_at_once, room_alone, timed_alone}
 use Rattle.clean_link.proofs.frames.SyncTimes.{one_path}
 use Rattle.clean_link.proofs.traffic.OnePilot.{one_stream}
 

@@ -1,14 +1,12 @@
 -- Where no handoff is directed in a file, the one pilot tells its frames and its messages.
-use Rattle.std.proofs.Common.{◌≡◌, ℕ, ◌+◌, ◌≤◌, List, ◌++◌, length, take, drop, sym, ap, ◌∙◌, arith}
-use Rattle.std.proofs.Common.{subst, Option, Some}
+use Rattle.std.proofs.Common.{◌≡◌, ℕ, ◌+◌, ◌≤◌, List, ◌++◌, length, take, drop, sym, ap, ◌∙◌, arith, subst, Option, Some}
 use Rattle.std.specs.Prelude.{All}
 use Rattle.std.proofs.lemmas.List.Elements.{All-tail}
 use Rattle.std.proofs.lemmas.List.{length-take-le, take-append-drop}
 use Rattle.chip_core.specs.Bits.{places}
 use Rattle.chip_core.specs.declared.sample.Sample.{Sample}
 use Rattle.pilot_sets.specs.Standing.{new_standing}
-use Rattle.mobile_core.specs.Events.{events, events_at, heard_within, message_events_at}
-use Rattle.mobile_core.specs.Events.{frame_events_at, paging_events_at, sets_events_at}
+use Rattle.mobile_core.specs.Events.{events, events_at, heard_within, message_events_at, frame_events_at, paging_events_at, sets_events_at}
 use Rattle.mobile_core.specs.Legs.{legs_of}
 use Rattle.mobile_core.specs.Marks.{mark}
 use Rattle.mobile_core.specs.Moments.{frames_at, legs_at, messages_at, messages_behind}
@@ -30,8 +28,7 @@ use Rattle.clean_link.specs.HeardFrames.{IsOnePilot}
 use Rattle.clean_link.specs.TrafficLaws.{IsUndirected}
 use Rattle.clean_link.proofs.frames.SyncTimes.{one_path}
 use Rattle.clean_link.proofs.traffic.OnePilot.{one_close, same_frames, same_messages}
-use Rattle.clean_link.proofs.traffic.Steady.{each_of_all, first_steady, left_all, right_all}
-use Rattle.clean_link.proofs.traffic.Steady.{steady_pilot}
+use Rattle.clean_link.proofs.traffic.Steady.{each_of_all, first_steady, left_all, right_all, steady_pilot}
 
 -- ---- in a file
 

@@ -1,6 +1,5 @@
 use Rattle.std.proofs.Common.{sym}
-use Rattle.cell_script.proofs.ScriptAnswers.{fault_named, line_named, link_stated, names_lawful}
-use Rattle.cell_script.proofs.ScriptAnswers.{names_plan, names_some, too_big}
+use Rattle.cell_script.proofs.ScriptAnswers.{fault_named, line_named, link_stated, names_lawful, names_plan, names_some, too_big}
 use Rattle.cell_script.proofs.reading.plan_of.Goals as goal
 
 pub returns-then-script-gt-MOST_BYTES-clause-fault :

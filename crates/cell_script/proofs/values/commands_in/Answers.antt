@@ -1,7 +1,6 @@
 use Rattle.std.proofs.Common.{sym, ◌∙◌, arith}
 use Rattle.std.proofs.lemmas.List.{length-set}
-use Rattle.cell_script.proofs.ScriptTexts.{digit_missing, digit_read, digits_read, not_sixteen}
-use Rattle.cell_script.proofs.ScriptTexts.{sixteen}
+use Rattle.cell_script.proofs.ScriptTexts.{digit_missing, digit_read, digits_read, not_sixteen, sixteen}
 use Rattle.cell_script.proofs.values.commands_in.Goals as goal
 
 pub returns-then-text-ne16 : goal.returns-then-text-ne16

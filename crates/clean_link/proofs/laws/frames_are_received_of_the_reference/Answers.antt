@@ -1,5 +1,4 @@
-use Rattle.clean_link.proofs.traffic.Received.{each_frame_received, frames_behind_mark}
-use Rattle.clean_link.proofs.traffic.Received.{frames_show_symbols, set_two_back}
+use Rattle.clean_link.proofs.traffic.Received.{each_frame_received, frames_behind_mark, frames_show_symbols, set_two_back}
 use Rattle.clean_link.proofs.traffic.Received.{set_two_behind_mark}
 use Rattle.clean_link.proofs.traffic.Signs.{set_one_sends, set_two_sends}
 use Rattle.clean_link.proofs.laws.frames_are_received_of_the_reference.Goals as goal

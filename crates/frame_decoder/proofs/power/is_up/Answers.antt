@@ -1,5 +1,4 @@
-use Rattle.std.proofs.Common.{◌<◌, ◌∙◌, ap, sym, Bool, List, ℤ, [], length, get_or, pos}
-use Rattle.std.proofs.Common.{◌&&◌}
+use Rattle.std.proofs.Common.{◌<◌, ◌∙◌, ap, sym, Bool, List, ℤ, [], length, get_or, pos, ◌&&◌}
 use Rattle.std.specs.Prelude.{int_lt}
 use Rattle.std.proofs.lemmas.List.Folds.{list_all_more}
 use Rattle.frame_decoder.proofs.power.is_up.Goals as goal

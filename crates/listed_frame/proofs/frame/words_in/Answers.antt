@@ -1,7 +1,6 @@
 use Rattle.std.proofs.Common.{◌≡◌, length, rules}
 use Rattle.frame_decoder.proofs.Unreplaced.{first_zeros_read}
-use Rattle.listed_frame.proofs.FirstWords.{AreFound, are_found, found_bits, found_scores}
-use Rattle.listed_frame.proofs.FirstWords.{found_words}
+use Rattle.listed_frame.proofs.FirstWords.{AreFound, are_found, found_bits, found_scores, found_words}
 use Rattle.listed_frame.proofs.frame.words_in.Goals as goal
 
 pub gather_into-requires-clause-zeros : goal.gather_into-requires-clause-zeros

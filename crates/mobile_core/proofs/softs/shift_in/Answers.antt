@@ -1,5 +1,5 @@
-use Rattle.std.proofs.Common.{◌≡◌, ◌≤◌, ℕ, [], ◌++◌, ◌-◌, length, take, drop, refl, ap, subst, sym}
-use Rattle.std.proofs.Common.{◌∙◌, arith, length-drop, length-append, length-take}
+use Rattle.std.proofs.Common.{◌≡◌, ◌≤◌, ℕ, [], ◌++◌, ◌-◌, length, take, drop, refl, ap, subst, sym, ◌∙◌, arith, length-drop, length-append}
+use Rattle.std.proofs.Common.{length-take}
 use Rattle.std.proofs.lemmas.List.{take_at, drop_all, append-nil}
 use borrow.Rule.Slice.PartMut.{post_of}
 use Rattle.mobile_core.specs.Softs.{AreSmall}

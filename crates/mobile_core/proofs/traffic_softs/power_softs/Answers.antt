@@ -6,8 +6,7 @@ use Rattle.rake_finger.specs.declared.form.Form.TheVariants.{Data}
 use Rattle.mobile_core.specs.LegSofts.{sums_on}
 use Rattle.mobile_core.specs.Legs.{all_fingers, has_subchannel}
 use Rattle.mobile_core.specs.declared.legs.Leg.{Leg}
-use Rattle.mobile_core.proofs.LegSubsets.{first_subchannels, on_all, on_close, on_few, on_rows}
-use Rattle.mobile_core.proofs.LegSubsets.{on_some, sums_more, sums_none, sums_same}
+use Rattle.mobile_core.proofs.LegSubsets.{first_subchannels, on_all, on_close, on_few, on_rows, on_some, sums_more, sums_none, sums_same}
 use Rattle.mobile_core.proofs.traffic_softs.power_softs.Goals as goal
 use Rattle.mobile_core.proofs.traffic_softs.power_softs.Goals.{then-has_subchannel, else-has_subchannel}
 

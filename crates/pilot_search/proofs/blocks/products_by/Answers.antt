@@ -2,7 +2,8 @@ use Rattle.std.proofs.Common.{◌≡◌, ◌≤◌, ◌+◌, [], ◌∷◌, get_
 use Rattle.short_code.specs.Despread.{IsUnit}
 use Rattle.pilot_search.specs.BySigns.{across}
 use Rattle.pilot_search.proofs.CorrelationSums.{no_sample}
-use Rattle.pilot_search.proofs.LaneLemmas.{no_sign, unit_at, abs_fits, real_product, imaginary_across, across_at, real_bound, imaginary_bound}
+use Rattle.pilot_search.proofs.LaneLemmas.{no_sign, unit_at, abs_fits, real_product, imaginary_across, across_at, real_bound}
+use Rattle.pilot_search.proofs.LaneLemmas.{imaginary_bound}
 use Rattle.pilot_search.proofs.blocks.products_by.Goals as goal
 
 pub returns : goal.returns

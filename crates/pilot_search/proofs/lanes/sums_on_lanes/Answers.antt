@@ -1,4 +1,5 @@
-use Rattle.std.proofs.Common.{◌≡◌, ◌<◌, ◌≤◌, ◌+◌, ◌*◌, ◌/◌, ◌∙◌, ℕ, List, ℤ, refl, sym, ap, subst, arith, length, drop, map, unsigned_abs, to_z, w32}
+use Rattle.std.proofs.Common.{◌≡◌, ◌<◌, ◌≤◌, ◌+◌, ◌*◌, ◌/◌, ◌∙◌, ℕ, List, ℤ, refl, sym, ap, subst, arith, length, drop, map, unsigned_abs}
+use Rattle.std.proofs.Common.{to_z, w32}
 use lib.Lanes.{Each1}
 use Rattle.std.proofs.lemmas.List.{length-map}
 use Rattle.chip_core.specs.Complex.{plus}

@@ -1,4 +1,5 @@
-use Rattle.std.proofs.Common.{◌≡◌, ◌≤◌, ◌<◌, ◌+◌, ◌*◌, ◌^◌, ◌∙◌, List, ℤ, pos, ◌+ℤ◌, arith, ap, sym, subst, length, map, get_or, to_z, of_z, w32, w64, unsigned_abs}
+use Rattle.std.proofs.Common.{◌≡◌, ◌≤◌, ◌<◌, ◌+◌, ◌*◌, ◌^◌, ◌∙◌, List, ℤ, pos, ◌+ℤ◌, arith, ap, sym, subst, length, map, get_or, to_z, of_z}
+use Rattle.std.proofs.Common.{w32, w64, unsigned_abs}
 use Rattle.std.proofs.lemmas.Int.{to_z-of_z, fits_signed_from_abs}
 use Rattle.std.proofs.lemmas.List.{take_all}
 use Rattle.std.proofs.lemmas.Simd.{Each1-get_or}

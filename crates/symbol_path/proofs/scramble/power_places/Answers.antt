@@ -3,7 +3,8 @@ use Rattle.std.proofs.lemmas.List.Elements.{All-from_get_or}
 use Rattle.long_code.specs.LongCode.{after, before}
 use Rattle.symbol_path.specs.Scrambling.{group_scrambling, power_start, power_place}
 use Rattle.symbol_path.proofs.SymbolChips.{before_later, group_first, group_next, power_place_is}
-use Rattle.symbol_path.proofs.PowerPlaces.{ArePairs, pairs_more, pairs_all, pairs_rise, pairs_below, pairs_in_groups, pairs_neighbours, power_place_in_groups}
+use Rattle.symbol_path.proofs.PowerPlaces.{ArePairs, pairs_more, pairs_all, pairs_rise, pairs_below, pairs_in_groups, pairs_neighbours}
+use Rattle.symbol_path.proofs.PowerPlaces.{power_place_in_groups}
 use Rattle.symbol_path.proofs.scramble.power_places.Goals as goal
 
 pub loop-group-init : goal.loop-group-init

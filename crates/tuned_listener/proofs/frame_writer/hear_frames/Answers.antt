@@ -12,8 +12,8 @@ use Rattle.tuned_listener.specs.FrameWriting.{HoldsFrames, text_of}
 use Rattle.tuned_listener.specs.Slots.{slot_behind, slot_more}
 use Rattle.tuned_listener.specs.TunedTexts.{frame_text}
 use Rattle.tuned_listener.specs.declared.tuned_text.TunedText.{TunedText}
-use Rattle.tuned_listener.proofs.TunedFrames.{frame_cut, frame_kept, frame_written, none_kept}
-use Rattle.tuned_listener.proofs.TunedFrames.{none_written, writes_all, writes_more, writes_part}
+use Rattle.tuned_listener.proofs.TunedFrames.{frame_cut, frame_kept, frame_written, none_kept, none_written, writes_all, writes_more}
+use Rattle.tuned_listener.proofs.TunedFrames.{writes_part}
 use Rattle.tuned_listener.proofs.frame_writer.hear_frames.Goals as goal
 
 pub loop-taken-preserved-in-Continue-1 : goal.loop-taken-preserved-in-Continue-1

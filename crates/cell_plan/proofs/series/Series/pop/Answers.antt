@@ -1,5 +1,4 @@
-use Rattle.std.proofs.Common.{◌≡◌, ℕ, ◌+◌, ◌++◌, List, [], ◌∷◌, length, refl, sym, ◌∙◌, arith}
-use Rattle.std.proofs.Common.{Option, None, Some}
+use Rattle.std.proofs.Common.{◌≡◌, ℕ, ◌+◌, ◌++◌, List, [], ◌∷◌, length, refl, sym, ◌∙◌, arith, Option, None, Some}
 use Rattle.std.specs.Prelude.{MatchOption, option_to_list}
 use Rattle.cell_plan.proofs.series.Series.pop.Goals as goal
 

@@ -1,5 +1,4 @@
-use Rattle.std.proofs.Common.{ℕ, ◌≡◌, ◌-◌, ◌++◌, arith, inl, inr, length, take, length-take, subst, sym, ◌∙◌}
-use Rattle.std.proofs.Common.{append-nil}
+use Rattle.std.proofs.Common.{ℕ, ◌≡◌, ◌-◌, ◌++◌, arith, inl, inr, length, take, length-take, subst, sym, ◌∙◌, append-nil}
 use Rattle.std.proofs.lemmas.List.{take_all}
 use Rattle.mobile_core.specs.Clocks.{IsDueAt}
 use Rattle.mobile_core.specs.Near.{AreNear}

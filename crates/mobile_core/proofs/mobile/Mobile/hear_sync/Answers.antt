@@ -1,5 +1,4 @@
-use Rattle.std.proofs.Common.{◌≡◌, ◌∙◌, ap, arith, length, subst, sym, append-nil}
-use Rattle.std.proofs.Common.{Option}
+use Rattle.std.proofs.Common.{◌≡◌, ◌∙◌, ap, arith, length, subst, sym, append-nil, Option}
 use Rattle.mobile_core.specs.FollowedChannels.{HearsFollowed, followed_events_left}
 use Rattle.mobile_core.specs.PagingMonitoring.{SetsMark}
 use Rattle.mobile_core.specs.declared.frame_clock.FrameClock.{FrameClock}

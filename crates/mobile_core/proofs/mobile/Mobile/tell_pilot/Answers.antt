@@ -1,5 +1,4 @@
-use Rattle.std.proofs.Common.{◌≡◌, ◌∙◌, ◌+◌, ◌++◌, ◌∷◌, [], Option, Some, None, ap, arith, append-nil}
-use Rattle.std.proofs.Common.{length, subst, sym}
+use Rattle.std.proofs.Common.{◌≡◌, ◌∙◌, ◌+◌, ◌++◌, ◌∷◌, [], Option, Some, None, ap, arith, append-nil, length, subst, sym}
 use Rattle.pilot_search.specs.declared.sweeping.Best.{Best}
 use Rattle.mobile_core.specs.Given.{at_of}
 use Rattle.mobile_core.specs.Left.{pilot_left}

@@ -1,5 +1,4 @@
-use Rattle.std.proofs.Common.{◌++◌, ◌∷◌, [], ◌∙◌, sym, ap, arith, length, length-append, map, take, subst, List}
-use Rattle.std.proofs.Common.{slice_get, ◌≤◌, ◌<◌, All}
+use Rattle.std.proofs.Common.{◌++◌, ◌∷◌, [], ◌∙◌, sym, ap, arith, length, length-append, map, take, subst, List, slice_get, ◌≤◌, ◌<◌, All}
 use Rattle.mobile_core.specs.Close.{legs_close, legs_rows, places_in}
 use Rattle.std.proofs.lemmas.List.{map-append, take_all}
 use Rattle.pilot_sets.specs.declared.lists.Active.{Active}

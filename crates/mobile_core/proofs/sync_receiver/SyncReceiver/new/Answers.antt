@@ -1,5 +1,4 @@
-use Rattle.std.proofs.Common.{◌≡◌, ℕ, ◌+◌, ◌-◌, ◌*◌, ◌%◌, ◌∙◌, sym, ap, subst, refl}
-use Rattle.std.proofs.Common.{true, arith}
+use Rattle.std.proofs.Common.{◌≡◌, ℕ, ◌+◌, ◌-◌, ◌*◌, ◌%◌, ◌∙◌, sym, ap, subst, refl, true, arith}
 use Rattle.rake_finger.specs.Soft.{frame_chips}
 use Rattle.rake_finger.specs.declared.form.Form.TheVariants.{Sync}
 use Rattle.mobile_core.specs.Clocks.{clock_from, first_frame}

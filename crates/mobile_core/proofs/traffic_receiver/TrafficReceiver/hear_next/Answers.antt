@@ -1,5 +1,4 @@
-use Rattle.std.proofs.Common.{◌≡◌, ◌∙◌, ◌++◌, List, ap, arith, inl, inr, rules, sym, ℕ, ◌+◌}
-use Rattle.std.proofs.Common.{Bool, true}
+use Rattle.std.proofs.Common.{◌≡◌, ◌∙◌, ◌++◌, List, ap, arith, inl, inr, rules, sym, ℕ, ◌+◌, Bool, true}
 use Rattle.std.specs.Prelude.{if◌then◌else◌}
 use Rattle.mobile_core.specs.Moments.{kept_to, moment_place}
 use Rattle.mobile_core.specs.SetsKeeping.{coming_place}

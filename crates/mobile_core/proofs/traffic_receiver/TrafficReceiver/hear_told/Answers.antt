@@ -3,8 +3,7 @@ use Rattle.mobile_core.specs.Signaling.{message_events}
 use Rattle.mobile_core.specs.TrafficEvents.{frame_event}
 use Rattle.mobile_core.specs.TrafficReceiving.{kept_by}
 use Rattle.mobile_core.proofs.FramesHeard.{kept_most}
-use Rattle.mobile_core.proofs.FramesTold.{hears_given, hears_heard, left_given, told_come}
-use Rattle.mobile_core.proofs.FramesTold.{told_here}
+use Rattle.mobile_core.proofs.FramesTold.{hears_given, hears_heard, left_given, told_come, told_here}
 use Rattle.mobile_core.proofs.SoundFrames.{sound_given, sound_heard}
 use Rattle.mobile_core.proofs.traffic_receiver.TrafficReceiver.hear_told.Goals as goal
 

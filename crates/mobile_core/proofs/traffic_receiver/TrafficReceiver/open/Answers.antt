@@ -1,5 +1,4 @@
-use Rattle.std.proofs.Common.{◌≡◌, ◌∙◌, ℕ, ℤ, List, true, ap, sym, subst, arith}
-use Rattle.std.proofs.Common.{take, length-take, [], pos}
+use Rattle.std.proofs.Common.{◌≡◌, ◌∙◌, ℕ, ℤ, List, true, ap, sym, subst, arith, take, length-take, [], pos}
 use Rattle.pilot_sets.specs.Standing.{new_standing}
 use Rattle.mobile_core.specs.Close.{AreClose, all_close}
 use Rattle.mobile_core.specs.Legs.{all_fingers, legs_of}
@@ -8,8 +7,7 @@ use Rattle.mobile_core.specs.declared.legs.Leg.{Leg}
 use Rattle.mobile_core.specs.declared.sets_keeper.SetsKeeper.{SetsKeeper}
 use Rattle.mobile_core.specs.declared.traffic_receiver.TrafficReceiver.{TrafficReceiver}
 use Rattle.mobile_core.specs.SetsKeeping.{coming_place}
-use Rattle.mobile_core.proofs.FramesOpened.{ends_same, first_paths, hears_new, hears_opened, opened_is}
-use Rattle.mobile_core.proofs.FramesOpened.{paths_some, zeros_few}
+use Rattle.mobile_core.proofs.FramesOpened.{ends_same, first_paths, hears_new, hears_opened, opened_is, paths_some, zeros_few}
 use Rattle.mobile_core.proofs.SoundFrames.{waits_tuned}
 use Rattle.mobile_core.proofs.traffic_receiver.TrafficReceiver.open.Goals as goal
 

@@ -1,5 +1,4 @@
-use Rattle.std.proofs.Common.{◌≡◌, ◌∙◌, ℕ, ◌-◌, ◌++◌, ◌∷◌, []}
-use Rattle.std.proofs.Common.{append-nil, ap, arith, length, length-take, refl, subst, sym, take}
+use Rattle.std.proofs.Common.{◌≡◌, ◌∙◌, ℕ, ◌-◌, ◌++◌, ◌∷◌, [], append-nil, ap, arith, length, length-take, refl, subst, sym, take}
 use Rattle.std.proofs.lemmas.List.{take_all}
 use Rattle.mobile_core.specs.FrameReceiving.{HasGiven}
 use Rattle.mobile_core.specs.SoftFrames.{soft_frames}

@@ -1,8 +1,6 @@
-use Rattle.std.proofs.Common.{◌≡◌, ◌+◌, ◌%◌, ◌==◌, ◌++◌, ◌∷◌, [], length, sym, ap, ◌∙◌, arith}
-use Rattle.std.proofs.Common.{List, Bool, ℕ}
+use Rattle.std.proofs.Common.{◌≡◌, ◌+◌, ◌%◌, ◌==◌, ◌++◌, ◌∷◌, [], length, sym, ap, ◌∙◌, arith, List, Bool, ℕ}
 use Rattle.trial_link.specs.Trial.{behind_draw, behind_draws, bits_drawn, drawn}
-use Rattle.trial_link.proofs.TrialDraws.{bits_more, draws_more, length-bits_drawn, no_bits_drawn}
-use Rattle.trial_link.proofs.TrialDraws.{no_draws}
+use Rattle.trial_link.proofs.TrialDraws.{bits_more, draws_more, length-bits_drawn, no_bits_drawn, no_draws}
 use Rattle.trial_link.proofs.trial.Draws.bits.Goals as goal
 
 pub loop-bit-init : goal.loop-bit-init

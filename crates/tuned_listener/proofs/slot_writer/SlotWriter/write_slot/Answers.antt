@@ -1,5 +1,4 @@
-use Rattle.std.proofs.Common.{◌≡◌, true, length, rules, arith, sym, subst, Some, None}
-use Rattle.std.proofs.Common.{nat_lt}
+use Rattle.std.proofs.Common.{◌≡◌, true, length, rules, arith, sym, subst, Some, None, nat_lt}
 use Rattle.std.specs.Prelude.{if◌then◌else◌}
 use Rattle.std.specs.Io.KnownBytes.{Appends}
 use Rattle.cdma_io.specs.Outside.{AppendsPrefix}
