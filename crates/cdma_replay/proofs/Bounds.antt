@@ -14,6 +14,9 @@ use Rattle.cdma_io.specs.declared.header.Header.{Header}
 use Rattle.cdma_io.proofs.Opening.{length-header_spelling}
 use Rattle.cdma_io.proofs.Spelling.{length-samples, sample_len-mono}
 use Rattle.cdma_replay.specs.Find.{PassesSamples, TakesNoMore, file_end, most_taken}
+use Rattle.cdma_replay.specs.Replies.{TaskTakesNoMore}
+use Rattle.cdma_replay.specs.declared.task.Task.{Task}
+use Rattle.cdma_replay.specs.declared.task.Task.TheVariants.{Make, Receive, Trial}
 
 -- ---- bounds
 
@@ -140,3 +143,8 @@ passed_most {width} {count} rest mid left p part fits =
     both_most rest mid left first part fits
 
 -- ---- a task that has read nothing
+
+pub unread_most : (task : Task) (rest : Option (List ℕ)) → TaskTakesNoMore task rest rest
+unread_most (Receive r limits) rest = opening_most rest rest (none_most 16 rest)
+unread_most (Make width) rest = none_most 1048577 rest
+unread_most (Trial number workers) rest = none_most 0 rest

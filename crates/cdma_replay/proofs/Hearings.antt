@@ -2,7 +2,7 @@
 use Rattle.std.proofs.Common.{◌≡◌, ℕ, zero, suc, ◌+◌, ◌-◌, ◌≤◌, ◌++◌, ◌∷◌, [], List, length, take}
 use Rattle.std.proofs.Common.{drop, refl, sym, ap, ◌∙◌, subst, arith, append_assoc, append-nil}
 use Rattle.std.proofs.Common.{length-append, true, ℤ, pos, replicate, Option, None, Some}
-use Rattle.std.proofs.Common.{Result, Ok, Err, IfOk, OnOk}
+use Rattle.std.proofs.Common.{Result, Ok, Err, IfOk, OnErr, OnOk}
 use Rattle.std.proofs.lemmas.List.{length-replicate, take_all, take_at, take-append-drop}
 use Rattle.std.proofs.lemmas.List.Concat.{flat_map-append}
 use Rattle.std.specs.List.{flat_map, range_with_len}
@@ -16,6 +16,10 @@ use Rattle.chip_core.specs.declared.sample.Sample.{Sample}
 use Rattle.cdma_io.specs.Outside.{AppendsPrefix}
 use Rattle.mobile_core.specs.Events.{events, events_at, heard_within}
 use Rattle.mobile_core.specs.Given.{listed}
+use Rattle.std.specs.Option.{ForSome}
+use Rattle.chip_core.specs.declared.assignment.Traffic.{Traffic}
+use Rattle.cdma_words.specs.Words.{IsLawfulTraffic}
+use Rattle.mobile_core.specs.TrafficMonitoring.{IsSoundAssignment}
 use Rattle.mobile_core.specs.Near.{AreNear, low_of}
 use Rattle.mobile_core.specs.Standing.{IsStep, StandsFor, events_left, has_room, parts}
 use Rattle.mobile_core.specs.Timing.{IsTimed}
@@ -541,6 +545,16 @@ fresh_given settings header first receiver best near mobile found count check30 
     subst (λ (t : Tuning). StandsFor t mobile [] [])
     (tuned_alike header first receiver settings best near found count check30 check16 paging traffic
     near_is.0 most long near_is.1) stands
+
+-- the traffic channel of lawful words is one that a base station may assign
+pub sound_assignment : (paging : ℕ) (traffic : Option Traffic) → IsLawfulTraffic paging traffic →
+    ForSome traffic IsSoundAssignment
+sound_assignment paging None lawful = λ (t : Traffic) (is : None ≡ Some t). absurd (cc)
+sound_assignment paging (Some channel) lawful =
+    λ (t : Traffic) (is : Some channel ≡ Some t).
+    let same : channel ≡ t = cc in
+    subst IsSoundAssignment same
+    (record { row = omega (arith, lawful.0.most); offset = lawful.0.offset })
 
 -- ---- what follows where a call went well, or failed
 

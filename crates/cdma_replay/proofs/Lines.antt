@@ -24,11 +24,13 @@ use Rattle.event_tap.specs.Taps.{KeptTap}
 use Rattle.pilot_survey.specs.declared.rank.Rank.{Rank}
 use Rattle.tuned_listener.proofs.Prefixes.{begins_more, prefix_of}
 use Rattle.tuned_listener.proofs.Prefixes.{taken_begins}
+use Rattle.tuned_listener.specs.declared.tuned_text.TunedText.{TunedText}
 use Rattle.cdma_replay.specs.declared.handset.Receiver.{Receiver}
 use Rattle.cdma_replay.specs.declared.listener.Listener.{Listener}
 use Rattle.cdma_replay.specs.declared.listener.Listener.TheVariants as by
 use Rattle.cdma_replay.specs.declared.opening.Shown.{Shown}
 use Rattle.cdma_replay.specs.declared.opening.Shown.TheVariants.{Followed, Found, Ranks}
+use Rattle.cdma_replay.specs.declared.opening.Shown.TheVariants.{TunedTo}
 use Rattle.cdma_replay.specs.declared.purpose.Purpose.{Purpose}
 use Rattle.cdma_replay.specs.declared.purpose.Purpose.TheVariants.{Find, Follow, Survey}
 use Rattle.cdma_replay.specs.declared.purpose.Purpose.TheVariants.{Tuned}
@@ -41,6 +43,7 @@ use Rattle.cdma_replay.specs.Hearing.{Nobody, Tells}
 use Rattle.cdma_replay.specs.Hearing.{TellsMore, TellsPart, best_pilot, end_when, file_end_of}
 use Rattle.cdma_replay.specs.Hearing.{file_text, first_text, is_told, listening, told}
 use Rattle.cdma_replay.specs.Openings.{IsBest, Shows, listening_in, shown_text}
+use Rattle.mobile_core.specs.declared.channel.Channel.{Channel}
 use Rattle.pilot_search.specs.declared.sweeping.Best.{Best}
 use Rattle.pilot_survey.specs.Survey.{ranking}
 use Rattle.cdma_replay.specs.Ranks.{ranks_text, survey_text}
@@ -68,6 +71,14 @@ found_shows {first} {best} is = record {
 pub followed_shows : {first : List Sample} {best : Best} (receiver : Receiver) →
     Shows (Follow receiver) first (Followed best receiver)
 followed_shows receiver = record {
+  text = refl;
+  hears = λ (taps : List KeptTap) (header : Header). refl;
+}
+
+pub tuned_shows : {first : List Sample} {best : Best} (fingers : ℕ) (channel : Channel)
+    (text : TunedText) →
+    Shows (Tuned fingers channel text) first (TunedTo best fingers channel text)
+tuned_shows fingers channel text = record {
   text = refl;
   hears = λ (taps : List KeptTap) (header : Header). refl;
 }

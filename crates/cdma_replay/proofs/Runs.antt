@@ -2,7 +2,7 @@
 use Rattle.std.proofs.Common.{◌≡◌, ◌↔◌, ℕ, ◌≤◌, ◌++◌, ◌⊎◌, inl, inr, List, [], ◌∷◌, refl, sym, ap}
 use Rattle.std.proofs.Common.{◌∙◌, subst, arith, map, Option, None, Some, IfSome, Result, Ok, Err, OnOk, OnErr}
 use Rattle.std.specs.Io.KnownBytes.{Keeps}
-use Rattle.std.proofs.KnownBytes.{Appends-kept, Keeps-trans}
+use Rattle.std.proofs.KnownBytes.{Appends-kept, Appends-nil, Keeps-refl, Keeps-trans}
 use Rattle.cdma_io.specs.Outside.{Rose}
 use Rattle.cdma_words.specs.declared.job.Job.{Job}
 use Rattle.cdma_replay.specs.declared.purpose.Purpose.{Purpose}
@@ -99,6 +99,25 @@ by_name : (named : Option Job) (P : Type 0) → (named ≡ None → P) →
     ((job : Job) → named ≡ Some job → P) → P
 by_name None P none some = none refl
 by_name (Some job) P none some = some job refl
+
+-- nothing moved, for want of memory
+pub starved_run : (forms : List ℕ) (named : Option Job) (rest old : Option (List ℕ))
+    (Misread Miswritten : Type 0) →
+    IsRun forms named rest rest old old Misread Miswritten Status.NoMemory
+starved_run forms named rest old Misread Miswritten = record {
+  bad_words = λ is. absurd (cc);
+  unnamed = λ none. inr refl;
+  exact = λ job bytes held reply is was told owed reads writes. inl refl;
+  complete = λ job is well writes. inl refl;
+  kind = λ job is. no_memory_end (task_of job);
+  verdict = λ job is verdict. absurd verdict;
+  read_fault = λ is. absurd (cc);
+  write_fault = λ is. absurd (cc);
+  memory = λ is. Keeps-refl old;
+  at_end = λ job is reads end. absurd end;
+  written = λ job is. record { text = []; written = Appends-nil old; part = inl refl };
+  bound = λ job is. none_taken (task_of job) rest;
+}
 
 neither : (status : Status) → IsEnd status →
     ¬ ((status ≡ Status.BadWords) ⊎ (status ≡ Status.NoMemory))

@@ -1,17 +1,18 @@
 -- A channel's level stays the same over the 64 chips of a block.
 use Rattle.std.proofs.Common.{◌≡◌, ℕ, ◌+◌, ◌-◌, ◌*◌, ◌/◌, ◌%◌, ◌<◌, ◌≤◌, ◌^◌, Bool, true, false}
 use Rattle.std.proofs.Common.{List, refl, sym, ap, ◌∙◌, arith, Some, nat_lt, get_or}
-use Rattle.std.proofs.Common.{pos}
+use Rattle.std.proofs.Common.{ℤ, pos, ◌*ℤ◌}
 use Rattle.std.proofs.Math.Nat.{mod-lt}
 use Rattle.std.proofs.lemmas.Bool as bools
 use Rattle.std.proofs.lemmas.Nat.{div-mul-add, mod-mul-add, div-add-mod'}
+use Rattle.chip_core.specs.Bits.{sign}
 use Rattle.cell_samples.specs.declared.frame_source.FrameSource.TheVariants.{Sync, Paging}
 use Rattle.cell_samples.specs.declared.symbol_source.SymbolSource.{SymbolSource}
 use Rattle.cell_samples.specs.declared.symbol_source.SymbolSource.TheVariants.{Pilot, Continued}
 use Rattle.cell_samples.specs.declared.symbol_source.SymbolSource.TheVariants.{Traffic}
 use Rattle.cell_samples.specs.Channels.{ChannelState, carrier_of, form_of, symbols_of}
 use Rattle.cell_samples.specs.Continued.{symbol_count}
-use Rattle.cell_plan.specs.Signal.{level, symbol_at}
+use Rattle.cell_plan.specs.Signal.{level, level_of, symbol_at}
 
 -- ---- places in blocks
 
@@ -86,6 +87,11 @@ symbol_kept (Traffic cycle) first chip k whole begins low =
     kept (nat_lt chip first) first 384 1 chip k (symbols_of (Traffic cycle)) refl whole begins
     (omega arith) (omega arith) low
 
+pub level_kept : (c : ChannelState) (chip k : ℕ) → chip % 64 ≡ 0 → c.first % 64 ≡ 0 → k < 64 →
+    level (chip + k) (carrier_of c) ≡ level chip (carrier_of c)
+level_kept c chip k whole begins low =
+    ap (level_of c.gain) (symbol_kept c.source c.first chip k whole begins low)
+
 -- ---- the place of a chip in its frame
 
 -- what is known of a place so many chips behind a channel's first one
@@ -127,6 +133,34 @@ placed (Traffic cycle) chips soon = record {
   few = omega arith;
 }
 
+-- the first frame begins in time
+pub first_early : (source : SymbolSource) → 0 * (form_of source).frame_chips < 2 ^ 34
+first_early source = omega arith
+
 -- before the first frame there is no level
 pub none_before : (c : ChannelState) (chip : ℕ) → chip < c.first → level chip (carrier_of c) ≡ pos 0
 none_before c chip before = rw (bools.lt-ltb chip c.first before) refl
+
+-- and then that of the symbol
+pub level_behind : (c : ChannelState) (chip frame place : ℕ) (symbol : Bool) (l : ℤ) →
+    c.first ≤ chip →
+    frame ≡ (chip - c.first) / (form_of c.source).frame_chips →
+    place ≡ (chip - c.first) % (form_of c.source).frame_chips / (form_of c.source).symbol_chips →
+    symbol ≡ get_or (symbols_of c.source frame) place false → l ≡ pos c.gain *ℤ sign symbol →
+    level chip (carrier_of c) ≡ l
+level_behind c chip frame place symbol l past frame_is place_is symbol_is level_is =
+    let symbols = symbols_of c.source in
+    let here : level chip (carrier_of c)
+    ≡ pos c.gain *ℤ sign
+    (behind (form_of c.source).frame_chips (form_of c.source).symbol_chips symbols
+    (chip - c.first)) =
+    rw (bools.le-ltb chip c.first past) refl in
+    here
+    ∙ ap (λ (f : ℕ).
+    pos c.gain *ℤ sign
+    (get_or (symbols f)
+    ((chip - c.first) % (form_of c.source).frame_chips / (form_of c.source).symbol_chips) false))
+    (sym frame_is)
+    ∙ ap (λ (p : ℕ). pos c.gain *ℤ sign (get_or (symbols frame) p false)) (sym place_is)
+    ∙ ap (λ (b : Bool). pos c.gain *ℤ sign b) (sym symbol_is)
+    ∙ sym level_is

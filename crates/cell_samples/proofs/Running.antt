@@ -1,6 +1,6 @@
 -- A cell that runs: its channels, its blocks, and the sample that is next.
-use Rattle.std.proofs.Common.{◌≡◌, ℕ, ◌+◌, ◌-◌, ◌*◌, ◌%◌, ◌<◌, ◌≤◌}
-use Rattle.std.proofs.Common.{List, sym, ap, ◌∙◌, arith, ℤ}
+use Rattle.std.proofs.Common.{◌≡◌, ◌≢◌, ℕ, ◌+◌, ◌-◌, ◌*◌, ◌/◌, ◌%◌, ◌<◌, ◌≤◌}
+use Rattle.std.proofs.Common.{List, [], ◌∷◌, refl, sym, ap, ◌∙◌, arith, ℤ, ◌+ℤ◌, ◌*ℤ◌}
 use Rattle.std.proofs.Common.{◌++◌, length, map, get_or}
 use Rattle.std.proofs.lemmas.List.{length-map}
 use Rattle.chip_core.specs.Complex.{origin, times, of_sample}
@@ -28,6 +28,14 @@ pub chip_in : (plan : CellPlan) (chip : ℕ) (block : List Pair) → IsBlock pla
 chip_in plan chip block is =
     is (chip % 64) (omega arith)
     ∙ ap (λ (n : ℕ). scaled (amplitudes n (carriers plan)) plan.link.factor) (own_place chip)
+
+-- a block serves all of its chips
+pub block_kept : (plan : CellPlan) (chip : ℕ) (block : List Pair) → chip % 64 + 1 ≢ 64 →
+    IsBlock plan chip block → IsBlock plan (chip + 1) block
+block_kept plan chip block other is k below =
+    let same : chip + 1 - (chip + 1) % 64 ≡ chip - chip % 64 = omega (arith, other) in
+    is k below ∙ ap (λ (n : ℕ). scaled (amplitudes (n + k) (carriers plan)) plan.link.factor)
+    (sym same)
 
 -- the block from a chip on
 pub block_at : (plan : CellPlan) (first chip : ℕ) (channels : List Carrier) (block : List Pair) →

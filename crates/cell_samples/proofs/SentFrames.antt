@@ -1,5 +1,5 @@
 -- The frames of channels whose encoder goes on from one to the next.
-use Rattle.std.proofs.Common.{◌≡◌, ℕ, ◌*◌, ◌≤◌, Bool, List}
+use Rattle.std.proofs.Common.{◌≡◌, ℕ, ◌+◌, ◌-◌, ◌*◌, ◌≤◌, Bool, List, ◌++◌}
 use Rattle.std.proofs.Common.{refl, ap, ◌∙◌, arith}
 use Rattle.symbol_path.specs.SentOrder.{data_shape, sent, shape_of, size}
 use Rattle.quality_bits.specs.TrafficWords.{repeats_of}
@@ -33,6 +33,10 @@ filled_by rates.R1200 = refl
 pub eight_bits : (source : FrameSource) → 8 ≤ continued.frame_size source
 eight_bits (Sync sent) = omega arith
 eight_bits (Paging cycle) = eight_of cycle.rate
+
+pub few_bits : (source : FrameSource) → continued.frame_size source ≤ 192
+few_bits (Sync sent) = omega arith
+few_bits (Paging cycle) = few_of cycle.rate
 
 -- the code symbols of a frame fill it, each sent so often
 pub fills : (source : FrameSource) →

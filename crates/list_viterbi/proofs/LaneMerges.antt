@@ -48,6 +48,10 @@ weights_of_pairs : (e o : Heads) → HeadsLong (four_choices (pairs e) (pairs o)
 unfolding four_choices
 weights_of_pairs e o = record { first = refl; second = refl; third = refl; fourth = refl }
 
+pub weights_long : (e o : Heads) → HeadsLong e → HeadsLong o → HeadsLong (four_choices e o)
+weights_long e o p q =
+    by_pairs (λ x y. HeadsLong (four_choices x y)) e o p q (weights_of_pairs e o)
+
 scores_of_long : (e o : Heads) → HeadsLong (four_scores (pairs e) (pairs o))
 unfolding four_scores
 scores_of_long e o = record { first = refl; second = refl; third = refl; fourth = refl }
