@@ -1,9 +1,12 @@
 //! Tests of messages and of pilot sets by what their crates make public, of what no clause says: the
-//! printed texts, and the names of fields. What a message's bits are, clauses and worked values say.
+//! printed texts, the names of fields, and that a message of its own is read and written by a layout
+//! alone. What a message's bits are, clauses and worked values say.
 //!
 //! They stand apart from the crates, so that each of those is proved once.
 #![tactic(auto)]
 
+#[cfg(test)]
+mod message_layout_tests;
 #[cfg(test)]
 mod paging_message_tests;
 #[cfg(test)]
