@@ -121,7 +121,7 @@ fn append_record(body: &mut Bits, fields: &[FieldRow], columns: &[Numbers; 3], i
     requires fit { FieldsFit (in_widths (map (λ row. row.1) fields.now) (record_at i columns.now)) }
     requires room { length body.old
         + length (spelled (in_widths (map (λ row. row.1) fields.now)
-            (record_at i columns.now))) ≤ 1184 }
+        (record_at i columns.now))) ≤ 1184 }
     ensures { body.new ≡ body.old
         ++ spelled (in_widths (map (λ row. row.1) fields.now) (record_at i columns.now)) }
 {

@@ -124,7 +124,11 @@ turned_by_none = refl
 -- a mark of that file, at 28 frames of 20 ms
 paged : ℕ → Mark
 paged prat = record {
-  sample = 688128; time = 1007; state = 0x102a1d2e508; pilot = 511; prat = prat
+  sample = 688128;
+  time = 1007;
+  state = 0x102a1d2e508;
+  pilot = 511;
+  prat = prat;
 }
 
 -- the frame at the mark is known when the one behind it has ended, two frames behind the mark

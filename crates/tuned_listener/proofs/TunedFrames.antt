@@ -169,7 +169,6 @@ kept_with t channel m heard shown =
     slot_behind (kept_of t channel m heard) (option_to_list shown)
 
 module _ (t : Tuning) (channel : Channel) (m : Mark) (form : TunedText) where
-
   module _ (heard : List Sample) (shown : Option SoftFrame) where
     -- the text of what a step gives
     pub frame_written : (frame : SoftFrame) (old new : Option (List ℕ)) → shown ≡ Some frame →

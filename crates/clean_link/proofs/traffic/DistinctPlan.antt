@@ -362,8 +362,7 @@ told_fills = refl
 
 told_lawful : IsSyncMessage told_message
 told_lawful = record {
-  fits = (omega arith, (omega arith, (omega arith, (omega arith, (omega arith, (omega arith, (omega arith, (omega arith,
-      (omega arith, (omega arith, (omega arith, (omega arith, tt))))))))))));
+  fits = (omega arith, (omega arith, (omega arith, (omega arith, (omega arith, (omega arith, (omega arith, (omega arith, (omega arith, (omega arith, (omega arith, (omega arith, tt))))))))))));
   rest = refl;
   fills = record {
     whole = told_fills;
