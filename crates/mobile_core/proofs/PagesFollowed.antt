@@ -8,7 +8,7 @@ use Rattle.std.proofs.lemmas.List.{map-append}
 use Rattle.chip_core.specs.declared.sample.Sample.{Sample}
 use Rattle.mobile_core.specs.Clocks.{IsDueAt}
 use Rattle.mobile_core.specs.PagingEvents.{page_event, pages_behind}
-use Rattle.mobile_core.specs.PagingMonitoring.{HearsBehind, HearsPages, IsReceiverDue, SetsMark, WaitsFrom, due_by, heard_by, is_paged}
+use Rattle.mobile_core.specs.PagingMonitoring.{HearsBehind, HearsPages, IsReceiverDue, WaitsFrom, due_by, heard_by, is_paged}
 use Rattle.mobile_core.specs.PagingMonitoring.{paging_events_left}
 use Rattle.mobile_core.specs.PagingReceiving.{HearsBit, HearsPaging, IsSoundPaging, bits_heard, pages_left}
 use Rattle.mobile_core.specs.Tuning.{Tuning}
@@ -96,9 +96,6 @@ module _ (t : Tuning) (mark : Option Mark) (heard : List Sample) where
       }
 
 -- WHERE A MARK IS SET
-module _ (t : Tuning) (heard : List Sample) (before after : Option Mark)
-    (sets : SetsMark (length heard) before after) where
-
 -- a receiver that is open now has heard nothing
 module _ (t : Tuning) (heard : List Sample) (m : Mark) where
   pub opened_behind : (opened : Option PagingReceiver) → is_some opened ≡ nat_lt m.prat 2 →
