@@ -1,6 +1,7 @@
+mod Forms
 mod PartTexts
 mod PagingTexts
 mod TrafficTexts
 pub mod Runs
-mod TapLists
+pub mod TapLists
 pub mod Texts

@@ -1,7 +1,8 @@
 -- Lemmas on the lines of paging messages: the texts and the lengths of lists, and a line's parts.
-use Rattle.std.proofs.Common.{◌≡◌, ℕ, zero, suc, ◌+◌, ◌^◌, ◌<◌, ◌≤◌, All, refl, ap, ◌∙◌}
-use Rattle.std.proofs.Common.{List, [], ◌∷◌, ◌++◌, length, get_or, take, codes, decimal}
+use Rattle.std.proofs.Common.{◌≡◌, ℕ, zero, suc, ◌^◌, ◌<◌, ◌≤◌, All, Some, refl, ap, ◌∙◌}
+use Rattle.std.proofs.Common.{List, [], ◌∷◌, ◌++◌, length, get_or, slice_get, codes, decimal}
 use Rattle.std.proofs.Common.{arith}
+use Rattle.std.proofs.lemmas.Option.{get_or_from_slice_get, slice_get_within}
 use Rattle.paging_message.specs.Channels.{channel_fields, IsChannelList}
 use Rattle.paging_message.specs.Neighbors.{neighbor_fields, IsNeighborList}
 use Rattle.paging_message.specs.System.{system_values}
@@ -10,34 +11,50 @@ use Rattle.paging_message.specs.declared.fields.ChannelFields.{ChannelFields}
 use Rattle.paging_message.specs.declared.fields.NeighborFields.{NeighborFields}
 use Rattle.paging_message.specs.declared.fields.SystemFields.{SystemFields}
 use Rattle.paging_message.proofs.Bodies.{most_bits}
-use Rattle.paging_message.proofs.Records.{widths-channels, widths-neighbors}
+use Rattle.paging_message.proofs.Records.{neighbor_fit_at, widths-channels, widths-neighbors}
 use Rattle.event_tap.specs.PagingLines.{neighbor_text, neighbor_texts, system_line}
 use Rattle.event_tap.specs.Parts.{named_values, rest_text}
 use Rattle.event_tap.proofs.PartTexts.{fields-below}
 
--- one neighbor more of a list
-pub neighbor_texts-more : (configs pns : List ℕ) (i : ℕ) → i < length configs → i < length pns →
-    neighbor_texts (take (i + 1) configs) (take (i + 1) pns) ≡
-    neighbor_texts (take i configs) (take i pns)
-    ++ neighbor_text (get_or configs i 0) (get_or pns i 0) ∷ []
+-- a neighbor of a list
+neighbor_texts-at : (configs pns : List ℕ) (i : ℕ) → i < length configs → i < length pns →
+    get_or (neighbor_texts configs pns) i [] ≡ neighbor_text (get_or configs i 0) (get_or pns i 0)
 unfolding neighbor_texts
-neighbor_texts-more [] pns i a b = absurd (omega (arith, a))
-neighbor_texts-more (config ∷ configs) [] i a b = absurd (omega (arith, b))
-neighbor_texts-more (config ∷ configs) (pn ∷ pns) zero a b = refl
-neighbor_texts-more (config ∷ configs) (pn ∷ pns) (suc i) a b =
-    let more : suc i + 1 ≡ suc (i + 1) = omega arith in
-    rw more
-    (ap (λ (items : List (List ℕ)). neighbor_text config pn ∷ items)
-    (neighbor_texts-more configs pns i (omega (arith, a)) (omega (arith, b))))
+neighbor_texts-at [] pns i a b = absurd (omega (arith, a))
+neighbor_texts-at (config ∷ configs) [] i a b = absurd (omega (arith, b))
+neighbor_texts-at (config ∷ configs) (pn ∷ pns) zero a b = refl
+neighbor_texts-at (config ∷ configs) (pn ∷ pns) (suc i) a b =
+    neighbor_texts-at configs pns i (omega (arith, a)) (omega (arith, b))
 
-pub length-neighbor_texts : (configs pns : List ℕ) (i : ℕ) → i ≤ length configs →
-    i ≤ length pns → length (neighbor_texts (take i configs) (take i pns)) ≡ i
+pub length-neighbor_texts : (configs pns : List ℕ) → length configs ≡ length pns →
+    length (neighbor_texts configs pns) ≡ length configs
 unfolding neighbor_texts
-length-neighbor_texts configs pns zero a b = refl
-length-neighbor_texts [] pns (suc i) a b = absurd (omega (arith, a))
-length-neighbor_texts (config ∷ configs) [] (suc i) a b = absurd (omega (arith, b))
-length-neighbor_texts (config ∷ configs) (pn ∷ pns) (suc i) a b =
-    ap suc (length-neighbor_texts configs pns i (omega (arith, a)) (omega (arith, b)))
+length-neighbor_texts [] pns paired = refl
+length-neighbor_texts (config ∷ configs) [] paired = absurd (omega (arith, paired))
+length-neighbor_texts (config ∷ configs) (pn ∷ pns) paired =
+    ap suc (length-neighbor_texts configs pns (omega (arith, paired)))
+
+-- what is known of a neighbor: how long its parts are, and its text
+pub record NeighborAt (m : NeighborFields) (i config pn : ℕ) : Type 0 where
+  pub config_fits : config < 2 ^ 3
+  pub pn_fits : pn < 2 ^ 9
+  pub text : get_or (neighbor_texts m.configs m.pns) i [] ≡ neighbor_text config pn
+
+pub neighbor_at : (m : NeighborFields) (i config pn : ℕ) → IsNeighborList m →
+    slice_get m.configs i ≡ Some config → slice_get m.pns i ≡ Some pn → NeighborAt m i config pn
+neighbor_at m i config pn is a b =
+    let first = slice_get_within m.configs i config a in
+    let second = slice_get_within m.pns i pn b in
+    let config_is = get_or_from_slice_get m.configs i config 0 a in
+    let pn_is = get_or_from_slice_get m.pns i pn 0 b in
+    let fit = neighbor_fit_at m.configs m.pns i is.spelled.fits.1.1.1.1 first second in
+    record {
+      config_fits = omega (arith, config_is, fit.0);
+      pn_fits = omega (arith, pn_is, fit.1);
+      text = neighbor_texts-at m.configs m.pns i first second
+          ∙ ap (λ n. neighbor_text n (get_or m.pns i 0)) config_is
+          ∙ ap (λ n. neighbor_text config n) pn_is;
+    }
 
 -- a message has at most 93 neighbors
 pub neighbors-most : (m : NeighborFields) → IsNeighborList m → length m.configs ≤ 93

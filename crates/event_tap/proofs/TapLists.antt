@@ -75,6 +75,18 @@ pub record HasHeard {T : Type 0} (shape left : T → ℕ) (event : Event) (t y :
   pub left_is : left y ≡ left_behind (form_line (shape t) event) (left t)
   pub answer_is : answer ≡ heard_at (left y)
 
+-- the same of what a call says of it
+pub has_heard : {T : Type 0} (shape left : T → ℕ) (event : Event) (t y : T) (out text : List ℕ)
+    (answer : Heard) → text ≡ out → out ≡ line_text (form_line (shape t) event) →
+    shape y ≡ shape t → left y ≡ left_behind (form_line (shape t) event) (left t) →
+    answer ≡ heard_at (left y) → HasHeard shape left event t y text answer
+has_heard shape left event t y out text answer shown line_is form_is left_is answer_is = record {
+  line_is = shown ∙ line_is;
+  form_is = form_is;
+  left_is = left_is;
+  answer_is = answer_is;
+}
+
 -- a tap with no event left isn't kept, and one with events left is
 kept_when : (form left : ℕ) → heard_at left ≡ Keep → kept_with form left ≡ record {
   form = form;

@@ -57,6 +57,15 @@ form_line form (Traffic place capsule message) =
 form_line form (Sets place time active candidate report) =
     if nat_eq form 0 then Some (sets_line place time active candidate report) else None
 
+-- the form that hears events of this kind by their lines
+abbrev pub plain_form : Event → ℕ
+plain_form (Pilot phase energy) = 0
+plain_form (Sync place capsule message) = 1
+plain_form (Paging place capsule message) = 1
+plain_form (Frame place rate good bits commands) = 2
+plain_form (Traffic place capsule message) = 1
+plain_form (Sets place time active candidate report) = 0
+
 -- the line, or nothing where there is none
 abbrev pub line_text : Option (List ℕ) → List ℕ
 line_text None = []

@@ -1,7 +1,8 @@
 //! The taps of each form.
 
-ghost use Rattle.std.specs.Prelude.{◌≡◌};
-ghost use Rattle.event_tap.specs.Taps.{heard_at};
+ghost use Rattle.std.specs.Prelude.{◌≡◌, ◌≤◌, ◌%◌, Some, None, if◌then◌else◌};
+ghost use Rattle.event_tap.specs.EventLines.{event_line};
+ghost use Rattle.event_tap.specs.Taps.{form_line, heard_at, left_behind, line_text, plain_form};
 
 use crate::line::line_into;
 use crate::parts::append_raw;
@@ -10,187 +11,109 @@ use line_text::Text;
 use mobile_core::Event;
 
 /// Hears the pilot and the pilot sets, in form 0.
-#[derive(Drop)]
-pub struct PilotTap {
-    /// How many events it has left to hear.
-    left: u32,
-}
-
-impl PilotTap {
-    /// A tap that has no event left to hear, until it is given a limit.
-    pub fn new() -> PilotTap
-        ensures { result.left ≡ 0 }
-    {
-        PilotTap { left: 0 }
-    }
-}
-
-impl Tap for PilotTap {
-    ghost shape = { λ _. 0 };
-
-    ghost left = { λ t. t.left };
-
-    fn form(&self) -> u8 {
-        0
-    }
-
-    fn limit(&mut self, events: u32) {
-        self.left = events;
-    }
-
-    #[tactic(auto, unfolding(crate::specs::EventLines::event_line, crate::specs::Taps::form_line))]
-    fn hear(&mut self, event: &Event, out: &mut Text) -> Heard {
-        match event {
-            Event::Pilot { .. } | Event::Sets { .. } => {
-                line_into(event, out);
-                self.left -= 1;
-            }
-            Event::Sync { .. }
-            | Event::Paging { .. }
-            | Event::Frame { .. }
-            | Event::Traffic { .. } => out.clear(),
-        }
-        heard_of(self.left)
-    }
-}
+pub type PilotTap = FormTap<0>;
 
 /// Hears messages, in form 1.
-#[derive(Drop)]
-pub struct MessageTap {
-    /// How many events it has left to hear.
-    left: u32,
-}
-
-impl MessageTap {
-    /// A tap that has no event left to hear, until it is given a limit.
-    pub fn new() -> MessageTap
-        ensures { result.left ≡ 0 }
-    {
-        MessageTap { left: 0 }
-    }
-}
-
-impl Tap for MessageTap {
-    ghost shape = { λ _. 1 };
-
-    ghost left = { λ t. t.left };
-
-    fn form(&self) -> u8 {
-        1
-    }
-
-    fn limit(&mut self, events: u32) {
-        self.left = events;
-    }
-
-    #[tactic(auto, unfolding(crate::specs::EventLines::event_line, crate::specs::Taps::form_line))]
-    fn hear(&mut self, event: &Event, out: &mut Text) -> Heard {
-        match event {
-            Event::Pilot { .. } | Event::Frame { .. } | Event::Sets { .. } => out.clear(),
-            Event::Sync { .. } | Event::Paging { .. } | Event::Traffic { .. } => {
-                line_into(event, out);
-                self.left -= 1;
-            }
-        }
-        heard_of(self.left)
-    }
-}
+pub type MessageTap = FormTap<1>;
 
 /// Hears frames of the traffic channel, in form 2.
-#[derive(Drop)]
-pub struct FrameTap {
-    /// How many events it has left to hear.
-    left: u32,
-}
-
-impl FrameTap {
-    /// A tap that has no event left to hear, until it is given a limit.
-    pub fn new() -> FrameTap
-        ensures { result.left ≡ 0 }
-    {
-        FrameTap { left: 0 }
-    }
-}
-
-impl Tap for FrameTap {
-    ghost shape = { λ _. 2 };
-
-    ghost left = { λ t. t.left };
-
-    fn form(&self) -> u8 {
-        2
-    }
-
-    fn limit(&mut self, events: u32) {
-        self.left = events;
-    }
-
-    #[tactic(auto, unfolding(crate::specs::EventLines::event_line, crate::specs::Taps::form_line))]
-    fn hear(&mut self, event: &Event, out: &mut Text) -> Heard {
-        match event {
-            Event::Pilot { .. }
-            | Event::Sync { .. }
-            | Event::Paging { .. }
-            | Event::Traffic { .. }
-            | Event::Sets { .. } => out.clear(),
-            Event::Frame { .. } => {
-                line_into(event, out);
-                self.left -= 1;
-            }
-        }
-        heard_of(self.left)
-    }
-}
+pub type FrameTap = FormTap<2>;
 
 /// Hears messages as they came, bit by bit, in form 3.
+pub type RawTap = FormTap<3>;
+
+/// Hears the events of a form, which is the remainder of `FORM` by 4.
 #[derive(Drop)]
-pub struct RawTap {
+pub struct FormTap<const FORM: u8> {
     /// How many events it has left to hear.
     left: u32,
 }
 
-impl RawTap {
+impl<const FORM: u8> FormTap<FORM> {
     /// A tap that has no event left to hear, until it is given a limit.
-    pub fn new() -> RawTap
+    pub fn new() -> FormTap<FORM>
         ensures { result.left ≡ 0 }
     {
-        RawTap { left: 0 }
+        FormTap { left: 0 }
     }
 }
 
-impl Tap for RawTap {
-    ghost shape = { λ _. 3 };
+impl<const FORM: u8> Tap for FormTap<FORM> {
+    ghost shape = { λ _. FORM % 4 };
 
     ghost left = { λ t. t.left };
 
     fn form(&self) -> u8 {
-        3
+        FORM % 4
     }
 
     fn limit(&mut self, events: u32) {
         self.left = events;
     }
 
-    #[tactic(auto, unfolding(crate::specs::Taps::form_line))]
     fn hear(&mut self, event: &Event, out: &mut Text) -> Heard {
-        out.clear();
-        match event {
-            Event::Pilot { .. } | Event::Frame { .. } | Event::Sets { .. } => {}
-            Event::Sync { at, capsule, .. } => {
-                append_raw(out, " sync ", *at, capsule);
-                self.left -= 1;
-            }
-            Event::Paging { at, capsule, .. } => {
-                append_raw(out, " paging ", *at, capsule);
-                self.left -= 1;
-            }
-            Event::Traffic { at, capsule, .. } => {
-                append_raw(out, " traffic ", *at, capsule);
-                self.left -= 1;
-            }
-        }
+        self.left = hear_in(FORM % 4, self.left, event, out);
         heard_of(self.left)
     }
+}
+
+/// Makes the text the line that a form has for the event, or empty where it has none; answers how
+/// many of `left` events are left to hear behind it.
+fn hear_in(form: u8, left: u32, event: &Event, out: &mut Text) -> u32
+    requires form { form ≤ 3 }
+    requires some { 1 ≤ left }
+    ensures text { out.new ≡ line_text (form_line form event.now) }
+    ensures left { result ≡ left_behind (form_line form event.now) left }
+{
+    if form == 3 {
+        return hear_raw(left, event, out);
+    }
+    hear_where(form == plain_form_of(event), left, event, out)
+}
+
+/// The form that hears events of this kind by their lines.
+fn plain_form_of(event: &Event) -> u8
+    ensures { result ≡ plain_form event.now }
+{
+    match event {
+        Event::Pilot { .. } | Event::Sets { .. } => 0,
+        Event::Sync { .. } | Event::Paging { .. } | Event::Traffic { .. } => 1,
+        Event::Frame { .. } => 2,
+    }
+}
+
+/// Makes the text the line of the event where the form hears it, and else empty; answers how many of
+/// `left` events are left to hear behind it.
+fn hear_where(heard: bool, left: u32, event: &Event, out: &mut Text) -> u32
+    requires { 1 ≤ left }
+    ensures text { out.new ≡ line_text (if heard then Some (event_line event.now) else None) }
+    ensures left { result ≡ left_behind (if heard then Some (event_line event.now) else None) left }
+{
+    if heard {
+        line_into(event, out);
+        left - 1
+    } else {
+        out.clear();
+        left
+    }
+}
+
+/// Makes the text the line of a message as it came, bit by bit, and empty for any other event;
+/// answers how many of `left` events are left to hear behind it.
+#[tactic(auto, unfolding(crate::specs::Taps::form_line))]
+fn hear_raw(left: u32, event: &Event, out: &mut Text) -> u32
+    requires { 1 ≤ left }
+    ensures text { out.new ≡ line_text (form_line 3 event.now) }
+    ensures left { result ≡ left_behind (form_line 3 event.now) left }
+{
+    out.clear();
+    match event {
+        Event::Pilot { .. } | Event::Frame { .. } | Event::Sets { .. } => return left,
+        Event::Sync { at, capsule, .. } => append_raw(out, " sync ", *at, capsule),
+        Event::Paging { at, capsule, .. } => append_raw(out, " paging ", *at, capsule),
+        Event::Traffic { at, capsule, .. } => append_raw(out, " traffic ", *at, capsule),
+    }
+    left - 1
 }
 
 /// What a tap answers that has so many events left.

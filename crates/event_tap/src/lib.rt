@@ -9,6 +9,7 @@
 #![tactic(auto)]
 
 mod frame;
+mod items;
 mod kinds;
 pub mod laws;
 mod line;
@@ -21,7 +22,7 @@ mod taps;
 mod traffic;
 mod writing;
 
-pub use kinds::{FrameTap, MessageTap, PilotTap, RawTap};
+pub use kinds::{FormTap, FrameTap, MessageTap, PilotTap, RawTap};
 pub use line::line_into;
 pub use line_text::Text;
 pub use tap::{Heard, Tap};

@@ -1,16 +1,12 @@
 //! The lines of messages of the paging channel, and of the slots of a sleeping handset.
 
-ghost use Rattle.std.specs.Prelude.{◌≡◌, ◌<◌, ◌≤◌, ◌+◌, ◌*◌, ◌^◌, [], ◌++◌, length};
-ghost use Rattle.chip_core.specs.Fields.{FieldsFit};
+ghost use Rattle.std.specs.Prelude.{◌≡◌, ◌<◌, ◌≤◌, ◌^◌, [], length, All};
 ghost use Rattle.event_tap.specs.PagingLines.{channel_line, neighbor_line, other_line, system_line};
-ghost use Rattle.event_tap.specs.PagingLines.{neighbor_text, neighbor_texts, paging_line};
-ghost use Rattle.event_tap.specs.PagingLines.{slot_line};
-ghost use Rattle.event_tap.specs.Parts.{commas};
-ghost use Rattle.paging_message.specs.Channels.{IsChannelList};
-ghost use Rattle.paging_message.specs.Neighbors.{neighbor_records, IsNeighborList};
+ghost use Rattle.event_tap.specs.PagingLines.{paging_line, slot_line};
+ghost use Rattle.paging_message.specs.Neighbors.{IsNeighborList};
 
-use crate::parts::{append_comma, append_numbers, append_rest, append_values};
-use chip_core::Numbers;
+use crate::items::append_items;
+use crate::parts::{append_rest, append_values};
 use line_text::Text;
 use paging_message::{
     ChannelFields, NeighborFields, OtherFields, PagingMessage, SYSTEM_FIELDS, SystemParameters,
@@ -52,6 +48,7 @@ fn append_system(text: &mut Text, at: u64, message: &SystemParameters)
 fn append_neighbors(text: &mut Text, at: u64, fields: &NeighborFields)
     requires empty { text.old ≡ [] }
     requires is { IsNeighborList fields.now }
+    requires few { length fields.now.configs ≤ 93 }
     ensures value { text.new ≡ neighbor_line at fields.now }
     ensures most { length text.new ≤ 1024 }
 {
@@ -60,42 +57,16 @@ fn append_neighbors(text: &mut Text, at: u64, fields: &NeighborFields)
     text.append_named(" seq=", fields.seq);
     text.append_named(" inc=", fields.inc);
     text.append_word(" pilots=");
-    append_pilots(text, &fields.configs, &fields.pns);
+    append_items(text, fields);
     append_rest(text, &fields.rest);
-}
-
-/// Adds neighbors, each as its configuration of 3 bits and its offset of 9, joined by commas.
-fn append_pilots(text: &mut Text, configs: &Numbers, pns: &Numbers)
-    requires fit { FieldsFit (neighbor_records configs.now pns.now) }
-    requires paired { length configs.now ≡ length pns.now }
-    requires room { length text.old + 6 * length configs.now + 25 ≤ 1024 }
-    ensures value { text.new ≡ text.old ++ commas (neighbor_texts configs.now pns.now) }
-    ensures len { length text.new ≤ length text.old + 6 * length configs.now }
-{
-    for i in 0..configs.len() {
-        append_comma(text, i);
-        append_pilot(text, u64::from(configs.get(i)), u64::from(pns.get(i)));
-    }
-}
-
-/// Adds a neighbor: its configuration of 3 bits, and its offset of 9.
-fn append_pilot(text: &mut Text, config: u64, pn: u64)
-    requires config_fits { config < 2 ^ 3 }
-    requires pn_fits { pn < 2 ^ 9 }
-    requires room { length text.old + 25 ≤ 1024 }
-    ensures value { text.new ≡ text.old ++ neighbor_text config pn }
-    ensures len { length text.new ≤ length text.old + 5 }
-{
-    text.append_short(config);
-    text.append_word("/");
-    text.append_short(pn);
 }
 
 /// Adds the line of a CDMA Channel List Message to the empty text.
 #[tactic(auto, unfolding(crate::specs::PagingLines::channel_line))]
 fn append_channels(text: &mut Text, at: u64, fields: &ChannelFields)
     requires empty { text.old ≡ [] }
-    requires is { IsChannelList fields.now }
+    requires short { All (λ n. n < 10 ^ 4) fields.now.freqs }
+    requires few { length fields.now.freqs ≤ 102 }
     ensures value { text.new ≡ channel_line at fields.now }
     ensures most { length text.new ≤ 1024 }
 {
@@ -103,7 +74,7 @@ fn append_channels(text: &mut Text, at: u64, fields: &ChannelFields)
     text.append_named(" channels pn=", fields.pn);
     text.append_named(" seq=", fields.seq);
     text.append_word(" freqs=");
-    append_numbers(text, &fields.freqs);
+    append_items(text, &fields.freqs);
     append_rest(text, &fields.rest);
 }
 

@@ -1,13 +1,12 @@
 //! What the lines of messages have in common.
 
 ghost use Rattle.std.specs.Prelude.{◌≡◌, ◌<◌, ◌≤◌, ◌+◌, ◌*◌, ◌^◌, true};
-ghost use Rattle.std.specs.Prelude.{[], ◌++◌, length, get_or, map, decimal, All, IsAscii};
+ghost use Rattle.std.specs.Prelude.{[], ◌++◌, length, get_or, map, decimal, IsAscii};
 ghost use Rattle.chip_core.specs.Fields.{FieldsFit, in_widths};
-ghost use Rattle.event_tap.specs.Parts.{are_short, capsule_line, commas, comma_before};
-ghost use Rattle.event_tap.specs.Parts.{named_values, rest_text};
+ghost use Rattle.event_tap.specs.Parts.{are_short, capsule_line, named_values, rest_text};
 ghost use Rattle.line_text.specs.Texts.{bit_text, named};
 
-use chip_core::{Bits, Numbers};
+use chip_core::Bits;
 use line_text::Text;
 
 /// Adds the values of a message's fields, each behind its name in the table.
@@ -45,30 +44,6 @@ fn append_value(text: &mut Text, name: &str, value: u64)
 {
     text.append_name(name.as_bytes());
     text.append_short(value);
-}
-
-/// Adds numbers of at most four digits, joined by commas.
-pub(crate) fn append_numbers(text: &mut Text, numbers: &Numbers)
-    requires few { All (λ n. n < 10 ^ 4) numbers.now }
-    requires room { length text.old + 5 * length numbers.now + 21 ≤ 1024 }
-    ensures value { text.new ≡ text.old ++ commas (map decimal numbers.now) }
-    ensures len { length text.new ≤ length text.old + 5 * length numbers.now }
-{
-    for i in 0..numbers.len() {
-        append_comma(text, i);
-        text.append_short(u64::from(numbers.get(i)));
-    }
-}
-
-/// Adds the comma before item `i` of a list, counted from 0; the first has none.
-pub(crate) fn append_comma(text: &mut Text, i: u8)
-    requires room { length text.old + 1 ≤ 1024 }
-    ensures value { text.new ≡ text.old ++ comma_before i }
-    ensures len { length text.new ≤ length text.old + 1 }
-{
-    if i > 0 {
-        text.append_word(",");
-    }
 }
 
 /// Adds the bits that are left behind a message's fields, and the end of the line.

@@ -1,12 +1,11 @@
 //! The line of the pilot sets at a moment.
 
-ghost use Rattle.std.specs.Prelude.{◌≡◌, ◌≤◌, ◌+◌, ◌*◌, [], ◌++◌, length, map, decimal};
-ghost use Rattle.event_tap.specs.Parts.{commas};
-ghost use Rattle.event_tap.specs.SetsLines.{active_text, sets_line};
+ghost use Rattle.std.specs.Prelude.{◌≡◌, ◌≤◌, [], length};
+ghost use Rattle.event_tap.specs.SetsLines.{sets_line};
 
-use crate::parts::append_comma;
+use crate::items::append_items;
 use line_text::Text;
-use pilot_sets::{Active, ActiveList, PilotList};
+use pilot_sets::{ActiveList, PilotList};
 
 /// Adds the line of the pilot sets to the empty text, LF at its end.
 ///
@@ -28,47 +27,10 @@ pub(crate) fn append_sets(
     text.append_named("sets at=", at);
     text.append_named(" time=", time);
     text.append_word(" active=");
-    append_active_set(text, active);
+    append_items(text, active);
     text.append_word(" candidate=");
-    append_pilots(text, candidate);
+    append_items(text, candidate);
     text.append_word(" report=");
     text.append_digit(report);
     text.append_word("\n");
-}
-
-/// Adds the pilots of the active set, each with its row and its subchannel, joined by commas.
-fn append_active_set(text: &mut Text, active: &ActiveList)
-    requires room { length text.old + 14 * length active.now + 52 ≤ 1024 }
-    ensures value { text.new ≡ text.old ++ commas (map active_text active.now) }
-    ensures len { length text.new ≤ length text.old + 14 * length active.now }
-{
-    for i in 0..active.len() {
-        append_comma(text, i);
-        append_active(text, active.get(i));
-    }
-}
-
-/// Adds a pilot of the active set: its offset, its row and its subchannel.
-fn append_active(text: &mut Text, active: Active)
-    requires room { length text.old + 32 ≤ 1024 }
-    ensures value { text.new ≡ text.old ++ active_text active }
-    ensures len { length text.new ≤ length text.old + 13 }
-{
-    text.append_short(u64::from(active.pilot));
-    text.append_word("/");
-    text.append_short(u64::from(active.row));
-    text.append_word("/");
-    text.append_short(u64::from(active.subchannel));
-}
-
-/// Adds pilots, joined by commas.
-fn append_pilots(text: &mut Text, pilots: &PilotList)
-    requires room { length text.old + 6 * length pilots.now + 21 ≤ 1024 }
-    ensures value { text.new ≡ text.old ++ commas (map decimal pilots.now) }
-    ensures len { length text.new ≤ length text.old + 6 * length pilots.now }
-{
-    for i in 0..pilots.len() {
-        append_comma(text, i);
-        text.append_short(u64::from(pilots.get(i)));
-    }
 }

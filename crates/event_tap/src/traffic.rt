@@ -1,18 +1,15 @@
 //! The lines of messages of the traffic channel.
 
-ghost use Rattle.std.specs.Prelude.{◌≡◌, ◌<◌, ◌≤◌, ◌+◌, ◌*◌, ◌^◌, [], ◌++◌, length};
+ghost use Rattle.std.specs.Prelude.{◌≡◌, ◌≤◌, ◌+◌, [], ◌++◌, length};
 ghost use Rattle.chip_core.specs.Fields.{FieldsFit};
-ghost use Rattle.event_tap.specs.Parts.{commas};
-ghost use Rattle.event_tap.specs.TrafficLines.{handoff_text, kind_text, record_text};
-ghost use Rattle.event_tap.specs.TrafficLines.{record_texts, search_text, start_text};
+ghost use Rattle.event_tap.specs.TrafficLines.{handoff_text, kind_text, search_text, start_text};
 ghost use Rattle.event_tap.specs.TrafficLines.{system_text, traffic_line, update_text};
-ghost use Rattle.traffic_message.specs.Handoff.{IsHandoffDirection, search_fields};
+ghost use Rattle.traffic_message.specs.Handoff.{search_fields};
 ghost use Rattle.traffic_message.specs.Messages.{head_fields};
 ghost use Rattle.traffic_message.specs.Neighbors.{IsNeighborUpdate};
 
-use crate::parts::{
-    append_comma, append_few_bits, append_few_rest, append_numbers, append_rest, append_values,
-};
+use crate::items::append_items;
+use crate::parts::{append_few_bits, append_few_rest, append_rest, append_values};
 use chip_core::Bits;
 use line_text::Text;
 use traffic_message::{
@@ -74,7 +71,7 @@ fn append_update(text: &mut Text, fields: &UpdateFields)
     let _most = fields.pns.len();
     text.append_named(" neighbors inc=", fields.inc);
     text.append_word(" pilots=");
-    append_numbers(text, &fields.pns);
+    append_items(text, &fields.pns);
     append_few_rest(text, &fields.rest);
 }
 
@@ -93,7 +90,7 @@ fn append_direction(text: &mut Text, message: &HandoffDirection)
     text.append_word(" extra=");
     append_few_bits(text, &fields.extra);
     text.append_word(" records=");
-    append_records(text, &fields);
+    append_items(text, &fields);
     append_few_rest(text, &fields.rest);
 }
 
@@ -108,38 +105,6 @@ fn append_search(text: &mut Text, search: &Option<Search>)
     if let Some(search) = search {
         append_values(text, &SEARCH_FIELDS, &search.values());
     }
-}
-
-/// Adds the records of a handoff direction, joined by commas.
-fn append_records(text: &mut Text, fields: &DirectionFields)
-    requires is { IsHandoffDirection fields.now }
-    requires room { length text.old + 10 * length fields.now.pns + 26 ≤ 1024 }
-    ensures value { text.new ≡ text.old
-        ++ commas (record_texts fields.now.pns fields.now.rows fields.now.combs) }
-    ensures len { length text.new ≤ length text.old + 10 * length fields.now.pns }
-{
-    for i in 0..fields.pns.len() {
-        append_comma(text, i);
-        let pn = u64::from(fields.pns.get(i));
-        let row = u64::from(fields.rows.get(i));
-        append_record(text, pn, row, u64::from(fields.combs.get(i)));
-    }
-}
-
-/// Adds a record: the pilot's offset of 9 bits, the row of 8, and PWR_COMB_IND.
-fn append_record(text: &mut Text, pn: u64, row: u64, comb: u64)
-    requires pn_fits { pn < 2 ^ 9 }
-    requires row_fits { row < 2 ^ 8 }
-    requires comb_fits { comb < 2 ^ 1 }
-    requires room { length text.old + 28 ≤ 1024 }
-    ensures value { text.new ≡ text.old ++ record_text pn row comb }
-    ensures len { length text.new ≤ length text.old + 9 }
-{
-    text.append_short(pn);
-    text.append_word("/");
-    text.append_short(row);
-    text.append_word("/");
-    text.append_short(comb);
 }
 
 /// Adds what a message of another type says.

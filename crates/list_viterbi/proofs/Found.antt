@@ -1,5 +1,5 @@
 -- The words of the end states that the scores and rows of choices give.
-use Rattle.std.proofs.Common.{◌≡◌, ℕ, zero, suc, ◌+◌, ◌<◌, ◌≤◌, List, [], ◌∷◌, ◌++◌, length, get_or}
+use Rattle.std.proofs.Common.{◌≡◌, ℕ, zero, suc, ◌+◌, ◌/◌, ◌<◌, ◌≤◌, List, [], ◌∷◌, ◌++◌, length, get_or}
 use Rattle.std.proofs.Common.{map, take, refl, sym, ap, subst, ◌∙◌, arith, ℤ, Some}
 use Rattle.std.specs.Prelude.{slice_get}
 use Rattle.std.proofs.lemmas.List.{take_more, length-take, length-take-le}
@@ -21,7 +21,7 @@ use Rattle.list_viterbi.proofs.Merges.{Lists, Scored}
 use Rattle.list_viterbi.proofs.Pairs.{Pairs, merge_pairs}
 use Rattle.list_viterbi.proofs.Rooms.{found}
 use Rattle.list_viterbi.proofs.Agreements.{Agrees, Traces}
-use Rattle.list_viterbi.proofs.Standing.{Stands}
+use Rattle.list_viterbi.proofs.Standing.{Stands, first_rows}
 
 -- a word that is found leads back to the entry's
 abbrev FindTraces : List (List ℕ) → ℕ → Find → Entry → Type 0
@@ -107,6 +107,24 @@ found_words softs ends k n scores rows finds es eight long h finds_are es_are =
     (sym (es_are ∙ ap (map (entry_at rows)) finds_are))
     (lists_pairs softs (IsAllowed ends n) k _ (first_lists h.row k (end_count ends))
     (traced_pairs rows n (first_finds scores k (end_count ends)) _ long pairs) lists)
+
+-- the words that the rows of all bits give
+pub run_words : (softs : List ℤ) (ends : Ends) (k kept bit : ℕ) (scores : List (List ℤ))
+    (rows held : List (List ℕ)) (finds : List Find) (es : List Entry) →
+    bit ≡ length softs / 2 → 16 ≤ length softs → length softs / 2 ≤ 576 → length held ≡ 576 →
+    held ≡ rows → Stands softs ends k bit scores rows → kept ≡ k →
+    finds ≡ first_finds scores kept (end_count ends) →
+    es ≡ map (entry_at (take (length softs / 2) held)) finds →
+    Lists softs (IsAllowed ends (length softs / 2)) k es
+run_words softs ends k kept bit scores rows held finds es all least most whole same stands few
+    finds_are es_are =
+    let n = length softs / 2 in
+    let stood : Stands softs ends k bit scores held =
+    subst (Stands softs ends k bit scores) (sym same) stands in
+    found_words softs ends k n scores (take n held) finds es (omega (arith, least))
+    (length-take-le n held (omega (arith, most, whole)))
+    (first_rows softs ends k bit n scores held all stood)
+    (finds_are ∙ ap (λ (j : ℕ). first_finds scores j (end_count ends)) few) es_are
 
 -- ONE WORD MORE OF A STATE'S LIST
 finds_append : (t place : ℕ) (ss : List ℤ) (s : ℤ) →

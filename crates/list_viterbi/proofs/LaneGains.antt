@@ -16,7 +16,7 @@ use lib.Lanes.{chunk}
 use Rattle.viterbi.specs.Lanes.{lane_codes, kinds, gain_by, code_of}
 use Rattle.viterbi.proofs.Blocks.{passed}
 use Rattle.list_viterbi.specs.Picks.{HasPicks, picks_by, picks_into}
-use Rattle.list_viterbi.specs.Heads.{four_of, row_of}
+use Rattle.list_viterbi.specs.Heads.{four_of, row_of, PairPicked}
 
 -- two gains of a table
 pub gains_read : (xs : List ℤ) (at l : ℕ) → length xs ≡ 32 → at + 2 ≤ 32 → l < 2 →
@@ -90,16 +90,10 @@ pub pair_more : (ranks gain next new : List ℤ) (choices chosen : List ℕ) (f 
     ((l : ℕ) → l < 2 → get_or gain l (pos 0) ≡ gain_by f s (code_of (2 * block + l))) →
     ((t : ℕ) → t < 256 → t / 2 % 64 < block →
     HasPicks (four_of next t) (get_or choices t 0) (picks_into (row_of ranks) f s 4 t)) →
-    ((l : ℕ) → l < 2 → HasPicks (four_of new (2 * block + l)) (get_or chosen (2 * block + l) 0)
-    (picks_by (row_of ranks) (get_or gain l (pos 0)) 4 (2 * block + l))) →
-    ((l : ℕ) → l < 2 →
-    HasPicks (four_of new (128 + 2 * block + l)) (get_or chosen (128 + 2 * block + l) 0)
-    (picks_by (row_of ranks) (pos 0 -ℤ get_or gain l (pos 0)) 4 (128 + 2 * block + l))) →
-    ((t : ℕ) → t < 256 → ¬ (t / 2 % 64 ≡ block) →
-    (four_of new t ≡ four_of next t) × (get_or chosen t 0 ≡ get_or choices t 0)) →
+    PairPicked ranks gain block next new choices chosen →
     (t : ℕ) → t < 256 → t / 2 % 64 < block + 1 →
     HasPicks (four_of new t) (get_or chosen t 0) (picks_into (row_of ranks) f s 4 t)
-pair_more ranks gain next new choices chosen f s block few gains before lower upper others t b lt =
+pair_more ranks gain next new choices chosen f s block few gains before pair t b lt =
     ⊎_elim
     (λ same. ⊎_elim
     (λ low. let l = t % 2 in
@@ -108,7 +102,7 @@ pair_more ranks gain next new choices chosen f s block few gains before lower up
     subst (λ (u : ℕ). HasPicks (four_of new u) (get_or chosen u 0)
     (picks_into (row_of ranks) f s 4 u)) is
     (subst (λ (g : ℤ). HasPicks (four_of new (2 * block + l)) (get_or chosen (2 * block + l) 0)
-    (picks_by (row_of ranks) g 4 (2 * block + l))) (gains l two) (lower l two)))
+    (picks_by (row_of ranks) g 4 (2 * block + l))) (gains l two) (pair.lower l two)))
     (λ high. let l = t % 2 in
     let is : 128 + 2 * block + l ≡ t = omega (arith, same, high, b) in
     let two : l < 2 = omega arith in
@@ -121,9 +115,9 @@ pair_more ranks gain next new choices chosen f s block few gains before lower up
     (picks_into (row_of ranks) f s 4 u)) is
     (subst (λ (g : ℤ). HasPicks (four_of new (128 + 2 * block + l))
     (get_or chosen (128 + 2 * block + l) 0) (picks_by (row_of ranks) g 4 (128 + 2 * block + l)))
-    gain_is (upper l two)))
+    gain_is (pair.upper l two)))
     (cases_lt t 128))
-    (λ other. let kept = others t b other in
+    (λ other. let kept = pair.others t b other in
     subst (λ (ss : List ℤ). HasPicks ss (get_or chosen t 0) (picks_into (row_of ranks) f s 4 t))
     (sym kept.0)
     (subst (λ (c : ℕ). HasPicks (four_of next t) c (picks_into (row_of ranks) f s 4 t))

@@ -1,15 +1,16 @@
 -- What the calls for four states make together.
 use Rattle.std.proofs.Common.{◌≡◌, ℕ, ◌+◌, ◌*◌, ◌/◌, ◌%◌, ◌^◌, ◌<◌, ◌≤◌, List, [], ◌∷◌}
 use Rattle.std.proofs.Common.{length, get_or, sym, ap, subst, ◌∙◌, arith, ℤ, pos, ◌+ℤ◌, ◌-ℤ◌}
-use Rattle.std.proofs.Common.{unsigned_abs, FitsSigned, w64}
+use Rattle.std.proofs.Common.{unsigned_abs, FitsSigned, to_z, of_z, w64}
 use Rattle.std.proofs.lemmas.Int.{fits_signed_from_abs}
+use mir.Val.{SFits}
 use Rattle.viterbi.specs.Lanes.{gain_by, code_of, lane_codes, kinds}
 use Rattle.viterbi.proofs.Blocks.{kept, passed}
 use Rattle.viterbi.proofs.BlockSteps.{kind_small, gain_fits}
 use Rattle.list_viterbi.specs.declared.lanes.Heads.{Heads}
 use Rattle.list_viterbi.specs.Heads.{HeadsFit, RaisedFit, LoweredFit, raised_heads, lowered_heads}
 use Rattle.list_viterbi.specs.Heads.{two_from, heads_from, four_scores, four_choices, put_heads, put_choices}
-use Rattle.list_viterbi.proofs.StateCodes.{gain_by_size}
+use Rattle.list_viterbi.proofs.StateCodes.{gain_by_size, gain_passed}
 use Rattle.list_viterbi.proofs.LanePicks.{made_heads}
 use Rattle.list_viterbi.proofs.LaneBlocks.{made_fit, two_fit, plus_size, minus_size, lower_even}
 use Rattle.list_viterbi.proofs.LaneBlocks.{lower_odd, upper_even, upper_odd, with_both, chosen_both}
@@ -158,15 +159,17 @@ both_chosen ranks gain choices new last block le lo ue uo a b c d p q =
           (four_choices (lower_even ranks gain block) h)) q
 
 -- WHAT A BIT ADDS FOR TWO STATES
-pub two_gains : (gains lanes : List ℤ) (f s : ℤ) (block : ℕ) → block < 64 →
-    ((j : ℕ) → j < 32 → get_or gains j (pos 0) ≡ gain_by f s (get_or lane_codes j 0)) →
+pub two_gains : (gains lanes : List ℤ) (f s : ℤ) (block : ℕ) → SFits w64 f → SFits w64 s →
+    block < 64 →
+    ((j : ℕ) → j < 32 → get_or gains j (pos 0)
+    ≡ gain_by (to_z w64 (of_z w64 f)) (to_z w64 (of_z w64 s)) (get_or lane_codes j 0)) →
     ((l : ℕ) → l < 2 → get_or lanes l (pos 0)
     ≡ get_or gains (8 * get_or kinds (block / 4) 0 + (2 * (block % 4) + l)) (pos 0)) →
     (l : ℕ) → l < 2 → get_or lanes l (pos 0) ≡ gain_by f s (code_of (2 * block + l))
-two_gains gains lanes f s block few made read l b =
+two_gains gains lanes f s block p q few made read l b =
     let small = kind_small (block / 4) (omega (arith, few)) in
     let place = 8 * get_or kinds (block / 4) 0 + (2 * (block % 4) + l) in
-    read l b ∙ made place (omega (arith, small, b))
+    read l b ∙ gain_passed f s _ _ p q (made place (omega (arith, small, b)))
     ∙ ap (gain_by f s) (sym (code_two block l b))
 
 pub gains_kept : (lanes : List ℤ) (f s : ℤ) (block : ℕ) → length lanes ≡ 2 →

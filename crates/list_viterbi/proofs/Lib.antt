@@ -21,6 +21,7 @@ pub mod Tracings
 pub mod Turns
 pub mod LaneChoices
 pub mod LaneTurns
+pub mod LaneRounds
 pub mod Pairings
 pub mod LaneMerges
 pub mod LaneSums

@@ -1,8 +1,9 @@
 -- What a bit adds, by a state's code.
-use Rattle.std.proofs.Common.{ℕ, ◌+◌, ◌*◌, ◌/◌, ◌%◌, ◌<◌, ◌≤◌, Bool, true, false, get_or}
-use Rattle.std.proofs.Common.{arith}
-use Rattle.std.proofs.Common.{ℤ, ◌+ℤ◌, ◌*ℤ◌, unsigned_abs}
-use Rattle.std.proofs.lemmas.Int.{ints}
+use Rattle.std.proofs.Common.{◌≡◌, ℕ, ◌+◌, ◌*◌, ◌/◌, ◌%◌, ◌<◌, ◌≤◌, Bool, true, false, get_or}
+use Rattle.std.proofs.Common.{arith, sym, subst}
+use Rattle.std.proofs.Common.{ℤ, ◌+ℤ◌, ◌*ℤ◌, unsigned_abs, to_z, of_z, w64}
+use Rattle.std.proofs.lemmas.Int.{ints, to_z-of_z}
+use mir.Val.{SFits}
 use Rattle.chip_core.specs.Bits.{bit_of, sign}
 use Rattle.viterbi.specs.Lanes.{kinds, code_of, gain_by}
 use Rattle.viterbi.proofs.BlockSteps.{kind_small, lane_small}
@@ -23,3 +24,14 @@ gain_by_size f s c = by_signs (bit_of c 0) (bit_of c 1) where
   by_signs true false = omega (arith, ints)
   by_signs false true = omega (arith, ints)
   by_signs false false = omega (arith, ints)
+
+pub gain_size : (f s gain : ℤ) (c : ℕ) → gain ≡ gain_by f s c →
+    unsigned_abs gain ≤ unsigned_abs f + unsigned_abs s
+gain_size f s gain c is =
+    subst (λ (z : ℤ). unsigned_abs z ≤ unsigned_abs f + unsigned_abs s) (sym is)
+    (gain_by_size f s c)
+
+-- it is the same of soft values that were handed on
+pub gain_passed : (f s gain : ℤ) (c : ℕ) → SFits w64 f → SFits w64 s →
+    gain ≡ gain_by (to_z w64 (of_z w64 f)) (to_z w64 (of_z w64 s)) c → gain ≡ gain_by f s c
+gain_passed f s gain c p q is = rw (to_z-of_z w64 f p, to_z-of_z w64 s q) at is

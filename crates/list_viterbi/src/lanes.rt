@@ -4,7 +4,7 @@
 //! second, and so on. States `2 * b` and `2 * b + 1` are reached from the four states from `4 * b`
 //! on, and so are those 128 on.
 
-ghost use Rattle.std.specs.Prelude.{◌≡◌, ◌<◌, ◌≤◌, ◌+◌, ◌*◌, ◌/◌, ◌%◌, ◌^◌, ◌+ℤ◌, ◌-ℤ◌, ℕ, []};
+ghost use Rattle.std.specs.Prelude.{◌≡◌, ◌<◌, ◌≤◌, ◌+◌, ◌*◌, ◌^◌, ◌+ℤ◌, ℕ, []};
 ghost use Rattle.std.specs.Prelude.{int_lt, length, get_or, pos, replicate, true, unsigned_abs};
 ghost use Rattle.std.specs.Prelude.{FitsSigned};
 ghost use Rattle.std.specs.Int.{w64};
@@ -15,8 +15,8 @@ ghost use Rattle.list_viterbi.specs.Heads.{HeadsFit, less_heads, even_heads, odd
 ghost use Rattle.list_viterbi.specs.Heads.{RaisedFit, raised_heads, LoweredFit, lowered_heads};
 ghost use Rattle.list_viterbi.specs.Heads.{four_scores, four_choices, two_from, heads_from};
 ghost use Rattle.list_viterbi.specs.Heads.{HeadsLong, AreWeights, lane_sum, put_heads, put_choices};
-ghost use Rattle.list_viterbi.specs.Heads.{four_of, row_of};
-ghost use Rattle.list_viterbi.specs.Picks.{HasPicks, picks_by, picks_into};
+ghost use Rattle.list_viterbi.specs.Heads.{four_of, row_of, PairPicked};
+ghost use Rattle.list_viterbi.specs.Picks.{HasPicks, picks_into};
 
 use crate::gains::{gains_of, lane_gains};
 use crate::picking::Choices;
@@ -229,14 +229,7 @@ fn merge_pair(ranks: &[i64], gain: i64x2, block: usize, next: &mut [i64], choice
     requires room { (l t : ℕ) → l < 2 → t < 1024 →
         unsigned_abs (get_or ranks.now t (pos 0)) + unsigned_abs (get_or gain l (pos 0)) ≤ 2 ^ 62 }
     ensures whole { length next.new ≡ 1024 }
-    ensures lower { (l : ℕ) → l < 2 → HasPicks (four_of next.new (2 * block + l))
-        (get_or choices.new (2 * block + l) 0)
-        (picks_by (row_of ranks.now) (get_or gain l (pos 0)) 4 (2 * block + l)) }
-    ensures upper { (l : ℕ) → l < 2 → HasPicks (four_of next.new (128 + 2 * block + l))
-        (get_or choices.new (128 + 2 * block + l) 0)
-        (picks_by (row_of ranks.now) (pos 0 -ℤ get_or gain l (pos 0)) 4 (128 + 2 * block + l)) }
-    ensures others { (t : ℕ) → t < 256 → ¬ (t / 2 % 64 ≡ block) →
-        (four_of next.new t ≡ four_of next.old t) × (get_or choices.new t 0 ≡ get_or choices.old t 0) }
+    ensures pair { PairPicked ranks.now gain block next.old next.new choices.old choices.new }
 {
     let (even, odd) = heads_at(ranks, 4 * block);
     let (lower_even, lower_odd) = (raised(&even, gain), lowered(&odd, gain));

@@ -63,6 +63,9 @@ fn picked(
     ensures { HasPicks scores.new result (merge pick_score k (picks_from 0 even_gain 0 even.now)
         (picks_from 1 odd_gain 0 odd.now)) }
 {
+    if k <= even.len() && k <= odd.len() {
+        return picked_of_full(even, even_gain, odd, odd_gain, k, scores);
+    }
     scores.clear();
     let mut choices = 0u32;
     let mut weight = 1u32;
@@ -131,27 +134,6 @@ fn picked_of_full(
     choices
 }
 
-/// As `picked`, by the loop that serves.
-fn picked_of(
-    even: &Scores,
-    even_gain: i64,
-    odd: &Scores,
-    odd_gain: i64,
-    k: u8,
-    scores: &mut Scores,
-) -> u32
-    requires few { k ≤ 16 }
-    requires even_room { All (LeavesRoom even_gain) even.now }
-    requires odd_room { All (LeavesRoom odd_gain) odd.now }
-    ensures { HasPicks scores.new result (merge pick_score k (picks_from 0 even_gain 0 even.now)
-        (picks_from 1 odd_gain 0 odd.now)) }
-{
-    if even.len() < k || odd.len() < k {
-        return picked(even, even_gain, odd, odd_gain, k, scores);
-    }
-    picked_of_full(even, even_gain, odd, odd_gain, k, scores)
-}
-
 /// The scores of the first `k` words into a state go into `scores`, where the bit adds `gain`
 /// behind oldest bit 0; the answer is their choices. Both generators, 753 and 561 octal
 /// (TIA/EIA-95-B, 7.1.3.1.3.1), tap the oldest bit, so behind oldest bit 1 the bit takes as much
@@ -164,7 +146,7 @@ fn picked_into(row: &[Scores], state: u8, gain: i64, k: u8, scores: &mut Scores)
     ensures { HasPicks scores.new result (picks_by row.now gain k state) }
 {
     let before = 2 * (state % 128) as usize;
-    picked_of(&row[before], gain, &row[before + 1], -gain, k, scores)
+    picked(&row[before], gain, &row[before + 1], -gain, k, scores)
 }
 
 /// The scores and the choices of the first `k` words into all states, one bit further, by the soft

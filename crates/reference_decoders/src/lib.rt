@@ -1,6 +1,6 @@
-//! Plain decoders and a plain search, against which tests hold the ones that are used, and which
-//! `tools/bench` times beside them: the decoder that keeps each state's best word whole, the list
-//! decoder that keeps whole words, and a loop over the samples of each phase.
+//! Plain decoders and a plain search, which `tools/bench` times beside the ones that are used: the
+//! decoder that keeps each state's best word whole, the list decoder that keeps whole words, and a
+//! loop over the samples of each phase. The decoders have the contracts of those that are used.
 //!
 //! No crate stands on this one.
 #![tactic(auto)]
@@ -11,6 +11,8 @@ mod list_viterbi_tests;
 mod merging;
 #[cfg(test)]
 mod pilot_search_correlation_tests;
+#[cfg(test)]
+mod states;
 #[cfg(test)]
 mod survivor_decoder;
 #[cfg(test)]

@@ -3,8 +3,8 @@
 ghost use Rattle.std.specs.Prelude.{◌≡◌, ◌<◌, ◌≤◌, ◌+◌, ◌^◌, length, map, drop, unsigned_abs, All};
 ghost use Rattle.list_viterbi.specs.Merging.{score_in, extended_by, second_is_next, merge};
 
+use crate::states::longer;
 use list_viterbi::{Entry, Words};
-use viterbi::Word;
 
 /// The word with one bit more, whose two symbols add `gain` to the score.
 fn extended_entry(before: &Entry, bit: bool, gain: i64) -> Entry
@@ -12,14 +12,8 @@ fn extended_entry(before: &Entry, bit: bool, gain: i64) -> Entry
     requires room { length before.now.word.bits < 1184 }
     ensures { result ≡ extended_by bit gain before.now }
 {
-    let mut bits = before.word.bits;
-    bits.append(bit);
-    let word = Word {
-        start: before.word.start,
-        bits,
-    };
     Entry {
-        word,
+        word: longer(&before.word, bit),
         score: before.score + gain,
     }
 }

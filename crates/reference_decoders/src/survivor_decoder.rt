@@ -1,5 +1,5 @@
 //! The decoder that keeps a survivor's whole word in each state: plain and slow, under the contract
-//! of `Decoder`, against which tests hold that one.
+//! of `Decoder`, beside which it is timed.
 
 ghost use Rattle.std.specs.Prelude.{◌≡◌, ◌≤◌, ◌*◌, ◌%◌, ◌^◌, length, vec_len};
 ghost use Rattle.std.specs.Prelude.{sum_by, unsigned_abs, IfOk};

@@ -1,40 +1,13 @@
 //! One step of the search, from the survivors of all words of some bits to those of one bit more.
 
-ghost use Rattle.std.specs.Prelude.{◌≡◌, ◌<◌, ◌≤◌, ◌+◌, ◌^◌, ℕ, length, get_or, ◌*ℤ◌, unsigned_abs};
-ghost use Rattle.std.specs.Prelude.{IsTrue, ◌↔◌, IfSome};
-ghost use Rattle.chip_core.specs.Bits.{sign};
-ghost use Rattle.viterbi.specs.Best.{HasStart};
-ghost use Rattle.viterbi.specs.States.{low_bits};
-ghost use Rattle.viterbi.specs.Survivors.{Start, HasRoom, extended_by, better_of, gain_of};
+ghost use Rattle.std.specs.Prelude.{◌≡◌, ◌<◌, ◌≤◌, ◌+◌, ◌^◌, ℕ, length, get_or, unsigned_abs};
+ghost use Rattle.std.specs.Prelude.{IfSome};
+ghost use Rattle.viterbi.specs.Survivors.{Start, HasRoom, extended_by, better_of};
 ghost use Rattle.viterbi.specs.Survivors.{survivor_into, first_best, end_count};
 
-use chip_core::{Bits, parity_at};
+use crate::states::{gain, is_start, longer};
+use chip_core::Bits;
 use viterbi::{Ends, Survivor, Word, end_states};
-
-/// The taps of the first generator, 753 octal, on nine bits whose bit 8 is the newest.
-const G0: [u8; 7] = [8, 7, 6, 5, 3, 1, 0];
-
-/// The taps of the second generator, 561 octal.
-const G1: [u8; 5] = [8, 6, 5, 4, 0];
-
-/// The value, negated where the symbol is 1.
-fn signed(value: i64, symbol: bool) -> i64
-    requires { unsigned_abs value ≤ 2 ^ 62 }
-    ensures value { result ≡ value *ℤ sign symbol }
-    ensures size { unsigned_abs result ≡ unsigned_abs value }
-{
-    if symbol { -value } else { value }
-}
-
-/// What nine bits add to the score: their two soft values, each times the sign of its symbol. Bit 8
-/// is the newest.
-fn gain(first: i64, second: i64, nine: u64) -> i64
-    requires { unsigned_abs first + unsigned_abs second ≤ 2 ^ 62 }
-    ensures value { result ≡ gain_of first second (low_bits 9 nine) }
-    ensures size { unsigned_abs result ≤ unsigned_abs first + unsigned_abs second }
-{
-    signed(first, parity_at(nine, &G0)) + signed(second, parity_at(nine, &G1))
-}
 
 /// The survivor with one more bit, whose two symbols add `gain` to the score.
 fn extended(survivor: &Option<Survivor>, bit: bool, gain: i64) -> Option<Survivor>
@@ -45,15 +18,9 @@ fn extended(survivor: &Option<Survivor>, bit: bool, gain: i64) -> Option<Survivo
     let Some(before) = survivor else {
         return None;
     };
-    let mut bits = before.word.bits;
-    bits.append(bit);
-    let word = Word {
-        start: before.word.start,
-        bits,
-    };
     Some(Survivor {
         score: before.score + gain,
-        word,
+        word: longer(&before.word, bit),
     })
 }
 
@@ -95,16 +62,6 @@ pub fn step(row: &[Option<Survivor>], first: i64, second: i64, next: &mut [Optio
 {
     for (state, survivor) in next.iter_mut().enumerate() {
         *survivor = survivor_of(row, state as u8, first, second);
-    }
-}
-
-/// Whether a word may start from a state.
-fn is_start(state: u8, ends: Ends) -> bool
-    ensures { IsTrue result ↔ HasStart ends (low_bits 8 state) }
-{
-    match ends {
-        Ends::Zero => state == 0,
-        Ends::Free => true,
     }
 }
 

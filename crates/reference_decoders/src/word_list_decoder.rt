@@ -1,5 +1,5 @@
 //! The list decoder that keeps whole words in each state: plain and slow, under the contract of
-//! `ListDecoder`, against which tests hold that one.
+//! `ListDecoder`, beside which it is timed.
 
 ghost use Rattle.std.specs.Prelude.{◌≡◌, ◌≤◌, ◌*◌, ◌/◌, ◌%◌, ◌^◌, min, length, map, vec_len};
 ghost use Rattle.std.specs.Prelude.{sum_by, unsigned_abs, IfOk};

@@ -4,43 +4,16 @@
 //! 7. State `s` is reached from the states `2 * (s % 128)` and `2 * (s % 128) + 1`, whose oldest
 //! bits are 0 and 1.
 
-ghost use Rattle.std.specs.Prelude.{◌≡◌, ◌<◌, ◌≤◌, ◌+◌, ◌^◌, ℕ, [], length, get_or, ◌*ℤ◌};
-ghost use Rattle.std.specs.Prelude.{unsigned_abs, IsTrue, ◌↔◌, All};
-ghost use Rattle.chip_core.specs.Bits.{sign};
-ghost use Rattle.viterbi.specs.Best.{HasStart};
-ghost use Rattle.viterbi.specs.States.{low_bits};
-ghost use Rattle.viterbi.specs.Survivors.{gain_of, end_count};
+ghost use Rattle.std.specs.Prelude.{◌≡◌, ◌<◌, ◌≤◌, ◌+◌, ◌^◌, ℕ, [], length, get_or};
+ghost use Rattle.std.specs.Prelude.{unsigned_abs, All};
+ghost use Rattle.viterbi.specs.Survivors.{end_count};
 ghost use Rattle.list_viterbi.specs.Merging.{Start, HasRoom, list_into, first_lists};
 
 use crate::merging::{extended, merged};
-use chip_core::{Bits, parity_at};
+use crate::states::{gain, is_start};
+use chip_core::Bits;
 use list_viterbi::{Entry, Words};
 use viterbi::{Ends, Word, end_states};
-
-/// The taps of the first generator, 753 octal, on nine bits whose bit 8 is the newest.
-const G0: [u8; 7] = [8, 7, 6, 5, 3, 1, 0];
-
-/// The taps of the second generator, 561 octal.
-const G1: [u8; 5] = [8, 6, 5, 4, 0];
-
-/// The value, negated where the symbol is 1.
-fn signed(value: i64, symbol: bool) -> i64
-    requires { unsigned_abs value ≤ 2 ^ 62 }
-    ensures value { result ≡ value *ℤ sign symbol }
-    ensures size { unsigned_abs result ≡ unsigned_abs value }
-{
-    if symbol { -value } else { value }
-}
-
-/// What nine bits add to the score: their two soft values, each times the sign of its symbol. Bit 8
-/// is the newest.
-fn gain(first: i64, second: i64, nine: u64) -> i64
-    requires { unsigned_abs first + unsigned_abs second ≤ 2 ^ 62 }
-    ensures value { result ≡ gain_of first second (low_bits 9 nine) }
-    ensures size { unsigned_abs result ≤ unsigned_abs first + unsigned_abs second }
-{
-    signed(first, parity_at(nine, &G0)) + signed(second, parity_at(nine, &G1))
-}
 
 /// The first words into a state, one bit further: of those that come from the two states before it.
 fn words_into(row: &[Words], state: u8, first: i64, second: i64, k: u8) -> Words
@@ -69,16 +42,6 @@ pub fn step(row: &[Words], first: i64, second: i64, k: u8, next: &mut [Words])
 {
     for (state, words) in next.iter_mut().enumerate() {
         *words = words_into(row, state as u8, first, second, k);
-    }
-}
-
-/// Whether a word may start from a state.
-fn is_start(state: u8, ends: Ends) -> bool
-    ensures { IsTrue result ↔ HasStart ends (low_bits 8 state) }
-{
-    match ends {
-        Ends::Zero => state == 0,
-        Ends::Free => true,
     }
 }
 

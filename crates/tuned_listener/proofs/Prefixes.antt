@@ -1,12 +1,13 @@
 -- Lemmas on beginnings of lists, on sinks that took one, and on calls that went well or failed.
-use Rattle.std.proofs.Common.{◌≡◌, ℕ, ◌+◌, ◌≤◌, ◌++◌, List, length, take, drop, refl, sym, ap, ◌∙◌, subst, arith, append_assoc}
-use Rattle.std.proofs.Common.{length-append, length-take, length-take-le, Option, Result, Ok, Err, OnErr, OnOk}
-use Rattle.std.proofs.lemmas.List.{take-append-le, take_at}
-use Rattle.std.proofs.Math.Seq.{take-append-add}
-use Rattle.std.proofs.KnownBytes.{Appends-trans, starts_with_rest}
+use Rattle.std.proofs.Common.{◌≡◌, ℕ, ◌+◌, ◌≤◌, ◌++◌, List, length, take, drop, refl, sym, ap, ◌∙◌}
+use Rattle.std.proofs.Common.{subst, arith, append_assoc, length-take}
+use Rattle.std.proofs.Common.{length-take-le, Option, Result, Ok, Err, OnErr, OnOk}
+use Rattle.std.proofs.lemmas.List.{take_at}
+use Rattle.std.proofs.KnownBytes.{starts_with_rest}
 use Rattle.std.specs.Io.{StartsWith}
 use Rattle.std.specs.Io.KnownBytes.{Appends}
 use Rattle.cdma_io.specs.Outside.{AppendsPrefix}
+pub use Rattle.event_tap.proofs.TapLists.{prefix_before, prefix_behind}
 
 -- a list begins with what stands at its front
 pub front_begins : (all front back : List ℕ) → all ≡ front ++ back → StartsWith all front
@@ -34,26 +35,6 @@ prefix_of old new all part written begins = record {
   count = length part;
   fits = omega (arith, sym (length-take (length part) all) ∙ ap length begins);
   appended = subst (Appends old new) (sym begins) written;
-}
-
--- a beginning of a list is one of a longer list
-pub prefix_before : (old new : Option (List ℕ)) (a b : List ℕ) → AppendsPrefix old new a →
-    AppendsPrefix old new (a ++ b)
-prefix_before old new a b part = record {
-  count = part.count;
-  fits = omega (arith, part.fits, length-append a b);
-  appended = subst (Appends old new) (sym (take-append-le part.count a b part.fits)) part.appended;
-}
-
--- a list, and a beginning of the next
-pub prefix_behind : (old mid new : Option (List ℕ)) (a b : List ℕ) → Appends old mid a →
-    AppendsPrefix mid new b → AppendsPrefix old new (a ++ b)
-prefix_behind old mid new a b before part = record {
-  count = length a + part.count;
-  fits = omega (arith, part.fits, length-append a b);
-  appended =
-      subst (Appends old new) (sym (take-append-add a b part.count))
-      (Appends-trans old mid new a (take part.count b) before part.appended);
 }
 
 -- ---- what follows where a call went well, or failed

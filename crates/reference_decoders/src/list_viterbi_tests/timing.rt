@@ -3,7 +3,7 @@
 
 ghost use Rattle.std.specs.Prelude.{◌≡◌};
 
-use super::{Generator, are_small};
+use crate::viterbi_tests::{Generator, is_bounded};
 use crate::word_list_decoder::WordListDecoder;
 use list_viterbi::{ListDecoder, Words};
 use std::process::Abort;
@@ -24,7 +24,7 @@ fn some_softs() -> [i64; 384] {
 fn list_on_rows(rt: &impl Abort, decoder: &mut ListDecoder, softs: &[i64], turns: u16)
     requires { decoder.old ≡ 576 }
 {
-    assert!(rt; are_small(softs));
+    assert!(rt; is_bounded(softs));
     assert!(rt; softs.len() == 384);
     let mut words = Words::empty();
     for _turn in 0..turns {
@@ -37,7 +37,7 @@ fn list_on_rows(rt: &impl Abort, decoder: &mut ListDecoder, softs: &[i64], turns
 fn list_by_words(rt: &impl Abort, decoder: &mut WordListDecoder, softs: &[i64], turns: u16)
     requires { decoder.old ≡ 576 }
 {
-    assert!(rt; are_small(softs));
+    assert!(rt; is_bounded(softs));
     assert!(rt; softs.len() == 384);
     let mut words = Words::empty();
     for _turn in 0..turns {

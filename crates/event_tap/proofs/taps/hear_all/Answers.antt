@@ -1,8 +1,8 @@
-use Rattle.std.proofs.Common.{rules, ◌≤◌, ◌<◌, arith, ◌∙◌, subst, sym, length, None}
+use Rattle.std.proofs.Common.{rules, ◌≤◌, ◌<◌, arith, subst, sym, length, None}
 use Rattle.std.proofs.lemmas.List.Elements.{All-get_or}
 use Rattle.std.proofs.lemmas.Result.{err_from_is_err_and}
 use Rattle.event_tap.specs.Taps.{IsKept}
-use Rattle.event_tap.proofs.TapLists.{HasHeard, hearing_kept, hearing_done, hearing_failed}
+use Rattle.event_tap.proofs.TapLists.{has_heard, hearing_kept, hearing_done, hearing_failed}
 use Rattle.event_tap.proofs.TapLists.{hearing_none, unwritten, All-seen-back, seen}
 use Rattle.event_tap.proofs.taps.hear_all.Goals.{in-Keep, in-Done}
 use Rattle.event_tap.proofs.taps.hear_all.Goals as goal
@@ -23,13 +23,9 @@ pub loop-place-preserved : goal.loop-place-preserved
 loop-place-preserved g c =
     let inv = c.loop-place.invariant in
     let index : c.loop-place.place < length c.loop-place.taps.items = search rules in
-    let heard : HasHeard g.T.Tap.shape g.T.Tap.left c.args.event.now c.index_mut.result.now
-    c.hear-heard.new.self c.bytes.result.now c.hear-heard.result = record {
-      line_is = c.bytes.ensures.value ∙ c.hear-heard.ensures.text;
-      form_is = c.hear-heard.ensures.form;
-      left_is = c.hear-heard.ensures.left;
-      answer_is = c.hear-heard.ensures.heard;
-    } in
+    let is = c.hear-heard.ensures in
+    let heard = has_heard g.T.Tap.shape g.T.Tap.left c.args.event.now c.index_mut.result.now
+    c.hear-heard.new.self _ _ _ c.bytes.ensures.value is.text is.form is.left is.heard in
     let more = c.in_ok-gave.ensures.ok in
     let later : g.K.Sink.faults c.args.sink.now ≤ g.K.Sink.faults c.write_all-gave.new.sink =
     omega (arith, inv.1, c.write_all-gave.ensures.cause.later) in
@@ -53,13 +49,9 @@ returns-in_err-gave-clause-kept g c =
     let inv = c.loop-place.invariant in
     let alone = unwritten g.T.Tap.shape g.T.Tap.left c.args.event.now _ _ _ _ _ inv.0 in
     let index : c.loop-place.place < length c.loop-place.taps.items = search rules in
-    let heard : HasHeard g.T.Tap.shape g.T.Tap.left c.args.event.now c.index_mut.result.now
-    c.hear-heard.new.self c.bytes.result.now c.hear-heard.result = record {
-      line_is = c.bytes.ensures.value ∙ c.hear-heard.ensures.text;
-      form_is = c.hear-heard.ensures.form;
-      left_is = c.hear-heard.ensures.left;
-      answer_is = c.hear-heard.ensures.heard;
-    } in
+    let is = c.hear-heard.ensures in
+    let heard = has_heard g.T.Tap.shape g.T.Tap.left c.args.event.now c.index_mut.result.now
+    c.hear-heard.new.self _ _ _ c.bytes.ensures.value is.text is.form is.left is.heard in
     elim c.match-heard.branch [
       | in-Keep w ↦
           rw w.taps-is
@@ -77,13 +69,9 @@ pub returns-in_err-gave-clause-err : goal.returns-in_err-gave-clause-err
 returns-in_err-gave-clause-err g c =
     let inv = c.loop-place.invariant in
     let index : c.loop-place.place < length c.loop-place.taps.items = search rules in
-    let heard : HasHeard g.T.Tap.shape g.T.Tap.left c.args.event.now c.index_mut.result.now
-    c.hear-heard.new.self c.bytes.result.now c.hear-heard.result = record {
-      line_is = c.bytes.ensures.value ∙ c.hear-heard.ensures.text;
-      form_is = c.hear-heard.ensures.form;
-      left_is = c.hear-heard.ensures.left;
-      answer_is = c.hear-heard.ensures.heard;
-    } in
+    let is = c.hear-heard.ensures in
+    let heard = has_heard g.T.Tap.shape g.T.Tap.left c.args.event.now c.index_mut.result.now
+    c.hear-heard.new.self _ _ _ c.bytes.ensures.value is.text is.form is.left is.heard in
     let p = err_from_is_err_and c.from_residual.result c.from_residual.ensures.1 in
     rw p.1 (hearing_failed _ _ _ _ _ _ _ _ _ _ _ _ _ inv.0 heard index c.index_mut.ensures.value
     c.in_err-gave.ensures.err)

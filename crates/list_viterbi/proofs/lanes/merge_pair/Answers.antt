@@ -65,8 +65,8 @@ merge_block-requires-2-clause-odd_fit c =
     c.raised-upper_odd.result c.requires.long c.requires.room c.heads_at.ensures.odd
     c.raised-upper_odd.ensures)
 
-pub returns-clause-lower : goal.returns-clause-lower
-returns-clause-lower c =
+pub returns-clause-pair : goal.returns-clause-pair
+returns-clause-pair c =
     let ranks = c.args.ranks.now in
     let gain = c.args.gain in
     let block = c.args.block in
@@ -90,63 +90,12 @@ returns-clause-lower c =
     let chosen : c.merge_block-2.new.choices ≡ chosen_both ranks gain block choices =
     pairs.both_chosen ranks gain choices c.merge_block.new.choices c.merge_block-2.new.choices block
     _ _ _ _ le lo ue uo c.merge_block.ensures.choices c.merge_block-2.ensures.choices in
-    rw (row, chosen)
-    (pair_lower ranks gain next choices block c.requires.whole_next c.told-choices c.requires.long
-    c.requires.block)
-
-pub returns-clause-upper : goal.returns-clause-upper
-returns-clause-upper c =
-    let ranks = c.args.ranks.now in
-    let gain = c.args.gain in
-    let block = c.args.block in
-    let next = c.args.next.now in
-    let choices = c.args.choices.now in
-    let le : c.raised-lower_even.result ≡ lower_even ranks gain block =
-    pairs.raised_is ranks gain (4 * block) c.heads_at.result.0 c.raised-lower_even.result
-    c.requires.long c.requires.room c.heads_at.ensures.even c.raised-lower_even.ensures in
-    let lo : c.lowered-lower_odd.result ≡ lower_odd ranks gain block =
-    pairs.lowered_is ranks gain (4 * block + 1) c.heads_at.result.1 c.lowered-lower_odd.result
-    c.requires.long c.requires.room c.heads_at.ensures.odd c.lowered-lower_odd.ensures in
-    let ue : c.lowered-upper_even.result ≡ upper_even ranks gain block =
-    pairs.lowered_is ranks gain (4 * block) c.heads_at.result.0 c.lowered-upper_even.result
-    c.requires.long c.requires.room c.heads_at.ensures.even c.lowered-upper_even.ensures in
-    let uo : c.raised-upper_odd.result ≡ upper_odd ranks gain block =
-    pairs.raised_is ranks gain (4 * block + 1) c.heads_at.result.1 c.raised-upper_odd.result
-    c.requires.long c.requires.room c.heads_at.ensures.odd c.raised-upper_odd.ensures in
-    let row : c.merge_block-2.new.next ≡ with_both ranks gain block next =
-    pairs.both_put ranks gain next c.merge_block.new.next c.merge_block-2.new.next block _ _ _ _ le
-    lo ue uo c.merge_block.ensures.scores c.merge_block-2.ensures.scores in
-    let chosen : c.merge_block-2.new.choices ≡ chosen_both ranks gain block choices =
-    pairs.both_chosen ranks gain choices c.merge_block.new.choices c.merge_block-2.new.choices block
-    _ _ _ _ le lo ue uo c.merge_block.ensures.choices c.merge_block-2.ensures.choices in
-    rw (row, chosen)
-    (pair_upper ranks gain next choices block c.requires.whole_next c.told-choices c.requires.long
-    c.requires.block)
-
-pub returns-clause-others : goal.returns-clause-others
-returns-clause-others c =
-    let ranks = c.args.ranks.now in
-    let gain = c.args.gain in
-    let block = c.args.block in
-    let next = c.args.next.now in
-    let choices = c.args.choices.now in
-    let le : c.raised-lower_even.result ≡ lower_even ranks gain block =
-    pairs.raised_is ranks gain (4 * block) c.heads_at.result.0 c.raised-lower_even.result
-    c.requires.long c.requires.room c.heads_at.ensures.even c.raised-lower_even.ensures in
-    let lo : c.lowered-lower_odd.result ≡ lower_odd ranks gain block =
-    pairs.lowered_is ranks gain (4 * block + 1) c.heads_at.result.1 c.lowered-lower_odd.result
-    c.requires.long c.requires.room c.heads_at.ensures.odd c.lowered-lower_odd.ensures in
-    let ue : c.lowered-upper_even.result ≡ upper_even ranks gain block =
-    pairs.lowered_is ranks gain (4 * block) c.heads_at.result.0 c.lowered-upper_even.result
-    c.requires.long c.requires.room c.heads_at.ensures.even c.lowered-upper_even.ensures in
-    let uo : c.raised-upper_odd.result ≡ upper_odd ranks gain block =
-    pairs.raised_is ranks gain (4 * block + 1) c.heads_at.result.1 c.raised-upper_odd.result
-    c.requires.long c.requires.room c.heads_at.ensures.odd c.raised-upper_odd.ensures in
-    let row : c.merge_block-2.new.next ≡ with_both ranks gain block next =
-    pairs.both_put ranks gain next c.merge_block.new.next c.merge_block-2.new.next block _ _ _ _ le
-    lo ue uo c.merge_block.ensures.scores c.merge_block-2.ensures.scores in
-    let chosen : c.merge_block-2.new.choices ≡ chosen_both ranks gain block choices =
-    pairs.both_chosen ranks gain choices c.merge_block.new.choices c.merge_block-2.new.choices block
-    _ _ _ _ le lo ue uo c.merge_block.ensures.choices c.merge_block-2.ensures.choices in
-    rw (row, chosen)
-    (pair_others ranks gain next choices block c.requires.long c.requires.block)
+    rw (row, chosen) (record {
+      lower =
+          pair_lower ranks gain next choices block c.requires.whole_next c.told-choices
+          c.requires.long c.requires.block;
+      upper =
+          pair_upper ranks gain next choices block c.requires.whole_next c.told-choices
+          c.requires.long c.requires.block;
+      others = pair_others ranks gain next choices block c.requires.long c.requires.block;
+    })

@@ -80,7 +80,7 @@ loop-n-preserved c =
       | else-takes_odd+then-i-len w ↦
           let next : second_is_next pick_score (drop i (picks_from 0 g 0 even))
           (drop j (picks_from 1 h 0 odd)) ≡ false = sym w.if-takes_odd.ensures in
-          let within : i < length even = omega (arith, w.if-i-len.true, w.len.ensures.value) in
+          let within : i < length even = omega (arith, w.if-i-len.true, w.len-else-takes_odd.ensures.value) in
           let value = to_z w64 (of_z w64 w.sum_at-then-i-len.result) in
           let value_is = to_z-of_z w64 w.sum_at-then-i-len.result
           (record { sfits = w.sum_at-then-i-len.type_inv }) ∙ w.sum_at-then-i-len.ensures.value in
@@ -103,7 +103,7 @@ loop-n-preserved c =
       | else-takes_odd+else-i-len w ↦
           let next : second_is_next pick_score (drop i (picks_from 0 g 0 even))
           (drop j (picks_from 1 h 0 odd)) ≡ false = sym w.if-takes_odd.ensures in
-          let over : length even ≤ i = omega (arith, w.if-i-len.false, w.len.ensures.value) in
+          let over : length even ≤ i = omega (arith, w.if-i-len.false, w.len-else-takes_odd.ensures.value) in
           rw (w.choices-is, w.weight-is, w.scores-is, w.i-is, w.j-is) (record {
             even_place = inv.even_place;
             odd_place = inv.odd_place;

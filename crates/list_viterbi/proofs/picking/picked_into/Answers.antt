@@ -4,15 +4,15 @@ use mir.Val.{SFits}
 use Rattle.list_viterbi.proofs.PickSteps.{item_room, turned_room, by_made}
 use Rattle.list_viterbi.proofs.picking.picked_into.Goals as goal
 
-pub picked_of-requires-clause-even_room : goal.picked_of-requires-clause-even_room
-picked_of-requires-clause-even_room c =
+pub picked-requires-clause-even_room : goal.picked-requires-clause-even_room
+picked-requires-clause-even_room c =
     let fits : SFits w64 c.args.gain = search rules in
     rw (to_z-of_z w64 c.args.gain fits)
     (item_room c.args.row.now c.args.gain (2 * (c.args.state % 128)) c.index-row-before.result
     c.requires.whole (omega arith) c.requires.room c.index-row-before.is)
 
-pub picked_of-requires-clause-odd_room : goal.picked_of-requires-clause-odd_room
-picked_of-requires-clause-odd_room c =
+pub picked-requires-clause-odd_room : goal.picked-requires-clause-odd_room
+picked-requires-clause-odd_room c =
     let gain = c.args.gain in
     let small = c.requires.small in
     let fits : SFits w64 gain = search rules in
@@ -31,7 +31,7 @@ returns c =
     let turned_fits : SFits w64 (pos 0 -ℤ gain) =
     fits_signed_from_abs w64 _ (omega (arith, ints, small)) in
     by_made c.args.row.now gain (pos 0 -ℤ gain) c.args.k c.args.state (2 * (c.args.state % 128))
-    c.index-row-before.result c.index-row-before-2.result c.picked_of.new.scores c.picked_of.result
+    c.index-row-before.result c.index-row-before-2.result c.picked.new.scores c.picked.result
     refl
     (omega (arith, c.requires.whole)) c.index-row-before.is c.index-row-before-2.is refl
-    (rw (to_z-of_z w64 gain fits, to_z-of_z w64 (pos 0 -ℤ gain) turned_fits) at c.picked_of.ensures)
+    (rw (to_z-of_z w64 gain fits, to_z-of_z w64 (pos 0 -ℤ gain) turned_fits) at c.picked.ensures)

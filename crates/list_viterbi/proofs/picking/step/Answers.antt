@@ -1,47 +1,32 @@
-use Rattle.std.proofs.Common.{◌≡◌, ◌+◌, ◌≤◌, ◌∙◌, sym, subst, arith, ℤ, w64}
-use Rattle.std.proofs.Common.{unsigned_abs}
+use Rattle.std.proofs.Common.{◌∙◌, arith, w64}
 use Rattle.std.proofs.lemmas.Int.{to_z-of_z}
 use Rattle.std.proofs.lemmas.List.{length-set}
 use mir.Val.{SFits}
-use Rattle.viterbi.specs.Lanes.{gain_by, code_of}
+use Rattle.viterbi.specs.Lanes.{code_of}
 use Rattle.list_viterbi.specs.Picks.{HasPicks, picks_into}
-use Rattle.list_viterbi.proofs.StateCodes.{code_small, gain_by_size}
+use Rattle.list_viterbi.proofs.StateCodes.{code_small, gain_passed, gain_size}
 use Rattle.list_viterbi.proofs.PickSteps.{gain_room, each_more}
 use Rattle.list_viterbi.proofs.picking.step.Goals as goal
 
 pub picked_into-requires-clause-small : goal.picked_into-requires-clause-small
 picked_into-requires-clause-small c =
-    let f = c.args.first in
-    let s = c.args.second in
-    let t = c.loop-state.state in
     let gain = c.gain_at-gain.result in
-    let fits : SFits w64 f = c.ranges.first in
-    let fits' : SFits w64 s = c.ranges.second in
-    let is : gain ≡ gain_by f s (code_of t) =
-    rw (to_z-of_z w64 f fits, to_z-of_z w64 s fits')
-    at (c.gain_at-gain.ensures ∙ c.gains-gains.ensures (code_of t) (code_small t (omega arith))) in
-    let size : unsigned_abs gain ≤ unsigned_abs f + unsigned_abs s =
-    subst (λ (z : ℤ). unsigned_abs z ≤ unsigned_abs f + unsigned_abs s) (sym is)
-    (gain_by_size f s (code_of t)) in
+    let is = gain_passed c.args.first c.args.second gain (code_of c.loop-state.state) c.ranges.first
+    c.ranges.second (c.gain_at-gain.ensures
+    ∙ c.gains-gains.ensures _ (code_small c.loop-state.state (omega arith))) in
+    let size = gain_size c.args.first c.args.second gain _ is in
     let pair = c.requires.fits in
     rw (to_z-of_z w64 gain (record { sfits = c.gain_at-gain.type_inv })) (omega (arith, size, pair))
 
 pub picked_into-requires-clause-room : goal.picked_into-requires-clause-room
 picked_into-requires-clause-room c =
-    let f = c.args.first in
-    let s = c.args.second in
-    let t = c.loop-state.state in
     let gain = c.gain_at-gain.result in
-    let fits : SFits w64 f = c.ranges.first in
-    let fits' : SFits w64 s = c.ranges.second in
-    let is : gain ≡ gain_by f s (code_of t) =
-    rw (to_z-of_z w64 f fits, to_z-of_z w64 s fits')
-    at (c.gain_at-gain.ensures ∙ c.gains-gains.ensures (code_of t) (code_small t (omega arith))) in
-    let size : unsigned_abs gain ≤ unsigned_abs f + unsigned_abs s =
-    subst (λ (z : ℤ). unsigned_abs z ≤ unsigned_abs f + unsigned_abs s) (sym is)
-    (gain_by_size f s (code_of t)) in
+    let is = gain_passed c.args.first c.args.second gain (code_of c.loop-state.state) c.ranges.first
+    c.ranges.second (c.gain_at-gain.ensures
+    ∙ c.gains-gains.ensures _ (code_small c.loop-state.state (omega arith))) in
+    let size = gain_size c.args.first c.args.second gain _ is in
     rw (to_z-of_z w64 gain (record { sfits = c.gain_at-gain.type_inv }))
-    (λ u b. gain_room f s gain _ size (c.requires.room u b))
+    (λ u b. gain_room c.args.first c.args.second gain _ size (c.requires.room u b))
 
 pub loop-state-preserved : goal.loop-state-preserved
 loop-state-preserved c =
@@ -52,9 +37,8 @@ loop-state-preserved c =
     let inv = c.loop-state.invariant in
     let fits : SFits w64 f = c.ranges.first in
     let fits' : SFits w64 s = c.ranges.second in
-    let is : gain ≡ gain_by f s (code_of t) =
-    rw (to_z-of_z w64 f fits, to_z-of_z w64 s fits')
-    at (c.gain_at-gain.ensures ∙ c.gains-gains.ensures (code_of t) (code_small t (omega arith))) in
+    let is = gain_passed f s gain (code_of t) fits fits'
+    (c.gain_at-gain.ensures ∙ c.gains-gains.ensures _ (code_small t (omega arith))) in
     let scores = c.picked_into.new.scores in
     let chosen = c.picked_into.result in
     let here : HasPicks scores chosen (picks_into c.args.row.now f s c.args.k t) =

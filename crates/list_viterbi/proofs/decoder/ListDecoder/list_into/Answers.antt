@@ -1,19 +1,15 @@
-use Rattle.std.proofs.Common.{◌≡◌, ◌+◌, ◌*◌, ◌/◌, ◌<◌, ◌≤◌, ℕ, [], length, map, take}
-use Rattle.std.proofs.Common.{get_or, sym, ap, ◌∙◌, suc, rules, arith, add-one, pos, w64}
+use Rattle.std.proofs.Common.{◌≡◌, ◌+◌, ◌*◌, ◌/◌, ◌<◌, ◌≤◌, ℕ, [], length, map}
+use Rattle.std.proofs.Common.{get_or, sym, ◌∙◌, suc, rules, arith, add-one, pos, w64}
 use Rattle.std.proofs.lemmas.Int.{to_z-of_z}
-use Rattle.std.proofs.lemmas.List.{length-map, length-take-le}
+use Rattle.std.proofs.lemmas.List.{length-map}
 use mir.Val.{SFits}
-use Rattle.viterbi.specs.Best.{IsAllowed}
-use Rattle.viterbi.specs.Survivors.{end_count}
 use Rattle.viterbi.proofs.Scores.{pair_size}
 use Rattle.list_viterbi.specs.First.{word_of}
 use Rattle.list_viterbi.specs.Picks.{HasPicks, picks_into}
-use Rattle.list_viterbi.specs.Rows.{first_finds, entry_at}
-use Rattle.list_viterbi.proofs.Merges.{Lists}
 use Rattle.list_viterbi.proofs.Places.{how_many}
 use Rattle.list_viterbi.proofs.Rooms.{found_first, found_scores}
-use Rattle.list_viterbi.proofs.Standing.{stands_first, row_stands, score_rooms, first_rows}
-use Rattle.list_viterbi.proofs.Found.{found_words}
+use Rattle.list_viterbi.proofs.Standing.{stands_first, row_stands, score_rooms}
+use Rattle.list_viterbi.proofs.Found.{run_words}
 use Rattle.list_viterbi.proofs.decoder.ListDecoder.list_into.Goals as goal
 
 pub loop-bit-init : goal.loop-bit-init
@@ -78,78 +74,32 @@ loop-bit-preserved c =
 
 pub returns-clause-first : goal.returns-clause-first
 returns-clause-first c =
-    let softs = c.args.softs.now in
-    let ends = c.args.ends in
-    let n = length softs / 2 in
-    let rows = c.loop-bit.self-inside.rows.items in
-    let scores = c.loop-bit.self-inside.row.scores in
-    let finds = c.first_ends-finds.result in
-    let all : c.loop-bit.bit ≡ n = omega (arith, c.loop-bit-test.false) in
-    let long : length rows ≡ 576 = sym (ap length c.deref.ensures.value) ∙ c.deref.ensures.len
-    ∙ c.loop-bit.invariant.rows_whole in
-    let size : length (take n rows) ≡ n =
-    length-take-le n rows
-    (omega (arith, long, c.requires.most, c.self.view_is, c.self.invariant)) in
-    let finds_are : finds ≡ first_finds scores c.args.k (end_count ends) =
-    rw c.loop-bit.invariant.few at c.first_ends-finds.ensures in
-    let words_are : c.all_traced.result ≡ map (entry_at (take n rows)) finds =
-    rw c.deref.ensures.value at c.all_traced.ensures in
-    let lists : Lists softs (IsAllowed ends n) c.args.k c.all_traced.result =
-    found_words softs ends c.args.k n scores (take n rows) finds c.all_traced.result
-    (omega (arith, c.requires.least)) size
-    (first_rows softs ends c.args.k c.loop-bit.bit n scores rows all c.loop-bit.invariant.stands)
-    finds_are words_are in
-    found_first softs (IsAllowed ends n) c.args.k c.all_traced.result lists
+    found_first c.args.softs.now _ c.args.k c.all_traced.result
+    (run_words c.args.softs.now c.args.ends c.args.k _ c.loop-bit.bit _ _ _ _ c.all_traced.result
+    (omega (arith, c.loop-bit-test.false)) c.requires.least
+    (omega (arith, c.requires.most, c.self.view_is, c.self.invariant))
+    (c.deref.ensures.len ∙ c.loop-bit.invariant.rows_whole) c.deref.ensures.value
+    c.loop-bit.invariant.stands c.loop-bit.invariant.few c.first_ends-finds.ensures c.all_traced.ensures)
 
 pub returns-clause-scores : goal.returns-clause-scores
 returns-clause-scores c =
-    let softs = c.args.softs.now in
-    let ends = c.args.ends in
-    let n = length softs / 2 in
-    let rows = c.loop-bit.self-inside.rows.items in
-    let scores = c.loop-bit.self-inside.row.scores in
-    let finds = c.first_ends-finds.result in
-    let all : c.loop-bit.bit ≡ n = omega (arith, c.loop-bit-test.false) in
-    let long : length rows ≡ 576 = sym (ap length c.deref.ensures.value) ∙ c.deref.ensures.len
-    ∙ c.loop-bit.invariant.rows_whole in
-    let size : length (take n rows) ≡ n =
-    length-take-le n rows
-    (omega (arith, long, c.requires.most, c.self.view_is, c.self.invariant)) in
-    let finds_are : finds ≡ first_finds scores c.args.k (end_count ends) =
-    rw c.loop-bit.invariant.few at c.first_ends-finds.ensures in
-    let words_are : c.all_traced.result ≡ map (entry_at (take n rows)) finds =
-    rw c.deref.ensures.value at c.all_traced.ensures in
-    let lists : Lists softs (IsAllowed ends n) c.args.k c.all_traced.result =
-    found_words softs ends c.args.k n scores (take n rows) finds c.all_traced.result
-    (omega (arith, c.requires.least)) size
-    (first_rows softs ends c.args.k c.loop-bit.bit n scores rows all c.loop-bit.invariant.stands)
-    finds_are words_are in
-    found_scores softs (IsAllowed ends n) c.args.k c.all_traced.result lists
+    found_scores c.args.softs.now _ c.args.k c.all_traced.result
+    (run_words c.args.softs.now c.args.ends c.args.k _ c.loop-bit.bit _ _ _ _ c.all_traced.result
+    (omega (arith, c.loop-bit-test.false)) c.requires.least
+    (omega (arith, c.requires.most, c.self.view_is, c.self.invariant))
+    (c.deref.ensures.len ∙ c.loop-bit.invariant.rows_whole) c.deref.ensures.value
+    c.loop-bit.invariant.stands c.loop-bit.invariant.few c.first_ends-finds.ensures c.all_traced.ensures)
 
 pub returns-clause-number : goal.returns-clause-number
 returns-clause-number c =
-    let softs = c.args.softs.now in
-    let ends = c.args.ends in
-    let n = length softs / 2 in
-    let rows = c.loop-bit.self-inside.rows.items in
-    let scores = c.loop-bit.self-inside.row.scores in
-    let finds = c.first_ends-finds.result in
-    let all : c.loop-bit.bit ≡ n = omega (arith, c.loop-bit-test.false) in
-    let long : length rows ≡ 576 = sym (ap length c.deref.ensures.value) ∙ c.deref.ensures.len
-    ∙ c.loop-bit.invariant.rows_whole in
-    let size : length (take n rows) ≡ n =
-    length-take-le n rows
-    (omega (arith, long, c.requires.most, c.self.view_is, c.self.invariant)) in
-    let finds_are : finds ≡ first_finds scores c.args.k (end_count ends) =
-    rw c.loop-bit.invariant.few at c.first_ends-finds.ensures in
-    let words_are : c.all_traced.result ≡ map (entry_at (take n rows)) finds =
-    rw c.deref.ensures.value at c.all_traced.ensures in
-    let lists : Lists softs (IsAllowed ends n) c.args.k c.all_traced.result =
-    found_words softs ends c.args.k n scores (take n rows) finds c.all_traced.result
-    (omega (arith, c.requires.least)) size
-    (first_rows softs ends c.args.k c.loop-bit.bit n scores rows all c.loop-bit.invariant.stands)
-    finds_are words_are in
-    c.len.ensures.value ∙ sym (length-map c.all_traced.result word_of)
-    ∙ how_many softs ends n c.args.k (map word_of c.all_traced.result)
-    (omega (arith, c.requires.least))
-    (found_first softs (IsAllowed ends n) c.args.k c.all_traced.result lists)
+    let words = c.all_traced.result in
+    let lists =
+    (run_words c.args.softs.now c.args.ends c.args.k _ c.loop-bit.bit _ _ _ _ c.all_traced.result
+    (omega (arith, c.loop-bit-test.false)) c.requires.least
+    (omega (arith, c.requires.most, c.self.view_is, c.self.invariant))
+    (c.deref.ensures.len ∙ c.loop-bit.invariant.rows_whole) c.deref.ensures.value
+    c.loop-bit.invariant.stands c.loop-bit.invariant.few c.first_ends-finds.ensures c.all_traced.ensures) in
+    c.len.ensures.value ∙ sym (length-map words word_of)
+    ∙ how_many c.args.softs.now c.args.ends (length c.args.softs.now / 2) c.args.k
+    (map word_of words) (omega (arith, c.requires.least))
+    (found_first c.args.softs.now _ c.args.k words lists)

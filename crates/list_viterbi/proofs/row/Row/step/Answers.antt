@@ -2,7 +2,6 @@ use Rattle.std.proofs.Common.{◌≡◌, ◌∙◌, ◌+◌, ◌^◌, ◌≤◌,
 use Rattle.std.proofs.Common.{unsigned_abs}
 use Rattle.std.proofs.lemmas.Int.{to_z-of_z}
 use Rattle.std.proofs.lemmas.List.{with_items_is}
-use mir.Val.{SFits}
 use Rattle.list_viterbi.specs.Heads.{row_of, four_of}
 use Rattle.list_viterbi.specs.Picks.{HasPicks, picks_into}
 use Rattle.list_viterbi.proofs.RowLayouts.{scores_by_place, scores_by_state, words_of, each_rank}
@@ -13,12 +12,10 @@ pub step_four-requires-clause-room : goal.step_four-requires-clause-room
 step_four-requires-clause-room c =
     let f = c.args.first in
     let s = c.args.second in
-    let fits : SFits w64 f = c.ranges.first in
-    let fits' : SFits w64 s = c.ranges.second in
     let inside = c.self.inside in
     let scores = scores_by_place inside.k inside.is_by_place (row_of inside.ranks.items)
     inside.states.items c.args.self.now c.self.view_is c.if-self.true in
-    rw (to_z-of_z w64 f fits, to_z-of_z w64 s fits', c.deref.ensures.value)
+    rw (to_z-of_z w64 f c.ranges.first, to_z-of_z w64 s c.ranges.second, c.deref.ensures.value)
     (each_rank (λ z. unsigned_abs z + (unsigned_abs f + unsigned_abs s) ≤ 2 ^ 62)
     inside.ranks.items (rw scores at c.requires.room))
 
@@ -26,8 +23,6 @@ pub returns-then-self-clause-each : goal.returns-then-self-clause-each
 returns-then-self-clause-each c t b =
     let f = c.args.first in
     let s = c.args.second in
-    let fits : SFits w64 f = c.ranges.first in
-    let fits' : SFits w64 s = c.ranges.second in
     let inside = c.self.inside in
     let value = c.args.self.now in
     let ranks = inside.ranks.items in
@@ -43,7 +38,7 @@ returns-then-self-clause-each c t b =
     let items : c.swap.new.x.items ≡ next =
     rw c.swap.ensures.x_after (with_items_is inside.next_ranks next long) in
     let each : HasPicks (four_of next t) (get_or choices t 0) (picks_into (row_of ranks) f s 4 t) =
-    rw (to_z-of_z w64 f fits, to_z-of_z w64 s fits', c.deref.ensures.value)
+    rw (to_z-of_z w64 f c.ranges.first, to_z-of_z w64 s c.ranges.second, c.deref.ensures.value)
     at (c.step_four.ensures.each t b) in
     rw (c.if-self.true, items, words) (places_stepped ranks next value.scores f s choices t b scores each)
 
@@ -51,8 +46,6 @@ pub returns-clause-each : goal.returns-clause-each
 returns-clause-each c t b =
     let f = c.args.first in
     let s = c.args.second in
-    let fits : SFits w64 f = c.ranges.first in
-    let fits' : SFits w64 s = c.ranges.second in
     let inside = c.self.inside in
     let value = c.args.self.now in
     let states = inside.states.items in
@@ -69,7 +62,7 @@ returns-clause-each c t b =
     let same : get_or c.lay_out.new.self.scores t [] ≡ get_or next t [] =
     rw (c.if-self.false, items) at (c.lay_out.ensures.scores t b) in
     let each : HasPicks (get_or next t []) (get_or choices t 0) (picks_into states f s inside.k t) =
-    rw (to_z-of_z w64 f fits, to_z-of_z w64 s fits', c.deref-2.ensures.value)
+    rw (to_z-of_z w64 f c.ranges.first, to_z-of_z w64 s c.ranges.second, c.deref-2.ensures.value)
     at (c.step.ensures.each t b) in
     rw words
     (states_stepped states next value.scores c.lay_out.new.self.scores f s inside.k choices t scores

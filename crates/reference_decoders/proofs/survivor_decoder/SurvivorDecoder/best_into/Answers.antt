@@ -1,22 +1,19 @@
-use Rattle.std.proofs.Common.{◌≡◌, ◌+◌, ◌*◌, ◌/◌, ◌≤◌, ◌++◌, length, take, drop, get_or, ◌∙◌, suc}
-use Rattle.std.proofs.Common.{rules, arith, add-one, pos, w64, Some, None}
+use Rattle.std.proofs.Common.{◌≡◌, ◌+◌, ◌*◌, ◌/◌, length, drop, get_or, ◌∙◌, rules, arith}
+use Rattle.std.proofs.Common.{add-one, pos, w64, Some, None}
 use Rattle.std.proofs.lemmas.Int.{to_z-of_z}
 use Rattle.std.proofs.lemmas.List.{take_at, with_items_is}
-use mir.Val.{SFits}
 use Rattle.viterbi.proofs.Scores.{pair_size}
-use Rattle.viterbi.proofs.Steps.{Survive, survivor_into_best}
+use Rattle.viterbi.proofs.Steps.{survivor_into_best}
 use Rattle.viterbi.proofs.Rooms.{rooms}
-use Rattle.viterbi.proofs.Finish.{survive_start, found, best_is, some_best}
+use Rattle.viterbi.proofs.Finish.{survive_start, best_is, some_best}
+use Rattle.reference_decoders.proofs.Ends.{run_best}
 use Rattle.reference_decoders.proofs.survivor_decoder.SurvivorDecoder.best_into.Goals as goal
 
 pub loop-bit-init : goal.loop-bit-init
 loop-bit-init c =
-    let long : length c.start_row.new.row ≡ c.self.inside.row.len = omega arith in
-    let kept : take c.self.inside.row.len
-    (c.start_row.new.row ++ drop (length c.start_row.new.row) c.self.inside.row.items)
-    ≡ c.start_row.new.row =
-    take_at c.start_row.new.row (drop (length c.start_row.new.row) c.self.inside.row.items)
-    c.self.inside.row.len long in
+    let kept = take_at c.start_row.new.row
+    (drop (length c.start_row.new.row) c.self.inside.row.items) c.self.inside.row.len (omega arith)
+    in
     record {
       row_whole = search rules;
       next_whole = search rules;
@@ -29,85 +26,63 @@ loop-bit-init c =
 pub step-requires-clause-fits : goal.step-requires-clause-fits
 step-requires-clause-fits c =
     let softs = c.args.softs.now in
-    let bit = c.loop-bit.bit in
-    let first = get_or softs (2 * bit) (pos 0) in
-    let second = get_or softs (2 * bit + 1) (pos 0) in
-    let fits : SFits w64 first = search rules in
-    let fits' : SFits w64 second = search rules in
-    let pair = pair_size softs bit (omega (arith, c.loop-bit-test.true)) in
-    let bound = c.requires.bound in
-    rw (to_z-of_z w64 first fits, to_z-of_z w64 second fits') (omega (arith, pair, bound))
+    let one = to_z-of_z w64 (get_or softs (2 * c.loop-bit.bit) (pos 0)) (search rules) in
+    let two = to_z-of_z w64 (get_or softs (2 * c.loop-bit.bit + 1) (pos 0)) (search rules) in
+    rw (one, two) (omega (
+      arith,
+      pair_size softs c.loop-bit.bit (omega (arith, c.loop-bit-test.true)),
+      c.requires.bound,
+    ))
 
 pub step-requires-clause-room : goal.step-requires-clause-room
 step-requires-clause-room c =
     let softs = c.args.softs.now in
-    let bit = c.loop-bit.bit in
-    let first = get_or softs (2 * bit) (pos 0) in
-    let second = get_or softs (2 * bit + 1) (pos 0) in
-    let fits : SFits w64 first = search rules in
-    let fits' : SFits w64 second = search rules in
-    let few : bit ≤ 576 =
-    omega (arith, c.loop-bit-test.true, c.requires.most, c.self.view_is, c.self.invariant) in
-    rw (to_z-of_z w64 first fits, to_z-of_z w64 second fits', c.deref.ensures.value)
-    (rooms softs c.args.ends bit c.loop-bit.self-inside.row.items
-    (omega (arith, c.loop-bit-test.true)) c.requires.bound few c.loop-bit.invariant.survive)
+    let one = to_z-of_z w64 (get_or softs (2 * c.loop-bit.bit) (pos 0)) (search rules) in
+    let two = to_z-of_z w64 (get_or softs (2 * c.loop-bit.bit + 1) (pos 0)) (search rules) in
+    rw (one, two, c.deref.ensures.value)
+    (rooms softs c.args.ends c.loop-bit.bit c.loop-bit.self-inside.row.items
+    (omega (arith, c.loop-bit-test.true)) c.requires.bound
+    (omega (arith, c.loop-bit-test.true, c.requires.most, c.self.view_is, c.self.invariant))
+    c.loop-bit.invariant.survive)
 
 pub loop-bit-preserved : goal.loop-bit-preserved
 loop-bit-preserved c =
     let softs = c.args.softs.now in
-    let bit = c.loop-bit.bit in
-    let first = get_or softs (2 * bit) (pos 0) in
-    let second = get_or softs (2 * bit + 1) (pos 0) in
-    let fits : SFits w64 first = search rules in
-    let fits' : SFits w64 second = search rules in
-    let long : length c.step.new.next ≡ c.loop-bit.self-inside.next.len = omega arith in
+    let one = to_z-of_z w64 (get_or softs (2 * c.loop-bit.bit) (pos 0)) (search rules) in
+    let two = to_z-of_z w64 (get_or softs (2 * c.loop-bit.bit + 1) (pos 0)) (search rules) in
     let items : c.swap.new.x.items ≡ c.step.new.next =
-    rw c.swap.ensures.x_after (with_items_is c.loop-bit.self-inside.next c.step.new.next long) in
-    let next : bit + 1 ≡ suc bit = add-one bit in
+    rw c.swap.ensures.x_after
+    (with_items_is c.loop-bit.self-inside.next c.step.new.next (omega arith)) in
     record {
       row_whole = search rules;
       next_whole = search rules;
       kept = c.loop-bit.invariant.kept;
       survive = λ t h.
           let each = c.step.ensures.each t h in
-          let each' =
-          rw (to_z-of_z w64 first fits, to_z-of_z w64 second fits', c.deref.ensures.value) at
-          each in
-          rw (items, each', next)
-          (survivor_into_best softs c.args.ends bit c.loop-bit.self-inside.row.items
+          let each' = rw (one, two, c.deref.ensures.value) at each in
+          rw (items, each', add-one c.loop-bit.bit)
+          (survivor_into_best softs c.args.ends c.loop-bit.bit c.loop-bit.self-inside.row.items
           (omega (arith, c.loop-bit-test.true)) c.loop-bit.invariant.survive t h);
     }
 
 pub unreachable-requires : goal.unreachable-requires
 unreachable-requires c =
-    let softs = c.args.softs.now in
-    let row = c.deref-2.result.now in
-    let n = length softs / 2 in
-    let all : c.loop-bit.bit ≡ n = omega (arith, c.loop-bit-test.false) in
-    let survive : Survive softs c.args.ends n row = rw (c.deref-2.ensures.value, ← all)
-    c.loop-bit.invariant.survive in
-    some_best softs c.args.ends n (found softs c.args.ends n row None survive c.in_default.ensures)
+    some_best c.args.softs.now c.args.ends (length c.args.softs.now / 2)
+    (run_best c.args.softs.now c.args.ends c.loop-bit.bit _ _ None
+    (omega (arith, c.loop-bit-test.false)) c.deref-2.ensures.value c.loop-bit.invariant.survive
+    c.in_default.ensures)
 
 pub returns-clause-best : goal.returns-clause-best
 returns-clause-best c =
-    let softs = c.args.softs.now in
-    let row = c.deref-2.result.now in
-    let n = length softs / 2 in
-    let all : c.loop-bit.bit ≡ n = omega (arith, c.loop-bit-test.false) in
-    let survive : Survive softs c.args.ends n row = rw (c.deref-2.ensures.value, ← all)
-    c.loop-bit.invariant.survive in
-    best_is softs c.args.ends n c.in-Some.best (omega (arith, c.requires.least))
-    (omega (arith, c.requires.even))
-    (found softs c.args.ends n row (Some c.in-Some.best) survive c.in-Some.ensures)
+    best_is c.args.softs.now c.args.ends (length c.args.softs.now / 2) c.in-Some.best
+    (omega (arith, c.requires.least)) (omega (arith, c.requires.even))
+    (run_best c.args.softs.now c.args.ends c.loop-bit.bit _ _ (Some c.in-Some.best)
+    (omega (arith, c.loop-bit-test.false)) c.deref-2.ensures.value c.loop-bit.invariant.survive
+    c.in-Some.ensures)
 
 pub returns-clause-score : goal.returns-clause-score
 returns-clause-score c =
-    let softs = c.args.softs.now in
-    let row = c.deref-2.result.now in
-    let n = length softs / 2 in
-    let all : c.loop-bit.bit ≡ n = omega (arith, c.loop-bit-test.false) in
-    let survive : Survive softs c.args.ends n row = rw (c.deref-2.ensures.value, ← all)
-    c.loop-bit.invariant.survive in
-    let best = found softs c.args.ends n row (Some c.in-Some.best) survive c.in-Some.ensures in
-    let fits : SFits w64 c.in-Some.best.score = search rules in
-    to_z-of_z w64 c.in-Some.best.score fits ∙ best.score
+    let best = run_best c.args.softs.now c.args.ends c.loop-bit.bit _ _ (Some c.in-Some.best)
+    (omega (arith, c.loop-bit-test.false)) c.deref-2.ensures.value c.loop-bit.invariant.survive
+    c.in-Some.ensures in
+    to_z-of_z w64 c.in-Some.best.score (search rules) ∙ best.score
