@@ -26,7 +26,35 @@ all_right : {X : Type 0} (P : X → Type 0) (xs ys : List X) → All P (xs ++ ys
 all_right P [] ys h = h
 all_right P (x ∷ xs) ys h = all_right P xs ys (λ k d less. h (suc k) d (omega (arith, less)))
 
+-- a filter that leaves as many as there were leaves all
+filter_few : {X : Type 0} (p : X → Bool) (xs : List X) → length (filter p xs) ≤ length xs
+filter_few p [] = omega arith
+filter_few p (x ∷ xs) =
+    let rest = filter_few p xs in
+    elim (cases_Bool (p x)) [
+      | inl has ↦ rw has (omega (arith, rest))
+      | inr not ↦ rw not (omega (arith, rest))
+    ]
+
+filter_whole : {X : Type 0} (p : X → Bool) (xs : List X) → length (filter p xs) ≡ length xs →
+    filter p xs ≡ xs
+filter_whole p [] all = refl
+filter_whole p (x ∷ xs) all =
+    elim (cases_Bool (p x)) [
+      | inl has ↦
+          let long = rw has at all in
+          rw has (λ i. x ∷ filter_whole p xs (omega (arith, long)) i)
+      | inr not ↦
+          let long = rw not at all in
+          absurd (omega (arith, long, filter_few p xs))
+    ]
+
 -- ON A SUBCHANNEL
+-- where as many pilots are on it as there are, they are all
+pub on_whole : (c : ℕ) (legs : List Leg) → length (on_subchannel c legs) ≡ length legs →
+    on_subchannel c legs ≡ legs
+on_whole c legs all = filter_whole (is_on c) legs all
+
 pub on_some : (c : ℕ) (legs : List Leg) → has_subchannel legs c ≡ true →
     1 ≤ length (on_subchannel c legs)
 on_some c [] h = absurd (cc)

@@ -235,7 +235,7 @@ impl TrafficReceiver {
         } = self;
         let replaced = power_places(&scrambling.state_at(*have), scrambling.mask);
         leg_softs(ring, codes, legs, *phase, near, *start, softs);
-        *power = power_softs(ring, codes, legs, *phase, near, *start, &replaced);
+        *power = power_softs(ring, codes, legs, *phase, near, *start, &replaced, softs);
     }
 
     /// Takes what an event of the paging channel tells of the sets.

@@ -7,7 +7,8 @@ ghost use Rattle.std.specs.List.Sorted.{IsStrictlyIncreasing};
 ghost use Rattle.chip_core.specs.declared.sample.Sample.{Sample};
 ghost use Rattle.frame_decoder.specs.TrafficFrames.{group_sums, subchannels};
 ghost use Rattle.mobile_core.specs.Close.{AreClose, places_in};
-ghost use Rattle.mobile_core.specs.Legs.{all_fingers, on_subchannel, subchannels as subchannels_of};
+ghost use Rattle.mobile_core.specs.Legs.{all_fingers, has_subchannel, on_subchannel};
+ghost use Rattle.mobile_core.specs.Legs.{subchannels as subchannels_of};
 ghost use Rattle.mobile_core.specs.LegSofts.{IsHeldFrom, sums_on};
 ghost use Rattle.rake_finger.specs.Held.{HoldsLast};
 ghost use Rattle.rake_finger.specs.Soft.{softs};
@@ -43,8 +44,40 @@ pub(crate) fn leg_softs(
     combine_into(ring, codes, &fingers, Form::Data, start, out);
 }
 
+/// Computes the soft values of the frame as the fingers of one power control subchannel hear them:
+/// they are those of all fingers, which are given, where all pilots are on it.
+fn subchannel_softs(
+    ring: &SampleRing,
+    codes: &Codes,
+    legs: &Legs,
+    phase: Phase,
+    near: &Near,
+    start: u64,
+    subchannel: u8,
+    all: &[i64; DATA_SYMBOLS],
+    out: &mut [i64; DATA_SYMBOLS],
+)
+    requires legs { IsHeldFrom ring.now legs.now phase near.now start }
+    requires has { has_subchannel legs.now subchannel ≡ true }
+    requires all { (heard : List Sample) → HoldsLast ring.now heard → all.now
+        ≡ softs heard (all_fingers phase (take near.now.count near.now.deltas) legs.now) Data
+        start }
+    requires small { sum_by unsigned_abs all.now ≤ 3 * 2 ^ 60 }
+    ensures value { (heard : List Sample) → HoldsLast ring.now heard → out.new
+        ≡ softs heard (all_fingers phase (take near.now.count near.now.deltas)
+        (on_subchannel subchannel legs.now)) Data start }
+    ensures small { sum_by unsigned_abs out.new ≤ 3 * 2 ^ 60 }
+{
+    let on = legs.on_subchannel(subchannel);
+    if on.len() == legs.len() {
+        *out = *all;
+        return;
+    }
+    leg_softs(ring, codes, &on, phase, near, start, out);
+}
+
 /// The sums of the frame's power control bits, whose symbols are replaced at these places, on each
-/// subchannel.
+/// subchannel. The frame's soft values over all fingers are given.
 pub(crate) fn power_softs(
     ring: &SampleRing,
     codes: &Codes,
@@ -53,8 +86,13 @@ pub(crate) fn power_softs(
     near: &Near,
     start: u64,
     replaced: &[u16; 32],
+    all: &[i64; DATA_SYMBOLS],
 ) -> PowerSofts
     requires legs { IsHeldFrom ring.now legs.now phase near.now start }
+    requires all { (heard : List Sample) → HoldsLast ring.now heard → all.now
+        ≡ softs heard (all_fingers phase (take near.now.count near.now.deltas) legs.now) Data
+        start }
+    requires small { sum_by unsigned_abs all.now ≤ 3 * 2 ^ 60 }
     requires below { All (λ place. place < 384) replaced.now }
     requires rising { IsStrictlyIncreasing replaced.now }
     ensures value { (heard : List Sample) → HoldsLast ring.now heard → subchannels result
@@ -67,8 +105,9 @@ pub(crate) fn power_softs(
     let mut room = [0; DATA_SYMBOLS];
     for subchannel in 0..6 {
         if legs.has_subchannel(subchannel) {
-            let on = legs.on_subchannel(subchannel);
-            leg_softs(ring, codes, &on, phase, near, start, &mut room);
+            subchannel_softs(
+                ring, codes, legs, phase, near, start, subchannel, all, &mut room,
+            );
             sums.push(&room, replaced);
         }
     }

@@ -60,7 +60,7 @@ units =
     in rw here (record { i = sign_unit _; q = sign_unit _ }))
 
 -- samples at a phase, on the table from that phase on, where it doesn't end before them
-despread_from : (samples : List Sample) (phase n turns : ℕ) → phase ≡ n + 32768 * turns →
+pub despread_from : (samples : List Sample) (phase n turns : ℕ) → phase ≡ n + 32768 * turns →
     n + length samples ≤ 32768 →
     despread phase samples ≡ zip_with turned samples (drop n pilot_signs)
 despread_from [] phase n turns at room = refl

@@ -14,7 +14,7 @@ use std::simd::prelude::*;
 
 /// The products of eight samples with the conjugates of their points of the code, the first at
 /// `at`: a lane of real parts and a lane of imaginary parts for each.
-fn products(samples: &[Sample], signs: &[(i8, i8)], at: usize) -> (i32x8, i32x8)
+pub fn products(samples: &[Sample], signs: &[(i8, i8)], at: usize) -> (i32x8, i32x8)
     requires samples { at + 8 ≤ length samples.now }
     requires signs { at + 8 ≤ length signs.now }
     requires units { All IsUnit signs.now }
@@ -70,7 +70,7 @@ fn products(samples: &[Sample], signs: &[(i8, i8)], at: usize) -> (i32x8, i32x8)
 }
 
 /// Lanes added one to one.
-pub(crate) fn added(one: i32x8, other: i32x8) -> i32x8
+pub fn added(one: i32x8, other: i32x8) -> i32x8
     requires { Each2 (λ a b. unsigned_abs a + unsigned_abs b < 2 ^ 31) one other }
     ensures { result ≡ zip2 (λ a b. a +ℤ b) one other }
 {
@@ -78,7 +78,7 @@ pub(crate) fn added(one: i32x8, other: i32x8) -> i32x8
 }
 
 /// The sum of all lanes.
-pub(crate) fn total_of(lanes: i32x8) -> i64
+pub fn total_of(lanes: i32x8) -> i64
     requires long { length lanes ≡ 8 }
     requires fit { Each1 (λ x. unsigned_abs x < 2 ^ 31) lanes }
     ensures { result ≡ total lanes }

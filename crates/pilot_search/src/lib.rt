@@ -25,6 +25,7 @@ mod view;
 
 pub use correlation::energy_at;
 pub use gate::{Gate, Open};
+pub use lanes::{added, products, total_of};
 pub use nearby::near;
 pub use paths::Near;
 pub use searching::search;

@@ -1,12 +1,12 @@
 -- Places in a ring.
-use Rattle.std.proofs.Common.{◌≡◌, ◌≢◌, ℕ, ◌+◌, ◌/◌, ◌%◌, ◌<◌, ◌≤◌, List, [], ◌∷◌, ◌++◌, length, get_or, take, refl, sym, ap, ◌∙◌, arith, length-append, inl, inr, Some}
+use Rattle.std.proofs.Common.{◌≡◌, ◌≢◌, ℕ, ◌+◌, ◌/◌, ◌%◌, ◌<◌, ◌≤◌, List, [], ◌∷◌, ◌++◌, length, get_or, take, drop, refl, sym, ap, ◌∙◌, arith, length-append, inl, inr, pos, Some}
 use Rattle.std.proofs.Math.ListN.{set}
 use Rattle.std.proofs.lemmas.Bool.{cases_lt, cases_order}
 use Rattle.std.proofs.lemmas.Nat.{div-add-mod', mul-le}
-use Rattle.std.proofs.lemmas.List.{get_or-set_same, get_or-set_other, get_or_append_left, get_or_push, take_more, take_more_set, take_all}
+use Rattle.std.proofs.lemmas.List.{get_or-set_same, get_or-set_other, get_or_append_left, get_or_push, get_or-take, get_or-drop, length-take-le, length-drop, take_more, take_more_set, take_all, ext_get_or}
 use Rattle.chip_core.specs.declared.sample.Sample.{Sample}
 use Rattle.std.specs.List.{slice_get}
-use Rattle.std.proofs.Math.Nat.{mod-add-mod}
+use Rattle.std.proofs.Math.Nat.{mod-add-mod, mod-eq_of_lt}
 use Rattle.std.proofs.lemmas.Option.{get_or_from_slice_get}
 use Rattle.rake_finger.specs.Held.{Held, HoldsLast}
 
@@ -87,3 +87,41 @@ pub copied_all : {A : Type 0} (copy samples : List A) (k n : ℕ) → k ≡ n �
     take k copy ≡ take k samples → copy ≡ take n samples
 copied_all copy samples k n done long same =
     sym (take_all k copy (omega (arith, done, long))) ∙ same ∙ ap (λ m. take m samples) done
+
+-- the cell that is next, behind one that was
+pub cell_further : (taken taken' room room' cell next : ℕ) → cell ≡ taken % room →
+    next ≡ (cell + 1) % room' → taken' ≡ taken + 1 → room' ≡ room → next ≡ taken' % room'
+cell_further taken taken' room room' cell next at is more same =
+    is ∙ ap (λ (n : ℕ). (cell + 1) % n) same ∙ ap (λ (n : ℕ). (n + 1) % room) at
+    ∙ mod-add-mod taken room 1 ∙ ap (λ (n : ℕ). n % room) (sym more)
+    ∙ ap (λ (n : ℕ). taken' % n) (sym same)
+
+-- the samples in cells side by side are those from a place on
+pub run_is : (ring : Held) (samples run : List Sample) (place count cell : ℕ) →
+    place + count ≤ ring.taken → ring.taken ≤ place + ring.room → HoldsLast ring samples →
+    cell ≡ place % ring.room → cell + count ≤ ring.room → length run ≡ count →
+    run ≡ take count (drop cell ring.cells) → run ≡ take count (drop place samples)
+run_is ring samples run place count cell taken kept h at room long is =
+    ext_get_or none run (take count (drop place samples))
+    (long ∙ sym (length-take-le count (drop place samples)
+    (omega (arith, length-drop place samples, h.taken, taken))))
+    (λ i lt. each i (omega (arith, lt, long)))
+  where
+    none : Sample
+    none = record { i = pos 0; q = pos 0 }
+
+    cell_ahead : (i : ℕ) → i < count → cell + i ≡ (place + i) % ring.room
+    cell_ahead i lt =
+        let near : place % ring.room + i < ring.room = omega (arith, at, room, lt) in
+        ap (λ (n : ℕ). n + i) at ∙ sym (mod-eq_of_lt near) ∙ mod-add-mod place ring.room i
+
+    each : (i : ℕ) → i < count →
+        get_or run i none ≡ get_or (take count (drop place samples)) i none
+    each i lt =
+        ap (λ (xs : List Sample). get_or xs i none) is
+        ∙ get_or-take count (drop cell ring.cells) i none lt
+        ∙ get_or-drop cell ring.cells i none
+        ∙ ap (λ (k : ℕ). get_or ring.cells k none) (cell_ahead i lt)
+        ∙ h.last (place + i) none (omega (arith, lt, taken, h.taken)) (omega (arith, kept, h.taken))
+        ∙ sym (get_or-take count (drop place samples) i none lt
+        ∙ get_or-drop place samples i none)

@@ -7,7 +7,7 @@ use Rattle.chip_core.specs.Complex.{times, sum_of}
 use Rattle.chip_core.proofs.Ring.{neg_times}
 use Rattle.chip_core.specs.declared.sample.Pair.{Pair}
 use Rattle.chip_core.specs.declared.sample.Sample.{Sample}
-use Rattle.walsh.specs.Walsh.{walsh}
+use Rattle.walsh.specs.Walsh.{IsWithin, walsh}
 use Rattle.rake_finger.specs.declared.finger.Finger.{Finger}
 use Rattle.rake_finger.specs.declared.form.Form.{Form}
 use Rattle.rake_finger.specs.declared.form.Form.TheVariants.{Sync, Data}
@@ -22,7 +22,7 @@ row_zero k = refl
 one_times : (p : Pair) → times (record { i = pos 1; q = pos 0 }) p ≡ p
 one_times p = same_parts _ _ p.i p.q (omega (arith, ints)) (omega (arith, ints))
 
-covered-pilot : (k : ℕ) (ps : List Pair) → covered_from 0 k ps ≡ ps
+pub covered-pilot : (k : ℕ) (ps : List Pair) → covered_from 0 k ps ≡ ps
 covered-pilot k [] = refl
 covered-pilot k (p ∷ ps) = rw (row_zero, one_times p, covered-pilot (suc k) ps)
 
@@ -71,6 +71,17 @@ soft_bounded Data a b c d ha hb hc hd =
     let m : a * b ≤ (65536 * 1536) * (65536 * 64) = mul-le a b (65536 * 1536) (65536 * 64) ha hb in
     let n : c * d ≤ (65536 * 1536) * (65536 * 64) = mul-le c d (65536 * 1536) (65536 * 64) hc hd in
     omega (arith, m, n)
+
+pub value_small : (form : Form) (p s : Pair) (value : ℤ) →
+    unsigned_abs p.i ≤ 65536 * window_chips form → unsigned_abs p.q ≤ 65536 * window_chips form →
+    IsWithin (65536 * symbol_chips form) s →
+    unsigned_abs value ≤ unsigned_abs p.i * unsigned_abs s.i + unsigned_abs p.q * unsigned_abs s.q →
+    unsigned_abs value ≤ soft_bound form
+value_small form p s value hi hq near bound =
+    let most =
+    soft_bounded form (unsigned_abs p.i) (unsigned_abs s.i) (unsigned_abs p.q) (unsigned_abs s.q)
+    hi near.0 hq near.1 in
+    omega (arith, bound, most)
 
 -- a product of two parts that fits
 pub product_is : (a b : ℤ) → FitsSigned w64 a → FitsSigned w64 b → unsigned_abs a ≤ 2 ^ 27 →

@@ -5,13 +5,16 @@ ghost use Rattle.chip_core.specs.declared.sample.Sample.{Sample};
 ghost use Rattle.rake_finger.specs.Added.{AreWithin, IsAdded};
 ghost use Rattle.rake_finger.specs.Held.{HoldsLast};
 ghost use Rattle.rake_finger.specs.InRing.{IsInRing};
+ghost use Rattle.rake_finger.specs.RowSigns.{AreRowSigns};
 ghost use Rattle.rake_finger.specs.Soft.{symbols, window_chips, windows, window_symbols, frame_chips, soft_bound, softs};
 ghost use Rattle.rake_finger.specs.declared.finger.Finger.{Finger as FingerValue};
 
 use crate::finger::{Finger, Fingers};
 use crate::form::Form;
 use crate::ring::SampleRing;
-use crate::values::{pilot_of, value_by};
+use crate::rows::{RowSigns, row_signs};
+use crate::values::turned_by;
+use crate::windows::window_sums;
 use short_code::Codes;
 
 /// Adds the finger's soft values of one window's symbols.
@@ -19,12 +22,14 @@ fn add_window(
     ring: &SampleRing,
     codes: &Codes,
     finger: &Finger,
+    signs: &RowSigns,
     form: Form,
     start: u64,
     window: u16,
     out: &mut [i64],
 )
     requires row { finger.now.row < 64 }
+    requires signs { AreRowSigns finger.now.row signs.now }
     requires ring { IsInRing ring.now form start finger.now }
     requires window { window < windows form }
     requires room { length out.old ≡ symbols form }
@@ -33,11 +38,11 @@ fn add_window(
         IsAdded ring.now finger.now form start (window_symbols form * window) first out.old →
         IsAdded ring.now finger.now form start (window_symbols form * (window + 1)) first out.new }
 {
-    let pilot = pilot_of(ring, codes, finger, form, start, window);
+    let sums = window_sums(ring, codes, finger, signs, form, start, window);
     let first = form.window_symbols() * window;
     for symbol in first..first + form.window_symbols() {
-        let value = value_by(ring, codes, finger, form, start, symbol, pilot);
-        out[usize::from(symbol)] += value;
+        let sum = sums.symbols[usize::from(symbol - first)];
+        out[usize::from(symbol)] += turned_by(sums.pilot, sum);
     }
 }
 
@@ -56,8 +61,9 @@ fn add_finger(
     requires small { AreWithin (7 * 2 ^ 51) out.old }
     ensures { IsAdded ring.now finger.now form start (symbols form) out.old out.new }
 {
+    let signs = row_signs(finger.row);
     for window in 0..form.windows() {
-        add_window(ring, codes, finger, form, start, window, out);
+        add_window(ring, codes, finger, &signs, form, start, window, out);
     }
 }
 

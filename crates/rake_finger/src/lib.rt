@@ -14,12 +14,15 @@
 mod combining;
 mod finger;
 mod form;
+mod lanes;
 pub mod laws;
 mod moments;
 mod ring;
+mod rows;
 mod strengths;
 mod sums;
 mod values;
+mod windows;
 
 pub use combining::combine_into;
 pub use finger::{Finger, Fingers};

@@ -1,6 +1,6 @@
 //! The last samples.
 
-ghost use Rattle.std.specs.Prelude.{◌≡◌, ◌<◌, ◌≤◌, ◌+◌, ◌%◌, ◌^◌, List, [], ◌∷◌, ◌++◌, length, slice_get, Some, IfOk};
+ghost use Rattle.std.specs.Prelude.{◌≡◌, ◌<◌, ◌≤◌, ◌+◌, ◌-◌, ◌%◌, ◌^◌, List, [], ◌∷◌, ◌++◌, length, take, drop, slice_get, Some, IfOk};
 ghost use Rattle.chip_core.specs.declared.sample.Sample.{Sample};
 ghost use Rattle.rake_finger.specs.Held.{HoldsLast};
 
@@ -54,6 +54,19 @@ impl SampleRing {
         self.taken
     }
 
+    /// Takes one more sample into the cell that is next.
+    fn put(&mut self, cell: usize, s: Sample)
+        requires next { cell ≡ self.old.taken % self.old.room }
+        requires few { self.old.taken < 2 ^ 63 }
+        ensures room { self.new.room ≡ self.old.room }
+        ensures taken { self.new.taken ≡ self.old.taken + 1 }
+        ensures holds { (samples : List Sample) → HoldsLast self.old samples →
+            HoldsLast self.new (samples ++ s ∷ []) }
+    {
+        self.cells[cell] = s;
+        self.taken += 1;
+    }
+
     /// Takes one more sample, in place of the oldest where the room is full.
     pub fn push(&mut self, s: Sample)
         requires { self.old.taken < 2 ^ 63 }
@@ -62,9 +75,8 @@ impl SampleRing {
         ensures holds { (samples : List Sample) → HoldsLast self.old samples →
             HoldsLast self.new (samples ++ s ∷ []) }
     {
-        let place = (self.taken % self.cells.len() as u64) as usize;
-        self.cells[place] = s;
-        self.taken += 1;
+        let cell = self.cell_of(self.taken);
+        self.put(cell, s);
     }
 
     /// Takes more samples, in order.
@@ -75,8 +87,10 @@ impl SampleRing {
         ensures holds { (samples : List Sample) → HoldsLast self.old samples →
             HoldsLast self.new (samples ++ more.now) }
     {
+        let mut cell = self.cell_of(self.taken);
         for sample in more {
-            self.push(*sample);
+            self.put(cell, *sample);
+            cell = self.cell_behind(cell);
         }
     }
 
@@ -96,6 +110,25 @@ impl SampleRing {
     {
         let last = self.cells.len() - 1;
         if cell < last { cell + 1 } else { 0 }
+    }
+
+    /// How many cells there are from a cell on.
+    pub(crate) fn cells_from(&self, cell: usize) -> usize
+        requires { cell < self.now.room }
+        ensures { result ≡ self.now.room - cell }
+    {
+        self.cells.len() - cell
+    }
+
+    /// The samples in so many cells from a cell on.
+    pub(crate) fn run(&self, cell: usize, count: usize) -> &[Sample]
+        requires { cell + count ≤ self.now.room }
+        ensures value { result.now ≡ take count (drop cell self.now.cells) }
+        ensures long { length result.now ≡ count }
+    {
+        let (_, ahead) = self.cells.split_at(cell);
+        let (run, _) = ahead.split_at(count);
+        run
     }
 
     /// The sample in a cell.

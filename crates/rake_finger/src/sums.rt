@@ -1,15 +1,19 @@
 //! Sums of despread samples.
 
-ghost use Rattle.std.specs.Prelude.{◌≡◌, ◌<◌, ◌≤◌, ◌*◌, ◌^◌, List, pos, ◌*ℤ◌, unsigned_abs};
+ghost use Rattle.std.specs.Prelude.{◌≡◌, ◌<◌, ◌≤◌, ◌+◌, ◌*◌, ◌%◌, ◌^◌, ℕ, List, pos, ◌*ℤ◌, unsigned_abs};
 ghost use Rattle.chip_core.specs.Bits.{sign};
 ghost use Rattle.chip_core.specs.Complex.{times, conjugate, point, sum_of, of_sample};
 ghost use Rattle.chip_core.specs.declared.sample.Sample.{Sample};
 ghost use Rattle.rake_finger.specs.Held.{HoldsLast};
 ghost use Rattle.rake_finger.specs.InRing.{IsHeld};
+ghost use Rattle.rake_finger.specs.RowSigns.{AreRowSigns, AreUnits};
 ghost use Rattle.rake_finger.specs.Soft.{covered_from, despread_at};
 
+use crate::finger::Finger;
+use crate::lanes::{Sums, sums_on_lanes};
 use crate::ring::SampleRing;
-use chip_core::air::{CODE_CHIPS, WALSH_CHIPS};
+use crate::rows::RowSigns;
+use chip_core::air::{CODE_CHIPS, PILOT_ROW, WALSH_CHIPS};
 use chip_core::{Pair, Phase, Sample};
 use short_code::{Codes, despread, signs_of};
 
@@ -62,4 +66,92 @@ pub(crate) fn covered_sum(
         cell = ring.cell_behind(cell);
     }
     sum
+}
+
+/// The sums of a symbol's samples, despread, one sample at a time.
+fn broken_sums(ring: &SampleRing, codes: &Codes, finger: &Finger, place: u64, chips: u16) -> Sums
+    requires row { finger.now.row < 64 }
+    requires held { IsHeld ring.now place chips }
+    ensures plain { (samples : List Sample) → HoldsLast ring.now samples →
+        result.plain ≡ sum_of (despread_at samples finger.now.phase place chips) }
+    ensures covered { (samples : List Sample) → HoldsLast ring.now samples →
+        result.covered ≡ sum_of
+        (covered_from finger.now.row 0 (despread_at samples finger.now.phase place chips)) }
+    ensures plain_i { unsigned_abs result.plain.i ≤ 65536 * chips }
+    ensures plain_q { unsigned_abs result.plain.q ≤ 65536 * chips }
+    ensures covered_i { unsigned_abs result.covered.i ≤ 65536 * chips }
+    ensures covered_q { unsigned_abs result.covered.q ≤ 65536 * chips }
+{
+    Sums {
+        plain: covered_sum(ring, codes, finger.phase, PILOT_ROW, place, chips),
+        covered: covered_sum(ring, codes, finger.phase, finger.row, place, chips),
+    }
+}
+
+/// The sums of a symbol's samples, despread, on lanes: they stand side by side in the ring, from a
+/// cell on, and so do the chips of the code that they meet, from chip `first` on.
+fn unbroken_sums(
+    ring: &SampleRing,
+    codes: &Codes,
+    signs: &RowSigns,
+    cell: usize,
+    first: u16,
+    chips: u16,
+) -> Sums
+    requires cells { cell + chips ≤ ring.now.room }
+    requires code { first + chips ≤ 32768 }
+    requires whole { chips % 8 ≡ 0 }
+    requires units { AreUnits signs.now }
+    ensures plain { (samples : List Sample) (phase place : ℕ) → HoldsLast ring.now samples →
+        IsHeld ring.now place chips → cell ≡ place % ring.now.room →
+        first ≡ (phase + place) % 32768 →
+        result.plain ≡ sum_of (despread_at samples phase place chips) }
+    ensures covered { (samples : List Sample) (row phase place : ℕ) →
+        HoldsLast ring.now samples → AreRowSigns row signs.now →
+        IsHeld ring.now place chips → cell ≡ place % ring.now.room →
+        first ≡ (phase + place) % 32768 →
+        result.covered ≡ sum_of (covered_from row 0 (despread_at samples phase place chips)) }
+    ensures plain_i { unsigned_abs result.plain.i ≤ 65536 * chips }
+    ensures plain_q { unsigned_abs result.plain.q ≤ 65536 * chips }
+    ensures covered_i { unsigned_abs result.covered.i ≤ 65536 * chips }
+    ensures covered_q { unsigned_abs result.covered.q ≤ 65536 * chips }
+{
+    let (_, ahead) = codes.table().split_at(usize::from(first));
+    sums_on_lanes(ring.run(cell, usize::from(chips)), ahead, signs)
+}
+
+/// The sums of a symbol's samples from a place on, despread by the finger's code: as they are, and
+/// each with the sign of its chip of the finger's row, whose signs are given.
+///
+/// They are added up on lanes, but where the symbol lies across the ring's last cell or the code's
+/// last chip: there one sample at a time.
+pub(crate) fn symbol_sums(
+    ring: &SampleRing,
+    codes: &Codes,
+    finger: &Finger,
+    signs: &RowSigns,
+    place: u64,
+    chips: u16,
+) -> Sums
+    requires row { finger.now.row < 64 }
+    requires signs { AreRowSigns finger.now.row signs.now }
+    requires whole { chips % 8 ≡ 0 }
+    requires held { IsHeld ring.now place chips }
+    ensures plain { (samples : List Sample) → HoldsLast ring.now samples →
+        result.plain ≡ sum_of (despread_at samples finger.now.phase place chips) }
+    ensures covered { (samples : List Sample) → HoldsLast ring.now samples →
+        result.covered ≡ sum_of
+        (covered_from finger.now.row 0 (despread_at samples finger.now.phase place chips)) }
+    ensures plain_i { unsigned_abs result.plain.i ≤ 65536 * chips }
+    ensures plain_q { unsigned_abs result.plain.q ≤ 65536 * chips }
+    ensures covered_i { unsigned_abs result.covered.i ≤ 65536 * chips }
+    ensures covered_q { unsigned_abs result.covered.q ≤ 65536 * chips }
+{
+    let _taken = ring.taken();
+    let first = (u64::from(finger.phase.get()) + place) % CODE_CHIPS;
+    let cell = ring.cell_of(place);
+    if first + u64::from(chips) > CODE_CHIPS || usize::from(chips) > ring.cells_from(cell) {
+        return broken_sums(ring, codes, finger, place, chips);
+    }
+    unbroken_sums(ring, codes, signs, cell, first as u16, chips)
 }

@@ -4,7 +4,7 @@ ghost use Rattle.std.specs.Prelude.{◌≡◌, ◌<◌, ◌≤◌, ◌+◌, ◌*
 ghost use Rattle.chip_core.specs.declared.sample.Sample.{Sample};
 ghost use Rattle.rake_finger.specs.Held.{HoldsLast};
 ghost use Rattle.rake_finger.specs.InRing.{IsInRing};
-ghost use Rattle.rake_finger.specs.Soft.{symbols, window_chips, frame_chips, finger_place, pilot_sum, symbol_sum, turned_part, soft_bound};
+ghost use Rattle.rake_finger.specs.Soft.{symbols, symbol_chips, window_chips, frame_chips, finger_place, pilot_sum, symbol_sum, turned_part, soft_bound};
 ghost use Rattle.rake_finger.specs.Soft.{soft as soft_value};
 
 use crate::finger::Finger;
@@ -17,7 +17,7 @@ use short_code::Codes;
 
 /// The place, counted from sample 0, at which the finger reads what lies at reference sample
 /// `start`.
-fn place_of(finger: &Finger, start: u64) -> u64
+pub(crate) fn place_of(finger: &Finger, start: u64) -> u64
     requires begun { finger.now.delta ≤ℤ pos start }
     requires room { finger_place finger.now start ≤ 2 ^ 63 }
     ensures { result ≡ finger_place finger.now start }
@@ -31,7 +31,7 @@ fn place_of(finger: &Finger, start: u64) -> u64
 }
 
 /// The sum of the finger's pilot over a window of the frame.
-pub(crate) fn pilot_of(
+fn pilot_of(
     ring: &SampleRing,
     codes: &Codes,
     finger: &Finger,
@@ -52,6 +52,29 @@ pub(crate) fn pilot_of(
     covered_sum(ring, codes, finger.phase, PILOT_ROW, place, chips)
 }
 
+/// The sum of the finger's row over a symbol of the frame.
+fn symbol_of(
+    ring: &SampleRing,
+    codes: &Codes,
+    finger: &Finger,
+    form: Form,
+    start: u64,
+    symbol: u16,
+) -> Pair
+    requires row { finger.now.row < 64 }
+    requires ring { IsInRing ring.now form start finger.now }
+    requires symbol { symbol < symbols form }
+    ensures value { (samples : List Sample) → HoldsLast ring.now samples →
+        result ≡ symbol_sum samples finger.now form start symbol }
+    ensures i_bound { unsigned_abs result.i ≤ 65536 * symbol_chips form }
+    ensures q_bound { unsigned_abs result.q ≤ 65536 * symbol_chips form }
+{
+    let _taken = ring.taken();
+    let chips = form.symbol_chips();
+    let place = place_of(finger, start) + u64::from(chips * symbol);
+    covered_sum(ring, codes, finger.phase, finger.row, place, chips)
+}
+
 /// The product of a part of the pilot's sum and a part of the symbol's.
 fn product(pilot: i64, symbol: i64) -> i64
     requires pilot { unsigned_abs pilot ≤ 2 ^ 27 }
@@ -64,7 +87,7 @@ fn product(pilot: i64, symbol: i64) -> i64
 }
 
 /// The real part of the conjugate of the pilot's sum times the symbol's.
-fn turned_by(pilot: Pair, symbol: Pair) -> i64
+pub(crate) fn turned_by(pilot: Pair, symbol: Pair) -> i64
     requires pilot_i { unsigned_abs pilot.i ≤ 2 ^ 27 }
     requires pilot_q { unsigned_abs pilot.q ≤ 2 ^ 27 }
     requires symbol_i { unsigned_abs symbol.i ≤ 2 ^ 24 }
@@ -74,32 +97,6 @@ fn turned_by(pilot: Pair, symbol: Pair) -> i64
         unsigned_abs pilot.q * unsigned_abs symbol.q }
 {
     product(pilot.i, symbol.i) + product(pilot.q, symbol.q)
-}
-
-/// The soft value of a symbol of the frame, by the sum of the pilot over its window.
-pub(crate) fn value_by(
-    ring: &SampleRing,
-    codes: &Codes,
-    finger: &Finger,
-    form: Form,
-    start: u64,
-    symbol: u16,
-    pilot: Pair,
-) -> i64
-    requires row { finger.now.row < 64 }
-    requires ring { IsInRing ring.now form start finger.now }
-    requires symbol { symbol < symbols form }
-    requires pilot_i { unsigned_abs pilot.i ≤ 65536 * window_chips form }
-    requires pilot_q { unsigned_abs pilot.q ≤ 65536 * window_chips form }
-    ensures value { (samples : List Sample) → HoldsLast ring.now samples →
-        result ≡ turned_part pilot (symbol_sum samples finger.now form start symbol) }
-    ensures bound { unsigned_abs result ≤ soft_bound form }
-{
-    let _taken = ring.taken();
-    let chips = form.symbol_chips();
-    let place = place_of(finger, start) + u64::from(chips * symbol);
-    let sum = covered_sum(ring, codes, finger.phase, finger.row, place, chips);
-    turned_by(pilot, sum)
 }
 
 /// The soft value of a symbol of the frame that begins at reference sample `start`, on one finger.
@@ -126,5 +123,6 @@ pub fn soft(
 {
     let window = form.symbol_chips() * symbol / form.window_chips();
     let pilot = pilot_of(ring, codes, finger, form, start, window);
-    value_by(ring, codes, finger, form, start, symbol, pilot)
+    let sum = symbol_of(ring, codes, finger, form, start, symbol);
+    turned_by(pilot, sum)
 }

@@ -1,35 +1,13 @@
 use Rattle.std.proofs.Common.{◌≡◌, ◌∙◌, ◌++◌, ◌∷◌, [], List, ℤ, true, false, map, take, sym, ap, arith}
 use Rattle.frame_decoder.specs.TrafficFrames.{group_sums}
-use Rattle.rake_finger.specs.InRing.{IsInRing}
-use Rattle.rake_finger.specs.Soft.{softs}
-use Rattle.rake_finger.specs.declared.form.Form.TheVariants.{Data}
 use Rattle.mobile_core.specs.LegSofts.{sums_on}
-use Rattle.mobile_core.specs.Legs.{all_fingers, has_subchannel}
-use Rattle.mobile_core.specs.declared.legs.Leg.{Leg}
-use Rattle.mobile_core.proofs.LegSubsets.{first_subchannels, on_all, on_close, on_few, on_rows, on_some, sums_more, sums_none, sums_same}
+use Rattle.mobile_core.specs.Legs.{has_subchannel}
+use Rattle.mobile_core.proofs.LegSubsets.{first_subchannels, sums_more, sums_none, sums_same}
 use Rattle.mobile_core.proofs.traffic_softs.power_softs.Goals as goal
 use Rattle.mobile_core.proofs.traffic_softs.power_softs.Goals.{then-has_subchannel, else-has_subchannel}
 
-pub leg_softs-requires : goal.leg_softs-requires
-leg_softs-requires c =
-    let is = c.requires.legs in
-    let legs = c.args.legs.now in
-    let i = c.loop-subchannel.subchannel in
-    let paths = take c.args.near.now.count c.args.near.now.deltas in
-    let has : has_subchannel legs i ≡ true =
-    sym c.has_subchannel.ensures ∙ c.if-has_subchannel.true in
-    rw c.on_subchannel-on.ensures (record {
-      legs = record {
-        some = on_some i legs has;
-        few = omega (arith, on_few i legs, is.few);
-        least = is.least;
-        most = is.most;
-        close = on_close i legs is.close;
-        rows = on_rows i legs is.rows;
-        held = on_all (IsInRing c.args.ring.now Data c.args.start) c.args.phase paths i legs
-            is.held;
-      };
-    })
+pub subchannel_softs-requires-clause-has : goal.subchannel_softs-requires-clause-has
+subchannel_softs-requires-clause-has c = sym c.has_subchannel.ensures ∙ c.if-has_subchannel.true
 
 pub loop-subchannel-init : goal.loop-subchannel-init
 loop-subchannel-init c =
@@ -61,12 +39,10 @@ loop-subchannel-preserved c =
                 sym c.has_subchannel.ensures ∙ w.if-has_subchannel.true in
                 w.push.ensures.value
                 ∙ ap (λ (xs : List (List ℤ)).
-                xs ++ group_sums replaced w.leg_softs.new.out ∷ []) (had.sums heard holds)
+                xs ++ group_sums replaced w.subchannel_softs.new.out ∷ []) (had.sums heard holds)
                 ∙ ap (λ (vs : List ℤ).
                 map f (first_subchannels legs i) ++ group_sums replaced vs ∷ [])
-                (w.leg_softs.ensures.value heard holds
-                ∙ ap (λ (ls : List Leg). softs heard (all_fingers phase paths ls) Data start)
-                w.on_subchannel-on.ensures)
+                (w.subchannel_softs.ensures.value heard holds)
                 ∙ sym (sums_more f legs i has);
             few = omega (arith, w.push.ensures.count, had.few);
           })

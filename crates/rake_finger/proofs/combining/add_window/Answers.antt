@@ -1,24 +1,42 @@
-use Rattle.std.proofs.Common.{◌≡◌, ◌≢◌, ◌+◌, ◌*◌, ◌<◌, ◌≤◌, ℕ, List, ℤ, pos, length, sym, ap, ◌∙◌, arith, unsigned_abs}
+use Rattle.std.proofs.Common.{◌≡◌, ◌≢◌, ◌+◌, ◌*◌, ◌<◌, ◌≤◌, ℕ, List, ℤ, get_or, pos, length, refl, sym, ap, ◌∙◌, arith, unsigned_abs}
 use Rattle.std.proofs.lemmas.Int.{ints, fits_signed_from_abs}
 use Rattle.std.proofs.lemmas.List.{get_or-set_other}
 use Rattle.std.specs.Int.{w64}
+use Rattle.chip_core.specs.Complex.{origin}
 use Rattle.chip_core.specs.declared.sample.Pair.{Pair}
 use Rattle.chip_core.specs.declared.sample.Sample.{Sample}
 use Rattle.rake_finger.specs.Held.{HoldsLast}
 use Rattle.rake_finger.specs.Soft.{window_symbols, pilot_sum, symbol_sum, turned_part, soft}
 use Rattle.rake_finger.proofs.Adding.{window_of, symbol_within, soft_bound-most, IsAdded-more}
-use Rattle.rake_finger.proofs.SoftValues.{soft_is}
+use Rattle.rake_finger.proofs.SoftValues.{soft_is, value_small}
 use Rattle.rake_finger.proofs.combining.add_window.Goals as goal
 
 pub overflow_add-out : goal.overflow_add-out
 overflow_add-out c =
+    let form = c.args.form in
+    let window = c.args.window in
     let symbol = c.loop-symbol.symbol in
-    let at : c.from.result ≡ symbol = omega arith in
+    let sums = c.window_sums-sums in
+    let k = c.from.result in
+    let at : c.from-in-loop-symbol.result ≡ symbol = omega arith in
+    let first = ap (λ (n : ℕ). n * window) c.window_symbols.ensures in
+    let within : k < window_symbols form = omega (arith, first, c.window_symbols.ensures) in
     let rest = ap (λ (z : ℤ). unsigned_abs z) (c.loop-symbol.invariant.rest symbol (omega arith)) in
     let small = c.requires.small.within symbol in
-    let bound = c.value_by-value.ensures.bound in
-    let most = soft_bound-most c.args.form in
+    let bound =
+    value_small form sums.result.pilot (get_or sums.result.symbols k origin) c.turned_by.result
+    sums.ensures.pilot_i sums.ensures.pilot_q (sums.ensures.small k within)
+    c.turned_by.ensures.bound in
+    let most = soft_bound-most form in
     rw at (fits_signed_from_abs w64 _ (omega (arith, ints, rest, small, bound, most)))
+
+pub loop-symbol-init : goal.loop-symbol-init
+loop-symbol-init c =
+    let first = ap (λ (n : ℕ). n * c.args.window) c.window_symbols.ensures in
+    record {
+      added = λ first_values h. rw first h;
+      rest = λ j le. refl;
+    }
 
 pub loop-symbol-preserved : goal.loop-symbol-preserved
 loop-symbol-preserved c =
@@ -29,31 +47,40 @@ loop-symbol-preserved c =
     let window = c.args.window in
     let symbol = c.loop-symbol.symbol in
     let out = c.loop-symbol.out in
-    let value = c.value_by-value.result in
+    let sums = c.window_sums-sums in
+    let k = c.from.result in
+    let sum = get_or sums.result.symbols k origin in
+    let value = c.turned_by.result in
     let inv = c.loop-symbol.invariant in
     let rest = ap (λ (z : ℤ). unsigned_abs z) (inv.rest symbol (omega arith)) in
     let small = c.requires.small.within symbol in
-    let bound = c.value_by-value.ensures.bound in
     let most = soft_bound-most form in
-    let at : c.from.result ≡ symbol = omega arith in
+    let at : c.from-in-loop-symbol.result ≡ symbol = omega arith in
     let first = ap (λ (n : ℕ). n * window) c.window_symbols.ensures in
     let low : window_symbols form * window ≤ symbol = omega arith in
     let high : symbol < window_symbols form * window + window_symbols form = omega arith in
+    let place : window_symbols form * window + k ≡ symbol = omega (arith, first) in
+    let few : k < window_symbols form = omega (arith, place, high) in
+    let bound =
+    value_small form sums.result.pilot sum value sums.ensures.pilot_i sums.ensures.pilot_q
+    (sums.ensures.small k few) c.turned_by.ensures.bound in
     let of : window ≡ _ = sym (window_of form window symbol low high) in
     let within : symbol < length out = let w =
     symbol_within form window symbol c.requires.window high in omega arith in
     let value_is : (samples : List Sample) → HoldsLast ring samples →
     value ≡ soft samples finger form start symbol =
-    λ samples held. c.value_by-value.ensures.value samples held
-    ∙ ap (λ (p : Pair). turned_part p (symbol_sum samples finger form start symbol))
-    (c.pilot_of-pilot.ensures.value samples held ∙ ap (pilot_sum samples finger form start) of)
+    λ samples held. c.turned_by.ensures.value
+    ∙ ap (λ (p : Pair). turned_part p sum)
+    (sums.ensures.pilot samples held ∙ ap (pilot_sum samples finger form start) of)
+    ∙ ap (turned_part (pilot_sum samples finger form start _))
+    (sums.ensures.symbols samples held k few ∙ ap (symbol_sum samples finger form start) place)
     ∙ soft_is samples finger form start symbol in
     record {
       added = λ first h. rw at
           (IsAdded-more ring finger form start symbol first out value _ (inv.added first h) within
           value_is bound (omega (arith, ints, rest, small, bound, most)));
-      rest = λ j le. let ne : j ≢ c.from.result = omega (arith, le) in
-          get_or-set_other out c.from.result j _ (pos 0) ne ∙ inv.rest j (omega (arith, le));
+      rest = λ j le. let ne : j ≢ c.from-in-loop-symbol.result = omega (arith, le) in
+          get_or-set_other out c.from-in-loop-symbol.result j _ (pos 0) ne ∙ inv.rest j (omega (arith, le));
     }
 
 pub returns : goal.returns

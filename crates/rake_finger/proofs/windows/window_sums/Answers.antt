@@ -1,0 +1,154 @@
+use Rattle.std.proofs.Common.{◌≡◌, ◌+◌, ◌*◌, ◌<◌, ◌≤◌, ◌∙◌, ℕ, ap, arith, refl}
+use Rattle.std.specs.Prelude.{unsigned_abs}
+use Rattle.std.proofs.lemmas.List.{length-replicate, length-set}
+use Rattle.chip_core.specs.Complex.{origin, sum_of}
+use Rattle.chip_core.specs.declared.sample.Pair.{Pair}
+use Rattle.walsh.specs.Walsh.{IsWithin}
+use Rattle.rake_finger.specs.InRing.{IsHeld}
+use Rattle.rake_finger.specs.Soft.{symbol_chips, window_chips, window_symbols, finger_place, despread_at, symbol_sum}
+use Rattle.rake_finger.proofs.SoftValues.{symbol_is}
+use Rattle.rake_finger.proofs.WindowSums.{bound_kept, chips_more, entry_more, most_symbols, pilot_more, pilot_whole, sum_fits, sum_kept, symbol_held, symbol_place, whole_symbols}
+use Rattle.rake_finger.proofs.windows.window_sums.Goals as goal
+
+pub symbol_sums-sums-requires-clause-held : goal.symbol_sums-sums-requires-clause-held
+symbol_sums-sums-requires-clause-held c =
+    let form = c.args.form in
+    let k = c.loop-k.k in
+    let chips = c.symbol_chips-chips.ensures in
+    let far = ap (λ (n : ℕ). n * k) chips in
+    let wide = ap (λ (n : ℕ). n * c.args.window) c.window_chips.ensures in
+    rw chips
+    (symbol_held c.args.ring.now c.args.finger.now form c.args.start c.args.window k _
+    c.requires.ring c.requires.window (omega (arith, c.loop-k-test.true, c.window_symbols-k-end.ensures))
+    (omega (arith, far, wide)))
+
+pub loop-k-init : goal.loop-k-init
+loop-k-init c =
+    let form = c.args.form in
+    let none : symbol_chips form * 0 ≡ 0 = omega arith in
+    record {
+      pilot = λ samples held. rw none refl;
+      symbols = λ samples held j lt. absurd (omega (arith, lt));
+      pilot_i = omega arith;
+      pilot_q = omega arith;
+      small = λ j lt. absurd (omega (arith, lt));
+      long = length-replicate 24 origin;
+    }
+
+pub overflow_add-pilot : goal.overflow_add-pilot
+overflow_add-pilot c =
+    let form = c.args.form in
+    let sums = c.symbol_sums-sums in
+    let chips = c.symbol_chips-chips.ensures in
+    sum_fits form c.loop-k.k c.loop-k.pilot.i sums.result.plain.i
+    (omega (arith, c.loop-k-test.true, c.window_symbols-k-end.ensures))
+    c.loop-k.invariant.pilot_i (omega (arith, chips, sums.ensures.plain_i))
+
+pub overflow_add-pilot-in-loop-k : goal.overflow_add-pilot-in-loop-k
+overflow_add-pilot-in-loop-k c =
+    let form = c.args.form in
+    let sums = c.symbol_sums-sums in
+    let chips = c.symbol_chips-chips.ensures in
+    sum_fits form c.loop-k.k c.loop-k.pilot.q sums.result.plain.q
+    (omega (arith, c.loop-k-test.true, c.window_symbols-k-end.ensures))
+    c.loop-k.invariant.pilot_q (omega (arith, chips, sums.ensures.plain_q))
+
+pub loop-k-preserved : goal.loop-k-preserved
+loop-k-preserved c =
+    let inv = c.loop-k.invariant in
+    let ring = c.args.ring.now in
+    let finger = c.args.finger.now in
+    let form = c.args.form in
+    let start = c.args.start in
+    let window = c.args.window in
+    let k = c.loop-k.k in
+    let sums = c.symbol_sums-sums in
+    let chips = c.symbol_chips-chips.ensures in
+    let first : ℕ = c.place_of.result + c.from.result in
+    let place : ℕ = first + c.from-in-loop-k.result in
+    let far = ap (λ (n : ℕ). n * k) chips in
+    let wide = ap (λ (n : ℕ). n * window) c.window_chips.ensures in
+    let begun : first ≡ finger_place finger start + window_chips form * window =
+    omega (arith, wide) in
+    let at : place ≡ first + symbol_chips form * k = omega (arith, far) in
+    let few : k < window_symbols form =
+    omega (arith, c.loop-k-test.true, c.window_symbols-k-end.ensures) in
+    let held_all : IsHeld ring place (symbol_chips form) =
+    symbol_held ring finger form start window k place c.requires.ring c.requires.window few
+    (omega (arith, at, begun)) in
+    let plain_i : unsigned_abs sums.result.plain.i ≤ 65536 * symbol_chips form =
+    omega (arith, chips, sums.ensures.plain_i) in
+    let plain_q : unsigned_abs sums.result.plain.q ≤ 65536 * symbol_chips form =
+    omega (arith, chips, sums.ensures.plain_q) in
+    let covered_i : unsigned_abs sums.result.covered.i ≤ 65536 * symbol_chips form =
+    omega (arith, chips, sums.ensures.covered_i) in
+    let covered_q : unsigned_abs sums.result.covered.q ≤ 65536 * symbol_chips form =
+    omega (arith, chips, sums.ensures.covered_q) in
+    let index : c.from-in-loop-k-2.result ≡ k = omega arith in
+    rw index (record {
+      pilot = λ samples held.
+          let taken = held_all.taken in
+          let t = held.taken in
+          let is : sums.result.plain ≡
+          sum_of (despread_at samples finger.phase (first + symbol_chips form * k)
+          (symbol_chips form)) =
+          sums.ensures.plain samples held
+          ∙ ap (λ (n : ℕ × ℕ). sum_of (despread_at samples finger.phase n.0 n.1))
+          (λ i. (at i, chips i)) in
+          pilot_more samples finger.phase first (symbol_chips form * k) (symbol_chips form)
+          (symbol_chips form * (k + 1)) c.loop-k.pilot sums.result.plain _ _
+          (omega (arith, taken, t, at)) (chips_more form k) (inv.pilot samples held) is
+          (sum_kept form k c.loop-k.pilot.i sums.result.plain.i few inv.pilot_i plain_i)
+          (sum_kept form k c.loop-k.pilot.q sums.result.plain.q few inv.pilot_q plain_q);
+      symbols = λ samples held.
+          entry_more (λ (j : ℕ) (p : Pair). p ≡
+          symbol_sum samples finger form start (window_symbols form * window + j))
+          c.loop-k.symbols k sums.result.covered origin (omega (arith, inv.long, few, most_symbols form))
+          (inv.symbols samples held)
+          (symbol_is samples finger form start (window_symbols form * window + k) place
+          c.symbol_chips-chips.result sums.result.covered chips
+          (rw chips
+          (symbol_place form (finger_place finger start) window k place (omega (arith, at, begun))))
+          (sums.ensures.covered samples held));
+      pilot_i = bound_kept form k c.loop-k.pilot.i sums.result.plain.i few inv.pilot_i plain_i;
+      pilot_q = bound_kept form k c.loop-k.pilot.q sums.result.plain.q few inv.pilot_q plain_q;
+      small =
+          entry_more (λ (j : ℕ) (p : Pair). IsWithin (65536 * symbol_chips form) p)
+          c.loop-k.symbols k sums.result.covered origin (omega (arith, inv.long, few, most_symbols form))
+          inv.small (covered_i, covered_q);
+      long = length-set c.loop-k.symbols k _ ∙ inv.long;
+    })
+
+pub returns-clause-pilot : goal.returns-clause-pilot
+returns-clause-pilot c = λ samples held.
+    let form = c.args.form in
+    let wide = ap (λ (n : ℕ). n * c.args.window) c.window_chips.ensures in
+    pilot_whole samples c.args.finger.now form c.args.start c.args.window _
+    (symbol_chips form * c.loop-k.k) c.loop-k.pilot (c.loop-k.invariant.pilot samples held)
+    (whole_symbols form c.loop-k.k
+    (omega (arith, c.loop-k-test.false, c.loop-k.auto.k-end, c.window_symbols-k-end.ensures)))
+    (omega (arith, wide))
+
+pub returns-clause-symbols : goal.returns-clause-symbols
+returns-clause-symbols c = λ samples held k lt.
+    c.loop-k.invariant.symbols samples held k
+    (omega (arith, lt, c.loop-k-test.false, c.loop-k.auto.k-end, c.window_symbols-k-end.ensures))
+
+pub returns-clause-small : goal.returns-clause-small
+returns-clause-small c = λ k lt.
+    c.loop-k.invariant.small k
+    (omega (arith, lt, c.loop-k-test.false, c.loop-k.auto.k-end, c.window_symbols-k-end.ensures))
+
+pub returns-clause-pilot_i : goal.returns-clause-pilot_i
+returns-clause-pilot_i c =
+    let all =
+    whole_symbols c.args.form c.loop-k.k
+    (omega (arith, c.loop-k-test.false, c.loop-k.auto.k-end, c.window_symbols-k-end.ensures)) in
+    rw all at c.loop-k.invariant.pilot_i
+
+pub returns-clause-pilot_q : goal.returns-clause-pilot_q
+returns-clause-pilot_q c =
+    let all =
+    whole_symbols c.args.form c.loop-k.k
+    (omega (arith, c.loop-k-test.false, c.loop-k.auto.k-end, c.window_symbols-k-end.ensures)) in
+    rw all at c.loop-k.invariant.pilot_q

@@ -1,0 +1,29 @@
+-- The signs of a Walsh row's chips, and signs of the code that the row's have turned.
+use Rattle.std.specs.Prelude.{◌≡◌, ℕ, suc, ◌+◌, ◌%◌, ◌<◌, ◌≤◌, List, [], ◌∷◌, map, get_or, ℤ, pos, ◌*ℤ◌, unsigned_abs}
+use Rattle.chip_core.specs.Bits.{sign}
+use Rattle.pilot_search.specs.Lanes.{seven}
+use Rattle.walsh.specs.Walsh.{walsh}
+
+-- the signs of the 64 chips of a row
+abbrev pub AreRowSigns : ℕ → List ℤ → Type 0
+AreRowSigns row signs = (k : ℕ) → k < 64 → get_or signs k (pos 0) ≡ sign (walsh row k)
+
+-- 64 numbers whose absolute values are 0 or 1
+abbrev pub AreUnits : List ℤ → Type 0
+AreUnits signs = (k : ℕ) → k < 64 → unsigned_abs (get_or signs k (pos 0)) ≤ 1
+
+-- both signs of a chip of the code, times another sign
+abbrev pub turned_sign : ℤ → ℤ × ℤ → ℤ × ℤ
+turned_sign by signs = (signs.0 *ℤ by, signs.1 *ℤ by)
+
+-- the signs of chips of the code, each times the sign of its chip of a row, the first of them that
+-- of the row's chip k
+abbrev pub covered_signs : List ℤ → ℕ → List (ℤ × ℤ) → List (ℤ × ℤ)
+covered_signs row k [] = []
+covered_signs row k (g ∷ signs) =
+    turned_sign (get_or row (k % 64) (pos 0)) g ∷ covered_signs row (suc k) signs
+
+-- eight signs of a row, from a chip on
+abbrev pub sign_lanes : List ℤ → ℕ → List ℤ
+sign_lanes signs first =
+    get_or signs first (pos 0) ∷ map (λ k. get_or signs (first + k) (pos 0)) seven

@@ -1,0 +1,141 @@
+//! Sums over whole symbols on lanes, eight chips at a time.
+
+ghost use Rattle.std.specs.Prelude.{◌≡◌, ◌<◌, ◌≤◌, ◌+◌, ◌*◌, ◌%◌, ◌*ℤ◌, ℤ, List, length, All, unsigned_abs};
+ghost use lib.Lanes.{Each1, Each2, zip2};
+ghost use Rattle.chip_core.specs.declared.sample.Sample.{Sample};
+ghost use Rattle.pilot_search.specs.BySigns.{correlation_with};
+ghost use Rattle.pilot_search.specs.Lanes.{AreProducts, AreSums};
+ghost use Rattle.short_code.specs.Despread.{IsUnit};
+ghost use Rattle.rake_finger.specs.RowSigns.{AreUnits, covered_signs, sign_lanes};
+
+use crate::rows::RowSigns;
+use chip_core::{Pair, Sample};
+use pilot_search::{added, products, total_of};
+use std::simd::prelude::*;
+
+/// How many chips the lanes have.
+const GROUP: usize = 8;
+
+/// How many groups of chips a Walsh row has.
+const ROW_GROUPS: usize = 8;
+
+/// The sums of samples, despread: as they are, and each with the sign of its chip of a Walsh row.
+#[derive(Clone, Copy)]
+pub(crate) struct Sums {
+    pub plain: Pair,
+    pub covered: Pair,
+}
+
+/// Eight signs of a row, from a chip on.
+fn eight_signs(row: &RowSigns, first: usize) -> i32x8
+    requires room { first + 8 ≤ 64 }
+    requires units { AreUnits row.now }
+    ensures { result ≡ sign_lanes row.now first }
+{
+    i32x8::from_array([
+        row[first],
+        row[first + 1],
+        row[first + 2],
+        row[first + 3],
+        row[first + 4],
+        row[first + 5],
+        row[first + 6],
+        row[first + 7],
+    ])
+}
+
+/// Lanes of products, each times a sign.
+fn signed_lanes(products: i32x8, signs: i32x8) -> i32x8
+    requires products { Each1 (λ x. unsigned_abs x ≤ 65536) products }
+    requires signs { Each1 (λ x. unsigned_abs x ≤ 1) signs }
+    ensures { result ≡ zip2 (λ a b. a *ℤ b) products signs }
+{
+    products * signs
+}
+
+/// The products of a group of chips, each times the sign of its chip of a row: their real parts,
+/// and their imaginary parts.
+fn covered_products(real: i32x8, imaginary: i32x8, row: &RowSigns, group: usize) -> (i32x8, i32x8)
+    requires group { group < 8 }
+    requires units { AreUnits row.now }
+    requires real { Each1 (λ x. unsigned_abs x ≤ 65536) real }
+    requires imaginary { Each1 (λ x. unsigned_abs x ≤ 65536) imaginary }
+    ensures real { result.0 ≡ zip2 (λ a b. a *ℤ b) real (sign_lanes row.now (8 * group)) }
+    ensures imaginary { result.1 ≡
+        zip2 (λ a b. a *ℤ b) imaginary (sign_lanes row.now (8 * group)) }
+{
+    let signs = eight_signs(row, GROUP * group);
+    (signed_lanes(real, signs), signed_lanes(imaginary, signs))
+}
+
+/// Sums of the products of so many groups of chips, with those of one group more.
+fn with_products(
+    groups: usize,
+    real: i32x8,
+    imaginary: i32x8,
+    more_real: i32x8,
+    more_imaginary: i32x8,
+) -> (i32x8, i32x8)
+    requires few { groups < 4096 }
+    requires real { Each1 (λ x. unsigned_abs x ≤ 65536 * groups) real }
+    requires imaginary { Each1 (λ x. unsigned_abs x ≤ 65536 * groups) imaginary }
+    requires more_real { Each1 (λ x. unsigned_abs x ≤ 65536) more_real }
+    requires more_imaginary { Each1 (λ x. unsigned_abs x ≤ 65536) more_imaginary }
+    ensures { (samples : List Sample) (signs : List (ℤ × ℤ)) →
+        8 * groups + 8 ≤ length samples → 8 * groups + 8 ≤ length signs →
+        AreSums samples signs groups real imaginary →
+        AreProducts samples signs (8 * groups) more_real more_imaginary →
+        AreSums samples signs (groups + 1) result.0 result.1 }
+{
+    (added(real, more_real), added(imaginary, more_imaginary))
+}
+
+/// The sums of the products of samples with the conjugates of their points of the code, as they are
+/// and with the signs of a Walsh row, whose chip 0 falls on the first sample. The samples are whole
+/// groups of eight.
+pub(crate) fn sums_on_lanes(samples: &[Sample], signs: &[(i8, i8)], row: &RowSigns) -> Sums
+    requires few { length samples.now ≤ 32768 }
+    requires whole { length samples.now % 8 ≡ 0 }
+    requires room { length samples.now ≤ length signs.now }
+    requires units { All IsUnit signs.now }
+    requires row_units { AreUnits row.now }
+    ensures plain { result.plain ≡ correlation_with samples.now signs.now }
+    ensures covered { result.covered ≡
+        correlation_with samples.now (covered_signs row.now 0 signs.now) }
+    ensures plain_i { unsigned_abs result.plain.i ≤ 65536 * length samples.now }
+    ensures plain_q { unsigned_abs result.plain.q ≤ 65536 * length samples.now }
+    ensures covered_i { unsigned_abs result.covered.i ≤ 65536 * length samples.now }
+    ensures covered_q { unsigned_abs result.covered.q ≤ 65536 * length samples.now }
+{
+    let mut real = i32x8::splat(0);
+    let mut imaginary = i32x8::splat(0);
+    let mut covered_real = i32x8::splat(0);
+    let mut covered_imaginary = i32x8::splat(0);
+    for k in 0..samples.len() / GROUP {
+        let (more_real, more_imaginary) = products(samples, signs, GROUP * k);
+        let (turned_real, turned_imaginary) = covered_products(
+            more_real,
+            more_imaginary,
+            row,
+            k % ROW_GROUPS,
+        );
+        (real, imaginary) = with_products(k, real, imaginary, more_real, more_imaginary);
+        (covered_real, covered_imaginary) = with_products(
+            k,
+            covered_real,
+            covered_imaginary,
+            turned_real,
+            turned_imaginary,
+        );
+    }
+    Sums {
+        plain: Pair {
+            i: total_of(real),
+            q: total_of(imaginary),
+        },
+        covered: Pair {
+            i: total_of(covered_real),
+            q: total_of(covered_imaginary),
+        },
+    }
+}
