@@ -1,30 +1,13 @@
 -- The amplitudes of a cell's channels, and the samples that they make.
-use Rattle.std.proofs.Common.{◌≡◌, ℕ, zero, suc, ◌+◌, ◌-◌, ◌*◌, ◌/◌, ◌%◌, ◌≤◌, Bool, true, false, List, [], ◌∷◌, refl, sym, ap, ◌∙◌, arith}
-use Rattle.std.proofs.Common.{ℤ, pos, ◌+ℤ◌, ◌*ℤ◌, unsigned_abs, Option, Some, None, cond, replicate, ◌++◌, length, length-append, map}
-use Rattle.std.proofs.Common.{get_or, FitsSigned}
-use Rattle.std.proofs.lemmas.Bool.{le-ltb}
-use Rattle.std.proofs.lemmas.Int.{ints, unsigned_abs-mul, fits_signed_from_abs}
-use Rattle.std.proofs.lemmas.List.{length-map}
-use Rattle.std.specs.Int.{w8, w16}
-use Rattle.std.proofs.Math.Nat.{mul-le-mul_left}
-use Rattle.chip_core.specs.Bits.{binary, sign, parity, zip_with}
-use Rattle.chip_core.specs.Complex.{origin, plus, times}
-use Rattle.chip_core.specs.declared.sample.Pair.{Pair}
-use Rattle.chip_core.specs.declared.sample.Sample.{Sample}
-use Rattle.chip_core.proofs.Ring.{split, diff-times, diff-same, distrib_right}
-use Rattle.short_code.specs.Despread.{code_point}
-use Rattle.walsh.specs.Walsh.{walsh}
-use Rattle.cell_plan.specs.declared.plan.CellPlan.{CellPlan}
-use Rattle.cell_plan.specs.declared.plan.PagingPlan.{PagingPlan}
-use Rattle.cell_plan.specs.declared.plan.SyncPlan.{SyncPlan}
-use Rattle.cell_plan.specs.declared.plan.TrafficPlan.{TrafficPlan}
-use Rattle.cdma_io.specs.SampleFile.{bits_of, HasBits}
-use Rattle.chip_core.specs.declared.width.Width.{Width}
-use Rattle.chip_core.specs.declared.width.Width.TheVariants.{Sixteen, Eight}
-use Rattle.cell_plan.specs.Plan.{most_part, loudness, gain_sum, paging_gains, sync_gain, traffic_gains}
+use Rattle.cell_plan.proofs.Common.{◌≡◌, ℕ, zero, suc, ◌+◌, ◌-◌, ◌*◌, ◌/◌, ◌%◌, ◌≤◌, Bool, true, false, List, [], ◌∷◌, refl, sym, ap, ◌∙◌}
+use Rattle.cell_plan.proofs.Common.{arith, ℤ, pos, ◌+ℤ◌, ◌*ℤ◌, unsigned_abs, Option, Some, None, cond, replicate, ◌++◌, length}
+use Rattle.cell_plan.proofs.Common.{length-append, map, get_or, FitsSigned, le-ltb, ints, unsigned_abs-mul, fits_signed_from_abs}
+use Rattle.cell_plan.proofs.Common.{length-map, w8, w16, mul-le-mul_left, binary, sign, parity, zip_with, origin, plus, times, Pair, Sample}
+use Rattle.cell_plan.proofs.Common.{split, diff-times, diff-same, distrib_right, code_point, walsh, CellPlan, PagingPlan, SyncPlan}
+use Rattle.cell_plan.proofs.Common.{TrafficPlan, bits_of, HasBits, Width, Sixteen, Eight, most_part, loudness, gain_sum, paging_gains}
+use Rattle.cell_plan.proofs.Common.{sync_gain, traffic_gains, Carrier, amplitude, amplitudes, level, level_of, scaled, sent_chip}
+use Rattle.cell_plan.proofs.Common.{sync_carriers, paging_carrier, pilot_carrier, carriers, sample_of, symbol_of, traffic_carrier}
 use Rattle.cell_plan.proofs.MachineInts.{more_most}
-use Rattle.cell_plan.specs.Signal.{Carrier, amplitude, amplitudes, level, level_of, scaled, sent_chip, sync_carriers, paging_carrier}
-use Rattle.cell_plan.specs.Signal.{pilot_carrier, carriers, sample_of, symbol_of, traffic_carrier}
 
 -- ROWS
 

@@ -1,21 +1,10 @@
 -- The pages of a paging channel whose pages are messages: what they lay carries just their capsules.
-use Rattle.std.proofs.Common.{◌≡◌, ℕ, ◌+◌, ◌≤◌, List, [], ◌∷◌, length, map, refl, sym, ap, subst, ◌∙◌, arith, Bool}
-use Rattle.std.specs.Prelude.{All}
-use Rattle.std.proofs.lemmas.List.Elements.{All-cons, All-nil}
-use Rattle.chip_core.specs.declared.check_form.CheckForm.{CheckForm}
-use Rattle.quality_bits.specs.Capsules.{capsule}
-use Rattle.quality_bits.specs.declared.kind.Kind.TheVariants.{M30}
-use Rattle.quality_bits.proofs.Wholes.{length-capsule, whole-capsule}
-use Rattle.quality_bits.specs.declared.rate.Rate.{Rate}
-use Rattle.paging_message.specs.Admitted.{HasMessage}
-use Rattle.paging_message.specs.HalfFrames.{bits_left, half_frame_body}
-use Rattle.paging_message.specs.Laying as laying
-use Rattle.paging_message.proofs.Carried.{laid_is_carried, rate_large}
-use Rattle.cell_plan.specs.declared.plan.Page.{Page}
-use Rattle.cell_plan.specs.declared.plan.PagingPlan.{PagingPlan}
-use Rattle.cell_plan.specs.Pages.{laid_behind, page_cycle, put_of, AreSendable}
-use Rattle.cell_plan.specs.Stated.{AreHeard, IsCarried, IsStatedPaging}
+use Rattle.cell_plan.proofs.Common.{◌≡◌, ℕ, ◌+◌, ◌≤◌, List, [], ◌∷◌, length, map, refl, sym, ap, subst, ◌∙◌, arith, Bool, All, All-cons}
+use Rattle.cell_plan.proofs.Common.{All-nil, CheckForm, capsule, M30, length-capsule, whole-capsule, Rate, HasMessage, bits_left}
+use Rattle.cell_plan.proofs.Common.{half_frame_body, laid_is_carried, rate_large, Page, PagingPlan, laid_behind, page_cycle, put_of}
+use Rattle.cell_plan.proofs.Common.{AreSendable, AreHeard, IsCarried, IsStatedPaging}
 use Rattle.cell_plan.proofs.LaidPages.{length-on}
+use Rattle.paging_message.specs.Laying as laying
 
 -- pages behind what was laid are lawful puts
 puts_lawful : (size : ℕ) (form : CheckForm) (l : laying.Laid) (pages : List Page) (count : ℕ) →

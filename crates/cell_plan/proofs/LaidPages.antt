@@ -1,22 +1,11 @@
 -- The half-frames that pages lay.
-use Rattle.std.proofs.Common.{◌≡◌, ℕ, zero, suc, ◌+◌, ◌-◌, ◌*◌, ◌/◌, ◌%◌, ◌<◌, ◌≤◌, Bool, true, false, List, [], ◌∷◌, ◌++◌, length, take}
-use Rattle.std.proofs.Common.{drop, map, get_or, replicate, refl, sym, ap, ◌∙◌, arith, length-append, length-drop, inl, inr, subst}
-use Rattle.std.specs.List.{flat_map}
-use Rattle.std.proofs.lemmas.Bool.{cases_lt}
-use Rattle.std.proofs.lemmas.List.{at_drop_more, length-replicate, length-take-le, map-append, take_all, take_more}
-use Rattle.std.proofs.lemmas.Nat.{div-mul-add, mod-mul-add}
-use Rattle.std.proofs.Math.Nat.{div-add-mod, mod-lt, mod_self}
-use Rattle.chip_core.specs.Bits.{places}
-use Rattle.chip_core.specs.declared.check_form.CheckForm.{CheckForm}
-use Rattle.quality_bits.specs.Capsules.{capsule}
-use Rattle.quality_bits.specs.declared.kind.Kind.TheVariants.{M30}
-use Rattle.quality_bits.proofs.Wholes.{length-capsule}
-use Rattle.quality_bits.specs.declared.rate.Rate.{Rate}
+use Rattle.cell_plan.proofs.Common.{◌≡◌, ℕ, zero, suc, ◌+◌, ◌-◌, ◌*◌, ◌/◌, ◌%◌, ◌<◌, ◌≤◌, Bool, true, false, List, [], ◌∷◌, ◌++◌, length}
+use Rattle.cell_plan.proofs.Common.{take, drop, map, get_or, replicate, refl, sym, ap, ◌∙◌, arith, length-append, length-drop, inl, inr}
+use Rattle.cell_plan.proofs.Common.{subst, flat_map, cases_lt, at_drop_more, length-replicate, length-take-le, map-append, take_all}
+use Rattle.cell_plan.proofs.Common.{take_more, div-mul-add, mod-mul-add, div-add-mod, mod-lt, mod_self, places, CheckForm, capsule, M30}
+use Rattle.cell_plan.proofs.Common.{length-capsule, Rate, half_frame_body, flat-more, flat-none, padded_framed, Page}
 use Rattle.quality_bits.specs.declared.rate.Rate.TheVariants as rates
-use Rattle.paging_message.specs.HalfFrames.{half_frame_body}
 use Rattle.paging_message.specs.Laying as laying
-use Rattle.paging_message.proofs.Layings.{flat-more, flat-none, padded_framed}
-use Rattle.cell_plan.specs.declared.plan.Page.{Page}
 use Rattle.cell_plan.specs.Pages as specs
 
 -- ---- one page more

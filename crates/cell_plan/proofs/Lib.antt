@@ -1,5 +1,6 @@
 pub mod Amplitudes
 pub mod CarriedPages
+pub mod Common
 pub mod LaidPages
 pub mod MachineInts
 pub mod PageCycles

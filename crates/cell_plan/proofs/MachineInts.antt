@@ -1,8 +1,6 @@
 -- Numbers that fit a machine integer come back from it.
-use Rattle.std.proofs.Common.{◌≡◌, ℕ, ◌+◌, ◌*◌, ◌≤◌, ◌^◌, arith, ◌∙◌, ℤ, ◌+ℤ◌, ◌-ℤ◌, ◌*ℤ◌, unsigned_abs, FitsSigned, to_z, of_z}
-use Rattle.std.specs.Int.{w8, w16, w64}
-use Rattle.std.proofs.lemmas.Int.{ints, to_z-of_z, fits_signed_from_abs, unsigned_abs-mul}
-use Rattle.std.proofs.Math.Nat.{mul-le-mul}
+use Rattle.cell_plan.proofs.Common.{◌≡◌, ℕ, ◌+◌, ◌*◌, ◌≤◌, ◌^◌, arith, ◌∙◌, ℤ, ◌+ℤ◌, ◌-ℤ◌, ◌*ℤ◌, unsigned_abs, FitsSigned, to_z, of_z, w8}
+use Rattle.cell_plan.proofs.Common.{w16, w64, ints, to_z-of_z, fits_signed_from_abs, unsigned_abs-mul, mul-le-mul}
 
 read8 : (z : ℤ) → unsigned_abs z ≤ 127 → to_z w8 (of_z w8 z) ≡ z
 read8 z small = to_z-of_z w8 z (fits_signed_from_abs w8 z (omega (arith, small)))

@@ -1,15 +1,7 @@
 -- The bits and symbols of paging channels.
-use Rattle.std.proofs.Common.{◌≡◌, ℕ, ◌+◌, ◌*◌, ◌%◌, ◌<◌, ◌≤◌, Bool, false, List, [], ◌∷◌, ◌++◌, length, take, map, get_or, refl, sym, ap}
-use Rattle.std.proofs.Common.{◌∙◌, arith, Some}
-use Rattle.std.specs.Prelude.{true, not}
-use Rattle.std.specs.Bool.{beq}
-use Rattle.std.specs.List.{slice_get}
-use Rattle.std.proofs.lemmas.List.{take_more, take_all, length-take-le}
-use Rattle.chip_core.specs.Bits.{places, xor, zip_with}
-use Rattle.chip_core.proofs.BitLists.{taken_more, zip_push}
-use Rattle.chip_core.proofs.Places.{places-none, map-places-more}
-use Rattle.quality_bits.specs.TrafficWords.{repeats_of}
-use Rattle.quality_bits.specs.declared.rate.Rate.{Rate}
+use Rattle.cell_plan.proofs.Common.{◌≡◌, ℕ, ◌+◌, ◌*◌, ◌%◌, ◌<◌, ◌≤◌, Bool, false, List, [], ◌∷◌, ◌++◌, length, take, map, get_or, refl, sym}
+use Rattle.cell_plan.proofs.Common.{ap, ◌∙◌, arith, Some, true, not, beq, slice_get, take_more, take_all, length-take-le, places, xor}
+use Rattle.cell_plan.proofs.Common.{zip_with, taken_more, zip_push, places-none, map-places-more, repeats_of, Rate}
 use Rattle.quality_bits.specs.declared.rate.Rate.TheVariants as rates
 use Rattle.cell_plan.specs.PageCycles as cycles
 

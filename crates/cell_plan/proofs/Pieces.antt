@@ -1,12 +1,8 @@
 -- Pieces of a cell's samples.
-use Rattle.std.proofs.Common.{◌≡◌, ℕ, ◌+◌, ◌<◌, ◌≤◌, List, length, get_or, take, drop, map, sym, ◌∙◌, arith, pos}
-use Rattle.std.proofs.lemmas.List.{get_or-drop, length-drop, length-take-le, get_or-take, get_or-map, length-map}
-use Rattle.chip_core.specs.Bits.{places}
-use Rattle.chip_core.specs.Complex.{origin, of_sample}
-use Rattle.chip_core.specs.declared.sample.Sample.{Sample}
-use Rattle.chip_core.proofs.Places.{length-map-places, get_or-map-places, map-places-all}
-use Rattle.cell_plan.specs.declared.plan.CellPlan.{CellPlan}
-use Rattle.cell_plan.specs.Signal.{sample_of, samples_of}
+use Rattle.cell_plan.proofs.Common.{◌≡◌, ℕ, ◌+◌, ◌<◌, ◌≤◌, List, length, get_or, take, drop, map, sym, ◌∙◌, arith, pos, get_or-drop}
+use Rattle.cell_plan.proofs.Common.{length-take-le, get_or-take, get_or-map, length-map, places, origin, of_sample, Sample}
+use Rattle.cell_plan.proofs.Common.{length-map-places, get_or-map-places, map-places-all, CellPlan, sample_of, samples_of}
+use Rattle.std.proofs.lemmas.List.{length-drop}
 
 abbrev pub no_sample : Sample
 no_sample = record { i = pos 0; q = pos 0 }

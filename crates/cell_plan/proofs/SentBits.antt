@@ -1,10 +1,7 @@
 -- The bits of frames whose encoder goes on from one to the next.
-use Rattle.std.proofs.Common.{◌≡◌, ℕ, zero, suc, ◌+◌, ◌-◌, ◌*◌, ◌≤◌, Bool, List, ◌++◌, length, drop, refl, sym, ap, ◌∙◌, arith, add-one}
-use Rattle.std.proofs.Math.Seq.{drop-append-add}
-use Rattle.chip_core.specs.Bits.{binary}
-use Rattle.chip_core.proofs.FieldLists.{length-binary}
-use Rattle.conv_code.specs.ConvCode.{code_symbols, state_after}
-use Rattle.cell_plan.specs.Sendings.{bits_before, continued_symbols}
+use Rattle.cell_plan.proofs.Common.{◌≡◌, ℕ, zero, suc, ◌+◌, ◌-◌, ◌*◌, ◌≤◌, Bool, List, ◌++◌, length, drop, refl, sym, ap, ◌∙◌, arith}
+use Rattle.cell_plan.proofs.Common.{add-one, drop-append-add, binary, length-binary, code_symbols, state_after, bits_before}
+use Rattle.cell_plan.proofs.Common.{continued_symbols}
 
 pub before-first : (bits : ℕ → List Bool) → binary 8 0 ≡ bits_before bits 0
 unfolding binary bits_before

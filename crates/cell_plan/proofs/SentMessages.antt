@@ -1,18 +1,10 @@
 -- The messages of sendings, and the frames that they fill.
-use Rattle.std.proofs.Common.{◌≡◌, ℕ, ◌+◌, ◌*◌, ◌/◌, ◌%◌, ◌^◌, ◌<◌, ◌≤◌, ◌==◌, zero, suc, Bool, false, List, [], ◌∷◌, ◌++◌, length, get_or}
-use Rattle.std.proofs.Common.{take, drop, replicate, refl, sym, ap, ◌∙◌, arith, length-append}
-use Rattle.std.proofs.Math.Nat.{mod-lt, mul-le-mul_left}
-use Rattle.std.proofs.lemmas.List.{take_more, get_or-drop, length-drop, get_or-replicate, length-replicate}
-use Rattle.chip_core.specs.Fields.{FieldsFit}
-use Rattle.chip_core.specs.declared.check_form.CheckForm.{CheckForm}
-use Rattle.quality_bits.specs.declared.kind.Kind.TheVariants.{M30}
-use Rattle.quality_bits.proofs.Wholes.{length-capsule}
-use Rattle.sync_message.specs.Framing.{superframes_of}
-use Rattle.sync_message.specs.SyncMessage.{fixed_fields, sync_body, sync_capsule, IsSyncMessage}
-use Rattle.sync_message.specs.declared.fields.SyncFields.{SyncFields}
-use Rattle.sync_message.proofs.Bodies.{admitted, fixed_fit, tail_of, length-body}
-use Rattle.cell_plan.specs.declared.plan.CellIdentity.{CellIdentity}
-use Rattle.cell_plan.specs.Sendings.{message_of, superframes_a_sending, padded_sending, sync_frame_bits}
+use Rattle.cell_plan.proofs.Common.{◌≡◌, ℕ, ◌+◌, ◌*◌, ◌/◌, ◌%◌, ◌^◌, ◌<◌, ◌≤◌, ◌==◌, zero, suc, Bool, false, List, [], ◌∷◌, ◌++◌, length}
+use Rattle.cell_plan.proofs.Common.{get_or, take, drop, replicate, refl, sym, ap, ◌∙◌, arith, length-append, mod-lt, mul-le-mul_left}
+use Rattle.cell_plan.proofs.Common.{take_more, get_or-drop, get_or-replicate, length-replicate, FieldsFit, CheckForm, M30, length-capsule}
+use Rattle.cell_plan.proofs.Common.{superframes_of, fixed_fields, sync_body, sync_capsule, IsSyncMessage, SyncFields, admitted, fixed_fit}
+use Rattle.cell_plan.proofs.Common.{tail_of, length-body, CellIdentity, message_of, superframes_a_sending, padded_sending, sync_frame_bits}
+use Rattle.std.proofs.lemmas.List.{length-drop}
 
 -- a message with another offset, time and state
 abbrev pub refilled : SyncFields → ℕ → ℕ → ℕ → SyncFields

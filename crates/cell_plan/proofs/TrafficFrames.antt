@@ -1,15 +1,7 @@
 -- The frames of traffic channels.
-use Rattle.std.proofs.Common.{◌≡◌, ℕ, zero, suc, ◌*◌, ◌%◌, ◌<◌, ◌≤◌, Bool, false, List, [], ◌∷◌, ◌++◌, length, take, drop, get_or}
-use Rattle.std.proofs.Common.{replicate, refl, sym, ap, ◌∙◌, arith}
-use Rattle.std.specs.List.{flat_map}
-use Rattle.std.proofs.lemmas.List.{append-nil}
-use Rattle.chip_core.specs.Bits.{binary}
-use Rattle.conv_code.specs.ConvCode.{code_symbols}
-use Rattle.conv_code.proofs.Continued.{length-code_symbols}
-use Rattle.quality_bits.specs.Kinds.{quality_indicator}
-use Rattle.quality_bits.specs.TrafficWords.{repeats_of, quality_of, traffic_word}
-use Rattle.quality_bits.specs.declared.rate.Rate.{Rate}
-use Rattle.cell_plan.specs.TrafficFrames.{cycled}
+use Rattle.cell_plan.proofs.Common.{◌≡◌, ℕ, zero, suc, ◌*◌, ◌%◌, ◌<◌, ◌≤◌, Bool, false, List, [], ◌∷◌, ◌++◌, length, take, drop, get_or}
+use Rattle.cell_plan.proofs.Common.{replicate, refl, sym, ap, ◌∙◌, arith, flat_map, append-nil, binary, code_symbols, length-code_symbols}
+use Rattle.cell_plan.proofs.Common.{quality_indicator, repeats_of, quality_of, traffic_word, Rate, cycled}
 
 -- the tail, and the state before a frame
 zeros : binary 8 0 ≡ replicate 8 false

@@ -1,3 +1,4 @@
+pub mod Common
 pub mod NamedPages
 pub mod NamedPlans
 pub mod ScriptAnswers

@@ -1,16 +1,7 @@
 -- The pages of a named plan: what they lay carries just their capsules.
-use Rattle.std.proofs.Common.{◌≡◌, ℕ, List, Ok}
-use Rattle.std.specs.Prelude.{All}
-use Rattle.std.proofs.lemmas.List.Elements.{All-weaker}
-use Rattle.chip_core.specs.declared.check_form.CheckForm.{CheckForm}
-use Rattle.chip_core.specs.declared.width.Width.{Width}
-use Rattle.paging_message.specs.HalfFrames.{half_frame_body}
-use Rattle.cell_plan.specs.declared.plan.CellPlan.{CellPlan}
-use Rattle.cell_plan.specs.declared.plan.PagingPlan.{PagingPlan}
-use Rattle.cell_plan.specs.Pages.{paging_rate}
-use Rattle.cell_script.specs.Script.{plan_named}
-use Rattle.cell_plan.specs.Stated.{HasMessages, IsCarried, IsReceivable, IsStatedPaging}
-use Rattle.cell_plan.proofs.CarriedPages.{channel_carried, heard_messages}
+use Rattle.cell_script.proofs.Common.{◌≡◌, ℕ, List, Ok, All, All-weaker, CheckForm, Width, half_frame_body, CellPlan, PagingPlan}
+use Rattle.cell_script.proofs.Common.{paging_rate, plan_named, HasMessages, IsCarried, IsReceivable, IsStatedPaging, channel_carried}
+use Rattle.cell_script.proofs.Common.{heard_messages}
 use Rattle.cell_script.proofs.NamedPlans.{named_plan, named_said}
 
 pub pages_are_messages : (width : Width) (script : List ℕ) (plan : CellPlan) →

@@ -1,62 +1,28 @@
 -- The plan that a script names is lawful, and its link isn't 0.
-use Rattle.std.proofs.Common.{◌≡◌, ℕ, zero, suc, ◌+◌, ◌-◌, ◌<◌, ◌≤◌, Bool, true, false, cond, List, [], ◌∷◌, ◌++◌, length, take, refl, sym}
-use Rattle.std.proofs.Common.{ap, subst, ◌∙◌, arith, Option, None, Some, Result, Ok, Err}
-use Rattle.std.specs.Option.{option_or}
-use Rattle.std.specs.Prelude.{nat_lt, ◌==◌, ok_or, option_map, option_and_then, All}
-use Rattle.std.proofs.lemmas.Bool.{and_parts, cond-true, cond-false, eqb-true, leb-true, ltb-false}
+use Rattle.cell_script.proofs.Common.{◌≡◌, ℕ, zero, suc, ◌+◌, ◌-◌, ◌<◌, ◌≤◌, Bool, true, false, cond, List, [], ◌∷◌, ◌++◌, length, take}
+use Rattle.cell_script.proofs.Common.{refl, sym, ap, subst, ◌∙◌, arith, Option, None, Some, Result, Ok, Err, option_or, nat_lt, ◌==◌, ok_or}
+use Rattle.cell_script.proofs.Common.{option_map, option_and_then, All, and_parts, cond-true, cond-false, eqb-true, leb-true, ltb-false}
+use Rattle.cell_script.proofs.Common.{All-nil, All-push, cond_some, same_Some, norm, most_samples, Width, FillsCapsule, M30, Rate, R9600}
+use Rattle.cell_script.proofs.Common.{R4800, HasMessage, bits_left, half_frame_body, half_frame_bits, laid_behind, paging_rate, AreSendable}
+use Rattle.cell_script.proofs.Common.{CellPlan, Page, PagingPlan, CellIdentity, LinkPlan, PilotPlan, SyncPlan, Stage, Cell, Link, Pilot}
+use Rattle.cell_script.proofs.Common.{Sync, Paging, FirstPage, Pages, Traffic, FirstFrame, Frames, Frames2, TrafficPlan, FrameList}
+use Rattle.cell_script.proofs.Common.{TrafficFrame, TrafficFrame2, PagingLine, TrafficLine, Statement, ScriptFault, Gain, TooBig, Walsh}
+use Rattle.cell_script.proofs.Common.{loudness, most_part, IsLawfulPlan, IsSyncPlan, draft_after, gain_fault, is_line, lines, long_fault}
+use Rattle.cell_script.proofs.Common.{channel_lines, loud_fault, named, plan_fault, plan_named, traffic_lines, repeated, silent, stated}
+use Rattle.cell_script.proofs.Common.{stated_plan, sync_gain_fault, unless, walsh_fault, draft_at, Draft, empty_draft, empty_plan, opened}
+use Rattle.cell_script.proofs.Common.{on_last, opened_traffic, plan_at, with_line, with_next, with_page, with_statement, with_one, with_two}
+use Rattle.cell_script.proofs.Common.{frame_count, set_one, set_two, AreTrafficFrames, IsTrafficFrame, IsTrafficFrame2, IsInOrder}
+use Rattle.cell_script.proofs.Common.{statement_in, AreHeard, HasSaid, IsStatedCell, IsStatedLink, IsStatedPaging, IsStatedPlan}
+use Rattle.cell_script.proofs.Common.{IsStatedSync, IsStatedTraffic, IsLawful, after_cell, after_frame, after_link, after_page}
+use Rattle.cell_script.proofs.Common.{after_paging, after_pilot, after_sync, after_traffic, after_frame2, behind_sync, count_behind}
+use Rattle.cell_script.proofs.Common.{is_cycle, may_follow, next_stage, pages_behind}
 use Rattle.std.proofs.lemmas.List.{length-append}
-use Rattle.std.proofs.lemmas.List.Elements.{All-nil, All-push}
-use Rattle.std.proofs.lemmas.Option.{cond_some, same_Some}
-use Rattle.chip_core.specs.Complex.{norm}
-use Rattle.cdma_io.specs.SampleFile.{most_samples}
-use Rattle.chip_core.specs.declared.width.Width.{Width}
-use Rattle.quality_bits.specs.Capsules.{FillsCapsule}
-use Rattle.quality_bits.specs.declared.kind.Kind.TheVariants.{M30}
-use Rattle.quality_bits.specs.declared.rate.Rate.{Rate}
-use Rattle.quality_bits.specs.declared.rate.Rate.TheVariants.{R9600, R4800}
-use Rattle.paging_message.specs.Admitted.{HasMessage}
-use Rattle.paging_message.specs.HalfFrames.{bits_left, half_frame_body}
-use Rattle.cell_plan.specs.Pages.{half_frame_bits, laid_behind, paging_rate, AreSendable}
-use Rattle.cell_plan.specs.declared.plan.CellPlan.{CellPlan}
-use Rattle.cell_plan.specs.declared.plan.Page.{Page}
-use Rattle.cell_plan.specs.declared.plan.PagingPlan.{PagingPlan}
-use Rattle.cell_plan.specs.declared.plan.CellIdentity.{CellIdentity}
-use Rattle.cell_plan.specs.declared.plan.LinkPlan.{LinkPlan}
-use Rattle.cell_plan.specs.declared.plan.PilotPlan.{PilotPlan}
-use Rattle.cell_plan.specs.declared.plan.SyncPlan.{SyncPlan}
-use Rattle.cell_script.specs.declared.stage.Stage.{Stage}
-use Rattle.cell_script.specs.declared.stage.Stage.TheVariants.{Cell, Link, Pilot, Sync, Paging, FirstPage, Pages, Traffic, FirstFrame}
-use Rattle.cell_script.specs.declared.stage.Stage.TheVariants.{Frames, Frames2}
-use Rattle.cell_plan.specs.declared.plan.TrafficPlan.{TrafficPlan}
-use Rattle.cell_plan.specs.declared.frame_list.FrameList.{FrameList}
-use Rattle.cell_plan.specs.declared.traffic_frame.TrafficFrame.{TrafficFrame}
-use Rattle.cell_plan.specs.declared.traffic_frame2.TrafficFrame2.{TrafficFrame2}
-use Rattle.cell_script.specs.declared.statements.PagingLine.{PagingLine}
-use Rattle.cell_script.specs.declared.statements.TrafficLine.{TrafficLine}
-use Rattle.cell_script.specs.declared.statements.Statement.{Statement}
-use Rattle.cell_script.specs.declared.statements.Statement.TheVariants as statements
-use Rattle.cell_script.specs.declared.script_fault.ScriptFault.{ScriptFault}
-use Rattle.cell_script.specs.declared.script_fault.ScriptFault.TheVariants.{Gain, TooBig, Walsh}
-use Rattle.cell_plan.specs.Plan.{loudness, most_part, IsLawfulPlan, IsSyncPlan}
-use Rattle.cell_script.specs.Script.{draft_after, gain_fault, is_line, lines, long_fault, channel_lines, loud_fault, named, plan_fault}
-use Rattle.cell_script.specs.Script.{plan_named, traffic_lines, repeated, silent, stated, stated_plan, sync_gain_fault, unless, walsh_fault}
-use Rattle.cell_script.specs.ScriptDrafts.{draft_at, Draft, empty_draft, empty_plan, opened, on_last, opened_traffic, plan_at, with_line}
-use Rattle.cell_script.specs.ScriptDrafts.{with_next, with_page, with_statement}
-use Rattle.cell_plan.specs.TrafficFrames.{with_one, with_two, frame_count, set_one, set_two, AreTrafficFrames, IsTrafficFrame}
-use Rattle.cell_plan.specs.TrafficFrames.{IsTrafficFrame2}
-use Rattle.cell_script.specs.ScriptJudged.{IsInOrder}
-use Rattle.cell_script.specs.ScriptLines.{statement_in}
-use Rattle.cell_plan.specs.Stated.{AreHeard, HasSaid, IsStatedCell, IsStatedLink, IsStatedPaging, IsStatedPlan, IsStatedSync}
-use Rattle.cell_plan.specs.Stated.{IsStatedTraffic}
-use Rattle.cell_script.specs.ScriptPlans.{IsLawful}
-use Rattle.cell_script.specs.ScriptStages.{after_cell, after_frame, after_link, after_page, after_paging, after_pilot, after_sync}
-use Rattle.cell_script.specs.ScriptStages.{after_traffic, after_frame2, behind_sync, count_behind, is_cycle, may_follow, next_stage}
-use Rattle.cell_script.specs.ScriptStages.{pages_behind}
 use Rattle.cell_script.proofs.ScriptBounds.{line_bounds, passed}
 use Rattle.cell_script.proofs.ScriptPages.{with_page-last}
 use Rattle.cell_script.proofs.ScriptNumbers.{few_channels, have_own_numbers, lawful_beside, some_gains}
 use Rattle.cell_script.proofs.ScriptSplits.{stated-fault, stated-next, stated-none}
 use Rattle.cell_script.proofs.ScriptFrames.{on_last-last}
+use Rattle.cell_script.specs.declared.statements.Statement.TheVariants as statements
 
 -- ---- pages of a cycle
 

@@ -1,15 +1,7 @@
 -- The answer of both readings of a script: the plan that it names, or its fault.
-use Rattle.std.proofs.Common.{◌≡◌, ℕ, ◌<◌, ◌≤◌, List, length, refl, sym, ap, subst, ◌∙◌, None, Some, Result, Ok, Err, IsOk}
-use Rattle.std.proofs.lemmas.Bool.{cond-true, cond-false, le-ltb, lt-ltb}
-use Rattle.chip_core.specs.declared.width.Width.{Width}
-use Rattle.cell_plan.specs.declared.plan.CellPlan.{CellPlan}
-use Rattle.cell_script.specs.declared.judge.Judge.{Judge}
-use Rattle.cell_script.specs.declared.script_fault.ScriptFault.{ScriptFault}
-use Rattle.cell_script.specs.declared.script_fault.ScriptFault.TheVariants.{Line, TooBig}
-use Rattle.cell_plan.specs.Plan.{IsLawfulPlan}
-use Rattle.cell_script.specs.Script.{named, plan_named, stated_plan, unless}
-use Rattle.cell_script.specs.ScriptJudged.{judged_fault, IsJudged}
-use Rattle.cell_plan.specs.Stated.{IsStatedLink}
+use Rattle.cell_script.proofs.Common.{◌≡◌, ℕ, ◌<◌, ◌≤◌, List, length, refl, sym, ap, subst, ◌∙◌, None, Some, Result, Ok, Err, IsOk}
+use Rattle.cell_script.proofs.Common.{cond-true, cond-false, le-ltb, lt-ltb, Width, CellPlan, Judge, ScriptFault, Line, TooBig}
+use Rattle.cell_script.proofs.Common.{IsLawfulPlan, named, plan_named, stated_plan, unless, judged_fault, IsJudged, IsStatedLink}
 use Rattle.cell_script.proofs.NamedPlans.{named_plan, stated_said}
 use Rattle.cell_script.proofs.ScriptRows.{judged_fault_is}
 

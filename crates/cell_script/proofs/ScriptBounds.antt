@@ -1,49 +1,22 @@
 -- What the statements of a script say is within its bounds.
-use Rattle.std.proofs.Common.{◌≡◌, ℕ, zero, suc, ◌+◌, ◌*◌, ◌^◌, ◌<◌, ◌≤◌, Bool, true, false, cond, List, [], ◌∷◌, length, get_or, refl, sym}
-use Rattle.std.proofs.Common.{subst, ◌∙◌, arith, ℤ, unsigned_abs, Option, None, Some, IfSome}
-use Rattle.std.specs.Prelude.{codes, nat_le, nat_lt, ◌==◌, option_and_then, option_map, FitsSigned}
-use Rattle.std.specs.Int.{w16}
-use Rattle.std.proofs.lemmas.Bool.{and_parts, cond-false, cond-true, eqb-false, eqb-true, leb-true, ltb-true}
-use Rattle.std.proofs.lemmas.Int.{ints}
-use Rattle.std.proofs.lemmas.Option.{cond_some, same_Some}
-use Rattle.chip_core.specs.Complex.{norm}
-use Rattle.chip_core.specs.Fields.{FieldsFit}
-use Rattle.long_code.specs.LongCode.{IsState}
-use Rattle.sync_message.specs.SyncMessage.{fixed_fields, IsSyncMessage}
-use Rattle.sync_message.specs.declared.fields.SyncFields.{SyncFields}
-use Rattle.sync_message.proofs.Bodies.{admitted}
-use Rattle.cell_plan.specs.declared.plan.SyncPlan.{SyncPlan}
-use Rattle.cell_plan.specs.declared.plan.CellIdentity.{CellIdentity}
-use Rattle.cell_plan.specs.declared.plan.LinkPlan.{LinkPlan}
-use Rattle.cell_script.specs.ScriptFields.{NumberRow, AreUpTo, at_end, field, numbers_in, past, value_of}
-use Rattle.cell_script.specs.ScriptLines.{cell_in, cell_line, freq_in, has_lawful_rest, is_link, link_in, link_line, sync_behind}
-use Rattle.cell_script.specs.ScriptLines.{sync_fields, sync_in, frame_in, frame_key, frame_rate, frame_with, frame2_in, frame2_key}
-use Rattle.cell_script.specs.ScriptLines.{frame2_rate, frame2_with, lawful_frame2, lawful_frame, traffic_in, traffic_line, lawful_message}
-use Rattle.cell_script.specs.ScriptLines.{lawful_page, page_in, page_key, page_with, paging_in, paging_line, pilot_in, statement_in}
-use Rattle.cell_script.specs.ScriptLines.{sync_table}
-use Rattle.cell_plan.specs.declared.plan.Page.{Page}
-use Rattle.cell_script.specs.declared.statements.PagingLine.{PagingLine}
-use Rattle.cell_script.specs.declared.statements.TrafficLine.{TrafficLine}
-use Rattle.cell_plan.specs.declared.traffic_frame.TrafficFrame.{TrafficFrame}
-use Rattle.cell_plan.specs.declared.traffic_frame2.TrafficFrame2.{TrafficFrame2}
-use Rattle.symbol_path.specs.RatesTwo as second
-use Rattle.symbol_path.specs.declared.rate_two.Rate2.{Rate2}
-use Rattle.cell_plan.specs.TrafficFrames.{IsTrafficFrame, IsTrafficFrame2}
-use Rattle.quality_bits.specs.TrafficWords.{information_of}
-use Rattle.quality_bits.specs.declared.rate.Rate.{Rate}
-use Rattle.cell_script.specs.declared.statements.Statement.{Statement}
-use Rattle.cell_script.specs.declared.statements.Statement.TheVariants as statements
-use Rattle.paging_message.specs.Admitted.{HasMessage}
-use Rattle.paging_message.specs.Reading.{is_body}
-use Rattle.quality_bits.specs.Capsules.{FillsCapsule}
-use Rattle.quality_bits.specs.declared.kind.Kind.TheVariants.{M30}
-use Rattle.cell_script.specs.ScriptPlans.{IsLawful}
-use Rattle.cell_plan.specs.Stated.{IsStatedCell, IsStatedLink}
-use Rattle.cell_script.specs.ScriptValues.{as_state, begins_with, bits_in, hex_from, number_in, commands_in, number_up_to, serial_number_in}
-use Rattle.cell_script.specs.ScriptValues.{signed_in, state_in, up_to}
+use Rattle.cell_script.proofs.Common.{◌≡◌, ℕ, zero, suc, ◌+◌, ◌*◌, ◌^◌, ◌<◌, ◌≤◌, Bool, true, false, cond, List, [], ◌∷◌, length, get_or}
+use Rattle.cell_script.proofs.Common.{refl, sym, subst, ◌∙◌, arith, ℤ, unsigned_abs, Option, None, Some, IfSome, codes, nat_le, nat_lt}
+use Rattle.cell_script.proofs.Common.{◌==◌, option_and_then, option_map, FitsSigned, w16, and_parts, cond-false, cond-true, eqb-false}
+use Rattle.cell_script.proofs.Common.{eqb-true, leb-true, ltb-true, ints, cond_some, same_Some, norm, FieldsFit, IsState, fixed_fields}
+use Rattle.cell_script.proofs.Common.{IsSyncMessage, SyncFields, admitted, SyncPlan, CellIdentity, LinkPlan, NumberRow, AreUpTo, at_end}
+use Rattle.cell_script.proofs.Common.{field, numbers_in, past, value_of, cell_in, cell_line, freq_in, has_lawful_rest, is_link, link_in}
+use Rattle.cell_script.proofs.Common.{link_line, sync_behind, sync_fields, sync_in, frame_in, frame_key, frame_rate, frame_with, frame2_in}
+use Rattle.cell_script.proofs.Common.{frame2_key, frame2_rate, frame2_with, lawful_frame2, lawful_frame, traffic_in, traffic_line}
+use Rattle.cell_script.proofs.Common.{lawful_message, lawful_page, page_in, page_key, page_with, paging_in, paging_line, pilot_in}
+use Rattle.cell_script.proofs.Common.{statement_in, sync_table, Page, PagingLine, TrafficLine, TrafficFrame, TrafficFrame2, Rate2}
+use Rattle.cell_script.proofs.Common.{IsTrafficFrame, IsTrafficFrame2, information_of, Rate, Statement, HasMessage, is_body, FillsCapsule}
+use Rattle.cell_script.proofs.Common.{M30, IsLawful, IsStatedCell, IsStatedLink, as_state, begins_with, bits_in, hex_from, number_in}
+use Rattle.cell_script.proofs.Common.{commands_in, number_up_to, serial_number_in, signed_in, state_in, up_to}
 use Rattle.cell_script.proofs.ScriptMessages.{is_tail}
 use Rattle.cell_script.proofs.ScriptPages.{body_fills, body_message}
 use Rattle.cell_script.proofs.ScriptNumerals.{one_signed_numeral}
+use Rattle.symbol_path.specs.RatesTwo as second
+use Rattle.cell_script.specs.declared.statements.Statement.TheVariants as statements
 
 -- ---- steps that may fail
 

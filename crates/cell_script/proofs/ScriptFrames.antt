@@ -1,8 +1,5 @@
 -- Frames of traffic channels: the channel whose frames change.
-use Rattle.std.proofs.Common.{◌≡◌, List, [], ◌∷◌, ◌++◌, refl, sym, ap, ◌∙◌, Result, Ok, Err, OnOk}
-use Rattle.cell_plan.specs.declared.frame_list.FrameList.{FrameList}
-use Rattle.cell_plan.specs.declared.plan.TrafficPlan.{TrafficPlan}
-use Rattle.cell_script.specs.ScriptDrafts.{on_last}
+use Rattle.cell_script.proofs.Common.{◌≡◌, List, [], ◌∷◌, ◌++◌, refl, sym, ap, ◌∙◌, Result, Ok, Err, OnOk, FrameList, TrafficPlan, on_last}
 
 pub on_last-last : (change : FrameList → FrameList) (before : List TrafficPlan)
     (last : TrafficPlan) →

@@ -1,13 +1,7 @@
 -- The message of a `sync` line: its rest is tested, and then it has a spelling.
-use Rattle.std.proofs.Common.{◌≡◌, ℕ, ◌%◌, ◌^◌, ◌<◌, Bool, true, false, cond, List, length, refl, ◌∙◌, Option, None, Some, IfSome}
-use Rattle.std.specs.Prelude.{nat_le, ◌==◌}
-use Rattle.std.proofs.lemmas.Bool.{cond-true, cond-false, eq-eqb, eqb-true, le-leb, leb-true}
-use Rattle.chip_core.specs.Fields.{FieldsFit}
-use Rattle.sync_message.specs.SyncMessage.{fixed_fields, IsSyncMessage}
-use Rattle.sync_message.specs.Tails.{IsTail}
-use Rattle.sync_message.specs.declared.fields.SyncFields.{SyncFields}
-use Rattle.sync_message.proofs.Bodies.{admitted, tail_of}
-use Rattle.cell_script.specs.ScriptLines.{has_lawful_rest, lawful_message}
+use Rattle.cell_script.proofs.Common.{◌≡◌, ℕ, ◌%◌, ◌^◌, ◌<◌, Bool, true, false, cond, List, length, refl, ◌∙◌, Option, None, Some, IfSome}
+use Rattle.cell_script.proofs.Common.{nat_le, ◌==◌, cond-true, cond-false, eq-eqb, eqb-true, le-leb, leb-true, FieldsFit, fixed_fields}
+use Rattle.cell_script.proofs.Common.{IsSyncMessage, IsTail, SyncFields, admitted, tail_of, has_lawful_rest, lawful_message}
 
 tested : (freq : Option ℕ) (rest : List Bool) → IsTail freq rest → has_lawful_rest freq rest ≡ true
 tested None rest long = eq-eqb (length rest) 3 long

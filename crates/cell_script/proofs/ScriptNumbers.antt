@@ -1,18 +1,11 @@
 -- Rows and gains of the channels of a script: there are at most seven paging channels of different
 -- numbers, and 62 traffic channels of different rows.
-use Rattle.std.proofs.Common.{◌≡◌, ◌≢◌, ℕ, zero, suc, ◌+◌, ◌<◌, ◌≤◌, Bool, true, false, cond, List, [], ◌∷◌, ◌++◌, length, refl, sym, subst}
-use Rattle.std.proofs.Common.{arith, None, Some}
-use Rattle.std.specs.Prelude.{◌==◌, All}
-use Rattle.std.proofs.lemmas.Bool.{eqb-false, eqb-true}
-use Rattle.std.proofs.lemmas.List.{length-map}
-use Rattle.std.proofs.lemmas.List.Elements.{All-cons, All-head, All-map, All-nil, All-tail, All-weaker}
-use Rattle.quality_bits.specs.declared.rate.Rate.{Rate}
-use Rattle.cell_plan.specs.declared.plan.PagingPlan.{PagingPlan}
-use Rattle.cell_plan.specs.declared.plan.TrafficPlan.{TrafficPlan}
-use Rattle.cell_plan.specs.Plan.{AreLawfulBeside, HaveOwnNumbers, HaveOwnTrafficRows, IsFreeOf, IsPagingPlan, IsTrafficPlan}
-use Rattle.cell_script.specs.Script.{ChannelLine, channel, first_channels, is_used, paging_lines, repeated, repeated_behind, silent}
-use Rattle.cell_script.specs.Script.{traffic_lines}
-use Rattle.cell_plan.specs.Stated.{IsStatedPaging, IsStatedTraffic}
+use Rattle.cell_script.proofs.Common.{◌≡◌, ◌≢◌, ℕ, zero, suc, ◌+◌, ◌<◌, ◌≤◌, Bool, true, false, cond, List, [], ◌∷◌, ◌++◌, length, refl}
+use Rattle.cell_script.proofs.Common.{sym, subst, arith, None, Some, ◌==◌, All, eqb-false, eqb-true, length-map, All-cons, All-head}
+use Rattle.cell_script.proofs.Common.{All-map, All-nil, All-tail, All-weaker, Rate, PagingPlan, TrafficPlan, AreLawfulBeside}
+use Rattle.cell_script.proofs.Common.{HaveOwnNumbers, HaveOwnTrafficRows, IsFreeOf, IsPagingPlan, IsTrafficPlan, ChannelLine, channel}
+use Rattle.cell_script.proofs.Common.{first_channels, is_used, paging_lines, repeated, repeated_behind, silent, traffic_lines}
+use Rattle.cell_script.proofs.Common.{IsStatedPaging, IsStatedTraffic}
 
 -- ---- gains
 

@@ -1,18 +1,8 @@
 -- Pages: the test of their bodies, and the channel that one more page goes to.
-use Rattle.std.proofs.Common.{◌≡◌, Bool, true, false, List, refl, sym, ap, subst, ◌∙◌, Option, None, Some, IfSome, drop, is_some, [], ◌∷◌}
-use Rattle.std.proofs.Common.{◌++◌, Result, Ok, Err, OnOk}
-use Rattle.std.proofs.lemmas.Bool.{cond-false, cond-true}
-use Rattle.quality_bits.specs.Capsules.{FillsCapsule}
-use Rattle.quality_bits.specs.declared.kind.Kind.TheVariants.{M30}
-use Rattle.paging_message.specs.Admitted.{HasMessage}
-use Rattle.paging_message.specs.Messages.{message_body, IsPagingMessage}
-use Rattle.paging_message.specs.Reading.{body_reading, is_body, message_at, number_at}
-use Rattle.paging_message.specs.declared.message.PagingMessage.{PagingMessage}
-use Rattle.cell_plan.specs.declared.plan.Page.{Page}
-use Rattle.cell_plan.specs.declared.plan.PagingPlan.{PagingPlan}
-use Rattle.cell_script.specs.ScriptDrafts.{with_page}
-use Rattle.paging_message.proofs.Messages.{message_fills}
-use Rattle.paging_message.proofs.Readings.{body_is_read, reads_body}
+use Rattle.cell_script.proofs.Common.{◌≡◌, Bool, true, false, List, refl, sym, ap, subst, ◌∙◌, Option, None, Some, IfSome, drop, is_some}
+use Rattle.cell_script.proofs.Common.{[], ◌∷◌, ◌++◌, Result, Ok, Err, OnOk, cond-false, cond-true, FillsCapsule, M30, HasMessage}
+use Rattle.cell_script.proofs.Common.{message_body, IsPagingMessage, body_reading, is_body, message_at, number_at, PagingMessage, Page}
+use Rattle.cell_script.proofs.Common.{PagingPlan, with_page, message_fills, body_is_read, reads_body}
 
 abbrev message_in : List Bool → PagingMessage
 message_in body = message_at (number_at 0 8 body) (drop 8 body)

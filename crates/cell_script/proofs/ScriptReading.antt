@@ -1,20 +1,10 @@
 -- The two readings of a script: what was read so far, and what one more line adds.
-use Rattle.std.proofs.Common.{◌≡◌, ℕ, zero, suc, ◌+◌, ◌*◌, ◌-◌, ◌^◌, ◌<◌, ◌≤◌, Bool, true, false, List, length, take, drop, refl, sym, ap}
-use Rattle.std.proofs.Common.{◌∙◌, arith, cond, Option, None, Some, Result, Ok, Err, IsOk, subst}
-use Rattle.std.specs.Prelude.{nat_lt, ok_or, option_map, option_and_then}
-use Rattle.std.proofs.lemmas.Bool.{cond-true, cond-false, lt-ltb, ltb-false, ltb-true}
-use Rattle.cell_plan.specs.declared.plan.CellPlan.{CellPlan}
-use Rattle.cell_script.specs.declared.judge.Judge.{Judge}
-use Rattle.cell_script.specs.declared.stage.Stage.{Stage}
-use Rattle.cell_script.specs.declared.stage.Stage.TheVariants.{Cell}
-use Rattle.cell_script.specs.declared.statements.Statement.{Statement}
-use Rattle.cell_script.specs.Script.{lines, stated, stated_plan}
-use Rattle.cell_script.specs.ScriptDrafts.{draft_at, empty_plan, plan_at, with_line, with_next, with_statement}
-use Rattle.cell_script.specs.ScriptJudged.{HasJudged, IsInOrder, IsJudged}
-use Rattle.cell_script.specs.ScriptLines.{statement_in}
-use Rattle.cell_script.specs.ScriptSplitting.{first_stated}
-use Rattle.cell_script.specs.ScriptStages.{is_complete, next_stage}
-use Rattle.cell_script.specs.ScriptValues.{length_before}
+use Rattle.cell_script.proofs.Common.{◌≡◌, ℕ, zero, suc, ◌+◌, ◌*◌, ◌-◌, ◌^◌, ◌<◌, ◌≤◌, Bool, true, false, List, length, take, drop, refl}
+use Rattle.cell_script.proofs.Common.{sym, ap, ◌∙◌, arith, cond, Option, None, Some, Result, Ok, Err, IsOk, subst, nat_lt, ok_or}
+use Rattle.cell_script.proofs.Common.{option_map, option_and_then, cond-true, cond-false, lt-ltb, ltb-false, ltb-true, CellPlan, Judge}
+use Rattle.cell_script.proofs.Common.{Stage, Cell, Statement, lines, stated, stated_plan, draft_at, empty_plan, plan_at, with_line}
+use Rattle.cell_script.proofs.Common.{with_next, with_statement, HasJudged, IsInOrder, IsJudged, statement_in, first_stated, is_complete}
+use Rattle.cell_script.proofs.Common.{next_stage, length_before}
 use Rattle.cell_script.proofs.NamedPlans.{added, empty_said, in_order, IsAt}
 use Rattle.cell_script.proofs.ScriptBounds.{line_bounds}
 use Rattle.cell_script.proofs.ScriptSplits.{line_counted, line_read, line_refused, line_unended, lines_read}

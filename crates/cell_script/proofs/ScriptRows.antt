@@ -1,30 +1,13 @@
 -- What a judge knows of the paging and traffic channels, one statement after another.
-use Rattle.std.proofs.Common.{◌≡◌, ℕ, ◌+◌, ◌*◌, ◌<◌, ◌==◌, Bool, true, false, cond, List, [], ◌∷◌, ◌++◌, length, get_or, refl, sym, ap, ◌∙◌}
-use Rattle.std.proofs.Common.{arith, append_assoc, replicate, subst, inl, inr, Option, None, Some}
-use Rattle.std.proofs.Math.ListN.{set}
-use Rattle.std.specs.Prelude.{◌||◌, unsigned_abs}
-use Rattle.std.specs.Option.{option_or}
-use Rattle.std.proofs.lemmas.Bool.{cases_eq, eq-eqb, ne_eqb, or_right}
-use Rattle.std.proofs.lemmas.List.{append-nil, get_or-set_other, get_or-set_same, length-set, get_or-replicate, map-append}
-use Rattle.chip_core.specs.declared.width.Width.{Width}
-use Rattle.cell_plan.specs.Plan.{paging_gains, sync_gain, traffic_gains}
-use Rattle.cell_plan.specs.declared.plan.CellPlan.{CellPlan}
-use Rattle.cell_plan.specs.declared.plan.LinkPlan.{LinkPlan}
-use Rattle.cell_plan.specs.declared.plan.Page.{Page}
-use Rattle.cell_plan.specs.declared.plan.PagingPlan.{PagingPlan}
-use Rattle.cell_plan.specs.declared.plan.PilotPlan.{PilotPlan}
-use Rattle.cell_plan.specs.declared.plan.SyncPlan.{SyncPlan}
-use Rattle.cell_plan.specs.declared.plan.TrafficPlan.{TrafficPlan}
-use Rattle.cell_script.specs.declared.judge.Judge.{Judge}
-use Rattle.cell_script.specs.declared.judge.ChannelRows.{ChannelRows}
-use Rattle.cell_script.specs.declared.statements.PagingLine.{PagingLine}
-use Rattle.cell_script.specs.declared.statements.TrafficLine.{TrafficLine}
-use Rattle.cell_script.specs.declared.script_fault.ScriptFault.{ScriptFault}
-use Rattle.cell_plan.specs.declared.frame_list.FrameList.{FrameList}
-use Rattle.cell_script.specs.Script.{ChannelLine, channel, channel_lines, first_channels, gain_fault, is_used, long_fault, loud_fault}
-use Rattle.cell_script.specs.Script.{paging_lines, plan_fault, repeated, repeated_behind, silent, traffic_lines, walsh_fault}
-use Rattle.cell_script.specs.ScriptDrafts.{on_last, opened, opened_traffic, with_page}
-use Rattle.cell_script.specs.ScriptJudged.{gains_of, judged_fault, HasJudged, HasSeen}
+use Rattle.cell_script.proofs.Common.{◌≡◌, ℕ, ◌+◌, ◌*◌, ◌<◌, ◌==◌, Bool, true, false, cond, List, [], ◌∷◌, ◌++◌, length, get_or, refl, sym}
+use Rattle.cell_script.proofs.Common.{ap, ◌∙◌, arith, append_assoc, replicate, subst, inl, inr, Option, None, Some, set, ◌||◌, unsigned_abs}
+use Rattle.cell_script.proofs.Common.{option_or, cases_eq, eq-eqb, ne_eqb, or_right, append-nil, get_or-set_other, get_or-set_same}
+use Rattle.cell_script.proofs.Common.{length-set, get_or-replicate, map-append, Width, paging_gains, sync_gain, traffic_gains, CellPlan}
+use Rattle.cell_script.proofs.Common.{LinkPlan, Page, PagingPlan, PilotPlan, SyncPlan, TrafficPlan, Judge, ChannelRows, PagingLine}
+use Rattle.cell_script.proofs.Common.{TrafficLine, ScriptFault, FrameList, ChannelLine, channel, channel_lines, first_channels, gain_fault}
+use Rattle.cell_script.proofs.Common.{is_used, long_fault, loud_fault, paging_lines, plan_fault, repeated, repeated_behind, silent}
+use Rattle.cell_script.proofs.Common.{traffic_lines, walsh_fault, on_last, opened, opened_traffic, with_page, gains_of, judged_fault}
+use Rattle.cell_script.proofs.Common.{HasJudged, HasSeen}
 
 -- ---- one line more
 

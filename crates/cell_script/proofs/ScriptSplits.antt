@@ -1,14 +1,9 @@
 -- The lines of a script, one after another, and the plan that they state.
-use Rattle.std.proofs.Common.{◌≡◌, ℕ, zero, suc, ◌+◌, ◌-◌, ◌<◌, ◌≤◌, ◌==◌, Bool, true, false, List, [], ◌∷◌, ◌++◌, length, take, drop, refl}
-use Rattle.std.proofs.Common.{sym, ap, ◌∙◌, arith, Option, None, Some, Err}
-use Rattle.std.specs.Option.{option_map_or}
-use Rattle.std.specs.Prelude.{ok_or}
-use Rattle.std.proofs.lemmas.Bool.{cond-true, cond-false, eqb-true, false≢true}
-use Rattle.std.proofs.lemmas.List.{take-append-drop, take_all, length-drop, length-take-le}
-use Rattle.cell_plan.specs.declared.plan.CellPlan.{CellPlan}
-use Rattle.cell_script.specs.ScriptValues.{length_before}
-use Rattle.cell_script.specs.ScriptDrafts.{Draft, plan_at, with_line}
-use Rattle.cell_script.specs.Script.{is_line, lines, onto_first, draft_after, stated, stated_plan}
+use Rattle.cell_script.proofs.Common.{◌≡◌, ℕ, zero, suc, ◌+◌, ◌-◌, ◌<◌, ◌≤◌, ◌==◌, Bool, true, false, List, [], ◌∷◌, ◌++◌, length, take}
+use Rattle.cell_script.proofs.Common.{drop, refl, sym, ap, ◌∙◌, arith, Option, None, Some, Err, option_map_or, ok_or, cond-true, cond-false}
+use Rattle.cell_script.proofs.Common.{eqb-true, false≢true, take-append-drop, take_all, length-drop, length-take-le, CellPlan}
+use Rattle.cell_script.proofs.Common.{length_before, Draft, plan_at, with_line, is_line, lines, onto_first, draft_after, stated}
+use Rattle.cell_script.proofs.Common.{stated_plan}
 
 -- ---- clauses
 

@@ -1,16 +1,9 @@
 -- Numbers of a line that are read by a table of fields.
-use Rattle.std.proofs.Common.{◌≡◌, ℕ, zero, suc, ◌+◌, ◌<◌, ◌≤◌, List, [], ◌∷◌, ◌++◌, length, get_or, take, drop, refl, sym, ap, ◌∙◌, arith}
-use Rattle.std.proofs.Common.{add-one, append_assoc, Option, None, Some}
-use Rattle.std.specs.Prelude.{option_map}
-use Rattle.std.proofs.Math.ListN.{set}
-use borrow.Author.Count.{below_more}
-use Rattle.std.proofs.Math.Seq.{take-suc-set}
+use Rattle.cell_script.proofs.Common.{◌≡◌, ℕ, zero, suc, ◌+◌, ◌<◌, ◌≤◌, List, [], ◌∷◌, ◌++◌, length, get_or, take, drop, refl, sym, ap, ◌∙◌}
+use Rattle.cell_script.proofs.Common.{arith, add-one, append_assoc, Option, None, Some, option_map, set, below_more, take-suc-set}
+use Rattle.cell_script.proofs.Common.{NumberField, NumberRow, ◌>>=◌, field, mosts, numbers_in, past, past_at, past_numbers, row, rows_of}
+use Rattle.cell_script.proofs.Common.{unsigned_at, sync_behind, sync_in, sync_table, traffic_in, traffic_line, traffic_rows, number_up_to}
 use Rattle.std.proofs.lemmas.List as lists
-use Rattle.cell_script.specs.declared.tables.NumberField.{NumberField}
-use Rattle.cell_script.specs.ScriptFields.{NumberRow, ◌>>=◌, field, mosts, numbers_in, past, past_at, past_numbers, row, rows_of}
-use Rattle.cell_script.specs.ScriptFields.{unsigned_at}
-use Rattle.cell_script.specs.ScriptLines.{sync_behind, sync_in, sync_table, traffic_in, traffic_line, traffic_rows}
-use Rattle.cell_script.specs.ScriptValues.{number_up_to}
 
 -- ---- one field more
 

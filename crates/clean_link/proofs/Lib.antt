@@ -1,4 +1,5 @@
 -- of any channel that is sent: what a finger on the path finds of it, and the plan's channels
+pub mod Common
 pub mod signal
 -- of any stream: when its frames end, how they lie in spans, and the words that they are
 pub mod frames

@@ -1,18 +1,8 @@
 -- The best word of the gathered soft values is the best word of the span.
-use Rattle.std.proofs.Common.{◌≡◌, ℕ, zero, suc, ◌+◌, ◌*◌, ◌<◌, ◌≤◌, List, length, take, drop, reverse, refl, ap, ◌∙◌, arith, ℤ}
-use Rattle.std.proofs.Common.{length-drop}
-use Rattle.std.specs.Prelude.{if◌then◌else◌, int_lt}
-use Rattle.std.proofs.lemmas.List.{length-reverse}
-use Rattle.chip_core.specs.Bits.{binary}
-use Rattle.chip_core.specs.Sums.{first_greatest}
-use Rattle.chip_core.proofs.RegisterBits.{length-binary}
-use Rattle.symbol_path.specs.SentOrder.{shape_of, size}
-use Rattle.symbol_path.specs.declared.kinds.Kind.{Kind}
-use Rattle.viterbi.specs.Words.{Word, score_of, word_count, word_at, best_word}
-use Rattle.viterbi.specs.Best.{IsBestWord}
-use Rattle.viterbi.specs.declared.word.Ends.TheVariants.{Free}
-use Rattle.viterbi.proofs.Unique.{by_definition}
-use Rattle.frame_decoder.specs.Spans.{Channel, sending, score, gathered_span, own_bits}
+use Rattle.frame_decoder.proofs.Common.{◌≡◌, ℕ, zero, suc, ◌+◌, ◌*◌, ◌<◌, ◌≤◌, List, length, take, drop, reverse, refl, ap, ◌∙◌, arith, ℤ}
+use Rattle.frame_decoder.proofs.Common.{length-drop, if◌then◌else◌, int_lt, length-reverse, binary, first_greatest, length-binary, shape_of}
+use Rattle.frame_decoder.proofs.Common.{size, Kind, Word, score_of, word_count, word_at, best_word, IsBestWord, Free, by_definition}
+use Rattle.frame_decoder.proofs.Common.{Channel, sending, score, gathered_span, own_bits}
 use Rattle.frame_decoder.proofs.Parts.{within}
 use Rattle.frame_decoder.proofs.Gathered.{channel, length-gathered_span}
 use Rattle.frame_decoder.proofs.Scores.{score_is}

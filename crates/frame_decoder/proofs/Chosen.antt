@@ -1,19 +1,11 @@
 -- What is decoded by the rows of rate set 1 is the definition's.
-use Rattle.std.proofs.Common.{◌≡◌, ℕ, Bool, true, false, List, [], ◌∷◌, map, refl, ap, ◌∙◌, arith, ℤ}
-use Rattle.std.specs.Prelude.{if◌then◌else◌, int_lt, cond, Option, None, Some}
-use Rattle.std.specs.Option.{option_map, unwrap_or}
-use Rattle.quality_bits.specs.declared.rate.Rate.{Rate}
-use Rattle.quality_bits.specs.declared.rate.Rate.TheVariants.{R9600, R4800, R2400, R1200}
-use Rattle.symbol_path.specs.SentOrder.{sent}
-use Rattle.viterbi.specs.Words.{Word}
-use Rattle.frame_decoder.specs.declared.rows.Row.{Row}
-use Rattle.frame_decoder.specs.declared.rows.RowFrame.{RowFrame}
-use Rattle.frame_decoder.specs.declared.traffic.Decoded.{Decoded}
-use Rattle.frame_decoder.specs.Rows.{row_of, symbols_in, score_in, word_in, frame_in, candidate_in, frame_of, rising}
-use Rattle.frame_decoder.specs.Rows as rows
-use Rattle.frame_decoder.specs.TrafficFrames.{frame_score, rate_word, has_quality, shown, rate_frame, better, preferred, best_candidate}
-use Rattle.frame_decoder.specs.TrafficFrames.{not_good, good_or, unreplaced, decoded}
+use Rattle.frame_decoder.proofs.Common.{◌≡◌, ℕ, Bool, true, false, List, [], ◌∷◌, map, refl, ap, ◌∙◌, arith, ℤ, if◌then◌else◌, int_lt, cond}
+use Rattle.frame_decoder.proofs.Common.{Option, None, Some, option_map, unwrap_or, Rate, R9600, R4800, R2400, R1200, sent, Word, Row}
+use Rattle.frame_decoder.proofs.Common.{RowFrame, Decoded, row_of, symbols_in, score_in, word_in, frame_in, candidate_in, frame_of, rising}
+use Rattle.frame_decoder.proofs.Common.{frame_score, rate_word, has_quality, shown, rate_frame, best_candidate, unreplaced, decoded}
+use Rattle.frame_decoder.specs.TrafficFrames.{better, preferred, not_good, good_or}
 use Rattle.frame_decoder.proofs.RateWords.{word_is}
+use Rattle.frame_decoder.specs.Rows as rows
 
 -- a frame of the rows as a frame of rate set 1
 abbrev pub as_decoded : RowFrame Rate → Decoded

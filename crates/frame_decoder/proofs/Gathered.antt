@@ -1,14 +1,7 @@
 -- The soft values of a span, gathered frame by frame.
-use Rattle.std.proofs.Common.{◌≡◌, ℕ, ◌+◌, ◌-◌, ◌*◌, ◌≤◌, List, ◌++◌, length, take, drop, sym, ap, ◌∙◌, arith, add-one, ℤ}
-use Rattle.std.specs.Prelude.{sum_by, unsigned_abs}
-use Rattle.std.proofs.lemmas.List.Sums.{sum_by-append, sum_by-take-le, sum_by-take-drop}
-use Rattle.std.proofs.lemmas.Slice.{take-put_mid}
-use borrow.Rule.Slice.PartMut.{put_mid}
-use Rattle.symbol_path.specs.SentOrder.{shape_of, size, gathered}
-use Rattle.symbol_path.specs.declared.kinds.Kind.{Kind}
-use Rattle.symbol_path.proofs.Agreement.{length-gathered}
-use Rattle.symbol_path.proofs.Interleaving.{size_some, count_is}
-use Rattle.frame_decoder.specs.Spans.{Channel, gathered_span}
+use Rattle.frame_decoder.proofs.Common.{◌≡◌, ℕ, ◌+◌, ◌-◌, ◌*◌, ◌≤◌, List, ◌++◌, length, take, drop, sym, ap, ◌∙◌, arith, add-one, ℤ, sum_by}
+use Rattle.frame_decoder.proofs.Common.{unsigned_abs, sum_by-append, sum_by-take-le, sum_by-take-drop, take-put_mid, put_mid, shape_of}
+use Rattle.frame_decoder.proofs.Common.{size, gathered, Kind, length-gathered, size_some, count_is, Channel, gathered_span}
 use Rattle.frame_decoder.proofs.Parts.{frames-none, frames-more, length-frames, take-frames}
 
 -- a channel whose frames are of a kind

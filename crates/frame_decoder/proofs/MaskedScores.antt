@@ -1,16 +1,9 @@
 -- Scores under soft values that are 0 at some places, and elsewhere one number times the signs of
 -- symbols.
-use Rattle.std.proofs.Common.{◌≡◌, ◌≢◌, ℕ, zero, suc, ◌+◌, ◌*◌, ◌<◌, ◌≤◌, Bool, true, false, List, [], replicate, ◌∷◌, length, get_or}
-use Rattle.std.proofs.Common.{filter, refl, sym, ap, ◌∙◌, arith, ℤ, pos, not, cond, ⊎_elim}
-use Rattle.std.specs.Prelude.{negsuc, neg_ℤ, ◌+ℤ◌, ◌*ℤ◌, ◌≤ℤ◌, if◌then◌else◌}
-use Rattle.std.specs.List.{range_with_len}
-use Rattle.std.proofs.lemmas.Int.{ints}
-use Rattle.std.proofs.lemmas.Bool.{ne_eqb, eq-eqb, cases_eq}
-use Rattle.std.proofs.Math.Nat.{mul-le-mul_right}
-use Rattle.chip_core.specs.Bits.{sign, digit, xor}
-use Rattle.chip_core.proofs.Ring.{neg_times}
-use Rattle.viterbi.specs.Words.{correlation}
-use Rattle.frame_decoder.specs.TrafficFrames.{is_replaced}
+use Rattle.frame_decoder.proofs.Common.{◌≡◌, ◌≢◌, ℕ, zero, suc, ◌+◌, ◌*◌, ◌<◌, ◌≤◌, Bool, true, false, List, [], replicate, ◌∷◌, length}
+use Rattle.frame_decoder.proofs.Common.{get_or, filter, refl, sym, ap, ◌∙◌, arith, ℤ, pos, not, cond, ⊎_elim, negsuc, neg_ℤ, ◌+ℤ◌, ◌*ℤ◌}
+use Rattle.frame_decoder.proofs.Common.{◌≤ℤ◌, if◌then◌else◌, range_with_len, ints, ne_eqb, eq-eqb, cases_eq, mul-le-mul_right, sign, digit}
+use Rattle.frame_decoder.proofs.Common.{xor, neg_times, correlation, is_replaced}
 
 -- the number times each symbol's sign, and 0 at the places that are left out; the first place is
 -- given

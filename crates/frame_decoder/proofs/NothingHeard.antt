@@ -1,9 +1,6 @@
 -- Soft values of 0 give no good frame.
-use Rattle.std.proofs.Common.{◌≡◌, ℕ, List, false, replicate, sym, ap, ◌∙◌, ℤ, pos}
-use Rattle.quality_bits.specs.declared.rate.Rate.TheVariants.{R9600}
-use Rattle.frame_decoder.specs.Rows.{row_of, shown_of, frame_of}
-use Rattle.frame_decoder.specs.TrafficFrames.{decoded}
-use Rattle.frame_decoder.specs.Laws.{IsNothingGood}
+use Rattle.frame_decoder.proofs.Common.{◌≡◌, ℕ, List, false, replicate, sym, ap, ◌∙◌, ℤ, pos, R9600, row_of, shown_of, frame_of, decoded}
+use Rattle.frame_decoder.proofs.Common.{IsNothingGood}
 use Rattle.frame_decoder.proofs.Chosen.{as_decoded, decoded_is, lower_rows}
 use Rattle.frame_decoder.proofs.SentRows.{nothing_shown}
 use Rattle.frame_decoder.proofs.Unreplaced.{zeros_kept}

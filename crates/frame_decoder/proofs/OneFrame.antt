@@ -1,12 +1,8 @@
 -- A span of one frame.
-use Rattle.std.proofs.Common.{◌≡◌, ℕ, ◌*◌, Bool, List, ◌++◌, length, take, drop, ap, ◌∙◌, arith, take_all}
-use Rattle.conv_code.specs.ConvCode.{code_symbols}
-use Rattle.conv_code.proofs.Continued.{length-code_symbols}
-use Rattle.symbol_path.specs.SentOrder.{sent}
-use Rattle.viterbi.specs.Words.{Word, correlation, best_word}
-use Rattle.viterbi.specs.declared.word.Ends.TheVariants.{Free}
-use Rattle.frame_decoder.specs.Spans.{Channel, sending, sent_frames, score}
-use Rattle.frame_decoder.specs.Laws.{frame_score, IsOneFrame}
+use Rattle.frame_decoder.proofs.Common.{◌≡◌, ℕ, ◌*◌, Bool, List, ◌++◌, length, take, drop, ap, ◌∙◌, arith, take_all, code_symbols}
+use Rattle.frame_decoder.proofs.Common.{length-code_symbols, sent, Word, correlation, best_word, Free, Channel, sending, sent_frames, score}
+use Rattle.frame_decoder.proofs.Common.{IsOneFrame}
+use Rattle.frame_decoder.specs.Laws.{frame_score}
 use Rattle.frame_decoder.proofs.Parts.{frames-none, frames-more}
 use Rattle.frame_decoder.proofs.BestWords.{length-best_word, best_word-same}
 

@@ -1,11 +1,7 @@
 -- Lists that are made frame by frame.
-use Rattle.std.proofs.Common.{◌≡◌, ℕ, zero, suc, ◌+◌, ◌*◌, ◌<◌, ◌≤◌, List, [], ◌∷◌, ◌++◌, length, take, drop, refl, sym, ap, ◌∙◌, arith}
-use Rattle.std.proofs.Common.{add-one, length-append, append-nil}
-use Rattle.std.specs.List.{flat_map}
-use Rattle.std.proofs.Math.Seq.{take-add}
-use Rattle.std.proofs.lemmas.Grind.{flat_map-append}
-use Rattle.chip_core.specs.Bits.{places}
-use Rattle.chip_core.proofs.Places.{places-none, places-more}
+use Rattle.frame_decoder.proofs.Common.{◌≡◌, ℕ, zero, suc, ◌+◌, ◌*◌, ◌<◌, ◌≤◌, List, [], ◌∷◌, ◌++◌, length, take, drop, refl, sym, ap, ◌∙◌}
+use Rattle.frame_decoder.proofs.Common.{arith, add-one, length-append, append-nil, flat_map, take-add, flat_map-append, places, places-none}
+use Rattle.frame_decoder.proofs.Common.{places-more}
 
 -- a frame lies within the span
 pub within : (size frames k : ℕ) → k < frames → size * k + size ≤ size * frames

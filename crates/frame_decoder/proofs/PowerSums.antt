@@ -1,11 +1,7 @@
 -- The sums of the soft values of power control bits.
-use Rattle.std.proofs.Common.{◌≡◌, ℕ, ◌+◌, ◌*◌, ◌^◌, ◌<◌, ◌≤◌, ◌≢◌, List, length, get_or, set, ap, ◌∙◌, arith, ℤ, pos, ◌+ℤ◌, below_more}
-use Rattle.std.proofs.Common.{All}
-use Rattle.std.specs.Prelude.{sum_by, unsigned_abs}
-use Rattle.std.specs.List.Sorted.{IsStrictlyIncreasing}
-use Rattle.std.proofs.lemmas.List.{get_or-set_same, get_or-set_other, length-set}
-use Rattle.std.proofs.lemmas.List.Sums.{sum_by-set, get_or-le-sum_by}
-use Rattle.frame_decoder.specs.TrafficFrames.{group_sum}
+use Rattle.frame_decoder.proofs.Common.{◌≡◌, ℕ, ◌+◌, ◌*◌, ◌^◌, ◌<◌, ◌≤◌, ◌≢◌, List, length, get_or, set, ap, ◌∙◌, arith, ℤ, pos, ◌+ℤ◌}
+use Rattle.frame_decoder.proofs.Common.{below_more, All, sum_by, unsigned_abs, IsStrictlyIncreasing, get_or-set_same, get_or-set_other}
+use Rattle.frame_decoder.proofs.Common.{length-set, sum_by-set, get_or-le-sum_by, group_sum}
 
 -- a list is made place by place
 pub set_more : {A : Type 0} (f : ℕ → A) (xs : List A) (n : ℕ) (v d : A) → n < length xs →

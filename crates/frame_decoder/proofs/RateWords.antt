@@ -1,12 +1,6 @@
 -- The rows of rate set 1, and their best words.
-use Rattle.std.proofs.Common.{◌≡◌, ℕ, ◌≤◌, List, length, refl, ap, arith, ℤ}
-use Rattle.quality_bits.specs.declared.rate.Rate.{Rate}
-use Rattle.quality_bits.specs.declared.rate.Rate.TheVariants.{R9600, R4800, R2400, R1200}
-use Rattle.symbol_path.specs.SentOrder.{sent}
-use Rattle.viterbi.specs.Words.{best_word}
-use Rattle.viterbi.specs.declared.word.Ends.TheVariants.{Zero}
-use Rattle.frame_decoder.specs.Rows.{IsRow, bits_in, symbols_in, word_in, row_of}
-use Rattle.frame_decoder.specs.TrafficFrames.{frame_bits, frame_score, rate_word}
+use Rattle.frame_decoder.proofs.Common.{◌≡◌, ℕ, ◌≤◌, List, length, refl, ap, arith, ℤ, Rate, R9600, R4800, R2400, R1200, sent, best_word}
+use Rattle.frame_decoder.proofs.Common.{Zero, IsRow, bits_in, symbols_in, word_in, row_of, frame_bits, frame_score, rate_word}
 use Rattle.frame_decoder.proofs.ZeroWords.{length-best_zero_word}
 
 pub is_row : (rate : Rate) → IsRow (row_of rate)

@@ -1,18 +1,9 @@
 -- The choice among candidates, where one frame is above all others or none is good.
-use Rattle.std.proofs.Common.{◌≡◌, ℕ, ◌+◌, ◌<◌, ◌≤◌, drop, ◌⊎◌, inl, ⊎_elim, Bool, true, false, List, [], ◌∷◌, ◌++◌, length, map, take}
-use Rattle.std.proofs.Common.{get_or, refl, sym, ap, ◌∙◌, arith, ℤ, pos}
-use Rattle.std.specs.Prelude.{◌<ℤ◌, if◌then◌else◌, int_lt, cond, All, Option, None, Some}
-use Rattle.std.specs.List.{find}
-use Rattle.std.specs.Option.{option_map}
-use Rattle.std.proofs.lemmas.Int.{ints}
-use Rattle.std.proofs.lemmas.List.{at_drop_more, drop_all}
-use Rattle.std.proofs.lemmas.List.Elements.{All-head, All-tail}
-use Rattle.viterbi.specs.Words.{Word}
-use Rattle.frame_decoder.specs.declared.rows.Row.{Row}
-use Rattle.frame_decoder.specs.declared.rows.RowFrame.{RowFrame}
-use Rattle.frame_decoder.specs.Rows.{better, preferred, rising, not_good, good_or, frame_in, is_right, score_in, word_in, candidate_of}
-use Rattle.frame_decoder.specs.Rows.{candidate_in, shown_of, frame_of}
-use Rattle.frame_decoder.specs.TrafficFrames.{unreplaced}
+use Rattle.frame_decoder.proofs.Common.{◌≡◌, ℕ, ◌+◌, ◌<◌, ◌≤◌, drop, ◌⊎◌, inl, ⊎_elim, Bool, true, false, List, [], ◌∷◌, ◌++◌, length, map}
+use Rattle.frame_decoder.proofs.Common.{take, get_or, refl, sym, ap, ◌∙◌, arith, ℤ, pos, ◌<ℤ◌, if◌then◌else◌, int_lt, cond, All, Option}
+use Rattle.frame_decoder.proofs.Common.{None, Some, find, option_map, ints, at_drop_more, drop_all, All-head, All-tail, Word, Row, RowFrame}
+use Rattle.frame_decoder.proofs.Common.{better, preferred, rising, not_good, good_or, frame_in, is_right, score_in, word_in, candidate_of}
+use Rattle.frame_decoder.proofs.Common.{candidate_in, shown_of, frame_of, unreplaced}
 use Rattle.frame_decoder.proofs.ShownSymbols.{lt_true, le_false}
 
 -- ---- one frame above all others

@@ -1,34 +1,15 @@
 -- The words of a row, their scores, and their quality indicators.
-use Rattle.std.proofs.Common.{◌≡◌, ℕ, ◌+◌, ◌-◌, ◌*◌, ◌<◌, ◌≤◌, Bool, true, false, List, length, get_or, take, drop, sym, ap, ◌∙◌, arith}
-use Rattle.std.proofs.Common.{subst, ℤ, pos}
-use Rattle.std.specs.Prelude.{◌↔◌, IsTrue, if◌then◌else◌, Option, None, Some}
-use Rattle.std.specs.Bool.{Decides, one_answer}
-use Rattle.std.specs.Cmp.{booleans_Decides}
-use Rattle.std.specs.Cmp.Lexicographic.{pointwise, pointwise_decides}
-use Rattle.std.proofs.Math.Bool.{beq}
-use Rattle.std.proofs.lemmas.List.{length-take-le, drop-take, take-take}
-use Rattle.chip_core.specs.declared.check_form.CheckForm.TheVariants.{Plain}
-use Rattle.chip_core.proofs.Places.{length-map-places, get_or-map-places, map-places-all}
-use Rattle.conv_code.specs.ConvCode.{code_symbols}
-use Rattle.conv_code.proofs.Continued.{length-code_symbols}
-use Rattle.quality_bits.specs.declared.kind.Kind.{Kind as Check}
-use Rattle.quality_bits.specs.Kinds.{generator_of, body_length, IsChecked, quality_indicator, quality_length}
-use Rattle.quality_bits.specs.Quality.{check_bits}
-use Rattle.symbol_path.specs.SentOrder.{data_shape, address}
-use Rattle.symbol_path.specs.SentOrderTwo.{repeated_symbol}
-use Rattle.symbol_path.specs.declared.kinds.Kind.TheVariants.{Data}
-use Rattle.symbol_path.proofs.Agreement.{agreement-keyed}
-use Rattle.symbol_path.proofs.Gathering.{part}
-use Rattle.symbol_path.proofs.Interleaving.{symbol_lt}
-use Rattle.symbol_path.proofs.Permutation.{address_lt}
-use Rattle.symbol_path.proofs.SentOnceTwo.{kept_lt}
-use Rattle.viterbi.specs.Words.{Word, score_of}
-use Rattle.viterbi.specs.Best.{IsBestWord}
-use Rattle.viterbi.specs.declared.word.Ends.TheVariants.{Zero}
-use Rattle.viterbi.proofs.Unique.{by_definition}
-use Rattle.frame_decoder.specs.declared.rows.Row.{Row}
-use Rattle.frame_decoder.specs.Rows.{IsRow, bits_in, repeated_in, place_in, symbols_in, gathered_in, score_in, word_in, is_right}
+use Rattle.frame_decoder.proofs.Common.{◌≡◌, ℕ, ◌+◌, ◌-◌, ◌*◌, ◌<◌, ◌≤◌, Bool, true, false, List, length, get_or, take, drop, sym, ap, ◌∙◌}
+use Rattle.frame_decoder.proofs.Common.{arith, subst, ℤ, pos, ◌↔◌, IsTrue, if◌then◌else◌, Option, None, Some, Decides, one_answer}
+use Rattle.frame_decoder.proofs.Common.{booleans_Decides, pointwise, pointwise_decides, beq, drop-take, take-take, Plain, length-map-places}
+use Rattle.frame_decoder.proofs.Common.{get_or-map-places, map-places-all, code_symbols, length-code_symbols, generator_of, body_length}
+use Rattle.frame_decoder.proofs.Common.{IsChecked, quality_indicator, quality_length, check_bits, data_shape, address, repeated_symbol}
+use Rattle.frame_decoder.proofs.Common.{Data, agreement-keyed, part, symbol_lt, address_lt, kept_lt, Word, score_of, IsBestWord, Zero}
+use Rattle.frame_decoder.proofs.Common.{by_definition, Row, IsRow, bits_in, repeated_in, place_in, symbols_in, gathered_in, score_in}
+use Rattle.frame_decoder.proofs.Common.{word_in, is_right}
+use Rattle.std.proofs.lemmas.List.{length-take-le}
 use Rattle.frame_decoder.proofs.ZeroWords.{length-best_zero_word, best_zero_word-same}
+use Rattle.quality_bits.specs.declared.kind.Kind.{Kind as Check}
 
 -- ---- places
 repeated_lt : (drops : Bool) (i : ℕ) → i < 384 →

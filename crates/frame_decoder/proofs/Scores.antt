@@ -1,14 +1,8 @@
 -- A word's score under a span's soft values is its score under the gathered ones.
-use Rattle.std.proofs.Common.{◌≡◌, ℕ, zero, suc, ◌+◌, ◌*◌, ◌≤◌, Bool, List, [], ◌∷◌, ◌++◌, length, take, drop, refl, sym, ap, ◌∙◌, arith, ℤ}
-use Rattle.std.proofs.Common.{◌+ℤ◌, length-drop, length-take-le, take_all}
-use Rattle.std.proofs.lemmas.Int.{ints}
-use Rattle.conv_code.specs.ConvCode.{code_symbols}
-use Rattle.conv_code.proofs.Continued.{length-code_symbols}
-use Rattle.symbol_path.specs.SentOrder.{shape_of, size, sent, gathered}
-use Rattle.symbol_path.specs.declared.kinds.Kind.{Kind}
-use Rattle.symbol_path.proofs.Agreement.{length-sent, agreement-gathered}
-use Rattle.viterbi.specs.Words.{Word, correlation, score_of}
-use Rattle.frame_decoder.specs.Spans.{sending, sent_frames, score, gathered_span}
+use Rattle.frame_decoder.proofs.Common.{◌≡◌, ℕ, zero, suc, ◌+◌, ◌*◌, ◌≤◌, Bool, List, [], ◌∷◌, ◌++◌, length, take, drop, refl, sym, ap, ◌∙◌}
+use Rattle.frame_decoder.proofs.Common.{arith, ℤ, ◌+ℤ◌, length-drop, length-take-le, take_all, ints, code_symbols, length-code_symbols}
+use Rattle.frame_decoder.proofs.Common.{shape_of, size, sent, gathered, Kind, length-sent, agreement-gathered, Word, correlation, score_of}
+use Rattle.frame_decoder.proofs.Common.{sending, sent_frames, score, gathered_span}
 use Rattle.frame_decoder.proofs.Parts.{frames-none, frames-more, length-frames, take-frames}
 use Rattle.frame_decoder.proofs.Gathered.{channel, frame_of, length-gathered_span}
 

@@ -1,16 +1,7 @@
 -- A sent frame of a traffic channel is decoded.
-use Rattle.std.proofs.Common.{ℕ, List, [], ◌∷◌, refl, sym, ap, subst, ◌∙◌}
-use Rattle.std.specs.Prelude.{Option}
-use Rattle.quality_bits.specs.declared.rate.Rate.{Rate}
-use Rattle.quality_bits.specs.declared.rate.Rate.TheVariants.{R9600, R4800, R2400, R1200}
-use Rattle.symbol_path.specs.SentOrder.{sent}
-use Rattle.viterbi.specs.Words.{Word}
-use Rattle.viterbi.specs.Best.{IsAllowed}
-use Rattle.viterbi.specs.declared.word.Ends.TheVariants.{Zero}
-use Rattle.frame_decoder.specs.declared.rows.RowFrame.{RowFrame}
-use Rattle.frame_decoder.specs.Rows.{row_of, symbols_in, word_in, score_in, good_or, frame_of}
-use Rattle.frame_decoder.specs.TrafficFrames.{unreplaced}
-use Rattle.frame_decoder.specs.Laws.{frame_word, IsUnshared, IsSentFrameDecoded}
+use Rattle.frame_decoder.proofs.Common.{ℕ, List, [], ◌∷◌, refl, sym, ap, subst, ◌∙◌, Option, Rate, R9600, R4800, R2400, R1200, sent, Word}
+use Rattle.frame_decoder.proofs.Common.{IsAllowed, Zero, RowFrame, row_of, symbols_in, word_in, score_in, good_or, frame_of, unreplaced}
+use Rattle.frame_decoder.proofs.Common.{frame_word, IsUnshared, IsSentFrameDecoded}
 use Rattle.frame_decoder.proofs.Chosen.{as_decoded, decoded_is}
 use Rattle.frame_decoder.proofs.RateWords.{bits_are}
 use Rattle.frame_decoder.proofs.RowChoice.{IsAmong}

@@ -1,27 +1,12 @@
 -- A sent frame of any rate set comes back, and soft values of 0 give none.
-use Rattle.std.proofs.Common.{◌≡◌, ℕ, ◌-◌, ◌*◌, ◌<◌, inl, inr, ⊎_elim, Bool, true, false, List, [], ◌∷◌, ◌++◌, length, map, take, drop}
-use Rattle.std.proofs.Common.{replicate, refl, sym, ap, subst, ◌∙◌, arith, ℤ, pos, length-append, append_assoc}
-use Rattle.std.specs.Prelude.{◌≤ℤ◌, int_lt, All, get_or, None, Some}
-use Rattle.std.specs.Option.{option_map}
-use Rattle.std.specs.Cmp.{booleans_Decides}
-use Rattle.std.specs.Cmp.Lexicographic.{pointwise_decides}
-use Rattle.std.proofs.lemmas.Int.{ints}
-use Rattle.std.proofs.lemmas.Bool.{cases_Bool}
-use Rattle.std.proofs.lemmas.List.{take_at, drop_at, length-replicate}
-use Rattle.std.proofs.lemmas.List.Elements.{All-cons, All-nil}
-use Rattle.conv_code.specs.ConvCode.{code_symbols}
-use Rattle.quality_bits.specs.Kinds.{quality_indicator, quality_length}
-use Rattle.quality_bits.proofs.Ends.{length-quality_indicator}
-use Rattle.viterbi.specs.Words.{Word, score_of}
-use Rattle.viterbi.specs.Best.{IsAllowed}
-use Rattle.viterbi.specs.declared.word.Ends.TheVariants.{Zero}
-use Rattle.viterbi.proofs.Unique.{by_definition}
-use Rattle.viterbi.proofs.Sent.{zero_word_best}
-use Rattle.frame_decoder.specs.declared.rows.Row.{Row}
-use Rattle.frame_decoder.specs.declared.rows.RowFrame.{RowFrame}
-use Rattle.frame_decoder.specs.TrafficFrames.{is_replaced, unreplaced}
-use Rattle.frame_decoder.specs.Laws.{ShowSymbols, AgreeElsewhere, kept_count}
-use Rattle.frame_decoder.specs.Rows.{bits_in, symbols_in, score_in, word_in, is_right, frame_in, candidate_of, rising, not_good, shown_of}
+use Rattle.frame_decoder.proofs.Common.{◌≡◌, ℕ, ◌-◌, ◌*◌, ◌<◌, inl, inr, ⊎_elim, Bool, true, false, List, [], ◌∷◌, ◌++◌, length, map, take}
+use Rattle.frame_decoder.proofs.Common.{drop, replicate, refl, sym, ap, subst, ◌∙◌, arith, ℤ, pos, length-append, append_assoc, ◌≤ℤ◌}
+use Rattle.frame_decoder.proofs.Common.{int_lt, All, get_or, None, Some, option_map, booleans_Decides, pointwise_decides, ints, cases_Bool}
+use Rattle.frame_decoder.proofs.Common.{take_at, drop_at, length-replicate, All-cons, All-nil, code_symbols, quality_indicator}
+use Rattle.frame_decoder.proofs.Common.{quality_length, length-quality_indicator, Word, score_of, IsAllowed, Zero, by_definition}
+use Rattle.frame_decoder.proofs.Common.{zero_word_best, Row, RowFrame, is_replaced, unreplaced, ShowSymbols, AgreeElsewhere, kept_count}
+use Rattle.frame_decoder.proofs.Common.{bits_in, symbols_in, score_in, word_in, is_right, frame_in, candidate_of, rising, not_good}
+use Rattle.frame_decoder.proofs.Common.{shown_of}
 use Rattle.frame_decoder.proofs.MaskedScores.{masked, weight, own_score, alone, zeros_score}
 use Rattle.frame_decoder.proofs.RowChoice.{Below, IsAmong, chosen_is, candidate_below, first_found, silent_shown}
 use Rattle.frame_decoder.proofs.RowWords.{bits_least, length-symbols_in}

@@ -1,15 +1,7 @@
 -- What is kept of soft values that show the symbols of a sent frame, and how two scores compare.
-use Rattle.std.proofs.Common.{◌≡◌, ℕ, ◌*◌, ◌<◌, ◌≤◌, Bool, true, false, List, length, get_or, filter, not, refl, sym, ap, ◌∙◌, arith, ℤ}
-use Rattle.std.proofs.Common.{pos}
-use Rattle.std.specs.Prelude.{◌≤ℤ◌, ◌<ℤ◌, ◌*ℤ◌, if◌then◌else◌, int_lt}
-use Rattle.std.specs.List.{range_with_len}
-use Rattle.std.proofs.Math.Nat.{mul-le-mul}
-use Rattle.std.proofs.lemmas.Int.{ints}
-use Rattle.std.proofs.lemmas.List.{ext_get_or}
-use Rattle.chip_core.specs.Bits.{sign}
-use Rattle.chip_core.proofs.Places.{places_is}
-use Rattle.frame_decoder.specs.TrafficFrames.{is_replaced, unreplaced}
-use Rattle.frame_decoder.specs.Laws.{ShowSymbols, kept_count}
+use Rattle.frame_decoder.proofs.Common.{◌≡◌, ℕ, ◌*◌, ◌<◌, ◌≤◌, Bool, true, false, List, length, get_or, filter, not, refl, sym, ap, ◌∙◌}
+use Rattle.frame_decoder.proofs.Common.{arith, ℤ, pos, ◌≤ℤ◌, ◌<ℤ◌, ◌*ℤ◌, if◌then◌else◌, int_lt, range_with_len, mul-le-mul, ints}
+use Rattle.frame_decoder.proofs.Common.{ext_get_or, sign, places_is, is_replaced, unreplaced, ShowSymbols, kept_count}
 use Rattle.frame_decoder.proofs.Unreplaced.{length-unreplaced, get_or-unreplaced}
 use Rattle.frame_decoder.proofs.MaskedScores.{masked, weight, length-masked, get_or-masked, weight_is, weight_least}
 

@@ -1,20 +1,10 @@
 -- The words that start from eight zeros and end with eight zeros, and the best of them.
-use Rattle.std.proofs.Common.{◌≡◌, ℕ, ◌-◌, ◌^◌, ◌<◌, ◌≤◌, Bool, false, List, ◌++◌, length, take, drop, reverse, replicate, refl, sym, ap}
-use Rattle.std.proofs.Common.{subst, ◌∙◌, arith, ℤ, ◌≤ℤ◌, length-append}
-use Rattle.std.proofs.lemmas.List.{length-take-le, length-reverse, take-append-drop, drop_at}
-use Rattle.std.proofs.lemmas.Nat.{pow_pos}
-use Rattle.chip_core.specs.Bits.{binary}
-use Rattle.chip_core.specs.Packed.{low_first}
-use Rattle.chip_core.specs.Sums.{first_greatest, IsFirstGreatest}
-use Rattle.chip_core.proofs.Greatest.{first_greatest-is}
-use Rattle.chip_core.proofs.RegisterBits.{length-binary}
-use Rattle.viterbi.specs.Words.{Word, word_count, word_at, best_word}
-use Rattle.viterbi.specs.Best.{IsAllowed}
-use Rattle.viterbi.specs.States.{low_bits}
-use Rattle.viterbi.specs.declared.word.Ends.TheVariants.{Zero}
-use Rattle.viterbi.proofs.Ranks.{low_first_below}
-use Rattle.viterbi.proofs.StateBits.{reverse-binary, low_bits-low_first}
-use Rattle.viterbi.proofs.Choices.{words_same}
+use Rattle.frame_decoder.proofs.Common.{◌≡◌, ℕ, ◌-◌, ◌^◌, ◌<◌, ◌≤◌, Bool, false, List, ◌++◌, length, take, drop, reverse, replicate, refl}
+use Rattle.frame_decoder.proofs.Common.{sym, ap, subst, ◌∙◌, arith, ℤ, ◌≤ℤ◌, length-append, length-reverse, take-append-drop, drop_at}
+use Rattle.frame_decoder.proofs.Common.{pow_pos, binary, low_first, first_greatest, IsFirstGreatest, first_greatest-is, length-binary, Word}
+use Rattle.frame_decoder.proofs.Common.{word_count, word_at, best_word, IsAllowed, low_bits, Zero, low_first_below, reverse-binary}
+use Rattle.frame_decoder.proofs.Common.{low_bits-low_first, words_same}
+use Rattle.std.proofs.lemmas.List.{length-take-le}
 use Rattle.frame_decoder.proofs.BestWords.{first_greatest-same}
 
 -- each word of the definition is allowed

@@ -1,13 +1,7 @@
 -- What it says of a layout that it is lawful.
-use Rattle.std.proofs.Common.{◌≡◌, ℕ, ◌+◌, ◌*◌, ◌/◌, ◌<◌, ◌≤◌, ◌&&◌, Bool, true, List, [], ◌∷◌, length, sym, ap, ◌∙◌, arith, nat_le, Option}
-use Rattle.std.proofs.Common.{None, Some}
-use Rattle.std.proofs.lemmas.Bool.{and_parts, leb-true, ltb-true}
-use Rattle.std.proofs.lemmas.Nat.{div-mul-add, le-div}
-use Rattle.std.proofs.Math.Nat.{div-mul-le_self}
-use Rattle.chip_core.specs.Fields.{total, AreWidths}
-use Rattle.message_layout.specs.Contents.{count_in, share}
-use Rattle.message_layout.specs.Shapes.{are_widths, ends, is_lawful, is_told, AreNarrow, Shape}
-use Rattle.message_layout.specs.Spelling.{IsRest}
+use Rattle.message_layout.proofs.Common.{◌≡◌, ℕ, ◌+◌, ◌*◌, ◌/◌, ◌<◌, ◌≤◌, ◌&&◌, Bool, true, List, [], ◌∷◌, length, sym, ap, ◌∙◌, arith}
+use Rattle.message_layout.proofs.Common.{nat_le, Option, None, Some, and_parts, leb-true, ltb-true, div-mul-add, le-div, div-mul-le_self}
+use Rattle.message_layout.proofs.Common.{total, AreWidths, count_in, share, are_widths, ends, is_lawful, is_told, AreNarrow, Shape, IsRest}
 
 widths_from : (most : ℕ) (ws : List ℕ) → most ≤ 64 → are_widths most ws ≡ true → AreWidths ws
 widths_from most [] small h = tt

@@ -1,4 +1,5 @@
 pub mod Columns
+pub mod Common
 pub mod Lawful
 pub mod Loops
 pub mod Parts

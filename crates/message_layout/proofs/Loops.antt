@@ -1,15 +1,8 @@
 -- Loops over the fields of a table and over records: what holds after so many of them.
-use Rattle.std.proofs.Common.{◌≡◌, ℕ, zero, suc, ◌+◌, ◌*◌, ◌<◌, ◌≤◌, Bool, List, [], ◌∷◌, ◌++◌, length, get_or, map, take, drop, refl, sym}
-use Rattle.std.proofs.Common.{ap, ◌∙◌, arith, Some, None}
-use Rattle.std.proofs.lemmas.Bool.{le-leb, lt-leb}
-use Rattle.std.proofs.lemmas.List.{length-drop, length-take-le, take_all}
-use Rattle.std.proofs.Math.Nat.{suc-mul}
-use Rattle.chip_core.specs.Bits.{number}
-use Rattle.chip_core.specs.Fields.{total, AreWidths}
-use Rattle.chip_core.specs.Readings.{number_at, values_at, column_at}
-use Rattle.chip_core.proofs.ValueLists.{column_more, dropped, length-column, total_more, total_room, values_more, width_within}
-use Rattle.message_layout.specs.Contents.{count_in}
-use Rattle.message_layout.specs.Reading.{fields_at}
+use Rattle.message_layout.proofs.Common.{◌≡◌, ℕ, zero, suc, ◌+◌, ◌*◌, ◌<◌, ◌≤◌, Bool, List, [], ◌∷◌, ◌++◌, length, get_or, map, take, drop}
+use Rattle.message_layout.proofs.Common.{refl, sym, ap, ◌∙◌, arith, Some, None, le-leb, lt-leb, length-drop, length-take-le, take_all}
+use Rattle.message_layout.proofs.Common.{suc-mul, number, total, AreWidths, number_at, values_at, column_at, column_more, dropped}
+use Rattle.message_layout.proofs.Common.{length-column, total_more, total_room, values_more, width_within, count_in, fields_at}
 use Rattle.message_layout.proofs.Lawful.{count_room}
 
 -- FIELDS THAT ARE READ

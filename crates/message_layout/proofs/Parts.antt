@@ -1,22 +1,13 @@
 -- The parts of a body, each spelled and read again.
-use Rattle.std.proofs.Common.{◌≡◌, ℕ, zero, suc, ◌+◌, ◌*◌, ◌/◌, ◌%◌, ◌^◌, ◌<◌, ◌≤◌, ◌==◌, Bool, true, false, cond, List, [], ◌∷◌, ◌++◌}
-use Rattle.std.proofs.Common.{length, get_or, map, take, drop, refl, sym, ap, subst, ◌∙◌, arith, append_assoc, length-append, nat_le, inl}
-use Rattle.std.proofs.Common.{inr, Option, Some, None}
-use Rattle.std.proofs.lemmas.Bool.{cases_Bool, eq-eqb, eqb-true, le-leb, leb-true, lt-ltb, ltb-true, ne_eqb}
-use Rattle.std.proofs.lemmas.List.{append-nil, drop_at, length-take-le, take-append-drop, take_at}
-use Rattle.std.proofs.lemmas.Nat.{pow_pos}
-use Rattle.chip_core.specs.Bits.{binary}
-use Rattle.chip_core.specs.Fields.{field, spelled, in_widths, total, FieldsFit}
-use Rattle.chip_core.specs.Readings.{number_at, values_at}
-use Rattle.chip_core.proofs.FieldLists.{length-binary}
-use Rattle.chip_core.proofs.ValueLists.{behind_front, front, length-in_widths, number_front, values_again, values_there}
-use Rattle.message_layout.specs.Contents.{columns_in, count_in, height, record_fields, share, shares}
-use Rattle.message_layout.specs.Reading.{◌>>=◌, fields_at, group_at, number_part, octets_at, part_at, presence_at, present_at, records_at}
-use Rattle.message_layout.specs.Reading.{records_from}
-use Rattle.message_layout.specs.Shapes.{ends, is_told}
-use Rattle.message_layout.specs.Spelling.{group_fields, octet_bits, HaveValues, IsGroup, IsRest}
-use Rattle.message_layout.specs.declared.layout.Presence.{Presence}
-use Rattle.message_layout.specs.declared.layout.Presence.TheVariants.{Never, Flagged, UnlessLeft}
+use Rattle.message_layout.proofs.Common.{◌≡◌, ℕ, zero, suc, ◌+◌, ◌*◌, ◌/◌, ◌%◌, ◌^◌, ◌<◌, ◌≤◌, ◌==◌, Bool, true, false, cond, List, [], ◌∷◌}
+use Rattle.message_layout.proofs.Common.{◌++◌, length, get_or, map, take, drop, refl, sym, ap, subst, ◌∙◌, arith, append_assoc}
+use Rattle.message_layout.proofs.Common.{length-append, nat_le, inl, inr, Option, Some, None, cases_Bool, eq-eqb, eqb-true, le-leb}
+use Rattle.message_layout.proofs.Common.{leb-true, lt-ltb, ltb-true, ne_eqb, append-nil, drop_at, length-take-le, take-append-drop, take_at}
+use Rattle.message_layout.proofs.Common.{pow_pos, binary, field, spelled, in_widths, total, FieldsFit, number_at, values_at, length-binary}
+use Rattle.message_layout.proofs.Common.{behind_front, front, length-in_widths, number_front, values_again, values_there, columns_in}
+use Rattle.message_layout.proofs.Common.{count_in, height, record_fields, share, shares, ◌>>=◌, fields_at, group_at, number_part, octets_at}
+use Rattle.message_layout.proofs.Common.{part_at, presence_at, present_at, records_at, records_from, ends, is_told, group_fields}
+use Rattle.message_layout.proofs.Common.{octet_bits, HaveValues, IsGroup, IsRest, Presence, Never, Flagged, UnlessLeft}
 use Rattle.message_layout.proofs.Columns.{column_long, columns_again, columns_long, get-lengths, length-records, records_there, three_long}
 use Rattle.message_layout.proofs.Lawful.{count_room, counted}
 

@@ -1,12 +1,8 @@
 -- Contents, spelled and read again.
-use Rattle.std.proofs.Common.{◌≡◌, ℕ, Bool, true, List, ◌++◌, length, refl, sym, ap, subst, ◌∙◌, Option, Some, None}
-use Rattle.std.specs.Prelude.{IfSome}
-use Rattle.std.proofs.lemmas.Bool.{le-leb, leb-true}
-use Rattle.chip_core.specs.Fields.{spelled, in_widths}
-use Rattle.message_layout.specs.Reading.{◌>>=◌, fields_at, group_at, is_rest, octets_at, reading, records_at, rest_at}
-use Rattle.message_layout.specs.Shapes.{is_lawful, Shape}
-use Rattle.message_layout.specs.Spelling.{behind_group, group_fields, octet_bits, records_of, spelling, IsGroup, IsOf, IsRest}
-use Rattle.message_layout.specs.declared.contents.Contents.{Contents}
+use Rattle.message_layout.proofs.Common.{◌≡◌, ℕ, Bool, true, List, ◌++◌, length, refl, sym, ap, subst, ◌∙◌, Option, Some, None, IfSome}
+use Rattle.message_layout.proofs.Common.{le-leb, leb-true, spelled, in_widths, ◌>>=◌, fields_at, group_at, is_rest, octets_at, reading}
+use Rattle.message_layout.proofs.Common.{records_at, rest_at, is_lawful, Shape, behind_group, group_fields, octet_bits, records_of}
+use Rattle.message_layout.proofs.Common.{spelling, IsGroup, IsOf, IsRest, Contents}
 use Rattle.message_layout.proofs.Lawful.{lawful}
 use Rattle.message_layout.proofs.Parts.{bind_some, fields_again, fields_there, group_again, group_there, guard_some, octets_again}
 use Rattle.message_layout.proofs.Parts.{octets_there, records_part_again, records_part_there, some_is}

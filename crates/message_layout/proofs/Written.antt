@@ -1,14 +1,7 @@
 -- Contents that are written part by part.
-use Rattle.std.proofs.Common.{◌≡◌, ℕ, ◌+◌, ◌≤◌, List, Bool, [], ◌++◌, length, ap, ◌∙◌, arith, append_assoc, length-append, Option, None}
-use Rattle.std.proofs.Common.{Some}
-use Rattle.chip_core.specs.Bits.{binary}
-use Rattle.chip_core.specs.Fields.{spelled, in_widths}
-use Rattle.chip_core.proofs.FieldLists.{length-binary}
-use Rattle.message_layout.specs.Shapes.{Shape}
-use Rattle.message_layout.specs.Spelling.{behind_group, group_fields, octet_bits, records_of, spelling}
-use Rattle.message_layout.specs.declared.contents.Contents.{Contents}
-use Rattle.message_layout.specs.declared.layout.Presence.{Presence}
-use Rattle.message_layout.specs.declared.layout.Presence.TheVariants.{Never, Flagged, UnlessLeft}
+use Rattle.message_layout.proofs.Common.{◌≡◌, ℕ, ◌+◌, ◌≤◌, List, Bool, [], ◌++◌, length, ap, ◌∙◌, arith, append_assoc, length-append}
+use Rattle.message_layout.proofs.Common.{Option, None, Some, binary, spelled, in_widths, length-binary, Shape, behind_group, group_fields}
+use Rattle.message_layout.proofs.Common.{octet_bits, records_of, spelling, Contents, Presence, Never, Flagged, UnlessLeft}
 
 abbrev pub fixed_bits : Shape → Contents → List Bool
 fixed_bits s c = spelled (in_widths s.fixed c.fixed)

@@ -1,23 +1,12 @@
 -- The active pilots of sets in order, actives a traffic channel is heard from them.
-use Rattle.std.proofs.Common.{◌≡◌, ℕ, zero, suc, ◌+◌, ◌*◌, ◌<◌, ◌≤◌, ◌==◌, Bool, true, false, List, [], ◌∷◌, ◌++◌, length, map, refl, sym}
-use Rattle.std.proofs.Common.{ap, arith, Some, slice_get, nat_lt, nat_le, ℤ, pos, get_or, All, inl, inr, cond, slice_set, replicate, subst}
-use Rattle.std.proofs.Common.{Option, None}
-use Rattle.std.specs.Prelude.{unsigned_abs, nat_eq, if◌then◌else◌}
-use Rattle.std.proofs.lemmas.Bool.{and_from, cases_Bool, cases_lt, eqb-true, eqb-false, eq-eqb, ne_eqb, le-leb, le-ltb, lt-ltb}
-use Rattle.std.proofs.lemmas.List.Elements.{All-set}
-use Rattle.pilot_sets.specs.Orderly.{IsOrderly, IsStanding, times, times_in}
+use Rattle.mobile_core.proofs.Common.{◌≡◌, ℕ, zero, suc, ◌+◌, ◌*◌, ◌<◌, ◌≤◌, ◌==◌, Bool, true, false, List, [], ◌∷◌, ◌++◌, length, map}
+use Rattle.mobile_core.proofs.Common.{refl, sym, ap, arith, Some, slice_get, nat_lt, nat_le, ℤ, pos, get_or, All, inl, inr, cond, slice_set}
+use Rattle.mobile_core.proofs.Common.{replicate, subst, Option, None, unsigned_abs, nat_eq, if◌then◌else◌, and_from, cases_Bool, cases_lt}
+use Rattle.mobile_core.proofs.Common.{eqb-true, eqb-false, eq-eqb, ne_eqb, le-leb, le-ltb, lt-ltb, All-set, IsOrderly, IsStanding, times}
+use Rattle.mobile_core.proofs.Common.{times_in, pilots_of_actives, handed_off, Standing, began_in, deltas_with, due_at, due_for, shown}
+use Rattle.mobile_core.proofs.Common.{shown_active, Active, Accepted, ActivePilot, PilotSets, Strength, is_close, legs_close, legs_rows}
+use Rattle.mobile_core.proofs.Common.{places_for, places_in, leg_of, legs_of, Mark}
 use Rattle.pilot_sets.specs.Orderly as orderly
-use Rattle.pilot_sets.specs.PilotSets.{pilots_of_actives}
-use Rattle.pilot_sets.specs.Handoffs.{handed_off}
-use Rattle.pilot_sets.specs.Standing.{Standing, began_in, deltas_with, due_at, due_for, shown, shown_active}
-use Rattle.pilot_sets.specs.declared.lists.Active.{Active}
-use Rattle.pilot_sets.specs.declared.standing.Accepted.{Accepted}
-use Rattle.pilot_sets.specs.declared.standing.ActivePilot.{ActivePilot}
-use Rattle.pilot_sets.specs.declared.standing.PilotSets.{PilotSets}
-use Rattle.pilot_sets.specs.declared.strengths.Strength.{Strength}
-use Rattle.mobile_core.specs.Close.{is_close, legs_close, legs_rows, places_for, places_in}
-use Rattle.mobile_core.specs.Legs.{leg_of, legs_of}
-use Rattle.mobile_core.specs.declared.mark.Mark.{Mark}
 
 -- HOW OFTEN A PILOT IS ACTIVE
 pilots_shown : (actives : List ActivePilot) →

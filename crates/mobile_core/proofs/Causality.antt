@@ -1,23 +1,12 @@
 -- The first samples alone decide what is heard within them.
-use Rattle.std.proofs.Common.{◌≡◌, ℕ, suc, ◌+◌, ◌≤◌, true, List, [], ◌∷◌, ◌++◌, length, take, drop, refl, sym, ap, ◌∙◌, arith, ℤ, pos, All}
-use Rattle.std.proofs.Common.{Some, slice_get}
-use Rattle.std.specs.Prelude.{IsTrue}
-use Rattle.std.specs.List.{flat_map}
-use Rattle.std.proofs.lemmas.Bool.{and_from}
-use Rattle.std.proofs.lemmas.List.{take-append-drop, length-take-le}
-use Rattle.chip_core.specs.Bits.{places}
-use Rattle.chip_core.specs.declared.sample.Sample.{Sample}
-use Rattle.mobile_core.specs.Events.{events_at, events_within, heard_within}
-use Rattle.mobile_core.specs.Marks.{mark}
-use Rattle.mobile_core.specs.Near.{is_near, all_near, has_reference, AreNear, IsTuned, low_of}
-use Rattle.mobile_core.specs.Tuning.{Tuning, fingers_of, sync_stream}
-use Rattle.mobile_core.specs.declared.event.Event.{Event}
-use Rattle.mobile_core.specs.declared.event.Event.TheVariants.{Pilot}
+use Rattle.mobile_core.proofs.Common.{◌≡◌, ℕ, suc, ◌+◌, ◌≤◌, true, List, [], ◌∷◌, ◌++◌, length, take, drop, refl, sym, ap, ◌∙◌, arith, ℤ}
+use Rattle.mobile_core.proofs.Common.{pos, All, Some, slice_get, IsTrue, flat_map, and_from, take-append-drop, length-take-le, places}
+use Rattle.mobile_core.proofs.Common.{Sample, events_at, events_within, heard_within, mark, is_near, all_near, has_reference, AreNear}
+use Rattle.mobile_core.proofs.Common.{IsTuned, low_of, Tuning, fingers_of, sync_stream, Event, Pilot, flat_map_ext_places}
 use Rattle.mobile_core.proofs.EventsGrown.{events_sooner}
 use Rattle.mobile_core.proofs.FingerTimes.{timed_of}
 use Rattle.mobile_core.proofs.Growth.{IsSyncTimed}
 use Rattle.mobile_core.proofs.MarkStays.{mark_sooner}
-use Rattle.chip_core.proofs.Ranges.{flat_map_ext_places}
 
 -- FINGERS THAT ARE TUNED
 near_all : (phase : ℕ) (deltas : List ℤ) → All (λ d. IsTrue (is_near d)) deltas →

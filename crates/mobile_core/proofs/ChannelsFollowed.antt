@@ -1,24 +1,14 @@
 -- What the channels behind the mark have still to give, as samples come.
-use Rattle.std.proofs.Common.{◌≡◌, ℕ, ◌+◌, ◌<◌, ◌≤◌, List, [], ◌++◌, length, map, refl, ap, ◌∙◌, inl, inr, Bool, true, false, Option, Some}
-use Rattle.std.proofs.Common.{None, arith, length-append, nat_lt}
-use Rattle.std.specs.Prelude.{IsTrue, ◌↔◌, if◌then◌else◌}
-use Rattle.chip_core.specs.declared.sample.Sample.{Sample}
-use Rattle.mobile_core.specs.FollowedChannels.{HearsFollowed, IsFollowedDue, WaitFrom, IsSoundFollowed, followed_events_left}
-use Rattle.mobile_core.specs.Near.{AreNear}
-use Rattle.mobile_core.specs.PagingEvents.{page_event, pages_behind}
-use Rattle.mobile_core.specs.PagingMonitoring.{IsReceiverDue, paging_events_left}
-use Rattle.mobile_core.specs.TrafficMonitoring.{IsFrameDue}
-use Rattle.mobile_core.specs.Tuning.{Tuning, sync_stream}
-use Rattle.mobile_core.specs.declared.event.Event.{Event}
-use Rattle.mobile_core.specs.declared.followed.Followed.{Followed}
-use Rattle.mobile_core.specs.declared.mark.Mark.{Mark}
-use Rattle.mobile_core.specs.declared.paging_receiver.PagingReceiver.{PagingReceiver}
-use Rattle.mobile_core.proofs.FramesFollowed as frames
-use Rattle.mobile_core.proofs.FramesFollowed.{FramesEndFrom}
+use Rattle.mobile_core.proofs.Common.{◌≡◌, ℕ, ◌+◌, ◌<◌, ◌≤◌, List, [], ◌++◌, length, map, refl, ap, ◌∙◌, inl, inr, Bool, true, false}
+use Rattle.mobile_core.proofs.Common.{Option, Some, None, arith, length-append, nat_lt, IsTrue, ◌↔◌, if◌then◌else◌, Sample, HearsFollowed}
+use Rattle.mobile_core.proofs.Common.{IsFollowedDue, WaitFrom, IsSoundFollowed, followed_events_left, AreNear, page_event, pages_behind}
+use Rattle.mobile_core.proofs.Common.{IsReceiverDue, paging_events_left, IsFrameDue, Tuning, sync_stream, Event, Followed, Mark}
+use Rattle.mobile_core.proofs.Common.{PagingReceiver}
+use Rattle.mobile_core.proofs.FramesFollowed.{FramesEndFrom, told_behind}
 use Rattle.mobile_core.proofs.MarkStays.{pages_later}
-use Rattle.mobile_core.proofs.PagesFollowed as pages
 use Rattle.mobile_core.proofs.PagesFollowed.{EndsFrom}
-use Rattle.mobile_core.proofs.FramesFollowed.{told_behind}
+use Rattle.mobile_core.proofs.FramesFollowed as frames
+use Rattle.mobile_core.proofs.PagesFollowed as pages
 
 -- the frame of each that comes next ends at so many samples or later
 pub record EndFrom (n : ℕ) (f : Followed) : Type 0 where

@@ -1,15 +1,8 @@
 -- What the clock of a channel's frames stands for, step by step, over any stream.
-use Rattle.std.proofs.Common.{◌≡◌, ℕ, ◌+◌, ◌-◌, ◌*◌, ◌<◌, ◌≤◌, true, refl, sym, ap, ◌∙◌, arith, ◌⊎◌, inl, inr, nat_lt, false}
-use Rattle.std.proofs.lemmas.Bool.{cases_lt, lt-ltb, le-ltb}
-use Rattle.rake_finger.specs.Soft.{frame_chips}
-use Rattle.rake_finger.specs.declared.form.Form.{Form}
-use Rattle.rake_finger.specs.declared.form.Form.TheVariants.{Sync, Data}
-use Rattle.mobile_core.specs.Clocks.{IsAt, IsDueAt, clock_from, first_frame, frame_come, frame_heard, span_from}
-use Rattle.mobile_core.specs.Near.{AreNear}
-use Rattle.mobile_core.specs.Progress.{IsDue}
-use Rattle.mobile_core.specs.Streams.{Stream, frame_start, is_in_file, known_at, span_first, span_frames}
-use Rattle.mobile_core.specs.Timing.{stream_end}
-use Rattle.mobile_core.specs.declared.frame_clock.FrameClock.{FrameClock}
+use Rattle.mobile_core.proofs.Common.{◌≡◌, ℕ, ◌+◌, ◌-◌, ◌*◌, ◌<◌, ◌≤◌, true, refl, sym, ap, ◌∙◌, arith, ◌⊎◌, inl, inr, nat_lt, false}
+use Rattle.mobile_core.proofs.Common.{cases_lt, lt-ltb, le-ltb, frame_chips, Form, Sync, Data, IsAt, IsDueAt, clock_from, first_frame}
+use Rattle.mobile_core.proofs.Common.{frame_come, frame_heard, span_from, AreNear, IsDue, Stream, frame_start, is_in_file, known_at}
+use Rattle.mobile_core.proofs.Common.{span_first, span_frames, stream_end, FrameClock}
 use Rattle.mobile_core.proofs.FingerTimes.{start_step, timed_in}
 use Rattle.mobile_core.proofs.Progresses as progress
 use Rattle.mobile_core.proofs.Spans as spans

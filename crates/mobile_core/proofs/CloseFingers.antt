@@ -1,17 +1,8 @@
 -- Where the frames of fingers that are close to the reference path begin and end.
-use Rattle.std.proofs.Common.{◌≡◌, ℕ, zero, suc, ◌+◌, ◌<◌, ◌≤◌, true, List, [], ◌∷◌, length, refl, sym, ap, ◌∙◌, arith, ℤ, pos, ◌-ℤ◌, ◌≤ℤ◌}
-use Rattle.std.proofs.Common.{nat_le, negsuc, All, slice_get, Some, slice_index_or}
-use Rattle.std.specs.Prelude.{unsigned_abs, int_le}
-use Rattle.std.proofs.lemmas.Int.{ints}
-use Rattle.std.proofs.lemmas.Bool.{and_parts, and_from}
-use Rattle.std.proofs.lemmas.Bool.Decides.{nat_tests}
-use Rattle.rake_finger.specs.Held.{Held}
-use Rattle.rake_finger.specs.InRing.{IsInRing}
-use Rattle.rake_finger.specs.declared.finger.Finger.{Finger}
-use Rattle.rake_finger.specs.declared.form.Form.TheVariants.{Data}
-use Rattle.mobile_core.specs.Close.{AreClose, all_close, is_close}
-use Rattle.mobile_core.specs.Near.{AreNear, all_begun, all_near, has_reference, is_near}
-use Rattle.mobile_core.specs.Streams.{frame_end}
+use Rattle.mobile_core.proofs.Common.{◌≡◌, ℕ, zero, suc, ◌+◌, ◌<◌, ◌≤◌, true, List, [], ◌∷◌, length, refl, sym, ap, ◌∙◌, arith, ℤ, pos}
+use Rattle.mobile_core.proofs.Common.{◌-ℤ◌, ◌≤ℤ◌, nat_le, negsuc, All, slice_get, Some, slice_index_or, unsigned_abs, int_le, ints}
+use Rattle.mobile_core.proofs.Common.{and_parts, and_from, nat_tests, Held, IsInRing, Finger, Data, AreClose, all_close, is_close, AreNear}
+use Rattle.mobile_core.proofs.Common.{all_begun, all_near, has_reference, is_near, frame_end}
 use Rattle.mobile_core.proofs.FingerTimes.{end_at, near_parts}
 
 -- ONE FINGER

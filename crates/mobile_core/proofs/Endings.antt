@@ -1,10 +1,7 @@
 -- What numbers give that pass a test, and those of them from a number on.
-use Rattle.std.proofs.Common.{◌≡◌, ℕ, ◌+◌, ◌<◌, ◌≤◌, Bool, true, false, ◌&&◌, List, [], ◌∷◌, refl, ap, ◌∙◌, arith, nat_le, inl, inr, map}
-use Rattle.std.proofs.Common.{filter}
-use Rattle.std.specs.List.{flat_map}
-use Rattle.std.proofs.lemmas.Bool.{and_from, and_left, and_right, le-leb, lt-leb, cases_lt}
-use Rattle.chip_core.specs.Bits.{places}
-use Rattle.chip_core.proofs.Ranges.{filter_ext_places, filter_none_places, filter_first_places}
+use Rattle.mobile_core.proofs.Common.{◌≡◌, ℕ, ◌+◌, ◌<◌, ◌≤◌, Bool, true, false, ◌&&◌, List, [], ◌∷◌, refl, ap, ◌∙◌, arith, nat_le, inl, inr}
+use Rattle.mobile_core.proofs.Common.{map, filter, flat_map, and_from, and_left, and_right, le-leb, lt-leb, cases_lt, places}
+use Rattle.mobile_core.proofs.Common.{filter_ext_places, filter_none_places, filter_first_places}
 
 -- one at each place
 pub singly : {A B : Type 0} (f : A → B) (xs : List A) → flat_map (λ x. f x ∷ []) xs ≡ map f xs

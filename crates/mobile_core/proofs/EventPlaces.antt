@@ -1,29 +1,12 @@
 -- The events that end at a number of samples have that number.
-use Rattle.std.proofs.Common.{◌≡◌, ℕ, ◌+◌, ◌==◌, ◌||◌, List, [], ◌∷◌, ◌++◌, map, refl, Option, None, Some, inl, inr, take}
-use Rattle.std.specs.List.{flat_map}
-use Rattle.std.proofs.lemmas.Bool.{cases_Bool, eqb-true}
-use Rattle.chip_core.specs.declared.sample.Sample.{Sample}
-use Rattle.pilot_sets.specs.Standing.{Standing}
-use Rattle.pilot_sets.specs.declared.change.SetChange.{SetChange}
-use Rattle.mobile_core.specs.Events.{events_at, frame_events_at, message_events_at, paging_events_at, sets_events_at}
-use Rattle.mobile_core.specs.Given.{at_of}
-use Rattle.mobile_core.specs.Marks.{mark}
-use Rattle.mobile_core.specs.Moments.{changed, frames_at, heard_from, kept_to, legs_at, messages_at, moment_events, moment_place}
-use Rattle.mobile_core.specs.Moments.{moments_before, passed, sets_at}
-use Rattle.mobile_core.specs.PagingEvents.{page_event, pages_behind}
-use Rattle.mobile_core.specs.Signaling.{message_at, message_events, message_heard, messages_by}
-use Rattle.mobile_core.specs.Streams.{known_now}
-use Rattle.mobile_core.specs.SyncEvents.{events_of, heard_at, sync_events_at}
-use Rattle.mobile_core.specs.TrafficEvents.{frame_heard, frames_by, if_followed}
-use Rattle.mobile_core.specs.TrafficStreams.{frames_now}
-use Rattle.mobile_core.specs.Tuning.{Tuning, sync_bound, sync_stream}
-use Rattle.mobile_core.specs.declared.event.Event.{Event}
-use Rattle.mobile_core.specs.declared.legs.Leg.{Leg}
-use Rattle.mobile_core.specs.declared.mark.Mark.{Mark}
-use Rattle.chip_core.specs.declared.assignment.Traffic.{Traffic}
-use Rattle.mobile_core.specs.declared.spelled_message.SpelledMessage.{SpelledMessage}
-use Rattle.mobile_core.specs.declared.spelled_page.SpelledPage.{SpelledPage}
-use Rattle.mobile_core.specs.declared.spelled_signal.SpelledSignal.{SpelledSignal}
+use Rattle.mobile_core.proofs.Common.{◌≡◌, ℕ, ◌+◌, ◌==◌, ◌||◌, List, [], ◌∷◌, ◌++◌, map, refl, Option, None, Some, inl, inr, take, flat_map}
+use Rattle.mobile_core.proofs.Common.{cases_Bool, eqb-true, Sample, Standing, SetChange, events_at, frame_events_at, message_events_at}
+use Rattle.mobile_core.proofs.Common.{paging_events_at, sets_events_at, at_of, mark, changed, frames_at, heard_from, kept_to, legs_at}
+use Rattle.mobile_core.proofs.Common.{messages_at, moment_events, moment_place, moments_before, passed, sets_at, page_event, pages_behind}
+use Rattle.mobile_core.proofs.Common.{message_at, message_events, message_heard, messages_by, known_now, events_of, heard_at}
+use Rattle.mobile_core.proofs.Common.{sync_events_at, frames_by, if_followed, frames_now, Tuning, sync_bound, sync_stream, Event, Leg, Mark}
+use Rattle.mobile_core.proofs.Common.{Traffic, SpelledMessage, SpelledPage, SpelledSignal}
+use Rattle.mobile_core.specs.TrafficEvents.{frame_heard}
 
 -- events of one number of samples
 abbrev pub AreAt : ℕ → List Event → Type 0

@@ -1,32 +1,19 @@
 -- How the events of a file grow with its samples.
-use Rattle.std.proofs.Common.{◌≡◌, ℕ, suc, ◌+◌, ◌-◌, ◌<◌, ◌≤◌, List, [], ◌++◌, length, length-append, refl, sym, ap, ◌∙◌, arith, inl, inr}
-use Rattle.std.proofs.Common.{map, subst, Option, Some, None, nat_lt}
-use Rattle.std.specs.Prelude.{if◌then◌else◌}
-use Rattle.std.proofs.lemmas.Bool.{cases_lt}
-use Rattle.std.proofs.lemmas.List.{append_assoc}
-use Rattle.chip_core.specs.declared.sample.Sample.{Sample}
-use Rattle.mobile_core.specs.Events.{events, events_at, frame_events_at, heard_within, message_events_at, paging_events_at, sets_events_at}
-use Rattle.mobile_core.specs.FollowedChannels.{HearsFollowed, IsFollowedDue, IsSoundFollowed, followed_events_left}
-use Rattle.mobile_core.specs.Left.{sync_events_left}
-use Rattle.mobile_core.specs.Marks.{mark, mark_before}
-use Rattle.mobile_core.specs.Near.{AreNear}
-use Rattle.mobile_core.specs.Moments.{frames_behind, messages_behind, moments_before, sets_behind}
-use Rattle.mobile_core.specs.PagingEvents.{page_event, pages_at, pages_behind}
-use Rattle.mobile_core.specs.SyncEvents.{sync_events_at}
-use Rattle.mobile_core.specs.Tuning.{Tuning, sync_stream}
-use Rattle.mobile_core.specs.declared.event.Event.{Event}
-use Rattle.mobile_core.specs.declared.followed.Followed.{Followed}
-use Rattle.mobile_core.specs.declared.mark.Mark.{Mark}
-use Rattle.chip_core.specs.declared.assignment.Traffic.{Traffic}
+use Rattle.mobile_core.proofs.Common.{◌≡◌, ℕ, suc, ◌+◌, ◌-◌, ◌<◌, ◌≤◌, List, [], ◌++◌, length, length-append, refl, sym, ap, ◌∙◌, arith}
+use Rattle.mobile_core.proofs.Common.{inl, inr, map, subst, Option, Some, None, nat_lt, if◌then◌else◌, cases_lt, append_assoc, Sample}
+use Rattle.mobile_core.proofs.Common.{events, events_at, frame_events_at, heard_within, message_events_at, paging_events_at, sets_events_at}
+use Rattle.mobile_core.proofs.Common.{HearsFollowed, IsFollowedDue, IsSoundFollowed, followed_events_left, sync_events_left, mark}
+use Rattle.mobile_core.proofs.Common.{mark_before, AreNear, frames_behind, messages_behind, moments_before, sets_behind, page_event}
+use Rattle.mobile_core.proofs.Common.{pages_at, pages_behind, sync_events_at, Tuning, sync_stream, Event, Followed, Mark, Traffic}
+use Rattle.mobile_core.proofs.Common.{flat_map_grown}
 use Rattle.mobile_core.proofs.ChannelsFollowed.{EndFrom, followed_behind, followed_come, followed_quiet, unrated}
 use Rattle.mobile_core.proofs.FramesFollowed.{told_behind, told_unset}
-use Rattle.mobile_core.proofs.Growth as growth
 use Rattle.mobile_core.proofs.Growth.{IsSyncTimed, KnownBefore, KnownFrom}
 use Rattle.mobile_core.proofs.MarkGrowth.{mark_before_sooner, mark_is}
-use Rattle.mobile_core.proofs.MarkStays as stays
 use Rattle.mobile_core.proofs.PageGrowth.{pages_sooner}
 use Rattle.mobile_core.proofs.MomentGrowth.{first_same, kept_sooner, sets_sooner}
-use Rattle.chip_core.proofs.Ranges.{flat_map_grown}
+use Rattle.mobile_core.proofs.Growth as growth
+use Rattle.mobile_core.proofs.MarkStays as stays
 
 -- what ends at n is heard on the sync channel, on the paging channel, or on the traffic channel, or
 -- is a moment of the pilot sets

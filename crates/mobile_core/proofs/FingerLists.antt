@@ -1,16 +1,9 @@
 -- Lists of fingers, gone over one by one.
-use Rattle.std.proofs.Common.{◌≡◌, ℕ, zero, suc, ◌+◌, ◌<◌, true, ◌&&◌, List, [], ◌∷◌, ◌++◌, length, take, drop, refl, sym, ap, ◌∙◌, arith}
-use Rattle.std.proofs.Common.{ℤ, pos, Some, slice_get, slice_index_or, nat_lt, All, max, get_or}
-use Rattle.std.specs.Prelude.{int_le}
-use Rattle.std.proofs.lemmas.Bool.{and_parts, and_from, ltb-true, lt-ltb}
-use Rattle.std.proofs.lemmas.List.{at_drop_more, take_more, map-append}
-use Rattle.std.proofs.lemmas.List.Folds.{list_all-append, list_any-append}
-use Rattle.std.proofs.lemmas.Option.{get_or_from_slice_get, slice_get_within}
-use Rattle.rake_finger.specs.declared.finger.Finger.{Finger}
-use Rattle.rake_finger.specs.declared.form.Form.{Form}
-use Rattle.mobile_core.specs.Near.{is_near, all_near, has_reference, have_rows, all_begun}
-use Rattle.mobile_core.specs.Streams.{frame_end, finger_end}
-use Rattle.mobile_core.specs.Tuning.{finger_of, fingers_of}
+use Rattle.mobile_core.proofs.Common.{◌≡◌, ℕ, zero, suc, ◌+◌, ◌<◌, true, ◌&&◌, List, [], ◌∷◌, ◌++◌, length, take, drop, refl, sym, ap, ◌∙◌}
+use Rattle.mobile_core.proofs.Common.{arith, ℤ, pos, Some, slice_get, slice_index_or, nat_lt, All, max, get_or, int_le, and_parts, and_from}
+use Rattle.mobile_core.proofs.Common.{ltb-true, lt-ltb, at_drop_more, take_more, map-append, list_all-append, list_any-append}
+use Rattle.mobile_core.proofs.Common.{get_or_from_slice_get, slice_get_within, Finger, Form, is_near, all_near, has_reference, have_rows}
+use Rattle.mobile_core.proofs.Common.{all_begun, frame_end, finger_end, finger_of, fingers_of}
 
 pub begun_at : (u : ℕ) (fingers : List Finger) (i : ℕ) (f : Finger) →
     slice_get fingers i ≡ Some f →

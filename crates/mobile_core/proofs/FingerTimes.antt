@@ -1,23 +1,11 @@
 -- Where the fingers' frames begin and end.
-use Rattle.std.proofs.Common.{◌≡◌, ℕ, zero, suc, ◌+◌, ◌*◌, ◌<◌, ◌≤◌, Bool, true, false, cond, ◌&&◌, List, [], ◌∷◌, length, refl, sym, ap}
-use Rattle.std.proofs.Common.{◌∙◌, arith, inl, inr, ℤ, pos, negsuc, ◌+ℤ◌, ◌-ℤ◌, ◌≤ℤ◌, nat_le, All, slice_index_or}
-use Rattle.std.specs.Prelude.{unsigned_abs, int_le, max, if◌then◌else◌}
-use Rattle.std.specs.Ordering.{int_eq}
-use Rattle.std.proofs.lemmas.Int.{ints}
-use Rattle.std.proofs.lemmas.Bool.{and_parts, and_from, or_cases, cases_lt, le-leb, lt-leb}
-use Rattle.std.proofs.lemmas.Bool.Decides.{nat_tests}
-use Rattle.rake_finger.specs.Held.{Held}
-use Rattle.rake_finger.specs.InRing.{IsInRing}
-use Rattle.rake_finger.specs.Soft.{frame_chips}
-use Rattle.rake_finger.specs.declared.finger.Finger.{Finger}
-use Rattle.rake_finger.specs.declared.form.Form.{Form}
-use Rattle.rake_finger.specs.declared.form.Form.TheVariants.{Sync, Data}
-use Rattle.mobile_core.specs.Clocks.{first_frame}
+use Rattle.mobile_core.proofs.Common.{◌≡◌, ℕ, zero, suc, ◌+◌, ◌*◌, ◌<◌, ◌≤◌, Bool, true, false, cond, ◌&&◌, List, [], ◌∷◌, length, refl}
+use Rattle.mobile_core.proofs.Common.{sym, ap, ◌∙◌, arith, inl, inr, ℤ, pos, negsuc, ◌+ℤ◌, ◌-ℤ◌, ◌≤ℤ◌, nat_le, All, slice_index_or}
+use Rattle.mobile_core.proofs.Common.{unsigned_abs, int_le, max, if◌then◌else◌, int_eq, ints, and_parts, and_from, or_cases, cases_lt}
+use Rattle.mobile_core.proofs.Common.{le-leb, lt-leb, nat_tests, Held, IsInRing, frame_chips, Finger, Form, Sync, Data, first_frame}
+use Rattle.mobile_core.proofs.Common.{is_near, all_near, has_reference, AreNear, all_begun, AreBegun, Stream, is_within, frame_end}
+use Rattle.mobile_core.proofs.Common.{frame_start, stream_end, IsTimed, Tuning, sync_stream}
 use Rattle.mobile_core.specs.Near as near
-use Rattle.mobile_core.specs.Near.{is_near, all_near, has_reference, AreNear, all_begun, AreBegun}
-use Rattle.mobile_core.specs.Streams.{Stream, is_within, frame_end, frame_start}
-use Rattle.mobile_core.specs.Timing.{stream_end, IsTimed}
-use Rattle.mobile_core.specs.Tuning.{Tuning, sync_stream}
 
 -- FRAMES
 pub some_chips : (form : Form) → 256 ≤ frame_chips form

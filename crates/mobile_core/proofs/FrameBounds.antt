@@ -1,16 +1,8 @@
 -- When the frames of a traffic channel end, whatever pilots each is heard from.
-use Rattle.std.proofs.Common.{◌≡◌, ℕ, ◌+◌, ◌^◌, ◌<◌, ◌≤◌, true, false, ◌&&◌, List, refl, ap, ◌∙◌, arith, nat_le, Bool, ◌==◌}
-use Rattle.std.proofs.lemmas.Bool.{and_parts, and_from, le-leb, eqb-true, eq-eqb, false_from_ne_true}
-use Rattle.rake_finger.specs.declared.form.Form.TheVariants.{Data}
-use Rattle.mobile_core.specs.Close.{AreClose}
-use Rattle.mobile_core.specs.Legs.{all_fingers}
-use Rattle.mobile_core.specs.Near.{all_begun}
-use Rattle.mobile_core.specs.Streams.{frame_end}
-use Rattle.mobile_core.specs.TrafficStreams.{ends_now, frame_known, frames_bound, has_frame, traffic_start}
-use Rattle.mobile_core.specs.Tuning.{Tuning}
-use Rattle.mobile_core.specs.declared.legs.Leg.{Leg}
-use Rattle.mobile_core.specs.declared.mark.Mark.{Mark}
-use Rattle.chip_core.specs.declared.assignment.Traffic.{Traffic}
+use Rattle.mobile_core.proofs.Common.{◌≡◌, ℕ, ◌+◌, ◌^◌, ◌<◌, ◌≤◌, true, false, ◌&&◌, List, refl, ap, ◌∙◌, arith, nat_le, Bool, ◌==◌}
+use Rattle.mobile_core.proofs.Common.{and_parts, and_from, le-leb, eqb-true, eq-eqb, false_from_ne_true, Data, AreClose, all_fingers}
+use Rattle.mobile_core.proofs.Common.{all_begun, frame_end, ends_now, frame_known, frames_bound, has_frame, traffic_start, Tuning, Leg}
+use Rattle.mobile_core.proofs.Common.{Mark, Traffic}
 use Rattle.mobile_core.proofs.CloseFingers.{close_begun, close_ends}
 use Rattle.mobile_core.proofs.FingerTimes.{within_is}
 

@@ -1,28 +1,15 @@
 -- How the frames that are heard of a traffic channel grow with a file's samples.
-use Rattle.std.proofs.Common.{◌≡◌, ℕ, ◌+◌, ◌<◌, ◌≤◌, true, List, [], ◌∷◌, ◌++◌, length, map, ℤ, sym, ap, ◌∙◌, arith}
-use Rattle.chip_core.specs.Bits.{places}
-use Rattle.chip_core.specs.declared.sample.Sample.{Sample}
-use Rattle.frame_decoder.specs.TrafficFrames.{command, decoded, group_sums}
-use Rattle.frame_decoder.specs.declared.traffic.Decoded.{Decoded}
-use Rattle.rake_finger.specs.Soft.{softs}
-use Rattle.rake_finger.specs.declared.form.Form.TheVariants.{Data}
-use Rattle.mobile_core.specs.Legs.{all_fingers, on_subchannel, subchannels}
-use Rattle.mobile_core.specs.Scrambled.{unscrambled}
-use Rattle.mobile_core.specs.TrafficEvents.{all_sums, commands_at, decoded_at, frame_event, frame_heard, frames_by, subchannel_sums}
-use Rattle.mobile_core.specs.TrafficReceiving.{frames_left_of}
-use Rattle.mobile_core.specs.TrafficStreams.{ends_now, frame_known, frames_bound, frames_now, has_frame, replaced_in, stream_of}
-use Rattle.mobile_core.specs.TrafficStreams.{traffic_start}
-use Rattle.mobile_core.specs.Tuning.{Tuning}
-use Rattle.mobile_core.specs.declared.event.Event.{Event}
-use Rattle.mobile_core.specs.declared.legs.Leg.{Leg}
-use Rattle.mobile_core.specs.declared.mark.Mark.{Mark}
-use Rattle.chip_core.specs.declared.assignment.Traffic.{Traffic}
-use Rattle.mobile_core.proofs.Endings as endings
+use Rattle.mobile_core.proofs.Common.{◌≡◌, ℕ, ◌+◌, ◌<◌, ◌≤◌, true, List, [], ◌∷◌, ◌++◌, length, map, ℤ, sym, ap, ◌∙◌, arith, places, Sample}
+use Rattle.mobile_core.proofs.Common.{command, decoded, group_sums, Decoded, softs, Data, all_fingers, on_subchannel, subchannels}
+use Rattle.mobile_core.proofs.Common.{unscrambled, all_sums, commands_at, decoded_at, frame_event, frames_by, subchannel_sums}
+use Rattle.mobile_core.proofs.Common.{frames_left_of, ends_now, frame_known, frames_bound, frames_now, has_frame, replaced_in, stream_of}
+use Rattle.mobile_core.proofs.Common.{traffic_start, Tuning, Event, Leg, Mark, Traffic, flat_map_ext_filter}
+use Rattle.mobile_core.specs.TrafficEvents.{frame_heard}
 use Rattle.mobile_core.proofs.Endings.{singly}
 use Rattle.mobile_core.proofs.FrameBounds.{not_now, now_from, now_parts}
 use Rattle.mobile_core.proofs.LegParts.{fit_on, map_same}
-use Rattle.chip_core.proofs.Ranges.{flat_map_ext_filter}
 use Rattle.mobile_core.proofs.Sooner.{AllFit, all_fit, softs_sooner}
+use Rattle.mobile_core.proofs.Endings as endings
 
 module _ (t : Tuning) (traffic : Traffic) (m : Mark) (legs : ℕ → List Leg) where
   -- no frame ends at so many samples

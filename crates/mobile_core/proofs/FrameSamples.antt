@@ -1,24 +1,10 @@
 -- A frame's soft values hang on its fingers' samples alone.
-use Rattle.std.proofs.Common.{◌≡◌, ℕ, ◌+◌, ◌-◌, ◌*◌, ◌/◌, ◌<◌, ◌≤◌, List, [], ◌∷◌, map, take, drop, refl, sym, ap, ◌∙◌, arith}
-use Rattle.std.proofs.lemmas.List.{drop-drop, drop-take, take-take}
-use Rattle.chip_core.specs.Complex.{sum_of}
-use Rattle.chip_core.specs.Sums.{total}
-use Rattle.chip_core.specs.declared.sample.Sample.{Sample}
-use Rattle.short_code.specs.Despread.{despread}
-use Rattle.rake_finger.specs.Soft.{symbol_chips, window_chips, symbols, frame_chips, finger_place, covered_from, despread_at, pilot_sum}
-use Rattle.rake_finger.specs.Soft.{symbol_sum, soft, softs}
-use Rattle.rake_finger.specs.declared.finger.Finger.{Finger}
-use Rattle.rake_finger.specs.declared.form.Form.{Form}
-use Rattle.mobile_core.specs.Channels.{channel_stream}
-use Rattle.mobile_core.specs.FrameSamples.{AgreeIn}
-use Rattle.mobile_core.specs.SoftFrames.{soft_frame}
-use Rattle.mobile_core.specs.Streams.{frame_start}
-use Rattle.mobile_core.specs.Tuning.{Tuning}
-use Rattle.mobile_core.specs.declared.channel.Channel.{Channel}
-use Rattle.mobile_core.specs.declared.mark.Mark.{Mark}
+use Rattle.mobile_core.proofs.Common.{◌≡◌, ℕ, ◌+◌, ◌-◌, ◌*◌, ◌/◌, ◌<◌, ◌≤◌, List, [], ◌∷◌, map, take, drop, refl, sym, ap, ◌∙◌, arith}
+use Rattle.mobile_core.proofs.Common.{drop-drop, drop-take, take-take, sum_of, total, Sample, despread, symbol_chips, window_chips, symbols}
+use Rattle.mobile_core.proofs.Common.{frame_chips, finger_place, covered_from, despread_at, pilot_sum, symbol_sum, soft, softs, Finger}
+use Rattle.mobile_core.proofs.Common.{Form, channel_stream, AgreeIn, soft_frame, frame_start, Tuning, Channel, Mark, map_ext_places}
 use Rattle.mobile_core.proofs.FramesGiven.{frame_of}
 use Rattle.mobile_core.proofs.Sooner.{symbol_inside, window_inside}
-use Rattle.chip_core.proofs.Ranges.{map_ext_places}
 
 -- a part of a part
 part_is : {A : Type 0} (xs : List A) (place off count m : ℕ) → off + count ≤ m →

@@ -1,25 +1,10 @@
 -- What is received of a traffic channel's frame is heard where the reference's pilot is active
 -- alone.
-use Rattle.std.proofs.Common.{◌≡◌, ℕ, ◌==◌, Bool, List, [], ◌∷◌, map, refl, ap, ◌∙◌, pos, get_or, append-nil, Option, Some}
-use Rattle.std.proofs.lemmas.Bool.{eq-eqb}
-use Rattle.chip_core.specs.Bits.{places}
-use Rattle.chip_core.specs.declared.sample.Sample.{Sample}
-use Rattle.frame_decoder.specs.TrafficFrames.{command, decoded, group_sums}
-use Rattle.pilot_sets.specs.Standing.{new_standing}
-use Rattle.rake_finger.specs.Soft.{softs}
-use Rattle.rake_finger.specs.declared.finger.Finger.{Finger}
-use Rattle.rake_finger.specs.declared.form.Form.TheVariants.{Data}
-use Rattle.mobile_core.specs.Channels.{channel_stream}
-use Rattle.mobile_core.specs.FramesAlone.{reference_alone, traffic_channel}
-use Rattle.mobile_core.specs.Legs.{all_fingers, pilot_finger}
-use Rattle.mobile_core.specs.SoftFrames.{soft_frame, unturned_at}
-use Rattle.mobile_core.specs.Streams.{Stream, frame_softs}
-use Rattle.mobile_core.specs.TrafficEvents.{commands_at, decoded_at}
-use Rattle.mobile_core.specs.TrafficStreams.{replaced_in, stream_of, traffic_start, traffic_stream}
-use Rattle.mobile_core.specs.Tuning.{Tuning, fingers_of}
-use Rattle.mobile_core.specs.declared.mark.Mark.{Mark}
-use Rattle.chip_core.specs.declared.assignment.Traffic.{Traffic}
-use Rattle.mobile_core.specs.declared.soft_frame.PowerControl.{PowerControl}
+use Rattle.mobile_core.proofs.Common.{◌≡◌, ℕ, ◌==◌, Bool, List, [], ◌∷◌, map, refl, ap, ◌∙◌, pos, get_or, append-nil, Option, Some, eq-eqb}
+use Rattle.mobile_core.proofs.Common.{places, Sample, command, decoded, group_sums, new_standing, softs, Finger, Data, channel_stream}
+use Rattle.mobile_core.proofs.Common.{reference_alone, traffic_channel, all_fingers, pilot_finger, soft_frame, unturned_at, Stream}
+use Rattle.mobile_core.proofs.Common.{frame_softs, commands_at, decoded_at, replaced_in, stream_of, traffic_start, traffic_stream, Tuning}
+use Rattle.mobile_core.proofs.Common.{fingers_of, Mark, Traffic, PowerControl}
 use Rattle.mobile_core.proofs.MarkStays.{pilot_alone}
 
 module _ (t : Tuning) (traffic : Traffic) (m : Mark) where

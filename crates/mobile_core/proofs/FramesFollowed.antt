@@ -1,31 +1,17 @@
 -- What a handset's traffic channel has still to give, as samples come.
-use Rattle.std.proofs.Common.{◌≡◌, ℕ, ◌+◌, ◌^◌, ◌<◌, ◌≤◌, ◌==◌, List, [], ◌++◌, length, refl, sym, ap, subst, ◌∙◌, arith, inl, inr, Option}
-use Rattle.std.proofs.Common.{Some, None, take, map, true, false, length-append, Bool}
-use Rattle.std.specs.Prelude.{is_some, if◌then◌else◌}
-use Rattle.std.specs.Option.{ForSome}
-use Rattle.std.proofs.lemmas.Bool.{cases_lt, false_from_ne_true, ne_eqb}
-use Rattle.std.proofs.lemmas.List.{take_all}
-use Rattle.chip_core.specs.declared.sample.Sample.{Sample}
-use Rattle.mobile_core.specs.Given.{listed}
-use Rattle.mobile_core.specs.Moments.{frames_at, frames_behind, heard_from, kept_to, legs_at, legs_by, messages_at, messages_behind}
-use Rattle.mobile_core.specs.Moments.{moment_place, moments_before, sets_at, sets_behind, sets_events}
-use Rattle.mobile_core.specs.PagingEvents.{page_event, pages_behind}
-use Rattle.mobile_core.specs.SetsKeeping.{coming_place}
-use Rattle.mobile_core.specs.TrafficMonitoring.{FramesWaitFrom, HearsFrames, HearsFramesBehind, IsFrameDue, IsUnheard, traffic_events_left}
-use Rattle.mobile_core.specs.TrafficMonitoring.{traffic_due_by, traffic_heard_by, traffic_left_behind}
-use Rattle.mobile_core.specs.TrafficReceiving.{HearsTraffic, HearsWith, IsSoundTraffic, IsTrafficDue, kept_in, next_end, noted_by}
-use Rattle.mobile_core.specs.TrafficReceiving.{sets_left_of, traffic_due, WaitsAt, traffic_left_of, told_left_with}
-use Rattle.mobile_core.specs.Tuning.{Tuning}
-use Rattle.mobile_core.specs.declared.event.Event.{Event}
-use Rattle.mobile_core.specs.declared.legs.Leg.{Leg}
-use Rattle.mobile_core.specs.declared.mark.Mark.{Mark}
-use Rattle.chip_core.specs.declared.assignment.Traffic.{Traffic}
-use Rattle.mobile_core.specs.declared.traffic_monitor.TrafficMonitor.{TrafficMonitor}
-use Rattle.mobile_core.specs.declared.traffic_receiver.TrafficReceiver.{TrafficReceiver}
-use Rattle.mobile_core.proofs.FramesHeard as heard_frames
+use Rattle.mobile_core.proofs.Common.{◌≡◌, ℕ, ◌+◌, ◌^◌, ◌<◌, ◌≤◌, ◌==◌, List, [], ◌++◌, length, refl, sym, ap, subst, ◌∙◌, arith, inl, inr}
+use Rattle.mobile_core.proofs.Common.{Option, Some, None, take, map, true, false, length-append, Bool, is_some, if◌then◌else◌, ForSome}
+use Rattle.mobile_core.proofs.Common.{cases_lt, false_from_ne_true, ne_eqb, take_all, Sample, listed, frames_at, frames_behind, heard_from}
+use Rattle.mobile_core.proofs.Common.{kept_to, legs_at, legs_by, messages_at, messages_behind, moment_place, moments_before, sets_at}
+use Rattle.mobile_core.proofs.Common.{sets_behind, sets_events, page_event, pages_behind, coming_place, FramesWaitFrom, HearsFrames}
+use Rattle.mobile_core.proofs.Common.{HearsFramesBehind, IsFrameDue, IsUnheard, traffic_events_left, traffic_due_by, traffic_heard_by}
+use Rattle.mobile_core.proofs.Common.{traffic_left_behind, HearsTraffic, HearsWith, IsSoundTraffic, IsTrafficDue, kept_in, next_end}
+use Rattle.mobile_core.proofs.Common.{noted_by, sets_left_of, traffic_due, WaitsAt, traffic_left_of, told_left_with, Tuning, Event, Leg}
+use Rattle.mobile_core.proofs.Common.{Mark, Traffic, TrafficMonitor, TrafficReceiver}
 use Rattle.mobile_core.proofs.FramesHeard.{none_come, none_kept, told_come, told_given, told_quiet}
 use Rattle.mobile_core.proofs.MomentGrowth.{kept_sooner}
 use Rattle.mobile_core.proofs.TrafficGrowth.{told_at}
+use Rattle.mobile_core.proofs.FramesHeard as heard_frames
 
 -- the frame that comes next ends at so many samples or later, and so lies the next moment
 abbrev pub FramesEndFrom : ℕ → Option TrafficReceiver → Type 0

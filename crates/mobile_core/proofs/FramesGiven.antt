@@ -1,36 +1,18 @@
 -- The frames of a channel behind the mark, as they are given one by one.
-use Rattle.std.proofs.Common.{◌≡◌, ℕ, ◌+◌, ◌*◌, ◌<◌, ◌≤◌, Bool, true, false, ◌&&◌, List, [], ◌∷◌, ◌++◌, map, filter, length, nat_le, refl}
-use Rattle.std.proofs.Common.{sym, ap, ◌∙◌, arith, inl, inr, ℤ, Option, Some, None, length-append, take, drop, subst}
-use Rattle.std.proofs.lemmas.Bool.{and_parts, cases_Bool, false_from_ne_true, le-leb, leb-true}
-use Rattle.std.proofs.lemmas.List.{length-take-le, map-append, take-append-drop}
-use Rattle.chip_core.specs.Bits.{places}
-use Rattle.chip_core.specs.declared.sample.Sample.{Sample}
-use Rattle.chip_core.proofs.Ranges as ranges
-use Rattle.long_code.specs.LongCode.{after}
-use Rattle.rake_finger.specs.Soft.{frame_chips}
-use Rattle.rake_finger.specs.declared.form.Form.{Form}
-use Rattle.rake_finger.specs.declared.form.Form.TheVariants.{Data}
-use Rattle.frame_decoder.specs.TrafficFrames.{command, group_sums}
-use Rattle.symbol_path.specs.Scrambling.{power_places, scrambling}
-use Rattle.mobile_core.specs.Channels.{channel_stream, has_power_control, mask_of, offset_of, row_of, state_at}
-use Rattle.mobile_core.specs.Clocks.{IsAt, IsDueAt, clock_from, first_frame, frame_come, frame_heard}
-use Rattle.mobile_core.specs.FrameReceiving.{HasGiven}
-use Rattle.mobile_core.specs.Near.{AreNear}
-use Rattle.mobile_core.specs.PagingStreams.{paging_bound}
-use Rattle.mobile_core.specs.Scrambled.{unscrambled}
-use Rattle.mobile_core.specs.SoftFrames.{frames_within, power_of, soft_frame, soft_frames, unturned_at}
-use Rattle.mobile_core.specs.Streams.{Stream, frame_end, frame_start, is_in_file, known_at, known_by}
-use Rattle.mobile_core.specs.Timing.{IsTimed, stream_end}
-use Rattle.mobile_core.specs.Tuning.{Tuning, fingers_of}
-use Rattle.mobile_core.specs.declared.channel.Channel.{Channel}
-use Rattle.mobile_core.specs.declared.channel.Channel.TheVariants.{Paging, Traffic}
-use Rattle.mobile_core.specs.declared.frame_receiver.FrameReceiver.{FrameReceiver}
-use Rattle.mobile_core.specs.declared.mark.Mark.{Mark}
-use Rattle.mobile_core.specs.declared.soft_frame.PowerControl.{PowerControl}
-use Rattle.mobile_core.specs.declared.soft_frame.SoftFrame.{SoftFrame}
+use Rattle.mobile_core.proofs.Common.{◌≡◌, ℕ, ◌+◌, ◌*◌, ◌<◌, ◌≤◌, Bool, true, false, ◌&&◌, List, [], ◌∷◌, ◌++◌, map, filter, length, nat_le}
+use Rattle.mobile_core.proofs.Common.{refl, sym, ap, ◌∙◌, arith, inl, inr, ℤ, Option, Some, None, length-append, take, drop, subst}
+use Rattle.mobile_core.proofs.Common.{and_parts, cases_Bool, false_from_ne_true, le-leb, leb-true, length-take-le, map-append}
+use Rattle.mobile_core.proofs.Common.{take-append-drop, places, Sample, after, frame_chips, Form, Data, command, group_sums, power_places}
+use Rattle.mobile_core.proofs.Common.{scrambling, channel_stream, has_power_control, mask_of, offset_of, row_of, state_at, IsAt, IsDueAt}
+use Rattle.mobile_core.proofs.Common.{clock_from, first_frame, frame_come, frame_heard, HasGiven, AreNear, paging_bound, unscrambled}
+use Rattle.mobile_core.proofs.Common.{frames_within, power_of, soft_frame, soft_frames, unturned_at, Stream, frame_end, frame_start}
+use Rattle.mobile_core.proofs.Common.{is_in_file, known_at, known_by, IsTimed, stream_end, Tuning, fingers_of, Channel, Paging}
+use Rattle.mobile_core.proofs.Common.{FrameReceiver, Mark, PowerControl, SoftFrame}
+use Rattle.mobile_core.specs.declared.channel.Channel.TheVariants.{Traffic}
 use Rattle.mobile_core.proofs.ClockSteps.{before_next, clock_come, clock_heard, clock_more, clock_new, due_inside, from_next}
 use Rattle.mobile_core.proofs.FrameTimes.{known_between, outside_low}
 use Rattle.mobile_core.proofs.Sooner.{all_fit, softs_sooner}
+use Rattle.chip_core.proofs.Ranges as ranges
 
 -- THE STREAM OF A CHANNEL
 pub fingers_by : (t : Tuning) (channel : Channel) (m : Mark) →

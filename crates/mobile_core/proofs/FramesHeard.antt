@@ -1,47 +1,20 @@
 -- What the receiver of a traffic channel stands for, step by step.
-use Rattle.std.proofs.Common.{◌≡◌, ℕ, ◌+◌, ◌-◌, ◌*◌, ◌/◌, ◌^◌, ◌<◌, ◌≤◌, List, [], ◌++◌, Bool, ℤ, length, map, take, refl, sym}
-use Rattle.std.proofs.Common.{length-append, ap, ◌∙◌, arith, inl, inr, subst, true, Option, None, Some}
-use Rattle.std.specs.Prelude.{IsTrue, is_some}
-use Rattle.std.proofs.lemmas.Bool.{cases_lt, cases_order}
-use Rattle.std.proofs.lemmas.List.{take_all}
-use Rattle.chip_core.specs.Bits.{places}
-use Rattle.chip_core.specs.declared.sample.Sample.{Sample}
-use Rattle.frame_decoder.specs.TrafficFrames.{command, decoded}
-use Rattle.frame_decoder.specs.TrafficFrames as frames
-use Rattle.frame_decoder.specs.declared.power.PowerSofts.{PowerSofts}
-use Rattle.frame_decoder.specs.declared.traffic.Decoded.{Decoded}
-use Rattle.long_code.specs.LongCode.{after, traffic_mask}
-use Rattle.long_code.proofs.After.{after-after}
-use Rattle.pilot_sets.specs.Standing.{Standing}
-use Rattle.quality_bits.specs.Pieces.{StandsFor}
-use Rattle.rake_finger.specs.Soft.{softs}
-use Rattle.rake_finger.specs.declared.finger.Finger.{Finger}
-use Rattle.rake_finger.specs.declared.form.Form.TheVariants.{Data}
-use Rattle.symbol_path.specs.Scrambling.{power_places, scrambling}
-use Rattle.mobile_core.specs.LegSofts.{sums_on}
-use Rattle.mobile_core.specs.Legs.{all_fingers, legs_of, subchannels}
-use Rattle.mobile_core.specs.Moments.{heard_from, legs_by, moment_of, moment_place, told_by}
-use Rattle.mobile_core.specs.Noted.{all_noted}
-use Rattle.mobile_core.specs.PagingEvents.{page_event, pages_behind}
-use Rattle.mobile_core.specs.Scrambled.{unscrambled}
-use Rattle.mobile_core.specs.Signaling.{message_events}
-use Rattle.mobile_core.specs.Streams.{frame_end}
-use Rattle.mobile_core.specs.TrafficEvents.{all_sums, commands_at, decoded_at, unturned_softs}
-use Rattle.mobile_core.specs.TrafficReceiving.{HasTold, HearsWith, IsSoundTraffic, IsTrafficDue, fingers_in, kept_by, told_left_with}
-use Rattle.mobile_core.specs.TrafficStreams.{chips_behind, frame_known, frame_state, has_frame, replaced_in, traffic_start}
-use Rattle.mobile_core.specs.Tuning.{Tuning}
-use Rattle.mobile_core.specs.declared.event.Event.{Event}
-use Rattle.mobile_core.specs.declared.legs.Leg.{Leg}
-use Rattle.mobile_core.specs.declared.mark.Mark.{Mark}
-use Rattle.mobile_core.specs.declared.sets_keeper.SetsKeeper.{SetsKeeper}
-use Rattle.chip_core.specs.declared.assignment.Traffic.{Traffic}
-use Rattle.mobile_core.specs.declared.spelled_signal.SpelledSignal.{SpelledSignal}
-use Rattle.mobile_core.specs.declared.traffic_receiver.TrafficReceiver.{TrafficReceiver}
+use Rattle.mobile_core.proofs.Common.{◌≡◌, ℕ, ◌+◌, ◌-◌, ◌*◌, ◌/◌, ◌^◌, ◌<◌, ◌≤◌, List, [], ◌++◌, Bool, ℤ, length, map, take, refl, sym}
+use Rattle.mobile_core.proofs.Common.{length-append, ap, ◌∙◌, arith, inl, inr, subst, true, Option, None, Some, IsTrue, is_some, cases_lt}
+use Rattle.mobile_core.proofs.Common.{cases_order, take_all, places, Sample, command, decoded, PowerSofts, Decoded, after, traffic_mask}
+use Rattle.mobile_core.proofs.Common.{after-after, Standing, StandsFor, softs, Finger, Data, power_places, scrambling, sums_on, all_fingers}
+use Rattle.mobile_core.proofs.Common.{legs_of, subchannels, heard_from, legs_by, moment_of, moment_place, told_by, all_noted, page_event}
+use Rattle.mobile_core.proofs.Common.{pages_behind, unscrambled, message_events, frame_end, all_sums, commands_at, decoded_at}
+use Rattle.mobile_core.proofs.Common.{unturned_softs, HasTold, HearsWith, IsSoundTraffic, IsTrafficDue, kept_by, told_left_with}
+use Rattle.mobile_core.proofs.Common.{chips_behind, frame_known, frame_state, has_frame, replaced_in, traffic_start, Tuning, Event, Leg}
+use Rattle.mobile_core.proofs.Common.{Mark, SetsKeeper, Traffic, SpelledSignal, TrafficReceiver}
+use Rattle.mobile_core.specs.TrafficReceiving.{fingers_in}
 use Rattle.mobile_core.proofs.CloseFingers.{close_ends}
 use Rattle.mobile_core.proofs.FrameBounds.{AreCloseAll, has_here, known_high, known_is, known_later, known_low}
 use Rattle.mobile_core.proofs.MessageGrowth.{signals_sooner}
 use Rattle.mobile_core.proofs.TrafficGrowth.{heard_grown, heard_none, told_at, told_first, told_is, told_left, told_left_all}
 use Rattle.mobile_core.proofs.TrafficGrowth.{told_left_none, told_none}
+use Rattle.frame_decoder.specs.TrafficFrames as frames
 
 -- the long code's state at a frame's first chip
 pub state_on : (traffic : Traffic) (m : Mark) (state k : ℕ) → state ≡ frame_state traffic m 0 →

@@ -1,10 +1,8 @@
 -- What the frames give that are known just now, and those of them that are left, over any stream.
-use Rattle.std.proofs.Common.{◌≡◌, ℕ, ◌+◌, ◌<◌, ◌≤◌, ◌==◌, Bool, true, false, ◌&&◌, List, [], ◌++◌, refl, ap, arith, nat_le, inl, inr}
-use Rattle.std.specs.List.{flat_map}
-use Rattle.std.proofs.lemmas.Bool.{and_parts, and_from, and_left, and_right, le-leb, lt-leb, cases_lt, eqb-true, eq-eqb, false_from_ne_true}
-use Rattle.mobile_core.specs.Left.{frames_left}
-use Rattle.mobile_core.specs.Streams.{Stream, is_in_file, known_at, known_now}
-use Rattle.chip_core.proofs.Ranges.{filter_ext_places, filter_none_places, filter_first_places}
+use Rattle.mobile_core.proofs.Common.{◌≡◌, ℕ, ◌+◌, ◌<◌, ◌≤◌, ◌==◌, Bool, true, false, ◌&&◌, List, [], ◌++◌, refl, ap, arith, nat_le, inl}
+use Rattle.mobile_core.proofs.Common.{inr, flat_map, and_parts, and_from, and_left, and_right, le-leb, lt-leb, cases_lt, eqb-true, eq-eqb}
+use Rattle.mobile_core.proofs.Common.{false_from_ne_true, frames_left, Stream, is_in_file, known_at, known_now, filter_ext_places}
+use Rattle.mobile_core.proofs.Common.{filter_none_places, filter_first_places}
 
 -- whether frame k is known at n
 abbrev pub is_now : ℕ → Stream → ℕ → ℕ → Bool

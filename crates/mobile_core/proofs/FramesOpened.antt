@@ -1,34 +1,11 @@
 -- What the receiver of a traffic channel stands for as it is opened.
-use Rattle.std.proofs.Common.{◌≡◌, ℕ, ◌-◌, ◌≤◌, List, [], ◌∷◌, length, ℤ, refl, sym, ap, ◌∙◌, arith, subst, Option, None, true, false, ◌&&◌}
-use Rattle.std.proofs.Common.{Bool, nat_le, pos, replicate, take, append-nil, get_or, ◌==◌, Some, slice_get}
-use Rattle.std.proofs.lemmas.Bool.{eq-eqb}
-use Rattle.std.specs.Prelude.{unsigned_abs, sum_by}
-use Rattle.std.proofs.lemmas.List.Folds.{sum_by-replicate}
-use Rattle.chip_core.specs.Bits.{places}
-use Rattle.chip_core.specs.declared.sample.Sample.{Sample}
-use Rattle.frame_decoder.specs.declared.power.PowerSofts.{PowerSofts}
-use Rattle.long_code.specs.LongCode.{traffic_mask}
-use Rattle.pilot_search.specs.declared.paths.Near.{Near}
-use Rattle.pilot_sets.specs.Standing.{Standing, new_standing}
-use Rattle.quality_bits.specs.Pieces.{StandsFor}
-use Rattle.rake_finger.specs.declared.finger.Finger.{Finger}
-use Rattle.rake_finger.specs.declared.form.Form.TheVariants.{Data}
-use Rattle.mobile_core.specs.Close.{AreClose, all_close, paths_close}
-use Rattle.mobile_core.specs.Legs.{all_fingers, legs_of, pilot_finger}
-use Rattle.mobile_core.specs.Moments.{heard_from, kept_to, moment_place}
-use Rattle.mobile_core.specs.Noted.{all_noted}
-use Rattle.mobile_core.specs.Signaling.{signals_before}
-use Rattle.mobile_core.specs.Streams.{frame_end}
-use Rattle.mobile_core.specs.TrafficReceiving.{HearsTraffic, HearsWith, told_left_with}
-use Rattle.mobile_core.specs.TrafficStreams.{frame_state, traffic_start}
-use Rattle.mobile_core.specs.Tuning.{Tuning, fingers_of}
-use Rattle.mobile_core.specs.declared.event.Event.{Event}
-use Rattle.mobile_core.specs.declared.legs.Leg.{Leg}
-use Rattle.mobile_core.specs.declared.mark.Mark.{Mark}
-use Rattle.mobile_core.specs.declared.scrambling.Scrambling.{Scrambling}
-use Rattle.mobile_core.specs.declared.sets_keeper.SetsKeeper.{SetsKeeper}
-use Rattle.chip_core.specs.declared.assignment.Traffic.{Traffic}
-use Rattle.mobile_core.specs.declared.traffic_receiver.TrafficReceiver.{TrafficReceiver}
+use Rattle.mobile_core.proofs.Common.{◌≡◌, ℕ, ◌-◌, ◌≤◌, List, [], ◌∷◌, length, ℤ, refl, sym, ap, ◌∙◌, arith, subst, Option, None, true}
+use Rattle.mobile_core.proofs.Common.{false, ◌&&◌, Bool, nat_le, pos, replicate, take, append-nil, get_or, ◌==◌, Some, slice_get, eq-eqb}
+use Rattle.mobile_core.proofs.Common.{unsigned_abs, sum_by, sum_by-replicate, places, Sample, PowerSofts, traffic_mask, Near, Standing}
+use Rattle.mobile_core.proofs.Common.{new_standing, StandsFor, Finger, Data, AreClose, all_close, paths_close, all_fingers, legs_of}
+use Rattle.mobile_core.proofs.Common.{pilot_finger, heard_from, kept_to, moment_place, all_noted, signals_before, frame_end, HearsTraffic}
+use Rattle.mobile_core.proofs.Common.{HearsWith, told_left_with, frame_state, traffic_start, Tuning, fingers_of, Event, Leg, Mark}
+use Rattle.mobile_core.proofs.Common.{Scrambling, SetsKeeper, Traffic, TrafficReceiver}
 use Rattle.mobile_core.proofs.FrameBounds.{known_low}
 use Rattle.mobile_core.proofs.MarkStays.{pilot_alone}
 use Rattle.mobile_core.proofs.TrafficGrowth.{heard_none, told_left_none}

@@ -1,42 +1,21 @@
 -- What the receiver of a traffic channel stands for as it tells what has come.
-use Rattle.std.proofs.Common.{◌≡◌, ℕ, ◌+◌, ◌<◌, ◌≤◌, List, [], ◌∷◌, ◌++◌, Bool, true, false, length, refl, sym, ap, ◌∙◌, arith, subst}
-use Rattle.std.proofs.Common.{Option, None, Some, inl, inr}
-use Rattle.std.specs.Prelude.{◌==◌, if◌then◌else◌, is_some}
-use Rattle.std.specs.Option.{option_to_list}
-use Rattle.std.proofs.lemmas.Bool.{cases_lt}
-use Rattle.chip_core.specs.declared.check_form.CheckForm.{CheckForm}
-use Rattle.chip_core.specs.declared.sample.Sample.{Sample}
-use Rattle.frame_decoder.specs.declared.traffic.Decoded.{Decoded}
-use Rattle.paging_message.specs.declared.message.PagingMessage.{PagingMessage}
-use Rattle.paging_message.specs.declared.message.PagingMessage.TheVariants as pages
-use Rattle.pilot_sets.specs.Directions.{accepted_of, direction_fault}
-use Rattle.pilot_sets.specs.Standing.{Standing, unless_refused, with_neighbors, with_thresholds}
-use Rattle.pilot_sets.specs.declared.fault.DirectionFault.{DirectionFault}
-use Rattle.pilot_sets.specs.declared.standing.Accepted.{Accepted}
-use Rattle.quality_bits.specs.Pieces.{StandsFor}
-use Rattle.traffic_message.specs.declared.body.TrafficBody.{TrafficBody}
-use Rattle.traffic_message.specs.declared.body.TrafficBody.TheVariants as bodies
-use Rattle.mobile_core.specs.Given.{at_of}
-use Rattle.mobile_core.specs.Legs.{legs_of}
-use Rattle.mobile_core.specs.Moments.{legs_by, moment_place}
-use Rattle.mobile_core.specs.Noted.{all_noted, body_noted, moment_from, noted, noted_with, page_noted, system_thresholds}
-use Rattle.mobile_core.specs.Signaling.{capsule_with, message_at, message_events, signal_at, signal_in, signal_of, signals_before}
-use Rattle.mobile_core.specs.TrafficEvents.{commands_at, decoded_at, frame_event, frame_heard as heard_frame}
-use Rattle.mobile_core.specs.TrafficReceiving.{HasTold, HearsWith, IsSoundTraffic, noted_by, told_left_with, frames_left_of}
-use Rattle.mobile_core.specs.TrafficReceiving.{messages_left_of}
-use Rattle.mobile_core.specs.TrafficStreams.{frame_known}
-use Rattle.mobile_core.specs.Tuning.{Tuning}
-use Rattle.mobile_core.specs.declared.event.Event.{Event}
-use Rattle.mobile_core.specs.declared.event.Event.TheVariants as events
-use Rattle.mobile_core.specs.declared.mark.Mark.{Mark}
-use Rattle.chip_core.specs.declared.assignment.Traffic.{Traffic}
-use Rattle.mobile_core.specs.declared.spelled_signal.SpelledSignal.{SpelledSignal}
-use Rattle.mobile_core.specs.declared.traffic_receiver.TrafficReceiver.{TrafficReceiver}
+use Rattle.mobile_core.proofs.Common.{◌≡◌, ℕ, ◌+◌, ◌<◌, ◌≤◌, List, [], ◌∷◌, ◌++◌, Bool, true, false, length, refl, sym, ap, ◌∙◌, arith}
+use Rattle.mobile_core.proofs.Common.{subst, Option, None, Some, inl, inr, ◌==◌, if◌then◌else◌, is_some, option_to_list, cases_lt}
+use Rattle.mobile_core.proofs.Common.{CheckForm, Sample, Decoded, PagingMessage, accepted_of, direction_fault, Standing, unless_refused}
+use Rattle.mobile_core.proofs.Common.{with_neighbors, with_thresholds, DirectionFault, Accepted, StandsFor, TrafficBody, at_of, legs_of}
+use Rattle.mobile_core.proofs.Common.{legs_by, moment_place, all_noted, body_noted, moment_from, noted, noted_with, page_noted}
+use Rattle.mobile_core.proofs.Common.{system_thresholds, capsule_with, message_at, message_events, signal_at, signal_in, signal_of}
+use Rattle.mobile_core.proofs.Common.{signals_before, HasTold, HearsWith, IsSoundTraffic, noted_by, told_left_with, frames_left_of}
+use Rattle.mobile_core.proofs.Common.{messages_left_of, frame_known, Tuning, Event, Mark, Traffic, SpelledSignal, TrafficReceiver}
 use Rattle.mobile_core.proofs.FrameBounds.{known_bound}
 use Rattle.mobile_core.proofs.FrameGrowth.{frame_next}
 use Rattle.mobile_core.proofs.FramesHeard.{closes, due_inside}
 use Rattle.mobile_core.proofs.MessageGrowth.{message_next, signals_more}
 use Rattle.mobile_core.proofs.TrafficGrowth.{frame_alone, one_left, told_left}
+use Rattle.paging_message.specs.declared.message.PagingMessage.TheVariants as pages
+use Rattle.traffic_message.specs.declared.body.TrafficBody.TheVariants as bodies
+use Rattle.mobile_core.specs.TrafficEvents.{commands_at, decoded_at, frame_event, frame_heard as heard_frame}
+use Rattle.mobile_core.specs.declared.event.Event.TheVariants as events
 
 -- where no message is kept a frame has come
 pub told_come : (r : TrafficReceiver) → HasTold r → r.kept ≡ None → r.next < r.have

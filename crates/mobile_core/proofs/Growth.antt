@@ -1,19 +1,13 @@
 -- How the events of a file's sync channel grow with its samples.
-use Rattle.std.proofs.Common.{◌≡◌, ℕ, ◌+◌, ◌<◌, ◌≤◌, Bool, true, List, [], ◌∷◌, ◌++◌, map, length, refl, ap, ◌∙◌, arith}
+use Rattle.mobile_core.proofs.Common.{◌≡◌, ℕ, ◌+◌, ◌<◌, ◌≤◌, Bool, true, List, [], ◌∷◌, ◌++◌, map, length, refl, ap, ◌∙◌, arith, map-append}
+use Rattle.mobile_core.proofs.Common.{places, Sample, piece, capsule_ending, sync_events_left, is_in_file, known_at, frame_own_bits}
+use Rattle.mobile_core.proofs.Common.{frames_before, sync_capsule_at, heard_in, heard_at, events_of, sync_events_at, IsTimed, Tuning}
+use Rattle.mobile_core.proofs.Common.{sync_stream, sync_bound, filter_none_places, flat_map_ext_filter, map_ext_filter_places}
+use Rattle.mobile_core.proofs.Common.{filter-places-more}
 use Rattle.std.specs.List.{filter}
-use Rattle.std.proofs.lemmas.List.{map-append}
-use Rattle.chip_core.specs.Bits.{places}
-use Rattle.chip_core.specs.declared.sample.Sample.{Sample}
-use Rattle.quality_bits.specs.Pieces.{piece, capsule_ending}
-use Rattle.mobile_core.specs.Left.{sync_events_left}
-use Rattle.mobile_core.specs.Streams.{is_in_file, known_at, frame_own_bits}
-use Rattle.mobile_core.specs.SyncEvents.{frames_before, sync_capsule_at, heard_in, heard_at, events_of, sync_events_at}
-use Rattle.mobile_core.specs.Timing.{IsTimed}
-use Rattle.mobile_core.specs.Tuning.{Tuning, sync_stream, sync_bound}
 use Rattle.mobile_core.proofs.FrameTimes.{outside_low, known_between, known_le}
-use Rattle.mobile_core.proofs.FramesLeft as left
-use Rattle.chip_core.proofs.Ranges.{filter_none_places, flat_map_ext_filter, map_ext_filter_places, filter-places-more}
 use Rattle.mobile_core.proofs.Spans.{own_bits_sooner}
+use Rattle.mobile_core.proofs.FramesLeft as left
 
 -- FRAMES OF THE SYNC CHANNEL
 -- whether one lies in the file, and when it is known

@@ -1,16 +1,9 @@
 -- The fingers of active pilots, gone over one by one.
-use Rattle.std.proofs.Common.{◌≡◌, ℕ, zero, suc, ◌+◌, ◌≤◌, Bool, true, ◌&&◌, List, [], ◌∷◌, ◌++◌, length, take, drop, refl, sym, ap, ◌∙◌}
-use Rattle.std.proofs.Common.{arith, Some, slice_get, nat_lt, ℤ, inl, inr, length-append, append-nil, length-take, nat_le}
-use Rattle.std.specs.Prelude.{unsigned_abs}
-use Rattle.std.proofs.lemmas.Bool.{and_from, and_parts, cases_Bool}
-use Rattle.std.proofs.lemmas.List.Folds.{list_all-append}
-use Rattle.std.proofs.lemmas.Grind.{flat_map-append}
-use Rattle.rake_finger.specs.declared.finger.Finger.{Finger}
-use Rattle.mobile_core.specs.Close.{all_close, is_close, legs_close, legs_rows, paths_close, places_for, places_in}
-use Rattle.mobile_core.specs.Legs.{all_fingers, leg_fingers}
-use Rattle.mobile_core.specs.Near.{have_rows}
-use Rattle.mobile_core.specs.Tuning.{fingers_of}
-use Rattle.mobile_core.specs.declared.legs.Leg.{Leg}
+use Rattle.mobile_core.proofs.Common.{◌≡◌, ℕ, zero, suc, ◌+◌, ◌≤◌, Bool, true, ◌&&◌, List, [], ◌∷◌, ◌++◌, length, take, drop, refl, sym, ap}
+use Rattle.mobile_core.proofs.Common.{◌∙◌, arith, Some, slice_get, nat_lt, ℤ, inl, inr, length-append, append-nil, length-take, nat_le}
+use Rattle.mobile_core.proofs.Common.{unsigned_abs, and_from, and_parts, cases_Bool, list_all-append, flat_map-append, Finger, all_close}
+use Rattle.mobile_core.proofs.Common.{is_close, legs_close, legs_rows, paths_close, places_for, places_in, all_fingers, leg_fingers}
+use Rattle.mobile_core.proofs.Common.{have_rows, fingers_of, Leg}
 use Rattle.mobile_core.proofs.LegLists.{drop_at, take_at}
 
 -- HOW MANY

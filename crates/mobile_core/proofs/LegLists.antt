@@ -1,13 +1,7 @@
 -- Lists of active pilots, gone over one by one.
-use Rattle.std.proofs.Common.{◌≡◌, ℕ, ◌+◌, true, false, ◌||◌, List, [], ◌∷◌, ◌++◌, take, drop, refl, sym, ap, ◌∙◌, Some, slice_get}
-use Rattle.std.proofs.Common.{append-nil}
-use Rattle.std.specs.List.{list_any}
-use Rattle.std.proofs.lemmas.Bool.{eq-eqb, ne_eqb}
-use Rattle.std.proofs.lemmas.List.{at_drop_more, take_more}
-use Rattle.std.proofs.lemmas.List.Elements.{filter-append}
-use Rattle.std.proofs.lemmas.Option.{get_or_from_slice_get, slice_get_within}
-use Rattle.mobile_core.specs.Legs.{has_subchannel, is_on, on_subchannel}
-use Rattle.mobile_core.specs.declared.legs.Leg.{Leg}
+use Rattle.mobile_core.proofs.Common.{◌≡◌, ℕ, ◌+◌, true, false, ◌||◌, List, [], ◌∷◌, ◌++◌, take, drop, refl, sym, ap, ◌∙◌, Some, slice_get}
+use Rattle.mobile_core.proofs.Common.{append-nil, list_any, eq-eqb, ne_eqb, at_drop_more, take_more, filter-append, get_or_from_slice_get}
+use Rattle.mobile_core.proofs.Common.{slice_get_within, has_subchannel, is_on, on_subchannel, Leg}
 
 -- one step over any list
 pub drop_at : {X : Type 0} (xs : List X) (i : ℕ) (x : X) → slice_get xs i ≡ Some x →

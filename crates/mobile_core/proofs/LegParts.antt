@@ -1,10 +1,6 @@
 -- The fingers of some of the active pilots are among those of all.
-use Rattle.std.proofs.Common.{◌≡◌, ℕ, List, [], ◌∷◌, ◌++◌, inl, inr, map, refl, ℤ}
-use Rattle.std.proofs.lemmas.Bool.{cases_Bool}
-use Rattle.rake_finger.specs.declared.finger.Finger.{Finger}
-use Rattle.rake_finger.specs.declared.form.Form.{Form}
-use Rattle.mobile_core.specs.Legs.{all_fingers, leg_fingers, on_subchannel, is_on}
-use Rattle.mobile_core.specs.declared.legs.Leg.{Leg}
+use Rattle.mobile_core.proofs.Common.{◌≡◌, ℕ, List, [], ◌∷◌, ◌++◌, inl, inr, map, refl, ℤ, cases_Bool, Finger, Form, all_fingers}
+use Rattle.mobile_core.proofs.Common.{leg_fingers, on_subchannel, is_on, Leg}
 use Rattle.mobile_core.proofs.Sooner.{AllFit}
 
 fit-append : (n : ℕ) (form : Form) (u : ℕ) (xs ys : List Finger) → AllFit n form u (xs ++ ys) →

@@ -1,15 +1,8 @@
 -- The active pilots of one power control subchannel are as all are.
-use Rattle.std.proofs.Common.{◌≡◌, ℕ, zero, suc, ◌+◌, ◌*◌, ◌^◌, ◌≤◌, Bool, true, false, List, [], ◌∷◌, ◌++◌, length, map, filter, refl, ap}
-use Rattle.std.proofs.Common.{◌∙◌, arith, ℤ, All, inl, inr, nat_lt, append-nil}
-use Rattle.std.proofs.lemmas.Bool.{and_from, and_parts, cases_Bool}
-use Rattle.std.proofs.lemmas.List.{map-append}
-use Rattle.std.proofs.lemmas.List.Elements.{All-append, filter-append}
-use Rattle.chip_core.specs.Bits.{places}
-use Rattle.chip_core.proofs.Places.{places-more}
-use Rattle.rake_finger.specs.declared.finger.Finger.{Finger}
-use Rattle.mobile_core.specs.Close.{is_close, legs_close, legs_rows, places_in}
-use Rattle.mobile_core.specs.Legs.{all_fingers, has_subchannel, is_on, leg_fingers, on_subchannel}
-use Rattle.mobile_core.specs.declared.legs.Leg.{Leg}
+use Rattle.mobile_core.proofs.Common.{◌≡◌, ℕ, zero, suc, ◌+◌, ◌*◌, ◌^◌, ◌≤◌, Bool, true, false, List, [], ◌∷◌, ◌++◌, length, map, filter}
+use Rattle.mobile_core.proofs.Common.{refl, ap, ◌∙◌, arith, ℤ, All, inl, inr, nat_lt, append-nil, and_from, and_parts, cases_Bool}
+use Rattle.mobile_core.proofs.Common.{map-append, All-append, filter-append, places, places-more, Finger, is_close, legs_close, legs_rows}
+use Rattle.mobile_core.proofs.Common.{places_in, all_fingers, has_subchannel, is_on, leg_fingers, on_subchannel, Leg}
 
 -- LISTS WHOSE ELEMENTS ALL HAVE A PROPERTY
 one_more : {X : Type 0} (P : X → Type 0) (x : X) (xs : List X) → P x → All P xs → All P (x ∷ xs)

@@ -1,3 +1,4 @@
+pub mod Common
 pub mod FrameTimes
 pub mod Progresses
 pub mod Sooner

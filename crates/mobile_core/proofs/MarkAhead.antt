@@ -1,25 +1,12 @@
 -- A handset that has just told a mark has taken no sample behind it.
-use Rattle.std.proofs.Common.{◌≡◌, ℕ, zero, suc, ◌+◌, ◌-◌, ◌<◌, ◌≤◌, Bool, true, false, List, [], ◌∷◌, ◌++◌, length, refl, sym, ap, ◌∙◌}
-use Rattle.std.proofs.Common.{arith, inl, inr, nat_le, ◌==◌, ◌&&◌, Some}
-use Rattle.std.specs.Prelude.{is_some}
-use Rattle.std.specs.List.{filter, flat_map, list_all, list_any, range_with_len}
-use Rattle.std.proofs.lemmas.Bool.{and_from, and_parts, cases_Bool, cases_lt, eq-eqb, le-leb, lt-leb, or_cases, or_left, or_right}
-use Rattle.std.proofs.lemmas.List.{append_assoc}
-use Rattle.std.proofs.lemmas.List.Folds.{list_all-append, list_any-append}
-use Rattle.chip_core.proofs.Ranges.{flat_map-places-more}
-use Rattle.chip_core.specs.Bits.{places}
-use Rattle.chip_core.specs.declared.sample.Sample.{Sample}
-use Rattle.mobile_core.specs.Events.{events_at, frame_events_at, heard_within, message_events_at, paging_events_at, sets_events_at}
-use Rattle.mobile_core.specs.Given.{at_of}
-use Rattle.mobile_core.specs.Marks.{first_of, frames_open, mark, marks_at, sets_mark}
-use Rattle.mobile_core.specs.Near.{AreNear}
-use Rattle.mobile_core.specs.Standing.{Parts, Stands, events_left}
-use Rattle.mobile_core.specs.Streams.{frame_start}
-use Rattle.mobile_core.specs.SyncEvents.{events_of, heard_at, sync_events_at}
-use Rattle.mobile_core.specs.Tuning.{Tuning, sync_bound, sync_stream}
-use Rattle.mobile_core.specs.declared.event.Event.{Event}
-use Rattle.mobile_core.specs.declared.event.Event.TheVariants.{Pilot}
-use Rattle.mobile_core.specs.declared.mark.Mark.{Mark}
+use Rattle.mobile_core.proofs.Common.{◌≡◌, ℕ, zero, suc, ◌+◌, ◌-◌, ◌<◌, ◌≤◌, Bool, true, false, List, [], ◌∷◌, ◌++◌, length, refl, sym, ap}
+use Rattle.mobile_core.proofs.Common.{◌∙◌, arith, inl, inr, nat_le, ◌==◌, ◌&&◌, Some, is_some, flat_map, list_all, list_any, range_with_len}
+use Rattle.mobile_core.proofs.Common.{and_from, and_parts, cases_Bool, cases_lt, eq-eqb, le-leb, lt-leb, or_cases, or_left, or_right}
+use Rattle.mobile_core.proofs.Common.{append_assoc, list_all-append, list_any-append, flat_map-places-more, places, Sample, events_at}
+use Rattle.mobile_core.proofs.Common.{frame_events_at, heard_within, message_events_at, paging_events_at, sets_events_at, at_of, first_of}
+use Rattle.mobile_core.proofs.Common.{frames_open, mark, marks_at, sets_mark, AreNear, Parts, Stands, events_left, frame_start, events_of}
+use Rattle.mobile_core.proofs.Common.{heard_at, sync_events_at, Tuning, sync_bound, sync_stream, Event, Pilot, Mark}
+use Rattle.std.specs.List.{filter}
 use Rattle.mobile_core.proofs.ClockSteps.{before_next}
 use Rattle.mobile_core.proofs.EventPlaces.{AreAt, all_at}
 use Rattle.mobile_core.proofs.FrameTimes.{known_between}

@@ -1,16 +1,10 @@
 -- The mark, as frames are heard.
-use Rattle.std.proofs.Common.{◌≡◌, ℕ, ◌+◌, ◌<◌, ◌≤◌, Bool, true, false, ◌&&◌, List, [], ◌∷◌, ◌++◌, refl, length, ap, ◌∙◌, arith, nat_le}
-use Rattle.std.proofs.Common.{inl, inr, None}
-use Rattle.std.specs.List.{flat_map, filter}
-use Rattle.std.specs.Option.{option_or}
-use Rattle.std.proofs.lemmas.Bool.{and_parts, leb-true, le-leb, cases_Bool, false_from_ne_true}
+use Rattle.mobile_core.proofs.Common.{◌≡◌, ℕ, ◌+◌, ◌<◌, ◌≤◌, Bool, true, false, ◌&&◌, List, [], ◌∷◌, ◌++◌, refl, length, ap, ◌∙◌, arith}
+use Rattle.mobile_core.proofs.Common.{nat_le, inl, inr, None, flat_map, option_or, and_parts, leb-true, le-leb, cases_Bool}
+use Rattle.mobile_core.proofs.Common.{false_from_ne_true, flat_map-append, places, Sample, frames_open, marks_at, first_of, mark}
+use Rattle.mobile_core.proofs.Common.{mark_before, known_by, Tuning, sync_stream, sync_bound}
+use Rattle.std.specs.List.{filter}
 use Rattle.std.proofs.lemmas.List.{append-nil}
-use Rattle.std.proofs.lemmas.Grind.{flat_map-append}
-use Rattle.chip_core.specs.Bits.{places}
-use Rattle.chip_core.specs.declared.sample.Sample.{Sample}
-use Rattle.mobile_core.specs.Marks.{frames_open, marks_at, first_of, mark, mark_before}
-use Rattle.mobile_core.specs.Streams.{known_by}
-use Rattle.mobile_core.specs.Tuning.{Tuning, sync_stream, sync_bound}
 use Rattle.mobile_core.proofs.FrameTimes.{known_between}
 use Rattle.mobile_core.proofs.Growth.{IsSyncTimed, KnownBefore, KnownFrom, sync_in_file, sync_known, frames_before_sooner, heard_sooner}
 use Rattle.mobile_core.proofs.Growth.{known_with}

@@ -1,36 +1,17 @@
 -- The mark lies behind the samples within which its message is known, so a channel that begins
 -- there hasn't begun.
-use Rattle.std.proofs.Common.{◌≡◌, ℕ, zero, suc, ◌+◌, ◌-◌, ◌*◌, ◌/◌, ◌<◌, ◌≤◌, ◌==◌, ◌&&◌, Bool, true, false, cond, List, [], ◌∷◌, length}
-use Rattle.std.proofs.Common.{length-append, map, take, drop, length-take, length-drop, refl, sym, ap, ◌∙◌, subst, arith, inl, inr, nat_le}
-use Rattle.std.proofs.Common.{nat_lt, Option, Some, None, ℤ}
-use Rattle.std.specs.Prelude.{if◌then◌else◌}
-use Rattle.std.specs.List.{filter, flat_map}
-use Rattle.std.specs.Option.{option_or}
-use Rattle.std.proofs.lemmas.Bool.{and_parts, cases_Bool, leb-true, leb-false}
-use Rattle.chip_core.specs.Bits.{places}
-use Rattle.chip_core.specs.declared.check_form.CheckForm.{CheckForm}
-use Rattle.chip_core.specs.declared.sample.Sample.{Sample}
-use Rattle.frame_decoder.specs.Spans.{Channel, own_bits, score, sending}
-use Rattle.frame_decoder.proofs.BestWords.{length-best_word}
-use Rattle.frame_decoder.proofs.Parts.{within}
-use Rattle.quality_bits.specs.Capsules.{front_capsule, is_stated, stated_bits}
-use Rattle.quality_bits.specs.Pieces.{Piece, piece, bodies, but_last, capsule_ending, from_last_start}
-use Rattle.rake_finger.specs.declared.form.Form.TheVariants.{Sync}
-use Rattle.sync_message.specs.declared.fields.SyncFields.{SyncFields}
-use Rattle.viterbi.specs.Words.{Word, best_word}
-use Rattle.viterbi.specs.declared.word.Ends.TheVariants.{Free}
-use Rattle.mobile_core.specs.Clocks.{IsDueAt}
-use Rattle.mobile_core.specs.Marks.{first_of, frames_open, marks_at, marks_of, mark_at, mark_before}
-use Rattle.mobile_core.specs.Near.{AreNear}
-use Rattle.mobile_core.specs.Sound.{IsSoundSync}
-use Rattle.mobile_core.specs.Streams.{Stream, frame_own_bits, frame_softs, frame_start, is_in_file, known_at, span_first, span_frames}
-use Rattle.mobile_core.specs.SyncEvents.{frames_before, heard_at, heard_in, sync_capsule_at, with_message}
-use Rattle.mobile_core.specs.SyncReceiving.{HearsSync}
-use Rattle.mobile_core.specs.Timing.{IsTimed, stream_end}
-use Rattle.mobile_core.specs.Tuning.{Tuning, sync_stream}
-use Rattle.mobile_core.specs.declared.mark.Mark.{Mark}
-use Rattle.mobile_core.specs.declared.spelled_message.SpelledMessage.{SpelledMessage}
-use Rattle.mobile_core.specs.declared.sync_receiver.SyncReceiver.{SyncReceiver}
+use Rattle.mobile_core.proofs.Common.{◌≡◌, ℕ, zero, suc, ◌+◌, ◌-◌, ◌*◌, ◌/◌, ◌<◌, ◌≤◌, ◌==◌, ◌&&◌, Bool, true, false, cond, List, [], ◌∷◌}
+use Rattle.mobile_core.proofs.Common.{length, length-append, map, take, drop, length-take, length-drop, refl, sym, ap, ◌∙◌, subst, arith}
+use Rattle.mobile_core.proofs.Common.{inl, inr, nat_le, nat_lt, Option, Some, None, ℤ, if◌then◌else◌, flat_map, option_or, and_parts}
+use Rattle.mobile_core.proofs.Common.{cases_Bool, leb-true, leb-false, places, CheckForm, Sample, own_bits, score, sending}
+use Rattle.mobile_core.proofs.Common.{length-best_word, within, front_capsule, is_stated, stated_bits, Piece, piece, bodies, but_last}
+use Rattle.mobile_core.proofs.Common.{capsule_ending, from_last_start, Sync, SyncFields, Word, best_word, Free, IsDueAt, first_of}
+use Rattle.mobile_core.proofs.Common.{frames_open, marks_at, marks_of, mark_at, mark_before, AreNear, IsSoundSync, Stream, frame_own_bits}
+use Rattle.mobile_core.proofs.Common.{frame_softs, frame_start, is_in_file, known_at, span_first, span_frames, frames_before, heard_at}
+use Rattle.mobile_core.proofs.Common.{heard_in, sync_capsule_at, with_message, HearsSync, IsTimed, stream_end, Tuning, sync_stream, Mark}
+use Rattle.mobile_core.proofs.Common.{SpelledMessage, SyncReceiver}
+use Rattle.std.specs.List.{filter}
+use Rattle.frame_decoder.specs.Spans.{Channel}
 use Rattle.mobile_core.proofs.ClockSteps.{due_inside, due_known}
 use Rattle.mobile_core.proofs.FingerTimes.{ends_bounds}
 use Rattle.mobile_core.proofs.FrameTimes.{known_between}

@@ -1,40 +1,16 @@
 -- The mark stays where more samples are taken, and before it nothing is heard of other channels.
-use Rattle.std.proofs.Common.{◌≡◌, ℕ, zero, suc, ◌+◌, ◌-◌, ◌^◌, ◌<◌, ◌≤◌, ◌==◌, ◌&&◌, Bool, true, false, List, [], ◌∷◌, ◌++◌, length, refl}
-use Rattle.std.proofs.Common.{sym, ap, ◌∙◌, subst, arith, inl, inr, nat_le, nat_lt, Option, Some, None, ℤ, pos, take, get_or, append-nil}
-use Rattle.std.specs.Prelude.{if◌then◌else◌}
-use Rattle.std.specs.List.{filter, flat_map, range_with_len}
-use Rattle.std.proofs.lemmas.Bool.{and_parts, and_from, cases_Bool, cases_lt, false_from_ne_true, leb-true, le-leb, eq-eqb, ne_eqb}
-use Rattle.pilot_sets.specs.Standing.{new_standing}
-use Rattle.chip_core.specs.Bits.{places}
-use Rattle.chip_core.specs.Fields.{FieldsFit}
-use Rattle.chip_core.specs.declared.check_form.CheckForm.{CheckForm}
-use Rattle.chip_core.specs.declared.sample.Sample.{Sample}
-use Rattle.rake_finger.specs.declared.finger.Finger.{Finger}
-use Rattle.rake_finger.specs.declared.form.Form.TheVariants.{Data}
-use Rattle.sync_message.specs.Reading.{sync_reading}
-use Rattle.sync_message.specs.SyncMessage.{fixed_fields}
-use Rattle.sync_message.specs.declared.fields.SyncFields.{SyncFields}
-use Rattle.sync_message.proofs.Bodies.{fixed_fit}
-use Rattle.sync_message.proofs.Readings.{reading_is_message}
-use Rattle.mobile_core.specs.Close.{AreClose}
-use Rattle.mobile_core.specs.Legs.{all_fingers, legs_of, pilot_finger}
-use Rattle.mobile_core.specs.Marks.{first_of, frames_open, mark, mark_at, mark_before, marks_at, marks_of}
-use Rattle.mobile_core.specs.Moments.{frames_at, frames_behind, kept_to, legs_at, legs_by, messages_at, messages_behind, moment_place}
-use Rattle.mobile_core.specs.Moments.{moments_before, sets_at, sets_behind}
-use Rattle.mobile_core.specs.Near.{AreNear, all_near, has_reference, low_in}
-use Rattle.mobile_core.specs.PagingEvents.{pages_at, pages_behind}
-use Rattle.mobile_core.specs.PagingStreams.{paging_stream}
-use Rattle.mobile_core.specs.Streams.{frame_start, is_in_file, known_at}
-use Rattle.mobile_core.specs.SyncEvents.{heard_at, heard_in, sync_capsule_at, with_message}
-use Rattle.mobile_core.specs.Timing.{IsTimed, stream_end}
-use Rattle.mobile_core.specs.TrafficEvents.{if_followed}
-use Rattle.mobile_core.specs.TrafficStreams.{frame_known}
-use Rattle.mobile_core.specs.Tuning.{Tuning, fingers_of, sync_bound, sync_stream}
-use Rattle.mobile_core.specs.declared.event.Event.{Event}
-use Rattle.mobile_core.specs.declared.legs.Leg.{Leg}
-use Rattle.mobile_core.specs.declared.mark.Mark.{Mark}
-use Rattle.chip_core.specs.declared.assignment.Traffic.{Traffic}
-use Rattle.mobile_core.specs.declared.spelled_message.SpelledMessage.{SpelledMessage}
+use Rattle.mobile_core.proofs.Common.{◌≡◌, ℕ, zero, suc, ◌+◌, ◌-◌, ◌^◌, ◌<◌, ◌≤◌, ◌==◌, ◌&&◌, Bool, true, false, List, [], ◌∷◌, ◌++◌}
+use Rattle.mobile_core.proofs.Common.{length, refl, sym, ap, ◌∙◌, subst, arith, inl, inr, nat_le, nat_lt, Option, Some, None, ℤ, pos, take}
+use Rattle.mobile_core.proofs.Common.{get_or, append-nil, if◌then◌else◌, flat_map, range_with_len, and_parts, and_from, cases_Bool}
+use Rattle.mobile_core.proofs.Common.{cases_lt, false_from_ne_true, leb-true, le-leb, eq-eqb, ne_eqb, new_standing, places, FieldsFit}
+use Rattle.mobile_core.proofs.Common.{CheckForm, Sample, Finger, Data, sync_reading, fixed_fields, SyncFields, fixed_fit}
+use Rattle.mobile_core.proofs.Common.{reading_is_message, AreClose, all_fingers, legs_of, pilot_finger, first_of, frames_open, mark}
+use Rattle.mobile_core.proofs.Common.{mark_at, mark_before, marks_at, marks_of, frames_at, frames_behind, kept_to, legs_at, legs_by}
+use Rattle.mobile_core.proofs.Common.{messages_at, messages_behind, moment_place, moments_before, sets_at, sets_behind, AreNear, all_near}
+use Rattle.mobile_core.proofs.Common.{has_reference, low_in, pages_at, pages_behind, paging_stream, frame_start, is_in_file, known_at}
+use Rattle.mobile_core.proofs.Common.{heard_at, heard_in, sync_capsule_at, with_message, IsTimed, stream_end, if_followed, frame_known}
+use Rattle.mobile_core.proofs.Common.{Tuning, fingers_of, sync_bound, sync_stream, Event, Leg, Mark, Traffic, SpelledMessage}
+use Rattle.std.specs.List.{filter}
 use Rattle.mobile_core.proofs.CloseFingers.{near_are_close}
 use Rattle.mobile_core.proofs.FingerTimes.{ends_bounds, timed_in, timed_of}
 use Rattle.mobile_core.proofs.FrameBounds.{known_low}

@@ -1,25 +1,14 @@
 -- How the messages that are heard of a traffic channel grow with a file's samples.
-use Rattle.std.proofs.Common.{◌≡◌, ℕ, ◌+◌, ◌<◌, ◌≤◌, Bool, true, List, [], ◌∷◌, ◌++◌, length, ap, ◌∙◌, arith, Option}
-use Rattle.std.specs.List.{filter, flat_map}
-use Rattle.std.specs.Option.{option_to_list}
+use Rattle.mobile_core.proofs.Common.{◌≡◌, ℕ, ◌+◌, ◌<◌, ◌≤◌, Bool, true, List, [], ◌∷◌, ◌++◌, length, ap, ◌∙◌, arith, Option, flat_map}
+use Rattle.mobile_core.proofs.Common.{option_to_list, flat_map-append, places, Sample, Decoded, capsule_with, message_at, message_events}
+use Rattle.mobile_core.proofs.Common.{message_heard, messages_by, signal_at, signal_in, signal_of, signals_before, messages_left_of}
+use Rattle.mobile_core.proofs.Common.{ends_now, frame_known, frames_bound, has_frame, Tuning, Leg, Mark, Traffic, SpelledSignal}
+use Rattle.mobile_core.proofs.Common.{filter-places-more, flat_map_ext_filter, flat_map_ext_filter_places}
+use Rattle.std.specs.List.{filter}
 use Rattle.std.proofs.lemmas.List.{append-nil}
-use Rattle.std.proofs.lemmas.Grind.{flat_map-append}
-use Rattle.chip_core.specs.Bits.{places}
-use Rattle.chip_core.specs.declared.sample.Sample.{Sample}
-use Rattle.frame_decoder.specs.declared.traffic.Decoded.{Decoded}
-use Rattle.mobile_core.specs.Signaling.{capsule_with, message_at, message_events, message_heard, messages_by, signal_at, signal_in}
-use Rattle.mobile_core.specs.Signaling.{signal_of, signals_before}
-use Rattle.mobile_core.specs.TrafficReceiving.{messages_left_of}
-use Rattle.mobile_core.specs.TrafficStreams.{ends_now, frame_known, frames_bound, has_frame}
-use Rattle.mobile_core.specs.Tuning.{Tuning}
-use Rattle.mobile_core.specs.declared.legs.Leg.{Leg}
-use Rattle.mobile_core.specs.declared.mark.Mark.{Mark}
-use Rattle.chip_core.specs.declared.assignment.Traffic.{Traffic}
-use Rattle.mobile_core.specs.declared.spelled_signal.SpelledSignal.{SpelledSignal}
-use Rattle.mobile_core.proofs.Endings as endings
 use Rattle.mobile_core.proofs.FrameBounds.{AreCloseAll, known_later, not_now, now_from, now_parts}
 use Rattle.mobile_core.proofs.FrameGrowth.{decoded_sooner}
-use Rattle.chip_core.proofs.Ranges.{filter-places-more, flat_map_ext_filter, flat_map_ext_filter_places}
+use Rattle.mobile_core.proofs.Endings as endings
 
 module _ (t : Tuning) (traffic : Traffic) (m : Mark) (legs : ℕ → List Leg) where
   -- the signaling of one frame more

@@ -1,17 +1,8 @@
 -- What is kept behind each moment hangs on the samples before it.
-use Rattle.std.proofs.Common.{◌≡◌, ℕ, zero, suc, ◌+◌, ◌<◌, ◌≤◌, ◌==◌, true, false, List, [], ◌∷◌, ◌++◌, length, take, refl, ap, ◌∙◌, arith}
-use Rattle.std.proofs.Common.{nat_le}
-use Rattle.std.specs.Prelude.{if◌then◌else◌}
-use Rattle.std.proofs.lemmas.Bool.{le-leb, lt-leb}
-use Rattle.std.proofs.lemmas.List.{take-append-le}
-use Rattle.chip_core.specs.declared.sample.Sample.{Sample}
-use Rattle.pilot_sets.specs.Standing.{Standing}
-use Rattle.mobile_core.specs.Moments.{heard_from, kept_to, moment_place, moments_before, passed, sets_at, sets_events}
-use Rattle.mobile_core.specs.Noted.{all_noted, noted}
-use Rattle.mobile_core.specs.Tuning.{Tuning}
-use Rattle.mobile_core.specs.declared.event.Event.{Event}
-use Rattle.mobile_core.specs.declared.mark.Mark.{Mark}
-use Rattle.chip_core.specs.declared.assignment.Traffic.{Traffic}
+use Rattle.mobile_core.proofs.Common.{◌≡◌, ℕ, zero, suc, ◌+◌, ◌<◌, ◌≤◌, ◌==◌, true, false, List, [], ◌∷◌, ◌++◌, length, take, refl, ap, ◌∙◌}
+use Rattle.mobile_core.proofs.Common.{arith, nat_le, if◌then◌else◌, le-leb, lt-leb, take-append-le, Sample, Standing, heard_from, kept_to}
+use Rattle.mobile_core.proofs.Common.{moment_place, moments_before, passed, sets_at, sets_events, all_noted, noted, Tuning, Event, Mark}
+use Rattle.mobile_core.proofs.Common.{Traffic}
 
 -- the first samples of a file that goes on
 pub first_same : (xs ys : List Sample) (n : ℕ) → n ≤ length xs → take n (xs ++ ys) ≡ take n xs

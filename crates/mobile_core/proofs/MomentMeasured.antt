@@ -1,11 +1,6 @@
 -- What a moment makes of the sets, from what was measured.
-use Rattle.std.proofs.Common.{◌≡◌, ℕ, ◌+◌, List, ap, ◌∙◌}
-use Rattle.chip_core.specs.declared.sample.Sample.{Sample}
-use Rattle.pilot_sets.specs.Standing.{Standing, change_at, due_at, stepped}
-use Rattle.pilot_sets.specs.declared.change.SetChange.{SetChange}
-use Rattle.pilot_sets.specs.declared.strengths.Strength.{Strength}
-use Rattle.mobile_core.specs.Moments.{changed, moment_place, passed, power_at, strengths_at}
-use Rattle.mobile_core.specs.declared.mark.Mark.{Mark}
+use Rattle.mobile_core.proofs.Common.{◌≡◌, ℕ, ◌+◌, List, ap, ◌∙◌, Sample, Standing, change_at, due_at, stepped, SetChange, Strength}
+use Rattle.mobile_core.proofs.Common.{changed, moment_place, passed, power_at, strengths_at, Mark}
 
 module _ (m : Mark) (heard : List Sample) (j place power : ℕ) (s began : Standing)
     (strengths : List Strength) (place_is : place ≡ moment_place m j)

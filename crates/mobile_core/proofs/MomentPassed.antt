@@ -1,30 +1,12 @@
 -- What the receiver of a traffic channel stands for as a moment passes.
-use Rattle.std.proofs.Common.{◌≡◌, ℕ, ◌+◌, ◌-◌, ◌/◌, ◌<◌, ◌≤◌, List, [], ◌∷◌, ◌++◌, Bool, length, take, refl, sym, ap, ◌∙◌, arith, subst}
-use Rattle.std.proofs.Common.{Option, None, inl, inr, true, false, ◌==◌}
-use Rattle.std.specs.List.{flat_map}
-use Rattle.std.specs.Option.{option_to_list}
-use Rattle.std.proofs.lemmas.Bool.{cases_lt, eq-eqb, ne_eqb}
-use Rattle.std.proofs.lemmas.List.{append-nil, take_all}
-use Rattle.chip_core.specs.declared.sample.Sample.{Sample}
-use Rattle.chip_core.proofs.Ranges.{filter_ext_places, flat_map_ext_filter_places}
-use Rattle.pilot_sets.specs.Standing.{Standing}
-use Rattle.quality_bits.specs.Pieces.{StandsFor}
-use Rattle.mobile_core.specs.Close.{AreClose}
-use Rattle.mobile_core.specs.Given.{listed}
-use Rattle.mobile_core.specs.Legs.{all_fingers, legs_of}
-use Rattle.mobile_core.specs.Moments.{heard_from, kept_to, legs_by, moment_of, moment_place, passed, sets_events}
-use Rattle.mobile_core.specs.Noted.{all_noted}
-use Rattle.mobile_core.specs.Signaling.{signal_at, signals_before}
-use Rattle.mobile_core.specs.TrafficEvents.{decoded_at}
-use Rattle.mobile_core.specs.TrafficReceiving.{HearsWith, IsSoundTraffic, kept_in, sets_left_of, told_left_with, traffic_left_of}
-use Rattle.mobile_core.specs.TrafficStreams.{frame_known, has_frame}
-use Rattle.mobile_core.specs.Tuning.{Tuning}
-use Rattle.mobile_core.specs.declared.event.Event.{Event}
-use Rattle.mobile_core.specs.declared.legs.Leg.{Leg}
-use Rattle.mobile_core.specs.declared.mark.Mark.{Mark}
-use Rattle.mobile_core.specs.declared.sets_keeper.SetsKeeper.{SetsKeeper}
-use Rattle.chip_core.specs.declared.assignment.Traffic.{Traffic}
-use Rattle.mobile_core.specs.declared.traffic_receiver.TrafficReceiver.{TrafficReceiver}
+use Rattle.mobile_core.proofs.Common.{◌≡◌, ℕ, ◌+◌, ◌-◌, ◌/◌, ◌<◌, ◌≤◌, List, [], ◌∷◌, ◌++◌, Bool, length, take, refl, sym, ap, ◌∙◌, arith}
+use Rattle.mobile_core.proofs.Common.{subst, Option, None, inl, inr, true, false, ◌==◌, flat_map, option_to_list, cases_lt, eq-eqb, ne_eqb}
+use Rattle.mobile_core.proofs.Common.{take_all, Sample, filter_ext_places, flat_map_ext_filter_places, Standing, StandsFor, AreClose}
+use Rattle.mobile_core.proofs.Common.{listed, all_fingers, legs_of, heard_from, kept_to, legs_by, moment_of, moment_place, passed}
+use Rattle.mobile_core.proofs.Common.{sets_events, all_noted, signal_at, signals_before, decoded_at, HearsWith, IsSoundTraffic, kept_in}
+use Rattle.mobile_core.proofs.Common.{sets_left_of, told_left_with, traffic_left_of, frame_known, has_frame, Tuning, Event, Leg, Mark}
+use Rattle.mobile_core.proofs.Common.{SetsKeeper, Traffic, TrafficReceiver}
+use Rattle.std.proofs.lemmas.List.{append-nil}
 use Rattle.mobile_core.proofs.FrameBounds.{known_low}
 use Rattle.mobile_core.proofs.FramesHeard.{closes, from_next, left_unkept, start_moment, told_given}
 use Rattle.mobile_core.proofs.MomentGrowth.{kept_new, kept_old}

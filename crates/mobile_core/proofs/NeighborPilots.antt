@@ -1,8 +1,6 @@
 -- The pilots of a Neighbor List Message are offsets.
-use Rattle.std.proofs.Common.{◌≡◌, ℕ, zero, suc, ◌<◌, List, [], ◌∷◌, length, arith, All}
-use Rattle.chip_core.specs.Fields.{FieldsFit}
-use Rattle.paging_message.specs.Neighbors.{IsNeighborList, neighbor_records}
-use Rattle.paging_message.specs.declared.fields.NeighborFields.{NeighborFields}
+use Rattle.mobile_core.proofs.Common.{◌≡◌, ℕ, zero, suc, ◌<◌, List, [], ◌∷◌, length, arith, All, FieldsFit, IsNeighborList}
+use Rattle.mobile_core.proofs.Common.{neighbor_records, NeighborFields}
 
 one_more : (p : ℕ) (ps : List ℕ) → p < 512 → All (λ q. q < 512) ps → All (λ q. q < 512) (p ∷ ps)
 one_more p ps here rest zero d less = here

@@ -1,14 +1,7 @@
 -- How many frames the message under way has.
-use Rattle.std.proofs.Common.{◌≡◌, ℕ, zero, suc, ◌+◌, Bool, true, false, cond, List, [], ◌∷◌, ◌++◌, map, length, length-append, refl, sym}
-use Rattle.std.proofs.Common.{ap, ◌∙◌, arith, nat_lt, inl, inr}
-use Rattle.std.specs.Prelude.{if◌then◌else◌}
-use Rattle.std.proofs.lemmas.Bool.{cases_Bool, lt-ltb}
-use Rattle.std.proofs.lemmas.List.{map-append}
-use Rattle.chip_core.specs.declared.sample.Sample.{Sample}
-use Rattle.quality_bits.specs.Pieces.{Piece, piece, from_last_start}
-use Rattle.mobile_core.specs.Marks.{frames_open, frames_with}
-use Rattle.mobile_core.specs.SyncEvents.{frames_before}
-use Rattle.mobile_core.specs.Tuning.{Tuning}
+use Rattle.mobile_core.proofs.Common.{◌≡◌, ℕ, zero, suc, ◌+◌, Bool, true, false, cond, List, [], ◌∷◌, ◌++◌, map, length, length-append}
+use Rattle.mobile_core.proofs.Common.{refl, sym, ap, ◌∙◌, arith, nat_lt, inl, inr, if◌then◌else◌, cases_Bool, lt-ltb, map-append, Sample}
+use Rattle.mobile_core.proofs.Common.{Piece, piece, from_last_start, frames_open, frames_with, frames_before, Tuning}
 
 -- of a list that begins with a piece, where so many are left behind it
 abbrev pub kept : Bool → ℕ → ℕ → ℕ

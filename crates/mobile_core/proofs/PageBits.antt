@@ -1,18 +1,12 @@
 -- The bits of the frames in a file that follow one another, over any stream.
-use Rattle.std.proofs.Common.{◌≡◌, ℕ, ◌+◌, ◌<◌, ◌≤◌, true, List, [], ◌∷◌, ◌++◌, length, refl, ap, ◌∙◌, arith}
-use Rattle.std.specs.Prelude.{if◌then◌else◌}
-use Rattle.std.specs.List.{filter, flat_map}
+use Rattle.mobile_core.proofs.Common.{◌≡◌, ℕ, ◌+◌, ◌<◌, ◌≤◌, true, List, [], ◌∷◌, ◌++◌, length, refl, ap, ◌∙◌, arith, if◌then◌else◌}
+use Rattle.mobile_core.proofs.Common.{flat_map, flat_map-append, places, Sample, AreBegun, AreNear, low_in, bits_before, Stream}
+use Rattle.mobile_core.proofs.Common.{frame_own_bits, is_in_file, known_at, IsTimed, filter-places-more, filter_ext_places}
+use Rattle.mobile_core.proofs.Common.{filter_none_places, flat_map_ext_filter_places}
+use Rattle.std.specs.List.{filter}
 use Rattle.std.proofs.lemmas.List.{append-nil}
-use Rattle.std.proofs.lemmas.Grind.{flat_map-append}
-use Rattle.chip_core.specs.Bits.{places}
-use Rattle.chip_core.specs.declared.sample.Sample.{Sample}
-use Rattle.mobile_core.specs.Near.{AreBegun, AreNear, low_in}
-use Rattle.mobile_core.specs.PagingEvents.{bits_before}
-use Rattle.mobile_core.specs.Streams.{Stream, frame_own_bits, is_in_file, known_at}
-use Rattle.mobile_core.specs.Timing.{IsTimed}
 use Rattle.mobile_core.proofs.FingerTimes.{timed_in}
 use Rattle.mobile_core.proofs.FrameTimes.{ends_lt, inside_from, inside_to, outside_low}
-use Rattle.chip_core.proofs.Ranges.{filter-places-more, filter_ext_places, filter_none_places, flat_map_ext_filter_places}
 use Rattle.mobile_core.proofs.Spans.{own_bits_sooner}
 
 -- those of one frame more

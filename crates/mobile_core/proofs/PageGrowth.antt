@@ -1,26 +1,14 @@
 -- How the messages of a paging channel grow with a file's samples.
-use Rattle.std.proofs.Common.{◌≡◌, ℕ, ◌+◌, ◌-◌, ◌<◌, ◌≤◌, ◌==◌, ◌&&◌, Bool, true, List, [], ◌++◌, length, nat_le, take, refl, ap, ◌∙◌}
-use Rattle.std.proofs.Common.{arith, Option}
-use Rattle.std.specs.Prelude.{if◌then◌else◌}
-use Rattle.std.specs.List.{flat_map, range_with_len}
-use Rattle.std.specs.Option.{option_to_list}
-use Rattle.chip_core.specs.Bits.{places}
-use Rattle.chip_core.specs.declared.sample.Sample.{Sample}
-use Rattle.paging_message.specs.HalfFrames.{half_frame_body, half_frame_capsule_ending}
-use Rattle.mobile_core.specs.PagingEvents.{bits_before, bits_up_to, page_at, page_in, pages_at, pages_from}
-use Rattle.mobile_core.specs.PagingReceiving.{pages_left}
-use Rattle.mobile_core.specs.PagingStreams.{paging_bound, paging_rate, paging_stream}
-use Rattle.mobile_core.specs.Streams.{frame_own_bits, is_in_file, known_at}
-use Rattle.mobile_core.specs.Timing.{IsTimed}
-use Rattle.mobile_core.specs.Tuning.{Tuning}
-use Rattle.mobile_core.specs.declared.mark.Mark.{Mark}
-use Rattle.mobile_core.specs.declared.spelled_page.SpelledPage.{SpelledPage}
+use Rattle.mobile_core.proofs.Common.{◌≡◌, ℕ, ◌+◌, ◌-◌, ◌<◌, ◌≤◌, ◌==◌, ◌&&◌, Bool, true, List, [], ◌++◌, length, nat_le, take, refl, ap}
+use Rattle.mobile_core.proofs.Common.{◌∙◌, arith, Option, if◌then◌else◌, flat_map, range_with_len, option_to_list, places, Sample}
+use Rattle.mobile_core.proofs.Common.{half_frame_body, half_frame_capsule_ending, bits_before, bits_up_to, page_at, page_in, pages_at}
+use Rattle.mobile_core.proofs.Common.{pages_from, pages_left, paging_bound, paging_rate, paging_stream, frame_own_bits, is_in_file}
+use Rattle.mobile_core.proofs.Common.{known_at, IsTimed, Tuning, Mark, SpelledPage, flat_map_ext_filter, flat_map_ext_range}
 use Rattle.mobile_core.proofs.FrameTimes.{known_le}
-use Rattle.mobile_core.proofs.FramesLeft as left
 use Rattle.mobile_core.proofs.PageBits.{bits_before_sooner}
 use Rattle.mobile_core.proofs.PagesLeft.{either_way}
-use Rattle.chip_core.proofs.Ranges.{flat_map_ext_filter, flat_map_ext_range}
 use Rattle.mobile_core.proofs.Spans.{own_bits_sooner}
+use Rattle.mobile_core.proofs.FramesLeft as left
 
 module _ (t : Tuning) (channel : ℕ) (m : Mark) where
   -- where no frame before `next` is known just now, all of this moment's messages are left

@@ -1,22 +1,9 @@
 -- What a handset's paging channel has still to give, as samples come.
-use Rattle.std.proofs.Common.{◌≡◌, ℕ, ◌+◌, ◌-◌, ◌*◌, ◌^◌, ◌<◌, ◌≤◌, false, List, [], ◌++◌, length, map, refl, sym, ap, subst, ◌∙◌, arith}
-use Rattle.std.proofs.Common.{inl, inr, Option, Some, None}
-use Rattle.std.specs.Prelude.{IfSome, is_some, nat_lt}
-use Rattle.std.specs.Option.{ForSome, option_to_list}
-use Rattle.std.proofs.lemmas.Bool.{cases_lt}
-use Rattle.std.proofs.lemmas.List.{map-append}
-use Rattle.chip_core.specs.declared.sample.Sample.{Sample}
-use Rattle.mobile_core.specs.Clocks.{IsDueAt}
-use Rattle.mobile_core.specs.PagingEvents.{page_event, pages_behind}
-use Rattle.mobile_core.specs.PagingMonitoring.{HearsBehind, HearsPages, IsReceiverDue, WaitsFrom, due_by, heard_by, is_paged}
-use Rattle.mobile_core.specs.PagingMonitoring.{paging_events_left}
-use Rattle.mobile_core.specs.PagingReceiving.{HearsBit, HearsPaging, IsSoundPaging, bits_heard, pages_left}
-use Rattle.mobile_core.specs.Tuning.{Tuning}
-use Rattle.mobile_core.specs.declared.event.Event.{Event}
-use Rattle.mobile_core.specs.declared.mark.Mark.{Mark}
-use Rattle.mobile_core.specs.declared.paging_monitor.PagingMonitor.{PagingMonitor}
-use Rattle.mobile_core.specs.declared.paging_receiver.PagingReceiver.{PagingReceiver}
-use Rattle.mobile_core.specs.declared.spelled_page.SpelledPage.{SpelledPage}
+use Rattle.mobile_core.proofs.Common.{◌≡◌, ℕ, ◌+◌, ◌-◌, ◌*◌, ◌^◌, ◌<◌, ◌≤◌, false, List, [], ◌++◌, length, map, refl, sym, ap, subst, ◌∙◌}
+use Rattle.mobile_core.proofs.Common.{arith, inl, inr, Option, Some, None, IfSome, is_some, nat_lt, ForSome, option_to_list, cases_lt}
+use Rattle.mobile_core.proofs.Common.{map-append, Sample, IsDueAt, page_event, pages_behind, HearsBehind, HearsPages, IsReceiverDue}
+use Rattle.mobile_core.proofs.Common.{WaitsFrom, due_by, heard_by, is_paged, paging_events_left, HearsBit, HearsPaging, IsSoundPaging}
+use Rattle.mobile_core.proofs.Common.{bits_heard, pages_left, Tuning, Event, Mark, PagingMonitor, PagingReceiver, SpelledPage}
 use Rattle.mobile_core.proofs.ClockSteps.{before_next, from_next}
 use Rattle.mobile_core.proofs.PageGrowth.{pages_left_all, pages_left_none, pages_none}
 use Rattle.mobile_core.proofs.PagesHeard as pages

@@ -1,25 +1,12 @@
 -- What the receiver of a paging channel stands for, step by step.
-use Rattle.std.proofs.Common.{◌≡◌, ℕ, ◌+◌, ◌<◌, ◌≤◌, Bool, true, false, List, [], ◌∷◌, ◌++◌, length, take, refl, sym, ap, ◌∙◌, subst, arith}
-use Rattle.std.proofs.Common.{inl, inr, Option, Some, slice_get, nat_lt}
-use Rattle.std.specs.Option.{option_to_list}
-use Rattle.std.proofs.lemmas.Bool.{cases_lt, lt-ltb, le-ltb}
-use Rattle.std.proofs.lemmas.List.{append-nil, append_assoc, take_all}
-use Rattle.chip_core.proofs.BitLists.{taken_more}
-use Rattle.chip_core.specs.declared.sample.Sample.{Sample}
-use Rattle.long_code.specs.LongCode.{paging_mask}
-use Rattle.paging_message.specs.HalfFrames.{Framing, StandsFor, half_frame_body, half_frame_capsule_ending}
-use Rattle.mobile_core.specs.Clocks.{IsDueAt, clock_from, first_frame, frame_heard}
-use Rattle.mobile_core.specs.Near.{AreNear}
-use Rattle.mobile_core.specs.PagingEvents.{bits_before, bits_up_to, page_at, page_in, pages_from}
-use Rattle.mobile_core.specs.PagingReceiving.{HearsBit, HearsPaging, bit_passed, pages_left}
-use Rattle.mobile_core.specs.PagingStreams.{paging_rate, paging_stream}
-use Rattle.mobile_core.specs.Receiving.{Receives}
-use Rattle.mobile_core.specs.Streams.{Stream, frame_own_bits}
-use Rattle.mobile_core.specs.Tuning.{Tuning}
-use Rattle.mobile_core.specs.declared.continued.Continued.{Continued}
-use Rattle.mobile_core.specs.declared.mark.Mark.{Mark}
-use Rattle.mobile_core.specs.declared.paging_receiver.PagingReceiver.{PagingReceiver}
-use Rattle.mobile_core.specs.declared.spelled_page.SpelledPage.{SpelledPage}
+use Rattle.mobile_core.proofs.Common.{◌≡◌, ℕ, ◌+◌, ◌<◌, ◌≤◌, Bool, true, false, List, [], ◌∷◌, ◌++◌, length, take, refl, sym, ap, ◌∙◌}
+use Rattle.mobile_core.proofs.Common.{subst, arith, inl, inr, Option, Some, slice_get, nat_lt, option_to_list, cases_lt, lt-ltb, le-ltb}
+use Rattle.mobile_core.proofs.Common.{append_assoc, take_all, taken_more, Sample, paging_mask, Framing, half_frame_body}
+use Rattle.mobile_core.proofs.Common.{half_frame_capsule_ending, IsDueAt, clock_from, first_frame, frame_heard, AreNear, bits_before}
+use Rattle.mobile_core.proofs.Common.{bits_up_to, page_at, page_in, pages_from, HearsBit, HearsPaging, bit_passed, pages_left, paging_rate}
+use Rattle.mobile_core.proofs.Common.{paging_stream, Receives, Stream, frame_own_bits, Tuning, Continued, Mark, PagingReceiver, SpelledPage}
+use Rattle.std.proofs.lemmas.List.{append-nil}
+use Rattle.paging_message.specs.HalfFrames.{StandsFor}
 use Rattle.mobile_core.proofs.ClockSteps.{due_inside, due_known, before_next}
 use Rattle.mobile_core.proofs.PageBits.{bits_before_more, bits_before_none, bits_before_sooner}
 use Rattle.mobile_core.proofs.PagesLeft.{left_next, pages_behind_last, pages_next}

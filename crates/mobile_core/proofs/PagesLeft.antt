@@ -1,24 +1,11 @@
 -- The messages of a paging channel that are still to be given.
-use Rattle.std.proofs.Common.{◌≡◌, ℕ, suc, ◌+◌, ◌-◌, ◌<◌, ◌≤◌, ◌==◌, ◌&&◌, Bool, true, false, List, [], ◌++◌, length, nat_le, refl, sym, ap}
-use Rattle.std.proofs.Common.{◌∙◌, arith}
-use Rattle.std.specs.Prelude.{if◌then◌else◌}
-use Rattle.std.specs.List.{flat_map, range_with_len}
-use Rattle.std.specs.Option.{option_to_list}
-use Rattle.std.proofs.lemmas.Bool.{and_parts, eq-eqb, ne_eqb, leb-true}
-use Rattle.chip_core.specs.Bits.{places}
-use Rattle.chip_core.specs.declared.sample.Sample.{Sample}
-use Rattle.mobile_core.specs.Left.{frames_left}
-use Rattle.mobile_core.specs.PagingEvents.{page_at, pages_from}
-use Rattle.mobile_core.specs.PagingReceiving.{pages_left}
-use Rattle.mobile_core.specs.PagingStreams.{paging_bound, paging_stream}
-use Rattle.mobile_core.specs.Streams.{frame_own_bits, is_in_file, known_at}
-use Rattle.mobile_core.specs.Timing.{IsTimed}
-use Rattle.mobile_core.specs.Tuning.{Tuning}
-use Rattle.mobile_core.specs.declared.mark.Mark.{Mark}
-use Rattle.mobile_core.specs.declared.spelled_page.SpelledPage.{SpelledPage}
+use Rattle.mobile_core.proofs.Common.{◌≡◌, ℕ, suc, ◌+◌, ◌-◌, ◌<◌, ◌≤◌, ◌==◌, ◌&&◌, Bool, true, false, List, [], ◌++◌, length, nat_le, refl}
+use Rattle.mobile_core.proofs.Common.{sym, ap, ◌∙◌, arith, if◌then◌else◌, flat_map, range_with_len, option_to_list, and_parts, eq-eqb}
+use Rattle.mobile_core.proofs.Common.{ne_eqb, leb-true, places, Sample, frames_left, page_at, pages_from, pages_left, paging_bound}
+use Rattle.mobile_core.proofs.Common.{paging_stream, frame_own_bits, is_in_file, known_at, IsTimed, Tuning, Mark, SpelledPage}
+use Rattle.mobile_core.proofs.Common.{flat_map_ext_filter}
 use Rattle.mobile_core.proofs.FrameTimes.{known_between}
 use Rattle.mobile_core.proofs.FramesLeft as left
-use Rattle.chip_core.proofs.Ranges.{flat_map_ext_filter}
 
 pub either_way : (b : Bool) (i : ℕ) → (if b then i else i) ≡ i
 either_way true i = refl

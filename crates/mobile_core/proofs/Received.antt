@@ -1,23 +1,12 @@
 -- What a continued channel stands for, step by step, over any stream.
-use Rattle.std.proofs.Common.{◌≡◌, ℕ, zero, suc, ◌+◌, ◌-◌, ◌*◌, ◌≤◌, List, [], ◌++◌, length, length-append, take, drop, refl, sym, ap, ◌∙◌}
-use Rattle.std.proofs.Common.{arith, true, ℤ}
-use Rattle.std.specs.List.{flat_map}
-use Rattle.std.proofs.lemmas.List.{drop_all, length-drop, take_all}
-use Rattle.chip_core.proofs.Places.{places-none}
-use Rattle.chip_core.specs.Bits.{places}
-use Rattle.chip_core.specs.declared.sample.Sample.{Sample}
-use Rattle.frame_decoder.specs.Spans.{own_bits}
-use Rattle.rake_finger.specs.Soft.{symbols}
-use Rattle.mobile_core.specs.Clocks.{IsDueAt, clock_from, first_frame, frame_come, frame_heard, span_from}
-use Rattle.mobile_core.specs.Near.{AreNear}
-use Rattle.mobile_core.specs.Receiving.{Receives}
-use Rattle.mobile_core.specs.Softs.{last_softs}
-use Rattle.mobile_core.specs.Streams.{Stream, frame_softs, frame_own_bits}
-use Rattle.mobile_core.specs.declared.continued.Continued.{Continued}
+use Rattle.mobile_core.proofs.Common.{◌≡◌, ℕ, zero, suc, ◌+◌, ◌-◌, ◌*◌, ◌≤◌, List, [], ◌++◌, length, length-append, take, drop, refl, sym}
+use Rattle.mobile_core.proofs.Common.{ap, ◌∙◌, arith, true, ℤ, flat_map, drop_all, take_all, places-none, places, Sample, own_bits, symbols}
+use Rattle.mobile_core.proofs.Common.{IsDueAt, clock_from, first_frame, frame_come, frame_heard, span_from, AreNear, Receives, last_softs}
+use Rattle.mobile_core.proofs.Common.{Stream, frame_softs, frame_own_bits, Continued, flat_map_ext_places, flat_map-places-more}
+use Rattle.std.proofs.lemmas.List.{length-drop}
 use Rattle.mobile_core.proofs.ClockSteps.{clock_new, clock_more, clock_come, clock_heard, span_bounds, span_is}
 use Rattle.mobile_core.proofs.FrameTimes.{inside_from}
 use Rattle.mobile_core.proofs.Spans.{frame_softs_sooner}
-use Rattle.chip_core.proofs.Ranges.{flat_map_ext_places, flat_map-places-more}
 use Rattle.mobile_core.proofs.SoftSums.{frames_fit, last_more, most_symbols}
 
 flat_map_last : {A : Type 0} (f : ℕ → List A) (m : ℕ) →

@@ -1,16 +1,9 @@
 -- The signaling of a decoded frame.
-use Rattle.std.proofs.Common.{◌≡◌, ℕ, ◌≤◌, Bool, true, false, List, length, take, drop, ℤ, arith, Option, Some, None, length-drop, [], ◌∷◌}
-use Rattle.std.specs.Prelude.{cond, get_or, if◌then◌else◌, int_lt, IfSome}
-use Rattle.std.proofs.lemmas.List.{length-take-le}
-use Rattle.frame_decoder.specs.TrafficFrames.{best_candidate, better, decoded, frame_bits, has_quality, not_good, preferred, rate_frame}
-use Rattle.frame_decoder.specs.TrafficFrames.{rate_word, unreplaced}
-use Rattle.frame_decoder.specs.declared.traffic.Decoded.{Decoded}
-use Rattle.frame_decoder.proofs.RateWords.{length-rate_word}
-use Rattle.quality_bits.specs.TrafficWords.{information_of}
-use Rattle.quality_bits.specs.declared.rate.Rate.{Rate}
-use Rattle.quality_bits.specs.declared.rate.Rate.TheVariants.{R9600, R4800, R2400, R1200}
-use Rattle.traffic_message.specs.Multiplex.{primary_bits, split, split_9600}
-use Rattle.traffic_message.specs.declared.multiplex.Mux.{Mux}
+use Rattle.mobile_core.proofs.Common.{◌≡◌, ℕ, ◌≤◌, Bool, true, false, List, length, take, drop, ℤ, arith, Option, Some, None, length-drop}
+use Rattle.mobile_core.proofs.Common.{[], ◌∷◌, cond, get_or, if◌then◌else◌, int_lt, IfSome, length-take-le, best_candidate, better, decoded}
+use Rattle.mobile_core.proofs.Common.{frame_bits, has_quality, not_good, preferred, rate_frame, rate_word, unreplaced, Decoded}
+use Rattle.mobile_core.proofs.Common.{length-rate_word, information_of, Rate, R9600, R4800, R2400, R1200, primary_bits, split, split_9600}
+use Rattle.mobile_core.proofs.Common.{Mux}
 
 -- A DECODED FRAME HAS THE INFORMATION BITS OF ITS RATE
 abbrev IsLong : Decoded → Type 0

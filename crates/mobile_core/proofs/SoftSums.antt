@@ -1,14 +1,8 @@
 -- The soft values of the last frames, and what their absolute values add up to.
-use Rattle.std.proofs.Common.{◌≡◌, ℕ, zero, suc, ◌+◌, ◌-◌, ◌*◌, ◌≤◌, List, [], ◌∷◌, ◌++◌, length, drop, refl, ap, ◌∙◌, arith, ℤ, pos}
-use Rattle.std.proofs.Common.{replicate, length-drop}
-use Rattle.std.specs.Prelude.{sum_by, unsigned_abs}
-use Rattle.std.proofs.lemmas.List.{drop-append-le, drop-drop, drop-replicate}
-use Rattle.std.proofs.lemmas.List.Folds.{sum_by-replicate}
-use Rattle.std.proofs.lemmas.List.Sums.{sum_by-append}
-use Rattle.rake_finger.specs.Soft.{symbols, soft_bound}
-use Rattle.rake_finger.specs.declared.form.Form.{Form}
-use Rattle.rake_finger.specs.declared.form.Form.TheVariants.{Sync, Data}
-use Rattle.mobile_core.specs.Softs.{AreSmall, frame_most, last_softs}
+use Rattle.mobile_core.proofs.Common.{◌≡◌, ℕ, zero, suc, ◌+◌, ◌-◌, ◌*◌, ◌≤◌, List, [], ◌∷◌, ◌++◌, length, drop, refl, ap, ◌∙◌, arith, ℤ}
+use Rattle.mobile_core.proofs.Common.{pos, replicate, length-drop, sum_by, unsigned_abs, drop-append-le, drop-drop, drop-replicate}
+use Rattle.mobile_core.proofs.Common.{sum_by-replicate, sum_by-append, symbols, soft_bound, Form, Sync, Data, AreSmall, frame_most}
+use Rattle.mobile_core.proofs.Common.{last_softs}
 
 -- a frame over three fingers
 pub frame_small : (form : Form) (fingers : ℕ) → fingers ≤ 3 →

@@ -1,21 +1,9 @@
 -- What is read from the first samples stays where more samples follow.
-use Rattle.std.proofs.Common.{◌≡◌, ℕ, ◌+◌, ◌*◌, ◌/◌, ◌<◌, ◌≤◌, true, ◌&&◌, List, [], ◌∷◌, ◌++◌, map, length, take, drop, refl, ap, arith, ℤ}
-use Rattle.std.proofs.Common.{pos, ◌+ℤ◌, ◌-ℤ◌, length-drop}
-use Rattle.std.specs.Prelude.{unsigned_abs, int_le}
-use Rattle.std.proofs.lemmas.Int.{ints}
-use Rattle.std.proofs.lemmas.Bool.{and_parts}
-use Rattle.std.proofs.lemmas.List.{take-append-le, drop-append-le}
-use Rattle.chip_core.specs.Complex.{sum_of}
-use Rattle.chip_core.specs.Sums.{total}
-use Rattle.chip_core.specs.declared.sample.Sample.{Sample}
-use Rattle.short_code.specs.Despread.{despread}
-use Rattle.rake_finger.specs.Soft.{symbol_chips, window_chips, symbols, frame_chips, finger_place, despread_at, covered_from, pilot_sum}
-use Rattle.rake_finger.specs.Soft.{symbol_sum, soft, softs}
-use Rattle.rake_finger.specs.declared.finger.Finger.{Finger}
-use Rattle.rake_finger.specs.declared.form.Form.{Form}
-use Rattle.rake_finger.specs.declared.form.Form.TheVariants.{Sync, Data}
-use Rattle.mobile_core.specs.Streams.{is_within, frame_end}
-use Rattle.chip_core.proofs.Ranges.{map_ext_places}
+use Rattle.mobile_core.proofs.Common.{◌≡◌, ℕ, ◌+◌, ◌*◌, ◌/◌, ◌<◌, ◌≤◌, true, ◌&&◌, List, [], ◌∷◌, ◌++◌, map, length, take, drop, refl, ap}
+use Rattle.mobile_core.proofs.Common.{arith, ℤ, pos, ◌+ℤ◌, ◌-ℤ◌, length-drop, unsigned_abs, int_le, ints, and_parts, take-append-le}
+use Rattle.mobile_core.proofs.Common.{drop-append-le, sum_of, total, Sample, despread, symbol_chips, window_chips, symbols, frame_chips}
+use Rattle.mobile_core.proofs.Common.{finger_place, despread_at, covered_from, pilot_sum, symbol_sum, soft, softs, Finger, Form, Sync, Data}
+use Rattle.mobile_core.proofs.Common.{is_within, frame_end, map_ext_places}
 
 -- each finger's samples of the frame lie among the first n
 abbrev pub AllFit : ℕ → Form → ℕ → List Finger → Type 0

@@ -1,26 +1,10 @@
 -- What always holds of the receiver of a traffic channel, as it goes on.
-use Rattle.std.proofs.Common.{◌≡◌, ℕ, ◌+◌, ◌*◌, ◌^◌, ◌<◌, ◌≤◌, true, List, Bool, length, take, ℤ, sym, ap, ◌∙◌, arith, Option, None, subst}
-use Rattle.std.proofs.Common.{false}
-use Rattle.std.specs.Prelude.{sum_by, unsigned_abs, if◌then◌else◌}
-use Rattle.frame_decoder.specs.declared.power.PowerSofts.{PowerSofts}
-use Rattle.rake_finger.specs.declared.finger.Finger.{Finger}
-use Rattle.rake_finger.specs.declared.form.Form.TheVariants.{Data}
-use Rattle.chip_core.specs.declared.sample.Sample.{Sample}
-use Rattle.pilot_sets.specs.Standing.{Standing}
-use Rattle.mobile_core.specs.Close.{AreClose, legs_close, legs_rows, paths_close, places_in}
-use Rattle.mobile_core.specs.Legs.{all_fingers, legs_of}
-use Rattle.mobile_core.specs.Moments.{moment_place}
-use Rattle.mobile_core.specs.SetsKeeping.{IsSoundKeeper, coming_place}
-use Rattle.mobile_core.specs.Streams.{frame_end}
-use Rattle.mobile_core.specs.TrafficReceiving.{HearsWith, IsSoundTraffic, fingers_in}
-use Rattle.mobile_core.specs.Tuning.{Tuning}
-use Rattle.mobile_core.specs.declared.event.Event.{Event}
-use Rattle.mobile_core.specs.declared.legs.Leg.{Leg}
-use Rattle.mobile_core.specs.declared.mark.Mark.{Mark}
-use Rattle.mobile_core.specs.declared.sets_keeper.SetsKeeper.{SetsKeeper}
-use Rattle.chip_core.specs.declared.assignment.Traffic.{Traffic}
-use Rattle.mobile_core.specs.declared.spelled_signal.SpelledSignal.{SpelledSignal}
-use Rattle.mobile_core.specs.declared.traffic_receiver.TrafficReceiver.{TrafficReceiver}
+use Rattle.mobile_core.proofs.Common.{◌≡◌, ℕ, ◌+◌, ◌*◌, ◌^◌, ◌<◌, ◌≤◌, true, List, Bool, length, take, ℤ, sym, ap, ◌∙◌, arith, Option, None}
+use Rattle.mobile_core.proofs.Common.{subst, false, sum_by, unsigned_abs, if◌then◌else◌, PowerSofts, Finger, Data, Sample, Standing}
+use Rattle.mobile_core.proofs.Common.{AreClose, legs_close, legs_rows, paths_close, places_in, all_fingers, legs_of, moment_place}
+use Rattle.mobile_core.proofs.Common.{IsSoundKeeper, coming_place, frame_end, HearsWith, IsSoundTraffic, Tuning, Event, Leg, Mark}
+use Rattle.mobile_core.proofs.Common.{SetsKeeper, Traffic, SpelledSignal, TrafficReceiver}
+use Rattle.mobile_core.specs.TrafficReceiving.{fingers_in}
 use Rattle.mobile_core.proofs.CloseFingers.{close_ends, close_later}
 use Rattle.mobile_core.proofs.LegFingers.{all_some, legs_are_close}
 

@@ -1,14 +1,9 @@
 -- Where a frame's span begins and ends, and what is read of it, over any stream.
-use Rattle.std.proofs.Common.{◌≡◌, ℕ, zero, suc, ◌+◌, ◌-◌, ◌<◌, ◌≤◌, true, List, ◌++◌, length, refl, sym, ap, arith, inl, inr}
-use Rattle.std.proofs.lemmas.Bool.{cases_lt, cases_order}
-use Rattle.chip_core.specs.declared.sample.Sample.{Sample}
-use Rattle.frame_decoder.specs.Spans.{own_bits}
-use Rattle.mobile_core.specs.Scrambled.{unscrambled}
-use Rattle.mobile_core.specs.Streams.{Stream, frame_start, is_in_file, known_at, span_first, span_frames, frame_softs, frame_own_bits}
-use Rattle.mobile_core.specs.Timing.{stream_end, IsTimed}
-use Rattle.mobile_core.proofs.FrameTimes as times
-use Rattle.chip_core.proofs.Ranges.{flat_map_ext_places}
+use Rattle.mobile_core.proofs.Common.{◌≡◌, ℕ, zero, suc, ◌+◌, ◌-◌, ◌<◌, ◌≤◌, true, List, ◌++◌, length, refl, sym, ap, arith, inl, inr}
+use Rattle.mobile_core.proofs.Common.{cases_lt, cases_order, Sample, own_bits, unscrambled, Stream, frame_start, is_in_file, known_at}
+use Rattle.mobile_core.proofs.Common.{span_first, span_frames, frame_softs, frame_own_bits, stream_end, IsTimed, flat_map_ext_places}
 use Rattle.mobile_core.proofs.Sooner.{softs_sooner, all_fit}
+use Rattle.mobile_core.proofs.FrameTimes as times
 
 module _ {count low : ℕ} (s : Stream) (t : IsTimed count s low) where
   pub span_first_low : (k : ℕ) → k ≡ low → span_first count s k ≡ k

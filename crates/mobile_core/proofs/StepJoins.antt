@@ -1,13 +1,9 @@
 -- Steps of a handset that follow one another.
-use Rattle.std.proofs.Common.{◌≡◌, ℕ, ◌+◌, List, [], ◌++◌, length, length-append, length-take, length-drop, take, drop, sym, ap, ◌∙◌, subst}
-use Rattle.std.proofs.Common.{◌≤◌, arith, Option, Some, None, IfSome}
-use Rattle.std.proofs.lemmas.List.{append-nil, append_assoc}
-use Rattle.std.proofs.Math.Seq.{take-add}
-use Rattle.chip_core.specs.declared.sample.Sample.{Sample}
-use Rattle.mobile_core.specs.Given.{listed, at_of}
-use Rattle.mobile_core.specs.Standing.{StandsFor, Steps}
-use Rattle.mobile_core.specs.declared.event.Event.{Event}
-use Rattle.mobile_core.specs.declared.mobile.Mobile.{Mobile}
+use Rattle.mobile_core.proofs.Common.{◌≡◌, ℕ, ◌+◌, List, [], ◌++◌, length, length-append, length-take, length-drop, take, drop, sym, ap}
+use Rattle.mobile_core.proofs.Common.{◌∙◌, subst, ◌≤◌, arith, Option, Some, None, IfSome, append_assoc, take-add, Sample, listed, at_of}
+use Rattle.mobile_core.proofs.Common.{Steps, Event, Mobile}
+use Rattle.std.proofs.lemmas.List.{append-nil}
+use Rattle.mobile_core.specs.Standing.{StandsFor}
 
 pub one_or_none : (event : Option Event) → length (listed event) ≤ 1
 one_or_none None = omega arith

@@ -1,37 +1,13 @@
 -- What a handset stands for, step by step.
-use Rattle.std.proofs.Common.{◌≡◌, ℕ, ◌+◌, ◌<◌, ◌≤◌, false, ◌||◌, List, [], ◌∷◌, ◌++◌, length, length-append, refl, sym, ap, subst, ◌∙◌}
-use Rattle.std.proofs.Common.{arith, inl, inr, Option, Some, None, Bool, true}
-use Rattle.std.specs.Prelude.{IsTrue, is_some}
-use Rattle.std.specs.List.{flat_map, list_any}
-use Rattle.std.specs.Option.{ForSome, option_or}
-use Rattle.std.proofs.lemmas.Bool.{both_ways}
-use Rattle.std.proofs.lemmas.List.{append-nil, append_assoc}
-use Rattle.std.proofs.lemmas.List.Folds.{list_any-append}
-use Rattle.chip_core.proofs.Places.{places-none}
-use Rattle.chip_core.specs.declared.sample.Sample.{Sample}
-use Rattle.pilot_search.specs.declared.sweeping.Best.{Best}
-use Rattle.rake_finger.specs.Held.{Held, HoldsLast}
-use Rattle.mobile_core.specs.Clocks.{IsDueAt}
-use Rattle.mobile_core.specs.Events.{events_at, heard_within, events}
-use Rattle.mobile_core.specs.FollowedChannels.{HearsFollowed, IsFollowedDue, IsSoundFollowed, WaitFrom, followed_events_left}
-use Rattle.mobile_core.specs.Given.{listed}
-use Rattle.mobile_core.specs.Left.{pilot_left, sync_events_left}
-use Rattle.mobile_core.specs.Marks.{first_of, mark, mark_before, marks_at, sets_mark}
-use Rattle.mobile_core.specs.Near.{AreNear}
-use Rattle.mobile_core.specs.PagingMonitoring.{SetsMark, paging_events_left}
-use Rattle.mobile_core.specs.Sound.{IsSoundSync}
-use Rattle.mobile_core.specs.Standing.{Parts, Stands}
-use Rattle.mobile_core.specs.Streams.{is_in_file}
-use Rattle.mobile_core.specs.SyncEvents.{sync_events_at}
-use Rattle.mobile_core.specs.SyncReceiving.{HearsSync, HearsNext}
-use Rattle.mobile_core.specs.Timing.{IsTimed}
-use Rattle.mobile_core.specs.TrafficMonitoring.{traffic_events_left}
-use Rattle.mobile_core.specs.Tuning.{Tuning, sync_stream}
-use Rattle.mobile_core.specs.declared.event.Event.{Event}
-use Rattle.mobile_core.specs.declared.event.Event.TheVariants.{Pilot}
-use Rattle.mobile_core.specs.declared.followed.Followed.{Followed}
-use Rattle.mobile_core.specs.declared.mark.Mark.{Mark}
-use Rattle.mobile_core.specs.declared.sync_receiver.SyncReceiver.{SyncReceiver}
+use Rattle.mobile_core.proofs.Common.{◌≡◌, ℕ, ◌+◌, ◌<◌, ◌≤◌, false, ◌||◌, List, [], ◌∷◌, ◌++◌, length, length-append, refl, sym, ap, subst}
+use Rattle.mobile_core.proofs.Common.{◌∙◌, arith, inl, inr, Option, Some, None, Bool, true, IsTrue, is_some, flat_map, list_any, ForSome}
+use Rattle.mobile_core.proofs.Common.{option_or, both_ways, append_assoc, list_any-append, places-none, Sample, Best, Held, HoldsLast}
+use Rattle.mobile_core.proofs.Common.{IsDueAt, events_at, heard_within, events, HearsFollowed, IsFollowedDue, IsSoundFollowed, WaitFrom}
+use Rattle.mobile_core.proofs.Common.{followed_events_left, listed, pilot_left, sync_events_left, first_of, mark, mark_before, marks_at}
+use Rattle.mobile_core.proofs.Common.{sets_mark, AreNear, SetsMark, paging_events_left, IsSoundSync, Parts, Stands, is_in_file}
+use Rattle.mobile_core.proofs.Common.{sync_events_at, HearsSync, HearsNext, IsTimed, traffic_events_left, Tuning, sync_stream, Event, Pilot}
+use Rattle.mobile_core.proofs.Common.{Followed, Mark, SyncReceiver, flat_map-places-more}
+use Rattle.std.proofs.lemmas.List.{append-nil}
 use Rattle.mobile_core.proofs.ChannelsFollowed.{EndFrom, followed_behind, followed_given, followed_more}
 use Rattle.mobile_core.proofs.ClockSteps.{before_next, from_next, due_inside}
 use Rattle.mobile_core.proofs.EventsGrown.{events_at_by, events_grown}
@@ -39,9 +15,8 @@ use Rattle.mobile_core.proofs.FrameTimes.{known_between, outside_low}
 use Rattle.mobile_core.proofs.Growth.{left_all, left_none}
 use Rattle.mobile_core.proofs.MarkGrowth.{mark_before_more, mark_before_none, mark_is}
 use Rattle.mobile_core.proofs.MarkLater.{opens_later}
-use Rattle.chip_core.proofs.Ranges.{flat_map-places-more}
-use Rattle.mobile_core.proofs.SyncHeard as sync
 use Rattle.mobile_core.proofs.FramesFollowed.{told_unset}
+use Rattle.mobile_core.proofs.SyncHeard as sync
 
 or-false : (b : Bool) → (b || false) ≡ b
 or-false true = refl

@@ -1,36 +1,19 @@
 -- What the receiver of the sync channel stands for, step by step.
-use Rattle.std.proofs.Common.{◌≡◌, ℕ, zero, suc, ◌+◌, ◌-◌, ◌<◌, ◌≤◌, Bool, true, false, ◌||◌, ◌==◌, List, [], ◌∷◌, ◌++◌, map, length, refl}
-use Rattle.std.proofs.Common.{sym, ap, ◌∙◌, arith, ◌⊎◌, inl, inr, Option, Some, None, slice_get}
-use Rattle.std.specs.Prelude.{is_some}
-use Rattle.std.specs.List.{list_any}
-use Rattle.std.specs.Option.{option_or}
-use Rattle.std.proofs.lemmas.Bool.{cases_lt, cases_Bool}
-use Rattle.chip_core.specs.declared.sample.Sample.{Sample}
-use Rattle.quality_bits.specs.Pieces.{piece, capsule_ending}
-use Rattle.sync_message.specs.Framing as framing
-use Rattle.mobile_core.specs.Clocks.{IsDueAt, frame_heard}
-use Rattle.mobile_core.specs.Given.{listed}
-use Rattle.mobile_core.specs.Left.{sync_events_left}
-use Rattle.mobile_core.specs.Marks.{frames_open, frames_with, first_of, marks_of, marks_at, mark, mark_before, sets_mark}
-use Rattle.mobile_core.specs.Progress.{IsReached, IsDue}
-use Rattle.mobile_core.specs.Receiving.{Receives}
-use Rattle.mobile_core.specs.Streams.{frame_start, frame_own_bits, is_in_file}
-use Rattle.mobile_core.specs.SyncEvents.{frames_before, sync_capsule_at, heard_in, heard_at, events_of}
-use Rattle.mobile_core.specs.SyncReceiving.{HearsSync, HearsNext}
-use Rattle.mobile_core.specs.Timing.{IsTimed, stream_end}
-use Rattle.mobile_core.specs.Tuning.{Tuning, sync_stream}
-use Rattle.mobile_core.specs.declared.continued.Continued.{Continued}
-use Rattle.mobile_core.specs.declared.event.Event.{Event}
-use Rattle.mobile_core.specs.declared.mark.Mark.{Mark}
-use Rattle.mobile_core.specs.declared.spelled_message.SpelledMessage.{SpelledMessage}
-use Rattle.mobile_core.specs.declared.sync_receiver.SyncReceiver.{SyncReceiver}
+use Rattle.mobile_core.proofs.Common.{◌≡◌, ℕ, zero, suc, ◌+◌, ◌-◌, ◌<◌, ◌≤◌, Bool, true, false, ◌||◌, ◌==◌, List, [], ◌∷◌, ◌++◌, map}
+use Rattle.mobile_core.proofs.Common.{length, refl, sym, ap, ◌∙◌, arith, ◌⊎◌, inl, inr, Option, Some, None, slice_get, is_some, list_any}
+use Rattle.mobile_core.proofs.Common.{option_or, cases_lt, cases_Bool, Sample, piece, capsule_ending, IsDueAt, frame_heard, listed}
+use Rattle.mobile_core.proofs.Common.{sync_events_left, frames_open, frames_with, first_of, marks_of, marks_at, mark, mark_before}
+use Rattle.mobile_core.proofs.Common.{sets_mark, IsReached, IsDue, Receives, frame_start, frame_own_bits, is_in_file, frames_before}
+use Rattle.mobile_core.proofs.Common.{sync_capsule_at, heard_in, heard_at, events_of, HearsSync, HearsNext, IsTimed, stream_end, Tuning}
+use Rattle.mobile_core.proofs.Common.{sync_stream, Continued, Event, Mark, SpelledMessage, SyncReceiver}
 use Rattle.mobile_core.proofs.ClockSteps.{due_inside, due_known, before_next}
 use Rattle.mobile_core.proofs.FrameTimes.{outside_low}
 use Rattle.mobile_core.proofs.Growth.{frames_before_sooner, frames_before_more, frames_before_none, left_next}
 use Rattle.mobile_core.proofs.MarkGrowth.{mark_is, mark_before_none, mark_before_more, mark_before_sooner}
 use Rattle.mobile_core.proofs.Opened.{frames_open-none, frames_open-more}
-use Rattle.mobile_core.proofs.Progresses as progress
 use Rattle.mobile_core.proofs.Received.{receives_more, receives_heard}
+use Rattle.sync_message.specs.Framing as framing
+use Rattle.mobile_core.proofs.Progresses as progress
 
 -- what is told sets the mark exactly where its event says so
 pub noted_event : (told : Option SpelledMessage) (first n : ℕ) →

@@ -1,27 +1,12 @@
 -- How the frames of a traffic channel and the messages that they complete grow together.
-use Rattle.std.proofs.Common.{◌≡◌, ℕ, zero, suc, ◌+◌, ◌<◌, ◌≤◌, true, List, [], ◌∷◌, ◌++◌, length, refl, arith, Some, map, ap, ◌∙◌}
-use Rattle.std.proofs.Common.{append-nil, take}
-use Rattle.std.specs.List.{flat_map}
-use Rattle.chip_core.specs.Bits.{places}
-use Rattle.chip_core.specs.declared.sample.Sample.{Sample}
-use Rattle.pilot_sets.specs.Standing.{Standing}
-use Rattle.mobile_core.specs.Moments.{heard_from, legs_by, moment_place, told_by}
-use Rattle.mobile_core.specs.Noted.{all_noted}
-use Rattle.mobile_core.specs.PagingEvents.{page_event, pages_behind}
-use Rattle.mobile_core.specs.Signaling.{messages_by}
-use Rattle.mobile_core.specs.TrafficEvents.{frames_by}
-use Rattle.mobile_core.specs.TrafficReceiving.{frames_left_of, messages_left_of}
-use Rattle.mobile_core.specs.TrafficStreams.{frame_known, has_frame}
-use Rattle.mobile_core.specs.Tuning.{Tuning}
-use Rattle.mobile_core.specs.declared.event.Event.{Event}
-use Rattle.mobile_core.specs.declared.legs.Leg.{Leg}
-use Rattle.mobile_core.specs.declared.mark.Mark.{Mark}
-use Rattle.chip_core.specs.declared.assignment.Traffic.{Traffic}
+use Rattle.mobile_core.proofs.Common.{◌≡◌, ℕ, zero, suc, ◌+◌, ◌<◌, ◌≤◌, true, List, [], ◌∷◌, ◌++◌, length, refl, arith, Some, map, ap, ◌∙◌}
+use Rattle.mobile_core.proofs.Common.{append-nil, take, flat_map, places, Sample, Standing, heard_from, legs_by, moment_place, told_by}
+use Rattle.mobile_core.proofs.Common.{all_noted, page_event, pages_behind, messages_by, frames_by, frames_left_of, messages_left_of}
+use Rattle.mobile_core.proofs.Common.{frame_known, has_frame, Tuning, Event, Leg, Mark, Traffic, flat_map-places-more, flat_map_ext_places}
 use Rattle.mobile_core.proofs.FrameBounds.{AreCloseAll, known_later}
 use Rattle.mobile_core.proofs.FrameGrowth.{frames_left_all, frames_left_none, frames_none}
 use Rattle.mobile_core.proofs.MessageGrowth.{messages_left_all, messages_left_none, messages_none}
 use Rattle.mobile_core.proofs.MomentGrowth.{first_same, noted-append}
-use Rattle.chip_core.proofs.Ranges.{flat_map-places-more, flat_map_ext_places}
 
 -- what is heard of the channel when just n samples have been taken: frames first
 abbrev pub told_at : Tuning → Traffic → Mark → (ℕ → List Leg) → List Sample → ℕ → List Event

@@ -1,8 +1,6 @@
 -- Soft values turned one by one.
-use Rattle.std.proofs.Common.{◌≡◌, ℕ, zero, suc, ◌+◌, ◌<◌, Bool, false, List, [], ◌∷◌, ◌++◌, length, take, drop, refl, ap, ◌∙◌, arith, ℤ}
-use Rattle.std.proofs.Common.{pos, ◌*ℤ◌, get_or, slice_set}
-use Rattle.chip_core.specs.Bits.{sign}
-use Rattle.mobile_core.specs.Scrambled.{turned}
+use Rattle.mobile_core.proofs.Common.{◌≡◌, ℕ, zero, suc, ◌+◌, ◌<◌, Bool, false, List, [], ◌∷◌, ◌++◌, length, take, drop, refl, ap, ◌∙◌}
+use Rattle.mobile_core.proofs.Common.{arith, ℤ, pos, ◌*ℤ◌, get_or, slice_set, sign, turned}
 
 -- the value at a place, where those before it have been turned
 pub still : (bits : List Bool) (old : List ℤ) (i : ℕ) → i < length bits → i < length old →

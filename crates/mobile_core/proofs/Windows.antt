@@ -1,8 +1,7 @@
 -- Search windows are even, and none is wider than 452 chips.
-use Rattle.std.proofs.Common.{◌≡◌, ℕ, zero, suc, ◌%◌, ◌≤◌, ◌==◌, ◌&&◌, Bool, true, List, [], ◌∷◌, get_or, refl, nat_le}
-use Rattle.std.specs.List.{list_all}
-use Rattle.std.proofs.lemmas.Bool.{and_parts, eqb-true, leb-true}
-use Rattle.pilot_sets.specs.Tables.{window_chips, windows}
+use Rattle.mobile_core.proofs.Common.{◌≡◌, ℕ, zero, suc, ◌%◌, ◌≤◌, ◌==◌, ◌&&◌, Bool, true, List, [], ◌∷◌, get_or, refl, nat_le, list_all}
+use Rattle.mobile_core.proofs.Common.{and_parts, eqb-true, leb-true, windows}
+use Rattle.pilot_sets.specs.Tables.{window_chips}
 
 abbrev is_window : ℕ → Bool
 is_window w = w % 2 == 0 && nat_le w 452

@@ -1,24 +1,16 @@
 -- Which bodies are those of messages.
-use Rattle.std.proofs.Common.{◌≡◌, ◌≢◌, ℕ, zero, suc, ◌+◌, ◌-◌, ◌*◌, ◌/◌, ◌%◌, ◌^◌, ◌<◌, ◌≤◌, ◌==◌, Bool, true, false, List, [], ◌∷◌, ◌++◌, length, take, drop, refl, sym, ap, subst, ◌∙◌, arith, length-drop, nat_le, inl, inr}
-use Rattle.std.proofs.lemmas.Bool.{and_parts, and_from, cases_Bool, le-leb, leb-true, eqb-true, eqb-false, eq-eqb, ne_eqb}
-use Rattle.chip_core.specs.Bits.{number, binary}
-use Rattle.chip_core.specs.Fields.{field, spelled, FieldsFit}
-use Rattle.chip_core.proofs.ValueLists.{dropped, front, values_there}
-use Rattle.quality_bits.specs.Capsules.{FillsCapsule}
-use Rattle.quality_bits.specs.declared.kind.Kind.TheVariants.{M30}
-use Rattle.paging_message.specs.Admitted.{admits, HasMessage}
-use Rattle.paging_message.specs.Channels.{channel_records}
-use Rattle.paging_message.specs.Messages.{message_body, IsPagingMessage}
-use Rattle.paging_message.specs.Neighbors.{neighbor_records}
-use Rattle.paging_message.specs.Reading as reading
-use Rattle.paging_message.specs.System.{system_of, system_values}
-use Rattle.paging_message.specs.Widths.{in_widths, system_widths}
-use Rattle.paging_message.specs.declared.message.PagingMessage.{PagingMessage}
-use Rattle.paging_message.specs.declared.message.PagingMessage.TheVariants as messages
+use Rattle.paging_message.proofs.Common.{◌≡◌, ◌≢◌, ℕ, zero, suc, ◌+◌, ◌-◌, ◌*◌, ◌/◌, ◌%◌, ◌^◌, ◌<◌, ◌≤◌, ◌==◌, Bool, true, false, List, []}
+use Rattle.paging_message.proofs.Common.{◌∷◌, ◌++◌, length, take, drop, refl, sym, ap, subst, ◌∙◌, arith, length-drop, nat_le, inl, inr}
+use Rattle.paging_message.proofs.Common.{and_parts, and_from, cases_Bool, le-leb, leb-true, eqb-true, eqb-false, eq-eqb, ne_eqb, number}
+use Rattle.paging_message.proofs.Common.{binary, field, spelled, FieldsFit, dropped, front, values_there, FillsCapsule, M30, admits}
+use Rattle.paging_message.proofs.Common.{HasMessage, channel_records, message_body, IsPagingMessage, neighbor_records, system_of}
+use Rattle.paging_message.proofs.Common.{system_values, in_widths, system_widths, PagingMessage}
 use Rattle.paging_message.proofs.Bodies.{kind_body, length-body}
 use Rattle.paging_message.proofs.Others.{other_read}
 use Rattle.paging_message.proofs.Records.{channel_read, neighbor_read, read_cons, widths-channels, widths-neighbors}
 use Rattle.paging_message.proofs.Systems.{system_read}
+use Rattle.paging_message.specs.Reading as reading
+use Rattle.paging_message.specs.declared.message.PagingMessage.TheVariants as messages
 
 freqs_there : (n : ℕ) (bits : List Bool) → 11 * n ≤ length bits →
     FieldsFit (channel_records (reading.freqs_at n bits))

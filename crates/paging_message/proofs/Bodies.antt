@@ -1,14 +1,8 @@
 -- Bodies of messages: fields, and the bits behind them.
-use Rattle.std.proofs.Common.{◌≡◌, ℕ, ◌+◌, ◌^◌, ◌<◌, ◌≤◌, Bool, List, [], ◌∷◌, ◌++◌, length, map, take, refl, sym, ap, subst, ◌∙◌, arith, append_assoc, length-append}
-use Rattle.std.proofs.lemmas.List.{take_at}
-use Rattle.chip_core.specs.Bits.{binary, number}
-use Rattle.chip_core.specs.Fields.{field, spelled, FieldsFit}
-use Rattle.chip_core.specs.declared.field.Field.{Field}
-use Rattle.chip_core.proofs.Digits.{number-binary}
-use Rattle.chip_core.proofs.FieldLists.{length-binary, spelled-append, spelled_injective}
-use Rattle.quality_bits.specs.Capsules.{FillsCapsule}
-use Rattle.quality_bits.specs.declared.kind.Kind.TheVariants.{M30}
-use Rattle.paging_message.specs.Spelling.{body_of_fields, IsSpelled}
+use Rattle.paging_message.proofs.Common.{◌≡◌, ℕ, ◌+◌, ◌^◌, ◌<◌, ◌≤◌, Bool, List, [], ◌∷◌, ◌++◌, length, map, take, refl, sym, ap, subst}
+use Rattle.paging_message.proofs.Common.{◌∙◌, arith, append_assoc, length-append, take_at, binary, number, field, spelled, FieldsFit, Field}
+use Rattle.paging_message.proofs.Common.{number-binary, length-binary, spelled-append, spelled_injective, FillsCapsule, M30, body_of_fields}
+use Rattle.paging_message.proofs.Common.{IsSpelled}
 
 -- how many bits fields have
 abbrev pub widths : List Field → ℕ

@@ -1,19 +1,15 @@
 -- What laid capsules carry: a framer that takes what a layout lays.
-use Rattle.std.proofs.Common.{◌≡◌, ℕ, zero, suc, ◌+◌, ◌-◌, ◌*◌, ◌%◌, ◌<◌, ◌≤◌, ◌==◌, if◌then◌else◌, Bool, true, false, cond, List, [], ◌∷◌, ◌++◌, length, map, take, replicate, refl, sym, ap, subst, ◌∙◌, arith, append_assoc, length-append, nat_le, inl, inr, Option, Some, None}
-use Rattle.std.specs.Prelude.{IsTrue}
-use Rattle.std.specs.List.{flat_map}
-use Rattle.std.specs.Option.{option_to_list}
-use Rattle.std.proofs.lemmas.Bool.{cases_lt, cases_Bool, ne_eqb, lt-ltb, le-leb, eqb-true, eqb-false, false_from_ne_true}
-use Rattle.std.proofs.lemmas.List.{append-nil, take-append-le, take_all, replicate-append-replicate}
-use Rattle.chip_core.specs.Bits.{number, places}
-use Rattle.quality_bits.specs.Capsules.{stated_bits, is_stated, front_capsule, awaits_more, still_open, continued, completed, IsWhole}
-use Rattle.quality_bits.proofs.Opened as opened
-use Rattle.quality_bits.specs.declared.rate.Rate.{Rate}
-use Rattle.quality_bits.specs.declared.rate.Rate.TheVariants.{R9600, R4800, R2400, R1200}
-use Rattle.paging_message.specs.HalfFrames.{bits_left, capsules_in, half_frame_body, half_frame_capsule_ending, half_under_way}
-use Rattle.paging_message.specs.Laying as laying
+use Rattle.paging_message.proofs.Common.{◌≡◌, ℕ, zero, suc, ◌+◌, ◌-◌, ◌*◌, ◌%◌, ◌<◌, ◌≤◌, ◌==◌, if◌then◌else◌, Bool, true, false, cond}
+use Rattle.paging_message.proofs.Common.{List, [], ◌∷◌, ◌++◌, length, map, take, replicate, refl, sym, ap, subst, ◌∙◌, arith, append_assoc}
+use Rattle.paging_message.proofs.Common.{length-append, nat_le, inl, inr, Option, Some, None, IsTrue, flat_map, option_to_list, cases_lt}
+use Rattle.paging_message.proofs.Common.{cases_Bool, ne_eqb, lt-ltb, le-leb, eqb-true, eqb-false, false_from_ne_true, append-nil}
+use Rattle.paging_message.proofs.Common.{take-append-le, take_all, replicate-append-replicate, number, places, stated_bits, is_stated}
+use Rattle.paging_message.proofs.Common.{front_capsule, awaits_more, still_open, continued, completed, IsWhole, Rate, R9600, R4800, R2400}
+use Rattle.paging_message.proofs.Common.{R1200, bits_left, capsules_in, half_frame_body, half_frame_capsule_ending, half_under_way}
 use Rattle.paging_message.proofs.Chains.{after}
 use Rattle.paging_message.proofs.Cutting.{sci_opens, sci_ends, body_step, place_more, place_over, nothing_open, nothing_placed}
+use Rattle.quality_bits.proofs.Opened as opened
+use Rattle.paging_message.specs.Laying as laying
 use Rattle.paging_message.proofs.Layings as layings
 
 -- BIT BY BIT

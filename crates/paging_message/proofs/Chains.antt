@@ -1,10 +1,10 @@
 -- Capsules that follow one another: what one more bit ends, and what is open behind it.
-use Rattle.std.proofs.Common.{◌≡◌, ℕ, zero, suc, ◌+◌, ◌-◌, ◌<◌, ◌≤◌, ◌&&◌, Bool, true, false, cond, List, [], ◌∷◌, ◌++◌, length, drop, refl, sym, ap, ◌∙◌, arith, length-append, length-drop, nat_le, inl, inr, Option, Some, None}
-use Rattle.std.proofs.lemmas.Bool.{cases_Bool, le-leb, lt-leb, leb-true, and_parts, false_from_ne_true}
-use Rattle.std.proofs.lemmas.List.{drop-append-le, take_all, drop_all}
-use Rattle.quality_bits.specs.Capsules.{stated_bits, is_stated, front_capsule, awaits_more, still_open, continued, completed}
+use Rattle.paging_message.proofs.Common.{◌≡◌, ℕ, zero, suc, ◌+◌, ◌-◌, ◌<◌, ◌≤◌, ◌&&◌, Bool, true, false, cond, List, [], ◌∷◌, ◌++◌, length}
+use Rattle.paging_message.proofs.Common.{drop, refl, sym, ap, ◌∙◌, arith, length-append, length-drop, nat_le, inl, inr, Option, Some, None}
+use Rattle.paging_message.proofs.Common.{cases_Bool, le-leb, lt-leb, leb-true, and_parts, false_from_ne_true, drop-append-le, take_all}
+use Rattle.paging_message.proofs.Common.{drop_all, stated_bits, is_stated, front_capsule, awaits_more, still_open, continued, completed}
+use Rattle.paging_message.proofs.Common.{bits_left, ends_chain, open_chain}
 use Rattle.quality_bits.proofs.Opened as opened
-use Rattle.paging_message.specs.HalfFrames.{bits_left, ends_chain, open_chain}
 
 -- the test of the definitions: a capsule at the front, all of it there
 abbrev pub is_there : List Bool → Bool

@@ -1,17 +1,13 @@
 -- One more bit of a stream of half-frames.
-use Rattle.std.proofs.Common.{◌≡◌, ℕ, zero, suc, ◌+◌, ◌-◌, ◌*◌, ◌/◌, ◌%◌, ◌<◌, ◌≤◌, ◌==◌, Bool, true, false, cond, List, [], ◌∷◌, ◌++◌, length, map, take, drop, refl, sym, ap, ◌∙◌, arith, append_assoc, length-append, length-drop, nat_lt, nat_le, if◌then◌else◌, inl, inr, Option, Some, None}
-use Rattle.std.specs.Prelude.{IsTrue, IsSome, ◌↔◌}
-use Rattle.std.proofs.lemmas.Bool.{cases_lt, lt-ltb, eq-eqb, ne_eqb}
-use Rattle.std.proofs.lemmas.Grind.{flat_map-append}
-use Rattle.std.proofs.lemmas.List.{append-nil, length-take-le, take-append-drop, take-append-le, drop-append-le, drop_at, take_all}
-use Rattle.std.proofs.lemmas.Nat.{div-mul-add, mod-mul-add}
-use Rattle.std.proofs.Math.Nat.{div-add-mod, mod_self, mul-add-mod_self_left, mul-le-mul_left}
-use Rattle.chip_core.specs.Bits.{places}
-use Rattle.chip_core.proofs.Places.{map-places-more, places-none}
-use Rattle.quality_bits.specs.Capsules.{completed, continued}
-use Rattle.quality_bits.specs.Pieces.{Piece, piece, bodies, from_last_start}
-use Rattle.paging_message.specs.HalfFrames as halves
+use Rattle.paging_message.proofs.Common.{◌≡◌, ℕ, zero, suc, ◌+◌, ◌-◌, ◌*◌, ◌/◌, ◌%◌, ◌<◌, ◌≤◌, ◌==◌, Bool, true, false, cond, List, [], ◌∷◌}
+use Rattle.paging_message.proofs.Common.{◌++◌, length, map, take, drop, refl, sym, ap, ◌∙◌, arith, append_assoc, length-append, length-drop}
+use Rattle.paging_message.proofs.Common.{nat_lt, nat_le, if◌then◌else◌, inl, inr, Option, Some, None, IsTrue, IsSome, ◌↔◌, cases_lt, lt-ltb}
+use Rattle.paging_message.proofs.Common.{eq-eqb, ne_eqb, flat_map-append, append-nil, length-take-le, take-append-drop, take-append-le}
+use Rattle.paging_message.proofs.Common.{drop-append-le, drop_at, take_all, div-mul-add, mod-mul-add, div-add-mod, mod_self}
+use Rattle.paging_message.proofs.Common.{mul-add-mod_self_left, mul-le-mul_left, places, map-places-more, places-none, completed, continued}
+use Rattle.paging_message.proofs.Common.{Piece, piece, bodies, from_last_start}
 use Rattle.paging_message.proofs.Chains.{ends_more, after, step, open_more, open_none, open_fuel}
+use Rattle.paging_message.specs.HalfFrames as halves
 
 -- HALF-FRAMES
 abbrev pub part : ℕ → List Bool → ℕ → Piece

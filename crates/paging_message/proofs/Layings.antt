@@ -1,16 +1,11 @@
 -- Bits laid in half-frames, one after another.
-use Rattle.std.proofs.Common.{◌≡◌, ℕ, zero, suc, ◌+◌, ◌-◌, ◌*◌, ◌/◌, ◌%◌, ◌<◌, ◌≤◌, ◌==◌, ◌||◌, if◌then◌else◌, Bool, true, false, cond, List, [], ◌∷◌, ◌++◌, length, take, drop, replicate, refl, sym, ap, ◌∙◌, arith, append_assoc, length-append, length-drop, not, inl, inr}
-use Rattle.std.specs.Prelude.{IsTrue}
-use Rattle.std.specs.List.{flat_map, list_any}
-use Rattle.std.proofs.lemmas.Bool.{cases_lt, cases_Bool, eq-eqb, eqb-true, eqb-false, ne_eqb}
-use Rattle.std.proofs.lemmas.Grind.{flat_map-append}
-use Rattle.std.proofs.lemmas.List.{append-nil, length-take-le, take-append-drop, take-append-le, drop-append-le, drop_at, take_all, length-replicate, replicate-append-replicate}
-use Rattle.std.proofs.lemmas.List.Folds.{list_any-append}
-use Rattle.std.proofs.lemmas.Nat.{div-mul-add, mod-mul-add}
-use Rattle.std.proofs.Math.Nat.{div-add-mod, mod-lt, mod_self, mul-le-mul_left}
-use Rattle.chip_core.specs.Bits.{places}
-use Rattle.chip_core.proofs.Places.{places-more, places-none}
-use Rattle.paging_message.specs.HalfFrames.{bits_left}
+use Rattle.paging_message.proofs.Common.{◌≡◌, ℕ, zero, suc, ◌+◌, ◌-◌, ◌*◌, ◌/◌, ◌%◌, ◌<◌, ◌≤◌, ◌==◌, ◌||◌, if◌then◌else◌, Bool, true, false}
+use Rattle.paging_message.proofs.Common.{cond, List, [], ◌∷◌, ◌++◌, length, take, drop, replicate, refl, sym, ap, ◌∙◌, arith, append_assoc}
+use Rattle.paging_message.proofs.Common.{length-append, length-drop, not, inl, inr, IsTrue, flat_map, list_any, cases_lt, cases_Bool}
+use Rattle.paging_message.proofs.Common.{eq-eqb, eqb-true, eqb-false, ne_eqb, flat_map-append, append-nil, length-take-le, take-append-drop}
+use Rattle.paging_message.proofs.Common.{take-append-le, drop-append-le, drop_at, take_all, length-replicate, replicate-append-replicate}
+use Rattle.paging_message.proofs.Common.{list_any-append, div-mul-add, mod-mul-add, div-add-mod, mod-lt, mod_self, mul-le-mul_left, places}
+use Rattle.paging_message.proofs.Common.{places-more, places-none, bits_left}
 use Rattle.paging_message.specs.Laying as laying
 
 -- LISTS BY NUMBER

@@ -2,6 +2,7 @@ pub mod Admitting
 pub mod Bodies
 pub mod Carried
 pub mod Chains
+pub mod Common
 pub mod Cutting
 pub mod Layings
 pub mod Messages

@@ -1,29 +1,15 @@
 -- Which messages have a body of a type.
-use Rattle.std.proofs.Common.{◌≡◌, ◌≢◌, ℕ, ◌^◌, ◌<◌, ◌≤◌, Bool, List, [], ◌∷◌, ◌++◌, length, refl, sym, ap, ◌∙◌, arith}
-use Rattle.chip_core.specs.Bits.{binary}
-use Rattle.chip_core.specs.Fields.{field, spelled}
-use Rattle.chip_core.specs.declared.field.Field.{Field}
-use Rattle.chip_core.specs.declared.check_form.CheckForm.{CheckForm}
-use Rattle.quality_bits.specs.Capsules.{FillsCapsule, capsule}
-use Rattle.quality_bits.specs.declared.kind.Kind.TheVariants.{M30}
-use Rattle.quality_bits.proofs.Wholes.{inner, inner-capsule}
-use Rattle.paging_message.specs.Channels.{channel_body, channel_records, IsChannelList}
-use Rattle.paging_message.specs.Messages.{message_body, IsPagingMessage, paging_capsule}
-use Rattle.paging_message.specs.Neighbors.{neighbor_body, neighbor_records, IsNeighborList}
-use Rattle.paging_message.specs.Others.{other_body, IsOther}
-use Rattle.paging_message.specs.Spelling.{body_of_fields}
-use Rattle.paging_message.specs.System.{system_body, system_values, IsSystem}
-use Rattle.paging_message.specs.Widths.{in_widths, system_widths}
-use Rattle.paging_message.specs.declared.fields.ChannelFields.{ChannelFields}
-use Rattle.paging_message.specs.declared.fields.NeighborFields.{NeighborFields}
-use Rattle.paging_message.specs.declared.fields.OtherFields.{OtherFields}
-use Rattle.paging_message.specs.declared.fields.SystemFields.{SystemFields}
-use Rattle.paging_message.specs.declared.message.PagingMessage.{PagingMessage}
-use Rattle.paging_message.specs.declared.message.PagingMessage.TheVariants as messages
+use Rattle.paging_message.proofs.Common.{◌≡◌, ◌≢◌, ℕ, ◌^◌, ◌<◌, ◌≤◌, Bool, List, [], ◌∷◌, ◌++◌, length, refl, sym, ap, ◌∙◌, arith, binary}
+use Rattle.paging_message.proofs.Common.{field, spelled, Field, CheckForm, FillsCapsule, capsule, M30, inner, inner-capsule, channel_body}
+use Rattle.paging_message.proofs.Common.{channel_records, IsChannelList, message_body, IsPagingMessage, paging_capsule, neighbor_body}
+use Rattle.paging_message.proofs.Common.{neighbor_records, IsNeighborList, other_body, IsOther, body_of_fields, system_body, system_values}
+use Rattle.paging_message.proofs.Common.{IsSystem, in_widths, system_widths, ChannelFields, NeighborFields, OtherFields, SystemFields}
+use Rattle.paging_message.proofs.Common.{PagingMessage}
 use Rattle.paging_message.proofs.Bodies.{body_from, length-body, same_kind}
 use Rattle.paging_message.proofs.Others.{other_injective}
 use Rattle.paging_message.proofs.Records.{channel_injective, neighbor_injective}
 use Rattle.paging_message.proofs.Systems.{system_injective}
+use Rattle.paging_message.specs.declared.message.PagingMessage.TheVariants as messages
 
 pub message_fills : (m : PagingMessage) → IsPagingMessage m → FillsCapsule M30 (message_body m)
 message_fills (messages.System m) is = is.fills

@@ -1,13 +1,6 @@
 -- Messages of other types.
-use Rattle.std.proofs.Common.{◌≡◌, ◌≢◌, ℕ, ◌^◌, ◌<◌, Bool, List, [], ◌∷◌, ◌++◌, refl, sym, ap, ◌∙◌}
-use Rattle.std.proofs.lemmas.List.{append-nil}
-use Rattle.chip_core.specs.Bits.{binary}
-use Rattle.chip_core.specs.declared.field.Field.{Field}
-use Rattle.quality_bits.specs.Capsules.{FillsCapsule}
-use Rattle.quality_bits.specs.declared.kind.Kind.TheVariants.{M30}
-use Rattle.paging_message.specs.Others.{other_fields, other_body, IsOther}
-use Rattle.paging_message.specs.Spelling.{body_of_fields}
-use Rattle.paging_message.specs.declared.fields.OtherFields.{OtherFields}
+use Rattle.paging_message.proofs.Common.{◌≡◌, ◌≢◌, ℕ, ◌^◌, ◌<◌, Bool, List, [], ◌∷◌, ◌++◌, refl, sym, ap, ◌∙◌, append-nil, binary, Field}
+use Rattle.paging_message.proofs.Common.{FillsCapsule, M30, other_fields, other_body, IsOther, body_of_fields, OtherFields}
 use Rattle.paging_message.proofs.Bodies.{body_from, read_spelled, same_spelling}
 
 pub other_written : (m : OtherFields) (typed body : List Bool) → typed ≡ [] ++ binary 8 m.kind →

@@ -1,20 +1,12 @@
 -- Bodies and capsules read as messages.
-use Rattle.std.proofs.Common.{◌≡◌, ℕ, ◌-◌, ◌%◌, ◌==◌, ◌&&◌, Bool, true, List, length, take, drop, refl, sym, ap, subst, ◌∙◌, arith, nat_le, inl, inr, Option, Some, None, Result, Ok, Err}
-use Rattle.std.specs.Prelude.{IfOk}
-use Rattle.std.proofs.lemmas.Bool.{and_parts, and_from, cases_Bool, eqb-true, eq-eqb, le-leb, leb-true}
-use Rattle.chip_core.specs.Bits.{number}
-use Rattle.chip_core.proofs.BitLists.{same_from, same_refl}
-use Rattle.chip_core.specs.declared.check_form.CheckForm.{CheckForm}
-use Rattle.quality_bits.specs.Capsules.{FillsCapsule, capsule}
-use Rattle.quality_bits.specs.declared.kind.Kind.TheVariants.{M30}
-use Rattle.quality_bits.proofs.Wholes.{inner-capsule}
-use Rattle.paging_message.specs.Admitted.{admits}
-use Rattle.paging_message.specs.Messages.{message_body, IsPagingMessage, paging_capsule}
-use Rattle.paging_message.specs.Reading as reading
-use Rattle.paging_message.specs.declared.fault.MessageFault.{MessageFault}
-use Rattle.paging_message.specs.declared.message.PagingMessage.{PagingMessage}
+use Rattle.paging_message.proofs.Common.{◌≡◌, ℕ, ◌-◌, ◌%◌, ◌==◌, ◌&&◌, Bool, true, List, length, take, drop, refl, sym, ap, subst, ◌∙◌}
+use Rattle.paging_message.proofs.Common.{arith, nat_le, inl, inr, Option, Some, None, Result, Ok, Err, IfOk, and_parts, and_from}
+use Rattle.paging_message.proofs.Common.{cases_Bool, eqb-true, eq-eqb, le-leb, leb-true, number, same_from, same_refl, CheckForm}
+use Rattle.paging_message.proofs.Common.{FillsCapsule, capsule, M30, inner-capsule, admits, message_body, IsPagingMessage, paging_capsule}
+use Rattle.paging_message.proofs.Common.{MessageFault, PagingMessage}
 use Rattle.paging_message.proofs.Admitting.{admits_eight, message_admits, message_of, spelled_so}
 use Rattle.paging_message.proofs.Messages.{message_fills, message_injective}
+use Rattle.paging_message.specs.Reading as reading
 
 -- THE TEST
 body_from : (body : List Bool) → reading.is_body body ≡ true →

@@ -1,18 +1,11 @@
 -- Lists of records: frequencies, and neighbors.
-use Rattle.std.proofs.Common.{◌≡◌, ℕ, zero, suc, ◌+◌, ◌*◌, ◌^◌, ◌<◌, ◌≤◌, Bool, List, [], ◌∷◌, ◌++◌, length, get_or, map, take, replicate, refl, sym, ap, ◌∙◌, arith, append_assoc}
-use Rattle.std.proofs.lemmas.List.{map-append, take_more}
-use Rattle.chip_core.specs.Bits.{binary}
-use Rattle.chip_core.specs.Fields.{field, spelled, FieldsFit}
-use Rattle.chip_core.specs.declared.field.Field.{Field}
-use Rattle.quality_bits.specs.Capsules.{FillsCapsule}
-use Rattle.quality_bits.specs.declared.kind.Kind.TheVariants.{M30}
-use Rattle.paging_message.specs.Channels.{channel_records, channel_fields, channel_body, IsChannelList}
-use Rattle.paging_message.specs.Neighbors.{neighbor_records, neighbor_fields, neighbor_body, IsNeighborList}
-use Rattle.paging_message.specs.declared.fields.ChannelFields.{ChannelFields}
-use Rattle.paging_message.specs.declared.fields.NeighborFields.{NeighborFields}
+use Rattle.paging_message.proofs.Common.{◌≡◌, ℕ, zero, suc, ◌+◌, ◌*◌, ◌^◌, ◌<◌, ◌≤◌, Bool, List, [], ◌∷◌, ◌++◌, length, get_or, map, take}
+use Rattle.paging_message.proofs.Common.{replicate, refl, sym, ap, ◌∙◌, arith, append_assoc, map-append, take_more, binary, field, spelled}
+use Rattle.paging_message.proofs.Common.{FieldsFit, Field, FillsCapsule, M30, channel_records, channel_fields, channel_body, IsChannelList}
+use Rattle.paging_message.proofs.Common.{neighbor_records, neighbor_fields, neighbor_body, IsNeighborList, ChannelFields, NeighborFields}
 use Rattle.paging_message.proofs.Bodies.{widths, read_spelled, length-behind, same_spelling, length-spelled, length-body}
-pub use Rattle.chip_core.proofs.ValueLists.{write_push}
 use Rattle.paging_message.proofs.Widths.{fit_append, spelled_push}
+pub use Rattle.chip_core.proofs.ValueLists.{write_push}
 
 -- ONE FIELD MORE
 -- in front of others

@@ -1,15 +1,9 @@
 -- The fields of the System Parameters Message, their values, and the bodies that they spell.
-use Rattle.std.proofs.Common.{◌≡◌, ℕ, ◌≤◌, Bool, List, ◌∷◌, ◌++◌, length, get_or, map, drop, refl, sym, ap, subst, ◌∙◌, arith}
-use Rattle.chip_core.specs.Bits.{binary, places}
-use Rattle.chip_core.specs.Fields.{spelled, FieldsFit}
-use Rattle.chip_core.specs.declared.field.Field.{Field}
-use Rattle.chip_core.proofs.Places.{map-places-all}
-use Rattle.quality_bits.specs.Capsules.{FillsCapsule}
-use Rattle.quality_bits.specs.declared.kind.Kind.TheVariants.{M30}
-use Rattle.paging_message.specs.System as system
-use Rattle.paging_message.specs.Widths.{in_widths, system_widths}
-use Rattle.paging_message.specs.declared.fields.SystemFields.{SystemFields}
+use Rattle.paging_message.proofs.Common.{◌≡◌, ℕ, ◌≤◌, Bool, List, ◌∷◌, ◌++◌, length, get_or, map, drop, refl, sym, ap, subst, ◌∙◌, arith}
+use Rattle.paging_message.proofs.Common.{binary, places, spelled, FieldsFit, Field, map-places-all, FillsCapsule, M30, in_widths}
+use Rattle.paging_message.proofs.Common.{system_widths, SystemFields}
 use Rattle.paging_message.proofs.Bodies.{read_spelled, length-behind, same_spelling}
+use Rattle.paging_message.specs.System as system
 
 pub values_again : (vs : List ℕ) (rest : List Bool) → length vs ≡ 37 →
     system.system_values (system.system_of vs rest) ≡ vs

@@ -1,12 +1,9 @@
 -- Fields of given widths.
-use Rattle.std.proofs.Common.{◌≡◌, ℕ, zero, suc, ◌+◌, ◌^◌, ◌<◌, ◌≤◌, Bool, List, [], ◌∷◌, ◌++◌, length, get_or, set, take, map, refl, sym, ap, ◌∙◌, arith, rules, append_assoc, length-append}
-use Rattle.std.proofs.lemmas.List.{length-take-le}
-use Rattle.chip_core.specs.Bits.{binary}
-use Rattle.chip_core.specs.Fields.{field, spelled, FieldsFit}
-use Rattle.chip_core.specs.declared.field.Field.{Field}
+use Rattle.paging_message.proofs.Common.{◌≡◌, ℕ, zero, suc, ◌+◌, ◌^◌, ◌<◌, ◌≤◌, Bool, List, [], ◌∷◌, ◌++◌, length, get_or, set, take, map}
+use Rattle.paging_message.proofs.Common.{refl, sym, ap, ◌∙◌, arith, rules, append_assoc, length-append, length-take-le, binary, field}
+use Rattle.paging_message.proofs.Common.{spelled, FieldsFit, Field, in_widths, system_widths}
 pub use Rattle.chip_core.specs.Fields.{total, AreWidths}
 pub use Rattle.chip_core.proofs.ValueLists.{fit_value, length-in_widths, spelled_push, total_room, width_within, write_room, written_more}
-use Rattle.paging_message.specs.Widths.{in_widths, system_widths}
 
 -- one more field
 pub in_widths-more : (ws vs : List ℕ) (w v : ℕ) → length ws ≡ length vs →

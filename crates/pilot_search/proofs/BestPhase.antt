@@ -1,12 +1,6 @@
 -- The best phase of a range, and of two neighbouring ranges.
-use Rattle.std.proofs.Common.{◌≡◌, ℕ, ◌<◌, ◌≤◌, List, refl, ap, ◌∙◌, arith, pos, ⊎_elim}
-use Rattle.std.proofs.lemmas.Int.{ints}
-use Rattle.std.proofs.lemmas.Bool.{cases_lt}
-use Rattle.chip_core.specs.Sums.{IsFirstGreatest, first_greatest}
-use Rattle.chip_core.specs.declared.sample.Sample.{Sample}
-use Rattle.chip_core.proofs.Greatest.{only, first_greatest-is}
-use Rattle.pilot_search.specs.Search.{energy, best_phase}
-use Rattle.pilot_search.specs.BestIn.{IsBestIn}
+use Rattle.pilot_search.proofs.Common.{◌≡◌, ℕ, ◌<◌, ◌≤◌, List, refl, ap, ◌∙◌, arith, pos, ⊎_elim, ints, cases_lt, IsFirstGreatest}
+use Rattle.pilot_search.proofs.Common.{first_greatest, Sample, only, first_greatest-is, energy, best_phase, IsBestIn}
 
 first_of_all : (samples : List Sample) (phase most : ℕ) → IsBestIn samples 0 32768 phase most →
     IsFirstGreatest (λ k. pos (energy samples k)) 32768 phase

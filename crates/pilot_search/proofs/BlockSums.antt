@@ -1,14 +1,7 @@
 -- Sums with the products of one more group of eight samples, as lanes that are kept as bits.
-use Rattle.std.proofs.Common.{◌≡◌, ℕ, ◌+◌, ◌*◌, ◌^◌, ◌<◌, ◌≤◌, List, length, map, drop, refl, sym, ap, ◌∙◌, subst, arith, ℤ, ◌+ℤ◌}
-use Rattle.std.proofs.Common.{unsigned_abs, to_z, of_z, w32, w64}
-use lib.Lanes.{Each1, Each2, zip2}
-use Rattle.std.proofs.lemmas.List.{length-map}
-use Rattle.chip_core.specs.Complex.{plus}
-use Rattle.chip_core.specs.Sums.{total}
-use Rattle.chip_core.specs.declared.sample.Pair.{Pair}
-use Rattle.chip_core.specs.declared.sample.Sample.{Sample}
-use Rattle.pilot_search.specs.BySigns.{correlation_with}
-use Rattle.pilot_search.specs.Lanes.{AreProducts, AreSums, real_lanes, imaginary_lanes}
+use Rattle.pilot_search.proofs.Common.{◌≡◌, ℕ, ◌+◌, ◌*◌, ◌^◌, ◌<◌, ◌≤◌, List, length, map, drop, refl, sym, ap, ◌∙◌, subst, arith, ℤ, ◌+ℤ◌}
+use Rattle.pilot_search.proofs.Common.{unsigned_abs, to_z, of_z, w32, w64, Each1, Each2, zip2, length-map, plus, total, Pair, Sample}
+use Rattle.pilot_search.proofs.Common.{correlation_with, AreProducts, AreSums, real_lanes, imaginary_lanes}
 use Rattle.pilot_search.proofs.CorrelationSums.{correlation_with-all}
 use Rattle.pilot_search.proofs.LaneLemmas.{kept_lanes, lanes_more}
 use Rattle.pilot_search.proofs.LaneSums.{sums_fit, may_add, AreMore, are_more, is_total, IsTotal}

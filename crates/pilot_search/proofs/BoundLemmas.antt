@@ -1,19 +1,9 @@
 -- Sums of a part of the samples, and how great an energy can become.
-use Rattle.std.proofs.Common.{◌≡◌, ℕ, zero, suc, ◌+◌, ◌-◌, ◌*◌, ◌%◌, ◌<◌, ◌≤◌, Bool, true, false, List, [], ◌∷◌, ◌++◌, length, take, drop}
-use Rattle.std.proofs.Common.{refl, sym, ap, ◌∙◌, subst, arith, ℤ, ◌+ℤ◌, unsigned_abs}
-use Rattle.std.proofs.Math.Nat.{mul-le-mul}
-use Rattle.std.proofs.Math.Seq.{take-add}
-use Rattle.std.proofs.lemmas.Int.{ints}
-use Rattle.std.proofs.lemmas.List.{length-take-le, drop-drop}
-use Rattle.chip_core.specs.Complex.{origin, plus, times, conjugate, point, of_sample, sum_of, norm}
-use Rattle.chip_core.specs.declared.sample.Pair.{Pair}
-use Rattle.chip_core.specs.declared.sample.Sample.{Sample}
-use Rattle.chip_core.proofs.ComplexSums.{plus_assoc, origin-plus, sum_of-append}
-use Rattle.short_code.specs.Despread.{code_point, despread}
-use Rattle.short_code.specs.ShortCode.{pilot_chip}
-use Rattle.short_code.proofs.Despreading.{despread-append}
-use Rattle.pilot_search.specs.Search.{correlation, energy}
-use Rattle.pilot_search.specs.Bounds.{magnitudes, square_of, bound, HasBoundBelow, HasNoBoundBelow, IsSumOf}
+use Rattle.pilot_search.proofs.Common.{◌≡◌, ℕ, zero, suc, ◌+◌, ◌-◌, ◌*◌, ◌%◌, ◌<◌, ◌≤◌, Bool, true, false, List, [], ◌∷◌, ◌++◌, length}
+use Rattle.pilot_search.proofs.Common.{take, drop, refl, sym, ap, ◌∙◌, subst, arith, ℤ, ◌+ℤ◌, unsigned_abs, mul-le-mul, take-add, ints}
+use Rattle.pilot_search.proofs.Common.{length-take-le, drop-drop, origin, plus, times, conjugate, point, of_sample, sum_of, norm, Pair}
+use Rattle.pilot_search.proofs.Common.{Sample, plus_assoc, origin-plus, sum_of-append, code_point, despread, pilot_chip, despread-append}
+use Rattle.pilot_search.proofs.Common.{correlation, energy, magnitudes, square_of, bound, HasBoundBelow, HasNoBoundBelow, IsSumOf}
 use Rattle.pilot_search.proofs.CorrelationSums.{plus_is}
 
 -- PARTS OF THE SAMPLES

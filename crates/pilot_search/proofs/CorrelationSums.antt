@@ -1,21 +1,10 @@
 -- Lemmas on the sums of a correlation.
-use Rattle.std.proofs.Common.{◌≡◌, ℕ, suc, ◌+◌, ◌-◌, ◌*◌, ◌%◌, ◌<◌, ◌≤◌, Bool, true, false, List, [], ◌∷◌, ◌++◌, length, get_or, take, drop}
-use Rattle.std.proofs.Common.{All, min, refl, ◌⊎◌, ⊎_elim, inl, inr, sym, ap, ◌∙◌, arith, add-one, ℤ, pos, ◌+ℤ◌, unsigned_abs}
-use Rattle.std.proofs.lemmas.List.{drop_all, take-append-drop, length-take-le, length-drop}
-use Rattle.std.proofs.lemmas.List.Elements.{All-from_get_or}
-use Rattle.std.proofs.lemmas.Bool.{cases_order}
-use Rattle.std.proofs.Math.Seq.{drop-cons}
-use Rattle.chip_core.specs.Bits.{sign, zip_with}
-use Rattle.chip_core.specs.Complex.{origin, plus, sum_of}
-use Rattle.chip_core.proofs.ComplexSums.{plus_assoc, plus-origin, sum_of-append}
-use Rattle.chip_core.specs.declared.sample.Pair.{Pair}
-use Rattle.chip_core.specs.declared.sample.Sample.{Sample}
-use Rattle.short_code.specs.ShortCode.{pilot_chip, chip_signs, pilot_signs}
-use Rattle.short_code.specs.Despread.{despread, IsUnit, turned}
-use Rattle.short_code.proofs.Despreading.{despread-append}
-use Rattle.short_code.proofs.Signs.{length-pilot_signs, get_or-pilot_signs}
-use Rattle.pilot_search.specs.Search.{correlation}
-use Rattle.pilot_search.specs.BySigns.{correlation_with}
+use Rattle.pilot_search.proofs.Common.{◌≡◌, ℕ, suc, ◌+◌, ◌-◌, ◌*◌, ◌%◌, ◌<◌, ◌≤◌, Bool, true, false, List, [], ◌∷◌, ◌++◌, length, get_or}
+use Rattle.pilot_search.proofs.Common.{take, drop, All, min, refl, ◌⊎◌, ⊎_elim, inl, inr, sym, ap, ◌∙◌, arith, add-one, ℤ, pos, ◌+ℤ◌}
+use Rattle.pilot_search.proofs.Common.{unsigned_abs, drop_all, take-append-drop, length-take-le, length-drop, All-from_get_or, cases_order}
+use Rattle.pilot_search.proofs.Common.{drop-cons, sign, zip_with, origin, plus, sum_of, plus_assoc, plus-origin, sum_of-append, Pair}
+use Rattle.pilot_search.proofs.Common.{Sample, pilot_chip, chip_signs, pilot_signs, despread, IsUnit, turned, despread-append}
+use Rattle.pilot_search.proofs.Common.{length-pilot_signs, get_or-pilot_signs, correlation, correlation_with}
 
 abbrev pub no_sample : Sample
 no_sample = record { i = pos 0; q = pos 0 }

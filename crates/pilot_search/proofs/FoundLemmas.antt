@@ -1,16 +1,8 @@
 -- What is found in two ranges is found in both.
-use Rattle.std.proofs.Common.{◌≡◌, ℕ, ◌+◌, ◌<◌, ◌≤◌, Bool, true, false, List, refl, sym, ap, ◌∙◌, subst, ⊎_elim, arith, ◌*◌, ◌/◌}
-use Rattle.std.specs.Prelude.{Option, Some, None, IsSome, if◌then◌else◌, nat_lt}
-use Rattle.std.proofs.Math.Nat.{div-le_self, div-mul-le_self, mul-div_cancel}
-use Rattle.std.proofs.lemmas.Nat.{le-div}
-use Rattle.std.proofs.lemmas.Bool.{cases_lt}
-use Rattle.std.proofs.lemmas.Bool.Decides.{nat_tests}
-use Rattle.chip_core.specs.declared.sample.Sample.{Sample}
-use Rattle.pilot_search.specs.Search.{energy, best_phase}
-use Rattle.pilot_search.specs.Bounds.{greatest, HasBoundBelow}
-use Rattle.pilot_search.specs.BestIn.{IsBestIn}
-use Rattle.pilot_search.specs.Found.{IsFound, better_of, start_of}
-use Rattle.pilot_search.specs.declared.sweeping.Best.{Best}
+use Rattle.pilot_search.proofs.Common.{◌≡◌, ℕ, ◌+◌, ◌<◌, ◌≤◌, Bool, true, false, List, refl, sym, ap, ◌∙◌, subst, ⊎_elim, arith, ◌*◌, ◌/◌}
+use Rattle.pilot_search.proofs.Common.{Option, Some, None, IsSome, if◌then◌else◌, nat_lt, div-le_self, div-mul-le_self, mul-div_cancel}
+use Rattle.pilot_search.proofs.Common.{le-div, cases_lt, nat_tests, Sample, energy, best_phase, greatest, HasBoundBelow, IsBestIn, IsFound}
+use Rattle.pilot_search.proofs.Common.{better_of, start_of, Best}
 use Rattle.pilot_search.proofs.BoundLemmas.{bounds}
 use Rattle.pilot_search.proofs.BestPhase.{best_phase-is}
 

@@ -1,24 +1,10 @@
 -- Lanes of 32 bits that hold products of samples with signs, and sums of them.
-use Rattle.std.proofs.Common.{◌≡◌, ℕ, zero, suc, ◌+◌, ◌*◌, ◌%◌, ◌^◌, ◌<◌, ◌≤◌, List, [], ◌∷◌, map, length, get_or, take, drop, add-one, All}
-use Rattle.std.proofs.Common.{refl, sym, ap, ◌∙◌, subst, arith, ℤ, pos, negsuc, ◌+ℤ◌, ◌-ℤ◌, ◌*ℤ◌, unsigned_abs, to_z, of_z, FitsSigned, w8}
-use Rattle.std.proofs.Common.{w16, w32, w64}
-use Rattle.std.proofs.Math.IntN.{neg_ℤ, +ℤ_assoc}
-use Rattle.std.proofs.Math.Facts.{Fits-of_z}
-use Rattle.std.specs.Int.{int_wrap}
-use Rattle.std.proofs.lemmas.Int.{ints, to_z-of_z, int_wrap_fits, wrapping_add-bits, wrapping_mul_onto, fits_signed_from_abs}
-use Rattle.std.proofs.lemmas.Int.{unsigned_abs-mul}
-use lib.Lanes.{Each1, Each2, zip2}
-use Rattle.std.proofs.lemmas.List.{get_or-map}
-use Rattle.std.proofs.lemmas.List.Elements.{All-get_or}
-use Rattle.std.proofs.lemmas.Simd.{Each2-of}
-use Rattle.chip_core.specs.Complex.{plus}
-use Rattle.chip_core.specs.Sums.{total}
-use Rattle.chip_core.specs.declared.sample.Pair.{Pair}
-use Rattle.chip_core.proofs.ComplexSums.{real_part}
-use Rattle.chip_core.specs.declared.sample.Sample.{Sample}
-use Rattle.pilot_search.specs.BySigns.{across, correlation_with}
-use Rattle.short_code.specs.Despread.{IsUnit, turned}
-use Rattle.pilot_search.specs.Lanes.{product_at, real_lanes, imaginary_lanes}
+use Rattle.pilot_search.proofs.Common.{◌≡◌, ℕ, zero, suc, ◌+◌, ◌*◌, ◌%◌, ◌^◌, ◌<◌, ◌≤◌, List, [], ◌∷◌, map, length, get_or, take, drop}
+use Rattle.pilot_search.proofs.Common.{add-one, All, refl, sym, ap, ◌∙◌, subst, arith, ℤ, pos, negsuc, ◌+ℤ◌, ◌-ℤ◌, ◌*ℤ◌, unsigned_abs, to_z}
+use Rattle.pilot_search.proofs.Common.{of_z, FitsSigned, w8, w16, w32, w64, neg_ℤ, +ℤ_assoc, Fits-of_z, int_wrap, ints, to_z-of_z}
+use Rattle.pilot_search.proofs.Common.{int_wrap_fits, wrapping_add-bits, wrapping_mul_onto, fits_signed_from_abs, unsigned_abs-mul, Each1}
+use Rattle.pilot_search.proofs.Common.{Each2, zip2, get_or-map, All-get_or, Each2-of, plus, total, Pair, real_part, Sample, across}
+use Rattle.pilot_search.proofs.Common.{correlation_with, IsUnit, turned, product_at, real_lanes, imaginary_lanes}
 use Rattle.pilot_search.proofs.CorrelationSums.{correlation_with-more}
 
 -- a branch of a sample in a lane, the sign of a chip, and both with the sign turned

@@ -1,11 +1,7 @@
 -- The loop over groups of eight samples: what its lanes hold.
-use Rattle.std.proofs.Common.{◌≡◌, ℕ, ◌+◌, ◌*◌, ◌^◌, ◌<◌, ◌≤◌, List, length, map, sym, ap, ◌∙◌, subst, arith, ℤ, ◌+ℤ◌, unsigned_abs, to_z}
-use Rattle.std.proofs.Common.{of_z, w32, w64}
-use lib.Lanes.{Each1, Each2, zip2}
-use Rattle.std.proofs.lemmas.Int.{to_z-of_z, fits_signed_from_abs}
-use Rattle.std.proofs.lemmas.List.{length-map}
-use Rattle.std.proofs.lemmas.Simd.{Each1-weaker, length-zip2}
-use Rattle.chip_core.specs.Sums.{total}
+use Rattle.pilot_search.proofs.Common.{◌≡◌, ℕ, ◌+◌, ◌*◌, ◌^◌, ◌<◌, ◌≤◌, List, length, map, sym, ap, ◌∙◌, subst, arith, ℤ, ◌+ℤ◌}
+use Rattle.pilot_search.proofs.Common.{unsigned_abs, to_z, of_z, w32, w64, Each1, Each2, zip2, to_z-of_z, fits_signed_from_abs, length-map}
+use Rattle.pilot_search.proofs.Common.{Each1-weaker, length-zip2, total}
 use Rattle.pilot_search.proofs.LaneLemmas.{kept_lanes, lanes_fit, bounds_more, total_bound}
 
 -- a product is kept

@@ -1,18 +1,7 @@
 -- The places near the best phase, and the phases at them.
-use Rattle.std.proofs.Common.{◌≡◌, ◌≢◌, ℕ, ◌+◌, ◌*◌, ◌<◌, ◌≤◌, true, false, List, [], ◌∷◌, map, refl, sym, ap, ◌∙◌, arith, ℤ, pos, negsuc}
-use Rattle.std.proofs.Common.{◌-ℤ◌, ⊎_elim, nat_eq}
-use Rattle.std.specs.Prelude.{nat_le}
-use Rattle.std.specs.List.{list_any}
-use Rattle.std.proofs.lemmas.Int.{ints}
-use Rattle.std.proofs.lemmas.Bool.{cases_lt}
-use Rattle.std.proofs.lemmas.Bool.Decides.{nat_tests}
-use Rattle.chip_core.specs.Sums.{first_places}
-use Rattle.chip_core.specs.declared.sample.Sample.{Sample}
-use Rattle.pilot_search.specs.BestIn.{IsBestIn}
-use Rattle.pilot_search.specs.Near.{near_place, phase_at, near_value, near_deltas}
-use Rattle.pilot_search.specs.Ranked.{measured_at, IsRound, IsNext}
-use Rattle.pilot_search.specs.Search.{energy}
-use Rattle.pilot_search.specs.declared.sweeping.Best.{Best}
+use Rattle.pilot_search.proofs.Common.{◌≡◌, ◌≢◌, ℕ, ◌+◌, ◌*◌, ◌<◌, ◌≤◌, true, false, List, [], ◌∷◌, map, refl, sym, ap, ◌∙◌, arith, ℤ, pos}
+use Rattle.pilot_search.proofs.Common.{negsuc, ◌-ℤ◌, ⊎_elim, nat_eq, nat_le, list_any, ints, cases_lt, nat_tests, first_places, Sample}
+use Rattle.pilot_search.proofs.Common.{IsBestIn, near_place, phase_at, near_value, near_deltas, measured_at, IsRound, IsNext, energy, Best}
 use Rattle.pilot_search.proofs.Unless.{IsGreatestUnless, first_places-none, first_places-more}
 
 -- PLACES AND PHASES

@@ -1,15 +1,10 @@
 -- In each complete run of the workers the best phase is evaluated.
-use Rattle.std.proofs.Common.{◌≡◌, ◌⊎◌, ℕ, zero, suc, ◌*◌, ◌<◌, ◌≤◌, max, List, [], ◌∷◌, set, refl, sym, ap, ◌∙◌, subst, ⊎_elim, inl, inr}
-use Rattle.std.proofs.Common.{arith}
-use Rattle.std.specs.Prelude.{Some, None, Contains, All, slice_get}
-use Rattle.std.proofs.lemmas.Bool.{cases_order, cases_lt}
-use Rattle.std.proofs.lemmas.List.Elements.{All-set, All-contains, All-get_or, All-nil, All-cons, All-head, All-tail}
-use Rattle.std.proofs.lemmas.Option.{slice_get_within, get_or_from_slice_get}
-use Rattle.chip_core.specs.declared.sample.Sample.{Sample}
-use Rattle.pilot_search.specs.Search.{energy, best_phase}
-use Rattle.pilot_search.specs.Bounds.{greatest, bound, HasBoundBelow}
-use Rattle.pilot_search.specs.SearchRun.{Worker, State, Step, Evaluate, Publish, Read, Skip, Goes, Run, Parts, IsDone, FindsBest}
-use Rattle.pilot_search.specs.SearchRun.{ComesFirst, BestComesFirst, IsTry}
+use Rattle.pilot_search.proofs.Common.{◌≡◌, ◌⊎◌, ℕ, zero, suc, ◌*◌, ◌<◌, ◌≤◌, max, List, [], ◌∷◌, set, refl, sym, ap, ◌∙◌, subst, ⊎_elim}
+use Rattle.pilot_search.proofs.Common.{inl, inr, arith, Some, None, Contains, All, slice_get, cases_order, cases_lt, All-set, All-contains}
+use Rattle.pilot_search.proofs.Common.{All-get_or, All-nil, All-cons, All-head, All-tail, slice_get_within, get_or_from_slice_get, Sample}
+use Rattle.pilot_search.proofs.Common.{energy, best_phase, greatest, bound, HasBoundBelow, Worker, Step, Evaluate, Publish, Read, Skip}
+use Rattle.pilot_search.proofs.Common.{Goes, Run, Parts, IsDone, FindsBest, ComesFirst, BestComesFirst, IsTry}
+use Rattle.pilot_search.specs.SearchRun.{State}
 use Rattle.pilot_search.proofs.BoundLemmas.{bounds}
 use Rattle.pilot_search.proofs.FoundLemmas.{at_most_greatest}
 use Rattle.pilot_search.proofs.BestPhase.{best_phase-is}

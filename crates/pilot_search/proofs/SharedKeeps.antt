@@ -1,12 +1,8 @@
 -- Each step on the shared word keeps its rule.
-use Rattle.std.proofs.Common.{◌≡◌, ◌≢◌, ℕ, zero, suc, ◌≤◌, true, false, List, [], ◌∷◌, length, set, get_or, inr, refl, sym, ap, ◌∙◌, subst}
-use Rattle.std.proofs.Common.{⊎_elim, arith, length-set, get_or-set_same, true≢false}
-use mathlib.Core.Option.{none, some, some-ne-none, some-injective}
-use lib.ListN.{get_elem?}
-use Rattle.atomic_table.specs.Table.{State, Me, step, keeps, stepped, Allows, Splits, Joins}
-use Rattle.atomic_table.proofs.Lists.{at_set, at_snoc, set_again}
-use Rattle.pilot_search.specs.declared.view.View.{View}
-use Rattle.pilot_search.specs.SharedRule.{holding, spent, fresh, Lies, AllLie, IsKept, Begun, joined}
+use Rattle.pilot_search.proofs.Common.{◌≡◌, ◌≢◌, ℕ, zero, suc, ◌≤◌, true, false, List, [], ◌∷◌, length, set, get_or, inr, refl, sym, ap}
+use Rattle.pilot_search.proofs.Common.{◌∙◌, subst, ⊎_elim, arith, length-set, get_or-set_same, true≢false, none, some, some-ne-none}
+use Rattle.pilot_search.proofs.Common.{some-injective, get_elem?, State, Me, step, keeps, stepped, Allows, Splits, Joins, at_set, at_snoc}
+use Rattle.pilot_search.proofs.Common.{set_again, View, holding, spent, fresh, Lies, AllLie, IsKept, Begun, joined}
 
 abbrev Sat : Type 0
 Sat = Me (Unit {0}) View

@@ -1,9 +1,6 @@
 -- The next time that is an action time modulo 64.
-use Rattle.std.proofs.Common.{◌≡◌, ◌≢◌, ◌<◌, ◌+◌, ◌-◌, ◌%◌, ℕ, if◌then◌else◌, ap, sym, subst, arith}
-use Rattle.std.proofs.lemmas.Bool.{ne_eqb, eq-eqb}
-use Rattle.traffic_message.specs.declared.fields.DirectionFields.{DirectionFields}
-use Rattle.pilot_sets.specs.Directions.{direction_time}
-use Rattle.pilot_sets.specs.Histories.{IsNextAt}
+use Rattle.pilot_sets.proofs.Common.{◌≡◌, ◌≢◌, ◌<◌, ◌+◌, ◌-◌, ◌%◌, ℕ, if◌then◌else◌, ap, sym, subst, arith, ne_eqb, eq-eqb, DirectionFields}
+use Rattle.pilot_sets.proofs.Common.{direction_time, IsNextAt}
 
 next_time : (first action : ℕ) → action < 64 →
     IsNextAt first action (first + (action + 64 - first % 64) % 64)

@@ -1,12 +1,7 @@
 -- The first of equal pilots, and the first that is repeated, as a loop finds them.
-use Rattle.std.proofs.Common.{◌≡◌, ◌<◌, ◌+◌, ℕ, Bool, true, false, ◌||◌, List, [], ◌∷◌, ◌++◌, drop, length, Some, slice_get, nat_eq, refl}
-use Rattle.std.proofs.Common.{ap, sym, ◌∙◌, append_assoc}
-use Rattle.std.proofs.lemmas.List.{at_drop_more}
-use Rattle.std.proofs.lemmas.List.Folds.{list_any-append}
-use Rattle.std.proofs.lemmas.Option.{get_or_from_slice_get}
-use Rattle.std.specs.List.{find}
-use Rattle.pilot_sets.specs.Pilots.{has, firsts}
-use Rattle.pilot_sets.specs.Directions.{first_repeated}
+use Rattle.pilot_sets.proofs.Common.{◌≡◌, ◌<◌, ◌+◌, ℕ, Bool, true, false, ◌||◌, List, [], ◌∷◌, ◌++◌, drop, length, Some, slice_get, nat_eq}
+use Rattle.pilot_sets.proofs.Common.{refl, ap, sym, ◌∙◌, append_assoc, at_drop_more, list_any-append, get_or_from_slice_get, find, has}
+use Rattle.pilot_sets.proofs.Common.{firsts, first_repeated}
 
 pub drop_at : {X : Type 0} (xs : List X) (i : ℕ) (x : X) → i < length xs →
     slice_get xs i ≡ Some x → drop i xs ≡ x ∷ drop (i + 1) xs

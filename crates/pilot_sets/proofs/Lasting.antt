@@ -1,27 +1,13 @@
 -- What lasts over any sequence of calls.
-use Rattle.std.proofs.Common.{◌≡◌, ◌≢◌, ◌<◌, ◌≤◌, ◌-◌, ℕ, Bool, true, false, cond, if◌then◌else◌, ◌&&◌, ◌==◌, not, List, [], ◌∷◌, ◌++◌}
-use Rattle.std.proofs.Common.{length, map, filter, take, nat_lt, suc, Option, Some, None, refl, ap, sym, ◌∙◌, subst, arith, length-append}
-use Rattle.std.proofs.lemmas.List.{length-map, length-take}
-use Rattle.std.proofs.lemmas.Bool.{ne_eqb, eq-eqb, ltb-true}
-use Rattle.std.proofs.lemmas.List.Elements.{All-head, All-tail}
-use Rattle.std.specs.List.{All}
-use Rattle.traffic_message.specs.declared.fields.DirectionFields.{DirectionFields}
-use Rattle.pilot_sets.specs.Pilots.{lacks, without, firsts}
-use Rattle.pilot_sets.specs.PilotSets.{timed_pilots}
-use Rattle.pilot_sets.specs.Directions.{IsDirection, direction_fault, named_pilots, accepted_of}
-use Rattle.pilot_sets.specs.Timers.{is_expired}
-use Rattle.pilot_sets.specs.Handoffs.{pilots_named, actives_without, fresh, left, all_left, cleared, handed_off}
-use Rattle.pilot_sets.specs.Moments.{energy_in, active_timed, candidate_timed, timed, stays, pilots_going, rises, dropped, moving_up}
-use Rattle.pilot_sets.specs.Moments.{measured}
-use Rattle.pilot_sets.specs.Orderly.{IsActiveSetIfAny, IsOrderly}
-use Rattle.pilot_sets.specs.Standing.{Standing, new_standing, unless_refused, directed, began_in, due_for, due_at}
-use Rattle.pilot_sets.specs.Histories.{Call, after, after_all, IsLawful, AreApart, LeavesWaiting}
-use Rattle.pilot_sets.specs.Histories.Call.{Parameters, Neighbors, Direct, Due, Step}
-use Rattle.pilot_sets.specs.declared.fault.DirectionFault.{DirectionFault}
-use Rattle.pilot_sets.specs.declared.standing.ActivePilot.{ActivePilot}
-use Rattle.pilot_sets.specs.declared.standing.CandidatePilot.{CandidatePilot}
-use Rattle.pilot_sets.specs.declared.standing.Accepted.{Accepted}
-use Rattle.pilot_sets.specs.declared.standing.PilotSets.{PilotSets}
+use Rattle.pilot_sets.proofs.Common.{◌≡◌, ◌≢◌, ◌<◌, ◌≤◌, ◌-◌, ℕ, Bool, true, false, cond, if◌then◌else◌, ◌&&◌, ◌==◌, not, List, [], ◌∷◌}
+use Rattle.pilot_sets.proofs.Common.{◌++◌, length, map, filter, take, nat_lt, suc, Option, Some, None, refl, ap, sym, ◌∙◌, subst, arith}
+use Rattle.pilot_sets.proofs.Common.{length-append, length-map, length-take, ne_eqb, eq-eqb, ltb-true, All-head, All-tail, All}
+use Rattle.pilot_sets.proofs.Common.{DirectionFields, lacks, without, firsts, timed_pilots, IsDirection, direction_fault, named_pilots}
+use Rattle.pilot_sets.proofs.Common.{accepted_of, is_expired, pilots_named, actives_without, fresh, left, all_left, cleared, handed_off}
+use Rattle.pilot_sets.proofs.Common.{energy_in, active_timed, candidate_timed, timed, stays, pilots_going, rises, dropped, moving_up}
+use Rattle.pilot_sets.proofs.Common.{measured, IsActiveSetIfAny, IsOrderly, Standing, new_standing, unless_refused, directed, began_in}
+use Rattle.pilot_sets.proofs.Common.{due_for, due_at, Call, after, after_all, IsLawful, AreApart, LeavesWaiting, Parameters, Neighbors}
+use Rattle.pilot_sets.proofs.Common.{Direct, Due, Step, DirectionFault, ActivePilot, CandidatePilot, Accepted, PilotSets}
 use Rattle.pilot_sets.proofs.Refusals.{accepted_few}
 use Rattle.pilot_sets.proofs.Times.{once_at_most}
 use Rattle.pilot_sets.proofs.Orders.{new_orderly, neighbors_orderly, thresholds_orderly, waiting_orderly, accepted_active_set}

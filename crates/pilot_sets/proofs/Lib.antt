@@ -1,4 +1,5 @@
 pub mod ActionTimes
+pub mod Common
 pub mod Firsts
 pub mod Lasting
 pub mod NamedPilots

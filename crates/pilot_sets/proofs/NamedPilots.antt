@@ -1,8 +1,6 @@
 -- The pilots of a direction's records, record by record.
-use Rattle.std.proofs.Common.{◌≡◌, ◌<◌, ◌+◌, ℕ, List, [], ◌∷◌, ◌++◌, drop, length, Some, slice_get, ◌==◌, ap, sym, ◌∙◌, arith, append_assoc}
-use Rattle.std.proofs.Common.{length-append}
-use Rattle.pilot_sets.specs.Directions.{named_pilots}
-use Rattle.pilot_sets.specs.declared.standing.NamedPilot.{NamedPilot}
+use Rattle.pilot_sets.proofs.Common.{◌≡◌, ◌<◌, ◌+◌, ℕ, List, [], ◌∷◌, ◌++◌, drop, length, Some, slice_get, ◌==◌, ap, sym, ◌∙◌, arith}
+use Rattle.pilot_sets.proofs.Common.{append_assoc, length-append, named_pilots, NamedPilot}
 use Rattle.pilot_sets.proofs.Firsts.{drop_at}
 
 named : ℕ → ℕ → ℕ → NamedPilot

@@ -1,27 +1,13 @@
 -- What keeps the sets in order.
-use Rattle.std.proofs.Common.{◌≡◌, ◌<◌, ◌≤◌, ◌+◌, ◌-◌, ℕ, Bool, true, false, not, cond, if◌then◌else◌, ◌&&◌, List, [], ◌∷◌, ◌++◌, length}
-use Rattle.std.proofs.Common.{map, filter, nat_eq, nat_lt, Some, None, refl, ap, sym, ◌∙◌, subst, arith}
-use Rattle.std.proofs.lemmas.List.{length-map}
-use Rattle.std.proofs.lemmas.Bool.{ltb-false}
-use Rattle.std.proofs.lemmas.List.Elements.{All-nil, All-cons}
-use Rattle.std.specs.List.{All}
-use Rattle.pilot_sets.specs.Pilots.{has, lacks, without, firsts}
-use Rattle.pilot_sets.specs.PilotSets.{active_pilots, candidate_pilots, timed_pilots, pilots, pilots_of_actives, pilots_of_candidates}
-use Rattle.pilot_sets.specs.PilotSets.{new_sets, neighbors_heard, thresholds_heard}
-use Rattle.pilot_sets.specs.Directions.{IsDirection, direction_fault, named_pilots, accepted_of}
-use Rattle.pilot_sets.specs.Timers.{is_expired}
-use Rattle.pilot_sets.specs.Handoffs.{pilots_named, actives_without, next_subchannel, actives_after, fresh, left, all_left, cleared}
-use Rattle.pilot_sets.specs.Handoffs.{handed_off}
-use Rattle.pilot_sets.specs.Moments.{active_timed, candidate_timed, timed, goes, stays, pilots_going, expired_moved, rises, rising, risen}
-use Rattle.pilot_sets.specs.Moments.{measured}
-use Rattle.pilot_sets.specs.Orderly.{times, times_in, places_for, IsOnceEach, IsActiveSet, IsActiveSetIfAny, IsOrderly}
-use Rattle.traffic_message.specs.declared.fields.DirectionFields.{DirectionFields}
-use Rattle.pilot_sets.specs.declared.thresholds.Thresholds.{Thresholds}
-use Rattle.pilot_sets.specs.declared.standing.ActivePilot.{ActivePilot}
-use Rattle.pilot_sets.specs.declared.standing.CandidatePilot.{CandidatePilot}
-use Rattle.pilot_sets.specs.declared.standing.NamedPilot.{NamedPilot}
-use Rattle.pilot_sets.specs.declared.standing.Accepted.{Accepted}
-use Rattle.pilot_sets.specs.declared.standing.PilotSets.{PilotSets}
+use Rattle.pilot_sets.proofs.Common.{◌≡◌, ◌<◌, ◌≤◌, ◌+◌, ◌-◌, ℕ, Bool, true, false, not, cond, if◌then◌else◌, ◌&&◌, List, [], ◌∷◌, ◌++◌}
+use Rattle.pilot_sets.proofs.Common.{length, map, filter, nat_eq, nat_lt, Some, None, refl, ap, sym, ◌∙◌, subst, arith, length-map}
+use Rattle.pilot_sets.proofs.Common.{ltb-false, All-nil, All-cons, All, has, lacks, without, firsts, active_pilots, candidate_pilots}
+use Rattle.pilot_sets.proofs.Common.{timed_pilots, pilots, pilots_of_actives, pilots_of_candidates, new_sets, neighbors_heard}
+use Rattle.pilot_sets.proofs.Common.{thresholds_heard, IsDirection, direction_fault, named_pilots, accepted_of, is_expired, pilots_named}
+use Rattle.pilot_sets.proofs.Common.{actives_without, next_subchannel, actives_after, fresh, left, all_left, cleared, handed_off}
+use Rattle.pilot_sets.proofs.Common.{active_timed, candidate_timed, timed, goes, stays, pilots_going, expired_moved, rises, rising, risen}
+use Rattle.pilot_sets.proofs.Common.{measured, times, times_in, places_for, IsOnceEach, IsActiveSet, IsActiveSetIfAny, IsOrderly}
+use Rattle.pilot_sets.proofs.Common.{DirectionFields, Thresholds, ActivePilot, CandidatePilot, NamedPilot, Accepted, PilotSets}
 use Rattle.pilot_sets.proofs.Refusals.{accepted_few, accepted_known, accepted_once}
 use Rattle.pilot_sets.proofs.Rows.{one_row, named_rows, rows_after, timed_rows}
 use Rattle.pilot_sets.proofs.Times.{times-append, times-take, times-filter, times-missing, times-left_out, firsts_once, firsts_within}

@@ -1,10 +1,6 @@
 -- Ratios are at most 1, and there is none behind the end of their table.
-use Rattle.std.proofs.Common.{◌≡◌, ◌<◌, ◌≤◌, ℕ, Bool, true, false, nat_le, refl, sym, ◌∙◌}
-use Rattle.std.proofs.lemmas.Bool.{leb-true}
-use Rattle.std.proofs.lemmas.List.{get_or_past}
-use Rattle.std.proofs.lemmas.List.Folds.{list_all_at}
-use Rattle.std.specs.List.{list_all}
-use Rattle.pilot_sets.specs.Tables.{ratio, ratios}
+use Rattle.pilot_sets.proofs.Common.{◌≡◌, ◌<◌, ◌≤◌, ℕ, Bool, true, false, nat_le, refl, sym, ◌∙◌, leb-true, get_or_past, list_all_at}
+use Rattle.pilot_sets.proofs.Common.{list_all, ratio, ratios}
 
 pub no_ratio : (k : ℕ) → 64 ≤ k → 0 ≡ ratio k
 no_ratio k h = sym (get_or_past ratios k 0 h)

@@ -1,9 +1,7 @@
 -- Why a direction is refused, case by case.
-use Rattle.std.proofs.Common.{◌≡◌, ◌<◌, ◌≤◌, ℕ, Bool, true, false, List, [], length, Option, Some, None, nat_lt, refl, sym, ◌∙◌, arith}
-use Rattle.std.proofs.lemmas.Bool.{lt-ltb, ltb-true, ltb-false}
-use Rattle.std.specs.List.{find}
-use Rattle.pilot_sets.specs.Directions.{is_unknown_row, first_repeated, fault_of, unknown_or_twice}
-use Rattle.pilot_sets.specs.declared.fault.DirectionFault.TheVariants.{TooMany, Unknown, Twice}
+use Rattle.pilot_sets.proofs.Common.{◌≡◌, ◌<◌, ◌≤◌, ℕ, Bool, true, false, List, [], length, Option, Some, None, nat_lt, refl, sym, ◌∙◌}
+use Rattle.pilot_sets.proofs.Common.{arith, lt-ltb, ltb-true, ltb-false, find, is_unknown_row, first_repeated, fault_of, unknown_or_twice}
+use Rattle.pilot_sets.proofs.Common.{TooMany, Unknown, Twice}
 
 pub some_none : {X : Type 0} {x : X} → Some x ≡ None → ⊥
 some_none e = cc

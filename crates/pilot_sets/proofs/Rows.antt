@@ -1,17 +1,8 @@
 -- The rows and subchannels of active pilots.
-use Rattle.std.proofs.Common.{◌≡◌, ◌<◌, ◌≤◌, ◌+◌, ℕ, Bool, true, false, ◌||◌, ◌==◌, if◌then◌else◌, List, [], ◌∷◌, length, map, Some, None}
-use Rattle.std.proofs.Common.{nat_lt, refl, arith}
-use Rattle.std.proofs.lemmas.Bool.{ltb-false}
-use Rattle.std.proofs.lemmas.List.Elements.{All-nil, All-cons, All-head, All-tail}
-use Rattle.std.specs.List.{All, find}
-use Rattle.pilot_sets.specs.Directions.{is_unknown_row, named_pilots}
-use Rattle.pilot_sets.specs.Handoffs.{active_of, subchannel_after, next_subchannel, actives_after}
-use Rattle.pilot_sets.specs.Moments.{active_timed}
-use Rattle.pilot_sets.specs.Orderly.{AreOnRows}
-use Rattle.pilot_sets.specs.Standing.{shown_active}
-use Rattle.pilot_sets.specs.declared.lists.Active.{Active}
-use Rattle.pilot_sets.specs.declared.standing.ActivePilot.{ActivePilot}
-use Rattle.pilot_sets.specs.declared.standing.NamedPilot.{NamedPilot}
+use Rattle.pilot_sets.proofs.Common.{◌≡◌, ◌<◌, ◌≤◌, ◌+◌, ℕ, Bool, true, false, ◌||◌, ◌==◌, if◌then◌else◌, List, [], ◌∷◌, length, map, Some}
+use Rattle.pilot_sets.proofs.Common.{None, nat_lt, refl, arith, ltb-false, All-nil, All-cons, All-head, All-tail, All, find, is_unknown_row}
+use Rattle.pilot_sets.proofs.Common.{named_pilots, active_of, subchannel_after, next_subchannel, actives_after, active_timed, AreOnRows}
+use Rattle.pilot_sets.proofs.Common.{shown_active, Active, ActivePilot, NamedPilot}
 use Rattle.pilot_sets.proofs.Refusals.{some_none}
 
 abbrev OnRow : ActivePilot → Type 0

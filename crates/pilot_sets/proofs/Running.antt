@@ -1,25 +1,13 @@
 -- Which timers run behind a call.
-use Rattle.std.proofs.Common.{◌≡◌, ℕ, Bool, true, false, cond, if◌then◌else◌, ◌&&◌, ◌||◌, ◌==◌, not, ◌⊎◌, inl, inr, List, [], ◌∷◌, ◌++◌}
-use Rattle.std.proofs.Common.{length, map, filter, nat_lt, nat_eq, Option, Some, None, unwrap_or, refl, ap, sym, ◌∙◌}
-use Rattle.std.proofs.lemmas.Bool.{eqb-true, eq-eqb}
-use Rattle.std.proofs.lemmas.List.Folds.{list_any-append}
-use Rattle.traffic_message.specs.declared.fields.DirectionFields.{DirectionFields}
-use Rattle.pilot_sets.specs.Pilots.{has, lacks}
-use Rattle.pilot_sets.specs.PilotSets.{active_pilots, candidate_pilots, timed_pilots, pilots_of_actives, pilots_of_candidates}
-use Rattle.pilot_sets.specs.Directions.{direction_fault, accepted_of}
-use Rattle.pilot_sets.specs.Timers.{is_strong, is_expired, timer_after}
-use Rattle.pilot_sets.specs.Handoffs.{pilots_named, actives_without, timer_of, next_subchannel, actives_after, fresh, left, all_left}
-use Rattle.pilot_sets.specs.Handoffs.{cleared, handed_off}
-use Rattle.pilot_sets.specs.Moments.{energy_in, active_timed, candidate_timed, timed, stays, dropped, moving_up, measured}
-use Rattle.pilot_sets.specs.Standing.{Standing, unless_refused, began_in, due_for}
-use Rattle.pilot_sets.specs.Histories.{Call, after, active_timers, candidate_timers, IsAmong, RunsSince, Starts}
-use Rattle.pilot_sets.specs.Histories.Call.{Parameters, Neighbors, Direct, Due, Step}
-use Rattle.pilot_sets.specs.declared.fault.DirectionFault.{DirectionFault}
-use Rattle.pilot_sets.specs.declared.standing.ActivePilot.{ActivePilot}
-use Rattle.pilot_sets.specs.declared.standing.CandidatePilot.{CandidatePilot}
-use Rattle.pilot_sets.specs.declared.standing.NamedPilot.{NamedPilot}
-use Rattle.pilot_sets.specs.declared.standing.Accepted.{Accepted}
-use Rattle.pilot_sets.specs.declared.standing.PilotSets.{PilotSets}
+use Rattle.pilot_sets.proofs.Common.{◌≡◌, ℕ, Bool, true, false, cond, if◌then◌else◌, ◌&&◌, ◌||◌, ◌==◌, not, ◌⊎◌, inl, inr, List, [], ◌∷◌}
+use Rattle.pilot_sets.proofs.Common.{◌++◌, length, map, filter, nat_lt, nat_eq, Option, Some, None, unwrap_or, refl, ap, sym, ◌∙◌, eqb-true}
+use Rattle.pilot_sets.proofs.Common.{eq-eqb, list_any-append, DirectionFields, has, lacks, active_pilots, candidate_pilots, timed_pilots}
+use Rattle.pilot_sets.proofs.Common.{pilots_of_actives, pilots_of_candidates, direction_fault, accepted_of, is_strong, is_expired}
+use Rattle.pilot_sets.proofs.Common.{timer_after, pilots_named, actives_without, timer_of, next_subchannel, actives_after, fresh, left}
+use Rattle.pilot_sets.proofs.Common.{all_left, cleared, handed_off, energy_in, active_timed, candidate_timed, timed, stays, dropped}
+use Rattle.pilot_sets.proofs.Common.{moving_up, measured, Standing, unless_refused, began_in, due_for, Call, after, active_timers}
+use Rattle.pilot_sets.proofs.Common.{candidate_timers, IsAmong, RunsSince, Starts, Parameters, Neighbors, Direct, Due, Step, DirectionFault}
+use Rattle.pilot_sets.proofs.Common.{ActivePilot, CandidatePilot, NamedPilot, Accepted, PilotSets}
 use Rattle.pilot_sets.proofs.Refusals.{some_none}
 
 -- LISTS OF TIMERS

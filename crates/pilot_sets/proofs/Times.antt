@@ -1,12 +1,7 @@
 -- How often a number stands in a list.
-use Rattle.std.proofs.Common.{◌≡◌, ◌<◌, ◌≤◌, ◌+◌, ℕ, Bool, true, false, cond, ◌||◌, List, [], ◌∷◌, ◌++◌, if◌then◌else◌, Some, None, filter}
-use Rattle.std.proofs.Common.{take, nat_eq, nat_lt, refl, ap, arith, zero, suc, ◌∙◌}
-use Rattle.std.proofs.lemmas.Bool.{eqb-true, eq-eqb, ltb-true, ltb-false}
-use Rattle.std.proofs.lemmas.List.Elements.{All-nil, All-cons, All-head, All-tail}
-use Rattle.std.specs.List.{All}
-use Rattle.pilot_sets.specs.Pilots.{has, firsts}
-use Rattle.pilot_sets.specs.Directions.{first_repeated}
-use Rattle.pilot_sets.specs.Orderly.{times, places_for, IsOnceEach}
+use Rattle.pilot_sets.proofs.Common.{◌≡◌, ◌<◌, ◌≤◌, ◌+◌, ℕ, Bool, true, false, cond, ◌||◌, List, [], ◌∷◌, ◌++◌, if◌then◌else◌, Some, None}
+use Rattle.pilot_sets.proofs.Common.{filter, take, nat_eq, nat_lt, refl, ap, arith, zero, suc, ◌∙◌, eqb-true, eq-eqb, ltb-true, ltb-false}
+use Rattle.pilot_sets.proofs.Common.{All-nil, All-cons, All-head, All-tail, All, has, firsts, first_repeated, times, places_for, IsOnceEach}
 use Rattle.pilot_sets.proofs.Refusals.{some_none}
 
 pub times-append : (p : ℕ) (xs ys : List ℕ) → times p (xs ++ ys) ≡ times p xs + times p ys

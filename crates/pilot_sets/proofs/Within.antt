@@ -1,9 +1,6 @@
 -- Lists that are cut to a room.
-use Rattle.std.proofs.Common.{◌≡◌, ◌<◌, ◌+◌, ℕ, Bool, true, false, cond, List, [], ◌∷◌, ◌++◌, take, filter, length, get_or, ap, sym, ◌∙◌}
-use Rattle.std.proofs.Common.{arith, append-nil}
-use Rattle.std.proofs.lemmas.List.Elements.{filter_more}
-use Rattle.std.proofs.lemmas.List.{take_more}
-use Rattle.std.proofs.lemmas.Grind.{common_steps}
+use Rattle.pilot_sets.proofs.Common.{◌≡◌, ◌<◌, ◌+◌, ℕ, Bool, true, false, cond, List, [], ◌∷◌, ◌++◌, take, filter, length, get_or, ap, sym}
+use Rattle.pilot_sets.proofs.Common.{◌∙◌, arith, append-nil, filter_more, take_more, common_steps}
 
 -- adding to a list that is cut already
 pub take_within_push : {X : Type 0} (n : ℕ) (xs ys : List X) (x : X) →

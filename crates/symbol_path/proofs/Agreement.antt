@@ -1,15 +1,8 @@
 -- Soft values agree with what is sent as their sums agree with the code symbols.
-use Rattle.std.proofs.Common.{◌≡◌, ℕ, zero, suc, ◌+◌, ◌*◌, ◌/◌, ◌<◌, Bool, true, false, List, [], ◌∷◌, length, get_or, refl, sym, ap, ◌∙◌}
-use Rattle.std.proofs.Common.{arith, add-one, ℤ, pos, ◌+ℤ◌}
-use Rattle.std.specs.Prelude.{◌*ℤ◌}
-use Rattle.chip_core.specs.Bits.{sign}
-use Rattle.chip_core.specs.Sums.{sum_below}
-use Rattle.chip_core.proofs.IndexSums.{sum_same, sum_front, sum_none, sum_changed}
-use Rattle.chip_core.proofs.Places.{length-map-places, get_or-map-places}
-use Rattle.chip_core.proofs.Ring.{distrib_right}
-use Rattle.symbol_path.specs.declared.kinds.Kind.{Kind}
-use Rattle.chip_core.specs.Agreement.{agreement}
-use Rattle.symbol_path.specs.SentOrder.{Shape, shape_of, size, address, sent, gathered}
+use Rattle.symbol_path.proofs.Common.{◌≡◌, ℕ, zero, suc, ◌+◌, ◌*◌, ◌/◌, ◌<◌, Bool, true, false, List, [], ◌∷◌, length, get_or, refl, sym}
+use Rattle.symbol_path.proofs.Common.{ap, ◌∙◌, arith, add-one, ℤ, pos, ◌+ℤ◌, ◌*ℤ◌, sign, sum_below, sum_same, sum_front, sum_none}
+use Rattle.symbol_path.proofs.Common.{sum_changed, length-map-places, get_or-map-places, distrib_right, Kind, agreement, Shape, shape_of}
+use Rattle.symbol_path.proofs.Common.{size, address, sent, gathered}
 use Rattle.symbol_path.proofs.Permutation.{address_lt}
 use Rattle.symbol_path.proofs.Interleaving.{size_some, symbol_lt, count_is}
 use Rattle.symbol_path.proofs.Gathering.{part, part-none, part_here, part_other}

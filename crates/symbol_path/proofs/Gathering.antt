@@ -1,18 +1,10 @@
 -- Sums of the soft values of a code symbol.
-use Rattle.std.proofs.Common.{◌≡◌, ◌≢◌, ℕ, suc, ◌+◌, ◌/◌, ◌^◌, ◌<◌, ◌≤◌, Bool, cond, List, [], ◌∷◌, ◌++◌, length, get_or, set, map, take}
-use Rattle.std.proofs.Common.{refl, sym, ap, ◌∙◌, arith, ⊎_elim, ℤ, pos, ◌+ℤ◌}
-use Rattle.std.specs.Prelude.{filter, ◌==◌, sum_by, unsigned_abs}
-use Rattle.std.proofs.lemmas.Int.{ints, fits_signed_from_abs, to_z-of_z}
-use Rattle.std.proofs.lemmas.Bool.{cases_eq, eq-eqb, ne_eqb}
-use Rattle.std.proofs.lemmas.List.{map-append, get_or-set_same, get_or-set_other}
-use Rattle.std.proofs.lemmas.List.Elements.{filter-append}
-use Rattle.std.proofs.lemmas.List.Sums.{sum_by-cons, sum_by-set, sum_by_more, sum_by_more_le, get_or-le-sum_by}
-use mir.Syntax.{w64}
-use mir.Val.{SFits, to_z, of_z}
-use Rattle.chip_core.specs.Bits.{places}
-use Rattle.chip_core.specs.Sums.{total}
-use Rattle.symbol_path.specs.SentOrder.{Shape, size, address, gathered}
-use Rattle.chip_core.proofs.Places.{places-none, places-more, map-places-all}
+use Rattle.symbol_path.proofs.Common.{◌≡◌, ◌≢◌, ℕ, suc, ◌+◌, ◌/◌, ◌^◌, ◌<◌, ◌≤◌, Bool, cond, List, [], ◌∷◌, ◌++◌, length, get_or, set, map}
+use Rattle.symbol_path.proofs.Common.{take, refl, sym, ap, ◌∙◌, arith, ⊎_elim, ℤ, pos, ◌+ℤ◌, filter, ◌==◌, sum_by, unsigned_abs, ints}
+use Rattle.symbol_path.proofs.Common.{fits_signed_from_abs, to_z-of_z, cases_eq, eq-eqb, ne_eqb, map-append, get_or-set_same}
+use Rattle.symbol_path.proofs.Common.{get_or-set_other, filter-append, sum_by-cons, sum_by-set, sum_by_more, sum_by_more_le}
+use Rattle.symbol_path.proofs.Common.{get_or-le-sum_by, w64, SFits, to_z, of_z, places, total, Shape, size, address, gathered, places-none}
+use Rattle.symbol_path.proofs.Common.{places-more, map-places-all}
 
 -- the sum of f over the numbers below n whose key is c
 abbrev pub part : (ℕ → ℤ) → (ℕ → ℕ) → ℕ → ℕ → ℤ

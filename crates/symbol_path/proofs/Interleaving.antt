@@ -1,10 +1,6 @@
 -- The code symbol that is sent as symbol i.
-use Rattle.std.proofs.Common.{◌≡◌, ℕ, zero, suc, ◌*◌, ◌/◌, ◌<◌, ◌≤◌, sym, arith}
-use Rattle.std.proofs.Math.Nat.{div-eq_of_eq-mul_left}
-use Rattle.std.proofs.lemmas.Nat.{div_below}
-use Rattle.symbol_path.specs.declared.kinds.Kind.{Kind}
-use Rattle.symbol_path.specs.declared.kinds.Kind.TheVariants.{Sync, Data}
-use Rattle.symbol_path.specs.SentOrder.{shape_of, size}
+use Rattle.symbol_path.proofs.Common.{◌≡◌, ℕ, zero, suc, ◌*◌, ◌/◌, ◌<◌, ◌≤◌, sym, arith, div-eq_of_eq-mul_left, div_below, Kind, Sync, Data}
+use Rattle.symbol_path.proofs.Common.{shape_of, size}
 
 pub size_some : (kind : Kind) → 0 < size (shape_of kind)
 size_some Sync = omega arith

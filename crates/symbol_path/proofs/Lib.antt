@@ -1,4 +1,5 @@
 pub mod Agreement
+pub mod Common
 pub mod Interleaving
 pub mod Gathering
 pub mod Permutation

@@ -1,10 +1,7 @@
 -- The order in which the symbols are sent is a permutation.
-use Rattle.std.proofs.Common.{◌≡◌, ℕ, ◌<◌, ◌&&◌, Bool, true, refl, sym, ap, ◌∙◌, nat_eq, nat_lt}
-use Rattle.std.proofs.lemmas.Bool.{agree_below, agree_below_at, and_parts, eqb-true, ltb-true}
-use Rattle.chip_core.specs.Bits.{binary}
-use Rattle.symbol_path.specs.declared.kinds.Kind.{Kind}
-use Rattle.symbol_path.specs.declared.kinds.Kind.TheVariants.{Sync, Data}
-use Rattle.symbol_path.specs.SentOrder.{Shape, sync_shape, data_shape, shape_of, size, address, place}
+use Rattle.symbol_path.proofs.Common.{◌≡◌, ℕ, ◌<◌, ◌&&◌, Bool, true, refl, sym, ap, ◌∙◌, nat_eq, nat_lt, agree_below, agree_below_at}
+use Rattle.symbol_path.proofs.Common.{and_parts, eqb-true, ltb-true, binary, Kind, Sync, Data, Shape, sync_shape, data_shape, shape_of}
+use Rattle.symbol_path.proofs.Common.{size, address, place}
 
 -- there and back, from a place and to it
 abbrev is_back : Shape → ℕ → Bool

@@ -1,8 +1,6 @@
 -- Power control bits in place of symbols.
-use Rattle.std.proofs.Common.{◌≡◌, ℕ, ◌/◌, Bool, true, false, List, get_or, refl, sym, nat_eq, Some}
-use Rattle.std.specs.List.{list_any, slice_get}
-use Rattle.std.proofs.lemmas.Option.{get_or_from_slice_get}
-use Rattle.symbol_path.specs.Scrambling.{symbol_or_command}
+use Rattle.symbol_path.proofs.Common.{◌≡◌, ℕ, ◌/◌, Bool, true, false, List, get_or, refl, sym, nat_eq, Some, list_any, slice_get}
+use Rattle.symbol_path.proofs.Common.{get_or_from_slice_get, symbol_or_command}
 
 -- at a place that is replaced stands the bit of its group
 pub replaced_symbol : (replaced : List ℕ) (commands symbols : List Bool) (i group : ℕ) →

@@ -1,9 +1,6 @@
 -- Numbers with their bits in reverse.
-use Rattle.std.proofs.Common.{◌≡◌, ℕ, suc, ◌+◌, ◌-◌, ◌*◌, ◌/◌, ◌%◌, ◌<◌, [], ◌∷◌, reverse, sym, ap, ◌∙◌, arith, nat_eq}
-use Rattle.std.proofs.lemmas.List.{reverse-append}
-use Rattle.chip_core.specs.Bits.{number_from, binary}
-use Rattle.chip_core.proofs.Digits.{digit_of}
-use Rattle.symbol_path.specs.SentOrder.{reversed}
+use Rattle.symbol_path.proofs.Common.{◌≡◌, ℕ, suc, ◌+◌, ◌-◌, ◌*◌, ◌/◌, ◌%◌, ◌<◌, [], ◌∷◌, reverse, sym, ap, ◌∙◌, arith, nat_eq}
+use Rattle.symbol_path.proofs.Common.{reverse-append, number_from, binary, digit_of, reversed}
 
 -- the lowest bit goes first
 reversed_first : (t w n : ℕ) →

@@ -1,15 +1,9 @@
 -- The repeated symbols that are sent.
-use Rattle.std.proofs.Common.{◌≡◌, ℕ, ◌+◌, ◌*◌, ◌/◌, ◌%◌, ◌<◌, ◌&&◌, ◌||◌, Bool, true, false, [], ◌∷◌, get_or, refl, sym, ap, ◌∙◌, arith}
-use Rattle.std.proofs.Common.{nat_eq, nat_lt, not}
-use Rattle.std.proofs.lemmas.Bool.{agree_below, agree_below_at, and_parts, eqb-true, ltb-true}
-use Rattle.std.proofs.lemmas.Nat.{div_below}
-use Rattle.symbol_path.specs.SentOrder.{data_shape, address, place}
-use Rattle.symbol_path.specs.declared.kinds.Kind.TheVariants.{Data}
+use Rattle.symbol_path.proofs.Common.{◌≡◌, ℕ, ◌+◌, ◌*◌, ◌/◌, ◌%◌, ◌<◌, ◌&&◌, ◌||◌, Bool, true, false, [], ◌∷◌, get_or, refl, sym, ap, ◌∙◌}
+use Rattle.symbol_path.proofs.Common.{arith, nat_eq, nat_lt, not, agree_below, agree_below_at, and_parts, eqb-true, ltb-true, div_below}
+use Rattle.symbol_path.proofs.Common.{data_shape, address, place, Data, Rate2, R14400, R7200, R3600, R1800, symbols_of, kept_symbol}
+use Rattle.symbol_path.proofs.Common.{repeated_symbol, place2, is_dropped, IsKeptOnce, IsDropped}
 use Rattle.symbol_path.proofs.Permutation.{address_lt, place_lt, address-place, address-injective}
-use Rattle.symbol_path.specs.declared.rate_two.Rate2.{Rate2}
-use Rattle.symbol_path.specs.declared.rate_two.Rate2.TheVariants.{R14400, R7200, R3600, R1800}
-use Rattle.symbol_path.specs.RatesTwo.{symbols_of}
-use Rattle.symbol_path.specs.SentOrderTwo.{kept_symbol, repeated_symbol, place2, is_dropped, IsKeptOnce, IsDropped}
 
 -- as which symbol a repeated symbol is kept
 abbrev kept_as : ℕ → ℕ

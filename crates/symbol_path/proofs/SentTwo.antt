@@ -1,8 +1,6 @@
 -- How many symbols of rate set 2 are sent, and which.
-use Rattle.std.proofs.Common.{◌≡◌, ℕ, ◌<◌, Bool, false, List, length, get_or}
-use Rattle.chip_core.proofs.Places.{length-map-places, get_or-map-places}
-use Rattle.symbol_path.specs.declared.rate_two.Rate2.{Rate2}
-use Rattle.symbol_path.specs.SentOrderTwo.{place2, sent2}
+use Rattle.symbol_path.proofs.Common.{◌≡◌, ℕ, ◌<◌, Bool, false, List, length, get_or, length-map-places, get_or-map-places, Rate2, place2}
+use Rattle.symbol_path.proofs.Common.{sent2}
 
 pub length-sent2 : (rate : Rate2) (code : List Bool) → length (sent2 rate code) ≡ 384
 unfolding sent2

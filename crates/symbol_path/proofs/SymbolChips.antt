@@ -1,14 +1,8 @@
 -- The long code's chips at the first chips of symbols, and the places of the power control bits.
-use Rattle.std.proofs.Common.{◌≡◌, ℕ, zero, suc, ◌+◌, ◌-◌, ◌*◌, ◌%◌, ◌^◌, ◌<◌, ◌≤◌, Bool, false, List, length, get_or, refl, sym, ap, ◌∙◌}
-use Rattle.std.proofs.Common.{arith, zero-add}
-use Rattle.chip_core.specs.Bits.{binary, common_parity}
-use Rattle.chip_core.proofs.Places.{map-places-all}
-use Rattle.long_code.specs.LongCode.{after, before, long_chip, period}
-use Rattle.long_code.proofs.After.{after-after, after_none}
-use Rattle.long_code.proofs.Before.{after-before, before_lt}
-use Rattle.long_code.proofs.Period.{before_is_later}
-use Rattle.chip_core.proofs.Digits.{binary-low}
-use Rattle.symbol_path.specs.Scrambling.{symbol_chips, group_scrambling, power_start, power_place}
+use Rattle.symbol_path.proofs.Common.{◌≡◌, ℕ, zero, suc, ◌+◌, ◌-◌, ◌*◌, ◌%◌, ◌^◌, ◌<◌, ◌≤◌, Bool, false, List, length, get_or, refl, sym}
+use Rattle.symbol_path.proofs.Common.{ap, ◌∙◌, arith, zero-add, binary, common_parity, map-places-all, after, before, long_chip, period}
+use Rattle.symbol_path.proofs.Common.{after-after, after_none, after-before, before_lt, before_is_later, binary-low, symbol_chips}
+use Rattle.symbol_path.proofs.Common.{group_scrambling, power_start, power_place}
 
 -- a chip of a state that is the same from then on
 pub long_chip-same : (s t mask m n : ℕ) → after s m ≡ after t n →

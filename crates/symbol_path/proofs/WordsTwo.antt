@@ -1,16 +1,8 @@
 -- How many bits and code symbols a frame has, and how its word is made.
-use Rattle.std.proofs.Common.{◌≡◌, ℕ, ◌+◌, ◌*◌, ◌≤◌, Bool, false, List, ◌++◌, length, replicate, refl, sym, ap, ◌∙◌, arith, length-append}
-use Rattle.std.proofs.lemmas.List.{length-replicate}
-use Rattle.chip_core.specs.Bits.{binary}
-use Rattle.conv_code.specs.ConvCode.{code_symbols}
-use Rattle.conv_code.proofs.Continued.{length-code_symbols}
-use Rattle.quality_bits.specs.Kinds.{generator_of}
-use Rattle.quality_bits.proofs.Ends.{degree_positive}
-use Rattle.quality_bits.proofs.Steps.{length-check_bits}
-use Rattle.symbol_path.specs.declared.rate_two.Rate2.{Rate2}
-use Rattle.symbol_path.specs.declared.rate_two.Rate2.TheVariants.{R14400, R7200, R3600, R1800}
-use Rattle.symbol_path.specs.RatesTwo.{information_of, quality_of, quality_length, frame_bits, symbols_of}
-use Rattle.symbol_path.specs.FramesTwo.{quality_indicator, word_bits}
+use Rattle.symbol_path.proofs.Common.{◌≡◌, ℕ, ◌+◌, ◌*◌, ◌≤◌, Bool, false, List, ◌++◌, length, replicate, refl, sym, ap, ◌∙◌, arith}
+use Rattle.symbol_path.proofs.Common.{length-append, length-replicate, binary, code_symbols, length-code_symbols, generator_of}
+use Rattle.symbol_path.proofs.Common.{degree_positive, length-check_bits, Rate2, R14400, R7200, R3600, R1800, information_of, quality_of}
+use Rattle.symbol_path.proofs.Common.{quality_length, frame_bits, symbols_of, quality_indicator, word_bits}
 
 -- how many bits a frame has
 pub bits_least : (rate : Rate2) → 8 ≤ frame_bits rate

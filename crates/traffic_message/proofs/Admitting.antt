@@ -1,18 +1,11 @@
 -- Which bodies are those of messages.
-use Rattle.std.proofs.Common.{◌≡◌, ℕ, ◌==◌, ◌&&◌, Bool, true, false, not, cond, List, length, drop, refl, sym, ap, ◌∙◌, nat_le, Option}
-use Rattle.std.proofs.Common.{Some, None}
-use Rattle.std.proofs.lemmas.Bool.{and_from, and_parts, le-leb, leb-true}
-use Rattle.chip_core.specs.Readings.{number_at}
-use Rattle.quality_bits.specs.Capsules.{FillsCapsule}
-use Rattle.quality_bits.specs.declared.kind.Kind.TheVariants.{M16}
-use Rattle.traffic_message.specs.Admitted.{admits, part_admits, HasMessage}
-use Rattle.traffic_message.specs.Handoff.{direction_at, direction_reading, has_records, is_hard}
-use Rattle.traffic_message.specs.InTraffic.{in_traffic_at, in_traffic_reading}
-use Rattle.traffic_message.specs.Messages.{Message}
-use Rattle.traffic_message.specs.Neighbors.{has_neighbors, update_at, update_reading}
+use Rattle.traffic_message.proofs.Common.{◌≡◌, ℕ, ◌==◌, ◌&&◌, Bool, true, false, not, cond, List, length, drop, refl, sym, ap, ◌∙◌, nat_le}
+use Rattle.traffic_message.proofs.Common.{Option, Some, None, and_from, and_parts, le-leb, leb-true, number_at, FillsCapsule, M16, admits}
+use Rattle.traffic_message.proofs.Common.{part_admits, HasMessage, direction_at, direction_reading, has_records, is_hard, in_traffic_at}
+use Rattle.traffic_message.proofs.Common.{in_traffic_reading, Message, has_neighbors, update_at, update_reading}
+use Rattle.traffic_message.proofs.Bodies.{body_parts_read, body_read, is_body_from, is_body_parts, message_again, message_there}
 use Rattle.traffic_message.specs.Reading as reading
 use Rattle.traffic_message.specs.declared.body.TrafficBody.TheVariants as bodies
-use Rattle.traffic_message.proofs.Bodies.{body_parts_read, body_read, is_body_from, is_body_parts, message_again, message_there}
 
 -- whether there is one
 abbrev is_there : {A : Type 0} → Option A → Bool

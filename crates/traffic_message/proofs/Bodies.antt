@@ -1,31 +1,18 @@
 -- Bodies of messages, spelled and read again.
-use Rattle.std.proofs.Common.{◌≡◌, ◌≢◌, ◌⊎◌, ℕ, ◌+◌, ◌-◌, ◌%◌, ◌^◌, ◌<◌, ◌≤◌, ◌==◌, ◌&&◌, Bool, true, false, List, [], ◌∷◌, ◌++◌, length}
-use Rattle.std.proofs.Common.{take, drop, refl, sym, ap, subst, ◌∙◌, arith, append_assoc, length-append, nat_le, inl, inr, Option, Some}
-use Rattle.std.proofs.Common.{None}
-use Rattle.std.proofs.lemmas.Bool.{and_from, and_parts, cases_Bool, eq-eqb, eqb-false, eqb-true, le-leb, leb-true, ne_eqb}
-use Rattle.std.proofs.lemmas.List.{drop_at, length-drop, take_all}
-use Rattle.chip_core.specs.Bits.{binary, digit}
-use Rattle.chip_core.specs.Fields.{spelled, in_widths, FieldsFit}
-use Rattle.chip_core.specs.Readings.{number_at, values_at}
-use Rattle.chip_core.proofs.Digits.{digit_of}
-use Rattle.chip_core.proofs.FieldLists.{length-binary}
-use Rattle.chip_core.proofs.ValueLists.{behind_front, dropped, front, length-in_widths, number_front, values_again, values_there}
-use Rattle.quality_bits.specs.Capsules.{FillsCapsule}
-use Rattle.quality_bits.specs.declared.kind.Kind.TheVariants.{M16}
-use Rattle.traffic_message.specs.Handoff.{direction_bits, direction_reading, is_hard, IsHandoffDirection}
-use Rattle.traffic_message.specs.InTraffic.{in_traffic_bits, in_traffic_reading, IsInTraffic}
-use Rattle.traffic_message.specs.Messages as messages
-use Rattle.traffic_message.specs.Neighbors.{update_bits, update_reading, IsNeighborUpdate}
-use Rattle.traffic_message.specs.Reading as reading
-use Rattle.traffic_message.specs.Widths.{head_widths}
-use Rattle.traffic_message.specs.declared.body.TrafficBody.{TrafficBody}
-use Rattle.traffic_message.specs.declared.body.TrafficBody.TheVariants as bodies
-use Rattle.traffic_message.specs.declared.fields.DirectionFields.{DirectionFields}
-use Rattle.traffic_message.specs.declared.fields.Head.{Head}
-use Rattle.traffic_message.specs.declared.fields.InTrafficFields.{InTrafficFields}
-use Rattle.traffic_message.specs.declared.fields.UpdateFields.{UpdateFields}
+use Rattle.traffic_message.proofs.Common.{◌≡◌, ◌≢◌, ◌⊎◌, ℕ, ◌+◌, ◌-◌, ◌%◌, ◌^◌, ◌<◌, ◌≤◌, ◌==◌, ◌&&◌, Bool, true, false, List, [], ◌∷◌}
+use Rattle.traffic_message.proofs.Common.{◌++◌, length, take, drop, refl, sym, ap, subst, ◌∙◌, arith, append_assoc, length-append, nat_le}
+use Rattle.traffic_message.proofs.Common.{inl, inr, Option, Some, None, and_from, and_parts, cases_Bool, eq-eqb, eqb-false, eqb-true}
+use Rattle.traffic_message.proofs.Common.{le-leb, leb-true, ne_eqb, drop_at, length-drop, take_all, binary, digit, spelled, in_widths}
+use Rattle.traffic_message.proofs.Common.{FieldsFit, number_at, values_at, digit_of, length-binary, behind_front, dropped, front}
+use Rattle.traffic_message.proofs.Common.{length-in_widths, number_front, values_again, values_there, FillsCapsule, M16, direction_bits}
+use Rattle.traffic_message.proofs.Common.{direction_reading, is_hard, IsHandoffDirection, in_traffic_bits, in_traffic_reading, IsInTraffic}
+use Rattle.traffic_message.proofs.Common.{update_bits, update_reading, IsNeighborUpdate, head_widths, TrafficBody, DirectionFields, Head}
+use Rattle.traffic_message.proofs.Common.{InTrafficFields, UpdateFields}
 use Rattle.traffic_message.proofs.ByLayout.{direction_again, direction_read, mapped_some, parameters_again, parameters_read, update_again}
 use Rattle.traffic_message.proofs.ByLayout.{update_read}
+use Rattle.traffic_message.specs.Messages as messages
+use Rattle.traffic_message.specs.Reading as reading
+use Rattle.traffic_message.specs.declared.body.TrafficBody.TheVariants as bodies
 
 -- WHAT STANDS BEHIND THE HEAD
 -- another body is read as it is

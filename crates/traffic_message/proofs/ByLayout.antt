@@ -1,34 +1,18 @@
 -- What stands behind the head, by its layouts.
-use Rattle.std.proofs.Common.{◌≡◌, ℕ, zero, suc, ◌+◌, ◌-◌, ◌*◌, ◌/◌, ◌%◌, ◌^◌, ◌<◌, ◌≤◌, ◌==◌, Bool, true, false, List, [], ◌∷◌, ◌++◌}
-use Rattle.std.proofs.Common.{length, get_or, map, take, drop, refl, sym, ap, subst, ◌∙◌, arith, nat_le, inl, inr, Option, Some, None}
-use Rattle.std.proofs.lemmas.Bool.{and_parts, cases_Bool, cases_lt, eqb-false, le-leb, leb-false, leb-true, lt-leb}
-use Rattle.std.proofs.lemmas.List.{append-nil, length-drop, nil_from_length}
-use Rattle.chip_core.specs.Bits.{binary, number, places}
-use Rattle.chip_core.specs.Fields.{field, spelled, FieldsFit}
-use Rattle.chip_core.specs.Readings.{number_at, values_at, column_at}
-use Rattle.chip_core.specs.declared.field.Field.{Field}
-use Rattle.chip_core.proofs.Places.{map-places-all}
-use Rattle.chip_core.proofs.ValueLists.{dropped, front}
-use Rattle.message_layout.specs.Contents.{height, record_fields}
-use Rattle.message_layout.specs.Reading.{◌>>=◌, fields_at, group_at, number_part, octets_at, part_at, presence_at, reading, records_at}
-use Rattle.message_layout.specs.Reading.{rest_at}
-use Rattle.message_layout.specs.Shapes.{is_lawful}
-use Rattle.message_layout.specs.Spelling.{behind_group, group_fields, spelling, IsGroup, IsOf}
-use Rattle.message_layout.specs.declared.contents.Contents.{Contents}
-use Rattle.message_layout.specs.declared.layout.Presence.TheVariants.{Flagged}
-use Rattle.message_layout.proofs.Columns.{get-lengths, three_columns, three_long}
-use Rattle.message_layout.proofs.Round.{reading_again, reading_there}
+use Rattle.traffic_message.proofs.Common.{◌≡◌, ℕ, zero, suc, ◌+◌, ◌-◌, ◌*◌, ◌/◌, ◌%◌, ◌^◌, ◌<◌, ◌≤◌, ◌==◌, Bool, true, false, List, [], ◌∷◌}
+use Rattle.traffic_message.proofs.Common.{◌++◌, length, get_or, map, take, drop, refl, sym, ap, subst, ◌∙◌, arith, nat_le, inl, inr, Option}
+use Rattle.traffic_message.proofs.Common.{Some, None, and_parts, cases_Bool, cases_lt, eqb-false, le-leb, leb-false, leb-true, lt-leb}
+use Rattle.traffic_message.proofs.Common.{append-nil, length-drop, nil_from_length, binary, number, places, field, spelled, FieldsFit}
+use Rattle.traffic_message.proofs.Common.{number_at, values_at, column_at, Field, map-places-all, dropped, front, height, record_fields}
+use Rattle.traffic_message.proofs.Common.{◌>>=◌, fields_at, group_at, number_part, octets_at, part_at, presence_at, reading, records_at}
+use Rattle.traffic_message.proofs.Common.{rest_at, is_lawful, behind_group, group_fields, spelling, IsGroup, IsOf, Contents, Flagged}
+use Rattle.traffic_message.proofs.Common.{get-lengths, three_columns, three_long, reading_again, reading_there, mapped, search_widths}
+use Rattle.traffic_message.proofs.Common.{time_widths, DirectionFields, InTrafficFields, Search, UpdateFields}
+use Rattle.traffic_message.proofs.Directions.{first_is, hard_is, octets_is, place_clear, place_set, soft_bits}
 use Rattle.traffic_message.specs.Handoff as handoff
 use Rattle.traffic_message.specs.InTraffic as parameters
 use Rattle.traffic_message.specs.Layouts as layouts
 use Rattle.traffic_message.specs.Neighbors as updates
-use Rattle.traffic_message.specs.Reading.{mapped}
-use Rattle.traffic_message.specs.Widths.{search_widths, time_widths}
-use Rattle.traffic_message.specs.declared.fields.DirectionFields.{DirectionFields}
-use Rattle.traffic_message.specs.declared.fields.InTrafficFields.{InTrafficFields}
-use Rattle.traffic_message.specs.declared.fields.Search.{Search}
-use Rattle.traffic_message.specs.declared.fields.UpdateFields.{UpdateFields}
-use Rattle.traffic_message.proofs.Directions.{first_is, hard_is, octets_is, place_clear, place_set, soft_bits}
 
 -- what a reading gave
 pub mapped_some : {A B : Type 0} (f : A → B) (read : Option A) (y : B) →

@@ -1,16 +1,9 @@
 -- Handoff directions: where their fields stand, and how many bits they have.
-use Rattle.std.proofs.Common.{◌≡◌, ℕ, ◌+◌, ◌*◌, ◌/◌, ◌==◌, true, false, Bool, List, [], ◌++◌, length, take, drop, refl, sym, ap, ◌∙◌, arith}
-use Rattle.std.proofs.Common.{append_assoc, length-append, Option, Some, None}
-use Rattle.std.proofs.lemmas.List.{append-nil, drop_at}
-use Rattle.chip_core.specs.Bits.{binary, number}
-use Rattle.chip_core.specs.Fields.{spelled, in_widths, FieldsFit}
-use Rattle.chip_core.specs.Readings.{number_at, values_at}
-use Rattle.chip_core.proofs.FieldLists.{length-binary}
-use Rattle.chip_core.proofs.ValueLists.{behind_front, dropped, length-in_widths, number_front, values_again}
+use Rattle.traffic_message.proofs.Common.{◌≡◌, ℕ, ◌+◌, ◌*◌, ◌/◌, ◌==◌, true, false, Bool, List, [], ◌++◌, length, take, drop, refl, sym, ap}
+use Rattle.traffic_message.proofs.Common.{◌∙◌, arith, append_assoc, length-append, Option, Some, None, append-nil, drop_at, binary, number}
+use Rattle.traffic_message.proofs.Common.{spelled, in_widths, FieldsFit, number_at, values_at, length-binary, behind_front, dropped}
+use Rattle.traffic_message.proofs.Common.{length-in_widths, number_front, values_again, search_widths, time_widths, DirectionFields, Search}
 use Rattle.traffic_message.specs.Handoff as handoff
-use Rattle.traffic_message.specs.Widths.{search_widths, time_widths}
-use Rattle.traffic_message.specs.declared.fields.DirectionFields.{DirectionFields}
-use Rattle.traffic_message.specs.declared.fields.Search.{Search}
 
 -- CLAUSES OF THE DEFINITIONS
 pub hard_is : (bits : List Bool) →

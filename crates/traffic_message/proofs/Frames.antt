@@ -1,14 +1,8 @@
 -- The parts of frames.
-use Rattle.std.proofs.Common.{◌≡◌, ℕ, ◌+◌, ◌-◌, ◌≤◌, ◌==◌, Bool, true, false, cond, List, [], ◌∷◌, ◌++◌, length, get_or, take, drop, refl}
-use Rattle.std.proofs.Common.{sym, ap, ◌∙◌, arith, slice_get, Some, None}
-use Rattle.std.proofs.lemmas.List.{append-nil, drop_all, length-drop, take_all, take-append-drop}
-use Rattle.std.proofs.lemmas.Option.{get_or_from_slice_get}
-use Rattle.chip_core.specs.Bits.{number}
-use Rattle.chip_core.specs.Readings.{number_at}
-use Rattle.chip_core.proofs.FieldLists.{slice_get-drop}
-use Rattle.chip_core.proofs.ValueLists.{dropped}
-use Rattle.traffic_message.specs.Multiplex.{joined, primary_bits, split_9600}
-use Rattle.traffic_message.specs.declared.multiplex.Mux.{Mux}
+use Rattle.traffic_message.proofs.Common.{◌≡◌, ℕ, ◌+◌, ◌-◌, ◌≤◌, ◌==◌, Bool, true, false, cond, List, [], ◌∷◌, ◌++◌, length, get_or, take}
+use Rattle.traffic_message.proofs.Common.{drop, refl, sym, ap, ◌∙◌, arith, slice_get, Some, None, append-nil, drop_all, length-drop}
+use Rattle.traffic_message.proofs.Common.{take_all, take-append-drop, get_or_from_slice_get, number, number_at, slice_get-drop, dropped}
+use Rattle.traffic_message.proofs.Common.{joined, primary_bits, split_9600, Mux}
 
 abbrev parts_of : ℕ → Bool → List Bool → Mux
 parts_of size tt bits = record {

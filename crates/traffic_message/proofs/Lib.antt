@@ -1,5 +1,6 @@
 pub mod Admitting
 pub mod Bodies
+pub mod Common
 pub mod Directions
 pub mod Frames
 pub mod ByLayout

@@ -1,18 +1,10 @@
 -- Bodies and capsules read as messages.
-use Rattle.std.proofs.Common.{◌≡◌, ℕ, ◌-◌, Bool, List, length, take, drop, refl, sym, ap, ◌∙◌, arith, inl, inr, Option, Some, None, Result}
-use Rattle.std.proofs.Common.{Ok, Err}
-use Rattle.std.specs.Prelude.{IfOk, IfSome}
-use Rattle.std.proofs.lemmas.Bool.{cases_Bool}
-use Rattle.chip_core.specs.Bits.{are_same}
-use Rattle.chip_core.specs.declared.check_form.CheckForm.{CheckForm}
-use Rattle.chip_core.proofs.BitLists.{same_from, same_refl}
-use Rattle.quality_bits.specs.Capsules.{capsule}
-use Rattle.quality_bits.specs.declared.kind.Kind.TheVariants.{M16}
-use Rattle.quality_bits.proofs.Wholes.{inner, inner-capsule}
-use Rattle.traffic_message.specs.Messages.{Message, message_body, traffic_capsule, IsTrafficMessage}
-use Rattle.traffic_message.specs.Reading as reading
-use Rattle.traffic_message.specs.declared.fault.MessageFault.{MessageFault}
+use Rattle.traffic_message.proofs.Common.{◌≡◌, ℕ, ◌-◌, Bool, List, length, take, drop, refl, sym, ap, ◌∙◌, arith, inl, inr, Option, Some}
+use Rattle.traffic_message.proofs.Common.{None, Result, Ok, Err, IfOk, IfSome, cases_Bool, are_same, CheckForm, same_from, same_refl}
+use Rattle.traffic_message.proofs.Common.{capsule, M16, inner, inner-capsule, Message, message_body, traffic_capsule, IsTrafficMessage}
+use Rattle.traffic_message.proofs.Common.{MessageFault}
 use Rattle.traffic_message.proofs.Bodies.{message_again, message_there}
+use Rattle.traffic_message.specs.Reading as reading
 
 -- BODIES
 pub body_found : (body : List Bool) (result : Option Message) →

@@ -1,10 +1,6 @@
 -- The records of a handoff direction.
-use Rattle.std.proofs.Common.{◌≡◌, ℕ, zero, suc, ◌*◌, ◌^◌, ◌<◌, Bool, List, [], ◌∷◌, ◌++◌, length, get_or, refl, sym, ap, ◌∙◌, arith}
-use Rattle.std.proofs.Common.{append_assoc, length-append}
-use Rattle.chip_core.specs.Bits.{binary}
-use Rattle.chip_core.specs.Fields.{spelled, FieldsFit}
-use Rattle.chip_core.proofs.FieldLists.{length-binary}
-use Rattle.traffic_message.specs.Handoff.{direction_records}
+use Rattle.traffic_message.proofs.Common.{◌≡◌, ℕ, zero, suc, ◌*◌, ◌^◌, ◌<◌, Bool, List, [], ◌∷◌, ◌++◌, length, get_or, refl, sym, ap, ◌∙◌}
+use Rattle.traffic_message.proofs.Common.{arith, append_assoc, length-append, binary, spelled, FieldsFit, length-binary, direction_records}
 
 -- the bits of a record
 abbrev pub record_bits : ℕ → ℕ → ℕ → List Bool

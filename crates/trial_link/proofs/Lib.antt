@@ -1,3 +1,4 @@
+pub mod Common
 pub mod SpelledBytes
 pub mod SpelledFields
 pub mod SpelledLines

@@ -1,23 +1,12 @@
 -- The bytes of texts that values are spelled with: none is a space, an LF or a mark of another
 -- kind.
-use Rattle.std.proofs.Common.{◌≡◌, ℕ, zero, suc, ◌+◌, ◌*◌, ◌/◌, ◌%◌, ◌^◌, ◌<◌, ◌≤◌, ◌==◌, Bool, true, false, ◌&&◌, nat_le, List, [], ◌∷◌}
-use Rattle.std.proofs.Common.{◌++◌, length, refl, ap, ◌∙◌, arith, decimal, slice_index, take, drop, codes, inl, inr, length-append}
-use Rattle.std.proofs.Common.{length-drop}
-use Rattle.std.specs.Char.{is_ascii_digit}
-use Rattle.std.specs.Int.{byte_at, bytes_high_first, to_be_bytes, w32, w64}
-use Rattle.std.specs.Str.{all_ascii_digits}
-use Rattle.std.proofs.Math.Nat.{pow-le-pow_right}
-use Rattle.std.proofs.lemmas.Bool.{and_from, and_parts, cases_lt, cond-false, cond-true, eq-eqb, eqb-true, le-leb, leb-true, ne_eqb}
-use Rattle.std.proofs.lemmas.Fmt.{digits_decimal, length-decimal-le}
-use Rattle.std.proofs.lemmas.List.{length-take}
-use Rattle.hex.proofs.HexLemmas.{length-encode_with}
-use Rattle.hex.specs.Hex.{IsBytes, encode_lower, encode_with, lower_digits}
-use Rattle.chip_core.proofs.Digits.{number_lt}
-use Rattle.chip_core.specs.Bits.{number}
-use Rattle.line_text.specs.Texts.{bit_text, digit_of, digits_of, octet_count, octets, padded, serial_digits, state_digits}
-use Rattle.cell_script.specs.Script.{is_line}
-use Rattle.cell_script.specs.ScriptValues.{length_before}
-use Rattle.cell_script.proofs.ScriptNumerals.{own_numerals}
+use Rattle.trial_link.proofs.Common.{◌≡◌, ℕ, zero, suc, ◌+◌, ◌*◌, ◌/◌, ◌%◌, ◌^◌, ◌<◌, ◌≤◌, ◌==◌, Bool, true, false, ◌&&◌, nat_le, List, []}
+use Rattle.trial_link.proofs.Common.{◌∷◌, ◌++◌, length, refl, ap, ◌∙◌, arith, decimal, slice_index, take, drop, codes, inl, inr}
+use Rattle.trial_link.proofs.Common.{length-append, length-drop, is_ascii_digit, byte_at, bytes_high_first, to_be_bytes, w32, w64}
+use Rattle.trial_link.proofs.Common.{all_ascii_digits, pow-le-pow_right, and_from, and_parts, cases_lt, cond-false, cond-true, eq-eqb}
+use Rattle.trial_link.proofs.Common.{eqb-true, le-leb, leb-true, ne_eqb, digits_decimal, length-decimal-le, length-take, length-encode_with}
+use Rattle.trial_link.proofs.Common.{IsBytes, encode_lower, encode_with, lower_digits, number_lt, number, bit_text, digit_of, digits_of}
+use Rattle.trial_link.proofs.Common.{octet_count, octets, padded, serial_digits, state_digits, is_line, length_before, own_numerals}
 
 -- whether all bytes are in a range
 abbrev pub are_within : ℕ → ℕ → List ℕ → Bool

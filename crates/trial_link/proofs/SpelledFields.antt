@@ -1,11 +1,7 @@
 -- Fields read back: a key, and behind it a value that ends at a space or with the text.
-use Rattle.std.proofs.Common.{◌≡◌, ℕ, ◌==◌, true, List, [], ◌∷◌, ◌++◌, length, refl, sym, ap, ◌∙◌, arith, take, drop, Option, nat_eq}
-use Rattle.std.proofs.Common.{append-nil}
-use Rattle.std.specs.Cmp.Lexicographic.{pointwise}
-use Rattle.std.proofs.Math.Seq.{drop-append_seam, take-append_seam}
-use Rattle.std.proofs.lemmas.Bool.{and_from, cond-true, eq-eqb}
-use Rattle.cell_script.specs.ScriptFields.{field, keyed, past, value_of}
-use Rattle.cell_script.specs.ScriptValues.{begins_with, length_before}
+use Rattle.trial_link.proofs.Common.{◌≡◌, ℕ, ◌==◌, true, List, [], ◌∷◌, ◌++◌, length, refl, sym, ap, ◌∙◌, arith, take, drop, Option, nat_eq}
+use Rattle.trial_link.proofs.Common.{append-nil, pointwise, drop-append_seam, take-append_seam, and_from, cond-true, eq-eqb, field, keyed}
+use Rattle.trial_link.proofs.Common.{past, value_of, begins_with, length_before}
 use Rattle.trial_link.proofs.SpelledBytes.{are_within, before_low_mark, before_mark, before_none}
 
 same_bytes : (xs : List ℕ) → pointwise nat_eq xs xs ≡ true

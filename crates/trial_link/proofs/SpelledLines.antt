@@ -1,34 +1,18 @@
 -- Lines read back: what each kind of statement is, from the text that it is written with.
-use Rattle.std.proofs.Common.{◌≡◌, ℕ, ◌+◌, ◌*◌, ◌/◌, ◌%◌, ◌^◌, ◌<◌, ◌≤◌, Bool, true, false, List, [], ◌++◌, length, refl, sym, ap, ◌∙◌}
-use Rattle.std.proofs.Common.{arith, Some, codes, decimal, nat_le, ◌&&◌, ◌==◌, option_map, take, length-append}
-use Rattle.std.proofs.lemmas.Bool.{and_parts, cond-true, eq-eqb, leb-true}
-use Rattle.chip_core.specs.Bits.{number}
-use Rattle.chip_core.specs.declared.check_form.CheckForm.{CheckForm}
-use Rattle.chip_core.specs.declared.check_form.CheckForm.TheVariants.{Plain, Complemented}
-use Rattle.line_text.specs.Texts.{bit_text, digits_of, serial_digits, state_digits}
-use Rattle.paging_message.specs.Admitted.{admits}
-use Rattle.paging_message.specs.Reading.{is_body}
-use Rattle.quality_bits.specs.TrafficWords.{information_of}
-use Rattle.quality_bits.specs.declared.rate.Rate.{Rate}
-use Rattle.quality_bits.specs.declared.rate.Rate.TheVariants.{R9600, R4800, R2400, R1200}
-use Rattle.cell_plan.specs.declared.plan.CellIdentity.{CellIdentity}
-use Rattle.cell_plan.specs.declared.plan.Page.{Page}
-use Rattle.cell_script.specs.declared.statements.Statement.TheVariants as statements
-use Rattle.cell_script.specs.declared.statements.TrafficLine.{TrafficLine}
-use Rattle.cell_plan.specs.declared.traffic_frame.TrafficFrame.{TrafficFrame}
-use Rattle.cell_script.specs.ScriptFields.{field, past, past_at, unsigned_at}
-use Rattle.cell_script.specs.ScriptLines.{cell_in, cell_line, cell_rows, check_form, frame_in, frame_key, frame_with, lawful_frame, page_in}
-use Rattle.cell_script.specs.ScriptLines.{page_key, page_with, statement_in, traffic_in}
-use Rattle.cell_plan.specs.Stated.{IsStatedCell}
-use Rattle.cell_script.specs.ScriptValues.{bits_in, commands_in, number_up_to, serial_number_in, state_in}
-use Rattle.trial_link.specs.Spelling.{cell_text, form_bit, frame_text, page_text, traffic_text}
-use Rattle.cell_plan.specs.TrafficFrames.{IsTrafficFrame}
-use Rattle.cell_script.proofs.ScriptTables.{traffic_read}
+use Rattle.trial_link.proofs.Common.{◌≡◌, ℕ, ◌+◌, ◌*◌, ◌/◌, ◌%◌, ◌^◌, ◌<◌, ◌≤◌, Bool, true, false, List, [], ◌++◌, length, refl, sym, ap}
+use Rattle.trial_link.proofs.Common.{◌∙◌, arith, Some, codes, decimal, nat_le, ◌&&◌, ◌==◌, option_map, take, length-append, and_parts}
+use Rattle.trial_link.proofs.Common.{cond-true, eq-eqb, leb-true, number, CheckForm, Plain, Complemented, bit_text, digits_of}
+use Rattle.trial_link.proofs.Common.{serial_digits, state_digits, admits, is_body, information_of, Rate, R9600, R4800, R2400, R1200}
+use Rattle.trial_link.proofs.Common.{CellIdentity, Page, TrafficLine, TrafficFrame, field, past, past_at, unsigned_at, cell_in, cell_line}
+use Rattle.trial_link.proofs.Common.{cell_rows, check_form, frame_in, frame_key, frame_with, lawful_frame, page_in, page_key, page_with}
+use Rattle.trial_link.proofs.Common.{statement_in, traffic_in, IsStatedCell, bits_in, commands_in, number_up_to, serial_number_in, state_in}
+use Rattle.trial_link.proofs.Common.{cell_text, form_bit, frame_text, page_text, traffic_text, IsTrafficFrame, traffic_read}
 use Rattle.trial_link.proofs.SpelledBytes.{are_within, bit_text_short, bit_text_within, decimal_short, decimal_within, digits_of_long}
 use Rattle.trial_link.proofs.SpelledBytes.{digits_of_within, serial_long, serial_within, state_long, state_within, within-append}
 use Rattle.trial_link.proofs.SpelledBytes.{within-wider}
 use Rattle.trial_link.proofs.SpelledFields.{fenced_by_end, fenced_by_space, field-front, field-last, past-front, past-last}
 use Rattle.trial_link.proofs.SpelledValues.{bits_back, commands_back, number_back, serial_back, state_back}
+use Rattle.cell_script.specs.declared.statements.Statement.TheVariants as statements
 
 -- ---- values without a space
 

@@ -1,22 +1,15 @@
 -- Values read back from the texts that they are spelled with.
-use Rattle.std.proofs.Common.{◌≡◌, ℕ, zero, suc, ◌+◌, ◌-◌, ◌*◌, ◌/◌, ◌%◌, ◌^◌, ◌<◌, ◌≤◌, ◌==◌, Bool, true, false, List, [], ◌∷◌, ◌++◌}
-use Rattle.std.proofs.Common.{length, refl, sym, ap, ◌∙◌, arith, decimal, slice_index, take, drop, replicate, codes, Some, None, Option}
-use Rattle.std.proofs.Common.{unwrap_or, append_assoc, append-nil, length-append, length-take-le, take-append-drop}
-use Rattle.std.specs.Prelude.{flat_map, option_and_then}
-use Rattle.std.specs.Int.{byte_at, bytes_high_first, to_be_bytes, w32}
-use Rattle.std.proofs.Math.Seq.{drop-append_seam, take-append_seam}
-use Rattle.std.proofs.lemmas.Bool.{cond-false, cond-true, eq-eqb, eqb-true, le-ltb, lt-leb, lt-ltb, ne_eqb}
-use Rattle.std.proofs.lemmas.List.{length-drop, length-replicate}
-use Rattle.std.proofs.lemmas.Nat.{from_be_bytes-to_be_bytes_4, from_be_bytes-to_be_bytes_8}
-use Rattle.hex.proofs.HexLemmas.{decode_of-encode_lower}
-use Rattle.hex.specs.Hex.{IsBytes, encode_lower, encode_with, lower_digits}
-use Rattle.chip_core.specs.Bits.{binary, number}
-use Rattle.long_code.specs.LongCode.{IsState}
-use Rattle.quality_bits.proofs.Digits.{binary-number}
-use Rattle.line_text.specs.Texts.{bit_text, digits_of, octet_count, octets, padded, serial_digits, state_digits}
-use Rattle.cell_script.specs.ScriptValues.{all_clear, as_state, behind, bits_in, commands_in, digits_behind, hex_bits, hex_digit, hex_from}
-use Rattle.cell_script.specs.ScriptValues.{length_before, number_up_to, octets_in, serial_number_in, state_in, unpadded}
-use Rattle.cell_script.proofs.ScriptNumerals.{one_numeral}
+use Rattle.trial_link.proofs.Common.{◌≡◌, ℕ, zero, suc, ◌+◌, ◌-◌, ◌*◌, ◌/◌, ◌%◌, ◌^◌, ◌<◌, ◌≤◌, ◌==◌, Bool, true, false, List, [], ◌∷◌}
+use Rattle.trial_link.proofs.Common.{◌++◌, length, refl, sym, ap, ◌∙◌, arith, decimal, slice_index, take, drop, replicate, codes, Some}
+use Rattle.trial_link.proofs.Common.{None, Option, unwrap_or, append_assoc, append-nil, length-append, length-take-le, take-append-drop}
+use Rattle.trial_link.proofs.Common.{flat_map, option_and_then, byte_at, bytes_high_first, to_be_bytes, w32, drop-append_seam}
+use Rattle.trial_link.proofs.Common.{take-append_seam, cond-false, cond-true, eq-eqb, eqb-true, le-ltb, lt-leb, lt-ltb, ne_eqb}
+use Rattle.trial_link.proofs.Common.{length-replicate, from_be_bytes-to_be_bytes_4, from_be_bytes-to_be_bytes_8, decode_of-encode_lower}
+use Rattle.trial_link.proofs.Common.{IsBytes, encode_lower, encode_with, lower_digits, binary, number, IsState, binary-number, bit_text}
+use Rattle.trial_link.proofs.Common.{digits_of, octet_count, octets, padded, serial_digits, state_digits, all_clear, as_state, behind}
+use Rattle.trial_link.proofs.Common.{bits_in, commands_in, digits_behind, hex_bits, hex_digit, hex_from, length_before, number_up_to}
+use Rattle.trial_link.proofs.Common.{octets_in, serial_number_in, state_in, unpadded, one_numeral}
+use Rattle.std.proofs.lemmas.List.{length-drop}
 use Rattle.trial_link.proofs.SpelledBytes.{are_within, at_below, before_high_mark, before_mark, bytes_are, decimal_within, digits_of_long}
 use Rattle.trial_link.proofs.SpelledBytes.{octet_digits, octet_digits_long, octets_are, serial_long, state_long}
 

@@ -1,15 +1,8 @@
 -- Texts of whole lines that lead from one draft to another.
-use Rattle.std.proofs.Common.{◌≡◌, ℕ, ◌+◌, ◌-◌, true, List, [], ◌∷◌, ◌++◌, length, take, refl, sym, ap, ◌∙◌, arith, Option, Some}
-use Rattle.std.proofs.Common.{append_assoc, length-append, Ok, append-nil}
-use Rattle.std.specs.Prelude.{option_and_then, ok_or}
-use Rattle.std.proofs.Math.Seq.{take-append_seam}
-use Rattle.cell_plan.specs.declared.plan.CellPlan.{CellPlan}
-use Rattle.cell_script.specs.declared.statements.Statement.{Statement}
-use Rattle.cell_script.specs.Script.{draft_after, lines, stated, stated_plan}
-use Rattle.cell_script.specs.ScriptDrafts.{Draft, empty_draft, plan_at, with_line, with_next}
-use Rattle.cell_script.specs.ScriptLines.{statement_in}
-use Rattle.trial_link.specs.Trial.{ended}
-use Rattle.cell_script.proofs.ScriptSplits.{draft_after-line, lines-append, stated-next, stated-none}
+use Rattle.trial_link.proofs.Common.{◌≡◌, ℕ, ◌+◌, ◌-◌, true, List, [], ◌∷◌, ◌++◌, length, take, refl, sym, ap, ◌∙◌, arith, Option, Some}
+use Rattle.trial_link.proofs.Common.{append_assoc, length-append, Ok, append-nil, option_and_then, ok_or, take-append_seam, CellPlan}
+use Rattle.trial_link.proofs.Common.{Statement, draft_after, lines, stated, stated_plan, Draft, empty_draft, plan_at, with_line, with_next}
+use Rattle.trial_link.proofs.Common.{statement_in, ended, draft_after-line, lines-append, stated-next, stated-none}
 use Rattle.trial_link.proofs.SpelledBytes.{are_within, is_line-within}
 
 -- ---- one line

@@ -1,15 +1,10 @@
 -- Lemmas on the draws of a trial, one after another, and on the lines of its script.
-use Rattle.std.proofs.Common.{◌≡◌, ℕ, suc, ◌+◌, ◌%◌, ◌==◌, List, [], ◌∷◌, ◌++◌, length, map, refl, sym, ap, ◌∙◌, arith, append_assoc}
-use Rattle.std.proofs.Common.{append-nil}
-use Rattle.std.proofs.lemmas.List.Concat.{flat_map-append}
-use Rattle.chip_core.specs.Bits.{places}
-use Rattle.chip_core.proofs.Places.{length-map-places, map-places-more, places-none}
-use Rattle.cell_plan.specs.declared.plan.CellIdentity.{CellIdentity}
-use Rattle.cell_plan.specs.declared.traffic_frame.TrafficFrame.{TrafficFrame}
-use Rattle.trial_link.specs.Spelling.{cell_text, frame_text, page_text, traffic_text}
-use Rattle.trial_link.specs.Trial.{behind_draw, behind_draws, behind_frame, behind_frames, bits_drawn, channel_text, drawn, ended}
-use Rattle.trial_link.specs.Trial.{followed_line, frame_drawn, frame_lines, frames_drawn, head_text, other_frame, link_text, second_line}
-use Rattle.trial_link.specs.Trial.{sync_text, third_line, trial_cell, trial_frames, trial_page, trial_serial_number, trial_text}
+use Rattle.trial_link.proofs.Common.{◌≡◌, ℕ, suc, ◌+◌, ◌%◌, ◌==◌, List, [], ◌∷◌, ◌++◌, length, map, refl, sym, ap, ◌∙◌, arith, append_assoc}
+use Rattle.trial_link.proofs.Common.{append-nil, flat_map-append, places, length-map-places, map-places-more, places-none, CellIdentity}
+use Rattle.trial_link.proofs.Common.{TrafficFrame, cell_text, frame_text, page_text, traffic_text, behind_draw, behind_draws, behind_frame}
+use Rattle.trial_link.proofs.Common.{behind_frames, bits_drawn, channel_text, drawn, ended, followed_line, frame_drawn, frame_lines}
+use Rattle.trial_link.proofs.Common.{frames_drawn, head_text, other_frame, link_text, second_line, sync_text, third_line, trial_cell}
+use Rattle.trial_link.proofs.Common.{trial_frames, trial_page, trial_serial_number, trial_text}
 
 -- ---- none yet
 

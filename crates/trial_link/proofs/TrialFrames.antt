@@ -1,25 +1,14 @@
 -- The lines of a traffic channel with its frames, and the draft that they lead to.
-use Rattle.std.proofs.Common.{◌≡◌, ℕ, ◌+◌, ◌*◌, ◌%◌, ◌<◌, ◌≤◌, ◌==◌, List, [], ◌∷◌, ◌++◌, length, map, refl, sym, ap, ◌∙◌, arith, subst}
-use Rattle.std.proofs.Common.{Some, append_assoc, append-nil, length-append, option_map}
-use Rattle.std.proofs.lemmas.List.FromFn.{length-map-range_with_len}
-use Rattle.chip_core.specs.Bits.{places}
-use Rattle.cell_plan.specs.declared.plan.CellPlan.{CellPlan}
-use Rattle.cell_plan.specs.declared.plan.TrafficPlan.{TrafficPlan}
-use Rattle.cell_script.specs.declared.stage.Stage.{Stage}
-use Rattle.cell_script.specs.declared.stage.Stage.TheVariants.{FirstFrame, Frames}
-use Rattle.cell_script.specs.declared.statements.Statement.TheVariants as statements
-use Rattle.cell_script.specs.declared.statements.TrafficLine.{TrafficLine}
-use Rattle.cell_plan.specs.declared.traffic_frame.TrafficFrame.{TrafficFrame}
-use Rattle.cell_script.specs.ScriptDrafts.{Draft, draft_at, with_frame, with_next}
-use Rattle.cell_plan.specs.TrafficFrames.{with_one, IsTrafficFrame}
-use Rattle.cell_script.specs.ScriptStages.{after_frame, after_traffic}
-use Rattle.trial_link.specs.Spelling.{frame_text, traffic_text}
-use Rattle.trial_link.specs.Trial.{behind_draw, behind_draws, behind_frames, bits_drawn, bits_of_frame, channel_of, channel_text, drawn}
-use Rattle.trial_link.specs.Trial.{ended, frame_drawn, frame_lines, frames_drawn}
-use Rattle.cell_script.proofs.ScriptFrames.{on_last-last}
+use Rattle.trial_link.proofs.Common.{◌≡◌, ℕ, ◌+◌, ◌*◌, ◌%◌, ◌<◌, ◌≤◌, ◌==◌, List, [], ◌∷◌, ◌++◌, length, map, refl, sym, ap, ◌∙◌, arith}
+use Rattle.trial_link.proofs.Common.{subst, Some, append_assoc, append-nil, length-append, option_map, length-map-range_with_len, places}
+use Rattle.trial_link.proofs.Common.{CellPlan, TrafficPlan, Stage, FirstFrame, Frames, TrafficLine, TrafficFrame, Draft, draft_at}
+use Rattle.trial_link.proofs.Common.{with_frame, with_next, with_one, IsTrafficFrame, after_frame, after_traffic, frame_text, traffic_text}
+use Rattle.trial_link.proofs.Common.{behind_draw, behind_draws, behind_frames, bits_drawn, bits_of_frame, channel_of, channel_text, drawn}
+use Rattle.trial_link.proofs.Common.{ended, frame_drawn, frame_lines, frames_drawn, on_last-last}
 use Rattle.trial_link.proofs.SpelledLines.{IsStatedLine, frame_line_within, frame_spelled, frame_text_short, traffic_line_within}
 use Rattle.trial_link.proofs.SpelledLines.{traffic_spelled, traffic_text_short}
 use Rattle.trial_link.proofs.StatedLines.{Leads, both_lead, ended_long, none_leads, one_leads}
+use Rattle.cell_script.specs.declared.statements.Statement.TheVariants as statements
 
 -- frames that lines can tell
 abbrev pub AreToldFrames : List TrafficFrame → Type 0

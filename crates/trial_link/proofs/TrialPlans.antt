@@ -1,39 +1,20 @@
 -- The plan that the script of a trial names.
-use Rattle.std.proofs.Common.{◌≡◌, ℕ, ◌+◌, ◌*◌, ◌%◌, ◌^◌, ◌<◌, ◌≤◌, ◌==◌, Bool, true, false, List, [], ◌∷◌, ◌++◌, length, refl, ap, ◌∙◌}
-use Rattle.std.proofs.Common.{arith, Some, None, Ok, codes, pos, length-append, option_map}
-use Rattle.std.proofs.lemmas.Bool.{cond-false, cond-true, eqb-false, le-ltb}
-use Rattle.chip_core.specs.declared.width.Width.TheVariants.{Sixteen}
-use Rattle.chip_core.specs.Bits.{binary}
-use Rattle.chip_core.specs.Decimals.{digits_from}
-use Rattle.hex.specs.Hex.{decode_pairs}
-use Rattle.long_code.specs.LongCode.{IsState}
-use Rattle.paging_message.specs.Admitted.{admits}
-use Rattle.paging_message.specs.HalfFrames.{bits_left}
-use Rattle.paging_message.specs.Laying.{fill}
-use Rattle.paging_message.specs.Reading.{is_body}
-use Rattle.quality_bits.specs.declared.rate.Rate.TheVariants.{R9600}
-use Rattle.cell_plan.specs.declared.plan.CellIdentity.{CellIdentity}
-use Rattle.cell_plan.specs.declared.plan.CellPlan.{CellPlan}
-use Rattle.cell_plan.specs.declared.plan.LinkPlan.{LinkPlan}
-use Rattle.cell_script.specs.declared.stage.Stage.{Stage}
-use Rattle.cell_script.specs.declared.stage.Stage.TheVariants.{Link, Pilot, Sync, Paging, FirstPage, Pages, Frames}
-use Rattle.cell_script.specs.declared.statements.PagingLine.{PagingLine}
-use Rattle.cell_script.specs.declared.statements.Statement.TheVariants as statements
-use Rattle.cell_script.specs.Script.{named, plan_fault, plan_named, stated_plan, unless}
-use Rattle.cell_script.specs.ScriptDrafts.{draft_at, empty_draft, empty_plan, opened, with_next}
-use Rattle.cell_script.specs.ScriptFields.{field, numbers_in, past, past_numbers}
-use Rattle.cell_script.specs.ScriptLines.{freq_in, link_in, paging_in, past_freq, pilot_in, statement_in, sync_behind, sync_in}
-use Rattle.cell_plan.specs.Stated.{IsStatedCell}
-use Rattle.cell_script.specs.ScriptStages.{count_behind, pages_behind}
-use Rattle.cell_script.specs.ScriptValues.{bits_in, hex_bits, length_before, number_up_to, signed_in}
-use Rattle.trial_link.specs.Spelling.{cell_text, page_text}
-use Rattle.trial_link.specs.Trial.{channel_text, drawn, behind_draws, ended, followed_line, head_text, link_text, other_frame, second_line}
-use Rattle.trial_link.specs.Trial.{state_of_draws, sync_text, third_line, trial_cell, trial_frames, trial_page, trial_plan}
-use Rattle.trial_link.specs.Trial.{trial_serial_number, trial_sync, trial_text}
+use Rattle.trial_link.proofs.Common.{◌≡◌, ℕ, ◌+◌, ◌*◌, ◌%◌, ◌^◌, ◌<◌, ◌≤◌, ◌==◌, Bool, true, false, List, [], ◌∷◌, ◌++◌, length, refl, ap}
+use Rattle.trial_link.proofs.Common.{◌∙◌, arith, Some, None, Ok, codes, pos, length-append, option_map, cond-false, cond-true, eqb-false}
+use Rattle.trial_link.proofs.Common.{le-ltb, Sixteen, binary, digits_from, decode_pairs, IsState, admits, bits_left, fill, is_body, R9600}
+use Rattle.trial_link.proofs.Common.{CellIdentity, CellPlan, LinkPlan, Stage, Link, Pilot, Sync, Paging, FirstPage, Pages, Frames}
+use Rattle.trial_link.proofs.Common.{PagingLine, named, plan_fault, plan_named, stated_plan, unless, draft_at, empty_draft, empty_plan}
+use Rattle.trial_link.proofs.Common.{opened, with_next, field, numbers_in, past, past_numbers, freq_in, link_in, paging_in, past_freq}
+use Rattle.trial_link.proofs.Common.{pilot_in, statement_in, sync_behind, sync_in, IsStatedCell, count_behind, pages_behind, bits_in}
+use Rattle.trial_link.proofs.Common.{hex_bits, length_before, number_up_to, signed_in, cell_text, page_text, channel_text, drawn}
+use Rattle.trial_link.proofs.Common.{behind_draws, ended, followed_line, head_text, link_text, other_frame, second_line, state_of_draws}
+use Rattle.trial_link.proofs.Common.{sync_text, third_line, trial_cell, trial_frames, trial_page, trial_plan, trial_serial_number}
+use Rattle.trial_link.proofs.Common.{trial_sync, trial_text}
 use Rattle.trial_link.proofs.SpelledLines.{IsStatedLine, cell_line_within, cell_spelled, cell_text_short, page_line_within, page_spelled}
 use Rattle.trial_link.proofs.SpelledLines.{page_text_short}
 use Rattle.trial_link.proofs.StatedLines.{Leads, both_lead, ended_long, leads_to_plan, one_leads}
 use Rattle.trial_link.proofs.TrialFrames.{AreToldFrames, channel_leads, channel_short, frames_drawn-long, frames_drawn_are, with_last}
+use Rattle.cell_script.specs.declared.statements.Statement.TheVariants as statements
 
 -- ---- what the lines that no number changes state
 

@@ -1,12 +1,7 @@
 -- What is written of frames in order, and what they leave of a slot, as frames go on.
-use Rattle.std.proofs.Common.{◌≡◌, ℕ, List, [], ◌∷◌, ◌++◌, refl, sym, ap, ◌∙◌, append-nil, append_assoc, flat_map}
-use Rattle.chip_core.specs.declared.check_form.CheckForm.{CheckForm}
-use Rattle.mobile_core.specs.declared.mark.Mark.{Mark}
-use Rattle.mobile_core.specs.declared.soft_frame.SoftFrame.{SoftFrame}
-use Rattle.tuned_listener.specs.Slots.{slot_behind, slot_more}
-use Rattle.tuned_listener.specs.TunedTexts.{frame_text, frames_text, listed_text, rate2_text}
-use Rattle.tuned_listener.specs.declared.tuned_text.TunedText.{TunedText}
-use Rattle.tuned_listener.specs.declared.tuned_text.TunedText.TheVariants.{Listed, RateSetTwo}
+use Rattle.tuned_listener.proofs.Common.{◌≡◌, ℕ, List, [], ◌∷◌, ◌++◌, refl, sym, ap, ◌∙◌, append-nil, append_assoc, flat_map, CheckForm}
+use Rattle.tuned_listener.proofs.Common.{Mark, SoftFrame, slot_behind, slot_more, frame_text, frames_text, listed_text, rate2_text}
+use Rattle.tuned_listener.proofs.Common.{TunedText, Listed, RateSetTwo}
 
 -- what frames leave of a slot
 pub kept_behind : (kept xs ys : List SoftFrame) →

@@ -1,22 +1,9 @@
 -- A slot whose four frames were kept: its soft values are small, and its lines are those told.
-use Rattle.std.proofs.Common.{◌≡◌, ◌<◌, ◌≤◌, ℕ, zero, suc, ◌+◌, ◌*◌, ◌/◌, Bool, true, false, List, length, take, drop, ℤ, refl, sym, ap}
-use Rattle.std.proofs.Common.{◌∙◌, arith, Some, None, flat_map, nat_lt, sum_by, unsigned_abs, take-add}
-use Rattle.std.specs.Prelude.{if◌then◌else◌}
-use Rattle.std.proofs.lemmas.Bool.{eq-eqb}
-use Rattle.std.proofs.lemmas.List.{drop-drop, take_all}
-use Rattle.std.proofs.lemmas.List.Sums.{sum_by-append}
-use Rattle.chip_core.specs.declared.check_form.CheckForm.{CheckForm}
-use Rattle.mobile_core.specs.PagingStreams.{paging_rate}
-use Rattle.mobile_core.specs.Softs.{frame_most}
-use Rattle.mobile_core.specs.declared.mark.Mark.{Mark}
-use Rattle.mobile_core.specs.declared.soft_frame.SoftFrame.{SoftFrame}
-use Rattle.slot_mode.specs.Frames.{slot_bits, span_softs}
-use Rattle.slot_mode.specs.Slots.{is_monitored}
-use Rattle.quality_bits.specs.declared.rate.Rate.{Rate}
-use Rattle.event_tap.specs.SlotLines.{slot_lines, slot_pages}
-use Rattle.tuned_listener.specs.SlotWriting.{HoldsSlot}
-use Rattle.tuned_listener.specs.Slots.{slot_text}
-use Rattle.tuned_listener.specs.declared.slot_writer.SlotWriter.{SlotWriter}
+use Rattle.tuned_listener.proofs.Common.{◌≡◌, ◌<◌, ◌≤◌, ℕ, zero, suc, ◌+◌, ◌*◌, ◌/◌, Bool, true, false, List, length, take, drop, ℤ, refl}
+use Rattle.tuned_listener.proofs.Common.{sym, ap, ◌∙◌, arith, Some, None, flat_map, nat_lt, sum_by, unsigned_abs, take-add, if◌then◌else◌}
+use Rattle.tuned_listener.proofs.Common.{eq-eqb, drop-drop, take_all, sum_by-append, CheckForm, paging_rate, frame_most, Mark, SoftFrame}
+use Rattle.tuned_listener.proofs.Common.{slot_bits, span_softs, is_monitored, Rate, slot_lines, slot_pages, HoldsSlot, slot_text}
+use Rattle.tuned_listener.proofs.Common.{SlotWriter}
 
 -- ---- its soft values
 

@@ -1,3 +1,4 @@
+pub mod Common
 pub mod FrameTexts
 pub mod HeardSlots
 pub mod Prefixes

@@ -1,12 +1,7 @@
 -- Lemmas on beginnings of lists, on sinks that took one, and on calls that went well or failed.
-use Rattle.std.proofs.Common.{◌≡◌, ℕ, ◌+◌, ◌≤◌, ◌++◌, List, length, take, drop, refl, sym, ap, ◌∙◌}
-use Rattle.std.proofs.Common.{subst, arith, append_assoc, length-take}
-use Rattle.std.proofs.Common.{length-take-le, Option, Result, Ok, Err, OnErr, OnOk}
-use Rattle.std.proofs.lemmas.List.{take_at}
-use Rattle.std.proofs.KnownBytes.{starts_with_rest}
-use Rattle.std.specs.Io.{StartsWith}
-use Rattle.std.specs.Io.KnownBytes.{Appends}
-use Rattle.cdma_io.specs.Outside.{AppendsPrefix}
+use Rattle.tuned_listener.proofs.Common.{◌≡◌, ℕ, ◌+◌, ◌≤◌, ◌++◌, List, length, take, drop, refl, sym, ap, ◌∙◌, subst, arith, append_assoc}
+use Rattle.tuned_listener.proofs.Common.{length-take, length-take-le, Option, Result, Ok, Err, OnErr, OnOk, take_at, starts_with_rest}
+use Rattle.tuned_listener.proofs.Common.{StartsWith, Appends, AppendsPrefix}
 pub use Rattle.event_tap.proofs.TapLists.{prefix_before, prefix_behind}
 
 -- a list begins with what stands at its front

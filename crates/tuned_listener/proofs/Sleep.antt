@@ -1,32 +1,15 @@
 -- What is written of a sleeping handset's slots hangs on the samples of these alone.
-use Rattle.std.proofs.Common.{◌≡◌, ℕ, ◌+◌, ◌-◌, ◌*◌, ◌<◌, ◌≤◌, true, List, [], ◌∷◌, length, refl, sym, ap, ◌∙◌, subst, arith, inl, inr, ℤ}
-use Rattle.std.proofs.Common.{pos, ◌-ℤ◌, Option, Some, None, take, drop, filter, length-take-le}
-use Rattle.std.specs.Prelude.{int_le, unsigned_abs}
+use Rattle.tuned_listener.proofs.Common.{◌≡◌, ℕ, ◌+◌, ◌-◌, ◌*◌, ◌<◌, ◌≤◌, true, List, [], ◌∷◌, length, refl, sym, ap, ◌∙◌, subst, arith}
+use Rattle.tuned_listener.proofs.Common.{inl, inr, ℤ, pos, ◌-ℤ◌, Option, Some, None, take, drop, filter, length-take-le, int_le}
+use Rattle.tuned_listener.proofs.Common.{unsigned_abs, and_parts, cases_lt, ints, drop-drop, drop-take, take-append-drop, take-take}
+use Rattle.tuned_listener.proofs.Common.{take_all, places, Sample, Data, channel_stream, AgreeIn, mark, AreNear, all_near, has_reference}
+use Rattle.tuned_listener.proofs.Common.{low_of, paging_rate, Stream, frame_softs, frame_start, Tuning, finger_of, fingers_of, sync_stream}
+use Rattle.tuned_listener.proofs.Common.{Paging, Mark, SoftFrame, near_parts, timed_of, frame_same, mark_behind, mark_pilot, mark_sooner}
+use Rattle.tuned_listener.proofs.Common.{mark_stays, paging_near, slot_bits, frame_of_slot, frame_of_slot_end, is_heard, lines_of_slot}
+use Rattle.tuned_listener.proofs.Common.{slot_bound, slot_lines, slot_pages, AgreeInSlot, SleepsThroughTheRest}
 use Rattle.std.specs.List.{flat_map}
-use Rattle.std.proofs.lemmas.Bool.{and_parts, cases_lt}
-use Rattle.std.proofs.lemmas.Int.{ints}
-use Rattle.std.proofs.lemmas.List.{drop-drop, drop-take, take-append-drop, take-take, take_all}
-use Rattle.chip_core.specs.Bits.{places}
-use Rattle.chip_core.specs.declared.sample.Sample.{Sample}
-use Rattle.chip_core.proofs.Ranges as ranges
-use Rattle.rake_finger.specs.declared.form.Form.TheVariants.{Data}
-use Rattle.mobile_core.specs.Channels.{channel_stream}
-use Rattle.mobile_core.specs.FrameSamples.{AgreeIn}
-use Rattle.mobile_core.specs.Marks.{mark}
-use Rattle.mobile_core.specs.Near.{AreNear, all_near, has_reference, low_of}
-use Rattle.mobile_core.specs.PagingStreams.{paging_rate}
-use Rattle.mobile_core.specs.Streams.{Stream, frame_softs, frame_start}
-use Rattle.mobile_core.specs.Tuning.{Tuning, finger_of, fingers_of, sync_stream}
-use Rattle.mobile_core.specs.declared.channel.Channel.TheVariants.{Paging}
-use Rattle.mobile_core.specs.declared.mark.Mark.{Mark}
-use Rattle.mobile_core.specs.declared.soft_frame.SoftFrame.{SoftFrame}
-use Rattle.mobile_core.proofs.FingerTimes.{near_parts, timed_of}
-use Rattle.mobile_core.proofs.FrameSamples.{frame_same}
-use Rattle.mobile_core.proofs.MarkStays.{mark_behind, mark_pilot, mark_sooner, mark_stays, paging_near}
-use Rattle.slot_mode.specs.Frames.{slot_bits}
-use Rattle.event_tap.specs.SlotLines.{frame_of_slot, frame_of_slot_end, is_heard, lines_of_slot, slot_bound, slot_lines, slot_pages}
-use Rattle.tuned_listener.specs.SlotLaws.{AgreeInSlot, SleepsThroughTheRest}
 use Rattle.tuned_listener.proofs.SlotTimes.{mark_is_late, written_by_times}
+use Rattle.chip_core.proofs.Ranges as ranges
 
 -- ---- the samples of a slot, and of its frames
 -- lists that agree in a part do so in a part of that

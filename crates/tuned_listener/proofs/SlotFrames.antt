@@ -1,16 +1,9 @@
 -- The frames of a slot that a writer keeps, and one more.
-use Rattle.std.proofs.Common.{◌≡◌, ◌⊎◌, ◌<◌, ◌≤◌, ℕ, ◌+◌, ◌-◌, ◌*◌, ◌%◌, ◌==◌, false, ℤ, List, [], ◌∷◌, ◌++◌, length, take, drop, refl, sym}
-use Rattle.std.proofs.Common.{ap, ◌∙◌, arith, inl, inr, append-nil, flat_map, length-append, sum_by, unsigned_abs}
-use Rattle.std.proofs.lemmas.Bool.{cases_Bool, cases_lt, eq-eqb, eqb-false, eqb-true}
-use Rattle.std.proofs.lemmas.List.{drop-take}
-use Rattle.std.proofs.lemmas.List.Concat.{flat_map-append}
-use Rattle.std.proofs.lemmas.Slice.{between-put_mid, take-put_mid, take-put_mid_below}
-use borrow.Rule.Slice.PartMut.{put_mid}
-use Rattle.mobile_core.specs.Softs.{frame_most}
-use Rattle.mobile_core.specs.declared.soft_frame.SoftFrame.{SoftFrame}
-use Rattle.tuned_listener.specs.SlotWriting.{HoldsSlot, IsReadyForSlots}
-use Rattle.tuned_listener.specs.Slots.{slot_more}
-use Rattle.tuned_listener.specs.declared.slot_writer.SlotWriter.{SlotWriter}
+use Rattle.tuned_listener.proofs.Common.{◌≡◌, ◌⊎◌, ◌<◌, ◌≤◌, ℕ, ◌+◌, ◌-◌, ◌*◌, ◌%◌, ◌==◌, false, ℤ, List, [], ◌∷◌, ◌++◌, length, take, drop}
+use Rattle.tuned_listener.proofs.Common.{refl, sym, ap, ◌∙◌, arith, inl, inr, append-nil, flat_map, length-append, sum_by, unsigned_abs}
+use Rattle.tuned_listener.proofs.Common.{cases_Bool, cases_lt, eq-eqb, eqb-false, eqb-true, drop-take, flat_map-append, between-put_mid}
+use Rattle.tuned_listener.proofs.Common.{take-put_mid, take-put_mid_below, put_mid, frame_most, SoftFrame, HoldsSlot, IsReadyForSlots}
+use Rattle.tuned_listener.proofs.Common.{slot_more, SlotWriter}
 
 -- ---- the frames of a slot
 

@@ -1,27 +1,12 @@
 -- The messages of a slot, as its bits are taken one by one, and their lines.
-use Rattle.std.proofs.Common.{◌≡◌, ◌<◌, ◌≤◌, ℕ, zero, suc, ◌+◌, ◌-◌, Bool, List, [], ◌∷◌, ◌++◌, length, take, refl, sym, ap, ◌∙◌, subst}
-use Rattle.std.proofs.Common.{arith, append-nil, Option, None, Some, append_assoc, flat_map, length-append, slice_get}
-use Rattle.std.specs.Prelude.{is_some}
-use Rattle.std.specs.Io.KnownBytes.{Appends}
-use Rattle.std.specs.Option.{option_to_list}
-use Rattle.std.proofs.KnownBytes.{Appends-trans}
-use Rattle.std.proofs.lemmas.List.{length-take-le, take-take, take_all}
-use Rattle.std.proofs.lemmas.List.Concat.{flat_map-append}
-use Rattle.std.proofs.lemmas.Option.{slice_get_within}
-use mir.Val.{bool_byte}
-use Rattle.chip_core.specs.Bits.{places}
-use Rattle.chip_core.specs.declared.check_form.CheckForm.{CheckForm}
-use Rattle.chip_core.proofs.BitLists.{taken_more}
-use Rattle.chip_core.proofs.Ranges.{flat_map-places-more, flat_map_ext_places}
-use Rattle.cdma_io.specs.Outside.{AppendsPrefix}
-use Rattle.event_tap.specs.PagingLines.{paging_line}
-use Rattle.paging_message.specs.HalfFrames.{capsules_in, half_frame_body, half_frame_capsule_ending}
-use Rattle.paging_message.specs.Reading.{paging_reading}
-use Rattle.paging_message.specs.declared.message.PagingMessage.{PagingMessage}
-use Rattle.quality_bits.specs.declared.rate.Rate.{Rate}
-use Rattle.event_tap.specs.SlotLines.{slot_pages}
-use Rattle.tuned_listener.specs.SlotWriting.{page_list, pages_ending}
-use Rattle.tuned_listener.specs.declared.slot_writer.Page.{Page}
+use Rattle.tuned_listener.proofs.Common.{◌≡◌, ◌<◌, ◌≤◌, ℕ, zero, suc, ◌+◌, ◌-◌, Bool, List, [], ◌∷◌, ◌++◌, length, take, refl, sym, ap, ◌∙◌}
+use Rattle.tuned_listener.proofs.Common.{subst, arith, append-nil, Option, None, Some, append_assoc, flat_map, length-append, slice_get}
+use Rattle.tuned_listener.proofs.Common.{is_some, Appends, option_to_list, Appends-trans, take-take, take_all, flat_map-append}
+use Rattle.tuned_listener.proofs.Common.{slice_get_within, bool_byte, places, CheckForm, taken_more, flat_map-places-more}
+use Rattle.tuned_listener.proofs.Common.{flat_map_ext_places, AppendsPrefix, paging_line, capsules_in, half_frame_body}
+use Rattle.tuned_listener.proofs.Common.{half_frame_capsule_ending, paging_reading, PagingMessage, Rate, slot_pages, page_list}
+use Rattle.tuned_listener.proofs.Common.{pages_ending, Page}
+use Rattle.std.proofs.lemmas.List.{length-take-le}
 use Rattle.tuned_listener.proofs.Prefixes.{prefix_before, prefix_behind}
 
 -- what stands at the front of the pieces of more numbers

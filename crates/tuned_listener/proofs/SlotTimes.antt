@@ -1,38 +1,17 @@
 -- What is written of a sleeping handset's slots, slot by slot.
-use Rattle.std.proofs.Common.{◌≡◌, ℕ, zero, suc, ◌+◌, ◌*◌, ◌/◌, ◌%◌, ◌<◌, ◌≤◌, ◌&&◌, Bool, true, false, List, [], ◌∷◌, ◌++◌, length, map}
-use Rattle.std.proofs.Common.{filter, nat_le, refl, sym, ap, ◌∙◌, subst, arith, inl, inr, Option, Some, None}
-use Rattle.std.specs.Prelude.{if◌then◌else◌, nat_lt}
-use Rattle.std.specs.List.{flat_map, range_with_len}
-use Rattle.std.proofs.lemmas.Bool.{and_from, and_parts, and_right, cases_Bool, cases_lt, false_from_ne_true, le-leb, leb-true, lt-leb}
-use Rattle.chip_core.specs.Bits.{places}
-use Rattle.chip_core.specs.declared.check_form.CheckForm.{CheckForm}
-use Rattle.chip_core.specs.declared.sample.Sample.{Sample}
-use Rattle.chip_core.proofs.Places.{places-more}
+use Rattle.tuned_listener.proofs.Common.{◌≡◌, ℕ, zero, suc, ◌+◌, ◌*◌, ◌/◌, ◌%◌, ◌<◌, ◌≤◌, ◌&&◌, Bool, true, false, List, [], ◌∷◌, ◌++◌}
+use Rattle.tuned_listener.proofs.Common.{length, map, filter, nat_le, refl, sym, ap, ◌∙◌, subst, arith, inl, inr, Option, Some, None}
+use Rattle.tuned_listener.proofs.Common.{if◌then◌else◌, nat_lt, range_with_len, and_from, and_parts, and_right, cases_Bool, cases_lt}
+use Rattle.tuned_listener.proofs.Common.{false_from_ne_true, le-leb, leb-true, lt-leb, places, CheckForm, Sample, places-more}
+use Rattle.tuned_listener.proofs.Common.{channel_stream, mark, AreNear, all_begun, low_in, paging_bound, paging_rate, frames_within}
+use Rattle.tuned_listener.proofs.Common.{soft_frame, soft_frames, Stream, is_in_file, known_at, IsTimed, stream_end, Tuning, sync_stream}
+use Rattle.tuned_listener.proofs.Common.{Paging, Mark, SoftFrame, close_begun, near_are_close, timed_in, timed_of, ends_lt, inside_from}
+use Rattle.tuned_listener.proofs.Common.{inside_to, known_between, known_own, mark_later, mark_pilot, mark_set, paging_near, slot_bits}
+use Rattle.tuned_listener.proofs.Common.{is_monitored, frame_of_slot, frame_of_slot_end, is_heard, is_slot_within, lines_behind}
+use Rattle.tuned_listener.proofs.Common.{lines_by_times, lines_of_slot, lines_of_slots, slot_bound, slot_lines, slot_pages}
+use Rattle.tuned_listener.proofs.Common.{IsWrittenByTimes, NeedsMark, slot_more, slot_text, frames_text, text_behind, tuned_text, Slots}
+use Rattle.std.specs.List.{flat_map}
 use Rattle.chip_core.proofs.Ranges as ranges
-use Rattle.mobile_core.specs.Channels.{channel_stream}
-use Rattle.mobile_core.specs.Marks.{mark}
-use Rattle.mobile_core.specs.Near.{AreNear, all_begun, low_in}
-use Rattle.mobile_core.specs.PagingStreams.{paging_bound, paging_rate}
-use Rattle.mobile_core.specs.SoftFrames.{frames_within, soft_frame, soft_frames}
-use Rattle.mobile_core.specs.Streams.{Stream, is_in_file, known_at}
-use Rattle.mobile_core.specs.Timing.{IsTimed, stream_end}
-use Rattle.mobile_core.specs.Tuning.{Tuning, sync_stream}
-use Rattle.mobile_core.specs.declared.channel.Channel.TheVariants.{Paging}
-use Rattle.mobile_core.specs.declared.mark.Mark.{Mark}
-use Rattle.mobile_core.specs.declared.soft_frame.SoftFrame.{SoftFrame}
-use Rattle.mobile_core.proofs.CloseFingers.{close_begun, near_are_close}
-use Rattle.mobile_core.proofs.FingerTimes.{timed_in, timed_of}
-use Rattle.mobile_core.proofs.FrameTimes.{ends_lt, inside_from, inside_to, known_between, known_own}
-use Rattle.mobile_core.proofs.MarkLater.{mark_later}
-use Rattle.mobile_core.proofs.MarkStays.{mark_pilot, mark_set, paging_near}
-use Rattle.slot_mode.specs.Frames.{slot_bits}
-use Rattle.slot_mode.specs.Slots.{is_monitored}
-use Rattle.event_tap.specs.SlotLines.{frame_of_slot, frame_of_slot_end, is_heard, is_slot_within, lines_behind, lines_by_times}
-use Rattle.event_tap.specs.SlotLines.{lines_of_slot, lines_of_slots, slot_bound, slot_lines, slot_pages}
-use Rattle.tuned_listener.specs.SlotLaws.{IsWrittenByTimes, NeedsMark}
-use Rattle.tuned_listener.specs.Slots.{slot_more, slot_text}
-use Rattle.tuned_listener.specs.TunedTexts.{frames_text, text_behind, tuned_text}
-use Rattle.tuned_listener.specs.declared.tuned_text.TunedText.TheVariants.{Slots}
 
 -- the pieces of what a filter keeps, with one number more
 kept_more : {A : Type 0} (f : ℕ → List A) (p : ℕ → Bool) (x : ℕ) (xs : List ℕ) →

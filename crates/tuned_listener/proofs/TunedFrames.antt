@@ -1,41 +1,16 @@
 -- The text of the frames behind a mark, as it is written frame by frame.
-use Rattle.std.proofs.Common.{◌≡◌, ℕ, zero, suc, ◌+◌, ◌*◌, ◌≤◌, ◌&&◌, Bool, true, false, List, [], ◌∷◌, ◌++◌, map, filter, length, take}
-use Rattle.std.proofs.Common.{drop, refl, sym, ap, ◌∙◌, subst, arith, inl, inr, nat_le, Option, None, Some, append_assoc, take-add}
-use Rattle.std.proofs.Common.{length-append}
-use Rattle.std.specs.Io.{StartsWith}
-use Rattle.std.specs.Io.KnownBytes.{Appends}
-use Rattle.std.specs.List.{range_with_len}
-use Rattle.std.specs.Option.{option_to_list}
-use Rattle.std.proofs.KnownBytes.{Appends-nil, Appends-trans}
-use Rattle.std.proofs.lemmas.Bool.{and_from, and_parts, cases_Bool, false_from_ne_true, le-leb, leb-true}
-use Rattle.std.proofs.lemmas.List.{map-append, take-append-drop, take_all, take_at}
-use Rattle.chip_core.specs.Bits.{places}
-use Rattle.chip_core.specs.declared.sample.Sample.{Sample}
-use Rattle.chip_core.proofs.Ranges as ranges
-use Rattle.cdma_io.specs.Outside.{AppendsPrefix}
-use Rattle.rake_finger.specs.Soft.{frame_chips}
-use Rattle.rake_finger.specs.declared.form.Form.{Form}
-use Rattle.mobile_core.specs.Channels.{channel_stream}
-use Rattle.mobile_core.specs.PagingStreams.{paging_bound}
-use Rattle.mobile_core.specs.SoftFrames.{frames_within, soft_frame, soft_frames}
-use Rattle.mobile_core.specs.Streams.{is_in_file, known_at}
-use Rattle.mobile_core.specs.Timing.{IsTimed, stream_end}
-use Rattle.mobile_core.specs.Tuners.{IsTunedTo, IsTunerStep}
-use Rattle.mobile_core.specs.Tuning.{Tuning}
-use Rattle.mobile_core.specs.declared.channel.Channel.{Channel}
-use Rattle.mobile_core.specs.declared.mark.Mark.{Mark}
-use Rattle.mobile_core.specs.declared.soft_frame.SoftFrame.{SoftFrame}
-use Rattle.mobile_core.specs.declared.tuner.Tuner.{Tuner}
-use Rattle.mobile_core.specs.declared.tuner.TunerStep.{TunerStep}
-use Rattle.mobile_core.proofs.FrameTimes.{known_between, known_le}
-use Rattle.mobile_core.proofs.FramesGiven.{form_by, frames_of_first}
+use Rattle.tuned_listener.proofs.Common.{◌≡◌, ℕ, zero, suc, ◌+◌, ◌*◌, ◌≤◌, ◌&&◌, Bool, true, false, List, [], ◌∷◌, ◌++◌, map, filter}
+use Rattle.tuned_listener.proofs.Common.{length, take, drop, refl, sym, ap, ◌∙◌, subst, arith, inl, inr, nat_le, Option, None, Some}
+use Rattle.tuned_listener.proofs.Common.{append_assoc, take-add, length-append, StartsWith, Appends, range_with_len, option_to_list}
+use Rattle.tuned_listener.proofs.Common.{Appends-nil, Appends-trans, and_from, and_parts, cases_Bool, false_from_ne_true, le-leb, leb-true}
+use Rattle.tuned_listener.proofs.Common.{map-append, take-append-drop, take_all, take_at, places, Sample, AppendsPrefix, frame_chips, Form}
+use Rattle.tuned_listener.proofs.Common.{channel_stream, paging_bound, frames_within, soft_frame, soft_frames, is_in_file, known_at}
+use Rattle.tuned_listener.proofs.Common.{IsTimed, stream_end, IsTunedTo, IsTunerStep, Tuning, Channel, Mark, SoftFrame, Tuner, TunerStep}
+use Rattle.tuned_listener.proofs.Common.{known_between, known_le, form_by, frames_of_first, HoldsFrames, WritesFrames, WritesFramesPart}
+use Rattle.tuned_listener.proofs.Common.{slot_behind, slot_more, frame_text, frames_text, text_from, FrameWriter, TunedText}
 use Rattle.tuned_listener.proofs.FrameTexts.{kept_behind, kept_behind_none, kept_behind_one, text_of_none, text_of_one, texts_joined}
 use Rattle.tuned_listener.proofs.Prefixes.{begins_more, prefix_before, prefix_behind, taken_begins}
-use Rattle.tuned_listener.specs.FrameWriting.{HoldsFrames, WritesFrames, WritesFramesPart}
-use Rattle.tuned_listener.specs.Slots.{slot_behind, slot_more}
-use Rattle.tuned_listener.specs.TunedTexts.{frame_text, frames_text, text_from}
-use Rattle.tuned_listener.specs.declared.frame_writer.FrameWriter.{FrameWriter}
-use Rattle.tuned_listener.specs.declared.tuned_text.TunedText.{TunedText}
+use Rattle.chip_core.proofs.Ranges as ranges
 
 -- ---- frames go on
 

@@ -1,41 +1,16 @@
 -- A listener, and what it writes, where samples are taken.
-use Rattle.std.proofs.Common.{◌≡◌, ℕ, ◌+◌, true, List, [], ◌∷◌, ◌++◌, length, take, drop, refl, sym, ap, ◌∙◌, Option, None, Some}
-use Rattle.std.proofs.Common.{append-nil, append_assoc, arith, subst, ◌*◌, ◌<◌, ◌≤◌, sum_by, unsigned_abs}
-use Rattle.std.specs.Io.{StartsWith}
-use Rattle.std.specs.Prelude.{is_some}
-use Rattle.std.proofs.KnownBytes.{Appends-nil}
-use Rattle.std.proofs.lemmas.List.{take-append-drop, take_all}
-use Rattle.chip_core.specs.declared.check_form.CheckForm.{CheckForm}
-use Rattle.chip_core.specs.declared.sample.Sample.{Sample}
-use Rattle.pilot_search.specs.declared.paths.Near.{Near}
-use Rattle.mobile_core.specs.Channels.{IsLawful}
-use Rattle.mobile_core.specs.Marks.{mark}
-use Rattle.mobile_core.specs.Near.{AreNear}
-use Rattle.mobile_core.specs.SoftFrames.{soft_frames}
-use Rattle.mobile_core.specs.Softs.{frame_most}
-use Rattle.mobile_core.specs.Tuners.{IsTunedTo}
-use Rattle.mobile_core.specs.Tuning.{Tuning, sync_stream}
-use Rattle.mobile_core.specs.declared.channel.Channel.{Channel}
-use Rattle.mobile_core.specs.declared.channel.Channel.TheVariants.{Paging, Traffic}
-use Rattle.mobile_core.specs.declared.mark.Mark.{Mark}
-use Rattle.mobile_core.specs.declared.mobile.Mobile.{Mobile}
-use Rattle.mobile_core.specs.declared.soft_frame.SoftFrame.{SoftFrame}
-use Rattle.mobile_core.specs.declared.tuner.Tuner.{Tuner}
-use Rattle.tuned_listener.specs.FrameWriting.{HoldsFrames, IsReady, WritesFrames, WritesFramesPart, text_of}
-use Rattle.tuned_listener.specs.Marking.{ListensAhead}
-use Rattle.tuned_listener.specs.TunedListening.{ListensBehind, ListensFrom, ListensTuned, TellsTuned, TellsTunedPart}
-use Rattle.tuned_listener.specs.SlotWriting.{IsReadyForSlots}
-use Rattle.tuned_listener.specs.Slots.{slot_behind}
-use Rattle.tuned_listener.specs.TunedTexts.{behind_mark, frames_from, text_from, tuned_text}
-use Rattle.tuned_listener.specs.declared.frame_writer.FrameWriter.{FrameWriter}
-use Rattle.tuned_listener.specs.declared.frame_writer.FrameWriter.TheVariants as writers
-use Rattle.tuned_listener.specs.declared.slot_writer.SlotWriter.{SlotWriter}
-use Rattle.tuned_listener.specs.declared.tuned.Behind.{Behind}
-use Rattle.tuned_listener.specs.declared.tuned.TunedListener.{TunedListener}
-use Rattle.tuned_listener.specs.declared.tuned_text.TunedText.{TunedText}
+use Rattle.tuned_listener.proofs.Common.{◌≡◌, ℕ, ◌+◌, true, List, [], ◌∷◌, ◌++◌, length, take, drop, refl, sym, ap, ◌∙◌, Option, None, Some}
+use Rattle.tuned_listener.proofs.Common.{append-nil, append_assoc, arith, subst, ◌*◌, ◌<◌, ◌≤◌, sum_by, unsigned_abs, StartsWith, is_some}
+use Rattle.tuned_listener.proofs.Common.{Appends-nil, take-append-drop, take_all, CheckForm, Sample, Near, IsLawful, mark, AreNear}
+use Rattle.tuned_listener.proofs.Common.{soft_frames, frame_most, IsTunedTo, Tuning, sync_stream, Channel, Paging, Traffic, Mark, Mobile}
+use Rattle.tuned_listener.proofs.Common.{SoftFrame, Tuner, HoldsFrames, IsReady, WritesFrames, WritesFramesPart, text_of, ListensAhead}
+use Rattle.tuned_listener.proofs.Common.{ListensBehind, ListensFrom, ListensTuned, TellsTuned, TellsTunedPart, IsReadyForSlots, slot_behind}
+use Rattle.tuned_listener.proofs.Common.{behind_mark, frames_from, text_from, tuned_text, FrameWriter, SlotWriter, Behind, TunedListener}
+use Rattle.tuned_listener.proofs.Common.{TunedText}
 use Rattle.tuned_listener.proofs.FrameTexts.{kept_behind_none}
 use Rattle.tuned_listener.proofs.TunedMarks.{mark_kept, none_marked, there_eq, there_le}
 use Rattle.tuned_listener.proofs.TunedTexts.{text_at_mark, text_marked, text_unmarked}
+use Rattle.tuned_listener.specs.declared.frame_writer.FrameWriter.TheVariants as writers
 
 -- ---- who listens
 

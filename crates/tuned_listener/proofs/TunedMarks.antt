@@ -1,32 +1,15 @@
 -- A handset ahead of the mark, step by step, and the mark of samples that go on.
-use Rattle.std.proofs.Common.{◌≡◌, ℕ, ◌+◌, ◌≤◌, ◌&&◌, true, false, List, [], ◌∷◌, ◌++◌, length, refl, sym, ap, ◌∙◌, subst, arith, inl, inr}
-use Rattle.std.proofs.Common.{Option, Some, None, append-nil, append_assoc, drop, length-append, length-take-le, nat_le, take}
-use Rattle.std.proofs.Math.Logic.{∥∥₁_map}
-use Rattle.std.specs.Prelude.{IfSome, is_some}
-use Rattle.std.specs.List.{flat_map, list_any}
-use Rattle.std.proofs.lemmas.Bool.{and_parts, cases_lt, false_from_ne_true, leb-true}
-use Rattle.std.proofs.lemmas.Grind.{not_there}
-use Rattle.std.proofs.lemmas.List.{take-append-drop, take_all}
-use Rattle.chip_core.specs.declared.sample.Sample.{Sample}
-use Rattle.chip_core.proofs.Ranges as ranges
-use Rattle.mobile_core.specs.Events.{events}
-use Rattle.mobile_core.specs.Given.{at_of, listed}
-use Rattle.mobile_core.specs.Marks.{first_of, mark, marks_at, sets_mark}
-use Rattle.mobile_core.specs.Near.{AreNear, low_of}
-use Rattle.mobile_core.specs.Standing.{StandsFor, Steps, parts}
-use Rattle.mobile_core.specs.Streams.{is_in_file, known_at}
-use Rattle.mobile_core.specs.Tuners.{samples_taken}
-use Rattle.mobile_core.specs.Tuning.{Tuning, sync_bound, sync_stream}
-use Rattle.mobile_core.specs.declared.event.Event.{Event}
-use Rattle.mobile_core.specs.declared.mark.Mark.{Mark}
-use Rattle.mobile_core.specs.declared.mobile.Mobile.{Mobile}
-use Rattle.mobile_core.specs.declared.mobile.Step.{Step}
-use Rattle.mobile_core.proofs.FingerTimes.{timed_of}
-use Rattle.mobile_core.proofs.FrameTimes.{known_between}
-use Rattle.mobile_core.proofs.MarkStays.{mark_sooner, mark_stays}
-use Rattle.mobile_core.proofs.Stood.{marked_all}
-use Rattle.tuned_listener.specs.Marking.{HasNoMark, HearsUntold, IsMarkedAt, IsUntold, ListensAhead}
+use Rattle.tuned_listener.proofs.Common.{◌≡◌, ℕ, ◌+◌, ◌≤◌, ◌&&◌, true, false, List, [], ◌∷◌, ◌++◌, length, refl, sym, ap, ◌∙◌, subst, arith}
+use Rattle.tuned_listener.proofs.Common.{inl, inr, Option, Some, None, append-nil, append_assoc, drop, length-append, length-take-le}
+use Rattle.tuned_listener.proofs.Common.{nat_le, take, ∥∥₁_map, IfSome, is_some, list_any, and_parts, cases_lt, false_from_ne_true}
+use Rattle.tuned_listener.proofs.Common.{leb-true, not_there, take-append-drop, take_all, Sample, events, at_of, listed, first_of, mark}
+use Rattle.tuned_listener.proofs.Common.{marks_at, sets_mark, AreNear, low_of, Steps, parts, is_in_file, known_at, samples_taken, Tuning}
+use Rattle.tuned_listener.proofs.Common.{sync_bound, sync_stream, Event, Mark, Mobile, Step, timed_of, known_between, mark_sooner}
+use Rattle.tuned_listener.proofs.Common.{mark_stays, marked_all, HasNoMark, HearsUntold, IsMarkedAt, IsUntold, ListensAhead}
+use Rattle.std.specs.List.{flat_map}
+use Rattle.mobile_core.specs.Standing.{StandsFor}
 use Rattle.tuned_listener.proofs.TunedFrames.{step_joined}
+use Rattle.chip_core.proofs.Ranges as ranges
 
 -- a bound that follows from what is there
 pub there_le : {P : Type 0} (a b : ℕ) → ∥ P ∥₁ → (P → a ≤ b) → a ≤ b

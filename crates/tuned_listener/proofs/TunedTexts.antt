@@ -1,25 +1,12 @@
 -- The text of a channel's frames, as samples go on.
-use Rattle.std.proofs.Common.{◌≡◌, ℕ, List, [], ◌++◌, length, refl, sym, ap, ◌∙◌, Option, Some, None, subst}
-use Rattle.std.specs.Io.{StartsWith}
-use Rattle.chip_core.specs.declared.sample.Sample.{Sample}
-use Rattle.mobile_core.specs.Channels.{channel_stream}
-use Rattle.mobile_core.specs.Marks.{mark}
-use Rattle.mobile_core.specs.Near.{AreNear, low_in}
-use Rattle.mobile_core.specs.SoftFrames.{soft_frames}
-use Rattle.mobile_core.specs.Timing.{IsTimed}
-use Rattle.mobile_core.specs.Tuning.{Tuning, sync_stream}
-use Rattle.mobile_core.specs.declared.channel.Channel.{Channel}
-use Rattle.mobile_core.specs.declared.channel.Channel.TheVariants.{Paging, Traffic}
-use Rattle.mobile_core.specs.declared.mark.Mark.{Mark}
-use Rattle.mobile_core.proofs.FingerTimes.{timed_in}
-use Rattle.mobile_core.proofs.MarkStays.{paging_near}
-pub use Rattle.tuned_listener.proofs.FrameTexts.{listed_texts, rate2_texts, texts_by_frame}
+use Rattle.tuned_listener.proofs.Common.{◌≡◌, ℕ, List, [], ◌++◌, length, refl, sym, ap, ◌∙◌, Option, Some, None, subst, StartsWith, Sample}
+use Rattle.tuned_listener.proofs.Common.{channel_stream, mark, AreNear, low_in, soft_frames, IsTimed, Tuning, sync_stream, Channel, Paging}
+use Rattle.tuned_listener.proofs.Common.{Traffic, Mark, timed_in, paging_near, frames_text, text_behind, text_from, tuned_text, TunedText}
 use Rattle.tuned_listener.proofs.FrameTexts.{text_of_none}
 use Rattle.tuned_listener.proofs.Prefixes.{front_begins}
 use Rattle.tuned_listener.proofs.TunedFrames.{text_goes_on}
 use Rattle.tuned_listener.proofs.TunedMarks.{mark_kept, none_marked}
-use Rattle.tuned_listener.specs.TunedTexts.{frames_text, text_behind, text_from, tuned_text}
-use Rattle.tuned_listener.specs.declared.tuned_text.TunedText.{TunedText}
+pub use Rattle.tuned_listener.proofs.FrameTexts.{listed_texts, rate2_texts, texts_by_frame}
 
 module _ (form : TunedText) (t : Tuning) (channel : Channel) (heard : List Sample) where
   -- there is none before the mark

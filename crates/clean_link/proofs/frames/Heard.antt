@@ -1,38 +1,14 @@
 -- The frames that a channel sends come back from any stream that hears and reads it, and zeros
 -- where nothing is sent.
-use Rattle.std.proofs.Common.{◌≡◌, ℕ, zero, suc, ◌+◌, ◌-◌, ◌*◌, ◌<◌, ◌≤◌, Bool, true, false, List, [], ◌∷◌, ◌++◌, length, replicate, refl}
-use Rattle.std.proofs.Common.{sym, ap, subst, ◌∙◌, ⊎_elim, arith, ℤ, pos, negsuc}
-use Rattle.std.specs.Prelude.{◌*ℤ◌, ◌<ℤ◌, neg_ℤ}
-use Rattle.std.specs.List.{Contains, flat_map}
-use Rattle.std.proofs.Math.Nat.{mul-le-mul_left}
-use Rattle.std.proofs.lemmas.Int.{ints}
-use Rattle.std.proofs.lemmas.List.{replicate-append-replicate}
-use Rattle.chip_core.specs.Bits.{places, sign, xor, zip_with}
-use Rattle.chip_core.specs.declared.sample.Sample.{Sample}
-use Rattle.chip_core.proofs.Ring.{times_neg}
-use Rattle.rake_finger.specs.Soft.{frame_chips, softs, symbols}
-use Rattle.rake_finger.specs.declared.finger.Finger.{Finger}
-use Rattle.rake_finger.specs.declared.form.Form.{Form}
-use Rattle.rake_finger.specs.declared.form.Form.TheVariants.{Sync, Data}
-use Rattle.symbol_path.specs.SentOrder.{sent}
-use Rattle.symbol_path.proofs.Agreement.{length-sent}
-use Rattle.viterbi.specs.Best.{IsAllowed}
-use Rattle.viterbi.specs.Laws.{signed}
-use Rattle.viterbi.specs.Words.{Word}
-use Rattle.viterbi.specs.declared.word.Ends.TheVariants.{Free}
-use Rattle.frame_decoder.specs.Spans.{own_bits, score, sending}
-use Rattle.frame_decoder.proofs.Parts.{frames-none, frames-more, length-frames}
-use Rattle.cell_plan.specs.declared.plan.CellPlan.{CellPlan}
-use Rattle.cell_plan.specs.Sampled.{made_samples}
-use Rattle.cell_plan.specs.Sendings.{continued_symbols}
-use Rattle.cell_plan.specs.Signal.{Carrier, carriers}
-use Rattle.cell_plan.specs.Transmitter.{phase_at}
-use Rattle.mobile_core.specs.Scrambled.{Scrambles, turned, unscrambled}
-use Rattle.mobile_core.specs.Streams.{Stream, frame_own_bits, frame_softs, frame_start, is_in_file, span_first, span_frames}
-use Rattle.chip_core.proofs.Ranges.{flat_map_ext_places}
-use Rattle.clean_link.specs.CleanLink.{soft_strength}
-use Rattle.clean_link.specs.SentWords.{AreReadBy, IsOnlyBest, IsWholeChannel, scrambled, span_softs, span_word}
-use Rattle.clean_link.specs.Signals.{AreApart, IsFrameOf, IsHeardBy}
+use Rattle.clean_link.proofs.Common.{◌≡◌, ℕ, zero, suc, ◌+◌, ◌-◌, ◌*◌, ◌<◌, ◌≤◌, Bool, true, false, List, [], ◌∷◌, ◌++◌, length, replicate}
+use Rattle.clean_link.proofs.Common.{refl, sym, ap, subst, ◌∙◌, ⊎_elim, arith, ℤ, pos, negsuc, ◌*ℤ◌, ◌<ℤ◌, neg_ℤ, Contains, flat_map}
+use Rattle.clean_link.proofs.Common.{mul-le-mul_left, ints, replicate-append-replicate, places, sign, xor, zip_with, Sample, times_neg}
+use Rattle.clean_link.proofs.Common.{frame_chips, softs, symbols, Finger, Form, Sync, Data, sent, length-sent, IsAllowed, signed, Word}
+use Rattle.clean_link.proofs.Common.{Free, own_bits, score, sending, frames-none, frames-more, length-frames, CellPlan, made_samples}
+use Rattle.clean_link.proofs.Common.{continued_symbols, Carrier, carriers, phase_at, Scrambles, turned, unscrambled, Stream, frame_own_bits}
+use Rattle.clean_link.proofs.Common.{frame_softs, frame_start, is_in_file, span_first, span_frames, flat_map_ext_places, soft_strength}
+use Rattle.clean_link.proofs.Common.{AreReadBy, IsOnlyBest, IsWholeChannel, scrambled, span_softs, span_word, AreApart, IsFrameOf}
+use Rattle.clean_link.proofs.Common.{IsHeardBy}
 use Rattle.clean_link.proofs.frames.Scores.{sent_alone, sent_own, silent_own, word_softs}
 use Rattle.clean_link.proofs.frames.Spans.{in_span}
 use Rattle.clean_link.proofs.frames.Words.{frame_at, length-before, sent_as_one, signed-frames}

@@ -1,50 +1,26 @@
 -- The paging channels of a clean link are heard and read by the handset's streams behind a true
 -- mark.
-use Rattle.std.proofs.Common.{◌≡◌, ℕ, ◌+◌, ◌*◌, ◌/◌, ◌<◌, true, false, Bool, List, [], ◌∷◌, length, refl, sym, ap, subst, inr, ◌∙◌, arith}
-use Rattle.std.proofs.Common.{ℤ, pos, replicate, Some}
-use Rattle.std.specs.List.{Contains}
-use Rattle.std.proofs.lemmas.List.{length-map}
-use Rattle.std.proofs.lemmas.List.Elements.{All-contains}
-use Rattle.chip_core.specs.Bits.{places, xor, zip_with}
-use Rattle.chip_core.proofs.Places.{length-places}
-use Rattle.chip_core.specs.declared.width.Width.{Width}
-use Rattle.long_code.specs.LongCode.{after, long_chip, paging_mask}
-use Rattle.symbol_path.specs.Scrambling.{scrambling, symbol_chips}
-use Rattle.symbol_path.specs.SentOrder.{data_shape, sent}
-use Rattle.quality_bits.specs.TrafficWords.{repeats_of}
-use Rattle.quality_bits.specs.declared.rate.Rate.{Rate}
-use Rattle.quality_bits.specs.declared.rate.Rate.TheVariants.{R9600, R4800, R2400, R1200}
-use Rattle.frame_decoder.specs.declared.layout.FrameKind as kinds
-use Rattle.cell_plan.specs.PageCycles as cycles
-use Rattle.cell_plan.specs.PageCycles.{Cycle, cycle_frame_bits, cycle_symbols, cycled, frame_scrambling, paging_frame_size}
-use Rattle.cell_plan.specs.Pages as pages
-use Rattle.cell_plan.specs.Plan.{IsLawfulPlan, IsPagingPlan}
-use Rattle.cell_plan.specs.Sampled.{made_samples}
-use Rattle.cell_plan.specs.Sendings.{continued_symbols}
-use Rattle.cell_plan.specs.Signal.{cycle_of, paging_carrier}
-use Rattle.cell_plan.specs.declared.plan.CellPlan.{CellPlan}
-use Rattle.cell_plan.specs.declared.plan.PagingPlan.{PagingPlan}
-use Rattle.cell_plan.specs.declared.plan.SyncPlan.{SyncPlan}
-use Rattle.rake_finger.specs.Soft.{softs}
-use Rattle.rake_finger.specs.declared.finger.Finger.{Finger}
-use Rattle.rake_finger.specs.declared.form.Form.TheVariants.{Data}
-use Rattle.viterbi.specs.Laws.{signed}
-use Rattle.mobile_core.specs.PagingStreams.{paging_rate, paging_stream}
-use Rattle.mobile_core.specs.Scrambled.{turned, unscrambled}
-use Rattle.mobile_core.specs.Streams.{Stream, frame_own_bits, frame_start, is_in_file}
-use Rattle.mobile_core.specs.Tuning.{Tuning}
-use Rattle.mobile_core.specs.declared.mark.Mark.{Mark}
-use Rattle.clean_link.specs.CleanLink.{IsOnPath, IsTrueMark, soft_strength}
-use Rattle.clean_link.specs.PagingLaws.{PagingFramesComeBack, PagingHaveSentSigns, PagingWordsAreTheOnlyBest, SilentPagingFramesAreZeros}
-use Rattle.clean_link.specs.PagingLaws.{SilentPagingIsZero, ordered_symbols}
-use Rattle.clean_link.specs.SentWords.{AreReadBy, IsOnlyBest, scrambled}
-use Rattle.clean_link.specs.Signals.{IsHeardBy}
+use Rattle.clean_link.proofs.Common.{◌≡◌, ℕ, ◌+◌, ◌*◌, ◌/◌, ◌<◌, true, false, Bool, List, [], ◌∷◌, length, refl, sym, ap, subst, inr, ◌∙◌}
+use Rattle.clean_link.proofs.Common.{arith, ℤ, pos, replicate, Some, Contains, length-map, All-contains, places, xor, zip_with}
+use Rattle.clean_link.proofs.Common.{length-places, Width, after, long_chip, paging_mask, scrambling, data_shape, sent, repeats_of, Rate}
+use Rattle.clean_link.proofs.Common.{R9600, R4800, R2400, R1200, Cycle, cycle_frame_bits, cycle_symbols, cycled, frame_scrambling}
+use Rattle.clean_link.proofs.Common.{paging_frame_size, IsLawfulPlan, IsPagingPlan, made_samples, continued_symbols, cycle_of}
+use Rattle.clean_link.proofs.Common.{paging_carrier, CellPlan, PagingPlan, SyncPlan, softs, Finger, Data, signed, paging_stream, turned}
+use Rattle.clean_link.proofs.Common.{unscrambled, Stream, frame_own_bits, frame_start, is_in_file, Tuning, Mark, IsOnPath, IsTrueMark}
+use Rattle.clean_link.proofs.Common.{soft_strength, PagingFramesComeBack, PagingHaveSentSigns, PagingWordsAreTheOnlyBest}
+use Rattle.clean_link.proofs.Common.{SilentPagingFramesAreZeros, SilentPagingIsZero, ordered_symbols, AreReadBy, IsOnlyBest, scrambled}
+use Rattle.clean_link.proofs.Common.{IsHeardBy}
+use Rattle.symbol_path.specs.Scrambling.{symbol_chips}
+use Rattle.mobile_core.specs.PagingStreams.{paging_rate}
 use Rattle.clean_link.proofs.signal.CarriersApart.{paging_sent, paging_silent}
 use Rattle.clean_link.proofs.signal.ChannelsBack.{channel_frames, channel_words, silent_rows, strength_some, stream_symbols}
 use Rattle.clean_link.proofs.frames.Scores.{whole_frames}
 use Rattle.clean_link.proofs.frames.Heard.{sent_word, silent_back}
 use Rattle.clean_link.proofs.frames.PagingTimes.{paging_file_to}
 use Rattle.clean_link.proofs.frames.SyncFrames.{fingers_are}
+use Rattle.frame_decoder.specs.declared.layout.FrameKind as kinds
+use Rattle.cell_plan.specs.PageCycles as cycles
+use Rattle.cell_plan.specs.Pages as pages
 
 -- ---- scrambling
 

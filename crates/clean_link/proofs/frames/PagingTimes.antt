@@ -1,12 +1,6 @@
 -- When the frames of a paging channel end and are known, where there is one finger.
-use Rattle.std.proofs.Common.{◌≡◌, ℕ, ◌+◌, ◌*◌, ◌≤◌, true, refl, ap, ◌∙◌, arith, pos}
-use Rattle.std.specs.Prelude.{◌+ℤ◌}
-use Rattle.mobile_core.specs.PagingStreams.{paging_stream}
-use Rattle.mobile_core.specs.Streams.{is_in_file, known_at}
-use Rattle.mobile_core.specs.Timing.{IsTimed}
-use Rattle.mobile_core.specs.Tuning.{Tuning, fingers_of, modulo_code}
-use Rattle.mobile_core.specs.declared.mark.Mark.{Mark}
-use Rattle.clean_link.specs.CleanLink.{heard_behind}
+use Rattle.clean_link.proofs.Common.{◌≡◌, ℕ, ◌+◌, ◌*◌, ◌≤◌, true, refl, ap, ◌∙◌, arith, pos, ◌+ℤ◌, paging_stream, is_in_file, known_at}
+use Rattle.clean_link.proofs.Common.{IsTimed, Tuning, fingers_of, modulo_code, Mark, heard_behind}
 use Rattle.clean_link.proofs.frames.Times.{IsAlone, inside_alone, known_alone, room_alone, timed_alone}
 use Rattle.clean_link.proofs.frames.SyncTimes.{one_path}
 

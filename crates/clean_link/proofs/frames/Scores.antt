@@ -1,43 +1,18 @@
 -- The word that clean soft values show has the greatest score alone, and so it is decoded.
-use Rattle.std.proofs.Common.{◌≡◌, ◌≢◌, ℕ, zero, suc, ◌+◌, ◌-◌, ◌*◌, ◌/◌, ◌<◌, ◌≤◌, Bool, true, false, List, [], ◌∷◌, ◌++◌, length, get_or}
-use Rattle.std.proofs.Common.{take, drop, replicate, refl, sym, ap, subst, ◌∙◌, arith, inl, ℤ}
-use Rattle.std.specs.Prelude.{◌<ℤ◌, ◌*ℤ◌, pos}
-use Rattle.std.specs.List.{flat_map}
-use Rattle.std.proofs.Math.Nat.{mul-le-mul_right, div-eq_of_eq-mul_left}
-use Rattle.std.proofs.lemmas.Int.{by_lt_z, ints}
-use Rattle.std.proofs.lemmas.List.{ext_get_or, length-drop, length-map, length-replicate, length-take-le, drop-replicate, take-replicate}
-use Rattle.std.proofs.lemmas.List.{take_all}
-use Rattle.chip_core.specs.Bits.{places, sign}
-use Rattle.conv_code.specs.ConvCode.{code_symbols}
-use Rattle.conv_code.proofs.Continued.{length-code_symbols}
-use Rattle.conv_code.proofs.Distinct.{distinct}
-use Rattle.symbol_path.specs.SentOrder.{Shape, place, sent, shape_of, size}
-use Rattle.quality_bits.specs.TrafficWords.{repeats_of}
-use Rattle.symbol_path.specs.declared.kinds.Kind.{Kind}
-use Rattle.symbol_path.specs.declared.kinds.Kind as kinds
-use Rattle.quality_bits.specs.declared.rate.Rate.{Rate}
-use Rattle.quality_bits.specs.declared.rate.Rate.TheVariants.{R9600, R4800, R2400, R1200}
-use Rattle.frame_decoder.specs.declared.layout.FrameKind.{FrameKind}
-use Rattle.frame_decoder.specs.declared.layout.FrameKind.TheVariants.{Sync, Paging}
-use Rattle.symbol_path.proofs.Agreement.{length-sent, get_or-sent}
-use Rattle.symbol_path.proofs.Interleaving.{repeats_some, size_some}
-use Rattle.symbol_path.proofs.Permutation.{place_lt, address-place}
-use Rattle.viterbi.specs.Best.{IsAllowed, IsBestWord}
-use Rattle.viterbi.specs.Laws.{signed}
-use Rattle.viterbi.specs.Words.{Word, best_word, correlation, score_of}
-use Rattle.viterbi.specs.declared.word.Ends.TheVariants.{Free}
-use Rattle.viterbi.proofs.Agreement.{agrees_alone}
-use Rattle.viterbi.proofs.Choices.{words_same}
-use Rattle.viterbi.proofs.Sent.{zero_word_best}
-use Rattle.viterbi.proofs.Unique.{by_definition}
-use Rattle.frame_decoder.specs.Spans.{Channel, channel_for, gathered_span, own_bits, score, sending, sent_symbols}
-use Rattle.frame_decoder.proofs.BestWords.{best_word-same, own_is}
-use Rattle.frame_decoder.proofs.Gathered.{length-gathered_span}
-use Rattle.frame_decoder.proofs.Parts.{within, frames-none, frames-more, length-frames, take-frames}
-use Rattle.frame_decoder.proofs.Scores.{score_is}
-use Rattle.chip_core.proofs.Ranges.{flat_map_ext_places}
-use Rattle.clean_link.specs.SentWords.{IsWholeChannel}
+use Rattle.clean_link.proofs.Common.{◌≡◌, ◌≢◌, ℕ, zero, suc, ◌+◌, ◌-◌, ◌*◌, ◌/◌, ◌<◌, ◌≤◌, Bool, true, false, List, [], ◌∷◌, ◌++◌, length}
+use Rattle.clean_link.proofs.Common.{get_or, take, drop, replicate, refl, sym, ap, subst, ◌∙◌, arith, inl, ℤ, ◌<ℤ◌, ◌*ℤ◌, pos, flat_map}
+use Rattle.clean_link.proofs.Common.{mul-le-mul_right, div-eq_of_eq-mul_left, by_lt_z, ints, ext_get_or, length-map, length-replicate}
+use Rattle.clean_link.proofs.Common.{length-take-le, drop-replicate, take-replicate, take_all, places, sign, code_symbols}
+use Rattle.clean_link.proofs.Common.{length-code_symbols, distinct, Shape, place, sent, shape_of, size, repeats_of, Kind, Rate, R9600}
+use Rattle.clean_link.proofs.Common.{R4800, R2400, R1200, FrameKind, Paging, length-sent, get_or-sent, repeats_some, size_some, place_lt}
+use Rattle.clean_link.proofs.Common.{address-place, IsAllowed, IsBestWord, signed, Word, best_word, correlation, score_of, Free}
+use Rattle.clean_link.proofs.Common.{agrees_alone, words_same, zero_word_best, by_definition, Channel, channel_for, gathered_span, own_bits}
+use Rattle.clean_link.proofs.Common.{score, sending, sent_symbols, best_word-same, own_is, length-gathered_span, within, frames-none}
+use Rattle.clean_link.proofs.Common.{frames-more, length-frames, take-frames, score_is, flat_map_ext_places, IsWholeChannel}
+use Rattle.std.proofs.lemmas.List.{length-drop}
+use Rattle.frame_decoder.specs.declared.layout.FrameKind.TheVariants.{Sync}
 use Rattle.clean_link.proofs.frames.Words.{frame_at}
+use Rattle.symbol_path.specs.declared.kinds.Kind as kinds
 
 -- ---- equal sent symbols come from equal words
 

@@ -1,8 +1,6 @@
 -- Where a frame stands in its span, for any test of what is in the file.
-use Rattle.std.proofs.Common.{◌≡◌, ℕ, zero, suc, ◌+◌, ◌-◌, ◌<◌, ◌≤◌, Bool, true, false, refl, subst, arith, ⊎_elim}
-use Rattle.std.specs.Prelude.{if◌then◌else◌}
-use Rattle.std.proofs.lemmas.Bool.{cases_eq}
-use Rattle.mobile_core.specs.Streams.{Stream, is_in_file, span_first, span_frames}
+use Rattle.clean_link.proofs.Common.{◌≡◌, ℕ, zero, suc, ◌+◌, ◌-◌, ◌<◌, ◌≤◌, Bool, true, false, refl, subst, arith, ⊎_elim, if◌then◌else◌}
+use Rattle.clean_link.proofs.Common.{cases_eq, Stream, is_in_file, span_first, span_frames}
 
 pub record IsInSpan (P : ℕ → Bool) (k first frames : ℕ) : Type 0 where
   pub from : first ≤ k

@@ -1,33 +1,17 @@
 -- The sync channel of a clean link is heard and read by the handset's sync stream.
-use Rattle.std.proofs.Common.{◌≡◌, ℕ, ◌+◌, ◌<◌, true, List, [], ◌∷◌, refl, sym, ap, subst, inl, ◌∙◌, arith, pos, unsigned_abs, Some}
-use Rattle.std.specs.Prelude.{◌+ℤ◌}
-use Rattle.std.proofs.lemmas.Int.{ints, int_rem_euclid_is}
-use Rattle.symbol_path.specs.SentOrder.{sent, sync_shape}
-use Rattle.frame_decoder.specs.declared.layout.FrameKind as kinds
-use Rattle.sync_message.specs.declared.fields.SyncFields.{SyncFields}
-use Rattle.cell_plan.specs.Plan.{IsSyncPlan}
-use Rattle.cell_plan.specs.Sampled.{made_samples}
-use Rattle.cell_plan.specs.Sendings.{continued_symbols, sync_frame_bits, sync_symbols}
-use Rattle.cell_plan.specs.Signal.{sync_carrier}
-use Rattle.cell_plan.specs.Transmitter.{phase_at}
-use Rattle.cell_plan.specs.declared.plan.CellPlan.{CellPlan}
-use Rattle.cell_plan.specs.declared.plan.SyncPlan.{SyncPlan}
-use Rattle.cell_plan.proofs.SyncFrames.{length-sync_frame_bits}
-use Rattle.rake_finger.specs.Soft.{softs}
-use Rattle.rake_finger.specs.declared.finger.Finger.{Finger}
-use Rattle.rake_finger.specs.declared.form.Form.TheVariants.{Sync}
-use Rattle.viterbi.specs.Laws.{signed}
-use Rattle.mobile_core.specs.Streams.{frame_own_bits, frame_start, is_in_file}
-use Rattle.mobile_core.specs.Tuning.{Tuning, fingers_of, modulo_code, sync_stream}
-use Rattle.clean_link.specs.CleanLaws.{AreZeroWithoutSync, FramesAreZeros, FramesComeBack, HaveSentSigns, SentWordsAreTheOnlyBest}
-use Rattle.clean_link.specs.CleanLink.{IsOnPath, first_sync_frame, soft_strength}
-use Rattle.clean_link.specs.SentWords.{AreReadBy, IsOnlyBest}
-use Rattle.clean_link.specs.Signals.{IsHeardBy, path_finger, reference_finger}
+use Rattle.clean_link.proofs.Common.{◌≡◌, ℕ, ◌+◌, ◌<◌, true, List, [], ◌∷◌, refl, sym, ap, subst, inl, ◌∙◌, arith, pos, unsigned_abs, Some}
+use Rattle.clean_link.proofs.Common.{◌+ℤ◌, ints, int_rem_euclid_is, sent, sync_shape, SyncFields, IsSyncPlan, made_samples}
+use Rattle.clean_link.proofs.Common.{continued_symbols, sync_frame_bits, sync_symbols, sync_carrier, phase_at, CellPlan, SyncPlan}
+use Rattle.clean_link.proofs.Common.{length-sync_frame_bits, softs, Finger, Sync, signed, frame_own_bits, frame_start, is_in_file, Tuning}
+use Rattle.clean_link.proofs.Common.{fingers_of, modulo_code, sync_stream, AreZeroWithoutSync, FramesAreZeros, FramesComeBack}
+use Rattle.clean_link.proofs.Common.{HaveSentSigns, SentWordsAreTheOnlyBest, IsOnPath, first_sync_frame, soft_strength, AreReadBy}
+use Rattle.clean_link.proofs.Common.{IsOnlyBest, IsHeardBy, path_finger, reference_finger}
 use Rattle.clean_link.proofs.signal.CarriersApart.{sync_sent, sync_silent}
 use Rattle.clean_link.proofs.signal.ChannelsBack.{channel_frames, channel_words, silent_rows, strength_some, stream_symbols}
 use Rattle.clean_link.proofs.frames.Scores.{whole_frames}
 use Rattle.clean_link.proofs.frames.Heard.{sent_word, silent_back}
 use Rattle.clean_link.proofs.frames.SyncTimes.{frames_begin, in_file_to}
+use Rattle.frame_decoder.specs.declared.layout.FrameKind as kinds
 
 -- ---- the stream
 

@@ -1,12 +1,7 @@
 -- When the sync frames of a clean link begin, end and are known, where there is one finger.
-use Rattle.std.proofs.Common.{◌≡◌, ℕ, ◌+◌, ◌-◌, ◌*◌, ◌/◌, ◌%◌, ◌<◌, ◌≤◌, true, List, [], ◌∷◌, refl, ap, ◌∙◌, arith, ℤ, pos}
-use Rattle.std.specs.Prelude.{◌+ℤ◌}
-use Rattle.cell_plan.specs.Transmitter.{phase_at}
-use Rattle.cell_plan.specs.declared.plan.CellPlan.{CellPlan}
-use Rattle.mobile_core.specs.Streams.{is_in_file, known_at}
-use Rattle.mobile_core.specs.Timing.{IsTimed}
-use Rattle.mobile_core.specs.Tuning.{Tuning, fingers_of, modulo_code, sync_stream}
-use Rattle.clean_link.specs.CleanLink.{first_sync_frame, heard_behind}
+use Rattle.clean_link.proofs.Common.{◌≡◌, ℕ, ◌+◌, ◌-◌, ◌*◌, ◌/◌, ◌%◌, ◌<◌, ◌≤◌, true, List, [], ◌∷◌, refl, ap, ◌∙◌, arith, ℤ, pos, ◌+ℤ◌}
+use Rattle.clean_link.proofs.Common.{phase_at, CellPlan, is_in_file, known_at, IsTimed, Tuning, fingers_of, modulo_code, sync_stream}
+use Rattle.clean_link.proofs.Common.{first_sync_frame, heard_behind}
 use Rattle.clean_link.proofs.frames.Times.{IsAlone, inside_alone, known_alone, room_alone, timed_alone}
 
 -- ---- one finger

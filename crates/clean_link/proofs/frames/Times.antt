@@ -1,18 +1,9 @@
 -- When the frames of a stream end and are known, where it has one finger, on the reference path.
-use Rattle.std.proofs.Common.{◌≡◌, ℕ, ◌+◌, ◌≤◌, ◌&&◌, Bool, true, false, [], ◌∷◌, refl, sym, ap, ◌∙◌, arith, subst, max, nat_le, pos}
-use Rattle.std.proofs.Common.{unsigned_abs}
-use Rattle.std.specs.Prelude.{◌+ℤ◌, ◌-ℤ◌, if◌then◌else◌, int_le, List}
-use Rattle.std.proofs.lemmas.Bool.{le-leb, leb-true}
-use Rattle.std.proofs.lemmas.Int.{ints}
-use Rattle.rake_finger.specs.Soft.{frame_chips}
-use Rattle.rake_finger.specs.declared.finger.Finger.{Finger}
-use Rattle.rake_finger.specs.declared.form.Form.{Form}
+use Rattle.clean_link.proofs.Common.{◌≡◌, ℕ, ◌+◌, ◌≤◌, ◌&&◌, Bool, true, false, [], ◌∷◌, refl, sym, ap, ◌∙◌, arith, subst, max, nat_le, pos}
+use Rattle.clean_link.proofs.Common.{unsigned_abs, ◌+ℤ◌, ◌-ℤ◌, if◌then◌else◌, int_le, List, le-leb, leb-true, ints, frame_chips, Finger}
+use Rattle.clean_link.proofs.Common.{Form, Stream, frame_end, frame_start, is_in_file, is_within, known_at, IsTimed, timed_in, heard_behind}
+use Rattle.clean_link.proofs.Common.{reference_finger}
 use Rattle.mobile_core.specs.Near as near
-use Rattle.mobile_core.specs.Streams.{Stream, frame_end, frame_start, is_in_file, is_within, known_at}
-use Rattle.mobile_core.specs.Timing.{IsTimed}
-use Rattle.mobile_core.proofs.FingerTimes.{timed_in}
-use Rattle.clean_link.specs.CleanLink.{heard_behind}
-use Rattle.clean_link.specs.Signals.{reference_finger}
 
 -- ---- one finger
 

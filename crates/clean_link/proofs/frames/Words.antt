@@ -1,22 +1,11 @@
 -- The frames of a span are one word, of a source of any number of bits a frame.
-use Rattle.std.proofs.Common.{◌≡◌, ℕ, zero, suc, ◌+◌, ◌-◌, ◌*◌, ◌<◌, ◌≤◌, Bool, List, [], ◌∷◌, ◌++◌, length, take, drop, refl, sym, ap, ◌∙◌}
-use Rattle.std.proofs.Common.{arith, inl, inr, ℤ}
-use Rattle.std.specs.Prelude.{◌*ℤ◌, pos}
-use Rattle.std.specs.List.{flat_map}
-use Rattle.std.proofs.lemmas.Bool.{cases_lt}
-use Rattle.std.proofs.lemmas.List.{length-drop, take_all, drop_at, drop-append-le, take-append-le, map-append}
-use Rattle.chip_core.specs.Bits.{places, sign}
-use Rattle.conv_code.specs.ConvCode.{code_symbols, state_after}
-use Rattle.conv_code.proofs.Continued.{continued, code_symbols-none, length-code_symbols, length-state_after, state_after-none}
-use Rattle.conv_code.proofs.Continued.{state_after-append}
-use Rattle.symbol_path.specs.SentOrder.{sent}
-use Rattle.viterbi.specs.Laws.{signed}
-use Rattle.frame_decoder.specs.Spans.{Channel, sending, sent_symbols}
-use Rattle.frame_decoder.proofs.Parts.{within, frames-none, frames-more, length-frames}
-use Rattle.cell_plan.specs.Sendings.{bits_before, continued_symbols}
-use Rattle.cell_plan.proofs.SentBits.{last_eight}
-use Rattle.chip_core.proofs.Ranges.{flat_map_ext_places}
-use Rattle.clean_link.specs.SentWords.{span_word}
+use Rattle.clean_link.proofs.Common.{◌≡◌, ℕ, zero, suc, ◌+◌, ◌-◌, ◌*◌, ◌<◌, ◌≤◌, Bool, List, [], ◌∷◌, ◌++◌, length, take, drop, refl, sym}
+use Rattle.clean_link.proofs.Common.{ap, ◌∙◌, arith, inl, inr, ℤ, ◌*ℤ◌, pos, flat_map, cases_lt, take_all, drop_at, drop-append-le}
+use Rattle.clean_link.proofs.Common.{take-append-le, map-append, places, sign, code_symbols, state_after, continued, code_symbols-none}
+use Rattle.clean_link.proofs.Common.{length-code_symbols, length-state_after, state_after-none, state_after-append, sent, signed, Channel}
+use Rattle.clean_link.proofs.Common.{sending, sent_symbols, within, frames-none, frames-more, length-frames, bits_before, continued_symbols}
+use Rattle.clean_link.proofs.Common.{last_eight, flat_map_ext_places, span_word}
+use Rattle.std.proofs.lemmas.List.{length-drop}
 
 -- frame k of frames that follow one another
 pub frame_at : {A : Type 0} (f : ℕ → List A) (b m k : ℕ) → ((j : ℕ) → length (f j) ≡ b) → k < m →

@@ -1,27 +1,10 @@
 -- The mark's time is that of the first whole sending.
-use Rattle.std.proofs.Common.{◌≡◌, ℕ, ◌+◌, ◌/◌, ◌%◌, ⊎_elim, Bool, true, false, List, [], ◌∷◌, map, filter, refl, sym, ap, ◌∙◌, Option}
-use Rattle.std.proofs.Common.{Some, None}
-use Rattle.std.specs.List.{flat_map}
-use Rattle.std.proofs.lemmas.Bool.{cases_Bool}
-use Rattle.std.proofs.lemmas.List.{map-append}
-use Rattle.std.proofs.lemmas.Grind.{flat_map-append}
-use Rattle.chip_core.specs.declared.width.Width.{Width}
-use Rattle.sync_message.specs.SyncMessage.{sync_capsule}
-use Rattle.sync_message.specs.declared.fields.SyncFields.{SyncFields}
-use Rattle.long_code.specs.LongCode.{IsState}
-use Rattle.cell_plan.specs.Sampled.{made_samples}
-use Rattle.cell_plan.specs.Sendings.{message_of}
-use Rattle.cell_plan.specs.declared.plan.CellPlan.{CellPlan}
-use Rattle.cell_plan.specs.declared.plan.SyncPlan.{SyncPlan}
-use Rattle.mobile_core.specs.Marks.{first_of, mark, marks_at, marks_of}
-use Rattle.mobile_core.specs.SyncEvents.{events_of, with_message}
-use Rattle.mobile_core.specs.Tuning.{Tuning}
-use Rattle.mobile_core.specs.declared.event.Event.{Event}
-use Rattle.mobile_core.specs.declared.event.Event.TheVariants.{Frame, Paging, Pilot, Sets, Sync, Traffic}
-use Rattle.mobile_core.specs.declared.mark.Mark.{Mark}
-use Rattle.clean_link.specs.CleanLaws.{FramesAreZeros, FramesComeBack}
-use Rattle.clean_link.specs.CleanLink.{IsOnPath, events_of_channel, first_sync_frame, sending_event, sync_sent, whole_sendings}
-use Rattle.cell_plan.specs.Stated.{IsReceivable}
+use Rattle.clean_link.proofs.Common.{◌≡◌, ℕ, ◌+◌, ◌/◌, ◌%◌, ⊎_elim, Bool, true, false, List, [], ◌∷◌, map, filter, refl, sym, ap, ◌∙◌}
+use Rattle.clean_link.proofs.Common.{Option, Some, None, flat_map, cases_Bool, map-append, flat_map-append, Width, sync_capsule, SyncFields}
+use Rattle.clean_link.proofs.Common.{IsState, made_samples, message_of, CellPlan, SyncPlan, first_of, mark, marks_at, marks_of, events_of}
+use Rattle.clean_link.proofs.Common.{with_message, Tuning, Event, Frame, Pilot, Sets, Mark, FramesAreZeros, FramesComeBack, IsOnPath}
+use Rattle.clean_link.proofs.Common.{events_of_channel, first_sync_frame, sending_event, sync_sent, whole_sendings, IsReceivable}
+use Rattle.mobile_core.specs.declared.event.Event.TheVariants.{Paging, Sync, Traffic}
 use Rattle.clean_link.proofs.marks.MarksTrue.{marks_sent}
 use Rattle.clean_link.proofs.sendings.Capsules.{IsSentAt, is_at, sending_frames}
 use Rattle.clean_link.proofs.sendings.Events.{frame_events, frames_of, in_file, known, mark_of_all}

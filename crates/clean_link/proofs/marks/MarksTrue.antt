@@ -1,36 +1,14 @@
 -- The mark of a clean link has the cell's time and long code, and there is one just where a sending
 -- is whole.
-use Rattle.std.proofs.Common.{◌≡◌, ℕ, suc, ◌+◌, ◌-◌, ◌*◌, ◌/◌, ◌%◌, ◌<◌, ◌==◌, ⊎_elim, Bool, true, false, List, [], ◌∷◌, length, filter}
-use Rattle.std.proofs.Common.{refl, sym, ap, ◌∙◌, arith, subst, nat_lt, nat_le, ◌&&◌, Option, Some, None}
-use Rattle.std.specs.Prelude.{is_some}
-use Rattle.std.specs.List.{flat_map}
-use Rattle.std.proofs.lemmas.Bool.{and_parts, ne_eqb, cases_Bool}
+use Rattle.clean_link.proofs.Common.{◌≡◌, ℕ, suc, ◌+◌, ◌-◌, ◌*◌, ◌/◌, ◌%◌, ◌<◌, ◌==◌, ⊎_elim, Bool, true, false, List, [], ◌∷◌, length}
+use Rattle.clean_link.proofs.Common.{filter, refl, sym, ap, ◌∙◌, arith, subst, nat_lt, nat_le, ◌&&◌, Option, Some, None, is_some, flat_map}
+use Rattle.clean_link.proofs.Common.{and_parts, ne_eqb, cases_Bool, places, Sample, Width, IsState, after, after-after, IsState-after}
+use Rattle.clean_link.proofs.Common.{Piece, from_last_start, superframes_of, sync_capsule, SyncFields, IsLawfulPlan, message_of}
+use Rattle.clean_link.proofs.Common.{superframes_a_sending, told_superframes, CellPlan, SyncPlan, length-sending, first_of, frames_open}
+use Rattle.clean_link.proofs.Common.{mark, marks_at, marks_of, frame_start, events_of, heard_at, with_message, Tuning, sync_stream}
+use Rattle.clean_link.proofs.Common.{sync_bound, Mark, FramesAreZeros, FramesComeBack, IsMarkedWhereHeard, MarksAreTrue, IsOnPath}
+use Rattle.clean_link.proofs.Common.{IsTrueMark, first_sync_frame, IsReceivable, MarksTellTheRate, UnmarkedWithoutSync, made_samples}
 use Rattle.std.proofs.lemmas.List.{length-append}
-use Rattle.chip_core.specs.Bits.{places}
-use Rattle.chip_core.specs.declared.sample.Sample.{Sample}
-use Rattle.chip_core.specs.declared.width.Width.{Width}
-use Rattle.long_code.specs.LongCode.{IsState, after}
-use Rattle.long_code.proofs.After.{after-after}
-use Rattle.long_code.proofs.Period.{IsState-after}
-use Rattle.quality_bits.specs.Pieces.{Piece, from_last_start}
-use Rattle.sync_message.specs.Framing.{superframes_of}
-use Rattle.sync_message.specs.SyncMessage.{sync_capsule}
-use Rattle.sync_message.specs.declared.fields.SyncFields.{SyncFields}
-use Rattle.cell_plan.specs.Plan.{IsLawfulPlan}
-use Rattle.cell_plan.specs.Sendings.{message_of, superframes_a_sending, told_superframes}
-use Rattle.cell_plan.specs.declared.plan.CellPlan.{CellPlan}
-use Rattle.cell_plan.specs.declared.plan.SyncPlan.{SyncPlan}
-use Rattle.cell_plan.proofs.SentMessages.{length-sending}
-use Rattle.mobile_core.specs.Marks.{first_of, frames_open, mark, marks_at, marks_of}
-use Rattle.mobile_core.specs.Streams.{frame_start}
-use Rattle.mobile_core.specs.SyncEvents.{events_of, heard_at, with_message}
-use Rattle.mobile_core.specs.Tuning.{Tuning, sync_stream, sync_bound}
-use Rattle.mobile_core.specs.declared.mark.Mark.{Mark}
-use Rattle.clean_link.specs.CleanLaws.{FramesAreZeros, FramesComeBack, IsMarkedWhereHeard, MarksAreTrue}
-use Rattle.clean_link.specs.CleanLink.{IsOnPath, IsTrueMark, first_sync_frame}
-use Rattle.cell_plan.specs.Stated.{IsReceivable}
-use Rattle.clean_link.specs.PagingLaws.{MarksTellTheRate, UnmarkedWithoutSync}
-use Rattle.cell_plan.specs.Sampled.{made_samples}
 use Rattle.clean_link.proofs.frames.SyncFrames.{frames_back, frames_zero}
 use Rattle.clean_link.proofs.sendings.Pieces.{length-run}
 use Rattle.clean_link.proofs.sendings.Capsules.{IsSentAt, begun, is_at, piece_of, sending_frames}

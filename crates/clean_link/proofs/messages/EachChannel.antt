@@ -1,46 +1,16 @@
 -- A handset hears what a clean link's cell sends, channel by channel and frame by frame.
-use Rattle.std.proofs.Common.{◌≡◌, ℕ, ◌+◌, ◌-◌, ◌*◌, ◌≤◌, true, false, Bool, List, [], ◌∷◌, length, map, refl, sym, ap, ◌∙◌, arith, subst}
-use Rattle.std.proofs.Common.{inl, inr, Option, None, Some, filter}
-use Rattle.std.specs.Prelude.{if◌then◌else◌, All}
-use Rattle.std.specs.List.{Contains, flat_map}
-use Rattle.std.proofs.lemmas.Bool.{cases_lt}
-use Rattle.std.proofs.lemmas.List.Elements.{All-contains, All-map}
-use Rattle.chip_core.specs.Bits.{places}
-use Rattle.chip_core.specs.declared.sample.Sample.{Sample}
-use Rattle.chip_core.specs.declared.width.Width.{Width}
-use Rattle.chip_core.proofs.Ranges.{flat_map_ext_places}
-use Rattle.frame_decoder.specs.Laws.{kept_count}
-use Rattle.rake_finger.specs.declared.form.Form.TheVariants.{Data}
-use Rattle.cell_plan.specs.Plan.{IsFreeOf}
-use Rattle.cell_plan.specs.Sampled.{made_samples}
-use Rattle.cell_plan.specs.Signal.{frames_of}
-use Rattle.cell_plan.specs.TrafficFrames.{cycled_frame}
-use Rattle.cell_plan.specs.declared.plan.CellPlan.{CellPlan}
-use Rattle.cell_plan.specs.declared.plan.PagingPlan.{PagingPlan}
-use Rattle.cell_plan.specs.declared.plan.TrafficPlan.{TrafficPlan}
-use Rattle.cell_plan.specs.declared.traffic_frame.TrafficFrame.{TrafficFrame}
-use Rattle.mobile_core.specs.Events.{events, events_at, frame_events_at, heard_within, message_events_at, paging_events_at}
-use Rattle.mobile_core.specs.Marks.{mark}
-use Rattle.mobile_core.specs.Moments.{frames_at, messages_at}
-use Rattle.mobile_core.specs.Streams.{is_in_file}
-use Rattle.mobile_core.specs.SyncEvents.{sync_events_at}
-use Rattle.mobile_core.specs.TrafficEvents.{commands_at, decoded_at, frame_event, frame_heard, if_followed}
-use Rattle.mobile_core.specs.TrafficStreams.{replaced_in}
-use Rattle.mobile_core.specs.Tuning.{Tuning}
-use Rattle.mobile_core.specs.declared.event.Event.{Event}
-use Rattle.mobile_core.specs.declared.event.Event.TheVariants.{Pilot}
-use Rattle.mobile_core.specs.declared.legs.Leg.{Leg}
-use Rattle.mobile_core.specs.declared.mark.Mark.{Mark}
-use Rattle.chip_core.specs.declared.assignment.Traffic.{Traffic}
-use Rattle.mobile_core.proofs.MarkStays.{frames_by_one_mark, messages_by_one_mark}
-use Rattle.clean_link.specs.CleanLink.{soft_strength, sync_sent, IsNotDirected, IsOnPath, IsTunedTo}
-use Rattle.cell_plan.specs.Stated.{IsReceivable}
-use Rattle.clean_link.specs.HeardEach.{is_frame, is_message, is_page, is_sync, AreEventsOf, AreFramesBehind, AreMessagesBehind}
-use Rattle.clean_link.specs.HeardEach.{EachChannelComesBack, FollowsOne, IsEventOf}
-use Rattle.clean_link.specs.HeardFrames.{frame_ends, is_received, received_frames, AreDistinct, IsDistinctFrame, SendsSetOne}
-use Rattle.clean_link.specs.HeardSignals.{messages_of_channel}
-use Rattle.clean_link.specs.SentEvents.{paging_sent, told_with_sync}
-use Rattle.clean_link.specs.TrafficLaws.{HearsTraffic, IsHeardAs}
+use Rattle.clean_link.proofs.Common.{◌≡◌, ℕ, ◌+◌, ◌-◌, ◌*◌, ◌≤◌, true, false, Bool, List, [], ◌∷◌, length, map, refl, sym, ap, ◌∙◌, arith}
+use Rattle.clean_link.proofs.Common.{subst, inl, inr, Option, None, Some, filter, if◌then◌else◌, All, Contains, flat_map, cases_lt}
+use Rattle.clean_link.proofs.Common.{All-contains, All-map, places, Sample, Width, flat_map_ext_places, kept_count, Data, IsFreeOf}
+use Rattle.clean_link.proofs.Common.{made_samples, frames_of, cycled_frame, CellPlan, PagingPlan, TrafficPlan, TrafficFrame, events}
+use Rattle.clean_link.proofs.Common.{events_at, frame_events_at, heard_within, message_events_at, paging_events_at, mark, frames_at}
+use Rattle.clean_link.proofs.Common.{messages_at, is_in_file, sync_events_at, commands_at, decoded_at, frame_event, frame_heard}
+use Rattle.clean_link.proofs.Common.{if_followed, replaced_in, Tuning, Event, Pilot, Leg, Mark, Traffic, frames_by_one_mark}
+use Rattle.clean_link.proofs.Common.{messages_by_one_mark, soft_strength, sync_sent, IsNotDirected, IsOnPath, IsTunedTo, IsReceivable}
+use Rattle.clean_link.proofs.Common.{is_frame, is_message, is_page, is_sync, AreEventsOf, AreFramesBehind, AreMessagesBehind}
+use Rattle.clean_link.proofs.Common.{EachChannelComesBack, FollowsOne, IsEventOf, frame_ends, is_received, received_frames, AreDistinct}
+use Rattle.clean_link.proofs.Common.{IsDistinctFrame, SendsSetOne, messages_of_channel, paging_sent, told_with_sync, HearsTraffic}
+use Rattle.clean_link.proofs.Common.{IsHeardAs}
 use Rattle.clean_link.proofs.marks.MarksTrue.{marks_true}
 use Rattle.clean_link.proofs.messages.Kinds.{frames_of_all, messages_of_all, pages_of_all, sync_of_all}
 use Rattle.clean_link.proofs.messages.MessagesBack.{pages_all}

@@ -1,16 +1,7 @@
 -- Events that are gathered over numbers of samples, told apart by their places again.
-use Rattle.std.proofs.Common.{◌≡◌, ℕ, zero, suc, ◌+◌, ◌<◌, ◌≤◌, true, false, List, [], ◌∷◌, ◌++◌, filter, refl, sym, ap, ◌∙◌, arith, inl}
-use Rattle.std.proofs.Common.{inr}
-use Rattle.std.specs.List.{flat_map, range_with_len}
-use Rattle.std.proofs.lemmas.Bool.{cases_order, eq-eqb, ne_eqb}
-use Rattle.std.proofs.lemmas.List.{append-nil}
-use Rattle.std.proofs.lemmas.List.Elements.{filter-append}
-use Rattle.chip_core.specs.Bits.{places}
-use Rattle.mobile_core.specs.Given.{at_of}
-use Rattle.mobile_core.specs.declared.event.Event.{Event}
-use Rattle.mobile_core.proofs.EventPlaces.{AreAt}
-use Rattle.chip_core.proofs.Ranges.{flat_map_ext_places}
-use Rattle.clean_link.specs.SentEvents.{by_places, is_at}
+use Rattle.clean_link.proofs.Common.{◌≡◌, ℕ, zero, suc, ◌+◌, ◌<◌, ◌≤◌, true, false, List, [], ◌∷◌, ◌++◌, filter, refl, sym, ap, ◌∙◌, arith}
+use Rattle.clean_link.proofs.Common.{inl, inr, flat_map, range_with_len, cases_order, eq-eqb, ne_eqb, append-nil, filter-append, places}
+use Rattle.clean_link.proofs.Common.{at_of, Event, AreAt, flat_map_ext_places, by_places, is_at}
 
 -- ---- events of one number of samples
 kept_here : (n : ℕ) (es : List Event) → AreAt n es → filter (is_at n) es ≡ es

@@ -1,32 +1,14 @@
 -- Which of a handset's events are of which kind.
-use Rattle.std.proofs.Common.{◌≡◌, ℕ, ◌+◌, ◌==◌, ◌||◌, Bool, true, false, List, [], ◌∷◌, ◌++◌, filter, refl, ap, ◌∙◌, take, Option, None}
-use Rattle.std.proofs.Common.{Some, nat_eq}
-use Rattle.std.specs.Prelude.{if◌then◌else◌, All}
-use Rattle.std.specs.List.{flat_map}
-use Rattle.std.proofs.lemmas.List.{append-nil}
-use Rattle.std.proofs.lemmas.List.Elements.{All-append, All-cons, All-head, All-map, All-nil, All-tail, filter-append}
-use Rattle.chip_core.specs.declared.check_form.CheckForm.TheVariants.{Plain}
-use Rattle.chip_core.specs.declared.sample.Sample.{Sample}
-use Rattle.pilot_sets.specs.Standing.{Standing}
-use Rattle.pilot_sets.specs.declared.change.SetChange.{SetChange}
-use Rattle.mobile_core.specs.Events.{events_at, frame_events_at, message_events_at, paging_events_at, sets_events_at}
-use Rattle.mobile_core.specs.Marks.{mark}
-use Rattle.mobile_core.specs.Moments.{changed, frames_at, heard_from, kept_to, legs_at, messages_at, moment_events, moment_place}
-use Rattle.mobile_core.specs.Moments.{moments_before, passed, sets_at}
-use Rattle.mobile_core.specs.PagingEvents.{page_event, pages_behind}
-use Rattle.mobile_core.specs.Signaling.{message_at, message_events, message_heard, messages_by, signal_in}
-use Rattle.mobile_core.specs.Streams.{known_now}
-use Rattle.mobile_core.specs.SyncEvents.{events_of, heard_at, sync_events_at, with_message}
-use Rattle.mobile_core.specs.TrafficEvents.{frame_heard, frames_by, if_followed}
-use Rattle.mobile_core.specs.TrafficStreams.{frames_now}
-use Rattle.mobile_core.specs.Tuning.{Tuning, sync_bound, sync_stream}
-use Rattle.mobile_core.specs.declared.event.Event.{Event}
+use Rattle.clean_link.proofs.Common.{◌≡◌, ℕ, ◌+◌, ◌==◌, ◌||◌, Bool, true, false, List, [], ◌∷◌, ◌++◌, filter, refl, ap, ◌∙◌, take, Option}
+use Rattle.clean_link.proofs.Common.{None, Some, nat_eq, if◌then◌else◌, All, flat_map, append-nil, All-append, All-cons, All-head, All-map}
+use Rattle.clean_link.proofs.Common.{All-nil, All-tail, filter-append, Plain, Sample, Standing, SetChange, events_at, frame_events_at}
+use Rattle.clean_link.proofs.Common.{message_events_at, paging_events_at, sets_events_at, mark, changed, frames_at, heard_from, kept_to}
+use Rattle.clean_link.proofs.Common.{legs_at, messages_at, moment_events, moment_place, moments_before, passed, sets_at, page_event}
+use Rattle.clean_link.proofs.Common.{pages_behind, message_at, message_events, message_heard, messages_by, signal_in, known_now, events_of}
+use Rattle.clean_link.proofs.Common.{heard_at, sync_events_at, with_message, frame_heard, frames_by, if_followed, frames_now, Tuning}
+use Rattle.clean_link.proofs.Common.{sync_bound, sync_stream, Event, Leg, Mark, Traffic, is_frame, is_message, is_page, is_sync}
+use Rattle.clean_link.proofs.Common.{type_within}
 use Rattle.mobile_core.specs.declared.event.Event.TheVariants.{Frame, Paging, Pilot, Sets, Sync, Traffic as OnTraffic}
-use Rattle.mobile_core.specs.declared.legs.Leg.{Leg}
-use Rattle.mobile_core.specs.declared.mark.Mark.{Mark}
-use Rattle.chip_core.specs.declared.assignment.Traffic.{Traffic}
-use Rattle.clean_link.specs.HeardEach.{is_frame, is_message, is_page, is_sync}
-use Rattle.clean_link.specs.HeardPages.{type_within}
 
 -- ---- kinds by number
 

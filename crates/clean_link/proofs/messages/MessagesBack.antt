@@ -1,37 +1,16 @@
 -- A handset hears the whole sendings, the whole pages, and the frames and messages of a traffic
 -- channel of a clean link's cell, with the events of its pilot sets, in the order in which they are
 -- known, and nothing else.
-use Rattle.std.proofs.Common.{◌≡◌, ℕ, ◌+◌, ◌*◌, Bool, true, false, List, [], ◌∷◌, ◌++◌, length, map, refl, sym, ap, ◌∙◌, arith, inl, inr}
-use Rattle.std.proofs.Common.{nat_lt, Option, None, Some, ℤ, pos}
-use Rattle.std.specs.Prelude.{if◌then◌else◌, All}
-use Rattle.std.specs.List.{flat_map}
-use Rattle.std.proofs.lemmas.Bool.{cases_Bool, ltb-true}
-use Rattle.std.proofs.lemmas.List.{map-append}
-use Rattle.chip_core.specs.Bits.{places}
-use Rattle.chip_core.specs.declared.check_form.CheckForm.{CheckForm}
-use Rattle.chip_core.specs.declared.sample.Sample.{Sample}
-use Rattle.chip_core.specs.declared.width.Width.{Width}
-use Rattle.cell_plan.specs.Sampled.{made_samples}
-use Rattle.cell_plan.specs.Sendings.{told_superframes}
-use Rattle.cell_plan.specs.Transmitter.{phase_at}
-use Rattle.cell_plan.specs.declared.plan.CellPlan.{CellPlan}
-use Rattle.cell_plan.specs.declared.plan.SyncPlan.{SyncPlan}
-use Rattle.mobile_core.specs.Events.{events, events_at, frame_events_at, heard_within, message_events_at, paging_events_at, sets_events_at}
-use Rattle.mobile_core.specs.Marks.{mark}
-use Rattle.mobile_core.specs.PagingEvents.{page_event, pages_at, pages_behind}
-use Rattle.mobile_core.specs.SyncEvents.{sync_events_at}
-use Rattle.mobile_core.specs.Tuning.{Tuning}
-use Rattle.mobile_core.specs.declared.event.Event.{Event}
-use Rattle.mobile_core.specs.declared.event.Event.TheVariants.{Pilot}
-use Rattle.mobile_core.specs.declared.mark.Mark.{Mark}
-use Rattle.mobile_core.proofs.EventPlaces.{AreAt, messages_at_end, paging_at, sets_at_end, sync_at, traffic_at}
-use Rattle.mobile_core.proofs.MarkStays.{pages_by_one_mark}
-use Rattle.chip_core.proofs.Ranges.{flat_map_ext_places}
-use Rattle.clean_link.specs.CleanLink.{IsNotDirected, IsOnPath, IsTunedTo, sync_sent, tuning_to, whole_sendings}
-use Rattle.cell_plan.specs.Stated.{IsReceivable}
-use Rattle.clean_link.specs.HeardPages.{ReadPage, known_page, pages_sent, pages_within}
-use Rattle.clean_link.specs.SentEvents.{FollowsSent, WholeMessagesComeBack, known_event, paging_sent, pages_behind_mark, pages_with_sync}
-use Rattle.clean_link.specs.SentEvents.{sent_events, by_places, sets_heard, signaling_sent, told_by_first, traffic_sent}
+use Rattle.clean_link.proofs.Common.{◌≡◌, ℕ, ◌+◌, ◌*◌, Bool, true, false, List, [], ◌∷◌, ◌++◌, length, map, refl, sym, ap, ◌∙◌, arith, inl}
+use Rattle.clean_link.proofs.Common.{inr, nat_lt, Option, None, Some, ℤ, pos, if◌then◌else◌, All, flat_map, cases_Bool, ltb-true}
+use Rattle.clean_link.proofs.Common.{map-append, places, CheckForm, Sample, Width, made_samples, told_superframes, phase_at, CellPlan}
+use Rattle.clean_link.proofs.Common.{SyncPlan, events, events_at, frame_events_at, heard_within, message_events_at, paging_events_at}
+use Rattle.clean_link.proofs.Common.{sets_events_at, mark, page_event, pages_at, pages_behind, sync_events_at, Tuning, Event, Pilot, Mark}
+use Rattle.clean_link.proofs.Common.{AreAt, messages_at_end, paging_at, sets_at_end, sync_at, traffic_at, pages_by_one_mark}
+use Rattle.clean_link.proofs.Common.{flat_map_ext_places, IsNotDirected, IsOnPath, IsTunedTo, sync_sent, tuning_to, whole_sendings}
+use Rattle.clean_link.proofs.Common.{IsReceivable, ReadPage, known_page, pages_sent, pages_within, FollowsSent, WholeMessagesComeBack}
+use Rattle.clean_link.proofs.Common.{known_event, paging_sent, pages_behind_mark, pages_with_sync, sent_events, by_places, sets_heard}
+use Rattle.clean_link.proofs.Common.{signaling_sent, told_by_first, traffic_sent}
 use Rattle.clean_link.proofs.messages.EventPlaces.{at_both, gathered_by_places}
 use Rattle.clean_link.proofs.marks.FirstMark.{mark_of_first, unset_without}
 use Rattle.clean_link.proofs.marks.MarksTrue.{marks_rate, marks_true, time_of, unmarked}

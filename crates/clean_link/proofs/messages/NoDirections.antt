@@ -1,33 +1,13 @@
 -- None of a handset's events directs a handoff where no message does that is sent to it.
-use Rattle.std.proofs.Common.{◌≡◌, ℕ, ◌+◌, ◌≤◌, ◌==◌, ◌||◌, Bool, true, false, List, [], ◌++◌, length, take, refl, sym, arith, subst}
-use Rattle.std.proofs.Common.{Option, None, Some}
-use Rattle.std.specs.Prelude.{if◌then◌else◌, All}
-use Rattle.std.proofs.lemmas.List.Elements.{All-append, All-cons, All-map, All-nil, All-same}
-use Rattle.chip_core.specs.Bits.{places}
-use Rattle.chip_core.specs.declared.sample.Sample.{Sample}
-use Rattle.chip_core.specs.declared.width.Width.{Width}
-use Rattle.cell_plan.specs.Sampled.{made_samples}
-use Rattle.cell_plan.specs.declared.plan.CellPlan.{CellPlan}
-use Rattle.cell_plan.specs.declared.plan.SyncPlan.{SyncPlan}
-use Rattle.pilot_sets.specs.Standing.{Standing}
-use Rattle.pilot_sets.specs.declared.change.SetChange.{SetChange}
-use Rattle.mobile_core.specs.Events.{events_at, frame_events_at, heard_within, message_events_at, paging_events_at, sets_events_at}
-use Rattle.mobile_core.specs.Marks.{mark}
-use Rattle.mobile_core.specs.Moments.{changed, frames_at, heard_from, kept_to, legs_at, messages_at, moment_events, moment_place}
-use Rattle.mobile_core.specs.Moments.{moments_before, passed, sets_at}
-use Rattle.mobile_core.specs.PagingEvents.{pages_behind}
-use Rattle.mobile_core.specs.SyncEvents.{sync_events_at}
-use Rattle.mobile_core.specs.TrafficEvents.{if_followed}
-use Rattle.mobile_core.specs.Tuning.{Tuning}
-use Rattle.mobile_core.specs.declared.event.Event.{Event}
-use Rattle.mobile_core.specs.declared.event.Event.TheVariants.{Pilot}
-use Rattle.mobile_core.specs.declared.mark.Mark.{Mark}
-use Rattle.chip_core.specs.declared.assignment.Traffic.{Traffic}
-use Rattle.mobile_core.proofs.MarkStays.{messages_by_one_mark}
-use Rattle.clean_link.specs.CleanLink.{IsNotDirected, IsOnPath, events_of_channel, sending_event, sync_sent, whole_sendings}
-use Rattle.cell_plan.specs.Stated.{IsReceivable}
-use Rattle.clean_link.specs.HeardSignals.{messages_of_channel, messages_sent}
-use Rattle.clean_link.specs.SentEvents.{FollowsSent, NoEventIsDirected, signaling_sent}
+use Rattle.clean_link.proofs.Common.{◌≡◌, ℕ, ◌+◌, ◌≤◌, ◌==◌, ◌||◌, Bool, true, false, List, [], ◌++◌, length, take, refl, sym, arith, subst}
+use Rattle.clean_link.proofs.Common.{Option, None, Some, if◌then◌else◌, All, All-append, All-cons, All-map, All-nil, All-same, places}
+use Rattle.clean_link.proofs.Common.{Sample, Width, made_samples, CellPlan, SyncPlan, Standing, SetChange, events_at, frame_events_at}
+use Rattle.clean_link.proofs.Common.{heard_within, message_events_at, paging_events_at, sets_events_at, mark, changed, frames_at}
+use Rattle.clean_link.proofs.Common.{heard_from, kept_to, legs_at, messages_at, moment_events, moment_place, moments_before, passed}
+use Rattle.clean_link.proofs.Common.{sets_at, pages_behind, sync_events_at, if_followed, Tuning, Event, Pilot, Mark, Traffic}
+use Rattle.clean_link.proofs.Common.{messages_by_one_mark, IsNotDirected, IsOnPath, events_of_channel, sending_event, sync_sent}
+use Rattle.clean_link.proofs.Common.{whole_sendings, IsReceivable, messages_of_channel, messages_sent, FollowsSent, NoEventIsDirected}
+use Rattle.clean_link.proofs.Common.{signaling_sent}
 use Rattle.clean_link.proofs.marks.MarksTrue.{unmarked}
 use Rattle.clean_link.proofs.sendings.Back.{sendings_back}
 use Rattle.clean_link.proofs.signal.Samples.{length-made}

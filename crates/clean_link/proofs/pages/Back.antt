@@ -1,41 +1,15 @@
 -- On a clean link a handset hears the whole pages of a paging channel, in order, and nothing else.
-use Rattle.std.proofs.Common.{◌≡◌, ◌≢◌, ℕ, ◌+◌, ◌-◌, ◌*◌, ◌/◌, ◌<◌, ◌≤◌, ◌==◌, ⊎_elim, Bool, true, false, List, [], ◌∷◌, map, filter}
-use Rattle.std.proofs.Common.{replicate, refl, sym, ap, ◌∙◌, arith, subst, Option, Some}
-use Rattle.std.specs.Prelude.{All}
-use Rattle.std.specs.List.{Contains, flat_map}
-use Rattle.std.specs.Option.{option_to_list}
-use Rattle.std.proofs.lemmas.Bool.{cases_Bool, eqb-true, eqb-false, false_from_ne_true}
-use Rattle.std.proofs.lemmas.List.Elements.{All-cons, All-contains, All-contains_itself, All-head, All-nil, All-tail, All-weaker}
-use Rattle.chip_core.specs.Bits.{places}
-use Rattle.chip_core.specs.declared.check_form.CheckForm.{CheckForm}
-use Rattle.chip_core.specs.declared.width.Width.{Width}
-use Rattle.quality_bits.specs.Capsules.{capsule}
-use Rattle.quality_bits.specs.declared.kind.Kind.TheVariants.{M30}
-use Rattle.quality_bits.specs.declared.rate.Rate.{Rate}
-use Rattle.paging_message.specs.HalfFrames.{half_frame_body}
-use Rattle.paging_message.proofs.Carried.{rate_large}
-use Rattle.cell_plan.specs.PageCycles.{cycle_frame_bits}
-use Rattle.cell_plan.specs.Pages.{paging_rate}
-use Rattle.cell_plan.specs.Sampled.{made_samples}
-use Rattle.cell_plan.specs.Stated.{IsStatedPaging}
-use Rattle.cell_plan.specs.Signal.{cycle_of}
-use Rattle.cell_plan.specs.declared.plan.CellPlan.{CellPlan}
-use Rattle.cell_plan.specs.declared.plan.PagingPlan.{PagingPlan}
-use Rattle.cell_plan.specs.declared.plan.SyncPlan.{SyncPlan}
-use Rattle.mobile_core.specs.PagingEvents.{page_in}
-use Rattle.mobile_core.specs.PagingStreams as streams
-use Rattle.mobile_core.specs.Streams.{frame_own_bits, is_in_file, known_at, Stream}
-use Rattle.mobile_core.specs.Timing.{IsTimed}
-use Rattle.mobile_core.specs.Tuning.{Tuning}
-use Rattle.mobile_core.specs.declared.mark.Mark.{Mark}
-use Rattle.chip_core.proofs.Ranges.{flat_map_ext_places}
-use Rattle.clean_link.specs.CleanLink.{heard_behind, IsOnPath, IsTrueMark}
-use Rattle.cell_plan.specs.Stated.{IsReceivable}
-use Rattle.clean_link.specs.HeardPages.{end_chip, known_page, KnownPage, message_in, page_told, pages_numbered, pages_of_channel}
-use Rattle.clean_link.specs.HeardPages.{pages_sent, pages_within, PagesComeBack, placed_pages, ReadPage, round_sent}
-use Rattle.clean_link.specs.WholePages.{AreWholePages, capsules_with_frames, cycle_half_frames, is_whole_page, Placed, sending_of}
-use Rattle.clean_link.specs.PageLaws.{WholePagesComeBack}
-use Rattle.clean_link.specs.PagingLaws.{PagingFramesComeBack, SilentPagingFramesAreZeros}
+use Rattle.clean_link.proofs.Common.{◌≡◌, ◌≢◌, ℕ, ◌+◌, ◌-◌, ◌*◌, ◌/◌, ◌<◌, ◌≤◌, ◌==◌, ⊎_elim, Bool, true, false, List, [], ◌∷◌, map, filter}
+use Rattle.clean_link.proofs.Common.{replicate, refl, sym, ap, ◌∙◌, arith, subst, Option, Some, All, Contains, flat_map, option_to_list}
+use Rattle.clean_link.proofs.Common.{cases_Bool, eqb-true, eqb-false, false_from_ne_true, All-cons, All-contains, All-contains_itself}
+use Rattle.clean_link.proofs.Common.{All-head, All-nil, All-tail, All-weaker, places, CheckForm, Width, capsule, M30, Rate, half_frame_body}
+use Rattle.clean_link.proofs.Common.{rate_large, cycle_frame_bits, paging_rate, made_samples, IsStatedPaging, cycle_of, CellPlan}
+use Rattle.clean_link.proofs.Common.{PagingPlan, SyncPlan, page_in, frame_own_bits, is_in_file, known_at, Stream, IsTimed, Tuning, Mark}
+use Rattle.clean_link.proofs.Common.{flat_map_ext_places, heard_behind, IsOnPath, IsTrueMark, IsReceivable, end_chip, known_page, KnownPage}
+use Rattle.clean_link.proofs.Common.{message_in, page_told, pages_numbered, pages_of_channel, pages_sent, pages_within, PagesComeBack}
+use Rattle.clean_link.proofs.Common.{placed_pages, ReadPage, round_sent, AreWholePages, capsules_with_frames, cycle_half_frames}
+use Rattle.clean_link.proofs.Common.{is_whole_page, Placed, sending_of, WholePagesComeBack, PagingFramesComeBack}
+use Rattle.clean_link.proofs.Common.{SilentPagingFramesAreZeros}
 use Rattle.clean_link.proofs.pages.InOrder.{flat_map-flat_map, HasFrames, pages_by_capsules, told_of}
 use Rattle.clean_link.proofs.pages.Placed.{ends_so, IsPlaced, pages_placed, told_each}
 use Rattle.clean_link.proofs.pages.Read.{page_read}
@@ -43,6 +17,7 @@ use Rattle.clean_link.proofs.pages.Silent.{zero_frames_end_none}
 use Rattle.clean_link.proofs.pages.Whole.{stated_pages, whole_pages_back}
 use Rattle.clean_link.proofs.frames.PagingFrames.{paging_frames_back, silent_paging_back}
 use Rattle.clean_link.proofs.frames.PagingTimes.{paging_file_from, paging_file_to, paging_known_is, paging_timed}
+use Rattle.mobile_core.specs.PagingStreams as streams
 
 -- ---- when frames are known
 

@@ -1,14 +1,9 @@
 -- Capsules that follow one another: which of them ends with a bit of their run.
-use Rattle.std.proofs.Common.{◌≡◌, ℕ, zero, suc, ◌+◌, ◌-◌, ◌*◌, ◌<◌, ◌≤◌, Bool, true, false, List, [], ◌∷◌, ◌++◌, length, take, drop}
-use Rattle.std.proofs.Common.{replicate, refl, sym, ap, ◌∙◌, arith, cond, nat_lt, nat_le, Option, Some, None, inl, inr, length-append}
-use Rattle.std.specs.Prelude.{if◌then◌else◌}
-use Rattle.std.proofs.lemmas.Bool.{and_from, and_left, and_right, cases_lt, cases_order, false_from_ne_true, le-leb, le-ltb, lt-leb, lt-ltb}
-use Rattle.std.proofs.lemmas.List.{drop-take, drop_at, length-take-le, take-append-le, take-take, take_at}
-use Rattle.chip_core.specs.Bits.{number}
-use Rattle.quality_bits.specs.Capsules.{is_stated, stated_bits, IsWhole}
-use Rattle.quality_bits.proofs.Opened.{stated_bounds, stated_from}
-use Rattle.paging_message.specs.HalfFrames.{bits_left, ends_chain}
-use Rattle.paging_message.proofs.Chains.{is_there}
+use Rattle.clean_link.proofs.Common.{◌≡◌, ℕ, zero, suc, ◌+◌, ◌-◌, ◌*◌, ◌<◌, ◌≤◌, Bool, true, false, List, [], ◌∷◌, ◌++◌, length, take, drop}
+use Rattle.clean_link.proofs.Common.{replicate, refl, sym, ap, ◌∙◌, arith, cond, nat_lt, nat_le, Option, Some, None, inl, inr}
+use Rattle.clean_link.proofs.Common.{length-append, if◌then◌else◌, and_from, and_left, and_right, cases_lt, cases_order, false_from_ne_true}
+use Rattle.clean_link.proofs.Common.{le-leb, le-ltb, lt-leb, lt-ltb, drop-take, drop_at, length-take-le, take-append-le, take-take, take_at}
+use Rattle.clean_link.proofs.Common.{number, is_stated, stated_bits, IsWhole, stated_bounds, stated_from, bits_left, ends_chain, is_there}
 
 -- there are 8 bits for a capsule more, where there is one
 abbrev pub HasRoom : ℕ → ℕ → List (List Bool) → Type 0

@@ -1,29 +1,13 @@
 -- What is heard of a cycle of pages that goes round, from any frame on.
-use Rattle.std.proofs.Common.{◌≡◌, ℕ, suc, ◌+◌, ◌-◌, ◌*◌, ◌/◌, ◌<◌, ◌≤◌, Bool, false, List, [], ◌∷◌, ◌++◌, length, map, take, drop, refl}
-use Rattle.std.proofs.Common.{sym, ap, ◌∙◌, subst, arith, inl, inr, length-append, length-drop}
-use Rattle.std.specs.List.{filter, flat_map}
-use Rattle.std.proofs.lemmas.Bool.{cases_Bool}
-use Rattle.std.proofs.lemmas.List.{append-nil, length-take-le, nil_from_length}
-use Rattle.std.proofs.lemmas.Simd.{map-map}
-use Rattle.std.proofs.Math.Nat.{mul-le-mul_left}
-use Rattle.chip_core.specs.Bits.{places}
-use Rattle.chip_core.proofs.Places.{length-map-places}
-use Rattle.chip_core.specs.declared.check_form.CheckForm.{CheckForm}
-use Rattle.quality_bits.specs.Pieces.{Piece}
-use Rattle.quality_bits.specs.declared.rate.Rate.{Rate}
-use Rattle.paging_message.specs.HalfFrames.{half_frame_body}
-use Rattle.paging_message.specs.Laying as laying
-use Rattle.cell_plan.specs.PageCycles.{cycled}
-use Rattle.cell_plan.specs.Pages.{laid_pages, page_cycle, put_of, AreSendable}
-use Rattle.cell_plan.specs.Stated.{AreHeard}
-use Rattle.cell_plan.specs.declared.plan.Page.{Page}
-use Rattle.cell_plan.proofs.LaidPages.{size_large}
-use Rattle.clean_link.specs.PageLaws.{PageSendingsComeBack}
-use Rattle.clean_link.specs.WholePages.{capsules_with_frames, cycle_half_frames, is_between, placed, sending_of, AreWholePages, Placed}
+use Rattle.clean_link.proofs.Common.{◌≡◌, ℕ, suc, ◌+◌, ◌-◌, ◌*◌, ◌/◌, ◌<◌, ◌≤◌, Bool, false, List, [], ◌∷◌, ◌++◌, length, map, take, drop}
+use Rattle.clean_link.proofs.Common.{refl, sym, ap, ◌∙◌, subst, arith, inl, inr, length-append, length-drop, flat_map, cases_Bool}
+use Rattle.clean_link.proofs.Common.{append-nil, length-take-le, nil_from_length, map-map, mul-le-mul_left, places, length-map-places}
+use Rattle.clean_link.proofs.Common.{CheckForm, Piece, Rate, half_frame_body, cycled, laid_pages, page_cycle, put_of, AreSendable, AreHeard}
+use Rattle.clean_link.proofs.Common.{Page, size_large, PageSendingsComeBack, capsules_with_frames, cycle_half_frames, is_between, placed}
+use Rattle.clean_link.proofs.Common.{sending_of, AreWholePages, Placed, flat_map-zero, flat_map-repeated, repeated, repeated-part}
+use Rattle.std.specs.List.{filter}
 use Rattle.clean_link.proofs.pages.Chains.{joined}
 use Rattle.clean_link.proofs.pages.Frames.{cycle_has_frames, heard_piece}
-use Rattle.chip_core.proofs.Counted.{flat_map-zero}
-use Rattle.chip_core.proofs.Repeated.{flat_map-repeated, repeated, repeated-part}
 use Rattle.clean_link.proofs.pages.Pieces.{length-stream, no_piece, stream, whole-append, whole-map, AreWhole}
 use Rattle.clean_link.proofs.pages.Rounds.{later, repeated_are_runs, rounds_placed, rounds_said}
 use Rattle.clean_link.proofs.pages.Runs.{length-padded, no_width, run_bits, run_piece, run_pieces, run_width, run_width_some}
@@ -32,6 +16,7 @@ use Rattle.clean_link.proofs.pages.Laid.{length-page, page_capsule, pages_placed
 use Rattle.clean_link.proofs.pages.Laid.{runs_of, turned_back, under_way, whole_rows}
 use Rattle.clean_link.proofs.pages.RunsHeard.{from_within, is_inside, pieces_of, placed_runs, selected, spelled, told, AreRuns}
 use Rattle.clean_link.proofs.pages.RunsLawful.{first_begins, first_runs}
+use Rattle.paging_message.specs.Laying as laying
 
 -- ---- the half-frames of runs
 

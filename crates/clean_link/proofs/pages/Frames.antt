@@ -1,15 +1,7 @@
 -- The frames of a cycle of half-frames that goes round.
-use Rattle.std.proofs.Common.{◌≡◌, ℕ, zero, suc, ◌+◌, ◌*◌, ◌/◌, ◌%◌, ◌<◌, ◌≤◌, Bool, false, List, [], ◌∷◌, ◌++◌, length, get_or, map, sym}
-use Rattle.std.proofs.Common.{ap, ◌∙◌, arith}
-use Rattle.std.proofs.lemmas.List.{get_or-append-add, get_or_append_left}
-use Rattle.std.proofs.lemmas.Nat.{mod-mul-add, mod_below}
-use Rattle.std.proofs.Math.Nat.{div-add-mod, mul-le-mul_left}
-use Rattle.chip_core.specs.Bits.{places}
-use Rattle.chip_core.proofs.Places.{map-places-all}
-use Rattle.quality_bits.specs.Pieces.{Piece}
-use Rattle.cell_plan.specs.PageCycles.{cycled}
-use Rattle.chip_core.proofs.Ranges.{map_ext_places}
-use Rattle.chip_core.proofs.Counted.{map-add}
+use Rattle.clean_link.proofs.Common.{◌≡◌, ℕ, zero, suc, ◌+◌, ◌*◌, ◌/◌, ◌%◌, ◌<◌, ◌≤◌, Bool, false, List, [], ◌∷◌, ◌++◌, length, get_or, map}
+use Rattle.clean_link.proofs.Common.{sym, ap, ◌∙◌, arith, get_or-append-add, get_or_append_left, mod-mul-add, mod_below, div-add-mod}
+use Rattle.clean_link.proofs.Common.{mul-le-mul_left, places, map-places-all, Piece, cycled, map_ext_places, map-add}
 use Rattle.clean_link.proofs.pages.Pieces.{bits_of, length-stream, no_piece, stream, AreWhole}
 use Rattle.clean_link.proofs.pages.Scans.{AreFrames}
 

@@ -1,27 +1,15 @@
 -- The pages that a handset hears of a paging channel, in the order of its frames.
-use Rattle.std.proofs.Common.{◌≡◌, ℕ, ◌+◌, ◌-◌, ◌*◌, ◌<◌, ◌≤◌, ◌==◌, ⊎_elim, Bool, true, false, List, [], ◌∷◌, ◌++◌, length, map, filter}
-use Rattle.std.proofs.Common.{take, refl, sym, ap, ◌∙◌, arith, Option, Some, None}
-use Rattle.std.specs.List.{flat_map, range_with_len}
-use Rattle.std.specs.Option.{option_to_list}
-use Rattle.std.proofs.lemmas.Bool.{and_parts, lt-ltb, eqb-true, cases_Bool, false_from_ne_true}
-use Rattle.std.proofs.lemmas.List.{append-nil, map-append}
-use Rattle.std.proofs.lemmas.List.Folds.{flat_map-map}
-use Rattle.std.proofs.lemmas.Grind.{flat_map-append}
-use Rattle.chip_core.specs.Bits.{places}
-use Rattle.chip_core.specs.declared.check_form.CheckForm.{CheckForm}
-use Rattle.chip_core.specs.declared.sample.Sample.{Sample}
-use Rattle.rake_finger.specs.Soft.{frame_chips}
-use Rattle.paging_message.specs.HalfFrames.{half_frame_body, half_frame_capsule_ending}
-use Rattle.mobile_core.specs.PagingEvents.{bits_before, bits_up_to, page_at, page_in, pages_at, pages_behind, pages_from}
-use Rattle.mobile_core.specs.PagingStreams.{paging_bound, paging_rate, paging_stream}
-use Rattle.mobile_core.specs.Streams.{frame_own_bits, is_in_file, known_at, known_now, Stream}
-use Rattle.mobile_core.specs.Timing.{IsTimed}
-use Rattle.mobile_core.specs.Tuning.{Tuning}
-use Rattle.mobile_core.specs.declared.mark.Mark.{Mark}
-use Rattle.mobile_core.proofs.FrameTimes.{known_between, known_le}
-use Rattle.chip_core.proofs.Ranges.{filter_enough, filter_ext_places, flat_map_ext_filter, flat_map_ext_filter_places, flat_map_ext_places}
-use Rattle.clean_link.specs.HeardPages.{known_page, KnownPage, pages_within, ReadPage}
-use Rattle.clean_link.specs.WholePages.{capsules_with_frames, frame_capsules}
+use Rattle.clean_link.proofs.Common.{◌≡◌, ℕ, ◌+◌, ◌-◌, ◌*◌, ◌<◌, ◌≤◌, ◌==◌, ⊎_elim, Bool, true, false, List, [], ◌∷◌, ◌++◌, length, map}
+use Rattle.clean_link.proofs.Common.{filter, take, refl, sym, ap, ◌∙◌, arith, Option, Some, None, flat_map, range_with_len, option_to_list}
+use Rattle.clean_link.proofs.Common.{and_parts, lt-ltb, eqb-true, cases_Bool, false_from_ne_true, append-nil, map-append, flat_map-map}
+use Rattle.clean_link.proofs.Common.{flat_map-append, places, CheckForm, Sample, frame_chips, half_frame_body, half_frame_capsule_ending}
+use Rattle.clean_link.proofs.Common.{bits_up_to, page_at, page_in, pages_at, pages_behind, pages_from, paging_bound, paging_stream}
+use Rattle.clean_link.proofs.Common.{frame_own_bits, is_in_file, known_at, known_now, Stream, IsTimed, Tuning, Mark, known_between}
+use Rattle.clean_link.proofs.Common.{known_le, filter_enough, filter_ext_places, flat_map_ext_filter, flat_map_ext_filter_places}
+use Rattle.clean_link.proofs.Common.{flat_map_ext_places, known_page, KnownPage, pages_within, ReadPage, capsules_with_frames}
+use Rattle.clean_link.proofs.Common.{frame_capsules}
+use Rattle.mobile_core.specs.PagingEvents.{bits_before}
+use Rattle.mobile_core.specs.PagingStreams.{paging_rate}
 use Rattle.clean_link.proofs.sendings.Order.{at_key, below_key, in_order, IsRising}
 
 -- ---- lists of lists

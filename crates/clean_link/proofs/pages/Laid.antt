@@ -1,32 +1,16 @@
 -- A cycle of pages as runs: where its pages lie, and its half-frames.
-use Rattle.std.proofs.Common.{◌≡◌, ℕ, zero, suc, ◌+◌, ◌-◌, ◌*◌, ◌/◌, ◌%◌, ◌<◌, ◌≤◌, ◌==◌, ◌||◌, Bool, true, false, List, [], ◌∷◌, ◌++◌}
-use Rattle.std.proofs.Common.{length, map, take, drop, replicate, refl, sym, ap, ◌∙◌, arith, inl, inr, append_assoc, length-append}
-use Rattle.std.proofs.Common.{length-drop}
-use Rattle.std.specs.Prelude.{if◌then◌else◌}
-use Rattle.std.specs.List.{flat_map, list_any}
-use Rattle.std.proofs.lemmas.Bool.{cases_Bool, eq-eqb, ne_eqb}
-use Rattle.std.proofs.lemmas.Grind.{flat_map-append}
-use Rattle.std.proofs.lemmas.List.{append-nil, drop-append-le, drop-drop, drop_at, map-append, take-append-le}
-use Rattle.std.proofs.lemmas.List.Folds.{list_any-append}
-use Rattle.std.proofs.lemmas.Nat.{div-mul-add}
-use Rattle.std.proofs.Math.Nat.{mul-add-div, mul-add-mod_self_left, mul-le-mul_left}
-use Rattle.chip_core.specs.Bits.{places}
-use Rattle.chip_core.specs.declared.check_form.CheckForm.{CheckForm}
-use Rattle.quality_bits.specs.Capsules.{capsule}
-use Rattle.quality_bits.specs.Pieces.{Piece}
-use Rattle.quality_bits.specs.declared.kind.Kind.TheVariants.{M30}
-use Rattle.quality_bits.proofs.Wholes.{length-capsule}
-use Rattle.paging_message.specs.Laying as laying
-use Rattle.paging_message.proofs.Layings.{below_more, below_push, framed_whole, not_begun}
-use Rattle.cell_plan.specs.Pages.{put_of}
-use Rattle.cell_plan.specs.declared.plan.Page.{Page}
-use Rattle.chip_core.proofs.Ranges.{flat_map_ext_places}
-use Rattle.clean_link.specs.WholePages.{placed, Placed}
+use Rattle.clean_link.proofs.Common.{◌≡◌, ℕ, zero, suc, ◌+◌, ◌-◌, ◌*◌, ◌/◌, ◌%◌, ◌<◌, ◌≤◌, ◌==◌, ◌||◌, Bool, true, false, List, [], ◌∷◌}
+use Rattle.clean_link.proofs.Common.{◌++◌, length, map, take, drop, replicate, refl, sym, ap, ◌∙◌, arith, inl, inr, append_assoc}
+use Rattle.clean_link.proofs.Common.{length-append, length-drop, if◌then◌else◌, flat_map, list_any, cases_Bool, eq-eqb, ne_eqb}
+use Rattle.clean_link.proofs.Common.{flat_map-append, append-nil, drop-append-le, drop-drop, drop_at, map-append, take-append-le}
+use Rattle.clean_link.proofs.Common.{list_any-append, div-mul-add, mul-add-div, mul-add-mod_self_left, mul-le-mul_left, places, CheckForm}
+use Rattle.clean_link.proofs.Common.{capsule, Piece, M30, length-capsule, below_more, below_push, framed_whole, not_begun, put_of, Page}
+use Rattle.clean_link.proofs.Common.{flat_map_ext_places, placed, Placed, flat_map-add}
 use Rattle.clean_link.proofs.pages.Chains.{joined}
-use Rattle.chip_core.proofs.Counted.{flat_map-add}
 use Rattle.clean_link.proofs.pages.Pieces.{bits_of, stream}
 use Rattle.clean_link.proofs.pages.Runs.{length-padded, run_bits, run_piece, run_pieces, run_width, run_width_some, width}
 use Rattle.clean_link.proofs.pages.RunsHeard.{pieces_of, placed_run, placed_runs, spelled}
+use Rattle.paging_message.specs.Laying as laying
 
 -- ---- runs
 

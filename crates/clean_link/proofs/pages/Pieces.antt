@@ -1,14 +1,7 @@
 -- Half-frames as pieces: the bits of a stream of them, and the message that they hold.
-use Rattle.std.proofs.Common.{◌≡◌, ℕ, zero, suc, ◌+◌, ◌*◌, ◌<◌, ◌≤◌, Bool, true, false, List, [], ◌∷◌, ◌++◌, length, get_or, map, take}
-use Rattle.std.proofs.Common.{drop, refl, sym, ap, ◌∙◌, arith, length-append}
-use Rattle.std.specs.List.{flat_map}
-use Rattle.std.proofs.lemmas.List.{drop-drop, drop_at, take_at}
-use Rattle.chip_core.specs.Bits.{places}
-use Rattle.chip_core.proofs.Places.{map-places-all}
-use Rattle.quality_bits.specs.Pieces.{Piece, piece, from_last_start}
-use Rattle.paging_message.specs.HalfFrames.{half_frames}
-use Rattle.paging_message.proofs.Cutting.{part, halves_more}
-use Rattle.chip_core.proofs.Counted.{map-next, map-zero}
+use Rattle.clean_link.proofs.Common.{◌≡◌, ℕ, zero, suc, ◌+◌, ◌*◌, ◌<◌, ◌≤◌, Bool, true, false, List, [], ◌∷◌, ◌++◌, length, get_or, map}
+use Rattle.clean_link.proofs.Common.{take, drop, refl, sym, ap, ◌∙◌, arith, length-append, flat_map, drop-drop, drop_at, take_at, places}
+use Rattle.clean_link.proofs.Common.{map-places-all, Piece, piece, from_last_start, half_frames, part, halves_more, map-next, map-zero}
 use Rattle.clean_link.proofs.sendings.Pieces.{started_behind}
 
 -- ---- the bits

@@ -1,23 +1,8 @@
 -- The pages of a cycle: their places in it, and what is told of those that are sent whole.
-use Rattle.std.proofs.Common.{◌≡◌, ℕ, ◌+◌, ◌-◌, ◌*◌, ◌/◌, ◌<◌, ◌≤◌, ⊎_elim, Bool, true, false, List, [], ◌∷◌, ◌++◌, length, map, filter}
-use Rattle.std.proofs.Common.{refl, ap, ◌∙◌, arith, nat_le}
-use Rattle.std.specs.Prelude.{All, if◌then◌else◌}
-use Rattle.std.specs.List.{flat_map}
-use Rattle.std.proofs.Math.Nat.{mul-div-le}
-use Rattle.std.proofs.lemmas.Bool.{and_parts, cases_Bool, leb-true}
-use Rattle.std.proofs.lemmas.List.Elements.{All-cons, All-head, All-nil, All-tail}
-use Rattle.std.proofs.lemmas.Nat.{le-div}
-use Rattle.chip_core.specs.declared.check_form.CheckForm.{CheckForm}
-use Rattle.quality_bits.specs.Capsules.{capsule}
-use Rattle.quality_bits.specs.declared.kind.Kind.TheVariants.{M30}
-use Rattle.quality_bits.proofs.Wholes.{length-capsule}
-use Rattle.paging_message.specs.Admitted.{HasMessage}
-use Rattle.cell_plan.specs.Pages.{laid_behind}
-use Rattle.cell_plan.specs.Stated.{AreHeard}
-use Rattle.cell_plan.specs.declared.plan.CellPlan.{CellPlan}
-use Rattle.cell_plan.specs.declared.plan.Page.{Page}
-use Rattle.clean_link.specs.HeardPages.{end_chip}
-use Rattle.clean_link.specs.WholePages.{is_whole_page, placed, Placed}
+use Rattle.clean_link.proofs.Common.{◌≡◌, ℕ, ◌+◌, ◌-◌, ◌*◌, ◌/◌, ◌<◌, ◌≤◌, ⊎_elim, Bool, true, false, List, [], ◌∷◌, ◌++◌, length, map}
+use Rattle.clean_link.proofs.Common.{filter, refl, ap, ◌∙◌, arith, nat_le, All, if◌then◌else◌, flat_map, mul-div-le, and_parts, cases_Bool}
+use Rattle.clean_link.proofs.Common.{leb-true, All-cons, All-head, All-nil, All-tail, le-div, CheckForm, capsule, M30, length-capsule}
+use Rattle.clean_link.proofs.Common.{HasMessage, laid_behind, AreHeard, CellPlan, Page, end_chip, is_whole_page, placed, Placed}
 
 -- ---- where a page lies
 

@@ -1,16 +1,7 @@
 -- The capsule of a page is read as the page's message.
-use Rattle.std.proofs.Common.{◌≡◌, Bool, true, false, List, sym, ap, ◌∙◌, Some, None}
-use Rattle.std.specs.Prelude.{if◌then◌else◌}
-use Rattle.chip_core.specs.declared.check_form.CheckForm.{CheckForm}
-use Rattle.quality_bits.specs.Capsules.{capsule}
-use Rattle.quality_bits.specs.declared.kind.Kind.TheVariants.{M30}
-use Rattle.paging_message.specs.Admitted.{HasMessage}
-use Rattle.paging_message.specs.Messages.{paging_capsule}
-use Rattle.paging_message.specs.Reading.{body_reading, is_body, paging_reading}
-use Rattle.paging_message.specs.declared.message.PagingMessage.{PagingMessage}
-use Rattle.paging_message.proofs.Readings.{reads_body, reads_capsule}
-use Rattle.mobile_core.specs.PagingEvents.{page_in, with_page}
-use Rattle.clean_link.specs.HeardPages.{message_in}
+use Rattle.clean_link.proofs.Common.{◌≡◌, Bool, true, false, List, sym, ap, ◌∙◌, Some, None, if◌then◌else◌, CheckForm, capsule, M30}
+use Rattle.clean_link.proofs.Common.{HasMessage, paging_capsule, body_reading, is_body, paging_reading, PagingMessage, reads_body}
+use Rattle.clean_link.proofs.Common.{reads_capsule, page_in, with_page, message_in}
 
 -- what is given where a test holds
 given_one : (b : Bool) (x y : PagingMessage) → (if b then Some x else None) ≡ Some y → x ≡ y

@@ -1,19 +1,10 @@
 -- The rounds of a cycle of runs, and their pages.
-use Rattle.std.proofs.Common.{◌≡◌, ℕ, zero, suc, ◌+◌, ◌-◌, ◌*◌, ◌/◌, ◌<◌, Bool, List, [], ◌∷◌, ◌++◌, length, map, refl, sym, ap, ◌∙◌, arith}
-use Rattle.std.proofs.Common.{inl, inr, append_assoc, length-append}
-use Rattle.std.specs.List.{filter, flat_map}
-use Rattle.std.proofs.lemmas.Bool.{cases_Bool}
-use Rattle.std.proofs.lemmas.List.{map-append}
-use Rattle.std.proofs.lemmas.List.Elements.{filter-append}
-use Rattle.std.proofs.Math.Nat.{mul-add-div}
-use Rattle.chip_core.specs.Bits.{places}
-use Rattle.chip_core.proofs.Places.{length-map-places}
-use Rattle.quality_bits.specs.Pieces.{Piece}
-use Rattle.cell_plan.specs.declared.plan.Page.{Page}
-use Rattle.clean_link.specs.WholePages.{is_between, Placed}
+use Rattle.clean_link.proofs.Common.{◌≡◌, ℕ, zero, suc, ◌+◌, ◌-◌, ◌*◌, ◌/◌, ◌<◌, Bool, List, [], ◌∷◌, ◌++◌, length, map, refl, sym, ap, ◌∙◌}
+use Rattle.clean_link.proofs.Common.{arith, inl, inr, append_assoc, length-append, flat_map, cases_Bool, map-append, filter-append}
+use Rattle.clean_link.proofs.Common.{mul-add-div, places, length-map-places, Piece, Page, is_between, Placed, flat_map-next, flat_map-zero}
+use Rattle.clean_link.proofs.Common.{flat_map-repeated, length-repeated, repeated}
+use Rattle.std.specs.List.{filter}
 use Rattle.clean_link.proofs.pages.Chains.{AreChained}
-use Rattle.chip_core.proofs.Counted.{flat_map-next, flat_map-zero}
-use Rattle.chip_core.proofs.Repeated.{flat_map-repeated, length-repeated, repeated}
 use Rattle.clean_link.proofs.pages.Runs.{run_piece, run_pieces, run_width}
 use Rattle.clean_link.proofs.pages.RunsHeard.{is_inside, pieces_of, placed_run, placed_runs, AreRuns}
 

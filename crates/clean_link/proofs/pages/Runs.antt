@@ -1,23 +1,13 @@
 -- The half-frames of a run of capsules, and what their bits end.
-use Rattle.std.proofs.Common.{◌≡◌, ℕ, zero, suc, ◌+◌, ◌-◌, ◌*◌, ◌/◌, ◌%◌, ◌<◌, ◌≤◌, ◌==◌, Bool, true, false, List, [], ◌∷◌, ◌++◌, length}
-use Rattle.std.proofs.Common.{map, take, drop, replicate, refl, sym, ap, ◌∙◌, arith, Some, None, inl, inr, append_assoc, length-append}
-use Rattle.std.proofs.Common.{nat_le, nat_lt}
-use Rattle.std.specs.List.{flat_map}
-use Rattle.std.specs.Option.{option_to_list}
-use Rattle.std.proofs.lemmas.Bool.{cases_lt, eq-eqb, le-leb, le-ltb, lt-leb, lt-ltb, ne_eqb}
-use Rattle.std.proofs.lemmas.Grind.{flat_map-append}
-use Rattle.std.proofs.lemmas.List.{append-nil, length-replicate, length-take-le, take-take, map-append}
-use Rattle.std.proofs.lemmas.Nat.{div-add-mod', div-mul-add, mod-mul-add, mod_below}
-use Rattle.std.proofs.Math.Nat.{mul-le-mul_left}
-use Rattle.std.proofs.Math.Seq.{take-add}
-use Rattle.chip_core.specs.Bits.{places}
-use Rattle.chip_core.proofs.Places.{length-map-places}
-use Rattle.quality_bits.specs.Pieces.{Piece, bodies, from_last_start}
-use Rattle.paging_message.specs.HalfFrames.{ends_chain}
-use Rattle.paging_message.specs.Laying.{fill, padded}
-use Rattle.chip_core.proofs.Ranges.{flat_map_ext_places}
+use Rattle.clean_link.proofs.Common.{◌≡◌, ℕ, zero, suc, ◌+◌, ◌-◌, ◌*◌, ◌/◌, ◌%◌, ◌<◌, ◌≤◌, ◌==◌, Bool, true, false, List, [], ◌∷◌, ◌++◌}
+use Rattle.clean_link.proofs.Common.{length, map, take, drop, replicate, refl, sym, ap, ◌∙◌, arith, Some, None, inl, inr, append_assoc}
+use Rattle.clean_link.proofs.Common.{length-append, nat_le, nat_lt, flat_map, option_to_list, cases_lt, eq-eqb, le-leb, le-ltb, lt-leb}
+use Rattle.clean_link.proofs.Common.{lt-ltb, ne_eqb, flat_map-append, append-nil, length-replicate, length-take-le, take-take, map-append}
+use Rattle.clean_link.proofs.Common.{div-mul-add, mod-mul-add, mod_below, mul-le-mul_left, take-add, places, length-map-places, Piece}
+use Rattle.clean_link.proofs.Common.{bodies, from_last_start, ends_chain, fill, padded, flat_map_ext_places, flat_map-add, flat_map-zero}
+use Rattle.clean_link.proofs.Common.{map-next, map-zero}
+use Rattle.std.proofs.lemmas.Nat.{div-add-mod'}
 use Rattle.clean_link.proofs.pages.Chains.{chain_ends, ended_of, joined, AreChained}
-use Rattle.chip_core.proofs.Counted.{flat_map-add, flat_map-zero, map-next, map-zero}
 use Rattle.clean_link.proofs.pages.Pieces.{from_start_of_run, none_starts-append, NoneStarts}
 use Rattle.clean_link.proofs.pages.Scans.{chain_of, cut_short, ended, scan, scan-next, told_in, with_number}
 use Rattle.clean_link.proofs.sendings.Pieces.{run, run-places}

@@ -1,23 +1,12 @@
 -- The capsules that are heard of runs of pages, laid one after another, from any half-frame on.
-use Rattle.std.proofs.Common.{◌≡◌, ℕ, zero, suc, ◌+◌, ◌-◌, ◌*◌, ◌/◌, ◌<◌, ◌≤◌, Bool, true, false, List, [], ◌∷◌, ◌++◌, length, map, take}
-use Rattle.std.proofs.Common.{drop, refl, sym, ap, ◌∙◌, arith, nat_le, nat_lt, inl, inr, append_assoc}
-use Rattle.std.specs.Prelude.{◌&&◌}
-use Rattle.std.specs.List.{filter, flat_map}
-use Rattle.std.specs.Option.{option_to_list}
-use Rattle.std.proofs.lemmas.Bool.{and_left, and_right, cases_lt, le-leb, le-ltb, lt-leb, lt-ltb}
-use Rattle.std.proofs.lemmas.List.{append-nil, drop-drop, drop_at, map-append, take-append-le}
-use Rattle.std.proofs.lemmas.List.Elements.{filter-append}
-use Rattle.std.proofs.lemmas.Nat.{div_below, le-div}
-use Rattle.std.proofs.Math.Nat.{mul-le-mul_left}
-use Rattle.std.proofs.Math.Seq.{take-append-add, take-nil}
-use Rattle.chip_core.specs.Bits.{places}
-use Rattle.chip_core.proofs.Places.{length-map-places}
-use Rattle.quality_bits.specs.Pieces.{Piece}
-use Rattle.cell_plan.specs.declared.plan.Page.{Page}
-use Rattle.chip_core.proofs.Ranges.{flat_map_ext_places}
-use Rattle.clean_link.specs.WholePages.{Placed}
+use Rattle.clean_link.proofs.Common.{◌≡◌, ℕ, zero, suc, ◌+◌, ◌-◌, ◌*◌, ◌/◌, ◌<◌, ◌≤◌, Bool, true, false, List, [], ◌∷◌, ◌++◌, length, map}
+use Rattle.clean_link.proofs.Common.{take, drop, refl, sym, ap, ◌∙◌, arith, nat_le, nat_lt, inl, inr, append_assoc, ◌&&◌, flat_map}
+use Rattle.clean_link.proofs.Common.{option_to_list, and_left, and_right, cases_lt, le-leb, le-ltb, lt-leb, lt-ltb, append-nil, drop-drop}
+use Rattle.clean_link.proofs.Common.{drop_at, map-append, take-append-le, filter-append, div_below, le-div, mul-le-mul_left}
+use Rattle.clean_link.proofs.Common.{take-append-add, take-nil, places, length-map-places, Piece, Page, flat_map_ext_places, Placed}
+use Rattle.clean_link.proofs.Common.{flat_map-add, flat_map-next, flat_map-nothing, map-add, take-map-places}
+use Rattle.std.specs.List.{filter}
 use Rattle.clean_link.proofs.pages.Chains.{ended_of, joined, AreChained}
-use Rattle.chip_core.proofs.Counted.{flat_map-add, flat_map-next, flat_map-nothing, map-add, take-map-places}
 use Rattle.clean_link.proofs.pages.Pieces.{none_starts-map, NoneStarts}
 use Rattle.clean_link.proofs.pages.Runs.{ended-before, ended-behind, ended-first, ended-past, ending_at, fills, later_begins_none}
 use Rattle.clean_link.proofs.pages.Runs.{run_piece, run_pieces, run_scanned, run_width}

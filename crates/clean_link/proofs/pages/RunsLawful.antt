@@ -1,18 +1,8 @@
 -- Pages that can be sent and heard make lawful runs.
-use Rattle.std.proofs.Common.{◌≡◌, ℕ, ◌+◌, ◌-◌, ◌*◌, ◌%◌, ◌<◌, ◌≤◌, Bool, false, List, [], ◌∷◌, ◌++◌, length, map, sym, ap, ◌∙◌, subst}
-use Rattle.std.proofs.Common.{arith, inl, inr, length-append}
-use Rattle.std.proofs.lemmas.Bool.{cases_Bool, false_from_ne_true}
-use Rattle.std.proofs.lemmas.List.{map-append}
-use Rattle.std.proofs.Math.Nat.{mod_self, mul-add-mod_self_left}
-use Rattle.chip_core.specs.declared.check_form.CheckForm.{CheckForm}
-use Rattle.quality_bits.specs.Capsules.{IsWhole}
-use Rattle.quality_bits.specs.declared.kind.Kind.TheVariants.{M30}
-use Rattle.quality_bits.proofs.Wholes.{whole-capsule}
-use Rattle.paging_message.specs.HalfFrames.{bits_left}
-use Rattle.paging_message.specs.Laying.{fill}
-use Rattle.cell_plan.specs.Pages.{laid_behind, AreSendable}
-use Rattle.cell_plan.specs.Stated.{AreHeard}
-use Rattle.cell_plan.specs.declared.plan.Page.{Page}
+use Rattle.clean_link.proofs.Common.{◌≡◌, ℕ, ◌+◌, ◌-◌, ◌*◌, ◌%◌, ◌<◌, ◌≤◌, Bool, false, List, [], ◌∷◌, ◌++◌, length, map, sym, ap, ◌∙◌}
+use Rattle.clean_link.proofs.Common.{subst, arith, inl, inr, length-append, cases_Bool, false_from_ne_true, map-append, mod_self}
+use Rattle.clean_link.proofs.Common.{mul-add-mod_self_left, CheckForm, IsWhole, M30, whole-capsule, bits_left, fill, laid_behind}
+use Rattle.clean_link.proofs.Common.{AreSendable, AreHeard, Page}
 use Rattle.clean_link.proofs.pages.Chains.{joined, AreChained}
 use Rattle.clean_link.proofs.pages.Runs.{fills, no_width, width}
 use Rattle.clean_link.proofs.pages.Laid.{length-page, page_capsule, runs-begin, runs-follow, runs_of, spelled-push}

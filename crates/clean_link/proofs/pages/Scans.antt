@@ -1,21 +1,11 @@
 -- What the half-frames of a stream end, one half-frame after another.
-use Rattle.std.proofs.Common.{◌≡◌, ℕ, zero, suc, ◌+◌, ◌-◌, ◌*◌, ◌/◌, ◌%◌, ◌<◌, ◌≤◌, ◌==◌, Bool, false, List, [], ◌∷◌, ◌++◌, length, map}
-use Rattle.std.proofs.Common.{take, refl, sym, ap, ◌∙◌, arith, append_assoc, length-append, Option, None, inl, inr}
-use Rattle.std.specs.List.{flat_map}
-use Rattle.std.specs.Option.{option_to_list}
-use Rattle.std.proofs.lemmas.Bool.{cases_lt, ne_eqb}
-use Rattle.std.proofs.lemmas.Grind.{flat_map-append}
-use Rattle.std.proofs.lemmas.List.{append-nil, length-take-le, map-append, take-append-le}
-use Rattle.std.proofs.lemmas.Nat.{mod-mul-add}
-use Rattle.std.proofs.Math.Seq.{take-append-add}
-use Rattle.chip_core.specs.Bits.{places}
-use Rattle.chip_core.proofs.Places.{length-map-places}
-use Rattle.quality_bits.specs.Pieces.{Piece, bodies, from_last_start}
-use Rattle.paging_message.specs.HalfFrames.{ends_chain, half_frames, half_frame_capsule_ending}
-use Rattle.paging_message.proofs.Cutting.{mark_ends}
-use Rattle.chip_core.proofs.Ranges.{flat_map_ext_places}
-use Rattle.clean_link.specs.WholePages.{capsules_with_frames, frame_capsules}
-use Rattle.chip_core.proofs.Counted.{flat_map-add, flat_map-next, flat_map-nothing, flat_map-zero, map-next, map-zero}
+use Rattle.clean_link.proofs.Common.{◌≡◌, ℕ, zero, suc, ◌+◌, ◌-◌, ◌*◌, ◌/◌, ◌%◌, ◌<◌, ◌≤◌, ◌==◌, Bool, false, List, [], ◌∷◌, ◌++◌, length}
+use Rattle.clean_link.proofs.Common.{map, take, refl, sym, ap, ◌∙◌, arith, append_assoc, length-append, Option, None, inl, inr, flat_map}
+use Rattle.clean_link.proofs.Common.{option_to_list, cases_lt, ne_eqb, flat_map-append, append-nil, length-take-le, map-append}
+use Rattle.clean_link.proofs.Common.{take-append-le, mod-mul-add, take-append-add, places, length-map-places, Piece, bodies}
+use Rattle.clean_link.proofs.Common.{from_last_start, ends_chain, half_frames, half_frame_capsule_ending, mark_ends, flat_map_ext_places}
+use Rattle.clean_link.proofs.Common.{capsules_with_frames, frame_capsules, flat_map-add, flat_map-next, flat_map-nothing, flat_map-zero}
+use Rattle.clean_link.proofs.Common.{map-next, map-zero}
 use Rattle.clean_link.proofs.pages.Pieces.{bits_of, from_no_start, half_frames_of_stream, length-stream, none_starts-append, stream}
 use Rattle.clean_link.proofs.pages.Pieces.{whole-append, whole-map, AreWhole, NoneStarts}
 

@@ -1,14 +1,8 @@
 -- A stream of half-frames whose bits are all 0 ends no capsule.
-use Rattle.std.proofs.Common.{◌≡◌, ℕ, zero, suc, ◌+◌, ◌*◌, ◌/◌, ◌%◌, ◌<◌, ◌≤◌, ◌==◌, Bool, true, false, cond, List, [], ◌++◌, length, map}
-use Rattle.std.proofs.Common.{take, drop, replicate, refl, sym, ap, ◌∙◌, arith, Option, None}
-use Rattle.std.specs.List.{flat_map}
-use Rattle.std.specs.Option.{option_to_list}
-use Rattle.std.proofs.lemmas.List.{length-replicate, replicate-append-replicate, take-replicate}
-use Rattle.chip_core.specs.Bits.{places}
-use Rattle.quality_bits.specs.Pieces.{piece}
-use Rattle.paging_message.specs.HalfFrames.{half_frame_capsule_ending, half_frames}
-use Rattle.clean_link.specs.WholePages.{capsules_with_frames, frame_capsules}
-use Rattle.chip_core.proofs.Counted.{flat_map-next, flat_map-nothing, flat_map-zero}
+use Rattle.clean_link.proofs.Common.{◌≡◌, ℕ, zero, suc, ◌+◌, ◌*◌, ◌/◌, ◌%◌, ◌<◌, ◌≤◌, ◌==◌, Bool, true, false, cond, List, [], ◌++◌, length}
+use Rattle.clean_link.proofs.Common.{map, take, drop, replicate, refl, sym, ap, ◌∙◌, arith, Option, None, flat_map, option_to_list}
+use Rattle.clean_link.proofs.Common.{length-replicate, replicate-append-replicate, take-replicate, places, piece, half_frame_capsule_ending}
+use Rattle.clean_link.proofs.Common.{half_frames, capsules_with_frames, frame_capsules, flat_map-next, flat_map-nothing, flat_map-zero}
 use Rattle.clean_link.proofs.pages.Pieces.{none_starts-map, NoneStarts}
 use Rattle.clean_link.proofs.pages.Scans.{ended, ended_none}
 

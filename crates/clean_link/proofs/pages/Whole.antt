@@ -1,25 +1,11 @@
 -- The pages that a file holds whole behind a mark.
-use Rattle.std.proofs.Common.{◌≡◌, ℕ, ◌+◌, ◌-◌, ◌*◌, ◌/◌, ◌<◌, ◌≤◌, Bool, true, false, List, [], ◌∷◌, length, map, refl, sym, ap, ◌∙◌}
-use Rattle.std.proofs.Common.{subst, arith, inl, inr, nat_le, nat_lt}
-use Rattle.std.specs.Prelude.{◌&&◌}
+use Rattle.clean_link.proofs.Common.{◌≡◌, ℕ, ◌+◌, ◌-◌, ◌*◌, ◌/◌, ◌<◌, ◌≤◌, Bool, true, false, List, [], ◌∷◌, length, map, refl, sym, ap}
+use Rattle.clean_link.proofs.Common.{◌∙◌, subst, arith, inl, inr, nat_le, nat_lt, ◌&&◌, and_left, and_right, cases_Bool, cases_lt, le-leb}
+use Rattle.clean_link.proofs.Common.{le-ltb, lt-leb, lt-ltb, le-div, mul-le-mul_left, CheckForm, Rate, half_frame_body, cycled}
+use Rattle.clean_link.proofs.Common.{paging_frame_size, page_cycle, IsStatedPaging, Page, PagingPlan, size_large, flat_map_ext_places}
+use Rattle.clean_link.proofs.Common.{WholePagesComeBack, capsules_with_frames, cycle_half_frames, frame_capsules, is_between, is_whole_page}
+use Rattle.clean_link.proofs.Common.{placed, sending_of, AreWholePages, Placed, flat_map-nothing, flat_map-zero}
 use Rattle.std.specs.List.{filter}
-use Rattle.std.proofs.lemmas.Bool.{and_left, and_right, cases_Bool, cases_lt, le-leb, le-ltb, lt-leb, lt-ltb}
-use Rattle.std.proofs.lemmas.Nat.{le-div}
-use Rattle.std.proofs.Math.Nat.{mul-le-mul_left}
-use Rattle.chip_core.specs.declared.check_form.CheckForm.{CheckForm}
-use Rattle.quality_bits.specs.declared.rate.Rate.{Rate}
-use Rattle.paging_message.specs.HalfFrames.{half_frame_body}
-use Rattle.cell_plan.specs.PageCycles.{cycled, paging_frame_size}
-use Rattle.cell_plan.specs.Pages.{page_cycle}
-use Rattle.cell_plan.specs.Stated.{IsStatedPaging}
-use Rattle.cell_plan.specs.declared.plan.Page.{Page}
-use Rattle.cell_plan.specs.declared.plan.PagingPlan.{PagingPlan}
-use Rattle.cell_plan.proofs.LaidPages.{size_large}
-use Rattle.chip_core.proofs.Ranges.{flat_map_ext_places}
-use Rattle.clean_link.specs.PageLaws.{WholePagesComeBack}
-use Rattle.clean_link.specs.WholePages.{capsules_with_frames, cycle_half_frames, frame_capsules, is_between, is_whole_page, placed}
-use Rattle.clean_link.specs.WholePages.{sending_of, AreWholePages, Placed}
-use Rattle.chip_core.proofs.Counted.{flat_map-nothing, flat_map-zero}
 use Rattle.clean_link.proofs.pages.CyclesBack.{cycle_some, page_sendings_back}
 use Rattle.clean_link.proofs.pages.Laid.{length-page, page_capsule, placed-begins, placed-follows, turned_back}
 

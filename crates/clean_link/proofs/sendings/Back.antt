@@ -1,26 +1,12 @@
 -- A handset hears the whole sendings of a clean link's cell, in order, and nothing else.
-use Rattle.std.proofs.Common.{◌≡◌, ℕ, ◌+◌, ◌-◌, ◌*◌, ◌/◌, ◌<◌, ◌≤◌, ◌&&◌, ◌≢◌, ⊎_elim, true, false, cond, List, [], ◌∷◌, filter, refl, sym}
-use Rattle.std.proofs.Common.{ap, ◌∙◌, arith, nat_le, Option, Some, None}
-use Rattle.std.specs.List.{flat_map}
-use Rattle.std.proofs.Math.Nat.{mul-le-mul_left}
-use Rattle.std.proofs.lemmas.Bool.{and_parts, and_from, le-leb, lt-leb, leb-true, cases_Bool, false_from_ne_true}
-use Rattle.chip_core.specs.Bits.{places}
-use Rattle.chip_core.specs.declared.width.Width.{Width}
-use Rattle.sync_message.specs.SyncMessage.{sync_capsule}
-use Rattle.cell_plan.specs.Sendings.{message_of}
-use Rattle.cell_plan.specs.declared.plan.CellPlan.{CellPlan}
-use Rattle.cell_plan.specs.declared.plan.SyncPlan.{SyncPlan}
-use Rattle.cell_plan.proofs.SentMessages.{length-sync}
-use Rattle.mobile_core.specs.SyncEvents.{events_of, sync_events_at}
-use Rattle.mobile_core.specs.Tuning.{Tuning, sync_bound}
-use Rattle.mobile_core.specs.declared.event.Event.{Event}
+use Rattle.clean_link.proofs.Common.{◌≡◌, ℕ, ◌+◌, ◌-◌, ◌*◌, ◌/◌, ◌<◌, ◌≤◌, ◌&&◌, ◌≢◌, ⊎_elim, true, false, cond, List, [], ◌∷◌, filter}
+use Rattle.clean_link.proofs.Common.{refl, sym, ap, ◌∙◌, arith, nat_le, Option, Some, None, flat_map, mul-le-mul_left, and_parts, and_from}
+use Rattle.clean_link.proofs.Common.{le-leb, lt-leb, leb-true, cases_Bool, false_from_ne_true, places, Width, sync_capsule, message_of}
+use Rattle.clean_link.proofs.Common.{CellPlan, SyncPlan, length-sync, events_of, sync_events_at, Tuning, sync_bound, Event}
+use Rattle.clean_link.proofs.Common.{flat_map_ext_filter, FramesAreZeros, FramesComeBack, WholeSendingsComeBack, IsOnPath}
+use Rattle.clean_link.proofs.Common.{events_of_channel, first_sync_frame, heard_behind, is_whole, sending_ends, sending_event, sync_sent}
+use Rattle.clean_link.proofs.Common.{IsReceivable, made_samples}
 use Rattle.mobile_core.specs.declared.event.Event.TheVariants.{Sync}
-use Rattle.chip_core.proofs.Ranges.{flat_map_ext_filter}
-use Rattle.clean_link.specs.CleanLaws.{FramesAreZeros, FramesComeBack, WholeSendingsComeBack}
-use Rattle.clean_link.specs.CleanLink.{IsOnPath, events_of_channel, first_sync_frame, heard_behind, is_whole, sending_ends, sending_event}
-use Rattle.clean_link.specs.CleanLink.{sync_sent}
-use Rattle.cell_plan.specs.Stated.{IsReceivable}
-use Rattle.cell_plan.specs.Sampled.{made_samples}
 use Rattle.clean_link.proofs.sendings.Capsules.{IsSentAt, sending_frames}
 use Rattle.clean_link.proofs.frames.SyncFrames.{frames_back, frames_zero}
 use Rattle.clean_link.proofs.frames.SyncTimes.{end_of_frame, in_file_to, known_is, sync_timed}

@@ -1,25 +1,13 @@
 -- The capsules that the frames of a cell's sendings end.
-use Rattle.std.proofs.Common.{◌≡◌, ℕ, zero, suc, ◌+◌, ◌-◌, ◌*◌, ◌/◌, ◌%◌, ◌<◌, ◌≤◌, ◌&&◌, ◌==◌, ⊎_elim, Bool, true, false, List, [], ◌∷◌}
-use Rattle.std.proofs.Common.{◌++◌, length, take, drop, replicate, refl, sym, ap, ◌∙◌, arith, nat_lt, nat_le, Option, Some, None}
-use Rattle.std.specs.Prelude.{if◌then◌else◌}
-use Rattle.std.proofs.Math.Nat.{div-add-mod'}
-use Rattle.std.proofs.Math.Seq.{take-add}
-use Rattle.std.proofs.lemmas.Bool.{lt-ltb, le-ltb, lt-leb, le-leb, cases_lt, ne_eqb, and_from}
-use Rattle.std.proofs.lemmas.Grind.{flat_map-append}
-use Rattle.std.proofs.lemmas.List.{length-append, append-nil, length-take-le, take-take, take_at, take-append-le}
-use Rattle.std.proofs.lemmas.Nat.{mod_below, div-mul-add, mod-mul-add}
-use Rattle.chip_core.specs.Bits.{number}
-use Rattle.quality_bits.specs.Capsules.{FillsCapsule, front_capsule, is_stated, octets, stated_bits}
-use Rattle.quality_bits.specs.Pieces.{Piece, piece, bodies, from_last_start, but_last, capsule_ending}
-use Rattle.quality_bits.specs.declared.kind.Kind.TheVariants.{M30}
-use Rattle.quality_bits.proofs.Wholes.{whole-capsule}
-use Rattle.chip_core.specs.declared.check_form.CheckForm.{CheckForm}
-use Rattle.sync_message.specs.SyncMessage.{sync_body, sync_capsule}
-use Rattle.sync_message.specs.declared.fields.SyncFields.{SyncFields}
-use Rattle.sync_message.proofs.Bodies.{length-body}
-use Rattle.cell_plan.specs.Sendings.{message_of, padded_sending, superframes_a_sending, sync_frame_bits}
-use Rattle.cell_plan.specs.declared.plan.CellPlan.{CellPlan}
-use Rattle.cell_plan.proofs.SentMessages.{length-sending, length-sync}
+use Rattle.clean_link.proofs.Common.{◌≡◌, ℕ, zero, suc, ◌+◌, ◌-◌, ◌*◌, ◌/◌, ◌%◌, ◌<◌, ◌≤◌, ◌&&◌, ◌==◌, ⊎_elim, Bool, true, false, List, []}
+use Rattle.clean_link.proofs.Common.{◌∷◌, ◌++◌, length, take, drop, replicate, refl, sym, ap, ◌∙◌, arith, nat_lt, nat_le, Option, Some}
+use Rattle.clean_link.proofs.Common.{None, if◌then◌else◌, div-add-mod', take-add, lt-ltb, le-ltb, lt-leb, le-leb, cases_lt, ne_eqb}
+use Rattle.clean_link.proofs.Common.{and_from, flat_map-append, append-nil, length-take-le, take-take, take_at, take-append-le, mod_below}
+use Rattle.clean_link.proofs.Common.{div-mul-add, mod-mul-add, number, FillsCapsule, front_capsule, is_stated, octets, stated_bits, Piece}
+use Rattle.clean_link.proofs.Common.{piece, bodies, from_last_start, but_last, capsule_ending, M30, whole-capsule, CheckForm, sync_body}
+use Rattle.clean_link.proofs.Common.{sync_capsule, SyncFields, length-body, message_of, padded_sending, superframes_a_sending}
+use Rattle.clean_link.proofs.Common.{sync_frame_bits, CellPlan, length-sending, length-sync}
+use Rattle.std.proofs.lemmas.List.{length-append}
 use Rattle.clean_link.proofs.sendings.Pieces.{run, length-run, run-push, run-append, none_starts, first_starts, started_behind}
 
 -- ---- the end of a message

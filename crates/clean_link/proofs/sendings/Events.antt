@@ -1,20 +1,9 @@
 -- The events of a file's sync channel, and its mark, in the order of the frames.
-use Rattle.std.proofs.Common.{◌≡◌, ℕ, ◌+◌, ◌<◌, ◌≤◌, ◌==◌, ⊎_elim, Bool, true, false, List, [], ◌∷◌, ◌++◌, length, filter, refl, sym, ap}
-use Rattle.std.proofs.Common.{◌∙◌, arith, nat_lt, Some}
-use Rattle.std.specs.Prelude.{is_some}
-use Rattle.std.specs.List.{flat_map}
-use Rattle.std.proofs.lemmas.Bool.{and_parts, lt-ltb, eqb-true, cases_Bool, false_from_ne_true}
-use Rattle.chip_core.specs.Bits.{places}
-use Rattle.chip_core.specs.declared.sample.Sample.{Sample}
-use Rattle.mobile_core.specs.Marks.{first_of, mark, marks_at, mark_before}
-use Rattle.mobile_core.specs.Streams.{is_in_file, known_at}
-use Rattle.mobile_core.specs.SyncEvents.{heard_at, events_of, sync_events_at}
-use Rattle.mobile_core.specs.Timing.{IsTimed}
-use Rattle.mobile_core.specs.Tuning.{Tuning, sync_stream, sync_bound}
-use Rattle.mobile_core.specs.declared.event.Event.{Event}
-use Rattle.mobile_core.proofs.FrameTimes.{known_between, known_le}
-use Rattle.mobile_core.proofs.MarkGrowth.{mark_is}
-use Rattle.chip_core.proofs.Ranges.{filter_enough, filter_ext_places, flat_map_ext_places, flat_map_ext_filter}
+use Rattle.clean_link.proofs.Common.{◌≡◌, ℕ, ◌+◌, ◌<◌, ◌≤◌, ◌==◌, ⊎_elim, Bool, true, false, List, [], ◌∷◌, ◌++◌, length, filter, refl, sym}
+use Rattle.clean_link.proofs.Common.{ap, ◌∙◌, arith, nat_lt, Some, is_some, flat_map, and_parts, lt-ltb, eqb-true, cases_Bool}
+use Rattle.clean_link.proofs.Common.{false_from_ne_true, places, Sample, first_of, mark, marks_at, mark_before, is_in_file, known_at}
+use Rattle.clean_link.proofs.Common.{heard_at, events_of, sync_events_at, IsTimed, Tuning, sync_stream, sync_bound, Event, known_between}
+use Rattle.clean_link.proofs.Common.{known_le, mark_is, filter_enough, filter_ext_places, flat_map_ext_places, flat_map_ext_filter}
 use Rattle.clean_link.proofs.sendings.Order.{IsRising, at_key, below_key, in_order}
 
 -- ---- what each frame gives

@@ -1,36 +1,14 @@
 -- What a handset hears in each sync frame of a clean link.
-use Rattle.std.proofs.Common.{◌≡◌, ℕ, zero, suc, ◌+◌, ◌*◌, ◌^◌, ◌<◌, ◌≤◌, ◌&&◌, Bool, true, false, List, [], ◌∷◌, ◌++◌, length, map, filter}
-use Rattle.std.proofs.Common.{replicate, refl, sym, ap, ◌∙◌, arith, nat_lt, nat_le, subst, Some, None}
-use Rattle.std.specs.Prelude.{if◌then◌else◌}
-use Rattle.std.proofs.Math.Nat.{mul-le-mul_left}
-use Rattle.std.proofs.lemmas.Simd.{map-map}
-use Rattle.chip_core.specs.Bits.{places}
-use Rattle.chip_core.proofs.Places.{places-none, places-more}
-use Rattle.chip_core.specs.declared.check_form.CheckForm.{CheckForm}
-use Rattle.chip_core.specs.declared.sample.Sample.{Sample}
-use Rattle.cdma_io.specs.SampleFile.{most_samples}
-use Rattle.chip_core.specs.declared.width.Width.{Width}
-use Rattle.chip_core.specs.declared.width.Width.TheVariants.{Eight, Sixteen}
-use Rattle.long_code.specs.LongCode.{after}
-use Rattle.long_code.proofs.After.{after_lt}
-use Rattle.quality_bits.specs.Pieces.{Piece, piece, from_last_start, capsule_ending}
-use Rattle.sync_message.specs.SyncMessage.{IsSyncMessage, sync_capsule}
-use Rattle.sync_message.specs.declared.fields.SyncFields.{SyncFields}
+use Rattle.clean_link.proofs.Common.{◌≡◌, ℕ, zero, suc, ◌+◌, ◌*◌, ◌^◌, ◌<◌, ◌≤◌, ◌&&◌, Bool, true, false, List, [], ◌∷◌, ◌++◌, length, map}
+use Rattle.clean_link.proofs.Common.{filter, replicate, refl, sym, ap, ◌∙◌, arith, nat_lt, nat_le, subst, Some, None, if◌then◌else◌}
+use Rattle.clean_link.proofs.Common.{mul-le-mul_left, map-map, places, places-none, places-more, CheckForm, Sample, most_samples, Width}
+use Rattle.clean_link.proofs.Common.{Eight, Sixteen, after, after_lt, Piece, piece, from_last_start, capsule_ending, IsSyncMessage}
+use Rattle.clean_link.proofs.Common.{sync_capsule, SyncFields, IsLawfulPlan, IsSyncPlan, message_of, told_superframes}
+use Rattle.clean_link.proofs.Common.{superframes_a_sending, sync_frame_bits, IsSendable, CellPlan, SyncPlan, length-sync, refilled_is}
+use Rattle.clean_link.proofs.Common.{superframes_few, told_early, frame_own_bits, frames_before, sync_capsule_at, heard_in, heard_at}
+use Rattle.clean_link.proofs.Common.{with_message, Tuning, sync_stream, map_ext_filter_places, filter-places-more, FramesAreZeros}
+use Rattle.clean_link.proofs.Common.{FramesComeBack, IsOnPath, first_sync_frame, IsReceivable, made_samples}
 use Rattle.sync_message.proofs.Readings.{reads_capsule}
-use Rattle.cell_plan.specs.Plan.{IsLawfulPlan, IsSyncPlan}
-use Rattle.cell_plan.specs.Sendings.{message_of, told_superframes, superframes_a_sending, sync_frame_bits}
-use Rattle.cell_plan.specs.Transmitter.{IsSendable}
-use Rattle.cell_plan.specs.declared.plan.CellPlan.{CellPlan}
-use Rattle.cell_plan.specs.declared.plan.SyncPlan.{SyncPlan}
-use Rattle.cell_plan.proofs.SentMessages.{length-sync, refilled_is, superframes_few, told_early}
-use Rattle.mobile_core.specs.Streams.{frame_own_bits}
-use Rattle.mobile_core.specs.SyncEvents.{frames_before, sync_capsule_at, heard_in, heard_at, with_message}
-use Rattle.mobile_core.specs.Tuning.{Tuning, sync_stream}
-use Rattle.chip_core.proofs.Ranges.{map_ext_filter_places, filter-places-more}
-use Rattle.clean_link.specs.CleanLaws.{FramesAreZeros, FramesComeBack}
-use Rattle.clean_link.specs.CleanLink.{IsOnPath, first_sync_frame}
-use Rattle.cell_plan.specs.Stated.{IsReceivable}
-use Rattle.cell_plan.specs.Sampled.{made_samples}
 use Rattle.clean_link.proofs.sendings.Pieces.{run, run-places, none_starts}
 use Rattle.clean_link.proofs.sendings.Capsules.{IsSentAt, piece_of, pieces_end, sending_frames}
 use Rattle.clean_link.proofs.frames.SyncTimes.{frames_begin, in_file_from, in_file_to, one_path}

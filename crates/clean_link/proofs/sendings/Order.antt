@@ -1,14 +1,8 @@
 -- What is gathered number by number comes in order.
-use Rattle.std.proofs.Common.{◌≡◌, ℕ, zero, suc, ◌+◌, ◌-◌, ◌*◌, ◌<◌, ◌≤◌, ◌&&◌, ◌==◌, ◌≢◌, ⊎_elim, ◌⊎◌, Bool, true, false, cond, List, []}
-use Rattle.std.proofs.Common.{◌∷◌, ◌++◌, map, filter, refl, sym, ap, ◌∙◌, arith, nat_lt, append_assoc}
-use Rattle.std.specs.List.{flat_map}
-use Rattle.std.proofs.lemmas.Bool.{lt-ltb, le-ltb, ne_eqb, eq-eqb, cases_order, cases_Bool}
-use Rattle.std.proofs.lemmas.List.{append-nil}
-use Rattle.std.proofs.lemmas.List.Elements.{filter-append}
-use Rattle.std.proofs.lemmas.Grind.{flat_map-append}
-use Rattle.chip_core.specs.Bits.{places}
-use Rattle.chip_core.proofs.Places.{places-none, places-more}
-use Rattle.chip_core.proofs.Ranges.{filter_none_places, flat_map-places-more}
+use Rattle.clean_link.proofs.Common.{◌≡◌, ℕ, zero, suc, ◌+◌, ◌-◌, ◌*◌, ◌<◌, ◌≤◌, ◌&&◌, ◌==◌, ◌≢◌, ⊎_elim, ◌⊎◌, Bool, true, false, cond}
+use Rattle.clean_link.proofs.Common.{List, [], ◌∷◌, ◌++◌, map, filter, refl, sym, ap, ◌∙◌, arith, nat_lt, append_assoc, flat_map, lt-ltb}
+use Rattle.clean_link.proofs.Common.{le-ltb, ne_eqb, eq-eqb, cases_order, cases_Bool, append-nil, filter-append, flat_map-append, places}
+use Rattle.clean_link.proofs.Common.{places-none, places-more, filter_none_places, flat_map-places-more}
 
 -- ---- by key
 abbrev pub at_key : (ℕ → Bool) → (ℕ → ℕ) → ℕ → ℕ → Bool

@@ -1,9 +1,6 @@
 -- Pieces from the last start on.
-use Rattle.std.proofs.Common.{◌≡◌, ℕ, zero, suc, ◌+◌, ◌<◌, true, false, List, [], ◌∷◌, ◌++◌, length, map, refl, ap, arith}
-use Rattle.std.specs.List.{range_with_len}
-use Rattle.std.proofs.lemmas.Bool.{lt-ltb}
-use Rattle.chip_core.specs.Bits.{places}
-use Rattle.quality_bits.specs.Pieces.{Piece, from_last_start}
+use Rattle.clean_link.proofs.Common.{◌≡◌, ℕ, zero, suc, ◌+◌, ◌<◌, true, false, List, [], ◌∷◌, ◌++◌, length, map, refl, ap, arith}
+use Rattle.clean_link.proofs.Common.{range_with_len, lt-ltb, places, Piece, from_last_start}
 
 -- so many pieces, numbered from one on
 abbrev pub run : (ℕ → Piece) → ℕ → ℕ → List Piece

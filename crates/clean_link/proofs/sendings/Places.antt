@@ -1,16 +1,8 @@
 -- Where sendings lie in the file of a clean link, and which are whole.
-use Rattle.std.proofs.Common.{◌≡◌, ℕ, ◌+◌, ◌-◌, ◌*◌, ◌/◌, ◌<◌, ◌≤◌, ◌&&◌, true, false, length, arith, nat_lt, nat_le}
-use Rattle.std.proofs.Math.Nat.{mul-le-mul_left}
-use Rattle.std.proofs.lemmas.Bool.{and_parts, and_from, and_right, lt-ltb, le-leb, lt-leb, leb-true, ltb-true}
-use Rattle.chip_core.specs.declared.width.Width.{Width}
-use Rattle.sync_message.specs.SyncMessage.{sync_capsule}
-use Rattle.sync_message.specs.declared.fields.SyncFields.{SyncFields}
-use Rattle.cell_plan.specs.Plan.{IsLawfulPlan}
-use Rattle.cell_plan.specs.Sendings.{superframes_a_sending}
-use Rattle.cell_plan.specs.declared.plan.CellPlan.{CellPlan}
-use Rattle.cell_plan.proofs.SentMessages.{length-sync, superframes_some}
-use Rattle.mobile_core.specs.Tuning.{Tuning}
-use Rattle.clean_link.specs.CleanLink.{IsOnPath, first_sync_frame, is_whole, sending_begins, sending_ends}
+use Rattle.clean_link.proofs.Common.{◌≡◌, ℕ, ◌+◌, ◌-◌, ◌*◌, ◌/◌, ◌<◌, ◌≤◌, ◌&&◌, true, false, length, arith, nat_lt, nat_le}
+use Rattle.clean_link.proofs.Common.{mul-le-mul_left, and_parts, and_from, and_right, lt-ltb, le-leb, lt-leb, leb-true, ltb-true, Width}
+use Rattle.clean_link.proofs.Common.{sync_capsule, SyncFields, IsLawfulPlan, superframes_a_sending, CellPlan, length-sync, superframes_some}
+use Rattle.clean_link.proofs.Common.{Tuning, IsOnPath, first_sync_frame, is_whole, sending_begins, sending_ends}
 use Rattle.clean_link.proofs.sendings.Capsules.{IsSentAt, sending_frames}
 use Rattle.clean_link.proofs.frames.SyncTimes.{end_of_frame, frames_begin, in_file_from, in_file_to}
 use Rattle.clean_link.proofs.sendings.Events.{in_file}

@@ -1,26 +1,12 @@
 -- A handset can tell the channels of a cell apart.
-use Rattle.std.proofs.Common.{◌≡◌, ◌≢◌, ℕ, ◌%◌, ◌≤◌, All, List, [], ◌∷◌, ◌++◌, map, refl, sym, ap, subst, ◌∙◌, arith, ℤ, pos, Bool, Option}
-use Rattle.std.proofs.Common.{Some, None}
-use Rattle.std.specs.Prelude.{◌+ℤ◌, ◌*ℤ◌}
-use Rattle.std.specs.List.{Contains}
-use Rattle.std.proofs.Math.IntN.{+ℤ_idr}
+use Rattle.clean_link.proofs.Common.{◌≡◌, ◌≢◌, ℕ, ◌%◌, ◌≤◌, All, List, [], ◌∷◌, ◌++◌, map, refl, sym, ap, subst, ◌∙◌, arith, ℤ, pos, Bool}
+use Rattle.clean_link.proofs.Common.{Option, Some, None, ◌+ℤ◌, ◌*ℤ◌, Contains, +ℤ_idr, ints, length-map, All-append, All-cons, All-head}
+use Rattle.clean_link.proofs.Common.{All-map, All-nil, All-tail, All-weaker, Contains-append_left, Contains-append_right, sign, Width, Rate}
+use Rattle.clean_link.proofs.Common.{paging_rate, HaveOwnNumbers, HaveOwnTrafficRows, IsFreeOf, IsLawfulPlan, IsPagingPlan, IsTrafficPlan}
+use Rattle.clean_link.proofs.Common.{Carrier, carriers, level, paging_carrier, pilot_carrier, sync_carrier, sync_carriers, traffic_carrier}
+use Rattle.clean_link.proofs.Common.{CellPlan, PagingPlan, SyncPlan, TrafficPlan, pilot_amplitude, walsh-pilot, AreApart, HaveOwnRows}
+use Rattle.clean_link.proofs.Common.{IsAligned}
 use Rattle.std.proofs.Math.ListN.{get_or-map}
-use Rattle.std.proofs.lemmas.Int.{ints}
-use Rattle.std.proofs.lemmas.List.{length-map}
-use Rattle.std.proofs.lemmas.List.Elements.{All-append, All-cons, All-head, All-map, All-nil, All-tail, All-weaker, Contains-append_left}
-use Rattle.std.proofs.lemmas.List.Elements.{Contains-append_right}
-use Rattle.chip_core.specs.Bits.{sign}
-use Rattle.chip_core.specs.declared.width.Width.{Width}
-use Rattle.quality_bits.specs.declared.rate.Rate.{Rate}
-use Rattle.cell_plan.specs.Pages.{paging_rate}
-use Rattle.cell_plan.specs.Plan.{HaveOwnNumbers, HaveOwnTrafficRows, IsFreeOf, IsLawfulPlan, IsPagingPlan, IsTrafficPlan}
-use Rattle.cell_plan.specs.Signal.{Carrier, carriers, level, paging_carrier, pilot_carrier, sync_carrier, sync_carriers, traffic_carrier}
-use Rattle.cell_plan.specs.declared.plan.CellPlan.{CellPlan}
-use Rattle.cell_plan.specs.declared.plan.PagingPlan.{PagingPlan}
-use Rattle.cell_plan.specs.declared.plan.SyncPlan.{SyncPlan}
-use Rattle.cell_plan.specs.declared.plan.TrafficPlan.{TrafficPlan}
-use Rattle.cell_plan.proofs.Amplitudes.{pilot_amplitude, walsh-pilot}
-use Rattle.clean_link.specs.Signals.{AreApart, HaveOwnRows, IsAligned}
 use Rattle.clean_link.proofs.signal.Levels.{level_at-none}
 
 -- ---- each of the channels

@@ -1,21 +1,11 @@
 -- The laws of any channel that is sent and any stream that hears it.
-use Rattle.std.proofs.Common.{◌≡◌, ℕ, ◌*◌, ◌<◌, refl, ◌∙◌, arith, pos}
-use Rattle.std.proofs.Math.Nat.{mul-pos}
-use Rattle.std.proofs.lemmas.Bool.{lt-ltb}
-use Rattle.std.proofs.lemmas.List.Elements.{All-contains}
-use Rattle.chip_core.specs.Complex.{norm}
-use Rattle.rake_finger.specs.Soft.{symbol_chips, window_chips}
-use Rattle.rake_finger.specs.declared.form.Form.{Form}
-use Rattle.rake_finger.specs.declared.form.Form.TheVariants.{Sync, Data}
-use Rattle.cell_plan.specs.Sampled.{made_samples}
-use Rattle.cell_plan.specs.Signal.{Carrier, carriers, level}
-use Rattle.clean_link.specs.ChannelLaws as laws
-use Rattle.clean_link.specs.CleanLink.{soft_strength}
+use Rattle.clean_link.proofs.Common.{◌≡◌, ℕ, ◌*◌, ◌<◌, refl, ◌∙◌, arith, pos, mul-pos, lt-ltb, All-contains, norm, symbol_chips}
+use Rattle.clean_link.proofs.Common.{window_chips, Form, Sync, Data, made_samples, Carrier, carriers, level, soft_strength, IsAligned}
 use Rattle.clean_link.proofs.signal.CarriersApart.{plan_apart}
-use Rattle.clean_link.specs.Signals.{IsAligned}
 use Rattle.clean_link.proofs.frames.Heard.{heard_shown, heard_softs, shown_alone, shown_back}
 use Rattle.clean_link.proofs.signal.Levels.{level_at-alone, level_at-none}
 use Rattle.clean_link.proofs.signal.Frames.{channel_softs, silent_softs}
+use Rattle.clean_link.specs.ChannelLaws as laws
 
 -- ---- soft values
 

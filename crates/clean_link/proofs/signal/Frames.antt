@@ -1,21 +1,8 @@
 -- The soft values of a frame of a clean link.
-use Rattle.std.proofs.Common.{◌≡◌, ℕ, ◌+◌, ◌*◌, ◌/◌, ◌%◌, ◌<◌, ◌≤◌, Bool, false, [], ◌∷◌, length, get_or, replicate, sym, ap, ◌∙◌, arith}
-use Rattle.std.proofs.Common.{pos}
-use Rattle.std.specs.Prelude.{◌*ℤ◌}
-use Rattle.std.specs.List.{Contains}
-use Rattle.std.proofs.lemmas.List.Elements.{All-contains}
-use Rattle.chip_core.specs.Bits.{sign}
-use Rattle.chip_core.specs.Complex.{norm}
-use Rattle.chip_core.proofs.Ring.{mul_assoc_ℤ}
-use Rattle.rake_finger.specs.Soft.{frame_chips, soft, softs, symbol_chips, symbols, window_chips}
-use Rattle.rake_finger.specs.declared.form.Form.{Form}
-use Rattle.rake_finger.specs.declared.form.Form.TheVariants.{Sync, Data}
-use Rattle.viterbi.specs.Laws.{signed}
-use Rattle.cell_plan.specs.declared.plan.CellPlan.{CellPlan}
-use Rattle.cell_plan.specs.Sampled.{made_samples}
-use Rattle.cell_plan.specs.Signal.{Carrier, carriers}
-use Rattle.clean_link.specs.CleanLink.{soft_strength}
-use Rattle.clean_link.specs.Signals.{AreApart, IsAligned, IsFrameAt, IsFrameOf, level_at, path_finger}
+use Rattle.clean_link.proofs.Common.{◌≡◌, ℕ, ◌+◌, ◌*◌, ◌/◌, ◌%◌, ◌<◌, ◌≤◌, Bool, false, [], ◌∷◌, length, get_or, replicate, sym, ap, ◌∙◌}
+use Rattle.clean_link.proofs.Common.{arith, pos, ◌*ℤ◌, Contains, All-contains, sign, norm, mul_assoc_ℤ, frame_chips, soft, softs}
+use Rattle.clean_link.proofs.Common.{symbol_chips, symbols, window_chips, Form, Sync, Data, signed, CellPlan, made_samples, Carrier}
+use Rattle.clean_link.proofs.Common.{carriers, soft_strength, AreApart, IsAligned, IsFrameAt, IsFrameOf, level_at, path_finger}
 use Rattle.clean_link.proofs.signal.Levels.{level_at-alone, level_in}
 use Rattle.clean_link.proofs.signal.Softs.{soft_at, softs_none, softs_signed, symbol_blocks}
 

@@ -1,15 +1,8 @@
 -- The level of a channel at its symbols, and what a row has of channels that are apart.
-use Rattle.std.proofs.Common.{◌≡◌, ◌≢◌, ℕ, zero, suc, ◌+◌, ◌-◌, ◌*◌, ◌<◌, Bool, false, List, [], ◌∷◌, length, get_or, All, refl, sym, ap}
-use Rattle.std.proofs.Common.{subst, ◌∙◌, arith, ℤ, pos, Some}
-use Rattle.std.specs.Prelude.{◌+ℤ◌, ◌*ℤ◌}
-use Rattle.std.specs.List.{Contains}
-use Rattle.std.proofs.Math.IntN.{+ℤ_idl, +ℤ_idr}
-use Rattle.std.proofs.lemmas.Bool.{le-ltb, ne_eqb, eq-eqb}
-use Rattle.std.proofs.lemmas.List.Elements.{All-head, All-tail, All-get_or}
-use Rattle.std.proofs.lemmas.Nat.{div-mul-add, mod-mul-add}
-use Rattle.chip_core.specs.Bits.{sign}
-use Rattle.cell_plan.specs.Signal.{Carrier, level, level_of, symbol_at}
-use Rattle.clean_link.specs.Signals.{HaveOwnRows, level_at, row_level}
+use Rattle.clean_link.proofs.Common.{◌≡◌, ◌≢◌, ℕ, zero, suc, ◌+◌, ◌-◌, ◌*◌, ◌<◌, Bool, false, List, [], ◌∷◌, length, get_or, All, refl, sym}
+use Rattle.clean_link.proofs.Common.{ap, subst, ◌∙◌, arith, ℤ, pos, Some, ◌+ℤ◌, ◌*ℤ◌, Contains, +ℤ_idl, +ℤ_idr, le-ltb, ne_eqb, eq-eqb}
+use Rattle.clean_link.proofs.Common.{All-head, All-tail, All-get_or, div-mul-add, mod-mul-add, sign, Carrier, level, level_of, symbol_at}
+use Rattle.clean_link.proofs.Common.{HaveOwnRows, level_at, row_level}
 
 -- ---- a channel
 

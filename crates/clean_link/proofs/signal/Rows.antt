@@ -1,19 +1,9 @@
 -- What a Walsh row finds of channels that are sent together.
-use Rattle.std.proofs.Common.{◌≡◌, ℕ, zero, suc, ◌+◌, ◌-◌, ◌*◌, ◌/◌, ◌%◌, ◌<◌, ◌≤◌, Bool, true, false, List, [], ◌∷◌, All, refl, sym, ap}
-use Rattle.std.proofs.Common.{◌∙◌, arith, ⊎_elim, ℤ, pos}
-use Rattle.std.specs.Prelude.{◌+ℤ◌, ◌*ℤ◌, ◌==◌, if◌then◌else◌}
-use Rattle.std.proofs.Math.Nat.{div-div-eq-div-mul, mod-eq-sub-mul-div}
-use Rattle.std.proofs.lemmas.Bool.{cases_lt, lt-ltb, le-ltb}
-use Rattle.std.proofs.lemmas.Int.{ints}
-use Rattle.std.proofs.lemmas.List.Elements.{All-head, All-tail}
-use Rattle.chip_core.specs.Bits.{sign}
-use Rattle.chip_core.specs.Sums.{sum_below}
-use Rattle.chip_core.proofs.IndexSums.{sum_same, sum_append, sum_none}
-use Rattle.chip_core.proofs.Ring.{distrib, mul_assoc_ℤ, split, diff-times, diff-same}
-use Rattle.walsh.specs.Walsh.{walsh, row_sum}
-use Rattle.walsh.proofs.RowTable.{orthogonal}
-use Rattle.cell_plan.specs.Signal.{Carrier, amplitude, amplitudes, level, level_of, symbol_at}
-use Rattle.clean_link.specs.Signals.{IsAligned, level_at, row_level}
+use Rattle.clean_link.proofs.Common.{◌≡◌, ℕ, zero, suc, ◌+◌, ◌-◌, ◌*◌, ◌/◌, ◌%◌, ◌<◌, ◌≤◌, Bool, true, false, List, [], ◌∷◌, All, refl, sym}
+use Rattle.clean_link.proofs.Common.{ap, ◌∙◌, arith, ⊎_elim, ℤ, pos, ◌+ℤ◌, ◌*ℤ◌, ◌==◌, if◌then◌else◌, div-div-eq-div-mul}
+use Rattle.clean_link.proofs.Common.{mod-eq-sub-mul-div, cases_lt, lt-ltb, le-ltb, ints, All-head, All-tail, sign, sum_below, sum_same}
+use Rattle.clean_link.proofs.Common.{sum_append, sum_none, distrib, mul_assoc_ℤ, split, diff-times, diff-same, walsh, row_sum, orthogonal}
+use Rattle.clean_link.proofs.Common.{Carrier, amplitude, amplitudes, level, level_of, symbol_at, IsAligned, level_at, row_level}
 
 -- ---- sums by index
 

@@ -1,27 +1,12 @@
 -- The samples of a clean link, despread by the code of its path.
-use Rattle.std.proofs.Common.{◌≡◌, ℕ, zero, suc, ◌+◌, ◌-◌, ◌*◌, ◌%◌, ◌<◌, ◌≤◌, Bool, true, false, List, length, get_or, take, drop, sym, ap}
-use Rattle.std.proofs.Common.{◌∙◌, arith, add-one, ℤ, pos}
-use Rattle.std.specs.Prelude.{◌+ℤ◌, ◌-ℤ◌, ◌*ℤ◌, neg_ℤ}
-use Rattle.std.proofs.lemmas.Int.{ints}
-use Rattle.std.proofs.lemmas.List.{length-map, length-drop, get_or-drop, get_or-map}
-use Rattle.chip_core.specs.Bits.{sign}
-use Rattle.chip_core.specs.Complex.{origin, plus, times, conjugate, point, sum_of, of_sample}
-use Rattle.chip_core.specs.Sums.{sum_below}
-use Rattle.chip_core.specs.declared.sample.Pair.{Pair}
-use Rattle.chip_core.specs.declared.sample.Sample.{Sample}
-use Rattle.chip_core.proofs.Places.{length-map-places, get_or-map-places}
-use Rattle.chip_core.proofs.Ring.{mul_assoc_ℤ, split, diff-plus, diff-times, diff-same}
-use Rattle.short_code.specs.Despread.{code_point, despread}
-use Rattle.short_code.specs.ShortCode.{pilot_chip}
-use Rattle.walsh.specs.Walsh.{walsh}
-use Rattle.rake_finger.specs.Soft.{covered_from, despread_at}
-use Rattle.rake_finger.proofs.CoveredSums.{row_sign, covered_sum-more, same_parts}
-use Rattle.cell_plan.specs.declared.plan.CellPlan.{CellPlan}
-use Rattle.cell_plan.specs.Signal.{amplitudes, carriers, scaled, sample_of, samples_of}
-use Rattle.cell_plan.specs.Transmitter.{phase_at}
-use Rattle.cell_plan.proofs.Amplitudes.{signal_of_carriers}
-use Rattle.cell_plan.proofs.Pieces.{no_sample}
-use Rattle.cell_plan.specs.Sampled.{made_samples, sample_with}
+use Rattle.clean_link.proofs.Common.{◌≡◌, ℕ, zero, suc, ◌+◌, ◌-◌, ◌*◌, ◌%◌, ◌<◌, ◌≤◌, Bool, true, false, List, length, get_or, take, drop}
+use Rattle.clean_link.proofs.Common.{sym, ap, ◌∙◌, arith, add-one, ℤ, pos, ◌+ℤ◌, ◌-ℤ◌, ◌*ℤ◌, neg_ℤ, ints, length-map, get_or-drop}
+use Rattle.clean_link.proofs.Common.{get_or-map, sign, origin, plus, times, conjugate, point, sum_of, of_sample, sum_below, Pair, Sample}
+use Rattle.clean_link.proofs.Common.{length-map-places, get_or-map-places, mul_assoc_ℤ, split, diff-plus, diff-times, diff-same, code_point}
+use Rattle.clean_link.proofs.Common.{despread, pilot_chip, walsh, covered_from, despread_at, row_sign, covered_sum-more, same_parts}
+use Rattle.clean_link.proofs.Common.{CellPlan, amplitudes, carriers, scaled, sample_of, samples_of, phase_at, signal_of_carriers, no_sample}
+use Rattle.clean_link.proofs.Common.{made_samples, sample_with}
+use Rattle.std.proofs.lemmas.List.{length-drop}
 
 -- ---- a code point times its conjugate is 2
 

@@ -1,31 +1,11 @@
 -- The soft values of a finger on the path of a clean link.
-use Rattle.std.proofs.Common.{◌≡◌, ℕ, ◌+◌, ◌*◌, ◌/◌, ◌%◌, ◌<◌, ◌≤◌, Bool, false, List, [], ◌∷◌, length, get_or, map, replicate, refl, sym}
-use Rattle.std.proofs.Common.{ap, ◌∙◌, arith, ℤ, pos, negsuc, unsigned_abs}
-use Rattle.std.specs.Prelude.{◌+ℤ◌, ◌-ℤ◌, ◌*ℤ◌, neg_ℤ}
-use Rattle.std.proofs.Math.IntN.{+ℤ_idr}
-use Rattle.std.proofs.lemmas.Int.{ints}
-use Rattle.std.proofs.lemmas.List.{get_or-map, length-map, length-replicate, get_or-replicate}
-use Rattle.chip_core.specs.Bits.{sign}
-use Rattle.chip_core.specs.Complex.{norm, sum_of}
-use Rattle.chip_core.specs.Sums.{square}
-use Rattle.chip_core.specs.declared.sample.Pair.{Pair}
-use Rattle.chip_core.specs.declared.sample.Sample.{Sample}
-use Rattle.chip_core.proofs.IndexSums.{sum_same}
-use Rattle.chip_core.proofs.Places.{map-places-all}
-use Rattle.chip_core.proofs.Ring.{distrib, mul_assoc_ℤ, swap_products, neg_times, split, diff-times, diff-same}
-use Rattle.walsh.specs.Walsh.{walsh}
-use Rattle.rake_finger.specs.Soft.{covered_from, despread_at, frame_chips, pilot_sum, soft, softs, symbol_chips, symbol_sum, symbols}
-use Rattle.rake_finger.specs.Soft.{turned_part, window_chips}
-use Rattle.rake_finger.specs.declared.finger.Finger.{Finger}
-use Rattle.rake_finger.specs.declared.form.Form.{Form}
-use Rattle.rake_finger.specs.declared.form.Form.TheVariants.{Sync, Data}
-use Rattle.rake_finger.proofs.SoftValues.{pilot_is, symbol_is, soft_is}
-use Rattle.viterbi.specs.Laws.{signed}
-use Rattle.cell_plan.specs.declared.plan.CellPlan.{CellPlan}
-use Rattle.cell_plan.specs.Sampled.{made_samples}
-use Rattle.cell_plan.specs.Signal.{amplitudes, carriers, scaled}
-use Rattle.cell_plan.specs.Transmitter.{phase_at}
-use Rattle.clean_link.specs.Signals.{AreApart, level_at, path_finger}
+use Rattle.clean_link.proofs.Common.{◌≡◌, ℕ, ◌+◌, ◌*◌, ◌/◌, ◌%◌, ◌<◌, ◌≤◌, Bool, false, List, [], ◌∷◌, length, get_or, map, replicate, refl}
+use Rattle.clean_link.proofs.Common.{sym, ap, ◌∙◌, arith, ℤ, pos, negsuc, unsigned_abs, ◌+ℤ◌, ◌-ℤ◌, ◌*ℤ◌, neg_ℤ, +ℤ_idr, ints, get_or-map}
+use Rattle.clean_link.proofs.Common.{length-map, length-replicate, get_or-replicate, sign, norm, sum_of, square, Pair, Sample, sum_same}
+use Rattle.clean_link.proofs.Common.{map-places-all, distrib, mul_assoc_ℤ, swap_products, neg_times, split, diff-times, diff-same, walsh}
+use Rattle.clean_link.proofs.Common.{covered_from, despread_at, frame_chips, pilot_sum, soft, softs, symbol_chips, symbol_sum, symbols}
+use Rattle.clean_link.proofs.Common.{turned_part, window_chips, Finger, Form, Sync, Data, pilot_is, symbol_is, soft_is, signed, CellPlan}
+use Rattle.clean_link.proofs.Common.{made_samples, amplitudes, carriers, scaled, phase_at, AreApart, level_at, path_finger}
 use Rattle.clean_link.proofs.signal.Rows.{chips_sum}
 use Rattle.clean_link.proofs.signal.Samples.{file_total}
 

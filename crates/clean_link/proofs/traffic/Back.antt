@@ -1,36 +1,13 @@
 -- What a handset hears of the traffic channel that it follows: the frames that the cell sends from
 -- its mark on, and the messages in them.
-use Rattle.std.proofs.Common.{◌≡◌, ℕ, zero, suc, ◌+◌, ◌*◌, ◌<◌, ◌≤◌, List, [], ◌∷◌, length, get_or, refl, sym, ap, ◌∙◌, arith, subst}
-use Rattle.std.proofs.Common.{Option, None, Some}
-use Rattle.std.specs.Prelude.{◌≢◌, All}
-use Rattle.std.specs.List.{Contains, flat_map}
-use Rattle.std.proofs.lemmas.Bool.{eq-eqb, ne_eqb}
-use Rattle.std.proofs.lemmas.List.Elements.{All-contains}
-use Rattle.chip_core.specs.Bits.{places}
-use Rattle.chip_core.specs.declared.width.Width.{Width}
-use Rattle.cell_plan.specs.Plan.{HaveOwnTrafficRows}
-use Rattle.cell_plan.specs.Sampled.{made_samples}
-use Rattle.cell_plan.specs.Sendings.{told_superframes}
-use Rattle.cell_plan.specs.declared.plan.CellPlan.{CellPlan}
-use Rattle.cell_plan.specs.declared.plan.SyncPlan.{SyncPlan}
-use Rattle.cell_plan.specs.declared.plan.TrafficPlan.{TrafficPlan}
-use Rattle.mobile_core.specs.Events.{events, frame_events_at, message_events_at}
-use Rattle.mobile_core.specs.Marks.{mark}
-use Rattle.mobile_core.specs.Near.{AreNear}
-use Rattle.mobile_core.specs.Moments.{frames_at, messages_at}
-use Rattle.mobile_core.specs.TrafficEvents.{if_followed}
-use Rattle.mobile_core.specs.Tuning.{Tuning, sync_stream}
-use Rattle.mobile_core.specs.declared.event.Event.{Event}
-use Rattle.mobile_core.specs.declared.mark.Mark.{Mark}
-use Rattle.chip_core.specs.declared.assignment.Traffic.{Traffic}
-use Rattle.mobile_core.proofs.MarkStays.{frames_by_one_mark, messages_by_one_mark}
-use Rattle.chip_core.proofs.Ranges.{flat_map_ext_places}
-use Rattle.clean_link.specs.CleanLink.{IsNotDirected, IsOnPath}
-use Rattle.cell_plan.specs.Stated.{IsReceivable}
-use Rattle.clean_link.specs.HeardFrames.{frames_of_channel, frames_sent, told_on, AreDistinct, SendsSetOne}
-use Rattle.clean_link.specs.HeardSignals.{messages_of_channel, messages_sent}
-use Rattle.clean_link.specs.SentEvents.{signaling_sent, told_by_first, told_followed, told_with_sync, traffic_sent, FollowsSent}
-use Rattle.clean_link.specs.TrafficLaws.{HearsTraffic, IsUndirected}
+use Rattle.clean_link.proofs.Common.{◌≡◌, ℕ, zero, suc, ◌+◌, ◌*◌, ◌<◌, ◌≤◌, List, [], ◌∷◌, length, get_or, refl, sym, ap, ◌∙◌, arith, subst}
+use Rattle.clean_link.proofs.Common.{Option, None, Some, ◌≢◌, All, Contains, flat_map, eq-eqb, ne_eqb, All-contains, places, Width}
+use Rattle.clean_link.proofs.Common.{HaveOwnTrafficRows, made_samples, told_superframes, CellPlan, SyncPlan, TrafficPlan, events}
+use Rattle.clean_link.proofs.Common.{frame_events_at, message_events_at, mark, AreNear, frames_at, messages_at, if_followed, Tuning}
+use Rattle.clean_link.proofs.Common.{sync_stream, Event, Mark, Traffic, frames_by_one_mark, messages_by_one_mark, flat_map_ext_places}
+use Rattle.clean_link.proofs.Common.{IsNotDirected, IsOnPath, IsReceivable, frames_of_channel, frames_sent, told_on, AreDistinct}
+use Rattle.clean_link.proofs.Common.{SendsSetOne, messages_of_channel, messages_sent, signaling_sent, told_by_first, told_followed}
+use Rattle.clean_link.proofs.Common.{told_with_sync, traffic_sent, FollowsSent, HearsTraffic, IsUndirected}
 use Rattle.clean_link.proofs.marks.FirstMark.{mark_of_first, unset_without}
 use Rattle.clean_link.proofs.marks.MarksTrue.{marks_true, time_of, unmarked}
 use Rattle.clean_link.proofs.traffic.Frames.{sent_frames_back}

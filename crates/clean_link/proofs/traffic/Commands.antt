@@ -1,25 +1,11 @@
 -- The power control bits of the frames of a traffic channel come back.
-use Rattle.std.proofs.Common.{◌≡◌, ℕ, zero, suc, ◌+◌, ◌*◌, ◌/◌, ◌<◌, Bool, true, false, not, List, [], ◌∷◌, length, map, get_or, refl, sym}
-use Rattle.std.proofs.Common.{ap, ◌∙◌, arith, ℤ, nat_eq, negsuc, pos}
-use Rattle.std.specs.Prelude.{◌*ℤ◌, ◌+ℤ◌, ◌<ℤ◌, ◌≤ℤ◌, ◌&&◌, int_lt, neg_ℤ}
-use Rattle.std.specs.List.{flat_map, range_with_len}
-use Rattle.std.proofs.lemmas.Bool.{eq-eqb}
-use Rattle.std.proofs.lemmas.Int.{ints}
-use Rattle.std.proofs.lemmas.List.Folds.{list_any_at}
-use Rattle.chip_core.specs.Bits.{places, sign}
-use Rattle.chip_core.proofs.Places.{get_or-map-places, map-places-all}
-use Rattle.long_code.specs.LongCode.{traffic_mask}
-use Rattle.symbol_path.specs.Scrambling.{power_place, power_places}
-use Rattle.symbol_path.proofs.PowerPlaces.{power_place_in_groups, pairs_below, pairs_in_groups, pairs_neighbours, ArePairs}
-use Rattle.frame_decoder.specs.TrafficFrames.{command, group_sum, group_sums, is_replaced}
-use Rattle.rake_finger.specs.declared.form.Form.TheVariants.{Data}
-use Rattle.cell_plan.specs.Sampled.{made_samples}
-use Rattle.chip_core.proofs.Ranges.{map_ext_places}
-use Rattle.mobile_core.specs.TrafficEvents.{commands_at, unturned_softs}
-use Rattle.mobile_core.specs.TrafficStreams.{frame_state}
-use Rattle.clean_link.specs.CleanLink.{soft_strength}
-use Rattle.clean_link.specs.HeardFrames.{sent_bits, ShowCommands}
-use Rattle.clean_link.specs.TrafficLaws.{CommandsComeBack, SixteenCommandsAreSent}
+use Rattle.clean_link.proofs.Common.{◌≡◌, ℕ, zero, suc, ◌+◌, ◌*◌, ◌/◌, ◌<◌, Bool, true, false, not, List, [], ◌∷◌, length, map, get_or}
+use Rattle.clean_link.proofs.Common.{refl, sym, ap, ◌∙◌, arith, ℤ, nat_eq, negsuc, pos, ◌*ℤ◌, ◌+ℤ◌, ◌<ℤ◌, ◌≤ℤ◌, ◌&&◌, int_lt, neg_ℤ}
+use Rattle.clean_link.proofs.Common.{flat_map, range_with_len, eq-eqb, ints, list_any_at, places, sign, get_or-map-places, map-places-all}
+use Rattle.clean_link.proofs.Common.{traffic_mask, power_place, power_places, power_place_in_groups, pairs_below, pairs_in_groups}
+use Rattle.clean_link.proofs.Common.{pairs_neighbours, ArePairs, command, group_sum, group_sums, is_replaced, Data, made_samples}
+use Rattle.clean_link.proofs.Common.{map_ext_places, commands_at, unturned_softs, frame_state, soft_strength, sent_bits, ShowCommands}
+use Rattle.clean_link.proofs.Common.{CommandsComeBack, SixteenCommandsAreSent}
 use Rattle.clean_link.proofs.traffic.OnePilot.{one_sums}
 use Rattle.clean_link.proofs.traffic.Signs.{heard_shown}
 

@@ -1,48 +1,19 @@
 -- A cell with a distinct frame of each rate.
-use Rattle.std.proofs.Common.{◌≡◌, ◌≢◌, ℕ, ◌+◌, ◌*◌, ◌^◌, ◌<◌, ◌≤◌, Bool, true, List, [], ◌∷◌, length, map, refl, sym, ap, ◌∙◌, arith}
-use Rattle.std.proofs.Common.{subst, nat_le, inl, inr, Some}
-use Rattle.std.specs.Prelude.{All}
-use Rattle.std.specs.List.{flat_map}
-use Rattle.std.proofs.lemmas.Bool.{and_parts, cases_eq, leb-true}
-use Rattle.std.proofs.lemmas.List.Elements.{All-cons, All-nil}
-use Rattle.chip_core.specs.Bits.{binary, places}
-use Rattle.chip_core.specs.Complex.{norm}
-use Rattle.chip_core.specs.declared.width.Width.TheVariants.{Sixteen}
-use Rattle.long_code.specs.LongCode.{after, before, traffic_mask}
-use Rattle.long_code.proofs.After.{after-after}
-use Rattle.long_code.proofs.Period.{IsState-before}
-use Rattle.quality_bits.specs.Capsules.{capsule, octets}
-use Rattle.quality_bits.specs.Quality.{check_bits}
-use Rattle.quality_bits.specs.TrafficWords.{traffic_word}
-use Rattle.quality_bits.specs.declared.kind.Kind.TheVariants.{M30}
-use Rattle.quality_bits.specs.declared.rate.Rate.{Rate}
-use Rattle.quality_bits.specs.declared.rate.Rate.TheVariants.{R9600, R4800, R2400, R1200}
-use Rattle.symbol_path.specs.FramesTwo.{word_bits}
-use Rattle.symbol_path.specs.Scrambling.{power_places}
-use Rattle.symbol_path.specs.declared.rate_two.Rate2.{Rate2}
-use Rattle.symbol_path.specs.declared.rate_two.Rate2.TheVariants.{R14400, R7200, R3600, R1800}
-use Rattle.symbol_path.proofs.SymbolChips.{on_again}
-use Rattle.sync_message.specs.SyncMessage.{sync_body, sync_capsule, IsSyncMessage}
-use Rattle.traffic_message.specs.Multiplex.{split, split_9600}
-use Rattle.cell_plan.specs.Plan.{loudness, AreLawfulBeside, IsFreeOf, IsLawfulPlan, IsPagingPlan, IsTrafficPlan}
-use Rattle.cell_plan.specs.Pages.{paging_rate}
-use Rattle.cell_plan.specs.Stated.{IsStatedPaging, IsReceivable}
-use Rattle.cell_plan.specs.Signal.{frames_of}
-use Rattle.cell_plan.specs.TrafficFrames.{cycled_frame, IsTrafficFrame, IsTrafficFrame2}
-use Rattle.cell_plan.specs.declared.plan.PagingPlan.{PagingPlan}
-use Rattle.cell_plan.specs.declared.plan.TrafficPlan.{TrafficPlan}
-use Rattle.cell_plan.specs.declared.traffic_frame.TrafficFrame.{TrafficFrame}
-use Rattle.cell_plan.specs.declared.traffic_frame2.TrafficFrame2.{TrafficFrame2}
-use Rattle.clean_link.specs.DistinctFrames.{lost_symbols}
-use Rattle.clean_link.specs.DistinctPlan.{bits_1200, bits_14400, bits_1800, bits_2400, bits_3600, bits_4800, bits_7200, bits_9600}
-use Rattle.clean_link.specs.DistinctPlan.{distinct_plan, first_channel, frame2_at, frame_at, on_row, second_channel, told_message, HasMark}
-use Rattle.clean_link.specs.DistinctPlan.{HasSetOne, HasSetTwo}
-use Rattle.clean_link.specs.HeardFrames.{frame_chip, is_received, received_frames, replaced_of, AreDistinct, IsDistinctFrame}
-use Rattle.clean_link.specs.HeardPages.{end_chip}
-use Rattle.clean_link.specs.HeardSignals.{messages_sent}
-use Rattle.clean_link.specs.ReceivedFrames.{cycled_frame2, IsDistinctFrame2}
-use Rattle.clean_link.specs.SentEvents.{signaling_sent, told_with_sync}
-use Rattle.clean_link.specs.SharedWords.{lost_symbols2, sharing, sharing2, words_giving, SharesNone, SharesNone2}
+use Rattle.clean_link.proofs.Common.{◌≡◌, ◌≢◌, ℕ, ◌+◌, ◌*◌, ◌^◌, ◌<◌, ◌≤◌, Bool, true, List, [], ◌∷◌, length, map, refl, sym, ap, ◌∙◌}
+use Rattle.clean_link.proofs.Common.{arith, subst, nat_le, inl, inr, Some, All, flat_map, and_parts, cases_eq, leb-true, All-cons, All-nil}
+use Rattle.clean_link.proofs.Common.{binary, places, norm, Sixteen, after, traffic_mask, after-after, IsState-before, capsule, octets}
+use Rattle.clean_link.proofs.Common.{check_bits, traffic_word, M30, Rate, R9600, R4800, R2400, R1200, word_bits, power_places, Rate2}
+use Rattle.clean_link.proofs.Common.{R14400, R7200, R3600, R1800, on_again, sync_body, sync_capsule, IsSyncMessage, split_9600, loudness}
+use Rattle.clean_link.proofs.Common.{AreLawfulBeside, IsFreeOf, IsLawfulPlan, IsPagingPlan, IsTrafficPlan, paging_rate, IsStatedPaging}
+use Rattle.clean_link.proofs.Common.{IsReceivable, frames_of, cycled_frame, IsTrafficFrame, IsTrafficFrame2, PagingPlan, TrafficPlan}
+use Rattle.clean_link.proofs.Common.{TrafficFrame, TrafficFrame2, lost_symbols, bits_1200, bits_14400, bits_1800, bits_2400, bits_3600}
+use Rattle.clean_link.proofs.Common.{bits_4800, bits_7200, bits_9600, distinct_plan, first_channel, frame2_at, frame_at, on_row}
+use Rattle.clean_link.proofs.Common.{second_channel, told_message, HasMark, HasSetOne, HasSetTwo, frame_chip, is_received, received_frames}
+use Rattle.clean_link.proofs.Common.{replaced_of, AreDistinct, IsDistinctFrame, end_chip, messages_sent, cycled_frame2, IsDistinctFrame2}
+use Rattle.clean_link.proofs.Common.{signaling_sent, told_with_sync, lost_symbols2, sharing, sharing2, words_giving, SharesNone}
+use Rattle.clean_link.proofs.Common.{SharesNone2}
+use Rattle.long_code.specs.LongCode.{before}
+use Rattle.traffic_message.specs.Multiplex.{split}
 use Rattle.clean_link.proofs.traffic.PowerPlaces.{pairs_by, places_are, starts, walked, walked_is}
 use Rattle.clean_link.proofs.traffic.SharedFrames.{distinct_by_sharing, distinct_by_sharing2}
 

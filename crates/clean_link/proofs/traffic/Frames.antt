@@ -1,41 +1,16 @@
 -- The frames of a traffic channel come back: each received one is heard at its own end, as it was
 -- sent where it is distinct.
-use Rattle.std.proofs.Common.{◌≡◌, ℕ, zero, suc, ◌+◌, ◌-◌, ◌*◌, ◌/◌, ◌%◌, ◌<◌, ◌≤◌, ⊎_elim, Bool, true, false, List, [], ◌∷◌, length, map}
-use Rattle.std.proofs.Common.{filter, take, drop, refl, sym, ap, ◌∙◌, arith, subst, nat_le, cond, pos}
-use Rattle.std.specs.Prelude.{All}
-use Rattle.std.specs.List.{flat_map}
-use Rattle.std.proofs.lemmas.Bool.{and_from, and_parts, cases_Bool, false_from_ne_true, le-leb, leb-true}
-use Rattle.std.proofs.lemmas.List.Elements.{All-head, All-tail}
-use Rattle.chip_core.specs.Bits.{places}
-use Rattle.chip_core.specs.declared.sample.Sample.{Sample}
-use Rattle.chip_core.specs.declared.width.Width.{Width}
-use Rattle.long_code.specs.LongCode.{traffic_mask}
-use Rattle.symbol_path.specs.Scrambling.{power_places}
-use Rattle.frame_decoder.specs.Laws.{kept_count}
-use Rattle.frame_decoder.specs.declared.traffic.Decoded.{Decoded}
-use Rattle.frame_decoder.proofs.SentFrames.{sent_frame}
-use Rattle.rake_finger.specs.declared.form.Form.TheVariants.{Data}
-use Rattle.cell_plan.specs.Sampled.{made_samples}
-use Rattle.cell_plan.specs.Signal.{frames_of}
-use Rattle.cell_plan.specs.TrafficFrames.{cycled_frame, set_one, IsTrafficFrame}
-use Rattle.cell_plan.specs.declared.plan.CellPlan.{CellPlan}
-use Rattle.cell_plan.specs.declared.plan.TrafficPlan.{TrafficPlan}
-use Rattle.cell_plan.specs.declared.traffic_frame.TrafficFrame.{TrafficFrame}
-use Rattle.mobile_core.specs.Streams.{frame_softs, is_in_file, known_at, known_now, Stream}
-use Rattle.mobile_core.specs.Moments.{frames_at}
-use Rattle.mobile_core.specs.TrafficEvents.{commands_at, decoded_at, frame_event, frame_heard, frames_by}
-use Rattle.mobile_core.specs.TrafficStreams.{frame_state, frames_bound, frames_now, replaced_in, stream_of}
-use Rattle.mobile_core.specs.Tuning.{Tuning}
-use Rattle.mobile_core.specs.declared.event.Event.{Event}
-use Rattle.mobile_core.specs.declared.legs.Leg.{Leg}
-use Rattle.mobile_core.specs.declared.mark.Mark.{Mark}
-use Rattle.chip_core.specs.declared.assignment.Traffic.{Traffic}
-use Rattle.chip_core.proofs.Ranges.{filter_enough, flat_map_ext_filter_places, flat_map_ext_places}
-use Rattle.clean_link.specs.CleanLink.{soft_strength}
-use Rattle.clean_link.specs.HeardFrames.{frame_chip, frame_ends, frame_told, frames_of_channel, is_received, received_frames, replaced_of}
-use Rattle.clean_link.specs.HeardFrames.{sent_commands, sent_frame_event, AreDistinct, IsDistinctFrame, IsOnePilot, SendsSetOne}
-use Rattle.clean_link.specs.HeardPages.{end_chip}
-use Rattle.clean_link.specs.TrafficLaws.{EachFrameIsHeard, HearsTraffic, IsHeardAs, IsUndirected, SentFramesComeBack, TrafficFramesComeBack}
+use Rattle.clean_link.proofs.Common.{◌≡◌, ℕ, zero, suc, ◌+◌, ◌-◌, ◌*◌, ◌/◌, ◌%◌, ◌<◌, ◌≤◌, ⊎_elim, Bool, true, false, List, [], ◌∷◌, length}
+use Rattle.clean_link.proofs.Common.{map, filter, take, drop, refl, sym, ap, ◌∙◌, arith, subst, nat_le, cond, pos, All, flat_map, and_from}
+use Rattle.clean_link.proofs.Common.{and_parts, cases_Bool, false_from_ne_true, le-leb, leb-true, All-head, All-tail, places, Sample, Width}
+use Rattle.clean_link.proofs.Common.{traffic_mask, power_places, kept_count, Decoded, sent_frame, Data, made_samples, frames_of}
+use Rattle.clean_link.proofs.Common.{cycled_frame, set_one, IsTrafficFrame, CellPlan, TrafficPlan, TrafficFrame, frame_softs, is_in_file}
+use Rattle.clean_link.proofs.Common.{known_at, known_now, Stream, frames_at, commands_at, decoded_at, frame_event, frame_heard, frames_by}
+use Rattle.clean_link.proofs.Common.{frame_state, frames_bound, frames_now, replaced_in, stream_of, Tuning, Event, Leg, Mark, Traffic}
+use Rattle.clean_link.proofs.Common.{filter_enough, flat_map_ext_filter_places, flat_map_ext_places, soft_strength, frame_chip, frame_ends}
+use Rattle.clean_link.proofs.Common.{frame_told, frames_of_channel, is_received, received_frames, replaced_of, sent_commands}
+use Rattle.clean_link.proofs.Common.{sent_frame_event, AreDistinct, IsDistinctFrame, IsOnePilot, SendsSetOne, end_chip, EachFrameIsHeard}
+use Rattle.clean_link.proofs.Common.{HearsTraffic, IsHeardAs, IsUndirected, SentFramesComeBack, TrafficFramesComeBack}
 use Rattle.clean_link.proofs.pages.InOrder.{given_in_order, IsBound}
 use Rattle.clean_link.proofs.sendings.Order.{flat_map-filter, given_where, moved_up}
 use Rattle.clean_link.proofs.traffic.Commands.{commands_back, power_pairs}

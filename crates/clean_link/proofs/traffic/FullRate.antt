@@ -1,21 +1,10 @@
 -- Frames of 9,600 bits a second that no other word shares.
-use Rattle.std.proofs.Common.{◌≡◌, ℕ, ◌+◌, ◌-◌, ◌*◌, ◌/◌, ◌<◌, Bool, true, false, List, ◌++◌, length, get_or, drop, replicate, refl, sym}
-use Rattle.std.proofs.Common.{ap, ◌∙◌, arith, subst, ◌&&◌, length-append}
-use Rattle.std.proofs.lemmas.Bool.{and_parts}
-use Rattle.std.proofs.lemmas.List.{drop_at}
-use Rattle.chip_core.specs.Bits.{xor}
-use Rattle.chip_core.proofs.BitLists.{add, length_add}
-use Rattle.conv_code.specs.ConvCode.{code_symbols, g0, g1, symbol}
-use Rattle.conv_code.proofs.Pairs.{symbols_at, AreAt}
-use Rattle.quality_bits.specs.Kinds.{quality_indicator}
-use Rattle.symbol_path.specs.SentOrder.{data_shape, sent}
-use Rattle.quality_bits.specs.TrafficWords.{quality_of, traffic_word}
-use Rattle.quality_bits.specs.declared.rate.Rate.TheVariants.{R9600, R4800, R2400, R1200}
-use Rattle.quality_bits.proofs.TrafficWords.{word_fills}
-use Rattle.viterbi.proofs.Choices.{words_same}
-use Rattle.frame_decoder.specs.Laws.{AgreeElsewhere, frame_word}
-use Rattle.clean_link.specs.DistinctFrames.{is_kept, is_seen, shows_full_rate, tells_all_bits, full_rate_symbols, lost_symbols}
-use Rattle.clean_link.specs.DistinctFrames.{FullRateFramesAreDistinct}
+use Rattle.clean_link.proofs.Common.{◌≡◌, ℕ, ◌+◌, ◌-◌, ◌*◌, ◌/◌, ◌<◌, Bool, true, false, List, ◌++◌, length, get_or, drop, replicate, refl}
+use Rattle.clean_link.proofs.Common.{sym, ap, ◌∙◌, arith, subst, ◌&&◌, length-append, and_parts, drop_at, xor, add, length_add}
+use Rattle.clean_link.proofs.Common.{code_symbols, g0, g1, symbol, symbols_at, quality_indicator, data_shape, sent, quality_of}
+use Rattle.clean_link.proofs.Common.{traffic_word, R9600, R4800, R2400, R1200, word_fills, words_same, AgreeElsewhere, frame_word, is_kept}
+use Rattle.clean_link.proofs.Common.{is_seen, shows_full_rate, tells_all_bits, full_rate_symbols, lost_symbols, FullRateFramesAreDistinct}
+use Rattle.conv_code.proofs.Pairs.{AreAt}
 use Rattle.clean_link.proofs.traffic.HiddenWords.{hidden_none, same_by_sum, same_is_none, sum_ends, symbol_add, AreHidden}
 use Rattle.clean_link.proofs.traffic.KeptSymbols.{at_each, at_one, kept_agree}
 

@@ -1,15 +1,9 @@
 -- Two words whose kept symbols are the same add up to a word whose kept symbols are 0.
-use Rattle.std.proofs.Common.{◌≡◌, ℕ, zero, suc, ◌+◌, ◌-◌, ◌*◌, ◌<◌, Bool, true, false, not, ◌&&◌, ◌||◌, List, [], ◌∷◌, ◌++◌, length}
-use Rattle.std.proofs.Common.{get_or, drop, replicate, refl, sym, ap, ◌∙◌, arith}
-use Rattle.std.specs.Prelude.{filter, if◌then◌else◌}
-use Rattle.std.specs.List.{list_all, list_any}
-use Rattle.std.proofs.lemmas.Bool.{and_from, and_parts}
-use Rattle.std.proofs.lemmas.List.{drop_at, drop-drop}
-use Rattle.chip_core.specs.Bits.{xor}
-use Rattle.chip_core.proofs.BitLists.{add, length_add}
-use Rattle.conv_code.specs.ConvCode.{g0, g1, state_after, symbol}
-use Rattle.conv_code.proofs.Continued.{before, behind, length-state_after, pair, state_after-append, state_after-none}
-use Rattle.clean_link.specs.DistinctFrames.{is_hidden, is_kept, is_seen, stays_apart}
+use Rattle.clean_link.proofs.Common.{◌≡◌, ℕ, zero, suc, ◌+◌, ◌-◌, ◌*◌, ◌<◌, Bool, true, false, not, ◌&&◌, ◌||◌, List, [], ◌∷◌, ◌++◌, length}
+use Rattle.clean_link.proofs.Common.{get_or, drop, replicate, refl, sym, ap, ◌∙◌, arith, filter, if◌then◌else◌, list_all, list_any}
+use Rattle.clean_link.proofs.Common.{and_from, and_parts, drop_at, drop-drop, xor, add, length_add, g0, g1, state_after, symbol, before}
+use Rattle.clean_link.proofs.Common.{behind, length-state_after, pair, state_after-append, state_after-none, is_hidden, is_kept, is_seen}
+use Rattle.clean_link.proofs.Common.{stays_apart}
 
 -- ---- sums of words
 

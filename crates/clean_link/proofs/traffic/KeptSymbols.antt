@@ -1,17 +1,10 @@
 -- Symbols of two frames that agree where no power control bit replaces them.
-use Rattle.std.proofs.Common.{◌≡◌, ℕ, zero, suc, ◌+◌, ◌/◌, ◌<◌, Bool, true, false, ◌||◌, List, [], ◌∷◌, get_or, refl, sym, ap, ◌∙◌, arith}
-use Rattle.std.proofs.Common.{⊎_elim, nat_eq}
-use Rattle.std.specs.List.{list_all, list_any}
-use Rattle.std.proofs.lemmas.Bool.{cases_Bool, eq-eqb, eqb-true, not-true, or_cases, or_left, or_right}
-use Rattle.std.proofs.lemmas.List.Folds.{list_all_at, list_any-append}
-use Rattle.chip_core.specs.Bits.{places}
-use Rattle.chip_core.proofs.Places.{places-none, places-more, length-places, get_or-places, get_or-map-places}
-use Rattle.symbol_path.specs.SentOrder.{address, data_shape, place, sent, size}
+use Rattle.clean_link.proofs.Common.{◌≡◌, ℕ, zero, suc, ◌+◌, ◌/◌, ◌<◌, Bool, true, false, ◌||◌, List, [], ◌∷◌, get_or, refl, sym, ap, ◌∙◌}
+use Rattle.clean_link.proofs.Common.{arith, ⊎_elim, nat_eq, list_all, list_any, cases_Bool, eq-eqb, eqb-true, not-true, or_cases, or_left}
+use Rattle.clean_link.proofs.Common.{or_right, list_all_at, list_any-append, places, places-none, places-more, length-places, get_or-places}
+use Rattle.clean_link.proofs.Common.{get_or-map-places, address, data_shape, place, sent, size, address-place, place_lt, AgreeElsewhere}
+use Rattle.clean_link.proofs.Common.{is_replaced, is_kept, lost_symbols}
 use Rattle.symbol_path.specs.declared.kinds.Kind.TheVariants.{Data}
-use Rattle.symbol_path.proofs.Permutation.{address-place, place_lt}
-use Rattle.frame_decoder.specs.Laws.{AgreeElsewhere}
-use Rattle.frame_decoder.specs.TrafficFrames.{is_replaced}
-use Rattle.clean_link.specs.DistinctFrames.{is_kept, lost_symbols}
 
 -- what is true of all numbers below n
 pub at_each : (p : ℕ → Bool) (n j : ℕ) → list_all p (places n) ≡ true → j < n → p j ≡ true

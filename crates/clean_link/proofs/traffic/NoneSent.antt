@@ -1,23 +1,7 @@
 -- Where no message that is sent directs a handoff, none that is heard does.
-use Rattle.std.proofs.Common.{◌≡◌, ℕ, zero, suc, ◌+◌, ◌<◌, ◌≤◌, List, sym, arith, subst, inl, inr}
-use Rattle.std.specs.Prelude.{All}
-use Rattle.std.proofs.lemmas.Bool.{cases_lt}
-use Rattle.chip_core.specs.Bits.{places}
-use Rattle.chip_core.specs.declared.sample.Sample.{Sample}
-use Rattle.chip_core.specs.declared.width.Width.{Width}
-use Rattle.cell_plan.specs.Sampled.{made_samples}
-use Rattle.cell_plan.specs.declared.plan.CellPlan.{CellPlan}
-use Rattle.cell_plan.specs.declared.plan.TrafficPlan.{TrafficPlan}
-use Rattle.mobile_core.specs.Moments.{messages_at}
-use Rattle.mobile_core.specs.Signaling.{messages_by}
-use Rattle.mobile_core.specs.Tuning.{Tuning}
-use Rattle.mobile_core.specs.declared.legs.Leg.{Leg}
-use Rattle.mobile_core.specs.declared.mark.Mark.{Mark}
-use Rattle.chip_core.specs.declared.assignment.Traffic.{Traffic}
-use Rattle.clean_link.specs.CleanLink.{IsNotDirected}
-use Rattle.clean_link.specs.HeardFrames.{AreDistinct, SendsSetOne}
-use Rattle.clean_link.specs.HeardSignals.{messages_of_channel}
-use Rattle.clean_link.specs.TrafficLaws.{HearsTraffic, NoneIsDirected}
+use Rattle.clean_link.proofs.Common.{◌≡◌, ℕ, zero, suc, ◌+◌, ◌<◌, ◌≤◌, List, sym, arith, subst, inl, inr, All, cases_lt, places, Sample}
+use Rattle.clean_link.proofs.Common.{Width, made_samples, CellPlan, TrafficPlan, messages_at, messages_by, Tuning, Leg, Mark, Traffic}
+use Rattle.clean_link.proofs.Common.{IsNotDirected, AreDistinct, SendsSetOne, messages_of_channel, HearsTraffic, NoneIsDirected}
 use Rattle.clean_link.proofs.signal.Samples.{length-made}
 use Rattle.clean_link.proofs.traffic.Signaling.{messages_by_one}
 use Rattle.clean_link.proofs.traffic.Signs.{lawful_traffic}

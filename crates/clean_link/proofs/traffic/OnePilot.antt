@@ -1,34 +1,13 @@
 -- What is heard of a traffic channel's frames from the reference's pilot alone.
-use Rattle.std.proofs.Common.{◌≡◌, ℕ, ◌==◌, ◌&&◌, Bool, true, List, [], ◌∷◌, map, refl, sym, ap, ◌∙◌, arith, subst, ℤ, Option}
-use Rattle.std.specs.List.{flat_map}
-use Rattle.std.specs.Option.{option_to_list}
-use Rattle.std.proofs.lemmas.List.{append-nil}
-use Rattle.chip_core.specs.Bits.{places}
-use Rattle.chip_core.specs.declared.sample.Sample.{Sample}
-use Rattle.frame_decoder.specs.TrafficFrames.{command, decoded, group_sums}
-use Rattle.frame_decoder.specs.declared.traffic.Decoded.{Decoded}
-use Rattle.rake_finger.specs.Soft.{softs}
-use Rattle.rake_finger.specs.declared.finger.Finger.{Finger}
-use Rattle.rake_finger.specs.declared.form.Form.TheVariants.{Data}
-use Rattle.mobile_core.specs.Close.{AreClose}
-use Rattle.mobile_core.specs.Legs.{all_fingers, subchannels}
-use Rattle.mobile_core.specs.Signaling.{capsule_with, message_at, message_events, message_heard, messages_by, signal_at, signal_in}
-use Rattle.mobile_core.specs.Signaling.{signal_of, signals_before}
-use Rattle.mobile_core.specs.Streams.{frame_softs, is_in_file, known_at, known_now, Stream}
-use Rattle.mobile_core.specs.TrafficEvents.{all_sums, commands_at, decoded_at, frame_event, frame_heard, frames_by, subchannel_sums}
-use Rattle.mobile_core.specs.TrafficEvents.{unturned_by, unturned_softs}
-use Rattle.mobile_core.specs.TrafficStreams.{ends_now, frames_bound, frames_now, has_frame, replaced_in, stream_of, traffic_start}
-use Rattle.mobile_core.specs.TrafficStreams.{traffic_stream}
-use Rattle.mobile_core.specs.Tuning.{Tuning, fingers_of}
-use Rattle.mobile_core.specs.declared.event.Event.{Event}
-use Rattle.mobile_core.specs.declared.legs.Leg.{Leg}
-use Rattle.mobile_core.specs.declared.mark.Mark.{Mark}
-use Rattle.chip_core.specs.declared.assignment.Traffic.{Traffic}
-use Rattle.mobile_core.proofs.FrameBounds.{AreCloseAll}
-use Rattle.mobile_core.proofs.LegParts.{map_same}
-use Rattle.mobile_core.proofs.MarkStays.{pilot_alone}
-use Rattle.chip_core.proofs.Ranges.{filter_ext_places, flat_map_ext_filter, flat_map_ext_filter_places}
-use Rattle.clean_link.specs.HeardFrames.{IsOnePilot}
+use Rattle.clean_link.proofs.Common.{◌≡◌, ℕ, ◌==◌, ◌&&◌, Bool, true, List, [], ◌∷◌, map, refl, sym, ap, ◌∙◌, arith, subst, ℤ, Option}
+use Rattle.clean_link.proofs.Common.{flat_map, option_to_list, append-nil, places, Sample, command, decoded, group_sums, Decoded, softs}
+use Rattle.clean_link.proofs.Common.{Finger, Data, AreClose, all_fingers, subchannels, capsule_with, message_at, message_events}
+use Rattle.clean_link.proofs.Common.{message_heard, messages_by, signal_at, signal_in, signal_of, signals_before, frame_softs, is_in_file}
+use Rattle.clean_link.proofs.Common.{known_at, known_now, Stream, all_sums, commands_at, decoded_at, frame_event, frame_heard, frames_by}
+use Rattle.clean_link.proofs.Common.{subchannel_sums, unturned_by, unturned_softs, ends_now, frames_bound, frames_now, has_frame}
+use Rattle.clean_link.proofs.Common.{replaced_in, stream_of, traffic_start, traffic_stream, Tuning, fingers_of, Event, Leg, Mark, Traffic}
+use Rattle.clean_link.proofs.Common.{AreCloseAll, map_same, pilot_alone, filter_ext_places, flat_map_ext_filter, flat_map_ext_filter_places}
+use Rattle.clean_link.proofs.Common.{IsOnePilot}
 use Rattle.clean_link.proofs.frames.SyncTimes.{one_path}
 
 -- ---- one frame

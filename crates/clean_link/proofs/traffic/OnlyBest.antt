@@ -1,43 +1,19 @@
 -- The word of a distinct frame alone has the greatest score.
-use Rattle.std.proofs.Common.{◌≡◌, ℕ, ◌-◌, ◌*◌, ◌<◌, Bool, true, false, List, ◌++◌, length, get_or, drop, replicate, refl, sym, ap, ◌∙◌}
-use Rattle.std.proofs.Common.{arith, ⊎_elim, ℤ, pos, subst, length-append}
-use Rattle.std.specs.Prelude.{◌≤ℤ◌, ◌<ℤ◌, ◌*ℤ◌, if◌then◌else◌, int_lt}
-use Rattle.std.proofs.lemmas.Int.{ints}
-use Rattle.std.proofs.lemmas.Bool.{cases_Bool}
-use Rattle.std.proofs.lemmas.List.{drop_at, ext_get_or}
-use Rattle.chip_core.specs.Bits.{sign}
-use Rattle.conv_code.specs.ConvCode.{code_symbols}
-use Rattle.quality_bits.specs.Kinds.{quality_indicator}
-use Rattle.quality_bits.specs.TrafficWords.{information_of, quality_of, repeats_of, traffic_word}
-use Rattle.quality_bits.specs.declared.rate.Rate.{Rate}
-use Rattle.quality_bits.specs.declared.rate.Rate.TheVariants.{R9600, R4800, R2400, R1200}
-use Rattle.quality_bits.proofs.TrafficWords.{word_fills}
-use Rattle.symbol_path.specs.SentOrder.{data_shape}
-use Rattle.symbol_path.specs.FramesTwo as words_two
-use Rattle.symbol_path.specs.RatesTwo as rates_two
-use Rattle.symbol_path.specs.declared.rate_two.Rate2.{Rate2}
-use Rattle.symbol_path.proofs.Agreement.{length-sent}
-use Rattle.symbol_path.proofs.SentTwo.{length-sent2}
-use Rattle.symbol_path.proofs.WordsTwo.{length-word_bits}
-use Rattle.viterbi.specs.Best.{IsAllowed}
-use Rattle.viterbi.specs.Words.{Word, correlation}
-use Rattle.viterbi.specs.declared.word.Ends.TheVariants.{Zero}
-use Rattle.frame_decoder.specs.Laws.{frame_word, AgreeElsewhere, IsUnshared, ShowSymbols}
-use Rattle.frame_decoder.specs.TrafficFrames.{frame_bits, frame_symbols, is_replaced, unreplaced}
-use Rattle.frame_decoder.proofs.MaskedScores.{alone, get_or-masked, length-masked, masked, own_score, weight}
-use Rattle.frame_decoder.proofs.Unreplaced.{get_or-unreplaced, length-unreplaced}
-use Rattle.rate_set_two.specs.Laws as laws_two
-use Rattle.rate_set_two.specs.TrafficFrames as second
-use Rattle.rake_finger.specs.declared.form.Form.TheVariants.{Data}
-use Rattle.cell_plan.specs.Sampled.{made_samples}
-use Rattle.mobile_core.specs.Streams.{frame_softs}
-use Rattle.mobile_core.specs.TrafficStreams.{replaced_in, stream_of}
-use Rattle.clean_link.specs.CleanLink.{soft_strength}
-use Rattle.clean_link.specs.HeardFrames.{replaced_of}
-use Rattle.clean_link.specs.OnlyBestFrames.{HeardAreTheOnlyBest, IsOnlyBestFrame, IsOnlyBestFrame2, ReceivedAreTheOnlyBest}
-use Rattle.clean_link.specs.OnlyBestFrames.{SetTwoAreTheOnlyBest}
+use Rattle.clean_link.proofs.Common.{◌≡◌, ℕ, ◌-◌, ◌*◌, ◌<◌, Bool, true, false, List, ◌++◌, length, get_or, drop, replicate, refl, sym, ap}
+use Rattle.clean_link.proofs.Common.{◌∙◌, arith, ⊎_elim, ℤ, pos, subst, length-append, ◌≤ℤ◌, ◌<ℤ◌, ◌*ℤ◌, if◌then◌else◌, int_lt, ints}
+use Rattle.clean_link.proofs.Common.{cases_Bool, drop_at, ext_get_or, sign, code_symbols, quality_indicator, information_of, quality_of}
+use Rattle.clean_link.proofs.Common.{repeats_of, traffic_word, Rate, R9600, R4800, R2400, R1200, word_fills, data_shape, Rate2, length-sent}
+use Rattle.clean_link.proofs.Common.{length-sent2, length-word_bits, IsAllowed, Word, correlation, Zero, frame_word, AgreeElsewhere}
+use Rattle.clean_link.proofs.Common.{IsUnshared, ShowSymbols, frame_bits, frame_symbols, is_replaced, unreplaced, alone, get_or-masked}
+use Rattle.clean_link.proofs.Common.{length-masked, masked, own_score, weight, get_or-unreplaced, length-unreplaced, Data, made_samples}
+use Rattle.clean_link.proofs.Common.{frame_softs, replaced_in, stream_of, soft_strength, replaced_of, HeardAreTheOnlyBest, IsOnlyBestFrame}
+use Rattle.clean_link.proofs.Common.{IsOnlyBestFrame2, ReceivedAreTheOnlyBest, SetTwoAreTheOnlyBest}
 use Rattle.clean_link.proofs.traffic.Frames.{sized}
 use Rattle.clean_link.proofs.traffic.Signs.{heard_shown}
+use Rattle.symbol_path.specs.FramesTwo as words_two
+use Rattle.symbol_path.specs.RatesTwo as rates_two
+use Rattle.rate_set_two.specs.Laws as laws_two
+use Rattle.rate_set_two.specs.TrafficFrames as second
 
 -- ---- any symbols
 

@@ -1,15 +1,11 @@
 -- The places of a frame's power control bits, chip by chip from a group before the frame on, so that
 -- the checker computes them.
-use Rattle.std.proofs.Common.{◌≡◌, ℕ, zero, suc, ◌+◌, ◌*◌, ◌^◌, ◌<◌, Bool, false, List, [], ◌∷◌, get_or, sym, ap, ◌∙◌, arith}
-use Rattle.std.specs.List.{flat_map}
-use Rattle.chip_core.specs.Bits.{binary, common_parity, digit, places}
-use Rattle.chip_core.proofs.Places.{get_or-map-places}
-use Rattle.chip_core.proofs.Ranges.{flat_map_ext_places}
-use Rattle.long_code.specs.LongCode.{after, before, long_chip}
-use Rattle.long_code.proofs.After.{after-after, after_lt, after_none, after_one, stepped}
-use Rattle.long_code.proofs.Before.{after-before, before_lt}
-use Rattle.long_code.proofs.Period.{after-injective}
-use Rattle.symbol_path.specs.Scrambling.{group_scrambling, power_place, power_places, power_start, symbol_chips}
+use Rattle.clean_link.proofs.Common.{◌≡◌, ℕ, zero, suc, ◌+◌, ◌*◌, ◌^◌, ◌<◌, Bool, false, List, [], ◌∷◌, get_or, sym, ap, ◌∙◌, arith}
+use Rattle.clean_link.proofs.Common.{flat_map, binary, common_parity, digit, places, get_or-map-places, flat_map_ext_places, after}
+use Rattle.clean_link.proofs.Common.{long_chip, after-after, after_lt, after_none, after_one, stepped, after-before, before_lt}
+use Rattle.clean_link.proofs.Common.{after-injective, group_scrambling, power_place, power_places, power_start}
+use Rattle.long_code.specs.LongCode.{before}
+use Rattle.symbol_path.specs.Scrambling.{symbol_chips}
 
 -- ---- states
 

@@ -1,39 +1,15 @@
 -- The frames of a traffic channel, as they are received of the reference base station alone.
-use Rattle.std.proofs.Common.{◌≡◌, ℕ, ◌+◌, ◌-◌, ◌*◌, ◌%◌, ◌≤◌, ◌&&◌, Bool, true, List, [], ◌∷◌, length, map, filter, refl, sym, ap, ◌∙◌}
-use Rattle.std.proofs.Common.{arith, subst, nat_le, inl, inr, Option, Some}
-use Rattle.std.specs.List.{Contains}
-use Rattle.std.proofs.lemmas.Bool.{and_from, cases_Bool, cases_lt, le-leb}
-use Rattle.chip_core.specs.Bits.{places}
-use Rattle.chip_core.specs.declared.sample.Sample.{Sample}
-use Rattle.chip_core.proofs.Ranges.{filter_ext_places, flat_map_ext_filter_places}
-use Rattle.chip_core.specs.declared.width.Width.{Width}
-use Rattle.long_code.specs.LongCode.{traffic_mask}
-use Rattle.rake_finger.specs.declared.form.Form.TheVariants.{Data}
-use Rattle.rate_set_two.proofs.SentFrames as second
-use Rattle.cell_plan.specs.Sampled.{made_samples}
-use Rattle.cell_plan.specs.Signal.{frames_of}
-use Rattle.cell_plan.specs.TrafficFrames.{frame_state, set_two, IsTrafficFrame2}
-use Rattle.cell_plan.specs.declared.plan.CellPlan.{CellPlan}
-use Rattle.cell_plan.specs.declared.plan.TrafficPlan.{TrafficPlan}
-use Rattle.cell_plan.specs.declared.traffic_frame2.TrafficFrame2.{TrafficFrame2}
-use Rattle.mobile_core.specs.FramesAlone.{traffic_channel}
-use Rattle.mobile_core.specs.Marks.{mark}
-use Rattle.mobile_core.specs.SoftFrames.{frames_within, soft_frame, soft_frames, unturned_at}
-use Rattle.mobile_core.specs.Streams.{is_in_file, known_at, known_by, Stream}
-use Rattle.mobile_core.specs.TrafficStreams as heard
-use Rattle.mobile_core.specs.TrafficStreams.{frames_bound, replaced_in}
-use Rattle.mobile_core.specs.Tuning.{Tuning}
-use Rattle.mobile_core.specs.declared.mark.Mark.{Mark}
-use Rattle.chip_core.specs.declared.assignment.Traffic.{Traffic}
-use Rattle.mobile_core.specs.declared.soft_frame.PowerControl.{PowerControl}
-use Rattle.mobile_core.specs.declared.soft_frame.SoftFrame.{SoftFrame}
-use Rattle.clean_link.specs.CleanLink.{soft_strength, IsOnPath}
-use Rattle.cell_plan.specs.Stated.{IsReceivable}
-use Rattle.clean_link.specs.HeardFrames.{is_received, received_frames, replaced_of, sent_bits, IsAssigned, SendsSetTwo, SendsSymbols}
-use Rattle.clean_link.specs.HeardFrames.{ShowFrame}
-use Rattle.clean_link.specs.ReceivedFrames.{cycled_frame2, word_symbols2, AreReceived, IsReceivedAs, IsSentFrame2}
-use Rattle.clean_link.specs.ReceivedLaws.{EachFrameIsReceived, FramesBehindMark, FramesShowSymbols, SetTwoBehindMark, SetTwoFramesComeBack}
-use Rattle.clean_link.specs.TrafficLaws.{HearsTraffic}
+use Rattle.clean_link.proofs.Common.{◌≡◌, ℕ, ◌+◌, ◌-◌, ◌*◌, ◌%◌, ◌≤◌, ◌&&◌, Bool, true, List, [], ◌∷◌, length, map, filter, refl, sym, ap}
+use Rattle.clean_link.proofs.Common.{◌∙◌, arith, subst, nat_le, inl, inr, Option, Some, Contains, and_from, cases_Bool, cases_lt, le-leb}
+use Rattle.clean_link.proofs.Common.{places, Sample, filter_ext_places, flat_map_ext_filter_places, Width, traffic_mask, Data, made_samples}
+use Rattle.clean_link.proofs.Common.{frames_of, set_two, IsTrafficFrame2, CellPlan, TrafficPlan, TrafficFrame2, traffic_channel, mark}
+use Rattle.clean_link.proofs.Common.{frames_within, soft_frame, soft_frames, unturned_at, is_in_file, known_at, known_by, Stream}
+use Rattle.clean_link.proofs.Common.{frames_bound, replaced_in, Tuning, Mark, Traffic, PowerControl, SoftFrame, soft_strength, IsOnPath}
+use Rattle.clean_link.proofs.Common.{IsReceivable, is_received, received_frames, replaced_of, sent_bits, IsAssigned, SendsSetTwo}
+use Rattle.clean_link.proofs.Common.{SendsSymbols, ShowFrame, cycled_frame2, word_symbols2, AreReceived, IsReceivedAs, IsSentFrame2}
+use Rattle.clean_link.proofs.Common.{EachFrameIsReceived, FramesBehindMark, FramesShowSymbols, SetTwoBehindMark, SetTwoFramesComeBack}
+use Rattle.clean_link.proofs.Common.{HearsTraffic}
+use Rattle.cell_plan.specs.TrafficFrames.{frame_state}
 use Rattle.clean_link.proofs.marks.MarksTrue.{marks_true}
 use Rattle.clean_link.proofs.signal.Samples.{length-made}
 use Rattle.clean_link.proofs.traffic.Back.{told_behind_mark}
@@ -42,6 +18,8 @@ use Rattle.clean_link.proofs.traffic.Frames.{by_marks_frames, early, known_is, o
 use Rattle.clean_link.proofs.traffic.OnePilot.{one_stream}
 use Rattle.clean_link.proofs.traffic.Signs.{frame_shown, lawful_traffic, set_two_sends}
 use Rattle.clean_link.proofs.traffic.Times.{traffic_file_to, traffic_known_is}
+use Rattle.rate_set_two.proofs.SentFrames as second
+use Rattle.mobile_core.specs.TrafficStreams as heard
 
 -- ---- behind a true mark
 

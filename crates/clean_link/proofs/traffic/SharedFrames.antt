@@ -1,33 +1,16 @@
 -- Frames of both rate sets are distinct where no other word shares their symbols.
-use Rattle.std.proofs.Common.{◌≡◌, ℕ, ◌+◌, ◌-◌, ◌*◌, ◌/◌, ◌<◌, ◌≤◌, ◌⊎◌, Bool, true, false, not, List, [], ◌∷◌, ◌++◌, length, get_or, drop}
-use Rattle.std.proofs.Common.{replicate, refl, sym, ap, ◌∙◌, arith, subst, ⊎_elim, inl, inr, nat_eq}
-use Rattle.std.specs.Prelude.{◌≢◌}
-use Rattle.std.specs.List.{list_any}
-use Rattle.std.proofs.lemmas.Bool.{and_parts, cases_Bool, eq-eqb, eqb-true, not-true, or_cases, or_left, or_right}
-use Rattle.std.proofs.lemmas.List.{drop_at, drop-drop}
-use Rattle.conv_code.specs.ConvCode.{code_symbols, state_after}
-use Rattle.quality_bits.specs.TrafficWords.{repeats_of, traffic_word}
-use Rattle.quality_bits.specs.declared.rate.Rate.{Rate}
-use Rattle.quality_bits.specs.declared.rate.Rate.TheVariants.{R9600, R4800, R2400, R1200}
-use Rattle.symbol_path.specs.SentOrder.{data_shape, sent}
-use Rattle.symbol_path.specs.FramesTwo.{word_bits}
-use Rattle.symbol_path.specs.RatesTwo as rates_two
-use Rattle.symbol_path.specs.SentOrderTwo.{is_dropped, repeated_symbol, sent2}
-use Rattle.symbol_path.specs.declared.rate_two.Rate2.{Rate2}
-use Rattle.symbol_path.specs.declared.rate_two.Rate2.TheVariants.{R14400, R7200, R3600, R1800}
-use Rattle.symbol_path.proofs.SentOnceTwo.{kept_once}
-use Rattle.symbol_path.proofs.SentTwo.{get_or-sent2}
-use Rattle.viterbi.specs.Best.{IsAllowed}
-use Rattle.viterbi.specs.Words.{Word}
-use Rattle.viterbi.specs.declared.word.Ends.TheVariants.{Zero}
-use Rattle.viterbi.proofs.Choices.{words_same}
-use Rattle.frame_decoder.specs.Laws.{frame_word, AgreeElsewhere}
-use Rattle.frame_decoder.specs.TrafficFrames.{frame_bits, frame_symbols, is_replaced}
-use Rattle.rate_set_two.specs.TrafficFrames as frames_two
-use Rattle.clean_link.specs.DistinctFrames.{is_kept, lost_symbols}
-use Rattle.clean_link.specs.SharedWords.{is_known2, lost_symbols2, shown_of, words_giving, AreDistinctBySharing, AreDistinctBySharing2}
+use Rattle.clean_link.proofs.Common.{◌≡◌, ℕ, ◌+◌, ◌-◌, ◌*◌, ◌/◌, ◌<◌, ◌≤◌, ◌⊎◌, Bool, true, false, not, List, [], ◌∷◌, ◌++◌, length, get_or}
+use Rattle.clean_link.proofs.Common.{drop, replicate, refl, sym, ap, ◌∙◌, arith, subst, ⊎_elim, inl, inr, nat_eq, ◌≢◌, list_any, and_parts}
+use Rattle.clean_link.proofs.Common.{cases_Bool, eq-eqb, eqb-true, not-true, or_cases, or_left, or_right, drop_at, drop-drop, code_symbols}
+use Rattle.clean_link.proofs.Common.{state_after, repeats_of, traffic_word, Rate, R9600, R4800, R2400, R1200, data_shape, sent, word_bits}
+use Rattle.clean_link.proofs.Common.{is_dropped, repeated_symbol, sent2, Rate2, R14400, R7200, R3600, R1800, kept_once, get_or-sent2}
+use Rattle.clean_link.proofs.Common.{IsAllowed, Word, Zero, words_same, frame_word, AgreeElsewhere, frame_bits, frame_symbols, is_replaced}
+use Rattle.clean_link.proofs.Common.{is_kept, lost_symbols, is_known2, lost_symbols2, shown_of, words_giving, AreDistinctBySharing}
+use Rattle.clean_link.proofs.Common.{AreDistinctBySharing2}
 use Rattle.clean_link.proofs.traffic.KeptSymbols.{kept_agree}
 use Rattle.clean_link.proofs.traffic.SharedWords.{agreeing_give, given_none, given_one, AreGiving}
+use Rattle.symbol_path.specs.RatesTwo as rates_two
+use Rattle.rate_set_two.specs.TrafficFrames as frames_two
 
 -- ---- words that end in zeros
 

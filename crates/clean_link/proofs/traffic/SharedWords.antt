@@ -1,17 +1,9 @@
 -- A frame is distinct where no other word shares its symbols.
-use Rattle.std.proofs.Common.{◌≡◌, ℕ, zero, suc, ◌+◌, ◌*◌, ◌/◌, ◌<◌, ◌≤◌, Bool, true, false, not, ◌&&◌, ◌||◌, List, [], ◌∷◌, ◌++◌, length}
-use Rattle.std.proofs.Common.{get_or, map, drop, replicate, refl, sym, ap, ◌∙◌, arith}
-use Rattle.std.specs.Prelude.{filter, if◌then◌else◌}
-use Rattle.std.specs.List.{flat_map, list_all, list_any, range_with_len}
-use Rattle.std.specs.Cmp.{booleans_Decides}
-use Rattle.std.specs.Cmp.Lexicographic.{pointwise, pointwise_decides}
-use Rattle.std.proofs.Math.Bool.{beq}
-use Rattle.std.proofs.lemmas.Bool.{and_from, and_parts}
-use Rattle.std.proofs.lemmas.List.Folds.{list_all-append, list_all-map}
-use Rattle.conv_code.specs.ConvCode.{code_symbols, g0, g1, state_after, symbol}
-use Rattle.conv_code.proofs.Continued.{before, behind, pair, state_after-append, state_after-none}
-use Rattle.conv_code.proofs.Pairs.{symbols_at}
-use Rattle.clean_link.specs.SharedWords.{gives, words_giving}
+use Rattle.clean_link.proofs.Common.{◌≡◌, ℕ, zero, suc, ◌+◌, ◌*◌, ◌/◌, ◌<◌, ◌≤◌, Bool, true, false, not, ◌&&◌, ◌||◌, List, [], ◌∷◌, ◌++◌}
+use Rattle.clean_link.proofs.Common.{length, get_or, map, drop, replicate, refl, sym, ap, ◌∙◌, arith, filter, if◌then◌else◌, flat_map}
+use Rattle.clean_link.proofs.Common.{list_all, list_any, range_with_len, booleans_Decides, pointwise, pointwise_decides, beq, and_from}
+use Rattle.clean_link.proofs.Common.{and_parts, list_all-append, list_all-map, code_symbols, g0, g1, state_after, symbol, before, behind}
+use Rattle.clean_link.proofs.Common.{pair, state_after-append, state_after-none, symbols_at, gives, words_giving}
 use Rattle.clean_link.proofs.traffic.HiddenWords.{all_kept, first_of, left_over, next_long, second_of}
 
 -- ---- words that give what is shown

@@ -1,33 +1,13 @@
 -- The messages of a traffic channel come back: where each received frame is distinct, the signaling
 -- that is heard is what was sent, and so are the capsules that it spells.
-use Rattle.std.proofs.Common.{◌≡◌, ℕ, ◌+◌, ◌*◌, ◌≤◌, Bool, true, List, [], ◌∷◌, sym, ap, ◌∙◌, arith, Option}
-use Rattle.std.specs.List.{flat_map}
-use Rattle.std.specs.Option.{option_to_list}
-use Rattle.std.proofs.lemmas.List.{append-nil}
-use Rattle.chip_core.specs.Bits.{places}
-use Rattle.chip_core.specs.declared.check_form.CheckForm.{CheckForm}
-use Rattle.chip_core.specs.declared.sample.Sample.{Sample}
-use Rattle.chip_core.specs.declared.width.Width.{Width}
-use Rattle.cell_plan.specs.Sampled.{made_samples}
-use Rattle.cell_plan.specs.Signal.{frames_of}
-use Rattle.cell_plan.specs.TrafficFrames.{cycled_frame}
-use Rattle.cell_plan.specs.declared.plan.CellPlan.{CellPlan}
-use Rattle.cell_plan.specs.declared.plan.TrafficPlan.{TrafficPlan}
-use Rattle.cell_plan.specs.declared.traffic_frame.TrafficFrame.{TrafficFrame}
-use Rattle.mobile_core.specs.Moments.{messages_at}
-use Rattle.mobile_core.specs.Signaling.{capsule_with, message_at, message_events, message_heard, messages_by, signal_at, signal_in}
-use Rattle.mobile_core.specs.Signaling.{signal_of, signals_before}
-use Rattle.mobile_core.specs.Streams.{is_in_file, known_at, known_now, Stream}
-use Rattle.mobile_core.specs.TrafficStreams.{frames_bound, has_frame}
-use Rattle.mobile_core.specs.Tuning.{Tuning}
-use Rattle.mobile_core.specs.declared.event.Event.{Event}
-use Rattle.mobile_core.specs.declared.legs.Leg.{Leg}
-use Rattle.mobile_core.specs.declared.mark.Mark.{Mark}
-use Rattle.chip_core.specs.declared.assignment.Traffic.{Traffic}
-use Rattle.chip_core.proofs.Ranges.{filter_ext_places, flat_map_ext_filter_places, flat_map_ext_places}
-use Rattle.clean_link.specs.HeardFrames.{frame_ends, AreDistinct, IsOnePilot, SendsSetOne}
-use Rattle.clean_link.specs.HeardSignals.{message_told, messages_of_channel, signal_sent, signals_in, signals_received}
-use Rattle.clean_link.specs.TrafficLaws.{HearsTraffic, IsHeardAs, IsUndirected, SentMessagesComeBack}
+use Rattle.clean_link.proofs.Common.{◌≡◌, ℕ, ◌+◌, ◌*◌, ◌≤◌, Bool, true, List, [], ◌∷◌, sym, ap, ◌∙◌, arith, Option, flat_map}
+use Rattle.clean_link.proofs.Common.{option_to_list, append-nil, places, CheckForm, Sample, Width, made_samples, frames_of, cycled_frame}
+use Rattle.clean_link.proofs.Common.{CellPlan, TrafficPlan, TrafficFrame, messages_at, capsule_with, message_at, message_events}
+use Rattle.clean_link.proofs.Common.{message_heard, messages_by, signal_at, signal_in, signal_of, signals_before, is_in_file, known_at}
+use Rattle.clean_link.proofs.Common.{known_now, Stream, frames_bound, has_frame, Tuning, Event, Leg, Mark, Traffic, filter_ext_places}
+use Rattle.clean_link.proofs.Common.{flat_map_ext_filter_places, flat_map_ext_places, frame_ends, AreDistinct, IsOnePilot, SendsSetOne}
+use Rattle.clean_link.proofs.Common.{message_told, messages_of_channel, signal_sent, signals_in, signals_received, HearsTraffic, IsHeardAs}
+use Rattle.clean_link.proofs.Common.{IsUndirected, SentMessagesComeBack}
 use Rattle.clean_link.proofs.pages.InOrder.{given_in_order}
 use Rattle.clean_link.proofs.traffic.Frames.{bound_enough, by_marks_frames, by_marks_numbers, distinct_there, frame_back, frame_there}
 use Rattle.clean_link.proofs.traffic.Frames.{heard_there, known_is}

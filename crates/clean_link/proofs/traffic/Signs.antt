@@ -1,49 +1,14 @@
 -- The soft values of the frames of a traffic channel have the signs that were sent.
-use Rattle.std.proofs.Common.{◌≡◌, ℕ, zero, suc, ◌+◌, ◌*◌, ◌%◌, Bool, true, false, List, [], ◌∷◌, length, take, drop, refl, sym, ap, ◌∙◌}
-use Rattle.std.proofs.Common.{arith, subst, ℤ, replicate}
-use Rattle.std.specs.Prelude.{◌*ℤ◌}
-use Rattle.std.specs.List.{Contains, flat_map}
-use Rattle.std.proofs.lemmas.List.{append-nil}
-use Rattle.std.proofs.lemmas.List.Elements.{All-contains}
-use Rattle.chip_core.specs.Bits.{sign, xor, zip_with}
-use Rattle.chip_core.specs.declared.width.Width.{Width}
-use Rattle.long_code.specs.LongCode.{after, traffic_mask}
-use Rattle.conv_code.specs.ConvCode.{code_symbols}
-use Rattle.symbol_path.specs.Scrambling.{scrambling, with_commands}
-use Rattle.symbol_path.specs.SentOrder.{data_shape}
-use Rattle.quality_bits.specs.TrafficWords.{repeats_of, traffic_word}
-use Rattle.symbol_path.proofs.Agreement.{length-sent}
-use Rattle.rake_finger.specs.Soft.{softs}
-use Rattle.rake_finger.specs.declared.finger.Finger.{Finger}
-use Rattle.rake_finger.specs.declared.form.Form.TheVariants.{Data}
-use Rattle.viterbi.specs.Laws.{signed}
-use Rattle.frame_decoder.specs.Laws.{ShowSymbols}
-use Rattle.symbol_path.specs.FramesTwo as second
-use Rattle.symbol_path.proofs.SentTwo.{length-sent2}
-use Rattle.cell_plan.specs.PageCycles as cycles
-use Rattle.cell_plan.specs.Plan.{IsLawfulPlan, IsTrafficPlan}
-use Rattle.cell_plan.specs.Sampled.{made_samples}
-use Rattle.cell_plan.specs.Signal.{frames_of, traffic_carrier}
-use Rattle.cell_plan.specs.TrafficFrames as sends
-use Rattle.cell_plan.specs.declared.plan.CellPlan.{CellPlan}
-use Rattle.cell_plan.specs.declared.plan.TrafficPlan.{TrafficPlan}
-use Rattle.cell_plan.specs.declared.frame_list.FrameList.{FrameList}
-use Rattle.cell_plan.specs.declared.frame_list.FrameList.TheVariants.{SetOne, SetTwo}
-use Rattle.cell_plan.specs.declared.traffic_frame.TrafficFrame.{TrafficFrame}
-use Rattle.cell_plan.specs.declared.traffic_frame2.TrafficFrame2.{TrafficFrame2}
-use Rattle.mobile_core.specs.Scrambled.{turned, unscrambled}
-use Rattle.mobile_core.specs.Streams.{frame_softs, frame_start, is_in_file, Stream}
-use Rattle.mobile_core.specs.TrafficEvents.{unturned_softs}
-use Rattle.mobile_core.specs.TrafficStreams.{frame_state, replaced_in, stream_of, traffic_start, traffic_stream}
-use Rattle.mobile_core.specs.Tuning.{Tuning, fingers_of}
-use Rattle.mobile_core.specs.declared.legs.Leg.{Leg}
-use Rattle.mobile_core.specs.declared.mark.Mark.{Mark}
-use Rattle.chip_core.specs.declared.assignment.Traffic.{Traffic}
-use Rattle.clean_link.specs.CleanLink.{IsTrueMark, soft_strength}
-use Rattle.clean_link.specs.HeardFrames.{word_symbols, IsAssigned, SendsSymbols, ShowCommands, ShowFrame}
-use Rattle.clean_link.specs.Signals.{IsFrameOf, path_finger}
-use Rattle.clean_link.specs.ReceivedLaws.{SetOneSends, SetTwoSends}
-use Rattle.clean_link.specs.TrafficLaws.{HearsTraffic, IsHeardAs, TrafficHaveSentSigns}
+use Rattle.clean_link.proofs.Common.{◌≡◌, ℕ, zero, suc, ◌+◌, ◌*◌, ◌%◌, Bool, true, false, List, [], ◌∷◌, length, take, drop, refl, sym, ap}
+use Rattle.clean_link.proofs.Common.{◌∙◌, arith, subst, ℤ, replicate, ◌*ℤ◌, Contains, flat_map, append-nil, All-contains, sign, xor}
+use Rattle.clean_link.proofs.Common.{zip_with, Width, after, traffic_mask, code_symbols, scrambling, with_commands, data_shape, repeats_of}
+use Rattle.clean_link.proofs.Common.{traffic_word, length-sent, softs, Finger, Data, signed, ShowSymbols, length-sent2, IsLawfulPlan}
+use Rattle.clean_link.proofs.Common.{IsTrafficPlan, made_samples, frames_of, traffic_carrier, CellPlan, TrafficPlan, FrameList, SetOne}
+use Rattle.clean_link.proofs.Common.{SetTwo, TrafficFrame, TrafficFrame2, turned, unscrambled, frame_softs, frame_start, is_in_file, Stream}
+use Rattle.clean_link.proofs.Common.{unturned_softs, frame_state, replaced_in, stream_of, traffic_start, traffic_stream, Tuning, fingers_of}
+use Rattle.clean_link.proofs.Common.{Leg, Mark, Traffic, IsTrueMark, soft_strength, word_symbols, IsAssigned, SendsSymbols, ShowCommands}
+use Rattle.clean_link.proofs.Common.{ShowFrame, IsFrameOf, path_finger, SetOneSends, SetTwoSends, HearsTraffic, IsHeardAs}
+use Rattle.clean_link.proofs.Common.{TrafficHaveSentSigns}
 use Rattle.clean_link.proofs.signal.CarriersApart.{traffic_sent}
 use Rattle.clean_link.proofs.signal.ChannelsBack.{channel_signs, strength_some}
 use Rattle.clean_link.proofs.traffic.OnePilot.{one_fingers, one_stream, one_stream_is}
@@ -52,6 +17,9 @@ use Rattle.clean_link.proofs.traffic.Symbols.{turned_some}
 use Rattle.clean_link.proofs.frames.PagingFrames.{length-scrambling}
 use Rattle.clean_link.proofs.frames.SyncFrames.{fingers_are}
 use Rattle.clean_link.proofs.traffic.Times.{traffic_file_to}
+use Rattle.symbol_path.specs.FramesTwo as second
+use Rattle.cell_plan.specs.PageCycles as cycles
+use Rattle.cell_plan.specs.TrafficFrames as sends
 
 -- ---- what a frame sends
 

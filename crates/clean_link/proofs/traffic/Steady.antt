@@ -1,44 +1,18 @@
 -- Where no message directs a handoff, the reference's pilot stays the only active one.
-use Rattle.std.proofs.Common.{◌≡◌, ℕ, zero, suc, ◌+◌, ◌<◌, ◌≤◌, ◌==◌, Bool, true, false, List, [], ◌∷◌, ◌++◌, map, take, refl, sym, ap, ◌∙◌}
-use Rattle.std.proofs.Common.{arith, subst, inl, inr, Option, None, Some, get_or, pos}
-use Rattle.std.specs.Prelude.{if◌then◌else◌, All}
-use Rattle.std.specs.List.{flat_map, range_with_len}
-use Rattle.std.proofs.lemmas.Bool.{cases_lt, eq-eqb}
-use Rattle.std.proofs.lemmas.List.{take-take}
-use Rattle.std.proofs.lemmas.List.Elements.{All-append, All-cons, All-head, All-map, All-nil, All-same, All-tail}
-use Rattle.chip_core.specs.Bits.{places}
-use Rattle.chip_core.specs.declared.sample.Sample.{Sample}
-use Rattle.paging_message.specs.declared.message.PagingMessage.{PagingMessage}
+use Rattle.clean_link.proofs.Common.{◌≡◌, ℕ, zero, suc, ◌+◌, ◌<◌, ◌≤◌, ◌==◌, Bool, true, false, List, [], ◌∷◌, ◌++◌, map, take, refl, sym}
+use Rattle.clean_link.proofs.Common.{ap, ◌∙◌, arith, subst, inl, inr, Option, None, Some, get_or, pos, if◌then◌else◌, All, flat_map}
+use Rattle.clean_link.proofs.Common.{range_with_len, cases_lt, eq-eqb, take-take, All-append, All-cons, All-head, All-map, All-nil}
+use Rattle.clean_link.proofs.Common.{All-same, All-tail, places, Sample, PagingMessage, TrafficBody, active_timed, energy_in, Standing}
+use Rattle.clean_link.proofs.Common.{due_at, due_for, new_standing, shown, shown_active, with_neighbors, with_thresholds, Active, Accepted}
+use Rattle.clean_link.proofs.Common.{ActivePilot, Strength, Thresholds, legs_of, leg_of, pilot_finger, heard_from, kept_to, legs_at}
+use Rattle.clean_link.proofs.Common.{legs_by, messages_at, moment_of, moment_place, moments_before, passed, told_by, all_noted, body_noted}
+use Rattle.clean_link.proofs.Common.{in_traffic_thresholds, noted, noted_with, page_noted, system_thresholds, page_event, pages_behind}
+use Rattle.clean_link.proofs.Common.{messages_by, frame_heard, frames_by, frames_now, Tuning, Event, Leg, Mark, Traffic, kept_new, kept_old}
+use Rattle.clean_link.proofs.Common.{IsNoDirection, IsNotDirected, IsOnePilot, ReadPage, OnePilotIsHeard}
+use Rattle.pilot_sets.specs.Standing.{stepped}
 use Rattle.paging_message.specs.declared.message.PagingMessage.TheVariants as pages
-use Rattle.traffic_message.specs.declared.body.TrafficBody.{TrafficBody}
 use Rattle.traffic_message.specs.declared.body.TrafficBody.TheVariants as bodies
-use Rattle.pilot_sets.specs.Moments.{active_timed, energy_in}
-use Rattle.pilot_sets.specs.Standing.{Standing, due_at, due_for, new_standing, shown, shown_active, stepped, with_neighbors}
-use Rattle.pilot_sets.specs.Standing.{with_thresholds}
-use Rattle.pilot_sets.specs.declared.lists.Active.{Active}
-use Rattle.pilot_sets.specs.declared.standing.Accepted.{Accepted}
-use Rattle.pilot_sets.specs.declared.standing.ActivePilot.{ActivePilot}
-use Rattle.pilot_sets.specs.declared.strengths.Strength.{Strength}
-use Rattle.pilot_sets.specs.declared.thresholds.Thresholds.{Thresholds}
-use Rattle.mobile_core.specs.Legs.{legs_of, leg_of, pilot_finger}
-use Rattle.mobile_core.specs.Moments.{heard_from, kept_to, legs_at, legs_by, messages_at, moment_of, moment_place, moments_before, passed}
-use Rattle.mobile_core.specs.Moments.{told_by}
-use Rattle.mobile_core.specs.Noted.{all_noted, body_noted, in_traffic_thresholds, noted, noted_with, page_noted, system_thresholds}
-use Rattle.mobile_core.specs.PagingEvents.{page_event, pages_behind}
-use Rattle.mobile_core.specs.Signaling.{messages_by}
-use Rattle.mobile_core.specs.TrafficEvents.{frame_heard, frames_by}
-use Rattle.mobile_core.specs.TrafficStreams.{frames_now}
-use Rattle.mobile_core.specs.Tuning.{Tuning}
-use Rattle.mobile_core.specs.declared.event.Event.{Event}
 use Rattle.mobile_core.specs.declared.event.Event.TheVariants as kinds
-use Rattle.mobile_core.specs.declared.legs.Leg.{Leg}
-use Rattle.mobile_core.specs.declared.mark.Mark.{Mark}
-use Rattle.chip_core.specs.declared.assignment.Traffic.{Traffic}
-use Rattle.mobile_core.proofs.MomentGrowth.{kept_new, kept_old}
-use Rattle.clean_link.specs.CleanLink.{IsNoDirection, IsNotDirected}
-use Rattle.clean_link.specs.HeardFrames.{IsOnePilot}
-use Rattle.clean_link.specs.HeardPages.{ReadPage}
-use Rattle.clean_link.specs.TrafficLaws.{OnePilotIsHeard}
 
 -- ---- lists
 

@@ -1,17 +1,8 @@
 -- The symbols of a traffic frame, place by place: its own, or its power control bits.
-use Rattle.std.proofs.Common.{◌≡◌, ℕ, zero, suc, ◌/◌, ◌<◌, Bool, true, false, List, [], ◌∷◌, length, get_or, nat_eq, refl, sym, ap, ◌∙◌}
-use Rattle.std.proofs.Common.{arith, ⊎_elim, ◌⊎◌, ℤ, pos}
-use Rattle.std.specs.Prelude.{◌*ℤ◌}
-use Rattle.std.specs.List.{list_any}
-use Rattle.std.proofs.lemmas.Bool.{cases_order, eq-eqb, ne_eqb}
-use Rattle.chip_core.specs.Bits.{sign, xor, zip_with}
-use Rattle.chip_core.proofs.Places.{get_or-map-places, length-map-places}
-use Rattle.symbol_path.specs.Scrambling.{power_places, symbol_or_command, with_commands}
-use Rattle.viterbi.specs.Laws.{signed}
-use Rattle.frame_decoder.specs.Laws.{ShowSymbols}
-use Rattle.frame_decoder.specs.TrafficFrames.{is_replaced}
-use Rattle.mobile_core.specs.Scrambled.{turned, unscrambled}
-use Rattle.clean_link.specs.HeardFrames.{ShowCommands}
+use Rattle.clean_link.proofs.Common.{◌≡◌, ℕ, zero, suc, ◌/◌, ◌<◌, Bool, true, false, List, [], ◌∷◌, length, get_or, nat_eq, refl, sym, ap}
+use Rattle.clean_link.proofs.Common.{◌∙◌, arith, ⊎_elim, ◌⊎◌, ℤ, pos, ◌*ℤ◌, list_any, cases_order, eq-eqb, ne_eqb, sign, xor, zip_with}
+use Rattle.clean_link.proofs.Common.{get_or-map-places, length-map-places, power_places, symbol_or_command, with_commands, signed}
+use Rattle.clean_link.proofs.Common.{ShowSymbols, is_replaced, turned, unscrambled, ShowCommands}
 use Rattle.clean_link.proofs.frames.Heard.{turned_symbol}
 
 -- ---- at one place

@@ -1,11 +1,6 @@
 -- When the frames of a traffic channel end and are known, where there is one finger.
-use Rattle.std.proofs.Common.{◌≡◌, ℕ, ◌+◌, ◌*◌, ◌≤◌, true, refl, ap, ◌∙◌, arith, pos}
-use Rattle.std.specs.Prelude.{◌+ℤ◌}
-use Rattle.mobile_core.specs.Streams.{is_in_file, known_at}
-use Rattle.mobile_core.specs.Timing.{IsTimed}
-use Rattle.mobile_core.specs.Tuning.{Tuning, fingers_of, modulo_code}
-use Rattle.mobile_core.specs.declared.mark.Mark.{Mark}
-use Rattle.chip_core.specs.declared.assignment.Traffic.{Traffic}
+use Rattle.clean_link.proofs.Common.{◌≡◌, ℕ, ◌+◌, ◌*◌, ◌≤◌, true, refl, ap, ◌∙◌, arith, pos, ◌+ℤ◌, is_in_file, known_at, IsTimed, Tuning}
+use Rattle.clean_link.proofs.Common.{fingers_of, modulo_code, Mark, Traffic}
 use Rattle.clean_link.proofs.frames.Times.{IsAlone, inside_alone, known_at_once, room_alone, timed_alone}
 use Rattle.clean_link.proofs.frames.SyncTimes.{one_path}
 use Rattle.clean_link.proofs.traffic.OnePilot.{one_stream}

@@ -1,31 +1,10 @@
 -- Where no handoff is directed in a file, the one pilot tells its frames and its messages.
-use Rattle.std.proofs.Common.{◌≡◌, ℕ, ◌+◌, ◌≤◌, List, ◌++◌, length, take, drop, sym, ap, ◌∙◌, arith, subst, Option, Some}
-use Rattle.std.specs.Prelude.{All}
-use Rattle.std.proofs.lemmas.List.Elements.{All-tail}
-use Rattle.std.proofs.lemmas.List.{length-take-le, take-append-drop}
-use Rattle.chip_core.specs.Bits.{places}
-use Rattle.chip_core.specs.declared.sample.Sample.{Sample}
-use Rattle.pilot_sets.specs.Standing.{new_standing}
-use Rattle.mobile_core.specs.Events.{events, events_at, heard_within, message_events_at, frame_events_at, paging_events_at, sets_events_at}
-use Rattle.mobile_core.specs.Legs.{legs_of}
-use Rattle.mobile_core.specs.Marks.{mark}
-use Rattle.mobile_core.specs.Moments.{frames_at, legs_at, messages_at, messages_behind}
-use Rattle.mobile_core.specs.Near.{AreNear}
-use Rattle.mobile_core.specs.Signaling.{messages_by}
-use Rattle.mobile_core.specs.SyncEvents.{sync_events_at}
-use Rattle.mobile_core.specs.TrafficEvents.{frames_by, if_followed}
-use Rattle.mobile_core.specs.Tuning.{Tuning, sync_stream}
-use Rattle.mobile_core.specs.declared.event.Event.{Event}
-use Rattle.mobile_core.specs.declared.event.Event.TheVariants.{Pilot}
-use Rattle.mobile_core.specs.declared.legs.Leg.{Leg}
-use Rattle.mobile_core.specs.declared.mark.Mark.{Mark}
-use Rattle.chip_core.specs.declared.assignment.Traffic.{Traffic}
-use Rattle.mobile_core.proofs.FrameGrowth.{frames_sooner}
-use Rattle.mobile_core.proofs.MarkStays.{messages_by_one_mark}
-use Rattle.mobile_core.proofs.MessageGrowth.{messages_sooner}
-use Rattle.clean_link.specs.CleanLink.{IsNotDirected}
-use Rattle.clean_link.specs.HeardFrames.{IsOnePilot}
-use Rattle.clean_link.specs.TrafficLaws.{IsUndirected}
+use Rattle.clean_link.proofs.Common.{◌≡◌, ℕ, ◌+◌, ◌≤◌, List, ◌++◌, length, take, drop, sym, ap, ◌∙◌, arith, subst, Option, Some, All}
+use Rattle.clean_link.proofs.Common.{All-tail, length-take-le, take-append-drop, places, Sample, new_standing, events, events_at}
+use Rattle.clean_link.proofs.Common.{heard_within, message_events_at, frame_events_at, paging_events_at, sets_events_at, legs_of, mark}
+use Rattle.clean_link.proofs.Common.{frames_at, legs_at, messages_at, messages_behind, AreNear, messages_by, sync_events_at, frames_by}
+use Rattle.clean_link.proofs.Common.{if_followed, Tuning, sync_stream, Event, Pilot, Leg, Mark, Traffic, frames_sooner}
+use Rattle.clean_link.proofs.Common.{messages_by_one_mark, messages_sooner, IsNotDirected, IsOnePilot, IsUndirected}
 use Rattle.clean_link.proofs.frames.SyncTimes.{one_path}
 use Rattle.clean_link.proofs.traffic.OnePilot.{one_close, same_frames, same_messages}
 use Rattle.clean_link.proofs.traffic.Steady.{each_of_all, first_steady, left_all, right_all, steady_pilot}

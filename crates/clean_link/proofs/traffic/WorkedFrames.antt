@@ -1,15 +1,8 @@
 -- A distinct frame, and frames of zeros, which aren't distinct.
-use Rattle.std.proofs.Common.{◌≡◌, ℕ, Bool, true, false, List, length, get_or, replicate, refl, [], ◌∷◌, sym, ap, ◌∙◌}
-use Rattle.chip_core.specs.Bits.{binary, places}
-use Rattle.quality_bits.specs.Quality.{check_bits}
-use Rattle.symbol_path.specs.SentOrder.{sent}
-use Rattle.quality_bits.specs.declared.rate.Rate.TheVariants.{R2400, R1200}
-use Rattle.viterbi.specs.Best.{IsAllowed}
-use Rattle.viterbi.specs.declared.word.Ends.TheVariants.{Zero}
-use Rattle.frame_decoder.specs.Laws.{frame_word, IsUnshared}
-use Rattle.frame_decoder.specs.TrafficFrames.{frame_bits, frame_symbols}
-use Rattle.clean_link.specs.DistinctFrames.{full_rate_symbols, shows_full_rate, stays_apart, lost_symbols, tells_all_bits}
-use Rattle.clean_link.specs.DistinctWorked.{replaced_places, some_information, AFullRateFrameIsDistinct, ZerosAreShared}
+use Rattle.clean_link.proofs.Common.{◌≡◌, ℕ, Bool, true, false, List, length, get_or, replicate, refl, [], ◌∷◌, sym, ap, ◌∙◌, binary}
+use Rattle.clean_link.proofs.Common.{places, check_bits, sent, R2400, R1200, IsAllowed, Zero, frame_word, IsUnshared, frame_bits}
+use Rattle.clean_link.proofs.Common.{frame_symbols, full_rate_symbols, shows_full_rate, stays_apart, lost_symbols, tells_all_bits}
+use Rattle.clean_link.proofs.Common.{replaced_places, some_information, AFullRateFrameIsDistinct, ZerosAreShared}
 use Rattle.clean_link.proofs.traffic.FullRate.{full_rate_distinct}
 
 -- ---- a frame that is distinct

@@ -1,5 +1,4 @@
-use Rattle.std.proofs.Common.{◌≡◌, ◌∷◌, [], ◌++◌, length, get_or, false, refl, ap, ◌∙◌, arith, length-append}
-use Rattle.chip_core.specs.Bits.{xor}
+use Rattle.cell_plan.proofs.Common.{◌≡◌, ◌∷◌, [], ◌++◌, length, get_or, false, refl, ap, ◌∙◌, arith, length-append, xor}
 use Rattle.cell_plan.proofs.PageCycles.{differ_is, mixed_all, mixed_more}
 use Rattle.cell_plan.proofs.scrambling.mixed.Goals as goal
 

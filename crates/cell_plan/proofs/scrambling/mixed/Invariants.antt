@@ -1,5 +1,4 @@
-use Rattle.std.proofs.Common.{◌≡◌, length, take}
-use Rattle.chip_core.specs.Bits.{xor, zip_with}
+use Rattle.cell_plan.proofs.Common.{◌≡◌, length, take, xor, zip_with}
 use Rattle.cell_plan.proofs.scrambling.mixed.Given as goal
 
 abbrev pub invariant-loop-k : goal.invariant-loop-k

@@ -1,7 +1,4 @@
-use Rattle.std.proofs.Common.{arith}
-use Rattle.chip_core.specs.Bits.{binary}
-use Rattle.quality_bits.specs.TrafficWords.{traffic_word}
-use Rattle.quality_bits.proofs.TrafficWords.{repeated_most}
+use Rattle.cell_plan.proofs.Common.{arith, binary, traffic_word, repeated_most}
 use Rattle.cell_plan.proofs.TrafficFrames.{code_fills, coded_from_zero}
 use Rattle.cell_plan.proofs.traffic_frame.code.Goals as goal
 

@@ -1,6 +1,4 @@
-use Rattle.std.proofs.Common.{◌*◌, List, Bool, length, ap, ◌∙◌, arith}
-use Rattle.quality_bits.specs.TrafficWords.{repeats_of}
-use Rattle.quality_bits.proofs.TrafficWords.{checked_most, word_fills}
+use Rattle.cell_plan.proofs.Common.{◌*◌, List, Bool, length, ap, ◌∙◌, arith, repeats_of, checked_most, word_fills}
 use Rattle.cell_plan.proofs.TrafficFrames.{tailed}
 use Rattle.cell_plan.proofs.traffic_frame.word.Goals as goal
 

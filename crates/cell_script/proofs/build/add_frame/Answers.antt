@@ -1,7 +1,4 @@
-use Rattle.std.proofs.Common.{List, ap, sym, ◌∙◌}
-use Rattle.cell_script.specs.ScriptDrafts.{with_frame}
-use Rattle.cell_plan.specs.TrafficFrames.{with_one}
-use Rattle.cell_plan.specs.declared.plan.TrafficPlan.{TrafficPlan}
+use Rattle.cell_script.proofs.Common.{List, ap, sym, ◌∙◌, with_frame, with_one, TrafficPlan}
 use Rattle.cell_script.proofs.ScriptFrames.{push_changed}
 use Rattle.cell_script.proofs.build.add_frame.Goals as goal
 

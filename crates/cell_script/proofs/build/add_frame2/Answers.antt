@@ -1,7 +1,4 @@
-use Rattle.std.proofs.Common.{List, ap, sym, ◌∙◌}
-use Rattle.cell_script.specs.ScriptDrafts.{with_frame2}
-use Rattle.cell_plan.specs.TrafficFrames.{with_two}
-use Rattle.cell_plan.specs.declared.plan.TrafficPlan.{TrafficPlan}
+use Rattle.cell_script.proofs.Common.{List, ap, sym, ◌∙◌, with_frame2, with_two, TrafficPlan}
 use Rattle.cell_script.proofs.ScriptFrames.{push_changed}
 use Rattle.cell_script.proofs.build.add_frame2.Goals as goal
 

@@ -1,6 +1,4 @@
-use Rattle.std.proofs.Common.{List, ap, sym, ◌∙◌}
-use Rattle.cell_script.specs.ScriptDrafts.{with_page}
-use Rattle.cell_plan.specs.declared.plan.PagingPlan.{PagingPlan}
+use Rattle.cell_script.proofs.Common.{List, ap, sym, ◌∙◌, with_page, PagingPlan}
 use Rattle.cell_script.proofs.ScriptPages.{push_added}
 use Rattle.cell_script.proofs.build.add_page.Goals as goal
 

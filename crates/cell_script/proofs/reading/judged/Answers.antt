@@ -1,4 +1,4 @@
-use Rattle.std.proofs.Common.{sym, ◌∙◌}
+use Rattle.cell_script.proofs.Common.{sym, ◌∙◌}
 use Rattle.cell_script.proofs.ScriptReading.{all_read, faulty_line, missing_line, none_read, one_read, refused_line}
 use Rattle.cell_script.proofs.ScriptSplits.{is_left, none_left}
 use Rattle.cell_script.proofs.reading.judged.Goals as goal

@@ -1,4 +1,4 @@
-use Rattle.std.proofs.Common.{length}
+use Rattle.cell_script.proofs.Common.{length}
 use Rattle.cell_script.proofs.ScriptReading.{HasRead}
 use Rattle.cell_script.proofs.reading.judged.Given as goal
 

@@ -1,5 +1,4 @@
-use Rattle.std.proofs.Common.{sym, subst}
-use Rattle.cell_plan.specs.declared.plan.CellPlan.{CellPlan}
+use Rattle.cell_script.proofs.Common.{sym, subst, CellPlan}
 use Rattle.cell_script.proofs.ScriptReading.{all_made, none_made, one_made, HasMade}
 use Rattle.cell_script.proofs.reading.plan_in.Goals as goal
 

@@ -1,6 +1,4 @@
-use Rattle.std.proofs.Common.{rules}
-use Rattle.paging_message.specs.HalfFrames.{bits_left}
-use Rattle.paging_message.specs.Laying.{fill}
+use Rattle.cell_script.proofs.Common.{rules, bits_left, fill}
 use Rattle.cell_script.proofs.stage.bits_left.Goals as goal
 
 pub returns-clause-left : goal.returns-clause-left

@@ -1,4 +1,4 @@
-use Rattle.std.proofs.Common.{◌∙◌}
+use Rattle.cell_script.proofs.Common.{◌∙◌}
 use Rattle.cell_script.proofs.ScriptPages.{body_found}
 use Rattle.cell_script.proofs.statements.is_body.Goals as goal
 

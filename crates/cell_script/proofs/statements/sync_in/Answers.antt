@@ -1,5 +1,4 @@
-use Rattle.std.proofs.Common.{ap, sym, ◌∙◌}
-use Rattle.cell_script.specs.ScriptLines.{sync_in}
+use Rattle.cell_script.proofs.Common.{ap, sym, ◌∙◌, sync_in}
 use Rattle.cell_script.proofs.ScriptTables.{sync_found, sync_missing}
 use Rattle.cell_script.proofs.statements.sync_in.Goals as goal
 

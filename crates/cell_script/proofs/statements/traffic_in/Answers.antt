@@ -1,5 +1,4 @@
-use Rattle.std.proofs.Common.{refl, sym, ap, ◌∙◌}
-use Rattle.cell_script.specs.ScriptLines.{traffic_in}
+use Rattle.cell_script.proofs.Common.{refl, sym, ap, ◌∙◌, traffic_in}
 use Rattle.cell_script.proofs.ScriptTables.{traffic_read}
 use Rattle.cell_script.proofs.statements.traffic_in.Goals as goal
 

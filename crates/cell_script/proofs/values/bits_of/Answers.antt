@@ -1,5 +1,4 @@
-use Rattle.std.proofs.Common.{ℕ, ◌++◌, ap, ◌∙◌}
-use Rattle.chip_core.specs.Bits.{binary}
+use Rattle.cell_script.proofs.Common.{ℕ, ◌++◌, ap, ◌∙◌, binary}
 use Rattle.cell_script.proofs.ScriptTexts.{octet_added, octet_longer}
 use Rattle.cell_script.proofs.values.bits_of.Goals as goal
 

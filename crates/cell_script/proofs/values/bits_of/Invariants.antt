@@ -1,6 +1,4 @@
-use Rattle.std.proofs.Common.{◌≡◌, ◌*◌, ◌++◌, length, drop}
-use Rattle.std.specs.Prelude.{flat_map}
-use Rattle.chip_core.specs.Bits.{binary}
+use Rattle.cell_script.proofs.Common.{◌≡◌, ◌*◌, ◌++◌, length, drop, flat_map, binary}
 use Rattle.cell_script.proofs.values.bits_of.Given as goal
 
 abbrev pub invariant-loop-octet : goal.invariant-loop-octet

@@ -1,5 +1,4 @@
-use Rattle.std.proofs.Common.{sym, ◌∙◌, arith}
-use Rattle.std.proofs.lemmas.List.{length-set}
+use Rattle.cell_script.proofs.Common.{sym, ◌∙◌, arith, length-set}
 use Rattle.cell_script.proofs.ScriptTexts.{digit_missing, digit_read, digits_read, not_sixteen, sixteen}
 use Rattle.cell_script.proofs.values.commands_in.Goals as goal
 

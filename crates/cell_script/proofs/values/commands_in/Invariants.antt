@@ -1,4 +1,4 @@
-use Rattle.std.proofs.Common.{◌≡◌, length}
+use Rattle.cell_script.proofs.Common.{◌≡◌, length}
 use Rattle.cell_script.proofs.ScriptTexts.{AreBits}
 use Rattle.cell_script.proofs.values.commands_in.Given as goal
 

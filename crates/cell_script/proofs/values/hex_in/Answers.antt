@@ -1,4 +1,4 @@
-use Rattle.std.proofs.Common.{sym, ◌∙◌, arith}
+use Rattle.cell_script.proofs.Common.{sym, ◌∙◌, arith}
 use Rattle.cell_script.proofs.ScriptTexts.{hex_missing, hex_digit_more, hex_read, hex_read_all, all_hex_digits, few_hex_digits}
 use Rattle.cell_script.proofs.values.hex_in.Goals as goal
 

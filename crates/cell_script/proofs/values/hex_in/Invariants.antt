@@ -1,5 +1,4 @@
-use Rattle.std.proofs.Common.{◌≡◌, ◌<◌, ◌≤◌, ◌^◌, drop, length}
-use Rattle.cell_script.specs.ScriptValues.{hex_from}
+use Rattle.cell_script.proofs.Common.{◌≡◌, ◌<◌, ◌≤◌, ◌^◌, drop, length, hex_from}
 use Rattle.cell_script.proofs.values.hex_in.Given as goal
 
 abbrev pub invariant-loop-digit : goal.invariant-loop-digit

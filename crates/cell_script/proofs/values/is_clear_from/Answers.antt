@@ -1,5 +1,4 @@
-use Rattle.std.proofs.Common.{false, ◌∙◌, arith}
-use Rattle.std.proofs.lemmas.Option.{get_or_from_slice_get}
+use Rattle.cell_script.proofs.Common.{false, ◌∙◌, arith, get_or_from_slice_get}
 use Rattle.cell_script.proofs.ScriptTexts.{clear_bit, set_bit}
 use Rattle.cell_script.proofs.values.is_clear_from.Goals as goal
 

@@ -1,5 +1,4 @@
-use Rattle.std.proofs.Common.{◌≡◌, drop}
-use Rattle.cell_script.specs.ScriptValues.{all_clear}
+use Rattle.cell_script.proofs.Common.{◌≡◌, drop, all_clear}
 use Rattle.cell_script.proofs.values.is_clear_from.Given as goal
 
 abbrev pub invariant-loop-place : goal.invariant-loop-place

@@ -1,5 +1,4 @@
-use Rattle.std.proofs.Common.{◌≡◌, ◌+◌, drop}
-use Rattle.cell_script.specs.ScriptValues.{length_before}
+use Rattle.cell_script.proofs.Common.{◌≡◌, ◌+◌, drop, length_before}
 use Rattle.cell_script.proofs.values.length_before.Given as goal
 
 abbrev pub invariant-loop-byte : goal.invariant-loop-byte

@@ -1,5 +1,4 @@
-use Rattle.std.proofs.Common.{◌≤◌, ◌∙◌, arith, refl, sym, subst, length, get_or}
-use Rattle.frame_decoder.specs.Rows.{IsRow, bits_in, candidate_in}
+use Rattle.frame_decoder.proofs.Common.{◌≤◌, ◌∙◌, arith, refl, sym, subst, length, get_or, IsRow, bits_in, candidate_in}
 use Rattle.frame_decoder.proofs.RowChoice.{candidate_is, rising_more, rising_end}
 use Rattle.frame_decoder.proofs.choice.best_candidate.Goals as goal
 

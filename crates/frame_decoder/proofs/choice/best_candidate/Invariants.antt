@@ -1,6 +1,4 @@
-use Rattle.std.proofs.Common.{◌≡◌, drop, map}
-use Rattle.std.specs.Prelude.{None}
-use Rattle.frame_decoder.specs.Rows.{candidate_in, rising}
+use Rattle.frame_decoder.proofs.Common.{◌≡◌, drop, map, None, candidate_in, rising}
 use Rattle.frame_decoder.proofs.choice.best_candidate.Given as goal
 
 abbrev pub invariant-loop-row : goal.invariant-loop-row

@@ -1,7 +1,5 @@
-use Rattle.std.proofs.Common.{◌<◌, ◌∙◌, ap, ℕ, length, not, false, arith, take}
-use Rattle.std.proofs.lemmas.List.{length-set}
-use Rattle.chip_core.proofs.Places.{map-places-all}
-use Rattle.frame_decoder.specs.TrafficFrames.{subchannels, is_up, command}
+use Rattle.frame_decoder.proofs.Common.{◌<◌, ◌∙◌, ap, ℕ, length, not, false, arith, take, length-set, map-places-all, subchannels, is_up}
+use Rattle.frame_decoder.proofs.Common.{command}
 use Rattle.frame_decoder.proofs.PowerSums.{set_more}
 use Rattle.frame_decoder.proofs.power.commands.Goals as goal
 

@@ -1,5 +1,4 @@
-use Rattle.std.proofs.Common.{◌≡◌, ◌<◌, ℕ, length, get_or, false}
-use Rattle.frame_decoder.specs.TrafficFrames.{subchannels, command}
+use Rattle.frame_decoder.proofs.Common.{◌≡◌, ◌<◌, ℕ, length, get_or, false, subchannels, command}
 use Rattle.frame_decoder.proofs.power.commands.Given as goal
 
 abbrev pub invariant-loop-group : goal.invariant-loop-group

@@ -1,8 +1,5 @@
-use Rattle.std.proofs.Common.{◌≡◌, ◌<◌, ◌∙◌, length, get_or, pos, arith, rules}
-use Rattle.std.proofs.lemmas.List.{length-set}
-use Rattle.chip_core.proofs.Places.{map-places-all}
-use Rattle.symbol_path.proofs.Gathering.{added_fits, stored_is}
-use Rattle.frame_decoder.specs.TrafficFrames.{group_sum}
+use Rattle.frame_decoder.proofs.Common.{◌≡◌, ◌<◌, ◌∙◌, length, get_or, pos, arith, rules, length-set, map-places-all, added_fits, stored_is}
+use Rattle.frame_decoder.proofs.Common.{group_sum}
 use Rattle.frame_decoder.proofs.PowerSums.{set_more, pair_small, pair_is}
 use Rattle.frame_decoder.proofs.power.group_sums.Goals as goal
 

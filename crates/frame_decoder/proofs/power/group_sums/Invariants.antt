@@ -1,5 +1,4 @@
-use Rattle.std.proofs.Common.{◌≡◌, ◌<◌, ℕ, length, get_or, pos}
-use Rattle.frame_decoder.specs.TrafficFrames.{group_sum}
+use Rattle.frame_decoder.proofs.Common.{◌≡◌, ◌<◌, ℕ, length, get_or, pos, group_sum}
 use Rattle.frame_decoder.proofs.power.group_sums.Given as goal
 
 abbrev pub invariant-loop-group : goal.invariant-loop-group

@@ -1,6 +1,4 @@
-use Rattle.std.proofs.Common.{◌<◌, ◌∙◌, ap, sym, Bool, List, ℤ, [], length, get_or, pos, ◌&&◌}
-use Rattle.std.specs.Prelude.{int_lt}
-use Rattle.std.proofs.lemmas.List.Folds.{list_all_more}
+use Rattle.frame_decoder.proofs.Common.{◌<◌, ◌∙◌, ap, sym, Bool, List, ℤ, [], length, get_or, pos, ◌&&◌, int_lt, list_all_more}
 use Rattle.frame_decoder.proofs.power.is_up.Goals as goal
 
 pub loop-sums-preserved : goal.loop-sums-preserved

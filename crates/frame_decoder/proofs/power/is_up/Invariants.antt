@@ -1,5 +1,4 @@
-use Rattle.std.proofs.Common.{◌≡◌, take}
-use Rattle.frame_decoder.specs.TrafficFrames.{is_up}
+use Rattle.frame_decoder.proofs.Common.{◌≡◌, take, is_up}
 use Rattle.frame_decoder.proofs.power.is_up.Given as goal
 
 abbrev pub invariant-loop-sums : goal.invariant-loop-sums

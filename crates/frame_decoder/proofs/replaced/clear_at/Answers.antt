@@ -1,5 +1,4 @@
-use Rattle.std.proofs.Common.{◌≡◌, sym, ap, pos, arith, length, set, rules}
-use Rattle.std.proofs.lemmas.List.{set_past}
+use Rattle.frame_decoder.proofs.Common.{◌≡◌, sym, ap, pos, arith, length, set, rules, set_past}
 use Rattle.frame_decoder.proofs.replaced.clear_at.Goals as goal
 
 pub returns-then-at-lt384 : goal.returns-then-at-lt384

@@ -1,6 +1,4 @@
-use Rattle.std.proofs.Common.{◌<◌, ℕ, List, ℤ, take, ap, ◌∙◌, arith, pos, sym, set, get_or, length, rules}
-use Rattle.std.proofs.lemmas.List.{take_more}
-use Rattle.frame_decoder.specs.TrafficFrames.{unreplaced}
+use Rattle.frame_decoder.proofs.Common.{◌<◌, ℕ, List, ℤ, take, ap, ◌∙◌, arith, pos, sym, set, get_or, length, rules, take_more, unreplaced}
 use Rattle.frame_decoder.proofs.Unreplaced.{none_replaced, one_replaced, one_small}
 use Rattle.frame_decoder.proofs.replaced.without_commands.Goals as goal
 

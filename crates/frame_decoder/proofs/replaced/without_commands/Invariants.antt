@@ -1,5 +1,4 @@
-use Rattle.std.proofs.Common.{◌≡◌, ◌≤◌, sum_by, unsigned_abs, take}
-use Rattle.frame_decoder.specs.TrafficFrames.{unreplaced}
+use Rattle.frame_decoder.proofs.Common.{◌≡◌, ◌≤◌, sum_by, unsigned_abs, take, unreplaced}
 use Rattle.frame_decoder.proofs.replaced.without_commands.Given as goal
 
 abbrev pub invariant-loop-place : goal.invariant-loop-place

@@ -1,9 +1,6 @@
-use Rattle.std.proofs.Common.{◌≡◌, ◌*◌, ℕ, length, take, drop, ap, ◌∙◌, arith}
+use Rattle.frame_decoder.proofs.Common.{◌≡◌, ◌*◌, ℕ, length, take, drop, ap, ◌∙◌, arith, IsBestWord, spelled, Word, Free, channel_of}
+use Rattle.frame_decoder.proofs.Common.{gathered_span}
 use Rattle.std.proofs.lemmas.List.{length-take-le, length-drop}
-use Rattle.viterbi.specs.Best.{IsBestWord, spelled}
-use Rattle.viterbi.specs.Words.{Word}
-use Rattle.viterbi.specs.declared.word.Ends.TheVariants.{Free}
-use Rattle.frame_decoder.specs.Spans.{channel_of, gathered_span}
 use Rattle.frame_decoder.proofs.Gathered.{length-gathered_span}
 use Rattle.frame_decoder.proofs.BestWords.{own_within, own_is}
 use Rattle.frame_decoder.proofs.span.bits_of.Goals as goal

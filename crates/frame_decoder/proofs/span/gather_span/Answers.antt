@@ -1,6 +1,4 @@
-use Rattle.std.proofs.Common.{rules, ◌≡◌, ◌<◌, ◌≤◌, ◌+◌, ◌*◌, ℕ, length, sym, ap, ◌∙◌, arith}
-use Rattle.symbol_path.specs.SentOrder.{shape_of, size}
-use Rattle.frame_decoder.specs.Spans.{channel_of}
+use Rattle.frame_decoder.proofs.Common.{rules, ◌≡◌, ◌<◌, ◌≤◌, ◌+◌, ◌*◌, ℕ, length, sym, ap, ◌∙◌, arith, shape_of, size, channel_of}
 use Rattle.frame_decoder.proofs.Parts.{within}
 use Rattle.frame_decoder.proofs.Gathered.{none_gathered, none_small, frame_is, frame_small, one_gathered, one_small}
 use Rattle.frame_decoder.proofs.span.gather_span.Goals as goal

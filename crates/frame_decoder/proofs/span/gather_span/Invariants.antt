@@ -1,7 +1,4 @@
-use Rattle.std.proofs.Common.{◌≡◌, ◌≤◌, ◌*◌, take}
-use Rattle.std.specs.Prelude.{sum_by, unsigned_abs}
-use Rattle.symbol_path.specs.SentOrder.{shape_of, size}
-use Rattle.frame_decoder.specs.Spans.{channel_of, gathered_span}
+use Rattle.frame_decoder.proofs.Common.{◌≡◌, ◌≤◌, ◌*◌, take, sum_by, unsigned_abs, shape_of, size, channel_of, gathered_span}
 use Rattle.frame_decoder.proofs.span.gather_span.Given as goal
 
 abbrev pub invariant-loop-frame : goal.invariant-loop-frame

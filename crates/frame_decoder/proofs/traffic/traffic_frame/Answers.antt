@@ -1,6 +1,4 @@
-use Rattle.std.proofs.Common.{rules, FitsSigned}
-use Rattle.std.specs.Int.{w64}
-use Rattle.std.proofs.lemmas.Int.{to_z-of_z}
+use Rattle.frame_decoder.proofs.Common.{rules, FitsSigned, w64, to_z-of_z}
 use Rattle.frame_decoder.proofs.Chosen.{decoded_by}
 use Rattle.frame_decoder.proofs.traffic.traffic_frame.Goals as goal
 

@@ -1,5 +1,4 @@
-use Rattle.std.proofs.Common.{ap, ◌∙◌}
-use Rattle.message_layout.specs.Reading.{reading}
+use Rattle.message_layout.proofs.Common.{ap, ◌∙◌, reading}
 use Rattle.message_layout.proofs.Round.{reading_again, reading_there}
 use Rattle.message_layout.proofs.laws.reading_turns_spelling_back.Goals as goal
 

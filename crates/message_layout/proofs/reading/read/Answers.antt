@@ -1,6 +1,4 @@
-use Rattle.std.proofs.Common.{ap, ◌∙◌}
-use Rattle.message_layout.specs.Reading.{reading}
-use Rattle.message_layout.specs.Shapes.{shape}
+use Rattle.message_layout.proofs.Common.{ap, ◌∙◌, reading, shape}
 use Rattle.message_layout.proofs.Round.{read_found, reading_again}
 use Rattle.message_layout.proofs.reading.read.Goals as goal
 

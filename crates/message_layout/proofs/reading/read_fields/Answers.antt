@@ -1,7 +1,4 @@
-use Rattle.std.proofs.Common.{◌<◌, ◌≤◌, length, map, ap, refl, ◌∙◌, arith, inl, inr, Some}
-use Rattle.std.proofs.lemmas.Bool.{cases_lt}
-use Rattle.std.proofs.lemmas.List.{length-map}
-use Rattle.chip_core.proofs.ValueLists.{width_within}
+use Rattle.message_layout.proofs.Common.{◌<◌, ◌≤◌, length, map, ap, refl, ◌∙◌, arith, inl, inr, Some, cases_lt, length-map, width_within}
 use Rattle.message_layout.proofs.Loops.{fields_end, fields_few, fields_more, fields_stop}
 use Rattle.message_layout.proofs.reading.read_fields.Goals as goal
 

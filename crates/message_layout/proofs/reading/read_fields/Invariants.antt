@@ -1,4 +1,4 @@
-use Rattle.std.proofs.Common.{map}
+use Rattle.message_layout.proofs.Common.{map}
 use Rattle.message_layout.proofs.Loops.{FieldsRead}
 use Rattle.message_layout.proofs.reading.read_fields.Given as goal
 

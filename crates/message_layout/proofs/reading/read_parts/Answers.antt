@@ -1,6 +1,4 @@
-use Rattle.std.proofs.Common.{length, arith}
-use Rattle.std.proofs.lemmas.List.{length-map}
-use Rattle.message_layout.specs.Shapes.{shape}
+use Rattle.message_layout.proofs.Common.{length, arith, length-map, shape}
 use Rattle.message_layout.proofs.Lawful.{count_below, lawful}
 use Rattle.message_layout.proofs.Parts.{octets_left}
 use Rattle.message_layout.proofs.reading.read_parts.Goals as goal

@@ -1,4 +1,4 @@
-use Rattle.std.proofs.Common.{◌+◌, refl, arith}
+use Rattle.message_layout.proofs.Common.{◌+◌, refl, arith}
 use Rattle.message_layout.proofs.Loops.{places_few, places_more}
 use Rattle.message_layout.proofs.reading.read_places.Goals as goal
 

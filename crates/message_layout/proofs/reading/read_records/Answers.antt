@@ -1,4 +1,4 @@
-use Rattle.std.proofs.Common.{map, sym, ◌∙◌, arith}
+use Rattle.message_layout.proofs.Common.{map, sym, ◌∙◌, arith}
 use Rattle.message_layout.proofs.Loops.{records_end}
 use Rattle.message_layout.proofs.reading.read_records.Goals as goal
 

@@ -1,5 +1,4 @@
-use Rattle.std.proofs.Common.{◌<◌, ◌+◌, length, map, ap, arith}
-use Rattle.std.proofs.lemmas.List.{length-map}
+use Rattle.message_layout.proofs.Common.{◌<◌, ◌+◌, length, map, ap, arith, length-map}
 use Rattle.message_layout.proofs.Loops.{summed_more}
 use Rattle.message_layout.proofs.reading.size_of.Goals as goal
 

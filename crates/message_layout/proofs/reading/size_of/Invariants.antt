@@ -1,4 +1,4 @@
-use Rattle.std.proofs.Common.{map}
+use Rattle.message_layout.proofs.Common.{map}
 use Rattle.message_layout.proofs.Loops.{Summed}
 use Rattle.message_layout.proofs.reading.size_of.Given as goal
 

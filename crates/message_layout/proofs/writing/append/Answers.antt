@@ -1,6 +1,4 @@
-use Rattle.std.proofs.Common.{arith}
-use Rattle.std.proofs.lemmas.List.{length-map}
-use Rattle.message_layout.specs.Shapes.{shape}
+use Rattle.message_layout.proofs.Common.{arith, length-map, shape}
 use Rattle.message_layout.proofs.Lawful.{lawful}
 use Rattle.message_layout.proofs.Written.{fixed_bits, group_bits, length-spelling, longer, octets_of, record_bits, written}
 use Rattle.message_layout.proofs.writing.append.Goals as goal

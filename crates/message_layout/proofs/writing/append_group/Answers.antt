@@ -1,4 +1,4 @@
-use Rattle.std.proofs.Common.{length, map}
+use Rattle.message_layout.proofs.Common.{length, map}
 use Rattle.message_layout.proofs.Written.{flagged_room}
 use Rattle.message_layout.proofs.writing.append_group.Goals as goal
 

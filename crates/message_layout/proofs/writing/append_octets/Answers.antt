@@ -1,6 +1,4 @@
-use Rattle.std.proofs.Common.{length, ap, arith, length-append}
-use Rattle.chip_core.specs.Bits.{binary}
-use Rattle.chip_core.proofs.FieldLists.{length-binary}
+use Rattle.message_layout.proofs.Common.{length, ap, arith, length-append, binary, length-binary}
 use Rattle.message_layout.proofs.Parts.{length-octets}
 use Rattle.message_layout.proofs.writing.append_octets.Goals as goal
 

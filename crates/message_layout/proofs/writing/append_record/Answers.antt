@@ -1,9 +1,5 @@
-use Rattle.std.proofs.Common.{◌≡◌, ◌≤◌, ◌++◌, length, get_or, map, take, sym, ap, ◌∙◌, arith, length-append}
-use Rattle.std.proofs.lemmas.List.{length-map}
-use Rattle.chip_core.specs.Bits.{binary}
-use Rattle.chip_core.specs.Fields.{spelled, in_widths}
-use Rattle.chip_core.proofs.ValueLists.{fit_value, written_more}
-use Rattle.message_layout.specs.Contents.{height, record_at}
+use Rattle.message_layout.proofs.Common.{◌≡◌, ◌≤◌, ◌++◌, length, get_or, map, take, sym, ap, ◌∙◌, arith, length-append, length-map, binary}
+use Rattle.message_layout.proofs.Common.{spelled, in_widths, fit_value, written_more, height, record_at}
 use Rattle.message_layout.proofs.Columns.{number_in_record, number_room, sent_all, three_long}
 use Rattle.message_layout.proofs.writing.append_record.Goals as goal
 

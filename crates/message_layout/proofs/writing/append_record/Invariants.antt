@@ -1,6 +1,4 @@
-use Rattle.std.proofs.Common.{◌≡◌, ◌++◌, map, take}
-use Rattle.chip_core.specs.Fields.{spelled, in_widths}
-use Rattle.message_layout.specs.Contents.{record_at}
+use Rattle.message_layout.proofs.Common.{◌≡◌, ◌++◌, map, take, spelled, in_widths, record_at}
 use Rattle.message_layout.proofs.writing.append_record.Given as goal
 
 abbrev pub invariant-loop-j : goal.invariant-loop-j

@@ -1,7 +1,4 @@
-use Rattle.std.proofs.Common.{length, map, ap, arith, length-append}
-use Rattle.std.proofs.lemmas.List.{length-map}
-use Rattle.chip_core.specs.Fields.{spelled}
-use Rattle.message_layout.specs.Contents.{height, record_fields}
+use Rattle.message_layout.proofs.Common.{length, map, ap, arith, length-append, length-map, spelled, height, record_fields}
 use Rattle.message_layout.proofs.Columns.{height_at, record_fit, record_room, record_written, three_long}
 use Rattle.message_layout.proofs.writing.append_records.Goals as goal
 

@@ -1,6 +1,4 @@
-use Rattle.std.proofs.Common.{◌≡◌, ◌++◌, map}
-use Rattle.chip_core.specs.Fields.{spelled}
-use Rattle.message_layout.specs.Contents.{record_fields}
+use Rattle.message_layout.proofs.Common.{◌≡◌, ◌++◌, map, spelled, record_fields}
 use Rattle.message_layout.proofs.writing.append_records.Given as goal
 
 abbrev pub invariant-loop-i : goal.invariant-loop-i

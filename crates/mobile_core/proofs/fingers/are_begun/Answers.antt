@@ -1,5 +1,4 @@
-use Rattle.std.proofs.Common.{◌+◌, ◌&&◌, drop, sym, ap, ◌∙◌}
-use Rattle.mobile_core.specs.Near.{all_begun}
+use Rattle.mobile_core.proofs.Common.{◌+◌, ◌&&◌, drop, sym, ap, ◌∙◌, all_begun}
 use Rattle.mobile_core.proofs.FingerLists.{begun_at}
 use Rattle.mobile_core.proofs.fingers.are_begun.Goals as goal
 

@@ -1,5 +1,4 @@
-use Rattle.std.proofs.Common.{◌≡◌, drop}
-use Rattle.mobile_core.specs.Near.{all_begun}
+use Rattle.mobile_core.proofs.Common.{◌≡◌, drop, all_begun}
 use Rattle.mobile_core.proofs.fingers.are_begun.Given as goal
 
 abbrev pub invariant-loop-i : goal.invariant-loop-i

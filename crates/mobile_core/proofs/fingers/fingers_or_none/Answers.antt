@@ -1,6 +1,4 @@
-use Rattle.std.proofs.Common.{◌++◌, ◌∙◌, sym, ap, arith, length, length-append, take}
-use Rattle.mobile_core.specs.Close.{fingers_in}
-use Rattle.mobile_core.specs.Legs.{leg_fingers}
+use Rattle.mobile_core.proofs.Common.{◌++◌, ◌∙◌, sym, ap, arith, length, length-append, take, fingers_in, leg_fingers}
 use Rattle.mobile_core.proofs.LegFingers.{leg_close_at, leg_few, leg_more, length-paths, places_at}
 use Rattle.mobile_core.proofs.fingers.fingers_or_none.Goals as goal
 

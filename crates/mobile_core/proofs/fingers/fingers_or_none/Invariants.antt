@@ -1,6 +1,4 @@
-use Rattle.std.proofs.Common.{◌≡◌, ◌+◌, ◌≤◌, take, drop, length, true}
-use Rattle.mobile_core.specs.Close.{all_close, fingers_in, places_in}
-use Rattle.mobile_core.specs.Legs.{all_fingers}
+use Rattle.mobile_core.proofs.Common.{◌≡◌, ◌+◌, ◌≤◌, take, drop, length, true, all_close, fingers_in, places_in, all_fingers}
 use Rattle.mobile_core.proofs.fingers.fingers_or_none.Given as goal
 
 abbrev pub invariant-loop-i : goal.invariant-loop-i

@@ -1,4 +1,4 @@
-use Rattle.std.proofs.Common.{arith}
+use Rattle.mobile_core.proofs.Common.{arith}
 use Rattle.mobile_core.proofs.CloseFingers.{close_at}
 use Rattle.mobile_core.proofs.FingerLists.{end_at_finger}
 use Rattle.mobile_core.proofs.fingers.frames_end.Goals as goal

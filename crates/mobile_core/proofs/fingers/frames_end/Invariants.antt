@@ -1,5 +1,4 @@
-use Rattle.std.proofs.Common.{◌≡◌, max, drop}
-use Rattle.mobile_core.specs.Streams.{frame_end}
+use Rattle.mobile_core.proofs.Common.{◌≡◌, max, drop, frame_end}
 use Rattle.mobile_core.proofs.fingers.frames_end.Given as goal
 
 abbrev pub invariant-loop-i : goal.invariant-loop-i

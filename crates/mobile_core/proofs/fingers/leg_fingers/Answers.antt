@@ -1,6 +1,4 @@
-use Rattle.std.proofs.Common.{◌≡◌, ◌∙◌, [], ap, arith, length, length-take, take}
-use Rattle.mobile_core.specs.Legs.{all_fingers}
-use Rattle.mobile_core.specs.Near.{have_rows}
+use Rattle.mobile_core.proofs.Common.{◌≡◌, ◌∙◌, [], ap, arith, length, length-take, take, all_fingers, have_rows}
 use Rattle.mobile_core.proofs.LegFingers.{all_rows, all_some}
 use Rattle.mobile_core.proofs.fingers.leg_fingers.Goals as goal
 

@@ -1,9 +1,5 @@
-use Rattle.std.proofs.Common.{◌≡◌, ◌<◌, ◌++◌, ◌∷◌, [], ◌∙◌, sym, ap, arith, rules, length, length-append, pos, take, get_or, ℤ}
-use Rattle.std.proofs.lemmas.Int.{to_z-of_z}
-use mir.Val.{SFits}
-use mir.Syntax.{w8}
-use Rattle.mobile_core.specs.Near.{all_near, has_reference, have_rows}
-use Rattle.mobile_core.specs.Tuning.{finger_of, fingers_of}
+use Rattle.mobile_core.proofs.Common.{◌≡◌, ◌<◌, ◌++◌, ◌∷◌, [], ◌∙◌, sym, ap, arith, rules, length, length-append, pos, take, get_or, ℤ}
+use Rattle.mobile_core.proofs.Common.{to_z-of_z, SFits, w8, all_near, has_reference, have_rows, finger_of, fingers_of}
 use Rattle.mobile_core.proofs.FingerLists.{near_more, reference_more, rows_more, fingers_more}
 use Rattle.mobile_core.proofs.fingers.reference_fingers.Goals as goal
 

@@ -1,6 +1,4 @@
-use Rattle.std.proofs.Common.{◌≡◌, ◌≤◌, take, length, true}
-use Rattle.mobile_core.specs.Near.{all_near, has_reference, have_rows}
-use Rattle.mobile_core.specs.Tuning.{fingers_of}
+use Rattle.mobile_core.proofs.Common.{◌≡◌, ◌≤◌, take, length, true, all_near, has_reference, have_rows, fingers_of}
 use Rattle.mobile_core.proofs.fingers.reference_fingers.Given as goal
 
 abbrev pub invariant-loop-i : goal.invariant-loop-i

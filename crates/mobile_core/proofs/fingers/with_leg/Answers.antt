@@ -1,10 +1,5 @@
-use Rattle.std.proofs.Common.{◌≡◌, ◌++◌, ◌∷◌, [], ◌∙◌, sym, ap, arith, rules, length, length-append, pos, take, get_or, ℤ}
-use Rattle.std.proofs.lemmas.Int.{to_z-of_z}
-use Rattle.std.proofs.lemmas.List.{append_assoc}
-use mir.Val.{SFits}
-use mir.Syntax.{w8}
-use Rattle.mobile_core.specs.Close.{all_close, fingers_in}
-use Rattle.mobile_core.specs.Tuning.{finger_of, fingers_of}
+use Rattle.mobile_core.proofs.Common.{◌≡◌, ◌++◌, ◌∷◌, [], ◌∙◌, sym, ap, arith, rules, length, length-append, pos, take, get_or, ℤ}
+use Rattle.mobile_core.proofs.Common.{to_z-of_z, append_assoc, SFits, w8, all_close, fingers_in, finger_of, fingers_of}
 use Rattle.mobile_core.proofs.CloseFingers.{near_one}
 use Rattle.mobile_core.proofs.FingerLists.{fingers_more}
 use Rattle.mobile_core.proofs.LegFingers.{close_more}

@@ -1,6 +1,4 @@
-use Rattle.std.proofs.Common.{◌≡◌, ◌+◌, ◌++◌, ◌≤◌, take, length, true}
-use Rattle.mobile_core.specs.Close.{all_close, fingers_in}
-use Rattle.mobile_core.specs.Tuning.{fingers_of}
+use Rattle.mobile_core.proofs.Common.{◌≡◌, ◌+◌, ◌++◌, ◌≤◌, take, length, true, all_close, fingers_in, fingers_of}
 use Rattle.mobile_core.proofs.fingers.with_leg.Given as goal
 
 abbrev pub invariant-loop-i : goal.invariant-loop-i

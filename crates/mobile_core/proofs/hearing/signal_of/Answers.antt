@@ -1,5 +1,4 @@
-use Rattle.std.proofs.Common.{ap}
-use Rattle.traffic_message.specs.declared.multiplex.Mux.{Mux}
+use Rattle.mobile_core.proofs.Common.{ap, Mux}
 use Rattle.mobile_core.proofs.SignalParts.{signal_least}
 use Rattle.mobile_core.proofs.hearing.signal_of.Goals as goal
 

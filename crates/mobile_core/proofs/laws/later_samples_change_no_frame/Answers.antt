@@ -1,5 +1,4 @@
-use Rattle.std.proofs.Common.{◌∙◌, ap, sym}
-use Rattle.mobile_core.specs.SoftFrames.{frames_within}
+use Rattle.mobile_core.proofs.Common.{◌∙◌, ap, sym, frames_within}
 use Rattle.mobile_core.proofs.FramesGiven.{frames_of_first}
 use Rattle.mobile_core.proofs.laws.later_samples_change_no_frame.Goals as goal
 

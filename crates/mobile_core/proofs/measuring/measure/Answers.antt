@@ -1,8 +1,5 @@
-use Rattle.std.proofs.Common.{◌≡◌, ◌<◌, ◌≤◌, ◌++◌, ◌∷◌, [], ◌∙◌, sym, ap, arith, List, map, take, length-append, rules}
-use Rattle.std.specs.Prelude.{unsigned_abs}
-use Rattle.std.proofs.lemmas.List.{map-append}
-use Rattle.pilot_sets.specs.declared.strengths.Strength.{Strength}
-use Rattle.mobile_core.specs.Moments.{pilot_strength}
+use Rattle.mobile_core.proofs.Common.{◌≡◌, ◌<◌, ◌≤◌, ◌++◌, ◌∷◌, [], ◌∙◌, sym, ap, arith, List, map, take, length-append, rules}
+use Rattle.mobile_core.proofs.Common.{unsigned_abs, map-append, Strength, pilot_strength}
 use Rattle.mobile_core.proofs.ActiveLegs.{all_at, all_push}
 use Rattle.mobile_core.proofs.LegLists.{take_at}
 use Rattle.mobile_core.proofs.measuring.measure.Goals as goal

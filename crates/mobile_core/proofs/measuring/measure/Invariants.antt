@@ -1,9 +1,5 @@
-use Rattle.std.proofs.Common.{◌≡◌, ◌<◌, ◌≤◌, List, length, map, take, All}
-use Rattle.std.specs.Prelude.{unsigned_abs}
-use Rattle.chip_core.specs.declared.sample.Sample.{Sample}
-use Rattle.pilot_sets.specs.declared.strengths.Strength.{Strength}
-use Rattle.rake_finger.specs.Held.{HoldsLast}
-use Rattle.mobile_core.specs.Moments.{pilot_strength}
+use Rattle.mobile_core.proofs.Common.{◌≡◌, ◌<◌, ◌≤◌, List, length, map, take, All, unsigned_abs, Sample, Strength, HoldsLast}
+use Rattle.mobile_core.proofs.Common.{pilot_strength}
 use Rattle.mobile_core.proofs.measuring.measure.Given as goal
 
 abbrev pub invariant-loop-i : goal.invariant-loop-i

@@ -1,5 +1,4 @@
-use Rattle.std.proofs.Common.{◌≡◌, ◌≤◌, ◌%◌, ℕ, sym, subst}
-use Rattle.pilot_sets.specs.Standing.{window_number}
+use Rattle.mobile_core.proofs.Common.{◌≡◌, ◌≤◌, ◌%◌, ℕ, sym, subst, window_number}
 use Rattle.mobile_core.proofs.Windows.{window_even, window_most}
 use Rattle.mobile_core.proofs.measuring.pilot_strength.Goals as goal
 

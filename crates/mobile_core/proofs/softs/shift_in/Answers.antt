@@ -1,8 +1,6 @@
-use Rattle.std.proofs.Common.{◌≡◌, ◌≤◌, ℕ, [], ◌++◌, ◌-◌, length, take, drop, refl, ap, subst, sym, ◌∙◌, arith, length-drop, length-append}
-use Rattle.std.proofs.Common.{length-take}
-use Rattle.std.proofs.lemmas.List.{take_at, drop_all, append-nil}
-use borrow.Rule.Slice.PartMut.{post_of}
-use Rattle.mobile_core.specs.Softs.{AreSmall}
+use Rattle.mobile_core.proofs.Common.{◌≡◌, ◌≤◌, ℕ, [], ◌++◌, ◌-◌, length, take, drop, refl, ap, subst, sym, ◌∙◌, arith, length-drop}
+use Rattle.mobile_core.proofs.Common.{length-append, length-take, take_at, drop_all, post_of, AreSmall}
+use Rattle.std.proofs.lemmas.List.{append-nil}
 use Rattle.mobile_core.proofs.SoftSums.{shifted_small}
 use Rattle.mobile_core.proofs.softs.shift_in.Goals as goal
 

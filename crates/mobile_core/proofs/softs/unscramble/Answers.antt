@@ -1,10 +1,5 @@
-use Rattle.std.proofs.Common.{◌≡◌, ◌<◌, ℕ, ◌∙◌, ap, arith, rules, ℤ, length, get_or, pos, false, ◌*ℤ◌}
-use Rattle.std.specs.Prelude.{unsigned_abs}
-use Rattle.std.proofs.lemmas.Int.{to_z-of_z}
-use Rattle.std.proofs.lemmas.List.Sums.{sum_by-set}
-use mir.Val.{SFits}
-use mir.Syntax.{w64}
-use Rattle.chip_core.specs.Bits.{sign}
+use Rattle.mobile_core.proofs.Common.{◌≡◌, ◌<◌, ℕ, ◌∙◌, ap, arith, rules, ℤ, length, get_or, pos, false, ◌*ℤ◌, unsigned_abs, to_z-of_z}
+use Rattle.mobile_core.proofs.Common.{sum_by-set, SFits, w64, sign}
 use Rattle.mobile_core.proofs.Turned.{turned_more}
 use Rattle.mobile_core.proofs.softs.unscramble.Goals as goal
 

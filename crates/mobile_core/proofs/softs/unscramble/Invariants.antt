@@ -1,6 +1,4 @@
-use Rattle.std.proofs.Common.{◌≡◌, ◌++◌, take, drop}
-use Rattle.std.specs.Prelude.{sum_by, unsigned_abs}
-use Rattle.mobile_core.specs.Scrambled.{turned}
+use Rattle.mobile_core.proofs.Common.{◌≡◌, ◌++◌, take, drop, sum_by, unsigned_abs, turned}
 use Rattle.mobile_core.proofs.softs.unscramble.Given as goal
 
 abbrev pub invariant-loop-i : goal.invariant-loop-i

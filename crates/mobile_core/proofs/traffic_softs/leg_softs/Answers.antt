@@ -1,8 +1,4 @@
-use Rattle.std.proofs.Common.{◌∙◌, List, All, ap, sym, subst, arith}
-use Rattle.rake_finger.specs.InRing.{IsInRing}
-use Rattle.rake_finger.specs.Soft.{softs}
-use Rattle.rake_finger.specs.declared.finger.Finger.{Finger}
-use Rattle.rake_finger.specs.declared.form.Form.TheVariants.{Data}
+use Rattle.mobile_core.proofs.Common.{◌∙◌, List, All, ap, sym, subst, arith, IsInRing, softs, Finger, Data}
 use Rattle.mobile_core.proofs.FingerLists.{rows_all}
 use Rattle.mobile_core.proofs.LegSubsets.{eight_small}
 use Rattle.mobile_core.proofs.traffic_softs.leg_softs.Goals as goal

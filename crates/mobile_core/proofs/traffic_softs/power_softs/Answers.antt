@@ -1,10 +1,8 @@
-use Rattle.std.proofs.Common.{◌≡◌, ◌∙◌, ◌++◌, ◌∷◌, [], List, ℤ, true, false, map, take, sym, ap, arith}
-use Rattle.frame_decoder.specs.TrafficFrames.{group_sums}
-use Rattle.mobile_core.specs.LegSofts.{sums_on}
-use Rattle.mobile_core.specs.Legs.{has_subchannel}
+use Rattle.mobile_core.proofs.Common.{◌≡◌, ◌∙◌, ◌++◌, ◌∷◌, [], List, ℤ, true, false, map, take, sym, ap, arith, group_sums, sums_on}
+use Rattle.mobile_core.proofs.Common.{has_subchannel}
 use Rattle.mobile_core.proofs.LegSubsets.{first_subchannels, sums_more, sums_none, sums_same}
-use Rattle.mobile_core.proofs.traffic_softs.power_softs.Goals as goal
 use Rattle.mobile_core.proofs.traffic_softs.power_softs.Goals.{then-has_subchannel, else-has_subchannel}
+use Rattle.mobile_core.proofs.traffic_softs.power_softs.Goals as goal
 
 pub subchannel_softs-requires-clause-has : goal.subchannel_softs-requires-clause-has
 subchannel_softs-requires-clause-has c = sym c.has_subchannel.ensures ∙ c.if-has_subchannel.true

@@ -1,8 +1,5 @@
-use Rattle.std.proofs.Common.{◌≡◌, ◌≤◌, List, map, take}
-use Rattle.chip_core.specs.declared.sample.Sample.{Sample}
+use Rattle.mobile_core.proofs.Common.{◌≡◌, ◌≤◌, List, map, take, Sample, HoldsLast, sums_on}
 use Rattle.frame_decoder.specs.TrafficFrames.{subchannels}
-use Rattle.rake_finger.specs.Held.{HoldsLast}
-use Rattle.mobile_core.specs.LegSofts.{sums_on}
 use Rattle.mobile_core.proofs.LegSubsets.{first_subchannels}
 use Rattle.mobile_core.proofs.traffic_softs.power_softs.Given as goal
 

@@ -1,9 +1,4 @@
-use Rattle.std.proofs.Common.{◌≡◌, ◌∙◌, List, length, take, sym, ap, arith}
-use Rattle.rake_finger.specs.InRing.{IsInRing}
-use Rattle.rake_finger.specs.Soft.{softs}
-use Rattle.rake_finger.specs.declared.form.Form.TheVariants.{Data}
-use Rattle.mobile_core.specs.Legs.{all_fingers, on_subchannel}
-use Rattle.mobile_core.specs.declared.legs.Leg.{Leg}
+use Rattle.mobile_core.proofs.Common.{◌≡◌, ◌∙◌, List, length, take, sym, ap, arith, IsInRing, softs, Data, all_fingers, on_subchannel, Leg}
 use Rattle.mobile_core.proofs.LegSubsets.{on_all, on_close, on_few, on_rows, on_some, on_whole}
 use Rattle.mobile_core.proofs.traffic_softs.subchannel_softs.Goals as goal
 

@@ -1,8 +1,5 @@
-use Rattle.std.proofs.Common.{◌≡◌, ◌<◌, ◌++◌, length, get_or, take, sym, ap, ◌∙◌, arith, length-append}
-use Rattle.std.proofs.lemmas.Option.{get_or_from_slice_get}
-use Rattle.chip_core.specs.Bits.{binary}
-use Rattle.chip_core.specs.Fields.{spelled}
-use Rattle.paging_message.specs.Channels.{channel_records}
+use Rattle.paging_message.proofs.Common.{◌≡◌, ◌<◌, ◌++◌, length, get_or, take, sym, ap, ◌∙◌, arith, length-append, get_or_from_slice_get}
+use Rattle.paging_message.proofs.Common.{binary, spelled, channel_records}
 use Rattle.paging_message.proofs.Records.{channels-more, channels_room, channel_fit_at, write_push}
 use Rattle.paging_message.proofs.channels.append_freqs.Goals as goal
 

@@ -1,6 +1,4 @@
-use Rattle.std.proofs.Common.{◌≡◌, ◌++◌, take}
-use Rattle.chip_core.specs.Fields.{spelled}
-use Rattle.paging_message.specs.Channels.{channel_records}
+use Rattle.paging_message.proofs.Common.{◌≡◌, ◌++◌, take, spelled, channel_records}
 use Rattle.paging_message.proofs.channels.append_freqs.Given as goal
 
 abbrev pub invariant-loop-i : goal.invariant-loop-i

@@ -1,6 +1,5 @@
-use Rattle.std.proofs.Common.{◌≡◌, ◌≤◌, ◌++◌, ◌∷◌, [], length, sym, ap, subst, ◌∙◌, arith, length-append, rules}
-use Rattle.chip_core.specs.Fields.{spelled, field, FieldsFit}
-use Rattle.paging_message.specs.Channels.{channel_records}
+use Rattle.paging_message.proofs.Common.{◌≡◌, ◌≤◌, ◌++◌, ◌∷◌, [], length, sym, ap, subst, ◌∙◌, arith, length-append, rules, spelled, field}
+use Rattle.paging_message.proofs.Common.{FieldsFit, channel_records}
 use Rattle.paging_message.proofs.Records.{channels-push, read_push, fit_push, length-channels}
 use Rattle.paging_message.proofs.channels.read_freqs.Goals as goal
 

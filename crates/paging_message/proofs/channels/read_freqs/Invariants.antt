@@ -1,6 +1,4 @@
-use Rattle.std.proofs.Common.{◌≡◌, ◌++◌, length}
-use Rattle.chip_core.specs.Fields.{spelled, FieldsFit}
-use Rattle.paging_message.specs.Channels.{channel_records}
+use Rattle.paging_message.proofs.Common.{◌≡◌, ◌++◌, length, spelled, FieldsFit, channel_records}
 use Rattle.paging_message.proofs.channels.read_freqs.Given as goal
 
 abbrev pub invariant-loop-record : goal.invariant-loop-record

@@ -1,6 +1,4 @@
-use Rattle.std.proofs.Common.{◌++◌, length, replicate, false, sym, ap, ◌∙◌}
-use Rattle.paging_message.specs.HalfFrames.{half_frame_body}
-use Rattle.paging_message.specs.Laying.{fill}
+use Rattle.paging_message.proofs.Common.{◌++◌, length, replicate, false, sym, ap, ◌∙◌, half_frame_body, fill}
 use Rattle.paging_message.proofs.Carried.{laid_is_carried, rate_large}
 use Rattle.paging_message.proofs.Layings.{padded_framed}
 use Rattle.paging_message.proofs.laws.laid_capsules_are_carried.Goals as goal

@@ -1,5 +1,4 @@
-use Rattle.std.proofs.Common.{ap, ◌∙◌}
-use Rattle.paging_message.specs.Reading.{body_reading, paging_reading}
+use Rattle.paging_message.proofs.Common.{ap, ◌∙◌, body_reading, paging_reading}
 use Rattle.paging_message.proofs.Readings.{body_is_read, capsule_is_read, reads_body, reads_capsule}
 use Rattle.paging_message.proofs.laws.reading_turns_spelling_back.Goals as goal
 

@@ -1,7 +1,4 @@
-use Rattle.std.proofs.Common.{sym, ap, ◌∙◌}
-use Rattle.quality_bits.specs.declared.kind.Kind.TheVariants.{M30}
-use Rattle.quality_bits.proofs.Wholes.{inner, inner-capsule}
-use Rattle.paging_message.specs.Messages.{message_body, paging_capsule}
+use Rattle.paging_message.proofs.Common.{sym, ap, ◌∙◌, M30, inner, inner-capsule, message_body, paging_capsule}
 use Rattle.paging_message.proofs.Messages.{message_injective}
 use Rattle.paging_message.proofs.laws.spelling_has_one_message.Goals as goal
 

@@ -1,9 +1,5 @@
-use Rattle.std.proofs.Common.{◌≡◌, ◌<◌, ◌++◌, ◌∷◌, [], length, get_or, take, sym, ap, ◌∙◌, arith, length-append}
-use Rattle.std.proofs.lemmas.Option.{get_or_from_slice_get}
-use Rattle.chip_core.specs.Bits.{binary}
-use Rattle.chip_core.specs.Fields.{spelled, field}
-use Rattle.chip_core.proofs.FieldLists.{length-binary}
-use Rattle.paging_message.specs.Neighbors.{neighbor_records}
+use Rattle.paging_message.proofs.Common.{◌≡◌, ◌<◌, ◌++◌, ◌∷◌, [], length, get_or, take, sym, ap, ◌∙◌, arith, length-append}
+use Rattle.paging_message.proofs.Common.{get_or_from_slice_get, binary, spelled, field, length-binary, neighbor_records}
 use Rattle.paging_message.proofs.Records.{neighbors-more, neighbors_room, neighbor_fit_at, write_push}
 use Rattle.paging_message.proofs.neighbors.append_neighbors.Goals as goal
 

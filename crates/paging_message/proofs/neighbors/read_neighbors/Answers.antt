@@ -1,6 +1,5 @@
-use Rattle.std.proofs.Common.{◌≡◌, ◌≤◌, ◌++◌, ◌∷◌, [], length, sym, ap, subst, ◌∙◌, arith, length-append, rules}
-use Rattle.chip_core.specs.Fields.{spelled, field, FieldsFit}
-use Rattle.paging_message.specs.Neighbors.{neighbor_records}
+use Rattle.paging_message.proofs.Common.{◌≡◌, ◌≤◌, ◌++◌, ◌∷◌, [], length, sym, ap, subst, ◌∙◌, arith, length-append, rules, spelled, field}
+use Rattle.paging_message.proofs.Common.{FieldsFit, neighbor_records}
 use Rattle.paging_message.proofs.Records.{neighbors-push, read_push, fit_push, length-neighbors}
 use Rattle.paging_message.proofs.neighbors.read_neighbors.Goals as goal
 

@@ -1,6 +1,4 @@
-use Rattle.std.proofs.Common.{◌≡◌, ◌++◌, length}
-use Rattle.chip_core.specs.Fields.{spelled, FieldsFit}
-use Rattle.paging_message.specs.Neighbors.{neighbor_records}
+use Rattle.paging_message.proofs.Common.{◌≡◌, ◌++◌, length, spelled, FieldsFit, neighbor_records}
 use Rattle.paging_message.proofs.neighbors.read_neighbors.Given as goal
 
 abbrev pub invariant-loop-record : goal.invariant-loop-record

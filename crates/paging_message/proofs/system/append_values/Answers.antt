@@ -1,7 +1,5 @@
-use Rattle.std.proofs.Common.{◌++◌, length, get_or, ap, ◌∙◌, arith, take, length-append}
-use Rattle.chip_core.specs.Bits.{binary}
-use Rattle.chip_core.specs.Fields.{spelled}
-use Rattle.paging_message.specs.Widths.{in_widths, system_widths}
+use Rattle.paging_message.proofs.Common.{◌++◌, length, get_or, ap, ◌∙◌, arith, take, length-append, binary, spelled, in_widths}
+use Rattle.paging_message.proofs.Common.{system_widths}
 use Rattle.paging_message.proofs.Widths.{system_width_within, fit_value, write_room, written_more}
 use Rattle.paging_message.proofs.system.append_values.Goals as goal
 

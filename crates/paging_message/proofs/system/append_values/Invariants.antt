@@ -1,6 +1,4 @@
-use Rattle.std.proofs.Common.{◌≡◌, ◌++◌, take}
-use Rattle.chip_core.specs.Fields.{spelled}
-use Rattle.paging_message.specs.Widths.{in_widths, system_widths}
+use Rattle.paging_message.proofs.Common.{◌≡◌, ◌++◌, take, spelled, in_widths, system_widths}
 use Rattle.paging_message.proofs.system.append_values.Given as goal
 
 abbrev pub invariant-loop-i : goal.invariant-loop-i

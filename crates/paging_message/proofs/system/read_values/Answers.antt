@@ -1,6 +1,4 @@
-use Rattle.std.proofs.Common.{rules, ◌≡◌, ◌≤◌, ◌++◌, length, get_or, ap, subst, ◌∙◌, arith, ℕ, ◌^◌, ◌<◌}
-use Rattle.chip_core.specs.Bits.{binary}
-use Rattle.paging_message.specs.Widths.{system_widths}
+use Rattle.paging_message.proofs.Common.{rules, ◌≡◌, ◌≤◌, ◌++◌, length, get_or, ap, subst, ◌∙◌, arith, ℕ, ◌^◌, ◌<◌, binary, system_widths}
 use Rattle.paging_message.proofs.Widths.{system_width_within, read_more, fit_more, read_room}
 use Rattle.paging_message.proofs.system.read_values.Goals as goal
 

@@ -1,6 +1,4 @@
-use Rattle.std.proofs.Common.{◌≡◌, ◌++◌, take, length}
-use Rattle.chip_core.specs.Fields.{spelled, FieldsFit}
-use Rattle.paging_message.specs.Widths.{in_widths, system_widths}
+use Rattle.paging_message.proofs.Common.{◌≡◌, ◌++◌, take, length, spelled, FieldsFit, in_widths, system_widths}
 use Rattle.paging_message.proofs.system.read_values.Given as goal
 
 abbrev pub invariant-loop-i : goal.invariant-loop-i

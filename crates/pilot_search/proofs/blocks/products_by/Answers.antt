@@ -1,6 +1,4 @@
-use Rattle.std.proofs.Common.{◌≡◌, ◌≤◌, ◌+◌, [], ◌∷◌, get_or, rules, arith, FitsSigned, w16, unsigned_abs}
-use Rattle.short_code.specs.Despread.{IsUnit}
-use Rattle.pilot_search.specs.BySigns.{across}
+use Rattle.pilot_search.proofs.Common.{◌≡◌, ◌≤◌, ◌+◌, [], ◌∷◌, get_or, rules, arith, FitsSigned, w16, unsigned_abs, IsUnit, across}
 use Rattle.pilot_search.proofs.CorrelationSums.{no_sample}
 use Rattle.pilot_search.proofs.LaneLemmas.{no_sign, unit_at, abs_fits, real_product, imaginary_across, across_at, real_bound}
 use Rattle.pilot_search.proofs.LaneLemmas.{imaginary_bound}

@@ -1,6 +1,4 @@
-use Rattle.std.proofs.Common.{◌≡◌, ◌≤◌, ◌+◌, ◌*◌, refl, arith, length, map, to_z, w32}
-use Rattle.chip_core.proofs.ComplexSums.{origin-plus}
-use Rattle.pilot_search.specs.BySigns.{correlation_with}
+use Rattle.pilot_search.proofs.Common.{◌≡◌, ◌≤◌, ◌+◌, ◌*◌, refl, arith, length, map, to_z, w32, origin-plus, correlation_with}
 use Rattle.pilot_search.proofs.BlockSums.{sums_kept, sums_whole}
 use Rattle.pilot_search.proofs.LaneSums.{sums_fit}
 use Rattle.pilot_search.proofs.blocks.sum_of_blocks.Goals as goal

@@ -1,5 +1,4 @@
-use Rattle.std.proofs.Common.{◌*◌, map, to_z, w32}
-use Rattle.pilot_search.specs.Lanes.{AreSums}
+use Rattle.pilot_search.proofs.Common.{◌*◌, map, to_z, w32, AreSums}
 use Rattle.pilot_search.proofs.blocks.sum_of_blocks.Given as goal
 
 abbrev pub invariant-loop-k : goal.invariant-loop-k

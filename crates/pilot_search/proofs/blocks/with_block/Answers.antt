@@ -1,5 +1,4 @@
-use Rattle.std.proofs.Common.{◌≡◌, ℕ, ◌+◌, ◌*◌, arith, subst}
-use Rattle.pilot_search.specs.Lanes.{AreSums}
+use Rattle.pilot_search.proofs.Common.{◌≡◌, ℕ, ◌+◌, ◌*◌, arith, subst, AreSums}
 use Rattle.pilot_search.proofs.BlockSums.{sums_kept, sums_at}
 use Rattle.pilot_search.proofs.blocks.with_block.Goals as goal
 

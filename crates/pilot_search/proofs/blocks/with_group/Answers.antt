@@ -1,4 +1,4 @@
-use Rattle.std.proofs.Common.{◌<◌, arith}
+use Rattle.pilot_search.proofs.Common.{◌<◌, arith}
 use Rattle.pilot_search.proofs.BlockSums.{group_fits, sums_more}
 use Rattle.pilot_search.proofs.blocks.with_group.Goals as goal
 

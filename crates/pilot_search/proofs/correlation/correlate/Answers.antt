@@ -1,8 +1,4 @@
-use Rattle.std.proofs.Common.{◌∙◌, arith, ap, List, ℤ}
-use Rattle.std.proofs.lemmas.Int.{ints}
-use Rattle.chip_core.specs.Complex.{plus}
-use Rattle.chip_core.specs.declared.sample.Sample.{Sample}
-use Rattle.pilot_search.specs.BySigns.{correlation_with}
+use Rattle.pilot_search.proofs.Common.{◌∙◌, arith, ap, List, ℤ, ints, plus, Sample, correlation_with}
 use Rattle.pilot_search.proofs.CorrelationSums.{plus_is}
 use Rattle.pilot_search.proofs.correlation.correlate.Goals as goal
 

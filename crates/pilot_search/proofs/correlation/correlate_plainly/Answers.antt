@@ -1,5 +1,4 @@
-use Rattle.std.proofs.Common.{◌<◌, arith, length, ◌∙◌, sym}
-use Rattle.std.proofs.lemmas.Int.{ints}
+use Rattle.pilot_search.proofs.Common.{◌<◌, arith, length, ◌∙◌, sym, ints}
 use Rattle.pilot_search.proofs.CorrelationSums.{correlation_with-more, correlation_with-all}
 use Rattle.pilot_search.proofs.correlation.correlate_plainly.Goals as goal
 

@@ -1,6 +1,4 @@
-use Rattle.std.proofs.Common.{◌≡◌, ◌≤◌, ◌*◌, unsigned_abs, drop}
-use Rattle.chip_core.specs.Complex.{plus}
-use Rattle.pilot_search.specs.BySigns.{correlation_with}
+use Rattle.pilot_search.proofs.Common.{◌≡◌, ◌≤◌, ◌*◌, unsigned_abs, drop, plus, correlation_with}
 use Rattle.pilot_search.proofs.correlation.correlate_plainly.Given as goal
 
 abbrev pub invariant-loop-t : goal.invariant-loop-t

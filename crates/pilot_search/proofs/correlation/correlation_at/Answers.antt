@@ -1,11 +1,5 @@
-use Rattle.std.proofs.Common.{◌≡◌, ◌<◌, ◌≤◌, ◌-◌, ◌∙◌, arith, rules, ap, take, drop, length, min}
-use Rattle.std.proofs.lemmas.Int.{ints}
-use Rattle.std.proofs.lemmas.List.Elements.{All-drop}
-use Rattle.chip_core.specs.Complex.{plus}
-use Rattle.chip_core.specs.declared.sample.Pair.{Pair}
-use Rattle.short_code.specs.ShortCode.{pilot_signs}
-use Rattle.pilot_search.specs.BySigns.{correlation_with}
-use Rattle.short_code.specs.Despread.{IsUnit}
+use Rattle.pilot_search.proofs.Common.{◌≡◌, ◌<◌, ◌≤◌, ◌-◌, ◌∙◌, arith, rules, ap, take, drop, length, min, ints, All-drop, plus, Pair}
+use Rattle.pilot_search.proofs.Common.{pilot_signs, correlation_with, IsUnit}
 use Rattle.pilot_search.proofs.CorrelationSums.{all_before, parted, plus_is, units}
 use Rattle.pilot_search.proofs.correlation.correlation_at.Goals as goal
 

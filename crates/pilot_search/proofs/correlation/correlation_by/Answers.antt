@@ -1,11 +1,5 @@
-use Rattle.std.proofs.Common.{◌≡◌, ◌≤◌, ◌<◌, ◌+◌, ◌∙◌, ℕ, List, arith, ap, sym, drop, length, map}
-use Rattle.std.proofs.lemmas.List.{drop-map, take_all}
-use Rattle.std.proofs.lemmas.List.Elements.{All-drop}
-use Rattle.short_code.specs.Despread.{IsUnit}
-use Rattle.short_code.specs.ShortCode.{pilot_signs}
-use Rattle.chip_core.specs.declared.sample.Sample.{Sample}
-use Rattle.pilot_search.specs.BySigns.{across, correlation_with}
-use Rattle.pilot_search.specs.Search.{correlation}
+use Rattle.pilot_search.proofs.Common.{◌≡◌, ◌≤◌, ◌<◌, ◌+◌, ◌∙◌, ℕ, List, arith, ap, sym, drop, length, map, drop-map, take_all, All-drop}
+use Rattle.pilot_search.proofs.Common.{IsUnit, pilot_signs, Sample, across, correlation_with, correlation}
 use Rattle.pilot_search.proofs.CorrelationSums.{all_before, units}
 use Rattle.pilot_search.proofs.correlation.correlation_by.Goals as goal
 

@@ -1,6 +1,4 @@
-use Rattle.std.proofs.Common.{ap, ◌∙◌}
-use Rattle.chip_core.specs.Complex.{norm}
-use Rattle.pilot_search.specs.Search.{energy}
+use Rattle.pilot_search.proofs.Common.{ap, ◌∙◌, norm, energy}
 use Rattle.pilot_search.proofs.correlation.energy_at.Goals as goal
 
 pub returns-clause-value : goal.returns-clause-value

@@ -1,11 +1,5 @@
-use Rattle.std.proofs.Common.{◌≡◌, ◌<◌, ◌≤◌, ◌+◌, ◌*◌, ◌/◌, ◌∙◌, ℕ, List, ℤ, refl, sym, ap, subst, arith, length, drop, map, unsigned_abs}
-use Rattle.std.proofs.Common.{to_z, w32}
-use lib.Lanes.{Each1}
-use Rattle.std.proofs.lemmas.List.{length-map}
-use Rattle.chip_core.specs.Complex.{plus}
-use Rattle.chip_core.specs.Sums.{total}
-use Rattle.chip_core.proofs.ComplexSums.{origin-plus}
-use Rattle.pilot_search.specs.BySigns.{correlation_with}
+use Rattle.pilot_search.proofs.Common.{◌≡◌, ◌<◌, ◌≤◌, ◌+◌, ◌*◌, ◌/◌, ◌∙◌, ℕ, List, ℤ, refl, sym, ap, subst, arith, length, drop, map}
+use Rattle.pilot_search.proofs.Common.{unsigned_abs, to_z, w32, Each1, length-map, plus, total, origin-plus, correlation_with}
 use Rattle.pilot_search.proofs.LaneLemmas.{lanes_more}
 use Rattle.pilot_search.proofs.LaneSums.{may_add, are_more, sums_fit, is_total}
 use Rattle.pilot_search.proofs.lanes.sums_on_lanes.Goals as goal

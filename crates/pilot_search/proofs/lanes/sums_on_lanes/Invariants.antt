@@ -1,8 +1,4 @@
-use Rattle.std.proofs.Common.{◌≡◌, ◌≤◌, ◌*◌, drop, length, map, unsigned_abs, to_z, w32}
-use lib.Lanes.{Each1}
-use Rattle.chip_core.specs.Complex.{plus}
-use Rattle.chip_core.specs.Sums.{total}
-use Rattle.pilot_search.specs.BySigns.{correlation_with}
+use Rattle.pilot_search.proofs.Common.{◌≡◌, ◌≤◌, ◌*◌, drop, length, map, unsigned_abs, to_z, w32, Each1, plus, total, correlation_with}
 use Rattle.pilot_search.proofs.lanes.sums_on_lanes.Given as goal
 
 abbrev pub invariant-loop-k : goal.invariant-loop-k

@@ -1,9 +1,5 @@
-use Rattle.std.proofs.Common.{◌≡◌, ◌≤◌, ◌<◌, ◌+◌, ◌*◌, ◌^◌, ◌∙◌, List, ℤ, pos, ◌+ℤ◌, arith, ap, sym, subst, length, map, get_or, to_z, of_z}
-use Rattle.std.proofs.Common.{w32, w64, unsigned_abs}
-use Rattle.std.proofs.lemmas.Int.{to_z-of_z, fits_signed_from_abs}
-use Rattle.std.proofs.lemmas.List.{take_all}
-use Rattle.std.proofs.lemmas.Simd.{Each1-get_or}
-use Rattle.chip_core.specs.Sums.{total}
+use Rattle.pilot_search.proofs.Common.{◌≡◌, ◌≤◌, ◌<◌, ◌+◌, ◌*◌, ◌^◌, ◌∙◌, List, ℤ, pos, ◌+ℤ◌, arith, ap, sym, subst, length, map, get_or}
+use Rattle.pilot_search.proofs.Common.{to_z, of_z, w32, w64, unsigned_abs, to_z-of_z, fits_signed_from_abs, take_all, Each1-get_or, total}
 use Rattle.pilot_search.proofs.LaneLemmas.{total_more, kept_lanes, wide_sum, far_sum}
 use Rattle.pilot_search.proofs.lanes.total_of.Goals as goal
 

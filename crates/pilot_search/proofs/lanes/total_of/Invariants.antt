@@ -1,5 +1,4 @@
-use Rattle.std.proofs.Common.{◌≡◌, ◌≤◌, ◌*◌, take, unsigned_abs}
-use Rattle.chip_core.specs.Sums.{total}
+use Rattle.pilot_search.proofs.Common.{◌≡◌, ◌≤◌, ◌*◌, take, unsigned_abs, total}
 use Rattle.pilot_search.proofs.lanes.total_of.Given as goal
 
 abbrev pub invariant-loop-lane : goal.invariant-loop-lane

@@ -1,4 +1,4 @@
-use Rattle.pilot_search.specs.Ranked.{IsRound}
+use Rattle.pilot_search.proofs.Common.{IsRound}
 use Rattle.pilot_search.proofs.nearby.measured_round.Given as goal
 
 abbrev pub invariant-loop-place : goal.invariant-loop-place

@@ -1,4 +1,4 @@
-use Rattle.pilot_search.specs.Ranked.{IsNext}
+use Rattle.pilot_search.proofs.Common.{IsNext}
 use Rattle.pilot_search.proofs.nearby.next_place.Given as goal
 
 abbrev pub invariant-loop-place : goal.invariant-loop-place

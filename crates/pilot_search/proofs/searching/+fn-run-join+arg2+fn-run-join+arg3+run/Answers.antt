@@ -1,7 +1,4 @@
-use Rattle.std.proofs.Common.{◌≡◌, ◌+◌, ◌-◌, ◌/◌, ◌≤◌, ◌<◌, ℕ, arith, subst, sym}
-use Rattle.std.specs.Prelude.{Option}
-use Rattle.pilot_search.specs.Found.{IsFound, start_of}
-use Rattle.pilot_search.specs.declared.sweeping.Best.{Best}
+use Rattle.pilot_search.proofs.Common.{◌≡◌, ◌+◌, ◌-◌, ◌/◌, ◌≤◌, ◌<◌, ℕ, arith, subst, sym, Option, IsFound, start_of, Best}
 use Rattle.pilot_search.proofs.FoundLemmas.{both_found, start_up, start_most}
 use Rattle.pilot_search.proofs.searching.+fn-run-join+arg2+fn-run-join+arg3+run.Goals as goal
 

@@ -1,4 +1,4 @@
-use Rattle.std.proofs.Common.{◌+◌, ◌*◌}
+use Rattle.pilot_search.proofs.Common.{◌+◌, ◌*◌}
 use Rattle.pilot_search.proofs.searching.+fn-run-join+arg2+fn-run-join+arg3+run.Given as goal
 
 abbrev pub decreases-join+arg2 : goal.decreases-join+arg2

@@ -1,7 +1,4 @@
-use Rattle.std.proofs.Common.{subst}
-use Rattle.std.specs.Prelude.{Option}
-use Rattle.pilot_search.specs.Found.{IsFound}
-use Rattle.pilot_search.specs.declared.sweeping.Best.{Best}
+use Rattle.pilot_search.proofs.Common.{subst, Option, IsFound, Best}
 use Rattle.pilot_search.proofs.FoundLemmas.{best_found, is_some, whole}
 use Rattle.pilot_search.proofs.searching.search.Goals as goal
 

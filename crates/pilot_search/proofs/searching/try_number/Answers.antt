@@ -1,8 +1,4 @@
-use Rattle.std.proofs.Common.{◌≡◌, ◌≤◌, ◌<◌, ◌+◌, ℕ, arith, rules, subst, sym}
-use Rattle.std.specs.Prelude.{Option, None}
-use Rattle.pilot_search.specs.Bounds.{greatest}
-use Rattle.pilot_search.specs.Found.{IsFound}
-use Rattle.pilot_search.specs.declared.sweeping.Best.{Best}
+use Rattle.pilot_search.proofs.Common.{◌≡◌, ◌≤◌, ◌<◌, ◌+◌, ℕ, arith, rules, subst, sym, Option, None, greatest, IsFound, Best}
 use Rattle.pilot_search.proofs.FoundLemmas.{at_most_greatest, left_out}
 use Rattle.pilot_search.proofs.searching.try_number.Goals as goal
 

@@ -1,10 +1,7 @@
-use Rattle.std.proofs.Common.{◌+◌, ◌≤◌, arith, subst, sym}
-use Rattle.std.specs.Prelude.{Option}
-use Rattle.pilot_search.specs.Found.{IsFound}
-use Rattle.pilot_search.specs.declared.sweeping.Best.{Best}
+use Rattle.pilot_search.proofs.Common.{◌+◌, ◌≤◌, arith, subst, sym, Option, IsFound, Best}
 use Rattle.pilot_search.proofs.FoundLemmas.{both_found}
-use Rattle.pilot_search.proofs.searching.work.Goals as goal
 use Rattle.pilot_search.proofs.searching.work.Goals.{then-is_none, else-is_none}
+use Rattle.pilot_search.proofs.searching.work.Goals as goal
 
 pub loop-n-preserved : goal.loop-n-preserved
 loop-n-preserved c =

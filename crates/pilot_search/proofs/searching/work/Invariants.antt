@@ -1,7 +1,4 @@
-use Rattle.std.proofs.Common.{◌≡◌, ◌+◌, ◌≤◌}
-use Rattle.pilot_search.specs.Found.{IsFound}
-use Rattle.pilot_search.specs.Bounds.{greatest}
-use Rattle.pilot_search.specs.Knowledge.{IsHeld}
+use Rattle.pilot_search.proofs.Common.{◌≡◌, ◌+◌, ◌≤◌, IsFound, greatest, IsHeld}
 use Rattle.pilot_search.proofs.searching.work.Given as goal
 
 abbrev pub invariant-loop-n : goal.invariant-loop-n

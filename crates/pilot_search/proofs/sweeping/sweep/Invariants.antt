@@ -1,5 +1,4 @@
-use Rattle.std.proofs.Common.{◌≤◌, ◌^◌}
-use Rattle.pilot_search.specs.BestIn.{IsBestIn}
+use Rattle.pilot_search.proofs.Common.{◌≤◌, ◌^◌, IsBestIn}
 use Rattle.pilot_search.proofs.sweeping.sweep.Given as goal
 
 abbrev pub invariant-loop-n : goal.invariant-loop-n

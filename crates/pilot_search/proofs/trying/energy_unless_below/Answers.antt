@@ -1,8 +1,5 @@
-use Rattle.std.proofs.Common.{◌≡◌, ◌<◌, ◌+◌, ◌*◌, ◌-◌, ◌/◌, ◌%◌, ◌∙◌, ℕ, List, arith, rules, ap, drop, length}
-use Rattle.std.proofs.lemmas.Grind.{common_steps}
-use Rattle.chip_core.specs.declared.sample.Sample.{Sample}
-use Rattle.pilot_search.specs.Search.{correlation}
-use Rattle.pilot_search.specs.Bounds.{bound, magnitudes}
+use Rattle.pilot_search.proofs.Common.{◌≡◌, ◌<◌, ◌+◌, ◌*◌, ◌-◌, ◌/◌, ◌%◌, ◌∙◌, ℕ, List, arith, rules, ap, drop, length, common_steps}
+use Rattle.pilot_search.proofs.Common.{Sample, correlation, bound, magnitudes}
 use Rattle.pilot_search.proofs.BoundLemmas.{bound_is, bound_below, none_left, none_below, sum_whole}
 use Rattle.pilot_search.proofs.trying.energy_unless_below.Goals as goal
 

@@ -1,5 +1,4 @@
-use Rattle.std.proofs.Common.{arith}
-use Rattle.std.proofs.lemmas.Int.{ints}
+use Rattle.pilot_search.proofs.Common.{arith, ints}
 use Rattle.pilot_search.proofs.CorrelationSums.{plus_is}
 use Rattle.pilot_search.proofs.trying.joined.Goals as goal
 

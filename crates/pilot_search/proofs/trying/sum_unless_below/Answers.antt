@@ -1,8 +1,5 @@
-use Rattle.std.proofs.Common.{◌≡◌, ◌≤◌, ◌<◌, ◌+◌, ◌*◌, ◌-◌, ◌%◌, ◌∙◌, ℕ, List, arith, ap, refl, take, drop, length}
-use Rattle.std.proofs.lemmas.Int.{ints}
-use Rattle.std.proofs.lemmas.List.{length-drop, length-take-le, drop-drop}
-use Rattle.chip_core.specs.declared.sample.Sample.{Sample}
-use Rattle.pilot_search.specs.Search.{correlation}
+use Rattle.pilot_search.proofs.Common.{◌≡◌, ◌≤◌, ◌<◌, ◌+◌, ◌*◌, ◌-◌, ◌%◌, ◌∙◌, ℕ, List, arith, ap, refl, take, drop, length, ints}
+use Rattle.pilot_search.proofs.Common.{length-drop, length-take-le, drop-drop, Sample, correlation}
 use Rattle.pilot_search.proofs.BoundLemmas.{none_added, bound_below, sum_more}
 use Rattle.pilot_search.proofs.trying.sum_unless_below.Goals as goal
 

@@ -1,5 +1,4 @@
-use Rattle.std.proofs.Common.{◌≡◌, ◌+◌, ◌*◌, ◌-◌, ◌≤◌, length, drop}
-use Rattle.pilot_search.specs.Bounds.{IsSumOf}
+use Rattle.pilot_search.proofs.Common.{◌≡◌, ◌+◌, ◌*◌, ◌-◌, ◌≤◌, length, drop, IsSumOf}
 use Rattle.pilot_search.proofs.trying.sum_unless_below.Given as goal
 
 abbrev pub decreases-loop-j : goal.decreases-loop-j

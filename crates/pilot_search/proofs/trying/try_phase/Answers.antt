@@ -1,4 +1,4 @@
-use Rattle.std.proofs.Common.{arith}
+use Rattle.pilot_search.proofs.Common.{arith}
 use Rattle.pilot_search.proofs.Runs.{left_is_try, told_is_try}
 use Rattle.pilot_search.proofs.trying.try_phase.Goals as goal
 

@@ -1,4 +1,4 @@
-use Rattle.std.proofs.Common.{sym, ◌∙◌, arith}
+use Rattle.pilot_sets.proofs.Common.{sym, ◌∙◌, arith}
 use Rattle.pilot_sets.proofs.Refusals.{too_many, unknown, named_twice, not_refused}
 use Rattle.pilot_sets.proofs.directing.direction_fault.Goals as goal
 

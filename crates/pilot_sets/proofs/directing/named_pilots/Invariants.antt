@@ -1,4 +1,4 @@
-use Rattle.std.proofs.Common.{◌≡◌, ◌++◌, drop, length}
+use Rattle.pilot_sets.proofs.Common.{◌≡◌, ◌++◌, drop, length}
 use Rattle.pilot_sets.specs.Directions.{named_pilots as pilots_named}
 use Rattle.pilot_sets.proofs.directing.named_pilots.Given as goal
 

@@ -1,7 +1,6 @@
-use Rattle.std.proofs.Common.{◌+◌, ◌∷◌, [], drop, sym, ◌∙◌, arith, ap, length-append}
-use Rattle.pilot_sets.specs.Pilots.{has as has_pilot}
-use Rattle.pilot_sets.specs.Directions.{first_repeated}
+use Rattle.pilot_sets.proofs.Common.{◌+◌, ◌∷◌, [], drop, sym, ◌∙◌, arith, ap, length-append, first_repeated}
 use Rattle.pilot_sets.proofs.Firsts.{repeated_here, repeated_more}
+use Rattle.pilot_sets.specs.Pilots.{has as has_pilot}
 use Rattle.pilot_sets.proofs.directing.repeated.Goals as goal
 
 pub returns-then-has : goal.returns-then-has

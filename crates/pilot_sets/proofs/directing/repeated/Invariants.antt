@@ -1,5 +1,4 @@
-use Rattle.std.proofs.Common.{◌≡◌, [], drop, length}
-use Rattle.pilot_sets.specs.Directions.{first_repeated}
+use Rattle.pilot_sets.proofs.Common.{◌≡◌, [], drop, length, first_repeated}
 use Rattle.pilot_sets.proofs.directing.repeated.Given as goal
 
 abbrev pub invariant-loop-i : goal.invariant-loop-i

@@ -1,5 +1,4 @@
-use Rattle.std.proofs.Common.{sym, ◌∙◌, arith}
-use Rattle.pilot_sets.specs.Directions.{is_unknown_row}
+use Rattle.pilot_sets.proofs.Common.{sym, ◌∙◌, arith, is_unknown_row}
 use Rattle.pilot_sets.proofs.Firsts.{find_here, find_more}
 use Rattle.pilot_sets.proofs.directing.unknown_row.Goals as goal
 

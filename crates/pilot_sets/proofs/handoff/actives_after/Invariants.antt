@@ -1,4 +1,4 @@
-use Rattle.std.proofs.Common.{◌≡◌, ◌≤◌, ◌++◌, drop, length}
+use Rattle.pilot_sets.proofs.Common.{◌≡◌, ◌≤◌, ◌++◌, drop, length}
 use Rattle.pilot_sets.specs.Handoffs.{actives_after as actives_by}
 use Rattle.pilot_sets.proofs.handoff.actives_after.Given as goal
 

@@ -1,4 +1,4 @@
-use Rattle.std.proofs.Common.{◌≡◌, ◌≤◌, take, length}
+use Rattle.pilot_sets.proofs.Common.{◌≡◌, ◌≤◌, take, length}
 use Rattle.pilot_sets.specs.Handoffs.{actives_without as actives_left}
 use Rattle.pilot_sets.proofs.handoff.actives_without.Given as goal
 

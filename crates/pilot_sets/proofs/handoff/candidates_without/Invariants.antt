@@ -1,4 +1,4 @@
-use Rattle.std.proofs.Common.{◌≡◌, ◌≤◌, take, length}
+use Rattle.pilot_sets.proofs.Common.{◌≡◌, ◌≤◌, take, length}
 use Rattle.pilot_sets.specs.Handoffs.{candidates_without as candidates_left}
 use Rattle.pilot_sets.proofs.handoff.candidates_without.Given as goal
 

@@ -1,5 +1,4 @@
-use Rattle.std.proofs.Common.{◌≡◌, drop}
-use Rattle.pilot_sets.specs.Handoffs.{all_left}
+use Rattle.pilot_sets.proofs.Common.{◌≡◌, drop, all_left}
 use Rattle.pilot_sets.proofs.handoff.leave_all.Given as goal
 
 abbrev pub invariant-loop-a : goal.invariant-loop-a

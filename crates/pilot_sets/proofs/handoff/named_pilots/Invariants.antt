@@ -1,5 +1,4 @@
-use Rattle.std.proofs.Common.{◌≡◌, take}
-use Rattle.pilot_sets.specs.Handoffs.{pilots_named}
+use Rattle.pilot_sets.proofs.Common.{◌≡◌, take, pilots_named}
 use Rattle.pilot_sets.proofs.handoff.named_pilots.Given as goal
 
 abbrev pub invariant-loop-n : goal.invariant-loop-n

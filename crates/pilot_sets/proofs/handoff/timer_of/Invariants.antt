@@ -1,4 +1,4 @@
-use Rattle.std.proofs.Common.{◌≡◌, drop}
+use Rattle.pilot_sets.proofs.Common.{◌≡◌, drop}
 use Rattle.pilot_sets.specs.Handoffs.{timer_of as timer_among}
 use Rattle.pilot_sets.proofs.handoff.timer_of.Given as goal
 

@@ -1,8 +1,8 @@
-use Rattle.std.proofs.Common.{◌<◌, ◌∷◌, [], length, sym, ◌∙◌, arith, ap, length-append}
-use Rattle.pilot_sets.specs.Pilots.{has as has_pilot}
+use Rattle.pilot_sets.proofs.Common.{◌<◌, ◌∷◌, [], length, sym, ◌∙◌, arith, ap, length-append}
 use Rattle.pilot_sets.proofs.Firsts.{firsts_new, firsts_old}
-use Rattle.pilot_sets.proofs.hearing.firsts.Goals as goal
 use Rattle.pilot_sets.proofs.hearing.firsts.Goals.{then-not-has, else-not-has}
+use Rattle.pilot_sets.specs.Pilots.{has as has_pilot}
+use Rattle.pilot_sets.proofs.hearing.firsts.Goals as goal
 
 pub loop-i-preserved : goal.loop-i-preserved
 loop-i-preserved c =

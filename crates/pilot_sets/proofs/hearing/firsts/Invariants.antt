@@ -1,4 +1,4 @@
-use Rattle.std.proofs.Common.{◌≡◌, ◌≤◌, ◌++◌, [], drop, length}
+use Rattle.pilot_sets.proofs.Common.{◌≡◌, ◌≤◌, ◌++◌, [], drop, length}
 use Rattle.pilot_sets.specs.Pilots.{firsts as firsts_of}
 use Rattle.pilot_sets.proofs.hearing.firsts.Given as goal
 

@@ -1,9 +1,7 @@
-use Rattle.std.proofs.Common.{sym, ◌∙◌, ap, not}
-use Rattle.pilot_sets.specs.Pilots.{lacks}
-use Rattle.pilot_sets.specs.PilotSets.{timed_pilots}
+use Rattle.pilot_sets.proofs.Common.{sym, ◌∙◌, ap, not, lacks, timed_pilots}
 use Rattle.pilot_sets.proofs.Within.{filtered_hit, filtered_miss}
-use Rattle.pilot_sets.proofs.hearing.free_pilots.Goals as goal
 use Rattle.pilot_sets.proofs.hearing.free_pilots.Goals.{then-not-has_timer, else-not-has_timer}
+use Rattle.pilot_sets.proofs.hearing.free_pilots.Goals as goal
 
 pub loop-p-preserved : goal.loop-p-preserved
 loop-p-preserved c =

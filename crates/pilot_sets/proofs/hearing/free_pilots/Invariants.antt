@@ -1,6 +1,4 @@
-use Rattle.std.proofs.Common.{◌≡◌, ◌≤◌, take, length}
-use Rattle.pilot_sets.specs.Pilots.{without}
-use Rattle.pilot_sets.specs.PilotSets.{timed_pilots}
+use Rattle.pilot_sets.proofs.Common.{◌≡◌, ◌≤◌, take, length, without, timed_pilots}
 use Rattle.pilot_sets.proofs.hearing.free_pilots.Given as goal
 
 abbrev pub invariant-loop-p : goal.invariant-loop-p

@@ -1,5 +1,4 @@
-use Rattle.std.proofs.Common.{◌≡◌, map, take}
-use Rattle.pilot_sets.specs.Standing.{shown_active}
+use Rattle.pilot_sets.proofs.Common.{◌≡◌, map, take, shown_active}
 use Rattle.pilot_sets.proofs.lists.active_list.Given as goal
 
 abbrev pub invariant-loop-a : goal.invariant-loop-a

@@ -1,5 +1,4 @@
-use Rattle.std.proofs.Common.{◌≡◌, drop}
-use Rattle.std.specs.Cmp.Lexicographic.{pointwise}
+use Rattle.pilot_sets.proofs.Common.{◌≡◌, drop, pointwise}
 use Rattle.pilot_sets.specs.Standing.{is_same_active as is_same_by}
 use Rattle.pilot_sets.proofs.moment.are_same_actives.Given as goal
 

@@ -1,5 +1,4 @@
-use Rattle.std.proofs.Common.{◌≡◌, ◌≤◌, take, length}
-use Rattle.pilot_sets.specs.Moments.{pilots_going}
+use Rattle.pilot_sets.proofs.Common.{◌≡◌, ◌≤◌, take, length, pilots_going}
 use Rattle.pilot_sets.proofs.moves.going.Given as goal
 
 abbrev pub invariant-loop-c : goal.invariant-loop-c

@@ -1,4 +1,4 @@
-use Rattle.std.proofs.Common.{◌≡◌, ◌≤◌, ◌++◌, take, length}
+use Rattle.pilot_sets.proofs.Common.{◌≡◌, ◌≤◌, ◌++◌, take, length}
 use Rattle.pilot_sets.proofs.moves.joined.Given as goal
 
 abbrev pub invariant-loop-p : goal.invariant-loop-p

@@ -1,5 +1,4 @@
-use Rattle.std.proofs.Common.{◌≡◌, ◌≤◌, take, filter, length}
-use Rattle.pilot_sets.specs.Moments.{stays}
+use Rattle.pilot_sets.proofs.Common.{◌≡◌, ◌≤◌, take, filter, length, stays}
 use Rattle.pilot_sets.proofs.moves.staying.Given as goal
 
 abbrev pub invariant-loop-c : goal.invariant-loop-c

@@ -1,5 +1,4 @@
-use Rattle.std.proofs.Common.{◌≡◌, ◌≤◌, take, filter, length}
-use Rattle.pilot_sets.specs.Moments.{energy_in, rises}
+use Rattle.pilot_sets.proofs.Common.{◌≡◌, ◌≤◌, take, filter, length, energy_in, rises}
 use Rattle.pilot_sets.proofs.moves.strong_neighbors.Given as goal
 
 abbrev pub invariant-loop-p : goal.invariant-loop-p

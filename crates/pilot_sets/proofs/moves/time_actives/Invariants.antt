@@ -1,5 +1,4 @@
-use Rattle.std.proofs.Common.{◌≡◌, take, map}
-use Rattle.pilot_sets.specs.Moments.{energy_in, active_timed}
+use Rattle.pilot_sets.proofs.Common.{◌≡◌, take, map, energy_in, active_timed}
 use Rattle.pilot_sets.proofs.moves.time_actives.Given as goal
 
 abbrev pub invariant-loop-a : goal.invariant-loop-a

@@ -1,5 +1,4 @@
-use Rattle.std.proofs.Common.{◌≡◌, take, map}
-use Rattle.pilot_sets.specs.Moments.{energy_in, candidate_timed}
+use Rattle.pilot_sets.proofs.Common.{◌≡◌, take, map, energy_in, candidate_timed}
 use Rattle.pilot_sets.proofs.moves.time_candidates.Given as goal
 
 abbrev pub invariant-loop-c : goal.invariant-loop-c

@@ -1,4 +1,4 @@
-use Rattle.std.proofs.Common.{◌≡◌, ◌++◌, take, map}
+use Rattle.pilot_sets.proofs.Common.{◌≡◌, ◌++◌, take, map}
 use Rattle.pilot_sets.specs.Handoffs.{fresh as fresh_candidate}
 use Rattle.pilot_sets.proofs.moves.with_risen.Given as goal
 

@@ -1,5 +1,4 @@
-use Rattle.std.proofs.Common.{◌≡◌, take}
-use Rattle.pilot_sets.specs.PilotSets.{pilots_of_actives}
+use Rattle.pilot_sets.proofs.Common.{◌≡◌, take, pilots_of_actives}
 use Rattle.pilot_sets.proofs.pilots.active_pilots.Given as goal
 
 abbrev pub invariant-loop-a : goal.invariant-loop-a

@@ -1,5 +1,4 @@
-use Rattle.std.proofs.Common.{◌≡◌, take}
-use Rattle.pilot_sets.specs.PilotSets.{pilots_of_candidates}
+use Rattle.pilot_sets.proofs.Common.{◌≡◌, take, pilots_of_candidates}
 use Rattle.pilot_sets.proofs.pilots.candidate_pilots.Given as goal
 
 abbrev pub invariant-loop-c : goal.invariant-loop-c

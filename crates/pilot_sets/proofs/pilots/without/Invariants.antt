@@ -1,4 +1,4 @@
-use Rattle.std.proofs.Common.{◌≡◌, ◌≤◌, take, length}
+use Rattle.pilot_sets.proofs.Common.{◌≡◌, ◌≤◌, take, length}
 use Rattle.pilot_sets.specs.Pilots.{without as without_pilots}
 use Rattle.pilot_sets.proofs.pilots.without.Given as goal
 

@@ -1,5 +1,4 @@
-use Rattle.std.proofs.Common.{◌≡◌, drop}
-use Rattle.std.specs.List.{list_any}
+use Rattle.pilot_sets.proofs.Common.{◌≡◌, drop, list_any}
 use Rattle.pilot_sets.specs.Moments.{energy_in, is_above as is_above_by}
 use Rattle.pilot_sets.proofs.reports.are_above.Given as goal
 

@@ -1,7 +1,5 @@
-use Rattle.std.proofs.Common.{◌≡◌, drop}
-use Rattle.std.specs.List.{list_any}
+use Rattle.pilot_sets.proofs.Common.{◌≡◌, drop, list_any, ActivePilot}
 use Rattle.pilot_sets.specs.Timers.{is_expired as is_expired_by}
-use Rattle.pilot_sets.specs.declared.standing.ActivePilot.{ActivePilot}
 use Rattle.pilot_sets.proofs.reports.has_expired.Given as goal
 
 abbrev pub invariant-loop-a : goal.invariant-loop-a

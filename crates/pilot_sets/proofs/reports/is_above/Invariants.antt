@@ -1,4 +1,4 @@
-use Rattle.std.proofs.Common.{◌≡◌, drop}
+use Rattle.pilot_sets.proofs.Common.{◌≡◌, drop}
 use Rattle.pilot_sets.specs.Moments.{energy_in, is_above as is_above_by}
 use Rattle.pilot_sets.proofs.reports.is_above.Given as goal
 

@@ -1,5 +1,4 @@
-use Rattle.std.proofs.Common.{◌≡◌, drop, length}
-use Rattle.pilot_sets.specs.Standing.{deltas_with}
+use Rattle.pilot_sets.proofs.Common.{◌≡◌, drop, length, deltas_with}
 use Rattle.pilot_sets.proofs.sets.keep_deltas.Given as goal
 
 abbrev pub invariant-loop-s : goal.invariant-loop-s

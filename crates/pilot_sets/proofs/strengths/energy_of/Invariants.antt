@@ -1,5 +1,4 @@
-use Rattle.std.proofs.Common.{◌≡◌, drop}
-use Rattle.pilot_sets.specs.Moments.{energy_in}
+use Rattle.pilot_sets.proofs.Common.{◌≡◌, drop, energy_in}
 use Rattle.pilot_sets.proofs.strengths.energy_of.Given as goal
 
 -- the strengths so far are of other pilots

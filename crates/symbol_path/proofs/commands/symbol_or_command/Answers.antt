@@ -1,4 +1,4 @@
-use Rattle.std.proofs.Common.{sym, ◌∙◌}
+use Rattle.symbol_path.proofs.Common.{sym, ◌∙◌}
 use Rattle.symbol_path.proofs.PowerControl.{kept_symbol, replaced_symbol}
 use Rattle.symbol_path.proofs.commands.symbol_or_command.Goals as goal
 

@@ -1,7 +1,5 @@
-use Rattle.std.proofs.Common.{◌≡◌, ℕ, ◌+◌, ◌++◌, ◌∷◌, [], Bool, List, map, length, sym, ap, ◌∙◌, arith}
-use Rattle.chip_core.specs.Bits.{places}
-use Rattle.chip_core.proofs.Places.{places-none, map-places-more, length-map-places}
-use Rattle.symbol_path.specs.Scrambling.{symbol_or_command, with_commands}
+use Rattle.symbol_path.proofs.Common.{◌≡◌, ℕ, ◌+◌, ◌++◌, ◌∷◌, [], Bool, List, map, length, sym, ap, ◌∙◌, arith, places, places-none}
+use Rattle.symbol_path.proofs.Common.{map-places-more, length-map-places, symbol_or_command, with_commands}
 use Rattle.symbol_path.proofs.commands.with_commands.Goals as goal
 
 pub loop-i-init : goal.loop-i-init

@@ -1,6 +1,4 @@
-use Rattle.std.proofs.Common.{◌≡◌, length, map}
-use Rattle.chip_core.specs.Bits.{places}
-use Rattle.symbol_path.specs.Scrambling.{symbol_or_command}
+use Rattle.symbol_path.proofs.Common.{◌≡◌, length, map, places, symbol_or_command}
 use Rattle.symbol_path.proofs.commands.with_commands.Given as goal
 
 abbrev pub invariant-loop-i : goal.invariant-loop-i

@@ -1,7 +1,4 @@
-use Rattle.std.proofs.Common.{length, ap, ◌∙◌, arith}
-use Rattle.chip_core.specs.Bits.{binary}
-use Rattle.symbol_path.specs.SentOrderTwo.{sent2}
-use Rattle.symbol_path.specs.FramesTwo.{word_bits}
+use Rattle.symbol_path.proofs.Common.{length, ap, ◌∙◌, arith, binary, sent2, word_bits}
 use Rattle.symbol_path.proofs.WordsTwo.{bits_most, length-word_symbols, coded_from_zero}
 use Rattle.symbol_path.proofs.encoding_two.encode2_into.Goals as goal
 

@@ -1,6 +1,4 @@
-use Rattle.std.proofs.Common.{◌++◌, length, ap, ◌∙◌, arith}
-use Rattle.chip_core.specs.declared.check_form.CheckForm.TheVariants.{Plain}
-use Rattle.quality_bits.specs.Kinds.{sent_check}
+use Rattle.symbol_path.proofs.Common.{◌++◌, length, ap, ◌∙◌, arith, Plain, sent_check}
 use Rattle.quality_bits.specs.declared.kind.Kind.{Kind}
 use Rattle.symbol_path.proofs.WordsTwo.{bits_most, length-checked, length-word_bits, tailed}
 use Rattle.symbol_path.proofs.encoding_two.word.Goals as goal

@@ -1,6 +1,4 @@
-use Rattle.std.proofs.Common.{pos, arith, ⊎_elim}
-use Rattle.std.proofs.lemmas.Bool.{cases_lt}
-use Rattle.std.proofs.lemmas.List.{get_or_past}
+use Rattle.symbol_path.proofs.Common.{pos, arith, ⊎_elim, cases_lt, get_or_past}
 use Rattle.symbol_path.proofs.Gathering.{sizes_none}
 use Rattle.symbol_path.proofs.order.clear.Goals as goal
 

@@ -1,4 +1,4 @@
-use Rattle.std.proofs.Common.{◌≡◌, pos, ℕ, ◌<◌, get_or}
+use Rattle.symbol_path.proofs.Common.{◌≡◌, pos, ℕ, ◌<◌, get_or}
 use Rattle.symbol_path.proofs.order.clear.Given as goal
 
 abbrev pub invariant-loop-value : goal.invariant-loop-value

@@ -1,5 +1,4 @@
-use Rattle.std.proofs.Common.{◌≡◌, ◌<◌, ◌*◌, ◌/◌, ℕ, arith, pos, get_or, length, sym, ap, ◌∙◌}
-use Rattle.symbol_path.specs.SentOrder.{shape_of, size, address}
+use Rattle.symbol_path.proofs.Common.{◌≡◌, ◌<◌, ◌*◌, ◌/◌, ℕ, arith, pos, get_or, length, sym, ap, ◌∙◌, shape_of, size, address}
 use Rattle.symbol_path.proofs.Interleaving.{symbol_lt, size_some, count_is}
 use Rattle.symbol_path.proofs.Gathering.{part-none, part, turn, turn_sizes, sum_has_room, added_fits, gathered_all}
 use Rattle.symbol_path.proofs.order.gather_into.Goals as goal

@@ -1,6 +1,4 @@
-use Rattle.std.proofs.Common.{◌≡◌, ◌≤◌, ◌/◌, ℕ, get_or, take, pos}
-use Rattle.std.specs.Prelude.{sum_by, unsigned_abs}
-use Rattle.symbol_path.specs.SentOrder.{shape_of, address}
+use Rattle.symbol_path.proofs.Common.{◌≡◌, ◌≤◌, ◌/◌, ℕ, get_or, take, pos, sum_by, unsigned_abs, shape_of, address}
 use Rattle.symbol_path.proofs.Gathering.{part}
 use Rattle.symbol_path.proofs.order.gather_into.Given as goal
 

@@ -1,8 +1,5 @@
-use Rattle.std.proofs.Common.{◌≡◌, ◌/◌, ℕ, arith, get_or, false, map, length, sym, ap, ◌∙◌}
-use Rattle.std.proofs.lemmas.Option.{get_or_from_slice_get}
-use Rattle.chip_core.specs.Bits.{places}
-use Rattle.chip_core.proofs.Places.{places-none, map-places-more, length-map-places}
-use Rattle.symbol_path.specs.SentOrder.{shape_of, size, address, sent}
+use Rattle.symbol_path.proofs.Common.{◌≡◌, ◌/◌, ℕ, arith, get_or, false, map, length, sym, ap, ◌∙◌, get_or_from_slice_get, places}
+use Rattle.symbol_path.proofs.Common.{places-none, map-places-more, length-map-places, shape_of, size, address, sent}
 use Rattle.symbol_path.proofs.Interleaving.{size_most}
 use Rattle.symbol_path.proofs.order.place_into.Goals as goal
 

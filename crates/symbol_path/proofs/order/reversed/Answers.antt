@@ -1,5 +1,4 @@
-use Rattle.std.proofs.Common.{◌+◌, arith}
-use Rattle.chip_core.proofs.Numerals.{digit_fits}
+use Rattle.symbol_path.proofs.Common.{◌+◌, arith, digit_fits}
 use Rattle.symbol_path.proofs.Reversal.{reversed_more, reversed_all}
 use Rattle.symbol_path.proofs.order.reversed.Goals as goal
 

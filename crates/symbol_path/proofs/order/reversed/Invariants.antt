@@ -1,6 +1,4 @@
-use Rattle.std.proofs.Common.{◌≡◌, ◌-◌, ◌<◌, ◌^◌, reverse}
-use Rattle.chip_core.specs.Bits.{number_from, binary}
-use Rattle.symbol_path.specs.SentOrder.{reversed}
+use Rattle.symbol_path.proofs.Common.{◌≡◌, ◌-◌, ◌<◌, ◌^◌, reverse, number_from, binary, reversed}
 use Rattle.symbol_path.proofs.order.reversed.Given as goal
 
 abbrev pub invariant-loop-bit : goal.invariant-loop-bit

@@ -1,8 +1,5 @@
-use Rattle.std.proofs.Common.{◌≡◌, ℕ, Bool, arith, get_or, false, map, length, sym, ap, ◌∙◌}
-use Rattle.std.proofs.lemmas.Option.{get_or_from_slice_get}
-use Rattle.chip_core.specs.Bits.{places}
-use Rattle.chip_core.proofs.Places.{places-none, map-places-more, length-map-places}
-use Rattle.symbol_path.specs.SentOrderTwo.{place2, sent2}
+use Rattle.symbol_path.proofs.Common.{◌≡◌, ℕ, Bool, arith, get_or, false, map, length, sym, ap, ◌∙◌, get_or_from_slice_get, places}
+use Rattle.symbol_path.proofs.Common.{places-none, map-places-more, length-map-places, place2, sent2}
 use Rattle.symbol_path.proofs.order_two.place2_into.Goals as goal
 
 pub loop-i-init : goal.loop-i-init

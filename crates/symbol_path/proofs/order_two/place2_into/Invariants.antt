@@ -1,6 +1,4 @@
-use Rattle.std.proofs.Common.{◌≡◌, map, get_or, false}
-use Rattle.chip_core.specs.Bits.{places}
-use Rattle.symbol_path.specs.SentOrderTwo.{place2}
+use Rattle.symbol_path.proofs.Common.{◌≡◌, map, get_or, false, places, place2}
 use Rattle.symbol_path.proofs.order_two.place2_into.Given as goal
 
 abbrev pub invariant-loop-i : goal.invariant-loop-i

@@ -1,5 +1,4 @@
-use Rattle.std.proofs.Common.{sym, arith, ◌∙◌}
-use Rattle.long_code.proofs.After.{after_none}
+use Rattle.symbol_path.proofs.Common.{sym, arith, ◌∙◌, after_none}
 use Rattle.symbol_path.proofs.scramble.group_bits.Goals as goal
 
 pub returns-clause-later : goal.returns-clause-later

@@ -1,7 +1,5 @@
-use Rattle.std.proofs.Common.{◌≡◌, ◌<◌, ◌+◌, ◌*◌, ℕ, arith, sym, ap, ◌∙◌, refl, subst, List}
-use Rattle.std.proofs.lemmas.List.Elements.{All-from_get_or}
-use Rattle.long_code.specs.LongCode.{after, before}
-use Rattle.symbol_path.specs.Scrambling.{group_scrambling, power_start, power_place}
+use Rattle.symbol_path.proofs.Common.{◌≡◌, ◌<◌, ◌+◌, ◌*◌, ℕ, arith, sym, ap, ◌∙◌, refl, subst, List, All-from_get_or, after, before}
+use Rattle.symbol_path.proofs.Common.{group_scrambling, power_start, power_place}
 use Rattle.symbol_path.proofs.SymbolChips.{before_later, group_first, group_next, power_place_is}
 use Rattle.symbol_path.proofs.PowerPlaces.{ArePairs, pairs_more, pairs_all, pairs_rise, pairs_below, pairs_in_groups, pairs_neighbours}
 use Rattle.symbol_path.proofs.PowerPlaces.{power_place_in_groups}

@@ -1,6 +1,4 @@
-use Rattle.std.proofs.Common.{◌≡◌, ◌*◌}
-use Rattle.long_code.specs.LongCode.{after, before}
-use Rattle.symbol_path.specs.Scrambling.{power_place}
+use Rattle.symbol_path.proofs.Common.{◌≡◌, ◌*◌, after, before, power_place}
 use Rattle.symbol_path.proofs.PowerPlaces.{ArePairs}
 use Rattle.symbol_path.proofs.scramble.power_places.Given as goal
 

@@ -1,6 +1,5 @@
-use Rattle.std.proofs.Common.{◌≡◌, ◌≢◌, ◌<◌, ◌+◌, ◌*◌, ℕ, length, get_or, set, false, below_more, arith, ap, ◌∙◌}
-use Rattle.std.proofs.lemmas.List.{get_or-set_same, get_or-set_other}
-use Rattle.long_code.specs.LongCode.{after, long_chip}
+use Rattle.symbol_path.proofs.Common.{◌≡◌, ◌≢◌, ◌<◌, ◌+◌, ◌*◌, ℕ, length, get_or, set, false, below_more, arith, ap, ◌∙◌, get_or-set_same}
+use Rattle.symbol_path.proofs.Common.{get_or-set_other, after, long_chip}
 use Rattle.symbol_path.proofs.SymbolChips.{long_chip-same, later_by_symbol, symbol_chips_all}
 use Rattle.symbol_path.proofs.scramble.symbol_chips.Goals as goal
 

@@ -1,5 +1,4 @@
-use Rattle.std.proofs.Common.{◌≡◌, ◌<◌, ◌+◌, ◌*◌, ℕ, get_or, false}
-use Rattle.long_code.specs.LongCode.{IsState, after, long_chip}
+use Rattle.symbol_path.proofs.Common.{◌≡◌, ◌<◌, ◌+◌, ◌*◌, ℕ, get_or, false, IsState, after, long_chip}
 use Rattle.symbol_path.proofs.scramble.symbol_chips.Given as goal
 
 abbrev pub invariant-loop-chip : goal.invariant-loop-chip

@@ -1,5 +1,4 @@
-use Rattle.std.proofs.Common.{ap, ◌∙◌}
-use Rattle.traffic_message.specs.Reading.{body_reading, traffic_reading}
+use Rattle.traffic_message.proofs.Common.{ap, ◌∙◌, body_reading, traffic_reading}
 use Rattle.traffic_message.proofs.Bodies.{message_again, message_there}
 use Rattle.traffic_message.proofs.Readings.{capsule_is_read, reads_capsule}
 use Rattle.traffic_message.proofs.laws.reading_turns_spelling_back.Goals as goal

@@ -1,7 +1,4 @@
-use Rattle.std.proofs.Common.{sym, ap, ◌∙◌}
-use Rattle.quality_bits.specs.declared.kind.Kind.TheVariants.{M16}
-use Rattle.quality_bits.proofs.Wholes.{inner, inner-capsule}
-use Rattle.traffic_message.specs.Messages.{message_body, traffic_capsule}
+use Rattle.traffic_message.proofs.Common.{sym, ap, ◌∙◌, M16, inner, inner-capsule, message_body, traffic_capsule}
 use Rattle.traffic_message.proofs.Readings.{message_injective}
 use Rattle.traffic_message.proofs.laws.spelling_has_one_message.Goals as goal
 

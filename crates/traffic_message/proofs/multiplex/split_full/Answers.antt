@@ -1,4 +1,4 @@
-use Rattle.std.proofs.Common.{◌∙◌}
+use Rattle.traffic_message.proofs.Common.{◌∙◌}
 use Rattle.traffic_message.proofs.Frames.{mixed_split, plain_split}
 use Rattle.traffic_message.proofs.multiplex.split_full.Goals as goal
 

@@ -1,8 +1,5 @@
-use Rattle.std.proofs.Common.{◌++◌, length, get_or, map, ap, ◌∙◌, arith, take, length-append}
-use Rattle.std.proofs.lemmas.List.{length-map}
-use Rattle.chip_core.specs.Bits.{binary}
-use Rattle.chip_core.specs.Fields.{spelled, in_widths}
-use Rattle.chip_core.proofs.ValueLists.{fit_value, width_within, write_room, written_more}
+use Rattle.traffic_message.proofs.Common.{◌++◌, length, get_or, map, ap, ◌∙◌, arith, take, length-append, length-map, binary, spelled}
+use Rattle.traffic_message.proofs.Common.{in_widths, fit_value, width_within, write_room, written_more}
 use Rattle.traffic_message.proofs.values.append_values.Goals as goal
 
 pub append_number-requires-clause-width : goal.append_number-requires-clause-width

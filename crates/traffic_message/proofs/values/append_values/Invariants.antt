@@ -1,5 +1,4 @@
-use Rattle.std.proofs.Common.{◌≡◌, ◌++◌, map, take}
-use Rattle.chip_core.specs.Fields.{spelled, in_widths}
+use Rattle.traffic_message.proofs.Common.{◌≡◌, ◌++◌, map, take, spelled, in_widths}
 use Rattle.traffic_message.proofs.values.append_values.Given as goal
 
 abbrev pub invariant-loop-i : goal.invariant-loop-i

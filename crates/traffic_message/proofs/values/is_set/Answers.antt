@@ -1,4 +1,4 @@
-use Rattle.std.proofs.Common.{sym}
+use Rattle.traffic_message.proofs.Common.{sym}
 use Rattle.traffic_message.proofs.Frames.{set_there}
 use Rattle.traffic_message.proofs.values.is_set.Goals as goal
 

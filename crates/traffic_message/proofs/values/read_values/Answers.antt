@@ -1,9 +1,6 @@
-use Rattle.std.proofs.Common.{◌≡◌, ◌<◌, ◌++◌, ◌∷◌, [], length, get_or, map, rules, ap, sym, ◌∙◌, arith, take, drop}
-use Rattle.std.proofs.lemmas.List.{length-map}
-use Rattle.chip_core.specs.Bits.{number}
-use Rattle.chip_core.specs.Fields.{total}
-use Rattle.chip_core.specs.Readings.{number_at, values_at}
-use Rattle.chip_core.proofs.ValueLists.{dropped, taken_set, total_more, total_room, values_more, width_within}
+use Rattle.traffic_message.proofs.Common.{◌≡◌, ◌<◌, ◌++◌, ◌∷◌, [], length, get_or, map, rules, ap, sym, ◌∙◌, arith, take, drop, length-map}
+use Rattle.traffic_message.proofs.Common.{number, total, number_at, values_at, dropped, taken_set, total_more, total_room, values_more}
+use Rattle.traffic_message.proofs.Common.{width_within}
 use Rattle.traffic_message.proofs.values.read_values.Goals as goal
 
 pub read_number-requires-clause-width : goal.read_number-requires-clause-width

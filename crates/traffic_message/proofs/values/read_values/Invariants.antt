@@ -1,6 +1,4 @@
-use Rattle.std.proofs.Common.{◌≡◌, ◌+◌, length, drop, map, take}
-use Rattle.chip_core.specs.Fields.{total}
-use Rattle.chip_core.specs.Readings.{values_at}
+use Rattle.traffic_message.proofs.Common.{◌≡◌, ◌+◌, length, drop, map, take, total, values_at}
 use Rattle.traffic_message.proofs.values.read_values.Given as goal
 
 abbrev pub invariant-loop-i : goal.invariant-loop-i

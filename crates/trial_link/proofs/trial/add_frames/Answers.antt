@@ -1,6 +1,5 @@
-use Rattle.std.proofs.Common.{◌≡◌, ◌++◌, ℕ, List, sym, ap, ◌∙◌, arith, append-nil}
-use Rattle.trial_link.specs.Spelling.{frame_text}
-use Rattle.trial_link.specs.Trial.{behind_frame, behind_frames, ended, frame_drawn, frame_lines, frames_drawn}
+use Rattle.trial_link.proofs.Common.{◌≡◌, ◌++◌, ℕ, List, sym, ap, ◌∙◌, arith, append-nil, frame_text, behind_frame, behind_frames, ended}
+use Rattle.trial_link.proofs.Common.{frame_drawn, frame_lines, frames_drawn}
 use Rattle.trial_link.proofs.TrialDraws.{frames_more, lines_more, no_frames, no_lines, text_more}
 use Rattle.trial_link.proofs.trial.add_frames.Goals as goal
 

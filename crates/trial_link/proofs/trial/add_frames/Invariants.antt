@@ -1,5 +1,4 @@
-use Rattle.std.proofs.Common.{◌≡◌, ◌++◌}
-use Rattle.trial_link.specs.Trial.{behind_frames, frame_lines, frames_drawn}
+use Rattle.trial_link.proofs.Common.{◌≡◌, ◌++◌, behind_frames, frame_lines, frames_drawn}
 use Rattle.trial_link.proofs.trial.add_frames.Given as goal
 
 abbrev pub invariant-loop-frame : goal.invariant-loop-frame

@@ -1,8 +1,4 @@
-use Rattle.std.proofs.Common.{◌++◌, ◌∙◌, List, ℕ, ap}
-use Rattle.std.proofs.lemmas.Result.{IfOk-weaker}
-use Rattle.cell_plan.specs.declared.plan.Page.{Page}
-use Rattle.trial_link.specs.Spelling.{page_text}
-use Rattle.trial_link.specs.Trial.{ended}
+use Rattle.trial_link.proofs.Common.{◌++◌, ◌∙◌, List, ℕ, ap, IfOk-weaker, Page, page_text, ended}
 use Rattle.trial_link.proofs.TrialDraws.{head_whole}
 use Rattle.trial_link.proofs.trial.add_head.Goals as goal
 

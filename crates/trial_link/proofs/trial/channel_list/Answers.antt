@@ -1,6 +1,4 @@
-use Rattle.std.proofs.Common.{length, ap, arith, length-append}
-use Rattle.chip_core.specs.Bits.{binary}
-use Rattle.chip_core.proofs.FieldLists.{length-binary}
+use Rattle.trial_link.proofs.Common.{length, ap, arith, length-append, binary, length-binary}
 use Rattle.trial_link.proofs.trial.channel_list.Goals as goal
 
 pub append_number-requires-2-clause-room : goal.append_number-requires-2-clause-room

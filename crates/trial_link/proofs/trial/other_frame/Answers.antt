@@ -1,6 +1,4 @@
-use Rattle.std.proofs.Common.{length, ap, arith, length-append}
-use Rattle.chip_core.specs.Bits.{binary}
-use Rattle.chip_core.proofs.FieldLists.{length-binary}
+use Rattle.trial_link.proofs.Common.{length, ap, arith, length-append, binary, length-binary}
 use Rattle.trial_link.proofs.trial.other_frame.Goals as goal
 
 pub sixteen-requires : goal.sixteen-requires

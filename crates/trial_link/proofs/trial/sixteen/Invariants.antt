@@ -1,4 +1,4 @@
-use Rattle.std.proofs.Common.{◌≡◌, ◌<◌, ℕ, length, get_or, false}
+use Rattle.trial_link.proofs.Common.{◌≡◌, ◌<◌, ℕ, length, get_or, false}
 use Rattle.trial_link.proofs.trial.sixteen.Given as goal
 
 abbrev pub invariant-loop-group : goal.invariant-loop-group

@@ -1,8 +1,5 @@
-use Rattle.std.proofs.Common.{◌≡◌, ◌++◌, ◌∙◌, List, ℕ, ap}
-use Rattle.trial_link.specs.Spelling.{traffic_text}
-use Rattle.trial_link.specs.Trial.{behind_draw, behind_draws, drawn, ended, followed_line, frame_lines, frames_drawn, head_text}
-use Rattle.trial_link.specs.Trial.{trial_serial_number}
-use Rattle.cell_script.specs.declared.statements.TrafficLine.{TrafficLine}
+use Rattle.trial_link.proofs.Common.{◌≡◌, ◌++◌, ◌∙◌, List, ℕ, ap, traffic_text, behind_draw, behind_draws, drawn, ended, followed_line}
+use Rattle.trial_link.proofs.Common.{frame_lines, frames_drawn, head_text, trial_serial_number, TrafficLine}
 use Rattle.trial_link.proofs.TrialDraws.{fifth_draw, script_whole, serial_number_drawn}
 use Rattle.trial_link.proofs.trial.trial_script.Goals as goal
 

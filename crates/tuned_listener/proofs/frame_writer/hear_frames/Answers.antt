@@ -1,17 +1,6 @@
-use Rattle.std.proofs.Common.{◌≡◌, ◌++◌, [], List, None, Some, arith, rules, subst, take}
-use Rattle.std.specs.Io.KnownBytes.{Appends}
-use Rattle.std.proofs.lemmas.List.{take_rest}
-use Rattle.std.proofs.lemmas.Result.{err_from_is_err_and}
-use Rattle.cdma_io.specs.Outside.{AppendsPrefix}
-use Rattle.chip_core.specs.declared.sample.Sample.{Sample}
-use Rattle.mobile_core.specs.SoftFrames.{soft_frames}
-use Rattle.mobile_core.specs.Tuners.{IsTunedTo}
-use Rattle.mobile_core.specs.Tuning.{Tuning}
-use Rattle.mobile_core.specs.declared.channel.Channel.{Channel}
-use Rattle.tuned_listener.specs.FrameWriting.{HoldsFrames, text_of}
-use Rattle.tuned_listener.specs.Slots.{slot_behind, slot_more}
-use Rattle.tuned_listener.specs.TunedTexts.{frame_text}
-use Rattle.tuned_listener.specs.declared.tuned_text.TunedText.{TunedText}
+use Rattle.tuned_listener.proofs.Common.{◌≡◌, ◌++◌, [], List, None, Some, arith, rules, subst, take, Appends, take_rest}
+use Rattle.tuned_listener.proofs.Common.{err_from_is_err_and, AppendsPrefix, Sample, soft_frames, IsTunedTo, Tuning, Channel, HoldsFrames}
+use Rattle.tuned_listener.proofs.Common.{text_of, slot_behind, slot_more, frame_text, TunedText}
 use Rattle.tuned_listener.proofs.TunedFrames.{frame_cut, frame_kept, frame_written, none_kept, none_written, writes_all, writes_more}
 use Rattle.tuned_listener.proofs.TunedFrames.{writes_part}
 use Rattle.tuned_listener.proofs.frame_writer.hear_frames.Goals as goal

@@ -1,11 +1,5 @@
-use Rattle.std.proofs.Common.{◌≡◌, ◌≤◌, ◌+◌, ◌-◌, ◌++◌, [], List, length, take}
-use Rattle.chip_core.specs.declared.sample.Sample.{Sample}
-use Rattle.mobile_core.specs.SoftFrames.{soft_frames}
-use Rattle.mobile_core.specs.Tuners.{IsTunedTo, samples_left}
-use Rattle.mobile_core.specs.Tuning.{Tuning}
-use Rattle.mobile_core.specs.declared.channel.Channel.{Channel}
-use Rattle.tuned_listener.specs.FrameWriting.{HoldsFrames, IsReady, WritesFrames, text_of}
-use Rattle.tuned_listener.specs.Slots.{slot_behind}
+use Rattle.tuned_listener.proofs.Common.{◌≡◌, ◌≤◌, ◌+◌, ◌-◌, ◌++◌, [], List, length, take, Sample, soft_frames, IsTunedTo, samples_left}
+use Rattle.tuned_listener.proofs.Common.{Tuning, Channel, HoldsFrames, IsReady, WritesFrames, text_of, slot_behind}
 use Rattle.tuned_listener.proofs.frame_writer.hear_frames.Given as goal
 
 abbrev pub invariant-loop-taken : goal.invariant-loop-taken

@@ -1,8 +1,4 @@
-use Rattle.std.proofs.Common.{◌≡◌, ◌∙◌, List, None, Some, rules}
-use Rattle.std.proofs.lemmas.List.{take_rest}
-use Rattle.chip_core.specs.declared.sample.Sample.{Sample}
-use Rattle.mobile_core.specs.Tuning.{Tuning}
-use Rattle.tuned_listener.specs.Marking.{HasNoMark}
+use Rattle.tuned_listener.proofs.Common.{◌≡◌, ◌∙◌, List, None, Some, rules, take_rest, Sample, Tuning, HasNoMark}
 use Rattle.tuned_listener.proofs.TunedMarks.{ahead_all, mark_is_ahead, marked_here, no_mark_here, unset_untold, unset_without, untold_more}
 use Rattle.tuned_listener.proofs.marking.step_to_mark.Goals as goal
 

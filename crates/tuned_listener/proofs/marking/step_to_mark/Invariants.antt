@@ -1,8 +1,4 @@
-use Rattle.std.proofs.Common.{◌≡◌, ◌≤◌, ◌+◌, ◌++◌, List, length, take}
-use Rattle.chip_core.specs.declared.sample.Sample.{Sample}
-use Rattle.mobile_core.specs.Standing.{has_room, steps_left}
-use Rattle.mobile_core.specs.Tuning.{Tuning}
-use Rattle.tuned_listener.specs.Marking.{HasNoMark, IsUntold}
+use Rattle.tuned_listener.proofs.Common.{◌≡◌, ◌≤◌, ◌+◌, ◌++◌, List, length, take, Sample, has_room, steps_left, Tuning, HasNoMark, IsUntold}
 use Rattle.tuned_listener.proofs.marking.step_to_mark.Given as goal
 
 abbrev pub invariant-loop-taken : goal.invariant-loop-taken

@@ -1,6 +1,4 @@
-use Rattle.std.proofs.Common.{◌∙◌, ap, arith, length, rules, subst, sym, take}
-use Rattle.chip_core.proofs.BitLists.{taken_more}
-use Rattle.paging_message.specs.HalfFrames.{StandsFor}
+use Rattle.tuned_listener.proofs.Common.{◌∙◌, ap, arith, length, rules, subst, sym, take, taken_more, StandsFor}
 use Rattle.tuned_listener.proofs.SlotPages.{count_more, pages_all, pages_none}
 use Rattle.tuned_listener.proofs.slot_writer.count_pages.Goals as goal
 

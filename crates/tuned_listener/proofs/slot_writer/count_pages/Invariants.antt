@@ -1,6 +1,4 @@
-use Rattle.std.proofs.Common.{◌≡◌, ◌≤◌, length, take}
-use Rattle.paging_message.specs.HalfFrames.{StandsFor, half_frame_body}
-use Rattle.event_tap.specs.SlotLines.{slot_pages}
+use Rattle.tuned_listener.proofs.Common.{◌≡◌, ◌≤◌, length, take, StandsFor, half_frame_body, slot_pages}
 use Rattle.tuned_listener.proofs.slot_writer.count_pages.Given as goal
 
 abbrev pub invariant-loop-i : goal.invariant-loop-i

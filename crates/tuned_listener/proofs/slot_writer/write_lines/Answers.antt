@@ -1,8 +1,5 @@
-use Rattle.std.proofs.Common.{ℕ, length, subst}
-use Rattle.std.specs.Io.KnownBytes.{Appends}
+use Rattle.tuned_listener.proofs.Common.{ℕ, length, subst, Appends, paging_line, slot_line, slot_pages}
 use Rattle.std.specs.List.{flat_map}
-use Rattle.event_tap.specs.PagingLines.{paging_line, slot_line}
-use Rattle.event_tap.specs.SlotLines.{slot_pages}
 use Rattle.tuned_listener.proofs.Prefixes.{on_err, prefix_behind}
 use Rattle.tuned_listener.proofs.slot_writer.write_lines.Goals as goal
 

@@ -1,12 +1,6 @@
-use Rattle.std.proofs.Common.{◌∙◌, List, arith, rules, subst, sym, take}
-use Rattle.std.specs.Io.KnownBytes.{Appends}
+use Rattle.tuned_listener.proofs.Common.{◌∙◌, List, arith, rules, subst, sym, take, Appends, Appends-nil, err_from_is_err_and, taken_more}
+use Rattle.tuned_listener.proofs.Common.{paging_line, StandsFor, PagingMessage}
 use Rattle.std.specs.List.{flat_map}
-use Rattle.std.proofs.KnownBytes.{Appends-nil}
-use Rattle.std.proofs.lemmas.Result.{err_from_is_err_and}
-use Rattle.chip_core.proofs.BitLists.{taken_more}
-use Rattle.event_tap.specs.PagingLines.{paging_line}
-use Rattle.paging_message.specs.HalfFrames.{StandsFor}
-use Rattle.paging_message.specs.declared.message.PagingMessage.{PagingMessage}
 use Rattle.tuned_listener.proofs.SlotPages.{lines_cut, lines_more, pages_all, pages_none}
 use Rattle.tuned_listener.proofs.slot_writer.write_pages.Goals as goal
 

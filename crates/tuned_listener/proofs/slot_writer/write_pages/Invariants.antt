@@ -1,9 +1,5 @@
-use Rattle.std.proofs.Common.{◌≡◌, ◌≤◌, take}
-use Rattle.std.specs.Io.KnownBytes.{Appends}
+use Rattle.tuned_listener.proofs.Common.{◌≡◌, ◌≤◌, take, Appends, paging_line, StandsFor, half_frame_body, slot_pages}
 use Rattle.std.specs.List.{flat_map}
-use Rattle.event_tap.specs.PagingLines.{paging_line}
-use Rattle.paging_message.specs.HalfFrames.{StandsFor, half_frame_body}
-use Rattle.event_tap.specs.SlotLines.{slot_pages}
 use Rattle.tuned_listener.proofs.slot_writer.write_pages.Given as goal
 
 abbrev pub invariant-loop-i : goal.invariant-loop-i

@@ -1,5 +1,5 @@
-use Rattle.std.proofs.Common.{◌≡◌, ℕ, ◌+◌, ◌++◌, List, [], ◌∷◌, length, refl, sym, ◌∙◌, arith, Option, None, Some}
-use Rattle.std.specs.Prelude.{MatchOption, option_to_list}
+use Rattle.cell_plan.proofs.Common.{◌≡◌, ℕ, ◌+◌, ◌++◌, List, [], ◌∷◌, length, refl, sym, ◌∙◌, arith, Option, None, Some, MatchOption}
+use Rattle.cell_plan.proofs.Common.{option_to_list}
 use Rattle.cell_plan.proofs.series.Series.pop.Goals as goal
 
 none_long : {A : Type 0} (xs : List A) → length xs ≡ 0 → xs ≡ []

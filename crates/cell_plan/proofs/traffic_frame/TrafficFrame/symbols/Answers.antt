@@ -1,9 +1,4 @@
-use Rattle.std.proofs.Common.{ℕ, ap, ◌∙◌}
-use Rattle.symbol_path.specs.Scrambling.{scrambling, with_commands}
-use Rattle.symbol_path.specs.SentOrder.{data_shape, sent}
-use Rattle.quality_bits.specs.TrafficWords.{repeats_of}
-use Rattle.cell_plan.specs.PageCycles.{scrambled}
-use Rattle.cell_plan.specs.TrafficFrames.{traffic_symbols}
+use Rattle.cell_plan.proofs.Common.{ℕ, ap, ◌∙◌, scrambling, with_commands, data_shape, sent, repeats_of, scrambled, traffic_symbols}
 use Rattle.cell_plan.proofs.traffic_frame.TrafficFrame.symbols.Goals as goal
 
 pub returns-clause-value : goal.returns-clause-value

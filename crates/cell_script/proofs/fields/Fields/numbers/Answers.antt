@@ -1,5 +1,4 @@
-use Rattle.std.proofs.Common.{◌+◌, arith, sym, subst, List, ℕ}
-use Rattle.std.proofs.Math.ListN.{set}
+use Rattle.cell_script.proofs.Common.{◌+◌, arith, sym, subst, List, ℕ, set}
 use Rattle.cell_script.proofs.ScriptTables.{AreRead, all_behind, all_read, none_read, not_read, one_read, rows_long}
 use Rattle.cell_script.proofs.fields.Fields.numbers.Goals as goal
 

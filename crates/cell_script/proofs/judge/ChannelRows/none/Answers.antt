@@ -1,4 +1,4 @@
-use Rattle.std.proofs.Common.{refl}
+use Rattle.cell_script.proofs.Common.{refl}
 use Rattle.cell_script.proofs.ScriptRows.{first_rows}
 use Rattle.cell_script.proofs.judge.ChannelRows.none.Goals as goal
 

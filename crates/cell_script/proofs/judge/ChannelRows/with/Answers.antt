@@ -1,6 +1,4 @@
-use Rattle.std.proofs.Common.{ℕ, ◌+◌, true, false, get_or, ap}
-use Rattle.std.proofs.Math.ListN.{set}
-use Rattle.cell_script.specs.Script.{channel}
+use Rattle.cell_script.proofs.Common.{ℕ, ◌+◌, true, false, get_or, ap, set, channel}
 use Rattle.cell_script.proofs.ScriptRows.{one_row}
 use Rattle.cell_script.proofs.judge.ChannelRows.with.Goals as goal
 

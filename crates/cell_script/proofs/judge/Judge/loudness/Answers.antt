@@ -1,6 +1,4 @@
-use Rattle.std.proofs.Common.{◌≤◌, ◌+◌, ◌^◌, ◌∙◌, ap, arith, unsigned_abs, ℤ}
-use Rattle.std.proofs.lemmas.Nat.{mul-le}
-use Rattle.cell_plan.proofs.MachineInts.{read64}
+use Rattle.cell_script.proofs.Common.{◌≤◌, ◌+◌, ◌^◌, ◌∙◌, ap, arith, unsigned_abs, ℤ, mul-le, read64}
 use Rattle.cell_script.proofs.judge.Judge.loudness.Goals as goal
 
 pub overflow_mul-result : goal.overflow_mul-result

@@ -1,8 +1,4 @@
-use Rattle.std.proofs.Common.{sym, subst}
-use Rattle.cell_plan.specs.TrafficFrames.{with_one, with_two}
-use Rattle.cell_script.specs.ScriptDrafts.{with_statement}
-use Rattle.cell_script.specs.ScriptJudged.{HasJudged}
-use Rattle.cell_script.specs.declared.statements.Statement.{Statement}
+use Rattle.cell_script.proofs.Common.{sym, subst, with_one, with_two, with_statement, HasJudged, Statement}
 use Rattle.cell_script.proofs.ScriptRows.{judged_frames, judged_page}
 use Rattle.cell_script.proofs.judge.Judge.with.Goals as goal
 

@@ -1,10 +1,5 @@
-use Rattle.std.proofs.Common.{◌≡◌, ◌≤◌, ap, ◌∙◌, length, rules, List, ℤ, FitsSigned}
-use Rattle.std.specs.Int.{w64}
-use Rattle.std.proofs.lemmas.Int.{to_z-of_z}
-use Rattle.viterbi.specs.Words.{Word, score_of}
-use Rattle.viterbi.specs.Best.{IsBestWord, spelled}
-use Rattle.viterbi.specs.declared.word.Ends.TheVariants.{Zero}
-use Rattle.frame_decoder.specs.Rows.{gathered_in, word_in}
+use Rattle.frame_decoder.proofs.Common.{◌≡◌, ◌≤◌, ap, ◌∙◌, length, rules, List, ℤ, FitsSigned, w64, to_z-of_z, Word, score_of, IsBestWord}
+use Rattle.frame_decoder.proofs.Common.{spelled, Zero, gathered_in, word_in}
 use Rattle.frame_decoder.proofs.Unreplaced.{first_zeros_read}
 use Rattle.frame_decoder.proofs.RowWords.{best_is, gathered_score, length-word_in}
 use Rattle.frame_decoder.proofs.rows.Row.best_word.Goals as goal

@@ -1,6 +1,5 @@
-use Rattle.std.proofs.Common.{◌≡◌, ◌*◌, ◌<◌, ℕ, arith, pos, get_or, length, sym, ap, ◌∙◌, rules}
-use Rattle.symbol_path.proofs.Gathering.{part-none, part, turn, turn_sizes, sum_has_room, added_fits, sizes_none}
-use Rattle.frame_decoder.specs.Rows.{bits_in, place_in}
+use Rattle.frame_decoder.proofs.Common.{◌≡◌, ◌*◌, ◌<◌, ℕ, arith, pos, get_or, length, sym, ap, ◌∙◌, rules, part-none, part, turn}
+use Rattle.frame_decoder.proofs.Common.{turn_sizes, sum_has_room, added_fits, sizes_none, bits_in, place_in}
 use Rattle.frame_decoder.proofs.RowWords.{gathered_all}
 use Rattle.frame_decoder.proofs.rows.Row.gather_into.Goals as goal
 

@@ -1,7 +1,4 @@
-use Rattle.std.proofs.Common.{◌≡◌, ◌≤◌, ℕ, get_or, take, pos}
-use Rattle.std.specs.Prelude.{sum_by, unsigned_abs}
-use Rattle.symbol_path.proofs.Gathering.{part}
-use Rattle.frame_decoder.specs.Rows.{place_in}
+use Rattle.frame_decoder.proofs.Common.{◌≡◌, ◌≤◌, ℕ, get_or, take, pos, sum_by, unsigned_abs, part, place_in}
 use Rattle.frame_decoder.proofs.rows.Row.gather_into.Given as goal
 
 abbrev pub invariant-loop-i : goal.invariant-loop-i

@@ -1,4 +1,4 @@
-use Rattle.std.proofs.Common.{◌-◌, ap, ℕ}
+use Rattle.frame_decoder.proofs.Common.{◌-◌, ap, ℕ}
 use Rattle.frame_decoder.proofs.RowWords.{always_right, check_fits, right_is}
 use Rattle.frame_decoder.proofs.rows.Row.is_right.Goals as goal
 

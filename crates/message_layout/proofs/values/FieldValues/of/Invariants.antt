@@ -1,4 +1,4 @@
-use Rattle.std.proofs.Common.{◌≡◌, take}
+use Rattle.message_layout.proofs.Common.{◌≡◌, take}
 use Rattle.message_layout.proofs.values.FieldValues.of.Given as goal
 
 abbrev pub invariant-loop-i : goal.invariant-loop-i

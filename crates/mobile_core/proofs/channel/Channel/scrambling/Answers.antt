@@ -1,6 +1,4 @@
-use Rattle.std.proofs.Common.{◌∙◌, ap, sym}
-use Rattle.mobile_core.specs.Channels.{state_at}
-use Rattle.mobile_core.specs.declared.channel.Channel.{Channel}
+use Rattle.mobile_core.proofs.Common.{◌∙◌, ap, sym, state_at, Channel}
 use Rattle.mobile_core.proofs.FramesHeard.{state_on}
 use Rattle.mobile_core.proofs.channel.Channel.scrambling.Goals as goal
 

@@ -1,6 +1,4 @@
-use Rattle.std.proofs.Common.{refl, pos}
-use Rattle.std.proofs.lemmas.List.{length-replicate}
-use Rattle.rake_finger.specs.Soft.{symbols}
+use Rattle.mobile_core.proofs.Common.{refl, pos, length-replicate, symbols}
 use Rattle.mobile_core.proofs.SoftSums.{zeros_small}
 use Rattle.mobile_core.proofs.continued.Continued.new.Goals as goal
 

@@ -1,6 +1,4 @@
-use Rattle.std.proofs.Common.{◌≡◌, ℕ, ◌-◌, ◌*◌, List, take, drop, ◌∙◌, ap, refl, ℤ}
-use Rattle.frame_decoder.specs.Spans.{own_bits}
-use Rattle.rake_finger.specs.Soft.{symbols}
+use Rattle.mobile_core.proofs.Common.{◌≡◌, ℕ, ◌-◌, ◌*◌, List, take, drop, ◌∙◌, ap, refl, ℤ, own_bits, symbols}
 use Rattle.mobile_core.proofs.Received.{own_bits_are}
 use Rattle.mobile_core.proofs.continued.Continued.own_bits.Goals as goal
 

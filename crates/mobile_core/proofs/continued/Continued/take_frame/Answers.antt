@@ -1,7 +1,5 @@
-use Rattle.std.proofs.Common.{◌≡◌, ℕ, ◌+◌, length, List, ℤ, ◌∙◌, sym, ap, refl, rules}
-use Rattle.rake_finger.specs.Soft.{frame_chips, softs, symbols}
-use Rattle.mobile_core.specs.Scrambled.{unscrambled}
-use Rattle.mobile_core.specs.Streams.{frame_softs, frame_start}
+use Rattle.mobile_core.proofs.Common.{◌≡◌, ℕ, ◌+◌, length, List, ℤ, ◌∙◌, sym, ap, refl, rules, frame_chips, softs, symbols, unscrambled}
+use Rattle.mobile_core.proofs.Common.{frame_softs, frame_start}
 use Rattle.mobile_core.proofs.FingerTimes.{in_ring, ends_step, begun_on}
 use Rattle.mobile_core.proofs.Received.{receives_frame}
 use Rattle.mobile_core.proofs.continued.Continued.take_frame.Goals as goal

@@ -1,6 +1,4 @@
-use Rattle.std.proofs.Common.{refl, sym, subst}
-use Rattle.mobile_core.specs.PagingMonitoring.{paging_events_left}
-use Rattle.mobile_core.specs.TrafficMonitoring.{HearsFrames}
+use Rattle.mobile_core.proofs.Common.{refl, sym, subst, paging_events_left, HearsFrames}
 use Rattle.mobile_core.proofs.ChannelsFollowed.{unset_pages}
 use Rattle.mobile_core.proofs.followed.Followed.follow.Goals as goal
 

@@ -1,6 +1,4 @@
-use Rattle.std.proofs.Common.{◌∙◌, ℕ, sym, subst}
-use Rattle.mobile_core.specs.PagingMonitoring.{IsReceiverDue, WaitsFrom}
-use Rattle.mobile_core.specs.TrafficMonitoring.{HearsFrames}
+use Rattle.mobile_core.proofs.Common.{◌∙◌, ℕ, sym, subst, IsReceiverDue, WaitsFrom, HearsFrames}
 use Rattle.mobile_core.proofs.ChannelsFollowed.{other_due}
 use Rattle.mobile_core.proofs.PagesFollowed.{pages_given}
 use Rattle.mobile_core.proofs.followed.Followed.hear_next.Goals as goal

@@ -1,8 +1,5 @@
-use Rattle.std.proofs.Common.{◌≡◌, ◌∙◌, ◌++◌, ◌∷◌, List, sym, ap, subst, Some, Option, rules}
-use Rattle.mobile_core.specs.Given.{listed}
-use Rattle.mobile_core.specs.PagingMonitoring.{paging_events_left}
-use Rattle.mobile_core.specs.TrafficMonitoring.{HearsFrames, traffic_events_left}
-use Rattle.mobile_core.specs.declared.event.Event.{Event}
+use Rattle.mobile_core.proofs.Common.{◌≡◌, ◌∙◌, ◌++◌, ◌∷◌, List, sym, ap, subst, Some, Option, rules, listed, paging_events_left}
+use Rattle.mobile_core.proofs.Common.{HearsFrames, traffic_events_left, Event}
 use Rattle.mobile_core.proofs.followed.Followed.hear_page.Goals as goal
 
 pub returns-clause-hears : goal.returns-clause-hears

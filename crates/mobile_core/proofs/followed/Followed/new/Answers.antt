@@ -1,5 +1,4 @@
-use Rattle.std.proofs.Common.{None}
-use Rattle.mobile_core.specs.PagingMonitoring.{paging_events_left}
+use Rattle.mobile_core.proofs.Common.{None, paging_events_left}
 use Rattle.mobile_core.proofs.followed.Followed.new.Goals as goal
 
 pub returns-clause-hears : goal.returns-clause-hears

@@ -1,6 +1,4 @@
-use Rattle.std.proofs.Common.{inl, refl, sym, subst}
-use Rattle.mobile_core.specs.PagingMonitoring.{paging_events_left}
-use Rattle.mobile_core.specs.TrafficMonitoring.{HearsFrames}
+use Rattle.mobile_core.proofs.Common.{inl, refl, sym, subst, paging_events_left, HearsFrames}
 use Rattle.mobile_core.proofs.followed.Followed.take_ended.Goals as goal
 
 pub returns-clause-hears : goal.returns-clause-hears

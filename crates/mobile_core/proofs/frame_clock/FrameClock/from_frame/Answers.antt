@@ -1,4 +1,4 @@
-use Rattle.std.proofs.Common.{ℕ, ◌+◌, ◌*◌, arith}
+use Rattle.mobile_core.proofs.Common.{ℕ, ◌+◌, ◌*◌, arith}
 use Rattle.mobile_core.proofs.CloseFingers.{near_are_close}
 use Rattle.mobile_core.proofs.FingerTimes.{some_chips, most_chips, ends_bounds, times_one}
 use Rattle.mobile_core.proofs.frame_clock.FrameClock.from_frame.Goals as goal

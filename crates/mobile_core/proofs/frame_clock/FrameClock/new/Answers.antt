@@ -1,6 +1,4 @@
-use Rattle.std.proofs.Common.{ℕ, sym, ap, subst}
-use Rattle.mobile_core.specs.Near.{AreBegun}
-use Rattle.mobile_core.specs.declared.frame_clock.FrameClock.{FrameClock}
+use Rattle.mobile_core.proofs.Common.{ℕ, sym, ap, subst, AreBegun, FrameClock}
 use Rattle.mobile_core.proofs.FingerTimes.{begun_first}
 use Rattle.mobile_core.proofs.frame_clock.FrameClock.new.Goals as goal
 

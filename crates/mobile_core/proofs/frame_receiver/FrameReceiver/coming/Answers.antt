@@ -1,5 +1,4 @@
-use Rattle.std.proofs.Common.{◌∙◌, List, Bool, ap}
-use Rattle.mobile_core.specs.Scrambled.{unscrambled}
+use Rattle.mobile_core.proofs.Common.{◌∙◌, List, Bool, ap, unscrambled}
 use Rattle.mobile_core.proofs.FramesGiven.{frame_is}
 use Rattle.mobile_core.proofs.frame_receiver.FrameReceiver.coming.Goals as goal
 

@@ -1,13 +1,5 @@
-use Rattle.std.proofs.Common.{◌≡◌, ◌∙◌, ℕ, ◌+◌, ◌*◌, ◌≤◌, List, ap, arith, false, refl, subst, sym, take, ℤ}
-use Rattle.rake_finger.specs.declared.finger.Finger.{Finger}
-use Rattle.rake_finger.specs.declared.form.Form.{Form}
-use Rattle.rake_finger.specs.declared.form.Form.TheVariants.{Data}
-use Rattle.std.specs.Prelude.{Bool}
-use Rattle.mobile_core.specs.Channels.{channel_stream, row_of}
-use Rattle.mobile_core.specs.Clocks.{clock_from, first_frame}
-use Rattle.mobile_core.specs.Near.{AreNear}
-use Rattle.mobile_core.specs.Tuning.{fingers_of}
-use Rattle.mobile_core.specs.declared.frame_clock.FrameClock.{FrameClock}
+use Rattle.mobile_core.proofs.Common.{◌≡◌, ◌∙◌, ℕ, ◌+◌, ◌*◌, ◌≤◌, List, ap, arith, false, refl, subst, sym, take, ℤ, Finger, Form, Data}
+use Rattle.mobile_core.proofs.Common.{Bool, channel_stream, row_of, clock_from, first_frame, AreNear, fingers_of, FrameClock}
 use Rattle.mobile_core.proofs.FramesGiven.{fingers_by, first_by, form_by, none_given, waits_by}
 use Rattle.mobile_core.proofs.frame_receiver.FrameReceiver.open.Goals as goal
 

@@ -1,8 +1,4 @@
-use Rattle.std.proofs.Common.{◌∙◌, ◌++◌, ◌∷◌, [], ℕ, List, ℤ, ap, map, sym}
-use Rattle.chip_core.specs.Bits.{places}
-use Rattle.frame_decoder.specs.TrafficFrames.{command, group_sums}
-use Rattle.symbol_path.specs.Scrambling.{power_places}
-use Rattle.mobile_core.specs.Channels.{state_at}
+use Rattle.mobile_core.proofs.Common.{◌∙◌, ◌++◌, ◌∷◌, [], ℕ, List, ℤ, ap, map, sym, places, command, group_sums, power_places, state_at}
 use Rattle.mobile_core.proofs.FramesGiven.{no_power, some_power}
 use Rattle.mobile_core.proofs.frame_receiver.FrameReceiver.power_in.Goals as goal
 

@@ -1,7 +1,4 @@
-use Rattle.std.proofs.Common.{◌∙◌, ℕ, ◌+◌, ap, arith, refl, sym}
-use Rattle.rake_finger.specs.Soft.{frame_chips}
-use Rattle.mobile_core.specs.declared.frame_clock.FrameClock.{FrameClock}
-use Rattle.mobile_core.specs.Clocks.{frame_heard}
+use Rattle.mobile_core.proofs.Common.{◌∙◌, ℕ, ◌+◌, ap, arith, refl, sym, frame_chips, FrameClock, frame_heard}
 use Rattle.mobile_core.proofs.FingerTimes.{begun_on, ends_step, some_chips}
 use Rattle.mobile_core.proofs.frame_receiver.FrameReceiver.take_frame.Goals as goal
 

@@ -1,10 +1,4 @@
-use Rattle.std.proofs.Common.{◌∙◌, ℕ, List, ap, sym}
-use Rattle.rake_finger.specs.Soft.{softs}
-use Rattle.rake_finger.specs.declared.finger.Finger.{Finger}
-use Rattle.rake_finger.specs.declared.form.Form.{Form}
-use Rattle.rake_finger.specs.declared.form.Form.TheVariants.{Data}
-use Rattle.mobile_core.specs.Channels.{channel_stream}
-use Rattle.mobile_core.specs.Streams.{frame_end, frame_start}
+use Rattle.mobile_core.proofs.Common.{◌∙◌, ℕ, List, ap, sym, softs, Finger, Form, Data, channel_stream, frame_end, frame_start}
 use Rattle.mobile_core.proofs.FingerTimes.{in_ring}
 use Rattle.mobile_core.proofs.FramesGiven.{form_by}
 use Rattle.mobile_core.proofs.frame_receiver.FrameReceiver.unturned.Goals as goal

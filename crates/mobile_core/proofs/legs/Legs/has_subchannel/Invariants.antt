@@ -1,6 +1,4 @@
-use Rattle.std.proofs.Common.{◌≡◌, drop}
-use Rattle.std.specs.List.{list_any}
-use Rattle.mobile_core.specs.Legs.{has_subchannel, is_on}
+use Rattle.mobile_core.proofs.Common.{◌≡◌, drop, list_any, has_subchannel, is_on}
 use Rattle.mobile_core.proofs.legs.Legs.has_subchannel.Given as goal
 
 abbrev pub invariant-loop-i : goal.invariant-loop-i

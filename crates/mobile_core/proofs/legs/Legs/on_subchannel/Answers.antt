@@ -1,7 +1,7 @@
-use Rattle.std.proofs.Common.{[], ◌∷◌, ◌∙◌, arith, ap, length, length-append}
+use Rattle.mobile_core.proofs.Common.{[], ◌∷◌, ◌∙◌, arith, ap, length, length-append}
 use Rattle.mobile_core.proofs.LegLists.{on_more, on_same}
-use Rattle.mobile_core.proofs.legs.Legs.on_subchannel.Goals as goal
 use Rattle.mobile_core.proofs.legs.Legs.on_subchannel.Goals.{then-leg-subchannel, else-leg-subchannel}
+use Rattle.mobile_core.proofs.legs.Legs.on_subchannel.Goals as goal
 
 pub loop-i-preserved : goal.loop-i-preserved
 loop-i-preserved c =

@@ -1,5 +1,4 @@
-use Rattle.std.proofs.Common.{◌≡◌, ◌≤◌, take, length}
-use Rattle.mobile_core.specs.Legs.{on_subchannel}
+use Rattle.mobile_core.proofs.Common.{◌≡◌, ◌≤◌, take, length, on_subchannel}
 use Rattle.mobile_core.proofs.legs.Legs.on_subchannel.Given as goal
 
 abbrev pub invariant-loop-i : goal.invariant-loop-i

@@ -1,9 +1,5 @@
-use Rattle.std.proofs.Common.{ℕ, ◌≡◌, ◌-◌, ◌++◌, arith, inl, inr, length, take, length-take, subst, sym, ◌∙◌, append-nil}
-use Rattle.std.proofs.lemmas.List.{take_all}
-use Rattle.mobile_core.specs.Clocks.{IsDueAt}
-use Rattle.mobile_core.specs.Near.{AreNear}
-use Rattle.mobile_core.specs.FollowedChannels.{IsFollowedDue, WaitFrom}
-use Rattle.mobile_core.specs.TrafficMonitoring.{IsFrameDue}
+use Rattle.mobile_core.proofs.Common.{ℕ, ◌≡◌, ◌-◌, ◌++◌, arith, inl, inr, length, take, length-take, subst, sym, ◌∙◌, append-nil, take_all}
+use Rattle.mobile_core.proofs.Common.{IsDueAt, AreNear, IsFollowedDue, WaitFrom, IsFrameDue}
 use Rattle.mobile_core.proofs.Stood.{due_here, others_due_here, stands_taken, stands_come, was_told}
 use Rattle.mobile_core.proofs.mobile.Mobile.advance.Goals as goal
 

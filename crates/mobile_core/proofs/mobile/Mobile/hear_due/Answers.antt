@@ -1,4 +1,4 @@
-use Rattle.std.proofs.Common.{Some}
+use Rattle.mobile_core.proofs.Common.{Some}
 use Rattle.mobile_core.proofs.StepJoins.{steps_heard}
 use Rattle.mobile_core.proofs.mobile.Mobile.hear_due.Goals as goal
 

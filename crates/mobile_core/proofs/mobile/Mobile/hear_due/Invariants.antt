@@ -1,5 +1,4 @@
-use Rattle.std.proofs.Common.{[], None}
-use Rattle.mobile_core.specs.Standing.{Steps, due_parts}
+use Rattle.mobile_core.proofs.Common.{[], None, Steps, due_parts}
 use Rattle.mobile_core.proofs.mobile.Mobile.hear_due.Given as goal
 
 abbrev pub invariant-loop-self : goal.invariant-loop-self

@@ -1,4 +1,4 @@
-use Rattle.std.proofs.Common.{◌∙◌, arith, append-nil}
+use Rattle.mobile_core.proofs.Common.{◌∙◌, arith, append-nil}
 use Rattle.mobile_core.proofs.FramesFollowed.{frames_few}
 use Rattle.mobile_core.proofs.PagesFollowed.{heard_few}
 use Rattle.mobile_core.proofs.StepJoins.{ends_here, one_or_none}

@@ -1,8 +1,5 @@
-use Rattle.std.proofs.Common.{◌≡◌, ◌∙◌, ap, arith, length, subst, sym, append-nil, Option}
-use Rattle.mobile_core.specs.FollowedChannels.{HearsFollowed, followed_events_left}
-use Rattle.mobile_core.specs.PagingMonitoring.{SetsMark}
-use Rattle.mobile_core.specs.declared.frame_clock.FrameClock.{FrameClock}
-use Rattle.mobile_core.specs.declared.mark.Mark.{Mark}
+use Rattle.mobile_core.proofs.Common.{◌≡◌, ◌∙◌, ap, arith, length, subst, sym, append-nil, Option, HearsFollowed, followed_events_left}
+use Rattle.mobile_core.proofs.Common.{SetsMark, FrameClock, Mark}
 use Rattle.mobile_core.proofs.FramesFollowed.{frames_few}
 use Rattle.mobile_core.proofs.PagesFollowed.{heard_few}
 use Rattle.mobile_core.proofs.StepJoins.{ends_here, one_or_none}

@@ -1,4 +1,4 @@
-use Rattle.std.proofs.Common.{arith}
+use Rattle.mobile_core.proofs.Common.{arith}
 use Rattle.mobile_core.proofs.mobile.Mobile.least_end.Goals as goal
 
 pub returns-clause-waits : goal.returns-clause-waits

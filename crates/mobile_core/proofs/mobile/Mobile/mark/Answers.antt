@@ -1,6 +1,4 @@
-use Rattle.std.proofs.Common.{◌∙◌, length, subst, sym, arith}
-use Rattle.mobile_core.specs.Near.{AreNear}
-use Rattle.mobile_core.specs.Standing.{parts}
+use Rattle.mobile_core.proofs.Common.{◌∙◌, length, subst, sym, arith, AreNear, parts}
 use Rattle.mobile_core.proofs.ClockSteps.{before_next}
 use Rattle.mobile_core.proofs.MarkAhead.{mark_ahead}
 use Rattle.mobile_core.proofs.MarkStays.{mark_told}

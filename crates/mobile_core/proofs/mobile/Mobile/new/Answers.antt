@@ -1,5 +1,4 @@
-use Rattle.std.proofs.Common.{[], refl}
-use Rattle.mobile_core.specs.Tuning.{tuning_by}
+use Rattle.mobile_core.proofs.Common.{[], refl, tuning_by}
 use Rattle.mobile_core.proofs.Stood.{stands_new}
 use Rattle.mobile_core.proofs.mobile.Mobile.new.Goals as goal
 

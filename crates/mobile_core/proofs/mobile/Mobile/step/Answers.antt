@@ -1,8 +1,6 @@
-use Rattle.std.proofs.Common.{ℕ, ◌≡◌, ◌++◌, List, arith, inl, inr, subst, take, None, Some, append-nil}
-use Rattle.std.proofs.lemmas.List.{take_all, take_rest}
-use Rattle.chip_core.specs.declared.sample.Sample.{Sample}
-use Rattle.mobile_core.specs.FollowedChannels.{WaitFrom}
-use Rattle.mobile_core.specs.Standing.{StandsFor, Steps}
+use Rattle.mobile_core.proofs.Common.{ℕ, ◌≡◌, ◌++◌, List, arith, inl, inr, subst, take, None, Some, append-nil, take_all, take_rest, Sample}
+use Rattle.mobile_core.proofs.Common.{WaitFrom, Steps}
+use Rattle.mobile_core.specs.Standing.{StandsFor}
 use Rattle.mobile_core.proofs.Stood.{all_given, was_told}
 use Rattle.mobile_core.proofs.StepJoins.{steps_heard, steps_taken}
 use Rattle.mobile_core.proofs.mobile.Mobile.step.Goals as goal

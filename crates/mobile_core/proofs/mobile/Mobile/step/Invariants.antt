@@ -1,5 +1,4 @@
-use Rattle.std.proofs.Common.{◌-◌, length, None}
-use Rattle.mobile_core.specs.Standing.{Steps}
+use Rattle.mobile_core.proofs.Common.{◌-◌, length, None, Steps}
 use Rattle.mobile_core.proofs.mobile.Mobile.step.Given as goal
 
 abbrev pub invariant-loop-event : goal.invariant-loop-event

@@ -1,6 +1,4 @@
-use Rattle.std.proofs.Common.{◌∙◌, sym, ap, arith}
-use Rattle.std.specs.Prelude.{is_some}
-use Rattle.mobile_core.specs.Standing.{parts}
+use Rattle.mobile_core.proofs.Common.{◌∙◌, sym, ap, arith, is_some, parts}
 use Rattle.mobile_core.proofs.Stood.{marked_all}
 use Rattle.mobile_core.proofs.mobile.Mobile.synced.Goals as goal
 

@@ -1,10 +1,5 @@
-use Rattle.std.proofs.Common.{◌≡◌, ◌∙◌, ◌+◌, ◌++◌, ◌∷◌, [], Option, Some, None, ap, arith, append-nil, length, subst, sym}
-use Rattle.pilot_search.specs.declared.sweeping.Best.{Best}
-use Rattle.mobile_core.specs.Given.{at_of}
-use Rattle.mobile_core.specs.Left.{pilot_left}
-use Rattle.mobile_core.specs.Standing.{Stands, parts}
-use Rattle.mobile_core.specs.declared.event.Event.{Event}
-use Rattle.mobile_core.specs.declared.event.Event.TheVariants.{Pilot}
+use Rattle.mobile_core.proofs.Common.{◌≡◌, ◌∙◌, ◌+◌, ◌++◌, ◌∷◌, [], Option, Some, None, ap, arith, append-nil, length, subst, sym, Best}
+use Rattle.mobile_core.proofs.Common.{at_of, pilot_left, Stands, parts, Event, Pilot}
 use Rattle.mobile_core.proofs.FramesFollowed.{frames_few}
 use Rattle.mobile_core.proofs.PagesFollowed.{heard_few}
 use Rattle.mobile_core.proofs.Stood.{stands_told}

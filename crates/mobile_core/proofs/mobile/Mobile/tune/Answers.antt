@@ -1,4 +1,4 @@
-use Rattle.std.proofs.Common.{sym}
+use Rattle.mobile_core.proofs.Common.{sym}
 use Rattle.mobile_core.proofs.mobile.Mobile.tune.Goals as goal
 
 pub returns-clause-tuned : goal.returns-clause-tuned

@@ -1,8 +1,5 @@
-use Rattle.std.proofs.Common.{◌≡◌, ◌∙◌, rules, Some, None, subst, sym, ap, arith, Option}
-use Rattle.std.specs.Prelude.{IfSome}
-use Rattle.mobile_core.specs.PagingMonitoring.{HearsPages, paging_events_left}
-use Rattle.mobile_core.specs.PagingReceiving.{HearsPaging}
-use Rattle.mobile_core.specs.declared.mark.Mark.{Mark}
+use Rattle.mobile_core.proofs.Common.{◌≡◌, ◌∙◌, rules, Some, None, subst, sym, ap, arith, Option, IfSome, HearsPages, paging_events_left}
+use Rattle.mobile_core.proofs.Common.{HearsPaging, Mark}
 use Rattle.mobile_core.proofs.PagesFollowed.{follows_with, opened_behind, opened_left}
 use Rattle.mobile_core.proofs.paging_monitor.PagingMonitor.follow.Goals as goal
 

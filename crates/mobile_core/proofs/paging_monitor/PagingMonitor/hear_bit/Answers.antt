@@ -1,8 +1,5 @@
-use Rattle.std.proofs.Common.{◌≡◌, ◌++◌, ◌∙◌, rules, Some, None, subst, ap}
-use Rattle.mobile_core.specs.Given.{listed}
-use Rattle.mobile_core.specs.PagingEvents.{page_event}
-use Rattle.mobile_core.specs.PagingMonitoring.{IsReceiverDue, paging_events_left}
-use Rattle.mobile_core.specs.declared.event.Event.{Event}
+use Rattle.mobile_core.proofs.Common.{◌≡◌, ◌++◌, ◌∙◌, rules, Some, None, subst, ap, listed, page_event, IsReceiverDue, paging_events_left}
+use Rattle.mobile_core.proofs.Common.{Event}
 use Rattle.mobile_core.proofs.PagesFollowed.{bit_left, bits_left, follows_bit}
 use Rattle.mobile_core.proofs.paging_monitor.PagingMonitor.hear_bit.Goals as goal
 

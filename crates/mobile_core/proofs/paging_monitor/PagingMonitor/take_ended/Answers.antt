@@ -1,5 +1,4 @@
-use Rattle.std.proofs.Common.{◌≡◌, rules, Some, subst}
-use Rattle.mobile_core.specs.PagingMonitoring.{IsReceiverDue}
+use Rattle.mobile_core.proofs.Common.{◌≡◌, rules, Some, subst, IsReceiverDue}
 use Rattle.mobile_core.proofs.PagesFollowed.{follows_come}
 use Rattle.mobile_core.proofs.paging_monitor.PagingMonitor.take_ended.Goals as goal
 

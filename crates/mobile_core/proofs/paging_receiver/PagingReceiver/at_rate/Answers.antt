@@ -1,10 +1,5 @@
-use Rattle.std.proofs.Common.{◌≡◌, ◌∙◌, ◌≤◌, ◌+◌, ◌*◌, ap, subst, refl, arith, length, true}
-use Rattle.paging_message.specs.HalfFrames.{half_frame_body}
-use Rattle.rake_finger.specs.declared.form.Form.TheVariants.{Data}
-use Rattle.mobile_core.specs.Clocks.{clock_from, first_frame}
-use Rattle.mobile_core.specs.Near.{AreNear}
-use Rattle.mobile_core.specs.PagingStreams.{paging_stream}
-use Rattle.mobile_core.specs.declared.frame_clock.FrameClock.{FrameClock}
+use Rattle.mobile_core.proofs.Common.{◌≡◌, ◌∙◌, ◌≤◌, ◌+◌, ◌*◌, ap, subst, refl, arith, length, true, half_frame_body, Data, clock_from}
+use Rattle.mobile_core.proofs.Common.{first_frame, AreNear, paging_stream, FrameClock}
 use Rattle.mobile_core.proofs.PagesHeard.{hears_none, receives_later}
 use Rattle.mobile_core.proofs.paging_receiver.PagingReceiver.at_rate.Goals as goal
 

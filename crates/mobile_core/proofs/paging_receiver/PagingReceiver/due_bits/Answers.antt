@@ -1,6 +1,4 @@
-use Rattle.std.proofs.Common.{ap, rules}
-use Rattle.frame_decoder.specs.Spans.{paging_channel}
-use Rattle.mobile_core.specs.PagingStreams.{paging_stream}
+use Rattle.mobile_core.proofs.Common.{ap, rules, paging_channel, paging_stream}
 use Rattle.mobile_core.proofs.paging_receiver.PagingReceiver.due_bits.Goals as goal
 
 pub returns-then-self-gt0-clause-value : goal.returns-then-self-gt0-clause-value

@@ -1,5 +1,4 @@
-use Rattle.std.proofs.Common.{◌∙◌, ap}
-use Rattle.mobile_core.specs.PagingEvents.{page_in}
+use Rattle.mobile_core.proofs.Common.{◌∙◌, ap, page_in}
 use Rattle.mobile_core.proofs.PagesHeard.{hears_bit}
 use Rattle.mobile_core.proofs.paging_receiver.PagingReceiver.hear_bit.Goals as goal
 

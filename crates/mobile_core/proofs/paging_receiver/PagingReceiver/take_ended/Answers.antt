@@ -1,6 +1,4 @@
-use Rattle.std.proofs.Common.{◌∙◌, ap, refl}
-use Rattle.mobile_core.specs.PagingStreams.{paging_stream}
-use Rattle.mobile_core.specs.declared.frame_clock.FrameClock.{FrameClock}
+use Rattle.mobile_core.proofs.Common.{◌∙◌, ap, refl, paging_stream, FrameClock}
 use Rattle.mobile_core.proofs.PagesHeard.{hears_come}
 use Rattle.mobile_core.proofs.paging_receiver.PagingReceiver.take_ended.Goals as goal
 

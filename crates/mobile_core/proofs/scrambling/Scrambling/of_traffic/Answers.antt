@@ -1,6 +1,4 @@
-use Rattle.std.proofs.Common.{◌≡◌, ◌*◌, ◌∙◌, ap, arith}
-use Rattle.long_code.specs.LongCode.{after}
-use Rattle.mobile_core.specs.TrafficStreams.{chips_behind}
+use Rattle.mobile_core.proofs.Common.{◌≡◌, ◌*◌, ◌∙◌, ap, arith, after, chips_behind}
 use Rattle.mobile_core.proofs.scrambling.Scrambling.of_traffic.Goals as goal
 
 pub returns-clause-state : goal.returns-clause-state

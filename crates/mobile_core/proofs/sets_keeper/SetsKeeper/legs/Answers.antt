@@ -1,9 +1,5 @@
-use Rattle.std.proofs.Common.{◌++◌, ◌∷◌, [], ◌∙◌, sym, ap, arith, length, length-append, map, take, subst, List, slice_get, ◌≤◌, ◌<◌, All}
-use Rattle.mobile_core.specs.Close.{legs_close, legs_rows, places_in}
-use Rattle.std.proofs.lemmas.List.{map-append, take_all}
-use Rattle.pilot_sets.specs.declared.lists.Active.{Active}
-use Rattle.mobile_core.specs.Legs.{leg_of}
-use Rattle.mobile_core.specs.declared.legs.Leg.{Leg}
+use Rattle.mobile_core.proofs.Common.{◌++◌, ◌∷◌, [], ◌∙◌, sym, ap, arith, length, length-append, map, take, subst, List, slice_get, ◌≤◌}
+use Rattle.mobile_core.proofs.Common.{◌<◌, All, legs_close, legs_rows, places_in, map-append, take_all, Active, leg_of, Leg}
 use Rattle.mobile_core.proofs.ActiveLegs.{active_close, active_offset, active_rows, places_few}
 use Rattle.mobile_core.proofs.LegLists.{take_at}
 use Rattle.mobile_core.proofs.sets_keeper.SetsKeeper.legs.Goals as goal

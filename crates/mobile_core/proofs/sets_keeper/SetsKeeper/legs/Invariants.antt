@@ -1,5 +1,4 @@
-use Rattle.std.proofs.Common.{◌≡◌, map, take, length}
-use Rattle.mobile_core.specs.Legs.{leg_of}
+use Rattle.mobile_core.proofs.Common.{◌≡◌, map, take, length, leg_of}
 use Rattle.mobile_core.proofs.sets_keeper.SetsKeeper.legs.Given as goal
 
 abbrev pub invariant-loop-i : goal.invariant-loop-i

@@ -1,4 +1,4 @@
-use Rattle.std.proofs.Common.{arith}
+use Rattle.mobile_core.proofs.Common.{arith}
 use Rattle.mobile_core.proofs.ActiveLegs.{zeros_close}
 use Rattle.mobile_core.proofs.sets_keeper.SetsKeeper.new.Goals as goal
 

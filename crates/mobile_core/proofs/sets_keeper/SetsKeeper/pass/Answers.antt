@@ -1,8 +1,5 @@
-use Rattle.std.proofs.Common.{◌≤◌, ◌+◌, ◌∙◌, ℤ, List, All, ap, sym, arith, subst}
-use Rattle.std.specs.Prelude.{unsigned_abs}
-use Rattle.pilot_sets.specs.Standing.{Standing}
-use Rattle.pilot_sets.specs.declared.change.SetChange.{SetChange}
-use Rattle.mobile_core.specs.Moments.{changed, moment_events}
+use Rattle.mobile_core.proofs.Common.{◌≤◌, ◌+◌, ◌∙◌, ℤ, List, All, ap, sym, arith, subst, unsigned_abs, Standing, SetChange, changed}
+use Rattle.mobile_core.proofs.Common.{moment_events}
 use Rattle.mobile_core.proofs.ActiveLegs.{deltas_close, due_deltas}
 use Rattle.mobile_core.proofs.MomentMeasured.{changed_is, passed_is}
 use Rattle.mobile_core.proofs.sets_keeper.SetsKeeper.pass.Goals as goal

@@ -1,9 +1,5 @@
-use Rattle.std.proofs.Common.{◌≡◌, ℕ, ◌+◌, ◌-◌, ◌∙◌, sym, ap, refl, arith, rules, Some, None}
-use Rattle.mobile_core.specs.Marks.{frames_with}
-use Rattle.mobile_core.specs.Streams.{frame_start}
-use Rattle.mobile_core.specs.SyncEvents.{frames_before, heard_in, events_of}
-use Rattle.mobile_core.specs.Tuning.{sync_stream}
-use Rattle.mobile_core.specs.declared.frame_clock.FrameClock.{FrameClock}
+use Rattle.mobile_core.proofs.Common.{◌≡◌, ℕ, ◌+◌, ◌-◌, ◌∙◌, sym, ap, refl, arith, rules, Some, None, frames_with, frame_start}
+use Rattle.mobile_core.proofs.Common.{frames_before, heard_in, events_of, sync_stream, FrameClock}
 use Rattle.mobile_core.proofs.ClockSteps.{start_before}
 use Rattle.mobile_core.proofs.SyncHeard.{hears_next, starts_is, or_none}
 use Rattle.mobile_core.proofs.sync_receiver.SyncReceiver.hear_next.Goals as goal

@@ -1,11 +1,5 @@
-use Rattle.std.proofs.Common.{◌≡◌, ℕ, ◌+◌, ◌-◌, ◌*◌, ◌%◌, ◌∙◌, sym, ap, subst, refl, true, arith}
-use Rattle.rake_finger.specs.Soft.{frame_chips}
-use Rattle.rake_finger.specs.declared.form.Form.TheVariants.{Sync}
-use Rattle.mobile_core.specs.Clocks.{clock_from, first_frame}
-use Rattle.mobile_core.specs.Near.{AreNear}
-use Rattle.mobile_core.specs.Streams.{frame_end}
-use Rattle.mobile_core.specs.Tuning.{sync_stream}
-use Rattle.mobile_core.specs.declared.frame_clock.FrameClock.{FrameClock}
+use Rattle.mobile_core.proofs.Common.{◌≡◌, ℕ, ◌+◌, ◌-◌, ◌*◌, ◌%◌, ◌∙◌, sym, ap, subst, refl, true, arith, frame_chips, Sync, clock_from}
+use Rattle.mobile_core.proofs.Common.{first_frame, AreNear, frame_end, sync_stream, FrameClock}
 use Rattle.mobile_core.proofs.FingerTimes.{first_end}
 use Rattle.mobile_core.proofs.Received.{receives_new}
 use Rattle.mobile_core.proofs.SyncHeard.{hears_new}

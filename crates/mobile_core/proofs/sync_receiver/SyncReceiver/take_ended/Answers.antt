@@ -1,6 +1,4 @@
-use Rattle.std.proofs.Common.{ap, refl}
-use Rattle.mobile_core.specs.Tuning.{sync_stream}
-use Rattle.mobile_core.specs.declared.frame_clock.FrameClock.{FrameClock}
+use Rattle.mobile_core.proofs.Common.{ap, refl, sync_stream, FrameClock}
 use Rattle.mobile_core.proofs.SyncHeard.{hears_come}
 use Rattle.mobile_core.proofs.sync_receiver.SyncReceiver.take_ended.Goals as goal
 

@@ -1,4 +1,4 @@
-use Rattle.std.proofs.Common.{rules}
+use Rattle.mobile_core.proofs.Common.{rules}
 use Rattle.mobile_core.proofs.traffic_monitor.TrafficMonitor.end_before.Goals as goal
 
 pub end-requires : goal.end-requires

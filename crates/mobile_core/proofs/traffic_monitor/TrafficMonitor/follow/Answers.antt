@@ -1,7 +1,5 @@
-use Rattle.std.proofs.Common.{◌≡◌, ◌∙◌, rules, Some, None, subst, sym, ap, arith, Option, []}
-use Rattle.mobile_core.specs.TrafficMonitoring.{HearsFrames, traffic_events_left}
-use Rattle.mobile_core.specs.TrafficReceiving.{WaitsAt}
-use Rattle.mobile_core.specs.declared.mark.Mark.{Mark}
+use Rattle.mobile_core.proofs.Common.{◌≡◌, ◌∙◌, rules, Some, None, subst, sym, ap, arith, Option, [], HearsFrames, traffic_events_left}
+use Rattle.mobile_core.proofs.Common.{WaitsAt, Mark}
 use Rattle.mobile_core.proofs.FramesFollowed.{frames_opened, frames_opened_left, frames_with, not_open}
 use Rattle.mobile_core.proofs.traffic_monitor.TrafficMonitor.follow.Goals as goal
 

@@ -1,6 +1,4 @@
-use Rattle.std.proofs.Common.{◌≡◌, [], rules, Some, subst}
-use Rattle.mobile_core.specs.TrafficMonitoring.{IsFrameDue}
-use Rattle.mobile_core.specs.TrafficReceiving.{WaitsAt}
+use Rattle.mobile_core.proofs.Common.{◌≡◌, [], rules, Some, subst, IsFrameDue, WaitsAt}
 use Rattle.mobile_core.proofs.FramesFollowed.{fewer_due, frame_left, frames_on}
 use Rattle.mobile_core.proofs.traffic_monitor.TrafficMonitor.hear_next.Goals as goal
 

@@ -1,5 +1,4 @@
-use Rattle.std.proofs.Common.{◌≡◌, ◌∙◌, rules, Some, subst, sym}
-use Rattle.mobile_core.specs.TrafficReceiving.{WaitsAt}
+use Rattle.mobile_core.proofs.Common.{◌≡◌, ◌∙◌, rules, Some, subst, sym, WaitsAt}
 use Rattle.mobile_core.proofs.FramesFollowed.{frames_on, noted_waits}
 use Rattle.mobile_core.proofs.FramesTold.{hears_noted}
 use Rattle.mobile_core.proofs.traffic_monitor.TrafficMonitor.note.Goals as goal

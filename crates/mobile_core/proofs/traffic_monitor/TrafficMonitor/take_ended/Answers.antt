@@ -1,6 +1,4 @@
-use Rattle.std.proofs.Common.{◌≡◌, rules, Some, subst, sym}
-use Rattle.mobile_core.specs.TrafficMonitoring.{IsFrameDue}
-use Rattle.mobile_core.specs.TrafficReceiving.{WaitsAt}
+use Rattle.mobile_core.proofs.Common.{◌≡◌, rules, Some, subst, sym, IsFrameDue, WaitsAt}
 use Rattle.mobile_core.proofs.FramesFollowed.{frames_on}
 use Rattle.mobile_core.proofs.traffic_monitor.TrafficMonitor.take_ended.Goals as goal
 

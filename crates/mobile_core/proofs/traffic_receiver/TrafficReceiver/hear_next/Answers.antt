@@ -1,10 +1,5 @@
-use Rattle.std.proofs.Common.{◌≡◌, ◌∙◌, ◌++◌, List, ap, arith, inl, inr, rules, sym, ℕ, ◌+◌, Bool, true}
-use Rattle.std.specs.Prelude.{if◌then◌else◌}
-use Rattle.mobile_core.specs.Moments.{kept_to, moment_place}
-use Rattle.mobile_core.specs.SetsKeeping.{coming_place}
-use Rattle.mobile_core.specs.TrafficReceiving.{kept_by, kept_in, sets_left_of}
-use Rattle.mobile_core.specs.declared.event.Event.{Event}
-use Rattle.mobile_core.specs.declared.sets_keeper.SetsKeeper.{SetsKeeper}
+use Rattle.mobile_core.proofs.Common.{◌≡◌, ◌∙◌, ◌++◌, List, ap, arith, inl, inr, rules, sym, ℕ, ◌+◌, Bool, true, if◌then◌else◌, kept_to}
+use Rattle.mobile_core.proofs.Common.{moment_place, coming_place, kept_by, kept_in, sets_left_of, Event, SetsKeeper}
 use Rattle.mobile_core.proofs.FramesHeard.{untold_come, untold_kept}
 use Rattle.mobile_core.proofs.FramesTold.{hears_noted}
 use Rattle.mobile_core.proofs.SoundFrames.{sound_sets}

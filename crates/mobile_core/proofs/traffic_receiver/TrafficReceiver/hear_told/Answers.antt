@@ -1,7 +1,4 @@
-use Rattle.std.proofs.Common.{◌≡◌, ◌∙◌, ℕ, rules, Some, None, ap, arith, []}
-use Rattle.mobile_core.specs.Signaling.{message_events}
-use Rattle.mobile_core.specs.TrafficEvents.{frame_event}
-use Rattle.mobile_core.specs.TrafficReceiving.{kept_by}
+use Rattle.mobile_core.proofs.Common.{◌≡◌, ◌∙◌, ℕ, rules, Some, None, ap, arith, [], message_events, frame_event, kept_by}
 use Rattle.mobile_core.proofs.FramesHeard.{kept_most}
 use Rattle.mobile_core.proofs.FramesTold.{hears_given, hears_heard, left_given, told_come, told_here}
 use Rattle.mobile_core.proofs.SoundFrames.{sound_given, sound_heard}

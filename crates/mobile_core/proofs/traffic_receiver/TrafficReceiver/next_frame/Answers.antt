@@ -1,5 +1,4 @@
-use Rattle.std.proofs.Common.{◌∙◌, ℕ, ap}
-use Rattle.symbol_path.specs.Scrambling.{power_places}
+use Rattle.mobile_core.proofs.Common.{◌∙◌, ℕ, ap, power_places}
 use Rattle.mobile_core.proofs.FramesHeard.{commands_here, frame_here}
 use Rattle.mobile_core.proofs.SignalParts.{decoded_long}
 use Rattle.mobile_core.proofs.traffic_receiver.TrafficReceiver.next_frame.Goals as goal

@@ -1,12 +1,5 @@
-use Rattle.std.proofs.Common.{◌≡◌, ◌∙◌, ℕ, ℤ, List, true, ap, sym, subst, arith, take, length-take, [], pos}
-use Rattle.pilot_sets.specs.Standing.{new_standing}
-use Rattle.mobile_core.specs.Close.{AreClose, all_close}
-use Rattle.mobile_core.specs.Legs.{all_fingers, legs_of}
-use Rattle.mobile_core.specs.TrafficReceiving.{HearsTraffic}
-use Rattle.mobile_core.specs.declared.legs.Leg.{Leg}
-use Rattle.mobile_core.specs.declared.sets_keeper.SetsKeeper.{SetsKeeper}
-use Rattle.mobile_core.specs.declared.traffic_receiver.TrafficReceiver.{TrafficReceiver}
-use Rattle.mobile_core.specs.SetsKeeping.{coming_place}
+use Rattle.mobile_core.proofs.Common.{◌≡◌, ◌∙◌, ℕ, ℤ, List, true, ap, sym, subst, arith, take, length-take, [], pos, new_standing, AreClose}
+use Rattle.mobile_core.proofs.Common.{all_close, all_fingers, legs_of, HearsTraffic, Leg, SetsKeeper, TrafficReceiver, coming_place}
 use Rattle.mobile_core.proofs.FramesOpened.{ends_same, first_paths, hears_new, hears_opened, opened_is, paths_some, zeros_few}
 use Rattle.mobile_core.proofs.SoundFrames.{waits_tuned}
 use Rattle.mobile_core.proofs.traffic_receiver.TrafficReceiver.open.Goals as goal

@@ -1,9 +1,4 @@
-use Rattle.std.proofs.Common.{◌∙◌, arith, sym, ap, subst, inr}
-use Rattle.std.proofs.lemmas.Bool.{false_from_ne_true}
-use Rattle.mobile_core.specs.SetsKeeping.{coming_place}
-use Rattle.mobile_core.specs.TrafficReceiving.{HearsTraffic}
-use Rattle.mobile_core.specs.declared.mark.Mark.{Mark}
-use Rattle.mobile_core.specs.declared.sets_keeper.SetsKeeper.{SetsKeeper}
+use Rattle.mobile_core.proofs.Common.{◌∙◌, arith, sym, ap, subst, inr, false_from_ne_true, coming_place, HearsTraffic, Mark, SetsKeeper}
 use Rattle.mobile_core.proofs.FramesHeard.{hears_due, none_come}
 use Rattle.mobile_core.proofs.SoundFrames.{came_here, sound_sets}
 use Rattle.mobile_core.proofs.traffic_receiver.TrafficReceiver.take_ended.Goals as goal

@@ -1,8 +1,5 @@
-use Rattle.std.proofs.Common.{◌≡◌, ◌∙◌, arith, sym, ap, length, subst}
-use Rattle.mobile_core.specs.Moments.{kept_to}
-use Rattle.mobile_core.specs.TrafficReceiving.{HearsWith, fingers_in}
-use Rattle.mobile_core.specs.declared.sets_keeper.SetsKeeper.{SetsKeeper}
-use Rattle.mobile_core.specs.declared.traffic_receiver.TrafficReceiver.{TrafficReceiver}
+use Rattle.mobile_core.proofs.Common.{◌≡◌, ◌∙◌, arith, sym, ap, length, subst, kept_to, HearsWith, SetsKeeper, TrafficReceiver}
+use Rattle.mobile_core.specs.TrafficReceiving.{fingers_in}
 use Rattle.mobile_core.proofs.CloseFingers.{close_ends}
 use Rattle.mobile_core.proofs.FramesHeard.{hears_taken, power_here, softs_here, told_by_end}
 use Rattle.mobile_core.proofs.SoundFrames.{sound_come}

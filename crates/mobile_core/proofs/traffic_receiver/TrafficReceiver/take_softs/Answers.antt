@@ -1,7 +1,4 @@
-use Rattle.std.proofs.Common.{◌∙◌, ℕ, List, ap, arith, map, take}
-use Rattle.symbol_path.specs.Scrambling.{power_places}
-use Rattle.mobile_core.specs.LegSofts.{sums_on}
-use Rattle.mobile_core.specs.Legs.{subchannels}
+use Rattle.mobile_core.proofs.Common.{◌∙◌, ℕ, List, ap, arith, map, take, power_places, sums_on, subchannels}
 use Rattle.mobile_core.proofs.CloseFingers.{close_in_ring}
 use Rattle.mobile_core.proofs.SoundFrames.{sound_softs}
 use Rattle.mobile_core.proofs.traffic_receiver.TrafficReceiver.take_softs.Goals as goal

@@ -1,8 +1,4 @@
-use Rattle.std.proofs.Common.{◌∙◌, List, ap, subst, rules}
-use Rattle.rake_finger.specs.declared.finger.Finger.{Finger}
-use Rattle.rake_finger.specs.declared.form.Form.TheVariants.{Data}
-use Rattle.mobile_core.specs.Close.{AreClose}
-use Rattle.mobile_core.specs.Streams.{frame_end}
+use Rattle.mobile_core.proofs.Common.{◌∙◌, List, ap, subst, rules, Finger, Data, AreClose, frame_end}
 use Rattle.mobile_core.proofs.SoundFrames.{sound_tuned, waits_tuned}
 use Rattle.mobile_core.proofs.traffic_receiver.TrafficReceiver.tune.Goals as goal
 

@@ -1,4 +1,4 @@
-use Rattle.std.proofs.Common.{arith, length, sym}
+use Rattle.mobile_core.proofs.Common.{arith, length, sym}
 use Rattle.mobile_core.proofs.FramesGiven.{none_within}
 use Rattle.mobile_core.proofs.tuner.Tuner.open.Goals as goal
 

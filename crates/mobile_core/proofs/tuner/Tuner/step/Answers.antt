@@ -1,9 +1,5 @@
-use Rattle.std.proofs.Common.{◌≡◌, ◌∙◌, ℕ, ◌-◌, ◌++◌, ◌∷◌, [], append-nil, ap, arith, length, length-take, refl, subst, sym, take}
-use Rattle.std.proofs.lemmas.List.{take_all}
-use Rattle.mobile_core.specs.FrameReceiving.{HasGiven}
-use Rattle.mobile_core.specs.SoftFrames.{soft_frames}
-use Rattle.mobile_core.specs.declared.frame_receiver.FrameReceiver.{FrameReceiver}
-use Rattle.mobile_core.specs.declared.soft_frame.SoftFrame.{SoftFrame}
+use Rattle.mobile_core.proofs.Common.{◌≡◌, ◌∙◌, ℕ, ◌-◌, ◌++◌, ◌∷◌, [], append-nil, ap, arith, length, length-take, refl, subst, sym, take}
+use Rattle.mobile_core.proofs.Common.{take_all, HasGiven, soft_frames, FrameReceiver, SoftFrame}
 use Rattle.mobile_core.proofs.FramesGiven.{step_frame, step_none}
 use Rattle.mobile_core.proofs.tuner.Tuner.step.Goals as goal
 

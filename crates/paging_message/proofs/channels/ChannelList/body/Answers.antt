@@ -1,9 +1,6 @@
-use Rattle.std.proofs.Common.{◌≡◌, ◌++◌, [], length, sym, ap, subst, ◌∙◌, arith, length-append, List, Bool, rules}
-use Rattle.chip_core.specs.Fields.{spelled, FieldsFit, HaveWidths}
-use Rattle.chip_core.specs.declared.field.Field.{Field}
-use Rattle.quality_bits.specs.Capsules.{FillsCapsule}
-use Rattle.quality_bits.specs.declared.kind.Kind.TheVariants.{M30}
-use Rattle.paging_message.specs.Channels.{channel_head, channel_records, channel_fields, channel_body}
+use Rattle.paging_message.proofs.Common.{◌≡◌, ◌++◌, [], length, sym, ap, subst, ◌∙◌, arith, length-append, List, Bool, rules, spelled}
+use Rattle.paging_message.proofs.Common.{FieldsFit, HaveWidths, Field, FillsCapsule, M30, channel_head, channel_records, channel_fields}
+use Rattle.paging_message.proofs.Common.{channel_body}
 use Rattle.paging_message.proofs.Bodies.{length-spelled, most_bits, written_parts, length-body}
 use Rattle.paging_message.proofs.Widths.{fit_front, fit_back}
 use Rattle.paging_message.proofs.channels.ChannelList.body.Goals as goal

@@ -1,6 +1,4 @@
-use Rattle.std.proofs.Common.{◌≡◌, ◌≤◌, ◌+◌, ◌*◌, ◌++◌, length, sym, ap, ◌∙◌, arith, Ok, length-append}
-use Rattle.chip_core.specs.Fields.{spelled}
-use Rattle.paging_message.specs.Channels.{channel_records}
+use Rattle.paging_message.proofs.Common.{◌≡◌, ◌≤◌, ◌+◌, ◌*◌, ◌++◌, length, sym, ap, ◌∙◌, arith, Ok, length-append, spelled, channel_records}
 use Rattle.paging_message.proofs.Records.{channel_read, channel_injective, channels_alike, length-behind-channels, length-channels}
 use Rattle.paging_message.proofs.channels.ChannelList.read.Goals as goal
 

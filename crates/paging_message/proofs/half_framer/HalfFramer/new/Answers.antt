@@ -1,4 +1,4 @@
-use Rattle.std.proofs.Common.{◌∙◌}
+use Rattle.paging_message.proofs.Common.{◌∙◌}
 use Rattle.paging_message.proofs.Cutting.{nothing_open, nothing_placed}
 use Rattle.paging_message.proofs.half_framer.HalfFramer.new.Goals as goal
 

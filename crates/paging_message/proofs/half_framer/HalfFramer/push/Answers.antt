@@ -1,11 +1,9 @@
-use Rattle.std.proofs.Common.{◌≡◌, ◌+◌, ◌-◌, ◌%◌, ◌++◌, ◌∷◌, [], length, sym, ap, ◌∙◌, arith, rules, Option, List, Bool}
-use Rattle.std.specs.Prelude.{IsTrue, IsSome, ◌↔◌}
-use Rattle.quality_bits.specs.Capsules.{completed}
-use Rattle.paging_message.specs.HalfFrames.{Framing, half_under_way}
+use Rattle.paging_message.proofs.Common.{◌≡◌, ◌+◌, ◌-◌, ◌%◌, ◌++◌, ◌∷◌, [], length, sym, ap, ◌∙◌, arith, rules, Option, List, Bool, IsTrue}
+use Rattle.paging_message.proofs.Common.{IsSome, ◌↔◌, completed, Framing, half_under_way}
 use Rattle.paging_message.proofs.Chains.{after}
 use Rattle.paging_message.proofs.Cutting.{sci_opens, sci_ends, body_step, place_more, place_over, after_is}
-use Rattle.paging_message.proofs.half_framer.HalfFramer.push.Goals as goal
 use Rattle.paging_message.proofs.half_framer.HalfFramer.push.Goals.{then-left-eq0, else-left-eq0}
+use Rattle.paging_message.proofs.half_framer.HalfFramer.push.Goals as goal
 
 pub returns-then-self-eq0-clause-stands : goal.returns-then-self-eq0-clause-stands
 returns-then-self-eq0-clause-stands c bits stood =

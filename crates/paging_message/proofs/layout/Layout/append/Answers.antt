@@ -1,5 +1,5 @@
-use Rattle.std.proofs.Common.{◌≡◌, ◌≤◌, ◌%◌, ◌++◌, ◌∷◌, [], length, ap, sym, ◌∙◌, arith, subst, List, Bool}
-use Rattle.paging_message.specs.Laying.{Place, HasLaid, bit_on}
+use Rattle.paging_message.proofs.Common.{◌≡◌, ◌≤◌, ◌%◌, ◌++◌, ◌∷◌, [], length, ap, sym, ◌∙◌, arith, subst, List, Bool, Place, HasLaid}
+use Rattle.paging_message.proofs.Common.{bit_on}
 use Rattle.paging_message.proofs.Layings.{bit_first, bit_next}
 use Rattle.paging_message.proofs.layout.Layout.append.Goals as goal
 

@@ -1,6 +1,4 @@
-use Rattle.std.proofs.Common.{◌≡◌, length, ◌∙◌, arith}
-use Rattle.std.proofs.lemmas.Bool.{leb-true, le-leb}
-use Rattle.paging_message.specs.HalfFrames.{bits_left}
+use Rattle.paging_message.proofs.Common.{◌≡◌, length, ◌∙◌, arith, leb-true, le-leb, bits_left}
 use Rattle.paging_message.proofs.Layings.{left_is, same_left}
 use Rattle.paging_message.proofs.layout.Layout.fits.Goals as goal
 

@@ -1,5 +1,4 @@
-use Rattle.std.proofs.Common.{◌≡◌, ◌+◌, ◌*◌, ◌≤◌, ◌++◌, false, length, replicate}
-use Rattle.paging_message.specs.Laying.{Laid, HasLaid}
+use Rattle.paging_message.proofs.Common.{◌≡◌, ◌+◌, ◌*◌, ◌≤◌, ◌++◌, false, length, replicate, Laid, HasLaid}
 use Rattle.paging_message.proofs.layout.Layout.make_way.Given as goal
 
 abbrev pub invariant-loop-zero : goal.invariant-loop-zero

@@ -1,4 +1,4 @@
-use Rattle.std.proofs.Common.{arith}
+use Rattle.paging_message.proofs.Common.{arith}
 use Rattle.paging_message.proofs.Layings.{none_laid}
 use Rattle.paging_message.proofs.layout.Layout.new.Goals as goal
 

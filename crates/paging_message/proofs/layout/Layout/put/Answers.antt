@@ -1,6 +1,5 @@
-use Rattle.std.proofs.Common.{◌≡◌, ◌+◌, ◌%◌, ◌≤◌, ◌++◌, ◌∷◌, [], false, not, length, take, ap, ◌∙◌, arith, subst}
-use Rattle.chip_core.proofs.FieldLists.{bits_more}
-use Rattle.paging_message.specs.Laying.{HasLaid, Laid, bit_on, way_for, laid_on}
+use Rattle.paging_message.proofs.Common.{◌≡◌, ◌+◌, ◌%◌, ◌≤◌, ◌++◌, ◌∷◌, [], false, not, length, take, ap, ◌∙◌, arith, subst, bits_more}
+use Rattle.paging_message.proofs.Common.{HasLaid, Laid, bit_on, way_for, laid_on}
 use Rattle.paging_message.proofs.Layings.{capsule_first, capsule_next, way_whole}
 use Rattle.paging_message.proofs.layout.Layout.put.Goals as goal
 

@@ -1,5 +1,4 @@
-use Rattle.std.proofs.Common.{◌≡◌, ◌+◌, ◌*◌, ◌≤◌, length, take}
-use Rattle.paging_message.specs.Laying.{Laid, laid_on, HasLaid}
+use Rattle.paging_message.proofs.Common.{◌≡◌, ◌+◌, ◌*◌, ◌≤◌, length, take, Laid, laid_on, HasLaid}
 use Rattle.paging_message.proofs.layout.Layout.put.Given as goal
 
 abbrev pub invariant-loop-i : goal.invariant-loop-i

@@ -1,5 +1,4 @@
-use Rattle.std.proofs.Common.{sym, ap, ◌∙◌}
-use Rattle.paging_message.specs.Messages.{message_body}
+use Rattle.paging_message.proofs.Common.{sym, ap, ◌∙◌, message_body}
 use Rattle.paging_message.proofs.message.PagingMessage.body.Goals as goal
 
 pub returns-in-System-clause-value : goal.returns-in-System-clause-value

@@ -1,12 +1,7 @@
-use Rattle.std.proofs.Common.{rules, refl, sym, ap, subst, ◌∙◌, Ok, Err}
-use Rattle.quality_bits.specs.Capsules.{capsule, IsWhole}
-use Rattle.quality_bits.specs.Kinds.{IsChecked}
-use Rattle.quality_bits.specs.declared.kind.Kind.TheVariants.{M30}
-use Rattle.quality_bits.proofs.Wholes.{whole-capsule, checked-capsule}
-use Rattle.paging_message.specs.Messages.{message_body, paging_capsule}
+use Rattle.paging_message.proofs.Common.{rules, refl, sym, ap, subst, ◌∙◌, Ok, Err, capsule, IsWhole, IsChecked, M30, whole-capsule}
+use Rattle.paging_message.proofs.Common.{checked-capsule, message_body, paging_capsule, BadBody}
 use Rattle.paging_message.proofs.Messages.{body_of_capsule, message_fills, message_injective}
 use Rattle.paging_message.proofs.Readings.{reading_decoded}
-use Rattle.paging_message.specs.declared.fault.MessageFault.TheVariants.{BadBody}
 use Rattle.paging_message.proofs.message.PagingMessage.decode.Goals as goal
 
 pub returns-in_err-body-clause-only : goal.returns-in_err-body-clause-only

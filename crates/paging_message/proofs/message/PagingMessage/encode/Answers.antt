@@ -1,7 +1,4 @@
-use Rattle.std.proofs.Common.{ap, ◌∙◌}
-use Rattle.quality_bits.specs.Capsules.{capsule}
-use Rattle.quality_bits.specs.declared.kind.Kind.TheVariants.{M30}
-use Rattle.paging_message.specs.Messages.{paging_capsule}
+use Rattle.paging_message.proofs.Common.{ap, ◌∙◌, capsule, M30, paging_capsule}
 use Rattle.paging_message.proofs.message.PagingMessage.encode.Goals as goal
 
 pub returns : goal.returns

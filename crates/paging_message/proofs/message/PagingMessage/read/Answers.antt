@@ -1,10 +1,7 @@
-use Rattle.std.proofs.Common.{◌≡◌, ◌≤◌, ◌++◌, length, sym, ap, ◌∙◌, arith, rules, Ok}
-use Rattle.chip_core.specs.Bits.{binary}
-use Rattle.paging_message.specs.Messages.{message_body}
-use Rattle.paging_message.specs.Others.{other_body}
-use Rattle.paging_message.specs.declared.message.PagingMessage.TheVariants as messages
+use Rattle.paging_message.proofs.Common.{◌≡◌, ◌≤◌, ◌++◌, length, sym, ap, ◌∙◌, arith, rules, Ok, binary, message_body, other_body}
 use Rattle.paging_message.proofs.Messages.{least_bits, type_1, type_3, type_4, type_other}
 use Rattle.paging_message.proofs.Others.{other_injective, other_typed}
+use Rattle.paging_message.specs.declared.message.PagingMessage.TheVariants as messages
 use Rattle.paging_message.proofs.message.PagingMessage.read.Goals as goal
 
 pub returns-in_err-take-clause-only : goal.returns-in_err-take-clause-only

@@ -1,6 +1,5 @@
-use Rattle.std.proofs.Common.{◌≡◌, ◌≤◌, ◌+◌, ◌*◌, ◌++◌, length, sym, ap, ◌∙◌, arith, Ok, length-append}
-use Rattle.chip_core.specs.Fields.{spelled}
-use Rattle.paging_message.specs.Neighbors.{neighbor_records}
+use Rattle.paging_message.proofs.Common.{◌≡◌, ◌≤◌, ◌+◌, ◌*◌, ◌++◌, length, sym, ap, ◌∙◌, arith, Ok, length-append, spelled}
+use Rattle.paging_message.proofs.Common.{neighbor_records}
 use Rattle.paging_message.proofs.Records.{neighbor_read, neighbor_injective, neighbors_alike, length-behind-neighbors, length-neighbors}
 use Rattle.paging_message.proofs.neighbors.NeighborList.read.Goals as goal
 

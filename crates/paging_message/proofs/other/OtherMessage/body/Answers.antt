@@ -1,9 +1,5 @@
-use Rattle.std.proofs.Common.{◌≡◌, ◌++◌, [], length, sym, ap, subst, ◌∙◌, arith, length-append, List, Bool}
-use Rattle.chip_core.specs.Bits.{binary}
-use Rattle.chip_core.proofs.FieldLists.{length-binary}
-use Rattle.quality_bits.specs.Capsules.{FillsCapsule}
-use Rattle.quality_bits.specs.declared.kind.Kind.TheVariants.{M30}
-use Rattle.paging_message.specs.Others.{other_fields, other_body}
+use Rattle.paging_message.proofs.Common.{◌≡◌, ◌++◌, [], length, sym, ap, subst, ◌∙◌, arith, length-append, List, Bool, binary}
+use Rattle.paging_message.proofs.Common.{length-binary, FillsCapsule, M30, other_fields, other_body}
 use Rattle.paging_message.proofs.Bodies.{most_bits}
 use Rattle.paging_message.proofs.Others.{other_written}
 use Rattle.paging_message.proofs.other.OtherMessage.body.Goals as goal

@@ -1,4 +1,4 @@
-use Rattle.std.proofs.Common.{sym, arith}
+use Rattle.paging_message.proofs.Common.{sym, arith}
 use Rattle.paging_message.proofs.Others.{other_read}
 use Rattle.paging_message.proofs.other.OtherMessage.read.Goals as goal
 

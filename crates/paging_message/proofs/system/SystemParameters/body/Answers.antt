@@ -1,11 +1,5 @@
-use Rattle.std.proofs.Common.{◌≡◌, ◌++◌, [], length, sym, ap, subst, ◌∙◌, arith, length-append}
-use Rattle.chip_core.specs.Bits.{binary}
-use Rattle.chip_core.specs.Fields.{spelled}
-use Rattle.chip_core.proofs.FieldLists.{length-binary}
-use Rattle.quality_bits.specs.Capsules.{FillsCapsule}
-use Rattle.quality_bits.specs.declared.kind.Kind.TheVariants.{M30}
-use Rattle.paging_message.specs.System.{system_fields, system_body, system_values}
-use Rattle.paging_message.specs.Widths.{in_widths, system_widths}
+use Rattle.paging_message.proofs.Common.{◌≡◌, ◌++◌, [], length, sym, ap, subst, ◌∙◌, arith, length-append, binary, spelled, length-binary}
+use Rattle.paging_message.proofs.Common.{FillsCapsule, M30, system_fields, system_body, system_values, in_widths, system_widths}
 use Rattle.paging_message.proofs.Bodies.{length-spelled, most_bits, written}
 use Rattle.paging_message.proofs.system.SystemParameters.body.Goals as goal
 

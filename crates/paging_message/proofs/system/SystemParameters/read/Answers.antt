@@ -1,6 +1,4 @@
-use Rattle.std.proofs.Common.{◌≡◌, ◌++◌, rules, sym, ap, ◌∙◌, Ok}
-use Rattle.chip_core.specs.Fields.{spelled}
-use Rattle.paging_message.specs.Widths.{in_widths, system_widths}
+use Rattle.paging_message.proofs.Common.{◌≡◌, ◌++◌, rules, sym, ap, ◌∙◌, Ok, spelled, in_widths, system_widths}
 use Rattle.paging_message.proofs.Systems.{fields_read, system_read, system_long, system_injective}
 use Rattle.paging_message.proofs.system.SystemParameters.read.Goals as goal
 

@@ -1,6 +1,5 @@
-use Rattle.std.proofs.Common.{arith, sym, ap, ◌∙◌}
+use Rattle.pilot_search.proofs.Common.{arith, sym, ap, ◌∙◌, Knowledge}
 use Rattle.pilot_search.proofs.SharedKeeps.{begins}
-use Rattle.pilot_search.specs.Knowledge.{Knowledge}
 use Rattle.pilot_search.proofs.shared.Shared.begin.Goals as goal
 
 pub load-requires : goal.load-requires

@@ -1,6 +1,5 @@
-use Rattle.std.proofs.Common.{arith, max, sym, ap, ◌∙◌}
+use Rattle.pilot_search.proofs.Common.{arith, max, sym, ap, ◌∙◌, Knowledge}
 use Rattle.pilot_search.proofs.SharedKeeps.{moves}
-use Rattle.pilot_search.specs.Knowledge.{Knowledge}
 use Rattle.pilot_search.proofs.shared.Shared.fetch_max.Goals as goal
 
 pub fetch_max-requires : goal.fetch_max-requires

@@ -1,6 +1,5 @@
-use Rattle.std.proofs.Common.{arith, sym, ap, ◌∙◌}
+use Rattle.pilot_search.proofs.Common.{arith, sym, ap, ◌∙◌, Knowledge}
 use Rattle.pilot_search.proofs.SharedKeeps.{joins}
-use Rattle.pilot_search.specs.Knowledge.{Knowledge}
 use Rattle.pilot_search.proofs.shared.Shared.join_seat.Goals as goal
 
 pub join_seat-requires : goal.join_seat-requires

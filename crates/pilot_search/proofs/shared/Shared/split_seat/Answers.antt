@@ -1,6 +1,5 @@
-use Rattle.std.proofs.Common.{arith, sym, ap, ◌∙◌}
+use Rattle.pilot_search.proofs.Common.{arith, sym, ap, ◌∙◌, Knowledge}
 use Rattle.pilot_search.proofs.SharedKeeps.{splits}
-use Rattle.pilot_search.specs.Knowledge.{Knowledge}
 use Rattle.pilot_search.proofs.shared.Shared.split_seat.Goals as goal
 
 pub split_seat-requires : goal.split_seat-requires

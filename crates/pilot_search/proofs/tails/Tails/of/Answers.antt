@@ -1,7 +1,5 @@
-use Rattle.std.proofs.Common.{◌≡◌, ◌≤◌, ◌+◌, ◌*◌, ℕ, arith, rules, sym, ap, subst, drop, get_or, ◌∙◌}
-use Rattle.std.proofs.lemmas.Grind.{common_steps}
-use Rattle.std.proofs.lemmas.List.{get_or-replicate, drop_all}
-use Rattle.pilot_search.specs.Bounds.{magnitudes}
+use Rattle.pilot_search.proofs.Common.{◌≡◌, ◌≤◌, ◌+◌, ◌*◌, ℕ, arith, rules, sym, ap, subst, drop, get_or, ◌∙◌, common_steps}
+use Rattle.pilot_search.proofs.Common.{get_or-replicate, drop_all, magnitudes}
 use Rattle.pilot_search.proofs.tails.Tails.of.Goals as goal
 
 pub loop-k-init : goal.loop-k-init

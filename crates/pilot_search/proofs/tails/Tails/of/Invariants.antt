@@ -1,5 +1,4 @@
-use Rattle.std.proofs.Common.{◌≡◌, ℕ, ◌+◌, ◌*◌, ◌<◌, ◌≤◌, length, drop, get_or}
-use Rattle.pilot_search.specs.Bounds.{magnitudes}
+use Rattle.pilot_search.proofs.Common.{◌≡◌, ℕ, ◌+◌, ◌*◌, ◌<◌, ◌≤◌, length, drop, get_or, magnitudes}
 use Rattle.pilot_search.proofs.tails.Tails.of.Given as goal
 
 abbrev pub decreases-loop-k : goal.decreases-loop-k

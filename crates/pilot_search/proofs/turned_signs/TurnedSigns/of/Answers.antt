@@ -1,6 +1,4 @@
-use Rattle.std.proofs.Common.{pos}
-use Rattle.std.proofs.lemmas.List.Elements.{All-get_or}
-use Rattle.short_code.specs.Despread.{IsUnit}
+use Rattle.pilot_search.proofs.Common.{pos, All-get_or, IsUnit}
 use Rattle.pilot_search.proofs.CorrelationSums.{units}
 use Rattle.pilot_search.proofs.turned_signs.TurnedSigns.of.Goals as goal
 

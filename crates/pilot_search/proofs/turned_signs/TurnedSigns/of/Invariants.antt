@@ -1,5 +1,4 @@
-use Rattle.std.proofs.Common.{◌≡◌, map, take}
-use Rattle.pilot_search.specs.BySigns.{across}
+use Rattle.pilot_search.proofs.Common.{◌≡◌, map, take, across}
 use Rattle.pilot_search.proofs.turned_signs.TurnedSigns.of.Given as goal
 
 abbrev pub invariant-loop-signs : goal.invariant-loop-signs

@@ -1,5 +1,4 @@
-use Rattle.std.proofs.Common.{length, ap, arith}
-use Rattle.pilot_sets.specs.Filling.{filled_more, length-held}
+use Rattle.pilot_sets.proofs.Common.{length, ap, arith, filled_more, length-held}
 use Rattle.pilot_sets.proofs.few.Few.push.Goals as goal
 
 pub invariant_of-self : goal.invariant_of-self

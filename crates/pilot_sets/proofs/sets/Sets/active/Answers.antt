@@ -1,7 +1,4 @@
-use Rattle.std.proofs.Common.{◌≡◌, ◌<◌, map, subst, sym, rules}
-use Rattle.std.specs.List.{All}
-use Rattle.pilot_sets.specs.Standing.{shown_active}
-use Rattle.pilot_sets.specs.declared.lists.Active.{Active}
+use Rattle.pilot_sets.proofs.Common.{◌≡◌, ◌<◌, map, subst, sym, rules, All, shown_active, Active}
 use Rattle.pilot_sets.proofs.Rows.{shown_rows, shown_subchannels}
 use Rattle.pilot_sets.proofs.sets.Sets.active.Goals as goal
 

@@ -1,6 +1,4 @@
-use Rattle.std.proofs.Common.{subst, sym, ◌∙◌}
-use Rattle.pilot_sets.specs.Orderly.{IsActiveSet}
-use Rattle.pilot_sets.specs.declared.standing.Accepted.{Accepted}
+use Rattle.pilot_sets.proofs.Common.{subst, sym, ◌∙◌, IsActiveSet, Accepted}
 use Rattle.pilot_sets.proofs.Orders.{waiting_orderly, accepted_active_set}
 use Rattle.pilot_sets.proofs.sets.Sets.direct.Goals as goal
 

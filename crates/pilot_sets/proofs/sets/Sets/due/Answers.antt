@@ -1,5 +1,4 @@
-use Rattle.std.proofs.Common.{subst, sym}
-use Rattle.pilot_sets.specs.Orderly.{IsOrderly, IsActiveSetIfAny}
+use Rattle.pilot_sets.proofs.Common.{subst, sym, IsOrderly, IsActiveSetIfAny}
 use Rattle.pilot_sets.proofs.Orders.{handed_off_orderly}
 use Rattle.pilot_sets.proofs.sets.Sets.due.Goals as goal
 

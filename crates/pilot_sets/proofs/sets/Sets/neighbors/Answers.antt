@@ -1,5 +1,4 @@
-use Rattle.std.proofs.Common.{subst, sym}
-use Rattle.pilot_sets.specs.Orderly.{IsOrderly}
+use Rattle.pilot_sets.proofs.Common.{subst, sym, IsOrderly}
 use Rattle.pilot_sets.proofs.Orders.{neighbors_orderly}
 use Rattle.pilot_sets.proofs.sets.Sets.neighbors.Goals as goal
 

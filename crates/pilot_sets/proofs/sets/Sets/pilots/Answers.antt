@@ -1,6 +1,4 @@
-use Rattle.std.proofs.Common.{◌≡◌, ◌<◌, subst, sym, rules}
-use Rattle.std.specs.List.{All}
-use Rattle.pilot_sets.specs.PilotSets.{pilots}
+use Rattle.pilot_sets.proofs.Common.{◌≡◌, ◌<◌, subst, sym, rules, All, pilots}
 use Rattle.pilot_sets.proofs.Orders.{pilots_offsets}
 use Rattle.pilot_sets.proofs.sets.Sets.pilots.Goals as goal
 

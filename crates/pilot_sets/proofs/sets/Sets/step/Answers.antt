@@ -1,6 +1,4 @@
-use Rattle.std.proofs.Common.{subst, sym}
-use Rattle.pilot_sets.specs.Moments.{energy_in}
-use Rattle.pilot_sets.specs.Orderly.{IsOrderly}
+use Rattle.pilot_sets.proofs.Common.{subst, sym, energy_in, IsOrderly}
 use Rattle.pilot_sets.proofs.Orders.{measured_orderly}
 use Rattle.pilot_sets.proofs.sets.Sets.step.Goals as goal
 

@@ -1,5 +1,4 @@
-use Rattle.std.proofs.Common.{sym, ◌∙◌}
-use Rattle.quality_bits.proofs.Streams.{under_way-none}
+use Rattle.traffic_message.proofs.Common.{sym, ◌∙◌, under_way-none}
 use Rattle.traffic_message.proofs.framer.SignalFramer.new.Goals as goal
 
 pub returns : goal.returns

@@ -1,7 +1,4 @@
-use Rattle.std.proofs.Common.{◌≡◌, ◌++◌, length, sym, ap, subst, ◌∙◌, arith}
-use Rattle.message_layout.specs.Spelling.{spelling, IsOf}
-use Rattle.traffic_message.specs.Handoff.{direction_bits}
-use Rattle.traffic_message.specs.Layouts.{direction_shape}
+use Rattle.traffic_message.proofs.Common.{◌≡◌, ◌++◌, length, sym, ap, subst, ◌∙◌, arith, spelling, IsOf, direction_bits, direction_shape}
 use Rattle.traffic_message.proofs.ByLayout.{direction_lawful, direction_of_message, direction_spelled}
 use Rattle.traffic_message.proofs.handoff.HandoffDirection.append_to.Goals as goal
 

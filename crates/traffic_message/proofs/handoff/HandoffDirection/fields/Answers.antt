@@ -1,5 +1,4 @@
-use Rattle.std.proofs.Common.{◌<◌, arith}
-use Rattle.std.proofs.lemmas.List.Elements.{All-from_get_or}
+use Rattle.traffic_message.proofs.Common.{◌<◌, arith, All-from_get_or}
 use Rattle.traffic_message.proofs.Records.{record_fits}
 use Rattle.traffic_message.proofs.handoff.HandoffDirection.fields.Goals as goal
 

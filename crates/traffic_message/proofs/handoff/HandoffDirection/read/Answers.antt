@@ -1,5 +1,4 @@
-use Rattle.std.proofs.Common.{◌≡◌, Some, None, ap, sym, subst, ◌∙◌}
-use Rattle.traffic_message.specs.Handoff.{IsHandoffDirection}
+use Rattle.traffic_message.proofs.Common.{◌≡◌, Some, None, ap, sym, subst, ◌∙◌, IsHandoffDirection}
 use Rattle.traffic_message.proofs.ByLayout.{direction_lawful, direction_told, direction_in, search_read}
 use Rattle.traffic_message.proofs.handoff.HandoffDirection.read.Goals as goal
 

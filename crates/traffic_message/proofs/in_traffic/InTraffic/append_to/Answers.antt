@@ -1,7 +1,4 @@
-use Rattle.std.proofs.Common.{◌≡◌, ◌++◌, length, sym, ap, subst, ◌∙◌, arith}
-use Rattle.message_layout.specs.Spelling.{spelling, IsOf}
-use Rattle.traffic_message.specs.InTraffic.{in_traffic_bits}
-use Rattle.traffic_message.specs.Layouts.{in_traffic_shape}
+use Rattle.traffic_message.proofs.Common.{◌≡◌, ◌++◌, length, sym, ap, subst, ◌∙◌, arith, spelling, IsOf, in_traffic_bits, in_traffic_shape}
 use Rattle.traffic_message.proofs.ByLayout.{parameters_lawful, parameters_of, parameters_spelled}
 use Rattle.traffic_message.proofs.in_traffic.InTraffic.append_to.Goals as goal
 

@@ -1,5 +1,4 @@
-use Rattle.std.proofs.Common.{◌≡◌, Some, None, ap, sym, subst, ◌∙◌}
-use Rattle.traffic_message.specs.InTraffic.{IsInTraffic}
+use Rattle.traffic_message.proofs.Common.{◌≡◌, Some, None, ap, sym, subst, ◌∙◌, IsInTraffic}
 use Rattle.traffic_message.proofs.ByLayout.{parameters_lawful, parameters_told, parameters_in}
 use Rattle.traffic_message.proofs.in_traffic.InTraffic.read.Goals as goal
 

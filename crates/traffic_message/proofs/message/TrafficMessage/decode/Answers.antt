@@ -1,11 +1,6 @@
-use Rattle.std.proofs.Common.{rules, refl, sym, ap, subst, ◌∙◌, Ok, Err}
-use Rattle.quality_bits.specs.Capsules.{capsule, IsWhole}
-use Rattle.quality_bits.specs.Kinds.{IsChecked}
-use Rattle.quality_bits.specs.declared.kind.Kind.TheVariants.{M16}
-use Rattle.quality_bits.proofs.Wholes.{whole-capsule, checked-capsule}
-use Rattle.traffic_message.specs.Messages.{message_body, traffic_capsule}
+use Rattle.traffic_message.proofs.Common.{rules, refl, sym, ap, subst, ◌∙◌, Ok, Err, capsule, IsWhole, IsChecked, M16, whole-capsule}
+use Rattle.traffic_message.proofs.Common.{checked-capsule, message_body, traffic_capsule, BadBody}
 use Rattle.traffic_message.proofs.Readings.{body_of_capsule, message_injective, reading_decoded}
-use Rattle.traffic_message.specs.declared.fault.MessageFault.TheVariants.{BadBody}
 use Rattle.traffic_message.proofs.message.TrafficMessage.decode.Goals as goal
 
 pub returns-in_err-body-clause-only : goal.returns-in_err-body-clause-only

@@ -1,7 +1,4 @@
-use Rattle.std.proofs.Common.{ap, ◌∙◌}
-use Rattle.quality_bits.specs.Capsules.{capsule}
-use Rattle.quality_bits.specs.declared.kind.Kind.TheVariants.{M16}
-use Rattle.traffic_message.specs.Messages.{traffic_capsule}
+use Rattle.traffic_message.proofs.Common.{ap, ◌∙◌, capsule, M16, traffic_capsule}
 use Rattle.traffic_message.proofs.message.TrafficMessage.encode.Goals as goal
 
 pub returns : goal.returns

@@ -1,6 +1,5 @@
-use Rattle.std.proofs.Common.{◌≡◌, ◌-◌, true, length, take, drop, None, Some, sym, ap, ◌∙◌, arith}
-use Rattle.std.proofs.lemmas.List.{length-drop, length-take-le}
-use Rattle.traffic_message.specs.Reading.{is_body}
+use Rattle.traffic_message.proofs.Common.{◌≡◌, ◌-◌, true, length, take, drop, None, Some, sym, ap, ◌∙◌, arith, length-drop, length-take-le}
+use Rattle.traffic_message.proofs.Common.{is_body}
 use Rattle.traffic_message.proofs.Bodies.{is_body_parts, message_from, message_there, no_body, no_part, part_from}
 use Rattle.traffic_message.proofs.message.TrafficMessage.read.Goals as goal
 

@@ -1,12 +1,6 @@
-use Rattle.std.proofs.Common.{◌≡◌, ◌+◌, ◌≤◌, ◌++◌, List, Bool, length, refl, sym, ap, subst, ◌∙◌, arith, length-append}
-use Rattle.chip_core.specs.Bits.{binary}
-use Rattle.chip_core.specs.Fields.{spelled, in_widths}
-use Rattle.chip_core.proofs.FieldLists.{length-binary}
-use Rattle.chip_core.proofs.ValueLists.{length-in_widths}
-use Rattle.quality_bits.specs.Capsules.{FillsCapsule}
-use Rattle.quality_bits.specs.declared.kind.Kind.TheVariants.{M16}
-use Rattle.traffic_message.specs.Messages.{bits_of, head_fields, head_values, kind_of, message_body, Message}
-use Rattle.traffic_message.specs.Widths.{head_widths}
+use Rattle.traffic_message.proofs.Common.{◌≡◌, ◌+◌, ◌≤◌, ◌++◌, List, Bool, length, refl, sym, ap, subst, ◌∙◌, arith, length-append, binary}
+use Rattle.traffic_message.proofs.Common.{spelled, in_widths, length-binary, length-in_widths, FillsCapsule, M16, bits_of, head_fields}
+use Rattle.traffic_message.proofs.Common.{head_values, kind_of, message_body, Message, head_widths}
 use Rattle.traffic_message.proofs.Bodies.{length-message, message_written}
 use Rattle.traffic_message.proofs.message.TrafficMessage.spelled_body.Goals as goal
 

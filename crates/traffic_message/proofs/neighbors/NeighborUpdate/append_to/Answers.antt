@@ -1,7 +1,4 @@
-use Rattle.std.proofs.Common.{◌≡◌, ◌++◌, length, sym, ap, subst, ◌∙◌, arith}
-use Rattle.message_layout.specs.Spelling.{spelling, IsOf}
-use Rattle.traffic_message.specs.Neighbors.{update_bits}
-use Rattle.traffic_message.specs.Layouts.{update_shape}
+use Rattle.traffic_message.proofs.Common.{◌≡◌, ◌++◌, length, sym, ap, subst, ◌∙◌, arith, spelling, IsOf, update_bits, update_shape}
 use Rattle.traffic_message.proofs.ByLayout.{update_lawful, update_of, update_spelled}
 use Rattle.traffic_message.proofs.neighbors.NeighborUpdate.append_to.Goals as goal
 

@@ -1,5 +1,4 @@
-use Rattle.std.proofs.Common.{◌≡◌, Some, None, ap, sym, subst, ◌∙◌}
-use Rattle.traffic_message.specs.Neighbors.{IsNeighborUpdate}
+use Rattle.traffic_message.proofs.Common.{◌≡◌, Some, None, ap, sym, subst, ◌∙◌, IsNeighborUpdate}
 use Rattle.traffic_message.proofs.ByLayout.{update_lawful, update_told, update_in, step_fits}
 use Rattle.traffic_message.proofs.neighbors.NeighborUpdate.read.Goals as goal
 

@@ -1,5 +1,5 @@
-use Rattle.std.proofs.Common.{◌≡◌, ◌+◌, ◌%◌, ◌==◌, ◌++◌, ◌∷◌, [], length, sym, ap, ◌∙◌, arith, List, Bool, ℕ}
-use Rattle.trial_link.specs.Trial.{behind_draw, behind_draws, bits_drawn, drawn}
+use Rattle.trial_link.proofs.Common.{◌≡◌, ◌+◌, ◌%◌, ◌==◌, ◌++◌, ◌∷◌, [], length, sym, ap, ◌∙◌, arith, List, Bool, ℕ, behind_draw}
+use Rattle.trial_link.proofs.Common.{behind_draws, bits_drawn, drawn}
 use Rattle.trial_link.proofs.TrialDraws.{bits_more, draws_more, length-bits_drawn, no_bits_drawn, no_draws}
 use Rattle.trial_link.proofs.trial.Draws.bits.Goals as goal
 

@@ -1,5 +1,4 @@
-use Rattle.std.proofs.Common.{◌≡◌, length}
-use Rattle.trial_link.specs.Trial.{behind_draws, bits_drawn}
+use Rattle.trial_link.proofs.Common.{◌≡◌, length, behind_draws, bits_drawn}
 use Rattle.trial_link.proofs.trial.Draws.bits.Given as goal
 
 abbrev pub invariant-loop-bit : goal.invariant-loop-bit

@@ -1,4 +1,4 @@
-use Rattle.std.proofs.Common.{◌≡◌, ◌⊎◌, ◌≤◌, ◌+◌, ◌*◌, ◌∙◌, ℕ, ap, length, refl, rules, sym}
+use Rattle.tuned_listener.proofs.Common.{◌≡◌, ◌⊎◌, ◌≤◌, ◌+◌, ◌*◌, ◌∙◌, ℕ, ap, length, refl, rules, sym}
 use Rattle.tuned_listener.proofs.SlotFrames.{holds_put, ready_put}
 use Rattle.tuned_listener.proofs.slot_writer.SlotWriter.keep.Goals as goal
 

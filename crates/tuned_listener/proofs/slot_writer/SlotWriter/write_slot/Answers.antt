@@ -1,9 +1,5 @@
-use Rattle.std.proofs.Common.{◌≡◌, true, length, rules, arith, sym, subst, Some, None, nat_lt}
-use Rattle.std.specs.Prelude.{if◌then◌else◌}
-use Rattle.std.specs.Io.KnownBytes.{Appends}
-use Rattle.cdma_io.specs.Outside.{AppendsPrefix}
-use Rattle.mobile_core.specs.PagingStreams.{paging_rate}
-use Rattle.slot_mode.specs.Slots.{is_monitored}
+use Rattle.tuned_listener.proofs.Common.{◌≡◌, true, length, rules, arith, sym, subst, Some, None, nat_lt, if◌then◌else◌, Appends}
+use Rattle.tuned_listener.proofs.Common.{AppendsPrefix, paging_rate, is_monitored}
 use Rattle.tuned_listener.proofs.HeardSlots.{slot_told, spans_small}
 use Rattle.tuned_listener.proofs.Prefixes.{on_err, on_ok}
 use Rattle.tuned_listener.proofs.slot_writer.SlotWriter.write_slot.Goals as goal

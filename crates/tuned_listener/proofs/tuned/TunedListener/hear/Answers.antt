@@ -1,5 +1,4 @@
-use Rattle.std.proofs.Common.{◌++◌, take}
-use Rattle.std.proofs.lemmas.List.{take_rest}
+use Rattle.tuned_listener.proofs.Common.{◌++◌, take, take_rest}
 use Rattle.tuned_listener.proofs.Prefixes.{on_err, on_ok}
 use Rattle.tuned_listener.proofs.TunedListeners.{cut_after, tells_after}
 use Rattle.tuned_listener.proofs.tuned.TunedListener.hear.Goals as goal

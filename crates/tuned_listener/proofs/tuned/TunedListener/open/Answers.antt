@@ -1,4 +1,4 @@
-use Rattle.std.proofs.Common.{[], refl}
+use Rattle.tuned_listener.proofs.Common.{[], refl}
 use Rattle.tuned_listener.proofs.TunedListeners.{holds_nothing}
 use Rattle.tuned_listener.proofs.TunedMarks.{none_marked, stands_near}
 use Rattle.tuned_listener.proofs.tuned.TunedListener.open.Goals as goal

@@ -1,7 +1,5 @@
-use Rattle.std.proofs.Common.{◌≡◌, ◌++◌, List, None, refl, rules, subst, take}
-use Rattle.chip_core.specs.declared.sample.Sample.{Sample}
+use Rattle.tuned_listener.proofs.Common.{◌≡◌, ◌++◌, List, None, refl, rules, subst, take, Sample, Mobile}
 use Rattle.mobile_core.specs.Standing.{StandsFor}
-use Rattle.mobile_core.specs.declared.mobile.Mobile.{Mobile}
 use Rattle.tuned_listener.proofs.TunedListeners.{handset_alone, lawful_channel, listens_ahead, listens_behind, silent_ahead, silent_at_mark}
 use Rattle.tuned_listener.proofs.tuned.TunedListener.reach_mark.Goals as goal
 

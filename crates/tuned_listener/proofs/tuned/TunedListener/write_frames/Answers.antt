@@ -1,5 +1,4 @@
-use Rattle.std.proofs.Common.{refl}
-use Rattle.tuned_listener.specs.declared.tuned.Behind.{Behind}
+use Rattle.tuned_listener.proofs.Common.{refl, Behind}
 use Rattle.tuned_listener.proofs.Prefixes.{on_err, on_ok}
 use Rattle.tuned_listener.proofs.TunedListeners.{ready_writer, tells_behind, tells_cut, tells_nothing}
 use Rattle.tuned_listener.proofs.tuned.TunedListener.write_frames.Goals as goal

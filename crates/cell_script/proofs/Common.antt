@@ -1,0 +1,116 @@
+-- What the proofs of this crate cite of what lies below, and of its own definitions, passed on from one place.
+pub use Rattle.std.proofs.Common.{Bool, Err, IfSome, IsOk, List, None, Ok, OnOk, Option, Result, Some, [], add-one, ap, append_assoc, arith}
+pub use Rattle.std.proofs.Common.{cond, decimal, drop, false, get_or, inl, inr, is_some, length, length-append, not, refl, replicate, rules}
+pub use Rattle.std.proofs.Common.{subst, suc, sym, take, true, unsigned_abs, zero, ℕ, ℤ, ◌%◌, ◌*◌, ◌++◌, ◌+◌, ◌-◌, ◌<◌, ◌==◌, ◌^◌, ◌∙◌, ◌∷◌}
+pub use Rattle.std.proofs.Common.{◌≡◌, ◌≢◌, ◌≤◌}
+pub use Rattle.std.proofs.Math.Dec.{eqb-suc-zero}
+pub use Rattle.std.proofs.Math.ListN.{set}
+pub use Rattle.std.proofs.Math.Nat.{pow-le-pow_right, pow-suc}
+pub use Rattle.std.proofs.Math.Seq.{take-suc-set}
+pub use Rattle.std.proofs.lemmas.Bool.{and_parts, cases_eq, cond-false, cond-true, eq-eqb, eqb-false, eqb-true, false≢true, le-leb, le-ltb}
+pub use Rattle.std.proofs.lemmas.Bool.{leb-true, lt-ltb, ltb-false, ltb-true, ne_eqb, not-true, or_right}
+pub use Rattle.std.proofs.lemmas.Fmt.{decimal-digits_value, decimal_nonempty, digits_decimal, digits_value-decimal, first_decimal}
+pub use Rattle.std.proofs.lemmas.Fmt.{length-decimal-le}
+pub use Rattle.std.proofs.lemmas.Int.{ints}
+pub use Rattle.std.proofs.lemmas.List.{append-nil, at_drop_more, drop_all, get_or-replicate, get_or-set_other, get_or-set_same, length-drop}
+pub use Rattle.std.proofs.lemmas.List.{length-map, length-set, length-take-le, map-append, take-append-drop, take_all, take_at}
+pub use Rattle.std.proofs.lemmas.List.{take_more_set}
+pub use Rattle.std.proofs.lemmas.List.Elements.{All-cons, All-head, All-map, All-nil, All-push, All-tail, All-weaker}
+pub use Rattle.std.proofs.lemmas.Nat.{mul-le}
+pub use Rattle.std.proofs.lemmas.Option.{cond_some, get_or_from_slice_get, same_Some}
+pub use Rattle.std.proofs.lemmas.Str.Parse.{IsNumeralModel, numerals_by_fold}
+pub use Rattle.std.specs.Char.{is_ascii_digit}
+pub use Rattle.std.specs.Fmt.{signed_decimal}
+pub use Rattle.std.specs.Int.{w16}
+pub use Rattle.std.specs.Option.{option_map_or, option_or}
+pub use Rattle.std.specs.Prelude.{All, FitsSigned, codes, flat_map, nat_le, nat_lt, negsuc, ok_or, option_and_then, option_map, pos, ◌||◌}
+pub use Rattle.std.specs.Prelude.{◌↔◌}
+pub use Rattle.std.specs.Str.{all_ascii_digits}
+pub use Rattle.cdma_io.specs.SampleFile.{most_samples}
+pub use Rattle.cell_plan.proofs.CarriedPages.{channel_carried, heard_messages}
+pub use Rattle.cell_plan.proofs.MachineInts.{read64}
+pub use Rattle.cell_plan.specs.Pages.{AreSendable, half_frame_bits, laid_behind, paging_rate}
+pub use Rattle.cell_plan.specs.Plan.{AreLawfulBeside, HaveOwnNumbers, HaveOwnTrafficRows, IsFreeOf, IsLawfulPlan, IsPagingPlan, IsSyncPlan}
+pub use Rattle.cell_plan.specs.Plan.{IsTrafficPlan, loudness, most_part, paging_gains, sync_gain, traffic_gains}
+pub use Rattle.cell_plan.specs.Stated.{AreHeard, HasMessages, HasSaid, IsCarried, IsReceivable, IsStatedCell, IsStatedLink, IsStatedPaging}
+pub use Rattle.cell_plan.specs.Stated.{IsStatedPlan, IsStatedSync, IsStatedTraffic}
+pub use Rattle.cell_plan.specs.TrafficFrames.{AreTrafficFrames, IsTrafficFrame, IsTrafficFrame2, frame_count, set_one, set_two, with_one}
+pub use Rattle.cell_plan.specs.TrafficFrames.{with_two}
+pub use Rattle.cell_plan.specs.declared.frame_list.FrameList.{FrameList}
+pub use Rattle.cell_plan.specs.declared.plan.CellIdentity.{CellIdentity}
+pub use Rattle.cell_plan.specs.declared.plan.CellPlan.{CellPlan}
+pub use Rattle.cell_plan.specs.declared.plan.LinkPlan.{LinkPlan}
+pub use Rattle.cell_plan.specs.declared.plan.Page.{Page}
+pub use Rattle.cell_plan.specs.declared.plan.PagingPlan.{PagingPlan}
+pub use Rattle.cell_plan.specs.declared.plan.PilotPlan.{PilotPlan}
+pub use Rattle.cell_plan.specs.declared.plan.SyncPlan.{SyncPlan}
+pub use Rattle.cell_plan.specs.declared.plan.TrafficPlan.{TrafficPlan}
+pub use Rattle.cell_plan.specs.declared.traffic_frame.TrafficFrame.{TrafficFrame}
+pub use Rattle.cell_plan.specs.declared.traffic_frame2.TrafficFrame2.{TrafficFrame2}
+pub use Rattle.chip_core.proofs.FieldLists.{length-binary}
+unfoldable pub use Rattle.chip_core.specs.Bits.{binary}
+pub use Rattle.chip_core.specs.Complex.{norm}
+unfoldable pub use Rattle.chip_core.specs.Decimals.{digits_from}
+pub use Rattle.chip_core.specs.Fields.{FieldsFit}
+pub use Rattle.chip_core.specs.declared.check_form.CheckForm.{CheckForm}
+pub use Rattle.chip_core.specs.declared.width.Width.{Width}
+unfoldable pub use Rattle.hex.specs.Hex.{decode_pairs}
+pub use Rattle.long_code.specs.LongCode.{IsState}
+pub use Rattle.paging_message.proofs.Messages.{message_fills}
+pub use Rattle.paging_message.proofs.Readings.{body_is_read, reads_body}
+pub use Rattle.paging_message.specs.Admitted.{HasMessage}
+unfoldable pub use Rattle.paging_message.specs.Admitted.{admits}
+pub use Rattle.paging_message.specs.HalfFrames.{half_frame_body}
+unfoldable pub use Rattle.paging_message.specs.HalfFrames.{bits_left}
+unfoldable pub use Rattle.paging_message.specs.Laying.{fill}
+pub use Rattle.paging_message.specs.Messages.{IsPagingMessage, message_body}
+pub use Rattle.paging_message.specs.Reading.{message_at, number_at}
+unfoldable pub use Rattle.paging_message.specs.Reading.{body_reading, is_body}
+pub use Rattle.paging_message.specs.declared.message.PagingMessage.{PagingMessage}
+pub use Rattle.quality_bits.specs.Capsules.{FillsCapsule}
+pub use Rattle.quality_bits.specs.TrafficWords.{information_of}
+pub use Rattle.quality_bits.specs.declared.kind.Kind.TheVariants.{M30}
+pub use Rattle.quality_bits.specs.declared.rate.Rate.{Rate}
+pub use Rattle.quality_bits.specs.declared.rate.Rate.TheVariants.{R1200, R2400, R4800, R9600}
+pub use Rattle.symbol_path.specs.declared.rate_two.Rate2.{Rate2}
+pub use Rattle.sync_message.proofs.Bodies.{admitted, tail_of}
+pub use Rattle.sync_message.specs.SyncMessage.{IsSyncMessage, fixed_fields}
+pub use Rattle.sync_message.specs.Tails.{IsTail}
+pub use Rattle.sync_message.specs.declared.fields.SyncFields.{SyncFields}
+pub use borrow.Author.Count.{below_more}
+pub use Rattle.cell_script.specs.Script.{ChannelLine, channel, channel_lines, first_channels, gain_fault, is_used, long_fault, loud_fault}
+pub use Rattle.cell_script.specs.Script.{named, onto_first, paging_lines, plan_fault, repeated, repeated_behind, silent, sync_gain_fault}
+pub use Rattle.cell_script.specs.Script.{traffic_lines, unless, walsh_fault}
+unfoldable pub use Rattle.cell_script.specs.Script.{draft_after, is_line, lines, plan_named, stated, stated_plan}
+pub use Rattle.cell_script.specs.ScriptDrafts.{Draft, draft_at, empty_draft, empty_plan, on_last, opened, opened_traffic, plan_at}
+pub use Rattle.cell_script.specs.ScriptDrafts.{with_frame, with_frame2, with_page, with_statement}
+unfoldable pub use Rattle.cell_script.specs.ScriptDrafts.{with_line, with_next}
+pub use Rattle.cell_script.specs.ScriptFields.{AreUpTo, NumberRow, at_end, mosts, past_at, row, rows_of, unsigned_at, value_of, ◌>>=◌}
+unfoldable pub use Rattle.cell_script.specs.ScriptFields.{field, numbers_in, past, past_numbers}
+pub use Rattle.cell_script.specs.ScriptJudged.{HasJudged, HasSeen, IsInOrder, IsJudged, gains_of, judged_fault}
+pub use Rattle.cell_script.specs.ScriptLines.{cell_line, frame2_key, frame2_rate, frame2_with, frame_key, frame_rate, frame_with}
+pub use Rattle.cell_script.specs.ScriptLines.{has_lawful_rest, is_link, lawful_frame, lawful_frame2, lawful_message, lawful_page, link_line}
+pub use Rattle.cell_script.specs.ScriptLines.{page_key, page_with, paging_line, sync_fields, sync_table, traffic_line, traffic_rows}
+unfoldable pub use Rattle.cell_script.specs.ScriptLines.{cell_in, frame2_in, frame_in, freq_in, link_in, page_in, paging_in, pilot_in}
+unfoldable pub use Rattle.cell_script.specs.ScriptLines.{statement_in, sync_behind, sync_in, traffic_in}
+pub use Rattle.cell_script.specs.ScriptPlans.{IsLawful}
+unfoldable pub use Rattle.cell_script.specs.ScriptSplitting.{first_stated}
+pub use Rattle.cell_script.specs.ScriptStages.{after_cell, after_frame, after_frame2, after_link, after_page, after_paging, after_pilot}
+pub use Rattle.cell_script.specs.ScriptStages.{after_sync, after_traffic, behind_sync, count_behind, is_complete, is_cycle, may_follow}
+pub use Rattle.cell_script.specs.ScriptStages.{next_stage}
+unfoldable pub use Rattle.cell_script.specs.ScriptStages.{pages_behind}
+pub use Rattle.cell_script.specs.ScriptValues.{all_clear, as_state, begins_with, behind, binary_digit, hex_digit, is_plain, negative}
+pub use Rattle.cell_script.specs.ScriptValues.{number_in, positive, serial_number_in, signed_behind, up_to}
+unfoldable pub use Rattle.cell_script.specs.ScriptValues.{bits_in, commands_in, digits_behind, hex_bits, hex_from, length_before}
+unfoldable pub use Rattle.cell_script.specs.ScriptValues.{number_up_to, signed_in, state_in}
+pub use Rattle.cell_script.specs.declared.judge.ChannelRows.{ChannelRows}
+pub use Rattle.cell_script.specs.declared.judge.Judge.{Judge}
+pub use Rattle.cell_script.specs.declared.script_fault.ScriptFault.{ScriptFault}
+pub use Rattle.cell_script.specs.declared.script_fault.ScriptFault.TheVariants.{Gain, Line, TooBig, TooLong, TooLoud, Walsh}
+pub use Rattle.cell_script.specs.declared.stage.Stage.{Stage}
+pub use Rattle.cell_script.specs.declared.stage.Stage.TheVariants.{Cell, FirstFrame, FirstPage, Frames, Frames2, Link, Pages, Paging, Pilot}
+pub use Rattle.cell_script.specs.declared.stage.Stage.TheVariants.{Sync, Traffic}
+pub use Rattle.cell_script.specs.declared.statements.PagingLine.{PagingLine}
+pub use Rattle.cell_script.specs.declared.statements.Statement.{Statement}
+pub use Rattle.cell_script.specs.declared.statements.TrafficLine.{TrafficLine}
+pub use Rattle.cell_script.specs.declared.tables.NumberField.{NumberField}

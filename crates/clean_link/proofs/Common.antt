@@ -1,0 +1,286 @@
+-- What the proofs of this crate cite of what lies below, and of its own definitions, passed on from one place.
+pub use Rattle.std.proofs.Common.{All, Bool, List, None, Option, Some, [], add-one, ap, append_assoc, arith, cond, drop, false, filter}
+pub use Rattle.std.proofs.Common.{get_or, inl, inr, length, length-append, length-drop, map, max, nat_eq, nat_le, nat_lt, negsuc, not, pos}
+pub use Rattle.std.proofs.Common.{refl, replicate, subst, suc, sym, take, true, unsigned_abs, zero, ℕ, ℤ, ⊎_elim, ◌%◌, ◌&&◌, ◌*◌, ◌++◌, ◌+◌}
+pub use Rattle.std.proofs.Common.{◌-◌, ◌/◌, ◌<◌, ◌==◌, ◌^◌, ◌||◌, ◌∙◌, ◌∷◌, ◌≡◌, ◌≢◌, ◌≤◌, ◌⊎◌}
+pub use Rattle.std.proofs.Math.Bool.{beq}
+pub use Rattle.std.proofs.Math.IntN.{+ℤ_idl, +ℤ_idr}
+pub use Rattle.std.proofs.Math.Nat.{div-add-mod, div-add-mod', div-div-eq-div-mul, div-eq_of_eq-mul_left, mod-eq-sub-mul-div, mod_self}
+pub use Rattle.std.proofs.Math.Nat.{mul-add-div, mul-add-mod_self_left, mul-div-le, mul-le-mul_left, mul-le-mul_right, mul-pos}
+pub use Rattle.std.proofs.Math.Seq.{take-add, take-append-add, take-nil}
+pub use Rattle.std.proofs.lemmas.Bool.{and_from, and_left, and_parts, and_right, cases_Bool, cases_eq, cases_lt, cases_order, eq-eqb}
+pub use Rattle.std.proofs.lemmas.Bool.{eqb-false, eqb-true, false_from_ne_true, le-leb, le-ltb, leb-true, lt-leb, lt-ltb, ltb-true, ne_eqb}
+pub use Rattle.std.proofs.lemmas.Bool.{not-true, or_cases, or_left, or_right}
+pub use Rattle.std.proofs.lemmas.Grind.{flat_map-append}
+pub use Rattle.std.proofs.lemmas.Int.{by_lt_z, int_rem_euclid_is, ints}
+pub use Rattle.std.proofs.lemmas.List.{append-nil, drop-append-le, drop-drop, drop-replicate, drop-take, drop_at, ext_get_or}
+pub use Rattle.std.proofs.lemmas.List.{get_or-append-add, get_or-drop, get_or-map, get_or-replicate, get_or_append_left, length-map}
+pub use Rattle.std.proofs.lemmas.List.{length-replicate, length-take-le, map-append, nil_from_length, replicate-append-replicate}
+pub use Rattle.std.proofs.lemmas.List.{take-append-drop, take-append-le, take-replicate, take-take, take_all, take_at}
+pub use Rattle.std.proofs.lemmas.List.Elements.{All-append, All-cons, All-contains, All-contains_itself, All-get_or, All-head, All-map}
+pub use Rattle.std.proofs.lemmas.List.Elements.{All-nil, All-same, All-tail, All-weaker, Contains-append_left, Contains-append_right}
+pub use Rattle.std.proofs.lemmas.List.Elements.{filter-append}
+pub use Rattle.std.proofs.lemmas.List.Folds.{flat_map-map, list_all-append, list_all-map, list_all_at, list_any-append, list_any_at}
+pub use Rattle.std.proofs.lemmas.Nat.{div-mul-add, div_below, le-div, mod-mul-add, mod_below}
+pub use Rattle.std.proofs.lemmas.Simd.{map-map}
+pub use Rattle.std.specs.Cmp.{booleans_Decides}
+pub use Rattle.std.specs.Cmp.Lexicographic.{pointwise, pointwise_decides}
+pub use Rattle.std.specs.List.{Contains, flat_map, list_all, list_any, range_with_len}
+pub use Rattle.std.specs.Option.{option_to_list}
+pub use Rattle.std.specs.Prelude.{if◌then◌else◌, int_le, int_lt, is_some, neg_ℤ, ◌*ℤ◌, ◌+ℤ◌, ◌-ℤ◌, ◌<ℤ◌, ◌≤ℤ◌}
+pub use Rattle.cdma_io.specs.SampleFile.{most_samples}
+pub use Rattle.cell_plan.proofs.Amplitudes.{pilot_amplitude, signal_of_carriers, walsh-pilot}
+pub use Rattle.cell_plan.proofs.LaidPages.{size_large}
+pub use Rattle.cell_plan.proofs.Pieces.{no_sample}
+pub use Rattle.cell_plan.proofs.SentBits.{last_eight}
+pub use Rattle.cell_plan.proofs.SentMessages.{length-sending, length-sync, refilled_is, superframes_few, superframes_some, told_early}
+pub use Rattle.cell_plan.proofs.SyncFrames.{length-sync_frame_bits}
+pub use Rattle.cell_plan.specs.PageCycles.{Cycle, cycle_frame_bits, frame_scrambling, paging_frame_size}
+unfoldable pub use Rattle.cell_plan.specs.PageCycles.{cycle_symbols, cycled}
+pub use Rattle.cell_plan.specs.Pages.{AreSendable, laid_behind, laid_pages, paging_rate, put_of}
+unfoldable pub use Rattle.cell_plan.specs.Pages.{page_cycle}
+pub use Rattle.cell_plan.specs.Plan.{AreLawfulBeside, HaveOwnNumbers, HaveOwnTrafficRows, IsFreeOf, IsLawfulPlan, IsPagingPlan, IsSyncPlan}
+pub use Rattle.cell_plan.specs.Plan.{IsTrafficPlan, loudness}
+pub use Rattle.cell_plan.specs.Sampled.{sample_with}
+unfoldable pub use Rattle.cell_plan.specs.Sampled.{made_samples}
+pub use Rattle.cell_plan.specs.Sendings.{padded_sending, superframes_a_sending, told_superframes}
+unfoldable pub use Rattle.cell_plan.specs.Sendings.{bits_before, continued_symbols, message_of, sync_frame_bits, sync_symbols}
+pub use Rattle.cell_plan.specs.Signal.{Carrier, amplitude, amplitudes, cycle_of, frames_of, level, level_of, paging_carrier, pilot_carrier}
+pub use Rattle.cell_plan.specs.Signal.{sample_of, scaled, symbol_at, sync_carrier, sync_carriers, traffic_carrier}
+unfoldable pub use Rattle.cell_plan.specs.Signal.{carriers, samples_of}
+pub use Rattle.cell_plan.specs.Stated.{AreHeard, IsReceivable, IsStatedPaging}
+pub use Rattle.cell_plan.specs.TrafficFrames.{IsTrafficFrame, IsTrafficFrame2, cycled_frame, set_one, set_two}
+pub use Rattle.cell_plan.specs.Transmitter.{IsSendable, phase_at}
+pub use Rattle.cell_plan.specs.declared.frame_list.FrameList.{FrameList}
+pub use Rattle.cell_plan.specs.declared.frame_list.FrameList.TheVariants.{SetOne, SetTwo}
+pub use Rattle.cell_plan.specs.declared.plan.CellPlan.{CellPlan}
+pub use Rattle.cell_plan.specs.declared.plan.Page.{Page}
+pub use Rattle.cell_plan.specs.declared.plan.PagingPlan.{PagingPlan}
+pub use Rattle.cell_plan.specs.declared.plan.SyncPlan.{SyncPlan}
+pub use Rattle.cell_plan.specs.declared.plan.TrafficPlan.{TrafficPlan}
+pub use Rattle.cell_plan.specs.declared.traffic_frame.TrafficFrame.{TrafficFrame}
+pub use Rattle.cell_plan.specs.declared.traffic_frame2.TrafficFrame2.{TrafficFrame2}
+pub use Rattle.chip_core.proofs.BitLists.{add, length_add}
+pub use Rattle.chip_core.proofs.Counted.{flat_map-add, flat_map-next, flat_map-nothing, flat_map-zero, map-add, map-next, map-zero}
+pub use Rattle.chip_core.proofs.Counted.{take-map-places}
+pub use Rattle.chip_core.proofs.IndexSums.{sum_append, sum_none, sum_same}
+pub use Rattle.chip_core.proofs.Places.{get_or-map-places, get_or-places, length-map-places, length-places, map-places-all, places-more}
+pub use Rattle.chip_core.proofs.Places.{places-none}
+pub use Rattle.chip_core.proofs.Ranges.{filter-places-more, filter_enough, filter_ext_places, filter_none_places, flat_map-places-more}
+pub use Rattle.chip_core.proofs.Ranges.{flat_map_ext_filter, flat_map_ext_filter_places, flat_map_ext_places, map_ext_filter_places}
+pub use Rattle.chip_core.proofs.Ranges.{map_ext_places}
+pub use Rattle.chip_core.proofs.Repeated.{flat_map-repeated, length-repeated, repeated, repeated-part}
+pub use Rattle.chip_core.proofs.Ring.{diff-plus, diff-same, diff-times, distrib, mul_assoc_ℤ, neg_times, swap_products, times_neg}
+unfoldable pub use Rattle.chip_core.proofs.Ring.{split}
+pub use Rattle.chip_core.specs.Bits.{common_parity, digit, number, sign, xor, zip_with}
+unfoldable pub use Rattle.chip_core.specs.Bits.{binary, places}
+pub use Rattle.chip_core.specs.Complex.{conjugate, norm, of_sample, origin, plus, point, sum_of, times}
+pub use Rattle.chip_core.specs.Sums.{square}
+unfoldable pub use Rattle.chip_core.specs.Sums.{sum_below}
+pub use Rattle.chip_core.specs.declared.assignment.Traffic.{Traffic}
+pub use Rattle.chip_core.specs.declared.check_form.CheckForm.{CheckForm}
+pub use Rattle.chip_core.specs.declared.check_form.CheckForm.TheVariants.{Plain}
+pub use Rattle.chip_core.specs.declared.sample.Pair.{Pair}
+pub use Rattle.chip_core.specs.declared.sample.Sample.{Sample}
+pub use Rattle.chip_core.specs.declared.width.Width.{Width}
+pub use Rattle.chip_core.specs.declared.width.Width.TheVariants.{Eight, Sixteen}
+pub use Rattle.conv_code.proofs.Continued.{before, behind, code_symbols-none, continued, length-code_symbols, length-state_after, pair}
+pub use Rattle.conv_code.proofs.Continued.{state_after-append, state_after-none}
+pub use Rattle.conv_code.proofs.Distinct.{distinct}
+pub use Rattle.conv_code.proofs.Pairs.{symbols_at}
+pub use Rattle.conv_code.specs.ConvCode.{code_symbols, g0, g1, state_after, symbol}
+pub use Rattle.frame_decoder.proofs.BestWords.{best_word-same, own_is}
+pub use Rattle.frame_decoder.proofs.Gathered.{length-gathered_span}
+pub use Rattle.frame_decoder.proofs.MaskedScores.{alone, get_or-masked, length-masked, masked, own_score, weight}
+pub use Rattle.frame_decoder.proofs.Parts.{frames-more, frames-none, length-frames, take-frames, within}
+pub use Rattle.frame_decoder.proofs.Scores.{score_is}
+pub use Rattle.frame_decoder.proofs.SentFrames.{sent_frame}
+pub use Rattle.frame_decoder.proofs.Unreplaced.{get_or-unreplaced, length-unreplaced}
+pub use Rattle.frame_decoder.specs.Laws.{AgreeElsewhere, IsUnshared, ShowSymbols, frame_word, kept_count}
+pub use Rattle.frame_decoder.specs.Spans.{Channel, channel_for, gathered_span, own_bits, score, sending, sent_symbols}
+pub use Rattle.frame_decoder.specs.TrafficFrames.{command, decoded, frame_bits, frame_symbols, group_sum, group_sums, is_replaced}
+pub use Rattle.frame_decoder.specs.TrafficFrames.{unreplaced}
+pub use Rattle.frame_decoder.specs.declared.layout.FrameKind.{FrameKind}
+pub use Rattle.frame_decoder.specs.declared.layout.FrameKind.TheVariants.{Paging}
+pub use Rattle.frame_decoder.specs.declared.traffic.Decoded.{Decoded}
+pub use Rattle.long_code.proofs.After.{after-after, after_lt, after_none, after_one, stepped}
+pub use Rattle.long_code.proofs.Before.{after-before, before_lt}
+pub use Rattle.long_code.proofs.Period.{IsState-after, IsState-before, after-injective}
+pub use Rattle.long_code.specs.LongCode.{IsState, after, paging_mask}
+unfoldable pub use Rattle.long_code.specs.LongCode.{long_chip, traffic_mask}
+pub use Rattle.mobile_core.proofs.EventPlaces.{AreAt, messages_at_end, paging_at, sets_at_end, sync_at, traffic_at}
+pub use Rattle.mobile_core.proofs.FingerTimes.{timed_in}
+pub use Rattle.mobile_core.proofs.FrameBounds.{AreCloseAll}
+pub use Rattle.mobile_core.proofs.FrameGrowth.{frames_sooner}
+pub use Rattle.mobile_core.proofs.FrameTimes.{known_between, known_le}
+pub use Rattle.mobile_core.proofs.LegParts.{map_same}
+pub use Rattle.mobile_core.proofs.MarkGrowth.{mark_is}
+pub use Rattle.mobile_core.proofs.MarkStays.{frames_by_one_mark, messages_by_one_mark, pages_by_one_mark, pilot_alone}
+pub use Rattle.mobile_core.proofs.MessageGrowth.{messages_sooner}
+pub use Rattle.mobile_core.proofs.MomentGrowth.{kept_new, kept_old}
+pub use Rattle.mobile_core.specs.Close.{AreClose}
+pub use Rattle.mobile_core.specs.Events.{events}
+unfoldable pub use Rattle.mobile_core.specs.Events.{events_at, frame_events_at, heard_within, message_events_at, paging_events_at}
+unfoldable pub use Rattle.mobile_core.specs.Events.{sets_events_at}
+pub use Rattle.mobile_core.specs.FramesAlone.{traffic_channel}
+pub use Rattle.mobile_core.specs.Given.{at_of}
+pub use Rattle.mobile_core.specs.Legs.{all_fingers, leg_of, legs_of, pilot_finger, subchannels}
+pub use Rattle.mobile_core.specs.Marks.{first_of, marks_of}
+unfoldable pub use Rattle.mobile_core.specs.Marks.{frames_open, mark, mark_before, marks_at}
+pub use Rattle.mobile_core.specs.Moments.{changed, frames_at, legs_at, legs_by, messages_at, messages_behind, moment_events, moment_of}
+pub use Rattle.mobile_core.specs.Moments.{moment_place, moments_before}
+unfoldable pub use Rattle.mobile_core.specs.Moments.{heard_from, kept_to, passed, sets_at, told_by}
+pub use Rattle.mobile_core.specs.Near.{AreNear}
+pub use Rattle.mobile_core.specs.Noted.{all_noted, body_noted, in_traffic_thresholds, noted, noted_with, page_noted, system_thresholds}
+pub use Rattle.mobile_core.specs.PagingEvents.{page_event, page_in, pages_behind, with_page}
+unfoldable pub use Rattle.mobile_core.specs.PagingEvents.{bits_up_to, page_at, pages_at, pages_from}
+pub use Rattle.mobile_core.specs.PagingStreams.{paging_bound, paging_stream}
+pub use Rattle.mobile_core.specs.Scrambled.{Scrambles, turned, unscrambled}
+pub use Rattle.mobile_core.specs.Signaling.{capsule_with, message_events, message_heard, signal_in, signal_of}
+unfoldable pub use Rattle.mobile_core.specs.Signaling.{message_at, messages_by, signal_at, signals_before}
+pub use Rattle.mobile_core.specs.SoftFrames.{soft_frame, soft_frames, unturned_at}
+unfoldable pub use Rattle.mobile_core.specs.SoftFrames.{frames_within}
+pub use Rattle.mobile_core.specs.Streams.{Stream, frame_end, frame_softs, frame_start, is_in_file, is_within, known_at, known_by, known_now}
+pub use Rattle.mobile_core.specs.Streams.{span_first, span_frames}
+unfoldable pub use Rattle.mobile_core.specs.Streams.{frame_own_bits}
+pub use Rattle.mobile_core.specs.SyncEvents.{events_of, heard_in, with_message}
+unfoldable pub use Rattle.mobile_core.specs.SyncEvents.{frames_before, heard_at, sync_capsule_at, sync_events_at}
+pub use Rattle.mobile_core.specs.Timing.{IsTimed}
+pub use Rattle.mobile_core.specs.TrafficEvents.{all_sums, frame_event, frame_heard, if_followed, subchannel_sums, unturned_by}
+pub use Rattle.mobile_core.specs.TrafficEvents.{unturned_softs}
+unfoldable pub use Rattle.mobile_core.specs.TrafficEvents.{commands_at, decoded_at, frames_by}
+pub use Rattle.mobile_core.specs.TrafficStreams.{ends_now, frame_state, frames_bound, frames_now, has_frame, replaced_in, stream_of}
+pub use Rattle.mobile_core.specs.TrafficStreams.{traffic_start, traffic_stream}
+pub use Rattle.mobile_core.specs.Tuning.{Tuning, fingers_of, modulo_code, sync_bound, sync_stream}
+pub use Rattle.mobile_core.specs.declared.event.Event.{Event}
+pub use Rattle.mobile_core.specs.declared.event.Event.TheVariants.{Frame, Pilot, Sets}
+pub use Rattle.mobile_core.specs.declared.legs.Leg.{Leg}
+pub use Rattle.mobile_core.specs.declared.mark.Mark.{Mark}
+pub use Rattle.mobile_core.specs.declared.soft_frame.PowerControl.{PowerControl}
+pub use Rattle.mobile_core.specs.declared.soft_frame.SoftFrame.{SoftFrame}
+pub use Rattle.paging_message.proofs.Carried.{rate_large}
+pub use Rattle.paging_message.proofs.Chains.{is_there}
+pub use Rattle.paging_message.proofs.Cutting.{halves_more, mark_ends, part}
+pub use Rattle.paging_message.proofs.Layings.{below_more, below_push, framed_whole, not_begun}
+pub use Rattle.paging_message.proofs.Readings.{reads_body, reads_capsule}
+pub use Rattle.paging_message.specs.Admitted.{HasMessage}
+pub use Rattle.paging_message.specs.HalfFrames.{half_frame_body}
+unfoldable pub use Rattle.paging_message.specs.HalfFrames.{bits_left, ends_chain, half_frame_capsule_ending, half_frames}
+pub use Rattle.paging_message.specs.Laying.{padded}
+unfoldable pub use Rattle.paging_message.specs.Laying.{fill}
+unfoldable pub use Rattle.paging_message.specs.Messages.{paging_capsule}
+pub use Rattle.paging_message.specs.Reading.{is_body, paging_reading}
+unfoldable pub use Rattle.paging_message.specs.Reading.{body_reading}
+pub use Rattle.paging_message.specs.declared.message.PagingMessage.{PagingMessage}
+pub use Rattle.pilot_sets.specs.Moments.{active_timed, energy_in}
+pub use Rattle.pilot_sets.specs.Standing.{Standing, due_at, due_for, new_standing, shown, shown_active, with_neighbors, with_thresholds}
+pub use Rattle.pilot_sets.specs.declared.change.SetChange.{SetChange}
+pub use Rattle.pilot_sets.specs.declared.lists.Active.{Active}
+pub use Rattle.pilot_sets.specs.declared.standing.Accepted.{Accepted}
+pub use Rattle.pilot_sets.specs.declared.standing.ActivePilot.{ActivePilot}
+pub use Rattle.pilot_sets.specs.declared.strengths.Strength.{Strength}
+pub use Rattle.pilot_sets.specs.declared.thresholds.Thresholds.{Thresholds}
+pub use Rattle.quality_bits.proofs.Opened.{stated_bounds, stated_from}
+pub use Rattle.quality_bits.proofs.TrafficWords.{word_fills}
+pub use Rattle.quality_bits.proofs.Wholes.{length-capsule, whole-capsule}
+pub use Rattle.quality_bits.specs.Capsules.{FillsCapsule, IsWhole, octets, stated_bits}
+unfoldable pub use Rattle.quality_bits.specs.Capsules.{capsule, front_capsule, is_stated}
+pub use Rattle.quality_bits.specs.Kinds.{quality_indicator}
+pub use Rattle.quality_bits.specs.Pieces.{Piece, bodies, but_last, from_last_start, piece}
+unfoldable pub use Rattle.quality_bits.specs.Pieces.{capsule_ending}
+unfoldable pub use Rattle.quality_bits.specs.Quality.{check_bits}
+pub use Rattle.quality_bits.specs.TrafficWords.{information_of, quality_of, repeats_of, traffic_word}
+pub use Rattle.quality_bits.specs.declared.kind.Kind.TheVariants.{M30}
+pub use Rattle.quality_bits.specs.declared.rate.Rate.{Rate}
+pub use Rattle.quality_bits.specs.declared.rate.Rate.TheVariants.{R1200, R2400, R4800, R9600}
+pub use Rattle.rake_finger.proofs.CoveredSums.{covered_sum-more, row_sign, same_parts}
+pub use Rattle.rake_finger.proofs.SoftValues.{pilot_is, soft_is, symbol_is}
+pub use Rattle.rake_finger.specs.Soft.{covered_from, despread_at, frame_chips, pilot_sum, soft, symbol_sum, symbols, turned_part}
+pub use Rattle.rake_finger.specs.Soft.{window_chips}
+unfoldable pub use Rattle.rake_finger.specs.Soft.{softs, symbol_chips}
+pub use Rattle.rake_finger.specs.declared.finger.Finger.{Finger}
+pub use Rattle.rake_finger.specs.declared.form.Form.{Form}
+pub use Rattle.rake_finger.specs.declared.form.Form.TheVariants.{Data, Sync}
+pub use Rattle.short_code.specs.Despread.{code_point, despread}
+pub use Rattle.short_code.specs.ShortCode.{pilot_chip}
+pub use Rattle.symbol_path.proofs.Agreement.{get_or-sent, length-sent}
+pub use Rattle.symbol_path.proofs.Interleaving.{repeats_some, size_some}
+pub use Rattle.symbol_path.proofs.Permutation.{address-place, place_lt}
+pub use Rattle.symbol_path.proofs.PowerPlaces.{ArePairs, pairs_below, pairs_in_groups, pairs_neighbours, power_place_in_groups}
+pub use Rattle.symbol_path.proofs.SentOnceTwo.{kept_once}
+pub use Rattle.symbol_path.proofs.SentTwo.{get_or-sent2, length-sent2}
+pub use Rattle.symbol_path.proofs.SymbolChips.{on_again}
+pub use Rattle.symbol_path.proofs.WordsTwo.{length-word_bits}
+pub use Rattle.symbol_path.specs.FramesTwo.{word_bits}
+pub use Rattle.symbol_path.specs.Scrambling.{group_scrambling, power_place, power_start, scrambling, symbol_or_command}
+unfoldable pub use Rattle.symbol_path.specs.Scrambling.{power_places, with_commands}
+pub use Rattle.symbol_path.specs.SentOrder.{Shape, address, data_shape, place, shape_of, size, sync_shape}
+unfoldable pub use Rattle.symbol_path.specs.SentOrder.{sent}
+pub use Rattle.symbol_path.specs.SentOrderTwo.{is_dropped, repeated_symbol, sent2}
+pub use Rattle.symbol_path.specs.declared.kinds.Kind.{Kind}
+pub use Rattle.symbol_path.specs.declared.rate_two.Rate2.{Rate2}
+pub use Rattle.symbol_path.specs.declared.rate_two.Rate2.TheVariants.{R14400, R1800, R3600, R7200}
+pub use Rattle.sync_message.proofs.Bodies.{length-body}
+pub use Rattle.sync_message.specs.Framing.{superframes_of}
+pub use Rattle.sync_message.specs.SyncMessage.{IsSyncMessage}
+unfoldable pub use Rattle.sync_message.specs.SyncMessage.{sync_body, sync_capsule}
+pub use Rattle.sync_message.specs.declared.fields.SyncFields.{SyncFields}
+unfoldable pub use Rattle.traffic_message.specs.Multiplex.{split_9600}
+pub use Rattle.traffic_message.specs.declared.body.TrafficBody.{TrafficBody}
+pub use Rattle.viterbi.proofs.Agreement.{agrees_alone}
+pub use Rattle.viterbi.proofs.Choices.{words_same}
+pub use Rattle.viterbi.proofs.Sent.{zero_word_best}
+pub use Rattle.viterbi.proofs.Unique.{by_definition}
+pub use Rattle.viterbi.specs.Best.{IsAllowed, IsBestWord}
+pub use Rattle.viterbi.specs.Laws.{signed}
+pub use Rattle.viterbi.specs.Words.{Word, best_word, correlation, score_of}
+pub use Rattle.viterbi.specs.declared.word.Ends.TheVariants.{Free, Zero}
+pub use Rattle.walsh.proofs.RowTable.{orthogonal}
+pub use Rattle.walsh.specs.Walsh.{walsh}
+unfoldable pub use Rattle.walsh.specs.Walsh.{row_sum}
+pub use Rattle.clean_link.specs.CleanLaws.{AreZeroWithoutSync, FramesAreZeros, FramesComeBack, HaveSentSigns, IsMarkedWhereHeard}
+pub use Rattle.clean_link.specs.CleanLaws.{MarksAreTrue, SentWordsAreTheOnlyBest, WholeSendingsComeBack}
+pub use Rattle.clean_link.specs.CleanLink.{IsNoDirection, IsNotDirected, IsOnPath, IsTrueMark, IsTunedTo, events_of_channel}
+pub use Rattle.clean_link.specs.CleanLink.{first_sync_frame, heard_behind, is_whole, sending_begins, sending_ends, sending_event}
+pub use Rattle.clean_link.specs.CleanLink.{soft_strength, tuning_to, whole_sendings}
+unfoldable pub use Rattle.clean_link.specs.CleanLink.{sync_sent}
+pub use Rattle.clean_link.specs.DistinctFrames.{FullRateFramesAreDistinct, full_rate_symbols, is_hidden, is_kept, is_seen, lost_symbols}
+pub use Rattle.clean_link.specs.DistinctFrames.{shows_full_rate, tells_all_bits}
+unfoldable pub use Rattle.clean_link.specs.DistinctFrames.{stays_apart}
+pub use Rattle.clean_link.specs.DistinctPlan.{HasMark, HasSetOne, HasSetTwo, bits_1200, bits_14400, bits_1800, bits_2400, bits_3600}
+pub use Rattle.clean_link.specs.DistinctPlan.{bits_4800, bits_7200, bits_9600, distinct_plan, first_channel, frame2_at, frame_at, on_row}
+pub use Rattle.clean_link.specs.DistinctPlan.{second_channel, told_message}
+pub use Rattle.clean_link.specs.DistinctWorked.{AFullRateFrameIsDistinct, ZerosAreShared, replaced_places, some_information}
+pub use Rattle.clean_link.specs.HeardEach.{AreEventsOf, AreFramesBehind, AreMessagesBehind, EachChannelComesBack, FollowsOne, IsEventOf}
+pub use Rattle.clean_link.specs.HeardEach.{is_frame, is_message, is_page, is_sync}
+pub use Rattle.clean_link.specs.HeardFrames.{AreDistinct, IsAssigned, IsDistinctFrame, IsOnePilot, SendsSetOne, SendsSetTwo, SendsSymbols}
+pub use Rattle.clean_link.specs.HeardFrames.{ShowCommands, ShowFrame, frame_chip, frame_ends, frame_told, frames_of_channel, is_received}
+pub use Rattle.clean_link.specs.HeardFrames.{received_frames, replaced_of, sent_commands, sent_frame_event, told_on, word_symbols}
+unfoldable pub use Rattle.clean_link.specs.HeardFrames.{frames_sent, sent_bits}
+pub use Rattle.clean_link.specs.HeardPages.{KnownPage, PagesComeBack, ReadPage, end_chip, known_page, message_in, page_told, pages_numbered}
+pub use Rattle.clean_link.specs.HeardPages.{pages_of_channel, pages_within, placed_pages, round_sent, type_within}
+unfoldable pub use Rattle.clean_link.specs.HeardPages.{pages_sent}
+pub use Rattle.clean_link.specs.HeardSignals.{message_told, messages_of_channel, signal_sent, signals_in, signals_received}
+unfoldable pub use Rattle.clean_link.specs.HeardSignals.{messages_sent}
+pub use Rattle.clean_link.specs.OnlyBestFrames.{HeardAreTheOnlyBest, IsOnlyBestFrame, IsOnlyBestFrame2, ReceivedAreTheOnlyBest}
+pub use Rattle.clean_link.specs.OnlyBestFrames.{SetTwoAreTheOnlyBest}
+pub use Rattle.clean_link.specs.PageLaws.{PageSendingsComeBack, WholePagesComeBack}
+pub use Rattle.clean_link.specs.PagingLaws.{MarksTellTheRate, PagingFramesComeBack, PagingHaveSentSigns, PagingWordsAreTheOnlyBest}
+pub use Rattle.clean_link.specs.PagingLaws.{SilentPagingFramesAreZeros, SilentPagingIsZero, UnmarkedWithoutSync, ordered_symbols}
+pub use Rattle.clean_link.specs.ReceivedFrames.{AreReceived, IsDistinctFrame2, IsReceivedAs, IsSentFrame2, cycled_frame2, word_symbols2}
+pub use Rattle.clean_link.specs.ReceivedLaws.{EachFrameIsReceived, FramesBehindMark, FramesShowSymbols, SetOneSends, SetTwoBehindMark}
+pub use Rattle.clean_link.specs.ReceivedLaws.{SetTwoFramesComeBack, SetTwoSends}
+pub use Rattle.clean_link.specs.SentEvents.{FollowsSent, NoEventIsDirected, WholeMessagesComeBack, by_places, is_at, known_event}
+pub use Rattle.clean_link.specs.SentEvents.{pages_behind_mark, pages_with_sync, told_by_first, told_followed, told_with_sync}
+unfoldable pub use Rattle.clean_link.specs.SentEvents.{paging_sent, sent_events, sets_heard, signaling_sent, traffic_sent}
+pub use Rattle.clean_link.specs.SentWords.{AreReadBy, IsOnlyBest, IsWholeChannel, scrambled, span_softs, span_word}
+pub use Rattle.clean_link.specs.SharedWords.{AreDistinctBySharing, AreDistinctBySharing2, SharesNone, SharesNone2, gives, is_known2}
+pub use Rattle.clean_link.specs.SharedWords.{lost_symbols2, sharing, sharing2, shown_of}
+unfoldable pub use Rattle.clean_link.specs.SharedWords.{words_giving}
+pub use Rattle.clean_link.specs.Signals.{AreApart, HaveOwnRows, IsAligned, IsFrameAt, IsFrameOf, IsHeardBy, level_at, path_finger}
+pub use Rattle.clean_link.specs.Signals.{reference_finger, row_level}
+pub use Rattle.clean_link.specs.TrafficLaws.{CommandsComeBack, EachFrameIsHeard, HearsTraffic, IsHeardAs, IsUndirected, NoneIsDirected}
+pub use Rattle.clean_link.specs.TrafficLaws.{OnePilotIsHeard, SentFramesComeBack, SentMessagesComeBack, SixteenCommandsAreSent}
+pub use Rattle.clean_link.specs.TrafficLaws.{TrafficFramesComeBack, TrafficHaveSentSigns}
+pub use Rattle.clean_link.specs.WholePages.{AreWholePages, Placed, capsules_with_frames, cycle_half_frames, frame_capsules, is_between}
+pub use Rattle.clean_link.specs.WholePages.{is_whole_page, placed, sending_of}

@@ -1,0 +1,57 @@
+-- What the proofs of this crate cite of what lies below, and of its own definitions, passed on from one place.
+pub use Rattle.std.proofs.Common.{All, Bool, FitsSigned, List, None, Option, Some, [], add-one, ap, arith, below_more, drop, false, get_or}
+pub use Rattle.std.proofs.Common.{get_or-set_same, inl, inr, length, length-set, map, max, min, nat_eq, negsuc, of_z, pos, refl, rules, set}
+pub use Rattle.std.proofs.Common.{subst, suc, sym, take, to_z, true, true≢false, unsigned_abs, w16, w32, w64, w8, zero, ℕ, ℤ, ⊎_elim, ◌%◌}
+pub use Rattle.std.proofs.Common.{◌*ℤ◌, ◌*◌, ◌++◌, ◌+ℤ◌, ◌+◌, ◌-ℤ◌, ◌-◌, ◌/◌, ◌<ℤ◌, ◌<◌, ◌^◌, ◌∙◌, ◌∷◌, ◌≡◌, ◌≢◌, ◌≤ℤ◌, ◌≤◌, ◌⊎◌}
+pub use Rattle.std.proofs.Math.Facts.{Fits-of_z}
+pub use Rattle.std.proofs.Math.IntN.{+ℤ_assoc, neg_ℤ}
+pub use Rattle.std.proofs.Math.Nat.{div-le_self, div-mul-le_self, mul-div_cancel, mul-le-mul}
+pub use Rattle.std.proofs.Math.Seq.{drop-cons, take-add}
+pub use Rattle.std.proofs.lemmas.Bool.{cases_lt, cases_order}
+pub use Rattle.std.proofs.lemmas.Bool.Decides.{nat_tests}
+pub use Rattle.std.proofs.lemmas.Grind.{common_steps}
+pub use Rattle.std.proofs.lemmas.Int.{fits_signed_from_abs, int_wrap_fits, ints, to_z-of_z, unsigned_abs-mul, wrapping_add-bits}
+pub use Rattle.std.proofs.lemmas.Int.{wrapping_mul_onto}
+pub use Rattle.std.proofs.lemmas.List.{drop-drop, drop-map, drop_all, get_or-map, get_or-replicate, length-drop, length-map, length-take-le}
+pub use Rattle.std.proofs.lemmas.List.{take-append-drop, take_all}
+pub use Rattle.std.proofs.lemmas.List.Elements.{All-cons, All-contains, All-drop, All-from_get_or, All-get_or, All-head, All-nil, All-set}
+pub use Rattle.std.proofs.lemmas.List.Elements.{All-tail}
+pub use Rattle.std.proofs.lemmas.Nat.{le-div}
+pub use Rattle.std.proofs.lemmas.Option.{get_or_from_slice_get, slice_get_within}
+pub use Rattle.std.proofs.lemmas.Simd.{Each1-get_or, Each1-weaker, Each2-of, length-zip2}
+pub use Rattle.std.specs.Int.{int_wrap}
+pub use Rattle.std.specs.List.{list_any}
+pub use Rattle.std.specs.Prelude.{Contains, IsSome, if◌then◌else◌, int_lt, nat_le, nat_lt, slice_get}
+pub use Rattle.atomic_table.proofs.Lists.{at_set, at_snoc, set_again}
+pub use Rattle.atomic_table.specs.Table.{Allows, Joins, Me, Splits, State, keeps, step, stepped}
+pub use Rattle.chip_core.proofs.ComplexSums.{origin-plus, plus-origin, plus_assoc, real_part, sum_of-append}
+pub use Rattle.chip_core.proofs.Greatest.{first_greatest-is, only}
+pub use Rattle.chip_core.specs.Bits.{sign, zip_with}
+pub use Rattle.chip_core.specs.Complex.{conjugate, norm, of_sample, origin, plus, point, sum_of, times}
+pub use Rattle.chip_core.specs.Sums.{IsFirstGreatest, first_greatest, is_less, total, value_unless}
+unfoldable pub use Rattle.chip_core.specs.Sums.{first_places, greatest_unless}
+pub use Rattle.chip_core.specs.declared.sample.Pair.{Pair}
+pub use Rattle.chip_core.specs.declared.sample.Sample.{Sample}
+pub use Rattle.short_code.proofs.Despreading.{despread-append}
+pub use Rattle.short_code.proofs.Signs.{get_or-pilot_signs, length-pilot_signs}
+pub use Rattle.short_code.specs.Despread.{IsUnit, code_point, despread, turned}
+pub use Rattle.short_code.specs.ShortCode.{chip_signs, pilot_chip, pilot_signs}
+pub use lib.Lanes.{Each1, Each2, zip2}
+pub use lib.ListN.{get_elem?}
+pub use mathlib.Core.Option.{none, some, some-injective, some-ne-none}
+pub use Rattle.pilot_search.specs.BestIn.{IsBestIn}
+pub use Rattle.pilot_search.specs.Bounds.{HasBoundBelow, HasNoBoundBelow, IsSumOf, bound, greatest, magnitudes, square_of}
+pub use Rattle.pilot_search.specs.BySigns.{across}
+unfoldable pub use Rattle.pilot_search.specs.BySigns.{correlation_with}
+pub use Rattle.pilot_search.specs.Found.{IsFound, better_of, start_of}
+pub use Rattle.pilot_search.specs.Knowledge.{IsHeld, Knowledge}
+pub use Rattle.pilot_search.specs.Lanes.{AreProducts, AreSums, imaginary_lanes, product_at, real_lanes}
+pub use Rattle.pilot_search.specs.Near.{near_place, near_value, phase_at}
+unfoldable pub use Rattle.pilot_search.specs.Near.{near_deltas}
+pub use Rattle.pilot_search.specs.Ranked.{IsNext, IsRound, measured_at}
+unfoldable pub use Rattle.pilot_search.specs.Search.{best_phase, correlation, energy}
+pub use Rattle.pilot_search.specs.SearchRun.{BestComesFirst, ComesFirst, Evaluate, FindsBest, Goes, IsDone, IsTry, Parts, Publish, Read}
+pub use Rattle.pilot_search.specs.SearchRun.{Run, Skip, Step, Worker}
+pub use Rattle.pilot_search.specs.SharedRule.{AllLie, Begun, IsKept, Lies, fresh, holding, joined, spent}
+pub use Rattle.pilot_search.specs.declared.sweeping.Best.{Best}
+pub use Rattle.pilot_search.specs.declared.view.View.{View}
