@@ -70,8 +70,7 @@ pub use Rattle.chip_core.proofs.Ranges.{filter-places-more, filter_enough, filte
 pub use Rattle.chip_core.proofs.Ranges.{flat_map_ext_filter, flat_map_ext_filter_places, flat_map_ext_places, map_ext_filter_places}
 pub use Rattle.chip_core.proofs.Ranges.{map_ext_places}
 pub use Rattle.chip_core.proofs.Repeated.{flat_map-repeated, length-repeated, repeated, repeated-part}
-pub use Rattle.chip_core.proofs.Ring.{diff-plus, diff-same, diff-times, distrib, mul_assoc_ℤ, neg_times, swap_products, times_neg}
-unfoldable pub use Rattle.chip_core.proofs.Ring.{split}
+pub use Rattle.chip_core.proofs.Ring.{diff-plus, diff-same, diff-times, distrib, mul_assoc_ℤ, neg_times, split, swap_products, times_neg}
 pub use Rattle.chip_core.specs.Bits.{common_parity, digit, number, sign, xor, zip_with}
 unfoldable pub use Rattle.chip_core.specs.Bits.{binary, places}
 pub use Rattle.chip_core.specs.Complex.{conjugate, norm, of_sample, origin, plus, point, sum_of, times}
@@ -195,9 +194,9 @@ pub use Rattle.quality_bits.specs.declared.rate.Rate.{Rate}
 pub use Rattle.quality_bits.specs.declared.rate.Rate.TheVariants.{R1200, R2400, R4800, R9600}
 pub use Rattle.rake_finger.proofs.CoveredSums.{covered_sum-more, row_sign, same_parts}
 pub use Rattle.rake_finger.proofs.SoftValues.{pilot_is, soft_is, symbol_is}
-pub use Rattle.rake_finger.specs.Soft.{covered_from, despread_at, frame_chips, pilot_sum, soft, symbol_sum, symbols, turned_part}
-pub use Rattle.rake_finger.specs.Soft.{window_chips}
-unfoldable pub use Rattle.rake_finger.specs.Soft.{softs, symbol_chips}
+pub use Rattle.rake_finger.specs.Soft.{covered_from, despread_at, frame_chips, pilot_sum, soft, symbol_chips, symbol_sum, symbols}
+pub use Rattle.rake_finger.specs.Soft.{turned_part, window_chips}
+unfoldable pub use Rattle.rake_finger.specs.Soft.{softs}
 pub use Rattle.rake_finger.specs.declared.finger.Finger.{Finger}
 pub use Rattle.rake_finger.specs.declared.form.Form.{Form}
 pub use Rattle.rake_finger.specs.declared.form.Form.TheVariants.{Data, Sync}
