@@ -1,4 +1,5 @@
 pub mod Blocks
+pub mod KeptBlocks
 pub mod Levels
 pub mod Running
 pub mod SentFrames

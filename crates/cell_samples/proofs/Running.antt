@@ -1,55 +1,49 @@
--- A cell that runs: its channels, its blocks, and the sample that is next.
-use Rattle.std.proofs.Common.{◌≡◌, ◌≢◌, ℕ, ◌+◌, ◌-◌, ◌*◌, ◌/◌, ◌%◌, ◌<◌, ◌≤◌}
-use Rattle.std.proofs.Common.{List, [], ◌∷◌, refl, sym, ap, ◌∙◌, arith, ℤ, ◌+ℤ◌, ◌*ℤ◌}
-use Rattle.std.proofs.Common.{◌++◌, length, map, get_or}
-use Rattle.std.proofs.lemmas.List.{length-map}
-use Rattle.chip_core.specs.Complex.{origin, times, of_sample}
+-- A cell that runs: its channels, and the samples that are next.
+use Rattle.std.proofs.Common.{◌≡◌, ℕ, ◌+◌, ◌-◌, ◌*◌, ◌%◌, ◌<◌, ◌≤◌, List, ◌++◌, length, map}
+use Rattle.std.proofs.Common.{get_or, take, drop, sym, ap, ◌∙◌, arith, ℤ, pos, subst}
+use Rattle.std.specs.List.{All}
+use Rattle.std.proofs.lemmas.List.{length-drop, length-map, map-append, take_at, drop-drop, get_or-drop}
+use Rattle.std.proofs.lemmas.List.Elements.{All-append, All-drop, All-from_get_or}
+use Rattle.std.proofs.lemmas.Slice.{take-put_mid}
+use lib.Seq.{take-add}
+use borrow.Rule.Slice.PartMut.{put_mid}
+use Rattle.chip_core.specs.Complex.{times, of_sample}
 use Rattle.chip_core.specs.declared.sample.Pair.{Pair}
 use Rattle.chip_core.specs.declared.sample.Sample.{Sample}
+use Rattle.chip_core.specs.declared.width.Width.{Width}
+use Rattle.short_code.proofs.Signs.{length-pilot_signs, get_or-pilot_signs}
 use Rattle.short_code.specs.Despread.{code_point}
-use Rattle.short_code.specs.ShortCode.{pilot_chip, chip_signs}
+use Rattle.short_code.specs.ShortCode.{pilot_chip, chip_signs, pilot_signs}
+use Rattle.cdma_io.specs.SampleFile.{HasBits}
 use Rattle.cell_plan.specs.declared.plan.CellPlan.{CellPlan}
-use Rattle.cell_plan.specs.Signal.{Carrier, amplitudes, scaled}
-use Rattle.cell_plan.specs.Signal.{carriers, sample_of}
-use Rattle.cell_samples.specs.Running.{IsBlock}
-use Rattle.cell_plan.specs.Transmitter.{phase_at, point_of}
-use Rattle.std.proofs.Common.{take, drop}
-use Rattle.cell_plan.proofs.Amplitudes.{few_channels, signal_of_carriers}
+use Rattle.cell_plan.specs.Plan.{loudness, most_part}
+use Rattle.cell_plan.specs.Signal.{Carrier, amplitudes, carriers, sample_of, samples_of, scaled}
+use Rattle.cell_plan.specs.Transmitter.{IsPoint, phase_at, point_of}
+use Rattle.cell_plan.proofs.Amplitudes.{chip_fits, chip_most, few_channels, most_part_small}
+use Rattle.cell_plan.proofs.Amplitudes.{point_unit, signal_of_carriers}
+use Rattle.cell_plan.proofs.Pieces.{no_sample, pieces_are}
+use Rattle.cell_samples.specs.Blocks.{AreQuiet, AreTurned, BlockState, chip_at}
 use Rattle.cell_samples.specs.Channels.{ChannelState, carrier_of}
-use Rattle.std.proofs.lemmas.List.{take_at}
 
--- the place of a local chip in its block
-pub own_place : (chip : ℕ) → chip - chip % 64 + chip % 64 ≡ chip
-own_place chip = omega arith
+-- a chip of a plan's block
+pub chip_is : (plan : CellPlan) (block : BlockState) (chip : ℕ) →
+    map carrier_of block.channels ≡ carriers plan → block.factor ≡ plan.link.factor →
+    chip_at block chip ≡ scaled (amplitudes chip (carriers plan)) plan.link.factor
+chip_is plan block chip sent link =
+    ap (λ (cs : List Carrier). scaled (amplitudes chip cs) block.factor) sent
+    ∙ ap (scaled (amplitudes chip (carriers plan))) link
 
--- the chip of a block at a local chip
-pub chip_in : (plan : CellPlan) (chip : ℕ) (block : List Pair) → IsBlock plan chip block →
-    get_or block (chip % 64) origin ≡ scaled (amplitudes chip (carriers plan)) plan.link.factor
-chip_in plan chip block is =
-    is (chip % 64) (omega arith)
-    ∙ ap (λ (n : ℕ). scaled (amplitudes n (carriers plan)) plan.link.factor) (own_place chip)
+-- it is no louder than a sample may be
+pub chips_quiet : (width : Width) (plan : CellPlan) (channels : List ChannelState) →
+    map carrier_of channels ≡ carriers plan → loudness plan ≤ most_part width →
+    AreQuiet (map carrier_of channels) plan.link.factor
+chips_quiet width plan channels sent loud chip =
+    let z = scaled (amplitudes chip (map carrier_of channels)) plan.link.factor in
+    let is : z ≡ scaled (amplitudes chip (carriers plan)) plan.link.factor =
+    ap (λ (cs : List Carrier). scaled (amplitudes chip cs) plan.link.factor) sent in
+    omega (arith, chip_most plan chip z is, loud, most_part_small width)
 
--- a block serves all of its chips
-pub block_kept : (plan : CellPlan) (chip : ℕ) (block : List Pair) → chip % 64 + 1 ≢ 64 →
-    IsBlock plan chip block → IsBlock plan (chip + 1) block
-block_kept plan chip block other is k below =
-    let same : chip + 1 - (chip + 1) % 64 ≡ chip - chip % 64 = omega (arith, other) in
-    is k below ∙ ap (λ (n : ℕ). scaled (amplitudes (n + k) (carriers plan)) plan.link.factor)
-    (sym same)
-
--- the block from a chip on
-pub block_at : (plan : CellPlan) (first chip : ℕ) (channels : List Carrier) (block : List Pair) →
-    channels ≡ carriers plan →
-    first ≡ chip - chip % 64 →
-    ((k : ℕ) → k < 64 →
-    get_or block k origin ≡ scaled (amplitudes (first + k) channels) plan.link.factor) →
-    IsBlock plan chip block
-block_at plan first chip channels block are begins is k below =
-    is k below
-    ∙ ap (λ (cs : List Carrier). scaled (amplitudes (first + k) cs) plan.link.factor) are
-    ∙ ap (λ (n : ℕ). scaled (amplitudes (n + k) (carriers plan)) plan.link.factor) begins
-
-pub sample_is : (plan : CellPlan) (given phase : ℕ) (chip : Pair) (result : Sample)
+sample_is : (plan : CellPlan) (given phase : ℕ) (chip : Pair) (result : Sample)
     (signs : ℤ × ℤ) →
     chip ≡ scaled (amplitudes (plan.link.start + given) (carriers plan)) plan.link.factor →
     phase ≡ phase_at plan (plan.link.start + given) → signs ≡ chip_signs (pilot_chip phase) →
@@ -63,11 +57,133 @@ sample_is plan given phase chip result signs is code read made =
     point
     ∙ sym (signal_of_carriers plan given)
 
--- the phase behind a phase
-pub phase_next : (plan : CellPlan) (chip phase next : ℕ) → plan.cell.pn < 512 →
-    phase ≡ phase_at plan chip →
-    next ≡ (phase + 1) % 32768 → next ≡ phase_at plan (chip + 1)
-phase_next plan chip phase next pilot is e = omega (arith, pilot, is, e)
+-- ---- the codes over a block
+
+-- the codes don't begin again within a block
+pub code_goes_on : (plan : CellPlan) (chip phase n : ℕ) → plan.cell.pn < 512 →
+    phase ≡ phase_at plan chip → chip % 64 + n ≤ 64 → phase + n ≤ 32768
+code_goes_on plan chip phase n pilot is within = omega (arith, pilot, is, within)
+
+pub signs_ahead : (phase n : ℕ) (signs : List (ℤ × ℤ)) → signs ≡ drop phase pilot_signs →
+    phase + n ≤ 32768 → n ≤ length signs
+signs_ahead phase n signs is within =
+    omega (arith, within, ap length is, length-drop phase pilot_signs, length-pilot_signs)
+
+phase_on : (plan : CellPlan) (chip phase k : ℕ) → plan.cell.pn < 512 →
+    phase ≡ phase_at plan chip → phase + k < 32768 → phase + k ≡ phase_at plan (chip + k)
+phase_on plan chip phase k pilot is below = omega (arith, pilot, is, below)
+
+all_points : All IsPoint pilot_signs
+all_points = λ k d inside.
+    subst IsPoint (sym (get_or-pilot_signs k d (omega (arith, inside, length-pilot_signs))))
+    (point_unit (pilot_chip k))
+
+pub points_ahead : (phase : ℕ) (signs : List (ℤ × ℤ)) → signs ≡ drop phase pilot_signs →
+    All IsPoint signs
+points_ahead phase signs is =
+    subst (All IsPoint) (sym is) (All-drop IsPoint phase pilot_signs all_points)
+
+-- ---- the samples of a block
+
+-- what is known of samples that a block gave
+pub record AreGiven (plan : CellPlan) (block : BlockState) (given phase : ℕ)
+    (signs : List (ℤ × ℤ)) (out : List Sample) : Type 0 where
+  pub pilot : plan.cell.pn < 512
+  pub sent : map carrier_of block.channels ≡ carriers plan
+  pub link : block.factor ≡ plan.link.factor
+  pub code : phase ≡ phase_at plan (plan.link.start + given)
+  pub ahead : signs ≡ drop phase pilot_signs
+  pub within : (plan.link.start + given) % 64 + length out ≤ 64
+  pub turned : AreTurned (λ k. chip_at block (plan.link.start + given + k)) signs (length out) out
+
+pub are_given : (plan : CellPlan) (block : BlockState) (given phase n : ℕ)
+    (signs : List (ℤ × ℤ)) (out : List Sample) → plan.cell.pn < 512 →
+    map carrier_of block.channels ≡ carriers plan → block.factor ≡ plan.link.factor →
+    phase ≡ phase_at plan (plan.link.start + given) → signs ≡ drop phase pilot_signs →
+    length out ≡ n → (plan.link.start + given) % 64 + n ≤ 64 →
+    AreTurned (λ k. chip_at block (plan.link.start + given + k)) signs n out →
+    AreGiven plan block given phase signs out
+are_given plan block given phase n signs out pilot sent link code ahead long within turned =
+    let chips : ℕ → Pair = λ k. chip_at block (plan.link.start + given + k) in
+    record {
+      pilot = pilot;
+      sent = sent;
+      link = link;
+      code = code;
+      ahead = ahead;
+      within = omega (arith, long, within);
+      turned = subst (λ (m : ℕ). AreTurned chips signs m out) (sym long) turned;
+    }
+
+given_one : (plan : CellPlan) (block : BlockState) (given phase : ℕ) (signs : List (ℤ × ℤ))
+    (out : List Sample) → AreGiven plan block given phase signs out → (k : ℕ) → k < length out →
+    of_sample (get_or out k no_sample) ≡ sample_of plan (given + k)
+given_one plan block given phase signs out are k low =
+    let chip = plan.link.start + given in
+    let before : phase + length out ≤ 32768 =
+    code_goes_on plan chip phase (length out) are.pilot are.code are.within in
+    let below : phase + k < 32768 = omega (arith, before, low) in
+    let place : chip + k ≡ plan.link.start + (given + k) = omega arith in
+    let read : get_or signs k (pos 0, pos 0) ≡ chip_signs (pilot_chip (phase + k)) =
+    ap (λ (xs : List (ℤ × ℤ)). get_or xs k (pos 0, pos 0)) are.ahead
+    ∙ get_or-drop phase pilot_signs k (pos 0, pos 0)
+    ∙ get_or-pilot_signs (phase + k) (pos 0, pos 0) below in
+    sample_is plan (given + k) (phase + k) (chip_at block (chip + k)) (get_or out k no_sample)
+    (get_or signs k (pos 0, pos 0))
+    (chip_is plan block (chip + k) are.sent are.link
+    ∙ ap (λ (n : ℕ). scaled (amplitudes n (carriers plan)) plan.link.factor) place)
+    (phase_on plan chip phase k are.pilot are.code below ∙ ap (phase_at plan) place)
+    read (are.turned k low).value
+
+pub samples_given : (plan : CellPlan) (block : BlockState) (given phase n : ℕ)
+    (signs : List (ℤ × ℤ)) (out : List Sample) → AreGiven plan block given phase signs out →
+    n ≡ length out → given + n ≤ plan.link.samples →
+    map of_sample out ≡ take n (drop given (samples_of plan))
+samples_given plan block given phase n signs out are long left =
+    pieces_are plan given out (omega (arith, long, left))
+    (given_one plan block given phase signs out are)
+    ∙ ap (λ (m : ℕ). take m (drop given (samples_of plan))) (sym long)
+
+pub bits_given : (width : Width) (plan : CellPlan) (block : BlockState) (given phase : ℕ)
+    (signs : List (ℤ × ℤ)) (out : List Sample) → AreGiven plan block given phase signs out →
+    loudness plan ≤ most_part width → All (HasBits width) out
+bits_given width plan block given phase signs out are loud =
+    let chip = plan.link.start + given in
+    All-from_get_or (HasBits width) out no_sample
+    (λ k low. chip_fits width plan (chip + k) (chip_at block (chip + k)) (get_or out k no_sample)
+    (chip_is plan block (chip + k) are.sent are.link) loud (are.turned k low).in_phase
+    (are.turned k low).quadrature)
+
+-- ---- pieces behind one another
+
+piece_joined : {X : Type 0} (out part : List X) (done k count : ℕ) → done ≤ length out →
+    length part ≡ count → take (done + count) (put_mid done k out part) ≡ take done out ++ part
+piece_joined out part done k count within long =
+    take-put_mid done k out part (done + count) (omega (arith, long)) within
+
+pub samples_joined : (all : List Pair) (given done k count : ℕ) (out part : List Sample) →
+    done ≤ length out → length part ≡ count →
+    map of_sample (take done out) ≡ take done (drop given all) →
+    map of_sample part ≡ take count (drop (given + done) all) →
+    map of_sample (take (done + count) (put_mid done k out part))
+    ≡ take (done + count) (drop given all)
+samples_joined all given done k count out part within long before next =
+    ap (map of_sample) (piece_joined out part done k count within long)
+    ∙ map-append of_sample (take done out) part
+    ∙ ap (λ (xs : List Pair). xs ++ map of_sample part) before
+    ∙ ap (λ (xs : List Pair). take done (drop given all) ++ xs)
+    (next ∙ ap (take count) (sym (drop-drop done given all)))
+    ∙ sym (take-add done count (drop given all))
+
+pub bits_joined : (width : Width) (done k count : ℕ) (out part : List Sample) →
+    done ≤ length out → length part ≡ count →
+    All (HasBits width) (take done out) → All (HasBits width) part →
+    All (HasBits width) (take (done + count) (put_mid done k out part))
+bits_joined width done k count out part within long before next =
+    subst (All (HasBits width)) (sym (piece_joined out part done k count within long))
+    (All-append (HasBits width) (take done out) part before next)
+
+-- ---- the channels
 
 -- a plan's channels are few
 pub few_states : (plan : CellPlan) (channels : List ChannelState) →

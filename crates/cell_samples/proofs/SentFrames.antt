@@ -1,5 +1,5 @@
 -- The frames of channels whose encoder goes on from one to the next.
-use Rattle.std.proofs.Common.{◌≡◌, ℕ, ◌+◌, ◌-◌, ◌*◌, ◌≤◌, Bool, List, ◌++◌}
+use Rattle.std.proofs.Common.{◌≡◌, ℕ, ◌*◌, ◌≤◌, Bool, List}
 use Rattle.std.proofs.Common.{refl, ap, ◌∙◌, arith}
 use Rattle.symbol_path.specs.SentOrder.{data_shape, sent, shape_of, size}
 use Rattle.quality_bits.specs.TrafficWords.{repeats_of}

@@ -1,20 +1,83 @@
 //! What a cell sends over one period of the Walsh rows, and the samples that this makes.
 
-ghost use Rattle.std.specs.Prelude.{◌≡◌, ◌<◌, ◌≤◌, ◌+◌, ◌%◌, ◌^◌, ℕ, length, map, get_or};
-ghost use Rattle.std.specs.Prelude.{◌*ℤ◌, unsigned_abs};
+ghost use Rattle.std.specs.Prelude.{◌≡◌, ◌<◌, ◌≤◌, ◌+◌, ◌%◌, ◌^◌, ℕ, length, map, get_or, set};
+ghost use Rattle.std.specs.Prelude.{◌*ℤ◌, unsigned_abs, All, pos, true};
 ghost use Rattle.chip_core.specs.Complex.{of_sample, origin, plus, times};
 ghost use Rattle.walsh.specs.Walsh.{IsWithin};
+ghost use Rattle.cell_samples.specs.Blocks.{AreChips, AreLevels, AreQuiet, AreSums, AreTurned};
+ghost use Rattle.cell_samples.specs.Blocks.{IsLevel, IsQuiet, chip_at, no_sample};
 ghost use Rattle.cell_samples.specs.Channels.{carrier_of};
-ghost use Rattle.cell_plan.specs.Signal.{amplitudes, scaled};
+ghost use Rattle.cell_plan.specs.Signal.{scaled};
 ghost use Rattle.cell_plan.specs.Transmitter.{IsPoint, point_of};
 
 use crate::channel::Channel;
 use chip_core::air::WALSH_CHIPS;
 use chip_core::{Pair, Sample};
+use std::marker::Model;
 use walsh::transform64;
 
 /// How many chips a block has: a period of the Walsh rows (TIA/EIA-95-B, 7.1.3.1.8).
 pub const BLOCK: usize = WALSH_CHIPS as usize;
+
+/// For how many channels a block keeps levels.
+const MOST_CHANNELS: usize = 128;
+
+/// The channels of a cell, with what they sent over the block that was asked for last.
+///
+/// Contracts see the channels and the factor of the link.
+#[derive(Drop)]
+pub struct Block {
+    channels: Vec<Channel>,
+    factor: Pair,
+    // The level of each channel over the block, and 0 behind the last channel.
+    levels: [i64; MOST_CHANNELS],
+    // What each chip is where the codes' point is 1: the link times the sum of the channels'
+    // amplitudes.
+    chips: [Sample; BLOCK],
+}
+
+impl Model for Block {
+    ghost use Rattle.cell_samples.specs.Blocks.{BlockState};
+
+    ghost Value = { BlockState };
+
+    ghost use Rattle.cell_samples.specs.Blocks.{IsKeptBlock};
+
+    ghost view = { λ b. record { channels = b.channels.items; factor = b.factor } };
+
+    ghost invariant = { λ b. IsKeptBlock b.channels.items b.factor b.levels b.chips };
+}
+
+/// Keeps the level of a channel, and tells whether it is the one that was kept before.
+fn keep_level(levels: &mut [i64; MOST_CHANNELS], channel: usize, level: i64) -> bool
+    requires { channel < 128 }
+    ensures kept { result ≡ true → levels.new ≡ levels.old }
+    ensures set { levels.new ≡ set levels.old channel level }
+{
+    let is_same = levels[channel] == level;
+    levels[channel] = level;
+    is_same
+}
+
+/// Makes `levels` those of the channels over the 64 chips from a local chip on, and tells whether
+/// they are the ones that were kept before.
+fn keep_levels(channels: &mut [Channel], first: u64, levels: &mut [i64; MOST_CHANNELS]) -> bool
+    requires whole { first % 64 ≡ 0 }
+    requires soon { first < 2 ^ 34 }
+    requires few { length channels.old ≤ 128 }
+    requires small { All IsLevel levels.old }
+    ensures value { AreLevels first (map carrier_of channels.old) levels.new }
+    ensures small { All IsLevel levels.new }
+    ensures kept { result ≡ true → levels.new ≡ levels.old }
+    ensures same { channels.new ≡ channels.old }
+{
+    let mut is_same = true;
+    for (n, channel) in channels.iter_mut().enumerate() {
+        let level = channel.level(first);
+        is_same &= keep_level(levels, n, level);
+    }
+    is_same
+}
 
 /// A sum and a channel's level times the link's factor.
 fn with_level(sum: Pair, level: i64, factor: Pair) -> Pair
@@ -29,28 +92,72 @@ fn with_level(sum: Pair, level: i64, factor: Pair) -> Pair
     }
 }
 
-/// Makes `sums` the sums of the channels' amplitudes over the 64 chips from a local chip on, each
-/// times the link's factor.
+/// The sums of the channels' amplitudes over a block in which they have these levels, each times
+/// the link's factor.
 ///
 /// Over a block each channel has one level, so the rows' transform of the levels gives the sums:
 /// the sign of row n at chip k is that of row k at chip n.
-pub fn fill_block(channels: &mut [Channel], factor: Pair, chip: u64, sums: &mut [Pair; BLOCK])
-    requires whole { chip % 64 ≡ 0 }
-    requires chip { chip < 2 ^ 34 }
+fn sums_of(channels: &[Channel], factor: Pair, levels: &[i64; MOST_CHANNELS]) -> [Pair; BLOCK]
+    requires few { length channels.now ≤ 128 }
+    requires factor { IsWithin 32768 factor }
+    requires small { All IsLevel levels.now }
+    ensures { AreSums (map carrier_of channels.now) factor levels.now result }
+{
+    let mut sums = [Pair { i: 0, q: 0 }; BLOCK];
+    for (n, channel) in channels.iter().enumerate() {
+        let row = usize::from(channel.row());
+        sums[row] = with_level(sums[row], levels[n], factor);
+    }
+    transform64(&mut sums);
+    sums
+}
+
+/// A sum that has the size of a sample, as one.
+fn narrowed(sum: Pair) -> Sample
+    requires { IsQuiet sum }
+    ensures { of_sample result ≡ sum }
+{
+    Sample {
+        i: sum.i as i16,
+        q: sum.q as i16,
+    }
+}
+
+/// Makes `chips` the sums of a block as samples.
+fn narrow(sums: &[Pair; BLOCK], chips: &mut [Sample; BLOCK])
+    requires { (k : ℕ) → k < 64 → IsQuiet (get_or sums.now k origin) }
+    ensures { (k : ℕ) → k < 64 →
+        of_sample (get_or chips.new k no_sample) ≡ get_or sums.now k origin }
+{
+    for (k, chip) in chips.iter_mut().enumerate() {
+        *chip = narrowed(sums[k]);
+    }
+}
+
+/// Makes `levels` and `chips` those of the block that begins with a local chip. Where each channel
+/// has the level that it had, the chips stand.
+fn renew(
+    channels: &mut [Channel],
+    factor: Pair,
+    first: u64,
+    levels: &mut [i64; MOST_CHANNELS],
+    chips: &mut [Sample; BLOCK],
+)
+    requires whole { first % 64 ≡ 0 }
+    requires soon { first < 2 ^ 34 }
     requires few { length channels.old ≤ 128 }
     requires factor { IsWithin 32768 factor }
-    ensures value { (k : ℕ) → k < 64 →
-        get_or sums.new k origin
-        ≡ scaled (amplitudes (chip + k) (map carrier_of channels.old)) factor }
+    requires quiet { AreQuiet (map carrier_of channels.old) factor }
+    requires small { All IsLevel levels.old }
+    requires sums { AreChips (map carrier_of channels.old) factor levels.old chips.old }
+    ensures value { AreLevels first (map carrier_of channels.old) levels.new }
+    ensures small { All IsLevel levels.new }
+    ensures sums { AreChips (map carrier_of channels.old) factor levels.new chips.new }
     ensures same { channels.new ≡ channels.old }
 {
-    *sums = [Pair { i: 0, q: 0 }; BLOCK];
-    for channel in channels.iter_mut() {
-        let row = usize::from(channel.row());
-        let level = channel.level(chip);
-        sums[row] = with_level(sums[row], level, factor);
+    if !keep_levels(channels, first, levels) {
+        narrow(&sums_of(channels, factor, levels), chips);
     }
-    transform64(sums);
 }
 
 /// A part of a number with the sign of a code's chip.
@@ -64,7 +171,7 @@ fn with_sign(part: i64, sign: i8) -> i64
 }
 
 /// A chip of a block times a point of the codes, which is given by its signs.
-pub fn turned(chip: Pair, signs: (i8, i8)) -> Sample
+fn turned(chip: Pair, signs: (i8, i8)) -> Sample
     requires small { unsigned_abs chip.i + unsigned_abs chip.q ≤ 32767 }
     requires point { IsPoint signs }
     ensures value { of_sample result ≡ times chip (point_of signs) }
@@ -74,5 +181,69 @@ pub fn turned(chip: Pair, signs: (i8, i8)) -> Sample
     Sample {
         i: (with_sign(chip.i, signs.0) - with_sign(chip.q, signs.1)) as i16,
         q: (with_sign(chip.i, signs.1) + with_sign(chip.q, signs.0)) as i16,
+    }
+}
+
+/// A chip as a number with wide parts.
+fn widened(chip: Sample) -> Pair
+    ensures { result ≡ of_sample chip }
+{
+    Pair {
+        i: i64::from(chip.i),
+        q: i64::from(chip.q),
+    }
+}
+
+/// Fills `samples` with the first of these chips, each times its point of the codes.
+fn turn(chips: &[Sample], signs: &[(i8, i8)], samples: &mut [Sample])
+    requires chips { length samples.old ≤ length chips.now }
+    requires signs { length samples.old ≤ length signs.now }
+    requires points { All IsPoint signs.now }
+    requires quiet { (k : ℕ) → k < length samples.old →
+        IsQuiet (of_sample (get_or chips.now k no_sample)) }
+    ensures { AreTurned (λ k. of_sample (get_or chips.now k no_sample)) signs.now
+        (length samples.old) samples.new }
+{
+    for (k, sample) in samples.iter_mut().enumerate() {
+        *sample = turned(widened(chips[k]), signs[k]);
+    }
+}
+
+impl Block {
+    /// The channels of a cell with this factor of its link, before they are asked for a block.
+    pub fn new(channels: Vec<Channel>, factor: Pair) -> Block
+        requires few { length channels.items ≤ 128 }
+        requires factor { IsWithin 32768 factor }
+        requires quiet { AreQuiet (map carrier_of channels.items) factor }
+        ensures { result ≡ record { channels = channels.items; factor = factor } }
+    {
+        Block {
+            channels,
+            factor,
+            levels: [0; MOST_CHANNELS],
+            chips: [Sample { i: 0, q: 0 }; BLOCK],
+        }
+    }
+
+    /// Fills `samples` with what the cell sends from a local chip on, within its block: each chip
+    /// times its point of the codes, which are given by their signs.
+    pub fn spread(&mut self, chip: u64, signs: &[(i8, i8)], samples: &mut [Sample])
+        requires soon { chip < 2 ^ 34 }
+        requires within { chip % 64 + length samples.old ≤ 64 }
+        requires signs { length samples.old ≤ length signs.now }
+        requires points { All IsPoint signs.now }
+        ensures value { AreTurned (λ k. chip_at self.old (chip + k)) signs.now
+            (length samples.old) samples.new }
+        ensures same { self.new ≡ self.old }
+    {
+        let place = chip % BLOCK as u64;
+        renew(
+            &mut self.channels,
+            self.factor,
+            chip - place,
+            &mut self.levels,
+            &mut self.chips,
+        );
+        turn(&self.chips[place as usize..], signs, samples);
     }
 }

@@ -1,6 +1,6 @@
 //! A cell's samples.
 
-ghost use Rattle.std.specs.Prelude.{◌≡◌, ◌≢◌, ◌<◌, ◌≤◌, ◌+◌, ◌++◌, ◌%◌, ◌^◌, length, map};
+ghost use Rattle.std.specs.Prelude.{◌≡◌, ◌<◌, ◌≤◌, ◌+◌, ◌++◌, ◌%◌, ◌^◌, length, map};
 ghost use Rattle.std.specs.Prelude.{take, drop};
 ghost use Rattle.std.specs.Prelude.{All};
 ghost use Rattle.std.specs.Prelude.{Ok, IfOk};
@@ -11,11 +11,11 @@ ghost use Rattle.long_code.specs.LongCode.{IsState};
 ghost use Rattle.paging_message.specs.HalfFrames.{IsPagingRate};
 ghost use Rattle.cell_plan.specs.Pages.{paging_rate};
 ghost use Rattle.cell_plan.specs.Plan.{IsLawfulPlan, IsPagingPlan, IsTrafficPlan};
-ghost use Rattle.cell_plan.specs.Signal.{carriers, paging_carrier, sample_of, samples_of};
+ghost use Rattle.cell_plan.specs.Signal.{carriers, paging_carrier, samples_of};
 ghost use Rattle.cell_plan.specs.Signal.{traffic_carrier};
 ghost use Rattle.cell_plan.specs.Transmitter.{IsSendableSync, header_of, phase_at, version_of};
 
-use crate::block::{BLOCK, fill_block, turned};
+use crate::block::{BLOCK, Block};
 use crate::channel::Channel;
 use crate::continued::ContinuedEncoder;
 use crate::frame_source::FrameSource;
@@ -26,7 +26,7 @@ use crate::traffic_cycle::TrafficCycle;
 use cdma_io::{Header, Width};
 use cell_plan::{CellPlan, FrameList, PagingPlan, SyncPlan, TrafficPlan};
 use chip_core::air::{CODE_CHIPS, OFFSET_CHIPS, PILOT_ROW, SYNC_ROW};
-use chip_core::{OutOfMemory, Pair, Sample};
+use chip_core::{OutOfMemory, Sample};
 use long_code::{paging_mask, traffic_mask};
 use short_code::Codes;
 use std::alloc::Global;
@@ -48,13 +48,8 @@ pub struct CellSamples {
     width: Width,
     plan: CellPlan,
     codes: Codes,
-    channels: Vec<Channel>,
+    block: Block,
     given: u64,
-    // The phase of the codes at the next sample.
-    phase: u16,
-    // What each chip of the next sample's block is where the codes' point is 1: the link times the
-    // sum of the channels' amplitudes.
-    block: [Pair; BLOCK],
 }
 
 impl Model for CellSamples {
@@ -66,7 +61,7 @@ impl Model for CellSamples {
 
     ghost view = { λ c. record { width = c.width; plan = c.plan; given = c.given } };
 
-    ghost invariant = { λ c. IsRunning c.width c.plan c.channels.items c.given c.phase c.block };
+    ghost invariant = { λ c. IsRunning c.width c.plan c.block c.given };
 }
 
 /// The version of a file of this width.
@@ -88,15 +83,6 @@ fn phase_for(plan: &CellPlan, chip: u64) -> u16
     ensures below { result < 32768 }
 {
     ((chip + CODE_CHIPS - OFFSET_CHIPS * u64::from(plan.cell.pn)) % CODE_CHIPS) as u16
-}
-
-/// The phase behind a phase.
-fn next_phase(phase: u16) -> u16
-    requires { phase < 32768 }
-    ensures value { result ≡ (phase + 1) % 32768 }
-    ensures below { result < 32768 }
-{
-    (phase + 1) % 32768
 }
 
 /// The rate of the paging channels, which the sync channel's message tells (TIA/EIA-95-B, 7.7.1.3).
@@ -219,20 +205,14 @@ impl CellSamples {
         ensures { IfOk result (λ cell. cell ≡ record { width = width; plan = plan; given = 0 }) }
     {
         let codes = Codes::new(alloc)?;
-        let mut channels = channels_for(alloc, &plan)?;
-        let start = plan.link.start;
-        let first = start - start % BLOCK as u64;
-        let mut block = [Pair { i: 0, q: 0 }; BLOCK];
-        fill_block(&mut channels, plan.link.factor, first, &mut block);
-        let phase = phase_for(&plan, start);
+        let channels = channels_for(alloc, &plan)?;
+        let block = Block::new(channels, plan.link.factor);
         Ok(CellSamples {
             width,
             plan,
             codes,
-            channels,
-            given: 0,
-            phase,
             block,
+            given: 0,
         })
     }
 
@@ -257,23 +237,28 @@ impl CellSamples {
         self.plan.link.samples - self.given
     }
 
-    /// The next sample.
-    fn next(&mut self) -> Sample
-        requires { self.old.given < self.old.plan.link.samples }
-        ensures value { of_sample result ≡ sample_of self.old.plan self.old.given }
-        ensures fits { HasBits self.old.width result }
-        ensures state { self.new ≡ record self.old { given = self.old.given + 1 } }
+    /// How many samples the block of the next one has from that one on.
+    fn left_in_block(&self) -> usize
+        ensures { (self.now.plan.link.start + self.now.given) % 64 + result ≡ 64 }
     {
         let chip = self.plan.link.start + self.given;
-        let place = (chip % BLOCK as u64) as usize;
-        let sample = turned(self.block[place], self.codes.signs(self.phase));
-        self.given += 1;
-        self.phase = next_phase(self.phase);
-        if place + 1 == BLOCK {
-            let factor = self.plan.link.factor;
-            fill_block(&mut self.channels, factor, chip + 1, &mut self.block);
-        }
-        sample
+        BLOCK - (chip % BLOCK as u64) as usize
+    }
+
+    /// Fills `out` with the next samples of the cell, all of one block.
+    fn fill_in_block(&mut self, out: &mut [Sample])
+        requires left { self.old.given + length out.old ≤ self.old.plan.link.samples }
+        requires within { (self.old.plan.link.start + self.old.given) % 64 + length out.old ≤ 64 }
+        ensures samples { map of_sample out.new ≡
+            take (length out.old) (drop self.old.given (samples_of self.old.plan)) }
+        ensures fit { All (HasBits self.old.width) out.new }
+        ensures state { self.new ≡ record self.old { given = self.old.given + length out.old } }
+    {
+        let chip = self.plan.link.start + self.given;
+        let phase = phase_for(&self.plan, chip);
+        let (_, signs) = self.codes.table().split_at(usize::from(phase));
+        self.block.spread(chip, signs, out);
+        self.given += out.len() as u64;
     }
 
     /// Fills `out` with the next samples of the cell, in order.
@@ -286,8 +271,11 @@ impl CellSamples {
         ensures fit { All (HasBits self.old.width) out.new }
         ensures state { self.new ≡ record self.old { given = self.old.given + length out.old } }
     {
-        for sample in out.iter_mut() {
-            *sample = self.next();
+        let mut done = 0;
+        while done < out.len() {
+            let count = self.left_in_block().min(out.len() - done);
+            self.fill_in_block(&mut out[done..done + count]);
+            done += count;
         }
     }
 }

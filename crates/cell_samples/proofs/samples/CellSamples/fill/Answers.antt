@@ -1,22 +1,35 @@
-use Rattle.std.proofs.Common.{◌≡◌, ℕ, length, take, drop, arith, ap, ◌∙◌}
-use Rattle.std.proofs.lemmas.List.Elements.{All-from_get_or}
+use Rattle.std.proofs.Common.{◌≡◌, ℕ, ◌+◌, ◌-◌, length, map, take, drop, ap, ◌∙◌, rules, subst}
+use Rattle.std.specs.List.{All}
+use Rattle.std.proofs.lemmas.Slice.{overwrites}
+use Rattle.chip_core.specs.Complex.{of_sample}
 use Rattle.cdma_io.specs.SampleFile.{HasBits}
 use Rattle.cell_plan.specs.Signal.{samples_of}
-use Rattle.cell_plan.proofs.Pieces.{no_sample, pieces_are}
+use Rattle.cell_plan.specs.Transmitter.{CellState}
+use Rattle.cell_samples.proofs.Running.{bits_joined, samples_joined}
 use Rattle.cell_samples.proofs.samples.CellSamples.fill.Goals as goal
 
-pub returns-clause-samples : goal.returns-clause-samples
-returns-clause-samples c =
-    let s = c.args.self.now in
-    let out = c.loop-sample.out in
-    let long : length out ≡ length c.args.out.now = omega (arith, c.loop-sample.auto.out) in
-    pieces_are s.plan s.given out (omega (arith, long, c.requires))
-    (λ k lt. c.loop-sample.invariant.samples k (omega (arith, lt, long)))
-    ∙ ap (λ (n : ℕ). take n (drop s.given (samples_of s.plan))) long
-
-pub returns-clause-fit : goal.returns-clause-fit
-returns-clause-fit c =
-    let out = c.loop-sample.out in
-    let long : length out ≡ length c.args.out.now = omega (arith, c.loop-sample.auto.out) in
-    All-from_get_or (HasBits c.args.self.now.width) out no_sample
-    (λ k lt. c.loop-sample.invariant.fit k (omega (arith, lt, long)))
+pub loop-done-preserved : goal.loop-done-preserved
+loop-done-preserved c =
+    let inv = c.loop-done.invariant in
+    let done = c.loop-done.done in
+    let out = c.loop-done.out in
+    let count = c.min-count.result in
+    let plan = c.args.self.now.plan in
+    let given = c.args.self.now.given in
+    let s = c.loop-done.self in
+    let part = c.fill_in_block.new.out in
+    let long : length part ≡ count = search rules in
+    let lent : length (take (done + count - done) (drop done out)) ≡ count = search rules in
+    let next : map of_sample part ≡ take count (drop (given + done) (samples_of plan)) =
+    c.fill_in_block.ensures.samples
+    ∙ ap (λ (m : ℕ). take m (drop s.given (samples_of s.plan))) lent
+    ∙ ap (λ (v : CellState). take count (drop v.given (samples_of v.plan))) inv.state in
+    let fit : All (HasBits c.args.self.now.width) part =
+    subst (λ (v : CellState). All (HasBits v.width) part) inv.state c.fill_in_block.ensures.fit in
+    record {
+      done = search (rules, overwrites, inv.done);
+      state = search rules;
+      samples = samples_joined (samples_of plan) given done _ count out part inv.done long
+          inv.samples next;
+      fit = bits_joined c.args.self.now.width done _ count out part inv.done long inv.fit fit;
+    }

@@ -1,14 +1,17 @@
-use Rattle.std.proofs.Common.{◌≡◌, ◌<◌, ◌+◌, ℕ, get_or}
+use Rattle.std.proofs.Common.{◌≡◌, ◌≤◌, ◌+◌, ◌-◌, length, map, take, drop, All}
 use Rattle.chip_core.specs.Complex.{of_sample}
 use Rattle.cdma_io.specs.SampleFile.{HasBits}
-use Rattle.cell_plan.specs.Signal.{sample_of}
-use Rattle.cell_plan.proofs.Pieces.{no_sample}
+use Rattle.cell_plan.specs.Signal.{samples_of}
 use Rattle.cell_samples.proofs.samples.CellSamples.fill.Given as goal
 
-abbrev pub invariant-loop-sample : goal.invariant-loop-sample
-invariant-loop-sample l = record {
-  state : l.self ≡ record l.fn.self { given = l.fn.self.given + l.sample-index };
-  samples : (k : ℕ) → k < l.sample-index →
-      of_sample (get_or l.out k no_sample) ≡ sample_of l.fn.self.plan (l.fn.self.given + k);
-  fit : (k : ℕ) → k < l.sample-index → HasBits l.fn.self.width (get_or l.out k no_sample);
+abbrev pub invariant-loop-done : goal.invariant-loop-done
+invariant-loop-done l = record {
+  done : l.done ≤ length l.out;
+  state : l.self ≡ record l.fn.self { given = l.fn.self.given + l.done };
+  samples : map of_sample (take l.done l.out) ≡
+      take l.done (drop l.fn.self.given (samples_of l.fn.self.plan));
+  fit : All (HasBits l.fn.self.width) (take l.done l.out);
 }
+
+abbrev pub decreases-loop-done : goal.decreases-loop-done
+decreases-loop-done l = length l.initial.out - l.done

@@ -1,0 +1,81 @@
+use Rattle.std.proofs.Common.{◌+◌, ◌-◌, ◌%◌, List, length, map, sym, ap, ◌∙◌}
+use Rattle.std.proofs.Common.{arith, refl, subst}
+use Rattle.cell_samples.specs.Blocks.{AreChips, AreLevels, BlockState, IsQuiet, chip_at}
+use Rattle.cell_samples.specs.Channels.{ChannelState, carrier_of}
+use Rattle.cell_samples.proofs.KeptBlocks.{block_after, chip_kept, turned_at}
+use Rattle.cell_samples.proofs.Running.{written_back}
+use Rattle.cell_samples.proofs.block.Block.spread.Goals as goal
+
+pub renew-requires-clause-few : goal.renew-requires-clause-few
+renew-requires-clause-few c = rw c.deref_mut.ensures.value c.self.invariant.few
+
+pub renew-requires-clause-quiet : goal.renew-requires-clause-quiet
+renew-requires-clause-quiet c = rw c.deref_mut.ensures.value c.self.invariant.quiet
+
+pub renew-requires-clause-sums : goal.renew-requires-clause-sums
+renew-requires-clause-sums c = rw c.deref_mut.ensures.value c.self.invariant.sums
+
+pub turn-requires-clause-quiet : goal.turn-requires-clause-quiet
+turn-requires-clause-quiet c k low =
+    let s = c.self.inside in
+    let lent = c.deref_mut in
+    let chip = c.args.chip in
+    let place = chip % 64 in
+    let held : AreLevels (chip - place) (map carrier_of s.channels.items) c.renew.new.levels =
+    subst (λ (cs : List ChannelState).
+    AreLevels (chip - place) (map carrier_of cs) c.renew.new.levels) lent.ensures.value
+    c.renew.ensures.value in
+    let sums : AreChips (map carrier_of s.channels.items) s.factor c.renew.new.levels
+    c.renew.new.chips =
+    subst (λ (cs : List ChannelState).
+    AreChips (map carrier_of cs) s.factor c.renew.new.levels c.renew.new.chips) lent.ensures.value
+    c.renew.ensures.sums in
+    subst IsQuiet
+    (sym (chip_kept s.channels.items s.factor c.renew.new.levels c.renew.new.chips chip place _ k
+    refl held sums (omega arith) (omega (arith, low, c.requires.within))))
+    (c.self.invariant.quiet (chip + k))
+
+pub invariant_of-self : goal.invariant_of-self
+invariant_of-self c =
+    let s = c.self.inside in
+    let lent = c.deref_mut in
+    let made = c.renew in
+    block_after s.channels.items _ s.factor made.new.levels made.new.chips
+    (written_back s.channels.items _ s.channels.len (made.ensures.same ∙ lent.ensures.value)
+    (ap length made.ensures.same ∙ lent.ensures.len))
+    c.self.invariant.few c.self.invariant.low c.self.invariant.quiet made.ensures.small
+    (subst (λ (cs : List ChannelState).
+    AreChips (map carrier_of cs) s.factor made.new.levels made.new.chips) lent.ensures.value
+    made.ensures.sums)
+
+pub returns-clause-value : goal.returns-clause-value
+returns-clause-value c k low =
+    let s = c.self.inside in
+    let lent = c.deref_mut in
+    let chip = c.args.chip in
+    let place = chip % 64 in
+    let held : AreLevels (chip - place) (map carrier_of s.channels.items) c.renew.new.levels =
+    subst (λ (cs : List ChannelState).
+    AreLevels (chip - place) (map carrier_of cs) c.renew.new.levels) lent.ensures.value
+    c.renew.ensures.value in
+    let sums : AreChips (map carrier_of s.channels.items) s.factor c.renew.new.levels
+    c.renew.new.chips =
+    subst (λ (cs : List ChannelState).
+    AreChips (map carrier_of cs) s.factor c.renew.new.levels c.renew.new.chips) lent.ensures.value
+    c.renew.ensures.sums in
+    turned_at _ _ _ _
+    (chip_kept s.channels.items s.factor c.renew.new.levels c.renew.new.chips chip place _ k
+    refl held sums (omega arith) (omega (arith, low, c.requires.within))
+    ∙ ap (λ (b : BlockState). chip_at b (chip + k)) c.self.view_is)
+    (c.turn.ensures k low)
+
+pub returns-clause-same : goal.returns-clause-same
+returns-clause-same c =
+    let s = c.self.inside in
+    let lent = c.deref_mut in
+    let again : List ChannelState → BlockState =
+    λ cs. record { channels = cs; factor = s.factor } in
+    ap again
+    (written_back s.channels.items _ s.channels.len (c.renew.ensures.same ∙ lent.ensures.value)
+    (ap length c.renew.ensures.same ∙ lent.ensures.len))
+    ∙ c.self.view_is
