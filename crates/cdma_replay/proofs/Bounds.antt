@@ -1,6 +1,7 @@
 -- Lemmas on how many bytes are taken of an input at most.
-use Rattle.std.proofs.Common.{◌≡◌, ℕ, ◌+◌, ◌-◌, ◌*◌, ◌≤◌, ◌++◌, min, List, [], length, sym, ap, arith, subst}
-use Rattle.std.proofs.Common.{length-append, Option, None, Some, IfSome, Result, Ok, Err}
+use Rattle.std.proofs.Common.{◌≡◌, ℕ, ◌+◌, ◌-◌, ◌*◌, ◌≤◌, ◌++◌, min, List, [], length, sym, ap}
+use Rattle.std.proofs.Common.{arith, subst, length-append, Option, None, Some, IfSome, Result, Ok}
+use Rattle.std.proofs.Common.{Err}
 use Rattle.std.proofs.KnownBytes.{Consumes-nil, Consumes-trans}
 use Rattle.std.specs.List.{flat_map}
 use Rattle.std.specs.Io.KnownBytes.{Consumes}
@@ -13,7 +14,7 @@ use Rattle.cdma_io.specs.declared.file_fault.FileFault.{FileFault}
 use Rattle.cdma_io.specs.declared.header.Header.{Header}
 use Rattle.cdma_io.proofs.Opening.{length-header_spelling}
 use Rattle.cdma_io.proofs.Spelling.{length-samples, sample_len-mono}
-use Rattle.cdma_replay.specs.Find.{PassesSamples, TakesNoMore, file_end, most_taken}
+use Rattle.cdma_replay.specs.Find.{PassesSamples, TakesNoMore, TakesSpan, file_end, most_taken}
 use Rattle.cdma_replay.specs.Replies.{TaskTakesNoMore}
 use Rattle.cdma_replay.specs.declared.task.Task.{Task}
 use Rattle.cdma_replay.specs.declared.task.Task.TheVariants.{Make, Receive, Trial}
@@ -117,15 +118,13 @@ shared_out width one other all is =
     ap (λ (n : ℕ). sample_len width * n) is in
     omega (arith, e)
 
-pub rest_most : (header : Header) (samples : List Sample) (count : ℕ)
-    (rest mid left : Option (List ℕ)) → IfSome rest (λ bytes. opening bytes ≡ Ok header) →
-    count + length samples ≡ header.count →
-    Consumes rest mid
-    (header_spelling header ++ flat_map (sample_spelling (width_of header)) samples) →
+pub rest_most : {span : ℕ} {header : Header} {samples : List Sample} {count : ℕ}
+    {rest mid left : Option (List ℕ)} → TakesSpan span header samples count rest mid →
     ConsumesAtMost (sample_len (width_of header) * count + 1) mid left → TakesNoMore rest left
-rest_most header samples count rest mid left is counted consumed part =
-    file_most header rest left is
-    (both_most rest mid left (first_part header samples rest mid consumed) part
+rest_most {span} {header} {samples} {count} {rest} {mid} {left} t part =
+    let counted : count + length samples ≡ header.count = omega (arith, t.left, t.counted) in
+    file_most header rest left t.opened
+    (both_most rest mid left (first_part header samples rest mid t.consumed) part
     (omega (arith, shared_out (width_of header) (length samples) count header.count counted)))
 
 -- so many samples were read, and then some more bytes
@@ -141,6 +140,21 @@ passed_most {width} {count} rest mid left p part fits =
       consumed = p.consumed;
     } in
     both_most rest mid left first part fits
+
+-- a piece more of those that were left
+pub piece_most : {header also : Header} (left now room : ℕ) (rest mid new : Option (List ℕ)) →
+    also ≡ header → now ≤ left → room ≤ now → PassesSamples (width_of header) (left - now) rest mid →
+    ConsumesAtMost (sample_len (width_of also) * room) mid new →
+    ConsumesAtMost (sample_len (width_of header) * left + 1) rest new
+piece_most {header} left now room rest mid new same low fits passed part =
+    let width = width_of header in
+    passed_most rest mid new passed
+    (subst (λ (h : Header). ConsumesAtMost (sample_len (width_of h) * room) mid new) same part)
+    (omega (
+      arith,
+      sample_len-mono width room now fits,
+      shared_out width (left - now) now left (omega (arith, low)),
+    ))
 
 -- ---- a task that has read nothing
 

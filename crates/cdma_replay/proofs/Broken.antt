@@ -1,6 +1,7 @@
 -- Lemmas on what is written of a sample file that breaks off, whose reading fails, or that goes on.
-use Rattle.std.proofs.Common.{◌≡◌, ℕ, ◌+◌, ◌*◌, ◌<◌, ◌≤◌, ◌++◌, min, List, [], length, sym, ap, ◌∙◌, subst}
-use Rattle.std.proofs.Common.{arith, append_assoc, length-append, Option, None, Some, IfSome, Ok, Err}
+use Rattle.std.proofs.Common.{◌≡◌, ℕ, ◌+◌, ◌*◌, ◌<◌, ◌≤◌, ◌++◌, min, List, [], length, sym, ap, ◌∙◌}
+use Rattle.std.proofs.Common.{subst, arith, append_assoc, length-append, Option, None, Some, IfSome}
+use Rattle.std.proofs.Common.{Ok, Err}
 use Rattle.std.proofs.lemmas.List.Concat.{flat_map-append}
 use Rattle.std.specs.List.{flat_map}
 use Rattle.std.specs.Io.KnownBytes.{Consumes}
@@ -13,9 +14,9 @@ use Rattle.cdma_io.specs.declared.header.Header.{Header}
 use Rattle.chip_core.specs.declared.width.Width.{Width}
 use Rattle.chip_core.specs.declared.width.Width.TheVariants.{Eight, Sixteen}
 use Rattle.cdma_io.specs.SampleFile.{CutsShort, HasBits, IsLawfulHeader, Opens, Reading}
-use Rattle.cdma_io.specs.SampleFile.{header_spelling}
+use Rattle.cdma_io.specs.SampleFile.{header_spelling, opening, sample_len, sample_spelling}
+use Rattle.cdma_io.specs.SampleFile.{width_of}
 use Rattle.std.proofs.lemmas.List.Elements.{All-append}
-use Rattle.cdma_io.specs.SampleFile.{opening, sample_len, sample_spelling, width_of}
 use Rattle.cdma_io.proofs.Opening.{opening-spelled, length-header_spelling}
 use Rattle.cdma_io.proofs.Spelling.{length-samples, sample_len-mono}
 use Rattle.event_tap.specs.Taps.{KeptTap}
@@ -281,19 +282,8 @@ writes_all {taps} {r} {header} {samples} (Some bytes) (Some more) left old {betw
     let l = listening taps r.purpose header samples in
     let heard = hears l samples (tells l [] begun.listens).listens in
     let same = same_header bytes more header also samples lawful begun.consumed opened in
+    let all : length (samples ++ heard.samples) ≡ header.count =
+    omega (arith, length-append samples heard.samples, heard.number, begun.counted, counted) in
     subst (λ (h : Header). HasWritten taps r h bytes (λ k. k ≡ h.count) old new) same
-    (has_written bytes more left (λ (k : ℕ). k ≡ header.count) begun tells heard
-    (omega (
-      arith,
-      length-append samples heard.samples,
-      heard.number,
-      begun.counted,
-      counted,
-    ))
-    (omega (
-      arith,
-      length-append samples heard.samples,
-      heard.number,
-      begun.counted,
-      counted,
-    )))
+    (has_written bytes more left (λ (k : ℕ). k ≡ header.count) begun tells heard all
+    (omega (arith, all)))

@@ -1,6 +1,6 @@
 -- What is written of a clean link is what its cell sends, channel by channel.
-use Rattle.std.proofs.Common.{◌≡◌, ◌⊎◌, inl, inr, ℕ, ◌≤◌, List, ◌++◌, length, take, refl}
-use Rattle.std.proofs.Common.{ap, ◌∙◌, subst, All, Option, Some, Ok}
+use Rattle.std.proofs.Common.{◌≡◌, ◌⊎◌, inl, inr, ℕ, ◌≤◌, List, ◌++◌, length, take, refl, ap, ◌∙◌}
+use Rattle.std.proofs.Common.{subst, All, Option, Some, Ok}
 use Rattle.chip_core.specs.declared.sample.Sample.{Sample}
 use Rattle.chip_core.specs.declared.width.Width.{Width}
 use Rattle.cdma_io.specs.SampleFile.{IsSampleFile}
@@ -18,14 +18,14 @@ use Rattle.cdma_replay.specs.CleanFiles.{IsCleanLink, cell_energy}
 use Rattle.clean_link.specs.HeardEach.{HearsEach}
 use Rattle.clean_link.proofs.messages.EachChannel.{each_channel}
 use Rattle.cdma_replay.specs.CleanLinks.{WritesEach}
-use Rattle.cdma_replay.specs.Hearing.{clean_end, file_end_of, file_text, told}
-use Rattle.cdma_replay.specs.Hearing.{tuning_for}
+use Rattle.cdma_replay.specs.Hearing.{clean_end, file_end_of, file_text, told, tuning_for}
 use Rattle.cdma_replay.specs.Replies.{AnswersBehind, IsFileReply, Reply}
 use Rattle.cdma_replay.specs.Tasks.{following}
 use Rattle.cdma_replay.specs.declared.handset.Receiver.{Receiver}
 use Rattle.cdma_replay.specs.declared.status.Status.{Status}
 use Rattle.cdma_replay.specs.declared.status.Status.TheVariants.{NoMemory}
-use Rattle.cdma_replay.proofs.CleanTexts.{clean_end-is, clean_owed, on_path, tuned_to_cell}
+use Rattle.cdma_replay.proofs.CleanTexts.{clean_end-is, on_path, tuned_to_cell}
+use Rattle.cdma_replay.proofs.Replies.{whole_file}
 use Rattle.cell_script.proofs.NamedPages.{named_receivable}
 
 module _ (width : Width) (script : List ℕ) (plan : CellPlan)
@@ -86,8 +86,7 @@ module _ (width : Width) (script : List ℕ) (plan : CellPlan)
   each_answer taps bytes held status written file enough exact =
       let text = file_text taps (following span workers fingers paging traffic) header samples in
       let end = file_end_of (following span workers fingers paging traffic) header samples in
-      elim (exact (Ok (text, end))
-      (clean_owed taps span workers fingers paging traffic bytes header samples file enough)) [
+      elim (exact (Ok (text, end)) (whole_file file enough)) [
         | inl none ↦ inl none
         | inr all ↦
             inr (

@@ -1,12 +1,12 @@
 -- The text of a clean link.
-use Rattle.std.proofs.Common.{◌≡◌, ◌⊎◌, inl, inr, refl, ℕ, ◌≤◌, List, ◌∷◌, ◌++◌, length, take}
-use Rattle.std.proofs.Common.{sym, ap, ◌∙◌, subst, All, Option, Some, Ok}
+use Rattle.std.proofs.Common.{◌≡◌, ◌⊎◌, inl, inr, ℕ, ◌≤◌, List, ◌++◌, length, take, sym, ap, ◌∙◌}
+use Rattle.std.proofs.Common.{subst, All, Option, Some, Ok}
 use Rattle.std.specs.Prelude.{is_some, nat_lt}
 use Rattle.chip_core.specs.declared.sample.Sample.{Sample}
 use Rattle.cdma_io.specs.SampleFile.{IsSampleFile}
 use Rattle.cdma_io.specs.declared.header.Header.{Header}
 use Rattle.chip_core.specs.declared.width.Width.{Width}
-use Rattle.pilot_search.specs.Search.{best_phase, energy}
+use Rattle.pilot_search.specs.Search.{energy}
 use Rattle.cell_plan.specs.Plan.{IsFreeOf}
 use Rattle.cell_plan.specs.Transmitter.{phase_at}
 use Rattle.cell_plan.specs.declared.plan.CellPlan.{CellPlan}
@@ -19,21 +19,21 @@ use Rattle.cdma_words.specs.Words.{IsPaging}
 use Rattle.cell_plan.specs.Sampled.{made_samples}
 use Rattle.mobile_core.specs.Tuning.{Tuning}
 use Rattle.cdma_replay.specs.CleanFiles.{IsCellFile, IsCleanLink, cell_energy}
-use Rattle.clean_link.specs.CleanLink.{IsNotDirected, IsOnPath, IsPlanFile}
-use Rattle.clean_link.specs.CleanLink.{IsTunedTo, tuning_to}
+use Rattle.clean_link.specs.CleanLink.{IsNotDirected, IsOnPath, IsPlanFile, IsTunedTo, tuning_to}
 use Rattle.clean_link.specs.CleanLink.{sync_sent}
 use Rattle.clean_link.specs.SentEvents.{FollowsSent, sent_events}
 use Rattle.clean_link.proofs.marks.MarksTrue.{marked_where_heard}
 use Rattle.clean_link.proofs.messages.MessagesBack.{messages_back, tuned_is}
 use Rattle.clean_link.proofs.signal.Samples.{length-made}
 use Rattle.chip_core.specs.declared.assignment.Traffic.{Traffic}
-use Rattle.cdma_replay.specs.Hearing.{clean_end, clean_events, end_when, told}
-use Rattle.cdma_replay.specs.Hearing.{file_end_of, file_text, tuning_for}
-use Rattle.cdma_replay.specs.Replies.{AnswersBehind, IsFileReply, IsWholeFile, Reply}
+use Rattle.cdma_replay.specs.Hearing.{clean_end, clean_events, end_when, told, file_end_of}
+use Rattle.cdma_replay.specs.Hearing.{file_text, tuning_for}
+use Rattle.cdma_replay.specs.Replies.{AnswersBehind, IsFileReply, Reply}
 use Rattle.cdma_replay.specs.Tasks.{following}
 use Rattle.cdma_replay.specs.declared.handset.Receiver.{Receiver}
 use Rattle.cdma_replay.specs.declared.status.Status.{Status}
 use Rattle.cdma_replay.specs.declared.status.Status.TheVariants.{NoMemory}
+use Rattle.cdma_replay.proofs.Replies.{whole_file}
 use Rattle.cdma_replay.proofs.TuningLaw.{on_plans_path}
 
 -- the plan of a script can be received
@@ -171,22 +171,6 @@ clean_text-is taps width script plan span workers fingers paging traffic header 
     (clean_events-are width script plan span fingers paging traffic header samples clean free follows
     counted one)
 
--- the reply that such a file is owed
-pub clean_owed : (taps : List KeptTap) (span workers fingers paging : ℕ)
-    (traffic : Option Traffic) (bytes : List ℕ) (header : Header) (samples : List Sample) →
-    IsSampleFile bytes header samples → span ≤ length samples →
-    IsWholeFile taps (following span workers fingers paging traffic) bytes
-    (file_text taps (following span workers fingers paging traffic) header samples)
-    (file_end_of (following span workers fingers paging traffic) header samples)
-clean_owed taps span workers fingers paging traffic bytes header samples file enough = record {
-  header = header;
-  samples = samples;
-  file = file;
-  enough = enough;
-  text_is = refl;
-  end_is = refl;
-}
-
 clean_reply : (taps : List KeptTap) (width : Width) (script held : List ℕ)
     (plan : CellPlan) (span workers fingers paging : ℕ) (traffic : Option Traffic)
     (header : Header) (samples : List Sample) (status : Status) (written : Option (List ℕ)) →
@@ -232,4 +216,4 @@ clean_answer taps width script bytes held plan span workers fingers paging traff
     (exact (Ok (
       file_text taps (following span workers fingers paging traffic) header samples,
       file_end_of (following span workers fingers paging traffic) header samples,
-    )) (clean_owed taps span workers fingers paging traffic bytes header samples file enough))
+    )) (whole_file file enough))

@@ -1,6 +1,7 @@
 -- An input without a fault is read to its end, unless a call on the outside fails or memory runs out.
-use Rattle.std.proofs.Common.{◌≡◌, ℕ, ◌⊎◌, inl, inr, List, [], refl, sym, subst, Bool, true}
-use Rattle.std.proofs.Common.{false, Option, None, Some, IfSome, Result, Ok, Err, IsOk}
+use Rattle.std.proofs.Common.{◌≡◌, ℕ, ◌⊎◌, inl, inr, List, refl, sym, subst, Bool, true, false}
+use Rattle.std.proofs.Common.{Option, None, Some, IfSome, Result, Ok, Err, IsOk}
+use Rattle.cdma_io.specs.Outside.{Rose}
 use Rattle.cdma_io.specs.declared.file_fault.FileFault.{FileFault}
 use Rattle.cell_script.specs.declared.script_fault.ScriptFault.{ScriptFault}
 use Rattle.cell_script.specs.Script.{plan_named}
@@ -12,11 +13,12 @@ use Rattle.cdma_replay.specs.declared.task.Task.TheVariants.{Make, Receive, Tria
 use Rattle.cdma_replay.specs.Find.{IsEnd, IsSearchable}
 use Rattle.cdma_replay.specs.Hearing.{end_when, file_end_of, file_text}
 use Rattle.cdma_replay.specs.Make.{made_file}
-use Rattle.cdma_replay.specs.Replies.{Answers, IsAnswered, IsFileReply, IsLawfulTaskInput, IsTaskEnd}
-use Rattle.cdma_replay.specs.Replies.{IsTaskReply, IsVerdict, Reply, TaskReadsInput, TaskReadsWell}
+use Rattle.cdma_replay.specs.Replies.{Answers, IsAnswered, IsFileReply, IsLawfulTaskInput}
+use Rattle.cdma_replay.specs.Replies.{IsTaskEnd, IsTaskReply, Reply, TaskReadsInput, TaskReadsWell}
 use Rattle.cdma_replay.specs.Replies.{taps_by}
+use Rattle.cdma_replay.specs.TaskRuns.{RunsTask}
 use Rattle.cdma_replay.specs.Trials.{trial_line}
-use Rattle.cdma_replay.proofs.Replies.{named_well, one_task_reply}
+use Rattle.cdma_replay.proofs.Replies.{named_well, one_task_reply, whole_file}
 
 -- an input is owed a whole text, and a good end
 record IsOwedAll (owes : Reply → Type 0) : Type 0 where
@@ -37,14 +39,7 @@ file_owed : (taps : List KeptTap) (r : Reception) (bytes : List ℕ) → IsSearc
     IsOwedAll (IsFileReply taps r bytes)
 file_owed taps r bytes s = record {
   whole = (file_text taps r s.header s.samples, file_end_of r s.header s.samples);
-  owed = record {
-    header = s.header;
-    samples = s.samples;
-    file = s.file;
-    enough = s.enough;
-    text_is = refl;
-    end_is = refl;
-  };
+  owed = whole_file s.file s.enough;
   ends = file_end_is_good r bytes s;
 }
 
@@ -115,27 +110,24 @@ told_end forms task status rest old new Failed reads well answered =
     IfSome all (λ bytes. IsAnswered (IsTaskReply forms task bytes) status old new)) known.1 answered)
 
 -- where nothing failed, and memory didn't run out, a run over a good input ends well
-pub complete_answer : (forms : List ℕ) (task : Task) (status : Status) (rest old new : Option (List ℕ))
-    (R W : Type 0) → IsTaskEnd task status →
-    (IsVerdict status →
-    IfSome rest (λ bytes. IsAnswered (IsTaskReply forms task bytes) status old new)) →
-    (status ≡ Status.ReadFault → R) → (status ≡ Status.WriteFault → W) →
-    TaskReadsWell task rest R → ¬ W → (status ≡ Status.NoMemory) ⊎ IsEnd status
-complete_answer forms task Status.Done rest old new R W end verdict read write well writes = inr tt
-complete_answer forms task Status.NoSync rest old new R W end verdict read write well writes = inr tt
-complete_answer forms task (Status.BadFile fault) rest old new R W end verdict read write well
-    writes =
-    inr (told_end forms task (Status.BadFile fault) rest old new R (file_read task fault end) well
-    (verdict tt))
-complete_answer forms task (Status.BadScript fault) rest old new R W end verdict read write well
-    writes =
-    inr (told_end forms task (Status.BadScript fault) rest old new R (script_read task fault end) well
-    (verdict tt))
-complete_answer forms task Status.BadWords rest old new R W end verdict read write well writes =
-    absurd (named_well task end)
-complete_answer forms task Status.ReadFault rest old new R W end verdict read write well writes =
-    absurd ((read_well task rest R (source_read task end) well).3 (read refl))
-complete_answer forms task Status.WriteFault rest old new R W end verdict read write well writes =
-    absurd (writes (write refl))
-complete_answer forms task Status.NoMemory rest old new R W end verdict read write well writes =
-    inl refl
+module _ {rest left : Option (List ℕ)} {misread misread_now : ℕ} {SameSource : Type 0}
+    {old new : Option (List ℕ)} {miswritten miswritten_now : ℕ} {SameSink : Type 0} where
+  pub complete_answer : (forms : List ℕ) (task : Task) (status : Status) →
+      RunsTask forms task status rest left misread misread_now SameSource old new miswritten
+      miswritten_now SameSink → TaskReadsWell task rest (Rose misread misread_now) →
+      ¬ (Rose miswritten miswritten_now) → (status ≡ Status.NoMemory) ⊎ IsEnd status
+  complete_answer forms task Status.Done run well writes = inr tt
+  complete_answer forms task Status.NoSync run well writes = inr tt
+  complete_answer forms task (Status.BadFile fault) run well writes =
+      inr (told_end forms task (Status.BadFile fault) rest old new (Rose misread misread_now)
+      (file_read task fault run.kind) well (run.verdict tt))
+  complete_answer forms task (Status.BadScript fault) run well writes =
+      inr (told_end forms task (Status.BadScript fault) rest old new (Rose misread misread_now)
+      (script_read task fault run.kind) well (run.verdict tt))
+  complete_answer forms task Status.BadWords run well writes = absurd (named_well task run.kind)
+  complete_answer forms task Status.ReadFault run well writes =
+      absurd ((read_well task rest (Rose misread misread_now) (source_read task run.kind) well).3
+      (run.read_fault refl))
+  complete_answer forms task Status.WriteFault run well writes =
+      absurd (writes (run.write_fault refl).0)
+  complete_answer forms task Status.NoMemory run well writes = inl refl

@@ -1,9 +1,9 @@
 -- Lemmas on a handset whose events are told to a sink.
 use Rattle.std.proofs.Common.{◌≡◌, ℕ, zero, suc, ◌+◌, ◌-◌, ◌≤◌, ◌++◌, ◌∷◌, [], List, length, take}
 use Rattle.std.proofs.Common.{drop, refl, sym, ap, ◌∙◌, subst, arith, append_assoc, append-nil}
-use Rattle.std.proofs.Common.{length-append, true, ℤ, pos, replicate, Option, None, Some}
-use Rattle.std.proofs.Common.{Result, Ok, Err, IfOk, OnErr, OnOk}
-use Rattle.std.proofs.lemmas.List.{length-replicate, take_all, take_at, take-append-drop}
+use Rattle.std.proofs.Common.{length-append, true, ℤ, pos, replicate, Option, None, Some, Result}
+use Rattle.std.proofs.Common.{Ok, Err, IfOk, OnOk}
+use Rattle.std.proofs.lemmas.List.{length-replicate, take_all, take_at, take_rest, take-append-drop}
 use Rattle.std.proofs.lemmas.List.Concat.{flat_map-append}
 use Rattle.std.specs.List.{flat_map, range_with_len}
 use Rattle.std.specs.Io.{StartsWith}
@@ -21,31 +21,26 @@ use Rattle.chip_core.specs.declared.assignment.Traffic.{Traffic}
 use Rattle.cdma_words.specs.Words.{IsLawfulTraffic}
 use Rattle.mobile_core.specs.TrafficMonitoring.{IsSoundAssignment}
 use Rattle.mobile_core.specs.Near.{AreNear, low_of}
-use Rattle.mobile_core.specs.Standing.{IsStep, StandsFor, events_left, has_room, parts}
+use Rattle.mobile_core.specs.Standing.{IsStep, StandsFor, Steps, events_left, has_room, parts}
 use Rattle.mobile_core.specs.Timing.{IsTimed}
-use Rattle.mobile_core.specs.Tuning.{Tuning, sync_stream}
+use Rattle.mobile_core.specs.Tuning.{Tuning, sync_stream, tuning_by}
 use Rattle.mobile_core.specs.declared.channel.Channel.{Channel}
 use Rattle.mobile_core.specs.declared.event.Event.{Event}
 use Rattle.mobile_core.specs.declared.event.Event.TheVariants.{Pilot}
 use Rattle.mobile_core.specs.declared.mobile.Mobile.{Mobile}
 use Rattle.mobile_core.specs.declared.mobile.Step.{Step}
-use Rattle.event_tap.specs.Taps.{KeptTap, heard_text, run_taps, run_text}
-use Rattle.event_tap.specs.Taps.{taps_behind}
+use Rattle.event_tap.specs.Taps.{KeptTap, heard_text, run_taps, run_text, taps_behind}
 use Rattle.event_tap.proofs.Runs.{run_taps-append, run_taps-more, run_text-append, run_text-more}
 use Rattle.event_tap.proofs.Runs.{run_text-none}
 use Rattle.tuned_listener.proofs.Prefixes.{begins_more, front_begins, prefix_before, prefix_behind}
 use Rattle.tuned_listener.proofs.Prefixes.{taken_begins}
-use Rattle.tuned_listener.specs.TunedListening.{ListensTuned, TellsTuned, TellsTunedPart, tuned_room}
+use Rattle.tuned_listener.specs.TunedListening.{ListensTuned, TellsTuned, TellsTunedPart}
+use Rattle.tuned_listener.specs.TunedListening.{tuned_room}
 use Rattle.tuned_listener.proofs.TunedMarks.{none_marked, stands_near}
 use Rattle.tuned_listener.proofs.TunedTexts.{text_of_nothing}
 use Rattle.tuned_listener.specs.declared.tuned.TunedListener.{TunedListener}
 use Rattle.tuned_listener.specs.declared.tuned_text.TunedText.{TunedText}
 use Rattle.cdma_replay.specs.declared.handset.Receiver.{Receiver}
-use Rattle.cdma_replay.specs.declared.status.Status.{Status}
-use Rattle.cdma_replay.specs.declared.status.Status.TheVariants.{Done, NoSync, BadWords, BadFile}
-use Rattle.cdma_replay.specs.declared.status.Status.TheVariants.{ReadFault, WriteFault, NoMemory}
-use Rattle.cdma_replay.specs.declared.status.Status.TheVariants.{BadScript}
-use Rattle.cdma_replay.specs.Find.{IsEnd, IsFault}
 use Rattle.mobile_core.specs.SyncEvents.{sync_events_at}
 use Rattle.mobile_core.proofs.EventsGrown.{events_at_by, events_sooner}
 use Rattle.mobile_core.proofs.FrameTimes.{known_between}
@@ -60,11 +55,9 @@ use Rattle.pilot_search.specs.declared.paths.Near.{Near}
 use Rattle.pilot_search.specs.declared.sweeping.Best.{Best}
 use Rattle.pilot_search.proofs.BestPhase.{best_energy-only, best_phase-only}
 use Rattle.mobile_core.specs.declared.settings.Settings.{Settings}
-use Rattle.mobile_core.specs.Tuning.{tuning_by}
 use Rattle.cdma_replay.specs.Hearing.{AreNearTo, AreReady, BeginsBehind, ByFrames, ByTaps, HasRoom}
-use Rattle.cdma_replay.specs.Hearing.{HasRoomFor, HasTold, IsFresh}
-use Rattle.cdma_replay.specs.Hearing.{Listening, Listens, Nobody, Tells, TellsMore, TellsPart}
-use Rattle.cdma_replay.specs.Hearing.{is_told, told, tuning_for}
+use Rattle.cdma_replay.specs.Hearing.{HasRoomFor, HasTold, IsFresh, Listening, Listens, Nobody}
+use Rattle.cdma_replay.specs.Hearing.{Tells, TellsMore, TellsPart, is_told, told, tuning_for}
 use Rattle.cdma_replay.specs.declared.listener.Listener.{Listener}
 use Rattle.cdma_replay.specs.declared.listener.Listener.TheVariants as by
 
@@ -112,6 +105,20 @@ pub taken_more : (heard samples : List Sample) (taken n : ℕ) →
 taken_more heard samples taken n =
     append_assoc heard (take taken samples) (take n (drop taken samples)) ∙
     ap (λ (xs : List Sample). heard ++ xs) (taken_joined taken n samples)
+
+-- a step behind them that gave this event, or none
+pub step_stands : {one other : Mobile} {step : Step} (t : Tuning) (heard samples : List Sample)
+    (taken : ℕ) (found : Option Event) → step.event ≡ found →
+    Steps one other (take (length samples - taken) (drop taken samples)) step →
+    (before : List Event) → StandsFor t one (heard ++ take taken samples) before →
+    StandsFor t other ((heard ++ take taken samples) ++ take step.taken (drop taken samples))
+    (before ++ listed found)
+step_stands {one} {other} {step} t heard samples taken found is steps before stands =
+    subst (λ (e : Option Event). StandsFor t other
+    ((heard ++ take taken samples) ++ take step.taken (drop taken samples)) (before ++ listed e)) is
+    (subst (λ (xs : List Sample). StandsFor t other
+    ((heard ++ take taken samples) ++ take step.taken xs) (before ++ listed step.event))
+    (take_rest samples taken) (steps.stands t (heard ++ take taken samples) before stands))
 
 -- the next event was given, and its text written
 pub told_more : (t : Tuning) (taps : List KeptTap) (one other : Mobile)
@@ -581,15 +588,3 @@ pub room_for : (listener : Listener) (left n : ℕ) → HasRoom listener left �
 room_for by.Nobody left n room fits = tt
 room_for (by.Handset mobile) left n room fits = omega (arith, room, fits)
 room_for (by.Tuned tuned) left n room fits = omega (arith, room, fits)
-
--- ---- a fault is no good end
-
-pub fault_no_end : (status : Status) → IsFault status → ¬ (IsEnd status)
-fault_no_end Done faulty end = faulty
-fault_no_end NoSync faulty end = faulty
-fault_no_end BadWords faulty end = end
-fault_no_end (BadFile e) faulty end = end
-fault_no_end ReadFault faulty end = end
-fault_no_end WriteFault faulty end = end
-fault_no_end NoMemory faulty end = end
-fault_no_end (BadScript e) faulty end = end

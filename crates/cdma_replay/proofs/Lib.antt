@@ -21,5 +21,6 @@ pub mod SentLines
 pub mod SentReplies
 pub mod SleepLaw
 pub mod SlotReplies
+pub mod TaskRuns
 pub mod TuningLaw
 mod Counting

@@ -1,7 +1,7 @@
 -- Lemmas on the text that is written, and on the file whose beginning it tells of.
-use Rattle.std.proofs.Common.{◌≡◌, ℕ, ◌+◌, ◌≤◌, ◌++◌, List, [], length, take, refl, sym, ap, ◌∙◌, subst}
-use Rattle.std.proofs.Common.{arith, inr, append_assoc, append-nil, length-append, All, Option}
-use Rattle.std.proofs.Common.{None, Some, IfSome}
+use Rattle.std.proofs.Common.{◌≡◌, ℕ, ◌+◌, ◌≤◌, ◌++◌, List, [], length, take, refl, sym, ap, ◌∙◌}
+use Rattle.std.proofs.Common.{subst, arith, inr, append_assoc, append-nil, length-append, All}
+use Rattle.std.proofs.Common.{Option, None, Some, IfSome}
 use Rattle.std.proofs.lemmas.List.{take_at}
 use Rattle.std.proofs.lemmas.List.Concat.{flat_map-append}
 use Rattle.std.proofs.lemmas.List.Elements.{All-append}
@@ -22,26 +22,23 @@ use Rattle.mobile_core.specs.declared.event.Event.TheVariants.{Pilot}
 use Rattle.event_tap.specs.EventLines.{event_line}
 use Rattle.event_tap.specs.Taps.{KeptTap}
 use Rattle.pilot_survey.specs.declared.rank.Rank.{Rank}
-use Rattle.tuned_listener.proofs.Prefixes.{begins_more, prefix_of}
-use Rattle.tuned_listener.proofs.Prefixes.{taken_begins}
+use Rattle.tuned_listener.proofs.Prefixes.{begins_more, prefix_of, taken_begins}
 use Rattle.tuned_listener.specs.declared.tuned_text.TunedText.{TunedText}
 use Rattle.cdma_replay.specs.declared.handset.Receiver.{Receiver}
 use Rattle.cdma_replay.specs.declared.listener.Listener.{Listener}
 use Rattle.cdma_replay.specs.declared.listener.Listener.TheVariants as by
 use Rattle.cdma_replay.specs.declared.opening.Shown.{Shown}
-use Rattle.cdma_replay.specs.declared.opening.Shown.TheVariants.{Followed, Found, Ranks}
-use Rattle.cdma_replay.specs.declared.opening.Shown.TheVariants.{TunedTo}
+use Rattle.cdma_replay.specs.declared.opening.Shown.TheVariants.{Followed, Found, Ranks, TunedTo}
 use Rattle.cdma_replay.specs.declared.purpose.Purpose.{Purpose}
-use Rattle.cdma_replay.specs.declared.purpose.Purpose.TheVariants.{Find, Follow, Survey}
-use Rattle.cdma_replay.specs.declared.purpose.Purpose.TheVariants.{Tuned}
+use Rattle.cdma_replay.specs.declared.purpose.Purpose.TheVariants.{Find, Follow, Survey, Tuned}
 use Rattle.cdma_replay.specs.declared.receiving.Reception.{Reception}
 use Rattle.cdma_replay.specs.declared.status.Status.{Status}
-use Rattle.cdma_replay.specs.Find.{WritesNoMore, WritesText}
+use Rattle.cdma_replay.specs.Find.{TakesSpan, WritesNoMore, WritesText}
 use Rattle.cdma_replay.proofs.Hearings.{more_behind, part_behind}
-use Rattle.cdma_replay.specs.Hearing.{BeginsBehind, HearsPart, HearsRest, IsFresh, Listening, Listens}
-use Rattle.cdma_replay.specs.Hearing.{Nobody, Tells}
-use Rattle.cdma_replay.specs.Hearing.{TellsMore, TellsPart, best_pilot, end_when, file_end_of}
-use Rattle.cdma_replay.specs.Hearing.{file_text, first_text, is_told, listening, told}
+use Rattle.cdma_replay.specs.Hearing.{BeginsBehind, HearsPart, HearsRest, IsFresh, Listening}
+use Rattle.cdma_replay.specs.Hearing.{Listens, Nobody, Tells, TellsMore, TellsPart, best_pilot}
+use Rattle.cdma_replay.specs.Hearing.{end_when, file_end_of, file_text, first_text, is_told}
+use Rattle.cdma_replay.specs.Hearing.{listening, told}
 use Rattle.cdma_replay.specs.Openings.{IsBest, Shows, listening_in, shown_text}
 use Rattle.mobile_core.specs.declared.channel.Channel.{Channel}
 use Rattle.pilot_search.specs.declared.sweeping.Best.{Best}
@@ -200,24 +197,20 @@ pub none_within : (width : Width) → All (HasBits width) []
 none_within width = λ k d h. absurd (omega (arith, h))
 
 -- a beginning of the text of the first samples, and of what is told of them
-pub writes_first_text : {taps : List KeptTap} {r : Reception} {rest old new : Option (List ℕ)}
-    (mid : Option (List ℕ)) (header : Header) {same : Header} (samples : List Sample) (shown : Shown)
-    (listener : Listener) →
-    length samples ≡ r.span → IsLawfulHeader header → All (HasBits (width_of header)) samples →
-    r.span ≤ header.count →
-    Consumes rest mid
-    (header_spelling header ++ flat_map (sample_spelling (width_of header)) samples) →
+pub writes_first_text : {taps : List KeptTap} {r : Reception} {header same : Header}
+    {samples : List Sample} {count left : ℕ} {rest mid old new : Option (List ℕ)} (shown : Shown)
+    (listener : Listener) → count ≡ r.span → TakesSpan count header samples left rest mid →
     Shows r.purpose samples shown → same ≡ header →
     ((taps : List KeptTap) → IsFresh (listening_in taps shown same samples) listener taps) →
     ((header : Header) (first samples : List Sample) →
     let l = listening_in taps shown header first in
     IsFresh l listener taps → AppendsPrefix old new (shown_text shown ++ told l samples)) →
     WritesNoMore taps r rest mid old new
-writes_first_text {taps} {r} {rest} {old} {new} mid header {same} samples shown listener counted
-    lawful range enough consumed shows is fresh part =
+writes_first_text {taps} {r} {header} {same} {samples} {count} {left} {rest} {mid} {old} {new} shown
+    listener alike t shows is fresh part =
     let all = samples ++ [] in
-    begins_text mid header samples [] [] counted lawful range (omega (arith, counted, enough)) consumed
-    (none_within (width_of header)) (Consumes-nil mid)
+    begins_text mid header samples [] [] (t.counted ∙ alike) t.lawful t.in_range
+    (omega (arith, t.counted, t.left)) t.consumed (none_within (width_of header)) (Consumes-nil mid)
     (subst (λ (xs : List ℕ). AppendsPrefix old new
     (xs ++ told (listening taps r.purpose header samples) all)) shows.text
     (subst (λ (l : Listening). AppendsPrefix old new (shown_text shown ++ told l all))
@@ -245,20 +238,16 @@ pub record HasBegun (taps : List KeptTap) (r : Reception) (header : Header) (sam
 
 -- from what was found in the first samples, and the new listener
 pub has_begun : (taps : List KeptTap) (r : Reception) {header same : Header}
-    (samples : List Sample) (shown : Shown) (one : Listener) {other : Listener} {kept : List KeptTap}
-    {rest mid old new : Option (List ℕ)} →
-    length samples ≡ r.span → IsLawfulHeader header → All (HasBits (width_of header)) samples →
-    r.span ≤ header.count →
-    Consumes rest mid
-    (header_spelling header ++ flat_map (sample_spelling (width_of header)) samples) →
-    Shows r.purpose samples shown → same ≡ header →
+    {samples : List Sample} {count left : ℕ} (shown : Shown) (one : Listener) {other : Listener}
+    {kept : List KeptTap} {rest mid old new : Option (List ℕ)} → count ≡ r.span →
+    TakesSpan count header samples left rest mid → Shows r.purpose samples shown → same ≡ header →
     ((taps : List KeptTap) → IsFresh (listening_in taps shown same samples) one taps) →
     ((header : Header) (first : List Sample) →
     let l = listening_in taps shown header first in
     IsFresh l one taps → BeginsBehind (shown_text shown) l other kept old new) →
     HasBegun taps r header samples other kept rest mid old new
-has_begun taps r {header} {same} samples shown one {other} {kept} {rest} {mid} {old} {new} counted
-    lawful range enough consumed shows is fresh begins =
+has_begun taps r {header} {same} {samples} {count} {left} shown one {other} {kept} {rest} {mid} {old}
+    {new} alike t shows is fresh begins =
     let begun : BeginsBehind (told_first r samples) (listening taps r.purpose header samples) other
     kept old new =
     subst (λ (xs : List ℕ).
@@ -269,11 +258,11 @@ has_begun taps r {header} {same} samples shown one {other} {kept} {rest} {mid} {
     BeginsBehind (shown_text shown) (listening_in taps shown h samples) other kept old new) is
     (begins same samples (fresh taps)))) in
     record {
-      counted = counted;
-      lawful = lawful;
-      in_range = range;
-      enough = enough;
-      consumed = consumed;
+      counted = t.counted ∙ alike;
+      lawful = t.lawful;
+      in_range = t.in_range;
+      enough = omega (arith, alike, t.left);
+      consumed = t.consumed;
       line = begun.written;
       listens = begun.listens;
     }

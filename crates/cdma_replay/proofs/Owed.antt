@@ -1,8 +1,7 @@
 -- Each input is owed a reply, the number of workers changes none, and what each command owes.
-use Rattle.std.proofs.Common.{◌≡◌, ℕ, zero, suc, ◌-◌, ◌*◌, ◌+◌, ◌<◌, ◌≤◌, ◌++◌, ◌⊎◌, inl, inr, List, []}
-use Rattle.std.proofs.Common.{◌∷◌, length, take, drop, refl, sym, ap, ◌∙◌, arith, All, append-nil}
-use Rattle.std.proofs.Common.{length-drop, length-take-le, take-append-drop, Option, None, Some}
-use Rattle.std.proofs.Common.{Result, Ok, Err, is_some}
+use Rattle.std.proofs.Common.{◌≡◌, ℕ, zero, suc, ◌-◌, ◌*◌, ◌+◌, ◌≤◌, ◌++◌, inl, inr, List, [], ◌∷◌}
+use Rattle.std.proofs.Common.{length, take, drop, refl, sym, ap, ◌∙◌, arith, All, append-nil}
+use Rattle.std.proofs.Common.{length-drop, length-take-le, take-append-drop, Result, Ok, Err}
 use Rattle.std.proofs.lemmas.Bool.{cases_lt}
 use Rattle.std.proofs.lemmas.List.Elements.{All-cons}
 use Rattle.std.specs.List.{flat_map}
@@ -16,27 +15,27 @@ use Rattle.cdma_io.specs.declared.file_fault.FileFault.{FileFault}
 use Rattle.cdma_io.specs.declared.file_fault.FileFault.TheVariants.{Extra, Short, TooFew}
 use Rattle.cdma_io.specs.declared.header.Header.{Header}
 use Rattle.cdma_io.proofs.ByteNumbers.{AreBytes, AreBytes-drop, AreBytes-from_all, AreBytes-take}
-use Rattle.cdma_io.proofs.Opening.{length-header_spelling, opening-ok}
+use Rattle.cdma_io.proofs.Opening.{opening-ok}
 use Rattle.cdma_io.proofs.Spelling.{sample_bytes, sample_in}
 use Rattle.cell_script.specs.Script.{plan_named}
 use Rattle.cell_plan.specs.declared.plan.CellPlan.{CellPlan}
 use Rattle.cell_script.specs.declared.script_fault.ScriptFault.{ScriptFault}
-use Rattle.event_tap.specs.Taps.{KeptTap, kept_by, run_text}
+use Rattle.event_tap.specs.Taps.{KeptTap}
 use Rattle.mobile_core.specs.declared.channel.Channel.{Channel}
 use Rattle.tuned_listener.specs.declared.tuned_text.TunedText.{TunedText}
-use Rattle.cdma_words.specs.declared.job.Job.{Job}
 use Rattle.cdma_words.specs.declared.job.Job.TheVariants as jobs
 use Rattle.cdma_replay.proofs.Lines.{none_within}
+use Rattle.cdma_replay.proofs.Replies.{whole_file}
 use Rattle.cdma_replay.specs.Find.{IsFaultIn, file_end}
-use Rattle.cdma_replay.specs.Hearing.{ByFrames, best_pilot, file_end_of, file_text, told, tuning_for}
-use Rattle.cdma_replay.specs.Hearing.{waiting}
+use Rattle.cdma_replay.specs.Hearing.{ByFrames, best_pilot, file_end_of, file_text, told}
+use Rattle.cdma_replay.specs.Hearing.{tuning_for, waiting}
 use Rattle.cdma_replay.specs.Make.{made_file}
-use Rattle.cdma_replay.specs.Replies.{IsFileReply, IsReply, IsScriptReply, IsTaskReply, IsWholeFile}
-use Rattle.cdma_replay.specs.Replies.{Reply, taps_by}
+use Rattle.cdma_replay.specs.Replies.{IsFileReply, IsScriptReply, IsTaskReply, IsWholeFile, Reply}
+use Rattle.cdma_replay.specs.Replies.{taps_by}
 use Rattle.cdma_replay.specs.ReplyLaws.{EachInputIsOwed, FindOwesThePilot, FollowOwesTheEvents}
 use Rattle.cdma_replay.specs.ReplyLaws.{IdleOwesTheSlots, ListOwesTheFrames, MakeOwesTheFile}
-use Rattle.cdma_replay.specs.ReplyLaws.{OwesTheFrames, Rate2OwesTheFrames, SurveyOwesTheRanks}
-use Rattle.cdma_replay.specs.ReplyLaws.{TrialOwesItsLine, WorkersChangeNoReply, with_workers}
+use Rattle.cdma_replay.specs.ReplyLaws.{Rate2OwesTheFrames, SurveyOwesTheRanks, TrialOwesItsLine}
+use Rattle.cdma_replay.specs.ReplyLaws.{WorkersChangeNoReply}
 use Rattle.cdma_replay.specs.Tasks.{hearing, task_of}
 use Rattle.cdma_replay.specs.Trials.{trial_line}
 use Rattle.cdma_replay.specs.declared.receiving.Reception.{Reception}
@@ -105,19 +104,6 @@ faulty : {taps : List KeptTap} {r : Reception} {bytes : List ℕ} (fault : FileF
 faulty fault is =
     (Err (Status.BadFile fault), record { fault = fault; is = is; end_is = refl })
 
--- the whole text of a file
-pub whole : {taps : List KeptTap} {r : Reception} {bytes : List ℕ} {header : Header}
-    {samples : List Sample} → IsSampleFile bytes header samples → r.span ≤ length samples →
-    IsWholeFile taps r bytes (file_text taps r header samples) (file_end_of r header samples)
-whole {taps} {r} {bytes} {header} {samples} file enough = record {
-  header = header;
-  samples = samples;
-  file = file;
-  enough = enough;
-  text_is = refl;
-  end_is = refl;
-}
-
 opened_owed : (taps : List KeptTap) (r : Reception) (bytes : List ℕ) (header : Header) →
     AreBytes bytes → opening bytes ≡ Ok header → (reply : Reply) × IsFileReply taps r bytes reply
 opened_owed taps r bytes header small is =
@@ -135,7 +121,7 @@ opened_owed taps r bytes header small is =
               spells (width_of header) header.count (drop 16 bytes) (AreBytes-drop 16 bytes small) rest
               in (
                 Ok (file_text taps r header s.samples, file_end_of r header s.samples),
-                whole (record {
+                whole_file (record {
                   lawful = opened.lawful;
                   counted = s.counted;
                   in_range = s.in_range;
@@ -233,11 +219,11 @@ named is w = record {
 pub find_owes : FindOwesThePilot
 unfolding file_text file_end_of told best_pilot
 find_owes forms span workers bytes header samples file enough =
-    named (append-nil _) (whole file enough)
+    named (append-nil _) (whole_file file enough)
 
 pub follow_owes : FollowOwesTheEvents
 unfolding file_text file_end_of told
-follow_owes forms span workers receiver limits bytes header samples file enough = whole file enough
+follow_owes forms span workers receiver limits bytes header samples file enough = whole_file file enough
 
 frames_owed : (span workers fingers : ℕ) (channel : Channel) (text : TunedText) (bytes : List ℕ)
     (header : Header) (samples : List Sample) → IsSampleFile bytes header samples →
@@ -249,7 +235,7 @@ frames_owed : (span workers fingers : ℕ) (channel : Channel) (text : TunedText
       file_end_of (hearing span workers fingers channel text) header samples,
     ))
 unfolding file_text
-frames_owed span workers fingers channel text bytes header samples file enough = whole file enough
+frames_owed span workers fingers channel text bytes header samples file enough = whole_file file enough
 
 pub rate2_owes : Rate2OwesTheFrames
 unfolding file_end_of told
@@ -269,7 +255,7 @@ idle_owes span workers fingers paging key cycle forms bytes header samples file 
 pub survey_owes : SurveyOwesTheRanks
 unfolding file_text file_end_of told
 survey_owes forms span workers base width top bytes header samples file enough =
-    named (append-nil _) (whole file enough)
+    named (append-nil _) (whole_file file enough)
 
 pub make_owes : MakeOwesTheFile
 make_owes forms width bytes plan is = record { plan = plan; named = is; text_is = refl; end_is = refl }

@@ -1,21 +1,18 @@
 -- Lemmas on what a run owes: what its answer says follows from the causes of each end, and no input
 -- is owed two replies.
-use Rattle.std.proofs.Common.{◌≡◌, ◌≢◌, ℕ, ◌++◌, ◌⊎◌, inl, inr, List, [], refl, sym}
-use Rattle.std.proofs.Common.{ap}
-use Rattle.std.proofs.Common.{◌∙◌, subst, Option, None, Some, IfErr, IfSome, OnErr, OnOk, Result}
-use Rattle.std.proofs.Common.{Ok, Err, map, take}
+use Rattle.std.proofs.Common.{◌≡◌, ◌≢◌, ℕ, ◌≤◌, ◌⊎◌, inl, inr, List, [], length, refl, sym, ap, ◌∙◌}
+use Rattle.std.proofs.Common.{subst, Option, None, Some, IfErr, IfSome, OnErr, OnOk, Result, Ok}
+use Rattle.std.proofs.Common.{Err, map, take, append-nil}
 use Rattle.std.specs.Io.{StartsWith}
 use Rattle.std.specs.Io.KnownBytes.{Appends}
-use Rattle.std.proofs.Common.{append-nil}
 use Rattle.chip_core.specs.declared.sample.Sample.{Sample}
+use Rattle.cdma_io.specs.SampleFile.{IsSampleFile}
 use Rattle.cdma_io.specs.declared.file_fault.FileFault.{FileFault}
-use Rattle.cdma_io.specs.declared.file_fault.FileFault.TheVariants.{ReadFault}
 use Rattle.cdma_io.specs.declared.header.Header.{Header}
 use Rattle.chip_core.specs.declared.width.Width.{Width}
 use Rattle.cdma_io.proofs.Uniqueness.{file_unique}
 use Rattle.cell_plan.specs.declared.plan.CellPlan.{CellPlan}
 use Rattle.cell_script.specs.declared.script_fault.ScriptFault.{ScriptFault}
-use Rattle.cell_script.specs.declared.script_fault.ScriptFault.TheVariants.{OutOfMemory}
 use Rattle.cell_script.specs.Script.{plan_named}
 use Rattle.event_tap.specs.Taps.{KeptTap, kept_by}
 use Rattle.cdma_words.specs.declared.job.Job.{Job}
@@ -24,38 +21,41 @@ use Rattle.cdma_replay.specs.declared.receiving.Reception.{Reception}
 use Rattle.cdma_replay.specs.declared.status.Status.{Status}
 use Rattle.cdma_replay.specs.declared.task.Task.{Task}
 use Rattle.cdma_replay.specs.declared.task.Task.TheVariants.{Make, Receive, Trial}
-use Rattle.cdma_replay.specs.Broken.{IsCut, IsLong, WritesAll, WritesFirst}
-use Rattle.cdma_replay.specs.Find.{BeginsText, IsEnd, IsFaultIn, IsOfFiles, IsSearchable}
-use Rattle.cdma_replay.specs.Find.{WritesNoMore, WritesText, ended}
+use Rattle.cdma_replay.specs.Broken.{IsCut}
+use Rattle.cdma_replay.specs.Find.{IsEnd, IsFaultIn, IsHeaderFault, IsSearchable, WritesText, ended}
 use Rattle.cdma_replay.specs.Hearing.{IsUnheard, file_end_of, file_text}
 use Rattle.cdma_replay.specs.declared.purpose.Purpose.{Purpose}
 use Rattle.cdma_replay.specs.declared.purpose.Purpose.TheVariants as purposes
-use Rattle.cdma_replay.specs.Make.{BeginsMadeFile, WritesMadeFile, WritesNoMoreMade, made_file}
-use Rattle.cdma_replay.specs.Replies.{Answers, AnswersBehind, IsAnswered, IsEarlyFault, IsFaultyFile}
-use Rattle.cdma_replay.specs.Replies.{IsFaultyScript, IsFileEnd, IsFileReply, IsPurposeEnd, IsReply}
-use Rattle.cdma_replay.specs.Replies.{IsScriptEnd, IsScriptReply, IsSearchEnd, IsTaskEnd}
+use Rattle.cdma_replay.specs.Make.{WritesMadeFile, made_file}
+use Rattle.cdma_replay.specs.Replies.{Answers, AnswersBehind, IsAnswered, IsEarlyFault}
+use Rattle.cdma_replay.specs.Replies.{IsFaultyFile, IsFaultyScript, IsFileEnd, IsFileReply}
+use Rattle.cdma_replay.specs.Replies.{IsPurposeEnd, IsReply, IsScriptReply, IsSearchEnd, IsTaskEnd}
 use Rattle.cdma_replay.specs.Replies.{IsTaskReply, IsTrialEnd, IsTrialReply, IsVerdict, IsWholeFile}
-use Rattle.cdma_replay.specs.Replies.{Begins, IsWholeScript, Reply, TaskBegins, TaskTellsAll}
-use Rattle.cdma_replay.specs.Replies.{TaskTellsFirst, TellsAll, TellsFirst, WritesPart, taps_by}
+use Rattle.cdma_replay.specs.Replies.{IsWholeScript, Reply, WritesPart, taps_by}
 use Rattle.cdma_replay.specs.Tasks.{task_of}
 use Rattle.cdma_replay.specs.Trials.{trial_line}
 use Rattle.cdma_io.specs.Outside.{AppendsPrefix}
+use Rattle.cdma_replay.proofs.Ends.{by_end}
 use Rattle.cdma_replay.proofs.Files.{no_fault, one_fault}
+
+-- an early fault is one of the file's header, or of the script
+pub early_by : (status : Status) {Same : Type 0} →
+    ((fault : FileFault) → status ≡ Status.BadFile fault → IsHeaderFault fault → Same) →
+    ((fault : ScriptFault) → status ≡ Status.BadScript fault → Same) →
+    IsEarlyFault status → Same
+early_by Status.Done file script early = absurd early
+early_by Status.NoSync file script early = absurd early
+early_by (Status.BadFile fault) file script early = file fault refl early
+early_by (Status.BadScript fault) file script early = script fault refl
+early_by Status.BadWords file script early = absurd early
+early_by Status.ReadFault file script early = absurd early
+early_by Status.WriteFault file script early = absurd early
+early_by Status.NoMemory file script early = absurd early
 
 -- ---- a run over a sample file
 
--- what is known of the end of a run over a sample file
-pub record HasCauses (taps : List KeptTap) (r : Reception) (status : Status)
-    (rest old new : Option (List ℕ)) : Type 0 where
-  pub done : IsEnd status → IfSome rest (λ bytes. WritesText taps r status bytes old new)
-  pub others : IsOfFiles status
-  pub bad_file : (fault : FileFault) → status ≡ Status.BadFile fault →
-      (fault ≢ ReadFault) × IfSome rest (λ bytes. ¬ (IsSearchable bytes r.span))
-  pub place : (fault : FileFault) → status ≡ Status.BadFile fault →
-      IfSome rest (λ bytes. IsFaultIn r.span bytes fault)
-
 -- all of the text was written
-text_owed : {taps : List KeptTap} {r : Reception} {status : Status} {bytes : List ℕ}
+pub text_owed : {taps : List KeptTap} {r : Reception} {status : Status} {bytes : List ℕ}
     {old new : Option (List ℕ)} → WritesText taps r status bytes old new →
     IsAnswered (IsFileReply taps r bytes) status old new
 text_owed {taps} {r} {status} w = record {
@@ -71,8 +71,21 @@ text_owed {taps} {r} {status} w = record {
   answers = (refl, w.written);
 }
 
+-- the whole text of a file
+pub whole_file : {taps : List KeptTap} {r : Reception} {bytes : List ℕ} {header : Header}
+    {samples : List Sample} → IsSampleFile bytes header samples → r.span ≤ length samples →
+    IsWholeFile taps r bytes (file_text taps r header samples) (file_end_of r header samples)
+whole_file {taps} {r} {bytes} {header} {samples} file enough = record {
+  header = header;
+  samples = samples;
+  file = file;
+  enough = enough;
+  text_is = refl;
+  end_is = refl;
+}
+
 -- the file's fault was told
-fault_owed : {taps : List KeptTap} {r : Reception} {bytes : List ℕ} {old new : Option (List ℕ)}
+pub fault_owed : {taps : List KeptTap} {r : Reception} {bytes : List ℕ} {old new : Option (List ℕ)}
     (fault : FileFault) → IsFaultIn r.span bytes fault →
     IsAnswered (IsFileReply taps r bytes) (Status.BadFile fault) old new
 fault_owed fault is = record {
@@ -80,32 +93,6 @@ fault_owed fault is = record {
   owed = record { fault = fault; is = is; end_is = refl };
   answers = refl;
 }
-
-pub file_verdict : (taps : List KeptTap) (r : Reception) (status : Status)
-    (rest old new : Option (List ℕ)) → HasCauses taps r status rest old new → IsVerdict status →
-    IfSome rest (λ bytes. IsAnswered (IsFileReply taps r bytes) status old new)
-file_verdict taps r status None old new causes verdict = tt
-file_verdict taps r Status.Done (Some bytes) old new causes verdict = text_owed (causes.done tt)
-file_verdict taps r Status.NoSync (Some bytes) old new causes verdict = text_owed (causes.done tt)
-file_verdict taps r (Status.BadFile fault) (Some bytes) old new causes verdict =
-    fault_owed fault (causes.place fault refl)
-file_verdict taps r (Status.BadScript fault) (Some bytes) old new causes verdict =
-    absurd causes.others
-file_verdict taps r Status.BadWords (Some bytes) old new causes verdict = absurd verdict
-file_verdict taps r Status.ReadFault (Some bytes) old new causes verdict = absurd verdict
-file_verdict taps r Status.WriteFault (Some bytes) old new causes verdict = absurd verdict
-file_verdict taps r Status.NoMemory (Some bytes) old new causes verdict = absurd verdict
-
-pub file_end : (taps : List KeptTap) (r : Reception) (status : Status)
-    (rest old new : Option (List ℕ)) → HasCauses taps r status rest old new → IsFileEnd status
-file_end taps r Status.Done rest old new causes = tt
-file_end taps r Status.NoSync rest old new causes = tt
-file_end taps r (Status.BadFile fault) rest old new causes = (causes.bad_file fault refl).0
-file_end taps r (Status.BadScript fault) rest old new causes = absurd causes.others
-file_end taps r Status.BadWords rest old new causes = absurd causes.others
-file_end taps r Status.ReadFault rest old new causes = tt
-file_end taps r Status.WriteFault rest old new causes = tt
-file_end taps r Status.NoMemory rest old new causes = tt
 
 -- without a handset
 pub search_end : (status : Status) → IsFileEnd status → status ≢ Status.NoSync →
@@ -132,44 +119,9 @@ pub none_kept : {A : Type 0} (limits : List ℕ) (form : A → ℕ) (taps : List
     kept_by limits (map form taps) ≡ []
 none_kept limits form taps none = ap (λ (all : List _). kept_by limits (map form all)) none
 
--- taps have one name
-pub file_verdict_by : {taps named : List KeptTap} → taps ≡ named → (r : Reception)
-    (status : Status) (rest old new : Option (List ℕ)) →
-    HasCauses taps r status rest old new → IsVerdict status →
-    IfSome rest (λ bytes. IsAnswered (IsFileReply named r bytes) status old new)
-file_verdict_by {taps} {named} same r status rest old new causes =
-    file_verdict named r status rest old new
-    (subst (λ (k : List KeptTap). HasCauses k r status rest old new) same causes)
-
-pub file_part : {taps named : List KeptTap} {r : Reception}
-    {rest left old new : Option (List ℕ)} → taps ≡ named →
-    WritesNoMore taps r rest left old new → WritesPart (BeginsText named r rest left) old new
-file_part {taps} {named} {r} {rest} {left} {old} {new} same wrote =
-    subst (λ (k : List KeptTap). WritesPart (BeginsText k r rest left) old new) same
-    (record { text = wrote.text; written = wrote.written; part = wrote.part })
-
--- what was written where the file breaks off, or goes on
-pub file_first : {taps named : List KeptTap} (r : Reception) (rest left old new : Option (List ℕ)) →
-    taps ≡ named → WritesFirst taps r rest left old new → WritesFirst named r rest left old new
-file_first {taps} {named} r rest left old new same wrote =
-    subst (λ (k : List KeptTap). WritesFirst k r rest left old new) same wrote
-
-pub file_all : {taps named : List KeptTap} (r : Reception) (rest old new : Option (List ℕ)) →
-    taps ≡ named → WritesAll taps r rest old new → WritesAll named r rest old new
-file_all {taps} {named} r rest old new same wrote =
-    subst (λ (k : List KeptTap). WritesAll k r rest old new) same wrote
-
 -- ---- a run over a script
 
-pub record HasMakeCauses (width : Width) (status : Status) (rest old new : Option (List ℕ)) :
-    Type 0 where
-  pub done : status ≡ Status.Done → IfSome rest (λ bytes. WritesMadeFile width bytes old new)
-  pub others : (status ≢ Status.NoSync) × (status ≢ Status.BadWords) ×
-      ((fault : FileFault) → status ≢ Status.BadFile fault)
-  pub bad_script : (fault : ScriptFault) → status ≡ Status.BadScript fault →
-      (fault ≢ OutOfMemory) × IfSome rest (λ bytes. plan_named width bytes ≡ Err fault)
-
-made_owed : {width : Width} {bytes : List ℕ} {old new : Option (List ℕ)} →
+pub made_owed : {width : Width} {bytes : List ℕ} {old new : Option (List ℕ)} →
     WritesMadeFile width bytes old new →
     IsAnswered (IsScriptReply width bytes) Status.Done old new
 made_owed {width} w = record {
@@ -178,7 +130,7 @@ made_owed {width} w = record {
   answers = (refl, w.written);
 }
 
-script_fault_owed : {width : Width} {bytes : List ℕ} {old new : Option (List ℕ)}
+pub script_fault_owed : {width : Width} {bytes : List ℕ} {old new : Option (List ℕ)}
     (fault : ScriptFault) → plan_named width bytes ≡ Err fault →
     IsAnswered (IsScriptReply width bytes) (Status.BadScript fault) old new
 script_fault_owed fault is = record {
@@ -187,37 +139,11 @@ script_fault_owed fault is = record {
   answers = refl;
 }
 
-pub script_verdict : (width : Width) (status : Status) (rest old new : Option (List ℕ)) →
-    HasMakeCauses width status rest old new → IsVerdict status →
-    IfSome rest (λ bytes. IsAnswered (IsScriptReply width bytes) status old new)
-script_verdict width status None old new causes verdict = tt
-script_verdict width Status.Done (Some bytes) old new causes verdict =
-    made_owed (causes.done refl)
-script_verdict width Status.NoSync (Some bytes) old new causes verdict =
-    absurd (causes.others.0 refl)
-script_verdict width (Status.BadFile fault) (Some bytes) old new causes verdict =
-    absurd (causes.others.2 fault refl)
-script_verdict width (Status.BadScript fault) (Some bytes) old new causes verdict =
-    script_fault_owed fault (causes.bad_script fault refl).1
-script_verdict width Status.BadWords (Some bytes) old new causes verdict = absurd verdict
-script_verdict width Status.ReadFault (Some bytes) old new causes verdict = absurd verdict
-script_verdict width Status.WriteFault (Some bytes) old new causes verdict = absurd verdict
-script_verdict width Status.NoMemory (Some bytes) old new causes verdict = absurd verdict
-
-pub script_end : (width : Width) (status : Status) (rest old new : Option (List ℕ)) →
-    HasMakeCauses width status rest old new → IsScriptEnd status
-script_end width Status.Done rest old new causes = tt
-script_end width Status.NoSync rest old new causes = absurd (causes.others.0 refl)
-script_end width (Status.BadFile fault) rest old new causes = absurd (causes.others.2 fault refl)
-script_end width (Status.BadScript fault) rest old new causes = (causes.bad_script fault refl).0
-script_end width Status.BadWords rest old new causes = absurd (causes.others.1 refl)
-script_end width Status.ReadFault rest old new causes = tt
-script_end width Status.WriteFault rest old new causes = tt
-script_end width Status.NoMemory rest old new causes = tt
-
-pub script_part : {width : Width} {rest old new : Option (List ℕ)} →
-    WritesNoMoreMade width rest old new → WritesPart (BeginsMadeFile width rest) old new
-script_part wrote = record { text = wrote.text; written = wrote.written; part = wrote.part }
+-- it is done where it ends well
+pub script_done : (status : Status) → status ≢ Status.NoSync → IsEnd status → status ≡ Status.Done
+script_done status other end =
+    by_end (λ (s : Status). s ≢ Status.NoSync → s ≡ Status.Done) status end (λ never. refl)
+    (λ never. absurd (never refl)) other
 
 -- a read of a script failed
 pub script_cut : (status : Status) → ((fault : FileFault) → status ≢ Status.BadFile fault) →
@@ -231,20 +157,6 @@ script_cut Status.ReadFault never cut = refl
 script_cut Status.WriteFault never cut = absurd cut
 script_cut Status.NoMemory never cut = absurd cut
 
--- a faulty script leaves the sink
-pub script_early : (status : Status) {Same : Type 0} →
-    ((fault : FileFault) → status ≢ Status.BadFile fault) →
-    ((fault : ScriptFault) → status ≡ Status.BadScript fault → Same) →
-    IsEarlyFault status → Same
-script_early Status.Done never same early = absurd early
-script_early Status.NoSync never same early = absurd early
-script_early (Status.BadFile fault) never same early = absurd (never fault refl)
-script_early (Status.BadScript fault) never same early = same fault refl
-script_early Status.BadWords never same early = absurd early
-script_early Status.ReadFault never same early = absurd early
-script_early Status.WriteFault never same early = absurd early
-script_early Status.NoMemory never same early = absurd early
-
 -- ---- a trial
 
 pub record HasTrialCauses (number : ℕ) (ran : Result (Unit {0}) Status) (old new : Option (List ℕ)) :
@@ -252,6 +164,12 @@ pub record HasTrialCauses (number : ℕ) (ran : Result (Unit {0}) Status) (old n
   pub ok : OnOk ran (Appends old new (trial_line number))
   pub err : OnErr ran (AppendsPrefix old new (trial_line number))
   pub failed : IfErr ran (λ status. (status ≡ Status.NoMemory) ⊎ (status ≡ Status.WriteFault))
+
+-- it failed with the status that it ended with
+pub failed_with : (ran : Result (Unit {0}) Status) (status : Status) → status ≢ Status.Done →
+    ended ran ≡ status → ran ≡ Err status
+failed_with (Ok done) status never is = absurd (never (sym is))
+failed_with (Err failed) status never is = ap (λ (s : Status). Err s) is
 
 failed_end : (status : Status) → (status ≡ Status.NoMemory) ⊎ (status ≡ Status.WriteFault) →
     IsTrialEnd status × (¬ (IsVerdict status)) × (¬ (IsEarlyFault status))
@@ -409,7 +327,7 @@ settled held (Ok whole) status (Some now) answers =
 settled held (Err end) status new answers = answers
 
 -- an answer is that of the reply that the input is owed
-owed_answer : (forms : List ℕ) (task : Task) (status : Status) (bytes held : List ℕ) (reply : Reply)
+pub owed_answer : (forms : List ℕ) (task : Task) (status : Status) (bytes held : List ℕ) (reply : Reply)
     (rest old new : Option (List ℕ)) →
     IfSome rest (λ bytes. IsAnswered (IsTaskReply forms task bytes) status old new) →
     rest ≡ Some bytes → old ≡ Some held → IsTaskReply forms task bytes reply →
@@ -432,44 +350,7 @@ named_well (Receive r limits) end = ends_otherwise r.purpose end
 named_well (Make width) end = end
 named_well (Trial number workers) end = end
 
--- where nothing failed
-pub exact_answer : (forms : List ℕ) (task : Task) (status : Status) (rest old new : Option (List ℕ))
-    (R W : Type 0) → IsTaskEnd task status →
-    (IsVerdict status →
-    IfSome rest (λ bytes. IsAnswered (IsTaskReply forms task bytes) status old new)) →
-    (status ≡ Status.ReadFault → R) → (status ≡ Status.WriteFault → W) →
-    (bytes held : List ℕ) (reply : Reply) → rest ≡ Some bytes → old ≡ Some held →
-    IsTaskReply forms task bytes reply → ¬ R → ¬ W →
-    (status ≡ Status.NoMemory) ⊎ AnswersBehind held reply status new
-exact_answer forms task Status.Done rest old new R W end verdict read write bytes held reply is was
-    owed reads writes =
-    inr (owed_answer forms task Status.Done bytes held reply rest old new (verdict tt) is was owed)
-exact_answer forms task Status.NoSync rest old new R W end verdict read write bytes held reply is was
-    owed reads writes =
-    inr (owed_answer forms task Status.NoSync bytes held reply rest old new (verdict tt) is was owed)
-exact_answer forms task (Status.BadFile fault) rest old new R W end verdict read write bytes held
-    reply is was owed reads writes =
-    inr (owed_answer forms task (Status.BadFile fault) bytes held reply rest old new (verdict tt) is
-    was owed)
-exact_answer forms task (Status.BadScript fault) rest old new R W end verdict read write bytes held
-    reply is was owed reads writes =
-    inr (owed_answer forms task (Status.BadScript fault) bytes held reply rest old new (verdict tt)
-    is was owed)
-exact_answer forms task Status.BadWords rest old new R W end verdict read write bytes held reply is
-    was owed reads writes = absurd (named_well task end)
-exact_answer forms task Status.ReadFault rest old new R W end verdict read write bytes held reply is
-    was owed reads writes = absurd (reads (read refl))
-exact_answer forms task Status.WriteFault rest old new R W end verdict read write bytes held reply is
-    was owed reads writes = absurd (writes (write refl))
-exact_answer forms task Status.NoMemory rest old new R W end verdict read write bytes held reply is
-    was owed reads writes = inl refl
-
 -- ---- what was asked for
-
-pub owed_at : (forms : List ℕ) (one other : Task) (bytes : List ℕ) (reply : Reply) → one ≡ other →
-    IsTaskReply forms other bytes reply → IsTaskReply forms one bytes reply
-owed_at forms one other bytes reply same owed =
-    subst (λ (task : Task). IsTaskReply forms task bytes reply) (sym same) owed
 
 pub same_job : (named : Option Job) (one other : Job) → named ≡ Some one → named ≡ Some other →
     one ≡ other
@@ -480,43 +361,3 @@ pub task_named : {named : Option Job} (task : Task) (one other : Job) → task �
     named ≡ Some one → named ≡ Some other → task ≡ task_of other
 task_named {named} task one other is so also =
     is ∙ ap (λ (job : Job). task_of job) (same_job named one other so also)
-
--- so what is said of it is said of the other
-pub said_of : {named : Option Job} {task : Task} {one : Job} (other : Job) (Says : Task → Type 0) →
-    task ≡ task_of one → named ≡ Some one → named ≡ Some other → Says task →
-    Says (task_of other)
-said_of {named} {task} {one} other Says is so also said =
-    subst Says (task_named task one other is so also) said
-
--- what was written by a task was written by the job
-
-pub verdict_at : (forms : List ℕ) (task : Task) (job : Job) (status : Status)
-    (rest old new : Option (List ℕ)) → task ≡ task_of job →
-    (IsVerdict status →
-    IfSome rest (λ bytes. IsAnswered (IsTaskReply forms task bytes) status old new)) →
-    IsVerdict status →
-    IfSome rest (λ bytes. IsAnswered (IsReply forms job bytes) status old new)
-verdict_at forms task job status rest old new same =
-    subst
-    (λ (t : Task). IsVerdict status →
-    IfSome rest (λ bytes. IsAnswered (IsTaskReply forms t bytes) status old new)) same
-
-pub written_at : (forms : List ℕ) (task : Task) (job : Job) (rest left old new : Option (List ℕ)) →
-    task ≡ task_of job → WritesPart (TaskBegins forms task rest left) old new →
-    WritesPart (Begins forms job rest left) old new
-written_at forms task job rest left old new same =
-    subst (λ (t : Task). WritesPart (TaskBegins forms t rest left) old new) same
-
-pub cut_at : (forms : List ℕ) (task : Task) (job : Job) (status : Status)
-    (rest left old new : Option (List ℕ)) → task ≡ task_of job →
-    (IsCut status → TaskTellsFirst forms task rest left old new) → IsCut status →
-    TellsFirst forms job rest left old new
-cut_at forms task job status rest left old new same =
-    subst (λ (t : Task). IsCut status → TaskTellsFirst forms t rest left old new) same
-
-pub long_at : (forms : List ℕ) (task : Task) (job : Job) (status : Status)
-    (rest old new : Option (List ℕ)) → task ≡ task_of job →
-    (IsLong status → TaskTellsAll forms task rest old new) → IsLong status →
-    TellsAll forms job rest old new
-long_at forms task job status rest old new same =
-    subst (λ (t : Task). IsLong status → TaskTellsAll forms t rest old new) same

@@ -1,6 +1,7 @@
 -- Lemmas on runs of the program: one whose output was then passed on, and one that found no memory.
 use Rattle.std.proofs.Common.{◌≡◌, ◌↔◌, ℕ, ◌≤◌, ◌++◌, ◌⊎◌, inl, inr, List, [], ◌∷◌, refl, sym, ap}
-use Rattle.std.proofs.Common.{◌∙◌, subst, arith, map, Option, None, Some, IfSome, Result, Ok, Err, OnOk, OnErr}
+use Rattle.std.proofs.Common.{◌∙◌, subst, arith, map, Option, None, Some, IfSome, Result, Ok, Err}
+use Rattle.std.proofs.Common.{OnOk, OnErr}
 use Rattle.std.specs.Io.KnownBytes.{Keeps}
 use Rattle.std.proofs.KnownBytes.{Appends-kept, Appends-nil, Keeps-refl, Keeps-trans}
 use Rattle.cdma_io.specs.Outside.{Rose}
@@ -11,11 +12,12 @@ use Rattle.cdma_replay.specs.declared.status.Status.{Status}
 use Rattle.cdma_replay.specs.declared.task.Task.{Task}
 use Rattle.cdma_replay.specs.declared.task.Task.TheVariants.{Make, Receive, Trial}
 use Rattle.cdma_replay.specs.Find.{IsEnd}
-use Rattle.cdma_replay.specs.Replies.{Answers, AnswersBehind, Begins, IsAnswered, IsPurposeEnd}
-use Rattle.cdma_replay.specs.Replies.{IsReply, IsTaskEnd, ReadsInput, Reply, TaskTakesNoMore, WritesPart}
+use Rattle.cdma_replay.specs.Replies.{Answers, AnswersBehind, Begins, IsAnswered, IsFileEnd}
+use Rattle.cdma_replay.specs.Replies.{IsPurposeEnd, IsSearchEnd, IsReply, IsTaskEnd, ReadsInput}
+use Rattle.cdma_replay.specs.Replies.{Reply, WritesPart}
 use Rattle.cdma_replay.specs.Runs.{IsNotReading, IsRun, each_form}
 use Rattle.cdma_replay.specs.Tasks.{task_of}
-use Rattle.cdma_replay.proofs.Bounds.{none_most, opening_most}
+use Rattle.cdma_replay.proofs.Bounds.{unread_most}
 
 -- ---- what was written stays
 
@@ -65,32 +67,22 @@ part_kept begins old mid new wrote kept = record {
 
 -- ---- ends that each task has
 
-write_fault_for : (purpose : Purpose) → IsPurposeEnd purpose Status.WriteFault
-write_fault_for purposes.Find = tt
-write_fault_for (purposes.Follow receiver) = tt
-write_fault_for (purposes.Tuned fingers channel text) = tt
-write_fault_for (purposes.Survey base width top) = tt
+each_purpose : (purpose : Purpose) (status : Status) → IsSearchEnd status → IsFileEnd status →
+    IsPurposeEnd purpose status
+each_purpose purposes.Find status search file = search
+each_purpose (purposes.Follow receiver) status search file = file
+each_purpose (purposes.Tuned fingers channel text) status search file = file
+each_purpose (purposes.Survey base width top) status search file = search
 
 write_fault_end : (task : Task) → IsTaskEnd task Status.WriteFault
-write_fault_end (Receive r limits) = write_fault_for r.purpose
+write_fault_end (Receive r limits) = each_purpose r.purpose Status.WriteFault tt tt
 write_fault_end (Make width) = tt
 write_fault_end (Trial number workers) = tt
 
-no_memory_for : (purpose : Purpose) → IsPurposeEnd purpose Status.NoMemory
-no_memory_for purposes.Find = tt
-no_memory_for (purposes.Follow receiver) = tt
-no_memory_for (purposes.Tuned fingers channel text) = tt
-no_memory_for (purposes.Survey base width top) = tt
-
 no_memory_end : (task : Task) → IsTaskEnd task Status.NoMemory
-no_memory_end (Receive r limits) = no_memory_for r.purpose
+no_memory_end (Receive r limits) = each_purpose r.purpose Status.NoMemory tt tt
 no_memory_end (Make width) = tt
 no_memory_end (Trial number workers) = tt
-
-none_taken : (task : Task) (rest : Option (List ℕ)) → TaskTakesNoMore task rest rest
-none_taken (Receive r limits) rest = opening_most rest rest (none_most 16 rest)
-none_taken (Make width) rest = none_most 1048577 rest
-none_taken (Trial number workers) rest = none_most 0 rest
 
 -- ---- runs
 
@@ -116,7 +108,7 @@ starved_run forms named rest old Misread Miswritten = record {
   memory = λ is. Keeps-refl old;
   at_end = λ job is reads end. absurd end;
   written = λ job is. record { text = []; written = Appends-nil old; part = inl refl };
-  bound = λ job is. none_taken (task_of job) rest;
+  bound = λ job is. unread_most (task_of job) rest;
 }
 
 neither : (status : Status) → IsEnd status →

@@ -17,8 +17,8 @@ use Rattle.clean_link.proofs.signal.Samples.{length-made}
 use Rattle.tuned_listener.specs.declared.tuned_text.TunedText.{TunedText}
 use Rattle.tuned_listener.specs.declared.tuned_text.TunedText.TheVariants.{Listed, RateSetTwo}
 use Rattle.cdma_replay.specs.CleanFiles.{IsCellFile}
-use Rattle.cdma_replay.specs.Hearing.{clean_end, end_when, file_end_of, file_text}
-use Rattle.cdma_replay.specs.Hearing.{tuning_for, waiting}
+use Rattle.cdma_replay.specs.Hearing.{clean_end, end_when, file_end_of, file_text, tuning_for}
+use Rattle.cdma_replay.specs.Hearing.{waiting}
 use Rattle.cdma_replay.specs.Replies.{IsFileReply, Reply}
 use Rattle.cdma_replay.specs.SentLines.{IsLineOfSetOne, IsLineOfSetTwo, IsSentText, LinesComeBack}
 use Rattle.cdma_replay.specs.SentReplies.{IsHeardFrom, IsSentReply, ListRepliesComeBack}
@@ -28,9 +28,9 @@ use Rattle.cdma_replay.specs.declared.handset.Receiver.{Receiver}
 use Rattle.cdma_replay.specs.declared.receiving.Reception.{Reception}
 use Rattle.cell_script.proofs.NamedPages.{named_receivable}
 use Rattle.cdma_replay.proofs.CleanTexts.{on_path}
-use Rattle.cdma_replay.proofs.Replies.{one_file_reply}
+use Rattle.cdma_replay.proofs.Replies.{one_file_reply, whole_file}
 use Rattle.cdma_replay.proofs.SentLines.{listed_lines, set_two_lines}
-use Rattle.cdma_replay.proofs.SleepLaw.{end_heard, text_heard, whole_reply}
+use Rattle.cdma_replay.proofs.SleepLaw.{end_heard, text_heard}
 
 -- each whole sending tells the time
 pub cell_end : (width : Width) (script : List ℕ) (plan : CellPlan) (span : ℕ) (receiver : Receiver)
@@ -85,7 +85,7 @@ module _ (form : TunedText) (Sends : TrafficPlan → Type 0)
       subst (IsSentReply plan p (Is plan p))
       (one_file_reply [] r bytes
       (Ok (file_text [] r header samples, file_end_of r header samples)) reply
-      (whole_reply [] r bytes header samples heard.file heard.enough) owed)
+      (whole_file heard.file heard.enough) owed)
       (text_is, end_is)
 
 -- ---- the laws

@@ -1,10 +1,9 @@
 -- What is owed of a file whose slots a sleeping handset hears doesn't hang on what it sleeps through.
-use Rattle.std.proofs.Common.{◌≡◌, ℕ, ◌≤◌, ◌++◌, List, [], length, take, refl, sym, ap}
-use Rattle.std.proofs.Common.{◌∙◌, subst, arith, Option, Some, Ok}
+use Rattle.std.proofs.Common.{◌≡◌, ℕ, ◌≤◌, ◌++◌, List, [], length, take, sym, ap, ◌∙◌, subst, arith}
+use Rattle.std.proofs.Common.{Option, Some, Ok}
 use Rattle.std.specs.Prelude.{is_some}
 use Rattle.std.proofs.lemmas.List.{take-take}
 use Rattle.chip_core.specs.declared.sample.Sample.{Sample}
-use Rattle.cdma_io.specs.SampleFile.{IsSampleFile}
 use Rattle.cdma_io.specs.declared.header.Header.{Header}
 use Rattle.event_tap.specs.Taps.{KeptTap}
 use Rattle.mobile_core.specs.Marks.{mark}
@@ -21,15 +20,15 @@ use Rattle.tuned_listener.specs.declared.tuned_text.TunedText.{TunedText}
 use Rattle.tuned_listener.specs.declared.tuned_text.TunedText.TheVariants.{Slots}
 use Rattle.tuned_listener.proofs.Sleep.{same_mark, sleeps}
 use Rattle.tuned_listener.proofs.SlotTimes.{mark_is_late}
-use Rattle.cdma_replay.specs.Hearing.{end_when, file_end_of, file_text, first_text, is_told, listening}
-use Rattle.cdma_replay.specs.Hearing.{told, tuning_for, waiting}
+use Rattle.cdma_replay.specs.Hearing.{end_when, file_end_of, file_text, first_text, is_told}
+use Rattle.cdma_replay.specs.Hearing.{listening, told, tuning_for, waiting}
 use Rattle.cdma_replay.specs.Replies.{IsFileReply, Reply}
 use Rattle.cdma_replay.specs.SleepLaw.{SleepChangesNoReply}
 use Rattle.cdma_replay.specs.declared.purpose.Purpose.{Purpose}
 use Rattle.cdma_replay.specs.declared.purpose.Purpose.TheVariants.{Tuned}
 use Rattle.cdma_replay.specs.declared.receiving.Reception.{Reception}
 use Rattle.cdma_replay.proofs.NearPaths.{waiting_near}
-use Rattle.cdma_replay.proofs.Replies.{one_file_reply}
+use Rattle.cdma_replay.proofs.Replies.{one_file_reply, whole_file}
 
 -- ---- the mark
 
@@ -75,19 +74,6 @@ end_heard r fingers channel text header samples purpose =
     (λ (p : Purpose). end_when (is_told (listening [] p header (take r.span samples)) samples))
     purpose
 
--- the reply that a sample file is owed
-pub whole_reply : (taps : List KeptTap) (r : Reception) (bytes : List ℕ) (header : Header)
-    (samples : List Sample) → IsSampleFile bytes header samples → r.span ≤ length samples →
-    IsFileReply taps r bytes (Ok (file_text taps r header samples, file_end_of r header samples))
-whole_reply taps r bytes header samples file enough = record {
-  header = header;
-  samples = samples;
-  file = file;
-  enough = enough;
-  text_is = refl;
-  end_is = refl;
-}
-
 -- two files that are owed one reply are owed no other
 owed_too : (taps : List KeptTap) (r : Reception) (bytes changed : List ℕ) (both reply : Reply) →
     IsFileReply taps r bytes both → IsFileReply taps r changed both →
@@ -123,10 +109,10 @@ sleep_changes_no_reply r fingers number key cycle header one other bytes changed
     ∙ ap (λ (k : Tuning). end_when (is_some (mark k other (length other)))) (sym tuned_too)
     ∙ sym (end_heard r fingers (Paging number) (Slots key cycle) header other purpose) in
     let both : Reply = Ok (file_text [] r header one, file_end_of r header one) in
-    let here : IsFileReply [] r bytes both = whole_reply [] r bytes header one file enough in
+    let here : IsFileReply [] r bytes both = whole_file file enough in
     let there : IsFileReply [] r changed both =
     rw (texts, ends)
-    (whole_reply [] r changed header other file' (omega (arith, enough, long))) in (
+    (whole_file file' (omega (arith, enough, long))) in (
       owed_too [] r bytes changed both reply here there,
       owed_too [] r changed bytes both reply there here,
     )

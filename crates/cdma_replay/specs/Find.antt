@@ -39,6 +39,18 @@ pub record BeginsFile (span : ℕ) (bytes : List ℕ) : Type 0 where
   pub begins : StartsWith bytes
       (header_spelling header ++ flat_map (sample_spelling (width_of header)) samples)
 
+-- known bytes, which open with this lawful header, lost it and as many samples as the span is, each
+-- within its width; so many of those that it counts are left
+pub record TakesSpan (span : ℕ) (header : Header) (samples : List Sample) (count : ℕ)
+    (rest mid : Option (List ℕ)) : Type 0 where
+  pub lawful : IsLawfulHeader header
+  pub counted : length samples ≡ span
+  pub left : count + span ≡ header.count
+  pub in_range : All (HasBits (width_of header)) samples
+  pub consumed : Consumes rest mid
+      (header_spelling header ++ flat_map (sample_spelling (width_of header)) samples)
+  pub opened : IfSome rest (λ bytes. opening bytes ≡ Ok header)
+
 -- known bytes lost the spellings of so many samples of this width
 pub record PassesSamples (width : Width) (count : ℕ) (old new : Option (List ℕ)) : Type 0 where
   pub samples : List Sample

@@ -15,6 +15,7 @@ pub mod SentReplies
 pub mod SleepLaw
 pub mod SlotReplies
 pub mod Status
+pub mod TaskRuns
 pub mod Tasks
 pub mod Trials
 pub mod TuningLaw

@@ -1,14 +1,14 @@
 //! The command `make`: the samples of the cell that a script names, as a file.
 
-ghost use Rattle.std.specs.Prelude.{◌≡◌, ◌≢◌, ◌<◌, ◌≤◌, ◌*◌, ◌⊎◌, length, vec_len, Ok, Err};
-ghost use Rattle.std.specs.Prelude.{IsOk, IfOk, IfErr, OnOk, IfSome};
+ghost use Rattle.std.specs.Prelude.{◌≡◌, ◌≢◌, ◌<◌, ◌≤◌, ◌*◌, length, vec_len, Ok, Err, IsOk, IfOk};
+ghost use Rattle.std.specs.Prelude.{IfErr, OnOk, IfSome};
 ghost use Rattle.std.specs.Io.KnownBytes.{IsAtEnd};
 ghost use Rattle.cdma_io.specs.declared.file_fault.FileFault.{FileFault};
 ghost use Rattle.cdma_io.specs.Outside.{ConsumesAtMost, Rose};
 ghost use Rattle.cell_script.specs.declared.script_fault.ScriptFault.{ScriptFault};
 ghost use Rattle.cell_script.specs.Script.{plan_named};
 ghost use Rattle.cdma_replay.specs.Find.{ended};
-ghost use Rattle.cdma_replay.specs.Make.{WritesMadeFile, WritesNoMoreMade};
+ghost use Rattle.cdma_replay.specs.TaskRuns.{MakesFile};
 
 mod writing;
 
@@ -94,29 +94,11 @@ fn make_file<S: Source, K: Sink>(
     requires script { length script.old ≡ MOST_READ }
     requires samples { length samples.old ≡ PIECE }
     requires bytes { length bytes.old ≡ 4 * PIECE }
-    ensures done { ended result ≡ Status.Done → IfSome (S.rest source.old) (λ bytes.
-        WritesMadeFile width bytes (K.written sink.old) (K.written sink.new)) }
-    ensures at_end { ended result ≡ Status.Done → IsAtEnd (S.rest source.new) }
-    ensures others { (ended result ≢ Status.NoSync) × (ended result ≢ Status.BadWords) ×
-        ((fault : FileFault) → ended result ≢ Status.BadFile fault) }
-    ensures memory { ended result ≡ Status.NoMemory → sink.new ≡ sink.old }
-    ensures early { ended result ≡ Status.NoMemory →
-        IfSome (S.rest source.old) (λ bytes. IsOk (plan_named width bytes)) }
-    ensures bad_script { (fault : ScriptFault) → ended result ≡ Status.BadScript fault →
-        (fault ≢ ScriptFault.OutOfMemory) × (sink.new ≡ sink.old) ×
-        IfSome (S.rest source.old) (λ bytes. plan_named width bytes ≡ Err fault) }
-    ensures read_fault { ended result ≡ Status.ReadFault →
-        Rose (S.faults source.old) (S.faults source.new) }
-    ensures unwritten { ended result ≡ Status.ReadFault → sink.new ≡ sink.old }
-    ensures write_fault { ended result ≡ Status.WriteFault →
-        Rose (K.faults sink.old) (K.faults sink.new) }
-    ensures lawful { ended result ≡ Status.WriteFault →
-        IfSome (S.rest source.old) (λ bytes. IsOk (plan_named width bytes)) }
-    ensures written { WritesNoMoreMade width (S.rest source.old) (K.written sink.old)
-        (K.written sink.new) }
-    ensures bound { ConsumesAtMost 1048577 (S.rest source.old) (S.rest source.new) }
-    ensures later_source { S.faults source.old ≤ S.faults source.new }
-    ensures later_sink { K.faults sink.old ≤ K.faults sink.new }
+    ensures { MakesFile width (ended result)
+        (S.rest source.old) (S.rest source.new) (S.faults source.old) (S.faults source.new)
+        (source.new ≡ source.old)
+        (K.written sink.old) (K.written sink.new) (K.faults sink.old) (K.faults sink.new)
+        (sink.new ≡ sink.old) }
 {
     let mut cell = open_cell(alloc, width, script, source)?;
     match write_cell(&mut cell, width, samples, bytes, sink) {
@@ -136,29 +118,11 @@ pub fn make<S: Source, K: Sink>(
     source: &mut S,
     sink: &mut K,
 ) -> Result<(), Status>
-    ensures done { ended result ≡ Status.Done → IfSome (S.rest source.old) (λ bytes.
-        WritesMadeFile width bytes (K.written sink.old) (K.written sink.new)) }
-    ensures at_end { ended result ≡ Status.Done → IsAtEnd (S.rest source.new) }
-    ensures others { (ended result ≢ Status.NoSync) × (ended result ≢ Status.BadWords) ×
-        ((fault : FileFault) → ended result ≢ Status.BadFile fault) }
-    ensures memory { ended result ≡ Status.NoMemory → sink.new ≡ sink.old }
-    ensures early { ended result ≡ Status.NoMemory → (source.new ≡ source.old) ⊎
-        IfSome (S.rest source.old) (λ bytes. IsOk (plan_named width bytes)) }
-    ensures bad_script { (fault : ScriptFault) → ended result ≡ Status.BadScript fault →
-        (fault ≢ ScriptFault.OutOfMemory) × (sink.new ≡ sink.old) ×
-        IfSome (S.rest source.old) (λ bytes. plan_named width bytes ≡ Err fault) }
-    ensures read_fault { ended result ≡ Status.ReadFault →
-        Rose (S.faults source.old) (S.faults source.new) }
-    ensures unwritten { ended result ≡ Status.ReadFault → sink.new ≡ sink.old }
-    ensures write_fault { ended result ≡ Status.WriteFault →
-        Rose (K.faults sink.old) (K.faults sink.new) }
-    ensures lawful { ended result ≡ Status.WriteFault →
-        IfSome (S.rest source.old) (λ bytes. IsOk (plan_named width bytes)) }
-    ensures written { WritesNoMoreMade width (S.rest source.old) (K.written sink.old)
-        (K.written sink.new) }
-    ensures bound { ConsumesAtMost 1048577 (S.rest source.old) (S.rest source.new) }
-    ensures later_source { S.faults source.old ≤ S.faults source.new }
-    ensures later_sink { K.faults sink.old ≤ K.faults sink.new }
+    ensures { MakesFile width (ended result)
+        (S.rest source.old) (S.rest source.new) (S.faults source.old) (S.faults source.new)
+        (source.new ≡ source.old)
+        (K.written sink.old) (K.written sink.new) (K.faults sink.old) (K.faults sink.new)
+        (sink.new ≡ sink.old) }
 {
     let Workspace {
         mut script,

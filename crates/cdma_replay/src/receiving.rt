@@ -1,28 +1,22 @@
 //! How a sample file is received: what its first samples show, and what is heard in all.
 
-ghost use Rattle.std.specs.Prelude.{◌≡◌, ◌≢◌, ◌≤◌, ◌+◌, ◌*◌, ◌++◌, ◌⊎◌};
-ghost use Rattle.std.specs.Prelude.{List, length, All, Err, None, Ok, IfOk};
-ghost use Rattle.std.specs.Prelude.{OnOk, IfErr, OnErr, IfSome};
-ghost use Rattle.std.specs.List.{flat_map};
-ghost use Rattle.std.specs.Io.KnownBytes.{Consumes, IsAtEnd};
+ghost use Rattle.std.specs.Prelude.{◌≡◌, ◌≢◌, ◌≤◌, ◌+◌, ◌*◌, List, length, All, Err, None, Ok};
+ghost use Rattle.std.specs.Prelude.{IfOk, OnOk, IfErr, OnErr, IfSome};
+ghost use Rattle.std.specs.Io.KnownBytes.{IsAtEnd};
 ghost use Rattle.cdma_io.specs.declared.file_fault.FileFault.{FileFault};
 ghost use Rattle.cdma_io.specs.Outside.{ConsumesAtMost, Rose};
-ghost use Rattle.cdma_io.specs.SampleFile.{HasBits, IsLawfulHeader, header_spelling, opening};
-ghost use Rattle.cdma_io.specs.SampleFile.{sample_len};
-ghost use Rattle.cdma_io.specs.SampleFile.{sample_spelling, width_of};
+ghost use Rattle.cdma_io.specs.SampleFile.{sample_len, width_of};
 ghost use Rattle.event_tap.specs.Taps.{IsKept};
 ghost use Rattle.cdma_words.specs.Words.{IsWorkers};
 ghost use Rattle.chip_core.specs.declared.sample.Sample.{Sample};
-ghost use Rattle.cdma_replay.specs.Hearing.{HasRoom, HearsPart, HearsRest, IsUnheard, Listening};
-ghost use Rattle.cdma_replay.specs.Hearing.{Listens, end_when};
+ghost use Rattle.cdma_replay.specs.Hearing.{HasRoom, HearsPart, HearsRest, Listening, Listens};
+ghost use Rattle.cdma_replay.specs.Hearing.{end_when};
 ghost use Rattle.cdma_replay.specs.Openings.{IsLawfulPurpose};
 ghost use Rattle.cdma_replay.specs.Broken.{HearsFirst, IsCut, IsLong, IsUnopened, TakesFew};
-ghost use Rattle.cdma_replay.specs.Broken.{WritesAll, WritesFirst};
-ghost use Rattle.cdma_replay.specs.Find.{BeginsFile, IsEnd, IsFault, IsFaultIn, IsOfFiles};
-ghost use Rattle.cdma_replay.specs.Find.{IsHeaderFault, IsRestFault, IsSearchable, TakesNoMore};
-ghost use Rattle.cdma_replay.specs.Find.{WritesNoMore};
-ghost use Rattle.cdma_replay.specs.Find.{WritesText, ended};
+ghost use Rattle.cdma_replay.specs.Find.{IsEnd, IsFault, IsFaultIn, IsHeaderFault, IsRestFault};
+ghost use Rattle.cdma_replay.specs.Find.{IsSearchable, TakesNoMore, TakesSpan, ended};
 ghost use Rattle.cdma_replay.specs.Status.{file_status};
+ghost use Rattle.cdma_replay.specs.TaskRuns.{ReceivesFile};
 
 use crate::listener::Listener;
 use crate::opening::{find_first, listener_for, tell_first};
@@ -50,12 +44,9 @@ pub struct Reception {
 
 /// Opens a sample file and reads its first samples, as many as `span` has room for.
 fn open_span<S: Source>(source: &mut S, span: &mut [Sample]) -> Result<SampleReader, FileFault>
-    ensures file { IfOk result (λ r. Consumes (S.rest source.old) (S.rest source.new)
-        (header_spelling r.header ++ flat_map (sample_spelling (width_of r.header)) span.new)) }
-    ensures in_range { IfOk result (λ r. All (HasBits (width_of r.header)) span.new) }
-    ensures lawful { IfOk result (λ r. IsLawfulHeader r.header) }
-    ensures reader { IfOk result (λ r. (r.left + length span.old ≡ r.header.count) ×
-        (r.fault ≡ None)) }
+    ensures taken { IfOk result (λ r. TakesSpan (length span.old) r.header span.new r.left
+        (S.rest source.old) (S.rest source.new)) }
+    ensures good { IfOk result (λ r. r.fault ≡ None) }
     ensures fault { IfErr result (λ e. e ≢ FileFault.ReadFault →
         IfSome (S.rest source.old) (λ bytes. ¬ (IsSearchable bytes (length span.old)))) }
     ensures place { IfErr result (λ e. e ≢ FileFault.ReadFault →
@@ -65,8 +56,6 @@ fn open_span<S: Source>(source: &mut S, span: &mut [Sample]) -> Result<SampleRea
     ensures few { OnErr result
         (TakesFew (length span.old) (S.rest source.old) (S.rest source.new)) }
     ensures bound { OnErr result (TakesNoMore (S.rest source.old) (S.rest source.new)) }
-    ensures told { IfOk result (λ r. IfSome (S.rest source.old)
-        (λ bytes. opening bytes ≡ Ok r.header)) }
     ensures no_longer { IfErr result (λ e. IsLong (file_status e) →
         IsUnopened (S.rest source.old)) }
     ensures later { S.faults source.old ≤ S.faults source.new }
@@ -173,40 +162,11 @@ fn receive_file<R: Threads + Sync, S: Source, K: Sink, T: KeepsTaps, G: Gate + S
     requires purpose { IsLawfulPurpose reception.purpose }
     requires piece { length piece.old ≡ 4096 }
     requires kept { All IsKept (T.kept taps) }
-    ensures done { IsEnd (ended result) → IfSome (S.rest source.old) (λ bytes.
-        WritesText (T.kept taps) reception (ended result) bytes
-        (K.written sink.old) (K.written sink.new)) }
-    ensures at_end { IsEnd (ended result) → IsAtEnd (S.rest source.new) }
-    ensures others { IsOfFiles (ended result) }
-    ensures memory { ended result ≡ Status.NoMemory → sink.new ≡ sink.old }
-    ensures early { ended result ≡ Status.NoMemory →
-        IfSome (S.rest source.old) (BeginsFile reception.span) }
-    ensures alone { IsUnheard reception.purpose → ended result ≢ Status.NoSync }
-    ensures bad_file { (fault : FileFault) → ended result ≡ Status.BadFile fault →
-        (fault ≢ FileFault.ReadFault) ×
-        IfSome (S.rest source.old) (λ bytes. ¬ (IsSearchable bytes reception.span)) }
-    ensures place { (fault : FileFault) → ended result ≡ Status.BadFile fault →
-        IfSome (S.rest source.old) (λ bytes. IsFaultIn reception.span bytes fault) }
-    ensures read_fault { ended result ≡ Status.ReadFault →
-        Rose (S.faults source.old) (S.faults source.new) }
-    ensures write_fault { ended result ≡ Status.WriteFault →
-        Rose (K.faults sink.old) (K.faults sink.new) }
-    ensures begun { ended result ≡ Status.WriteFault →
-        IfSome (S.rest source.old) (BeginsFile reception.span) }
-    ensures header { (fault : FileFault) → ended result ≡ Status.BadFile fault →
-        IsHeaderFault fault → sink.new ≡ sink.old }
-    ensures header_alone { (fault : FileFault) → ended result ≡ Status.BadFile fault →
-        IsHeaderFault fault →
-        ConsumesAtMost 16 (S.rest source.old) (S.rest source.new) }
-    ensures bound { TakesNoMore (S.rest source.old) (S.rest source.new) }
-    ensures written { WritesNoMore (T.kept taps) reception (S.rest source.old)
-        (S.rest source.new) (K.written sink.old) (K.written sink.new) }
-    ensures cut { IsCut (ended result) → WritesFirst (T.kept taps) reception (S.rest source.old)
-        (S.rest source.new) (K.written sink.old) (K.written sink.new) }
-    ensures long { IsLong (ended result) → WritesAll (T.kept taps) reception (S.rest source.old)
-        (K.written sink.old) (K.written sink.new) }
-    ensures later_source { S.faults source.old ≤ S.faults source.new }
-    ensures later_sink { K.faults sink.old ≤ K.faults sink.new }
+    ensures { ReceivesFile (T.kept taps) reception (ended result)
+        (S.rest source.old) (S.rest source.new) (S.faults source.old) (S.faults source.new)
+        (source.new ≡ source.old)
+        (K.written sink.old) (K.written sink.new) (K.faults sink.old) (K.faults sink.new)
+        (sink.new ≡ sink.old) }
 {
     let mut reader = open_span(source, span)?;
     let Reception {
@@ -247,40 +207,11 @@ pub fn receive<R: Threads + Sync, S: Source, K: Sink, T: KeepsTaps, G: Gate + Sy
     requires workers { IsWorkers reception.workers }
     requires purpose { IsLawfulPurpose reception.purpose }
     requires kept { All IsKept (T.kept taps) }
-    ensures done { IsEnd (ended result) → IfSome (S.rest source.old) (λ bytes.
-        WritesText (T.kept taps) reception (ended result) bytes
-        (K.written sink.old) (K.written sink.new)) }
-    ensures at_end { IsEnd (ended result) → IsAtEnd (S.rest source.new) }
-    ensures others { IsOfFiles (ended result) }
-    ensures memory { ended result ≡ Status.NoMemory → sink.new ≡ sink.old }
-    ensures early { ended result ≡ Status.NoMemory → (source.new ≡ source.old) ⊎
-        IfSome (S.rest source.old) (BeginsFile reception.span) }
-    ensures alone { IsUnheard reception.purpose → ended result ≢ Status.NoSync }
-    ensures bad_file { (fault : FileFault) → ended result ≡ Status.BadFile fault →
-        (fault ≢ FileFault.ReadFault) ×
-        IfSome (S.rest source.old) (λ bytes. ¬ (IsSearchable bytes reception.span)) }
-    ensures place { (fault : FileFault) → ended result ≡ Status.BadFile fault →
-        IfSome (S.rest source.old) (λ bytes. IsFaultIn reception.span bytes fault) }
-    ensures read_fault { ended result ≡ Status.ReadFault →
-        Rose (S.faults source.old) (S.faults source.new) }
-    ensures write_fault { ended result ≡ Status.WriteFault →
-        Rose (K.faults sink.old) (K.faults sink.new) }
-    ensures begun { ended result ≡ Status.WriteFault →
-        IfSome (S.rest source.old) (BeginsFile reception.span) }
-    ensures header { (fault : FileFault) → ended result ≡ Status.BadFile fault →
-        IsHeaderFault fault → sink.new ≡ sink.old }
-    ensures header_alone { (fault : FileFault) → ended result ≡ Status.BadFile fault →
-        IsHeaderFault fault →
-        ConsumesAtMost 16 (S.rest source.old) (S.rest source.new) }
-    ensures bound { TakesNoMore (S.rest source.old) (S.rest source.new) }
-    ensures written { WritesNoMore (T.kept taps) reception (S.rest source.old)
-        (S.rest source.new) (K.written sink.old) (K.written sink.new) }
-    ensures cut { IsCut (ended result) → WritesFirst (T.kept taps) reception (S.rest source.old)
-        (S.rest source.new) (K.written sink.old) (K.written sink.new) }
-    ensures long { IsLong (ended result) → WritesAll (T.kept taps) reception (S.rest source.old)
-        (K.written sink.old) (K.written sink.new) }
-    ensures later_source { S.faults source.old ≤ S.faults source.new }
-    ensures later_sink { K.faults sink.old ≤ K.faults sink.new }
+    ensures { ReceivesFile (T.kept taps) reception (ended result)
+        (S.rest source.old) (S.rest source.new) (S.faults source.old) (S.faults source.new)
+        (source.new ≡ source.old)
+        (K.written sink.old) (K.written sink.new) (K.faults sink.old) (K.faults sink.new)
+        (sink.new ≡ sink.old) }
 {
     let Workspace {
         codes,

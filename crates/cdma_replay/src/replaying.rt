@@ -1,7 +1,7 @@
 //! The top call: all that the program does.
 
-ghost use Rattle.std.specs.Prelude.{◌≡◌, ◌≤◌, ◌++◌, ◌⊎◌, ◌↔◌, ℕ, List, [], map};
-ghost use Rattle.std.specs.Prelude.{None, Option, Some, IfSome, length, option_map};
+ghost use Rattle.std.specs.Prelude.{◌≡◌, ◌≤◌, ◌++◌, ◌⊎◌, ◌↔◌, ℕ, List, map, None, Option, Some};
+ghost use Rattle.std.specs.Prelude.{IfSome, length};
 ghost use Rattle.std.specs.Io.KnownBytes.{Appends, IsAtEnd};
 ghost use Rattle.chip_core.specs.declared.sample.Sample.{Sample};
 ghost use Rattle.cdma_io.specs.declared.file_fault.FileFault.{FileFault};
@@ -19,19 +19,16 @@ ghost use Rattle.cdma_words.specs.declared.job.Job.TheVariants.{Follow, Trial};
 ghost use Rattle.chip_core.specs.declared.assignment.Traffic.{Traffic as TheTraffic};
 ghost use Rattle.cdma_words.specs.Words.{IsWorkers, job_named};
 ghost use Rattle.cdma_replay.specs.CleanLinks.{WritesEach};
-ghost use Rattle.cdma_replay.specs.Broken.{IsCut, IsLong, WritesAll, WritesFirst};
-ghost use Rattle.cdma_replay.specs.Find.{BeginsFile, BeginsText, IsEnd, IsHeaderFault, TakesNoMore};
-ghost use Rattle.cdma_replay.specs.Find.{ended};
+ghost use Rattle.cdma_replay.specs.Broken.{IsCut, IsLong};
+ghost use Rattle.cdma_replay.specs.Find.{IsEnd, IsHeaderFault, ended};
 ghost use Rattle.cdma_replay.specs.Hearing.{clean_end, clean_events};
 ghost use Rattle.cdma_replay.specs.Openings.{IsLawfulPurpose};
 ghost use Rattle.cdma_replay.specs.Replies.{AnswersBehind, Begins, BoundsInput, IsAnswered};
-ghost use Rattle.cdma_replay.specs.Replies.{IsEarlyFault, TaskTakesNoMore};
-ghost use Rattle.cdma_replay.specs.Replies.{IsEndOf, IsFileReply, IsPromising, IsPurposeEnd, IsReply, IsTaskEnd};
-ghost use Rattle.cdma_replay.specs.Replies.{IsTaskPromising, IsTaskReply, IsVerdict, ReadsInput};
-ghost use Rattle.cdma_replay.specs.Replies.{ReadsWell, Reply, TaskBegins, TaskReadsInput};
-ghost use Rattle.cdma_replay.specs.Replies.{TaskTellsAll, TaskTellsFirst, TellsAll, TellsFirst};
+ghost use Rattle.cdma_replay.specs.Replies.{IsEarlyFault, IsEndOf, IsPromising, IsReply, IsVerdict};
+ghost use Rattle.cdma_replay.specs.Replies.{ReadsInput, ReadsWell, Reply, TellsAll, TellsFirst};
 ghost use Rattle.cdma_replay.specs.Replies.{WritesPart};
-ghost use Rattle.cdma_replay.specs.Tasks.{IsLawfulTask};
+ghost use Rattle.cdma_replay.specs.TaskRuns.{RunsTask};
+ghost use Rattle.cdma_replay.specs.Tasks.{IsLawfulTask, untapped};
 ghost use Rattle.cdma_replay.specs.Trials.{trial_line};
 
 use crate::making::make;
@@ -68,31 +65,11 @@ fn receive_untapped<R: Threads + Sync, S: Source, K: Sink, G: Gate + Sync>(
     requires span { reception.span ≤ 32768 }
     requires workers { IsWorkers reception.workers }
     requires purpose { IsLawfulPurpose reception.purpose }
-    ensures kind { IsPurposeEnd reception.purpose result }
-    ensures verdict { IsVerdict result → IfSome (S.rest source.old) (λ bytes.
-        IsAnswered (IsFileReply [] reception bytes) result (K.written sink.old)
-        (K.written sink.new)) }
-    ensures read_fault { result ≡ Status.ReadFault →
-        Rose (S.faults source.old) (S.faults source.new) }
-    ensures write_fault { result ≡ Status.WriteFault →
-        Rose (K.faults sink.old) (K.faults sink.new) ×
-        IfSome (S.rest source.old) (BeginsFile reception.span) }
-    ensures memory { result ≡ Status.NoMemory → (sink.new ≡ sink.old) ×
-        ((source.new ≡ source.old) ⊎ IfSome (S.rest source.old) (BeginsFile reception.span)) }
-    ensures early { IsEarlyFault result → sink.new ≡ sink.old }
-    ensures header { (fault : FileFault) → result ≡ Status.BadFile fault → IsHeaderFault fault →
-        ConsumesAtMost 16 (S.rest source.old) (S.rest source.new) }
-    ensures at_end { IsEnd result → IsAtEnd (S.rest source.new) }
-    ensures bound { TakesNoMore (S.rest source.old) (S.rest source.new) }
-    ensures written { WritesPart
-        (BeginsText [] reception (S.rest source.old) (S.rest source.new))
-        (K.written sink.old) (K.written sink.new) }
-    ensures cut { IsCut result → WritesFirst [] reception (S.rest source.old) (S.rest source.new)
-        (K.written sink.old) (K.written sink.new) }
-    ensures long { IsLong result → WritesAll [] reception (S.rest source.old)
-        (K.written sink.old) (K.written sink.new) }
-    ensures later_source { S.faults source.old ≤ S.faults source.new }
-    ensures later_sink { K.faults sink.old ≤ K.faults sink.new }
+    ensures { (forms : List ℕ) → RunsTask forms (untapped reception) result
+        (S.rest source.old) (S.rest source.new) (S.faults source.old) (S.faults source.new)
+        (source.new ≡ source.old)
+        (K.written sink.old) (K.written sink.new) (K.faults sink.old) (K.faults sink.new)
+        (sink.new ≡ sink.old) }
 {
     let taps = Taps::new(Vec::new(alloc), [0; 4]);
     status_of(receive(rt, alloc, reception, source, sink, taps, gate))
@@ -109,34 +86,11 @@ fn run_task<R: Threads + Sync, S: Source, K: Sink, G: Gate + Sync>(
     gate: &G,
 ) -> Status
     requires { IsLawfulTask task }
-    ensures kind { IsTaskEnd task result }
-    ensures verdict { IsVerdict result → IfSome (S.rest source.old) (λ bytes.
-        IsAnswered (IsTaskReply (map (λ b. shape b) taps.items) task bytes) result
-        (K.written sink.old) (K.written sink.new)) }
-    ensures read_fault { result ≡ Status.ReadFault →
-        Rose (S.faults source.old) (S.faults source.new) }
-    ensures write_fault { result ≡ Status.WriteFault →
-        Rose (K.faults sink.old) (K.faults sink.new) ×
-        IfSome (S.rest source.old) (IsTaskPromising task) }
-    ensures memory { result ≡ Status.NoMemory → (sink.new ≡ sink.old) ×
-        ((source.new ≡ source.old) ⊎ IfSome (S.rest source.old) (IsTaskPromising task)) }
-    ensures early { IsEarlyFault result → sink.new ≡ sink.old }
-    ensures header { (fault : FileFault) → result ≡ Status.BadFile fault → IsHeaderFault fault →
-        ConsumesAtMost 16 (S.rest source.old) (S.rest source.new) }
-    ensures at_end { TaskReadsInput task → IsEnd result → IsAtEnd (S.rest source.new) }
-    ensures unread { ¬ (TaskReadsInput task) → source.new ≡ source.old }
-    ensures bound { TaskTakesNoMore task (S.rest source.old) (S.rest source.new) }
-    ensures trial { (number workers : ℕ) → task ≡ Task.Trial number workers → result ≡ Status.Done →
-        Appends (K.written sink.old) (K.written sink.new) (trial_line number) }
-    ensures written { WritesPart
-        (TaskBegins (map (λ b. shape b) taps.items) task (S.rest source.old) (S.rest source.new))
-        (K.written sink.old) (K.written sink.new) }
-    ensures cut { IsCut result → TaskTellsFirst (map (λ b. shape b) taps.items) task
-        (S.rest source.old) (S.rest source.new) (K.written sink.old) (K.written sink.new) }
-    ensures long { IsLong result → TaskTellsAll (map (λ b. shape b) taps.items) task
-        (S.rest source.old) (K.written sink.old) (K.written sink.new) }
-    ensures later_source { S.faults source.old ≤ S.faults source.new }
-    ensures later_sink { K.faults sink.old ≤ K.faults sink.new }
+    ensures { RunsTask (map (λ b. shape b) taps.items) task result
+        (S.rest source.old) (S.rest source.new) (S.faults source.old) (S.faults source.new)
+        (source.new ≡ source.old)
+        (K.written sink.old) (K.written sink.new) (K.faults sink.old) (K.faults sink.new)
+        (sink.new ≡ sink.old) }
 {
     match task {
         Task::Receive { reception, limits } => match limits {

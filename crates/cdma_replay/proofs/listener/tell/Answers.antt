@@ -1,16 +1,15 @@
-use Rattle.std.proofs.Common.{◌≡◌, ◌-◌, ◌++◌, ◌∷◌, [], List, length, take, drop, Option, None, Some}
-use Rattle.std.proofs.Common.{sym, ap, ◌∙◌, subst, append-nil, rules, arith}
+use Rattle.std.proofs.Common.{◌≡◌, ◌-◌, ◌++◌, List, length, take, None, Some, sym, ap, ◌∙◌, subst}
+use Rattle.std.proofs.Common.{append-nil, rules, arith}
 use Rattle.std.proofs.lemmas.List.{take_rest}
 use Rattle.std.proofs.lemmas.Result.{err_from_is_err_and}
 use Rattle.chip_core.specs.declared.sample.Sample.{Sample}
 use Rattle.event_tap.specs.Taps.{KeptTap, run_taps}
 use Rattle.mobile_core.specs.Events.{events}
-use Rattle.mobile_core.specs.Given.{listed}
 use Rattle.mobile_core.specs.Standing.{StandsFor}
 use Rattle.mobile_core.specs.Tuning.{Tuning}
 use Rattle.mobile_core.specs.declared.event.Event.{Event}
 use Rattle.cdma_replay.specs.Hearing.{HasTold}
-use Rattle.cdma_replay.proofs.Hearings.{told_all, told_more, told_none, told_part}
+use Rattle.cdma_replay.proofs.Hearings.{step_stands, told_all, told_more, told_none, told_part}
 use Rattle.cdma_replay.proofs.listener.tell.Goals as goal
 
 pub loop-event-init : goal.loop-event-init
@@ -41,15 +40,7 @@ returns-in_default-clause-ok g c t first heard stands behind =
     told_all t first c.loop-event.mobile c.step-step.new.self _ heard samples taken
     c.step-step.result.taken _ _ (inv.told t first heard (events t heard) stands behind)
     (none.0 ∙ ap length left)
-    (λ (before : List Event)
-    (is : StandsFor t c.loop-event.mobile (heard ++ take taken samples) before).
-    subst (λ (xs : List Sample). StandsFor t c.step-step.new.self
-    ((heard ++ take taken samples) ++ take c.step-step.result.taken xs) (before ++ [])) left
-    (subst (λ (e : Option Event). StandsFor t c.step-step.new.self
-    ((heard ++ take taken samples) ++
-    take c.step-step.result.taken (take (length samples - taken) (drop taken samples)))
-    (before ++ listed e)) nothing
-    (c.step-step.ensures.steps.stands t (heard ++ take taken samples) before is)))
+    (step_stands t heard samples taken None nothing c.step-step.ensures.steps)
     (λ (before : List Event)
     (is : StandsFor t c.loop-event.mobile (heard ++ take taken samples) before).
     subst (λ (xs : List Sample). before ≡ events t ((heard ++ take taken samples) ++ xs)) left
@@ -62,7 +53,6 @@ loop-event-preserved g c =
     let samples = c.args.samples.now in
     let event = c.in-Some.event in
     let something : c.step-step.result.event ≡ Some event = search rules in
-    let left = take_rest samples taken in
     record {
       most = search rules;
       room = search rules;
@@ -72,16 +62,7 @@ loop-event-preserved g c =
           (behind : g.T.KeepsTaps.kept c.args.taps.now ≡ run_taps first given).
           told_more t first c.loop-event.mobile c.step-step.new.self _ _ given heard samples taken
           c.step-step.result.taken event _ _ _ (inv.told t first heard given stands behind)
-          (λ (before : List Event)
-          (is : StandsFor t c.loop-event.mobile (heard ++ take taken samples) before).
-          subst (λ (xs : List Sample). StandsFor t c.step-step.new.self
-          ((heard ++ take taken samples) ++ take c.step-step.result.taken xs)
-          (before ++ event ∷ [])) left
-          (subst (λ (e : Option Event). StandsFor t c.step-step.new.self
-          ((heard ++ take taken samples) ++
-          take c.step-step.result.taken (take (length samples - taken) (drop taken samples)))
-          (before ++ listed e)) something
-          (c.step-step.ensures.steps.stands t (heard ++ take taken samples) before is)))
+          (step_stands t heard samples taken (Some event) something c.step-step.ensures.steps)
           (search rules) (search rules);
       later = search rules;
     }
@@ -93,21 +74,11 @@ returns-in_err-tell-clause-err g c =
     let samples = c.args.samples.now in
     let event = c.in-Some.event in
     let something : c.step-step.result.event ≡ Some event = search rules in
-    let left = take_rest samples taken in
     let p = err_from_is_err_and c.from_residual.result c.from_residual.ensures.1 in
     rw p.1 (λ (t : Tuning) (first : List KeptTap) (heard : List Sample)
     (stands : StandsFor t c.args.mobile.now heard (events t heard))
     (behind : g.T.KeepsTaps.kept c.args.taps.now ≡ run_taps first (events t heard)).
     told_part t first c.loop-event.mobile c.step-step.new.self _ heard samples taken
     c.step-step.result.taken event _ _ _ (inv.told t first heard (events t heard) stands behind)
-    (λ (before : List Event)
-    (is : StandsFor t c.loop-event.mobile (heard ++ take taken samples) before).
-    subst (λ (xs : List Sample). StandsFor t c.step-step.new.self
-    ((heard ++ take taken samples) ++ take c.step-step.result.taken xs) (before ++ event ∷ []))
-    left
-    (subst (λ (e : Option Event). StandsFor t c.step-step.new.self
-    ((heard ++ take taken samples) ++
-    take c.step-step.result.taken (take (length samples - taken) (drop taken samples)))
-    (before ++ listed e)) something
-    (c.step-step.ensures.steps.stands t (heard ++ take taken samples) before is)))
+    (step_stands t heard samples taken (Some event) something c.step-step.ensures.steps)
     (search rules))

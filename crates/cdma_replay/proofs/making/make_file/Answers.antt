@@ -1,30 +1,79 @@
-use Rattle.std.proofs.Common.{refl, sym, ◌∙◌}
+use Rattle.std.proofs.Common.{[], inl, inr, refl, rules, arith}
+use Rattle.std.proofs.KnownBytes.{Appends-nil}
+use Rattle.std.proofs.lemmas.Option.{IfSome_then}
 use Rattle.cdma_replay.proofs.Files.{ended_by}
 use Rattle.cdma_replay.proofs.MadeFiles.{writes_part, writes_whole}
 use Rattle.cdma_replay.proofs.making.make_file.Goals as goal
 
-pub returns-in_err-cell-clause-done : goal.returns-in_err-cell-clause-done
-returns-in_err-cell-clause-done g c done =
-    let same = ended_by c.from_residual.result c.in_err-cell.field-0.0 c.from_residual.ensures.1 in
-    absurd (c.in_err-cell.ensures.failed (sym same ∙ done))
+-- the script names no cell, or isn't read
+pub returns-in_err-cell : goal.returns-in_err-cell
+returns-in_err-cell g c =
+    let told = c.in_err-cell.ensures in
+    rw (ended_by c.from_residual.result c.in_err-cell.field-0.0 c.from_residual.ensures.1)
+    (record {
+      done = λ done. absurd (told.failed done);
+      at_end = λ done. absurd (told.failed done);
+      others = (told.others.0, told.others.1, told.others.3);
+      memory = λ none. refl;
+      early = λ none. inr (told.memory none);
+      bad_script = λ fault is. (
+        (told.bad_script fault is).0,
+        refl,
+        (told.bad_script fault is).1,
+      );
+      read_fault = told.read_fault;
+      unwritten = λ failed. refl;
+      write_fault = λ lost. absurd (told.others.2 lost);
+      lawful = λ lost. absurd (told.others.2 lost);
+      written = record { text = []; written = Appends-nil _; part = inl refl };
+      bound = c.open_cell.ensures.bound;
+      later_source = c.open_cell.ensures.later;
+      later_sink = omega arith;
+    })
 
-pub returns-in_err-cell-clause-at_end : goal.returns-in_err-cell-clause-at_end
-returns-in_err-cell-clause-at_end g c done =
-    let same = ended_by c.from_residual.result c.in_err-cell.field-0.0 c.from_residual.ensures.1 in
-    absurd (c.in_err-cell.ensures.failed (sym same ∙ done))
+-- its file is written
+pub returns-in-Ok : goal.returns-in-Ok
+returns-in-Ok g c =
+    let rest = g.S.Source.rest c.args.source.now in
+    let plan = c.in_ok-cell.cell.plan in
+    let named = c.in_ok-cell.ensures.named in
+    record {
+      done = λ done. IfSome_then rest named
+          (λ bytes is. record { plan = plan; named = is; written = c.in-Ok.ensures.ok });
+      at_end = λ done. c.in_ok-cell.ensures.at_end;
+      others = search rules;
+      memory = search rules;
+      early = search rules;
+      bad_script = search rules;
+      read_fault = search rules;
+      unwritten = search rules;
+      write_fault = search rules;
+      lawful = search rules;
+      written = writes_whole c.args.width plan rest _ _ named c.in-Ok.ensures.ok;
+      bound = c.open_cell.ensures.bound;
+      later_source = c.open_cell.ensures.later;
+      later_sink = c.write_cell.ensures.cause.later;
+    }
 
-pub returns-in_err-cell-clause-bad_script : goal.returns-in_err-cell-clause-bad_script
-returns-in_err-cell-clause-bad_script g c fault is =
-    let same = ended_by c.from_residual.result c.in_err-cell.field-0.0 c.from_residual.ensures.1 in
-    let bad = c.in_err-cell.ensures.bad_script fault (sym same ∙ is) in
-    (bad.0, refl, bad.1)
-
-pub returns-in-Ok-clause-written : goal.returns-in-Ok-clause-written
-returns-in-Ok-clause-written g c =
-    writes_whole c.args.width c.in_ok-cell.cell.plan (g.S.Source.rest c.args.source.now) _ _
-    c.in_ok-cell.ensures.named c.in-Ok.ensures.ok
-
-pub returns-clause-written : goal.returns-clause-written
-returns-clause-written g c =
-    writes_part c.args.width c.in_ok-cell.cell.plan (g.S.Source.rest c.args.source.now) _ _
-    c.in_ok-cell.ensures.named c.in-Err.ensures.err
+-- or a write fails
+pub returns : goal.returns
+returns g c =
+    let rest = g.S.Source.rest c.args.source.now in
+    let plan = c.in_ok-cell.cell.plan in
+    let named = c.in_ok-cell.ensures.named in
+    record {
+      done = search rules;
+      at_end = search rules;
+      others = search rules;
+      memory = search rules;
+      early = search rules;
+      bad_script = search rules;
+      read_fault = search rules;
+      unwritten = search rules;
+      write_fault = λ lost. c.in-Err.ensures.cause.failed;
+      lawful = λ lost. IfSome_then rest named (λ bytes is. rw is refl);
+      written = writes_part c.args.width plan rest _ _ named c.in-Err.ensures.err;
+      bound = c.open_cell.ensures.bound;
+      later_source = c.open_cell.ensures.later;
+      later_sink = c.write_cell.ensures.cause.later;
+    }

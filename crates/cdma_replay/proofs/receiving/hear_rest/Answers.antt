@@ -1,9 +1,8 @@
-use Rattle.std.proofs.Common.{◌≡◌, ◌≤◌, ◌-◌, ◌*◌, ℕ, min, IfSome, IsNone, length, length-take-le, take, ap}
-use Rattle.std.proofs.Common.{◌∙◌, refl, subst, arith, rules}
-use Rattle.cdma_io.specs.SampleFile.{Reading, width_of}
+use Rattle.std.proofs.Common.{◌≡◌, ◌≤◌, ◌-◌, ◌*◌, ℕ, min, IfSome, IsNone, length, length-take-le}
+use Rattle.std.proofs.Common.{take, ap, ◌∙◌, refl, subst, arith, rules}
+use Rattle.cdma_io.specs.SampleFile.{Reading, width_of, sample_len}
 use Rattle.cdma_io.specs.declared.file_fault.FileFault.{FileFault}
 use Rattle.cdma_io.specs.Outside.{ConsumesAtMost}
-use Rattle.cdma_io.specs.SampleFile.{sample_len}
 use Rattle.cdma_io.specs.declared.header.Header.{Header}
 use Rattle.cdma_io.proofs.Spelling.{sample_len-mono}
 use Rattle.cdma_replay.specs.Broken.{IsLong}
@@ -13,10 +12,10 @@ use Rattle.cdma_replay.proofs.Broken.{has_bytes, no_long_cut}
 use Rattle.cdma_replay.specs.Hearing.{HasRoom}
 use Rattle.cdma_replay.proofs.Faults.{rest_cut_fault, rest_extra_fault}
 use Rattle.cdma_replay.proofs.Files.{blamed, ended_by, wrong_length}
-use Rattle.cdma_replay.proofs.HeardRest.{hears_all, hears_first, hears_more, hears_nothing, hears_part}
-use Rattle.cdma_replay.proofs.HeardRest.{hears_stopped}
+use Rattle.cdma_replay.proofs.HeardRest.{hears_all, hears_first, hears_more, hears_nothing}
+use Rattle.cdma_replay.proofs.HeardRest.{hears_part, hears_stopped}
 use Rattle.cdma_replay.proofs.Hearings.{room_for}
-use Rattle.cdma_replay.proofs.Bounds.{passed_most, shared_out}
+use Rattle.cdma_replay.proofs.Bounds.{passed_most, piece_most}
 use Rattle.cdma_replay.proofs.receiving.hear_rest.Goals as goal
 
 pub loop-reader-init : goal.loop-reader-init
@@ -191,36 +190,18 @@ returns-in_err-finish-clause-long g c long =
 pub returns-in_err-count-clause-bound : goal.returns-in_err-count-clause-bound
 returns-in_err-count-clause-bound g c =
     let inv = c.loop-reader.invariant in
-    let left = c.args.reader.now.left in
     let now = c.loop-reader.reader.left in
-    let width = width_of c.args.reader.now.header in
-    let room = min (length c.loop-reader.piece) now in
-    passed_most (g.S.Source.rest c.args.source.now) _ _ inv.hears.passed
-    (subst (λ (h : Header). ConsumesAtMost (sample_len (width_of h) * room)
-    (g.S.Source.rest c.loop-reader.source) (g.S.Source.rest c.read.new.source)) inv.same
-    c.read.ensures.taken)
-    (omega (
-      arith,
-      sample_len-mono width room now (omega arith),
-      shared_out width (left - now) now left (omega (arith, inv.low)),
-    ))
+    piece_most c.args.reader.now.left now (min (length c.loop-reader.piece) now)
+    (g.S.Source.rest c.args.source.now) _ _ inv.same inv.low (omega arith) inv.hears.passed
+    c.read.ensures.taken
 
 pub returns-in-Err-clause-bound : goal.returns-in-Err-clause-bound
 returns-in-Err-clause-bound g c =
     let inv = c.loop-reader.invariant in
-    let left = c.args.reader.now.left in
     let now = c.loop-reader.reader.left in
-    let width = width_of c.args.reader.now.header in
-    let room = min (length c.loop-reader.piece) now in
-    passed_most (g.S.Source.rest c.args.source.now) _ _ inv.hears.passed
-    (subst (λ (h : Header). ConsumesAtMost (sample_len (width_of h) * room)
-    (g.S.Source.rest c.loop-reader.source) (g.S.Source.rest c.read.new.source)) inv.same
-    c.read.ensures.taken)
-    (omega (
-      arith,
-      sample_len-mono width room now (omega arith),
-      shared_out width (left - now) now left (omega (arith, inv.low)),
-    ))
+    piece_most c.args.reader.now.left now (min (length c.loop-reader.piece) now)
+    (g.S.Source.rest c.args.source.now) _ _ inv.same inv.low (omega arith) inv.hears.passed
+    c.read.ensures.taken
 
 pub returns-in_err-finish-clause-bound : goal.returns-in_err-finish-clause-bound
 returns-in_err-finish-clause-bound g c =

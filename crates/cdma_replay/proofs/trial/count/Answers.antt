@@ -1,5 +1,5 @@
-use Rattle.std.proofs.Common.{◌≡◌, ◌+◌, ◌-◌, ◌≤◌, ◌++◌, ◌∷◌, [], List, length, take, drop, Option, None, Some}
-use Rattle.std.proofs.Common.{sym, ap, ◌∙◌, subst, append-nil, rules, arith}
+use Rattle.std.proofs.Common.{◌≡◌, ◌+◌, ◌-◌, ◌≤◌, ◌++◌, List, length, take, Option, None, Some, sym}
+use Rattle.std.proofs.Common.{ap, ◌∙◌, subst, append-nil, rules, arith}
 use Rattle.std.proofs.lemmas.List.{take_rest}
 use Rattle.chip_core.specs.declared.sample.Sample.{Sample}
 use Rattle.mobile_core.specs.Given.{listed}
@@ -10,6 +10,7 @@ use Rattle.cdma_replay.specs.declared.trial.Counts.{Counts}
 use Rattle.mobile_core.specs.Events.{events}
 use Rattle.cdma_replay.proofs.Counting.{counted_all, counted_more, room_behind, room_for_one}
 use Rattle.cdma_replay.proofs.Counting.{room_left}
+use Rattle.cdma_replay.proofs.Hearings.{step_stands}
 use Rattle.cdma_replay.proofs.trial.count.Goals as goal
 
 pub loop-event-init : goal.loop-event-init
@@ -40,14 +41,7 @@ returns-in_default-clause-told c t heard given stands is =
     counted_all t c.loop-event.mobile c.step-step.new.self c.loop-event.counts heard samples taken
     c.step-step.result.taken (c.loop-event.invariant.told t heard given stands is)
     (none.0 ∙ ap length left)
-    (λ before standing.
-    subst (λ (xs : List Sample). StandsFor t c.step-step.new.self
-    ((heard ++ take taken samples) ++ take c.step-step.result.taken xs) (before ++ [])) left
-    (subst (λ (e : Option Event). StandsFor t c.step-step.new.self
-    ((heard ++ take taken samples) ++
-    take c.step-step.result.taken (take (length samples - taken) (drop taken samples)))
-    (before ++ listed e)) nothing
-    (c.step-step.ensures.steps.stands t (heard ++ take taken samples) before standing)))
+    (step_stands t heard samples taken None nothing c.step-step.ensures.steps)
     (λ before standing.
     subst (λ (xs : List Sample). before ≡ events t ((heard ++ take taken samples) ++ xs)) left
     (none.1 t (heard ++ take taken samples) before standing))
@@ -71,7 +65,6 @@ loop-event-preserved c =
     let fewer : steps_left c.step-step.new.self + 1 ≤ steps_left c.loop-event.mobile =
     subst (λ (e : Option Event). steps_left c.step-step.new.self + length (listed e)
     ≤ steps_left c.loop-event.mobile) something c.step-step.ensures.steps.fewer in
-    let left = take_rest samples taken in
     let added : c.add.new.self ≡ counts_with c.loop-event.counts event = search rules in
     record {
       most = search rules;
@@ -83,14 +76,6 @@ loop-event-preserved c =
       told = λ t heard given stands is.
           counted_more t c.loop-event.mobile c.step-step.new.self c.loop-event.counts _ heard samples
           taken c.step-step.result.taken event (inv.told t heard given stands is)
-          (λ before standing.
-          subst (λ (xs : List Sample). StandsFor t c.step-step.new.self
-          ((heard ++ take taken samples) ++ take c.step-step.result.taken xs)
-          (before ++ event ∷ [])) left
-          (subst (λ (e : Option Event). StandsFor t c.step-step.new.self
-          ((heard ++ take taken samples) ++
-          take c.step-step.result.taken (take (length samples - taken) (drop taken samples)))
-          (before ++ listed e)) something
-          (c.step-step.ensures.steps.stands t (heard ++ take taken samples) before standing)))
+          (step_stands t heard samples taken (Some event) something c.step-step.ensures.steps)
           added;
     }
