@@ -1,6 +1,8 @@
 -- A cell that runs: its channels, and the samples that are next.
 use Rattle.std.proofs.Common.{◌≡◌, ℕ, ◌+◌, ◌-◌, ◌*◌, ◌%◌, ◌<◌, ◌≤◌, List, ◌++◌, length, map}
-use Rattle.std.proofs.Common.{get_or, take, drop, sym, ap, ◌∙◌, arith, ℤ, pos, subst}
+use Rattle.std.proofs.Common.{get_or, take, drop, sym, ap, ◌∙◌, arith, ℤ, pos, subst, Bool, true, false}
+use Rattle.std.specs.Prelude.{unsigned_abs}
+use Rattle.chip_core.specs.Bits.{sign}
 use Rattle.std.specs.List.{All}
 use Rattle.std.proofs.lemmas.List.{length-drop, length-map, map-append, take_at, drop-drop, get_or-drop}
 use Rattle.std.proofs.lemmas.List.Elements.{All-append, All-drop, All-from_get_or}
@@ -20,7 +22,7 @@ use Rattle.cell_plan.specs.Plan.{loudness, most_part}
 use Rattle.cell_plan.specs.Signal.{Carrier, amplitudes, carriers, sample_of, samples_of, scaled}
 use Rattle.cell_plan.specs.Transmitter.{IsPoint, phase_at, point_of}
 use Rattle.cell_plan.proofs.Amplitudes.{chip_fits, chip_most, few_channels, most_part_small}
-use Rattle.cell_plan.proofs.Amplitudes.{point_unit, signal_of_carriers}
+use Rattle.cell_plan.proofs.Amplitudes.{signal_of_carriers}
 use Rattle.cell_plan.proofs.Pieces.{no_sample, pieces_are}
 use Rattle.cell_samples.specs.Blocks.{AreQuiet, AreTurned, BlockState, chip_at}
 use Rattle.cell_samples.specs.Channels.{ChannelState, carrier_of}
@@ -73,10 +75,14 @@ phase_on : (plan : CellPlan) (chip phase k : ℕ) → plan.cell.pn < 512 →
     phase ≡ phase_at plan chip → phase + k < 32768 → phase + k ≡ phase_at plan (chip + k)
 phase_on plan chip phase k pilot is below = omega (arith, pilot, is, below)
 
+sign_unit : (b : Bool) → unsigned_abs (sign b) ≤ 1
+sign_unit true = omega arith
+sign_unit false = omega arith
+
 all_points : All IsPoint pilot_signs
 all_points = λ k d inside.
     subst IsPoint (sym (get_or-pilot_signs k d (omega (arith, inside, length-pilot_signs))))
-    (point_unit (pilot_chip k))
+    (sign_unit (pilot_chip k).0, sign_unit (pilot_chip k).1)
 
 pub points_ahead : (phase : ℕ) (signs : List (ℤ × ℤ)) → signs ≡ drop phase pilot_signs →
     All IsPoint signs
