@@ -8,9 +8,9 @@ use Rattle.cdma_io.specs.declared.header.Header.{Header}
 use Rattle.cell_plan.specs.Sampled.{made_samples}
 use Rattle.cell_plan.specs.declared.plan.CellPlan.{CellPlan}
 use Rattle.event_tap.specs.Taps.{KeptTap, run_text}
-use Rattle.mobile_core.specs.Events.{events}
-use Rattle.mobile_core.specs.Tuning.{Tuning}
-use Rattle.mobile_core.specs.declared.event.Event.{Event}
+use Rattle.heard_events.specs.Events.{events}
+use Rattle.heard_events.specs.Tuning.{Tuning}
+use Rattle.heard_events.specs.declared.event.Event.{Event}
 use Rattle.chip_core.specs.declared.assignment.Traffic.{Traffic}
 use Rattle.cdma_words.specs.Words.{IsPaging}
 use Rattle.clean_link.specs.CleanLink.{tuning_to, IsNotDirected, IsOnPath}

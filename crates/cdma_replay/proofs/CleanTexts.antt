@@ -12,12 +12,12 @@ use Rattle.cell_plan.specs.Transmitter.{phase_at}
 use Rattle.cell_plan.specs.declared.plan.CellPlan.{CellPlan}
 use Rattle.cell_script.proofs.NamedPages.{named_receivable}
 use Rattle.event_tap.specs.Taps.{KeptTap, run_text}
-use Rattle.mobile_core.specs.Events.{events}
-use Rattle.mobile_core.specs.Marks.{mark}
-use Rattle.mobile_core.specs.declared.event.Event.{Event}
+use Rattle.heard_events.specs.Events.{events}
+use Rattle.heard_events.specs.Marks.{mark}
+use Rattle.heard_events.specs.declared.event.Event.{Event}
 use Rattle.cdma_words.specs.Words.{IsPaging}
 use Rattle.cell_plan.specs.Sampled.{made_samples}
-use Rattle.mobile_core.specs.Tuning.{Tuning}
+use Rattle.heard_events.specs.Tuning.{Tuning}
 use Rattle.cdma_replay.specs.CleanFiles.{IsCellFile, IsCleanLink, cell_energy}
 use Rattle.clean_link.specs.CleanLink.{IsNotDirected, IsOnPath, IsPlanFile, IsTunedTo, tuning_to}
 use Rattle.clean_link.specs.CleanLink.{sync_sent}

@@ -16,10 +16,10 @@ use Rattle.chip_core.specs.declared.width.Width.{Width}
 use Rattle.chip_core.specs.declared.width.Width.TheVariants.{Sixteen}
 use Rattle.pilot_search.specs.Search.{best_phase}
 use Rattle.clean_link.proofs.signal.Samples.{length-made}
-use Rattle.mobile_core.specs.Events.{events}
+use Rattle.heard_events.specs.Events.{events}
 use Rattle.mobile_core.specs.Standing.{StandsFor}
-use Rattle.mobile_core.specs.Tuning.{Tuning}
-use Rattle.mobile_core.specs.declared.event.Event.{Event}
+use Rattle.heard_events.specs.Tuning.{Tuning}
+use Rattle.heard_events.specs.declared.event.Event.{Event}
 use Rattle.mobile_core.specs.declared.mobile.Mobile.{Mobile}
 use Rattle.cdma_replay.specs.Trials.{LeavesRoom, count_of, counts_of, counts_with, is_frame, is_good}
 use Rattle.cdma_replay.specs.Trials.{is_paging, is_sync, one_if, summary, trial_line, trial_samples}

@@ -14,19 +14,19 @@ use Rattle.chip_core.proofs.Places.{places-more, places-none}
 use Rattle.chip_core.proofs.Ranges.{flat_map-places-more, flat_map_ext_places}
 use Rattle.chip_core.specs.declared.sample.Sample.{Sample}
 use Rattle.cdma_io.specs.Outside.{AppendsPrefix}
-use Rattle.mobile_core.specs.Events.{events, events_at, heard_within}
-use Rattle.mobile_core.specs.Given.{listed}
+use Rattle.heard_events.specs.Events.{events, events_at, heard_within}
+use Rattle.heard_events.specs.Given.{listed}
 use Rattle.std.specs.Option.{ForSome}
 use Rattle.chip_core.specs.declared.assignment.Traffic.{Traffic}
 use Rattle.cdma_words.specs.Words.{IsLawfulTraffic}
 use Rattle.mobile_core.specs.TrafficMonitoring.{IsSoundAssignment}
-use Rattle.mobile_core.specs.Near.{AreNear, low_of}
+use Rattle.heard_events.specs.Near.{AreNear, low_of}
 use Rattle.mobile_core.specs.Standing.{IsStep, StandsFor, Steps, events_left, has_room, parts}
-use Rattle.mobile_core.specs.Timing.{IsTimed}
-use Rattle.mobile_core.specs.Tuning.{Tuning, sync_stream, tuning_by}
-use Rattle.mobile_core.specs.declared.channel.Channel.{Channel}
-use Rattle.mobile_core.specs.declared.event.Event.{Event}
-use Rattle.mobile_core.specs.declared.event.Event.TheVariants.{Pilot}
+use Rattle.heard_events.specs.Timing.{IsTimed}
+use Rattle.heard_events.specs.Tuning.{Tuning, sync_stream, tuning_by}
+use Rattle.heard_events.specs.declared.channel.Channel.{Channel}
+use Rattle.heard_events.specs.declared.event.Event.{Event}
+use Rattle.heard_events.specs.declared.event.Event.TheVariants.{Pilot}
 use Rattle.mobile_core.specs.declared.mobile.Mobile.{Mobile}
 use Rattle.mobile_core.specs.declared.mobile.Step.{Step}
 use Rattle.event_tap.specs.Taps.{KeptTap, heard_text, run_taps, run_text, taps_behind}
@@ -41,12 +41,12 @@ use Rattle.tuned_listener.proofs.TunedTexts.{text_of_nothing}
 use Rattle.tuned_listener.specs.declared.tuned.TunedListener.{TunedListener}
 use Rattle.tuned_listener.specs.declared.tuned_text.TunedText.{TunedText}
 use Rattle.cdma_replay.specs.declared.handset.Receiver.{Receiver}
-use Rattle.mobile_core.specs.SyncEvents.{sync_events_at}
-use Rattle.mobile_core.proofs.EventsGrown.{events_at_by, events_sooner}
-use Rattle.mobile_core.proofs.FrameTimes.{known_between}
-use Rattle.mobile_core.proofs.FingerTimes.{timed_of}
-use Rattle.mobile_core.proofs.FramesFollowed.{told_unset}
-use Rattle.mobile_core.proofs.Growth.{KnownFrom, left_all, left_none}
+use Rattle.heard_events.specs.SyncEvents.{sync_events_at}
+use Rattle.heard_events.proofs.EventsGrown.{events_at_by, events_sooner}
+use Rattle.heard_events.proofs.FrameTimes.{known_between}
+use Rattle.heard_events.proofs.FingerTimes.{timed_of}
+use Rattle.heard_events.proofs.FollowedEvents.{told_unset}
+use Rattle.heard_events.proofs.Growth.{KnownFrom, left_all, left_none}
 use Rattle.cdma_io.specs.declared.header.Header.{Header}
 use Rattle.pilot_search.specs.BestIn.{IsBestIn}
 use Rattle.pilot_search.specs.Near.{near_deltas}
@@ -54,7 +54,7 @@ use Rattle.pilot_search.specs.Search.{best_phase, energy as energy_at}
 use Rattle.pilot_search.specs.declared.paths.Near.{Near}
 use Rattle.pilot_search.specs.declared.sweeping.Best.{Best}
 use Rattle.pilot_search.proofs.BestPhase.{best_energy-only, best_phase-only}
-use Rattle.mobile_core.specs.declared.settings.Settings.{Settings}
+use Rattle.heard_events.specs.declared.settings.Settings.{Settings}
 use Rattle.cdma_replay.specs.Hearing.{AreNearTo, AreReady, BeginsBehind, ByFrames, ByTaps, HasRoom}
 use Rattle.cdma_replay.specs.Hearing.{HasRoomFor, HasTold, IsFresh, Listening, Listens, Nobody}
 use Rattle.cdma_replay.specs.Hearing.{Tells, TellsMore, TellsPart, is_told, told, tuning_for}

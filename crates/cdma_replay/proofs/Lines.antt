@@ -18,7 +18,7 @@ use Rattle.cdma_io.specs.SampleFile.{width_of}
 use Rattle.pilot_search.specs.BestIn.{IsBestIn}
 use Rattle.pilot_search.specs.Search.{best_phase}
 use Rattle.pilot_search.proofs.BestPhase.{best_phase-only, best_energy-only}
-use Rattle.mobile_core.specs.declared.event.Event.TheVariants.{Pilot}
+use Rattle.heard_events.specs.declared.event.Event.TheVariants.{Pilot}
 use Rattle.event_tap.specs.EventLines.{event_line}
 use Rattle.event_tap.specs.Taps.{KeptTap}
 use Rattle.pilot_survey.specs.declared.rank.Rank.{Rank}
@@ -40,7 +40,7 @@ use Rattle.cdma_replay.specs.Hearing.{Listens, Nobody, Tells, TellsMore, TellsPa
 use Rattle.cdma_replay.specs.Hearing.{end_when, file_end_of, file_text, first_text, is_told}
 use Rattle.cdma_replay.specs.Hearing.{listening, told}
 use Rattle.cdma_replay.specs.Openings.{IsBest, Shows, listening_in, shown_text}
-use Rattle.mobile_core.specs.declared.channel.Channel.{Channel}
+use Rattle.heard_events.specs.declared.channel.Channel.{Channel}
 use Rattle.pilot_search.specs.declared.sweeping.Best.{Best}
 use Rattle.pilot_survey.specs.Survey.{ranking}
 use Rattle.cdma_replay.specs.Ranks.{ranks_text, survey_text}

@@ -25,7 +25,7 @@ use Rattle.cell_plan.specs.Transmitter.{header_of, phase_at, version_of}
 use Rattle.cell_plan.proofs.Amplitudes.{chip_fits, signal_of_carriers}
 use Rattle.cell_script.proofs.NamedPlans.{named_plan}
 use Rattle.cell_plan.proofs.Pieces.{no_sample}
-use Rattle.mobile_core.specs.Events.{events}
+use Rattle.heard_events.specs.Events.{events}
 use Rattle.chip_core.specs.declared.assignment.Traffic.{Traffic}
 use Rattle.clean_link.specs.CleanLink.{IsNotDirected, IsOnPath, tuning_to}
 use Rattle.cdma_replay.specs.CleanFiles.{IsCleanLink, cell_energy}

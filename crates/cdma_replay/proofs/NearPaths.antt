@@ -20,8 +20,8 @@ use Rattle.pilot_search.specs.Search.{best_phase, energy}
 use Rattle.pilot_search.specs.declared.sweeping.Best.{Best}
 use Rattle.pilot_search.proofs.BestPhase.{best_phase-is}
 use Rattle.pilot_search.proofs.NearPlaces.{one_delta, three_deltas, two_deltas}
-use Rattle.mobile_core.specs.Near.{AreNear, all_near, is_near}
-use Rattle.mobile_core.specs.Tuning.{fingers_of, sync_stream}
+use Rattle.heard_events.specs.Near.{AreNear, all_near, is_near}
+use Rattle.heard_events.specs.Tuning.{fingers_of, sync_stream}
 use Rattle.cdma_words.specs.Words.{IsFingers}
 use Rattle.cdma_replay.specs.Hearing.{tuning_for, waiting}
 

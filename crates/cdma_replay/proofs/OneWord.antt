@@ -7,18 +7,18 @@ use Rattle.chip_core.specs.declared.sample.Sample.{Sample}
 use Rattle.chip_core.proofs.Ranges.{flat_map_ext_filter}
 use Rattle.frame_decoder.specs.declared.traffic.Decoded.{Decoded}
 use Rattle.listed_frame.proofs.Choice.{decoded_by_one_word}
-use Rattle.mobile_core.specs.Channels.{channel_stream}
-use Rattle.mobile_core.specs.FramesAlone.{reference_alone, traffic_channel}
-use Rattle.mobile_core.specs.PagingStreams.{paging_bound}
-use Rattle.mobile_core.specs.SoftFrames.{frames_within, soft_frame, soft_frames}
-use Rattle.mobile_core.specs.Streams.{is_in_file, known_at, known_by}
-use Rattle.mobile_core.specs.TrafficEvents.{commands_at, decoded_at}
-use Rattle.mobile_core.specs.TrafficStreams.{replaced_in}
-use Rattle.mobile_core.specs.Tuning.{Tuning}
-use Rattle.mobile_core.specs.declared.mark.Mark.{Mark}
+use Rattle.heard_events.specs.Channels.{channel_stream}
+use Rattle.heard_events.specs.FramesAlone.{reference_alone, traffic_channel}
+use Rattle.heard_events.specs.PagingStreams.{paging_bound}
+use Rattle.heard_events.specs.SoftFrames.{frames_within, soft_frame, soft_frames}
+use Rattle.heard_events.specs.Streams.{is_in_file, known_at, known_by}
+use Rattle.heard_events.specs.TrafficEvents.{commands_at, decoded_at}
+use Rattle.heard_events.specs.TrafficStreams.{replaced_in}
+use Rattle.heard_events.specs.Tuning.{Tuning}
+use Rattle.heard_events.specs.declared.mark.Mark.{Mark}
 use Rattle.chip_core.specs.declared.assignment.Traffic.{Traffic}
-use Rattle.mobile_core.specs.declared.soft_frame.SoftFrame.{SoftFrame}
-use Rattle.mobile_core.proofs.FramesAlone.{decoded_alone, power_alone}
+use Rattle.heard_events.specs.declared.soft_frame.SoftFrame.{SoftFrame}
+use Rattle.heard_events.proofs.FramesAlone.{decoded_alone, power_alone}
 use Rattle.tuned_listener.proofs.TunedTexts.{listed_texts}
 use Rattle.tuned_listener.specs.TunedTexts.{decoded_line, listed_text, text_behind, text_from}
 use Rattle.tuned_listener.specs.TunedTexts.{tuned_text}

@@ -21,7 +21,7 @@ use Rattle.cell_script.specs.Script.{plan_named}
 use Rattle.cell_plan.specs.declared.plan.CellPlan.{CellPlan}
 use Rattle.cell_script.specs.declared.script_fault.ScriptFault.{ScriptFault}
 use Rattle.event_tap.specs.Taps.{KeptTap}
-use Rattle.mobile_core.specs.declared.channel.Channel.{Channel}
+use Rattle.heard_events.specs.declared.channel.Channel.{Channel}
 use Rattle.tuned_listener.specs.declared.tuned_text.TunedText.{TunedText}
 use Rattle.cdma_words.specs.declared.job.Job.TheVariants as jobs
 use Rattle.cdma_replay.proofs.Lines.{none_within}

@@ -21,14 +21,14 @@ use Rattle.cell_plan.specs.declared.traffic_frame.TrafficFrame.{TrafficFrame}
 use Rattle.cell_plan.specs.declared.traffic_frame2.TrafficFrame2.{TrafficFrame2}
 use Rattle.event_tap.specs.EventLines.{event_line}
 use Rattle.event_tap.specs.FrameLines.{frame2_line}
-use Rattle.mobile_core.specs.FramesAlone.{traffic_channel}
-use Rattle.mobile_core.specs.Marks.{mark}
-use Rattle.mobile_core.specs.SoftFrames.{soft_frames}
-use Rattle.mobile_core.specs.TrafficEvents.{frame_event}
-use Rattle.mobile_core.specs.Tuning.{Tuning}
-use Rattle.mobile_core.specs.declared.mark.Mark.{Mark}
+use Rattle.heard_events.specs.FramesAlone.{traffic_channel}
+use Rattle.heard_events.specs.Marks.{mark}
+use Rattle.heard_events.specs.SoftFrames.{soft_frames}
+use Rattle.heard_events.specs.TrafficEvents.{frame_event}
+use Rattle.heard_events.specs.Tuning.{Tuning}
+use Rattle.heard_events.specs.declared.mark.Mark.{Mark}
 use Rattle.chip_core.specs.declared.assignment.Traffic.{Traffic}
-use Rattle.mobile_core.specs.declared.soft_frame.SoftFrame.{SoftFrame}
+use Rattle.heard_events.specs.declared.soft_frame.SoftFrame.{SoftFrame}
 use Rattle.clean_link.specs.CleanLink.{soft_strength, IsOnPath}
 use Rattle.cell_plan.specs.Stated.{IsReceivable}
 use Rattle.clean_link.specs.HeardFrames.{frame_ends, received_frames, replaced_of, sent_bits}

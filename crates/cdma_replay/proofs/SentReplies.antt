@@ -6,8 +6,8 @@ use Rattle.chip_core.specs.declared.width.Width.{Width}
 use Rattle.cdma_io.specs.declared.header.Header.{Header}
 use Rattle.cell_plan.specs.declared.plan.CellPlan.{CellPlan}
 use Rattle.cell_plan.specs.declared.plan.TrafficPlan.{TrafficPlan}
-use Rattle.mobile_core.specs.Marks.{mark}
-use Rattle.mobile_core.specs.declared.channel.Channel.TheVariants as channels
+use Rattle.heard_events.specs.Marks.{mark}
+use Rattle.heard_events.specs.declared.channel.Channel.TheVariants as channels
 use Rattle.chip_core.specs.declared.assignment.Traffic.{Traffic}
 use Rattle.clean_link.specs.CleanLink.{sync_sent}
 use Rattle.clean_link.specs.HeardFrames.{SendsSetOne, SendsSetTwo}

@@ -6,15 +6,15 @@ use Rattle.std.proofs.lemmas.List.{take-take}
 use Rattle.chip_core.specs.declared.sample.Sample.{Sample}
 use Rattle.cdma_io.specs.declared.header.Header.{Header}
 use Rattle.event_tap.specs.Taps.{KeptTap}
-use Rattle.mobile_core.specs.Marks.{mark}
-use Rattle.mobile_core.specs.Near.{AreNear}
-use Rattle.mobile_core.specs.Tuning.{Tuning, sync_stream}
-use Rattle.mobile_core.specs.declared.channel.Channel.{Channel}
-use Rattle.mobile_core.specs.declared.channel.Channel.TheVariants.{Paging}
-use Rattle.mobile_core.specs.declared.mark.Mark.{Mark}
-use Rattle.mobile_core.proofs.FingerTimes.{timed_of}
-use Rattle.mobile_core.proofs.FrameTimes.{known_between}
-use Rattle.mobile_core.proofs.MarkStays.{mark_set}
+use Rattle.heard_events.specs.Marks.{mark}
+use Rattle.heard_events.specs.Near.{AreNear}
+use Rattle.heard_events.specs.Tuning.{Tuning, sync_stream}
+use Rattle.heard_events.specs.declared.channel.Channel.{Channel}
+use Rattle.heard_events.specs.declared.channel.Channel.TheVariants.{Paging}
+use Rattle.heard_events.specs.declared.mark.Mark.{Mark}
+use Rattle.heard_events.proofs.FingerTimes.{timed_of}
+use Rattle.heard_events.proofs.FrameTimes.{known_between}
+use Rattle.heard_events.proofs.MarkStays.{mark_set}
 use Rattle.tuned_listener.specs.TunedTexts.{tuned_text}
 use Rattle.tuned_listener.specs.declared.tuned_text.TunedText.{TunedText}
 use Rattle.tuned_listener.specs.declared.tuned_text.TunedText.TheVariants.{Slots}

@@ -8,7 +8,7 @@ use Rattle.cell_plan.specs.Sampled.{made_samples}
 use Rattle.cell_plan.specs.Transmitter.{phase_at}
 use Rattle.cell_plan.specs.declared.plan.CellPlan.{CellPlan}
 use Rattle.cell_script.specs.Script.{plan_named}
-use Rattle.mobile_core.specs.Events.{events}
+use Rattle.heard_events.specs.Events.{events}
 use Rattle.chip_core.specs.declared.assignment.Traffic.{Traffic}
 use Rattle.clean_link.specs.CleanLink.{IsNotDirected, tuning_to}
 

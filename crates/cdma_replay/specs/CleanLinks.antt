@@ -2,8 +2,8 @@
 use Rattle.std.specs.Prelude.{◌≡◌, ℕ, List, ◌++◌, Option, Some}
 use Rattle.cell_plan.specs.Sampled.{made_samples}
 use Rattle.cell_plan.specs.declared.plan.CellPlan.{CellPlan}
-use Rattle.mobile_core.specs.Events.{events}
-use Rattle.mobile_core.specs.declared.event.Event.{Event}
+use Rattle.heard_events.specs.Events.{events}
+use Rattle.heard_events.specs.declared.event.Event.{Event}
 use Rattle.chip_core.specs.declared.assignment.Traffic.{Traffic}
 use Rattle.event_tap.specs.Taps.{KeptTap, run_text}
 use Rattle.clean_link.specs.CleanLink.{tuning_to}

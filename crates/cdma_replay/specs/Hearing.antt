@@ -15,13 +15,13 @@ use Rattle.pilot_search.specs.Near.{near_deltas}
 use Rattle.pilot_search.specs.Search.{energy, best_phase}
 use Rattle.pilot_search.specs.declared.paths.Near.{Near}
 use Rattle.cell_plan.specs.declared.plan.CellPlan.{CellPlan}
-use Rattle.mobile_core.specs.Events.{events}
-use Rattle.mobile_core.specs.Marks.{mark}
+use Rattle.heard_events.specs.Events.{events}
+use Rattle.heard_events.specs.Marks.{mark}
 use Rattle.mobile_core.specs.Standing.{StandsFor, has_room}
-use Rattle.mobile_core.specs.Tuning.{Tuning}
-use Rattle.mobile_core.specs.declared.channel.Channel.{Channel}
-use Rattle.mobile_core.specs.declared.event.Event.{Event}
-use Rattle.mobile_core.specs.declared.event.Event.TheVariants.{Pilot}
+use Rattle.heard_events.specs.Tuning.{Tuning}
+use Rattle.heard_events.specs.declared.channel.Channel.{Channel}
+use Rattle.heard_events.specs.declared.event.Event.{Event}
+use Rattle.heard_events.specs.declared.event.Event.TheVariants.{Pilot}
 use Rattle.mobile_core.specs.declared.mobile.Mobile.{Mobile}
 use Rattle.chip_core.specs.declared.assignment.Traffic.{Traffic}
 use Rattle.cdma_words.specs.Words.{IsFingers, IsLawfulTraffic, IsPaging}

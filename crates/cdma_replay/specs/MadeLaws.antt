@@ -7,7 +7,7 @@ use Rattle.cell_plan.specs.Sampled.{made_samples}
 use Rattle.cell_script.specs.Script.{plan_named}
 use Rattle.cell_plan.specs.Transmitter.{header_of, phase_at}
 use Rattle.cell_plan.specs.declared.plan.CellPlan.{CellPlan}
-use Rattle.mobile_core.specs.Events.{events}
+use Rattle.heard_events.specs.Events.{events}
 use Rattle.chip_core.specs.declared.assignment.Traffic.{Traffic}
 use Rattle.clean_link.specs.CleanLink.{IsNotDirected, tuning_to}
 use Rattle.cdma_replay.specs.CleanFiles.{IsCleanLink, cell_energy}

@@ -3,14 +3,14 @@ use Rattle.std.specs.Prelude.{◌≡◌, ℕ, List, length, Some}
 use Rattle.std.specs.List.{flat_map}
 use Rattle.chip_core.specs.declared.sample.Sample.{Sample}
 use Rattle.event_tap.specs.EventLines.{event_line}
-use Rattle.mobile_core.specs.FramesAlone.{reference_alone, traffic_channel}
-use Rattle.mobile_core.specs.Marks.{mark}
-use Rattle.mobile_core.specs.SoftFrames.{soft_frame, soft_frames}
-use Rattle.mobile_core.specs.TrafficEvents.{frame_heard}
-use Rattle.mobile_core.specs.Tuning.{Tuning}
-use Rattle.mobile_core.specs.declared.mark.Mark.{Mark}
+use Rattle.heard_events.specs.FramesAlone.{reference_alone, traffic_channel}
+use Rattle.heard_events.specs.Marks.{mark}
+use Rattle.heard_events.specs.SoftFrames.{soft_frame, soft_frames}
+use Rattle.heard_events.specs.TrafficEvents.{frame_heard}
+use Rattle.heard_events.specs.Tuning.{Tuning}
+use Rattle.heard_events.specs.declared.mark.Mark.{Mark}
 use Rattle.chip_core.specs.declared.assignment.Traffic.{Traffic}
-use Rattle.mobile_core.specs.declared.soft_frame.SoftFrame.{SoftFrame}
+use Rattle.heard_events.specs.declared.soft_frame.SoftFrame.{SoftFrame}
 use Rattle.tuned_listener.specs.TunedTexts.{frame_text, tuned_text}
 use Rattle.tuned_listener.specs.declared.tuned_text.TunedText.TheVariants.{Listed}
 

@@ -5,8 +5,8 @@ use Rattle.cdma_io.specs.declared.header.Header.{Header}
 use Rattle.cdma_words.specs.Words.{IsBase, IsFingers, IsTop, IsWidth}
 use Rattle.pilot_search.specs.BestIn.{IsBestIn}
 use Rattle.pilot_search.specs.declared.sweeping.Best.{Best}
-use Rattle.mobile_core.specs.declared.event.Event.{Event}
-use Rattle.mobile_core.specs.declared.event.Event.TheVariants as told
+use Rattle.heard_events.specs.declared.event.Event.{Event}
+use Rattle.heard_events.specs.declared.event.Event.TheVariants as told
 use Rattle.event_tap.specs.EventLines.{event_line}
 use Rattle.event_tap.specs.Taps.{KeptTap}
 use Rattle.tuned_listener.specs.TunedTexts.{IsLawfulTuned}

@@ -9,11 +9,11 @@ use Rattle.cdma_io.specs.declared.header.Header.{Header}
 use Rattle.pilot_search.specs.Search.{best_phase, energy}
 use Rattle.cell_script.specs.Script.{plan_named}
 use Rattle.cell_plan.specs.declared.plan.CellPlan.{CellPlan}
-use Rattle.mobile_core.specs.Events.{events}
-use Rattle.mobile_core.specs.Marks.{mark}
-use Rattle.mobile_core.specs.declared.channel.Channel.{Channel}
-use Rattle.mobile_core.specs.declared.channel.Channel.TheVariants as channels
-use Rattle.mobile_core.specs.declared.event.Event.TheVariants.{Pilot}
+use Rattle.heard_events.specs.Events.{events}
+use Rattle.heard_events.specs.Marks.{mark}
+use Rattle.heard_events.specs.declared.channel.Channel.{Channel}
+use Rattle.heard_events.specs.declared.channel.Channel.TheVariants as channels
+use Rattle.heard_events.specs.declared.event.Event.TheVariants.{Pilot}
 use Rattle.event_tap.specs.EventLines.{event_line}
 use Rattle.event_tap.specs.Taps.{kept_by, run_text}
 use Rattle.tuned_listener.specs.TunedTexts.{tuned_text}

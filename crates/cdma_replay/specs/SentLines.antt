@@ -15,8 +15,8 @@ use Rattle.cell_plan.specs.declared.traffic_frame.TrafficFrame.{TrafficFrame}
 use Rattle.cell_plan.specs.declared.traffic_frame2.TrafficFrame2.{TrafficFrame2}
 use Rattle.event_tap.specs.EventLines.{event_line}
 use Rattle.event_tap.specs.FrameLines.{frame2_line}
-use Rattle.mobile_core.specs.FramesAlone.{traffic_channel}
-use Rattle.mobile_core.specs.TrafficEvents.{frame_event}
+use Rattle.heard_events.specs.FramesAlone.{traffic_channel}
+use Rattle.heard_events.specs.TrafficEvents.{frame_event}
 use Rattle.chip_core.specs.declared.assignment.Traffic.{Traffic}
 use Rattle.cdma_replay.specs.CleanFiles.{IsCellFile}
 use Rattle.clean_link.specs.HeardFrames.{frame_ends, is_received, received_frames, replaced_of}

@@ -7,7 +7,7 @@ use Rattle.cdma_io.specs.SampleFile.{IsSampleFile}
 use Rattle.cdma_io.specs.declared.header.Header.{Header}
 use Rattle.cell_plan.specs.declared.plan.CellPlan.{CellPlan}
 use Rattle.cell_plan.specs.declared.plan.PagingPlan.{PagingPlan}
-use Rattle.mobile_core.specs.declared.channel.Channel.TheVariants.{Paging}
+use Rattle.heard_events.specs.declared.channel.Channel.TheVariants.{Paging}
 use Rattle.clean_link.specs.CleanLink.{IsPlanFile}
 use Rattle.slot_link.specs.SentSlots.{slots_sent}
 use Rattle.tuned_listener.specs.TunedTexts.{tuned_text}

@@ -1,7 +1,7 @@
 -- What a run does for each job: the table of the commands.
 use Rattle.std.specs.Prelude.{ℕ, ◌≤◌, Option, None, Some}
-use Rattle.mobile_core.specs.declared.channel.Channel.{Channel}
-use Rattle.mobile_core.specs.declared.channel.Channel.TheVariants as channels
+use Rattle.heard_events.specs.declared.channel.Channel.{Channel}
+use Rattle.heard_events.specs.declared.channel.Channel.TheVariants as channels
 use Rattle.tuned_listener.specs.declared.tuned_text.TunedText.{TunedText}
 use Rattle.tuned_listener.specs.declared.tuned_text.TunedText.TheVariants.{Listed, RateSetTwo, Slots}
 use Rattle.cdma_words.specs.Words.{IsWorkers}

@@ -7,10 +7,10 @@ use Rattle.pilot_search.specs.Search.{best_phase}
 use Rattle.cell_plan.specs.Sampled.{made_samples}
 use Rattle.cell_plan.specs.Transmitter.{header_of}
 use Rattle.trial_link.specs.Trial.{trial_plan, trial_serial_number}
-use Rattle.mobile_core.specs.Events.{events}
-use Rattle.mobile_core.specs.Tuning.{Tuning}
-use Rattle.mobile_core.specs.declared.event.Event.{Event}
-use Rattle.mobile_core.specs.declared.event.Event.TheVariants.{Sync, Paging, Frame}
+use Rattle.heard_events.specs.Events.{events}
+use Rattle.heard_events.specs.Tuning.{Tuning}
+use Rattle.heard_events.specs.declared.event.Event.{Event}
+use Rattle.heard_events.specs.declared.event.Event.TheVariants.{Sync, Paging, Frame}
 use Rattle.cdma_replay.specs.Hearing.{tuning_for}
 use Rattle.cdma_replay.specs.declared.handset.Receiver.{Receiver}
 use Rattle.cdma_replay.specs.declared.trial.Counts.{Counts}

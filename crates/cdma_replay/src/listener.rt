@@ -3,9 +3,9 @@
 ghost use Rattle.std.specs.Prelude.{◌≡◌, ◌≤◌, ◌+◌, ◌++◌, List, [], length, All, OnOk, OnErr};
 ghost use Rattle.chip_core.specs.declared.sample.Sample.{Sample as TheSample};
 ghost use Rattle.cdma_io.specs.Outside.{AppendsPrefix, HasCause};
-ghost use Rattle.mobile_core.specs.Events.{events};
+ghost use Rattle.heard_events.specs.Events.{events};
 ghost use Rattle.mobile_core.specs.Standing.{StandsFor, has_room};
-ghost use Rattle.mobile_core.specs.Tuning.{Tuning};
+ghost use Rattle.heard_events.specs.Tuning.{Tuning};
 ghost use Rattle.event_tap.specs.Taps.{IsKept, KeptTap, run_taps};
 ghost use Rattle.cdma_replay.specs.Hearing.{BeginsBehind, ByTaps, Tells, TellsPart, told};
 

@@ -10,10 +10,10 @@ ghost use Rattle.chip_core.specs.declared.width.Width.TheVariants.{Sixteen};
 ghost use Rattle.cdma_words.specs.Words.{IsWorkers};
 ghost use Rattle.cell_plan.specs.Sampled.{made_samples};
 ghost use Rattle.trial_link.specs.Trial.{trial_plan};
-ghost use Rattle.mobile_core.specs.Events.{events};
+ghost use Rattle.heard_events.specs.Events.{events};
 ghost use Rattle.mobile_core.specs.Standing.{StandsFor, has_room, steps_left};
-ghost use Rattle.mobile_core.specs.Tuning.{Tuning};
-ghost use Rattle.mobile_core.specs.declared.event.Event.{Event as TheEvent};
+ghost use Rattle.heard_events.specs.Tuning.{Tuning};
+ghost use Rattle.heard_events.specs.declared.event.Event.{Event as TheEvent};
 ghost use Rattle.cdma_replay.specs.Trials.{LeavesRoom, counts_of, counts_with, summary};
 ghost use Rattle.cdma_replay.specs.Trials.{trial_line, trial_receiver};
 

@@ -107,56 +107,56 @@ pub use Rattle.long_code.proofs.Before.{after-before, before_lt}
 pub use Rattle.long_code.proofs.Period.{IsState-after, IsState-before, after-injective}
 pub use Rattle.long_code.specs.LongCode.{IsState, after, paging_mask}
 unfoldable pub use Rattle.long_code.specs.LongCode.{long_chip, traffic_mask}
-pub use Rattle.mobile_core.proofs.EventPlaces.{AreAt, messages_at_end, paging_at, sets_at_end, sync_at, traffic_at}
-pub use Rattle.mobile_core.proofs.FingerTimes.{timed_in}
-pub use Rattle.mobile_core.proofs.FrameBounds.{AreCloseAll}
-pub use Rattle.mobile_core.proofs.FrameGrowth.{frames_sooner}
-pub use Rattle.mobile_core.proofs.FrameTimes.{known_between, known_le}
-pub use Rattle.mobile_core.proofs.LegParts.{map_same}
-pub use Rattle.mobile_core.proofs.MarkGrowth.{mark_is}
-pub use Rattle.mobile_core.proofs.MarkStays.{frames_by_one_mark, messages_by_one_mark, pages_by_one_mark, pilot_alone}
-pub use Rattle.mobile_core.proofs.MessageGrowth.{messages_sooner}
-pub use Rattle.mobile_core.proofs.MomentGrowth.{kept_new, kept_old}
-pub use Rattle.mobile_core.specs.Close.{AreClose}
-pub use Rattle.mobile_core.specs.Events.{events}
-unfoldable pub use Rattle.mobile_core.specs.Events.{events_at, frame_events_at, heard_within, message_events_at, paging_events_at}
-unfoldable pub use Rattle.mobile_core.specs.Events.{sets_events_at}
-pub use Rattle.mobile_core.specs.FramesAlone.{traffic_channel}
-pub use Rattle.mobile_core.specs.Given.{at_of}
-pub use Rattle.mobile_core.specs.Legs.{all_fingers, leg_of, legs_of, pilot_finger, subchannels}
-pub use Rattle.mobile_core.specs.Marks.{first_of, marks_of}
-unfoldable pub use Rattle.mobile_core.specs.Marks.{frames_open, mark, mark_before, marks_at}
-pub use Rattle.mobile_core.specs.Moments.{changed, frames_at, legs_at, legs_by, messages_at, messages_behind, moment_events, moment_of}
-pub use Rattle.mobile_core.specs.Moments.{moment_place, moments_before}
-unfoldable pub use Rattle.mobile_core.specs.Moments.{heard_from, kept_to, passed, sets_at, told_by}
-pub use Rattle.mobile_core.specs.Near.{AreNear}
-pub use Rattle.mobile_core.specs.Noted.{all_noted, body_noted, in_traffic_thresholds, noted, noted_with, page_noted, system_thresholds}
-pub use Rattle.mobile_core.specs.PagingEvents.{page_event, page_in, pages_behind, with_page}
-unfoldable pub use Rattle.mobile_core.specs.PagingEvents.{bits_up_to, page_at, pages_at, pages_from}
-pub use Rattle.mobile_core.specs.PagingStreams.{paging_bound, paging_stream}
-pub use Rattle.mobile_core.specs.Scrambled.{Scrambles, turned, unscrambled}
-pub use Rattle.mobile_core.specs.Signaling.{capsule_with, message_events, message_heard, signal_in, signal_of}
-unfoldable pub use Rattle.mobile_core.specs.Signaling.{message_at, messages_by, signal_at, signals_before}
-pub use Rattle.mobile_core.specs.SoftFrames.{soft_frame, soft_frames, unturned_at}
-unfoldable pub use Rattle.mobile_core.specs.SoftFrames.{frames_within}
-pub use Rattle.mobile_core.specs.Streams.{Stream, frame_end, frame_softs, frame_start, is_in_file, is_within, known_at, known_by, known_now}
-pub use Rattle.mobile_core.specs.Streams.{span_first, span_frames}
-unfoldable pub use Rattle.mobile_core.specs.Streams.{frame_own_bits}
-pub use Rattle.mobile_core.specs.SyncEvents.{events_of, heard_in, with_message}
-unfoldable pub use Rattle.mobile_core.specs.SyncEvents.{frames_before, heard_at, sync_capsule_at, sync_events_at}
-pub use Rattle.mobile_core.specs.Timing.{IsTimed}
-pub use Rattle.mobile_core.specs.TrafficEvents.{all_sums, frame_event, frame_heard, if_followed, subchannel_sums, unturned_by}
-pub use Rattle.mobile_core.specs.TrafficEvents.{unturned_softs}
-unfoldable pub use Rattle.mobile_core.specs.TrafficEvents.{commands_at, decoded_at, frames_by}
-pub use Rattle.mobile_core.specs.TrafficStreams.{ends_now, frame_state, frames_bound, frames_now, has_frame, replaced_in, stream_of}
-pub use Rattle.mobile_core.specs.TrafficStreams.{traffic_start, traffic_stream}
-pub use Rattle.mobile_core.specs.Tuning.{Tuning, fingers_of, modulo_code, sync_bound, sync_stream}
-pub use Rattle.mobile_core.specs.declared.event.Event.{Event}
-pub use Rattle.mobile_core.specs.declared.event.Event.TheVariants.{Frame, Pilot, Sets}
-pub use Rattle.mobile_core.specs.declared.legs.Leg.{Leg}
-pub use Rattle.mobile_core.specs.declared.mark.Mark.{Mark}
-pub use Rattle.mobile_core.specs.declared.soft_frame.PowerControl.{PowerControl}
-pub use Rattle.mobile_core.specs.declared.soft_frame.SoftFrame.{SoftFrame}
+pub use Rattle.heard_events.proofs.EventPlaces.{AreAt, messages_at_end, paging_at, sets_at_end, sync_at, traffic_at}
+pub use Rattle.heard_events.proofs.FingerTimes.{timed_in}
+pub use Rattle.heard_events.proofs.FrameBounds.{AreCloseAll}
+pub use Rattle.heard_events.proofs.FrameGrowth.{frames_sooner}
+pub use Rattle.heard_events.proofs.FrameTimes.{known_between, known_le}
+pub use Rattle.heard_events.proofs.LegParts.{map_same}
+pub use Rattle.heard_events.proofs.MarkGrowth.{mark_is}
+pub use Rattle.heard_events.proofs.MarkStays.{frames_by_one_mark, messages_by_one_mark, pages_by_one_mark, pilot_alone}
+pub use Rattle.heard_events.proofs.MessageGrowth.{messages_sooner}
+pub use Rattle.heard_events.proofs.MomentGrowth.{kept_new, kept_old}
+pub use Rattle.heard_events.specs.Close.{AreClose}
+pub use Rattle.heard_events.specs.Events.{events}
+unfoldable pub use Rattle.heard_events.specs.Events.{events_at, frame_events_at, heard_within, message_events_at, paging_events_at}
+unfoldable pub use Rattle.heard_events.specs.Events.{sets_events_at}
+pub use Rattle.heard_events.specs.FramesAlone.{traffic_channel}
+pub use Rattle.heard_events.specs.Given.{at_of}
+pub use Rattle.heard_events.specs.Legs.{all_fingers, leg_of, legs_of, pilot_finger, subchannels}
+pub use Rattle.heard_events.specs.Marks.{first_of, marks_of}
+unfoldable pub use Rattle.heard_events.specs.Marks.{frames_open, mark, mark_before, marks_at}
+pub use Rattle.heard_events.specs.Moments.{changed, frames_at, legs_at, legs_by, messages_at, messages_behind, moment_events, moment_of}
+pub use Rattle.heard_events.specs.Moments.{moment_place, moments_before}
+unfoldable pub use Rattle.heard_events.specs.Moments.{heard_from, kept_to, passed, sets_at, told_by}
+pub use Rattle.heard_events.specs.Near.{AreNear}
+pub use Rattle.heard_events.specs.Noted.{all_noted, body_noted, in_traffic_thresholds, noted, noted_with, page_noted, system_thresholds}
+pub use Rattle.heard_events.specs.PagingEvents.{page_event, page_in, pages_behind, with_page}
+unfoldable pub use Rattle.heard_events.specs.PagingEvents.{bits_up_to, page_at, pages_at, pages_from}
+pub use Rattle.heard_events.specs.PagingStreams.{paging_bound, paging_stream}
+pub use Rattle.heard_events.specs.Scrambled.{Scrambles, turned, unscrambled}
+pub use Rattle.heard_events.specs.Signaling.{capsule_with, message_events, message_heard, signal_in, signal_of}
+unfoldable pub use Rattle.heard_events.specs.Signaling.{message_at, messages_by, signal_at, signals_before}
+pub use Rattle.heard_events.specs.SoftFrames.{soft_frame, soft_frames, unturned_at}
+unfoldable pub use Rattle.heard_events.specs.SoftFrames.{frames_within}
+pub use Rattle.heard_events.specs.Streams.{Stream, frame_end, frame_softs, frame_start, is_in_file, is_within, known_at, known_by, known_now}
+pub use Rattle.heard_events.specs.Streams.{span_first, span_frames}
+unfoldable pub use Rattle.heard_events.specs.Streams.{frame_own_bits}
+pub use Rattle.heard_events.specs.SyncEvents.{events_of, heard_in, with_message}
+unfoldable pub use Rattle.heard_events.specs.SyncEvents.{frames_before, heard_at, sync_capsule_at, sync_events_at}
+pub use Rattle.heard_events.specs.Timing.{IsTimed}
+pub use Rattle.heard_events.specs.TrafficEvents.{all_sums, frame_event, frame_heard, if_followed, subchannel_sums, unturned_by}
+pub use Rattle.heard_events.specs.TrafficEvents.{unturned_softs}
+unfoldable pub use Rattle.heard_events.specs.TrafficEvents.{commands_at, decoded_at, frames_by}
+pub use Rattle.heard_events.specs.TrafficStreams.{ends_now, frame_state, frames_bound, frames_now, has_frame, replaced_in, stream_of}
+pub use Rattle.heard_events.specs.TrafficStreams.{traffic_start, traffic_stream}
+pub use Rattle.heard_events.specs.Tuning.{Tuning, fingers_of, modulo_code, sync_bound, sync_stream}
+pub use Rattle.heard_events.specs.declared.event.Event.{Event}
+pub use Rattle.heard_events.specs.declared.event.Event.TheVariants.{Frame, Pilot, Sets}
+pub use Rattle.heard_events.specs.declared.leg.Leg.{Leg}
+pub use Rattle.heard_events.specs.declared.mark.Mark.{Mark}
+pub use Rattle.heard_events.specs.declared.soft_frame.PowerControl.{PowerControl}
+pub use Rattle.heard_events.specs.declared.soft_frame.SoftFrame.{SoftFrame}
 pub use Rattle.paging_message.proofs.Carried.{rate_large}
 pub use Rattle.paging_message.proofs.Chains.{is_there}
 pub use Rattle.paging_message.proofs.Cutting.{halves_more, mark_ends, part}

@@ -10,12 +10,12 @@ use Rattle.cell_plan.specs.Sampled.{made_samples}
 use Rattle.cell_plan.specs.Sendings.{sync_frame_bits, sync_symbols}
 use Rattle.cell_plan.specs.declared.plan.CellPlan.{CellPlan}
 use Rattle.cell_plan.specs.declared.plan.SyncPlan.{SyncPlan}
-use Rattle.mobile_core.specs.Marks.{mark}
-use Rattle.mobile_core.specs.Streams.{frame_own_bits, frame_softs, is_in_file, span_first}
-use Rattle.mobile_core.specs.Streams.{span_frames}
-use Rattle.mobile_core.specs.SyncEvents.{sync_events_at}
-use Rattle.mobile_core.specs.Tuning.{Tuning, sync_stream}
-use Rattle.mobile_core.specs.declared.mark.Mark.{Mark}
+use Rattle.heard_events.specs.Marks.{mark}
+use Rattle.heard_events.specs.Streams.{frame_own_bits, frame_softs, is_in_file, span_first}
+use Rattle.heard_events.specs.Streams.{span_frames}
+use Rattle.heard_events.specs.SyncEvents.{sync_events_at}
+use Rattle.heard_events.specs.Tuning.{Tuning, sync_stream}
+use Rattle.heard_events.specs.declared.mark.Mark.{Mark}
 use Rattle.clean_link.specs.SentWords.{IsOnlyBest, span_word}
 use Rattle.clean_link.specs.CleanLink.{IsOnPath, IsTrueMark, first_sync_frame, soft_strength}
 use Rattle.clean_link.specs.CleanLink.{sync_sent}

@@ -7,10 +7,10 @@ use Rattle.quality_bits.specs.declared.rate.Rate.TheVariants.{R1200, R2400}
 use Rattle.cell_plan.specs.declared.plan.CellPlan.{CellPlan}
 use Rattle.cell_plan.specs.declared.frame_list.FrameList.TheVariants.{SetOne}
 use Rattle.cell_plan.specs.declared.traffic_frame.TrafficFrame.{TrafficFrame}
-use Rattle.mobile_core.specs.Given.{at_of}
-use Rattle.mobile_core.specs.declared.event.Event.{Event}
-use Rattle.mobile_core.specs.declared.event.Event.TheVariants.{Frame, Paging, Pilot, Sets, Sync}
-use Rattle.mobile_core.specs.declared.event.Event.TheVariants.{Traffic}
+use Rattle.heard_events.specs.Given.{at_of}
+use Rattle.heard_events.specs.declared.event.Event.{Event}
+use Rattle.heard_events.specs.declared.event.Event.TheVariants.{Frame, Paging, Pilot, Sets, Sync}
+use Rattle.heard_events.specs.declared.event.Event.TheVariants.{Traffic}
 use Rattle.clean_link.specs.HeardFrames.{frames_sent, sent_bits, sent_commands}
 
 -- two frames, whose power control bits tell a handset to raise its power, and to lower it

@@ -12,12 +12,12 @@ use Rattle.cell_plan.specs.declared.plan.CellPlan.{CellPlan}
 use Rattle.cell_plan.specs.declared.plan.PagingPlan.{PagingPlan}
 use Rattle.cell_plan.specs.declared.plan.TrafficPlan.{TrafficPlan}
 use Rattle.cell_plan.specs.declared.traffic_frame.TrafficFrame.{TrafficFrame}
-use Rattle.mobile_core.specs.Events.{events}
-use Rattle.mobile_core.specs.TrafficEvents.{frame_event}
-use Rattle.mobile_core.specs.Tuning.{Tuning}
-use Rattle.mobile_core.specs.declared.event.Event.{Event}
-use Rattle.mobile_core.specs.declared.event.Event.TheVariants.{Frame, Paging, Sync}
-use Rattle.mobile_core.specs.declared.event.Event.TheVariants.{Traffic as OnTraffic}
+use Rattle.heard_events.specs.Events.{events}
+use Rattle.heard_events.specs.TrafficEvents.{frame_event}
+use Rattle.heard_events.specs.Tuning.{Tuning}
+use Rattle.heard_events.specs.declared.event.Event.{Event}
+use Rattle.heard_events.specs.declared.event.Event.TheVariants.{Frame, Paging, Sync}
+use Rattle.heard_events.specs.declared.event.Event.TheVariants.{Traffic as OnTraffic}
 use Rattle.chip_core.specs.declared.assignment.Traffic.{Traffic}
 use Rattle.clean_link.specs.CleanLink.{IsNotDirected, IsOnPath, sync_sent}
 use Rattle.cell_plan.specs.Stated.{IsReceivable}

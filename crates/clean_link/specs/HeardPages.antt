@@ -18,9 +18,9 @@ use Rattle.cell_plan.specs.Stated.{IsStatedPaging, IsReceivable}
 use Rattle.cell_plan.specs.declared.plan.CellPlan.{CellPlan}
 use Rattle.cell_plan.specs.declared.plan.PagingPlan.{PagingPlan}
 use Rattle.cell_plan.specs.declared.plan.SyncPlan.{SyncPlan}
-use Rattle.mobile_core.specs.PagingEvents.{pages_behind, with_page}
-use Rattle.mobile_core.specs.Tuning.{Tuning}
-use Rattle.mobile_core.specs.declared.mark.Mark.{Mark}
+use Rattle.heard_events.specs.PagingEvents.{pages_behind, with_page}
+use Rattle.heard_events.specs.Tuning.{Tuning}
+use Rattle.heard_events.specs.declared.mark.Mark.{Mark}
 use Rattle.clean_link.specs.CleanLink.{heard_behind, IsOnPath, IsTrueMark}
 use Rattle.clean_link.specs.WholePages.{cycle_half_frames, is_whole_page, placed, Placed}
 

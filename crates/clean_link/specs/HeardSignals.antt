@@ -10,8 +10,8 @@ use Rattle.cell_plan.specs.TrafficFrames.{cycled_frame}
 use Rattle.cell_plan.specs.declared.plan.CellPlan.{CellPlan}
 use Rattle.cell_plan.specs.declared.plan.TrafficPlan.{TrafficPlan}
 use Rattle.cell_plan.specs.declared.traffic_frame.TrafficFrame.{TrafficFrame}
-use Rattle.mobile_core.specs.Signaling.{capsule_with, message_events, signal_in}
-use Rattle.mobile_core.specs.declared.event.Event.{Event}
+use Rattle.heard_events.specs.Signaling.{capsule_with, message_events, signal_in}
+use Rattle.heard_events.specs.declared.event.Event.{Event}
 use Rattle.clean_link.specs.HeardFrames.{frame_ends, is_received, received_frames, told_on}
 
 -- a frame's signaling, where it has any

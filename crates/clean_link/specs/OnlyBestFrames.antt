@@ -17,13 +17,13 @@ use Rattle.cell_plan.specs.declared.plan.CellPlan.{CellPlan}
 use Rattle.cell_plan.specs.declared.plan.TrafficPlan.{TrafficPlan}
 use Rattle.cell_plan.specs.declared.traffic_frame.TrafficFrame.{TrafficFrame}
 use Rattle.cell_plan.specs.declared.traffic_frame2.TrafficFrame2.{TrafficFrame2}
-use Rattle.mobile_core.specs.Streams.{frame_softs}
-use Rattle.mobile_core.specs.TrafficStreams.{replaced_in, stream_of}
-use Rattle.mobile_core.specs.Tuning.{Tuning}
-use Rattle.mobile_core.specs.declared.legs.Leg.{Leg}
-use Rattle.mobile_core.specs.declared.mark.Mark.{Mark}
+use Rattle.heard_events.specs.Streams.{frame_softs}
+use Rattle.heard_events.specs.TrafficStreams.{replaced_in, stream_of}
+use Rattle.heard_events.specs.Tuning.{Tuning}
+use Rattle.heard_events.specs.declared.leg.Leg.{Leg}
+use Rattle.heard_events.specs.declared.mark.Mark.{Mark}
 use Rattle.chip_core.specs.declared.assignment.Traffic.{Traffic}
-use Rattle.mobile_core.specs.declared.soft_frame.SoftFrame.{SoftFrame}
+use Rattle.heard_events.specs.declared.soft_frame.SoftFrame.{SoftFrame}
 use Rattle.clean_link.specs.HeardFrames.{replaced_of, word_symbols, IsDistinctFrame}
 use Rattle.clean_link.specs.ReceivedFrames.{word_symbols2, IsDistinctFrame2, IsReceivedAs}
 use Rattle.clean_link.specs.TrafficLaws.{HearsTraffic, IsHeardAs}

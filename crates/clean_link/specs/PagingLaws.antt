@@ -16,12 +16,12 @@ use Rattle.cell_plan.specs.Signal.{cycle_of}
 use Rattle.cell_plan.specs.declared.plan.CellPlan.{CellPlan}
 use Rattle.cell_plan.specs.declared.plan.PagingPlan.{PagingPlan}
 use Rattle.cell_plan.specs.declared.plan.SyncPlan.{SyncPlan}
-use Rattle.mobile_core.specs.Marks.{mark}
-use Rattle.mobile_core.specs.PagingStreams.{paging_stream}
-use Rattle.mobile_core.specs.Streams.{frame_own_bits, frame_softs, is_in_file, span_first}
-use Rattle.mobile_core.specs.Streams.{span_frames}
-use Rattle.mobile_core.specs.Tuning.{Tuning}
-use Rattle.mobile_core.specs.declared.mark.Mark.{Mark}
+use Rattle.heard_events.specs.Marks.{mark}
+use Rattle.heard_events.specs.PagingStreams.{paging_stream}
+use Rattle.heard_events.specs.Streams.{frame_own_bits, frame_softs, is_in_file, span_first}
+use Rattle.heard_events.specs.Streams.{span_frames}
+use Rattle.heard_events.specs.Tuning.{Tuning}
+use Rattle.heard_events.specs.declared.mark.Mark.{Mark}
 use Rattle.clean_link.specs.CleanLink.{IsOnPath, IsTrueMark, soft_strength}
 use Rattle.cell_plan.specs.Stated.{IsReceivable}
 use Rattle.clean_link.specs.SentWords.{IsOnlyBest, span_word}

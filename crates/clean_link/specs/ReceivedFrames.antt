@@ -10,7 +10,7 @@ use Rattle.cell_plan.specs.TrafficFrames.{cycled, set_two, FrameCycle}
 use Rattle.cell_plan.specs.declared.plan.CellPlan.{CellPlan}
 use Rattle.cell_plan.specs.declared.plan.TrafficPlan.{TrafficPlan}
 use Rattle.cell_plan.specs.declared.traffic_frame2.TrafficFrame2.{TrafficFrame2}
-use Rattle.mobile_core.specs.declared.soft_frame.SoftFrame.{SoftFrame}
+use Rattle.heard_events.specs.declared.soft_frame.SoftFrame.{SoftFrame}
 use Rattle.clean_link.specs.CleanLink.{soft_strength}
 use Rattle.clean_link.specs.HeardFrames.{frame_ends, is_received, received_frames, replaced_of}
 use Rattle.clean_link.specs.HeardFrames.{sent_bits, ShowFrame}

@@ -7,7 +7,7 @@ use Rattle.rake_finger.specs.declared.form.Form.{Form}
 use Rattle.cell_plan.specs.Signal.{Carrier, level}
 use Rattle.cell_plan.specs.Transmitter.{phase_at}
 use Rattle.cell_plan.specs.declared.plan.CellPlan.{CellPlan}
-use Rattle.mobile_core.specs.Streams.{Stream}
+use Rattle.heard_events.specs.Streams.{Stream}
 
 -- ---- channels that can be told apart
 

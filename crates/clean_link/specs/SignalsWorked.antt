@@ -15,7 +15,7 @@ use Rattle.traffic_message.specs.declared.body.TrafficBody.TheVariants.{Other}
 use Rattle.cell_plan.specs.declared.plan.CellPlan.{CellPlan}
 use Rattle.cell_plan.specs.declared.frame_list.FrameList.TheVariants.{SetOne}
 use Rattle.cell_plan.specs.declared.traffic_frame.TrafficFrame.{TrafficFrame}
-use Rattle.mobile_core.specs.declared.event.Event.TheVariants.{Traffic}
+use Rattle.heard_events.specs.declared.event.Event.TheVariants.{Traffic}
 use Rattle.clean_link.specs.HeardSignals.{messages_sent}
 
 -- a message of twelve octets, whose capsule has 120 bits

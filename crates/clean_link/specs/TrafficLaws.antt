@@ -13,13 +13,13 @@ use Rattle.cell_plan.specs.TrafficFrames.{cycled_frame}
 use Rattle.cell_plan.specs.declared.plan.CellPlan.{CellPlan}
 use Rattle.cell_plan.specs.declared.plan.TrafficPlan.{TrafficPlan}
 use Rattle.cell_plan.specs.declared.traffic_frame.TrafficFrame.{TrafficFrame}
-use Rattle.mobile_core.specs.Moments.{frames_at, legs_at, messages_at}
-use Rattle.mobile_core.specs.Streams.{frame_softs}
-use Rattle.mobile_core.specs.TrafficEvents.{commands_at, decoded_at, frame_heard, unturned_softs}
-use Rattle.mobile_core.specs.TrafficStreams.{has_frame, replaced_in, stream_of}
-use Rattle.mobile_core.specs.Tuning.{Tuning}
-use Rattle.mobile_core.specs.declared.legs.Leg.{Leg}
-use Rattle.mobile_core.specs.declared.mark.Mark.{Mark}
+use Rattle.heard_events.specs.Moments.{frames_at, legs_at, messages_at}
+use Rattle.heard_events.specs.Streams.{frame_softs}
+use Rattle.heard_events.specs.TrafficEvents.{commands_at, decoded_at, frame_heard, unturned_softs}
+use Rattle.heard_events.specs.TrafficStreams.{has_frame, replaced_in, stream_of}
+use Rattle.heard_events.specs.Tuning.{Tuning}
+use Rattle.heard_events.specs.declared.leg.Leg.{Leg}
+use Rattle.heard_events.specs.declared.mark.Mark.{Mark}
 use Rattle.chip_core.specs.declared.assignment.Traffic.{Traffic}
 use Rattle.clean_link.specs.CleanLink.{IsNotDirected, IsOnPath, IsTrueMark, soft_strength}
 use Rattle.cell_plan.specs.Stated.{IsReceivable}

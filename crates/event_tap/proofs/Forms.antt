@@ -1,8 +1,8 @@
 -- The line that a form below 3 has for an event.
 use Rattle.std.proofs.Common.{◌≡◌, ℕ, zero, suc, ◌≤◌, if◌then◌else◌, nat_eq, List, None}
 use Rattle.std.proofs.Common.{Some, refl, sym, ap, ◌∙◌, arith}
-use Rattle.mobile_core.specs.declared.event.Event.{Event}
-use Rattle.mobile_core.specs.declared.event.Event.TheVariants.{Pilot, Sync, Paging, Frame, Traffic, Sets}
+use Rattle.heard_events.specs.declared.event.Event.{Event}
+use Rattle.heard_events.specs.declared.event.Event.TheVariants.{Pilot, Sync, Paging, Frame, Traffic, Sets}
 use Rattle.event_tap.specs.EventLines.{event_line}
 use Rattle.event_tap.specs.Taps.{form_line, message_line, plain_form}
 

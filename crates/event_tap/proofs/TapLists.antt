@@ -13,7 +13,7 @@ use Rattle.std.proofs.KnownBytes.{Appends-trans}
 use Rattle.std.specs.List.{remove}
 use Rattle.std.specs.Io.KnownBytes.{Appends}
 use Rattle.cdma_io.specs.Outside.{AppendsPrefix}
-use Rattle.mobile_core.specs.declared.event.Event.{Event}
+use Rattle.heard_events.specs.declared.event.Event.{Event}
 use Rattle.event_tap.specs.Taps.{KeptTap, IsKept, heard_at, heard_text, kept_by, tap_behind}
 use Rattle.event_tap.specs.Taps.{kept_with, left_behind, line_text, form_line, taps_behind}
 use Rattle.event_tap.specs.declared.tap.Heard.{Heard}

@@ -6,8 +6,8 @@ use Rattle.event_tap.specs.Lines.{pilot_line, sync_line}
 use Rattle.event_tap.specs.PagingLines.{paging_line}
 use Rattle.event_tap.specs.SetsLines.{sets_line}
 use Rattle.event_tap.specs.TrafficLines.{traffic_line}
-use Rattle.mobile_core.specs.declared.event.Event.{Event}
-use Rattle.mobile_core.specs.declared.event.Event.TheVariants.{Pilot, Sync, Paging, Frame, Traffic, Sets}
+use Rattle.heard_events.specs.declared.event.Event.{Event}
+use Rattle.heard_events.specs.declared.event.Event.TheVariants.{Pilot, Sync, Paging, Frame, Traffic, Sets}
 
 -- the line of an event
 unfoldable pub event_line : Event → List ℕ

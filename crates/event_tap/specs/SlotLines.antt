@@ -11,13 +11,13 @@ use Rattle.quality_bits.specs.declared.rate.Rate.{Rate}
 use Rattle.paging_message.specs.HalfFrames.{capsules_in, half_frame_body}
 use Rattle.paging_message.specs.Reading.{paging_reading}
 use Rattle.paging_message.specs.declared.message.PagingMessage.{PagingMessage}
-use Rattle.mobile_core.specs.Channels.{channel_stream}
-use Rattle.mobile_core.specs.Marks.{mark}
-use Rattle.mobile_core.specs.PagingStreams.{paging_rate}
-use Rattle.mobile_core.specs.Streams.{Stream, frame_end, frame_softs, frame_start, is_in_file}
-use Rattle.mobile_core.specs.Tuning.{Tuning}
-use Rattle.mobile_core.specs.declared.channel.Channel.TheVariants.{Paging}
-use Rattle.mobile_core.specs.declared.mark.Mark.{Mark}
+use Rattle.heard_events.specs.Channels.{channel_stream}
+use Rattle.heard_events.specs.Marks.{mark}
+use Rattle.heard_events.specs.PagingStreams.{paging_rate}
+use Rattle.heard_events.specs.Streams.{Stream, frame_end, frame_softs, frame_start, is_in_file}
+use Rattle.heard_events.specs.Tuning.{Tuning}
+use Rattle.heard_events.specs.declared.channel.Channel.TheVariants.{Paging}
+use Rattle.heard_events.specs.declared.mark.Mark.{Mark}
 use Rattle.slot_mode.specs.Frames.{slot_bits}
 use Rattle.slot_mode.specs.Slots.{is_monitored}
 use Rattle.event_tap.specs.PagingLines.{paging_line, slot_line}

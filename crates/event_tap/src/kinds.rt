@@ -7,8 +7,8 @@ ghost use Rattle.event_tap.specs.Taps.{form_line, heard_at, left_behind, line_te
 use crate::line::line_into;
 use crate::parts::append_raw;
 use crate::tap::{Heard, Tap};
+use heard_events::Event;
 use line_text::Text;
-use mobile_core::Event;
 
 /// Hears the pilot and the pilot sets, in form 0.
 pub type PilotTap = FormTap<0>;

@@ -4,7 +4,7 @@ ghost use Rattle.std.specs.Prelude.{◌≡◌, ◌≤◌, ◌<◌, ◌++◌, ◌
 ghost use Rattle.event_tap.specs.EventLines.{text_of};
 ghost use Rattle.event_tap.specs.Taps.{KeptTap, form_lines, joined, kept_by, kept_with, run_taps};
 ghost use Rattle.event_tap.specs.Taps.{run_text};
-ghost use Rattle.mobile_core.specs.declared.event.Event.{Event as TheEvent};
+ghost use Rattle.heard_events.specs.declared.event.Event.{Event as TheEvent};
 
 /// A tap hears just the first events of its form's kinds, as many as its limit says.
 pub fn taps_hear_the_first_events()

@@ -3,8 +3,8 @@
 ghost use Rattle.std.specs.Prelude.{ℕ, ◌≡◌, ◌≤◌};
 ghost use Rattle.event_tap.specs.Taps.{form_line, heard_at, left_behind, line_text};
 
+use heard_events::Event;
 use line_text::Text;
-use mobile_core::Event;
 
 /// Whether a tap hears on.
 #[derive(Clone, Copy, PartialEq, Eq, Debug)]

@@ -7,8 +7,8 @@ ghost use Rattle.event_tap.specs.Taps.{IsKept, KeptTap, heard_text, kept_by, kep
 
 use crate::tap::{Heard, Tap};
 use cdma_io::{Failed, Sink, write_all};
+use heard_events::Event;
 use line_text::Text;
-use mobile_core::Event;
 
 impl Tap for Box<dyn Tap> {
     ghost shape = { λ b. (Tap-box b).shape b.value };

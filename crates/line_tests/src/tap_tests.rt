@@ -5,7 +5,7 @@ ghost use Rattle.std.specs.Prelude.{◌-◌};
 use cdma_io::{Failed, MemorySink};
 use chip_core::Phase;
 use event_tap::{Heard, PilotTap, Tap, Taps, Text, line_into};
-use mobile_core::Event;
+use heard_events::Event;
 use std::test::Fail;
 
 /// A tap of pilots that counts those that it heard.

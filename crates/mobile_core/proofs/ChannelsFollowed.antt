@@ -1,11 +1,11 @@
 -- What the channels behind the mark have still to give, as samples come.
-use Rattle.mobile_core.proofs.Common.{◌≡◌, ℕ, ◌+◌, ◌<◌, ◌≤◌, List, [], ◌++◌, length, map, refl, ap, ◌∙◌, inl, inr, Bool, true, false}
-use Rattle.mobile_core.proofs.Common.{Option, Some, None, arith, length-append, nat_lt, IsTrue, ◌↔◌, if◌then◌else◌, Sample, HearsFollowed}
-use Rattle.mobile_core.proofs.Common.{IsFollowedDue, WaitFrom, IsSoundFollowed, followed_events_left, AreNear, page_event, pages_behind}
-use Rattle.mobile_core.proofs.Common.{IsReceiverDue, paging_events_left, IsFrameDue, Tuning, sync_stream, Event, Followed, Mark}
-use Rattle.mobile_core.proofs.Common.{PagingReceiver}
-use Rattle.mobile_core.proofs.FramesFollowed.{FramesEndFrom, told_behind}
-use Rattle.mobile_core.proofs.MarkStays.{pages_later}
+use Rattle.mobile_core.proofs.Common.{◌≡◌, ℕ, ◌+◌, ◌<◌, ◌≤◌, List, [], ◌++◌, length, map, refl, ap, ◌∙◌, inl, inr, Bool, false, Option}
+use Rattle.mobile_core.proofs.Common.{Some, None, arith, length-append, nat_lt, IsTrue, ◌↔◌, Sample, HearsFollowed, IsFollowedDue, WaitFrom}
+use Rattle.mobile_core.proofs.Common.{IsSoundFollowed, followed_events_left, AreNear, page_event, pages_behind, IsReceiverDue}
+use Rattle.mobile_core.proofs.Common.{paging_events_left, IsFrameDue, Tuning, sync_stream, Followed, Mark, PagingReceiver}
+use Rattle.mobile_core.proofs.FramesFollowed.{FramesEndFrom}
+use Rattle.heard_events.proofs.FollowedEvents.{told_behind, followed_behind, unrated}
+use Rattle.heard_events.proofs.MarkStays.{pages_later}
 use Rattle.mobile_core.proofs.PagesFollowed.{EndsFrom}
 use Rattle.mobile_core.proofs.FramesFollowed as frames
 use Rattle.mobile_core.proofs.PagesFollowed as pages
@@ -14,12 +14,6 @@ use Rattle.mobile_core.proofs.PagesFollowed as pages
 pub record EndFrom (n : ℕ) (f : Followed) : Type 0 where
   pub paging : EndsFrom n f.paging.receiver
   pub traffic : FramesEndFrom n f.traffic.receiver
-
--- what is heard of both when just n samples have been taken, behind a mark that may be set
-abbrev pub followed_behind : Tuning → Option Mark → List Sample → ℕ → List Event
-followed_behind t mark samples n =
-    map (page_event n) (pages_behind t t.paging mark samples n)
-    ++ told_behind t t.traffic mark samples n
 
 -- where something is due that isn't on the paging channel, it is on the traffic channel
 pub other_due : (count : ℕ) (f : Followed) (paged : Bool) →
@@ -30,11 +24,6 @@ other_due count f paged is none due =
       | inl d ↦ let e = is.1 d in absurd (cc)
       | inr d ↦ d
     ]
-
-pub unrated : {A : Type 0} (b : Bool) (pages : List A) → pages ≡ [] →
-    (if b then pages else []) ≡ []
-unrated true pages none = none
-unrated false pages none = refl
 
 both_none : {A : Type 0} (xs ys : List A) → xs ≡ [] → ys ≡ [] → xs ++ ys ≡ []
 both_none xs ys none none' = ap (λ (zs : List _). zs ++ ys) none ∙ none'

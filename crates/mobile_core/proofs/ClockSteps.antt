@@ -2,10 +2,11 @@
 use Rattle.mobile_core.proofs.Common.{◌≡◌, ℕ, ◌+◌, ◌-◌, ◌*◌, ◌<◌, ◌≤◌, true, refl, sym, ap, ◌∙◌, arith, ◌⊎◌, inl, inr, nat_lt, false}
 use Rattle.mobile_core.proofs.Common.{cases_lt, lt-ltb, le-ltb, frame_chips, Form, Sync, Data, IsAt, IsDueAt, clock_from, first_frame}
 use Rattle.mobile_core.proofs.Common.{frame_come, frame_heard, span_from, AreNear, IsDue, Stream, frame_start, is_in_file, known_at}
-use Rattle.mobile_core.proofs.Common.{span_first, span_frames, stream_end, FrameClock}
-use Rattle.mobile_core.proofs.FingerTimes.{start_step, timed_in}
+use Rattle.mobile_core.proofs.Common.{span_first, span_frames, stream_end, FrameClock, Bool, List, if◌then◌else◌, Finger, all_begun}
+use Rattle.mobile_core.proofs.Common.{frame_end}
+use Rattle.heard_events.proofs.FingerTimes.{start_step, timed_in, ends_bounds, times_one}
 use Rattle.mobile_core.proofs.Progresses as progress
-use Rattle.mobile_core.proofs.Spans as spans
+use Rattle.heard_events.proofs.Spans as spans
 
 -- a span begins with the frame before, where that is in the file
 abbrev BeginsSpan : FrameClock → ℕ → Type 0
@@ -177,3 +178,18 @@ module _ {count : ℕ} {s : Stream} {c : FrameClock} {n : ℕ} (is : IsAt count 
               ]
         ],
       )
+
+-- THE FIRST FRAME IN THE FILE
+one_most : (b : Bool) → (if b then 0 else 1) ≤ 1
+one_most true = omega arith
+one_most false = omega arith
+
+-- it ends early
+pub first_end : (form : Form) (first : ℕ) (fingers : List Finger) → AreNear fingers →
+    frame_end fingers form (first + frame_chips form * first_frame fingers first)
+    ≤ first + 2 * frame_chips form + 128
+first_end form first fingers near =
+    let frame : ℕ = first_frame fingers first in
+    let bounds = ends_bounds form (first + frame_chips form * frame) fingers near in
+    let moved = times_one (frame_chips form) frame (one_most (all_begun first fingers)) in
+    omega (arith, bounds.1, moved)

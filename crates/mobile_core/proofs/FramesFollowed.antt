@@ -1,16 +1,16 @@
 -- What a handset's traffic channel has still to give, as samples come.
 use Rattle.mobile_core.proofs.Common.{◌≡◌, ℕ, ◌+◌, ◌^◌, ◌<◌, ◌≤◌, ◌==◌, List, [], ◌++◌, length, refl, sym, ap, subst, ◌∙◌, arith, inl, inr}
 use Rattle.mobile_core.proofs.Common.{Option, Some, None, take, map, true, false, length-append, Bool, is_some, if◌then◌else◌, ForSome}
-use Rattle.mobile_core.proofs.Common.{cases_lt, false_from_ne_true, ne_eqb, take_all, Sample, listed, frames_at, frames_behind, heard_from}
-use Rattle.mobile_core.proofs.Common.{kept_to, legs_at, legs_by, messages_at, messages_behind, moment_place, moments_before, sets_at}
-use Rattle.mobile_core.proofs.Common.{sets_behind, sets_events, page_event, pages_behind, coming_place, FramesWaitFrom, HearsFrames}
-use Rattle.mobile_core.proofs.Common.{HearsFramesBehind, IsFrameDue, IsUnheard, traffic_events_left, traffic_due_by, traffic_heard_by}
-use Rattle.mobile_core.proofs.Common.{traffic_left_behind, HearsTraffic, HearsWith, IsSoundTraffic, IsTrafficDue, kept_in, next_end}
-use Rattle.mobile_core.proofs.Common.{noted_by, sets_left_of, traffic_due, WaitsAt, traffic_left_of, told_left_with, Tuning, Event, Leg}
-use Rattle.mobile_core.proofs.Common.{Mark, Traffic, TrafficMonitor, TrafficReceiver}
+use Rattle.mobile_core.proofs.Common.{cases_lt, false_from_ne_true, ne_eqb, take_all, Sample, listed, frames_at, heard_from, kept_to}
+use Rattle.mobile_core.proofs.Common.{legs_at, legs_by, messages_at, moment_place, moments_before, sets_at, sets_events, page_event}
+use Rattle.mobile_core.proofs.Common.{pages_behind, coming_place, FramesWaitFrom, HearsFrames, HearsFramesBehind, IsFrameDue, IsUnheard}
+use Rattle.mobile_core.proofs.Common.{traffic_events_left, traffic_due_by, traffic_heard_by, traffic_left_behind, HearsTraffic, HearsWith}
+use Rattle.mobile_core.proofs.Common.{IsSoundTraffic, IsTrafficDue, kept_in, next_end, noted_by, sets_left_of, traffic_due, WaitsAt}
+use Rattle.mobile_core.proofs.Common.{traffic_left_of, told_left_with, Tuning, Event, Leg, Mark, Traffic, TrafficMonitor, TrafficReceiver}
 use Rattle.mobile_core.proofs.FramesHeard.{none_come, none_kept, told_come, told_given, told_quiet}
-use Rattle.mobile_core.proofs.MomentGrowth.{kept_sooner}
-use Rattle.mobile_core.proofs.TrafficGrowth.{told_at}
+use Rattle.heard_events.proofs.MomentGrowth.{kept_sooner}
+use Rattle.heard_events.proofs.TrafficGrowth.{told_at}
+use Rattle.heard_events.proofs.FollowedEvents.{told_behind}
 use Rattle.mobile_core.proofs.FramesHeard as heard_frames
 
 -- the frame that comes next ends at so many samples or later, and so lies the next moment
@@ -22,17 +22,6 @@ abbrev pub all_told : Tuning → Traffic → Mark → List Sample → ℕ → Li
 all_told t traffic m samples n =
     (frames_at t traffic m samples n ++ messages_at t traffic m samples n)
     ++ sets_at t traffic m samples n
-
-abbrev pub told_behind : Tuning → Option Traffic → Option Mark → List Sample → ℕ → List Event
-told_behind t followed mark samples n =
-    (frames_behind t followed mark samples n ++ messages_behind t followed mark samples n)
-    ++ sets_behind t followed mark samples n
-
--- where no mark is set nothing is heard
-pub told_unset : (t : Tuning) (followed : Option Traffic) (xs : List Sample) (n : ℕ) →
-    told_behind t followed None xs n ≡ []
-told_unset t None xs n = refl
-told_unset t (Some traffic) xs n = refl
 
 pub unheard : (t : Tuning) (followed : Option Traffic) (mark : Option Mark)
     (samples : List Sample) (n : ℕ) → IsUnheard followed mark →

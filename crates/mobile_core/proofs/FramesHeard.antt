@@ -9,11 +9,11 @@ use Rattle.mobile_core.proofs.Common.{unturned_softs, HasTold, HearsWith, IsSoun
 use Rattle.mobile_core.proofs.Common.{chips_behind, frame_known, frame_state, has_frame, replaced_in, traffic_start, Tuning, Event, Leg}
 use Rattle.mobile_core.proofs.Common.{Mark, SetsKeeper, Traffic, SpelledSignal, TrafficReceiver}
 use Rattle.mobile_core.specs.TrafficReceiving.{fingers_in}
-use Rattle.mobile_core.proofs.CloseFingers.{close_ends}
-use Rattle.mobile_core.proofs.FrameBounds.{AreCloseAll, has_here, known_high, known_is, known_later, known_low}
-use Rattle.mobile_core.proofs.MessageGrowth.{signals_sooner}
-use Rattle.mobile_core.proofs.TrafficGrowth.{heard_grown, heard_none, told_at, told_first, told_is, told_left, told_left_all}
-use Rattle.mobile_core.proofs.TrafficGrowth.{told_left_none, told_none}
+use Rattle.heard_events.proofs.CloseFingers.{close_ends}
+use Rattle.heard_events.proofs.FrameBounds.{AreCloseAll, has_here, known_high, known_is, known_later, known_low}
+use Rattle.heard_events.proofs.MessageGrowth.{signals_sooner}
+use Rattle.heard_events.proofs.TrafficGrowth.{heard_grown, heard_none, told_at, told_first, told_is, told_left, told_left_all}
+use Rattle.heard_events.proofs.TrafficGrowth.{told_left_none, told_none}
 use Rattle.frame_decoder.specs.TrafficFrames as frames
 
 -- the long code's state at a frame's first chip

@@ -6,9 +6,9 @@ use Rattle.mobile_core.proofs.Common.{new_standing, StandsFor, Finger, Data, Are
 use Rattle.mobile_core.proofs.Common.{pilot_finger, heard_from, kept_to, moment_place, all_noted, signals_before, frame_end, HearsTraffic}
 use Rattle.mobile_core.proofs.Common.{HearsWith, told_left_with, frame_state, traffic_start, Tuning, fingers_of, Event, Leg, Mark}
 use Rattle.mobile_core.proofs.Common.{Scrambling, SetsKeeper, Traffic, TrafficReceiver}
-use Rattle.mobile_core.proofs.FrameBounds.{known_low}
-use Rattle.mobile_core.proofs.MarkStays.{pilot_alone}
-use Rattle.mobile_core.proofs.TrafficGrowth.{heard_none, told_left_none}
+use Rattle.heard_events.proofs.FrameBounds.{known_low}
+use Rattle.heard_events.proofs.MarkStays.{pilot_alone}
+use Rattle.heard_events.proofs.TrafficGrowth.{heard_none, told_left_none}
 
 -- no soft value has come
 pub zeros_few : sum_by unsigned_abs (replicate 384 (pos 0)) ≡ 0

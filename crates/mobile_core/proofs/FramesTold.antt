@@ -7,15 +7,15 @@ use Rattle.mobile_core.proofs.Common.{legs_by, moment_place, all_noted, body_not
 use Rattle.mobile_core.proofs.Common.{system_thresholds, capsule_with, message_at, message_events, signal_at, signal_in, signal_of}
 use Rattle.mobile_core.proofs.Common.{signals_before, HasTold, HearsWith, IsSoundTraffic, noted_by, told_left_with, frames_left_of}
 use Rattle.mobile_core.proofs.Common.{messages_left_of, frame_known, Tuning, Event, Mark, Traffic, SpelledSignal, TrafficReceiver}
-use Rattle.mobile_core.proofs.FrameBounds.{known_bound}
-use Rattle.mobile_core.proofs.FrameGrowth.{frame_next}
+use Rattle.heard_events.proofs.FrameBounds.{known_bound}
+use Rattle.heard_events.proofs.FrameGrowth.{frame_next}
 use Rattle.mobile_core.proofs.FramesHeard.{closes, due_inside}
-use Rattle.mobile_core.proofs.MessageGrowth.{message_next, signals_more}
-use Rattle.mobile_core.proofs.TrafficGrowth.{frame_alone, one_left, told_left}
+use Rattle.heard_events.proofs.MessageGrowth.{message_next, signals_more}
+use Rattle.heard_events.proofs.TrafficGrowth.{frame_alone, one_left, told_left}
 use Rattle.paging_message.specs.declared.message.PagingMessage.TheVariants as pages
 use Rattle.traffic_message.specs.declared.body.TrafficBody.TheVariants as bodies
-use Rattle.mobile_core.specs.TrafficEvents.{commands_at, decoded_at, frame_event, frame_heard as heard_frame}
-use Rattle.mobile_core.specs.declared.event.Event.TheVariants as events
+use Rattle.heard_events.specs.TrafficEvents.{commands_at, decoded_at, frame_event, frame_heard as heard_frame}
+use Rattle.heard_events.specs.declared.event.Event.TheVariants as events
 
 -- where no message is kept a frame has come
 pub told_come : (r : TrafficReceiver) → HasTold r → r.kept ≡ None → r.next < r.have

@@ -1,166 +1,15 @@
 -- A handset that has just told a mark has taken no sample behind it.
-use Rattle.mobile_core.proofs.Common.{◌≡◌, ℕ, zero, suc, ◌+◌, ◌-◌, ◌<◌, ◌≤◌, Bool, true, false, List, [], ◌∷◌, ◌++◌, length, refl, sym, ap}
-use Rattle.mobile_core.proofs.Common.{◌∙◌, arith, inl, inr, nat_le, ◌==◌, ◌&&◌, Some, is_some, flat_map, list_all, list_any, range_with_len}
-use Rattle.mobile_core.proofs.Common.{and_from, and_parts, cases_Bool, cases_lt, eq-eqb, le-leb, lt-leb, or_cases, or_left, or_right}
-use Rattle.mobile_core.proofs.Common.{append_assoc, list_all-append, list_any-append, flat_map-places-more, places, Sample, events_at}
-use Rattle.mobile_core.proofs.Common.{frame_events_at, heard_within, message_events_at, paging_events_at, sets_events_at, at_of, first_of}
-use Rattle.mobile_core.proofs.Common.{frames_open, mark, marks_at, sets_mark, AreNear, Parts, Stands, events_left, frame_start, events_of}
-use Rattle.mobile_core.proofs.Common.{heard_at, sync_events_at, Tuning, sync_bound, sync_stream, Event, Pilot, Mark}
-use Rattle.std.specs.List.{filter}
-use Rattle.mobile_core.proofs.ClockSteps.{before_next}
-use Rattle.mobile_core.proofs.EventPlaces.{AreAt, all_at}
-use Rattle.mobile_core.proofs.FrameTimes.{known_between}
-use Rattle.mobile_core.proofs.Growth.{IsSyncTimed, sync_in_file, sync_known}
-use Rattle.mobile_core.proofs.MarkLater.{mark_later}
-use Rattle.mobile_core.proofs.MarkStays.{mark_set, mark_told}
-use Rattle.mobile_core.proofs.SyncHeard.{noted_event}
-
--- WHAT STANDS IN LISTS
--- a piece that has one gives one
-any_in : {A : Type 0} (q : A → Bool) (f : ℕ → List A) (a n k : ℕ) → a ≤ k → k < a + n →
-    list_any q (f k) ≡ true → list_any q (flat_map f (range_with_len a n)) ≡ true
-any_in q f a zero k low below h = absurd (omega (arith, low, below))
-any_in q f a (suc n) k low below h =
-    let rest = flat_map f (range_with_len (a + 1) n) in
-    elim (cases_lt a k) [
-      | inl less ↦
-          let later = any_in q f (a + 1) n k (omega (arith, less)) (omega (arith, below)) h in
-          list_any-append q (f a) rest ∙ or_right (list_any q (f a)) (list_any q rest) later
-      | inr more ↦
-          let same : a ≡ k = omega (arith, low, more) in
-          list_any-append q (f a) rest
-          ∙ or_left (list_any q (f a)) (list_any q rest)
-          (ap (λ (j : ℕ). list_any q (f j)) same ∙ h)
-    ]
-
--- the same of the numbers that pass a test
-any_kept : {A : Type 0} (q : A → Bool) (f : ℕ → List A) (p : ℕ → Bool) (a n k : ℕ) → a ≤ k →
-    k < a + n → p k ≡ true → list_any q (f k) ≡ true →
-    list_any q (flat_map f (filter p (range_with_len a n))) ≡ true
-any_kept q f p a zero k low below here h = absurd (omega (arith, low, below))
-any_kept q f p a (suc n) k low below here h =
-    let rest = flat_map f (filter p (range_with_len (a + 1) n)) in
-    elim (cases_lt a k) [
-      | inl less ↦
-          let later =
-          any_kept q f p (a + 1) n k (omega (arith, less)) (omega (arith, below)) here h in
-          elim (cases_Bool (p a)) [
-            | inl there ↦
-                rw there
-                (list_any-append q (f a) rest
-                ∙ or_right (list_any q (f a)) (list_any q rest) later)
-            | inr gone ↦ rw gone later
-          ]
-      | inr more ↦
-          let same : a ≡ k = omega (arith, low, more) in
-          let there : p a ≡ true = ap p same ∙ here in
-          rw there
-          (list_any-append q (f a) rest
-          ∙ or_left (list_any q (f a)) (list_any q rest)
-          (ap (λ (j : ℕ). list_any q (f j)) same ∙ h))
-    ]
-
--- What some of a list's first part have, those before the first of its second part have.
-first_part : {A : Type 0} (p q : A → Bool) (xs ys later zs : List A) (e : A) → p e ≡ false →
-    list_all p ys ≡ true → list_any q ys ≡ true → xs ++ e ∷ zs ≡ ys ++ later →
-    list_any q xs ≡ true
-first_part p q xs [] later zs e none all some same = absurd (cc)
-first_part p q [] (y ∷ ys) later zs e none all some same =
-    let same' : e ∷ zs ≡ y ∷ (ys ++ later) = same in
-    let first : e ≡ y = cc in
-    let here = (and_parts (p y) (list_all p ys) all).0 in
-    let both : true ≡ false = sym here ∙ ap p (sym first) ∙ none in
-    absurd (cc)
-first_part p q (x ∷ xs) (y ∷ ys) later zs e none all some same =
-    let same' : x ∷ (xs ++ e ∷ zs) ≡ y ∷ (ys ++ later) = same in
-    let first : x ≡ y = cc in
-    let behind : xs ++ e ∷ zs ≡ ys ++ later = cc in
-    let rest = (and_parts (p y) (list_all p ys) all).1 in
-    elim (or_cases (q y) (list_any q ys) some) [
-      | inl here ↦ or_left (q x) (list_any q xs) (ap q first ∙ here)
-      | inr there ↦
-          or_right (q x) (list_any q xs)
-          (first_part p q xs ys later zs e none rest there behind)
-    ]
-
--- EVENTS
--- events of one number of samples end before a later one
-abbrev is_before : ℕ → Event → Bool
-is_before n event = nat_le (at_of event + 1) n
-
-before_at : (n i : ℕ) (events : List Event) → i < n → AreAt i events →
-    list_all (is_before n) events ≡ true
-before_at n i [] less here = refl
-before_at n i (event ∷ events) less here =
-    let at' = here.0 in
-    and_from (is_before n event) (list_all (is_before n) events)
-    (le-leb (at_of event + 1) n (omega (arith, at', less))) (before_at n i events less here.1)
-
-all_before : (f : ℕ → List Event) (n a d : ℕ) → ((i : ℕ) → AreAt i (f i)) → a + d ≤ n →
-    list_all (is_before n) (flat_map f (range_with_len a d)) ≡ true
-all_before f n a zero here most = refl
-all_before f n a (suc d) here most =
-    let rest = flat_map f (range_with_len (a + 1) d) in
-    list_all-append (is_before n) (f a) rest
-    ∙ and_from (list_all (is_before n) (f a)) (list_all (is_before n) rest)
-    (before_at n a (f a) (omega (arith, most)) (here a))
-    (all_before f n (a + 1) d here (omega (arith, most)))
-
-module _ (t : Tuning) (samples : List Sample) (k low : ℕ) (timed : IsSyncTimed t low)
-    (inside : sync_in_file t k ≡ true) (m : Mark)
-    (sets : first_of (marks_at t samples k) ≡ Some m) where
-  -- the event of a message that sets a mark says so
-  told_so : list_any sets_mark (events_of (sync_known t k) (heard_at t samples k)) ≡ true
-  unfolding marks_at
-  told_so =
-      sym (noted_event (heard_at t samples k)
-      (frame_start (sync_stream t) (k + 1 - frames_open t samples (k + 1))) (sync_known t k))
-      ∙ ap is_some sets
-
-  -- it is among those of the number of samples at which its frame is known
-  among_sync : list_any sets_mark (sync_events_at t samples (sync_known t k)) ≡ true
-  unfolding sync_events_at places
-  among_sync =
-      let n : ℕ = sync_known t k in
-      let between = known_between (sync_stream t) timed k inside in
-      let early = timed.early k in
-      let here : (sync_in_file t k && sync_known t k == n) ≡ true =
-      and_from (sync_in_file t k) (sync_known t k == n) inside (eq-eqb (sync_known t k) n refl) in
-      any_kept sets_mark (λ j. events_of n (heard_at t samples j))
-      (λ j. sync_in_file t j && sync_known t j == n) 0 (sync_bound n) k (omega arith)
-      (omega (arith, between.low, early)) here told_so
-
-  among : list_any sets_mark (events_at t samples (sync_known t k)) ≡ true
-  unfolding events_at
-  among =
-      let n : ℕ = sync_known t k in
-      let sync = sync_events_at t samples n in
-      let others = paging_events_at t samples n
-      ++ (frame_events_at t samples n
-      ++ (message_events_at t samples n ++ sets_events_at t samples n)) in
-      list_any-append sets_mark sync others
-      ∙ or_left (list_any sets_mark sync) (list_any sets_mark others) among_sync
-
-  -- and so among all that end before a later one
-  pub among_before : (n : ℕ) → sync_known t k < n →
-      list_any sets_mark (flat_map (events_at t samples) (places n)) ≡ true
-  unfolding places
-  among_before n less =
-      any_in sets_mark (events_at t samples) 0 n (sync_known t k) (omega arith)
-      (omega (arith, less)) among
-
-module _ (t : Tuning) (samples : List Sample) where
-  -- all that end before a number of samples do
-  ends_before : (n : ℕ) →
-      list_all (is_before n) (flat_map (events_at t samples) (places n)) ≡ true
-  unfolding places
-  ends_before n = all_before (events_at t samples) n 0 n (all_at t samples) (omega arith)
-
-  heard_split : heard_within t samples (length samples)
-      ≡ flat_map (events_at t samples) (places (length samples))
-      ++ events_at t samples (length samples)
-  unfolding heard_within
-  heard_split = flat_map-places-more (events_at t samples) (length samples)
+use Rattle.mobile_core.proofs.Common.{◌≡◌, ℕ, ◌+◌, ◌-◌, ◌<◌, ◌≤◌, true, false, List, [], ◌∷◌, ◌++◌, length, sym, ap, ◌∙◌, arith, inl, inr}
+use Rattle.mobile_core.proofs.Common.{nat_le, Some, flat_map, list_all, list_any, and_from, cases_lt, le-leb, lt-leb, append_assoc, places}
+use Rattle.mobile_core.proofs.Common.{Sample, events_at, at_of, first_of, mark, marks_at, sets_mark, AreNear, Parts, Stands, events_left}
+use Rattle.mobile_core.proofs.Common.{Tuning, sync_stream, Event, Pilot, Mark, subst, Option, None, option_or, IsDueAt, mark_before}
+use Rattle.mobile_core.proofs.Common.{IsSoundSync, HearsSync, SyncReceiver}
+use Rattle.mobile_core.proofs.ClockSteps.{before_next, due_inside, due_known}
+use Rattle.heard_events.proofs.Growth.{sync_known}
+use Rattle.heard_events.proofs.MarkLater.{mark_later}
+use Rattle.heard_events.proofs.MarkStays.{mark_set, mark_told}
+use Rattle.heard_events.proofs.MarkGrowth.{mark_before_more}
+use Rattle.heard_events.proofs.MarkTold.{among_before, ends_before, first_part, heard_split, is_before}
 
 module _ {t : Tuning} {p : Parts} {heard : List Sample} (given : List Event) (event : Event)
     (st : Stands t p heard (given ++ event ∷ [])) (near : AreNear (sync_stream t).fingers) where
@@ -199,3 +48,29 @@ module _ {t : Tuning} {p : Parts} {heard : List Sample} (given : List Event) (ev
             absurd (cc)
         | inr more ↦ omega (arith, more, later)
       ]
+
+-- when a receiver sets its mark, the samples taken don't reach it
+pub opens_later : (t : Tuning) (heard : List Sample) (before after : SyncReceiver) (m : Mark) →
+    HearsSync t before heard → HearsSync t after heard → IsSoundSync after →
+    IsDueAt t.count before.received.clock →
+    after.received.clock.next ≡ before.received.clock.next + 1 → before.mark ≡ None →
+    after.mark ≡ Some m → length heard < m.sample
+opens_later t heard before after m was now sound d next unmarked marked =
+    let s = sync_stream t in
+    let k : ℕ = before.received.clock.next in
+    let is = was.receives.clocked in
+    let inside = due_inside is d in
+    let known = due_known is d in
+    let near : AreNear s.fingers =
+    subst AreNear now.receives.fingers_are sound.channel.near in
+    let first : first_of (marks_at t heard k) ≡ Some m =
+    sym
+    (mark_before_more t heard k inside
+    ∙ ap (λ (x : Option Mark). option_or x (first_of (marks_at t heard k)))
+    (sym was.marked ∙ unmarked))
+    ∙ sym (ap (mark_before t heard) next)
+    ∙ sym now.marked
+    ∙ marked in
+    let later = mark_later t heard k before.received.clock.low near is.timed inside m
+    (sound.marked m marked).pilot first in
+    omega (arith, later, known)

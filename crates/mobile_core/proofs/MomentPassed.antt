@@ -7,10 +7,10 @@ use Rattle.mobile_core.proofs.Common.{sets_events, all_noted, signal_at, signals
 use Rattle.mobile_core.proofs.Common.{sets_left_of, told_left_with, traffic_left_of, frame_known, has_frame, Tuning, Event, Leg, Mark}
 use Rattle.mobile_core.proofs.Common.{SetsKeeper, Traffic, TrafficReceiver}
 use Rattle.std.proofs.lemmas.List.{append-nil}
-use Rattle.mobile_core.proofs.FrameBounds.{known_low}
+use Rattle.heard_events.proofs.FrameBounds.{known_low}
 use Rattle.mobile_core.proofs.FramesHeard.{closes, from_next, left_unkept, start_moment, told_given}
-use Rattle.mobile_core.proofs.MomentGrowth.{kept_new, kept_old}
-use Rattle.mobile_core.proofs.TrafficGrowth.{heard_none, told_left_none}
+use Rattle.heard_events.proofs.MomentGrowth.{kept_new, kept_old}
+use Rattle.heard_events.proofs.TrafficGrowth.{heard_none, told_left_none}
 
 -- FRAMES ARE HEARD FROM THE PILOTS OF THEIR OWN NUMBER ALONE
 module _ (t : Tuning) (traffic : Traffic) (m : Mark) (legs legs' : ℕ → List Leg) where

@@ -5,7 +5,7 @@ use Rattle.mobile_core.proofs.Common.{map-append, Sample, IsDueAt, page_event, p
 use Rattle.mobile_core.proofs.Common.{WaitsFrom, due_by, heard_by, is_paged, paging_events_left, HearsBit, HearsPaging, IsSoundPaging}
 use Rattle.mobile_core.proofs.Common.{bits_heard, pages_left, Tuning, Event, Mark, PagingMonitor, PagingReceiver, SpelledPage}
 use Rattle.mobile_core.proofs.ClockSteps.{before_next, from_next}
-use Rattle.mobile_core.proofs.PageGrowth.{pages_left_all, pages_left_none, pages_none}
+use Rattle.heard_events.proofs.PageGrowth.{pages_left_all, pages_left_none, pages_none}
 use Rattle.mobile_core.proofs.PagesHeard as pages
 
 -- the frame that comes next ends at so many samples or later

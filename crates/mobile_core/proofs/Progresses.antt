@@ -1,7 +1,7 @@
 -- What a step does to the progress.
 use Rattle.mobile_core.proofs.Common.{◌≡◌, ℕ, ◌+◌, ◌-◌, ◌<◌, ◌≤◌, true, refl, arith, inl, inr, cases_lt, cases_Bool, Stream, is_in_file}
 use Rattle.mobile_core.proofs.Common.{known_at, stream_end, IsTimed, IsReached, IsDue}
-use Rattle.mobile_core.proofs.FrameTimes.{ends_le, ends_lt, inside_from, inside_to, known_more, known_between, known_le, known_parts}
+use Rattle.heard_events.proofs.FrameTimes.{ends_le, ends_lt, inside_from, inside_to, known_more, known_between, known_le, known_parts}
 
 pub reached_none : {count low : ℕ} (s : Stream) → IsTimed count s low →
     IsReached count s low low low 0

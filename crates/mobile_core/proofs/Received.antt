@@ -5,8 +5,8 @@ use Rattle.mobile_core.proofs.Common.{IsDueAt, clock_from, first_frame, frame_co
 use Rattle.mobile_core.proofs.Common.{Stream, frame_softs, frame_own_bits, Continued, flat_map_ext_places, flat_map-places-more}
 use Rattle.std.proofs.lemmas.List.{length-drop}
 use Rattle.mobile_core.proofs.ClockSteps.{clock_new, clock_more, clock_come, clock_heard, span_bounds, span_is}
-use Rattle.mobile_core.proofs.FrameTimes.{inside_from}
-use Rattle.mobile_core.proofs.Spans.{frame_softs_sooner}
+use Rattle.heard_events.proofs.FrameTimes.{inside_from}
+use Rattle.heard_events.proofs.Spans.{frame_softs_sooner}
 use Rattle.mobile_core.proofs.SoftSums.{frames_fit, last_more, most_symbols}
 
 flat_map_last : {A : Type 0} (f : ℕ → List A) (m : ℕ) →

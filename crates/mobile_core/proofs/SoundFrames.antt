@@ -5,7 +5,7 @@ use Rattle.mobile_core.proofs.Common.{AreClose, legs_close, legs_rows, paths_clo
 use Rattle.mobile_core.proofs.Common.{IsSoundKeeper, coming_place, frame_end, HearsWith, IsSoundTraffic, Tuning, Event, Leg, Mark}
 use Rattle.mobile_core.proofs.Common.{SetsKeeper, Traffic, SpelledSignal, TrafficReceiver}
 use Rattle.mobile_core.specs.TrafficReceiving.{fingers_in}
-use Rattle.mobile_core.proofs.CloseFingers.{close_ends, close_later}
+use Rattle.heard_events.proofs.CloseFingers.{close_ends, close_later}
 use Rattle.mobile_core.proofs.LegFingers.{all_some, legs_are_close}
 
 module _ {r : TrafficReceiver} (is : IsSoundTraffic r) where

@@ -8,14 +8,16 @@ use Rattle.mobile_core.proofs.Common.{sets_mark, AreNear, SetsMark, paging_event
 use Rattle.mobile_core.proofs.Common.{sync_events_at, HearsSync, HearsNext, IsTimed, traffic_events_left, Tuning, sync_stream, Event, Pilot}
 use Rattle.mobile_core.proofs.Common.{Followed, Mark, SyncReceiver, flat_map-places-more}
 use Rattle.std.proofs.lemmas.List.{append-nil}
-use Rattle.mobile_core.proofs.ChannelsFollowed.{EndFrom, followed_behind, followed_given, followed_more}
+use Rattle.mobile_core.proofs.ChannelsFollowed.{EndFrom, followed_given, followed_more}
+use Rattle.heard_events.proofs.FollowedEvents.{followed_behind}
 use Rattle.mobile_core.proofs.ClockSteps.{before_next, from_next, due_inside}
-use Rattle.mobile_core.proofs.EventsGrown.{events_at_by, events_grown}
-use Rattle.mobile_core.proofs.FrameTimes.{known_between, outside_low}
-use Rattle.mobile_core.proofs.Growth.{left_all, left_none}
-use Rattle.mobile_core.proofs.MarkGrowth.{mark_before_more, mark_before_none, mark_is}
-use Rattle.mobile_core.proofs.MarkLater.{opens_later}
-use Rattle.mobile_core.proofs.FramesFollowed.{told_unset}
+use Rattle.heard_events.proofs.EventsGrown.{events_at_by}
+use Rattle.mobile_core.proofs.EventsCome.{events_grown}
+use Rattle.heard_events.proofs.FrameTimes.{known_between, outside_low}
+use Rattle.heard_events.proofs.Growth.{left_all, left_none}
+use Rattle.heard_events.proofs.MarkGrowth.{mark_before_more, mark_before_none, mark_is}
+use Rattle.mobile_core.proofs.MarkAhead.{opens_later}
+use Rattle.heard_events.proofs.FollowedEvents.{told_unset}
 use Rattle.mobile_core.proofs.SyncHeard as sync
 
 or-false : (b : Bool) → (b || false) ≡ b

@@ -1,29 +1,20 @@
 -- What the receiver of the sync channel stands for, step by step.
-use Rattle.mobile_core.proofs.Common.{◌≡◌, ℕ, zero, suc, ◌+◌, ◌-◌, ◌<◌, ◌≤◌, Bool, true, false, ◌||◌, ◌==◌, List, [], ◌∷◌, ◌++◌, map}
-use Rattle.mobile_core.proofs.Common.{length, refl, sym, ap, ◌∙◌, arith, ◌⊎◌, inl, inr, Option, Some, None, slice_get, is_some, list_any}
-use Rattle.mobile_core.proofs.Common.{option_or, cases_lt, cases_Bool, Sample, piece, capsule_ending, IsDueAt, frame_heard, listed}
-use Rattle.mobile_core.proofs.Common.{sync_events_left, frames_open, frames_with, first_of, marks_of, marks_at, mark, mark_before}
-use Rattle.mobile_core.proofs.Common.{sets_mark, IsReached, IsDue, Receives, frame_start, frame_own_bits, is_in_file, frames_before}
-use Rattle.mobile_core.proofs.Common.{sync_capsule_at, heard_in, heard_at, events_of, HearsSync, HearsNext, IsTimed, stream_end, Tuning}
-use Rattle.mobile_core.proofs.Common.{sync_stream, Continued, Event, Mark, SpelledMessage, SyncReceiver}
+use Rattle.mobile_core.proofs.Common.{◌≡◌, ℕ, zero, suc, ◌+◌, ◌-◌, ◌<◌, ◌≤◌, Bool, true, false, ◌||◌, List, [], ◌∷◌, ◌++◌, map, length}
+use Rattle.mobile_core.proofs.Common.{refl, sym, ap, ◌∙◌, arith, ◌⊎◌, inl, inr, Option, Some, None, slice_get, is_some, list_any, option_or}
+use Rattle.mobile_core.proofs.Common.{cases_lt, Sample, piece, capsule_ending, IsDueAt, frame_heard, listed, sync_events_left, frames_open}
+use Rattle.mobile_core.proofs.Common.{frames_with, first_of, marks_of, marks_at, mark, mark_before, sets_mark, IsReached, IsDue, Receives}
+use Rattle.mobile_core.proofs.Common.{frame_start, frame_own_bits, is_in_file, frames_before, sync_capsule_at, heard_in, heard_at}
+use Rattle.mobile_core.proofs.Common.{events_of, HearsSync, HearsNext, IsTimed, stream_end, Tuning, sync_stream, Continued, Event, Mark}
+use Rattle.mobile_core.proofs.Common.{SpelledMessage, SyncReceiver}
 use Rattle.mobile_core.proofs.ClockSteps.{due_inside, due_known, before_next}
-use Rattle.mobile_core.proofs.FrameTimes.{outside_low}
-use Rattle.mobile_core.proofs.Growth.{frames_before_sooner, frames_before_more, frames_before_none, left_next}
-use Rattle.mobile_core.proofs.MarkGrowth.{mark_is, mark_before_none, mark_before_more, mark_before_sooner}
-use Rattle.mobile_core.proofs.Opened.{frames_open-none, frames_open-more}
+use Rattle.heard_events.proofs.FrameTimes.{outside_low}
+use Rattle.heard_events.proofs.Growth.{frames_before_sooner, frames_before_more, frames_before_none, left_next}
+use Rattle.heard_events.proofs.MarkGrowth.{mark_is, mark_before_none, mark_before_more, mark_before_sooner}
+use Rattle.heard_events.proofs.Opened.{frames_open-none, frames_open-more}
 use Rattle.mobile_core.proofs.Received.{receives_more, receives_heard}
+use Rattle.heard_events.proofs.MarkTold.{noted_event}
 use Rattle.sync_message.specs.Framing as framing
 use Rattle.mobile_core.proofs.Progresses as progress
-
--- what is told sets the mark exactly where its event says so
-pub noted_event : (told : Option SpelledMessage) (first n : ℕ) →
-    is_some (first_of (marks_of first told)) ≡ list_any sets_mark (events_of n told)
-noted_event None first n = refl
-noted_event (Some told) first n =
-    elim (cases_Bool (told.message.lc == 0)) [
-      | inl zero' ↦ rw zero' refl
-      | inr other ↦ rw other refl
-    ]
 
 either : (m n : Option Mark) → is_some (option_or m n) ≡ (is_some m || is_some n)
 either None n = refl

@@ -4,10 +4,10 @@ use Rattle.std.specs.Prelude.{List}
 use Rattle.rake_finger.specs.Soft.{frame_chips}
 use Rattle.rake_finger.specs.declared.finger.Finger.{Finger}
 use Rattle.rake_finger.specs.declared.form.Form.{Form}
-use Rattle.mobile_core.specs.Near.{all_begun}
+use Rattle.heard_events.specs.Near.{all_begun}
 use Rattle.mobile_core.specs.Progress.{IsReached}
-use Rattle.mobile_core.specs.Streams.{Stream, frame_end, frame_start}
-use Rattle.mobile_core.specs.Timing.{IsTimed, stream_end}
+use Rattle.heard_events.specs.Streams.{Stream, frame_end, frame_start}
+use Rattle.heard_events.specs.Timing.{IsTimed, stream_end}
 use Rattle.mobile_core.specs.declared.frame_clock.FrameClock.{FrameClock}
 
 -- the first frame that begins in the file on each finger, where frame 0 begins at a reference

@@ -6,10 +6,10 @@ use Rattle.mobile_core.specs.PagingMonitoring.{due_by, heard_by, paging_events_l
 use Rattle.mobile_core.specs.TrafficMonitoring.{FramesWaitFrom, HearsFrames, IsFrameDue}
 use Rattle.mobile_core.specs.TrafficMonitoring.{IsSoundTrafficMonitor, traffic_events_left}
 use Rattle.mobile_core.specs.TrafficMonitoring.{traffic_due_by, traffic_heard_by}
-use Rattle.mobile_core.specs.Tuning.{Tuning}
-use Rattle.mobile_core.specs.declared.event.Event.{Event}
+use Rattle.heard_events.specs.Tuning.{Tuning}
+use Rattle.heard_events.specs.declared.event.Event.{Event}
 use Rattle.mobile_core.specs.declared.followed.Followed.{Followed}
-use Rattle.mobile_core.specs.declared.mark.Mark.{Mark}
+use Rattle.heard_events.specs.declared.mark.Mark.{Mark}
 
 -- they have taken these samples, in which the sync channel's messages set this mark, or none
 pub record HearsFollowed (t : Tuning) (f : Followed) (mark : Option Mark)

@@ -2,15 +2,15 @@
 use Rattle.std.specs.Prelude.{◌≡◌, ℕ, ◌*◌, ◌^◌, ◌<◌, ◌≤◌, true, length}
 use Rattle.long_code.specs.LongCode.{after}
 use Rattle.rake_finger.specs.declared.form.Form.TheVariants.{Data}
-use Rattle.mobile_core.specs.Channels.{channel_stream, has_power_control, mask_of, state_at}
+use Rattle.heard_events.specs.Channels.{channel_stream, has_power_control, mask_of, state_at}
 use Rattle.mobile_core.specs.Clocks.{IsAt}
-use Rattle.mobile_core.specs.Near.{AreBegun, AreNear, have_rows}
+use Rattle.heard_events.specs.Near.{AreBegun, AreNear, have_rows}
 use Rattle.mobile_core.specs.Sound.{IsSoundClock}
-use Rattle.mobile_core.specs.Streams.{frame_end}
-use Rattle.mobile_core.specs.Tuning.{Tuning}
-use Rattle.mobile_core.specs.declared.channel.Channel.{Channel}
+use Rattle.heard_events.specs.Streams.{frame_end}
+use Rattle.heard_events.specs.Tuning.{Tuning}
+use Rattle.heard_events.specs.declared.channel.Channel.{Channel}
 use Rattle.mobile_core.specs.declared.frame_receiver.FrameReceiver.{FrameReceiver}
-use Rattle.mobile_core.specs.declared.mark.Mark.{Mark}
+use Rattle.heard_events.specs.declared.mark.Mark.{Mark}
 
 -- one to three fingers near the reference path, and each frame that came was given
 pub record IsSoundReceiver (r : FrameReceiver) : Type 0 where

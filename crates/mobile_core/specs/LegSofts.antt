@@ -8,9 +8,9 @@ use Rattle.rake_finger.specs.Held.{Held}
 use Rattle.rake_finger.specs.InRing.{IsInRing}
 use Rattle.rake_finger.specs.Soft.{softs}
 use Rattle.rake_finger.specs.declared.form.Form.TheVariants.{Data}
-use Rattle.mobile_core.specs.Close.{legs_close, legs_rows, places_in}
-use Rattle.mobile_core.specs.Legs.{all_fingers, on_subchannel}
-use Rattle.mobile_core.specs.declared.legs.Leg.{Leg}
+use Rattle.heard_events.specs.Close.{legs_close, legs_rows, places_in}
+use Rattle.heard_events.specs.Legs.{all_fingers, on_subchannel}
+use Rattle.heard_events.specs.declared.leg.Leg.{Leg}
 
 -- the sums of the power control bits of the frame that begins at a reference sample, on a
 -- subchannel

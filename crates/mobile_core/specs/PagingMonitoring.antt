@@ -4,14 +4,15 @@ use Rattle.std.specs.Prelude.{length, map, take, pos, slice_get, Option, Some, N
 use Rattle.std.specs.Option.{ForSome}
 use Rattle.chip_core.specs.declared.sample.Sample.{Sample}
 use Rattle.mobile_core.specs.Clocks.{IsDueAt}
-use Rattle.mobile_core.specs.PagingEvents.{page_event}
-use Rattle.mobile_core.specs.PagingReceiving.{HearsPaging, IsSoundPaging, bits_heard, pages_left}
-use Rattle.mobile_core.specs.Tuning.{Tuning}
-use Rattle.mobile_core.specs.declared.event.Event.{Event}
-use Rattle.mobile_core.specs.declared.mark.Mark.{Mark}
+use Rattle.heard_events.specs.PagingEvents.{page_event}
+use Rattle.mobile_core.specs.PagingReceiving.{HearsPaging, IsSoundPaging, bits_heard}
+use Rattle.heard_events.specs.Left.{pages_left}
+use Rattle.heard_events.specs.Tuning.{Tuning}
+use Rattle.heard_events.specs.declared.event.Event.{Event}
+use Rattle.heard_events.specs.declared.mark.Mark.{Mark}
 use Rattle.mobile_core.specs.declared.paging_monitor.PagingMonitor.{PagingMonitor}
 use Rattle.mobile_core.specs.declared.paging_receiver.PagingReceiver.{PagingReceiver}
-use Rattle.mobile_core.specs.declared.spelled_page.SpelledPage.{SpelledPage}
+use Rattle.heard_events.specs.declared.spelled_page.SpelledPage.{SpelledPage}
 
 -- whether a channel is heard behind a mark that may be set: its PRAT has to stand for a rate
 abbrev pub is_paged : Option Mark → Bool

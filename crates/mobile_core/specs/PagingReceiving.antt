@@ -1,23 +1,22 @@
 -- What the receiver of a paging channel stands for.
-use Rattle.std.specs.Prelude.{◌≡◌, ℕ, ◌*◌, ◌+◌, ◌<◌, ◌≤◌, ◌^◌, ◌==◌, if◌then◌else◌, List, ◌++◌}
+use Rattle.std.specs.Prelude.{◌≡◌, ℕ, ◌*◌, ◌+◌, ◌<◌, ◌≤◌, ◌^◌, if◌then◌else◌, List, ◌++◌}
 use Rattle.std.specs.Prelude.{length, nat_lt, take, Option}
-use Rattle.std.specs.List.{flat_map}
 use Rattle.std.specs.Option.{option_to_list}
 use Rattle.chip_core.specs.declared.sample.Sample.{Sample}
 use Rattle.long_code.specs.LongCode.{paging_mask}
 use Rattle.paging_message.specs.HalfFrames as half_frames
 use Rattle.rake_finger.specs.declared.form.Form.TheVariants.{Data}
 use Rattle.mobile_core.specs.Clocks.{IsDueAt, frame_heard}
-use Rattle.mobile_core.specs.Left.{frames_left}
-use Rattle.mobile_core.specs.PagingEvents.{bits_before, pages_from}
-use Rattle.mobile_core.specs.PagingStreams.{paging_bound, paging_rate, paging_stream}
+use Rattle.heard_events.specs.Left.{pages_left}
+use Rattle.heard_events.specs.PagingEvents.{bits_before}
+use Rattle.heard_events.specs.PagingStreams.{paging_rate, paging_stream}
 use Rattle.mobile_core.specs.Receiving.{Receives}
 use Rattle.mobile_core.specs.Sound.{IsSoundChannel}
-use Rattle.mobile_core.specs.Streams.{frame_own_bits}
-use Rattle.mobile_core.specs.Tuning.{Tuning}
-use Rattle.mobile_core.specs.declared.mark.Mark.{Mark}
+use Rattle.heard_events.specs.Streams.{frame_own_bits}
+use Rattle.heard_events.specs.Tuning.{Tuning}
+use Rattle.heard_events.specs.declared.mark.Mark.{Mark}
 use Rattle.mobile_core.specs.declared.paging_receiver.PagingReceiver.{PagingReceiver}
-use Rattle.mobile_core.specs.declared.spelled_page.SpelledPage.{SpelledPage}
+use Rattle.heard_events.specs.declared.spelled_page.SpelledPage.{SpelledPage}
 
 -- the bits of the next frame, of which the framer took so many, are those of a frame that is due
 pub record IsUnderWay (t : Tuning) (channel : ℕ) (m : Mark) (r : PagingReceiver)
@@ -39,13 +38,6 @@ pub record HearsPaging (t : Tuning) (channel : ℕ) (m : Mark) (r : PagingReceiv
       (bits_before t.count heard (paging_stream t channel m) r.received.clock.next
       ++ take r.place
       (frame_own_bits t.count heard (paging_stream t channel m) r.received.clock.next))
-
--- the messages of these samples' end whose last bits come from bit `place` of frame `next` on
-unfoldable pub pages_left : Tuning → ℕ → Mark → List Sample → ℕ → ℕ → List SpelledPage
-pages_left t channel m samples next place =
-    let n = length samples in
-    flat_map (λ k. pages_from t channel m samples k (if k == next then place else 0))
-    (frames_left t.count (paging_stream t channel m) next n (paging_bound n))
 
 -- It has heard one bit of the frame that was due, and gives the message that the bit completes.
 pub record HearsBit (t : Tuning) (channel : ℕ) (m : Mark) (heard : List Sample)

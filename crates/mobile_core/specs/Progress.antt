@@ -1,7 +1,7 @@
 -- How far a handset has come with the frames of a channel.
 use Rattle.std.specs.Prelude.{◌≡◌, ◌⊎◌, ℕ, ◌+◌, ◌<◌, ◌≤◌, true}
-use Rattle.mobile_core.specs.Streams.{Stream, is_in_file, known_at}
-use Rattle.mobile_core.specs.Timing.{stream_end}
+use Rattle.heard_events.specs.Streams.{Stream, is_in_file, known_at}
+use Rattle.heard_events.specs.Timing.{stream_end}
 
 -- Of the frames in the file, from frame `low` on, those before `next` have been heard, and the soft
 -- values of those

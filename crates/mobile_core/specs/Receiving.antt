@@ -6,7 +6,7 @@ use Rattle.chip_core.specs.declared.sample.Sample.{Sample}
 use Rattle.rake_finger.specs.Soft.{symbols}
 use Rattle.mobile_core.specs.Clocks.{IsAt}
 use Rattle.mobile_core.specs.Softs.{last_softs}
-use Rattle.mobile_core.specs.Streams.{Stream, frame_softs}
+use Rattle.heard_events.specs.Streams.{Stream, frame_softs}
 use Rattle.mobile_core.specs.declared.continued.Continued.{Continued}
 
 -- The stream's fingers have taken these samples of a file: the clock is there, and the soft values

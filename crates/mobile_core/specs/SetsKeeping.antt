@@ -1,7 +1,7 @@
 -- What always holds of the pilot sets that a handset keeps.
 use Rattle.std.specs.Prelude.{◌≡◌, ℕ, ◌+◌, ◌*◌, ◌≤◌, ◌^◌, if◌then◌else◌, true, unsigned_abs}
 use Rattle.std.specs.List.{All}
-use Rattle.mobile_core.specs.Moments.{moment_place}
+use Rattle.heard_events.specs.Moments.{moment_place}
 use Rattle.mobile_core.specs.Sound.{IsSoundMark}
 use Rattle.mobile_core.specs.declared.sets_keeper.SetsKeeper.{SetsKeeper}
 

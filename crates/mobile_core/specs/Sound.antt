@@ -4,12 +4,12 @@ use Rattle.std.specs.Option.{ForSome}
 use Rattle.long_code.specs.LongCode.{IsState}
 use Rattle.rake_finger.specs.Soft.{frame_chips, symbols}
 use Rattle.rake_finger.specs.declared.form.Form.TheVariants.{Sync}
-use Rattle.mobile_core.specs.Near.{AreNear, AreBegun, have_rows}
+use Rattle.heard_events.specs.Near.{AreNear, AreBegun, have_rows}
 use Rattle.mobile_core.specs.Softs.{AreSmall}
-use Rattle.mobile_core.specs.Streams.{frame_end}
+use Rattle.heard_events.specs.Streams.{frame_end}
 use Rattle.mobile_core.specs.declared.continued.Continued.{Continued}
 use Rattle.mobile_core.specs.declared.frame_clock.FrameClock.{FrameClock}
-use Rattle.mobile_core.specs.declared.mark.Mark.{Mark}
+use Rattle.heard_events.specs.declared.mark.Mark.{Mark}
 use Rattle.mobile_core.specs.declared.sync_receiver.SyncReceiver.{SyncReceiver}
 
 -- the next frame lies at most two before the one that comes, and each is early in the file

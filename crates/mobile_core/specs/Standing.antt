@@ -8,15 +8,15 @@ use Rattle.chip_core.specs.declared.sample.Sample.{Sample}
 use Rattle.pilot_search.specs.declared.sweeping.Best.{Best}
 use Rattle.rake_finger.specs.Held.{Held, HoldsLast}
 use Rattle.mobile_core.specs.Clocks.{IsDueAt}
-use Rattle.mobile_core.specs.Events.{events}
-use Rattle.mobile_core.specs.Given.{listed, at_of}
-use Rattle.mobile_core.specs.Left.{pilot_left, sync_events_left}
-use Rattle.mobile_core.specs.Marks.{sets_mark}
+use Rattle.heard_events.specs.Events.{events}
+use Rattle.heard_events.specs.Given.{listed, at_of}
+use Rattle.heard_events.specs.Left.{pilot_left, sync_events_left}
+use Rattle.heard_events.specs.Marks.{sets_mark}
 use Rattle.mobile_core.specs.FollowedChannels.{HearsFollowed, IsFollowedDue, followed_due}
 use Rattle.mobile_core.specs.FollowedChannels.{followed_events_left, followed_heard}
 use Rattle.mobile_core.specs.SyncReceiving.{HearsSync}
-use Rattle.mobile_core.specs.Tuning.{Tuning}
-use Rattle.mobile_core.specs.declared.event.Event.{Event}
+use Rattle.heard_events.specs.Tuning.{Tuning}
+use Rattle.heard_events.specs.declared.event.Event.{Event}
 use Rattle.mobile_core.specs.declared.mobile.Mobile.{Mobile}
 use Rattle.mobile_core.specs.declared.mobile.Step.{Step}
 use Rattle.mobile_core.specs.declared.followed.Followed.{Followed}

@@ -4,13 +4,13 @@ use Rattle.std.specs.List.{list_any}
 use Rattle.chip_core.specs.declared.sample.Sample.{Sample}
 use Rattle.rake_finger.specs.Soft.{frame_chips}
 use Rattle.sync_message.specs.Framing as framing
-use Rattle.mobile_core.specs.Given.{listed}
-use Rattle.mobile_core.specs.Left.{sync_events_left}
-use Rattle.mobile_core.specs.Marks.{frames_open, mark_before, sets_mark}
+use Rattle.heard_events.specs.Given.{listed}
+use Rattle.heard_events.specs.Left.{sync_events_left}
+use Rattle.heard_events.specs.Marks.{frames_open, mark_before, sets_mark}
 use Rattle.mobile_core.specs.Receiving.{Receives}
-use Rattle.mobile_core.specs.SyncEvents.{frames_before}
-use Rattle.mobile_core.specs.Tuning.{Tuning, sync_stream}
-use Rattle.mobile_core.specs.declared.event.Event.{Event}
+use Rattle.heard_events.specs.SyncEvents.{frames_before}
+use Rattle.heard_events.specs.Tuning.{Tuning, sync_stream}
+use Rattle.heard_events.specs.declared.event.Event.{Event}
 use Rattle.mobile_core.specs.declared.sync_receiver.SyncReceiver.{SyncReceiver}
 
 -- It has taken these samples, and of the frames in them has heard those before the next one.

@@ -2,12 +2,12 @@
 use Rattle.std.specs.Prelude.{◌≡◌, ℕ, ◌<◌, ◌≤◌, List, [], take, pos, slice_get, Option, Some, None}
 use Rattle.std.specs.Option.{ForSome}
 use Rattle.chip_core.specs.declared.sample.Sample.{Sample}
-use Rattle.mobile_core.specs.TrafficEvents.{if_followed}
+use Rattle.heard_events.specs.TrafficEvents.{if_followed}
 use Rattle.mobile_core.specs.TrafficReceiving.{HearsTraffic, IsSoundTraffic, IsTrafficDue, WaitsAt}
 use Rattle.mobile_core.specs.TrafficReceiving.{traffic_due, traffic_heard, traffic_left_of}
-use Rattle.mobile_core.specs.Tuning.{Tuning}
-use Rattle.mobile_core.specs.declared.event.Event.{Event}
-use Rattle.mobile_core.specs.declared.mark.Mark.{Mark}
+use Rattle.heard_events.specs.Tuning.{Tuning}
+use Rattle.heard_events.specs.declared.event.Event.{Event}
+use Rattle.heard_events.specs.declared.mark.Mark.{Mark}
 use Rattle.chip_core.specs.declared.assignment.Traffic.{Traffic}
 use Rattle.mobile_core.specs.declared.traffic_monitor.TrafficMonitor.{TrafficMonitor}
 use Rattle.mobile_core.specs.declared.traffic_receiver.TrafficReceiver.{TrafficReceiver}

@@ -1,9 +1,7 @@
 -- What the receiver of a traffic channel stands for.
-use Rattle.std.specs.Prelude.{◌≡◌, ◌⊎◌, ℕ, ◌+◌, ◌-◌, ◌*◌, ◌<◌, ◌≤◌, ◌^◌, ◌==◌, ◌&&◌, true, List, []}
-use Rattle.std.specs.Prelude.{◌∷◌, ◌++◌, length, map, filter, take, sum_by, unsigned_abs, IsTrue}
-use Rattle.std.specs.Prelude.{Option, Some, None, is_some, nat_le, min, if◌then◌else◌}
-use Rattle.std.specs.List.{flat_map}
-use Rattle.chip_core.specs.Bits.{places}
+use Rattle.std.specs.Prelude.{◌≡◌, ◌⊎◌, ℕ, ◌+◌, ◌-◌, ◌*◌, ◌<◌, ◌≤◌, ◌^◌, true, List, ◌∷◌, ◌++◌}
+use Rattle.std.specs.Prelude.{length, take, sum_by, unsigned_abs, IsTrue, Option, Some, None, is_some}
+use Rattle.std.specs.Prelude.{min, if◌then◌else◌}
 use Rattle.chip_core.specs.declared.sample.Sample.{Sample}
 use Rattle.frame_decoder.specs.TrafficFrames as frames
 use Rattle.long_code.specs.LongCode.{traffic_mask}
@@ -11,54 +9,25 @@ use Rattle.pilot_sets.specs.Standing.{Standing}
 use Rattle.quality_bits.specs.Pieces.{StandsFor}
 use Rattle.rake_finger.specs.declared.finger.Finger.{Finger}
 use Rattle.rake_finger.specs.declared.form.Form.TheVariants.{Data}
-use Rattle.mobile_core.specs.Close as closes
-use Rattle.mobile_core.specs.Close.{AreClose, paths_close, places_in}
-use Rattle.mobile_core.specs.Legs.{all_fingers, legs_of}
-use Rattle.mobile_core.specs.Moments.{heard_from, kept_to, legs_by, moment_of, moment_place}
-use Rattle.mobile_core.specs.Moments.{sets_events}
-use Rattle.mobile_core.specs.Noted.{all_noted, noted_with}
+use Rattle.heard_events.specs.Close as closes
+use Rattle.heard_events.specs.Close.{AreClose, paths_close, places_in}
+use Rattle.heard_events.specs.Left.{frames_left_of, messages_left_of, sets_left_of}
+use Rattle.heard_events.specs.Legs.{all_fingers, legs_of}
+use Rattle.heard_events.specs.Moments.{heard_from, kept_to, legs_by, moment_of, moment_place}
+use Rattle.heard_events.specs.Noted.{all_noted, noted_with}
 use Rattle.mobile_core.specs.SetsKeeping.{IsSoundKeeper, coming_place}
-use Rattle.mobile_core.specs.Signaling.{message_events, message_heard, signals_before}
-use Rattle.mobile_core.specs.Streams.{frame_end}
-use Rattle.mobile_core.specs.TrafficEvents.{all_sums, frame_heard, unturned_softs}
-use Rattle.mobile_core.specs.TrafficStreams.{ends_now, frame_known, frame_state, frames_bound}
-use Rattle.mobile_core.specs.TrafficStreams.{traffic_start}
-use Rattle.mobile_core.specs.Tuning.{Tuning}
-use Rattle.mobile_core.specs.declared.event.Event.{Event}
-use Rattle.mobile_core.specs.declared.legs.Leg.{Leg}
-use Rattle.mobile_core.specs.declared.mark.Mark.{Mark}
+use Rattle.heard_events.specs.Signaling.{message_events, signals_before}
+use Rattle.heard_events.specs.Streams.{frame_end}
+use Rattle.heard_events.specs.TrafficEvents.{all_sums, unturned_softs}
+use Rattle.heard_events.specs.TrafficStreams.{frame_known, frame_state, traffic_start}
+use Rattle.heard_events.specs.Tuning.{Tuning}
+use Rattle.heard_events.specs.declared.event.Event.{Event}
+use Rattle.heard_events.specs.declared.mark.Mark.{Mark}
 use Rattle.chip_core.specs.declared.assignment.Traffic.{Traffic}
-use Rattle.mobile_core.specs.declared.spelled_signal.SpelledSignal.{SpelledSignal}
+use Rattle.heard_events.specs.declared.spelled_signal.SpelledSignal.{SpelledSignal}
 use Rattle.mobile_core.specs.declared.traffic_receiver.TrafficReceiver.{TrafficReceiver}
 
 -- THE EVENTS THAT ARE LEFT
--- the frames from frame `next` on that are known when just n samples have been taken
-abbrev pub later_frames : Tuning → Traffic → Mark → (ℕ → List Leg) → ℕ → ℕ → List ℕ
-later_frames t traffic m legs next n =
-    filter (λ k. nat_le next k && ends_now t traffic m legs n k) (places (frames_bound n))
-
--- the events of these samples' end of the frames from frame `next` on
-unfoldable pub frames_left_of : Tuning → Traffic → Mark → (ℕ → List Leg) → List Sample → ℕ →
-    List Event
-frames_left_of t traffic m legs samples next =
-    let n = length samples in
-    map (frame_heard t traffic m legs samples n) (later_frames t traffic m legs next n)
-
--- and of the messages that these frames complete
-unfoldable pub messages_left_of : Tuning → Traffic → Mark → (ℕ → List Leg) → List Sample → ℕ →
-    List Event
-messages_left_of t traffic m legs samples next =
-    let n = length samples in
-    flat_map (message_heard t traffic m legs samples n) (later_frames t traffic m legs next n)
-
--- and of the moment behind so many, where it lies there
-unfoldable pub sets_left_of : Tuning → Traffic → Mark → List Sample → ℕ → List Event
-sets_left_of t traffic m samples j =
-    if moment_place m (j + 1) == length samples
-    then sets_events m samples (j + 1)
-    (heard_from t traffic m (kept_to t traffic m samples j) samples j 98304)
-    else []
-
 -- What a receiver has still to tell of the channel, from what is kept behind each moment: the
 -- message that it keeps comes first.
 abbrev pub told_left_with : Tuning → Traffic → Mark → List Sample → TrafficReceiver →

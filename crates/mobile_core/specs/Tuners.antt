@@ -5,13 +5,13 @@ use Rattle.std.specs.Option.{option_to_list}
 use Rattle.chip_core.specs.declared.sample.Sample.{Sample}
 use Rattle.rake_finger.specs.Held.{HoldsLast}
 use Rattle.mobile_core.specs.FrameReceiving.{HasGiven}
-use Rattle.mobile_core.specs.SoftFrames.{soft_frames}
+use Rattle.heard_events.specs.SoftFrames.{soft_frames}
 use Rattle.mobile_core.specs.Softs.{frame_most}
-use Rattle.mobile_core.specs.Tuning.{Tuning}
-use Rattle.mobile_core.specs.declared.channel.Channel.{Channel}
-use Rattle.mobile_core.specs.declared.mark.Mark.{Mark}
+use Rattle.heard_events.specs.Tuning.{Tuning}
+use Rattle.heard_events.specs.declared.channel.Channel.{Channel}
+use Rattle.heard_events.specs.declared.mark.Mark.{Mark}
 use Rattle.mobile_core.specs.declared.mobile.Mobile.{Mobile}
-use Rattle.mobile_core.specs.declared.soft_frame.SoftFrame.{SoftFrame}
+use Rattle.heard_events.specs.declared.soft_frame.SoftFrame.{SoftFrame}
 use Rattle.mobile_core.specs.declared.tuner.Tuner.{Tuner}
 use Rattle.mobile_core.specs.declared.tuner.TunerStep.{TunerStep}
 

@@ -28,11 +28,11 @@ impl Continued {
     ghost use Rattle.chip_core.specs.declared.sample.Sample.{Sample};
     ghost use Rattle.frame_decoder.specs.Spans.{channel_for};
     ghost use Rattle.mobile_core.specs.Clocks.{IsDueAt, clock_from, first_frame, frame_come};
-    ghost use Rattle.mobile_core.specs.Near.{AreNear, have_rows};
+    ghost use Rattle.heard_events.specs.Near.{AreNear, have_rows};
     ghost use Rattle.mobile_core.specs.Receiving.{Receives};
-    ghost use Rattle.mobile_core.specs.Scrambled.{Scrambles};
+    ghost use Rattle.heard_events.specs.Scrambled.{Scrambles};
     ghost use Rattle.mobile_core.specs.Sound.{IsSoundChannel};
-    ghost use Rattle.mobile_core.specs.Streams.{Stream, frame_own_bits};
+    ghost use Rattle.heard_events.specs.Streams.{Stream, frame_own_bits};
     ghost use Rattle.rake_finger.specs.Held.{HoldsLast};
     ghost use Rattle.rake_finger.specs.Soft.{symbols};
     ghost use Rattle.symbol_path.specs.SentOrder.{size};

@@ -2,17 +2,18 @@
 
 ghost use Rattle.std.specs.Prelude.{◌≡◌, ◌<◌, ◌≤◌, ◌+◌, ◌^◌, ◌++◌, ◌∷◌, [], true, pos, ◌+ℤ◌};
 ghost use Rattle.std.specs.Prelude.{int_le, slice_get, Some, length, take};
-ghost use Rattle.mobile_core.specs.Close.{all_close, fingers_in, is_close, legs_close, legs_rows};
-ghost use Rattle.mobile_core.specs.Close.{places_for, places_in};
-ghost use Rattle.mobile_core.specs.Legs.{all_fingers, leg_fingers};
-ghost use Rattle.mobile_core.specs.Near.{is_near, AreNear, have_rows, all_begun};
-ghost use Rattle.mobile_core.specs.Streams.{finger_end, frame_end};
-ghost use Rattle.mobile_core.specs.Tuning.{finger_of, fingers_of, modulo_code};
+ghost use Rattle.heard_events.specs.Close.{all_close, fingers_in, is_close, legs_close, legs_rows};
+ghost use Rattle.heard_events.specs.Close.{places_for, places_in};
+ghost use Rattle.heard_events.specs.Legs.{all_fingers, leg_fingers};
+ghost use Rattle.heard_events.specs.Near.{is_near, AreNear, have_rows, all_begun};
+ghost use Rattle.heard_events.specs.Streams.{finger_end, frame_end};
+ghost use Rattle.heard_events.specs.Tuning.{finger_of, fingers_of, modulo_code};
 ghost use Rattle.rake_finger.specs.Soft.{frame_chips, symbols};
 
-use crate::legs::{Leg, Legs};
+use crate::legs::Legs;
 use chip_core::Phase;
 use chip_core::air::{DATA_FRAME_CHIPS, DATA_SYMBOLS, SYNC_FRAME_CHIPS, SYNC_SYMBOLS};
+use heard_events::Leg;
 use pilot_search::Near;
 use rake_finger::{Finger, Fingers, Form};
 

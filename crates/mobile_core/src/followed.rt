@@ -1,11 +1,9 @@
 //! The channels that a handset follows from the mark on.
 
-use crate::event::Event;
-use crate::mark::Mark;
 use crate::paging_monitor::PagingMonitor;
-use crate::settings::Settings;
 use crate::traffic_monitor::TrafficMonitor;
 use chip_core::{CheckForm, Phase};
+use heard_events::{Event, Mark, Settings};
 use pilot_search::Near;
 use rake_finger::SampleRing;
 use short_code::Codes;
@@ -29,14 +27,14 @@ impl Followed {
     ghost use Rattle.mobile_core.specs.FollowedChannels.{IsSoundFollowed, WaitFrom};
     ghost use Rattle.mobile_core.specs.FollowedChannels.{followed_due, followed_events_left};
     ghost use Rattle.mobile_core.specs.FollowedChannels.{followed_heard};
-    ghost use Rattle.mobile_core.specs.Given.{at_of, listed};
-    ghost use Rattle.mobile_core.specs.Marks.{sets_mark};
+    ghost use Rattle.heard_events.specs.Given.{at_of, listed};
+    ghost use Rattle.heard_events.specs.Marks.{sets_mark};
     ghost use Rattle.mobile_core.specs.PagingMonitoring.{IsReceiverDue, SetsMark};
     ghost use Rattle.mobile_core.specs.Sound.{IsSoundMark};
     ghost use Rattle.mobile_core.specs.TrafficMonitoring.{IsFrameDue, IsSoundAssignment};
     ghost use Rattle.mobile_core.specs.TrafficReceiving.{next_end};
-    ghost use Rattle.mobile_core.specs.Tuning.{Tuning};
-    ghost use Rattle.mobile_core.specs.declared.mark.Mark.{Mark as TheMark};
+    ghost use Rattle.heard_events.specs.Tuning.{Tuning};
+    ghost use Rattle.heard_events.specs.declared.mark.Mark.{Mark as TheMark};
     ghost use Rattle.rake_finger.specs.Held.{HoldsLast};
 
     /// The channels of these settings before a mark is set, for a base station at a phase and near

@@ -35,7 +35,7 @@ impl FrameClock {
     ghost use Rattle.std.specs.Prelude.{◌≡◌, ◌<◌, ◌≤◌, ◌+◌, ◌-◌, ◌*◌, ◌^◌, ◌↔◌, IsTrue};
     ghost use Rattle.mobile_core.specs.Clocks.{IsDueAt, clock_from, first_frame};
     ghost use Rattle.mobile_core.specs.Clocks.{frame_come, frame_heard, span_from};
-    ghost use Rattle.mobile_core.specs.Near.{AreBegun, AreNear};
+    ghost use Rattle.heard_events.specs.Near.{AreBegun, AreNear};
     ghost use Rattle.mobile_core.specs.Sound.{IsSoundClock};
     ghost use Rattle.rake_finger.specs.Soft.{frame_chips};
 

@@ -1,15 +1,13 @@
 //! The frames of a channel behind the mark, each as it is received by itself.
 
-use crate::channel::Channel;
 use crate::fingers::reference_fingers;
 use crate::frame_clock::FrameClock;
-use crate::mark::Mark;
 use crate::scrambling::Scrambling;
-use crate::soft_frame::{PowerControl, SoftFrame};
 use crate::softs::unscramble;
 use chip_core::Phase;
 use chip_core::air::DATA_SYMBOLS;
 use frame_decoder::{PowerSofts, commands};
+use heard_events::{Channel, Mark, PowerControl, SoftFrame};
 use pilot_search::Near;
 use rake_finger::{Fingers, Form, SampleRing, combine_into};
 use short_code::Codes;
@@ -30,15 +28,15 @@ impl FrameReceiver {
     ghost use Rattle.std.specs.Prelude.{◌≡◌, ◌<◌, ◌≤◌, ◌*◌, ◌^◌, ℕ, List, length};
     ghost use Rattle.std.specs.Prelude.{Some, pos, slice_get, sum_by, take, unsigned_abs};
     ghost use Rattle.chip_core.specs.declared.sample.Sample.{Sample};
-    ghost use Rattle.mobile_core.specs.Channels.{IsLawful};
+    ghost use Rattle.heard_events.specs.Channels.{IsLawful};
     ghost use Rattle.mobile_core.specs.Clocks.{frame_come, frame_heard};
     ghost use Rattle.mobile_core.specs.FrameReceiving.{HasGiven, IsSoundReceiver};
-    ghost use Rattle.mobile_core.specs.SoftFrames.{power_of, soft_frame, unturned_at};
+    ghost use Rattle.heard_events.specs.SoftFrames.{power_of, soft_frame, unturned_at};
     ghost use Rattle.mobile_core.specs.Softs.{frame_most};
     ghost use Rattle.mobile_core.specs.Sound.{IsSoundMark};
-    ghost use Rattle.mobile_core.specs.Tuning.{Tuning};
-    ghost use Rattle.mobile_core.specs.declared.channel.Channel.{Channel as TheChannel};
-    ghost use Rattle.mobile_core.specs.declared.mark.Mark.{Mark as TheMark};
+    ghost use Rattle.heard_events.specs.Tuning.{Tuning};
+    ghost use Rattle.heard_events.specs.declared.channel.Channel.{Channel as TheChannel};
+    ghost use Rattle.heard_events.specs.declared.mark.Mark.{Mark as TheMark};
     ghost use Rattle.rake_finger.specs.Held.{HoldsLast};
 
     /// The receiver of a channel, for a base station at a phase and near it, before any frame ends.
@@ -61,7 +59,7 @@ impl FrameReceiver {
         FrameReceiver {
             clock,
             fingers,
-            scrambling: channel.scrambling(mark),
+            scrambling: Scrambling::of(channel, mark),
             power: channel.has_power_control(),
         }
     }

@@ -1,22 +1,12 @@
 //! The active pilots, as a traffic channel is heard from them.
 
 ghost use Rattle.std.specs.Prelude.{◌≡◌, ◌<◌, ◌≤◌, ◌∷◌, ◌++◌, [], length, slice_get, Some};
-ghost use Rattle.mobile_core.specs.Legs.{has_subchannel, on_subchannel};
+ghost use Rattle.heard_events.specs.Legs.{has_subchannel, on_subchannel};
 
 use chip_core::Phase;
+use heard_events::Leg;
 use rake_finger::Finger;
 use std::marker::Model;
-
-/// An active pilot, as the traffic channel is heard from its base station.
-#[derive(Clone, Copy)]
-pub(crate) struct Leg {
-    /// It is the reference's pilot, which is heard on all of the handset's paths.
-    pub reference: bool,
-    /// The path of another pilot, and the channel's row.
-    pub finger: Finger,
-    /// The power control subchannel.
-    pub subchannel: u8,
-}
 
 /// At most six active pilots. Contracts see the list.
 #[derive(Drop)]
@@ -27,7 +17,7 @@ pub(crate) struct Legs {
 
 impl Model for Legs {
     ghost use Rattle.std.specs.Prelude.{◌≡◌, ◌≤◌, List, take, length};
-    ghost use Rattle.mobile_core.specs.declared.legs.Leg.{Leg};
+    ghost use Rattle.heard_events.specs.declared.leg.Leg.{Leg};
 
     ghost Value = { List Leg };
 

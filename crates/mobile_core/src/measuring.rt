@@ -3,16 +3,16 @@
 ghost use Rattle.std.specs.Prelude.{◌≡◌, ◌<◌, ◌≤◌, List, length, unsigned_abs};
 ghost use Rattle.std.specs.List.{All};
 ghost use Rattle.chip_core.specs.declared.sample.Sample.{Sample};
-ghost use Rattle.mobile_core.specs.Legs.{pilot_phase};
-ghost use Rattle.mobile_core.specs.Moments.{pilot_strength, strengths_at};
+ghost use Rattle.heard_events.specs.Legs.{pilot_phase};
+ghost use Rattle.heard_events.specs.Moments.{pilot_strength, strengths_at};
 ghost use Rattle.mobile_core.specs.Sound.{IsSoundMark};
 ghost use Rattle.pilot_sets.specs.declared.strengths.Strength.{Strength as TheStrength};
 ghost use Rattle.rake_finger.specs.Held.{HoldsLast};
 ghost use Rattle.rake_finger.specs.InRing.{HoldsBefore};
 
-use crate::mark::Mark;
 use chip_core::Phase;
 use chip_core::air::OFFSET_CHIPS;
+use heard_events::Mark;
 use pilot_sets::{Sets, Strength, Strengths};
 use rake_finger::{SampleRing, strength};
 use short_code::Codes;

@@ -2,15 +2,12 @@
 
 ghost use Rattle.mobile_core.specs.SoundHandset.{IsSound};
 
-use crate::channel::Channel;
-use crate::event::Event;
 use crate::followed::Followed;
 use crate::hearing::pilot_event;
-use crate::mark::Mark;
-use crate::settings::Settings;
 use crate::sync_receiver::SyncReceiver;
 use crate::tuner::Tuner;
 use chip_core::{CheckForm, OutOfMemory, Phase, Sample};
+use heard_events::{Channel, Event, Mark, Settings};
 use pilot_search::{Best, Near};
 use rake_finger::SampleRing;
 use short_code::Codes;
@@ -68,9 +65,9 @@ impl Mobile {
     ghost use Rattle.std.specs.Option.{ForSome};
     ghost use Rattle.std.specs.List.{list_any};
     ghost use Rattle.chip_core.specs.declared.sample.Sample.{Sample};
-    ghost use Rattle.mobile_core.specs.Events.{events};
-    ghost use Rattle.mobile_core.specs.Given.{at_of};
-    ghost use Rattle.mobile_core.specs.Marks.{mark, sets_mark};
+    ghost use Rattle.heard_events.specs.Events.{events};
+    ghost use Rattle.heard_events.specs.Given.{at_of};
+    ghost use Rattle.heard_events.specs.Marks.{mark, sets_mark};
     ghost use Rattle.mobile_core.specs.Sound.{IsSoundMark};
     ghost use Rattle.mobile_core.specs.FollowedChannels.{IsFollowedDue};
     ghost use Rattle.mobile_core.specs.TrafficMonitoring.{IsSoundAssignment};
@@ -78,11 +75,11 @@ impl Mobile {
     ghost use Rattle.mobile_core.specs.Clocks.{IsDueAt};
     ghost use Rattle.mobile_core.specs.Standing.{IsDueFor, IsStep, StandsFor, Steps, due_parts};
     ghost use Rattle.mobile_core.specs.Standing.{has_room, ring_room};
-    ghost use Rattle.mobile_core.specs.Tuning.{Tuning, tuning_by};
-    ghost use Rattle.mobile_core.specs.Channels.{IsLawful};
-    ghost use Rattle.mobile_core.specs.SoftFrames.{soft_frames};
+    ghost use Rattle.heard_events.specs.Tuning.{Tuning, tuning_by};
+    ghost use Rattle.heard_events.specs.Channels.{IsLawful};
+    ghost use Rattle.heard_events.specs.SoftFrames.{soft_frames};
     ghost use Rattle.mobile_core.specs.Tuners.{IsTunedTo, samples_left, samples_taken};
-    ghost use Rattle.mobile_core.specs.declared.event.Event.{Event as TheEvent};
+    ghost use Rattle.heard_events.specs.declared.event.Event.{Event as TheEvent};
 
     /// A handset that has taken no sample of a file, and given no event.
     ///

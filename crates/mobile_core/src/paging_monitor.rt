@@ -1,10 +1,9 @@
 //! The paging channel that a handset follows.
 
-use crate::event::Event;
 use crate::hearing::page_event;
-use crate::mark::Mark;
 use crate::paging_receiver::PagingReceiver;
 use chip_core::{CheckForm, Phase};
+use heard_events::{Event, Mark};
 use pilot_search::Near;
 use rake_finger::SampleRing;
 use short_code::Codes;
@@ -30,14 +29,14 @@ impl PagingMonitor {
     ghost use Rattle.std.specs.List.{list_any};
     ghost use Rattle.std.specs.Option.{ForSome};
     ghost use Rattle.chip_core.specs.declared.sample.Sample.{Sample};
-    ghost use Rattle.mobile_core.specs.Given.{at_of, listed};
+    ghost use Rattle.heard_events.specs.Given.{at_of, listed};
     ghost use Rattle.mobile_core.specs.PagingMonitoring.{HearsPages, IsReceiverDue, IsSoundMonitor};
     ghost use Rattle.mobile_core.specs.PagingMonitoring.{SetsMark, WaitsFrom, due_by, heard_by};
     ghost use Rattle.mobile_core.specs.PagingMonitoring.{paging_events_left};
-    ghost use Rattle.mobile_core.specs.Marks.{sets_mark};
+    ghost use Rattle.heard_events.specs.Marks.{sets_mark};
     ghost use Rattle.mobile_core.specs.Sound.{IsSoundMark};
-    ghost use Rattle.mobile_core.specs.Tuning.{Tuning};
-    ghost use Rattle.mobile_core.specs.declared.mark.Mark.{Mark as TheMark};
+    ghost use Rattle.heard_events.specs.Tuning.{Tuning};
+    ghost use Rattle.heard_events.specs.declared.mark.Mark.{Mark as TheMark};
     ghost use Rattle.rake_finger.specs.Held.{HoldsLast};
 
     /// The monitor of a channel, 1 to 7, before a mark is set, for a base station at a phase and

@@ -3,11 +3,10 @@
 use crate::continued::Continued;
 use crate::fingers::reference_fingers;
 use crate::hearing::page_in;
-use crate::mark::Mark;
 use crate::scrambling::Scrambling;
-use crate::spelled_page::SpelledPage;
 use chip_core::{Bits, CheckForm, Phase};
 use frame_decoder::FrameKind;
+use heard_events::{Mark, SpelledPage};
 use paging_message::HalfFramer;
 use pilot_search::Near;
 use rake_finger::{Form, SampleRing};
@@ -36,11 +35,11 @@ impl PagingReceiver {
     ghost use Rattle.mobile_core.specs.Clocks.{IsDueAt};
     ghost use Rattle.mobile_core.specs.PagingReceiving.{HearsBit, HearsPaging, IsSoundPaging};
     ghost use Rattle.mobile_core.specs.PagingReceiving.{bit_passed, bits_heard};
-    ghost use Rattle.mobile_core.specs.PagingStreams.{paging_rate, paging_stream};
+    ghost use Rattle.heard_events.specs.PagingStreams.{paging_rate, paging_stream};
     ghost use Rattle.mobile_core.specs.Sound.{IsSoundMark};
-    ghost use Rattle.mobile_core.specs.Streams.{frame_own_bits};
-    ghost use Rattle.mobile_core.specs.Tuning.{Tuning};
-    ghost use Rattle.mobile_core.specs.declared.mark.Mark.{Mark as TheMark};
+    ghost use Rattle.heard_events.specs.Streams.{frame_own_bits};
+    ghost use Rattle.heard_events.specs.Tuning.{Tuning};
+    ghost use Rattle.heard_events.specs.declared.mark.Mark.{Mark as TheMark};
     ghost use Rattle.rake_finger.specs.Held.{HoldsLast};
 
     /// A receiver of a channel, 1 to 7, that has heard no frame, for a base station at a phase and

@@ -1,8 +1,8 @@
 //! The scrambling of a paging or a traffic channel, frame by frame.
 
-use crate::mark::Mark;
 use chip_core::Traffic;
 use chip_core::air::{DATA_FRAME_CHIPS, DATA_SYMBOLS, FRAME_OFFSET_CHIPS};
+use heard_events::{Channel, Mark};
 use long_code::{State, paging_mask, traffic_mask};
 use symbol_path::scramble_bits;
 
@@ -17,11 +17,26 @@ pub(crate) struct Scrambling {
 }
 
 impl Scrambling {
-    ghost use Rattle.std.specs.Prelude.{◌≡◌, ◌<◌, ◌≤◌, ◌*◌, ◌^◌, length};
+    ghost use Rattle.std.specs.Prelude.{◌≡◌, ◌<◌, ◌≤◌, ◌*◌, ◌^◌, ℕ, length};
+    ghost use Rattle.heard_events.specs.Channels.{IsLawful, mask_of, state_at};
     ghost use Rattle.long_code.specs.LongCode.{after, paging_mask, traffic_mask};
     ghost use Rattle.mobile_core.specs.Sound.{IsSoundMark};
-    ghost use Rattle.mobile_core.specs.TrafficStreams.{frame_state};
+    ghost use Rattle.heard_events.specs.TrafficStreams.{frame_state};
     ghost use Rattle.symbol_path.specs.Scrambling.{scrambling};
+
+    /// That of a channel, whose frame 0 begins at the mark or at its offset behind it.
+    pub(crate) fn of(channel: &Channel, mark: &Mark) -> Scrambling
+        requires lawful { IsLawful channel.now }
+        requires mark { IsSoundMark mark.now }
+        ensures state { (k : ℕ) → after result.state (24576 * k) ≡ state_at channel.now mark.now k }
+        ensures mask { result.mask ≡ mask_of channel.now mark.now }
+        ensures below { result.mask < 2 ^ 42 }
+    {
+        match channel {
+            Channel::Paging(number) => Scrambling::of_channel(*number, mark),
+            Channel::Traffic(traffic) => Scrambling::of_traffic(traffic, mark),
+        }
+    }
 
     /// That of a paging channel, 1 to 7, whose frame 0 begins at the mark.
     pub(crate) fn of_channel(channel: u8, mark: &Mark) -> Scrambling

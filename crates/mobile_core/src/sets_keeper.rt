@@ -1,11 +1,10 @@
 //! The pilot sets that a handset keeps.
 
-use crate::event::Event;
-use crate::legs::{Leg, Legs};
-use crate::mark::Mark;
+use crate::legs::Legs;
 use crate::measuring::{measure, pilot_phase};
 use crate::sets_notes::note_event;
 use chip_core::air::SUPERFRAME_CHIPS;
+use heard_events::{Event, Leg, Mark};
 use pilot_sets::{Active, SetChange, Sets};
 use rake_finger::{Finger, SampleRing, power};
 use short_code::Codes;
@@ -28,12 +27,12 @@ impl SetsKeeper {
     ghost use Rattle.std.specs.Prelude.{IfSome, length};
     ghost use Rattle.std.specs.List.{list_any};
     ghost use Rattle.chip_core.specs.declared.sample.Sample.{Sample};
-    ghost use Rattle.mobile_core.specs.Close.{legs_close, legs_rows, places_in};
-    ghost use Rattle.mobile_core.specs.Given.{at_of, listed};
-    ghost use Rattle.mobile_core.specs.Legs.{leg_of, legs_of};
-    ghost use Rattle.mobile_core.specs.Marks.{sets_mark};
-    ghost use Rattle.mobile_core.specs.Moments.{moment_events, moment_place, passed, sets_events};
-    ghost use Rattle.mobile_core.specs.Noted.{noted_with};
+    ghost use Rattle.heard_events.specs.Close.{legs_close, legs_rows, places_in};
+    ghost use Rattle.heard_events.specs.Given.{at_of, listed};
+    ghost use Rattle.heard_events.specs.Legs.{leg_of, legs_of};
+    ghost use Rattle.heard_events.specs.Marks.{sets_mark};
+    ghost use Rattle.heard_events.specs.Moments.{moment_events, moment_place, passed, sets_events};
+    ghost use Rattle.heard_events.specs.Noted.{noted_with};
     ghost use Rattle.mobile_core.specs.SetsKeeping.{IsSoundKeeper, coming_place};
     ghost use Rattle.mobile_core.specs.Sound.{IsSoundMark};
     ghost use Rattle.pilot_sets.specs.Standing.{new_standing};

@@ -1,12 +1,12 @@
 //! What a handset hears changes its pilot sets.
 
 ghost use Rattle.std.specs.Prelude.{◌≡◌, ◌<◌, ◌^◌};
-ghost use Rattle.mobile_core.specs.Noted.{body_noted, noted_with, page_noted};
-ghost use Rattle.mobile_core.specs.Noted.{in_traffic_thresholds, system_thresholds};
+ghost use Rattle.heard_events.specs.Noted.{body_noted, noted_with, page_noted};
+ghost use Rattle.heard_events.specs.Noted.{in_traffic_thresholds, system_thresholds};
 ghost use Rattle.paging_message.specs.Neighbors.{IsNeighborList};
 ghost use Rattle.pilot_sets.specs.Standing.{with_neighbors};
 
-use crate::event::Event;
+use heard_events::Event;
 use paging_message::{NeighborFields, PagingMessage, SystemFields};
 use pilot_sets::{Sets, Thresholds};
 use traffic_message::{InTrafficFields, TrafficBody};

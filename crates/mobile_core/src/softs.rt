@@ -3,7 +3,7 @@
 ghost use Rattle.std.specs.Prelude.{◌≡◌, ◌≤◌, ◌++◌, ◌+◌, ◌-◌, ◌*◌, ◌*ℤ◌, ◌^◌, drop, length, sum_by};
 ghost use Rattle.std.specs.Prelude.{unsigned_abs};
 ghost use Rattle.chip_core.specs.Bits.{sign};
-ghost use Rattle.mobile_core.specs.Scrambled.{Scrambles, unscrambled};
+ghost use Rattle.heard_events.specs.Scrambled.{Scrambles, unscrambled};
 ghost use Rattle.mobile_core.specs.Softs.{AreSmall, frame_most};
 
 use chip_core::air::DATA_SYMBOLS;

@@ -1,13 +1,12 @@
 //! The sync channel as it is received.
 
 use crate::continued::Continued;
-use crate::event::Event;
 use crate::fingers::reference_fingers;
 use crate::hearing::{event_of, mark_with, message_in, with_frame};
-use crate::mark::Mark;
 use chip_core::air::{CODE_CHIPS, SYNC_ROW};
 use chip_core::{CheckForm, Phase};
 use frame_decoder::FrameKind;
+use heard_events::{Event, Mark};
 use pilot_search::Near;
 use rake_finger::{Form, SampleRing};
 use short_code::Codes;
@@ -30,10 +29,10 @@ impl SyncReceiver {
     ghost use Rattle.std.specs.Prelude.{take, slice_get, None, Some, pos, is_some, IfSome};
     ghost use Rattle.chip_core.specs.declared.sample.Sample.{Sample};
     ghost use Rattle.mobile_core.specs.Clocks.{IsDueAt, frame_heard};
-    ghost use Rattle.mobile_core.specs.Given.{at_of};
+    ghost use Rattle.heard_events.specs.Given.{at_of};
     ghost use Rattle.mobile_core.specs.Sound.{IsSoundSync};
     ghost use Rattle.mobile_core.specs.SyncReceiving.{HearsNext, HearsSync, message_start};
-    ghost use Rattle.mobile_core.specs.Tuning.{Tuning};
+    ghost use Rattle.heard_events.specs.Tuning.{Tuning};
     ghost use Rattle.rake_finger.specs.Held.{HoldsLast};
 
     /// A receiver that has taken no sample, for a base station at a phase and near it.

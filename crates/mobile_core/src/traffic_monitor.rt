@@ -1,9 +1,8 @@
 //! The traffic channel that a handset follows.
 
-use crate::event::Event;
-use crate::mark::Mark;
 use crate::traffic_receiver::TrafficReceiver;
 use chip_core::{CheckForm, Phase, Traffic};
+use heard_events::{Event, Mark};
 use pilot_search::Near;
 use rake_finger::SampleRing;
 use short_code::Codes;
@@ -31,8 +30,8 @@ impl TrafficMonitor {
     ghost use Rattle.std.specs.List.{list_any};
     ghost use Rattle.std.specs.Option.{ForSome};
     ghost use Rattle.chip_core.specs.declared.sample.Sample.{Sample};
-    ghost use Rattle.mobile_core.specs.Given.{at_of, listed};
-    ghost use Rattle.mobile_core.specs.Marks.{sets_mark};
+    ghost use Rattle.heard_events.specs.Given.{at_of, listed};
+    ghost use Rattle.heard_events.specs.Marks.{sets_mark};
     ghost use Rattle.mobile_core.specs.PagingMonitoring.{SetsMark};
     ghost use Rattle.mobile_core.specs.Sound.{IsSoundMark};
     ghost use Rattle.mobile_core.specs.TrafficMonitoring.{FramesWaitFrom, HearsFrames, IsFrameDue};
@@ -40,9 +39,9 @@ impl TrafficMonitor {
     ghost use Rattle.mobile_core.specs.TrafficMonitoring.{traffic_events_left, traffic_due_by};
     ghost use Rattle.mobile_core.specs.TrafficMonitoring.{traffic_heard_by};
     ghost use Rattle.mobile_core.specs.TrafficReceiving.{next_end};
-    ghost use Rattle.mobile_core.specs.Tuning.{Tuning};
-    ghost use Rattle.mobile_core.specs.declared.event.Event.{Event as TheEvent};
-    ghost use Rattle.mobile_core.specs.declared.mark.Mark.{Mark as TheMark};
+    ghost use Rattle.heard_events.specs.Tuning.{Tuning};
+    ghost use Rattle.heard_events.specs.declared.event.Event.{Event as TheEvent};
+    ghost use Rattle.heard_events.specs.declared.mark.Mark.{Mark as TheMark};
     ghost use Rattle.rake_finger.specs.Held.{HoldsLast};
 
     /// The monitor of a channel, or of none, before a mark is set, for a base station at a phase

@@ -1,18 +1,16 @@
 //! A traffic channel as it is received.
 
-use crate::event::Event;
 use crate::fingers::{frames_end, leg_fingers};
 use crate::hearing::{frame_event, hear_signal, message_event};
 use crate::legs::Legs;
-use crate::mark::Mark;
 use crate::scrambling::Scrambling;
 use crate::sets_keeper::SetsKeeper;
 use crate::softs::unscramble;
-use crate::spelled_signal::SpelledSignal;
 use crate::traffic_softs::{leg_softs, power_softs};
 use chip_core::air::{DATA_FRAME_CHIPS, DATA_SYMBOLS, FRAME_OFFSET_CHIPS};
 use chip_core::{CheckForm, Phase, Traffic};
 use frame_decoder::{Decoded, PowerSofts, commands, traffic_frame};
+use heard_events::{Event, Mark, SpelledSignal};
 use pilot_search::Near;
 use rake_finger::{Form, SampleRing};
 use short_code::Codes;
@@ -61,17 +59,17 @@ impl TrafficReceiver {
     ghost use Rattle.std.specs.Prelude.{true};
     ghost use Rattle.std.specs.List.{list_any};
     ghost use Rattle.chip_core.specs.declared.sample.Sample.{Sample};
-    ghost use Rattle.mobile_core.specs.Given.{at_of, listed};
-    ghost use Rattle.mobile_core.specs.Marks.{sets_mark};
+    ghost use Rattle.heard_events.specs.Given.{at_of, listed};
+    ghost use Rattle.heard_events.specs.Marks.{sets_mark};
     ghost use Rattle.frame_decoder.specs.TrafficFrames.{subchannels};
     ghost use Rattle.long_code.specs.LongCode.{after};
-    ghost use Rattle.mobile_core.specs.Close.{legs_close};
+    ghost use Rattle.heard_events.specs.Close.{legs_close};
     ghost use Rattle.mobile_core.specs.LegSofts.{sums_on};
-    ghost use Rattle.mobile_core.specs.Legs.{legs_of};
-    ghost use Rattle.mobile_core.specs.Legs.{subchannels as subchannels_of};
-    ghost use Rattle.mobile_core.specs.Moments.{legs_by, moment_place};
+    ghost use Rattle.heard_events.specs.Legs.{legs_of};
+    ghost use Rattle.heard_events.specs.Legs.{subchannels as subchannels_of};
+    ghost use Rattle.heard_events.specs.Moments.{legs_by, moment_place};
     ghost use Rattle.mobile_core.specs.Sound.{IsSoundMark};
-    ghost use Rattle.mobile_core.specs.TrafficEvents.{commands_at, decoded_at};
+    ghost use Rattle.heard_events.specs.TrafficEvents.{commands_at, decoded_at};
     ghost use Rattle.mobile_core.specs.TrafficReceiving.{HasTold, HearsTraffic, IsSoundTraffic};
     ghost use Rattle.mobile_core.specs.TrafficReceiving.{IsTrafficDue, WaitsAt};
     ghost use Rattle.mobile_core.specs.TrafficReceiving.{HearsWith, fingers_in, next_end, noted_by};
@@ -79,9 +77,9 @@ impl TrafficReceiver {
     ghost use Rattle.mobile_core.specs.TrafficReceiving.{traffic_heard};
     ghost use Rattle.mobile_core.specs.TrafficReceiving.{traffic_left_of};
     ghost use Rattle.pilot_sets.specs.Standing.{Standing};
-    ghost use Rattle.mobile_core.specs.Tuning.{Tuning};
-    ghost use Rattle.mobile_core.specs.declared.event.Event.{Event as TheEvent};
-    ghost use Rattle.mobile_core.specs.declared.mark.Mark.{Mark as TheMark};
+    ghost use Rattle.heard_events.specs.Tuning.{Tuning};
+    ghost use Rattle.heard_events.specs.declared.event.Event.{Event as TheEvent};
+    ghost use Rattle.heard_events.specs.declared.mark.Mark.{Mark as TheMark};
     ghost use Rattle.chip_core.specs.declared.assignment.Traffic.{Traffic as TheTraffic};
     ghost use Rattle.rake_finger.specs.Held.{HoldsLast};
     ghost use Rattle.rake_finger.specs.Soft.{softs};

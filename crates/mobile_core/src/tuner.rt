@@ -2,11 +2,9 @@
 
 ghost use Rattle.mobile_core.specs.Tuned.{IsSoundTuner};
 
-use crate::channel::Channel;
 use crate::frame_receiver::FrameReceiver;
-use crate::mark::Mark;
-use crate::soft_frame::SoftFrame;
 use chip_core::{Phase, Sample};
+use heard_events::{Channel, Mark, SoftFrame};
 use pilot_search::Near;
 use rake_finger::SampleRing;
 use short_code::Codes;
@@ -42,11 +40,11 @@ impl Tuner {
     ghost use Rattle.std.specs.Prelude.{◌≡◌, ◌≤◌, ◌-◌, List, [], length};
     ghost use Rattle.std.specs.Prelude.{Some, pos, slice_get, take};
     ghost use Rattle.chip_core.specs.declared.sample.Sample.{Sample};
-    ghost use Rattle.mobile_core.specs.Channels.{IsLawful};
-    ghost use Rattle.mobile_core.specs.SoftFrames.{soft_frames};
+    ghost use Rattle.heard_events.specs.Channels.{IsLawful};
+    ghost use Rattle.heard_events.specs.SoftFrames.{soft_frames};
     ghost use Rattle.mobile_core.specs.Sound.{IsSoundMark};
     ghost use Rattle.mobile_core.specs.Tuners.{IsTunedTo, IsTunerStep, samples_left};
-    ghost use Rattle.mobile_core.specs.Tuning.{Tuning};
+    ghost use Rattle.heard_events.specs.Tuning.{Tuning};
     ghost use Rattle.rake_finger.specs.Held.{HoldsLast};
 
     /// The receiver of a channel behind a mark, for a base station at a phase and near it, in a

@@ -13,12 +13,12 @@ use Rattle.cell_plan.specs.Sampled.{made_samples}
 use Rattle.cell_plan.specs.declared.plan.CellPlan.{CellPlan}
 use Rattle.cell_plan.specs.declared.plan.PagingPlan.{PagingPlan}
 use Rattle.cell_plan.specs.declared.plan.SyncPlan.{SyncPlan}
-use Rattle.mobile_core.specs.Channels.{channel_stream}
-use Rattle.mobile_core.specs.Marks.{mark}
-use Rattle.mobile_core.specs.Streams.{is_in_file, Stream}
-use Rattle.mobile_core.specs.Tuning.{Tuning}
-use Rattle.mobile_core.specs.declared.channel.Channel.TheVariants.{Paging}
-use Rattle.mobile_core.specs.declared.mark.Mark.{Mark}
+use Rattle.heard_events.specs.Channels.{channel_stream}
+use Rattle.heard_events.specs.Marks.{mark}
+use Rattle.heard_events.specs.Streams.{is_in_file, Stream}
+use Rattle.heard_events.specs.Tuning.{Tuning}
+use Rattle.heard_events.specs.declared.channel.Channel.TheVariants.{Paging}
+use Rattle.heard_events.specs.declared.mark.Mark.{Mark}
 use Rattle.event_tap.specs.SlotLines.{frame_of_slot, frame_of_slot_end, is_heard, is_slot_within, lines_behind, lines_by_times}
 use Rattle.event_tap.specs.SlotLines.{lines_of_slot, slot_bound, slot_lines}
 use Rattle.clean_link.specs.CleanLink.{IsOnPath, IsTrueMark}

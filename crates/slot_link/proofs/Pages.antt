@@ -20,7 +20,7 @@ use Rattle.paging_message.specs.declared.message.PagingMessage.{PagingMessage}
 use Rattle.cell_plan.specs.PageCycles.{cycled, paging_frame_size}
 use Rattle.cell_plan.specs.Pages.{page_cycle}
 use Rattle.cell_plan.proofs.LaidPages.{size_large}
-use Rattle.mobile_core.specs.PagingEvents.{with_page}
+use Rattle.heard_events.specs.PagingEvents.{with_page}
 use Rattle.event_tap.specs.SlotLines.{slot_pages}
 use Rattle.clean_link.specs.HeardPages.{ReadPage}
 use Rattle.clean_link.specs.WholePages.{capsules_with_frames, cycle_half_frames, frame_capsules, is_between, placed, sending_of, Placed}

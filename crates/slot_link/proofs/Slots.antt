@@ -20,12 +20,12 @@ use Rattle.cell_plan.specs.Signal.{cycle_of}
 use Rattle.cell_plan.specs.declared.plan.CellPlan.{CellPlan}
 use Rattle.cell_plan.specs.declared.plan.PagingPlan.{PagingPlan}
 use Rattle.cell_plan.specs.declared.plan.SyncPlan.{SyncPlan}
-use Rattle.mobile_core.specs.Channels.{channel_stream}
-use Rattle.mobile_core.specs.PagingStreams as heard
-use Rattle.mobile_core.specs.Streams.{is_in_file}
-use Rattle.mobile_core.specs.Tuning.{Tuning}
-use Rattle.mobile_core.specs.declared.channel.Channel.TheVariants as channels
-use Rattle.mobile_core.specs.declared.mark.Mark.{Mark}
+use Rattle.heard_events.specs.Channels.{channel_stream}
+use Rattle.heard_events.specs.PagingStreams as heard
+use Rattle.heard_events.specs.Streams.{is_in_file}
+use Rattle.heard_events.specs.Tuning.{Tuning}
+use Rattle.heard_events.specs.declared.channel.Channel.TheVariants as channels
+use Rattle.heard_events.specs.declared.mark.Mark.{Mark}
 use Rattle.event_tap.specs.SlotLines.{slot_softs, slot_pages}
 use Rattle.clean_link.specs.CleanLink.{soft_strength}
 use Rattle.clean_link.specs.PagingLaws.{ordered_symbols}

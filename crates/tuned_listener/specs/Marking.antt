@@ -2,11 +2,11 @@
 use Rattle.std.specs.Prelude.{◌≡◌, false, List, length, None, Some}
 use Rattle.std.specs.List.{list_any}
 use Rattle.chip_core.specs.declared.sample.Sample.{Sample}
-use Rattle.mobile_core.specs.Marks.{mark, sets_mark}
+use Rattle.heard_events.specs.Marks.{mark, sets_mark}
 use Rattle.mobile_core.specs.Standing.{StandsFor}
-use Rattle.mobile_core.specs.Tuning.{Tuning}
-use Rattle.mobile_core.specs.declared.event.Event.{Event}
-use Rattle.mobile_core.specs.declared.mark.Mark.{Mark}
+use Rattle.heard_events.specs.Tuning.{Tuning}
+use Rattle.heard_events.specs.declared.event.Event.{Event}
+use Rattle.heard_events.specs.declared.mark.Mark.{Mark}
 use Rattle.mobile_core.specs.declared.mobile.Mobile.{Mobile}
 
 -- a handset was told no mark by the events that it gave of these samples

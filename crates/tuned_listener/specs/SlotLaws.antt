@@ -2,12 +2,12 @@
 use Rattle.std.specs.Prelude.{◌≡◌, ℕ, ◌+◌, ◌*◌, IsTrue, List, [], ◌∷◌, length, take, drop, ℤ, pos}
 use Rattle.std.specs.Prelude.{◌-ℤ◌, unsigned_abs, Some, None}
 use Rattle.chip_core.specs.declared.sample.Sample.{Sample}
-use Rattle.mobile_core.specs.Channels.{channel_stream}
-use Rattle.mobile_core.specs.Marks.{mark}
-use Rattle.mobile_core.specs.Near.{AreNear}
-use Rattle.mobile_core.specs.Tuning.{Tuning, sync_stream}
-use Rattle.mobile_core.specs.declared.channel.Channel.TheVariants.{Paging}
-use Rattle.mobile_core.specs.declared.mark.Mark.{Mark}
+use Rattle.heard_events.specs.Channels.{channel_stream}
+use Rattle.heard_events.specs.Marks.{mark}
+use Rattle.heard_events.specs.Near.{AreNear}
+use Rattle.heard_events.specs.Tuning.{Tuning, sync_stream}
+use Rattle.heard_events.specs.declared.channel.Channel.TheVariants.{Paging}
+use Rattle.heard_events.specs.declared.mark.Mark.{Mark}
 use Rattle.event_tap.specs.SlotLines.{is_heard, lines_by_times}
 use Rattle.tuned_listener.specs.TunedTexts.{tuned_text}
 use Rattle.tuned_listener.specs.declared.tuned_text.TunedText.TheVariants.{Slots}

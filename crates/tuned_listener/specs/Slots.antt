@@ -4,9 +4,9 @@ use Rattle.std.specs.Prelude.{ℕ, ◌+◌, ◌/◌, ◌%◌, ◌==◌, ◌&&◌
 use Rattle.std.specs.Prelude.{◌++◌, length}
 use Rattle.std.specs.List.{flat_map}
 use Rattle.chip_core.specs.declared.check_form.CheckForm.{CheckForm}
-use Rattle.mobile_core.specs.PagingStreams.{paging_rate}
-use Rattle.mobile_core.specs.declared.mark.Mark.{Mark}
-use Rattle.mobile_core.specs.declared.soft_frame.SoftFrame.{SoftFrame}
+use Rattle.heard_events.specs.PagingStreams.{paging_rate}
+use Rattle.heard_events.specs.declared.mark.Mark.{Mark}
+use Rattle.heard_events.specs.declared.soft_frame.SoftFrame.{SoftFrame}
 use Rattle.slot_mode.specs.Frames.{slot_bits}
 use Rattle.slot_mode.specs.Slots.{is_monitored}
 use Rattle.event_tap.specs.SlotLines.{slot_lines, slot_pages}

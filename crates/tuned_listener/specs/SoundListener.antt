@@ -2,9 +2,9 @@
 use Rattle.std.specs.Prelude.{◌≡◌, ◌≤◌, pos, Option, Some, slice_get}
 use Rattle.std.specs.Option.{ForSome}
 use Rattle.pilot_search.specs.declared.paths.Near.{Near}
-use Rattle.mobile_core.specs.Channels.{IsLawful}
+use Rattle.heard_events.specs.Channels.{IsLawful}
 use Rattle.mobile_core.specs.Sound.{IsSoundMark}
-use Rattle.mobile_core.specs.declared.channel.Channel.{Channel}
+use Rattle.heard_events.specs.declared.channel.Channel.{Channel}
 use Rattle.mobile_core.specs.declared.mobile.Mobile.{Mobile}
 use Rattle.tuned_listener.specs.FrameWriting.{IsReady}
 use Rattle.tuned_listener.specs.Marking.{IsUntold}

@@ -3,12 +3,12 @@ use Rattle.std.specs.Prelude.{◌≡◌, ℕ, List, [], ◌++◌, length, take, 
 use Rattle.std.specs.Io.{StartsWith}
 use Rattle.std.specs.Io.KnownBytes.{Appends}
 use Rattle.chip_core.specs.declared.sample.Sample.{Sample}
-use Rattle.mobile_core.specs.Marks.{mark}
-use Rattle.mobile_core.specs.Near.{AreNear}
+use Rattle.heard_events.specs.Marks.{mark}
+use Rattle.heard_events.specs.Near.{AreNear}
 use Rattle.mobile_core.specs.Standing.{has_room}
 use Rattle.mobile_core.specs.Tuners.{IsTunedTo, samples_left}
-use Rattle.mobile_core.specs.Tuning.{Tuning, sync_stream}
-use Rattle.mobile_core.specs.declared.channel.Channel.{Channel}
+use Rattle.heard_events.specs.Tuning.{Tuning, sync_stream}
+use Rattle.heard_events.specs.declared.channel.Channel.{Channel}
 use Rattle.mobile_core.specs.declared.mobile.Mobile.{Mobile}
 use Rattle.tuned_listener.specs.FrameWriting.{HoldsFrames, text_of}
 use Rattle.tuned_listener.specs.Marking.{ListensAhead}

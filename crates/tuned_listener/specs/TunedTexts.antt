@@ -6,14 +6,14 @@ use Rattle.event_tap.specs.FrameLines.{frame2_line, frame_line}
 use Rattle.frame_decoder.specs.declared.traffic.Decoded.{Decoded}
 use Rattle.listed_frame.specs.ListedFrames.{listed}
 use Rattle.rate_set_two.specs.TrafficFrames.{decoded2}
-use Rattle.mobile_core.specs.Channels.{IsLawful}
-use Rattle.mobile_core.specs.Marks.{mark}
-use Rattle.mobile_core.specs.SoftFrames.{soft_frames}
-use Rattle.mobile_core.specs.Tuning.{Tuning}
-use Rattle.mobile_core.specs.declared.channel.Channel.{Channel}
-use Rattle.mobile_core.specs.declared.mark.Mark.{Mark}
-use Rattle.mobile_core.specs.declared.soft_frame.PowerControl.{PowerControl}
-use Rattle.mobile_core.specs.declared.soft_frame.SoftFrame.{SoftFrame}
+use Rattle.heard_events.specs.Channels.{IsLawful}
+use Rattle.heard_events.specs.Marks.{mark}
+use Rattle.heard_events.specs.SoftFrames.{soft_frames}
+use Rattle.heard_events.specs.Tuning.{Tuning}
+use Rattle.heard_events.specs.declared.channel.Channel.{Channel}
+use Rattle.heard_events.specs.declared.mark.Mark.{Mark}
+use Rattle.heard_events.specs.declared.soft_frame.PowerControl.{PowerControl}
+use Rattle.heard_events.specs.declared.soft_frame.SoftFrame.{SoftFrame}
 use Rattle.tuned_listener.specs.Slots.{slot_more, slot_text}
 use Rattle.tuned_listener.specs.declared.tuned_text.TunedText.{TunedText}
 use Rattle.tuned_listener.specs.declared.tuned_text.TunedText.TheVariants.{Listed, RateSetTwo}

@@ -6,8 +6,8 @@ ghost use Rattle.chip_core.specs.declared.sample.Sample.{Sample as TheSample};
 ghost use Rattle.mobile_core.specs.Sound.{IsSoundMark};
 ghost use Rattle.mobile_core.specs.Standing.{has_room};
 ghost use Rattle.mobile_core.specs.Tuners.{samples_taken};
-ghost use Rattle.mobile_core.specs.Tuning.{Tuning};
-ghost use Rattle.mobile_core.specs.declared.mark.Mark.{Mark as TheMark};
+ghost use Rattle.heard_events.specs.Tuning.{Tuning};
+ghost use Rattle.heard_events.specs.declared.mark.Mark.{Mark as TheMark};
 ghost use Rattle.tuned_listener.specs.Marking.{IsMarkedAt, IsUntold, ListensAhead};
 
 use chip_core::Sample;

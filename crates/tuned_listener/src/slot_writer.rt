@@ -8,7 +8,7 @@ ghost use Rattle.cdma_io.specs.Outside.{AppendsPrefix, HasCause};
 ghost use Rattle.event_tap.specs.PagingLines.{paging_line};
 ghost use Rattle.mobile_core.specs.Softs.{frame_most};
 ghost use Rattle.mobile_core.specs.Sound.{IsSoundMark};
-ghost use Rattle.mobile_core.specs.declared.soft_frame.SoftFrame.{SoftFrame as TheFrame};
+ghost use Rattle.heard_events.specs.declared.soft_frame.SoftFrame.{SoftFrame as TheFrame};
 ghost use Rattle.paging_message.specs.HalfFrames.{IsPagingRate, StandsFor};
 ghost use Rattle.event_tap.specs.SlotLines.{slot_lines, slot_pages};
 ghost use Rattle.tuned_listener.specs.SlotWriting.{HoldsSlot, IsReadyForSlots, page_list};

@@ -46,10 +46,10 @@ impl TunedListener {
     ghost use Rattle.std.specs.Prelude.{IfOk, OnOk, OnErr, Some, is_some, true};
     ghost use Rattle.cdma_io.specs.Outside.{HasCause};
     ghost use Rattle.chip_core.specs.declared.sample.Sample.{Sample as TheSample};
-    ghost use Rattle.mobile_core.specs.Marks.{mark};
+    ghost use Rattle.heard_events.specs.Marks.{mark};
     ghost use Rattle.mobile_core.specs.Standing.{StandsFor, has_room};
-    ghost use Rattle.mobile_core.specs.Tuning.{Tuning};
-    ghost use Rattle.mobile_core.specs.declared.channel.Channel.{Channel as TheChannel};
+    ghost use Rattle.heard_events.specs.Tuning.{Tuning};
+    ghost use Rattle.heard_events.specs.declared.channel.Channel.{Channel as TheChannel};
     ghost use Rattle.tuned_listener.specs.Marking.{IsUntold};
     ghost use Rattle.tuned_listener.specs.TunedListening.{ListensTuned, TellsTuned, TellsTunedPart};
     ghost use Rattle.tuned_listener.specs.TunedListening.{tuned_room};

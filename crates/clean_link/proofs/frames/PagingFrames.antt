@@ -11,7 +11,7 @@ use Rattle.clean_link.proofs.Common.{soft_strength, PagingFramesComeBack, Paging
 use Rattle.clean_link.proofs.Common.{SilentPagingFramesAreZeros, SilentPagingIsZero, ordered_symbols, AreReadBy, IsOnlyBest, scrambled}
 use Rattle.clean_link.proofs.Common.{IsHeardBy}
 use Rattle.symbol_path.specs.Scrambling.{symbol_chips}
-use Rattle.mobile_core.specs.PagingStreams.{paging_rate}
+use Rattle.heard_events.specs.PagingStreams.{paging_rate}
 use Rattle.clean_link.proofs.signal.CarriersApart.{paging_sent, paging_silent}
 use Rattle.clean_link.proofs.signal.ChannelsBack.{channel_frames, channel_words, silent_rows, strength_some, stream_symbols}
 use Rattle.clean_link.proofs.frames.Scores.{whole_frames}

@@ -4,7 +4,7 @@ use Rattle.clean_link.proofs.Common.{Option, Some, None, flat_map, cases_Bool, m
 use Rattle.clean_link.proofs.Common.{IsState, made_samples, message_of, CellPlan, SyncPlan, first_of, mark, marks_at, marks_of, events_of}
 use Rattle.clean_link.proofs.Common.{with_message, Tuning, Event, Frame, Pilot, Sets, Mark, FramesAreZeros, FramesComeBack, IsOnPath}
 use Rattle.clean_link.proofs.Common.{events_of_channel, first_sync_frame, sending_event, sync_sent, whole_sendings, IsReceivable}
-use Rattle.mobile_core.specs.declared.event.Event.TheVariants.{Paging, Sync, Traffic}
+use Rattle.heard_events.specs.declared.event.Event.TheVariants.{Paging, Sync, Traffic}
 use Rattle.clean_link.proofs.marks.MarksTrue.{marks_sent}
 use Rattle.clean_link.proofs.sendings.Capsules.{IsSentAt, is_at, sending_frames}
 use Rattle.clean_link.proofs.sendings.Events.{frame_events, frames_of, in_file, known, mark_of_all}

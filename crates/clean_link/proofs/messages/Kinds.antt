@@ -8,7 +8,7 @@ use Rattle.clean_link.proofs.Common.{pages_behind, message_at, message_events, m
 use Rattle.clean_link.proofs.Common.{heard_at, sync_events_at, with_message, frame_heard, frames_by, if_followed, frames_now, Tuning}
 use Rattle.clean_link.proofs.Common.{sync_bound, sync_stream, Event, Leg, Mark, Traffic, is_frame, is_message, is_page, is_sync}
 use Rattle.clean_link.proofs.Common.{type_within}
-use Rattle.mobile_core.specs.declared.event.Event.TheVariants.{Frame, Paging, Pilot, Sets, Sync, Traffic as OnTraffic}
+use Rattle.heard_events.specs.declared.event.Event.TheVariants.{Frame, Paging, Pilot, Sets, Sync, Traffic as OnTraffic}
 
 -- ---- kinds by number
 

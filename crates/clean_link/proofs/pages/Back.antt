@@ -17,7 +17,7 @@ use Rattle.clean_link.proofs.pages.Silent.{zero_frames_end_none}
 use Rattle.clean_link.proofs.pages.Whole.{stated_pages, whole_pages_back}
 use Rattle.clean_link.proofs.frames.PagingFrames.{paging_frames_back, silent_paging_back}
 use Rattle.clean_link.proofs.frames.PagingTimes.{paging_file_from, paging_file_to, paging_known_is, paging_timed}
-use Rattle.mobile_core.specs.PagingStreams as streams
+use Rattle.heard_events.specs.PagingStreams as streams
 
 -- ---- when frames are known
 

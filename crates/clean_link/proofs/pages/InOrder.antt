@@ -8,8 +8,8 @@ use Rattle.clean_link.proofs.Common.{frame_own_bits, is_in_file, known_at, known
 use Rattle.clean_link.proofs.Common.{known_le, filter_enough, filter_ext_places, flat_map_ext_filter, flat_map_ext_filter_places}
 use Rattle.clean_link.proofs.Common.{flat_map_ext_places, known_page, KnownPage, pages_within, ReadPage, capsules_with_frames}
 use Rattle.clean_link.proofs.Common.{frame_capsules}
-use Rattle.mobile_core.specs.PagingEvents.{bits_before}
-use Rattle.mobile_core.specs.PagingStreams.{paging_rate}
+use Rattle.heard_events.specs.PagingEvents.{bits_before}
+use Rattle.heard_events.specs.PagingStreams.{paging_rate}
 use Rattle.clean_link.proofs.sendings.Order.{at_key, below_key, in_order, IsRising}
 
 -- ---- lists of lists

@@ -6,7 +6,7 @@ use Rattle.clean_link.proofs.Common.{CellPlan, SyncPlan, length-sync, events_of,
 use Rattle.clean_link.proofs.Common.{flat_map_ext_filter, FramesAreZeros, FramesComeBack, WholeSendingsComeBack, IsOnPath}
 use Rattle.clean_link.proofs.Common.{events_of_channel, first_sync_frame, heard_behind, is_whole, sending_ends, sending_event, sync_sent}
 use Rattle.clean_link.proofs.Common.{IsReceivable, made_samples}
-use Rattle.mobile_core.specs.declared.event.Event.TheVariants.{Sync}
+use Rattle.heard_events.specs.declared.event.Event.TheVariants.{Sync}
 use Rattle.clean_link.proofs.sendings.Capsules.{IsSentAt, sending_frames}
 use Rattle.clean_link.proofs.frames.SyncFrames.{frames_back, frames_zero}
 use Rattle.clean_link.proofs.frames.SyncTimes.{end_of_frame, in_file_to, known_is, sync_timed}

@@ -19,7 +19,7 @@ use Rattle.clean_link.proofs.traffic.OnePilot.{one_stream}
 use Rattle.clean_link.proofs.traffic.Signs.{frame_shown, lawful_traffic, set_two_sends}
 use Rattle.clean_link.proofs.traffic.Times.{traffic_file_to, traffic_known_is}
 use Rattle.rate_set_two.proofs.SentFrames as second
-use Rattle.mobile_core.specs.TrafficStreams as heard
+use Rattle.heard_events.specs.TrafficStreams as heard
 
 -- ---- behind a true mark
 

@@ -12,7 +12,7 @@ use Rattle.clean_link.proofs.Common.{IsNoDirection, IsNotDirected, IsOnePilot, R
 use Rattle.pilot_sets.specs.Standing.{stepped}
 use Rattle.paging_message.specs.declared.message.PagingMessage.TheVariants as pages
 use Rattle.traffic_message.specs.declared.body.TrafficBody.TheVariants as bodies
-use Rattle.mobile_core.specs.declared.event.Event.TheVariants as kinds
+use Rattle.heard_events.specs.declared.event.Event.TheVariants as kinds
 
 -- ---- lists
 

@@ -2,8 +2,8 @@ use Rattle.std.proofs.Common.{◌≡◌, ◌≤◌, ◌+◌, ◌++◌, All, List
 use Rattle.chip_core.specs.declared.sample.Sample.{Sample}
 use Rattle.event_tap.specs.Taps.{IsKept, KeptTap, run_taps}
 use Rattle.mobile_core.specs.Standing.{StandsFor, has_room, steps_left}
-use Rattle.mobile_core.specs.Tuning.{Tuning}
-use Rattle.mobile_core.specs.declared.event.Event.{Event}
+use Rattle.heard_events.specs.Tuning.{Tuning}
+use Rattle.heard_events.specs.declared.event.Event.{Event}
 use Rattle.cdma_replay.specs.Hearing.{HasTold}
 use Rattle.cdma_replay.proofs.listener.tell.Given as goal
 

@@ -2,7 +2,7 @@ use Rattle.std.proofs.Common.{ℕ, List, ◌++◌, ap, subst, sym}
 use Rattle.std.specs.Io.KnownBytes.{Appends}
 use Rattle.cdma_io.specs.Outside.{AppendsPrefix}
 use Rattle.event_tap.specs.EventLines.{event_line}
-use Rattle.mobile_core.specs.declared.event.Event.{Event}
+use Rattle.heard_events.specs.declared.event.Event.{Event}
 use Rattle.tuned_listener.proofs.Prefixes.{on_err, on_ok}
 use Rattle.cdma_replay.specs.Hearing.{BeginsBehind, told}
 use Rattle.cdma_replay.specs.Openings.{listening_in, pilot_event, shown_text}

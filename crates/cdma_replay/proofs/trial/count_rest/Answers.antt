@@ -1,7 +1,7 @@
 use Rattle.std.proofs.Common.{◌≤◌, ◌∙◌, List, ap, arith, rules}
 use Rattle.chip_core.specs.declared.sample.Sample.{Sample}
 use Rattle.cell_plan.specs.declared.plan.CellPlan.{CellPlan}
-use Rattle.mobile_core.specs.Events.{events}
+use Rattle.heard_events.specs.Events.{events}
 use Rattle.cdma_replay.specs.Trials.{counts_of}
 use Rattle.cdma_replay.proofs.Counting.{counted_next, made_all}
 use Rattle.cdma_replay.proofs.trial.count_rest.Goals as goal

@@ -1,8 +1,8 @@
 use Rattle.std.proofs.Common.{◌≡◌, ◌-◌, ◌+◌, length, take}
 use Rattle.cell_plan.specs.Sampled.{made_samples}
-use Rattle.mobile_core.specs.Events.{events}
+use Rattle.heard_events.specs.Events.{events}
 use Rattle.mobile_core.specs.Standing.{StandsFor, has_room, steps_left}
-use Rattle.mobile_core.specs.Tuning.{Tuning}
+use Rattle.heard_events.specs.Tuning.{Tuning}
 use Rattle.cdma_replay.specs.Trials.{LeavesRoom, counts_of}
 use Rattle.cdma_replay.proofs.trial.count_rest.Given as goal
 

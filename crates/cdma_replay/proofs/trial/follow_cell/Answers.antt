@@ -9,9 +9,9 @@ use Rattle.cell_plan.specs.declared.plan.CellPlan.{CellPlan}
 use Rattle.pilot_search.specs.BestIn.{IsBestIn}
 use Rattle.pilot_search.specs.Search.{best_phase}
 use Rattle.pilot_search.proofs.BestPhase.{best_phase-only}
-use Rattle.mobile_core.specs.Events.{events}
+use Rattle.heard_events.specs.Events.{events}
 use Rattle.mobile_core.specs.Standing.{StandsFor}
-use Rattle.mobile_core.specs.Tuning.{Tuning}
+use Rattle.heard_events.specs.Tuning.{Tuning}
 use Rattle.cdma_replay.specs.Hearing.{AreNearTo, tuning_for}
 use Rattle.cdma_replay.specs.Trials.{counts_of, trial_span, trial_tuning}
 use Rattle.cdma_replay.proofs.Counting.{behind_span, line_is, span_fits, span_is, trial_counted}

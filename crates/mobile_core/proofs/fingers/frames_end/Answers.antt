@@ -1,5 +1,5 @@
 use Rattle.mobile_core.proofs.Common.{arith}
-use Rattle.mobile_core.proofs.CloseFingers.{close_at}
+use Rattle.heard_events.proofs.CloseFingers.{close_at}
 use Rattle.mobile_core.proofs.FingerLists.{end_at_finger}
 use Rattle.mobile_core.proofs.fingers.frames_end.Goals as goal
 

@@ -1,6 +1,6 @@
 use Rattle.mobile_core.proofs.Common.{◌≡◌, ℕ, ◌+◌, length, List, ℤ, ◌∙◌, sym, ap, refl, rules, frame_chips, softs, symbols, unscrambled}
 use Rattle.mobile_core.proofs.Common.{frame_softs, frame_start}
-use Rattle.mobile_core.proofs.FingerTimes.{in_ring, ends_step, begun_on}
+use Rattle.heard_events.proofs.FingerTimes.{in_ring, ends_step, begun_on}
 use Rattle.mobile_core.proofs.Received.{receives_frame}
 use Rattle.mobile_core.proofs.continued.Continued.take_frame.Goals as goal
 

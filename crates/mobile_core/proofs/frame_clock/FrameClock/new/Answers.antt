@@ -1,5 +1,5 @@
 use Rattle.mobile_core.proofs.Common.{ℕ, sym, ap, subst, AreBegun, FrameClock}
-use Rattle.mobile_core.proofs.FingerTimes.{begun_first}
+use Rattle.heard_events.proofs.FingerTimes.{begun_first}
 use Rattle.mobile_core.proofs.frame_clock.FrameClock.new.Goals as goal
 
 pub returns-clause-begun : goal.returns-clause-begun

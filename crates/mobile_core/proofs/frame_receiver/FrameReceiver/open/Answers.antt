@@ -1,6 +1,7 @@
 use Rattle.mobile_core.proofs.Common.{◌≡◌, ◌∙◌, ℕ, ◌+◌, ◌*◌, ◌≤◌, List, ap, arith, false, refl, subst, sym, take, ℤ, Finger, Form, Data}
 use Rattle.mobile_core.proofs.Common.{Bool, channel_stream, row_of, clock_from, first_frame, AreNear, fingers_of, FrameClock}
-use Rattle.mobile_core.proofs.FramesGiven.{fingers_by, first_by, form_by, none_given, waits_by}
+use Rattle.heard_events.proofs.ChannelFrames.{fingers_by, first_by, form_by, waits_by}
+use Rattle.mobile_core.proofs.FramesGiven.{none_given}
 use Rattle.mobile_core.proofs.frame_receiver.FrameReceiver.open.Goals as goal
 
 pub returns-clause-begins : goal.returns-clause-begins
@@ -27,7 +28,7 @@ returns-clause-sound c =
       ends = rw value refl;
       few = fingers.most;
       rows = fingers.rows;
-      masked = c.scrambling.ensures.below;
+      masked = c.of.ensures.below;
     }
 
 pub returns-clause-given : goal.returns-clause-given
@@ -61,5 +62,5 @@ returns-clause-given c = λ t taken phase deltas within early.
     ap (λ (k : FrameClock). k.start) clock.ensures.value in
     let most : taken ≤ clock.result.end =
     omega (arith, early, starts, clock.ensures.sound.start_end) in
-    none_given t channel m _ taken near clock_is fingers_are c.scrambling.ensures.state
-    c.scrambling.ensures.mask c.has_power_control.ensures within most
+    none_given t channel m _ taken near clock_is fingers_are c.of.ensures.state
+    c.of.ensures.mask c.has_power_control.ensures within most

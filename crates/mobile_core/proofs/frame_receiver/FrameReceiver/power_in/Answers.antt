@@ -1,5 +1,5 @@
 use Rattle.mobile_core.proofs.Common.{◌∙◌, ◌++◌, ◌∷◌, [], ℕ, List, ℤ, ap, map, sym, places, command, group_sums, power_places, state_at}
-use Rattle.mobile_core.proofs.FramesGiven.{no_power, some_power}
+use Rattle.heard_events.proofs.ChannelFrames.{no_power, some_power}
 use Rattle.mobile_core.proofs.frame_receiver.FrameReceiver.power_in.Goals as goal
 
 pub returns-then-not-self : goal.returns-then-not-self

@@ -1,6 +1,6 @@
 use Rattle.mobile_core.proofs.Common.{◌∙◌, ℕ, List, ap, sym, softs, Finger, Form, Data, channel_stream, frame_end, frame_start}
-use Rattle.mobile_core.proofs.FingerTimes.{in_ring}
-use Rattle.mobile_core.proofs.FramesGiven.{form_by}
+use Rattle.heard_events.proofs.FingerTimes.{in_ring}
+use Rattle.heard_events.proofs.ChannelFrames.{form_by}
 use Rattle.mobile_core.proofs.frame_receiver.FrameReceiver.unturned.Goals as goal
 
 pub combine_into-requires-clause-ring : goal.combine_into-requires-clause-ring

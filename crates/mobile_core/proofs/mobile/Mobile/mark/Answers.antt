@@ -1,7 +1,7 @@
 use Rattle.mobile_core.proofs.Common.{◌∙◌, length, subst, sym, arith, AreNear, parts}
 use Rattle.mobile_core.proofs.ClockSteps.{before_next}
 use Rattle.mobile_core.proofs.MarkAhead.{mark_ahead}
-use Rattle.mobile_core.proofs.MarkStays.{mark_told}
+use Rattle.heard_events.proofs.MarkStays.{mark_told}
 use Rattle.mobile_core.proofs.Stood.{marked_all}
 use Rattle.mobile_core.proofs.mobile.Mobile.mark.Goals as goal
 

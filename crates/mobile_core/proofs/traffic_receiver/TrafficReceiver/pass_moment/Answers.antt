@@ -1,7 +1,7 @@
 use Rattle.mobile_core.proofs.Common.{◌∙◌, ◌+◌, ◌*◌, sym, ap, arith, Mark, coming_place, SetsKeeper, TrafficReceiver}
 use Rattle.mobile_core.proofs.MomentPassed.{hears_tuned, left_tuned}
 use Rattle.mobile_core.proofs.SoundFrames.{passed_close, sound_sets}
-use Rattle.mobile_core.specs.Moments.{sets_events, passed as passed_of}
+use Rattle.heard_events.specs.Moments.{sets_events, passed as passed_of}
 use Rattle.mobile_core.proofs.traffic_receiver.TrafficReceiver.pass_moment.Goals as goal
 
 pub tune-requires : goal.tune-requires

@@ -1,5 +1,5 @@
 use Rattle.mobile_core.proofs.Common.{◌∙◌, ℕ, List, ap, arith, map, take, power_places, sums_on, subchannels}
-use Rattle.mobile_core.proofs.CloseFingers.{close_in_ring}
+use Rattle.heard_events.proofs.CloseFingers.{close_in_ring}
 use Rattle.mobile_core.proofs.SoundFrames.{sound_softs}
 use Rattle.mobile_core.proofs.traffic_receiver.TrafficReceiver.take_softs.Goals as goal
 

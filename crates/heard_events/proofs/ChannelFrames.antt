@@ -1,0 +1,148 @@
+-- The frames of a channel behind the mark, before they are decoded.
+use Rattle.heard_events.proofs.Common.{◌≡◌, ℕ, ◌+◌, ◌*◌, ◌<◌, ◌≤◌, Bool, true, false, ◌&&◌, List, [], ◌∷◌, ◌++◌, map, filter, length, nat_le}
+use Rattle.heard_events.proofs.Common.{refl, sym, ap, ◌∙◌, arith, inl, inr, ℤ, Option, Some, None, take, drop, subst, and_parts, cases_Bool}
+use Rattle.heard_events.proofs.Common.{false_from_ne_true, le-leb, leb-true, length-take-le, take-append-drop, places, Sample, frame_chips}
+use Rattle.heard_events.proofs.Common.{Form, Data, command, group_sums, power_places, scrambling, channel_stream, has_power_control, mask_of}
+use Rattle.heard_events.proofs.Common.{offset_of, row_of, state_at, paging_bound, unscrambled, frames_within, power_of, soft_frame, Stream}
+use Rattle.heard_events.proofs.Common.{frame_end, frame_start, is_in_file, known_at, known_by, IsTimed, stream_end, Tuning, fingers_of}
+use Rattle.heard_events.proofs.Common.{Channel, Paging, Mark, PowerControl, SoftFrame}
+use Rattle.heard_events.specs.declared.channel.Channel.TheVariants.{Traffic}
+use Rattle.heard_events.proofs.FrameTimes.{known_between}
+use Rattle.heard_events.proofs.Sooner.{all_fit, softs_sooner}
+use Rattle.chip_core.proofs.Ranges as ranges
+
+-- THE STREAM OF A CHANNEL
+pub fingers_by : (t : Tuning) (channel : Channel) (m : Mark) →
+    (channel_stream t channel m).fingers ≡ fingers_of (row_of channel) t.phase t.deltas
+fingers_by t (Paging number) m = refl
+fingers_by t (Traffic traffic) m = refl
+
+pub form_by : (t : Tuning) (channel : Channel) (m : Mark) → (channel_stream t channel m).form ≡ Data
+form_by t (Paging number) m = refl
+form_by t (Traffic traffic) m = refl
+
+pub waits_by : (t : Tuning) (channel : Channel) (m : Mark) →
+    (channel_stream t channel m).waits ≡ false
+waits_by t (Paging number) m = refl
+waits_by t (Traffic traffic) m = refl
+
+pub first_by : (t : Tuning) (channel : Channel) (m : Mark) →
+    m.sample + offset_of channel ≡ (channel_stream t channel m).first
+first_by t (Paging number) m = omega arith
+first_by t (Traffic traffic) m = refl
+
+pub scrambled_by : (t : Tuning) (channel : Channel) (m : Mark) (k : ℕ) →
+    scrambling (state_at channel m k) (mask_of channel m)
+    ≡ (channel_stream t channel m).scrambling k
+scrambled_by t (Paging number) m k = refl
+scrambled_by t (Traffic traffic) m k = refl
+
+-- a frame is known at its own end
+pub own_end : (t : Tuning) (channel : Channel) (m : Mark) (k : ℕ) →
+    known_at t.count (channel_stream t channel m) k ≡ stream_end (channel_stream t channel m) k
+unfolding stream_end
+own_end t (Paging number) m k = refl
+own_end t (Traffic traffic) m k = refl
+
+-- THE FRAMES KNOWN WITHIN SO MANY SAMPLES
+module _ {count low : ℕ} (s : Stream) (timed : IsTimed count s low) (form : s.form ≡ Data) where
+  -- they are those before `next`, where these are known by then and the others later
+  pub known_before : (n next : ℕ) →
+      ((k : ℕ) → k < next → is_in_file count s k ≡ true → known_at count s k ≤ n) →
+      ((k : ℕ) → next ≤ k → is_in_file count s k ≡ true → n + 1 ≤ known_at count s k) →
+      known_by count s n (paging_bound n) ≡ filter (is_in_file count s) (places next)
+  known_before n next before behind =
+      let p : ℕ → Bool = λ k. is_in_file count s k && nat_le (known_at count s k) n in
+      let known : (k : ℕ) → p k ≡ true →
+      (is_in_file count s k ≡ true) × (known_at count s k ≤ n) = λ k h.
+      let parts = and_parts (is_in_file count s k) (nat_le (known_at count s k) n) h in
+      (parts.0, leb-true (known_at count s k) n parts.1) in
+      let past : (k : ℕ) → paging_bound n ≤ k → p k ≡ false = λ k l.
+      false_from_ne_true (p k)
+      (λ h.
+      let w = known k h in
+      let b = known_between s timed k w.0 in
+      let early : 24576 * (k + 1) ≤ stream_end s k =
+      subst (λ (f : Form). frame_chips f * (k + 1) ≤ stream_end s k) form (timed.early k) in
+      omega (arith, b.low, early, w.1, l)) in
+      let later : (k : ℕ) → next ≤ k → p k ≡ false = λ k l.
+      false_from_ne_true (p k)
+      (λ h.
+      let w = known k h in
+      let b = behind k l w.0 in
+      omega (arith, b, w.1)) in
+      ranges.filter_enough p (paging_bound n) next past later
+      ∙ ranges.filter_ext_places p (is_in_file count s) next
+      (λ k below. elim (cases_Bool (is_in_file count s k)) [
+        | inl yes' ↦
+            let le = le-leb (known_at count s k) n (before k below yes') in
+            rw (yes', le) refl
+        | inr no' ↦ rw no' refl
+      ])
+
+-- POWER CONTROL BITS
+-- a paging channel has none
+pub no_power : (channel : Channel) (m : Mark) (k : ℕ) (softs' : List ℤ) →
+    has_power_control channel ≡ false → None ≡ power_of channel m k softs'
+no_power (Paging number) m k softs' none = refl
+no_power (Traffic traffic) m k softs' none = absurd (cc)
+
+-- a traffic channel's are those of one subchannel
+pub some_power : (channel : Channel) (m : Mark) (k : ℕ) (softs' : List ℤ) (replaced : List ℕ)
+    (commands : List Bool) → has_power_control channel ≡ true →
+    replaced ≡ power_places (state_at channel m k) (mask_of channel m) →
+    commands ≡ map (command (group_sums replaced softs' ∷ [])) (places 16) →
+    Some (record { replaced = replaced; commands = commands }) ≡ power_of channel m k softs'
+some_power (Paging number) m k softs' replaced commands some replaced_is commands_are = absurd (cc)
+some_power (Traffic traffic) m k softs' replaced commands some replaced_is commands_are =
+    let of : List ℕ → List Bool → Option PowerControl =
+    λ ps cs. Some (record { replaced = ps; commands = cs }) in
+    ap (of replaced) commands_are
+    ∙ ap (λ (ps : List ℕ). of ps (map (command (group_sums ps softs' ∷ [])) (places 16)))
+    replaced_is
+
+-- WHAT IS RECEIVED OF A FRAME
+module _ (t : Tuning) (channel : Channel) (m : Mark) where
+  abbrev pub frame_of : ℕ → List ℤ → SoftFrame
+  frame_of k unturned =
+      let s = channel_stream t channel m in
+      record {
+        number = k;
+        end = frame_end s.fingers s.form (frame_start s k);
+        unturned = unturned;
+        turned = unscrambled (s.scrambling k) unturned;
+        power = power_of channel m k unturned;
+      }
+
+  -- it stays where more samples follow
+  pub frame_sooner : (xs ys : List Sample) (k : ℕ) →
+      is_in_file t.count (channel_stream t channel m) k ≡ true →
+      stream_end (channel_stream t channel m) k ≤ length xs →
+      soft_frame t channel m (xs ++ ys) k ≡ soft_frame t channel m xs k
+  unfolding stream_end
+  frame_sooner xs ys k inside ends =
+      let s = channel_stream t channel m in
+      let u : ℕ = frame_start s k in
+      ap (frame_of k)
+      (softs_sooner xs ys s.fingers s.form u
+      (all_fit t.count (length xs) s.fingers s.form u inside ends))
+
+  -- the first samples alone decide what is received within them
+  pub frames_of_first : (samples : List Sample) (n : ℕ) → n ≤ length samples →
+      frames_within t channel m samples n ≡ frames_within t channel m (take n samples) n
+  unfolding frames_within
+  frames_of_first samples n h =
+      let s = channel_stream t channel m in
+      let first = take n samples in
+      let rest = drop n samples in
+      let long : length first ≡ n = length-take-le n samples h in
+      ap (λ xs. map (soft_frame t channel m xs) (known_by t.count s n (paging_bound n)))
+      (sym (take-append-drop n samples))
+      ∙ ranges.map_ext_filter_places
+      (λ k. is_in_file t.count s k && nat_le (known_at t.count s k) n)
+      (soft_frame t channel m (first ++ rest)) (soft_frame t channel m first) (paging_bound n)
+      (λ k below kept.
+      let parts = and_parts (is_in_file t.count s k) (nat_le (known_at t.count s k) n) kept in
+      let known = leb-true (known_at t.count s k) n parts.1 in
+      let own = own_end t channel m k in
+      frame_sooner first rest k parts.0 (omega (arith, known, own, long)))

@@ -1,0 +1,105 @@
+-- What the proofs of this crate cite of what lies below, and of its own definitions, passed on from one place.
+pub use Rattle.std.proofs.Common.{All, Bool, List, None, Option, Some, [], ap, append-nil, arith, cond, drop, false, filter, get_or, inl}
+pub use Rattle.std.proofs.Common.{inr, length, length-append, length-drop, length-take, map, max, nat_le, nat_lt, negsuc, pos, refl}
+pub use Rattle.std.proofs.Common.{slice_get, slice_index_or, subst, suc, sym, take, true, zero, ℕ, ℤ, ◌&&◌, ◌*◌, ◌++◌, ◌+ℤ◌, ◌+◌, ◌-ℤ◌, ◌-◌}
+pub use Rattle.std.proofs.Common.{◌/◌, ◌<◌, ◌==◌, ◌^◌, ◌||◌, ◌∙◌, ◌∷◌, ◌≡◌, ◌≤ℤ◌, ◌≤◌, ◌⊎◌}
+pub use Rattle.std.proofs.lemmas.Bool.{and_from, and_left, and_parts, and_right, cases_Bool, cases_lt, cases_order, eq-eqb, eqb-true}
+pub use Rattle.std.proofs.lemmas.Bool.{false_from_ne_true, le-leb, leb-false, leb-true, lt-leb, lt-ltb, ne_eqb, or_cases, or_left, or_right}
+pub use Rattle.std.proofs.lemmas.Bool.Decides.{nat_tests}
+pub use Rattle.std.proofs.lemmas.Grind.{flat_map-append}
+pub use Rattle.std.proofs.lemmas.Int.{ints}
+pub use Rattle.std.proofs.lemmas.List.{append_assoc, drop-append-le, drop-drop, drop-take, length-take-le, map-append, take-append-drop}
+pub use Rattle.std.proofs.lemmas.List.{take-append-le, take-take}
+pub use Rattle.std.proofs.lemmas.List.Folds.{list_all-append, list_any-append}
+pub use Rattle.std.specs.List.{flat_map, list_all, list_any, range_with_len}
+pub use Rattle.std.specs.Option.{option_or, option_to_list}
+pub use Rattle.std.specs.Ordering.{int_eq}
+pub use Rattle.std.specs.Prelude.{IsTrue, if◌then◌else◌, int_le, is_some, unsigned_abs}
+pub use Rattle.chip_core.proofs.Ranges.{filter-places-more, filter_ext_places, filter_first_places, filter_none_places}
+pub use Rattle.chip_core.proofs.Ranges.{flat_map-places-more, flat_map_ext_filter, flat_map_ext_filter_places, flat_map_ext_places}
+pub use Rattle.chip_core.proofs.Ranges.{flat_map_ext_range, map_ext_filter_places, map_ext_places}
+unfoldable pub use Rattle.chip_core.specs.Bits.{places}
+pub use Rattle.chip_core.specs.Complex.{sum_of}
+pub use Rattle.chip_core.specs.Fields.{FieldsFit}
+pub use Rattle.chip_core.specs.Sums.{total}
+pub use Rattle.chip_core.specs.declared.assignment.Traffic.{Traffic}
+pub use Rattle.chip_core.specs.declared.check_form.CheckForm.{CheckForm}
+pub use Rattle.chip_core.specs.declared.sample.Sample.{Sample}
+pub use Rattle.frame_decoder.proofs.BestWords.{length-best_word}
+pub use Rattle.frame_decoder.proofs.Parts.{within}
+pub use Rattle.frame_decoder.specs.Spans.{own_bits, score, sending}
+pub use Rattle.frame_decoder.specs.TrafficFrames.{command, group_sums}
+unfoldable pub use Rattle.frame_decoder.specs.TrafficFrames.{decoded}
+pub use Rattle.frame_decoder.specs.declared.traffic.Decoded.{Decoded}
+pub use Rattle.paging_message.specs.HalfFrames.{half_frame_body, half_frame_capsule_ending}
+pub use Rattle.pilot_sets.specs.Standing.{Standing, new_standing}
+pub use Rattle.pilot_sets.specs.declared.change.SetChange.{SetChange}
+pub use Rattle.quality_bits.specs.Capsules.{is_stated, stated_bits}
+unfoldable pub use Rattle.quality_bits.specs.Capsules.{front_capsule}
+pub use Rattle.quality_bits.specs.Pieces.{Piece, bodies, but_last, from_last_start, piece}
+unfoldable pub use Rattle.quality_bits.specs.Pieces.{capsule_ending}
+pub use Rattle.rake_finger.specs.Held.{Held}
+pub use Rattle.rake_finger.specs.InRing.{IsInRing}
+pub use Rattle.rake_finger.specs.Soft.{covered_from, despread_at, finger_place, frame_chips, symbol_chips, symbols, window_chips}
+unfoldable pub use Rattle.rake_finger.specs.Soft.{pilot_sum, soft, softs, symbol_sum}
+pub use Rattle.rake_finger.specs.declared.finger.Finger.{Finger}
+pub use Rattle.rake_finger.specs.declared.form.Form.{Form}
+pub use Rattle.rake_finger.specs.declared.form.Form.TheVariants.{Data, Sync}
+pub use Rattle.short_code.specs.Despread.{despread}
+pub use Rattle.symbol_path.specs.Scrambling.{power_places, scrambling}
+pub use Rattle.sync_message.proofs.Bodies.{fixed_fit}
+pub use Rattle.sync_message.proofs.Readings.{reading_is_message}
+pub use Rattle.sync_message.specs.Reading.{sync_reading}
+pub use Rattle.sync_message.specs.SyncMessage.{fixed_fields}
+pub use Rattle.sync_message.specs.declared.fields.SyncFields.{SyncFields}
+pub use Rattle.viterbi.specs.Words.{Word, best_word}
+pub use Rattle.viterbi.specs.declared.word.Ends.TheVariants.{Free}
+pub use Rattle.heard_events.specs.Channels.{channel_stream, has_power_control, mask_of, offset_of, row_of, state_at}
+pub use Rattle.heard_events.specs.Close.{AreClose, all_close, is_close}
+pub use Rattle.heard_events.specs.Events.{events_within}
+unfoldable pub use Rattle.heard_events.specs.Events.{events_at, frame_events_at, heard_within, message_events_at, paging_events_at}
+unfoldable pub use Rattle.heard_events.specs.Events.{sets_events_at}
+pub use Rattle.heard_events.specs.FrameSamples.{AgreeIn}
+pub use Rattle.heard_events.specs.FramesAlone.{reference_alone, traffic_channel}
+pub use Rattle.heard_events.specs.Given.{at_of}
+pub use Rattle.heard_events.specs.Left.{frames_left}
+unfoldable pub use Rattle.heard_events.specs.Left.{frames_left_of, messages_left_of, pages_left, sync_events_left}
+pub use Rattle.heard_events.specs.Legs.{all_fingers, is_on, leg_fingers, legs_of, on_subchannel, pilot_finger, subchannels}
+pub use Rattle.heard_events.specs.Marks.{first_of, frames_with, mark_at, marks_of, sets_mark}
+unfoldable pub use Rattle.heard_events.specs.Marks.{frames_open, mark, mark_before, marks_at}
+pub use Rattle.heard_events.specs.Moments.{frames_at, frames_behind, legs_at, legs_by, messages_at, messages_behind, moment_events}
+pub use Rattle.heard_events.specs.Moments.{moment_place, moments_before, sets_behind, sets_events}
+unfoldable pub use Rattle.heard_events.specs.Moments.{changed, heard_from, kept_to, passed, sets_at, told_by}
+pub use Rattle.heard_events.specs.Near.{AreBegun, AreNear, IsTuned, all_begun, all_near, has_reference, is_near, low_in, low_of}
+pub use Rattle.heard_events.specs.Noted.{all_noted, noted}
+pub use Rattle.heard_events.specs.PagingEvents.{page_event, page_in, pages_behind}
+unfoldable pub use Rattle.heard_events.specs.PagingEvents.{bits_before, bits_up_to, page_at, pages_at, pages_from}
+pub use Rattle.heard_events.specs.PagingStreams.{paging_bound, paging_rate, paging_stream}
+pub use Rattle.heard_events.specs.Scrambled.{unscrambled}
+pub use Rattle.heard_events.specs.Signaling.{capsule_with, message_events, message_heard, signal_in, signal_of}
+unfoldable pub use Rattle.heard_events.specs.Signaling.{message_at, messages_by, signal_at, signals_before}
+pub use Rattle.heard_events.specs.SoftFrames.{power_of, soft_frame, unturned_at}
+unfoldable pub use Rattle.heard_events.specs.SoftFrames.{frames_within}
+pub use Rattle.heard_events.specs.Streams.{Stream, frame_end, frame_softs, frame_start, is_in_file, is_within, known_at, known_by}
+pub use Rattle.heard_events.specs.Streams.{known_now, span_first, span_frames}
+unfoldable pub use Rattle.heard_events.specs.Streams.{frame_own_bits}
+pub use Rattle.heard_events.specs.SyncEvents.{events_of, heard_in, with_message}
+unfoldable pub use Rattle.heard_events.specs.SyncEvents.{frames_before, heard_at, sync_capsule_at, sync_events_at}
+pub use Rattle.heard_events.specs.Timing.{IsTimed}
+unfoldable pub use Rattle.heard_events.specs.Timing.{stream_end}
+pub use Rattle.heard_events.specs.TrafficEvents.{all_sums, frame_event, if_followed, subchannel_sums}
+unfoldable pub use Rattle.heard_events.specs.TrafficEvents.{commands_at, decoded_at, frames_by}
+pub use Rattle.heard_events.specs.TrafficStreams.{ends_now, frame_known, frames_bound, frames_now, has_frame, replaced_in, stream_of}
+pub use Rattle.heard_events.specs.TrafficStreams.{traffic_start, traffic_stream}
+pub use Rattle.heard_events.specs.Tuning.{Tuning, fingers_of, sync_bound, sync_stream}
+pub use Rattle.heard_events.specs.declared.channel.Channel.{Channel}
+pub use Rattle.heard_events.specs.declared.channel.Channel.TheVariants.{Paging}
+pub use Rattle.heard_events.specs.declared.event.Event.{Event}
+pub use Rattle.heard_events.specs.declared.event.Event.TheVariants.{Pilot}
+pub use Rattle.heard_events.specs.declared.leg.Leg.{Leg}
+pub use Rattle.heard_events.specs.declared.mark.Mark.{Mark}
+pub use Rattle.heard_events.specs.declared.soft_frame.PowerControl.{PowerControl}
+pub use Rattle.heard_events.specs.declared.soft_frame.SoftFrame.{SoftFrame}
+pub use Rattle.heard_events.specs.declared.spelled_message.SpelledMessage.{SpelledMessage}
+pub use Rattle.heard_events.specs.declared.spelled_page.SpelledPage.{SpelledPage}
+pub use Rattle.heard_events.specs.declared.spelled_signal.SpelledSignal.{SpelledSignal}

@@ -1,0 +1,87 @@
+-- How the events of a file grow with its samples.
+use Rattle.heard_events.proofs.Common.{◌≡◌, ℕ, ◌+◌, ◌≤◌, List, [], ◌++◌, length, refl, sym, ap, ◌∙◌, arith, map, Option, Some, None, nat_lt}
+use Rattle.heard_events.proofs.Common.{if◌then◌else◌, append_assoc, Sample, events_at, frame_events_at, message_events_at, paging_events_at}
+use Rattle.heard_events.proofs.Common.{sets_events_at, mark, AreNear, frames_behind, messages_behind, moments_before, sets_behind}
+use Rattle.heard_events.proofs.Common.{page_event, pages_at, pages_behind, sync_events_at, Tuning, sync_stream, Event, Mark, Traffic}
+use Rattle.heard_events.proofs.FollowedEvents.{followed_behind, unrated, told_behind, told_unset}
+use Rattle.heard_events.proofs.Growth.{IsSyncTimed}
+use Rattle.heard_events.proofs.PageGrowth.{pages_sooner}
+use Rattle.heard_events.proofs.MomentGrowth.{first_same, kept_sooner, sets_sooner}
+use Rattle.heard_events.proofs.Growth as growth
+use Rattle.heard_events.proofs.MarkStays as stays
+
+-- what ends at n is heard on the sync channel, on the paging channel, or on the traffic channel, or
+-- is a moment of the pilot sets
+pub events_at_all : (t : Tuning) (xs : List Sample) (n : ℕ) →
+    events_at t xs n
+    ≡ sync_events_at t xs n
+    ++ (paging_events_at t xs n
+    ++ (frame_events_at t xs n ++ (message_events_at t xs n ++ sets_events_at t xs n)))
+unfolding events_at
+events_at_all t xs n = refl
+
+-- behind the mark it is what is heard of the channels that are followed from there on
+pub events_at_by : (t : Tuning) (xs : List Sample) (n : ℕ) (m : Option Mark) → mark t xs n ≡ m →
+    events_at t xs n ≡ sync_events_at t xs n ++ followed_behind t m xs n
+unfolding events_at paging_events_at frame_events_at message_events_at sets_events_at
+events_at_by t xs n m e =
+    let now = mark t xs n in
+    let pages = map (page_event n) (pages_behind t t.paging now xs n) in
+    let frames = frames_behind t t.traffic now xs n in
+    let messages = messages_behind t t.traffic now xs n in
+    let sets = sets_behind t t.traffic now xs n in
+    ap (λ (es : List Event). sync_events_at t xs n ++ (pages ++ es))
+    (sym (append_assoc frames messages sets))
+    ∙ ap (λ (x : Option Mark). sync_events_at t xs n ++ followed_behind t x xs n) e
+
+module _ (t : Tuning) (low : ℕ) (timed : IsSyncTimed t low)
+    (near : AreNear (sync_stream t).fingers) where
+  pages_same : (m : Option Mark) (xs ys : List Sample) (n : ℕ) → n ≤ length xs →
+      pages_behind t t.paging m (xs ++ ys) n ≡ pages_behind t t.paging m xs n
+  pages_same None xs ys n h = refl
+  pages_same (Some m) xs ys n h =
+      ap (λ (pages : List _). if nat_lt m.prat 2 then pages else [])
+      (pages_sooner t t.paging m _ (stays.paging_timed t near t.paging m) xs ys n h)
+
+  traffic_same : (traffic : Option Traffic) (m : Option Mark) (xs ys : List Sample) (n : ℕ) →
+      n ≤ length xs → told_behind t traffic m (xs ++ ys) n ≡ told_behind t traffic m xs n
+  traffic_same None m xs ys n h = refl
+  traffic_same (Some traffic) None xs ys n h = refl
+  traffic_same (Some traffic) (Some m) xs ys n h =
+      let j : ℕ = moments_before m n in
+      let kept = kept_sooner t traffic m xs ys j (λ some. omega (arith, some, h)) in
+      let first = first_same xs ys n h in
+      let sets = sets_sooner t traffic m xs ys n h in
+      rw (kept, first, sets) refl
+
+  -- what ends within the first samples is known from them
+  pub events_sooner : (xs ys : List Sample) (n : ℕ) → n ≤ length xs →
+      events_at t (xs ++ ys) n ≡ events_at t xs n
+  events_sooner xs ys n h =
+      let m = mark t xs n in
+      let sync = growth.sync_events_sooner t low timed xs ys n h in
+      let pages = pages_same m xs ys n h in
+      let traffic = traffic_same t.traffic m xs ys n h in
+      events_at_by t (xs ++ ys) n m (stays.mark_sooner t low timed xs ys n h)
+      ∙ rw (sync, pages, traffic) refl
+      ∙ sym (events_at_by t xs n m refl)
+
+  -- a mark that is set with the last sample has no channel's frame before it
+  pub behind_before : (xs : List Sample) (n : ℕ) (before after : Option Mark) →
+      mark t xs n ≡ before → mark t xs (n + 1) ≡ after →
+      followed_behind t after xs (n + 1) ≡ followed_behind t before xs (n + 1)
+  behind_before xs n (Some m) after e e' =
+      ap (λ (x : Option Mark). followed_behind t x xs (n + 1))
+      (sym e' ∙ stays.mark_stays t low timed xs n (n + 1) m (omega arith) e)
+  behind_before xs n None None e e' = refl
+  behind_before xs n None (Some m) e e' =
+      let pilot = stays.mark_pilot t xs (n + 1) m e' in
+      let later = stays.mark_behind t low timed near xs n (n + 1) m pilot e e' in
+      let none = stays.pages_later t near t.paging xs (n + 1) m (omega (arith, later)) in
+      let pages = unrated (nat_lt m.prat 2) (pages_at t t.paging m xs (n + 1)) none in
+      let early : n + 1 ≤ m.sample = omega (arith, later) in
+      let frames = stays.frames_before_mark t near t.traffic xs (n + 1) m early in
+      let messages = stays.messages_before_mark t near t.traffic xs (n + 1) m early in
+      let sets = stays.sets_before_mark t near t.traffic xs (n + 1) m early in
+      let unset = told_unset t t.traffic xs (n + 1) in
+      rw (pages, frames, messages, sets, unset) refl

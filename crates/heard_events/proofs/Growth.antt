@@ -1,0 +1,117 @@
+-- How the events of a file's sync channel grow with its samples.
+use Rattle.heard_events.proofs.Common.{◌≡◌, ℕ, ◌+◌, ◌<◌, ◌≤◌, Bool, true, List, [], ◌∷◌, ◌++◌, map, length, refl, ap, ◌∙◌, arith, map-append}
+use Rattle.heard_events.proofs.Common.{places, Sample, piece, capsule_ending, sync_events_left, is_in_file, known_at, frame_own_bits}
+use Rattle.heard_events.proofs.Common.{frames_before, sync_capsule_at, heard_in, heard_at, events_of, sync_events_at, IsTimed, Tuning}
+use Rattle.heard_events.proofs.Common.{sync_stream, sync_bound, filter_none_places, flat_map_ext_filter, map_ext_filter_places}
+use Rattle.heard_events.proofs.Common.{filter-places-more}
+use Rattle.std.specs.List.{filter}
+use Rattle.heard_events.proofs.FrameTimes.{outside_low, known_between, known_le}
+use Rattle.heard_events.proofs.Spans.{own_bits_sooner}
+use Rattle.heard_events.proofs.FramesLeft as left
+
+-- FRAMES OF THE SYNC CHANNEL
+-- whether one lies in the file, and when it is known
+abbrev pub sync_in_file : Tuning → ℕ → Bool
+sync_in_file t = is_in_file t.count (sync_stream t)
+
+abbrev pub sync_known : Tuning → ℕ → ℕ
+sync_known t = known_at t.count (sync_stream t)
+
+abbrev pub IsSyncTimed : Tuning → ℕ → Type 0
+IsSyncTimed t low = IsTimed t.count (sync_stream t) low
+
+-- each before `next` that lies in the file is known within so many samples
+abbrev pub KnownBefore : Tuning → ℕ → ℕ → Type 0
+KnownBefore t next n = (k : ℕ) → k < next → sync_in_file t k ≡ true → sync_known t k ≤ n
+
+-- each from `next` on that lies in the file is known at so many samples or later
+abbrev pub KnownFrom : Tuning → ℕ → ℕ → Type 0
+KnownFrom t next n = (k : ℕ) → next ≤ k → sync_in_file t k ≡ true → n ≤ sync_known t k
+
+pub frames_before_more : (t : Tuning) (xs : List Sample) (k : ℕ) → sync_in_file t k ≡ true →
+    frames_before t xs (k + 1)
+    ≡ frames_before t xs k ++ frame_own_bits t.count xs (sync_stream t) k ∷ []
+unfolding frames_before
+frames_before_more t xs k h =
+    let own = frame_own_bits t.count xs (sync_stream t) in
+    let kept = filter (sync_in_file t) (places k) in
+    ap (map own) (filter-places-more (sync_in_file t) k h) ∙ map-append own kept (k ∷ [])
+
+pub frames_before_none : (t : Tuning) (xs : List Sample) (low k : ℕ) → IsSyncTimed t low →
+    k ≤ low → frames_before t xs k ≡ []
+unfolding frames_before
+frames_before_none t xs low k timed h =
+    ap (map (frame_own_bits t.count xs (sync_stream t)))
+    (filter_none_places (sync_in_file t) k
+    (λ j below. outside_low (sync_stream t) timed j (omega arith)))
+
+pub frames_before_sooner : {low : ℕ} (t : Tuning) → IsSyncTimed t low → (xs ys : List Sample)
+    (k : ℕ) → KnownBefore t k (length xs) → frames_before t (xs ++ ys) k ≡ frames_before t xs k
+unfolding frames_before
+frames_before_sooner t timed xs ys k known =
+    let s = sync_stream t in
+    map_ext_filter_places (sync_in_file t) (frame_own_bits t.count (xs ++ ys) s)
+    (frame_own_bits t.count xs s) k
+    (λ j below inside. own_bits_sooner s timed xs ys j refl inside (known j below inside))
+
+-- a frame is known no later than those behind it
+pub known_with : {low : ℕ} (t : Tuning) → IsSyncTimed t low → (k n : ℕ) →
+    sync_in_file t k ≡ true → sync_known t k ≤ n → KnownBefore t (k + 1) n
+known_with t timed k n h known = λ j below inside.
+    let le = known_le (sync_stream t) timed j k inside h (omega arith) in
+    omega arith
+
+-- EVENTS
+module _ (t : Tuning) (low : ℕ) (timed : IsSyncTimed t low) where
+  pub heard_sooner : (xs ys : List Sample) (k : ℕ) → sync_in_file t k ≡ true →
+      sync_known t k ≤ length xs → heard_at t (xs ++ ys) k ≡ heard_at t xs k
+  unfolding heard_at sync_capsule_at
+  heard_sooner xs ys k h known =
+      ap (λ frames. heard_in t.check30 (capsule_ending (map piece frames)))
+      (frames_before_sooner t timed xs ys (k + 1) (known_with t timed k (length xs) h known))
+
+  pub sync_events_sooner : (xs ys : List Sample) (n : ℕ) → n ≤ length xs →
+      sync_events_at t (xs ++ ys) n ≡ sync_events_at t xs n
+  unfolding sync_events_at
+  sync_events_sooner xs ys n h =
+      flat_map_ext_filter (left.is_now t.count (sync_stream t) n)
+      (λ k. events_of n (heard_at t (xs ++ ys) k)) (λ k. events_of n (heard_at t xs k))
+      (places (sync_bound n))
+      (λ k both.
+      let parts = left.now_parts t.count (sync_stream t) n k both in
+      ap (events_of n) (heard_sooner xs ys k parts.0 (omega (arith, parts.1))))
+
+  pub sync_events_none : (xs : List Sample) (n : ℕ) →
+      ((k : ℕ) → sync_in_file t k ≡ true → ¬ (sync_known t k ≡ n)) → sync_events_at t xs n ≡ []
+  unfolding sync_events_at
+  sync_events_none xs n h =
+      left.now_none t.count (sync_stream t) (λ k. events_of n (heard_at t xs k)) n (sync_bound n) h
+
+  -- where no frame before `next` is known just now, all of this moment's events are left
+  pub left_all : (xs : List Sample) (next : ℕ) →
+      ((k : ℕ) → k < next → sync_in_file t k ≡ true → ¬ (sync_known t k ≡ length xs)) →
+      sync_events_left t xs next ≡ sync_events_at t xs (length xs)
+  unfolding sync_events_at sync_events_left
+  left_all xs next h =
+      left.now_left t.count (sync_stream t) (λ k. events_of (length xs) (heard_at t xs k))
+      (length xs) (sync_bound (length xs)) next h
+
+  pub left_none : (xs : List Sample) (next : ℕ) → KnownFrom t next (length xs + 1) →
+      sync_events_left t xs next ≡ []
+  unfolding sync_events_left
+  left_none xs next h =
+      left.none_left t.count (sync_stream t) (λ k. events_of (length xs) (heard_at t xs k))
+      (length xs) (sync_bound (length xs)) next
+      (λ k low inside e. let later = h k low inside in omega arith)
+
+  -- the next frame's events are the first of those left
+  pub left_next : (xs : List Sample) (next : ℕ) → sync_in_file t next ≡ true →
+      sync_known t next ≡ length xs →
+      sync_events_left t xs next
+      ≡ events_of (length xs) (heard_at t xs next) ++ sync_events_left t xs (next + 1)
+  unfolding sync_events_left
+  left_next xs next h e =
+      let early = timed.early next in
+      let most = (known_between (sync_stream t) timed next h).low in
+      left.next_left t.count (sync_stream t) (λ k. events_of (length xs) (heard_at t xs k))
+      (length xs) (sync_bound (length xs)) next (omega arith) h e

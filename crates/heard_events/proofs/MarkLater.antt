@@ -1,0 +1,205 @@
+-- The mark lies behind the samples within which its message is known, so a channel that begins
+-- there hasn't begun.
+use Rattle.heard_events.proofs.Common.{◌≡◌, ℕ, zero, suc, ◌+◌, ◌-◌, ◌*◌, ◌/◌, ◌<◌, ◌≤◌, ◌==◌, ◌&&◌, Bool, true, false, cond, List, [], ◌∷◌}
+use Rattle.heard_events.proofs.Common.{length, length-append, map, take, drop, length-take, length-drop, refl, sym, ap, ◌∙◌, subst, arith}
+use Rattle.heard_events.proofs.Common.{inl, inr, nat_le, nat_lt, Option, Some, None, ℤ, if◌then◌else◌, flat_map, and_parts, cases_Bool}
+use Rattle.heard_events.proofs.Common.{leb-true, leb-false, places, CheckForm, Sample, own_bits, score, sending, length-best_word, within}
+use Rattle.heard_events.proofs.Common.{front_capsule, is_stated, stated_bits, Piece, piece, bodies, but_last, capsule_ending}
+use Rattle.heard_events.proofs.Common.{from_last_start, Sync, SyncFields, Word, best_word, Free, first_of, frames_open, marks_at, marks_of}
+use Rattle.heard_events.proofs.Common.{mark_at, AreNear, Stream, frame_own_bits, frame_softs, frame_start, is_in_file, known_at, span_first}
+use Rattle.heard_events.proofs.Common.{span_frames, frames_before, heard_at, heard_in, sync_capsule_at, with_message, IsTimed, stream_end}
+use Rattle.heard_events.proofs.Common.{Tuning, sync_stream, Mark, SpelledMessage}
+use Rattle.std.specs.List.{filter}
+use Rattle.frame_decoder.specs.Spans.{Channel}
+use Rattle.heard_events.proofs.FingerTimes.{ends_bounds}
+use Rattle.heard_events.proofs.FrameTimes.{known_between}
+
+-- THE BITS OF A FRAME
+span_first_most : (count : ℕ) (s : Stream) (k : ℕ) → span_first count s k ≤ k
+span_first_most count s zero = omega arith
+span_first_most count s (suc k) =
+    elim (cases_Bool (is_in_file count s k)) [
+      | inl e ↦ rw e (omega arith)
+      | inr e ↦ rw e (omega arith)
+    ]
+
+-- a frame lies in its span
+own_below : (count : ℕ) (s : Stream) (k : ℕ) →
+    k - span_first count s k < span_frames count s k
+own_below count s k =
+    let most = span_first_most count s k in
+    elim (cases_Bool (is_in_file count s (k + 1))) [
+      | inl e ↦ rw e (omega (arith, most))
+      | inr e ↦ rw e (omega (arith, most))
+    ]
+
+length-own_bits : (c : Channel) (frames own : ℕ) (softs : List ℤ) → own < frames →
+    length (own_bits c frames own softs) ≡ c.bits
+length-own_bits c frames own softs below =
+    let f : Word → ℤ = score softs (sending c frames) in
+    let word = (best_word f Free (c.bits * frames)).bits in
+    omega (
+      arith,
+      length-take c.bits (drop (c.bits * own) word),
+      length-drop (c.bits * own) word,
+      length-best_word f (c.bits * frames),
+      within c.bits frames own below,
+    )
+
+pub length-frame_own_bits : (count : ℕ) (samples : List Sample) (s : Stream) (k : ℕ) →
+    length (frame_own_bits count samples s k) ≡ s.channel.bits
+unfolding frame_own_bits
+length-frame_own_bits count samples s k =
+    let first = span_first count s k in
+    let frames = span_frames count s k in
+    length-own_bits s.channel frames (k - first)
+    (flat_map (λ j. frame_softs samples s (first + j)) (places frames)) (own_below count s k)
+
+-- PIECES OF THE SYNC CHANNEL
+-- each has 31 bits
+abbrev AreWhole : List Piece → Type 0
+AreWhole [] = Unit {0}
+AreWhole (p ∷ pieces) = (length p.body ≡ 31) × AreWhole pieces
+
+body_whole : (bits : List Bool) → length bits ≡ 32 → length (piece bits).body ≡ 31
+body_whole [] h = absurd (omega (arith, h))
+body_whole (b ∷ bits) h = omega (arith, h)
+
+pieces_whole : (f : ℕ → List Bool) → ((k : ℕ) → length (f k) ≡ 32) → (ks : List ℕ) →
+    AreWhole (map piece (map f ks))
+pieces_whole f h [] = tt
+pieces_whole f h (k ∷ ks) = (body_whole (f k) (h k), pieces_whole f h ks)
+
+chosen : (b c : Bool) (later all : List Piece) → AreWhole later → AreWhole all →
+    AreWhole (if b then later else cond c all [])
+chosen true c later all h g = h
+chosen false true later all h g = g
+chosen false false later all h g = tt
+
+latest_whole : (pieces : List Piece) → AreWhole pieces → AreWhole (from_last_start pieces)
+latest_whole [] h = tt
+latest_whole (p ∷ pieces) h =
+    chosen (nat_lt 0 (length (from_last_start pieces))) p.starts (from_last_start pieces)
+    (p ∷ pieces) (latest_whole pieces h.1) h
+
+first_bodies : (n : ℕ) (pieces : List Piece) → AreWhole pieces → n ≤ length pieces →
+    length (bodies (take n pieces)) ≡ 31 * n
+first_bodies zero [] h few = refl
+first_bodies zero (p ∷ pieces) h few = refl
+first_bodies (suc n) [] h few = absurd (omega (arith, few))
+first_bodies (suc n) (p ∷ pieces) h few =
+    let rest = first_bodies n pieces h.1 (omega (arith, few)) in
+    omega (arith, length-append p.body (bodies (take n pieces)), h.0, rest)
+
+-- THE CAPSULE ENDS IN ITS LAST FRAME
+decide : (a b : Bool) (front capsule : List Bool) →
+    (if a then None else (if b then Some front else None)) ≡ Some capsule →
+    (a ≡ false) × (b ≡ true) × (front ≡ capsule)
+decide true b front capsule e = absurd (cc)
+decide false true front capsule e = (refl, refl, cc)
+decide false false front capsule e = absurd (cc)
+
+ends_late : (bits : List Bool) (before : ℕ) (capsule : List Bool) →
+    (if nat_le (stated_bits bits) before then None else front_capsule bits) ≡ Some capsule →
+    before < length capsule
+unfolding front_capsule
+ends_late bits before capsule e =
+    let size : ℕ = stated_bits bits in
+    let d = decide (nat_le size before) (is_stated bits && nat_le size (length bits))
+    (take size bits) capsule e in
+    let less = leb-false size before d.0 in
+    let fits = leb-true size (length bits)
+    (and_parts (is_stated bits) (nat_le size (length bits)) d.1).1 in
+    let long : length (take size bits) ≡ length capsule = ap length d.2 in
+    omega (arith, length-take size bits, long, less, fits)
+
+frames_few : (t : Tuning) (samples : List Sample) (k : ℕ) (capsule : List Bool) →
+    sync_capsule_at t samples k ≡ Some capsule →
+    31 * (frames_open t samples (k + 1) - 1) < length capsule
+unfolding sync_capsule_at frames_open frames_before capsule_ending
+frames_few t samples k capsule e =
+    let s = sync_stream t in
+    let own = frame_own_bits t.count samples s in
+    let ks = filter (is_in_file t.count s) (places (k + 1)) in
+    let message = from_last_start (map piece (map own ks)) in
+    let whole = latest_whole (map piece (map own ks))
+    (pieces_whole own (length-frame_own_bits t.count samples s) ks) in
+    let late = ends_late (bodies message) (length (bodies (but_last message))) capsule e in
+    let most : length message - 1 ≤ length message = omega arith in
+    let bits = first_bodies (length message - 1) message whole most in
+    omega (arith, late, bits)
+
+-- THE MARK OF A MESSAGE
+picked : (b : Bool) (x m : Mark) → first_of (if b then [] else x ∷ []) ≡ Some m → x ≡ m
+picked true x m e = absurd (cc)
+picked false x m e = cc
+
+marks_told : (first : ℕ) (told : Option SpelledMessage) (m : Mark) →
+    first_of (marks_of first told) ≡ Some m →
+    (heard : SpelledMessage) × ((told ≡ Some heard) × (mark_at first heard ≡ m))
+marks_told first None m e = absurd (cc)
+marks_told first (Some heard) m e =
+    (heard, (refl, picked (heard.message.lc == 0) (mark_at first heard) m e))
+
+with_capsule : (capsule : List Bool) (r : Option SyncFields) (heard : SpelledMessage) →
+    with_message capsule r ≡ Some heard → capsule ≡ heard.capsule
+with_capsule capsule None heard e = absurd (cc)
+with_capsule capsule (Some message) heard e =
+    let told : SpelledMessage = record { capsule = capsule; message = message } in
+    let same : told ≡ heard = cc in
+    ap (λ (h : SpelledMessage). h.capsule) same
+
+told_capsule : (form : CheckForm) (c : Option (List Bool)) (heard : SpelledMessage) →
+    heard_in form c ≡ Some heard → c ≡ Some heard.capsule
+told_capsule form None heard e = absurd (cc)
+told_capsule form (Some capsule) heard e = ap (λ (bits : List Bool). Some bits)
+    (with_capsule capsule _ heard e)
+
+-- a capsule's frames are at most three for each of its superframes, and the time that it tells lies
+-- four superframes behind these
+late_enough : (first frames bits pn known : ℕ) → 31 * (frames - 1) < bits →
+    known ≤ first + 32768 * frames + 32896 → pn ≤ 511 →
+    known < first + 98304 * ((bits + 92) / 93 + 4) - 64 * pn
+late_enough first frames bits pn known few most low =
+    let some : bits ≤ 93 * ((bits + 92) / 93) = omega arith in
+    let three : frames ≤ 3 * ((bits + 92) / 93) = omega (arith, some, few) in
+    omega (arith, three, most, low)
+
+module _ (t : Tuning) (samples : List Sample) (k low : ℕ) (near : AreNear (sync_stream t).fingers)
+    (timed : IsTimed t.count (sync_stream t) low)
+    (inside : is_in_file t.count (sync_stream t) k ≡ true) where
+  known_most : (frames : ℕ) → known_at t.count (sync_stream t) k
+      ≤ frame_start (sync_stream t) (k + 1 - frames) + 32768 * frames + 32896
+  unfolding stream_end
+  known_most frames =
+      let s = sync_stream t in
+      let high = (known_between s timed k inside).high in
+      let ends = (ends_bounds Sync (frame_start s (k + 1)) s.fingers near).1 in
+      omega (arith, high, ends)
+
+  told_later : (m : Mark) → m.pilot ≤ 511 → (told : Option SpelledMessage) →
+      told ≡ heard_at t samples k →
+      first_of
+      (marks_of (frame_start (sync_stream t) (k + 1 - frames_open t samples (k + 1))) told)
+      ≡ Some m →
+      known_at t.count (sync_stream t) k < m.sample
+  unfolding heard_at
+  told_later m pilot told told_is e =
+      let s = sync_stream t in
+      let frames : ℕ = frames_open t samples (k + 1) in
+      let first : ℕ = frame_start s (k + 1 - frames) in
+      let got = marks_told first told m e in
+      let heard = got.0 in
+      let capsule = told_capsule t.check30 (sync_capsule_at t samples k) heard
+      (sym told_is ∙ got.1.0) in
+      let few = frames_few t samples k heard.capsule capsule in
+      let same = got.1.1 in
+      let pn : heard.message.pn ≡ m.pilot = ap (λ (x : Mark). x.pilot) same in
+      let late = late_enough first frames (length heard.capsule) heard.message.pn
+      (known_at t.count s k) few (known_most frames) (omega (arith, pilot, pn)) in
+      subst (λ (x : Mark). known_at t.count s k < x.sample) same late
+
+  pub mark_later : (m : Mark) → m.pilot ≤ 511 → first_of (marks_at t samples k) ≡ Some m →
+      known_at t.count (sync_stream t) k < m.sample
+  unfolding marks_at
+  mark_later m pilot e = told_later m pilot (heard_at t samples k) refl e

@@ -1,0 +1,59 @@
+-- The bits of the frames in a file that follow one another, over any stream.
+use Rattle.heard_events.proofs.Common.{◌≡◌, ℕ, ◌+◌, ◌<◌, ◌≤◌, true, List, [], ◌∷◌, ◌++◌, length, refl, ap, ◌∙◌, arith, if◌then◌else◌}
+use Rattle.heard_events.proofs.Common.{flat_map, flat_map-append, places, Sample, AreBegun, AreNear, low_in, bits_before, Stream}
+use Rattle.heard_events.proofs.Common.{frame_own_bits, is_in_file, known_at, IsTimed, filter-places-more, filter_ext_places}
+use Rattle.heard_events.proofs.Common.{filter_none_places, flat_map_ext_filter_places}
+use Rattle.std.specs.List.{filter}
+use Rattle.std.proofs.lemmas.List.{append-nil}
+use Rattle.heard_events.proofs.FingerTimes.{timed_in}
+use Rattle.heard_events.proofs.FrameTimes.{ends_lt, inside_from, inside_to, outside_low}
+use Rattle.heard_events.proofs.Spans.{own_bits_sooner}
+
+-- those of one frame more
+pub bits_before_more : (count : ℕ) (xs : List Sample) (s : Stream) (k : ℕ) →
+    is_in_file count s k ≡ true →
+    bits_before count xs s (k + 1) ≡ bits_before count xs s k ++ frame_own_bits count xs s k
+unfolding bits_before
+bits_before_more count xs s k inside =
+    let own = frame_own_bits count xs s in
+    let kept = filter (is_in_file count s) (places k) in
+    ap (flat_map own) (filter-places-more (is_in_file count s) k inside)
+    ∙ flat_map-append own kept (k ∷ [])
+    ∙ ap (λ bits. flat_map own kept ++ bits) (append-nil (own k))
+
+pub bits_before_none : (count : ℕ) (xs : List Sample) (s : Stream) (low k : ℕ) →
+    IsTimed count s low → k ≤ low → bits_before count xs s k ≡ []
+unfolding bits_before
+bits_before_none count xs s low k timed h =
+    ap (flat_map (frame_own_bits count xs s))
+    (filter_none_places (is_in_file count s) k (λ j below. outside_low s timed j (omega arith)))
+
+-- they stay where more samples follow
+pub bits_before_sooner : {count low : ℕ} (s : Stream) → s.waits ≡ true →
+    IsTimed count s low → (xs ys : List Sample) (k : ℕ) →
+    ((j : ℕ) → j < k → is_in_file count s j ≡ true → known_at count s j ≤ length xs) →
+    bits_before count (xs ++ ys) s k ≡ bits_before count xs s k
+unfolding bits_before
+bits_before_sooner {count} s waits timed xs ys k known =
+    flat_map_ext_filter_places (is_in_file count s) (frame_own_bits count (xs ++ ys) s)
+    (frame_own_bits count xs s) k
+    (λ j below inside. own_bits_sooner s timed xs ys j waits inside (known j below inside))
+
+every : (xs : List ℕ) → filter (λ k. true) xs ≡ xs
+every [] = refl
+every (x ∷ xs) = ap (λ (ys : List ℕ). x ∷ ys) (every xs)
+
+-- where frame 0 begins in the file on each finger, those of all frames before one in the file
+pub bits_before_all : (count : ℕ) (xs : List Sample) (s : Stream) (k : ℕ) → AreNear s.fingers →
+    AreBegun s.first s.fingers → is_in_file count s k ≡ true →
+    bits_before count xs s k ≡ flat_map (frame_own_bits count xs s) (places k)
+unfolding bits_before
+bits_before_all count xs s k near begun inside =
+    let timed = timed_in count s near in
+    let low : low_in s ≡ 0 = ap (λ b. if b then 0 else 1) begun in
+    let last = (inside_to s timed k inside).1 in
+    let all = filter_ext_places (is_in_file count s) (λ j. true) k
+    (λ j below.
+    let step = ends_lt s timed j k below in
+    inside_from s timed j (omega (arith, low)) (omega (arith, step, last))) in
+    ap (flat_map (frame_own_bits count xs s)) (all ∙ every (places k))

@@ -1,0 +1,45 @@
+-- The channels of the reference base station whose frames are received from the mark on.
+use Rattle.std.specs.Prelude.{ℕ, ◌*◌, ◌<◌, ◌≤◌, Bool, true, false}
+use Rattle.long_code.specs.LongCode.{after, paging_mask, traffic_mask}
+use Rattle.heard_events.specs.PagingStreams.{paging_stream}
+use Rattle.heard_events.specs.Streams.{Stream}
+use Rattle.heard_events.specs.TrafficStreams.{frame_state, traffic_stream}
+use Rattle.heard_events.specs.Tuning.{Tuning, fingers_of}
+use Rattle.heard_events.specs.declared.channel.Channel.{Channel}
+use Rattle.heard_events.specs.declared.channel.Channel.TheVariants.{Paging, Traffic}
+use Rattle.heard_events.specs.declared.mark.Mark.{Mark}
+
+-- a paging channel has a number from 1 to 7, a traffic channel a Walsh row and one of 16 offsets
+abbrev pub IsLawful : Channel → Type 0
+IsLawful (Paging number) = (1 ≤ number) × (number ≤ 7)
+IsLawful (Traffic traffic) = (traffic.row < 64) × (traffic.offset ≤ 15)
+
+-- the Walsh row that it is sent on
+abbrev pub row_of : Channel → ℕ
+row_of (Paging number) = number
+row_of (Traffic traffic) = traffic.row
+
+-- how many chips behind the mark its frame 0 begins
+abbrev pub offset_of : Channel → ℕ
+offset_of (Paging number) = 0
+offset_of (Traffic traffic) = 1536 * traffic.offset
+
+-- whether power control bits replace some of its symbols
+abbrev pub has_power_control : Channel → Bool
+has_power_control (Paging number) = false
+has_power_control (Traffic traffic) = true
+
+-- the long code's state at the first chip of frame k, and the mask
+abbrev pub state_at : Channel → Mark → ℕ → ℕ
+state_at (Paging number) m k = after m.state (24576 * k)
+state_at (Traffic traffic) m k = frame_state traffic m k
+
+abbrev pub mask_of : Channel → Mark → ℕ
+mask_of (Paging number) m = paging_mask number m.pilot
+mask_of (Traffic traffic) m = traffic_mask traffic.esn
+
+-- Its frames, as the paths of the reference base station receive them, each known at its own end.
+abbrev pub channel_stream : Tuning → Channel → Mark → Stream
+channel_stream t (Paging number) m = record (paging_stream t number m) { waits = false }
+channel_stream t (Traffic traffic) m =
+    traffic_stream traffic m (fingers_of traffic.row t.phase t.deltas)

@@ -1,0 +1,42 @@
+-- How far the fingers of active pilots may be from the reference path.
+use Rattle.std.specs.Prelude.{◌≡◌, ℕ, ◌+◌, ◌≤◌, Bool, true, List, [], ◌∷◌, length, ℤ, unsigned_abs}
+use Rattle.std.specs.Prelude.{nat_le, nat_lt, if◌then◌else◌, Option, Some, None}
+use Rattle.std.specs.List.{list_all}
+use Rattle.rake_finger.specs.declared.finger.Finger.{Finger}
+use Rattle.heard_events.specs.declared.leg.Leg.{Leg}
+
+-- no more chips than half the widest search window
+abbrev pub is_close : Finger → Bool
+is_close f = nat_le (unsigned_abs f.delta) 226
+
+abbrev pub all_close : List Finger → Bool
+all_close fingers = list_all is_close fingers
+
+-- fingers, each of them close
+pub record AreClose (fingers : List Finger) : Type 0 where
+  pub some : 1 ≤ length fingers
+  pub close : all_close fingers ≡ true
+
+-- a list of fingers that may have none
+abbrev pub fingers_in : Option (List Finger) → List Finger
+fingers_in None = []
+fingers_in (Some fingers) = fingers
+
+-- for how many fingers active pilots may want room: three for the reference's, one for another
+abbrev pub places_for : Leg → ℕ
+places_for leg = if leg.reference then 3 else 1
+
+abbrev pub places_in : List Leg → ℕ
+places_in [] = 0
+places_in (leg ∷ legs) = places_for leg + places_in legs
+
+-- each pilot's finger is close, and has a Walsh row
+abbrev pub legs_close : List Leg → Bool
+legs_close legs = list_all (λ (leg : Leg). is_close leg.finger) legs
+
+abbrev pub legs_rows : List Leg → Bool
+legs_rows legs = list_all (λ (leg : Leg). nat_lt leg.finger.row 64) legs
+
+-- so are the reference's paths
+abbrev pub paths_close : List ℤ → Bool
+paths_close deltas = list_all (λ d. nat_le (unsigned_abs d) 226) deltas

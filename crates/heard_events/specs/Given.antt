@@ -1,0 +1,20 @@
+-- Events as they are given.
+use Rattle.std.specs.Prelude.{ℕ, List, [], ◌∷◌, Option, Some, None}
+use Rattle.heard_events.specs.declared.event.Event.{Event}
+use Rattle.heard_events.specs.declared.event.Event.TheVariants.{Pilot, Sync, Paging, Frame, Traffic}
+use Rattle.heard_events.specs.declared.event.Event.TheVariants.{Sets}
+
+-- one or none, as a list
+abbrev pub listed : Option Event → List Event
+listed None = []
+listed (Some event) = event ∷ []
+
+-- how many samples had been taken at an event's end; the pilot is found before any is given to the
+-- handset
+abbrev pub at_of : Event → ℕ
+at_of (Pilot phase energy) = 0
+at_of (Sync at' capsule message) = at'
+at_of (Paging at' capsule message) = at'
+at_of (Frame at' rate good bits commands) = at'
+at_of (Traffic at' capsule message) = at'
+at_of (Sets at' time active candidate report) = at'

@@ -1,0 +1,75 @@
+-- The events of so many samples' end that are still to be given, where some have been.
+use Rattle.std.specs.Prelude.{ℕ, ◌+◌, ◌==◌, ◌&&◌, nat_le, List, [], ◌∷◌, length, map, filter, Option}
+use Rattle.std.specs.Prelude.{None, Some, if◌then◌else◌}
+use Rattle.std.specs.List.{flat_map}
+use Rattle.chip_core.specs.Bits.{places}
+use Rattle.chip_core.specs.declared.assignment.Traffic.{Traffic}
+use Rattle.chip_core.specs.declared.sample.Sample.{Sample}
+use Rattle.pilot_search.specs.declared.sweeping.Best.{Best}
+use Rattle.heard_events.specs.Moments.{heard_from, kept_to, moment_place, sets_events}
+use Rattle.heard_events.specs.PagingEvents.{pages_from}
+use Rattle.heard_events.specs.PagingStreams.{paging_bound, paging_stream}
+use Rattle.heard_events.specs.Signaling.{message_heard}
+use Rattle.heard_events.specs.Streams.{Stream, is_in_file, known_at}
+use Rattle.heard_events.specs.SyncEvents.{heard_at, events_of}
+use Rattle.heard_events.specs.TrafficEvents.{frame_heard}
+use Rattle.heard_events.specs.TrafficStreams.{ends_now, frames_bound}
+use Rattle.heard_events.specs.Tuning.{Tuning, sync_stream, sync_bound}
+use Rattle.heard_events.specs.declared.event.Event.{Event}
+use Rattle.heard_events.specs.declared.event.Event.TheVariants.{Pilot}
+use Rattle.heard_events.specs.declared.leg.Leg.{Leg}
+use Rattle.heard_events.specs.declared.mark.Mark.{Mark}
+use Rattle.heard_events.specs.declared.spelled_page.SpelledPage.{SpelledPage}
+
+-- that of the pilot which the search found, where it hasn't been given
+abbrev pub pilot_left : Option Best → List Event
+pilot_left None = []
+pilot_left (Some best) = Pilot best.phase best.energy ∷ []
+
+-- THE SYNC CHANNEL, AND A PAGING CHANNEL
+-- the frames from frame `next` on that are known when just n samples have been taken
+abbrev pub frames_left : ℕ → Stream → ℕ → ℕ → ℕ → List ℕ
+frames_left count s next n bound =
+    filter (λ k. nat_le next k && (is_in_file count s k && known_at count s k == n)) (places bound)
+
+-- the events of these samples' end whose frames come from frame `next` on
+unfoldable pub sync_events_left : Tuning → List Sample → ℕ → List Event
+sync_events_left t samples next =
+    let n = length samples in
+    flat_map (λ k. events_of n (heard_at t samples k))
+    (frames_left t.count (sync_stream t) next n (sync_bound n))
+
+-- the messages of these samples' end whose last bits come from bit `place` of frame `next` on
+unfoldable pub pages_left : Tuning → ℕ → Mark → List Sample → ℕ → ℕ → List SpelledPage
+pages_left t channel m samples next place =
+    let n = length samples in
+    flat_map (λ k. pages_from t channel m samples k (if k == next then place else 0))
+    (frames_left t.count (paging_stream t channel m) next n (paging_bound n))
+
+-- A TRAFFIC CHANNEL, AND THE PILOT SETS
+-- the frames from frame `next` on that are known when just n samples have been taken
+abbrev pub later_frames : Tuning → Traffic → Mark → (ℕ → List Leg) → ℕ → ℕ → List ℕ
+later_frames t traffic m legs next n =
+    filter (λ k. nat_le next k && ends_now t traffic m legs n k) (places (frames_bound n))
+
+-- the events of these samples' end of the frames from frame `next` on
+unfoldable pub frames_left_of : Tuning → Traffic → Mark → (ℕ → List Leg) → List Sample → ℕ →
+    List Event
+frames_left_of t traffic m legs samples next =
+    let n = length samples in
+    map (frame_heard t traffic m legs samples n) (later_frames t traffic m legs next n)
+
+-- and of the messages that these frames complete
+unfoldable pub messages_left_of : Tuning → Traffic → Mark → (ℕ → List Leg) → List Sample → ℕ →
+    List Event
+messages_left_of t traffic m legs samples next =
+    let n = length samples in
+    flat_map (message_heard t traffic m legs samples n) (later_frames t traffic m legs next n)
+
+-- and of the moment behind so many, where it lies there
+unfoldable pub sets_left_of : Tuning → Traffic → Mark → List Sample → ℕ → List Event
+sets_left_of t traffic m samples j =
+    if moment_place m (j + 1) == length samples
+    then sets_events m samples (j + 1)
+    (heard_from t traffic m (kept_to t traffic m samples j) samples j 98304)
+    else []

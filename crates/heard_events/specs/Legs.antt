@@ -1,0 +1,53 @@
+-- The active pilots that a frame of a traffic channel is heard from (after TIA/EIA-95-B, 6.6.6.2).
+use Rattle.std.specs.Prelude.{ℕ, ◌*◌, ◌==◌, if◌then◌else◌, Bool, List, [], ◌∷◌, map, filter, ℤ, pos}
+use Rattle.std.specs.Prelude.{◌-ℤ◌, get_or}
+use Rattle.std.specs.List.{flat_map, list_any}
+use Rattle.chip_core.specs.Bits.{places}
+use Rattle.pilot_sets.specs.Standing.{Standing, shown}
+use Rattle.pilot_sets.specs.declared.lists.Active.{Active}
+use Rattle.rake_finger.specs.declared.finger.Finger.{Finger}
+use Rattle.heard_events.specs.Tuning.{fingers_of, modulo_code}
+use Rattle.heard_events.specs.declared.leg.Leg.{Leg}
+use Rattle.heard_events.specs.declared.mark.Mark.{Mark}
+
+-- the chip of a pilot's code that falls on sample 0, on a path so much earlier than the reference:
+-- at the mark the system's time is a multiple of the code's period
+abbrev pub pilot_phase : Mark → ℕ → ℤ → ℕ
+pilot_phase m pilot delta = modulo_code ((delta -ℤ pos (64 * pilot)) -ℤ pos m.sample)
+
+-- the finger of a pilot, on the path where it was measured last
+abbrev pub pilot_finger : Mark → ℤ → Active → Finger
+pilot_finger m delta a =
+    record { phase = pilot_phase m a.pilot delta; delta = delta; row = a.row }
+
+abbrev pub leg_of : Mark → List ℤ → Active → Leg
+leg_of m deltas a = record {
+  reference = a.pilot == m.pilot;
+  finger = pilot_finger m (get_or deltas a.pilot (pos 0)) a;
+  subchannel = a.subchannel;
+}
+
+-- the active pilots of the sets
+abbrev pub legs_of : Mark → Standing → List Leg
+legs_of m s = map (leg_of m s.deltas) (shown s)
+
+-- The reference's pilot has all of the handset's paths, another one finger.
+abbrev pub leg_fingers : ℕ → List ℤ → Leg → List Finger
+leg_fingers phase deltas leg =
+    if leg.reference then fingers_of leg.finger.row phase deltas else leg.finger ∷ []
+
+abbrev pub all_fingers : ℕ → List ℤ → List Leg → List Finger
+all_fingers phase deltas legs = flat_map (leg_fingers phase deltas) legs
+
+-- the pilots of a power control subchannel, and the subchannels that there are, of six
+abbrev pub is_on : ℕ → Leg → Bool
+is_on c leg = leg.subchannel == c
+
+abbrev pub on_subchannel : ℕ → List Leg → List Leg
+on_subchannel c legs = filter (is_on c) legs
+
+abbrev pub has_subchannel : List Leg → ℕ → Bool
+has_subchannel legs c = list_any (is_on c) legs
+
+abbrev pub subchannels : List Leg → List ℕ
+subchannels legs = filter (has_subchannel legs) (places 6)

@@ -1,0 +1,24 @@
+pub mod Scrambled
+pub mod Streams
+pub mod Timing
+pub mod Tuning
+pub mod SyncEvents
+pub mod Events
+pub mod Marks
+pub mod Left
+pub mod Near
+pub mod Given
+pub mod PagingStreams
+pub mod PagingEvents
+pub mod Legs
+pub mod Close
+pub mod TrafficStreams
+pub mod TrafficEvents
+pub mod Signaling
+pub mod Noted
+pub mod Moments
+pub mod Channels
+pub mod SoftFrames
+pub mod FrameSamples
+pub mod FramesAlone
+mod Worked

@@ -1,0 +1,31 @@
+-- The frames of a paging channel, from the mark on (TIA/EIA-95-B, 7.1.3.4 and 7.7.2).
+use Rattle.std.specs.Prelude.{ℕ, ◌+◌, ◌*◌, ◌/◌, ◌==◌, true, if◌then◌else◌}
+use Rattle.frame_decoder.specs.Spans.{paging_channel}
+use Rattle.long_code.specs.LongCode.{after, paging_mask}
+use Rattle.rake_finger.specs.declared.form.Form.TheVariants.{Data}
+use Rattle.symbol_path.specs.Scrambling.{scrambling}
+use Rattle.quality_bits.specs.declared.rate.Rate.{Rate}
+use Rattle.quality_bits.specs.declared.rate.Rate.TheVariants.{R9600, R4800}
+use Rattle.heard_events.specs.Streams.{Stream}
+use Rattle.heard_events.specs.Tuning.{Tuning, fingers_of}
+use Rattle.heard_events.specs.declared.mark.Mark.{Mark}
+
+-- PRAT 0 stands for 9,600 bits a second, and 1 for 4,800
+abbrev pub paging_rate : ℕ → Rate
+paging_rate prat = if prat == 1 then R4800 else R9600
+
+-- Frame 0 begins at the mark. A paging channel has the Walsh row of its number, and each frame is
+-- scrambled by the long code from the frame's first chip on, under the channel's mask.
+abbrev pub paging_stream : Tuning → ℕ → Mark → Stream
+paging_stream t channel m = record {
+  channel = paging_channel (paging_rate m.prat);
+  form = Data;
+  fingers = fingers_of channel t.phase t.deltas;
+  first = m.sample;
+  scrambling = λ k. scrambling (after m.state (24576 * k)) (paging_mask channel m.pilot);
+  waits = true;
+}
+
+-- more frames than end within so many samples
+abbrev pub paging_bound : ℕ → ℕ
+paging_bound n = n / 24576 + 1

@@ -1,0 +1,77 @@
+-- What the signaling in a traffic channel's frames spells (TIA/EIA-95-B, 7.1.3.5.11 and 7.7.3).
+use Rattle.std.specs.Prelude.{ℕ, Bool, List, [], ◌∷◌, ◌++◌, map, filter, Option, Some, None}
+use Rattle.std.specs.Prelude.{if◌then◌else◌}
+use Rattle.std.specs.List.{flat_map}
+use Rattle.std.specs.Option.{option_to_list}
+use Rattle.chip_core.specs.Bits.{places}
+use Rattle.chip_core.specs.declared.check_form.CheckForm.{CheckForm}
+use Rattle.chip_core.specs.declared.sample.Sample.{Sample}
+use Rattle.frame_decoder.specs.declared.traffic.Decoded.{Decoded}
+use Rattle.quality_bits.specs.Pieces.{piece, capsule_ending}
+use Rattle.traffic_message.specs.Messages.{Message}
+use Rattle.traffic_message.specs.Multiplex.{split}
+use Rattle.traffic_message.specs.Reading.{traffic_reading}
+use Rattle.heard_events.specs.TrafficEvents.{decoded_at}
+use Rattle.heard_events.specs.TrafficStreams.{frames_now, has_frame}
+use Rattle.heard_events.specs.Tuning.{Tuning}
+use Rattle.heard_events.specs.declared.event.Event.{Event}
+use Rattle.heard_events.specs.declared.event.Event.TheVariants as events
+use Rattle.heard_events.specs.declared.leg.Leg.{Leg}
+use Rattle.heard_events.specs.declared.mark.Mark.{Mark}
+use Rattle.chip_core.specs.declared.assignment.Traffic.{Traffic}
+use Rattle.heard_events.specs.declared.spelled_signal.SpelledSignal.{SpelledSignal}
+
+-- a capsule, and the message that it spells
+abbrev pub with_signal : List Bool → Option Message → Option SpelledSignal
+with_signal capsule None = None
+with_signal capsule (Some message) = Some (record { capsule = capsule; message = message })
+
+-- a capsule with a fault gives none
+abbrev pub signal_in : CheckForm → Option (List Bool) → Option SpelledSignal
+signal_in form None = None
+signal_in form (Some capsule) = with_signal capsule (traffic_reading form capsule)
+
+-- a frame's signaling, where the frame is good and has any
+abbrev pub signal_of : Decoded → Option (List Bool)
+signal_of frame = if frame.good then (split frame.rate frame.bits).signal else None
+
+-- that of frame k
+unfoldable pub signal_at : Tuning → Traffic → Mark → (ℕ → List Leg) → List Sample → ℕ →
+    Option (List Bool)
+signal_at t traffic m legs samples k = signal_of (decoded_at t traffic m legs samples k)
+
+-- the signaling parts of the frames in the file before frame `next`, in order
+unfoldable pub signals_before : Tuning → Traffic → Mark → (ℕ → List Leg) → List Sample → ℕ →
+    List (List Bool)
+signals_before t traffic m legs samples next =
+    flat_map (λ k. option_to_list (signal_at t traffic m legs samples k))
+    (filter (has_frame t traffic m legs) (places next))
+
+-- the capsule whose last bit lies in a signaling part behind those before it, where there is one
+abbrev pub capsule_with : List (List Bool) → Option (List Bool) → Option (List Bool)
+capsule_with before None = None
+capsule_with before (Some signal) = capsule_ending (map piece (before ++ signal ∷ []))
+
+-- the message that frame k completes
+unfoldable pub message_at : Tuning → Traffic → Mark → (ℕ → List Leg) → List Sample → ℕ →
+    Option SpelledSignal
+message_at t traffic m legs samples k =
+    signal_in t.check16
+    (capsule_with (signals_before t traffic m legs samples k)
+    (signal_at t traffic m legs samples k))
+
+-- the event of a message that is known at n samples, where there is one
+abbrev pub message_events : ℕ → Option SpelledSignal → List Event
+message_events n None = []
+message_events n (Some heard) = events.Traffic n heard.capsule heard.message ∷ []
+
+abbrev pub message_heard : Tuning → Traffic → Mark → (ℕ → List Leg) → List Sample → ℕ → ℕ →
+    List Event
+message_heard t traffic m legs samples n k =
+    message_events n (message_at t traffic m legs samples k)
+
+-- those of the frames that end when just n samples have been taken
+unfoldable pub messages_by : Tuning → Traffic → Mark → (ℕ → List Leg) → List Sample → ℕ →
+    List Event
+messages_by t traffic m legs samples n =
+    flat_map (message_heard t traffic m legs samples n) (frames_now t traffic m legs n)

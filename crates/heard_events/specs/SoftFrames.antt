@@ -1,0 +1,52 @@
+-- The frames of a channel from the mark on, before they are decoded.
+use Rattle.std.specs.Prelude.{ℕ, [], ◌∷◌, List, map, ℤ, Option, Some, None, length}
+use Rattle.chip_core.specs.Bits.{places}
+use Rattle.chip_core.specs.declared.sample.Sample.{Sample}
+use Rattle.frame_decoder.specs.TrafficFrames.{command, group_sums}
+use Rattle.rake_finger.specs.Soft.{softs}
+use Rattle.heard_events.specs.Channels.{channel_stream}
+use Rattle.heard_events.specs.PagingStreams.{paging_bound}
+use Rattle.heard_events.specs.Streams.{frame_end, frame_softs, frame_start, known_by}
+use Rattle.heard_events.specs.TrafficStreams.{replaced_in}
+use Rattle.heard_events.specs.Tuning.{Tuning}
+use Rattle.heard_events.specs.declared.channel.Channel.{Channel}
+use Rattle.heard_events.specs.declared.channel.Channel.TheVariants.{Paging, Traffic}
+use Rattle.heard_events.specs.declared.mark.Mark.{Mark}
+use Rattle.heard_events.specs.declared.soft_frame.PowerControl.{PowerControl}
+use Rattle.heard_events.specs.declared.soft_frame.SoftFrame.{SoftFrame}
+
+-- the power control bits of frame k of a traffic channel, from its soft values, which nothing turns
+abbrev pub power_of : Channel → Mark → ℕ → List ℤ → Option PowerControl
+power_of (Paging number) m k unturned = None
+power_of (Traffic traffic) m k unturned = Some (record {
+  replaced = replaced_in traffic m k;
+  commands = map (command (group_sums (replaced_in traffic m k) unturned ∷ [])) (places 16);
+})
+
+-- frame k's soft values as the paths of the reference base station are heard
+abbrev pub unturned_at : Tuning → Channel → Mark → List Sample → ℕ → List ℤ
+unturned_at t channel m samples k =
+    let s = channel_stream t channel m in
+    softs samples s.fingers s.form (frame_start s k)
+
+-- what is received of frame k
+abbrev pub soft_frame : Tuning → Channel → Mark → List Sample → ℕ → SoftFrame
+soft_frame t channel m samples k =
+    let s = channel_stream t channel m in
+    record {
+      number = k;
+      end = frame_end s.fingers s.form (frame_start s k);
+      unturned = unturned_at t channel m samples k;
+      turned = frame_softs samples s k;
+      power = power_of channel m k (unturned_at t channel m samples k);
+    }
+
+-- the frames in the file that end within the first n samples, in order
+unfoldable pub frames_within : Tuning → Channel → Mark → List Sample → ℕ → List SoftFrame
+frames_within t channel m samples n =
+    map (soft_frame t channel m samples)
+    (known_by t.count (channel_stream t channel m) n (paging_bound n))
+
+-- those that end within these samples
+abbrev pub soft_frames : Tuning → Channel → Mark → List Sample → List SoftFrame
+soft_frames t channel m samples = frames_within t channel m samples (length samples)

@@ -1,0 +1,69 @@
+-- The frames of a traffic channel, from the mark on (TIA/EIA-95-B, 7.1.3.5).
+use Rattle.std.specs.Prelude.{ℕ, ◌+◌, ◌*◌, ◌/◌, ◌==◌, ◌&&◌, Bool, false, List, [], filter}
+use Rattle.chip_core.specs.Bits.{places}
+use Rattle.frame_decoder.specs.Spans.{paging_channel}
+use Rattle.long_code.specs.LongCode.{after, traffic_mask}
+use Rattle.rake_finger.specs.declared.finger.Finger.{Finger}
+use Rattle.rake_finger.specs.declared.form.Form.TheVariants.{Data}
+use Rattle.symbol_path.specs.Scrambling.{power_places, scrambling}
+use Rattle.quality_bits.specs.declared.rate.Rate.TheVariants.{R9600}
+use Rattle.heard_events.specs.Legs.{all_fingers}
+use Rattle.heard_events.specs.Streams.{Stream, frame_start, is_in_file, known_at}
+use Rattle.heard_events.specs.Tuning.{Tuning}
+use Rattle.heard_events.specs.declared.leg.Leg.{Leg}
+use Rattle.heard_events.specs.declared.mark.Mark.{Mark}
+use Rattle.chip_core.specs.declared.assignment.Traffic.{Traffic}
+
+-- how many chips behind the mark frame k begins: the channel's offset is in units of 1,536 chips
+abbrev pub chips_behind : Traffic → ℕ → ℕ
+chips_behind traffic k = 1536 * traffic.offset + 24576 * k
+
+-- the long code's state at the first chip of frame k
+abbrev pub frame_state : Traffic → Mark → ℕ → ℕ
+frame_state traffic m k = after m.state (chips_behind traffic k)
+
+-- Frame 0 begins at the channel's offset behind the mark. A frame is encoded on its own, and so
+-- doesn't wait for the one behind it. At 9,600 bits a second it has as many bits and symbols as one
+-- of a paging channel, and is scrambled like one, under the channel's mask.
+abbrev pub traffic_stream : Traffic → Mark → List Finger → Stream
+traffic_stream traffic m fingers = record {
+  channel = paging_channel R9600;
+  form = Data;
+  fingers = fingers;
+  first = m.sample + 1536 * traffic.offset;
+  scrambling = λ k. scrambling (frame_state traffic m k) (traffic_mask traffic.esn);
+  waits = false;
+}
+
+-- the reference sample at which frame k begins
+abbrev pub traffic_start : Traffic → Mark → ℕ → ℕ
+traffic_start traffic m k = frame_start (traffic_stream traffic m []) k
+
+-- the places in frame k of the symbols that power control bits replace
+abbrev pub replaced_in : Traffic → Mark → ℕ → List ℕ
+replaced_in traffic m k = power_places (frame_state traffic m k) (traffic_mask traffic.esn)
+
+-- FRAME BY FRAME
+-- The frames hang on the active pilots, which may be others from frame to frame: `legs k` are those
+-- of frame k.
+abbrev pub stream_of : Tuning → Traffic → Mark → (ℕ → List Leg) → ℕ → Stream
+stream_of t traffic m legs k =
+    traffic_stream traffic m (all_fingers t.phase t.deltas (legs k))
+
+-- whether frame k lies in the file, and the number of samples at which it is known, its own end
+abbrev pub has_frame : Tuning → Traffic → Mark → (ℕ → List Leg) → ℕ → Bool
+has_frame t traffic m legs k = is_in_file t.count (stream_of t traffic m legs k) k
+
+abbrev pub frame_known : Tuning → Traffic → Mark → (ℕ → List Leg) → ℕ → ℕ
+frame_known t traffic m legs k = known_at t.count (stream_of t traffic m legs k) k
+
+-- whether frame k is known when just n samples have been taken
+abbrev pub ends_now : Tuning → Traffic → Mark → (ℕ → List Leg) → ℕ → ℕ → Bool
+ends_now t traffic m legs n k = has_frame t traffic m legs k && frame_known t traffic m legs k == n
+
+-- more frames than end within so many samples
+abbrev pub frames_bound : ℕ → ℕ
+frames_bound n = n / 24576 + 1
+
+abbrev pub frames_now : Tuning → Traffic → Mark → (ℕ → List Leg) → ℕ → List ℕ
+frames_now t traffic m legs n = filter (ends_now t traffic m legs n) (places (frames_bound n))

@@ -1,0 +1,67 @@
+-- What a handset is tuned to.
+use Rattle.std.specs.Prelude.{ℕ, ◌+◌, ◌-◌, ◌/◌, ◌%◌, true, List, [], map, take, ℤ, pos, ◌+ℤ◌}
+use Rattle.std.specs.Prelude.{unsigned_abs, Option}
+use Rattle.std.specs.Int.{int_rem_euclid}
+use Rattle.chip_core.specs.declared.check_form.CheckForm.{CheckForm}
+use Rattle.frame_decoder.specs.Spans.{sync_channel}
+use Rattle.pilot_search.specs.declared.paths.Near.{Near}
+use Rattle.pilot_search.specs.declared.sweeping.Best.{Best}
+use Rattle.rake_finger.specs.declared.finger.Finger.{Finger}
+use Rattle.rake_finger.specs.declared.form.Form.TheVariants.{Sync}
+use Rattle.heard_events.specs.Streams.{Stream}
+use Rattle.heard_events.specs.declared.settings.Settings.{Settings}
+use Rattle.chip_core.specs.declared.assignment.Traffic.{Traffic}
+
+-- the samples in the file, the best phase and the energy there, how much earlier than there each
+-- finger's samples come, how the checks of 30 and of 16 bits are sent, the number of the paging
+-- channel, and the traffic channel, where one is followed
+pub record Tuning : Type 0 where
+  pub count : ℕ
+  pub phase : ℕ
+  pub energy : ℕ
+  pub deltas : List ℤ
+  pub check30 : CheckForm
+  pub check16 : CheckForm
+  pub paging : ℕ
+  pub traffic : Option Traffic
+
+-- of these settings, where the search found this phase, with its energy, and these deltas
+abbrev pub tuning_by : Settings → Best → Near → Tuning
+tuning_by settings best near =
+    record {
+      count = settings.count;
+      phase = best.phase;
+      energy = best.energy;
+      deltas = take near.count near.deltas;
+      check30 = settings.check30;
+      check16 = settings.check16;
+      paging = settings.paging;
+      traffic = settings.traffic;
+    }
+
+abbrev pub modulo_code : ℤ → ℕ
+modulo_code x = unsigned_abs (int_rem_euclid x (pos 32768))
+
+-- a finger so much earlier than a phase
+abbrev pub finger_of : ℕ → ℕ → ℤ → Finger
+finger_of row phase delta =
+    record { phase = modulo_code (pos phase +ℤ delta); delta = delta; row = row }
+
+abbrev pub fingers_of : ℕ → ℕ → List ℤ → List Finger
+fingers_of row phase deltas = map (finger_of row phase) deltas
+
+-- The sync channel is Walsh row 32, and its frames begin where the pilot's code does (TIA/EIA-95-B,
+-- 7.1.3.3).
+abbrev pub sync_stream : Tuning → Stream
+sync_stream t = record {
+  channel = sync_channel;
+  form = Sync;
+  fingers = fingers_of 32 t.phase t.deltas;
+  first = (32768 - t.phase) % 32768;
+  scrambling = λ k. [];
+  waits = true;
+}
+
+-- more frames than end within so many samples
+abbrev pub sync_bound : ℕ → ℕ
+sync_bound n = n / 32768 + 1

@@ -1,0 +1,52 @@
+//! A channel of the reference base station, behind the mark.
+
+use chip_core::Traffic;
+use chip_core::air::FRAME_OFFSET_CHIPS;
+
+/// A channel of the reference base station whose frames are received from the mark on.
+#[derive(Clone, Copy, PartialEq, Eq, Debug)]
+pub enum Channel {
+    /// The paging channel of this number, 1 to 7 (TIA/EIA-95-B, 7.1.3.4).
+    Paging(u8),
+    /// A traffic channel (7.1.3.5).
+    Traffic(Traffic),
+}
+
+impl Channel {
+    ghost use Rattle.std.specs.Prelude.{◌≡◌, ◌<◌, ◌≤◌};
+    ghost use Rattle.heard_events.specs.Channels.{IsLawful, has_power_control, offset_of, row_of};
+
+    /// The Walsh row that it is sent on.
+    pub fn row(&self) -> u8
+        requires { IsLawful self.now }
+        ensures value { result ≡ row_of self.now }
+        ensures below { result < 64 }
+    {
+        match self {
+            Channel::Paging(number) => *number,
+            Channel::Traffic(traffic) => traffic.row,
+        }
+    }
+
+    /// How many chips behind the mark its frame 0 begins.
+    pub fn offset(&self) -> u64
+        requires { IsLawful self.now }
+        ensures value { result ≡ offset_of self.now }
+        ensures most { result ≤ 23040 }
+    {
+        match self {
+            Channel::Paging(_) => 0,
+            Channel::Traffic(traffic) => FRAME_OFFSET_CHIPS * u64::from(traffic.offset),
+        }
+    }
+
+    /// Whether power control bits replace some of its symbols.
+    pub fn has_power_control(&self) -> bool
+        ensures { result ≡ has_power_control self.now }
+    {
+        match self {
+            Channel::Paging(_) => false,
+            Channel::Traffic(_) => true,
+        }
+    }
+}
