@@ -110,12 +110,11 @@ unfoldable pub use Rattle.long_code.specs.LongCode.{long_chip, traffic_mask}
 pub use Rattle.heard_events.proofs.EventPlaces.{AreAt, messages_at_end, paging_at, sets_at_end, sync_at, traffic_at}
 pub use Rattle.heard_events.proofs.FingerTimes.{timed_in}
 pub use Rattle.heard_events.proofs.FrameBounds.{AreCloseAll}
-pub use Rattle.heard_events.proofs.FrameGrowth.{frames_sooner}
+pub use Rattle.heard_events.proofs.TrafficGrowth.{frames_sooner, messages_sooner}
 pub use Rattle.heard_events.proofs.FrameTimes.{known_between, known_le}
 pub use Rattle.heard_events.proofs.LegParts.{map_same}
 pub use Rattle.heard_events.proofs.MarkGrowth.{mark_is}
 pub use Rattle.heard_events.proofs.MarkStays.{frames_by_one_mark, messages_by_one_mark, pages_by_one_mark, pilot_alone}
-pub use Rattle.heard_events.proofs.MessageGrowth.{messages_sooner}
 pub use Rattle.heard_events.proofs.MomentGrowth.{kept_new, kept_old}
 pub use Rattle.heard_events.specs.Close.{AreClose}
 pub use Rattle.heard_events.specs.Events.{events}

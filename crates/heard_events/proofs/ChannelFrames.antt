@@ -1,14 +1,13 @@
 -- The frames of a channel behind the mark, before they are decoded.
-use Rattle.heard_events.proofs.Common.{◌≡◌, ℕ, ◌+◌, ◌*◌, ◌<◌, ◌≤◌, Bool, true, false, ◌&&◌, List, [], ◌∷◌, ◌++◌, map, filter, length, nat_le}
-use Rattle.heard_events.proofs.Common.{refl, sym, ap, ◌∙◌, arith, inl, inr, ℤ, Option, Some, None, take, drop, subst, and_parts, cases_Bool}
-use Rattle.heard_events.proofs.Common.{false_from_ne_true, le-leb, leb-true, length-take-le, take-append-drop, places, Sample, frame_chips}
-use Rattle.heard_events.proofs.Common.{Form, Data, command, group_sums, power_places, scrambling, channel_stream, has_power_control, mask_of}
-use Rattle.heard_events.proofs.Common.{offset_of, row_of, state_at, paging_bound, unscrambled, frames_within, power_of, soft_frame, Stream}
-use Rattle.heard_events.proofs.Common.{frame_end, frame_start, is_in_file, known_at, known_by, IsTimed, stream_end, Tuning, fingers_of}
-use Rattle.heard_events.proofs.Common.{Channel, Paging, Mark, PowerControl, SoftFrame}
+use Rattle.heard_events.proofs.Common.{◌≡◌, ℕ, ◌+◌, ◌*◌, ◌<◌, ◌≤◌, Bool, true, false, List, [], ◌∷◌, ◌++◌, map, filter, length, refl, sym}
+use Rattle.heard_events.proofs.Common.{ap, ◌∙◌, arith, ℤ, Option, Some, None, take, drop, subst, length-take-le, take-append-drop, places}
+use Rattle.heard_events.proofs.Common.{Sample, frame_chips, Form, Data, command, group_sums, power_places, scrambling, channel_stream}
+use Rattle.heard_events.proofs.Common.{has_power_control, mask_of, offset_of, row_of, state_at, paging_bound, unscrambled, frames_within}
+use Rattle.heard_events.proofs.Common.{power_of, soft_frame, Stream, frame_end, frame_start, is_in_file, known_at, known_by, IsTimed}
+use Rattle.heard_events.proofs.Common.{stream_end, Tuning, fingers_of, Channel, Paging, Mark, PowerControl, SoftFrame, ◌-◌, AgreeIn}
 use Rattle.heard_events.specs.declared.channel.Channel.TheVariants.{Traffic}
-use Rattle.heard_events.proofs.FrameTimes.{known_between}
-use Rattle.heard_events.proofs.Sooner.{all_fit, softs_sooner}
+use Rattle.heard_events.proofs.Sooner.{all_fit, softs_sooner, softs_same}
+use Rattle.heard_events.proofs.Arrivals.{frames_in, frames_ordered, known_is, by_parts, is_by}
 use Rattle.chip_core.proofs.Ranges as ranges
 
 -- THE STREAM OF A CHANNEL
@@ -52,33 +51,13 @@ module _ {count low : ℕ} (s : Stream) (timed : IsTimed count s low) (form : s.
       ((k : ℕ) → next ≤ k → is_in_file count s k ≡ true → n + 1 ≤ known_at count s k) →
       known_by count s n (paging_bound n) ≡ filter (is_in_file count s) (places next)
   known_before n next before behind =
-      let p : ℕ → Bool = λ k. is_in_file count s k && nat_le (known_at count s k) n in
-      let known : (k : ℕ) → p k ≡ true →
-      (is_in_file count s k ≡ true) × (known_at count s k ≤ n) = λ k h.
-      let parts = and_parts (is_in_file count s k) (nat_le (known_at count s k) n) h in
-      (parts.0, leb-true (known_at count s k) n parts.1) in
-      let past : (k : ℕ) → paging_bound n ≤ k → p k ≡ false = λ k l.
-      false_from_ne_true (p k)
-      (λ h.
-      let w = known k h in
-      let b = known_between s timed k w.0 in
+      known_is (frames_in count s paging_bound)
+      (frames_ordered s timed paging_bound
+      (λ k n ends.
       let early : 24576 * (k + 1) ≤ stream_end s k =
       subst (λ (f : Form). frame_chips f * (k + 1) ≤ stream_end s k) form (timed.early k) in
-      omega (arith, b.low, early, w.1, l)) in
-      let later : (k : ℕ) → next ≤ k → p k ≡ false = λ k l.
-      false_from_ne_true (p k)
-      (λ h.
-      let w = known k h in
-      let b = behind k l w.0 in
-      omega (arith, b, w.1)) in
-      ranges.filter_enough p (paging_bound n) next past later
-      ∙ ranges.filter_ext_places p (is_in_file count s) next
-      (λ k below. elim (cases_Bool (is_in_file count s k)) [
-        | inl yes' ↦
-            let le = le-leb (known_at count s k) n (before k below yes') in
-            rw (yes', le) refl
-        | inr no' ↦ rw no' refl
-      ])
+      omega (arith, early, ends)))
+      n next before behind
 
 -- POWER CONTROL BITS
 -- a paging channel has none
@@ -139,10 +118,18 @@ module _ (t : Tuning) (channel : Channel) (m : Mark) where
       ap (λ xs. map (soft_frame t channel m xs) (known_by t.count s n (paging_bound n)))
       (sym (take-append-drop n samples))
       ∙ ranges.map_ext_filter_places
-      (λ k. is_in_file t.count s k && nat_le (known_at t.count s k) n)
+      (is_by (frames_in t.count s paging_bound) n)
       (soft_frame t channel m (first ++ rest)) (soft_frame t channel m first) (paging_bound n)
       (λ k below kept.
-      let parts = and_parts (is_in_file t.count s k) (nat_le (known_at t.count s k) n) kept in
-      let known = leb-true (known_at t.count s k) n parts.1 in
+      let parts = by_parts (frames_in t.count s paging_bound) n k kept in
       let own = own_end t channel m k in
-      frame_sooner first rest k parts.0 (omega (arith, known, own, long)))
+      frame_sooner first rest k parts.0 (omega (arith, parts.1, own, long)))
+
+-- what is received of a frame is the same in two files that agree in its samples
+pub frame_same : (t : Tuning) (channel : Channel) (m : Mark) (one other : List Sample) (k : ℕ) →
+    AgreeIn one other (channel_stream t channel m).form
+    (frame_start (channel_stream t channel m) k) (channel_stream t channel m).fingers →
+    soft_frame t channel m one k ≡ soft_frame t channel m other k
+frame_same t channel m one other k same =
+    let s = channel_stream t channel m in
+    ap (frame_of t channel m k) (softs_same one other s.fingers s.form (frame_start s k) same)

@@ -15,6 +15,8 @@ pub use Rattle.std.specs.List.{flat_map, list_all, list_any, range_with_len}
 pub use Rattle.std.specs.Option.{option_or, option_to_list}
 pub use Rattle.std.specs.Ordering.{int_eq}
 pub use Rattle.std.specs.Prelude.{IsTrue, if◌then◌else◌, int_le, is_some, unsigned_abs}
+pub use Rattle.std.proofs.lemmas.List.Elements.{filter-append}
+pub use Rattle.chip_core.proofs.Places.{places-more}
 pub use Rattle.chip_core.proofs.Ranges.{filter-places-more, filter_ext_places, filter_first_places, filter_none_places}
 pub use Rattle.chip_core.proofs.Ranges.{flat_map-places-more, flat_map_ext_filter, flat_map_ext_filter_places, flat_map_ext_places}
 pub use Rattle.chip_core.proofs.Ranges.{flat_map_ext_range, map_ext_filter_places, map_ext_places}
@@ -62,7 +64,6 @@ unfoldable pub use Rattle.heard_events.specs.Events.{sets_events_at}
 pub use Rattle.heard_events.specs.FrameSamples.{AgreeIn}
 pub use Rattle.heard_events.specs.FramesAlone.{reference_alone, traffic_channel}
 pub use Rattle.heard_events.specs.Given.{at_of}
-pub use Rattle.heard_events.specs.Left.{frames_left}
 unfoldable pub use Rattle.heard_events.specs.Left.{frames_left_of, messages_left_of, pages_left, sync_events_left}
 pub use Rattle.heard_events.specs.Legs.{all_fingers, is_on, leg_fingers, legs_of, on_subchannel, pilot_finger, subchannels}
 pub use Rattle.heard_events.specs.Marks.{first_of, frames_with, mark_at, marks_of, sets_mark}
@@ -80,6 +81,7 @@ pub use Rattle.heard_events.specs.Signaling.{capsule_with, message_events, messa
 unfoldable pub use Rattle.heard_events.specs.Signaling.{message_at, messages_by, signal_at, signals_before}
 pub use Rattle.heard_events.specs.SoftFrames.{power_of, soft_frame, unturned_at}
 unfoldable pub use Rattle.heard_events.specs.SoftFrames.{frames_within}
+pub use Rattle.heard_events.specs.SpelledMessages.{SpelledMessage, SpelledPage, SpelledSignal}
 pub use Rattle.heard_events.specs.Streams.{Stream, frame_end, frame_softs, frame_start, is_in_file, is_within, known_at, known_by}
 pub use Rattle.heard_events.specs.Streams.{known_now, span_first, span_frames}
 unfoldable pub use Rattle.heard_events.specs.Streams.{frame_own_bits}
@@ -100,6 +102,3 @@ pub use Rattle.heard_events.specs.declared.leg.Leg.{Leg}
 pub use Rattle.heard_events.specs.declared.mark.Mark.{Mark}
 pub use Rattle.heard_events.specs.declared.soft_frame.PowerControl.{PowerControl}
 pub use Rattle.heard_events.specs.declared.soft_frame.SoftFrame.{SoftFrame}
-pub use Rattle.heard_events.specs.declared.spelled_message.SpelledMessage.{SpelledMessage}
-pub use Rattle.heard_events.specs.declared.spelled_page.SpelledPage.{SpelledPage}
-pub use Rattle.heard_events.specs.declared.spelled_signal.SpelledSignal.{SpelledSignal}

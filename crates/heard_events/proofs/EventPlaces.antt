@@ -1,11 +1,11 @@
 -- The events that end at a number of samples have that number.
-use Rattle.heard_events.proofs.Common.{◌≡◌, ℕ, ◌+◌, ◌==◌, ◌||◌, List, [], ◌∷◌, ◌++◌, map, refl, Option, None, Some, inl, inr, take, flat_map}
-use Rattle.heard_events.proofs.Common.{cases_Bool, eqb-true, Sample, Standing, SetChange, events_at, frame_events_at, message_events_at}
-use Rattle.heard_events.proofs.Common.{paging_events_at, sets_events_at, at_of, mark, changed, frames_at, heard_from, kept_to, legs_at}
-use Rattle.heard_events.proofs.Common.{messages_at, moment_events, moment_place, moments_before, passed, sets_at, page_event, pages_behind}
-use Rattle.heard_events.proofs.Common.{message_at, message_events, message_heard, messages_by, known_now, events_of, heard_at}
-use Rattle.heard_events.proofs.Common.{sync_events_at, frames_by, if_followed, frames_now, Tuning, sync_bound, sync_stream, Event, Leg, Mark}
-use Rattle.heard_events.proofs.Common.{Traffic, SpelledMessage, SpelledPage, SpelledSignal}
+use Rattle.heard_events.proofs.Common.{◌≡◌, ℕ, ◌+◌, ◌==◌, ◌||◌, List, [], ◌∷◌, ◌++◌, map, refl, Option, None, Some, inl, inr, take}
+use Rattle.heard_events.proofs.Common.{flat_map, cases_Bool, eqb-true, Sample, Standing, SetChange, events_at, frame_events_at}
+use Rattle.heard_events.proofs.Common.{message_events_at, paging_events_at, sets_events_at, at_of, mark, changed, frames_at, heard_from}
+use Rattle.heard_events.proofs.Common.{kept_to, legs_at, messages_at, moment_events, moment_place, moments_before, passed, sets_at}
+use Rattle.heard_events.proofs.Common.{page_event, pages_behind, message_at, message_events, message_heard, messages_by, known_now}
+use Rattle.heard_events.proofs.Common.{events_of, heard_at, sync_events_at, frames_by, if_followed, frames_now, Tuning, sync_bound}
+use Rattle.heard_events.proofs.Common.{sync_stream, Event, Leg, Mark, Traffic, SpelledMessage, SpelledSignal}
 use Rattle.heard_events.specs.TrafficEvents.{frame_heard}
 
 -- events of one number of samples
@@ -23,6 +23,11 @@ flat_map_at n f [] here = tt
 flat_map_at n f (k ∷ ks) here =
     are_at-append n (f k) (flat_map f ks) (here k) (flat_map_at n f ks here)
 
+map_at : {A : Type 0} (n : ℕ) (f : A → Event) (xs : List A) → ((x : A) → at_of (f x) ≡ n) →
+    AreAt n (map f xs)
+map_at n f [] here = tt
+map_at n f (x ∷ xs) here = (here x, map_at n f xs here)
+
 told_at : (n : ℕ) (told : Option SpelledMessage) → AreAt n (events_of n told)
 told_at n None = tt
 told_at n (Some told) = (refl, tt)
@@ -33,28 +38,17 @@ sync_at t samples n =
     flat_map_at n (λ k. events_of n (heard_at t samples k))
     (known_now t.count (sync_stream t) n (sync_bound n)) (λ k. told_at n (heard_at t samples k))
 
-pages_at_place : (n : ℕ) (pages : List SpelledPage) → AreAt n (map (page_event n) pages)
-pages_at_place n [] = tt
-pages_at_place n (page ∷ pages) = (refl, pages_at_place n pages)
-
 pub paging_at : (t : Tuning) (samples : List Sample) (n : ℕ) →
     AreAt n (paging_events_at t samples n)
 unfolding paging_events_at
 paging_at t samples n =
-    pages_at_place n (pages_behind t t.paging (mark t samples n) samples n)
-
-frames_at_place : (t : Tuning) (traffic : Traffic) (m : Mark) (legs : ℕ → List Leg)
-    (samples : List Sample) (n : ℕ) (ks : List ℕ) →
-    AreAt n (map (frame_heard t traffic m legs samples n) ks)
-frames_at_place t traffic m legs samples n [] = tt
-frames_at_place t traffic m legs samples n (k ∷ ks) =
-    (refl, frames_at_place t traffic m legs samples n ks)
+    map_at n (page_event n) (pages_behind t t.paging (mark t samples n) samples n) (λ page. refl)
 
 followed_at : (t : Tuning) (traffic : Traffic) (m : Mark) (legs : ℕ → List Leg)
     (samples : List Sample) (n : ℕ) → AreAt n (frames_by t traffic m legs samples n)
 unfolding frames_by
 followed_at t traffic m legs samples n =
-    frames_at_place t traffic m legs samples n (frames_now t traffic m legs n)
+    map_at n (frame_heard t traffic m legs samples n) (frames_now t traffic m legs n) (λ k. refl)
 
 message_at_place : (n : ℕ) (heard : Option SpelledSignal) → AreAt n (message_events n heard)
 message_at_place n None = tt

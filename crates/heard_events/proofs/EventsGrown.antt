@@ -67,21 +67,16 @@ module _ (t : Tuning) (low : ℕ) (timed : IsSyncTimed t low)
       ∙ sym (events_at_by t xs n m refl)
 
   -- a mark that is set with the last sample has no channel's frame before it
-  pub behind_before : (xs : List Sample) (n : ℕ) (before after : Option Mark) →
-      mark t xs n ≡ before → mark t xs (n + 1) ≡ after →
-      followed_behind t after xs (n + 1) ≡ followed_behind t before xs (n + 1)
-  behind_before xs n (Some m) after e e' =
-      ap (λ (x : Option Mark). followed_behind t x xs (n + 1))
-      (sym e' ∙ stays.mark_stays t low timed xs n (n + 1) m (omega arith) e)
-  behind_before xs n None None e e' = refl
-  behind_before xs n None (Some m) e e' =
-      let pilot = stays.mark_pilot t xs (n + 1) m e' in
-      let later = stays.mark_behind t low timed near xs n (n + 1) m pilot e e' in
-      let none = stays.pages_later t near t.paging xs (n + 1) m (omega (arith, later)) in
-      let pages = unrated (nat_lt m.prat 2) (pages_at t t.paging m xs (n + 1)) none in
+  pub behind_before : (xs : List Sample) (n : ℕ) →
+      followed_behind t (mark t xs n) xs (n + 1) ≡ followed_behind t (mark t xs (n + 1)) xs (n + 1)
+  behind_before xs n =
+      stays.by_one_mark t near xs n (n + 1) (λ set. followed_behind t set xs (n + 1))
+      (omega arith) (told_unset t t.traffic xs (n + 1))
+      (λ m later.
       let early : n + 1 ≤ m.sample = omega (arith, later) in
+      let none = stays.pages_later t near t.paging xs (n + 1) m early in
+      let pages = unrated (nat_lt m.prat 2) (pages_at t t.paging m xs (n + 1)) none in
       let frames = stays.frames_before_mark t near t.traffic xs (n + 1) m early in
       let messages = stays.messages_before_mark t near t.traffic xs (n + 1) m early in
       let sets = stays.sets_before_mark t near t.traffic xs (n + 1) m early in
-      let unset = told_unset t t.traffic xs (n + 1) in
-      rw (pages, frames, messages, sets, unset) refl
+      rw (pages, frames, messages, sets) refl)

@@ -1,8 +1,7 @@
 -- When the frames of a traffic channel end, whatever pilots each is heard from.
-use Rattle.heard_events.proofs.Common.{◌≡◌, ℕ, ◌+◌, ◌^◌, ◌<◌, ◌≤◌, true, false, ◌&&◌, List, refl, ap, ◌∙◌, arith, nat_le, Bool, ◌==◌}
-use Rattle.heard_events.proofs.Common.{and_parts, and_from, le-leb, eqb-true, eq-eqb, false_from_ne_true, Data, AreClose, all_fingers}
-use Rattle.heard_events.proofs.Common.{all_begun, frame_end, ends_now, frame_known, frames_bound, has_frame, traffic_start, Tuning, Leg}
-use Rattle.heard_events.proofs.Common.{Mark, Traffic}
+use Rattle.heard_events.proofs.Common.{◌≡◌, ℕ, ◌+◌, ◌^◌, ◌<◌, ◌≤◌, true, ◌&&◌, List, refl, ap, ◌∙◌, arith, nat_le, Bool, le-leb, Data}
+use Rattle.heard_events.proofs.Common.{AreClose, all_fingers, all_begun, frame_end, frame_known, frames_bound, has_frame, traffic_start}
+use Rattle.heard_events.proofs.Common.{Tuning, Leg, Mark, Traffic}
 use Rattle.heard_events.proofs.CloseFingers.{close_begun, close_ends}
 use Rattle.heard_events.proofs.FingerTimes.{within_is}
 
@@ -11,26 +10,6 @@ abbrev pub AreCloseAll : Tuning → (ℕ → List Leg) → Type 0
 AreCloseAll t legs = (k : ℕ) → AreClose (all_fingers t.phase t.deltas (legs k))
 
 module _ (t : Tuning) (traffic : Traffic) (m : Mark) (legs : ℕ → List Leg) where
-  pub now_parts : (n k : ℕ) → ends_now t traffic m legs n k ≡ true →
-      (has_frame t traffic m legs k ≡ true) × (frame_known t traffic m legs k ≡ n)
-  now_parts n k both =
-      let parts = and_parts (has_frame t traffic m legs k) (frame_known t traffic m legs k == n)
-      both in
-      (parts.0, eqb-true (frame_known t traffic m legs k) n parts.1)
-
-  pub now_from : (n k : ℕ) → has_frame t traffic m legs k ≡ true →
-      frame_known t traffic m legs k ≡ n → ends_now t traffic m legs n k ≡ true
-  now_from n k inside known =
-      and_from (has_frame t traffic m legs k) (frame_known t traffic m legs k == n) inside
-      (eq-eqb (frame_known t traffic m legs k) n known)
-
-  pub not_now : (n k : ℕ) →
-      (has_frame t traffic m legs k ≡ true → ¬ (frame_known t traffic m legs k ≡ n)) →
-      ends_now t traffic m legs n k ≡ false
-  not_now n k h =
-      false_from_ne_true (ends_now t traffic m legs n k)
-      (λ both. let parts = now_parts n k both in h parts.0 parts.1)
-
   -- a frame is known at its own end
   pub known_is : (k : ℕ) → frame_known t traffic m legs k
       ≡ frame_end (all_fingers t.phase t.deltas (legs k)) Data (traffic_start traffic m k)

@@ -1,63 +1,25 @@
--- How the frames that are heard of a traffic channel grow with a file's samples.
-use Rattle.heard_events.proofs.Common.{◌≡◌, ℕ, ◌+◌, ◌<◌, ◌≤◌, true, List, [], ◌∷◌, ◌++◌, length, map, ℤ, sym, ap, ◌∙◌, arith, places, Sample}
-use Rattle.heard_events.proofs.Common.{command, decoded, group_sums, Decoded, softs, Data, all_fingers, on_subchannel, subchannels}
-use Rattle.heard_events.proofs.Common.{unscrambled, all_sums, commands_at, decoded_at, frame_event, frames_by, subchannel_sums}
-use Rattle.heard_events.proofs.Common.{frames_left_of, ends_now, frame_known, frames_bound, frames_now, has_frame, replaced_in, stream_of}
-use Rattle.heard_events.proofs.Common.{traffic_start, Tuning, Event, Leg, Mark, Traffic, flat_map_ext_filter}
+-- What is heard of a traffic channel's frame that has ended stays where more samples follow, and so does what it completes.
+use Rattle.heard_events.proofs.Common.{◌≡◌, ℕ, ◌+◌, ◌<◌, ◌≤◌, true, List, ◌++◌, length, map, ℤ, ap, ◌∙◌, arith, places, Sample, command}
+use Rattle.heard_events.proofs.Common.{decoded, group_sums, Decoded, softs, Data, all_fingers, on_subchannel, subchannels, unscrambled}
+use Rattle.heard_events.proofs.Common.{all_sums, commands_at, decoded_at, frame_event, subchannel_sums, frame_known, frames_bound}
+use Rattle.heard_events.proofs.Common.{has_frame, replaced_in, stream_of, traffic_start, Tuning, Leg, Mark, Traffic, Bool, Option}
+use Rattle.heard_events.proofs.Common.{option_to_list, capsule_with, message_at, signal_at, signal_in, signal_of, signals_before}
+use Rattle.heard_events.proofs.Common.{flat_map_ext_filter_places}
 use Rattle.heard_events.specs.TrafficEvents.{frame_heard}
-use Rattle.heard_events.proofs.Endings.{singly}
-use Rattle.heard_events.proofs.FrameBounds.{not_now, now_from, now_parts}
+use Rattle.heard_events.proofs.Arrivals.{Arrivals, given_more}
+use Rattle.heard_events.proofs.FrameBounds.{AreCloseAll, known_later}
 use Rattle.heard_events.proofs.LegParts.{fit_on, map_same}
 use Rattle.heard_events.proofs.Sooner.{AllFit, all_fit, softs_sooner}
-use Rattle.heard_events.proofs.Endings as endings
+
+-- the frames, whatever pilots each is heard from
+abbrev pub frames_of : Tuning → Traffic → Mark → (ℕ → List Leg) → Arrivals
+frames_of t traffic m legs = record {
+  inside = has_frame t traffic m legs;
+  known = frame_known t traffic m legs;
+  bound = frames_bound;
+}
 
 module _ (t : Tuning) (traffic : Traffic) (m : Mark) (legs : ℕ → List Leg) where
-  -- no frame ends at so many samples
-  pub frames_none : (xs : List Sample) (n : ℕ) →
-      ((k : ℕ) → has_frame t traffic m legs k ≡ true →
-      ¬ (frame_known t traffic m legs k ≡ n)) → frames_by t traffic m legs xs n ≡ []
-  unfolding frames_by
-  frames_none xs n h =
-      ap (map (frame_heard t traffic m legs xs n))
-      (endings.none_pass (ends_now t traffic m legs n) (frames_bound n)
-      (λ k. not_now t traffic m legs n k (h k)))
-
-  -- where none before `next` ends there, all are left
-  pub frames_left_all : (xs : List Sample) (next : ℕ) →
-      ((k : ℕ) → k < next → has_frame t traffic m legs k ≡ true →
-      ¬ (frame_known t traffic m legs k ≡ length xs)) →
-      frames_left_of t traffic m legs xs next ≡ frames_by t traffic m legs xs (length xs)
-  unfolding frames_by frames_left_of
-  frames_left_all xs next h =
-      ap (map (frame_heard t traffic m legs xs (length xs)))
-      (endings.all_left (ends_now t traffic m legs (length xs)) (frames_bound (length xs)) next
-      (λ k less. not_now t traffic m legs (length xs) k (h k less)))
-
-  -- where those from `next` on end later, none is left
-  pub frames_left_none : (xs : List Sample) (next : ℕ) →
-      ((k : ℕ) → next ≤ k → length xs + 1 ≤ frame_known t traffic m legs k) →
-      frames_left_of t traffic m legs xs next ≡ []
-  unfolding frames_left_of
-  frames_left_none xs next h =
-      ap (map (frame_heard t traffic m legs xs (length xs)))
-      (endings.none_left (ends_now t traffic m legs (length xs)) (frames_bound (length xs)) next
-      (λ k above.
-      not_now t traffic m legs (length xs) k
-      (λ inside e. let later = h k above in omega (arith, later, e))))
-
-  -- the frame that ends just now is the first of those left
-  pub frame_next : (xs : List Sample) (next : ℕ) → next < frames_bound (length xs) →
-      has_frame t traffic m legs next ≡ true → frame_known t traffic m legs next ≡ length xs →
-      frames_left_of t traffic m legs xs next
-      ≡ frame_heard t traffic m legs xs (length xs) next
-      ∷ frames_left_of t traffic m legs xs (next + 1)
-  unfolding frames_left_of
-  frame_next xs next below inside known =
-      ap (map (frame_heard t traffic m legs xs (length xs)))
-      (endings.next_left (ends_now t traffic m legs (length xs)) (frames_bound (length xs)) next
-      below (now_from t traffic m legs (length xs) next inside known))
-
-  -- WHAT IS HEARD OF A FRAME THAT HAS ENDED STAYS WHERE MORE SAMPLES FOLLOW
   module _ (xs ys : List Sample) (k : ℕ) (inside : has_frame t traffic m legs k ≡ true)
       (known : frame_known t traffic m legs k ≤ length xs) where
     fits : AllFit (length xs) Data (traffic_start traffic m k)
@@ -97,23 +59,58 @@ module _ (t : Tuning) (traffic : Traffic) (m : Mark) (legs : ℕ → List Leg) w
     unfolding commands_at
     commands_sooner = ap (λ (sums : List (List ℤ)). map (command sums) (places 16)) sums_sooner
 
-    heard_sooner : (n : ℕ) → frame_heard t traffic m legs (xs ++ ys) n k
+    pub heard_sooner : (n : ℕ) → frame_heard t traffic m legs (xs ++ ys) n k
         ≡ frame_heard t traffic m legs xs n k
     heard_sooner n =
         ap (λ (d : Decoded). frame_event n d (commands_at t traffic m legs (xs ++ ys) k))
         decoded_sooner
         ∙ ap (frame_event n (decoded_at t traffic m legs xs k)) commands_sooner
 
-  pub frames_sooner : (xs ys : List Sample) (n : ℕ) → n ≤ length xs →
-      frames_by t traffic m legs (xs ++ ys) n ≡ frames_by t traffic m legs xs n
-  unfolding frames_by
-  frames_sooner xs ys n h =
-      sym (singly (frame_heard t traffic m legs (xs ++ ys) n) (frames_now t traffic m legs n))
-      ∙ flat_map_ext_filter (ends_now t traffic m legs n)
-      (λ k. frame_heard t traffic m legs (xs ++ ys) n k ∷ [])
-      (λ k. frame_heard t traffic m legs xs n k ∷ []) (places (frames_bound n))
-      (λ k both.
-      let parts = now_parts t traffic m legs n k both in
-      ap (λ (e : Event). e ∷ [])
-      (heard_sooner xs ys k parts.0 (omega (arith, parts.1, h)) n))
-      ∙ singly (frame_heard t traffic m legs xs n) (frames_now t traffic m legs n)
+  -- WHAT A FRAME COMPLETES
+  -- the signaling of one frame more
+  pub signals_more : (xs : List Sample) (k : ℕ) → has_frame t traffic m legs k ≡ true →
+      signals_before t traffic m legs xs (k + 1)
+      ≡ signals_before t traffic m legs xs k
+      ++ option_to_list (signal_at t traffic m legs xs k)
+  unfolding signals_before
+  signals_more xs k inside =
+      given_more (has_frame t traffic m legs)
+      (λ j. option_to_list (signal_at t traffic m legs xs j)) k inside
+
+  -- what a frame that has ended completes stays where more samples follow
+  signal_sooner : (xs ys : List Sample) (k : ℕ) → has_frame t traffic m legs k ≡ true →
+      frame_known t traffic m legs k ≤ length xs →
+      signal_at t traffic m legs (xs ++ ys) k ≡ signal_at t traffic m legs xs k
+  unfolding signal_at
+  signal_sooner xs ys k inside known =
+      ap (λ (d : Decoded). signal_of d)
+      (decoded_sooner xs ys k inside known)
+
+  pub signals_sooner : (xs ys : List Sample) (next : ℕ) →
+      ((k : ℕ) → k < next → has_frame t traffic m legs k ≡ true →
+      frame_known t traffic m legs k ≤ length xs) →
+      signals_before t traffic m legs (xs ++ ys) next ≡ signals_before t traffic m legs xs next
+  unfolding signals_before
+  signals_sooner xs ys next known =
+      flat_map_ext_filter_places (has_frame t traffic m legs)
+      (λ k. option_to_list (signal_at t traffic m legs (xs ++ ys) k))
+      (λ k. option_to_list (signal_at t traffic m legs xs k)) next
+      (λ k below inside.
+      ap (λ (signal : Option (List Bool)). option_to_list signal)
+      (signal_sooner xs ys k inside (known k below inside)))
+
+  module _ (close : AreCloseAll t legs) where
+    pub message_sooner : (xs ys : List Sample) (k : ℕ) → has_frame t traffic m legs k ≡ true →
+        frame_known t traffic m legs k ≤ length xs →
+        message_at t traffic m legs (xs ++ ys) k ≡ message_at t traffic m legs xs k
+    unfolding message_at
+    message_sooner xs ys k inside known =
+        let later = signal_at t traffic m legs (xs ++ ys) k in
+        let before = signals_before t traffic m legs xs k in
+        ap (λ (parts : List (List Bool)). signal_in t.check16 (capsule_with parts later))
+        (signals_sooner xs ys k
+        (λ j below inside'.
+        let le = known_later t traffic m legs close j k below in
+        omega (arith, le, known)))
+        ∙ ap (λ (signal : Option (List Bool)). signal_in t.check16 (capsule_with before signal))
+        (signal_sooner xs ys k inside known)

@@ -1,13 +1,14 @@
 -- How the events of a file's sync channel grow with its samples.
-use Rattle.heard_events.proofs.Common.{◌≡◌, ℕ, ◌+◌, ◌<◌, ◌≤◌, Bool, true, List, [], ◌∷◌, ◌++◌, map, length, refl, ap, ◌∙◌, arith, map-append}
-use Rattle.heard_events.proofs.Common.{places, Sample, piece, capsule_ending, sync_events_left, is_in_file, known_at, frame_own_bits}
-use Rattle.heard_events.proofs.Common.{frames_before, sync_capsule_at, heard_in, heard_at, events_of, sync_events_at, IsTimed, Tuning}
-use Rattle.heard_events.proofs.Common.{sync_stream, sync_bound, filter_none_places, flat_map_ext_filter, map_ext_filter_places}
-use Rattle.heard_events.proofs.Common.{filter-places-more}
+use Rattle.heard_events.proofs.Common.{◌≡◌, ℕ, ◌+◌, ◌<◌, ◌≤◌, Bool, true, List, [], ◌∷◌, ◌++◌, map, length, refl, ap, ◌∙◌, arith}
+use Rattle.heard_events.proofs.Common.{map-append, places, Sample, piece, capsule_ending, sync_events_left, is_in_file, known_at}
+use Rattle.heard_events.proofs.Common.{frame_own_bits, frames_before, sync_capsule_at, heard_in, heard_at, events_of, sync_events_at}
+use Rattle.heard_events.proofs.Common.{IsTimed, Tuning, sync_stream, sync_bound, filter_none_places, map_ext_filter_places}
+use Rattle.heard_events.proofs.Common.{filter-places-more, flat_map}
 use Rattle.std.specs.List.{filter}
 use Rattle.heard_events.proofs.FrameTimes.{outside_low, known_between, known_le}
 use Rattle.heard_events.proofs.Spans.{own_bits_sooner}
-use Rattle.heard_events.proofs.FramesLeft as left
+use Rattle.heard_events.proofs.Arrivals.{Arrivals, NoneBefore, NoneNow, all_left, frames_in, gives_same, next_left, none_left, none_now}
+use Rattle.heard_events.proofs.Arrivals.{AreOrdered, frames_ordered}
 
 -- FRAMES OF THE SYNC CHANNEL
 -- whether one lies in the file, and when it is known
@@ -17,8 +18,16 @@ sync_in_file t = is_in_file t.count (sync_stream t)
 abbrev pub sync_known : Tuning → ℕ → ℕ
 sync_known t = known_at t.count (sync_stream t)
 
+abbrev pub sync_frames : Tuning → Arrivals
+sync_frames t = frames_in t.count (sync_stream t) sync_bound
+
 abbrev pub IsSyncTimed : Tuning → ℕ → Type 0
 IsSyncTimed t low = IsTimed t.count (sync_stream t) low
+
+pub sync_ordered : {low : ℕ} (t : Tuning) → IsSyncTimed t low → AreOrdered (sync_frames t)
+sync_ordered t timed =
+    frames_ordered (sync_stream t) timed sync_bound
+    (λ k n ends. let early = timed.early k in omega (arith, early, ends))
 
 -- each before `next` that lies in the file is known within so many samples
 abbrev pub KnownBefore : Tuning → ℕ → ℕ → Type 0
@@ -74,35 +83,32 @@ module _ (t : Tuning) (low : ℕ) (timed : IsSyncTimed t low) where
       sync_events_at t (xs ++ ys) n ≡ sync_events_at t xs n
   unfolding sync_events_at
   sync_events_sooner xs ys n h =
-      flat_map_ext_filter (left.is_now t.count (sync_stream t) n)
-      (λ k. events_of n (heard_at t (xs ++ ys) k)) (λ k. events_of n (heard_at t xs k))
-      (places (sync_bound n))
-      (λ k both.
-      let parts = left.now_parts t.count (sync_stream t) n k both in
-      ap (events_of n) (heard_sooner xs ys k parts.0 (omega (arith, parts.1))))
+      gives_same (sync_frames t) (λ k. events_of n (heard_at t (xs ++ ys) k))
+      (λ k. events_of n (heard_at t xs k)) n
+      (λ k inside known.
+      ap (events_of n) (heard_sooner xs ys k inside (omega (arith, known, h))))
 
-  pub sync_events_none : (xs : List Sample) (n : ℕ) →
-      ((k : ℕ) → sync_in_file t k ≡ true → ¬ (sync_known t k ≡ n)) → sync_events_at t xs n ≡ []
+  pub sync_events_none : (xs : List Sample) (n : ℕ) → NoneNow (sync_frames t) n →
+      sync_events_at t xs n ≡ []
   unfolding sync_events_at
-  sync_events_none xs n h =
-      left.now_none t.count (sync_stream t) (λ k. events_of n (heard_at t xs k)) n (sync_bound n) h
+  sync_events_none xs n none =
+      ap (flat_map (λ k. events_of n (heard_at t xs k))) (none_now (sync_frames t) n none)
 
   -- where no frame before `next` is known just now, all of this moment's events are left
-  pub left_all : (xs : List Sample) (next : ℕ) →
-      ((k : ℕ) → k < next → sync_in_file t k ≡ true → ¬ (sync_known t k ≡ length xs)) →
+  pub left_all : (xs : List Sample) (next : ℕ) → NoneBefore (sync_frames t) next (length xs) →
       sync_events_left t xs next ≡ sync_events_at t xs (length xs)
   unfolding sync_events_at sync_events_left
-  left_all xs next h =
-      left.now_left t.count (sync_stream t) (λ k. events_of (length xs) (heard_at t xs k))
-      (length xs) (sync_bound (length xs)) next h
+  left_all xs next none =
+      ap (flat_map (λ k. events_of (length xs) (heard_at t xs k)))
+      (all_left (sync_frames t) next (length xs) none)
 
   pub left_none : (xs : List Sample) (next : ℕ) → KnownFrom t next (length xs + 1) →
       sync_events_left t xs next ≡ []
   unfolding sync_events_left
   left_none xs next h =
-      left.none_left t.count (sync_stream t) (λ k. events_of (length xs) (heard_at t xs k))
-      (length xs) (sync_bound (length xs)) next
-      (λ k low inside e. let later = h k low inside in omega arith)
+      ap (flat_map (λ k. events_of (length xs) (heard_at t xs k)))
+      (none_left (sync_frames t) next (length xs)
+      (λ k low inside e. let later = h k low inside in omega arith))
 
   -- the next frame's events are the first of those left
   pub left_next : (xs : List Sample) (next : ℕ) → sync_in_file t next ≡ true →
@@ -113,5 +119,5 @@ module _ (t : Tuning) (low : ℕ) (timed : IsSyncTimed t low) where
   left_next xs next h e =
       let early = timed.early next in
       let most = (known_between (sync_stream t) timed next h).low in
-      left.next_left t.count (sync_stream t) (λ k. events_of (length xs) (heard_at t xs k))
-      (length xs) (sync_bound (length xs)) next (omega arith) h e
+      ap (flat_map (λ k. events_of (length xs) (heard_at t xs k)))
+      (next_left (sync_frames t) next (length xs) (omega arith) h e)

@@ -1,64 +1,31 @@
 -- The mark stays where more samples are taken, and before it nothing is heard of other channels.
-use Rattle.heard_events.proofs.Common.{◌≡◌, ℕ, zero, suc, ◌+◌, ◌-◌, ◌^◌, ◌<◌, ◌≤◌, ◌==◌, ◌&&◌, Bool, true, false, List, [], ◌∷◌, ◌++◌}
-use Rattle.heard_events.proofs.Common.{length, refl, sym, ap, ◌∙◌, subst, arith, inl, inr, nat_le, nat_lt, Option, Some, None, ℤ, pos, take}
-use Rattle.heard_events.proofs.Common.{get_or, append-nil, if◌then◌else◌, flat_map, range_with_len, and_parts, and_from, cases_Bool}
-use Rattle.heard_events.proofs.Common.{cases_lt, false_from_ne_true, leb-true, le-leb, eq-eqb, ne_eqb, new_standing, places, FieldsFit}
-use Rattle.heard_events.proofs.Common.{CheckForm, Sample, Finger, Data, sync_reading, fixed_fields, SyncFields, fixed_fit}
-use Rattle.heard_events.proofs.Common.{reading_is_message, AreClose, all_fingers, legs_of, pilot_finger, first_of, frames_open, mark}
-use Rattle.heard_events.proofs.Common.{mark_at, mark_before, marks_at, marks_of, frames_at, frames_behind, kept_to, legs_at, legs_by}
+use Rattle.heard_events.proofs.Common.{◌≡◌, ℕ, ◌+◌, ◌-◌, ◌^◌, ◌<◌, ◌≤◌, ◌==◌, Bool, true, false, List, [], ◌∷◌, ◌++◌, length, refl, sym, ap}
+use Rattle.heard_events.proofs.Common.{◌∙◌, subst, arith, inl, inr, nat_lt, Option, Some, None, ℤ, pos, take, get_or, append-nil}
+use Rattle.heard_events.proofs.Common.{if◌then◌else◌, flat_map, and_parts, and_from, cases_Bool, cases_lt, eq-eqb, ne_eqb, new_standing}
+use Rattle.heard_events.proofs.Common.{places, FieldsFit, CheckForm, Sample, Finger, Data, sync_reading, fixed_fields, SyncFields}
+use Rattle.heard_events.proofs.Common.{fixed_fit, reading_is_message, AreClose, all_fingers, legs_of, pilot_finger, first_of, frames_open}
+use Rattle.heard_events.proofs.Common.{mark, mark_at, mark_before, marks_at, marks_of, frames_at, frames_behind, kept_to, legs_at, legs_by}
 use Rattle.heard_events.proofs.Common.{messages_at, messages_behind, moment_place, moments_before, sets_at, sets_behind, AreNear, all_near}
 use Rattle.heard_events.proofs.Common.{has_reference, low_in, pages_at, pages_behind, paging_stream, frame_start, is_in_file, known_at}
 use Rattle.heard_events.proofs.Common.{heard_at, heard_in, sync_capsule_at, with_message, IsTimed, stream_end, if_followed, frame_known}
-use Rattle.heard_events.proofs.Common.{Tuning, fingers_of, sync_bound, sync_stream, Event, Leg, Mark, Traffic, SpelledMessage}
+use Rattle.heard_events.proofs.Common.{Tuning, fingers_of, sync_bound, sync_stream, Event, Leg, Mark, Traffic, SpelledMessage, frames_by}
+use Rattle.heard_events.proofs.Common.{map, message_heard, messages_by, option_or}
 use Rattle.std.specs.List.{filter}
+use Rattle.heard_events.proofs.FollowedEvents.{unrated}
+use Rattle.heard_events.specs.TrafficEvents.{frame_heard}
 use Rattle.heard_events.proofs.CloseFingers.{near_are_close}
 use Rattle.heard_events.proofs.FingerTimes.{ends_bounds, timed_in, timed_of}
 use Rattle.heard_events.proofs.FrameBounds.{known_low}
-use Rattle.heard_events.proofs.FrameGrowth.{frames_none}
-use Rattle.heard_events.proofs.FrameTimes.{known_between, known_le}
-use Rattle.heard_events.proofs.Growth.{IsSyncTimed, KnownBefore, sync_in_file, sync_known}
-use Rattle.heard_events.proofs.MarkGrowth.{marks_at_sooner}
+use Rattle.heard_events.proofs.FrameGrowth.{frames_of}
+use Rattle.heard_events.proofs.Arrivals.{none_now, parted, by_parts, is_by}
+use Rattle.heard_events.proofs.FrameTimes.{known_between}
+use Rattle.heard_events.proofs.Growth.{IsSyncTimed, KnownBefore, sync_in_file, sync_known, known_with, sync_frames, sync_ordered}
+use Rattle.heard_events.proofs.MarkGrowth.{marks_at_sooner, mark_before_kept, mark_before_more, mark_is}
 use Rattle.heard_events.proofs.MarkLater.{mark_later}
-use Rattle.heard_events.proofs.MessageGrowth.{messages_none}
 use Rattle.heard_events.proofs.PageGrowth.{pages_none}
 use Rattle.chip_core.proofs.Ranges as ranges
 
 -- THE FIRST OF JOINED PIECES
-first_kept : {A : Type 0} (xs ys zs : List A) (x : A) →
-    (first_of ys ≡ Some x → first_of zs ≡ Some x) → first_of (xs ++ ys) ≡ Some x →
-    first_of (xs ++ zs) ≡ Some x
-first_kept [] ys zs x rest h = rest h
-first_kept (y ∷ xs) ys zs x rest h = h
-
--- It stays the first under a wider test, where each number that passes it and lies before one that
--- passes the first test does so too.
-first_stays : {A : Type 0} (f : ℕ → List A) (p q : ℕ → Bool) (a n : ℕ) (x : A) →
-    ((k : ℕ) → p k ≡ true → q k ≡ true) →
-    ((j k : ℕ) → j ≤ k → q j ≡ true → p k ≡ true → p j ≡ true) →
-    first_of (flat_map f (filter p (range_with_len a n))) ≡ Some x →
-    first_of (flat_map f (filter q (range_with_len a n))) ≡ Some x
-first_stays f p q a zero x wider front h = h
-first_stays f p q a (suc n) x wider front h =
-    let rest = first_stays f p q (a + 1) n x wider front in
-    elim (cases_Bool (p a)) [
-      | inl here ↦
-          let there = wider a here in
-          rw there
-          (first_kept (f a) (flat_map f (filter p (range_with_len (a + 1) n)))
-          (flat_map f (filter q (range_with_len (a + 1) n))) x rest (rw here at h))
-      | inr gone ↦
-          elim (cases_Bool (q a)) [
-            | inl there ↦
-                let none : filter p (range_with_len (a + 1) n) ≡ [] =
-                ranges.filter_none_range p (a + 1) n
-                (λ k low below. false_from_ne_true (p k)
-                (λ e. let here = front a k (omega (arith, low)) there e in absurd (cc))) in
-                let lost : None ≡ Some x = rw none at (rw gone at h) in
-                absurd (cc)
-            | inr gone' ↦ rw gone' (rest (rw gone at h))
-          ]
-    ]
-
 first_of_two : {A R : Type 0} (xs ys : List A) (x : A) → first_of (xs ++ ys) ≡ Some x →
     (first_of xs ≡ Some x → R) → (first_of ys ≡ Some x → R) → R
 first_of_two [] ys x h one other = other h
@@ -77,59 +44,12 @@ first_among f p (k ∷ ks) x h =
       | inr gone ↦ first_among f p ks x (rw gone at h)
     ]
 
-none_of_two : {A : Type 0} (xs ys : List A) → first_of (xs ++ ys) ≡ None →
-    (first_of xs ≡ None) × (first_of ys ≡ None)
-none_of_two [] ys h = (refl, h)
-none_of_two (x ∷ xs) ys h = absurd (cc)
-
--- where there is none, no piece has one
-none_among : {A : Type 0} (f : ℕ → List A) (p : ℕ → Bool) (a n k : ℕ) → a ≤ k → k < a + n →
-    p k ≡ true → first_of (flat_map f (filter p (range_with_len a n))) ≡ None →
-    first_of (f k) ≡ None
-none_among f p a zero k low below here h = absurd (omega (arith, low, below))
-none_among f p a (suc n) k low below here h =
-    elim (cases_lt a k) [
-      | inl less ↦
-          let rest = none_among f p (a + 1) n k (omega (arith, less)) (omega (arith, below)) here in
-          elim (cases_Bool (p a)) [
-            | inl there ↦
-                rest
-                (none_of_two (f a) (flat_map f (filter p (range_with_len (a + 1) n)))
-                (rw there at h)).1
-            | inr gone ↦ rest (rw gone at h)
-          ]
-      | inr more ↦
-          let same : a ≡ k = omega (arith, low, more) in
-          let there : p a ≡ true = rw same here in
-          ap (λ (j : ℕ). first_of (f j)) (sym same)
-          ∙ (none_of_two (f a) (flat_map f (filter p (range_with_len (a + 1) n)))
-          (rw there at h)).0
-    ]
-
--- THE FRAMES KNOWN WITHIN SO MANY SAMPLES
-abbrev within : Tuning → ℕ → ℕ → Bool
-within t n k = sync_in_file t k && nat_le (sync_known t k) n
-
-within_parts : (t : Tuning) (n k : ℕ) → within t n k ≡ true →
-    (sync_in_file t k ≡ true) × (sync_known t k ≤ n)
-within_parts t n k h =
-    let parts = and_parts (sync_in_file t k) (nat_le (sync_known t k) n) h in
-    (parts.0, leb-true (sync_known t k) n parts.1)
-
-within_from : (t : Tuning) (n k : ℕ) → sync_in_file t k ≡ true → sync_known t k ≤ n →
-    within t n k ≡ true
-within_from t n k inside known =
-    and_from (sync_in_file t k) (nat_le (sync_known t k) n) inside (le-leb (sync_known t k) n known)
-
-within_early : {low : ℕ} (t : Tuning) → IsSyncTimed t low → (n k : ℕ) → within t n k ≡ true →
-    k < sync_bound n
-within_early t timed n k h =
-    let parts = within_parts t n k h in
-    let between = known_between (sync_stream t) timed k parts.0 in
-    let early = timed.early k in
-    omega (arith, early, between.low, parts.1)
-
 -- THE MARK
+some_or : {A : Type 0} (one other : Option A) (x : A) → other ≡ Some x →
+    (y : A) × (option_or one other ≡ Some y)
+some_or None other x h = (x, h)
+some_or (Some y) other x h = (y, refl)
+
 -- a frame that is known within n samples, and whose message sets the mark
 pub record IsSetBy (t : Tuning) (samples : List Sample) (n : ℕ) (m : Mark) (k : ℕ) : Type 0 where
   pub inside : sync_in_file t k ≡ true
@@ -140,63 +60,35 @@ pub mark_set : (t : Tuning) (samples : List Sample) (n : ℕ) (m : Mark) →
     mark t samples n ≡ Some m → (k : ℕ) × IsSetBy t samples n m k
 unfolding mark
 mark_set t samples n m h =
-    let (k, both) = first_among (marks_at t samples) (within t n) (places (sync_bound n)) m h in
-    let parts = within_parts t n k both.0 in
+    let (k, both) = first_among (marks_at t samples) (is_by (sync_frames t) n) (places (sync_bound n)) m h in
+    let parts = by_parts (sync_frames t) n k both.0 in
     (k, record { inside = parts.0; known = parts.1; sets = both.1 })
 
 module _ (t : Tuning) (low : ℕ) (timed : IsSyncTimed t low) where
-  -- it stays where more samples are taken
-  pub mark_stays : (samples : List Sample) (n n' : ℕ) (m : Mark) → n ≤ n' →
-      mark t samples n ≡ Some m → mark t samples n' ≡ Some m
-  unfolding mark places
-  mark_stays samples n n' m more h =
-      let p = within t n in
-      let wider : (k : ℕ) → p k ≡ true → within t n' k ≡ true = λ k e.
-      let parts = within_parts t n k e in
-      within_from t n' k parts.0 (omega (arith, more, parts.1)) in
-      let front : (j k : ℕ) → j ≤ k → within t n' j ≡ true → p k ≡ true → p j ≡ true =
-      λ j k le one other.
-      let there = within_parts t n' j one in
-      let here = within_parts t n k other in
-      let sooner = known_le (sync_stream t) timed j k there.0 here.0 le in
-      within_from t n j there.0 (omega (arith, sooner, here.1)) in
-      let past : (k : ℕ) → sync_bound n ≤ k → p k ≡ false = λ k le. false_from_ne_true (p k)
-      (λ e. let less = within_early t timed n k e in omega (arith, less, le)) in
-      let longer = ranges.filter_enough p (sync_bound n) (sync_bound n') past
-      (λ k le. past k (omega (arith, le, more))) in
-      first_stays (marks_at t samples) p (within t n') 0 (sync_bound n') m wider front
-      (sym (ap (λ ks. first_of (flat_map (marks_at t samples) ks)) longer) ∙ h)
-
   -- it is set by a message of frames that are known within these samples
   pub mark_told : (samples : List Sample) (n next : ℕ) (m : Mark) → KnownBefore t next n →
       mark_before t samples next ≡ Some m → mark t samples n ≡ Some m
-  unfolding mark mark_before places
   mark_told samples n next m known h =
-      let p : ℕ → Bool = λ k. nat_le (k + 1) next && sync_in_file t k in
-      let parts : (k : ℕ) → p k ≡ true → (k < next) × (sync_in_file t k ≡ true) = λ k e.
-      let both = and_parts (nat_le (k + 1) next) (sync_in_file t k) e in
-      let less = leb-true (k + 1) next both.0 in
-      (omega (arith, less), both.1) in
-      let wider : (k : ℕ) → p k ≡ true → within t n k ≡ true = λ k e.
-      let here = parts k e in
-      within_from t n k here.1 (known k here.0 here.1) in
-      let front : (j k : ℕ) → j ≤ k → within t n j ≡ true → p k ≡ true → p j ≡ true =
-      λ j k le one other.
-      let less = (parts k other).0 in
-      and_from (nat_le (j + 1) next) (sync_in_file t j)
-      (le-leb (j + 1) next (omega (arith, le, less))) (within_parts t n j one).0 in
-      let past : (k : ℕ) → sync_bound n ≤ k → p k ≡ false = λ k le. false_from_ne_true (p k)
-      (λ e. let less = within_early t timed n k (wider k e) in omega (arith, less, le)) in
-      let behind : (k : ℕ) → next ≤ k → p k ≡ false = λ k le. false_from_ne_true (p k)
-      (λ e. let less = (parts k e).0 in omega (arith, less, le)) in
-      let same : filter (sync_in_file t) (places next) ≡ filter p (places (sync_bound n)) =
-      ranges.filter_ext_places (sync_in_file t) p next
-      (λ k below.
-      let first : nat_le (k + 1) next ≡ true = le-leb (k + 1) next (omega (arith, below)) in
-      rw first refl)
-      ∙ ranges.filter_enough p next (sync_bound n) behind past in
-      first_stays (marks_at t samples) p (within t n) 0 (sync_bound n) m wider front
-      (sym (ap (λ ks. first_of (flat_map (marks_at t samples) ks)) same) ∙ h)
+      let (last, parts) = parted (sync_frames t) (sync_ordered t timed) n in
+      elim (cases_lt last next) [
+        | inl less ↦
+            mark_is t timed samples n next known
+            (λ k above inside. parts.1 k (omega (arith, less, above)) inside)
+            ∙ h
+        | inr more ↦
+            let e : next + (last - next) ≡ last = omega (arith, more) in
+            let kept = mark_before_kept t samples next (last - next) m h in
+            mark_is t timed samples n last parts.0 parts.1 ∙ rw e at kept
+      ]
+
+  -- it stays where more samples are taken
+  pub mark_stays : (samples : List Sample) (n n' : ℕ) (m : Mark) → n ≤ n' →
+      mark t samples n ≡ Some m → mark t samples n' ≡ Some m
+  mark_stays samples n n' m more h =
+      let (next, parts) = parted (sync_frames t) (sync_ordered t timed) n in
+      mark_told samples n' next m
+      (λ k below inside. let known = parts.0 k below inside in omega (arith, known, more))
+      (sym (mark_is t timed samples n next parts.0 parts.1) ∙ h)
 
   -- the mark of the first samples is that of a file that goes on behind them
   pub mark_sooner : (xs ys : List Sample) (n : ℕ) → n ≤ length xs →
@@ -204,20 +96,22 @@ module _ (t : Tuning) (low : ℕ) (timed : IsSyncTimed t low) where
   unfolding mark
   mark_sooner xs ys n few =
       ap first_of
-      (ranges.flat_map_ext_filter (within t n) (marks_at t (xs ++ ys)) (marks_at t xs)
+      (ranges.flat_map_ext_filter (is_by (sync_frames t) n) (marks_at t (xs ++ ys)) (marks_at t xs)
       (places (sync_bound n))
       (λ k h.
-      let parts = within_parts t n k h in
+      let parts = by_parts (sync_frames t) n k h in
       marks_at_sooner t low timed xs ys k parts.0 (omega (arith, parts.1, few))))
 
-  -- a mark that isn't set yet has no frame among those that are known
-  none_sets : (samples : List Sample) (n k : ℕ) → mark t samples n ≡ None →
-      sync_in_file t k ≡ true → sync_known t k ≤ n → first_of (marks_at t samples k) ≡ None
-  unfolding mark places
-  none_sets samples n k none inside known =
-      let here = within_from t n k inside known in
-      none_among (marks_at t samples) (within t n) 0 (sync_bound n) k (omega arith)
-      (omega (arith, within_early t timed n k here)) here none
+  -- where it isn't set no frame that is known sets it
+  unset : (samples : List Sample) (n k : ℕ) (m : Mark) → mark t samples n ≡ None →
+      sync_in_file t k ≡ true → sync_known t k ≤ n → ¬ (first_of (marks_at t samples k) ≡ Some m)
+  unset samples n k m none inside known = λ sets.
+      let before = mark_before t samples k in
+      let (x, some) = some_or before (first_of (marks_at t samples k)) m sets in
+      let found = mark_told samples n (k + 1) x (known_with t timed k n inside known)
+      (mark_before_more t samples k inside ∙ some) in
+      let both : None ≡ Some x = sym none ∙ found in
+      absurd (cc)
 
   -- It lies behind the samples within which it isn't set yet.
   pub mark_behind : AreNear (sync_stream t).fingers → (samples : List Sample) (n n' : ℕ)
@@ -227,10 +121,7 @@ module _ (t : Tuning) (low : ℕ) (timed : IsSyncTimed t low) where
       let later = mark_later t samples k low near timed set.inside m pilot set.sets in
       elim (cases_lt n (sync_known t k)) [
         | inl less ↦ omega (arith, less, later)
-        | inr most ↦
-            let lost = none_sets samples n k none set.inside most in
-            let found = set.sets in
-            absurd (cc)
+        | inr most ↦ absurd (unset samples n k m none set.inside most set.sets)
       ]
 
 -- THE PILOT'S NUMBER
@@ -276,6 +167,24 @@ mark_pilot t samples n m h =
     marks_pn (frame_start (sync_stream t) (k + 1 - frames_open t samples (k + 1)))
     (heard_at t samples k) m (λ heard e. heard_pn t.check30 (sync_capsule_at t samples k) heard e)
     set.sets
+
+-- What is heard at n samples, and not before the mark, is told by any later mark.
+pub by_one_mark : {E : Type 0} (t : Tuning) → AreNear (sync_stream t).fingers →
+    (samples : List Sample) (n n' : ℕ) (heard : Option Mark → List E) → n ≤ n' →
+    heard None ≡ [] → ((m : Mark) → n < m.sample → heard (Some m) ≡ []) →
+    heard (mark t samples n) ≡ heard (mark t samples n')
+by_one_mark t near samples n n' heard more none early =
+    by_marks (mark t samples n) (mark t samples n') refl refl
+  where
+    by_marks : (now later : Option Mark) → mark t samples n ≡ now → mark t samples n' ≡ later →
+        heard now ≡ heard later
+    by_marks (Some m) later e e' =
+        ap heard (sym (mark_stays t _ (timed_of t near) samples n n' m more e) ∙ e')
+    by_marks None None e e' = refl
+    by_marks None (Some m) e e' =
+        let pilot = mark_pilot t samples n' m e' in
+        let before = mark_behind t _ (timed_of t near) near samples n n' m pilot e e' in
+        none ∙ sym (early m before)
 
 -- PAGING CHANNELS
 -- fingers are as near on one Walsh row as on another
@@ -327,23 +236,11 @@ module _ (t : Tuning) (near : AreNear (sync_stream t).fingers) (channel : ℕ) w
   pub pages_by_one_mark : (samples : List Sample) (n n' : ℕ) → n ≤ n' →
       pages_behind t channel (mark t samples n) samples n
       ≡ pages_behind t channel (mark t samples n') samples n
-  pages_by_one_mark samples n n' more = by_marks (mark t samples n) (mark t samples n') refl refl
-    where
-      either : (b : Bool) (m : Mark) → n < m.sample →
-          [] ≡ (if b then pages_at t channel m samples n else [])
-      either true m before = sym (pages_later samples n m (omega (arith, before)))
-      either false m before = refl
-
-      by_marks : (now later : Option Mark) → mark t samples n ≡ now → mark t samples n' ≡ later →
-          pages_behind t channel now samples n ≡ pages_behind t channel later samples n
-      by_marks (Some m) later e e' =
-          ap (λ (x : Option Mark). pages_behind t channel x samples n)
-          (sym (mark_stays t _ (timed_of t near) samples n n' m more e) ∙ e')
-      by_marks None None e e' = refl
-      by_marks None (Some m) e e' =
-          let pilot = mark_pilot t samples n' m e' in
-          either (nat_lt m.prat 2) m
-          (mark_behind t _ (timed_of t near) near samples n n' m pilot e e')
+  pages_by_one_mark samples n n' more =
+      by_one_mark t near samples n n' (λ set. pages_behind t channel set samples n) more refl
+      (λ m before.
+      unrated (nat_lt m.prat 2) (pages_at t channel m samples n)
+      (pages_later samples n m (omega (arith, before))))
 
 -- TRAFFIC CHANNELS
 -- one active pilot, the reference's, has the reference's fingers
@@ -382,15 +279,19 @@ module _ (t : Tuning) (near : AreNear (sync_stream t).fingers) (traffic : Traffi
         omega (arith, e, same, low, before)
 
     frames_later : frames_at t traffic m samples n ≡ []
+    unfolding frames_by
     frames_later =
-        frames_none t traffic m (legs_at t traffic m samples n) (take n samples) n
-        (λ k inside. traffic_later k)
+        ap (map (frame_heard t traffic m (legs_at t traffic m samples n) (take n samples) n))
+        (none_now (frames_of t traffic m (legs_at t traffic m samples n)) n
+        (λ k inside. traffic_later k))
 
     -- nor does one complete a message
     messages_later : messages_at t traffic m samples n ≡ []
+    unfolding messages_by
     messages_later =
-        messages_none t traffic m (legs_at t traffic m samples n) (take n samples) n
-        (λ k inside. traffic_later k)
+        ap (flat_map (message_heard t traffic m (legs_at t traffic m samples n) (take n samples) n))
+        (none_now (frames_of t traffic m (legs_at t traffic m samples n)) n
+        (λ k inside. traffic_later k))
 
     -- nor does a moment lie there
     sets_later : sets_at t traffic m samples n ≡ []
@@ -400,67 +301,52 @@ module _ (t : Tuning) (near : AreNear (sync_stream t).fingers) (traffic : Traffi
         ne_eqb (moment_place m (moments_before m n + 1)) n (λ e. omega (arith, e, before)) in
         rw elsewhere refl
 
-module _ (t : Tuning) (near : AreNear (sync_stream t).fingers) where
-  -- no frame is heard before the mark
-  pub frames_before_mark : (followed : Option Traffic) (samples : List Sample) (n : ℕ) (m : Mark) →
-      n ≤ m.sample → frames_behind t followed (Some m) samples n ≡ []
-  frames_before_mark None samples n m before = refl
-  frames_before_mark (Some traffic) samples n m before =
-      frames_later t near traffic m samples n before
+-- what is heard of no channel before a mark, and of none where no mark is set
+unfollowed : (heard : Traffic → Mark → List Event) (followed : Option Traffic) (m : Mark) →
+    ((traffic : Traffic) → heard traffic m ≡ []) → if_followed heard followed (Some m) ≡ []
+unfollowed heard None m none = refl
+unfollowed heard (Some traffic) m none = none traffic
 
-  -- and no message
-  pub messages_before_mark : (followed : Option Traffic) (samples : List Sample) (n : ℕ)
-      (m : Mark) → n ≤ m.sample → messages_behind t followed (Some m) samples n ≡ []
-  messages_before_mark None samples n m before = refl
-  messages_before_mark (Some traffic) samples n m before =
-      messages_later t near traffic m samples n before
+unmarked : (heard : Traffic → Mark → List Event) (followed : Option Traffic) →
+    if_followed heard followed None ≡ []
+unmarked heard None = refl
+unmarked heard (Some traffic) = refl
 
-  -- and nothing of the pilot sets
-  pub sets_before_mark : (followed : Option Traffic) (samples : List Sample) (n : ℕ) (m : Mark) →
-      n ≤ m.sample → sets_behind t followed (Some m) samples n ≡ []
-  sets_before_mark None samples n m before = refl
-  sets_before_mark (Some traffic) samples n m before =
-      sets_later t near traffic m samples n before
+module _ (t : Tuning) (near : AreNear (sync_stream t).fingers) (followed : Option Traffic)
+    (samples : List Sample) where
+  -- before the mark no frame is heard, nor a message, nor anything of the pilot sets
+  pub frames_before_mark : (n : ℕ) (m : Mark) → n ≤ m.sample →
+      frames_behind t followed (Some m) samples n ≡ []
+  frames_before_mark n m before =
+      unfollowed (λ traffic m'. frames_at t traffic m' samples n) followed m
+      (λ traffic. frames_later t near traffic m samples n before)
 
-  pub no_mark : (heard : Traffic → Mark → List Event) (followed : Option Traffic) →
-      if_followed heard followed None ≡ []
-  no_mark heard None = refl
-  no_mark heard (Some traffic) = refl
+  pub messages_before_mark : (n : ℕ) (m : Mark) → n ≤ m.sample →
+      messages_behind t followed (Some m) samples n ≡ []
+  messages_before_mark n m before =
+      unfollowed (λ traffic m'. messages_at t traffic m' samples n) followed m
+      (λ traffic. messages_later t near traffic m samples n before)
 
-  -- What is heard at n samples, and not before the mark, is told by any later mark.
-  by_one_mark : (heard : Traffic → Mark → List Event) (followed : Option Traffic)
-      (samples : List Sample) (n n' : ℕ) → n ≤ n' →
-      ((m : Mark) → n ≤ m.sample → if_followed heard followed (Some m) ≡ []) →
-      if_followed heard followed (mark t samples n)
-      ≡ if_followed heard followed (mark t samples n')
-  by_one_mark heard followed samples n n' more early =
-      by_marks (mark t samples n) (mark t samples n') refl refl
-    where
-      by_marks : (now later : Option Mark) → mark t samples n ≡ now → mark t samples n' ≡ later →
-          if_followed heard followed now ≡ if_followed heard followed later
-      by_marks (Some m) later e e' =
-          ap (if_followed heard followed)
-          (sym (mark_stays t _ (timed_of t near) samples n n' m more e) ∙ e')
-      by_marks None None e e' = refl
-      by_marks None (Some m) e e' =
-          let pilot = mark_pilot t samples n' m e' in
-          let before = mark_behind t _ (timed_of t near) near samples n n' m pilot e e' in
-          no_mark heard followed ∙ sym (early m (omega (arith, before)))
+  pub sets_before_mark : (n : ℕ) (m : Mark) → n ≤ m.sample →
+      sets_behind t followed (Some m) samples n ≡ []
+  sets_before_mark n m before =
+      unfollowed (λ traffic m'. sets_at t traffic m' samples n) followed m
+      (λ traffic. sets_later t near traffic m samples n before)
 
-  -- The frame that is heard at n samples is told by any later mark.
-  pub frames_by_one_mark : (followed : Option Traffic) (samples : List Sample) (n n' : ℕ) →
-      n ≤ n' →
+  -- the frame that is heard at n samples is told by any later mark, and so is the message that it
+  -- completes
+  pub frames_by_one_mark : (n n' : ℕ) → n ≤ n' →
       frames_behind t followed (mark t samples n) samples n
       ≡ frames_behind t followed (mark t samples n') samples n
-  frames_by_one_mark followed samples n n' more =
-      by_one_mark (λ traffic m. frames_at t traffic m samples n) followed samples n n' more
-      (frames_before_mark followed samples n)
+  frames_by_one_mark n n' more =
+      by_one_mark t near samples n n' (λ set. frames_behind t followed set samples n) more
+      (unmarked (λ traffic m. frames_at t traffic m samples n) followed)
+      (λ m before. frames_before_mark n m (omega (arith, before)))
 
-  -- And so is the message that it completes.
-  pub messages_by_one_mark : (followed : Option Traffic) (samples : List Sample) (n n' : ℕ) →
-      n ≤ n' →
+  pub messages_by_one_mark : (n n' : ℕ) → n ≤ n' →
       messages_behind t followed (mark t samples n) samples n
       ≡ messages_behind t followed (mark t samples n') samples n
-  messages_by_one_mark followed samples n n' more =
-      by_one_mark (λ traffic m. messages_at t traffic m samples n) followed samples n n' more
-      (messages_before_mark followed samples n)
+  messages_by_one_mark n n' more =
+      by_one_mark t near samples n n' (λ set. messages_behind t followed set samples n) more
+      (unmarked (λ traffic m. messages_at t traffic m samples n) followed)
+      (λ m before. messages_before_mark n m (omega (arith, before)))

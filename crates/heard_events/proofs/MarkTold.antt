@@ -1,60 +1,50 @@
 -- The event of the message that sets the mark is among those of its number of samples.
 use Rattle.heard_events.proofs.Common.{◌≡◌, ℕ, zero, suc, ◌+◌, ◌-◌, ◌<◌, ◌≤◌, Bool, true, false, List, [], ◌∷◌, ◌++◌, length, refl, sym, ap}
-use Rattle.heard_events.proofs.Common.{◌∙◌, arith, inl, inr, nat_le, ◌==◌, ◌&&◌, Some, is_some, flat_map, list_all, list_any, range_with_len}
-use Rattle.heard_events.proofs.Common.{and_from, and_parts, cases_Bool, cases_lt, eq-eqb, le-leb, or_cases, or_left, or_right}
-use Rattle.heard_events.proofs.Common.{list_all-append, list_any-append, flat_map-places-more, places, Sample, events_at, frame_events_at}
-use Rattle.heard_events.proofs.Common.{heard_within, message_events_at, paging_events_at, sets_events_at, at_of, first_of, frames_open}
-use Rattle.heard_events.proofs.Common.{marks_at, sets_mark, frame_start, events_of, heard_at, sync_events_at, Tuning, sync_bound}
-use Rattle.heard_events.proofs.Common.{sync_stream, Event, Mark, Option, None, marks_of, SpelledMessage}
+use Rattle.heard_events.proofs.Common.{◌∙◌, arith, inl, inr, nat_le, ◌==◌, ◌&&◌, Some, is_some, flat_map, list_all, list_any}
+use Rattle.heard_events.proofs.Common.{range_with_len, and_from, and_parts, cases_Bool, cases_lt, eq-eqb, le-leb, or_cases, or_left}
+use Rattle.heard_events.proofs.Common.{or_right, list_all-append, list_any-append, flat_map-places-more, places, Sample, events_at}
+use Rattle.heard_events.proofs.Common.{frame_events_at, heard_within, message_events_at, paging_events_at, sets_events_at, at_of, first_of}
+use Rattle.heard_events.proofs.Common.{frames_open, marks_at, sets_mark, frame_start, events_of, heard_at, sync_events_at, Tuning}
+use Rattle.heard_events.proofs.Common.{sync_bound, sync_stream, Event, Mark, Option, None, marks_of, SpelledMessage}
 use Rattle.std.specs.List.{filter}
 use Rattle.heard_events.proofs.EventPlaces.{AreAt, all_at}
 use Rattle.heard_events.proofs.FrameTimes.{known_between}
-use Rattle.heard_events.proofs.Growth.{IsSyncTimed, sync_in_file, sync_known}
+use Rattle.heard_events.proofs.Growth.{IsSyncTimed, sync_in_file, sync_known, sync_frames}
+use Rattle.heard_events.proofs.Arrivals.{every, given_less, given_more, is_now}
 
 -- WHAT STANDS IN LISTS
--- a piece that has one gives one
-any_in : {A : Type 0} (q : A → Bool) (f : ℕ → List A) (a n k : ℕ) → a ≤ k → k < a + n →
-    list_any q (f k) ≡ true → list_any q (flat_map f (range_with_len a n)) ≡ true
-any_in q f a zero k low below h = absurd (omega (arith, low, below))
-any_in q f a (suc n) k low below h =
-    let rest = flat_map f (range_with_len (a + 1) n) in
-    elim (cases_lt a k) [
+-- of numbers that pass a test, one whose piece has one gives one
+any_kept : {A : Type 0} (q : A → Bool) (f : ℕ → List A) (p : ℕ → Bool) (n k : ℕ) → k < n →
+    p k ≡ true → list_any q (f k) ≡ true →
+    list_any q (flat_map f (filter p (places n))) ≡ true
+any_kept q f p zero k below here h = absurd (omega (arith, below))
+any_kept q f p (suc n) k below here h =
+    let e : suc n ≡ n + 1 = omega arith in
+    let before = flat_map f (filter p (places n)) in
+    rw e
+    (elim (cases_lt k n) [
       | inl less ↦
-          let later = any_in q f (a + 1) n k (omega (arith, less)) (omega (arith, below)) h in
-          list_any-append q (f a) rest ∙ or_right (list_any q (f a)) (list_any q rest) later
-      | inr more ↦
-          let same : a ≡ k = omega (arith, low, more) in
-          list_any-append q (f a) rest
-          ∙ or_left (list_any q (f a)) (list_any q rest)
-          (ap (λ (j : ℕ). list_any q (f j)) same ∙ h)
-    ]
-
--- the same of the numbers that pass a test
-any_kept : {A : Type 0} (q : A → Bool) (f : ℕ → List A) (p : ℕ → Bool) (a n k : ℕ) → a ≤ k →
-    k < a + n → p k ≡ true → list_any q (f k) ≡ true →
-    list_any q (flat_map f (filter p (range_with_len a n))) ≡ true
-any_kept q f p a zero k low below here h = absurd (omega (arith, low, below))
-any_kept q f p a (suc n) k low below here h =
-    let rest = flat_map f (filter p (range_with_len (a + 1) n)) in
-    elim (cases_lt a k) [
-      | inl less ↦
-          let later =
-          any_kept q f p (a + 1) n k (omega (arith, less)) (omega (arith, below)) here h in
-          elim (cases_Bool (p a)) [
+          let found = any_kept q f p n k less here h in
+          elim (cases_Bool (p n)) [
             | inl there ↦
-                rw there
-                (list_any-append q (f a) rest
-                ∙ or_right (list_any q (f a)) (list_any q rest) later)
-            | inr gone ↦ rw gone later
+                ap (list_any q) (given_more p f n there)
+                ∙ list_any-append q before (f n)
+                ∙ or_left (list_any q before) (list_any q (f n)) found
+            | inr gone ↦ ap (λ ks. list_any q (flat_map f ks)) (given_less p n gone) ∙ found
           ]
       | inr more ↦
-          let same : a ≡ k = omega (arith, low, more) in
-          let there : p a ≡ true = ap p same ∙ here in
-          rw there
-          (list_any-append q (f a) rest
-          ∙ or_left (list_any q (f a)) (list_any q rest)
-          (ap (λ (j : ℕ). list_any q (f j)) same ∙ h))
-    ]
+          let same : k ≡ n = omega (arith, below, more) in
+          ap (list_any q) (given_more p f n (ap p (sym same) ∙ here))
+          ∙ list_any-append q before (f n)
+          ∙ or_right (list_any q before) (list_any q (f n))
+          (ap (λ (j : ℕ). list_any q (f j)) (sym same) ∙ h)
+    ])
+
+any_in : {A : Type 0} (q : A → Bool) (f : ℕ → List A) (n k : ℕ) → k < n →
+    list_any q (f k) ≡ true → list_any q (flat_map f (places n)) ≡ true
+any_in q f n k below h =
+    ap (λ ks. list_any q (flat_map f ks)) (sym (every (places n)))
+    ∙ any_kept q f (λ j. true) n k below refl h
 
 -- What some of a list's first part have, those before the first of its second part have.
 pub first_part : {A : Type 0} (p q : A → Bool) (xs ys later zs : List A) (e : A) → p e ≡ false →
@@ -125,16 +115,15 @@ module _ (t : Tuning) (samples : List Sample) (k low : ℕ) (timed : IsSyncTimed
 
   -- it is among those of the number of samples at which its frame is known
   among_sync : list_any sets_mark (sync_events_at t samples (sync_known t k)) ≡ true
-  unfolding sync_events_at places
+  unfolding sync_events_at
   among_sync =
       let n : ℕ = sync_known t k in
       let between = known_between (sync_stream t) timed k inside in
       let early = timed.early k in
       let here : (sync_in_file t k && sync_known t k == n) ≡ true =
       and_from (sync_in_file t k) (sync_known t k == n) inside (eq-eqb (sync_known t k) n refl) in
-      any_kept sets_mark (λ j. events_of n (heard_at t samples j))
-      (λ j. sync_in_file t j && sync_known t j == n) 0 (sync_bound n) k (omega arith)
-      (omega (arith, between.low, early)) here told_so
+      any_kept sets_mark (λ j. events_of n (heard_at t samples j)) (is_now (sync_frames t) n)
+      (sync_bound n) k (omega (arith, between.low, early)) here told_so
 
   among : list_any sets_mark (events_at t samples (sync_known t k)) ≡ true
   unfolding events_at
@@ -150,10 +139,8 @@ module _ (t : Tuning) (samples : List Sample) (k low : ℕ) (timed : IsSyncTimed
   -- and so among all that end before a later one
   pub among_before : (n : ℕ) → sync_known t k < n →
       list_any sets_mark (flat_map (events_at t samples) (places n)) ≡ true
-  unfolding places
   among_before n less =
-      any_in sets_mark (events_at t samples) 0 n (sync_known t k) (omega arith)
-      (omega (arith, less)) among
+      any_in sets_mark (events_at t samples) n (sync_known t k) less among
 
 module _ (t : Tuning) (samples : List Sample) where
   -- all that end before a number of samples do

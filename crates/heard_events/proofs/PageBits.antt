@@ -1,13 +1,11 @@
 -- The bits of the frames in a file that follow one another, over any stream.
-use Rattle.heard_events.proofs.Common.{◌≡◌, ℕ, ◌+◌, ◌<◌, ◌≤◌, true, List, [], ◌∷◌, ◌++◌, length, refl, ap, ◌∙◌, arith, if◌then◌else◌}
-use Rattle.heard_events.proofs.Common.{flat_map, flat_map-append, places, Sample, AreBegun, AreNear, low_in, bits_before, Stream}
-use Rattle.heard_events.proofs.Common.{frame_own_bits, is_in_file, known_at, IsTimed, filter-places-more, filter_ext_places}
-use Rattle.heard_events.proofs.Common.{filter_none_places, flat_map_ext_filter_places}
-use Rattle.std.specs.List.{filter}
-use Rattle.std.proofs.lemmas.List.{append-nil}
+use Rattle.heard_events.proofs.Common.{◌≡◌, ℕ, ◌+◌, ◌<◌, ◌≤◌, true, List, [], ◌++◌, length, ap, ◌∙◌, arith, if◌then◌else◌, flat_map, places}
+use Rattle.heard_events.proofs.Common.{Sample, AreBegun, AreNear, low_in, bits_before, Stream, frame_own_bits, is_in_file, known_at}
+use Rattle.heard_events.proofs.Common.{IsTimed, filter_ext_places, filter_none_places, flat_map_ext_filter_places}
 use Rattle.heard_events.proofs.FingerTimes.{timed_in}
 use Rattle.heard_events.proofs.FrameTimes.{ends_lt, inside_from, inside_to, outside_low}
 use Rattle.heard_events.proofs.Spans.{own_bits_sooner}
+use Rattle.heard_events.proofs.Arrivals.{given_more, every}
 
 -- those of one frame more
 pub bits_before_more : (count : ℕ) (xs : List Sample) (s : Stream) (k : ℕ) →
@@ -15,11 +13,7 @@ pub bits_before_more : (count : ℕ) (xs : List Sample) (s : Stream) (k : ℕ) �
     bits_before count xs s (k + 1) ≡ bits_before count xs s k ++ frame_own_bits count xs s k
 unfolding bits_before
 bits_before_more count xs s k inside =
-    let own = frame_own_bits count xs s in
-    let kept = filter (is_in_file count s) (places k) in
-    ap (flat_map own) (filter-places-more (is_in_file count s) k inside)
-    ∙ flat_map-append own kept (k ∷ [])
-    ∙ ap (λ bits. flat_map own kept ++ bits) (append-nil (own k))
+    given_more (is_in_file count s) (frame_own_bits count xs s) k inside
 
 pub bits_before_none : (count : ℕ) (xs : List Sample) (s : Stream) (low k : ℕ) →
     IsTimed count s low → k ≤ low → bits_before count xs s k ≡ []
@@ -38,10 +32,6 @@ bits_before_sooner {count} s waits timed xs ys k known =
     flat_map_ext_filter_places (is_in_file count s) (frame_own_bits count (xs ++ ys) s)
     (frame_own_bits count xs s) k
     (λ j below inside. own_bits_sooner s timed xs ys j waits inside (known j below inside))
-
-every : (xs : List ℕ) → filter (λ k. true) xs ≡ xs
-every [] = refl
-every (x ∷ xs) = ap (λ (ys : List ℕ). x ∷ ys) (every xs)
 
 -- where frame 0 begins in the file on each finger, those of all frames before one in the file
 pub bits_before_all : (count : ℕ) (xs : List Sample) (s : Stream) (k : ℕ) → AreNear s.fingers →

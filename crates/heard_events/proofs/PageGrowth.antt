@@ -1,32 +1,61 @@
--- How the messages of a paging channel grow with a file's samples.
-use Rattle.heard_events.proofs.Common.{◌≡◌, ℕ, ◌+◌, ◌-◌, ◌<◌, ◌≤◌, ◌==◌, ◌&&◌, Bool, true, List, [], ◌++◌, length, nat_le, take, refl, ap}
-use Rattle.heard_events.proofs.Common.{◌∙◌, arith, Option, if◌then◌else◌, flat_map, range_with_len, option_to_list, places, Sample}
-use Rattle.heard_events.proofs.Common.{half_frame_body, half_frame_capsule_ending, bits_before, bits_up_to, page_at, page_in, pages_at}
-use Rattle.heard_events.proofs.Common.{pages_from, pages_left, paging_bound, paging_rate, paging_stream, frame_own_bits, is_in_file}
-use Rattle.heard_events.proofs.Common.{known_at, IsTimed, Tuning, Mark, SpelledPage, flat_map_ext_filter, flat_map_ext_range}
-use Rattle.heard_events.proofs.FrameTimes.{known_le}
+-- What is left of a paging channel's messages, and how they grow with a file's samples.
+use Rattle.heard_events.proofs.Common.{◌≡◌, ℕ, suc, ◌+◌, ◌-◌, ◌<◌, ◌≤◌, ◌==◌, Bool, true, false, List, [], ◌++◌, length, refl, sym, ap, ◌∙◌}
+use Rattle.heard_events.proofs.Common.{arith, if◌then◌else◌, flat_map, range_with_len, option_to_list, eq-eqb, ne_eqb, Sample, page_at}
+use Rattle.heard_events.proofs.Common.{pages_from, pages_left, paging_bound, paging_stream, frame_own_bits, is_in_file, known_at, IsTimed}
+use Rattle.heard_events.proofs.Common.{Tuning, Mark, SpelledPage, take, Option, half_frame_body, half_frame_capsule_ending, bits_before}
+use Rattle.heard_events.proofs.Common.{bits_up_to, page_in, pages_at, paging_rate, flat_map_ext_range}
+use Rattle.heard_events.proofs.Arrivals.{Arrivals, NoneBefore, NoneNow, all_left, frames_in, gives_same, left, left_same, next_left}
+use Rattle.heard_events.proofs.Arrivals.{none_left, none_now}
+use Rattle.heard_events.proofs.FrameTimes.{known_between, known_le}
 use Rattle.heard_events.proofs.PageBits.{bits_before_sooner}
-use Rattle.heard_events.proofs.PagesLeft.{either_way}
 use Rattle.heard_events.proofs.Spans.{own_bits_sooner}
-use Rattle.heard_events.proofs.FramesLeft as left
 
+either_way : (b : Bool) (i : ℕ) → (if b then i else i) ≡ i
+either_way true i = refl
+either_way false i = refl
+
+abbrev pub page_frames : Tuning → ℕ → Mark → Arrivals
+page_frames t channel m = frames_in t.count (paging_stream t channel m) paging_bound
+
+-- THE BITS OF A FRAME
+module _ (t : Tuning) (channel : ℕ) (m : Mark) (heard : List Sample) where
+  -- one bit's message is the first of those of the bits from it on
+  pub pages_next : (k i : ℕ) →
+      i < length (frame_own_bits t.count heard (paging_stream t channel m) k) →
+      pages_from t channel m heard k i
+      ≡ option_to_list (page_at t channel m heard k i) ++ pages_from t channel m heard k (i + 1)
+  unfolding pages_from
+  pages_next k i below =
+      let size : ℕ = length (frame_own_bits t.count heard (paging_stream t channel m) k) in
+      let f : ℕ → List SpelledPage = λ j. option_to_list (page_at t channel m heard k j) in
+      let more : size - i ≡ suc (size - (i + 1)) = omega arith in
+      ap (λ (n : ℕ). flat_map f (range_with_len i n)) more
+
+  -- behind the last bit there are none
+  pub pages_behind_last : (k i : ℕ) →
+      length (frame_own_bits t.count heard (paging_stream t channel m) k) ≤ i →
+      pages_from t channel m heard k i ≡ []
+  unfolding pages_from
+  pages_behind_last k i above =
+      let size : ℕ = length (frame_own_bits t.count heard (paging_stream t channel m) k) in
+      let f : ℕ → List SpelledPage = λ j. option_to_list (page_at t channel m heard k j) in
+      let none : size - i ≡ 0 = omega arith in
+      ap (λ (n : ℕ). flat_map f (range_with_len i n)) none
+
+-- WHAT IS LEFT
 module _ (t : Tuning) (channel : ℕ) (m : Mark) where
   -- where no frame before `next` is known just now, all of this moment's messages are left
   pub pages_left_all : (xs : List Sample) (next : ℕ) →
-      ((k : ℕ) → k < next → is_in_file t.count (paging_stream t channel m) k ≡ true →
-      ¬ (known_at t.count (paging_stream t channel m) k ≡ length xs)) →
+      NoneBefore (page_frames t channel m) next (length xs) →
       pages_left t channel m xs next 0 ≡ pages_at t channel m xs (length xs)
   unfolding pages_left pages_at
-  pages_left_all xs next h =
-      let s = paging_stream t channel m in
-      let n : ℕ = length xs in
-      let f : ℕ → List SpelledPage =
-      λ k. pages_from t channel m xs k (if k == next then 0 else 0) in
-      let g : ℕ → List SpelledPage = λ k. pages_from t channel m xs k 0 in
-      flat_map_ext_filter (λ k. nat_le next k && left.is_now t.count s n k) f g
-      (places (paging_bound n))
-      (λ k kept. ap (pages_from t channel m xs k) (either_way (k == next) 0))
-      ∙ left.now_left t.count s g n (paging_bound n) next h
+  pages_left_all xs next none =
+      left_same (page_frames t channel m)
+      (λ k. pages_from t channel m xs k (if k == next then 0 else 0))
+      (λ k. pages_from t channel m xs k 0) next (length xs)
+      (λ k above inside known. ap (pages_from t channel m xs k) (either_way (k == next) 0))
+      ∙ ap (flat_map (λ k. pages_from t channel m xs k 0))
+      (all_left (page_frames t channel m) next (length xs) none)
 
   -- where each from `next` on is known later, nothing is left
   pub pages_left_none : (xs : List Sample) (next place : ℕ) →
@@ -35,19 +64,17 @@ module _ (t : Tuning) (channel : ℕ) (m : Mark) where
       pages_left t channel m xs next place ≡ []
   unfolding pages_left
   pages_left_none xs next place h =
-      left.none_left t.count (paging_stream t channel m)
-      (λ k. pages_from t channel m xs k (if k == next then place else 0)) (length xs)
-      (paging_bound (length xs)) next
-      (λ k low inside e. let later = h k low inside in omega arith)
+      ap (flat_map (λ k. pages_from t channel m xs k (if k == next then place else 0)))
+      (none_left (page_frames t channel m) next (length xs)
+      (λ k low inside e. let later = h k low inside in omega arith))
 
   -- where no frame is known just now, there is no message
-  pub pages_none : (xs : List Sample) (n : ℕ) →
-      ((k : ℕ) → is_in_file t.count (paging_stream t channel m) k ≡ true →
-      ¬ (known_at t.count (paging_stream t channel m) k ≡ n)) → pages_at t channel m xs n ≡ []
+  pub pages_none : (xs : List Sample) (n : ℕ) → NoneNow (page_frames t channel m) n →
+      pages_at t channel m xs n ≡ []
   unfolding pages_at
-  pages_none xs n h =
-      left.now_none t.count (paging_stream t channel m) (λ k. pages_from t channel m xs k 0) n
-      (paging_bound n) h
+  pages_none xs n none =
+      ap (flat_map (λ k. pages_from t channel m xs k 0))
+      (none_now (page_frames t channel m) n none)
 
   module _ (low : ℕ) (timed : IsTimed t.count (paging_stream t channel m) low) where
     -- what a frame completes that is known stays where more samples follow
@@ -88,9 +115,32 @@ module _ (t : Tuning) (channel : ℕ) (m : Mark) where
         pages_at t channel m (xs ++ ys) n ≡ pages_at t channel m xs n
     unfolding pages_at
     pages_sooner xs ys n h =
-        let s = paging_stream t channel m in
-        flat_map_ext_filter (left.is_now t.count s n) (λ k. pages_from t channel m (xs ++ ys) k 0)
-        (λ k. pages_from t channel m xs k 0) (places (paging_bound n))
-        (λ k both.
-        let parts = left.now_parts t.count s n k both in
-        pages_from_sooner xs ys k 0 parts.0 (omega (arith, parts.1)))
+        gives_same (page_frames t channel m) (λ k. pages_from t channel m (xs ++ ys) k 0)
+        (λ k. pages_from t channel m xs k 0) n
+        (λ k inside known. pages_from_sooner xs ys k 0 inside (omega (arith, known, h)))
+
+    -- the messages of a frame that is known just now are the first of those left
+    pub left_next : (heard : List Sample) (next place : ℕ) →
+        is_in_file t.count (paging_stream t channel m) next ≡ true →
+        known_at t.count (paging_stream t channel m) next ≡ length heard →
+        pages_left t channel m heard next place
+        ≡ pages_from t channel m heard next place ++ pages_left t channel m heard (next + 1) 0
+    unfolding pages_left
+    left_next heard next place inside known =
+        let frames = page_frames t channel m in
+        let n : ℕ = length heard in
+        let early = timed.early next in
+        let most = (known_between (paging_stream t channel m) timed next inside).low in
+        let pages : ℕ → ℕ → List SpelledPage = pages_from t channel m heard in
+        let f : ℕ → List SpelledPage = λ k. pages k (if k == next then place else 0) in
+        let g : ℕ → List SpelledPage = λ k. pages k (if k == next + 1 then 0 else 0) in
+        let here : f next ≡ pages next place =
+        ap (λ b. pages next (if b then place else 0)) (eq-eqb next next refl) in
+        let others = left_same frames f g (next + 1) n
+        (λ k above inside' known'.
+        ap (λ b. pages k (if b then place else 0)) (ne_eqb k next (λ e. omega (arith, e, above)))
+        ∙ sym (ap (pages k) (either_way (k == next + 1) 0))) in
+        let rest = flat_map f (left frames (next + 1) n) in
+        ap (flat_map f) (next_left frames next n (omega (arith, early, most, known)) inside known)
+        ∙ ap (λ (ps : List SpelledPage). ps ++ rest) here
+        ∙ ap (λ (ps : List SpelledPage). pages next place ++ ps) others

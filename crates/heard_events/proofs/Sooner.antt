@@ -1,10 +1,91 @@
--- What is read from the first samples stays where more samples follow.
+-- What is read of a frame hangs on its fingers' samples alone, and so stays where more samples follow.
 use Rattle.heard_events.proofs.Common.{◌≡◌, ℕ, ◌+◌, ◌*◌, ◌/◌, ◌<◌, ◌≤◌, true, ◌&&◌, List, [], ◌∷◌, ◌++◌, map, length, take, drop, refl, ap}
 use Rattle.heard_events.proofs.Common.{arith, ℤ, pos, ◌+ℤ◌, ◌-ℤ◌, length-drop, unsigned_abs, int_le, ints, and_parts, take-append-le}
 use Rattle.heard_events.proofs.Common.{drop-append-le, sum_of, total, Sample, despread, symbol_chips, window_chips, symbols, frame_chips}
-use Rattle.heard_events.proofs.Common.{finger_place, despread_at, covered_from, pilot_sum, symbol_sum, soft, softs, Finger, Form, Sync, Data}
-use Rattle.heard_events.proofs.Common.{is_within, frame_end, map_ext_places}
+use Rattle.heard_events.proofs.Common.{finger_place, despread_at, covered_from, pilot_sum, symbol_sum, soft, softs, Finger, Form, Sync}
+use Rattle.heard_events.proofs.Common.{Data, is_within, frame_end, map_ext_places, ◌-◌, sym, ◌∙◌, drop-drop, drop-take, take-take, AgreeIn}
 
+-- a part of a part
+part_is : {A : Type 0} (xs : List A) (place off count m : ℕ) → off + count ≤ m →
+    take count (drop off (take m (drop place xs))) ≡ take count (drop (place + off) xs)
+part_is xs place off count m fits =
+    let rest : ℕ = m - off in
+    let whole : m ≡ off + rest = omega (arith, fits) in
+    ap (λ (n : ℕ). take count (drop off (take n (drop place xs)))) whole
+    ∙ ap (take count) (drop-take off rest (drop place xs))
+    ∙ take-take count rest (drop off (drop place xs)) (omega (arith, fits))
+    ∙ ap (take count) (drop-drop off place xs)
+
+part_same : {A : Type 0} (one other : List A) (place off count m : ℕ) → off + count ≤ m →
+    take m (drop place one) ≡ take m (drop place other) →
+    take count (drop (place + off) one) ≡ take count (drop (place + off) other)
+part_same one other place off count m fits same =
+    sym (part_is one place off count m fits)
+    ∙ ap (λ xs. take count (drop off xs)) same
+    ∙ part_is other place off count m fits
+
+-- symbols and their windows lie in the frame
+window_inside : (form : Form) (j : ℕ) → j < symbols form →
+    window_chips form * (symbol_chips form * j / window_chips form) + window_chips form
+    ≤ frame_chips form
+window_inside Sync j h = omega arith
+window_inside Data j h = omega arith
+
+symbol_inside : (form : Form) (j : ℕ) → j < symbols form →
+    symbol_chips form * j + symbol_chips form ≤ frame_chips form
+symbol_inside Sync j h = omega arith
+symbol_inside Data j h = omega arith
+
+-- two files that agree in a finger's samples of a frame
+module _ (one other : List Sample) (f : Finger) (form : Form) (u : ℕ)
+    (same : take (frame_chips form) (drop (finger_place f u) one)
+    ≡ take (frame_chips form) (drop (finger_place f u) other)) where
+  despread_same : (off count : ℕ) → off + count ≤ frame_chips form →
+      despread_at one f.phase (finger_place f u + off) count
+      ≡ despread_at other f.phase (finger_place f u + off) count
+  despread_same off count fits =
+      ap (despread (f.phase + (finger_place f u + off)))
+      (part_same one other (finger_place f u) off count (frame_chips form) fits same)
+
+  pilot_same : (w : ℕ) → window_chips form * w + window_chips form ≤ frame_chips form →
+      pilot_sum one f form u w ≡ pilot_sum other f form u w
+  unfolding pilot_sum
+  pilot_same w fits = ap sum_of (despread_same (window_chips form * w) (window_chips form) fits)
+
+  symbol_same : (j : ℕ) → symbol_chips form * j + symbol_chips form ≤ frame_chips form →
+      symbol_sum one f form u j ≡ symbol_sum other f form u j
+  unfolding symbol_sum
+  symbol_same j fits =
+      ap (λ ps. sum_of (covered_from f.row 0 ps))
+      (despread_same (symbol_chips form * j) (symbol_chips form) fits)
+
+  soft_same : (j : ℕ) → j < symbols form → soft one f form u j ≡ soft other f form u j
+  unfolding soft
+  soft_same j h =
+      let a =
+      pilot_same (symbol_chips form * j / window_chips form) (window_inside form j h) in
+      let b = symbol_same j (symbol_inside form j h) in
+      rw (a, b) refl
+
+all_soft_same : (one other : List Sample) (fingers : List Finger) (form : Form) (u j : ℕ) →
+    j < symbols form → AgreeIn one other form u fingers →
+    map (λ f. soft one f form u j) fingers ≡ map (λ f. soft other f form u j) fingers
+all_soft_same one other [] form u j h same = refl
+all_soft_same one other (f ∷ fingers) form u j h same =
+    let here : soft one f form u j ≡ soft other f form u j =
+    soft_same one other f form u same.0 j h in
+    let rest = all_soft_same one other fingers form u j h same.1 in
+    rw (here, rest) refl
+
+pub softs_same : (one other : List Sample) (fingers : List Finger) (form : Form) (u : ℕ) →
+    AgreeIn one other form u fingers → softs one fingers form u ≡ softs other fingers form u
+unfolding softs
+softs_same one other fingers form u same =
+    map_ext_places (λ j. total (map (λ f. soft one f form u j) fingers))
+    (λ j. total (map (λ f. soft other f form u j) fingers)) (symbols form)
+    (λ j h. ap total (all_soft_same one other fingers form u j h same))
+
+-- MORE SAMPLES
 -- each finger's samples of the frame lie among the first n
 abbrev pub AllFit : ℕ → Form → ℕ → List Finger → Type 0
 AllFit n form u [] = Unit {0}
@@ -33,68 +114,16 @@ part_sooner xs ys place count h =
     let b : count ≤ length (drop place xs) = omega (arith, length-drop place xs) in
     rw (drop-append-le place xs ys a) (take-append-le count (drop place xs) ys b)
 
-despread_sooner : (xs ys : List Sample) (phase place count : ℕ) → place + count ≤ length xs →
-    despread_at (xs ++ ys) phase place count ≡ despread_at xs phase place count
-despread_sooner xs ys phase place count h =
-    ap (despread (phase + place)) (part_sooner xs ys place count h)
-
--- symbols and their windows lie in the frame
-pub window_inside : (form : Form) (j : ℕ) → j < symbols form →
-    window_chips form * (symbol_chips form * j / window_chips form) + window_chips form
-    ≤ frame_chips form
-window_inside Sync j h = omega arith
-window_inside Data j h = omega arith
-
-pub symbol_inside : (form : Form) (j : ℕ) → j < symbols form →
-    symbol_chips form * j + symbol_chips form ≤ frame_chips form
-symbol_inside Sync j h = omega arith
-symbol_inside Data j h = omega arith
-
-pilot_sooner : (xs ys : List Sample) (f : Finger) (form : Form) (u w : ℕ) →
-    finger_place f u + window_chips form * w + window_chips form ≤ length xs →
-    pilot_sum (xs ++ ys) f form u w ≡ pilot_sum xs f form u w
-unfolding pilot_sum
-pilot_sooner xs ys f form u w h =
-    let place = finger_place f u + window_chips form * w in
-    ap sum_of (despread_sooner xs ys f.phase place (window_chips form) h)
-
-symbol_sooner : (xs ys : List Sample) (f : Finger) (form : Form) (u j : ℕ) →
-    finger_place f u + symbol_chips form * j + symbol_chips form ≤ length xs →
-    symbol_sum (xs ++ ys) f form u j ≡ symbol_sum xs f form u j
-unfolding symbol_sum
-symbol_sooner xs ys f form u j h =
-    let place = finger_place f u + symbol_chips form * j in
-    ap (λ ps. sum_of (covered_from f.row 0 ps))
-    (despread_sooner xs ys f.phase place (symbol_chips form) h)
-
-soft_sooner : (xs ys : List Sample) (f : Finger) (form : Form) (u j : ℕ) → j < symbols form →
-    finger_place f u + frame_chips form ≤ length xs →
-    soft (xs ++ ys) f form u j ≡ soft xs f form u j
-unfolding soft
-soft_sooner xs ys f form u j h fits =
-    let w = window_inside form j h in
-    let s = symbol_inside form j h in
-    let a =
-    pilot_sooner xs ys f form u (symbol_chips form * j / window_chips form)
-    (omega (arith, w, fits)) in
-    let b = symbol_sooner xs ys f form u j (omega (arith, s, fits)) in
-    rw (a, b) refl
-
-all_soft_sooner : (xs ys : List Sample) (fingers : List Finger) (form : Form) (u j : ℕ) →
-    j < symbols form → AllFit (length xs) form u fingers →
-    map (λ f. soft (xs ++ ys) f form u j) fingers ≡ map (λ f. soft xs f form u j) fingers
-all_soft_sooner xs ys [] form u j h fit = refl
-all_soft_sooner xs ys (f ∷ fingers) form u j h fit =
-    let here : soft (xs ++ ys) f form u j ≡ soft xs f form u j =
-    soft_sooner xs ys f form u j h fit.0 in
-    let rest = all_soft_sooner xs ys fingers form u j h fit.1 in
-    rw (here, rest) refl
+agree_sooner : (xs ys : List Sample) (fingers : List Finger) (form : Form) (u : ℕ) →
+    AllFit (length xs) form u fingers → AgreeIn (xs ++ ys) xs form u fingers
+agree_sooner xs ys [] form u fit = tt
+agree_sooner xs ys (f ∷ fingers) form u fit = (
+  part_sooner xs ys (finger_place f u) (frame_chips form) fit.0,
+  agree_sooner xs ys fingers form u fit.1,
+)
 
 pub softs_sooner : (xs ys : List Sample) (fingers : List Finger) (form : Form) (u : ℕ) →
     AllFit (length xs) form u fingers →
     softs (xs ++ ys) fingers form u ≡ softs xs fingers form u
-unfolding softs
 softs_sooner xs ys fingers form u fit =
-    map_ext_places (λ j. total (map (λ f. soft (xs ++ ys) f form u j) fingers))
-    (λ j. total (map (λ f. soft xs f form u j) fingers)) (symbols form)
-    (λ j h. ap total (all_soft_sooner xs ys fingers form u j h fit))
+    softs_same (xs ++ ys) xs fingers form u (agree_sooner xs ys fingers form u fit)

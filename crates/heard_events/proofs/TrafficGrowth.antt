@@ -3,9 +3,12 @@ use Rattle.heard_events.proofs.Common.{◌≡◌, ℕ, zero, suc, ◌+◌, ◌<�
 use Rattle.heard_events.proofs.Common.{append-nil, take, flat_map, places, Sample, Standing, heard_from, legs_by, moment_place, told_by}
 use Rattle.heard_events.proofs.Common.{all_noted, page_event, pages_behind, messages_by, frames_by, frames_left_of, messages_left_of}
 use Rattle.heard_events.proofs.Common.{frame_known, has_frame, Tuning, Event, Leg, Mark, Traffic, flat_map-places-more, flat_map_ext_places}
-use Rattle.heard_events.proofs.FrameBounds.{AreCloseAll, known_later}
-use Rattle.heard_events.proofs.FrameGrowth.{frames_left_all, frames_left_none, frames_none}
-use Rattle.heard_events.proofs.MessageGrowth.{messages_left_all, messages_left_none, messages_none}
+use Rattle.heard_events.proofs.Common.{sym, ends_now, frames_bound, Option, message_events, message_heard, SpelledSignal}
+use Rattle.heard_events.proofs.Common.{map_ext_filter_places}
+use Rattle.heard_events.specs.TrafficEvents.{frame_heard}
+use Rattle.heard_events.proofs.Arrivals.{Arrivals, NoneBefore, NoneNow, all_left, gives_same, next_left, none_left, none_now, now_parts}
+use Rattle.heard_events.proofs.FrameBounds.{AreCloseAll, known_bound, known_later}
+use Rattle.heard_events.proofs.FrameGrowth.{frames_of, heard_sooner, message_sooner}
 use Rattle.heard_events.proofs.MomentGrowth.{first_same, noted-append}
 
 -- what is heard of the channel when just n samples have been taken: frames first
@@ -19,48 +22,80 @@ told_left t traffic m legs samples next =
     frames_left_of t traffic m legs samples next
     ++ messages_left_of t traffic m legs samples next
 
--- where one frame was left, its message follows it
-pub one_left : (event : Event) (told frames frames' messages messages' : List Event) →
-    frames ≡ event ∷ frames' → frames' ≡ [] → messages ≡ told ++ messages' →
-    event ∷ (told ++ (frames' ++ messages')) ≡ frames ++ messages
-one_left event told frames frames' messages messages' e none e' = rw (e, e', none) refl
-
 module _ (t : Tuning) (traffic : Traffic) (m : Mark) (legs : ℕ → List Leg) where
-  pub told_none : (xs : List Sample) (n : ℕ) →
-      ((k : ℕ) → has_frame t traffic m legs k ≡ true →
-      ¬ (frame_known t traffic m legs k ≡ n)) → told_at t traffic m legs xs n ≡ []
-  told_none xs n h =
-      let frames = frames_none t traffic m legs xs n h in
-      let messages = messages_none t traffic m legs xs n h in
-      rw (frames, messages) refl
+  -- what frames give, and the messages that they complete
+  abbrev told_of : List Sample → ℕ → List ℕ → List Event
+  told_of xs n ks =
+      map (frame_heard t traffic m legs xs n) ks
+      ++ flat_map (message_heard t traffic m legs xs n) ks
+
+  abbrev frames : Arrivals
+  frames = frames_of t traffic m legs
+
+  pub told_none : (xs : List Sample) (n : ℕ) → NoneNow (frames_of t traffic m legs) n →
+      told_at t traffic m legs xs n ≡ []
+  unfolding frames_by messages_by
+  told_none xs n none = ap (told_of xs n) (none_now frames n none)
 
   pub told_left_all : (xs : List Sample) (next : ℕ) →
-      ((k : ℕ) → k < next → has_frame t traffic m legs k ≡ true →
-      ¬ (frame_known t traffic m legs k ≡ length xs)) →
+      NoneBefore (frames_of t traffic m legs) next (length xs) →
       told_left t traffic m legs xs next ≡ told_at t traffic m legs xs (length xs)
-  told_left_all xs next h =
-      let frames = frames_left_all t traffic m legs xs next h in
-      let messages = messages_left_all t traffic m legs xs next h in
-      rw (frames, messages) refl
+  unfolding frames_by messages_by frames_left_of messages_left_of
+  told_left_all xs next none = ap (told_of xs (length xs)) (all_left frames next (length xs) none)
 
   pub told_left_none : (xs : List Sample) (next : ℕ) →
       ((k : ℕ) → next ≤ k → length xs + 1 ≤ frame_known t traffic m legs k) →
       told_left t traffic m legs xs next ≡ []
+  unfolding frames_left_of messages_left_of
   told_left_none xs next h =
-      let frames = frames_left_none t traffic m legs xs next h in
-      let messages = messages_left_none t traffic m legs xs next h in
-      rw (frames, messages) refl
+      ap (told_of xs (length xs))
+      (none_left frames next (length xs)
+      (λ k above inside e. let later = h k above in omega (arith, later, e)))
+
+  -- what is heard stays where more samples follow
+  pub frames_sooner : (xs ys : List Sample) (n : ℕ) → n ≤ length xs →
+      frames_by t traffic m legs (xs ++ ys) n ≡ frames_by t traffic m legs xs n
+  unfolding frames_by
+  frames_sooner xs ys n h =
+      map_ext_filter_places (ends_now t traffic m legs n)
+      (frame_heard t traffic m legs (xs ++ ys) n) (frame_heard t traffic m legs xs n)
+      (frames_bound n)
+      (λ k below both.
+      let parts = now_parts frames n k both in
+      heard_sooner t traffic m legs xs ys k parts.0 (omega (arith, parts.1, h)) n)
 
   module _ (close : AreCloseAll t legs) where
-    -- behind the frame that ends just now no other does
-    pub frame_alone : (xs : List Sample) (next : ℕ) →
+    -- behind the frame that ends just now no other does, so its event and its message are all
+    pub told_next : (xs : List Sample) (next : ℕ) → has_frame t traffic m legs next ≡ true →
         frame_known t traffic m legs next ≡ length xs →
-        frames_left_of t traffic m legs xs (next + 1) ≡ []
-    frame_alone xs next known =
-        frames_left_none t traffic m legs xs (next + 1)
-        (λ k above.
+        told_left t traffic m legs xs next
+        ≡ frame_heard t traffic m legs xs (length xs) next
+        ∷ (message_heard t traffic m legs xs (length xs) next
+        ++ told_left t traffic m legs xs (next + 1))
+    unfolding frames_left_of messages_left_of
+    told_next xs next inside known =
+        let n : ℕ = length xs in
+        let below = known_bound t traffic m legs close next n known in
+        let message = message_heard t traffic m legs xs n next in
+        let alone = none_left frames (next + 1) n
+        (λ k above inside' e.
         let later = known_later t traffic m legs close next k (omega (arith, above)) in
-        omega (arith, known, later))
+        omega (arith, known, later, e)) in
+        let first = next_left frames next n below inside known
+        ∙ ap (λ (ks : List ℕ). next ∷ ks) alone in
+        ap (told_of xs n) first
+        ∙ ap (λ (es : List Event). frame_heard t traffic m legs xs n next ∷ (message ++ es))
+        (sym (ap (told_of xs n) alone))
+
+    pub messages_sooner : (xs ys : List Sample) (n : ℕ) → n ≤ length xs →
+        messages_by t traffic m legs (xs ++ ys) n ≡ messages_by t traffic m legs xs n
+    unfolding messages_by
+    messages_sooner xs ys n h =
+        gives_same frames (message_heard t traffic m legs (xs ++ ys) n)
+        (message_heard t traffic m legs xs n) n
+        (λ k inside known.
+        ap (λ (heard : Option SpelledSignal). message_events n heard)
+        (message_sooner t traffic m legs close xs ys k inside (omega (arith, known, h))))
 
 -- A LIST THAT HAS GROWN BY ITS LAST PIECE
 none_more : {A : Type 0} (g : ℕ → List A) (a d : ℕ) →

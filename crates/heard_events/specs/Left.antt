@@ -19,7 +19,7 @@ use Rattle.heard_events.specs.declared.event.Event.{Event}
 use Rattle.heard_events.specs.declared.event.Event.TheVariants.{Pilot}
 use Rattle.heard_events.specs.declared.leg.Leg.{Leg}
 use Rattle.heard_events.specs.declared.mark.Mark.{Mark}
-use Rattle.heard_events.specs.declared.spelled_page.SpelledPage.{SpelledPage}
+use Rattle.heard_events.specs.SpelledMessages.{SpelledPage}
 
 -- that of the pilot which the search found, where it hasn't been given
 abbrev pub pilot_left : Option Best → List Event

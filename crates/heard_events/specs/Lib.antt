@@ -2,6 +2,7 @@ pub mod Scrambled
 pub mod Streams
 pub mod Timing
 pub mod Tuning
+pub mod SpelledMessages
 pub mod SyncEvents
 pub mod Events
 pub mod Marks

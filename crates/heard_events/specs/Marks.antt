@@ -12,7 +12,7 @@ use Rattle.heard_events.specs.Tuning.{Tuning, sync_stream, sync_bound}
 use Rattle.heard_events.specs.declared.event.Event.{Event}
 use Rattle.heard_events.specs.declared.event.Event.TheVariants.{Pilot, Sync, Paging, Frame, Traffic}
 use Rattle.heard_events.specs.declared.event.Event.TheVariants.{Sets}
-use Rattle.heard_events.specs.declared.spelled_message.SpelledMessage.{SpelledMessage}
+use Rattle.heard_events.specs.SpelledMessages.{SpelledMessage}
 use Rattle.heard_events.specs.declared.mark.Mark.{Mark}
 
 -- how many frames the message under way has behind the frames before `next`

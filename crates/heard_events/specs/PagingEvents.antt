@@ -15,17 +15,15 @@ use Rattle.heard_events.specs.Tuning.{Tuning}
 use Rattle.heard_events.specs.declared.event.Event.{Event}
 use Rattle.heard_events.specs.declared.event.Event.TheVariants.{Paging}
 use Rattle.heard_events.specs.declared.mark.Mark.{Mark}
-use Rattle.heard_events.specs.declared.spelled_page.SpelledPage.{SpelledPage}
+use Rattle.heard_events.specs.SpelledMessages.{SpelledPage, spelled, spelled_in}
 
 -- a capsule, and the message that it spells
 abbrev pub with_page : List Bool → Option PagingMessage → Option SpelledPage
-with_page capsule None = None
-with_page capsule (Some message) = Some (record { capsule = capsule; message = message })
+with_page = spelled
 
 -- a capsule with a fault gives none
 abbrev pub page_in : CheckForm → Option (List Bool) → Option SpelledPage
-page_in form None = None
-page_in form (Some capsule) = with_page capsule (paging_reading form capsule)
+page_in form = spelled_in (paging_reading form)
 
 -- The bits of the frames in the file before frame `next`, which all follow one another: a mark lies
 -- so far behind the file's first sample that frame 0 is in the file where a later one is.

@@ -19,17 +19,11 @@ use Rattle.heard_events.specs.declared.event.Event.TheVariants as events
 use Rattle.heard_events.specs.declared.leg.Leg.{Leg}
 use Rattle.heard_events.specs.declared.mark.Mark.{Mark}
 use Rattle.chip_core.specs.declared.assignment.Traffic.{Traffic}
-use Rattle.heard_events.specs.declared.spelled_signal.SpelledSignal.{SpelledSignal}
-
--- a capsule, and the message that it spells
-abbrev pub with_signal : List Bool → Option Message → Option SpelledSignal
-with_signal capsule None = None
-with_signal capsule (Some message) = Some (record { capsule = capsule; message = message })
+use Rattle.heard_events.specs.SpelledMessages.{SpelledSignal, spelled_in}
 
 -- a capsule with a fault gives none
 abbrev pub signal_in : CheckForm → Option (List Bool) → Option SpelledSignal
-signal_in form None = None
-signal_in form (Some capsule) = with_signal capsule (traffic_reading form capsule)
+signal_in form = spelled_in (traffic_reading form)
 
 -- a frame's signaling, where the frame is good and has any
 abbrev pub signal_of : Decoded → Option (List Bool)

@@ -11,7 +11,7 @@ use Rattle.heard_events.specs.Streams.{is_in_file, frame_own_bits, known_now}
 use Rattle.heard_events.specs.Tuning.{Tuning, sync_stream, sync_bound}
 use Rattle.heard_events.specs.declared.event.Event.{Event}
 use Rattle.heard_events.specs.declared.event.Event.TheVariants.{Sync}
-use Rattle.heard_events.specs.declared.spelled_message.SpelledMessage.{SpelledMessage}
+use Rattle.heard_events.specs.SpelledMessages.{SpelledMessage, spelled, spelled_in}
 
 -- the frames in the file before frame `next`
 unfoldable pub frames_before : Tuning → List Sample → ℕ → List (List Bool)
@@ -25,12 +25,10 @@ sync_capsule_at t samples k = capsule_ending (map piece (frames_before t samples
 
 -- a capsule, and the message that it spells
 abbrev pub with_message : List Bool → Option SyncFields → Option SpelledMessage
-with_message capsule None = None
-with_message capsule (Some message) = Some (record { capsule = capsule; message = message })
+with_message = spelled
 
 abbrev pub heard_in : CheckForm → Option (List Bool) → Option SpelledMessage
-heard_in form None = None
-heard_in form (Some capsule) = with_message capsule (sync_reading form capsule)
+heard_in form = spelled_in (sync_reading form)
 
 -- what frame k completes
 unfoldable pub heard_at : Tuning → List Sample → ℕ → Option SpelledMessage

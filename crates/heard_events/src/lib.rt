@@ -10,9 +10,7 @@ mod leg;
 mod mark;
 mod settings;
 mod soft_frame;
-mod spelled_message;
-mod spelled_page;
-mod spelled_signal;
+mod spelled;
 
 pub use channel::Channel;
 pub use chip_core::Traffic;
@@ -21,6 +19,4 @@ pub use leg::Leg;
 pub use mark::Mark;
 pub use settings::Settings;
 pub use soft_frame::{PowerControl, SoftFrame};
-pub use spelled_message::SpelledMessage;
-pub use spelled_page::SpelledPage;
-pub use spelled_signal::SpelledSignal;
+pub use spelled::Spelled;

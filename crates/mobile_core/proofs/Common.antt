@@ -3,24 +3,24 @@ pub use Rattle.std.proofs.Common.{All, Bool, IfSome, List, None, Option, Some, [
 pub use Rattle.std.proofs.Common.{inl, inr, length, length-append, length-drop, length-take, map, max, nat_le, nat_lt, pos, refl, replicate}
 pub use Rattle.std.proofs.Common.{rules, slice_get, slice_index_or, slice_set, subst, suc, sym, take, true, zero, ℕ, ℤ, ◌%◌, ◌&&◌, ◌*ℤ◌}
 pub use Rattle.std.proofs.Common.{◌*◌, ◌++◌, ◌+◌, ◌-◌, ◌/◌, ◌<◌, ◌==◌, ◌^◌, ◌||◌, ◌∙◌, ◌∷◌, ◌≡◌, ◌≤◌, ◌⊎◌}
-pub use Rattle.std.proofs.Math.Seq.{take-add}
 pub use Rattle.std.proofs.lemmas.Bool.{and_from, and_parts, both_ways, cases_Bool, cases_lt, cases_order, eq-eqb, eqb-false, eqb-true}
 pub use Rattle.std.proofs.lemmas.Bool.{false_from_ne_true, le-leb, le-ltb, leb-true, lt-leb, lt-ltb, ltb-true, ne_eqb}
 pub use Rattle.std.proofs.lemmas.Grind.{flat_map-append}
-pub use Rattle.std.proofs.lemmas.Int.{to_z-of_z}
 pub use Rattle.std.proofs.lemmas.List.{append_assoc, at_drop_more, drop-append-le, drop-drop, drop-replicate, drop_all, length-replicate}
 pub use Rattle.std.proofs.lemmas.List.{length-take-le, map-append, take_all, take_at, take_more, take_rest}
-pub use Rattle.std.proofs.lemmas.List.Elements.{All-append, All-set, filter-append}
 pub use Rattle.std.proofs.lemmas.List.Folds.{list_all-append, list_any-append, sum_by-replicate}
-pub use Rattle.std.proofs.lemmas.List.Sums.{sum_by-append, sum_by-set}
-pub use Rattle.std.proofs.lemmas.Option.{get_or_from_slice_get, slice_get_within}
 pub use Rattle.std.specs.List.{flat_map, list_all, list_any}
 pub use Rattle.std.specs.Option.{ForSome, option_or, option_to_list}
 pub use Rattle.std.specs.Prelude.{IsTrue, if◌then◌else◌, int_le, int_lt, is_some, nat_eq, sum_by, unsigned_abs, ◌↔◌}
+pub use Rattle.std.proofs.lemmas.List.Elements.{All-append, All-set, filter-append}
+pub use Rattle.std.proofs.Math.Seq.{take-add}
+pub use Rattle.std.proofs.lemmas.Int.{to_z-of_z}
+pub use Rattle.std.proofs.lemmas.List.Sums.{sum_by-append, sum_by-set}
+pub use Rattle.std.proofs.lemmas.Option.{get_or_from_slice_get, slice_get_within}
 pub use Rattle.chip_core.proofs.BitLists.{taken_more}
-pub use Rattle.chip_core.proofs.Places.{places-more, places-none}
-pub use Rattle.chip_core.proofs.Ranges.{filter_ext_places, flat_map-places-more, flat_map_ext_filter_places, flat_map_ext_places}
-pub use Rattle.chip_core.proofs.Ranges.{flat_map_grown}
+pub use Rattle.chip_core.proofs.Places.{places-none}
+pub use Rattle.chip_core.proofs.Ranges.{filter-places-more, filter_ext_places, flat_map-places-more, flat_map_ext_filter_places}
+pub use Rattle.chip_core.proofs.Ranges.{flat_map_ext_places, flat_map_grown}
 pub use Rattle.chip_core.specs.Bits.{sign}
 unfoldable pub use Rattle.chip_core.specs.Bits.{places}
 pub use Rattle.chip_core.specs.Fields.{FieldsFit}
@@ -34,6 +34,50 @@ pub use Rattle.frame_decoder.specs.TrafficFrames.{rate_frame, rate_word, unrepla
 unfoldable pub use Rattle.frame_decoder.specs.TrafficFrames.{decoded}
 pub use Rattle.frame_decoder.specs.declared.power.PowerSofts.{PowerSofts}
 pub use Rattle.frame_decoder.specs.declared.traffic.Decoded.{Decoded}
+pub use Rattle.heard_events.specs.Channels.{channel_stream, has_power_control, mask_of, row_of, state_at}
+pub use Rattle.heard_events.specs.Close.{AreClose, all_close, fingers_in, is_close, legs_close, legs_rows, paths_close, places_for}
+pub use Rattle.heard_events.specs.Close.{places_in}
+pub use Rattle.heard_events.specs.Events.{events}
+unfoldable pub use Rattle.heard_events.specs.Events.{events_at, heard_within}
+pub use Rattle.heard_events.specs.Given.{at_of, listed}
+pub use Rattle.heard_events.specs.Left.{pilot_left}
+unfoldable pub use Rattle.heard_events.specs.Left.{pages_left, sets_left_of, sync_events_left}
+pub use Rattle.heard_events.specs.Legs.{all_fingers, has_subchannel, is_on, leg_fingers, leg_of, legs_of, on_subchannel, pilot_finger}
+pub use Rattle.heard_events.specs.Legs.{subchannels}
+pub use Rattle.heard_events.specs.Marks.{first_of, frames_with, marks_of, sets_mark}
+unfoldable pub use Rattle.heard_events.specs.Marks.{frames_open, mark, mark_before, marks_at}
+pub use Rattle.heard_events.specs.Moments.{frames_at, legs_at, legs_by, messages_at, moment_events, moment_of, moment_place, moments_before}
+pub use Rattle.heard_events.specs.Moments.{pilot_strength, power_at, sets_events, strengths_at}
+unfoldable pub use Rattle.heard_events.specs.Moments.{changed, heard_from, kept_to, passed, sets_at, told_by}
+pub use Rattle.heard_events.specs.Near.{AreBegun, AreNear, all_begun, all_near, has_reference, have_rows, is_near}
+pub use Rattle.heard_events.specs.Noted.{all_noted, body_noted, moment_from, noted, noted_with, page_noted, system_thresholds}
+pub use Rattle.heard_events.specs.PagingEvents.{page_event, page_in, pages_behind}
+unfoldable pub use Rattle.heard_events.specs.PagingEvents.{bits_before, bits_up_to, page_at, pages_from}
+pub use Rattle.heard_events.specs.PagingStreams.{paging_rate, paging_stream}
+pub use Rattle.heard_events.specs.Scrambled.{turned, unscrambled}
+pub use Rattle.heard_events.specs.Signaling.{capsule_with, message_events, signal_in, signal_of}
+unfoldable pub use Rattle.heard_events.specs.Signaling.{message_at, signal_at, signals_before}
+pub use Rattle.heard_events.specs.SoftFrames.{power_of, soft_frame, soft_frames, unturned_at}
+unfoldable pub use Rattle.heard_events.specs.SoftFrames.{frames_within}
+pub use Rattle.heard_events.specs.SpelledMessages.{SpelledMessage, SpelledPage, SpelledSignal}
+pub use Rattle.heard_events.specs.Streams.{Stream, finger_end, frame_end, frame_softs, frame_start, is_in_file, known_at, span_first}
+pub use Rattle.heard_events.specs.Streams.{span_frames}
+unfoldable pub use Rattle.heard_events.specs.Streams.{frame_own_bits}
+pub use Rattle.heard_events.specs.SyncEvents.{events_of, heard_in}
+unfoldable pub use Rattle.heard_events.specs.SyncEvents.{frames_before, heard_at, sync_capsule_at, sync_events_at}
+pub use Rattle.heard_events.specs.Timing.{IsTimed}
+unfoldable pub use Rattle.heard_events.specs.Timing.{stream_end}
+pub use Rattle.heard_events.specs.TrafficEvents.{all_sums, frame_event, unturned_softs}
+unfoldable pub use Rattle.heard_events.specs.TrafficEvents.{commands_at, decoded_at}
+pub use Rattle.heard_events.specs.TrafficStreams.{chips_behind, frame_known, frame_state, has_frame, replaced_in, traffic_start}
+pub use Rattle.heard_events.specs.Tuning.{Tuning, finger_of, fingers_of, sync_stream, tuning_by}
+pub use Rattle.heard_events.specs.declared.channel.Channel.{Channel}
+pub use Rattle.heard_events.specs.declared.event.Event.{Event}
+pub use Rattle.heard_events.specs.declared.event.Event.TheVariants.{Pilot}
+pub use Rattle.heard_events.specs.declared.leg.Leg.{Leg}
+pub use Rattle.heard_events.specs.declared.mark.Mark.{Mark}
+pub use Rattle.heard_events.specs.declared.soft_frame.PowerControl.{PowerControl}
+pub use Rattle.heard_events.specs.declared.soft_frame.SoftFrame.{SoftFrame}
 pub use Rattle.long_code.proofs.After.{after-after}
 pub use Rattle.long_code.specs.LongCode.{after, paging_mask, traffic_mask}
 pub use Rattle.paging_message.specs.HalfFrames.{Framing, half_frame_body, half_frame_capsule_ending}
@@ -73,52 +117,6 @@ pub use Rattle.traffic_message.specs.Multiplex.{primary_bits}
 unfoldable pub use Rattle.traffic_message.specs.Multiplex.{split, split_9600}
 pub use Rattle.traffic_message.specs.declared.body.TrafficBody.{TrafficBody}
 pub use Rattle.traffic_message.specs.declared.multiplex.Mux.{Mux}
-pub use Rattle.heard_events.specs.Channels.{channel_stream, has_power_control, mask_of, row_of, state_at}
-pub use Rattle.heard_events.specs.Close.{AreClose, all_close, fingers_in, is_close, legs_close, legs_rows, paths_close, places_for}
-pub use Rattle.heard_events.specs.Close.{places_in}
-pub use Rattle.heard_events.specs.Events.{events}
-unfoldable pub use Rattle.heard_events.specs.Events.{events_at, heard_within}
-pub use Rattle.heard_events.specs.Given.{at_of, listed}
-pub use Rattle.heard_events.specs.Left.{pilot_left}
-unfoldable pub use Rattle.heard_events.specs.Left.{frames_left_of, messages_left_of, pages_left, sets_left_of, sync_events_left}
-pub use Rattle.heard_events.specs.Legs.{all_fingers, has_subchannel, is_on, leg_fingers, leg_of, legs_of, on_subchannel, pilot_finger}
-pub use Rattle.heard_events.specs.Legs.{subchannels}
-pub use Rattle.heard_events.specs.Marks.{first_of, frames_with, marks_of, sets_mark}
-unfoldable pub use Rattle.heard_events.specs.Marks.{frames_open, mark, mark_before, marks_at}
-pub use Rattle.heard_events.specs.Moments.{frames_at, legs_at, legs_by, messages_at, moment_events, moment_of, moment_place, moments_before}
-pub use Rattle.heard_events.specs.Moments.{pilot_strength, power_at, sets_events, strengths_at}
-unfoldable pub use Rattle.heard_events.specs.Moments.{changed, heard_from, kept_to, passed, sets_at, told_by}
-pub use Rattle.heard_events.specs.Near.{AreBegun, AreNear, all_begun, all_near, has_reference, have_rows, is_near}
-pub use Rattle.heard_events.specs.Noted.{all_noted, body_noted, moment_from, noted, noted_with, page_noted, system_thresholds}
-pub use Rattle.heard_events.specs.PagingEvents.{page_event, page_in, pages_behind}
-unfoldable pub use Rattle.heard_events.specs.PagingEvents.{bits_before, bits_up_to, page_at, pages_from}
-pub use Rattle.heard_events.specs.PagingStreams.{paging_rate, paging_stream}
-pub use Rattle.heard_events.specs.Scrambled.{turned, unscrambled}
-pub use Rattle.heard_events.specs.Signaling.{capsule_with, message_events, signal_in, signal_of}
-unfoldable pub use Rattle.heard_events.specs.Signaling.{message_at, signal_at, signals_before}
-pub use Rattle.heard_events.specs.SoftFrames.{power_of, soft_frame, soft_frames, unturned_at}
-unfoldable pub use Rattle.heard_events.specs.SoftFrames.{frames_within}
-pub use Rattle.heard_events.specs.Streams.{Stream, finger_end, frame_end, frame_softs, frame_start, is_in_file, known_at, span_first}
-pub use Rattle.heard_events.specs.Streams.{span_frames}
-unfoldable pub use Rattle.heard_events.specs.Streams.{frame_own_bits}
-pub use Rattle.heard_events.specs.SyncEvents.{events_of, heard_in}
-unfoldable pub use Rattle.heard_events.specs.SyncEvents.{frames_before, heard_at, sync_capsule_at, sync_events_at}
-pub use Rattle.heard_events.specs.Timing.{IsTimed}
-unfoldable pub use Rattle.heard_events.specs.Timing.{stream_end}
-pub use Rattle.heard_events.specs.TrafficEvents.{all_sums, frame_event, unturned_softs}
-unfoldable pub use Rattle.heard_events.specs.TrafficEvents.{commands_at, decoded_at}
-pub use Rattle.heard_events.specs.TrafficStreams.{chips_behind, frame_known, frame_state, has_frame, replaced_in, traffic_start}
-pub use Rattle.heard_events.specs.Tuning.{Tuning, finger_of, fingers_of, sync_stream, tuning_by}
-pub use Rattle.heard_events.specs.declared.channel.Channel.{Channel}
-pub use Rattle.heard_events.specs.declared.event.Event.{Event}
-pub use Rattle.heard_events.specs.declared.event.Event.TheVariants.{Pilot}
-pub use Rattle.heard_events.specs.declared.leg.Leg.{Leg}
-pub use Rattle.heard_events.specs.declared.mark.Mark.{Mark}
-pub use Rattle.heard_events.specs.declared.soft_frame.PowerControl.{PowerControl}
-pub use Rattle.heard_events.specs.declared.soft_frame.SoftFrame.{SoftFrame}
-pub use Rattle.heard_events.specs.declared.spelled_message.SpelledMessage.{SpelledMessage}
-pub use Rattle.heard_events.specs.declared.spelled_page.SpelledPage.{SpelledPage}
-pub use Rattle.heard_events.specs.declared.spelled_signal.SpelledSignal.{SpelledSignal}
 pub use borrow.Rule.Slice.PartMut.{post_of}
 pub use mir.Syntax.{w64, w8}
 pub use mir.Val.{SFits}

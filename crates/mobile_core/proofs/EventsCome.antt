@@ -2,7 +2,7 @@
 use Rattle.mobile_core.proofs.Common.{◌≡◌, ℕ, suc, ◌+◌, ◌-◌, ◌<◌, ◌≤◌, List, [], ◌++◌, length, length-append, refl, sym, ap, ◌∙◌, arith}
 use Rattle.mobile_core.proofs.Common.{inl, inr, subst, cases_lt, Sample, events, events_at, heard_within, HearsFollowed, IsFollowedDue}
 use Rattle.mobile_core.proofs.Common.{IsSoundFollowed, followed_events_left, sync_events_left, mark, mark_before, AreNear, sync_events_at}
-use Rattle.mobile_core.proofs.Common.{Tuning, sync_stream, Event, Followed, flat_map_grown}
+use Rattle.mobile_core.proofs.Common.{Tuning, sync_stream, Event, Followed, Mark, Option, flat_map_grown}
 use Rattle.mobile_core.proofs.ChannelsFollowed.{EndFrom, followed_come, followed_quiet}
 use Rattle.heard_events.proofs.FollowedEvents.{followed_behind}
 use Rattle.heard_events.proofs.Growth.{IsSyncTimed, KnownBefore, KnownFrom}
@@ -52,8 +52,9 @@ module _ (t : Tuning) (low : ℕ) (timed : IsSyncTimed t low)
         let sync = growth.left_all t low timed (xs ++ ys) next
         (λ k less inside e.
         let b = before k less inside in omega (arith, b, e, length-append xs ys, some)) in
-        let later = behind_before t low timed near (xs ++ ys) n set (mark t (xs ++ ys) (n + 1))
-        (mark_here n (omega (arith, some)) (omega (arith, some))) refl in
+        let later = sym (behind_before t low timed near (xs ++ ys) n)
+        ∙ ap (λ (x : Option Mark). followed_behind t x (xs ++ ys) (n + 1))
+        (mark_here n (omega (arith, some)) (omega (arith, some))) in
         let here = sync_events_at t (xs ++ ys) (length (xs ++ ys)) in
         let others : followed_behind t (mark t (xs ++ ys) (length (xs ++ ys))) (xs ++ ys)
         (length (xs ++ ys))

@@ -11,7 +11,7 @@ use Rattle.mobile_core.proofs.Common.{Mark, SetsKeeper, Traffic, SpelledSignal, 
 use Rattle.mobile_core.specs.TrafficReceiving.{fingers_in}
 use Rattle.heard_events.proofs.CloseFingers.{close_ends}
 use Rattle.heard_events.proofs.FrameBounds.{AreCloseAll, has_here, known_high, known_is, known_later, known_low}
-use Rattle.heard_events.proofs.MessageGrowth.{signals_sooner}
+use Rattle.heard_events.proofs.FrameGrowth.{signals_sooner}
 use Rattle.heard_events.proofs.TrafficGrowth.{heard_grown, heard_none, told_at, told_first, told_is, told_left, told_left_all}
 use Rattle.heard_events.proofs.TrafficGrowth.{told_left_none, told_none}
 use Rattle.frame_decoder.specs.TrafficFrames as frames

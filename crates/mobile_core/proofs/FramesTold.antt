@@ -5,16 +5,14 @@ use Rattle.mobile_core.proofs.Common.{CheckForm, Sample, Decoded, PagingMessage,
 use Rattle.mobile_core.proofs.Common.{with_neighbors, with_thresholds, DirectionFault, Accepted, StandsFor, TrafficBody, at_of, legs_of}
 use Rattle.mobile_core.proofs.Common.{legs_by, moment_place, all_noted, body_noted, moment_from, noted, noted_with, page_noted}
 use Rattle.mobile_core.proofs.Common.{system_thresholds, capsule_with, message_at, message_events, signal_at, signal_in, signal_of}
-use Rattle.mobile_core.proofs.Common.{signals_before, HasTold, HearsWith, IsSoundTraffic, noted_by, told_left_with, frames_left_of}
-use Rattle.mobile_core.proofs.Common.{messages_left_of, frame_known, Tuning, Event, Mark, Traffic, SpelledSignal, TrafficReceiver}
-use Rattle.heard_events.proofs.FrameBounds.{known_bound}
-use Rattle.heard_events.proofs.FrameGrowth.{frame_next}
+use Rattle.mobile_core.proofs.Common.{signals_before, HasTold, HearsWith, IsSoundTraffic, noted_by, told_left_with, frame_known, Tuning}
+use Rattle.mobile_core.proofs.Common.{Event, Mark, Traffic, SpelledSignal, TrafficReceiver}
+use Rattle.heard_events.proofs.FrameGrowth.{signals_more}
 use Rattle.mobile_core.proofs.FramesHeard.{closes, due_inside}
-use Rattle.heard_events.proofs.MessageGrowth.{message_next, signals_more}
-use Rattle.heard_events.proofs.TrafficGrowth.{frame_alone, one_left, told_left}
+use Rattle.heard_events.proofs.TrafficGrowth.{told_left, told_next}
+use Rattle.heard_events.specs.TrafficEvents.{commands_at, decoded_at, frame_event, frame_heard as heard_frame}
 use Rattle.paging_message.specs.declared.message.PagingMessage.TheVariants as pages
 use Rattle.traffic_message.specs.declared.body.TrafficBody.TheVariants as bodies
-use Rattle.heard_events.specs.TrafficEvents.{commands_at, decoded_at, frame_event, frame_heard as heard_frame}
 use Rattle.heard_events.specs.declared.event.Event.TheVariants as events
 
 -- where no message is kept a frame has come
@@ -209,24 +207,17 @@ module _ {t : Tuning} {traffic : Traffic} {m : Mark} {heard : List Sample} {kept
           let n : ℕ = length heard in
           let legs = legs_by traffic m kept in
           let close = closes st sound in
-          let known = st.known come in
-          let inside = due_inside st sound come in
-          let below = known_bound t traffic m legs close k n known in
-          let frames = frames_left_of t traffic m legs heard (k + 1) in
-          let messages = messages_left_of t traffic m legs heard (k + 1) in
+          let rest = told_left t traffic m legs heard (k + 1) in
           let same : event ≡ heard_frame t traffic m legs heard n k =
           event_is
           ∙ ap (λ (f : Decoded). frame_event n f told) frame_is
           ∙ ap (frame_event n (decoded_at t traffic m legs heard k)) told_is in
           let completes = message_here message check check_is gives in
-          let first = frame_next t traffic m legs heard k below inside known
-          ∙ ap (λ (e : Event). e ∷ frames) (sym same) in
-          let follows = message_next t traffic m legs heard k below inside known
-          ∙ ap (λ (heard' : Option SpelledSignal). message_events n heard' ++ messages)
-          (sym completes) in
-          one_left event (message_events n message) (frames_left_of t traffic m legs heard k)
-          frames (messages_left_of t traffic m legs heard k) messages first
-          (frame_alone t traffic m legs close heard k known) follows
+          ap (λ (e : Event). e ∷ (message_events n message ++ rest)) same
+          ∙ ap (λ (heard' : Option SpelledSignal).
+          heard_frame t traffic m legs heard n k ∷ (message_events n heard' ++ rest)) completes
+          ∙ sym (told_next t traffic m legs close heard k (due_inside st sound come)
+          (st.known come))
           ∙ sym (ap (λ (kept' : Option SpelledSignal).
           message_events n kept' ++ told_left t traffic m legs heard k) empty)
 

@@ -1,8 +1,9 @@
 -- The active pilots of one power control subchannel are as all are.
 use Rattle.mobile_core.proofs.Common.{◌≡◌, ℕ, zero, suc, ◌+◌, ◌*◌, ◌^◌, ◌≤◌, Bool, true, false, List, [], ◌∷◌, ◌++◌, length, map, filter}
-use Rattle.mobile_core.proofs.Common.{refl, ap, ◌∙◌, arith, ℤ, All, inl, inr, nat_lt, append-nil, and_from, and_parts, cases_Bool}
-use Rattle.mobile_core.proofs.Common.{map-append, All-append, filter-append, places, places-more, Finger, is_close, legs_close, legs_rows}
-use Rattle.mobile_core.proofs.Common.{places_in, all_fingers, has_subchannel, is_on, leg_fingers, on_subchannel, Leg}
+use Rattle.mobile_core.proofs.Common.{refl, ap, ◌∙◌, arith, ℤ, All, inl, inr, nat_lt, and_from, and_parts, cases_Bool, map-append}
+use Rattle.mobile_core.proofs.Common.{All-append, places, Finger, is_close, legs_close, legs_rows, places_in, all_fingers, has_subchannel}
+use Rattle.mobile_core.proofs.Common.{is_on, leg_fingers, on_subchannel, Leg, list_all, filter-places-more}
+use Rattle.heard_events.proofs.Arrivals.{given_less}
 
 -- LISTS WHOSE ELEMENTS ALL HAVE A PROPERTY
 one_more : {X : Type 0} (P : X → Type 0) (x : X) (xs : List X) → P x → All P xs → All P (x ∷ xs)
@@ -42,6 +43,18 @@ filter_whole p (x ∷ xs) all =
           absurd (omega (arith, long, filter_few p xs))
     ]
 
+-- what all pass, those pass that a filter leaves
+filter_all : {X : Type 0} (p q : X → Bool) (xs : List X) → list_all p xs ≡ true →
+    list_all p (filter q xs) ≡ true
+filter_all p q [] h = refl
+filter_all p q (x ∷ xs) h =
+    let both = and_parts (p x) (list_all p xs) h in
+    let rest = filter_all p q xs both.1 in
+    elim (cases_Bool (q x)) [
+      | inl has ↦ rw has (and_from (p x) (list_all p (filter q xs)) both.0 rest)
+      | inr not ↦ rw not rest
+    ]
+
 -- ON A SUBCHANNEL
 -- where as many pilots are on it as there are, they are all
 pub on_whole : (c : ℕ) (legs : List Leg) → length (on_subchannel c legs) ≡ length legs →
@@ -68,27 +81,11 @@ on_few c (leg ∷ legs) =
 
 pub on_close : (c : ℕ) (legs : List Leg) → legs_close legs ≡ true →
     legs_close (on_subchannel c legs) ≡ true
-on_close c [] h = refl
-on_close c (leg ∷ legs) h =
-    let both = and_parts (is_close leg.finger) (legs_close legs) h in
-    let rest = on_close c legs both.1 in
-    elim (cases_Bool (is_on c leg)) [
-      | inl on ↦
-          rw on (and_from (is_close leg.finger) (legs_close (on_subchannel c legs)) both.0 rest)
-      | inr off ↦ rw off rest
-    ]
+on_close c legs h = filter_all (λ (leg : Leg). is_close leg.finger) (is_on c) legs h
 
 pub on_rows : (c : ℕ) (legs : List Leg) → legs_rows legs ≡ true →
     legs_rows (on_subchannel c legs) ≡ true
-on_rows c [] h = refl
-on_rows c (leg ∷ legs) h =
-    let both = and_parts (nat_lt leg.finger.row 64) (legs_rows legs) h in
-    let rest = on_rows c legs both.1 in
-    elim (cases_Bool (is_on c leg)) [
-      | inl on ↦
-          rw on (and_from (nat_lt leg.finger.row 64) (legs_rows (on_subchannel c legs)) both.0 rest)
-      | inr off ↦ rw off rest
-    ]
+on_rows c legs h = filter_all (λ (leg : Leg). nat_lt leg.finger.row 64) (is_on c) legs h
 
 pub on_all : (P : Finger → Type 0) (phase : ℕ) (deltas : List ℤ) (c : ℕ) (legs : List Leg) →
     All P (all_fingers phase deltas legs) → All P (all_fingers phase deltas (on_subchannel c legs))
@@ -108,14 +105,6 @@ on_all P phase deltas c (leg ∷ legs) h =
 abbrev pub first_subchannels : List Leg → ℕ → List ℕ
 first_subchannels legs n = filter (has_subchannel legs) (places n)
 
-first_one : (p : ℕ → Bool) (n : ℕ) → p n ≡ true →
-    filter p (places (n + 1)) ≡ filter p (places n) ++ n ∷ []
-first_one p n h = rw (places-more n, filter-append, h) refl
-
-first_none : (p : ℕ → Bool) (n : ℕ) → p n ≡ false →
-    filter p (places (n + 1)) ≡ filter p (places n)
-first_none p n h = rw (places-more n, filter-append, h) (append-nil (filter p (places n)))
-
 pub sums_none : {A : Type 0} (f : ℕ → A) (legs : List Leg) →
     map f (first_subchannels legs 0) ≡ []
 unfolding places
@@ -125,13 +114,13 @@ pub sums_more : {A : Type 0} (f : ℕ → A) (legs : List Leg) (n : ℕ) →
     has_subchannel legs n ≡ true →
     map f (first_subchannels legs (n + 1)) ≡ map f (first_subchannels legs n) ++ f n ∷ []
 sums_more f legs n h =
-    ap (map f) (first_one (has_subchannel legs) n h)
+    ap (map f) (filter-places-more (has_subchannel legs) n h)
     ∙ map-append f (first_subchannels legs n) (n ∷ [])
 
 pub sums_same : {A : Type 0} (f : ℕ → A) (legs : List Leg) (n : ℕ) →
     has_subchannel legs n ≡ false →
     map f (first_subchannels legs (n + 1)) ≡ map f (first_subchannels legs n)
-sums_same f legs n h = ap (map f) (first_none (has_subchannel legs) n h)
+sums_same f legs n h = ap (map f) (given_less (has_subchannel legs) n h)
 
 -- the soft values of eight fingers add up to little
 pub eight_small : (n : ℕ) → n ≤ 8 → n * (384 * 2 ^ 50) ≤ 3 * 2 ^ 60

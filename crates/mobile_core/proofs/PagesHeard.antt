@@ -9,7 +9,7 @@ use Rattle.std.proofs.lemmas.List.{append-nil}
 use Rattle.paging_message.specs.HalfFrames.{StandsFor}
 use Rattle.mobile_core.proofs.ClockSteps.{due_inside, due_known, before_next}
 use Rattle.heard_events.proofs.PageBits.{bits_before_more, bits_before_none, bits_before_sooner}
-use Rattle.heard_events.proofs.PagesLeft.{left_next, pages_behind_last, pages_next}
+use Rattle.heard_events.proofs.PageGrowth.{left_next, pages_behind_last, pages_next}
 use Rattle.mobile_core.proofs.Received.{receives_heard, receives_more, receives_new}
 
 take-none : (bits : List Bool) → take 0 bits ≡ []
@@ -163,7 +163,7 @@ module _ {t : Tuning} {channel : ℕ} {m : Mark} {r : PagingReceiver} {heard : L
         let next : ℕ = r.received.clock.next in
         let others = pages_left t channel m heard (next + 1) 0 in
         let first = pages_next t channel m heard next r.place (rw own_is at below) in
-        let all = left_next t channel m heard r.received.clock.low next r.place is.timed
+        let all = left_next t channel m r.received.clock.low is.timed heard next r.place
         (due_inside is d) (due_known is d) in
         sym (all
         ∙ ap (λ (ps : List SpelledPage). ps ++ others) first
@@ -192,7 +192,7 @@ module _ {t : Tuning} {channel : ℕ} {m : Mark} {r : PagingReceiver} {heard : L
             framed = stands_on;
           };
           left = left_here _
-              (left_next t channel m heard r.received.clock.low next (r.place + 1) is.timed
+              (left_next t channel m r.received.clock.low is.timed heard next (r.place + 1)
               (due_inside is d) (due_known is d));
         }
 

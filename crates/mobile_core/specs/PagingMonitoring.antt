@@ -12,7 +12,7 @@ use Rattle.heard_events.specs.declared.event.Event.{Event}
 use Rattle.heard_events.specs.declared.mark.Mark.{Mark}
 use Rattle.mobile_core.specs.declared.paging_monitor.PagingMonitor.{PagingMonitor}
 use Rattle.mobile_core.specs.declared.paging_receiver.PagingReceiver.{PagingReceiver}
-use Rattle.heard_events.specs.declared.spelled_page.SpelledPage.{SpelledPage}
+use Rattle.heard_events.specs.SpelledMessages.{SpelledPage}
 
 -- whether a channel is heard behind a mark that may be set: its PRAT has to stand for a rate
 abbrev pub is_paged : Option Mark → Bool

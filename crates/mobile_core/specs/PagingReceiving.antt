@@ -16,7 +16,7 @@ use Rattle.heard_events.specs.Streams.{frame_own_bits}
 use Rattle.heard_events.specs.Tuning.{Tuning}
 use Rattle.heard_events.specs.declared.mark.Mark.{Mark}
 use Rattle.mobile_core.specs.declared.paging_receiver.PagingReceiver.{PagingReceiver}
-use Rattle.heard_events.specs.declared.spelled_page.SpelledPage.{SpelledPage}
+use Rattle.heard_events.specs.SpelledMessages.{SpelledPage}
 
 -- the bits of the next frame, of which the framer took so many, are those of a frame that is due
 pub record IsUnderWay (t : Tuning) (channel : ℕ) (m : Mark) (r : PagingReceiver)

@@ -24,7 +24,7 @@ use Rattle.heard_events.specs.Tuning.{Tuning}
 use Rattle.heard_events.specs.declared.event.Event.{Event}
 use Rattle.heard_events.specs.declared.mark.Mark.{Mark}
 use Rattle.chip_core.specs.declared.assignment.Traffic.{Traffic}
-use Rattle.heard_events.specs.declared.spelled_signal.SpelledSignal.{SpelledSignal}
+use Rattle.heard_events.specs.SpelledMessages.{SpelledSignal}
 use Rattle.mobile_core.specs.declared.traffic_receiver.TrafficReceiver.{TrafficReceiver}
 
 -- THE EVENTS THAT ARE LEFT

@@ -17,7 +17,7 @@ ghost use Rattle.quality_bits.specs.TrafficWords.{information_of};
 use chip_core::air::{OFFSET_CHIPS, SUPERFRAME_BITS, SUPERFRAME_CHIPS};
 use chip_core::{Bits, CheckForm};
 use frame_decoder::Decoded;
-use heard_events::{Event, Mark, SpelledMessage, SpelledPage, SpelledSignal};
+use heard_events::{Event, Mark, Spelled};
 use long_code::State;
 use paging_message::PagingMessage;
 use pilot_search::Best;
@@ -25,36 +25,36 @@ use sync_message::SyncMessage;
 use traffic_message::{SignalFramer, TrafficMessage, split_frame};
 
 /// A capsule with the message that it spells; `None` where there is none.
-pub(crate) fn message_in(check: CheckForm, capsule: Option<Bits>) -> Option<SpelledMessage>
+pub(crate) fn message_in(check: CheckForm, capsule: Option<Bits>) -> Option<Spelled<SyncMessage>>
     ensures { result ≡ heard_in check capsule }
 {
     let capsule = capsule?;
     match SyncMessage::decode(&capsule, check) {
-        Ok(message) => Some(SpelledMessage { capsule, message }),
+        Ok(message) => Some(Spelled { capsule, message }),
         Err(_) => None,
     }
 }
 
 /// A capsule of a paging channel with the message that it spells; `None` where there is none, or
 /// the capsule has a fault.
-pub(crate) fn page_in(check: CheckForm, capsule: Option<Bits>) -> Option<SpelledPage>
+pub(crate) fn page_in(check: CheckForm, capsule: Option<Bits>) -> Option<Spelled<PagingMessage>>
     ensures { result ≡ page_in check capsule }
 {
     let capsule = capsule?;
     match PagingMessage::decode(&capsule, check) {
-        Ok(message) => Some(SpelledPage { capsule, message }),
+        Ok(message) => Some(Spelled { capsule, message }),
         Err(_) => None,
     }
 }
 
 /// A capsule of a traffic channel with the message that it spells; `None` where there is none, or
 /// the capsule has a fault.
-fn signal_in(check: CheckForm, capsule: Option<Bits>) -> Option<SpelledSignal>
+fn signal_in(check: CheckForm, capsule: Option<Bits>) -> Option<Spelled<TrafficMessage>>
     ensures { result ≡ signal_in check capsule }
 {
     let capsule = capsule?;
     match TrafficMessage::decode(&capsule, check) {
-        Ok(message) => Some(SpelledSignal { capsule, message }),
+        Ok(message) => Some(Spelled { capsule, message }),
         Err(_) => None,
     }
 }
@@ -77,7 +77,7 @@ pub(crate) fn hear_signal(
     framer: &mut SignalFramer,
     frame: &Decoded,
     check: CheckForm,
-) -> Option<SpelledSignal>
+) -> Option<Spelled<TrafficMessage>>
     requires { length frame.now.bits ≡ information_of frame.now.rate }
     ensures framed { (signals : List (List Bool)) → StandsFor framer.old signals →
         StandsFor framer.new (signals ++ option_to_list (signal_of frame.now)) }
@@ -104,7 +104,7 @@ pub(crate) fn with_frame(begins: bool, message_frames: u64) -> u64
 }
 
 /// The mark that a message sets whose first frame begins at a reference sample.
-fn mark_of(first: u64, told: &SpelledMessage) -> Option<Mark>
+fn mark_of(first: u64, told: &Spelled<SyncMessage>) -> Option<Mark>
     requires { first ≤ 2 ^ 28 }
     ensures value { result ≡ first_of (marks_of first (Some told.now)) }
     ensures sound { ForSome result IsSoundMark }
@@ -127,7 +127,7 @@ fn mark_of(first: u64, told: &SpelledMessage) -> Option<Mark>
 }
 
 /// The mark that is set, or else that of what is told.
-pub(crate) fn mark_with(mark: Option<Mark>, first: u64, told: &SpelledMessage) -> Option<Mark>
+pub(crate) fn mark_with(mark: Option<Mark>, first: u64, told: &Spelled<SyncMessage>) -> Option<Mark>
     requires first { first ≤ 2 ^ 28 }
     requires sound { ForSome mark IsSoundMark }
     ensures value { result ≡ option_or mark (first_of (marks_of first (Some told.now))) }
@@ -150,7 +150,7 @@ pub(crate) fn pilot_event(best: &Best) -> Event
 }
 
 /// The event of what is told when so many samples have been taken.
-pub(crate) fn event_of(told: &SpelledMessage, at: u64) -> Event
+pub(crate) fn event_of(told: &Spelled<SyncMessage>, at: u64) -> Event
     ensures value { result ∷ [] ≡ events_of at (Some told.now) }
     ensures ends { at_of result ≡ at }
 {
@@ -162,7 +162,7 @@ pub(crate) fn event_of(told: &SpelledMessage, at: u64) -> Event
 }
 
 /// The event of a message of the paging channel when so many samples have been taken.
-pub(crate) fn page_event(page: &SpelledPage, at: u64) -> Event
+pub(crate) fn page_event(page: &Spelled<PagingMessage>, at: u64) -> Event
     ensures value { result ≡ page_event at page.now }
     ensures ends { at_of result ≡ at }
     ensures unset { sets_mark result ≡ false }
@@ -191,7 +191,7 @@ pub(crate) fn frame_event(frame: &Decoded, commands: [bool; 16], at: u64) -> Eve
 }
 
 /// The event of a message of the traffic channel when so many samples have been taken.
-pub(crate) fn message_event(heard: &SpelledSignal, at: u64) -> Event
+pub(crate) fn message_event(heard: &Spelled<TrafficMessage>, at: u64) -> Event
     ensures value { result ∷ [] ≡ message_events at (Some heard.now) }
     ensures ends { at_of result ≡ at }
     ensures unset { sets_mark result ≡ false }

@@ -6,8 +6,8 @@ use crate::hearing::page_in;
 use crate::scrambling::Scrambling;
 use chip_core::{Bits, CheckForm, Phase};
 use frame_decoder::FrameKind;
-use heard_events::{Mark, SpelledPage};
-use paging_message::HalfFramer;
+use heard_events::{Mark, Spelled};
+use paging_message::{HalfFramer, PagingMessage};
 use pilot_search::Near;
 use rake_finger::{Form, SampleRing};
 use short_code::Codes;
@@ -139,7 +139,7 @@ impl PagingReceiver {
         &mut self,
         decoder: &mut Decoder,
         check: CheckForm,
-    ) -> Option<SpelledPage>
+    ) -> Option<Spelled<PagingMessage>>
         requires sound { IsSoundPaging self.old }
         requires come { self.old.received.clock.next < self.old.received.clock.have }
         requires room { decoder.old ≡ 576 }

@@ -10,12 +10,12 @@ use crate::traffic_softs::{leg_softs, power_softs};
 use chip_core::air::{DATA_FRAME_CHIPS, DATA_SYMBOLS, FRAME_OFFSET_CHIPS};
 use chip_core::{CheckForm, Phase, Traffic};
 use frame_decoder::{Decoded, PowerSofts, commands, traffic_frame};
-use heard_events::{Event, Mark, SpelledSignal};
+use heard_events::{Event, Mark, Spelled};
 use pilot_search::Near;
 use rake_finger::{Form, SampleRing};
 use short_code::Codes;
 use symbol_path::power_places;
-use traffic_message::SignalFramer;
+use traffic_message::{SignalFramer, TrafficMessage};
 use viterbi::Decoder;
 
 /// The receiver of the traffic channel of the active pilots, from the mark on, with the pilot sets.
@@ -48,7 +48,7 @@ pub(crate) struct TrafficReceiver {
     power: PowerSofts,
     framer: SignalFramer,
     /// The message that the frame heard last completes, as long as it hasn't been given.
-    kept: Option<SpelledSignal>,
+    kept: Option<Spelled<TrafficMessage>>,
     sets: SetsKeeper,
 }
 

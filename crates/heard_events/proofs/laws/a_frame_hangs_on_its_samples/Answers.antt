@@ -1,4 +1,4 @@
-use Rattle.heard_events.proofs.FrameSamples.{frame_same}
+use Rattle.heard_events.proofs.ChannelFrames.{frame_same}
 use Rattle.heard_events.proofs.laws.a_frame_hangs_on_its_samples.Goals as goal
 
 pub returns : goal.returns

@@ -1,6 +1,7 @@
 use Rattle.mobile_core.proofs.Common.{ℕ, ◌+◌, ◌*◌, arith}
 use Rattle.heard_events.proofs.CloseFingers.{near_are_close}
-use Rattle.heard_events.proofs.FingerTimes.{some_chips, most_chips, ends_bounds, times_one}
+use Rattle.heard_events.proofs.CloseFingers.{some_chips, most_chips}
+use Rattle.heard_events.proofs.FingerTimes.{ends_bounds, times_one}
 use Rattle.mobile_core.proofs.frame_clock.FrameClock.from_frame.Goals as goal
 
 pub frames_end-requires-clause-close : goal.frames_end-requires-clause-close

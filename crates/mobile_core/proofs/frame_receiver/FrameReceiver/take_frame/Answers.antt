@@ -1,5 +1,6 @@
 use Rattle.mobile_core.proofs.Common.{◌∙◌, ℕ, ◌+◌, ap, arith, refl, sym, frame_chips, FrameClock, frame_heard}
-use Rattle.heard_events.proofs.FingerTimes.{begun_on, ends_step, some_chips}
+use Rattle.heard_events.proofs.FingerTimes.{begun_on, ends_step}
+use Rattle.heard_events.proofs.CloseFingers.{some_chips}
 use Rattle.mobile_core.proofs.frame_receiver.FrameReceiver.take_frame.Goals as goal
 
 pub hear-requires-clause-come : goal.hear-requires-clause-come

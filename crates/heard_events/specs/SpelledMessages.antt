@@ -1,0 +1,27 @@
+-- Messages as they are read: each with the capsule that spells it.
+use Rattle.std.specs.Prelude.{Bool, List, Option, Some, None}
+use Rattle.paging_message.specs.declared.message.PagingMessage.{PagingMessage}
+use Rattle.sync_message.specs.declared.fields.SyncFields.{SyncFields}
+use Rattle.traffic_message.specs.Messages.{Message}
+use Rattle.heard_events.specs.declared.spelled.Spelled.{Spelled}
+
+-- those of the sync channel, of a paging channel, and of a traffic channel
+abbrev pub SpelledMessage : Type 0
+SpelledMessage = Spelled SyncFields
+
+abbrev pub SpelledPage : Type 0
+SpelledPage = Spelled PagingMessage
+
+abbrev pub SpelledSignal : Type 0
+SpelledSignal = Spelled Message
+
+-- a capsule, and the message that it spells
+abbrev pub spelled : {M : Type 0} → List Bool → Option M → Option (Spelled M)
+spelled capsule None = None
+spelled capsule (Some message) = Some (record { capsule = capsule; message = message })
+
+-- what is read of a capsule; one with a fault gives none
+abbrev pub spelled_in : {M : Type 0} → (List Bool → Option M) → Option (List Bool) →
+    Option (Spelled M)
+spelled_in reading None = None
+spelled_in reading (Some capsule) = spelled capsule (reading capsule)
