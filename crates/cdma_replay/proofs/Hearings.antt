@@ -19,7 +19,7 @@ use Rattle.heard_events.specs.Given.{listed}
 use Rattle.std.specs.Option.{ForSome}
 use Rattle.chip_core.specs.declared.assignment.Traffic.{Traffic}
 use Rattle.cdma_words.specs.Words.{IsLawfulTraffic}
-use Rattle.mobile_core.specs.TrafficMonitoring.{IsSoundAssignment}
+use Rattle.mobile_core.specs.BehindMark.{IsSoundAssignment}
 use Rattle.heard_events.specs.Near.{AreNear, low_of}
 use Rattle.mobile_core.specs.Standing.{IsStep, StandsFor, Steps, events_left, has_room, parts}
 use Rattle.heard_events.specs.Timing.{IsTimed}

@@ -1,113 +1,180 @@
 -- What the channels behind the mark have still to give, as samples come.
-use Rattle.mobile_core.proofs.Common.{◌≡◌, ℕ, ◌+◌, ◌<◌, ◌≤◌, List, [], ◌++◌, length, map, refl, ap, ◌∙◌, inl, inr, Bool, false, Option}
-use Rattle.mobile_core.proofs.Common.{Some, None, arith, length-append, nat_lt, IsTrue, ◌↔◌, Sample, HearsFollowed, IsFollowedDue, WaitFrom}
-use Rattle.mobile_core.proofs.Common.{IsSoundFollowed, followed_events_left, AreNear, page_event, pages_behind, IsReceiverDue}
-use Rattle.mobile_core.proofs.Common.{paging_events_left, IsFrameDue, Tuning, sync_stream, Followed, Mark, PagingReceiver}
-use Rattle.mobile_core.proofs.FramesFollowed.{FramesEndFrom}
-use Rattle.heard_events.proofs.FollowedEvents.{told_behind, followed_behind, unrated}
+use Rattle.mobile_core.proofs.Common.{◌≡◌, ℕ, ◌+◌, ◌^◌, ◌<◌, ◌≤◌, List, [], ◌++◌, length, refl, sym, ap, subst, ◌∙◌, inl, inr}
+use Rattle.mobile_core.proofs.Common.{Option, Some, None, ForSome, option_map_or, arith, length-append, nat_lt}
+use Rattle.mobile_core.proofs.Common.{Sample, HearsFollowed, HearsFrames, HearsPages, IsFollowedDue, IsSoundFollowed, EndFrom}
+use Rattle.mobile_core.proofs.Common.{WaitFrom, followed_events_left, followed_heard, paging_events_left, AreNear, SetsMark, Tuning}
+use Rattle.mobile_core.proofs.Common.{sync_stream, Event, Followed, Mark, PagingReceiver, TrafficReceiver, IsSomeAnd, IsSoundPaging}
+use Rattle.mobile_core.proofs.Common.{IsSoundTraffic, IsTrafficDue, IsDueAt, IsUnheard, Traffic, append_assoc, bits_heard, listed, traffic_heard, traffic_events_left}
+use Rattle.heard_events.proofs.FollowedEvents.{followed_behind, unrated}
+use Rattle.mobile_core.proofs.FramesFollowed.{frames_closed, frames_go, frames_more, told_few}
+use Rattle.mobile_core.proofs.GoesOn.{GoesOn, both, joined}
 use Rattle.heard_events.proofs.MarkStays.{pages_later}
-use Rattle.mobile_core.proofs.PagesFollowed.{EndsFrom}
-use Rattle.mobile_core.proofs.FramesFollowed as frames
-use Rattle.mobile_core.proofs.PagesFollowed as pages
+use Rattle.mobile_core.proofs.PagesFollowed.{bits_few, pages_closed, pages_go, pages_more, pages_quiet}
 
--- the frame of each that comes next ends at so many samples or later
-pub record EndFrom (n : ℕ) (f : Followed) : Type 0 where
-  pub paging : EndsFrom n f.paging.receiver
-  pub traffic : FramesEndFrom n f.traffic.receiver
+-- what waits ends later
+pub ends_later : (n : ℕ) (f : Followed) → WaitFrom n f → EndFrom (n + 1) f
+ends_later n f waits = record {
+  paging = λ r e. let w = waits.paging r e in omega (arith, w);
+  traffic = λ r e. let w = (waits.traffic r e).before in omega (arith, w);
+}
 
--- where something is due that isn't on the paging channel, it is on the traffic channel
-pub other_due : (count : ℕ) (f : Followed) (paged : Bool) →
-    (IsTrue paged ↔ IsReceiverDue count f.paging.receiver) → paged ≡ false →
-    IsFollowedDue count f → IsFrameDue f.traffic.receiver
-other_due count f paged is none due =
-    elim due [
-      | inl d ↦ let e = is.1 d in absurd (cc)
-      | inr d ↦ d
-    ]
+-- and where nothing is due, what ends later waits
+pub waits_on : (n count : ℕ) (f : Followed) → ¬ IsFollowedDue count f → EndFrom (n + 1) f →
+    WaitFrom n f
+waits_on n count f idle ends = record {
+  paging = λ r e. let most = ends.paging r e in omega (arith, most);
+  traffic = λ r e.
+      let most = ends.traffic r e in
+      record {
+        before = omega (arith, most);
+        due = λ due.
+            absurd (idle (inr (subst (λ (x : Option TrafficReceiver).
+            IsSomeAnd x IsTrafficDue) (sym e) (inr due))));
+      };
+}
 
-both_none : {A : Type 0} (xs ys : List A) → xs ≡ [] → ys ≡ [] → xs ++ ys ≡ []
-both_none xs ys none none' = ap (λ (zs : List _). zs ++ ys) none ∙ none'
+-- what has been heard is a small number
+counted_few : {R : Type 0} (count : R → ℕ) (P : R → Type 0) →
+    ((r : R) → P r → count r < 2 ^ 40) → (receiver : Option R) → ForSome receiver P →
+    option_map_or count receiver 0 < 2 ^ 40
+counted_few count P few None sound = omega arith
+counted_few count P few (Some r) sound = few r (sound r refl)
 
--- where no mark is set no page is left
-pub unset_pages : (t : Tuning) (before : Option Mark) (heard : List Sample)
-    (receiver : Option PagingReceiver) → before ≡ None →
-    paging_events_left t before heard receiver ≡ []
-unset_pages t before heard None unset = refl
-unset_pages t before heard (Some r) unset =
-    ap (λ (x : Option Mark). paging_events_left t x heard (Some r)) unset
+pub followed_few : (f : Followed) → IsSoundFollowed f → followed_heard f < 2 ^ 41
+followed_few f sound =
+    let bits = counted_few bits_heard IsSoundPaging bits_few f.paging sound.paging in
+    let frames = counted_few traffic_heard IsSoundTraffic told_few f.traffic sound.traffic in
+    omega (arith, bits, frames)
 
 module _ {t : Tuning} {f : Followed} {mark : Option Mark} {heard : List Sample}
-    (st : HearsFollowed t f mark heard) (sound : IsSoundFollowed f)
-    (idle : ¬ IsFollowedDue t.count f) where
-  -- before a frame that comes next ends nothing is heard
-  pub followed_quiet : (more : List Sample) (n later : ℕ) → length heard < n → n < later →
-      EndFrom later f → followed_behind t mark (heard ++ more) n ≡ []
-  followed_quiet more n later past before ends =
-      both_none (map (page_event n) (pages_behind t t.paging mark (heard ++ more) n))
-      (told_behind t t.traffic mark (heard ++ more) n)
-      (ap (map (page_event n))
-      (pages.pages_quiet t mark heard f.paging.receiver st.paging.behind (λ d. idle (inl d))
-      (heard ++ more) n later past before ends.paging))
-      (frames.frames_quiet t mark heard (paging_events_left t mark heard f.paging.receiver)
-      f.traffic.receiver st.traffic.behind sound.traffic.receives (λ d. idle (inr d)) more n later
-      past before ends.traffic)
+    (st : HearsFollowed t f mark heard) where
+  -- the receivers change
+  pub moved : (paging : Option PagingReceiver) (traffic : Option TrafficReceiver)
+      (after : Option Mark) (samples : List Sample) (pages : List Event) →
+      pages ≡ paging_events_left t after samples paging → HearsPages t after paging samples →
+      HearsFrames t after traffic samples pages →
+      HearsFollowed t (record f { paging = paging; traffic = traffic }) after samples
+  moved paging traffic after samples pages left hears tells = record {
+    channel_is = st.channel_is;
+    assigned_is = st.assigned_is;
+    phase_is = st.phase_is;
+    deltas_are = st.deltas_are;
+    check_is = st.check_is;
+    paging = hears;
+    traffic = subst (HearsFrames t after traffic samples) left tells;
+  }
 
-  -- where more samples have come, all that is known with the last of them is left
-  pub followed_come : (more : List Sample) → 0 < length more →
-      EndFrom (length (heard ++ more)) f →
-      followed_events_left t mark (heard ++ more) f
-      ≡ followed_behind t mark (heard ++ more) (length (heard ++ more))
-  followed_come more some ends =
-      let long = length-append heard more in
-      let paging = pages.pages_come t mark heard f.paging.receiver st.paging.behind
-      (λ d. idle (inl d)) (heard ++ more) (omega (arith, long, some)) in
-      let traffic = frames.frames_come t mark heard
-      (paging_events_left t mark heard f.paging.receiver) f.traffic.receiver st.traffic.behind
-      sound.traffic.receives (λ d. idle (inr d)) more some ends.traffic in
-      rw (paging, traffic) refl
+  -- where no mark is set no receiver is open
+  pub closed : mark ≡ None → (f.paging ≡ None) × (f.traffic ≡ None)
+  closed unset = (
+    pages_closed t mark heard f.paging st.paging unset,
+    frames_closed t mark heard (paging_events_left t mark heard f.paging) f.traffic st.traffic unset,
+  )
 
-  -- where nothing is due, nothing is left
-  pub followed_given : WaitFrom (length heard) f → followed_events_left t mark heard f ≡ []
-  followed_given waits =
-      let paging = pages.pages_given t mark heard f.paging.receiver st.paging.behind
-      (λ d. idle (inl d)) waits.paging in
-      let traffic = frames.frames_given t mark heard
-      (paging_events_left t mark heard f.paging.receiver) f.traffic.receiver st.traffic.behind
-      sound.traffic.receives (λ d. idle (inr d)) waits.traffic in
-      rw (paging, traffic) refl
+  -- a mark that opens no receiver was there before
+  pub unmoved : (after : Option Mark) (n : ℕ) → SetsMark n mark after →
+      (mark ≡ None → ForSome after (λ m. n < m.sample) → after ≡ None) →
+      HearsFollowed t f after heard
+      × (followed_events_left t after heard f ≡ followed_events_left t mark heard f)
+  unmoved after n sets unset =
+      let same : after ≡ mark = elim sets [
+        | inl same ↦ same
+        | inr later ↦ unset later.0 later.1 ∙ sym later.0
+      ] in (
+        subst (λ (x : Option Mark). HearsFollowed t f x heard) (sym same) st,
+        ap (λ (x : Option Mark). followed_events_left t x heard f) same,
+      )
 
-  -- more samples, up to the end of a frame that comes next
-  pub followed_more : AreNear (sync_stream t).fingers → (more : List Sample) → 0 < length more →
-      length heard + length more ≤ t.count → WaitFrom (length heard) f →
-      EndFrom (length heard + length more) f → HearsFollowed t f mark (heard ++ more)
-  followed_more near more some within waits ends =
-      let long = length-append heard more in
-      record {
-        paging = record {
-          channel_is = st.paging.channel_is;
-          phase_is = st.paging.phase_is;
-          deltas_are = st.paging.deltas_are;
-          behind = pages.behind_more t mark heard f.paging.receiver st.paging.behind
-              (λ d. idle (inl d)) more within ends.paging;
-        };
-        traffic = record {
-          traffic_is = st.traffic.traffic_is;
-          phase_is = st.traffic.phase_is;
-          deltas_are = st.traffic.deltas_are;
-          check_is = st.traffic.check_is;
-          behind = frames.frames_more t mark heard
-              (paging_events_left t mark heard f.paging.receiver) f.traffic.receiver
-              st.traffic.behind sound.traffic.receives (λ d. idle (inr d)) more some within
-              waits.traffic ends.traffic
-              (pages.pages_given t mark heard f.paging.receiver st.paging.behind
-              (λ d. idle (inl d)) waits.paging)
-              (paging_events_left t mark (heard ++ more) f.paging.receiver)
-              (pages.pages_come t mark heard f.paging.receiver st.paging.behind
-              (λ d. idle (inl d)) (heard ++ more) (omega (arith, long, some)))
-              (λ samples n past less.
-              pages.pages_quiet t mark heard f.paging.receiver st.paging.behind
-              (λ d. idle (inl d)) samples n (length heard + length more) past less ends.paging)
-              (λ m n before. unrated (nat_lt m.prat 2) _
-              (pages_later t near t.paging (heard ++ more) n m before));
-        };
-      }
+  -- receivers are opened that have heard nothing
+  pub opened : (paging : Option PagingReceiver) (traffic : Option TrafficReceiver) (m : Mark) →
+      f.paging ≡ None → f.traffic ≡ None →
+      HearsPages t (Some m) paging heard × (paging_events_left t (Some m) heard paging ≡ []) →
+      HearsFrames t (Some m) traffic heard []
+      × (traffic_events_left t (Some m) heard traffic ≡ []) →
+      HearsFollowed t (record f { paging = paging; traffic = traffic }) (Some m) heard
+      × (paging_events_left t (Some m) heard paging ++ traffic_events_left t (Some m) heard traffic
+      ≡ followed_events_left t mark heard f)
+  opened paging traffic m unpaged unfollowed pages frames = (
+    moved paging traffic (Some m) heard [] (sym pages.1) pages.0 frames.0,
+    joined pages.1 frames.1
+        ∙ sym (joined (ap (paging_events_left t mark heard) unpaged)
+        (ap (traffic_events_left t mark heard) unfollowed)),
+  )
+
+  -- where no channel is assigned none is heard
+  pub unassigned : (m : Mark) → f.traffic ≡ None → f.assigned ≡ None →
+      HearsFrames t (Some m) f.traffic heard []
+      × (traffic_events_left t (Some m) heard f.traffic ≡ [])
+  unassigned m closed none = (
+    subst (λ (x : Option TrafficReceiver). HearsFrames t (Some m) x heard []) (sym closed)
+        (subst (λ (x : Option Traffic). IsUnheard x (Some m)) (sym none ∙ st.assigned_is) tt),
+    ap (traffic_events_left t (Some m) heard) closed,
+  )
+
+  -- what was due of the paging channel has been heard, and the pilot sets took what it tells
+  pub heard_page : (paging : Option PagingReceiver) (traffic : Option TrafficReceiver)
+      (event : Option Event) → HearsPages t mark paging heard
+      × (listed event ++ paging_events_left t mark heard paging
+      ≡ paging_events_left t mark heard f.paging) →
+      ((pages : List Event) → HearsFrames t mark f.traffic heard (listed event ++ pages) →
+      HearsFrames t mark traffic heard pages
+      × (traffic_events_left t mark heard traffic ≡ traffic_events_left t mark heard f.traffic)) →
+      HearsFollowed t (record f { paging = paging; traffic = traffic }) mark heard
+      × (listed event ++ (paging_events_left t mark heard paging
+      ++ traffic_events_left t mark heard traffic) ≡ followed_events_left t mark heard f)
+  heard_page paging traffic event hears notes =
+      let pages = paging_events_left t mark heard paging in
+      let noted = notes pages
+      (subst (HearsFrames t mark f.traffic heard) (sym hears.1) st.traffic) in (
+        moved paging traffic mark heard pages refl hears.0 noted.0,
+        sym (append_assoc (listed event) pages (traffic_events_left t mark heard traffic))
+            ∙ joined hears.1 noted.1,
+      )
+
+  -- where nothing is due of it, what was due of the traffic channel has been heard
+  pub heard_other : {n : ℕ} →
+      ¬ IsSomeAnd f.paging (λ r. IsDueAt t.count r.received.clock) → n ≡ length heard →
+      WaitFrom n f → (traffic : Option TrafficReceiver) (event : Option Event) →
+      (HearsFrames t mark f.traffic heard [] → HearsFrames t mark traffic heard []
+      × (listed event ++ traffic_events_left t mark heard traffic
+      ≡ traffic_events_left t mark heard f.traffic)) →
+      HearsFollowed t (record f { traffic = traffic }) mark heard
+      × (listed event ++ (paging_events_left t mark heard f.paging
+      ++ traffic_events_left t mark heard traffic) ≡ followed_events_left t mark heard f)
+  heard_other none here waits traffic event hears =
+      let quiet = (pages_go t mark heard f.paging st.paging none (length heard + 1)
+      (λ r e. omega (arith, waits.paging r e, here))).given (omega arith) in
+      let on = hears (subst (HearsFrames t mark f.traffic heard) quiet st.traffic) in (
+        moved f.paging traffic mark heard [] (sym quiet) st.paging on.0,
+        ap (λ (es : List Event). listed event ++ (es ++ traffic_events_left t mark heard traffic))
+            quiet
+            ∙ on.1
+            ∙ sym (ap (λ (es : List Event). es ++ traffic_events_left t mark heard f.traffic) quiet),
+      )
+
+  module _ (sound : IsSoundFollowed f) (idle : ¬ IsFollowedDue t.count f) where
+    pub goes_on : (end : ℕ) → EndFrom end f →
+        GoesOn (followed_behind t mark) (λ samples. followed_events_left t mark samples f) heard end
+    goes_on end ends =
+        both (pages_go t mark heard f.paging st.paging (λ d. idle (inl d)) end ends.paging)
+        (frames_go t mark heard (paging_events_left t mark heard f.paging) f.traffic st.traffic
+        sound.traffic (λ d. idle (inr d)) end ends.traffic)
+
+    -- more samples, up to the end of a frame that comes next
+    pub followed_more : AreNear (sync_stream t).fingers → (more : List Sample) → 0 < length more →
+        length heard + length more ≤ t.count → WaitFrom (length heard) f →
+        EndFrom (length heard + length more) f → HearsFollowed t f mark (heard ++ more)
+    followed_more near more some within waits ends =
+        let end : ℕ = length heard + length more in
+        let long = length-append heard more in
+        let pages = pages_go t mark heard f.paging st.paging (λ d. idle (inl d)) end ends.paging in
+        moved f.paging f.traffic mark (heard ++ more) _ (sym (pages.come more some (omega (arith, long))))
+        (pages_more t mark heard f.paging st.paging (λ d. idle (inl d)) more within ends.paging)
+        (frames_more t mark heard (paging_events_left t mark heard f.paging) f.traffic st.traffic
+        sound.traffic (λ d. idle (inr d)) more some within waits.traffic ends.traffic
+        (pages.given (omega (arith, some)))
+        (λ samples n past less.
+        pages_quiet t mark heard f.paging st.paging (λ d. idle (inl d)) samples n end past less
+        ends.paging)
+        (λ m n before. unrated (nat_lt m.prat 2) _
+        (pages_later t near t.paging (heard ++ more) n m before)))

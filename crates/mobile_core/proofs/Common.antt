@@ -10,8 +10,8 @@ pub use Rattle.std.proofs.lemmas.List.{append_assoc, at_drop_more, drop-append-l
 pub use Rattle.std.proofs.lemmas.List.{length-take-le, map-append, take_all, take_at, take_more, take_rest}
 pub use Rattle.std.proofs.lemmas.List.Folds.{list_all-append, list_any-append, sum_by-replicate}
 pub use Rattle.std.specs.List.{flat_map, list_all, list_any}
-pub use Rattle.std.specs.Option.{ForSome, option_or, option_to_list}
-pub use Rattle.std.specs.Prelude.{IsTrue, if◌then◌else◌, int_le, int_lt, is_some, nat_eq, sum_by, unsigned_abs, ◌↔◌}
+pub use Rattle.std.specs.Option.{ForSome, IsSomeAnd, MatchOption, option_map_or, option_or, option_to_list}
+pub use Rattle.std.specs.Prelude.{IsTrue, if◌then◌else◌, int_le, int_lt, is_some, nat_eq, sum_by, unsigned_abs}
 pub use Rattle.std.proofs.lemmas.List.Elements.{All-append, All-set, filter-append}
 pub use Rattle.std.proofs.Math.Seq.{take-add}
 pub use Rattle.std.proofs.lemmas.Int.{to_z-of_z}
@@ -67,7 +67,7 @@ pub use Rattle.heard_events.specs.SyncEvents.{events_of, heard_in}
 unfoldable pub use Rattle.heard_events.specs.SyncEvents.{frames_before, heard_at, sync_capsule_at, sync_events_at}
 pub use Rattle.heard_events.specs.Timing.{IsTimed}
 unfoldable pub use Rattle.heard_events.specs.Timing.{stream_end}
-pub use Rattle.heard_events.specs.TrafficEvents.{all_sums, frame_event, unturned_softs}
+pub use Rattle.heard_events.specs.TrafficEvents.{all_sums, frame_event, if_followed, unturned_softs}
 unfoldable pub use Rattle.heard_events.specs.TrafficEvents.{commands_at, decoded_at}
 pub use Rattle.heard_events.specs.TrafficStreams.{chips_behind, frame_known, frame_state, has_frame, replaced_in, traffic_start}
 pub use Rattle.heard_events.specs.Tuning.{Tuning, finger_of, fingers_of, sync_stream, tuning_by}
@@ -121,11 +121,11 @@ pub use borrow.Rule.Slice.PartMut.{post_of}
 pub use mir.Syntax.{w64, w8}
 pub use mir.Val.{SFits}
 pub use Rattle.mobile_core.specs.Clocks.{IsAt, IsDueAt, clock_from, first_frame, frame_come, frame_heard, span_from}
-pub use Rattle.mobile_core.specs.FollowedChannels.{HearsFollowed, IsFollowedDue, IsSoundFollowed, WaitFrom, followed_events_left}
+pub use Rattle.mobile_core.specs.BehindMark.{FollowsPages, FollowsTraffic, IsUnheard, IsUnpaged, SetsMark, paging_due, paging_left, traffic_left}
+pub use Rattle.mobile_core.specs.FollowedChannels.{EndFrom, HearsFollowed, HearsFrames, HearsPages, IsFollowedDue, IsSoundFollowed, WaitFrom}
+pub use Rattle.mobile_core.specs.FollowedChannels.{followed_events_left, followed_heard, paging_events_left, traffic_events_left}
 pub use Rattle.mobile_core.specs.FrameReceiving.{HasGiven}
 pub use Rattle.mobile_core.specs.LegSofts.{sums_on}
-pub use Rattle.mobile_core.specs.PagingMonitoring.{HearsBehind, HearsPages, IsReceiverDue, SetsMark, WaitsFrom, due_by, heard_by, is_paged}
-pub use Rattle.mobile_core.specs.PagingMonitoring.{paging_events_left}
 pub use Rattle.mobile_core.specs.PagingReceiving.{HearsBit, HearsPaging, IsSoundPaging, bit_passed, bits_heard}
 pub use Rattle.mobile_core.specs.Progress.{IsDue, IsReached}
 pub use Rattle.mobile_core.specs.Receiving.{Receives}
@@ -134,19 +134,15 @@ pub use Rattle.mobile_core.specs.Softs.{AreSmall, frame_most, last_softs}
 pub use Rattle.mobile_core.specs.Sound.{IsSoundSync}
 pub use Rattle.mobile_core.specs.Standing.{Parts, Stands, Steps, due_parts, events_left, parts}
 pub use Rattle.mobile_core.specs.SyncReceiving.{HearsNext, HearsSync}
-pub use Rattle.mobile_core.specs.TrafficMonitoring.{FramesWaitFrom, HearsFrames, HearsFramesBehind, IsFrameDue, IsUnheard, traffic_due_by}
-pub use Rattle.mobile_core.specs.TrafficMonitoring.{traffic_events_left, traffic_heard_by, traffic_left_behind}
 pub use Rattle.mobile_core.specs.TrafficReceiving.{HasTold, HearsTraffic, HearsWith, IsSoundTraffic, IsTrafficDue, WaitsAt, kept_by}
-pub use Rattle.mobile_core.specs.TrafficReceiving.{kept_in, next_end, noted_by, told_left_with, traffic_due, traffic_left_of}
+pub use Rattle.mobile_core.specs.TrafficReceiving.{kept_in, next_end, noted_by, told_left_with, traffic_heard, traffic_left_of}
 pub use Rattle.mobile_core.specs.declared.continued.Continued.{Continued}
 pub use Rattle.mobile_core.specs.declared.followed.Followed.{Followed}
 pub use Rattle.mobile_core.specs.declared.frame_clock.FrameClock.{FrameClock}
 pub use Rattle.mobile_core.specs.declared.frame_receiver.FrameReceiver.{FrameReceiver}
 pub use Rattle.mobile_core.specs.declared.mobile.Mobile.{Mobile}
-pub use Rattle.mobile_core.specs.declared.paging_monitor.PagingMonitor.{PagingMonitor}
 pub use Rattle.mobile_core.specs.declared.paging_receiver.PagingReceiver.{PagingReceiver}
 pub use Rattle.mobile_core.specs.declared.scrambling.Scrambling.{Scrambling}
 pub use Rattle.mobile_core.specs.declared.sets_keeper.SetsKeeper.{SetsKeeper}
 pub use Rattle.mobile_core.specs.declared.sync_receiver.SyncReceiver.{SyncReceiver}
-pub use Rattle.mobile_core.specs.declared.traffic_monitor.TrafficMonitor.{TrafficMonitor}
 pub use Rattle.mobile_core.specs.declared.traffic_receiver.TrafficReceiver.{TrafficReceiver}

@@ -1,9 +1,9 @@
 -- What a handset has still to tell where more samples come, up to the end of the next frame.
 use Rattle.mobile_core.proofs.Common.{◌≡◌, ℕ, suc, ◌+◌, ◌-◌, ◌<◌, ◌≤◌, List, [], ◌++◌, length, length-append, refl, sym, ap, ◌∙◌, arith}
-use Rattle.mobile_core.proofs.Common.{inl, inr, subst, cases_lt, Sample, events, events_at, heard_within, HearsFollowed, IsFollowedDue}
+use Rattle.mobile_core.proofs.Common.{inl, inr, cases_lt, Sample, events, events_at, heard_within, EndFrom, HearsFollowed, IsFollowedDue}
 use Rattle.mobile_core.proofs.Common.{IsSoundFollowed, followed_events_left, sync_events_left, mark, mark_before, AreNear, sync_events_at}
 use Rattle.mobile_core.proofs.Common.{Tuning, sync_stream, Event, Followed, Mark, Option, flat_map_grown}
-use Rattle.mobile_core.proofs.ChannelsFollowed.{EndFrom, followed_come, followed_quiet}
+use Rattle.mobile_core.proofs.ChannelsFollowed.{goes_on}
 use Rattle.heard_events.proofs.FollowedEvents.{followed_behind}
 use Rattle.heard_events.proofs.Growth.{IsSyncTimed, KnownBefore, KnownFrom}
 use Rattle.heard_events.proofs.MarkGrowth.{mark_before_sooner, mark_is}
@@ -37,7 +37,7 @@ module _ (t : Tuning) (low : ℕ) (timed : IsSyncTimed t low)
           | inl below ↦ let b = before k below inside in omega (arith, b, e, past)
           | inr above ↦ let b = from k above inside in omega (arith, b, e, less)
         ]) in
-        let others = followed_quiet behind sound none ys n (length xs + length ys) past less ends in
+        let others = (goes_on behind sound none (length xs + length ys) ends).quiet ys n past less in
         events_at_by t (xs ++ ys) n set (mark_here n (omega (arith, past)) less)
         ∙ ap (λ (es : List Event). es ++ followed_behind t set (xs ++ ys) n) sync
         ∙ others
@@ -59,9 +59,8 @@ module _ (t : Tuning) (low : ℕ) (timed : IsSyncTimed t low)
         let others : followed_behind t (mark t (xs ++ ys) (length (xs ++ ys))) (xs ++ ys)
         (length (xs ++ ys))
         ≡ followed_behind t set (xs ++ ys) (length (xs ++ ys)) = rw long later in
-        let whole : length xs + length ys ≡ length (xs ++ ys) = sym (length-append xs ys) in
-        let come = followed_come behind sound none ys some
-        (subst (λ (k : ℕ). EndFrom k f) whole ends) in
+        let come = (goes_on behind sound none (length xs + length ys) ends).come ys some
+        (omega (arith, length-append xs ys)) in
         events_at_by t (xs ++ ys) (length (xs ++ ys)) (mark t (xs ++ ys) (length (xs ++ ys))) refl
         ∙ ap (λ (es : List Event). here ++ es) (others ∙ sym come)
         ∙ ap (λ (es : List Event). es ++ followed_events_left t set (xs ++ ys) f) (sym sync)

@@ -1,21 +1,20 @@
 -- What a handset's traffic channel has still to give, as samples come.
 use Rattle.mobile_core.proofs.Common.{◌≡◌, ℕ, ◌+◌, ◌^◌, ◌<◌, ◌≤◌, ◌==◌, List, [], ◌++◌, length, refl, sym, ap, subst, ◌∙◌, arith, inl, inr}
-use Rattle.mobile_core.proofs.Common.{Option, Some, None, take, map, true, false, length-append, Bool, is_some, if◌then◌else◌, ForSome}
-use Rattle.mobile_core.proofs.Common.{cases_lt, false_from_ne_true, ne_eqb, take_all, Sample, listed, frames_at, heard_from, kept_to}
-use Rattle.mobile_core.proofs.Common.{legs_at, legs_by, messages_at, moment_place, moments_before, sets_at, sets_events, page_event}
-use Rattle.mobile_core.proofs.Common.{pages_behind, coming_place, FramesWaitFrom, HearsFrames, HearsFramesBehind, IsFrameDue, IsUnheard}
-use Rattle.mobile_core.proofs.Common.{traffic_events_left, traffic_due_by, traffic_heard_by, traffic_left_behind, HearsTraffic, HearsWith}
-use Rattle.mobile_core.proofs.Common.{IsSoundTraffic, IsTrafficDue, kept_in, next_end, noted_by, sets_left_of, traffic_due, WaitsAt}
-use Rattle.mobile_core.proofs.Common.{traffic_left_of, told_left_with, Tuning, Event, Leg, Mark, Traffic, TrafficMonitor, TrafficReceiver}
-use Rattle.mobile_core.proofs.FramesHeard.{none_come, none_kept, told_come, told_given, told_quiet}
-use Rattle.heard_events.proofs.MomentGrowth.{kept_sooner}
-use Rattle.heard_events.proofs.TrafficGrowth.{told_at}
+use Rattle.mobile_core.proofs.Common.{Option, Some, None, take, true, false, length-append, Bool, is_some, if◌then◌else◌, ForSome, IsSomeAnd}
+use Rattle.mobile_core.proofs.Common.{cases_lt, false_from_ne_true, ne_eqb, take_all, Sample, listed, frames_at, heard_from}
+use Rattle.mobile_core.proofs.Common.{kept_to, legs_at, legs_by, messages_at, moment_place, moments_before, sets_at}
+use Rattle.mobile_core.proofs.Common.{sets_events, pages_behind, coming_place, FollowsTraffic, HearsFrames, IsUnheard}
+use Rattle.mobile_core.proofs.Common.{traffic_left, traffic_events_left, if_followed, HearsTraffic, HearsWith, IsSoundTraffic, IsTrafficDue}
+use Rattle.mobile_core.proofs.Common.{at_of, ◌∷◌, kept_in, next_end, noted_by, sets_left_of, traffic_heard, WaitsAt, traffic_left_of, told_left_with}
+use Rattle.mobile_core.proofs.Common.{Tuning, Event, Leg, Mark, Traffic, TrafficReceiver}
 use Rattle.heard_events.proofs.FollowedEvents.{told_behind}
+use Rattle.mobile_core.proofs.FramesHeard.{none_come, none_kept, told_come, told_given, told_quiet}
+use Rattle.mobile_core.proofs.FramesTold.{hears_noted}
+use Rattle.mobile_core.proofs.GoesOn.{GoesOn, never}
+use Rattle.heard_events.proofs.MomentGrowth.{kept_sooner}
+use Rattle.mobile_core.proofs.PagesFollowed.{paged_behind}
+use Rattle.heard_events.proofs.TrafficGrowth.{told_at}
 use Rattle.mobile_core.proofs.FramesHeard as heard_frames
-
--- the frame that comes next ends at so many samples or later, and so lies the next moment
-abbrev pub FramesEndFrom : ℕ → Option TrafficReceiver → Type 0
-FramesEndFrom n receiver = ForSome receiver (λ r. n ≤ next_end r)
 
 -- what is heard of the channel when just n samples have been taken: frames first, the moment last
 abbrev pub all_told : Tuning → Traffic → Mark → List Sample → ℕ → List Event
@@ -29,23 +28,6 @@ pub unheard : (t : Tuning) (followed : Option Traffic) (mark : Option Mark)
 unheard t None mark samples n h = refl
 unheard t (Some traffic) mark samples n h =
     ap (λ (x : Option Mark). told_behind t (Some traffic) x samples n) h
-
--- a channel that is followed, behind a mark that is set
-pub heard_at : (t : Tuning) (traffic : Traffic) (m : Mark) (followed : Option Traffic)
-    (mark : Option Mark) (samples : List Sample) (n : ℕ) → followed ≡ Some traffic →
-    mark ≡ Some m → told_behind t followed mark samples n ≡ all_told t traffic m samples n
-heard_at t traffic m followed mark samples n e e' =
-    ap (λ (x : Option Traffic). told_behind t x mark samples n) e
-    ∙ ap (λ (x : Option Mark). told_behind t (Some traffic) x samples n) e'
-
-left_of : (t : Tuning) (traffic : Traffic) (m : Mark) (followed : Option Traffic)
-    (mark : Option Mark) (samples : List Sample) (r : TrafficReceiver) →
-    followed ≡ Some traffic → mark ≡ Some m →
-    traffic_left_behind t followed mark samples r
-    ≡ traffic_left_of t traffic m samples r
-left_of t traffic m followed mark samples r e e' =
-    ap (λ (x : Option Traffic). traffic_left_behind t x mark samples r) e
-    ∙ ap (λ (x : Option Mark). traffic_left_behind t (Some traffic) x samples r) e'
 
 -- THE RECEIVER
 -- how many moments lie before a number of samples
@@ -182,90 +164,131 @@ module _ {t : Tuning} {traffic : Traffic} {m : Mark} {r : TrafficReceiver} {hear
         ++ es)
         (sym (set_there t traffic m (heard ++ more) n r.sets.passed moments whole refl))
 
+-- THE RECEIVER BEHIND THE MARK
+module _ {t : Tuning} {mark : Option Mark} {r : TrafficReceiver} {heard : List Sample}
+    {pages : List Event} (st : FollowsTraffic t mark r heard pages) where
+  -- it has heard more, or more is left to be heard
+  pub tells_on : (after : TrafficReceiver) (samples : List Sample) (later : List Event) →
+      HearsTraffic t st.traffic st.set after samples later →
+      FollowsTraffic t mark after samples later
+  tells_on after samples later hears = record {
+    traffic = st.traffic;
+    traffic_is = st.traffic_is;
+    set = st.set;
+    set_is = st.set_is;
+    hears = hears;
+  }
+
+  pub left_is : (samples : List Sample) (after : TrafficReceiver) →
+      traffic_left t mark samples after ≡ traffic_left_of t st.traffic st.set samples after
+  left_is samples after =
+      ap (λ (x : Option Traffic).
+      if_followed (λ traffic m. traffic_left_of t traffic m samples after) x mark) st.traffic_is
+      ∙ ap (λ (x : Option Mark).
+      if_followed (λ traffic m. traffic_left_of t traffic m samples after) (Some st.traffic) x)
+      st.set_is
+
+  told_is : (samples : List Sample) (n : ℕ) →
+      told_behind t t.traffic mark samples n ≡ all_told t st.traffic st.set samples n
+  told_is samples n =
+      ap (λ (x : Option Traffic). told_behind t x mark samples n) st.traffic_is
+      ∙ ap (λ (x : Option Mark). told_behind t (Some st.traffic) x samples n) st.set_is
+
+  -- what was due first has been heard
+  pub tells_left : (after : TrafficReceiver) (event : Option Event) →
+      listed event ++ traffic_left_of t st.traffic st.set heard after
+      ≡ traffic_left_of t st.traffic st.set heard r →
+      listed event ++ traffic_left t mark heard after ≡ traffic_left t mark heard r
+  tells_left after event left =
+      ap (λ (es : List Event). listed event ++ es) (left_is heard after)
+      ∙ left
+      ∙ sym (left_is heard r)
+
+-- the sets have taken what an event of the paging channel tells
+pub frames_noted : {t : Tuning} {mark : Option Mark} {r : TrafficReceiver} {heard : List Sample}
+    {pages : List Event} (event : Event) → FollowsTraffic t mark r heard (event ∷ pages) →
+    at_of event ≡ length heard → FollowsTraffic t mark (noted_by event r) heard pages
+    × (traffic_left t mark heard (noted_by event r) ≡ traffic_left t mark heard r)
+frames_noted {heard = heard} {pages = pages} event st here =
+    (tells_on st (noted_by event _) heard pages (hears_noted event st.hears here), refl)
+
+-- what has been heard is a small number
+pub told_few : (r : TrafficReceiver) → IsSoundTraffic r → traffic_heard r < 2 ^ 40
+told_few r is =
+    let few = is.keeper.few in
+    omega (arith, is.start_least, is.start_most, is.next_have, few)
+
+-- what an event of the paging channel tells leaves what waits
+pub noted_waits : (n : ℕ) (r : TrafficReceiver) (event : Event) → WaitsAt n r →
+    WaitsAt n (noted_by event r)
+noted_waits n r event waits = record { before = waits.before; due = waits.due }
+
 -- WHETHER A CHANNEL IS FOLLOWED OR NOT
 module _ (t : Tuning) (mark : Option Mark) (heard : List Sample) (pages : List Event) where
-  -- before the frame that comes next ends none is heard
-  pub frames_quiet : (receiver : Option TrafficReceiver) →
-      HearsFramesBehind t mark receiver heard pages → ForSome receiver IsSoundTraffic →
-      ¬ IsFrameDue receiver → (more : List Sample) (n later : ℕ) → length heard < n →
-      n < later → FramesEndFrom later receiver →
-      told_behind t t.traffic mark (heard ++ more) n ≡ []
-  frames_quiet None behind sound none more n later past before ends =
-      unheard t t.traffic mark (heard ++ more) n behind
-  frames_quiet (Some r) behind sound none more n later past before ends =
-      heard_at t behind.traffic behind.set t.traffic mark (heard ++ more) n behind.traffic_is
-      behind.set_is
-      ∙ receiver_quiet behind.hears (sound r refl) none more n later past before (ends r refl)
-
-  -- where more samples have come, all that ends with the last of them is left
-  pub frames_come : (receiver : Option TrafficReceiver) →
-      HearsFramesBehind t mark receiver heard pages → ForSome receiver IsSoundTraffic →
-      ¬ IsFrameDue receiver → (more : List Sample) → 0 < length more →
-      FramesEndFrom (length (heard ++ more)) receiver →
-      traffic_events_left t mark (heard ++ more) receiver
-      ≡ told_behind t t.traffic mark (heard ++ more) (length (heard ++ more))
-  frames_come None behind sound none more some ends =
-      sym (unheard t t.traffic mark (heard ++ more) (length (heard ++ more)) behind)
-  frames_come (Some r) behind sound none more some ends =
-      left_of t behind.traffic behind.set t.traffic mark (heard ++ more) r behind.traffic_is
-      behind.set_is
-      ∙ receiver_come behind.hears (sound r refl) none more some (ends r refl)
-      ∙ sym (heard_at t behind.traffic behind.set t.traffic mark (heard ++ more)
-      (length (heard ++ more)) behind.traffic_is behind.set_is)
-
-  -- where nothing is due, nothing is left
-  pub frames_given : (receiver : Option TrafficReceiver) →
-      HearsFramesBehind t mark receiver heard pages → ForSome receiver IsSoundTraffic →
-      ¬ IsFrameDue receiver → FramesWaitFrom (length heard) receiver →
-      traffic_events_left t mark heard receiver ≡ []
-  frames_given None behind sound none waits = refl
-  frames_given (Some r) behind sound none waits =
-      left_of t behind.traffic behind.set t.traffic mark heard r behind.traffic_is behind.set_is
-      ∙ receiver_given behind.hears (sound r refl) none (waits r refl).before
+  pub frames_go : (receiver : Option TrafficReceiver) → HearsFrames t mark receiver heard pages →
+      ForSome receiver IsSoundTraffic → ¬ IsSomeAnd receiver IsTrafficDue → (end : ℕ) →
+      ForSome receiver (λ r. end ≤ next_end r) →
+      GoesOn (told_behind t t.traffic mark) (λ samples. traffic_events_left t mark samples receiver)
+      heard end
+  frames_go None behind sound none end ends =
+      never (told_behind t t.traffic mark)
+      (λ samples n. unheard t t.traffic mark samples n behind) heard end
+  frames_go (Some r) behind sound none end ends =
+      let st = behind.hears in
+      let is = sound r refl in
+      let most = ends r refl in
+      record {
+        given = λ early. left_is behind heard r
+            ∙ receiver_given st is none (omega (arith, early, most));
+        quiet = λ more n past before. told_is behind (heard ++ more) n
+            ∙ receiver_quiet st is none more n end past before most;
+        come = λ more some within. left_is behind (heard ++ more) r
+            ∙ receiver_come st is none more some (omega (arith, within, most))
+            ∙ sym (told_is behind (heard ++ more) (length (heard ++ more)));
+      }
 
   -- more samples, up to the end of the frame that comes next
-  pub frames_more : (receiver : Option TrafficReceiver) →
-      HearsFramesBehind t mark receiver heard pages → ForSome receiver IsSoundTraffic →
-      ¬ IsFrameDue receiver → (more : List Sample) → 0 < length more →
-      length heard + length more ≤ t.count → FramesWaitFrom (length heard) receiver →
-      FramesEndFrom (length heard + length more) receiver → pages ≡ [] →
-      (later : List Event) →
-      later ≡ map (page_event (length (heard ++ more)))
-      (pages_behind t t.paging mark (heard ++ more) (length (heard ++ more))) →
+  pub frames_more : (receiver : Option TrafficReceiver) → HearsFrames t mark receiver heard pages →
+      ForSome receiver IsSoundTraffic → ¬ IsSomeAnd receiver IsTrafficDue →
+      (more : List Sample) → 0 < length more → length heard + length more ≤ t.count →
+      ForSome receiver (WaitsAt (length heard)) →
+      ForSome receiver (λ r. length heard + length more ≤ next_end r) → pages ≡ [] →
       ((samples : List Sample) (n : ℕ) → length heard < n → n < length heard + length more →
       pages_behind t t.paging mark samples n ≡ []) →
       ((m : Mark) (n : ℕ) → n ≤ m.sample →
       pages_behind t t.paging (Some m) (heard ++ more) n ≡ []) →
-      HearsFramesBehind t mark receiver (heard ++ more) later
-  frames_more None behind sound none more some within waits ends given later is quiet before =
-      behind
-  frames_more (Some r) behind sound none more some within waits ends given later is quiet before =
-      let traffic = behind.traffic in
-      let m = behind.set in
+      HearsFrames t mark receiver (heard ++ more)
+      (paged_behind t mark (heard ++ more) (length (heard ++ more)))
+  frames_more None behind sound none more some within waits ends given quiet before = behind
+  frames_more (Some r) behind sound none more some within waits ends given quiet before =
       let st = behind.hears in
-      let parts = ends_at st (sound r refl) none (length heard + length more) (ends r refl) in
-      let now = ends_at st (sound r refl) none (length heard + 1)
-      (let w = (waits r refl).before in omega (arith, w)) in
-      let first = now.0 in
-      let grown = heard_frames.hears_more st (sound r refl) more none some parts.0 parts.1
-      (omega (arith, first)) within given later
-      (is ∙ ap (λ (x : Option Mark). map (page_event (length (heard ++ more)))
-      (pages_behind t t.paging x (heard ++ more) (length (heard ++ more)))) behind.set_is)
+      let m = behind.set in
+      let later = paged_behind t mark (heard ++ more) (length (heard ++ more)) in
+      let known = sound r refl in
+      let early = (waits r refl).before in
+      let parts = ends_at st known none (length heard + length more) (ends r refl) in
+      let now = (ends_at st known none (length heard + 1) (omega (arith, early))).0 in
+      let grown = heard_frames.hears_more st known more none some parts.0 parts.1
+      (omega (arith, now)) within given later
+      (ap (λ (x : Option Mark). paged_behind t x (heard ++ more) (length (heard ++ more)))
+      behind.set_is)
       (λ samples n past less.
       ap (λ (x : Option Mark). pages_behind t t.paging x samples n) (sym behind.set_is)
       ∙ quiet samples n past less)
       (before m) in
-      record {
-        traffic = traffic;
-        traffic_is = behind.traffic_is;
-        set = m;
-        set_is = behind.set_is;
-        hears = subst (HearsWith t traffic m r (heard ++ more) later)
-            (sym (kept_more st (sound r refl) none more)) grown;
-      }
+      tells_on behind r (heard ++ more) later
+      (subst (HearsWith t behind.traffic m r (heard ++ more) later)
+      (sym (kept_more st known none more)) grown)
+
+  -- where no mark is set no receiver is open
+  pub frames_closed : (receiver : Option TrafficReceiver) →
+      HearsFrames t mark receiver heard pages → mark ≡ None → receiver ≡ None
+  frames_closed None behind unset = refl
+  frames_closed (Some r) behind unset =
+      let both : None ≡ Some behind.set = sym unset ∙ behind.set_is in
+      absurd (cc)
 
 -- WHERE A MARK IS SET
-
 -- nothing is due of a receiver that has heard nothing
 none_opened : (r : TrafficReceiver) → r.have ≡ r.next → r.kept ≡ None → r.sets.due ≡ false →
     ¬ IsTrafficDue r
@@ -280,99 +303,15 @@ none_opened r fresh empty idle = λ due.
     ]
 
 -- a receiver that is open now has heard nothing
-module _ (t : Tuning) (heard : List Sample) (traffic : Traffic) (m : Mark) (r : TrafficReceiver)
-    (followed : t.traffic ≡ Some traffic) (hears : HearsTraffic t traffic m r heard []) where
-  pub frames_opened : HearsFramesBehind t (Some m) (Some r) heard []
-  frames_opened =
-      record { traffic = traffic; traffic_is = followed; set = m; set_is = refl; hears = hears }
-
-  pub frames_opened_left : IsSoundTraffic r → r.have ≡ r.next → r.kept ≡ None →
-      r.sets.due ≡ false → length heard < next_end r →
-      traffic_events_left t (Some m) heard (Some r) ≡ []
-  frames_opened_left sound fresh empty idle ends =
-      left_of t traffic m t.traffic (Some m) heard r followed refl
-      ∙ receiver_given hears sound (none_opened r fresh empty idle) ends
-
--- THE MONITOR, AS ITS RECEIVER CHANGES
-module _ {t : Tuning} {f : TrafficMonitor} {heard : List Sample} {before : Option Mark}
-    {pages : List Event} (st : HearsFrames t f before heard pages) where
-  pub frames_with : (after : Option Mark) (receiver : Option TrafficReceiver)
-      (later : List Event) → HearsFramesBehind t after receiver heard later →
-      HearsFrames t (record f { receiver = receiver }) after heard later
-  frames_with after receiver later behind = record {
-    traffic_is = st.traffic_is;
-    phase_is = st.phase_is;
-    deltas_are = st.deltas_are;
-    check_is = st.check_is;
-    behind = behind;
-  }
-
-  module _ (r after : TrafficReceiver) (is : f.receiver ≡ Some r) where
-    behind_here : HearsFramesBehind t before (Some r) heard pages
-    behind_here =
-        subst (λ (x : Option TrafficReceiver). HearsFramesBehind t before x heard pages) is
-        st.behind
-
-    -- soft values of a frame have come, or what was due has been heard
-    pub frames_on : (later : List Event) →
-        ((traffic : Traffic) (m : Mark) → HearsTraffic t traffic m r heard pages →
-        HearsTraffic t traffic m after heard later) →
-        HearsFrames t (record f { receiver = Some after }) before heard later
-    frames_on later on =
-        let behind = behind_here in
-        frames_with before (Some after) later (record {
-          traffic = behind.traffic;
-          traffic_is = behind.traffic_is;
-          set = behind.set;
-          set_is = behind.set_is;
-          hears = on behind.traffic behind.set behind.hears;
-        })
-
-    -- what was due first has been heard
-    pub frame_left : (event : Option Event) →
-        ((traffic : Traffic) (m : Mark) → HearsTraffic t traffic m r heard pages →
-        listed event ++ traffic_left_of t traffic m heard after
-        ≡ traffic_left_of t traffic m heard r) →
-        listed event ++ traffic_events_left t before heard (Some after)
-        ≡ traffic_events_left t before heard f.receiver
-    frame_left event left =
-        let behind = behind_here in
-        let traffic = behind.traffic in
-        let set = behind.set in
-        ap (λ (es : List Event). listed event ++ es)
-        (left_of t traffic set t.traffic before heard after behind.traffic_is behind.set_is)
-        ∙ left traffic set behind.hears
-        ∙ sym (left_of t traffic set t.traffic before heard r behind.traffic_is behind.set_is)
-        ∙ ap (traffic_events_left t before heard) (sym is)
-
--- less is due
-pub fewer_due : (receiver : Option TrafficReceiver) (r after : TrafficReceiver) →
-    receiver ≡ Some r → traffic_due after < traffic_due r →
-    traffic_due after < traffic_due_by receiver
-fewer_due receiver r after is less = rw is less
-
--- what has been heard is a small number
-pub frames_few : (receiver : Option TrafficReceiver) → ForSome receiver IsSoundTraffic →
-    traffic_heard_by receiver < 2 ^ 40
-frames_few None sound = omega arith
-frames_few (Some r) sound =
-    let is = sound r refl in
-    let least = is.start_least in
-    let most = is.start_most in
-    let order = is.next_have in
-    let few = is.keeper.few in
-    omega (arith, least, most, order, few)
-
--- a receiver that isn't open has no mark
-pub not_open : (t : Tuning) (traffic : Traffic) (before : Option Mark)
-    (receiver : Option TrafficReceiver) (heard : List Sample) (pages : List Event) →
-    t.traffic ≡ Some traffic → receiver ≡ None →
-    HearsFramesBehind t before receiver heard pages → before ≡ None
-not_open t traffic before (Some r) heard pages channel closed behind = absurd (cc)
-not_open t traffic before None heard pages channel closed behind =
-    subst (λ (x : Option Traffic). IsUnheard x before) channel behind
-
--- and what waits
-pub noted_waits : (n : ℕ) (r : TrafficReceiver) (event : Event) → WaitsAt n r →
-    WaitsAt n (noted_by event r)
-noted_waits n r event waits = record { before = waits.before; due = waits.due }
+pub frames_opened : (t : Tuning) (heard : List Sample) (traffic : Traffic) (m : Mark)
+    (r : TrafficReceiver) → t.traffic ≡ Some traffic → IsSoundTraffic r → r.have ≡ r.next →
+    r.kept ≡ None → r.sets.due ≡ false → length heard < next_end r →
+    HearsTraffic t traffic m r heard [] →
+    FollowsTraffic t (Some m) r heard [] × (traffic_left t (Some m) heard r ≡ [])
+frames_opened t heard traffic m r followed sound fresh empty idle early hears =
+    let behind : FollowsTraffic t (Some m) r heard [] =
+    record { traffic = traffic; traffic_is = followed; set = m; set_is = refl; hears = hears } in (
+      behind,
+      left_is behind heard r
+          ∙ receiver_given hears sound (none_opened r fresh empty idle) early,
+    )

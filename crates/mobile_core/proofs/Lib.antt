@@ -21,6 +21,7 @@ pub mod MomentMeasured
 pub mod Windows
 pub mod MomentPassed
 pub mod FramesGiven
+pub mod GoesOn
 pub mod PagesFollowed
 pub mod FramesFollowed
 pub mod ChannelsFollowed

@@ -1,31 +1,88 @@
 -- What a handset's paging channel has still to give, as samples come.
-use Rattle.mobile_core.proofs.Common.{◌≡◌, ℕ, ◌+◌, ◌-◌, ◌*◌, ◌^◌, ◌<◌, ◌≤◌, false, List, [], ◌++◌, length, map, refl, sym, ap, subst, ◌∙◌}
-use Rattle.mobile_core.proofs.Common.{arith, inl, inr, Option, Some, None, IfSome, is_some, nat_lt, ForSome, option_to_list, cases_lt}
-use Rattle.mobile_core.proofs.Common.{map-append, Sample, IsDueAt, page_event, pages_behind, HearsBehind, HearsPages, IsReceiverDue}
-use Rattle.mobile_core.proofs.Common.{WaitsFrom, due_by, heard_by, is_paged, paging_events_left, HearsBit, HearsPaging, IsSoundPaging}
-use Rattle.mobile_core.proofs.Common.{bits_heard, pages_left, Tuning, Event, Mark, PagingMonitor, PagingReceiver, SpelledPage}
+use Rattle.mobile_core.proofs.Common.{◌≡◌, ℕ, ◌+◌, ◌^◌, ◌<◌, ◌≤◌, List, [], ◌++◌, length, map, refl, sym, ap, ◌∙◌, arith, inl, inr}
+use Rattle.mobile_core.proofs.Common.{Option, Some, None, IfSome, is_some, nat_lt, ForSome, option_to_list, cases_lt, map-append, Sample}
+use Rattle.mobile_core.proofs.Common.{IsDueAt, page_event, pages_behind, FollowsPages, HearsPages, IsUnpaged, paging_due, paging_left}
+use Rattle.mobile_core.proofs.Common.{paging_events_left, HearsBit, HearsPaging, IsSoundPaging, IsSomeAnd, bits_heard, length-append, subst, pages_left, Tuning}
+use Rattle.mobile_core.proofs.Common.{Event, FrameClock, Mark, PagingReceiver, SpelledPage}
 use Rattle.mobile_core.proofs.ClockSteps.{before_next, from_next}
+use Rattle.mobile_core.proofs.GoesOn.{GoesOn, never}
 use Rattle.heard_events.proofs.PageGrowth.{pages_left_all, pages_left_none, pages_none}
 use Rattle.mobile_core.proofs.PagesHeard as pages
 
--- the frame that comes next ends at so many samples or later
-abbrev pub EndsFrom : ℕ → Option PagingReceiver → Type 0
-EndsFrom n receiver = ForSome receiver (λ r. n ≤ r.received.clock.end)
+-- the events of the messages that are known when just n samples have been taken
+abbrev pub paged_behind : Tuning → Option Mark → List Sample → ℕ → List Event
+paged_behind t mark samples n = map (page_event n) (pages_behind t t.paging mark samples n)
 
-pub unpaged : (t : Tuning) (channel : ℕ) (mark : Option Mark) (samples : List Sample) (n : ℕ) →
-    is_paged mark ≡ false → pages_behind t channel mark samples n ≡ []
-unpaged t channel None samples n h = refl
-unpaged t channel (Some m) samples n h = rw h refl
+unpaged : (t : Tuning) (mark : Option Mark) → IsUnpaged mark → (samples : List Sample) (n : ℕ) →
+    pages_behind t t.paging mark samples n ≡ []
+unpaged t None h samples n = refl
+unpaged t (Some m) h samples n = rw h refl
 
+-- where no frame is due at most one has come that hasn't been heard
+pub come_once : (count : ℕ) (clock : FrameClock) → ¬ IsDueAt count clock →
+    clock.have ≤ clock.next + 1
+come_once count clock none =
+    elim (cases_lt (clock.next + 1) clock.have) [
+      | inl more ↦ absurd (none (omega (arith, more), λ waits. inl more))
+      | inr most ↦ omega (arith, most)
+    ]
+
+-- THE RECEIVER, AS IT GOES ON
+module _ {t : Tuning} {mark : Option Mark} {r : PagingReceiver} {heard : List Sample}
+    (st : FollowsPages t mark r heard) where
+  pub follows_on : (after : PagingReceiver) (samples : List Sample) →
+      HearsPaging t t.paging st.set after samples → FollowsPages t mark after samples
+  follows_on after samples hears =
+      record { set = st.set; set_is = st.set_is; rate = st.rate; hears = hears }
+
+  -- soft values of a frame have come
+  pub come_left : (after : PagingReceiver) →
+      after.received.clock.next ≡ r.received.clock.next → after.place ≡ r.place →
+      paging_left t mark heard after ≡ paging_left t mark heard r
+  come_left after next place = rw (st.set_is, next, place) refl
+
+  -- a bit has been heard
+  pub bit_left : (after : PagingReceiver) (page : Option SpelledPage) →
+      HearsBit t t.paging st.set heard r after page →
+      map (page_event (length heard)) (option_to_list page) ++ paging_left t mark heard after
+      ≡ paging_left t mark heard r
+  bit_left after page bit =
+      let event : SpelledPage → Event = page_event (length heard) in
+      let later = pages_left t t.paging st.set heard after.received.clock.next after.place in
+      rw st.set_is
+      (sym (map-append event (option_to_list page) later) ∙ ap (map event) bit.left)
+
+-- bits of a frame that is under way are left
+within_frame : (r : PagingReceiver) → IsSoundPaging r → r.place < 192
+within_frame r sound =
+    elim (cases_lt 0 r.place) [
+      | inl some ↦ omega (arith, sound.within some, sound.most)
+      | inr none ↦ omega (arith, none)
+    ]
+
+pub bits_left : (r after : PagingReceiver) (count : ℕ) → IsSoundPaging r →
+    IsDueAt count r.received.clock → after.received.clock.have ≡ r.received.clock.have →
+    bits_heard r < bits_heard after → paging_due after < paging_due r
+bits_left r after count sound due have more =
+    let come = due.0 in
+    omega (arith, come, within_frame r sound, have, more)
+
+-- what has been heard is a small number
+pub bits_few : (r : PagingReceiver) → IsSoundPaging r → bits_heard r < 2 ^ 40
+bits_few r sound =
+    let clock = sound.channel.clocked in
+    omega (arith, within_frame r sound, clock.next_have, clock.have_end, clock.end_most)
+
+-- WHETHER THE CHANNEL IS HEARD OR NOT
 module _ (t : Tuning) (mark : Option Mark) (heard : List Sample) where
   -- before the frame that comes next ends no message is known
-  pub pages_quiet : (receiver : Option PagingReceiver) → HearsBehind t mark receiver heard →
-      ¬ IsReceiverDue t.count receiver → (samples : List Sample) (n later : ℕ) →
-      length heard < n → n < later → EndsFrom later receiver →
+  pub pages_quiet : (receiver : Option PagingReceiver) → HearsPages t mark receiver heard →
+      ¬ IsSomeAnd receiver (λ r. IsDueAt t.count r.received.clock) →
+      (samples : List Sample) (n end : ℕ) → length heard < n → n < end →
+      ForSome receiver (λ r. end ≤ r.received.clock.end) →
       pages_behind t t.paging mark samples n ≡ []
-  pages_quiet None behind none samples n later past before ends =
-      unpaged t t.paging mark samples n behind
-  pages_quiet (Some r) behind none samples n later past before ends =
+  pages_quiet None behind none samples n end past before ends = unpaged t mark behind samples n
+  pages_quiet (Some r) behind none samples n end past before ends =
       let is = behind.hears.receives.clocked in
       let most = ends r refl in
       rw (behind.set_is, behind.rate)
@@ -34,159 +91,73 @@ module _ (t : Tuning) (mark : Option Mark) (heard : List Sample) where
       elim (cases_lt k r.received.clock.next) [
         | inl less ↦ let known = before_next is k less inside in omega (arith, known, e, past)
         | inr more ↦
-            let known = from_next is later none most k more inside in omega (arith, known, e, before)
+            let known = from_next is end none most k more inside in omega (arith, known, e, before)
       ]))
 
-  -- where more samples have come, all that is known with the last of them is left
-  pub pages_come : (receiver : Option PagingReceiver) → HearsBehind t mark receiver heard →
-      ¬ IsReceiverDue t.count receiver → (samples : List Sample) → length heard < length samples →
-      paging_events_left t mark samples receiver
-      ≡ map (page_event (length samples)) (pages_behind t t.paging mark samples (length samples))
-  pages_come None behind none samples past =
-      sym (ap (map (page_event (length samples)))
-      (unpaged t t.paging mark samples (length samples) behind))
-  pages_come (Some r) behind none samples past =
+  pub pages_go : (receiver : Option PagingReceiver) → HearsPages t mark receiver heard →
+      ¬ IsSomeAnd receiver (λ r. IsDueAt t.count r.received.clock) → (end : ℕ) →
+      ForSome receiver (λ r. end ≤ r.received.clock.end) →
+      GoesOn (paged_behind t mark) (λ samples. paging_events_left t mark samples receiver) heard end
+  pages_go None behind none end ends =
+      never (paged_behind t mark)
+      (λ samples n. ap (map (page_event n)) (unpaged t mark behind samples n)) heard end
+  pages_go (Some r) behind none end ends =
       let is = behind.hears.receives.clocked in
       let start = pages.idle behind.hears none in
-      rw (behind.set_is, behind.rate, start)
-      (ap (map (page_event (length samples)))
-      (pages_left_all t t.paging behind.set samples r.received.clock.next
-      (λ k less inside e.
-      let known = before_next is k less inside in omega (arith, known, e, past))))
-
-  -- where no frame is due, none is left
-  pub pages_given : (receiver : Option PagingReceiver) → HearsBehind t mark receiver heard →
-      ¬ IsReceiverDue t.count receiver → WaitsFrom (length heard) receiver →
-      paging_events_left t mark heard receiver ≡ []
-  pages_given None behind none waits = refl
-  pages_given (Some r) behind none waits =
-      let is = behind.hears.receives.clocked in
-      let later = waits r refl in
-      rw behind.set_is
-      (ap (map (page_event (length heard)))
-      (pages_left_none t t.paging behind.set heard r.received.clock.next r.place
-      (from_next is (length heard + 1) none (omega (arith, later)))))
-
-  -- more samples, up to the end of the frame that comes next
-  pub behind_more : (receiver : Option PagingReceiver) → HearsBehind t mark receiver heard →
-      ¬ IsReceiverDue t.count receiver → (more : List Sample) →
-      length heard + length more ≤ t.count → EndsFrom (length heard + length more) receiver →
-      HearsBehind t mark receiver (heard ++ more)
-  behind_more None behind none more within ends = behind
-  behind_more (Some r) behind none more within ends =
       let most = ends r refl in
       record {
-        set = behind.set;
-        set_is = behind.set_is;
-        rate = behind.rate;
-        hears = pages.hears_more behind.hears more none within most;
+        given = λ early.
+            rw behind.set_is
+            (ap (map (page_event (length heard)))
+            (pages_left_none t t.paging behind.set heard r.received.clock.next r.place
+            (from_next is (length heard + 1) none (omega (arith, early, most)))));
+        quiet = λ more n past before.
+            ap (map (page_event n))
+            (pages_quiet (Some r) behind none (heard ++ more) n end past before ends);
+        come = λ more some within.
+            let samples = heard ++ more in
+            rw (behind.set_is, behind.rate, start)
+            (ap (map (page_event (length samples)))
+            (pages_left_all t t.paging behind.set samples r.received.clock.next
+            (λ k less inside e.
+            let known = before_next is k less inside in
+            omega (arith, known, e, length-append heard more, some))));
       }
 
--- WHERE A MARK IS SET
+  -- more samples, up to the end of the frame that comes next
+  pub pages_more : (receiver : Option PagingReceiver) → HearsPages t mark receiver heard →
+      ¬ IsSomeAnd receiver (λ r. IsDueAt t.count r.received.clock) → (more : List Sample) →
+      length heard + length more ≤ t.count →
+      ForSome receiver (λ r. length heard + length more ≤ r.received.clock.end) →
+      HearsPages t mark receiver (heard ++ more)
+  pages_more None behind none more within ends = behind
+  pages_more (Some r) behind none more within ends =
+      follows_on behind r (heard ++ more)
+      (pages.hears_more behind.hears more none within (ends r refl))
+
 -- a receiver that is open now has heard nothing
-module _ (t : Tuning) (heard : List Sample) (m : Mark) where
-  pub opened_behind : (opened : Option PagingReceiver) → is_some opened ≡ nat_lt m.prat 2 →
-      IfSome opened (λ r. HearsPaging t t.paging m r heard) →
-      HearsBehind t (Some m) opened heard
-  opened_behind None e hears = sym e
-  opened_behind (Some r) e hears =
-      record { set = m; set_is = refl; rate = sym e; hears = hears }
+pub pages_opened : (t : Tuning) (heard : List Sample) (m : Mark) (channel : ℕ) →
+    channel ≡ t.paging → length heard < m.sample → (opened : Option PagingReceiver) →
+    is_some opened ≡ nat_lt m.prat 2 → IfSome opened (λ r. m.sample < r.received.clock.end) →
+    IfSome opened (λ r. r.received.clock.have ≡ r.received.clock.next) →
+    IfSome opened (λ r. HearsPaging t channel m r heard) →
+    HearsPages t (Some m) opened heard × (paging_events_left t (Some m) heard opened ≡ [])
+pages_opened t heard m channel same early None is begins fresh hears = (sym is, refl)
+pages_opened t heard m channel same early (Some r) is begins fresh hears =
+    let hears' = subst (λ (n : ℕ). HearsPaging t n m r heard) same hears in
+    let clocked = hears'.receives.clocked in (
+      record { set = m; set_is = refl; rate = sym is; hears = hears' },
+      ap (map (page_event (length heard)))
+          (pages_left_none t t.paging m heard r.received.clock.next r.place
+          (from_next clocked (length heard + 1) (λ d. omega (arith, fresh, d.0))
+          (omega (arith, begins, early)))),
+    )
 
-  pub opened_left : (opened : Option PagingReceiver) → HearsBehind t (Some m) opened heard →
-      IfSome opened (λ r. r.received.clock.have ≡ r.received.clock.next) →
-      IfSome opened (λ r. m.sample < r.received.clock.end) → length heard < m.sample →
-      paging_events_left t (Some m) heard opened ≡ []
-  opened_left None behind fresh begins early = refl
-  opened_left (Some r) behind fresh begins early =
-      pages_given t (Some m) heard (Some r) behind (λ d. omega (arith, fresh, d.0))
-      (λ r' e.
-      let same : r ≡ r' = cc in
-      subst (λ (x : PagingReceiver). length heard < x.received.clock.end) same
-      (omega (arith, begins, early)))
-
--- THE MONITOR, AS ITS RECEIVER CHANGES
-module _ {t : Tuning} {p : PagingMonitor} {heard : List Sample} {before : Option Mark}
-    (st : HearsPages t p before heard) where
-  pub follows_with : (after : Option Mark) (receiver : Option PagingReceiver) →
-      HearsBehind t after receiver heard →
-      HearsPages t (record p { receiver = receiver }) after heard
-  follows_with after receiver behind = record {
-    channel_is = st.channel_is;
-    phase_is = st.phase_is;
-    deltas_are = st.deltas_are;
-    behind = behind;
-  }
-
-  module _ (r after : PagingReceiver) (is : p.receiver ≡ Some r) where
-    behind_here : HearsBehind t before (Some r) heard
-    behind_here =
-        subst (λ (x : Option PagingReceiver). HearsBehind t before x heard) is st.behind
-
-    -- soft values of a frame have come
-    pub follows_come : ((m : Mark) → HearsPaging t t.paging m r heard →
-        HearsPaging t t.paging m after heard) →
-        HearsPages t (record p { receiver = Some after }) before heard
-    follows_come come =
-        let behind = behind_here in
-        follows_with before (Some after) (record {
-          set = behind.set;
-          set_is = behind.set_is;
-          rate = behind.rate;
-          hears = come behind.set behind.hears;
-        })
-
-    -- a bit has been heard
-    module _ (page : Option SpelledPage)
-        (bit : (m : Mark) → HearsPaging t t.paging m r heard →
-        HearsBit t t.paging m heard r after page) where
-      pub follows_bit : HearsPages t (record p { receiver = Some after }) before heard
-      follows_bit =
-          let behind = behind_here in
-          follows_with before (Some after) (record {
-            set = behind.set;
-            set_is = behind.set_is;
-            rate = behind.rate;
-            hears = (bit behind.set behind.hears).hears;
-          })
-
-      pub bit_left : map (page_event (length heard)) (option_to_list page)
-          ++ paging_events_left t before heard (Some after)
-          ≡ paging_events_left t before heard p.receiver
-      bit_left =
-          let behind = behind_here in
-          let event : SpelledPage → Event = page_event (length heard) in
-          let left = (bit behind.set behind.hears).left in
-          let set = behind.set in
-          let later = pages_left t t.paging set heard after.received.clock.next after.place in
-          rw (is, behind.set_is)
-          (sym (map-append event (option_to_list page) later) ∙ ap (map event) left)
-
--- bits of a frame that is due are left
-pub bits_left : (receiver : Option PagingReceiver) (r : PagingReceiver) (count have bits : ℕ) →
-    receiver ≡ Some r → IsSoundPaging r → IsReceiverDue count receiver →
-    have ≡ r.received.clock.have → bits_heard r < bits → 192 * have - bits < due_by receiver
-bits_left None r count have bits is sound due have_is more = absurd (cc)
-bits_left (Some r') r count have bits is sound due have_is more =
-    let same : r' ≡ r = cc in
-    let due' = subst (λ (x : PagingReceiver). IsDueAt count x.received.clock) same due in
-    let come = due'.0 in
-    let within : r.place < 192 =
-    elim (cases_lt 0 r.place) [
-      | inl some ↦ omega (arith, sound.within some, sound.most)
-      | inr none ↦ omega (arith, none)
-    ] in
-    rw same (omega (arith, come, within, have_is, more))
-
--- what has been heard is a small number
-pub heard_few : (receiver : Option PagingReceiver) → ForSome receiver IsSoundPaging →
-    heard_by receiver < 2 ^ 40
-heard_few None sound = omega arith
-heard_few (Some r) sound =
-    let is = sound r refl in
-    let within : r.place < 192 =
-    elim (cases_lt 0 r.place) [
-      | inl some ↦ omega (arith, is.within some, is.most)
-      | inr none ↦ omega (arith, none)
-    ] in
-    let clock = is.channel.clocked in
-    omega (arith, within, clock.next_have, clock.have_end, clock.end_most)
+-- where no mark is set no receiver is open
+pub pages_closed : (t : Tuning) (before : Option Mark) (heard : List Sample)
+    (receiver : Option PagingReceiver) → HearsPages t before receiver heard → before ≡ None →
+    receiver ≡ None
+pages_closed t before heard None behind unset = refl
+pages_closed t before heard (Some r) behind unset =
+    let both : None ≡ Some behind.set = sym unset ∙ behind.set_is in
+    absurd (cc)

@@ -2,13 +2,13 @@
 use Rattle.mobile_core.proofs.Common.{◌≡◌, ℕ, ◌+◌, ◌<◌, ◌≤◌, false, ◌||◌, List, [], ◌∷◌, ◌++◌, length, length-append, refl, sym, ap, subst}
 use Rattle.mobile_core.proofs.Common.{◌∙◌, arith, inl, inr, Option, Some, None, Bool, true, IsTrue, is_some, flat_map, list_any, ForSome}
 use Rattle.mobile_core.proofs.Common.{option_or, both_ways, append_assoc, list_any-append, places-none, Sample, Best, Held, HoldsLast}
-use Rattle.mobile_core.proofs.Common.{IsDueAt, events_at, heard_within, events, HearsFollowed, IsFollowedDue, IsSoundFollowed, WaitFrom}
+use Rattle.mobile_core.proofs.Common.{IsDueAt, events_at, heard_within, events, EndFrom, HearsFollowed, IsFollowedDue, IsSoundFollowed, WaitFrom}
 use Rattle.mobile_core.proofs.Common.{followed_events_left, listed, pilot_left, sync_events_left, first_of, mark, mark_before, marks_at}
 use Rattle.mobile_core.proofs.Common.{sets_mark, AreNear, SetsMark, paging_events_left, IsSoundSync, Parts, Stands, is_in_file}
 use Rattle.mobile_core.proofs.Common.{sync_events_at, HearsSync, HearsNext, IsTimed, traffic_events_left, Tuning, sync_stream, Event, Pilot}
 use Rattle.mobile_core.proofs.Common.{Followed, Mark, SyncReceiver, flat_map-places-more}
 use Rattle.std.proofs.lemmas.List.{append-nil}
-use Rattle.mobile_core.proofs.ChannelsFollowed.{EndFrom, followed_given, followed_more}
+use Rattle.mobile_core.proofs.ChannelsFollowed.{ends_later, followed_more, goes_on}
 use Rattle.heard_events.proofs.FollowedEvents.{followed_behind}
 use Rattle.mobile_core.proofs.ClockSteps.{before_next, from_next, due_inside}
 use Rattle.heard_events.proofs.EventsGrown.{events_at_by}
@@ -77,7 +77,7 @@ pub stands_new : (t : Tuning) (p : Parts) → p.count ≡ t.count → p.check �
     pilot_left p.pilot ≡ Pilot t.phase t.energy ∷ [] →
     HoldsLast p.ring [] → HearsSync t p.sync [] → HearsFollowed t p.followed None [] →
     p.sync.received.clock.next ≡ p.sync.received.clock.low → p.sync.mark ≡ None →
-    (p.followed.paging.receiver ≡ None) × (p.followed.traffic.receiver ≡ None) →
+    (p.followed.paging ≡ None) × (p.followed.traffic ≡ None) →
     Stands t p [] []
 stands_new t p count check untold holds hears follows next unset closed =
     let clock = p.sync.received.clock in
@@ -132,7 +132,8 @@ module _ {t : Tuning} {p : Parts} {heard : List Sample} {given : List Event}
   all_given told sound none idle waits others_wait =
       let gone : pilot_left p.pilot ≡ [] = ap pilot_left told in
       let left = sync_given none waits in
-      let others = followed_given st.followed sound (others_due_here idle) others_wait in
+      let others = (goes_on st.followed sound (others_due_here idle) (length heard + 1)
+      (ends_later (length heard) p.followed others_wait)).given (omega arith) in
       let all : given ++ ([] ++ ([] ++ [])) ≡ events t heard = rw (gone, left, others) at st.told in
       sym (append-nil given) ∙ all
 

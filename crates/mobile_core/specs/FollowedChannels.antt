@@ -1,47 +1,89 @@
 -- What the channels stand for that a handset follows from the mark on.
-use Rattle.std.specs.Prelude.{◌⊎◌, ℕ, ◌+◌, List, ◌++◌, Option}
+use Rattle.std.specs.Prelude.{◌≡◌, ◌⊎◌, ℕ, ◌+◌, ◌<◌, ◌≤◌, List, [], ◌++◌, take, pos, slice_get}
+use Rattle.std.specs.Prelude.{Option, Some}
+use Rattle.std.specs.Option.{ForSome, IsSomeAnd, MatchOption, option_map_or}
 use Rattle.chip_core.specs.declared.sample.Sample.{Sample}
-use Rattle.mobile_core.specs.PagingMonitoring.{HearsPages, IsReceiverDue, IsSoundMonitor, WaitsFrom}
-use Rattle.mobile_core.specs.PagingMonitoring.{due_by, heard_by, paging_events_left}
-use Rattle.mobile_core.specs.TrafficMonitoring.{FramesWaitFrom, HearsFrames, IsFrameDue}
-use Rattle.mobile_core.specs.TrafficMonitoring.{IsSoundTrafficMonitor, traffic_events_left}
-use Rattle.mobile_core.specs.TrafficMonitoring.{traffic_due_by, traffic_heard_by}
+use Rattle.mobile_core.specs.BehindMark.{FollowsPages, FollowsTraffic, IsSoundAssignment, IsUnheard}
+use Rattle.mobile_core.specs.BehindMark.{IsUnpaged, paging_due, paging_left, traffic_left}
+use Rattle.mobile_core.specs.Clocks.{IsDueAt}
+use Rattle.mobile_core.specs.PagingReceiving.{IsSoundPaging, bits_heard}
+use Rattle.mobile_core.specs.TrafficReceiving.{IsSoundTraffic, IsTrafficDue, WaitsAt, next_end}
+use Rattle.mobile_core.specs.TrafficReceiving.{traffic_due, traffic_heard}
 use Rattle.heard_events.specs.Tuning.{Tuning}
 use Rattle.heard_events.specs.declared.event.Event.{Event}
 use Rattle.mobile_core.specs.declared.followed.Followed.{Followed}
 use Rattle.heard_events.specs.declared.mark.Mark.{Mark}
+use Rattle.mobile_core.specs.declared.paging_receiver.PagingReceiver.{PagingReceiver}
+use Rattle.mobile_core.specs.declared.traffic_receiver.TrafficReceiver.{TrafficReceiver}
+
+-- what each receiver stands for; there is none where the channel isn't heard
+abbrev pub HearsPages : Tuning → Option Mark → Option PagingReceiver → List Sample → Type 0
+HearsPages t mark receiver heard =
+    MatchOption receiver (IsUnpaged mark) (λ r. FollowsPages t mark r heard)
+
+abbrev pub HearsFrames : Tuning → Option Mark → Option TrafficReceiver → List Sample →
+    List Event → Type 0
+HearsFrames t mark receiver heard pages =
+    MatchOption receiver (IsUnheard t.traffic mark) (λ r. FollowsTraffic t mark r heard pages)
+
+-- the events of these samples' end that each has still to give
+abbrev pub paging_events_left : Tuning → Option Mark → List Sample → Option PagingReceiver →
+    List Event
+paging_events_left t mark samples receiver = option_map_or (paging_left t mark samples) receiver []
+
+abbrev pub traffic_events_left : Tuning → Option Mark → List Sample → Option TrafficReceiver →
+    List Event
+traffic_events_left t mark samples receiver =
+    option_map_or (traffic_left t mark samples) receiver []
 
 -- they have taken these samples, in which the sync channel's messages set this mark, or none
 pub record HearsFollowed (t : Tuning) (f : Followed) (mark : Option Mark)
     (heard : List Sample) : Type 0 where
-  pub paging : HearsPages t f.paging mark heard
-  pub traffic : HearsFrames t f.traffic mark heard
-      (paging_events_left t mark heard f.paging.receiver)
+  pub channel_is : f.channel ≡ t.paging
+  pub assigned_is : f.assigned ≡ t.traffic
+  pub phase_is : f.phase ≡ t.phase
+  pub deltas_are : take f.near.count f.near.deltas ≡ t.deltas
+  pub check_is : f.check ≡ t.check16
+  pub paging : HearsPages t mark f.paging heard
+  pub traffic : HearsFrames t mark f.traffic heard (paging_events_left t mark heard f.paging)
 
 -- the events of these samples' end that are still to be given: those of the paging channel first
 abbrev pub followed_events_left : Tuning → Option Mark → List Sample → Followed → List Event
 followed_events_left t mark samples f =
-    paging_events_left t mark samples f.paging.receiver
-    ++ traffic_events_left t mark samples f.traffic.receiver
+    paging_events_left t mark samples f.paging ++ traffic_events_left t mark samples f.traffic
 
--- whether a frame of one of them is known that hasn't been heard whole
+-- whether a frame of one of them is known that hasn't been heard whole, or a moment has come
 abbrev pub IsFollowedDue : ℕ → Followed → Type 0
-IsFollowedDue count f = IsReceiverDue count f.paging.receiver ⊎ IsFrameDue f.traffic.receiver
+IsFollowedDue count f =
+    IsSomeAnd f.paging (λ r. IsDueAt count r.received.clock) ⊎ IsSomeAnd f.traffic IsTrafficDue
 
 -- how much has been heard: bits of the paging channel, frames of the traffic channel and what they
 -- complete, and moments
 abbrev pub followed_heard : Followed → ℕ
-followed_heard f = heard_by f.paging.receiver + traffic_heard_by f.traffic.receiver
+followed_heard f = option_map_or bits_heard f.paging 0 + option_map_or traffic_heard f.traffic 0
 
 -- how much has come that hasn't been heard
 abbrev pub followed_due : Followed → ℕ
-followed_due f = due_by f.paging.receiver + traffic_due_by f.traffic.receiver
+followed_due f = option_map_or paging_due f.paging 0 + option_map_or traffic_due f.traffic 0
 
 -- the frame of each that comes next ends later than so many samples, and so lies the next moment
 pub record WaitFrom (taken : ℕ) (f : Followed) : Type 0 where
-  pub paging : WaitsFrom taken f.paging.receiver
-  pub traffic : FramesWaitFrom taken f.traffic.receiver
+  pub paging : ForSome f.paging (λ r. taken < r.received.clock.end)
+  pub traffic : ForSome f.traffic (WaitsAt taken)
 
+-- it ends at so many samples or later
+pub record EndFrom (n : ℕ) (f : Followed) : Type 0 where
+  pub paging : ForSome f.paging (λ r. n ≤ r.received.clock.end)
+  pub traffic : ForSome f.traffic (λ r. n ≤ next_end r)
+
+-- one of the paging channels, a traffic channel that may be assigned, and the shape of paths that a
+-- search gives
 pub record IsSoundFollowed (f : Followed) : Type 0 where
-  pub paging : IsSoundMonitor f.paging
-  pub traffic : IsSoundTrafficMonitor f.traffic
+  pub first_channel : 1 ≤ f.channel
+  pub last_channel : f.channel ≤ 7
+  pub assigned : ForSome f.assigned IsSoundAssignment
+  pub least : 1 ≤ f.near.count
+  pub most : f.near.count ≤ 3
+  pub first : slice_get f.near.deltas 0 ≡ Some (pos 0)
+  pub paging : ForSome f.paging IsSoundPaging
+  pub traffic : ForSome f.traffic IsSoundTraffic

@@ -7,9 +7,8 @@ pub mod SetsKeeping
 pub mod Receiving
 pub mod SyncReceiving
 pub mod PagingReceiving
-pub mod PagingMonitoring
 pub mod TrafficReceiving
-pub mod TrafficMonitoring
+pub mod BehindMark
 pub mod FollowedChannels
 pub mod SoundHandset
 pub mod Standing

@@ -1,8 +1,9 @@
 //! The channels that a handset follows from the mark on.
 
-use crate::paging_monitor::PagingMonitor;
-use crate::traffic_monitor::TrafficMonitor;
-use chip_core::{CheckForm, Phase};
+use crate::paging_receiver::PagingReceiver;
+use crate::receive::Receive;
+use crate::traffic_receiver::TrafficReceiver;
+use chip_core::{CheckForm, Phase, Traffic};
 use heard_events::{Event, Mark, Settings};
 use pilot_search::Near;
 use rake_finger::SampleRing;
@@ -10,32 +11,42 @@ use short_code::Codes;
 use viterbi::Decoder;
 
 /// The channels that a handset follows from the mark on: a paging channel, and a traffic channel
-/// where one is assigned.
+/// where one is assigned (TIA/EIA-95-B, 6.6.2.1.1 and 6.6.4.2).
 #[derive(Drop)]
 pub(crate) struct Followed {
-    paging: PagingMonitor,
-    traffic: TrafficMonitor,
+    /// The number of the paging channel, 1 to 7.
+    channel: u8,
+    /// The traffic channel that is assigned, where one is.
+    assigned: Option<Traffic>,
+    /// The phase of the base station's codes.
+    phase: Phase,
+    /// The paths near it.
+    near: Near,
+    /// How the checks of the traffic channel's messages are sent.
+    check: CheckForm,
+    /// The paging channel's receiver, where a mark is set with a PRAT that stands for a rate.
+    paging: Option<PagingReceiver>,
+    /// The traffic channel's receiver, where one is assigned and a mark is set.
+    traffic: Option<TrafficReceiver>,
 }
 
 impl Followed {
-    ghost use Rattle.std.specs.Prelude.{◌≡◌, ◌<◌, ◌≤◌, ◌+◌, ◌↔◌, ◌++◌, ℕ, IsTrue, IfSome, List};
-    ghost use Rattle.std.specs.Prelude.{length, take, slice_get, Some, None, pos, Option, false};
-    ghost use Rattle.std.specs.List.{list_any};
-    ghost use Rattle.std.specs.Option.{ForSome};
+    ghost use Rattle.std.specs.Prelude.{◌≡◌, ◌<◌, ◌≤◌, ◌↔◌, ◌++◌, ℕ, IsTrue, IfSome, List, length};
+    ghost use Rattle.std.specs.Prelude.{take, slice_get, Some, None, pos, Option};
+    ghost use Rattle.std.specs.Option.{ForSome, option_map_or};
     ghost use Rattle.chip_core.specs.declared.sample.Sample.{Sample};
-    ghost use Rattle.mobile_core.specs.FollowedChannels.{HearsFollowed, IsFollowedDue};
-    ghost use Rattle.mobile_core.specs.FollowedChannels.{IsSoundFollowed, WaitFrom};
-    ghost use Rattle.mobile_core.specs.FollowedChannels.{followed_due, followed_events_left};
-    ghost use Rattle.mobile_core.specs.FollowedChannels.{followed_heard};
+    ghost use Rattle.mobile_core.specs.BehindMark.{IsSoundAssignment, SetsMark};
+    ghost use Rattle.mobile_core.specs.FollowedChannels.{HearsFollowed, HearsFrames};
+    ghost use Rattle.mobile_core.specs.FollowedChannels.{IsSoundFollowed, WaitFrom, followed_due};
+    ghost use Rattle.mobile_core.specs.FollowedChannels.{followed_events_left, followed_heard};
+    ghost use Rattle.mobile_core.specs.FollowedChannels.{traffic_events_left};
     ghost use Rattle.heard_events.specs.Given.{at_of, listed};
-    ghost use Rattle.heard_events.specs.Marks.{sets_mark};
-    ghost use Rattle.mobile_core.specs.PagingMonitoring.{IsReceiverDue, SetsMark};
     ghost use Rattle.mobile_core.specs.Sound.{IsSoundMark};
-    ghost use Rattle.mobile_core.specs.TrafficMonitoring.{IsFrameDue, IsSoundAssignment};
-    ghost use Rattle.mobile_core.specs.TrafficReceiving.{next_end};
+    ghost use Rattle.mobile_core.specs.TrafficReceiving.{IsSoundTraffic, WaitsAt, traffic_due};
+    ghost use Rattle.mobile_core.specs.TrafficReceiving.{traffic_heard};
     ghost use Rattle.heard_events.specs.Tuning.{Tuning};
+    ghost use Rattle.heard_events.specs.declared.event.Event.{Event as TheEvent};
     ghost use Rattle.heard_events.specs.declared.mark.Mark.{Mark as TheMark};
-    ghost use Rattle.rake_finger.specs.Held.{HoldsLast};
 
     /// The channels of these settings before a mark is set, for a base station at a phase and near
     /// it.
@@ -46,7 +57,7 @@ impl Followed {
         requires least { 1 ≤ near.count }
         requires most { near.count ≤ 3 }
         requires first { slice_get near.deltas 0 ≡ Some (pos 0) }
-        ensures closed { (result.paging.receiver ≡ None) × (result.traffic.receiver ≡ None) }
+        ensures closed { (result.paging ≡ None) × (result.traffic ≡ None) }
         ensures sound { IsSoundFollowed result }
         ensures hears { (t : Tuning) (heard : List Sample) → t.paging ≡ settings.now.paging →
             t.traffic ≡ settings.now.traffic → t.phase ≡ phase →
@@ -54,12 +65,21 @@ impl Followed {
             HearsFollowed t result None heard }
     {
         Followed {
-            paging: PagingMonitor::new(settings.paging, phase, near),
-            traffic: TrafficMonitor::new(settings.traffic, phase, near, settings.check16),
+            channel: settings.paging,
+            assigned: settings.traffic,
+            phase,
+            near,
+            check: settings.check16,
+            paging: None,
+            traffic: None,
         }
     }
 
-    /// Opens the receivers that a mark opens, when so many samples have been taken.
+    /// Opens the receivers where a mark is set and none is open, when so many samples have been
+    /// taken.
+    ///
+    /// Where some samples behind the mark have been taken already they stay closed; a message sets
+    /// a mark that lies behind the samples in which it is known.
     pub(crate) fn follow(&mut self, mark: &Option<Mark>, taken: u64)
         requires sound { IsSoundFollowed self.old }
         requires mark { ForSome mark.now IsSoundMark }
@@ -70,131 +90,104 @@ impl Followed {
         ensures due { followed_due self.new ≤ followed_due self.old }
         ensures hears { (t : Tuning) (before : Option TheMark) (heard : List Sample) →
             taken ≡ length heard → taken ≤ t.count → SetsMark taken before mark.now →
-            HearsFollowed t self.old before heard → HearsFollowed t self.new mark.now heard }
-        ensures left { (t : Tuning) (before : Option TheMark) (heard : List Sample) →
-            taken ≡ length heard → taken ≤ t.count → SetsMark taken before mark.now →
-            HearsFollowed t self.old before heard →
-            followed_events_left t mark.now heard self.new
-            ≡ followed_events_left t before heard self.old }
+            HearsFollowed t self.old before heard → HearsFollowed t self.new mark.now heard
+            × (followed_events_left t mark.now heard self.new
+            ≡ followed_events_left t before heard self.old) }
     {
-        self.paging.follow(mark, taken);
-        self.traffic.follow(mark, taken);
+        let Some(mark) = mark else { return };
+        if !self.opens(mark, taken) {
+            return;
+        }
+        self.paging = PagingReceiver::open(mark, self.channel, self.phase, &self.near);
+        let Some(traffic) = self.assigned else { return };
+        let receiver = TrafficReceiver::open(mark, &traffic, self.phase, &self.near);
+        self.traffic = Some(receiver);
     }
 
-    /// The least of a number of samples and those at which the receivers' next frames end and the
-    /// next moment lies.
-    pub(crate) fn end_before(&self, end: u64) -> u64
-        requires { IsSoundFollowed self.now }
-        ensures most { result ≤ end }
-        ensures paging { ForSome self.now.paging.receiver (λ r. result ≤ r.received.clock.end) }
-        ensures traffic { ForSome self.now.traffic.receiver (λ r. result ≤ next_end r) }
-        ensures one { (n : ℕ) → n < end → WaitFrom n self.now → n < result }
+    /// Whether no receiver is open, and a mark lies behind so many samples.
+    fn opens(&self, mark: &Mark, taken: u64) -> bool
+        ensures { IsTrue result ↔ (taken < mark.now.sample)
+            × ((self.now.paging ≡ None) × (self.now.traffic ≡ None)) }
     {
+        taken < mark.sample && self.paging.is_none() && self.traffic.is_none()
+    }
+
+    /// Lets the pilot sets of a traffic channel take what an event of the paging channel tells.
+    fn note(traffic: &mut Option<TrafficReceiver>, event: &Option<Event>)
+        requires { ForSome traffic.old IsSoundTraffic }
+        ensures sound { ForSome traffic.new IsSoundTraffic }
+        ensures waits { (n : ℕ) → ForSome traffic.old (WaitsAt n) → ForSome traffic.new (WaitsAt n) }
+        ensures heard { option_map_or traffic_heard traffic.new 0
+            ≡ option_map_or traffic_heard traffic.old 0 }
+        ensures due { option_map_or traffic_due traffic.new 0
+            ≡ option_map_or traffic_due traffic.old 0 }
+        ensures hears { (t : Tuning) (mark : Option TheMark) (heard : List Sample)
+            (pages : List TheEvent) → IfSome event.now (λ told. at_of told ≡ length heard) →
+            HearsFrames t mark traffic.old heard (listed event.now ++ pages) →
+            HearsFrames t mark traffic.new heard pages
+            × (traffic_events_left t mark heard traffic.new
+            ≡ traffic_events_left t mark heard traffic.old) }
+    {
+        let Some(event) = event else { return };
+        if let Some(receiver) = traffic {
+            receiver.note(event);
+        }
+    }
+}
+
+impl Receive for Followed {
+    ghost use Rattle.mobile_core.specs.FollowedChannels.{EndFrom, HearsFollowed, IsFollowedDue};
+    ghost use Rattle.mobile_core.specs.FollowedChannels.{IsSoundFollowed, WaitFrom, followed_due};
+    ghost use Rattle.mobile_core.specs.FollowedChannels.{followed_events_left, followed_heard};
+
+    ghost sound = { IsSoundFollowed };
+
+    ghost due = { IsFollowedDue };
+
+    ghost waits = { WaitFrom };
+
+    ghost ends = { EndFrom };
+
+    ghost heard = { followed_heard };
+
+    ghost unheard = { followed_due };
+
+    ghost form = { λ t. t.check30 };
+
+    ghost stands = { λ t mark followed samples _. HearsFollowed t followed mark samples };
+
+    ghost left = { followed_events_left };
+
+    fn end_before(&self, end: u64) -> u64 {
         self.paging.end_before(self.traffic.end_before(end))
     }
 
-    /// Whether a frame is known that hasn't been heard whole, in a file of so many samples, or a
-    /// moment has come.
-    pub(crate) fn is_due(&self, count: u64) -> bool
-        requires { IsSoundFollowed self.now }
-        ensures { IsTrue result ↔ IsFollowedDue count self.now }
-    {
-        self.paging.is_due(count) || self.traffic.is_due()
+    fn is_due(&self, count: u64) -> bool {
+        self.paging.is_due(count) || self.traffic.is_due(count)
     }
 
-    /// Takes the soft values of the frames whose last sample has come, and lets the moment come
-    /// that lies there.
-    pub(crate) fn take_ended(&mut self, ring: &SampleRing, codes: &Codes)
-        requires sound { IsSoundFollowed self.old }
-        requires paging { ForSome self.old.paging.receiver (λ r.
-            r.received.clock.have ≤ r.received.clock.next + 1) }
-        requires traffic { ¬ IsFrameDue self.old.traffic.receiver }
-        requires few { ring.now.taken ≤ 67108864 }
-        requires room { ring.now.room ≡ 65536 }
-        requires paging_ended { ForSome self.old.paging.receiver (λ r.
-            ring.now.taken ≤ r.received.clock.end) }
-        requires traffic_ended { ForSome self.old.traffic.receiver (λ r.
-            ring.now.taken ≤ next_end r) }
-        ensures sound { IsSoundFollowed self.new }
-        ensures waits { WaitFrom ring.now.taken self.new }
-        ensures same { followed_heard self.new ≡ followed_heard self.old }
-        ensures hears { (t : Tuning) (mark : Option TheMark) (heard : List Sample) →
-            HoldsLast ring.now heard → ¬ IsFollowedDue t.count self.old →
-            HearsFollowed t self.old mark heard → HearsFollowed t self.new mark heard }
-        ensures left { (t : Tuning) (mark : Option TheMark) (heard : List Sample) →
-            followed_events_left t mark heard self.new
-            ≡ followed_events_left t mark heard self.old }
-    {
+    fn take_ended(&mut self, ring: &SampleRing, codes: &Codes) {
         self.paging.take_ended(ring, codes);
         self.traffic.take_ended(ring, codes);
     }
 
-    /// Hears what is due next, the paging channel first: a bit of it, or a frame of the traffic
-    /// channel, its message, or a moment. Gives the event that this completes at so many samples.
-    pub(crate) fn hear_next(
+    /// Hears the paging channel first: a bit of it, or a frame of the traffic channel, its message,
+    /// or a moment. The check is that of the paging channel.
+    fn hear_next(
         &mut self,
         decoder: &mut Decoder,
         ring: &SampleRing,
         codes: &Codes,
         check: CheckForm,
         count: u64,
-    ) -> Option<Event>
-        requires sound { IsSoundFollowed self.old }
-        requires due { IsFollowedDue count self.old }
-        requires waits { WaitFrom ring.now.taken self.old }
-        requires room { decoder.old ≡ 576 }
-        requires ring_room { ring.now.room ≡ 65536 }
-        ensures sound { IsSoundFollowed self.new }
-        ensures kept { decoder.new ≡ decoder.old }
-        ensures waits { WaitFrom ring.now.taken self.new }
-        ensures further { followed_heard self.old < followed_heard self.new }
-        ensures nearer { followed_due self.new < followed_due self.old }
-        ensures ends { IfSome result (λ event. at_of event ≡ ring.now.taken) }
-        ensures unset { list_any sets_mark (listed result) ≡ false }
-        ensures hears { (t : Tuning) (mark : Option TheMark) (heard : List Sample) →
-            HoldsLast ring.now heard → check ≡ t.check30 → count ≡ t.count →
-            HearsFollowed t self.old mark heard → HearsFollowed t self.new mark heard }
-        ensures left { (t : Tuning) (mark : Option TheMark) (heard : List Sample) →
-            HoldsLast ring.now heard → check ≡ t.check30 → count ≡ t.count →
-            HearsFollowed t self.old mark heard →
-            listed result ++ followed_events_left t mark heard self.new
-            ≡ followed_events_left t mark heard self.old }
-    {
-        if self.paging.is_due(count) {
-            return self.hear_page(decoder, check, ring.taken());
+    ) -> Option<Event> {
+        if !self.paging.is_due(count) {
+            return self
+                .traffic
+                .hear_next(decoder, ring, codes, self.check, count);
         }
-        self.traffic.hear_next(decoder, ring, codes)
-    }
-
-    /// Hears a bit of the paging channel that is due, and gives the event that it completes; the
-    /// pilot sets take what it tells.
-    fn hear_page(&mut self, decoder: &mut Decoder, check: CheckForm, at: u64) -> Option<Event>
-        requires sound { IsSoundFollowed self.old }
-        requires due { (count : ℕ) × IsReceiverDue count self.old.paging.receiver }
-        requires waits { WaitFrom at self.old }
-        requires room { decoder.old ≡ 576 }
-        ensures sound { IsSoundFollowed self.new }
-        ensures kept { decoder.new ≡ decoder.old }
-        ensures waits { WaitFrom at self.new }
-        ensures further { followed_heard self.old < followed_heard self.new }
-        ensures nearer { followed_due self.new < followed_due self.old }
-        ensures ends { IfSome result (λ event. at_of event ≡ at) }
-        ensures unset { list_any sets_mark (listed result) ≡ false }
-        ensures hears { (t : Tuning) (mark : Option TheMark) (heard : List Sample) →
-            at ≡ length heard → check ≡ t.check30 →
-            IsReceiverDue t.count self.old.paging.receiver →
-            HearsFollowed t self.old mark heard → HearsFollowed t self.new mark heard }
-        ensures left { (t : Tuning) (mark : Option TheMark) (heard : List Sample) →
-            at ≡ length heard → check ≡ t.check30 →
-            IsReceiverDue t.count self.old.paging.receiver →
-            HearsFollowed t self.old mark heard →
-            listed result ++ followed_events_left t mark heard self.new
-            ≡ followed_events_left t mark heard self.old }
-    {
-        let Some(event) = self.paging.hear_bit(decoder, check, at) else {
-            return None;
-        };
-        self.traffic.note(&event);
-        Some(event)
+        let event = self.paging.hear_next(decoder, ring, codes, check, count);
+        Followed::note(&mut self.traffic, &event);
+        event
     }
 }

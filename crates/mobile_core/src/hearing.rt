@@ -1,9 +1,10 @@
 //! What the pilot and capsules of the channels say, and frames of a traffic channel.
 
 ghost use Rattle.std.specs.Prelude.{◌≡◌, ◌<◌, ◌≤◌, ◌^◌, [], ◌∷◌, ◌++◌, Some, false, Bool, List};
-ghost use Rattle.std.specs.Prelude.{length, IfSome};
+ghost use Rattle.std.specs.Prelude.{length, map, IfSome};
+ghost use Rattle.std.specs.List.{list_any};
 ghost use Rattle.std.specs.Option.{ForSome, option_or, option_to_list};
-ghost use Rattle.heard_events.specs.Given.{at_of};
+ghost use Rattle.heard_events.specs.Given.{at_of, listed};
 ghost use Rattle.heard_events.specs.declared.event.Event.{Event as TheEvent};
 ghost use Rattle.heard_events.specs.Marks.{first_of, frames_with, marks_of, sets_mark};
 ghost use Rattle.heard_events.specs.PagingEvents.{page_event, page_in};
@@ -161,17 +162,19 @@ pub(crate) fn event_of(told: &Spelled<SyncMessage>, at: u64) -> Event
     }
 }
 
-/// The event of a message of the paging channel when so many samples have been taken.
-pub(crate) fn page_event(page: &Spelled<PagingMessage>, at: u64) -> Event
-    ensures value { result ≡ page_event at page.now }
-    ensures ends { at_of result ≡ at }
-    ensures unset { sets_mark result ≡ false }
+/// The event of a message of the paging channel, where there is one, when so many samples have been
+/// taken.
+pub(crate) fn event_of_page(page: Option<Spelled<PagingMessage>>, at: u64) -> Option<Event>
+    ensures value { listed result ≡ map (page_event at) (option_to_list page) }
+    ensures ends { IfSome result (λ event. at_of event ≡ at) }
+    ensures unset { list_any sets_mark (listed result) ≡ false }
 {
-    Event::Paging {
+    let page = page?;
+    Some(Event::Paging {
         at,
         capsule: page.capsule,
         message: page.message,
-    }
+    })
 }
 
 /// The event of a frame of the traffic channel, with its power control bits, when so many samples

@@ -4,6 +4,7 @@ ghost use Rattle.mobile_core.specs.SoundHandset.{IsSound};
 
 use crate::followed::Followed;
 use crate::hearing::pilot_event;
+use crate::receive::Receive;
 use crate::sync_receiver::SyncReceiver;
 use crate::tuner::Tuner;
 use chip_core::{CheckForm, OutOfMemory, Phase, Sample};
@@ -60,7 +61,7 @@ pub struct Mobile {
 
 impl Mobile {
     ghost use Rattle.std.specs.Prelude.{◌≡◌, ◌<◌, ◌≤◌, ◌↔◌, List, [], ◌∷◌, ◌++◌, length, false};
-    ghost use Rattle.std.specs.Prelude.{IsTrue, IfOk, None};
+    ghost use Rattle.std.specs.Prelude.{ℕ, IsTrue, IfOk, None};
     ghost use Rattle.std.specs.Prelude.{Some, is_some, pos, slice_get, take};
     ghost use Rattle.std.specs.Option.{ForSome};
     ghost use Rattle.std.specs.List.{list_any};
@@ -69,9 +70,8 @@ impl Mobile {
     ghost use Rattle.heard_events.specs.Given.{at_of};
     ghost use Rattle.heard_events.specs.Marks.{mark, sets_mark};
     ghost use Rattle.mobile_core.specs.Sound.{IsSoundMark};
-    ghost use Rattle.mobile_core.specs.FollowedChannels.{IsFollowedDue};
-    ghost use Rattle.mobile_core.specs.TrafficMonitoring.{IsSoundAssignment};
-    ghost use Rattle.mobile_core.specs.TrafficReceiving.{next_end};
+    ghost use Rattle.mobile_core.specs.FollowedChannels.{EndFrom, IsFollowedDue};
+    ghost use Rattle.mobile_core.specs.BehindMark.{IsSoundAssignment};
     ghost use Rattle.mobile_core.specs.Clocks.{IsDueAt};
     ghost use Rattle.mobile_core.specs.Standing.{IsDueFor, IsStep, StandsFor, Steps, due_parts};
     ghost use Rattle.mobile_core.specs.Standing.{has_room, ring_room};
@@ -275,10 +275,7 @@ impl Mobile {
     /// How many samples have been taken when the next frame ends, of all receivers.
     fn least_end(&self) -> u64
         ensures sync { result ≤ self.now.sync.received.clock.end }
-        ensures paging { ForSome self.now.followed.paging.receiver (λ r.
-            result ≤ r.received.clock.end) }
-        ensures traffic { ForSome self.now.followed.traffic.receiver (λ r.
-            result ≤ next_end r) }
+        ensures ends { (n : ℕ) → n ≤ result → EndFrom n self.now.followed }
         ensures waits { self.now.ring.taken < result }
     {
         self.followed.end_before(self.sync.end())

@@ -2,11 +2,12 @@
 
 use crate::continued::Continued;
 use crate::fingers::reference_fingers;
-use crate::hearing::page_in;
+use crate::hearing::{event_of_page, page_in};
+use crate::receive::Receive;
 use crate::scrambling::Scrambling;
 use chip_core::{Bits, CheckForm, Phase};
 use frame_decoder::FrameKind;
-use heard_events::{Mark, Spelled};
+use heard_events::{Event, Mark, Spelled};
 use paging_message::{HalfFramer, PagingMessage};
 use pilot_search::Near;
 use rake_finger::{Form, SampleRing};
@@ -29,7 +30,7 @@ pub(crate) struct PagingReceiver {
 }
 
 impl PagingReceiver {
-    ghost use Rattle.std.specs.Prelude.{◌≡◌, ◌<◌, ◌≤◌, ◌+◌, ◌^◌, ◌↔◌, IsTrue, List, [], length};
+    ghost use Rattle.std.specs.Prelude.{◌≡◌, ◌<◌, ◌≤◌, ◌+◌, List, length};
     ghost use Rattle.std.specs.Prelude.{take, slice_get, Some, pos, is_some, IfSome, nat_lt, ℕ};
     ghost use Rattle.chip_core.specs.declared.sample.Sample.{Sample};
     ghost use Rattle.mobile_core.specs.Clocks.{IsDueAt};
@@ -40,7 +41,6 @@ impl PagingReceiver {
     ghost use Rattle.heard_events.specs.Streams.{frame_own_bits};
     ghost use Rattle.heard_events.specs.Tuning.{Tuning};
     ghost use Rattle.heard_events.specs.declared.mark.Mark.{Mark as TheMark};
-    ghost use Rattle.rake_finger.specs.Held.{HoldsLast};
 
     /// A receiver of a channel, 1 to 7, that has heard no frame, for a base station at a phase and
     /// near it; `None` exactly where the mark's PRAT stands for no rate.
@@ -96,46 +96,10 @@ impl PagingReceiver {
         }
     }
 
-    /// How many samples have been taken when the frame ends that comes next.
-    pub(crate) fn end(&self) -> u64
-        ensures { result ≡ self.now.received.clock.end }
-    {
-        self.received.clock.end()
-    }
-
-    /// Whether a frame is known whose bits haven't all been heard, in a file of so many samples.
-    pub(crate) fn is_due(&self, count: u64) -> bool
-        requires { IsSoundPaging self.now }
-        ensures { IsTrue result ↔ IsDueAt count self.now.received.clock }
-    {
-        self.received.clock.is_due(count)
-    }
-
-    /// Takes the soft values of the frame whose last sample has come, where one has.
-    pub(crate) fn take_ended(&mut self, ring: &SampleRing, codes: &Codes)
-        requires sound { IsSoundPaging self.old }
-        requires near { self.old.received.clock.have ≤ self.old.received.clock.next + 1 }
-        requires few { ring.now.taken ≤ 67108864 }
-        requires room { ring.now.room ≡ 65536 }
-        requires ended { ring.now.taken ≤ self.old.received.clock.end }
-        ensures next { self.new.received.clock.next ≡ self.old.received.clock.next }
-        ensures place { self.new.place ≡ self.old.place }
-        ensures waits { ring.now.taken < self.new.received.clock.end }
-        ensures sound { IsSoundPaging self.new }
-        ensures stands { (t : Tuning) (channel : ℕ) (m : TheMark) (heard : List Sample) →
-            HoldsLast ring.now heard → ¬ IsDueAt t.count self.old.received.clock →
-            HearsPaging t channel m self.old heard → HearsPaging t channel m self.new heard }
-    {
-        if self.end() == ring.taken() {
-            let bits = self.scrambling.frame_bits(self.received.clock.coming());
-            self.received.take_frame(ring, codes, &bits);
-        }
-    }
-
     /// Hears the next bit of the frame that is due, and gives the message that it completes.
     ///
     /// A frame stays due up to its last bit, since several messages may end in one.
-    pub(crate) fn hear_bit(
+    fn hear_bit(
         &mut self,
         decoder: &mut Decoder,
         check: CheckForm,
@@ -193,5 +157,60 @@ impl PagingReceiver {
         }
         self.place = 0;
         self.received.clock.hear();
+    }
+}
+
+impl Receive for PagingReceiver {
+    ghost use Rattle.std.specs.Prelude.{◌<◌, ◌≤◌};
+    ghost use Rattle.mobile_core.specs.BehindMark.{FollowsPages, IsUnpaged, paging_due};
+    ghost use Rattle.mobile_core.specs.BehindMark.{paging_left};
+    ghost use Rattle.mobile_core.specs.Clocks.{IsDueAt};
+    ghost use Rattle.mobile_core.specs.PagingReceiving.{IsSoundPaging, bits_heard};
+
+    ghost sound = { IsSoundPaging };
+
+    ghost due = { λ count r. IsDueAt count r.received.clock };
+
+    ghost waits = { λ n r. n < r.received.clock.end };
+
+    ghost ends = { λ n r. n ≤ r.received.clock.end };
+
+    ghost heard = { bits_heard };
+
+    ghost unheard = { paging_due };
+
+    ghost form = { λ t. t.check30 };
+
+    ghost silent = { λ _ mark. IsUnpaged mark };
+
+    ghost stands = { λ t mark r samples _. FollowsPages t mark r samples };
+
+    ghost left = { paging_left };
+
+    fn end_before(&self, end: u64) -> u64 {
+        self.received.clock.end().min(end)
+    }
+
+    fn is_due(&self, count: u64) -> bool {
+        self.received.clock.is_due(count)
+    }
+
+    fn take_ended(&mut self, ring: &SampleRing, codes: &Codes) {
+        if self.received.clock.end() == ring.taken() {
+            let bits = self.scrambling.frame_bits(self.received.clock.coming());
+            self.received.take_frame(ring, codes, &bits);
+        }
+    }
+
+    fn hear_next(
+        &mut self,
+        decoder: &mut Decoder,
+        ring: &SampleRing,
+        _codes: &Codes,
+        check: CheckForm,
+        _count: u64,
+    ) -> Option<Event> {
+        let page = self.hear_bit(decoder, check);
+        event_of_page(page, ring.taken())
     }
 }

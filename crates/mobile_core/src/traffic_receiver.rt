@@ -3,6 +3,7 @@
 use crate::fingers::{frames_end, leg_fingers};
 use crate::hearing::{frame_event, hear_signal, message_event};
 use crate::legs::Legs;
+use crate::receive::Receive;
 use crate::scrambling::Scrambling;
 use crate::sets_keeper::SetsKeeper;
 use crate::softs::unscramble;
@@ -71,7 +72,6 @@ impl TrafficReceiver {
     ghost use Rattle.mobile_core.specs.Sound.{IsSoundMark};
     ghost use Rattle.heard_events.specs.TrafficEvents.{commands_at, decoded_at};
     ghost use Rattle.mobile_core.specs.TrafficReceiving.{HasTold, HearsTraffic, IsSoundTraffic};
-    ghost use Rattle.mobile_core.specs.TrafficReceiving.{IsTrafficDue, WaitsAt};
     ghost use Rattle.mobile_core.specs.TrafficReceiving.{HearsWith, fingers_in, next_end, noted_by};
     ghost use Rattle.mobile_core.specs.TrafficReceiving.{told_left_with, traffic_due};
     ghost use Rattle.mobile_core.specs.TrafficReceiving.{traffic_heard};
@@ -125,49 +125,11 @@ impl TrafficReceiver {
         }
     }
 
-    /// How many samples have been taken when the frame ends that comes next, or at the next moment,
-    /// where that comes first.
-    pub(crate) fn end(&self) -> u64
-        requires { IsSoundTraffic self.now }
-        ensures { result ≡ next_end self.now }
-    {
-        self.end.min(self.sets.end())
-    }
-
-    /// Whether a message is kept, or a frame or a moment has come that hasn't been heard.
-    pub(crate) fn is_due(&self) -> bool
-        ensures { IsTrue result ↔ IsTrafficDue self.now }
-    {
-        self.has_told() || self.sets.is_due()
-    }
-
     /// Whether a message is kept, or a frame has come that hasn't been heard.
     fn has_told(&self) -> bool
         ensures { IsTrue result ↔ HasTold self.now }
     {
         self.kept.is_some() || self.next < self.have
-    }
-
-    /// Takes the soft values of the frame whose last sample has come, where one has, and lets the
-    /// moment come that lies there.
-    pub(crate) fn take_ended(&mut self, ring: &SampleRing, codes: &Codes)
-        requires sound { IsSoundTraffic self.old }
-        requires idle { ¬ IsTrafficDue self.old }
-        requires few { ring.now.taken ≤ 67108864 }
-        requires room { ring.now.room ≡ 65536 }
-        requires ended { ring.now.taken ≤ next_end self.old }
-        ensures next { self.new.next ≡ self.old.next }
-        ensures same { self.new.kept ≡ self.old.kept }
-        ensures passed { self.new.sets.passed ≡ self.old.sets.passed }
-        ensures waits { WaitsAt ring.now.taken self.new }
-        ensures sound { IsSoundTraffic self.new }
-        ensures stands { (t : Tuning) (traffic : TheTraffic) (m : TheMark)
-            (heard : List Sample) (pages : List TheEvent) → HoldsLast ring.now heard →
-            HearsTraffic t traffic m self.old heard pages →
-            HearsTraffic t traffic m self.new heard pages }
-    {
-        self.take_frame(ring, codes);
-        self.sets.come(ring.taken());
     }
 
     /// Takes the soft values of the frame whose last sample has come, where one has, and goes on to
@@ -243,45 +205,6 @@ impl TrafficReceiver {
         ensures sound { IsSoundTraffic self.new }
     {
         self.sets.note(event);
-    }
-
-    /// Hears what is due, the message that is kept first, then the frame, then the moment, and
-    /// gives its event at so many samples.
-    pub(crate) fn hear_next(
-        &mut self,
-        decoder: &mut Decoder,
-        ring: &SampleRing,
-        codes: &Codes,
-        check: CheckForm,
-    ) -> Option<Event>
-        requires sound { IsSoundTraffic self.old }
-        requires due { IsTrafficDue self.old }
-        requires room { decoder.old ≡ 576 }
-        requires ring_room { ring.now.room ≡ 65536 }
-        requires waits { WaitsAt ring.now.taken self.old }
-        ensures waits { WaitsAt ring.now.taken self.new }
-        ensures further { traffic_heard self.old < traffic_heard self.new }
-        ensures nearer { traffic_due self.new < traffic_due self.old }
-        ensures sound { IsSoundTraffic self.new }
-        ensures kept { decoder.new ≡ decoder.old }
-        ensures ends { IfSome result (λ event. at_of event ≡ ring.now.taken) }
-        ensures unset { list_any sets_mark (listed result) ≡ false }
-        ensures hears { (t : Tuning) (traffic : TheTraffic) (m : TheMark)
-            (heard : List Sample) → HoldsLast ring.now heard → check ≡ t.check16 →
-            HearsTraffic t traffic m self.old heard [] →
-            HearsTraffic t traffic m self.new heard [] }
-        ensures left { (t : Tuning) (traffic : TheTraffic) (m : TheMark)
-            (heard : List Sample) → HoldsLast ring.now heard → check ≡ t.check16 →
-            HearsTraffic t traffic m self.old heard [] →
-            listed result ++ traffic_left_of t traffic m heard self.new
-            ≡ traffic_left_of t traffic m heard self.old }
-    {
-        if !self.has_told() {
-            return self.pass_moment(ring, codes);
-        }
-        let event = self.hear_told(decoder, check, ring.taken());
-        self.sets.note(&event);
-        Some(event)
     }
 
     /// Lets the moment that has come pass, and gives its event, where it has one.
@@ -401,5 +324,62 @@ impl TrafficReceiver {
         unscramble(&self.scrambling.frame_bits(self.next), &mut turned);
         let decoded = traffic_frame(decoder, &turned, &replaced);
         (decoded, commands(&self.power))
+    }
+}
+
+impl Receive for TrafficReceiver {
+    ghost use Rattle.std.specs.Prelude.{◌≤◌};
+    ghost use Rattle.mobile_core.specs.BehindMark.{FollowsTraffic, IsUnheard, traffic_left};
+    ghost use Rattle.mobile_core.specs.TrafficReceiving.{IsSoundTraffic, IsTrafficDue, WaitsAt};
+    ghost use Rattle.mobile_core.specs.TrafficReceiving.{next_end, traffic_due, traffic_heard};
+
+    ghost sound = { IsSoundTraffic };
+
+    ghost due = { λ _ r. IsTrafficDue r };
+
+    ghost waits = { WaitsAt };
+
+    ghost ends = { λ n r. n ≤ next_end r };
+
+    ghost heard = { traffic_heard };
+
+    ghost unheard = { traffic_due };
+
+    ghost form = { λ t. t.check16 };
+
+    ghost silent = { λ t mark. IsUnheard t.traffic mark };
+
+    ghost stands = { FollowsTraffic };
+
+    ghost left = { traffic_left };
+
+    fn end_before(&self, end: u64) -> u64 {
+        self.end.min(self.sets.end()).min(end)
+    }
+
+    fn is_due(&self, _count: u64) -> bool {
+        self.has_told() || self.sets.is_due()
+    }
+
+    fn take_ended(&mut self, ring: &SampleRing, codes: &Codes) {
+        self.take_frame(ring, codes);
+        self.sets.come(ring.taken());
+    }
+
+    /// Hears the message that is kept first, then the frame, then the moment.
+    fn hear_next(
+        &mut self,
+        decoder: &mut Decoder,
+        ring: &SampleRing,
+        codes: &Codes,
+        check: CheckForm,
+        _count: u64,
+    ) -> Option<Event> {
+        if !self.has_told() {
+            return self.pass_moment(ring, codes);
+        }
+        let event = self.hear_told(decoder, check, ring.taken());
+        self.sets.note(&event);
+        Some(event)
     }
 }

@@ -1,21 +1,67 @@
-use Rattle.mobile_core.proofs.Common.{refl, sym, subst, paging_events_left, HearsFrames}
-use Rattle.mobile_core.proofs.ChannelsFollowed.{unset_pages}
+use Rattle.mobile_core.proofs.Common.{◌≡◌, ◌∙◌, rules, Some, sym, arith}
+use Rattle.mobile_core.proofs.ChannelsFollowed.{closed, opened, unassigned, unmoved}
+use Rattle.mobile_core.proofs.FramesFollowed.{frames_opened}
+use Rattle.mobile_core.proofs.PagesFollowed.{pages_opened}
 use Rattle.mobile_core.proofs.followed.Followed.follow.Goals as goal
 
-pub returns-clause-hears : goal.returns-clause-hears
-returns-clause-hears c = λ t before heard at' within sets st.
-    let pages = paging_events_left t before heard c.args.self.now.paging.receiver in
-    let left = c.follow.ensures.left t before heard at' within sets st.paging in
-    record {
-      paging = c.follow.ensures.hears t before heard at' within sets st.paging;
-      traffic = subst (HearsFrames t c.follow-2.new.self c.args.mark.now heard) (sym left)
-          (c.follow-2.ensures.hears t before heard pages
-          (unset_pages t before heard c.args.self.now.paging.receiver) at' within sets st.traffic);
-    }
+pub returns-in_default-clause-hears : goal.returns-in_default-clause-hears
+returns-in_default-clause-hears c = λ t before heard taken within sets st.
+    unmoved st c.args.mark.now c.args.taken sets (λ unset later. search rules)
 
-pub returns-clause-left : goal.returns-clause-left
-returns-clause-left c = λ t before heard at' within sets st.
-    let pages = paging_events_left t before heard c.args.self.now.paging.receiver in
-    let paging = c.follow.ensures.left t before heard at' within sets st.paging in
-    let traffic = c.follow-2.ensures.left t before heard pages at' within sets st.traffic in
-    rw (paging, traffic) refl
+pub returns-then-not-opens-clause-hears : goal.returns-then-not-opens-clause-hears
+returns-then-not-opens-clause-hears c = λ t before heard taken within sets st.
+    let set : c.args.mark.now ≡ Some c.in-Some.mark = search rules in
+    unmoved st c.args.mark.now c.args.taken sets
+    (λ unset later.
+    let none = closed st unset in
+    let e = c.opens.ensures.1 (later c.in-Some.mark set, none) in
+    let e' = c.if-not-opens.true in
+    absurd (cc))
+
+pub returns-in_default-assigned-clause-hears : goal.returns-in_default-assigned-clause-hears
+returns-in_default-assigned-clause-hears c = λ t before heard taken within sets st.
+    let m = c.in-Some.mark in
+    let f = c.args.self.now in
+    let set : c.args.mark.now ≡ Some m = search rules in
+    let opens = c.opens.ensures.0 (search rules) in
+    let paging = c.open-self.ensures in
+    let early = opens.0 in
+    let pages = pages_opened t heard m f.channel st.channel_is (omega (arith, taken, early))
+    c.open-self.result paging.some paging.begins paging.fresh
+    (paging.hears t heard (sym st.phase_is) (sym st.deltas_are) (omega (arith, taken, within))
+    (omega (arith, taken, early))) in
+    rw set
+    (opened st c.open-self.result f.traffic m opens.1.0 opens.1.1 pages
+    (unassigned st m opens.1.1 (search rules)))
+
+pub returns-clause-hears : goal.returns-clause-hears
+returns-clause-hears c = λ t before heard taken within sets st.
+    let m = c.in-Some.mark in
+    let f = c.args.self.now in
+    let traffic = c.in-Some-assigned.traffic in
+    let set : c.args.mark.now ≡ Some m = search rules in
+    let channel : f.assigned ≡ Some traffic = search rules in
+    let opens = c.opens.ensures.0 (search rules) in
+    let paging = c.open-self.ensures in
+    let receiver = c.open-receiver.ensures in
+    let early = opens.0 in
+    let pages = pages_opened t heard m f.channel st.channel_is (omega (arith, taken, early))
+    c.open-self.result paging.some paging.begins paging.fresh
+    (paging.hears t heard (sym st.phase_is) (sym st.deltas_are) (omega (arith, taken, within))
+    (omega (arith, taken, early))) in
+    let begins = receiver.begins in
+    let frames = frames_opened t heard traffic m c.open-receiver.result
+    (sym st.assigned_is ∙ channel) receiver.sound receiver.fresh receiver.empty receiver.idle
+    (omega (arith, taken, early, begins))
+    (receiver.hears t heard (sym st.phase_is) (sym st.deltas_are) (omega (arith, taken, within))
+    (omega (arith, taken, early))) in
+    rw set
+    (opened st c.open-self.result (Some c.open-receiver.result) m opens.1.0 opens.1.1 pages frames)
+
+pub open-receiver-requires-clause-row : goal.open-receiver-requires-clause-row
+open-receiver-requires-clause-row c =
+    (c.requires.sound.assigned c.in-Some-assigned.traffic (search rules)).row
+
+pub open-receiver-requires-clause-offset : goal.open-receiver-requires-clause-offset
+open-receiver-requires-clause-offset c =
+    (c.requires.sound.assigned c.in-Some-assigned.traffic (search rules)).offset

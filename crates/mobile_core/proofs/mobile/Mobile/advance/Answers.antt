@@ -1,5 +1,6 @@
-use Rattle.mobile_core.proofs.Common.{ℕ, ◌≡◌, ◌-◌, ◌++◌, arith, inl, inr, length, take, length-take, subst, sym, ◌∙◌, append-nil, take_all}
-use Rattle.mobile_core.proofs.Common.{IsDueAt, AreNear, IsFollowedDue, WaitFrom, IsFrameDue}
+use Rattle.mobile_core.proofs.Common.{ℕ, ◌≡◌, ◌-◌, ◌++◌, arith, inl, inr, length, take, length-take, subst, ◌∙◌, append-nil, take_all}
+use Rattle.mobile_core.proofs.Common.{IsDueAt, AreNear, IsFollowedDue, WaitFrom, [], ◌+◌}
+use Rattle.mobile_core.proofs.ChannelsFollowed.{waits_on}
 use Rattle.mobile_core.proofs.Stood.{due_here, others_due_here, stands_taken, stands_come, was_told}
 use Rattle.mobile_core.proofs.mobile.Mobile.advance.Goals as goal
 
@@ -21,16 +22,19 @@ invariant_of-self c =
         hears = m.sound.hears;
         waits = omega (arith, pushed.taken, least.sync, few);
         follows = m.sound.follows;
-        others_wait = record {
-          paging = λ r e. omega (arith, least.paging r e, pushed.taken, few);
-          traffic = λ r e. record {
-            before = omega (arith, least.traffic r e, pushed.taken, few);
-            due = λ due.
-                absurd (c.requires.not_due (inr (inr (inr (subst IsFrameDue (sym e) (inr due))))));
-          };
-        };
+        others_wait = waits_on c.push_all.new.self.taken m.count m.followed
+            (λ d. c.requires.not_due (inr (inr d)))
+            (least.ends (c.push_all.new.self.taken + 1) (omega (arith, pushed.taken, few)));
       };
     }
+
+pub take_ended-requires-2-clause-ended : goal.take_ended-requires-2-clause-ended
+take_ended-requires-2-clause-ended c =
+    let least = c.least_end.ensures in
+    let pushed = c.push_all-2.ensures.taken in
+    let n = c.least_end.result - c.taken.result in
+    least.ends c.push_all-2.new.self.taken
+    (omega (arith, pushed, least.waits, c.taken.ensures.value, length-take n c.args.samples.now))
 
 pub returns-then-samples-left-clause-steps : goal.returns-then-samples-left-clause-steps
 returns-then-samples-left-clause-steps c =
@@ -56,10 +60,7 @@ returns-then-samples-left-clause-steps c =
           (subst (λ (n : ℕ). WaitFrom n m.followed) taken m.sound.others_wait)
           (λ d. c.requires.not_due (inr (inl d))) (λ d. c.requires.not_due (inr (inr d)))
           (omega arith) (omega (arith, least.sync))
-          (record {
-            paging = λ r e. omega (arith, least.paging r e);
-            traffic = λ r e. omega (arith, least.traffic r e);
-          }) holds);
+          (least.ends (length heard + length more) (omega arith)) holds);
     }
 
 pub returns-clause-steps : goal.returns-clause-steps
@@ -89,14 +90,11 @@ returns-clause-steps c =
           let on = stands_taken st more c.push_all-2.new.self told near m.sound.follows
           (subst (λ (n : ℕ). WaitFrom n m.followed) taken m.sound.others_wait) none idle
           (omega arith)
-          (omega (arith, least.sync)) (record {
-            paging = λ r e. omega (arith, least.paging r e);
-            traffic = λ r e. omega (arith, least.traffic r e);
-          }) holds in
+          (omega (arith, least.sync)) (least.ends (length heard + length more) (omega arith)) holds in
           let come = sync.stands t (heard ++ more) holds (due_here on none) on.sync in
-          let mark = m.sync.mark in
+          let follows = others.hears t m.sync.mark (heard ++ more) [] holds
+          (others_due_here on idle) on.followed in
           rw (append-nil given)
           (stands_come on c.take_ended.new.self c.take_ended-2.new.self come sync.next sync.mark
-          (others.hears t mark (heard ++ more) holds (others_due_here on idle) on.followed)
-          (others.left t mark (heard ++ more)));
+          follows.0 follows.1);
     }

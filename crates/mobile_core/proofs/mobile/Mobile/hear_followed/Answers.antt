@@ -1,6 +1,5 @@
 use Rattle.mobile_core.proofs.Common.{◌∙◌, arith, append-nil}
-use Rattle.mobile_core.proofs.FramesFollowed.{frames_few}
-use Rattle.mobile_core.proofs.PagesFollowed.{heard_few}
+use Rattle.mobile_core.proofs.ChannelsFollowed.{followed_few}
 use Rattle.mobile_core.proofs.StepJoins.{ends_here, one_or_none}
 use Rattle.mobile_core.proofs.Stood.{stands_followed}
 use Rattle.mobile_core.proofs.mobile.Mobile.hear_followed.Goals as goal
@@ -34,8 +33,7 @@ returns-clause-steps c =
         arith,
         one_or_none c.hear_next.result,
         next.further,
-        heard_few m.followed.paging.receiver m.sound.follows.paging.receives,
-        frames_few m.followed.traffic.receiver m.sound.follows.traffic.receives,
+        followed_few m.followed m.sound.follows,
         clock.next_have,
         clock.have_end,
         clock.end_most,
@@ -45,10 +43,8 @@ returns-clause-steps c =
           ends_here c.hear_next.result next.ends (omega (arith, taken));
       stands = λ t heard given st.
           let taken = st.ring.taken in
-          let follows = next.hears t m.sync.mark heard st.ring st.check_is st.count_is st.followed
-          in
-          let left = next.left t m.sync.mark heard st.ring st.check_is st.count_is st.followed in
+          let on = next.hears t m.sync.mark heard st.ring st.check_is st.count_is st.followed in
           rw (append-nil heard)
           (stands_followed st c.hear_next.new.self c.hear_next.result c.requires.told c.requires.silent
-          (omega (arith, taken, m.sound.waits)) next.unset follows left);
+          (omega (arith, taken, m.sound.waits)) next.unset on.0 on.1);
     }

@@ -1,7 +1,6 @@
 use Rattle.mobile_core.proofs.Common.{◌≡◌, ◌∙◌, ap, arith, length, subst, sym, append-nil, Option, HearsFollowed, followed_events_left}
 use Rattle.mobile_core.proofs.Common.{SetsMark, FrameClock, Mark}
-use Rattle.mobile_core.proofs.FramesFollowed.{frames_few}
-use Rattle.mobile_core.proofs.PagesFollowed.{heard_few}
+use Rattle.mobile_core.proofs.ChannelsFollowed.{followed_few}
 use Rattle.mobile_core.proofs.StepJoins.{ends_here, one_or_none}
 use Rattle.mobile_core.proofs.Stood.{heard_sets, stands_heard}
 use Rattle.mobile_core.proofs.mobile.Mobile.hear_sync.Goals as goal
@@ -21,8 +20,7 @@ returns-clause-steps c =
         one_or_none c.hear_next-event.result,
         next_is,
         follow.further,
-        heard_few m.followed.paging.receiver m.sound.follows.paging.receives,
-        frames_few m.followed.traffic.receiver m.sound.follows.traffic.receives,
+        followed_few m.followed m.sound.follows,
         clock.next_have,
         clock.have_end,
         clock.end_most,
@@ -43,15 +41,13 @@ returns-clause-steps c =
           let sets' = subst (SetsMark c.taken-at.result m.sync.mark) (sym c.mark.ensures) sets in
           let within = m.sound.within in
           let count = st.count_is in
-          let follows = follow.hears t m.sync.mark heard here (omega (arith, within, at', count))
-          sets' st.followed in
-          let left = follow.left t m.sync.mark heard here (omega (arith, within, at', count)) sets'
+          let on = follow.hears t m.sync.mark heard here (omega (arith, within, at', count)) sets'
           st.followed in
           let set = c.mark.ensures in
           let others = c.follow.new.self in
           rw (append-nil heard)
           (stands_heard st after others c.hear_next-event.result c.requires.told hears
-          (subst (λ (x : Option Mark). HearsFollowed t others x heard) set follows)
+          (subst (λ (x : Option Mark). HearsFollowed t others x heard) set on.0)
           (ap (λ (x : Option Mark). followed_events_left t x heard others) (sym set)
-          ∙ left));
+          ∙ on.1));
     }

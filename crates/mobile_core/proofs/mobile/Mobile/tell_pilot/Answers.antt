@@ -1,7 +1,6 @@
 use Rattle.mobile_core.proofs.Common.{◌≡◌, ◌∙◌, ◌+◌, ◌++◌, ◌∷◌, [], Option, Some, None, ap, arith, append-nil, length, subst, sym, Best}
 use Rattle.mobile_core.proofs.Common.{at_of, pilot_left, Stands, parts, Event, Pilot}
-use Rattle.mobile_core.proofs.FramesFollowed.{frames_few}
-use Rattle.mobile_core.proofs.PagesFollowed.{heard_few}
+use Rattle.mobile_core.proofs.ChannelsFollowed.{followed_few}
 use Rattle.mobile_core.proofs.Stood.{stands_told}
 use Rattle.mobile_core.proofs.mobile.Mobile.tell_pilot.Goals as goal
 
@@ -20,8 +19,7 @@ returns-clause-steps c =
         arith,
         ap (λ (pilot : Option Best). length (pilot_left pilot)) is,
         ap (λ (pilot : Option Best). length (pilot_left pilot)) gone,
-        heard_few m.followed.paging.receiver m.sound.follows.paging.receives,
-        frames_few m.followed.traffic.receiver m.sound.follows.traffic.receives,
+        followed_few m.followed m.sound.follows,
         clock.next_have,
         clock.have_end,
         clock.end_most,

@@ -1,0 +1,24 @@
+use Rattle.mobile_core.proofs.Common.{◌++◌, ◌∙◌, ℕ, List, ap, option_to_list, map, subst, page_event, IsDueAt, paging_left, Event}
+use Rattle.mobile_core.proofs.PagesFollowed.{bit_left, bits_left, follows_on}
+use Rattle.mobile_core.proofs.paging_receiver.PagingReceiverReceive.hear_next.Goals as goal
+
+pub returns-clause-nearer : goal.returns-clause-nearer
+returns-clause-nearer c =
+    let hear = c.hear_bit-page.ensures in
+    bits_left c.args.self.now c.hear_bit-page.new.self c.args._count c.requires.sound c.requires.due
+    hear.have hear.further
+
+pub returns-clause-hears : goal.returns-clause-hears
+returns-clause-hears c = λ t mark heard holds check count behind.
+    let r = c.args.self.now in
+    let after = c.hear_bit-page.new.self in
+    let page = c.hear_bit-page.result in
+    let due = subst (λ (n : ℕ). IsDueAt n r.received.clock) count c.requires.due in
+    let bit = c.hear_bit-page.ensures.hears t t.paging behind.set heard check due behind.hears in
+    let event = c.event_of_page.ensures.value
+    ∙ ap (λ (n : ℕ). map (page_event n) (option_to_list page))
+    (c.taken.ensures.value ∙ holds.taken) in (
+      follows_on behind after heard bit.hears,
+      ap (λ (es : List Event). es ++ paging_left t mark heard after) event
+          ∙ bit_left behind after page bit,
+    )

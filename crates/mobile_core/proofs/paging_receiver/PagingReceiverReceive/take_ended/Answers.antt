@@ -1,0 +1,23 @@
+use Rattle.mobile_core.proofs.Common.{◌∙◌, ap, refl, paging_stream, FrameClock}
+use Rattle.mobile_core.proofs.PagesFollowed.{come_left, come_once, follows_on}
+use Rattle.mobile_core.proofs.PagesHeard.{hears_come}
+use Rattle.mobile_core.proofs.paging_receiver.PagingReceiverReceive.take_ended.Goals as goal
+
+pub take_frame-requires-clause-near : goal.take_frame-requires-clause-near
+take_frame-requires-clause-near c =
+    come_once c.requires.idle.0 c.args.self.now.received.clock c.requires.idle.1
+
+pub returns-then-end-taken-clause-hears : goal.returns-then-end-taken-clause-hears
+returns-then-end-taken-clause-hears c = λ t mark heard pages holds none behind.
+    let st = behind.hears in
+    let r = c.args.self.now in
+    let received = c.take_frame.new.self in
+    let come = c.take_frame.ensures in
+    let next = ap (λ (k : FrameClock). k.next) come.clock in
+    let bits = c.frame_bits-bits.ensures.value
+    ∙ rw (st.state_is, st.mask_is, c.coming.ensures) refl in
+    let on = hears_come st received none next
+    (come.stands t.count (paging_stream t t.paging behind.set) heard holds bits none st.receives) in (
+      follows_on behind (record r { received = received }) heard on,
+      come_left behind (record r { received = received }) next refl,
+    )

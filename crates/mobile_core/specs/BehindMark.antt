@@ -1,0 +1,80 @@
+-- What the receivers stand for that a mark opens.
+use Rattle.std.specs.Prelude.{◌≡◌, ◌⊎◌, ℕ, ◌-◌, ◌*◌, ◌<◌, ◌≤◌, Bool, true, false, nat_lt, List, map}
+use Rattle.std.specs.Prelude.{length, Option, Some, None, []}
+use Rattle.std.specs.Option.{ForSome}
+use Rattle.chip_core.specs.declared.assignment.Traffic.{Traffic}
+use Rattle.chip_core.specs.declared.sample.Sample.{Sample}
+use Rattle.heard_events.specs.PagingEvents.{page_event}
+use Rattle.mobile_core.specs.PagingReceiving.{HearsPaging, bits_heard}
+use Rattle.heard_events.specs.Left.{pages_left}
+use Rattle.heard_events.specs.TrafficEvents.{if_followed}
+use Rattle.mobile_core.specs.TrafficReceiving.{HearsTraffic, traffic_left_of}
+use Rattle.heard_events.specs.Tuning.{Tuning}
+use Rattle.heard_events.specs.declared.event.Event.{Event}
+use Rattle.heard_events.specs.declared.mark.Mark.{Mark}
+use Rattle.mobile_core.specs.declared.paging_receiver.PagingReceiver.{PagingReceiver}
+use Rattle.heard_events.specs.SpelledMessages.{SpelledPage}
+use Rattle.mobile_core.specs.declared.traffic_receiver.TrafficReceiver.{TrafficReceiver}
+
+-- What is told by n samples leaves the mark, or sets one that lies behind them.
+abbrev pub SetsMark : ℕ → Option Mark → Option Mark → Type 0
+SetsMark n before after =
+    (after ≡ before) ⊎ ((before ≡ None) × ForSome after (λ m. n < m.sample))
+
+-- THE PAGING CHANNEL
+-- whether it is heard behind a mark that may be set: its PRAT has to stand for a rate
+abbrev pub is_paged : Option Mark → Bool
+is_paged None = false
+is_paged (Some m) = nat_lt m.prat 2
+
+abbrev pub IsUnpaged : Option Mark → Type 0
+IsUnpaged mark = is_paged mark ≡ false
+
+-- a receiver that follows the channel from the mark on
+pub record FollowsPages (t : Tuning) (mark : Option Mark) (r : PagingReceiver)
+    (heard : List Sample) : Type 0 where
+  pub set : Mark
+  pub set_is : mark ≡ Some set
+  pub rate : nat_lt set.prat 2 ≡ true
+  pub hears : HearsPaging t t.paging set r heard
+
+-- the messages of these samples' end that it has still to give, and their events
+abbrev pub pages_left_behind : Tuning → Option Mark → List Sample → PagingReceiver →
+    List SpelledPage
+pages_left_behind t None samples r = []
+pages_left_behind t (Some m) samples r =
+    pages_left t t.paging m samples r.received.clock.next r.place
+
+abbrev pub paging_left : Tuning → Option Mark → List Sample → PagingReceiver → List Event
+paging_left t mark samples r =
+    map (page_event (length samples)) (pages_left_behind t mark samples r)
+
+-- how many bits of the frames that have come haven't been heard, where each frame counts as 192
+abbrev pub paging_due : PagingReceiver → ℕ
+paging_due r = 192 * r.received.clock.have - bits_heard r
+
+-- THE TRAFFIC CHANNEL
+-- a channel that a base station may assign
+pub record IsSoundAssignment (traffic : Traffic) : Type 0 where
+  pub row : traffic.row < 64
+  pub offset : traffic.offset ≤ 15
+
+-- none is heard where none is assigned, or no mark is set
+abbrev pub IsUnheard : Option Traffic → Option Mark → Type 0
+IsUnheard None mark = Unit {0}
+IsUnheard (Some traffic) mark = mark ≡ None
+
+-- A receiver that follows the channel from the mark on; the events `pages` of the paging channel
+-- haven't been heard.
+pub record FollowsTraffic (t : Tuning) (mark : Option Mark) (r : TrafficReceiver)
+    (heard : List Sample) (pages : List Event) : Type 0 where
+  pub traffic : Traffic
+  pub traffic_is : t.traffic ≡ Some traffic
+  pub set : Mark
+  pub set_is : mark ≡ Some set
+  pub hears : HearsTraffic t traffic set r heard pages
+
+-- the events of these samples' end that it has still to give
+abbrev pub traffic_left : Tuning → Option Mark → List Sample → TrafficReceiver → List Event
+traffic_left t mark samples r =
+    if_followed (λ traffic m. traffic_left_of t traffic m samples r) t.traffic mark

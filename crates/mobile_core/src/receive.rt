@@ -1,0 +1,169 @@
+//! What receives the channels behind the mark.
+
+use chip_core::CheckForm;
+use heard_events::Event;
+use rake_finger::SampleRing;
+use short_code::Codes;
+use viterbi::Decoder;
+
+/// What receives a channel behind the mark, or several: it takes samples up to the end of what
+/// comes next, a frame or a moment, and then hears what has come, event by event.
+pub(crate) trait Receive {
+    ghost use Rattle.std.specs.Prelude.{◌≡◌, ◌<◌, ◌≤◌, ◌↔◌, ◌++◌, ℕ, IsTrue, IfSome, List, []};
+    ghost use Rattle.std.specs.Prelude.{Option, None, false};
+    ghost use Rattle.std.specs.List.{list_any};
+    ghost use Rattle.chip_core.specs.declared.check_form.CheckForm.{CheckForm as TheForm};
+    ghost use Rattle.chip_core.specs.declared.sample.Sample.{Sample};
+    ghost use Rattle.heard_events.specs.Given.{at_of, listed};
+    ghost use Rattle.heard_events.specs.Marks.{sets_mark};
+    ghost use Rattle.heard_events.specs.Tuning.{Tuning};
+    ghost use Rattle.heard_events.specs.declared.event.Event.{Event as TheEvent};
+    ghost use Rattle.heard_events.specs.declared.mark.Mark.{Mark};
+    ghost use Rattle.rake_finger.specs.Held.{HoldsLast};
+
+    /// What always holds.
+    ghost sound: { Self → Type 0 };
+
+    /// Something has come that hasn't been heard, in a file of so many samples.
+    ghost due: { ℕ → Self → Type 0 };
+
+    /// What comes next ends later than so many samples.
+    ghost waits: { ℕ → Self → Type 0 };
+
+    /// What comes next ends at so many samples or later.
+    ghost ends: { ℕ → Self → Type 0 };
+
+    /// How much has been heard.
+    ghost heard: { Self → ℕ };
+
+    /// How much has come that hasn't been heard.
+    ghost unheard: { Self → ℕ };
+
+    /// How the checks of its messages are sent.
+    ghost form: { Tuning → TheForm };
+
+    /// Nothing is heard behind a mark that may be set, where a mark opens a receiver.
+    ghost silent: { Tuning → Option Mark → Type 0 } = { λ _ mark. mark ≡ None };
+
+    /// It has taken these samples, in which the sync channel's messages set this mark, or none, and
+    /// the events of the paging channel haven't been heard that it takes as told.
+    ghost stands: { Tuning → Option Mark → Self → List Sample → List TheEvent → Type 0 };
+
+    /// The events of these samples' end that it has still to give.
+    ghost left: { Tuning → Option Mark → List Sample → Self → List TheEvent };
+
+    /// The least of a number of samples and that at which what comes next ends.
+    fn end_before(&self, end: u64) -> u64
+        requires { sound self.now }
+        ensures most { result ≤ end }
+        ensures ends { (n : ℕ) → n ≤ result → ends n self.now }
+        ensures one { (n : ℕ) → n < end → waits n self.now → n < result };
+
+    /// Whether something has come that hasn't been heard, in a file of so many samples.
+    fn is_due(&self, count: u64) -> bool
+        requires { sound self.now }
+        ensures { IsTrue result ↔ due count self.now };
+
+    /// Takes the soft values of a frame whose last sample has come, where one has, and lets the
+    /// moment come that lies there.
+    fn take_ended(&mut self, ring: &SampleRing, codes: &Codes)
+        requires sound { sound self.old }
+        requires idle { (count : ℕ) × ¬ due count self.old }
+        requires few { ring.now.taken ≤ 67108864 }
+        requires room { ring.now.room ≡ 65536 }
+        requires ended { ends ring.now.taken self.old }
+        ensures sound { sound self.new }
+        ensures waits { waits ring.now.taken self.new }
+        ensures same { heard self.new ≡ heard self.old }
+        ensures hears { (t : Tuning) (mark : Option Mark) (samples : List Sample)
+            (pages : List TheEvent) → HoldsLast ring.now samples → ¬ due t.count self.old →
+            stands t mark self.old samples pages → stands t mark self.new samples pages
+            × (left t mark samples self.new ≡ left t mark samples self.old) };
+
+    /// Hears what is due next in a file of so many samples, and gives the event that this
+    /// completes.
+    fn hear_next(
+        &mut self,
+        decoder: &mut Decoder,
+        ring: &SampleRing,
+        codes: &Codes,
+        check: CheckForm,
+        count: u64,
+    ) -> Option<Event>
+        requires sound { sound self.old }
+        requires due { due count self.old }
+        requires waits { waits ring.now.taken self.old }
+        requires room { decoder.old ≡ 576 }
+        requires ring_room { ring.now.room ≡ 65536 }
+        ensures sound { sound self.new }
+        ensures kept { decoder.new ≡ decoder.old }
+        ensures waits { waits ring.now.taken self.new }
+        ensures further { heard self.old < heard self.new }
+        ensures nearer { unheard self.new < unheard self.old }
+        ensures ends { IfSome result (λ event. at_of event ≡ ring.now.taken) }
+        ensures unset { list_any sets_mark (listed result) ≡ false }
+        ensures hears { (t : Tuning) (mark : Option Mark) (samples : List Sample) →
+            HoldsLast ring.now samples → check ≡ form t → count ≡ t.count →
+            stands t mark self.old samples [] → stands t mark self.new samples []
+            × (listed result ++ left t mark samples self.new ≡ left t mark samples self.old) };
+}
+
+// A receiver that a mark opens: there is none before it, nor where the channel isn't heard.
+impl<R: Receive> Receive for Option<R> {
+    ghost use Rattle.std.specs.Prelude.{[]};
+    ghost use Rattle.std.specs.Option.{ForSome, IsSomeAnd, MatchOption, option_map_or};
+
+    ghost sound = { λ receiver. ForSome receiver R.sound };
+
+    ghost due = { λ count receiver. IsSomeAnd receiver (R.due count) };
+
+    ghost waits = { λ n receiver. ForSome receiver (R.waits n) };
+
+    ghost ends = { λ n receiver. ForSome receiver (R.ends n) };
+
+    ghost heard = { λ receiver. option_map_or R.heard receiver 0 };
+
+    ghost unheard = { λ receiver. option_map_or R.unheard receiver 0 };
+
+    ghost form = { R.form };
+
+    ghost stands = { λ t mark receiver samples pages. MatchOption receiver (R.silent t mark)
+        (λ r. R.stands t mark r samples pages) };
+
+    ghost left = { λ t mark samples receiver.
+        option_map_or (R.left t mark samples) receiver [] };
+
+    fn end_before(&self, end: u64) -> u64 {
+        match self {
+            Some(receiver) => receiver.end_before(end),
+            None => end,
+        }
+    }
+
+    fn is_due(&self, count: u64) -> bool {
+        match self {
+            Some(receiver) => receiver.is_due(count),
+            None => false,
+        }
+    }
+
+    fn take_ended(&mut self, ring: &SampleRing, codes: &Codes) {
+        if let Some(receiver) = self {
+            receiver.take_ended(ring, codes);
+        }
+    }
+
+    fn hear_next(
+        &mut self,
+        decoder: &mut Decoder,
+        ring: &SampleRing,
+        codes: &Codes,
+        check: CheckForm,
+        count: u64,
+    ) -> Option<Event> {
+        let Some(receiver) = self else {
+            return None;
+        };
+        receiver.hear_next(decoder, ring, codes, check, count)
+    }
+}
