@@ -91,7 +91,7 @@ module _ {t : Tuning} {traffic : Traffic} {m : Mark} {r : TrafficReceiver} {hear
   place_is : coming_place r.sets ≡ moment_place m (r.sets.passed + 1)
   place_is =
       coming_is r none
-      ∙ ap (λ (x : Mark). moment_place x (r.sets.passed + 1)) st.mark_is
+      ∙ ap (λ (x : Mark). moment_place x (r.sets.passed + 1)) st.tuned.mark_is
 
   ends_at : (n : ℕ) → n ≤ next_end r →
       (n ≤ r.end) × (n ≤ moment_place m (r.sets.passed + 1))

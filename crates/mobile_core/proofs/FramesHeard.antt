@@ -72,7 +72,7 @@ module _ {t : Tuning} {traffic : Traffic} {m : Mark} {r : TrafficReceiver} {hear
     (st : HearsWith t traffic m r heard pages kept) (sound : IsSoundTraffic r) where
   pub far : 2 ^ 16 ≤ m.sample
   far =
-      subst (λ (x : Mark). 2 ^ 16 ≤ x.sample) st.mark_is sound.keeper.marked.late
+      subst (λ (x : Mark). 2 ^ 16 ≤ x.sample) st.tuned.mark_is sound.keeper.marked.late
 
   pub closes : AreCloseAll t (legs_by traffic m kept)
   closes k = st.close (moment_of traffic k)
@@ -81,8 +81,8 @@ module _ {t : Tuning} {traffic : Traffic} {m : Mark} {r : TrafficReceiver} {hear
   pub fingers_are : moment_of traffic r.have ≤ r.sets.passed →
       fingers_in r ≡ all_fingers t.phase t.deltas (legs_by traffic m kept r.have)
   fingers_are told =
-      ap (λ (p : ℕ). all_fingers p (take r.near.count r.near.deltas) r.legs) st.phase_is
-      ∙ ap (λ (ds : List ℤ). all_fingers t.phase ds r.legs) st.deltas_are
+      ap (λ (p : ℕ). all_fingers p (take r.near.count r.near.deltas) r.legs) st.tuned.phase_is
+      ∙ ap (λ (ds : List ℤ). all_fingers t.phase ds r.legs) st.tuned.deltas_are
       ∙ ap (all_fingers t.phase t.deltas) (st.legs_are told)
 
   pub end_is : moment_of traffic r.have ≤ r.sets.passed →
@@ -100,7 +100,7 @@ module _ {t : Tuning} {traffic : Traffic} {m : Mark} {r : TrafficReceiver} {hear
   told_by_end ends =
       elim (cases_lt r.sets.passed (moment_of traffic r.have)) [
         | inl later ↦
-            let low = (close_ends r.start (fingers_in r) sound.fingers_close).0 in
+            let low = (close_ends r.start (fingers_in r) sound.legs.fingers_close).0 in
             let end = sound.ends in
             let start = st.start_is in
             let behind = start_moment traffic m r.have in
@@ -284,12 +284,7 @@ module _ {t : Tuning} {traffic : Traffic} {m : Mark} {r : TrafficReceiver} {hear
     hears_more =
         let idle = none_come r sound none in
         record {
-          mark_is = st.mark_is;
-          phase_is = st.phase_is;
-          deltas_are = st.deltas_are;
-          state_is = st.state_is;
-          mask_is = st.mask_is;
-          offset = st.offset;
+          tuned = st.tuned;
           start_is = st.start_is;
           close = st.close;
           legs_are = st.legs_are;
@@ -326,8 +321,8 @@ module _ {t : Tuning} {traffic : Traffic} {m : Mark} {r : TrafficReceiver} {hear
       ≡ replaced_in traffic m r.have
   coming_places =
       ap (λ (n : ℕ). power_places n r.scrambling.mask)
-      (state_on traffic m r.scrambling.state r.have st.state_is)
-      ∙ ap (power_places (frame_state traffic m r.have)) st.mask_is
+      (state_on traffic m r.scrambling.state r.have st.tuned.state_is)
+      ∙ ap (power_places (frame_state traffic m r.have)) st.tuned.mask_is
 
   pub power_here : moment_of traffic r.have ≤ r.sets.passed →
       map
@@ -340,8 +335,8 @@ module _ {t : Tuning} {traffic : Traffic} {m : Mark} {r : TrafficReceiver} {hear
       let of : ℕ → List ℤ → List Leg → ℕ → List ℕ → List (List ℤ) =
       λ p ds ls u ps. map (sums_on heard p ds ls u ps) (subchannels ls) in
       let legs = legs_by traffic m kept r.have in
-      ap (λ (p : ℕ). of p (take r.near.count r.near.deltas) r.legs r.start replaced) st.phase_is
-      ∙ ap (λ (ds : List ℤ). of t.phase ds r.legs r.start replaced) st.deltas_are
+      ap (λ (p : ℕ). of p (take r.near.count r.near.deltas) r.legs r.start replaced) st.tuned.phase_is
+      ∙ ap (λ (ds : List ℤ). of t.phase ds r.legs r.start replaced) st.tuned.deltas_are
       ∙ ap (λ (ls : List Leg). of t.phase t.deltas ls r.start replaced) (st.legs_are told)
       ∙ ap (λ (u : ℕ). of t.phase t.deltas legs u replaced) st.start_is
       ∙ ap (of t.phase t.deltas legs (traffic_start traffic m r.have)) coming_places
@@ -371,7 +366,7 @@ module _ {t : Tuning} {traffic : Traffic} {m : Mark} {r : TrafficReceiver} {hear
       let high = known_high t traffic m (legs_by traffic m kept) closes r.have in
       let was = st.start_is in
       let here = ap (frame_known t traffic m (legs_by traffic m kept)) idle in
-      let offset = st.offset in
+      let offset = st.tuned.offset in
       let behind : r.sets.passed ≤ moment_of traffic (r.have + 1) =
       elim (cases_lt 0 r.sets.passed) [
         | inl some ↦
@@ -379,19 +374,14 @@ module _ {t : Tuning} {traffic : Traffic} {m : Mark} {r : TrafficReceiver} {hear
         | inr none ↦ omega (arith, none)
       ] in
       record {
-        mark_is = st.mark_is;
-        phase_is = st.phase_is;
-        deltas_are = st.deltas_are;
-        state_is = st.state_is;
-        mask_is = st.mask_is;
-        offset = st.offset;
+        tuned = st.tuned;
         start_is = omega (arith, start_is, was);
         close = st.close;
         legs_are = λ early.
             let at' : moment_of traffic (r.have + 1) ≡ r.sets.passed =
             omega (arith, behind, early) in
             tuned at'
-            ∙ ap (λ (x : Mark). legs_of x r.sets.sets) st.mark_is
+            ∙ ap (λ (x : Mark). legs_of x r.sets.sets) st.tuned.mark_is
             ∙ st.pilots_are
             ∙ ap (λ (i : ℕ). legs_of m (kept i)) (sym at');
         pilots_are = st.pilots_are;
@@ -429,7 +419,7 @@ module _ {t : Tuning} {traffic : Traffic} {m : Mark} {r : TrafficReceiver} {hear
       let sets = ap (λ (x : TrafficReceiver). x.sets) is1 in
       let sample = ap (λ (x : SetsKeeper). x.mark.sample) sets in
       let passed = ap (λ (x : SetsKeeper). x.passed) sets in
-      let here = ap (λ (x : Mark). x.sample) st.mark_is in
+      let here = ap (λ (x : Mark). x.sample) st.tuned.mark_is in
       let was = st.start_is in
       let told : moment_of traffic (r.have + 1) ≡ r.sets.passed →
       r2.legs ≡ legs_of r.sets.mark r.sets.sets = λ e.
@@ -452,12 +442,7 @@ module _ {t : Tuning} {traffic : Traffic} {m : Mark} {r : TrafficReceiver} {hear
   pub hears_due : (due : Bool) → (due ≡ true → length heard ≡ moment_place m (r.sets.passed + 1)) →
       HearsWith t traffic m (record r { sets = record r.sets { due = due } }) heard pages kept
   hears_due due due_is = record {
-    mark_is = st.mark_is;
-    phase_is = st.phase_is;
-    deltas_are = st.deltas_are;
-    state_is = st.state_is;
-    mask_is = st.mask_is;
-    offset = st.offset;
+    tuned = st.tuned;
     start_is = st.start_is;
     close = st.close;
     legs_are = st.legs_are;
@@ -489,15 +474,15 @@ module _ {t : Tuning} {traffic : Traffic} {m : Mark} {r : TrafficReceiver} {hear
       ≡ replaced_in traffic m r.next
   places_are =
       ap (λ (n : ℕ). power_places n r.scrambling.mask)
-      (state_on traffic m r.scrambling.state r.next st.state_is)
-      ∙ ap (power_places (frame_state traffic m r.next)) st.mask_is
+      (state_on traffic m r.scrambling.state r.next st.tuned.state_is)
+      ∙ ap (power_places (frame_state traffic m r.next)) st.tuned.mask_is
 
   pub bits_are : scrambling (after r.scrambling.state (24576 * r.next)) r.scrambling.mask
       ≡ scrambling (frame_state traffic m r.next) (traffic_mask traffic.esn)
   bits_are =
       ap (λ (n : ℕ). scrambling n r.scrambling.mask)
-      (state_on traffic m r.scrambling.state r.next st.state_is)
-      ∙ ap (scrambling (frame_state traffic m r.next)) st.mask_is
+      (state_on traffic m r.scrambling.state r.next st.tuned.state_is)
+      ∙ ap (scrambling (frame_state traffic m r.next)) st.tuned.mask_is
 
   module _ (come : r.next < r.have) where
     -- what is decoded of the frame that is due

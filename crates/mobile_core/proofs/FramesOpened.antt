@@ -96,12 +96,14 @@ module _ (t : Tuning) (traffic : Traffic) (m : Mark) (start end : ℕ) (near : N
       (λ k above.
       let low = known_low t traffic m legs (λ i. close) k in omega (arith, low, early)) in
       record {
-        mark_is = refl;
-        phase_is = refl;
-        deltas_are = deltas;
-        state_is = state;
-        mask_is = mask;
-        offset = offset;
+        tuned = record {
+          mark_is = refl;
+          phase_is = refl;
+          deltas_are = deltas;
+          state_is = state;
+          mask_is = mask;
+          offset = offset;
+        };
         start_is = start_is;
         close = λ i. close;
         legs_are = λ told. refl;

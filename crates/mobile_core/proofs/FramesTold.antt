@@ -84,16 +84,11 @@ module _ {t : Tuning} {traffic : Traffic} {m : Mark} {heard : List Sample} {kept
         let first = first_is m j (length heard) st.coming (st.behind event (pages ++ left) refl) in
         let same : noted_with r.sets.mark.pilot (r.sets.mark.time + (j + 1)) event r.sets.sets
         ≡ noted m event r.sets.sets =
-        ap (λ (x : Mark). noted_with x.pilot (x.time + (j + 1)) event r.sets.sets) st.mark_is
+        ap (λ (x : Mark). noted_with x.pilot (x.time + (j + 1)) event r.sets.sets) st.tuned.mark_is
         ∙ ap (λ (k : ℕ). noted_with m.pilot (m.time + k) event r.sets.sets)
         (first ∙ ap (moment_from m) (sym at')) in
         record {
-          mark_is = st.mark_is;
-          phase_is = st.phase_is;
-          deltas_are = st.deltas_are;
-          state_is = st.state_is;
-          mask_is = st.mask_is;
-          offset = st.offset;
+          tuned = st.tuned;
           start_is = st.start_is;
           close = st.close;
           legs_are = st.legs_are;
@@ -123,12 +118,7 @@ module _ {t : Tuning} {traffic : Traffic} {m : Mark} {heard : List Sample} {kept
         ap (λ (k : Option SpelledSignal). message_events (length heard) k ++ rest) is
         ∙ ap (λ (es : List Event). es ++ rest) (sym event_is) in
         record {
-          mark_is = st.mark_is;
-          phase_is = st.phase_is;
-          deltas_are = st.deltas_are;
-          state_is = st.state_is;
-          mask_is = st.mask_is;
-          offset = st.offset;
+          tuned = st.tuned;
           start_is = st.start_is;
           close = st.close;
           legs_are = st.legs_are;
@@ -241,12 +231,7 @@ module _ {t : Tuning} {traffic : Traffic} {m : Mark} {heard : List Sample} {kept
           let rest = message_events (length heard) message
           ++ told_left t traffic m (legs_by traffic m kept) heard (r.next + 1) in
           record {
-            mark_is = st.mark_is;
-            phase_is = st.phase_is;
-            deltas_are = st.deltas_are;
-            state_is = st.state_is;
-            mask_is = st.mask_is;
-            offset = st.offset;
+            tuned = st.tuned;
             start_is = st.start_is;
             close = st.close;
             legs_are = st.legs_are;

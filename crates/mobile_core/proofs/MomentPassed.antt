@@ -170,12 +170,7 @@ module _ {t : Tuning} {traffic : Traffic} {m : Mark} {r : TrafficReceiver} {hear
         let kept' = kept_to t traffic m heard (j + 1) in
         let zero_count : length heard - moment_place m (j + 1) ≡ 0 = omega (arith, here) in
         record {
-          mark_is = st.mark_is;
-          phase_is = st.phase_is;
-          deltas_are = st.deltas_are;
-          state_is = st.state_is;
-          mask_is = st.mask_is;
-          offset = st.offset;
+          tuned = st.tuned;
           start_is = st.start_is;
           close = new_close;
           legs_are = legs_here;
@@ -263,7 +258,7 @@ module _ {t : Tuning} {traffic : Traffic} {m : Mark} {r : TrafficReceiver} {hear
     moment_is : (r.start - k.mark.sample) / 98304 ≡ moment_of traffic r.have
     moment_is =
         let mark = ap (λ (x : SetsKeeper). x.mark.sample) k_is in
-        let here' = ap (λ (x : Mark). x.sample) st.mark_is in
+        let here' = ap (λ (x : Mark). x.sample) st.tuned.mark_is in
         let start = st.start_is in
         omega (arith, mark, here', start)
 
@@ -274,7 +269,7 @@ module _ {t : Tuning} {traffic : Traffic} {m : Mark} {r : TrafficReceiver} {hear
     tuned_here e =
         tuned (moment_is ∙ e ∙ sym passed_is)
         ∙ ap (λ (x : Mark). legs_of x k.sets)
-        (ap (λ (x : SetsKeeper). x.mark) k_is ∙ st.mark_is)
+        (ap (λ (x : SetsKeeper). x.mark) k_is ∙ st.tuned.mark_is)
 
     stays_here : ¬ (moment_of traffic r.have ≡ r.sets.passed + 1) → r2.legs ≡ r.legs
     stays_here other = stays (λ e. other (sym moment_is ∙ e ∙ passed_is))

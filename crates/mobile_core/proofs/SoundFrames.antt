@@ -16,22 +16,20 @@ module _ {r : TrafficReceiver} (is : IsSoundTraffic r) where
       end ≡ frame_end (all_fingers r.phase (take r.near.count r.near.deltas) legs) Data r.start →
       IsSoundTraffic (record r { legs = legs; end = end })
   sound_tuned legs end some few close rows fingers ends = record {
+    set = is.set;
+    legs = record {
+      some = some;
+      few = few;
+      legs_close = close;
+      legs_rows = rows;
+      fingers_close = fingers;
+    };
     keeper = is.keeper;
     next_have = is.next_have;
     have_most = is.have_most;
     start_least = is.start_least;
     start_most = is.start_most;
-    some = some;
-    few = few;
-    least = is.least;
-    most = is.most;
-    legs_close = close;
-    legs_rows = rows;
-    paths = is.paths;
-    path_some = is.path_some;
-    fingers_close = fingers;
     ends = ends;
-    masked = is.masked;
     small = is.small;
     subchannels = is.subchannels;
   }
@@ -46,17 +44,9 @@ module _ {r : TrafficReceiver} (is : IsSoundTraffic r) where
     have_most = is.have_most;
     start_least = is.start_least;
     start_most = is.start_most;
-    some = is.some;
-    few = is.few;
-    least = is.least;
-    most = is.most;
-    legs_close = is.legs_close;
-    legs_rows = is.legs_rows;
-    paths = is.paths;
-    path_some = is.path_some;
-    fingers_close = is.fingers_close;
+    set = is.set;
+    legs = is.legs;
     ends = is.ends;
-    masked = is.masked;
     small = small;
     subchannels = few;
   }
@@ -67,8 +57,8 @@ module _ {r : TrafficReceiver} (is : IsSoundTraffic r) where
       (record r { have = r.have + 1; start = r.start + 24576; end = r.end + 24576 })
   sound_come idle few =
       let ends = is.ends in
-      let low = (close_ends r.start (fingers_in r) is.fingers_close).0 in
-      let later = close_later r.start 24576 (fingers_in r) is.fingers_close in
+      let low = (close_ends r.start (fingers_in r) is.legs.fingers_close).0 in
+      let later = close_later r.start 24576 (fingers_in r) is.legs.fingers_close in
       let least = is.start_least in
       record {
         keeper = is.keeper;
@@ -76,17 +66,9 @@ module _ {r : TrafficReceiver} (is : IsSoundTraffic r) where
         have_most = omega (arith, idle);
         start_least = omega (arith, least);
         start_most = omega (arith, ends, low, few);
-        some = is.some;
-        few = is.few;
-        least = is.least;
-        most = is.most;
-        legs_close = is.legs_close;
-        legs_rows = is.legs_rows;
-        paths = is.paths;
-        path_some = is.path_some;
-        fingers_close = is.fingers_close;
+        set = is.set;
+        legs = is.legs;
         ends = omega (arith, ends, later);
-        masked = is.masked;
         small = is.small;
         subchannels = is.subchannels;
       }
@@ -103,17 +85,9 @@ module _ {r : TrafficReceiver} (is : IsSoundTraffic r) where
         have_most = omega (arith, most);
         start_least = is.start_least;
         start_most = is.start_most;
-        some = is.some;
-        few = is.few;
-        least = is.least;
-        most = is.most;
-        legs_close = is.legs_close;
-        legs_rows = is.legs_rows;
-        paths = is.paths;
-        path_some = is.path_some;
-        fingers_close = is.fingers_close;
+        set = is.set;
+        legs = is.legs;
         ends = is.ends;
-        masked = is.masked;
         small = is.small;
         subchannels = is.subchannels;
       }
@@ -126,17 +100,9 @@ module _ {r : TrafficReceiver} (is : IsSoundTraffic r) where
     have_most = is.have_most;
     start_least = is.start_least;
     start_most = is.start_most;
-    some = is.some;
-    few = is.few;
-    least = is.least;
-    most = is.most;
-    legs_close = is.legs_close;
-    legs_rows = is.legs_rows;
-    paths = is.paths;
-    path_some = is.path_some;
-    fingers_close = is.fingers_close;
+    set = is.set;
+    legs = is.legs;
     ends = is.ends;
-    masked = is.masked;
     small = is.small;
     subchannels = is.subchannels;
   }
@@ -153,17 +119,9 @@ module _ {r : TrafficReceiver} (is : IsSoundTraffic r) where
         have_most = is.have_most;
         start_least = omega (arith, place, least);
         start_most = is.start_most;
-        some = is.some;
-        few = is.few;
-        least = is.least;
-        most = is.most;
-        legs_close = is.legs_close;
-        legs_rows = is.legs_rows;
-        paths = is.paths;
-        path_some = is.path_some;
-        fingers_close = is.fingers_close;
+        set = is.set;
+        legs = is.legs;
         ends = is.ends;
-        masked = is.masked;
         small = is.small;
         subchannels = is.subchannels;
       }
@@ -187,13 +145,13 @@ pub passed_close : {t : Tuning} {traffic : Traffic} {m : Mark} {r : TrafficRecei
     } → 1 ≤ length (legs_of k.mark k.sets) → legs_close (legs_of k.mark k.sets) ≡ true →
     AreClose (all_fingers t.phase t.deltas (legs_of m k.sets))
 passed_close {t} {traffic} {m} {r} {heard} {pages} {kept} st is k k_is some close =
-    let mark = ap (λ (x : SetsKeeper). x.mark) k_is ∙ st.mark_is in
+    let mark = ap (λ (x : SetsKeeper). x.mark) k_is ∙ st.tuned.mark_is in
     let some' = subst (λ (x : Mark). 1 ≤ length (legs_of x k.sets)) mark some in
     let close' = subst (λ (x : Mark). legs_close (legs_of x k.sets) ≡ true) mark close in
-    let paths = subst (λ (ds : List ℤ). paths_close ds ≡ true) st.deltas_are is.paths in
+    let paths = subst (λ (ds : List ℤ). paths_close ds ≡ true) st.tuned.deltas_are is.set.paths in
     record {
       some = all_some t.phase t.deltas (legs_of m k.sets) some'
-          (subst (λ (ds : List ℤ). 1 ≤ length ds) st.deltas_are is.path_some);
+          (subst (λ (ds : List ℤ). 1 ≤ length ds) st.tuned.deltas_are is.set.path_some);
       close = legs_are_close t.phase t.deltas (legs_of m k.sets) paths close';
     }
 

@@ -5,6 +5,7 @@ use Rattle.std.specs.Prelude.{min, if◌then◌else◌}
 use Rattle.chip_core.specs.declared.sample.Sample.{Sample}
 use Rattle.frame_decoder.specs.TrafficFrames as frames
 use Rattle.long_code.specs.LongCode.{traffic_mask}
+use Rattle.pilot_search.specs.declared.paths.Near.{Near}
 use Rattle.pilot_sets.specs.Standing.{Standing}
 use Rattle.quality_bits.specs.Pieces.{StandsFor}
 use Rattle.rake_finger.specs.declared.finger.Finger.{Finger}
@@ -23,8 +24,10 @@ use Rattle.heard_events.specs.TrafficStreams.{frame_known, frame_state, traffic_
 use Rattle.heard_events.specs.Tuning.{Tuning}
 use Rattle.heard_events.specs.declared.event.Event.{Event}
 use Rattle.heard_events.specs.declared.mark.Mark.{Mark}
+use Rattle.heard_events.specs.declared.leg.Leg.{Leg}
 use Rattle.chip_core.specs.declared.assignment.Traffic.{Traffic}
 use Rattle.heard_events.specs.SpelledMessages.{SpelledSignal}
+use Rattle.mobile_core.specs.declared.scrambling.Scrambling.{Scrambling}
 use Rattle.mobile_core.specs.declared.traffic_receiver.TrafficReceiver.{TrafficReceiver}
 
 -- THE EVENTS THAT ARE LEFT
@@ -63,6 +66,16 @@ pub record WaitsAt (taken : ℕ) (r : TrafficReceiver) : Type 0 where
   pub before : taken < next_end r
   pub due : r.sets.due ≡ true → taken ≡ moment_place r.sets.mark (r.sets.passed + 1)
 
+-- what of a receiver never changes is that of this channel behind this mark
+pub record IsTunedIn (t : Tuning) (traffic : Traffic) (m mark : Mark) (phase : ℕ) (near : Near)
+    (turns : Scrambling) : Type 0 where
+  pub mark_is : mark ≡ m
+  pub phase_is : phase ≡ t.phase
+  pub deltas_are : take near.count near.deltas ≡ t.deltas
+  pub state_is : turns.state ≡ frame_state traffic m 0
+  pub mask_is : turns.mask ≡ traffic_mask traffic.esn
+  pub offset : traffic.offset ≤ 15
+
 -- It has taken these samples, in which the events `pages` of the paging channel haven't been heard;
 -- `kept` is what is kept behind the moments that have passed.
 -- Where a frame has come its soft values are those of the frame that is heard next; its framer has
@@ -70,12 +83,7 @@ pub record WaitsAt (taken : ℕ) (r : TrafficReceiver) : Type 0 where
 -- what is still to be told, and a moment passes where nothing is.
 pub record HearsWith (t : Tuning) (traffic : Traffic) (m : Mark) (r : TrafficReceiver)
     (heard : List Sample) (pages : List Event) (kept : ℕ → Standing) : Type 0 where
-  pub mark_is : r.sets.mark ≡ m
-  pub phase_is : r.phase ≡ t.phase
-  pub deltas_are : take r.near.count r.near.deltas ≡ t.deltas
-  pub state_is : r.scrambling.state ≡ frame_state traffic m 0
-  pub mask_is : r.scrambling.mask ≡ traffic_mask traffic.esn
-  pub offset : traffic.offset ≤ 15
+  pub tuned : IsTunedIn t traffic m r.sets.mark r.phase r.near r.scrambling
   pub start_is : r.start ≡ traffic_start traffic m r.have
   pub close : (i : ℕ) →
       AreClose (all_fingers t.phase t.deltas (legs_of m (kept i)))
@@ -139,23 +147,31 @@ noted_by event r =
       };
     }
 
--- one to eight fingers close to the reference path, and soft values that a decoder takes
+-- one to eight fingers close to the reference path
+pub record HasSoundLegs (phase : ℕ) (near : Near) (legs : List Leg) : Type 0 where
+  pub some : 1 ≤ length legs
+  pub few : places_in legs ≤ 8
+  pub legs_close : closes.legs_close legs ≡ true
+  pub legs_rows : closes.legs_rows legs ≡ true
+  pub fingers_close : AreClose (all_fingers phase (take near.count near.deltas) legs)
+
+-- near paths, and a mask of 42 bits
+pub record IsSoundlySet (near : Near) (turns : Scrambling) : Type 0 where
+  pub least : 1 ≤ near.count
+  pub most : near.count ≤ 3
+  pub path_some : 1 ≤ length (take near.count near.deltas)
+  pub paths : paths_close (take near.count near.deltas) ≡ true
+  pub masked : turns.mask < 2 ^ 42
+
+-- such fingers, and soft values that a decoder takes
 pub record IsSoundTraffic (r : TrafficReceiver) : Type 0 where
+  pub set : IsSoundlySet r.near r.scrambling
   pub keeper : IsSoundKeeper r.sets
   pub next_have : r.next ≤ r.have
   pub have_most : r.have ≤ r.next + 1
   pub start_least : r.sets.mark.sample + 24576 * r.have ≤ r.start
   pub start_most : r.start ≤ 2 ^ 29 + 2 ^ 16
-  pub some : 1 ≤ length r.legs
-  pub few : places_in r.legs ≤ 8
-  pub least : 1 ≤ r.near.count
-  pub most : r.near.count ≤ 3
-  pub legs_close : closes.legs_close r.legs ≡ true
-  pub legs_rows : closes.legs_rows r.legs ≡ true
-  pub path_some : 1 ≤ length (take r.near.count r.near.deltas)
-  pub paths : paths_close (take r.near.count r.near.deltas) ≡ true
-  pub fingers_close : AreClose (fingers_in r)
+  pub legs : HasSoundLegs r.phase r.near r.legs
   pub ends : r.end ≡ frame_end (fingers_in r) Data r.start
-  pub masked : r.scrambling.mask < 2 ^ 42
   pub small : sum_by unsigned_abs r.softs ≤ 3 * 2 ^ 60
   pub subchannels : r.power.count ≤ 6

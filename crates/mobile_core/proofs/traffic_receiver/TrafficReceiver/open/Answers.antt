@@ -22,28 +22,32 @@ returns-clause-sound c =
     (legs_is ∙ ap (λ (k : SetsKeeper). legs_of m k.sets) keeper.value)))
     ∙ fingers.close in
     record {
+      set = record {
+        least = c.requires.least;
+        most = c.requires.most;
+        path_some = omega (
+          arith,
+          length-take near.count near.deltas,
+          c.requires.least,
+          paths_some near.deltas (pos 0) c.requires.first,
+        );
+        paths = first_paths m row c.args.phase (take near.count near.deltas) first;
+        masked = c.of_traffic.ensures.below;
+      };
+      legs = record {
+        some = legs.some;
+        few = legs.few;
+        legs_close = legs.close;
+        legs_rows = legs.rows;
+        fingers_close = subst AreClose fingers.value
+            (record { some = fingers.least; close = fingers.close });
+      };
       keeper = keeper.sound;
       next_have = omega arith;
       have_most = omega arith;
       start_least = rw keeper.value (omega arith);
       start_most = omega (arith, marked.early, c.requires.offset, c.from.ensures);
-      some = legs.some;
-      few = legs.few;
-      least = c.requires.least;
-      most = c.requires.most;
-      legs_close = legs.close;
-      legs_rows = legs.rows;
-      path_some = omega (
-        arith,
-        length-take near.count near.deltas,
-        c.requires.least,
-        paths_some near.deltas (pos 0) c.requires.first,
-      );
-      paths = first_paths m row c.args.phase (take near.count near.deltas) first;
-      fingers_close = subst AreClose fingers.value
-          (record { some = fingers.least; close = fingers.close });
       ends = ends_same _ _ _ _ c.frames_end.ensures fingers.value;
-      masked = c.of_traffic.ensures.below;
       small = omega (arith, zeros_few);
       subchannels = omega (arith, c.empty.ensures.count);
     }

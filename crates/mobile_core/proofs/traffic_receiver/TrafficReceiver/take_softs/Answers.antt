@@ -9,13 +9,13 @@ leg_softs-requires c =
     let r = c.args.self.now in
     record {
       legs = record {
-        some = is.some;
-        few = is.few;
-        least = is.least;
-        most = is.most;
-        close = is.legs_close;
-        rows = is.legs_rows;
-        held = close_in_ring c.args.ring.now r.start _ is.fingers_close.close
+        some = is.legs.some;
+        few = is.legs.few;
+        least = is.set.least;
+        most = is.set.most;
+        close = is.legs.legs_close;
+        rows = is.legs.legs_rows;
+        held = close_in_ring c.args.ring.now r.start _ is.legs.fingers_close.close
             (omega (arith, is.start_least, is.keeper.marked.late)) c.requires.room
             (c.requires.ended ∙ is.ends);
       };
@@ -26,13 +26,13 @@ power_softs-requires-clause-legs c =
     let is = c.requires.sound in
     let r = c.args.self.now in
     record {
-      some = is.some;
-      few = is.few;
-      least = is.least;
-      most = is.most;
-      close = is.legs_close;
-      rows = is.legs_rows;
-      held = close_in_ring c.args.ring.now r.start _ is.fingers_close.close
+      some = is.legs.some;
+      few = is.legs.few;
+      least = is.set.least;
+      most = is.set.most;
+      close = is.legs.legs_close;
+      rows = is.legs.legs_rows;
+      held = close_in_ring c.args.ring.now r.start _ is.legs.fingers_close.close
           (omega (arith, is.start_least, is.keeper.marked.late)) c.requires.room
           (c.requires.ended ∙ is.ends);
     }

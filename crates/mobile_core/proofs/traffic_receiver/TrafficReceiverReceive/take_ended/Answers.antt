@@ -50,7 +50,7 @@ returns-clause-hears c = λ t mark heard pages holds none behind.
     let on = c.take_frame.ensures.stands t traffic m heard pages holds st in
     let passed = ap (λ (k : SetsKeeper). k.passed) come.same in
     let place = ap (λ (k : SetsKeeper). k.mark.sample) come.same in
-    let here = ap (λ (x : Mark). x.sample) on.mark_is in
+    let here = ap (λ (x : Mark). x.sample) on.tuned.mark_is in
     let hears = subst (λ (k : SetsKeeper). HearsTraffic t traffic m (record mid { sets = k }) heard pages)
     (sym come.same)
     (hears_due on c.take_frame.ensures.sound c.come.new.self.due
