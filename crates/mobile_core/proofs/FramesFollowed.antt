@@ -10,7 +10,7 @@ use Rattle.mobile_core.proofs.Common.{Tuning, Event, Leg, Mark, Traffic, Traffic
 use Rattle.heard_events.proofs.FollowedEvents.{told_behind}
 use Rattle.mobile_core.proofs.FramesHeard.{none_come, none_kept, told_come, told_given, told_quiet}
 use Rattle.mobile_core.proofs.FramesTold.{hears_noted}
-use Rattle.mobile_core.proofs.GoesOn.{GoesOn, never}
+use Rattle.mobile_core.proofs.GoesOn.{GoesOn, both, goes_as, never}
 use Rattle.heard_events.proofs.MomentGrowth.{kept_sooner}
 use Rattle.mobile_core.proofs.PagesFollowed.{paged_behind}
 use Rattle.heard_events.proofs.TrafficGrowth.{told_at}
@@ -97,14 +97,11 @@ module _ {t : Tuning} {traffic : Traffic} {m : Mark} {r : TrafficReceiver} {hear
       (n ≤ r.end) × (n ≤ moment_place m (r.sets.passed + 1))
   ends_at n h = let place = place_is in (omega (arith, h), omega (arith, h, place))
 
-  receiver_given : length heard < next_end r → traffic_left_of t traffic m heard r ≡ []
-  receiver_given waits =
-      let parts = ends_at (length heard + 1) (omega (arith, waits)) in
-      let ends = parts.0 in
-      let place = parts.1 in
-      ap (λ (es : List Event). es ++ sets_left_of t traffic m heard r.sets.passed)
-      (told_given st sound (none_come r sound none) (none_kept r none) (omega (arith, ends)))
-      ∙ not_left t traffic m heard r.sets.passed (λ e. omega (arith, e, place))
+  moments_here : (n : ℕ) → length heard < n → n ≤ moment_place m (r.sets.passed + 1) →
+      moments_before m n ≡ r.sets.passed
+  moments_here n past early =
+      moments_are m r.sets.passed n early
+      (λ some. let b = st.begun some in omega (arith, b, past))
 
   module _ (more : List Sample) where
     kept_more : kept_to t traffic m (heard ++ more) r.sets.passed
@@ -115,54 +112,57 @@ module _ {t : Tuning} {traffic : Traffic} {m : Mark} {r : TrafficReceiver} {hear
         legs_at t traffic m (heard ++ more) n
         ≡ legs_by traffic m (kept_in t traffic m r heard)
     legs_here n past early =
-        let moments = moments_are m r.sets.passed n early
-        (λ some. let b = st.begun some in omega (arith, b, past)) in
-        ap (λ (j : ℕ). legs_by traffic m (kept_to t traffic m (heard ++ more) j)) moments
+        ap (λ (j : ℕ). legs_by traffic m (kept_to t traffic m (heard ++ more) j))
+        (moments_here n past early)
         ∙ ap (legs_by traffic m) kept_more
 
-    receiver_quiet : (n later : ℕ) → length heard < n → n < later → later ≤ next_end r →
-        all_told t traffic m (heard ++ more) n ≡ []
-    receiver_quiet n later past before ends =
-        let parts = ends_at later ends in
-        let place = parts.1 in
-        let early : n ≤ moment_place m (r.sets.passed + 1) = omega (arith, place, before) in
-        let first = take n (heard ++ more) in
-        let moments = moments_are m r.sets.passed n early
-        (λ some. let b = st.begun some in omega (arith, b, past)) in
-        let told : told_at t traffic m (legs_at t traffic m (heard ++ more) n) first n ≡ [] =
-        ap (λ (legs : ℕ → List Leg). told_at t traffic m legs first n) (legs_here n past early)
-        ∙ told_quiet st sound none first n later past before parts.0 parts.1 in
-        ap (λ (es : List Event). es ++ sets_at t traffic m (heard ++ more) n) told
-        ∙ no_set t traffic m (heard ++ more) n r.sets.passed moments
-        (λ e. omega (arith, e, place, before))
+  -- frames and what they complete are told, and then the moment
+  receiver_goes : (end : ℕ) → end ≤ next_end r →
+      GoesOn (all_told t traffic m) (λ samples. traffic_left_of t traffic m samples r) heard end
+  receiver_goes end ends = both told_goes sets_goes
+    where
+      parts : (end ≤ r.end) × (end ≤ moment_place m (r.sets.passed + 1))
+      parts = ends_at end ends
 
-    receiver_come : 0 < length more → length (heard ++ more) ≤ next_end r →
-        traffic_left_of t traffic m (heard ++ more) r
-        ≡ all_told t traffic m (heard ++ more) (length (heard ++ more))
-    receiver_come some ends =
-        let n : ℕ = length (heard ++ more) in
-        let long = length-append heard more in
-        let parts = ends_at n ends in
-        let past : length heard < n = omega (arith, long, some) in
-        let moments = moments_are m r.sets.passed n parts.1
-        (λ some'. let b = st.begun some' in omega (arith, b, past)) in
-        let whole : take n (heard ++ more) ≡ heard ++ more =
-        take_all n (heard ++ more) (omega arith) in
-        let legs = legs_by traffic m (kept_in t traffic m r heard) in
-        let told : told_left_with t traffic m (heard ++ more) r
-        (kept_in t traffic m r (heard ++ more))
-        ≡ told_at t traffic m (legs_at t traffic m (heard ++ more) n) (take n (heard ++ more)) n =
-        ap (told_left_with t traffic m (heard ++ more) r) kept_more
-        ∙ told_come st sound none (heard ++ more) past
-        ∙ sym (ap (λ (l : ℕ → List Leg). told_at t traffic m l (heard ++ more) n)
-        (legs_here n past parts.1))
-        ∙ sym (ap (λ (xs : List Sample).
-        told_at t traffic m (legs_at t traffic m (heard ++ more) n) xs n) whole) in
-        ap (λ (es : List Event). es ++ sets_left_of t traffic m (heard ++ more) r.sets.passed) told
-        ∙ ap (λ (es : List Event).
-        told_at t traffic m (legs_at t traffic m (heard ++ more) n) (take n (heard ++ more)) n
-        ++ es)
-        (sym (set_there t traffic m (heard ++ more) n r.sets.passed moments whole refl))
+      told_goes : GoesOn
+          (λ samples n. told_at t traffic m (legs_at t traffic m samples n) (take n samples) n)
+          (λ samples. told_left_with t traffic m samples r (kept_in t traffic m r samples)) heard end
+      told_goes = record {
+        given = λ early.
+            told_given st sound (none_come r sound none) (none_kept r none)
+            (omega (arith, early, parts.0));
+        quiet = λ more n past before.
+            ap (λ (legs : ℕ → List Leg). told_at t traffic m legs (take n (heard ++ more)) n)
+            (legs_here more n past (omega (arith, before, parts.1)))
+            ∙ told_quiet st sound none (take n (heard ++ more)) n end past before parts.0 parts.1;
+        come = λ more some most.
+            let samples = heard ++ more in
+            let n : ℕ = length (heard ++ more) in
+            let past : length heard < n = omega (arith, length-append heard more, some) in
+            ap (told_left_with t traffic m samples r) (kept_more more)
+            ∙ told_come st sound none samples past
+            ∙ sym (ap (λ (legs : ℕ → List Leg). told_at t traffic m legs samples n)
+            (legs_here more n past (omega (arith, most, parts.1))))
+            ∙ sym (ap (λ (xs : List Sample). told_at t traffic m (legs_at t traffic m samples n) xs n)
+            (take_all n samples (omega arith)));
+      }
+
+      sets_goes : GoesOn (sets_at t traffic m)
+          (λ samples. sets_left_of t traffic m samples r.sets.passed) heard end
+      sets_goes = record {
+        given = λ early.
+            not_left t traffic m heard r.sets.passed (λ e. omega (arith, e, early, parts.1));
+        quiet = λ more n past before.
+            no_set t traffic m (heard ++ more) n r.sets.passed
+            (moments_here n past (omega (arith, before, parts.1)))
+            (λ e. omega (arith, e, before, parts.1));
+        come = λ more some most.
+            let n : ℕ = length (heard ++ more) in
+            sym (set_there t traffic m (heard ++ more) n r.sets.passed
+            (moments_here n (omega (arith, length-append heard more, some))
+            (omega (arith, most, parts.1)))
+            (take_all n (heard ++ more) (omega arith)) refl);
+      }
 
 -- THE RECEIVER BEHIND THE MARK
 module _ {t : Tuning} {mark : Option Mark} {r : TrafficReceiver} {heard : List Sample}
@@ -234,18 +234,8 @@ module _ (t : Tuning) (mark : Option Mark) (heard : List Sample) (pages : List E
       never (told_behind t t.traffic mark)
       (λ samples n. unheard t t.traffic mark samples n behind) heard end
   frames_go (Some r) behind sound none end ends =
-      let st = behind.hears in
-      let is = sound r refl in
-      let most = ends r refl in
-      record {
-        given = λ early. left_is behind heard r
-            ∙ receiver_given st is none (omega (arith, early, most));
-        quiet = λ more n past before. told_is behind (heard ++ more) n
-            ∙ receiver_quiet st is none more n end past before most;
-        come = λ more some within. left_is behind (heard ++ more) r
-            ∙ receiver_come st is none more some (omega (arith, within, most))
-            ∙ sym (told_is behind (heard ++ more) (length (heard ++ more)));
-      }
+      goes_as (receiver_goes behind.hears (sound r refl) none end (ends r refl)) (told_is behind)
+      (λ samples. left_is behind samples r)
 
   -- more samples, up to the end of the frame that comes next
   pub frames_more : (receiver : Option TrafficReceiver) → HearsFrames t mark receiver heard pages →
@@ -313,5 +303,6 @@ frames_opened t heard traffic m r followed sound fresh empty idle early hears =
     record { traffic = traffic; traffic_is = followed; set = m; set_is = refl; hears = hears } in (
       behind,
       left_is behind heard r
-          ∙ receiver_given hears sound (none_opened r fresh empty idle) early,
+          ∙ (receiver_goes hears sound (none_opened r fresh empty idle) (length heard + 1)
+          (omega (arith, early))).given (omega arith),
     )

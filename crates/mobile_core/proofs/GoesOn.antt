@@ -36,3 +36,16 @@ both one other = record {
   quiet = λ more n past before. joined (one.quiet more n past before) (other.quiet more n past before);
   come = λ more some most. joined (one.come more some most) (other.come more some most);
 }
+
+-- the same, said in another way
+pub goes_as : {told told' : List Sample → ℕ → List Event} {left left' : List Sample → List Event}
+    {heard : List Sample} {end : ℕ} → GoesOn told left heard end →
+    ((samples : List Sample) (n : ℕ) → told' samples n ≡ told samples n) →
+    ((samples : List Sample) → left' samples ≡ left samples) → GoesOn told' left' heard end
+goes_as {heard = heard} goes same rest = record {
+  given = λ early. rest heard ∙ goes.given early;
+  quiet = λ more n past before. same (heard ++ more) n ∙ goes.quiet more n past before;
+  come = λ more some most. rest (heard ++ more)
+      ∙ goes.come more some most
+      ∙ sym (same (heard ++ more) (length (heard ++ more)));
+}

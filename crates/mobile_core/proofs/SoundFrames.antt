@@ -1,11 +1,12 @@
 -- What always holds of the receiver of a traffic channel, as it goes on.
 use Rattle.mobile_core.proofs.Common.{◌≡◌, ℕ, ◌+◌, ◌*◌, ◌^◌, ◌<◌, ◌≤◌, true, List, Bool, length, take, ℤ, sym, ap, ◌∙◌, arith, Option, None}
-use Rattle.mobile_core.proofs.Common.{subst, false, sum_by, unsigned_abs, if◌then◌else◌, PowerSofts, Finger, Data, Sample, Standing}
+use Rattle.mobile_core.proofs.Common.{subst, false, Held, sum_by, unsigned_abs, if◌then◌else◌, PowerSofts, Finger, Data, Sample, Standing}
 use Rattle.mobile_core.proofs.Common.{AreClose, legs_close, legs_rows, paths_close, places_in, all_fingers, legs_of, moment_place}
 use Rattle.mobile_core.proofs.Common.{IsSoundKeeper, coming_place, frame_end, HearsWith, IsSoundTraffic, Tuning, Event, Leg, Mark}
 use Rattle.mobile_core.proofs.Common.{SetsKeeper, Traffic, SpelledSignal, TrafficReceiver}
+use Rattle.mobile_core.specs.LegSofts.{IsHeldFrom}
 use Rattle.mobile_core.specs.TrafficReceiving.{fingers_in}
-use Rattle.heard_events.proofs.CloseFingers.{close_ends, close_later}
+use Rattle.heard_events.proofs.CloseFingers.{close_ends, close_in_ring, close_later}
 use Rattle.mobile_core.proofs.LegFingers.{all_some, legs_are_close}
 
 module _ {r : TrafficReceiver} (is : IsSoundTraffic r) where
@@ -32,6 +33,20 @@ module _ {r : TrafficReceiver} (is : IsSoundTraffic r) where
     ends = ends;
     small = is.small;
     subchannels = is.subchannels;
+  }
+
+  -- the samples of its fingers are in the ring when the frame has just ended
+  pub legs_held : (ring : Held) → ring.room ≡ 65536 → ring.taken ≡ r.end →
+      IsHeldFrom ring r.legs r.phase r.near r.start
+  legs_held ring room ended = record {
+    some = is.legs.some;
+    few = is.legs.few;
+    least = is.set.least;
+    most = is.set.most;
+    close = is.legs.legs_close;
+    rows = is.legs.legs_rows;
+    held = close_in_ring ring r.start _ is.legs.fingers_close.close
+        (omega (arith, is.start_least, is.keeper.marked.late)) room (ended ∙ is.ends);
   }
 
   -- a frame's soft values

@@ -1,41 +1,14 @@
-use Rattle.mobile_core.proofs.Common.{◌∙◌, ℕ, List, ap, arith, map, take, power_places, sums_on, subchannels}
-use Rattle.heard_events.proofs.CloseFingers.{close_in_ring}
-use Rattle.mobile_core.proofs.SoundFrames.{sound_softs}
+use Rattle.mobile_core.proofs.Common.{◌∙◌, ℕ, List, ap, map, take, power_places, sums_on, subchannels}
+use Rattle.mobile_core.proofs.SoundFrames.{legs_held, sound_softs}
 use Rattle.mobile_core.proofs.traffic_receiver.TrafficReceiver.take_softs.Goals as goal
 
 pub leg_softs-requires : goal.leg_softs-requires
 leg_softs-requires c =
-    let is = c.requires.sound in
-    let r = c.args.self.now in
-    record {
-      legs = record {
-        some = is.legs.some;
-        few = is.legs.few;
-        least = is.set.least;
-        most = is.set.most;
-        close = is.legs.legs_close;
-        rows = is.legs.legs_rows;
-        held = close_in_ring c.args.ring.now r.start _ is.legs.fingers_close.close
-            (omega (arith, is.start_least, is.keeper.marked.late)) c.requires.room
-            (c.requires.ended ∙ is.ends);
-      };
-    }
+    record { legs = legs_held c.requires.sound c.args.ring.now c.requires.room c.requires.ended }
 
 pub power_softs-requires-clause-legs : goal.power_softs-requires-clause-legs
 power_softs-requires-clause-legs c =
-    let is = c.requires.sound in
-    let r = c.args.self.now in
-    record {
-      some = is.legs.some;
-      few = is.legs.few;
-      least = is.set.least;
-      most = is.set.most;
-      close = is.legs.legs_close;
-      rows = is.legs.legs_rows;
-      held = close_in_ring c.args.ring.now r.start _ is.legs.fingers_close.close
-          (omega (arith, is.start_least, is.keeper.marked.late)) c.requires.room
-          (c.requires.ended ∙ is.ends);
-    }
+    legs_held c.requires.sound c.args.ring.now c.requires.room c.requires.ended
 
 pub returns-clause-power : goal.returns-clause-power
 returns-clause-power c = λ heard holds.
