@@ -51,7 +51,7 @@ widths-take (w ∷ ws) [] = refl
 widths-take (w ∷ ws) (v ∷ vs) = ap (λ (fs : List Field). field w v ∷ fs) (widths-take ws vs)
 
 -- a number stands at its place among the values
-in_row : (ws : List ℕ) (j : ℕ) (bits : List Bool) → j < length ws →
+pub in_row : (ws : List ℕ) (j : ℕ) (bits : List Bool) → j < length ws →
     number_at (total (take j ws)) (get_or ws j 0) bits ≡ get_or (values_at ws bits) j 0
 in_row [] j bits h = absurd (omega (arith, h))
 in_row (w ∷ ws) zero bits h = refl

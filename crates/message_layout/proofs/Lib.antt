@@ -2,6 +2,8 @@ pub mod Columns
 pub mod Common
 pub mod Lawful
 pub mod Loops
+pub mod Messages
 pub mod Parts
+pub mod Plain
 pub mod Round
 pub mod Written

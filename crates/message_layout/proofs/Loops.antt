@@ -2,7 +2,9 @@
 use Rattle.message_layout.proofs.Common.{◌≡◌, ℕ, zero, suc, ◌+◌, ◌*◌, ◌<◌, ◌≤◌, Bool, List, [], ◌∷◌, ◌++◌, length, get_or, map, take, drop}
 use Rattle.message_layout.proofs.Common.{refl, sym, ap, ◌∙◌, arith, Some, None, le-leb, lt-leb, length-drop, length-take-le, take_all}
 use Rattle.message_layout.proofs.Common.{suc-mul, number, total, AreWidths, number_at, values_at, column_at, column_more, dropped}
+use Rattle.message_layout.proofs.Common.{subst, true, false, ◌^◌, field, in_widths, FieldsFit, taken_more}
 use Rattle.message_layout.proofs.Common.{length-column, total_more, total_room, values_more, width_within, count_in, fields_at}
+use Rattle.message_layout.proofs.Columns.{fit_append}
 use Rattle.message_layout.proofs.Lawful.{count_room}
 
 -- FIELDS THAT ARE READ
@@ -132,3 +134,16 @@ pub places_few : (size place width i : ℕ) (bits : List Bool) (at_place : ℕ)
     length numbers ≡ i
 places_few size place width i bits at_place numbers so_far =
     ap length so_far.read ∙ length-column size place width i bits
+
+-- VALUES THAT FIT
+-- one value more fits
+pub fit_more : (ws vs : List ℕ) (i : ℕ) → i < length ws → i < length vs →
+    FieldsFit (in_widths (take i ws) (take i vs)) → get_or vs i 0 < 2 ^ (get_or ws i 0) →
+    FieldsFit (in_widths (take (i + 1) ws) (take (i + 1) vs))
+fit_more ws vs i a b so_far fits =
+    subst FieldsFit (sym (taken_more ws vs i a b))
+    (fit_append (in_widths (take i ws) (take i vs)) (field (get_or ws i 0) (get_or vs i 0) ∷ [])
+    so_far (fits, tt))
+
+pub not_both : {b : Bool} → b ≡ false → ¬ (b ≡ true)
+not_both left right = cc

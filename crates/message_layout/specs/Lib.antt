@@ -1,4 +1,5 @@
 pub mod Contents
+pub mod Plain
 pub mod Reading
 pub mod Shapes
 pub mod Spelling

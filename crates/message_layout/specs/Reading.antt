@@ -14,6 +14,11 @@ abbrev pub ◌>>=◌ : {A B : Type 0} → Option A → (A → Option B) → Opti
 None >>= f = None
 (Some x) >>= f = f x
 
+-- in a message
+abbrev pub mapped : {A B : Type 0} → (A → B) → Option A → Option B
+mapped f None = None
+mapped f (Some x) = Some (f x)
+
 -- fields of these widths
 unfoldable pub fields_at : List ℕ → List Bool → Option (List ℕ × List Bool)
 fields_at widths bits =

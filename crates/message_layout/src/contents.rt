@@ -1,5 +1,8 @@
 //! What a body says by its layout.
 
+ghost use Rattle.std.specs.Prelude.{◌≡◌, ◌≤◌, length};
+ghost use Rattle.message_layout.specs.Plain.{plain_contents};
+
 use crate::values::FieldValues;
 use chip_core::{Bits, Numbers};
 
@@ -16,4 +19,20 @@ pub struct Contents {
     pub columns: [Numbers; 3],
     /// The bits that are left.
     pub rest: Bits,
+}
+
+impl Contents {
+    /// Contents without a group and without octets; at most 48 values.
+    pub fn plain(values: &[u64], columns: [Numbers; 3], rest: Bits) -> Contents
+        requires { length values.now ≤ 48 }
+        ensures { result ≡ plain_contents values.now columns rest }
+    {
+        Contents {
+            fixed: FieldValues::of(values),
+            group: None,
+            octets: Bits::empty(),
+            columns,
+            rest,
+        }
+    }
 }

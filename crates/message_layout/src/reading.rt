@@ -127,6 +127,14 @@ fn read_octets(octets: Octets, bits: &Bits) -> Option<(Bits, Bits)>
     read_part(8 * count, &bits)
 }
 
+/// The message type, 8 bits, and the bits behind it; `None` exactly where there are fewer.
+pub fn read_kind(bits: &Bits) -> Option<(u8, Bits)>
+    ensures { result ≡ number_part 8 bits.now }
+{
+    let (kind, bits) = read_number(8, bits)?;
+    Some((kind as u8, bits))
+}
+
 /// A number of so many bits, which is 0 where there are none, and the bits behind it.
 #[tactic(auto, unfolding(crate::specs::Reading::number_part))]
 fn read_number(width: u8, bits: &Bits) -> Option<(u64, Bits)>

@@ -1,7 +1,10 @@
 //! The values of fields, in a fixed room.
 
-ghost use Rattle.std.specs.Prelude.{◌≡◌, ◌<◌, ◌≤◌, [], ◌∷◌, ◌++◌, length, get_or};
+ghost use Rattle.std.specs.Prelude.{◌≡◌, ◌↔◌, ◌<◌, ◌≤◌, ◌^◌, [], ◌∷◌, ◌++◌, length, get_or, map};
+ghost use Rattle.std.specs.Prelude.{IsTrue};
+ghost use Rattle.chip_core.specs.Fields.{in_widths, AreWidths, FieldsFit};
 
+use crate::layout::{FieldRow, width_in};
 use std::marker::Model;
 
 /// The values of at most 48 fields, in the order of their table. Contracts see the list.
@@ -63,6 +66,21 @@ impl FieldValues {
         }
     }
 
+    /// Whether each value has at most as many bits as its field in a table.
+    pub fn fit(&self, rows: &[FieldRow]) -> bool
+        requires widths { AreWidths (map (λ row. row.1) rows.now) }
+        requires all { length self.now ≡ length rows.now }
+        ensures { IsTrue result ↔ FieldsFit (in_widths (map (λ row. row.1) rows.now) self.now) }
+    {
+        let _most = self.len();
+        for i in 0..rows.len() {
+            if !has_width(self.get(i as u8), width_in(rows, i)) {
+                return false;
+            }
+        }
+        true
+    }
+
     /// Adds a value at the end, where there is room.
     pub(crate) fn append(&mut self, value: u64)
         requires { length self.old < 48 }
@@ -71,4 +89,12 @@ impl FieldValues {
         self.places[self.count as usize] = value;
         self.count += 1;
     }
+}
+
+/// Whether a value has at most so many bits.
+fn has_width(value: u64, width: u8) -> bool
+    requires { (1 ≤ width) × (width ≤ 64) }
+    ensures { IsTrue result ↔ (value < 2 ^ width) }
+{
+    u128::from(value) < 1 << width
 }

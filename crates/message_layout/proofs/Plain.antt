@@ -1,0 +1,115 @@
+-- Layouts without a group and without octets: what is said by one, spelled and read by places.
+use Rattle.message_layout.proofs.Common.{◌≡◌, ℕ, ◌+◌, ◌*◌, ◌/◌, ◌%◌, ◌≤◌, ◌&&◌, Bool, cond, List, [], ◌∷◌, ◌++◌, length}
+use Rattle.message_layout.proofs.Common.{map, drop, refl, sym, ap, arith, nat_le, inl, inr, Option, Some, None, cases_Bool, le-leb}
+use Rattle.message_layout.proofs.Common.{div-add-mod', length-append, length-drop, length-in_widths, field, spelled, in_widths, total, FieldsFit, values_at, Field, binary}
+use Rattle.message_layout.proofs.Common.{height, record_fields, shares, columns_in, fields_at, group_at, number_part, octets_at}
+use Rattle.message_layout.proofs.Common.{part_at, presence_at, reading, records_at, plain_contents, plain_shape, spelling, HaveValues, IsOf}
+use Rattle.message_layout.proofs.Common.{IsRest, Contents}
+use Rattle.message_layout.proofs.Columns.{length-records}
+use Rattle.message_layout.proofs.Messages.{no_octets}
+
+pub plain_of : (ws rs : List ℕ) (least : ℕ) (most : Option ℕ) (vs : List ℕ) (cs : List (List ℕ))
+    (rest : List Bool) → HaveValues ws vs → map length cs ≡ shares rs (height cs) →
+    FieldsFit (record_fields rs (height cs) cs) → least ≤ height cs → IsRest most rest →
+    IsOf (plain_shape ws rs least most) (plain_contents vs cs rest)
+plain_of ws rs least most vs cs rest have even fit some left =
+    record {
+      fixed = have;
+      group = refl;
+      whole = refl;
+      counted = omega arith;
+      columns = even;
+      records = fit;
+      least = some;
+      left = left;
+    }
+
+pub plain_spelled : (ws rs : List ℕ) (least : ℕ) (most : Option ℕ) (vs : List ℕ)
+    (cs : List (List ℕ)) (rest : List Bool) →
+    spelling (plain_shape ws rs least most) (plain_contents vs cs rest)
+    ≡ spelled (in_widths ws vs) ++ (spelled (record_fields rs (height cs) cs) ++ rest)
+unfolding spelling binary
+plain_spelled ws rs least most vs cs rest = refl
+
+-- how many bits it has
+pub plain_length : (ws rs : List ℕ) (least : ℕ) (most : Option ℕ) (vs : List ℕ)
+    (cs : List (List ℕ)) (rest : List Bool) → length ws ≡ length vs → length rs ≤ length cs →
+    length (spelling (plain_shape ws rs least most) (plain_contents vs cs rest))
+    ≡ total ws + height cs * total rs + length rest
+plain_length ws rs least most vs cs rest all wide =
+    let fields = spelled (in_widths ws vs) in
+    let records = spelled (record_fields rs (height cs) cs) in
+    omega (
+      arith,
+      ap length (plain_spelled ws rs least most vs cs rest),
+      length-append fields (records ++ rest),
+      length-append records rest,
+      length-in_widths ws vs all,
+      length-records rs (height cs) cs wide,
+    )
+
+-- contents of one have nothing else
+pub plain_back : (ws rs : List ℕ) (least : ℕ) (most : Option ℕ) (c : Contents) →
+    IsOf (plain_shape ws rs least most) c → plain_contents c.fixed c.columns c.rest ≡ c
+plain_back ws rs least most c is =
+    let none : c.octets ≡ [] = no_octets c.octets is.whole is.counted in
+    let group : None ≡ c.group = sym is.group in
+    rw (← none, group) refl
+
+-- the records of one field
+pub record_map : (w : ℕ) (ns : List ℕ) →
+    record_fields (w ∷ []) (length ns) (ns ∷ [] ∷ [] ∷ []) ≡ map (field w) ns
+record_map w [] = refl
+record_map w (n ∷ ns) = ap (λ (fs : List Field). field w n ∷ fs) (record_map w ns)
+
+-- READ
+-- fields, and all bits behind them
+pub fields_reading : (ws : List ℕ) (bits : List Bool) →
+    reading (plain_shape ws [] 0 None) bits
+    ≡ cond (nat_le (total ws) (length bits))
+    (Some (plain_contents (values_at ws bits) ([] ∷ [] ∷ [] ∷ []) (drop (total ws) bits))) None
+unfolding reading fields_at group_at presence_at octets_at number_part part_at records_at
+fields_reading ws bits =
+    elim (cases_Bool (nat_le (total ws) (length bits))) [
+      | inl t ↦
+          let any = le-leb 0 (length (drop (total ws) bits)) (omega arith) in
+          rw (t, any, any, any) refl
+      | inr f ↦ rw f refl
+    ]
+
+-- fields, and as many records as fit behind them
+abbrev pub list_said : List ℕ → List ℕ → List Bool → Contents
+list_said ws rs bits =
+    let w = drop (total ws) bits in
+    let n = length w / total rs in
+    plain_contents (values_at ws bits) (columns_in rs n w) (drop (n * total rs) w)
+
+abbrev pub list_told : List ℕ → List ℕ → ℕ → ℕ → List Bool → Bool
+list_told ws rs least most bits =
+    let w = drop (total ws) bits in
+    nat_le (total ws) (length bits)
+    && (nat_le least (length w / total rs) && nat_le (length w % total rs) most)
+
+pub list_reading : (ws : List ℕ) (r : ℕ) (rs : List ℕ) (least most : ℕ) (bits : List Bool) →
+    reading (plain_shape ws (r ∷ rs) least (Some most)) bits
+    ≡ cond (list_told ws (r ∷ rs) least most bits) (Some (list_said ws (r ∷ rs) bits)) None
+unfolding reading fields_at group_at presence_at octets_at number_part part_at records_at
+list_reading ws r rs least most bits =
+    let size = total (r ∷ rs) in
+    let w = drop (total ws) bits in
+    let n = length w / size in
+    let any = le-leb 0 (length w) (omega arith) in
+    let left : length (drop (n * size) w) ≡ length w % size =
+    omega (arith, length-drop (n * size) w, div-add-mod' (length w) size) in
+    elim (cases_Bool (nat_le (total ws) (length bits))) [
+      | inr f ↦ rw f refl
+      | inl t ↦
+          elim (cases_Bool (nat_le least n)) [
+            | inr f ↦ rw (t, any, any, any, f) refl
+            | inl some ↦
+                elim (cases_Bool (nat_le (length w % size) most)) [
+                  | inl few ↦ rw (t, any, any, any, some, left, few) refl
+                  | inr many ↦ rw (t, any, any, any, some, left, many) refl
+                ]
+          ]
+    ]
