@@ -1,4 +1,5 @@
 pub mod Pushed
+pub mod Decoded
 pub mod Digits
 pub mod Opened
 pub mod Steps

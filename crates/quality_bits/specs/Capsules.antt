@@ -1,6 +1,6 @@
 -- Message capsules: the length in octets, the body, and the check of both.
 use Rattle.std.specs.Prelude.{ℕ, ◌+◌, ◌*◌, ◌/◌, ◌≤◌, ◌≡◌, Bool, if◌then◌else◌, not, ◌&&◌, ◌||◌, List, ◌++◌, length, take, Option, Some, None, nat_lt, nat_le}
-use Rattle.chip_core.specs.Bits.{number, binary}
+use Rattle.chip_core.specs.Bits.{are_same, number, binary}
 use Rattle.chip_core.specs.declared.check_form.CheckForm.{CheckForm}
 use Rattle.quality_bits.specs.Kinds.{generator_of, sent_check}
 use Rattle.quality_bits.specs.declared.kind.Kind.{Kind}
@@ -61,3 +61,8 @@ continued (Some bits) more = still_open (bits ++ more)
 abbrev pub completed : Option (List Bool) → List Bool → Option (List Bool)
 completed None more = None
 completed (Some bits) more = front_capsule (bits ++ more)
+
+-- the message that a capsule's body says, where its capsule is spelled so
+abbrev pub if_spelled : {M : Type 0} → (M → List Bool) → List Bool → Option M → Option M
+if_spelled spelled bits None = None
+if_spelled spelled bits (Some m) = if are_same (spelled m) bits then Some m else None

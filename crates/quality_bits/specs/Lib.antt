@@ -1,4 +1,5 @@
 pub mod Capsules
+pub mod Faults
 pub mod Kinds
 pub mod Pieces
 pub mod Quality

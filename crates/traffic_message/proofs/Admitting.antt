@@ -1,6 +1,6 @@
 -- Which bodies are those of messages.
 use Rattle.traffic_message.proofs.Common.{◌≡◌, ℕ, ◌==◌, ◌&&◌, Bool, true, false, not, cond, List, length, drop, refl, sym, ap, ◌∙◌, nat_le}
-use Rattle.traffic_message.proofs.Common.{Option, Some, None, and_from, and_parts, le-leb, leb-true, number_at, FillsCapsule, M16, admits}
+use Rattle.traffic_message.proofs.Common.{Option, Some, None, and_from, and_parts, le-leb, leb-true, number_at, FillsCapsule, M16, admits, mapped}
 use Rattle.traffic_message.proofs.Common.{part_admits, HasMessage, direction_at, direction_reading, has_records, is_hard, in_traffic_at}
 use Rattle.traffic_message.proofs.Common.{in_traffic_reading, Message, has_neighbors, update_at, update_reading}
 use Rattle.traffic_message.proofs.Bodies.{body_parts_read, body_read, is_body_from, is_body_parts, message_again, message_there}
@@ -23,7 +23,7 @@ chosen true x y p q e f = e
 chosen false x y p q e f = f
 
 tested : {A B : Type 0} (f : A → B) (t : Bool) (x : A) →
-    is_there (reading.mapped f (cond t (Some x) None)) ≡ t
+    is_there (mapped f (cond t (Some x) None)) ≡ t
 tested f true x = refl
 tested f false x = refl
 

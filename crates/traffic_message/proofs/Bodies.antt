@@ -7,8 +7,8 @@ use Rattle.traffic_message.proofs.Common.{FieldsFit, number_at, values_at, digit
 use Rattle.traffic_message.proofs.Common.{length-in_widths, number_front, values_again, values_there, FillsCapsule, M16, direction_bits}
 use Rattle.traffic_message.proofs.Common.{direction_reading, is_hard, IsHandoffDirection, in_traffic_bits, in_traffic_reading, IsInTraffic}
 use Rattle.traffic_message.proofs.Common.{update_bits, update_reading, IsNeighborUpdate, head_widths, TrafficBody, DirectionFields, Head}
-use Rattle.traffic_message.proofs.Common.{InTrafficFields, UpdateFields}
-use Rattle.traffic_message.proofs.ByLayout.{direction_again, direction_read, mapped_some, parameters_again, parameters_read, update_again}
+use Rattle.traffic_message.proofs.Common.{InTrafficFields, UpdateFields, mapped_some}
+use Rattle.traffic_message.proofs.ByLayout.{direction_again, direction_read, parameters_again, parameters_read, update_again}
 use Rattle.traffic_message.proofs.ByLayout.{update_read}
 use Rattle.traffic_message.specs.Messages as messages
 use Rattle.traffic_message.specs.Reading as reading

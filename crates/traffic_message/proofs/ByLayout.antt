@@ -1,69 +1,31 @@
 -- What stands behind the head, by its layouts.
-use Rattle.traffic_message.proofs.Common.{◌≡◌, ℕ, zero, suc, ◌+◌, ◌-◌, ◌*◌, ◌/◌, ◌%◌, ◌^◌, ◌<◌, ◌≤◌, ◌==◌, Bool, true, false, List, [], ◌∷◌}
-use Rattle.traffic_message.proofs.Common.{◌++◌, length, get_or, map, take, drop, refl, sym, ap, subst, ◌∙◌, arith, nat_le, inl, inr, Option}
-use Rattle.traffic_message.proofs.Common.{Some, None, and_parts, cases_Bool, cases_lt, eqb-false, le-leb, leb-false, leb-true, lt-leb}
-use Rattle.traffic_message.proofs.Common.{append-nil, length-drop, nil_from_length, binary, number, places, field, spelled, FieldsFit}
-use Rattle.traffic_message.proofs.Common.{number_at, values_at, column_at, Field, map-places-all, dropped, front, height, record_fields}
+use Rattle.traffic_message.proofs.Common.{◌≡◌, ℕ, zero, suc, ◌+◌, ◌-◌, ◌*◌, ◌/◌, ◌%◌, ◌^◌, ◌<◌, ◌≤◌, ◌==◌, ◌&&◌, Bool, true, false, cond}
+use Rattle.traffic_message.proofs.Common.{List, [], ◌∷◌, ◌++◌, length, get_or, map, take, drop, refl, sym, ap, subst, ◌∙◌, arith, nat_le}
+use Rattle.traffic_message.proofs.Common.{inl, inr, Option, Some, None, and_parts, cases_Bool, cases_lt, eqb-false, le-leb, leb-false}
+use Rattle.traffic_message.proofs.Common.{leb-true, lt-leb, append-nil, length-drop, binary, number, places, field, spelled, FieldsFit}
+use Rattle.traffic_message.proofs.Common.{number_at, values_at, column_at, Field, map-places-all, dropped, front, record_fields, mapped}
 use Rattle.traffic_message.proofs.Common.{◌>>=◌, fields_at, group_at, number_part, octets_at, part_at, presence_at, reading, records_at}
 use Rattle.traffic_message.proofs.Common.{rest_at, is_lawful, behind_group, group_fields, spelling, IsGroup, IsOf, Contents, Flagged}
-use Rattle.traffic_message.proofs.Common.{get-lengths, three_columns, three_long, reading_again, reading_there, mapped, search_widths}
-use Rattle.traffic_message.proofs.Common.{time_widths, DirectionFields, InTrafficFields, Search, UpdateFields}
+use Rattle.traffic_message.proofs.Common.{ByLayout, all_columns, contents_in, first_column, no_columns, mapped_cond, not_both, one_value}
+use Rattle.traffic_message.proofs.Common.{plain_contents, plain_of, plain_back, fields_reading, list_reading, list_said, list_told}
+use Rattle.traffic_message.proofs.Common.{record_map, read_again, read_there, in_traffic_widths, search_widths, time_widths}
+use Rattle.traffic_message.proofs.Common.{DirectionFields, InTrafficFields, Search, UpdateFields}
 use Rattle.traffic_message.proofs.Directions.{first_is, hard_is, octets_is, place_clear, place_set, soft_bits}
 use Rattle.traffic_message.specs.Handoff as handoff
 use Rattle.traffic_message.specs.InTraffic as parameters
 use Rattle.traffic_message.specs.Layouts as layouts
 use Rattle.traffic_message.specs.Neighbors as updates
 
--- what a reading gave
-pub mapped_some : {A B : Type 0} (f : A → B) (read : Option A) (y : B) →
-    mapped f read ≡ Some y → (x : A) × (read ≡ Some x) × (f x ≡ y)
-mapped_some f None y e = absurd (cc)
-mapped_some f (Some x) y e = let same : f x ≡ y = cc in (x, refl, same)
-
-not_both : {b : Bool} → b ≡ false → ¬ (b ≡ true)
-not_both left right = cc
-
--- NOTHING COUNTED
--- no octets stand where none are counted
-no_octets : (octets : List Bool) → length octets % 8 ≡ 0 → length octets / 8 < 2 ^ 0 → octets ≡ []
-no_octets octets whole counted =
-    nil_from_length octets (let e : length octets ≡ 0 = omega (arith, whole, counted) in e)
-
--- three columns
-column_parts : (ls : List (List ℕ)) (a b c : List ℕ) → length ls ≡ 3 → get_or ls 0 [] ≡ a →
-    get_or ls 1 [] ≡ b → get_or ls 2 [] ≡ c → a ∷ b ∷ c ∷ [] ≡ ls
-column_parts ls a b c long p q r = rw (← p, ← q, ← r) (three_columns ls long)
-
-empty_column : (ls : List (List ℕ)) (lengths : List ℕ) (j : ℕ) → map length ls ≡ lengths →
-    get_or lengths j 0 ≡ 0 → get_or ls j [] ≡ []
-empty_column ls lengths j long none =
-    nil_from_length (get_or ls j [])
-    (sym (get-lengths ls j) ∙ ap (λ (ns : List ℕ). get_or ns j 0) long ∙ none)
-
 -- IN-TRAFFIC SYSTEM PARAMETERS
 pub parameters_lawful : is_lawful layouts.in_traffic_shape ≡ true
 unfolding is_lawful
 parameters_lawful = refl
 
-pub parameters_values : (vs : List ℕ) (rest : List Bool) → length vs ≡ 10 →
-    parameters.in_traffic_values (parameters.in_traffic_of vs rest) ≡ vs
-unfolding parameters.in_traffic_of places
-parameters_values vs rest long =
-    sym (map-places-all (λ k. get_or vs k 0) vs 10 0 long (λ k lt. refl))
-
 pub parameters_of : (m : InTrafficFields) → parameters.IsInTraffic m →
     IsOf layouts.in_traffic_shape (layouts.in_traffic_contents m)
 parameters_of m is =
-    record {
-      fixed = record { all = refl; fit = is };
-      group = refl;
-      whole = refl;
-      counted = omega arith;
-      columns = refl;
-      records = tt;
-      least = omega arith;
-      left = tt;
-    }
+    plain_of in_traffic_widths [] 0 None (parameters.in_traffic_values m) ([] ∷ [] ∷ [] ∷ []) m.rest
+    (record { all = refl; fit = is }) refl tt (omega arith) tt
 
 pub parameters_spelled : (m : InTrafficFields) →
     spelling layouts.in_traffic_shape (layouts.in_traffic_contents m)
@@ -72,60 +34,49 @@ unfolding spelling parameters.in_traffic_bits binary
 parameters_spelled m = refl
 
 -- contents of the layout are those of a message
-pub parameters_back : (c : Contents) → IsOf layouts.in_traffic_shape c →
+parameters_back : (c : Contents) → IsOf layouts.in_traffic_shape c →
     layouts.in_traffic_contents (layouts.in_traffic_from c) ≡ c
 unfolding parameters.in_traffic_of places
 parameters_back c is =
     let values : parameters.in_traffic_values (layouts.in_traffic_from c) ≡ c.fixed =
     sym (map-places-all (λ k. get_or c.fixed k 0) c.fixed 10 0 is.fixed.all (λ k lt. refl)) in
-    let none : c.octets ≡ [] = no_octets c.octets is.whole is.counted in
-    let empty = empty_column c.columns (0 ∷ 0 ∷ 0 ∷ []) in
-    let columns : [] ∷ [] ∷ [] ∷ [] ≡ c.columns =
-    column_parts c.columns [] [] [] (three_long [] (height c.columns) c.columns is.columns)
-    (empty 0 is.columns refl) (empty 1 is.columns refl) (empty 2 is.columns refl) in
-    let group : None ≡ c.group = sym is.group in
-    rw (values, ← none, columns, group) refl
+    rw (values, no_columns c.columns is.columns) (plain_back in_traffic_widths [] 0 None c is)
+
+parameters_made : (m : InTrafficFields) →
+    layouts.in_traffic_from (layouts.in_traffic_contents m) ≡ m
+unfolding parameters.in_traffic_of
+parameters_made m = refl
+
+parameters_layout : ByLayout layouts.in_traffic_shape layouts.in_traffic_contents layouts.in_traffic_from
+parameters_layout =
+    record { lawful = parameters_lawful; back = parameters_back; made = parameters_made }
 
 pub parameters_by_layout : (bits : List Bool) →
     parameters.in_traffic_reading bits
     ≡ mapped layouts.in_traffic_from (reading layouts.in_traffic_shape bits)
-unfolding parameters.in_traffic_reading parameters.in_traffic_at reading fields_at group_at
-    presence_at octets_at number_part part_at records_at
+unfolding parameters.in_traffic_reading parameters.in_traffic_at
 parameters_by_layout bits =
-    elim (cases_Bool (nat_le 67 (length bits))) [
-      | inl t ↦ let some = le-leb 0 (length (drop 67 bits)) (omega arith) in rw (t, some, some, some) refl
-      | inr f ↦ rw f refl
-    ]
+    let said = plain_contents (values_at in_traffic_widths bits) ([] ∷ [] ∷ [] ∷ []) (drop 67 bits) in
+    sym (ap (mapped layouts.in_traffic_from) (fields_reading in_traffic_widths bits)
+    ∙ mapped_cond layouts.in_traffic_from (nat_le 67 (length bits)) said)
 
 -- NEIGHBOR LIST UPDATE
 pub update_lawful : is_lawful layouts.update_shape ≡ true
 unfolding is_lawful
 update_lawful = refl
 
-pub update_records : (pns : List ℕ) →
-    record_fields (9 ∷ []) (length pns) (pns ∷ [] ∷ [] ∷ []) ≡ map (field 9) pns
-update_records [] = refl
-update_records (pn ∷ pns) = ap (λ (fs : List Field). field 9 pn ∷ fs) (update_records pns)
-
 pub update_of : (m : UpdateFields) → updates.IsNeighborUpdate m →
     IsOf layouts.update_shape (layouts.update_contents m)
 update_of m is =
-    record {
-      fixed = record { all = refl; fit = (is.fits.0, tt) };
-      group = refl;
-      whole = refl;
-      counted = omega arith;
-      columns = refl;
-      records = subst FieldsFit (sym (update_records m.pns)) is.fits.1;
-      least = is.some;
-      left = is.left;
-    }
+    plain_of (4 ∷ []) (9 ∷ []) 1 (Some 7) (m.inc ∷ []) (m.pns ∷ [] ∷ [] ∷ []) m.rest
+    (record { all = refl; fit = (is.fits.0, tt) }) refl
+    (subst FieldsFit (sym (record_map 9 m.pns)) is.fits.1) is.some is.left
 
 pub update_is : (m : UpdateFields) → IsOf layouts.update_shape (layouts.update_contents m) →
     updates.IsNeighborUpdate m
 update_is m is =
     record {
-      fits = (is.fixed.fit.0, subst FieldsFit (update_records m.pns) is.records);
+      fits = (is.fixed.fit.0, subst FieldsFit (record_map 9 m.pns) is.records);
       some = is.least;
       left = is.left;
     }
@@ -135,72 +86,67 @@ pub update_spelled : (m : UpdateFields) →
 unfolding spelling updates.update_bits binary
 update_spelled m =
     ap (λ (fs : List Field). (binary 4 m.inc ++ []) ++ (spelled fs ++ m.rest))
-    (update_records m.pns)
+    (record_map 9 m.pns)
     ∙ ap (λ (r : List Bool). r ++ (spelled (map (field 9) m.pns) ++ m.rest))
     (append-nil (binary 4 m.inc))
 
-one_value : (vs : List ℕ) → length vs ≡ 1 → get_or vs 0 0 ∷ [] ≡ vs
-one_value [] long = absurd (omega (arith, long))
-one_value (v ∷ []) long = refl
-one_value (v ∷ w ∷ vs) long = absurd (omega (arith, long))
-
-pub update_back : (c : Contents) → IsOf layouts.update_shape c →
+update_back : (c : Contents) → IsOf layouts.update_shape c →
     layouts.update_contents (layouts.update_from c) ≡ c
 update_back c is =
     let values : get_or c.fixed 0 0 ∷ [] ≡ c.fixed = one_value c.fixed is.fixed.all in
-    let none : c.octets ≡ [] = no_octets c.octets is.whole is.counted in
-    let empty = empty_column c.columns (height c.columns ∷ 0 ∷ 0 ∷ []) in
-    let columns : get_or c.columns 0 [] ∷ [] ∷ [] ∷ [] ≡ c.columns =
-    column_parts c.columns (get_or c.columns 0 []) [] []
-    (three_long (9 ∷ []) (height c.columns) c.columns is.columns)
-    refl (empty 1 is.columns refl) (empty 2 is.columns refl) in
-    let group : None ≡ c.group = sym is.group in
-    rw (values, ← none, columns, group) refl
+    rw (values, first_column 9 c.columns is.columns)
+    (plain_back (4 ∷ []) (9 ∷ []) 1 (Some 7) c is)
+
+update_layout : ByLayout layouts.update_shape layouts.update_contents layouts.update_from
+update_layout = record { lawful = update_lawful; back = update_back; made = λ m. refl }
+
+-- four bits and a record are 13
+some_records : (n : ℕ) (few : Bool) →
+    (nat_le 4 n && (nat_le 1 ((n - 4) / 9) && few)) ≡ (nat_le 13 n && few)
+some_records n few =
+    elim (cases_Bool (nat_le 13 n)) [
+      | inl t ↦
+          let least = leb-true 13 n t in
+          rw (
+            t,
+            le-leb 4 n (omega (arith, least)),
+            le-leb 1 ((n - 4) / 9) (omega (arith, least)),
+          ) refl
+      | inr f ↦
+          let most = leb-false 13 n f in
+          elim (cases_Bool (nat_le 4 n)) [
+            | inl t ↦ rw (f, t, lt-leb 1 ((n - 4) / 9) (omega (arith, most))) refl
+            | inr g ↦ rw (f, g) refl
+          ]
+    ]
+
+told_same : (bits : List Bool) →
+    list_told (4 ∷ []) (9 ∷ []) 1 7 bits ≡ updates.has_neighbors bits
+unfolding updates.has_neighbors
+told_same bits =
+    let n = length bits in
+    ap (λ (k : ℕ). nat_le 4 n && (nat_le 1 (k / 9) && nat_le (k % 9) 7)) (length-drop 4 bits)
+    ∙ some_records n (nat_le ((n - 4) % 9) 7)
+
+said_same : (bits : List Bool) →
+    layouts.update_from (list_said (4 ∷ []) (9 ∷ []) bits) ≡ updates.update_at bits
+unfolding updates.update_at
+said_same bits =
+    let count = (length bits - 4) / 9 in
+    let place : drop (count * 9) (drop 4 bits) ≡ drop (4 + 9 * count) bits =
+    dropped (count * 9) 4 bits ∙ ap (λ (k : ℕ). drop k bits)
+    (let e : 4 + count * 9 ≡ 4 + 9 * count = omega arith in e) in
+    rw (length-drop 4 bits, place) refl
 
 pub update_by_layout : (bits : List Bool) →
     updates.update_reading bits ≡ mapped layouts.update_from (reading layouts.update_shape bits)
-unfolding updates.update_reading updates.has_neighbors updates.update_at reading fields_at
-    group_at presence_at octets_at number_part part_at records_at
+unfolding updates.update_reading
 update_by_layout bits =
-    let count = length bits in
-    let w = drop 4 bits in
-    let long : length w ≡ count - 4 = length-drop 4 bits in
-    let n = length w / 9 in
-    let any = le-leb 0 (length w) (omega arith) in
-    elim (cases_Bool (nat_le 4 count)) [
-      | inr f ↦
-          let short = lt-leb 13 count (let e : count < 13 = short_of count f in e) in
-          rw (f, short) refl
-      | inl t ↦
-          elim (cases_Bool (nat_le 13 count)) [
-            | inr f13 ↦
-                let none : nat_le 1 n ≡ false =
-                lt-leb 1 n (let e : n < 1 = few_of count n f13 (ap (λ k. k / 9) long) in e) in
-                rw (t, any, any, any, f13, none) refl
-            | inl t13 ↦
-                let some : nat_le 1 n ≡ true =
-                le-leb 1 n (some_of count n (leb-true 13 count t13) (ap (λ k. k / 9) long)) in
-                let left : length (drop (n * 9) w) ≡ (count - 4) % 9 =
-                omega (arith, length-drop (n * 9) w, long) in
-                let same : (count - 4) / 9 ≡ n = ap (λ k. k / 9) (sym long) in
-                let place : drop (n * 9) w ≡ drop (4 + 9 * n) bits =
-                dropped (n * 9) 4 bits ∙ ap (λ (k : ℕ). drop k bits)
-                (let e : 4 + n * 9 ≡ 4 + 9 * n = omega arith in e) in
-                elim (cases_Bool (nat_le ((count - 4) % 9) 7)) [
-                  | inl few ↦ rw (t, any, any, any, t13, some, left, few, same, place) refl
-                  | inr many ↦ rw (t, any, any, any, t13, some, left, many) refl
-                ]
-          ]
-    ]
-  where
-    short_of : (k : ℕ) → nat_le 4 k ≡ false → k < 13
-    short_of k f = let e = leb-false 4 k f in omega (arith, e)
-
-    few_of : (k n : ℕ) → nat_le 13 k ≡ false → n ≡ (k - 4) / 9 → n < 1
-    few_of k n f is = let e = leb-false 13 k f in omega (arith, e, is)
-
-    some_of : (k n : ℕ) → 13 ≤ k → n ≡ (k - 4) / 9 → 1 ≤ n
-    some_of k n h is = omega (arith, h, is)
+    let said = list_said (4 ∷ []) (9 ∷ []) bits in
+    sym (ap (mapped layouts.update_from) (list_reading (4 ∷ []) 9 [] 1 7 bits)
+    ∙ mapped_cond layouts.update_from (list_told (4 ∷ []) (9 ∷ []) 1 7 bits) said
+    ∙ ap (λ (b : Bool). cond b (Some (layouts.update_from said)) None) (told_same bits)
+    ∙ ap (λ (u : UpdateFields). cond (updates.has_neighbors bits) (Some u) None) (said_same bits))
 
 -- what was spelled is read again, and what is read is spelled so
 pub update_again : (m : UpdateFields) → updates.IsNeighborUpdate m →
@@ -209,52 +155,32 @@ update_again m is =
     update_by_layout (updates.update_bits m)
     ∙ ap (λ (r : List Bool). mapped layouts.update_from (reading layouts.update_shape r))
     (sym (update_spelled m))
-    ∙ ap (mapped layouts.update_from)
-    (reading_again layouts.update_shape (layouts.update_contents m) update_lawful (update_of m is))
+    ∙ read_again layouts.update_shape layouts.update_contents layouts.update_from update_layout m
+    (update_of m is)
 
 pub update_read : (bits : List Bool) (m : UpdateFields) → updates.update_reading bits ≡ Some m →
     updates.IsNeighborUpdate m × (bits ≡ updates.update_bits m)
 update_read bits m e =
-    let some = mapped_some layouts.update_from (reading layouts.update_shape bits) m
-    (sym (update_by_layout bits) ∙ e) in
-    let there = reading_there layouts.update_shape bits some.0 update_lawful some.1 in
-    let back = update_back some.0 there.0 in
-    let is : IsOf layouts.update_shape (layouts.update_contents (layouts.update_from some.0)) =
-    subst (IsOf layouts.update_shape) (sym back) there.0 in
-    subst (λ (u : UpdateFields). updates.IsNeighborUpdate u × (bits ≡ updates.update_bits u)) some.2 (
-      update_is (layouts.update_from some.0) is,
-      there.1 ∙ ap (spelling layouts.update_shape) (sym back)
-          ∙ update_spelled (layouts.update_from some.0),
-    )
+    let there = read_there layouts.update_shape layouts.update_contents layouts.update_from
+    update_layout bits m (sym (update_by_layout bits) ∙ e) in
+    (update_is m there.0, there.1 ∙ update_spelled m)
 
 pub parameters_again : (m : InTrafficFields) → parameters.IsInTraffic m →
     parameters.in_traffic_reading (parameters.in_traffic_bits m) ≡ Some m
-unfolding parameters.in_traffic_of
 parameters_again m is =
     parameters_by_layout (parameters.in_traffic_bits m)
     ∙ ap (λ (r : List Bool). mapped layouts.in_traffic_from (reading layouts.in_traffic_shape r))
     (sym (parameters_spelled m))
-    ∙ ap (mapped layouts.in_traffic_from)
-    (reading_again layouts.in_traffic_shape (layouts.in_traffic_contents m) parameters_lawful
-    (parameters_of m is))
+    ∙ read_again layouts.in_traffic_shape layouts.in_traffic_contents layouts.in_traffic_from
+    parameters_layout m (parameters_of m is)
 
 pub parameters_read : (bits : List Bool) (m : InTrafficFields) →
     parameters.in_traffic_reading bits ≡ Some m →
     parameters.IsInTraffic m × (bits ≡ parameters.in_traffic_bits m)
 parameters_read bits m e =
-    let some = mapped_some layouts.in_traffic_from (reading layouts.in_traffic_shape bits) m
-    (sym (parameters_by_layout bits) ∙ e) in
-    let there = reading_there layouts.in_traffic_shape bits some.0 parameters_lawful some.1 in
-    let back = parameters_back some.0 there.0 in
-    let is : IsOf layouts.in_traffic_shape
-    (layouts.in_traffic_contents (layouts.in_traffic_from some.0)) =
-    subst (IsOf layouts.in_traffic_shape) (sym back) there.0 in
-    subst (λ (u : InTrafficFields). parameters.IsInTraffic u
-    × (bits ≡ parameters.in_traffic_bits u)) some.2 (
-      is.fixed.fit,
-      there.1 ∙ ap (spelling layouts.in_traffic_shape) (sym back)
-          ∙ parameters_spelled (layouts.in_traffic_from some.0),
-    )
+    let there = read_there layouts.in_traffic_shape layouts.in_traffic_contents
+    layouts.in_traffic_from parameters_layout bits m (sym (parameters_by_layout bits) ∙ e) in
+    (there.0.fixed.fit, there.1 ∙ parameters_spelled m)
 
 -- EXTENDED HANDOFF DIRECTION
 pub direction_lawful : is_lawful layouts.direction_shape ≡ true
@@ -344,18 +270,14 @@ direction_spelled m a b =
     ∙ ap (λ (fs : List Field). times
     ++ (spelled fs ++ (added ++ (spelled (handoff.records_of m) ++ m.rest)))) (group_same m.search)
 
-pub direction_back : (c : Contents) → IsOf layouts.direction_shape c →
+direction_back : (c : Contents) → IsOf layouts.direction_shape c →
     layouts.direction_contents (layouts.direction_from c) ≡ c
 unfolding handoff.direction_of places
 direction_back c is =
     let values : get_or c.fixed 0 0 ∷ get_or c.fixed 1 0 ∷ get_or c.fixed 2 0 ∷ [] ≡ c.fixed =
     sym (map-places-all (λ k. get_or c.fixed k 0) c.fixed 3 0 is.fixed.all (λ k lt. refl)) in
     let group = group_back c.group (length (behind_group layouts.direction_shape c)) is.group in
-    let columns : get_or c.columns 0 [] ∷ get_or c.columns 1 [] ∷ get_or c.columns 2 [] ∷ []
-    ≡ c.columns =
-    three_columns c.columns (three_long (9 ∷ 1 ∷ 8 ∷ []) (height c.columns) c.columns is.columns)
-    in
-    rw (values, group, columns) refl
+    rw (values, group, all_columns 9 1 8 c.columns is.columns) refl
 
 search_made : (search : Option Search) →
     layouts.search_from (layouts.search_group search) ≡ search
@@ -366,6 +288,10 @@ search_made (Some search) = refl
 direction_made : (m : DirectionFields) → layouts.direction_from (layouts.direction_contents m) ≡ m
 unfolding handoff.direction_of
 direction_made m = rw (search_made m.search) refl
+
+direction_layout : ByLayout layouts.direction_shape layouts.direction_contents layouts.direction_from
+direction_layout =
+    record { lawful = direction_lawful; back = direction_back; made = direction_made }
 
 -- what stands behind the search parameters
 abbrev behind_search : List ℕ → Option (List ℕ) → List Bool → Option Contents
@@ -685,28 +611,18 @@ direction_again m is =
       direction_by_layout (handoff.direction_bits m) soft
           ∙ ap (λ (r : List Bool). mapped layouts.direction_from
           (reading layouts.direction_shape r)) (sym (direction_spelled m is.combs is.rows))
-          ∙ ap (mapped layouts.direction_from)
-          (reading_again layouts.direction_shape (layouts.direction_contents m) direction_lawful
-          (direction_of_message m is))
-          ∙ ap Some (direction_made m),
+          ∙ read_again layouts.direction_shape layouts.direction_contents layouts.direction_from
+          direction_layout m (direction_of_message m is),
     )
 
 pub direction_read : (bits : List Bool) (m : DirectionFields) → handoff.is_hard bits ≡ false →
     handoff.direction_reading bits ≡ Some m →
     handoff.IsHandoffDirection m × (bits ≡ handoff.direction_bits m)
 direction_read bits m soft e =
-    let some = mapped_some layouts.direction_from (reading layouts.direction_shape bits) m
-    (sym (direction_by_layout bits soft) ∙ e) in
-    let there = reading_there layouts.direction_shape bits some.0 direction_lawful some.1 in
-    let back = direction_back some.0 there.0 in
-    let made = layouts.direction_from some.0 in
-    let is = direction_is made (subst (IsOf layouts.direction_shape) (sym back) there.0) in
-    subst (λ (u : DirectionFields). handoff.IsHandoffDirection u
-    × (bits ≡ handoff.direction_bits u)) some.2 (
-      is,
-      there.1 ∙ ap (spelling layouts.direction_shape) (sym back)
-          ∙ direction_spelled made is.combs is.rows,
-    )
+    let there = read_there layouts.direction_shape layouts.direction_contents
+    layouts.direction_from direction_layout bits m (sym (direction_by_layout bits soft) ∙ e) in
+    let is = direction_is m there.0 in
+    (is, there.1 ∙ direction_spelled m is.combs is.rows)
 
 -- THE NEIGHBORS
 pub neighbor_fits : (pns : List ℕ) (i : ℕ) → FieldsFit (map (field 9) pns) → i < length pns →
@@ -737,19 +653,21 @@ direction_told bits told soft e =
 pub parameters_in : (c : Contents) → IsOf layouts.in_traffic_shape c →
     parameters.IsInTraffic (layouts.in_traffic_from c)
 parameters_in c is =
-    (subst (IsOf layouts.in_traffic_shape) (sym (parameters_back c is)) is).fixed.fit
+    (contents_in layouts.in_traffic_shape layouts.in_traffic_contents layouts.in_traffic_from
+    parameters_layout c is).fixed.fit
 
 pub update_in : (c : Contents) → IsOf layouts.update_shape c →
     updates.IsNeighborUpdate (layouts.update_from c)
 update_in c is =
     update_is (layouts.update_from c)
-    (subst (IsOf layouts.update_shape) (sym (update_back c is)) is)
+    (contents_in layouts.update_shape layouts.update_contents layouts.update_from update_layout c is)
 
 pub direction_in : (c : Contents) → IsOf layouts.direction_shape c →
     handoff.IsHandoffDirection (layouts.direction_from c)
 direction_in c is =
     direction_is (layouts.direction_from c)
-    (subst (IsOf layouts.direction_shape) (sym (direction_back c is)) is)
+    (contents_in layouts.direction_shape layouts.direction_contents layouts.direction_from
+    direction_layout c is)
 
 -- each value that was read fits
 pub step_fits : (c : Contents) → IsOf layouts.update_shape c → get_or c.fixed 0 0 < 2 ^ 4

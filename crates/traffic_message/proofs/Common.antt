@@ -9,7 +9,6 @@ pub use Rattle.std.proofs.lemmas.List.{take-append-drop, take_all}
 pub use Rattle.std.proofs.lemmas.List.Elements.{All-from_get_or}
 pub use Rattle.std.proofs.lemmas.Option.{get_or_from_slice_get}
 pub use Rattle.std.specs.Prelude.{IfOk, IfSome}
-pub use Rattle.chip_core.proofs.BitLists.{same_from, same_refl}
 pub use Rattle.chip_core.proofs.Digits.{digit_of}
 pub use Rattle.chip_core.proofs.FieldLists.{length-binary, slice_get-drop}
 pub use Rattle.chip_core.proofs.Places.{map-places-all}
@@ -21,10 +20,13 @@ pub use Rattle.chip_core.specs.Fields.{FieldsFit, field, in_widths, spelled, tot
 pub use Rattle.chip_core.specs.Readings.{column_at, number_at, values_at}
 pub use Rattle.chip_core.specs.declared.check_form.CheckForm.{CheckForm}
 pub use Rattle.chip_core.specs.declared.field.Field.{Field}
-pub use Rattle.message_layout.proofs.Columns.{get-lengths, three_columns, three_long}
-pub use Rattle.message_layout.proofs.Round.{reading_again, reading_there}
-pub use Rattle.message_layout.specs.Contents.{height, record_fields}
-pub use Rattle.message_layout.specs.Reading.{rest_at, ◌>>=◌}
+pub use Rattle.message_layout.proofs.Loops.{not_both}
+pub use Rattle.message_layout.proofs.Messages.{ByLayout, all_columns, contents_in, first_column, mapped_cond, mapped_some, no_columns}
+pub use Rattle.message_layout.proofs.Messages.{one_value, read_again, read_there}
+pub use Rattle.message_layout.proofs.Plain.{fields_reading, list_reading, list_said, list_told, plain_back, plain_of, record_map}
+pub use Rattle.message_layout.specs.Contents.{record_fields}
+pub use Rattle.message_layout.specs.Plain.{plain_contents}
+pub use Rattle.message_layout.specs.Reading.{mapped, rest_at, ◌>>=◌}
 unfoldable pub use Rattle.message_layout.specs.Reading.{fields_at, group_at, number_part, octets_at, part_at, presence_at, reading}
 unfoldable pub use Rattle.message_layout.specs.Reading.{records_at}
 unfoldable pub use Rattle.message_layout.specs.Shapes.{is_lawful}
@@ -32,8 +34,9 @@ pub use Rattle.message_layout.specs.Spelling.{IsGroup, IsOf, behind_group, group
 unfoldable pub use Rattle.message_layout.specs.Spelling.{spelling}
 pub use Rattle.message_layout.specs.declared.contents.Contents.{Contents}
 pub use Rattle.message_layout.specs.declared.layout.Presence.TheVariants.{Flagged}
+pub use Rattle.quality_bits.proofs.Decoded.{AreRead, IsDecoded, IsNone, decoded, fault_read, if_spelled-again, if_spelled-there, uncapsuled}
+pub use Rattle.quality_bits.proofs.Decoded.{undecoded, whole_checked}
 pub use Rattle.quality_bits.proofs.Streams.{under_way-none}
-pub use Rattle.quality_bits.proofs.Wholes.{checked-capsule, inner, inner-capsule, whole-capsule}
 pub use Rattle.quality_bits.specs.Capsules.{FillsCapsule, IsWhole, capsule}
 pub use Rattle.quality_bits.specs.Kinds.{IsChecked}
 pub use Rattle.quality_bits.specs.declared.kind.Kind.TheVariants.{M16}
@@ -50,11 +53,9 @@ pub use Rattle.traffic_message.specs.Multiplex.{joined, primary_bits}
 unfoldable pub use Rattle.traffic_message.specs.Multiplex.{split_9600}
 pub use Rattle.traffic_message.specs.Neighbors.{IsNeighborUpdate, has_neighbors, update_at, update_bits}
 unfoldable pub use Rattle.traffic_message.specs.Neighbors.{update_reading}
-pub use Rattle.traffic_message.specs.Reading.{body_reading, is_body, mapped, traffic_reading}
-pub use Rattle.traffic_message.specs.Widths.{head_widths, search_widths, time_widths}
+pub use Rattle.traffic_message.specs.Reading.{body_reading, is_body, traffic_reading}
+pub use Rattle.traffic_message.specs.Widths.{head_widths, in_traffic_widths, search_widths, time_widths}
 pub use Rattle.traffic_message.specs.declared.body.TrafficBody.{TrafficBody}
-pub use Rattle.traffic_message.specs.declared.fault.MessageFault.{MessageFault}
-pub use Rattle.traffic_message.specs.declared.fault.MessageFault.TheVariants.{BadBody}
 pub use Rattle.traffic_message.specs.declared.fields.DirectionFields.{DirectionFields}
 pub use Rattle.traffic_message.specs.declared.fields.Head.{Head}
 pub use Rattle.traffic_message.specs.declared.fields.InTrafficFields.{InTrafficFields}

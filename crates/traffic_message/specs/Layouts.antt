@@ -1,8 +1,9 @@
 -- The layouts of what stands behind the head, and what the messages say as contents of these.
 use Rattle.std.specs.Prelude.{ℕ, List, [], ◌∷◌, get_or, Option, None, Some}
+use Rattle.message_layout.specs.Plain.{plain_contents, plain_shape}
 use Rattle.message_layout.specs.Shapes.{Shape}
 use Rattle.message_layout.specs.declared.contents.Contents.{Contents}
-use Rattle.message_layout.specs.declared.layout.Presence.TheVariants.{Never, Flagged}
+use Rattle.message_layout.specs.declared.layout.Presence.TheVariants.{Flagged}
 use Rattle.traffic_message.specs.Handoff.{direction_of, search_of, search_values, time_values}
 use Rattle.traffic_message.specs.InTraffic.{in_traffic_of, in_traffic_values}
 use Rattle.traffic_message.specs.Widths.{in_traffic_widths, search_widths, time_widths}
@@ -13,50 +14,20 @@ use Rattle.traffic_message.specs.declared.fields.UpdateFields.{UpdateFields}
 
 -- IN-TRAFFIC SYSTEM PARAMETERS
 abbrev pub in_traffic_shape : Shape
-in_traffic_shape = record {
-  fixed = in_traffic_widths;
-  presence = Never;
-  group = [];
-  zeros = 0;
-  count = 0;
-  records = [];
-  least = 0;
-  most = None;
-}
+in_traffic_shape = plain_shape in_traffic_widths [] 0 None
 
 abbrev pub in_traffic_contents : InTrafficFields → Contents
-in_traffic_contents m = record {
-  fixed = in_traffic_values m;
-  group = None;
-  octets = [];
-  columns = [] ∷ [] ∷ [] ∷ [];
-  rest = m.rest;
-}
+in_traffic_contents m = plain_contents (in_traffic_values m) ([] ∷ [] ∷ [] ∷ []) m.rest
 
 abbrev pub in_traffic_from : Contents → InTrafficFields
 in_traffic_from c = in_traffic_of c.fixed c.rest
 
 -- NEIGHBOR LIST UPDATE
 abbrev pub update_shape : Shape
-update_shape = record {
-  fixed = 4 ∷ [];
-  presence = Never;
-  group = [];
-  zeros = 0;
-  count = 0;
-  records = 9 ∷ [];
-  least = 1;
-  most = Some 7;
-}
+update_shape = plain_shape (4 ∷ []) (9 ∷ []) 1 (Some 7)
 
 abbrev pub update_contents : UpdateFields → Contents
-update_contents m = record {
-  fixed = m.inc ∷ [];
-  group = None;
-  octets = [];
-  columns = m.pns ∷ [] ∷ [] ∷ [];
-  rest = m.rest;
-}
+update_contents m = plain_contents (m.inc ∷ []) (m.pns ∷ [] ∷ [] ∷ []) m.rest
 
 abbrev pub update_from : Contents → UpdateFields
 update_from c = record { inc = get_or c.fixed 0 0; pns = get_or c.columns 0 []; rest = c.rest }

@@ -1,5 +1,4 @@
 pub mod Admitted
-pub mod Faults
 pub mod Handoff
 pub mod InTraffic
 pub mod Layouts

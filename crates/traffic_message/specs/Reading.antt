@@ -1,10 +1,12 @@
 -- The message that a body or a capsule spells, as a function of its bits: each field is the number
 -- that stands at its place.
 use Rattle.std.specs.Prelude.{ℕ, ◌-◌, ◌%◌, ◌==◌, ◌&&◌, if◌then◌else◌, Bool, not, List, length, take}
-use Rattle.std.specs.Prelude.{drop, get_or, nat_le, Option, Some, None, Result, Ok, Err}
-use Rattle.chip_core.specs.Bits.{are_same}
+use Rattle.std.specs.Prelude.{drop, get_or, nat_le, Option, Some, None}
 use Rattle.chip_core.specs.Readings.{number_at, values_at}
 use Rattle.chip_core.specs.declared.check_form.CheckForm.{CheckForm}
+use Rattle.message_layout.specs.Reading.{mapped}
+use Rattle.quality_bits.specs.Capsules.{if_spelled}
+pub use Rattle.quality_bits.specs.Faults.{reading_of}
 use Rattle.traffic_message.specs.Handoff.{direction_reading, is_hard}
 use Rattle.traffic_message.specs.InTraffic.{in_traffic_reading}
 use Rattle.traffic_message.specs.Messages.{Message, traffic_capsule}
@@ -12,7 +14,6 @@ use Rattle.traffic_message.specs.Neighbors.{update_reading}
 use Rattle.traffic_message.specs.Widths.{head_widths}
 use Rattle.traffic_message.specs.declared.body.TrafficBody.{TrafficBody}
 use Rattle.traffic_message.specs.declared.body.TrafficBody.TheVariants as bodies
-use Rattle.traffic_message.specs.declared.fault.MessageFault.{MessageFault}
 use Rattle.traffic_message.specs.declared.fields.Head.{Head}
 
 -- the head of these values
@@ -26,11 +27,6 @@ head_of values = record {
 
 unfoldable pub head_at : List Bool → Head
 head_at body = head_of (values_at head_widths (drop 8 body))
-
--- in a message
-abbrev pub mapped : {A B : Type 0} → (A → B) → Option A → Option B
-mapped f None = None
-mapped f (Some x) = Some (f x)
 
 -- what stands behind the head says, by the type where nothing is encrypted
 unfoldable pub part_reading : ℕ → ℕ → List Bool → Option TrafficBody
@@ -52,17 +48,8 @@ body_reading body =
     if is_body body then mapped (λ part. record { head = head; body = part })
     (part_reading (number_at 0 8 body) head.encryption (drop 17 body)) else None
 
-abbrev pub if_spelled : CheckForm → List Bool → Option Message → Option Message
-if_spelled form capsule None = None
-if_spelled form capsule (Some m) =
-    if are_same (traffic_capsule form m) capsule then Some m else None
-
 -- the message whose capsule the list is
 unfoldable pub traffic_reading : CheckForm → List Bool → Option Message
 traffic_reading form capsule =
-    if_spelled form capsule (body_reading (take (length capsule - 24) (drop 8 capsule)))
-
--- what a reading that may fail gives
-abbrev pub reading_of : Result Message MessageFault → Option Message
-reading_of (Ok m) = Some m
-reading_of (Err fault) = None
+    if_spelled (traffic_capsule form) capsule
+    (body_reading (take (length capsule - 24) (drop 8 capsule)))

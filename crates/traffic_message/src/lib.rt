@@ -4,7 +4,6 @@
 #![tactic(auto)]
 
 mod body;
-mod fault;
 mod fields;
 mod framer;
 mod handoff;
@@ -18,7 +17,6 @@ mod table;
 mod values;
 
 pub use body::TrafficBody;
-pub use fault::MessageFault;
 pub use fields::{DirectionFields, Head, InTrafficFields, Search, UpdateFields};
 pub use framer::SignalFramer;
 pub use handoff::HandoffDirection;
@@ -26,6 +24,7 @@ pub use in_traffic::InTraffic;
 pub use message::TrafficMessage;
 pub use multiplex::{Mux, split_frame};
 pub use neighbors::NeighborUpdate;
+pub use quality_bits::MessageFault;
 pub use table::{
     HEAD_FIELDS, IN_TRAFFIC_FIELDS, SEARCH_FIELDS, TIME_FIELDS, head_name, in_traffic_name,
     search_name, time_name,

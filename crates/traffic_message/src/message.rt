@@ -12,12 +12,11 @@ ghost use Rattle.traffic_message.specs.Reading.{reading_of, traffic_reading};
 ghost use Rattle.traffic_message.specs.Widths.{head_widths};
 
 use crate::body::TrafficBody;
-use crate::fault::MessageFault;
 use crate::fields::Head;
 use crate::table::HEAD_FIELDS;
 use crate::values::{append_values, read_number, read_values};
 use chip_core::{Bits, CheckForm};
-use quality_bits::{Kind, body_of, capsule_of};
+use quality_bits::{Kind, MessageFault, body_of, capsule_of};
 use std::marker::Model;
 
 /// A signaling message of the traffic channel that has a spelling: its head, and what it says.

@@ -1,9 +1,9 @@
-use Rattle.traffic_message.proofs.Common.{sym, ap, ◌∙◌, M16, inner, inner-capsule, message_body, traffic_capsule}
-use Rattle.traffic_message.proofs.Readings.{message_injective}
+use Rattle.traffic_message.proofs.Common.{◌≡◌, Some, sym, ap, ◌∙◌, traffic_reading}
+use Rattle.traffic_message.proofs.Readings.{reads_capsule}
 use Rattle.traffic_message.proofs.laws.spelling_has_one_message.Goals as goal
 
 pub returns : goal.returns
-unfolding traffic_capsule
 returns c form m n p q same =
-    message_injective m n p q (sym (inner-capsule M16 form (message_body m)) ∙ ap (inner M16) same
-    ∙ inner-capsule M16 form (message_body n))
+    let both : Some m ≡ Some n =
+    sym (reads_capsule form m p) ∙ ap (traffic_reading form) same ∙ reads_capsule form n q in
+    cc

@@ -1,9 +1,9 @@
 //! Why a list of bits is no message.
 
-use quality_bits::CapsuleFault;
+use crate::capsule::CapsuleFault;
 use thiserror::Error;
 
-/// Why a list of bits is no message of the traffic channel.
+/// Why a list of bits is no message of a channel.
 #[derive(Clone, Copy, PartialEq, Eq, Debug, Error)]
 pub enum MessageFault {
     /// It doesn't have as many bits as its MSG_LENGTH says, or that is outside 5 to 148 octets.
@@ -12,14 +12,15 @@ pub enum MessageFault {
     /// It doesn't end with its check.
     #[error("bad check")]
     BadCheck,
-    /// Its body isn't that of a message: the fields of its type don't fit.
+    /// Its body isn't that of a message: its type has none in the channel, or the fields of its
+    /// type don't fit.
     #[error("bad body")]
     BadBody,
 }
 
 impl From<CapsuleFault> for MessageFault {
     ghost use Rattle.std.specs.Prelude.{◌≡◌};
-    ghost use Rattle.traffic_message.specs.Faults.{fault_of};
+    ghost use Rattle.quality_bits.specs.Faults.{fault_of};
 
     ghost from_gives = { λ capsule fault. fault ≡ fault_of capsule };
 
