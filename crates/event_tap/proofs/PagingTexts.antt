@@ -3,15 +3,14 @@ use Rattle.std.proofs.Common.{◌≡◌, ℕ, zero, suc, ◌^◌, ◌<◌, ◌�
 use Rattle.std.proofs.Common.{List, [], ◌∷◌, ◌++◌, length, get_or, slice_get, codes, decimal}
 use Rattle.std.proofs.Common.{arith}
 use Rattle.std.proofs.lemmas.Option.{get_or_from_slice_get, slice_get_within}
-use Rattle.paging_message.specs.Channels.{channel_fields, IsChannelList}
-use Rattle.paging_message.specs.Neighbors.{neighbor_fields, IsNeighborList}
+use Rattle.paging_message.specs.Channels.{IsChannelList}
+use Rattle.paging_message.specs.Neighbors.{IsNeighborList}
 use Rattle.paging_message.specs.System.{system_values}
 use Rattle.paging_message.specs.Widths.{system_names}
 use Rattle.paging_message.specs.declared.fields.ChannelFields.{ChannelFields}
 use Rattle.paging_message.specs.declared.fields.NeighborFields.{NeighborFields}
 use Rattle.paging_message.specs.declared.fields.SystemFields.{SystemFields}
-use Rattle.paging_message.proofs.Bodies.{most_bits}
-use Rattle.paging_message.proofs.Records.{neighbor_fit_at, widths-channels, widths-neighbors}
+use Rattle.paging_message.proofs.ByLayout.{few_channels, few_neighbors, neighbor_fit_at}
 use Rattle.event_tap.specs.PagingLines.{neighbor_text, neighbor_texts, system_line}
 use Rattle.event_tap.specs.Parts.{named_values, rest_text}
 use Rattle.event_tap.proofs.PartTexts.{fields-below}
@@ -58,17 +57,11 @@ neighbor_at m i config pn is a b =
 
 -- a message has at most 93 neighbors
 pub neighbors-most : (m : NeighborFields) → IsNeighborList m → length m.configs ≤ 93
-neighbors-most m is =
-    omega (
-      arith,
-      most_bits (neighbor_fields m) m.rest is.spelled,
-      widths-neighbors m.configs m.pns is.paired,
-    )
+neighbors-most m is = omega (arith, few_neighbors m is)
 
 -- a message has at most 102 frequencies
 pub freqs-most : (m : ChannelFields) → IsChannelList m → length m.freqs ≤ 102
-freqs-most m is =
-    omega (arith, most_bits (channel_fields m) m.rest is.spelled, widths-channels m.freqs)
+freqs-most m is = omega (arith, few_channels m is)
 
 -- they have at most four digits
 pub freqs-few : (m : ChannelFields) → IsChannelList m → All (λ n. n < 10 ^ 4) m.freqs

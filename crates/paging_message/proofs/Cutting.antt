@@ -1,11 +1,11 @@
 -- One more bit of a stream of half-frames.
 use Rattle.paging_message.proofs.Common.{◌≡◌, ℕ, zero, suc, ◌+◌, ◌-◌, ◌*◌, ◌/◌, ◌%◌, ◌<◌, ◌≤◌, ◌==◌, Bool, true, false, cond, List, [], ◌∷◌}
 use Rattle.paging_message.proofs.Common.{◌++◌, length, map, take, drop, refl, sym, ap, ◌∙◌, arith, append_assoc, length-append, length-drop}
-use Rattle.paging_message.proofs.Common.{nat_lt, nat_le, if◌then◌else◌, inl, inr, Option, Some, None, IsTrue, IsSome, ◌↔◌, cases_lt, lt-ltb}
-use Rattle.paging_message.proofs.Common.{eq-eqb, ne_eqb, flat_map-append, append-nil, length-take-le, take-append-drop, take-append-le}
+use Rattle.paging_message.proofs.Common.{nat_lt, nat_le, if◌then◌else◌, inl, inr, Option, Some, None, IsTrue, IsSome, ◌↔◌, cases_lt}
+use Rattle.paging_message.proofs.Common.{eq-eqb, ne_eqb, append-nil, length-take-le, take-append-drop, take-append-le}
 use Rattle.paging_message.proofs.Common.{drop-append-le, drop_at, take_all, div-mul-add, mod-mul-add, div-add-mod, mod_self}
 use Rattle.paging_message.proofs.Common.{mul-add-mod_self_left, mul-le-mul_left, places, map-places-more, places-none, completed, continued}
-use Rattle.paging_message.proofs.Common.{Piece, piece, bodies, from_last_start}
+use Rattle.paging_message.proofs.Common.{Piece, piece, bodies, from_last_start, bodies-more, extended, from_last_start_more, from_last_start_new}
 use Rattle.paging_message.proofs.Chains.{ends_more, after, step, open_more, open_none, open_fuel}
 use Rattle.paging_message.specs.HalfFrames as halves
 
@@ -63,37 +63,6 @@ halves_more size n front q long some most =
     (λ h lt. part_front size n h front q long lt))
     ∙ ap (λ (p : Piece). map (part size front) (places n) ++ p ∷ []) last
 
--- FROM THE LAST START
-from_new : (pieces : List Piece) (p : Piece) → p.starts ≡ true →
-    from_last_start (pieces ++ p ∷ []) ≡ p ∷ []
-from_new [] p h = rw h refl
-from_new (q ∷ pieces) p h = rw (from_new pieces p h) refl
-
-abbrev pub extended : List Piece → Piece → List Piece
-extended [] p = []
-extended (q ∷ message) p = (q ∷ message) ++ p ∷ []
-
-extended_from : (b : Bool) (q p : Piece) (pieces later : List Piece) →
-    cond (nat_lt 0 (length (extended later p))) (extended later p)
-    (cond b (q ∷ (pieces ++ p ∷ [])) [])
-    ≡ extended (cond (nat_lt 0 (length later)) later (cond b (q ∷ pieces) [])) p
-extended_from true q p pieces [] = refl
-extended_from false q p pieces [] = refl
-extended_from b q p pieces (l ∷ later) =
-    let e = lt-ltb 0 (length (extended (l ∷ later) p)) (omega arith) in
-    let f = lt-ltb 0 (length (l ∷ later)) (omega arith) in
-    rw (e, f) refl
-
-from_more : (pieces : List Piece) (p : Piece) → p.starts ≡ false →
-    from_last_start (pieces ++ p ∷ []) ≡ extended (from_last_start pieces) p
-from_more [] p h = rw h refl
-from_more (q ∷ pieces) p h =
-    rw (from_more pieces p h) (extended_from q.starts q p pieces (from_last_start pieces))
-
-bodies-more : (message : List Piece) (p : Piece) →
-    bodies (message ++ p ∷ []) ≡ bodies message ++ p.body
-bodies-more message p = rw (flat_map-append, append-nil) refl
-
 -- THE BITS OF THE MESSAGE
 -- those before a half-frame's body: none yet where it starts a message
 abbrev pub begun : Bool → List Piece → Option (List Bool)
@@ -145,10 +114,10 @@ told_more : (pieces : List Piece) (starts : Bool) (body : List Bool) →
     told (from_last_start (pieces ++ record { starts = starts; body = body } ∷ []))
     ≡ grown (begun starts (from_last_start pieces)) body
 unfolding told
-told_more pieces true body = ap told (from_new pieces (record { starts = true; body = body }) refl)
+told_more pieces true body = ap told (from_last_start_new pieces (record { starts = true; body = body }) refl)
     ∙ ap Some (append-nil body)
 told_more pieces false body =
-    ap told (from_more pieces (record { starts = false; body = body }) refl)
+    ap told (from_last_start_more pieces (record { starts = false; body = body }) refl)
     ∙ told_extended (from_last_start pieces) body
 
 -- how many bits those are

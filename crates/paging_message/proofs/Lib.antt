@@ -1,13 +1,8 @@
-pub mod Admitting
-pub mod Bodies
+pub mod ByLayout
 pub mod Carried
 pub mod Chains
 pub mod Common
 pub mod Cutting
 pub mod Layings
 pub mod Messages
-pub mod Others
 pub mod Readings
-pub mod Records
-pub mod Systems
-pub mod Widths

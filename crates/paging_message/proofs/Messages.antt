@@ -1,14 +1,13 @@
--- Which messages have a body of a type.
-use Rattle.paging_message.proofs.Common.{◌≡◌, ◌≢◌, ℕ, ◌^◌, ◌<◌, ◌≤◌, Bool, List, [], ◌∷◌, ◌++◌, length, refl, sym, ap, ◌∙◌, arith, binary}
-use Rattle.paging_message.proofs.Common.{field, spelled, Field, CheckForm, FillsCapsule, capsule, M30, inner, inner-capsule, channel_body}
-use Rattle.paging_message.proofs.Common.{channel_records, IsChannelList, message_body, IsPagingMessage, paging_capsule, neighbor_body}
-use Rattle.paging_message.proofs.Common.{neighbor_records, IsNeighborList, other_body, IsOther, body_of_fields, system_body, system_values}
-use Rattle.paging_message.proofs.Common.{IsSystem, in_widths, system_widths, ChannelFields, NeighborFields, OtherFields, SystemFields}
-use Rattle.paging_message.proofs.Common.{PagingMessage}
-use Rattle.paging_message.proofs.Bodies.{body_from, length-body, same_kind}
-use Rattle.paging_message.proofs.Others.{other_injective}
-use Rattle.paging_message.proofs.Records.{channel_injective, neighbor_injective}
-use Rattle.paging_message.proofs.Systems.{system_injective}
+-- Bodies of messages, spelled and read again.
+use Rattle.paging_message.proofs.Common.{◌≡◌, ℕ, ◌+◌, ◌%◌, ◌^◌, ◌<◌, ◌≤◌, ◌==◌, ◌&&◌, Bool, true, false, List, ◌++◌, length, drop, take}
+use Rattle.paging_message.proofs.Common.{refl, sym, ap, subst, ◌∙◌, arith, nat_le, inl, inr, Option, Some, None, IfSome, and_parts, and_from}
+use Rattle.paging_message.proofs.Common.{cases_Bool, cases_lt, eq-eqb, eqb-true, le-leb, leb-true, length-append, binary, number}
+use Rattle.paging_message.proofs.Common.{length-binary, behind_front, front, number_front, number_at, FillsCapsule, M30}
+use Rattle.paging_message.proofs.Common.{guard_some, number_again, number_part, number_there, mapped, mapped_some}
+use Rattle.paging_message.proofs.Common.{reading, reading_again, reading_there, spelling, IsOf, Contents, Shape, admits, HasMessage, message_body, IsPagingMessage}
+use Rattle.paging_message.proofs.Common.{PagingMessage, contents_of, kind_of, message_from, shape_of, body_reading, is_body}
+use Rattle.paging_message.proofs.Common.{message_at}
+use Rattle.paging_message.proofs.ByLayout.{admits_short, lawful, made_of, placed, says}
 use Rattle.paging_message.specs.declared.message.PagingMessage.TheVariants as messages
 
 pub message_fills : (m : PagingMessage) → IsPagingMessage m → FillsCapsule M30 (message_body m)
@@ -17,126 +16,203 @@ message_fills (messages.Neighbors m) is = is.spelled.fills
 message_fills (messages.Channels m) is = is.spelled.fills
 message_fills (messages.Other m) is = is.spelled.fills
 
--- the fields behind the message type
-system_kind : (k : ℕ) (m : SystemFields) (whole : List Bool) → k < 2 ^ 8 →
-    binary 8 k ++ whole ≡ system_body m → k ≡ 1
-system_kind k m whole small same =
-    same_kind k 1 (in_widths system_widths (system_values m)) m.rest whole small (omega arith) same
+kind_fits : (m : PagingMessage) → IsPagingMessage m → kind_of m < 2 ^ 8
+kind_fits (messages.System m) is = omega arith
+kind_fits (messages.Neighbors m) is = omega arith
+kind_fits (messages.Channels m) is = omega arith
+kind_fits (messages.Other m) is = is.spelled.fits.0
 
-neighbor_kind : (k : ℕ) (m : NeighborFields) (whole : List Bool) → k < 2 ^ 8 →
-    binary 8 k ++ whole ≡ neighbor_body m → k ≡ 3
-neighbor_kind k m whole small same =
-    same_kind k 3 (field 9 m.pn ∷ field 6 m.seq ∷ field 4 m.inc ∷ neighbor_records m.configs m.pns)
-    m.rest whole small (omega arith) same
+-- a message type and the bits behind it are read by its layout
+pub typed_reading : (k : ℕ) (w : List Bool) → k < 2 ^ 8 → FillsCapsule M30 (binary 8 k ++ w) →
+    body_reading (binary 8 k ++ w) ≡ mapped (message_from k) (reading (shape_of k) w)
+unfolding body_reading is_body
+typed_reading k w small fills =
+    let body = binary 8 k ++ w in
+    let long : length body ≡ 8 + length w =
+    omega (arith, length-append (binary 8 k) w, length-binary 8 k) in
+    let whole = eq-eqb (length body % 8) 2 (omega (arith, fills.whole)) in
+    let most = le-leb (length body) 1146 (omega (arith, fills.whole, fills.most)) in
+    rw (whole, most, number_front 8 k w small, behind_front 8 k w, long) (sym (placed w k))
 
-channel_kind : (k : ℕ) (m : ChannelFields) (whole : List Bool) → k < 2 ^ 8 →
-    binary 8 k ++ whole ≡ channel_body m → k ≡ 4
-channel_kind k m whole small same =
-    same_kind k 4 (field 9 m.pn ∷ field 6 m.seq ∷ channel_records m.freqs) m.rest whole small
-    (omega arith) same
+-- what was spelled is read again
+pub reads_body : (m : PagingMessage) → IsPagingMessage m → body_reading (message_body m) ≡ Some m
+reads_body m is =
+    let k = kind_of m in
+    let s = says m is in
+    let fills = subst (FillsCapsule M30) (sym s.same) (message_fills m is) in
+    ap body_reading (sym s.same)
+    ∙ typed_reading k (spelling (shape_of k) (contents_of m)) (kind_fits m is) fills
+    ∙ ap (mapped (message_from k)) (reading_again (shape_of k) (contents_of m) (lawful k) s.is)
+    ∙ ap Some s.made
 
-other_kind : (k : ℕ) (m : OtherFields) (whole : List Bool) → IsOther m → k < 2 ^ 8 →
-    binary 8 k ++ whole ≡ other_body m → k ≡ m.kind
-other_kind k m whole is small same = same_kind k m.kind [] m.bits whole small is.spelled.fits.0 same
+not_both : {b : Bool} → b ≡ false → ¬ (b ≡ true)
+not_both left right = cc
 
--- the message of a body of type 1, and so on
-pub type_1 : (m : PagingMessage) (whole : List Bool) → IsPagingMessage m →
-    binary 8 1 ++ whole ≡ message_body m →
-    (f : SystemFields) × (messages.System f ≡ m) × IsSystem f ×
-    (binary 8 1 ++ whole ≡ system_body f)
-type_1 (messages.System f) whole is same = (f, refl, is, same)
-type_1 (messages.Neighbors f) whole is same =
-    absurd (omega (arith, neighbor_kind 1 f whole (omega arith) same))
-type_1 (messages.Channels f) whole is same =
-    absurd (omega (arith, channel_kind 1 f whole (omega arith) same))
-type_1 (messages.Other f) whole is same =
-    absurd (is.not_system (sym (other_kind 1 f whole is (omega arith) same)))
+-- the test of a body, and its type
+pub record IsTyped (body : List Bool) : Type 0 where
+  pub fills : FillsCapsule M30 body
+  pub admitted : admits (number (take 8 body)) (length body) ≡ true
+  pub kind : number (take 8 body) < 2 ^ 8
+  pub same : body ≡ binary 8 (number (take 8 body)) ++ drop 8 body
 
-pub type_3 : (m : PagingMessage) (whole : List Bool) → IsPagingMessage m →
-    binary 8 3 ++ whole ≡ message_body m →
-    (f : NeighborFields) × (messages.Neighbors f ≡ m) × IsNeighborList f ×
-    (binary 8 3 ++ whole ≡ neighbor_body f)
-type_3 (messages.System f) whole is same =
-    absurd (omega (arith, system_kind 3 f whole (omega arith) same))
-type_3 (messages.Neighbors f) whole is same = (f, refl, is, same)
-type_3 (messages.Channels f) whole is same =
-    absurd (omega (arith, channel_kind 3 f whole (omega arith) same))
-type_3 (messages.Other f) whole is same =
-    absurd (is.not_neighbors (sym (other_kind 3 f whole is (omega arith) same)))
+pub typed_from : (body : List Bool) → is_body body ≡ true → IsTyped body
+unfolding is_body
+typed_from body h =
+    let count = length body in
+    let k = number (take 8 body) in
+    let all = and_parts (count % 8 == 2) (nat_le count 1146 && admits k count) h in
+    let more = and_parts (nat_le count 1146) (admits k count) all.1 in
+    let rest = eqb-true (count % 8) 2 all.0 in
+    let most = leb-true count 1146 more.0 in
+    let eight : 8 ≤ count =
+    elim (cases_lt count 8) [
+      | inl short ↦ absurd (not_both (admits_short k count short) more.1)
+      | inr some ↦ some
+    ] in
+    let one = front 8 body eight in
+    record {
+      fills = record {
+        whole = omega (arith, rest);
+        least = omega (arith, rest);
+        most = omega (arith, most);
+      };
+      admitted = more.1;
+      kind = one.0;
+      same = one.1;
+    }
 
-pub type_4 : (m : PagingMessage) (whole : List Bool) → IsPagingMessage m →
-    binary 8 4 ++ whole ≡ message_body m →
-    (f : ChannelFields) × (messages.Channels f ≡ m) × IsChannelList f ×
-    (binary 8 4 ++ whole ≡ channel_body f)
-type_4 (messages.System f) whole is same =
-    absurd (omega (arith, system_kind 4 f whole (omega arith) same))
-type_4 (messages.Neighbors f) whole is same =
-    absurd (omega (arith, neighbor_kind 4 f whole (omega arith) same))
-type_4 (messages.Channels f) whole is same = (f, refl, is, same)
-type_4 (messages.Other f) whole is same =
-    absurd (is.not_channels (sym (other_kind 4 f whole is (omega arith) same)))
+pub is_body_from : (body : List Bool) → FillsCapsule M30 body →
+    admits (number (take 8 body)) (length body) ≡ true → is_body body ≡ true
+unfolding is_body
+is_body_from body fills h =
+    and_from (length body % 8 == 2)
+    (nat_le (length body) 1146 && admits (number (take 8 body)) (length body))
+    (eq-eqb (length body % 8) 2 (omega (arith, fills.whole)))
+    (and_from (nat_le (length body) 1146) (admits (number (take 8 body)) (length body))
+    (le-leb (length body) 1146 (omega (arith, fills.whole, fills.most))) h)
 
-pub type_other : (k : ℕ) (m : PagingMessage) (whole : List Bool) → k < 2 ^ 8 → k ≢ 1 → k ≢ 3 →
-    k ≢ 4 → IsPagingMessage m → binary 8 k ++ whole ≡ message_body m →
-    (f : OtherFields) × (messages.Other f ≡ m) × IsOther f × (binary 8 k ++ whole ≡ other_body f)
-type_other k (messages.System f) whole small a b c is same =
-    absurd (a (system_kind k f whole small same))
-type_other k (messages.Neighbors f) whole small a b c is same =
-    absurd (b (neighbor_kind k f whole small same))
-type_other k (messages.Channels f) whole small a b c is same =
-    absurd (c (channel_kind k f whole small same))
-type_other k (messages.Other f) whole small a b c is same = (f, refl, is, same)
+pub body_told : (body : List Bool) (m : PagingMessage) → body_reading body ≡ Some m →
+    is_body body ≡ true
+unfolding body_reading
+body_told body m e =
+    (guard_some (is_body body) (Some (message_at (number_at 0 8 body) (drop 8 body))) m e).0
 
-pub least_bits : (m : PagingMessage) → 8 ≤ length (message_body m)
-least_bits (messages.System m) =
-    omega (arith, length-body (field 8 1 ∷ in_widths system_widths (system_values m)) m.rest)
-least_bits (messages.Neighbors m) =
-    let records = neighbor_records m.configs m.pns in
-    omega (
-      arith,
-      length-body (field 8 3 ∷ field 9 m.pn ∷ field 6 m.seq ∷ field 4 m.inc ∷ records) m.rest,
-    )
-least_bits (messages.Channels m) =
-    omega (
-      arith,
-      length-body
-          (field 8 4 ∷ field 9 m.pn ∷ field 6 m.seq ∷ channel_records m.freqs) m.rest,
-    )
-least_bits (messages.Other m) = omega (arith, length-body (field 8 m.kind ∷ []) m.bits)
+-- what is read is spelled so
+pub body_is_read : (body : List Bool) (m : PagingMessage) → body_reading body ≡ Some m →
+    IsPagingMessage m × (body ≡ message_body m)
+body_is_read body m e =
+    let t = typed_from body (body_told body m e) in
+    let k = number (take 8 body) in
+    let w = drop 8 body in
+    let read : mapped (message_from k) (reading (shape_of k) w) ≡ Some m =
+    sym (typed_reading k w t.kind (subst (FillsCapsule M30) t.same t.fills))
+    ∙ ap body_reading (sym t.same) ∙ e in
+    let some = mapped_some (message_from k) (reading (shape_of k) w) m read in
+    let there = reading_there (shape_of k) w some.0 (lawful k) some.1 in
+    let spelled : body ≡ binary 8 k ++ spelling (shape_of k) some.0 =
+    t.same ∙ ap (λ (r : List Bool). binary 8 k ++ r) there.1 in
+    let made = made_of k some.0 t.kind there.0 (subst (FillsCapsule M30) spelled t.fills) in
+    subst (λ (n : PagingMessage). IsPagingMessage n × (body ≡ message_body n)) some.2
+    (made.0, spelled ∙ made.1)
 
--- ONE SPELLING
-type_in : (k : ℕ) (fs : List Field) (rest : List Bool) →
-    body_of_fields (field 8 k ∷ fs) rest ≡ binary 8 k ++ body_of_fields fs rest
-unfolding body_of_fields
-type_in k fs rest = sym (body_from k fs rest (spelled fs ++ rest) refl)
+-- WHICH BODIES
+pub admits_message : (body : List Bool) → FillsCapsule M30 body →
+    admits (number (take 8 body)) (length body) ≡ true → HasMessage body
+unfolding body_reading
+admits_message body fills h =
+    let t = is_body_from body fills h in
+    let m = message_at (number_at 0 8 body) (drop 8 body) in
+    let is = body_is_read body m (rw t refl) in
+    record { message = m; spelled = is.0; same = is.1 }
 
-pub message_injective : (m n : PagingMessage) → IsPagingMessage m → IsPagingMessage n →
-    message_body m ≡ message_body n → m ≡ n
-message_injective (messages.System m) n p q same =
-    let own = type_in 1 (in_widths system_widths (system_values m)) m.rest in
-    let found = type_1 n (body_of_fields (in_widths system_widths (system_values m)) m.rest) q
-    (sym own ∙ same) in
-    ap messages.System (system_injective m found.0 p found.2 (own ∙ found.3)) ∙ found.1
-message_injective (messages.Neighbors m) n p q same =
-    let fs = field 9 m.pn ∷ field 6 m.seq ∷ field 4 m.inc ∷ neighbor_records m.configs m.pns in
-    let own = type_in 3 fs m.rest in
-    let found = type_3 n (body_of_fields fs m.rest) q (sym own ∙ same) in
-    ap messages.Neighbors (neighbor_injective m found.0 p found.2 (own ∙ found.3)) ∙ found.1
-message_injective (messages.Channels m) n p q same =
-    let fs = field 9 m.pn ∷ field 6 m.seq ∷ channel_records m.freqs in
-    let own = type_in 4 fs m.rest in
-    let found = type_4 n (body_of_fields fs m.rest) q (sym own ∙ same) in
-    ap messages.Channels (channel_injective m found.0 p found.2 (own ∙ found.3)) ∙ found.1
-message_injective (messages.Other m) n p q same =
-    let own = type_in m.kind [] m.bits in
-    let found = type_other m.kind n
-    (body_of_fields [] m.bits) p.spelled.fits.0 p.not_system p.not_neighbors p.not_channels q
-    (sym own ∙ same) in
-    ap messages.Other (other_injective m found.0 p found.2 (own ∙ found.3)) ∙ found.1
+pub message_is_admitted : (body : List Bool) → HasMessage body →
+    admits (number (take 8 body)) (length body) ≡ true
+message_is_admitted body has =
+    let read : body_reading body ≡ Some has.message =
+    ap body_reading has.same ∙ reads_body has.message has.spelled in
+    (typed_from body (body_told body has.message read)).admitted
 
--- the body of a message's capsule
-pub body_of_capsule : (form : CheckForm) (bits body : List Bool) (m : PagingMessage) →
-    bits ≡ capsule M30 form body → bits ≡ paging_capsule form m → body ≡ message_body m
-unfolding paging_capsule
-body_of_capsule form bits body m is same = sym (inner-capsule M30 form body)
-    ∙ ap (inner M30) (sym is ∙ same) ∙ inner-capsule M30 form (message_body m)
+-- WHAT THE CODE READS AND WRITES
+pub body_found : (body : List Bool) (result : Option PagingMessage) → result ≡ body_reading body →
+    IfSome result (λ m. IsPagingMessage m × (body ≡ message_body m))
+body_found body None e = tt
+body_found body (Some m) e = body_is_read body m (sym e)
+
+-- no type, or none that fills a capsule
+pub no_body : (body : List Bool) → ¬ (FillsCapsule M30 body) → None ≡ body_reading body
+unfolding body_reading
+no_body body never =
+    elim (cases_Bool (is_body body)) [
+      | inl t ↦ absurd (never (typed_from body t).fills)
+      | inr f ↦ rw f refl
+    ]
+
+pub no_type : (body : List Bool) → None ≡ number_part 8 body → None ≡ body_reading body
+unfolding body_reading
+no_type body none =
+    elim (cases_Bool (is_body body)) [
+      | inl t ↦
+          let typed = typed_from body t in
+          let k = number (take 8 body) in
+          let first : ℕ × List Bool = (k, drop 8 body) in
+          let some : None ≡ Some first =
+          none ∙ ap (number_part 8) typed.same ∙ number_again 8 k (drop 8 body) typed.kind in
+          absurd (cc)
+      | inr f ↦ rw f refl
+    ]
+
+pub typed_length : (body w : List Bool) (k : ℕ) → FillsCapsule M30 body →
+    Some (k, w) ≡ number_part 8 body → length w ≤ 1146
+typed_length body w k fills typed =
+    let t = number_there 8 k body w (sym typed) in
+    omega (arith, fills.whole, fills.most, ap length t.1, length-append (binary 8 k) w)
+
+-- what was read behind a type, by the type's layout
+pub told : (body w : List Bool) (k : ℕ) (s : Shape) (read : Option Contents) →
+    FillsCapsule M30 body → Some (k, w) ≡ number_part 8 body → s ≡ shape_of k →
+    read ≡ reading s w → mapped (message_from k) read ≡ body_reading body
+told body w k s read fills typed layout e =
+    let t = number_there 8 k body w (sym typed) in
+    ap (mapped (message_from k)) (e ∙ ap (λ (r : Shape). reading r w) layout)
+    ∙ sym (typed_reading k w t.0 (subst (FillsCapsule M30) t.1 fills))
+    ∙ ap body_reading (sym t.1)
+
+pub told_is : (body w : List Bool) (k : ℕ) (s : Shape) (c : Contents) → FillsCapsule M30 body →
+    Some (k, w) ≡ number_part 8 body → s ≡ shape_of k → IsOf s c × (w ≡ spelling s c) →
+    IsPagingMessage (message_from k c)
+told_is body w k s c fills typed layout found =
+    let t = number_there 8 k body w (sym typed) in
+    let there = subst (λ (r : Shape). IsOf r c × (w ≡ spelling r c)) layout found in
+    let same : body ≡ binary 8 k ++ spelling (shape_of k) c =
+    t.1 ∙ ap (λ (r : List Bool). binary 8 k ++ r) there.1 in
+    (made_of k c t.0 there.0 (subst (FillsCapsule M30) same fills)).0
+
+-- what is written
+pub record IsWritten (k : ℕ) (s : Shape) (c : Contents) (m : PagingMessage) : Type 0 where
+  pub is : IsOf s c
+  pub same : binary 8 k ++ spelling s c ≡ message_body m
+  pub room : 8 + length (spelling s c) ≤ 1184
+  pub fills : FillsCapsule M30 (message_body m)
+  pub fits : k < 2 ^ 8
+
+pub written : (m : PagingMessage) (k : ℕ) (s : Shape) (c : Contents) → IsPagingMessage m →
+    k ≡ kind_of m → s ≡ shape_of k → c ≡ contents_of m → IsWritten k s c m
+written m k s c is kind layout contents =
+    rw (layout, kind, contents) (
+    let own = says m is in
+    let fills = message_fills m is in
+    let behind = spelling (shape_of (kind_of m)) (contents_of m) in
+    record {
+      is = own.is;
+      same = own.same;
+      room = omega (
+        arith,
+        fills.whole,
+        fills.most,
+        ap length own.same,
+        length-append (binary 8 (kind_of m)) behind,
+        length-binary 8 (kind_of m),
+      );
+      fills = fills;
+      fits = kind_fits m is;
+    })

@@ -5,6 +5,10 @@ use Rattle.chip_core.specs.declared.field.Field.{Field}
 use Rattle.paging_message.specs.Spelling.{body_of_fields, IsSpelled}
 use Rattle.paging_message.specs.declared.fields.ChannelFields.{ChannelFields}
 
+-- the values of the first fields, in the order of the table
+abbrev pub channel_values : ChannelFields → List ℕ
+channel_values m = m.pn ∷ m.seq ∷ []
+
 -- the frequencies, 11 bits each
 abbrev pub channel_records : List ℕ → List Field
 channel_records freqs = map (field 11) freqs

@@ -1,8 +1,8 @@
 pub mod Admitted
 pub mod Channels
-pub mod Faults
 pub mod HalfFrames
 pub mod Laying
+pub mod Layouts
 pub mod Messages
 pub mod Neighbors
 pub mod Others

@@ -5,6 +5,10 @@ use Rattle.chip_core.specs.declared.field.Field.{Field}
 use Rattle.paging_message.specs.Spelling.{body_of_fields, IsSpelled}
 use Rattle.paging_message.specs.declared.fields.NeighborFields.{NeighborFields}
 
+-- the values of the first fields, in the order of the table
+abbrev pub neighbor_values : NeighborFields → List ℕ
+neighbor_values m = m.pn ∷ m.seq ∷ m.inc ∷ []
+
 -- the neighbors, for each its configuration in 3 bits and its offset in 9
 abbrev pub neighbor_records : List ℕ → List ℕ → List Field
 neighbor_records [] pns = []

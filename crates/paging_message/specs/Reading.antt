@@ -1,14 +1,15 @@
 -- The message that a body or a capsule spells, as a function of its bits: each field is the number
 -- that stands at its place.
-use Rattle.std.specs.Prelude.{ℕ, zero, suc, ◌+◌, ◌-◌, ◌*◌, ◌/◌, ◌%◌, ◌==◌, ◌&&◌, if◌then◌else◌, Bool, List, [], ◌∷◌, length, take, drop, nat_le, Option, Some, None, Result, Ok, Err}
-pub use Rattle.chip_core.specs.Bits.{are_same}
+use Rattle.std.specs.Prelude.{ℕ, ◌+◌, ◌-◌, ◌*◌, ◌/◌, ◌%◌, ◌==◌, ◌&&◌, if◌then◌else◌, Bool, List, length, take, drop, nat_le, Option, Some, None}
+use Rattle.chip_core.specs.Readings.{column_at}
 pub use Rattle.chip_core.specs.Readings.{number_at, values_at}
 use Rattle.chip_core.specs.declared.check_form.CheckForm.{CheckForm}
+use Rattle.quality_bits.specs.Capsules.{if_spelled}
+pub use Rattle.quality_bits.specs.Faults.{reading_of}
 use Rattle.paging_message.specs.Admitted.{admits}
 use Rattle.paging_message.specs.Messages.{paging_capsule}
 use Rattle.paging_message.specs.System.{system_of}
 use Rattle.paging_message.specs.Widths.{system_widths}
-use Rattle.paging_message.specs.declared.fault.MessageFault.{MessageFault}
 use Rattle.paging_message.specs.declared.fields.ChannelFields.{ChannelFields}
 use Rattle.paging_message.specs.declared.fields.NeighborFields.{NeighborFields}
 use Rattle.paging_message.specs.declared.message.PagingMessage.{PagingMessage}
@@ -16,17 +17,14 @@ use Rattle.paging_message.specs.declared.message.PagingMessage.TheVariants as me
 
 -- the first so many frequencies
 abbrev pub freqs_at : ℕ → List Bool → List ℕ
-freqs_at zero bits = []
-freqs_at (suc n) bits = number_at 0 11 bits ∷ freqs_at n (drop 11 bits)
+freqs_at = column_at 11 0 11
 
 -- the configurations and the offsets of the first so many neighbors
 abbrev pub configs_at : ℕ → List Bool → List ℕ
-configs_at zero bits = []
-configs_at (suc n) bits = number_at 0 3 bits ∷ configs_at n (drop 12 bits)
+configs_at = column_at 12 0 3
 
 abbrev pub pns_at : ℕ → List Bool → List ℕ
-pns_at zero bits = []
-pns_at (suc n) bits = number_at 3 9 bits ∷ pns_at n (drop 12 bits)
+pns_at = column_at 12 3 9
 
 -- as many neighbors as fit behind the fields before them
 unfoldable pub neighbors_at : List Bool → NeighborFields
@@ -69,16 +67,7 @@ unfoldable pub body_reading : List Bool → Option PagingMessage
 body_reading body = if is_body body then Some
     (message_at (number_at 0 8 body) (drop 8 body)) else None
 
-abbrev pub if_spelled : CheckForm → List Bool → Option PagingMessage → Option PagingMessage
-if_spelled form capsule None = None
-if_spelled form capsule (Some m) = if are_same (paging_capsule form m) capsule then Some m else None
-
 -- the message whose capsule the list is
 unfoldable pub paging_reading : CheckForm → List Bool → Option PagingMessage
 paging_reading form capsule =
-    if_spelled form capsule (body_reading (take (length capsule - 38) (drop 8 capsule)))
-
--- what a reading that may fail gives
-abbrev pub reading_of : Result PagingMessage MessageFault → Option PagingMessage
-reading_of (Ok m) = Some m
-reading_of (Err fault) = None
+    if_spelled (paging_capsule form) capsule (body_reading (take (length capsule - 38) (drop 8 capsule)))

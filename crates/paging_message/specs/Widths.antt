@@ -18,3 +18,17 @@ system_names =
     ∷ codes "wina" ∷ codes "winn" ∷ codes "winr" ∷ codes "age" ∷ codes "pthresh"
     ∷ codes "pframes" ∷ codes "pthen" ∷ codes "pperen" ∷ codes "pdelay" ∷ codes "rescan"
     ∷ codes "tadd" ∷ codes "tdrop" ∷ codes "tcomp" ∷ codes "ttdrop" ∷ []
+
+-- the widths of the first fields of a neighbor list, and their names
+abbrev pub neighbor_widths : List ℕ
+neighbor_widths = 9 ∷ 6 ∷ 4 ∷ []
+
+abbrev pub neighbor_names : List (List ℕ)
+neighbor_names = codes "pn" ∷ codes "seq" ∷ codes "inc" ∷ []
+
+-- those of a list of channels
+abbrev pub channel_widths : List ℕ
+channel_widths = 9 ∷ 6 ∷ []
+
+abbrev pub channel_names : List (List ℕ)
+channel_names = codes "pn" ∷ codes "seq" ∷ []

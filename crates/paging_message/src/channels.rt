@@ -1,16 +1,12 @@
 //! The CDMA Channel List Message.
 
-ghost use Rattle.std.specs.Prelude.{◌≡◌, ◌+◌, ◌≤◌, ◌<◌, ◌++◌, length, IfOk, IsOk, OnOk};
-ghost use Rattle.chip_core.specs.Bits.{binary};
-ghost use Rattle.chip_core.specs.Fields.{spelled, FieldsFit};
-ghost use Rattle.quality_bits.specs.Capsules.{FillsCapsule};
-ghost use Rattle.quality_bits.specs.declared.kind.Kind.TheVariants.{M30};
-ghost use Rattle.paging_message.specs.Channels.{channel_body, channel_head, channel_records, IsChannelList};
-ghost use Rattle.paging_message.specs.declared.fields.ChannelFields.{ChannelFields as TheFields};
+ghost use Rattle.std.specs.Prelude.{◌≡◌};
+ghost use Rattle.paging_message.specs.Channels.{channel_values, IsChannelList};
+ghost use Rattle.paging_message.specs.Layouts.{channel_contents, channels_from};
 
-use crate::fault::NoFields;
-use crate::fields::{ChannelFields, field};
-use chip_core::{BitReader, Bits, Field, Numbers};
+use crate::fields::ChannelFields;
+use chip_core::{Bits, Numbers};
+use message_layout::Contents;
 use std::marker::Model;
 
 /// A CDMA Channel List Message: fields that have a spelling. Contracts see the fields.
@@ -43,77 +39,34 @@ impl ChannelList {
         self.fields
     }
 
-    /// Reads the fields behind the message type; `NoFields` where they aren't there or more than 7
-    /// bits are left.
-    pub(crate) fn read(reader: &mut BitReader<'_>) -> Result<ChannelList, NoFields>
-        requires { FillsCapsule M30 (binary 8 4 ++ reader.old) }
-        ensures found { IfOk result
-            (λ m. IsChannelList m × (binary 8 4 ++ reader.old ≡ channel_body m)) }
-        ensures only { (m : TheFields) →
-            IsChannelList m → binary 8 4 ++ reader.old ≡ channel_body m → result ≡ Ok m }
+    /// The values of the first fields, in the order of `CHANNEL_FIELDS`.
+    pub fn values(&self) -> [u64; 2]
+        ensures { result ≡ channel_values self.now }
     {
-        let pn = reader.take(9)? as u16;
-        let seq = reader.take(6)? as u8;
-        let freqs = read_freqs(reader)?;
-        let rest = reader.rest();
-        if rest.len() > 7 {
-            return Err(NoFields);
+        [u64::from(self.fields.pn), u64::from(self.fields.seq)]
+    }
+
+    /// The message that says so.
+    pub(crate) fn of(contents: &Contents) -> ChannelList
+        requires { IsChannelList (channels_from contents.now) }
+        ensures { result ≡ channels_from contents.now }
+    {
+        ChannelList {
+            fields: ChannelFields {
+                pn: contents.fixed.get(0) as u16,
+                seq: contents.fixed.get(1) as u8,
+                freqs: contents.columns[0],
+                rest: contents.rest,
+            },
         }
-        let fields = ChannelFields {
-            pn,
-            seq,
-            freqs,
-            rest,
-        };
-        Ok(ChannelList { fields })
     }
 
-    /// The body that spells the message.
-    pub(crate) fn body(&self) -> Bits
-        ensures value { result ≡ channel_body self.now }
-        ensures fills { FillsCapsule M30 result }
+    /// What the message says behind its type, as its layout has it.
+    pub(crate) fn contents(&self) -> Contents
+        ensures value { result ≡ channel_contents self.now }
+        ensures spelled { IsChannelList self.now }
     {
-        let mut body = Bits::empty();
-        body.append_fields(&head_of(&self.fields));
-        append_freqs(&mut body, &self.fields.freqs);
-        body.append_all(&self.fields.rest);
-        body
-    }
-}
-
-/// The message type and the fields before the frequencies.
-fn head_of(fields: &ChannelFields) -> [Field; 3]
-    ensures { result ≡ channel_head fields.now }
-{
-    [
-        field(8, 4),
-        field(9, fields.pn.into()),
-        field(6, fields.seq.into()),
-    ]
-}
-
-/// Reads as many frequencies as fit.
-fn read_freqs(reader: &mut BitReader<'_>) -> Result<Numbers, NoFields>
-    ensures spelled { IfOk result
-        (λ freqs. reader.old ≡ spelled (channel_records freqs) ++ reader.new) }
-    ensures fit { IfOk result (λ freqs. FieldsFit (channel_records freqs)) }
-    ensures left { OnOk result (length reader.new < 11) }
-    ensures enough { length reader.old ≤ 1184 → IsOk result }
-{
-    let mut freqs = Numbers::empty();
-    for _record in 0..reader.left() / 11 {
-        freqs.push(reader.take(11)? as u32)?;
-    }
-    Ok(freqs)
-}
-
-/// Adds the frequencies at the end.
-fn append_freqs(body: &mut Bits, freqs: &Numbers)
-    requires fit { FieldsFit (channel_records freqs.now) }
-    requires room { length body.old + length (spelled (channel_records freqs.now)) ≤ 1184 }
-    ensures { body.new ≡ body.old ++ spelled (channel_records freqs.now) }
-{
-    for i in 0..freqs.len() {
-        body.append_number(11, u64::from(freqs.get(i)));
+        let columns = [self.fields.freqs, Numbers::empty(), Numbers::empty()];
+        Contents::plain(&self.values(), columns, self.fields.rest)
     }
 }

@@ -1,8 +1,6 @@
 //! What the messages say, each field as a number of the width that the standard gives it.
 
-ghost use Rattle.std.specs.Prelude.{◌≡◌};
-
-use chip_core::{Bits, Field, Numbers};
+use chip_core::{Bits, Numbers};
 
 /// What a System Parameters Message says. `SYSTEM_FIELDS` has the widths of the fields.
 ///
@@ -128,11 +126,4 @@ pub struct OtherFields {
     pub kind: u8,
     /// All bits behind it.
     pub bits: Bits,
-}
-
-/// A field of a width.
-pub(crate) fn field(width: u8, value: u64) -> Field
-    ensures { result ≡ record { width = width; value = value } }
-{
-    Field { width, value }
 }

@@ -43,19 +43,19 @@ impl HalfBits {
         self.count
     }
 
-    /// Whether the list has no bits.
-    pub fn is_empty(&self) -> bool
-        ensures { IsTrue result ↔ (self.now ≡ []) }
-    {
-        self.count == 0
-    }
-
     /// Bit `i`, counted from 0.
     pub fn get(&self, i: u16) -> bool
         requires { i < length self.now }
         ensures { slice_get self.now i ≡ Some result }
     {
         self.bits[i as usize]
+    }
+
+    /// Whether there are none.
+    pub fn is_empty(&self) -> bool
+        ensures { IsTrue result ↔ (self.now ≡ []) }
+    {
+        self.len() == 0
     }
 
     /// Adds a bit at the end, where the list is known to have room.

@@ -3,12 +3,12 @@
 #![tactic(auto)]
 
 mod channels;
-mod fault;
 mod fields;
 mod half_bits;
 mod half_framer;
 pub mod laws;
 mod layout;
+mod layouts;
 mod message;
 mod neighbors;
 mod other;
@@ -16,7 +16,6 @@ mod system;
 mod table;
 
 pub use channels::ChannelList;
-pub use fault::MessageFault;
 pub use fields::{ChannelFields, NeighborFields, OtherFields, SystemFields};
 pub use half_bits::HalfBits;
 pub use half_framer::HalfFramer;
@@ -24,5 +23,6 @@ pub use layout::Layout;
 pub use message::PagingMessage;
 pub use neighbors::NeighborList;
 pub use other::OtherMessage;
+pub use quality_bits::MessageFault;
 pub use system::SystemParameters;
-pub use table::{SYSTEM_FIELDS, system_name};
+pub use table::{CHANNEL_FIELDS, NEIGHBOR_FIELDS, SYSTEM_FIELDS, system_name};

@@ -6,12 +6,13 @@ ghost use Rattle.quality_bits.specs.Kinds.{IsChecked};
 ghost use Rattle.quality_bits.specs.declared.kind.Kind.TheVariants.{M30};
 
 use crate::channels::ChannelList;
-use crate::fault::{MessageFault, NoFields};
+use crate::layouts::layout_of;
 use crate::neighbors::NeighborList;
 use crate::other::OtherMessage;
 use crate::system::SystemParameters;
-use chip_core::{BitReader, Bits, CheckForm};
-use quality_bits::{Kind, body_of, capsule_of};
+use chip_core::{Bits, CheckForm};
+use message_layout::{Contents, append, read, read_kind};
+use quality_bits::{Kind, MessageFault, body_of, capsule_of};
 
 /// A message of the paging channel that has a spelling.
 ///
@@ -29,8 +30,9 @@ pub enum PagingMessage {
 }
 
 impl PagingMessage {
+    ghost use Rattle.paging_message.specs.Layouts.{contents_of, kind_of, message_from};
     ghost use Rattle.paging_message.specs.Messages.{message_body, paging_capsule, IsPagingMessage};
-    ghost use Rattle.paging_message.specs.Reading.{paging_reading, reading_of};
+    ghost use Rattle.paging_message.specs.Reading.{body_reading, paging_reading, reading_of};
     ghost use Rattle.paging_message.specs.declared.message.PagingMessage.{PagingMessage as TheMessage};
 
     /// The message that a body spells; `None` exactly where no message has this body.
@@ -39,11 +41,7 @@ impl PagingMessage {
         ensures only { (m : TheMessage) → IsPagingMessage m → body.now ≡ message_body m →
             result ≡ Some m }
     {
-        if fills_capsule(body) {
-            PagingMessage::read(body).ok()
-        } else {
-            None
-        }
+        PagingMessage::read(body)
     }
 
     /// The capsule that spells the message.
@@ -74,8 +72,33 @@ impl PagingMessage {
     {
         let body = body_of(Kind::M30, form, capsule)?;
         match PagingMessage::read(&body) {
-            Ok(message) => Ok(message),
-            Err(NoFields) => Err(MessageFault::BadBody),
+            Some(message) => Ok(message),
+            None => Err(MessageFault::BadBody),
+        }
+    }
+
+    /// The message that a body spells.
+    fn read(body: &Bits) -> Option<PagingMessage>
+        ensures { result ≡ body_reading body.now }
+    {
+        if !fills_capsule(body) {
+            return None;
+        }
+        let (kind, behind) = read_kind(body)?;
+        let contents = read(&layout_of(kind), &behind)?;
+        Some(PagingMessage::of(kind, &contents))
+    }
+
+    /// The message of this type that says so.
+    fn of(kind: u8, contents: &Contents) -> PagingMessage
+        requires { IsPagingMessage (message_from kind contents.now) }
+        ensures { result ≡ message_from kind contents.now }
+    {
+        match kind {
+            1 => PagingMessage::System(SystemParameters::of(contents)),
+            3 => PagingMessage::Neighbors(NeighborList::of(contents)),
+            4 => PagingMessage::Channels(ChannelList::of(contents)),
+            _ => PagingMessage::Other(OtherMessage::of(kind, contents)),
         }
     }
 
@@ -84,27 +107,35 @@ impl PagingMessage {
         ensures value { result ≡ message_body self.now }
         ensures fills { FillsCapsule M30 result }
     {
+        let kind = self.kind();
+        let mut body = Bits::empty();
+        body.append_number(8, u64::from(kind));
+        append(&layout_of(kind), &self.contents(), &mut body);
+        body
+    }
+
+    /// The message type.
+    fn kind(&self) -> u8
+        ensures { result ≡ kind_of self.now }
+    {
         match self {
-            PagingMessage::System(message) => message.body(),
-            PagingMessage::Neighbors(message) => message.body(),
-            PagingMessage::Channels(message) => message.body(),
-            PagingMessage::Other(message) => message.body(),
+            PagingMessage::System(_) => 1,
+            PagingMessage::Neighbors(_) => 3,
+            PagingMessage::Channels(_) => 4,
+            PagingMessage::Other(message) => message.fields().kind,
         }
     }
 
-    /// The message that a body spells, which fills a capsule; else `NoFields`.
-    fn read(body: &Bits) -> Result<PagingMessage, NoFields>
-        requires { FillsCapsule M30 body.now }
-        ensures found { IfOk result (λ m. IsPagingMessage m × (body.now ≡ message_body m)) }
-        ensures only { (m : TheMessage) → IsPagingMessage m → body.now ≡ message_body m →
-            result ≡ Ok m }
+    /// What the message says behind its type, as its layout has it.
+    fn contents(&self) -> Contents
+        ensures value { result ≡ contents_of self.now }
+        ensures spelled { IsPagingMessage self.now }
     {
-        let mut reader = BitReader::new(body);
-        match reader.take(8)? as u8 {
-            1 => Ok(PagingMessage::System(SystemParameters::read(&mut reader)?)),
-            3 => Ok(PagingMessage::Neighbors(NeighborList::read(&mut reader)?)),
-            4 => Ok(PagingMessage::Channels(ChannelList::read(&mut reader)?)),
-            kind => Ok(PagingMessage::Other(OtherMessage::read(kind, &reader))),
+        match self {
+            PagingMessage::System(message) => message.contents(),
+            PagingMessage::Neighbors(message) => message.contents(),
+            PagingMessage::Channels(message) => message.contents(),
+            PagingMessage::Other(message) => message.contents(),
         }
     }
 }

@@ -1,13 +1,12 @@
 //! Messages of types without fields of their own.
 
-ghost use Rattle.std.specs.Prelude.{◌≡◌, ◌≢◌, ◌++◌};
-ghost use Rattle.chip_core.specs.Bits.{binary};
-ghost use Rattle.quality_bits.specs.Capsules.{FillsCapsule};
-ghost use Rattle.quality_bits.specs.declared.kind.Kind.TheVariants.{M30};
-ghost use Rattle.paging_message.specs.Others.{other_body, IsOther};
+ghost use Rattle.std.specs.Prelude.{◌≡◌};
+ghost use Rattle.paging_message.specs.Layouts.{other_contents, other_from};
+ghost use Rattle.paging_message.specs.Others.{IsOther};
 
 use crate::fields::OtherFields;
-use chip_core::{BitReader, Bits};
+use chip_core::{Bits, Numbers};
+use message_layout::Contents;
 use std::marker::Model;
 
 /// A message of any type but 1, 3 and 4: its type and its bits. Contracts see both.
@@ -38,31 +37,25 @@ impl OtherMessage {
         self.fields
     }
 
-    /// The message of this type with the bits that are left.
-    pub(crate) fn read(kind: u8, reader: &BitReader<'_>) -> OtherMessage
-        requires fills { FillsCapsule M30 (binary 8 kind ++ reader.now) }
-        requires not_system { kind ≢ 1 }
-        requires not_neighbors { kind ≢ 3 }
-        requires not_channels { kind ≢ 4 }
-        ensures is { IsOther result }
-        ensures value { result ≡ record { kind = kind; bits = reader.now } }
+    /// The message of this type that says so.
+    pub(crate) fn of(kind: u8, contents: &Contents) -> OtherMessage
+        requires { IsOther (other_from kind contents.now) }
+        ensures { result ≡ other_from kind contents.now }
     {
         OtherMessage {
             fields: OtherFields {
                 kind,
-                bits: reader.rest(),
+                bits: contents.rest,
             },
         }
     }
 
-    /// The body that spells the message.
-    pub(crate) fn body(&self) -> Bits
-        ensures value { result ≡ other_body self.now }
-        ensures fills { FillsCapsule M30 result }
+    /// What the message says behind its type, as its layout has it.
+    pub(crate) fn contents(&self) -> Contents
+        ensures value { result ≡ other_contents self.now }
+        ensures spelled { IsOther self.now }
     {
-        let mut body = Bits::empty();
-        body.append_number(8, u64::from(self.fields.kind));
-        body.append_all(&self.fields.bits);
-        body
+        let columns = [Numbers::empty(), Numbers::empty(), Numbers::empty()];
+        Contents::plain(&[], columns, self.fields.bits)
     }
 }

@@ -1,7 +1,9 @@
-//! The fields of the System Parameters Message by name and width.
+//! The fields of the messages by name and width.
 
-ghost use Rattle.std.specs.Prelude.{◌≡◌, ◌<◌, [], length, map, get_or};
-ghost use Rattle.paging_message.specs.Widths.{system_names, system_widths};
+ghost use Rattle.std.specs.Prelude.{◌≡◌, ◌<◌, [], get_or};
+ghost use Rattle.paging_message.specs.Widths.{system_names};
+
+use message_layout::name_in;
 
 /// The names of the fields of the System Parameters Message in the order in which they are sent,
 /// each with its number of bits. The message type, 8 bits, stands before them.
@@ -47,34 +49,22 @@ pub const SYSTEM_FIELDS: [(&str, u8); 37] = [
     ("ttdrop", 4),
 ];
 
-/// The name of field `i`, counted from 0.
+/// The names of the fields of the Neighbor List Message before its neighbors, each with its number
+/// of bits.
+///
+/// TIA/EIA-95-B, 7.7.2.3.2.3.
+pub const NEIGHBOR_FIELDS: [(&str, u8); 3] = [("pn", 9), ("seq", 6), ("inc", 4)];
+
+/// The names of the fields of the CDMA Channel List Message before its frequencies, each with its
+/// number of bits.
+///
+/// TIA/EIA-95-B, 7.7.2.3.2.4.
+pub const CHANNEL_FIELDS: [(&str, u8); 2] = [("pn", 9), ("seq", 6)];
+
+/// The name of field `i` of the System Parameters Message, counted from 0.
 pub fn system_name(i: usize) -> &'static str
     requires { i < 37 }
     ensures { result.now ≡ get_or system_names i [] }
 {
     name_in(&SYSTEM_FIELDS, i)
-}
-
-/// The number of bits of field `i`, counted from 0.
-pub(crate) fn system_width(i: usize) -> u8
-    requires { i < 37 }
-    ensures { result ≡ get_or system_widths i 0 }
-{
-    width_in(&SYSTEM_FIELDS, i)
-}
-
-/// The name in row `i` of a table.
-fn name_in(table: &[(&'static str, u8)], i: usize) -> &'static str
-    requires { i < length table.now }
-    ensures { result.now ≡ get_or (map (λ row. row.0.now) table.now) i [] }
-{
-    table[i].0
-}
-
-/// The number of bits in row `i` of a table.
-fn width_in(table: &[(&'static str, u8)], i: usize) -> u8
-    requires { i < length table.now }
-    ensures { result ≡ get_or (map (λ row. row.1) table.now) i 0 }
-{
-    table[i].1
 }

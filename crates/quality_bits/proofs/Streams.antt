@@ -11,7 +11,7 @@ use Rattle.quality_bits.proofs.Opened.{stated_bounds, front-none, awaits_says, a
 abbrev pub before : List Piece → Bool → Option (List Bool)
 before pieces starts = cond starts (Some []) (under_way pieces)
 
-from_last_start_new : (pieces : List Piece) (p : Piece) → p.starts ≡ true →
+pub from_last_start_new : (pieces : List Piece) (p : Piece) → p.starts ≡ true →
     from_last_start (pieces ++ p ∷ []) ≡ p ∷ []
 from_last_start_new [] p h = rw h refl
 from_last_start_new (q ∷ pieces) p h = rw (from_last_start_new pieces p h) refl
@@ -32,14 +32,14 @@ extended_from b q p pieces (l ∷ later) =
     let f = lt-ltb 0 (length (l ∷ later)) (omega arith) in
     rw (e, f) refl
 
-from_last_start_more : (pieces : List Piece) (p : Piece) → p.starts ≡ false →
+pub from_last_start_more : (pieces : List Piece) (p : Piece) → p.starts ≡ false →
     from_last_start (pieces ++ p ∷ []) ≡ extended (from_last_start pieces) p
 from_last_start_more [] p h = rw h refl
 from_last_start_more (q ∷ pieces) p h =
     rw (from_last_start_more pieces p h)
     (extended_from q.starts q p pieces (from_last_start pieces))
 
-bodies-more : (message : List Piece) (p : Piece) →
+pub bodies-more : (message : List Piece) (p : Piece) →
     bodies (message ++ p ∷ []) ≡ bodies message ++ p.body
 bodies-more message p = rw (flat_map-append, append-nil) refl
 

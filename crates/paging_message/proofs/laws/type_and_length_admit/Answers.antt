@@ -1,5 +1,4 @@
-use Rattle.paging_message.proofs.Admitting.{admits_message, message_is_admitted}
-use Rattle.paging_message.proofs.Messages.{message_fills}
+use Rattle.paging_message.proofs.Messages.{admits_message, message_fills, message_is_admitted}
 use Rattle.paging_message.proofs.laws.type_and_length_admit.Goals as goal
 
 pub returns-clause-fills : goal.returns-clause-fills

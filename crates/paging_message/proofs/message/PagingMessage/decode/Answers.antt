@@ -1,70 +1,67 @@
-use Rattle.paging_message.proofs.Common.{rules, refl, sym, ap, subst, ◌∙◌, Ok, Err, capsule, IsWhole, IsChecked, M30, whole-capsule}
-use Rattle.paging_message.proofs.Common.{checked-capsule, message_body, paging_capsule, BadBody}
-use Rattle.paging_message.proofs.Messages.{body_of_capsule, message_fills, message_injective}
-use Rattle.paging_message.proofs.Readings.{reading_decoded}
+use Rattle.paging_message.proofs.Common.{rules, refl, sym, ap, ◌∙◌, Ok, M30, IsDecoded, IsNone, fault_read, whole_checked, message_body}
+use Rattle.paging_message.proofs.Common.{IsPagingMessage, paging_capsule, paging_reading, body_reading, decoded, uncapsuled, undecoded}
+use Rattle.paging_message.proofs.Readings.{are_read}
 use Rattle.paging_message.proofs.message.PagingMessage.decode.Goals as goal
+use Rattle.paging_message.proofs.message.PagingMessage.decode.Goals.{After-from_residual, In-None, In-Some}
+
+-- what is known at the three exits
+uncapsuled_at : (c : After-from_residual) →
+    IsNone M30 c.args.form IsPagingMessage message_body (paging_reading c.args.form) c.args.capsule.now
+uncapsuled_at c =
+    uncapsuled M30 c.args.form IsPagingMessage message_body body_reading (paging_reading c.args.form)
+    c.args.capsule.now (are_read c.args.form)
+    (λ inside fills spelled. cc (c.in_err-body.ensures.only inside fills spelled))
+
+read_at : (c : In-Some) →
+    IsDecoded M30 c.args.form IsPagingMessage message_body (paging_reading c.args.form)
+    c.args.capsule.now c.in-Some.message
+read_at c =
+    decoded M30 c.args.form IsPagingMessage message_body body_reading (paging_reading c.args.form)
+    c.args.capsule.now c.in_ok-body.body c.in-Some.message (are_read c.args.form)
+    c.in_ok-body.ensures.found c.in-Some.ensures
+
+unread_at : (c : In-None) →
+    IsNone M30 c.args.form IsPagingMessage message_body (paging_reading c.args.form) c.args.capsule.now
+unread_at c =
+    undecoded M30 c.args.form IsPagingMessage message_body body_reading (paging_reading c.args.form)
+    c.args.capsule.now c.in_ok-body.body (are_read c.args.form) c.in_ok-body.ensures.found
+    c.in-None.ensures
 
 pub returns-in_err-body-clause-only : goal.returns-in_err-body-clause-only
 unfolding paging_capsule
-returns-in_err-body-clause-only c m is same =
-    absurd (cc (c.in_err-body.ensures.only (message_body m) (message_fills m is) same))
-
-pub returns-in-Ok-clause-found : goal.returns-in-Ok-clause-found
-unfolding paging_capsule
-returns-in-Ok-clause-found c =
-    let read = c.in-Ok.ensures.found in
-    (read.0, c.in_ok-body.ensures.found.1 ∙ ap (capsule M30 c.args.form) read.1)
-
-pub returns-in-Ok-clause-only : goal.returns-in-Ok-clause-only
-returns-in-Ok-clause-only c m is same =
-    let read = c.in-Ok.ensures.found in
-    let body = body_of_capsule c.args.form c.args.capsule.now c.in_ok-body.body m
-    c.in_ok-body.ensures.found.1 same in
-    ap Ok (message_injective c.in-Ok.message m read.0 is (sym read.1 ∙ body))
-
-pub returns-in-Ok-clause-bad_body : goal.returns-in-Ok-clause-bad_body
-unfolding paging_capsule
-returns-in-Ok-clause-bad_body c =
-    let read = c.in-Ok.ensures.found in (
-      λ bad. absurd (cc bad),
-      λ none. absurd (none.2 c.in-Ok.message read.0 (c.in_ok-body.ensures.found.1
-          ∙ ap (capsule M30 c.args.form) read.1)),
-    )
-
-pub returns-in-Err-clause-only : goal.returns-in-Err-clause-only
-returns-in-Err-clause-only c m is same =
-    let body = body_of_capsule c.args.form c.args.capsule.now c.in_ok-body.body m
-    c.in_ok-body.ensures.found.1 same in
-    absurd (cc (c.in-Err.ensures.only m is body))
-
-pub returns-in-Err-clause-bad_body : goal.returns-in-Err-clause-bad_body
-returns-in-Err-clause-bad_body c =
-    let found = c.in_ok-body.ensures.found in
-    let whole = subst IsWhole (sym found.1)
-    (whole-capsule M30 c.args.form c.in_ok-body.body found.0) in
-    let checked = subst (IsChecked M30 c.args.form) (sym found.1)
-    (checked-capsule M30 c.args.form c.in_ok-body.body) in (
-      λ bad. (
-        whole,
-        checked,
-        λ m is same.
-            let body = body_of_capsule c.args.form c.args.capsule.now c.in_ok-body.body m found.1
-            same in
-            absurd (cc (c.in-Err.ensures.only m is body)),
-      ),
-      λ none. refl,
-    )
+returns-in_err-body-clause-only c m is same = absurd ((uncapsuled_at c).never m is same)
 
 pub returns-in_err-body-clause-reading : goal.returns-in_err-body-clause-reading
 returns-in_err-body-clause-reading c =
-    reading_decoded c.args.form c.args.capsule.now c.from_residual.result (search rules)
-    (returns-in_err-body-clause-only c)
+    fault_read c.from_residual.result (search rules) ∙ sym (uncapsuled_at c).reading
 
-pub returns-in-Ok-clause-reading : goal.returns-in-Ok-clause-reading
-returns-in-Ok-clause-reading c =
-    reading_decoded c.args.form c.args.capsule.now (Ok c.in-Ok.message)
-    (returns-in-Ok-clause-found c) (returns-in-Ok-clause-only c)
+pub returns-in-Some-clause-found : goal.returns-in-Some-clause-found
+unfolding paging_capsule
+returns-in-Some-clause-found c = (read_at c).found
 
-pub returns-in-Err-clause-reading : goal.returns-in-Err-clause-reading
-returns-in-Err-clause-reading c =
-    reading_decoded c.args.form c.args.capsule.now (Err BadBody) tt (returns-in-Err-clause-only c)
+pub returns-in-Some-clause-only : goal.returns-in-Some-clause-only
+unfolding paging_capsule
+returns-in-Some-clause-only c m is same = ap Ok ((read_at c).only m is same)
+
+pub returns-in-Some-clause-reading : goal.returns-in-Some-clause-reading
+returns-in-Some-clause-reading c = sym (read_at c).reading
+
+pub returns-in-Some-clause-bad_body : goal.returns-in-Some-clause-bad_body
+unfolding paging_capsule
+returns-in-Some-clause-bad_body c =
+    let found = (read_at c).found in
+    (λ bad. absurd (cc bad), λ none. absurd (none.2 c.in-Some.message found.0 found.1))
+
+pub returns-in-None-clause-only : goal.returns-in-None-clause-only
+unfolding paging_capsule
+returns-in-None-clause-only c m is same = absurd ((unread_at c).never m is same)
+
+pub returns-in-None-clause-reading : goal.returns-in-None-clause-reading
+returns-in-None-clause-reading c = sym (unread_at c).reading
+
+pub returns-in-None-clause-bad_body : goal.returns-in-None-clause-bad_body
+unfolding paging_capsule
+returns-in-None-clause-bad_body c =
+    let told = whole_checked M30 c.args.form c.args.capsule.now c.in_ok-body.body
+    c.in_ok-body.ensures.found in
+    (λ bad. (told.0, told.1, (unread_at c).never), λ none. refl)

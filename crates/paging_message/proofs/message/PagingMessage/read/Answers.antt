@@ -1,97 +1,43 @@
-use Rattle.paging_message.proofs.Common.{◌≡◌, ◌≤◌, ◌++◌, length, sym, ap, ◌∙◌, arith, rules, Ok, binary, message_body, other_body}
-use Rattle.paging_message.proofs.Messages.{least_bits, type_1, type_3, type_4, type_other}
-use Rattle.paging_message.proofs.Others.{other_injective, other_typed}
-use Rattle.paging_message.specs.declared.message.PagingMessage.TheVariants as messages
+use Rattle.paging_message.proofs.Common.{◌≡◌, ◌≤◌, None, Some, length, subst, sym, ap, ◌∙◌, count_in, Shape}
+use Rattle.paging_message.proofs.ByLayout.{few_records, lawful}
+use Rattle.paging_message.proofs.Messages.{no_body, no_type, told, told_is, typed_length}
 use Rattle.paging_message.proofs.message.PagingMessage.read.Goals as goal
 
-pub returns-in_err-take-clause-only : goal.returns-in_err-take-clause-only
-returns-in_err-take-clause-only c m is same =
-    let some : 8 ≤ length c.new-reader.result =
-    omega (arith, ap length c.new-reader.ensures, ap length same, least_bits m) in
-    absurd (cc (c.in_err-take.ensures.enough.1 some))
+pub returns-then-not-fills_capsule : goal.returns-then-not-fills_capsule
+returns-then-not-fills_capsule c =
+    no_body c.args.body.now (λ fills. cc (c.fills_capsule.ensures.1 fills, c.if-not-fills_capsule.true))
 
-pub returns-in_err-read-in-1-clause-only : goal.returns-in_err-read-in-1-clause-only
-returns-in_err-read-in-1-clause-only c m is same =
-    let typed : c.args.body.now ≡ binary 8 1 ++ c.take.new.self = sym c.new-reader.ensures
-    ∙ c.in_ok-take.ensures.spelled ∙ ap (λ k. binary 8 k ++ c.take.new.self) c.in-1.is in
-    let found = type_1 m c.take.new.self is (sym typed ∙ same) in
-    absurd (cc (c.in_err-read-in-1.ensures.only found.0 found.2 found.3))
+pub returns-in_err-kind : goal.returns-in_err-kind
+returns-in_err-kind c =
+    let none : c.from_residual.result ≡ None = cc in
+    none ∙ no_type c.args.body.now c.in_err-kind.ensures
 
-pub returns-in_ok-read-in-1-clause-found : goal.returns-in_ok-read-in-1-clause-found
-returns-in_ok-read-in-1-clause-found c =
-    let typed : c.args.body.now ≡ binary 8 1 ++ c.take.new.self = sym c.new-reader.ensures
-    ∙ c.in_ok-take.ensures.spelled ∙ ap (λ k. binary 8 k ++ c.take.new.self) c.in-1.is in
-    (c.in_ok-read-in-1.ensures.found.0, typed ∙ c.in_ok-read-in-1.ensures.found.1)
+pub read-requires-clause-lawful : goal.read-requires-clause-lawful
+read-requires-clause-lawful c = rw c.layout_of.ensures (lawful c.in_ok-kind.kind)
 
-pub returns-in_ok-read-in-1-clause-only : goal.returns-in_ok-read-in-1-clause-only
-returns-in_ok-read-in-1-clause-only c m is same =
-    let typed : c.args.body.now ≡ binary 8 1 ++ c.take.new.self = sym c.new-reader.ensures
-    ∙ c.in_ok-take.ensures.spelled ∙ ap (λ k. binary 8 k ++ c.take.new.self) c.in-1.is in
-    let found = type_1 m c.take.new.self is (sym typed ∙ same) in
-    let read : c.in_ok-read-in-1.field-0 ≡ found.0 =
-    cc (c.in_ok-read-in-1.ensures.only found.0 found.2 found.3) in
-    ap Ok (ap messages.System read ∙ found.1)
+pub read-requires-clause-room : goal.read-requires-clause-room
+read-requires-clause-room c =
+    subst (λ (s : Shape). count_in s.records (length c.in_ok-kind.behind) ≤ 128)
+    (sym c.layout_of.ensures) (few_records c.in_ok-kind.kind (length c.in_ok-kind.behind)
+    (typed_length c.args.body.now c.in_ok-kind.behind c.in_ok-kind.kind
+    (c.fills_capsule.ensures.0 c.if-not-fills_capsule.false) c.in_ok-kind.ensures))
 
-pub returns-in_err-read-in-3-clause-only : goal.returns-in_err-read-in-3-clause-only
-returns-in_err-read-in-3-clause-only c m is same =
-    let typed : c.args.body.now ≡ binary 8 3 ++ c.take.new.self = sym c.new-reader.ensures
-    ∙ c.in_ok-take.ensures.spelled ∙ ap (λ k. binary 8 k ++ c.take.new.self) c.in-3.is in
-    let found = type_3 m c.take.new.self is (sym typed ∙ same) in
-    absurd (cc (c.in_err-read-in-3.ensures.only found.0 found.2 found.3))
+pub returns-in_err-contents : goal.returns-in_err-contents
+returns-in_err-contents c =
+    let none : c.from_residual-in_err-contents.result ≡ None = cc in
+    none ∙ told c.args.body.now c.in_ok-kind.behind c.in_ok-kind.kind _ None
+    (c.fills_capsule.ensures.0 c.if-not-fills_capsule.false) c.in_ok-kind.ensures
+    c.layout_of.ensures c.in_err-contents.ensures.reading
 
-pub returns-in_ok-read-in-3-clause-found : goal.returns-in_ok-read-in-3-clause-found
-returns-in_ok-read-in-3-clause-found c =
-    let typed : c.args.body.now ≡ binary 8 3 ++ c.take.new.self = sym c.new-reader.ensures
-    ∙ c.in_ok-take.ensures.spelled ∙ ap (λ k. binary 8 k ++ c.take.new.self) c.in-3.is in
-    (c.in_ok-read-in-3.ensures.found.0, typed ∙ c.in_ok-read-in-3.ensures.found.1)
+pub of-requires : goal.of-requires
+of-requires c =
+    told_is c.args.body.now c.in_ok-kind.behind c.in_ok-kind.kind _ c.in_ok-contents.contents
+    (c.fills_capsule.ensures.0 c.if-not-fills_capsule.false) c.in_ok-kind.ensures
+    c.layout_of.ensures c.in_ok-contents.ensures.found
 
-pub returns-in_ok-read-in-3-clause-only : goal.returns-in_ok-read-in-3-clause-only
-returns-in_ok-read-in-3-clause-only c m is same =
-    let typed : c.args.body.now ≡ binary 8 3 ++ c.take.new.self = sym c.new-reader.ensures
-    ∙ c.in_ok-take.ensures.spelled ∙ ap (λ k. binary 8 k ++ c.take.new.self) c.in-3.is in
-    let found = type_3 m c.take.new.self is (sym typed ∙ same) in
-    let read : c.in_ok-read-in-3.field-0 ≡ found.0 =
-    cc (c.in_ok-read-in-3.ensures.only found.0 found.2 found.3) in
-    ap Ok (ap messages.Neighbors read ∙ found.1)
-
-pub returns-in_err-read-in-4-clause-only : goal.returns-in_err-read-in-4-clause-only
-returns-in_err-read-in-4-clause-only c m is same =
-    let typed : c.args.body.now ≡ binary 8 4 ++ c.take.new.self = sym c.new-reader.ensures
-    ∙ c.in_ok-take.ensures.spelled ∙ ap (λ k. binary 8 k ++ c.take.new.self) c.in-4.is in
-    let found = type_4 m c.take.new.self is (sym typed ∙ same) in
-    absurd (cc (c.in_err-read-in-4.ensures.only found.0 found.2 found.3))
-
-pub returns-in_ok-read-in-4-clause-found : goal.returns-in_ok-read-in-4-clause-found
-returns-in_ok-read-in-4-clause-found c =
-    let typed : c.args.body.now ≡ binary 8 4 ++ c.take.new.self = sym c.new-reader.ensures
-    ∙ c.in_ok-take.ensures.spelled ∙ ap (λ k. binary 8 k ++ c.take.new.self) c.in-4.is in
-    (c.in_ok-read-in-4.ensures.found.0, typed ∙ c.in_ok-read-in-4.ensures.found.1)
-
-pub returns-in_ok-read-in-4-clause-only : goal.returns-in_ok-read-in-4-clause-only
-returns-in_ok-read-in-4-clause-only c m is same =
-    let typed : c.args.body.now ≡ binary 8 4 ++ c.take.new.self = sym c.new-reader.ensures
-    ∙ c.in_ok-take.ensures.spelled ∙ ap (λ k. binary 8 k ++ c.take.new.self) c.in-4.is in
-    let found = type_4 m c.take.new.self is (sym typed ∙ same) in
-    let read : c.in_ok-read-in-4.field-0 ≡ found.0 =
-    cc (c.in_ok-read-in-4.ensures.only found.0 found.2 found.3) in
-    ap Ok (ap messages.Channels read ∙ found.1)
-
-pub returns-in_default-clause-found : goal.returns-in_default-clause-found
-returns-in_default-clause-found c =
-    let typed : c.args.body.now ≡ binary 8 c.in_ok-take.field-0 ++ c.take.new.self =
-    sym c.new-reader.ensures ∙ c.in_ok-take.ensures.spelled in (
-      c.read-in_default.ensures.is,
-      typed ∙ other_typed c.in_ok-take.field-0 c.take.new.self
-          ∙ ap other_body (sym c.read-in_default.ensures.value),
-    )
-
-pub returns-in_default-clause-only : goal.returns-in_default-clause-only
-returns-in_default-clause-only c m is same =
-    let typed : c.args.body.now ≡ binary 8 c.in_ok-take.field-0 ++ c.take.new.self =
-    sym c.new-reader.ensures ∙ c.in_ok-take.ensures.spelled in
-    let found = type_other c.in_ok-take.field-0 m c.take.new.self c.in_ok-take.ensures.fits
-    (search rules) (search rules) (search rules) is (sym typed ∙ same) in
-    let own = returns-in_default-clause-found c in
-    ap Ok (ap messages.Other
-    (other_injective _ found.0 own.0 found.2 (sym own.1 ∙ same ∙ ap message_body (sym found.1)))
-    ∙ found.1)
+pub returns : goal.returns
+returns c =
+    ap Some c.of.ensures
+    ∙ told c.args.body.now c.in_ok-kind.behind c.in_ok-kind.kind _ (Some c.in_ok-contents.contents)
+    (c.fills_capsule.ensures.0 c.if-not-fills_capsule.false) c.in_ok-kind.ensures
+    c.layout_of.ensures c.in_ok-contents.ensures.reading
