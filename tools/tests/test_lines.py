@@ -337,7 +337,9 @@ class Documents(unittest.TestCase):
         """The names and widths of the tables by which the program reads messages and writes lines."""
         traffic = text_of("crates", "traffic_message", "src", "table.rt")
         paging = text_of("crates", "paging_message", "src", "table.rt")
+        sync = text_of("crates", "sync_message", "src", "table.rt")
         for name, fields, source in (
+            ("SYNC_FIELDS", SYNC_FIELDS, sync),
             ("SYSTEM_FIELDS", SYSTEM_FIELDS, paging),
             ("HEAD_FIELDS", HEAD_FIELDS, traffic),
             ("IN_TRAFFIC_FIELDS", IN_TRAFFIC_FIELDS, traffic),
@@ -346,10 +348,7 @@ class Documents(unittest.TestCase):
         ):
             rows = re.search(rf"pub const {name}: [^=]*= \[(.*?)\];", source, re.S)[1]
             self.check_rows(re.findall(r'\("(\w+)", (\d+)\)', rows), fields)
-        source = text_of("crates", "sync_message", "src", "table.rt")
-        rows = re.findall(r'name: b"(\w+)",\s*width: (\d+),', source)
-        self.check_rows(rows[:-1], SYNC_FIELDS)
-        self.assertEqual(rows[-1], ("freq", "11"))
+        self.assertIn('pub const FREQ_FIELD: FieldRow = ("freq", 11);', sync)
 
     def check_rows(self, rows: list[tuple[str, str]], fields: tuple) -> None:
         self.assertEqual([name for name, _ in rows], [field.name for field in fields])

@@ -121,40 +121,40 @@ pub const SYNC_NUMBERS: [NumberField; 9] = [
     },
     NumberField {
         key: b" prev=",
-        most: (1 << SYNC_FIELDS[0].width) - 1,
+        most: (1 << SYNC_FIELDS[0].1) - 1,
     },
     NumberField {
         key: b" min=",
-        most: (1 << SYNC_FIELDS[1].width) - 1,
+        most: (1 << SYNC_FIELDS[1].1) - 1,
     },
     NumberField {
         key: b" sid=",
-        most: (1 << SYNC_FIELDS[2].width) - 1,
+        most: (1 << SYNC_FIELDS[2].1) - 1,
     },
     NumberField {
         key: b" nid=",
-        most: (1 << SYNC_FIELDS[3].width) - 1,
+        most: (1 << SYNC_FIELDS[3].1) - 1,
     },
     NumberField {
         key: b" lp=",
-        most: (1 << SYNC_FIELDS[7].width) - 1,
+        most: (1 << SYNC_FIELDS[7].1) - 1,
     },
     NumberField {
         key: b" ltm=",
-        most: (1 << SYNC_FIELDS[8].width) - 1,
+        most: (1 << SYNC_FIELDS[8].1) - 1,
     },
     NumberField {
         key: b" daylt=",
-        most: (1 << SYNC_FIELDS[9].width) - 1,
+        most: (1 << SYNC_FIELDS[9].1) - 1,
     },
     NumberField {
         key: b" prat=",
-        most: (1 << SYNC_FIELDS[10].width) - 1,
+        most: (1 << SYNC_FIELDS[10].1) - 1,
     },
 ];
 
 /// The frequency of a `sync` line, which may be left out.
 pub const FREQ_NUMBER: NumberField = NumberField {
     key: b" freq=",
-    most: (1 << FREQ_FIELD.width) - 1,
+    most: (1 << FREQ_FIELD.1) - 1,
 };

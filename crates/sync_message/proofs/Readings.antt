@@ -1,27 +1,28 @@
 -- What stands at the places of a capsule's fields.
-use Rattle.std.proofs.Common.{◌≡◌, ℕ, ◌+◌, ◌-◌, ◌%◌, ◌^◌, ◌<◌, ◌==◌, ◌&&◌, Bool, true, false, List, [], ◌∷◌, ◌++◌, length, take, drop, refl, sym, ap, ◌∙◌, arith, append_assoc, length-append, Option, Some, None, Result, Ok, Err, inl, inr, nat_lt, nat_le}
-use Rattle.std.specs.Prelude.{IfOk}
-use Rattle.std.proofs.lemmas.List.{take_at, drop_at, drop-drop}
+use Rattle.std.proofs.Common.{◌≡◌, ℕ, ◌+◌, ◌-◌, ◌%◌, ◌^◌, ◌<◌, ◌==◌, ◌&&◌, Bool, true, false, List, [], ◌∷◌, ◌++◌, length, get_or, take, drop, refl, sym, ap, ◌∙◌, arith, append_assoc, Option, Some, None, inl, inr, nat_lt, nat_le}
+use Rattle.std.proofs.lemmas.List.{append-nil, take_at, drop_at}
 use Rattle.std.proofs.lemmas.Bool.{and_parts, and_from, cases_Bool, ltb-true, lt-ltb, leb-true, le-leb, eqb-true, eq-eqb, ne_eqb}
-use Rattle.chip_core.specs.Bits.{number, binary}
-use Rattle.chip_core.specs.Fields.{field, spelled, FieldsFit}
+use Rattle.chip_core.specs.Bits.{are_same, binary}
+use Rattle.chip_core.specs.Fields.{spelled, in_widths, FieldsFit}
+use Rattle.chip_core.specs.Readings.{number_at, values_at}
 use Rattle.chip_core.specs.declared.field.Field.{Field}
 use Rattle.chip_core.specs.declared.check_form.CheckForm.{CheckForm}
-use Rattle.chip_core.proofs.Digits.{number-binary}
-use Rattle.chip_core.proofs.FieldLists.{length-binary, spelled-append}
-use Rattle.quality_bits.specs.Capsules.{octets, capsule, capsule_front}
+use Rattle.chip_core.proofs.BitLists.{same_from, same_refl}
+use Rattle.chip_core.proofs.ValueLists.{behind_front, dropped, length-in_widths, number_front, values_again}
+use Rattle.message_layout.proofs.Columns.{in_row}
+use Rattle.quality_bits.specs.Capsules.{octets, capsule, capsule_front, FillsCapsule}
 use Rattle.quality_bits.specs.Kinds.{sent_check}
 use Rattle.quality_bits.specs.declared.kind.Kind.TheVariants.{M30}
+use Rattle.quality_bits.proofs.Decoded.{decoded, uncapsuled, undecoded, AreRead, IsDecoded, IsNone}
 use Rattle.quality_bits.proofs.Wholes.{length-capsule}
-use Rattle.sync_message.specs.SyncMessage.{fixed_fields, freq_fields, sync_body, sync_capsule, IsSyncMessage}
+use Rattle.sync_message.specs.Layouts.{body_reading}
+use Rattle.sync_message.specs.Reading.{is_shortest, field_at, fields_at, fields_fit, is_tail, is_message, sync_reading}
+use Rattle.sync_message.specs.Rows.{sync_place, sync_values, sync_widths}
+use Rattle.sync_message.specs.SyncMessage.{fixed_fields, sync_body, sync_capsule, IsSyncMessage}
 use Rattle.sync_message.specs.Tails.{IsTail}
-use Rattle.chip_core.specs.Bits.{are_same}
-use Rattle.chip_core.specs.Readings.{number_at}
-use Rattle.chip_core.proofs.BitLists.{same_from, same_refl}
-use Rattle.sync_message.specs.Reading.{is_shortest, fields_at, fields_fit, is_tail, is_message, sync_reading, reading_of}
 use Rattle.sync_message.specs.declared.fields.SyncFields.{SyncFields}
-use Rattle.sync_message.specs.declared.fault.MessageFault.{MessageFault}
-use Rattle.sync_message.proofs.Bodies.{widths, length-spelled, tail, sync_body-parts, length-body, admitted, fixed_fit, tail_of}
+use Rattle.sync_message.proofs.Bodies.{admitted, fixed_fit, length-body, sync_body-parts, tail, tail-some, tail_of}
+use Rattle.sync_message.proofs.ByLayout.{body_again, body_there}
 
 -- THE TESTS
 pub fit_from : (fs : List Field) → fields_fit fs ≡ true → FieldsFit fs
@@ -67,73 +68,54 @@ message_to m is =
     and_from (fields_fit (fixed_fields m)) (is_tail m.freq m.rest)
     (fit_to (fixed_fields m) (fixed_fit m is)) (tail_to m.freq m.rest (tail_of m m.freq refl is))
 
--- ONE FIELD
--- a field behind others stands where their widths end
-pub field_there : (before behind : List Field) (f : Field) (more : List Bool) (place : ℕ) →
-    place ≡ widths before → f.value < 2 ^ f.width →
-    number_at place f.width (spelled (before ++ f ∷ behind) ++ more) ≡ f.value
-field_there before behind f more place here fits =
-    let others : List Bool = spelled behind ++ more in
-    let parted : spelled (before ++ f ∷ behind) ++ more ≡
-    spelled before ++ (binary f.width f.value ++ others) =
-    ap (λ (bits : List Bool). bits ++ more) (spelled-append before (f ∷ behind))
-    ∙ append_assoc (spelled before) (binary f.width f.value ++ spelled behind) more
-    ∙ ap (λ (bits : List Bool). spelled before ++ bits)
-    (append_assoc (binary f.width f.value) (spelled behind) more) in
-    ap (λ (bits : List Bool). number (take f.width (drop place bits))) parted
-    ∙ ap (λ (bits : List Bool). number (take f.width bits))
-    (drop_at (spelled before) (binary f.width f.value ++ others) place (length-spelled before ∙
-    sym here))
-    ∙ ap number (take_at (binary f.width f.value) others f.width (length-binary f.width f.value))
-    ∙ number-binary f.width f.value fits
-
--- ALL FIELDS
--- the number of octets, and then the fields that each message has
-abbrev pub front_fields : SyncFields → List Field
-front_fields m = field 8 (octets M30 (sync_body m)) ∷ fixed_fields m
-
--- what stands behind those
+-- THE FIELDS
+-- what stands behind the fields that each message has
 abbrev pub behind_fields : CheckForm → SyncFields → List Bool
 behind_fields form m = tail m.freq m.rest ++ sent_check M30 form (capsule_front M30 (sync_body m))
 
-pub capsule_parts : (form : CheckForm) (m : SyncFields) →
-    sync_capsule form m ≡ spelled (front_fields m) ++ behind_fields form m
+-- behind the number of octets and the message type
+drop-front : (form : CheckForm) (m : SyncFields) → drop 16 (sync_capsule form m)
+    ≡ spelled (in_widths sync_widths (sync_values m)) ++ behind_fields form m
 unfolding sync_capsule capsule
-capsule_parts form m =
-    let count : List Bool = binary 8 (octets M30 (sync_body m)) in
-    let fixed : List Bool = spelled (fixed_fields m) in
-    let others : List Bool = tail m.freq m.rest in
-    let check : List Bool = sent_check M30 form (capsule_front M30 (sync_body m)) in
-    ap (λ (body : List Bool). (count ++ body) ++ check) (sync_body-parts m)
-    ∙ ap (λ (bits : List Bool). bits ++ check) (sym (append_assoc count fixed others))
-    ∙ append_assoc (count ++ fixed) others check
+drop-front form m =
+    let count = binary 8 (octets M30 (sync_body m)) in
+    let type = binary 8 1 in
+    let fixed = spelled (in_widths sync_widths (sync_values m)) in
+    let others = tail m.freq m.rest in
+    let check = sent_check M30 form (capsule_front M30 (sync_body m)) in
+    let first : drop 8 (sync_capsule form m) ≡ sync_body m ++ check =
+    ap (drop 8) (append_assoc count (sync_body m) check)
+    ∙ behind_front 8 (octets M30 (sync_body m)) (sync_body m ++ check) in
+    let body : sync_body m ++ check ≡ type ++ (fixed ++ (others ++ check)) =
+    ap (λ (r : List Bool). r ++ check) (sync_body-parts m ∙ append_assoc type fixed others)
+    ∙ append_assoc type (fixed ++ others) check
+    ∙ ap (λ (r : List Bool). type ++ r) (append_assoc fixed others check) in
+    sym (dropped 8 8 (sync_capsule form m)) ∙ ap (drop 8) (first ∙ body)
+    ∙ behind_front 8 1 (fixed ++ (others ++ check))
 
-length-front_fields : (m : SyncFields) → length (spelled (front_fields m)) ≡ 167
-length-front_fields m = length-spelled (front_fields m)
-
--- the bits behind the fixed fields, from a place on
-pub drop-capsule : (form : CheckForm) (m : SyncFields) →
+drop-capsule : (form : CheckForm) (m : SyncFields) →
     drop 167 (sync_capsule form m) ≡ behind_fields form m
 drop-capsule form m =
-    ap (drop 167) (capsule_parts form m) ∙
-    drop_at (spelled (front_fields m)) (behind_fields form m) 167 (length-front_fields m)
+    let fixed = spelled (in_widths sync_widths (sync_values m)) in
+    sym (dropped 151 16 (sync_capsule form m)) ∙ ap (drop 151) (drop-front form m)
+    ∙ drop_at fixed (behind_fields form m) 151 (length-in_widths sync_widths (sync_values m) refl)
 
-pub length-sync_capsule : (form : CheckForm) (m : SyncFields) →
+length-sync_capsule : (form : CheckForm) (m : SyncFields) →
     length (sync_capsule form m) ≡ 197 + length (tail m.freq m.rest)
 unfolding sync_capsule
 length-sync_capsule form m = omega (arith, length-capsule M30 form (sync_body m), length-body m)
 
--- a field of the capsule
-fixed_there : (form : CheckForm) (m : SyncFields) (before behind : List Field) (f : Field)
-    (place : ℕ) → before ++ f ∷ behind ≡ front_fields m → place ≡ widths before →
-    f.value < 2 ^ f.width →
-    number_at place f.width (sync_capsule form m) ≡ f.value
-fixed_there form m before behind f place split here fits =
-    let whole : sync_capsule form m ≡ spelled (before ++ f ∷ behind) ++ behind_fields form m =
-    capsule_parts form m ∙
-    ap (λ (fs : List Field). spelled fs ++ behind_fields form m) (sym split) in
-    ap (number_at place f.width) whole ∙
-    field_there before behind f (behind_fields form m) place here fits
+-- a field of the table
+field_there : (form : CheckForm) (m : SyncFields) → IsSyncMessage m → (i : ℕ) → i < 11 →
+    field_at i (sync_capsule form m) ≡ get_or (sync_values m) i 0
+field_there form m is i within =
+    let bits = sync_capsule form m in
+    let width = get_or sync_widths i 0 in
+    ap (number_at 0 width) (sym (dropped (sync_place i) 16 bits))
+    ∙ in_row sync_widths i (drop 16 bits) within
+    ∙ ap (λ (r : List Bool). get_or (values_at sync_widths r) i 0) (drop-front form m)
+    ∙ ap (λ (vs : List ℕ). get_or vs i 0)
+    (values_again sync_widths (sync_values m) (behind_fields form m) refl (fixed_fit m is).1)
 
 -- the frequency and the rest, as the reading takes them
 freq_there : (form : CheckForm) (m : SyncFields) → IsSyncMessage m → (freq : Option ℕ) →
@@ -143,7 +125,7 @@ freq_there : (form : CheckForm) (m : SyncFields) → IsSyncMessage m → (freq :
 unfolding fields_at
 freq_there form m is None e =
     let bits = sync_capsule form m in
-    let check : List Bool = sent_check M30 form (capsule_front M30 (sync_body m)) in
+    let check = sent_check M30 form (capsule_front M30 (sync_body m)) in
     let long : length m.rest ≡ 3 = rw e at (tail_of m m.freq refl is) in
     let parts : behind_fields form m ≡ m.rest ++ check =
     ap (λ (f : Option ℕ). tail f m.rest ++ check) e in
@@ -156,31 +138,25 @@ freq_there form m is None e =
     rw short (sym e, rest)
 freq_there form m is (Some freq) e =
     let bits = sync_capsule form m in
-    let check : List Bool = sent_check M30 form (capsule_front M30 (sync_body m)) in
+    let check = sent_check M30 form (capsule_front M30 (sync_body m)) in
     let told : IsTail (Some freq) m.rest = rw e at (tail_of m m.freq refl is) in
-    let word : List Bool = spelled (freq_fields (Some freq)) in
-    let parts : behind_fields form m ≡ (word ++ m.rest) ++ check =
-    ap (λ (f : Option ℕ). tail f m.rest ++ check) e in
-    let parts' : behind_fields form m ≡ word ++ (m.rest ++ check) = parts ∙
-    append_assoc word m.rest check in
-    let eleven : length word ≡ 11 = length-spelled (freq_fields (Some freq)) in
+    let parts : drop 167 bits ≡ binary 11 freq ++ (m.rest ++ check) =
+    drop-capsule form m ∙ ap (λ (f : Option ℕ). tail f m.rest ++ check) e
+    ∙ ap (λ (r : List Bool). (r ++ m.rest) ++ check) (append-nil (binary 11 freq))
+    ∙ append_assoc (binary 11 freq) m.rest check in
     let count : length (tail m.freq m.rest) ≡ 11 + length m.rest =
-    ap (λ (f : Option ℕ). length (tail f m.rest)) e ∙ length-append word m.rest ∙
-    ap (λ (n : ℕ). n + length m.rest) eleven in
+    ap (λ (f : Option ℕ). length (tail f m.rest)) e ∙ tail-some freq m.rest in
     let more : 200 < length bits = omega (arith, length-sync_capsule form m, count) in
     let long : is_shortest bits ≡ false =
     ne_eqb (length bits) 200 (λ same. omega (arith, more, same)) in
     let value : number_at 167 11 bits ≡ freq =
-    ap (λ (xs : List Bool). number (take 11 xs)) (drop-capsule form m ∙ parts) ∙
-    ap (λ (xs : List Bool). number (take 11 xs)) (append_assoc word m.rest check)
-    ∙ field_there [] [] (field 11 freq) (m.rest ++ check) 0 refl told.0 in
+    ap (number_at 0 11) parts ∙ number_front 11 freq (m.rest ++ check) told.0 in
     let cut : length bits - 208 ≡ length m.rest =
     omega (arith, length-sync_capsule form m, count) in
-    let past : drop 178 bits ≡ drop 11 (drop 167 bits) = sym (drop-drop 11 167 bits) in
     let rest : take (length bits - 208) (drop 178 bits) ≡ m.rest =
-    ap (λ (n : ℕ). take n (drop 178 bits)) cut ∙
-    ap (take (length m.rest)) (past ∙ ap (drop 11) (drop-capsule form m ∙ parts') ∙
-    drop_at word (m.rest ++ check) 11 eleven) ∙ take_at m.rest check (length m.rest) refl in
+    ap (λ (n : ℕ). take n (drop 178 bits)) cut
+    ∙ ap (take (length m.rest)) (sym (dropped 11 167 bits) ∙ ap (drop 11) parts
+    ∙ behind_front 11 freq (m.rest ++ check)) ∙ take_at m.rest check (length m.rest) refl in
     rw long (ap Some value ∙ sym e, rest)
 
 same_fields : (form : CheckForm) (m : SyncFields) → IsSyncMessage m →
@@ -188,53 +164,17 @@ same_fields : (form : CheckForm) (m : SyncFields) → IsSyncMessage m →
 unfolding fields_at
 same_fields form m is =
     let bits = sync_capsule form m in
-    let fit = fixed_fit m is in
-    let f0 = field 8 (octets M30 (sync_body m)) in
-    let f1 = field 8 1 in
-    let f2 = field 8 m.prev in
-    let f3 = field 8 m.min in
-    let f4 = field 15 m.sid in
-    let f5 = field 16 m.nid in
-    let f6 = field 9 m.pn in
-    let f7 = field 42 m.lc in
-    let f8 = field 36 m.time in
-    let f9 = field 8 m.lp in
-    let f10 = field 6 m.ltm in
-    let f11 = field 1 m.daylt in
-    let f12 = field 2 m.prat in
-    let prev : number_at 16 8 bits ≡ m.prev =
-    fixed_there form m (f0 ∷ f1 ∷ []) (f3 ∷ f4 ∷ f5 ∷ f6 ∷ f7 ∷ f8 ∷ f9 ∷ f10 ∷ f11 ∷ f12 ∷ []) f2
-    16 refl refl fit.1.0 in
-    let min : number_at 24 8 bits ≡ m.min =
-    fixed_there form m (f0 ∷ f1 ∷ f2 ∷ []) (f4 ∷ f5 ∷ f6 ∷ f7 ∷ f8 ∷ f9 ∷ f10 ∷ f11 ∷ f12 ∷ []) f3
-    24 refl refl fit.1.1.0 in
-    let sid : number_at 32 15 bits ≡ m.sid =
-    fixed_there form m (f0 ∷ f1 ∷ f2 ∷ f3 ∷ []) (f5 ∷ f6 ∷ f7 ∷ f8 ∷ f9 ∷ f10 ∷ f11 ∷ f12 ∷ []) f4
-    32 refl refl fit.1.1.1.0 in
-    let nid : number_at 47 16 bits ≡ m.nid =
-    fixed_there form m (f0 ∷ f1 ∷ f2 ∷ f3 ∷ f4 ∷ []) (f6 ∷ f7 ∷ f8 ∷ f9 ∷ f10 ∷ f11 ∷ f12 ∷ []) f5
-    47 refl refl fit.1.1.1.1.0 in
-    let pn : number_at 63 9 bits ≡ m.pn =
-    fixed_there form m (f0 ∷ f1 ∷ f2 ∷ f3 ∷ f4 ∷ f5 ∷ []) (f7 ∷ f8 ∷ f9 ∷ f10 ∷ f11 ∷ f12 ∷ []) f6
-    63 refl refl fit.1.1.1.1.1.0 in
-    let lc : number_at 72 42 bits ≡ m.lc =
-    fixed_there form m (f0 ∷ f1 ∷ f2 ∷ f3 ∷ f4 ∷ f5 ∷ f6 ∷ []) (f8 ∷ f9 ∷ f10 ∷ f11 ∷ f12 ∷ []) f7
-    72 refl refl fit.1.1.1.1.1.1.0 in
-    let time : number_at 114 36 bits ≡ m.time =
-    fixed_there form m (f0 ∷ f1 ∷ f2 ∷ f3 ∷ f4 ∷ f5 ∷ f6 ∷ f7 ∷ []) (f9 ∷ f10 ∷ f11 ∷ f12 ∷ []) f8
-    114 refl refl fit.1.1.1.1.1.1.1.0 in
-    let lp : number_at 150 8 bits ≡ m.lp =
-    fixed_there form m (f0 ∷ f1 ∷ f2 ∷ f3 ∷ f4 ∷ f5 ∷ f6 ∷ f7 ∷ f8 ∷ []) (f10 ∷ f11 ∷ f12 ∷ []) f9
-    150 refl refl fit.1.1.1.1.1.1.1.1.0 in
-    let ltm : number_at 158 6 bits ≡ m.ltm =
-    fixed_there form m (f0 ∷ f1 ∷ f2 ∷ f3 ∷ f4 ∷ f5 ∷ f6 ∷ f7 ∷ f8 ∷ f9 ∷ []) (f11 ∷ f12 ∷ []) f10
-    158 refl refl fit.1.1.1.1.1.1.1.1.1.0 in
-    let daylt : number_at 164 1 bits ≡ m.daylt =
-    fixed_there form m (f0 ∷ f1 ∷ f2 ∷ f3 ∷ f4 ∷ f5 ∷ f6 ∷ f7 ∷ f8 ∷ f9 ∷ f10 ∷ []) (f12 ∷ []) f11
-    164 refl refl fit.1.1.1.1.1.1.1.1.1.1.0 in
-    let prat : number_at 165 2 bits ≡ m.prat =
-    fixed_there form m (f0 ∷ f1 ∷ f2 ∷ f3 ∷ f4 ∷ f5 ∷ f6 ∷ f7 ∷ f8 ∷ f9 ∷ f10 ∷ f11 ∷ []) [] f12 165
-    refl refl fit.1.1.1.1.1.1.1.1.1.1.1.0 in
+    let prev : number_at 16 8 bits ≡ m.prev = field_there form m is 0 (omega arith) in
+    let min : number_at 24 8 bits ≡ m.min = field_there form m is 1 (omega arith) in
+    let sid : number_at 32 15 bits ≡ m.sid = field_there form m is 2 (omega arith) in
+    let nid : number_at 47 16 bits ≡ m.nid = field_there form m is 3 (omega arith) in
+    let pn : number_at 63 9 bits ≡ m.pn = field_there form m is 4 (omega arith) in
+    let lc : number_at 72 42 bits ≡ m.lc = field_there form m is 5 (omega arith) in
+    let time : number_at 114 36 bits ≡ m.time = field_there form m is 6 (omega arith) in
+    let lp : number_at 150 8 bits ≡ m.lp = field_there form m is 7 (omega arith) in
+    let ltm : number_at 158 6 bits ≡ m.ltm = field_there form m is 8 (omega arith) in
+    let daylt : number_at 164 1 bits ≡ m.daylt = field_there form m is 9 (omega arith) in
+    let prat : number_at 165 2 bits ≡ m.prat = field_there form m is 10 (omega arith) in
     let last = freq_there form m is m.freq refl in
     rw (prev, min, sid, nid, pn, lc, time, lp, ltm, daylt, prat, last.0, last.1) refl
 
@@ -262,19 +202,37 @@ reading_is_message form bits m e =
           absurd (cc)
     ]
 
-pub reading_decoded : (form : CheckForm) (bits : List Bool)
-    (result : Result SyncFields MessageFault) →
-    IfOk result (λ m. IsSyncMessage m × (bits ≡ sync_capsule form m)) →
-    ((m : SyncFields) → IsSyncMessage m → bits ≡ sync_capsule form m → result ≡ Ok m) →
-    reading_of result ≡ sync_reading form bits
-reading_decoded form bits (Ok m) found only =
-    sym (ap (sync_reading form) found.1 ∙ reads_capsule form m found.0)
-reading_decoded form bits (Err fault) found only = none (sync_reading form bits) refl
-  where
-    none : (read : Option SyncFields) → sync_reading form bits ≡ read →
-        None ≡ sync_reading form bits
-    none None e = sym e
-    none (Some m) e =
-        let is = reading_is_message form bits m e in
-        let never : Err fault ≡ Ok m = only m is.0 is.1 in
-        absurd (cc)
+-- WHAT THE CODE GIVES
+are_read : (form : CheckForm) →
+    AreRead M30 form IsSyncMessage sync_body body_reading (sync_reading form)
+unfolding sync_capsule
+are_read form =
+    record {
+      fills = λ m is. is.fills;
+      again = body_again;
+      there = body_there;
+      capsule_again = reads_capsule form;
+      capsule_there = reading_is_message form;
+    }
+
+-- where a body is read, where it isn't, and where there is none
+pub message_found : (form : CheckForm) (bits inside : List Bool) (m : SyncFields) →
+    FillsCapsule M30 inside × (bits ≡ capsule M30 form inside) → Some m ≡ body_reading inside →
+    IsDecoded M30 form IsSyncMessage sync_body (sync_reading form) bits m
+message_found form bits inside m found read =
+    decoded M30 form IsSyncMessage sync_body body_reading (sync_reading form) bits inside m
+    (are_read form) found read
+
+pub no_message : (form : CheckForm) (bits inside : List Bool) →
+    FillsCapsule M30 inside × (bits ≡ capsule M30 form inside) → None ≡ body_reading inside →
+    IsNone M30 form IsSyncMessage sync_body (sync_reading form) bits
+no_message form bits inside found none =
+    undecoded M30 form IsSyncMessage sync_body body_reading (sync_reading form) bits inside
+    (are_read form) found none
+
+pub no_capsule : (form : CheckForm) (bits : List Bool) →
+    ((inside : List Bool) → FillsCapsule M30 inside → ¬ (bits ≡ capsule M30 form inside)) →
+    IsNone M30 form IsSyncMessage sync_body (sync_reading form) bits
+no_capsule form bits none =
+    uncapsuled M30 form IsSyncMessage sync_body body_reading (sync_reading form) bits
+    (are_read form) none

@@ -1,5 +1,5 @@
-pub mod Faults
 pub mod Framing
+pub mod Layouts
 pub mod Reading
 pub mod Rows
 pub mod SyncMessage

@@ -1,16 +1,16 @@
 -- The message that a capsule spells, as a function of its bits: each field is the number that
 -- stands at its place.
-use Rattle.std.specs.Prelude.{ℕ, ◌+◌, ◌-◌, ◌^◌, ◌%◌, ◌==◌, ◌&&◌, Bool, true, false, if◌then◌else◌}
+use Rattle.std.specs.Prelude.{ℕ, ◌+◌, ◌-◌, ◌^◌, ◌%◌, ◌==◌, ◌&&◌, Bool, true, if◌then◌else◌}
 use Rattle.std.specs.Prelude.{List, [], ◌∷◌, length, take, drop, get_or, nat_lt, nat_le}
-use Rattle.std.specs.Prelude.{Option, Some, None, Result, Ok, Err}
+use Rattle.std.specs.Prelude.{Option, Some, None}
 use Rattle.chip_core.specs.Bits.{are_same}
 use Rattle.chip_core.specs.Readings.{number_at}
 use Rattle.chip_core.specs.declared.field.Field.{Field}
 use Rattle.chip_core.specs.declared.check_form.CheckForm.{CheckForm}
+pub use Rattle.quality_bits.specs.Faults.{reading_of}
 use Rattle.sync_message.specs.Rows.{freq_row, sync_place, sync_widths}
 use Rattle.sync_message.specs.SyncMessage.{fixed_fields, sync_capsule}
 use Rattle.sync_message.specs.declared.fields.SyncFields.{SyncFields}
-use Rattle.sync_message.specs.declared.fault.MessageFault.{MessageFault}
 
 -- what stands at the place of field i of the table, behind the length and the message type
 abbrev pub field_at : ℕ → List Bool → ℕ
@@ -60,8 +60,3 @@ unfoldable pub sync_reading : CheckForm → List Bool → Option SyncFields
 sync_reading form capsule =
     let m = fields_at capsule in
     if is_message m && are_same (sync_capsule form m) capsule then Some m else None
-
--- what a reading that may fail gives
-abbrev pub reading_of : Result SyncFields MessageFault → Option SyncFields
-reading_of (Ok m) = Some m
-reading_of (Err fault) = None

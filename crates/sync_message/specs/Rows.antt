@@ -1,5 +1,5 @@
 -- The fields that each Sync Channel Message has (TIA/EIA-95-B, 7.7.1.3), by name and width.
-use Rattle.std.specs.Prelude.{ℕ, ◌+◌, List, [], ◌∷◌, codes, map, take}
+use Rattle.std.specs.Prelude.{ℕ, List, [], ◌∷◌, codes, map, take}
 pub use Rattle.chip_core.specs.Fields.{in_widths, total}
 use Rattle.sync_message.specs.declared.fields.SyncFields.{SyncFields}
 

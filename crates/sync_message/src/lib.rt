@@ -2,16 +2,16 @@
 //! capsules out of the frames of the sync channel (7.7.1.2).
 #![tactic(auto)]
 
-mod codec;
-mod fault;
 mod fields;
 mod framer;
 pub mod laws;
+mod layout;
 mod message;
 mod table;
 
-pub use fault::MessageFault;
 pub use fields::SyncFields;
 pub use framer::CapsuleFramer;
 pub use message::SyncMessage;
-pub use table::{FREQ_FIELD, FieldRow, SYNC_FIELDS, sync_name, sync_width};
+pub use message_layout::FieldRow;
+pub use quality_bits::MessageFault;
+pub use table::{FREQ_FIELD, SYNC_FIELDS, sync_name, sync_width};

@@ -1,18 +1,21 @@
 //! The message, to and from its capsule.
 
-ghost use Rattle.std.specs.Prelude.{◌≡◌, ◌↔◌, IfOk, SomeIff};
-ghost use Rattle.quality_bits.specs.Capsules.{IsWhole};
+ghost use Rattle.std.specs.Prelude.{◌≡◌, ◌↔◌, IfOk, IsTrue, SomeIff};
+ghost use Rattle.quality_bits.specs.Capsules.{FillsCapsule, IsWhole};
 ghost use Rattle.quality_bits.specs.Kinds.{IsChecked};
 ghost use Rattle.quality_bits.specs.declared.kind.Kind.TheVariants.{M30};
 ghost use Rattle.sync_message.specs.Reading.{sync_reading, reading_of};
-ghost use Rattle.sync_message.specs.SyncMessage.{IsSyncMessage, sync_capsule};
+ghost use Rattle.sync_message.specs.Rows.{sync_values};
+ghost use Rattle.sync_message.specs.SyncMessage.{IsSyncMessage, sync_body, sync_capsule};
+ghost use Rattle.sync_message.specs.Tails.{IsTail};
 ghost use Rattle.sync_message.specs.declared.fields.SyncFields.{SyncFields as TheFields};
 
-use crate::codec::{has_spelling, read_body, write_body};
-use crate::fault::{MessageFault, NoFields};
 use crate::fields::SyncFields;
+use crate::layout::{SYNC_CHANNEL, contents_of, read_body, values_of};
+use crate::table::{FREQ_FIELD, SYNC_FIELDS};
 use chip_core::{Bits, CheckForm};
-use quality_bits::{Kind, body_of, capsule_of};
+use message_layout::{FieldValues, append};
+use quality_bits::{Kind, MessageFault, body_of, capsule_of};
 use std::marker::Model;
 
 /// A Sync Channel Message: fields that have a spelling. Contracts see the fields.
@@ -60,11 +63,18 @@ impl SyncMessage {
         self.fields
     }
 
+    /// The values of the fields that each message has, in the order of `SYNC_FIELDS`.
+    pub fn values(&self) -> [u64; 11]
+        ensures { result ≡ sync_values self.now }
+    {
+        values_of(&self.fields)
+    }
+
     /// The capsule that spells the message.
     pub fn encode(&self, form: CheckForm) -> Bits
         ensures { result ≡ sync_capsule form self.now }
     {
-        capsule_of(Kind::M30, form, &write_body(&self.fields))
+        capsule_of(Kind::M30, form, &self.body())
     }
 
     /// The message that a capsule spells, as `sync_reading` defines it.
@@ -88,8 +98,37 @@ impl SyncMessage {
     {
         let body = body_of(Kind::M30, form, capsule)?;
         match read_body(&body) {
-            Ok(fields) => Ok(SyncMessage { fields }),
-            Err(NoFields) => Err(MessageFault::BadBody),
+            Some(fields) => Ok(SyncMessage { fields }),
+            None => Err(MessageFault::BadBody),
         }
+    }
+
+    /// The body that spells the message.
+    fn body(&self) -> Bits
+        ensures value { result ≡ sync_body self.now }
+        ensures fills { FillsCapsule M30 result }
+    {
+        let mut body = Bits::empty();
+        body.append_number(8, 1);
+        append(&SYNC_CHANNEL, &contents_of(&self.fields), &mut body);
+        body
+    }
+}
+
+/// Whether fields have a spelling.
+fn has_spelling(fields: &SyncFields) -> bool
+    ensures { IsTrue result ↔ IsSyncMessage fields.now }
+{
+    FieldValues::of(&values_of(fields)).fit(&SYNC_FIELDS) && has_tail(fields.freq, &fields.rest)
+}
+
+/// Whether a frequency and the bits behind it make whole octets, 25 without a frequency and 26 to
+/// 148 with one.
+fn has_tail(freq: Option<u16>, rest: &Bits) -> bool
+    ensures { IsTrue result ↔ IsTail freq rest.now }
+{
+    match freq {
+        None => rest.len() == 3,
+        Some(freq) => freq < 1 << FREQ_FIELD.1 && rest.len() % 8 == 0 && rest.len() <= 976,
     }
 }

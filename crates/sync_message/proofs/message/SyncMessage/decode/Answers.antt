@@ -1,79 +1,75 @@
-use Rattle.std.proofs.Common.{rules, refl, sym, ap, subst, ◌∙◌, Ok, Err}
-use Rattle.quality_bits.specs.Capsules.{capsule, IsWhole}
-use Rattle.quality_bits.specs.Kinds.{IsChecked}
+use Rattle.std.proofs.Common.{rules, refl, sym, ap, ◌∙◌, Ok}
+use Rattle.quality_bits.proofs.Decoded.{fault_read, whole_checked}
 use Rattle.quality_bits.specs.declared.kind.Kind.TheVariants.{M30}
-use Rattle.quality_bits.proofs.Wholes.{whole-capsule, checked-capsule}
-use Rattle.sync_message.specs.SyncMessage.{sync_body, sync_capsule}
-use Rattle.sync_message.proofs.Bodies.{body_injective, body_of_capsule}
-use Rattle.sync_message.specs.declared.fault.MessageFault.TheVariants.{BadBody}
-use Rattle.sync_message.proofs.Readings.{reading_decoded}
+use Rattle.sync_message.specs.SyncMessage.{sync_capsule}
+use Rattle.sync_message.proofs.ByLayout.{body_there}
+use Rattle.sync_message.proofs.Readings.{message_found, no_capsule, no_message}
 use Rattle.sync_message.proofs.message.SyncMessage.decode.Goals as goal
 
 pub returns-in_err-body-clause-only : goal.returns-in_err-body-clause-only
 unfolding sync_capsule
 returns-in_err-body-clause-only c m is same =
-    absurd (cc (c.in_err-body.ensures.only (sync_body m) is.fills same))
-
-pub returns-in-Ok-clause-found : goal.returns-in-Ok-clause-found
-unfolding sync_capsule
-returns-in-Ok-clause-found c =
-    let read = c.in-Ok.ensures.found in
-    (read.0, c.in_ok-body.ensures.found.1 ∙ ap (capsule M30 c.args.form) read.1)
-
-pub returns-in-Ok-clause-only : goal.returns-in-Ok-clause-only
-returns-in-Ok-clause-only c m is same =
-    let read = c.in-Ok.ensures.found in
-    let body =
-    body_of_capsule c.args.form c.args.capsule.now c.in_ok-body.body m
-    c.in_ok-body.ensures.found.1 same in
-    ap Ok (body_injective c.in-Ok.fields m read.0 is (sym read.1 ∙ body))
-
-pub returns-in-Ok-clause-bad_body : goal.returns-in-Ok-clause-bad_body
-unfolding sync_capsule
-returns-in-Ok-clause-bad_body c =
-    let read = c.in-Ok.ensures.found in (
-      λ bad. absurd (cc bad),
-      λ none. absurd
-          (none.2 c.in-Ok.fields read.0 (c.in_ok-body.ensures.found.1 ∙
-          ap (capsule M30 c.args.form) read.1)),
-    )
-
-pub returns-in-Err-clause-only : goal.returns-in-Err-clause-only
-returns-in-Err-clause-only c m is same =
-    let body =
-    body_of_capsule c.args.form c.args.capsule.now c.in_ok-body.body m
-    c.in_ok-body.ensures.found.1 same in
-    absurd (cc (c.in-Err.ensures.only m is body))
-
-pub returns-in-Err-clause-bad_body : goal.returns-in-Err-clause-bad_body
-returns-in-Err-clause-bad_body c =
-    let found = c.in_ok-body.ensures.found in
-    let whole =
-    subst IsWhole (sym found.1) (whole-capsule M30 c.args.form c.in_ok-body.body found.0) in
-    let checked =
-    subst (IsChecked M30 c.args.form) (sym found.1)
-    (checked-capsule M30 c.args.form c.in_ok-body.body) in (
-      λ bad. (
-        whole,
-        checked,
-        λ m is same.
-            let body =
-            body_of_capsule c.args.form c.args.capsule.now c.in_ok-body.body m found.1 same in
-            absurd (cc (c.in-Err.ensures.only m is body)),
-      ),
-      λ none. refl,
-    )
+    absurd ((no_capsule c.args.form c.args.capsule.now
+    (λ inside fills spelled. cc (c.in_err-body.ensures.only inside fills spelled))).never m is same)
 
 pub returns-in_err-body-clause-reading : goal.returns-in_err-body-clause-reading
 returns-in_err-body-clause-reading c =
-    reading_decoded c.args.form c.args.capsule.now c.from_residual.result (search rules)
-    (returns-in_err-body-clause-only c)
+    fault_read c.from_residual.result (search rules)
+    ∙ sym (no_capsule c.args.form c.args.capsule.now
+    (λ inside fills spelled. cc (c.in_err-body.ensures.only inside fills spelled))).reading
 
-pub returns-in-Ok-clause-reading : goal.returns-in-Ok-clause-reading
-returns-in-Ok-clause-reading c =
-    reading_decoded c.args.form c.args.capsule.now (Ok c.in-Ok.fields)
-    (returns-in-Ok-clause-found c) (returns-in-Ok-clause-only c)
+pub returns-in-Some-clause-found : goal.returns-in-Some-clause-found
+unfolding sync_capsule
+returns-in-Some-clause-found c =
+    (message_found c.args.form c.args.capsule.now c.in_ok-body.body c.in-Some.fields
+    c.in_ok-body.ensures.found c.in-Some.ensures).found
 
-pub returns-in-Err-clause-reading : goal.returns-in-Err-clause-reading
-returns-in-Err-clause-reading c =
-    reading_decoded c.args.form c.args.capsule.now (Err BadBody) tt (returns-in-Err-clause-only c)
+pub returns-in-Some-clause-only : goal.returns-in-Some-clause-only
+unfolding sync_capsule
+returns-in-Some-clause-only c m is same =
+    ap Ok ((message_found c.args.form c.args.capsule.now c.in_ok-body.body c.in-Some.fields
+    c.in_ok-body.ensures.found c.in-Some.ensures).only m is same)
+
+pub returns-in-Some-clause-reading : goal.returns-in-Some-clause-reading
+returns-in-Some-clause-reading c =
+    sym (message_found c.args.form c.args.capsule.now c.in_ok-body.body c.in-Some.fields
+    c.in_ok-body.ensures.found c.in-Some.ensures).reading
+
+pub returns-in-Some-clause-bad_body : goal.returns-in-Some-clause-bad_body
+unfolding sync_capsule
+returns-in-Some-clause-bad_body c =
+    let found = (message_found c.args.form c.args.capsule.now c.in_ok-body.body c.in-Some.fields
+    c.in_ok-body.ensures.found c.in-Some.ensures).found in (
+      λ bad. absurd (cc bad),
+      λ none. absurd (none.2 c.in-Some.fields found.0 found.1),
+    )
+
+pub invariant_of-result : goal.invariant_of-result
+invariant_of-result c =
+    (body_there c.in_ok-body.body c.in-Some.fields c.in_ok-body.ensures.found.0
+    (sym c.in-Some.ensures)).0
+
+pub returns-in-None-clause-only : goal.returns-in-None-clause-only
+unfolding sync_capsule
+returns-in-None-clause-only c m is same =
+    absurd ((no_message c.args.form c.args.capsule.now c.in_ok-body.body
+    c.in_ok-body.ensures.found c.in-None.ensures).never m is same)
+
+pub returns-in-None-clause-reading : goal.returns-in-None-clause-reading
+returns-in-None-clause-reading c =
+    sym (no_message c.args.form c.args.capsule.now c.in_ok-body.body c.in_ok-body.ensures.found
+    c.in-None.ensures).reading
+
+pub returns-in-None-clause-bad_body : goal.returns-in-None-clause-bad_body
+unfolding sync_capsule
+returns-in-None-clause-bad_body c =
+    let told = whole_checked M30 c.args.form c.args.capsule.now c.in_ok-body.body
+    c.in_ok-body.ensures.found in (
+      λ bad. (
+        told.0,
+        told.1,
+        (no_message c.args.form c.args.capsule.now c.in_ok-body.body
+            c.in_ok-body.ensures.found c.in-None.ensures).never,
+      ),
+      λ none. refl,
+    )

@@ -1,0 +1,13 @@
+use Rattle.sync_message.proofs.ByLayout.{fields_fit, sync_lawful}
+use Rattle.sync_message.proofs.layout.read_body.Goals as goal
+
+pub read-requires-clause-lawful : goal.read-requires-clause-lawful
+read-requires-clause-lawful c = sync_lawful
+
+pub fields_from-requires-clause-fixed : goal.fields_from-requires-clause-fixed
+fields_from-requires-clause-fixed c =
+    (fields_fit c.in_ok-contents.contents c.in_ok-contents.ensures.found.0).0
+
+pub fields_from-requires-clause-freq : goal.fields_from-requires-clause-freq
+fields_from-requires-clause-freq c =
+    (fields_fit c.in_ok-contents.contents c.in_ok-contents.ensures.found.0).1

@@ -1,0 +1,118 @@
+//! The layout of what stands behind the message type, and the message as contents of it.
+
+ghost use Rattle.std.specs.Prelude.{◌≡◌, IfSome};
+ghost use Rattle.chip_core.specs.Fields.{in_widths, FieldsFit};
+ghost use Rattle.sync_message.specs.Layouts.{body_reading, freq_from, freq_group};
+ghost use Rattle.sync_message.specs.Layouts.{sync_contents, sync_from};
+ghost use Rattle.sync_message.specs.Rows.{sync_values, sync_widths};
+ghost use Rattle.sync_message.specs.SyncMessage.{freq_fields};
+
+use crate::fields::SyncFields;
+use crate::table::{FREQ_FIELD, SYNC_FIELDS};
+use chip_core::{Bits, Numbers};
+use message_layout::{
+    Contents, FieldValues, Group, Layout, NO_OCTETS, NO_RECORDS, Presence, read, read_kind,
+};
+
+/// The fields that each message has, and the frequency unless 3 bits are left, as at 25 octets.
+pub(crate) const SYNC_CHANNEL: Layout = Layout {
+    fixed: &SYNC_FIELDS,
+    group: Group {
+        presence: Presence::UnlessLeft(3),
+        fields: &[FREQ_FIELD],
+    },
+    octets: NO_OCTETS,
+    records: NO_RECORDS,
+    most: None,
+};
+
+/// What a body says behind its type, which is 1.
+#[tactic(auto, unfolding(crate::specs::Layouts::body_reading))]
+pub(crate) fn read_body(body: &Bits) -> Option<SyncFields>
+    ensures { result ≡ body_reading body.now }
+{
+    let (kind, bits) = read_kind(body)?;
+    if kind != 1 {
+        return None;
+    }
+    let contents = read(&SYNC_CHANNEL, &bits)?;
+    Some(fields_from(&contents))
+}
+
+/// The fields as the layout has them.
+pub(crate) fn contents_of(fields: &SyncFields) -> Contents
+    ensures { result ≡ sync_contents fields.now }
+{
+    Contents {
+        fixed: FieldValues::of(&values_of(fields)),
+        group: group_of(fields.freq),
+        octets: Bits::empty(),
+        columns: [Numbers::empty(), Numbers::empty(), Numbers::empty()],
+        rest: fields.rest,
+    }
+}
+
+/// The values of the fields that each message has, in the table's order.
+pub(crate) fn values_of(fields: &SyncFields) -> [u64; 11]
+    ensures { result ≡ sync_values fields.now }
+{
+    [
+        u64::from(fields.prev),
+        u64::from(fields.min),
+        u64::from(fields.sid),
+        u64::from(fields.nid),
+        u64::from(fields.pn),
+        fields.lc,
+        fields.time,
+        u64::from(fields.lp),
+        u64::from(fields.ltm),
+        u64::from(fields.daylt),
+        u64::from(fields.prat),
+    ]
+}
+
+/// The frequency as the layout has it.
+fn group_of(freq: Option<u16>) -> Option<FieldValues>
+    ensures { result ≡ freq_group freq }
+{
+    match freq {
+        None => None,
+        Some(freq) => Some(FieldValues::of(&[u64::from(freq)])),
+    }
+}
+
+/// The fields of what was read.
+#[tactic(auto, unfolding(crate::specs::Layouts::sync_of))]
+fn fields_from(contents: &Contents) -> SyncFields
+    requires fixed { FieldsFit (in_widths sync_widths (sync_values (sync_from contents.now))) }
+    requires freq { FieldsFit (freq_fields (freq_from contents.now.group)) }
+    ensures { result ≡ sync_from contents.now }
+{
+    let values = &contents.fixed;
+    SyncFields {
+        prev: values.get(0) as u8,
+        min: values.get(1) as u8,
+        sid: values.get(2) as u16,
+        nid: values.get(3) as u16,
+        pn: values.get(4) as u16,
+        lc: values.get(5),
+        time: values.get(6),
+        lp: values.get(7) as u8,
+        ltm: values.get(8) as u8,
+        daylt: values.get(9) as u8,
+        prat: values.get(10) as u8,
+        freq: freq_in(&contents.group),
+        rest: contents.rest,
+    }
+}
+
+/// The frequency that was read.
+fn freq_in(group: &Option<FieldValues>) -> Option<u16>
+    requires { FieldsFit (freq_fields (freq_from group.now)) }
+    ensures { result ≡ freq_from group.now }
+{
+    match group {
+        None => None,
+        Some(values) => Some(values.get(0) as u16),
+    }
+}
