@@ -1,0 +1,202 @@
+//! The work that `tools/bench` times: a message of each kind, read and written many times.
+
+use chip_core::{Bits, CheckForm};
+use paging_message::PagingMessage;
+use std::process::Abort;
+use std::test::Fail;
+use sync_message::{SyncFields, SyncMessage};
+use traffic_message::TrafficMessage;
+
+/// How many times each test reads or writes its message.
+const TURNS: u32 = 10_000;
+
+/// A body of so many bits: a message type, and zeros behind it.
+fn body_of(kind: u8, count: u16) -> Bits {
+    let mut body = Bits::empty();
+    for i in 0..count {
+        let _ = body.push(i < 8 && kind << i & 128 == 128);
+    }
+    body
+}
+
+/// A sync message of 26 octets.
+fn sync_message(rt: &impl Abort) -> SyncMessage {
+    SyncMessage::new(SyncFields {
+        prev: 3,
+        min: 1,
+        sid: 1,
+        nid: 2,
+        pn: 3,
+        lc: 1 << 41,
+        time: 5,
+        lp: 13,
+        ltm: 0,
+        daylt: 0,
+        prat: 0,
+        freq: Some(283),
+        rest: Bits::empty(),
+    })
+    .expect(rt, "fields that fit")
+}
+
+/// A paging message of 40 octets.
+fn paging_message(rt: &impl Abort, kind: u8) -> PagingMessage {
+    PagingMessage::from_body(&body_of(kind, 282)).expect(rt, "a body")
+}
+
+/// A message of a traffic channel, of 39 octets.
+fn traffic_message(rt: &impl Abort, kind: u8) -> TrafficMessage {
+    TrafficMessage::from_body(&body_of(kind, 288)).expect(rt, "a body")
+}
+
+/// Reads a paging message.
+fn read_paging(rt: &impl Abort, kind: u8) {
+    let capsule = paging_message(rt, kind).encode(CheckForm::Plain);
+    let mut read: u32 = 0;
+    for _turn in 0..TURNS {
+        let is_read = PagingMessage::decode(&capsule, CheckForm::Plain).is_ok();
+        read = read.saturating_add(u32::from(is_read));
+    }
+    assert_eq!(rt; read, TURNS);
+}
+
+/// Writes a paging message.
+fn write_paging(rt: &impl Abort, kind: u8) {
+    let message = paging_message(rt, kind);
+    let mut written: u32 = 0;
+    for _turn in 0..TURNS {
+        let is_whole = message.encode(CheckForm::Plain).len() == 320;
+        written = written.saturating_add(u32::from(is_whole));
+    }
+    assert_eq!(rt; written, TURNS);
+}
+
+/// Reads a message of a traffic channel.
+fn read_traffic(rt: &impl Abort, kind: u8) {
+    let capsule = traffic_message(rt, kind).encode(CheckForm::Plain);
+    let mut read: u32 = 0;
+    for _turn in 0..TURNS {
+        let is_read = TrafficMessage::decode(&capsule, CheckForm::Plain).is_ok();
+        read = read.saturating_add(u32::from(is_read));
+    }
+    assert_eq!(rt; read, TURNS);
+}
+
+/// Writes a message of a traffic channel.
+fn write_traffic(rt: &impl Abort, kind: u8) {
+    let message = traffic_message(rt, kind);
+    let mut written: u32 = 0;
+    for _turn in 0..TURNS {
+        let is_whole = message.encode(CheckForm::Plain).len() == 312;
+        written = written.saturating_add(u32::from(is_whole));
+    }
+    assert_eq!(rt; written, TURNS);
+}
+
+// `tools/bench` takes the time of this test off those of the others.
+#[test]
+fn a_message_is_written(rt: HostRuntime) {
+    assert_eq!(rt; sync_message(&rt).encode(CheckForm::Plain).len(), 208);
+}
+
+#[test]
+fn sync_is_read(rt: HostRuntime) {
+    let capsule = sync_message(&rt).encode(CheckForm::Plain);
+    let mut read: u32 = 0;
+    for _turn in 0..TURNS {
+        let is_read = SyncMessage::decode(&capsule, CheckForm::Plain).is_ok();
+        read = read.saturating_add(u32::from(is_read));
+    }
+    assert_eq!(rt; read, TURNS);
+}
+
+#[test]
+fn sync_is_written(rt: HostRuntime) {
+    let message = sync_message(&rt);
+    let mut written: u32 = 0;
+    for _turn in 0..TURNS {
+        let is_whole = message.encode(CheckForm::Plain).len() == 208;
+        written = written.saturating_add(u32::from(is_whole));
+    }
+    assert_eq!(rt; written, TURNS);
+}
+
+#[test]
+fn system_parameters_are_read(rt: HostRuntime) {
+    read_paging(&rt, 1);
+}
+
+#[test]
+fn system_parameters_are_written(rt: HostRuntime) {
+    write_paging(&rt, 1);
+}
+
+#[test]
+fn neighbor_list_is_read(rt: HostRuntime) {
+    read_paging(&rt, 3);
+}
+
+#[test]
+fn neighbor_list_is_written(rt: HostRuntime) {
+    write_paging(&rt, 3);
+}
+
+#[test]
+fn channel_list_is_read(rt: HostRuntime) {
+    read_paging(&rt, 4);
+}
+
+#[test]
+fn channel_list_is_written(rt: HostRuntime) {
+    write_paging(&rt, 4);
+}
+
+#[test]
+fn other_paging_is_read(rt: HostRuntime) {
+    read_paging(&rt, 2);
+}
+
+#[test]
+fn other_paging_is_written(rt: HostRuntime) {
+    write_paging(&rt, 2);
+}
+
+#[test]
+fn in_traffic_is_read(rt: HostRuntime) {
+    read_traffic(&rt, 7);
+}
+
+#[test]
+fn in_traffic_is_written(rt: HostRuntime) {
+    write_traffic(&rt, 7);
+}
+
+#[test]
+fn neighbor_update_is_read(rt: HostRuntime) {
+    read_traffic(&rt, 8);
+}
+
+#[test]
+fn neighbor_update_is_written(rt: HostRuntime) {
+    write_traffic(&rt, 8);
+}
+
+#[test]
+fn handoff_direction_is_read(rt: HostRuntime) {
+    read_traffic(&rt, 17);
+}
+
+#[test]
+fn handoff_direction_is_written(rt: HostRuntime) {
+    write_traffic(&rt, 17);
+}
+
+#[test]
+fn other_traffic_is_read(rt: HostRuntime) {
+    read_traffic(&rt, 1);
+}
+
+#[test]
+fn other_traffic_is_written(rt: HostRuntime) {
+    write_traffic(&rt, 1);
+}
