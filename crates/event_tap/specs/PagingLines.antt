@@ -1,8 +1,10 @@
 -- The lines of the messages of the paging channel, in the style of the lines of events, and of the
 -- slots in which a sleeping handset hears them.
 use Rattle.std.specs.Prelude.{ℕ, List, [], ◌∷◌, ◌++◌, map, codes, decimal}
+use Rattle.paging_message.specs.Channels.{channel_values}
+use Rattle.paging_message.specs.Neighbors.{neighbor_values}
 use Rattle.paging_message.specs.System.{system_values}
-use Rattle.paging_message.specs.Widths.{system_names}
+use Rattle.paging_message.specs.Widths.{channel_names, neighbor_names, system_names}
 use Rattle.paging_message.specs.declared.fields.ChannelFields.{ChannelFields}
 use Rattle.paging_message.specs.declared.fields.NeighborFields.{NeighborFields}
 use Rattle.paging_message.specs.declared.fields.OtherFields.{OtherFields}
@@ -38,14 +40,13 @@ system_line place m =
 -- configuration and the offset of each neighbor
 unfoldable pub neighbor_line : ℕ → NeighborFields → List ℕ
 neighbor_line place m =
-    paging_start place ++ codes " neighbors pn=" ++ decimal m.pn ++ codes " seq=" ++ decimal m.seq
-    ++ codes " inc=" ++ decimal m.inc ++ codes " pilots="
-    ++ commas (neighbor_texts m.configs m.pns) ++ rest_text m.rest
+    paging_start place ++ codes " neighbors" ++ named_values neighbor_names (neighbor_values m)
+    ++ codes " pilots=" ++ commas (neighbor_texts m.configs m.pns) ++ rest_text m.rest
 
 -- `paging at=A channels pn=.. seq=.. freqs=F,F,.. rest=BITS` and LF
 unfoldable pub channel_line : ℕ → ChannelFields → List ℕ
 channel_line place m =
-    paging_start place ++ codes " channels pn=" ++ decimal m.pn ++ codes " seq=" ++ decimal m.seq
+    paging_start place ++ codes " channels" ++ named_values channel_names (channel_values m)
     ++ codes " freqs=" ++ commas (map decimal m.freqs) ++ rest_text m.rest
 
 -- `paging at=A other type=K bits=BITS` and LF

@@ -15,13 +15,13 @@ use Rattle.event_tap.specs.Taps.{raw_paging_line}
 one_channel :
     paging_line 737280 (Channels (record { pn = 511; seq = 0; freqs = 283 ∷ []; rest = [] })) ≡
     codes "paging at=737280 channels pn=511 seq=0 freqs=283 rest=0:\n"
-unfolding paging_line channel_line commas bit_text padded octets encode_with digits
+unfolding paging_line channel_line named_values commas bit_text padded octets encode_with digits
 one_channel = refl
 
 no_channels :
     paging_line 0 (Channels (record { pn = 0; seq = 63; freqs = []; rest = false ∷ [] })) ≡
     codes "paging at=0 channels pn=0 seq=63 freqs= rest=1:00\n"
-unfolding paging_line channel_line commas bit_text padded octets encode_with digits
+unfolding paging_line channel_line named_values commas bit_text padded octets encode_with digits
 no_channels = refl
 
 three_channels : paging_line 9 (Channels (record {
@@ -31,7 +31,7 @@ three_channels : paging_line 9 (Channels (record {
   rest = binary 7 0x55;
 })) ≡
     codes "paging at=9 channels pn=4 seq=1 freqs=0,2047,283 rest=7:aa\n"
-unfolding paging_line channel_line commas bit_text padded octets encode_with binary digits
+unfolding paging_line channel_line named_values commas bit_text padded octets encode_with binary digits
 three_channels = refl
 
 two_neighbors : paging_line 786432 (Neighbors (record {
@@ -43,7 +43,7 @@ two_neighbors : paging_line 786432 (Neighbors (record {
   rest = binary 3 5;
 })) ≡
     codes "paging at=786432 neighbors pn=511 seq=0 inc=4 pilots=0/4,7/508 rest=3:a0\n"
-unfolding paging_line neighbor_line neighbor_texts commas bit_text padded octets encode_with binary
+unfolding paging_line neighbor_line named_values neighbor_texts commas bit_text padded octets encode_with binary
     digits
 two_neighbors = refl
 

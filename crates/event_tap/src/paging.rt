@@ -1,15 +1,15 @@
 //! The lines of messages of the paging channel, and of the slots of a sleeping handset.
 
-ghost use Rattle.std.specs.Prelude.{◌≡◌, ◌<◌, ◌≤◌, ◌^◌, [], length, All};
+ghost use Rattle.std.specs.Prelude.{◌≡◌, ◌≤◌, [], length};
 ghost use Rattle.event_tap.specs.PagingLines.{channel_line, neighbor_line, other_line, system_line};
 ghost use Rattle.event_tap.specs.PagingLines.{paging_line, slot_line};
-ghost use Rattle.paging_message.specs.Neighbors.{IsNeighborList};
 
 use crate::items::append_items;
 use crate::parts::{append_rest, append_values};
 use line_text::Text;
 use paging_message::{
-    ChannelFields, NeighborFields, OtherFields, PagingMessage, SYSTEM_FIELDS, SystemParameters,
+    CHANNEL_FIELDS, ChannelList, NEIGHBOR_FIELDS, NeighborList, OtherFields, PagingMessage,
+    SYSTEM_FIELDS, SystemParameters,
 };
 
 /// Adds the line of a message to the empty text, LF at its end. No line is longer than 1,024 bytes.
@@ -23,8 +23,8 @@ pub(crate) fn append_paging(text: &mut Text, at: u64, message: &PagingMessage)
 {
     match message {
         PagingMessage::System(message) => append_system(text, at, message),
-        PagingMessage::Neighbors(message) => append_neighbors(text, at, &message.fields()),
-        PagingMessage::Channels(message) => append_channels(text, at, &message.fields()),
+        PagingMessage::Neighbors(message) => append_neighbors(text, at, message),
+        PagingMessage::Channels(message) => append_channels(text, at, message),
         PagingMessage::Other(message) => append_other(text, at, &message.fields()),
     }
 }
@@ -44,35 +44,32 @@ fn append_system(text: &mut Text, at: u64, message: &SystemParameters)
 }
 
 /// Adds the line of a Neighbor List Message to the empty text.
-#[tactic(auto, unfolding(crate::specs::PagingLines::neighbor_line))]
-fn append_neighbors(text: &mut Text, at: u64, fields: &NeighborFields)
-    requires empty { text.old ≡ [] }
-    requires is { IsNeighborList fields.now }
-    requires few { length fields.now.configs ≤ 93 }
-    ensures value { text.new ≡ neighbor_line at fields.now }
+#[tactic(auto, unfolding(crate::specs::PagingLines::neighbor_line, crate::specs::Parts::are_short))]
+fn append_neighbors(text: &mut Text, at: u64, message: &NeighborList)
+    requires { text.old ≡ [] }
+    ensures value { text.new ≡ neighbor_line at message.now }
     ensures most { length text.new ≤ 1024 }
 {
+    let fields = message.fields();
     text.append_named("paging at=", at);
-    text.append_named(" neighbors pn=", fields.pn);
-    text.append_named(" seq=", fields.seq);
-    text.append_named(" inc=", fields.inc);
+    text.append_word(" neighbors");
+    append_values(text, &NEIGHBOR_FIELDS, &message.values());
     text.append_word(" pilots=");
-    append_items(text, fields);
+    append_items(text, &fields);
     append_rest(text, &fields.rest);
 }
 
 /// Adds the line of a CDMA Channel List Message to the empty text.
-#[tactic(auto, unfolding(crate::specs::PagingLines::channel_line))]
-fn append_channels(text: &mut Text, at: u64, fields: &ChannelFields)
-    requires empty { text.old ≡ [] }
-    requires short { All (λ n. n < 10 ^ 4) fields.now.freqs }
-    requires few { length fields.now.freqs ≤ 102 }
-    ensures value { text.new ≡ channel_line at fields.now }
+#[tactic(auto, unfolding(crate::specs::PagingLines::channel_line, crate::specs::Parts::are_short))]
+fn append_channels(text: &mut Text, at: u64, message: &ChannelList)
+    requires { text.old ≡ [] }
+    ensures value { text.new ≡ channel_line at message.now }
     ensures most { length text.new ≤ 1024 }
 {
+    let fields = message.fields();
     text.append_named("paging at=", at);
-    text.append_named(" channels pn=", fields.pn);
-    text.append_named(" seq=", fields.seq);
+    text.append_word(" channels");
+    append_values(text, &CHANNEL_FIELDS, &message.values());
     text.append_word(" freqs=");
     append_items(text, &fields.freqs);
     append_rest(text, &fields.rest);

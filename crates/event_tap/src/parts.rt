@@ -1,16 +1,17 @@
 //! What the lines of messages have in common.
 
-ghost use Rattle.std.specs.Prelude.{◌≡◌, ◌<◌, ◌≤◌, ◌+◌, ◌*◌, ◌^◌, true};
-ghost use Rattle.std.specs.Prelude.{[], ◌++◌, length, get_or, map, decimal, IsAscii};
+ghost use Rattle.std.specs.Prelude.{◌≡◌, ◌<◌, ◌≤◌, ◌+◌, ◌*◌, ◌^◌, [], true};
+ghost use Rattle.std.specs.Prelude.{◌++◌, length, map, decimal, IsAscii};
 ghost use Rattle.chip_core.specs.Fields.{FieldsFit, in_widths};
 ghost use Rattle.event_tap.specs.Parts.{are_short, capsule_line, named_values, rest_text};
 ghost use Rattle.line_text.specs.Texts.{bit_text, named};
 
 use chip_core::Bits;
 use line_text::Text;
+use message_layout::{FieldRow, name_in};
 
 /// Adds the values of a message's fields, each behind its name in the table.
-pub(crate) fn append_values(text: &mut Text, table: &[(&'static str, u8)], values: &[u64])
+pub(crate) fn append_values(text: &mut Text, table: &[FieldRow], values: &[u64])
     requires all { length values.now ≡ length table.now }
     requires short { are_short (map (λ row. row.0.now) table.now) (map (λ row. row.1) table.now)
         ≡ true }
@@ -23,14 +24,6 @@ pub(crate) fn append_values(text: &mut Text, table: &[(&'static str, u8)], value
     for i in 0..table.len() {
         append_value(text, name_in(table, i), values[i]);
     }
-}
-
-/// The name in row `i` of a table.
-fn name_in(table: &[(&'static str, u8)], i: usize) -> &'static str
-    requires { i < length table.now }
-    ensures { result.now ≡ get_or (map (λ row. row.0.now) table.now) i [] }
-{
-    table[i].0
 }
 
 /// Adds a value of at most seven digits behind a name of at most seven bytes.
