@@ -3,7 +3,7 @@ use Rattle.message_layout.proofs.Common.{◌≡◌, ℕ, ◌/◌, ◌%◌, ◌^�
 use Rattle.message_layout.proofs.Common.{◌∙◌, arith, Option, Some, None, nil_from_length, height, shares, mapped, reading, is_lawful, Shape}
 use Rattle.message_layout.proofs.Common.{spelling, IsOf, Contents}
 use Rattle.message_layout.proofs.Columns.{get-lengths, three_columns, three_long}
-use Rattle.message_layout.proofs.Round.{one_reading, reading_again, reading_there}
+use Rattle.message_layout.proofs.Round.{reading_again, reading_there}
 
 -- a type of messages that are contents of a layout, and made of such
 pub record ByLayout {M : Type 0} (s : Shape) (into : M → Contents) (out : Contents → M) : Type 0 where
@@ -43,13 +43,6 @@ read_there {M} s into out l bits m e =
     let back = sym (l.back some.0 there.0) in
     subst (λ (n : M). IsOf s (into n) × (bits ≡ spelling s (into n))) some.2
     (subst (IsOf s) back there.0, there.1 ∙ ap (spelling s) back)
-
--- messages with one spelling are the same
-pub one_message : {M : Type 0} (s : Shape) (into : M → Contents) (out : Contents → M) →
-    ByLayout s into out → (m n : M) → IsOf s (into m) → IsOf s (into n) →
-    spelling s (into m) ≡ spelling s (into n) → m ≡ n
-one_message s into out l m n p q same =
-    sym (l.made m) ∙ ap out (one_reading s (into m) (into n) l.lawful p q same) ∙ l.made n
 
 -- WHERE THERE IS LITTLE
 -- no octets stand where none are counted

@@ -36,29 +36,15 @@ unfolding shortest sync_capsule sync_body capsule binary check_bits places
 shortest_length = refl
 
 with_freq : SyncFields
-with_freq =
-    record {
-      prev = 3;
-      min = 1;
-      sid = 1;
-      nid = 2;
-      pn = 3;
-      lc = 2 ^ 41;
-      time = 5;
-      lp = 13;
-      ltm = 0;
-      daylt = 0;
-      prat = 0;
-      freq = Some 283;
-      rest = [];
-    }
+unfolding shortest
+with_freq = record shortest { freq = Some 283; rest = [] }
 
 with_freq_length : length (sync_capsule Plain with_freq) ≡ 208
-unfolding with_freq sync_capsule sync_body capsule binary check_bits places
+unfolding with_freq shortest sync_capsule sync_body capsule binary check_bits places
 with_freq_length = refl
 
 with_freq_octets : number (take 8 (sync_capsule Plain with_freq)) ≡ 0x1a
-unfolding with_freq sync_capsule sync_body capsule binary check_bits places
+unfolding with_freq shortest sync_capsule sync_body capsule binary check_bits places
 with_freq_octets = refl
 
 -- what is read is what was spelled
@@ -68,7 +54,7 @@ unfolding shortest sync_reading fields_at is_message sync_capsule sync_body caps
 shortest_read = refl
 
 with_freq_read : sync_reading Plain (sync_capsule Plain with_freq) ≡ Some with_freq
-unfolding with_freq sync_reading fields_at is_message sync_capsule sync_body capsule binary
+unfolding with_freq shortest sync_reading fields_at is_message sync_capsule sync_body capsule binary
     check_bits places
 with_freq_read = refl
 
