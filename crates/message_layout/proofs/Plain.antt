@@ -1,12 +1,12 @@
 -- Layouts without a group and without octets: what is said by one, spelled and read by places.
 use Rattle.message_layout.proofs.Common.{◌≡◌, ℕ, ◌+◌, ◌*◌, ◌/◌, ◌%◌, ◌≤◌, ◌&&◌, Bool, cond, List, [], ◌∷◌, ◌++◌, length}
-use Rattle.message_layout.proofs.Common.{map, drop, refl, sym, ap, arith, nat_le, inl, inr, Option, Some, None, cases_Bool, le-leb}
+use Rattle.message_layout.proofs.Common.{map, drop, refl, sym, ap, ◌∙◌, nil_from_length, arith, nat_le, inl, inr, Option, Some, None, cases_Bool, le-leb}
 use Rattle.message_layout.proofs.Common.{div-add-mod', length-append, length-drop, length-in_widths, field, spelled, in_widths, total, FieldsFit, values_at, Field, binary}
 use Rattle.message_layout.proofs.Common.{height, record_fields, shares, columns_in, fields_at, group_at, number_part, octets_at}
 use Rattle.message_layout.proofs.Common.{part_at, presence_at, reading, records_at, plain_contents, plain_shape, spelling, HaveValues, IsOf}
 use Rattle.message_layout.proofs.Common.{IsRest, Contents}
 use Rattle.message_layout.proofs.Columns.{length-records}
-use Rattle.message_layout.proofs.Messages.{no_octets}
+use Rattle.message_layout.proofs.Messages.{no_columns, no_octets}
 
 pub plain_of : (ws rs : List ℕ) (least : ℕ) (most : Option ℕ) (vs : List ℕ) (cs : List (List ℕ))
     (rest : List Bool) → HaveValues ws vs → map length cs ≡ shares rs (height cs) →
@@ -55,6 +55,16 @@ plain_back ws rs least most c is =
     let none : c.octets ≡ [] = no_octets c.octets is.whole is.counted in
     let group : None ≡ c.group = sym is.group in
     rw (← none, group) refl
+
+-- where all bits are the rest
+pub rest_back : (c : Contents) → IsOf (plain_shape [] [] 0 None) c →
+    plain_contents [] ([] ∷ [] ∷ [] ∷ []) c.rest ≡ c
+rest_back c is =
+    let none : [] ≡ c.fixed = sym (nil_from_length c.fixed is.fixed.all) in
+    ap (λ (vs : List ℕ). plain_contents vs ([] ∷ [] ∷ [] ∷ []) c.rest) none
+    ∙ ap (λ (cs : List (List ℕ)). plain_contents c.fixed cs c.rest)
+    (no_columns c.columns is.columns)
+    ∙ plain_back [] [] 0 None c is
 
 -- the records of one field
 pub record_map : (w : ℕ) (ns : List ℕ) →

@@ -2,10 +2,10 @@
 use Rattle.paging_message.proofs.Common.{◌≡◌, ◌≢◌, ℕ, zero, suc, ◌+◌, ◌-◌, ◌*◌, ◌/◌, ◌%◌, ◌^◌, ◌<◌, ◌≤◌, ◌==◌, ◌&&◌, Bool, true, false, cond}
 use Rattle.paging_message.proofs.Common.{List, [], ◌∷◌, ◌++◌, length, get_or, drop, refl, sym, ap, subst, ◌∙◌, arith, nat_le, inl}
 use Rattle.paging_message.proofs.Common.{inr, Option, Some, None, cases_Bool, cases_lt, eqb-false, eqb-true, ne_eqb, le-leb, lt-leb, length-append, length-drop}
-use Rattle.paging_message.proofs.Common.{nil_from_length, mul_comm, append_assoc, length-binary, binary, places, field, spelled, in_widths, FieldsFit, Field}
+use Rattle.paging_message.proofs.Common.{mul_comm, append_assoc, length-binary, binary, places, field, spelled, in_widths, FieldsFit, Field}
 use Rattle.paging_message.proofs.Common.{map-places-all, dropped, spelled-append, values_at, FillsCapsule, M30, record_fields, count_in}
 use Rattle.paging_message.proofs.Common.{height, both_columns, first_column, no_columns, fields_reading, list_reading, list_said, list_told}
-use Rattle.paging_message.proofs.Common.{plain_back, plain_length, plain_of, plain_spelled, record_map, plain_contents, plain_shape, mapped}
+use Rattle.paging_message.proofs.Common.{plain_back, plain_length, plain_of, plain_spelled, record_map, rest_back, mapped_cond, plain_contents, plain_shape, mapped}
 use Rattle.paging_message.proofs.Common.{reading, is_lawful, Shape, spelling, IsOf, Contents, admits, channel_body, channel_records}
 use Rattle.paging_message.proofs.Common.{IsChannelList, message_body, IsPagingMessage, neighbor_body, neighbor_records, IsNeighborList}
 use Rattle.paging_message.proofs.Common.{body_of_fields, system_values, system_widths, IsSystem, ChannelFields, NeighborFields}
@@ -183,15 +183,6 @@ channel_back c is =
     rw (values, first_column 11 c.columns is.columns)
     (plain_back channel_widths (11 ∷ []) 0 (Some 7) c is)
 
-other_back : (k : ℕ) (c : Contents) → IsOf (plain_shape [] [] 0 None) c →
-    other_contents (other_from k c) ≡ c
-other_back k c is =
-    let none : [] ≡ c.fixed = sym (nil_from_length c.fixed is.fixed.all) in
-    ap (λ (vs : List ℕ). plain_contents vs ([] ∷ [] ∷ [] ∷ []) c.rest) none
-    ∙ ap (λ (cs : List (List ℕ)). plain_contents c.fixed cs c.rest)
-    (no_columns c.columns is.columns)
-    ∙ plain_back [] [] 0 None c is
-
 -- a message that is made of contents
 abbrev Spells : ℕ → Shape → Contents → PagingMessage → Type 0
 Spells k s c m = IsPagingMessage m × (binary 8 k ++ spelling s c ≡ message_body m)
@@ -244,7 +235,7 @@ other_made k a b d =
     rw (a, b, d) (λ c small is fills.
     let m = other_from k c in
     spelled_so k (plain_shape [] [] 0 None) c (other_contents m) (messages.Other m)
-    (other_back k c is) is fills
+    (rest_back c is) is fills
     (λ of_own. typed k [] [] 0 None [] ([] ∷ [] ∷ [] ∷ []) m.bits [] refl)
     (λ of_own whole. record {
       spelled = record { fits = (small, tt); fills = whole };
@@ -277,10 +268,9 @@ made_of =
 -- where a test holds
 chosen : {A B : Type 0} (f : A → B) (t u : Bool) (x : A) (y : B) → t ≡ u → f x ≡ y →
     mapped f (cond t (Some x) None) ≡ cond u (Some y) None
-chosen f true true x y e same = ap Some same
-chosen f true false x y e same = absurd (cc)
-chosen f false true x y e same = absurd (cc)
-chosen f false false x y e same = refl
+chosen f t u x y e same =
+    mapped_cond f t x ∙ ap (λ (b : Bool). cond b (Some (f x)) None) e
+    ∙ ap (λ z. cond u (Some z) None) same
 
 -- so many bits behind the type are eight more of the body
 le_behind : (a n : ℕ) → nat_le a n ≡ nat_le (8 + a) (8 + n)

@@ -7,7 +7,7 @@ pub use Rattle.std.proofs.Math.Nat.{div-add-mod, mod-lt, mod_self, mul-add-mod_s
 pub use Rattle.std.proofs.lemmas.Bool.{and_from, and_parts, cases_Bool, cases_lt, eq-eqb, eqb-false, eqb-true, false_from_ne_true, le-leb}
 pub use Rattle.std.proofs.lemmas.Bool.{leb-true, lt-leb, lt-ltb, ne_eqb}
 pub use Rattle.std.proofs.lemmas.Grind.{flat_map-append}
-pub use Rattle.std.proofs.lemmas.List.{append-nil, drop-append-le, drop_all, drop_at, length-replicate, length-take-le, nil_from_length}
+pub use Rattle.std.proofs.lemmas.List.{append-nil, drop-append-le, drop_all, drop_at, length-replicate, length-take-le}
 pub use Rattle.std.proofs.lemmas.List.{replicate-append-replicate, take-append-drop, take-append-le, take_all}
 pub use Rattle.std.proofs.lemmas.List.Folds.{list_any-append}
 pub use Rattle.std.proofs.lemmas.Nat.{div-mul-add, mod-mul-add}
@@ -23,10 +23,11 @@ pub use Rattle.chip_core.specs.Fields.{FieldsFit, field, in_widths, spelled}
 pub use Rattle.chip_core.specs.Readings.{number_at, values_at}
 pub use Rattle.chip_core.specs.declared.check_form.CheckForm.{CheckForm}
 pub use Rattle.chip_core.specs.declared.field.Field.{Field}
-pub use Rattle.message_layout.proofs.Messages.{both_columns, first_column, mapped_some, no_columns}
+pub use Rattle.message_layout.proofs.Loops.{not_both}
+pub use Rattle.message_layout.proofs.Messages.{both_columns, first_column, mapped_cond, mapped_some, no_columns}
 pub use Rattle.message_layout.proofs.Parts.{guard_some, number_again, number_there}
 pub use Rattle.message_layout.proofs.Plain.{fields_reading, list_reading, list_said, list_told, plain_back, plain_length, plain_of}
-pub use Rattle.message_layout.proofs.Plain.{plain_spelled, record_map}
+pub use Rattle.message_layout.proofs.Plain.{plain_spelled, record_map, rest_back}
 pub use Rattle.message_layout.proofs.Round.{reading_again, reading_there}
 pub use Rattle.message_layout.specs.Contents.{count_in, height, record_fields}
 pub use Rattle.message_layout.specs.Plain.{plain_contents, plain_shape}

@@ -1,9 +1,9 @@
 -- Bodies of messages, spelled and read again.
-use Rattle.paging_message.proofs.Common.{◌≡◌, ℕ, ◌+◌, ◌%◌, ◌^◌, ◌<◌, ◌≤◌, ◌==◌, ◌&&◌, Bool, true, false, List, ◌++◌, length, drop, take}
+use Rattle.paging_message.proofs.Common.{◌≡◌, ℕ, ◌+◌, ◌%◌, ◌^◌, ◌<◌, ◌≤◌, ◌==◌, ◌&&◌, Bool, true, List, ◌++◌, length, drop, take}
 use Rattle.paging_message.proofs.Common.{refl, sym, ap, subst, ◌∙◌, arith, nat_le, inl, inr, Option, Some, None, IfSome, and_parts, and_from}
 use Rattle.paging_message.proofs.Common.{cases_Bool, cases_lt, eq-eqb, eqb-true, le-leb, leb-true, length-append, binary, number}
 use Rattle.paging_message.proofs.Common.{length-binary, behind_front, front, number_front, number_at, FillsCapsule, M30}
-use Rattle.paging_message.proofs.Common.{guard_some, number_again, number_part, number_there, mapped, mapped_some}
+use Rattle.paging_message.proofs.Common.{guard_some, not_both, number_again, number_part, number_there, mapped, mapped_some}
 use Rattle.paging_message.proofs.Common.{reading, reading_again, reading_there, spelling, IsOf, Contents, Shape, admits, HasMessage, message_body, IsPagingMessage}
 use Rattle.paging_message.proofs.Common.{PagingMessage, contents_of, kind_of, message_from, shape_of, body_reading, is_body}
 use Rattle.paging_message.proofs.Common.{message_at}
@@ -44,9 +44,6 @@ reads_body m is =
     ∙ typed_reading k (spelling (shape_of k) (contents_of m)) (kind_fits m is) fills
     ∙ ap (mapped (message_from k)) (reading_again (shape_of k) (contents_of m) (lawful k) s.is)
     ∙ ap Some s.made
-
-not_both : {b : Bool} → b ≡ false → ¬ (b ≡ true)
-not_both left right = cc
 
 -- the test of a body, and its type
 pub record IsTyped (body : List Bool) : Type 0 where

@@ -1,26 +1,61 @@
 -- Bodies of messages, spelled and read again.
 use Rattle.traffic_message.proofs.Common.{◌≡◌, ◌≢◌, ◌⊎◌, ℕ, ◌+◌, ◌-◌, ◌%◌, ◌^◌, ◌<◌, ◌≤◌, ◌==◌, ◌&&◌, Bool, true, false, List, [], ◌∷◌}
-use Rattle.traffic_message.proofs.Common.{◌++◌, length, take, drop, refl, sym, ap, subst, ◌∙◌, arith, append_assoc, length-append, nat_le}
+use Rattle.traffic_message.proofs.Common.{◌++◌, length, drop, refl, sym, ap, subst, ◌∙◌, arith, append_assoc, length-append, nat_le}
 use Rattle.traffic_message.proofs.Common.{inl, inr, Option, Some, None, and_from, and_parts, cases_Bool, eq-eqb, eqb-false, eqb-true}
-use Rattle.traffic_message.proofs.Common.{le-leb, leb-true, ne_eqb, drop_at, length-drop, take_all, binary, digit, spelled, in_widths}
+use Rattle.traffic_message.proofs.Common.{le-leb, leb-true, ne_eqb, drop_at, length-drop, binary, digit, spelled, in_widths}
 use Rattle.traffic_message.proofs.Common.{FieldsFit, number_at, values_at, digit_of, length-binary, behind_front, dropped, front}
-use Rattle.traffic_message.proofs.Common.{length-in_widths, number_front, values_again, values_there, FillsCapsule, M16, direction_bits}
-use Rattle.traffic_message.proofs.Common.{direction_reading, is_hard, IsHandoffDirection, in_traffic_bits, in_traffic_reading, IsInTraffic}
-use Rattle.traffic_message.proofs.Common.{update_bits, update_reading, IsNeighborUpdate, head_widths, TrafficBody, DirectionFields, Head}
-use Rattle.traffic_message.proofs.Common.{InTrafficFields, UpdateFields, mapped_some}
-use Rattle.traffic_message.proofs.ByLayout.{direction_again, direction_read, parameters_again, parameters_read, update_again}
-use Rattle.traffic_message.proofs.ByLayout.{update_read}
+use Rattle.traffic_message.proofs.Common.{length-in_widths, number_front, values_again, values_there, FillsCapsule, M16}
+use Rattle.traffic_message.proofs.Common.{is_hard}
+use Rattle.traffic_message.proofs.Common.{head_widths, TrafficBody, Head}
+use Rattle.traffic_message.proofs.Common.{Form, HasFields, body_from, contents_of, form_at, form_in, shape_of, head_shape, Contents, mapped}
+use Rattle.traffic_message.proofs.Common.{mapped_some, number_part, some_is, plain_contents, fields_reading, reading_again, reading_there}
+use Rattle.message_layout.specs.Reading as layouts
+use Rattle.traffic_message.proofs.ByLayout.{laid, lawful, made_of, placed, spelled_as}
+use Rattle.traffic_message.proofs.Directions.{soft_bits}
 use Rattle.traffic_message.specs.Messages as messages
 use Rattle.traffic_message.specs.Reading as reading
 use Rattle.traffic_message.specs.declared.body.TrafficBody.TheVariants as bodies
+use Rattle.traffic_message.specs.declared.layouts.Form.TheVariants as forms
 
 -- WHAT STANDS BEHIND THE HEAD
--- another body is read as it is
-other_plain : (h : Head) (kind : ℕ) (bits : List Bool) → kind ≢ 7 → kind ≢ 8 →
-    (kind ≢ 17) ⊎ (is_hard bits ≡ true) →
-    reading.part_reading kind h.encryption bits ≡ Some (bodies.Other kind bits)
-unfolding reading.part_reading
-other_plain h kind bits a b (inl c) =
+-- what its form says of the type
+abbrev IsForm : Form → ℕ → ℕ → List Bool → Type 0
+IsForm forms.Parameters kind encryption bits = (encryption ≡ 0) × (kind ≡ 7)
+IsForm forms.Update kind encryption bits = (encryption ≡ 0) × (kind ≡ 8)
+IsForm forms.Direction kind encryption bits = (encryption ≡ 0) × (kind ≡ 17)
+IsForm forms.Plain kind encryption bits =
+    (encryption ≢ 0) ⊎ ((kind ≢ 7) × (kind ≢ 8) × ((kind ≢ 17) ⊎ (is_hard bits ≡ true)))
+
+form_is : (kind encryption : ℕ) (bits : List Bool) →
+    IsForm (form_at kind encryption bits) kind encryption bits
+form_is kind encryption bits =
+    elim (cases_Bool (encryption == 0)) [
+      | inr f ↦ rw f (inl (eqb-false encryption 0 f))
+      | inl t ↦
+          let zero = eqb-true encryption 0 t in
+          elim (cases_Bool (kind == 7)) [
+            | inl a ↦ rw (t, a) (zero, eqb-true kind 7 a)
+            | inr a ↦ elim (cases_Bool (kind == 8)) [
+              | inl b ↦ rw (t, a, b) (zero, eqb-true kind 8 b)
+              | inr b ↦
+                  let not_7 = eqb-false kind 7 a in
+                  let not_8 = eqb-false kind 8 b in
+                  elim (cases_Bool (kind == 17)) [
+                    | inr d ↦ rw (t, a, b, d) (inr (not_7, not_8, inl (eqb-false kind 17 d)))
+                    | inl d ↦ elim (cases_Bool (is_hard bits)) [
+                      | inl hard ↦ rw (t, a, b, d, hard) (inr (not_7, not_8, inr hard))
+                      | inr soft ↦ rw (t, a, b, d, soft) (zero, eqb-true kind 17 d)
+                    ]
+                  ]
+            ]
+          ]
+    ]
+
+other_form : (h : Head) (kind : ℕ) (bits : List Bool) →
+    messages.IsOfKind h (bodies.Other kind bits) →
+    form_at kind h.encryption bits ≡ forms.Plain
+other_form h kind bits (inl secret) = let f = ne_eqb h.encryption 0 secret in rw f refl
+other_form h kind bits (inr (a, b, inl c)) =
     let x = ne_eqb kind 7 a in
     let y = ne_eqb kind 8 b in
     let z = ne_eqb kind 17 c in
@@ -28,41 +63,47 @@ other_plain h kind bits a b (inl c) =
       | inl t ↦ rw (t, x, y, z) refl
       | inr f ↦ rw f refl
     ]
-other_plain h kind bits a b (inr hard) =
+other_form h kind bits (inr (a, b, inr hard)) =
     let x = ne_eqb kind 7 a in
     let y = ne_eqb kind 8 b in
     elim (cases_Bool (h.encryption == 0)) [
-      | inl t ↦
-          elim (cases_Bool (kind == 17)) [
-            | inl z ↦ rw (t, x, y, z, hard) refl
-            | inr z ↦ rw (t, x, y, z) refl
-          ]
+      | inl t ↦ elim (cases_Bool (kind == 17)) [
+        | inl z ↦ rw (t, x, y, z, hard) refl
+        | inr z ↦ rw (t, x, y, z) refl
+      ]
       | inr f ↦ rw f refl
     ]
 
-other_again : (h : Head) (kind : ℕ) (bits : List Bool) →
-    messages.IsOfKind h (bodies.Other kind bits) →
-    reading.part_reading kind h.encryption bits ≡ Some (bodies.Other kind bits)
-unfolding reading.part_reading
-other_again h kind bits (inl secret) = let f = ne_eqb h.encryption 0 secret in rw f refl
-other_again h kind bits (inr plain) = other_plain h kind bits plain.0 plain.1 plain.2
+form_again : (h : Head) (b : TrafficBody) → messages.IsOfKind h b →
+    form_at (messages.kind_of b) h.encryption (messages.bits_of b) ≡ form_in b
+form_again h (bodies.System m) is = let t = eq-eqb h.encryption 0 is.0 in rw t refl
+form_again h (bodies.Neighbors m) is = let t = eq-eqb h.encryption 0 is.0 in rw t refl
+form_again h (bodies.Handoff m) is =
+    let t = eq-eqb h.encryption 0 is.0 in
+    let soft = soft_bits m is.1 in
+    rw (t, soft) refl
+form_again h (bodies.Other kind bits) is = other_form h kind bits is
 
+fields_of : (h : Head) (b : TrafficBody) → messages.IsOfKind h b → HasFields b
+fields_of h (bodies.System m) is = is.1
+fields_of h (bodies.Neighbors m) is = is.1
+fields_of h (bodies.Handoff m) is = is.1
+fields_of h (bodies.Other kind bits) is = tt
+
+-- what was spelled is read again
 pub part_again : (h : Head) (b : TrafficBody) → messages.IsOfKind h b →
     reading.part_reading (messages.kind_of b) h.encryption (messages.bits_of b) ≡ Some b
-unfolding reading.part_reading
-part_again h (bodies.System m) is =
-    let t = eq-eqb h.encryption 0 is.0 in
-    let read = parameters_again m is.1 in
-    rw (t, read) refl
-part_again h (bodies.Neighbors m) is =
-    let t = eq-eqb h.encryption 0 is.0 in
-    let read = update_again m is.1 in
-    rw (t, read) refl
-part_again h (bodies.Handoff m) is =
-    let t = eq-eqb h.encryption 0 is.0 in
-    let read = direction_again m is.1 in
-    rw (t, read.0, read.1) refl
-part_again h (bodies.Other kind bits) is = other_again h kind bits is
+part_again h b is =
+    let f = form_in b in
+    let k = messages.kind_of b in
+    let bits = messages.bits_of b in
+    let own = laid b (fields_of h b is) in
+    placed k h.encryption bits
+    ∙ ap (λ (g : Form). mapped (body_from g k) (layouts.reading (shape_of g) bits))
+    (form_again h b is)
+    ∙ ap (λ (r : List Bool). mapped (body_from f k) (layouts.reading (shape_of f) r)) (sym own.same)
+    ∙ ap (mapped (body_from f k)) (reading_again (shape_of f) (contents_of b) (lawful f) own.is)
+    ∙ ap Some own.made
 
 -- what it says has this type and these bits
 abbrev pub Says : ℕ → ℕ → List Bool → TrafficBody → Type 0
@@ -70,106 +111,41 @@ Says kind encryption bits b =
     (messages.kind_of b ≡ kind) × (messages.bits_of b ≡ bits)
     × ((h : Head) → h.encryption ≡ encryption → messages.IsOfKind h b)
 
-other_says : (kind encryption : ℕ) (bits : List Bool) →
-    (encryption ≢ 0) ⊎ ((kind ≢ 7) × (kind ≢ 8) × ((kind ≢ 17) ⊎ (is_hard bits ≡ true))) →
-    Says kind encryption bits (bodies.Other kind bits)
-other_says kind encryption bits (inl secret) =
-    (refl, refl, λ h e. inl (λ z. secret (sym e ∙ z)))
-other_says kind encryption bits (inr plain) = (refl, refl, λ h e. inr plain)
+kind_is : (f : Form) (kind encryption : ℕ) (bits : List Bool) (c : Contents) →
+    IsForm f kind encryption bits → messages.kind_of (body_from f kind c) ≡ kind
+kind_is forms.Parameters kind encryption bits c is = sym is.1
+kind_is forms.Update kind encryption bits c is = sym is.1
+kind_is forms.Direction kind encryption bits c is = sym is.1
+kind_is forms.Plain kind encryption bits c is = refl
 
--- what a type's fields say
-parameters_say : (kind encryption : ℕ) (bits : List Bool) (m : InTrafficFields) →
-    encryption ≡ 0 → kind ≡ 7 → IsInTraffic m × (bits ≡ in_traffic_bits m) →
-    Says kind encryption bits (bodies.System m)
-parameters_say kind encryption bits m zero seven read =
-    (sym seven, sym read.1, λ h same. (same ∙ zero, read.0))
-
-neighbors_say : (kind encryption : ℕ) (bits : List Bool) (m : UpdateFields) →
-    encryption ≡ 0 → kind ≡ 8 → IsNeighborUpdate m × (bits ≡ update_bits m) →
-    Says kind encryption bits (bodies.Neighbors m)
-neighbors_say kind encryption bits m zero eight read =
-    (sym eight, sym read.1, λ h same. (same ∙ zero, read.0))
-
-direction_says : (kind encryption : ℕ) (bits : List Bool) (m : DirectionFields) →
-    encryption ≡ 0 → kind ≡ 17 → IsHandoffDirection m × (bits ≡ direction_bits m) →
-    Says kind encryption bits (bodies.Handoff m)
-direction_says kind encryption bits m zero last read =
-    (sym last, sym read.1, λ h same. (same ∙ zero, read.0))
-
--- the exits of the reading, by the tests
-read_7 : (kind encryption : ℕ) (bits : List Bool) (b : TrafficBody) → encryption ≡ 0 → kind ≡ 7 →
-    reading.part_reading kind encryption bits ≡ Some b → Says kind encryption bits b
-unfolding reading.part_reading
-read_7 kind encryption bits b zero seven e =
-    let t = eq-eqb encryption 0 zero in
-    let k = eq-eqb kind 7 seven in
-    let some = mapped_some bodies.System (in_traffic_reading bits) b (rw (t, k) at e) in
-    subst (Says kind encryption bits) {x = bodies.System some.0} some.2
-    (parameters_say kind encryption bits some.0 zero seven (parameters_read bits some.0 some.1))
-
-read_8 : (kind encryption : ℕ) (bits : List Bool) (b : TrafficBody) → encryption ≡ 0 → kind ≡ 8 →
-    reading.part_reading kind encryption bits ≡ Some b → Says kind encryption bits b
-unfolding reading.part_reading
-read_8 kind encryption bits b zero eight e =
-    let t = eq-eqb encryption 0 zero in
-    let j = ne_eqb kind 7 (λ same. omega (arith, eight, same)) in
-    let k = eq-eqb kind 8 eight in
-    let some = mapped_some bodies.Neighbors (update_reading bits) b (rw (t, j, k) at e) in
-    subst (Says kind encryption bits) {x = bodies.Neighbors some.0} some.2
-    (neighbors_say kind encryption bits some.0 zero eight (update_read bits some.0 some.1))
-
-read_17 : (kind encryption : ℕ) (bits : List Bool) (b : TrafficBody) → encryption ≡ 0 →
-    kind ≡ 17 → is_hard bits ≡ false →
-    reading.part_reading kind encryption bits ≡ Some b → Says kind encryption bits b
-unfolding reading.part_reading
-read_17 kind encryption bits b zero last soft e =
-    let t = eq-eqb encryption 0 zero in
-    let i = ne_eqb kind 7 (λ same. omega (arith, last, same)) in
-    let j = ne_eqb kind 8 (λ same. omega (arith, last, same)) in
-    let k = eq-eqb kind 17 last in
-    let some = mapped_some bodies.Handoff (direction_reading bits) b
-    (rw (t, i, j, k, soft) at e) in
-    subst (Says kind encryption bits) {x = bodies.Handoff some.0} some.2
-    (direction_says kind encryption bits some.0 zero last (direction_read bits some.0 soft some.1))
-
-read_other : (h : Head) (kind : ℕ) (bits : List Bool) (b : TrafficBody) →
-    messages.IsOfKind h (bodies.Other kind bits) →
-    reading.part_reading kind h.encryption bits ≡ Some b → Says kind h.encryption bits b
-read_other h kind bits b is e =
-    let found : Some (bodies.Other kind bits) ≡ Some b = sym (other_again h kind bits is) ∙ e in
-    let same : bodies.Other kind bits ≡ b = cc in
-    subst (Says kind h.encryption bits) same (other_says kind h.encryption bits is)
+of_kind : (f : Form) (kind encryption : ℕ) (bits : List Bool) (c : Contents) (h : Head) →
+    IsForm f kind encryption bits → HasFields (body_from f kind c) →
+    bits ≡ messages.bits_of (body_from f kind c) → h.encryption ≡ encryption →
+    messages.IsOfKind h (body_from f kind c)
+of_kind forms.Parameters kind encryption bits c h is fields same e = (e ∙ is.0, fields)
+of_kind forms.Update kind encryption bits c h is fields same e = (e ∙ is.0, fields)
+of_kind forms.Direction kind encryption bits c h is fields same e = (e ∙ is.0, fields)
+of_kind forms.Plain kind encryption bits c h (inl secret) fields same e =
+    inl (λ z. secret (sym e ∙ z))
+of_kind forms.Plain kind encryption bits c h (inr plain) fields same e =
+    inr (plain.0, plain.1, subst (λ (r : List Bool). (kind ≢ 17) ⊎ (is_hard r ≡ true)) same plain.2)
 
 -- what is read is spelled so
 pub part_there : (h : Head) (kind : ℕ) (bits : List Bool) (b : TrafficBody) →
     reading.part_reading kind h.encryption bits ≡ Some b → Says kind h.encryption bits b
 part_there h kind bits b e =
-    let x = h.encryption in
-    elim (cases_Bool (x == 0)) [
-      | inr f ↦ read_other h kind bits b (inl (eqb-false x 0 f)) e
-      | inl t ↦
-          let zero = eqb-true x 0 t in
-          elim (cases_Bool (kind == 7)) [
-            | inl k ↦ read_7 kind x bits b zero (eqb-true kind 7 k) e
-            | inr f7 ↦
-                elim (cases_Bool (kind == 8)) [
-                  | inl k ↦ read_8 kind x bits b zero (eqb-true kind 8 k) e
-                  | inr f8 ↦
-                      let a = eqb-false kind 7 f7 in
-                      let c = eqb-false kind 8 f8 in
-                      elim (cases_Bool (kind == 17)) [
-                        | inr f17 ↦
-                            read_other h kind bits b (inr (a, c, inl (eqb-false kind 17 f17))) e
-                        | inl k ↦
-                            elim (cases_Bool (is_hard bits)) [
-                              | inl hard ↦ read_other h kind bits b (inr (a, c, inr hard)) e
-                              | inr soft ↦
-                                  read_17 kind x bits b zero (eqb-true kind 17 k) soft e
-                            ]
-                      ]
-                ]
-          ]
-    ]
+    let f = form_at kind h.encryption bits in
+    let is = form_is kind h.encryption bits in
+    let some = mapped_some (body_from f kind) (layouts.reading (shape_of f) bits) b
+    (sym (placed kind h.encryption bits) ∙ e) in
+    let there = reading_there (shape_of f) bits some.0 (lawful f) some.1 in
+    let made = made_of f kind some.0 there.0 in
+    let same = spelled_as f some.0 (body_from f kind some.0) bits made there.1 in
+    subst (Says kind h.encryption bits) some.2 (
+      kind_is f kind h.encryption bits some.0 is,
+      sym same,
+      λ g e. of_kind f kind h.encryption bits some.0 g is made.fields same e,
+    )
 
 -- THE HEAD
 bit_back : (b : Bool) → (digit b == 1) ≡ b
@@ -341,48 +317,97 @@ message_there body m e =
     (part_there (reading.head_at body) (number_at 0 8 body) (drop 17 body) p.1 p.2))
 
 -- WHAT THE CODE READS AND WRITES
-pub head_fits : (body : List Bool) (vs : List ℕ) → 17 ≤ length body →
-    vs ≡ values_at head_widths (drop 8 body) → FieldsFit (in_widths head_widths vs)
-head_fits body vs room is =
-    let v = values_there head_widths (drop 8 body) (omega (arith, room, length-drop 8 body)) in
-    subst (λ (us : List ℕ). FieldsFit (in_widths head_widths us)) (sym is) v.1
-
-pub head_from : (body : List Bool) (vs : List ℕ) (h : Head) →
-    vs ≡ values_at head_widths (drop 8 body) → h ≡ reading.head_of vs → h ≡ reading.head_at body
-unfolding reading.head_at
-head_from body vs h a b = b ∙ ap reading.head_of a
-
 pub no_body : (body : List Bool) → reading.is_body body ≡ false → None ≡ reading.body_reading body
 unfolding reading.body_reading
 no_body body f = rw f refl
 
-pub no_part : (body : List Bool) → reading.is_body body ≡ true →
-    reading.part_reading (number_at 0 8 body) (reading.head_at body).encryption (drop 17 body)
-    ≡ None → None ≡ reading.body_reading body
+abbrev pub message : Head → TrafficBody → messages.Message
+message h b = record { head = h; body = b }
+
+-- the type, the head and what stands behind it, as their layouts have them
+pub record AreParts (body : List Bool) (k : ℕ) (c : Contents) : Type 0 where
+  pub kind : k ≡ number_at 0 8 body
+  pub head : reading.head_of c.fixed ≡ reading.head_at body
+  pub fit : FieldsFit (messages.head_fields (reading.head_of c.fixed))
+  pub behind : c.rest ≡ drop 17 body
+
+abbrev head_said : List Bool → Contents
+head_said body =
+    plain_contents (values_at head_widths (drop 8 body)) ([] ∷ [] ∷ [] ∷ []) (drop 9 (drop 8 body))
+
+pub kind_there : (body : List Bool) → reading.is_body body ≡ true →
+    number_part 8 body ≡ Some (number_at 0 8 body, drop 8 body)
+unfolding number_part
+kind_there body t =
+    let some = le-leb 8 (length body) (omega (arith, (is_body_parts body t).1)) in
+    rw some refl
+
+pub head_there : (body : List Bool) → reading.is_body body ≡ true →
+    layouts.reading head_shape (drop 8 body) ≡ Some (head_said body)
+head_there body t =
+    let w = drop 8 body in
+    let some = le-leb 9 (length w)
+    (omega (arith, (is_body_parts body t).1, length-drop 8 body)) in
+    fields_reading head_widths w ∙ rw some refl
+
+pub no_kind : (body : List Bool) → reading.is_body body ≡ true → ¬ (None ≡ number_part 8 body)
+no_kind body t none =
+    let first : ℕ × List Bool = (number_at 0 8 body, drop 8 body) in
+    let some : None ≡ Some first = none ∙ kind_there body t in
+    absurd (cc)
+
+behind_kind : (body w : List Bool) (k : ℕ) → reading.is_body body ≡ true →
+    Some (k, w) ≡ number_part 8 body → (k ≡ number_at 0 8 body) × (w ≡ drop 8 body)
+behind_kind body w k t typed =
+    let first : ℕ × List Bool = (number_at 0 8 body, drop 8 body) in
+    let pair : (k, w) ≡ first = some_is (k, w) first (typed ∙ kind_there body t) in
+    (ap (λ (x : ℕ × List Bool). x.0) pair, ap (λ (x : ℕ × List Bool). x.1) pair)
+
+pub no_head : (body w : List Bool) (k : ℕ) → reading.is_body body ≡ true →
+    Some (k, w) ≡ number_part 8 body → ¬ (None ≡ layouts.reading head_shape w)
+no_head body w k t typed none =
+    let some : None ≡ Some (head_said body) =
+    none ∙ ap (layouts.reading head_shape) (behind_kind body w k t typed).1 ∙ head_there body t in
+    absurd (cc)
+
+pub are_parts : (body w : List Bool) (k : ℕ) (c : Contents) → reading.is_body body ≡ true →
+    Some (k, w) ≡ number_part 8 body → Some c ≡ layouts.reading head_shape w → AreParts body k c
+unfolding reading.head_at
+are_parts body w k c t typed read =
+    let there = behind_kind body w k t typed in
+    let same : c ≡ head_said body =
+    some_is c (head_said body)
+    (read ∙ ap (layouts.reading head_shape) there.1 ∙ head_there body t) in
+    let values : c.fixed ≡ values_at head_widths (drop 8 body) =
+    ap (λ (d : Contents). d.fixed) same in
+    let v = values_there head_widths (drop 8 body)
+    (omega (arith, (is_body_parts body t).1, length-drop 8 body)) in
+    let vs = values_at head_widths (drop 8 body) in
+    record {
+      kind = there.0;
+      head = ap reading.head_of values;
+      fit = subst (λ (us : List ℕ). FieldsFit (messages.head_fields (reading.head_of us))) (sym values)
+          (subst (λ (us : List ℕ). FieldsFit (in_widths head_widths us)) (sym (head_back vs v.0 v.1)) v.1);
+      behind = ap (λ (d : Contents). d.rest) same ∙ dropped 9 8 body;
+    }
+
+-- what was read behind a head
+pub part_read : (body : List Bool) (k : ℕ) (c : Contents) (h : Head) (read : Option TrafficBody) →
+    reading.is_body body ≡ true → AreParts body k c → h ≡ reading.head_of c.fixed →
+    read ≡ reading.part_reading k h.encryption c.rest →
+    mapped (message h) read ≡ reading.body_reading body
 unfolding reading.body_reading
-no_part body t none = rw (t, none) refl
-
--- the type, the head and what stands behind it are those of the body
-pub part_from : (body bits : List Bool) (kind : ℕ) (h : Head) (read : Option TrafficBody) →
-    kind ≡ number_at 0 8 body → h ≡ reading.head_at body →
-    bits ≡ take (length body - 17) (drop 17 body) →
-    read ≡ reading.part_reading kind h.encryption bits →
-    reading.part_reading (number_at 0 8 body) (reading.head_at body).encryption (drop 17 body)
-    ≡ read
-part_from body bits kind h read a b c d =
-    let all : bits ≡ drop 17 body =
-    c ∙ take_all (length body - 17) (drop 17 body) (omega (arith, length-drop 17 body)) in
-    sym (d ∙ ap (λ (k : ℕ). reading.part_reading k h.encryption bits) a
-    ∙ ap (λ (g : Head). reading.part_reading (number_at 0 8 body) g.encryption bits) b
-    ∙ ap (reading.part_reading (number_at 0 8 body) (reading.head_at body).encryption) all)
-
-pub message_from : (body : List Bool) (h : Head) (b : TrafficBody) → reading.is_body body ≡ true →
-    h ≡ reading.head_at body →
-    reading.part_reading (number_at 0 8 body) (reading.head_at body).encryption (drop 17 body)
-    ≡ Some b →
-    Some (record { head = h; body = b }) ≡ reading.body_reading body
-message_from body h b t is part =
-    ap (λ (g : Head). Some (record { head = g; body = b })) is ∙ sym (body_read body b t part)
+part_read body k c h read t parts head e =
+    let g = reading.head_at body in
+    let n = number_at 0 8 body in
+    let all : mapped (message g) (reading.part_reading n g.encryption (drop 17 body))
+    ≡ reading.body_reading body = rw t refl in
+    ap (mapped (message h)) e
+    ∙ ap (λ (x : Head). mapped (message x) (reading.part_reading k x.encryption c.rest))
+    (head ∙ parts.head)
+    ∙ ap (λ (x : ℕ). mapped (message g) (reading.part_reading x g.encryption c.rest)) parts.kind
+    ∙ ap (λ (r : List Bool). mapped (message g) (reading.part_reading n g.encryption r))
+    parts.behind ∙ all
 
 pub message_written : (m : messages.Message) (one two after : List Bool) →
     one ≡ binary 8 (messages.kind_of m.body) →

@@ -6,21 +6,20 @@ use Rattle.traffic_message.proofs.Common.{leb-true, lt-leb, append-nil, length-d
 use Rattle.traffic_message.proofs.Common.{number_at, values_at, column_at, Field, map-places-all, dropped, front, record_fields, mapped}
 use Rattle.traffic_message.proofs.Common.{◌>>=◌, fields_at, group_at, number_part, octets_at, part_at, presence_at, reading, records_at}
 use Rattle.traffic_message.proofs.Common.{rest_at, is_lawful, behind_group, group_fields, spelling, IsGroup, IsOf, Contents, Flagged}
-use Rattle.traffic_message.proofs.Common.{ByLayout, all_columns, contents_in, first_column, no_columns, mapped_cond, not_both, one_value}
+use Rattle.traffic_message.proofs.Common.{all_columns, first_column, no_columns, mapped_cond, not_both, one_value}
 use Rattle.traffic_message.proofs.Common.{plain_contents, plain_of, plain_back, fields_reading, list_reading, list_said, list_told}
-use Rattle.traffic_message.proofs.Common.{record_map, read_again, read_there, in_traffic_widths, search_widths, time_widths}
-use Rattle.traffic_message.proofs.Common.{DirectionFields, InTrafficFields, Search, UpdateFields}
-use Rattle.traffic_message.proofs.Directions.{first_is, hard_is, octets_is, place_clear, place_set, soft_bits}
+use Rattle.traffic_message.proofs.Common.{record_map, in_traffic_widths, search_widths, time_widths}
+use Rattle.traffic_message.proofs.Common.{DirectionFields, InTrafficFields, Search, UpdateFields, TrafficBody, Form, not, count_in, rest_back}
+use Rattle.traffic_message.proofs.Common.{plain_spelled, part_reading, bits_of, kind_of, Shape, Head, head_fields, head_values, head_widths}
+use Rattle.traffic_message.proofs.Directions.{first_is, hard_is, octets_is, place_clear, place_set}
 use Rattle.traffic_message.specs.Handoff as handoff
 use Rattle.traffic_message.specs.InTraffic as parameters
 use Rattle.traffic_message.specs.Layouts as layouts
 use Rattle.traffic_message.specs.Neighbors as updates
+use Rattle.traffic_message.specs.declared.body.TrafficBody.TheVariants as bodies
+use Rattle.traffic_message.specs.declared.layouts.Form.TheVariants as forms
 
 -- IN-TRAFFIC SYSTEM PARAMETERS
-pub parameters_lawful : is_lawful layouts.in_traffic_shape ≡ true
-unfolding is_lawful
-parameters_lawful = refl
-
 pub parameters_of : (m : InTrafficFields) → parameters.IsInTraffic m →
     IsOf layouts.in_traffic_shape (layouts.in_traffic_contents m)
 parameters_of m is =
@@ -42,15 +41,6 @@ parameters_back c is =
     sym (map-places-all (λ k. get_or c.fixed k 0) c.fixed 10 0 is.fixed.all (λ k lt. refl)) in
     rw (values, no_columns c.columns is.columns) (plain_back in_traffic_widths [] 0 None c is)
 
-parameters_made : (m : InTrafficFields) →
-    layouts.in_traffic_from (layouts.in_traffic_contents m) ≡ m
-unfolding parameters.in_traffic_of
-parameters_made m = refl
-
-parameters_layout : ByLayout layouts.in_traffic_shape layouts.in_traffic_contents layouts.in_traffic_from
-parameters_layout =
-    record { lawful = parameters_lawful; back = parameters_back; made = parameters_made }
-
 pub parameters_by_layout : (bits : List Bool) →
     parameters.in_traffic_reading bits
     ≡ mapped layouts.in_traffic_from (reading layouts.in_traffic_shape bits)
@@ -61,10 +51,6 @@ parameters_by_layout bits =
     ∙ mapped_cond layouts.in_traffic_from (nat_le 67 (length bits)) said)
 
 -- NEIGHBOR LIST UPDATE
-pub update_lawful : is_lawful layouts.update_shape ≡ true
-unfolding is_lawful
-update_lawful = refl
-
 pub update_of : (m : UpdateFields) → updates.IsNeighborUpdate m →
     IsOf layouts.update_shape (layouts.update_contents m)
 update_of m is =
@@ -96,9 +82,6 @@ update_back c is =
     let values : get_or c.fixed 0 0 ∷ [] ≡ c.fixed = one_value c.fixed is.fixed.all in
     rw (values, first_column 9 c.columns is.columns)
     (plain_back (4 ∷ []) (9 ∷ []) 1 (Some 7) c is)
-
-update_layout : ByLayout layouts.update_shape layouts.update_contents layouts.update_from
-update_layout = record { lawful = update_lawful; back = update_back; made = λ m. refl }
 
 -- four bits and a record are 13
 some_records : (n : ℕ) (few : Bool) →
@@ -148,45 +131,7 @@ update_by_layout bits =
     ∙ ap (λ (b : Bool). cond b (Some (layouts.update_from said)) None) (told_same bits)
     ∙ ap (λ (u : UpdateFields). cond (updates.has_neighbors bits) (Some u) None) (said_same bits))
 
--- what was spelled is read again, and what is read is spelled so
-pub update_again : (m : UpdateFields) → updates.IsNeighborUpdate m →
-    updates.update_reading (updates.update_bits m) ≡ Some m
-update_again m is =
-    update_by_layout (updates.update_bits m)
-    ∙ ap (λ (r : List Bool). mapped layouts.update_from (reading layouts.update_shape r))
-    (sym (update_spelled m))
-    ∙ read_again layouts.update_shape layouts.update_contents layouts.update_from update_layout m
-    (update_of m is)
-
-pub update_read : (bits : List Bool) (m : UpdateFields) → updates.update_reading bits ≡ Some m →
-    updates.IsNeighborUpdate m × (bits ≡ updates.update_bits m)
-update_read bits m e =
-    let there = read_there layouts.update_shape layouts.update_contents layouts.update_from
-    update_layout bits m (sym (update_by_layout bits) ∙ e) in
-    (update_is m there.0, there.1 ∙ update_spelled m)
-
-pub parameters_again : (m : InTrafficFields) → parameters.IsInTraffic m →
-    parameters.in_traffic_reading (parameters.in_traffic_bits m) ≡ Some m
-parameters_again m is =
-    parameters_by_layout (parameters.in_traffic_bits m)
-    ∙ ap (λ (r : List Bool). mapped layouts.in_traffic_from (reading layouts.in_traffic_shape r))
-    (sym (parameters_spelled m))
-    ∙ read_again layouts.in_traffic_shape layouts.in_traffic_contents layouts.in_traffic_from
-    parameters_layout m (parameters_of m is)
-
-pub parameters_read : (bits : List Bool) (m : InTrafficFields) →
-    parameters.in_traffic_reading bits ≡ Some m →
-    parameters.IsInTraffic m × (bits ≡ parameters.in_traffic_bits m)
-parameters_read bits m e =
-    let there = read_there layouts.in_traffic_shape layouts.in_traffic_contents
-    layouts.in_traffic_from parameters_layout bits m (sym (parameters_by_layout bits) ∙ e) in
-    (there.0.fixed.fit, there.1 ∙ parameters_spelled m)
-
 -- EXTENDED HANDOFF DIRECTION
-pub direction_lawful : is_lawful layouts.direction_shape ≡ true
-unfolding is_lawful
-direction_lawful = refl
-
 pub direction_fields : (pns combs rows : List ℕ) → length combs ≡ length pns →
     length rows ≡ length pns →
     record_fields (9 ∷ 1 ∷ 8 ∷ []) (length pns) (pns ∷ combs ∷ rows ∷ [])
@@ -288,10 +233,6 @@ search_made (Some search) = refl
 direction_made : (m : DirectionFields) → layouts.direction_from (layouts.direction_contents m) ≡ m
 unfolding handoff.direction_of
 direction_made m = rw (search_made m.search) refl
-
-direction_layout : ByLayout layouts.direction_shape layouts.direction_contents layouts.direction_from
-direction_layout =
-    record { lawful = direction_lawful; back = direction_back; made = direction_made }
 
 -- what stands behind the search parameters
 abbrev behind_search : List ℕ → Option (List ℕ) → List Bool → Option Contents
@@ -598,32 +539,6 @@ direction_by_layout bits soft =
           by_group bits None 10 p.0 p.1 soft (front_clear bits f) (front_short bits)
     ]
 
--- what was spelled is read again, and what is read is spelled so
-abbrev pub DirectionAgain : DirectionFields → List Bool → Type 0
-DirectionAgain m bits =
-    (handoff.is_hard bits ≡ false) × (handoff.direction_reading bits ≡ Some m)
-
-pub direction_again : (m : DirectionFields) → handoff.IsHandoffDirection m →
-    DirectionAgain m (handoff.direction_bits m)
-direction_again m is =
-    let soft = soft_bits m is in (
-      soft,
-      direction_by_layout (handoff.direction_bits m) soft
-          ∙ ap (λ (r : List Bool). mapped layouts.direction_from
-          (reading layouts.direction_shape r)) (sym (direction_spelled m is.combs is.rows))
-          ∙ read_again layouts.direction_shape layouts.direction_contents layouts.direction_from
-          direction_layout m (direction_of_message m is),
-    )
-
-pub direction_read : (bits : List Bool) (m : DirectionFields) → handoff.is_hard bits ≡ false →
-    handoff.direction_reading bits ≡ Some m →
-    handoff.IsHandoffDirection m × (bits ≡ handoff.direction_bits m)
-direction_read bits m soft e =
-    let there = read_there layouts.direction_shape layouts.direction_contents
-    layouts.direction_from direction_layout bits m (sym (direction_by_layout bits soft) ∙ e) in
-    let is = direction_is m there.0 in
-    (is, there.1 ∙ direction_spelled m is.combs is.rows)
-
 -- THE NEIGHBORS
 pub neighbor_fits : (pns : List ℕ) (i : ℕ) → FieldsFit (map (field 9) pns) → i < length pns →
     get_or pns i 0 < 2 ^ 9
@@ -631,49 +546,169 @@ neighbor_fits [] i fit h = absurd (omega (arith, h))
 neighbor_fits (pn ∷ pns) zero fit h = fit.0
 neighbor_fits (pn ∷ pns) (suc i) fit h = neighbor_fits pns i fit.1 (omega (arith, h))
 
--- WHAT THE CODE READS
-pub parameters_told : (bits : List Bool) (told : Option Contents) →
-    told ≡ reading layouts.in_traffic_shape bits →
-    mapped layouts.in_traffic_from told ≡ parameters.in_traffic_reading bits
-parameters_told bits told e =
-    ap (mapped layouts.in_traffic_from) e ∙ sym (parameters_by_layout bits)
+-- WHAT STANDS BEHIND A HEAD
+pub lawful : (f : Form) → is_lawful (layouts.shape_of f) ≡ true
+unfolding is_lawful
+lawful forms.Parameters = refl
+lawful forms.Update = refl
+lawful forms.Direction = refl
+lawful forms.Plain = refl
 
-pub update_told : (bits : List Bool) (told : Option Contents) →
-    told ≡ reading layouts.update_shape bits →
-    mapped layouts.update_from told ≡ updates.update_reading bits
-update_told bits told e = ap (mapped layouts.update_from) e ∙ sym (update_by_layout bits)
+pub few_records : (f : Form) (count : ℕ) → count ≤ 1143 →
+    count_in (layouts.shape_of f).records count ≤ 128
+few_records forms.Parameters count h = omega arith
+few_records forms.Update count h = omega (arith, h)
+few_records forms.Direction count h = omega (arith, h)
+few_records forms.Plain count h = omega arith
 
-pub direction_told : (bits : List Bool) (told : Option Contents) →
-    handoff.is_hard bits ≡ false → told ≡ reading layouts.direction_shape bits →
-    mapped layouts.direction_from told ≡ handoff.direction_reading bits
-direction_told bits told soft e =
-    ap (mapped layouts.direction_from) e ∙ sym (direction_by_layout bits soft)
+-- what a body says are contents of its layout, which are spelled as it is, and are those of no other
+pub record IsLaid (f : Form) (kind : ℕ) (c : Contents) (b : TrafficBody) : Type 0 where
+  pub is : IsOf (layouts.shape_of f) c
+  pub same : spelling (layouts.shape_of f) c ≡ bits_of b
+  pub made : layouts.body_from f kind c ≡ b
 
--- the contents of a layout are a message
-pub parameters_in : (c : Contents) → IsOf layouts.in_traffic_shape c →
-    parameters.IsInTraffic (layouts.in_traffic_from c)
-parameters_in c is =
-    (contents_in layouts.in_traffic_shape layouts.in_traffic_contents layouts.in_traffic_from
-    parameters_layout c is).fixed.fit
+pub laid : (b : TrafficBody) → layouts.HasFields b →
+    IsLaid (layouts.form_in b) (kind_of b) (layouts.contents_of b) b
+unfolding parameters.in_traffic_of
+laid (bodies.System m) is =
+    record { is = parameters_of m is; same = parameters_spelled m; made = refl }
+laid (bodies.Neighbors m) is = record { is = update_of m is; same = update_spelled m; made = refl }
+laid (bodies.Handoff m) is =
+    record {
+      is = direction_of_message m is;
+      same = direction_spelled m is.combs is.rows;
+      made = ap bodies.Handoff (direction_made m);
+    }
+laid (bodies.Other kind bits) is =
+    record {
+      is = plain_of [] [] 0 None [] ([] ∷ [] ∷ [] ∷ []) bits (record { all = refl; fit = tt }) refl
+          tt (omega arith) tt;
+      same = plain_spelled [] [] 0 None [] ([] ∷ [] ∷ [] ∷ []) bits;
+      made = refl;
+    }
 
-pub update_in : (c : Contents) → IsOf layouts.update_shape c →
-    updates.IsNeighborUpdate (layouts.update_from c)
-update_in c is =
-    update_is (layouts.update_from c)
-    (contents_in layouts.update_shape layouts.update_contents layouts.update_from update_layout c is)
+-- contents of a layout are those of the body that is made of them
+pub record IsMade (f : Form) (c : Contents) (b : TrafficBody) : Type 0 where
+  pub fields : layouts.HasFields b
+  pub form : layouts.form_in b ≡ f
+  pub contents : layouts.contents_of b ≡ c
 
-pub direction_in : (c : Contents) → IsOf layouts.direction_shape c →
-    handoff.IsHandoffDirection (layouts.direction_from c)
-direction_in c is =
-    direction_is (layouts.direction_from c)
-    (contents_in layouts.direction_shape layouts.direction_contents layouts.direction_from
-    direction_layout c is)
+pub made_of : (f : Form) (kind : ℕ) (c : Contents) → IsOf (layouts.shape_of f) c →
+    IsMade f c (layouts.body_from f kind c)
+made_of forms.Parameters kind c is =
+    let back = parameters_back c is in
+    record {
+      fields = (subst (IsOf layouts.in_traffic_shape) (sym back) is).fixed.fit;
+      form = refl;
+      contents = back;
+    }
+made_of forms.Update kind c is =
+    let back = update_back c is in
+    record {
+      fields = update_is (layouts.update_from c)
+          (subst (IsOf layouts.update_shape) (sym back) is);
+      form = refl;
+      contents = back;
+    }
+made_of forms.Direction kind c is =
+    let back = direction_back c is in
+    record {
+      fields = direction_is (layouts.direction_from c)
+          (subst (IsOf layouts.direction_shape) (sym back) is);
+      form = refl;
+      contents = back;
+    }
+made_of forms.Plain kind c is = record { fields = tt; form = refl; contents = rest_back c is }
 
--- each value that was read fits
-pub step_fits : (c : Contents) → IsOf layouts.update_shape c → get_or c.fixed 0 0 < 2 ^ 4
-step_fits c is = (update_in c is).fits.0
+-- and so they are spelled as it is
+pub spelled_as : (f : Form) (c : Contents) (b : TrafficBody) (bits : List Bool) → IsMade f c b →
+    bits ≡ spelling (layouts.shape_of f) c → bits ≡ bits_of b
+spelled_as f c b bits made same =
+    same ∙ ap (λ (g : Form). spelling (layouts.shape_of g) c) (sym made.form)
+    ∙ ap (spelling (layouts.shape_of (layouts.form_in b))) (sym made.contents)
+    ∙ (laid b made.fields).same
 
-pub search_read : (c : Contents) → IsOf layouts.direction_shape c →
-    FieldsFit (handoff.search_fields (layouts.search_from c.group))
-unfolding handoff.direction_of
-search_read c is = (direction_in c is).search
+-- what is read by a layout is what stands at the places of the fields
+mapped_twice : {A B C : Type 0} (g : B → C) (f : A → B) (read : Option A) →
+    mapped g (mapped f read) ≡ mapped (λ x. g (f x)) read
+mapped_twice g f None = refl
+mapped_twice g f (Some x) = refl
+
+softly : (e k hard : Bool) → (e && (k && not hard)) ≡ true → hard ≡ false
+softly true true false h = refl
+softly true true true h = absurd (cc)
+softly true false hard h = absurd (cc)
+softly false k hard h = absurd (cc)
+
+plain_placed : (kind : ℕ) (bits : List Bool) →
+    Some (bodies.Other kind bits)
+    ≡ mapped (layouts.body_from forms.Plain kind) (reading (layouts.shape_of forms.Plain) bits)
+plain_placed kind bits =
+    let any = le-leb 0 (length bits) (omega arith) in
+    let read : reading (layouts.shape_of forms.Plain) bits
+    ≡ Some (plain_contents [] ([] ∷ [] ∷ [] ∷ []) bits) = fields_reading [] bits ∙ rw any refl in
+    sym (ap (mapped (layouts.body_from forms.Plain kind)) read)
+
+pub placed : (kind encryption : ℕ) (bits : List Bool) →
+    part_reading kind encryption bits
+    ≡ mapped (layouts.body_from (layouts.form_at kind encryption bits) kind)
+    (reading (layouts.shape_of (layouts.form_at kind encryption bits)) bits)
+unfolding part_reading
+placed kind encryption bits =
+    let e = encryption == 0 in
+    elim (cases_Bool (e && (kind == 7))) [
+      | inl t ↦
+          rw t (ap (mapped bodies.System) (parameters_by_layout bits)
+          ∙ mapped_twice bodies.System layouts.in_traffic_from
+          (reading layouts.in_traffic_shape bits))
+      | inr a ↦ elim (cases_Bool (e && (kind == 8))) [
+        | inl t ↦
+            rw (a, t) (ap (mapped bodies.Neighbors) (update_by_layout bits)
+            ∙ mapped_twice bodies.Neighbors layouts.update_from
+            (reading layouts.update_shape bits))
+        | inr b ↦ elim (cases_Bool (e && ((kind == 17) && not (handoff.is_hard bits)))) [
+          | inl t ↦
+              let soft = softly e (kind == 17) (handoff.is_hard bits) t in
+              rw (a, b, t) (ap (mapped bodies.Handoff) (direction_by_layout bits soft)
+              ∙ mapped_twice bodies.Handoff layouts.direction_from
+              (reading layouts.direction_shape bits))
+          | inr d ↦ rw (a, b, d) (plain_placed kind bits)
+        ]
+      ]
+    ]
+
+-- WHAT THE CODE READS AND WRITES
+pub told : (kind encryption : ℕ) (bits : List Bool) (f : Form) (s : Shape)
+    (read : Option Contents) → f ≡ layouts.form_at kind encryption bits → s ≡ layouts.shape_of f →
+    read ≡ reading s bits →
+    mapped (layouts.body_from f kind) read ≡ part_reading kind encryption bits
+told kind encryption bits f s read form layout e =
+    ap (mapped (layouts.body_from f kind)) (e ∙ ap (λ (r : Shape). reading r bits) layout)
+    ∙ ap (λ (g : Form). mapped (layouts.body_from g kind) (reading (layouts.shape_of g) bits)) form
+    ∙ sym (placed kind encryption bits)
+
+pub told_is : (kind : ℕ) (f : Form) (s : Shape) (c : Contents) → s ≡ layouts.shape_of f →
+    IsOf s c → layouts.HasFields (layouts.body_from f kind c)
+told_is kind f s c layout is = (made_of f kind c (subst (λ (r : Shape). IsOf r c) layout is)).fields
+
+pub written : (b : TrafficBody) (f : Form) (s : Shape) (c : Contents) → layouts.HasFields b →
+    f ≡ layouts.form_in b → s ≡ layouts.shape_of f → c ≡ layouts.contents_of b →
+    IsOf s c × (spelling s c ≡ bits_of b)
+written b f s c is form layout contents =
+    rw (layout, form, contents) ((laid b is).is, (laid b is).same)
+
+pub head_lawful : is_lawful layouts.head_shape ≡ true
+unfolding is_lawful
+head_lawful = refl
+
+pub head_written : (h : Head) (c : Contents) → FieldsFit (head_fields h) →
+    c ≡ layouts.head_contents h →
+    IsOf layouts.head_shape c × (spelling layouts.head_shape c ≡ spelled (head_fields h))
+head_written h c fit contents =
+    let none : List (List ℕ) = [] ∷ [] ∷ [] ∷ [] in
+    let is = plain_of head_widths [] 0 None (head_values h) none []
+    (record { all = refl; fit = fit }) refl tt (omega arith) tt in
+    rw contents (
+      is,
+      plain_spelled head_widths [] 0 None (head_values h) none [] ∙ append-nil (spelled (head_fields h)),
+    )

@@ -1,11 +1,15 @@
 -- The Neighbor List Update Message (TIA/EIA-95-B, 7.7.3.3.2.8).
-use Rattle.std.specs.Prelude.{◌+◌, ◌-◌, ◌*◌, ◌/◌, ◌%◌, ◌≤◌, ◌&&◌, if◌then◌else◌, Bool, List, ◌∷◌}
+use Rattle.std.specs.Prelude.{◌+◌, ◌-◌, ◌*◌, ◌/◌, ◌%◌, ◌≤◌, ◌&&◌, if◌then◌else◌, ℕ, Bool, List, [], ◌∷◌}
 use Rattle.std.specs.Prelude.{◌++◌, length, map, drop, nat_le, Option, Some, None}
 use Rattle.chip_core.specs.Bits.{binary}
 use Rattle.chip_core.specs.Fields.{field, spelled, FieldsFit}
 use Rattle.chip_core.specs.Readings.{number_at, column_at}
 use Rattle.chip_core.specs.declared.field.Field.{Field}
 use Rattle.traffic_message.specs.declared.fields.UpdateFields.{UpdateFields}
+
+-- the value of the first field, as the table has it
+abbrev pub update_values : UpdateFields → List ℕ
+update_values m = m.inc ∷ []
 
 -- the step of offsets in 4 bits, and each neighbor's offset in 9
 abbrev pub update_fields : UpdateFields → List Field

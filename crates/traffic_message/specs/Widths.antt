@@ -17,6 +17,13 @@ time_widths = 1 ∷ 6 ∷ 2 ∷ []
 abbrev pub time_names : List (List ℕ)
 time_names = codes "use" ∷ codes "action" ∷ codes "hdm" ∷ []
 
+-- the width of the first field of a neighbor list update, and its name
+abbrev pub update_widths : List ℕ
+update_widths = 4 ∷ []
+
+abbrev pub update_names : List (List ℕ)
+update_names = codes "inc" ∷ []
+
 -- the widths of the fields of the In-Traffic System Parameters Message, in their order
 abbrev pub in_traffic_widths : List ℕ
 in_traffic_widths = 15 ∷ 16 ∷ 4 ∷ 4 ∷ 4 ∷ 6 ∷ 6 ∷ 4 ∷ 4 ∷ 4 ∷ []

@@ -1,13 +1,16 @@
 //! What a message says behind its head.
 
 ghost use Rattle.std.specs.Prelude.{◌≡◌, ◌+◌, ◌≤◌, ◌++◌, length};
+ghost use Rattle.traffic_message.specs.Layouts.{body_from, contents_of, form_in, HasFields};
 ghost use Rattle.traffic_message.specs.Messages.{bits_of, kind_of as type_of};
 ghost use Rattle.traffic_message.specs.Reading.{part_reading};
 
-use crate::handoff::{HandoffDirection, is_hard_handoff};
+use crate::handoff::HandoffDirection;
 use crate::in_traffic::InTraffic;
+use crate::layouts::{Form, form_of, layout_of};
 use crate::neighbors::NeighborUpdate;
-use chip_core::Bits;
+use chip_core::{Bits, Numbers};
+use message_layout::{Contents, append, read};
 
 /// What a message of the traffic channel says behind its head.
 ///
@@ -44,21 +47,29 @@ impl TrafficBody {
 
     /// Reads what stands behind the head, by the type where nothing is encrypted; `None` where the
     /// fields of the type don't fit.
-    #[tactic(auto, unfolding(crate::specs::Reading::part_reading))]
     pub(crate) fn read(kind: u8, encryption: u8, bits: &Bits) -> Option<TrafficBody>
         requires { length bits.now ≤ 1143 }
         ensures { result ≡ part_reading kind encryption bits.now }
     {
-        if encryption == 0 && kind == 7 {
-            return Some(TrafficBody::System(InTraffic::read(bits)?));
+        let form = form_of(kind, encryption, bits);
+        let contents = read(&layout_of(form), bits)?;
+        Some(TrafficBody::of(form, kind, &contents))
+    }
+
+    /// What says so in this form.
+    fn of(form: Form, kind: u8, contents: &Contents) -> TrafficBody
+        requires { HasFields (body_from form kind contents.now) }
+        ensures { result ≡ body_from form kind contents.now }
+    {
+        match form {
+            Form::Parameters => TrafficBody::System(InTraffic::of(contents)),
+            Form::Update => TrafficBody::Neighbors(NeighborUpdate::of(contents)),
+            Form::Direction => TrafficBody::Handoff(HandoffDirection::of(contents)),
+            Form::Plain => TrafficBody::Other {
+                kind,
+                bits: contents.rest,
+            },
         }
-        if encryption == 0 && kind == 8 {
-            return Some(TrafficBody::Neighbors(NeighborUpdate::read(bits)?));
-        }
-        if encryption == 0 && kind == 17 && !is_hard_handoff(bits) {
-            return Some(TrafficBody::Handoff(HandoffDirection::read(bits)?));
-        }
-        Some(TrafficBody::Other { kind, bits: *bits })
     }
 
     /// Adds what stands behind the head.
@@ -66,11 +77,34 @@ impl TrafficBody {
         requires { length body.old + length (bits_of self.now) ≤ 1184 }
         ensures { body.new ≡ body.old ++ bits_of self.now }
     {
+        append(&layout_of(self.form()), &self.contents(), body);
+    }
+
+    /// The form of what stands behind the head.
+    fn form(&self) -> Form
+        ensures { result ≡ form_in self.now }
+    {
         match self {
-            TrafficBody::System(message) => message.append_to(body),
-            TrafficBody::Neighbors(message) => message.append_to(body),
-            TrafficBody::Handoff(message) => message.append_to(body),
-            TrafficBody::Other { bits, .. } => body.append_all(bits),
+            TrafficBody::System(_) => Form::Parameters,
+            TrafficBody::Neighbors(_) => Form::Update,
+            TrafficBody::Handoff(_) => Form::Direction,
+            TrafficBody::Other { .. } => Form::Plain,
+        }
+    }
+
+    /// What stands behind the head, as its layout has it.
+    fn contents(&self) -> Contents
+        ensures value { result ≡ contents_of self.now }
+        ensures fields { HasFields self.now }
+    {
+        match self {
+            TrafficBody::System(message) => message.contents(),
+            TrafficBody::Neighbors(message) => message.contents(),
+            TrafficBody::Handoff(message) => message.contents(),
+            TrafficBody::Other { bits, .. } => {
+                let columns = [Numbers::empty(), Numbers::empty(), Numbers::empty()];
+                Contents::plain(&[], columns, *bits)
+            }
         }
     }
 }

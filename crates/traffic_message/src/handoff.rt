@@ -1,20 +1,18 @@
 //! The Extended Handoff Direction Message.
 
-ghost use Rattle.std.specs.Prelude.{◌≡◌, ◌<◌, ◌≤◌, ◌+◌, ◌++◌, false, length};
+ghost use Rattle.std.specs.Prelude.{◌≡◌, ◌<◌, ◌≤◌, ◌==◌, length};
 ghost use Rattle.std.specs.List.{All};
 ghost use Rattle.chip_core.specs.Fields.{in_widths, FieldsFit};
-ghost use Rattle.traffic_message.specs.Handoff.{direction_bits, direction_reading, is_hard};
-ghost use Rattle.traffic_message.specs.Handoff.{hard_place, search_fields, search_of};
+ghost use Rattle.chip_core.specs.Readings.{number_at};
+ghost use Rattle.traffic_message.specs.Handoff.{hard_place, is_hard, search_fields, search_of};
 ghost use Rattle.traffic_message.specs.Handoff.{search_values, time_values, IsHandoffDirection};
 ghost use Rattle.traffic_message.specs.Layouts.{direction_contents, direction_from, search_from};
 ghost use Rattle.traffic_message.specs.Layouts.{search_group};
 ghost use Rattle.traffic_message.specs.Widths.{search_widths, time_widths};
 
 use crate::fields::{DirectionFields, Search};
-use crate::layouts::HANDOFF_DIRECTION;
-use crate::values::is_set;
 use chip_core::Bits;
-use message_layout::{Contents, FieldValues, append, read};
+use message_layout::{Contents, FieldValues};
 use std::marker::Model;
 
 /// What an Extended Handoff Direction Message says behind its head: fields that fit, and a record
@@ -59,28 +57,37 @@ impl HandoffDirection {
     pub fn times(&self) -> [u64; 3]
         ensures { result ≡ time_values self.now }
     {
-        times_of(&self.fields)
+        [
+            u64::from(self.fields.use_time),
+            u64::from(self.fields.action),
+            u64::from(self.fields.hdm),
+        ]
     }
 
-    /// Reads what stands behind the head, where HARD_INCLUDED isn't set; `None` exactly where
-    /// there is no record, or more than 7 bits are left.
-    pub(crate) fn read(bits: &Bits) -> Option<HandoffDirection>
-        requires most { length bits.now ≤ 1143 }
-        requires soft { is_hard bits.now ≡ false }
-        ensures { result ≡ direction_reading bits.now }
+    /// The message that says so.
+    #[tactic(auto, unfolding(crate::specs::Handoff::direction_of))]
+    pub(crate) fn of(contents: &Contents) -> HandoffDirection
+        requires { IsHandoffDirection (direction_from contents.now) }
+        ensures { result ≡ direction_from contents.now }
     {
-        let contents = read(&HANDOFF_DIRECTION, bits)?;
-        Some(HandoffDirection {
-            fields: fields_from(&contents),
-        })
+        HandoffDirection {
+            fields: fields_from(contents),
+        }
     }
 
-    /// Adds what stands behind the head.
-    pub(crate) fn append_to(&self, body: &mut Bits)
-        requires { length body.old + length (direction_bits self.now) ≤ 1184 }
-        ensures { body.new ≡ body.old ++ direction_bits self.now }
+    /// What stands behind the head, as its layout has it.
+    pub(crate) fn contents(&self) -> Contents
+        ensures value { result ≡ direction_contents self.now }
+        ensures spelled { IsHandoffDirection self.now }
     {
-        append(&HANDOFF_DIRECTION, &contents_of(&self.fields), body);
+        let fields = &self.fields;
+        Contents {
+            fixed: FieldValues::of(&self.times()),
+            group: group_of(fields.search),
+            octets: fields.extra,
+            columns: [fields.pns, fields.combs, fields.rows],
+            rest: fields.rest,
+        }
     }
 }
 
@@ -90,6 +97,13 @@ pub(crate) fn is_hard_handoff(bits: &Bits) -> bool
     ensures { result ≡ is_hard bits.now }
 {
     is_set(bits, hard_at(bits))
+}
+
+/// Whether the bit at a place is there and set.
+fn is_set(bits: &Bits, place: u16) -> bool
+    ensures { result ≡ (number_at place 1 bits.now == 1) }
+{
+    place < bits.len() && bits.get(place)
 }
 
 /// Where HARD_INCLUDED stands: behind the search parameters where SEARCH_INCLUDED is set.
@@ -133,19 +147,6 @@ fn search_in(group: &Option<FieldValues>) -> Option<Search>
     }
 }
 
-/// The fields as the layout has them.
-fn contents_of(fields: &DirectionFields) -> Contents
-    ensures { result ≡ direction_contents fields.now }
-{
-    Contents {
-        fixed: FieldValues::of(&times_of(fields)),
-        group: group_of(fields.search),
-        octets: fields.extra,
-        columns: [fields.pns, fields.combs, fields.rows],
-        rest: fields.rest,
-    }
-}
-
 /// The search parameters as the layout has them.
 fn group_of(search: Option<Search>) -> Option<FieldValues>
     ensures { result ≡ search_group search }
@@ -154,17 +155,6 @@ fn group_of(search: Option<Search>) -> Option<FieldValues>
         None => None,
         Some(search) => Some(FieldValues::of(&search.values())),
     }
-}
-
-/// The values of the first fields, in the table's order.
-fn times_of(fields: &DirectionFields) -> [u64; 3]
-    ensures { result ≡ time_values fields.now }
-{
-    [
-        u64::from(fields.use_time),
-        u64::from(fields.action),
-        u64::from(fields.hdm),
-    ]
 }
 
 impl Search {

@@ -1,17 +1,14 @@
 //! The In-Traffic System Parameters Message.
 
-ghost use Rattle.std.specs.Prelude.{◌≡◌, ◌+◌, ◌≤◌, ◌++◌, length};
+ghost use Rattle.std.specs.Prelude.{◌≡◌};
 ghost use Rattle.chip_core.specs.Fields.{in_widths, FieldsFit};
-ghost use Rattle.traffic_message.specs.InTraffic.{in_traffic_bits, in_traffic_of};
-ghost use Rattle.traffic_message.specs.InTraffic.{in_traffic_reading, in_traffic_values};
-ghost use Rattle.traffic_message.specs.InTraffic.{IsInTraffic};
-ghost use Rattle.traffic_message.specs.Layouts.{in_traffic_contents};
+ghost use Rattle.traffic_message.specs.InTraffic.{in_traffic_of, in_traffic_values, IsInTraffic};
+ghost use Rattle.traffic_message.specs.Layouts.{in_traffic_contents, in_traffic_from};
 ghost use Rattle.traffic_message.specs.Widths.{in_traffic_widths};
 
 use crate::fields::InTrafficFields;
-use crate::layouts::IN_TRAFFIC;
 use chip_core::{Bits, Numbers};
-use message_layout::{Contents, FieldValues, append, read};
+use message_layout::{Contents, FieldValues};
 use std::marker::Model;
 
 /// What an In-Traffic System Parameters Message says behind its head: fields that fit. Contracts
@@ -49,56 +46,38 @@ impl InTraffic {
     pub fn values(&self) -> [u64; 10]
         ensures { result ≡ in_traffic_values self.now }
     {
-        values_of(&self.fields)
+        let fields = &self.fields;
+        [
+            u64::from(fields.sid),
+            u64::from(fields.nid),
+            u64::from(fields.wina),
+            u64::from(fields.winn),
+            u64::from(fields.winr),
+            u64::from(fields.tadd),
+            u64::from(fields.tdrop),
+            u64::from(fields.tcomp),
+            u64::from(fields.ttdrop),
+            u64::from(fields.age),
+        ]
     }
 
-    /// Reads what stands behind the head; `None` exactly where the fields aren't all there.
-    pub(crate) fn read(bits: &Bits) -> Option<InTraffic>
-        ensures { result ≡ in_traffic_reading bits.now }
+    /// The message that says so.
+    pub(crate) fn of(contents: &Contents) -> InTraffic
+        requires { IsInTraffic (in_traffic_from contents.now) }
+        ensures { result ≡ in_traffic_from contents.now }
     {
-        let contents = read(&IN_TRAFFIC, bits)?;
         let fields = fields_of(&contents.fixed, contents.rest);
-        Some(InTraffic { fields })
+        InTraffic { fields }
     }
 
-    /// Adds what stands behind the head.
-    pub(crate) fn append_to(&self, body: &mut Bits)
-        requires { length body.old + length (in_traffic_bits self.now) ≤ 1184 }
-        ensures { body.new ≡ body.old ++ in_traffic_bits self.now }
+    /// What stands behind the head, as its layout has it.
+    pub(crate) fn contents(&self) -> Contents
+        ensures value { result ≡ in_traffic_contents self.now }
+        ensures spelled { IsInTraffic self.now }
     {
-        append(&IN_TRAFFIC, &contents_of(&self.fields), body);
+        let columns = [Numbers::empty(), Numbers::empty(), Numbers::empty()];
+        Contents::plain(&self.values(), columns, self.fields.rest)
     }
-}
-
-/// The fields as the layout has them.
-fn contents_of(fields: &InTrafficFields) -> Contents
-    ensures { result ≡ in_traffic_contents fields.now }
-{
-    Contents {
-        fixed: FieldValues::of(&values_of(fields)),
-        group: None,
-        octets: Bits::empty(),
-        columns: [Numbers::empty(), Numbers::empty(), Numbers::empty()],
-        rest: fields.rest,
-    }
-}
-
-/// The values of the fields, in the table's order.
-fn values_of(fields: &InTrafficFields) -> [u64; 10]
-    ensures { result ≡ in_traffic_values fields.now }
-{
-    [
-        u64::from(fields.sid),
-        u64::from(fields.nid),
-        u64::from(fields.wina),
-        u64::from(fields.winn),
-        u64::from(fields.winr),
-        u64::from(fields.tadd),
-        u64::from(fields.tdrop),
-        u64::from(fields.tcomp),
-        u64::from(fields.ttdrop),
-        u64::from(fields.age),
-    ]
 }
 
 /// The fields of these values.

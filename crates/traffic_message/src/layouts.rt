@@ -1,10 +1,66 @@
-//! The layouts of what stands behind the head.
+//! The layouts of the head, and of what stands behind it.
 
-use crate::table::{IN_TRAFFIC_FIELDS, SEARCH_FIELDS, TIME_FIELDS};
+ghost use Rattle.std.specs.Prelude.{◌≡◌};
+ghost use Rattle.message_layout.specs.Shapes.{shape};
+ghost use Rattle.traffic_message.specs.Layouts.{form_at, shape_of};
+
+use crate::handoff::is_hard_handoff;
+use crate::table::{HEAD_FIELDS, IN_TRAFFIC_FIELDS, SEARCH_FIELDS, TIME_FIELDS, UPDATE_FIELDS};
+use chip_core::Bits;
 use message_layout::{Group, Layout, NO_GROUP, NO_OCTETS, NO_RECORDS, Octets, Presence, Records};
 
+/// How what stands behind a head is laid out.
+#[derive(Clone, Copy)]
+pub(crate) enum Form {
+    /// As an In-Traffic System Parameters Message.
+    Parameters,
+    /// As a Neighbor List Update Message.
+    Update,
+    /// As an Extended Handoff Direction Message without a hard handoff.
+    Direction,
+    /// As bits that are passed on.
+    Plain,
+}
+
+/// The form of what stands behind a head, by the type where nothing is encrypted.
+pub(crate) fn form_of(kind: u8, encryption: u8, bits: &Bits) -> Form
+    ensures { result ≡ form_at kind encryption bits.now }
+{
+    if encryption == 0 && kind == 7 {
+        return Form::Parameters;
+    }
+    if encryption == 0 && kind == 8 {
+        return Form::Update;
+    }
+    if encryption == 0 && kind == 17 && !is_hard_handoff(bits) {
+        return Form::Direction;
+    }
+    Form::Plain
+}
+
+/// The layout of a form.
+pub(crate) fn layout_of(form: Form) -> Layout
+    ensures { shape result ≡ shape_of form }
+{
+    match form {
+        Form::Parameters => IN_TRAFFIC,
+        Form::Update => NEIGHBOR_UPDATE,
+        Form::Direction => HANDOFF_DIRECTION,
+        Form::Plain => ALL_BITS,
+    }
+}
+
+/// The head, and all bits behind it.
+pub(crate) const HEAD: Layout = Layout {
+    fixed: &HEAD_FIELDS,
+    group: NO_GROUP,
+    octets: NO_OCTETS,
+    records: NO_RECORDS,
+    most: None,
+};
+
 /// The In-Traffic System Parameters Message: its fields, and all bits behind them.
-pub(crate) const IN_TRAFFIC: Layout = Layout {
+const IN_TRAFFIC: Layout = Layout {
     fixed: &IN_TRAFFIC_FIELDS,
     group: NO_GROUP,
     octets: NO_OCTETS,
@@ -13,8 +69,8 @@ pub(crate) const IN_TRAFFIC: Layout = Layout {
 };
 
 /// The Neighbor List Update Message: PILOT_INC, and NGHBR_PN of each neighbor.
-pub(crate) const NEIGHBOR_UPDATE: Layout = Layout {
-    fixed: &[("inc", 4)],
+const NEIGHBOR_UPDATE: Layout = Layout {
+    fixed: &UPDATE_FIELDS,
     group: NO_GROUP,
     octets: NO_OCTETS,
     records: Records {
@@ -27,7 +83,7 @@ pub(crate) const NEIGHBOR_UPDATE: Layout = Layout {
 /// The Extended Handoff Direction Message: the search parameters behind SEARCH_INCLUDED, the
 /// additional fields behind HARD_INCLUDED, which is 0, and ADD_LENGTH, and of each record PILOT_PN,
 /// PWR_COMB_IND and CODE_CHAN.
-pub(crate) const HANDOFF_DIRECTION: Layout = Layout {
+const HANDOFF_DIRECTION: Layout = Layout {
     fixed: &TIME_FIELDS,
     group: Group {
         presence: Presence::Flagged,
@@ -39,4 +95,13 @@ pub(crate) const HANDOFF_DIRECTION: Layout = Layout {
         least: 1,
     },
     most: Some(7),
+};
+
+/// All bits, as they are.
+const ALL_BITS: Layout = Layout {
+    fixed: &[],
+    group: NO_GROUP,
+    octets: NO_OCTETS,
+    records: NO_RECORDS,
+    most: None,
 };

@@ -14,7 +14,6 @@ mod message;
 mod multiplex;
 mod neighbors;
 mod table;
-mod values;
 
 pub use body::TrafficBody;
 pub use fields::{DirectionFields, Head, InTrafficFields, Search, UpdateFields};
@@ -26,6 +25,6 @@ pub use multiplex::{Mux, split_frame};
 pub use neighbors::NeighborUpdate;
 pub use quality_bits::MessageFault;
 pub use table::{
-    HEAD_FIELDS, IN_TRAFFIC_FIELDS, SEARCH_FIELDS, TIME_FIELDS, head_name, in_traffic_name,
-    search_name, time_name,
+    HEAD_FIELDS, IN_TRAFFIC_FIELDS, SEARCH_FIELDS, TIME_FIELDS, UPDATE_FIELDS, head_name,
+    in_traffic_name, search_name, time_name,
 };

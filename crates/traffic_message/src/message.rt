@@ -1,21 +1,22 @@
 //! The messages, to and from their bodies and capsules.
 
-ghost use Rattle.std.specs.Prelude.{◌≡◌, ◌≤◌, ◌==◌, ◌↔◌, length, IfOk, IfSome, IsTrue, Some};
-ghost use Rattle.chip_core.specs.Fields.{in_widths, FieldsFit};
+ghost use Rattle.std.specs.Prelude.{◌≡◌, ◌↔◌, IfOk, IfSome, Some};
+ghost use Rattle.chip_core.specs.Fields.{FieldsFit};
 ghost use Rattle.quality_bits.specs.Capsules.{FillsCapsule, IsWhole};
 ghost use Rattle.quality_bits.specs.Kinds.{IsChecked};
 ghost use Rattle.quality_bits.specs.declared.kind.Kind.TheVariants.{M16};
-ghost use Rattle.traffic_message.specs.Messages.{head_values, message_body, traffic_capsule};
+ghost use Rattle.traffic_message.specs.Layouts.{head_contents};
+ghost use Rattle.traffic_message.specs.Messages.{head_fields, head_values, message_body};
+ghost use Rattle.traffic_message.specs.Messages.{traffic_capsule};
 ghost use Rattle.traffic_message.specs.Messages.{IsTrafficMessage, Message};
-ghost use Rattle.traffic_message.specs.Reading.{body_reading, head_at, head_of, is_body};
+ghost use Rattle.traffic_message.specs.Reading.{body_reading, head_of, is_body};
 ghost use Rattle.traffic_message.specs.Reading.{reading_of, traffic_reading};
-ghost use Rattle.traffic_message.specs.Widths.{head_widths};
 
 use crate::body::TrafficBody;
 use crate::fields::Head;
-use crate::table::HEAD_FIELDS;
-use crate::values::{append_values, read_number, read_values};
-use chip_core::{Bits, CheckForm};
+use crate::layouts::HEAD;
+use chip_core::{Bits, CheckForm, Numbers};
+use message_layout::{Contents, FieldValues, append, read, read_kind};
 use quality_bits::{Kind, MessageFault, body_of, capsule_of};
 use std::marker::Model;
 
@@ -109,10 +110,10 @@ impl TrafficMessage {
         if !fills_capsule(body) {
             return None;
         }
-        let head = read_head(body);
-        let kind = read_number(body, 0, 8) as u8;
-        let behind = body.part(17, body.len() - 17);
-        let body = TrafficBody::read(kind, head.encryption, &behind)?;
+        let (kind, behind) = read_kind(body)?;
+        let contents = read(&HEAD, &behind)?;
+        let head = head_from(&contents.fixed);
+        let body = TrafficBody::read(kind, head.encryption, &contents.rest)?;
         Some(TrafficMessage { head, body })
     }
 
@@ -123,7 +124,7 @@ impl TrafficMessage {
     {
         let mut body = Bits::empty();
         body.append_number(8, u64::from(self.body.kind()));
-        append_values(&mut body, &HEAD_FIELDS, &self.head.values());
+        append(&HEAD, &self.head.contents(), &mut body);
         self.body.append_to(&mut body);
         body
     }
@@ -137,27 +138,17 @@ fn fills_capsule(body: &Bits) -> bool
     body.len() % 8 == 0 && body.len() >= 17 && body.len() <= 1160
 }
 
-/// Reads the head of a body.
-fn read_head(body: &Bits) -> Head
-    requires { 17 ≤ length body.now }
-    ensures { result ≡ head_at body.now }
-{
-    let mut values = [0; 4];
-    read_values(body, 8, &HEAD_FIELDS, &mut values);
-    head_from(&values)
-}
-
 /// The head of these values.
 #[tactic(auto, unfolding(crate::specs::Reading::head_of))]
-fn head_from(values: &[u64; 4]) -> Head
-    requires { FieldsFit (in_widths head_widths values.now) }
+fn head_from(values: &FieldValues) -> Head
+    requires { FieldsFit (head_fields (head_of values.now)) }
     ensures { result ≡ head_of values.now }
 {
     Head {
-        ack_seq: values[0] as u8,
-        msg_seq: values[1] as u8,
-        ack_req: values[2] == 1,
-        encryption: values[3] as u8,
+        ack_seq: values.get(0) as u8,
+        msg_seq: values.get(1) as u8,
+        ack_req: values.get(2) == 1,
+        encryption: values.get(3) as u8,
     }
 }
 
@@ -172,5 +163,13 @@ impl Head {
             u64::from(self.ack_req),
             u64::from(self.encryption),
         ]
+    }
+
+    /// The head as its layout has it.
+    fn contents(&self) -> Contents
+        ensures { result ≡ head_contents self.now }
+    {
+        let columns = [Numbers::empty(), Numbers::empty(), Numbers::empty()];
+        Contents::plain(&self.values(), columns, Bits::empty())
     }
 }

@@ -1,14 +1,13 @@
 //! The Neighbor List Update Message.
 
-ghost use Rattle.std.specs.Prelude.{◌≡◌, ◌<◌, ◌≤◌, ◌+◌, ◌^◌, ◌++◌, length, get_or};
+ghost use Rattle.std.specs.Prelude.{◌≡◌, ◌<◌, ◌≤◌, length};
 ghost use Rattle.std.specs.List.{All};
 ghost use Rattle.traffic_message.specs.Layouts.{update_contents, update_from};
-ghost use Rattle.traffic_message.specs.Neighbors.{update_bits, update_reading, IsNeighborUpdate};
+ghost use Rattle.traffic_message.specs.Neighbors.{update_values, IsNeighborUpdate};
 
 use crate::fields::UpdateFields;
-use crate::layouts::NEIGHBOR_UPDATE;
-use chip_core::{Bits, Numbers};
-use message_layout::{Contents, FieldValues, append, read};
+use chip_core::Numbers;
+use message_layout::Contents;
 use std::marker::Model;
 
 /// What a Neighbor List Update Message says behind its head: fields that fit, and a neighbor or
@@ -44,48 +43,33 @@ impl NeighborUpdate {
         self.fields
     }
 
-    /// Reads what stands behind the head; `None` exactly where there is no neighbor, or more than
-    /// 7 bits are left.
-    pub(crate) fn read(bits: &Bits) -> Option<NeighborUpdate>
-        requires { length bits.now ≤ 1143 }
-        ensures { result ≡ update_reading bits.now }
+    /// The value of the first field, as `UPDATE_FIELDS` has it.
+    pub fn values(&self) -> [u64; 1]
+        ensures { result ≡ update_values self.now }
     {
-        let contents = read(&NEIGHBOR_UPDATE, bits)?;
-        Some(NeighborUpdate {
-            fields: fields_from(&contents),
-        })
+        [u64::from(self.fields.inc)]
     }
 
-    /// Adds what stands behind the head.
-    pub(crate) fn append_to(&self, body: &mut Bits)
-        requires { length body.old + length (update_bits self.now) ≤ 1184 }
-        ensures { body.new ≡ body.old ++ update_bits self.now }
+    /// The message that says so.
+    pub(crate) fn of(contents: &Contents) -> NeighborUpdate
+        requires { IsNeighborUpdate (update_from contents.now) }
+        ensures { result ≡ update_from contents.now }
     {
-        append(&NEIGHBOR_UPDATE, &contents_of(&self.fields), body);
+        NeighborUpdate {
+            fields: UpdateFields {
+                inc: contents.fixed.get(0) as u8,
+                pns: contents.columns[0],
+                rest: contents.rest,
+            },
+        }
     }
-}
 
-/// The fields of what was read.
-fn fields_from(contents: &Contents) -> UpdateFields
-    requires { get_or contents.now.fixed 0 0 < 2 ^ 4 }
-    ensures { result ≡ update_from contents.now }
-{
-    UpdateFields {
-        inc: contents.fixed.get(0) as u8,
-        pns: contents.columns[0],
-        rest: contents.rest,
-    }
-}
-
-/// The fields as the layout has them.
-fn contents_of(fields: &UpdateFields) -> Contents
-    ensures { result ≡ update_contents fields.now }
-{
-    Contents {
-        fixed: FieldValues::of(&[u64::from(fields.inc)]),
-        group: None,
-        octets: Bits::empty(),
-        columns: [fields.pns, Numbers::empty(), Numbers::empty()],
-        rest: fields.rest,
+    /// What stands behind the head, as its layout has it.
+    pub(crate) fn contents(&self) -> Contents
+        ensures value { result ≡ update_contents self.now }
+        ensures spelled { IsNeighborUpdate self.now }
+    {
+        let columns = [self.fields.pns, Numbers::empty(), Numbers::empty()];
+        Contents::plain(&self.values(), columns, self.fields.rest)
     }
 }

@@ -29,6 +29,12 @@ pub const IN_TRAFFIC_FIELDS: [(&str, u8); 10] = [
     ("age", 4),
 ];
 
+/// The name of the field of the Neighbor List Update Message before its neighbors, PILOT_INC, with
+/// its number of bits.
+///
+/// TIA/EIA-95-B, 7.7.3.3.2.8.
+pub const UPDATE_FIELDS: [(&str, u8); 1] = [("inc", 4)];
+
 /// The names of the first fields of the Extended Handoff Direction Message behind the head, each
 /// with its number of bits: USE_TIME, ACTION_TIME and HDM_SEQ.
 ///

@@ -1,88 +1,65 @@
-use Rattle.traffic_message.proofs.Common.{◌≡◌, ◌-◌, true, length, take, drop, None, Some, sym, ap, ◌∙◌, arith, length-drop, length-take-le}
-use Rattle.traffic_message.proofs.Common.{is_body}
-use Rattle.traffic_message.proofs.Bodies.{is_body_parts, message_from, message_there, no_body, no_part, part_from}
+use Rattle.traffic_message.proofs.Common.{◌≡◌, true, None, Some, length, sym, ap, ◌∙◌, arith, length-drop, is_body}
+use Rattle.traffic_message.proofs.ByLayout.{head_lawful}
+use Rattle.traffic_message.proofs.Bodies.{are_parts, is_body_parts, message, message_there, no_body, no_head, no_kind, part_read}
 use Rattle.traffic_message.proofs.message.TrafficMessage.read.Goals as goal
 
 pub returns-then-not-fills_capsule : goal.returns-then-not-fills_capsule
 returns-then-not-fills_capsule c =
     no_body c.args.body.now (sym c.fills_capsule.ensures ∙ c.if-not-fills_capsule.true)
 
-pub read_head-head-requires : goal.read_head-head-requires
-read_head-head-requires c =
-    (is_body_parts c.args.body.now (sym c.fills_capsule.ensures ∙ c.if-not-fills_capsule.false)).1
+pub returns-in_err-kind : goal.returns-in_err-kind
+returns-in_err-kind c =
+    absurd (no_kind c.args.body.now (sym c.fills_capsule.ensures ∙ c.if-not-fills_capsule.false)
+    c.in_err-kind.ensures)
 
-pub read_number-kind-requires-clause-within : goal.read_number-kind-requires-clause-within
-read_number-kind-requires-clause-within c =
-    omega (
-      arith,
-      (is_body_parts c.args.body.now
-          (sym c.fills_capsule.ensures ∙ c.if-not-fills_capsule.false)).1,
-    )
+pub read-requires-clause-lawful : goal.read-requires-clause-lawful
+read-requires-clause-lawful c = head_lawful
 
-pub overflow_sub-len : goal.overflow_sub-len
-overflow_sub-len c =
-    omega (
-      arith,
-      c.len.ensures.value,
-      (is_body_parts c.args.body.now
-          (sym c.fills_capsule.ensures ∙ c.if-not-fills_capsule.false)).1,
-    )
+pub returns-in_err-contents : goal.returns-in_err-contents
+returns-in_err-contents c =
+    absurd (no_head c.args.body.now c.in_ok-kind.behind c.in_ok-kind.kind
+    (sym c.fills_capsule.ensures ∙ c.if-not-fills_capsule.false) c.in_ok-kind.ensures
+    c.in_err-contents.ensures.reading)
 
-pub part-behind-requires : goal.part-behind-requires
-part-behind-requires c =
-    omega (
-      arith,
-      c.len.ensures.value,
-      (is_body_parts c.args.body.now
-          (sym c.fills_capsule.ensures ∙ c.if-not-fills_capsule.false)).1,
-    )
+pub head_from-head-requires : goal.head_from-head-requires
+head_from-head-requires c =
+    (are_parts c.args.body.now c.in_ok-kind.behind c.in_ok-kind.kind c.in_ok-contents.contents
+    (sym c.fills_capsule.ensures ∙ c.if-not-fills_capsule.false) c.in_ok-kind.ensures
+    c.in_ok-contents.ensures.reading).fit
 
-pub read-requires : goal.read-requires
-read-requires c =
+pub read-requires-2 : goal.read-requires-2
+read-requires-2 c =
     let body = c.args.body.now in
-    let parts = is_body_parts body (sym c.fills_capsule.ensures ∙ c.if-not-fills_capsule.false) in
-    omega (
-      arith,
-      ap length c.part-behind.ensures,
-      length-take-le (c.len.result - 17) (drop 17 body)
-          (omega (arith, c.len.ensures.value, length-drop 17 body)),
-      c.len.ensures.value,
-      parts.2,
-    )
+    let t : is_body body ≡ true = sym c.fills_capsule.ensures ∙ c.if-not-fills_capsule.false in
+    let parts = are_parts body c.in_ok-kind.behind c.in_ok-kind.kind c.in_ok-contents.contents t
+    c.in_ok-kind.ensures c.in_ok-contents.ensures.reading in
+    omega (arith, ap length parts.behind, length-drop 17 body, (is_body_parts body t).2)
 
 pub returns-in_err-body : goal.returns-in_err-body
 returns-in_err-body c =
     let body = c.args.body.now in
     let t : is_body body ≡ true = sym c.fills_capsule.ensures ∙ c.if-not-fills_capsule.false in
-    let behind : c.part-behind.result ≡ take (length body - 17) (drop 17 body) =
-    c.part-behind.ensures ∙ ap (λ k. take (k - 17) (drop 17 body)) c.len.ensures.value in
-    let part = part_from body c.part-behind.result c.read_number-kind.result
-    c.read_head-head.result None c.read_number-kind.ensures.value c.read_head-head.ensures behind
-    c.in_err-body.ensures in
-    let none : c.from_residual.result ≡ None = cc in
-    none ∙ no_part body t part
+    let parts = are_parts body c.in_ok-kind.behind c.in_ok-kind.kind c.in_ok-contents.contents t
+    c.in_ok-kind.ensures c.in_ok-contents.ensures.reading in
+    let none : c.from_residual-in_err-body.result ≡ None = cc in
+    none ∙ part_read body c.in_ok-kind.kind c.in_ok-contents.contents c.head_from-head.result None t
+    parts c.head_from-head.ensures c.in_err-body.ensures
 
 pub returns : goal.returns
 returns c =
     let body = c.args.body.now in
     let t : is_body body ≡ true = sym c.fills_capsule.ensures ∙ c.if-not-fills_capsule.false in
-    let behind : c.part-behind.result ≡ take (length body - 17) (drop 17 body) =
-    c.part-behind.ensures ∙ ap (λ k. take (k - 17) (drop 17 body)) c.len.ensures.value in
-    let part = part_from body c.part-behind.result c.read_number-kind.result
-    c.read_head-head.result (Some c.in_ok-body.body) c.read_number-kind.ensures.value
-    c.read_head-head.ensures behind c.in_ok-body.ensures in
-    message_from body c.read_head-head.result c.in_ok-body.body t c.read_head-head.ensures part
+    let parts = are_parts body c.in_ok-kind.behind c.in_ok-kind.kind c.in_ok-contents.contents t
+    c.in_ok-kind.ensures c.in_ok-contents.ensures.reading in
+    part_read body c.in_ok-kind.kind c.in_ok-contents.contents c.head_from-head.result
+    (Some c.in_ok-body.body) t parts c.head_from-head.ensures c.in_ok-body.ensures
 
 pub invariant_of-result : goal.invariant_of-result
 invariant_of-result c =
     let body = c.args.body.now in
     let t : is_body body ≡ true = sym c.fills_capsule.ensures ∙ c.if-not-fills_capsule.false in
-    let behind : c.part-behind.result ≡ take (length body - 17) (drop 17 body) =
-    c.part-behind.ensures ∙ ap (λ k. take (k - 17) (drop 17 body)) c.len.ensures.value in
-    let part = part_from body c.part-behind.result c.read_number-kind.result
-    c.read_head-head.result (Some c.in_ok-body.body) c.read_number-kind.ensures.value
-    c.read_head-head.ensures behind c.in_ok-body.ensures in
-    let read = message_from body c.read_head-head.result c.in_ok-body.body t
-    c.read_head-head.ensures part in
-    (message_there body (record { head = c.read_head-head.result; body = c.in_ok-body.body })
-    (sym read)).0
+    let parts = are_parts body c.in_ok-kind.behind c.in_ok-kind.kind c.in_ok-contents.contents t
+    c.in_ok-kind.ensures c.in_ok-contents.ensures.reading in
+    (message_there body (message c.head_from-head.result c.in_ok-body.body)
+    (sym (part_read body c.in_ok-kind.kind c.in_ok-contents.contents c.head_from-head.result
+    (Some c.in_ok-body.body) t parts c.head_from-head.ensures c.in_ok-body.ensures))).0

@@ -1,17 +1,28 @@
 use Rattle.traffic_message.proofs.Common.{◌≡◌, ◌+◌, ◌≤◌, ◌++◌, List, Bool, length, refl, sym, ap, subst, ◌∙◌, arith, length-append, binary}
-use Rattle.traffic_message.proofs.Common.{spelled, in_widths, length-binary, length-in_widths, FillsCapsule, M16, bits_of, head_fields}
+use Rattle.traffic_message.proofs.Common.{spelled, length-binary, length-in_widths, FillsCapsule, M16, bits_of, head_fields}
 use Rattle.traffic_message.proofs.Common.{head_values, kind_of, message_body, Message, head_widths}
 use Rattle.traffic_message.proofs.Bodies.{length-message, message_written}
+use Rattle.traffic_message.proofs.ByLayout.{head_lawful, head_written}
 use Rattle.traffic_message.proofs.message.TrafficMessage.spelled_body.Goals as goal
 
 -- a body has at most 1,160 bits
 most : (m : Message) → FillsCapsule M16 (message_body m) → 17 + length (bits_of m.body) ≤ 1160
 most m fills = omega (arith, fills.whole, fills.most, length-message m)
 
-pub append_values-requires-clause-room : goal.append_values-requires-clause-room
-append_values-requires-clause-room c =
+pub append-requires-clause-lawful : goal.append-requires-clause-lawful
+append-requires-clause-lawful c = head_lawful
+
+pub append-requires-clause-contents : goal.append-requires-clause-contents
+append-requires-clause-contents c =
+    (head_written c.self.inside.head c.contents.result c.self.invariant.head c.contents.ensures).0
+
+pub append-requires-clause-room : goal.append-requires-clause-room
+append-requires-clause-room c =
+    let h = c.self.inside.head in
     omega (
       arith,
+      ap length (head_written h c.contents.result c.self.invariant.head c.contents.ensures).1,
+      length-in_widths head_widths (head_values h) refl,
       ap length c.append_number.ensures,
       ap length c.empty-body.ensures,
       length-append c.empty-body.result (binary 8 c.from.result),
@@ -22,9 +33,9 @@ pub append_to-requires : goal.append_to-requires
 append_to-requires c =
     let m : Message = record { head = c.self.inside.head; body = c.self.inside.body } in
     let typed = c.append_number.new.self in
-    let head : c.append_values.new.body ≡ typed ++ spelled (head_fields m.head) =
-    c.append_values.ensures
-    ∙ ap (λ vs. typed ++ spelled (in_widths head_widths vs)) c.values.ensures in
+    let head : c.append.new.body ≡ typed ++ spelled (head_fields m.head) =
+    c.append.ensures ∙ ap (λ r. typed ++ r)
+    (head_written m.head c.contents.result c.self.invariant.head c.contents.ensures).1 in
     omega (
       arith,
       most m c.self.invariant.fills,
@@ -45,10 +56,10 @@ returns-clause-value c =
     c.append_number.ensures
     ∙ ap (λ (r : List Bool). r ++ binary 8 c.from.result) c.empty-body.ensures
     ∙ ap (binary 8) (c.from.ensures ∙ c.kind.ensures) in
-    let head : c.append_values.new.body ≡ typed ++ spelled (head_fields m.head) =
-    c.append_values.ensures
-    ∙ ap (λ vs. typed ++ spelled (in_widths head_widths vs)) c.values.ensures in
-    message_written m typed c.append_values.new.body c.append_to.new.body kind head
+    let head : c.append.new.body ≡ typed ++ spelled (head_fields m.head) =
+    c.append.ensures ∙ ap (λ r. typed ++ r)
+    (head_written m.head c.contents.result c.self.invariant.head c.contents.ensures).1 in
+    message_written m typed c.append.new.body c.append_to.new.body kind head
     c.append_to.ensures ∙ ap message_body c.self.view_is
 
 pub returns-clause-fills : goal.returns-clause-fills

@@ -1,7 +1,0 @@
-use Rattle.traffic_message.proofs.Common.{◌≡◌, ◌++◌, map, take, spelled, in_widths}
-use Rattle.traffic_message.proofs.values.append_values.Given as goal
-
-abbrev pub invariant-loop-i : goal.invariant-loop-i
-invariant-loop-i l =
-    l.body ≡ l.fn.body ++ spelled
-    (in_widths (take l.i (map (λ row. row.1) l.table)) (take l.i l.values))
