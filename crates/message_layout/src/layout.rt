@@ -100,6 +100,15 @@ pub const NO_RECORDS: Records = Records {
     least: 0,
 };
 
+/// The layout without fields: all bits, as they are.
+pub const ALL_BITS: Layout = Layout {
+    fixed: &[],
+    group: NO_GROUP,
+    octets: NO_OCTETS,
+    records: NO_RECORDS,
+    most: None,
+};
+
 /// The name in row `i` of a table, counted from 0.
 pub fn name_in(rows: &[FieldRow], i: usize) -> &'static str
     requires { i < length rows.now }

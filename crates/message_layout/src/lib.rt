@@ -14,8 +14,8 @@ mod writing;
 
 pub use contents::Contents;
 pub use layout::{
-    FieldRow, Group, Layout, NO_GROUP, NO_OCTETS, NO_RECORDS, Octets, Presence, Records, name_in,
-    width_in,
+    ALL_BITS, FieldRow, Group, Layout, NO_GROUP, NO_OCTETS, NO_RECORDS, Octets, Presence, Records,
+    name_in, width_in,
 };
 pub use reading::{read, read_kind};
 pub use values::FieldValues;

@@ -5,7 +5,7 @@ ghost use Rattle.message_layout.specs.Shapes.{shape};
 ghost use Rattle.paging_message.specs.Layouts.{shape_of};
 
 use crate::table::{CHANNEL_FIELDS, NEIGHBOR_FIELDS, SYSTEM_FIELDS};
-use message_layout::{Layout, NO_GROUP, NO_OCTETS, NO_RECORDS, Records};
+use message_layout::{ALL_BITS, Layout, NO_GROUP, NO_OCTETS, NO_RECORDS, Records};
 
 /// The layout of a message of this type.
 pub(crate) fn layout_of(kind: u8) -> Layout
@@ -50,13 +50,4 @@ const CHANNEL_LIST: Layout = Layout {
         least: 0,
     },
     most: Some(7),
-};
-
-/// A message of another type: all bits.
-const ALL_BITS: Layout = Layout {
-    fixed: &[],
-    group: NO_GROUP,
-    octets: NO_OCTETS,
-    records: NO_RECORDS,
-    most: None,
 };

@@ -1,5 +1,5 @@
 -- Bodies of messages, spelled and read again.
-use Rattle.traffic_message.proofs.Common.{◌≡◌, ◌≢◌, ◌⊎◌, ℕ, ◌+◌, ◌-◌, ◌%◌, ◌^◌, ◌<◌, ◌≤◌, ◌==◌, ◌&&◌, Bool, true, false, List, [], ◌∷◌}
+use Rattle.traffic_message.proofs.Common.{◌≡◌, ◌≢◌, ◌⊎◌, ℕ, ◌+◌, ◌%◌, ◌^◌, ◌<◌, ◌≤◌, ◌==◌, ◌&&◌, Bool, true, false, List, [], ◌∷◌}
 use Rattle.traffic_message.proofs.Common.{◌++◌, length, drop, refl, sym, ap, subst, ◌∙◌, arith, append_assoc, length-append, nat_le}
 use Rattle.traffic_message.proofs.Common.{inl, inr, Option, Some, None, and_from, and_parts, cases_Bool, eq-eqb, eqb-false, eqb-true}
 use Rattle.traffic_message.proofs.Common.{le-leb, leb-true, ne_eqb, drop_at, length-drop, binary, digit, spelled, in_widths}

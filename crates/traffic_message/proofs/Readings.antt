@@ -1,8 +1,8 @@
 -- Bodies and capsules read as messages.
 use Rattle.traffic_message.proofs.Common.{◌≡◌, ◌-◌, Bool, List, length, take, drop, refl, sym, ap, ◌∙◌, Option, Some, None}
-use Rattle.traffic_message.proofs.Common.{IfSome, CheckForm, FillsCapsule, capsule, M16, Message, message_body}
-use Rattle.traffic_message.proofs.Common.{traffic_capsule, IsTrafficMessage, AreRead, IsDecoded, IsNone, decoded}
-use Rattle.traffic_message.proofs.Common.{if_spelled-again, if_spelled-there, uncapsuled, undecoded}
+use Rattle.traffic_message.proofs.Common.{IfSome, CheckForm, M16, Message, message_body}
+use Rattle.traffic_message.proofs.Common.{traffic_capsule, IsTrafficMessage, AreRead}
+use Rattle.traffic_message.proofs.Common.{if_spelled-again, if_spelled-there}
 use Rattle.traffic_message.proofs.Bodies.{message_again, message_there}
 use Rattle.traffic_message.specs.Reading as reading
 
@@ -35,7 +35,7 @@ capsule_is_read form bits m e =
     ((message_there inside m both.0).0, both.1)
 
 -- WHAT THE CODE GIVES
-are_read : (form : CheckForm) →
+pub are_read : (form : CheckForm) →
     AreRead M16 form IsTrafficMessage message_body reading.body_reading
     (reading.traffic_reading form)
 unfolding traffic_capsule
@@ -47,27 +47,3 @@ are_read form =
       capsule_again = reads_capsule form;
       capsule_there = capsule_is_read form;
     }
-
--- where a body is read, where it isn't, and where there is none
-pub message_found : (form : CheckForm) (bits inside : List Bool) (m : Message) →
-    FillsCapsule M16 inside × (bits ≡ capsule M16 form inside) →
-    Some m ≡ reading.body_reading inside →
-    IsDecoded M16 form IsTrafficMessage message_body (reading.traffic_reading form) bits m
-message_found form bits inside m found read =
-    decoded M16 form IsTrafficMessage message_body reading.body_reading
-    (reading.traffic_reading form) bits inside m (are_read form) found read
-
-pub no_message : (form : CheckForm) (bits inside : List Bool) →
-    FillsCapsule M16 inside × (bits ≡ capsule M16 form inside) →
-    None ≡ reading.body_reading inside →
-    IsNone M16 form IsTrafficMessage message_body (reading.traffic_reading form) bits
-no_message form bits inside found none =
-    undecoded M16 form IsTrafficMessage message_body reading.body_reading
-    (reading.traffic_reading form) bits inside (are_read form) found none
-
-pub no_capsule : (form : CheckForm) (bits : List Bool) →
-    ((inside : List Bool) → FillsCapsule M16 inside → ¬ (bits ≡ capsule M16 form inside)) →
-    IsNone M16 form IsTrafficMessage message_body (reading.traffic_reading form) bits
-no_capsule form bits none =
-    uncapsuled M16 form IsTrafficMessage message_body reading.body_reading
-    (reading.traffic_reading form) bits (are_read form) none

@@ -7,7 +7,9 @@ ghost use Rattle.traffic_message.specs.Layouts.{form_at, shape_of};
 use crate::handoff::is_hard_handoff;
 use crate::table::{HEAD_FIELDS, IN_TRAFFIC_FIELDS, SEARCH_FIELDS, TIME_FIELDS, UPDATE_FIELDS};
 use chip_core::Bits;
-use message_layout::{Group, Layout, NO_GROUP, NO_OCTETS, NO_RECORDS, Octets, Presence, Records};
+use message_layout::{
+    ALL_BITS, Group, Layout, NO_GROUP, NO_OCTETS, NO_RECORDS, Octets, Presence, Records,
+};
 
 /// How what stands behind a head is laid out.
 #[derive(Clone, Copy)]
@@ -95,13 +97,4 @@ const HANDOFF_DIRECTION: Layout = Layout {
         least: 1,
     },
     most: Some(7),
-};
-
-/// All bits, as they are.
-const ALL_BITS: Layout = Layout {
-    fixed: &[],
-    group: NO_GROUP,
-    octets: NO_OCTETS,
-    records: NO_RECORDS,
-    most: None,
 };

@@ -1,66 +1,67 @@
-use Rattle.traffic_message.proofs.Common.{rules, refl, sym, ap, ◌∙◌, Ok, M16, traffic_capsule, fault_read, whole_checked}
-use Rattle.traffic_message.proofs.Readings.{message_found, no_capsule, no_message}
+use Rattle.traffic_message.proofs.Common.{rules, refl, sym, ap, ◌∙◌, Ok, M16, IsDecoded, IsNone, fault_read, whole_checked, message_body}
+use Rattle.traffic_message.proofs.Common.{IsTrafficMessage, traffic_capsule, traffic_reading, body_reading, decoded, uncapsuled, undecoded}
+use Rattle.traffic_message.proofs.Readings.{are_read}
 use Rattle.traffic_message.proofs.message.TrafficMessage.decode.Goals as goal
+use Rattle.traffic_message.proofs.message.TrafficMessage.decode.Goals.{After-from_residual, In-None, In-Some}
+
+-- what is known at the three exits
+uncapsuled_at : (c : After-from_residual) →
+    IsNone M16 c.args.form IsTrafficMessage message_body (traffic_reading c.args.form) c.args.capsule.now
+uncapsuled_at c =
+    uncapsuled M16 c.args.form IsTrafficMessage message_body body_reading (traffic_reading c.args.form)
+    c.args.capsule.now (are_read c.args.form)
+    (λ inside fills spelled. cc (c.in_err-body.ensures.only inside fills spelled))
+
+read_at : (c : In-Some) →
+    IsDecoded M16 c.args.form IsTrafficMessage message_body (traffic_reading c.args.form)
+    c.args.capsule.now c.in-Some.message
+read_at c =
+    decoded M16 c.args.form IsTrafficMessage message_body body_reading (traffic_reading c.args.form)
+    c.args.capsule.now c.in_ok-body.body c.in-Some.message (are_read c.args.form)
+    c.in_ok-body.ensures.found c.in-Some.ensures.reading
+
+unread_at : (c : In-None) →
+    IsNone M16 c.args.form IsTrafficMessage message_body (traffic_reading c.args.form) c.args.capsule.now
+unread_at c =
+    undecoded M16 c.args.form IsTrafficMessage message_body body_reading (traffic_reading c.args.form)
+    c.args.capsule.now c.in_ok-body.body (are_read c.args.form) c.in_ok-body.ensures.found
+    c.in-None.ensures.reading
 
 pub returns-in_err-body-clause-only : goal.returns-in_err-body-clause-only
 unfolding traffic_capsule
-returns-in_err-body-clause-only c m is same =
-    absurd ((no_capsule c.args.form c.args.capsule.now
-    (λ inside fills spelled. cc (c.in_err-body.ensures.only inside fills spelled))).never m is same)
+returns-in_err-body-clause-only c m is same = absurd ((uncapsuled_at c).never m is same)
 
 pub returns-in_err-body-clause-reading : goal.returns-in_err-body-clause-reading
 returns-in_err-body-clause-reading c =
-    fault_read c.from_residual.result (search rules)
-    ∙ sym (no_capsule c.args.form c.args.capsule.now
-    (λ inside fills spelled. cc (c.in_err-body.ensures.only inside fills spelled))).reading
+    fault_read c.from_residual.result (search rules) ∙ sym (uncapsuled_at c).reading
 
 pub returns-in-Some-clause-found : goal.returns-in-Some-clause-found
 unfolding traffic_capsule
-returns-in-Some-clause-found c =
-    (message_found c.args.form c.args.capsule.now c.in_ok-body.body c.in-Some.message
-    c.in_ok-body.ensures.found c.in-Some.ensures.reading).found
+returns-in-Some-clause-found c = (read_at c).found
 
 pub returns-in-Some-clause-only : goal.returns-in-Some-clause-only
 unfolding traffic_capsule
-returns-in-Some-clause-only c m is same =
-    ap Ok ((message_found c.args.form c.args.capsule.now c.in_ok-body.body c.in-Some.message
-    c.in_ok-body.ensures.found c.in-Some.ensures.reading).only m is same)
+returns-in-Some-clause-only c m is same = ap Ok ((read_at c).only m is same)
 
 pub returns-in-Some-clause-reading : goal.returns-in-Some-clause-reading
-returns-in-Some-clause-reading c =
-    sym (message_found c.args.form c.args.capsule.now c.in_ok-body.body c.in-Some.message
-    c.in_ok-body.ensures.found c.in-Some.ensures.reading).reading
+returns-in-Some-clause-reading c = sym (read_at c).reading
 
 pub returns-in-Some-clause-bad_body : goal.returns-in-Some-clause-bad_body
 unfolding traffic_capsule
 returns-in-Some-clause-bad_body c =
-    let found = (message_found c.args.form c.args.capsule.now c.in_ok-body.body c.in-Some.message
-    c.in_ok-body.ensures.found c.in-Some.ensures.reading).found in (
-      λ bad. absurd (cc bad),
-      λ none. absurd (none.2 c.in-Some.message found.0 found.1),
-    )
+    let found = (read_at c).found in
+    (λ bad. absurd (cc bad), λ none. absurd (none.2 c.in-Some.message found.0 found.1))
 
 pub returns-in-None-clause-only : goal.returns-in-None-clause-only
 unfolding traffic_capsule
-returns-in-None-clause-only c m is same =
-    absurd ((no_message c.args.form c.args.capsule.now c.in_ok-body.body
-    c.in_ok-body.ensures.found c.in-None.ensures.reading).never m is same)
+returns-in-None-clause-only c m is same = absurd ((unread_at c).never m is same)
 
 pub returns-in-None-clause-reading : goal.returns-in-None-clause-reading
-returns-in-None-clause-reading c =
-    sym (no_message c.args.form c.args.capsule.now c.in_ok-body.body c.in_ok-body.ensures.found
-    c.in-None.ensures.reading).reading
+returns-in-None-clause-reading c = sym (unread_at c).reading
 
 pub returns-in-None-clause-bad_body : goal.returns-in-None-clause-bad_body
 unfolding traffic_capsule
 returns-in-None-clause-bad_body c =
     let told = whole_checked M16 c.args.form c.args.capsule.now c.in_ok-body.body
-    c.in_ok-body.ensures.found in (
-      λ bad. (
-        told.0,
-        told.1,
-        (no_message c.args.form c.args.capsule.now c.in_ok-body.body
-            c.in_ok-body.ensures.found c.in-None.ensures.reading).never,
-      ),
-      λ none. refl,
-    )
+    c.in_ok-body.ensures.found in
+    (λ bad. (told.0, told.1, (unread_at c).never), λ none. refl)
