@@ -1,12 +1,10 @@
 -- Lanes of two scores chosen by two heads.
-use Rattle.std.proofs.Common.{◌≡◌, Bool, true, false, cond, List, [], ◌∷◌, map, refl}
+use Rattle.std.proofs.Common.{◌≡◌, Bool, true, false, List, [], ◌∷◌, map, refl}
 use Rattle.std.proofs.Common.{ap, ◌∙◌, ℤ, to_z, of_z, FitsSigned, w64}
 use Rattle.std.specs.Prelude.{int_lt}
-use Rattle.std.proofs.lemmas.Int.{to_z-of_z}
 use Rattle.std.proofs.lemmas.Simd.{tops_compared}
 use lib.Lanes.{Each1, zip2, sel_l}
-use Rattle.viterbi.specs.Rows.{taken_of}
-use Rattle.viterbi.proofs.LaneLemmas.{less_bits, mask_of}
+use Rattle.viterbi.proofs.LaneLemmas.{chosen_lane, less_bits, less_lanes, mask_of}
 use Rattle.viterbi.proofs.Blocks.{passed, kept}
 use Rattle.list_viterbi.specs.Turns.{choose}
 use Rattle.list_viterbi.specs.Heads.{HeadsFit, even_heads, odd_heads}
@@ -18,24 +16,10 @@ heads_of a b c d = record { first = a; second = b; third = c; fourth = d }
 abbrev pub AllFit : List ℤ → Type 0
 AllFit xs = Each1 (λ x. FitsSigned w64 x) xs
 
-less_lanes : (xs ys : List ℤ) → AllFit xs → AllFit ys →
-    zip2 less_bits (map (of_z w64) xs) (map (of_z w64) ys) ≡ zip2 int_lt xs ys
-less_lanes [] ys p q = refl
-less_lanes (x ∷ xs) [] p q = refl
-less_lanes (x ∷ xs) (y ∷ ys) p q =
-    let here : less_bits (of_z w64 x) (of_z w64 y) ≡ int_lt x y =
-    rw (to_z-of_z w64 x p.0, to_z-of_z w64 y q.0) refl in
-    λ i. here i ∷ less_lanes xs ys p.1 q.1 i
-
 mask_is : (xs ys : List ℤ) → AllFit xs → AllFit ys → mask_of xs ys ≡ zip2 int_lt xs ys
 mask_is xs ys p q =
     tops_compared w64 less_bits (map (of_z w64) xs) (map (of_z w64) ys)
     ∙ less_lanes xs ys p q
-
-chosen_lane : (t : Bool) (x y : ℤ) → FitsSigned w64 x → FitsSigned w64 y →
-    to_z w64 (cond t (of_z w64 y) (of_z w64 x)) ≡ taken_of t x y
-chosen_lane true x y p q = to_z-of_z w64 y q
-chosen_lane false x y p q = to_z-of_z w64 x p
 
 chosen_by : (ts : List Bool) (xs ys : List ℤ) → AllFit xs → AllFit ys →
     map (to_z w64) (sel_l ts (map (of_z w64) ys) (map (of_z w64) xs)) ≡ choose ts xs ys

@@ -8,18 +8,18 @@ use Rattle.chip_core.specs.Bits.{digit, binary}
 use Rattle.chip_core.specs.Packed.{low_first}
 use Rattle.chip_core.proofs.RegisterBits.{length-binary}
 use Rattle.conv_code.specs.ConvCode.{state_after}
-use Rattle.conv_code.proofs.Continued.{code_symbols-none, state_after-none}
-use Rattle.viterbi.specs.Words.{Word, rank, score_of, correlation, IsBetter}
+use Rattle.conv_code.proofs.Continued.{state_after-none}
+use Rattle.viterbi.specs.Words.{Word, rank, score_of, IsBetter}
 use Rattle.viterbi.specs.Best.{HasStart, IsAllowed}
 use Rattle.viterbi.specs.States.{low_bits}
 use Rattle.viterbi.specs.Survivors.{gain_of, end_count}
 use Rattle.viterbi.specs.declared.word.Ends.{Ends}
-use Rattle.viterbi.proofs.StateBits.{length-low_bits, low_bits-front, low_first-low_bits}
+use Rattle.viterbi.proofs.StateBits.{length-low_bits, low_first-low_bits}
 use Rattle.viterbi.proofs.Scores.{score_of-pushed}
 use Rattle.viterbi.proofs.Choices.{IsPushed, Either, rank-pushed, words_same}
 use Rattle.viterbi.proofs.Steps.{Into, joined_long, order_by_state, pushed_into, came_from}
-use Rattle.viterbi.proofs.Steps.{state_parts}
-use Rattle.viterbi.proofs.Finish.{IntoBelow, allowed_into, into_allowed}
+use Rattle.viterbi.proofs.Steps.{before_below, nine_bits, state_before, state_parts}
+use Rattle.viterbi.proofs.Finish.{IntoBelow, allowed_into, into_allowed, no_bits, score-none}
 use Rattle.list_viterbi.specs.declared.words.Entry.{Entry}
 use Rattle.list_viterbi.specs.First.{word_of}
 use Rattle.list_viterbi.specs.Merging.{list_from, list_into, first_lists, Start}
@@ -30,21 +30,6 @@ use Rattle.list_viterbi.proofs.Merges.{Lists, same_lists, merge_lists, extended_
 abbrev pub Listed : List ℤ → Ends → ℕ → ℕ → List (List Entry) → Type 0
 Listed softs ends k n row = (t : ℕ) → t < 256 →
     Lists softs (Into ends n (low_bits 8 t)) k (get_or row t [])
-
-state_before : (t : ℕ) (oldest : Bool) →
-    low_bits 8 (2 * (t % 128) + digit oldest) ≡ oldest ∷ low_bits 7 (t % 128)
-state_before t oldest = let place : 2 * (t % 128) + digit oldest ≡ digit oldest + 2 * (t % 128) =
-    omega arith in rw place (low_bits-front 7 oldest (t % 128))
-
-nine_bits : (t : ℕ) (oldest : Bool) → t < 256 →
-    low_bits 9 (2 * t + digit oldest) ≡ (oldest ∷ low_bits 7 (t % 128)) ++ nat_le 128 t ∷ []
-nine_bits t oldest h =
-    let place : 2 * t + digit oldest ≡ digit oldest + 2 * t = omega arith in
-    rw place (low_bits-front 8 oldest t ∙ ap (λ (r : List Bool). oldest ∷ r) (state_parts t h))
-
-before_below : (t : ℕ) (oldest : Bool) → 2 * (t % 128) + digit oldest < 256
-before_below t true = omega arith
-before_below t false = omega arith
 
 module _ (softs : List ℤ) (ends : Ends) (k n : ℕ) (row : List (List Entry))
     (room : 2 * n + 2 ≤ length softs) (listed : Listed softs ends k n row) (t : ℕ)
@@ -122,27 +107,6 @@ module _ (softs : List ℤ) (ends : Ends) (k n : ℕ) (row : List (List Entry))
       (from_list true)))
 
 -- BEFORE THE FIRST BIT
-nothing_yet : (softs : List ℤ) → correlation softs [] ≡ pos 0
-nothing_yet [] = refl
-nothing_yet (s ∷ softs) = refl
-
-score-none : (softs : List ℤ) (w : Word) → w.bits ≡ [] → score_of softs w ≡ pos 0
-score-none softs w none =
-    ap (λ (bits : List Bool). score_of softs (record { start = w.start; bits = bits })) none
-    ∙ ap (correlation softs) (code_symbols-none w.start) ∙ nothing_yet softs
-
--- a word of no bits into a state is the state itself
-no_bits : (ends : Ends) (state : List Bool) (w : Word) → Into ends 0 state w →
-    (w.start ≡ state) × (w.bits ≡ [])
-no_bits ends state w h =
-    let none : w.bits ≡ [] = is_empty w.bits h.bits_long in (
-      sym (state_after-none w.start) ∙ ap (state_after w.start) (sym none) ∙ h.reached,
-      none,
-    ) where
-      is_empty : (xs : List Bool) → length xs ≡ 0 → xs ≡ []
-      is_empty [] e = refl
-      is_empty (x ∷ xs) e = absurd (omega (arith, e))
-
 pub start_lists : (softs : List ℤ) (ends : Ends) (k t : ℕ) (es : List Entry) → Start ends t es →
     Lists softs (Into ends 0 (low_bits 8 t)) (suc k) es
 start_lists softs ends k t [] h =
@@ -165,7 +129,7 @@ start_lists softs ends k t (e ∷ []) h =
         },
         (none_left k same).0,
       ),
-      (h.1.nothing ∙ sym (score-none softs (word_of e) h.1.none), tt),
+      (h.1.nothing ∙ sym (score-none softs (word_of e).start (word_of e) refl h.1.none), tt),
     ) where
       none_left : (k : ℕ) → ((w : Word) → Into ends 0 (low_bits 8 t) w → w ≡ word_of e) →
           Lists softs (After (score_of softs) (word_of e) (Into ends 0 (low_bits 8 t))) k []

@@ -1,16 +1,12 @@
 //! What a bit adds to the score of a word, by the state into which it leads.
 
-ghost use Rattle.std.specs.Prelude.{◌≡◌, ◌<◌, ◌≤◌, ◌+◌, ◌^◌, ℕ, get_or, pos, unsigned_abs};
-ghost use Rattle.std.specs.Prelude.{◌*◌, ◌/◌, ◌%◌, length, FitsSigned};
+ghost use Rattle.std.specs.Prelude.{◌≡◌, ◌<◌, ◌+◌, ◌*◌, ◌/◌, ◌%◌, ℕ, length, get_or, pos};
+ghost use Rattle.std.specs.Prelude.{FitsSigned};
 ghost use Rattle.std.specs.Int.{w64};
-ghost use Rattle.viterbi.specs.Lanes.{gain_by, code_of, lane_codes, kinds};
+ghost use Rattle.viterbi.specs.Lanes.{code_of, kinds};
 
 use std::simd::prelude::*;
-
-/// Of which of four kinds the codes of each eight states are.
-const KINDS: [u8; 32] = [
-    0, 2, 3, 1, 3, 1, 0, 2, 1, 3, 2, 0, 2, 0, 1, 3, 3, 1, 0, 2, 0, 2, 3, 1, 2, 0, 1, 3, 1, 3, 2, 0,
-];
+use viterbi::symbol_gains::kind_of;
 
 /// The codes of eight states, for each kind: 1 where the first symbol is 1, plus 2 where the second
 /// is, where the oldest bit is 0.
@@ -23,21 +19,8 @@ fn code_of(state: u8) -> usize
     ensures value { result ≡ code_of state }
     ensures small { result < 4 }
 {
-    let kind = KINDS[(state / 8) as usize] as usize;
+    let kind = kind_of((state / 8) as usize);
     CODES[8 * kind + (state % 8) as usize] as usize
-}
-
-/// What two symbols add to the score, both 0, only the first 1, only the second 1, both 1.
-pub fn gains(first: i64, second: i64) -> [i64; 4]
-    requires { unsigned_abs first + unsigned_abs second ≤ 2 ^ 62 }
-    ensures { (c : ℕ) → c < 4 → get_or result c (pos 0) ≡ gain_by first second c }
-{
-    [
-        first + second,
-        second - first,
-        first - second,
-        -first - second,
-    ]
 }
 
 /// What a bit adds to the score of a word into a state, where the oldest bit is 0.
@@ -45,28 +28,6 @@ pub fn gain_at(gains: &[i64; 4], state: u8) -> i64
     ensures { result ≡ get_or gains.now (code_of state) (pos 0) }
 {
     gains[code_of(state)]
-}
-
-/// What a bit adds where the oldest bit is 0, for eight states of each kind.
-pub fn lane_gains(first: i64, second: i64) -> [i64; 32]
-    requires { unsigned_abs first + unsigned_abs second ≤ 2 ^ 62 }
-    ensures { (j : ℕ) → j < 32 →
-        get_or result j (pos 0) ≡ gain_by first second (get_or lane_codes j 0) }
-{
-    let [a, b, c, d] = gains(first, second);
-    [
-        a, b, a, b, b, a, b, a, b, a, b, a, a, b, a, b, c, d, c, d, d, c, d, c, d, c, d, c, c, d,
-        c, d,
-    ]
-}
-
-/// The kind of eight states from `8 * block` on.
-fn kind_of(block: usize) -> usize
-    requires { block < 32 }
-    ensures value { result ≡ get_or kinds block 0 }
-    ensures small { result < 4 }
-{
-    KINDS[block] as usize
 }
 
 /// What a bit adds where the oldest bit is 0, for the two states from `2 * block` on.

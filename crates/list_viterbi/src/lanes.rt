@@ -18,10 +18,11 @@ ghost use Rattle.list_viterbi.specs.Heads.{HeadsLong, AreWeights, lane_sum, put_
 ghost use Rattle.list_viterbi.specs.Heads.{four_of, row_of, PairPicked};
 ghost use Rattle.list_viterbi.specs.Picks.{HasPicks, picks_into};
 
-use crate::gains::{gains_of, lane_gains};
+use crate::gains::gains_of;
 use crate::picking::Choices;
 use crate::scores::Scores;
 use std::simd::prelude::*;
+use viterbi::symbol_gains::lane_gains;
 
 /// Two states' next four scores behind oldest bit 0 or 1.
 #[derive(Clone, Copy)]

@@ -8,8 +8,9 @@ ghost use Rattle.list_viterbi.specs.Merging.{second_is_next, merge};
 ghost use Rattle.list_viterbi.specs.Picks.{pick_score, picks_from, picks_by, picks_into, HasPicks};
 ghost use Rattle.list_viterbi.specs.Picks.{LeavesRoom};
 
-use crate::gains::{gain_at, gains};
+use crate::gains::gain_at;
 use crate::scores::Scores;
+use viterbi::symbol_gains::gains;
 
 /// A number for each state after some bit. Bit `r` of it is the oldest bit of the state that the
 /// word at place `r` of the state's list comes from. Words from one state keep their order, so that

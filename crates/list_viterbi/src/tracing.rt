@@ -8,8 +8,7 @@ ghost use Rattle.list_viterbi.specs.Rows.{path, origin, entry_at};
 use crate::finds::{Find, Finds};
 use crate::picking::Choices;
 use crate::words::{Entry, Words};
-use chip_core::Bits;
-use viterbi::Word;
+use viterbi::{Word, bits_of};
 
 /// Bit `place` of a state's choices.
 fn is_odd(choices: u32, place: u8) -> bool
@@ -64,18 +63,6 @@ fn trace_back(rows: &[Choices], end: u8, place: u8, bits: &mut [bool]) -> u8
         rank = pointer / 2;
     }
     state
-}
-
-/// A list of bits.
-fn bits_of(path: &[bool]) -> Bits
-    requires { length path.now ≤ 576 }
-    ensures { result ≡ path.now }
-{
-    let mut bits = Bits::empty();
-    for bit in path {
-        bits.append(*bit);
-    }
-    bits
 }
 
 /// The word that the rows, one for each bit, lead back to from a place in a state's list, with its

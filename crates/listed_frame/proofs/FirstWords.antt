@@ -15,7 +15,7 @@ use Rattle.frame_decoder.specs.Rows.{IsRow, bits_in, score_in, word_in, gathered
 use Rattle.frame_decoder.proofs.RowWords.{bits_least, gathered_score, length-gathered_in}
 use Rattle.list_viterbi.specs.First.{AreFirst, HaveScores, first_words, word_of}
 use Rattle.list_viterbi.specs.declared.words.Entry.{Entry}
-use Rattle.list_viterbi.proofs.Numbered.{word_at_allowed}
+use Rattle.viterbi.proofs.Unique.{word_at_allowed}
 use Rattle.list_viterbi.proofs.Places.{by_definition}
 use Rattle.list_viterbi.proofs.Unless.{nat_lt-true}
 use Rattle.listed_frame.specs.ListedFrames.{words_in}

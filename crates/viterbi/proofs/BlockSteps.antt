@@ -157,24 +157,29 @@ passed_is xs h = kept xs (Each1-from_get_or (λ x. FitsSigned w64 x) xs (pos 0) 
 
 -- eight numbers of a row, as they are handed on and less the top
 pub less_lanes : (row xs : List ℤ) (top : ℤ) (place : ℕ → ℕ) → length xs ≡ 8 → FitsSigned w64 top →
-    ((l : ℕ) → l < 8 → FitsSigned w64 (get_or row (place l) (pos 0))) →
-    ((l : ℕ) → l < 8 → FitsSigned w64 (get_or row (place l) (pos 0) -ℤ top)) →
+    ((t : ℕ) → t < length row → FitsSigned w64 (get_or row t (pos 0))) →
+    ((t : ℕ) → t < length row → FitsSigned w64 (get_or row t (pos 0) -ℤ top)) →
+    ((l : ℕ) → l < 8 → place l < length row) →
     ((l : ℕ) → l < 8 → get_or xs l (pos 0) ≡ get_or row (place l) (pos 0)) →
     (passed xs ≡ xs) × Each1 (λ x. Fit x top (x -ℤ top)) xs
-less_lanes row xs top place long fits each less reads = (
-  passed_is xs (λ l b. rw (reads l (omega (arith, b, long))) (each l (omega (arith, b, long)))),
+less_lanes row xs top place long fits each less within reads = (
+  passed_is xs (λ l b. rw (reads l (omega (arith, b, long)))
+      (each (place l) (within l (omega (arith, b, long))))),
   Each1-from_get_or (λ x. Fit x top (x -ℤ top)) xs (pos 0)
-      (λ l b. rw (reads l (omega (arith, b, long)))
-      (each l (omega (arith, b, long)), (fits, less l (omega (arith, b, long))))),
+      (λ l b. rw (reads l (omega (arith, b, long))) (
+        each (place l) (within l (omega (arith, b, long))),
+        (fits, less (place l) (within l (omega (arith, b, long)))),
+      )),
 )
 
 -- and what is made of them, handed on again
 pub less_read : (row xs made : List ℤ) (top : ℤ) (place : ℕ → ℕ) → length xs ≡ 8 →
-    ((l : ℕ) → l < 8 → FitsSigned w64 (get_or row (place l) (pos 0) -ℤ top)) →
+    ((t : ℕ) → t < length row → FitsSigned w64 (get_or row t (pos 0) -ℤ top)) →
+    ((l : ℕ) → l < 8 → place l < length row) →
     ((l : ℕ) → l < 8 → get_or xs l (pos 0) ≡ get_or row (place l) (pos 0)) →
     made ≡ map (λ x. x -ℤ top) xs → (l : ℕ) → l < 8 →
     get_or (passed made) l (pos 0) ≡ get_or row (place l) (pos 0) -ℤ top
-less_read row xs made top place long less reads is l b =
+less_read row xs made top place long less within reads is l b =
     ap (λ (r : List ℤ). get_or r l (pos 0)) (passed_is made fits) ∙ here l b where
       here : (l : ℕ) → l < 8 → get_or made l (pos 0) ≡ get_or row (place l) (pos 0) -ℤ top
       here l b =
@@ -186,7 +191,9 @@ less_read row xs made top place long less reads is l b =
       size = ap length is ∙ length-map xs (λ x. x -ℤ top) ∙ long
 
       fits : (l : ℕ) → l < length made → FitsSigned w64 (get_or made l (pos 0))
-      fits l b = rw (here l (omega (arith, b, size))) (less l (omega (arith, b, size)))
+      fits l b =
+          rw (here l (omega (arith, b, size)))
+          (less (place l) (within l (omega (arith, b, size))))
 
 pub less_long : (xs made : List ℤ) (top : ℤ) → length xs ≡ 8 → made ≡ map (λ x. x -ℤ top) xs →
     length (passed made) ≡ 8
@@ -333,3 +340,50 @@ pub gain_fits : (f s : ℤ) (c : ℕ) → unsigned_abs f + unsigned_abs s ≤ 2 
     FitsSigned w64 (gain_by f s c)
 gain_fits f s c pair =
     fits_signed_from_abs w64 _ (let size = gain_size f s c in omega (arith, pair, size))
+
+-- what is known of the lanes of one block
+pub record BlockLanes (row : List ℤ) (top f s : ℤ) (k : ℕ) (a o g : List ℤ) : Type 0 where
+  pub even_kept : passed a ≡ a
+  pub odd_kept : passed o ≡ o
+  pub gain_kept : passed g ≡ g
+  pub even_fit : Each2 (λ x y. Fit x y (x +ℤ y)) a g
+  pub odd_fit : Each2 (λ x y. Fit x y (x -ℤ y)) o g
+  pub even_is : (l : ℕ) → l < 8 →
+      get_or a l (pos 0) +ℤ get_or g l (pos 0) ≡ metric_from row f s (8 * k + l) 0 -ℤ top
+  pub odd_is : (l : ℕ) → l < 8 →
+      get_or o l (pos 0) -ℤ get_or g l (pos 0) ≡ metric_from row f s (8 * k + l) 1 -ℤ top
+
+pub block_lanes : (row gains a o g : List ℤ) (top f s : ℤ) (k : ℕ) → length a ≡ 8 →
+    length o ≡ 8 → length g ≡ 8 → FitsSigned w64 top → k < 32 →
+    unsigned_abs f + unsigned_abs s ≤ 2 ^ 62 →
+    ((t : ℕ) → t < 256 → get_or row t (pos 0) ≤ℤ top) →
+    ((t : ℕ) → t < 256 →
+    unsigned_abs (top -ℤ get_or row t (pos 0)) + (unsigned_abs f + unsigned_abs s) ≤ 2 ^ 63) →
+    ((j : ℕ) → j < 32 → get_or gains j (pos 0) ≡ gain_by f s (get_or lane_codes j 0)) →
+    ((l : ℕ) → l < 8 →
+    get_or a l (pos 0) ≡ get_or row (16 * (k % 16) + 2 * l) (pos 0) -ℤ to_z w64 (of_z w64 top)) →
+    ((l : ℕ) → l < 8 → get_or o l (pos 0)
+    ≡ get_or row (16 * (k % 16) + (2 * l + 1)) (pos 0) -ℤ to_z w64 (of_z w64 top)) →
+    ((l : ℕ) → l < 8 → get_or g l (pos 0) ≡ get_or gains (8 * get_or kinds k 0 + l) (pos 0)) →
+    BlockLanes row top f s k a o g
+block_lanes row gains a o g top f s k m n p fits few pair most near made evens odds lanes =
+    let evens_are : (l : ℕ) → l < 8 →
+    get_or a l (pos 0) ≡ get_or row (16 * (k % 16) + 2 * l) (pos 0) -ℤ top =
+    rw (to_z-of_z w64 top fits) at evens in
+    let odds_are : (l : ℕ) → l < 8 →
+    get_or o l (pos 0) ≡ get_or row (16 * (k % 16) + (2 * l + 1)) (pos 0) -ℤ top =
+    rw (to_z-of_z w64 top fits) at odds in
+    let gain = lane_gain gains g f s k few made lanes in
+    let even = lanes_fit row a g top f s k (λ l. 16 * (k % 16) + 2 * l) m p pair most near
+    (λ l b. omega (arith, b)) evens_are gain in
+    let odd = lanes_fit row o g top f s k (λ l. 16 * (k % 16) + (2 * l + 1)) n p pair most near
+    (λ l b. omega (arith, b)) odds_are gain in
+    record {
+      even_kept = even.0;
+      odd_kept = odd.0;
+      gain_kept = even.1.0;
+      even_fit = even.1.1.0;
+      odd_fit = odd.1.1.1;
+      even_is = λ l b. from_even row top f s k l _ _ few b (evens_are l b) (gain l b);
+      odd_is = λ l b. from_odd row top f s k l _ _ few b (odds_are l b) (gain l b);
+    }

@@ -63,7 +63,7 @@ lessened_lanes (suc n) (x ∷ xs) y e h =
 abbrev pub less_bits : ℕ → ℕ → Bool
 less_bits a b = int_lt (to_z w64 a) (to_z w64 b)
 
-less_lanes : (xs ys : List ℤ) → Each1 (λ x. FitsSigned w64 x) xs →
+pub less_lanes : (xs ys : List ℤ) → Each1 (λ x. FitsSigned w64 x) xs →
     Each1 (λ x. FitsSigned w64 x) ys →
     zip2 less_bits (map (of_z w64) xs) (map (of_z w64) ys) ≡ zip2 int_lt xs ys
 less_lanes [] ys p q = refl
@@ -73,7 +73,7 @@ less_lanes (x ∷ xs) (y ∷ ys) p q =
     rw (to_z-of_z w64 x p.0, to_z-of_z w64 y q.0) refl in
     λ i. here i ∷ less_lanes xs ys p.1 q.1 i
 
-chosen_lane : (t : Bool) (x y : ℤ) → FitsSigned w64 x → FitsSigned w64 y →
+pub chosen_lane : (t : Bool) (x y : ℤ) → FitsSigned w64 x → FitsSigned w64 y →
     to_z w64 (cond t (of_z w64 y) (of_z w64 x)) ≡ taken_of t x y
 chosen_lane true x y p q = to_z-of_z w64 y q
 chosen_lane false x y p q = to_z-of_z w64 x p

@@ -2,8 +2,8 @@
 use Rattle.std.proofs.Common.{◌≡◌, ℕ, ◌+◌, ◌*◌, ◌/◌, ◌%◌, ◌^◌, ◌<◌, ◌≤◌, Bool, true, false, List}
 use Rattle.std.proofs.Common.{length, set, get_or, sym, ap, ◌∙◌, arith, ℤ, pos, ◌+ℤ◌, ◌*ℤ◌}
 use Rattle.std.proofs.Common.{unsigned_abs, ⊎_elim, ◌⊎◌, inl, inr, subst, ◌-ℤ◌, ◌≤ℤ◌, FitsSigned}
-use Rattle.std.proofs.Common.{w64}
-use Rattle.std.proofs.lemmas.Int.{ints}
+use Rattle.std.proofs.Common.{to_z, of_z, w64}
+use Rattle.std.proofs.lemmas.Int.{ints, to_z-of_z}
 use Rattle.std.proofs.lemmas.Bool.{cases_lt, cases_eq}
 use Rattle.std.proofs.lemmas.List.{get_or-set_same, get_or-set_other, length-set}
 use Rattle.std.proofs.lemmas.Simd.{get_or-put_chunk_below, get_or-put_chunk_above}
@@ -88,19 +88,32 @@ metric_fits forced row top f s t pair most near = either (choice_into forced row
   either true = from 1 (omega arith)
   either false = from 0 (omega arith)
 
+pub record BlockMetrics (forced : Bool) (row : List ℤ) (top f s : ℤ) (k : ℕ) (m : List ℤ) :
+    Type 0 where
+  pub each : (l : ℕ) → l < 8 → get_or m l (pos 0) ≡ metric_into forced row f s (8 * k + l) -ℤ top
+  pub kept : passed m ≡ m
+  pub fit : Each1 (λ x. FitsSigned w64 x) m
+
 pub metrics_lanes : (forced : Bool) (row : List ℤ) (top f s : ℤ) (k : ℕ) (m : List ℤ) →
     length m ≡ 8 →
     unsigned_abs f + unsigned_abs s ≤ 2 ^ 62 →
     ((u : ℕ) → u < 256 → get_or row u (pos 0) ≤ℤ top) →
     ((u : ℕ) → u < 256 →
     unsigned_abs (top -ℤ get_or row u (pos 0)) + (unsigned_abs f + unsigned_abs s) ≤ 2 ^ 63) →
-    ((l : ℕ) → l < 8 → get_or m l (pos 0) ≡ metric_into forced row f s (8 * k + l) -ℤ top) →
-    (passed m ≡ m) × Each1 (λ x. FitsSigned w64 x) m
-metrics_lanes forced row top f s k m long pair most near each = (kept m all, all) where
-  all : Each1 (λ x. FitsSigned w64 x) m
-  all = Each1-from_get_or (λ x. FitsSigned w64 x) m (pos 0)
-      (λ l b. rw (each l (omega (arith, b, long)))
-      (metric_fits forced row top f s (8 * k + l) pair most near))
+    FitsSigned w64 top → FitsSigned w64 f → FitsSigned w64 s →
+    ((l : ℕ) → l < 8 → get_or m l (pos 0)
+    ≡ metric_into forced row (to_z w64 (of_z w64 f)) (to_z w64 (of_z w64 s)) (8 * k + l)
+    -ℤ to_z w64 (of_z w64 top)) →
+    BlockMetrics forced row top f s k m
+metrics_lanes forced row top f s k m long pair most near p q r made =
+    record { each = each; kept = kept m all; fit = all } where
+      each : (l : ℕ) → l < 8 → get_or m l (pos 0) ≡ metric_into forced row f s (8 * k + l) -ℤ top
+      each = rw (to_z-of_z w64 top p, to_z-of_z w64 f q, to_z-of_z w64 s r) at made
+
+      all : Each1 (λ x. FitsSigned w64 x) m
+      all = Each1-from_get_or (λ x. FitsSigned w64 x) m (pos 0)
+          (λ l b. rw (each l (omega (arith, b, long)))
+          (metric_fits forced row top f s (8 * k + l) pair most near))
 
 -- EIGHT STATES WRITTEN
 in_block : (next m : List ℤ) (j : ℕ) (f : ℕ → ℤ) (t : ℕ) → length next ≡ 256 → j < 32 →

@@ -1,11 +1,17 @@
 -- One row more.
-use Rattle.std.proofs.Common.{◌≡◌, ℕ, suc, ◌+◌, ◌*◌, ◌<◌, ◌≤◌, Bool, List, [], length, set, get_or}
-use Rattle.std.proofs.Common.{take, subst, ap, ◌∙◌, arith, ℤ, pos, ◌+ℤ◌, ◌-ℤ◌, unsigned_abs}
+use Rattle.std.proofs.Common.{◌≡◌, ℕ, suc, ◌+◌, ◌*◌, ◌/◌, ◌%◌, ◌<◌, ◌≤◌, Bool, List, [], length, set}
+use Rattle.std.proofs.Common.{get_or, take, subst, sym, ap, ◌∙◌, arith, ℤ, pos, ◌+ℤ◌, ◌-ℤ◌, unsigned_abs}
+use Rattle.std.specs.Int.{reverse_bits_onto}
 use Rattle.std.specs.List.{sum_by}
-use Rattle.std.proofs.lemmas.List.{get_or-set_same, get_or-set_other, get_or-take}
+use Rattle.std.proofs.lemmas.List.{get_or-set_same, get_or-set_other, get_or-take, length-take-le}
 use Rattle.std.proofs.lemmas.List.Sums.{sum_by_more}
-use Rattle.viterbi.specs.Rows.{took, metric_into, choice_into, forced_at}
+use Rattle.chip_core.specs.Sums.{IsFirstGreatest}
+use Rattle.viterbi.specs.Best.{IsBestWord, spelled}
+use Rattle.viterbi.specs.Rows.{took, metric_into, choice_into, forced_at, origin, path}
+use Rattle.viterbi.specs.Survivors.{end_count}
+use Rattle.viterbi.specs.Words.{score_of}
 use Rattle.viterbi.specs.declared.word.Ends.{Ends}
+use Rattle.viterbi.proofs.Ended.{word_found}
 use Rattle.viterbi.proofs.Standing.{Stands, step_stands, stands_same, next_size}
 
 pub row_stands : (softs : List ℤ) (ends : Ends) (k : ℕ) (taken top : ℤ) (metrics next : List ℤ)
@@ -51,9 +57,34 @@ size_more softs k t taken top forced metrics x room whole small is =
     (next_size taken top metrics forced (get_or softs (2 * k) (pos 0))
     (get_or softs (2 * k + 1) (pos 0)) x _ t whole small is)
 
-pub first_rows : (softs : List ℤ) (ends : Ends) (n m : ℕ) (taken : ℤ) (metrics : List ℤ)
+first_rows : (softs : List ℤ) (ends : Ends) (n m : ℕ) (taken : ℤ) (metrics : List ℤ)
     (rows : List (List ℕ)) → n ≡ m →
     Stands softs ends n taken metrics rows → Stands softs ends m taken metrics (take m rows)
 first_rows softs ends n m taken metrics rows is h =
     stands_same softs ends m taken metrics rows (take m rows) (λ j b. get_or-take m rows j [] b)
     (subst (λ (k : ℕ). Stands softs ends k taken metrics rows) is h)
+
+-- the word that the rows of all bits lead back to
+pub run_word : (softs : List ℤ) (ends : Ends) (bit : ℕ) (taken : ℤ) (metrics held : List ℤ)
+    (rows lent : List (List ℕ)) (count end from start : ℕ) (bits : List Bool) →
+    bit ≡ length softs / 2 → 16 ≤ length softs → length softs % 2 ≡ 0 → length softs / 2 ≤ 576 →
+    length lent ≡ 576 → lent ≡ rows → held ≡ metrics → count ≡ end_count ends →
+    Stands softs ends bit taken metrics rows →
+    IsFirstGreatest (λ t. get_or held t (pos 0)) count end →
+    from ≡ origin (take (length softs / 2) lent) (length (take (length softs / 2) lent)) end →
+    start ≡ reverse_bits_onto 8 from 0 →
+    bits ≡ path (take (length softs / 2) lent) (length (take (length softs / 2) lent)) end →
+    IsBestWord softs ends (spelled (record { start = start; bits = bits }))
+    × (get_or metrics end (pos 0) +ℤ taken
+    ≡ score_of softs (spelled (record { start = start; bits = bits })))
+run_word softs ends bit taken metrics held rows lent count end from start bits all least even most
+    whole same_rows same_metrics counted h first from_is start_is bits_is =
+    let n = length softs / 2 in
+    let size : length (take n lent) ≡ n = length-take-le n lent (omega (arith, most, whole)) in
+    let from_end : from ≡ origin (take n lent) n end = rw size at from_is in
+    word_found softs ends n taken metrics (take n lent) end start bits (omega (arith, least))
+    (omega (arith, even))
+    (subst (λ (r : List (List ℕ)). Stands softs ends n taken metrics (take n r)) (sym same_rows)
+    (first_rows softs ends bit n taken metrics rows all h))
+    (rw (same_metrics, counted) at first)
+    (start_is ∙ ap (λ (o : ℕ). reverse_bits_onto 8 o 0) from_end) (rw size at bits_is)

@@ -40,8 +40,8 @@ fn trace_back(rows: &[Decisions], end: u8, bits: &mut [bool]) -> u8
     state
 }
 
-/// A list of bits.
-fn bits_of(path: &[bool]) -> Bits
+/// The bits, in order, in memory of their own; there are at most 576.
+pub fn bits_of(path: &[bool]) -> Bits
     requires { length path.now ≤ 576 }
     ensures { result ≡ path.now }
 {

@@ -14,6 +14,7 @@ ghost use Rattle.viterbi.specs.Rows.{IsGreatest, taken_of, wants, metric_into, c
 
 use crate::decisions::Decisions;
 use crate::metrics::greatest;
+use crate::symbol_gains::{kind_of, lane_gains};
 use std::simd::prelude::*;
 
 /// The greater of each two metrics, the first on a tie, and a bit for each: whether it is the
@@ -106,46 +107,6 @@ fn selected_block<const FORCED: bool>(a: i64x8, b: i64x8, gain: i64x8) -> (i64x8
     } else {
         selected_lanes(even, odd)
     }
-}
-
-/// Of which of four kinds the gains of each block are.
-const KINDS: [u8; 32] = [
-    0, 2, 3, 1, 3, 1, 0, 2, 1, 3, 2, 0, 2, 0, 1, 3, 3, 1, 0, 2, 0, 2, 3, 1, 2, 0, 1, 3, 1, 3, 2, 0,
-];
-
-/// What two symbols add to the score, both 0, only the first 1, only the second 1, both 1.
-fn gains(first: i64, second: i64) -> [i64; 4]
-    requires { unsigned_abs first + unsigned_abs second ≤ 2 ^ 62 }
-    ensures { (c : ℕ) → c < 4 → get_or result c (pos 0) ≡ gain_by first second c }
-{
-    [
-        first + second,
-        second - first,
-        first - second,
-        -first - second,
-    ]
-}
-
-/// What a bit adds where the oldest bit is 0, for the eight states of a block of each kind.
-fn lane_gains(first: i64, second: i64) -> [i64; 32]
-    requires { unsigned_abs first + unsigned_abs second ≤ 2 ^ 62 }
-    ensures { (j : ℕ) → j < 32 →
-        get_or result j (pos 0) ≡ gain_by first second (get_or lane_codes j 0) }
-{
-    let [a, b, c, d] = gains(first, second);
-    [
-        a, b, a, b, b, a, b, a, b, a, b, a, a, b, a, b, c, d, c, d, d, c, d, c, d, c, d, c, c, d,
-        c, d,
-    ]
-}
-
-/// The kind of a block's gains.
-fn kind_of(block: usize) -> usize
-    requires { block < 32 }
-    ensures value { result ≡ get_or kinds block 0 }
-    ensures small { result < 4 }
-{
-    KINDS[block] as usize
 }
 
 /// What a bit adds where the oldest bit is 0, for the eight states of a block.

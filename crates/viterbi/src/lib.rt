@@ -18,8 +18,10 @@ mod lanes;
 pub mod laws;
 mod metrics;
 mod survivor;
+pub mod symbol_gains;
 mod word;
 
+pub use decisions::bits_of;
 pub use decoder::Decoder;
 pub use metrics::end_states;
 pub use survivor::Survivor;

@@ -1,18 +1,19 @@
-use Rattle.std.proofs.Common.{◌/◌, arith, refl}
-use Rattle.viterbi.specs.Lanes.{kinds, lane_codes}
-use Rattle.viterbi.proofs.BlockSteps.{kind_small}
+use Rattle.std.proofs.Common.{◌≡◌, ◌<◌, ◌+◌, ◌*◌, ◌/◌, ◌%◌, ℕ, get_or, ap, arith, subst, sym}
+use Rattle.viterbi.specs.Lanes.{code_of, kinds, lane_codes}
 use Rattle.list_viterbi.proofs.StateCodes.{code_small}
 use Rattle.list_viterbi.proofs.gains.code_of.Goals as goal
 
-pub bounds-kind : goal.bounds-kind
-unfolding kinds
-bounds-kind c =
-    let few = kind_small (c.args.state / 8) (omega arith) in omega (arith, few)
+by_kind : (kind state : ℕ) → kind ≡ get_or kinds (state / 8) 0 →
+    get_or lane_codes (8 * kind + state % 8) 0 ≡ code_of state
+by_kind kind state is = ap (λ (k : ℕ). get_or lane_codes (8 * k + state % 8) 0) is
 
 pub returns-clause-value : goal.returns-clause-value
-unfolding kinds lane_codes
-returns-clause-value c = refl
+unfolding lane_codes
+returns-clause-value c = by_kind c.kind_of-kind.result c.args.state c.kind_of-kind.ensures.value
 
 pub returns-clause-small : goal.returns-clause-small
-unfolding kinds lane_codes
-returns-clause-small c = code_small c.args.state (omega arith)
+unfolding lane_codes
+returns-clause-small c =
+    subst (λ (code : ℕ). code < 4)
+    (sym (by_kind c.kind_of-kind.result c.args.state c.kind_of-kind.ensures.value))
+    (code_small c.args.state (omega arith))

@@ -17,61 +17,36 @@ nothing_yet t none = absurd (omega (arith, none))
 pub loop-k-init : goal.loop-k-init
 loop-k-init g c =
     let forced = FORCED-type (number g.row.FORCED) in
-    let row = c.args.row.now in
-    let top = c.args.top in
-    let f = c.args.first in
-    let s = c.args.second in
-    let et = to_z-of_z w64 top c.ranges.top in
-    let ef = to_z-of_z w64 f c.ranges.first in
-    let es = to_z-of_z w64 s c.ranges.second in
+    let et = to_z-of_z w64 c.args.top c.ranges.top in
+    let ef = to_z-of_z w64 c.args.first c.ranges.first in
+    let es = to_z-of_z w64 c.args.second c.ranges.second in
     record {
       whole = search rules;
       long = search rules;
       metrics = λ t b none. nothing_yet t none;
       chosen = λ t b none. nothing_yet t none;
       tops = rw (et, ef, es)
-          (tops_first (λ t. metric_into forced row f s t -ℤ top)
-          (metric_fits forced row top f s 0 c.requires.pair c.requires.most c.requires.near));
+          (tops_first
+          (λ t. metric_into forced c.args.row.now c.args.first c.args.second t -ℤ c.args.top)
+          (metric_fits forced c.args.row.now c.args.top c.args.first c.args.second 0
+          c.requires.pair c.requires.most c.requires.near));
     }
 
 pub greater-requires-clause-one_fit : goal.greater-requires-clause-one_fit
 greater-requires-clause-one_fit g c =
-    let forced = FORCED-type (number g.row.FORCED) in
-    let row = c.args.row.now in
-    let top = c.args.top in
-    let f = c.args.first in
-    let s = c.args.second in
-    let k = c.loop-k.k in
-    let et = to_z-of_z w64 top c.ranges.top in
-    let ef = to_z-of_z w64 f c.ranges.first in
-    let es = to_z-of_z w64 s c.ranges.second in
-    let low = c.block_step-bits.result in
-    let metrics : (l : ℕ) → l < 8 →
-    get_or low.0 l (pos 0) ≡ metric_into forced row f s (8 * k + l) -ℤ top =
-    rw (et, ef, es) at c.block_step-bits.ensures.metrics in
-    let lower = metrics_lanes forced row top f s k low.0 c.block_step-bits.ensures.long
-    c.requires.pair c.requires.most c.requires.near metrics in
-    rw lower.0 lower.1
+    let lower = metrics_lanes (FORCED-type (number g.row.FORCED)) c.args.row.now c.args.top
+    c.args.first c.args.second c.loop-k.k c.block_step-bits.result.0 c.block_step-bits.ensures.long
+    c.requires.pair c.requires.most c.requires.near c.ranges.top c.ranges.first c.ranges.second
+    c.block_step-bits.ensures.metrics in
+    rw lower.kept lower.fit
 
 pub greater-requires-clause-other_fit : goal.greater-requires-clause-other_fit
 greater-requires-clause-other_fit g c =
-    let forced = FORCED-type (number g.row.FORCED) in
-    let row = c.args.row.now in
-    let top = c.args.top in
-    let f = c.args.first in
-    let s = c.args.second in
-    let k = c.loop-k.k in
-    let et = to_z-of_z w64 top c.ranges.top in
-    let ef = to_z-of_z w64 f c.ranges.first in
-    let es = to_z-of_z w64 s c.ranges.second in
-    let high = c.block_step-upper_bits.result in
-    let upper_metrics : (l : ℕ) → l < 8 →
-    get_or high.0 l (pos 0) ≡ metric_into forced row f s (8 * (16 + k) + l) -ℤ top =
-    rw (et, ef, es) at c.block_step-upper_bits.ensures.metrics in
-    let upper = metrics_lanes forced row top f s (16 + k) high.0
+    let upper = metrics_lanes (FORCED-type (number g.row.FORCED)) c.args.row.now c.args.top
+    c.args.first c.args.second (16 + c.loop-k.k) c.block_step-upper_bits.result.0
     c.block_step-upper_bits.ensures.long c.requires.pair c.requires.most c.requires.near
-    upper_metrics in
-    rw upper.0 upper.1
+    c.ranges.top c.ranges.first c.ranges.second c.block_step-upper_bits.ensures.metrics in
+    rw upper.kept upper.fit
 
 pub greater-most-requires-clause-other_fit : goal.greater-most-requires-clause-other_fit
 greater-most-requires-clause-other_fit g c =
@@ -89,19 +64,16 @@ loop-k-preserved g c =
     let et = to_z-of_z w64 top c.ranges.top in
     let ef = to_z-of_z w64 f c.ranges.first in
     let es = to_z-of_z w64 s c.ranges.second in
-    let low = c.block_step-bits.result in
-    let metrics : (l : ℕ) → l < 8 →
-    get_or low.0 l (pos 0) ≡ metric_into forced row f s (8 * k + l) -ℤ top =
-    rw (et, ef, es) at c.block_step-bits.ensures.metrics in
-    let lower = metrics_lanes forced row top f s k low.0 c.block_step-bits.ensures.long
-    c.requires.pair c.requires.most c.requires.near metrics in
-    let high = c.block_step-upper_bits.result in
-    let upper_metrics : (l : ℕ) → l < 8 →
-    get_or high.0 l (pos 0) ≡ metric_into forced row f s (8 * (16 + k) + l) -ℤ top =
-    rw (et, ef, es) at c.block_step-upper_bits.ensures.metrics in
-    let upper = metrics_lanes forced row top f s (16 + k) high.0
+    let lower = metrics_lanes (FORCED-type (number g.row.FORCED)) c.args.row.now c.args.top
+    c.args.first c.args.second c.loop-k.k c.block_step-bits.result.0 c.block_step-bits.ensures.long
+    c.requires.pair c.requires.most c.requires.near c.ranges.top c.ranges.first c.ranges.second
+    c.block_step-bits.ensures.metrics in
+    let upper = metrics_lanes (FORCED-type (number g.row.FORCED)) c.args.row.now c.args.top
+    c.args.first c.args.second (16 + c.loop-k.k) c.block_step-upper_bits.result.0
     c.block_step-upper_bits.ensures.long c.requires.pair c.requires.most c.requires.near
-    upper_metrics in
+    c.ranges.top c.ranges.first c.ranges.second c.block_step-upper_bits.ensures.metrics in
+    let low = c.block_step-bits.result in
+    let high = c.block_step-upper_bits.result in
     let choices : (l : ℕ) → l < 8 → bit_of low.1 l ≡ choice_into forced row f s (8 * k + l) =
     rw (ef, es) at c.block_step-bits.ensures.choices in
     let upper_choices : (l : ℕ) → l < 8 →
@@ -112,9 +84,9 @@ loop-k-preserved g c =
     let wings : IsGreaterOf low.0 high.0 inner = record {
       long = c.greater.ensures.long;
       fit = c.greater.ensures.fit;
-      one = rw lower.0 at c.greater.ensures.one;
-      other = rw upper.0 at c.greater.ensures.other;
-      least = rw (lower.0, upper.0) at c.greater.ensures.least;
+      one = rw lower.kept at c.greater.ensures.one;
+      other = rw upper.kept at c.greater.ensures.other;
+      least = rw (lower.kept, upper.kept) at c.greater.ensures.least;
     } in
     let same_inner = kept inner c.greater.ensures.fit in
     let all : IsGreaterOf (map (to_z w64) c.loop-k.most) inner next = record {
@@ -128,11 +100,11 @@ loop-k-preserved g c =
       whole = length-put_chunk (8 * (16 + k)) _ _ ∙ length-put_chunk (8 * k) c.loop-k.next _
           ∙ c.loop-k.invariant.whole;
       long = search rules;
-      metrics = rw (et, ef, es, lower.0, upper.0)
+      metrics = rw (et, ef, es, lower.kept, upper.kept)
           (wings_more c.loop-k.next low.0 high.0 k (λ t. metric_into forced row f s t -ℤ top)
           c.loop-k.invariant.whole c.loop-k-test.true
           c.block_step-bits.ensures.long c.block_step-upper_bits.ensures.long
-          (rw (et, ef, es) at c.loop-k.invariant.metrics) metrics upper_metrics);
+          (rw (et, ef, es) at c.loop-k.invariant.metrics) lower.each upper.each);
       chosen = rw (ef, es)
           (choices_more c.loop-k.choices low.1 high.1 k (choice_into forced row f s)
           c.loop-k.invariant.long c.loop-k-test.true
@@ -140,7 +112,7 @@ loop-k-preserved g c =
       tops = rw (et, ef, es, kept next c.greater-most.ensures.fit)
           (tops_more (λ t. metric_into forced row f s t -ℤ top) k (map (to_z w64) c.loop-k.most)
           low.0 high.0 inner next c.loop-k-test.true
-          (rw (et, ef, es) at c.loop-k.invariant.tops) wings all metrics upper_metrics);
+          (rw (et, ef, es) at c.loop-k.invariant.tops) wings all lower.each upper.each);
     }
 
 pub returns-clause-greatest : goal.returns-clause-greatest

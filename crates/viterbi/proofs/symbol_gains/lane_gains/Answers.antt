@@ -2,7 +2,7 @@ use Rattle.std.proofs.Common.{w64}
 use Rattle.std.proofs.lemmas.Int.{to_z-of_z}
 use Rattle.viterbi.specs.Lanes.{lane_codes}
 use Rattle.viterbi.proofs.BlockSteps.{lanes_made}
-use Rattle.list_viterbi.proofs.gains.lane_gains.Goals as goal
+use Rattle.viterbi.proofs.symbol_gains.lane_gains.Goals as goal
 
 pub returns : goal.returns
 unfolding lane_codes

@@ -1,5 +1,5 @@
 use Rattle.viterbi.proofs.Gains.{gains_are}
-use Rattle.list_viterbi.proofs.gains.gains.Goals as goal
+use Rattle.viterbi.proofs.symbol_gains.gains.Goals as goal
 
 pub returns : goal.returns
 returns c = gains_are c.args.first c.args.second c.requires

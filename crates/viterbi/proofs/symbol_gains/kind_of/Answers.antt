@@ -1,7 +1,7 @@
 use Rattle.std.proofs.Common.{refl}
 use Rattle.viterbi.specs.Lanes.{kinds}
 use Rattle.viterbi.proofs.BlockSteps.{kind_small}
-use Rattle.viterbi.proofs.lanes.kind_of.Goals as goal
+use Rattle.viterbi.proofs.symbol_gains.kind_of.Goals as goal
 
 pub returns-clause-value : goal.returns-clause-value
 unfolding kinds

@@ -1,0 +1,49 @@
+//! What a bit adds to the score of a word, by the state into which it leads.
+//!
+//! A bit has two symbols. Which they are hangs on the state, and of each eight states from a multiple
+//! of 8 on they are of one of four kinds.
+
+ghost use Rattle.std.specs.Prelude.{◌≡◌, ◌<◌, ◌≤◌, ◌+◌, ◌^◌, ℕ, get_or, pos, unsigned_abs};
+ghost use Rattle.viterbi.specs.Lanes.{gain_by, lane_codes, kinds};
+
+/// Of which of four kinds the gains of each eight states are.
+const KINDS: [u8; 32] = [
+    0, 2, 3, 1, 3, 1, 0, 2, 1, 3, 2, 0, 2, 0, 1, 3, 3, 1, 0, 2, 0, 2, 3, 1, 2, 0, 1, 3, 1, 3, 2, 0,
+];
+
+/// What two symbols add to the score, both 0, only the first 1, only the second 1, both 1, by their
+/// soft values.
+pub fn gains(first: i64, second: i64) -> [i64; 4]
+    requires { unsigned_abs first + unsigned_abs second ≤ 2 ^ 62 }
+    ensures { (c : ℕ) → c < 4 → get_or result c (pos 0) ≡ gain_by first second c }
+{
+    [
+        first + second,
+        second - first,
+        first - second,
+        -first - second,
+    ]
+}
+
+/// What a bit adds where the oldest bit is 0, for eight states of each kind, by the soft values of
+/// its two symbols (TIA/EIA-95-B, 7.1.3.1.3.1).
+pub fn lane_gains(first: i64, second: i64) -> [i64; 32]
+    requires { unsigned_abs first + unsigned_abs second ≤ 2 ^ 62 }
+    ensures { (j : ℕ) → j < 32 →
+        get_or result j (pos 0) ≡ gain_by first second (get_or lane_codes j 0) }
+{
+    let [a, b, c, d] = gains(first, second);
+    [
+        a, b, a, b, b, a, b, a, b, a, b, a, a, b, a, b, c, d, c, d, d, c, d, c, d, c, d, c, c, d,
+        c, d,
+    ]
+}
+
+/// The kind of the gains of the eight states from `8 * block` on.
+pub fn kind_of(block: usize) -> usize
+    requires { block < 32 }
+    ensures value { result ≡ get_or kinds block 0 }
+    ensures small { result < 4 }
+{
+    KINDS[block] as usize
+}
