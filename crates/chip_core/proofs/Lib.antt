@@ -12,6 +12,7 @@ pub mod Ranges
 pub mod RegisterBits
 pub mod Repeated
 pub mod Ring
+pub mod Unless
 pub mod ValueLists
 pub mod WordBits
 pub mod DecimalTexts

@@ -4,7 +4,6 @@ pub mod Walks
 pub mod Made
 pub mod Steps
 pub mod Rooms
-pub mod Unless
 pub mod Places
 pub mod Passing
 pub mod BoolBytes

@@ -23,7 +23,7 @@ use Rattle.viterbi.specs.declared.word.Ends.TheVariants.{Zero, Free}
 use Rattle.list_viterbi.specs.First.{AreFirst, first_words}
 use Rattle.list_viterbi.proofs.Firsts.{one_list}
 use Rattle.viterbi.proofs.Unique.{word_at_allowed, step_of, rank-word_at, allowed_at}
-use Rattle.list_viterbi.proofs.Unless.{IsGreatestUnless, AllTaken, scanned, nat_lt-true}
+use Rattle.chip_core.proofs.Unless.{IsGreatestUnless, AllTaken, scanned, nat_lt-true}
 
 -- a greater value, or the same and a lesser place
 abbrev pub IsBefore : (ℕ → ℤ) → ℕ → ℕ → Type 0

@@ -17,7 +17,7 @@ use Rattle.list_viterbi.specs.First.{AreFirst, HaveScores, first_words, word_of}
 use Rattle.list_viterbi.specs.declared.words.Entry.{Entry}
 use Rattle.viterbi.proofs.Unique.{word_at_allowed}
 use Rattle.list_viterbi.proofs.Places.{by_definition}
-use Rattle.list_viterbi.proofs.Unless.{nat_lt-true}
+use Rattle.chip_core.proofs.Unless.{nat_lt-true}
 use Rattle.listed_frame.specs.ListedFrames.{words_in}
 
 -- ---- the first places

@@ -1,8 +1,8 @@
 -- What the proofs of this crate cite of what lies below, and of its own definitions, passed on from one place.
-pub use Rattle.std.proofs.Common.{All, Bool, FitsSigned, List, None, Option, Some, [], add-one, ap, arith, below_more, drop, false, get_or}
+pub use Rattle.std.proofs.Common.{All, Bool, FitsSigned, List, None, Option, Some, [], add-one, ap, arith, drop, false, get_or}
 pub use Rattle.std.proofs.Common.{get_or-set_same, inl, inr, length, length-set, map, max, min, nat_eq, negsuc, of_z, pos, refl, rules, set}
 pub use Rattle.std.proofs.Common.{subst, suc, sym, take, to_z, true, true≢false, unsigned_abs, w16, w32, w64, w8, zero, ℕ, ℤ, ⊎_elim, ◌%◌}
-pub use Rattle.std.proofs.Common.{◌*ℤ◌, ◌*◌, ◌++◌, ◌+ℤ◌, ◌+◌, ◌-ℤ◌, ◌-◌, ◌/◌, ◌<ℤ◌, ◌<◌, ◌^◌, ◌∙◌, ◌∷◌, ◌≡◌, ◌≢◌, ◌≤ℤ◌, ◌≤◌, ◌⊎◌}
+pub use Rattle.std.proofs.Common.{◌*ℤ◌, ◌*◌, ◌++◌, ◌+ℤ◌, ◌+◌, ◌-ℤ◌, ◌-◌, ◌/◌, ◌<◌, ◌^◌, ◌∙◌, ◌∷◌, ◌≡◌, ◌≢◌, ◌≤◌, ◌⊎◌}
 pub use Rattle.std.proofs.Math.Facts.{Fits-of_z}
 pub use Rattle.std.proofs.Math.IntN.{+ℤ_assoc, neg_ℤ}
 pub use Rattle.std.proofs.Math.Nat.{div-le_self, div-mul-le_self, mul-div_cancel, mul-le-mul}
@@ -21,15 +21,16 @@ pub use Rattle.std.proofs.lemmas.Option.{get_or_from_slice_get, slice_get_within
 pub use Rattle.std.proofs.lemmas.Simd.{Each1-get_or, Each1-weaker, Each2-of, length-zip2}
 pub use Rattle.std.specs.Int.{int_wrap}
 pub use Rattle.std.specs.List.{list_any}
-pub use Rattle.std.specs.Prelude.{Contains, IsSome, if◌then◌else◌, int_lt, nat_le, nat_lt, slice_get}
+pub use Rattle.std.specs.Prelude.{Contains, IsSome, if◌then◌else◌, nat_le, nat_lt, slice_get}
 pub use Rattle.atomic_table.proofs.Lists.{at_set, at_snoc, set_again}
 pub use Rattle.atomic_table.specs.Table.{Allows, Joins, Me, Splits, State, keeps, step, stepped}
 pub use Rattle.chip_core.proofs.ComplexSums.{origin-plus, plus-origin, plus_assoc, real_part, sum_of-append}
 pub use Rattle.chip_core.proofs.Greatest.{first_greatest-is, only}
+pub use Rattle.chip_core.proofs.Unless.{IsGreatestUnless, first_places-more, first_places-none}
 pub use Rattle.chip_core.specs.Bits.{sign, zip_with}
 pub use Rattle.chip_core.specs.Complex.{conjugate, norm, of_sample, origin, plus, point, sum_of, times}
-pub use Rattle.chip_core.specs.Sums.{IsFirstGreatest, first_greatest, is_less, total, value_unless}
-unfoldable pub use Rattle.chip_core.specs.Sums.{first_places, greatest_unless}
+pub use Rattle.chip_core.specs.Sums.{IsFirstGreatest, first_greatest, total}
+unfoldable pub use Rattle.chip_core.specs.Sums.{first_places}
 pub use Rattle.chip_core.specs.declared.sample.Pair.{Pair}
 pub use Rattle.chip_core.specs.declared.sample.Sample.{Sample}
 pub use Rattle.short_code.proofs.Despreading.{despread-append}

@@ -7,7 +7,7 @@ use Rattle.std.proofs.lemmas.Bool.{cases_order, eq-eqb, ne_eqb}
 use Rattle.std.proofs.lemmas.List.{get_or_default, get_or-take, length-take-le, take_more, take_all}
 use Rattle.std.proofs.lemmas.List.Folds.{list_any_none, list_any_at}
 use Rattle.chip_core.specs.Sums.{first_places}
-use Rattle.pilot_search.proofs.Unless.{IsGreatestUnless, first_places-none, first_places-more, free_taken}
+use Rattle.chip_core.proofs.Unless.{IsGreatestUnless, first_places-none, first_places-more, free_taken}
 
 -- one number comes before another: by greater value, then as the lesser one
 abbrev pub Leads : (ℕ → ℕ) → ℕ → ℕ → Type 0
