@@ -1,6 +1,6 @@
 -- The bits of shift registers, and sums modulo 2 of them.
-use Rattle.std.proofs.Common.{◌≡◌, ℕ, zero, suc, ◌+◌, ◌-◌, ◌*◌, ◌/◌, ◌%◌, ◌^◌, ◌<◌, Bool, true, false, not, List, [], ◌∷◌, ◌++◌, length, get_or, map, drop, refl, sym, ap, ◌∙◌, arith, bit_and, nat_eq, add-one}
-use Rattle.std.proofs.lemmas.List.{at_drop_more, get_or_append_left, get_or_push, length_push}
+use Rattle.std.proofs.Common.{◌≡◌, ℕ, zero, suc, ◌+◌, ◌-◌, ◌*◌, ◌/◌, ◌%◌, ◌^◌, ◌<◌, ◌≤◌, Bool, true, false, not, List, [], ◌∷◌, ◌++◌, length, get_or, map, drop, refl, sym, ap, ◌∙◌, arith, bit_and, nat_eq, add-one}
+use Rattle.std.proofs.lemmas.List.{at_drop_more, drop_all, get_or_append_left, get_or_push, length_push}
 use Rattle.std.proofs.lemmas.Nat.{and_mask, field_of, shr-shr}
 use Rattle.std.proofs.Math.Pow.{mod-mod-pow}
 use mathlib.Core.Bool.{beq}
@@ -34,6 +34,13 @@ parity_more n sum at i h =
     let read : nat_eq (bit_and (n / 2 ^ get_or at i 0) 1) 1 ≡ bit =
     ap (λ b. nat_eq b 1) (and_mask (n / 2 ^ get_or at i 0) 1) in
     rw read (xor_step sum bit rest ∙ sym split)
+
+-- after the last place
+pub parity_done : (f : ℕ → Bool) (sum all : Bool) (at : List ℕ) (i : ℕ) → length at ≤ i →
+    xor sum (parity (map f (drop i at))) ≡ all → sum ≡ all
+parity_done f sum all at i done is =
+    let none : drop i at ≡ [] = drop_all i at done in
+    sym (xor_false sum) ∙ rw none at is
 
 -- bit k of the low w bits
 pub low_bit : (n w k : ℕ) → k < w → bit_of (n % 2 ^ w) k ≡ bit_of n k

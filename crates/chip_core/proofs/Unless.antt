@@ -7,6 +7,7 @@ use Rattle.std.specs.List.{list_any}
 use Rattle.std.proofs.lemmas.Int.{ints}
 use Rattle.std.proofs.lemmas.Bool.{cases_order}
 use Rattle.std.proofs.lemmas.Bool.Decides.{nat_tests}
+use Rattle.chip_core.proofs.Greatest.{tested, untested}
 use Rattle.chip_core.specs.Sums.{value_unless, is_less, greatest_unless, first_places}
 
 pub record IsGreatestUnless (taken : List ℕ) (f : ℕ → ℤ) (n best : ℕ) : Type 0 where
@@ -25,12 +26,6 @@ unique taken f n a b p q = ⊎_elim (λ e. e)
     (λ lt. let first = p.first b lt q.free in let most = q.greatest a p.below p.free in
     absurd (omega (arith, ints, first, most))))
     (cases_order a b)
-
-tested : (x y : ℤ) → int_lt x y ≡ true → x <ℤ y
-tested x y e = grind (arith, ints, e)
-
-untested : (x y : ℤ) → int_lt x y ≡ false → y ≤ℤ x
-untested x y e = grind (arith, ints, e)
 
 is_less-none : (x : Option ℤ) → is_less x None ≡ false
 is_less-none None = refl

@@ -1,14 +1,9 @@
 -- The symbols of bits behind other bits.
-use Rattle.std.proofs.Common.{◌≡◌, ℕ, zero, suc, ◌+◌, ◌-◌, ◌*◌, ◌<◌, ◌≤◌, Bool, true, false, List, [], ◌∷◌, ◌++◌, length, get_or, map, drop, refl, sym, ap, ◌∙◌, arith, append_assoc, append-nil, length-append, length-drop}
-use Rattle.std.specs.Prelude.{nat_le}
-use Rattle.std.specs.List.{flat_map, list_all}
-use Rattle.std.proofs.lemmas.List.{get_or_append_left, get_or-drop, drop-append-le, drop-drop}
-use Rattle.std.proofs.lemmas.List.Concat.{flat_map-append}
-use Rattle.std.proofs.lemmas.Bool.{and_parts, leb-true}
-use Rattle.chip_core.specs.Bits.{parity, places}
-use Rattle.chip_core.proofs.Places.{places-none, places-more}
-use Rattle.conv_code.specs.ConvCode.{symbol, g0, g1, code_symbols, state_after}
-use Rattle.conv_code.specs.Laws.{IsContinuedCode}
+use Rattle.conv_code.proofs.Common.{◌≡◌, ℕ, zero, suc, ◌+◌, ◌-◌, ◌*◌, ◌<◌, ◌≤◌, Bool, true, false, List, [], ◌∷◌, ◌++◌, length, get_or, map}
+use Rattle.conv_code.proofs.Common.{drop, refl, sym, ap, ◌∙◌, arith, append_assoc, append-nil, length-append, length-drop, nat_le, flat_map}
+use Rattle.conv_code.proofs.Common.{list_all, get_or_append_left, get_or-drop, drop-append-le, drop-drop, flat_map-append, and_parts}
+use Rattle.conv_code.proofs.Common.{leb-true, parity, places, places-none, places-more, symbol, g0, g1, code_symbols, state_after}
+use Rattle.conv_code.proofs.Common.{IsContinuedCode}
 
 -- the two symbols of a place
 abbrev pub pair : List Bool → ℕ → List Bool

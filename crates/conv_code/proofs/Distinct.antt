@@ -1,12 +1,7 @@
 -- Equal symbols come from equal bits.
-use Rattle.std.proofs.Common.{◌≡◌, ℕ, zero, suc, ◌+◌, ◌-◌, ◌*◌, ◌<◌, ◌≤◌, Bool, true, false, List, [], ◌∷◌, ◌++◌, length, get_or, map, take, drop, refl, sym, ap, ◌∙◌, arith, below_more, length-append}
-use Rattle.std.specs.Prelude.{nat_le}
-use Rattle.std.specs.List.{list_all}
-use Rattle.std.proofs.lemmas.List.{take_at, drop_at, ext_get_or}
-use Rattle.std.proofs.lemmas.Bool.{and_parts, leb-true}
-use Rattle.chip_core.specs.Bits.{xor, parity}
-use Rattle.conv_code.specs.ConvCode.{symbol, g0, g1}
-use Rattle.conv_code.specs.Laws.{IsDistinctCode}
+use Rattle.conv_code.proofs.Common.{◌≡◌, ℕ, zero, suc, ◌+◌, ◌-◌, ◌*◌, ◌<◌, ◌≤◌, Bool, true, false, List, [], ◌∷◌, ◌++◌, length, get_or, map}
+use Rattle.conv_code.proofs.Common.{take, drop, refl, sym, ap, ◌∙◌, arith, below_more, length-append, nat_le, list_all, take_at, drop_at}
+use Rattle.conv_code.proofs.Common.{ext_get_or, and_parts, leb-true, xor, parity, symbol, g0, g1, IsDistinctCode}
 use Rattle.conv_code.proofs.Parities.{xor_cancel}
 use Rattle.conv_code.proofs.Pairs.{symbols_at}
 use Rattle.conv_code.proofs.Solved.{first_same}

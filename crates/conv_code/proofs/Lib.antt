@@ -1,3 +1,4 @@
+pub mod Common
 pub mod Parities
 pub mod Solved
 pub mod Windows

@@ -1,11 +1,8 @@
 -- The symbols of a list of bits, place by place.
-use Rattle.std.proofs.Common.{◌≡◌, ℕ, zero, suc, ◌+◌, ◌*◌, ◌<◌, Bool, false, List, [], ◌∷◌, ◌++◌, length, get_or, take, drop, sym, ap, ◌∙◌, arith, below_more, append_assoc}
-use Rattle.std.specs.List.{flat_map}
-use Rattle.std.proofs.lemmas.List.{get_or_append_left, get_or-append-add, drop_more, length-take-le, take-append-drop, take_more}
-use Rattle.std.proofs.lemmas.List.Concat.{flat_map-append}
-use Rattle.chip_core.specs.Bits.{places}
-use Rattle.chip_core.proofs.Places.{places-more}
-use Rattle.conv_code.specs.ConvCode.{symbol, g0, g1, code_symbols, state_after}
+use Rattle.conv_code.proofs.Common.{◌≡◌, ℕ, zero, suc, ◌+◌, ◌*◌, ◌<◌, Bool, false, List, [], ◌∷◌, ◌++◌, length, get_or, take, drop, sym, ap}
+use Rattle.conv_code.proofs.Common.{◌∙◌, arith, below_more, append_assoc, flat_map, get_or_append_left, get_or-append-add, drop_more}
+use Rattle.conv_code.proofs.Common.{length-take-le, take-append-drop, take_more, flat_map-append, places, places-more, symbol, g0, g1}
+use Rattle.conv_code.proofs.Common.{code_symbols, state_after}
 use Rattle.conv_code.proofs.Continued.{pair, before, behind, length_pairs, length-state_after}
 
 -- entries 2j and 2j + 1

@@ -1,15 +1,9 @@
 -- The register's window of nine bits against the bits behind eight others.
-use Rattle.std.proofs.Common.{◌≡◌, ℕ, zero, suc, ◌+◌, ◌-◌, ◌*◌, ◌%◌, ◌^◌, ◌<◌, ◌≤◌, Bool, true, false, List, [], ◌∷◌, ◌++◌, length, get_or, map, drop, refl, sym, ap, ◌∙◌, arith, length-append, length-drop, bit_and}
-use Rattle.std.specs.Prelude.{nat_le}
-use Rattle.std.specs.List.{list_all}
-use Rattle.std.proofs.lemmas.List.{get_or_append_left, get_or_push, get_or-drop, ext_get_or}
-use Rattle.std.proofs.lemmas.Bool.{and_parts, leb-true}
-use Rattle.chip_core.specs.Bits.{bit_of, binary, digit, parity}
-use Rattle.std.proofs.lemmas.Nat.{and_mask}
-use mir.Val.{bool_byte}
-use Rattle.chip_core.proofs.Numerals.{bool_byte-digit}
-use Rattle.chip_core.proofs.RegisterBits.{low_bit, bit_of-first, bit_of-next, length-binary, get_or-binary}
-use Rattle.conv_code.specs.ConvCode.{symbol, state_after}
+use Rattle.conv_code.proofs.Common.{◌≡◌, ℕ, zero, suc, ◌+◌, ◌-◌, ◌*◌, ◌%◌, ◌^◌, ◌<◌, ◌≤◌, Bool, true, false, List, [], ◌∷◌, ◌++◌, length}
+use Rattle.conv_code.proofs.Common.{get_or, map, drop, refl, sym, ap, ◌∙◌, arith, length-append, length-drop, bit_and, nat_le, list_all}
+use Rattle.conv_code.proofs.Common.{get_or_append_left, get_or_push, get_or-drop, ext_get_or, and_parts, leb-true, bit_of, binary, digit}
+use Rattle.conv_code.proofs.Common.{parity, and_mask, bool_byte, bool_byte-digit, low_bit, bit_of-first, bit_of-next, length-binary}
+use Rattle.conv_code.proofs.Common.{get_or-binary, symbol, state_after}
 
 -- the register's number with one more bit at its low end
 abbrev pub window : ℕ → Bool → ℕ

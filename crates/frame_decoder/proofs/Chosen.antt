@@ -118,20 +118,12 @@ decoded_is replaced softs =
     ∙ ap (λ (w : Word). good_or w.bits best) (word_is kept R9600)
 
 -- so is the code's
-pub decoded_by : (replaced : List ℕ) (softs : List ℤ) (eighth quarter half full : Row Rate)
-    (f : RowFrame Rate) (score : ℤ) → eighth ≡ row_of R1200 → quarter ≡ row_of R2400 →
-    half ≡ row_of R4800 → full ≡ row_of R9600 →
-    f ≡ frame_of full (eighth ∷ quarter ∷ half ∷ []) replaced softs → score ≡ f.score →
-    as_decoded (record f { score = score }) ≡ decoded replaced softs
-decoded_by replaced softs eighth quarter half full f score a b d e is scored =
-    let of : Row Rate → List (Row Rate) → RowFrame Rate =
-    λ highest lower. frame_of highest lower replaced softs in
-    let rows : of full (eighth ∷ quarter ∷ half ∷ []) ≡ of (row_of R9600) lower_rows =
-    ap (λ (r : Row Rate). of r (eighth ∷ quarter ∷ half ∷ [])) e
-    ∙ ap (λ (r : Row Rate). of (row_of R9600) (r ∷ quarter ∷ half ∷ [])) a
-    ∙ ap (λ (r : Row Rate). of (row_of R9600) (row_of R1200 ∷ r ∷ half ∷ [])) b
-    ∙ ap (λ (r : Row Rate).
-    of (row_of R9600) (row_of R1200 ∷ row_of R2400 ∷ r ∷ [])) d in
-    ap (λ (z : ℤ). as_decoded (record f { score = z })) scored
-    ∙ ap as_decoded (is ∙ rows)
-    ∙ decoded_is replaced softs
+pub by_rows : {R D : Type 0} (shown : RowFrame R → D) (replaced : List ℕ) (softs : List ℤ)
+    (eighth quarter half full e q h f : Row R) (frame : RowFrame R) (score : ℤ) →
+    eighth ≡ e → quarter ≡ q → half ≡ h → full ≡ f →
+    frame ≡ frame_of full (eighth ∷ quarter ∷ half ∷ []) replaced softs → score ≡ frame.score →
+    shown (record frame { score = score })
+    ≡ shown (frame_of f (e ∷ q ∷ h ∷ []) replaced softs)
+by_rows shown replaced softs eighth quarter half full e q h f frame score a b c d is scored =
+    ap (λ (z : ℤ). shown (record frame { score = z })) scored ∙ ap shown is
+    ∙ (λ i. shown (frame_of (d i) (a i ∷ b i ∷ c i ∷ []) replaced softs))

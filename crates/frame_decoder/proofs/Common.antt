@@ -11,7 +11,7 @@ pub use Rattle.std.proofs.lemmas.Grind.{flat_map-append}
 pub use Rattle.std.proofs.lemmas.Int.{ints, to_z-of_z}
 pub use Rattle.std.proofs.lemmas.List.{at_drop_more, drop-take, drop_all, drop_at, ext_get_or, get_or-replicate, get_or-set_other}
 pub use Rattle.std.proofs.lemmas.List.{get_or-set_same, get_or-take, get_or_past, length-replicate, length-reverse, length-set, set_past}
-pub use Rattle.std.proofs.lemmas.List.{take-append-drop, take-take, take_at, take_more}
+pub use Rattle.std.proofs.lemmas.List.{take-take, take_at, take_more}
 pub use Rattle.std.proofs.lemmas.List.Elements.{All-cons, All-head, All-nil, All-tail}
 pub use Rattle.std.proofs.lemmas.List.Folds.{list_all_more, list_any-append}
 pub use Rattle.std.proofs.lemmas.List.Sums.{get_or-le-sum_by, sum_by-append, sum_by-set, sum_by-take-drop, sum_by-take-le}
@@ -24,13 +24,11 @@ pub use Rattle.std.specs.Int.{w64}
 pub use Rattle.std.specs.List.{find, flat_map, range_with_len}
 pub use Rattle.std.specs.List.Sorted.{IsStrictlyIncreasing}
 pub use Rattle.std.specs.Option.{option_map, unwrap_or}
-pub use Rattle.std.specs.Prelude.{IsTrue, None, Option, Some, if◌then◌else◌, int_lt, neg_ℤ, negsuc, ◌*ℤ◌, ◌<ℤ◌, ◌↔◌}
+pub use Rattle.std.specs.Prelude.{IsTrue, None, Option, Some, if◌then◌else◌, int_lt, ◌*ℤ◌, ◌<ℤ◌, ◌↔◌}
 pub use Rattle.chip_core.proofs.Greatest.{first_greatest-is}
 pub use Rattle.chip_core.proofs.Places.{get_or-map-places, length-map-places, map-places-all, places-more, places-none, places_is}
 pub use Rattle.chip_core.proofs.RegisterBits.{length-binary}
-pub use Rattle.chip_core.proofs.Ring.{neg_times}
 pub use Rattle.chip_core.specs.Bits.{binary, digit, places, sign, xor}
-pub use Rattle.chip_core.specs.Packed.{low_first}
 pub use Rattle.chip_core.specs.Sums.{IsFirstGreatest}
 unfoldable pub use Rattle.chip_core.specs.Sums.{first_greatest}
 pub use Rattle.chip_core.specs.declared.check_form.CheckForm.TheVariants.{Plain}
@@ -51,13 +49,10 @@ unfoldable pub use Rattle.symbol_path.specs.SentOrder.{sent}
 pub use Rattle.symbol_path.specs.SentOrderTwo.{repeated_symbol}
 pub use Rattle.symbol_path.specs.declared.kinds.Kind.{Kind}
 pub use Rattle.symbol_path.specs.declared.kinds.Kind.TheVariants.{Data}
-pub use Rattle.viterbi.proofs.Choices.{words_same}
-pub use Rattle.viterbi.proofs.Ranks.{low_first_below}
+pub use Rattle.viterbi.proofs.Agreement.{symbol_part}
 pub use Rattle.viterbi.proofs.Sent.{zero_word_best}
-pub use Rattle.viterbi.proofs.StateBits.{low_bits-low_first, reverse-binary}
-pub use Rattle.viterbi.proofs.Unique.{by_definition}
+pub use Rattle.viterbi.proofs.Unique.{allowed_at, by_definition, word_at_allowed}
 pub use Rattle.viterbi.specs.Best.{IsAllowed, IsBestWord, spelled}
-pub use Rattle.viterbi.specs.States.{low_bits}
 pub use Rattle.viterbi.specs.Words.{Word, correlation, score_of, word_at, word_count}
 unfoldable pub use Rattle.viterbi.specs.Words.{best_word}
 pub use Rattle.viterbi.specs.declared.word.Ends.TheVariants.{Free, Zero}

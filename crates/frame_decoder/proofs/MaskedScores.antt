@@ -1,9 +1,9 @@
 -- Scores under soft values that are 0 at some places, and elsewhere one number times the signs of
 -- symbols.
 use Rattle.frame_decoder.proofs.Common.{◌≡◌, ◌≢◌, ℕ, zero, suc, ◌+◌, ◌*◌, ◌<◌, ◌≤◌, Bool, true, false, List, [], replicate, ◌∷◌, length}
-use Rattle.frame_decoder.proofs.Common.{get_or, filter, refl, sym, ap, ◌∙◌, arith, ℤ, pos, not, cond, ⊎_elim, negsuc, neg_ℤ, ◌+ℤ◌, ◌*ℤ◌}
-use Rattle.frame_decoder.proofs.Common.{◌≤ℤ◌, if◌then◌else◌, range_with_len, ints, ne_eqb, eq-eqb, cases_eq, mul-le-mul_right, sign, digit}
-use Rattle.frame_decoder.proofs.Common.{xor, neg_times, correlation, is_replaced}
+use Rattle.frame_decoder.proofs.Common.{get_or, filter, refl, sym, ap, ◌∙◌, arith, ℤ, pos, not, cond, ⊎_elim, ◌+ℤ◌, ◌*ℤ◌, ◌≤ℤ◌}
+use Rattle.frame_decoder.proofs.Common.{if◌then◌else◌, range_with_len, ints, ne_eqb, eq-eqb, cases_eq, mul-le-mul_right, sign, digit, xor}
+use Rattle.frame_decoder.proofs.Common.{correlation, is_replaced, symbol_part}
 
 -- the number times each symbol's sign, and 0 at the places that are left out; the first place is
 -- given
@@ -25,15 +25,6 @@ distance out at (x ∷ xs) (y ∷ ys) =
     (if out at then 0 else digit (xor x y)) + distance out (at + 1) xs ys
 
 -- one symbol's part of the score
-symbol_part : (strength : ℕ) (x y : Bool) →
-    ((pos strength *ℤ sign x) *ℤ sign y) +ℤ pos (2 * (strength * digit (xor x y))) ≡ pos strength
-symbol_part n true true = let e : pos n *ℤ negsuc 0 ≡ neg_ℤ (pos n) =
-    omega (arith, ints) in rw (e, neg_times (pos n) (negsuc 0), e) (omega (arith, ints))
-symbol_part n true false = let e : pos n *ℤ negsuc 0 ≡ neg_ℤ (pos n) =
-    omega (arith, ints) in rw (e, neg_times (pos n) (pos 1)) (omega (arith, ints))
-symbol_part n false true = omega (arith, ints)
-symbol_part n false false = omega (arith, ints)
-
 masked_part : (n : ℕ) (o x y : Bool) →
     ((if o then pos 0 else pos n *ℤ sign x) *ℤ sign y)
     +ℤ pos (2 * (n * (if o then 0 else digit (xor x y))))

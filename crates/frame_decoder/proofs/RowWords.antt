@@ -6,8 +6,7 @@ use Rattle.frame_decoder.proofs.Common.{get_or-map-places, map-places-all, code_
 use Rattle.frame_decoder.proofs.Common.{IsChecked, quality_indicator, quality_length, check_bits, data_shape, address, repeated_symbol}
 use Rattle.frame_decoder.proofs.Common.{Data, agreement-keyed, part, symbol_lt, address_lt, kept_lt, Word, score_of, IsBestWord, Zero}
 use Rattle.frame_decoder.proofs.Common.{by_definition, Row, IsRow, bits_in, repeated_in, place_in, symbols_in, gathered_in, score_in}
-use Rattle.frame_decoder.proofs.Common.{word_in, is_right}
-use Rattle.std.proofs.lemmas.List.{length-take-le}
+use Rattle.frame_decoder.proofs.Common.{word_in, is_right, length-take-le}
 use Rattle.frame_decoder.proofs.ZeroWords.{length-best_zero_word, best_zero_word-same}
 use Rattle.quality_bits.specs.declared.kind.Kind.{Kind as Check}
 

@@ -6,11 +6,12 @@ use Rattle.frame_decoder.proofs.Common.{take_at, drop_at, length-replicate, All-
 use Rattle.frame_decoder.proofs.Common.{quality_length, length-quality_indicator, Word, score_of, IsAllowed, Zero, by_definition}
 use Rattle.frame_decoder.proofs.Common.{zero_word_best, Row, RowFrame, is_replaced, unreplaced, ShowSymbols, AgreeElsewhere, kept_count}
 use Rattle.frame_decoder.proofs.Common.{bits_in, symbols_in, score_in, word_in, is_right, frame_in, candidate_of, rising, not_good}
-use Rattle.frame_decoder.proofs.Common.{shown_of}
+use Rattle.frame_decoder.proofs.Common.{frame_of, shown_of}
 use Rattle.frame_decoder.proofs.MaskedScores.{masked, weight, own_score, alone, zeros_score}
 use Rattle.frame_decoder.proofs.RowChoice.{Below, IsAmong, chosen_is, candidate_below, first_found, silent_shown}
 use Rattle.frame_decoder.proofs.RowWords.{bits_least, length-symbols_in}
 use Rattle.frame_decoder.proofs.ShownSymbols.{lt_true, le_of_false, lt_of_true, kept_is, count_is, some_left, positive}
+use Rattle.frame_decoder.proofs.Unreplaced.{zeros_kept}
 use Rattle.frame_decoder.proofs.ZeroWords.{best_zero_word_allowed, best_zero_word_greatest, best_zero_word-same}
 
 -- ---- the word of a frame
@@ -256,7 +257,7 @@ zeros_word n row =
     (record { start = replicate 8 false; bits = replicate count false }) (bits_least row)
     (length-replicate (2 * count) (pos 0)) (zero_word_best Zero count (bits_least row)))
 
-pub nothing_shown : {R : Type 0} (highest : Row R) (lower : List (Row R)) (n : ℕ) →
+nothing_shown : {R : Type 0} (highest : Row R) (lower : List (Row R)) (n : ℕ) →
     shown_of highest lower (replicate n (pos 0))
     ≡ not_good highest (replicate (bits_in highest) false) (pos 0)
 nothing_shown highest lower n =
@@ -264,3 +265,12 @@ nothing_shown highest lower n =
     silent_shown zeros (word_in zeros) highest lower
     (λ row. zeros_score n (symbols_in row (word_in zeros row)))
     ∙ ap (λ (w : Word). not_good highest w.bits (pos 0)) (zeros_word n highest)
+
+pub nothing_decoded : {R D : Type 0} (shown : RowFrame R → D) (highest : Row R)
+    (lower : List (Row R)) (n : ℕ) (replaced : List ℕ) →
+    shown (frame_of highest lower replaced (replicate n (pos 0)))
+    ≡ shown (not_good highest (replicate (bits_in highest) false) (pos 0))
+unfolding frame_of
+nothing_decoded shown highest lower n replaced =
+    ap (λ (ks : List ℤ). shown (shown_of highest lower ks)) (zeros_kept replaced n)
+    ∙ ap shown (nothing_shown highest lower n)

@@ -4,7 +4,7 @@ use Rattle.frame_decoder.proofs.Common.{◌∙◌, arith, ℤ, pos, nat_eq, map,
 use Rattle.frame_decoder.proofs.Common.{ne_eqb, eq-eqb, cases_eq, cases_lt, get_or-set_same, get_or-set_other, length-set, set_past}
 use Rattle.frame_decoder.proofs.Common.{ext_get_or, length-replicate, get_or-replicate, get_or-take, get_or_past, list_any-append}
 use Rattle.frame_decoder.proofs.Common.{sum_by-set, places, length-map-places, get_or-map-places, map-places-all, is_replaced, unreplaced}
-use Rattle.std.proofs.lemmas.List.{length-take-le}
+use Rattle.frame_decoder.proofs.Common.{length-take-le}
 
 -- each soft value
 abbrev pub kept : List ℕ → List ℤ → ℕ → ℤ

@@ -1,12 +1,7 @@
 -- The words that start from eight zeros and end with eight zeros, and the best of them.
-use Rattle.std.proofs.Common.{◌≡◌, ℕ, ◌-◌, ◌≤◌, length, ap, subst, ℤ, ◌≤ℤ◌}
-use Rattle.std.proofs.lemmas.Nat.{pow_pos}
-use Rattle.chip_core.specs.Sums.{first_greatest, IsFirstGreatest}
-use Rattle.chip_core.proofs.Greatest.{first_greatest-is}
-use Rattle.viterbi.specs.Words.{Word, word_count, word_at, best_word}
-use Rattle.viterbi.specs.Best.{IsAllowed}
-use Rattle.viterbi.specs.declared.word.Ends.TheVariants.{Zero}
-use Rattle.viterbi.proofs.Unique.{allowed_at, word_at_allowed}
+use Rattle.frame_decoder.proofs.Common.{◌≡◌, ℕ, ◌-◌, ◌≤◌, length, ap, subst, ℤ, ◌≤ℤ◌, pow_pos, first_greatest, IsFirstGreatest}
+use Rattle.frame_decoder.proofs.Common.{first_greatest-is, Word, word_count, word_at, best_word, IsAllowed, Zero, allowed_at}
+use Rattle.frame_decoder.proofs.Common.{word_at_allowed}
 use Rattle.frame_decoder.proofs.BestWords.{first_greatest-same}
 
 -- each word of the definition is allowed

@@ -1,18 +1,9 @@
 -- What scores and rows of choices stand for: the words into a state, one after another.
-use Rattle.std.proofs.Common.{◌≡◌, ℕ, zero, suc, ◌+◌, ◌*◌, ◌/◌, ◌%◌, ◌<◌, ◌≤◌, Bool, List, [], ◌∷◌}
-use Rattle.std.proofs.Common.{◌++◌, length, get_or, map, refl, sym, ap, subst, ◌∙◌, arith, ℤ}
-use Rattle.std.proofs.Common.{◌+ℤ◌}
-use Rattle.std.specs.Prelude.{nat_le, All}
-use Rattle.std.proofs.lemmas.List.Elements.{All-nil, All-cons, All-head, All-tail}
-use Rattle.chip_core.specs.Bits.{binary}
-use Rattle.viterbi.specs.States.{low_bits}
-use Rattle.viterbi.specs.Lanes.{gain_by, code_of}
-use Rattle.viterbi.proofs.Codes.{code_gains}
-use Rattle.list_viterbi.specs.declared.words.Entry.{Entry}
-use Rattle.list_viterbi.specs.Merging.{score_in, extended_by, list_from, list_into}
-use Rattle.list_viterbi.specs.Picks.{Pick, pick_score, picks_from, picks_by, picks_into}
-use Rattle.list_viterbi.specs.Picks.{pointer_of, HasChoices, HasPicks}
-use Rattle.list_viterbi.specs.Rows.{back_of, state_before, place_before, origin, path}
+use Rattle.list_viterbi.proofs.Common.{◌≡◌, ℕ, zero, suc, ◌+◌, ◌*◌, ◌/◌, ◌%◌, ◌<◌, ◌≤◌, Bool, List, [], ◌∷◌, ◌++◌, length, get_or, map}
+use Rattle.list_viterbi.proofs.Common.{refl, sym, ap, subst, ◌∙◌, arith, ℤ, ◌+ℤ◌, nat_le, All, All-nil, All-cons, All-head, All-tail}
+use Rattle.list_viterbi.proofs.Common.{binary, low_bits, gain_by, code_of, code_gains, Entry, score_in, extended_by, list_from, list_into}
+use Rattle.list_viterbi.proofs.Common.{Pick, pick_score, picks_from, picks_by, picks_into, pointer_of, HasChoices, HasPicks, back_of}
+use Rattle.list_viterbi.proofs.Common.{state_before, place_before, origin, path}
 use Rattle.list_viterbi.proofs.Pairs.{Pairs, merge_pairs, merge_most}
 
 -- a place in a state's list leads back to the entry's word

@@ -1,7 +1,5 @@
 -- A truth value as a byte.
-use Rattle.std.proofs.Common.{◌≡◌, Bool, true, false, refl}
-use mir.Val.{bool_byte}
-use Rattle.chip_core.specs.Bits.{digit}
+use Rattle.list_viterbi.proofs.Common.{◌≡◌, Bool, true, false, refl, bool_byte, digit}
 
 pub byte_digit : (b : Bool) → bool_byte b ≡ digit b
 byte_digit true = refl

@@ -1,26 +1,14 @@
 -- The first words of a kind, one after another, and that there is one such list.
-use Rattle.std.proofs.Common.{◌≡◌, ℕ, zero, suc, ◌<◌, List, [], ◌∷◌, length, refl, sym, ap, subst}
-use Rattle.std.proofs.Common.{◌∙◌, arith, get_or, ℤ, ◌⊎◌, ⊎_elim, inl, inr}
-use Rattle.std.specs.Prelude.{All, AllPairs, Contains}
-use Rattle.std.proofs.lemmas.Int.{ints}
-use Rattle.std.proofs.lemmas.List.Elements.{All-nil, All-cons, All-head, All-tail, All-contains}
-use Rattle.std.proofs.lemmas.List.Kept.{AllPairs-cons}
-use Rattle.viterbi.specs.Words.{Word, IsBetter}
-use Rattle.list_viterbi.specs.First.{AreFirst}
+use Rattle.list_viterbi.proofs.Common.{◌≡◌, ℕ, zero, suc, ◌<◌, List, [], ◌∷◌, length, refl, sym, ap, subst, ◌∙◌, arith, get_or, ℤ, ◌⊎◌}
+use Rattle.list_viterbi.proofs.Common.{⊎_elim, inl, inr, All, AllPairs, Contains, ints, All-nil, All-cons, All-head, All-tail, All-contains}
+use Rattle.list_viterbi.proofs.Common.{AllPairs-cons, Word, rank, IsBetter, leads_trans, AreFirst}
 
 -- THE ORDER
 pub better_trans : (score : Word → ℤ) (a b c : Word) → IsBetter score a b → IsBetter score b c →
     IsBetter score a c
-better_trans score a b c p q = ⊎_elim
-    (λ less. ⊎_elim
-    (λ less'. inl (omega (arith, ints, less, less')))
-    (λ tie'. inl (let e = tie'.0 in omega (arith, ints, less, e)))
-    q)
-    (λ tie. ⊎_elim
-    (λ less'. inl (let e = tie.0 in omega (arith, ints, less', e)))
-    (λ tie'. inr (tie'.0 ∙ tie.0, let r = tie.1 in let r' = tie'.1 in omega (arith, r, r')))
-    q)
-    p
+better_trans score a b c p q =
+    let ranks : rank a < rank b → rank b < rank c → rank a < rank c = λ r r'. omega (arith, r, r') in
+    leads_trans (score a) (score b) (score c) ranks p q
 
 pub not_both : (score : Word → ℤ) (a b : Word) → IsBetter score a b → IsBetter score b a → ⊥
 not_both score a b p q = ⊎_elim

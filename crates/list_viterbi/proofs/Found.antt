@@ -1,21 +1,8 @@
 -- The words of the end states that the scores and rows of choices give.
-use Rattle.std.proofs.Common.{◌≡◌, ℕ, zero, suc, ◌+◌, ◌/◌, ◌<◌, ◌≤◌, List, [], ◌∷◌, ◌++◌, length, get_or}
-use Rattle.std.proofs.Common.{map, take, refl, sym, ap, subst, ◌∙◌, arith, ℤ, Some}
-use Rattle.std.specs.Prelude.{slice_get}
-use Rattle.std.proofs.lemmas.List.{take_more, length-take, length-take-le}
-use Rattle.std.proofs.lemmas.Option.{get_or_from_slice_get}
-use Rattle.viterbi.specs.Words.{Word, score_of}
-use Rattle.viterbi.specs.Best.{IsAllowed}
-use Rattle.viterbi.specs.Survivors.{end_count}
-use Rattle.viterbi.specs.declared.word.Ends.{Ends}
-use Rattle.viterbi.proofs.StateBits.{binary-turned}
-use Rattle.viterbi.proofs.Choices.{words_same}
-use Rattle.viterbi.proofs.Made.{end_count_le}
-use Rattle.list_viterbi.specs.declared.words.Entry.{Entry}
-use Rattle.list_viterbi.specs.declared.finds.Find.{Find}
-use Rattle.list_viterbi.specs.First.{word_of}
-use Rattle.list_viterbi.specs.Merging.{score_in, first_lists}
-use Rattle.list_viterbi.specs.Rows.{origin, find_score, finds_from, first_finds, entry_at}
+use Rattle.list_viterbi.proofs.Common.{◌≡◌, ℕ, zero, suc, ◌+◌, ◌/◌, ◌<◌, ◌≤◌, List, [], ◌∷◌, ◌++◌, length, get_or, map, take, refl, sym, ap}
+use Rattle.list_viterbi.proofs.Common.{subst, ◌∙◌, arith, ℤ, Some, slice_get, take_more, length-take, length-take-le, get_or_from_slice_get}
+use Rattle.list_viterbi.proofs.Common.{Word, score_of, IsAllowed, end_count, Ends, binary-turned, words_same, end_count_le, Entry, Find}
+use Rattle.list_viterbi.proofs.Common.{word_of, score_in, first_lists, origin, find_score, finds_from, first_finds, entry_at}
 use Rattle.list_viterbi.proofs.Firsts.{Firsts}
 use Rattle.list_viterbi.proofs.Merges.{Lists, Scored}
 use Rattle.list_viterbi.proofs.Pairs.{Pairs, merge_pairs}

@@ -1,18 +1,8 @@
 -- Two blocks of two states are put, and all else stays.
-use Rattle.std.proofs.Common.{◌≡◌, ℕ, ◌+◌, ◌*◌, ◌/◌, ◌%◌, ◌^◌, ◌<◌, ◌≤◌, ◌⊎◌, inl, inr}
-use Rattle.std.proofs.Common.{⊎_elim, List, [], ◌∷◌, length, get_or, refl}
-use Rattle.std.proofs.Common.{sym, subst, ◌∙◌, arith, ℤ, pos, ◌+ℤ◌, ◌-ℤ◌, unsigned_abs}
-use Rattle.std.proofs.Common.{FitsSigned, w64}
-use Rattle.std.proofs.lemmas.Int.{ints, fits_signed_from_abs}
-use Rattle.std.proofs.lemmas.Bool.{cases_lt}
-use Rattle.std.proofs.lemmas.List.{length-set}
-use lib.Lanes.{Each1, Each2, zip2}
-use Rattle.viterbi.specs.Lanes.{Fit}
-use Rattle.list_viterbi.specs.declared.lanes.Heads.{Heads}
-use Rattle.list_viterbi.specs.Picks.{Pick, picks_by, HasPicks}
-use Rattle.list_viterbi.specs.Heads.{HeadsLong}
-use Rattle.list_viterbi.specs.Heads.{four_scores, four_choices, two_from, heads_from, put_heads}
-use Rattle.list_viterbi.specs.Heads.{put_choices, four_of, row_of}
+use Rattle.list_viterbi.proofs.Common.{◌≡◌, ℕ, ◌+◌, ◌*◌, ◌/◌, ◌%◌, ◌^◌, ◌<◌, ◌≤◌, ◌⊎◌, inl, inr, ⊎_elim, List, [], ◌∷◌, length, get_or}
+use Rattle.list_viterbi.proofs.Common.{refl, sym, subst, ◌∙◌, arith, ℤ, pos, ◌+ℤ◌, ◌-ℤ◌, unsigned_abs, FitsSigned, w64, ints}
+use Rattle.list_viterbi.proofs.Common.{fits_signed_from_abs, cases_lt, length-set, Each1, Each2, zip2, Fit, Heads, Pick, picks_by, HasPicks}
+use Rattle.list_viterbi.proofs.Common.{HeadsLong, four_scores, four_choices, two_from, heads_from, put_heads, put_choices, four_of, row_of}
 use Rattle.list_viterbi.proofs.LaneMerges.{scores_long}
 use Rattle.list_viterbi.proofs.LanePuts.{heads_put, put_read, put_others, choices_read, choices_others}
 use Rattle.list_viterbi.proofs.LanePicks.{made_heads, block_picks}

@@ -1,14 +1,7 @@
 -- Lanes of two scores chosen by two heads.
-use Rattle.std.proofs.Common.{◌≡◌, Bool, true, false, List, [], ◌∷◌, map, refl}
-use Rattle.std.proofs.Common.{ap, ◌∙◌, ℤ, to_z, of_z, FitsSigned, w64}
-use Rattle.std.specs.Prelude.{int_lt}
-use Rattle.std.proofs.lemmas.Simd.{tops_compared}
-use lib.Lanes.{Each1, zip2, sel_l}
-use Rattle.viterbi.proofs.LaneLemmas.{chosen_lane, less_bits, less_lanes, mask_of}
-use Rattle.viterbi.proofs.Blocks.{passed, kept}
-use Rattle.list_viterbi.specs.Turns.{choose}
-use Rattle.list_viterbi.specs.Heads.{HeadsFit, even_heads, odd_heads}
-use Rattle.list_viterbi.specs.declared.lanes.Heads.{Heads}
+use Rattle.list_viterbi.proofs.Common.{◌≡◌, Bool, true, false, List, [], ◌∷◌, map, refl, ap, ◌∙◌, ℤ, to_z, of_z, FitsSigned, w64, int_lt}
+use Rattle.list_viterbi.proofs.Common.{tops_compared, Each1, zip2, sel_l, chosen_lane, less_bits, less_lanes, mask_of, passed, kept, choose}
+use Rattle.list_viterbi.proofs.Common.{HeadsFit, even_heads, odd_heads, Heads}
 
 abbrev pub heads_of : List ℤ → List ℤ → List ℤ → List ℤ → Heads
 heads_of a b c d = record { first = a; second = b; third = c; fourth = d }
@@ -40,6 +33,18 @@ chosen_lanes es os xs ys p q r s =
 -- lanes that are handed on
 pub handed : (xs : List ℤ) → AllFit xs → AllFit (passed xs)
 handed xs h = rw (kept xs h) h
+
+pub first_handed : (h : Heads) → HeadsFit h → AllFit (passed h.first)
+first_handed h fit = handed h.first fit.first
+
+pub second_handed : (h : Heads) → HeadsFit h → AllFit (passed h.second)
+second_handed h fit = handed h.second fit.second
+
+pub third_handed : (h : Heads) → HeadsFit h → AllFit (passed h.third)
+third_handed h fit = handed h.third fit.third
+
+pub fourth_handed : (h : Heads) → HeadsFit h → AllFit (passed h.fourth)
+fourth_handed h fit = handed h.fourth fit.fourth
 
 pub choose_fits : (ts : List Bool) (xs ys : List ℤ) → AllFit xs → AllFit ys →
     AllFit (choose ts xs ys)

@@ -1,45 +1,10 @@
 -- What a bit adds for two states, and for the two 128 on.
-use Rattle.std.proofs.Common.{◌≡◌, ℕ, zero, suc, ◌+◌, ◌-◌, ◌*◌, ◌/◌, ◌%◌, ◌<◌, ◌≤◌, Bool, true}
-use Rattle.std.proofs.Common.{false, List, length, map, take, drop, get_or, refl, sym, ap, subst}
-use Rattle.std.proofs.Common.{◌∙◌, ⊎_elim, arith, ℤ, pos, ◌-ℤ◌, FitsSigned, to_z, of_z}
-use Rattle.std.proofs.Common.{w64, nat_eq}
-use Rattle.std.specs.List.{list_all, range_with_len}
-use Rattle.std.proofs.lemmas.Int.{ints, to_z-of_z}
-use Rattle.std.proofs.lemmas.Bool.{cases_eq, cases_lt}
-use Rattle.std.proofs.lemmas.Bool.Decides.{nat_tests}
-use Rattle.std.proofs.lemmas.List.{get_or-map, get_or-drop, get_or-take, length-map, length-drop}
-use Rattle.std.proofs.lemmas.List.{length-take-le}
-use Rattle.std.proofs.lemmas.List.Folds.{list_all_at}
-use Rattle.std.proofs.lemmas.List.FromFn.{get_or-range_with_len, length-range_with_len}
-use Rattle.std.proofs.lemmas.Simd.{get_or-chunk, length-chunk}
-use lib.Lanes.{chunk}
-use Rattle.viterbi.specs.Lanes.{lane_codes, kinds, gain_by, code_of}
-use Rattle.viterbi.proofs.Blocks.{passed}
-use Rattle.list_viterbi.specs.Picks.{HasPicks, picks_by, picks_into}
-use Rattle.list_viterbi.specs.Heads.{four_of, row_of, PairPicked}
+use Rattle.list_viterbi.proofs.Common.{◌≡◌, ℕ, zero, suc, ◌+◌, ◌-◌, ◌*◌, ◌/◌, ◌%◌, ◌<◌, Bool, true, false, List, get_or, refl, sym, ap}
+use Rattle.list_viterbi.proofs.Common.{subst, ◌∙◌, ⊎_elim, arith, ℤ, pos, ◌-ℤ◌, nat_eq, list_all, range_with_len, ints, cases_eq, cases_lt}
+use Rattle.list_viterbi.proofs.Common.{nat_tests, list_all_at, get_or-range_with_len, length-range_with_len, lane_codes, kinds, gain_by}
+use Rattle.list_viterbi.proofs.Common.{code_of, HasPicks, picks_by, picks_into, four_of, row_of, PairPicked}
 
--- two gains of a table
-pub gains_read : (xs : List ℤ) (at l : ℕ) → length xs ≡ 32 → at + 2 ≤ 32 → l < 2 →
-    FitsSigned w64 (get_or xs (at + l) (pos 0)) →
-    get_or (passed (chunk 0 2 (take (32 - at) (drop at xs)))) l (pos 0) ≡ get_or xs (at + l) (pos 0)
-gains_read xs at l long room b fits =
-    let part = take (32 - at) (drop at xs) in
-    let size : length part ≡ 32 - at = length-take-le (32 - at) (drop at xs)
-    (omega (arith, length-drop at xs, long)) in
-    let lanes = chunk 0 2 part in
-    let two : length lanes ≡ 2 = length-chunk 0 2 part (omega (arith, size, room)) in
-    let read : get_or lanes l (pos 0) ≡ get_or xs (at + l) (pos 0) =
-    get_or-chunk 0 2 part l (pos 0) b
-    ∙ ap (λ (i : ℕ). get_or part i (pos 0)) (omega arith)
-    ∙ get_or-take (32 - at) (drop at xs) l (pos 0) (omega (arith, room, b))
-    ∙ get_or-drop at xs l (pos 0) in
-    get_or-map (to_z w64) (map (of_z w64) lanes) l 0 (pos 0)
-    (omega (arith, b, two, length-map lanes (of_z w64)))
-    ∙ ap (to_z w64) (get_or-map (of_z w64) lanes l (pos 0) 0 (omega (arith, b, two)))
-    ∙ ap (λ (z : ℤ). to_z w64 (of_z w64 z)) read
-    ∙ to_z-of_z w64 _ fits
-
--- their places in it
+-- two states' places in the table of gains
 pub code_two : (block l : ℕ) → l < 2 →
     code_of (2 * block + l)
     ≡ get_or lane_codes (8 * get_or kinds (block / 4) 0 + (2 * (block % 4) + l)) 0

@@ -1,13 +1,7 @@
 -- The scores of four turns fit, and their weights are small.
-use Rattle.std.proofs.Common.{Bool, true, false, List, [], ◌∷◌, refl}
-use Rattle.std.proofs.Common.{subst, arith, ℤ, pos}
-use Rattle.std.proofs.lemmas.Int.{ints}
-use lib.Lanes.{Each1}
-use Rattle.list_viterbi.specs.declared.lanes.Heads.{Heads}
-use Rattle.list_viterbi.specs.Turns.{choose}
-use Rattle.list_viterbi.specs.Heads.{HeadsFit, HeadsLong, AreWeights, IsWeight, less_heads, even_after}
-use Rattle.list_viterbi.specs.Heads.{odd_after, even_after_two, odd_after_two}
-use Rattle.list_viterbi.specs.Heads.{four_scores, four_choices}
+use Rattle.list_viterbi.proofs.Common.{Bool, true, false, List, [], ◌∷◌, refl, subst, arith, ℤ, pos, ints, Each1, Heads, choose, HeadsFit}
+use Rattle.list_viterbi.proofs.Common.{HeadsLong, AreWeights, IsWeight, less_heads, even_after, odd_after, even_after_two, odd_after_two}
+use Rattle.list_viterbi.proofs.Common.{four_scores, four_choices}
 use Rattle.list_viterbi.proofs.LaneChoices.{choose_fits, even_fits, odd_fits}
 use Rattle.list_viterbi.proofs.LaneTurns.{pairs, pairs_are}
 
@@ -43,14 +37,6 @@ by_pairs : (P : Heads → Heads → Type 0) (e o : Heads) → HeadsLong e → He
 by_pairs P e o p q h =
     subst (λ (x : Heads). P x o) (pairs_are e p) (subst (λ (x : Heads). P (pairs e) x)
     (pairs_are o q) h)
-
-weights_of_pairs : (e o : Heads) → HeadsLong (four_choices (pairs e) (pairs o))
-unfolding four_choices
-weights_of_pairs e o = record { first = refl; second = refl; third = refl; fourth = refl }
-
-pub weights_long : (e o : Heads) → HeadsLong e → HeadsLong o → HeadsLong (four_choices e o)
-weights_long e o p q =
-    by_pairs (λ x y. HeadsLong (four_choices x y)) e o p q (weights_of_pairs e o)
 
 scores_of_long : (e o : Heads) → HeadsLong (four_scores (pairs e) (pairs o))
 unfolding four_scores

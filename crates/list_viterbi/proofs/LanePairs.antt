@@ -1,19 +1,11 @@
 -- What the calls for four states make together.
-use Rattle.std.proofs.Common.{◌≡◌, ℕ, ◌+◌, ◌*◌, ◌/◌, ◌%◌, ◌^◌, ◌<◌, ◌≤◌, List, [], ◌∷◌}
-use Rattle.std.proofs.Common.{length, get_or, sym, ap, subst, ◌∙◌, arith, ℤ, pos, ◌+ℤ◌, ◌-ℤ◌}
-use Rattle.std.proofs.Common.{unsigned_abs, FitsSigned, to_z, of_z, w64}
-use Rattle.std.proofs.lemmas.Int.{fits_signed_from_abs}
-use mir.Val.{SFits}
-use Rattle.viterbi.specs.Lanes.{gain_by, code_of, lane_codes, kinds}
-use Rattle.viterbi.proofs.Blocks.{kept, passed}
-use Rattle.viterbi.proofs.BlockSteps.{kind_small, gain_fits}
-use Rattle.list_viterbi.specs.declared.lanes.Heads.{Heads}
-use Rattle.list_viterbi.specs.Heads.{HeadsFit, RaisedFit, LoweredFit, raised_heads, lowered_heads}
-use Rattle.list_viterbi.specs.Heads.{two_from, heads_from, four_scores, four_choices, put_heads, put_choices}
+use Rattle.list_viterbi.proofs.Common.{◌≡◌, ℕ, ◌+◌, ◌*◌, ◌/◌, ◌%◌, ◌^◌, ◌<◌, ◌≤◌, List, [], ◌∷◌, length, get_or, sym, ap, subst, ◌∙◌, arith}
+use Rattle.list_viterbi.proofs.Common.{ℤ, pos, ◌+ℤ◌, ◌-ℤ◌, unsigned_abs, FitsSigned, to_z, of_z, w64, fits_signed_from_abs, SFits, gain_by}
+use Rattle.list_viterbi.proofs.Common.{code_of, lane_codes, kinds, kept, passed, kind_small, gain_fits, Heads, HeadsFit, RaisedFit}
+use Rattle.list_viterbi.proofs.Common.{LoweredFit, raised_heads, lowered_heads, two_from, heads_from}
 use Rattle.list_viterbi.proofs.StateCodes.{gain_by_size, gain_passed}
 use Rattle.list_viterbi.proofs.LanePicks.{made_heads}
-use Rattle.list_viterbi.proofs.LaneBlocks.{made_fit, two_fit, plus_size, minus_size, lower_even}
-use Rattle.list_viterbi.proofs.LaneBlocks.{lower_odd, upper_even, upper_odd, with_both, chosen_both}
+use Rattle.list_viterbi.proofs.LaneBlocks.{made_fit, two_fit, plus_size, minus_size, lower_even, lower_odd, upper_even, upper_odd}
 use Rattle.list_viterbi.proofs.LaneGains.{code_two}
 
 -- each score and each gain can be added
@@ -97,66 +89,18 @@ made_heads_fit made ranks gain at h two below room size is = subst HeadsFit (sym
       (two_fit made ranks gain (768 + at) two (omega (arith, below)) size room);
 })
 
--- a row of scores after both blocks
-pub both_put : (ranks gain next new last : List ℤ) (block : ℕ) (le lo ue uo : Heads) →
+-- a row after both blocks, where `put` is what a block puts into it from a state on
+pub both_put : {A : Type 0} (put : ℕ → List A → Heads → Heads → List A) (ranks gain : List ℤ)
+    (block : ℕ) (row new last : List A) (le lo ue uo : Heads) →
     le ≡ lower_even ranks gain block → lo ≡ lower_odd ranks gain block →
     ue ≡ upper_even ranks gain block → uo ≡ upper_odd ranks gain block →
-    new ≡ put_heads (2 * block) next (four_scores le lo) →
-    last ≡ put_heads (128 + 2 * block) new (four_scores ue uo) →
-    last ≡ with_both ranks gain block next
-both_put ranks gain next new last block le lo ue uo a b c d p q =
-    q ∙ ap (λ (xs : List ℤ). put_heads (128 + 2 * block) xs (four_scores ue uo)) p
-    ∙ put_by ue uo c d (put_heads (2 * block) next (four_scores le lo))
-    ∙ ap (λ (xs : List ℤ). put_heads (128 + 2 * block) xs
-    (four_scores (upper_even ranks gain block) (upper_odd ranks gain block)))
-    (first_by le lo a b) where
-      put_by : (e o : Heads) → e ≡ upper_even ranks gain block → o ≡ upper_odd ranks gain block →
-          (xs : List ℤ) → put_heads (128 + 2 * block) xs (four_scores e o)
-          ≡ put_heads (128 + 2 * block) xs
-          (four_scores (upper_even ranks gain block) (upper_odd ranks gain block))
-      put_by e o p q xs =
-          ap (λ (h : Heads). put_heads (128 + 2 * block) xs (four_scores h o)) p
-          ∙ ap (λ (h : Heads). put_heads (128 + 2 * block) xs
-          (four_scores (upper_even ranks gain block) h)) q
-
-      first_by : (e o : Heads) → e ≡ lower_even ranks gain block → o ≡ lower_odd ranks gain block →
-          put_heads (2 * block) next (four_scores e o) ≡ put_heads (2 * block) next
-          (four_scores (lower_even ranks gain block) (lower_odd ranks gain block))
-      first_by e o p q =
-          ap (λ (h : Heads). put_heads (2 * block) next (four_scores h o)) p
-          ∙ ap (λ (h : Heads). put_heads (2 * block) next
-          (four_scores (lower_even ranks gain block) h)) q
-
--- and the row of choices
-pub both_chosen : (ranks gain : List ℤ) (choices new last : List ℕ) (block : ℕ)
-    (le lo ue uo : Heads) →
-    le ≡ lower_even ranks gain block → lo ≡ lower_odd ranks gain block →
-    ue ≡ upper_even ranks gain block → uo ≡ upper_odd ranks gain block →
-    new ≡ put_choices (2 * block) choices (four_choices le lo) →
-    last ≡ put_choices (128 + 2 * block) new (four_choices ue uo) →
-    last ≡ chosen_both ranks gain block choices
-both_chosen ranks gain choices new last block le lo ue uo a b c d p q =
-    q ∙ ap (λ (xs : List ℕ). put_choices (128 + 2 * block) xs (four_choices ue uo)) p
-    ∙ put_by ue uo c d (put_choices (2 * block) choices (four_choices le lo))
-    ∙ ap (λ (xs : List ℕ). put_choices (128 + 2 * block) xs
-    (four_choices (upper_even ranks gain block) (upper_odd ranks gain block)))
-    (first_by le lo a b) where
-      put_by : (e o : Heads) → e ≡ upper_even ranks gain block → o ≡ upper_odd ranks gain block →
-          (xs : List ℕ) → put_choices (128 + 2 * block) xs (four_choices e o)
-          ≡ put_choices (128 + 2 * block) xs
-          (four_choices (upper_even ranks gain block) (upper_odd ranks gain block))
-      put_by e o p q xs =
-          ap (λ (h : Heads). put_choices (128 + 2 * block) xs (four_choices h o)) p
-          ∙ ap (λ (h : Heads). put_choices (128 + 2 * block) xs
-          (four_choices (upper_even ranks gain block) h)) q
-
-      first_by : (e o : Heads) → e ≡ lower_even ranks gain block → o ≡ lower_odd ranks gain block →
-          put_choices (2 * block) choices (four_choices e o) ≡ put_choices (2 * block) choices
-          (four_choices (lower_even ranks gain block) (lower_odd ranks gain block))
-      first_by e o p q =
-          ap (λ (h : Heads). put_choices (2 * block) choices (four_choices h o)) p
-          ∙ ap (λ (h : Heads). put_choices (2 * block) choices
-          (four_choices (lower_even ranks gain block) h)) q
+    new ≡ put (2 * block) row le lo → last ≡ put (128 + 2 * block) new ue uo →
+    last ≡ put (128 + 2 * block)
+    (put (2 * block) row (lower_even ranks gain block) (lower_odd ranks gain block))
+    (upper_even ranks gain block) (upper_odd ranks gain block)
+both_put put ranks gain block row new last le lo ue uo a b c d p q =
+    q ∙ ap (λ xs. put (128 + 2 * block) xs ue uo) p
+    ∙ (λ i. put (128 + 2 * block) (put (2 * block) row (a i) (b i)) (c i) (d i))
 
 -- WHAT A BIT ADDS FOR TWO STATES
 pub two_gains : (gains lanes : List ℤ) (f s : ℤ) (block : ℕ) → SFits w64 f → SFits w64 s →

@@ -1,17 +1,8 @@
 -- Four turns of a lane are the picks into its state.
-use Rattle.std.proofs.Common.{◌≡◌, ℕ, zero, suc, ◌+◌, ◌*◌, ◌%◌, ◌<◌}
-use Rattle.std.proofs.Common.{List, [], ◌∷◌, length, get_or, refl}
-use Rattle.std.proofs.Common.{sym, ap, subst, ◌∙◌, arith, ℤ, pos, ◌+ℤ◌, ◌-ℤ◌, unsigned_abs}
-use Rattle.std.proofs.lemmas.List.FromFn.{get_or-map-range_with_len}
-use lib.Lanes.{zip2}
-use Rattle.list_viterbi.specs.declared.lanes.Heads.{Heads}
-use Rattle.list_viterbi.specs.Merging.{merge}
-use Rattle.list_viterbi.specs.Picks.{pick_score, picks_from, picks_by, HasPicks}
-use Rattle.list_viterbi.specs.Turns.{turned_scores, turned_choices}
-use Rattle.list_viterbi.specs.Heads.{HeadsLong}
-use Rattle.list_viterbi.specs.Heads.{lane_of, lane_sum}
-use Rattle.list_viterbi.specs.Heads.{four_scores, four_choices, heads_from}
-use Rattle.list_viterbi.specs.Heads.{four_of, row_of}
+use Rattle.list_viterbi.proofs.Common.{◌≡◌, ℕ, zero, suc, ◌+◌, ◌*◌, ◌%◌, ◌<◌, List, [], ◌∷◌, length, get_or, refl, sym, ap, subst, ◌∙◌}
+use Rattle.list_viterbi.proofs.Common.{arith, ℤ, pos, ◌+ℤ◌, ◌-ℤ◌, unsigned_abs, get_or-map-range_with_len, zip2, Heads, merge, pick_score}
+use Rattle.list_viterbi.proofs.Common.{picks_from, picks_by, HasPicks, turned_scores, turned_choices, HeadsLong, lane_of, lane_sum}
+use Rattle.list_viterbi.proofs.Common.{four_scores, four_choices, heads_from, four_of, row_of}
 use Rattle.list_viterbi.proofs.LaneChoices.{heads_of}
 use Rattle.list_viterbi.proofs.LaneTurns.{lane_scores, lane_choices}
 use Rattle.list_viterbi.proofs.Turns.{AreSums, sum_at, all_turns}

@@ -1,8 +1,6 @@
 -- Turns of two states' lists, one behind the other.
-use Rattle.std.proofs.Common.{◌≡◌, pos, refl, subst, sym}
-use Rattle.list_viterbi.specs.Heads.{HeadsFit, even_after, four_choices, four_scores, less_heads}
-use Rattle.list_viterbi.specs.Heads.{odd_after, taken_scores, taken_weights}
-use Rattle.list_viterbi.specs.declared.lanes.Heads.{Heads}
+use Rattle.list_viterbi.proofs.Common.{◌≡◌, pos, refl, subst, sym, HeadsFit, even_after, four_choices, four_scores, less_heads, odd_after}
+use Rattle.list_viterbi.proofs.Common.{taken_scores, taken_weights, Heads}
 use Rattle.list_viterbi.proofs.LaneChoices.{even_fits, heads_of, odd_fits}
 
 -- what a turn leaves of lists of numbers of 64 bits is of such

@@ -1,18 +1,8 @@
 -- Sums of small weights on lanes.
-use Rattle.std.proofs.Common.{◌≡◌, ℕ, zero, suc, ◌*◌, ◌<◌, ◌≤◌}
-use Rattle.std.proofs.Common.{List, [], ◌∷◌, length, get_or}
-use Rattle.std.proofs.Common.{sym, ap, subst, ◌∙◌, arith, ℤ, pos, ◌+ℤ◌, ◌≤ℤ◌, unsigned_abs}
-use Rattle.std.proofs.Common.{FitsSigned, Fits, Fits-le, Fits-lit, w64, w32, to_z, of_z}
-use Rattle.std.proofs.lemmas.Int.{ints, fits_signed_from_abs, to_z-of_z}
-use Rattle.std.proofs.lemmas.Simd.{get_or-zip2, length-zip2}
-use lib.Lanes.{Each1, Each2, zip2}
-use Rattle.std.specs.Int.Signed.{non_neg, yes_non_neg}
-use lib.Dec.{T}
-use Rattle.viterbi.specs.Lanes.{Fit}
-use Rattle.viterbi.proofs.Blocks.{kept, passed}
-use Rattle.list_viterbi.specs.declared.lanes.Heads.{Heads}
-use Rattle.list_viterbi.specs.Heads.{HeadsLong, AreWeights, IsWeight}
-use Rattle.list_viterbi.specs.Heads.{lane_sum}
+use Rattle.list_viterbi.proofs.Common.{◌≡◌, ℕ, zero, suc, ◌*◌, ◌<◌, ◌≤◌, List, [], ◌∷◌, length, get_or, sym, ap, subst, ◌∙◌, arith, ℤ, pos}
+use Rattle.list_viterbi.proofs.Common.{◌+ℤ◌, ◌≤ℤ◌, unsigned_abs, FitsSigned, Fits, Fits-le, Fits-lit, w64, w32, to_z, of_z, ints}
+use Rattle.list_viterbi.proofs.Common.{fits_signed_from_abs, to_z-of_z, get_or-zip2, length-zip2, Each1, Each2, zip2, non_neg, yes_non_neg}
+use Rattle.list_viterbi.proofs.Common.{T, Fit, kept, passed, Heads, HeadsLong, AreWeights, IsWeight, lane_sum}
 
 -- numbers from 0 to a most
 abbrev pub UpTo : ℕ → ℤ → Type 0

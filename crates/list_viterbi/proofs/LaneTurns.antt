@@ -1,11 +1,7 @@
 -- Each of two lanes has the scores and the choices of its own turns.
-use Rattle.std.proofs.Common.{◌≡◌, ℕ, zero, suc, ◌+◌, ◌*◌, ◌<◌, Bool, true, false, List, [], ◌∷◌}
-use Rattle.std.proofs.Common.{length, get_or, refl, sym, subst, arith, ℤ, pos, ◌+ℤ◌}
-use Rattle.chip_core.specs.Bits.{digit}
-use Rattle.viterbi.specs.Rows.{taken_of}
-use Rattle.list_viterbi.specs.declared.lanes.Heads.{Heads}
-use Rattle.list_viterbi.specs.Turns.{turned_scores, turned_choices}
-use Rattle.list_viterbi.specs.Heads.{HeadsLong, lane_of, lane_sum, four_scores, four_choices}
+use Rattle.list_viterbi.proofs.Common.{◌≡◌, ℕ, zero, suc, ◌+◌, ◌*◌, ◌<◌, Bool, true, false, List, [], ◌∷◌, length, get_or, refl, sym, subst}
+use Rattle.list_viterbi.proofs.Common.{arith, ℤ, pos, ◌+ℤ◌, digit, taken_of, Heads, turned_scores, turned_choices, HeadsLong, lane_of}
+use Rattle.list_viterbi.proofs.Common.{lane_sum, four_scores, four_choices}
 use Rattle.list_viterbi.proofs.LaneChoices.{heads_of}
 
 abbrev pub pair_of : List ℤ → List ℤ

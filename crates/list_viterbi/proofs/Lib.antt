@@ -1,3 +1,4 @@
+pub mod Common
 pub mod Firsts
 pub mod Merges
 pub mod Walks
@@ -20,7 +21,6 @@ pub mod Turns
 pub mod LaneChoices
 pub mod LaneTurns
 pub mod LaneRounds
-pub mod Pairings
 pub mod LaneMerges
 pub mod LaneSums
 pub mod LanePuts

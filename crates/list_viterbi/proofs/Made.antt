@@ -1,12 +1,6 @@
 -- What the program's steps make, in the words of the definitions.
-use Rattle.std.proofs.Common.{◌≡◌, ℕ, ◌+◌, ◌*◌, ◌%◌, ◌^◌, ◌<◌, ◌≤◌, List, [], length, map, get_or}
-use Rattle.std.proofs.Common.{sym, ap, subst, ◌∙◌, ℤ, arith, unsigned_abs}
-use Rattle.std.specs.Prelude.{nat_le, All}
-use Rattle.std.proofs.lemmas.List.{get_or_read}
-use Rattle.viterbi.specs.States.{low_bits}
-use Rattle.viterbi.specs.Survivors.{gain_of}
-use Rattle.list_viterbi.specs.declared.words.Entry.{Entry}
-use Rattle.list_viterbi.specs.Merging.{extended_by, list_from, HasRoom}
+use Rattle.list_viterbi.proofs.Common.{◌≡◌, ℕ, ◌+◌, ◌*◌, ◌%◌, ◌^◌, ◌<◌, ◌≤◌, List, [], length, map, get_or, sym, ap, subst, ◌∙◌, ℤ, arith}
+use Rattle.list_viterbi.proofs.Common.{unsigned_abs, nat_le, All, get_or_read, low_bits, gain_of, Entry, extended_by, list_from, HasRoom}
 
 -- the list that comes from one of the two states before
 pub from_made : (row : List (List Entry)) (first second gain : ℤ) (t oldest nine place : ℕ)

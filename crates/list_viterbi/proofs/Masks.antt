@@ -1,14 +1,7 @@
 -- Choices with one more.
-use Rattle.std.proofs.Common.{◌≡◌, ℕ, zero, suc, ◌+◌, ◌-◌, ◌*◌, ◌%◌, ◌^◌, ◌<◌, ◌≤◌, Bool, true}
-use Rattle.std.proofs.Common.{false, List, [], ◌∷◌, ◌++◌, length, refl, sym, ap, subst, ◌∙◌, arith}
-use Rattle.std.proofs.Common.{ℤ, length-append}
-use Rattle.std.specs.Prelude.{nat_eq, if◌then◌else◌}
-use Rattle.std.proofs.lemmas.Nat.{mod-mul-add, div-mul-add}
-use Rattle.std.proofs.Math.Pow.{pow_mono}
-use Rattle.std.proofs.Math.Nat.{two-pow-succ}
-use Rattle.chip_core.specs.Bits.{bit_of, digit}
-use Rattle.chip_core.proofs.RegisterBits.{low_bit}
-use Rattle.list_viterbi.specs.Picks.{Pick, ones_below, pointer_of, HasChoices}
+use Rattle.list_viterbi.proofs.Common.{◌≡◌, ℕ, zero, suc, ◌+◌, ◌-◌, ◌*◌, ◌%◌, ◌^◌, ◌<◌, ◌≤◌, Bool, true, false, List, [], ◌∷◌, ◌++◌, length}
+use Rattle.list_viterbi.proofs.Common.{refl, sym, ap, subst, ◌∙◌, arith, ℤ, length-append, nat_eq, if◌then◌else◌, mod-mul-add, div-mul-add}
+use Rattle.list_viterbi.proofs.Common.{pow_mono, two-pow-succ, bit_of, digit, low_bit, Pick, ones_below, pointer_of, HasChoices}
 
 -- THE NEW BIT
 low_same : (c m r : ℕ) (b : Bool) → c < 2 ^ m → r < m →

@@ -1,15 +1,8 @@
 -- The merge of the first words of two kinds, and one bit more.
-use Rattle.std.proofs.Common.{◌≡◌, ℕ, zero, suc, ◌^◌, ◌<◌, ◌≤◌, Bool, true, false, List, [], ◌∷◌}
-use Rattle.std.proofs.Common.{◌++◌, length, map, refl, sym, ap, subst, ◌∙◌, arith, ℤ, ◌+ℤ◌, ◌<ℤ◌}
-use Rattle.std.proofs.Common.{◌≤ℤ◌, ◌⊎◌, ⊎_elim, inl, inr}
-use Rattle.std.specs.Prelude.{int_lt, if◌then◌else◌}
-use Rattle.std.proofs.lemmas.Int.{ints, by_lt_z}
-use Rattle.viterbi.specs.Words.{Word, rank, score_of, IsBetter}
-use Rattle.viterbi.proofs.Scores.{pushed}
-use Rattle.viterbi.proofs.Choices.{Either, IsPushed, rank-pushed}
-use Rattle.list_viterbi.specs.declared.words.Entry.{Entry}
-use Rattle.list_viterbi.specs.First.{word_of}
-use Rattle.list_viterbi.specs.Merging.{score_in, extended_by, merge}
+use Rattle.list_viterbi.proofs.Common.{◌≡◌, ℕ, zero, suc, ◌<◌, ◌≤◌, Bool, true, false, List, [], ◌∷◌, ◌++◌, length, map, refl, sym, ap}
+use Rattle.list_viterbi.proofs.Common.{subst, ◌∙◌, arith, ℤ, ◌+ℤ◌, ◌<ℤ◌, ◌≤ℤ◌, ◌⊎◌, ⊎_elim, inl, inr, int_lt, if◌then◌else◌, tested}
+use Rattle.list_viterbi.proofs.Common.{untested, Word, rank, score_of, IsBetter, pushed, Either, IsPushed, leads_both, rank_of-pushed}
+use Rattle.list_viterbi.proofs.Common.{stays_first, Entry, word_of, score_in, extended_by, merge}
 use Rattle.list_viterbi.proofs.Firsts.{After, IsHead, Firsts, same_firsts, better_trans, not_self}
 
 -- each entry has its word's score
@@ -27,23 +20,11 @@ pub same_lists : (softs : List ℤ) (Kind Kind' : Word → Type 0) (k : ℕ) (es
 same_lists softs Kind Kind' k es to back h =
     (same_firsts (score_of softs) Kind Kind' k (map word_of es) to back h.0, h.1)
 
-tested : (x y : ℤ) → int_lt x y ≡ true → x <ℤ y
-tested x y e = grind (arith, ints, e)
-
-untested : (x y : ℤ) → int_lt x y ≡ false → y ≤ℤ x
-untested x y e = grind (arith, ints, e)
-
 -- better than the first of a kind, so than all of it
 before_all : (score : Word → ℤ) (w u v : Word) → IsBetter score w u → (v ≡ u) ⊎ IsBetter score u v →
     IsBetter score w v
 before_all score w u v better h = ⊎_elim (λ e. subst (IsBetter score w) (sym e) better)
     (λ b. better_trans score w u v better b) h
-
--- no more in score, and less in rank
-first_stays : (score : Word → ℤ) (a b : Word) → score b ≤ℤ score a → rank a < rank b →
-    IsBetter score a b
-first_stays score a b h r = by_lt_z (score b) (score a) (λ less. inl less)
-    (λ back. inr (let e : score b ≡ score a = omega (arith, ints, h, back) in e, r))
 
 abbrev pub ComeBefore : (Word → Type 0) → (Word → Type 0) → Type 0
 ComeBefore One Two = (w v : Word) → One w → Two v → rank w < rank v
@@ -114,7 +95,8 @@ takes softs One Two k x y left right false e order p p_score q q_score l r =
     let score : Word → ℤ = score_of softs in
     let less : score (word_of y) ≤ℤ score (word_of x) =
     rw (← p_score, ← q_score) (untested x.score y.score e) in
-    let better = first_stays score (word_of x) (word_of y) less
+    let better : IsBetter score (word_of x) (word_of y) =
+    stays_first (score (word_of x)) (score (word_of y)) less
     (order (word_of x) (word_of y) p.kind q.kind) in
     takes_first softs One Two k x left p p_score
     (λ v o. before_all score (word_of x) (word_of y) v better (q.first v o)) l
@@ -148,26 +130,15 @@ merge_lists softs One Two (suc k) (suc m) (suc n) (x ∷ xs) (y ∷ ys) km kn or
     (omega (arith, km)) (omega (arith, kn)) (λ w v o t. order w v o t.0) p (q.0.1, q.1.1))
 
 -- ONE BIT MORE
-gains_stay : (a b c d g : ℤ) → c ≡ a +ℤ g → d ≡ b +ℤ g → a <ℤ b → c <ℤ d
-gains_stay a b c d g e f h = omega (arith, ints, e, f, h)
-
 -- what a bit adds is the same for words of one kind, so their order stays
 pushed_better : (score : Word → ℤ) (bit : Bool) (gain : ℤ) (long : ℕ) (a v : Word) →
     score (pushed a bit) ≡ score a +ℤ gain → score (pushed v bit) ≡ score v +ℤ gain →
     length (a.start ++ a.bits) ≡ long → length (v.start ++ v.bits) ≡ long →
     IsBetter score a v → IsBetter score (pushed a bit) (pushed v bit)
-pushed_better score bit gain long a v ga gv la lv h = ⊎_elim
-    (λ less. inl (gains_stay (score v) (score a) _ _ gain gv ga less))
-    (λ tie. inr (
-      gv ∙ ap (λ (z : ℤ). z +ℤ gain) tie.0 ∙ sym ga,
-      let r = tie.1 in
-          let left = rank-pushed a bit in
-          let right = rank-pushed v bit in
-          let same : 2 ^ length (a.start ++ a.bits) ≡ 2 ^ long = ap (λ (n : ℕ). 2 ^ n) la in
-          let same' : 2 ^ length (v.start ++ v.bits) ≡ 2 ^ long = ap (λ (n : ℕ). 2 ^ n) lv in
-          rw (left, right, same, same') (omega (arith, r)),
-    ))
-    h
+pushed_better score bit gain long a v ga gv la lv h =
+    let ranks : rank a < rank v → rank (pushed a bit) < rank (pushed v bit) =
+    λ r. rw (rank_of-pushed a bit long la, rank_of-pushed v bit long lv) (omega (arith, r)) in
+    leads_both (score a) (score v) (score (pushed a bit)) (score (pushed v bit)) gain ga gv ranks h
 
 pub extended_lists : (softs : List ℤ) (Kind : Word → Type 0) (bit : Bool) (gain : ℤ) (long k : ℕ)
     (es : List Entry) →

@@ -1,8 +1,6 @@
 -- Lists that agree element by element, and their merges.
-use Rattle.std.proofs.Common.{◌≡◌, ℕ, zero, suc, ◌≤◌, Bool, true, false, List, [], ◌∷◌, length, ap}
-use Rattle.std.proofs.Common.{subst, ◌∙◌, arith, ℤ}
-use Rattle.std.specs.Prelude.{int_lt, if◌then◌else◌}
-use Rattle.list_viterbi.specs.Merging.{merge}
+use Rattle.list_viterbi.proofs.Common.{◌≡◌, ℕ, zero, suc, ◌≤◌, Bool, true, false, List, [], ◌∷◌, length, ap, subst, ◌∙◌, arith, ℤ, int_lt}
+use Rattle.list_viterbi.proofs.Common.{if◌then◌else◌, merge}
 
 abbrev pub Pairs : {A B : Type 0} → (A → B → Type 0) → List A → List B → Type 0
 Pairs R [] [] = Unit {0}

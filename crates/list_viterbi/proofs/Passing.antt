@@ -1,11 +1,7 @@
 -- The first word that passes a test, and the best word.
-use Rattle.std.proofs.Common.{◌≡◌, ℕ, zero, suc, ◌<◌, Bool, true, false, List, [], ◌∷◌, length}
-use Rattle.std.proofs.Common.{refl, sym, ap, subst, ◌∙◌, arith, ℤ, ◌⊎◌, ⊎_elim, Option, Some, None}
-use Rattle.std.specs.Prelude.{slice_get, cond}
-use Rattle.std.specs.List.{find}
-use Rattle.viterbi.specs.Words.{Word, score_of, IsBetter}
-use Rattle.viterbi.specs.Best.{IsAllowed}
-use Rattle.list_viterbi.specs.Laws.{NamesOneList, HaveBestFirst, HaveFirstPassing}
+use Rattle.list_viterbi.proofs.Common.{◌≡◌, ℕ, zero, suc, ◌<◌, Bool, true, false, List, [], ◌∷◌, length, refl, sym, ap, subst, ◌∙◌, arith}
+use Rattle.list_viterbi.proofs.Common.{ℤ, ◌⊎◌, ⊎_elim, Option, Some, None, slice_get, cond, find, Word, score_of, IsBetter, IsAllowed}
+use Rattle.list_viterbi.proofs.Common.{NamesOneList, HaveBestFirst, HaveFirstPassing}
 use Rattle.list_viterbi.proofs.Firsts.{After, Firsts, firsts_of, one_list, not_both, not_self}
 
 pub one_list_law : NamesOneList

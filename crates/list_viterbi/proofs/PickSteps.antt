@@ -1,13 +1,7 @@
 -- What the program's steps make, in the words of the picks.
-use Rattle.std.proofs.Common.{◌≡◌, ℕ, ◌+◌, ◌*◌, ◌%◌, ◌^◌, ◌<◌, ◌≤◌, List, [], length, get_or, ap}
-use Rattle.std.proofs.Common.{set, subst, sym, ◌∙◌, arith, ℤ, pos, ◌-ℤ◌, unsigned_abs, ⊎_elim}
-use Rattle.std.specs.Prelude.{All}
-use Rattle.std.proofs.lemmas.Int.{ints}
-use Rattle.std.proofs.lemmas.Bool.{cases_eq}
-use Rattle.std.proofs.lemmas.List.{get_or_read, get_or-set_same, get_or-set_other}
-use Rattle.list_viterbi.specs.Merging.{merge}
-use Rattle.list_viterbi.specs.Picks.{pick_score, picks_from, picks_by, picks_into}
-use Rattle.list_viterbi.specs.Picks.{HasPicks, LeavesRoom}
+use Rattle.list_viterbi.proofs.Common.{◌≡◌, ℕ, ◌+◌, ◌*◌, ◌%◌, ◌^◌, ◌<◌, ◌≤◌, List, [], length, get_or, ap, set, subst, sym, ◌∙◌, arith, ℤ}
+use Rattle.list_viterbi.proofs.Common.{pos, ◌-ℤ◌, unsigned_abs, ⊎_elim, All, ints, cases_eq, get_or_read, get_or-set_same, get_or-set_other}
+use Rattle.list_viterbi.proofs.Common.{merge, pick_score, picks_from, picks_by, picks_into, HasPicks, LeavesRoom}
 
 -- a list of the row
 pub item_at : (row : List (List ℤ)) (t oldest place : ℕ) (item : List ℤ) →

@@ -1,16 +1,10 @@
 -- Picks out of lists of scores, and how many were taken.
-use Rattle.std.proofs.Common.{◌≡◌, ℕ, zero, suc, ◌+◌, ◌*◌, ◌^◌, ◌<◌, ◌≤◌, Bool, true, false, List}
-use Rattle.std.proofs.Common.{[], ◌∷◌, ◌++◌, length, map, drop, get_or, refl, sym, ap, subst, ◌∙◌}
-use Rattle.std.proofs.Common.{arith, ℤ, pos, ◌+ℤ◌, Some, length-append}
-use Rattle.std.specs.Prelude.{slice_get, int_lt}
-use Rattle.std.proofs.lemmas.Option.{slice_get-get_or}
-use Rattle.std.proofs.lemmas.List.{map-append, length-map}
-use Rattle.chip_core.specs.Bits.{digit}
-use Rattle.viterbi.specs.Rows.{taken_of}
-use Rattle.list_viterbi.specs.Merging.{second_is_next, merge}
-use Rattle.list_viterbi.specs.Picks.{Pick, pick_score, picks_from, ones_below, HasChoices, HasPicks}
-use Rattle.list_viterbi.proofs.Walks.{IsPart, second_over, second_only, second_by_score, second_has}
-use Rattle.list_viterbi.proofs.Walks.{took_first, took_second, took_none, all_taken}
+use Rattle.list_viterbi.proofs.Common.{◌≡◌, ℕ, zero, suc, ◌+◌, ◌*◌, ◌^◌, ◌<◌, ◌≤◌, Bool, true, false, List, [], ◌∷◌, ◌++◌, length, map}
+use Rattle.list_viterbi.proofs.Common.{drop, get_or, refl, sym, ap, subst, ◌∙◌, arith, ℤ, pos, ◌+ℤ◌, Some, length-append, slice_get, int_lt}
+use Rattle.list_viterbi.proofs.Common.{slice_get-get_or, map-append, length-map, digit, taken_of, second_is_next, merge, Pick, pick_score}
+use Rattle.list_viterbi.proofs.Common.{picks_from, ones_below, HasChoices, HasPicks}
+use Rattle.list_viterbi.proofs.Walks.{IsPart, second_over, second_only, second_by_score, second_has, took_first, took_second, took_none}
+use Rattle.list_viterbi.proofs.Walks.{all_taken}
 use Rattle.list_viterbi.proofs.Masks.{grown, chosen_more, ones_more, ones_none, pointer_by}
 
 -- the pick at a place

@@ -1,29 +1,13 @@
 -- The first places of the definition.
-use Rattle.std.proofs.Common.{◌≡◌, ℕ, zero, suc, ◌+◌, ◌*◌, ◌<◌, ◌≤◌, Bool, true, false, List, []}
-use Rattle.std.proofs.Common.{◌∷◌, ◌++◌, length, map, get_or, refl, sym, ap, subst, ◌∙◌, arith, ℤ}
-use Rattle.std.proofs.Common.{◌<ℤ◌, ◌⊎◌, ⊎_elim, inl, inr, nat_eq, length-append}
-use Rattle.std.specs.Prelude.{min, eqb, nat_lt, if◌then◌else◌, All, AllPairs, Contains}
-use Rattle.std.specs.List.{list_any, IsDistinct}
-use Rattle.std.proofs.lemmas.Int.{ints, by_lt_z}
-use Rattle.std.proofs.lemmas.Bool.{cases_order, cases_lt}
-use Rattle.std.proofs.lemmas.Bool.Decides.{nat_tests}
-use Rattle.std.proofs.lemmas.List.Elements.{All-nil, All-push, All-map, All-tail, All-head}
-use Rattle.std.proofs.lemmas.List.Elements.{All-contains}
-use Rattle.std.proofs.lemmas.List.Quantifiers.{all_pairs_push}
-use Rattle.std.proofs.lemmas.List.Kept.{AllPairs-cons}
-use Rattle.std.proofs.lemmas.Map.Steps.{length-le_from_distinct_below}
-use Rattle.std.proofs.lemmas.Map.Keys.{IsDistinct-from_apart}
-use Rattle.std.proofs.lemmas.Map.Views.{Contains-from_any}
-use Rattle.std.proofs.lemmas.List.{get_or-map, length-map}
-use Rattle.chip_core.specs.Sums.{first_places, greatest_unless}
-use Rattle.viterbi.specs.Words.{Word, score_of, IsBetter, word_at, word_count}
-use Rattle.viterbi.specs.Best.{IsAllowed}
-use Rattle.viterbi.specs.declared.word.Ends.{Ends}
-use Rattle.viterbi.specs.declared.word.Ends.TheVariants.{Zero, Free}
-use Rattle.list_viterbi.specs.First.{AreFirst, first_words}
+use Rattle.list_viterbi.proofs.Common.{◌≡◌, ℕ, zero, suc, ◌+◌, ◌*◌, ◌<◌, ◌≤◌, Bool, true, false, List, [], ◌∷◌, ◌++◌, length, map, get_or}
+use Rattle.list_viterbi.proofs.Common.{refl, sym, ap, subst, ◌∙◌, arith, ℤ, ◌<ℤ◌, ◌⊎◌, ⊎_elim, inl, inr, nat_eq, length-append, min, eqb}
+use Rattle.list_viterbi.proofs.Common.{nat_lt, if◌then◌else◌, All, AllPairs, Contains, list_any, IsDistinct, ints, by_lt_z, cases_order}
+use Rattle.list_viterbi.proofs.Common.{cases_lt, nat_tests, All-nil, All-push, All-map, All-tail, All-head, All-contains, all_pairs_push}
+use Rattle.list_viterbi.proofs.Common.{AllPairs-cons, length-le_from_distinct_below, IsDistinct-from_apart, Contains-from_any, get_or-map}
+use Rattle.list_viterbi.proofs.Common.{length-map, first_places, greatest_unless, Word, score_of, IsBetter, word_at, word_count, IsAllowed}
+use Rattle.list_viterbi.proofs.Common.{Ends, Zero, Free, AreFirst, first_words, word_at_allowed, step_of, rank-word_at, allowed_at}
+use Rattle.list_viterbi.proofs.Common.{IsGreatestUnless, AllTaken, scanned, nat_lt-true}
 use Rattle.list_viterbi.proofs.Firsts.{one_list}
-use Rattle.viterbi.proofs.Unique.{word_at_allowed, step_of, rank-word_at, allowed_at}
-use Rattle.chip_core.proofs.Unless.{IsGreatestUnless, AllTaken, scanned, nat_lt-true}
 
 -- a greater value, or the same and a lesser place
 abbrev pub IsBefore : (ℕ → ℤ) → ℕ → ℕ → Type 0

@@ -1,24 +1,12 @@
 -- One bit more can be added to every word, and its score doesn't wrap; and what the last lists
 -- give.
-use Rattle.std.proofs.Common.{◌≡◌, ℕ, zero, suc, ◌+◌, ◌*◌, ◌^◌, ◌<◌, ◌≤◌, Bool, List, [], ◌∷◌}
-use Rattle.std.proofs.Common.{length, map, get_or, ap, subst, sym, arith, ℤ, pos, unsigned_abs}
-use Rattle.std.specs.Prelude.{All}
-use Rattle.std.specs.List.{sum_by}
-use Rattle.std.proofs.lemmas.List.Elements.{All-nil, All-cons}
-use Rattle.viterbi.specs.Words.{Word, score_of}
-use Rattle.viterbi.specs.Best.{IsAllowed}
-use Rattle.viterbi.specs.States.{low_bits}
-use Rattle.viterbi.specs.Survivors.{end_count}
-use Rattle.viterbi.specs.declared.word.Ends.{Ends}
-use Rattle.viterbi.proofs.Scores.{pair_size}
-use Rattle.viterbi.proofs.Rooms.{score_size}
-use Rattle.viterbi.proofs.Steps.{Into}
-use Rattle.viterbi.proofs.Made.{end_count_le}
-use Rattle.list_viterbi.specs.declared.words.Entry.{Entry}
-use Rattle.list_viterbi.specs.First.{AreFirst, HaveScores, word_of}
-use Rattle.list_viterbi.specs.Merging.{HasRoom, first_lists}
+use Rattle.list_viterbi.proofs.Common.{◌≡◌, ℕ, zero, suc, ◌+◌, ◌*◌, ◌^◌, ◌<◌, ◌≤◌, Bool, List, [], ◌∷◌, length, map, get_or, ap, subst, sym}
+use Rattle.list_viterbi.proofs.Common.{arith, ℤ, pos, unsigned_abs, All, sum_by, All-nil, All-cons, Word, score_of, IsAllowed, low_bits}
+use Rattle.list_viterbi.proofs.Common.{end_count, Ends, pair_size, score_size, Into, end_count_le, Entry, AreFirst, HaveScores, word_of}
+use Rattle.list_viterbi.proofs.Common.{HasRoom, first_lists, ◌∙◌, min, length-map, word_count}
 use Rattle.list_viterbi.proofs.Firsts.{After, are_first}
 use Rattle.list_viterbi.proofs.Merges.{Lists}
+use Rattle.list_viterbi.proofs.Places.{how_many}
 use Rattle.list_viterbi.proofs.Steps.{Listed, first_lists_lists, ends_lists}
 
 each_of : (softs : List ℤ) (Kind : Word → Type 0) (k : ℕ) (P : Entry → Type 0) (es : List Entry) →
@@ -70,3 +58,9 @@ pub found_scores : (softs : List ℤ) (Kind : Word → Type 0) (k : ℕ) (es : L
     Lists softs Kind k es → HaveScores softs es
 found_scores softs Kind k es h = each_of softs Kind k (λ e. e.score ≡ score_of softs (word_of e)) es
     (λ e is scored. scored) h
+
+pub found_number : (softs : List ℤ) (ends : Ends) (n k : ℕ) (es : List Entry) → 8 ≤ n →
+    Lists softs (IsAllowed ends n) k es → length es ≡ min k (word_count ends n)
+found_number softs ends n k es long h =
+    sym (length-map es word_of)
+    ∙ how_many softs ends n k (map word_of es) long (found_first softs (IsAllowed ends n) k es h)

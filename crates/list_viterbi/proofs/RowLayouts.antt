@@ -1,18 +1,9 @@
 -- The scores of all states by their places and by their states.
-use Rattle.std.proofs.Common.{◌≡◌, ℕ, zero, suc, ◌+◌, ◌-◌, ◌<◌, List, [], ◌∷◌, length}
-use Rattle.std.proofs.Common.{get_or, set, refl, sym, ap, subst, ◌∙◌, ⊎_elim, arith, ℤ, pos, Some}
-use Rattle.std.proofs.Common.{Bool, true, false}
-use Rattle.std.specs.Prelude.{slice_get, All, if◌then◌else◌}
-use Rattle.std.proofs.lemmas.Bool.{cases_lt}
-use Rattle.std.proofs.lemmas.Option.{get_or_from_slice_get}
-use Rattle.std.proofs.lemmas.List.{get_or-set_same, get_or-set_other, length-set}
-use Rattle.list_viterbi.specs.Rows.{find_score, finds_from, first_finds}
-use Rattle.list_viterbi.specs.Merging.{merge}
-use Rattle.list_viterbi.specs.declared.finds.Find.{Find}
-use Rattle.list_viterbi.specs.Heads.{four_of, row_of, RowValue}
-use Rattle.list_viterbi.specs.Picks.{HasPicks, picks_into}
-use Rattle.list_viterbi.proofs.Pairings.{read_at}
-use Rattle.list_viterbi.proofs.LanePuts.{four_are}
+use Rattle.list_viterbi.proofs.Common.{◌≡◌, ℕ, zero, suc, ◌+◌, ◌-◌, ◌<◌, List, [], ◌∷◌, length, get_or, set, refl, sym, ap, subst, ◌∙◌}
+use Rattle.list_viterbi.proofs.Common.{⊎_elim, arith, ℤ, pos, Some, Bool, true, false, slice_get, All, if◌then◌else◌, cases_lt}
+use Rattle.list_viterbi.proofs.Common.{get_or_from_slice_get, get_or-set_same, get_or-set_other, length-set, find_score, finds_from}
+use Rattle.list_viterbi.proofs.Common.{first_finds, merge, Find, four_of, row_of, RowValue, HasPicks, picks_into}
+use Rattle.list_viterbi.proofs.LanePuts.{four_are, read_at}
 use Rattle.list_viterbi.proofs.LanePicks.{row_read}
 
 -- four scores are put

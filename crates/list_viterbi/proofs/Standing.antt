@@ -1,23 +1,9 @@
 -- Scores and rows of choices stand for the lists of the first words into each state.
-use Rattle.std.proofs.Common.{◌≡◌, ℕ, suc, ◌+◌, ◌*◌, ◌^◌, ◌<◌, ◌≤◌, Bool, true, false, List}
-use Rattle.std.proofs.Common.{[], ◌∷◌, length, get_or, map, set, take, refl, sym, subst, ◌∙◌}
-use Rattle.std.proofs.Common.{arith, ℤ, pos, unsigned_abs}
-use Rattle.std.specs.Prelude.{nat_eq, if◌then◌else◌, All}
-use Rattle.std.specs.Int.{reverse_bits_onto}
-use Rattle.std.specs.List.{range_with_len, sum_by}
-use Rattle.std.proofs.lemmas.List.{get_or-set_same, get_or-set_other, get_or-take}
-use Rattle.std.proofs.lemmas.List.FromFn.{get_or-map-range_with_len}
-use Rattle.viterbi.specs.States.{low_bits}
-use Rattle.viterbi.specs.Best.{HasStart}
-use Rattle.viterbi.specs.declared.word.Ends.{Ends}
-use Rattle.viterbi.specs.declared.word.Ends.TheVariants.{Zero, Free}
-use Rattle.viterbi.proofs.StateBits.{binary-turned}
-use Rattle.viterbi.proofs.Steps.{Into}
-use Rattle.viterbi.proofs.Finish.{zero_start}
-use Rattle.list_viterbi.specs.declared.words.Entry.{Entry}
-use Rattle.list_viterbi.specs.Merging.{list_into, Start}
-use Rattle.list_viterbi.specs.Picks.{picks_into, HasPicks}
-use Rattle.list_viterbi.specs.Rows.{starts_at, start_scores, origin, path}
+use Rattle.list_viterbi.proofs.Common.{◌≡◌, ℕ, suc, ◌+◌, ◌*◌, ◌^◌, ◌<◌, ◌≤◌, Bool, true, false, List, [], ◌∷◌, length, get_or, map, set}
+use Rattle.list_viterbi.proofs.Common.{take, refl, sym, subst, ◌∙◌, arith, ℤ, pos, unsigned_abs, nat_eq, if◌then◌else◌, All}
+use Rattle.list_viterbi.proofs.Common.{reverse_bits_onto, range_with_len, sum_by, get_or-set_same, get_or-set_other, get_or-take}
+use Rattle.list_viterbi.proofs.Common.{get_or-map-range_with_len, low_bits, HasStart, Ends, Zero, Free, binary-turned, Into, zero_start}
+use Rattle.list_viterbi.proofs.Common.{Entry, list_into, Start, picks_into, HasPicks, starts_at, start_scores, origin, path}
 use Rattle.list_viterbi.proofs.Merges.{Lists}
 use Rattle.list_viterbi.proofs.Steps.{Listed, listed_start, list_into_lists}
 use Rattle.list_viterbi.proofs.Rooms.{rooms}

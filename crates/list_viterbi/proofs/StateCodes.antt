@@ -1,12 +1,7 @@
 -- What a bit adds, by a state's code.
-use Rattle.std.proofs.Common.{◌≡◌, ℕ, ◌+◌, ◌*◌, ◌/◌, ◌%◌, ◌<◌, ◌≤◌, Bool, true, false, get_or}
-use Rattle.std.proofs.Common.{arith, sym, subst}
-use Rattle.std.proofs.Common.{ℤ, ◌+ℤ◌, ◌*ℤ◌, unsigned_abs, to_z, of_z, w64}
-use Rattle.std.proofs.lemmas.Int.{ints, to_z-of_z}
-use mir.Val.{SFits}
-use Rattle.chip_core.specs.Bits.{bit_of, sign}
-use Rattle.viterbi.specs.Lanes.{kinds, code_of, gain_by}
-use Rattle.viterbi.proofs.BlockSteps.{kind_small, lane_small}
+use Rattle.list_viterbi.proofs.Common.{◌≡◌, ℕ, ◌+◌, ◌*◌, ◌/◌, ◌%◌, ◌<◌, ◌≤◌, Bool, true, false, get_or, arith, sym, subst, ℤ, ◌+ℤ◌, ◌*ℤ◌}
+use Rattle.list_viterbi.proofs.Common.{unsigned_abs, to_z, of_z, w64, ints, to_z-of_z, SFits, bit_of, sign, kinds, code_of, gain_by}
+use Rattle.list_viterbi.proofs.Common.{kind_small, lane_small}
 
 pub code_small : (t : ℕ) → t < 256 → code_of t < 4
 code_small t b =

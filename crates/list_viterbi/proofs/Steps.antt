@@ -1,28 +1,12 @@
 -- From the lists after some bits to those after one bit more.
-use Rattle.std.proofs.Common.{◌≡◌, ℕ, zero, suc, ◌+◌, ◌*◌, ◌%◌, ◌^◌, ◌<◌, ◌≤◌, Bool, true, false}
-use Rattle.std.proofs.Common.{List, [], ◌∷◌, ◌++◌, length, get_or, refl, sym, ap, subst, ◌∙◌, arith}
-use Rattle.std.proofs.Common.{ℤ, pos, ◌+ℤ◌, ⊎_elim, inl, inr}
-use Rattle.std.specs.Prelude.{nat_le}
-use Rattle.std.proofs.lemmas.Bool.{cases_lt}
-use Rattle.chip_core.specs.Bits.{digit, binary}
-use Rattle.chip_core.specs.Packed.{low_first}
-use Rattle.chip_core.proofs.RegisterBits.{length-binary}
-use Rattle.conv_code.specs.ConvCode.{state_after}
-use Rattle.conv_code.proofs.Continued.{state_after-none}
-use Rattle.viterbi.specs.Words.{Word, rank, score_of, IsBetter}
-use Rattle.viterbi.specs.Best.{HasStart, IsAllowed}
-use Rattle.viterbi.specs.States.{low_bits}
-use Rattle.viterbi.specs.Survivors.{gain_of, end_count}
-use Rattle.viterbi.specs.declared.word.Ends.{Ends}
-use Rattle.viterbi.proofs.StateBits.{length-low_bits, low_first-low_bits}
-use Rattle.viterbi.proofs.Scores.{score_of-pushed}
-use Rattle.viterbi.proofs.Choices.{IsPushed, Either, rank-pushed, words_same}
-use Rattle.viterbi.proofs.Steps.{Into, joined_long, order_by_state, pushed_into, came_from}
-use Rattle.viterbi.proofs.Steps.{before_below, nine_bits, state_before, state_parts}
-use Rattle.viterbi.proofs.Finish.{IntoBelow, allowed_into, into_allowed, no_bits, score-none}
-use Rattle.list_viterbi.specs.declared.words.Entry.{Entry}
-use Rattle.list_viterbi.specs.First.{word_of}
-use Rattle.list_viterbi.specs.Merging.{list_from, list_into, first_lists, Start}
+use Rattle.list_viterbi.proofs.Common.{◌≡◌, ℕ, zero, suc, ◌+◌, ◌*◌, ◌%◌, ◌<◌, ◌≤◌, Bool, true, false, List, [], ◌∷◌, ◌++◌, length, get_or}
+use Rattle.list_viterbi.proofs.Common.{refl, sym, ap, subst, ◌∙◌, arith, ℤ, inl, digit, binary, length-binary, state_after}
+use Rattle.list_viterbi.proofs.Common.{state_after-none, Word, score_of, IsBetter, HasStart, IsAllowed, low_bits, gain_of, end_count, Ends}
+use Rattle.list_viterbi.proofs.Common.{words_same, From, Into, before_below, first_soft, from_states, joined_long, newest_bit, pushed_score}
+use Rattle.list_viterbi.proofs.Common.{second_soft, seven_bits, state_parts, to_state, zero_first, IntoBelow, allowed_into, below_first}
+use Rattle.list_viterbi.proofs.Common.{below_or_last, into_allowed, more_below, no_bits, score-none, Entry, word_of, list_from, list_into}
+use Rattle.list_viterbi.proofs.Common.{first_lists, Start}
+use Rattle.viterbi.proofs.Steps.{state_before}
 use Rattle.list_viterbi.proofs.Firsts.{After, not_self}
 use Rattle.list_viterbi.proofs.Merges.{Lists, same_lists, merge_lists, extended_lists}
 
@@ -31,80 +15,33 @@ abbrev pub Listed : List ℤ → Ends → ℕ → ℕ → List (List Entry) → 
 Listed softs ends k n row = (t : ℕ) → t < 256 →
     Lists softs (Into ends n (low_bits 8 t)) k (get_or row t [])
 
-module _ (softs : List ℤ) (ends : Ends) (k n : ℕ) (row : List (List Entry))
-    (room : 2 * n + 2 ≤ length softs) (listed : Listed softs ends k n row) (t : ℕ)
-    (below : t < 256) where
-  abbrev first_soft : ℤ
-  first_soft = get_or softs (2 * n) (pos 0)
+-- the first words that come from a state before
+from_list : (softs : List ℤ) (ends : Ends) (k n : ℕ) (row : List (List Entry)) →
+    2 * n + 2 ≤ length softs → Listed softs ends k n row → (t : ℕ) → t < 256 → (oldest : Bool) →
+    Lists softs (From ends n t oldest) k
+    (list_from row (first_soft softs n) (second_soft softs n) t (digit oldest))
+unfolding list_from
+from_list softs ends k n row room listed t below oldest =
+    let place = 2 * (t % 128) + digit oldest in
+    let here : Lists softs (Into ends n (oldest ∷ seven_bits t)) k (get_or row place []) =
+    rw (state_before t oldest) at (listed place (before_below t oldest)) in
+    extended_lists softs (Into ends n (oldest ∷ seven_bits t)) (newest_bit t)
+    (gain_of (first_soft softs n) (second_soft softs n) (low_bits 9 (2 * t + digit oldest))) (8 + n)
+    k (get_or row place []) (pushed_score softs ends n t oldest room below)
+    (joined_long ends n (oldest ∷ seven_bits t)) here
 
-  abbrev second_soft : ℤ
-  second_soft = get_or softs (2 * n + 1) (pos 0)
-
-  abbrev seven_bits : List Bool
-  seven_bits = low_bits 7 (t % 128)
-
-  abbrev newest_bit : Bool
-  newest_bit = nat_le 128 t
-
-  -- the first words that come from a state before
-  from_list : (oldest : Bool) →
-      Lists softs (IsPushed (Into ends n (oldest ∷ seven_bits)) newest_bit) k
-      (list_from row first_soft second_soft t (digit oldest))
-  unfolding list_from
-  from_list oldest =
-      let place = 2 * (t % 128) + digit oldest in
-      let here : Lists softs (Into ends n (oldest ∷ seven_bits)) k (get_or row place []) =
-      rw (state_before t oldest) at (listed place (before_below t oldest)) in
-      extended_lists softs (Into ends n (oldest ∷ seven_bits)) newest_bit
-      (gain_of first_soft second_soft (low_bits 9 (2 * t + digit oldest))) (8 + n) k
-      (get_or row place [])
-      (λ w h. score_of-pushed softs w newest_bit n h.start_long h.bits_long room
-      ∙ ap (λ (nine : List Bool). score_of softs w +ℤ gain_of first_soft second_soft nine)
-      (ap (λ (s : List Bool). s ++ newest_bit ∷ []) h.reached ∙ sym (nine_bits t oldest below)))
-      (λ w h. joined_long ends n (oldest ∷ seven_bits) w h)
-      here
-
-  -- of words of equal score the one that comes from the lesser state is first
-  zero_first : (w v : Word) → IsPushed (Into ends n (false ∷ seven_bits)) newest_bit w →
-      IsPushed (Into ends n (true ∷ seven_bits)) newest_bit v → rank w < rank v
-  zero_first w v p q =
-      let a = p.before in
-      let b = q.before in
-      let less : low_first (false ∷ seven_bits) < low_first (true ∷ seven_bits) = omega arith in
-      let order =
-      order_by_state ends n (false ∷ seven_bits) (true ∷ seven_bits) a b p.kind q.kind less in
-      let left : rank w ≡ rank a + 2 ^ (8 + n) * digit newest_bit =
-      ap rank p.is ∙ rank-pushed a newest_bit ∙ ap (λ (m : ℕ). rank a + 2 ^ m * digit newest_bit)
-      (joined_long ends n _ a p.kind) in
-      let right : rank v ≡ rank b + 2 ^ (8 + n) * digit newest_bit =
-      ap rank q.is ∙ rank-pushed b newest_bit ∙ ap (λ (m : ℕ). rank b + 2 ^ m * digit newest_bit)
-      (joined_long ends n _ b q.kind) in
-      rw (left, right) (omega (arith, order))
-
-  to_state : (oldest : Bool) (w : Word) →
-      IsPushed (Into ends n (oldest ∷ seven_bits)) newest_bit w →
-      Into ends (suc n) (seven_bits ++ newest_bit ∷ []) w
-  to_state oldest w p = subst (λ (v : Word). Into ends (suc n) (seven_bits ++ newest_bit ∷ []) v)
-      (sym p.is) (pushed_into ends n oldest newest_bit seven_bits p.before p.kind)
-
-  by_oldest : (oldest : Bool) (w : Word) →
-      IsPushed (Into ends n (oldest ∷ seven_bits)) newest_bit w →
-      Either (IsPushed (Into ends n (false ∷ seven_bits)) newest_bit)
-      (IsPushed (Into ends n (true ∷ seven_bits)) newest_bit) w
-  by_oldest true w p = inr p
-  by_oldest false w p = inl p
-
-  pub list_into_lists : Lists softs (Into ends (suc n) (low_bits 8 t)) k
-      (list_into row first_soft second_soft k t)
-  unfolding list_into
-  list_into_lists =
-      rw (state_parts t below)
-      (same_lists softs _ (Into ends (suc n) (seven_bits ++ newest_bit ∷ [])) k _
-      (λ w e. ⊎_elim (to_state false w) (to_state true w) e)
-      (λ w h. let c = came_from ends n newest_bit seven_bits w (length-low_bits 7 (t % 128)) h in
-      by_oldest c.oldest w c.from)
-      (merge_lists softs _ _ k k k _ _ (omega arith) (omega arith) zero_first (from_list false)
-      (from_list true)))
+pub list_into_lists : (softs : List ℤ) (ends : Ends) (k n : ℕ) (row : List (List Entry)) →
+    2 * n + 2 ≤ length softs → Listed softs ends k n row → (t : ℕ) → t < 256 →
+    Lists softs (Into ends (suc n) (low_bits 8 t)) k
+    (list_into row (first_soft softs n) (second_soft softs n) k t)
+unfolding list_into
+list_into_lists softs ends k n row room listed t below =
+    rw (state_parts t below)
+    (same_lists softs _ (Into ends (suc n) (seven_bits t ++ newest_bit t ∷ [])) k _
+    (to_state ends n t) (from_states ends n t)
+    (merge_lists softs (From ends n t false) (From ends n t true) k k k _ _ (omega arith)
+    (omega arith) (zero_first ends n t) (from_list softs ends k n row room listed t below false)
+    (from_list softs ends k n row room listed t below true)))
 
 -- BEFORE THE FIRST BIT
 pub start_lists : (softs : List ℤ) (ends : Ends) (k t : ℕ) (es : List Entry) → Start ends t es →
@@ -159,25 +96,10 @@ first_lists_lists softs ends k n row zero most listed = none_below softs ends n 
 first_lists_lists softs ends k n row (suc count) most listed =
     let before = first_lists_lists softs ends k n row count (omega (arith, most)) listed in
     let here = listed count (omega (arith, most)) in
-    same_lists softs _ (IntoBelow ends n (suc count)) k _
-    (λ w e. ⊎_elim
-    (λ p. record { state = p.state; below = let b = p.below in omega (arith, b); into = p.into })
-    (λ p. record { state = count; below = omega arith; into = p })
-    e)
-    (λ w p. ⊎_elim
-    (λ lt. inl (record { state = p.state; below = lt; into = p.into }))
-    (λ ge. let b = p.below in let last : p.state ≡ count = omega (arith, b, ge) in
-    inr (subst (λ (t : ℕ). Into ends n (low_bits 8 t) w) last p.into))
-    (cases_lt p.state count))
+    same_lists softs _ (IntoBelow ends n (suc count)) k _ (more_below ends n count)
+    (below_or_last ends n count)
     (merge_lists softs (IntoBelow ends n count) (Into ends n (low_bits 8 count)) k k k _ _
-    (omega arith) (omega arith)
-    (λ w v p q.
-    let b = p.below in
-    let left = low_first-low_bits 8 p.state (omega (arith, b, most)) in
-    let right = low_first-low_bits 8 count (omega (arith, most)) in
-    order_by_state ends n (low_bits 8 p.state) (low_bits 8 count) w v p.into q
-    (omega (arith, b, left, right)))
-    before here)
+    (omega arith) (omega arith) (below_first ends n count (omega (arith, most))) before here)
 
 pub ends_lists : (softs : List ℤ) (ends : Ends) (k n : ℕ) (es : List Entry) → 8 ≤ n →
     Lists softs (IntoBelow ends n (end_count ends)) k es → Lists softs (IsAllowed ends n) k es

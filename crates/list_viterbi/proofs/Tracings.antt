@@ -1,9 +1,6 @@
 -- One step back along the rows.
-use Rattle.std.proofs.Common.{◌≡◌, ℕ, suc, ◌+◌, ◌<◌, ◌≤◌, Bool, List, [], ◌∷◌, ◌++◌, length, drop}
-use Rattle.std.proofs.Common.{set, refl, sym, arith, append_assoc, append-nil}
-use Rattle.std.specs.Prelude.{nat_le}
-use Rattle.std.proofs.lemmas.List.{drop-set, drop_all}
-use Rattle.list_viterbi.specs.Rows.{state_before, place_before, origin, path}
+use Rattle.list_viterbi.proofs.Common.{◌≡◌, ℕ, suc, ◌+◌, ◌<◌, ◌≤◌, Bool, List, [], ◌∷◌, ◌++◌, length, drop, set, refl, sym, arith}
+use Rattle.list_viterbi.proofs.Common.{append_assoc, append-nil, nat_le, drop-set, drop_all, state_before, place_before, origin, path}
 
 pub origin-back : (rows : List (List ℕ)) (n j t place before rank : ℕ) → n ≡ suc j →
     before ≡ state_before rows j t place → rank ≡ place_before rows j t place →
@@ -29,7 +26,7 @@ path-none : (rows : List (List ℕ)) (t place : ℕ) → path rows 0 t place ≡
 unfolding path
 path-none rows t place = refl
 
-pub origin-none : (rows : List (List ℕ)) (t place : ℕ) → origin rows 0 t place ≡ t
+origin-none : (rows : List (List ℕ)) (t place : ℕ) → origin rows 0 t place ≡ t
 unfolding origin
 origin-none rows t place = refl
 
@@ -40,6 +37,9 @@ all_left rows n m t place bits is few =
     rw (is, drop_all n bits few) (append-nil (path rows n t place))
 
 -- after the last
+pub origin_left : (rows : List (List ℕ)) (n t place : ℕ) → n ≡ 0 → t ≡ origin rows n t place
+origin_left rows n t place is = rw is (sym (origin-none rows t place))
+
 pub none_left : (rows : List (List ℕ)) (n t place : ℕ) (bits : List Bool) → n ≡ 0 →
     path rows n t place ++ drop n bits ≡ bits
 none_left rows n t place bits is = rw (is, path-none rows t place) refl

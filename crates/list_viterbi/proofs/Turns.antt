@@ -1,15 +1,8 @@
 -- Turns make the picks.
-use Rattle.std.proofs.Common.{◌≡◌, ℕ, zero, suc, ◌+◌, ◌-◌, ◌*◌, ◌^◌, ◌<◌, ◌≤◌, Bool, true, false, List}
-use Rattle.std.proofs.Common.{[], ◌∷◌, ◌++◌, length, get_or, refl, sym, ap, subst, ◌∙◌, arith, ℤ}
-use Rattle.std.proofs.Common.{pos, ◌+ℤ◌}
-use Rattle.std.specs.Prelude.{int_lt}
-use Rattle.std.proofs.lemmas.List.{append-nil, append_assoc}
-use Rattle.chip_core.specs.Bits.{digit}
-use Rattle.viterbi.specs.Rows.{taken_of}
-use Rattle.list_viterbi.specs.Merging.{merge}
-use Rattle.list_viterbi.specs.Picks.{pick_score, picks_from, HasPicks}
-use Rattle.list_viterbi.specs.Turns.{even_left, odd_left, odd_first, greater_head}
-use Rattle.list_viterbi.specs.Turns.{turned_scores, turned_choices}
+use Rattle.list_viterbi.proofs.Common.{◌≡◌, ℕ, zero, suc, ◌+◌, ◌-◌, ◌*◌, ◌^◌, ◌<◌, ◌≤◌, Bool, true, false, List, [], ◌∷◌, ◌++◌, length}
+use Rattle.list_viterbi.proofs.Common.{get_or, refl, sym, ap, subst, ◌∙◌, arith, ℤ, pos, ◌+ℤ◌, int_lt, digit, taken_of, merge, pick_score}
+use Rattle.list_viterbi.proofs.Common.{picks_from, HasPicks, even_left, odd_left, odd_first, greater_head, turned_scores, turned_choices}
+use Rattle.list_viterbi.proofs.Common.{append-nil, append_assoc}
 use Rattle.list_viterbi.proofs.Masks.{weight_next, digit_most}
 use Rattle.list_viterbi.proofs.Picks.{IsPicked, picked_none, picked_next, picked_all}
 

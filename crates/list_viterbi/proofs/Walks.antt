@@ -1,11 +1,7 @@
 -- A merge, one element after another.
-use Rattle.std.proofs.Common.{◌≡◌, ℕ, zero, suc, ◌+◌, ◌<◌, ◌≤◌, true, false, List, [], ◌∷◌, ◌++◌}
-use Rattle.std.proofs.Common.{length, map, take, drop, refl, sym, ap, ◌∙◌, arith, ℤ, Some}
-use Rattle.std.proofs.Common.{append_assoc, append-nil}
-use Rattle.std.specs.Prelude.{int_lt, slice_get}
-use Rattle.std.proofs.lemmas.List.{drop_more, drop_all, take_more, map-append}
-use Rattle.std.proofs.lemmas.Option.{get_or_from_slice_get}
-use Rattle.list_viterbi.specs.Merging.{second_is_next, merge}
+use Rattle.list_viterbi.proofs.Common.{◌≡◌, ℕ, zero, suc, ◌+◌, ◌<◌, ◌≤◌, true, false, List, [], ◌∷◌, ◌++◌, length, map, take, drop, refl}
+use Rattle.list_viterbi.proofs.Common.{sym, ap, ◌∙◌, arith, ℤ, Some, append_assoc, append-nil, int_lt, slice_get, drop_more, drop_all}
+use Rattle.list_viterbi.proofs.Common.{take_more, map-append, get_or_from_slice_get, second_is_next, merge}
 
 no_true : ¬ (true ≡ false)
 no_true e = grind (arith, e)

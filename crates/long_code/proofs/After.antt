@@ -1,13 +1,8 @@
 -- States so many chips later.
-use Rattle.std.proofs.Common.{◌≡◌, ℕ, ◌+◌, ◌*◌, ◌/◌, ◌%◌, ◌^◌, ◌<◌, Bool, true, false, cond, [], ◌∷◌, ◌++◌, length, refl, sym, ap, ◌∙◌, arith, bit_xor}
-use Rattle.std.proofs.lemmas.Nat.{xor_lt}
-use Rattle.chip_core.specs.Bits.{number, binary, bit_of, places}
-use Rattle.chip_core.proofs.BitLists.{add}
-use Rattle.chip_core.proofs.RegisterBits.{length-binary}
-use Rattle.long_code.specs.LongCode.{below, after}
+use Rattle.long_code.proofs.Common.{◌≡◌, ℕ, ◌+◌, ◌*◌, ◌/◌, ◌%◌, ◌^◌, ◌<◌, Bool, true, false, cond, [], ◌∷◌, ◌++◌, length, refl, sym, ap}
+use Rattle.long_code.proofs.Common.{◌∙◌, arith, bit_xor, xor_lt, number, binary, bit_of, places, add, length-binary, below, after}
+use Rattle.long_code.proofs.Common.{binary-front, binary-number_from, binary-xor, binary-double, binary-low, number-binary, number_lt}
 use Rattle.long_code.proofs.Division.{shifted, times_x, remainder-zeros, length_times_x, times_x-times_x}
-use Rattle.chip_core.proofs.Numerals.{binary-front, binary-number_from}
-use Rattle.chip_core.proofs.Digits.{binary-xor, binary-double, binary-low, number-binary, number_lt}
 
 pub length-below : length below ≡ 42
 unfolding places

@@ -1,13 +1,9 @@
 -- A division by x undoes a step.
-use Rattle.std.proofs.Common.{◌≡◌, ℕ, zero, suc, ◌^◌, ◌<◌, Bool, true, false, List, [], ◌∷◌, ◌++◌, length, reverse, refl, sym, ap, ◌∙◌, arith, length-append}
-use Rattle.std.proofs.lemmas.List.{reverse-append, reverse-reverse, length-reverse}
-use Rattle.chip_core.specs.Bits.{xor, number, binary, places}
-use Rattle.chip_core.proofs.BitLists.{add, length_add, zip_push}
-use Rattle.chip_core.proofs.Numerals.{binary-number_from}
-use Rattle.chip_core.proofs.RegisterBits.{length-binary}
-use Rattle.long_code.specs.LongCode.{below, above, after, before}
+use Rattle.long_code.proofs.Common.{◌≡◌, ℕ, zero, suc, ◌^◌, ◌<◌, Bool, true, false, List, [], ◌∷◌, ◌++◌, length, reverse, refl, sym, ap}
+use Rattle.long_code.proofs.Common.{◌∙◌, arith, length-append, reverse-append, reverse-reverse, length-reverse, xor, number, binary, places}
+use Rattle.long_code.proofs.Common.{add, length_add, zip_push, binary-number_from, length-binary, below, above, after, before}
+use Rattle.long_code.proofs.Common.{number-binary, number_lt}
 use Rattle.long_code.proofs.Division.{shifted, times_x, length_shifted, length_times_x, remainder-zeros, shifted-times_x}
-use Rattle.chip_core.proofs.Digits.{number-binary, number_lt}
 use Rattle.long_code.proofs.After.{after_is}
 
 add_twice : (a b : List Bool) → length a ≡ length b → add (add a b) b ≡ a

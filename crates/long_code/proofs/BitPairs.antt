@@ -1,11 +1,7 @@
 -- 64 chips at once: the product of each two bits with x^64 stands in a table.
-use Rattle.std.proofs.Common.{◌≡◌, ℕ, ◌+◌, ◌*◌, ◌/◌, ◌%◌, ◌^◌, ◌<◌, Bool, true, List, [], ◌∷◌, refl, sym, ap, ◌∙◌, arith, nat_eq, slice_index_or, bit_and, bit_xor}
-use Rattle.std.proofs.lemmas.Bool.{agree_below, agree_below_at, eqb-true}
-use Rattle.std.proofs.lemmas.Nat.{xor_comm, and_mask, shr-shr, mod-pow-add, pow_pos}
-use Rattle.std.proofs.Math.Nat.{mod-lt}
-use Rattle.std.specs.Int.Bits.{xor_shifted}
-use Rattle.chip_core.specs.Bits.{binary, places}
-use Rattle.long_code.specs.LongCode.{after}
+use Rattle.long_code.proofs.Common.{◌≡◌, ℕ, ◌+◌, ◌*◌, ◌/◌, ◌%◌, ◌^◌, ◌<◌, Bool, true, List, [], ◌∷◌, refl, sym, ap, ◌∙◌, arith, nat_eq}
+use Rattle.long_code.proofs.Common.{slice_index_or, bit_and, bit_xor, agree_below, agree_below_at, eqb-true, xor_comm, and_mask, shr-shr}
+use Rattle.long_code.proofs.Common.{mod-pow-add, pow_pos, mod-lt, xor_shifted, binary, places, after}
 use Rattle.long_code.proofs.Product.{after-xor}
 
 -- the code's table

@@ -1,9 +1,6 @@
 -- Chips under a mask.
-use Rattle.std.proofs.Common.{◌≡◌, ℕ, ◌+◌, ◌^◌, ◌<◌, sym, ap, ◌∙◌, nat_eq, bit_and}
-use Rattle.std.specs.Int.RustNames.{count_ones}
-use Rattle.chip_core.specs.Bits.{binary, common_parity}
-use Rattle.chip_core.proofs.CommonParity.{common_parity-ones}
-use Rattle.long_code.specs.LongCode.{after, long_chip}
+use Rattle.long_code.proofs.Common.{◌≡◌, ℕ, ◌+◌, ◌^◌, ◌<◌, sym, ap, ◌∙◌, nat_eq, bit_and, count_ones, binary, common_parity}
+use Rattle.long_code.proofs.Common.{common_parity-ones, after, long_chip}
 use Rattle.long_code.proofs.After.{after-after, after_none}
 
 -- the code's chip

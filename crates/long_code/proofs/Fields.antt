@@ -1,14 +1,9 @@
 -- Masks, field after field.
-use Rattle.std.proofs.Common.{◌≡◌, ℕ, zero, suc, ◌+◌, ◌*◌, ◌/◌, ◌%◌, ◌^◌, ◌<◌, ◌≤◌, Bool, true, false, List, [], ◌∷◌, ◌++◌, length, get_or, take, map, replicate, refl, sym, ap, ◌∙◌, arith, nat_eq, nat_lt, bit_and, bit_or, append_assoc, length-append}
-use Rattle.std.proofs.lemmas.Nat.{or_shifted, and_mask}
-use Rattle.std.proofs.lemmas.Bool.{agree_below, agree_below_at}
-use Rattle.std.proofs.lemmas.List.{take_more, map-append, length-take-le, length-map}
-use Rattle.std.proofs.Math.Pow.{pow_mono}
-use Rattle.chip_core.specs.Bits.{digit, number, binary, bit_of}
-use Rattle.chip_core.proofs.Numerals.{number_from-append}
-use Rattle.chip_core.proofs.RegisterBits.{length-binary}
-use Rattle.long_code.specs.LongCode.{paging_mask, permuted, traffic_mask}
-use Rattle.chip_core.proofs.Digits.{digit_of, number-binary, number_lt}
+use Rattle.long_code.proofs.Common.{◌≡◌, ℕ, zero, suc, ◌+◌, ◌*◌, ◌/◌, ◌%◌, ◌^◌, ◌<◌, ◌≤◌, Bool, true, false, List, [], ◌∷◌, ◌++◌, length}
+use Rattle.long_code.proofs.Common.{get_or, take, map, replicate, refl, sym, ap, ◌∙◌, arith, nat_eq, nat_lt, bit_and, bit_or, append_assoc}
+use Rattle.long_code.proofs.Common.{length-append, or_shifted, and_mask, agree_below, agree_below_at, take_more, map-append, length-take-le}
+use Rattle.long_code.proofs.Common.{length-map, pow_mono, digit, number, binary, bit_of, number_from-append, length-binary, paging_mask}
+use Rattle.long_code.proofs.Common.{permuted, traffic_mask, digit_of, number-binary, number_lt}
 
 -- one bit more
 number-push : (bs : List Bool) (b : Bool) → number (bs ++ b ∷ []) ≡ 2 * number bs + digit b

@@ -2,6 +2,7 @@ pub mod After
 pub mod Before
 pub mod BitPairs
 pub mod Chips
+pub mod Common
 pub mod Division
 pub mod Fields
 pub mod Period

@@ -1,10 +1,7 @@
 -- Every state returns after 2^42 - 1 chips: the checker computes that power of x by squaring.
-use Rattle.std.proofs.Common.{◌≡◌, ℕ, zero, suc, ◌+◌, ◌-◌, ◌*◌, ◌/◌, ◌^◌, ◌<◌, ◌≤◌, Bool, cond, List, [], ◌∷◌, length, refl, sym, ap, ◌∙◌, arith, bit_xor}
-use Rattle.std.proofs.lemmas.Nat.{shr_le, shr-shr, pow_pos}
-use Rattle.chip_core.specs.Bits.{digit, number_from, binary}
-use Rattle.chip_core.proofs.Numerals.{number_from-front}
-use Rattle.long_code.specs.LongCode.{IsState, after, before, period}
-use Rattle.chip_core.proofs.Digits.{number-binary}
+use Rattle.long_code.proofs.Common.{◌≡◌, ℕ, zero, suc, ◌+◌, ◌-◌, ◌*◌, ◌/◌, ◌^◌, ◌<◌, ◌≤◌, Bool, cond, List, [], ◌∷◌, length, refl, subst}
+use Rattle.long_code.proofs.Common.{sym, ap, ◌∙◌, arith, bit_xor, shr_le, shr-shr, pow_pos, digit, number_from, binary, number_from-front}
+use Rattle.long_code.proofs.Common.{IsState, after, before, period, number-binary}
 use Rattle.long_code.proofs.After.{stepped, after_lt, after-after, after_one, after_none}
 use Rattle.long_code.proofs.Product.{after-zero, digit_more}
 use Rattle.long_code.proofs.Before.{after-before, before_lt}
@@ -111,6 +108,9 @@ IsState-after s n (p, q) = (
       omega (arith, p, none)),
   after_lt s n,
 )
+
+pub moved_state : (s n next : ℕ) → next ≡ after s n → IsState s → IsState next
+moved_state s n next is h = subst (λ (m : ℕ). IsState m) (sym is) (IsState-after s n h)
 
 -- the state so many chips earlier
 pub after-rest : (s n : ℕ) → s < 2 ^ 42 → n ≤ period → after (after s (period - n)) n ≡ s

@@ -1,13 +1,8 @@
 -- Products with powers of x.
-use Rattle.std.proofs.Common.{◌≡◌, ℕ, zero, suc, ◌+◌, ◌-◌, ◌*◌, ◌/◌, ◌%◌, ◌^◌, ◌<◌, Bool, true, false, cond, length, sym, ap, ◌∙◌, arith, nat_eq, bit_xor, bit_and}
-use Rattle.std.proofs.lemmas.Nat.{xor_lt, xor_block, shr-shr, shr_le, and_mask}
-use Rattle.std.specs.Int.Bits.{xor_zero_r}
-use Rattle.chip_core.specs.Bits.{number, binary, bit_of, digit}
-use Rattle.chip_core.proofs.BitLists.{add}
-use Rattle.chip_core.proofs.RegisterBits.{length-binary}
-use Rattle.long_code.specs.LongCode.{below, after}
+use Rattle.long_code.proofs.Common.{◌≡◌, ℕ, zero, suc, ◌+◌, ◌-◌, ◌*◌, ◌/◌, ◌%◌, ◌^◌, ◌<◌, Bool, true, false, cond, length, sym, ap, ◌∙◌}
+use Rattle.long_code.proofs.Common.{arith, nat_eq, bit_xor, bit_and, xor_lt, xor_block, shr-shr, shr_le, and_mask, xor_zero_r, number}
+use Rattle.long_code.proofs.Common.{binary, bit_of, digit, add, length-binary, below, after, binary-xor, number-binary, digit_of}
 use Rattle.long_code.proofs.Division.{times_x, times_x-add}
-use Rattle.chip_core.proofs.Digits.{binary-xor, number-binary, digit_of}
 use Rattle.long_code.proofs.After.{after_is, binary-after, after_lt, after-after, after_one, length-below}
 
 state_length : (s : ℕ) → length (binary 42 s) ≡ length below

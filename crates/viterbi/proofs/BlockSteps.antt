@@ -1,23 +1,11 @@
 -- A block of eight states by the words of the definitions.
-use Rattle.std.proofs.Common.{◌≡◌, ℕ, zero, suc, ◌+◌, ◌-◌, ◌*◌, ◌/◌, ◌%◌, ◌^◌, ◌<◌, ◌≤◌, Bool, true}
-use Rattle.std.proofs.Common.{false, List, [], ◌∷◌, length, map, take, drop, get_or, refl, sym, ap}
-use Rattle.std.proofs.Common.{◌∙◌, arith, ℤ, pos, ◌+ℤ◌, ◌-ℤ◌, ◌*ℤ◌, ◌≤ℤ◌, ◌<ℤ◌, negsuc, FitsSigned}
-use Rattle.std.proofs.Common.{unsigned_abs, to_z, of_z, w64}
-use Rattle.std.specs.Prelude.{nat_lt, int_lt}
-use Rattle.std.specs.List.{list_all, range_with_len}
-use Rattle.std.proofs.lemmas.Int.{ints, to_z-of_z, fits_signed_from_abs}
-use Rattle.std.proofs.lemmas.Bool.{and_parts}
-use Rattle.std.proofs.lemmas.Bool.Decides.{nat_tests}
-use Rattle.std.proofs.lemmas.List.{get_or-map, get_or-drop, get_or-take, length-map, length-drop}
-use Rattle.std.proofs.lemmas.List.{length-take-le}
-use Rattle.std.proofs.lemmas.List.FromFn.{get_or-range_with_len, length-range_with_len}
-use Rattle.std.proofs.lemmas.Simd.{get_or-chunk, length-chunk, Each1-from_get_or}
-use lib.Lanes.{Each1, Each2, chunk}
-use Rattle.chip_core.specs.Bits.{bit_of, sign}
-use Rattle.viterbi.specs.States.{low_bits}
-use Rattle.viterbi.specs.Survivors.{gain_of}
-use Rattle.viterbi.specs.Rows.{wants, taken_of, metric_from, metric_into, choice_into}
-use Rattle.viterbi.specs.Lanes.{lane_codes, kinds, gain_by, code_of, Fit}
+use Rattle.viterbi.proofs.Common.{◌≡◌, ℕ, zero, suc, ◌+◌, ◌-◌, ◌*◌, ◌/◌, ◌%◌, ◌^◌, ◌<◌, ◌≤◌, Bool, true, false, List, [], ◌∷◌, length, map}
+use Rattle.viterbi.proofs.Common.{take, drop, get_or, refl, sym, ap, ◌∙◌, arith, ℤ, pos, ◌+ℤ◌, ◌-ℤ◌, ◌*ℤ◌, ◌≤ℤ◌, ◌<ℤ◌, negsuc, FitsSigned}
+use Rattle.viterbi.proofs.Common.{unsigned_abs, to_z, of_z, w64, nat_lt, int_lt, list_all, range_with_len, ints, to_z-of_z}
+use Rattle.viterbi.proofs.Common.{fits_signed_from_abs, and_parts, nat_tests, get_or-map, get_or-drop, get_or-take, length-map}
+use Rattle.viterbi.proofs.Common.{length-take-le, get_or-range_with_len, length-range_with_len, get_or-chunk, length-chunk}
+use Rattle.viterbi.proofs.Common.{Each1-from_get_or, Each1, Each2, chunk, bit_of, sign, low_bits, gain_of, wants, taken_of, metric_from}
+use Rattle.viterbi.proofs.Common.{metric_into, choice_into, lane_codes, kinds, gain_by, code_of, Fit, length-drop}
 use Rattle.viterbi.proofs.Codes.{code_gains}
 use Rattle.viterbi.proofs.Blocks.{passed, kept}
 
@@ -94,23 +82,23 @@ lanes_made f s four small is j b =
     (omega (arith, b, lanes_long))
     ∙ rw (is c few) (to_z-of_z w64 (gain_by f s c) (fits_signed_from_abs w64 (gain_by f s c) size))
 
-pub gains_read : (xs : List ℤ) (at l : ℕ) → length xs ≡ 32 → at + 8 ≤ 32 → l < 8 →
+pub gains_read : (n : ℕ) (xs : List ℤ) (at l : ℕ) → length xs ≡ 32 → at + n ≤ 32 → l < n →
     FitsSigned w64 (get_or xs (at + l) (pos 0)) →
-    get_or (passed (chunk 0 8 (take (32 - at) (drop at xs)))) l (pos 0) ≡ get_or xs (at + l) (pos 0)
-gains_read xs at l long room b fits =
+    get_or (passed (chunk 0 n (take (32 - at) (drop at xs)))) l (pos 0) ≡ get_or xs (at + l) (pos 0)
+gains_read n xs at l long room b fits =
     let part = take (32 - at) (drop at xs) in
     let size : length part ≡ 32 - at = length-take-le (32 - at) (drop at xs)
     (omega (arith, length-drop at xs, long)) in
-    let lanes = chunk 0 8 part in
-    let eight : length lanes ≡ 8 = length-chunk 0 8 part (omega (arith, size, room)) in
+    let lanes = chunk 0 n part in
+    let many : length lanes ≡ n = length-chunk 0 n part (omega (arith, size, room)) in
     let read : get_or lanes l (pos 0) ≡ get_or xs (at + l) (pos 0) =
-    get_or-chunk 0 8 part l (pos 0) b
+    get_or-chunk 0 n part l (pos 0) b
     ∙ ap (λ (i : ℕ). get_or part i (pos 0)) (omega arith)
     ∙ get_or-take (32 - at) (drop at xs) l (pos 0) (omega (arith, room, b))
     ∙ get_or-drop at xs l (pos 0) in
     get_or-map (to_z w64) (map (of_z w64) lanes) l 0 (pos 0)
-    (omega (arith, b, eight, length-map lanes (of_z w64)))
-    ∙ ap (to_z w64) (get_or-map (of_z w64) lanes l (pos 0) 0 (omega (arith, b, eight)))
+    (omega (arith, b, many, length-map lanes (of_z w64)))
+    ∙ ap (to_z w64) (get_or-map (of_z w64) lanes l (pos 0) 0 (omega (arith, b, many)))
     ∙ ap (λ (z : ℤ). to_z w64 (of_z w64 z)) read
     ∙ to_z-of_z w64 _ fits
 

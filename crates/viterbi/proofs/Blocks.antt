@@ -1,13 +1,7 @@
 -- Eight states, lane by lane.
-use Rattle.std.proofs.Common.{◌≡◌, ℕ, ◌<◌, false, List, [], ◌∷◌, length, map, get_or}
-use Rattle.std.proofs.Common.{refl, sym, ap, ◌∙◌, arith, ℤ, pos, ◌+ℤ◌, ◌-ℤ◌, FitsSigned, to_z, of_z}
-use Rattle.std.proofs.Common.{w64}
-use Rattle.std.specs.Prelude.{int_lt}
-use Rattle.std.proofs.lemmas.Int.{to_z-of_z}
-use Rattle.std.proofs.lemmas.Simd.{get_or-zip2, length-zip2}
-use lib.Lanes.{Each1, Each2, zip2}
-use Rattle.viterbi.specs.Lanes.{Fit}
-use Rattle.viterbi.specs.Rows.{taken_of}
+use Rattle.viterbi.proofs.Common.{◌≡◌, ℕ, ◌<◌, false, List, [], ◌∷◌, length, map, get_or, refl, sym, ap, ◌∙◌, arith, ℤ, pos, ◌+ℤ◌, ◌-ℤ◌}
+use Rattle.viterbi.proofs.Common.{FitsSigned, to_z, of_z, w64, int_lt, to_z-of_z, get_or-zip2, length-zip2, Each1, Each2, zip2, Fit}
+use Rattle.viterbi.proofs.Common.{taken_of}
 
 pub sums_fit : (xs ys : List ℤ) → Each2 (λ x y. Fit x y (x +ℤ y)) xs ys →
     Each1 (λ x. FitsSigned w64 x) (zip2 (λ x y. x +ℤ y) xs ys)

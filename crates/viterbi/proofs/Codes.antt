@@ -1,16 +1,8 @@
 -- The table of codes against the symbols, which the checker computes.
-use Rattle.std.proofs.Common.{◌≡◌, ℕ, zero, suc, ◌+◌, ◌*◌, ◌<◌, Bool, true, false, List, [], ◌∷◌}
-use Rattle.std.proofs.Common.{length, get_or, refl, sym, ap, ◌∙◌, arith, ℤ, pos, ◌+ℤ◌, ◌-ℤ◌, ◌*ℤ◌}
-use Rattle.std.specs.Prelude.{not, nat_lt, ◌&&◌}
-use Rattle.std.specs.List.{list_all, range_with_len}
-use Rattle.std.proofs.lemmas.Int.{ints}
-use Rattle.std.proofs.lemmas.List.FromFn.{get_or-range_with_len, length-range_with_len}
-use Rattle.std.proofs.lemmas.Bool.{and_parts}
-use Rattle.chip_core.specs.Bits.{bit_of, sign, places}
-use Rattle.conv_code.specs.ConvCode.{g0, g1, symbol}
-use Rattle.viterbi.specs.States.{low_bits}
-use Rattle.viterbi.specs.Survivors.{gain_of}
-use Rattle.viterbi.specs.Lanes.{lane_codes, kinds, gain_by, code_of}
+use Rattle.viterbi.proofs.Common.{◌≡◌, ℕ, zero, suc, ◌+◌, ◌*◌, ◌<◌, Bool, true, false, List, [], ◌∷◌, length, get_or, refl, sym, ap, ◌∙◌}
+use Rattle.viterbi.proofs.Common.{arith, ℤ, pos, ◌+ℤ◌, ◌-ℤ◌, ◌*ℤ◌, not, nat_lt, ◌&&◌, list_all, range_with_len, ints, get_or-range_with_len}
+use Rattle.viterbi.proofs.Common.{length-range_with_len, and_parts, bit_of, sign, places, g0, g1, symbol, low_bits, gain_of, lane_codes}
+use Rattle.viterbi.proofs.Common.{kinds, gain_by, code_of}
 
 abbrev eq : Bool → Bool → Bool
 eq true b = b

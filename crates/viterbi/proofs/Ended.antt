@@ -1,23 +1,9 @@
 -- Metrics and rows before the first bit, and the best word from those after the last.
-use Rattle.std.proofs.Common.{◌≡◌, ℕ, zero, suc, ◌*◌, ◌<◌, ◌≤◌, Bool, false, List, [], length}
-use Rattle.std.proofs.Common.{get_or, map, refl, sym, ap, subst, ◌∙◌, arith, ℤ, pos, ◌+ℤ◌, ◌<ℤ◌}
-use Rattle.std.proofs.Common.{◌≤ℤ◌, ⊎_elim, inl, inr, Option, Some, None}
-use Rattle.std.specs.Int.{reverse_bits_onto}
-use Rattle.std.specs.List.{range_with_len}
-use Rattle.std.proofs.lemmas.Int.{ints, by_lt_z}
-use Rattle.std.proofs.lemmas.List.FromFn.{get_or-map-range_with_len}
-use Rattle.std.proofs.lemmas.Bool.{cases_lt, eqb-true}
-use Rattle.std.proofs.lemmas.Bool.Decides.{nat_tests}
-use Rattle.chip_core.specs.Bits.{binary}
-use Rattle.chip_core.specs.Sums.{IsFirstGreatest}
-use Rattle.viterbi.specs.Words.{Word, score_of}
-use Rattle.viterbi.specs.Best.{spelled, IsBestWord}
-use Rattle.viterbi.specs.States.{low_bits}
-use Rattle.viterbi.specs.Survivors.{Start, end_count}
-use Rattle.viterbi.specs.Rows.{origin, path, forced_at, Agrees}
-use Rattle.viterbi.specs.declared.word.Ends.{Ends}
-use Rattle.viterbi.specs.declared.word.Ends.TheVariants.{Zero, Free}
-use Rattle.viterbi.specs.declared.survivor.Survivor.{Survivor}
+use Rattle.viterbi.proofs.Common.{◌≡◌, ℕ, zero, suc, ◌*◌, ◌<◌, ◌≤◌, Bool, false, List, [], length, get_or, map, refl, sym, ap, subst, ◌∙◌}
+use Rattle.viterbi.proofs.Common.{arith, ℤ, pos, ◌+ℤ◌, ◌<ℤ◌, ◌≤ℤ◌, ⊎_elim, inl, inr, Option, Some, None, reverse_bits_onto, range_with_len}
+use Rattle.viterbi.proofs.Common.{ints, by_lt_z, get_or-map-range_with_len, cases_lt, eqb-true, nat_tests, binary, IsFirstGreatest, Word}
+use Rattle.viterbi.proofs.Common.{score_of, spelled, IsBestWord, low_bits, Start, end_count, origin, path, forced_at, Agrees, Ends, Zero}
+use Rattle.viterbi.proofs.Common.{Free, Survivor}
 use Rattle.viterbi.proofs.StateBits.{binary-turned, low_first-low_bits}
 use Rattle.viterbi.proofs.Choices.{IsBest, IsBestOf, AtLeast, at_least_trans, words_same}
 use Rattle.viterbi.proofs.Steps.{Into, order_by_state}

@@ -1,8 +1,6 @@
 -- What two symbols add to the score, by a state's code.
-use Rattle.std.proofs.Common.{◌≡◌, ℕ, zero, suc, ◌+◌, ◌<◌, ◌≤◌, ◌^◌, [], ◌∷◌, get_or, arith, ℤ, pos}
-use Rattle.std.proofs.Common.{◌+ℤ◌, ◌-ℤ◌, unsigned_abs, to_z, of_z, w64}
-use Rattle.std.proofs.lemmas.Int.{ints}
-use Rattle.viterbi.specs.Lanes.{gain_by}
+use Rattle.viterbi.proofs.Common.{◌≡◌, ℕ, zero, suc, ◌+◌, ◌<◌, ◌≤◌, ◌^◌, [], ◌∷◌, get_or, arith, ℤ, pos, ◌+ℤ◌, ◌-ℤ◌, unsigned_abs, to_z}
+use Rattle.viterbi.proofs.Common.{of_z, w64, ints, gain_by}
 
 pub gains_are : (f s : ℤ) → unsigned_abs f + unsigned_abs s ≤ 2 ^ 62 → (c : ℕ) → c < 4 →
     get_or {A = ℤ} (to_z w64 (of_z w64 (to_z w64 (of_z w64 f) +ℤ to_z w64 (of_z w64 s)))

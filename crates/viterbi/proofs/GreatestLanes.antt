@@ -1,14 +1,7 @@
 -- The greatest metrics, lane by lane.
-use Rattle.std.proofs.Common.{◌≡◌, ℕ, ◌+◌, ◌*◌, ◌/◌, ◌%◌, ◌<◌, Bool, true, false, List, length}
-use Rattle.std.proofs.Common.{get_or, refl, sym, ap, ◌∙◌, arith, ℤ, pos, negsuc, ◌≤ℤ◌, FitsSigned}
-use Rattle.std.proofs.Common.{w64, ◌⊎◌, inl, inr, replicate}
-use Rattle.std.specs.Prelude.{int_lt}
-use Rattle.std.proofs.lemmas.Int.{ints}
-use Rattle.std.proofs.lemmas.Bool.{cases_eq}
-use Rattle.std.proofs.lemmas.List.{get_or-replicate}
-use Rattle.std.proofs.lemmas.Simd.{get_or-zip2, length-zip2, Each1-get_or, Each1-from_get_or}
-use lib.Lanes.{Each1, zip2}
-use Rattle.viterbi.specs.Rows.{IsGreatest, taken_of}
+use Rattle.viterbi.proofs.Common.{◌≡◌, ℕ, ◌+◌, ◌*◌, ◌/◌, ◌%◌, ◌<◌, Bool, true, false, List, length, get_or, refl, sym, ap, ◌∙◌, arith, ℤ}
+use Rattle.viterbi.proofs.Common.{pos, negsuc, ◌≤ℤ◌, FitsSigned, w64, ◌⊎◌, inl, inr, replicate, int_lt, ints, cases_eq, get_or-replicate}
+use Rattle.viterbi.proofs.Common.{get_or-zip2, length-zip2, Each1-get_or, Each1-from_get_or, Each1, zip2, IsGreatest, taken_of}
 use Rattle.viterbi.proofs.Blocks.{passed, kept}
 
 abbrev pub greater_of : ℤ → ℤ → ℤ

@@ -1,3 +1,4 @@
+pub mod Common
 pub mod Ranks
 pub mod StateBits
 pub mod Scores

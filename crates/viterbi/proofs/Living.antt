@@ -1,19 +1,9 @@
 -- Which states have a survivor.
-use Rattle.std.proofs.Common.{◌≡◌, ℕ, ◌+◌, ◌*◌, ◌%◌, ◌<◌, ◌≤◌, Bool, true, false, List, ◌++◌}
-use Rattle.std.proofs.Common.{length, take, drop, get_or, replicate, refl, sym, ap, ◌∙◌, arith, ℤ}
-use Rattle.std.proofs.Common.{Option, Some, None, length-append, length-drop}
-use Rattle.std.specs.Prelude.{nat_eq}
-use Rattle.std.proofs.lemmas.List.{length-replicate, take-append-drop, take-append-le}
-use Rattle.std.proofs.lemmas.List.{take-replicate, length-take-le, drop_at, get_or-drop}
-use Rattle.std.proofs.lemmas.List.{get_or_append_left, get_or-replicate}
-use Rattle.std.proofs.lemmas.Bool.Decides.{nat_tests}
-use Rattle.viterbi.specs.Words.{Word}
-use Rattle.viterbi.specs.Best.{HasStart, spelled}
-use Rattle.viterbi.specs.States.{low_bits}
-use Rattle.viterbi.specs.Rows.{forced_at, Alive}
-use Rattle.viterbi.specs.declared.word.Ends.{Ends}
-use Rattle.viterbi.specs.declared.word.Ends.TheVariants.{Zero, Free}
-use Rattle.viterbi.specs.declared.survivor.Survivor.{Survivor}
+use Rattle.viterbi.proofs.Common.{◌≡◌, ℕ, ◌+◌, ◌*◌, ◌%◌, ◌<◌, ◌≤◌, Bool, true, false, List, ◌++◌, length, take, drop, get_or, replicate}
+use Rattle.viterbi.proofs.Common.{refl, sym, ap, ◌∙◌, arith, ℤ, Option, Some, None, length-append, length-drop, nat_eq, length-replicate}
+use Rattle.viterbi.proofs.Common.{take-append-drop, take-append-le, take-replicate, length-take-le, drop_at, get_or-drop}
+use Rattle.viterbi.proofs.Common.{get_or_append_left, get_or-replicate, nat_tests, Word, HasStart, spelled, low_bits, forced_at, Alive}
+use Rattle.viterbi.proofs.Common.{Ends, Zero, Free, Survivor}
 use Rattle.viterbi.proofs.StateBits.{length-low_bits, low_bits-more}
 use Rattle.viterbi.proofs.Choices.{IsBestOf}
 use Rattle.viterbi.proofs.Steps.{Into, Survive}

@@ -1,43 +1,41 @@
 -- Neighbours parted into two vectors.
-use Rattle.std.proofs.Common.{◌≡◌, ℕ, zero, suc, ◌+◌, ◌-◌, ◌*◌, ◌<◌, ◌≤◌, List, [], ◌∷◌, ◌++◌, map}
-use Rattle.std.proofs.Common.{length, get_or, refl, ap, ◌∙◌, arith, ℤ, pos, to_z, of_z, w64}
-use Rattle.std.proofs.Common.{FitsSigned, ⊎_elim}
-use Rattle.std.proofs.lemmas.Int.{to_z-of_z}
-use Rattle.std.proofs.lemmas.List.{get_or-map, get_or_append_left, get_or-append_right, length-map}
-use Rattle.std.proofs.lemmas.Simd.{length-chunk, get_or-chunk}
-use Rattle.std.proofs.lemmas.Bool.{cases_lt}
-use lib.Lanes.{chunk}
+use Rattle.viterbi.proofs.Common.{◌≡◌, ℕ, zero, suc, ◌+◌, ◌-◌, ◌*◌, ◌<◌, ◌≤◌, List, [], ◌∷◌, ◌++◌, map, length, get_or, refl, ap, ◌∙◌}
+use Rattle.viterbi.proofs.Common.{arith, ℤ, pos, to_z, of_z, w64, FitsSigned, ⊎_elim, to_z-of_z, get_or-map, get_or_append_left}
+use Rattle.viterbi.proofs.Common.{get_or-append_right, length-map, length-chunk, get_or-chunk, cases_lt, chunk}
 
-abbrev pub two_chunks : List ℤ → ℕ → List ℕ
-two_chunks row at = map (of_z w64) (chunk at 8 row) ++ map (of_z w64) (chunk (at + 8) 8 row)
+-- two vectors of so many
+abbrev pub two_chunks : ℕ → List ℤ → ℕ → List ℕ
+two_chunks n row at = map (of_z w64) (chunk at n row) ++ map (of_z w64) (chunk (at + n) n row)
 
-one : (row : List ℤ) (at j : ℕ) → at + 8 ≤ length row → j < 8 →
-    get_or (map (of_z w64) (chunk at 8 row)) j 0 ≡ of_z w64 (get_or row (at + j) (pos 0))
-one row at j room b =
-    let long = length-chunk at 8 row room in
-    get_or-map (of_z w64) (chunk at 8 row) j (pos 0) 0 (omega (arith, b, long))
-    ∙ ap (of_z w64) (get_or-chunk at 8 row j (pos 0) b)
+one : (n : ℕ) (row : List ℤ) (at j : ℕ) → at + n ≤ length row → j < n →
+    get_or (map (of_z w64) (chunk at n row)) j 0 ≡ of_z w64 (get_or row (at + j) (pos 0))
+one n row at j room b =
+    let long = length-chunk at n row room in
+    get_or-map (of_z w64) (chunk at n row) j (pos 0) 0 (omega (arith, b, long))
+    ∙ ap (of_z w64) (get_or-chunk at n row j (pos 0) b)
 
-size_of : (row : List ℤ) (at : ℕ) → at + 8 ≤ length row → length (map (of_z w64) (chunk at 8 row))
-    ≡ 8
-size_of row at room = length-map (chunk at 8 row) (of_z w64) ∙ length-chunk at 8 row room
+size_of : (n : ℕ) (row : List ℤ) (at : ℕ) → at + n ≤ length row →
+    length (map (of_z w64) (chunk at n row)) ≡ n
+size_of n row at room = length-map (chunk at n row) (of_z w64) ∙ length-chunk at n row room
 
-pub lane_read : (row : List ℤ) (at j : ℕ) → at + 16 ≤ length row → j < 16 →
+pub lane_read : (n : ℕ) (row : List ℤ) (at j : ℕ) → at + (n + n) ≤ length row → j < n + n →
     FitsSigned w64 (get_or row (at + j) (pos 0)) →
-    to_z w64 (get_or (two_chunks row at) j 0) ≡ get_or row (at + j) (pos 0)
-lane_read row at j room b fits =
+    to_z w64 (get_or (two_chunks n row at) j 0) ≡ get_or row (at + j) (pos 0)
+lane_read n row at j room b fits =
+    let first : at + n ≤ length row = omega (arith, room) in
+    let second : at + n + n ≤ length row = omega (arith, room) in
     ⊎_elim
     (λ low. ap (to_z w64)
-    (get_or_append_left (map (of_z w64) (chunk at 8 row)) (map (of_z w64) (chunk (at + 8) 8 row)) 0
-    j (omega (arith, low, size_of row at (omega (arith, room))))
-    ∙ one row at j (omega (arith, room)) low) ∙ to_z-of_z w64 _ fits)
-    (λ high. let place : at + 8 + (j - 8) ≡ at + j = omega (arith, high) in
+    (get_or_append_left (map (of_z w64) (chunk at n row)) (map (of_z w64) (chunk (at + n) n row)) 0
+    j (omega (arith, low, size_of n row at first))
+    ∙ one n row at j first low) ∙ to_z-of_z w64 _ fits)
+    (λ high. let place : at + n + (j - n) ≡ at + j = omega (arith, high) in
     ap (to_z w64)
-    (get_or-append_right (map (of_z w64) (chunk at 8 row)) (map (of_z w64) (chunk (at + 8) 8 row)) 8
-    j 0 (size_of row at (omega (arith, room))) high
-    ∙ one row (at + 8) (j - 8) (omega (arith, room)) (omega (arith, b, high))
+    (get_or-append_right (map (of_z w64) (chunk at n row)) (map (of_z w64) (chunk (at + n) n row)) n
+    j 0 (size_of n row at first) high
+    ∙ one n row (at + n) (j - n) second (omega (arith, b, high))
     ∙ ap (λ (i : ℕ). of_z w64 (get_or row i (pos 0))) place) ∙ to_z-of_z w64 _ fits)
-    (cases_lt j 8)
+    (cases_lt j n)
 
 pub evens : (f : ℕ → ℤ) (l : ℕ) → l < 8 →
     get_or (f 0 ∷ f 2 ∷ f 4 ∷ f 6 ∷ f 8 ∷ f 10 ∷ f 12 ∷ f 14 ∷ []) l (pos 0) ≡ f (2 * l)
@@ -53,12 +51,4 @@ evens f (suc (suc (suc (suc (suc (suc (suc (suc l)))))))) b = absurd (omega (ari
 
 pub odds : (f : ℕ → ℤ) (l : ℕ) → l < 8 →
     get_or (f 1 ∷ f 3 ∷ f 5 ∷ f 7 ∷ f 9 ∷ f 11 ∷ f 13 ∷ f 15 ∷ []) l (pos 0) ≡ f (2 * l + 1)
-odds f zero b = refl
-odds f (suc zero) b = refl
-odds f (suc (suc zero)) b = refl
-odds f (suc (suc (suc zero))) b = refl
-odds f (suc (suc (suc (suc zero)))) b = refl
-odds f (suc (suc (suc (suc (suc zero))))) b = refl
-odds f (suc (suc (suc (suc (suc (suc zero)))))) b = refl
-odds f (suc (suc (suc (suc (suc (suc (suc zero))))))) b = refl
-odds f (suc (suc (suc (suc (suc (suc (suc (suc l)))))))) b = absurd (omega (arith, b))
+odds f l b = evens (λ (j : ℕ). f (j + 1)) l b

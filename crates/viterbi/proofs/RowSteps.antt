@@ -1,20 +1,10 @@
 -- A whole row, block by block.
-use Rattle.std.proofs.Common.{◌≡◌, ℕ, ◌+◌, ◌*◌, ◌/◌, ◌%◌, ◌^◌, ◌<◌, ◌≤◌, Bool, true, false, List}
-use Rattle.std.proofs.Common.{length, set, get_or, sym, ap, ◌∙◌, arith, ℤ, pos, ◌+ℤ◌, ◌*ℤ◌}
-use Rattle.std.proofs.Common.{unsigned_abs, ⊎_elim, ◌⊎◌, inl, inr, subst, ◌-ℤ◌, ◌≤ℤ◌, FitsSigned}
-use Rattle.std.proofs.Common.{to_z, of_z, w64}
-use Rattle.std.proofs.lemmas.Int.{ints, to_z-of_z}
-use Rattle.std.proofs.lemmas.Bool.{cases_lt, cases_eq}
-use Rattle.std.proofs.lemmas.List.{get_or-set_same, get_or-set_other, length-set}
-use Rattle.std.proofs.lemmas.Simd.{get_or-put_chunk_below, get_or-put_chunk_above}
-use Rattle.std.proofs.lemmas.Simd.{get_or-put_chunk_at, length-put_chunk, Each1-from_get_or}
-use lib.Lanes.{Each1, put_chunk}
-use Rattle.chip_core.specs.Bits.{bit_of, sign}
-use Rattle.chip_core.proofs.RegisterBits.{low_bit}
-use Rattle.conv_code.specs.ConvCode.{g0, g1, symbol}
-use Rattle.viterbi.specs.States.{low_bits}
-use Rattle.viterbi.specs.Survivors.{gain_of}
-use Rattle.viterbi.specs.Rows.{took, metric_from, metric_into, choice_into, taken_of}
+use Rattle.viterbi.proofs.Common.{◌≡◌, ℕ, ◌+◌, ◌*◌, ◌/◌, ◌%◌, ◌^◌, ◌<◌, ◌≤◌, Bool, true, false, List, length, set, get_or, sym, ap, ◌∙◌}
+use Rattle.viterbi.proofs.Common.{arith, ℤ, pos, ◌+ℤ◌, ◌*ℤ◌, unsigned_abs, ⊎_elim, ◌⊎◌, inl, inr, subst, ◌-ℤ◌, ◌≤ℤ◌, FitsSigned, to_z, of_z}
+use Rattle.viterbi.proofs.Common.{w64, ints, to_z-of_z, cases_lt, cases_eq, get_or-set_same, get_or-set_other, length-set}
+use Rattle.viterbi.proofs.Common.{get_or-put_chunk_below, get_or-put_chunk_above, get_or-put_chunk_at, length-put_chunk, Each1-from_get_or}
+use Rattle.viterbi.proofs.Common.{Each1, put_chunk, bit_of, sign, low_bit, g0, g1, symbol, low_bits, gain_of, took, metric_from}
+use Rattle.viterbi.proofs.Common.{metric_into, choice_into, taken_of}
 use Rattle.viterbi.proofs.Blocks.{passed, kept}
 use Rattle.viterbi.proofs.BlockSteps.{moved_fits, plus_less}
 

@@ -1,16 +1,8 @@
 -- One row more.
-use Rattle.std.proofs.Common.{◌≡◌, ℕ, suc, ◌+◌, ◌*◌, ◌/◌, ◌%◌, ◌<◌, ◌≤◌, Bool, List, [], length, set}
-use Rattle.std.proofs.Common.{get_or, take, subst, sym, ap, ◌∙◌, arith, ℤ, pos, ◌+ℤ◌, ◌-ℤ◌, unsigned_abs}
-use Rattle.std.specs.Int.{reverse_bits_onto}
-use Rattle.std.specs.List.{sum_by}
-use Rattle.std.proofs.lemmas.List.{get_or-set_same, get_or-set_other, get_or-take, length-take-le}
-use Rattle.std.proofs.lemmas.List.Sums.{sum_by_more}
-use Rattle.chip_core.specs.Sums.{IsFirstGreatest}
-use Rattle.viterbi.specs.Best.{IsBestWord, spelled}
-use Rattle.viterbi.specs.Rows.{took, metric_into, choice_into, forced_at, origin, path}
-use Rattle.viterbi.specs.Survivors.{end_count}
-use Rattle.viterbi.specs.Words.{score_of}
-use Rattle.viterbi.specs.declared.word.Ends.{Ends}
+use Rattle.viterbi.proofs.Common.{◌≡◌, ℕ, suc, ◌+◌, ◌*◌, ◌/◌, ◌%◌, ◌<◌, ◌≤◌, Bool, List, [], length, set, get_or, take, subst, sym, ap, ◌∙◌}
+use Rattle.viterbi.proofs.Common.{arith, ℤ, pos, ◌+ℤ◌, ◌-ℤ◌, unsigned_abs, reverse_bits_onto, get_or-set_same, get_or-set_other}
+use Rattle.viterbi.proofs.Common.{get_or-take, length-take-le, sum_by_more, IsFirstGreatest, IsBestWord, spelled, took, metric_into}
+use Rattle.viterbi.proofs.Common.{choice_into, forced_at, origin, path, end_count, score_of, Ends, sum_by}
 use Rattle.viterbi.proofs.Ended.{word_found}
 use Rattle.viterbi.proofs.Standing.{Stands, step_stands, stands_same, next_size}
 

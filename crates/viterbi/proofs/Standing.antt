@@ -1,19 +1,9 @@
 -- What metrics and rows of decisions stand for.
-use Rattle.std.proofs.Common.{◌≡◌, ℕ, zero, suc, ◌+◌, ◌*◌, ◌%◌, ◌<◌, ◌≤◌, Bool, true, false, List}
-use Rattle.std.proofs.Common.{[], ◌∷◌, ◌++◌, length, get_or, map, refl, sym, ap, subst, ◌∙◌, arith}
-use Rattle.std.proofs.Common.{ℤ, pos, ◌+ℤ◌, ◌-ℤ◌, unsigned_abs, Option, Some, None}
-use Rattle.std.specs.Prelude.{nat_le, int_lt}
-use Rattle.std.proofs.lemmas.Int.{ints}
-use Rattle.std.proofs.lemmas.List.{get_or-map}
-use Rattle.std.specs.List.{range_with_len}
-use Rattle.std.proofs.lemmas.List.FromFn.{get_or-map-range_with_len}
-use Rattle.chip_core.specs.Bits.{digit}
-use Rattle.viterbi.specs.States.{low_bits}
-use Rattle.viterbi.specs.Survivors.{survivor_into}
-use Rattle.viterbi.specs.Rows.{took, state_before, origin, path, metric_from, metric_into}
-use Rattle.viterbi.specs.Rows.{choice_into, wants, taken_of, forced_at, Agrees}
-use Rattle.viterbi.specs.declared.word.Ends.{Ends}
-use Rattle.viterbi.specs.declared.survivor.Survivor.{Survivor}
+use Rattle.viterbi.proofs.Common.{◌≡◌, ℕ, zero, suc, ◌+◌, ◌*◌, ◌%◌, ◌<◌, ◌≤◌, Bool, true, false, List, [], ◌∷◌, ◌++◌, length, get_or, map}
+use Rattle.viterbi.proofs.Common.{refl, sym, ap, subst, ◌∙◌, arith, ℤ, pos, ◌+ℤ◌, ◌-ℤ◌, unsigned_abs, Option, Some, None, nat_le, int_lt}
+use Rattle.viterbi.proofs.Common.{ints, get_or-map, range_with_len, get_or-map-range_with_len, digit, low_bits, survivor_into, took}
+use Rattle.viterbi.proofs.Common.{state_before, origin, path, metric_from, metric_into, choice_into, wants, taken_of, forced_at, Agrees}
+use Rattle.viterbi.proofs.Common.{Ends, Survivor}
 use Rattle.viterbi.proofs.Choices.{IsBestOf}
 use Rattle.viterbi.proofs.Steps.{Into, Survive, survivor_into_best}
 use Rattle.viterbi.proofs.Living.{alive}

@@ -1,9 +1,6 @@
 -- The greatest metric, and metrics that it is taken off.
-use Rattle.std.proofs.Common.{◌≡◌, ℕ, ◌+◌, ◌^◌, ◌<◌, ◌≤◌, List, length}
-use Rattle.std.proofs.Common.{get_or, arith, ℤ, pos, ◌+ℤ◌, ◌-ℤ◌, ◌≤ℤ◌}
-use Rattle.std.proofs.Common.{unsigned_abs}
-use Rattle.std.proofs.lemmas.Int.{ints}
-use Rattle.viterbi.specs.Rows.{IsGreatest}
+use Rattle.viterbi.proofs.Common.{◌≡◌, ℕ, ◌+◌, ◌^◌, ◌<◌, ◌≤◌, List, length, get_or, arith, ℤ, pos, ◌+ℤ◌, ◌-ℤ◌, ◌≤ℤ◌, unsigned_abs, ints}
+use Rattle.viterbi.proofs.Common.{IsGreatest}
 
 -- with what was taken off before, it is a score like the others
 pub top_size : (xs : List ℤ) (top taken : ℤ) (bound : ℕ) → length xs ≡ 256 → IsGreatest xs top →

@@ -1,12 +1,8 @@
 -- A step over rows of decisions against a step over survivors.
-use Rattle.std.proofs.Common.{◌≡◌, ℕ, suc, ◌+◌, ◌*◌, ◌%◌, ◌<◌, Bool, true, false, List, [], ◌∷◌}
-use Rattle.std.proofs.Common.{◌++◌, get_or, refl, ap, ◌∙◌, arith, ℤ, pos, ◌+ℤ◌, Option, Some, None}
-use Rattle.std.specs.Prelude.{int_lt, if◌then◌else◌, nat_le}
-use Rattle.chip_core.specs.Bits.{digit}
-use Rattle.viterbi.specs.Survivors.{extended_by, better_of, survivor_from, survivor_into}
-use Rattle.viterbi.specs.Rows.{took, state_before, origin, path, metric_from, metric_into}
-use Rattle.viterbi.specs.Rows.{choice_into, wants, taken_of, Agrees, Alive}
-use Rattle.viterbi.specs.declared.survivor.Survivor.{Survivor}
+use Rattle.viterbi.proofs.Common.{◌≡◌, ℕ, suc, ◌+◌, ◌*◌, ◌%◌, ◌<◌, Bool, true, false, List, [], ◌∷◌, ◌++◌, get_or, refl, ap, ◌∙◌, arith, ℤ}
+use Rattle.viterbi.proofs.Common.{pos, ◌+ℤ◌, Option, Some, None, int_lt, if◌then◌else◌, nat_le, digit, extended_by, better_of}
+use Rattle.viterbi.proofs.Common.{survivor_from, survivor_into, took, state_before, origin, path, metric_from, metric_into, choice_into}
+use Rattle.viterbi.proofs.Common.{wants, taken_of, Agrees, Alive, Survivor}
 
 -- the survivor that a row's decision leads back to, with one bit more
 one_more : (rows : List (List ℕ)) (k t : ℕ) (choice : Bool) (metric gain : ℤ) (s : Survivor) →

@@ -1,9 +1,6 @@
 -- One step back along the rows.
-use Rattle.std.proofs.Common.{◌≡◌, ℕ, suc, ◌+◌, ◌<◌, ◌≤◌, Bool, List, [], ◌∷◌, ◌++◌, length, drop}
-use Rattle.std.proofs.Common.{set, refl, sym, arith, append_assoc, append-nil}
-use Rattle.std.specs.Prelude.{nat_le}
-use Rattle.std.proofs.lemmas.List.{drop-set, drop_all}
-use Rattle.viterbi.specs.Rows.{state_before, origin, path}
+use Rattle.viterbi.proofs.Common.{◌≡◌, ℕ, suc, ◌+◌, ◌-◌, ◌<◌, ◌≤◌, Bool, List, [], ◌∷◌, ◌++◌, length, drop, set, refl, sym, arith}
+use Rattle.viterbi.proofs.Common.{append_assoc, append-nil, nat_le, drop-set, drop_all, state_before, origin, path}
 
 pub origin-back : (rows : List (List ℕ)) (n j t before : ℕ) → n ≡ suc j →
     before ≡ state_before rows j t → origin rows j before ≡ origin rows n t
@@ -22,20 +19,26 @@ path-back rows n j t before bits size room is =
     (sym (append_assoc (path rows j (state_before rows j t)) (nat_le 128 t ∷ [])
     (drop (suc j) bits)))
 
-pub path-none : (rows : List (List ℕ)) (t : ℕ) → path rows 0 t ≡ []
+path-none : (rows : List (List ℕ)) (t : ℕ) → path rows 0 t ≡ []
 unfolding path
 path-none rows t = refl
 
-pub origin-none : (rows : List (List ℕ)) (t : ℕ) → origin rows 0 t ≡ t
+origin-none : (rows : List (List ℕ)) (t : ℕ) → origin rows 0 t ≡ t
 unfolding origin
 origin-none rows t = refl
 
 -- before the first step back
+pub less_none : (n : ℕ) → n - 0 ≡ n
+less_none n = omega arith
+
 pub all_left : (rows : List (List ℕ)) (n m t : ℕ) (bits : List Bool) → m ≡ n → length bits ≤ n →
     path rows m t ++ drop m bits ≡ path rows n t
 all_left rows n m t bits is few = rw (is, drop_all n bits few) (append-nil (path rows n t))
 
 -- after the last
+pub origin_left : (rows : List (List ℕ)) (n t : ℕ) → n ≡ 0 → t ≡ origin rows n t
+origin_left rows n t is = rw is (sym (origin-none rows t))
+
 pub none_left : (rows : List (List ℕ)) (n t : ℕ) (bits : List Bool) → n ≡ 0 →
     path rows n t ++ drop n bits ≡ bits
 none_left rows n t bits is = rw (is, path-none rows t) refl

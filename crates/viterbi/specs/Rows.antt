@@ -1,7 +1,9 @@
 -- Rows of decisions, and the words that they lead back to.
 use Rattle.std.specs.Prelude.{ℕ, zero, suc, ◌+◌, ◌*◌, ◌/◌, ◌%◌, ◌<◌, ◌≡◌, Bool, true, false, List}
 use Rattle.std.specs.Prelude.{[], ◌∷◌, ◌++◌, length, get_or, ℤ, pos, ◌+ℤ◌, ◌≤ℤ◌, int_lt, nat_le}
-use Rattle.std.specs.Prelude.{nat_lt, if◌then◌else◌, Option, Some, None}
+use Rattle.std.specs.Prelude.{nat_lt, if◌then◌else◌, Option, Some, None, ◌-ℤ◌, ◌≤◌, ◌^◌}
+use Rattle.std.specs.Prelude.{unsigned_abs, FitsSigned}
+use Rattle.std.specs.Int.{w64}
 use Rattle.chip_core.specs.Bits.{binary, bit_of, digit}
 use Rattle.viterbi.specs.States.{low_bits}
 use Rattle.viterbi.specs.Survivors.{gain_of}
@@ -79,3 +81,24 @@ forced_at Free k = false
 pub record IsGreatest (xs : List ℤ) (top : ℤ) : Type 0 where
   pub most : (t : ℕ) → t < length xs → get_or xs t (pos 0) ≤ℤ top
   pub least : (bound : ℤ) → ((t : ℕ) → t < length xs → get_or xs t (pos 0) ≤ℤ bound) → top ≤ℤ bound
+
+-- what a step needs: no metric is above the greatest, and what it lacks of that is no more than
+-- numbers of 64 bits leave room for behind these two soft values
+pub record CanStep (row : List ℤ) (top first second : ℤ) : Type 0 where
+  pub whole : length row ≡ 256
+  pub pair : unsigned_abs first + unsigned_abs second ≤ 2 ^ 62
+  pub fit : (t : ℕ) → t < 256 → FitsSigned w64 (get_or row t (pos 0))
+  pub most : (t : ℕ) → t < 256 → get_or row t (pos 0) ≤ℤ top
+  pub near : (t : ℕ) → t < 256 →
+      unsigned_abs (top -ℤ get_or row t (pos 0)) + (unsigned_abs first + unsigned_abs second)
+      ≤ 2 ^ 63
+
+-- what it makes: all metrics of one bit more, less the greatest before, whether each state came
+-- from the one with oldest bit 1, and the greatest now
+pub record IsStep (forced : Bool) (row : List ℤ) (top first second : ℤ) (next : List ℤ)
+    (decisions : List ℕ) (most : ℤ) : Type 0 where
+  pub whole : length next ≡ 256
+  pub metrics : (t : ℕ) → t < 256 →
+      get_or next t (pos 0) ≡ metric_into forced row first second t -ℤ top
+  pub choices : (t : ℕ) → t < 256 → took decisions t ≡ choice_into forced row first second t
+  pub greatest : IsGreatest next most

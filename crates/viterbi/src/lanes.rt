@@ -4,13 +4,12 @@
 //! the same sixteen states, from `16 * k` on: eight butterflies of the trellis.
 
 ghost use Rattle.std.specs.Prelude.{◌≡◌, ◌<◌, ◌≤◌, ◌+◌, ◌*◌, ◌%◌, ◌^◌, ◌+ℤ◌, ◌-ℤ◌, ◌≤ℤ◌, ℕ, ℤ};
-ghost use Rattle.std.specs.Prelude.{false, length, get_or, map, pos, int_lt, unsigned_abs};
-ghost use Rattle.std.specs.Prelude.{FitsSigned};
+ghost use Rattle.std.specs.Prelude.{false, length, get_or, map, pos, int_lt, FitsSigned};
 ghost use Rattle.std.specs.Int.{w64};
 ghost use lib.Lanes.{Each1, Each2, zip2};
 ghost use Rattle.chip_core.specs.Bits.{bit_of};
 ghost use Rattle.viterbi.specs.Lanes.{Fit, sum_at, difference_at, gain_by, lane_codes, kinds};
-ghost use Rattle.viterbi.specs.Rows.{IsGreatest, taken_of, wants, metric_into, choice_into, took};
+ghost use Rattle.viterbi.specs.Rows.{CanStep, IsStep, taken_of, wants, metric_into, choice_into};
 
 use crate::decisions::Decisions;
 use crate::metrics::greatest;
@@ -131,14 +130,8 @@ fn block_step<const FORCED: bool>(
     gains: &[i64; 32],
     block: usize,
 ) -> (i64x8, u64)
-    requires whole { length row.now ≡ 256 }
+    requires row { CanStep row.now top first second }
     requires block { block < 32 }
-    requires pair { unsigned_abs first + unsigned_abs second ≤ 2 ^ 62 }
-    requires fit { (t : ℕ) → t < 256 → FitsSigned w64 (get_or row.now t (pos 0)) }
-    requires most { (t : ℕ) → t < 256 → get_or row.now t (pos 0) ≤ℤ top }
-    requires near { (t : ℕ) → t < 256 →
-        unsigned_abs (top -ℤ get_or row.now t (pos 0))
-        + (unsigned_abs first + unsigned_abs second) ≤ 2 ^ 63 }
     requires gains { (j : ℕ) → j < 32 →
         get_or gains.now j (pos 0) ≡ gain_by first second (get_or lane_codes j 0) }
     ensures long { length result.0 ≡ 8 }
@@ -180,20 +173,9 @@ fn step_all<const FORCED: bool>(
     next: &mut [i64],
     choices: &mut Decisions,
 ) -> i64
-    requires whole { length row.now ≡ 256 }
-    requires whole_next { length next.old ≡ 256 }
-    requires pair { unsigned_abs first + unsigned_abs second ≤ 2 ^ 62 }
-    requires fit { (t : ℕ) → t < 256 → FitsSigned w64 (get_or row.now t (pos 0)) }
-    requires most { (t : ℕ) → t < 256 → get_or row.now t (pos 0) ≤ℤ top }
-    requires near { (t : ℕ) → t < 256 →
-        unsigned_abs (top -ℤ get_or row.now t (pos 0))
-        + (unsigned_abs first + unsigned_abs second) ≤ 2 ^ 63 }
-    ensures whole { length next.new ≡ 256 }
-    ensures metrics { (t : ℕ) → t < 256 →
-        get_or next.new t (pos 0) ≡ metric_into FORCED row.now first second t -ℤ top }
-    ensures choices { (t : ℕ) → t < 256 →
-        took choices.new t ≡ choice_into FORCED row.now first second t }
-    ensures greatest { IsGreatest next.new result }
+    requires row { CanStep row.now top first second }
+    requires next { length next.old ≡ 256 }
+    ensures { IsStep FORCED row.now top first second next.new choices.new result }
 {
     let gains = lane_gains(first, second);
     let mut most = i64x8::splat(i64::MIN);
@@ -226,20 +208,9 @@ pub fn step(
     next: &mut [i64],
     choices: &mut Decisions,
 ) -> i64
-    requires whole { length row.now ≡ 256 }
-    requires whole_next { length next.old ≡ 256 }
-    requires pair { unsigned_abs first + unsigned_abs second ≤ 2 ^ 62 }
-    requires fit { (t : ℕ) → t < 256 → FitsSigned w64 (get_or row.now t (pos 0)) }
-    requires most { (t : ℕ) → t < 256 → get_or row.now t (pos 0) ≤ℤ top }
-    requires near { (t : ℕ) → t < 256 →
-        unsigned_abs (top -ℤ get_or row.now t (pos 0))
-        + (unsigned_abs first + unsigned_abs second) ≤ 2 ^ 63 }
-    ensures whole { length next.new ≡ 256 }
-    ensures metrics { (t : ℕ) → t < 256 →
-        get_or next.new t (pos 0) ≡ metric_into forced row.now first second t -ℤ top }
-    ensures choices { (t : ℕ) → t < 256 →
-        took choices.new t ≡ choice_into forced row.now first second t }
-    ensures greatest { IsGreatest next.new result }
+    requires row { CanStep row.now top first second }
+    requires next { length next.old ≡ 256 }
+    ensures { IsStep forced row.now top first second next.new choices.new result }
 {
     if forced {
         step_all::<true>(row, top, first, second, next, choices)

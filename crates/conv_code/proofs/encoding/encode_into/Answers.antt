@@ -1,8 +1,6 @@
-use Rattle.std.proofs.Common.{◌≡◌, ◌+◌, ◌++◌, [], ◌∷◌, take, length, length-append, sym, ap, ◌∙◌, arith}
-use Rattle.chip_core.specs.Bits.{binary}
-use Rattle.conv_code.specs.ConvCode.{code_symbols, state_after}
+use Rattle.conv_code.proofs.Common.{◌≡◌, ◌+◌, ◌++◌, [], ◌∷◌, take, length, length-append, sym, ap, ◌∙◌, arith, binary, code_symbols}
+use Rattle.conv_code.proofs.Common.{state_after, taken_more}
 use Rattle.conv_code.proofs.Continued.{code_symbols-none, state_after-none}
-use Rattle.chip_core.proofs.BitLists.{taken_more}
 use Rattle.conv_code.proofs.Loops.{symbols_more, state_more, two_appended}
 use Rattle.conv_code.proofs.encoding.encode_into.Goals as goal
 

@@ -1,6 +1,4 @@
-use Rattle.std.proofs.Common.{◌≡◌, ◌*◌, length, take}
-use Rattle.chip_core.specs.Bits.{binary}
-use Rattle.conv_code.specs.ConvCode.{code_symbols, state_after}
+use Rattle.conv_code.proofs.Common.{◌≡◌, ◌*◌, length, take, binary, code_symbols, state_after}
 use Rattle.conv_code.proofs.encoding.encode_into.Given as goal
 
 abbrev pub invariant-loop-i : goal.invariant-loop-i

@@ -1,5 +1,4 @@
-use Rattle.chip_core.specs.Bits.{binary}
-use Rattle.chip_core.proofs.RegisterBits.{length-binary}
+use Rattle.conv_code.proofs.Common.{binary, length-binary}
 use Rattle.conv_code.proofs.Loops.{bit_for}
 use Rattle.conv_code.proofs.inversion.bit_for.Goals as goal
 

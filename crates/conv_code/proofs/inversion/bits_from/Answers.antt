@@ -1,8 +1,5 @@
-use Rattle.std.proofs.Common.{◌≡◌, ◌*◌, ◌+◌, ◌<◌, ◌++◌, Bool, List, false, [], ◌∷◌, take, length, get_or, sym, ap, ◌∙◌, arith}
-use Rattle.std.proofs.lemmas.List.{length_push, take_more}
-use Rattle.std.proofs.lemmas.Option.{get_or_from_slice_get}
-use Rattle.chip_core.specs.Bits.{binary}
-use Rattle.conv_code.specs.ConvCode.{g0, g1, symbol, code_symbols, state_after}
+use Rattle.conv_code.proofs.Common.{◌≡◌, ◌*◌, ◌+◌, ◌<◌, ◌++◌, Bool, List, false, [], ◌∷◌, take, length, get_or, sym, ap, ◌∙◌, arith}
+use Rattle.conv_code.proofs.Common.{length_push, take_more, get_or_from_slice_get, binary, g0, g1, symbol, code_symbols, state_after}
 use Rattle.conv_code.proofs.Continued.{code_symbols-none, state_after-none}
 use Rattle.conv_code.proofs.Pairs.{AreAt, take_pair}
 use Rattle.conv_code.proofs.Loops.{symbols_more, state_more, word_at, both_same, not_both, within_word}

@@ -1,7 +1,4 @@
-use Rattle.std.proofs.Common.{◌≡◌, ◌∙◌, ap, sym, List, Bool}
-use Rattle.chip_core.specs.Bits.{binary}
-use Rattle.chip_core.proofs.RegisterBits.{length-binary}
-use Rattle.conv_code.specs.ConvCode.{code_symbols}
+use Rattle.conv_code.proofs.Common.{◌≡◌, ◌∙◌, ap, sym, List, Bool, binary, length-binary, code_symbols}
 use Rattle.conv_code.proofs.inversion.invert.Goals as goal
 
 pub returns-in_err-bits-clause-none : goal.returns-in_err-bits-clause-none

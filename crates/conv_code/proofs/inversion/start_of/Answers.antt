@@ -1,6 +1,5 @@
-use Rattle.std.proofs.Common.{◌≡◌, ◌∙◌, sym, ap, arith, false, get_or}
-use Rattle.chip_core.specs.Bits.{binary}
-use Rattle.chip_core.proofs.RegisterBits.{length-binary}
+use Rattle.conv_code.proofs.Common.{◌≡◌, ◌∙◌, ◌<◌, ℕ, [], map, sym, ap, arith, false, get_or, binary, parity, length-binary}
+use Rattle.conv_code.proofs.Solved.{solutions}
 use Rattle.conv_code.proofs.Starts.{start_entry, eight_entries, eight_pushed}
 use Rattle.conv_code.proofs.inversion.start_of.Goals as goal
 
@@ -17,29 +16,16 @@ returns c start bits eight gives =
     (length-binary 8 c.new-register.result)
     c.push.ensures.last c.push-2.ensures.last c.push-3.ensures.last c.push-4.ensures.last
     c.push-5.ensures.last c.push-6.ensures.last c.push-7.ensures.last c.push-8.ensures.last in
-    let b1 : get_or start 0 false ≡ c.sum_at.result =
-    start_entry start bits symbols 0 (omega arith) eight c.requires gives ∙
-    sym c.sum_at.ensures in
-    let b2 : get_or start 1 false ≡ c.sum_at-2.result =
-    start_entry start bits symbols 1 (omega arith) eight c.requires gives ∙
-    sym c.sum_at-2.ensures in
-    let b3 : get_or start 2 false ≡ c.sum_at-3.result =
-    start_entry start bits symbols 2 (omega arith) eight c.requires gives ∙
-    sym c.sum_at-3.ensures in
-    let b4 : get_or start 3 false ≡ c.sum_at-4.result =
-    start_entry start bits symbols 3 (omega arith) eight c.requires gives ∙
-    sym c.sum_at-4.ensures in
-    let b5 : get_or start 4 false ≡ c.sum_at-5.result =
-    start_entry start bits symbols 4 (omega arith) eight c.requires gives ∙
-    sym c.sum_at-5.ensures in
-    let b6 : get_or start 5 false ≡ c.sum_at-6.result =
-    start_entry start bits symbols 5 (omega arith) eight c.requires gives ∙
-    sym c.sum_at-6.ensures in
-    let b7 : get_or start 6 false ≡ c.sum_at-7.result =
-    start_entry start bits symbols 6 (omega arith) eight c.requires gives ∙
-    sym c.sum_at-7.ensures in
-    let b8 : get_or start 7 false ≡ c.sum_at-8.result =
-    start_entry start bits symbols 7 (omega arith) eight c.requires gives ∙
-    sym c.sum_at-8.ensures in
-    eight_entries start eight ∙ rw (b1, b2, b3, b4, b5, b6, b7, b8) (sym pushed) ∙
-    ap (binary 8) (sym c.state.ensures)
+    let entry : (i : ℕ) → i < 8 → get_or start i false
+    ≡ parity (map (λ place. get_or symbols place false) (get_or solutions i [])) =
+    λ i lt. start_entry start bits symbols i lt eight c.requires gives in
+    eight_entries start eight ∙ rw (
+      entry 0 (omega arith) ∙ sym c.sum_at.ensures,
+      entry 1 (omega arith) ∙ sym c.sum_at-2.ensures,
+      entry 2 (omega arith) ∙ sym c.sum_at-3.ensures,
+      entry 3 (omega arith) ∙ sym c.sum_at-4.ensures,
+      entry 4 (omega arith) ∙ sym c.sum_at-5.ensures,
+      entry 5 (omega arith) ∙ sym c.sum_at-6.ensures,
+      entry 6 (omega arith) ∙ sym c.sum_at-7.ensures,
+      entry 7 (omega arith) ∙ sym c.sum_at-8.ensures,
+    ) (sym pushed) ∙ ap (binary 8) (sym c.state.ensures)

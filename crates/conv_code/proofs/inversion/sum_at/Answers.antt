@@ -1,6 +1,4 @@
-use Rattle.std.proofs.Common.{◌≡◌, ◌∙◌, sym, drop, []}
-use Rattle.std.proofs.lemmas.List.{drop_all}
-use Rattle.chip_core.proofs.RegisterBits.{xor_false}
+use Rattle.conv_code.proofs.Common.{◌∙◌, ℕ, false, get_or, parity_done}
 use Rattle.conv_code.proofs.Loops.{sum_more}
 use Rattle.conv_code.proofs.inversion.sum_at.Goals as goal
 
@@ -12,7 +10,5 @@ loop-place-preserved c =
 
 pub returns : goal.returns
 returns c =
-    let done : drop c.loop-place.place-index c.args.places.now ≡ [] =
-    drop_all c.loop-place.place-index c.args.places.now c.loop-place-test.false in
-    let inv = c.loop-place.invariant in
-    sym (xor_false c.loop-place.sum) ∙ rw done at inv
+    parity_done (λ (place : ℕ). get_or c.args.symbols.now place false) c.loop-place.sum _
+    c.args.places.now c.loop-place.place-index c.loop-place-test.false c.loop-place.invariant

@@ -1,5 +1,4 @@
-use Rattle.std.proofs.Common.{◌≡◌, false, get_or, drop, map}
-use Rattle.chip_core.specs.Bits.{xor, parity}
+use Rattle.conv_code.proofs.Common.{◌≡◌, false, get_or, drop, map, xor, parity}
 use Rattle.conv_code.proofs.inversion.sum_at.Given as goal
 
 abbrev pub invariant-loop-place : goal.invariant-loop-place

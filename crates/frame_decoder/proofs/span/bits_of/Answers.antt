@@ -1,6 +1,5 @@
 use Rattle.frame_decoder.proofs.Common.{◌≡◌, ◌*◌, ℕ, length, take, drop, ap, ◌∙◌, arith, IsBestWord, spelled, Word, Free, channel_of}
-use Rattle.frame_decoder.proofs.Common.{gathered_span}
-use Rattle.std.proofs.lemmas.List.{length-take-le, length-drop}
+use Rattle.frame_decoder.proofs.Common.{gathered_span, length-take-le, length-drop}
 use Rattle.frame_decoder.proofs.Gathered.{length-gathered_span}
 use Rattle.frame_decoder.proofs.BestWords.{own_within, own_is}
 use Rattle.frame_decoder.proofs.span.bits_of.Goals as goal

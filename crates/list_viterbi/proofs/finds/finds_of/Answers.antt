@@ -1,6 +1,4 @@
-use Rattle.std.proofs.Common.{◌∷◌, ◌++◌, [], ap, ◌∙◌, rules, arith, ℤ, w64}
-use Rattle.std.proofs.lemmas.Int.{to_z-of_z}
-use mir.Val.{SFits}
+use Rattle.list_viterbi.proofs.Common.{◌∷◌, ◌++◌, [], ap, ◌∙◌, rules, arith, ℤ, w64, to_z-of_z, SFits}
 use Rattle.list_viterbi.proofs.Found.{finds_count, finds_more}
 use Rattle.list_viterbi.proofs.finds.finds_of.Goals as goal
 

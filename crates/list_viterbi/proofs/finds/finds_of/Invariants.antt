@@ -1,5 +1,4 @@
-use Rattle.std.proofs.Common.{◌≡◌, take}
-use Rattle.list_viterbi.specs.Rows.{finds_from}
+use Rattle.list_viterbi.proofs.Common.{◌≡◌, take, finds_from}
 use Rattle.list_viterbi.proofs.finds.finds_of.Given as goal
 
 abbrev pub invariant-loop-rank : goal.invariant-loop-rank

@@ -1,7 +1,4 @@
-use Rattle.std.proofs.Common.{◌≡◌, ◌<◌, [], length, get_or, ◌∙◌, arith, add-one}
-use Rattle.std.proofs.lemmas.List.{get_or_read}
-use Rattle.viterbi.proofs.Made.{end_count_le}
-use Rattle.list_viterbi.specs.Rows.{first_finds}
+use Rattle.list_viterbi.proofs.Common.{[], ◌∙◌, add-one, end_read, first_finds}
 use Rattle.list_viterbi.proofs.finds.first_ends.Goals as goal
 
 pub loop-state-init : goal.loop-state-init
@@ -11,15 +8,6 @@ loop-state-init c = c.empty-finds.ensures
 pub loop-state-preserved : goal.loop-state-preserved
 unfolding first_finds
 loop-state-preserved c =
-    let row = c.args.row.now in
-    let item = c.index-row-state.result in
-    let within : c.loop-state.state < length row = omega (
-      arith,
-      c.loop-state-test.true,
-      c.end_states-state-end.ensures,
-      end_count_le c.args.ends,
-      c.requires.whole,
-    ) in
-    let read : item ≡ get_or row c.loop-state.state [] =
-    get_or_read row c.loop-state.state item within c.index-row-state.is [] in
+    let read = end_read c.args.ends c.args.row.now c.loop-state.state c.end_states-state-end.result c.index-row-state.result []
+    c.loop-state-test.true c.end_states-state-end.ensures c.requires.whole c.index-row-state.is in
     rw add-one (c.merged-finds.ensures ∙ rw (c.finds_of.ensures, read, c.loop-state.invariant))

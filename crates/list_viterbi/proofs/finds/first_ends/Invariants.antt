@@ -1,5 +1,4 @@
-use Rattle.std.proofs.Common.{◌≡◌}
-use Rattle.list_viterbi.specs.Rows.{first_finds}
+use Rattle.list_viterbi.proofs.Common.{◌≡◌, first_finds}
 use Rattle.list_viterbi.proofs.finds.first_ends.Given as goal
 
 abbrev pub invariant-loop-state : goal.invariant-loop-state

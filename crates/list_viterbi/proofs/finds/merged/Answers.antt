@@ -1,11 +1,7 @@
-use Rattle.std.proofs.Common.{◌≡◌, ◌<◌, ◌≤◌, ◌∷◌, [], true, false, drop, length, sym, arith}
-use Rattle.std.proofs.Common.{length-append}
-use Rattle.list_viterbi.specs.Merging.{second_is_next}
-use Rattle.list_viterbi.specs.Rows.{find_score}
+use Rattle.list_viterbi.proofs.Common.{◌≡◌, ◌<◌, ◌≤◌, ◌∷◌, [], true, false, drop, length, sym, arith, length-append, second_is_next}
+use Rattle.list_viterbi.proofs.Common.{find_score}
 use Rattle.list_viterbi.proofs.Walks.{second_has, took_second, took_first, took_none, all_taken}
-use Rattle.list_viterbi.proofs.finds.merged.Goals.{then-takes_second}
-use Rattle.list_viterbi.proofs.finds.merged.Goals.{else-takes_second+then-i-len}
-use Rattle.list_viterbi.proofs.finds.merged.Goals.{else-takes_second+else-i-len}
+use Rattle.list_viterbi.proofs.finds.merged.Goals.{then-takes_second, else-takes_second+then-i-len, else-takes_second+else-i-len}
 use Rattle.list_viterbi.proofs.finds.merged.Goals as goal
 
 pub loop-n-preserved : goal.loop-n-preserved

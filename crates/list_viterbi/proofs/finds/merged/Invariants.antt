@@ -1,5 +1,4 @@
-use Rattle.std.proofs.Common.{◌≤◌, length}
-use Rattle.list_viterbi.specs.Rows.{find_score}
+use Rattle.list_viterbi.proofs.Common.{◌≤◌, length, find_score}
 use Rattle.list_viterbi.proofs.Walks.{IsPart}
 use Rattle.list_viterbi.proofs.finds.merged.Given as goal
 

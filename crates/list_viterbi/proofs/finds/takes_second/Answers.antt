@@ -1,7 +1,4 @@
-use Rattle.std.proofs.Common.{sym, arith, rules, w64}
-use Rattle.std.proofs.lemmas.Int.{to_z-of_z}
-use mir.Val.{SFits}
-use Rattle.list_viterbi.specs.Rows.{find_score}
+use Rattle.list_viterbi.proofs.Common.{sym, arith, rules, w64, to_z-of_z, SFits, find_score}
 use Rattle.list_viterbi.proofs.Walks.{second_only, second_by_score}
 use Rattle.list_viterbi.proofs.finds.takes_second.Goals as goal
 

@@ -1,5 +1,4 @@
-use Rattle.std.proofs.Common.{◌≡◌, ◌<◌, ◌+◌, ◌*◌, ◌/◌, ◌%◌, ℕ, get_or, ap, arith, subst, sym}
-use Rattle.viterbi.specs.Lanes.{code_of, kinds, lane_codes}
+use Rattle.list_viterbi.proofs.Common.{◌≡◌, ◌<◌, ◌+◌, ◌*◌, ◌/◌, ◌%◌, ℕ, get_or, ap, arith, subst, sym, code_of, kinds, lane_codes}
 use Rattle.list_viterbi.proofs.StateCodes.{code_small}
 use Rattle.list_viterbi.proofs.gains.code_of.Goals as goal
 

@@ -1,7 +1,4 @@
-use Rattle.std.proofs.Common.{◌+◌, ◌*◌, ◌/◌, ◌%◌, ◌∙◌, ℕ, get_or, pos, arith, ap, w64}
-use mir.Val.{SFits}
-use Rattle.viterbi.proofs.BlockSteps.{kind_small}
-use Rattle.list_viterbi.proofs.LaneGains.{gains_read}
+use Rattle.list_viterbi.proofs.Common.{◌+◌, ◌*◌, ◌/◌, ◌%◌, ◌∙◌, ℕ, get_or, pos, arith, ap, w64, SFits, gains_read, kind_small}
 use Rattle.list_viterbi.proofs.gains.gains_of.Goals as goal
 
 pub returns-clause-lanes : goal.returns-clause-lanes
@@ -12,5 +9,5 @@ returns-clause-lanes c l b =
     let at = 8 * c.kind_of-kind.result + 2 * (block % 4) in
     let fits : SFits w64 (get_or c.args.gains.now (at + l) (pos 0)) =
     c.requires.fit _ (omega (arith, few, is, b)) in
-    gains_read c.args.gains.now at l c.told-gains (omega (arith, few, is)) b fits
+    gains_read 2 c.args.gains.now at l c.told-gains (omega (arith, few, is)) b fits
     ∙ ap (λ (i : ℕ). get_or c.args.gains.now i (pos 0)) (omega (arith, is))

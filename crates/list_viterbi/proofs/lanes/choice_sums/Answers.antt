@@ -1,5 +1,4 @@
-use Rattle.std.proofs.Common.{ap, arith, unsigned_abs}
-use Rattle.list_viterbi.specs.Heads.{lane_sum}
+use Rattle.list_viterbi.proofs.Common.{ap, arith, unsigned_abs, lane_sum}
 use Rattle.list_viterbi.proofs.LaneSums.{sums_passed, added_up, sum_read, sum_cast, lane_up}
 use Rattle.list_viterbi.proofs.lanes.choice_sums.Goals as goal
 

@@ -1,4 +1,4 @@
-use Rattle.std.proofs.Common.{◌≡◌, ◌<◌, ℕ, [], length, get_or}
+use Rattle.list_viterbi.proofs.Common.{◌≡◌, ◌<◌, ℕ, [], length, get_or}
 use Rattle.list_viterbi.proofs.lanes.has_four.Given as goal
 
 abbrev pub invariant-loop-state : goal.invariant-loop-state

@@ -1,4 +1,4 @@
-use Rattle.viterbi.proofs.LaneLemmas.{taken_lanes}
+use Rattle.list_viterbi.proofs.Common.{taken_lanes}
 use Rattle.list_viterbi.proofs.LaneChoices.{heads_are}
 use Rattle.list_viterbi.proofs.lanes.lowered.Goals as goal
 

@@ -1,5 +1,4 @@
-use Rattle.std.proofs.Common.{sym, subst}
-use Rattle.list_viterbi.specs.Heads.{HeadsFit, AreWeights}
+use Rattle.list_viterbi.proofs.Common.{sym, subst, HeadsFit, AreWeights}
 use Rattle.list_viterbi.proofs.LaneMerges.{scores_fit, weights_small}
 use Rattle.list_viterbi.proofs.lanes.merge_block.Goals as goal
 

@@ -1,7 +1,7 @@
-use Rattle.std.proofs.Common.{◌≡◌, ◌+◌, ◌*◌, ◌+ℤ◌, ◌-ℤ◌, arith}
-use Rattle.list_viterbi.proofs.LaneBlocks.{lower_even, lower_odd, upper_even, upper_odd, with_both}
-use Rattle.list_viterbi.proofs.LaneBlocks.{chosen_both, pair_lower, pair_upper, pair_others}
-use Rattle.list_viterbi.proofs.LaneBlocks.{plus_size, minus_size}
+use Rattle.list_viterbi.proofs.Common.{◌≡◌, ℕ, ◌+◌, ◌*◌, List, ℤ, ◌+ℤ◌, ◌-ℤ◌, arith, Heads, four_choices, four_scores, put_choices}
+use Rattle.list_viterbi.proofs.Common.{put_heads}
+use Rattle.list_viterbi.proofs.LaneBlocks.{lower_even, lower_odd, upper_even, upper_odd, with_both, chosen_both, pair_lower, pair_upper}
+use Rattle.list_viterbi.proofs.LaneBlocks.{pair_others, plus_size, minus_size}
 use Rattle.list_viterbi.proofs.LanePairs as pairs
 use Rattle.list_viterbi.proofs.lanes.merge_pair.Goals as goal
 
@@ -85,11 +85,13 @@ returns-clause-pair c =
     pairs.raised_is ranks gain (4 * block + 1) c.heads_at.result.1 c.raised-upper_odd.result
     c.requires.long c.requires.room c.heads_at.ensures.odd c.raised-upper_odd.ensures in
     let row : c.merge_block-2.new.next ≡ with_both ranks gain block next =
-    pairs.both_put ranks gain next c.merge_block.new.next c.merge_block-2.new.next block _ _ _ _ le
-    lo ue uo c.merge_block.ensures.scores c.merge_block-2.ensures.scores in
+    pairs.both_put (λ (at : ℕ) (xs : List ℤ) (e o : Heads). put_heads at xs (four_scores e o)) ranks gain block next
+    c.merge_block.new.next c.merge_block-2.new.next _ _ _ _ le lo ue uo
+    c.merge_block.ensures.scores c.merge_block-2.ensures.scores in
     let chosen : c.merge_block-2.new.choices ≡ chosen_both ranks gain block choices =
-    pairs.both_chosen ranks gain choices c.merge_block.new.choices c.merge_block-2.new.choices block
-    _ _ _ _ le lo ue uo c.merge_block.ensures.choices c.merge_block-2.ensures.choices in
+    pairs.both_put (λ (at : ℕ) (xs : List ℕ) (e o : Heads). put_choices at xs (four_choices e o)) ranks gain block choices
+    c.merge_block.new.choices c.merge_block-2.new.choices _ _ _ _ le lo ue uo
+    c.merge_block.ensures.choices c.merge_block-2.ensures.choices in
     rw (row, chosen) (record {
       lower =
           pair_lower ranks gain next choices block c.requires.whole_next c.told-choices

@@ -1,7 +1,6 @@
-use Rattle.std.proofs.Common.{pos, rules, ◌∙◌}
+use Rattle.list_viterbi.proofs.Common.{pos, rules, ◌∙◌}
 use Rattle.list_viterbi.proofs.LaneChoices.{heads_are, taken_is, weights_fit}
-use Rattle.list_viterbi.proofs.LaneRounds.{choices_of_turns, even_turned, odd_turned, scores_of_turns}
-use Rattle.list_viterbi.proofs.LaneRounds.{turned, turns_fit}
+use Rattle.list_viterbi.proofs.LaneRounds.{choices_of_turns, even_turned, odd_turned, scores_of_turns, turned, turns_fit}
 use Rattle.list_viterbi.proofs.lanes.merged.Goals as goal
 
 pub turn-requires-2-clause-even_fit : goal.turn-requires-2-clause-even_fit

@@ -1,16 +1,19 @@
-use Rattle.std.proofs.Common.{◌+◌, ◌∙◌, arith}
-use Rattle.list_viterbi.proofs.Pairings.{lane_read, two_are, read_at}
+use Rattle.list_viterbi.proofs.Common.{◌≡◌, ◌+◌, ◌∙◌, ◌∷◌, [], arith, ℤ, lane_read}
+use Rattle.list_viterbi.proofs.LanePuts.{read_at}
 use Rattle.list_viterbi.proofs.lanes.parted.Goals as goal
+
+two_are : {a b c d : ℤ} → a ≡ b → c ≡ d → (a ∷ c ∷ []) ≡ (b ∷ d ∷ [])
+two_are p q = λ i. p i ∷ q i ∷ []
 
 pub returns-clause-even : goal.returns-clause-even
 returns-clause-even c =
     let row = c.args.ranks.now in
     let at = c.args.at in
     two_are
-    (lane_read row at 0 c.requires.room (omega arith)
+    (lane_read 2 row at 0 c.requires.room (omega arith)
     (c.requires.fit _ (omega (arith, c.requires.room)))
     ∙ read_at row (at + 0) (at) (omega arith))
-    (lane_read row at 2 c.requires.room (omega arith)
+    (lane_read 2 row at 2 c.requires.room (omega arith)
     (c.requires.fit _ (omega (arith, c.requires.room)))
     ∙ read_at row (at + 2) (at + 2) (omega arith))
 
@@ -19,9 +22,9 @@ returns-clause-odd c =
     let row = c.args.ranks.now in
     let at = c.args.at in
     two_are
-    (lane_read row at 1 c.requires.room (omega arith)
+    (lane_read 2 row at 1 c.requires.room (omega arith)
     (c.requires.fit _ (omega (arith, c.requires.room)))
     ∙ read_at row (at + 1) (at + 1) (omega arith))
-    (lane_read row at 3 c.requires.room (omega arith)
+    (lane_read 2 row at 3 c.requires.room (omega arith)
     (c.requires.fit _ (omega (arith, c.requires.room)))
     ∙ read_at row (at + 3) (at + 1 + 2) (omega arith))

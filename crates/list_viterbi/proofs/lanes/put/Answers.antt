@@ -1,5 +1,4 @@
-use Rattle.std.proofs.Common.{refl}
-use Rattle.viterbi.proofs.Blocks.{kept}
+use Rattle.list_viterbi.proofs.Common.{refl, kept}
 use Rattle.list_viterbi.proofs.lanes.put.Goals as goal
 
 pub returns : goal.returns

@@ -1,6 +1,4 @@
-use Rattle.std.proofs.Common.{◌∙◌, w64}
-use Rattle.std.proofs.lemmas.Int.{to_z-of_z}
-use mir.Val.{SFits}
+use Rattle.list_viterbi.proofs.Common.{◌∙◌, w64, to_z-of_z, SFits}
 use Rattle.list_viterbi.proofs.RowLayouts.{four_here, four_read}
 use Rattle.list_viterbi.proofs.lanes.put_scores.Goals as goal
 

@@ -1,5 +1,4 @@
-use Rattle.std.proofs.Common.{◌≡◌, ◌<◌, ℕ, [], length, get_or}
-use Rattle.list_viterbi.specs.Heads.{four_of}
+use Rattle.list_viterbi.proofs.Common.{◌≡◌, ◌<◌, ℕ, [], length, get_or, four_of}
 use Rattle.list_viterbi.proofs.lanes.ranks_of.Given as goal
 
 abbrev pub invariant-loop-state : goal.invariant-loop-state

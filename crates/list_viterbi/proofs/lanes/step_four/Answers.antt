@@ -1,10 +1,4 @@
-use Rattle.std.proofs.Common.{◌≡◌, get_or, sym, subst, w64}
-use Rattle.std.proofs.lemmas.Int.{to_z-of_z}
-use mir.Val.{SFits}
-use Rattle.viterbi.specs.Lanes.{lane_codes}
-use Rattle.viterbi.proofs.Blocks.{passed}
-use Rattle.viterbi.proofs.BlockSteps.{gain_fits}
-use Rattle.list_viterbi.specs.Heads.{PairPicked}
+use Rattle.list_viterbi.proofs.Common.{◌≡◌, get_or, sym, subst, w64, to_z-of_z, SFits, lane_codes, passed, gain_fits, PairPicked}
 use Rattle.list_viterbi.proofs.LaneGains.{pair_more}
 use Rattle.list_viterbi.proofs.LanePairs.{two_gains, gains_kept, gains_room}
 use Rattle.list_viterbi.proofs.StateCodes.{gain_passed}

@@ -1,6 +1,4 @@
-use Rattle.std.proofs.Common.{◌≡◌, ◌/◌, ◌%◌, ◌<◌, ℕ, length, get_or}
-use Rattle.list_viterbi.specs.Heads.{four_of, row_of}
-use Rattle.list_viterbi.specs.Picks.{HasPicks, picks_into}
+use Rattle.list_viterbi.proofs.Common.{◌≡◌, ◌/◌, ◌%◌, ◌<◌, ℕ, length, get_or, four_of, row_of, HasPicks, picks_into}
 use Rattle.list_viterbi.proofs.lanes.step_four.Given as goal
 
 abbrev pub invariant-loop-block : goal.invariant-loop-block

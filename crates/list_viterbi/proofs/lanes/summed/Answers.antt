@@ -1,4 +1,4 @@
-use Rattle.viterbi.proofs.LaneLemmas.{added_lanes}
+use Rattle.list_viterbi.proofs.Common.{added_lanes}
 use Rattle.list_viterbi.proofs.lanes.summed.Goals as goal
 
 pub returns : goal.returns

@@ -1,6 +1,5 @@
-use Rattle.std.proofs.Common.{[], ◌∷◌, pos, rules, FitsSigned, w64}
+use Rattle.list_viterbi.proofs.Common.{[], ◌∷◌, pos, rules, FitsSigned, w64, kept}
 use Rattle.list_viterbi.proofs.LaneChoices.{handed, chosen_is, heads_are}
-use Rattle.viterbi.proofs.Blocks.{kept}
 use Rattle.list_viterbi.proofs.lanes.turn.Goals as goal
 
 pub chosen-score-requires-clause-even_fit : goal.chosen-score-requires-clause-even_fit

@@ -1,28 +1,13 @@
-use Rattle.std.proofs.Common.{◌≡◌, ◌+◌, ◌*◌, ◌<◌, ◌≤◌, ◌∷◌, ◌++◌, [], true, false, drop, length}
-use Rattle.std.proofs.Common.{refl}
-use Rattle.std.proofs.Common.{sym, ◌∙◌, arith, rules, to_z, of_z}
-use Rattle.std.proofs.Common.{length-append, w64}
-use Rattle.std.proofs.lemmas.Int.{to_z-of_z}
-use mir.Val.{SFits}
-use Rattle.list_viterbi.specs.Merging.{second_is_next}
-use Rattle.list_viterbi.specs.Picks.{pick_score, picks_from}
+use Rattle.list_viterbi.proofs.Common.{◌≡◌, ◌+◌, ◌*◌, ◌<◌, ◌≤◌, ◌∷◌, ◌++◌, [], true, false, drop, length, refl, sym, ◌∙◌, arith, to_z, of_z}
+use Rattle.list_viterbi.proofs.Common.{length-append, w64, to_z-of_z, second_is_next, pick_score, picks_from}
 use Rattle.list_viterbi.proofs.Masks.{weight_most, weight_next}
-use Rattle.list_viterbi.proofs.Picks.{odd_has, picked_none, picked_odd, picked_even, picked_over}
-use Rattle.list_viterbi.proofs.Picks.{picked_all}
-use Rattle.list_viterbi.proofs.picking.picked.Goals.{then-takes_odd}
-use Rattle.list_viterbi.proofs.picking.picked.Goals.{else-takes_odd+then-i-len}
-use Rattle.list_viterbi.proofs.picking.picked.Goals.{else-takes_odd+else-i-len}
+use Rattle.list_viterbi.proofs.Picks.{odd_has, picked_none, picked_odd, picked_even, picked_over, picked_all}
+use Rattle.list_viterbi.proofs.picking.picked.Goals.{then-takes_odd, else-takes_odd+then-i-len, else-takes_odd+else-i-len}
 use Rattle.list_viterbi.proofs.picking.picked.Goals as goal
 
 pub loop-n-init : goal.loop-n-init
 loop-n-init c =
-    let fits : SFits w64 c.args.even_gain = search rules in
-    let fits' : SFits w64 c.args.odd_gain = search rules in
-    rw (
-      to_z-of_z w64 c.args.even_gain fits,
-      to_z-of_z w64 c.args.odd_gain fits',
-      c.clear.ensures,
-    )
+    rw (to_z-of_z w64 c.args.even_gain c.ranges.even_gain, to_z-of_z w64 c.args.odd_gain c.ranges.odd_gain, c.clear.ensures)
     (record {
       even_place = omega arith;
       odd_place = omega arith;
@@ -30,8 +15,7 @@ loop-n-init c =
       power = refl;
       weight_most = omega arith;
       small = omega arith;
-      picked = picked_none c.args.k (picks_from 0 c.args.even_gain 0 c.args.even.now)
-          (picks_from 1 c.args.odd_gain 0 c.args.odd.now);
+      picked = picked_none c.args.k _ _;
     })
 
 pub sum_at-requires-clause-place : goal.sum_at-requires-clause-place
@@ -119,8 +103,6 @@ loop-n-preserved c =
 
 pub returns : goal.returns
 returns c =
-    let fits : SFits w64 c.args.even_gain = search rules in
-    let fits' : SFits w64 c.args.odd_gain = search rules in
     let all = picked_all c.args.k c.loop-n.i c.loop-n.j c.loop-n._n _ _ c.loop-n.scores
     c.loop-n.choices (omega arith) c.loop-n.invariant.picked in
-    rw (to_z-of_z w64 c.args.even_gain fits, to_z-of_z w64 c.args.odd_gain fits') at all
+    rw (to_z-of_z w64 c.args.even_gain c.ranges.even_gain, to_z-of_z w64 c.args.odd_gain c.ranges.odd_gain) at all

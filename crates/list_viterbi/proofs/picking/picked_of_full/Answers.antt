@@ -1,12 +1,5 @@
-use Rattle.std.proofs.Common.{◌≡◌, ◌+◌, ◌-◌, ◌*◌, ◌∷◌, ◌++◌, [], ℕ, length, get_or, refl}
-use Rattle.std.proofs.Common.{sym, ap, ◌∙◌, arith, rules, to_z, of_z, pos, ◌+ℤ◌, ℤ, Bool, w64}
-use Rattle.std.proofs.Common.{length-append}
-use Rattle.std.specs.Prelude.{int_lt}
-use Rattle.std.proofs.lemmas.Int.{to_z-of_z}
-use mir.Val.{SFits}
-use Rattle.chip_core.specs.Bits.{digit}
-use Rattle.viterbi.specs.Rows.{taken_of}
-use Rattle.list_viterbi.specs.Picks.{picks_from}
+use Rattle.list_viterbi.proofs.Common.{◌≡◌, ◌+◌, ◌-◌, ◌*◌, ◌∷◌, ◌++◌, [], ℕ, length, get_or, refl, sym, ap, ◌∙◌, arith, rules, to_z, of_z}
+use Rattle.list_viterbi.proofs.Common.{pos, ◌+ℤ◌, ℤ, Bool, w64, length-append, int_lt, to_z-of_z, SFits, digit, taken_of}
 use Rattle.list_viterbi.proofs.BoolBytes.{byte_digit}
 use Rattle.list_viterbi.proofs.Masks.{weight_most, weight_next, digit_most}
 use Rattle.list_viterbi.proofs.Picks.{picked_none, picked_next, picked_all}
@@ -14,25 +7,19 @@ use Rattle.list_viterbi.proofs.picking.picked_of_full.Goals as goal
 
 pub loop-n-init : goal.loop-n-init
 loop-n-init c =
-    let fits : SFits w64 c.args.even_gain = search rules in
-    let fits' : SFits w64 c.args.odd_gain = search rules in
-    rw (
-      to_z-of_z w64 c.args.even_gain fits,
-      to_z-of_z w64 c.args.odd_gain fits',
-      c.clear.ensures,
-    )
+    rw (to_z-of_z w64 c.args.even_gain c.ranges.even_gain, to_z-of_z w64 c.args.odd_gain c.ranges.odd_gain, c.clear.ensures)
     (record {
       before = omega arith;
       many = refl;
       power = refl;
       weight_most = omega arith;
       small = omega arith;
-      picked = picked_none c.args.k (picks_from 0 c.args.even_gain 0 c.args.even.now)
-          (picks_from 1 c.args.odd_gain 0 c.args.odd.now);
+      picked = picked_none c.args.k _ _;
     })
 
 pub loop-n-preserved : goal.loop-n-preserved
 loop-n-preserved c =
+    let inv = c.loop-n.invariant in
     let even = c.args.even.now in
     let odd = c.args.odd.now in
     let g = to_z w64 (of_z w64 c.args.even_gain) in
@@ -43,7 +30,6 @@ loop-n-preserved c =
     let scores = c.loop-n.scores in
     let choices = c.loop-n.choices in
     let weight = c.loop-n.weight in
-    let inv = c.loop-n.invariant in
     let before = inv.before in
     let many = inv.many in
     let small = inv.small in
@@ -89,8 +75,6 @@ loop-n-preserved c =
 
 pub returns : goal.returns
 returns c =
-    let fits : SFits w64 c.args.even_gain = search rules in
-    let fits' : SFits w64 c.args.odd_gain = search rules in
     let all = picked_all c.args.k (c.loop-n.n - c.loop-n.j) c.loop-n.j c.loop-n.n _ _
     c.loop-n.scores c.loop-n.choices (omega arith) c.loop-n.invariant.picked in
-    rw (to_z-of_z w64 c.args.even_gain fits, to_z-of_z w64 c.args.odd_gain fits') at all
+    rw (to_z-of_z w64 c.args.even_gain c.ranges.even_gain, to_z-of_z w64 c.args.odd_gain c.ranges.odd_gain) at all

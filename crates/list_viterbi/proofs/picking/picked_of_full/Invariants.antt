@@ -1,5 +1,4 @@
-use Rattle.std.proofs.Common.{◌≡◌, ◌-◌, ◌<◌, ◌≤◌, ◌^◌, length}
-use Rattle.list_viterbi.specs.Picks.{picks_from}
+use Rattle.list_viterbi.proofs.Common.{◌≡◌, ◌-◌, ◌<◌, ◌≤◌, ◌^◌, length, picks_from}
 use Rattle.list_viterbi.proofs.Picks.{IsPicked}
 use Rattle.list_viterbi.proofs.picking.picked_of_full.Given as goal
 

@@ -1,9 +1,4 @@
-use Rattle.std.proofs.Common.{◌∙◌, arith, w64}
-use Rattle.std.proofs.lemmas.Int.{to_z-of_z}
-use Rattle.std.proofs.lemmas.List.{length-set}
-use mir.Val.{SFits}
-use Rattle.viterbi.specs.Lanes.{code_of}
-use Rattle.list_viterbi.specs.Picks.{HasPicks, picks_into}
+use Rattle.list_viterbi.proofs.Common.{◌∙◌, arith, w64, to_z-of_z, length-set, SFits, code_of, HasPicks, picks_into}
 use Rattle.list_viterbi.proofs.StateCodes.{code_small, gain_passed, gain_size}
 use Rattle.list_viterbi.proofs.PickSteps.{gain_room, each_more}
 use Rattle.list_viterbi.proofs.picking.step.Goals as goal

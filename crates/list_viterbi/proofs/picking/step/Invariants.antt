@@ -1,5 +1,4 @@
-use Rattle.std.proofs.Common.{◌≡◌, ◌<◌, ℕ, [], length, get_or}
-use Rattle.list_viterbi.specs.Picks.{HasPicks, picks_into}
+use Rattle.list_viterbi.proofs.Common.{◌≡◌, ◌<◌, ℕ, [], length, get_or, HasPicks, picks_into}
 use Rattle.list_viterbi.proofs.picking.step.Given as goal
 
 abbrev pub invariant-loop-state : goal.invariant-loop-state

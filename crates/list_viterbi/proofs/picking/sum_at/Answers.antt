@@ -1,9 +1,5 @@
-use Rattle.std.proofs.Common.{◌≡◌, ◌+ℤ◌, ℤ, get_or, pos, ap, ◌∙◌, sym, rules, arith}
-use Rattle.std.proofs.Common.{w64}
-use Rattle.std.proofs.lemmas.Int.{ints, to_z-of_z, fits_signed_from_abs}
-use Rattle.std.proofs.lemmas.Option.{get_or_from_slice_get}
-use mir.Val.{SFits}
-use Rattle.viterbi.proofs.Scores.{sum_fits}
+use Rattle.list_viterbi.proofs.Common.{◌≡◌, ◌+ℤ◌, ℤ, get_or, pos, ap, ◌∙◌, sym, rules, arith, w64, ints, to_z-of_z, fits_signed_from_abs}
+use Rattle.list_viterbi.proofs.Common.{get_or_from_slice_get, SFits, sum_fits}
 use Rattle.list_viterbi.proofs.picking.sum_at.Goals as goal
 
 pub overflow_add-result : goal.overflow_add-result

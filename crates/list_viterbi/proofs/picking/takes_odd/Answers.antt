@@ -1,6 +1,4 @@
-use Rattle.std.proofs.Common.{sym, arith, rules, w64}
-use Rattle.std.proofs.lemmas.Int.{to_z-of_z}
-use mir.Val.{SFits}
+use Rattle.list_viterbi.proofs.Common.{sym, arith, rules, w64, to_z-of_z, SFits}
 use Rattle.list_viterbi.proofs.Picks.{odd_over, odd_only, odd_by_sum}
 use Rattle.list_viterbi.proofs.picking.takes_odd.Goals as goal
 

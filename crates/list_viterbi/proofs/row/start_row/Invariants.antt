@@ -1,5 +1,4 @@
-use Rattle.std.proofs.Common.{◌≡◌, ◌<◌, ℕ, [], length, get_or}
-use Rattle.list_viterbi.specs.Rows.{start_scores}
+use Rattle.list_viterbi.proofs.Common.{◌≡◌, ◌<◌, ℕ, [], length, get_or, start_scores}
 use Rattle.list_viterbi.proofs.row.start_row.Given as goal
 
 abbrev pub invariant-loop-state : goal.invariant-loop-state

@@ -1,6 +1,4 @@
-use Rattle.std.proofs.Common.{◌++◌, ◌∷◌, [], ap, ◌∙◌, arith}
-use Rattle.list_viterbi.specs.declared.words.Entry.{Entry}
-use Rattle.list_viterbi.specs.Rows.{entry_at}
+use Rattle.list_viterbi.proofs.Common.{◌++◌, ◌∷◌, [], ap, ◌∙◌, arith, Entry, entry_at}
 use Rattle.list_viterbi.proofs.Walks.{map_more}
 use Rattle.list_viterbi.proofs.tracing.all_traced.Goals as goal
 

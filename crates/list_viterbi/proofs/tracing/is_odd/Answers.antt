@@ -1,6 +1,4 @@
-use Rattle.std.proofs.Common.{◌/◌, ◌^◌, ℕ, ap}
-use Rattle.std.specs.Prelude.{nat_eq}
-use Rattle.std.proofs.lemmas.Nat.{and_mask}
+use Rattle.list_viterbi.proofs.Common.{◌/◌, ◌^◌, ℕ, ap, nat_eq, and_mask}
 use Rattle.list_viterbi.proofs.tracing.is_odd.Goals as goal
 
 pub returns : goal.returns

@@ -1,5 +1,4 @@
-use Rattle.std.proofs.Common.{◌≡◌, ◌∙◌, sym, arith}
-use Rattle.chip_core.specs.Bits.{digit}
+use Rattle.list_viterbi.proofs.Common.{◌≡◌, ◌∙◌, sym, arith, digit}
 use Rattle.list_viterbi.proofs.BoolBytes.{byte_digit}
 use Rattle.list_viterbi.proofs.Masks.{ones_none, ones_next, digit_most}
 use Rattle.list_viterbi.proofs.tracing.ones_below.Goals as goal

@@ -1,5 +1,4 @@
-use Rattle.std.proofs.Common.{◌≡◌, ◌≤◌}
-use Rattle.list_viterbi.specs.Picks.{ones_below}
+use Rattle.list_viterbi.proofs.Common.{◌≡◌, ◌≤◌, ones_below}
 use Rattle.list_viterbi.proofs.tracing.ones_below.Given as goal
 
 abbrev pub invariant-loop-lower : goal.invariant-loop-lower

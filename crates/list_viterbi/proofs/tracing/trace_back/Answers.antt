@@ -1,11 +1,7 @@
-use Rattle.std.proofs.Common.{◌≡◌, ◌+◌, ◌-◌, ◌*◌, ◌/◌, ◌%◌, ℕ, suc, length, arith, sym, ap, ◌∙◌}
-use Rattle.std.proofs.Common.{rules}
-use Rattle.list_viterbi.specs.Rows.{back_of, state_before, place_before, origin}
-use Rattle.list_viterbi.proofs.Tracings.{origin-back, path-back, origin-none, all_left, none_left}
+use Rattle.list_viterbi.proofs.Common.{◌≡◌, ◌+◌, ◌-◌, ◌*◌, ◌/◌, ◌%◌, ℕ, suc, length, arith, sym, ap, ◌∙◌, rules, back_of, state_before}
+use Rattle.list_viterbi.proofs.Common.{place_before, origin, less_none}
+use Rattle.list_viterbi.proofs.Tracings.{origin-back, path-back, origin_left, all_left, none_left}
 use Rattle.list_viterbi.proofs.tracing.trace_back.Goals as goal
-
-all_of : (n : ℕ) → n - 0 ≡ n
-all_of n = omega arith
 
 pub loop-back-init : goal.loop-back-init
 loop-back-init c = record {
@@ -13,9 +9,9 @@ loop-back-init c = record {
   small = search rules;
   rank_small = search rules;
   start = ap (λ (k : ℕ). origin c.args.rows.now k c.args.end c.args.place)
-      (all_of (length c.args.rows.now));
+      (less_none (length c.args.rows.now));
   whole = all_left c.args.rows.now (length c.args.rows.now) (length c.args.rows.now - 0) c.args.end
-      c.args.place c.args.bits.now (all_of (length c.args.rows.now)) (omega (arith, c.requires));
+      c.args.place c.args.bits.now (less_none (length c.args.rows.now)) (omega (arith, c.requires));
 }
 
 pub loop-back-preserved : goal.loop-back-preserved
@@ -53,16 +49,11 @@ loop-back-preserved c =
 
 pub returns-clause-start : goal.returns-clause-start
 returns-clause-start c =
-    let rows = c.args.rows.now in
-    let none : length rows - c.loop-back.back ≡ 0 = omega (arith, c.loop-back-test.false) in
-    sym (origin-none rows c.loop-back.state c.loop-back.rank)
-    ∙ ap (λ (k : ℕ). origin rows k c.loop-back.state c.loop-back.rank) (sym none)
-    ∙ c.loop-back.invariant.start
+    origin_left c.args.rows.now (length c.args.rows.now - c.loop-back.back) c.loop-back.state c.loop-back.rank
+    (omega (arith, c.loop-back-test.false)) ∙ c.loop-back.invariant.start
 
 pub returns-clause-bits : goal.returns-clause-bits
 returns-clause-bits c =
-    let rows = c.args.rows.now in
-    let none : length rows - c.loop-back.back ≡ 0 = omega (arith, c.loop-back-test.false) in
-    sym (none_left rows (length rows - c.loop-back.back) c.loop-back.state c.loop-back.rank
-    c.loop-back.bits none)
+    sym (none_left c.args.rows.now (length c.args.rows.now - c.loop-back.back) c.loop-back.state
+    c.loop-back.rank c.loop-back.bits (omega (arith, c.loop-back-test.false)))
     ∙ c.loop-back.invariant.whole

@@ -1,5 +1,4 @@
-use Rattle.std.proofs.Common.{◌≡◌, ◌-◌, ◌<◌, ◌++◌, length, drop}
-use Rattle.list_viterbi.specs.Rows.{path, origin}
+use Rattle.list_viterbi.proofs.Common.{◌≡◌, ◌-◌, ◌<◌, ◌++◌, length, drop, path, origin}
 use Rattle.list_viterbi.proofs.tracing.trace_back.Given as goal
 
 abbrev pub invariant-loop-back : goal.invariant-loop-back

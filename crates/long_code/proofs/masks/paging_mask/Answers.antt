@@ -1,4 +1,4 @@
-use Rattle.std.proofs.Common.{◌≡◌, ◌<◌, ◌+◌, ◌*◌, ◌%◌, ℕ, bit_or, sym, ap, ◌∙◌, arith}
+use Rattle.long_code.proofs.Common.{◌≡◌, ◌<◌, ◌+◌, ◌*◌, ◌%◌, ℕ, bit_or, sym, ap, ◌∙◌, arith}
 use Rattle.long_code.proofs.Fields.{paging_mask_is, paging_word}
 use Rattle.long_code.proofs.masks.paging_mask.Goals as goal
 

@@ -1,5 +1,4 @@
-use Rattle.std.proofs.Common.{◌≡◌, ℕ, refl, ap, ◌∙◌, arith}
-use Rattle.chip_core.specs.Bits.{number, binary}
+use Rattle.long_code.proofs.Common.{◌≡◌, ℕ, refl, ap, ◌∙◌, arith, number, binary}
 use Rattle.long_code.proofs.Fields.{place_below, first_bits, first_bits_lt, first_bits-more, traffic_mask_is}
 use Rattle.long_code.proofs.masks.traffic_mask.Goals as goal
 

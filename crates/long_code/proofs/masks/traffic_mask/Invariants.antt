@@ -1,5 +1,4 @@
-use Rattle.std.proofs.Common.{◌≡◌}
-use Rattle.chip_core.specs.Bits.{number}
+use Rattle.long_code.proofs.Common.{◌≡◌, number}
 use Rattle.long_code.proofs.Fields.{first_bits}
 use Rattle.long_code.proofs.masks.traffic_mask.Given as goal
 

@@ -1,7 +1,5 @@
-use Rattle.std.proofs.Common.{◌≡◌, ◌-◌, ◌/◌, ◌^◌, ℕ, true, false, sym, ap, ◌∙◌, arith, eq-eqb, bit_and, bit_xor}
-use Rattle.std.proofs.lemmas.Bool.{ne_eqb}
-use Rattle.std.proofs.lemmas.Nat.{xor_lt}
-use Rattle.long_code.specs.LongCode.{after}
+use Rattle.long_code.proofs.Common.{◌≡◌, ◌-◌, ◌/◌, ◌^◌, ℕ, true, false, sym, ap, ◌∙◌, arith, eq-eqb, bit_and, bit_xor, ne_eqb, xor_lt}
+use Rattle.long_code.proofs.Common.{after}
 use Rattle.long_code.proofs.Product.{after-zero, product_more}
 use Rattle.long_code.proofs.state.product.Goals as goal
 

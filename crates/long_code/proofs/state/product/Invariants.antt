@@ -1,5 +1,4 @@
-use Rattle.std.proofs.Common.{◌≡◌, ◌<◌, ◌/◌, ◌^◌, ℕ}
-use Rattle.long_code.specs.LongCode.{after}
+use Rattle.long_code.proofs.Common.{◌≡◌, ◌<◌, ◌/◌, ◌^◌, ℕ, after}
 use Rattle.long_code.proofs.state.product.Given as goal
 
 -- the product of the digits that were read

@@ -1,7 +1,5 @@
-use Rattle.std.proofs.Common.{◌≡◌, ◌/◌, ◌%◌, ◌*◌, ◌^◌, ◌<◌, ℕ, true, false, sym, ◌∙◌, arith, eq-eqb, bit_and}
-use Rattle.std.proofs.lemmas.Nat.{and_mask, xor_lt}
-use Rattle.std.proofs.lemmas.Bool.{ne_eqb}
-use Rattle.chip_core.specs.Bits.{bit_of}
+use Rattle.long_code.proofs.Common.{◌≡◌, ◌/◌, ◌%◌, ◌*◌, ◌^◌, ◌<◌, ℕ, true, false, sym, ◌∙◌, arith, eq-eqb, bit_and, and_mask, xor_lt}
+use Rattle.long_code.proofs.Common.{ne_eqb, bit_of}
 use Rattle.long_code.proofs.After.{after_one}
 use Rattle.long_code.proofs.state.times_x.Goals as goal
 

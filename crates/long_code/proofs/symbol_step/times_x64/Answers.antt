@@ -1,5 +1,4 @@
-use Rattle.std.proofs.Common.{◌≡◌, ◌<◌, ◌%◌, ◌^◌, ℕ, arith, sym, ap, subst, ◌∙◌}
-use Rattle.long_code.specs.LongCode.{after}
+use Rattle.long_code.proofs.Common.{◌≡◌, ◌<◌, ◌%◌, ◌^◌, ℕ, arith, sym, ap, subst, ◌∙◌, after}
 use Rattle.long_code.proofs.After.{after_lt}
 use Rattle.long_code.proofs.Product.{after-zero}
 use Rattle.long_code.proofs.BitPairs.{bits_left, pair_more, all_bits}

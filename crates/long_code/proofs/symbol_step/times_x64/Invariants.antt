@@ -1,5 +1,4 @@
-use Rattle.std.proofs.Common.{◌≡◌, ◌*◌, ◌/◌, ◌%◌, ◌^◌}
-use Rattle.long_code.specs.LongCode.{after}
+use Rattle.long_code.proofs.Common.{◌≡◌, ◌*◌, ◌/◌, ◌%◌, ◌^◌, after}
 use Rattle.long_code.proofs.symbol_step.times_x64.Given as goal
 
 -- the product of the bits that were read

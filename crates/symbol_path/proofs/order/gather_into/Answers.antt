@@ -3,6 +3,11 @@ use Rattle.symbol_path.proofs.Interleaving.{symbol_lt, size_some, count_is}
 use Rattle.symbol_path.proofs.Gathering.{part-none, part, turn, turn_sizes, sum_has_room, added_fits, gathered_all}
 use Rattle.symbol_path.proofs.order.gather_into.Goals as goal
 
+place_within : (address before long now from repeats n : ℕ) → from ≡ repeats → now ≡ long →
+    long ≡ before → before * repeats ≡ n → address < n → address / from < now
+place_within address before long now from repeats n same kept cleared code below =
+    symbol_lt address now from n (rw (same, kept, cleared) code) below
+
 pub loop-i-init : goal.loop-i-init
 loop-i-init c = record {
   sums = λ k. c.clear.ensures.sums k ∙
@@ -14,11 +19,8 @@ loop-i-init c = record {
 pub overflow_add-out : goal.overflow_add-out
 overflow_add-out c =
     let at = c.address.result / c.from.result in
-    let code : length c.loop-i.out * c.from.result ≡ size (shape_of c.args.kind) =
-    rw (c.from.ensures, c.loop-i.auto.out, c.clear.auto.values) c.requires.code in
-    let within : at < length c.loop-i.out =
-    symbol_lt c.address.result (length c.loop-i.out) c.from.result (size (shape_of c.args.kind))
-    code c.address.ensures.below in
+    let within = place_within c.address.result _ _ (length c.loop-i.out) c.from.result _ _ c.from.ensures c.loop-i.auto.out
+    c.clear.auto.values c.requires.code c.address.ensures.below in
     let inside : c.loop-i.i < length c.args.softs.now =
     omega (arith, c.requires.sent, c.frame_symbols-i-end.ensures, c.loop-i-test.true) in
     added_fits (get_or c.loop-i.out at (pos 0)) (get_or c.args.softs.now c.loop-i.i (pos 0))
@@ -28,11 +30,8 @@ overflow_add-out c =
 pub loop-i-preserved : goal.loop-i-preserved
 loop-i-preserved c =
     let at = c.address.result / c.from.result in
-    let code : length c.loop-i.out * c.from.result ≡ size (shape_of c.args.kind) =
-    rw (c.from.ensures, c.loop-i.auto.out, c.clear.auto.values) c.requires.code in
-    let within : at < length c.loop-i.out =
-    symbol_lt c.address.result (length c.loop-i.out) c.from.result (size (shape_of c.args.kind))
-    code c.address.ensures.below in
+    let within = place_within c.address.result _ _ (length c.loop-i.out) c.from.result _ _ c.from.ensures c.loop-i.auto.out
+    c.clear.auto.values c.requires.code c.address.ensures.below in
     let inside : c.loop-i.i < length c.args.softs.now =
     omega (arith, c.requires.sent, c.frame_symbols-i-end.ensures, c.loop-i-test.true) in
     let here : at ≡ address (shape_of c.args.kind) c.loop-i.i / c.args.repeats =

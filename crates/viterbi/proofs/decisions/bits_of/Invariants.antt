@@ -1,4 +1,4 @@
-use Rattle.std.proofs.Common.{◌≡◌, take}
+use Rattle.viterbi.proofs.Common.{◌≡◌, take}
 use Rattle.viterbi.proofs.decisions.bits_of.Given as goal
 
 abbrev pub invariant-loop-bit : goal.invariant-loop-bit

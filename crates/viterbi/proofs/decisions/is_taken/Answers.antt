@@ -1,7 +1,4 @@
-use Rattle.std.proofs.Common.{◌/◌, ◌%◌, ◌^◌, ℕ, get_or, ap}
-use Rattle.std.specs.Prelude.{nat_eq}
-use Rattle.std.proofs.lemmas.Nat.{and_mask}
-use Rattle.viterbi.specs.Rows.{took}
+use Rattle.viterbi.proofs.Common.{◌/◌, ◌%◌, ◌^◌, ℕ, get_or, ap, nat_eq, and_mask, took}
 use Rattle.viterbi.proofs.decisions.is_taken.Goals as goal
 
 pub returns : goal.returns

@@ -1,5 +1,4 @@
-use Rattle.std.proofs.Common.{◌≡◌, ◌-◌, ◌<◌, ◌++◌, length, drop}
-use Rattle.viterbi.specs.Rows.{path, origin}
+use Rattle.viterbi.proofs.Common.{◌≡◌, ◌-◌, ◌<◌, ◌++◌, length, drop, path, origin}
 use Rattle.viterbi.proofs.decisions.trace_back.Given as goal
 
 abbrev pub invariant-loop-back : goal.invariant-loop-back

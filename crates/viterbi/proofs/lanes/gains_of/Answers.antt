@@ -1,5 +1,4 @@
-use Rattle.std.proofs.Common.{◌+◌, ◌*◌, ℕ, get_or, pos, arith, ap, ◌∙◌, w64}
-use mir.Val.{SFits}
+use Rattle.viterbi.proofs.Common.{◌+◌, ◌*◌, ℕ, get_or, pos, arith, ap, ◌∙◌, w64, SFits}
 use Rattle.viterbi.proofs.BlockSteps.{kind_small, gains_read}
 use Rattle.viterbi.proofs.lanes.gains_of.Goals as goal
 
@@ -9,6 +8,6 @@ returns-clause-lanes c l b =
     let is = c.kind_of-kind.ensures.value in
     let fits : SFits w64 (get_or c.args.gains.now (8 * c.kind_of-kind.result + l) (pos 0)) =
     c.requires.fit _ (omega (arith, few, is, b)) in
-    gains_read c.args.gains.now (8 * c.kind_of-kind.result) l c.told-gains (omega (arith, few, is))
+    gains_read 8 c.args.gains.now (8 * c.kind_of-kind.result) l c.told-gains (omega (arith, few, is))
     b fits
     ∙ ap (λ (k : ℕ). get_or c.args.gains.now (8 * k + l) (pos 0)) is

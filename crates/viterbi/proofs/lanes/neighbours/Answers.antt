@@ -1,5 +1,4 @@
-use Rattle.std.proofs.Common.{◌+◌, ◌*◌, ◌<◌, ◌≤◌, ℕ, arith, w64}
-use Rattle.std.proofs.lemmas.Int.{to_z-of_z}
+use Rattle.viterbi.proofs.Common.{◌+◌, ◌*◌, ◌<◌, ◌≤◌, ℕ, arith, w64, to_z-of_z}
 use Rattle.viterbi.proofs.BlockSteps.{less_lanes, less_read, less_long}
 use Rattle.viterbi.proofs.lanes.neighbours.Goals as goal
 

@@ -1,5 +1,4 @@
-use Rattle.std.proofs.Common.{◌+◌, ◌*◌, ℕ, get_or, ◌∙◌, arith, to_z, w64, pos}
-use mir.Val.{SFits}
+use Rattle.viterbi.proofs.Common.{◌+◌, ◌*◌, ℕ, get_or, ◌∙◌, arith, to_z, w64, pos, SFits}
 use Rattle.viterbi.proofs.Parted.{two_chunks, lane_read, evens, odds}
 use Rattle.viterbi.proofs.lanes.parted.Goals as goal
 
@@ -9,8 +8,8 @@ returns-clause-even c l b =
     let at = c.args.at in
     let fits : SFits w64 (get_or row (at + 2 * l) (pos 0)) =
     c.requires.fit _ (omega (arith, b, c.requires.room)) in
-    evens (λ (j : ℕ). to_z w64 (get_or (two_chunks row at) j 0)) l b
-    ∙ lane_read row at (2 * l) (omega (arith, c.requires.room)) (omega (arith, b)) fits
+    evens (λ (j : ℕ). to_z w64 (get_or (two_chunks 8 row at) j 0)) l b
+    ∙ lane_read 8 row at (2 * l) (omega (arith, c.requires.room)) (omega (arith, b)) fits
 
 pub returns-clause-odd : goal.returns-clause-odd
 returns-clause-odd c l b =
@@ -18,5 +17,5 @@ returns-clause-odd c l b =
     let at = c.args.at in
     let fits : SFits w64 (get_or row (at + (2 * l + 1)) (pos 0)) =
     c.requires.fit _ (omega (arith, b, c.requires.room)) in
-    odds (λ (j : ℕ). to_z w64 (get_or (two_chunks row at) j 0)) l b
-    ∙ lane_read row at (2 * l + 1) (omega (arith, c.requires.room)) (omega (arith, b)) fits
+    odds (λ (j : ℕ). to_z w64 (get_or (two_chunks 8 row at) j 0)) l b
+    ∙ lane_read 8 row at (2 * l + 1) (omega (arith, c.requires.room)) (omega (arith, b)) fits

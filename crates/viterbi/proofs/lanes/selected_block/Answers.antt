@@ -1,11 +1,7 @@
-use Rattle.std.proofs.Common.{◌≡◌, ◌+ℤ◌, ◌-ℤ◌, ◌∙◌, ℤ, List, true, length, get_or, pos, sym, ap}
-use Rattle.std.proofs.Common.{arith}
-use Rattle.viterbi.proofs.Blocks.{kept, left_fits, right_fits, sums_fit, differences_fit, lane_of}
-use Rattle.viterbi.proofs.Blocks.{block_metric, block_choice, sum_is, difference_is, long_sum}
-use Rattle.viterbi.proofs.Blocks.{long_difference, long_block}
+use Rattle.viterbi.proofs.Common.{◌≡◌, ◌+ℤ◌, ◌-ℤ◌, ◌∙◌, ℤ, List, true, length, get_or, pos, sym, ap, arith, number, nat_tests}
+use Rattle.viterbi.proofs.Blocks.{kept, left_fits, right_fits, sums_fit, differences_fit, lane_of, block_metric, block_choice, sum_is}
+use Rattle.viterbi.proofs.Blocks.{difference_is, long_sum, long_difference, long_block}
 use Rattle.viterbi.specs.contracts.lanes.selected_block.{FORCED-type}
-use denote.Param.{number}
-use Rattle.std.proofs.lemmas.Bool.Decides.{nat_tests}
 use Rattle.viterbi.proofs.lanes.selected_block.Goals as goal
 
 pub moved_lanes-requires-clause-even : goal.moved_lanes-requires-clause-even

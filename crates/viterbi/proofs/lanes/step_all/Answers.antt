@@ -1,12 +1,7 @@
-use Rattle.std.proofs.Common.{◌≡◌, ◌+◌, ◌*◌, ◌/◌, ◌%◌, ◌<◌, ◌-ℤ◌, ◌∙◌, ℕ, get_or, pos, rules, w64}
-use Rattle.std.proofs.Common.{map, to_z, arith}
-use Rattle.std.proofs.lemmas.Int.{to_z-of_z}
-use Rattle.std.proofs.lemmas.Simd.{length-put_chunk}
-use Rattle.chip_core.specs.Bits.{bit_of}
-use Rattle.viterbi.specs.Rows.{metric_into, choice_into}
+use Rattle.viterbi.proofs.Common.{◌≡◌, ◌+◌, ◌*◌, ◌/◌, ◌%◌, ◌<◌, ◌-ℤ◌, ◌∙◌, ℕ, get_or, pos, rules, w64, map, to_z, arith, to_z-of_z}
+use Rattle.viterbi.proofs.Common.{length-put_chunk, bit_of, metric_into, choice_into, number}
 use Rattle.viterbi.proofs.RowSteps.{metric_fits, metrics_lanes, wings_more, choices_more}
 use Rattle.viterbi.specs.contracts.lanes.step_all.{FORCED-type}
-use denote.Param.{number}
 use Rattle.viterbi.proofs.Blocks.{kept}
 use Rattle.viterbi.proofs.GreatestLanes.{IsGreaterOf, AreTops, tops_first, tops_more, row_greatest}
 use Rattle.viterbi.proofs.lanes.step_all.Goals as goal
@@ -29,14 +24,14 @@ loop-k-init g c =
           (tops_first
           (λ t. metric_into forced c.args.row.now c.args.first c.args.second t -ℤ c.args.top)
           (metric_fits forced c.args.row.now c.args.top c.args.first c.args.second 0
-          c.requires.pair c.requires.most c.requires.near));
+          c.requires.row.pair c.requires.row.most c.requires.row.near));
     }
 
 pub greater-requires-clause-one_fit : goal.greater-requires-clause-one_fit
 greater-requires-clause-one_fit g c =
     let lower = metrics_lanes (FORCED-type (number g.row.FORCED)) c.args.row.now c.args.top
     c.args.first c.args.second c.loop-k.k c.block_step-bits.result.0 c.block_step-bits.ensures.long
-    c.requires.pair c.requires.most c.requires.near c.ranges.top c.ranges.first c.ranges.second
+    c.requires.row.pair c.requires.row.most c.requires.row.near c.ranges.top c.ranges.first c.ranges.second
     c.block_step-bits.ensures.metrics in
     rw lower.kept lower.fit
 
@@ -44,7 +39,7 @@ pub greater-requires-clause-other_fit : goal.greater-requires-clause-other_fit
 greater-requires-clause-other_fit g c =
     let upper = metrics_lanes (FORCED-type (number g.row.FORCED)) c.args.row.now c.args.top
     c.args.first c.args.second (16 + c.loop-k.k) c.block_step-upper_bits.result.0
-    c.block_step-upper_bits.ensures.long c.requires.pair c.requires.most c.requires.near
+    c.block_step-upper_bits.ensures.long c.requires.row.pair c.requires.row.most c.requires.row.near
     c.ranges.top c.ranges.first c.ranges.second c.block_step-upper_bits.ensures.metrics in
     rw upper.kept upper.fit
 
@@ -66,11 +61,11 @@ loop-k-preserved g c =
     let es = to_z-of_z w64 s c.ranges.second in
     let lower = metrics_lanes (FORCED-type (number g.row.FORCED)) c.args.row.now c.args.top
     c.args.first c.args.second c.loop-k.k c.block_step-bits.result.0 c.block_step-bits.ensures.long
-    c.requires.pair c.requires.most c.requires.near c.ranges.top c.ranges.first c.ranges.second
+    c.requires.row.pair c.requires.row.most c.requires.row.near c.ranges.top c.ranges.first c.ranges.second
     c.block_step-bits.ensures.metrics in
     let upper = metrics_lanes (FORCED-type (number g.row.FORCED)) c.args.row.now c.args.top
     c.args.first c.args.second (16 + c.loop-k.k) c.block_step-upper_bits.result.0
-    c.block_step-upper_bits.ensures.long c.requires.pair c.requires.most c.requires.near
+    c.block_step-upper_bits.ensures.long c.requires.row.pair c.requires.row.most c.requires.row.near
     c.ranges.top c.ranges.first c.ranges.second c.block_step-upper_bits.ensures.metrics in
     let low = c.block_step-bits.result in
     let high = c.block_step-upper_bits.result in
@@ -115,8 +110,8 @@ loop-k-preserved g c =
           (rw (et, ef, es) at c.loop-k.invariant.tops) wings all lower.each upper.each);
     }
 
-pub returns-clause-greatest : goal.returns-clause-greatest
-returns-clause-greatest g c =
+pub returns : goal.returns
+returns g c =
     let forced = FORCED-type (number g.row.FORCED) in
     let row = c.args.row.now in
     let top = c.args.top in
@@ -131,7 +126,11 @@ returns-clause-greatest g c =
     let metrics : (t : ℕ) → t < 256 →
     get_or c.loop-k.next t (pos 0) ≡ metric_into forced row f s t -ℤ top =
     λ t b. (rw (et, ef, es) at c.loop-k.invariant.metrics) t b (rw all (omega arith)) in
-    rw (to_z-of_z w64 c.greatest.result (record { sfits = c.greatest.type_inv }))
-    (row_greatest (λ t. metric_into forced row f s t -ℤ top) (map (to_z w64) c.loop-k.most)
-    c.loop-k.next c.greatest.result c.loop-k.invariant.whole tops
-    c.greatest.ensures metrics)
+    record {
+      whole = c.loop-k.invariant.whole;
+      metrics = metrics;
+      choices = λ t b. (rw (ef, es) at c.loop-k.invariant.chosen) t b (rw all (omega arith));
+      greatest = rw (to_z-of_z w64 c.greatest.result (record { sfits = c.greatest.type_inv }))
+          (row_greatest (λ t. metric_into forced row f s t -ℤ top) (map (to_z w64) c.loop-k.most)
+          c.loop-k.next c.greatest.result c.loop-k.invariant.whole tops c.greatest.ensures metrics);
+    }

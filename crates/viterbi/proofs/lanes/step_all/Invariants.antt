@@ -1,7 +1,5 @@
-use Rattle.std.proofs.Common.{◌≡◌, ◌/◌, ◌%◌, ◌<◌, ◌-ℤ◌, ℕ, length, get_or, map, pos, to_z, w64}
-use Rattle.viterbi.specs.Rows.{took, metric_into, choice_into}
+use Rattle.viterbi.proofs.Common.{◌≡◌, ◌/◌, ◌%◌, ◌<◌, ◌-ℤ◌, ℕ, length, get_or, map, pos, to_z, w64, took, metric_into, choice_into, number}
 use Rattle.viterbi.specs.contracts.lanes.step_all.{FORCED-type}
-use denote.Param.{number}
 use Rattle.viterbi.proofs.GreatestLanes.{AreTops}
 use Rattle.viterbi.proofs.lanes.step_all.Given as goal
 

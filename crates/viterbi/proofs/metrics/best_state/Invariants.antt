@@ -1,4 +1,4 @@
-use Rattle.std.proofs.Common.{◌<◌, ◌<ℤ◌, ◌≤ℤ◌, ℕ, get_or, pos}
+use Rattle.viterbi.proofs.Common.{◌<◌, ◌<ℤ◌, ◌≤ℤ◌, ℕ, get_or, pos}
 use Rattle.viterbi.proofs.metrics.best_state.Given as goal
 
 abbrev pub invariant-loop-state : goal.invariant-loop-state

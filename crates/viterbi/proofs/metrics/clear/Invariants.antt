@@ -1,4 +1,4 @@
-use Rattle.std.proofs.Common.{◌≡◌, ◌<◌, ℕ, length, get_or, pos}
+use Rattle.viterbi.proofs.Common.{◌≡◌, ◌<◌, ℕ, length, get_or, pos}
 use Rattle.viterbi.proofs.metrics.clear.Given as goal
 
 abbrev pub invariant-loop-metric : goal.invariant-loop-metric

@@ -1,4 +1,4 @@
-use Rattle.std.proofs.Common.{◌<◌, ◌≤ℤ◌, ℕ, ℤ, length, get_or, pos}
+use Rattle.viterbi.proofs.Common.{◌<◌, ◌≤ℤ◌, ℕ, ℤ, length, get_or, pos}
 use Rattle.viterbi.proofs.metrics.greatest.Given as goal
 
 abbrev pub invariant-loop-metric : goal.invariant-loop-metric

@@ -1,5 +1,4 @@
-use Rattle.std.proofs.Common.{refl}
-use Rattle.viterbi.specs.Lanes.{kinds}
+use Rattle.viterbi.proofs.Common.{refl, kinds}
 use Rattle.viterbi.proofs.BlockSteps.{kind_small}
 use Rattle.viterbi.proofs.symbol_gains.kind_of.Goals as goal
 

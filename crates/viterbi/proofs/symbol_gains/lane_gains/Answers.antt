@@ -1,6 +1,4 @@
-use Rattle.std.proofs.Common.{w64}
-use Rattle.std.proofs.lemmas.Int.{to_z-of_z}
-use Rattle.viterbi.specs.Lanes.{lane_codes}
+use Rattle.viterbi.proofs.Common.{w64, to_z-of_z, lane_codes}
 use Rattle.viterbi.proofs.BlockSteps.{lanes_made}
 use Rattle.viterbi.proofs.symbol_gains.lane_gains.Goals as goal
 

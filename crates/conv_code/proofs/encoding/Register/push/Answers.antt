@@ -1,6 +1,4 @@
-use Rattle.std.proofs.Common.{refl, ◌∙◌, ap, map, ◌+◌, ◌*◌, ℕ, ◌≡◌, ◌%◌, ◌^◌}
-use Rattle.chip_core.specs.Bits.{parity, bit_of, binary}
-use Rattle.conv_code.specs.ConvCode.{g0, g1}
+use Rattle.conv_code.proofs.Common.{refl, ◌∙◌, ap, map, ◌+◌, ◌*◌, ℕ, ◌≡◌, ◌%◌, ◌^◌, parity, bit_of, binary, g0, g1}
 use Rattle.conv_code.proofs.Windows.{window, window_is, window_symbol, window_state, low_eight}
 use Rattle.conv_code.proofs.encoding.Register.push.Goals as goal
 

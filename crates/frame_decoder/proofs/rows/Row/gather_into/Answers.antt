@@ -1,5 +1,5 @@
-use Rattle.frame_decoder.proofs.Common.{◌≡◌, ◌*◌, ◌<◌, ℕ, arith, pos, get_or, length, sym, ap, ◌∙◌, rules, part-none, part, turn}
-use Rattle.frame_decoder.proofs.Common.{turn_sizes, sum_has_room, added_fits, sizes_none, bits_in, place_in}
+use Rattle.frame_decoder.proofs.Common.{◌≡◌, ◌<◌, ℕ, arith, pos, get_or, length, sym, ap, ◌∙◌, rules, part-none, part, turn, turn_sizes}
+use Rattle.frame_decoder.proofs.Common.{sum_has_room, added_fits, sizes_none, place_in}
 use Rattle.frame_decoder.proofs.RowWords.{gathered_all}
 use Rattle.frame_decoder.proofs.rows.Row.gather_into.Goals as goal
 
@@ -13,11 +13,8 @@ loop-i-init g c = record {
 pub overflow_add-out : goal.overflow_add-out
 overflow_add-out g c =
     let at = c.place-symbol.result in
-    let long : length c.loop-i.out ≡ 2 * bits_in c.args.self.now =
-    c.loop-i.auto.out ∙ c.requires.code in
     let many : length c.args.softs.now ≡ 384 = search rules in
-    let within : at < length c.loop-i.out =
-    omega (arith, long, c.place-symbol.ensures.below) in
+    let within : at < length c.loop-i.out = omega (arith, c.loop-i.auto.out, c.requires.code, c.place-symbol.ensures.below) in
     let inside : c.loop-i.i < length c.args.softs.now = omega (arith, many, c.loop-i-test.true) in
     added_fits (get_or c.loop-i.out at (pos 0)) (get_or c.args.softs.now c.loop-i.i (pos 0))
     (sum_has_room c.loop-i.out c.args.softs.now at c.loop-i.i within inside
@@ -26,11 +23,8 @@ overflow_add-out g c =
 pub loop-i-preserved : goal.loop-i-preserved
 loop-i-preserved g c =
     let at = c.place-symbol.result in
-    let long : length c.loop-i.out ≡ 2 * bits_in c.args.self.now =
-    c.loop-i.auto.out ∙ c.requires.code in
     let many : length c.args.softs.now ≡ 384 = search rules in
-    let within : at < length c.loop-i.out =
-    omega (arith, long, c.place-symbol.ensures.below) in
+    let within : at < length c.loop-i.out = omega (arith, c.loop-i.auto.out, c.requires.code, c.place-symbol.ensures.below) in
     let inside : c.loop-i.i < length c.args.softs.now = omega (arith, many, c.loop-i-test.true) in
     record {
       sums = turn (place_in c.args.self.now) c.loop-i.i at c.loop-i.out c.args.softs.now

@@ -1,4 +1,4 @@
-use Rattle.std.proofs.Common.{◌≡◌, vec_len}
+use Rattle.list_viterbi.proofs.Common.{◌≡◌, vec_len}
 use Rattle.list_viterbi.proofs.Standing.{Stands}
 use Rattle.list_viterbi.proofs.decoder.ListDecoder.list_into.Given as goal
 

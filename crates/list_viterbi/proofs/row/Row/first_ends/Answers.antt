@@ -1,8 +1,4 @@
-use Rattle.std.proofs.Common.{◌≡◌, length, drop, sym, ◌∙◌, arith}
-use Rattle.std.proofs.lemmas.List.{take_at}
-use Rattle.viterbi.specs.Survivors.{end_count}
-use Rattle.viterbi.proofs.Made.{end_count_le}
-use Rattle.list_viterbi.specs.Heads.{row_of}
+use Rattle.list_viterbi.proofs.Common.{◌≡◌, length, drop, sym, ◌∙◌, arith, take_at, end_count, end_count_le, row_of}
 use Rattle.list_viterbi.proofs.LanePicks.{row_read}
 use Rattle.list_viterbi.proofs.RowLayouts.{scores_by_place, words_of, same_finds}
 use Rattle.list_viterbi.proofs.row.Row.first_ends.Goals as goal

@@ -1,6 +1,4 @@
-use Rattle.std.proofs.Common.{◌≡◌, length, drop, arith}
-use Rattle.std.proofs.lemmas.List.{take_at}
-use Rattle.list_viterbi.specs.Heads.{row_of}
+use Rattle.list_viterbi.proofs.Common.{◌≡◌, length, drop, arith, take_at, row_of}
 use Rattle.list_viterbi.proofs.LanePicks.{row_read}
 use Rattle.list_viterbi.proofs.RowLayouts.{scores_by_state}
 use Rattle.list_viterbi.proofs.row.Row.lay_out.Goals as goal

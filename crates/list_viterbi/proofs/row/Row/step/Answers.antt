@@ -1,11 +1,6 @@
-use Rattle.std.proofs.Common.{◌≡◌, ◌∙◌, ◌+◌, ◌^◌, ◌≤◌, [], length, get_or, arith, w64}
-use Rattle.std.proofs.Common.{unsigned_abs}
-use Rattle.std.proofs.lemmas.Int.{to_z-of_z}
-use Rattle.std.proofs.lemmas.List.{with_items_is}
-use Rattle.list_viterbi.specs.Heads.{row_of, four_of}
-use Rattle.list_viterbi.specs.Picks.{HasPicks, picks_into}
-use Rattle.list_viterbi.proofs.RowLayouts.{scores_by_place, scores_by_state, words_of, each_rank}
-use Rattle.list_viterbi.proofs.RowLayouts.{places_stepped, states_stepped}
+use Rattle.list_viterbi.proofs.Common.{◌≡◌, ◌∙◌, ◌+◌, ◌^◌, ◌≤◌, [], length, get_or, arith, w64, unsigned_abs, to_z-of_z, with_items_is}
+use Rattle.list_viterbi.proofs.Common.{row_of, four_of, HasPicks, picks_into}
+use Rattle.list_viterbi.proofs.RowLayouts.{scores_by_place, scores_by_state, words_of, each_rank, places_stepped, states_stepped}
 use Rattle.list_viterbi.proofs.row.Row.step.Goals as goal
 
 pub step_four-requires-clause-room : goal.step_four-requires-clause-room
@@ -49,21 +44,19 @@ returns-clause-each c t b =
     let inside = c.self.inside in
     let value = c.args.self.now in
     let states = inside.states.items in
-    let next = c.step.new.next in
-    let choices = c.step.new.choices in
     let scores = scores_by_state inside.k inside.is_by_place (row_of inside.ranks.items) states
     value c.self.view_is c.if-self.false in
     let words = words_of inside.k inside.is_by_place (row_of inside.ranks.items) states value
     c.self.view_is in
-    let long : length next ≡ inside.next_states.len =
+    let long : length c.step.new.next ≡ inside.next_states.len =
     omega (arith, c.step.ensures.whole, c.self.invariant) in
-    let items : c.swap-2.new.x.items ≡ next =
-    rw c.swap-2.ensures.x_after (with_items_is inside.next_states next long) in
-    let same : get_or c.lay_out.new.self.scores t [] ≡ get_or next t [] =
+    let items : c.swap-2.new.x.items ≡ c.step.new.next =
+    rw c.swap-2.ensures.x_after (with_items_is inside.next_states c.step.new.next long) in
+    let same : get_or c.lay_out.new.self.scores t [] ≡ get_or c.step.new.next t [] =
     rw (c.if-self.false, items) at (c.lay_out.ensures.scores t b) in
-    let each : HasPicks (get_or next t []) (get_or choices t 0) (picks_into states f s inside.k t) =
+    let each : HasPicks (get_or c.step.new.next t []) (get_or c.step.new.choices t 0) (picks_into states f s inside.k t) =
     rw (to_z-of_z w64 f c.ranges.first, to_z-of_z w64 s c.ranges.second, c.deref-2.ensures.value)
     at (c.step.ensures.each t b) in
     rw words
-    (states_stepped states next value.scores c.lay_out.new.self.scores f s inside.k choices t scores
+    (states_stepped states c.step.new.next value.scores c.lay_out.new.self.scores f s inside.k c.step.new.choices t scores
     same each)

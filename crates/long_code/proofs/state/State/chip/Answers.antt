@@ -1,5 +1,4 @@
-use Rattle.std.proofs.Common.{ℕ, ap, ◌∙◌}
-use Rattle.long_code.specs.LongCode.{long_chip}
+use Rattle.long_code.proofs.Common.{ℕ, ap, ◌∙◌, long_chip}
 use Rattle.long_code.proofs.Chips.{chip_is}
 use Rattle.long_code.proofs.state.State.chip.Goals as goal
 

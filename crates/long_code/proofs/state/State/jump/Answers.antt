@@ -1,10 +1,8 @@
-use Rattle.std.proofs.Common.{◌≡◌, ◌+◌, ◌*◌, ◌%◌, ◌^◌, ◌<◌, ℕ, sym, ap, subst, ◌∙◌, arith, bit_and}
-use Rattle.std.proofs.lemmas.Nat.{and_mask}
-use Rattle.long_code.specs.LongCode.{IsState, after}
+use Rattle.long_code.proofs.Common.{◌≡◌, ◌+◌, ◌*◌, ◌%◌, ◌^◌, ◌<◌, ℕ, sym, ap, subst, ◌∙◌, arith, bit_and, and_mask, IsState, after}
 use Rattle.long_code.proofs.After.{after_one, after-after, after_none, odd_left, even_left}
 use Rattle.long_code.proofs.Period.{IsState-after}
-use Rattle.long_code.proofs.state.State.jump.Goals as goal
 use Rattle.long_code.proofs.state.State.jump.Goals.{then-left-eq1, else-left-eq1}
+use Rattle.long_code.proofs.state.State.jump.Goals as goal
 
 pub loop-left-init : goal.loop-left-init
 loop-left-init c =
