@@ -41,7 +41,7 @@ pub use Rattle.viterbi.proofs.Choices.{Either, IsPushed, leads_both, leads_trans
 pub use Rattle.viterbi.proofs.Codes.{code_gains}
 pub use Rattle.viterbi.proofs.Finish.{IntoBelow, allowed_into, below_first, below_or_last, into_allowed, more_below, no_bits, score-none}
 pub use Rattle.viterbi.proofs.Finish.{zero_start}
-pub use Rattle.viterbi.proofs.LaneLemmas.{added_lanes, chosen_lane, less_bits, less_lanes, mask_of, taken_lanes}
+pub use Rattle.viterbi.proofs.LaneLemmas.{added_lanes, less_bits, mask_of, taken_lanes}
 pub use Rattle.viterbi.proofs.Made.{end_count_le, end_read}
 pub use Rattle.viterbi.proofs.Parted.{lane_read}
 pub use Rattle.viterbi.proofs.Rooms.{score_size}

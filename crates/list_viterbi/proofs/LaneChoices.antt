@@ -1,7 +1,7 @@
 -- Lanes of two scores chosen by two heads.
 use Rattle.list_viterbi.proofs.Common.{◌≡◌, Bool, true, false, List, [], ◌∷◌, map, refl, ap, ◌∙◌, ℤ, to_z, of_z, FitsSigned, w64, int_lt}
-use Rattle.list_viterbi.proofs.Common.{tops_compared, Each1, zip2, sel_l, chosen_lane, less_bits, less_lanes, mask_of, passed, kept, choose}
-use Rattle.list_viterbi.proofs.Common.{HeadsFit, even_heads, odd_heads, Heads}
+use Rattle.list_viterbi.proofs.Common.{tops_compared, Each1, zip2, sel_l, less_bits, mask_of, passed, kept, choose, HeadsFit, even_heads}
+use Rattle.list_viterbi.proofs.Common.{odd_heads, Heads, cond, taken_of}
 
 abbrev pub heads_of : List ℤ → List ℤ → List ℤ → List ℤ → Heads
 heads_of a b c d = record { first = a; second = b; third = c; fourth = d }
@@ -9,42 +9,39 @@ heads_of a b c d = record { first = a; second = b; third = c; fourth = d }
 abbrev pub AllFit : List ℤ → Type 0
 AllFit xs = Each1 (λ x. FitsSigned w64 x) xs
 
-mask_is : (xs ys : List ℤ) → AllFit xs → AllFit ys → mask_of xs ys ≡ zip2 int_lt xs ys
-mask_is xs ys p q =
-    tops_compared w64 less_bits (map (of_z w64) xs) (map (of_z w64) ys)
-    ∙ less_lanes xs ys p q
+less_held : (xs ys : List ℤ) → zip2 less_bits (map (of_z w64) xs) (map (of_z w64) ys)
+    ≡ zip2 int_lt (passed xs) (passed ys)
+less_held [] ys = refl
+less_held (x ∷ xs) [] = refl
+less_held (x ∷ xs) (y ∷ ys) =
+    ap (λ (ts : List Bool). less_bits (of_z w64 x) (of_z w64 y) ∷ ts) (less_held xs ys)
 
-chosen_by : (ts : List Bool) (xs ys : List ℤ) → AllFit xs → AllFit ys →
-    map (to_z w64) (sel_l ts (map (of_z w64) ys) (map (of_z w64) xs)) ≡ choose ts xs ys
-chosen_by [] xs ys p q = refl
-chosen_by (t ∷ ts) [] [] p q = refl
-chosen_by (t ∷ ts) [] (y ∷ ys) p q = refl
-chosen_by (t ∷ ts) (x ∷ xs) [] p q = refl
-chosen_by (t ∷ ts) (x ∷ xs) (y ∷ ys) p q =
-    λ i. chosen_lane t x y p.0 q.0 i ∷ chosen_by ts xs ys p.1 q.1 i
+held_lane : (t : Bool) (x y : ℤ) →
+    to_z w64 (cond t (of_z w64 y) (of_z w64 x))
+    ≡ taken_of t (to_z w64 (of_z w64 x)) (to_z w64 (of_z w64 y))
+held_lane true x y = refl
+held_lane false x y = refl
 
-pub chosen_lanes : (es os xs ys : List ℤ) → AllFit es → AllFit os → AllFit xs → AllFit ys →
+chosen_by : (ts : List Bool) (xs ys : List ℤ) →
+    map (to_z w64) (sel_l ts (map (of_z w64) ys) (map (of_z w64) xs))
+    ≡ choose ts (passed xs) (passed ys)
+chosen_by [] xs ys = refl
+chosen_by (t ∷ ts) [] [] = refl
+chosen_by (t ∷ ts) [] (y ∷ ys) = refl
+chosen_by (t ∷ ts) (x ∷ xs) [] = refl
+chosen_by (t ∷ ts) (x ∷ xs) (y ∷ ys) = λ i. held_lane t x y i ∷ chosen_by ts xs ys i
+
+pub chosen_lanes : (es os xs ys : List ℤ) →
     map (to_z w64) (sel_l (mask_of es os) (map (of_z w64) ys) (map (of_z w64) xs))
-    ≡ choose (zip2 int_lt es os) xs ys
-chosen_lanes es os xs ys p q r s =
+    ≡ choose (zip2 int_lt (passed es) (passed os)) (passed xs) (passed ys)
+chosen_lanes es os xs ys =
     ap (λ (ts : List Bool). map (to_z w64) (sel_l ts (map (of_z w64) ys) (map (of_z w64) xs)))
-    (mask_is es os p q) ∙ chosen_by (zip2 int_lt es os) xs ys r s
+    (tops_compared w64 less_bits (map (of_z w64) es) (map (of_z w64) os) ∙ less_held es os)
+    ∙ chosen_by (zip2 int_lt (passed es) (passed os)) xs ys
 
--- lanes that are handed on
-pub handed : (xs : List ℤ) → AllFit xs → AllFit (passed xs)
-handed xs h = rw (kept xs h) h
-
-pub first_handed : (h : Heads) → HeadsFit h → AllFit (passed h.first)
-first_handed h fit = handed h.first fit.first
-
-pub second_handed : (h : Heads) → HeadsFit h → AllFit (passed h.second)
-second_handed h fit = handed h.second fit.second
-
-pub third_handed : (h : Heads) → HeadsFit h → AllFit (passed h.third)
-third_handed h fit = handed h.third fit.third
-
-pub fourth_handed : (h : Heads) → HeadsFit h → AllFit (passed h.fourth)
-fourth_handed h fit = handed h.fourth fit.fourth
+-- lanes that are handed on twice
+kept_twice : (xs : List ℤ) → AllFit xs → passed (passed xs) ≡ xs
+kept_twice xs h = ap passed (kept xs h) ∙ kept xs h
 
 pub choose_fits : (ts : List Bool) (xs ys : List ℤ) → AllFit xs → AllFit ys →
     AllFit (choose ts xs ys)
@@ -55,11 +52,11 @@ choose_fits (true ∷ ts) (x ∷ xs) (y ∷ ys) p q = (q.0, choose_fits ts xs ys
 choose_fits (false ∷ ts) (x ∷ xs) (y ∷ ys) p q = (p.0, choose_fits ts xs ys p.1 q.1)
 
 pub chosen_is : (made es os xs ys : List ℤ) → AllFit es → AllFit os → AllFit xs → AllFit ys →
-    made ≡ choose (zip2 int_lt (passed es) (passed os)) (passed xs) (passed ys) →
-    passed made ≡ choose (zip2 int_lt es os) xs ys
+    made ≡ choose (zip2 int_lt (passed (passed es)) (passed (passed os))) (passed (passed xs))
+    (passed (passed ys)) → passed made ≡ choose (zip2 int_lt es os) xs ys
 chosen_is made es os xs ys p q r s is =
     let plain : made ≡ choose (zip2 int_lt es os) xs ys =
-    rw (kept es p, kept os q, kept xs r, kept ys s) at is in
+    rw (kept_twice es p, kept_twice os q, kept_twice xs r, kept_twice ys s) at is in
     ap passed plain
     ∙ kept (choose (zip2 int_lt es os) xs ys) (choose_fits (zip2 int_lt es os) xs ys r s)
 

@@ -1,6 +1,8 @@
 -- The merge of two lists of sums turn by turn, without places: each turn takes the greater of the
 -- two heads, and moves both lists so that the next heads stand in front.
-use Rattle.std.specs.Prelude.{ℕ, zero, suc, ◌+◌, ◌*◌, Bool, List, [], ◌∷◌, get_or, ℤ, pos, int_lt}
+use Rattle.std.specs.Prelude.{ℕ, zero, suc, ◌+◌, ◌*◌, Bool, List, [], ◌∷◌, get_or, map, ℤ, pos, int_lt}
+use Rattle.std.specs.Int.{w64}
+use mir.Val.{of_z, to_z}
 use Rattle.chip_core.specs.Bits.{digit}
 use Rattle.viterbi.specs.Rows.{taken_of}
 
@@ -42,3 +44,7 @@ choose [] xs ys = []
 choose (t ∷ ts) [] ys = []
 choose (t ∷ ts) (x ∷ xs) [] = []
 choose (t ∷ ts) (x ∷ xs) (y ∷ ys) = taken_of t x y ∷ choose ts xs ys
+
+-- numbers as 64 bits hold them
+abbrev pub held : List ℤ → List ℤ
+held xs = map (to_z w64) (map (of_z w64) xs)

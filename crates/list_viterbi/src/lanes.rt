@@ -8,9 +8,9 @@ ghost use Rattle.std.specs.Prelude.{◌≡◌, ◌<◌, ◌≤◌, ◌+◌, ◌*
 ghost use Rattle.std.specs.Prelude.{int_lt, length, get_or, pos, replicate, true, unsigned_abs};
 ghost use Rattle.std.specs.Prelude.{FitsSigned};
 ghost use Rattle.std.specs.Int.{w64};
-ghost use lib.Lanes.{Each1, Each2, zip2, put_chunk};
+ghost use lib.Lanes.{Each2, zip2, put_chunk};
 ghost use Rattle.viterbi.specs.Lanes.{Fit};
-ghost use Rattle.list_viterbi.specs.Turns.{choose};
+ghost use Rattle.list_viterbi.specs.Turns.{choose, held};
 ghost use Rattle.list_viterbi.specs.Heads.{HeadsFit, less_heads, even_heads, odd_heads};
 ghost use Rattle.list_viterbi.specs.Heads.{RaisedFit, raised_heads, LoweredFit, lowered_heads};
 ghost use Rattle.list_viterbi.specs.Heads.{four_scores, four_choices, two_from, heads_from};
@@ -101,11 +101,7 @@ fn lowered(heads: &Heads, gain: i64x2) -> Heads
 
 /// Of each two lanes the one of `second` where the head of the list of oldest bit 1 is greater.
 fn chosen(even: i64x2, odd: i64x2, first: i64x2, second: i64x2) -> i64x2
-    requires even_fit { Each1 (λ x. FitsSigned w64 x) even }
-    requires odd_fit { Each1 (λ x. FitsSigned w64 x) odd }
-    requires first_fit { Each1 (λ x. FitsSigned w64 x) first }
-    requires second_fit { Each1 (λ x. FitsSigned w64 x) second }
-    ensures { result ≡ choose (zip2 int_lt even odd) first second }
+    ensures { result ≡ choose (zip2 int_lt (held even) (held odd)) (held first) (held second) }
 {
     even.simd_lt(odd).select(second, first)
 }

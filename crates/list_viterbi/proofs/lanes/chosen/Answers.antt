@@ -2,6 +2,4 @@ use Rattle.list_viterbi.proofs.LaneChoices.{chosen_lanes}
 use Rattle.list_viterbi.proofs.lanes.chosen.Goals as goal
 
 pub returns : goal.returns
-returns c =
-    chosen_lanes c.args.even c.args.odd c.args.first c.args.second c.requires.even_fit
-    c.requires.odd_fit c.requires.first_fit c.requires.second_fit
+returns c = chosen_lanes c.args.even c.args.odd c.args.first c.args.second

@@ -15,9 +15,7 @@ loop-bit-init c = record {
 }
 
 pub step-requires-clause-fits : goal.step-requires-clause-fits
-step-requires-clause-fits c =
-    pair_small c.args.softs.now c.loop-bit.bit (omega (arith, c.loop-bit-test.true))
-    c.requires.bound
+step-requires-clause-fits c = pair_small c.args.softs.now c.loop-bit.bit (omega (arith, c.loop-bit-test.true)) c.requires.bound
 
 pub step-requires-clause-room : goal.step-requires-clause-room
 step-requires-clause-room c =
