@@ -34,17 +34,6 @@ impl Model for SurvivorDecoder {
     ghost invariant = { λ d. (d.max_bits ≤ 576) × (vec_len d.row ≡ 256) × (vec_len d.next ≡ 256) };
 }
 
-/// A row of states without survivors.
-fn empty_row(alloc: Global) -> Result<Vec<Option<Survivor>>, OutOfMemory>
-    ensures { IfOk result (λ row. vec_len row ≡ 256) }
-{
-    let mut row = Vec::with_capacity(alloc, 256)?;
-    for _state in 0..256usize {
-        row.push(None)?;
-    }
-    Ok(row)
-}
-
 impl SurvivorDecoder {
     /// A decoder for words of at most `max_bits` bits, from 8 to 576; `OutOfMemory` where the
     /// allocator has none.
@@ -53,8 +42,8 @@ impl SurvivorDecoder {
         requires most { max_bits ≤ 576 }
         ensures { IfOk result (λ decoder. decoder ≡ max_bits) }
     {
-        let row = empty_row(alloc)?;
-        let next = empty_row(alloc)?;
+        let row = vec![in alloc; None; 256]?;
+        let next = vec![in alloc; None; 256]?;
         Ok(SurvivorDecoder {
             max_bits,
             row,

@@ -21,29 +21,30 @@ fn some_softs() -> [i64; 384] {
 }
 
 /// Lists four words so many times.
+macro_rules! list_four {
+    ($rt:expr, $decoder:expr, $softs:expr, $turns:expr) => {{
+        assert!($rt; is_bounded($softs));
+        assert!($rt; $softs.len() == 384);
+        let mut words = Words::empty();
+        for _turn in 0..$turns {
+            $decoder.list_into($softs, Ends::Zero, 4, &mut words);
+        }
+        assert!($rt; words.len() == 4);
+    }};
+}
+
+/// The work of the list decoder on rows of choices.
 fn list_on_rows(rt: &impl Abort, decoder: &mut ListDecoder, softs: &[i64], turns: u16)
     requires { decoder.old ≡ 576 }
 {
-    assert!(rt; is_bounded(softs));
-    assert!(rt; softs.len() == 384);
-    let mut words = Words::empty();
-    for _turn in 0..turns {
-        decoder.list_into(softs, Ends::Zero, 4, &mut words);
-    }
-    assert!(rt; words.len() == 4);
+    list_four!(rt, decoder, softs, turns);
 }
 
 /// The same by the decoder that keeps whole words.
 fn list_by_words(rt: &impl Abort, decoder: &mut WordListDecoder, softs: &[i64], turns: u16)
     requires { decoder.old ≡ 576 }
 {
-    assert!(rt; is_bounded(softs));
-    assert!(rt; softs.len() == 384);
-    let mut words = Words::empty();
-    for _turn in 0..turns {
-        decoder.list_into(softs, Ends::Zero, 4, &mut words);
-    }
-    assert!(rt; words.len() == 4);
+    list_four!(rt, decoder, softs, turns);
 }
 
 #[test]

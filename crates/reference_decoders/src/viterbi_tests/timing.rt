@@ -10,9 +10,19 @@ use std::process::Abort;
 use std::test::Fail;
 use viterbi::{Decoder, Ends, Word};
 
+/// A word that was sent, and the soft values that are heard of it.
+#[derive(Drop)]
+struct Sending {
+    softs: [i64; 1152],
+    /// How many of the soft values are heard.
+    count: usize,
+    ends: Ends,
+    word: Word,
+}
+
 /// A word to be sent, and soft values of its symbols' signs, between 1 and 2,047 in absolute value.
 /// The word's score is the sum of the absolute values, so it is the best.
-fn sent(rt: &impl Abort, count: u16, ends: Ends, softs: &mut [i64]) -> Word {
+fn sent_into(rt: &impl Abort, count: u16, ends: Ends, softs: &mut [i64]) -> Word {
     let mut generator = Generator(8);
     let mut bits = Bits::empty();
     for i in 0..count {
@@ -35,89 +45,78 @@ fn sent(rt: &impl Abort, count: u16, ends: Ends, softs: &mut [i64]) -> Word {
     Word { start, bits }
 }
 
-/// Sees that the decoder finds the sent word, so many times.
-fn decode_on_rows(
-    rt: &impl Abort,
-    decoder: &mut Decoder,
-    softs: &[i64],
-    ends: Ends,
-    sent: &Word,
-    turns: u16,
-)
+/// A word of so many bits that was sent.
+fn sent(rt: &impl Abort, bits: u16, ends: Ends) -> Sending {
+    let mut softs = [0; 1152];
+    let count = 2 * usize::from(bits);
+    assert!(rt; count <= 1152);
+    let word = sent_into(rt, bits, ends, &mut softs[..count]);
+    Sending {
+        softs,
+        count,
+        ends,
+        word,
+    }
+}
+
+/// Sees that a decoder finds the sent word, so many times.
+macro_rules! decode {
+    ($rt:expr, $decoder:expr, $sent:expr, $turns:expr) => {{
+        assert!($rt; $sent.count <= 1152);
+        let softs = &$sent.softs[..$sent.count];
+        assert!($rt; is_bounded(softs));
+        assert!($rt; softs.len() % 2 == 0);
+        assert!($rt; softs.len() >= 16);
+        let mut word = Word {
+            start: 0,
+            bits: Bits::empty(),
+        };
+        for _turn in 0..$turns {
+            $decoder.best_into(softs, $sent.ends, &mut word);
+        }
+        assert!($rt; word == $sent.word);
+    }};
+}
+
+/// The work of the decoder on rows of decisions.
+fn decode_on_rows(rt: &impl Abort, decoder: &mut Decoder, sent: &Sending, turns: u16)
     requires { decoder.old ≡ 576 }
 {
-    assert!(rt; is_bounded(softs));
-    assert!(rt; softs.len() % 2 == 0);
-    assert!(rt; softs.len() >= 16);
-    assert!(rt; softs.len() <= 1152);
-    let mut word = Word {
-        start: 0,
-        bits: Bits::empty(),
-    };
-    for _turn in 0..turns {
-        decoder.best_into(softs, ends, &mut word);
-    }
-    assert!(rt; word == *sent);
+    decode!(rt, decoder, sent, turns);
 }
 
 /// The same by the decoder that keeps each state's best word whole.
-fn decode_by_survivors(
-    rt: &impl Abort,
-    decoder: &mut SurvivorDecoder,
-    softs: &[i64],
-    ends: Ends,
-    sent: &Word,
-    turns: u16,
-)
+fn decode_by_survivors(rt: &impl Abort, decoder: &mut SurvivorDecoder, sent: &Sending, turns: u16)
     requires { decoder.old ≡ 576 }
 {
-    assert!(rt; is_bounded(softs));
-    assert!(rt; softs.len() % 2 == 0);
-    assert!(rt; softs.len() >= 16);
-    assert!(rt; softs.len() <= 1152);
-    let mut word = Word {
-        start: 0,
-        bits: Bits::empty(),
-    };
-    for _turn in 0..turns {
-        decoder.best_into(softs, ends, &mut word);
-    }
-    assert!(rt; word == *sent);
+    decode!(rt, decoder, sent, turns);
 }
 
 // `tools/bench` times these four tests, and knows how often each decodes.
 #[test]
 fn rows_decode_576_free_bits_100_times(rt: HostRuntime) -> Result<(), Fail> {
     let mut decoder = Decoder::new(rt.alloc(), 576)?;
-    let mut softs = [0; 1152];
-    let word = sent(&rt, 576, Ends::Free, &mut softs);
-    decode_on_rows(&rt, &mut decoder, &softs, Ends::Free, &word, 100);
+    decode_on_rows(&rt, &mut decoder, &sent(&rt, 576, Ends::Free), 100);
     Ok(())
 }
 
 #[test]
 fn survivors_decode_576_free_bits_4_times(rt: HostRuntime) -> Result<(), Fail> {
     let mut decoder = SurvivorDecoder::new(rt.alloc(), 576)?;
-    let mut softs = [0; 1152];
-    let word = sent(&rt, 576, Ends::Free, &mut softs);
-    decode_by_survivors(&rt, &mut decoder, &softs, Ends::Free, &word, 4);
+    decode_by_survivors(&rt, &mut decoder, &sent(&rt, 576, Ends::Free), 4);
     Ok(())
 }
 
 #[test]
 fn rows_decode_192_bits_between_zeros_300_times(rt: HostRuntime) -> Result<(), Fail> {
     let mut decoder = Decoder::new(rt.alloc(), 576)?;
-    let mut softs = [0; 384];
-    let word = sent(&rt, 192, Ends::Zero, &mut softs);
-    decode_on_rows(&rt, &mut decoder, &softs, Ends::Zero, &word, 300);
+    decode_on_rows(&rt, &mut decoder, &sent(&rt, 192, Ends::Zero), 300);
     Ok(())
 }
 
 #[test]
 fn survivors_decode_192_bits_between_zeros_12_times(rt: HostRuntime) -> Result<(), Fail> {
     let mut decoder = SurvivorDecoder::new(rt.alloc(), 576)?;
-    let mut softs = [0; 384];
-    let word = sent(&rt, 192, Ends::Zero, &mut softs);
-    decode_by_survivors(&rt, &mut decoder, &softs, Ends::Zero, &word, 12);
+    decode_by_survivors(&rt, &mut decoder, &sent(&rt, 192, Ends::Zero), 12);
     Ok(())
 }

@@ -1,8 +1,7 @@
-use Rattle.std.proofs.Common.{◌≡◌, ◌+◌, ◌*◌, ◌/◌, length, drop, get_or, ◌∙◌, rules, arith}
-use Rattle.std.proofs.Common.{add-one, pos, w64, Some, None}
+use Rattle.std.proofs.Common.{◌≡◌, ◌/◌, length, drop, ◌∙◌, rules, arith, add-one, w64, Some, None}
 use Rattle.std.proofs.lemmas.Int.{to_z-of_z}
 use Rattle.std.proofs.lemmas.List.{take_at, with_items_is}
-use Rattle.viterbi.proofs.Scores.{pair_size}
+use Rattle.viterbi.proofs.Scores.{pair_kept, pair_small}
 use Rattle.viterbi.proofs.Steps.{survivor_into_best}
 use Rattle.viterbi.proofs.Rooms.{rooms}
 use Rattle.viterbi.proofs.Finish.{survive_start, best_is, some_best}
@@ -24,22 +23,13 @@ loop-bit-init c =
     }
 
 pub step-requires-clause-fits : goal.step-requires-clause-fits
-step-requires-clause-fits c =
-    let softs = c.args.softs.now in
-    let one = to_z-of_z w64 (get_or softs (2 * c.loop-bit.bit) (pos 0)) (search rules) in
-    let two = to_z-of_z w64 (get_or softs (2 * c.loop-bit.bit + 1) (pos 0)) (search rules) in
-    rw (one, two) (omega (
-      arith,
-      pair_size softs c.loop-bit.bit (omega (arith, c.loop-bit-test.true)),
-      c.requires.bound,
-    ))
+step-requires-clause-fits c = pair_small c.args.softs.now c.loop-bit.bit (omega (arith, c.loop-bit-test.true)) c.requires.bound
 
 pub step-requires-clause-room : goal.step-requires-clause-room
 step-requires-clause-room c =
     let softs = c.args.softs.now in
-    let one = to_z-of_z w64 (get_or softs (2 * c.loop-bit.bit) (pos 0)) (search rules) in
-    let two = to_z-of_z w64 (get_or softs (2 * c.loop-bit.bit + 1) (pos 0)) (search rules) in
-    rw (one, two, c.deref.ensures.value)
+    let pair = pair_kept softs c.loop-bit.bit (omega (arith, c.loop-bit-test.true)) c.requires.bound in
+    rw (pair.0, pair.1, c.deref.ensures.value)
     (rooms softs c.args.ends c.loop-bit.bit c.loop-bit.self-inside.row.items
     (omega (arith, c.loop-bit-test.true)) c.requires.bound
     (omega (arith, c.loop-bit-test.true, c.requires.most, c.self.view_is, c.self.invariant))
@@ -48,8 +38,7 @@ step-requires-clause-room c =
 pub loop-bit-preserved : goal.loop-bit-preserved
 loop-bit-preserved c =
     let softs = c.args.softs.now in
-    let one = to_z-of_z w64 (get_or softs (2 * c.loop-bit.bit) (pos 0)) (search rules) in
-    let two = to_z-of_z w64 (get_or softs (2 * c.loop-bit.bit + 1) (pos 0)) (search rules) in
+    let pair = pair_kept softs c.loop-bit.bit (omega (arith, c.loop-bit-test.true)) c.requires.bound in
     let items : c.swap.new.x.items ≡ c.step.new.next =
     rw c.swap.ensures.x_after
     (with_items_is c.loop-bit.self-inside.next c.step.new.next (omega arith)) in
@@ -59,7 +48,7 @@ loop-bit-preserved c =
       kept = c.loop-bit.invariant.kept;
       survive = λ t h.
           let each = c.step.ensures.each t h in
-          let each' = rw (one, two, c.deref.ensures.value) at each in
+          let each' = rw (pair.0, pair.1, c.deref.ensures.value) at each in
           rw (items, each', add-one c.loop-bit.bit)
           (survivor_into_best softs c.args.ends c.loop-bit.bit c.loop-bit.self-inside.row.items
           (omega (arith, c.loop-bit-test.true)) c.loop-bit.invariant.survive t h);

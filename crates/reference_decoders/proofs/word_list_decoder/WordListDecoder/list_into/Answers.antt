@@ -1,12 +1,8 @@
-use Rattle.std.proofs.Common.{◌≡◌, ◌+◌, ◌*◌, ◌/◌, length, map, drop, get_or, sym, ◌∙◌, rules}
-use Rattle.std.proofs.Common.{arith, add-one, pos, w64}
-use Rattle.std.proofs.lemmas.Int.{to_z-of_z}
-use Rattle.std.proofs.lemmas.List.{take_at, with_items_is, length-map}
+use Rattle.std.proofs.Common.{◌≡◌, ◌/◌, length, drop, ◌∙◌, rules, arith, add-one}
+use Rattle.std.proofs.lemmas.List.{take_at, with_items_is}
 use Rattle.list_viterbi.proofs.Steps.{listed_start, list_into_lists}
-use Rattle.viterbi.proofs.Scores.{pair_size}
-use Rattle.list_viterbi.specs.First.{word_of}
-use Rattle.list_viterbi.proofs.Places.{how_many}
-use Rattle.list_viterbi.proofs.Rooms.{rooms, found_first, found_scores}
+use Rattle.viterbi.proofs.Scores.{pair_kept, pair_small}
+use Rattle.list_viterbi.proofs.Rooms.{rooms, found_first, found_number, found_scores}
 use Rattle.reference_decoders.proofs.Ends.{run_lists}
 use Rattle.reference_decoders.proofs.word_list_decoder.WordListDecoder.list_into.Goals as goal
 
@@ -25,22 +21,13 @@ loop-bit-init c =
     }
 
 pub step-requires-clause-fits : goal.step-requires-clause-fits
-step-requires-clause-fits c =
-    let softs = c.args.softs.now in
-    let one = to_z-of_z w64 (get_or softs (2 * c.loop-bit.bit) (pos 0)) (search rules) in
-    let two = to_z-of_z w64 (get_or softs (2 * c.loop-bit.bit + 1) (pos 0)) (search rules) in
-    rw (one, two) (omega (
-      arith,
-      pair_size softs c.loop-bit.bit (omega (arith, c.loop-bit-test.true)),
-      c.requires.bound,
-    ))
+step-requires-clause-fits c = pair_small c.args.softs.now c.loop-bit.bit (omega (arith, c.loop-bit-test.true)) c.requires.bound
 
 pub step-requires-clause-room : goal.step-requires-clause-room
 step-requires-clause-room c =
     let softs = c.args.softs.now in
-    let one = to_z-of_z w64 (get_or softs (2 * c.loop-bit.bit) (pos 0)) (search rules) in
-    let two = to_z-of_z w64 (get_or softs (2 * c.loop-bit.bit + 1) (pos 0)) (search rules) in
-    rw (one, two, c.deref.ensures.value)
+    let pair = pair_kept softs c.loop-bit.bit (omega (arith, c.loop-bit-test.true)) c.requires.bound in
+    rw (pair.0, pair.1, c.deref.ensures.value)
     (rooms softs c.args.ends c.args.k c.loop-bit.bit c.loop-bit.self-inside.row.items
     (omega (arith, c.loop-bit-test.true)) c.requires.bound
     (omega (arith, c.loop-bit-test.true, c.requires.most, c.self.view_is, c.self.invariant))
@@ -49,8 +36,7 @@ step-requires-clause-room c =
 pub loop-bit-preserved : goal.loop-bit-preserved
 loop-bit-preserved c =
     let softs = c.args.softs.now in
-    let one = to_z-of_z w64 (get_or softs (2 * c.loop-bit.bit) (pos 0)) (search rules) in
-    let two = to_z-of_z w64 (get_or softs (2 * c.loop-bit.bit + 1) (pos 0)) (search rules) in
+    let pair = pair_kept softs c.loop-bit.bit (omega (arith, c.loop-bit-test.true)) c.requires.bound in
     let items : c.swap.new.x.items ≡ c.step.new.next =
     rw c.swap.ensures.x_after
     (with_items_is c.loop-bit.self-inside.next c.step.new.next (omega arith)) in
@@ -60,32 +46,24 @@ loop-bit-preserved c =
       kept = c.loop-bit.invariant.kept;
       listed = λ t h.
           let each = c.step.ensures.each t h in
-          let each' = rw (one, two, c.deref.ensures.value) at each in
+          let each' = rw (pair.0, pair.1, c.deref.ensures.value) at each in
           rw (items, each', add-one c.loop-bit.bit)
           (list_into_lists softs c.args.ends c.args.k c.loop-bit.bit c.loop-bit.self-inside.row.items
           (omega (arith, c.loop-bit-test.true)) c.loop-bit.invariant.listed t h);
     }
 
 pub returns-clause-first : goal.returns-clause-first
-returns-clause-first c =
-    found_first c.args.softs.now _ c.args.k c.first_ends.result
-    (run_lists c.args.softs.now c.args.ends c.args.k c.loop-bit.bit _ _ c.first_ends.result
-    (omega (arith, c.loop-bit-test.false)) c.requires.least c.deref-2.ensures.value
-    c.loop-bit.invariant.listed c.first_ends.ensures)
+returns-clause-first c = found_first c.args.softs.now _ c.args.k c.first_ends.result
+    (run_lists c.args.softs.now c.args.ends c.args.k c.loop-bit.bit _ _ c.first_ends.result (omega (arith, c.loop-bit-test.false))
+    c.requires.least c.deref-2.ensures.value c.loop-bit.invariant.listed c.first_ends.ensures)
 
 pub returns-clause-scores : goal.returns-clause-scores
-returns-clause-scores c =
-    found_scores c.args.softs.now _ c.args.k c.first_ends.result
-    (run_lists c.args.softs.now c.args.ends c.args.k c.loop-bit.bit _ _ c.first_ends.result
-    (omega (arith, c.loop-bit-test.false)) c.requires.least c.deref-2.ensures.value
-    c.loop-bit.invariant.listed c.first_ends.ensures)
+returns-clause-scores c = found_scores c.args.softs.now _ c.args.k c.first_ends.result
+    (run_lists c.args.softs.now c.args.ends c.args.k c.loop-bit.bit _ _ c.first_ends.result (omega (arith, c.loop-bit-test.false))
+    c.requires.least c.deref-2.ensures.value c.loop-bit.invariant.listed c.first_ends.ensures)
 
 pub returns-clause-number : goal.returns-clause-number
-returns-clause-number c =
-    c.len.ensures.value ∙ sym (length-map c.first_ends.result word_of)
-    ∙ how_many c.args.softs.now c.args.ends (length c.args.softs.now / 2) c.args.k
-    (map word_of c.first_ends.result) (omega (arith, c.requires.least))
-    (found_first c.args.softs.now _ c.args.k c.first_ends.result
-    (run_lists c.args.softs.now c.args.ends c.args.k c.loop-bit.bit _ _ c.first_ends.result
-    (omega (arith, c.loop-bit-test.false)) c.requires.least c.deref-2.ensures.value
-    c.loop-bit.invariant.listed c.first_ends.ensures))
+returns-clause-number c = c.len.ensures.value ∙ found_number c.args.softs.now c.args.ends (length c.args.softs.now / 2) c.args.k
+    c.first_ends.result (omega (arith, c.requires.least))
+    (run_lists c.args.softs.now c.args.ends c.args.k c.loop-bit.bit _ _ c.first_ends.result (omega (arith, c.loop-bit-test.false))
+    c.requires.least c.deref-2.ensures.value c.loop-bit.invariant.listed c.first_ends.ensures)
