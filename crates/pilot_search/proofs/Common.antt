@@ -1,10 +1,11 @@
 -- What the proofs of this crate cite of what lies below, and of its own definitions, passed on from one place.
-pub use Rattle.std.proofs.Common.{All, Bool, FitsSigned, List, None, Option, Some, [], add-one, ap, arith, drop, false, get_or}
-pub use Rattle.std.proofs.Common.{get_or-set_same, inl, inr, length, length-set, map, max, min, nat_eq, negsuc, of_z, pos, refl, rules, set}
+pub use Rattle.std.proofs.Common.{All, Bool, FitsSigned, List, None, Option, Some, [], add-one, ap, arith, below_more, drop, false, get_or}
+pub use Rattle.std.proofs.Common.{get_or-set_same, inl, inr, length, length-set, map, max, min, nat_eq, negsuc, of_z, pos, refl, rules, replicate, set}
 pub use Rattle.std.proofs.Common.{subst, suc, sym, take, to_z, true, true≢false, unsigned_abs, w16, w32, w64, w8, zero, ℕ, ℤ, ⊎_elim, ◌%◌}
 pub use Rattle.std.proofs.Common.{◌*ℤ◌, ◌*◌, ◌++◌, ◌+ℤ◌, ◌+◌, ◌-ℤ◌, ◌-◌, ◌/◌, ◌<◌, ◌^◌, ◌∙◌, ◌∷◌, ◌≡◌, ◌≢◌, ◌≤◌, ◌⊎◌}
 pub use Rattle.std.proofs.Math.Facts.{Fits-of_z}
 pub use Rattle.std.proofs.Math.IntN.{+ℤ_assoc, neg_ℤ}
+pub use Rattle.std.proofs.Math.ListN.{get_or-map as map_at}
 pub use Rattle.std.proofs.Math.Nat.{div-le_self, div-mul-le_self, mul-div_cancel, mul-le-mul}
 pub use Rattle.std.proofs.Math.Seq.{drop-cons, take-add}
 pub use Rattle.std.proofs.lemmas.Bool.{cases_lt, cases_order}
@@ -12,7 +13,7 @@ pub use Rattle.std.proofs.lemmas.Bool.Decides.{nat_tests}
 pub use Rattle.std.proofs.lemmas.Grind.{common_steps}
 pub use Rattle.std.proofs.lemmas.Int.{fits_signed_from_abs, int_wrap_fits, ints, to_z-of_z, unsigned_abs-mul, wrapping_add-bits}
 pub use Rattle.std.proofs.lemmas.Int.{wrapping_mul_onto}
-pub use Rattle.std.proofs.lemmas.List.{drop-drop, drop-map, drop_all, get_or-map, get_or-replicate, length-drop, length-map, length-take-le}
+pub use Rattle.std.proofs.lemmas.List.{drop-drop, drop-map, drop_all, get_or-replicate, length-drop, length-map, length-take-le}
 pub use Rattle.std.proofs.lemmas.List.{take-append-drop, take_all}
 pub use Rattle.std.proofs.lemmas.List.Elements.{All-cons, All-contains, All-drop, All-from_get_or, All-get_or, All-head, All-nil, All-set}
 pub use Rattle.std.proofs.lemmas.List.Elements.{All-tail}
@@ -46,13 +47,14 @@ pub use Rattle.pilot_search.specs.BySigns.{across}
 unfoldable pub use Rattle.pilot_search.specs.BySigns.{correlation_with}
 pub use Rattle.pilot_search.specs.Found.{IsFound, better_of, start_of}
 pub use Rattle.pilot_search.specs.Knowledge.{IsHeld, Knowledge}
-pub use Rattle.pilot_search.specs.Lanes.{AreProducts, AreSums, imaginary_lanes, product_at, real_lanes}
+pub use Rattle.pilot_search.specs.Lanes.{AreNear, AreProducts, AreShort, AreSums, AreUnits, IsShort, both, eight}
+pub use Rattle.pilot_search.specs.Lanes.{imaginary_lanes, parts, product_at, real_lanes, sample_at, signs_at, with_signs}
 pub use Rattle.pilot_search.specs.Near.{near_place, near_value, phase_at}
 unfoldable pub use Rattle.pilot_search.specs.Near.{near_deltas}
 pub use Rattle.pilot_search.specs.Ranked.{IsNext, IsRound, measured_at}
 unfoldable pub use Rattle.pilot_search.specs.Search.{best_phase, correlation, energy}
 pub use Rattle.pilot_search.specs.SearchRun.{BestComesFirst, ComesFirst, Evaluate, FindsBest, Goes, IsDone, IsTry, Parts, Publish, Read}
-pub use Rattle.pilot_search.specs.SearchRun.{Run, Skip, Step, Worker}
+pub use Rattle.pilot_search.specs.SearchRun.{IsStart, Run, Skip, Step, Worker}
 pub use Rattle.pilot_search.specs.SharedRule.{AllLie, Begun, IsKept, Lies, fresh, holding, joined, spent}
 pub use Rattle.pilot_search.specs.declared.sweeping.Best.{Best}
 pub use Rattle.pilot_search.specs.declared.view.View.{View}

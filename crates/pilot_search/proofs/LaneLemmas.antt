@@ -1,48 +1,110 @@
 -- Lanes of 32 bits that hold products of samples with signs, and sums of them.
 use Rattle.pilot_search.proofs.Common.{◌≡◌, ℕ, zero, suc, ◌+◌, ◌*◌, ◌%◌, ◌^◌, ◌<◌, ◌≤◌, List, [], ◌∷◌, map, length, get_or, take, drop}
-use Rattle.pilot_search.proofs.Common.{add-one, All, refl, sym, ap, ◌∙◌, subst, arith, ℤ, pos, negsuc, ◌+ℤ◌, ◌-ℤ◌, ◌*ℤ◌, unsigned_abs, to_z}
+use Rattle.pilot_search.proofs.Common.{add-one, All, refl, sym, ap, ◌∙◌, arith, ℤ, pos, negsuc, ◌+ℤ◌, ◌*ℤ◌, unsigned_abs, to_z}
 use Rattle.pilot_search.proofs.Common.{of_z, FitsSigned, w8, w16, w32, w64, neg_ℤ, +ℤ_assoc, Fits-of_z, int_wrap, ints, to_z-of_z}
-use Rattle.pilot_search.proofs.Common.{int_wrap_fits, wrapping_add-bits, wrapping_mul_onto, fits_signed_from_abs, unsigned_abs-mul, Each1}
-use Rattle.pilot_search.proofs.Common.{Each2, zip2, get_or-map, All-get_or, Each2-of, plus, total, Pair, real_part, Sample, across}
-use Rattle.pilot_search.proofs.Common.{correlation_with, IsUnit, turned, product_at, real_lanes, imaginary_lanes}
-use Rattle.pilot_search.proofs.CorrelationSums.{correlation_with-more}
+use Rattle.pilot_search.proofs.Common.{int_wrap_fits, wrapping_add-bits, wrapping_mul_onto, fits_signed_from_abs, unsigned_abs-mul, Each1, subst}
+use Rattle.pilot_search.proofs.Common.{Each2, zip2, map_at, All-head, All-tail, Each2-of, plus, total, Pair, real_part, Sample, across}
+use Rattle.pilot_search.proofs.Common.{correlation_with, IsUnit, product_at, real_lanes, imaginary_lanes, both, parts, eight}
+use Rattle.pilot_search.proofs.Common.{sample_at, signs_at, with_signs, AreShort, AreUnits, IsShort, AreProducts, Each1-weaker}
+use Rattle.pilot_search.proofs.CorrelationSums.{correlation_with-more, no_sample}
 
--- a branch of a sample in a lane, the sign of a chip, and both with the sign turned
+-- SIGNS AND SAMPLES IN LANES OF 16 BITS
+pub abs_fits : (x : ℤ) → FitsSigned w16 x → unsigned_abs x ≤ 32768
+abs_fits (pos n) f = let h = f.sfits in omega (arith, h)
+abs_fits (negsuc n) f = let h = f.sfits in omega (arith, h)
+
+-- what a list has at any place, or 0 and 0 behind its end
+abbrev pub no_sign : ℤ × ℤ
+no_sign = (pos 0, pos 0)
+
+pub all_units : (signs : List (ℤ × ℤ)) → All IsUnit signs → AreUnits (signs_at signs)
+all_units [] all t = record { i = omega arith; q = omega arith }
+all_units (g ∷ signs) all zero = All-head IsUnit g signs all
+all_units (g ∷ signs) all (suc t) = all_units signs (All-tail IsUnit g signs all) t
+
+-- a number whose parts are kept as bits
+abbrev pub keep : ℤ × ℤ → ℤ × ℤ
+keep x = (to_z w16 (of_z w16 x.0), to_z w16 (of_z w16 x.1))
+
+read_short : (n : ℕ) → FitsSigned w16 (to_z w16 n)
+read_short n = record { sfits = grind (arith, ints) }
+
+pub kept_short : (x : ℕ → ℤ × ℤ) → AreShort (λ t. keep (x t))
+kept_short x t = (read_short (of_z w16 (x t).0), read_short (of_z w16 (x t).1))
+
+pub short_kept : (xs : List (ℤ × ℤ)) → Each1 IsShort xs → map keep xs ≡ xs
+short_kept [] h = refl
+short_kept (x ∷ xs) h = λ i.
+    (to_z-of_z w16 x.0 h.0.0 i, to_z-of_z w16 x.1 h.0.1 i) ∷ short_kept xs h.1 i
+
+unit_short : (s : ℤ) → unsigned_abs s ≤ 1 → FitsSigned w16 s
+unit_short s h = fits_signed_from_abs w16 s (omega (arith, h))
+
+neg_bound : (d : ℤ) → unsigned_abs d ≤ 1 → unsigned_abs (neg_ℤ d) ≤ 1
+neg_bound d h = omega (arith, ints, h)
+
+pub units_across : (g : ℕ → ℤ × ℤ) → AreUnits g → AreUnits (λ t. across (g t))
+units_across g units t = record { i = neg_bound (g t).1 (units t).q; q = (units t).i }
+
+-- the parts of numbers that agree
+pub parts_alike : (x y : ℕ → ℤ × ℤ) (first : ℕ) → ((t : ℕ) → x t ≡ y t) →
+    parts (eight x first) ≡ parts (eight y first)
+parts_alike x y first same = λ i. parts (eight (λ t. same t i) first)
+
+-- lanes of 16 bits that are kept as bits
+abbrev pub kept16 : List ℤ → List ℤ
+kept16 xs = map (to_z w16) (map (of_z w16) xs)
+
+pub kept_units : (x g : ℕ → ℤ × ℤ) (first : ℕ) (xs : List ℤ) → AreUnits g →
+    ((t : ℕ) → x t ≡ g t) → xs ≡ parts (eight x first) → kept16 xs ≡ parts (eight g first)
+kept_units x g first xs units same is =
+    ap kept16 (is ∙ parts_alike x g first same)
+    ∙ parts_alike (λ t. keep (g t)) g first
+    (λ t i. (
+      to_z-of_z w16 (g t).0 (unit_short (g t).0 (units t).i) i,
+      to_z-of_z w16 (g t).1 (unit_short (g t).1 (units t).q) i,
+    ))
+
+-- a sign of 8 bits in a lane of 16 bits, and times 1 and -1 there
+pub narrow_sign : (c : ℤ) → unsigned_abs c ≤ 1 → to_z w16 (of_z w16 (to_z w8 (of_z w8 c))) ≡ c
+narrow_sign (pos zero) h = refl
+narrow_sign (pos (suc zero)) h = refl
+narrow_sign (pos (suc (suc k))) h = absurd (omega arith)
+narrow_sign (negsuc zero) h = refl
+narrow_sign (negsuc (suc k)) h = absurd (omega arith)
+
+pub same_sign : (c : ℤ) → unsigned_abs c ≤ 1 → to_z w16 (of_z w16 c * 1 % 65536) ≡ c
+same_sign (pos zero) h = refl
+same_sign (pos (suc zero)) h = refl
+same_sign (pos (suc (suc k))) h = absurd (omega arith)
+same_sign (negsuc zero) h = refl
+same_sign (negsuc (suc k)) h = absurd (omega arith)
+
+pub turned_sign : (c : ℤ) → unsigned_abs c ≤ 1 → to_z w16 (of_z w16 c * 65535 % 65536) ≡ neg_ℤ c
+turned_sign (pos zero) h = refl
+turned_sign (pos (suc zero)) h = refl
+turned_sign (pos (suc (suc k))) h = absurd (omega arith)
+turned_sign (negsuc zero) h = refl
+turned_sign (negsuc (suc k)) h = absurd (omega arith)
+
+-- the signs of points
+pub point_signs : (points : List Sample) (t : ℕ) →
+    sample_at points t ≡ signs_at (map both points) t
+point_signs points t = sym (map_at both points t no_sample)
+
+pub turned_signs : (turned : List Sample) (signs : List (ℤ × ℤ)) (t : ℕ) →
+    map both turned ≡ map across signs → sample_at turned t ≡ across (signs_at signs t)
+turned_signs turned signs t is =
+    point_signs turned t
+    ∙ ap (λ (gs : List (ℤ × ℤ)). signs_at gs t) is
+    ∙ map_at across signs t no_sign
+
+-- PRODUCTS IN LANES OF 32 BITS
 abbrev pub wide : ℤ → ℕ
 wide x = of_z w32 (to_z w16 (of_z w16 x))
 
-abbrev pub wide_sign : ℤ → ℕ
-wide_sign c = of_z w32 (to_z w16 (of_z w16 (to_z w8 (of_z w8 c))))
-
-abbrev pub wide_same : ℤ → ℕ
-wide_same c = of_z w32 (to_z w16 (of_z w16 (to_z w8 (of_z w8 c)) * 1 % 65536))
-
-abbrev pub wide_turned : ℤ → ℕ
-wide_turned c = of_z w32 (to_z w16 (of_z w16 (to_z w8 (of_z w8 c)) * 65535 % 65536))
-
-wide-is : (x : ℤ) → unsigned_abs x ≤ 32768 → FitsSigned w16 x → wide x ≡ of_z w32 x
-wide-is x h f = ap (of_z w32) (to_z-of_z w16 x f)
-
-wide_sign-is : (c : ℤ) → unsigned_abs c ≤ 1 → wide_sign c ≡ of_z w32 c
-wide_sign-is (pos zero) h = refl
-wide_sign-is (pos (suc zero)) h = refl
-wide_sign-is (pos (suc (suc k))) h = absurd (omega arith)
-wide_sign-is (negsuc zero) h = refl
-wide_sign-is (negsuc (suc k)) h = absurd (omega arith)
-
-wide_same-is : (c : ℤ) → unsigned_abs c ≤ 1 → wide_same c ≡ of_z w32 c
-wide_same-is (pos zero) h = refl
-wide_same-is (pos (suc zero)) h = refl
-wide_same-is (pos (suc (suc k))) h = absurd (omega arith)
-wide_same-is (negsuc zero) h = refl
-wide_same-is (negsuc (suc k)) h = absurd (omega arith)
-
-wide_turned-is : (c : ℤ) → unsigned_abs c ≤ 1 → wide_turned c ≡ of_z w32 (neg_ℤ c)
-wide_turned-is (pos zero) h = refl
-wide_turned-is (pos (suc zero)) h = refl
-wide_turned-is (pos (suc (suc k))) h = absurd (omega arith)
-wide_turned-is (negsuc zero) h = refl
-wide_turned-is (negsuc (suc k)) h = absurd (omega arith)
+wide-is : (x : ℤ) → FitsSigned w16 x → wide x ≡ of_z w32 x
+wide-is x f = ap (of_z w32) (to_z-of_z w16 x f)
 
 in_lane : (x : ℤ) → unsigned_abs x ≤ 65536 → FitsSigned w32 x
 in_lane x h = fits_signed_from_abs w32 x (omega (arith, h))
@@ -72,11 +134,17 @@ near_sum : (a b : ℤ) → unsigned_abs a ≤ 32768 → unsigned_abs b ≤ 32768
     unsigned_abs (a +ℤ b) ≤ 65536
 near_sum a b h g = omega (arith, ints, h, g)
 
-both : (x y s t : ℤ) → unsigned_abs x ≤ 32768 → unsigned_abs y ≤ 32768 → unsigned_abs s ≤ 1 →
+pub with_signs-bound : (x g : ℤ × ℤ) → unsigned_abs x.0 ≤ 32768 → unsigned_abs x.1 ≤ 32768 →
+    IsUnit g → unsigned_abs (with_signs x g) ≤ 65536
+with_signs-bound x g hx hy u =
+    near_sum (x.0 *ℤ g.0) (x.1 *ℤ g.1) (product_bound x.0 g.0 hx u.i)
+    (product_bound x.1 g.1 hy u.q)
+
+pair_sum : (x y s t : ℤ) → unsigned_abs x ≤ 32768 → unsigned_abs y ≤ 32768 → unsigned_abs s ≤ 1 →
     unsigned_abs t ≤ 1 →
     to_z w32 ((of_z w32 x * of_z w32 s % 4294967296 + of_z w32 y * of_z w32 t % 4294967296) %
     4294967296) ≡ (x *ℤ s) +ℤ (y *ℤ t)
-both x y s t hx hy hs ht =
+pair_sum x y s t hx hy hs ht =
     let p : ℕ = of_z w32 x * of_z w32 s % 4294967296 in
     let q : ℕ = of_z w32 y * of_z w32 t % 4294967296 in
     wrapping_add-bits w32 p q (omega arith) (omega arith)
@@ -85,82 +153,30 @@ both x y s t hx hy hs ht =
     ∙ int_wrap_fits w32 ((x *ℤ s) +ℤ (y *ℤ t))
     (in_lane _ (near_sum (x *ℤ s) (y *ℤ t) (product_bound x s hx hs) (product_bound y t hy ht)))
 
-pub real_lane : (x y c d : ℤ) → unsigned_abs x ≤ 32768 → unsigned_abs y ≤ 32768 → FitsSigned w16 x →
-    FitsSigned w16 y → unsigned_abs c ≤ 1 → unsigned_abs d ≤ 1 →
-    to_z w32 ((wide x * wide_sign c % 4294967296 + wide y * wide_sign d % 4294967296) %
-    4294967296) ≡ (x *ℤ c) -ℤ (y *ℤ neg_ℤ d)
-real_lane x y c d hx hy fx fy hc hd =
-    rw (wide-is x hx fx, wide-is y hy fy, wide_sign-is c hc, wide_sign-is d hd)
-    (both x y c d hx hy hc hd ∙ real_part x y c d)
+pub lane : (x g : ℤ × ℤ) → FitsSigned w16 x.0 → FitsSigned w16 x.1 → IsUnit g →
+    to_z w32 ((wide x.0 * wide g.0 % 4294967296 + wide x.1 * wide g.1 % 4294967296) %
+    4294967296) ≡ with_signs x g
+lane x g f e u =
+    rw (
+      wide-is x.0 f,
+      wide-is x.1 e,
+      wide-is g.0 (unit_short g.0 u.i),
+      wide-is g.1 (unit_short g.1 u.q),
+    )
+    (pair_sum x.0 x.1 g.0 g.1 (abs_fits x.0 f) (abs_fits x.1 e) u.i u.q)
 
-neg_bound : (d : ℤ) → unsigned_abs d ≤ 1 → unsigned_abs (neg_ℤ d) ≤ 1
-neg_bound d h = omega (arith, ints, h)
-
-pub imaginary_lane : (x y c d : ℤ) → unsigned_abs x ≤ 32768 → unsigned_abs y ≤ 32768 →
-    FitsSigned w16 x → FitsSigned w16 y → unsigned_abs c ≤ 1 → unsigned_abs d ≤ 1 →
-    to_z w32 ((wide x * wide_turned d % 4294967296 + wide y * wide_same c % 4294967296) %
-    4294967296) ≡ (x *ℤ neg_ℤ d) +ℤ (y *ℤ c)
-imaginary_lane x y c d hx hy fx fy hc hd =
-    rw (wide-is x hx fx, wide-is y hy fy, wide_turned-is d hd, wide_same-is c hc)
-    (both x y (neg_ℤ d) c hx hy (neg_bound d hd) hc)
-
--- the products of a sample with the signs of its chip
-abbrev pub no_sign : ℤ × ℤ
-no_sign = (pos 0, pos 0)
-
-pub unit_at : (signs : List (ℤ × ℤ)) (t : ℕ) → t < length signs → All IsUnit signs →
-    IsUnit (get_or signs t no_sign)
-unit_at signs t lt all = All-get_or IsUnit signs t no_sign lt all
-
-pub real_product : (s : Sample) (g : ℤ × ℤ) → unsigned_abs s.i ≤ 32768 → unsigned_abs s.q ≤ 32768 →
-    FitsSigned w16 s.i → FitsSigned w16 s.q → IsUnit g →
-    to_z w32 ((wide s.i * wide_sign g.0 % 4294967296 + wide s.q * wide_sign g.1 % 4294967296) %
-    4294967296) ≡ (turned s g).i
-real_product s g hi hq fi fq u = real_lane s.i s.q g.0 g.1 hi hq fi fq u.i u.q
-
-pub imaginary_product : (s : Sample) (g : ℤ × ℤ) → unsigned_abs s.i ≤ 32768 →
-    unsigned_abs s.q ≤ 32768 → FitsSigned w16 s.i → FitsSigned w16 s.q → IsUnit g →
-    to_z w32 ((wide s.i * wide_turned g.1 % 4294967296 + wide s.q * wide_same g.0 % 4294967296) %
-    4294967296) ≡ (turned s g).q
-imaginary_product s g hi hq fi fq u = imaginary_lane s.i s.q g.0 g.1 hi hq fi fq u.i u.q
-
--- the same by signs that are turned already
-pub imaginary_across : (s : Sample) (g t : ℤ × ℤ) → t ≡ across g → unsigned_abs s.i ≤ 32768 →
-    unsigned_abs s.q ≤ 32768 → FitsSigned w16 s.i → FitsSigned w16 s.q → IsUnit g →
-    to_z w32 ((wide s.i * wide_sign t.0 % 4294967296 + wide s.q * wide_sign t.1 % 4294967296) %
-    4294967296) ≡ (turned s g).q
-imaginary_across s g t is hi hq fi fq u =
-    subst (λ (t : ℤ × ℤ). to_z w32 ((wide s.i * wide_sign t.0 % 4294967296 +
-    wide s.q * wide_sign t.1 % 4294967296) % 4294967296) ≡ (turned s g).q) (sym is)
-    (rw (
-      wide-is s.i hi fi,
-      wide-is s.q hq fq,
-      wide_sign-is (neg_ℤ g.1) (neg_bound g.1 u.q),
-      wide_sign-is g.0 u.i,
-    ) (both s.i s.q (neg_ℤ g.1) g.0 hi hq (neg_bound g.1 u.q) u.i))
-
-pub across_at : (signs turned : List (ℤ × ℤ)) (k : ℕ) → turned ≡ map across signs →
-    k < length signs → get_or turned k no_sign ≡ across (get_or signs k no_sign)
-across_at signs turned k is lt =
-    ap (λ (xs : List (ℤ × ℤ)). get_or xs k no_sign) is
-    ∙ get_or-map across signs k no_sign no_sign lt
-
-pub real_bound : (s : Sample) (g : ℤ × ℤ) → unsigned_abs s.i ≤ 32768 → unsigned_abs s.q ≤ 32768 →
-    IsUnit g → unsigned_abs (turned s g).i ≤ 65536
-real_bound s g hi hq u =
-    rw (← (real_part s.i s.q g.0 g.1))
-    (near_sum (s.i *ℤ g.0) (s.q *ℤ g.1) (product_bound s.i g.0 hi u.i)
-    (product_bound s.q g.1 hq u.q))
-
-pub imaginary_bound : (s : Sample) (g : ℤ × ℤ) → unsigned_abs s.i ≤ 32768 →
-    unsigned_abs s.q ≤ 32768 → IsUnit g → unsigned_abs (turned s g).q ≤ 65536
-imaginary_bound s g hi hq u =
-    near_sum (s.i *ℤ neg_ℤ g.1) (s.q *ℤ g.0) (product_bound s.i (neg_ℤ g.1) hi (neg_bound g.1 u.q))
-    (product_bound s.q g.0 hq u.i)
-
-pub abs_fits : (x : ℤ) → FitsSigned w16 x → unsigned_abs x ≤ 32768
-abs_fits (pos n) f = let h = f.sfits in omega (arith, h)
-abs_fits (negsuc n) f = let h = f.sfits in omega (arith, h)
+eight_all : (P : ℤ → Type 0) (f : ℕ → ℤ) (first : ℕ) → ((t : ℕ) → P (f t)) →
+    Each1 P (eight f first)
+eight_all P f first h = (
+  h first,
+  (
+    h (first + 1),
+    (
+      h (first + 2),
+      (h (first + 3), (h (first + 4), (h (first + 5), (h (first + 6), (h (first + 7), tt))))),
+    ),
+  ),
+)
 
 -- LANES ADDED
 -- lanes that are kept as bits
@@ -188,6 +204,56 @@ pub added_lanes : (xs ys : List ℤ) → Each2 (λ a b. unsigned_abs a + unsigne
 added_lanes [] ys h = refl
 added_lanes (x ∷ xs) [] h = refl
 added_lanes (x ∷ xs) (y ∷ ys) h = λ i. sum_lane x y h.0 i ∷ added_lanes xs ys h.1 i
+
+-- EIGHT PRODUCTS
+abbrev pub kept : List ℤ → List ℤ
+kept xs = map (to_z w32) (map (of_z w32) xs)
+
+pub kept_products : (xs : List ℤ) → Each1 (λ x. unsigned_abs x ≤ 65536) xs → kept xs ≡ xs
+kept_products xs h =
+    kept_lanes xs
+    (Each1-weaker (λ x. unsigned_abs x ≤ 65536) (λ x. unsigned_abs x < 2 ^ 31)
+    (λ x le. omega (arith, le)) xs h)
+
+-- numbers that are kept as bits, each with its signs
+lanes_with : (x g : ℕ → ℤ × ℤ) (first : ℕ) → Each1 IsShort (eight x first) → AreUnits g →
+    (lanes : List ℤ) → lanes ≡ eight (λ t. with_signs (keep (x t)) (g t)) first →
+    (kept lanes ≡ eight (λ t. with_signs (x t) (g t)) first) ×
+    Each1 (λ z. unsigned_abs z ≤ 65536) (eight (λ t. with_signs (x t) (g t)) first)
+lanes_with x g first short units lanes is =
+    let near = λ (z : List ℤ). Each1 (λ y. unsigned_abs y ≤ 65536) z in
+    let bound : near (eight (λ t. with_signs (keep (x t)) (g t)) first) =
+    eight_all (λ y. unsigned_abs y ≤ 65536) (λ t. with_signs (keep (x t)) (g t)) first
+    (λ t. let fits = kept_short x t in
+    with_signs-bound (keep (x t)) (g t) (abs_fits (keep (x t)).0 fits.0)
+    (abs_fits (keep (x t)).1 fits.1) (units t)) in
+    let same : eight (λ t. with_signs (keep (x t)) (g t)) first ≡
+    eight (λ t. with_signs (x t) (g t)) first =
+    ap (λ (xs : List (ℤ × ℤ)). zip2 with_signs xs (eight g first))
+    (short_kept (eight x first) short) in
+    (ap kept is ∙ kept_products _ bound ∙ same, subst near same bound)
+
+-- products by signs and by signs that are turned, kept as bits
+pub are_products : (samples : List Sample) (signs : List (ℤ × ℤ)) (first : ℕ)
+    (real imaginary : List ℤ) → Each1 IsShort (eight (sample_at samples) first) →
+    AreUnits (signs_at signs) →
+    real ≡ eight (λ t. with_signs (keep (sample_at samples t)) (signs_at signs t)) first →
+    imaginary ≡
+    eight (λ t. with_signs (keep (sample_at samples t)) (across (signs_at signs t))) first →
+    AreProducts samples signs first (kept real) (kept imaginary)
+are_products samples signs first real imaginary short units is js =
+    let x : ℕ → ℤ × ℤ = sample_at samples in
+    let g : ℕ → ℤ × ℤ = signs_at signs in
+    let r = lanes_with x g first short units real is in
+    let q = lanes_with x (λ t. across (g t)) first short (units_across g units) imaginary js in
+    let e : eight (λ t. with_signs (x t) (g t)) first ≡ real_lanes samples signs first =
+    λ i. eight (λ t. real_part (x t).0 (x t).1 (g t).0 (g t).1 i) first in
+    record {
+      real_parts = r.0 ∙ e;
+      imaginary_parts = q.0;
+      real_bound = subst (Each1 (λ z. unsigned_abs z ≤ 65536)) e r.1;
+      imaginary_bound = q.1;
+    }
 
 -- TOTALS
 total_suc : (xs : List ℤ) (k : ℕ) → k < length xs →

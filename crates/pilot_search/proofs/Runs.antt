@@ -1,5 +1,5 @@
 -- In each complete run of the workers the best phase is evaluated.
-use Rattle.pilot_search.proofs.Common.{◌≡◌, ◌⊎◌, ℕ, zero, suc, ◌*◌, ◌<◌, ◌≤◌, max, List, [], ◌∷◌, set, refl, sym, ap, ◌∙◌, subst, ⊎_elim}
+use Rattle.pilot_search.proofs.Common.{IsStart, ◌≡◌, ◌⊎◌, ℕ, zero, suc, ◌*◌, ◌<◌, ◌≤◌, max, List, [], ◌∷◌, set, refl, sym, ap, ◌∙◌, subst, ⊎_elim}
 use Rattle.pilot_search.proofs.Common.{inl, inr, arith, Some, None, Contains, All, slice_get, cases_order, cases_lt, All-set, All-contains}
 use Rattle.pilot_search.proofs.Common.{All-get_or, All-nil, All-cons, All-head, All-tail, slice_get_within, get_or_from_slice_get, Sample}
 use Rattle.pilot_search.proofs.Common.{energy, best_phase, greatest, bound, HasBoundBelow, Worker, Step, Evaluate, Publish, Read, Skip}
@@ -148,15 +148,16 @@ whose from to phase (w ∷ ws) parts low high =
     split_order a b = ⊎_elim (λ (e : a ≡ b). inr (omega arith))
         (⊎_elim (λ (lt : a < b). inl lt) (λ (gt : b < a). inr (omega arith))) (cases_order a b)
 
+start_sound : (samples : List Sample) (start : State) → IsStart start → IsSoundState samples start
+start_sound samples start begun = let nothing = begun.nothing in record {
+  shared = omega arith;
+  workers = starts_sound samples 0 start.workers begun.ranges begun.idle;
+  parts = begun.ranges;
+}
+
 pub finds_best : (samples : List Sample) → FindsBest samples
 finds_best samples start end steps begun run done =
-    let nothing = begun.nothing in
-    let first : IsSoundState samples start = record {
-      shared = omega arith;
-      workers = starts_sound samples 0 start.workers begun.ranges begun.idle;
-      parts = begun.ranges;
-    } in
-    let last = run_sound samples start steps end run first in
+    let last = run_sound samples start steps end run (start_sound samples start begun) in
     let best = best_phase samples in
     let r = whose 0 32768 best end.workers last.parts (omega arith) (best_phase-is samples).below in
     let sound = at_place (IsSound samples) end.workers r.0 r.1 r.2 last.workers in
@@ -191,13 +192,7 @@ comes_first samples phase low =
 
 pub best_first : (samples : List Sample) → BestComesFirst samples
 best_first samples start end steps begun run w phase has evaluated =
-    let nothing = begun.nothing in
-    let first : IsSoundState samples start = record {
-      shared = omega arith;
-      workers = starts_sound samples 0 start.workers begun.ranges begun.idle;
-      parts = begun.ranges;
-    } in
-    let last = run_sound samples start steps end run first in
+    let last = run_sound samples start steps end run (start_sound samples start begun) in
     let sound = All-contains (IsSound samples) end.workers w last.workers has in
     comes_first samples phase
     (All-contains (λ p. p < 32768) w.evaluated phase sound.evaluated evaluated)

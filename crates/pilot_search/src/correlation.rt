@@ -6,9 +6,9 @@ ghost use Rattle.pilot_search.specs.Search.{correlation, energy};
 ghost use Rattle.pilot_search.specs.BySigns.{correlation_with};
 ghost use Rattle.short_code.specs.Despread.{IsUnit};
 
-use crate::blocks::{BLOCK, sum_of_blocks};
-use crate::lanes::sums_on_lanes;
-use crate::turned_signs::TurnedSigns;
+use crate::blocks::sum_of_groups;
+use crate::lanes::{GROUP, sums_on_lanes};
+use crate::points::Points;
 use chip_core::air::CODE_CHIPS;
 use chip_core::{Pair, Phase, Sample};
 use short_code::{Codes, despread};
@@ -40,7 +40,7 @@ fn correlate(samples: &[Sample], signs: &[(i8, i8)]) -> Pair
     ensures i_bound { unsigned_abs result.i ≤ 65536 * length samples.now }
     ensures q_bound { unsigned_abs result.q ≤ 65536 * length samples.now }
 {
-    let done = 8 * (samples.len() / 8);
+    let done = GROUP * (samples.len() / GROUP);
     let (_, rest) = samples.split_at(done);
     let (_, signs_left) = signs.split_at(done);
     let groups = sums_on_lanes(samples, signs);
@@ -71,12 +71,12 @@ pub(crate) fn correlation_at(samples: &[Sample], codes: &Codes, phase: Phase) ->
     }
 }
 
-/// The same correlation, by both tables of signs where the samples are whole blocks and the code
-/// doesn't begin again before their end.
+/// The same correlation, by the points of the code where the samples are whole groups of eight and
+/// the code doesn't begin again before their end.
 pub(crate) fn correlation_by(
     samples: &[Sample],
     codes: &Codes,
-    turned: &TurnedSigns,
+    points: &Points,
     phase: Phase,
 ) -> Pair
     requires { length samples.now ≤ 32768 }
@@ -85,12 +85,12 @@ pub(crate) fn correlation_by(
     ensures q_bound { unsigned_abs result.q ≤ 65536 * length samples.now }
 {
     let from = usize::from(phase.get());
-    if samples.len() % BLOCK != 0 || from + samples.len() > CODE_CHIPS as usize {
+    if samples.len() % GROUP != 0 || from + samples.len() > CODE_CHIPS as usize {
         return correlation_at(samples, codes, phase);
     }
-    let (_, signs_ahead) = codes.table().split_at(from);
-    let (_, turned_ahead) = turned.table().split_at(from);
-    sum_of_blocks(samples, signs_ahead, turned_ahead)
+    let (_, ahead) = points.straight().split_at(from);
+    let (_, turned_ahead) = points.turned().split_at(from);
+    sum_of_groups(samples, ahead, turned_ahead)
 }
 
 /// The square of a complex number's absolute value.

@@ -1,45 +1,55 @@
 //! Sums of many samples on lanes, eight samples at a time.
 
-ghost use Rattle.std.specs.Prelude.{◌≡◌, ◌<◌, ◌≤◌, ◌+◌, ◌*◌, ◌/◌, ◌^◌, ◌+ℤ◌, length, drop, All};
+ghost use Rattle.std.specs.Prelude.{◌≡◌, ◌<◌, ◌≤◌, ◌+◌, ◌*◌, ◌/◌, ◌^◌, ◌+ℤ◌, ℕ, ℤ, List, length, drop, All};
 ghost use Rattle.std.specs.Prelude.{unsigned_abs};
 ghost use lib.Lanes.{Each1, Each2, zip2};
 ghost use Rattle.chip_core.specs.Complex.{plus};
 ghost use Rattle.chip_core.specs.Sums.{total};
-ghost use Rattle.pilot_search.specs.BySigns.{correlation_with};
+ghost use Rattle.chip_core.specs.declared.sample.Sample.{Sample as TheSample};
+ghost use Rattle.pilot_search.specs.BySigns.{across, correlation_with};
 ghost use Rattle.short_code.specs.Despread.{IsUnit};
-ghost use Rattle.pilot_search.specs.Lanes.{AreProducts};
+ghost use Rattle.pilot_search.specs.Lanes.{AreNear, AreProducts, AreShort, AreSums, AreUnits, IsShort};
+ghost use Rattle.pilot_search.specs.Lanes.{eight, parts, sample_at, signs_at, with_signs};
 
 use chip_core::{Pair, Sample};
 use std::simd::prelude::*;
 
-/// The products of eight samples with the conjugates of their points of the code, the first at
-/// `at`: a lane of real parts and a lane of imaginary parts for each.
-pub fn products(samples: &[Sample], signs: &[(i8, i8)], at: usize) -> (i32x8, i32x8)
-    requires samples { at + 8 ≤ length samples.now }
+/// How many samples the lanes have.
+pub(crate) const GROUP: usize = 8;
+
+/// Both parts of eight numbers side by side, the first number at `at`.
+pub(crate) fn parts_of(numbers: &[Sample], at: usize) -> i16x16
+    requires { at + 8 ≤ length numbers.now }
+    ensures value { result ≡ parts (eight (sample_at numbers.now) at) }
+    ensures short { Each1 IsShort (eight (sample_at numbers.now) at) }
+{
+    i16x16::from_array([
+        numbers[at].i,
+        numbers[at].q,
+        numbers[at + 1].i,
+        numbers[at + 1].q,
+        numbers[at + 2].i,
+        numbers[at + 2].q,
+        numbers[at + 3].i,
+        numbers[at + 3].q,
+        numbers[at + 4].i,
+        numbers[at + 4].q,
+        numbers[at + 5].i,
+        numbers[at + 5].q,
+        numbers[at + 6].i,
+        numbers[at + 6].q,
+        numbers[at + 7].i,
+        numbers[at + 7].q,
+    ])
+}
+
+/// The signs of eight chips side by side, the first chip at `at`.
+fn wide_signs(signs: &[(i8, i8)], at: usize) -> i16x16
     requires signs { at + 8 ≤ length signs.now }
     requires units { All IsUnit signs.now }
-    ensures { AreProducts samples.now signs.now at result.0 result.1 }
+    ensures { result ≡ parts (eight (signs_at signs.now) at) }
 {
-    let branches = i16x16::from_array([
-        samples[at].i,
-        samples[at].q,
-        samples[at + 1].i,
-        samples[at + 1].q,
-        samples[at + 2].i,
-        samples[at + 2].q,
-        samples[at + 3].i,
-        samples[at + 3].q,
-        samples[at + 4].i,
-        samples[at + 4].q,
-        samples[at + 5].i,
-        samples[at + 5].q,
-        samples[at + 6].i,
-        samples[at + 6].q,
-        samples[at + 7].i,
-        samples[at + 7].q,
-    ])
-    .cast::<i32>();
-    let straight = i8x16::from_array([
+    i8x16::from_array([
         signs[at].0,
         signs[at].1,
         signs[at + 1].0,
@@ -57,15 +67,41 @@ pub fn products(samples: &[Sample], signs: &[(i8, i8)], at: usize) -> (i32x8, i3
         signs[at + 7].0,
         signs[at + 7].1,
     ])
-    .cast::<i16>();
-    let turned = straight.swizzle([1, 0, 3, 2, 5, 4, 7, 6, 9, 8, 11, 10, 13, 12, 15, 14])
-        * i16x16::from_array([-1, 1, -1, 1, -1, 1, -1, 1, -1, 1, -1, 1, -1, 1, -1, 1]);
-    let real = branches * straight.cast::<i32>();
-    let imaginary = branches * turned.cast::<i32>();
+    .cast::<i16>()
+}
+
+/// The signs of eight chips, each turned by a quarter of a circle.
+fn turned_signs(signs: i16x16) -> i16x16
+    ensures { (g : ℕ → ℤ × ℤ) (at : ℕ) → AreUnits g → signs ≡ parts (eight g at) →
+        result ≡ parts (eight (λ t. across (g t)) at) }
+{
+    signs.swizzle([1, 0, 3, 2, 5, 4, 7, 6, 9, 8, 11, 10, 13, 12, 15, 14])
+        * i16x16::from_array([-1, 1, -1, 1, -1, 1, -1, 1, -1, 1, -1, 1, -1, 1, -1, 1])
+}
+
+/// Of eight numbers both parts, each times a sign, added up.
+pub(crate) fn pair_sums(numbers: i16x16, signs: i16x16) -> i32x8
+    ensures { (x g : ℕ → ℤ × ℤ) (at : ℕ) → AreShort x → AreUnits g →
+        numbers ≡ parts (eight x at) → signs ≡ parts (eight g at) →
+        result ≡ eight (λ t. with_signs (x t) (g t)) at }
+{
+    let products = numbers.cast::<i32>() * signs.cast::<i32>();
+    products.swizzle([0, 2, 4, 6, 8, 10, 12, 14]) + products.swizzle([1, 3, 5, 7, 9, 11, 13, 15])
+}
+
+/// The products of eight samples with the conjugates of their points of the code, the first at
+/// `at`: a lane of real parts and a lane of imaginary parts for each.
+pub fn products(samples: &[Sample], signs: &[(i8, i8)], at: usize) -> (i32x8, i32x8)
+    requires samples { at + 8 ≤ length samples.now }
+    requires signs { at + 8 ≤ length signs.now }
+    requires units { All IsUnit signs.now }
+    ensures { AreProducts samples.now signs.now at result.0 result.1 }
+{
+    let numbers = parts_of(samples, at);
+    let straight = wide_signs(signs, at);
     (
-        real.swizzle([0, 2, 4, 6, 8, 10, 12, 14]) + real.swizzle([1, 3, 5, 7, 9, 11, 13, 15]),
-        imaginary.swizzle([0, 2, 4, 6, 8, 10, 12, 14])
-            + imaginary.swizzle([1, 3, 5, 7, 9, 11, 13, 15]),
+        pair_sums(numbers, straight),
+        pair_sums(numbers, turned_signs(straight)),
     )
 }
 
@@ -75,6 +111,26 @@ pub fn added(one: i32x8, other: i32x8) -> i32x8
     ensures { result ≡ zip2 (λ a b. a +ℤ b) one other }
 {
     one + other
+}
+
+/// Sums of the products of so many groups of eight samples, with those of one group more.
+pub fn with_products(
+    groups: usize,
+    real: i32x8,
+    imaginary: i32x8,
+    more_real: i32x8,
+    more_imaginary: i32x8,
+) -> (i32x8, i32x8)
+    requires few { groups < 4096 }
+    requires near { AreNear groups real imaginary }
+    requires more { AreNear 1 more_real more_imaginary }
+    ensures { (samples : List TheSample) (signs : List (ℤ × ℤ)) →
+        8 * groups + 8 ≤ length samples → 8 * groups + 8 ≤ length signs →
+        AreSums samples signs groups real imaginary →
+        AreProducts samples signs (8 * groups) more_real more_imaginary →
+        AreSums samples signs (groups + 1) result.0 result.1 }
+{
+    (added(real, more_real), added(imaginary, more_imaginary))
 }
 
 /// The sum of all lanes.
@@ -88,6 +144,20 @@ pub fn total_of(lanes: i32x8) -> i64
         sum += i64::from(lane);
     }
     sum
+}
+
+/// The sum of the products of so many groups of eight samples, of their sums on lanes.
+pub fn sum_of_lanes(groups: usize, real: i32x8, imaginary: i32x8) -> Pair
+    requires few { groups ≤ 4096 }
+    requires near { AreNear groups real imaginary }
+    ensures value { result ≡ record { i = total real; q = total imaginary } }
+    ensures i_bound { unsigned_abs result.i ≤ 65536 * (8 * groups) }
+    ensures q_bound { unsigned_abs result.q ≤ 65536 * (8 * groups) }
+{
+    Pair {
+        i: total_of(real),
+        q: total_of(imaginary),
+    }
 }
 
 /// The sum of the products of all whole groups of eight samples with the conjugates of their points
@@ -104,13 +174,9 @@ pub(crate) fn sums_on_lanes(samples: &[Sample], signs: &[(i8, i8)]) -> Pair
 {
     let mut real = i32x8::splat(0);
     let mut imaginary = i32x8::splat(0);
-    for k in 0..samples.len() / 8 {
-        let (more_real, more_imaginary) = products(samples, signs, 8 * k);
-        real = added(real, more_real);
-        imaginary = added(imaginary, more_imaginary);
+    for k in 0..samples.len() / GROUP {
+        let (more_real, more_imaginary) = products(samples, signs, GROUP * k);
+        (real, imaginary) = with_products(k, real, imaginary, more_real, more_imaginary);
     }
-    Pair {
-        i: total_of(real),
-        q: total_of(imaginary),
-    }
+    sum_of_lanes(samples.len() / GROUP, real, imaginary)
 }

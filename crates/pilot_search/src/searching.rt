@@ -191,8 +191,8 @@ fn run<R: Threads + Sync, G: Gate + Sync>(
 /// its last, with the number of its phases for which `try_phase` answered
 /// `None`.
 ///
-/// [`OutOfMemory`]: there was no memory for the shared word, or for 65,536 bytes of the codes'
-/// signs in another form. Nothing else allocates.
+/// [`OutOfMemory`]: there was no memory for the shared word, or for 262,144 bytes of the codes'
+/// points. Nothing else allocates.
 pub fn search<R: Threads + Sync, G: Gate + Sync>(
     rt: &R,
     alloc: Global,

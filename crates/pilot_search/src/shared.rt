@@ -1,20 +1,20 @@
 //! The word that workers share, and their seats.
 
+use crate::points::Points;
 use crate::rule::BestRule;
-use crate::turned_signs::TurnedSigns;
 use crate::view::View;
 use atomic_table::{Seat, Table};
 use std::alloc::Global;
 use std::marker::Model;
 
 /// What the workers share: the greatest energy that any of them has published, in one word that
-/// only rises and begins at 0; and a table that makes correlations faster.
+/// only rises and begins at 0; and the points of the codes, which make correlations faster.
 ///
 /// Contracts see which word it is.
 #[derive(Drop)]
 pub struct Shared {
     pub(crate) table: Table<(), View, (), BestRule, Global>,
-    pub(crate) turned: TurnedSigns,
+    pub(crate) points: Points,
 }
 
 impl Model for Shared {

@@ -4,9 +4,9 @@ ghost use Rattle.std.specs.Prelude.{◌≡◌, ◌≤◌, max, IfOk, true};
 ghost use Rattle.pilot_search.specs.Knowledge.{IsHeld};
 ghost use Rattle.pilot_search.specs.Bounds.{greatest};
 
+use crate::points::Points;
 use crate::rule::{Begin, Ceiling, Greater, Load, Raise, Same};
 use crate::shared::{BestSeat, Shared};
-use crate::turned_signs::TurnedSigns;
 use atomic_table::Table;
 use chip_core::{OutOfMemory, Sample};
 use short_code::Codes;
@@ -18,7 +18,7 @@ impl Shared {
     ///
     /// The ceiling is the greatest energy of these samples at any phase. It stands in contracts
     /// alone, and nothing computes it. [`OutOfMemory`]: there was no memory for the word, or for
-    /// 65,536 bytes of the codes' signs in another form.
+    /// 262,144 bytes of the codes' points.
     pub fn new(
         alloc: Global,
         samples: &[Sample],
@@ -37,9 +37,9 @@ impl Shared {
     fn open(alloc: Global, codes: &Codes) -> Result<(Shared, BestSeat), OutOfMemory>
         ensures { IfOk result (λ made. (made.1.word ≡ made.0) × (made.1.fresh ≡ true)) }
     {
-        let turned = TurnedSigns::of(alloc, codes)?;
+        let points = Points::of(alloc, codes)?;
         let (table, seat) = Table::of_words(alloc, &[0], &())?;
-        Ok((Shared { table, turned }, BestSeat { seat }))
+        Ok((Shared { table, points }, BestSeat { seat }))
     }
 
     /// Gives the first seat its ceiling, by one load.

@@ -10,14 +10,15 @@ ghost use Rattle.pilot_search.specs.Bounds.{AreTails, HasBoundBelow, HasNoBoundB
 ghost use Rattle.pilot_search.specs.Bounds.{square_of};
 
 use crate::correlation::{correlation_by, norm_of};
+use crate::points::Points;
 use crate::shared::{BestSeat, Shared};
 use crate::tails::{CHUNK, Tails};
-use crate::turned_signs::TurnedSigns;
 use chip_core::air::CODE_CHIPS;
 use chip_core::{Pair, Phase, Sample};
 use short_code::Codes;
 
-/// How many chunks are added up, at most, from one look at the bound to the next.
+/// How many chunks are added up, at least, from one look at the bound to the next, where so many are
+/// left.
 const STRIDE: u16 = 4;
 
 /// The greatest energy that these sums can lead to, where each part may still change by so much.
@@ -30,6 +31,27 @@ fn bound_of(sum: Pair, left: u64) -> u64
     let i = sum.i.unsigned_abs() + left;
     let q = sum.q.unsigned_abs() + left;
     i * i + q * q
+}
+
+/// How many chunks are added up from chunk `j` on before the bound is looked at again: up to where
+/// it could be below the limit without any sum, and no more than there are before the last one.
+fn stride(tails: &Tails, j: u16, last: u16, limit: u64) -> u16
+    requires order { j < last }
+    requires last { last < 512 }
+    ensures some { 1 ≤ result }
+    ensures most { j + result ≤ last }
+{
+    let none = Pair { i: 0, q: 0 };
+    for strides in 1..128u16 {
+        let next = j + STRIDE * strides;
+        if next >= last {
+            break;
+        }
+        if bound_of(none, tails.get(next)) < limit {
+            return next - j;
+        }
+    }
+    last - j
 }
 
 /// Two sums added.
@@ -54,16 +76,27 @@ fn later(phase: Phase, chips: u16) -> Phase
     Phase::new((phase.get() + chips) % CODE_CHIPS as u16).unwrap()
 }
 
+/// So many chunks, or as many as there are before the code begins again, where the first of them
+/// meets the code's chip of this phase; and one where the code begins again in it.
+fn before_the_end(chunks: u16, phase: Phase) -> u16
+    requires some { 1 ≤ chunks }
+    ensures some { 1 ≤ result }
+    ensures most { result ≤ chunks }
+{
+    let whole = (CODE_CHIPS as u16 - phase.get()) / CHUNK as u16;
+    chunks.min(whole.max(1))
+}
+
 /// The sum over the chunks before the last one, unless a bound that is looked at before is below
 /// the limit.
 fn sum_unless_below(
     samples: &[Sample],
     codes: &Codes,
-    turned: &TurnedSigns,
+    points: &Points,
     tails: &Tails,
+    last: u16,
     phase: Phase,
     limit: u64,
-    last: u16,
 ) -> Option<Pair>
     requires samples { length samples.now ≤ 32768 }
     requires last { 64 * last < length samples.now }
@@ -78,9 +111,10 @@ fn sum_unless_below(
         if bound_of(sum, tails.get(j)) < limit {
             return None;
         }
-        let chunks = (last - j).min(STRIDE);
+        let first = later(phase, 64 * j);
+        let chunks = before_the_end(stride(tails, j, last, limit), first);
         let (block, after) = rest.split_at(CHUNK * usize::from(chunks));
-        let part = correlation_by(block, codes, turned, later(phase, 64 * j));
+        let part = correlation_by(block, codes, points, first);
         sum.i += part.i;
         sum.q += part.q;
         rest = after;
@@ -95,7 +129,7 @@ fn sum_unless_below(
 fn energy_unless_below(
     samples: &[Sample],
     codes: &Codes,
-    turned: &TurnedSigns,
+    points: &Points,
     tails: &Tails,
     phase: Phase,
     limit: u64,
@@ -109,12 +143,12 @@ fn energy_unless_below(
         return Some(0);
     }
     let last = ((samples.len() - 1) / CHUNK) as u16;
-    let sum = sum_unless_below(samples, codes, turned, tails, phase, limit, last)?;
+    let sum = sum_unless_below(samples, codes, points, tails, last, phase, limit)?;
     if bound_of(sum, tails.get(last)) < limit {
         return None;
     }
     let (_, chunk) = samples.split_at(CHUNK * usize::from(last));
-    let part = correlation_by(chunk, codes, turned, later(phase, 64 * last));
+    let part = correlation_by(chunk, codes, points, later(phase, 64 * last));
     Some(norm_of(joined(sum, part)))
 }
 
@@ -126,7 +160,8 @@ fn energy_unless_below(
 /// left)^2. Where this is below the value read before any chunk of 64 samples, some other phase has
 /// a greater energy, and the phase is left. Where the bound equals the value read the phase isn't
 /// left, since it may be the first of several that have the greatest energy. Since the bound never
-/// rises, it is looked at before each four chunks and before the last one alone.
+/// rises, it is looked at where it could be below without any sum, at most once in four chunks, and
+/// before the last one.
 pub fn try_phase(
     shared: &Shared,
     seat: &mut BestSeat,
@@ -151,7 +186,7 @@ pub fn try_phase(
     ensures held { IsHeld seat.new shared.now }
 {
     let read = shared.load(seat);
-    let energy = energy_unless_below(samples, codes, &shared.turned, tails, phase, read)?;
+    let energy = energy_unless_below(samples, codes, &shared.points, tails, phase, read)?;
     shared.fetch_max(seat, energy);
     Some(energy)
 }

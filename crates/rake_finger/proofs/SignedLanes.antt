@@ -15,11 +15,10 @@ use Rattle.chip_core.specs.declared.sample.Pair.{Pair}
 use Rattle.chip_core.specs.declared.sample.Sample.{Sample}
 use Rattle.short_code.specs.Despread.{turned}
 use Rattle.walsh.specs.Walsh.{walsh}
-use Rattle.pilot_search.specs.Lanes.{product_at, real_lanes, imaginary_lanes, AreProducts}
-use Rattle.pilot_search.proofs.BlockSums.{kept}
+use Rattle.pilot_search.specs.Lanes.{eight, product_at, real_lanes, imaginary_lanes, AreProducts}
 use Rattle.pilot_search.proofs.CorrelationSums.{no_sample}
-use Rattle.pilot_search.proofs.LaneLemmas.{kept_lanes, no_sign}
-use Rattle.pilot_search.proofs.LaneSums.{kept_products}
+use Rattle.pilot_search.proofs.LaneLemmas.{kept, kept_lanes, kept_products, no_sign}
+use Rattle.pilot_search.proofs.LaneSums.{products_kept}
 use Rattle.rake_finger.specs.RowSigns.{AreRowSigns, AreUnits, turned_sign, covered_signs, sign_lanes}
 use Rattle.rake_finger.specs.Soft.{covered_from}
 use Rattle.rake_finger.proofs.CoveredSums.{row_sign, same_parts}
@@ -166,54 +165,35 @@ at_chip row signs t chip lt place =
     get_or-covered row 0 t signs lt
     ∙ ap (λ (n : ℕ). turned_sign (get_or row n (pos 0)) (get_or signs t no_sign)) here
 
-real_at : (samples : List Sample) (signs : List (ℤ × ℤ)) (row : List ℤ) (t chip : ℕ) →
-    t < length signs → t % 64 ≡ chip →
-    (product_at samples signs t).i *ℤ get_or row chip (pos 0) ≡
-    (product_at samples (covered_signs row 0 signs) t).i
-real_at samples signs row t chip lt place =
-    sym (ap (λ (g : ℤ × ℤ). (turned (get_or samples t no_sample) g).i)
-    (at_chip row signs t chip lt place)
-    ∙ covered_real (get_or samples t no_sample) (get_or signs t no_sign) (get_or row chip (pos 0)))
+-- a part of the products that a sign of the row may be taken out of
+abbrev Turns : (Pair → ℤ) → Type 0
+Turns part = (s : Sample) (g : ℤ × ℤ) (w : ℤ) →
+    part (turned s (turned_sign w g)) ≡ part (turned s g) *ℤ w
 
-imaginary_at : (samples : List Sample) (signs : List (ℤ × ℤ)) (row : List ℤ) (t chip : ℕ) →
-    t < length signs → t % 64 ≡ chip →
-    (product_at samples signs t).q *ℤ get_or row chip (pos 0) ≡
-    (product_at samples (covered_signs row 0 signs) t).q
-imaginary_at samples signs row t chip lt place =
-    sym (ap (λ (g : ℤ × ℤ). (turned (get_or samples t no_sample) g).q)
+part_at : (part : Pair → ℤ) → Turns part → (samples : List Sample) (signs : List (ℤ × ℤ))
+    (row : List ℤ) (t chip : ℕ) → t < length signs → t % 64 ≡ chip →
+    part (product_at samples signs t) *ℤ get_or row chip (pos 0) ≡
+    part (product_at samples (covered_signs row 0 signs) t)
+part_at part turns samples signs row t chip lt place =
+    sym (ap (λ (g : ℤ × ℤ). part (turned (get_or samples t no_sample) g))
     (at_chip row signs t chip lt place)
-    ∙ covered_imaginary (get_or samples t no_sample) (get_or signs t no_sign)
-    (get_or row chip (pos 0)))
+    ∙ turns (get_or samples t no_sample) (get_or signs t no_sign) (get_or row chip (pos 0)))
 
 -- eight places of a row and of the samples
-covered_real_lanes : (samples : List Sample) (signs : List (ℤ × ℤ)) (row : List ℤ) (t chip : ℕ) →
-    t + 8 ≤ length signs → t % 64 ≡ chip → chip + 8 ≤ 64 →
-    zip2 (λ a b. a *ℤ b) (real_lanes samples signs t) (sign_lanes row chip) ≡
-    real_lanes samples (covered_signs row 0 signs) t
-covered_real_lanes samples signs row t chip room place whole = λ i.
-    real_at samples signs row t chip (omega (arith, room)) place i
-    ∷ real_at samples signs row (t + 1) (chip + 1) (omega (arith, room)) (omega (arith, place, whole)) i
-    ∷ real_at samples signs row (t + 2) (chip + 2) (omega (arith, room)) (omega (arith, place, whole)) i
-    ∷ real_at samples signs row (t + 3) (chip + 3) (omega (arith, room)) (omega (arith, place, whole)) i
-    ∷ real_at samples signs row (t + 4) (chip + 4) (omega (arith, room)) (omega (arith, place, whole)) i
-    ∷ real_at samples signs row (t + 5) (chip + 5) (omega (arith, room)) (omega (arith, place, whole)) i
-    ∷ real_at samples signs row (t + 6) (chip + 6) (omega (arith, room)) (omega (arith, place, whole)) i
-    ∷ real_at samples signs row (t + 7) (chip + 7) (omega (arith, room)) (omega (arith, place, whole)) i
-    ∷ []
-
-covered_imaginary_lanes : (samples : List Sample) (signs : List (ℤ × ℤ)) (row : List ℤ)
-    (t chip : ℕ) → t + 8 ≤ length signs → t % 64 ≡ chip → chip + 8 ≤ 64 →
-    zip2 (λ a b. a *ℤ b) (imaginary_lanes samples signs t) (sign_lanes row chip) ≡
-    imaginary_lanes samples (covered_signs row 0 signs) t
-covered_imaginary_lanes samples signs row t chip room place whole = λ i.
-    imaginary_at samples signs row t chip (omega (arith, room)) place i
-    ∷ imaginary_at samples signs row (t + 1) (chip + 1) (omega (arith, room)) (omega (arith, place, whole)) i
-    ∷ imaginary_at samples signs row (t + 2) (chip + 2) (omega (arith, room)) (omega (arith, place, whole)) i
-    ∷ imaginary_at samples signs row (t + 3) (chip + 3) (omega (arith, room)) (omega (arith, place, whole)) i
-    ∷ imaginary_at samples signs row (t + 4) (chip + 4) (omega (arith, room)) (omega (arith, place, whole)) i
-    ∷ imaginary_at samples signs row (t + 5) (chip + 5) (omega (arith, room)) (omega (arith, place, whole)) i
-    ∷ imaginary_at samples signs row (t + 6) (chip + 6) (omega (arith, room)) (omega (arith, place, whole)) i
-    ∷ imaginary_at samples signs row (t + 7) (chip + 7) (omega (arith, room)) (omega (arith, place, whole)) i
+covered_lanes : (part : Pair → ℤ) → Turns part → (samples : List Sample) (signs : List (ℤ × ℤ))
+    (row : List ℤ) (t chip : ℕ) → t + 8 ≤ length signs → t % 64 ≡ chip → chip + 8 ≤ 64 →
+    zip2 (λ a b. a *ℤ b) (eight (λ n. part (product_at samples signs n)) t) (sign_lanes row chip) ≡
+    eight (λ n. part (product_at samples (covered_signs row 0 signs) n)) t
+covered_lanes part turns samples signs row t chip room place whole =
+    let one = part_at part turns samples signs row in
+    λ i. one t chip (omega (arith, room)) place i
+    ∷ one (t + 1) (chip + 1) (omega (arith, room)) (omega (arith, place, whole)) i
+    ∷ one (t + 2) (chip + 2) (omega (arith, room)) (omega (arith, place, whole)) i
+    ∷ one (t + 3) (chip + 3) (omega (arith, room)) (omega (arith, place, whole)) i
+    ∷ one (t + 4) (chip + 4) (omega (arith, room)) (omega (arith, place, whole)) i
+    ∷ one (t + 5) (chip + 5) (omega (arith, room)) (omega (arith, place, whole)) i
+    ∷ one (t + 6) (chip + 6) (omega (arith, room)) (omega (arith, place, whole)) i
+    ∷ one (t + 7) (chip + 7) (omega (arith, room)) (omega (arith, place, whole)) i
     ∷ []
 
 -- the products of a group of chips, covered by the row
@@ -227,8 +207,10 @@ covered_are samples signs row k group real imaginary real' imaginary' same room 
     let place : 8 * k % 64 ≡ 8 * group = omega (arith, same) in
     let whole : 8 * group + 8 ≤ 64 = omega (arith, same) in
     let units = unit_lanes row (8 * group) whole u in
-    let r = covered_real_lanes samples signs row (8 * k) (8 * group) room place whole in
-    let i = covered_imaginary_lanes samples signs row (8 * k) (8 * group) room place whole in
+    let r = covered_lanes (λ p. p.i) covered_real samples signs row (8 * k) (8 * group) room place
+    whole in
+    let i = covered_lanes (λ p. p.q) covered_imaginary samples signs row (8 * k) (8 * group) room
+    place whole in
     record {
       real_parts = e
           ∙ ap (λ (xs : List ℤ). zip2 (λ a b. a *ℤ b) xs (sign_lanes row (8 * group)))
@@ -245,30 +227,6 @@ covered_are samples signs row k group real imaginary real' imaginary' same room 
           (signed_near (imaginary_lanes samples signs (8 * k)) (sign_lanes row (8 * group))
           p.imaginary_bound units);
     }
-
--- products that are kept as bits
-pub real_near : (samples : List Sample) (signs : List (ℤ × ℤ)) (t : ℕ) (real imaginary : List ℤ) →
-    AreProducts samples signs t real imaginary → Each1 (λ x. unsigned_abs x ≤ 65536) real
-real_near samples signs t real imaginary p =
-    subst (Each1 (λ x. unsigned_abs x ≤ 65536)) (sym p.real_parts) p.real_bound
-
-pub imaginary_near : (samples : List Sample) (signs : List (ℤ × ℤ)) (t : ℕ)
-    (real imaginary : List ℤ) → AreProducts samples signs t real imaginary →
-    Each1 (λ x. unsigned_abs x ≤ 65536) imaginary
-imaginary_near samples signs t real imaginary p =
-    subst (Each1 (λ x. unsigned_abs x ≤ 65536)) (sym p.imaginary_parts) p.imaginary_bound
-
-pub products_kept : (samples : List Sample) (signs : List (ℤ × ℤ)) (t : ℕ)
-    (real imaginary : List ℤ) → AreProducts samples signs t real imaginary →
-    AreProducts samples signs t (kept real) (kept imaginary)
-products_kept samples signs t real imaginary p = record {
-  real_parts = kept_products real (real_near samples signs t real imaginary p) ∙ p.real_parts;
-  imaginary_parts =
-      kept_products imaginary (imaginary_near samples signs t real imaginary p) ∙
-      p.imaginary_parts;
-  real_bound = p.real_bound;
-  imaginary_bound = p.imaginary_bound;
-}
 
 -- COVERED SAMPLES
 row_turn : (b : Bool) (y : Pair) → ◌≡◌ {A = Pair} record {

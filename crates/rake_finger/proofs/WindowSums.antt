@@ -12,31 +12,31 @@ use Rattle.short_code.specs.Despread.{despread}
 use Rattle.short_code.proofs.Despreading.{despread-append}
 use Rattle.rake_finger.specs.Held.{Held}
 use Rattle.rake_finger.specs.InRing.{IsHeld, IsInRing}
-use Rattle.rake_finger.specs.Soft.{symbol_chips, window_chips, windows, window_symbols, finger_place, despread_at, pilot_sum}
+use Rattle.rake_finger.specs.Soft.{symbol_chips, window_chips, windows, window_symbols, finger_place, frame_chips, despread_at, pilot_sum}
 use Rattle.rake_finger.specs.declared.finger.Finger.{Finger}
 use Rattle.rake_finger.specs.declared.form.Form.{Form}
 use Rattle.rake_finger.specs.declared.form.Form.TheVariants.{Sync, Data}
 use Rattle.rake_finger.proofs.CoveredSums.{same_parts}
 
 -- PLACES
--- the ring holds each symbol of a window
+-- each symbol of a window lies in the frame
+in_frame : (form : Form) (window k : ℕ) → window < windows form → k < window_symbols form →
+    window_chips form * window + symbol_chips form * k + symbol_chips form ≤ frame_chips form
+in_frame Sync window k lt few = omega (arith, lt, few)
+in_frame Data window k lt few = omega (arith, lt, few)
+
+-- the ring holds it
 pub symbol_held : (ring : Held) (finger : Finger) (form : Form) (start window k place : ℕ) →
     IsInRing ring form start finger → window < windows form → k < window_symbols form →
     place ≡ finger_place finger start + window_chips form * window + symbol_chips form * k →
     IsHeld ring place (symbol_chips form)
-symbol_held ring finger Sync start window k place h lt few at =
+symbol_held ring finger form start window k place h lt few at =
+    let within = in_frame form window k lt few in
     let kept = h.held.kept in
     let taken = h.held.taken in
     record {
       kept = omega (arith, at, kept);
-      taken = omega (arith, at, taken, lt, few);
-    }
-symbol_held ring finger Data start window k place h lt few at =
-    let kept = h.held.kept in
-    let taken = h.held.taken in
-    record {
-      kept = omega (arith, at, kept);
-      taken = omega (arith, at, taken, lt, few);
+      taken = omega (arith, at, taken, within);
     }
 
 pub symbol_place : (form : Form) (from window k place : ℕ) →

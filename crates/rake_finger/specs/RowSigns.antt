@@ -1,7 +1,7 @@
 -- The signs of a Walsh row's chips, and signs of the code that the row's have turned.
-use Rattle.std.specs.Prelude.{◌≡◌, ℕ, suc, ◌+◌, ◌%◌, ◌<◌, ◌≤◌, List, [], ◌∷◌, map, get_or, ℤ, pos, ◌*ℤ◌, unsigned_abs}
+use Rattle.std.specs.Prelude.{◌≡◌, ℕ, suc, ◌%◌, ◌<◌, ◌≤◌, List, [], ◌∷◌, get_or, ℤ, pos, ◌*ℤ◌, unsigned_abs}
 use Rattle.chip_core.specs.Bits.{sign}
-use Rattle.pilot_search.specs.Lanes.{seven}
+use Rattle.pilot_search.specs.Lanes.{eight}
 use Rattle.walsh.specs.Walsh.{walsh}
 
 -- the signs of the 64 chips of a row
@@ -25,5 +25,4 @@ covered_signs row k (g ∷ signs) =
 
 -- eight signs of a row, from a chip on
 abbrev pub sign_lanes : List ℤ → ℕ → List ℤ
-sign_lanes signs first =
-    get_or signs first (pos 0) ∷ map (λ k. get_or signs (first + k) (pos 0)) seven
+sign_lanes signs first = eight (λ t. get_or signs t (pos 0)) first

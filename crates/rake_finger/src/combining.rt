@@ -38,7 +38,7 @@ fn add_window(
         IsAdded ring.now finger.now form start (window_symbols form * window) first out.old →
         IsAdded ring.now finger.now form start (window_symbols form * (window + 1)) first out.new }
 {
-    let sums = window_sums(ring, codes, finger, signs, form, start, window);
+    let sums = window_sums(ring, codes, finger, signs, window, form, start);
     let first = form.window_symbols() * window;
     for symbol in first..first + form.window_symbols() {
         let sum = sums.symbols[usize::from(symbol - first)];

@@ -1,16 +1,15 @@
 //! Sums over whole symbols on lanes, eight chips at a time.
 
-ghost use Rattle.std.specs.Prelude.{◌≡◌, ◌<◌, ◌≤◌, ◌+◌, ◌*◌, ◌%◌, ◌*ℤ◌, ℤ, List, length, All, unsigned_abs};
-ghost use lib.Lanes.{Each1, Each2, zip2};
-ghost use Rattle.chip_core.specs.declared.sample.Sample.{Sample};
+ghost use Rattle.std.specs.Prelude.{◌≡◌, ◌<◌, ◌≤◌, ◌+◌, ◌*◌, ◌%◌, ◌*ℤ◌, length, All, unsigned_abs};
+ghost use lib.Lanes.{Each1, zip2};
 ghost use Rattle.pilot_search.specs.BySigns.{correlation_with};
-ghost use Rattle.pilot_search.specs.Lanes.{AreProducts, AreSums};
 ghost use Rattle.short_code.specs.Despread.{IsUnit};
 ghost use Rattle.rake_finger.specs.RowSigns.{AreUnits, covered_signs, sign_lanes};
+ghost use Rattle.rake_finger.specs.SymbolSums.{AreSmall};
 
 use crate::rows::RowSigns;
 use chip_core::{Pair, Sample};
-use pilot_search::{added, products, total_of};
+use pilot_search::{products, sum_of_lanes, with_products};
 use std::simd::prelude::*;
 
 /// How many chips the lanes have.
@@ -68,28 +67,6 @@ fn covered_products(real: i32x8, imaginary: i32x8, row: &RowSigns, group: usize)
     (signed_lanes(real, signs), signed_lanes(imaginary, signs))
 }
 
-/// Sums of the products of so many groups of chips, with those of one group more.
-fn with_products(
-    groups: usize,
-    real: i32x8,
-    imaginary: i32x8,
-    more_real: i32x8,
-    more_imaginary: i32x8,
-) -> (i32x8, i32x8)
-    requires few { groups < 4096 }
-    requires real { Each1 (λ x. unsigned_abs x ≤ 65536 * groups) real }
-    requires imaginary { Each1 (λ x. unsigned_abs x ≤ 65536 * groups) imaginary }
-    requires more_real { Each1 (λ x. unsigned_abs x ≤ 65536) more_real }
-    requires more_imaginary { Each1 (λ x. unsigned_abs x ≤ 65536) more_imaginary }
-    ensures { (samples : List Sample) (signs : List (ℤ × ℤ)) →
-        8 * groups + 8 ≤ length samples → 8 * groups + 8 ≤ length signs →
-        AreSums samples signs groups real imaginary →
-        AreProducts samples signs (8 * groups) more_real more_imaginary →
-        AreSums samples signs (groups + 1) result.0 result.1 }
-{
-    (added(real, more_real), added(imaginary, more_imaginary))
-}
-
 /// The sums of the products of samples with the conjugates of their points of the code, as they are
 /// and with the signs of a Walsh row, whose chip 0 falls on the first sample. The samples are whole
 /// groups of eight.
@@ -102,10 +79,7 @@ pub(crate) fn sums_on_lanes(samples: &[Sample], signs: &[(i8, i8)], row: &RowSig
     ensures plain { result.plain ≡ correlation_with samples.now signs.now }
     ensures covered { result.covered ≡
         correlation_with samples.now (covered_signs row.now 0 signs.now) }
-    ensures plain_i { unsigned_abs result.plain.i ≤ 65536 * length samples.now }
-    ensures plain_q { unsigned_abs result.plain.q ≤ 65536 * length samples.now }
-    ensures covered_i { unsigned_abs result.covered.i ≤ 65536 * length samples.now }
-    ensures covered_q { unsigned_abs result.covered.q ≤ 65536 * length samples.now }
+    ensures small { AreSmall (length samples.now) result }
 {
     let mut real = i32x8::splat(0);
     let mut imaginary = i32x8::splat(0);
@@ -128,14 +102,9 @@ pub(crate) fn sums_on_lanes(samples: &[Sample], signs: &[(i8, i8)], row: &RowSig
             turned_imaginary,
         );
     }
+    let groups = samples.len() / GROUP;
     Sums {
-        plain: Pair {
-            i: total_of(real),
-            q: total_of(imaginary),
-        },
-        covered: Pair {
-            i: total_of(covered_real),
-            q: total_of(covered_imaginary),
-        },
+        plain: sum_of_lanes(groups, real, imaginary),
+        covered: sum_of_lanes(groups, covered_real, covered_imaginary),
     }
 }

@@ -8,6 +8,7 @@ ghost use Rattle.rake_finger.specs.Held.{HoldsLast};
 ghost use Rattle.rake_finger.specs.InRing.{IsHeld};
 ghost use Rattle.rake_finger.specs.RowSigns.{AreRowSigns, AreUnits};
 ghost use Rattle.rake_finger.specs.Soft.{covered_from, despread_at};
+ghost use Rattle.rake_finger.specs.SymbolSums.{AreSmall, AreSymbolSums};
 
 use crate::finger::Finger;
 use crate::lanes::{Sums, sums_on_lanes};
@@ -72,15 +73,9 @@ pub(crate) fn covered_sum(
 fn broken_sums(ring: &SampleRing, codes: &Codes, finger: &Finger, place: u64, chips: u16) -> Sums
     requires row { finger.now.row < 64 }
     requires held { IsHeld ring.now place chips }
-    ensures plain { (samples : List Sample) → HoldsLast ring.now samples →
-        result.plain ≡ sum_of (despread_at samples finger.now.phase place chips) }
-    ensures covered { (samples : List Sample) → HoldsLast ring.now samples →
-        result.covered ≡ sum_of
-        (covered_from finger.now.row 0 (despread_at samples finger.now.phase place chips)) }
-    ensures plain_i { unsigned_abs result.plain.i ≤ 65536 * chips }
-    ensures plain_q { unsigned_abs result.plain.q ≤ 65536 * chips }
-    ensures covered_i { unsigned_abs result.covered.i ≤ 65536 * chips }
-    ensures covered_q { unsigned_abs result.covered.q ≤ 65536 * chips }
+    ensures sums { (samples : List Sample) → HoldsLast ring.now samples →
+        AreSymbolSums samples finger.now.row finger.now.phase place chips result }
+    ensures small { AreSmall chips result }
 {
     Sums {
         plain: covered_sum(ring, codes, finger.phase, PILOT_ROW, place, chips),
@@ -102,19 +97,12 @@ fn unbroken_sums(
     requires code { first + chips ≤ 32768 }
     requires whole { chips % 8 ≡ 0 }
     requires units { AreUnits signs.now }
-    ensures plain { (samples : List Sample) (phase place : ℕ) → HoldsLast ring.now samples →
-        IsHeld ring.now place chips → cell ≡ place % ring.now.room →
-        first ≡ (phase + place) % 32768 →
-        result.plain ≡ sum_of (despread_at samples phase place chips) }
-    ensures covered { (samples : List Sample) (row phase place : ℕ) →
+    ensures sums { (samples : List Sample) (row phase place : ℕ) →
         HoldsLast ring.now samples → AreRowSigns row signs.now →
         IsHeld ring.now place chips → cell ≡ place % ring.now.room →
         first ≡ (phase + place) % 32768 →
-        result.covered ≡ sum_of (covered_from row 0 (despread_at samples phase place chips)) }
-    ensures plain_i { unsigned_abs result.plain.i ≤ 65536 * chips }
-    ensures plain_q { unsigned_abs result.plain.q ≤ 65536 * chips }
-    ensures covered_i { unsigned_abs result.covered.i ≤ 65536 * chips }
-    ensures covered_q { unsigned_abs result.covered.q ≤ 65536 * chips }
+        AreSymbolSums samples row phase place chips result }
+    ensures small { AreSmall chips result }
 {
     let (_, ahead) = codes.table().split_at(usize::from(first));
     sums_on_lanes(ring.run(cell, usize::from(chips)), ahead, signs)
@@ -137,15 +125,9 @@ pub(crate) fn symbol_sums(
     requires signs { AreRowSigns finger.now.row signs.now }
     requires whole { chips % 8 ≡ 0 }
     requires held { IsHeld ring.now place chips }
-    ensures plain { (samples : List Sample) → HoldsLast ring.now samples →
-        result.plain ≡ sum_of (despread_at samples finger.now.phase place chips) }
-    ensures covered { (samples : List Sample) → HoldsLast ring.now samples →
-        result.covered ≡ sum_of
-        (covered_from finger.now.row 0 (despread_at samples finger.now.phase place chips)) }
-    ensures plain_i { unsigned_abs result.plain.i ≤ 65536 * chips }
-    ensures plain_q { unsigned_abs result.plain.q ≤ 65536 * chips }
-    ensures covered_i { unsigned_abs result.covered.i ≤ 65536 * chips }
-    ensures covered_q { unsigned_abs result.covered.q ≤ 65536 * chips }
+    ensures sums { (samples : List Sample) → HoldsLast ring.now samples →
+        AreSymbolSums samples finger.now.row finger.now.phase place chips result }
+    ensures small { AreSmall chips result }
 {
     let _taken = ring.taken();
     let first = (u64::from(finger.phase.get()) + place) % CODE_CHIPS;

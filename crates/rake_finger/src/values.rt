@@ -4,7 +4,7 @@ ghost use Rattle.std.specs.Prelude.{◌≡◌, ◌<◌, ◌≤◌, ◌+◌, ◌*
 ghost use Rattle.chip_core.specs.declared.sample.Sample.{Sample};
 ghost use Rattle.rake_finger.specs.Held.{HoldsLast};
 ghost use Rattle.rake_finger.specs.InRing.{IsInRing};
-ghost use Rattle.rake_finger.specs.Soft.{symbols, symbol_chips, window_chips, frame_chips, finger_place, pilot_sum, symbol_sum, turned_part, soft_bound};
+ghost use Rattle.rake_finger.specs.Soft.{symbols, finger_place, turned_part, soft_bound};
 ghost use Rattle.rake_finger.specs.Soft.{soft as soft_value};
 
 use crate::finger::Finger;
@@ -28,51 +28,6 @@ pub(crate) fn place_of(finger: &Finger, start: u64) -> u64
     } else {
         start - chips
     }
-}
-
-/// The sum of the finger's pilot over a window of the frame.
-fn pilot_of(
-    ring: &SampleRing,
-    codes: &Codes,
-    finger: &Finger,
-    form: Form,
-    start: u64,
-    window: u16,
-) -> Pair
-    requires ring { IsInRing ring.now form start finger.now }
-    requires window { window_chips form * (window + 1) ≤ frame_chips form }
-    ensures value { (samples : List Sample) → HoldsLast ring.now samples →
-        result ≡ pilot_sum samples finger.now form start window }
-    ensures i_bound { unsigned_abs result.i ≤ 65536 * window_chips form }
-    ensures q_bound { unsigned_abs result.q ≤ 65536 * window_chips form }
-{
-    let _taken = ring.taken();
-    let chips = form.window_chips();
-    let place = place_of(finger, start) + u64::from(chips * window);
-    covered_sum(ring, codes, finger.phase, PILOT_ROW, place, chips)
-}
-
-/// The sum of the finger's row over a symbol of the frame.
-fn symbol_of(
-    ring: &SampleRing,
-    codes: &Codes,
-    finger: &Finger,
-    form: Form,
-    start: u64,
-    symbol: u16,
-) -> Pair
-    requires row { finger.now.row < 64 }
-    requires ring { IsInRing ring.now form start finger.now }
-    requires symbol { symbol < symbols form }
-    ensures value { (samples : List Sample) → HoldsLast ring.now samples →
-        result ≡ symbol_sum samples finger.now form start symbol }
-    ensures i_bound { unsigned_abs result.i ≤ 65536 * symbol_chips form }
-    ensures q_bound { unsigned_abs result.q ≤ 65536 * symbol_chips form }
-{
-    let _taken = ring.taken();
-    let chips = form.symbol_chips();
-    let place = place_of(finger, start) + u64::from(chips * symbol);
-    covered_sum(ring, codes, finger.phase, finger.row, place, chips)
 }
 
 /// The product of a part of the pilot's sum and a part of the symbol's.
@@ -121,8 +76,12 @@ pub fn soft(
         result ≡ soft_value samples finger.now form start symbol }
     ensures bound { unsigned_abs result ≤ soft_bound form }
 {
-    let window = form.symbol_chips() * symbol / form.window_chips();
-    let pilot = pilot_of(ring, codes, finger, form, start, window);
-    let sum = symbol_of(ring, codes, finger, form, start, symbol);
+    let _taken = ring.taken();
+    let (chips, wide) = (form.symbol_chips(), form.window_chips());
+    let first = place_of(finger, start);
+    let window = first + u64::from(wide * (chips * symbol / wide));
+    let pilot = covered_sum(ring, codes, finger.phase, PILOT_ROW, window, wide);
+    let place = first + u64::from(chips * symbol);
+    let sum = covered_sum(ring, codes, finger.phase, finger.row, place, chips);
     turned_by(pilot, sum)
 }

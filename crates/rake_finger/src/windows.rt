@@ -36,9 +36,9 @@ pub(crate) fn window_sums(
     codes: &Codes,
     finger: &Finger,
     signs: &RowSigns,
+    window: u16,
     form: Form,
     start: u64,
-    window: u16,
 ) -> WindowSums
     requires row { finger.now.row < 64 }
     requires signs { AreRowSigns finger.now.row signs.now }

@@ -1,5 +1,5 @@
-use Rattle.pilot_search.proofs.Common.{◌≡◌, ◌<◌, ◌≤◌, ◌-◌, ◌∙◌, arith, rules, ap, take, drop, length, min, ints, All-drop, plus, Pair}
-use Rattle.pilot_search.proofs.Common.{pilot_signs, correlation_with, IsUnit}
+use Rattle.pilot_search.proofs.Common.{◌≡◌, ◌≤◌, ◌∙◌, arith, rules, ap, take, drop, length, ints, All-drop, plus, Pair}
+use Rattle.pilot_search.proofs.Common.{pilot_signs, correlation_with, IsUnit, List, ℕ, ℤ, Sample}
 use Rattle.pilot_search.proofs.CorrelationSums.{all_before, parted, plus_is, units}
 use Rattle.pilot_search.proofs.correlation.correlation_at.Goals as goal
 
@@ -11,32 +11,34 @@ correlate-first-requires-clause-units c =
 pub correlate-rest-requires-clause-units : goal.correlate-rest-requires-clause-units
 correlate-rest-requires-clause-units c = rw c.table-2.ensures.value units
 
+-- the part before the code begins again
+first_part : (samples before : List Sample) (ahead table : List (ℤ × ℤ)) (phase from n : ℕ)
+    (sum : Pair) → sum ≡ correlation_with before ahead → before ≡ take n samples →
+    ahead ≡ drop from table → table ≡ pilot_signs → from ≡ phase →
+    sum ≡ correlation_with (take n samples) (drop phase pilot_signs)
+first_part samples before ahead table phase from n sum is front back all at =
+    is
+    ∙ (λ i. correlation_with (front i) ((back ∙ (λ j. drop (at j) (all j))) i))
+
 pub returns-then-is_empty-clause-value : goal.returns-then-is_empty-clause-value
 returns-then-is_empty-clause-value c =
     let samples = c.args.samples.now in
-    let phase = c.args.phase in
-    let n = c.min.result in
-    let at : c.from.result ≡ phase = omega arith in
-    let low : phase < 32768 = omega arith in
-    let least : n ≡ min (length samples) (32768 - phase) = omega arith in
-    let past : length samples ≤ n = search rules in
-    let first : c.correlate-first.result ≡
-    correlation_with (take n samples) (drop phase pilot_signs) = cc in
-    first ∙ all_before samples phase n low c.requires least past
+    let past : length samples ≤ c.min.result = search rules in
+    first_part samples _ _ _ c.args.phase c.from.result c.min.result _
+    c.correlate-first.ensures.value c.split_at-2.ensures.front c.split_at.ensures.back
+    c.table.ensures.value (omega arith)
+    ∙ all_before samples c.args.phase c.min.result (omega arith) c.requires (omega arith) past
 
 pub returns-clause-value : goal.returns-clause-value
 returns-clause-value c =
     let samples = c.args.samples.now in
-    let phase = c.args.phase in
     let n = c.min.result in
-    let at : c.from.result ≡ phase = omega arith in
-    let low : phase < 32768 = omega arith in
-    let least : n ≡ min (length samples) (32768 - phase) = omega arith in
-    let first : c.correlate-first.result ≡
-    correlation_with (take n samples) (drop phase pilot_signs) = cc in
+    let first =
+    first_part samples _ _ _ c.args.phase c.from.result n _ c.correlate-first.ensures.value
+    c.split_at-2.ensures.front c.split_at.ensures.back c.table.ensures.value (omega arith) in
     let rest : c.correlate-rest.result ≡ correlation_with (drop n samples) pilot_signs = cc in
     plus_is c.correlate-first.result c.correlate-rest.result _ _ (omega (arith, ints))
     (omega (arith, ints))
     ∙ ap (λ (x : Pair). plus x c.correlate-rest.result) first
-    ∙ ap (plus (correlation_with (take n samples) (drop phase pilot_signs))) rest
-    ∙ parted samples phase n low c.requires least
+    ∙ ap (plus (correlation_with (take n samples) (drop c.args.phase pilot_signs))) rest
+    ∙ parted samples c.args.phase n (omega arith) c.requires (omega arith)

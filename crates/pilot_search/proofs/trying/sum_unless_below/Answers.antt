@@ -27,8 +27,9 @@ loop-j-preserved c =
     let xs = c.args.samples.now in
     let j = c.loop-j.j in
     let rest = c.loop-j.rest.now in
-    let chunks = c.min-chunks.result in
-    let some : chunks ≤ c.args.last - j = omega (arith, c.min-chunks.ensures) in
+    let chunks = c.before_the_end-chunks.result in
+    let some : chunks ≤ c.args.last - j =
+    omega (arith, c.before_the_end-chunks.ensures.most, c.stride.ensures.most) in
     let room : 64 * chunks ≤ length rest =
     omega (arith, some, inv.left, inv.within, c.requires.last) in
     let from : c.from.result ≡ chunks = omega arith in
@@ -41,8 +42,8 @@ loop-j-preserved c =
     let part : c.correlation_by-part.result ≡
     correlation (take (64 * chunks) rest) ((c.args.phase + 64 * j) % 32768) =
     c.correlation_by-part.ensures.value
-    ∙ ap (λ (ys : List Sample). correlation ys c.later.result) front
-    ∙ ap (correlation (take (64 * chunks) rest)) c.later.ensures in
+    ∙ ap (λ (ys : List Sample). correlation ys c.later-first.result) front
+    ∙ ap (correlation (take (64 * chunks) rest)) c.later-first.ensures in
     let place : 64 * j + 64 * chunks ≡ 64 * (j + chunks) = omega arith in
     let after : length c.split_at.result.1.now ≡ length rest - 64 * chunks =
     ap (λ (ys : List Sample). length ys) back ∙ length-drop (64 * chunks) rest in

@@ -4,8 +4,10 @@ use Rattle.rake_finger.specs.Soft.{despread_at}
 use Rattle.rake_finger.proofs.SoftValues.{covered-pilot}
 use Rattle.rake_finger.proofs.sums.broken_sums.Goals as goal
 
-pub returns-clause-plain : goal.returns-clause-plain
-returns-clause-plain c = λ samples held.
-    c.covered_sum.ensures.value samples held
-    ∙ ap sum_of
-    (covered-pilot 0 (despread_at samples c.args.finger.now.phase c.args.place c.args.chips))
+pub returns-clause-sums : goal.returns-clause-sums
+returns-clause-sums c = λ samples held. record {
+  plain = c.covered_sum.ensures.value samples held
+      ∙ ap sum_of
+      (covered-pilot 0 (despread_at samples c.args.finger.now.phase c.args.place c.args.chips));
+  covered = c.covered_sum-2.ensures.value samples held;
+}

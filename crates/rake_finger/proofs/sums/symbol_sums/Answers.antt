@@ -6,12 +6,7 @@ pub unbroken_sums-requires-clause-units : goal.unbroken_sums-requires-clause-uni
 unbroken_sums-requires-clause-units c =
     units_of c.args.finger.now.row c.args.signs.now c.requires.signs
 
-pub returns-clause-plain : goal.returns-clause-plain
-returns-clause-plain c = λ samples held.
-    c.unbroken_sums.ensures.plain samples c.args.finger.now.phase c.args.place held
-    c.requires.held c.cell_of-cell.ensures.value (omega arith)
-
-pub returns-clause-covered : goal.returns-clause-covered
-returns-clause-covered c = λ samples held.
-    c.unbroken_sums.ensures.covered samples c.args.finger.now.row c.args.finger.now.phase
+pub returns-clause-sums : goal.returns-clause-sums
+returns-clause-sums c = λ samples held.
+    c.unbroken_sums.ensures.sums samples c.args.finger.now.row c.args.finger.now.phase
     c.args.place held c.requires.signs c.requires.held c.cell_of-cell.ensures.value (omega arith)

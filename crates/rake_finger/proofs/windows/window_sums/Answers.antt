@@ -42,7 +42,7 @@ overflow_add-pilot c =
     let chips = c.symbol_chips-chips.ensures in
     sum_fits form c.loop-k.k c.loop-k.pilot.i sums.result.plain.i
     (omega (arith, c.loop-k-test.true, c.window_symbols-k-end.ensures))
-    c.loop-k.invariant.pilot_i (omega (arith, chips, sums.ensures.plain_i))
+    c.loop-k.invariant.pilot_i (omega (arith, chips, sums.ensures.small.plain.0))
 
 pub overflow_add-pilot-in-loop-k : goal.overflow_add-pilot-in-loop-k
 overflow_add-pilot-in-loop-k c =
@@ -51,7 +51,7 @@ overflow_add-pilot-in-loop-k c =
     let chips = c.symbol_chips-chips.ensures in
     sum_fits form c.loop-k.k c.loop-k.pilot.q sums.result.plain.q
     (omega (arith, c.loop-k-test.true, c.window_symbols-k-end.ensures))
-    c.loop-k.invariant.pilot_q (omega (arith, chips, sums.ensures.plain_q))
+    c.loop-k.invariant.pilot_q (omega (arith, chips, sums.ensures.small.plain.1))
 
 pub loop-k-preserved : goal.loop-k-preserved
 loop-k-preserved c =
@@ -77,13 +77,13 @@ loop-k-preserved c =
     symbol_held ring finger form start window k place c.requires.ring c.requires.window few
     (omega (arith, at, begun)) in
     let plain_i : unsigned_abs sums.result.plain.i ≤ 65536 * symbol_chips form =
-    omega (arith, chips, sums.ensures.plain_i) in
+    omega (arith, chips, sums.ensures.small.plain.0) in
     let plain_q : unsigned_abs sums.result.plain.q ≤ 65536 * symbol_chips form =
-    omega (arith, chips, sums.ensures.plain_q) in
+    omega (arith, chips, sums.ensures.small.plain.1) in
     let covered_i : unsigned_abs sums.result.covered.i ≤ 65536 * symbol_chips form =
-    omega (arith, chips, sums.ensures.covered_i) in
+    omega (arith, chips, sums.ensures.small.covered.0) in
     let covered_q : unsigned_abs sums.result.covered.q ≤ 65536 * symbol_chips form =
-    omega (arith, chips, sums.ensures.covered_q) in
+    omega (arith, chips, sums.ensures.small.covered.1) in
     let index : c.from-in-loop-k-2.result ≡ k = omega arith in
     rw index (record {
       pilot = λ samples held.
@@ -92,7 +92,7 @@ loop-k-preserved c =
           let is : sums.result.plain ≡
           sum_of (despread_at samples finger.phase (first + symbol_chips form * k)
           (symbol_chips form)) =
-          sums.ensures.plain samples held
+          (sums.ensures.sums samples held).plain
           ∙ ap (λ (n : ℕ × ℕ). sum_of (despread_at samples finger.phase n.0 n.1))
           (λ i. (at i, chips i)) in
           pilot_more samples finger.phase first (symbol_chips form * k) (symbol_chips form)
@@ -109,7 +109,7 @@ loop-k-preserved c =
           c.symbol_chips-chips.result sums.result.covered chips
           (rw chips
           (symbol_place form (finger_place finger start) window k place (omega (arith, at, begun))))
-          (sums.ensures.covered samples held));
+          (sums.ensures.sums samples held).covered);
       pilot_i = bound_kept form k c.loop-k.pilot.i sums.result.plain.i few inv.pilot_i plain_i;
       pilot_q = bound_kept form k c.loop-k.pilot.q sums.result.plain.q few inv.pilot_q plain_q;
       small =

@@ -1,0 +1,8 @@
+use Rattle.pilot_search.proofs.Common.{length, map, ap, sym, ◌∙◌, length-map, length-pilot_signs, both}
+use Rattle.pilot_search.proofs.points.Points.straight.Goals as goal
+
+pub returns-clause-len : goal.returns-clause-len
+returns-clause-len c =
+    sym (length-map c.deref.result.now both)
+    ∙ ap length (ap (map both) c.deref.ensures.value ∙ c.self.invariant.0)
+    ∙ length-pilot_signs

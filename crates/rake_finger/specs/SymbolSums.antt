@@ -1,0 +1,18 @@
+-- The sums of a symbol's samples, despread.
+use Rattle.std.specs.Prelude.{◌≡◌, ℕ, ◌*◌, List}
+use Rattle.chip_core.specs.Complex.{sum_of}
+use Rattle.chip_core.specs.declared.sample.Sample.{Sample}
+use Rattle.walsh.specs.Walsh.{IsWithin}
+use Rattle.rake_finger.specs.Soft.{covered_from, despread_at}
+use Rattle.rake_finger.specs.declared.lanes.Sums.{Sums}
+
+-- so many samples from a place on, despread: as they are, and each with the sign of its chip of a
+-- Walsh row
+pub record AreSymbolSums (samples : List Sample) (row phase place chips : ℕ) (sums : Sums) : Type 0 where
+  pub plain : sums.plain ≡ sum_of (despread_at samples phase place chips)
+  pub covered : sums.covered ≡ sum_of (covered_from row 0 (despread_at samples phase place chips))
+
+-- no greater than so many samples make them
+pub record AreSmall (chips : ℕ) (sums : Sums) : Type 0 where
+  pub plain : IsWithin (65536 * chips) sums.plain
+  pub covered : IsWithin (65536 * chips) sums.covered
