@@ -7,6 +7,7 @@ ghost use Rattle.walsh.specs.Butterfly.{AreWithin, IsStage, minus};
 ghost use Rattle.chip_core.specs.Complex.{plus};
 
 use chip_core::Pair;
+use std::simd::prelude::*;
 
 /// Replaces 64 complex sums, one a chip, by what each row carries: entry n becomes the sum of all
 /// entries, each with the sign of its chip of row n.
@@ -50,9 +51,11 @@ fn sum(x: Pair, y: Pair) -> Pair
     requires second { IsWithin (2 ^ 45) y }
     ensures { result ≡ plus x y }
 {
+    let parts = i64x2::from_array([x.i, x.q]) + i64x2::from_array([y.i, y.q]);
+    let parts = parts.to_array();
     Pair {
-        i: x.i + y.i,
-        q: x.q + y.q,
+        i: parts[0],
+        q: parts[1],
     }
 }
 
@@ -62,8 +65,10 @@ fn difference(x: Pair, y: Pair) -> Pair
     requires second { IsWithin (2 ^ 45) y }
     ensures { result ≡ minus x y }
 {
+    let parts = i64x2::from_array([x.i, x.q]) - i64x2::from_array([y.i, y.q]);
+    let parts = parts.to_array();
     Pair {
-        i: x.i - y.i,
-        q: x.q - y.q,
+        i: parts[0],
+        q: parts[1],
     }
 }
