@@ -1,5 +1,5 @@
 -- The correlation with a list of signs, one pair for each sample.
-use Rattle.std.specs.Prelude.{List, ℤ, neg_ℤ}
+use Rattle.std.specs.Prelude.{◌≡◌, ◌≤◌, ◌*◌, List, length, ℤ, neg_ℤ, unsigned_abs}
 use Rattle.chip_core.specs.Bits.{zip_with}
 use Rattle.chip_core.specs.Complex.{sum_of}
 use Rattle.chip_core.specs.declared.sample.Pair.{Pair}
@@ -8,6 +8,12 @@ use Rattle.short_code.specs.Despread.{turned}
 
 unfoldable pub correlation_with : List Sample → List (ℤ × ℤ) → Pair
 correlation_with samples signs = sum_of (zip_with turned samples signs)
+
+-- a sum that is the correlation, and no greater than so many samples make it
+pub record IsSumBy (samples : List Sample) (signs : List (ℤ × ℤ)) (sum : Pair) : Type 0 where
+  pub value : sum ≡ correlation_with samples signs
+  pub i_bound : unsigned_abs sum.i ≤ 65536 * length samples
+  pub q_bound : unsigned_abs sum.q ≤ 65536 * length samples
 
 -- the signs of a chip turned: what I and Q of a sample are multiplied by for the imaginary part
 abbrev pub across : ℤ × ℤ → ℤ × ℤ

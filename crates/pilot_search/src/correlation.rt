@@ -3,7 +3,7 @@
 ghost use Rattle.std.specs.Prelude.{◌≡◌, ◌<◌, ◌≤◌, ◌+◌, ◌*◌, ◌^◌, ℕ, length, unsigned_abs, All};
 ghost use Rattle.chip_core.specs.Complex.{norm};
 ghost use Rattle.pilot_search.specs.Search.{correlation, energy};
-ghost use Rattle.pilot_search.specs.BySigns.{correlation_with};
+ghost use Rattle.pilot_search.specs.BySigns.{IsSumBy};
 ghost use Rattle.short_code.specs.Despread.{IsUnit};
 
 use crate::blocks::sum_of_groups;
@@ -18,9 +18,7 @@ fn correlate_plainly(samples: &[Sample], signs: &[(i8, i8)]) -> Pair
     requires few { length samples.now ≤ 32768 }
     requires room { length samples.now ≤ length signs.now }
     requires units { All IsUnit signs.now }
-    ensures value { result ≡ correlation_with samples.now signs.now }
-    ensures i_bound { unsigned_abs result.i ≤ 65536 * length samples.now }
-    ensures q_bound { unsigned_abs result.q ≤ 65536 * length samples.now }
+    ensures { IsSumBy samples.now signs.now result }
 {
     let mut sum = Pair { i: 0, q: 0 };
     for (t, sample) in samples.iter().enumerate() {
@@ -36,9 +34,7 @@ fn correlate(samples: &[Sample], signs: &[(i8, i8)]) -> Pair
     requires few { length samples.now ≤ 32768 }
     requires room { length samples.now ≤ length signs.now }
     requires units { All IsUnit signs.now }
-    ensures value { result ≡ correlation_with samples.now signs.now }
-    ensures i_bound { unsigned_abs result.i ≤ 65536 * length samples.now }
-    ensures q_bound { unsigned_abs result.q ≤ 65536 * length samples.now }
+    ensures { IsSumBy samples.now signs.now result }
 {
     let done = GROUP * (samples.len() / GROUP);
     let (_, rest) = samples.split_at(done);

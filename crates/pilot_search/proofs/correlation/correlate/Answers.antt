@@ -2,12 +2,16 @@ use Rattle.pilot_search.proofs.Common.{◌∙◌, arith, ap, List, ℤ, ints, pl
 use Rattle.pilot_search.proofs.CorrelationSums.{plus_is}
 use Rattle.pilot_search.proofs.correlation.correlate.Goals as goal
 
-pub returns-clause-value : goal.returns-clause-value
-returns-clause-value c =
+pub returns : goal.returns
+returns c =
     let groups = c.sums_on_lanes-groups.result in
     let others = c.correlate_plainly-others.result in
-    plus_is groups others _ _ (omega (arith, ints)) (omega (arith, ints))
-    ∙ ap (plus groups) (c.correlate_plainly-others.ensures.value
-    ∙ ap (λ (x : List Sample × List (ℤ × ℤ)). correlation_with x.0 x.1)
-    (λ i. (c.split_at.ensures.back i, c.split_at-2.ensures.back i)))
-    ∙ c.sums_on_lanes-groups.ensures.whole
+    record {
+      value = plus_is groups others _ _ (omega (arith, ints)) (omega (arith, ints))
+          ∙ ap (plus groups) (c.correlate_plainly-others.ensures.value
+          ∙ ap (λ (x : List Sample × List (ℤ × ℤ)). correlation_with x.0 x.1)
+          (λ i. (c.split_at.ensures.back i, c.split_at-2.ensures.back i)))
+          ∙ c.sums_on_lanes-groups.ensures.whole;
+      i_bound = omega (arith, ints);
+      q_bound = omega (arith, ints);
+    }

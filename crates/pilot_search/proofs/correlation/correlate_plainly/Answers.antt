@@ -1,4 +1,4 @@
-use Rattle.pilot_search.proofs.Common.{◌<◌, arith, length, ◌∙◌, sym, ints}
+use Rattle.pilot_search.proofs.Common.{rules, ◌<◌, arith, length, ◌∙◌, sym, ints}
 use Rattle.pilot_search.proofs.CorrelationSums.{correlation_with-more, correlation_with-all}
 use Rattle.pilot_search.proofs.correlation.correlate_plainly.Goals as goal
 
@@ -14,7 +14,10 @@ loop-t-preserved c =
       q_bound = omega (arith, ints);
     }
 
-pub returns-clause-value : goal.returns-clause-value
-returns-clause-value c =
-    sym (correlation_with-all c.args.samples.now c.args.signs.now c.loop-t.t c.loop-t.sum
-    c.loop-t-test.false) ∙ c.loop-t.invariant.whole
+pub returns : goal.returns
+returns c = record {
+  value = sym (correlation_with-all c.args.samples.now c.args.signs.now c.loop-t.t c.loop-t.sum
+      c.loop-t-test.false) ∙ c.loop-t.invariant.whole;
+  i_bound = search rules;
+  q_bound = search rules;
+}
