@@ -1,4 +1,4 @@
-use Rattle.pilot_search.proofs.Common.{◌≡◌, ◌≤◌, ◌+◌, ◌*◌, ◌/◌, arith, length, map, to_z, w32}
+use Rattle.pilot_search.proofs.Common.{◌≤◌, ◌+◌, ◌*◌, ◌/◌, arith, length, map, to_z, w32}
 use Rattle.pilot_search.proofs.LaneSums.{kept_near, near_at, no_sums, products_kept, sums_kept, sums_left}
 use Rattle.pilot_search.proofs.lanes.sums_on_lanes.Goals as goal
 

@@ -1,4 +1,4 @@
-use Rattle.std.proofs.Common.{◌≡◌, ◌≤◌, ◌+◌, ◌*◌, ◌/◌, arith, length}
+use Rattle.std.proofs.Common.{◌≤◌, ◌+◌, ◌*◌, ◌/◌, arith, length}
 use Rattle.pilot_search.proofs.LaneLemmas.{kept}
 use Rattle.pilot_search.proofs.LaneSums.{kept_near, near_at, no_sums, products_kept, products_near, sums_kept, sums_whole}
 use Rattle.rake_finger.specs.RowSigns.{covered_signs}
