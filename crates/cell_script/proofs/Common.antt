@@ -13,8 +13,7 @@ pub use Rattle.std.proofs.lemmas.Fmt.{decimal-digits_value, decimal_nonempty, di
 pub use Rattle.std.proofs.lemmas.Fmt.{length-decimal-le}
 pub use Rattle.std.proofs.lemmas.Int.{ints}
 pub use Rattle.std.proofs.lemmas.List.{append-nil, at_drop_more, drop_all, get_or-replicate, get_or-set_other, get_or-set_same, length-drop}
-pub use Rattle.std.proofs.lemmas.List.{length-map, length-set, length-take-le, map-append, take-append-drop, take_all, take_at}
-pub use Rattle.std.proofs.lemmas.List.{take_more_set}
+pub use Rattle.std.proofs.lemmas.List.{length-map, length-set, length-take-le, take-append-drop, take_all, take_at, take_more_set}
 pub use Rattle.std.proofs.lemmas.List.Elements.{All-cons, All-head, All-map, All-nil, All-push, All-tail, All-weaker}
 pub use Rattle.std.proofs.lemmas.Nat.{mul-le}
 pub use Rattle.std.proofs.lemmas.Option.{cond_some, get_or_from_slice_get, same_Some}
@@ -71,7 +70,7 @@ pub use Rattle.quality_bits.specs.Capsules.{FillsCapsule}
 pub use Rattle.quality_bits.specs.TrafficWords.{information_of}
 pub use Rattle.quality_bits.specs.declared.kind.Kind.TheVariants.{M30}
 pub use Rattle.quality_bits.specs.declared.rate.Rate.{Rate}
-pub use Rattle.quality_bits.specs.declared.rate.Rate.TheVariants.{R1200, R2400, R4800, R9600}
+pub use Rattle.quality_bits.specs.declared.rate.Rate.TheVariants.{R4800, R9600}
 pub use Rattle.symbol_path.specs.declared.rate_two.Rate2.{Rate2}
 pub use Rattle.sync_message.proofs.Bodies.{admitted, tail_of}
 pub use Rattle.sync_message.specs.SyncMessage.{IsSyncMessage, fixed_fields}
@@ -88,8 +87,8 @@ unfoldable pub use Rattle.cell_script.specs.ScriptDrafts.{with_line, with_next}
 pub use Rattle.cell_script.specs.ScriptFields.{AreUpTo, NumberRow, at_end, mosts, past_at, row, rows_of, unsigned_at, value_of, ◌>>=◌}
 unfoldable pub use Rattle.cell_script.specs.ScriptFields.{field, numbers_in, past, past_numbers}
 pub use Rattle.cell_script.specs.ScriptJudged.{HasJudged, HasSeen, IsInOrder, IsJudged, gains_of, judged_fault}
-pub use Rattle.cell_script.specs.ScriptLines.{cell_line, frame2_key, frame2_rate, frame2_with, frame_key, frame_rate, frame_with}
-pub use Rattle.cell_script.specs.ScriptLines.{has_lawful_rest, is_link, lawful_frame, lawful_frame2, lawful_message, lawful_page, link_line}
+pub use Rattle.cell_script.specs.ScriptLines.{cell_line, frame2_key, frame2_rate, frame_by, frame_key, frame_rate}
+pub use Rattle.cell_script.specs.ScriptLines.{has_lawful_rest, is_link, lawful_frame, lawful_message, lawful_page, link_line}
 pub use Rattle.cell_script.specs.ScriptLines.{page_key, page_with, paging_line, sync_fields, sync_table, traffic_line, traffic_rows}
 unfoldable pub use Rattle.cell_script.specs.ScriptLines.{cell_in, frame2_in, frame_in, freq_in, link_in, page_in, paging_in, pilot_in}
 unfoldable pub use Rattle.cell_script.specs.ScriptLines.{statement_in, sync_behind, sync_in, traffic_in}

@@ -99,70 +99,41 @@ abbrev pub IsBare : CellPlan → Type 0
 IsBare plan = (plan.paging ≡ []) × (plan.traffic ≡ [])
 
 abbrev pub HasChannels : Stage → CellPlan → Type 0
-HasChannels Cell plan = IsBare plan
-HasChannels Link plan = IsBare plan
-HasChannels Pilot plan = IsBare plan
-HasChannels Sync plan = IsBare plan
 HasChannels (Paging rate) plan = IsBare plan × (paging_rate plan.sync ≡ rate)
 HasChannels (FirstPage rate) plan = IsOpen rate 0 plan
 HasChannels (Pages rate count) plan = HasPages rate count plan
-HasChannels Traffic plan = IsBare plan
 HasChannels FirstFrame plan = IsOpenTraffic plan
 HasChannels Frames plan = HasFrames plan
 HasChannels Frames2 plan = HasFrames plan
+HasChannels stage plan = IsBare plan
 
 -- ---- one statement more
+
+-- the stage that may come next is the one that comes
+next_has : (stage next : Stage) (plan : CellPlan) → Some stage ≡ Some next →
+    HasChannels stage plan → HasChannels next plan
+next_has stage next plan e has =
+    subst (λ (s : Stage). HasChannels s plan) (same_Some stage next e) has
 
 channels_cell : (stage next : Stage) (plan : CellPlan) (cell : CellIdentity) →
     HasChannels stage plan → after_cell stage ≡ Some next →
     HasChannels next (record plan { cell = cell })
-channels_cell Cell next plan cell has e =
-    subst (λ (s : Stage). HasChannels s (record plan { cell = cell }))
-    (same_Some Link next e) has
-channels_cell Link next plan cell has e = absurd (cc e)
-channels_cell Pilot next plan cell has e = absurd (cc e)
-channels_cell Sync next plan cell has e = absurd (cc e)
-channels_cell (Paging rate) next plan cell has e = absurd (cc e)
-channels_cell (FirstPage rate) next plan cell has e = absurd (cc e)
-channels_cell (Pages rate count) next plan cell has e = absurd (cc e)
-channels_cell Traffic next plan cell has e = absurd (cc e)
-channels_cell FirstFrame next plan cell has e = absurd (cc e)
-channels_cell Frames next plan cell has e = absurd (cc e)
-channels_cell Frames2 next plan cell has e = absurd (cc e)
+channels_cell Cell next plan cell has e = next_has Link next (record plan { cell = cell }) e has
+channels_cell stage next plan cell has e = absurd (cc e)
 
 channels_link : (stage next : Stage) (plan : CellPlan) (link : LinkPlan) →
     HasChannels stage plan → after_link stage ≡ Some next →
     HasChannels next (record plan { link = link })
-channels_link Cell next plan link has e = absurd (cc e)
 channels_link Link next plan link has e =
-    subst (λ (s : Stage). HasChannels s (record plan { link = link }))
-    (same_Some Pilot next e) has
-channels_link Pilot next plan link has e = absurd (cc e)
-channels_link Sync next plan link has e = absurd (cc e)
-channels_link (Paging rate) next plan link has e = absurd (cc e)
-channels_link (FirstPage rate) next plan link has e = absurd (cc e)
-channels_link (Pages rate count) next plan link has e = absurd (cc e)
-channels_link Traffic next plan link has e = absurd (cc e)
-channels_link FirstFrame next plan link has e = absurd (cc e)
-channels_link Frames next plan link has e = absurd (cc e)
-channels_link Frames2 next plan link has e = absurd (cc e)
+    next_has Pilot next (record plan { link = link }) e has
+channels_link stage next plan link has e = absurd (cc e)
 
 channels_pilot : (stage next : Stage) (plan : CellPlan) (pilot : PilotPlan) →
     HasChannels stage plan → after_pilot stage ≡ Some next →
     HasChannels next (record plan { pilot = pilot })
-channels_pilot Cell next plan pilot has e = absurd (cc e)
-channels_pilot Link next plan pilot has e = absurd (cc e)
 channels_pilot Pilot next plan pilot has e =
-    subst (λ (s : Stage). HasChannels s (record plan { pilot = pilot }))
-    (same_Some Sync next e) has
-channels_pilot Sync next plan pilot has e = absurd (cc e)
-channels_pilot (Paging rate) next plan pilot has e = absurd (cc e)
-channels_pilot (FirstPage rate) next plan pilot has e = absurd (cc e)
-channels_pilot (Pages rate count) next plan pilot has e = absurd (cc e)
-channels_pilot Traffic next plan pilot has e = absurd (cc e)
-channels_pilot FirstFrame next plan pilot has e = absurd (cc e)
-channels_pilot Frames next plan pilot has e = absurd (cc e)
-channels_pilot Frames2 next plan pilot has e = absurd (cc e)
+    next_has Sync next (record plan { pilot = pilot }) e has
+channels_pilot stage next plan pilot has e = absurd (cc e)
 
 sync_channels : (plan : CellPlan) (sync : SyncPlan) (full half : Bool) →
     (sync.message.prat == 0) ≡ full → (sync.message.prat == 1) ≡ half → IsBare plan →
@@ -187,20 +158,10 @@ sync_channels plan sync false false other more none =
 channels_sync : (stage next : Stage) (plan : CellPlan) (sync : SyncPlan) →
     HasChannels stage plan → after_sync stage sync ≡ Some next →
     HasChannels next (record plan { sync = Some sync })
-channels_sync Cell next plan sync has e = absurd (cc e)
-channels_sync Link next plan sync has e = absurd (cc e)
-channels_sync Pilot next plan sync has e = absurd (cc e)
 channels_sync Sync next plan sync has e =
-    subst (λ (s : Stage). HasChannels s (record plan { sync = Some sync }))
-    (same_Some (behind_sync sync) next e)
+    next_has (behind_sync sync) next (record plan { sync = Some sync }) e
     (sync_channels plan sync (sync.message.prat == 0) (sync.message.prat == 1) refl refl has)
-channels_sync (Paging rate) next plan sync has e = absurd (cc e)
-channels_sync (FirstPage rate) next plan sync has e = absurd (cc e)
-channels_sync (Pages rate count) next plan sync has e = absurd (cc e)
-channels_sync Traffic next plan sync has e = absurd (cc e)
-channels_sync FirstFrame next plan sync has e = absurd (cc e)
-channels_sync Frames next plan sync has e = absurd (cc e)
-channels_sync Frames2 next plan sync has e = absurd (cc e)
+channels_sync stage next plan sync has e = absurd (cc e)
 
 -- ---- one paging channel more
 
@@ -250,23 +211,13 @@ channels_paging : (stage next : Stage) (plan : CellPlan) (line : PagingLine) →
     (1 ≤ line.number) × (line.number ≤ 7) → HasChannels stage plan →
     after_paging stage ≡ Some next →
     HasChannels next (with_channel plan line)
-channels_paging Cell next plan line number has e = absurd (cc e)
-channels_paging Link next plan line number has e = absurd (cc e)
-channels_paging Pilot next plan line number has e = absurd (cc e)
-channels_paging Sync next plan line number has e = absurd (cc e)
 channels_paging (Paging rate) next plan line number has e =
-    subst (λ (s : Stage). HasChannels s (with_channel plan line))
-    (same_Some (FirstPage rate) next e)
+    next_has (FirstPage rate) next (with_channel plan line) e
     (opened_behind rate plan line number has.1 has.0.1 (no_channels rate plan has.0.0))
-channels_paging (FirstPage rate) next plan line number has e = absurd (cc e)
 channels_paging (Pages rate count) next plan line number has e =
-    subst (λ (s : Stage). HasChannels s (with_channel plan line))
-    (same_Some (FirstPage rate) next e)
+    next_has (FirstPage rate) next (with_channel plan line) e
     (opened_behind rate plan line number has.0.rate_is has.0.bare (closed rate count plan has))
-channels_paging Traffic next plan line number has e = absurd (cc e)
-channels_paging FirstFrame next plan line number has e = absurd (cc e)
-channels_paging Frames next plan line number has e = absurd (cc e)
-channels_paging Frames2 next plan line number has e = absurd (cc e)
+channels_paging stage next plan line number has e = absurd (cc e)
 
 abbrev with_more : CellPlan → Page → CellPlan
 with_more plan page = record plan { paging = with_page plan.paging page }
@@ -324,19 +275,11 @@ channels_page : (stage next : Stage) (plan : CellPlan) (page : Page) →
     FillsCapsule M30 page.body × HasMessage page.body → HasChannels stage plan →
     after_page stage page ≡ Some next →
     HasChannels next (with_more plan page)
-channels_page Cell next plan page is has e = absurd (cc e)
-channels_page Link next plan page is has e = absurd (cc e)
-channels_page Pilot next plan page is has e = absurd (cc e)
-channels_page Sync next plan page is has e = absurd (cc e)
-channels_page (Paging rate) next plan page is has e = absurd (cc e)
 channels_page (FirstPage rate) next plan page is has e =
     page_taken rate 0 next plan page is has e
 channels_page (Pages rate count) next plan page is has e =
     page_taken rate count next plan page is has.0 e
-channels_page Traffic next plan page is has e = absurd (cc e)
-channels_page FirstFrame next plan page is has e = absurd (cc e)
-channels_page Frames next plan page is has e = absurd (cc e)
-channels_page Frames2 next plan page is has e = absurd (cc e)
+channels_page stage next plan page is has e = absurd (cc e)
 
 -- ---- one traffic channel and one frame more
 
@@ -386,30 +329,25 @@ paging_closed rate count plan has =
 channels_traffic : (stage next : Stage) (plan : CellPlan) (line : TrafficLine) → IsRowed line →
     HasChannels stage plan → after_traffic stage ≡ Some next →
     HasChannels next (with_traffic plan line)
-channels_traffic Cell next plan line bounds has e = absurd (cc e)
-channels_traffic Link next plan line bounds has e = absurd (cc e)
-channels_traffic Pilot next plan line bounds has e = absurd (cc e)
-channels_traffic Sync next plan line bounds has e = absurd (cc e)
 channels_traffic (Paging rate) next plan line bounds has e =
-    subst (λ (s : Stage). HasChannels s (with_traffic plan line)) (same_Some FirstFrame next e)
+    next_has FirstFrame next (with_traffic plan line) e
     (traffic_behind plan line bounds (no_channels (paging_rate plan.sync) plan has.0.0)
     (no_traffic plan has.0.1))
-channels_traffic (FirstPage rate) next plan line bounds has e = absurd (cc e)
 channels_traffic (Pages rate count) next plan line bounds has e =
-    subst (λ (s : Stage). HasChannels s (with_traffic plan line)) (same_Some FirstFrame next e)
+    next_has FirstFrame next (with_traffic plan line) e
     (traffic_behind plan line bounds (paging_closed rate count plan has)
     (no_traffic plan has.0.bare))
 channels_traffic Traffic next plan line bounds has e =
-    subst (λ (s : Stage). HasChannels s (with_traffic plan line)) (same_Some FirstFrame next e)
+    next_has FirstFrame next (with_traffic plan line) e
     (traffic_behind plan line bounds (no_channels (paging_rate plan.sync) plan has.0)
     (no_traffic plan has.1))
-channels_traffic FirstFrame next plan line bounds has e = absurd (cc e)
 channels_traffic Frames next plan line bounds has e =
-    subst (λ (s : Stage). HasChannels s (with_traffic plan line)) (same_Some FirstFrame next e)
+    next_has FirstFrame next (with_traffic plan line) e
     (traffic_behind plan line bounds has.0.paging (traffic_closed plan has))
 channels_traffic Frames2 next plan line bounds has e =
-    subst (λ (s : Stage). HasChannels s (with_traffic plan line)) (same_Some FirstFrame next e)
+    next_has FirstFrame next (with_traffic plan line) e
     (traffic_behind plan line bounds has.0.paging (traffic_closed plan has))
+channels_traffic stage next plan line bounds has e = absurd (cc e)
 
 abbrev with_change : CellPlan → (FrameList → FrameList) → CellPlan
 with_change plan change = record plan { traffic = on_last change plan.traffic }
@@ -457,43 +395,21 @@ frame2_sent plan frame is o =
     })
     (omega (arith, length-append frames (frame ∷ [])))
 
-channels_frame : (stage next : Stage) (plan : CellPlan) (frame : TrafficFrame) →
-    IsTrafficFrame frame → HasChannels stage plan → after_frame stage ≡ Some next →
-    HasChannels next (with_change plan (with_one frame))
-channels_frame Cell next plan frame is has e = absurd (cc e)
-channels_frame Link next plan frame is has e = absurd (cc e)
-channels_frame Pilot next plan frame is has e = absurd (cc e)
-channels_frame Sync next plan frame is has e = absurd (cc e)
-channels_frame (Paging rate) next plan frame is has e = absurd (cc e)
-channels_frame (FirstPage rate) next plan frame is has e = absurd (cc e)
-channels_frame (Pages rate count) next plan frame is has e = absurd (cc e)
-channels_frame Traffic next plan frame is has e = absurd (cc e)
+channels_frame : (stage next : Stage) (plan : CellPlan) (frame : TrafficFrame) → IsTrafficFrame frame → HasChannels stage plan →
+    after_frame stage ≡ Some next → HasChannels next (with_change plan (with_one frame))
 channels_frame FirstFrame next plan frame is has e =
-    subst (λ (s : Stage). HasChannels s (with_change plan (with_one frame)))
-    (same_Some Frames next e) (frame_sent plan frame is has)
+    next_has Frames next (with_change plan (with_one frame)) e (frame_sent plan frame is has)
 channels_frame Frames next plan frame is has e =
-    subst (λ (s : Stage). HasChannels s (with_change plan (with_one frame)))
-    (same_Some Frames next e) (frame_sent plan frame is has.0)
-channels_frame Frames2 next plan frame is has e = absurd (cc e)
+    next_has Frames next (with_change plan (with_one frame)) e (frame_sent plan frame is has.0)
+channels_frame stage next plan frame is has e = absurd (cc e)
 
-channels_frame2 : (stage next : Stage) (plan : CellPlan) (frame : TrafficFrame2) →
-    IsTrafficFrame2 frame → HasChannels stage plan → after_frame2 stage ≡ Some next →
-    HasChannels next (with_change plan (with_two frame))
-channels_frame2 Cell next plan frame is has e = absurd (cc e)
-channels_frame2 Link next plan frame is has e = absurd (cc e)
-channels_frame2 Pilot next plan frame is has e = absurd (cc e)
-channels_frame2 Sync next plan frame is has e = absurd (cc e)
-channels_frame2 (Paging rate) next plan frame is has e = absurd (cc e)
-channels_frame2 (FirstPage rate) next plan frame is has e = absurd (cc e)
-channels_frame2 (Pages rate count) next plan frame is has e = absurd (cc e)
-channels_frame2 Traffic next plan frame is has e = absurd (cc e)
+channels_frame2 : (stage next : Stage) (plan : CellPlan) (frame : TrafficFrame2) → IsTrafficFrame2 frame → HasChannels stage plan →
+    after_frame2 stage ≡ Some next → HasChannels next (with_change plan (with_two frame))
 channels_frame2 FirstFrame next plan frame is has e =
-    subst (λ (s : Stage). HasChannels s (with_change plan (with_two frame)))
-    (same_Some Frames2 next e) (frame2_sent plan frame is has)
-channels_frame2 Frames next plan frame is has e = absurd (cc e)
+    next_has Frames2 next (with_change plan (with_two frame)) e (frame2_sent plan frame is has)
 channels_frame2 Frames2 next plan frame is has e =
-    subst (λ (s : Stage). HasChannels s (with_change plan (with_two frame)))
-    (same_Some Frames2 next e) (frame2_sent plan frame is has.0)
+    next_has Frames2 next (with_change plan (with_two frame)) e (frame2_sent plan frame is has.0)
+channels_frame2 stage next plan frame is has e = absurd (cc e)
 
 -- ---- what was said at a stage
 
@@ -507,120 +423,54 @@ pub record IsAt (stage : Stage) (plan : CellPlan) : Type 0 where
   pub parts : HasParts plan
   pub channels : HasChannels stage plan
 
+parts_with : (plan : CellPlan) (statement : Statement) → IsLawful statement → HasParts plan →
+    HasParts (with_statement plan statement)
+parts_with plan (statements.Cell cell) is parts =
+    record { cell = is; link = parts.link; sync = parts.sync; linked = parts.linked }
+parts_with plan (statements.Link link) is parts =
+    record { cell = parts.cell; link = is.0; sync = parts.sync; linked = is.1 }
+parts_with plan (statements.Sync sync) is parts =
+    record { cell = parts.cell; link = parts.link; sync = is; linked = parts.linked }
+parts_with plan statement is parts =
+    record { cell = parts.cell; link = parts.link; sync = parts.sync; linked = parts.linked }
+
+channels_with : (stage next : Stage) (plan : CellPlan) (statement : Statement) →
+    IsLawful statement → HasChannels stage plan → next_stage stage statement ≡ Some next →
+    HasChannels next (with_statement plan statement)
+channels_with stage next plan (statements.Cell cell) is = channels_cell stage next plan cell
+channels_with stage next plan (statements.Link link) is = channels_link stage next plan link
+channels_with stage next plan (statements.Pilot pilot) is = channels_pilot stage next plan pilot
+channels_with stage next plan (statements.Sync sync) is = channels_sync stage next plan sync
+channels_with stage next plan (statements.Paging line) is = channels_paging stage next plan line is
+channels_with stage next plan (statements.Page page) is = channels_page stage next plan page is
+channels_with stage next plan (statements.Traffic line) is =
+    channels_traffic stage next plan line is
+channels_with stage next plan (statements.Frame frame) is = channels_frame stage next plan frame is
+channels_with stage next plan (statements.Frame2 frame) is =
+    channels_frame2 stage next plan frame is
+
 -- a statement adds what is within its bounds to a plan that is
 pub added : (stage next : Stage) (plan : CellPlan) (statement : Statement) → IsLawful statement →
     IsAt stage plan → next_stage stage statement ≡ Some next →
     IsAt next (with_statement plan statement)
-added stage next plan (statements.Cell cell) is before e = record {
-  parts = record {
-    cell = is;
-    link = before.parts.link;
-    sync = before.parts.sync;
-    linked = before.parts.linked;
-  };
-  channels = channels_cell stage next plan cell before.channels e;
-}
-added stage next plan (statements.Link link) is before e = record {
-  parts = record {
-    cell = before.parts.cell;
-    link = is.0;
-    sync = before.parts.sync;
-    linked = is.1;
-  };
-  channels = channels_link stage next plan link before.channels e;
-}
-added stage next plan (statements.Pilot pilot) is before e = record {
-  parts = record {
-    cell = before.parts.cell;
-    link = before.parts.link;
-    sync = before.parts.sync;
-    linked = before.parts.linked;
-  };
-  channels = channels_pilot stage next plan pilot before.channels e;
-}
-added stage next plan (statements.Sync sync) is before e = record {
-  parts = record {
-    cell = before.parts.cell;
-    link = before.parts.link;
-    sync = is;
-    linked = before.parts.linked;
-  };
-  channels = channels_sync stage next plan sync before.channels e;
-}
-added stage next plan (statements.Paging line) is before e = record {
-  parts = record {
-    cell = before.parts.cell;
-    link = before.parts.link;
-    sync = before.parts.sync;
-    linked = before.parts.linked;
-  };
-  channels = channels_paging stage next plan line is before.channels e;
-}
-added stage next plan (statements.Page page) is before e = record {
-  parts = record {
-    cell = before.parts.cell;
-    link = before.parts.link;
-    sync = before.parts.sync;
-    linked = before.parts.linked;
-  };
-  channels = channels_page stage next plan page is before.channels e;
-}
-added stage next plan (statements.Traffic line) is before e = record {
-  parts = record {
-    cell = before.parts.cell;
-    link = before.parts.link;
-    sync = before.parts.sync;
-    linked = before.parts.linked;
-  };
-  channels = channels_traffic stage next plan line is before.channels e;
-}
-added stage next plan (statements.Frame frame) is before e = record {
-  parts = record {
-    cell = before.parts.cell;
-    link = before.parts.link;
-    sync = before.parts.sync;
-    linked = before.parts.linked;
-  };
-  channels = channels_frame stage next plan frame is before.channels e;
-}
-added stage next plan (statements.Frame2 frame) is before e = record {
-  parts = record {
-    cell = before.parts.cell;
-    link = before.parts.link;
-    sync = before.parts.sync;
-    linked = before.parts.linked;
-  };
-  channels = channels_frame2 stage next plan frame is before.channels e;
+added stage next plan statement is before e = record {
+  parts = parts_with plan statement is before.parts;
+  channels = channels_with stage next plan statement is before.channels e;
 }
 
 -- no traffic channel stands before a paging channel
 paging_first : (stage next : Stage) (plan : CellPlan) → HasChannels stage plan →
     after_paging stage ≡ Some next → plan.traffic ≡ []
-paging_first Cell next plan has e = absurd (cc e)
-paging_first Link next plan has e = absurd (cc e)
-paging_first Pilot next plan has e = absurd (cc e)
-paging_first Sync next plan has e = absurd (cc e)
 paging_first (Paging rate) next plan has e = has.0.1
-paging_first (FirstPage rate) next plan has e = absurd (cc e)
 paging_first (Pages rate count) next plan has e = has.0.bare
-paging_first Traffic next plan has e = absurd (cc e)
-paging_first FirstFrame next plan has e = absurd (cc e)
-paging_first Frames next plan has e = absurd (cc e)
-paging_first Frames2 next plan has e = absurd (cc e)
+paging_first stage next plan has e = absurd (cc e)
 
 -- a statement that may stand next stands behind those whose channels come first
 pub in_order : (stage next : Stage) (plan : CellPlan) (statement : Statement) → IsAt stage plan →
     next_stage stage statement ≡ Some next → IsInOrder plan statement
-in_order stage next plan (statements.Cell cell) before e = tt
-in_order stage next plan (statements.Link link) before e = tt
-in_order stage next plan (statements.Pilot pilot) before e = tt
-in_order stage next plan (statements.Sync sync) before e = tt
 in_order stage next plan (statements.Paging line) before e =
     paging_first stage next plan before.channels e
-in_order stage next plan (statements.Page page) before e = tt
-in_order stage next plan (statements.Traffic line) before e = tt
-in_order stage next plan (statements.Frame frame) before e = tt
-in_order stage next plan (statements.Frame2 frame) before e = tt
+in_order stage next plan statement before e = tt
 
 -- ---- the draft behind a line
 
@@ -675,26 +525,22 @@ whole_bare plan parts bare =
 
 plan_said : (stage : Stage) (n : ℕ) (said plan : CellPlan) → IsAt stage said →
     ok_or (plan_at (draft_at said stage)) n ≡ Ok plan → HasSaid plan
-plan_said Cell n said plan is e = absurd (cc e)
-plan_said Link n said plan is e = absurd (cc e)
-plan_said Pilot n said plan is e = absurd (cc e)
 plan_said Sync n said plan is e = subst HasSaid (cc e) (whole_bare said is.parts is.channels)
 plan_said (Paging rate) n said plan is e =
     subst HasSaid (cc e) (whole_bare said is.parts is.channels.0)
-plan_said (FirstPage rate) n said plan is e = absurd (cc e)
 plan_said (Pages rate count) n said plan is e =
     subst HasSaid (cc e)
     (whole said is.parts (paging_closed rate count said is.channels)
     (no_traffic said is.channels.0.bare))
 plan_said Traffic n said plan is e =
     subst HasSaid (cc e) (whole_bare said is.parts is.channels)
-plan_said FirstFrame n said plan is e = absurd (cc e)
 plan_said Frames n said plan is e =
     subst HasSaid (cc e)
     (whole said is.parts is.channels.0.paging (traffic_closed said is.channels))
 plan_said Frames2 n said plan is e =
     subst HasSaid (cc e)
     (whole said is.parts is.channels.0.paging (traffic_closed said is.channels))
+plan_said stage n said plan is e = absurd (cc e)
 
 line_step : (draft : Draft) (n : ℕ) (line : List ℕ) (more : List (List ℕ)) (plan : CellPlan)
     (next : Option Draft) →

@@ -5,8 +5,8 @@ use Rattle.cell_script.proofs.Common.{◌==◌, option_and_then, option_map, Fit
 use Rattle.cell_script.proofs.Common.{eqb-true, leb-true, ltb-true, ints, cond_some, same_Some, norm, FieldsFit, IsState, fixed_fields}
 use Rattle.cell_script.proofs.Common.{IsSyncMessage, SyncFields, admitted, SyncPlan, CellIdentity, LinkPlan, NumberRow, AreUpTo, at_end}
 use Rattle.cell_script.proofs.Common.{field, numbers_in, past, value_of, cell_in, cell_line, freq_in, has_lawful_rest, is_link, link_in}
-use Rattle.cell_script.proofs.Common.{link_line, sync_behind, sync_fields, sync_in, frame_in, frame_key, frame_rate, frame_with, frame2_in}
-use Rattle.cell_script.proofs.Common.{frame2_key, frame2_rate, frame2_with, lawful_frame2, lawful_frame, traffic_in, traffic_line}
+use Rattle.cell_script.proofs.Common.{link_line, sync_behind, sync_fields, sync_in, frame_in, frame_key, frame_rate, frame2_in}
+use Rattle.cell_script.proofs.Common.{frame_by, frame2_key, frame2_rate, lawful_frame, traffic_in, traffic_line}
 use Rattle.cell_script.proofs.Common.{lawful_message, lawful_page, page_in, page_key, page_with, paging_in, paging_line, pilot_in}
 use Rattle.cell_script.proofs.Common.{statement_in, sync_table, Page, PagingLine, TrafficLine, TrafficFrame, TrafficFrame2, Rate2}
 use Rattle.cell_script.proofs.Common.{IsTrafficFrame, IsTrafficFrame2, information_of, Rate, Statement, HasMessage, is_body, FillsCapsule}
@@ -325,50 +325,38 @@ traffic_bounds text =
     subst TrafficBounds (ended _ (traffic_line row esn offset gain) line e)
     (number_field _ 63 _ row row_is, number_field _ 15 _ offset offset_is)
 
-frame_some : (rate : Rate) (information commands : List Bool) (frame : TrafficFrame) →
-    lawful_frame rate information commands ≡ Some frame → IsTrafficFrame frame
-frame_some rate information commands frame e =
-    let told = cond_some (length information == information_of rate)
-    (record { rate = rate; information = information; commands = commands }) frame e in
-    subst IsTrafficFrame told.1 (eqb-true (length information) (information_of rate) told.0)
-
-frame_with_bounds : (rate : Rate) (text : List ℕ) (frame : TrafficFrame) →
-    frame_with rate text ≡ Some frame → IsTrafficFrame frame
-frame_with_bounds rate text =
-    both_steps (field (frame_key rate) bits_in _) _ λ information information_is.
+-- what is true of what is made of as many information bits as there are to be
+frame_by_bounds : {A : Type 0} (P : A → Type 0) (key : List ℕ) (size : ℕ)
+    (made : List Bool → List Bool → A) →
+    ((information commands : List Bool) → length information ≡ size → P (made information commands)) →
+    (text : List ℕ) (frame : A) → frame_by key size made text ≡ Some frame → P frame
+frame_by_bounds P key size made each text =
+    both_steps (field key bits_in _) _ λ information information_is.
     both_steps (field (codes " ") commands_in _) _ λ commands commands_is.
-    both_steps (lawful_frame rate information commands) _ λ frame frame_is all e.
-    subst IsTrafficFrame (ended _ frame all e)
-    (frame_some rate information commands frame frame_is)
+    both_steps (lawful_frame size information (made information commands)) _ λ frame frame_is all e.
+    let told = cond_some (length information == size) (made information commands) frame frame_is in
+    subst P (ended _ frame all e)
+    (subst P told.1 (each information commands (eqb-true (length information) size told.0)))
 
 pub frame_bounds : (text : List ℕ) (frame : TrafficFrame) → frame_in text ≡ Some frame →
     IsTrafficFrame frame
 unfolding frame_in
 frame_bounds text =
-    both_steps (frame_rate text) _ λ rate rate_is frame e. frame_with_bounds rate text frame e
-
-frame2_some : (rate : Rate2) (information commands : List Bool) (frame : TrafficFrame2) →
-    lawful_frame2 rate information commands ≡ Some frame → IsTrafficFrame2 frame
-frame2_some rate information commands frame e =
-    let told = cond_some (length information == second.information_of rate)
-    (record { rate = rate; information = information; commands = commands }) frame e in
-    subst IsTrafficFrame2 told.1
-    (eqb-true (length information) (second.information_of rate) told.0)
-
-frame2_with_bounds : (rate : Rate2) (text : List ℕ) (frame : TrafficFrame2) →
-    frame2_with rate text ≡ Some frame → IsTrafficFrame2 frame
-frame2_with_bounds rate text =
-    both_steps (field (frame2_key rate) bits_in _) _ λ information information_is.
-    both_steps (field (codes " ") commands_in _) _ λ commands commands_is.
-    both_steps (lawful_frame2 rate information commands) _ λ frame frame_is all e.
-    subst IsTrafficFrame2 (ended _ frame all e)
-    (frame2_some rate information commands frame frame_is)
+    both_steps (frame_rate text) _ λ rate rate_is.
+    frame_by_bounds IsTrafficFrame (frame_key rate) (information_of rate)
+    (λ information commands.
+    record { rate = rate; information = information; commands = commands })
+    (λ information commands long. long) text
 
 pub frame2_bounds : (text : List ℕ) (frame : TrafficFrame2) → frame2_in text ≡ Some frame →
     IsTrafficFrame2 frame
 unfolding frame2_in
 frame2_bounds text =
-    both_steps (frame2_rate text) _ λ rate rate_is frame e. frame2_with_bounds rate text frame e
+    both_steps (frame2_rate text) _ λ rate rate_is.
+    frame_by_bounds IsTrafficFrame2 (frame2_key rate) (second.information_of rate)
+    (λ information commands.
+    record { rate = rate; information = information; commands = commands })
+    (λ information commands long. long) text
 
 -- ---- any line
 

@@ -5,10 +5,9 @@ pub on_last-last : (change : FrameList → FrameList) (before : List TrafficPlan
     (last : TrafficPlan) →
     on_last change (before ++ last ∷ [])
     ≡ before ++ record last { frames = change last.frames } ∷ []
-on_last-last change [] last = refl
-on_last-last change (t ∷ []) last = refl
 on_last-last change (t ∷ (u ∷ before)) last =
     ap (λ (ts : List TrafficPlan). t ∷ ts) (on_last-last change (u ∷ before) last)
+on_last-last change before last = refl
 
 last_changed : (change : FrameList → FrameList) (old before new : List TrafficPlan)
     (last : TrafficPlan) (frames : FrameList) →

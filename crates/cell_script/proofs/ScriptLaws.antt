@@ -3,13 +3,12 @@
 use Rattle.cell_script.proofs.Common.{◌≡◌, ◌≢◌, ℕ, zero, suc, ◌+◌, ◌-◌, ◌<◌, ◌≤◌, Bool, true, false, cond, List, [], ◌∷◌, ◌++◌, length}
 use Rattle.cell_script.proofs.Common.{take, refl, sym, ap, ◌∙◌, arith, append_assoc, Option, None, Some, Result, Ok, Err, IsOk, option_or}
 use Rattle.cell_script.proofs.Common.{codes, nat_lt, ok_or, option_map, ◌↔◌, take_at, length-take-le, binary, digits_from, decode_pairs}
-use Rattle.cell_script.proofs.Common.{admits, bits_left, fill, is_body, Rate, R9600, R4800, R2400, R1200, CellPlan, SyncPlan, Stage, Cell}
-use Rattle.cell_script.proofs.Common.{Link, Pilot, Sync, Paging, FirstPage, Pages, Traffic, FirstFrame, Frames, Frames2, ScriptFault, Line}
-use Rattle.cell_script.proofs.Common.{Walsh, Gain, TooLoud, TooLong, TooBig, bits_in, hex_bits, hex_from, length_before, commands_in}
-use Rattle.cell_script.proofs.Common.{digits_behind, number_up_to, signed_in, state_in, field, past, cell_in, frame_in, link_in, page_in}
-use Rattle.cell_script.proofs.Common.{pilot_in, statement_in, pages_behind, Draft, empty_draft, plan_at, with_line, with_next, draft_after}
-use Rattle.cell_script.proofs.Common.{is_line, lines, named, plan_fault, plan_named, stated, stated_plan, sync_gain_fault, unless, Width}
-use Rattle.cell_script.proofs.Common.{cond-true, cond-false, le-ltb, ltb-false}
+use Rattle.cell_script.proofs.Common.{admits, bits_left, fill, is_body, Rate, R9600, CellPlan, SyncPlan, Stage, Cell, Link, Pilot}
+use Rattle.cell_script.proofs.Common.{FirstPage, FirstFrame, ScriptFault, Line, Walsh, Gain, TooLoud, TooLong, TooBig, bits_in, hex_bits}
+use Rattle.cell_script.proofs.Common.{hex_from, length_before, commands_in, digits_behind, number_up_to, signed_in, state_in, field, past}
+use Rattle.cell_script.proofs.Common.{cell_in, frame_in, link_in, page_in, pilot_in, statement_in, pages_behind, Draft, empty_draft}
+use Rattle.cell_script.proofs.Common.{plan_at, with_line, with_next, draft_after, is_line, lines, named, plan_fault, plan_named, stated}
+use Rattle.cell_script.proofs.Common.{stated_plan, sync_gain_fault, unless, Width, cond-true, cond-false, le-ltb, ltb-false}
 use Rattle.cell_script.proofs.ScriptSplits.{lines-append, draft_after-other, stated-fault, stated-next, stated-none}
 
 -- ---- completions
@@ -36,14 +35,9 @@ abbrev completion : Stage → List ℕ
 completion Cell = cell_text ++ link_text ++ pilot_text
 completion Link = link_text ++ pilot_text
 completion Pilot = pilot_text
-completion Sync = []
-completion (Paging rate) = []
 completion (FirstPage rate) = page_text
-completion (Pages rate count) = []
-completion Traffic = []
 completion FirstFrame = frame_text
-completion Frames = []
-completion Frames2 = []
+completion other = []
 
 first_page_completed : (rate : Rate) (plan : CellPlan) (n : ℕ) →
     IsOk (stated (record { stage = FirstPage rate; plan = plan }) n (lines page_text))
@@ -51,9 +45,7 @@ unfolding stated draft_after lines is_line with_line with_next statement_in page
     length_before number_up_to digits_from bits_in hex_bits decode_pairs binary is_body admits
     pages_behind bits_left fill
 first_page_completed R9600 plan n = refl
-first_page_completed R4800 plan n = refl
-first_page_completed R2400 plan n = refl
-first_page_completed R1200 plan n = refl
+first_page_completed rate plan n = refl
 
 first_frame_completed : (plan : CellPlan) (n : ℕ) →
     IsOk (stated (record { stage = FirstFrame; plan = plan }) n (lines frame_text))
@@ -66,17 +58,9 @@ completed_at : (stage : Stage) (plan : CellPlan) (n : ℕ) →
     IsOk (stated (record { stage = stage; plan = plan }) n (lines (completion stage)))
 unfolding stated draft_after lines is_line with_line with_next statement_in cell_in link_in
     pilot_in field past length_before number_up_to digits_from signed_in state_in hex_from
-completed_at Cell plan n = refl
-completed_at Link plan n = refl
-completed_at Pilot plan n = refl
-completed_at Sync plan n = refl
-completed_at (Paging rate) plan n = refl
 completed_at (FirstPage rate) plan n = first_page_completed rate plan n
-completed_at (Pages rate count) plan n = refl
-completed_at Traffic plan n = refl
 completed_at FirstFrame plan n = first_frame_completed plan n
-completed_at Frames plan n = refl
-completed_at Frames2 plan n = refl
+completed_at stage plan n = refl
 
 completed : (draft : Draft) (n : ℕ) → IsOk (stated draft n (lines (completion draft.stage)))
 completed draft n = completed_at draft.stage draft.plan n

@@ -175,14 +175,13 @@ negative-suc n = cond-false _ _ _ (eqb-suc-zero n)
 
 negative_told : (digits : List ℕ) (z : ℤ) (number : Option ℕ) → number_up_to 32768 digits ≡ number →
     option_and_then negative number ≡ Some z → Spells (45 ∷ digits) z
-negative_told digits z None is some = absurd (cc some)
-negative_told digits z (Some zero) is some = absurd (cc some)
 negative_told digits z (Some (suc n)) is some =
     let read : ◌≡◌ {A = Option ℤ} (Some (negsuc n)) (Some z) = sym (negative-suc n) ∙ some in
     let same : negsuc n ≡ z = cc in
     let told = spelled 32768 (suc n) digits (omega arith) is in
     subst (Spells (45 ∷ digits)) same
     (ap (λ (ds : List ℕ). 45 ∷ ds) told.0, record { sfits = omega (arith, told.1) })
+negative_told digits z number is some = absurd (cc some)
 
 signed_told : (byte : ℕ) (bytes : List ℕ) (z : ℤ) (minus : Bool) → (byte == 45) ≡ minus →
     signed_in (byte ∷ bytes) ≡ Some z → Spells (byte ∷ bytes) z

@@ -53,10 +53,9 @@ body_found body found told only = by_test found told only (is_body body) refl
 pub with_page-last : (before : List PagingPlan) (last : PagingPlan) (page : Page) →
     with_page (before ++ last ∷ []) page
     ≡ before ++ record last { pages = last.pages ++ page ∷ [] } ∷ []
-with_page-last [] last page = refl
-with_page-last (p ∷ []) last page = refl
 with_page-last (p ∷ (q ∷ before)) last page =
     ap (λ (ps : List PagingPlan). p ∷ ps) (with_page-last (q ∷ before) last page)
+with_page-last before last page = refl
 
 page_added : (old before new : List PagingPlan) (last : PagingPlan) (page : Page)
     (pages : List Page) →

@@ -2,12 +2,11 @@
 use Rattle.cell_script.proofs.Common.{◌≡◌, ℕ, ◌+◌, ◌*◌, ◌<◌, ◌==◌, Bool, true, false, cond, List, [], ◌∷◌, ◌++◌, length, get_or, refl, sym}
 use Rattle.cell_script.proofs.Common.{ap, ◌∙◌, arith, append_assoc, replicate, subst, inl, inr, Option, None, Some, set, ◌||◌, unsigned_abs}
 use Rattle.cell_script.proofs.Common.{option_or, cases_eq, eq-eqb, ne_eqb, or_right, append-nil, get_or-set_other, get_or-set_same}
-use Rattle.cell_script.proofs.Common.{length-set, get_or-replicate, map-append, Width, paging_gains, sync_gain, traffic_gains, CellPlan}
-use Rattle.cell_script.proofs.Common.{LinkPlan, Page, PagingPlan, PilotPlan, SyncPlan, TrafficPlan, Judge, ChannelRows, PagingLine}
-use Rattle.cell_script.proofs.Common.{TrafficLine, ScriptFault, FrameList, ChannelLine, channel, channel_lines, first_channels, gain_fault}
-use Rattle.cell_script.proofs.Common.{is_used, long_fault, loud_fault, paging_lines, plan_fault, repeated, repeated_behind, silent}
-use Rattle.cell_script.proofs.Common.{traffic_lines, walsh_fault, on_last, opened, opened_traffic, with_page, gains_of, judged_fault}
-use Rattle.cell_script.proofs.Common.{HasJudged, HasSeen}
+use Rattle.cell_script.proofs.Common.{length-set, get_or-replicate, Width, paging_gains, sync_gain, traffic_gains, CellPlan, LinkPlan, Page}
+use Rattle.cell_script.proofs.Common.{PagingPlan, PilotPlan, SyncPlan, TrafficPlan, Judge, ChannelRows, ScriptFault, FrameList, ChannelLine}
+use Rattle.cell_script.proofs.Common.{channel, channel_lines, first_channels, gain_fault, is_used, long_fault, loud_fault, paging_lines}
+use Rattle.cell_script.proofs.Common.{plan_fault, repeated, repeated_behind, silent, traffic_lines, walsh_fault, on_last, with_page}
+use Rattle.cell_script.proofs.Common.{gains_of, judged_fault, HasJudged, HasSeen}
 
 -- ---- one line more
 
@@ -151,41 +150,16 @@ traffic_line_of t = channel t.row t.gain
 -- a page leaves the rows and the gains
 lines-with_page : (paging : List PagingPlan) (page : Page) →
     paging_lines (with_page paging page) ≡ paging_lines paging
-lines-with_page [] page = refl
-lines-with_page (p ∷ []) page = refl
 lines-with_page (p ∷ (q ∷ paging)) page =
     ap (λ (ls : List ChannelLine). line_of p ∷ ls) (lines-with_page (q ∷ paging) page)
+lines-with_page paging page = refl
 
 -- and so does a change of frames
 lines-on_last : (change : FrameList → FrameList) (traffic : List TrafficPlan) →
     traffic_lines (on_last change traffic) ≡ traffic_lines traffic
-lines-on_last change [] = refl
-lines-on_last change (t ∷ []) = refl
 lines-on_last change (t ∷ (u ∷ traffic)) =
     ap (λ (ls : List ChannelLine). traffic_line_of t ∷ ls) (lines-on_last change (u ∷ traffic))
-
--- a paging channel more, where there is no traffic channel
-lines-opened : (paging : List PagingPlan) (traffic : List TrafficPlan) (l : PagingLine) →
-    traffic ≡ [] →
-    paging_lines (paging ++ opened l ∷ []) ++ traffic_lines traffic
-    ≡ paging_lines paging ++ traffic_lines traffic ++ channel l.number l.gain ∷ []
-lines-opened paging traffic l none =
-    subst (λ (ts : List TrafficPlan).
-    paging_lines (paging ++ opened l ∷ []) ++ traffic_lines ts
-    ≡ paging_lines paging ++ traffic_lines ts ++ channel l.number l.gain ∷ []) (sym none)
-    (append-nil (paging_lines (paging ++ opened l ∷ []))
-    ∙ map-append line_of paging (opened l ∷ [])
-    ∙ ap (λ (ls : List ChannelLine). ls ++ channel l.number l.gain ∷ [])
-    (sym (append-nil (paging_lines paging))))
-
--- a traffic channel more
-lines-opened_traffic : (before : List ChannelLine) (traffic : List TrafficPlan) (l : TrafficLine) →
-    before ++ traffic_lines (traffic ++ opened_traffic l ∷ [])
-    ≡ before ++ traffic_lines traffic ++ channel l.row l.gain ∷ []
-lines-opened_traffic before traffic l =
-    ap (λ (ls : List ChannelLine). before ++ ls)
-    (map-append traffic_line_of traffic (opened_traffic l ∷ []))
-    ∙ sym (append_assoc before (traffic_lines traffic) (channel l.row l.gain ∷ []))
+lines-on_last change traffic = refl
 
 pub judged_page : (judge : Judge) (plan : CellPlan) (page : Page) → HasJudged judge plan →
     HasJudged judge (record plan { paging = with_page plan.paging page })
@@ -209,11 +183,6 @@ judged_frames judge plan change before = record {
       (sym (ap (λ (ls : List ChannelLine). paging_lines plan.paging ++ ls)
       (lines-on_last change plan.traffic))) before.channels;
 }
-
--- a judge that differs in its channels alone
-abbrev pub IsAlike : Judge → Judge → Type 0
-IsAlike judge more =
-    (more.link ≡ judge.link) × (more.pilot ≡ judge.pilot) × (more.sync ≡ judge.sync)
 
 -- ---- faults
 

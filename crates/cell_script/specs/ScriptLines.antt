@@ -273,20 +273,25 @@ frame_rate text =
     else (if begins_with text (codes "frame 1200 ") then Some R1200
     else None)))
 
-abbrev pub lawful_frame : Rate → List Bool → List Bool → Option TrafficFrame
-lawful_frame rate information commands =
-    if length information == information_of rate
-    then Some (record { rate = rate; information = information; commands = commands }) else None
+-- a frame, where it has as many information bits as it is to have
+abbrev pub lawful_frame : {A : Type 0} → ℕ → List Bool → A → Option A
+lawful_frame size information frame = if length information == size then Some frame else None
 
-abbrev pub frame_with : Rate → List ℕ → Option TrafficFrame
-frame_with rate text0 =
-    let text1 = past (frame_key rate) text0 in
+-- what is made of so many information bits behind a key, and of the commands behind them
+abbrev pub frame_by : {A : Type 0} → List ℕ → ℕ → (List Bool → List Bool → A) → List ℕ → Option A
+frame_by key size made text0 =
+    let text1 = past key text0 in
     let text2 = past (codes " ") text1 in
     do
-      information ← field (frame_key rate) bits_in text0
+      information ← field key bits_in text0
       commands ← field (codes " ") commands_in text1
-      frame ← lawful_frame rate information commands
+      frame ← lawful_frame size information (made information commands)
       at_end text2 frame
+
+abbrev pub frame_with : Rate → List ℕ → Option TrafficFrame
+frame_with rate = frame_by (frame_key rate) (information_of rate)
+    (λ information commands.
+    record { rate = rate; information = information; commands = commands })
 
 unfoldable pub frame_in : List ℕ → Option TrafficFrame
 frame_in text = do
@@ -311,20 +316,10 @@ frame2_rate text =
     else (if begins_with text (codes "frame2 1800 ") then Some R1800
     else None)))
 
-abbrev pub lawful_frame2 : Rate2 → List Bool → List Bool → Option TrafficFrame2
-lawful_frame2 rate information commands =
-    if length information == second.information_of rate
-    then Some (record { rate = rate; information = information; commands = commands }) else None
-
 abbrev pub frame2_with : Rate2 → List ℕ → Option TrafficFrame2
-frame2_with rate text0 =
-    let text1 = past (frame2_key rate) text0 in
-    let text2 = past (codes " ") text1 in
-    do
-      information ← field (frame2_key rate) bits_in text0
-      commands ← field (codes " ") commands_in text1
-      frame ← lawful_frame2 rate information commands
-      at_end text2 frame
+frame2_with rate = frame_by (frame2_key rate) (second.information_of rate)
+    (λ information commands.
+    record { rate = rate; information = information; commands = commands })
 
 unfoldable pub frame2_in : List ℕ → Option TrafficFrame2
 frame2_in text = do

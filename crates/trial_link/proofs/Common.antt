@@ -73,7 +73,7 @@ unfoldable pub use Rattle.paging_message.specs.Reading.{is_body}
 pub use Rattle.quality_bits.proofs.Digits.{binary-number}
 pub use Rattle.quality_bits.specs.TrafficWords.{information_of}
 pub use Rattle.quality_bits.specs.declared.rate.Rate.{Rate}
-pub use Rattle.quality_bits.specs.declared.rate.Rate.TheVariants.{R1200, R2400, R4800, R9600}
+pub use Rattle.quality_bits.specs.declared.rate.Rate.TheVariants.{R9600}
 pub use Rattle.trial_link.specs.Spelling.{form_bit}
 unfoldable pub use Rattle.trial_link.specs.Spelling.{cell_text, frame_text, page_text, traffic_text}
 pub use Rattle.trial_link.specs.Trial.{behind_draw, behind_frame, bits_of_frame, channel_of, channel_text, drawn, ended, followed_line}

@@ -2,11 +2,11 @@
 use Rattle.trial_link.proofs.Common.{◌≡◌, ℕ, ◌+◌, ◌*◌, ◌/◌, ◌%◌, ◌^◌, ◌<◌, ◌≤◌, Bool, true, false, List, [], ◌++◌, length, refl, sym, ap}
 use Rattle.trial_link.proofs.Common.{◌∙◌, arith, Some, codes, decimal, nat_le, ◌&&◌, ◌==◌, option_map, take, length-append, and_parts}
 use Rattle.trial_link.proofs.Common.{cond-true, eq-eqb, leb-true, number, CheckForm, Plain, Complemented, bit_text, digits_of}
-use Rattle.trial_link.proofs.Common.{serial_digits, state_digits, admits, is_body, information_of, Rate, R9600, R4800, R2400, R1200}
-use Rattle.trial_link.proofs.Common.{CellIdentity, Page, TrafficLine, TrafficFrame, field, past, past_at, unsigned_at, cell_in, cell_line}
-use Rattle.trial_link.proofs.Common.{cell_rows, check_form, frame_in, frame_key, frame_with, lawful_frame, page_in, page_key, page_with}
-use Rattle.trial_link.proofs.Common.{statement_in, traffic_in, IsStatedCell, bits_in, commands_in, number_up_to, serial_number_in, state_in}
-use Rattle.trial_link.proofs.Common.{cell_text, form_bit, frame_text, page_text, traffic_text, IsTrafficFrame, traffic_read}
+use Rattle.trial_link.proofs.Common.{serial_digits, state_digits, admits, is_body, information_of, Rate, R9600, CellIdentity, Page}
+use Rattle.trial_link.proofs.Common.{TrafficLine, TrafficFrame, field, past, past_at, unsigned_at, cell_in, cell_line, cell_rows}
+use Rattle.trial_link.proofs.Common.{check_form, frame_in, frame_key, frame_with, lawful_frame, page_in, page_key, page_with, statement_in}
+use Rattle.trial_link.proofs.Common.{traffic_in, IsStatedCell, bits_in, commands_in, number_up_to, serial_number_in, state_in, cell_text}
+use Rattle.trial_link.proofs.Common.{form_bit, frame_text, page_text, traffic_text, IsTrafficFrame, traffic_read}
 use Rattle.trial_link.proofs.SpelledBytes.{are_within, bit_text_short, bit_text_within, decimal_short, decimal_within, digits_of_long}
 use Rattle.trial_link.proofs.SpelledBytes.{digits_of_within, serial_long, serial_within, state_long, state_within, within-append}
 use Rattle.trial_link.proofs.SpelledBytes.{within-wider}
@@ -304,16 +304,15 @@ frame_read : (rate : Rate) (information commands : List Bool) (text0 text1 : Lis
     frame_with rate text0
     ≡ Some (record { rate = rate; information = information; commands = commands })
 frame_read rate information commands text0 text1 first past_first second ended long =
-    let lawful : lawful_frame rate information commands
-    ≡ Some (record { rate = rate; information = information; commands = commands }) =
+    let frame : TrafficFrame =
+    record { rate = rate; information = information; commands = commands } in
+    let lawful : lawful_frame (information_of rate) information frame ≡ Some frame =
     cond-true _ _ _ (eq-eqb (length information) (information_of rate) long) in
     rw (past_first, ended, first, second, lawful) refl
 
 information_few : (rate : Rate) → information_of rate ≤ 172
 information_few R9600 = omega arith
-information_few R4800 = omega arith
-information_few R2400 = omega arith
-information_few R1200 = omega arith
+information_few rate = omega arith
 
 abbrev frame_line : Rate → List Bool → List Bool → List ℕ
 frame_line rate information commands =
@@ -342,9 +341,7 @@ frame_statement : (rate : Rate) (rest : List ℕ) →
     ≡ option_map statements.Frame (frame_with rate (frame_key rate ++ rest))
 unfolding statement_in frame_in
 frame_statement R9600 rest = refl
-frame_statement R4800 rest = refl
-frame_statement R2400 rest = refl
-frame_statement R1200 rest = refl
+frame_statement rate rest = refl
 
 -- what the line of a frame states
 pub frame_spelled : (f : TrafficFrame) → IsTrafficFrame f → length f.commands ≡ 16 →
@@ -356,9 +353,7 @@ frame_spelled f long sixteen =
 
 frame_key_within : (rate : Rate) → are_within 32 126 (frame_key rate) ≡ true
 frame_key_within R9600 = refl
-frame_key_within R4800 = refl
-frame_key_within R2400 = refl
-frame_key_within R1200 = refl
+frame_key_within rate = refl
 
 -- it has no LF
 pub frame_line_within : (f : TrafficFrame) → IsTrafficFrame f →
@@ -438,9 +433,7 @@ page_text_short page is =
 
 frame_key_long : (rate : Rate) → length (frame_key rate) ≡ 11
 frame_key_long R9600 = refl
-frame_key_long R4800 = refl
-frame_key_long R2400 = refl
-frame_key_long R1200 = refl
+frame_key_long rate = refl
 
 pub frame_text_short : (f : TrafficFrame) → IsTrafficFrame f → length f.commands ≡ 16 →
     length (frame_text f) ≤ 300
