@@ -22,7 +22,7 @@ use Rattle.cdma_replay.specs.CleanFiles.{IsCellFile, IsCleanLink, cell_energy}
 use Rattle.clean_link.specs.CleanLink.{IsNotDirected, IsOnPath, IsPlanFile, IsTunedTo, tuning_to}
 use Rattle.clean_link.specs.CleanLink.{sync_sent}
 use Rattle.clean_link.specs.SentEvents.{FollowsSent, sent_events}
-use Rattle.clean_link.proofs.marks.MarksTrue.{marked_where_heard}
+use Rattle.clean_link.proofs.marks.FirstMark.{marked_where_heard}
 use Rattle.clean_link.proofs.messages.MessagesBack.{messages_back, tuned_is}
 use Rattle.clean_link.proofs.signal.Samples.{length-made}
 use Rattle.chip_core.specs.declared.assignment.Traffic.{Traffic}

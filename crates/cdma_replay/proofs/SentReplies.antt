@@ -12,7 +12,7 @@ use Rattle.chip_core.specs.declared.assignment.Traffic.{Traffic}
 use Rattle.clean_link.specs.CleanLink.{sync_sent}
 use Rattle.clean_link.specs.HeardFrames.{SendsSetOne, SendsSetTwo}
 use Rattle.clean_link.specs.SentEvents.{told_with_sync}
-use Rattle.clean_link.proofs.marks.MarksTrue.{marked_where_heard}
+use Rattle.clean_link.proofs.marks.FirstMark.{marked_where_heard}
 use Rattle.clean_link.proofs.signal.Samples.{length-made}
 use Rattle.tuned_listener.specs.declared.tuned_text.TunedText.{TunedText}
 use Rattle.tuned_listener.specs.declared.tuned_text.TunedText.TheVariants.{Listed, RateSetTwo}

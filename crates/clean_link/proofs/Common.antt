@@ -151,7 +151,7 @@ pub use Rattle.heard_events.specs.TrafficStreams.{ends_now, frame_state, frames_
 pub use Rattle.heard_events.specs.TrafficStreams.{traffic_start, traffic_stream}
 pub use Rattle.heard_events.specs.Tuning.{Tuning, fingers_of, modulo_code, sync_bound, sync_stream}
 pub use Rattle.heard_events.specs.declared.event.Event.{Event}
-pub use Rattle.heard_events.specs.declared.event.Event.TheVariants.{Frame, Pilot, Sets}
+pub use Rattle.heard_events.specs.declared.event.Event.TheVariants.{Pilot}
 pub use Rattle.heard_events.specs.declared.leg.Leg.{Leg}
 pub use Rattle.heard_events.specs.declared.mark.Mark.{Mark}
 pub use Rattle.heard_events.specs.declared.soft_frame.PowerControl.{PowerControl}
@@ -245,9 +245,9 @@ unfoldable pub use Rattle.clean_link.specs.CleanLink.{sync_sent}
 pub use Rattle.clean_link.specs.DistinctFrames.{FullRateFramesAreDistinct, full_rate_symbols, is_hidden, is_kept, is_seen, lost_symbols}
 pub use Rattle.clean_link.specs.DistinctFrames.{shows_full_rate, tells_all_bits}
 unfoldable pub use Rattle.clean_link.specs.DistinctFrames.{stays_apart}
-pub use Rattle.clean_link.specs.DistinctPlan.{HasMark, HasSetOne, HasSetTwo, bits_1200, bits_14400, bits_1800, bits_2400, bits_3600}
-pub use Rattle.clean_link.specs.DistinctPlan.{bits_4800, bits_7200, bits_9600, distinct_plan, first_channel, frame2_at, frame_at, on_row}
-pub use Rattle.clean_link.specs.DistinctPlan.{second_channel, told_message}
+pub use Rattle.clean_link.specs.DistinctPlan.{channel_on, HasMark, HasSetOne, HasSetTwo, bits_1200, bits_14400, bits_1800, bits_2400}
+pub use Rattle.clean_link.specs.DistinctPlan.{bits_3600, bits_4800, bits_7200, bits_9600, distinct_plan, first_channel, frame2_at, frame_at}
+pub use Rattle.clean_link.specs.DistinctPlan.{on_row, second_channel, told_message}
 pub use Rattle.clean_link.specs.DistinctWorked.{AFullRateFrameIsDistinct, ZerosAreShared, replaced_places, some_information}
 pub use Rattle.clean_link.specs.HeardEach.{AreEventsOf, AreFramesBehind, AreMessagesBehind, EachChannelComesBack, FollowsOne, IsEventOf}
 pub use Rattle.clean_link.specs.HeardEach.{is_frame, is_message, is_page, is_sync}

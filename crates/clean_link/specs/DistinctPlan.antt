@@ -13,6 +13,7 @@ use Rattle.symbol_path.specs.declared.rate_two.Rate2.TheVariants.{R14400, R7200,
 use Rattle.sync_message.specs.declared.fields.SyncFields.{SyncFields}
 use Rattle.cell_plan.specs.Signal.{frames_of}
 use Rattle.cell_plan.specs.TrafficFrames.{cycled_frame}
+use Rattle.cell_plan.specs.declared.frame_list.FrameList.{FrameList}
 use Rattle.cell_plan.specs.declared.frame_list.FrameList.TheVariants.{SetOne, SetTwo}
 use Rattle.cell_plan.specs.declared.plan.CellPlan.{CellPlan}
 use Rattle.cell_plan.specs.declared.plan.TrafficPlan.{TrafficPlan}
@@ -88,28 +89,21 @@ bits_3600 = binary 56 0x7f7f6ad5e9ac66
 abbrev pub bits_1800 : List Bool
 bits_1800 = binary 22 0xa13a0
 
+-- a channel with these frames
+abbrev pub channel_on : ℕ → FrameList → TrafficPlan
+channel_on row frames =
+    record { row = row; esn = 0x9f1c0a37; offset = 0; gain = 20; frames = frames }
+
 -- channels with a frame of each rate of their rate set, the highest first
 abbrev pub first_channel : TrafficPlan
-first_channel = record {
-  row = 8;
-  esn = 0x9f1c0a37;
-  offset = 0;
-  gain = 20;
-  frames = SetOne (
-      frame_at R9600 bits_9600 ∷ frame_at R4800 bits_4800
-      ∷ frame_at R2400 bits_2400 ∷ frame_at R1200 bits_1200 ∷ []);
-}
+first_channel = channel_on 8 (SetOne (
+    frame_at R9600 bits_9600 ∷ frame_at R4800 bits_4800
+    ∷ frame_at R2400 bits_2400 ∷ frame_at R1200 bits_1200 ∷ []))
 
 abbrev pub second_channel : TrafficPlan
-second_channel = record {
-  row = 9;
-  esn = 0x9f1c0a37;
-  offset = 0;
-  gain = 20;
-  frames = SetTwo (
-      frame2_at R14400 bits_14400 ∷ frame2_at R7200 bits_7200
-      ∷ frame2_at R3600 bits_3600 ∷ frame2_at R1800 bits_1800 ∷ []);
-}
+second_channel = channel_on 9 (SetTwo (
+    frame2_at R14400 bits_14400 ∷ frame2_at R7200 bits_7200
+    ∷ frame2_at R3600 bits_3600 ∷ frame2_at R1800 bits_1800 ∷ []))
 
 -- The cell sends both, and the file has eight superframes. The long code's state is 1 at chip
 -- 686,592, a power control group before superframe 7.

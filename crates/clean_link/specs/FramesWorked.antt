@@ -1,17 +1,16 @@
 -- Worked values of the frames of a traffic channel on a clean link, which the checker computes.
-use Rattle.std.specs.Prelude.{◌≡◌, ℕ, ◌^◌, refl, true, false, List, [], ◌∷◌, length, map, replicate}
-use Rattle.std.specs.Prelude.{pos, negsuc, None}
+use Rattle.std.specs.Prelude.{◌≡◌, ℕ, refl, true, false, List, [], ◌∷◌, length, map, replicate}
 use Rattle.chip_core.specs.Bits.{places}
 use Rattle.chip_core.specs.declared.check_form.CheckForm.TheVariants.{Plain}
 use Rattle.quality_bits.specs.declared.rate.Rate.TheVariants.{R1200, R2400}
 use Rattle.cell_plan.specs.declared.plan.CellPlan.{CellPlan}
-use Rattle.cell_plan.specs.declared.frame_list.FrameList.TheVariants.{SetOne}
 use Rattle.cell_plan.specs.declared.traffic_frame.TrafficFrame.{TrafficFrame}
 use Rattle.heard_events.specs.Given.{at_of}
 use Rattle.heard_events.specs.declared.event.Event.{Event}
 use Rattle.heard_events.specs.declared.event.Event.TheVariants.{Frame, Paging, Pilot, Sets, Sync}
 use Rattle.heard_events.specs.declared.event.Event.TheVariants.{Traffic}
 use Rattle.clean_link.specs.HeardFrames.{frames_sent, sent_bits, sent_commands}
+use Rattle.clean_link.specs.WorkedCells.{cell_of_frames}
 
 -- two frames, whose power control bits tell a handset to raise its power, and to lower it
 slow : TrafficFrame
@@ -28,27 +27,9 @@ faster = record {
   commands = replicate 16 true;
 }
 
--- so much of a cell, from a local chip on, with a traffic channel on row 9 that sends the two in
--- turn, 3,072 chips behind the system's frames
+-- so much of a cell, from a local chip on, with a traffic channel that sends the two in turn
 cell : ℕ → ℕ → CellPlan
-cell start samples = record {
-  cell = record { pn = 511; time = 1000; lc = 2 ^ 41; check30 = Plain; check16 = Plain };
-  link = record {
-    factor = record { i = pos 0; q = negsuc 2 };
-    start = start;
-    samples = samples;
-  };
-  pilot = record { gain = 100 };
-  sync = None;
-  paging = [];
-  traffic = record {
-    row = 9;
-    esn = 2882343476;
-    offset = 2;
-    gain = 40;
-    frames = SetOne (slow ∷ faster ∷ []);
-  } ∷ [];
-}
+cell start samples = cell_of_frames start samples Plain (slow ∷ faster ∷ [])
 
 -- how many information bits an event has
 abbrev bits_in : Event → ℕ

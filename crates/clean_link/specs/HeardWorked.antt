@@ -1,6 +1,6 @@
 -- Worked values of the whole pages of a clean link, which the checker computes.
-use Rattle.std.specs.Prelude.{◌≡◌, ℕ, ◌^◌, refl, Bool, true, false, List, [], ◌∷◌, ◌++◌, map}
-use Rattle.std.specs.Prelude.{replicate, pos, negsuc, None}
+use Rattle.std.specs.Prelude.{◌≡◌, ℕ, refl, Bool, true, false, List, [], ◌∷◌, ◌++◌, map}
+use Rattle.std.specs.Prelude.{replicate, None}
 use Rattle.chip_core.specs.Bits.{binary, places}
 use Rattle.chip_core.specs.declared.check_form.CheckForm.TheVariants.{Plain}
 use Rattle.quality_bits.specs.Capsules.{capsule}
@@ -11,6 +11,7 @@ use Rattle.cell_plan.specs.Pages.{page_cycle}
 use Rattle.cell_plan.specs.declared.plan.CellPlan.{CellPlan}
 use Rattle.cell_plan.specs.declared.plan.Page.{Page}
 use Rattle.clean_link.specs.HeardPages.{KnownPage, pages_sent}
+use Rattle.clean_link.specs.WorkedCells.{cell_with}
 
 -- nine octets with a message type
 page : Bool → ℕ → Page
@@ -19,22 +20,11 @@ page follows kind = record { follows = follows; body = binary 8 kind ++ replicat
 -- so much of a cell with paging channel 1, whose cycle has three half-frames: a run of two pages
 -- lies in the first two, and a third page in the last
 cell : ℕ → CellPlan
-cell samples = record {
-  cell = record { pn = 511; time = 1000; lc = 2 ^ 41; check30 = Plain; check16 = Plain };
-  link = record {
-    factor = record { i = pos 0; q = negsuc 2 };
-    start = 0;
-    samples = samples;
-  };
-  pilot = record { gain = 100 };
-  sync = None;
-  paging = record {
-    number = 1;
-    gain = 60;
-    pages = page false 20 ∷ page true 21 ∷ page false 22 ∷ [];
-  } ∷ [];
-  traffic = [];
-}
+cell samples = cell_with 0 samples Plain None (record {
+  number = 1;
+  gain = 60;
+  pages = page false 20 ∷ page true 21 ∷ page false 22 ∷ [];
+} ∷ []) []
 
 -- when the pages behind superframe 8 are known, and their message types
 heard : ℕ → ℕ → List (ℕ × ℕ)

@@ -23,4 +23,5 @@ mod FramesWorked
 mod HeardWorked
 mod SignalsWorked
 mod Worked
+mod WorkedCells
 mod WorkedPages

@@ -1,8 +1,8 @@
 -- Worked values of the messages of a traffic channel on a clean link, which the checker computes.
-use Rattle.std.specs.Prelude.{◌≡◌, ℕ, ◌^◌, refl, Bool, true, false, List, [], ◌∷◌, ◌++◌, take, drop}
-use Rattle.std.specs.Prelude.{replicate, pos, negsuc, None}
+use Rattle.std.specs.Prelude.{◌≡◌, ℕ, refl, Bool, true, false, List, [], ◌∷◌, ◌++◌, take, drop}
+use Rattle.std.specs.Prelude.{replicate}
 use Rattle.chip_core.specs.Bits.{binary, places}
-use Rattle.chip_core.specs.declared.check_form.CheckForm.TheVariants.{Complemented, Plain}
+use Rattle.chip_core.specs.declared.check_form.CheckForm.TheVariants.{Complemented}
 use Rattle.quality_bits.specs.Capsules.{capsule, front_capsule, is_stated}
 use Rattle.quality_bits.specs.Pieces.{capsule_ending}
 use Rattle.quality_bits.specs.Quality.{check_bits}
@@ -13,10 +13,10 @@ use Rattle.traffic_message.specs.Reading.{body_reading, head_at, head_of, is_bod
 use Rattle.traffic_message.specs.Reading.{traffic_reading}
 use Rattle.traffic_message.specs.declared.body.TrafficBody.TheVariants.{Other}
 use Rattle.cell_plan.specs.declared.plan.CellPlan.{CellPlan}
-use Rattle.cell_plan.specs.declared.frame_list.FrameList.TheVariants.{SetOne}
 use Rattle.cell_plan.specs.declared.traffic_frame.TrafficFrame.{TrafficFrame}
 use Rattle.heard_events.specs.declared.event.Event.TheVariants.{Traffic}
 use Rattle.clean_link.specs.HeardSignals.{messages_sent}
+use Rattle.clean_link.specs.WorkedCells.{cell_of_frames}
 
 -- a message of twelve octets, whose capsule has 120 bits
 message : Message
@@ -49,26 +49,9 @@ frames =
     ∷ signaling false (drop 87 spelled ++ replicate 54 false)
     ∷ []
 
--- so much of a cell with this channel on row 9, 3,072 chips behind the system's frames
+-- so much of a cell with this channel
 cell : ℕ → CellPlan
-cell samples = record {
-  cell = record { pn = 511; time = 1000; lc = 2 ^ 41; check30 = Plain; check16 = Complemented };
-  link = record {
-    factor = record { i = pos 0; q = negsuc 2 };
-    start = 0;
-    samples = samples;
-  };
-  pilot = record { gain = 100 };
-  sync = None;
-  paging = [];
-  traffic = record {
-    row = 9;
-    esn = 2882343476;
-    offset = 2;
-    gain = 40;
-    frames = SetOne frames;
-  } ∷ [];
-}
+cell samples = cell_of_frames 0 samples Complemented frames
 
 -- Behind superframe 8 the message begins in frame 33 and ends in frame 35, at that frame's end.
 in_two_frames : messages_sent (cell 887808) 9 786432 ≡ Traffic 887808 spelled message ∷ []

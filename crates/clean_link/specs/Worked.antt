@@ -1,69 +1,46 @@
 -- Worked values of a clean link, which the checker computes.
-use Rattle.std.specs.Prelude.{◌≡◌, refl, ℕ, ◌^◌, ◌-◌, replicate, false, pos, negsuc, List, [], ◌∷◌}
-use Rattle.std.specs.Prelude.{map, Some, None}
+use Rattle.std.specs.Prelude.{◌≡◌, refl, ℕ, ◌-◌, List, [], ◌∷◌, map, Some}
 use Rattle.chip_core.specs.declared.check_form.CheckForm.TheVariants.{Plain}
 use Rattle.quality_bits.specs.Capsules.{capsule}
 use Rattle.quality_bits.specs.Quality.{check_bits}
 use Rattle.chip_core.specs.Bits.{binary, places}
 use Rattle.rake_finger.specs.declared.form.Form.TheVariants.{Sync, Data}
 use Rattle.sync_message.specs.SyncMessage.{sync_body, sync_capsule}
-use Rattle.sync_message.specs.declared.fields.SyncFields.{SyncFields}
 use Rattle.cell_plan.specs.declared.plan.CellPlan.{CellPlan}
 use Rattle.clean_link.specs.CleanLink.{first_sync_frame, heard_behind, sending_ends, soft_strength}
 use Rattle.clean_link.specs.CleanLink.{whole_sendings}
+use Rattle.clean_link.specs.DistinctPlan.{told_message}
+use Rattle.clean_link.specs.WorkedCells.{cell_with}
 
--- 25 octets, and so nine frames of which seven have bits of it
-message : SyncFields
-message =
-    record {
-      prev = 3;
-      min = 1;
-      sid = 1;
-      nid = 2;
-      pn = 0;
-      lc = 1;
-      time = 0;
-      lp = 13;
-      ltm = 0;
-      daylt = 0;
-      prat = 0;
-      freq = None;
-      rest = replicate 3 false;
-    }
-
--- a second of a cell, from a local chip on
+-- a second of a cell, from a local chip on, whose sync message has 25 octets, and so nine frames of
+-- which seven have bits of it
 cell : ℕ → ℕ → CellPlan
-cell start samples = record {
-  cell = record { pn = 511; time = 1000; lc = 2 ^ 41; check30 = Plain; check16 = Plain };
-  link = record { factor = record { i = pos 0; q = negsuc 2 }; start = start; samples = samples };
-  pilot = record { gain = 100 };
-  sync = Some (record { gain = 30; message = message });
-  paging = [];
-  traffic = [];
-}
+cell start samples =
+    cell_with start samples Plain (Some (record { gain = 30; message = told_message })) [] []
 
 -- when the whole sendings have been heard
 heard : CellPlan → List ℕ
 heard plan =
-    map (λ q. heard_behind 32768 plan.link.samples (sending_ends plan message q - plan.link.start))
-    (whole_sendings plan message)
+    map (λ q. heard_behind 32768 plan.link.samples
+    (sending_ends plan told_message q - plan.link.start))
+    (whole_sendings plan told_message)
 
 from_the_first_chip : heard (cell 0 1228800) ≡ 294848 ∷ 589760 ∷ 884672 ∷ 1179584 ∷ []
-unfolding heard cell message sync_capsule sync_body capsule check_bits places binary
+unfolding heard cell sync_capsule sync_body capsule check_bits places binary
 from_the_first_chip = refl
 
 -- a sending under way at the file's start isn't whole
-from_a_later_chip : whole_sendings (cell 102400 1228800) message ≡ 1 ∷ 2 ∷ 3 ∷ []
-unfolding cell message sync_capsule sync_body capsule check_bits places binary
+from_a_later_chip : whole_sendings (cell 102400 1228800) told_message ≡ 1 ∷ 2 ∷ 3 ∷ []
+unfolding cell sync_capsule sync_body capsule check_bits places binary
 from_a_later_chip = refl
 
 -- the file ends with the first sending's last frame, or one sample before it
 just_whole : heard (cell 0 262080) ≡ 262080 ∷ []
-unfolding heard cell message sync_capsule sync_body capsule check_bits places binary
+unfolding heard cell sync_capsule sync_body capsule check_bits places binary
 just_whole = refl
 
 not_whole : heard (cell 0 262079) ≡ []
-unfolding heard cell message sync_capsule sync_body capsule check_bits places binary
+unfolding heard cell sync_capsule sync_body capsule check_bits places binary
 not_whole = refl
 
 later_frames : first_sync_frame (cell 102400 1228800) ≡ 3

@@ -3,13 +3,12 @@
 use Rattle.clean_link.proofs.Common.{◌≡◌, ℕ, ◌+◌, ◌*◌, ◌/◌, ◌<◌, true, false, Bool, List, [], ◌∷◌, length, refl, sym, ap, subst, inr, ◌∙◌}
 use Rattle.clean_link.proofs.Common.{arith, ℤ, pos, replicate, Some, Contains, length-map, All-contains, places, xor, zip_with}
 use Rattle.clean_link.proofs.Common.{length-places, Width, after, long_chip, paging_mask, scrambling, data_shape, sent, repeats_of, Rate}
-use Rattle.clean_link.proofs.Common.{R9600, R4800, R2400, R1200, Cycle, cycle_frame_bits, cycle_symbols, cycled, frame_scrambling}
-use Rattle.clean_link.proofs.Common.{paging_frame_size, IsLawfulPlan, IsPagingPlan, made_samples, continued_symbols, cycle_of}
-use Rattle.clean_link.proofs.Common.{paging_carrier, CellPlan, PagingPlan, SyncPlan, softs, Finger, Data, signed, paging_stream, turned}
-use Rattle.clean_link.proofs.Common.{unscrambled, Stream, frame_own_bits, frame_start, is_in_file, Tuning, Mark, IsOnPath, IsTrueMark}
-use Rattle.clean_link.proofs.Common.{soft_strength, PagingFramesComeBack, PagingHaveSentSigns, PagingWordsAreTheOnlyBest}
-use Rattle.clean_link.proofs.Common.{SilentPagingFramesAreZeros, SilentPagingIsZero, ordered_symbols, AreReadBy, IsOnlyBest, scrambled}
-use Rattle.clean_link.proofs.Common.{IsHeardBy}
+use Rattle.clean_link.proofs.Common.{R9600, Cycle, cycle_frame_bits, cycle_symbols, cycled, frame_scrambling, paging_frame_size}
+use Rattle.clean_link.proofs.Common.{IsLawfulPlan, IsPagingPlan, made_samples, continued_symbols, cycle_of, paging_carrier, CellPlan}
+use Rattle.clean_link.proofs.Common.{PagingPlan, SyncPlan, softs, Finger, Data, signed, paging_stream, turned, unscrambled, Stream}
+use Rattle.clean_link.proofs.Common.{frame_own_bits, frame_start, is_in_file, Tuning, Mark, IsOnPath, IsTrueMark, soft_strength}
+use Rattle.clean_link.proofs.Common.{PagingFramesComeBack, PagingHaveSentSigns, PagingWordsAreTheOnlyBest, SilentPagingFramesAreZeros}
+use Rattle.clean_link.proofs.Common.{SilentPagingIsZero, ordered_symbols, AreReadBy, IsOnlyBest, scrambled, IsHeardBy}
 use Rattle.symbol_path.specs.Scrambling.{symbol_chips}
 use Rattle.heard_events.specs.PagingStreams.{paging_rate}
 use Rattle.clean_link.proofs.signal.CarriersApart.{paging_sent, paging_silent}
@@ -70,9 +69,7 @@ rates_agree plan sync m is told = ap pages.paging_rate is ∙ sym (ap paging_rat
 
 frame_size-is : (rate : Rate) → paging_frame_size rate ≡ 192 / repeats_of rate
 frame_size-is R9600 = refl
-frame_size-is R4800 = refl
-frame_size-is R2400 = refl
-frame_size-is R1200 = refl
+frame_size-is rate = refl
 
 length-cycled : (cycle : List Bool) (size frame : ℕ) → length (cycled cycle size frame) ≡ size
 unfolding cycled

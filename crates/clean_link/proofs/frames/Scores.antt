@@ -245,9 +245,7 @@ whole_frames (Paging rate) = record {
 
     paging_enough : (rate : Rate) → 8 ≤ 192 / repeats_of rate
     paging_enough R9600 = omega arith
-    paging_enough R4800 = omega arith
-    paging_enough R2400 = omega arith
-    paging_enough R1200 = omega arith
+    paging_enough rate = omega arith
 
 kind_of : (c : Channel) (symbols : ℕ) (whole : IsWholeChannel c symbols) →
     c ≡ channel whole.kind c.bits c.repeats

@@ -1,13 +1,14 @@
--- The mark's time is that of the first whole sending.
+-- The mark's time is that of the first whole sending, and there is a mark just where a sending is whole.
 use Rattle.clean_link.proofs.Common.{◌≡◌, ℕ, ◌+◌, ◌/◌, ◌%◌, ⊎_elim, Bool, true, false, List, [], ◌∷◌, map, filter, refl, sym, ap, ◌∙◌}
 use Rattle.clean_link.proofs.Common.{Option, Some, None, flat_map, cases_Bool, map-append, flat_map-append, Width, sync_capsule, SyncFields}
-use Rattle.clean_link.proofs.Common.{IsState, made_samples, message_of, CellPlan, SyncPlan, first_of, mark, marks_at, marks_of, events_of}
-use Rattle.clean_link.proofs.Common.{with_message, Tuning, Event, Frame, Pilot, Sets, Mark, FramesAreZeros, FramesComeBack, IsOnPath}
-use Rattle.clean_link.proofs.Common.{events_of_channel, first_sync_frame, sending_event, sync_sent, whole_sendings, IsReceivable}
-use Rattle.heard_events.specs.declared.event.Event.TheVariants.{Paging, Sync, Traffic}
+use Rattle.clean_link.proofs.Common.{length, nat_lt, is_some, length-map, IsMarkedWhereHeard, IsState, made_samples, message_of, CellPlan}
+use Rattle.clean_link.proofs.Common.{SyncPlan, first_of, mark, marks_at, marks_of, events_of, with_message, Tuning, Event, Mark}
+use Rattle.clean_link.proofs.Common.{FramesAreZeros, FramesComeBack, IsOnPath, events_of_channel, first_sync_frame, sending_event}
+use Rattle.clean_link.proofs.Common.{sync_sent, whole_sendings, IsReceivable}
+use Rattle.heard_events.specs.declared.event.Event.TheVariants.{Sync}
 use Rattle.clean_link.proofs.marks.MarksTrue.{marks_sent}
 use Rattle.clean_link.proofs.sendings.Capsules.{IsSentAt, is_at, sending_frames}
-use Rattle.clean_link.proofs.sendings.Events.{frame_events, frames_of, in_file, known, mark_of_all}
+use Rattle.clean_link.proofs.sendings.Events.{first_there, frame_events, frames_of, in_file, known, mark_of_all}
 use Rattle.clean_link.proofs.sendings.Back.{sendings_by_frames}
 use Rattle.clean_link.proofs.sendings.Heard.{ends_sending, heard_nothing, heard_sending, none_heard}
 use Rattle.clean_link.proofs.frames.SyncFrames.{frames_back, frames_zero}
@@ -19,12 +20,8 @@ time_of m = m.time
 
 -- the time that an event tells
 abbrev times_in : Event → List ℕ
-times_in (Pilot phase energy) = []
 times_in (Sync n capsule message) = message.time ∷ []
-times_in (Paging n capsule message) = []
-times_in (Frame n rate good bits commands) = []
-times_in (Traffic n capsule message) = []
-times_in (Sets n time active candidate report) = []
+times_in other = []
 
 -- a frame's mark has the time of its event
 same_times : (plan : CellPlan) (m : SyncFields) (q first n : ℕ) → IsState plan.cell.lc →
@@ -89,6 +86,29 @@ sent_times : (plan : CellPlan) (m : SyncFields) (sendings : List ℕ) →
 sent_times plan m [] = refl
 sent_times plan m (q ∷ sendings) =
     ap (λ (ts : List ℕ). (message_of plan.cell m q).time ∷ ts) (sent_times plan m sendings)
+
+-- one of each
+sent_count : (plan : CellPlan) (channel : Option SyncPlan) →
+    length (flat_map times_in (events_of_channel plan channel))
+    ≡ length (events_of_channel plan channel)
+sent_count plan None = refl
+sent_count plan (Some sync) =
+    let sendings = whole_sendings plan sync.message in
+    ap length (sent_times plan sync.message sendings)
+    ∙ length-map sendings (λ (q : ℕ). (message_of plan.cell sync.message q).time)
+    ∙ sym (length-map sendings (sending_event plan sync.message))
+
+pub marked_where_heard : IsMarkedWhereHeard
+unfolding sync_sent
+marked_where_heard width plan t is tuned =
+    let samples = made_samples plan in
+    let marks = flat_map (marks_at t samples) (filter (in_file t) (frames_of t)) in
+    ap (λ n. is_some (mark t samples n)) (sym tuned.count)
+    ∙ ap is_some (mark_of_all t (sync_timed t tuned.alone) samples)
+    ∙ first_there marks
+    ∙ ap (nat_lt 0)
+    (sym (length-map marks time_of) ∙ ap length (all_times width plan t is tuned)
+    ∙ sent_count plan plan.sync)
 
 sync_sent_is : (plan : CellPlan) (sync : SyncPlan) → plan.sync ≡ Some sync →
     sync_sent plan ≡ map (sending_event plan sync.message) (whole_sendings plan sync.message)

@@ -1,22 +1,19 @@
--- The mark of a clean link has the cell's time and long code, and there is one just where a sending
--- is whole.
+-- The mark of a clean link has the cell's time and long code.
 use Rattle.clean_link.proofs.Common.{◌≡◌, ℕ, suc, ◌+◌, ◌-◌, ◌*◌, ◌/◌, ◌%◌, ◌<◌, ◌==◌, ⊎_elim, Bool, true, false, List, [], ◌∷◌, length}
-use Rattle.clean_link.proofs.Common.{filter, refl, sym, ap, ◌∙◌, arith, subst, nat_lt, nat_le, ◌&&◌, Option, Some, None, is_some, flat_map}
-use Rattle.clean_link.proofs.Common.{and_parts, ne_eqb, cases_Bool, places, Sample, Width, IsState, after, after-after, IsState-after}
-use Rattle.clean_link.proofs.Common.{Piece, from_last_start, superframes_of, sync_capsule, SyncFields, IsLawfulPlan, message_of}
-use Rattle.clean_link.proofs.Common.{superframes_a_sending, told_superframes, CellPlan, SyncPlan, length-sending, first_of, frames_open}
-use Rattle.clean_link.proofs.Common.{mark, marks_at, marks_of, frame_start, events_of, heard_at, with_message, Tuning, sync_stream}
-use Rattle.clean_link.proofs.Common.{sync_bound, Mark, FramesAreZeros, FramesComeBack, IsMarkedWhereHeard, MarksAreTrue, IsOnPath}
-use Rattle.clean_link.proofs.Common.{IsTrueMark, first_sync_frame, IsReceivable, MarksTellTheRate, UnmarkedWithoutSync, made_samples}
-use Rattle.std.proofs.lemmas.List.{length-append}
+use Rattle.clean_link.proofs.Common.{refl, sym, ap, ◌∙◌, arith, subst, nat_le, ◌&&◌, Option, Some, None, and_parts, ne_eqb, cases_Bool}
+use Rattle.clean_link.proofs.Common.{places, Sample, Width, IsState, after, after-after, IsState-after, Piece, from_last_start}
+use Rattle.clean_link.proofs.Common.{superframes_of, sync_capsule, SyncFields, IsLawfulPlan, message_of, superframes_a_sending}
+use Rattle.clean_link.proofs.Common.{told_superframes, CellPlan, SyncPlan, length-sending, first_of, frames_open, mark, marks_at, marks_of}
+use Rattle.clean_link.proofs.Common.{frame_start, heard_at, with_message, Tuning, sync_stream, sync_bound, Mark, FramesAreZeros}
+use Rattle.clean_link.proofs.Common.{FramesComeBack, MarksAreTrue, IsOnPath, IsTrueMark, first_sync_frame, IsReceivable, MarksTellTheRate}
+use Rattle.clean_link.proofs.Common.{UnmarkedWithoutSync, made_samples}
 use Rattle.clean_link.proofs.frames.SyncFrames.{frames_back, frames_zero}
 use Rattle.clean_link.proofs.sendings.Pieces.{length-run}
 use Rattle.clean_link.proofs.sendings.Capsules.{IsSentAt, begun, is_at, piece_of, sending_frames}
-use Rattle.clean_link.proofs.frames.SyncTimes.{frames_begin, sync_timed}
-use Rattle.clean_link.proofs.sendings.Events.{first_among, first_there, frame_events, frames_of, in_file, known, mark_of_all}
+use Rattle.clean_link.proofs.frames.SyncTimes.{frames_begin}
+use Rattle.clean_link.proofs.sendings.Events.{first_among, in_file, known}
 use Rattle.clean_link.proofs.sendings.Heard.{ends_sending, heard_nothing, heard_sending, none_heard, heard_pieces}
 use Rattle.clean_link.proofs.sendings.Places.{ends_tells, threefold}
-use Rattle.clean_link.proofs.sendings.Back.{sendings_by_frames}
 
 -- ---- the mark that a sending sets
 -- which sending and which of its frames the file's frame k is, where it ends the sending
@@ -243,67 +240,6 @@ unmarked_from zeros width plan t n is silent tuned =
         (marks_none t (made_samples plan) k
         (none_heard zeros width plan t k is silent tuned both.0))) ∙ both.1)
 
--- ---- it is there
--- a frame sets a mark where it tells an event
-same_lengths : (plan : CellPlan) (m : SyncFields) (q first n : ℕ) → IsState plan.cell.lc →
-    length (marks_of first
-    (with_message (sync_capsule plan.cell.check30 (message_of plan.cell m q))
-    (Some (message_of plan.cell m q))))
-    ≡ length (events_of n
-    (with_message (sync_capsule plan.cell.check30 (message_of plan.cell m q))
-    (Some (message_of plan.cell m q))))
-same_lengths plan m q first n is = ap length (marks_sent plan m q first is)
-
-frame_counts : FramesComeBack → FramesAreZeros →
-    (width : Width) (plan : CellPlan) (t : Tuning) (k : ℕ) (channel : Option SyncPlan) →
-    IsReceivable width plan → plan.sync ≡ channel → IsOnPath plan t → in_file t k ≡ true →
-    length (marks_at t (made_samples plan) k) ≡ length (frame_events t (made_samples plan) k)
-unfolding marks_at
-frame_counts back zeros width plan t k None is silent tuned there =
-    rw (none_heard zeros width plan t k is silent tuned there) refl
-frame_counts back zeros width plan t k (Some sync) is sends tuned there =
-    let m = sync.message in
-    let q = (first_sync_frame plan + k) / sending_frames plan m in
-    let w = (first_sync_frame plan + k) % sending_frames plan m in
-    let place : IsSentAt plan m (first_sync_frame plan) k q w =
-    is_at plan m (first_sync_frame plan) k in
-    ⊎_elim
-    (λ (ends : ends_sending plan m k w ≡ true).
-    rw (heard_sending back width plan sync t k q w is sends tuned there place ends)
-    (same_lengths plan m q _ (known t k) is.lawful.lc))
-    (λ (over : ends_sending plan m k w ≡ false).
-    rw (heard_nothing back width plan sync t k q w is sends tuned there place over) refl)
-    (cases_Bool (ends_sending plan m k w))
-
-same_counts : {A B : Type 0} (P : ℕ → Bool) (f : ℕ → List A) (g : ℕ → List B) (ks : List ℕ) →
-    ((k : ℕ) → P k ≡ true → length (f k) ≡ length (g k)) →
-    length (flat_map f (filter P ks)) ≡ length (flat_map g (filter P ks))
-same_counts P f g [] same = refl
-same_counts P f g (k ∷ ks) same =
-    let rest = same_counts P f g ks same in
-    ⊎_elim
-    (λ (there : P k ≡ true). rw there
-    (omega (
-      arith,
-      length-append (f k) (flat_map f (filter P ks)),
-      length-append (g k) (flat_map g (filter P ks)),
-      same k there,
-      rest,
-    )))
-    (λ (gone : P k ≡ false). rw gone rest)
-    (cases_Bool (P k))
-
-pub set_from : FramesComeBack → FramesAreZeros → IsMarkedWhereHeard
-set_from back zeros width plan t is tuned =
-    let samples = made_samples plan in
-    ap (λ n. is_some (mark t samples n)) (sym tuned.count)
-    ∙ ap is_some (mark_of_all t (sync_timed t tuned.alone) samples)
-    ∙ first_there (flat_map (marks_at t samples) (filter (in_file t) (frames_of t)))
-    ∙ ap (nat_lt 0)
-    (same_counts (in_file t) (marks_at t samples) (frame_events t samples) (frames_of t)
-    (λ k there. frame_counts back zeros width plan t k plan.sync is refl tuned there))
-    ∙ ap (λ es. nat_lt 0 (length es)) (sendings_by_frames back zeros width plan t is tuned)
-
 -- ---- the laws
 
 pub marks_true : MarksAreTrue
@@ -314,6 +250,3 @@ marks_rate = rate_from frames_back
 
 pub unmarked : UnmarkedWithoutSync
 unmarked = unmarked_from frames_zero
-
-pub marked_where_heard : IsMarkedWhereHeard
-marked_where_heard = set_from frames_back frames_zero

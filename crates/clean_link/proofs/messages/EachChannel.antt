@@ -1,16 +1,15 @@
 -- A handset hears what a clean link's cell sends, channel by channel and frame by frame.
 use Rattle.clean_link.proofs.Common.{◌≡◌, ℕ, ◌+◌, ◌-◌, ◌*◌, ◌≤◌, true, false, Bool, List, [], ◌∷◌, length, map, refl, sym, ap, ◌∙◌, arith}
-use Rattle.clean_link.proofs.Common.{subst, inl, inr, Option, None, Some, filter, if◌then◌else◌, All, Contains, flat_map, cases_lt}
-use Rattle.clean_link.proofs.Common.{All-contains, All-map, places, Sample, Width, flat_map_ext_places, kept_count, Data, IsFreeOf}
-use Rattle.clean_link.proofs.Common.{made_samples, frames_of, cycled_frame, CellPlan, PagingPlan, TrafficPlan, TrafficFrame, events}
-use Rattle.clean_link.proofs.Common.{events_at, frame_events_at, heard_within, message_events_at, paging_events_at, mark, frames_at}
-use Rattle.clean_link.proofs.Common.{messages_at, is_in_file, sync_events_at, commands_at, decoded_at, frame_event, frame_heard}
-use Rattle.clean_link.proofs.Common.{if_followed, replaced_in, Tuning, Event, Pilot, Leg, Mark, Traffic, frames_by_one_mark}
-use Rattle.clean_link.proofs.Common.{messages_by_one_mark, soft_strength, sync_sent, IsNotDirected, IsOnPath, IsTunedTo, IsReceivable}
-use Rattle.clean_link.proofs.Common.{is_frame, is_message, is_page, is_sync, AreEventsOf, AreFramesBehind, AreMessagesBehind}
-use Rattle.clean_link.proofs.Common.{EachChannelComesBack, FollowsOne, IsEventOf, frame_ends, is_received, received_frames, AreDistinct}
-use Rattle.clean_link.proofs.Common.{IsDistinctFrame, SendsSetOne, messages_of_channel, paging_sent, told_with_sync, HearsTraffic}
-use Rattle.clean_link.proofs.Common.{IsHeardAs}
+use Rattle.clean_link.proofs.Common.{subst, Option, None, Some, filter, if◌then◌else◌, All, Contains, flat_map, All-contains, All-map}
+use Rattle.clean_link.proofs.Common.{places, Sample, Width, flat_map_ext_places, kept_count, Data, IsFreeOf, made_samples, frames_of}
+use Rattle.clean_link.proofs.Common.{cycled_frame, CellPlan, PagingPlan, TrafficPlan, TrafficFrame, events, events_at, frame_events_at}
+use Rattle.clean_link.proofs.Common.{heard_within, message_events_at, paging_events_at, mark, frames_at, messages_at, is_in_file}
+use Rattle.clean_link.proofs.Common.{sync_events_at, commands_at, decoded_at, frame_event, frame_heard, if_followed, replaced_in, Tuning}
+use Rattle.clean_link.proofs.Common.{Event, Pilot, Leg, Mark, Traffic, frames_by_one_mark, messages_by_one_mark, soft_strength, sync_sent}
+use Rattle.clean_link.proofs.Common.{IsNotDirected, IsOnPath, IsTunedTo, IsReceivable, is_frame, is_message, is_page, is_sync, AreEventsOf}
+use Rattle.clean_link.proofs.Common.{AreFramesBehind, AreMessagesBehind, EachChannelComesBack, FollowsOne, IsEventOf, frame_ends}
+use Rattle.clean_link.proofs.Common.{is_received, received_frames, AreDistinct, IsDistinctFrame, SendsSetOne, messages_of_channel}
+use Rattle.clean_link.proofs.Common.{paging_sent, told_with_sync, HearsTraffic, IsHeardAs}
 use Rattle.clean_link.proofs.marks.MarksTrue.{marks_true}
 use Rattle.clean_link.proofs.messages.Kinds.{frames_of_all, messages_of_all, pages_of_all, sync_of_all}
 use Rattle.clean_link.proofs.messages.MessagesBack.{pages_all}
@@ -18,8 +17,7 @@ use Rattle.clean_link.proofs.sendings.Back.{sendings_back}
 use Rattle.clean_link.proofs.signal.Samples.{length-made}
 use Rattle.clean_link.proofs.traffic.Back.{none_known, one_near, told_behind_mark, undirected, untold}
 use Rattle.clean_link.proofs.traffic.Commands.{commands_back}
-use Rattle.clean_link.proofs.traffic.Frames.{each_frame_heard, early, frame_back, frame_there, heard_as, heard_there, received_is}
-use Rattle.clean_link.proofs.traffic.Frames.{same_places}
+use Rattle.clean_link.proofs.traffic.Frames.{each_frame_heard, frame_back, frame_there, heard_as, heard_there, inside_at, same_places}
 use Rattle.clean_link.proofs.traffic.OnePilot.{one_stream}
 use Rattle.clean_link.proofs.traffic.Signaling.{sent_messages_back}
 use Rattle.clean_link.proofs.traffic.Signs.{lawful_traffic}
@@ -77,20 +75,11 @@ module _ (width : Width) (plan : CellPlan) (p : TrafficPlan) (t : Tuning) (traff
       IsEventOf plan p frame (event frame)
   event_of some frame received =
       let k : ℕ = frame - 4 * superframes in
-      elim (cases_lt frame (4 * superframes)) [
-        | inl less ↦
-            let before = early width plan p t traffic m superframes is latest frame less in
-            absurd (cc)
-        | inr most ↦
-            let here : 4 * superframes + k ≡ frame = omega (arith, most) in
-            let there : is_in_file t.count (one_stream t traffic m) k ≡ true =
-            sym (received_is width plan p t traffic m superframes is latest k)
-            ∙ ap (is_received plan p (plan.link.start + m.sample)) here ∙ received in
-            let (f, sent) = frame_there width plan p t traffic m superframes is latest some k in
-            subst (λ (n : ℕ). IsEventOf plan p n
-            (frame_heard t traffic m legs samples (frame_ends plan p n) k)) here
-            (event_there k f there sent)
-      ]
+      let (here, there) = inside_at width plan p t traffic m superframes is latest frame received in
+      let (f, sent) = frame_there width plan p t traffic m superframes is latest some k in
+      subst (λ (n : ℕ). IsEventOf plan p n
+      (frame_heard t traffic m legs samples (frame_ends plan p n) k)) here
+      (event_there k f there sent)
 
 -- ---- a handset that follows a channel
 
@@ -125,31 +114,55 @@ module _ (width : Width) (plan : CellPlan) (t : Tuning) (is : IsReceivable width
   told_is m superframes set hears =
       told_behind_mark width plan t is tuned plan.sync m refl set superframes hears.marked.time
 
-  -- what is heard by the mark of all samples, where a channel is followed
-  followed_is : (heard : ℕ → Traffic → Mark → List Event) (m : Option Mark) →
-      flat_map (λ n. if_followed (heard n) t.traffic m) (places (plan.link.samples + 1))
-      ≡ flat_map (λ n. if_followed (heard n) (Some f.traffic) m) (places (plan.link.samples + 1))
-  followed_is heard m =
-      ap (λ (followed : Option Traffic). flat_map (λ n. if_followed (heard n) followed m)
-      (places (plan.link.samples + 1))) f.follows
+  -- What is heard of it comes back where the mark of all samples tells it: nothing where none is
+  -- set, and else what is true of what is heard behind that mark.
+  each_behind : (Are : Option ℕ → List Event → Type 0) (heard : ℕ → Traffic → Mark → List Event) →
+      ((n : ℕ) → n ≤ t.count →
+      if_followed (heard n) t.traffic (mark t all_samples n)
+      ≡ if_followed (heard n) t.traffic last) →
+      ((es : List Event) → es ≡ [] → Are None es) →
+      ((m : Mark) (superframes : ℕ) → last ≡ Some m →
+      HearsTraffic width plan p t f.traffic m superframes →
+      Are (Some superframes)
+      (flat_map (λ n. heard n f.traffic m) (places (plan.link.samples + 1)))) →
+      Are (told_with_sync plan plan.sync)
+      (flat_map (λ n. if_followed (heard n) t.traffic (mark t all_samples n))
+      (places (plan.link.samples + 1)))
+  each_behind Are heard once none behind =
+      let all = places (plan.link.samples + 1) in
+      let count = tuned.count in
+      let by_last : flat_map (λ n. if_followed (heard n) t.traffic (mark t all_samples n)) all
+      ≡ flat_map (λ n. if_followed (heard n) (Some f.traffic) last) all =
+      flat_map_ext_places (λ n. if_followed (heard n) t.traffic (mark t all_samples n))
+      (λ n. if_followed (heard n) t.traffic last) (plan.link.samples + 1)
+      (λ n below. once n (omega (arith, below, count)))
+      ∙ ap (λ (followed : Option Traffic).
+      flat_map (λ n. if_followed (heard n) followed last) all) f.follows in
+      subst (Are (told_with_sync plan plan.sync)) (sym by_last) (by_mark last refl)
+    where
+      by_mark : (m : Option Mark) → last ≡ m →
+          Are (told_with_sync plan plan.sync)
+          (flat_map (λ n. if_followed (heard n) (Some f.traffic) m)
+          (places (plan.link.samples + 1)))
+      by_mark None unset =
+          subst (λ (told : Option ℕ). Are told
+          (flat_map (λ (n : ℕ). let none : List Event = [] in none)
+          (places (plan.link.samples + 1))))
+          (sym (untold width plan t is tuned plan.sync refl unset))
+          (none _ (none_known (places (plan.link.samples + 1))))
+      by_mark (Some m) set =
+          let (superframes, hears) = hears_behind m set in
+          subst (λ (told : Option ℕ). Are told
+          (flat_map (λ n. heard n f.traffic m) (places (plan.link.samples + 1))))
+          (sym (told_is m superframes set hears)) (behind m superframes set hears)
 
   -- its frames
-  abbrev frames_heard : Option Mark → List Event
-  frames_heard m =
-      flat_map (λ n. if_followed (λ traffic k. frames_at t traffic k all_samples n)
-      (Some f.traffic) m) (places (plan.link.samples + 1))
-
-  frames_by : (m : Option Mark) → last ≡ m →
-      AreFramesBehind plan p (told_with_sync plan plan.sync) (frames_heard m)
-  frames_by None unset =
-      subst (λ (told : Option ℕ). AreFramesBehind plan p told (frames_heard None))
-      (sym (untold width plan t is tuned plan.sync refl unset))
-      (none_known (places (plan.link.samples + 1)))
-  frames_by (Some m) set =
-      let (superframes, hears) = hears_behind m set in
+  frames_behind : (m : Mark) (superframes : ℕ) → last ≡ Some m →
+      HearsTraffic width plan p t f.traffic m superframes →
+      AreEventsOf plan p superframes
+      (flat_map (frames_at t f.traffic m all_samples) (places (plan.link.samples + 1)))
+  frames_behind m superframes set hears =
       let place = hears.marked.place in
-      let frames : AreEventsOf plan p superframes
-      (flat_map (frames_at t f.traffic m all_samples) (places (plan.link.samples + 1))) =
       record {
         event = event width plan p t f.traffic m superframes hears;
         each = each_frame_heard width plan p t f.traffic m superframes
@@ -161,66 +174,36 @@ module _ (width : Width) (plan : CellPlan) (t : Tuning) (is : IsReceivable width
         are = λ frame received.
             event_of width plan p t f.traffic m superframes hears f.one frame
             (ap (λ (chip : ℕ). is_received plan p chip frame) place ∙ received);
-      } in
-      subst (λ (told : Option ℕ). AreFramesBehind plan p told (frames_heard (Some m)))
-      (sym (told_is m superframes set hears)) frames
+      }
 
-  -- and its messages
-  abbrev messages_heard : Option Mark → List Event
-  messages_heard m =
-      flat_map (λ n. if_followed (λ traffic k. messages_at t traffic k all_samples n)
-      (Some f.traffic) m) (places (plan.link.samples + 1))
-
-  messages_by : (m : Option Mark) → last ≡ m →
-      AreMessagesBehind plan p (told_with_sync plan plan.sync) (messages_heard m)
-  messages_by None unset =
-      subst (λ (told : Option ℕ). AreMessagesBehind plan p told (messages_heard None))
-      (sym (untold width plan t is tuned plan.sync refl unset))
-      (none_known (places (plan.link.samples + 1)))
-  messages_by (Some m) set =
-      let (superframes, hears) = hears_behind m set in
-      let place = hears.marked.place in
-      let back : AreDistinct plan p (98304 * superframes) →
-      flat_map (messages_at t f.traffic m all_samples) (places (plan.link.samples + 1))
-      ≡ messages_of_channel plan p (98304 * superframes) =
-      λ distinct.
-      sent_messages_back width plan p t f.traffic m superframes hears f.one
-      (undirected width plan t is tuned not_directed f.traffic m f.follows set)
-      (subst (AreDistinct plan p) (sym place) distinct)
-      ∙ ap (messages_of_channel plan p) place in
-      subst (λ (told : Option ℕ). AreMessagesBehind plan p told (messages_heard (Some m)))
-      (sym (told_is m superframes set hears)) back
-
-  -- by the mark that each number of samples has
   pub frames_each : AreFramesBehind plan p (told_with_sync plan plan.sync)
       (flat_map (frame_events_at t all_samples) (places (plan.link.samples + 1)))
   unfolding frame_events_at
   frames_each =
-      let heard : ℕ → Traffic → Mark → List Event =
-      λ n traffic m. frames_at t traffic m all_samples n in
-      let count = tuned.count in
-      let by_last = flat_map_ext_places
-      (λ n. if_followed (heard n) t.traffic (mark t all_samples n))
-      (λ n. if_followed (heard n) t.traffic last) (plan.link.samples + 1)
-      (λ n below. frames_by_one_mark t (one_near t plan tuned) t.traffic all_samples n t.count
-      (omega (arith, below, count))) in
-      subst (AreFramesBehind plan p (told_with_sync plan plan.sync))
-      (sym (by_last ∙ followed_is heard last)) (frames_by last refl)
+      each_behind (AreFramesBehind plan p) (λ n traffic m. frames_at t traffic m all_samples n)
+      (λ n most. frames_by_one_mark t (one_near t plan tuned) t.traffic all_samples n t.count most)
+      (λ es none. none) frames_behind
+
+  -- and its messages
+  messages_behind : (m : Mark) (superframes : ℕ) → last ≡ Some m →
+      HearsTraffic width plan p t f.traffic m superframes →
+      AreDistinct plan p (98304 * superframes) →
+      flat_map (messages_at t f.traffic m all_samples) (places (plan.link.samples + 1))
+      ≡ messages_of_channel plan p (98304 * superframes)
+  messages_behind m superframes set hears distinct =
+      let place = hears.marked.place in
+      sent_messages_back width plan p t f.traffic m superframes hears f.one
+      (undirected width plan t is tuned not_directed f.traffic m f.follows set)
+      (subst (AreDistinct plan p) (sym place) distinct)
+      ∙ ap (messages_of_channel plan p) place
 
   pub messages_each : AreMessagesBehind plan p (told_with_sync plan plan.sync)
       (flat_map (message_events_at t all_samples) (places (plan.link.samples + 1)))
   unfolding message_events_at
   messages_each =
-      let heard : ℕ → Traffic → Mark → List Event =
-      λ n traffic m. messages_at t traffic m all_samples n in
-      let count = tuned.count in
-      let by_last = flat_map_ext_places
-      (λ n. if_followed (heard n) t.traffic (mark t all_samples n))
-      (λ n. if_followed (heard n) t.traffic last) (plan.link.samples + 1)
-      (λ n below. messages_by_one_mark t (one_near t plan tuned) t.traffic all_samples n t.count
-      (omega (arith, below, count))) in
-      subst (AreMessagesBehind plan p (told_with_sync plan plan.sync))
-      (sym (by_last ∙ followed_is heard last)) (messages_by last refl)
+      each_behind (AreMessagesBehind plan p) (λ n traffic m. messages_at t traffic m all_samples n)
+      (λ n most. messages_by_one_mark t (one_near t plan tuned) t.traffic all_samples n t.count most)
+      (λ es none. none) messages_behind
 
 -- ---- all channels
 

@@ -42,14 +42,14 @@ told_kind : (n : ℕ) (told : Option ReadMessage) → All (IsKind 1) (events_of 
 told_kind n None = All-nil (IsKind 1)
 told_kind n (Some told) = All-cons (IsKind 1) _ [] refl (All-nil (IsKind 1))
 
-sync_kind : (t : Tuning) (samples : List Sample) (n : ℕ) →
+pub sync_kind : (t : Tuning) (samples : List Sample) (n : ℕ) →
     All (IsKind 1) (sync_events_at t samples n)
 unfolding sync_events_at
 sync_kind t samples n =
     all_in 1 (λ k. events_of n (heard_at t samples k))
     (known_now t.count (sync_stream t) n (sync_bound n)) (λ k. told_kind n (heard_at t samples k))
 
-paging_kind : (t : Tuning) (samples : List Sample) (n : ℕ) →
+pub paging_kind : (t : Tuning) (samples : List Sample) (n : ℕ) →
     All (IsKind 2) (paging_events_at t samples n)
 unfolding paging_events_at
 paging_kind t samples n =
@@ -70,7 +70,7 @@ frames_kind t traffic m legs samples n =
     All-map (IsKind 3) (frame_heard t traffic m legs samples n) (frames_now t traffic m legs n)
     (λ k d below. refl)
 
-frame_kind : (t : Tuning) (samples : List Sample) (n : ℕ) →
+pub frame_kind : (t : Tuning) (samples : List Sample) (n : ℕ) →
     All (IsKind 3) (frame_events_at t samples n)
 unfolding frame_events_at
 frame_kind t samples n =
@@ -116,7 +116,7 @@ moment_kind t traffic m samples n =
     either_kind (moment_place m (j + 1) == n) _
     (change_kind m (j + 1) (changed m first (j + 1) before) (passed m first (j + 1) before))
 
-sets_kind : (t : Tuning) (samples : List Sample) (n : ℕ) →
+pub sets_kind : (t : Tuning) (samples : List Sample) (n : ℕ) →
     All (IsKind 5) (sets_events_at t samples n)
 unfolding sets_events_at
 sets_kind t samples n =
@@ -148,120 +148,65 @@ dropped test kind (e ∷ es) pass are =
 -- each of the four kinds of event passes its own test alone
 sync_passes : (e : Event) → is_sync e ≡ nat_eq (kind_of e) 1
 sync_passes (Pilot phase energy) = refl
-sync_passes (Sync n capsule message) = refl
-sync_passes (Paging n capsule message) = refl
-sync_passes (Frame n rate good bits commands) = refl
-sync_passes (OnTraffic n capsule message) = refl
-sync_passes (Sets n time active candidate report) = refl
+sync_passes e = refl
 
 page_passes : (e : Event) → is_page e ≡ nat_eq (kind_of e) 2
 page_passes (Pilot phase energy) = refl
-page_passes (Sync n capsule message) = refl
-page_passes (Paging n capsule message) = refl
-page_passes (Frame n rate good bits commands) = refl
-page_passes (OnTraffic n capsule message) = refl
-page_passes (Sets n time active candidate report) = refl
+page_passes e = refl
 
 frame_passes : (e : Event) → is_frame e ≡ nat_eq (kind_of e) 3
 frame_passes (Pilot phase energy) = refl
-frame_passes (Sync n capsule message) = refl
-frame_passes (Paging n capsule message) = refl
-frame_passes (Frame n rate good bits commands) = refl
-frame_passes (OnTraffic n capsule message) = refl
-frame_passes (Sets n time active candidate report) = refl
+frame_passes e = refl
 
 message_passes : (e : Event) → is_message e ≡ nat_eq (kind_of e) 4
 message_passes (Pilot phase energy) = refl
-message_passes (Sync n capsule message) = refl
-message_passes (Paging n capsule message) = refl
-message_passes (Frame n rate good bits commands) = refl
-message_passes (OnTraffic n capsule message) = refl
-message_passes (Sets n time active candidate report) = refl
+message_passes e = refl
 
--- by the kind's number
-pass_by : (test : Event → Bool) (own kind : ℕ) (pass : Bool) →
-    ((e : Event) → test e ≡ nat_eq (kind_of e) own) → nat_eq kind own ≡ pass →
-    Passes test kind pass
-pass_by test own kind pass by is e same =
-    by e ∙ ap (λ (n : ℕ). nat_eq n own) same ∙ is
+-- what it leaves of events of one kind: all of them, or none
+left_of : (test : Event → Bool) (kind : ℕ) (pass : Bool) (es : List Event) →
+    Passes test kind pass → All (IsKind kind) es → filter test es ≡ (if pass then es else [])
+left_of test kind true es = kept test kind es
+left_of test kind false es = dropped test kind es
 
--- what is left of lists whose tests are known
-left_of : (test : Event → Bool) (a b c d e a' b' c' d' e' : List Event) →
+-- and of five lists
+left_of_five : (test : Event → Bool) (a b c d e a' b' c' d' e' : List Event) →
     filter test a ≡ a' → filter test b ≡ b' → filter test c ≡ c' → filter test d ≡ d' →
     filter test e ≡ e' →
     filter test (a ++ (b ++ (c ++ (d ++ e)))) ≡ a' ++ (b' ++ (c' ++ (d' ++ e')))
-left_of test a b c d e a' b' c' d' e' fa fb fc fd fe =
+left_of_five test a b c d e a' b' c' d' e' fa fb fc fd fe =
     rw (filter-append, filter-append, filter-append, filter-append, fa, fb, fc, fd, fe) refl
 
-module _ (t : Tuning) (samples : List Sample) where
-  module _ (test : Event → Bool) (own : ℕ)
-      (by : (e : Event) → test e ≡ nat_eq (kind_of e) own) where
-    out : (kind : ℕ) (es : List Event) → nat_eq kind own ≡ false → All (IsKind kind) es →
-        filter test es ≡ []
-    out kind es other are = dropped test kind es (pass_by test own kind false by other) are
-
-    in_all : (es : List Event) → nat_eq own own ≡ true → All (IsKind own) es →
-        filter test es ≡ es
-    in_all es same are = kept test own es (pass_by test own own true by same) are
-
-  sync_left : (n : ℕ) → filter is_sync (events_at t samples n) ≡ sync_events_at t samples n
+module _ (t : Tuning) (samples : List Sample) (n : ℕ) where
+  -- of all events that are known at a number of samples
+  left_at : (test : Event → Bool) (own : ℕ) → ((e : Event) → test e ≡ nat_eq (kind_of e) own) →
+      filter test (events_at t samples n)
+      ≡ (if nat_eq 1 own then sync_events_at t samples n else [])
+      ++ ((if nat_eq 2 own then paging_events_at t samples n else [])
+      ++ ((if nat_eq 3 own then frame_events_at t samples n else [])
+      ++ ((if nat_eq 4 own then message_events_at t samples n else [])
+      ++ (if nat_eq 5 own then sets_events_at t samples n else []))))
   unfolding events_at
-  sync_left n =
-      left_of is_sync (sync_events_at t samples n) (paging_events_at t samples n)
-      (frame_events_at t samples n) (message_events_at t samples n) (sets_events_at t samples n)
-      (sync_events_at t samples n) [] [] [] []
-      (in_all is_sync 1 sync_passes (sync_events_at t samples n) refl (sync_kind t samples n))
-      (out is_sync 1 sync_passes 2 (paging_events_at t samples n) refl (paging_kind t samples n))
-      (out is_sync 1 sync_passes 3 (frame_events_at t samples n) refl (frame_kind t samples n))
-      (out is_sync 1 sync_passes 4 (message_events_at t samples n) refl (message_kind t samples n))
-      (out is_sync 1 sync_passes 5 (sets_events_at t samples n) refl (sets_kind t samples n))
-      ∙ append-nil (sync_events_at t samples n)
+  left_at test own by =
+      let left : (kind : ℕ) (es : List Event) → All (IsKind kind) es →
+      filter test es ≡ (if nat_eq kind own then es else []) =
+      λ kind es are.
+      left_of test kind (nat_eq kind own) es
+      (λ e same. by e ∙ ap (λ (k : ℕ). nat_eq k own) same) are in
+      left_of_five test _ _ _ _ _ _ _ _ _ _ (left 1 _ (sync_kind t samples n))
+      (left 2 _ (paging_kind t samples n)) (left 3 _ (frame_kind t samples n))
+      (left 4 _ (message_kind t samples n)) (left 5 _ (sets_kind t samples n))
 
-  page_left : (n : ℕ) → filter is_page (events_at t samples n) ≡ paging_events_at t samples n
-  unfolding events_at
-  page_left n =
-      left_of is_page (sync_events_at t samples n) (paging_events_at t samples n)
-      (frame_events_at t samples n) (message_events_at t samples n) (sets_events_at t samples n)
-      [] (paging_events_at t samples n) [] [] []
-      (out is_page 2 page_passes 1 (sync_events_at t samples n) refl (sync_kind t samples n))
-      (in_all is_page 2 page_passes (paging_events_at t samples n) refl (paging_kind t samples n))
-      (out is_page 2 page_passes 3 (frame_events_at t samples n) refl (frame_kind t samples n))
-      (out is_page 2 page_passes 4 (message_events_at t samples n) refl (message_kind t samples n))
-      (out is_page 2 page_passes 5 (sets_events_at t samples n) refl (sets_kind t samples n))
-      ∙ append-nil (paging_events_at t samples n)
+  sync_left : filter is_sync (events_at t samples n) ≡ sync_events_at t samples n
+  sync_left = left_at is_sync 1 sync_passes ∙ append-nil (sync_events_at t samples n)
 
-  frame_left : (n : ℕ) → filter is_frame (events_at t samples n) ≡ frame_events_at t samples n
-  unfolding events_at
-  frame_left n =
-      left_of is_frame (sync_events_at t samples n) (paging_events_at t samples n)
-      (frame_events_at t samples n) (message_events_at t samples n) (sets_events_at t samples n)
-      [] [] (frame_events_at t samples n) [] []
-      (out is_frame 3 frame_passes 1 (sync_events_at t samples n) refl (sync_kind t samples n))
-      (out is_frame 3 frame_passes 2 (paging_events_at t samples n) refl (paging_kind t samples n))
-      (in_all is_frame 3 frame_passes (frame_events_at t samples n) refl (frame_kind t samples n))
-      (out is_frame 3 frame_passes 4 (message_events_at t samples n) refl
-      (message_kind t samples n))
-      (out is_frame 3 frame_passes 5 (sets_events_at t samples n) refl (sets_kind t samples n))
-      ∙ append-nil (frame_events_at t samples n)
+  page_left : filter is_page (events_at t samples n) ≡ paging_events_at t samples n
+  page_left = left_at is_page 2 page_passes ∙ append-nil (paging_events_at t samples n)
 
-  message_left : (n : ℕ) →
-      filter is_message (events_at t samples n) ≡ message_events_at t samples n
-  unfolding events_at
-  message_left n =
-      left_of is_message (sync_events_at t samples n) (paging_events_at t samples n)
-      (frame_events_at t samples n) (message_events_at t samples n) (sets_events_at t samples n)
-      [] [] [] (message_events_at t samples n) []
-      (out is_message 4 message_passes 1 (sync_events_at t samples n) refl
-      (sync_kind t samples n))
-      (out is_message 4 message_passes 2 (paging_events_at t samples n) refl
-      (paging_kind t samples n))
-      (out is_message 4 message_passes 3 (frame_events_at t samples n) refl
-      (frame_kind t samples n))
-      (in_all is_message 4 message_passes (message_events_at t samples n) refl
-      (message_kind t samples n))
-      (out is_message 4 message_passes 5 (sets_events_at t samples n) refl
-      (sets_kind t samples n))
-      ∙ append-nil (message_events_at t samples n)
+  frame_left : filter is_frame (events_at t samples n) ≡ frame_events_at t samples n
+  frame_left = left_at is_frame 3 frame_passes ∙ append-nil (frame_events_at t samples n)
+
+  message_left : filter is_message (events_at t samples n) ≡ message_events_at t samples n
+  message_left = left_at is_message 4 message_passes ∙ append-nil (message_events_at t samples n)
 
 -- ---- of all numbers of samples
 

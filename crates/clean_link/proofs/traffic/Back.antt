@@ -109,14 +109,13 @@ module _ (width : Width) (plan : CellPlan) (t : Tuning) (is : IsReceivable width
       ap (told_by_first plan sync.message) (unset_without width plan sync t is sends tuned unset)
 
   -- the channel that is followed behind the mark that is set
-  pub heard_behind_mark : (sync : SyncPlan) (traffic : Traffic) (m : Mark) →
-      plan.sync ≡ Some sync → mark t (made_samples plan) t.count ≡ Some m →
-      FollowsSent plan (Some traffic) → IsHeardBehind width plan t traffic m
-  heard_behind_mark sync traffic m sends set follows =
+  pub heard_behind_mark : (traffic : Traffic) (m : Mark) →
+      mark t (made_samples plan) t.count ≡ Some m → FollowsSent plan (Some traffic) →
+      IsHeardBehind width plan t traffic m
+  heard_behind_mark traffic m set follows =
       let (p, followed) = follows in
       let (superframes, true_mark) = marks_true width plan t t.count m is tuned set in
-      let first = told_so sync m sends set superframes true_mark.time in
-      let told = ap (told_with_sync plan) sends ∙ first in
+      let told = told_behind_mark plan.sync m refl set superframes true_mark.time in
       record {
         p = p;
         superframes = superframes;
@@ -148,41 +147,20 @@ module _ (width : Width) (plan : CellPlan) (t : Tuning) (is : IsReceivable width
 
   module _ (heard : ℕ → Traffic → Mark → List Event) (told : TrafficPlan → ℕ → List Event)
       (comes : ComesBack width plan t heard told) where
-    -- what is heard behind the mark that is set
-    behind_mark : (sync : SyncPlan) (traffic : Traffic) (m : Mark) → t.traffic ≡ Some traffic →
-        plan.sync ≡ Some sync → mark t (made_samples plan) t.count ≡ Some m →
-        FollowsSent plan (Some traffic) →
-        flat_map (λ n. heard n traffic m) (places (plan.link.samples + 1))
-        ≡ told_followed (told_behind plan told) (Some traffic) (told_with_sync plan plan.sync)
-    behind_mark sync traffic m assigned sends set follows =
-        let b = heard_behind_mark sync traffic m sends set follows in
-        comes.back b.p traffic m b.superframes assigned set b.hears b.one b.distinct
-        ∙ told_there traffic m told b
-
-    -- and where none may be set, nor a channel followed
-    behind_last : (followed : Option Traffic) (channel : Option SyncPlan) (last : Option Mark) →
-        t.traffic ≡ followed → plan.sync ≡ channel → mark t (made_samples plan) t.count ≡ last →
-        FollowsSent plan followed →
+    -- what is heard by the mark of all samples, where it is set and a channel is followed, and else
+    behind_last : (followed : Option Traffic) (last : Option Mark) → t.traffic ≡ followed →
+        mark t (made_samples plan) t.count ≡ last → FollowsSent plan followed →
         flat_map (λ n. if_followed (heard n) followed last) (places (plan.link.samples + 1))
-        ≡ told_followed (told_behind plan told) followed (told_with_sync plan channel)
-    behind_last None channel last assigned sends set follows =
-        none_known (places (plan.link.samples + 1))
-    behind_last (Some traffic) None last assigned silent set follows =
-        let none = sym set ∙ unmarked width plan t t.count is silent tuned in
-        ap (λ (m : Option Mark). flat_map (λ n. if_followed (heard n) (Some traffic) m)
-        (places (plan.link.samples + 1))) none
-        ∙ none_known (places (plan.link.samples + 1))
-    behind_last (Some traffic) (Some sync) None assigned sends unset follows =
-        let none = unset_without width plan sync t is sends tuned unset in
+        ≡ told_followed (told_behind plan told) followed (told_with_sync plan plan.sync)
+    behind_last None last assigned set follows = none_known (places (plan.link.samples + 1))
+    behind_last (Some traffic) None assigned unset follows =
         none_known (places (plan.link.samples + 1))
         ∙ sym
-        (ap (λ (sendings : List ℕ). told_followed (told_behind plan told) (Some traffic)
-        (told_by_first plan sync.message sendings)) none)
-    behind_last (Some traffic) (Some sync) (Some m) assigned sends set follows =
-        behind_mark sync traffic m assigned sends set follows
-        ∙ ap
-        (λ (c : Option SyncPlan).
-        told_followed (told_behind plan told) (Some traffic) (told_with_sync plan c)) sends
+        (ap (told_followed (told_behind plan told) (Some traffic)) (untold plan.sync refl unset))
+    behind_last (Some traffic) (Some m) assigned set follows =
+        let b = heard_behind_mark traffic m set follows in
+        comes.back b.p traffic m b.superframes assigned set b.hears b.one b.distinct
+        ∙ told_there traffic m told b
 
     -- by the mark that each number of samples has
     all_heard : FollowsSent plan t.traffic →
@@ -196,7 +174,7 @@ module _ (width : Width) (plan : CellPlan) (t : Tuning) (is : IsReceivable width
         flat_map_ext_places (λ n. if_followed (heard n) t.traffic (mark t samples n))
         (λ n. if_followed (heard n) t.traffic last) (plan.link.samples + 1)
         (λ n below. comes.once n (omega (arith, below, count)))
-        ∙ behind_last t.traffic plan.sync last refl refl refl follows
+        ∙ behind_last t.traffic last refl refl follows
 
 module _ (width : Width) (plan : CellPlan) (t : Tuning) (is : IsReceivable width plan)
     (tuned : IsOnPath plan t)

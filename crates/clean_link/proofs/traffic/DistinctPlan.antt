@@ -1,6 +1,6 @@
 -- A cell with a distinct frame of each rate.
 use Rattle.clean_link.proofs.Common.{◌≡◌, ◌≢◌, ℕ, ◌+◌, ◌*◌, ◌^◌, ◌<◌, ◌≤◌, Bool, true, List, [], ◌∷◌, length, map, refl, sym, ap, ◌∙◌}
-use Rattle.clean_link.proofs.Common.{arith, subst, nat_le, inl, inr, Some, All, flat_map, and_parts, cases_eq, leb-true, All-cons, All-nil}
+use Rattle.clean_link.proofs.Common.{set_one, set_two, FrameList, channel_on, arith, subst, nat_le, inl, inr, Some, All, flat_map, and_parts, cases_eq, leb-true, All-cons, All-nil}
 use Rattle.clean_link.proofs.Common.{binary, places, norm, Sixteen, after, traffic_mask, after-after, IsState-before, capsule, octets}
 use Rattle.clean_link.proofs.Common.{check_bits, traffic_word, M30, Rate, R9600, R4800, R2400, R1200, word_bits, power_places, Rate2}
 use Rattle.clean_link.proofs.Common.{R14400, R7200, R3600, R1800, on_again, sync_body, sync_capsule, IsSyncMessage, split_9600, loudness}
@@ -12,6 +12,7 @@ use Rattle.clean_link.proofs.Common.{second_channel, told_message, HasMark, HasS
 use Rattle.clean_link.proofs.Common.{replaced_of, AreDistinct, IsDistinctFrame, end_chip, messages_sent, cycled_frame2, IsDistinctFrame2}
 use Rattle.clean_link.proofs.Common.{signaling_sent, told_with_sync, lost_symbols2, sharing, sharing2, words_giving, SharesNone}
 use Rattle.clean_link.proofs.Common.{SharesNone2}
+use Rattle.cell_plan.specs.TrafficFrames.{AreTrafficFrames, frame_count}
 use Rattle.long_code.specs.LongCode.{before}
 use Rattle.traffic_message.specs.Multiplex.{split}
 use Rattle.clean_link.proofs.traffic.PowerPlaces.{pairs_by, places_are, starts, walked, walked_is}
@@ -125,140 +126,118 @@ places_3 =
 
 -- ---- frames of rate set 1
 
-own_9600 : sharing (lost_symbols (pairs_by starts_0)) R9600 (traffic_word R9600 bits_9600) R9600
-    ≡ traffic_word R9600 bits_9600 ∷ []
-unfolding binary places check_bits words_giving
-own_9600 = refl
+-- what is true of each rate
+by_rate : (P : Rate → Type 0) → P R9600 → P R4800 → P R2400 → P R1200 → (r : Rate) → P r
+by_rate P a b c d R9600 = a
+by_rate P a b c d R4800 = b
+by_rate P a b c d R2400 = c
+by_rate P a b c d R1200 = d
 
-others_9600 : (r : Rate) → r ≢ R9600 →
-    sharing (lost_symbols (pairs_by starts_0)) R9600 (traffic_word R9600 bits_9600) r ≡ []
-unfolding binary places check_bits words_giving
-others_9600 R9600 other = absurd (other refl)
-others_9600 R4800 other = refl
-others_9600 R2400 other = refl
-others_9600 R1200 other = refl
+-- no word of another rate shares the symbols of a frame
+abbrev IsApart : List ℕ → Rate → List Bool → Rate → Type 0
+IsApart found rate bits r = r ≢ rate → sharing (lost_symbols (pairs_by found)) rate bits r ≡ []
 
-own_4800 : sharing (lost_symbols (pairs_by starts_1)) R4800 (traffic_word R4800 bits_4800) R4800
-    ≡ traffic_word R4800 bits_4800 ∷ []
-unfolding binary places check_bits words_giving
-own_4800 = refl
+abbrev IsAlone : List ℕ → Rate → List Bool → Type 0
+IsAlone found rate information =
+    SharesNone (lost_symbols (pairs_by found)) rate (traffic_word rate information)
 
-others_4800 : (r : Rate) → r ≢ R4800 →
-    sharing (lost_symbols (pairs_by starts_1)) R4800 (traffic_word R4800 bits_4800) r ≡ []
+alone_9600 : IsAlone starts_0 R9600 bits_9600
 unfolding binary places check_bits words_giving
-others_4800 R9600 other = refl
-others_4800 R4800 other = absurd (other refl)
-others_4800 R2400 other = refl
-others_4800 R1200 other = refl
+alone_9600 = record {
+  own = refl;
+  others = by_rate (IsApart starts_0 R9600 (traffic_word R9600 bits_9600))
+      (λ other. absurd (other refl)) (λ other. refl) (λ other. refl) (λ other. refl);
+}
 
-own_2400 : sharing (lost_symbols (pairs_by starts_2)) R2400 (traffic_word R2400 bits_2400) R2400
-    ≡ traffic_word R2400 bits_2400 ∷ []
+alone_4800 : IsAlone starts_1 R4800 bits_4800
 unfolding binary places check_bits words_giving
-own_2400 = refl
+alone_4800 = record {
+  own = refl;
+  others = by_rate (IsApart starts_1 R4800 (traffic_word R4800 bits_4800))
+      (λ other. refl) (λ other. absurd (other refl)) (λ other. refl) (λ other. refl);
+}
 
-others_2400 : (r : Rate) → r ≢ R2400 →
-    sharing (lost_symbols (pairs_by starts_2)) R2400 (traffic_word R2400 bits_2400) r ≡ []
+alone_2400 : IsAlone starts_2 R2400 bits_2400
 unfolding binary places check_bits words_giving
-others_2400 R9600 other = refl
-others_2400 R4800 other = refl
-others_2400 R2400 other = absurd (other refl)
-others_2400 R1200 other = refl
+alone_2400 = record {
+  own = refl;
+  others = by_rate (IsApart starts_2 R2400 (traffic_word R2400 bits_2400))
+      (λ other. refl) (λ other. refl) (λ other. absurd (other refl)) (λ other. refl);
+}
 
-own_1200 : sharing (lost_symbols (pairs_by starts_3)) R1200 (traffic_word R1200 bits_1200) R1200
-    ≡ traffic_word R1200 bits_1200 ∷ []
+alone_1200 : IsAlone starts_3 R1200 bits_1200
 unfolding binary places check_bits words_giving
-own_1200 = refl
-
-others_1200 : (r : Rate) → r ≢ R1200 →
-    sharing (lost_symbols (pairs_by starts_3)) R1200 (traffic_word R1200 bits_1200) r ≡ []
-unfolding binary places check_bits words_giving
-others_1200 R9600 other = refl
-others_1200 R4800 other = refl
-others_1200 R2400 other = refl
-others_1200 R1200 other = absurd (other refl)
+alone_1200 = record {
+  own = refl;
+  others = by_rate (IsApart starts_3 R1200 (traffic_word R1200 bits_1200))
+      (λ other. refl) (λ other. refl) (λ other. refl) (λ other. absurd (other refl));
+}
 
 -- one of them is distinct where power control bits replace these places
 distinct_at : (replaced found : List ℕ) (rate : Rate) (information : List Bool) →
-    replaced ≡ found →
-    sharing (lost_symbols found) rate (traffic_word rate information) rate
-    ≡ traffic_word rate information ∷ [] →
-    ((r : Rate) → r ≢ rate →
-    sharing (lost_symbols found) rate (traffic_word rate information) r ≡ []) →
+    replaced ≡ pairs_by found → IsAlone found rate information →
     All (IsDistinctFrame replaced) (frame_at rate information ∷ [])
-distinct_at replaced found rate information are own others =
-    let alone : SharesNone (lost_symbols found) rate (traffic_word rate information) =
-    record { own = own; others = others } in
+distinct_at replaced found rate information are alone =
     All-cons (IsDistinctFrame replaced) (frame_at rate information) []
     (subst (λ (ps : List ℕ). IsDistinctFrame ps (frame_at rate information)) (sym are)
-    (distinct_by_sharing found rate information alone)) (All-nil (IsDistinctFrame replaced))
+    (distinct_by_sharing (pairs_by found) rate information alone))
+    (All-nil (IsDistinctFrame replaced))
 
 -- ---- frames of rate set 2
 
-own_14400 : sharing2 (lost_symbols2 (pairs_by starts_0)) R14400 (word_bits R14400 bits_14400) R14400
-    ≡ word_bits R14400 bits_14400 ∷ []
-unfolding binary places check_bits words_giving
-own_14400 = refl
+by_rate2 : (P : Rate2 → Type 0) → P R14400 → P R7200 → P R3600 → P R1800 → (r : Rate2) → P r
+by_rate2 P a b c d R14400 = a
+by_rate2 P a b c d R7200 = b
+by_rate2 P a b c d R3600 = c
+by_rate2 P a b c d R1800 = d
 
-others_14400 : (r : Rate2) → r ≢ R14400 →
-    sharing2 (lost_symbols2 (pairs_by starts_0)) R14400 (word_bits R14400 bits_14400) r ≡ []
-unfolding binary places check_bits words_giving
-others_14400 R14400 other = absurd (other refl)
-others_14400 R7200 other = refl
-others_14400 R3600 other = refl
-others_14400 R1800 other = refl
+abbrev IsApart2 : List ℕ → Rate2 → List Bool → Rate2 → Type 0
+IsApart2 found rate bits r = r ≢ rate → sharing2 (lost_symbols2 (pairs_by found)) rate bits r ≡ []
 
-own_7200 : sharing2 (lost_symbols2 (pairs_by starts_1)) R7200 (word_bits R7200 bits_7200) R7200
-    ≡ word_bits R7200 bits_7200 ∷ []
-unfolding binary places check_bits words_giving
-own_7200 = refl
+abbrev IsAlone2 : List ℕ → Rate2 → List Bool → Type 0
+IsAlone2 found rate information =
+    SharesNone2 (lost_symbols2 (pairs_by found)) rate (word_bits rate information)
 
-others_7200 : (r : Rate2) → r ≢ R7200 →
-    sharing2 (lost_symbols2 (pairs_by starts_1)) R7200 (word_bits R7200 bits_7200) r ≡ []
+alone_14400 : IsAlone2 starts_0 R14400 bits_14400
 unfolding binary places check_bits words_giving
-others_7200 R14400 other = refl
-others_7200 R7200 other = absurd (other refl)
-others_7200 R3600 other = refl
-others_7200 R1800 other = refl
+alone_14400 = record {
+  own = refl;
+  others = by_rate2 (IsApart2 starts_0 R14400 (word_bits R14400 bits_14400))
+      (λ other. absurd (other refl)) (λ other. refl) (λ other. refl) (λ other. refl);
+}
 
-own_3600 : sharing2 (lost_symbols2 (pairs_by starts_2)) R3600 (word_bits R3600 bits_3600) R3600
-    ≡ word_bits R3600 bits_3600 ∷ []
+alone_7200 : IsAlone2 starts_1 R7200 bits_7200
 unfolding binary places check_bits words_giving
-own_3600 = refl
+alone_7200 = record {
+  own = refl;
+  others = by_rate2 (IsApart2 starts_1 R7200 (word_bits R7200 bits_7200))
+      (λ other. refl) (λ other. absurd (other refl)) (λ other. refl) (λ other. refl);
+}
 
-others_3600 : (r : Rate2) → r ≢ R3600 →
-    sharing2 (lost_symbols2 (pairs_by starts_2)) R3600 (word_bits R3600 bits_3600) r ≡ []
+alone_3600 : IsAlone2 starts_2 R3600 bits_3600
 unfolding binary places check_bits words_giving
-others_3600 R14400 other = refl
-others_3600 R7200 other = refl
-others_3600 R3600 other = absurd (other refl)
-others_3600 R1800 other = refl
+alone_3600 = record {
+  own = refl;
+  others = by_rate2 (IsApart2 starts_2 R3600 (word_bits R3600 bits_3600))
+      (λ other. refl) (λ other. refl) (λ other. absurd (other refl)) (λ other. refl);
+}
 
-own_1800 : sharing2 (lost_symbols2 (pairs_by starts_3)) R1800 (word_bits R1800 bits_1800) R1800
-    ≡ word_bits R1800 bits_1800 ∷ []
+alone_1800 : IsAlone2 starts_3 R1800 bits_1800
 unfolding binary places check_bits words_giving
-own_1800 = refl
-
-others_1800 : (r : Rate2) → r ≢ R1800 →
-    sharing2 (lost_symbols2 (pairs_by starts_3)) R1800 (word_bits R1800 bits_1800) r ≡ []
-unfolding binary places check_bits words_giving
-others_1800 R14400 other = refl
-others_1800 R7200 other = refl
-others_1800 R3600 other = refl
-others_1800 R1800 other = absurd (other refl)
+alone_1800 = record {
+  own = refl;
+  others = by_rate2 (IsApart2 starts_3 R1800 (word_bits R1800 bits_1800))
+      (λ other. refl) (λ other. refl) (λ other. refl) (λ other. absurd (other refl));
+}
 
 distinct2_at : (replaced found : List ℕ) (rate : Rate2) (information : List Bool) →
-    replaced ≡ found →
-    sharing2 (lost_symbols2 found) rate (word_bits rate information) rate
-    ≡ word_bits rate information ∷ [] →
-    ((r : Rate2) → r ≢ rate →
-    sharing2 (lost_symbols2 found) rate (word_bits rate information) r ≡ []) →
+    replaced ≡ pairs_by found → IsAlone2 found rate information →
     All (IsDistinctFrame2 replaced) (frame2_at rate information ∷ [])
-distinct2_at replaced found rate information are own others =
-    let alone : SharesNone2 (lost_symbols2 found) rate (word_bits rate information) =
-    record { own = own; others = others } in
+distinct2_at replaced found rate information are alone =
     All-cons (IsDistinctFrame2 replaced) (frame2_at rate information) []
     (subst (λ (ps : List ℕ). IsDistinctFrame2 ps (frame2_at rate information)) (sym are)
-    (distinct_by_sharing2 found rate information alone)) (All-nil (IsDistinctFrame2 replaced))
+    (distinct_by_sharing2 (pairs_by found) rate information alone))
+    (All-nil (IsDistinctFrame2 replaced))
 
 -- ---- which frames are received
 
@@ -296,14 +275,10 @@ distinct_one =
     received_four first_channel refl
     (λ frame. All (IsDistinctFrame (replaced_of distinct_plan first_channel frame))
     (cycled_frame (frames_of distinct_plan first_channel) frame))
-    (distinct_at (places_in 688128) (pairs_by starts_0) R9600 bits_9600 places_0 own_9600
-    others_9600)
-    (distinct_at (places_in 712704) (pairs_by starts_1) R4800 bits_4800 places_1 own_4800
-    others_4800)
-    (distinct_at (places_in 737280) (pairs_by starts_2) R2400 bits_2400 places_2 own_2400
-    others_2400)
-    (distinct_at (places_in 761856) (pairs_by starts_3) R1200 bits_1200 places_3 own_1200
-    others_1200)
+    (distinct_at (places_in 688128) starts_0 R9600 bits_9600 places_0 alone_9600)
+    (distinct_at (places_in 712704) starts_1 R4800 bits_4800 places_1 alone_4800)
+    (distinct_at (places_in 737280) starts_2 R2400 bits_2400 places_2 alone_2400)
+    (distinct_at (places_in 761856) starts_3 R1200 bits_1200 places_3 alone_1200)
 
 distinct_two : (frame : ℕ) → is_received distinct_plan second_channel 688128 frame ≡ true →
     All (IsDistinctFrame2 (replaced_of distinct_plan second_channel frame))
@@ -312,14 +287,10 @@ distinct_two =
     received_four second_channel refl
     (λ frame. All (IsDistinctFrame2 (replaced_of distinct_plan second_channel frame))
     (cycled_frame2 (frames_of distinct_plan second_channel) frame))
-    (distinct2_at (places_in 688128) (pairs_by starts_0) R14400 bits_14400 places_0 own_14400
-    others_14400)
-    (distinct2_at (places_in 712704) (pairs_by starts_1) R7200 bits_7200 places_1 own_7200
-    others_7200)
-    (distinct2_at (places_in 737280) (pairs_by starts_2) R3600 bits_3600 places_2 own_3600
-    others_3600)
-    (distinct2_at (places_in 761856) (pairs_by starts_3) R1800 bits_1800 places_3 own_1800
-    others_1800)
+    (distinct2_at (places_in 688128) starts_0 R14400 bits_14400 places_0 alone_14400)
+    (distinct2_at (places_in 712704) starts_1 R7200 bits_7200 places_1 alone_7200)
+    (distinct2_at (places_in 737280) starts_2 R3600 bits_3600 places_2 alone_3600)
+    (distinct2_at (places_in 761856) starts_3 R1800 bits_1800 places_3 alone_1800)
 
 -- ---- the cell
 
@@ -342,51 +313,47 @@ told_lawful = record {
   };
 }
 
-sized_one : All IsTrafficFrame (
-    frame_at R9600 bits_9600 ∷ frame_at R4800 bits_4800
-    ∷ frame_at R2400 bits_2400 ∷ frame_at R1200 bits_1200 ∷ [])
+-- what is true of each of four
+all_four : {A : Type 0} (P : A → Type 0) (a b c d : A) → P a → P b → P c → P d →
+    All P (a ∷ b ∷ c ∷ d ∷ [])
+all_four P a b c d is_a is_b is_c is_d =
+    All-cons P a (b ∷ c ∷ d ∷ []) is_a
+    (All-cons P b (c ∷ d ∷ []) is_b
+    (All-cons P c (d ∷ []) is_c (All-cons P d [] is_d (All-nil P))))
+
+sized_one : All IsTrafficFrame (set_one first_channel.frames)
 unfolding binary
 sized_one =
-    All-cons IsTrafficFrame (frame_at R9600 bits_9600)
-    (frame_at R4800 bits_4800 ∷ frame_at R2400 bits_2400 ∷ frame_at R1200 bits_1200 ∷ []) refl
-    (All-cons IsTrafficFrame (frame_at R4800 bits_4800)
-    (frame_at R2400 bits_2400 ∷ frame_at R1200 bits_1200 ∷ []) refl
-    (All-cons IsTrafficFrame (frame_at R2400 bits_2400) (frame_at R1200 bits_1200 ∷ []) refl
-    (All-cons IsTrafficFrame (frame_at R1200 bits_1200) [] refl (All-nil IsTrafficFrame))))
+    all_four IsTrafficFrame (frame_at R9600 bits_9600) (frame_at R4800 bits_4800)
+    (frame_at R2400 bits_2400) (frame_at R1200 bits_1200) refl refl refl refl
 
-sized_two : All IsTrafficFrame2 (
-    frame2_at R14400 bits_14400 ∷ frame2_at R7200 bits_7200
-    ∷ frame2_at R3600 bits_3600 ∷ frame2_at R1800 bits_1800 ∷ [])
+sized_two : All IsTrafficFrame2 (set_two second_channel.frames)
 unfolding binary
 sized_two =
-    All-cons IsTrafficFrame2 (frame2_at R14400 bits_14400)
-    (frame2_at R7200 bits_7200 ∷ frame2_at R3600 bits_3600 ∷ frame2_at R1800 bits_1800 ∷ []) refl
-    (All-cons IsTrafficFrame2 (frame2_at R7200 bits_7200)
-    (frame2_at R3600 bits_3600 ∷ frame2_at R1800 bits_1800 ∷ []) refl
-    (All-cons IsTrafficFrame2 (frame2_at R3600 bits_3600) (frame2_at R1800 bits_1800 ∷ []) refl
-    (All-cons IsTrafficFrame2 (frame2_at R1800 bits_1800) [] refl (All-nil IsTrafficFrame2))))
+    all_four IsTrafficFrame2 (frame2_at R14400 bits_14400) (frame2_at R7200 bits_7200)
+    (frame2_at R3600 bits_3600) (frame2_at R1800 bits_1800) refl refl refl refl
+
+channel_lawful : (row : ℕ) (frames : FrameList) → 8 ≤ row → row ≤ 9 → 1 ≤ frame_count frames →
+    AreTrafficFrames frames → IsTrafficPlan (channel_on row frames)
+channel_lawful row frames least most some sized = record {
+  first = omega (arith, least);
+  last = omega (arith, most);
+  other = omega (arith, most);
+  latest = omega arith;
+  gain = omega arith;
+  some = some;
+  sized = sized;
+}
 
 first_lawful : IsTrafficPlan first_channel
-first_lawful = record {
-  first = omega arith;
-  last = omega arith;
-  other = omega arith;
-  latest = omega arith;
-  gain = omega arith;
-  some = omega arith;
-  sized = record { one = sized_one; two = All-nil IsTrafficFrame2 };
-}
+first_lawful =
+    channel_lawful 8 first_channel.frames (omega arith) (omega arith) (omega arith)
+    (record { one = sized_one; two = All-nil IsTrafficFrame2 })
 
 second_lawful : IsTrafficPlan second_channel
-second_lawful = record {
-  first = omega arith;
-  last = omega arith;
-  other = omega arith;
-  latest = omega arith;
-  gain = omega arith;
-  some = omega arith;
-  sized = record { one = All-nil IsTrafficFrame; two = sized_two };
-}
+second_lawful =
+    channel_lawful 9 second_channel.frames (omega arith) (omega arith) (omega arith)
+    (record { one = All-nil IsTrafficFrame; two = sized_two })
 
 channels_lawful : AreLawfulBeside [] (first_channel ∷ second_channel ∷ [])
 channels_lawful = record {

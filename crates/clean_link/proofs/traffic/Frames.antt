@@ -1,7 +1,7 @@
 -- The frames of a traffic channel come back: each received one is heard at its own end, as it was
 -- sent where it is distinct.
 use Rattle.clean_link.proofs.Common.{◌≡◌, ℕ, zero, suc, ◌+◌, ◌-◌, ◌*◌, ◌/◌, ◌%◌, ◌<◌, ◌≤◌, ⊎_elim, Bool, true, false, List, [], ◌∷◌, length}
-use Rattle.clean_link.proofs.Common.{map, filter, take, drop, refl, sym, ap, ◌∙◌, arith, subst, nat_le, cond, pos, All, flat_map, and_from}
+use Rattle.clean_link.proofs.Common.{cases_lt, inl, inr, map, filter, take, drop, refl, sym, ap, ◌∙◌, arith, subst, nat_le, cond, pos, All, flat_map, and_from}
 use Rattle.clean_link.proofs.Common.{and_parts, cases_Bool, false_from_ne_true, le-leb, leb-true, All-head, All-tail, places, Sample, Width}
 use Rattle.clean_link.proofs.Common.{traffic_mask, power_places, kept_count, Decoded, sent_frame, Data, made_samples, frames_of}
 use Rattle.clean_link.proofs.Common.{cycled_frame, set_one, IsTrafficFrame, CellPlan, TrafficPlan, TrafficFrame, frame_softs, is_in_file}
@@ -145,6 +145,18 @@ module _ (width : Width) (plan : CellPlan) (p : TrafficPlan) (t : Tuning) (traff
       (nat_le (frame_chip p (i + 1)) (end_chip plan)) kept in
       let begun = leb-true mark_chip (frame_chip p i) both.0 in
       omega (arith, low, begun, place, latest))
+
+  -- so one that is received is so many frames behind the mark, in the file
+  pub inside_at : (frame : ℕ) → received frame ≡ true →
+      (4 * superframes + (frame - 4 * superframes) ≡ frame)
+      × (inside (frame - 4 * superframes) ≡ true)
+  inside_at frame kept =
+      elim (cases_lt frame (4 * superframes)) [
+        | inl less ↦ let before = early frame less in absurd (cc)
+        | inr most ↦
+            let here : 4 * superframes + (frame - 4 * superframes) ≡ frame = omega (arith, most) in
+            (here, sym (received_is (frame - 4 * superframes)) ∙ ap received here ∙ kept)
+      ]
 
   -- and a late one ends behind the file
   past_end : (i : ℕ) → end_chip plan / 24576 + 1 ≤ i → received i ≡ false

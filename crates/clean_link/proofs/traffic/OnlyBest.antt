@@ -2,11 +2,11 @@
 use Rattle.clean_link.proofs.Common.{◌≡◌, ℕ, ◌-◌, ◌*◌, ◌<◌, Bool, true, false, List, ◌++◌, length, get_or, drop, replicate, refl, sym, ap}
 use Rattle.clean_link.proofs.Common.{◌∙◌, arith, ⊎_elim, ℤ, pos, subst, length-append, ◌≤ℤ◌, ◌<ℤ◌, ◌*ℤ◌, if◌then◌else◌, int_lt, ints}
 use Rattle.clean_link.proofs.Common.{cases_Bool, drop_at, ext_get_or, sign, code_symbols, quality_indicator, information_of, quality_of}
-use Rattle.clean_link.proofs.Common.{repeats_of, traffic_word, Rate, R9600, R4800, R2400, R1200, word_fills, data_shape, Rate2, length-sent}
-use Rattle.clean_link.proofs.Common.{length-sent2, length-word_bits, IsAllowed, Word, correlation, Zero, frame_word, AgreeElsewhere}
-use Rattle.clean_link.proofs.Common.{IsUnshared, ShowSymbols, frame_bits, frame_symbols, is_replaced, unreplaced, alone, get_or-masked}
-use Rattle.clean_link.proofs.Common.{length-masked, masked, own_score, weight, get_or-unreplaced, length-unreplaced, Data, made_samples}
-use Rattle.clean_link.proofs.Common.{frame_softs, replaced_in, stream_of, soft_strength, replaced_of, HeardAreTheOnlyBest, IsOnlyBestFrame}
+use Rattle.clean_link.proofs.Common.{repeats_of, traffic_word, Rate, R9600, word_fills, data_shape, Rate2, length-sent, length-sent2}
+use Rattle.clean_link.proofs.Common.{length-word_bits, IsAllowed, Word, correlation, Zero, frame_word, AgreeElsewhere, IsUnshared}
+use Rattle.clean_link.proofs.Common.{ShowSymbols, frame_bits, frame_symbols, is_replaced, unreplaced, alone, get_or-masked, length-masked}
+use Rattle.clean_link.proofs.Common.{masked, own_score, weight, get_or-unreplaced, length-unreplaced, Data, made_samples, frame_softs}
+use Rattle.clean_link.proofs.Common.{replaced_in, stream_of, soft_strength, replaced_of, HeardAreTheOnlyBest, IsOnlyBestFrame}
 use Rattle.clean_link.proofs.Common.{IsOnlyBestFrame2, ReceivedAreTheOnlyBest, SetTwoAreTheOnlyBest}
 use Rattle.clean_link.proofs.traffic.Frames.{sized}
 use Rattle.clean_link.proofs.traffic.Signs.{heard_shown}
@@ -85,9 +85,7 @@ tailed_allowed front n long =
 -- a frame's bits are as many as its rate has
 bits_fill : (rate : Rate) (n : ℕ) → n * repeats_of rate ≡ 192 → n ≡ frame_bits rate
 bits_fill R9600 n h = omega (arith, h)
-bits_fill R4800 n h = omega (arith, h)
-bits_fill R2400 n h = omega (arith, h)
-bits_fill R1200 n h = omega (arith, h)
+bits_fill rate n h = omega (arith, h)
 
 word_allowed : (rate : Rate) (information : List Bool) → length information ≡ information_of rate →
     IsAllowed Zero (frame_bits rate) (frame_word rate information)

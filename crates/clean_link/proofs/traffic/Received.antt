@@ -1,7 +1,7 @@
 -- The frames of a traffic channel, as they are received of the reference base station alone.
 use Rattle.clean_link.proofs.Common.{◌≡◌, ℕ, ◌+◌, ◌-◌, ◌*◌, ◌%◌, ◌≤◌, ◌&&◌, Bool, true, List, [], ◌∷◌, length, map, filter, refl, sym, ap}
-use Rattle.clean_link.proofs.Common.{◌∙◌, arith, subst, nat_le, inl, inr, Option, Some, Contains, and_from, cases_Bool, cases_lt, le-leb}
-use Rattle.clean_link.proofs.Common.{places, Sample, filter_ext_places, flat_map_ext_filter_places, Width, traffic_mask, Data, made_samples}
+use Rattle.clean_link.proofs.Common.{◌∙◌, arith, subst, nat_le, inl, inr, Option, Some, Contains, and_from, cases_Bool, le-leb, places}
+use Rattle.clean_link.proofs.Common.{Sample, filter_ext_places, flat_map_ext_filter_places, Width, traffic_mask, Data, made_samples}
 use Rattle.clean_link.proofs.Common.{frames_of, set_two, IsTrafficFrame2, CellPlan, TrafficPlan, TrafficFrame2, traffic_channel, mark}
 use Rattle.clean_link.proofs.Common.{frames_within, soft_frame, soft_frames, unturned_at, is_in_file, known_at, known_by, Stream}
 use Rattle.clean_link.proofs.Common.{frames_bound, replaced_in, Tuning, Mark, Traffic, PowerControl, SoftFrame, soft_strength, IsOnPath}
@@ -14,7 +14,7 @@ use Rattle.clean_link.proofs.marks.MarksTrue.{marks_true}
 use Rattle.clean_link.proofs.signal.Samples.{length-made}
 use Rattle.clean_link.proofs.traffic.Back.{told_behind_mark}
 use Rattle.clean_link.proofs.traffic.Commands.{power_pairs, shown_commands}
-use Rattle.clean_link.proofs.traffic.Frames.{by_marks_frames, early, known_is, one_each, one_taken, one_there, received_is, same_places}
+use Rattle.clean_link.proofs.traffic.Frames.{by_marks_frames, inside_at, known_is, one_each, one_taken, one_there, same_places}
 use Rattle.clean_link.proofs.traffic.OnePilot.{one_stream}
 use Rattle.clean_link.proofs.traffic.Signs.{frame_shown, lawful_traffic, set_two_sends}
 use Rattle.clean_link.proofs.traffic.Times.{traffic_file_to, traffic_known_is}
@@ -31,9 +31,6 @@ module _ (width : Width) (plan : CellPlan) (p : TrafficPlan) (t : Tuning) (traff
   abbrev stream : Stream
   stream = one_stream t traffic m
 
-  abbrev inside : ℕ → Bool
-  inside = is_in_file t.count stream
-
   abbrev soft : ℕ → SoftFrame
   soft = soft_frame t (traffic_channel traffic) m samples
 
@@ -41,14 +38,16 @@ module _ (width : Width) (plan : CellPlan) (p : TrafficPlan) (t : Tuning) (traff
   latest = (lawful_traffic width plan p is.receivable.lawful is.sent).latest
 
   -- a frame in the file ends within it
-  ends_inside : (k : ℕ) → (inside k && nat_le (known_at t.count stream k) t.count) ≡ inside k
+  ends_inside : (k : ℕ) →
+      (is_in_file t.count stream k && nat_le (known_at t.count stream k) t.count)
+      ≡ is_in_file t.count stream k
   ends_inside k =
       let ends = nat_le (known_at t.count stream k) t.count in
-      elim (cases_Bool (inside k)) [
+      elim (cases_Bool (is_in_file t.count stream k)) [
         | inl there ↦
             let known = traffic_known_is t traffic m is.tuned.alone k in
             let room = traffic_file_to t traffic m is.tuned.alone k there in
-            and_from (inside k) ends there
+            and_from (is_in_file t.count stream k) ends there
             (le-leb (known_at t.count stream k) t.count (omega (arith, known, room)))
             ∙ sym there
         | inr gone ↦ ap (λ (b : Bool). b && ends) gone ∙ sym gone
@@ -56,14 +55,15 @@ module _ (width : Width) (plan : CellPlan) (p : TrafficPlan) (t : Tuning) (traff
 
   -- so those that are received are those in the file
   in_file : soft_frames t (traffic_channel traffic) m samples
-      ≡ map soft (filter inside (places (frames_bound t.count)))
+      ≡ map soft (filter (is_in_file t.count stream) (places (frames_bound t.count)))
   unfolding frames_within
   in_file =
       let count : length samples ≡ t.count = length-made plan ∙ sym is.tuned.count in
       ap (λ (n : ℕ). map soft (known_by t.count stream n (frames_bound n))) count
       ∙ ap (map soft)
-      (filter_ext_places (λ k. inside k && nat_le (known_at t.count stream k) t.count) inside
-      (frames_bound t.count) (λ k below. ends_inside k))
+      (filter_ext_places
+      (λ k. is_in_file t.count stream k && nat_le (known_at t.count stream k) t.count)
+      (is_in_file t.count stream) (frames_bound t.count) (λ k below. ends_inside k))
 
   -- by the channel's numbers
   pub each_received : soft_frames t (traffic_channel traffic) m samples
@@ -72,8 +72,8 @@ module _ (width : Width) (plan : CellPlan) (p : TrafficPlan) (t : Tuning) (traff
   each_received =
       let behind : ℕ → SoftFrame = λ frame. soft (frame - 4 * superframes) in
       in_file
-      ∙ one_each soft (filter inside (places (frames_bound t.count)))
-      ∙ flat_map_ext_filter_places inside (λ k. soft k ∷ [])
+      ∙ one_each soft (filter (is_in_file t.count stream) (places (frames_bound t.count)))
+      ∙ flat_map_ext_filter_places (is_in_file t.count stream) (λ k. soft k ∷ [])
       (λ k. behind (4 * superframes + k) ∷ []) (frames_bound t.count)
       (λ k below there.
       let same : k ≡ 4 * superframes + k - 4 * superframes = omega arith in
@@ -83,7 +83,7 @@ module _ (width : Width) (plan : CellPlan) (p : TrafficPlan) (t : Tuning) (traff
       ∙ sym (one_each behind (received_frames plan p (plan.link.start + m.sample)))
 
   -- what is received of one
-  received_at : (k : ℕ) (symbols commands : List Bool) → inside k ≡ true →
+  received_at : (k : ℕ) (symbols commands : List Bool) → is_in_file t.count stream k ≡ true →
       SendsSymbols plan p (4 * superframes + k) symbols commands →
       IsReceivedAs plan p (4 * superframes + k) symbols commands (soft k)
   received_at k symbols commands there sent =
@@ -112,19 +112,10 @@ module _ (width : Width) (plan : CellPlan) (p : TrafficPlan) (t : Tuning) (traff
       IsReceivedAs plan p frame symbols commands (soft (frame - 4 * superframes))
   received_as frame symbols commands received sent =
       let k : ℕ = frame - 4 * superframes in
-      elim (cases_lt frame (4 * superframes)) [
-        | inl less ↦
-            let before = early width plan p t traffic m superframes is latest frame less in
-            absurd (cc)
-        | inr most ↦
-            let here : 4 * superframes + k ≡ frame = omega (arith, most) in
-            let there : inside k ≡ true =
-            sym (received_is width plan p t traffic m superframes is latest k)
-            ∙ ap (is_received plan p (plan.link.start + m.sample)) here ∙ received in
-            subst (λ (n : ℕ). IsReceivedAs plan p n symbols commands (soft k)) here
-            (received_at k symbols commands there
-            (subst (λ (n : ℕ). SendsSymbols plan p n symbols commands) (sym here) sent))
-      ]
+      let (here, there) = inside_at width plan p t traffic m superframes is latest frame received in
+      subst (λ (n : ℕ). IsReceivedAs plan p n symbols commands (soft k)) here
+      (received_at k symbols commands there
+      (subst (λ (n : ℕ). SendsSymbols plan p n symbols commands) (sym here) sent))
 
 -- ---- frames of rate set 2
 

@@ -27,40 +27,51 @@ ended_zeros bits long ends =
     ∙ ap (drop (length bits - 8)) (drop_at zeros bits 8 refl)
     ∙ ends)
 
+-- so that of an allowed one
+closed : (n : ℕ) (v : Word) → 8 ≤ n → IsAllowed Zero n v →
+    list_any (λ bit. bit) (state_after (replicate 8 false) v.bits) ≡ false
+closed n v enough allowed =
+    let long = allowed.bits_long in
+    ended_zeros v.bits (omega (arith, long, enough)) allowed.closes
+
+-- Of the rates of a set: where only a frame's own word gives what it shows, no other allowed word
+-- does.
+one_word : {R : Type 0} (shown : R → ℕ → List Bool) (size : R → ℕ) (rate r : R) (bits : List Bool)
+    (v own : Word) → (r ≡ rate) ⊎ (r ≢ rate) → 8 ≤ size r → IsAllowed Zero (size r) v →
+    AreGiving (shown r) 0 (replicate 8 false) v.bits →
+    words_giving (shown rate) (size rate) 0 (replicate 8 false) ≡ bits ∷ [] →
+    ((q : R) → q ≢ rate → words_giving (shown q) (size q) 0 (replicate 8 false) ≡ []) →
+    (bits ≡ v.bits → v ≡ own) → (r ≡ rate) × (v ≡ own)
+one_word {R} shown size rate r bits v own (inl same) enough allowed giving alone others is =
+    let here = subst (λ (q : R). words_giving (shown q) (size q) 0 (replicate 8 false) ≡ bits ∷ [])
+    (sym same) alone in (
+      same,
+      is (given_one (shown r) (size r) 0 (replicate 8 false) v.bits bits refl allowed.bits_long
+          (closed (size r) v enough allowed) giving here),
+    )
+one_word shown size rate r bits v own (inr other) enough allowed giving alone others is =
+    absurd (given_none (shown r) (size r) 0 (replicate 8 false) v.bits refl allowed.bits_long
+    (closed (size r) v enough allowed) giving (others r other))
+
 -- ---- rate set 1
 
 -- the repeated symbols of a code symbol
 copies_of : (rate : Rate) (c k : ℕ) → c < 2 * frame_bits rate → repeats_of rate * c ≤ k →
     k < repeats_of rate * c + repeats_of rate → (k < 384) × (k / repeats_of rate ≡ c)
 copies_of R9600 c k low least most = (omega (arith, low, least, most), omega (arith, least, most))
-copies_of R4800 c k low least most = (omega (arith, low, least, most), omega (arith, least, most))
-copies_of R2400 c k low least most = (omega (arith, low, least, most), omega (arith, least, most))
-copies_of R1200 c k low least most = (omega (arith, low, least, most), omega (arith, least, most))
+copies_of rate c k low least most = (omega (arith, low, least, most), omega (arith, least, most))
 
 enough_bits : (rate : Rate) → 8 ≤ frame_bits rate
 enough_bits R9600 = omega arith
-enough_bits R4800 = omega arith
-enough_bits R2400 = omega arith
-enough_bits R1200 = omega arith
+enough_bits rate = omega arith
 
 -- whether two rates are one
 same_rate : (r s : Rate) → (r ≡ s) ⊎ (r ≢ s)
 same_rate R9600 R9600 = inl refl
-same_rate R9600 R4800 = inr (λ e. cc)
-same_rate R9600 R2400 = inr (λ e. cc)
-same_rate R9600 R1200 = inr (λ e. cc)
-same_rate R4800 R9600 = inr (λ e. cc)
 same_rate R4800 R4800 = inl refl
-same_rate R4800 R2400 = inr (λ e. cc)
-same_rate R4800 R1200 = inr (λ e. cc)
-same_rate R2400 R9600 = inr (λ e. cc)
-same_rate R2400 R4800 = inr (λ e. cc)
 same_rate R2400 R2400 = inl refl
-same_rate R2400 R1200 = inr (λ e. cc)
-same_rate R1200 R9600 = inr (λ e. cc)
-same_rate R1200 R4800 = inr (λ e. cc)
-same_rate R1200 R2400 = inr (λ e. cc)
 same_rate R1200 R1200 = inl refl
+same_rate r s = inr (λ e. cc)
 
 -- an allowed word that agrees with a frame elsewhere gives what the frame shows
 giving_word : (replaced : List ℕ) (rate r : Rate) (information : List Bool) (v : Word) →
@@ -80,31 +91,15 @@ giving_word replaced rate r information v allowed agree =
     (λ k low kept. kept_agree replaced xs (code_symbols (replicate 8 false) v.bits)
     (repeats_of rate) (repeats_of r) k low kept from_zeros)
 
-closed : (n : ℕ) (v : Word) → 8 ≤ n → IsAllowed Zero n v →
-    list_any (λ bit. bit) (state_after (replicate 8 false) v.bits) ≡ false
-closed n v enough allowed =
-    let long = allowed.bits_long in
-    ended_zeros v.bits (omega (arith, long, enough)) allowed.closes
-
 pub distinct_by_sharing : AreDistinctBySharing
 distinct_by_sharing replaced rate information none r v allowed agree =
-    let giving = giving_word replaced rate r information v allowed agree in
-    let ends = closed (frame_bits r) v (enough_bits r) allowed in
-    let shown : Rate → ℕ → List Bool = λ q. shown_of (is_kept (lost_symbols replaced))
+    one_word
+    (λ (q : Rate). shown_of (is_kept (lost_symbols replaced))
     (code_symbols (replicate 8 false) (traffic_word rate information)) (repeats_of rate)
-    (repeats_of q) in
-    ⊎_elim
-    (λ (same : r ≡ rate).
-    let own = subst
-    (λ (q : Rate). words_giving (shown q) (frame_bits q) 0 (replicate 8 false)
-    ≡ traffic_word rate information ∷ []) (sym same) none.own in
-    let bits = given_one (shown r) (frame_bits r) 0 (replicate 8 false) v.bits
-    (traffic_word rate information) refl allowed.bits_long ends giving own in
-    (same, words_same v (frame_word rate information) allowed.begins (sym bits)))
-    (λ (other : r ≢ rate).
-    absurd (given_none (shown r) (frame_bits r) 0 (replicate 8 false) v.bits refl
-    allowed.bits_long ends giving (none.others r other)))
-    (same_rate r rate)
+    (repeats_of q)) frame_bits rate r (traffic_word rate information) v
+    (frame_word rate information) (same_rate r rate) (enough_bits r) allowed
+    (giving_word replaced rate r information v allowed agree) none.own none.others
+    (λ same. words_same v (frame_word rate information) allowed.begins (sym same))
 
 -- ---- rate set 2
 
@@ -112,33 +107,18 @@ copies_of2 : (rate : Rate2) (c k : ℕ) → c < 2 * rates_two.frame_bits rate �
     rates_two.repeats_of rate * c ≤ k → k < rates_two.repeats_of rate * c + rates_two.repeats_of rate →
     (k < 576) × (k / rates_two.repeats_of rate ≡ c)
 copies_of2 R14400 c k low least most = (omega (arith, low, least, most), omega (arith, least, most))
-copies_of2 R7200 c k low least most = (omega (arith, low, least, most), omega (arith, least, most))
-copies_of2 R3600 c k low least most = (omega (arith, low, least, most), omega (arith, least, most))
-copies_of2 R1800 c k low least most = (omega (arith, low, least, most), omega (arith, least, most))
+copies_of2 rate c k low least most = (omega (arith, low, least, most), omega (arith, least, most))
 
 enough_bits2 : (rate : Rate2) → 8 ≤ rates_two.frame_bits rate
 enough_bits2 R14400 = omega arith
-enough_bits2 R7200 = omega arith
-enough_bits2 R3600 = omega arith
-enough_bits2 R1800 = omega arith
+enough_bits2 rate = omega arith
 
 same_rate2 : (r s : Rate2) → (r ≡ s) ⊎ (r ≢ s)
 same_rate2 R14400 R14400 = inl refl
-same_rate2 R14400 R7200 = inr (λ e. cc)
-same_rate2 R14400 R3600 = inr (λ e. cc)
-same_rate2 R14400 R1800 = inr (λ e. cc)
-same_rate2 R7200 R14400 = inr (λ e. cc)
 same_rate2 R7200 R7200 = inl refl
-same_rate2 R7200 R3600 = inr (λ e. cc)
-same_rate2 R7200 R1800 = inr (λ e. cc)
-same_rate2 R3600 R14400 = inr (λ e. cc)
-same_rate2 R3600 R7200 = inr (λ e. cc)
 same_rate2 R3600 R3600 = inl refl
-same_rate2 R3600 R1800 = inr (λ e. cc)
-same_rate2 R1800 R14400 = inr (λ e. cc)
-same_rate2 R1800 R7200 = inr (λ e. cc)
-same_rate2 R1800 R3600 = inr (λ e. cc)
 same_rate2 R1800 R1800 = inl refl
+same_rate2 r s = inr (λ e. cc)
 
 -- a replaced place loses its repeated symbol
 replaced_lost2 : (replaced : List ℕ) (i : ℕ) → is_replaced replaced i ≡ true →
@@ -199,20 +179,10 @@ giving_word2 replaced rate r information v allowed agree =
 
 pub distinct_by_sharing2 : AreDistinctBySharing2
 distinct_by_sharing2 replaced rate information none r v allowed agree =
-    let giving = giving_word2 replaced rate r information v allowed agree in
-    let ends = closed (rates_two.frame_bits r) v (enough_bits2 r) allowed in
-    let shown : Rate2 → ℕ → List Bool = λ q. shown_of (is_known2 (lost_symbols2 replaced))
+    one_word
+    (λ (q : Rate2). shown_of (is_known2 (lost_symbols2 replaced))
     (code_symbols (replicate 8 false) (word_bits rate information)) (rates_two.repeats_of rate)
-    (rates_two.repeats_of q) in
-    ⊎_elim
-    (λ (same : r ≡ rate).
-    let own = subst
-    (λ (q : Rate2). words_giving (shown q) (rates_two.frame_bits q) 0 (replicate 8 false)
-    ≡ word_bits rate information ∷ []) (sym same) none.own in
-    let bits = given_one (shown r) (rates_two.frame_bits r) 0 (replicate 8 false) v.bits
-    (word_bits rate information) refl allowed.bits_long ends giving own in
-    (same, words_same v (frames_two.frame_word rate information) allowed.begins (sym bits)))
-    (λ (other : r ≢ rate).
-    absurd (given_none (shown r) (rates_two.frame_bits r) 0 (replicate 8 false) v.bits refl
-    allowed.bits_long ends giving (none.others r other)))
-    (same_rate2 r rate)
+    (rates_two.repeats_of q)) rates_two.frame_bits rate r (word_bits rate information) v
+    (frames_two.frame_word rate information) (same_rate2 r rate) (enough_bits2 r) allowed
+    (giving_word2 replaced rate r information v allowed agree) none.own none.others
+    (λ same. words_same v (frames_two.frame_word rate information) allowed.begins (sym same))

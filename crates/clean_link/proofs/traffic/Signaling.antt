@@ -33,14 +33,11 @@ module _ (width : Width) (plan : CellPlan) (p : TrafficPlan) (t : Tuning) (traff
   abbrev stream : Stream
   stream = one_stream t traffic m
 
-  abbrev inside : ℕ → Bool
-  inside = is_in_file t.count stream
-
   abbrev mark_chip : ℕ
   mark_chip = plan.link.start + m.sample
 
   -- the signaling of a frame is what was sent in it
-  signal_is : (k : ℕ) (f : TrafficFrame) → inside k ≡ true →
+  signal_is : (k : ℕ) (f : TrafficFrame) → is_in_file t.count stream k ≡ true →
       cycled_frame (frames_of plan p) (4 * superframes + k) ≡ f ∷ [] →
       signal_at t traffic m legs samples k ≡ signal_sent f
   unfolding signal_at
@@ -51,7 +48,7 @@ module _ (width : Width) (plan : CellPlan) (p : TrafficPlan) (t : Tuning) (traff
       heard_there width plan p t traffic m superframes is latest legs one k f there frame in
       ap signal_of (frame_back width plan p t traffic m legs superframes k f is heard apart)
 
-  signals_is : (k : ℕ) → inside k ≡ true →
+  signals_is : (k : ℕ) → is_in_file t.count stream k ≡ true →
       option_to_list (signal_at t traffic m legs samples k)
       ≡ signals_in plan p (4 * superframes + k)
   signals_is k there =
@@ -68,17 +65,17 @@ module _ (width : Width) (plan : CellPlan) (p : TrafficPlan) (t : Tuning) (traff
   unfolding signals_before
   before_is k =
       ap (flat_map (λ j. option_to_list (signal_at t traffic m legs samples j)))
-      (filter_ext_places (has_frame t traffic m legs) inside k
+      (filter_ext_places (has_frame t traffic m legs) (is_in_file t.count stream) k
       (λ j below.
       ap (λ (s : Stream). is_in_file t.count s j) (one_stream_is t traffic m legs j (one j))))
-      ∙ flat_map_ext_filter_places inside
+      ∙ flat_map_ext_filter_places (is_in_file t.count stream)
       (λ j. option_to_list (signal_at t traffic m legs samples j)) (λ j. signals_in plan p (4 * superframes + j)) k
       (λ j below there. signals_is j there)
       ∙ sym
       (by_marks_numbers width plan p t traffic m superframes is latest (signals_in plan p) k)
 
   -- so a message is told as the sent frames spell it
-  message_is : (k : ℕ) → inside k ≡ true →
+  message_is : (k : ℕ) → is_in_file t.count stream k ≡ true →
       message_heard t traffic m legs samples (known_at t.count stream k) k
       ≡ message_told plan p mark_chip (4 * superframes + k)
   unfolding message_at
@@ -123,7 +120,7 @@ module _ (width : Width) (plan : CellPlan) (p : TrafficPlan) (t : Tuning) (traff
       (λ n below. messages_each n)
       ∙ given_in_order stream (traffic_timed t traffic m is.tuned.alone) frames_bound
       (bound_enough t traffic m) heard
-      ∙ flat_map_ext_filter_places inside (λ k. heard (known_at t.count stream k) k)
+      ∙ flat_map_ext_filter_places (is_in_file t.count stream) (λ k. heard (known_at t.count stream k) k)
       (λ k. message_told plan p mark_chip (4 * superframes + k)) (frames_bound t.count)
       (λ k below there. message_is k there)
       ∙ sym

@@ -98,8 +98,7 @@ module _ (m : Mark) (row : ℕ) where
       (thresholds_steady s st (system_thresholds f)) st
   page_steady pn (pages.Neighbors f) s st =
       either_steady (f.pn == pn) (with_neighbors f.pns s) s (neighbors_steady s st f.pns) st
-  page_steady pn (pages.Channels f) s st = st
-  page_steady pn (pages.Other f) s st = st
+  page_steady pn message s st = st
 
   body_steady : (first : ℕ) (body : TrafficBody) (s : Standing) → IsNoDirection body →
       IsSteady m row s → IsSteady m row (body_noted first body s)
@@ -111,14 +110,11 @@ module _ (m : Mark) (row : ℕ) where
 
   event_steady : (pn first : ℕ) (event : Event) (s : Standing) → IsNotDirected event →
       IsSteady m row s → IsSteady m row (noted_with pn first event s)
-  event_steady pn first (kinds.Pilot phase energy) s none st = st
-  event_steady pn first (kinds.Sync n capsule message) s none st = st
   event_steady pn first (kinds.Paging n capsule message) s none st =
       page_steady pn message s st
-  event_steady pn first (kinds.Frame n rate good bits commands) s none st = st
   event_steady pn first (kinds.Traffic n capsule message) s none st =
       body_steady first message.body s none st
-  event_steady pn first (kinds.Sets n time active candidate report) s none st = st
+  event_steady pn first event s none st = st
 
   all_steady : (es : List Event) (s : Standing) → All IsNotDirected es → IsSteady m row s →
       IsSteady m row (all_noted m es s)

@@ -3,11 +3,9 @@ use Rattle.clean_link.proofs.pages.Back.{pages_back}
 use Rattle.clean_link.proofs.pages.Whole.{whole_pages_back}
 use Rattle.clean_link.proofs.laws.whole_pages_come_back.Goals as goal
 
-pub returns-clause-frames : goal.returns-clause-frames
-returns-clause-frames c = page_sendings_back
-
-pub returns-clause-file : goal.returns-clause-file
-returns-clause-file c = whole_pages_back
-
-pub returns-clause-heard : goal.returns-clause-heard
-returns-clause-heard c = pages_back
+pub returns : goal.returns
+returns c = record {
+  frames = page_sendings_back;
+  file = whole_pages_back;
+  heard = pages_back;
+}

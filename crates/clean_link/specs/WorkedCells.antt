@@ -1,0 +1,32 @@
+-- Cells of which values are worked out.
+use Rattle.std.specs.Prelude.{ℕ, ◌^◌, pos, negsuc, List, [], ◌∷◌, Option, None}
+use Rattle.chip_core.specs.declared.check_form.CheckForm.{CheckForm}
+use Rattle.chip_core.specs.declared.check_form.CheckForm.TheVariants.{Plain}
+use Rattle.cell_plan.specs.declared.frame_list.FrameList.TheVariants.{SetOne}
+use Rattle.cell_plan.specs.declared.plan.CellPlan.{CellPlan}
+use Rattle.cell_plan.specs.declared.plan.PagingPlan.{PagingPlan}
+use Rattle.cell_plan.specs.declared.plan.SyncPlan.{SyncPlan}
+use Rattle.cell_plan.specs.declared.plan.TrafficPlan.{TrafficPlan}
+use Rattle.cell_plan.specs.declared.traffic_frame.TrafficFrame.{TrafficFrame}
+
+-- so much of a cell, from a local chip on, with these channels, and this form of checks of 16 bits
+abbrev pub cell_with : ℕ → ℕ → CheckForm → Option SyncPlan → List PagingPlan → List TrafficPlan →
+    CellPlan
+cell_with start samples check16 sync paging traffic = record {
+  cell = record { pn = 511; time = 1000; lc = 2 ^ 41; check30 = Plain; check16 = check16 };
+  link = record { factor = record { i = pos 0; q = negsuc 2 }; start = start; samples = samples };
+  pilot = record { gain = 100 };
+  sync = sync;
+  paging = paging;
+  traffic = traffic;
+}
+
+-- one with a traffic channel alone, on row 9, 3,072 chips behind the system's frames
+abbrev pub cell_of_frames : ℕ → ℕ → CheckForm → List TrafficFrame → CellPlan
+cell_of_frames start samples check16 frames = cell_with start samples check16 None [] (record {
+  row = 9;
+  esn = 2882343476;
+  offset = 2;
+  gain = 40;
+  frames = SetOne frames;
+} ∷ [])
