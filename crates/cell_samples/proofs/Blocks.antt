@@ -1,22 +1,14 @@
 -- The sums of channels over the 64 chips of a block, which the rows' transform gives.
-use Rattle.std.proofs.Common.{◌≡◌, ℕ, zero, suc, ◌+◌, ◌*◌, ◌%◌, ◌^◌, ◌<◌, ◌≤◌, List, [], ◌∷◌}
-use Rattle.std.proofs.Common.{length, get_or, map, drop, replicate, refl, sym, ap, ◌∙◌, arith, ℤ}
-use Rattle.std.proofs.Common.{pos, ◌+ℤ◌, ◌*ℤ◌, unsigned_abs, Bool, true, false, cond}
-use Rattle.std.proofs.lemmas.Int.{ints}
-use Rattle.std.proofs.lemmas.List as lists
-use Rattle.std.proofs.lemmas.List.Elements.{All-get_or, All-set, All-replicate}
-use Rattle.std.proofs.Math.ListN.{set, get_or-map}
+use Rattle.cell_samples.proofs.Common.{◌≡◌, ℕ, zero, suc, ◌+◌, ◌*◌, ◌%◌, ◌^◌, ◌<◌, ◌≤◌, List, [], ◌∷◌, length, get_or, map, drop, replicate}
+use Rattle.cell_samples.proofs.Common.{refl, sym, ap, ◌∙◌, arith, ℤ, pos, ◌+ℤ◌, ◌*ℤ◌, unsigned_abs, Bool, true, false, cond, ints}
+use Rattle.cell_samples.proofs.Common.{All-get_or, All-set, All-replicate, get_or-map, sign, common_parity, xor, binary, origin, plus, Pair}
+use Rattle.cell_samples.proofs.Common.{plus_assoc, plus-origin, origin-plus, walsh, walsh_sum_from, in_phase, quadrature, IsWithin}
+use Rattle.cell_samples.proofs.Common.{transform, get_or-transform, scaled_none, scaled_sum, times_moved, more_most, product_most, Carrier}
+use Rattle.cell_samples.proofs.Common.{amplitude, amplitudes, level, scaled}
+use Rattle.std.proofs.Math.ListN.{set}
 use Rattle.std.specs.List.{All}
-use Rattle.chip_core.specs.Bits.{sign, common_parity, xor, binary}
-use Rattle.chip_core.specs.Complex.{origin, plus}
-use Rattle.chip_core.specs.declared.sample.Pair.{Pair}
-use Rattle.chip_core.proofs.ComplexSums.{plus_assoc, plus-origin, origin-plus}
+use Rattle.std.proofs.lemmas.List as lists
 use Rattle.chip_core.proofs.Ring as ring
-use Rattle.walsh.specs.Walsh.{walsh, walsh_sum_from, in_phase, quadrature, IsWithin, transform}
-use Rattle.walsh.proofs.Carried.{get_or-transform}
-use Rattle.cell_plan.proofs.Amplitudes.{scaled_none, scaled_sum, times_moved}
-use Rattle.cell_plan.proofs.MachineInts.{more_most, product_most}
-use Rattle.cell_plan.specs.Signal.{Carrier, amplitude, amplitudes, level, scaled}
 
 -- ---- a row's chip is that of the other row
 

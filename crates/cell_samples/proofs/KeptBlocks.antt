@@ -1,25 +1,12 @@
 -- The levels of channels that are kept for a block, and the chips that were made of them.
-use Rattle.std.proofs.Common.{◌≡◌, ℕ, suc, ◌+◌, ◌-◌, ◌%◌, ◌<◌, ◌≤◌, List, [], ◌∷◌, length, get_or}
-use Rattle.std.proofs.Common.{set, replicate, take, drop, refl, sym, ap, ◌∙◌, arith, ℤ, pos}
-use Rattle.std.proofs.Common.{◌+ℤ◌, ◌*ℤ◌, unsigned_abs, Bool, true, ◌&&◌, map, below_more, zero}
-use Rattle.std.proofs.Common.{get_or-set_same, get_or-set_other, get_or-take, get_or-drop, subst}
-use Rattle.std.proofs.Common.{SFits, eqb, eqb-true, of_z, to_z, w64}
+use Rattle.cell_samples.proofs.Common.{◌≡◌, ℕ, suc, ◌+◌, ◌-◌, ◌%◌, ◌<◌, ◌≤◌, List, [], ◌∷◌, length, get_or, set, replicate, take, drop}
+use Rattle.cell_samples.proofs.Common.{refl, sym, ap, ◌∙◌, arith, ℤ, pos, ◌+ℤ◌, ◌*ℤ◌, unsigned_abs, Bool, true, ◌&&◌, map, below_more, zero}
+use Rattle.cell_samples.proofs.Common.{get_or-set_same, get_or-set_other, get_or-take, get_or-drop, subst, SFits, eqb, eqb-true, of_z, to_z}
+use Rattle.cell_samples.proofs.Common.{w64, and_parts, ints, to_z-of_z, get_or-replicate, length-map, set-get_or, All-replicate, All-set}
+use Rattle.cell_samples.proofs.Common.{sign, of_sample, origin, Pair, Sample, IsWithin, walsh, scaled_none, Carrier, amplitudes, level}
+use Rattle.cell_samples.proofs.Common.{scaled, AreChips, AreFirstLevels, AreLevels, AreQuiet, AreSums, AreTurned, IsKeptBlock, IsLevel}
+use Rattle.cell_samples.proofs.Common.{IsQuiet, IsTurned, chip_at, no_sample, ChannelState, carrier_of}
 use Rattle.std.specs.List.{All}
-use Rattle.std.proofs.lemmas.Bool.{and_parts}
-use Rattle.std.proofs.lemmas.Int.{ints, to_z-of_z}
-use Rattle.std.proofs.lemmas.List.{get_or-replicate, length-map, set-get_or}
-use Rattle.std.proofs.lemmas.List.Elements.{All-replicate, All-set}
-use Rattle.chip_core.specs.Bits.{sign}
-use Rattle.chip_core.specs.Complex.{of_sample, origin}
-use Rattle.chip_core.specs.declared.sample.Pair.{Pair}
-use Rattle.chip_core.specs.declared.sample.Sample.{Sample}
-use Rattle.walsh.specs.Walsh.{IsWithin, walsh}
-use Rattle.cell_plan.proofs.Amplitudes.{scaled_none}
-use Rattle.cell_plan.specs.Signal.{Carrier, amplitudes, level, scaled}
-use Rattle.cell_samples.specs.Blocks.{AreChips, AreFirstLevels, AreLevels, AreQuiet, AreSums}
-use Rattle.cell_samples.specs.Blocks.{AreTurned}
-use Rattle.cell_samples.specs.Blocks.{IsKeptBlock, IsLevel, IsQuiet, IsTurned, chip_at, no_sample}
-use Rattle.cell_samples.specs.Channels.{ChannelState, carrier_of}
 
 -- an entry is the same whatever stands for entries behind the end
 any_default : {X : Type 0} (xs : List X) (n : ℕ) (d e : X) → n < length xs →

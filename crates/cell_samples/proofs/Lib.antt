@@ -1,5 +1,5 @@
 pub mod Blocks
+pub mod Common
 pub mod KeptBlocks
-pub mod Levels
 pub mod Running
 pub mod SentFrames

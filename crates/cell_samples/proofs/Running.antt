@@ -1,31 +1,15 @@
 -- A cell that runs: its channels, and the samples that are next.
-use Rattle.std.proofs.Common.{◌≡◌, ℕ, ◌+◌, ◌-◌, ◌*◌, ◌%◌, ◌<◌, ◌≤◌, List, ◌++◌, length, map}
-use Rattle.std.proofs.Common.{get_or, take, drop, sym, ap, ◌∙◌, arith, ℤ, pos, subst, Bool, true, false}
-use Rattle.std.specs.Prelude.{unsigned_abs}
-use Rattle.chip_core.specs.Bits.{sign}
+use Rattle.cell_samples.proofs.Common.{◌≡◌, ℕ, ◌+◌, ◌-◌, ◌*◌, ◌%◌, ◌<◌, ◌≤◌, List, ◌++◌, length, map, get_or, take, drop, sym, ap, ◌∙◌}
+use Rattle.cell_samples.proofs.Common.{arith, ℤ, pos, subst, Bool, true, false, unsigned_abs, sign, length-drop, length-map, map-append}
+use Rattle.cell_samples.proofs.Common.{take_at, drop-drop, All-append, All-drop, All-from_get_or, take-put_mid, take-add, put_mid, times}
+use Rattle.cell_samples.proofs.Common.{of_sample, Pair, Sample, Width, length-pilot_signs, get_or-pilot_signs, code_point, pilot_chip}
+use Rattle.cell_samples.proofs.Common.{chip_signs, pilot_signs, HasBits, CellPlan, loudness, most_part, Carrier, amplitudes, carriers}
+use Rattle.cell_samples.proofs.Common.{sample_of, samples_of, scaled, IsPoint, phase_at, point_of, chip_fits, chip_most, few_channels}
+use Rattle.cell_samples.proofs.Common.{most_part_small, signal_of_carriers, pieces_are, AreQuiet, AreTurned, BlockState, chip_at}
+use Rattle.cell_samples.proofs.Common.{ChannelState, carrier_of}
 use Rattle.std.specs.List.{All}
-use Rattle.std.proofs.lemmas.List.{length-drop, length-map, map-append, take_at, drop-drop, get_or-drop}
-use Rattle.std.proofs.lemmas.List.Elements.{All-append, All-drop, All-from_get_or}
-use Rattle.std.proofs.lemmas.Slice.{take-put_mid}
-use lib.Seq.{take-add}
-use borrow.Rule.Slice.PartMut.{put_mid}
-use Rattle.chip_core.specs.Complex.{times, of_sample}
-use Rattle.chip_core.specs.declared.sample.Pair.{Pair}
-use Rattle.chip_core.specs.declared.sample.Sample.{Sample}
-use Rattle.chip_core.specs.declared.width.Width.{Width}
-use Rattle.short_code.proofs.Signs.{length-pilot_signs, get_or-pilot_signs}
-use Rattle.short_code.specs.Despread.{code_point}
-use Rattle.short_code.specs.ShortCode.{pilot_chip, chip_signs, pilot_signs}
-use Rattle.cdma_io.specs.SampleFile.{HasBits}
-use Rattle.cell_plan.specs.declared.plan.CellPlan.{CellPlan}
-use Rattle.cell_plan.specs.Plan.{loudness, most_part}
-use Rattle.cell_plan.specs.Signal.{Carrier, amplitudes, carriers, sample_of, samples_of, scaled}
-use Rattle.cell_plan.specs.Transmitter.{IsPoint, phase_at, point_of}
-use Rattle.cell_plan.proofs.Amplitudes.{chip_fits, chip_most, few_channels, most_part_small}
-use Rattle.cell_plan.proofs.Amplitudes.{signal_of_carriers}
-use Rattle.cell_plan.proofs.Pieces.{no_sample, pieces_are}
-use Rattle.cell_samples.specs.Blocks.{AreQuiet, AreTurned, BlockState, chip_at}
-use Rattle.cell_samples.specs.Channels.{ChannelState, carrier_of}
+use Rattle.std.proofs.lemmas.List.{get_or-drop}
+use Rattle.cell_plan.proofs.Pieces.{no_sample}
 
 -- a chip of a plan's block
 pub chip_is : (plan : CellPlan) (block : BlockState) (chip : ℕ) →

@@ -1,9 +1,6 @@
-use Rattle.std.proofs.Common.{◌≡◌, ◌<◌, List, length, map, get_or, set, refl, sym, ap, ◌∙◌, arith}
-use Rattle.std.proofs.Common.{rules}
-use Rattle.std.proofs.Math.ListN.{get_or-map}
+use Rattle.cell_samples.proofs.Common.{◌≡◌, ◌<◌, List, length, map, get_or, set, refl, sym, ap, ◌∙◌, arith, rules, get_or-map, read64}
+use Rattle.cell_samples.proofs.Common.{ChannelState, carrier_of}
 use Rattle.std.proofs.lemmas.List as lists
-use Rattle.cell_plan.proofs.MachineInts.{read64}
-use Rattle.cell_samples.specs.Channels.{ChannelState, carrier_of}
 use Rattle.cell_samples.proofs.KeptBlocks as kept
 use Rattle.cell_samples.proofs.block.keep_levels.Goals as goal
 

@@ -1,7 +1,5 @@
-use Rattle.std.proofs.Common.{◌≡◌, length, map, true}
+use Rattle.cell_samples.proofs.Common.{◌≡◌, length, map, true, AreFirstLevels, IsLevel, carrier_of}
 use Rattle.std.specs.List.{All}
-use Rattle.cell_samples.specs.Blocks.{AreFirstLevels, IsLevel}
-use Rattle.cell_samples.specs.Channels.{carrier_of}
 use Rattle.cell_samples.proofs.block.keep_levels.Given as goal
 
 abbrev pub invariant-loop-n : goal.invariant-loop-n

@@ -1,6 +1,4 @@
-use Rattle.std.proofs.Common.{◌≡◌, ◌<◌, ℕ, length, get_or}
-use Rattle.chip_core.specs.Complex.{of_sample, origin}
-use Rattle.cell_samples.specs.Blocks.{no_sample}
+use Rattle.cell_samples.proofs.Common.{◌≡◌, ◌<◌, ℕ, length, get_or, of_sample, origin, no_sample}
 use Rattle.cell_samples.proofs.block.narrow.Given as goal
 
 abbrev pub invariant-loop-k : goal.invariant-loop-k

@@ -1,16 +1,9 @@
-use Rattle.std.proofs.Common.{◌≡◌, ◌≤◌, ◌<◌, ◌*◌, ◌^◌, length, map, get_or, refl, sym}
-use Rattle.std.proofs.Common.{ap, ◌∙◌, ◌+◌, arith, ℤ, pos, to_z, of_z, unsigned_abs}
+use Rattle.cell_samples.proofs.Common.{◌≡◌, ◌≤◌, ◌<◌, ◌*◌, ◌^◌, length, map, get_or, refl, sym, ap, ◌∙◌, ◌+◌, arith, ℤ, pos, to_z, of_z}
+use Rattle.cell_samples.proofs.Common.{unsigned_abs, get_or-map, All-get_or, origin, plus, IsWithin, IsLevel, ChannelState, carrier_of}
+use Rattle.cell_samples.proofs.Common.{level, scaled, read64}
 use Rattle.std.specs.Int.{w64}
-use Rattle.std.proofs.Math.ListN.{get_or-map}
 use Rattle.std.proofs.lemmas.List as lists
-use Rattle.std.proofs.lemmas.List.Elements.{All-get_or}
-use Rattle.chip_core.specs.Complex.{origin, plus}
-use Rattle.walsh.specs.Walsh.{IsWithin}
-use Rattle.cell_samples.specs.Blocks.{IsLevel}
-use Rattle.cell_samples.specs.Channels.{ChannelState, carrier_of}
-use Rattle.cell_plan.specs.Signal.{level, scaled}
 use Rattle.cell_samples.proofs.Blocks as blocks
-use Rattle.cell_plan.proofs.MachineInts.{read64}
 use Rattle.cell_samples.proofs.block.sums_of.Goals as goal
 
 pub loop-n-init : goal.loop-n-init

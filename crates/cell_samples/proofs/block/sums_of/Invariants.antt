@@ -1,8 +1,5 @@
-use Rattle.std.proofs.Common.{◌≡◌, ◌*◌, ◌%◌, ◌^◌, ℕ, length, map}
+use Rattle.cell_samples.proofs.Common.{◌≡◌, ◌*◌, ◌%◌, ◌^◌, ℕ, length, map, IsWithin, AreLevels, carrier_of}
 use Rattle.std.specs.List.{All}
-use Rattle.walsh.specs.Walsh.{IsWithin}
-use Rattle.cell_samples.specs.Blocks.{AreLevels}
-use Rattle.cell_samples.specs.Channels.{carrier_of}
 use Rattle.cell_samples.proofs.Blocks.{IsSummed}
 use Rattle.cell_samples.proofs.block.sums_of.Given as goal
 

@@ -1,7 +1,4 @@
-use Rattle.std.proofs.Common.{◌<◌, length, get_or, pos, ◌∙◌, arith}
-use Rattle.std.proofs.lemmas.List.{length-set}
-use Rattle.chip_core.specs.Complex.{of_sample}
-use Rattle.cell_samples.specs.Blocks.{IsTurned, no_sample}
+use Rattle.cell_samples.proofs.Common.{◌<◌, length, get_or, pos, ◌∙◌, arith, length-set, of_sample, IsTurned, no_sample}
 use Rattle.cell_samples.proofs.KeptBlocks.{one_turned, turned_at}
 use Rattle.cell_samples.proofs.block.turn.Goals as goal
 

@@ -1,6 +1,4 @@
-use Rattle.std.proofs.Common.{◌≡◌, length, get_or}
-use Rattle.chip_core.specs.Complex.{of_sample}
-use Rattle.cell_samples.specs.Blocks.{AreTurned, no_sample}
+use Rattle.cell_samples.proofs.Common.{◌≡◌, length, get_or, of_sample, AreTurned, no_sample}
 use Rattle.cell_samples.proofs.block.turn.Given as goal
 
 abbrev pub invariant-loop-k : goal.invariant-loop-k

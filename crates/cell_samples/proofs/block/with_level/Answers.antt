@@ -1,5 +1,4 @@
-use Rattle.std.proofs.Common.{refl}
-use Rattle.cell_plan.proofs.MachineInts.{level_added}
+use Rattle.cell_samples.proofs.Common.{refl, level_added}
 use Rattle.cell_samples.proofs.block.with_level.Goals as goal
 
 pub returns : goal.returns

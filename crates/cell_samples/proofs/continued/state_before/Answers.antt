@@ -1,7 +1,4 @@
-use Rattle.std.proofs.Common.{◌≡◌, ◌+◌, ◌-◌, ap, sym, ◌∙◌, arith}
-use Rattle.cell_samples.specs.Continued.{frame_bits_of}
-use Rattle.cell_plan.specs.Sendings.{bits_before}
-use Rattle.cell_plan.proofs.SentBits.{before-first, last_before}
+use Rattle.cell_samples.proofs.Common.{◌≡◌, ◌+◌, ◌-◌, ap, sym, ◌∙◌, arith, frame_bits_of, bits_before, before-first, last_before}
 use Rattle.cell_samples.proofs.SentFrames.{eight_bits}
 use Rattle.cell_samples.proofs.continued.state_before.Goals as goal
 

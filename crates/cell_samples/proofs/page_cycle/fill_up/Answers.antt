@@ -1,5 +1,4 @@
-use Rattle.std.proofs.Common.{◌≡◌, ℕ, ◌++◌, false, replicate, ap, ◌∙◌, arith}
-use Rattle.paging_message.specs.Laying.{fill}
+use Rattle.cell_samples.proofs.Common.{◌≡◌, ℕ, ◌++◌, false, replicate, ap, ◌∙◌, arith, fill}
 use Rattle.cell_samples.proofs.page_cycle.fill_up.Goals as goal
 
 pub returns : goal.returns

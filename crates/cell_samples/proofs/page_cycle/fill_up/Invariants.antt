@@ -1,4 +1,4 @@
-use Rattle.std.proofs.Common.{◌≡◌, ◌++◌, replicate, false, length, ◌+◌}
+use Rattle.cell_samples.proofs.Common.{◌≡◌, ◌++◌, replicate, false, length, ◌+◌}
 use Rattle.cell_samples.proofs.page_cycle.fill_up.Given as goal
 
 abbrev pub invariant-loop-zero : goal.invariant-loop-zero

@@ -1,7 +1,4 @@
-use Rattle.std.proofs.Common.{◌≡◌, length, ap, arith, get_or, ◌∙◌}
-use Rattle.quality_bits.specs.declared.kind.Kind.TheVariants.{M30}
-use Rattle.quality_bits.proofs.Wholes.{length-capsule}
-use Rattle.paging_message.specs.HalfFrames.{half_frame_body}
+use Rattle.cell_samples.proofs.Common.{◌≡◌, length, ap, arith, get_or, ◌∙◌, M30, length-capsule, half_frame_body}
 use Rattle.cell_plan.proofs.LaidPages as pages
 use Rattle.cell_samples.proofs.page_cycle.laid.Goals as goal
 

@@ -1,5 +1,4 @@
-use Rattle.paging_message.specs.HalfFrames.{half_frame_body}
-use Rattle.cell_plan.proofs.LaidPages.{IsLaying}
+use Rattle.cell_samples.proofs.Common.{half_frame_body, IsLaying}
 use Rattle.cell_samples.proofs.page_cycle.laid.Given as goal
 
 abbrev pub invariant-loop-page : goal.invariant-loop-page

@@ -1,6 +1,4 @@
-use Rattle.std.proofs.Common.{◌≡◌, ◌++◌, map, take}
-use Rattle.cell_samples.specs.Channels.{carrier_of}
-use Rattle.cell_plan.specs.Signal.{traffic_carrier}
+use Rattle.cell_samples.proofs.Common.{◌≡◌, ◌++◌, map, take, carrier_of, traffic_carrier}
 use Rattle.cell_samples.proofs.samples.with_traffic.Given as goal
 
 abbrev pub invariant-loop-channel : goal.invariant-loop-channel

@@ -1,7 +1,5 @@
-use Rattle.std.proofs.Common.{◌≡◌, ◌+◌, ◌*◌, ◌<◌, ◌^◌, ℕ, ap, ◌∙◌}
-use Rattle.long_code.specs.LongCode.{after}
-use Rattle.cell_plan.specs.Sendings.{message_of, told_superframes}
-use Rattle.cell_plan.proofs.SentMessages.{refilled, refilled_is, told_early}
+use Rattle.cell_samples.proofs.Common.{◌≡◌, ◌+◌, ◌*◌, ◌<◌, ◌^◌, ℕ, ap, ◌∙◌, after, message_of, told_superframes, refilled, refilled_is}
+use Rattle.cell_samples.proofs.Common.{told_early}
 use Rattle.cell_samples.proofs.sendings.message_for.Goals as goal
 
 pub returns-clause-value : goal.returns-clause-value

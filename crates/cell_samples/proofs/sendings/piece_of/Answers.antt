@@ -1,5 +1,4 @@
-use Rattle.std.proofs.Common.{◌==◌, ◌∷◌, [], length, ap, ◌∙◌, arith, length-append}
-use Rattle.cell_plan.proofs.SentMessages.{piece_more}
+use Rattle.cell_samples.proofs.Common.{◌==◌, ◌∷◌, [], length, ap, ◌∙◌, arith, length-append, piece_more}
 use Rattle.cell_samples.proofs.sendings.piece_of.Goals as goal
 
 pub loop-k-preserved : goal.loop-k-preserved

@@ -1,5 +1,4 @@
-use Rattle.std.proofs.Common.{◌≡◌, ◌+◌, ◌*◌, ◌==◌, ◌∷◌, length, take, drop}
-use Rattle.cell_plan.proofs.SentMessages.{padded}
+use Rattle.cell_samples.proofs.Common.{◌≡◌, ◌+◌, ◌*◌, ◌==◌, ◌∷◌, length, take, drop, padded}
 use Rattle.cell_samples.proofs.sendings.piece_of.Given as goal
 
 abbrev pub invariant-loop-k : goal.invariant-loop-k

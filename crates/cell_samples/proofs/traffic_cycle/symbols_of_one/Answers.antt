@@ -1,5 +1,4 @@
-use Rattle.cell_plan.specs.TrafficFrames.{traffic_symbols}
-use Rattle.cell_plan.proofs.TrafficFrames.{made_of}
+use Rattle.cell_samples.proofs.Common.{traffic_symbols, made_of}
 use Rattle.cell_samples.proofs.traffic_cycle.symbols_of_one.Goals as goal
 
 pub returns-clause-value : goal.returns-clause-value

@@ -1,9 +1,8 @@
-use Rattle.std.proofs.Common.{◌+◌, ◌-◌, ◌%◌, List, length, map, sym, ap, ◌∙◌}
-use Rattle.std.proofs.Common.{arith, refl, subst}
-use Rattle.cell_samples.specs.Blocks.{AreChips, AreLevels, BlockState, IsQuiet, chip_at}
-use Rattle.cell_samples.specs.Channels.{ChannelState, carrier_of}
+use Rattle.cell_samples.proofs.Common.{◌+◌, ◌-◌, ◌%◌, List, length, map, sym, ap, ◌∙◌, arith, refl, subst, AreChips, AreLevels, BlockState}
+use Rattle.cell_samples.proofs.Common.{IsQuiet, chip_at, ChannelState, carrier_of}
 use Rattle.cell_samples.proofs.KeptBlocks.{block_after, chip_kept, turned_at}
 use Rattle.cell_samples.proofs.Running.{written_back}
+use Rattle.cell_samples.proofs.block.Block.spread.Goals.{After-renew}
 use Rattle.cell_samples.proofs.block.Block.spread.Goals as goal
 
 pub renew-requires-clause-few : goal.renew-requires-clause-few
@@ -15,21 +14,25 @@ renew-requires-clause-quiet c = rw c.deref_mut.ensures.value c.self.invariant.qu
 pub renew-requires-clause-sums : goal.renew-requires-clause-sums
 renew-requires-clause-sums c = rw c.deref_mut.ensures.value c.self.invariant.sums
 
+-- the levels and the chips are those of the channels
+renewed : (c : After-renew) → let channels = map carrier_of c.self.inside.channels.items in
+    AreLevels (c.args.chip - c.args.chip % 64) channels c.renew.new.levels
+    × AreChips channels c.self.inside.factor c.renew.new.levels c.renew.new.chips
+renewed c = (
+  subst (λ (cs : List ChannelState).
+      AreLevels (c.args.chip - c.args.chip % 64) (map carrier_of cs) c.renew.new.levels)
+      c.deref_mut.ensures.value c.renew.ensures.value,
+  subst (λ (cs : List ChannelState).
+      AreChips (map carrier_of cs) c.self.inside.factor c.renew.new.levels c.renew.new.chips)
+      c.deref_mut.ensures.value c.renew.ensures.sums,
+)
+
 pub turn-requires-clause-quiet : goal.turn-requires-clause-quiet
 turn-requires-clause-quiet c k low =
     let s = c.self.inside in
-    let lent = c.deref_mut in
     let chip = c.args.chip in
     let place = chip % 64 in
-    let held : AreLevels (chip - place) (map carrier_of s.channels.items) c.renew.new.levels =
-    subst (λ (cs : List ChannelState).
-    AreLevels (chip - place) (map carrier_of cs) c.renew.new.levels) lent.ensures.value
-    c.renew.ensures.value in
-    let sums : AreChips (map carrier_of s.channels.items) s.factor c.renew.new.levels
-    c.renew.new.chips =
-    subst (λ (cs : List ChannelState).
-    AreChips (map carrier_of cs) s.factor c.renew.new.levels c.renew.new.chips) lent.ensures.value
-    c.renew.ensures.sums in
+    let (held, sums) = renewed (goal.at.turn-requires-clause-quiet c).After-renew in
     subst IsQuiet
     (sym (chip_kept s.channels.items s.factor c.renew.new.levels c.renew.new.chips chip place _ k
     refl held sums (omega arith) (omega (arith, low, c.requires.within))))
@@ -44,25 +47,14 @@ invariant_of-self c =
     (written_back s.channels.items _ s.channels.len (made.ensures.same ∙ lent.ensures.value)
     (ap length made.ensures.same ∙ lent.ensures.len))
     c.self.invariant.few c.self.invariant.low c.self.invariant.quiet made.ensures.small
-    (subst (λ (cs : List ChannelState).
-    AreChips (map carrier_of cs) s.factor made.new.levels made.new.chips) lent.ensures.value
-    made.ensures.sums)
+    (renewed (goal.at.invariant_of-self c).After-renew).1
 
 pub returns-clause-value : goal.returns-clause-value
 returns-clause-value c k low =
     let s = c.self.inside in
-    let lent = c.deref_mut in
     let chip = c.args.chip in
     let place = chip % 64 in
-    let held : AreLevels (chip - place) (map carrier_of s.channels.items) c.renew.new.levels =
-    subst (λ (cs : List ChannelState).
-    AreLevels (chip - place) (map carrier_of cs) c.renew.new.levels) lent.ensures.value
-    c.renew.ensures.value in
-    let sums : AreChips (map carrier_of s.channels.items) s.factor c.renew.new.levels
-    c.renew.new.chips =
-    subst (λ (cs : List ChannelState).
-    AreChips (map carrier_of cs) s.factor c.renew.new.levels c.renew.new.chips) lent.ensures.value
-    c.renew.ensures.sums in
+    let (held, sums) = renewed (goal.at.returns-clause-value c).After-renew in
     turned_at _ _ _ _
     (chip_kept s.channels.items s.factor c.renew.new.levels c.renew.new.chips chip place _ k
     refl held sums (omega arith) (omega (arith, low, c.requires.within))

@@ -1,10 +1,5 @@
-use Rattle.std.proofs.Common.{◌≡◌, ◌+◌, length, ap, sym, ◌∙◌, arith}
-use Rattle.chip_core.specs.Bits.{binary}
-use Rattle.conv_code.proofs.Continued.{length-code_symbols}
-use Rattle.cell_samples.specs.declared.frame_source.FrameSource.{FrameSource}
-use Rattle.cell_samples.specs.Continued.{frame_bits_of, frame_size}
-use Rattle.cell_plan.specs.Sendings.{bits_before}
-use Rattle.cell_plan.proofs.SentBits.{coded, last_before}
+use Rattle.cell_samples.proofs.Common.{◌≡◌, ◌+◌, length, ap, sym, ◌∙◌, arith, binary, length-code_symbols, FrameSource, frame_bits_of}
+use Rattle.cell_samples.proofs.Common.{frame_size, bits_before, coded, last_before}
 use Rattle.cell_samples.proofs.SentFrames.{eight_bits}
 use Rattle.cell_samples.proofs.continued.ContinuedEncoder.code.Goals as goal
 

@@ -1,5 +1,4 @@
-use Rattle.cell_samples.specs.Continued.{frame_bits_of}
-use Rattle.cell_plan.proofs.SentBits.{before-first}
+use Rattle.cell_samples.proofs.Common.{frame_bits_of, before-first}
 use Rattle.cell_samples.proofs.continued.ContinuedEncoder.new.Goals as goal
 
 pub invariant_of-result : goal.invariant_of-result

@@ -1,8 +1,4 @@
-use Rattle.std.proofs.Common.{◌≡◌, ℕ, ap, ◌∙◌}
-use Rattle.symbol_path.specs.SentOrder.{sent, shape_of}
-use Rattle.symbol_path.specs.declared.kinds.Kind.{Kind}
-use Rattle.cell_samples.specs.declared.frame_source.FrameSource.{FrameSource}
-use Rattle.cell_samples.specs.Continued.{kind_of, repeats_in, scrambled_by}
+use Rattle.cell_samples.proofs.Common.{◌≡◌, ℕ, ap, ◌∙◌, sent, shape_of, Kind, FrameSource, kind_of, repeats_in, scrambled_by}
 use Rattle.cell_samples.proofs.SentFrames.{symbols_are}
 use Rattle.cell_samples.proofs.continued.ContinuedEncoder.symbols.Goals as goal
 

@@ -1,8 +1,5 @@
-use Rattle.std.proofs.Common.{◌≡◌, ℕ, ◌%◌, Bool, false, ◌∷◌, [], ◌++◌, length, get_or, refl, sym}
-use Rattle.std.proofs.Common.{ap, ◌∙◌, arith, length-append}
-use Rattle.cell_plan.specs.PageCycles.{Cycle}
-use Rattle.cell_plan.proofs.PageCycles.{bit_more, bit_of_frame, frame_bits-is, frame_is}
-use Rattle.cell_plan.proofs.PageCycles.{no_bits}
+use Rattle.cell_samples.proofs.Common.{◌≡◌, ℕ, ◌%◌, Bool, false, ◌∷◌, [], ◌++◌, length, get_or, refl, sym, ap, ◌∙◌, arith, length-append}
+use Rattle.cell_samples.proofs.Common.{Cycle, bit_more, bit_of_frame, frame_bits-is, frame_is, no_bits}
 use Rattle.cell_samples.proofs.page_cycle.PageCycle.frame_bits.Goals as goal
 
 pub loop-k-init : goal.loop-k-init

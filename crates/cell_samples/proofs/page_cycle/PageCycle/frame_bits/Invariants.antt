@@ -1,6 +1,4 @@
-use Rattle.std.proofs.Common.{◌≡◌, length, map}
-use Rattle.chip_core.specs.Bits.{places}
-use Rattle.cell_plan.proofs.PageCycles.{bit_of_frame}
+use Rattle.cell_samples.proofs.Common.{◌≡◌, length, map, places, bit_of_frame}
 use Rattle.cell_samples.proofs.page_cycle.PageCycle.frame_bits.Given as goal
 
 abbrev pub invariant-loop-k : goal.invariant-loop-k

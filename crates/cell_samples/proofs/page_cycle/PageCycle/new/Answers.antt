@@ -1,11 +1,5 @@
-use Rattle.std.proofs.Common.{◌≡◌, ℕ, ◌+◌, ◌/◌, Bool, List, ap, arith}
-use Rattle.quality_bits.specs.declared.rate.Rate.{Rate}
-use Rattle.paging_message.specs.HalfFrames.{half_frame_body}
-use Rattle.cell_plan.specs.declared.plan.CellIdentity.{CellIdentity}
-use Rattle.cell_plan.specs.PageCycles.{Cycle}
-use Rattle.cell_plan.specs.Pages.{page_cycle}
-use Rattle.cell_plan.proofs.LaidPages.{cycle_is}
-use Rattle.cell_plan.proofs.PageCycles.{frame_bits-is}
+use Rattle.cell_samples.proofs.Common.{◌≡◌, ℕ, ◌+◌, ◌/◌, Bool, List, ap, arith, Rate, half_frame_body, CellIdentity, Cycle, page_cycle}
+use Rattle.cell_samples.proofs.Common.{cycle_is, frame_bits-is}
 use Rattle.cell_samples.proofs.page_cycle.PageCycle.new.Goals as goal
 
 abbrev cycle_with : CellIdentity → ℕ → Rate → List Bool → Cycle

@@ -1,10 +1,6 @@
-use Rattle.std.proofs.Common.{◌≡◌, ℕ, ◌+◌, ◌-◌, length, map, take, drop, ap, ◌∙◌, rules, subst}
+use Rattle.cell_samples.proofs.Common.{◌≡◌, ℕ, ◌+◌, ◌-◌, length, map, take, drop, ap, ◌∙◌, rules, subst, overwrites, of_sample, HasBits}
+use Rattle.cell_samples.proofs.Common.{samples_of, CellState}
 use Rattle.std.specs.List.{All}
-use Rattle.std.proofs.lemmas.Slice.{overwrites}
-use Rattle.chip_core.specs.Complex.{of_sample}
-use Rattle.cdma_io.specs.SampleFile.{HasBits}
-use Rattle.cell_plan.specs.Signal.{samples_of}
-use Rattle.cell_plan.specs.Transmitter.{CellState}
 use Rattle.cell_samples.proofs.Running.{bits_joined, samples_joined}
 use Rattle.cell_samples.proofs.samples.CellSamples.fill.Goals as goal
 

@@ -1,7 +1,4 @@
-use Rattle.std.proofs.Common.{◌≡◌, ◌≤◌, ◌+◌, ◌-◌, length, map, take, drop, All}
-use Rattle.chip_core.specs.Complex.{of_sample}
-use Rattle.cdma_io.specs.SampleFile.{HasBits}
-use Rattle.cell_plan.specs.Signal.{samples_of}
+use Rattle.cell_samples.proofs.Common.{◌≡◌, ◌≤◌, ◌+◌, ◌-◌, length, map, take, drop, All, of_sample, HasBits, samples_of}
 use Rattle.cell_samples.proofs.samples.CellSamples.fill.Given as goal
 
 abbrev pub invariant-loop-done : goal.invariant-loop-done

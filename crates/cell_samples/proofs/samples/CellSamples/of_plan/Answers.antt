@@ -1,6 +1,4 @@
-use Rattle.std.proofs.Common.{map, ap, ◌∙◌, arith}
-use Rattle.cell_samples.specs.Blocks.{BlockState}
-use Rattle.cell_samples.specs.Channels.{carrier_of}
+use Rattle.cell_samples.proofs.Common.{map, ap, ◌∙◌, arith, BlockState, carrier_of}
 use Rattle.cell_samples.proofs.Running.{chips_quiet, few_states}
 use Rattle.cell_samples.proofs.samples.CellSamples.of_plan.Goals as goal
 

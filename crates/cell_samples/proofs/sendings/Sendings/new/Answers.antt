@@ -1,9 +1,5 @@
-use Rattle.std.proofs.Common.{◌≡◌, ap, ◌∙◌}
-use Rattle.sync_message.specs.Framing.{superframes_of}
-use Rattle.sync_message.specs.SyncMessage.{sync_capsule}
-use Rattle.sync_message.specs.declared.fields.SyncFields.{SyncFields}
-use Rattle.cell_plan.specs.Sendings.{superframes_a_sending}
-use Rattle.cell_plan.proofs.SentMessages.{superframes_some, superframes_few}
+use Rattle.cell_samples.proofs.Common.{◌≡◌, ap, ◌∙◌, superframes_of, sync_capsule, SyncFields, superframes_a_sending, superframes_some}
+use Rattle.cell_samples.proofs.Common.{superframes_few}
 use Rattle.cell_samples.proofs.sendings.Sendings.new.Goals as goal
 
 pub invariant_of-result : goal.invariant_of-result
