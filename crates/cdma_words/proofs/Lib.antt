@@ -1,3 +1,4 @@
+pub mod Common
 mod WordApps
 mod WordJobs
 mod WordTests

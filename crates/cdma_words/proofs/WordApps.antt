@@ -1,12 +1,9 @@
 -- Lemmas on the commands of clap that the table of options makes.
-use Rattle.std.proofs.Common.{◌≡◌, ◌&&◌, ◌++◌, ◌∙◌, ℕ, Bool, true}
-use Rattle.std.proofs.Common.{false, not, List, [], ◌∷◌, append_assoc, append-nil}
-use Rattle.std.proofs.Common.{ap, ap₂, count_by, is_some, map, refl, sym}
-use Rattle.std.specs.List.{list_all, list_any}
-use Rattle.clap.specs.Simple.{Shape, built, filled_from, is_ready, is_ready_leaf, is_simple}
-use Rattle.clap.specs.Walk.{is_early_multiple}
-use Rattle.clap.specs.Words.{App, Rule, with_rule}
-use Rattle.cdma_words.specs.Words.{OptionRow, Text, app_from, bare_app, rule_by}
+use Rattle.cdma_words.proofs.Common.{◌≡◌, ◌&&◌, ◌++◌, ◌∙◌, ℕ, Bool, true, false, not, List, [], ◌∷◌, append_assoc, append-nil, ap, ap₂}
+use Rattle.cdma_words.proofs.Common.{count_by, is_some, map, refl, sym, list_all, list_any, Shape, built, filled_from, is_ready}
+use Rattle.cdma_words.proofs.Common.{is_ready_leaf, is_simple, is_early_multiple, App, with_rule, OptionRow, Text, app_from, bare_app}
+use Rattle.cdma_words.proofs.Common.{rule_by}
+use Rattle.clap.specs.Words.{Rule}
 use Rattle.cdma_words.proofs.WordWalks.{names_in, opt, opts, shape}
 
 pub app-none : (app : App) → app_from app [] ≡ app

@@ -1,14 +1,8 @@
 -- Lemmas on the jobs of the commands.
-use Rattle.std.proofs.Common.{◌≡◌, ◌≤◌, ◌↔◌, List, [], ◌∷◌, true, false}
-use Rattle.std.proofs.Common.{refl, sym, ap, ap₂, ◌∙◌, arith, rules, Result, Ok, Err, IfOk, ok_or}
-use Rattle.std.proofs.Common.{length, map, string_bytes, String, Global}
-use Rattle.std.proofs.Common.{Option, None, Some, is_some, option_and_then}
-use Rattle.cdma_words.specs.declared.job.Job.{Job}
-use Rattle.cdma_words.specs.declared.job.WordFault.{WordFault}
-use Rattle.cdma_words.specs.declared.job.WordFault.TheVariants.{Bad}
-use Rattle.cdma_words.specs.Words.{CommandRow, Given, OptionRow, Text, given_behind, job_behind}
-use Rattle.cdma_words.specs.Words.{job_by, job_in, job_named, job_with, number_by, numbers_by}
-use Rattle.cdma_words.specs.Words.{text_in, text_of}
+use Rattle.cdma_words.proofs.Common.{◌≡◌, ◌≤◌, ◌↔◌, List, [], ◌∷◌, true, false, refl, sym, ap, ap₂, ◌∙◌, arith, rules, Result, Ok, Err}
+use Rattle.cdma_words.proofs.Common.{IfOk, ok_or, length, map, string_bytes, String, Global, Option, None, Some, is_some, option_and_then}
+use Rattle.cdma_words.proofs.Common.{Job, WordFault, Bad, CommandRow, Given, OptionRow, Text, given_behind, job_behind, job_by, job_in}
+use Rattle.cdma_words.proofs.Common.{job_named, job_with, number_by, numbers_by, text_in, text_of}
 use Rattle.cdma_words.proofs.WordTexts.{texts_given}
 
 pub given_of : (o : Option Given) → is_some o ≡ true → (given : Given) × (o ≡ Some given)

@@ -1,31 +1,13 @@
 -- Lemmas on the test of words: what each step of it reads.
-use Rattle.std.proofs.Common.{◌≡◌, ℕ, zero, suc, ◌+◌, ◌<◌, ◌≤◌, Bool}
-use Rattle.std.proofs.Common.{true, false, not, ◌&&◌, ◌||◌, if◌then◌else◌, List, []}
-use Rattle.std.proofs.Common.{◌∷◌, ◌++◌, length, map, take, drop, get_or, nat_eq}
-use Rattle.std.proofs.Common.{nat_le, refl, sym, ap, ap₂, ◌∙◌, subst, arith}
-use Rattle.std.proofs.Common.{rules, Option, None, Some, option_and_then, option_map, unwrap_or}
-use Rattle.std.proofs.Common.{eqb-true, find, is_some}
-use Rattle.std.proofs.Common.{◌*◌, ◌-◌, String, Global, string_bytes, Result, Ok, Err}
-use Rattle.std.proofs.lemmas.List.{at_drop_more, drop-map, drop_all, length-drop}
-use Rattle.std.proofs.lemmas.List.{length-map, take-map, take_all}
-use Rattle.std.specs.List.{AllPass, list_any}
-use Rattle.std.specs.Char.{is_ascii_digit}
-use Rattle.std.specs.Int.{from_be_bytes, w32}
-use Rattle.std.specs.Option.{option_map_or}
-use Rattle.std.specs.Result.{result_ok}
-use Rattle.std.specs.Str.{bytes_eq}
-use Rattle.chip_core.specs.Decimals.{digits_from}
-use Rattle.hex.specs.Hex.{decode_sized, is_hex_digit}
-use Rattle.hex.specs.declared.error.FromHexError.{FromHexError}
-use Rattle.hex.proofs.HexLemmas.{IsOk-decode_sized}
-use Rattle.clap.specs.Lexer.{long_of, long_of_rest, short_of, short_of_rest, strip_byte}
-use Rattle.cdma_words.specs.declared.grammar.OptionRule.{OptionRule}
-use Rattle.cdma_words.specs.declared.grammar.Form.{Form}
-use Rattle.cdma_words.specs.declared.grammar.Form.TheVariants.{Between, EightDigits, Either}
-use Rattle.cdma_words.specs.Words.{Given, OptionRow, Text, added, admits, given_behind}
-use Rattle.cdma_words.specs.Words.{has_name, is_allowed, is_joined, is_named_in, joined}
-use Rattle.cdma_words.specs.Words.{names, number_in, part_by, part_of, parted}
-use Rattle.cdma_words.specs.Words.{eight_digits_in, spelled_in, text_in, value_in}
+use Rattle.cdma_words.proofs.Common.{◌≡◌, ℕ, zero, suc, ◌+◌, ◌<◌, ◌≤◌, Bool, true, false, not, ◌&&◌, ◌||◌, if◌then◌else◌, List, [], ◌∷◌}
+use Rattle.cdma_words.proofs.Common.{◌++◌, length, map, take, drop, get_or, nat_eq, nat_le, refl, sym, ap, ap₂, ◌∙◌, subst, arith, rules}
+use Rattle.cdma_words.proofs.Common.{Option, None, Some, option_and_then, option_map, unwrap_or, eqb-true, find, is_some, ◌*◌, ◌-◌, String}
+use Rattle.cdma_words.proofs.Common.{Global, string_bytes, Result, Ok, Err, at_drop_more, drop-map, drop_all, length-drop, length-map}
+use Rattle.cdma_words.proofs.Common.{take-map, take_all, AllPass, list_any, is_ascii_digit, from_be_bytes, w32, option_map_or, result_ok}
+use Rattle.cdma_words.proofs.Common.{bytes_eq, digits_from, decode_sized, is_hex_digit, FromHexError, IsOk-decode_sized, long_of}
+use Rattle.cdma_words.proofs.Common.{long_of_rest, short_of, short_of_rest, strip_byte, OptionRule, Form, Between, EightDigits, Given}
+use Rattle.cdma_words.proofs.Common.{OptionRow, Text, added, admits, given_behind, has_name, is_allowed, is_joined, is_named_in, joined}
+use Rattle.cdma_words.proofs.Common.{names, number_in, part_by, part_of, parted, eight_digits_in, spelled_in, text_in, value_in}
 
 -- ---- an item of a list behind the first k of them
 
@@ -133,9 +115,8 @@ eight_plain text number e = go (decode_sized text 4) refl e
 
 spelled_plain : (form : Form) (text : Text) (number : ℕ) → spelled_in form text ≡ Some number →
     IsPlain text
-spelled_plain (Between least most) text number e = number_plain text number e
-spelled_plain (Either one other) text number e = number_plain text number e
 spelled_plain EightDigits text number e = eight_plain text number e
+spelled_plain form text number e = number_plain text number e
 
 -- a value of an option is no flag
 value_plain-form : (form : Form) (text : Text) → is_some (value_in form text) ≡ true → IsPlain text
@@ -187,8 +168,6 @@ text_there name words place word inside is unnamed =
 
 pub none_stays : (rows : List OptionRow) (words : List Text) → given_behind rows None words ≡ None
 unfolding given_behind
-none_stays rows [] = refl
-none_stays rows (word ∷ []) = refl
 none_stays rows (word ∷ text ∷ words) =
     go (is_joined (long_of word)) (none_stays rows (text ∷ words)) (none_stays rows words)
   where
@@ -197,6 +176,7 @@ none_stays rows (word ∷ text ∷ words) =
         (if b then given_behind rows None (text ∷ words) else given_behind rows None words) ≡ None
     go true first second = first
     go false first second = second
+none_stays rows words = refl
 
 abbrev pub Part : Type 0
 Part = Text × Text × ℕ
@@ -338,9 +318,6 @@ Stands rows texts place =
     (given : Given)
     × (given_behind rows (Some []) texts ≡ given_behind rows (Some given) (drop place texts))
     × ((name : Text) → has_name name given ≡ is_named_in name (take place texts))
-
-pub stands_first : (rows : List OptionRow) (texts : List Text) → Stands rows texts 0
-stands_first rows texts = ([], refl, λ name. refl)
 
 is_added : (rows : List OptionRow) (name text : Text) (given : Given) (allowed has : Bool) →
     is_allowed rows name text ≡ allowed → has_name name given ≡ has →

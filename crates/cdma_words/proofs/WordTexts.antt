@@ -1,12 +1,7 @@
 -- Lemmas on the texts of options, as the words behind a command give them.
-use Rattle.std.proofs.Common.{◌≡◌, ◌++◌, ◌∙◌, Bool, true, false, if◌then◌else◌, List, [], ◌∷◌}
-use Rattle.std.proofs.Common.{refl, sym, ap, rules, find, option_map, option_and_then}
-use Rattle.std.proofs.Common.{Option, None, Some}
-use Rattle.std.specs.Option.{option_map_or}
-use Rattle.std.specs.Str.{bytes_eq}
-use Rattle.clap.specs.Lexer.{long_of}
-use Rattle.cdma_words.specs.Words.{Given, OptionRow, Text, added, given_behind, is_joined, joined}
-use Rattle.cdma_words.specs.Words.{part_by, parted, text_in, text_of}
+use Rattle.cdma_words.proofs.Common.{◌≡◌, ◌++◌, ◌∙◌, Bool, true, false, if◌then◌else◌, List, [], ◌∷◌, refl, sym, ap, rules, find}
+use Rattle.cdma_words.proofs.Common.{option_map, option_and_then, Option, None, Some, option_map_or, bytes_eq, long_of, Given, OptionRow}
+use Rattle.cdma_words.proofs.Common.{Text, added, given_behind, is_joined, joined, part_by, parted, text_in, text_of}
 use Rattle.cdma_words.proofs.WordTests.{IsPlain, none_stays}
 use Rattle.cdma_words.proofs.WordWalks.{is_added}
 

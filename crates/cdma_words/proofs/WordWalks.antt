@@ -1,44 +1,21 @@
 -- What clap makes of words that are in the grammar: one lemma a step of its walk.
-use Rattle.std.proofs.Common.{◌≡◌}
-use Rattle.std.proofs.Common.{nat_lt, Bool, true}
-use Rattle.std.proofs.Common.{false, not, ◌&&◌, ◌||◌, List, []}
-use Rattle.std.proofs.Common.{◌∷◌, ◌++◌, map, refl, sym}
-use Rattle.std.proofs.Common.{ap, ap₂, ◌∙◌, subst, rules}
-use Rattle.std.proofs.Common.{Option, None, Some, find, fold}
-use Rattle.std.proofs.Common.{is_some, option_map, option_and_then, append-nil, if◌then◌else◌, drop}
-use Rattle.std.proofs.Common.{slice_get}
-use Rattle.std.specs.Str.{bytes_eq}
-use Rattle.std.specs.List.{list_any, list_all}
-use Rattle.std.specs.Option.{option_map_or}
-use Rattle.std.proofs.lemmas.List.{map-append}
-use Rattle.std.proofs.lemmas.Slice.Eq.{bytes_eq-Decides}
-use Rattle.std.specs.Borrow.{Bor}
-use Rattle.clap.specs.Facts.{Entry}
-use Rattle.clap.specs.Matches.{first_value}
-use Rattle.clap.specs.declared.parser.matches.Found.{Found}
-use Rattle.clap.specs.Lexer.{long_of}
-use Rattle.clap.specs.Walk.{Held, Row, Rule, Walk}
-use Rattle.clap.specs.Walk.{Step, idle, option, next, arg_by_id}
-use Rattle.clap.specs.Walk.{arg_by_long, has_row, reacted, settled}
-use Rattle.clap.specs.Walk.{used_by_id, used, walk_from, walked, walk}
-use Rattle.clap.specs.Walk.{with_values, more_values, without, at_row, word_met}
-use Rattle.clap.specs.Walk.{long_or_other, after_flag, after_step, long_met}
-use Rattle.clap.specs.Walk.{short_or_plain, option_word, pushed, with_default}
-use Rattle.clap.specs.Walk.{nothing_held, trailing, finished, rows_after}
-use Rattle.clap.specs.Walk.{row_of, rows_of, first_of}
-use Rattle.clap.specs.Takes.{bundle_passes, settle_passes, turn_passes, walk_passes, word_passes}
-use Rattle.clap.specs.Takes.{flag_word_passes, long_passes, use_passes}
-use Rattle.clap.specs.Takes.{step_passes, default_passes, is_valid}
-use Rattle.clap.specs.Takes.{is_given, level_passes, built_takes, entered_passes, takes}
-use Rattle.clap.specs.Simple.{App, Shape, new_rule, new_app}
-use Rattle.clap.specs.Simple.{is_simple, built, matches_of, names_of, entered}
-use Rattle.clap.specs.declared.builder.action.ArgAction.TheVariants.{Set}
+use Rattle.cdma_words.proofs.Common.{◌≡◌, nat_lt, Bool, true, false, not, ◌&&◌, ◌||◌, List, [], ◌∷◌, ◌++◌, map, refl, sym, ap, ap₂, ◌∙◌}
+use Rattle.cdma_words.proofs.Common.{subst, rules, Option, None, Some, find, fold, is_some, option_map, option_and_then, append-nil}
+use Rattle.cdma_words.proofs.Common.{if◌then◌else◌, drop, slice_get, bytes_eq, list_any, list_all, option_map_or, map-append}
+use Rattle.cdma_words.proofs.Common.{bytes_eq-Decides, Bor, Entry, first_value, Found, long_of, Held, Row, Rule, Walk, Step, idle, option}
+use Rattle.cdma_words.proofs.Common.{next, arg_by_id, arg_by_long, has_row, reacted, settled, used_by_id, used, walk_from, walked, walk}
+use Rattle.cdma_words.proofs.Common.{with_values, more_values, without, at_row, word_met, long_or_other, after_flag, after_step, long_met}
+use Rattle.cdma_words.proofs.Common.{short_or_plain, option_word, pushed, with_default, nothing_held, trailing, finished, rows_after}
+use Rattle.cdma_words.proofs.Common.{rows_of, first_of, bundle_passes, settle_passes, turn_passes, walk_passes, word_passes}
+use Rattle.cdma_words.proofs.Common.{flag_word_passes, long_passes, use_passes, step_passes, default_passes, is_valid, is_given}
+use Rattle.cdma_words.proofs.Common.{level_passes, built_takes, entered_passes, takes, Shape, new_rule, new_app, is_simple, built}
+use Rattle.cdma_words.proofs.Common.{matches_of, names_of, entered, Set, CommandLine, Given, OptionRow, Text, added, given_behind, has_name}
+use Rattle.cdma_words.proofs.Common.{is_allowed, is_joined, joined, parted, text_of, value_in}
+use Rattle.clap.specs.Walk.{row_of}
+use Rattle.clap.specs.Simple.{App}
+use Rattle.cdma_words.proofs.WordTests.{IsPlain, none_stays, value_plain}
 use Rattle.clap.specs.declared.builder.value_parser.ValueParser.TheVariants as vp
 use Rattle.clap.specs.declared.builder.value_parser.Reading.TheVariants as reading
-use Rattle.clap.specs.declared.parser.matches.ValueSource.TheVariants.{CommandLine}
-use Rattle.cdma_words.specs.Words.{Given, OptionRow, Text, added, given_behind, has_name}
-use Rattle.cdma_words.specs.Words.{is_allowed, is_joined, joined, parted, text_of, value_in}
-use Rattle.cdma_words.proofs.WordTests.{IsPlain, none_stays, value_plain}
 
 abbrev pub names_in : List OptionRow → List Text
 names_in rows = map (λ row. row.name) rows
@@ -80,31 +57,37 @@ bytes_same a = go (bytes_eq a a) refl
 
 -- ---- look-ups
 
+-- a look-up by names that goes through them finds what stands for one that is among them
+by_look : {A : Type 0} (made : Text → A) (look : List Text → Text → Option A) →
+    ((n : Text) (names : List Text) (name : Text) → bytes_eq n name ≡ true →
+    look (n ∷ names) name ≡ Some (made n)) →
+    ((n : Text) (names : List Text) (name : Text) → bytes_eq n name ≡ false →
+    look (n ∷ names) name ≡ look names name) →
+    (names : List Text) (name : Text) → is_among names name ≡ true →
+    look names name ≡ Some (made name)
+by_look made look hit miss [] name e = absurd (cc e)
+by_look made look hit miss (n ∷ names) name e =
+    go (bytes_eq n name) refl (by_look made look hit miss names name)
+  where
+    go : (b : Bool) → bytes_eq n name ≡ b →
+        (is_among names name ≡ true → look names name ≡ Some (made name)) →
+        look (n ∷ names) name ≡ Some (made name)
+    go true same more =
+        hit n names name same
+        ∙ ap (λ (t : Text). Some (made t)) ((bytes_eq-Decides n name).0 same)
+    go false other more = miss n names name other ∙ more (rw other at e)
+
 by_long : (names : List Text) (name : Text) → is_among names name ≡ true →
     arg_by_long (opts names) name ≡ Some (opt name)
-by_long [] name e = search rules
-by_long (n ∷ names) name e = go (bytes_eq n name) refl (by_long names name)
-  where
-    go : (b : Bool) → bytes_eq n name ≡ b → (is_among names name ≡ true →
-        arg_by_long (opts names) name ≡ Some (opt name)) →
-        arg_by_long (opts (n ∷ names)) name ≡ Some (opt name)
-    go true same more =
-        let is : n ≡ name = (bytes_eq-Decides n name).0 same in
-        rw same (ap (λ (t : Text). Some (opt t)) is)
-    go false other more = rw other (more (rw other at e))
+by_long =
+    by_look opt (λ names name. arg_by_long (opts names) name) (λ n names name same. rw same refl)
+    (λ n names name other. rw other refl)
 
 by_id : (names : List Text) (name : Text) → is_among names name ≡ true →
     arg_by_id (opts names) name ≡ Some (opt name)
-by_id [] name e = search rules
-by_id (n ∷ names) name e = go (bytes_eq n name) refl (by_id names name)
-  where
-    go : (b : Bool) → bytes_eq n name ≡ b → (is_among names name ≡ true →
-        arg_by_id (opts names) name ≡ Some (opt name)) →
-        arg_by_id (opts (n ∷ names)) name ≡ Some (opt name)
-    go true same more =
-        let is : n ≡ name = (bytes_eq-Decides n name).0 same in
-        rw same (ap (λ (t : Text). Some (opt t)) is)
-    go false other more = rw other (more (rw other at e))
+by_id =
+    by_look opt (λ names name. arg_by_id (opts names) name) (λ n names name same. rw same refl)
+    (λ n names name other. rw other refl)
 
 -- ---- rows
 

@@ -210,13 +210,13 @@ fn list_with<T: Texts>(texts: &T) -> Option<Job>
     let receiver = receiver_with(texts)?;
     let Traffic { esn, row, offset } = channel_with(texts)?;
     Some(Job::List {
+        k: k as u8,
         span: receiver.span,
         workers: receiver.workers,
         fingers: receiver.fingers,
         offset,
         esn,
         row,
-        k: k as u8,
     })
 }
 

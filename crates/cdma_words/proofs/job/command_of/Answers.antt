@@ -1,6 +1,5 @@
-use Rattle.std.proofs.Common.{◌≡◌, ◌∙◌, Option, ap, map, option_and_then, refl, string_bytes, sym}
-use Rattle.std.proofs.lemmas.Result.{IfOk-weaker}
-use Rattle.cdma_words.specs.Words.{CommandRow, command_row, job_behind, job_by}
+use Rattle.cdma_words.proofs.Common.{◌≡◌, ◌∙◌, Option, ap, map, option_and_then, refl, string_bytes, sym, IfOk-weaker, CommandRow}
+use Rattle.cdma_words.proofs.Common.{command_row, job_behind, job_by}
 use Rattle.cdma_words.proofs.job.command_of.Goals as goal
 
 pub returns-in_default-clause-bad : goal.returns-in_default-clause-bad

@@ -1,6 +1,4 @@
-use Rattle.std.proofs.Common.{◌≡◌, ◌∙◌, ap, map, refl, rules, string_bytes, sym}
-use Rattle.std.proofs.lemmas.Result.{IfOk-weaker}
-use Rattle.cdma_words.specs.Words.{Text, job_behind, job_named}
+use Rattle.cdma_words.proofs.Common.{◌≡◌, ◌∙◌, ap, map, refl, rules, string_bytes, sym, IfOk-weaker, Text, job_behind, job_named}
 use Rattle.cdma_words.proofs.WordJobs.{command_first, no_words}
 use Rattle.cdma_words.proofs.job.words_of.Goals as goal
 

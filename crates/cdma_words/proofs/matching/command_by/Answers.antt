@@ -1,7 +1,5 @@
-use Rattle.std.proofs.Common.{◌≡◌, ◌+◌, ◌∙◌, drop, get_or, map, sym, ap, rules, arith}
-use Rattle.std.proofs.lemmas.List.{drop_all, length-map}
-use Rattle.clap.specs.Words.{App, app_of, rule_of, with_rule}
-use Rattle.cdma_words.specs.Words.{app_from, row_of, rule_by}
+use Rattle.cdma_words.proofs.Common.{◌≡◌, ◌+◌, ◌∙◌, drop, get_or, map, sym, ap, rules, arith, drop_all, length-map, App, app_of, rule_of}
+use Rattle.cdma_words.proofs.Common.{with_rule, app_from, row_of, rule_by}
 use Rattle.cdma_words.proofs.WordTests.{item_first, no_rule}
 use Rattle.cdma_words.proofs.WordApps.{app-more, app-none}
 use Rattle.cdma_words.proofs.matching.command_by.Goals as goal

@@ -1,6 +1,4 @@
-use Rattle.std.proofs.Common.{◌≡◌, drop, map}
-use Rattle.clap.specs.Words.{app_of}
-use Rattle.cdma_words.specs.Words.{app_from, bare_app, row_of}
+use Rattle.cdma_words.proofs.Common.{◌≡◌, drop, map, app_of, app_from, bare_app, row_of}
 use Rattle.cdma_words.proofs.matching.command_by.Given as goal
 
 abbrev pub invariant-loop-rule : goal.invariant-loop-rule

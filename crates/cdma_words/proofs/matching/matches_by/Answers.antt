@@ -1,8 +1,6 @@
-use Rattle.std.proofs.Common.{◌≡◌, ◌∙◌, map, ap, string_bytes}
-use Rattle.std.proofs.lemmas.Result.{IfErr-weaker, IfOk-weaker}
-use Rattle.clap.specs.Simple.{is_simple, matches_of}
-use Rattle.clap.specs.Words.{App, app_of, found_of, takes}
-use Rattle.cdma_words.specs.Words.{row_of}
+use Rattle.cdma_words.proofs.Common.{◌≡◌, ◌∙◌, map, ap, string_bytes, IfErr-weaker, IfOk-weaker, is_simple, matches_of, App, app_of}
+use Rattle.cdma_words.proofs.Common.{found_of, row_of}
+use Rattle.clap.specs.Words.{takes}
 use Rattle.cdma_words.proofs.WordApps.{app_bare, app_built, app_simple, word_app}
 use Rattle.cdma_words.proofs.WordJobs.{given_of}
 use Rattle.cdma_words.proofs.WordWalks.{finds_words, takes_words, value_is}

@@ -1,9 +1,8 @@
-use Rattle.std.proofs.Common.{◌≡◌, ◌∙◌, ◌<◌, ◌≤◌, None, Some, arith, ap, drop}
-use Rattle.std.proofs.Common.{false, length, map, refl, string_bytes, sym, take, true}
-use Rattle.std.proofs.lemmas.List.{length-drop, length-map}
-use Rattle.cdma_words.specs.Words.{is_named_in, part_of, row_of}
-use Rattle.cdma_words.proofs.WordTests.{Part, stands_last, stands_missing, stands_next}
-use Rattle.cdma_words.proofs.WordTests.{stands_refused, stands_twice, texts_before, texts_behind}
+use Rattle.cdma_words.proofs.Common.{◌≡◌, ◌∙◌, ◌<◌, ◌≤◌, None, Some, arith, ap, drop, false, length, map, refl, string_bytes, sym, true}
+use Rattle.cdma_words.proofs.Common.{length-drop, length-map, is_named_in, part_of, row_of}
+use Rattle.cdma_words.proofs.WordTests.{Part, stands_last, stands_missing, stands_next, stands_refused, stands_twice, texts_before}
+use Rattle.cdma_words.proofs.WordTests.{texts_behind}
+use Rattle.cdma_words.proofs.testing.are_lawful.Goals.{In-Some}
 use Rattle.cdma_words.proofs.testing.are_lawful.Goals as goal
 
 pub returns-in_default : goal.returns-in_default
@@ -19,45 +18,40 @@ returns-in_default c =
     ap part_of (sym (texts_behind words place inside)) ∙ sym c.in_default.ensures.value in
     stands_missing (map row_of c.args.rules.now) texts place some is c.loop-place.invariant
 
+-- the part that stands at the place
+abbrev part_at : In-Some → Part
+part_at c = (c.in-Some.part.name.now, c.in-Some.part.value.now, c.in-Some.part.words)
+
+part_is : (c : In-Some) →
+    part_of (drop c.loop-place.place (map string_bytes c.args.words.now)) ≡ Some (part_at c)
+part_is c =
+    let inside : c.loop-place.place ≤ length c.args.words.now =
+    omega (arith, c.loop-place-test.true) in
+    ap part_of (sym (texts_behind c.args.words.now c.loop-place.place inside))
+    ∙ sym c.in-Some.ensures.value
+
 pub returns-then-is_named_in : goal.returns-then-is_named_in
 returns-then-is_named_in c =
-    let words = c.args.words.now in
-    let place = c.loop-place.place in
-    let texts = map string_bytes words in
-    let part : Part = (c.in-Some.part.name.now, c.in-Some.part.value.now, c.in-Some.part.words) in
-    let inside : place ≤ length words = omega (arith, c.loop-place-test.true) in
-    let is : part_of (drop place texts) ≡ Some part =
-    ap part_of (sym (texts_behind words place inside)) ∙ sym c.in-Some.ensures.value in
-    let named : is_named_in part.0 (take place texts) ≡ true =
-    ap (is_named_in part.0) (sym (texts_before words place)) ∙ sym c.is_named_in.ensures
-    ∙ c.if-is_named_in.true in
-    stands_twice (map row_of c.args.rules.now) texts place part is named c.loop-place.invariant
+    let here = (goal.at.returns-then-is_named_in c).In-Some in
+    stands_twice (map row_of c.args.rules.now) (map string_bytes c.args.words.now)
+    c.loop-place.place (part_at here) (part_is here)
+    (ap (is_named_in (part_at here).0) (sym (texts_before c.args.words.now c.loop-place.place))
+    ∙ sym c.is_named_in.ensures ∙ c.if-is_named_in.true) c.loop-place.invariant
 
 pub returns-then-not-is_allowed : goal.returns-then-not-is_allowed
 returns-then-not-is_allowed c =
-    let words = c.args.words.now in
-    let place = c.loop-place.place in
-    let texts = map string_bytes words in
-    let part : Part = (c.in-Some.part.name.now, c.in-Some.part.value.now, c.in-Some.part.words) in
-    let inside : place ≤ length words = omega (arith, c.loop-place-test.true) in
-    let is : part_of (drop place texts) ≡ Some part =
-    ap part_of (sym (texts_behind words place inside)) ∙ sym c.in-Some.ensures.value in
-    stands_refused (map row_of c.args.rules.now) texts place part is
+    let here = (goal.at.returns-then-not-is_allowed c).In-Some in
+    stands_refused (map row_of c.args.rules.now) (map string_bytes c.args.words.now)
+    c.loop-place.place (part_at here) (part_is here)
     (sym c.is_allowed.ensures ∙ c.if-not-is_allowed.true) c.loop-place.invariant
 
 pub loop-place-preserved : goal.loop-place-preserved
 loop-place-preserved c =
-    let words = c.args.words.now in
-    let place = c.loop-place.place in
-    let texts = map string_bytes words in
-    let part : Part = (c.in-Some.part.name.now, c.in-Some.part.value.now, c.in-Some.part.words) in
-    let inside : place ≤ length words = omega (arith, c.loop-place-test.true) in
-    let is : part_of (drop place texts) ≡ Some part =
-    ap part_of (sym (texts_behind words place inside)) ∙ sym c.in-Some.ensures.value in
-    let unnamed : is_named_in part.0 (take place texts) ≡ false =
-    ap (is_named_in part.0) (sym (texts_before words place)) ∙ sym c.is_named_in.ensures
-    ∙ c.if-is_named_in.false in
-    stands_next (map row_of c.args.rules.now) texts place _ part refl is unnamed
+    let here = (goal.at.loop-place-preserved c).In-Some in
+    stands_next (map row_of c.args.rules.now) (map string_bytes c.args.words.now)
+    c.loop-place.place _ (part_at here) refl (part_is here)
+    (ap (is_named_in (part_at here).0) (sym (texts_before c.args.words.now c.loop-place.place))
+    ∙ sym c.is_named_in.ensures ∙ c.if-is_named_in.false)
     (sym c.is_allowed.ensures ∙ c.if-not-is_allowed.false) c.loop-place.invariant
 
 pub returns : goal.returns

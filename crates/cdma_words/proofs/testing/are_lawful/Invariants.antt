@@ -1,5 +1,4 @@
-use Rattle.std.proofs.Common.{length, ◌-◌, map, string_bytes}
-use Rattle.cdma_words.specs.Words.{row_of}
+use Rattle.cdma_words.proofs.Common.{length, ◌-◌, map, string_bytes, row_of}
 use Rattle.cdma_words.proofs.WordTests.{Stands}
 use Rattle.cdma_words.proofs.testing.are_lawful.Given as goal
 

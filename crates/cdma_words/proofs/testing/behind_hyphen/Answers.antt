@@ -1,6 +1,4 @@
-use Rattle.std.proofs.Common.{arith}
-use Rattle.std.proofs.lemmas.Str.Pattern.{strip_prefix_char}
-use Rattle.clap.proofs.LexerLemmas.{strip_byte-from}
+use Rattle.cdma_words.proofs.Common.{arith, strip_prefix_char, strip_byte-from}
 use Rattle.cdma_words.proofs.testing.behind_hyphen.Goals as goal
 
 pub returns : goal.returns

@@ -1,5 +1,4 @@
-use Rattle.std.proofs.Common.{◌+◌, ◌∙◌, List, ap, drop, is_some, map, sym}
-use Rattle.cdma_words.specs.Words.{OptionRow, is_allowed, row_of}
+use Rattle.cdma_words.proofs.Common.{◌+◌, ◌∙◌, List, ap, drop, is_some, map, sym, OptionRow, is_allowed, row_of}
 use Rattle.cdma_words.proofs.WordTests.{item_first, no_rule, rule_elsewhere, rule_here}
 use Rattle.cdma_words.proofs.testing.is_allowed.Goals as goal
 

@@ -1,5 +1,4 @@
-use Rattle.std.proofs.Common.{◌≡◌, drop, map}
-use Rattle.cdma_words.specs.Words.{is_allowed, row_of}
+use Rattle.cdma_words.proofs.Common.{◌≡◌, drop, map, is_allowed, row_of}
 use Rattle.cdma_words.proofs.testing.is_allowed.Given as goal
 
 abbrev pub invariant-loop-rule : goal.invariant-loop-rule

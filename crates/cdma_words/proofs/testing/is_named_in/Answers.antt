@@ -1,6 +1,4 @@
-use Rattle.std.proofs.Common.{◌+◌, ◌∙◌, ◌||◌, Bool, String}
-use Rattle.std.proofs.Common.{Global, drop, map, string_bytes, sym, ap}
-use Rattle.cdma_words.specs.Words.{is_named_in, names}
+use Rattle.cdma_words.proofs.Common.{◌+◌, ◌∙◌, ◌||◌, Bool, String, Global, drop, map, string_bytes, sym, ap, is_named_in, names}
 use Rattle.cdma_words.proofs.WordTests.{item_first}
 use Rattle.cdma_words.proofs.testing.is_named_in.Goals as goal
 

@@ -1,5 +1,4 @@
-use Rattle.std.proofs.Common.{◌≡◌, drop, map, string_bytes}
-use Rattle.cdma_words.specs.Words.{is_named_in}
+use Rattle.cdma_words.proofs.Common.{◌≡◌, drop, map, string_bytes, is_named_in}
 use Rattle.cdma_words.proofs.testing.is_named_in.Given as goal
 
 abbrev pub invariant-loop-word : goal.invariant-loop-word

@@ -1,6 +1,4 @@
-use Rattle.std.proofs.Common.{None, arith, sym}
-use Rattle.std.proofs.lemmas.Str.Pattern.{split_parts}
-use Rattle.clap.proofs.LexerLemmas.{name_and_value-without}
+use Rattle.cdma_words.proofs.Common.{None, arith, sym, split_parts, name_and_value-without}
 use Rattle.cdma_words.proofs.testing.name_and_value.Goals as goal
 
 pub returns-in-None : goal.returns-in-None

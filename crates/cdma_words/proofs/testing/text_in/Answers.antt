@@ -1,7 +1,5 @@
-use Rattle.std.proofs.Common.{◌≡◌, ◌∙◌, ◌<◌, ◌≤◌, List, ap, arith, length, map}
-use Rattle.std.proofs.Common.{option_map, string_bytes, sym, true, false}
-use Rattle.std.proofs.lemmas.List.{drop_all, length-map}
-use Rattle.cdma_words.specs.Words.{Text, names, part_of, text_in}
+use Rattle.cdma_words.proofs.Common.{◌≡◌, ◌∙◌, ◌<◌, ◌≤◌, List, ap, arith, length, map, option_map, string_bytes, sym, true, false, drop_all}
+use Rattle.cdma_words.proofs.Common.{length-map, Text, names, part_of, text_in}
 use Rattle.cdma_words.proofs.WordTests.{text_here, text_there, texts_behind}
 use Rattle.cdma_words.proofs.testing.text_in.Goals as goal
 

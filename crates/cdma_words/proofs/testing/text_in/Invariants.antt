@@ -1,5 +1,4 @@
-use Rattle.std.proofs.Common.{◌≡◌, drop, map, string_bytes}
-use Rattle.cdma_words.specs.Words.{text_in}
+use Rattle.cdma_words.proofs.Common.{◌≡◌, drop, map, string_bytes, text_in}
 use Rattle.cdma_words.proofs.testing.text_in.Given as goal
 
 abbrev pub invariant-loop-place : goal.invariant-loop-place

@@ -1,6 +1,4 @@
-use Rattle.std.proofs.Common.{◌∙◌, ℕ, Bool, if◌then◌else◌, Option, None, Some, ap, sym}
-use Rattle.std.proofs.Common.{option_and_then}
-use Rattle.cdma_words.specs.Words.{admits, value_in}
+use Rattle.cdma_words.proofs.Common.{◌∙◌, ℕ, Bool, if◌then◌else◌, Option, None, Some, ap, sym, option_and_then, admits, value_in}
 use Rattle.cdma_words.proofs.grammar.Form.value_in.Goals as goal
 
 pub returns-in_err-number-clause-value : goal.returns-in_err-number-clause-value
