@@ -144,13 +144,6 @@ module _ (key cycle : ℕ) (check : CheckForm) (m : Mark) where
         (omega (arith, numbered (k + 1), is)) (omega (arith, numbered (k + 1 + 1), is))
     slot_by_slot kept k (suc (suc (suc (suc n)))) slot zero more is long few =
         absurd (omega (arith, long, few))
-    slot_by_slot kept k zero slot (suc slots) more is long few = absurd (omega (arith, long))
-    slot_by_slot kept k (suc zero) slot (suc slots) more is long few =
-        absurd (omega (arith, long))
-    slot_by_slot kept k (suc (suc zero)) slot (suc slots) more is long few =
-        absurd (omega (arith, long))
-    slot_by_slot kept k (suc (suc (suc zero))) slot (suc slots) more is long few =
-        absurd (omega (arith, long))
     slot_by_slot kept k (suc (suc (suc (suc n)))) slot (suc slots) more is long few =
         let first : frame k ≡ frame (4 * slot + 0) = ap frame (omega (arith, is)) in
         let second : frame (k + 1) ≡ frame (4 * slot + 1) = ap frame (omega (arith, is)) in
@@ -168,6 +161,7 @@ module _ (key cycle : ℕ) (check : CheckForm) (m : Mark) where
         (numbered (4 * slot + 1)) (numbered (4 * slot + 2)) (numbered (4 * slot + 3))
         ∙ ap (λ (xs : List ℕ). (if is_awake key cycle m slot then lines_at slot else []) ++ xs) rest
         ∙ kept_more lines_at (is_awake key cycle m) slot (range_with_len (slot + 1) slots))
+    slot_by_slot kept k n slot (suc slots) more is long few = absurd (omega (arith, long))
 
     -- from the first of all on
     frames_by_slots : (n : ℕ) →

@@ -13,17 +13,16 @@ loop-i-init c = record {
 pub loop-i-preserved : goal.loop-i-preserved
 loop-i-preserved c =
     let inv = c.loop-i.invariant in
-    let i = c.loop-i.i in
-    let bits = c.args.bits.now in
-    let bit = c.get.result in
+    let before = take c.loop-i.i c.args.bits.now in
     let page = c.page_behind-page in
     record {
       size = page.ensures.size ∙ inv.size;
-      stands = subst (StandsFor page.new.framer) (sym (taken_more bits i bit c.get.ensures))
-          (page.ensures.stands (take i bits) inv.stands);
+      stands = subst (StandsFor page.new.framer)
+          (sym (taken_more c.args.bits.now c.loop-i.i c.get.result c.get.ensures))
+          (page.ensures.stands before inv.stands);
       count = rw (c.from-count.ensures, c.is_some.ensures)
-          (count_more c.args.check c.args.rate bits i bit c.get.ensures page.result _ inv.size
-          (page.ensures.page (take i bits) inv.stands) c.loop-i.count inv.count);
+          (count_more c.args.check c.args.rate c.args.bits.now c.loop-i.i c.get.result c.get.ensures
+          page.result _ inv.size (page.ensures.page before inv.stands) c.loop-i.count inv.count);
       few = search rules;
     }
 

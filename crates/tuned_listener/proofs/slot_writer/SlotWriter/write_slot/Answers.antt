@@ -1,5 +1,5 @@
 use Rattle.tuned_listener.proofs.Common.{◌≡◌, true, length, rules, arith, sym, subst, Some, None, nat_lt, if◌then◌else◌, Appends}
-use Rattle.tuned_listener.proofs.Common.{AppendsPrefix, paging_rate, is_monitored}
+use Rattle.tuned_listener.proofs.Common.{List, SoftFrame, HoldsSlot, AppendsPrefix, paging_rate, is_monitored}
 use Rattle.tuned_listener.proofs.HeardSlots.{slot_told, spans_small}
 use Rattle.tuned_listener.proofs.Prefixes.{on_err, on_ok}
 use Rattle.tuned_listener.proofs.slot_writer.SlotWriter.write_slot.Goals as goal
@@ -9,8 +9,8 @@ slot_bits-bits-requires-clause-bound g c =
     spans_small c.args.self.now.softs
     (λ frame below. c.requires.ready.small frame (omega (arith, below, c.requires.whole)))
 
-pub returns-clause-ok : goal.returns-clause-ok
-returns-clause-ok g c =
+pub returns : goal.returns
+returns g c =
     let w = c.args.self.now in
     let m = c.args.mark.now in
     let long : length w.softs ≡ 1536 = search rules in
@@ -18,27 +18,19 @@ returns-clause-ok g c =
     c.in-Some-Some.ensures.0 in
     let told : (if nat_lt m.prat 2 then Some (paging_rate m.prat) else None)
     ≡ Some c.in-Some-Some.rate = search rules in
-    on_ok c.write_lines.result _ _
-    (λ written slot holds. subst (Appends (g.K.Sink.written c.args.sink.now)
-    (g.K.Sink.written c.write_lines.new.sink))
-    (sym (slot_told w w.key w.cycle w.check m slot c.args.frame.now c.slot_time-time.result
+    let text = λ (slot : List SoftFrame) (holds : HoldsSlot w slot).
+    slot_told w w.key w.cycle w.check m slot c.args.frame.now c.slot_time-time.result
     c.in-Some-Some.rate c.slot_bits-bits.result holds c.requires.whole long c.slot_time-time.ensures
-    awake told c.slot_bits-bits.ensures.value)) written)
-    c.write_lines.ensures.ok
-
-pub returns-clause-err : goal.returns-clause-err
-returns-clause-err g c =
-    let w = c.args.self.now in
-    let m = c.args.mark.now in
-    let long : length w.softs ≡ 1536 = search rules in
-    let awake : is_monitored c.slot_time-time.result w.key w.cycle ≡ true =
-    c.in-Some-Some.ensures.0 in
-    let told : (if nat_lt m.prat 2 then Some (paging_rate m.prat) else None)
-    ≡ Some c.in-Some-Some.rate = search rules in
-    on_err c.write_lines.result _ _
-    (λ part slot holds. subst (AppendsPrefix (g.K.Sink.written c.args.sink.now)
-    (g.K.Sink.written c.write_lines.new.sink))
-    (sym (slot_told w w.key w.cycle w.check m slot c.args.frame.now c.slot_time-time.result
-    c.in-Some-Some.rate c.slot_bits-bits.result holds c.requires.whole long c.slot_time-time.ensures
-    awake told c.slot_bits-bits.ensures.value)) part)
-    c.write_lines.ensures.err
+    awake told c.slot_bits-bits.ensures.value in
+    record {
+      same = search rules;
+      ok = on_ok c.write_lines.result _ _
+          (λ written slot holds. subst (Appends (g.K.Sink.written c.args.sink.now)
+          (g.K.Sink.written c.write_lines.new.sink)) (sym (text slot holds)) written)
+          c.write_lines.ensures.ok;
+      err = on_err c.write_lines.result _ _
+          (λ part slot holds. subst (AppendsPrefix (g.K.Sink.written c.args.sink.now)
+          (g.K.Sink.written c.write_lines.new.sink)) (sym (text slot holds)) part)
+          c.write_lines.ensures.err;
+      cause = c.write_lines.ensures.cause;
+    }

@@ -1,4 +1,4 @@
-use Rattle.tuned_listener.proofs.Common.{◌≡◌, ◌++◌, List, None, refl, rules, subst, take, Sample, Mobile}
+use Rattle.tuned_listener.proofs.Common.{Tuning, Channel, TunedText, ListensTuned, ◌≡◌, ◌++◌, List, None, refl, rules, subst, take, Sample, Mobile}
 use Rattle.mobile_core.specs.Standing.{StandsFor}
 use Rattle.tuned_listener.proofs.TunedListeners.{handset_alone, lawful_channel, listens_ahead, listens_behind, silent_ahead, silent_at_mark}
 use Rattle.tuned_listener.proofs.tuned.TunedListener.reach_mark.Goals as goal
@@ -28,32 +28,35 @@ pub tune-tuner-requires-clause-lawful : goal.tune-tuner-requires-clause-lawful
 tune-tuner-requires-clause-lawful c =
     lawful_channel c.args.self.now.channel c.args.self.now.sound.lawful
 
-pub returns-in-Some-take-clause-listens : goal.returns-in-Some-take-clause-listens
-returns-in-Some-take-clause-listens c = λ t channel form heard is.
+pub returns-in-Some-take : goal.returns-in-Some-take
+returns-in-Some-take c =
     let l = c.args.self.now in
     let m = c.in-Some-mark.mark in
     let reached = c.step_to_mark-taken in
-    let now : List Sample = heard ++ take reached.result.taken c.args.samples.now in
-    let ahead = (handset_alone t channel heard l.ahead l.behind c.in-Some.mobile c.in-Some.is
-    is.listens).1 in
-    let set = reached.ensures.set m c.in-Some-mark.is t heard ahead in
     let same : reached.new.mobile ≡ c.in-Some-take.mobile = search rules in
-    let stands = subst (λ (x : Mobile). StandsFor t x now set.given) same set.stands in
-    listens_behind t channel form l heard is _ (record { mark = m; tuner = c.tune-tuner.result }) now
-    refl refl refl refl c.take.ensures.after refl ahead.unmarked set.marked
-    (c.tune-tuner.ensures.none t now set.given stands is.phase_is is.deltas_are)
-    (c.tune-tuner.ensures.tuned t now set.given stands is.phase_is is.deltas_are)
-
-pub returns-in-Some-take-clause-silent : goal.returns-in-Some-take-clause-silent
-returns-in-Some-take-clause-silent c = λ t channel form heard is.
-    let l = c.args.self.now in
-    let m = c.in-Some-mark.mark in
-    let reached = c.step_to_mark-taken in
-    let now : List Sample = heard ++ take reached.result.taken c.args.samples.now in
-    let ahead = (handset_alone t channel heard l.ahead l.behind c.in-Some.mobile c.in-Some.is
-    is.listens).1 in
-    let set = reached.ensures.set m c.in-Some-mark.is t heard ahead in
-    let same : reached.new.mobile ≡ c.in-Some-take.mobile = search rules in
-    let stands = subst (λ (x : Mobile). StandsFor t x now set.given) same set.stands in
-    silent_at_mark t channel form l heard is m now ahead.unmarked set.marked
-    (c.tune-tuner.ensures.none t now set.given stands is.phase_is is.deltas_are)
+    let ahead = λ (t : Tuning) (channel : Channel) (form : TunedText) (heard : List Sample)
+    (is : ListensTuned t channel form l heard).
+    (handset_alone t channel heard l.ahead l.behind c.in-Some.mobile c.in-Some.is is.listens).1 in
+    let now : List Sample → List Sample =
+    λ heard. heard ++ take reached.result.taken c.args.samples.now in
+    record {
+      most = search rules;
+      room = search rules;
+      all = search rules;
+      listens = λ t channel form heard is.
+          let set = reached.ensures.set m c.in-Some-mark.is t heard (ahead t channel form heard is) in
+          let stands =
+          subst (λ (x : Mobile). StandsFor t x (now heard) set.given) same set.stands in
+          listens_behind t channel form l heard is _
+          (record { mark = m; tuner = c.tune-tuner.result }) (now heard) refl refl refl refl
+          c.take.ensures.after refl (ahead t channel form heard is).unmarked set.marked
+          (c.tune-tuner.ensures.none t (now heard) set.given stands is.phase_is is.deltas_are)
+          (c.tune-tuner.ensures.tuned t (now heard) set.given stands is.phase_is is.deltas_are);
+      silent = λ t channel form heard is.
+          let set = reached.ensures.set m c.in-Some-mark.is t heard (ahead t channel form heard is) in
+          let stands =
+          subst (λ (x : Mobile). StandsFor t x (now heard) set.given) same set.stands in
+          silent_at_mark t channel form l heard is m (now heard)
+          (ahead t channel form heard is).unmarked set.marked
+          (c.tune-tuner.ensures.none t (now heard) set.given stands is.phase_is is.deltas_are);
+    }
