@@ -1,23 +1,9 @@
 -- Lemmas on how many bytes are taken of an input at most.
-use Rattle.std.proofs.Common.{◌≡◌, ℕ, ◌+◌, ◌-◌, ◌*◌, ◌≤◌, ◌++◌, min, List, [], length, sym, ap}
-use Rattle.std.proofs.Common.{arith, subst, length-append, Option, None, Some, IfSome, Result, Ok}
-use Rattle.std.proofs.Common.{Err}
-use Rattle.std.proofs.KnownBytes.{Consumes-nil, Consumes-trans}
-use Rattle.std.specs.List.{flat_map}
-use Rattle.std.specs.Io.KnownBytes.{Consumes}
-use Rattle.chip_core.specs.declared.sample.Sample.{Sample}
-use Rattle.chip_core.specs.declared.width.Width.{Width}
-use Rattle.cdma_io.specs.Outside.{ConsumesAtMost}
-use Rattle.cdma_io.specs.SampleFile.{Opens, Reading, header_spelling, opening, sample_len}
-use Rattle.cdma_io.specs.SampleFile.{sample_spelling, width_of}
-use Rattle.cdma_io.specs.declared.file_fault.FileFault.{FileFault}
-use Rattle.cdma_io.specs.declared.header.Header.{Header}
-use Rattle.cdma_io.proofs.Opening.{length-header_spelling}
-use Rattle.cdma_io.proofs.Spelling.{length-samples, sample_len-mono}
-use Rattle.cdma_replay.specs.Find.{PassesSamples, TakesNoMore, TakesSpan, file_end, most_taken}
-use Rattle.cdma_replay.specs.Replies.{TaskTakesNoMore}
-use Rattle.cdma_replay.specs.declared.task.Task.{Task}
-use Rattle.cdma_replay.specs.declared.task.Task.TheVariants.{Make, Receive, Trial}
+use Rattle.cdma_replay.proofs.Common.{◌≡◌, ℕ, ◌+◌, ◌-◌, ◌*◌, ◌≤◌, ◌++◌, min, List, [], length, sym, ap, arith, subst, length-append, Option}
+use Rattle.cdma_replay.proofs.Common.{None, Some, IfSome, Result, Ok, Err, Consumes-nil, Consumes-trans, flat_map, Consumes, Sample, Width}
+use Rattle.cdma_replay.proofs.Common.{ConsumesAtMost, Opens, Reading, header_spelling, opening, sample_len, sample_spelling, width_of}
+use Rattle.cdma_replay.proofs.Common.{FileFault, Header, length-header_spelling, length-samples, sample_len-mono, PassesSamples}
+use Rattle.cdma_replay.proofs.Common.{TakesNoMore, TakesSpan, file_end, most_taken, TaskTakesNoMore, Task, Make, Receive, Trial}
 
 -- ---- bounds
 

@@ -1,32 +1,11 @@
 -- Lemmas on what is written of a sample file that breaks off, whose reading fails, or that goes on.
-use Rattle.std.proofs.Common.{◌≡◌, ℕ, ◌+◌, ◌*◌, ◌<◌, ◌≤◌, ◌++◌, min, List, [], length, sym, ap, ◌∙◌}
-use Rattle.std.proofs.Common.{subst, arith, append_assoc, length-append, Option, None, Some, IfSome}
-use Rattle.std.proofs.Common.{Ok, Err}
-use Rattle.std.proofs.lemmas.List.Concat.{flat_map-append}
-use Rattle.std.specs.List.{flat_map}
-use Rattle.std.specs.Io.KnownBytes.{Consumes}
-use Rattle.chip_core.specs.declared.sample.Sample.{Sample}
-use Rattle.cdma_io.specs.Outside.{ConsumesAtMost, ConsumesFewer}
-use Rattle.cdma_io.specs.declared.file_fault.FileFault.{FileFault}
-use Rattle.cdma_io.specs.declared.file_fault.FileFault.TheVariants.{Magic, Version, Flags, Count}
-use Rattle.cdma_io.specs.declared.file_fault.FileFault.TheVariants.{Short, Extra, ReadFault, TooFew}
-use Rattle.cdma_io.specs.declared.header.Header.{Header}
-use Rattle.chip_core.specs.declared.width.Width.{Width}
-use Rattle.chip_core.specs.declared.width.Width.TheVariants.{Eight, Sixteen}
-use Rattle.cdma_io.specs.SampleFile.{CutsShort, HasBits, IsLawfulHeader, Opens, Reading}
-use Rattle.cdma_io.specs.SampleFile.{header_spelling, opening, sample_len, sample_spelling}
-use Rattle.cdma_io.specs.SampleFile.{width_of}
-use Rattle.std.proofs.lemmas.List.Elements.{All-append}
-use Rattle.cdma_io.proofs.Opening.{opening-spelled, length-header_spelling}
-use Rattle.cdma_io.proofs.Spelling.{length-samples, sample_len-mono}
-use Rattle.event_tap.specs.Taps.{KeptTap}
-use Rattle.tuned_listener.proofs.Prefixes.{front_begins}
-use Rattle.cdma_replay.specs.Broken.{HasWritten, HearsFirst, IsLong, IsUnopened, TakesFew}
-use Rattle.cdma_replay.specs.Broken.{WritesAll, WritesFirst}
-use Rattle.cdma_replay.specs.Hearing.{Listening, Listens, Tells, listening}
-use Rattle.cdma_replay.specs.declared.listener.Listener.{Listener}
-use Rattle.cdma_replay.specs.Status.{file_status}
-use Rattle.cdma_replay.specs.declared.receiving.Reception.{Reception}
+use Rattle.cdma_replay.proofs.Common.{◌≡◌, ℕ, ◌+◌, ◌*◌, ◌<◌, ◌≤◌, ◌++◌, min, List, [], length, sym, ap, ◌∙◌, subst, arith, append_assoc}
+use Rattle.cdma_replay.proofs.Common.{length-append, Option, None, Some, IfSome, Ok, Err, flat_map-append, flat_map, Consumes, Sample}
+use Rattle.cdma_replay.proofs.Common.{ConsumesAtMost, ConsumesFewer, FileFault, Extra, ReadFault, Header, Width, Eight, Sixteen, CutsShort}
+use Rattle.cdma_replay.proofs.Common.{HasBits, IsLawfulHeader, Opens, Reading, header_spelling, opening, sample_len, sample_spelling}
+use Rattle.cdma_replay.proofs.Common.{width_of, All-append, opening-spelled, length-header_spelling, length-samples, sample_len-mono}
+use Rattle.cdma_replay.proofs.Common.{KeptTap, front_begins, HasWritten, HearsFirst, IsLong, IsUnopened, TakesFew, WritesAll, WritesFirst}
+use Rattle.cdma_replay.proofs.Common.{Listening, Listens, Tells, listening, Listener, file_status, Reception}
 use Rattle.cdma_replay.proofs.Hearings.{more_behind}
 use Rattle.cdma_replay.proofs.Lines.{HasBegun, writes_whole}
 
@@ -105,13 +84,7 @@ unopened (Extra place) (Some bytes) told long =
     let refused : opening bytes ≡ Err (Extra place) = told (λ (r : Extra place ≡ ReadFault). cc) in
     let never : Err (Extra place) ≡ Ok header = sym refused ∙ is in
     absurd (cc)
-unopened (Short place) (Some bytes) told long = absurd long
-unopened ReadFault (Some bytes) told long = absurd long
-unopened Magic (Some bytes) told long = absurd long
-unopened Version (Some bytes) told long = absurd long
-unopened Flags (Some bytes) told long = absurd long
-unopened Count (Some bytes) told long = absurd long
-unopened (TooFew n) (Some bytes) told long = absurd long
+unopened e (Some bytes) told long = absurd long
 
 -- so nothing is owed of them
 pub nothing_first : (taps : List KeptTap) (count : ℕ) (r : Reception)
@@ -134,14 +107,8 @@ nothing_all taps r (Some bytes) old new never =
 -- a file that breaks off isn't too long
 pub no_long_cut : (e : FileFault) (wanted from : ℕ) (old new : Option (List ℕ)) →
     CutsShort e wanted from old new → ¬ (IsLong (file_status e))
-no_long_cut (Short place) wanted from old new cut = λ long. long
-no_long_cut ReadFault wanted from old new cut = λ long. long
-no_long_cut Magic wanted from old new cut = λ long. long
-no_long_cut Version wanted from old new cut = λ long. long
-no_long_cut Flags wanted from old new cut = λ long. long
-no_long_cut Count wanted from old new cut = λ long. long
-no_long_cut (TooFew n) wanted from old new cut = λ long. long
 no_long_cut (Extra place) wanted from old new cut = absurd cut
+no_long_cut e wanted from old new cut = λ long. long
 
 -- the first samples were read and told of, and those behind them so far as they were heard
 pub has_written : {taps : List KeptTap} {r : Reception} {header : Header} {samples : List Sample}

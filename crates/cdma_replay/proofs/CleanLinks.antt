@@ -1,32 +1,11 @@
 -- What is written of a clean link is what its cell sends, channel by channel.
-use Rattle.std.proofs.Common.{◌≡◌, ◌⊎◌, inl, inr, ℕ, ◌≤◌, List, ◌++◌, length, take, refl, ap, ◌∙◌}
-use Rattle.std.proofs.Common.{subst, All, Option, Some, Ok}
-use Rattle.chip_core.specs.declared.sample.Sample.{Sample}
-use Rattle.chip_core.specs.declared.width.Width.{Width}
-use Rattle.cdma_io.specs.SampleFile.{IsSampleFile}
-use Rattle.cdma_io.specs.declared.header.Header.{Header}
-use Rattle.cell_plan.specs.Sampled.{made_samples}
-use Rattle.cell_plan.specs.declared.plan.CellPlan.{CellPlan}
-use Rattle.event_tap.specs.Taps.{KeptTap, run_text}
-use Rattle.heard_events.specs.Events.{events}
-use Rattle.heard_events.specs.Tuning.{Tuning}
-use Rattle.heard_events.specs.declared.event.Event.{Event}
-use Rattle.chip_core.specs.declared.assignment.Traffic.{Traffic}
-use Rattle.cdma_words.specs.Words.{IsPaging}
-use Rattle.clean_link.specs.CleanLink.{tuning_to, IsNotDirected, IsOnPath}
-use Rattle.cdma_replay.specs.CleanFiles.{IsCleanLink, cell_energy}
-use Rattle.clean_link.specs.HeardEach.{HearsEach}
-use Rattle.clean_link.proofs.messages.EachChannel.{each_channel}
-use Rattle.cdma_replay.specs.CleanLinks.{WritesEach}
-use Rattle.cdma_replay.specs.Hearing.{clean_end, file_end_of, file_text, told, tuning_for}
-use Rattle.cdma_replay.specs.Replies.{AnswersBehind, IsFileReply, Reply}
-use Rattle.cdma_replay.specs.Tasks.{following}
-use Rattle.cdma_replay.specs.declared.handset.Receiver.{Receiver}
-use Rattle.cdma_replay.specs.declared.status.Status.{Status}
-use Rattle.cdma_replay.specs.declared.status.Status.TheVariants.{NoMemory}
+use Rattle.cdma_replay.proofs.Common.{◌≡◌, ◌⊎◌, inl, inr, ℕ, ◌≤◌, List, ◌++◌, length, take, refl, ap, ◌∙◌, subst, All, Option, Some, Ok}
+use Rattle.cdma_replay.proofs.Common.{Sample, Width, IsSampleFile, Header, made_samples, CellPlan, KeptTap, run_text, events, Tuning, Event}
+use Rattle.cdma_replay.proofs.Common.{Traffic, IsPaging, tuning_to, IsNotDirected, IsOnPath, IsCleanLink, cell_energy, HearsEach}
+use Rattle.cdma_replay.proofs.Common.{each_channel, WritesEach, clean_end, file_end_of, file_text, told, tuning_for, AnswersBehind}
+use Rattle.cdma_replay.proofs.Common.{IsFileReply, Reply, following, Receiver, Status, NoMemory, named_receivable}
 use Rattle.cdma_replay.proofs.CleanTexts.{clean_end-is, on_path, tuned_to_cell}
 use Rattle.cdma_replay.proofs.Replies.{whole_file}
-use Rattle.cell_script.proofs.NamedPages.{named_receivable}
 
 module _ (width : Width) (script : List ℕ) (plan : CellPlan)
     (span workers fingers paging : ℕ) (traffic : Option Traffic) (header : Header)

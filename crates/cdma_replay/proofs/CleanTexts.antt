@@ -1,38 +1,11 @@
 -- The text of a clean link.
-use Rattle.std.proofs.Common.{◌≡◌, ◌⊎◌, inl, inr, ℕ, ◌≤◌, List, ◌++◌, length, take, sym, ap, ◌∙◌}
-use Rattle.std.proofs.Common.{subst, All, Option, Some, Ok}
-use Rattle.std.specs.Prelude.{is_some, nat_lt}
-use Rattle.chip_core.specs.declared.sample.Sample.{Sample}
-use Rattle.cdma_io.specs.SampleFile.{IsSampleFile}
-use Rattle.cdma_io.specs.declared.header.Header.{Header}
-use Rattle.chip_core.specs.declared.width.Width.{Width}
-use Rattle.pilot_search.specs.Search.{energy}
-use Rattle.cell_plan.specs.Plan.{IsFreeOf}
-use Rattle.cell_plan.specs.Transmitter.{phase_at}
-use Rattle.cell_plan.specs.declared.plan.CellPlan.{CellPlan}
-use Rattle.cell_script.proofs.NamedPages.{named_receivable}
-use Rattle.event_tap.specs.Taps.{KeptTap, run_text}
-use Rattle.heard_events.specs.Events.{events}
-use Rattle.heard_events.specs.Marks.{mark}
-use Rattle.heard_events.specs.declared.event.Event.{Event}
-use Rattle.cdma_words.specs.Words.{IsPaging}
-use Rattle.cell_plan.specs.Sampled.{made_samples}
-use Rattle.heard_events.specs.Tuning.{Tuning}
-use Rattle.cdma_replay.specs.CleanFiles.{IsCellFile, IsCleanLink, cell_energy}
-use Rattle.clean_link.specs.CleanLink.{IsNotDirected, IsOnPath, IsPlanFile, IsTunedTo, tuning_to}
-use Rattle.clean_link.specs.CleanLink.{sync_sent}
-use Rattle.clean_link.specs.SentEvents.{FollowsSent, sent_events}
-use Rattle.clean_link.proofs.marks.FirstMark.{marked_where_heard}
-use Rattle.clean_link.proofs.messages.MessagesBack.{messages_back, tuned_is}
-use Rattle.clean_link.proofs.signal.Samples.{length-made}
-use Rattle.chip_core.specs.declared.assignment.Traffic.{Traffic}
-use Rattle.cdma_replay.specs.Hearing.{clean_end, clean_events, end_when, told, file_end_of}
-use Rattle.cdma_replay.specs.Hearing.{file_text, tuning_for}
-use Rattle.cdma_replay.specs.Replies.{AnswersBehind, IsFileReply, Reply}
-use Rattle.cdma_replay.specs.Tasks.{following}
-use Rattle.cdma_replay.specs.declared.handset.Receiver.{Receiver}
-use Rattle.cdma_replay.specs.declared.status.Status.{Status}
-use Rattle.cdma_replay.specs.declared.status.Status.TheVariants.{NoMemory}
+use Rattle.cdma_replay.proofs.Common.{◌≡◌, ◌⊎◌, inl, inr, ℕ, ◌≤◌, List, ◌++◌, length, take, sym, ap, ◌∙◌, subst, All, Option, Some, Ok}
+use Rattle.cdma_replay.proofs.Common.{is_some, nat_lt, Sample, IsSampleFile, Header, Width, energy, IsFreeOf, phase_at, CellPlan}
+use Rattle.cdma_replay.proofs.Common.{named_receivable, KeptTap, run_text, events, mark, Event, IsPaging, made_samples, Tuning, IsCellFile}
+use Rattle.cdma_replay.proofs.Common.{IsCleanLink, cell_energy, IsNotDirected, IsOnPath, IsPlanFile, IsTunedTo, tuning_to, sync_sent}
+use Rattle.cdma_replay.proofs.Common.{FollowsSent, sent_events, marked_where_heard, messages_back, tuned_is, length-made, Traffic}
+use Rattle.cdma_replay.proofs.Common.{clean_end, clean_events, end_when, told, file_end_of, file_text, tuning_for, AnswersBehind}
+use Rattle.cdma_replay.proofs.Common.{IsFileReply, Reply, following, Receiver, Status, NoMemory}
 use Rattle.cdma_replay.proofs.Replies.{whole_file}
 use Rattle.cdma_replay.proofs.TuningLaw.{on_plans_path}
 

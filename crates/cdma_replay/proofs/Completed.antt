@@ -1,23 +1,9 @@
 -- An input without a fault is read to its end, unless a call on the outside fails or memory runs out.
-use Rattle.std.proofs.Common.{◌≡◌, ℕ, ◌⊎◌, inl, inr, List, refl, sym, subst, Bool, true, false}
-use Rattle.std.proofs.Common.{Option, None, Some, IfSome, Result, Ok, Err, IsOk}
-use Rattle.cdma_io.specs.Outside.{Rose}
-use Rattle.cdma_io.specs.declared.file_fault.FileFault.{FileFault}
-use Rattle.cell_script.specs.declared.script_fault.ScriptFault.{ScriptFault}
-use Rattle.cell_script.specs.Script.{plan_named}
-use Rattle.event_tap.specs.Taps.{KeptTap}
-use Rattle.cdma_replay.specs.declared.receiving.Reception.{Reception}
-use Rattle.cdma_replay.specs.declared.status.Status.{Status}
-use Rattle.cdma_replay.specs.declared.task.Task.{Task}
-use Rattle.cdma_replay.specs.declared.task.Task.TheVariants.{Make, Receive, Trial}
-use Rattle.cdma_replay.specs.Find.{IsEnd, IsSearchable}
-use Rattle.cdma_replay.specs.Hearing.{end_when, file_end_of, file_text}
-use Rattle.cdma_replay.specs.Make.{made_file}
-use Rattle.cdma_replay.specs.Replies.{Answers, IsAnswered, IsFileReply, IsLawfulTaskInput}
-use Rattle.cdma_replay.specs.Replies.{IsTaskEnd, IsTaskReply, Reply, TaskReadsInput, TaskReadsWell}
-use Rattle.cdma_replay.specs.Replies.{taps_by}
-use Rattle.cdma_replay.specs.TaskRuns.{RunsTask}
-use Rattle.cdma_replay.specs.Trials.{trial_line}
+use Rattle.cdma_replay.proofs.Common.{◌≡◌, ℕ, ◌⊎◌, inl, inr, List, refl, sym, subst, Bool, true, false, Option, None, Some, IfSome, Result}
+use Rattle.cdma_replay.proofs.Common.{Ok, Err, IsOk, Rose, FileFault, ScriptFault, plan_named, KeptTap, Reception, Status, Task, Make}
+use Rattle.cdma_replay.proofs.Common.{Receive, Trial, IsEnd, IsSearchable, end_when, file_end_of, file_text, made_file, Answers, IsAnswered}
+use Rattle.cdma_replay.proofs.Common.{IsFileReply, IsLawfulTaskInput, IsTaskEnd, IsTaskReply, Reply, TaskReadsInput, TaskReadsWell, taps_by}
+use Rattle.cdma_replay.proofs.Common.{RunsTask, trial_line}
 use Rattle.cdma_replay.proofs.Replies.{named_well, one_task_reply, whole_file}
 
 -- an input is owed a whole text, and a good end
@@ -75,20 +61,17 @@ answered_end forms task bytes status old new lawful answered =
 
 file_read : (task : Task) (fault : FileFault) → IsTaskEnd task (Status.BadFile fault) →
     TaskReadsInput task
-file_read (Receive r limits) fault end = tt
-file_read (Make width) fault end = tt
 file_read (Trial number workers) fault end = absurd end
+file_read task fault end = tt
 
 script_read : (task : Task) (fault : ScriptFault) → IsTaskEnd task (Status.BadScript fault) →
     TaskReadsInput task
-script_read (Receive r limits) fault end = tt
-script_read (Make width) fault end = tt
 script_read (Trial number workers) fault end = absurd end
+script_read task fault end = tt
 
 source_read : (task : Task) → IsTaskEnd task Status.ReadFault → TaskReadsInput task
-source_read (Receive r limits) end = tt
-source_read (Make width) end = tt
 source_read (Trial number workers) end = absurd end
+source_read task end = tt
 
 -- its input is known
 read_well : (task : Task) (rest : Option (List ℕ)) (Failed : Type 0) → TaskReadsInput task →
@@ -116,8 +99,6 @@ module _ {rest left : Option (List ℕ)} {misread misread_now : ℕ} {SameSource
       RunsTask forms task status rest left misread misread_now SameSource old new miswritten
       miswritten_now SameSink → TaskReadsWell task rest (Rose misread misread_now) →
       ¬ (Rose miswritten miswritten_now) → (status ≡ Status.NoMemory) ⊎ IsEnd status
-  complete_answer forms task Status.Done run well writes = inr tt
-  complete_answer forms task Status.NoSync run well writes = inr tt
   complete_answer forms task (Status.BadFile fault) run well writes =
       inr (told_end forms task (Status.BadFile fault) rest old new (Rose misread misread_now)
       (file_read task fault run.kind) well (run.verdict tt))
@@ -131,3 +112,4 @@ module _ {rest left : Option (List ℕ)} {misread misread_now : ℕ} {SameSource
   complete_answer forms task Status.WriteFault run well writes =
       absurd (writes (run.write_fault refl).0)
   complete_answer forms task Status.NoMemory run well writes = inl refl
+  complete_answer forms task good run well writes = inr tt

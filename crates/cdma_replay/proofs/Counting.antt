@@ -1,31 +1,11 @@
 -- Lemmas on the events of a trial, counted one by one.
-use Rattle.std.proofs.Common.{◌≡◌, ℕ, ◌+◌, ◌≤◌, Bool, true, false, List, [], ◌∷◌, ◌++◌, length}
-use Rattle.std.proofs.Common.{take, drop, refl, sym, ap, ◌∙◌, subst, arith, append_assoc, append-nil}
-use Rattle.std.proofs.Common.{length-append, map, filter}
-use Rattle.std.proofs.lemmas.List.{drop-map, take-append-drop, take-map, take_all}
-use Rattle.std.proofs.lemmas.List.Elements.{filter-append}
-use Rattle.std.proofs.Math.Seq.{take-add}
-use Rattle.chip_core.specs.Complex.{of_sample}
-use Rattle.chip_core.specs.declared.sample.Sample.{Sample}
-use Rattle.cell_plan.specs.Sampled.{made_samples, sample_with}
-use Rattle.cell_plan.specs.Signal.{samples_of}
-use Rattle.cell_plan.specs.declared.plan.CellPlan.{CellPlan}
-use Rattle.cell_plan.specs.Transmitter.{CellState}
-use Rattle.trial_link.specs.Trial.{trial_plan}
-use Rattle.chip_core.specs.declared.width.Width.{Width}
-use Rattle.chip_core.specs.declared.width.Width.TheVariants.{Sixteen}
-use Rattle.pilot_search.specs.Search.{best_phase}
-use Rattle.clean_link.proofs.signal.Samples.{length-made}
-use Rattle.heard_events.specs.Events.{events}
-use Rattle.mobile_core.specs.Standing.{StandsFor}
-use Rattle.heard_events.specs.Tuning.{Tuning}
-use Rattle.heard_events.specs.declared.event.Event.{Event}
-use Rattle.mobile_core.specs.declared.mobile.Mobile.{Mobile}
-use Rattle.cdma_replay.specs.Trials.{LeavesRoom, count_of, counts_of, counts_with, is_frame, is_good}
-use Rattle.cdma_replay.specs.Trials.{is_paging, is_sync, one_if, summary, trial_line, trial_samples}
-use Rattle.cdma_replay.specs.Trials.{trial_span, trial_tuning}
-use Rattle.cdma_replay.specs.declared.trial.Counts.{Counts}
-use Rattle.cdma_replay.proofs.Hearings.{taken_more}
+use Rattle.cdma_replay.proofs.Common.{◌≡◌, ℕ, ◌+◌, ◌≤◌, Bool, true, false, List, [], ◌∷◌, ◌++◌, length, take, drop, refl, sym, ap, ◌∙◌}
+use Rattle.cdma_replay.proofs.Common.{subst, arith, length-append, map, filter, drop-map, take-map, take_all, filter-append, take-add}
+use Rattle.cdma_replay.proofs.Common.{of_sample, Sample, made_samples, sample_with, samples_of, CellPlan, CellState, trial_plan, Width}
+use Rattle.cdma_replay.proofs.Common.{Sixteen, best_phase, length-made, events, StandsFor, Tuning, Event, Mobile, LeavesRoom, count_of}
+use Rattle.cdma_replay.proofs.Common.{counts_of, counts_with, is_frame, is_good, is_paging, is_sync, one_if, summary, trial_line}
+use Rattle.cdma_replay.proofs.Common.{trial_samples, trial_span, trial_tuning, Counts}
+use Rattle.cdma_replay.proofs.Hearings.{all_given, taken_more}
 
 -- ---- one event more
 
@@ -137,25 +117,11 @@ pub counted_all : (t : Tuning) (one other : Mobile) (counts : Counts) (heard sam
     StandsFor t other (heard ++ samples) (events t (heard ++ samples))
     × (counts ≡ counts_of (events t (heard ++ samples)))
 counted_all t one other counts heard samples taken n so_far all stepped last =
-    let joined : (heard ++ take taken samples) ++ drop taken samples ≡ heard ++ samples =
-    append_assoc heard (take taken samples) (drop taken samples) ∙
-    ap (λ (xs : List Sample). heard ++ xs) (take-append-drop taken samples) in
-    let whole : take n (drop taken samples) ≡ drop taken samples =
-    rw all (take_all (length (drop taken samples)) (drop taken samples) (omega arith)) in
-    let given_all : so_far.0 ≡ events t (heard ++ samples) =
-    last so_far.0 so_far.1 ∙ ap (events t) joined in (
-      subst (λ (es : List Event). StandsFor t other (heard ++ samples) es)
-          (append-nil so_far.0 ∙ given_all)
-          (subst (λ (xs : List Sample). StandsFor t other xs (so_far.0 ++ []))
-          (ap (λ (xs : List Sample). (heard ++ take taken samples) ++ xs) whole ∙ joined)
-          (stepped so_far.0 so_far.1)),
-      so_far.2 ∙ ap counts_of given_all,
-    )
+    let (stands, given) = all_given t other heard samples taken n so_far.0 all
+    (stepped so_far.0 so_far.1) (last so_far.0 so_far.1) in
+    (stands, so_far.2 ∙ ap counts_of given)
 
 -- ---- the cell's samples, piece by piece
-
-sample_same : (s : Sample) → sample_with (of_sample s) ≡ s
-sample_same s = refl
 
 pub samples_back : (samples : List Sample) → map sample_with (map of_sample samples) ≡ samples
 samples_back [] = refl

@@ -1,52 +1,21 @@
 -- Lemmas on runs that end before the file does, and on runs over a file that nobody hears.
-use Rattle.std.proofs.Common.{◌≡◌, ℕ, ◌≤◌, ◌++◌, List, refl, ap, arith, ◌∙◌, true, Option, None}
-use Rattle.std.proofs.Common.{Some, IfSome, Result, ◌⊎◌, inl, []}
-use Rattle.std.specs.Prelude.{Bool}
-use Rattle.std.specs.List.{flat_map}
-use Rattle.std.proofs.KnownBytes.{Appends-nil}
-use Rattle.chip_core.specs.declared.sample.Sample.{Sample}
-use Rattle.cdma_io.specs.Outside.{Rose}
-use Rattle.cdma_io.specs.declared.file_fault.FileFault.{FileFault}
-use Rattle.cdma_io.specs.declared.file_fault.FileFault.TheVariants.{Magic, Version, Flags, Count}
-use Rattle.cdma_io.specs.declared.file_fault.FileFault.TheVariants.{Short, Extra, ReadFault, TooFew}
-use Rattle.cdma_io.specs.declared.header.Header.{Header}
-use Rattle.cdma_io.specs.SampleFile.{header_spelling, sample_spelling, width_of}
-use Rattle.event_tap.specs.Taps.{KeptTap}
-use Rattle.tuned_listener.proofs.Prefixes.{front_begins}
-use Rattle.cdma_replay.specs.declared.status.Status.{Status}
-use Rattle.cdma_replay.specs.declared.status.Status.TheVariants.{Done, NoSync, BadWords, BadFile}
-use Rattle.cdma_replay.specs.declared.status.Status.TheVariants.{BadScript, NoMemory, WriteFault}
-use Rattle.cdma_replay.specs.Status.{file_status}
-use Rattle.cdma_replay.specs.Find.{BeginsFile, IsEnd, IsFault, TakesNoMore, TakesSpan, WritesNoMore}
-use Rattle.cdma_replay.specs.Find.{ended}
-use Rattle.cdma_replay.specs.Hearing.{IsUnheard, end_when, is_told, listening}
-use Rattle.cdma_replay.specs.declared.purpose.Purpose.{Purpose}
-use Rattle.cdma_replay.specs.declared.purpose.Purpose.TheVariants.{Find, Follow, Survey, Tuned}
-use Rattle.cdma_replay.specs.TaskRuns.{ReceivesFile}
-use Rattle.cdma_replay.specs.declared.receiving.Reception.{Reception}
+use Rattle.cdma_replay.proofs.Common.{◌≡◌, ℕ, ◌≤◌, ◌++◌, List, refl, ap, arith, ◌∙◌, true, Option, None, Some, IfSome, Result, ◌⊎◌, inl, []}
+use Rattle.cdma_replay.proofs.Common.{Bool, flat_map, Appends-nil, Sample, Rose, FileFault, ReadFault, Header, header_spelling}
+use Rattle.cdma_replay.proofs.Common.{sample_spelling, width_of, KeptTap, front_begins, Status, Done, NoSync, BadFile, NoMemory, WriteFault}
+use Rattle.cdma_replay.proofs.Common.{file_status, BeginsFile, IsEnd, IsFault, TakesNoMore, TakesSpan, WritesNoMore, ended, IsUnheard}
+use Rattle.cdma_replay.proofs.Common.{end_when, is_told, listening, Purpose, Follow, Tuned, ReceivesFile, Reception}
 
 -- a status that comes of a fault of the file blames a read, or the file's bytes
 pub by_file_status : (P : Status → Type 0) (fault : FileFault) → P Status.ReadFault →
     P (BadFile fault) → P (file_status fault)
-by_file_status P Magic read bad = bad
-by_file_status P Version read bad = bad
-by_file_status P Flags read bad = bad
-by_file_status P Count read bad = bad
-by_file_status P (Short place) read bad = bad
-by_file_status P (Extra place) read bad = bad
 by_file_status P ReadFault read bad = read
-by_file_status P (TooFew count) read bad = bad
+by_file_status P fault read bad = bad
 
 -- a good end is one of two
 pub by_end : (P : Status → Type 0) (status : Status) → IsEnd status → P Done → P NoSync → P status
 by_end P Done end done unset = done
 by_end P NoSync end done unset = unset
-by_end P BadWords end done unset = absurd end
-by_end P (BadFile fault) end done unset = absurd end
-by_end P Status.ReadFault end done unset = absurd end
-by_end P WriteFault end done unset = absurd end
-by_end P NoMemory end done unset = absurd end
-by_end P (BadScript fault) end done unset = absurd end
+by_end P status end done unset = absurd end
 
 -- and no fault
 pub fault_no_end : (status : Status) → IsFault status → ¬ (IsEnd status)
@@ -74,10 +43,9 @@ begins_file {header} {samples} (Some bytes) (Some behind) same t = record {
 unheard_told : (taps : List KeptTap) (purpose : Purpose) (header : Header)
     (first heard : List Sample) → IsUnheard purpose →
     is_told (listening taps purpose header first) heard ≡ true
-unheard_told taps Find header first heard unheard = refl
 unheard_told taps (Follow receiver) header first heard unheard = absurd unheard
 unheard_told taps (Tuned fingers channel text) header first heard unheard = absurd unheard
-unheard_told taps (Survey base width top) header first heard unheard = refl
+unheard_told taps purpose header first heard unheard = refl
 
 pub ends_well : {T : Type 0} (taps : List KeptTap) (purpose : Purpose) (header : Header)
     (first heard : List Sample) (told : Bool) (r : Result T Status) → IsUnheard purpose →

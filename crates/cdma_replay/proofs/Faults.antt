@@ -1,21 +1,9 @@
 -- Lemmas on the one fault that a bad file has, and its place.
-use Rattle.std.proofs.Common.{◌≡◌, ◌≢◌, ℕ, ◌+◌, ◌-◌, ◌*◌, ◌<◌, ◌≤◌, ◌++◌, min, List, length, refl}
-use Rattle.std.proofs.Common.{ap, subst, arith, inl, inr, length-append, Option, None, Some, IfSome}
-use Rattle.std.proofs.Common.{Ok, Err}
-use Rattle.std.specs.List.{flat_map}
-use Rattle.std.specs.Io.KnownBytes.{Consumes}
-use Rattle.chip_core.specs.declared.sample.Sample.{Sample}
-use Rattle.cdma_io.specs.declared.file_fault.FileFault.{FileFault}
-use Rattle.cdma_io.specs.declared.file_fault.FileFault.TheVariants.{Magic, Version, Flags, Count}
-use Rattle.cdma_io.specs.declared.file_fault.FileFault.TheVariants.{Short, Extra, ReadFault, TooFew}
-use Rattle.cdma_io.specs.declared.header.Header.{Header}
-use Rattle.cdma_io.specs.SampleFile.{CutsShort, IsLawfulHeader, Opens, Reading, RunsOn}
-use Rattle.cdma_io.specs.SampleFile.{header_spelling, next_place, opening, sample_len}
-use Rattle.cdma_io.specs.SampleFile.{sample_spelling, width_of}
-use Rattle.cdma_io.proofs.Opening.{opening-spelled, length-header_spelling}
-use Rattle.cdma_io.proofs.Spelling.{length-samples, sample_len-mono}
-use Rattle.std.proofs.Common.{append_assoc, ◌∙◌}
-use Rattle.cdma_replay.specs.Find.{IsFaultIn, IsRestFault, PassesSamples}
+use Rattle.cdma_replay.proofs.Common.{◌≡◌, ◌≢◌, ℕ, ◌+◌, ◌-◌, ◌*◌, ◌<◌, ◌≤◌, ◌++◌, min, List, length, refl, ap, subst, arith, inl, inr}
+use Rattle.cdma_replay.proofs.Common.{length-append, Option, None, Some, IfSome, Ok, Err, flat_map, Consumes, Sample, FileFault, Short}
+use Rattle.cdma_replay.proofs.Common.{Extra, ReadFault, TooFew, Header, CutsShort, IsLawfulHeader, Opens, Reading, RunsOn, header_spelling}
+use Rattle.cdma_replay.proofs.Common.{next_place, opening, sample_len, sample_spelling, width_of, opening-spelled, length-header_spelling}
+use Rattle.cdma_replay.proofs.Common.{length-samples, sample_len-mono, append_assoc, ◌∙◌, IsFaultIn, IsRestFault, PassesSamples}
 
 -- opening the file answers it
 pub fault_of_opening : (rest : Option (List ℕ)) (span : ℕ) (e : FileFault) →
@@ -73,18 +61,8 @@ fault_of_span (Short place) (Some bytes) (Some rest) new span reading told consu
     )
 fault_of_span ReadFault (Some bytes) (Some rest) new span reading told consumed all enough cut
     other = absurd (other refl)
-fault_of_span Magic (Some bytes) (Some rest) new span reading told consumed all enough cut other =
+fault_of_span e (Some bytes) (Some rest) new span reading told consumed all enough cut other =
     absurd cut
-fault_of_span Version (Some bytes) (Some rest) new span reading told consumed all enough cut other =
-    absurd cut
-fault_of_span Flags (Some bytes) (Some rest) new span reading told consumed all enough cut other =
-    absurd cut
-fault_of_span Count (Some bytes) (Some rest) new span reading told consumed all enough cut other =
-    absurd cut
-fault_of_span (Extra place) (Some bytes) (Some rest) new span reading told consumed all enough cut
-    other = absurd cut
-fault_of_span (TooFew n) (Some bytes) (Some rest) new span reading told consumed all enough cut
-    other = absurd cut
 
 -- what is left is cut short, after some of it was read
 pub rest_cut_fault : (e : FileFault) (begun now : Reading) (old mid new : Option (List ℕ))
@@ -130,17 +108,7 @@ rest_cut_fault (Short place) begun now (Some bytes) (Some rest) new room same p 
     )
 rest_cut_fault ReadFault begun now (Some bytes) (Some rest) new room same p low counted cut other =
     absurd (other refl)
-rest_cut_fault Magic begun now (Some bytes) (Some rest) new room same p low counted cut other =
-    absurd cut
-rest_cut_fault Version begun now (Some bytes) (Some rest) new room same p low counted cut other =
-    absurd cut
-rest_cut_fault Flags begun now (Some bytes) (Some rest) new room same p low counted cut other =
-    absurd cut
-rest_cut_fault Count begun now (Some bytes) (Some rest) new room same p low counted cut other =
-    absurd cut
-rest_cut_fault (Extra place) begun now (Some bytes) (Some rest) new room same p low counted cut
-    other = absurd cut
-rest_cut_fault (TooFew n) begun now (Some bytes) (Some rest) new room same p low counted cut other =
+rest_cut_fault e begun now (Some bytes) (Some rest) new room same p low counted cut other =
     absurd cut
 
 -- a byte comes behind what is left
@@ -171,13 +139,7 @@ rest_extra_fault (Extra place) begun now (Some bytes) (Some rest) same p done ru
     )
 rest_extra_fault ReadFault begun now (Some bytes) (Some rest) same p done runs other =
     absurd (other refl)
-rest_extra_fault Magic begun now (Some bytes) (Some rest) same p done runs other = absurd runs
-rest_extra_fault Version begun now (Some bytes) (Some rest) same p done runs other = absurd runs
-rest_extra_fault Flags begun now (Some bytes) (Some rest) same p done runs other = absurd runs
-rest_extra_fault Count begun now (Some bytes) (Some rest) same p done runs other = absurd runs
-rest_extra_fault (Short place) begun now (Some bytes) (Some rest) same p done runs other =
-    absurd runs
-rest_extra_fault (TooFew n) begun now (Some bytes) (Some rest) same p done runs other = absurd runs
+rest_extra_fault e begun now (Some bytes) (Some rest) same p done runs other = absurd runs
 
 -- the lengths of a file of which the header and some samples were read
 record Totals (bytes rest : List ℕ) (reading : Reading) (samples : List Sample) : Type 0 where
@@ -247,15 +209,5 @@ fault_of_rest (Extra place) (Some bytes) (Some rest) reading samples lawful coun
       t.opened,
       (t.enough, fault.0, omega (arith, fault.0, fault.1, t.long, t.whole)),
     )
-fault_of_rest ReadFault (Some bytes) (Some rest) reading samples lawful counted consumed fault =
-    absurd fault
-fault_of_rest Magic (Some bytes) (Some rest) reading samples lawful counted consumed fault =
-    absurd fault
-fault_of_rest Version (Some bytes) (Some rest) reading samples lawful counted consumed fault =
-    absurd fault
-fault_of_rest Flags (Some bytes) (Some rest) reading samples lawful counted consumed fault =
-    absurd fault
-fault_of_rest Count (Some bytes) (Some rest) reading samples lawful counted consumed fault =
-    absurd fault
-fault_of_rest (TooFew n) (Some bytes) (Some rest) reading samples lawful counted consumed fault =
+fault_of_rest e (Some bytes) (Some rest) reading samples lawful counted consumed fault =
     absurd fault

@@ -1,21 +1,9 @@
 -- Lemmas on files with a fault, and on runs that end by it.
-use Rattle.std.proofs.Common.{◌≡◌, ◌≢◌, ℕ, ◌+◌, ◌*◌, ◌≤◌, List, length, sym, ap, ◌∙◌, subst, arith}
-use Rattle.std.proofs.Common.{inl, inr, length-append, Option, None, Some, IfSome, Result, Ok, Err}
-use Rattle.std.proofs.Common.{IfErr, IsErrAnd}
-use Rattle.std.specs.List.{flat_map}
-use Rattle.chip_core.specs.declared.sample.Sample.{Sample}
-use Rattle.cdma_io.specs.declared.file_fault.FileFault.{FileFault}
-use Rattle.cdma_io.specs.declared.file_fault.FileFault.TheVariants.{Magic, Version, Flags, Count}
-use Rattle.cdma_io.specs.declared.file_fault.FileFault.TheVariants.{Short, Extra, ReadFault, TooFew}
-use Rattle.cdma_io.specs.declared.header.Header.{Header}
-use Rattle.cdma_io.specs.SampleFile.{IsSampleFile, Reading, header_spelling, opening, sample_len}
-use Rattle.cdma_io.specs.SampleFile.{sample_spelling, width_of}
-use Rattle.cdma_io.proofs.Opening.{opening-spelled, length-header_spelling}
-use Rattle.cdma_io.proofs.Spelling.{length-samples}
-use Rattle.cdma_replay.specs.declared.status.Status.{Status}
-use Rattle.cdma_replay.specs.declared.status.Status.TheVariants.{BadFile}
-use Rattle.cdma_replay.specs.Status.{file_status}
-use Rattle.cdma_replay.specs.Find.{IsFaultIn, IsLaterFault, IsRestFault, IsSearchable, ended}
+use Rattle.cdma_replay.proofs.Common.{◌≡◌, ◌≢◌, ℕ, ◌+◌, ◌*◌, ◌≤◌, List, length, sym, ap, ◌∙◌, subst, arith, inl, inr, length-append, Option}
+use Rattle.cdma_replay.proofs.Common.{None, Some, IfSome, Result, Ok, Err, IfErr, IsErrAnd, flat_map, Sample, FileFault, Short, Extra}
+use Rattle.cdma_replay.proofs.Common.{ReadFault, TooFew, Header, IsSampleFile, Reading, header_spelling, opening, sample_len}
+use Rattle.cdma_replay.proofs.Common.{sample_spelling, width_of, opening-spelled, length-header_spelling, length-samples, Status, BadFile}
+use Rattle.cdma_replay.proofs.Common.{file_status, IsFaultIn, IsLaterFault, IsRestFault, IsSearchable, ended}
 
 -- ---- what the bytes of a good file tell
 
@@ -63,11 +51,7 @@ no_later_fault span header len (TooFew count) fault enough long =
 no_later_fault span header len (Short place) fault enough long = omega (arith, fault.2, long)
 no_later_fault span header len (Extra place) fault enough long =
     omega (arith, fault.1, fault.2, long)
-no_later_fault span header len Magic fault enough long = fault
-no_later_fault span header len Version fault enough long = fault
-no_later_fault span header len Flags fault enough long = fault
-no_later_fault span header len Count fault enough long = fault
-no_later_fault span header len ReadFault fault enough long = fault
+no_later_fault span header len e fault enough long = fault
 
 pub no_fault : (bytes : List ℕ) (span : ℕ) (e : FileFault) (s : IsSearchable bytes span) →
     ¬ (IsFaultIn span bytes e)
@@ -93,26 +77,10 @@ one_later_fault span header len (Extra place) (TooFew n) a b = absurd (omega (ar
 one_later_fault span header len (Extra place) (Short also) a b =
     absurd (omega (arith, b.2, a.1, a.2))
 one_later_fault span header len (Extra place) (Extra also) a b = ap Extra (a.1 ∙ sym b.1)
-one_later_fault span header len Magic other a b = absurd a
-one_later_fault span header len Version other a b = absurd a
-one_later_fault span header len Flags other a b = absurd a
-one_later_fault span header len Count other a b = absurd a
-one_later_fault span header len ReadFault other a b = absurd a
-one_later_fault span header len (TooFew n) Magic a b = absurd b
-one_later_fault span header len (TooFew n) Version a b = absurd b
-one_later_fault span header len (TooFew n) Flags a b = absurd b
-one_later_fault span header len (TooFew n) Count a b = absurd b
-one_later_fault span header len (TooFew n) ReadFault a b = absurd b
-one_later_fault span header len (Short place) Magic a b = absurd b
-one_later_fault span header len (Short place) Version a b = absurd b
-one_later_fault span header len (Short place) Flags a b = absurd b
-one_later_fault span header len (Short place) Count a b = absurd b
-one_later_fault span header len (Short place) ReadFault a b = absurd b
-one_later_fault span header len (Extra place) Magic a b = absurd b
-one_later_fault span header len (Extra place) Version a b = absurd b
-one_later_fault span header len (Extra place) Flags a b = absurd b
-one_later_fault span header len (Extra place) Count a b = absurd b
-one_later_fault span header len (Extra place) ReadFault a b = absurd b
+one_later_fault span header len (TooFew n) other a b = absurd b
+one_later_fault span header len (Short place) other a b = absurd b
+one_later_fault span header len (Extra place) other a b = absurd b
+one_later_fault span header len one other a b = absurd a
 
 -- so do bytes
 pub one_fault : (span : ℕ) (bytes : List ℕ) (one other : FileFault) →
@@ -154,24 +122,13 @@ wrong_length (Some bytes) reading (Short place) fault =
 wrong_length (Some bytes) reading (Extra place) fault =
     λ (same : length bytes ≡ sample_len (width_of reading.header) * reading.left).
     omega (arith, same, fault.1)
-wrong_length (Some bytes) reading Magic fault = absurd fault
-wrong_length (Some bytes) reading Version fault = absurd fault
-wrong_length (Some bytes) reading Flags fault = absurd fault
-wrong_length (Some bytes) reading Count fault = absurd fault
-wrong_length (Some bytes) reading ReadFault fault = absurd fault
-wrong_length (Some bytes) reading (TooFew n) fault = absurd fault
+wrong_length (Some bytes) reading e fault = absurd fault
 
 -- a status that blames the file's bytes comes from a fault in them
 bad_file_is : (e fault : FileFault) → file_status e ≡ BadFile fault →
     (e ≡ fault) × (fault ≢ ReadFault)
 bad_file_is ReadFault fault h = absurd (cc)
-bad_file_is Magic fault h = (cc, λ (r : fault ≡ ReadFault). cc)
-bad_file_is Version fault h = (cc, λ (r : fault ≡ ReadFault). cc)
-bad_file_is Flags fault h = (cc, λ (r : fault ≡ ReadFault). cc)
-bad_file_is Count fault h = (cc, λ (r : fault ≡ ReadFault). cc)
-bad_file_is (Short at) fault h = (cc, λ (r : fault ≡ ReadFault). cc)
-bad_file_is (Extra at) fault h = (cc, λ (r : fault ≡ ReadFault). cc)
-bad_file_is (TooFew n) fault h = (cc, λ (r : fault ≡ ReadFault). cc)
+bad_file_is e fault h = (cc, λ (r : fault ≡ ReadFault). cc)
 
 -- ---- how a run ends by a fault
 

@@ -1,23 +1,10 @@
 -- A listener hears the samples behind the first ones, piece by piece, to the end of the file.
-use Rattle.std.proofs.Common.{◌≡◌, ℕ, ◌+◌, ◌-◌, ◌≤◌, ◌++◌, [], List, length, take, sym, subst}
-use Rattle.std.proofs.Common.{arith, append_assoc, append-nil, length-append, length-take-le, All}
-use Rattle.std.proofs.Common.{Option}
-use Rattle.std.proofs.lemmas.List.Concat.{flat_map-append}
-use Rattle.std.specs.List.{flat_map}
-use Rattle.std.specs.Io.KnownBytes.{Consumes, Keeps}
-use Rattle.std.proofs.KnownBytes.{Consumes-kept, Consumes-nil}
-use Rattle.std.proofs.KnownBytes.{Consumes-trans}
-use Rattle.std.proofs.lemmas.List.Elements.{All-append}
-use Rattle.chip_core.specs.declared.width.Width.{Width}
-use Rattle.cdma_io.specs.Outside.{ConsumesAtMost}
-use Rattle.cdma_io.specs.SampleFile.{HasBits, sample_spelling}
-use Rattle.chip_core.specs.declared.sample.Sample.{Sample}
-use Rattle.event_tap.specs.Taps.{KeptTap}
-use Rattle.cdma_replay.specs.Broken.{HearsFirst}
-use Rattle.cdma_replay.specs.Find.{PassesSamples}
+use Rattle.cdma_replay.proofs.Common.{◌≡◌, ℕ, ◌+◌, ◌-◌, ◌≤◌, ◌++◌, [], List, length, take, sym, subst, arith, append_assoc, append-nil}
+use Rattle.cdma_replay.proofs.Common.{length-append, length-take-le, All, Option, flat_map-append, flat_map, Consumes, Keeps, Consumes-kept}
+use Rattle.cdma_replay.proofs.Common.{Consumes-nil, Consumes-trans, All-append, Width, ConsumesAtMost, HasBits, sample_spelling, Sample}
+use Rattle.cdma_replay.proofs.Common.{KeptTap, HearsFirst, PassesSamples, HearsPart, HearsRest, Listening, Listens, Tells, TellsPart}
+use Rattle.cdma_replay.proofs.Common.{Listener}
 use Rattle.cdma_replay.proofs.Hearings.{all_part, more_behind, more_none, part_behind}
-use Rattle.cdma_replay.specs.Hearing.{HearsPart, HearsRest, Listening, Listens, Tells, TellsPart}
-use Rattle.cdma_replay.specs.declared.listener.Listener.{Listener}
 
 -- a source lost the spellings of so many samples, and one listener became the other by hearing them,
 -- as the taps that are kept did. The samples are known also where the listener stands for nothing

@@ -1,64 +1,21 @@
 -- Lemmas on a handset whose events are told to a sink.
-use Rattle.std.proofs.Common.{◌≡◌, ℕ, zero, suc, ◌+◌, ◌-◌, ◌≤◌, ◌++◌, ◌∷◌, [], List, length, take}
-use Rattle.std.proofs.Common.{drop, refl, sym, ap, ◌∙◌, subst, arith, append_assoc, append-nil}
-use Rattle.std.proofs.Common.{length-append, true, ℤ, pos, replicate, Option, None, Some, Result}
-use Rattle.std.proofs.Common.{Ok, Err, IfOk, OnOk}
-use Rattle.std.proofs.lemmas.List.{length-replicate, take_all, take_at, take_rest, take-append-drop}
-use Rattle.std.proofs.lemmas.List.Concat.{flat_map-append}
-use Rattle.std.specs.List.{flat_map, range_with_len}
-use Rattle.std.specs.Io.{StartsWith}
-use Rattle.std.specs.Io.KnownBytes.{Appends}
-use Rattle.std.proofs.KnownBytes.{Appends-nil, Appends-trans}
-use Rattle.chip_core.specs.Bits.{places}
-use Rattle.chip_core.proofs.Places.{places-more, places-none}
-use Rattle.chip_core.proofs.Ranges.{flat_map-places-more, flat_map_ext_places}
-use Rattle.chip_core.specs.declared.sample.Sample.{Sample}
-use Rattle.cdma_io.specs.Outside.{AppendsPrefix}
-use Rattle.heard_events.specs.Events.{events, events_at, heard_within}
-use Rattle.heard_events.specs.Given.{listed}
-use Rattle.std.specs.Option.{ForSome}
-use Rattle.chip_core.specs.declared.assignment.Traffic.{Traffic}
-use Rattle.cdma_words.specs.Words.{IsLawfulTraffic}
-use Rattle.mobile_core.specs.BehindMark.{IsSoundAssignment}
-use Rattle.heard_events.specs.Near.{AreNear, low_of}
-use Rattle.mobile_core.specs.Standing.{IsStep, StandsFor, Steps, events_left, has_room, parts}
-use Rattle.heard_events.specs.Timing.{IsTimed}
-use Rattle.heard_events.specs.Tuning.{Tuning, sync_stream, tuning_by}
-use Rattle.heard_events.specs.declared.channel.Channel.{Channel}
-use Rattle.heard_events.specs.declared.event.Event.{Event}
-use Rattle.heard_events.specs.declared.event.Event.TheVariants.{Pilot}
-use Rattle.mobile_core.specs.declared.mobile.Mobile.{Mobile}
-use Rattle.mobile_core.specs.declared.mobile.Step.{Step}
-use Rattle.event_tap.specs.Taps.{KeptTap, heard_text, run_taps, run_text, taps_behind}
-use Rattle.event_tap.proofs.Runs.{run_taps-append, run_taps-more, run_text-append, run_text-more}
-use Rattle.event_tap.proofs.Runs.{run_text-none}
-use Rattle.tuned_listener.proofs.Prefixes.{begins_more, front_begins, prefix_before, prefix_behind}
-use Rattle.tuned_listener.proofs.Prefixes.{taken_begins}
-use Rattle.tuned_listener.specs.TunedListening.{ListensTuned, TellsTuned, TellsTunedPart}
-use Rattle.tuned_listener.specs.TunedListening.{tuned_room}
-use Rattle.tuned_listener.proofs.TunedMarks.{none_marked, stands_near}
-use Rattle.tuned_listener.proofs.TunedTexts.{text_of_nothing}
-use Rattle.tuned_listener.specs.declared.tuned.TunedListener.{TunedListener}
-use Rattle.tuned_listener.specs.declared.tuned_text.TunedText.{TunedText}
-use Rattle.cdma_replay.specs.declared.handset.Receiver.{Receiver}
-use Rattle.heard_events.specs.SyncEvents.{sync_events_at}
-use Rattle.heard_events.proofs.EventsGrown.{events_at_by, events_sooner}
-use Rattle.heard_events.proofs.FrameTimes.{known_between}
-use Rattle.heard_events.proofs.FingerTimes.{timed_of}
-use Rattle.heard_events.proofs.FollowedEvents.{told_unset}
-use Rattle.heard_events.proofs.Growth.{KnownFrom, left_all, left_none}
-use Rattle.cdma_io.specs.declared.header.Header.{Header}
-use Rattle.pilot_search.specs.BestIn.{IsBestIn}
-use Rattle.pilot_search.specs.Near.{near_deltas}
+use Rattle.cdma_replay.proofs.Common.{◌≡◌, ℕ, zero, suc, ◌+◌, ◌-◌, ◌≤◌, ◌++◌, ◌∷◌, [], List, length, take, drop, refl, sym, ap, ◌∙◌, subst}
+use Rattle.cdma_replay.proofs.Common.{arith, append_assoc, append-nil, length-append, true, ℤ, pos, replicate, Option, None, Some, Result}
+use Rattle.cdma_replay.proofs.Common.{Ok, Err, IfOk, OnOk, length-replicate, take_all, take_at, take_rest, flat_map-append, flat_map}
+use Rattle.cdma_replay.proofs.Common.{range_with_len, StartsWith, Appends, Appends-nil, Appends-trans, places, places-more, places-none}
+use Rattle.cdma_replay.proofs.Common.{flat_map-places-more, flat_map_ext_places, Sample, AppendsPrefix, events, events_at, heard_within}
+use Rattle.cdma_replay.proofs.Common.{listed, ForSome, Traffic, IsLawfulTraffic, IsSoundAssignment, AreNear, low_of, IsStep, StandsFor}
+use Rattle.cdma_replay.proofs.Common.{Steps, events_left, has_room, parts, IsTimed, Tuning, sync_stream, tuning_by, Channel, Event, Pilot}
+use Rattle.cdma_replay.proofs.Common.{Mobile, Step, KeptTap, heard_text, run_taps, run_text, taps_behind, run_taps-append, run_taps-more}
+use Rattle.cdma_replay.proofs.Common.{run_text-append, run_text-more, run_text-none, begins_more, front_begins, prefix_before}
+use Rattle.cdma_replay.proofs.Common.{prefix_behind, taken_begins, ListensTuned, TellsTuned, TellsTunedPart, tuned_room, none_marked}
+use Rattle.cdma_replay.proofs.Common.{stands_near, text_of_nothing, TunedListener, TunedText, Receiver, sync_events_at, events_at_by}
+use Rattle.cdma_replay.proofs.Common.{events_sooner, known_between, timed_of, told_unset, KnownFrom, left_all, left_none, Header, IsBestIn}
+use Rattle.cdma_replay.proofs.Common.{near_deltas, Near, Best, best_energy-only, best_phase-only, Settings, AreNearTo, AreReady}
+use Rattle.cdma_replay.proofs.Common.{BeginsBehind, ByFrames, ByTaps, HasRoom, HasRoomFor, HasTold, IsFresh, Listening, Listens, Nobody}
+use Rattle.cdma_replay.proofs.Common.{Tells, TellsMore, TellsPart, is_told, told, tuning_for, Listener}
+use Rattle.std.proofs.lemmas.List.{take-append-drop}
 use Rattle.pilot_search.specs.Search.{best_phase, energy as energy_at}
-use Rattle.pilot_search.specs.declared.paths.Near.{Near}
-use Rattle.pilot_search.specs.declared.sweeping.Best.{Best}
-use Rattle.pilot_search.proofs.BestPhase.{best_energy-only, best_phase-only}
-use Rattle.heard_events.specs.declared.settings.Settings.{Settings}
-use Rattle.cdma_replay.specs.Hearing.{AreNearTo, AreReady, BeginsBehind, ByFrames, ByTaps, HasRoom}
-use Rattle.cdma_replay.specs.Hearing.{HasRoomFor, HasTold, IsFresh, Listening, Listens, Nobody}
-use Rattle.cdma_replay.specs.Hearing.{Tells, TellsMore, TellsPart, is_told, told, tuning_for}
-use Rattle.cdma_replay.specs.declared.listener.Listener.{Listener}
 use Rattle.cdma_replay.specs.declared.listener.Listener.TheVariants as by
 
 -- ---- samples that follow one another
@@ -156,7 +113,26 @@ told_more t taps one other kept behind given heard samples taken n event old mid
           ∙ ap (run_taps taps) (append_assoc given more (event ∷ []));
     }
 
--- no event is left
+-- all samples were taken, and no event is left: what was given is all that is heard in them
+pub all_given : (t : Tuning) (other : Mobile) (heard samples : List Sample) (taken n : ℕ)
+    (es : List Event) → n ≡ length (drop taken samples) →
+    StandsFor t other ((heard ++ take taken samples) ++ take n (drop taken samples)) (es ++ []) →
+    es ≡ events t ((heard ++ take taken samples) ++ drop taken samples) →
+    StandsFor t other (heard ++ samples) (events t (heard ++ samples))
+    × (es ≡ events t (heard ++ samples))
+all_given t other heard samples taken n es all stands is =
+    let joined : (heard ++ take taken samples) ++ drop taken samples ≡ heard ++ samples =
+    append_assoc heard (take taken samples) (drop taken samples) ∙
+    ap (λ (xs : List Sample). heard ++ xs) (take-append-drop taken samples) in
+    let whole : take n (drop taken samples) ≡ drop taken samples =
+    rw all (take_all (length (drop taken samples)) (drop taken samples) (omega arith)) in
+    let given_all : es ≡ events t (heard ++ samples) = is ∙ ap (events t) joined in (
+      subst (λ (fs : List Event). StandsFor t other (heard ++ samples) fs) (append-nil es ∙ given_all)
+          (subst (λ (xs : List Sample). StandsFor t other xs (es ++ []))
+          (ap (λ (xs : List Sample). (heard ++ take taken samples) ++ xs) whole ∙ joined) stands),
+      given_all,
+    )
+
 pub told_all : (t : Tuning) (taps : List KeptTap) (one other : Mobile) (kept : List KeptTap)
     (heard samples : List Sample) (taken n : ℕ) (old new : Option (List ℕ)) →
     HasTold t taps one kept (events t heard) (heard ++ take taken samples) old new →
@@ -171,27 +147,15 @@ unfolding told
 told_all t taps one other kept heard samples taken n old new so_far all stepped last =
     let given = events t heard in
     let more = so_far.more in
-    let joined : (heard ++ take taken samples) ++ drop taken samples ≡ heard ++ samples =
-    append_assoc heard (take taken samples) (drop taken samples) ∙
-    ap (λ (xs : List Sample). heard ++ xs) (take-append-drop taken samples) in
-    let whole : take n (drop taken samples) ≡ drop taken samples =
-    rw all (take_all (length (drop taken samples)) (drop taken samples) (omega arith)) in
-    let given_all : given ++ more ≡ events t (heard ++ samples) =
-    last (given ++ more) so_far.stands ∙ ap (events t) joined in
+    let (stands, given_all) = all_given t other heard samples taken n (given ++ more) all
+    (stepped (given ++ more) so_far.stands) (last (given ++ more) so_far.stands) in
     record {
       more = record {
         text = run_text (run_taps taps given) more;
         written = so_far.written;
         all = sym (run_text-append taps given more) ∙ ap (run_text taps) given_all;
       };
-      listens = (
-        subst (λ (es : List Event). StandsFor t other (heard ++ samples) es)
-            (append-nil (given ++ more) ∙ given_all)
-            (subst (λ (xs : List Sample). StandsFor t other xs ((given ++ more) ++ []))
-            (ap (λ (xs : List Sample). (heard ++ take taken samples) ++ xs) whole ∙ joined)
-            (stepped (given ++ more) so_far.stands)),
-        so_far.behind ∙ ap (run_taps taps) given_all,
-      );
+      listens = (stands, so_far.behind ∙ ap (run_taps taps) given_all);
     }
 
 -- ---- what is heard in the first samples stays so
@@ -418,32 +382,28 @@ hears_nobody Nobody kept heard samples old listens = record {
   more = record { text = []; written = Appends-nil old; all = refl };
   listens = tt;
 }
-hears_nobody (ByTaps t taps) kept heard samples old listens = absurd listens
-hears_nobody (ByFrames t channel text) kept heard samples old listens = absurd listens
+hears_nobody l kept heard samples old listens = absurd listens
 
 pub nobody_told : (l : Listening) (kept : List KeptTap) (heard : List Sample) →
     Listens l by.Nobody kept heard → true ≡ is_told l heard
 nobody_told Nobody kept heard listens = refl
-nobody_told (ByTaps t taps) kept heard listens = absurd listens
-nobody_told (ByFrames t channel text) kept heard listens = absurd listens
+nobody_told l kept heard listens = absurd listens
 
 -- what holds where taps hear a handset
 pub on_handset : (P : Listening → Type 0) (l : Listening) (mobile : Mobile) (kept : List KeptTap)
     (heard : List Sample) → Listens l (by.Handset mobile) kept heard →
     ((t : Tuning) (taps : List KeptTap) → StandsFor t mobile heard (events t heard) →
     kept ≡ run_taps taps (events t heard) → P (ByTaps t taps)) → P l
-on_handset P Nobody mobile kept heard listens holds = absurd listens
 on_handset P (ByTaps t taps) mobile kept heard listens holds = holds t taps listens.0 listens.1
-on_handset P (ByFrames t channel text) mobile kept heard listens holds = absurd listens
+on_handset P l mobile kept heard listens holds = absurd listens
 
 -- and where the frames of one channel are heard
 pub on_tuned : (P : Listening → Type 0) (l : Listening) (tuned : TunedListener)
     (kept : List KeptTap) (heard : List Sample) → Listens l (by.Tuned tuned) kept heard →
     ((t : Tuning) (channel : Channel) (text : TunedText) →
     ListensTuned t channel text tuned heard → P (ByFrames t channel text)) → P l
-on_tuned P Nobody tuned kept heard listens holds = absurd listens
-on_tuned P (ByTaps t taps) tuned kept heard listens holds = absurd listens
 on_tuned P (ByFrames t channel text) tuned kept heard listens holds = holds t channel text listens
+on_tuned P l tuned kept heard listens holds = absurd listens
 
 pub tuned_tells : {t : Tuning} {channel : Channel} {text : TunedText} {tuned : TunedListener}
     {kept : List KeptTap} {before heard : List Sample} {old new : Option (List ℕ)} →
@@ -467,30 +427,27 @@ tuned_part part = record { text = part.text; written = part.written; begins = pa
 pub on_fresh : (P : Listening → Type 0) (l : Listening) (mobile : Mobile) (kept : List KeptTap) →
     IsFresh l (by.Handset mobile) kept → ((t : Tuning) → StandsFor t mobile [] [] → P (ByTaps t kept)) →
     P l
-on_fresh P Nobody mobile kept fresh holds = absurd fresh
 on_fresh P (ByTaps t taps) mobile kept fresh holds =
     subst (λ (ks : List KeptTap). P (ByTaps t ks)) fresh.1 (holds t fresh.0)
-on_fresh P (ByFrames t channel text) mobile kept fresh holds = absurd fresh
+on_fresh P l mobile kept fresh holds = absurd fresh
 
 -- the others tell nothing
 pub nobody_begins : (l : Listening) (kept : List KeptTap) (old : Option (List ℕ)) →
     IsFresh l by.Nobody kept → BeginsBehind [] l by.Nobody kept old old
 unfolding told
 nobody_begins Nobody kept old fresh = record { written = Appends-nil old; listens = tt }
-nobody_begins (ByTaps t taps) kept old fresh = absurd fresh
-nobody_begins (ByFrames t channel text) kept old fresh = absurd fresh
+nobody_begins l kept old fresh = absurd fresh
 
 pub tuned_begins : (l : Listening) (tuned : TunedListener) (kept : List KeptTap)
     (old : Option (List ℕ)) → IsFresh l (by.Tuned tuned) kept →
     BeginsBehind [] l (by.Tuned tuned) kept old old
 unfolding told
-tuned_begins Nobody tuned kept old fresh = absurd fresh
-tuned_begins (ByTaps t taps) tuned kept old fresh = absurd fresh
 tuned_begins (ByFrames t channel text) tuned kept old fresh = record {
   written = subst (Appends old old) (sym (text_of_nothing t fresh.close text channel))
       (Appends-nil old);
   listens = fresh;
 }
+tuned_begins l tuned kept old fresh = absurd fresh
 
 -- ---- a handset that has taken nothing
 
@@ -586,5 +543,4 @@ room_tuned listener tuned n is room = subst (λ (h : Listener). HasRoomFor h n) 
 pub room_for : (listener : Listener) (left n : ℕ) → HasRoom listener left → n ≤ left →
     HasRoomFor listener n
 room_for by.Nobody left n room fits = tt
-room_for (by.Handset mobile) left n room fits = omega (arith, room, fits)
-room_for (by.Tuned tuned) left n room fits = omega (arith, room, fits)
+room_for listener left n room fits = omega (arith, room, fits)

@@ -2,6 +2,7 @@ pub mod Bounds
 pub mod Broken
 pub mod CleanLinks
 pub mod CleanTexts
+pub mod Common
 pub mod Completed
 pub mod Ends
 pub mod Faults

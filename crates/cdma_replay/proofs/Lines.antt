@@ -1,49 +1,16 @@
 -- Lemmas on the text that is written, and on the file whose beginning it tells of.
-use Rattle.std.proofs.Common.{◌≡◌, ℕ, ◌+◌, ◌≤◌, ◌++◌, List, [], length, take, refl, sym, ap, ◌∙◌}
-use Rattle.std.proofs.Common.{subst, arith, inr, append_assoc, append-nil, length-append, All}
-use Rattle.std.proofs.Common.{Option, None, Some, IfSome}
-use Rattle.std.proofs.lemmas.List.{take_at}
-use Rattle.std.proofs.lemmas.List.Concat.{flat_map-append}
-use Rattle.std.proofs.lemmas.List.Elements.{All-append}
-use Rattle.std.specs.List.{flat_map}
-use Rattle.std.specs.Io.{StartsWith}
-use Rattle.std.specs.Io.KnownBytes.{Appends, Consumes, IsAtEnd}
-use Rattle.std.proofs.KnownBytes.{Appends-trans, Consumes-nil, Consumes-trans}
-use Rattle.chip_core.specs.declared.sample.Sample.{Sample}
-use Rattle.cdma_io.specs.declared.header.Header.{Header}
-use Rattle.chip_core.specs.declared.width.Width.{Width}
-use Rattle.cdma_io.specs.Outside.{AppendsPrefix}
-use Rattle.cdma_io.specs.SampleFile.{HasBits, IsLawfulHeader, header_spelling, sample_spelling}
-use Rattle.cdma_io.specs.SampleFile.{width_of}
-use Rattle.pilot_search.specs.BestIn.{IsBestIn}
-use Rattle.pilot_search.specs.Search.{best_phase}
-use Rattle.pilot_search.proofs.BestPhase.{best_phase-only, best_energy-only}
-use Rattle.heard_events.specs.declared.event.Event.TheVariants.{Pilot}
-use Rattle.event_tap.specs.EventLines.{event_line}
-use Rattle.event_tap.specs.Taps.{KeptTap}
-use Rattle.pilot_survey.specs.declared.rank.Rank.{Rank}
-use Rattle.tuned_listener.proofs.Prefixes.{begins_more, prefix_of, taken_begins}
-use Rattle.tuned_listener.specs.declared.tuned_text.TunedText.{TunedText}
-use Rattle.cdma_replay.specs.declared.handset.Receiver.{Receiver}
-use Rattle.cdma_replay.specs.declared.listener.Listener.{Listener}
-use Rattle.cdma_replay.specs.declared.listener.Listener.TheVariants as by
-use Rattle.cdma_replay.specs.declared.opening.Shown.{Shown}
-use Rattle.cdma_replay.specs.declared.opening.Shown.TheVariants.{Followed, Found, Ranks, TunedTo}
-use Rattle.cdma_replay.specs.declared.purpose.Purpose.{Purpose}
-use Rattle.cdma_replay.specs.declared.purpose.Purpose.TheVariants.{Find, Follow, Survey, Tuned}
-use Rattle.cdma_replay.specs.declared.receiving.Reception.{Reception}
-use Rattle.cdma_replay.specs.declared.status.Status.{Status}
-use Rattle.cdma_replay.specs.Find.{TakesSpan, WritesNoMore, WritesText}
+use Rattle.cdma_replay.proofs.Common.{◌≡◌, ℕ, ◌+◌, ◌≤◌, ◌++◌, List, [], length, take, refl, sym, ap, ◌∙◌, subst, arith, inr, append_assoc}
+use Rattle.cdma_replay.proofs.Common.{on_ok, on_err, OnOk, OnErr, Result, append-nil, length-append, All, Option, None, Some, IfSome, take_at, flat_map-append, All-append}
+use Rattle.cdma_replay.proofs.Common.{flat_map, StartsWith, Appends, Consumes, IsAtEnd, Appends-trans, Consumes-nil, Consumes-trans, Sample}
+use Rattle.cdma_replay.proofs.Common.{Header, Width, AppendsPrefix, HasBits, IsLawfulHeader, header_spelling, sample_spelling, width_of}
+use Rattle.cdma_replay.proofs.Common.{IsBestIn, best_phase, best_phase-only, best_energy-only, Pilot, event_line, KeptTap, Rank}
+use Rattle.cdma_replay.proofs.Common.{begins_more, prefix_of, taken_begins, Receiver, Listener, Shown, Followed, Found, Ranks, Purpose}
+use Rattle.cdma_replay.proofs.Common.{Find, Follow, Survey, Reception, Status, TakesSpan, WritesNoMore, WritesText, BeginsBehind, HearsPart}
+use Rattle.cdma_replay.proofs.Common.{HearsRest, IsFresh, Listening, Listens, Nobody, Tells, TellsMore, TellsPart, best_pilot, end_when}
+use Rattle.cdma_replay.proofs.Common.{file_end_of, file_text, first_text, is_told, listening, told, IsBest, Shows, listening_in, shown_text}
+use Rattle.cdma_replay.proofs.Common.{Best, ranking, ranks_text, survey_text}
 use Rattle.cdma_replay.proofs.Hearings.{more_behind, part_behind}
-use Rattle.cdma_replay.specs.Hearing.{BeginsBehind, HearsPart, HearsRest, IsFresh, Listening}
-use Rattle.cdma_replay.specs.Hearing.{Listens, Nobody, Tells, TellsMore, TellsPart, best_pilot}
-use Rattle.cdma_replay.specs.Hearing.{end_when, file_end_of, file_text, first_text, is_told}
-use Rattle.cdma_replay.specs.Hearing.{listening, told}
-use Rattle.cdma_replay.specs.Openings.{IsBest, Shows, listening_in, shown_text}
-use Rattle.heard_events.specs.declared.channel.Channel.{Channel}
-use Rattle.pilot_search.specs.declared.sweeping.Best.{Best}
-use Rattle.pilot_survey.specs.Survey.{ranking}
-use Rattle.cdma_replay.specs.Ranks.{ranks_text, survey_text}
+use Rattle.cdma_replay.specs.declared.listener.Listener.TheVariants as by
 
 -- what a sweep over all phases found
 pub pilot-best : (samples : List Sample) (phase energy : ℕ) →
@@ -72,14 +39,6 @@ followed_shows receiver = record {
   hears = λ (taps : List KeptTap) (header : Header). refl;
 }
 
-pub tuned_shows : {first : List Sample} {best : Best} (fingers : ℕ) (channel : Channel)
-    (text : TunedText) →
-    Shows (Tuned fingers channel text) first (TunedTo best fingers channel text)
-tuned_shows fingers channel text = record {
-  text = refl;
-  hears = λ (taps : List KeptTap) (header : Header). refl;
-}
-
 pub ranks_show : {first : List Sample} {ranks : List Rank} (base width top : ℕ) →
     ranks ≡ ranking first base width → Shows (Survey base width top) first (Ranks ranks top)
 unfolding survey_text
@@ -99,14 +58,40 @@ alone_begins text by.Nobody kept old new written fresh = record {
   written = subst (Appends old new) (sym (append-nil text)) written;
   listens = tt;
 }
-alone_begins text (by.Handset mobile) kept old new written fresh = absurd fresh
-alone_begins text (by.Tuned tuned) kept old new written fresh = absurd fresh
+alone_begins text listener kept old new written fresh = absurd fresh
 
 pub alone_part : (text : List ℕ) (samples : List Sample) (old new : Option (List ℕ)) →
     AppendsPrefix old new text → AppendsPrefix old new (text ++ told Nobody samples)
 unfolding told
 alone_part text samples old new part =
     subst (AppendsPrefix old new) (sym (append-nil text)) part
+
+-- where nothing is told of what is shown, who hears the file begins
+pub silent_ok : {T E : Type 0} (ran : Result T E) (shown : Shown) (one behind : Listener)
+    (taps kept : List KeptTap) (old new : Option (List ℕ)) → shown_text shown ≡ [] →
+    OnOk ran ((l : Listening) → IsFresh l one taps → BeginsBehind [] l behind kept old new) →
+    OnOk ran ((header : Header) (first : List Sample) →
+    IsFresh (listening_in taps shown header first) one taps →
+    BeginsBehind (shown_text shown) (listening_in taps shown header first) behind kept old new)
+silent_ok ran shown one behind taps kept old new none =
+    on_ok ran _ _
+    (λ begins header first fresh.
+    let l = listening_in taps shown header first in
+    subst (λ (text : List ℕ). BeginsBehind text l behind kept old new) (sym none) (begins l fresh))
+
+pub silent_err : {T E : Type 0} (ran : Result T E) (shown : Shown) (one : Listener)
+    (taps : List KeptTap) (old new : Option (List ℕ)) → shown_text shown ≡ [] →
+    OnErr ran ((l : Listening) (samples : List Sample) → IsFresh l one taps →
+    AppendsPrefix old new (told l samples)) →
+    OnErr ran ((header : Header) (first samples : List Sample) →
+    IsFresh (listening_in taps shown header first) one taps →
+    AppendsPrefix old new (shown_text shown ++ told (listening_in taps shown header first) samples))
+silent_err ran shown one taps old new none =
+    on_err ran _ _
+    (λ part header first samples fresh.
+    let l = listening_in taps shown header first in
+    subst (λ (text : List ℕ). AppendsPrefix old new (text ++ told l samples)) (sym none)
+    (part l samples fresh))
 
 -- ---- the text of a file
 
@@ -127,9 +112,7 @@ told_alike : (taps : List KeptTap) (purpose : Purpose) (header : Header)
     is_told (listening taps purpose header first) samples
     ≡ is_told (listening [] purpose header first) samples
 told_alike taps Find header first samples = refl
-told_alike taps (Follow receiver) header first samples = refl
-told_alike taps (Tuned fingers channel text) header first samples = refl
-told_alike taps (Survey base width top) header first samples = refl
+told_alike taps purpose header first samples = refl
 
 end_behind : (taps : List KeptTap) (r : Reception) (header : Header)
     (samples others : List Sample) → length samples ≡ r.span →

@@ -1,34 +1,15 @@
 -- Lemmas on scripts that are read, and on files of cells that are written.
-use Rattle.std.proofs.Common.{◌≡◌, ◌≢◌, ℕ, ◌+◌, ◌<◌, ◌≤◌, List, [], ◌∷◌, ◌++◌, length, map, take}
-use Rattle.std.proofs.Common.{drop, refl, sym, ap, ◌∙◌, subst, arith, inl, inr, append-nil, le_refl}
-use Rattle.std.proofs.Common.{Option, None, Some, IfSome, IsOk, Result, Ok, Err}
-use Rattle.std.specs.List.{flat_map}
-use Rattle.std.specs.Io.KnownBytes.{Appends, Consumes, IsAtEnd}
-use Rattle.std.proofs.KnownBytes.{Appends-trans}
-use Rattle.std.proofs.lemmas.Bool.{cases_lt, cond-true, lt-ltb}
-use Rattle.std.proofs.lemmas.List.{drop-map, length-take-le, take-append-le, take-append-drop}
-use Rattle.std.proofs.lemmas.List.{take_all, take-map}
-use Rattle.std.proofs.lemmas.List.Concat.{flat_map-append}
-use Rattle.std.proofs.Math.Seq.{take-add}
-use Rattle.chip_core.specs.Complex.{of_sample}
-use Rattle.chip_core.specs.declared.sample.Sample.{Sample}
-use Rattle.chip_core.specs.declared.width.Width.{Width}
-use Rattle.cdma_io.specs.Outside.{AppendsPrefix}
-use Rattle.cdma_io.specs.SampleFile.{header_spelling, sample_spelling}
-use Rattle.cell_plan.specs.declared.plan.CellPlan.{CellPlan}
-use Rattle.cell_script.specs.declared.script_fault.ScriptFault.{ScriptFault}
-use Rattle.cell_script.specs.declared.script_fault.ScriptFault.TheVariants.{Line, Walsh, Gain}
-use Rattle.cell_script.specs.declared.script_fault.ScriptFault.TheVariants.{TooLoud, TooLong}
-use Rattle.cell_script.specs.declared.script_fault.ScriptFault.TheVariants.{OutOfMemory, TooBig}
-use Rattle.cell_script.specs.Script.{named, plan_named, stated_plan}
-use Rattle.cell_plan.specs.Signal.{samples_of}
-use Rattle.cell_plan.specs.Transmitter.{header_of}
-use Rattle.tuned_listener.proofs.Prefixes.{prefix_before, prefix_behind, prefix_of, taken_begins}
+use Rattle.cdma_replay.proofs.Common.{◌≡◌, ◌≢◌, ℕ, ◌+◌, ◌<◌, ◌≤◌, List, [], ◌++◌, length, map, take, drop, refl, sym, ap, ◌∙◌, subst}
+use Rattle.cdma_replay.proofs.Common.{append_assoc, Header, arith, inl, inr, append-nil, le_refl, Option, None, Some, IfSome, IsOk, Result}
+use Rattle.cdma_replay.proofs.Common.{Ok, Err, flat_map, Appends, Consumes, IsAtEnd, Appends-trans, cases_lt, cond-true, lt-ltb}
+use Rattle.cdma_replay.proofs.Common.{take-append-le, take_all, flat_map-append, take-add, of_sample, Sample, Width, AppendsPrefix}
+use Rattle.cdma_replay.proofs.Common.{header_spelling, sample_spelling, CellPlan, ScriptFault, OutOfMemory, TooBig, named, plan_named}
+use Rattle.cdma_replay.proofs.Common.{stated_plan, samples_of, header_of, prefix_before, prefix_behind, prefix_of, taken_begins}
+use Rattle.cdma_replay.proofs.Common.{script_status, length-made, made_samples, WritesNoMoreMade, made_file, piece_bytes}
+use Rattle.std.proofs.lemmas.List.{length-take-le, take-append-drop}
+use Rattle.cdma_replay.specs.Make.{sample_bytes}
+use Rattle.cdma_replay.proofs.Counting.{next_made}
 use Rattle.cdma_replay.specs.declared.status.Status.TheVariants as Status
-use Rattle.cdma_replay.specs.Status.{script_status}
-use Rattle.clean_link.proofs.signal.Samples.{length-made}
-use Rattle.cell_plan.specs.Sampled.{made_samples, sample_with}
-use Rattle.cdma_replay.specs.Make.{WritesNoMoreMade, made_file, piece_bytes, sample_bytes}
 
 -- ---- scripts
 
@@ -117,41 +98,21 @@ read_to_end width new buf n plan room fits ends is =
 pub bad_script_is : (e fault : ScriptFault) → script_status e ≡ Status.BadScript fault →
     (e ≡ fault) × (fault ≢ OutOfMemory)
 bad_script_is OutOfMemory fault h = absurd (cc)
-bad_script_is (Line n) fault h = (cc, λ (r : fault ≡ OutOfMemory). cc)
-bad_script_is (Walsh row) fault h = (cc, λ (r : fault ≡ OutOfMemory). cc)
-bad_script_is (Gain row) fault h = (cc, λ (r : fault ≡ OutOfMemory). cc)
-bad_script_is (TooLoud sum) fault h = (cc, λ (r : fault ≡ OutOfMemory). cc)
-bad_script_is (TooLong n) fault h = (cc, λ (r : fault ≡ OutOfMemory). cc)
-bad_script_is TooBig fault h = (cc, λ (r : fault ≡ OutOfMemory). cc)
+bad_script_is e fault h = (cc, λ (r : fault ≡ OutOfMemory). cc)
 
 -- want of memory is no fault of the script
 pub memory_is : (e : ScriptFault) → script_status e ≡ Status.NoMemory → e ≡ OutOfMemory
 memory_is OutOfMemory h = refl
-memory_is (Line n) h = absurd (cc)
-memory_is (Walsh row) h = absurd (cc)
-memory_is (Gain row) h = absurd (cc)
-memory_is (TooLoud sum) h = absurd (cc)
-memory_is (TooLong n) h = absurd (cc)
-memory_is TooBig h = absurd (cc)
+memory_is e h = absurd (cc)
 
 -- ---- samples
-
-same_samples : (out : List Sample) → map sample_with (map of_sample out) ≡ out
-same_samples [] = refl
-same_samples (x ∷ xs) = ap (λ (ys : List Sample). x ∷ ys) (same_samples xs)
 
 -- a piece of the samples that a cell gave
 pub piece_spelled : (width : Width) (plan : CellPlan) (given n : ℕ) (out : List Sample) →
     map of_sample out ≡ take n (drop given (samples_of plan)) →
     flat_map (sample_spelling width) out ≡ piece_bytes width plan given n
-unfolding made_samples
 piece_spelled width plan given n out is =
-    let all = samples_of plan in
-    let moved : take n (drop given (map sample_with all)) ≡
-    map sample_with (take n (drop given all)) =
-    ap (take n) (drop-map sample_with given all) ∙ take-map sample_with n (drop given all) in
-    ap (flat_map (sample_spelling width)) (sym (same_samples out) ∙ ap (map sample_with) is ∙
-    sym moved)
+    ap (flat_map (sample_spelling width)) (next_made plan given n out is)
 
 -- the bytes of the first samples of a cell
 abbrev pub first_bytes : Width → CellPlan → ℕ → List ℕ
@@ -165,85 +126,99 @@ first_more width plan given n =
     ap (flat_map (sample_spelling width)) (take-add given n all) ∙
     flat_map-append (sample_spelling width) (take given all) (take n (drop given all))
 
-first_all : (width : Width) (plan : CellPlan) →
-    first_bytes width plan plan.link.samples ≡ sample_bytes width plan
-first_all width plan =
-    ap (flat_map (sample_spelling width))
+-- the bytes of its file so far
+abbrev pub file_front : Width → CellPlan → ℕ → List ℕ
+file_front width plan given = header_spelling (header_of width plan) ++ first_bytes width plan given
+
+front_more : (width : Width) (plan : CellPlan) (given n : ℕ) →
+    file_front width plan (given + n) ≡ file_front width plan given ++ piece_bytes width plan given n
+front_more width plan given n =
+    let header = header_spelling (header_of width plan) in
+    ap (λ (bytes : List ℕ). header ++ bytes) (first_more width plan given n)
+    ∙ sym (append_assoc header (first_bytes width plan given) (piece_bytes width plan given n))
+
+-- all of them, and those behind them
+front_all : (width : Width) (plan : CellPlan) →
+    file_front width plan plan.link.samples ≡ made_file width plan
+unfolding made_file
+front_all width plan =
+    ap (λ (samples : List Sample).
+    header_spelling (header_of width plan) ++ flat_map (sample_spelling width) samples)
     (take_all plan.link.samples (made_samples plan) (omega (arith, length-made plan)))
 
--- and those behind them
-first_and_rest : (width : Width) (plan : CellPlan) (given : ℕ) →
-    first_bytes width plan given ++
-    flat_map (sample_spelling width) (drop given (made_samples plan)) ≡ sample_bytes width plan
-first_and_rest width plan given =
+front_and_rest : (width : Width) (plan : CellPlan) (given : ℕ) →
+    file_front width plan given
+    ++ flat_map (sample_spelling width) (drop given (made_samples plan)) ≡ made_file width plan
+unfolding made_file
+front_and_rest width plan given =
     let all = made_samples plan in
-    sym (flat_map-append (sample_spelling width) (take given all) (drop given all)) ∙
-    ap (flat_map (sample_spelling width)) (take-append-drop given all)
+    let header = header_spelling (header_of width plan) in
+    append_assoc header (first_bytes width plan given)
+    (flat_map (sample_spelling width) (drop given all))
+    ∙ ap (λ (bytes : List ℕ). header ++ bytes)
+    (sym (flat_map-append (sample_spelling width) (take given all) (drop given all))
+    ∙ ap (flat_map (sample_spelling width)) (take-append-drop given all))
 
 -- ---- what a sink took
 
+-- the header was written
+pub header_whole : (width now : Width) (plan : CellPlan) (given : ℕ) (header : Header)
+    (bytes : List ℕ) (old new : Option (List ℕ)) → header ≡ header_of now plan → now ≡ width →
+    bytes ≡ header_spelling header → given ≡ 0 → Appends old new bytes →
+    Appends old new (file_front width plan given)
+header_whole width now plan given header bytes old new is same spelled none written =
+    subst (Appends old new)
+    (spelled ∙ ap header_spelling (is ∙ ap (λ (w : Width). header_of w plan) same)
+    ∙ sym (append-nil (header_spelling (header_of width plan)))
+    ∙ ap (file_front width plan) (sym none)) written
+
+-- or cut short
+pub header_cut : (width now : Width) (plan : CellPlan) (header : Header) (bytes : List ℕ)
+    (old new : Option (List ℕ)) → header ≡ header_of now plan → now ≡ width →
+    bytes ≡ header_spelling header → AppendsPrefix old new bytes →
+    AppendsPrefix old new (made_file width plan)
+unfolding made_file
+header_cut width now plan header bytes old new is same spelled part =
+    prefix_before old new (header_spelling (header_of width plan)) (sample_bytes width plan)
+    (subst (AppendsPrefix old new)
+    (spelled ∙ ap header_spelling (is ∙ ap (λ (w : Width). header_of w plan) same)) part)
+
 -- a piece more was written
-pub piece_more : (width : Width) (plan now : CellPlan) (given n later : ℕ)
+pub piece_more : (width : Width) (plan now : CellPlan) (given n later : ℕ) (bytes : List ℕ)
     (old mid new : Option (List ℕ)) → now ≡ plan → later ≡ given + n →
-    Appends old mid (first_bytes width plan given) →
-    Appends mid new (piece_bytes width now given n) →
-    Appends old new (first_bytes width plan later)
-piece_more width plan now given n later old mid new same is before more =
+    bytes ≡ piece_bytes width now given n → Appends old mid (file_front width plan given) →
+    Appends mid new bytes → Appends old new (file_front width plan later)
+piece_more width plan now given n later bytes old mid new same is spelled before more =
     let next : Appends mid new (piece_bytes width plan given n) =
-    subst (λ (p : CellPlan). Appends mid new (piece_bytes width p given n)) same more in
-    let bytes : first_bytes width plan later ≡
-    first_bytes width plan given ++ piece_bytes width plan given n =
-    ap (first_bytes width plan) is ∙ first_more width plan given n in
-    subst (Appends old new) (sym bytes)
-    (Appends-trans old mid new (first_bytes width plan given) (piece_bytes width plan given n)
+    subst (Appends mid new)
+    (spelled ∙ ap (λ (p : CellPlan). piece_bytes width p given n) same) more in
+    subst (Appends old new) (sym (ap (file_front width plan) is ∙ front_more width plan given n))
+    (Appends-trans old mid new (file_front width plan given) (piece_bytes width plan given n)
     before next)
 
 -- a piece was cut short
-pub piece_cut : (width : Width) (plan now : CellPlan) (given n : ℕ)
-    (old mid new : Option (List ℕ)) → now ≡ plan → Appends old mid (first_bytes width plan given) →
-    AppendsPrefix mid new (piece_bytes width now given n) →
-    AppendsPrefix old new (sample_bytes width plan)
-piece_cut width plan now given n old mid new same before cut =
+pub piece_cut : (width : Width) (plan now : CellPlan) (given n : ℕ) (bytes : List ℕ)
+    (old mid new : Option (List ℕ)) → now ≡ plan → bytes ≡ piece_bytes width now given n →
+    Appends old mid (file_front width plan given) → AppendsPrefix mid new bytes →
+    AppendsPrefix old new (made_file width plan)
+piece_cut width plan now given n bytes old mid new same spelled before cut =
     let part : AppendsPrefix mid new (piece_bytes width plan given n) =
-    subst (λ (p : CellPlan). AppendsPrefix mid new (piece_bytes width p given n)) same cut in
-    let written : AppendsPrefix old new (first_bytes width plan (given + n)) =
-    subst (AppendsPrefix old new) (sym (first_more width plan given n))
-    (prefix_behind old mid new (first_bytes width plan given) (piece_bytes width plan given n)
+    subst (AppendsPrefix mid new)
+    (spelled ∙ ap (λ (p : CellPlan). piece_bytes width p given n) same) cut in
+    let written : AppendsPrefix old new (file_front width plan (given + n)) =
+    subst (AppendsPrefix old new) (sym (front_more width plan given n))
+    (prefix_behind old mid new (file_front width plan given) (piece_bytes width plan given n)
     before part) in
-    subst (AppendsPrefix old new) (first_and_rest width plan (given + n))
-    (prefix_before old new (first_bytes width plan (given + n))
+    subst (AppendsPrefix old new) (front_and_rest width plan (given + n))
+    (prefix_before old new (file_front width plan (given + n))
     (flat_map (sample_spelling width) (drop (given + n) (made_samples plan))) written)
 
 -- all samples were written
 pub pieces_all : (width : Width) (plan : CellPlan) (given : ℕ) (old new : Option (List ℕ)) →
-    given ≡ plan.link.samples → Appends old new (first_bytes width plan given) →
-    Appends old new (sample_bytes width plan)
+    given ≡ plan.link.samples → Appends old new (file_front width plan given) →
+    Appends old new (made_file width plan)
 pieces_all width plan given old new done written =
-    subst (Appends old new) (ap (first_bytes width plan) done ∙ first_all width plan) written
-
--- the header was cut short, or the samples behind it, or neither
-pub header_cut : (width : Width) (plan : CellPlan) (old new : Option (List ℕ)) →
-    AppendsPrefix old new (header_spelling (header_of width plan)) →
-    AppendsPrefix old new (made_file width plan)
-unfolding made_file
-header_cut width plan old new part =
-    prefix_before old new (header_spelling (header_of width plan)) (sample_bytes width plan) part
-
-pub samples_cut : (width : Width) (plan : CellPlan) (old mid new : Option (List ℕ)) →
-    Appends old mid (header_spelling (header_of width plan)) →
-    AppendsPrefix mid new (sample_bytes width plan) → AppendsPrefix old new (made_file width plan)
-unfolding made_file
-samples_cut width plan old mid new before part =
-    prefix_behind old mid new (header_spelling (header_of width plan)) (sample_bytes width plan)
-    before part
-
-pub file_whole : (width : Width) (plan : CellPlan) (old mid new : Option (List ℕ)) →
-    Appends old mid (header_spelling (header_of width plan)) →
-    Appends mid new (sample_bytes width plan) → Appends old new (made_file width plan)
-unfolding made_file
-file_whole width plan old mid new before more =
-    Appends-trans old mid new (header_spelling (header_of width plan)) (sample_bytes width plan)
-    before more
+    subst (Appends old new) (ap (file_front width plan) done ∙ front_all width plan) written
 
 -- ---- what was written of the script's cell
 

@@ -1,40 +1,13 @@
 -- The file that is made of a script can be read, and is a clean link where the search finds the
 -- cell's path.
-use Rattle.std.proofs.Common.{◌≡◌, ℕ, ◌+◌, ◌-◌, ◌*◌, ◌%◌, ◌<◌, ◌≤◌, Bool, true, false, List, ◌++◌}
-use Rattle.std.proofs.Common.{get_or, take, All, refl, sym, ap, ◌∙◌, subst, arith, ℤ, ◌*ℤ◌}
-use Rattle.std.proofs.Common.{unsigned_abs, Option, Ok}
-use Rattle.std.specs.Prelude.{◌+ℤ◌, ◌-ℤ◌}
-use Rattle.std.specs.List.{flat_map}
-use Rattle.std.proofs.lemmas.Int.{ints}
-use Rattle.std.proofs.lemmas.List.Elements.{All-from_get_or}
-use Rattle.chip_core.specs.Bits.{sign}
-use Rattle.chip_core.specs.Complex.{of_sample, point, times}
-use Rattle.chip_core.specs.declared.sample.Pair.{Pair}
-use Rattle.chip_core.specs.declared.sample.Sample.{Sample}
-use Rattle.short_code.specs.ShortCode.{pilot_chip}
-use Rattle.cdma_io.specs.SampleFile.{HasBits, IsLawfulHeader, IsSampleFile, header_spelling}
-use Rattle.cdma_io.specs.SampleFile.{most_samples, sample_spelling, width_of}
-use Rattle.chip_core.specs.declared.width.Width.{Width}
-use Rattle.chip_core.specs.declared.width.Width.TheVariants.{Sixteen, Eight}
-use Rattle.pilot_search.specs.Search.{best_phase}
-use Rattle.cell_plan.specs.declared.plan.CellPlan.{CellPlan}
-use Rattle.cell_plan.specs.Plan.{IsLawfulPlan, loudness, most_part}
-use Rattle.cell_script.specs.Script.{plan_named}
-use Rattle.cell_plan.specs.Signal.{amplitudes, carriers, scaled}
-use Rattle.cell_plan.specs.Transmitter.{header_of, phase_at, version_of}
-use Rattle.cell_plan.proofs.Amplitudes.{chip_fits, signal_of_carriers}
-use Rattle.cell_script.proofs.NamedPlans.{named_plan}
-use Rattle.cell_plan.proofs.Pieces.{no_sample}
-use Rattle.heard_events.specs.Events.{events}
-use Rattle.chip_core.specs.declared.assignment.Traffic.{Traffic}
-use Rattle.clean_link.specs.CleanLink.{IsNotDirected, IsOnPath, tuning_to}
-use Rattle.cdma_replay.specs.CleanFiles.{IsCleanLink, cell_energy}
-use Rattle.clean_link.specs.SentEvents.{FollowsSent, signaling_sent}
-use Rattle.clean_link.proofs.messages.NoDirections.{no_event_directed}
-use Rattle.cell_plan.specs.Sampled.{made_samples}
-use Rattle.cdma_replay.specs.Make.{made_file}
-use Rattle.cell_script.proofs.NamedPages.{named_receivable}
-use Rattle.clean_link.proofs.signal.Samples.{length-made, made_at}
+use Rattle.cdma_replay.proofs.Common.{◌≡◌, ℕ, ◌+◌, ◌-◌, ◌*◌, ◌%◌, ◌<◌, ◌≤◌, Bool, true, false, List, ◌++◌, get_or, take, All, refl, sym, ap}
+use Rattle.cdma_replay.proofs.Common.{◌∙◌, subst, arith, ℤ, ◌*ℤ◌, unsigned_abs, Option, Ok, ◌+ℤ◌, ◌-ℤ◌, flat_map, ints, All-from_get_or}
+use Rattle.cdma_replay.proofs.Common.{sign, of_sample, point, times, Pair, Sample, pilot_chip, HasBits, IsLawfulHeader, IsSampleFile}
+use Rattle.cdma_replay.proofs.Common.{header_spelling, most_samples, sample_spelling, width_of, Width, Sixteen, Eight, best_phase, CellPlan}
+use Rattle.cdma_replay.proofs.Common.{IsLawfulPlan, loudness, most_part, plan_named, amplitudes, carriers, scaled, header_of, phase_at}
+use Rattle.cdma_replay.proofs.Common.{version_of, chip_fits, signal_of_carriers, named_plan, no_sample, events, Traffic, IsNotDirected}
+use Rattle.cdma_replay.proofs.Common.{IsOnPath, tuning_to, IsCleanLink, cell_energy, FollowsSent, signaling_sent, no_event_directed}
+use Rattle.cdma_replay.proofs.Common.{made_samples, made_file, named_receivable, length-made, made_at}
 
 -- ---- the header
 

@@ -1,29 +1,12 @@
 -- The paths that the search hands on are near enough for a handset to follow.
-use Rattle.std.proofs.Common.{◌≡◌, ◌≢◌, ℕ, zero, suc, ◌+◌, ◌-◌, ◌*◌, ◌<◌, ◌≤◌, ◌||◌, Bool, true, false}
-use Rattle.std.proofs.Common.{List, [], ◌∷◌, map, refl, sym, subst, arith, inl, inr}
-use Rattle.std.proofs.Common.{ℤ, pos, negsuc, ◌-ℤ◌, ◌≤ℤ◌, All, nat_eq}
-use Rattle.std.specs.Prelude.{int_le, unsigned_abs, if◌then◌else◌}
-use Rattle.std.proofs.lemmas.Bool.{and_from, cases_Bool}
-use Rattle.std.proofs.lemmas.Bool.Decides.{nat_tests}
-use Rattle.std.proofs.lemmas.Int.{ints}
-use Rattle.std.proofs.lemmas.List.Elements.{All-cons, All-head, All-nil, All-tail}
-use Rattle.chip_core.specs.Bits.{places}
-use Rattle.chip_core.specs.Sums.{first_greatest}
-use Rattle.chip_core.specs.declared.sample.Sample.{Sample}
-use Rattle.chip_core.proofs.Greatest.{first_greatest-is}
-use Rattle.chip_core.proofs.Places.{get_or-map-places, length-map-places}
-use Rattle.cdma_io.specs.declared.header.Header.{Header}
-use Rattle.pilot_search.specs.BestIn.{IsBestIn}
-use Rattle.pilot_search.specs.Near.{near_deltas, phase_at}
-use Rattle.pilot_search.specs.Ranked.{IsNext, IsRound, measured_at}
-use Rattle.pilot_search.specs.Search.{best_phase, energy}
-use Rattle.pilot_search.specs.declared.sweeping.Best.{Best}
-use Rattle.pilot_search.proofs.BestPhase.{best_phase-is}
-use Rattle.pilot_search.proofs.NearPlaces.{one_delta, three_deltas, two_deltas}
-use Rattle.heard_events.specs.Near.{AreNear, all_near, is_near}
-use Rattle.heard_events.specs.Tuning.{fingers_of, sync_stream}
-use Rattle.cdma_words.specs.Words.{IsFingers}
-use Rattle.cdma_replay.specs.Hearing.{tuning_for, waiting}
+use Rattle.cdma_replay.proofs.Common.{◌≡◌, ◌≢◌, ℕ, zero, suc, ◌+◌, ◌-◌, ◌*◌, ◌<◌, ◌≤◌, ◌||◌, Bool, true, false, List, [], ◌∷◌, map, refl}
+use Rattle.cdma_replay.proofs.Common.{sym, subst, arith, inl, inr, ℤ, pos, negsuc, ◌-ℤ◌, ◌≤ℤ◌, All, nat_eq, int_le, unsigned_abs}
+use Rattle.cdma_replay.proofs.Common.{if◌then◌else◌, and_from, cases_Bool, nat_tests, ints, All-cons, All-head, All-nil, All-tail, places}
+use Rattle.cdma_replay.proofs.Common.{first_greatest, Sample, first_greatest-is, get_or-map-places, length-map-places, Header, IsBestIn}
+use Rattle.cdma_replay.proofs.Common.{near_deltas, IsNext, IsRound, measured_at, best_phase, energy, Best, best_phase-is, one_delta}
+use Rattle.cdma_replay.proofs.Common.{three_deltas, two_deltas, AreNear, all_near, is_near, fingers_of, sync_stream, IsFingers, tuning_for}
+use Rattle.cdma_replay.proofs.Common.{waiting}
+use Rattle.pilot_search.specs.Near.{phase_at}
 
 -- ---- the place that comes next
 

@@ -1,29 +1,10 @@
 -- What is listed with one word of each rate is heard where the reference's pilot is active alone.
-use Rattle.std.proofs.Common.{◌≡◌, ℕ, ◌&&◌, sym, ap, ◌∙◌, List, [], length, nat_le, Option}
-use Rattle.std.specs.List.{flat_map}
-use Rattle.std.proofs.lemmas.List.Folds.{flat_map-map}
-use Rattle.chip_core.specs.Bits.{places}
-use Rattle.chip_core.specs.declared.sample.Sample.{Sample}
-use Rattle.chip_core.proofs.Ranges.{flat_map_ext_filter}
-use Rattle.frame_decoder.specs.declared.traffic.Decoded.{Decoded}
-use Rattle.listed_frame.proofs.Choice.{decoded_by_one_word}
-use Rattle.heard_events.specs.Channels.{channel_stream}
-use Rattle.heard_events.specs.FramesAlone.{reference_alone, traffic_channel}
-use Rattle.heard_events.specs.PagingStreams.{paging_bound}
-use Rattle.heard_events.specs.SoftFrames.{frames_within, soft_frame, soft_frames}
-use Rattle.heard_events.specs.Streams.{is_in_file, known_at, known_by}
-use Rattle.heard_events.specs.TrafficEvents.{commands_at, decoded_at}
-use Rattle.heard_events.specs.TrafficStreams.{replaced_in}
-use Rattle.heard_events.specs.Tuning.{Tuning}
-use Rattle.heard_events.specs.declared.mark.Mark.{Mark}
-use Rattle.chip_core.specs.declared.assignment.Traffic.{Traffic}
-use Rattle.heard_events.specs.declared.soft_frame.SoftFrame.{SoftFrame}
-use Rattle.heard_events.proofs.FramesAlone.{decoded_alone, power_alone}
-use Rattle.tuned_listener.proofs.TunedTexts.{listed_texts}
-use Rattle.tuned_listener.specs.TunedTexts.{decoded_line, listed_text, text_behind, text_from}
-use Rattle.tuned_listener.specs.TunedTexts.{tuned_text}
-use Rattle.tuned_listener.specs.declared.tuned_text.TunedText.TheVariants.{Listed}
-use Rattle.cdma_replay.specs.OneWord.{followed_line, OneWordFollows, OneWordFollowsFrame}
+use Rattle.cdma_replay.proofs.Common.{◌≡◌, ℕ, ◌&&◌, sym, ap, ◌∙◌, List, [], length, nat_le, Option, flat_map, flat_map-map, places, Sample}
+use Rattle.cdma_replay.proofs.Common.{flat_map_ext_filter, Decoded, decoded_by_one_word, channel_stream, reference_alone, traffic_channel}
+use Rattle.cdma_replay.proofs.Common.{paging_bound, frames_within, soft_frame, soft_frames, is_in_file, known_at, known_by, commands_at}
+use Rattle.cdma_replay.proofs.Common.{decoded_at, replaced_in, Tuning, Mark, Traffic, SoftFrame, decoded_alone, power_alone, listed_texts}
+use Rattle.cdma_replay.proofs.Common.{decoded_line, listed_text, text_behind, text_from, tuned_text, Listed, followed_line, OneWordFollows}
+use Rattle.cdma_replay.proofs.Common.{OneWordFollowsFrame}
 use Rattle.cdma_replay.proofs.SentLines.{line_of_event, listed_of}
 
 -- of one frame

@@ -1,47 +1,18 @@
 -- Each input is owed a reply, the number of workers changes none, and what each command owes.
-use Rattle.std.proofs.Common.{◌≡◌, ℕ, zero, suc, ◌-◌, ◌*◌, ◌+◌, ◌≤◌, ◌++◌, inl, inr, List, [], ◌∷◌}
-use Rattle.std.proofs.Common.{length, take, drop, refl, sym, ap, ◌∙◌, arith, All, append-nil}
-use Rattle.std.proofs.Common.{length-drop, length-take-le, take-append-drop, Result, Ok, Err}
-use Rattle.std.proofs.lemmas.Bool.{cases_lt}
-use Rattle.std.proofs.lemmas.List.Elements.{All-cons}
-use Rattle.std.specs.List.{flat_map}
-use borrow.Author.Gap.{read_sfits}
-use Rattle.chip_core.specs.declared.sample.Sample.{Sample}
-use Rattle.chip_core.specs.declared.width.Width.{Width}
-use Rattle.chip_core.specs.declared.width.Width.TheVariants.{Eight, Sixteen}
-use Rattle.cdma_io.specs.SampleFile.{HasBits, IsSampleFile, bits_of, header_spelling, opening}
-use Rattle.cdma_io.specs.SampleFile.{sample_len, sample_spelling, width_of}
-use Rattle.cdma_io.specs.declared.file_fault.FileFault.{FileFault}
-use Rattle.cdma_io.specs.declared.file_fault.FileFault.TheVariants.{Extra, Short, TooFew}
-use Rattle.cdma_io.specs.declared.header.Header.{Header}
-use Rattle.cdma_io.proofs.ByteNumbers.{AreBytes, AreBytes-drop, AreBytes-from_all, AreBytes-take}
-use Rattle.cdma_io.proofs.Opening.{opening-ok}
-use Rattle.cdma_io.proofs.Spelling.{sample_bytes, sample_in}
-use Rattle.cell_script.specs.Script.{plan_named}
-use Rattle.cell_plan.specs.declared.plan.CellPlan.{CellPlan}
-use Rattle.cell_script.specs.declared.script_fault.ScriptFault.{ScriptFault}
-use Rattle.event_tap.specs.Taps.{KeptTap}
-use Rattle.heard_events.specs.declared.channel.Channel.{Channel}
-use Rattle.tuned_listener.specs.declared.tuned_text.TunedText.{TunedText}
-use Rattle.cdma_words.specs.declared.job.Job.TheVariants as jobs
+use Rattle.cdma_replay.proofs.Common.{◌≡◌, ℕ, zero, suc, ◌-◌, ◌*◌, ◌+◌, ◌≤◌, ◌++◌, inl, inr, List, [], ◌∷◌, length, take, drop, refl, sym}
+use Rattle.cdma_replay.proofs.Common.{ap, ◌∙◌, arith, All, append-nil, length-drop, length-take-le, take-append-drop, Result, Ok, Err}
+use Rattle.cdma_replay.proofs.Common.{cases_lt, All-cons, flat_map, read_sfits, Sample, Width, Eight, Sixteen, HasBits, IsSampleFile}
+use Rattle.cdma_replay.proofs.Common.{bits_of, header_spelling, opening, sample_len, sample_spelling, width_of, FileFault, Extra, Short}
+use Rattle.cdma_replay.proofs.Common.{TooFew, Header, AreBytes, AreBytes-drop, AreBytes-from_all, AreBytes-take, opening-ok, sample_bytes}
+use Rattle.cdma_replay.proofs.Common.{sample_in, plan_named, CellPlan, ScriptFault, KeptTap, Channel, TunedText, IsFaultIn, file_end}
+use Rattle.cdma_replay.proofs.Common.{ByFrames, best_pilot, file_end_of, file_text, told, tuning_for, waiting, made_file, IsFileReply}
+use Rattle.cdma_replay.proofs.Common.{IsScriptReply, IsTaskReply, IsWholeFile, Reply, taps_by, EachInputIsOwed, FindOwesThePilot}
+use Rattle.cdma_replay.proofs.Common.{FollowOwesTheEvents, IdleOwesTheSlots, ListOwesTheFrames, MakeOwesTheFile, Rate2OwesTheFrames}
+use Rattle.cdma_replay.proofs.Common.{SurveyOwesTheRanks, TrialOwesItsLine, WorkersChangeNoReply, hearing, task_of, trial_line, Reception}
+use Rattle.cdma_replay.proofs.Common.{Status, Task, Make, Receive, Trial}
 use Rattle.cdma_replay.proofs.Lines.{none_within}
 use Rattle.cdma_replay.proofs.Replies.{whole_file}
-use Rattle.cdma_replay.specs.Find.{IsFaultIn, file_end}
-use Rattle.cdma_replay.specs.Hearing.{ByFrames, best_pilot, file_end_of, file_text, told}
-use Rattle.cdma_replay.specs.Hearing.{tuning_for, waiting}
-use Rattle.cdma_replay.specs.Make.{made_file}
-use Rattle.cdma_replay.specs.Replies.{IsFileReply, IsScriptReply, IsTaskReply, IsWholeFile, Reply}
-use Rattle.cdma_replay.specs.Replies.{taps_by}
-use Rattle.cdma_replay.specs.ReplyLaws.{EachInputIsOwed, FindOwesThePilot, FollowOwesTheEvents}
-use Rattle.cdma_replay.specs.ReplyLaws.{IdleOwesTheSlots, ListOwesTheFrames, MakeOwesTheFile}
-use Rattle.cdma_replay.specs.ReplyLaws.{Rate2OwesTheFrames, SurveyOwesTheRanks, TrialOwesItsLine}
-use Rattle.cdma_replay.specs.ReplyLaws.{WorkersChangeNoReply}
-use Rattle.cdma_replay.specs.Tasks.{hearing, task_of}
-use Rattle.cdma_replay.specs.Trials.{trial_line}
-use Rattle.cdma_replay.specs.declared.receiving.Reception.{Reception}
-use Rattle.cdma_replay.specs.declared.status.Status.{Status}
-use Rattle.cdma_replay.specs.declared.task.Task.{Task}
-use Rattle.cdma_replay.specs.declared.task.Task.TheVariants.{Make, Receive, Trial}
+use Rattle.cdma_words.specs.declared.job.Job.TheVariants as jobs
 
 -- ---- bytes are those of samples
 
@@ -187,20 +158,10 @@ shared taps r n bytes (Ok all) w = record {
 shared taps r n bytes (Err end) f = f
 
 pub workers_change_nothing : WorkersChangeNoReply
-workers_change_nothing forms (jobs.Find span workers) n bytes reply owed =
-    shared _ _ n bytes reply owed
-workers_change_nothing forms (jobs.Follow span workers fingers paging traffic limits) n bytes reply
-    owed = shared _ _ n bytes reply owed
-workers_change_nothing forms (jobs.Rate2 span workers fingers offset esn row) n bytes reply owed =
-    shared _ _ n bytes reply owed
-workers_change_nothing forms (jobs.List span workers fingers offset esn row k) n bytes reply owed =
-    shared _ _ n bytes reply owed
-workers_change_nothing forms (jobs.Idle span workers fingers paging key cycle) n bytes reply owed =
-    shared _ _ n bytes reply owed
-workers_change_nothing forms (jobs.Survey span workers base width top) n bytes reply owed =
-    shared _ _ n bytes reply owed
 workers_change_nothing forms (jobs.Make width) n bytes reply owed = owed
 workers_change_nothing forms (jobs.Trial number workers) n bytes reply owed = owed
+workers_change_nothing forms other n bytes reply owed =
+    shared _ _ n bytes reply owed
 
 -- ---- what each command owes
 

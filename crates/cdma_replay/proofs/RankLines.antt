@@ -1,15 +1,8 @@
 -- Lemmas on the lines of ranks that are written one after the other.
-use Rattle.std.proofs.Common.{◌≡◌, ℕ, ◌+◌, ◌-◌, ◌<◌, ◌++◌, ◌∷◌, [], List, take, drop, sym, ap, ◌∙◌}
-use Rattle.std.proofs.Common.{subst, arith, append-nil, slice_get, Option, Some}
-use Rattle.std.proofs.lemmas.List.{take_more}
-use Rattle.std.proofs.lemmas.List.Concat.{flat_map-append}
-use Rattle.std.proofs.lemmas.Option.{get_or_from_slice_get, slice_get_within}
-use Rattle.std.proofs.KnownBytes.{Appends-nil, Appends-trans}
-use Rattle.std.specs.Io.KnownBytes.{Appends}
-use Rattle.cdma_io.specs.Outside.{AppendsPrefix}
-use Rattle.pilot_survey.specs.declared.rank.Rank.{Rank}
-use Rattle.tuned_listener.proofs.Prefixes.{prefix_before, prefix_behind}
-use Rattle.cdma_replay.specs.Ranks.{rank_line, ranks_text}
+use Rattle.cdma_replay.proofs.Common.{◌≡◌, ℕ, ◌+◌, ◌-◌, ◌<◌, ◌++◌, ◌∷◌, [], List, take, drop, sym, ap, ◌∙◌, subst, arith, append-nil}
+use Rattle.cdma_replay.proofs.Common.{slice_get, Option, Some, take_more, flat_map-append, get_or_from_slice_get, slice_get_within}
+use Rattle.cdma_replay.proofs.Common.{Appends-nil, Appends-trans, Appends, AppendsPrefix, Rank, prefix_before, prefix_behind, rank_line}
+use Rattle.cdma_replay.proofs.Common.{ranks_text}
 use Rattle.cdma_replay.proofs.Hearings.{taken_joined}
 
 ranks_joined : (one other : List Rank) → ranks_text (one ++ other) ≡ ranks_text one ++ ranks_text other

@@ -1,56 +1,26 @@
 -- Lemmas on what a run owes: what its answer says follows from the causes of each end, and no input
 -- is owed two replies.
-use Rattle.std.proofs.Common.{◌≡◌, ◌≢◌, ℕ, ◌≤◌, ◌⊎◌, inl, inr, List, [], length, refl, sym, ap, ◌∙◌}
-use Rattle.std.proofs.Common.{subst, Option, None, Some, IfErr, IfSome, OnErr, OnOk, Result, Ok}
-use Rattle.std.proofs.Common.{Err, map, take, append-nil}
-use Rattle.std.specs.Io.{StartsWith}
-use Rattle.std.specs.Io.KnownBytes.{Appends}
-use Rattle.chip_core.specs.declared.sample.Sample.{Sample}
-use Rattle.cdma_io.specs.SampleFile.{IsSampleFile}
-use Rattle.cdma_io.specs.declared.file_fault.FileFault.{FileFault}
-use Rattle.cdma_io.specs.declared.header.Header.{Header}
-use Rattle.chip_core.specs.declared.width.Width.{Width}
-use Rattle.cdma_io.proofs.Uniqueness.{file_unique}
-use Rattle.cell_plan.specs.declared.plan.CellPlan.{CellPlan}
-use Rattle.cell_script.specs.declared.script_fault.ScriptFault.{ScriptFault}
-use Rattle.cell_script.specs.Script.{plan_named}
-use Rattle.event_tap.specs.Taps.{KeptTap, kept_by}
-use Rattle.cdma_words.specs.declared.job.Job.{Job}
-use Rattle.tuned_listener.proofs.Prefixes.{front_begins, taken_begins}
-use Rattle.cdma_replay.specs.declared.receiving.Reception.{Reception}
-use Rattle.cdma_replay.specs.declared.status.Status.{Status}
-use Rattle.cdma_replay.specs.declared.task.Task.{Task}
-use Rattle.cdma_replay.specs.declared.task.Task.TheVariants.{Make, Receive, Trial}
-use Rattle.cdma_replay.specs.Broken.{IsCut}
-use Rattle.cdma_replay.specs.Find.{IsEnd, IsFaultIn, IsHeaderFault, IsSearchable, WritesText, ended}
-use Rattle.cdma_replay.specs.Hearing.{IsUnheard, file_end_of, file_text}
-use Rattle.cdma_replay.specs.declared.purpose.Purpose.{Purpose}
-use Rattle.cdma_replay.specs.declared.purpose.Purpose.TheVariants as purposes
-use Rattle.cdma_replay.specs.Make.{WritesMadeFile, made_file}
-use Rattle.cdma_replay.specs.Replies.{Answers, AnswersBehind, IsAnswered, IsEarlyFault}
-use Rattle.cdma_replay.specs.Replies.{IsFaultyFile, IsFaultyScript, IsFileEnd, IsFileReply}
-use Rattle.cdma_replay.specs.Replies.{IsPurposeEnd, IsReply, IsScriptReply, IsSearchEnd, IsTaskEnd}
-use Rattle.cdma_replay.specs.Replies.{IsTaskReply, IsTrialEnd, IsTrialReply, IsVerdict, IsWholeFile}
-use Rattle.cdma_replay.specs.Replies.{IsWholeScript, Reply, WritesPart, taps_by}
-use Rattle.cdma_replay.specs.Tasks.{task_of}
-use Rattle.cdma_replay.specs.Trials.{trial_line}
-use Rattle.cdma_io.specs.Outside.{AppendsPrefix}
+use Rattle.cdma_replay.proofs.Common.{◌≡◌, ◌≢◌, ℕ, ◌≤◌, ◌⊎◌, inl, inr, List, [], length, refl, sym, ap, ◌∙◌, subst, Option, None, Some}
+use Rattle.cdma_replay.proofs.Common.{IfErr, IfSome, OnErr, OnOk, Result, Ok, Err, map, take, append-nil, StartsWith, Appends, Sample}
+use Rattle.cdma_replay.proofs.Common.{IsSampleFile, FileFault, Header, Width, file_unique, CellPlan, ScriptFault, plan_named, KeptTap}
+use Rattle.cdma_replay.proofs.Common.{kept_by, Job, front_begins, taken_begins, Reception, Status, Task, Make, Receive, Trial, IsCut, IsEnd}
+use Rattle.cdma_replay.proofs.Common.{IsFaultIn, IsHeaderFault, IsSearchable, WritesText, ended, IsUnheard, file_end_of, file_text, Purpose}
+use Rattle.cdma_replay.proofs.Common.{WritesMadeFile, made_file, Answers, AnswersBehind, IsAnswered, IsEarlyFault, IsFaultyFile}
+use Rattle.cdma_replay.proofs.Common.{IsFaultyScript, IsFileEnd, IsFileReply, IsPurposeEnd, IsReply, IsScriptReply, IsSearchEnd, IsTaskEnd}
+use Rattle.cdma_replay.proofs.Common.{IsTaskReply, IsTrialEnd, IsTrialReply, IsVerdict, IsWholeFile, IsWholeScript, Reply, WritesPart}
+use Rattle.cdma_replay.proofs.Common.{taps_by, task_of, trial_line, AppendsPrefix}
 use Rattle.cdma_replay.proofs.Ends.{by_end}
 use Rattle.cdma_replay.proofs.Files.{no_fault, one_fault}
+use Rattle.cdma_replay.specs.declared.purpose.Purpose.TheVariants as purposes
 
 -- an early fault is one of the file's header, or of the script
 pub early_by : (status : Status) {Same : Type 0} →
     ((fault : FileFault) → status ≡ Status.BadFile fault → IsHeaderFault fault → Same) →
     ((fault : ScriptFault) → status ≡ Status.BadScript fault → Same) →
     IsEarlyFault status → Same
-early_by Status.Done file script early = absurd early
-early_by Status.NoSync file script early = absurd early
 early_by (Status.BadFile fault) file script early = file fault refl early
 early_by (Status.BadScript fault) file script early = script fault refl
-early_by Status.BadWords file script early = absurd early
-early_by Status.ReadFault file script early = absurd early
-early_by Status.WriteFault file script early = absurd early
-early_by Status.NoMemory file script early = absurd early
+early_by status file script early = absurd early
 
 -- ---- a run over a sample file
 
@@ -97,22 +67,18 @@ fault_owed fault is = record {
 -- without a handset
 pub search_end : (status : Status) → IsFileEnd status → status ≢ Status.NoSync →
     IsSearchEnd status
-search_end Status.Done end alone = tt
 search_end Status.NoSync end alone = absurd (alone refl)
 search_end (Status.BadFile fault) end alone = end
 search_end (Status.BadScript fault) end alone = absurd end
 search_end Status.BadWords end alone = absurd end
-search_end Status.ReadFault end alone = tt
-search_end Status.WriteFault end alone = tt
-search_end Status.NoMemory end alone = tt
+search_end status end alone = tt
 
 -- for a purpose
 pub purpose_end : (purpose : Purpose) (status : Status) → IsFileEnd status →
     (IsUnheard purpose → status ≢ Status.NoSync) → IsPurposeEnd purpose status
-purpose_end purposes.Find status end alone = search_end status end (alone tt)
 purpose_end (purposes.Follow receiver) status end alone = end
 purpose_end (purposes.Tuned fingers channel text) status end alone = end
-purpose_end (purposes.Survey base width top) status end alone = search_end status end (alone tt)
+purpose_end purpose status end alone = search_end status end (alone tt)
 
 -- no tap is kept of none
 pub none_kept : {A : Type 0} (limits : List ℕ) (form : A → ℕ) (taps : List A) → taps ≡ [] →
@@ -148,14 +114,9 @@ script_done status other end =
 -- a read of a script failed
 pub script_cut : (status : Status) → ((fault : FileFault) → status ≢ Status.BadFile fault) →
     IsCut status → status ≡ Status.ReadFault
-script_cut Status.Done never cut = absurd cut
-script_cut Status.NoSync never cut = absurd cut
 script_cut (Status.BadFile fault) never cut = absurd (never fault refl)
-script_cut (Status.BadScript fault) never cut = absurd cut
-script_cut Status.BadWords never cut = absurd cut
 script_cut Status.ReadFault never cut = refl
-script_cut Status.WriteFault never cut = absurd cut
-script_cut Status.NoMemory never cut = absurd cut
+script_cut status never cut = absurd cut
 
 -- ---- a trial
 
@@ -341,14 +302,11 @@ owed_answer forms task status bytes held reply rest old new answered is was owed
 
 ends_otherwise : (purpose : Purpose) → ¬ (IsPurposeEnd purpose Status.BadWords)
 ends_otherwise purposes.Find end = end
-ends_otherwise (purposes.Follow receiver) end = end
-ends_otherwise (purposes.Tuned fingers channel text) end = end
-ends_otherwise (purposes.Survey base width top) end = end
+ends_otherwise purpose end = end
 
 pub named_well : (task : Task) → ¬ (IsTaskEnd task Status.BadWords)
 named_well (Receive r limits) end = ends_otherwise r.purpose end
-named_well (Make width) end = end
-named_well (Trial number workers) end = end
+named_well task end = end
 
 -- ---- what was asked for
 

@@ -1,23 +1,11 @@
 -- Lemmas on runs of the program: one whose output was then passed on, and one that found no memory.
-use Rattle.std.proofs.Common.{◌≡◌, ◌↔◌, ℕ, ◌≤◌, ◌++◌, ◌⊎◌, inl, inr, List, [], ◌∷◌, refl, sym, ap}
-use Rattle.std.proofs.Common.{◌∙◌, subst, arith, map, Option, None, Some, IfSome, Result, Ok, Err}
-use Rattle.std.proofs.Common.{OnOk, OnErr}
-use Rattle.std.specs.Io.KnownBytes.{Keeps}
-use Rattle.std.proofs.KnownBytes.{Appends-kept, Appends-nil, Keeps-refl, Keeps-trans}
-use Rattle.cdma_io.specs.Outside.{Rose}
-use Rattle.cdma_words.specs.declared.job.Job.{Job}
-use Rattle.cdma_replay.specs.declared.purpose.Purpose.{Purpose}
-use Rattle.cdma_replay.specs.declared.purpose.Purpose.TheVariants as purposes
-use Rattle.cdma_replay.specs.declared.status.Status.{Status}
-use Rattle.cdma_replay.specs.declared.task.Task.{Task}
-use Rattle.cdma_replay.specs.declared.task.Task.TheVariants.{Make, Receive, Trial}
-use Rattle.cdma_replay.specs.Find.{IsEnd}
-use Rattle.cdma_replay.specs.Replies.{Answers, AnswersBehind, Begins, IsAnswered, IsFileEnd}
-use Rattle.cdma_replay.specs.Replies.{IsPurposeEnd, IsSearchEnd, IsReply, IsTaskEnd, ReadsInput}
-use Rattle.cdma_replay.specs.Replies.{Reply, WritesPart}
-use Rattle.cdma_replay.specs.Runs.{IsNotReading, IsRun, each_form}
-use Rattle.cdma_replay.specs.Tasks.{task_of}
+use Rattle.cdma_replay.proofs.Common.{◌≡◌, ◌↔◌, ℕ, ◌≤◌, ◌++◌, ◌⊎◌, inl, inr, List, [], ◌∷◌, refl, sym, ap, ◌∙◌, subst, arith, map, Option}
+use Rattle.cdma_replay.proofs.Common.{None, Some, IfSome, Result, Ok, Err, OnOk, OnErr, Keeps, Appends-kept, Appends-nil, Keeps-refl}
+use Rattle.cdma_replay.proofs.Common.{Keeps-trans, Rose, Job, Purpose, Status, Task, Receive, IsEnd, Answers, AnswersBehind, Begins}
+use Rattle.cdma_replay.proofs.Common.{IsAnswered, IsFileEnd, IsPurposeEnd, IsSearchEnd, IsReply, IsTaskEnd, ReadsInput, Reply, WritesPart}
+use Rattle.cdma_replay.proofs.Common.{IsNotReading, IsRun, each_form, task_of}
 use Rattle.cdma_replay.proofs.Bounds.{unread_most}
+use Rattle.cdma_replay.specs.declared.purpose.Purpose.TheVariants as purposes
 
 -- ---- what was written stays
 
@@ -69,20 +57,17 @@ part_kept begins old mid new wrote kept = record {
 
 each_purpose : (purpose : Purpose) (status : Status) → IsSearchEnd status → IsFileEnd status →
     IsPurposeEnd purpose status
-each_purpose purposes.Find status search file = search
 each_purpose (purposes.Follow receiver) status search file = file
 each_purpose (purposes.Tuned fingers channel text) status search file = file
-each_purpose (purposes.Survey base width top) status search file = search
+each_purpose purpose status search file = search
 
 write_fault_end : (task : Task) → IsTaskEnd task Status.WriteFault
 write_fault_end (Receive r limits) = each_purpose r.purpose Status.WriteFault tt tt
-write_fault_end (Make width) = tt
-write_fault_end (Trial number workers) = tt
+write_fault_end task = tt
 
 no_memory_end : (task : Task) → IsTaskEnd task Status.NoMemory
 no_memory_end (Receive r limits) = each_purpose r.purpose Status.NoMemory tt tt
-no_memory_end (Make width) = tt
-no_memory_end (Trial number workers) = tt
+no_memory_end task = tt
 
 -- ---- runs
 
@@ -174,12 +159,7 @@ module _ (forms : List ℕ) (named : Option Job) (rest left old mid new : Option
 end_or_not : (status : Status) → IsEnd status ⊎ (¬ (IsEnd status))
 end_or_not Status.Done = inl tt
 end_or_not Status.NoSync = inl tt
-end_or_not Status.BadWords = inr (λ end. end)
-end_or_not (Status.BadFile fault) = inr (λ end. end)
-end_or_not Status.ReadFault = inr (λ end. end)
-end_or_not Status.WriteFault = inr (λ end. end)
-end_or_not Status.NoMemory = inr (λ end. end)
-end_or_not (Status.BadScript fault) = inr (λ end. end)
+end_or_not status = inr (λ end. end)
 
 lost_or_not : {After : Type 0} (before status : Status) → IsEnd before ⊎ (¬ (IsEnd before)) →
     (IsEnd before → status ≡ Status.WriteFault) → (¬ (IsEnd before) → status ≡ before) → After →

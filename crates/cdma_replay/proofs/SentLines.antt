@@ -1,59 +1,18 @@
 -- The lines of a traffic channel's frames come back.
-use Rattle.std.proofs.Common.{◌≡◌, ◌≤◌, ℕ, ◌*◌, ◌%◌, refl, sym, ap, ◌∙◌, subst, arith, List, []}
-use Rattle.std.proofs.Common.{◌∷◌, length, take, Bool, Option, None, Some}
-use Rattle.std.specs.List.{Contains, flat_map}
-use Rattle.std.proofs.lemmas.List.Folds.{flat_map-map}
-use Rattle.chip_core.specs.declared.check_form.CheckForm.{CheckForm}
-use Rattle.chip_core.specs.declared.sample.Sample.{Sample}
-use Rattle.chip_core.specs.declared.width.Width.{Width}
-use Rattle.long_code.specs.LongCode.{traffic_mask}
-use Rattle.frame_decoder.specs.declared.traffic.Decoded.{Decoded}
-use Rattle.rake_finger.specs.declared.form.Form.TheVariants.{Data}
+use Rattle.cdma_replay.proofs.Common.{◌≡◌, ◌≤◌, ℕ, ◌*◌, ◌%◌, refl, sym, ap, ◌∙◌, subst, arith, List, [], ◌∷◌, length, take, Bool, Option}
+use Rattle.cdma_replay.proofs.Common.{None, Some, Contains, flat_map, flat_map-map, CheckForm, Sample, Width, traffic_mask, Decoded, Data}
+use Rattle.cdma_replay.proofs.Common.{sent_frame_listed, decoded2, made_samples, frames_of, cycled_frame, frame_state, set_one}
+use Rattle.cdma_replay.proofs.Common.{IsTrafficFrame, CellPlan, TrafficPlan, TrafficFrame, TrafficFrame2, event_line, frame2_line}
+use Rattle.cdma_replay.proofs.Common.{traffic_channel, mark, soft_frames, frame_event, Tuning, Mark, Traffic, SoftFrame, soft_strength}
+use Rattle.cdma_replay.proofs.Common.{IsOnPath, IsReceivable, frame_ends, received_frames, replaced_of, sent_bits, sent_commands}
+use Rattle.cdma_replay.proofs.Common.{word_symbols, IsAssigned, SendsSetOne, SendsSetTwo, SendsSymbols, cycled_frame2, AreReceived}
+use Rattle.cdma_replay.proofs.Common.{IsReceivedAs, IsSentFrame2, told_with_sync, length-made, untold, power_pairs, one_taken, one_there}
+use Rattle.cdma_replay.proofs.Common.{frames_behind_mark, set_two_behind_mark, lawful_traffic, set_one_sends, listed_texts, rate2_texts}
+use Rattle.cdma_replay.proofs.Common.{decoded_line, frames_text, listed_text, rate2_text, text_behind, tuned_text, TunedText, Listed}
+use Rattle.cdma_replay.proofs.Common.{RateSetTwo, tuning_for, AreSentLines, IsLineOfSetOne, IsLineOfSetTwo, IsSentLine, IsSentLine2}
+use Rattle.cdma_replay.proofs.Common.{IsSentText, LinesComeBack, ListedLinesComeBack, SetTwoLinesComeBack, named_receivable}
 use Rattle.listed_frame.specs.ListedFrames.{listed}
-use Rattle.listed_frame.proofs.SentFrames.{sent_frame_listed}
-use Rattle.rate_set_two.specs.TrafficFrames.{decoded2}
-use Rattle.cell_plan.specs.Sampled.{made_samples}
-use Rattle.cell_plan.specs.Signal.{frames_of}
-use Rattle.cell_plan.specs.TrafficFrames.{cycled_frame, frame_state, set_one, IsTrafficFrame}
-use Rattle.cell_plan.specs.declared.plan.CellPlan.{CellPlan}
-use Rattle.cell_plan.specs.declared.plan.TrafficPlan.{TrafficPlan}
-use Rattle.cell_plan.specs.declared.traffic_frame.TrafficFrame.{TrafficFrame}
-use Rattle.cell_plan.specs.declared.traffic_frame2.TrafficFrame2.{TrafficFrame2}
-use Rattle.event_tap.specs.EventLines.{event_line}
-use Rattle.event_tap.specs.FrameLines.{frame2_line}
-use Rattle.heard_events.specs.FramesAlone.{traffic_channel}
-use Rattle.heard_events.specs.Marks.{mark}
-use Rattle.heard_events.specs.SoftFrames.{soft_frames}
-use Rattle.heard_events.specs.TrafficEvents.{frame_event}
-use Rattle.heard_events.specs.Tuning.{Tuning}
-use Rattle.heard_events.specs.declared.mark.Mark.{Mark}
-use Rattle.chip_core.specs.declared.assignment.Traffic.{Traffic}
-use Rattle.heard_events.specs.declared.soft_frame.SoftFrame.{SoftFrame}
-use Rattle.clean_link.specs.CleanLink.{soft_strength, IsOnPath}
-use Rattle.cell_plan.specs.Stated.{IsReceivable}
-use Rattle.clean_link.specs.HeardFrames.{frame_ends, received_frames, replaced_of, sent_bits}
-use Rattle.clean_link.specs.HeardFrames.{sent_commands, word_symbols, IsAssigned}
-use Rattle.clean_link.specs.HeardFrames.{SendsSetOne, SendsSetTwo, SendsSymbols}
-use Rattle.clean_link.specs.ReceivedFrames.{cycled_frame2, AreReceived, IsReceivedAs}
-use Rattle.clean_link.specs.ReceivedFrames.{IsSentFrame2}
-use Rattle.clean_link.specs.SentEvents.{told_with_sync}
-use Rattle.clean_link.proofs.signal.Samples.{length-made}
-use Rattle.clean_link.proofs.traffic.Back.{untold}
-use Rattle.clean_link.proofs.traffic.Commands.{power_pairs}
-use Rattle.clean_link.proofs.traffic.Frames.{one_taken, one_there}
-use Rattle.clean_link.proofs.traffic.Received.{frames_behind_mark, set_two_behind_mark}
-use Rattle.clean_link.proofs.traffic.Signs.{lawful_traffic, set_one_sends}
-use Rattle.tuned_listener.proofs.TunedTexts.{listed_texts, rate2_texts}
-use Rattle.tuned_listener.specs.TunedTexts.{decoded_line, frames_text, listed_text, rate2_text}
-use Rattle.tuned_listener.specs.TunedTexts.{text_behind, tuned_text}
-use Rattle.tuned_listener.specs.declared.tuned_text.TunedText.{TunedText}
-use Rattle.tuned_listener.specs.declared.tuned_text.TunedText.TheVariants.{Listed, RateSetTwo}
-use Rattle.cdma_replay.specs.Hearing.{tuning_for}
-use Rattle.cdma_replay.specs.SentLines.{AreSentLines, IsLineOfSetOne, IsLineOfSetTwo, IsSentLine}
-use Rattle.cdma_replay.specs.SentLines.{IsSentLine2, IsSentText, LinesComeBack}
-use Rattle.cdma_replay.specs.SentLines.{ListedLinesComeBack, SetTwoLinesComeBack}
 use Rattle.cdma_replay.proofs.CleanTexts.{on_path}
-use Rattle.cell_script.proofs.NamedPages.{named_receivable}
 
 -- ---- any frames
 

@@ -1,36 +1,15 @@
 -- What `rate2` and `list` owe of a clean link's file comes back frame by frame.
-use Rattle.std.proofs.Common.{◌≡◌, ℕ, List, [], length, take, refl, sym, ap, ◌∙◌, subst, Ok}
-use Rattle.std.specs.Prelude.{is_some, nat_lt}
-use Rattle.chip_core.specs.declared.sample.Sample.{Sample}
-use Rattle.chip_core.specs.declared.width.Width.{Width}
-use Rattle.cdma_io.specs.declared.header.Header.{Header}
-use Rattle.cell_plan.specs.declared.plan.CellPlan.{CellPlan}
-use Rattle.cell_plan.specs.declared.plan.TrafficPlan.{TrafficPlan}
-use Rattle.heard_events.specs.Marks.{mark}
-use Rattle.heard_events.specs.declared.channel.Channel.TheVariants as channels
-use Rattle.chip_core.specs.declared.assignment.Traffic.{Traffic}
-use Rattle.clean_link.specs.CleanLink.{sync_sent}
-use Rattle.clean_link.specs.HeardFrames.{SendsSetOne, SendsSetTwo}
-use Rattle.clean_link.specs.SentEvents.{told_with_sync}
-use Rattle.clean_link.proofs.marks.FirstMark.{marked_where_heard}
-use Rattle.clean_link.proofs.signal.Samples.{length-made}
-use Rattle.tuned_listener.specs.declared.tuned_text.TunedText.{TunedText}
-use Rattle.tuned_listener.specs.declared.tuned_text.TunedText.TheVariants.{Listed, RateSetTwo}
-use Rattle.cdma_replay.specs.CleanFiles.{IsCellFile}
-use Rattle.cdma_replay.specs.Hearing.{clean_end, end_when, file_end_of, file_text, tuning_for}
-use Rattle.cdma_replay.specs.Hearing.{waiting}
-use Rattle.cdma_replay.specs.Replies.{IsFileReply, Reply}
-use Rattle.cdma_replay.specs.SentLines.{IsLineOfSetOne, IsLineOfSetTwo, IsSentText, LinesComeBack}
-use Rattle.cdma_replay.specs.SentReplies.{IsHeardFrom, IsSentReply, ListRepliesComeBack}
-use Rattle.cdma_replay.specs.SentReplies.{Rate2RepliesComeBack}
-use Rattle.cdma_replay.specs.Tasks.{hearing}
-use Rattle.cdma_replay.specs.declared.handset.Receiver.{Receiver}
-use Rattle.cdma_replay.specs.declared.receiving.Reception.{Reception}
-use Rattle.cell_script.proofs.NamedPages.{named_receivable}
+use Rattle.cdma_replay.proofs.Common.{◌≡◌, ℕ, List, [], length, take, refl, sym, ap, ◌∙◌, subst, Ok, is_some, nat_lt, Sample, Width, Header}
+use Rattle.cdma_replay.proofs.Common.{CellPlan, TrafficPlan, mark, Traffic, sync_sent, SendsSetOne, SendsSetTwo, told_with_sync}
+use Rattle.cdma_replay.proofs.Common.{marked_where_heard, length-made, TunedText, Listed, RateSetTwo, IsCellFile, clean_end, end_when}
+use Rattle.cdma_replay.proofs.Common.{file_end_of, file_text, tuning_for, waiting, IsFileReply, Reply, IsLineOfSetOne, IsLineOfSetTwo}
+use Rattle.cdma_replay.proofs.Common.{IsSentText, LinesComeBack, IsHeardFrom, IsSentReply, ListRepliesComeBack, Rate2RepliesComeBack}
+use Rattle.cdma_replay.proofs.Common.{hearing, Receiver, Reception, named_receivable}
 use Rattle.cdma_replay.proofs.CleanTexts.{on_path}
 use Rattle.cdma_replay.proofs.Replies.{one_file_reply, whole_file}
 use Rattle.cdma_replay.proofs.SentLines.{listed_lines, set_two_lines}
 use Rattle.cdma_replay.proofs.SleepLaw.{end_heard, text_heard}
+use Rattle.heard_events.specs.declared.channel.Channel.TheVariants as channels
 
 -- each whole sending tells the time
 pub cell_end : (width : Width) (script : List ℕ) (plan : CellPlan) (span : ℕ) (receiver : Receiver)

@@ -1,32 +1,9 @@
 -- What is owed of a file whose slots a sleeping handset hears doesn't hang on what it sleeps through.
-use Rattle.std.proofs.Common.{◌≡◌, ℕ, ◌≤◌, ◌++◌, List, [], length, take, sym, ap, ◌∙◌, subst, arith}
-use Rattle.std.proofs.Common.{Option, Some, Ok}
-use Rattle.std.specs.Prelude.{is_some}
-use Rattle.std.proofs.lemmas.List.{take-take}
-use Rattle.chip_core.specs.declared.sample.Sample.{Sample}
-use Rattle.cdma_io.specs.declared.header.Header.{Header}
-use Rattle.event_tap.specs.Taps.{KeptTap}
-use Rattle.heard_events.specs.Marks.{mark}
-use Rattle.heard_events.specs.Near.{AreNear}
-use Rattle.heard_events.specs.Tuning.{Tuning, sync_stream}
-use Rattle.heard_events.specs.declared.channel.Channel.{Channel}
-use Rattle.heard_events.specs.declared.channel.Channel.TheVariants.{Paging}
-use Rattle.heard_events.specs.declared.mark.Mark.{Mark}
-use Rattle.heard_events.proofs.FingerTimes.{timed_of}
-use Rattle.heard_events.proofs.FrameTimes.{known_between}
-use Rattle.heard_events.proofs.MarkStays.{mark_set}
-use Rattle.tuned_listener.specs.TunedTexts.{tuned_text}
-use Rattle.tuned_listener.specs.declared.tuned_text.TunedText.{TunedText}
-use Rattle.tuned_listener.specs.declared.tuned_text.TunedText.TheVariants.{Slots}
-use Rattle.tuned_listener.proofs.Sleep.{same_mark, sleeps}
-use Rattle.tuned_listener.proofs.SlotTimes.{mark_is_late}
-use Rattle.cdma_replay.specs.Hearing.{end_when, file_end_of, file_text, first_text, is_told}
-use Rattle.cdma_replay.specs.Hearing.{listening, told, tuning_for, waiting}
-use Rattle.cdma_replay.specs.Replies.{IsFileReply, Reply}
-use Rattle.cdma_replay.specs.SleepLaw.{SleepChangesNoReply}
-use Rattle.cdma_replay.specs.declared.purpose.Purpose.{Purpose}
-use Rattle.cdma_replay.specs.declared.purpose.Purpose.TheVariants.{Tuned}
-use Rattle.cdma_replay.specs.declared.receiving.Reception.{Reception}
+use Rattle.cdma_replay.proofs.Common.{◌≡◌, ℕ, ◌≤◌, ◌++◌, List, [], length, take, sym, ap, ◌∙◌, subst, arith, Option, Some, Ok, is_some}
+use Rattle.cdma_replay.proofs.Common.{take-take, Sample, Header, KeptTap, mark, AreNear, Tuning, sync_stream, Channel, Paging, Mark}
+use Rattle.cdma_replay.proofs.Common.{timed_of, known_between, mark_set, tuned_text, TunedText, Slots, same_mark, sleeps, mark_is_late}
+use Rattle.cdma_replay.proofs.Common.{end_when, file_end_of, file_text, first_text, is_told, listening, told, tuning_for, waiting}
+use Rattle.cdma_replay.proofs.Common.{IsFileReply, Reply, SleepChangesNoReply, Purpose, Tuned, Reception}
 use Rattle.cdma_replay.proofs.NearPaths.{waiting_near}
 use Rattle.cdma_replay.proofs.Replies.{one_file_reply, whole_file}
 

@@ -1,20 +1,12 @@
 -- What `idle` owes of a clean link's file comes back slot by slot.
-use Rattle.std.proofs.Common.{◌≡◌, ℕ, List, take, ap, ◌∙◌, Ok}
-use Rattle.clean_link.proofs.traffic.Back.{one_near}
-use Rattle.event_tap.specs.SlotLines.{lines_of_slots}
-use Rattle.slot_link.proofs.File.{slot_texts_back}
-use Rattle.tuned_listener.proofs.SlotTimes.{written_of_slots}
-use Rattle.cdma_words.specs.declared.job.Job.{Job}
-use Rattle.cdma_words.specs.declared.job.Job.TheVariants as jobs
-use Rattle.cdma_replay.specs.Hearing.{tuning_for, waiting}
-use Rattle.cdma_replay.specs.Replies.{Reply}
-use Rattle.cdma_replay.specs.SlotReplies.{FileSlotsComeBack, IdleRepliesComeBack}
-use Rattle.cdma_replay.specs.declared.status.Status.{Status}
+use Rattle.cdma_replay.proofs.Common.{◌≡◌, ℕ, List, take, ap, ◌∙◌, Ok, one_near, lines_of_slots, slot_texts_back, written_of_slots, Job}
+use Rattle.cdma_replay.proofs.Common.{tuning_for, waiting, Reply, FileSlotsComeBack, IdleRepliesComeBack, Status}
 use Rattle.cdma_replay.proofs.CleanTexts.{plan_file}
 use Rattle.cdma_replay.proofs.Owed.{idle_owes}
 use Rattle.cdma_replay.proofs.Replies.{one_reply}
 use Rattle.cdma_replay.proofs.SentReplies.{cell_end}
 use Rattle.cdma_replay.proofs.TuningLaw.{on_plans_path}
+use Rattle.cdma_words.specs.declared.job.Job.TheVariants as jobs
 
 pub file_slots : FileSlotsComeBack
 file_slots width plan p span receiver header samples key cycle file counted has =

@@ -1,30 +1,14 @@
 -- Lemmas on what runs promise: one that receives a sample file, makes one or tries a link does a task,
 -- and one that does a job's task does the job.
-use Rattle.std.proofs.Common.{◌≡◌, ℕ, ◌≤◌, ◌⊎◌, inl, inr, List, refl, subst, arith, Option, None}
-use Rattle.std.proofs.Common.{Some, IfSome, Result, Err}
-use Rattle.std.proofs.lemmas.Option.{IfSome_then}
-use Rattle.std.specs.Io.KnownBytes.{Appends}
-use Rattle.chip_core.specs.declared.width.Width.{Width}
-use Rattle.cdma_io.specs.Outside.{Rose}
-use Rattle.event_tap.specs.Taps.{KeptTap}
-use Rattle.cdma_words.specs.declared.job.Job.{Job}
-use Rattle.cdma_replay.specs.declared.receiving.Reception.{Reception}
-use Rattle.cdma_replay.specs.declared.status.Status.{Status}
-use Rattle.cdma_replay.specs.declared.task.Task.{Task}
-use Rattle.cdma_replay.specs.declared.task.Task.TheVariants.{Make, Receive, Trial}
-use Rattle.cdma_replay.specs.Find.{IsOfFiles, ended}
-use Rattle.cdma_replay.specs.Replies.{AnswersBehind, IsAnswered, IsFileEnd, IsFileReply}
-use Rattle.cdma_replay.specs.Replies.{IsScriptEnd, IsScriptReply, IsTaskReply, IsTrialEnd}
-use Rattle.cdma_replay.specs.Replies.{IsVerdict, Reply, taps_by}
-use Rattle.cdma_replay.specs.TaskRuns.{MakesFile, ReceivesFile, RunsTask}
-use Rattle.cdma_replay.specs.Tasks.{task_of}
-use Rattle.cdma_replay.specs.Trials.{trial_line}
+use Rattle.cdma_replay.proofs.Common.{◌≡◌, ℕ, ◌≤◌, ◌⊎◌, inl, inr, List, refl, subst, arith, Option, None, Some, IfSome, Result, Err}
+use Rattle.cdma_replay.proofs.Common.{IfSome_then, Appends, Width, Rose, KeptTap, Job, Reception, Status, Task, Make, Receive, Trial}
+use Rattle.cdma_replay.proofs.Common.{IsOfFiles, ended, AnswersBehind, IsAnswered, IsFileEnd, IsFileReply, IsScriptEnd, IsScriptReply}
+use Rattle.cdma_replay.proofs.Common.{IsTaskReply, IsTrialEnd, IsVerdict, Reply, taps_by, MakesFile, ReceivesFile, RunsTask, task_of}
+use Rattle.cdma_replay.proofs.Common.{trial_line}
 use Rattle.cdma_replay.proofs.Bounds.{none_most}
-use Rattle.cdma_replay.proofs.Replies.{HasTrialCauses, early_by, failed_with, fault_owed, made_owed}
-use Rattle.cdma_replay.proofs.Replies.{named_well, owed_answer, purpose_end, script_cut}
-use Rattle.cdma_replay.proofs.Replies.{script_done, script_fault_owed, task_named, text_owed}
-use Rattle.cdma_replay.proofs.Replies.{trial_done, trial_early, trial_end, trial_part}
-use Rattle.cdma_replay.proofs.Replies.{trial_verdict}
+use Rattle.cdma_replay.proofs.Replies.{HasTrialCauses, early_by, failed_with, fault_owed, made_owed, named_well, owed_answer, purpose_end}
+use Rattle.cdma_replay.proofs.Replies.{script_cut, script_done, script_fault_owed, task_named, text_owed, trial_done, trial_early}
+use Rattle.cdma_replay.proofs.Replies.{trial_end, trial_part, trial_verdict}
 
 module _ {rest left : Option (List ℕ)} {misread misread_now : ℕ} {SameSource : Type 0}
     {old new : Option (List ℕ)} {miswritten miswritten_now : ℕ} {SameSink : Type 0} where
@@ -41,22 +25,15 @@ module _ {rest left : Option (List ℕ)} {misread misread_now : ℕ} {SameSource
   file_verdict taps r (Status.BadFile fault) run verdict =
       IfSome_then rest (run.place fault refl) (λ bytes is. fault_owed fault is)
   file_verdict taps r (Status.BadScript fault) run verdict = absurd run.others
-  file_verdict taps r Status.BadWords run verdict = absurd verdict
-  file_verdict taps r Status.ReadFault run verdict = absurd verdict
-  file_verdict taps r Status.WriteFault run verdict = absurd verdict
-  file_verdict taps r Status.NoMemory run verdict = absurd verdict
+  file_verdict taps r status run verdict = absurd verdict
 
   file_end : (taps : List KeptTap) (r : Reception) (status : Status) →
       ReceivesFile taps r status rest left misread misread_now SameSource old new miswritten
       miswritten_now SameSink → IsFileEnd status
-  file_end taps r Status.Done run = tt
-  file_end taps r Status.NoSync run = tt
   file_end taps r (Status.BadFile fault) run = (run.bad_file fault refl).0
   file_end taps r (Status.BadScript fault) run = absurd run.others
   file_end taps r Status.BadWords run = absurd run.others
-  file_end taps r Status.ReadFault run = tt
-  file_end taps r Status.WriteFault run = tt
-  file_end taps r Status.NoMemory run = tt
+  file_end taps r status run = tt
 
   -- taps have one name
   pub with_taps : {taps named : List KeptTap} {r : Reception} {status : Status} → taps ≡ named →
@@ -86,11 +63,7 @@ module _ {rest left : Option (List ℕ)} {misread misread_now : ℕ} {SameSource
     unread = λ never. absurd (never tt);
     bound = run.bound;
     trial = λ number workers is. absurd (cc);
-    written = record {
-      text = run.written.text;
-      written = run.written.written;
-      part = run.written.part;
-    };
+    written = record { text = run.written.text; written = run.written.written; part = run.written.part };
     cut = run.cut;
     long = run.long;
     later_source = run.later_source;
@@ -109,22 +82,16 @@ module _ {rest left : Option (List ℕ)} {misread misread_now : ℕ} {SameSource
   script_verdict width (Status.BadFile fault) run verdict = absurd (run.others.2 fault refl)
   script_verdict width (Status.BadScript fault) run verdict =
       IfSome_then rest (run.bad_script fault refl).2 (λ bytes is. script_fault_owed fault is)
-  script_verdict width Status.BadWords run verdict = absurd verdict
-  script_verdict width Status.ReadFault run verdict = absurd verdict
-  script_verdict width Status.WriteFault run verdict = absurd verdict
-  script_verdict width Status.NoMemory run verdict = absurd verdict
+  script_verdict width status run verdict = absurd verdict
 
   script_end : (width : Width) (status : Status) →
       MakesFile width status rest left misread misread_now SameSource old new miswritten
       miswritten_now SameSink → IsScriptEnd status
-  script_end width Status.Done run = tt
   script_end width Status.NoSync run = absurd (run.others.0 refl)
   script_end width (Status.BadFile fault) run = absurd (run.others.2 fault refl)
   script_end width (Status.BadScript fault) run = (run.bad_script fault refl).0
   script_end width Status.BadWords run = absurd (run.others.1 refl)
-  script_end width Status.ReadFault run = tt
-  script_end width Status.WriteFault run = tt
-  script_end width Status.NoMemory run = tt
+  script_end width status run = tt
 
   -- nothing is written where the sink is as it was
   pub made_run : (forms : List ℕ) (width : Width) (status : Status) → (SameSink → new ≡ old) →
@@ -145,11 +112,7 @@ module _ {rest left : Option (List ℕ)} {misread misread_now : ℕ} {SameSource
     unread = λ never. absurd (never tt);
     bound = run.bound;
     trial = λ number workers is. absurd (cc);
-    written = record {
-      text = run.written.text;
-      written = run.written.written;
-      part = run.written.part;
-    };
+    written = record { text = run.written.text; written = run.written.written; part = run.written.part };
     cut = λ cut. kept (run.unwritten (script_cut status run.others.2 cut));
     long = λ long. tt;
     later_source = run.later_source;
@@ -165,18 +128,6 @@ module _ {rest left : Option (List ℕ)} {misread misread_now : ℕ} {SameSource
       old ≡ Some held → IsTaskReply forms task bytes reply → ¬ (Rose misread misread_now) →
       ¬ (Rose miswritten miswritten_now) →
       (status ≡ Status.NoMemory) ⊎ AnswersBehind held reply status new
-  exact_answer forms task Status.Done run bytes held reply is was owed reads writes =
-      inr (owed_answer forms task Status.Done bytes held reply rest old new (run.verdict tt) is was
-      owed)
-  exact_answer forms task Status.NoSync run bytes held reply is was owed reads writes =
-      inr (owed_answer forms task Status.NoSync bytes held reply rest old new (run.verdict tt) is was
-      owed)
-  exact_answer forms task (Status.BadFile fault) run bytes held reply is was owed reads writes =
-      inr (owed_answer forms task (Status.BadFile fault) bytes held reply rest old new
-      (run.verdict tt) is was owed)
-  exact_answer forms task (Status.BadScript fault) run bytes held reply is was owed reads writes =
-      inr (owed_answer forms task (Status.BadScript fault) bytes held reply rest old new
-      (run.verdict tt) is was owed)
   exact_answer forms task Status.BadWords run bytes held reply is was owed reads writes =
       absurd (named_well task run.kind)
   exact_answer forms task Status.ReadFault run bytes held reply is was owed reads writes =
@@ -184,6 +135,8 @@ module _ {rest left : Option (List ℕ)} {misread misread_now : ℕ} {SameSource
   exact_answer forms task Status.WriteFault run bytes held reply is was owed reads writes =
       absurd (writes (run.write_fault refl).0)
   exact_answer forms task Status.NoMemory run bytes held reply is was owed reads writes = inl refl
+  exact_answer forms task status run bytes held reply is was owed reads writes =
+      inr (owed_answer forms task status bytes held reply rest old new (run.verdict tt) is was owed)
 
   -- what is promised of a job's task is promised of the job that the words name
   pub run_of : {forms : List ℕ} {task : Task} {status : Status} {named : Option Job} {one : Job}

@@ -1,12 +1,6 @@
 -- The handset that hears a file is tuned by it, and lies on the path of the cell that it holds.
-use Rattle.std.proofs.Common.{◌≡◌, List, [], ◌∷◌, length, pos, take, refl, sym, ap, ◌∙◌}
-use Rattle.chip_core.specs.declared.sample.Sample.{Sample}
-use Rattle.pilot_search.specs.Near.{near_deltas}
-use Rattle.pilot_search.specs.Search.{best_phase, energy}
-use Rattle.pilot_search.proofs.BestPhase.{best_phase-is}
-use Rattle.pilot_search.proofs.NearPlaces.{one_delta}
-use Rattle.clean_link.proofs.signal.Samples.{length-made}
-use Rattle.cdma_replay.specs.TuningLaw.{HandsetsAreTuned, HandsetsLieOnThePath}
+use Rattle.cdma_replay.proofs.Common.{◌≡◌, List, [], ◌∷◌, length, pos, take, refl, sym, ap, ◌∙◌, Sample, near_deltas, best_phase, energy}
+use Rattle.cdma_replay.proofs.Common.{best_phase-is, one_delta, length-made, HandsetsAreTuned, HandsetsLieOnThePath}
 
 pub handsets_tuned : HandsetsAreTuned
 handsets_tuned span header samples receiver = (refl, refl, refl, refl, refl)

@@ -108,10 +108,10 @@ pub fn task_of(job: Job) -> Task
             span,
             workers,
             fingers,
+            k,
             offset,
             esn,
             row,
-            k,
         } => {
             let channel = Channel::Traffic(Traffic { esn, row, offset });
             untapped(hearing(span, workers, fingers, channel, TunedText::Listed { k }))

@@ -1,10 +1,10 @@
 //! Writing the file of a cell.
 
-ghost use Rattle.std.specs.Prelude.{◌≡◌, ◌<◌, ◌≤◌, ◌+◌, ◌-◌, ◌*◌, min, length, OnOk, OnErr};
+ghost use Rattle.std.specs.Prelude.{◌≡◌, ◌≤◌, ◌+◌, ◌-◌, ◌*◌, min, length, take, OnOk, OnErr};
 ghost use Rattle.std.specs.Io.KnownBytes.{Appends};
 ghost use Rattle.cdma_io.specs.Outside.{AppendsPrefix, HasCause};
 ghost use Rattle.cdma_io.specs.SampleFile.{sample_len};
-ghost use Rattle.cdma_replay.specs.Make.{made_file, piece_bytes, sample_bytes};
+ghost use Rattle.cdma_replay.specs.Make.{made_file, piece_bytes};
 
 use base_modulator::Cell;
 use cdma_io::{Failed, Sink, Width, header_bytes, sample_bytes_into, write_all};
@@ -35,56 +35,23 @@ fn spell_next(cell: &mut Cell, width: Width, samples: &mut [Sample], bytes: &mut
     sample_bytes_into(width, samples, bytes);
 }
 
-/// Writes the cell's next samples, as many as `samples` has room for or the cell has left.
-fn write_piece<K: Sink>(
-    cell: &mut Cell,
-    width: Width,
-    samples: &mut [Sample],
-    bytes: &mut [u8],
-    sink: &mut K,
-) -> Result<(), Failed>
+/// Spells the cell's next samples, as many as `samples` has room for or the cell has left, and says how
+/// many bytes they have.
+fn spell_piece(cell: &mut Cell, width: Width, samples: &mut [Sample], bytes: &mut [u8]) -> usize
     requires width { cell.old.width ≡ width }
     requires samples { length samples.old ≡ 4096 }
     requires bytes { length bytes.old ≡ 16384 }
+    ensures most { result ≤ 16384 }
+    ensures spelled { take result bytes.new ≡ piece_bytes width cell.old.plan cell.old.given
+        (min 4096 (cell.old.plan.link.samples - cell.old.given)) }
     ensures state { cell.new ≡
         record cell.old
         { given = cell.old.given + min 4096 (cell.old.plan.link.samples - cell.old.given) } }
-    ensures ok { OnOk result (Appends (K.written sink.old) (K.written sink.new)
-        (piece_bytes width cell.old.plan cell.old.given
-        (min 4096 (cell.old.plan.link.samples - cell.old.given)))) }
-    ensures err { OnErr result (AppendsPrefix (K.written sink.old) (K.written sink.new)
-        (piece_bytes width cell.old.plan cell.old.given
-        (min 4096 (cell.old.plan.link.samples - cell.old.given)))) }
-    ensures cause { HasCause (K.faults sink.old) (K.faults sink.new) result }
 {
     let count = cell.left().min(samples.len() as u64) as usize;
     let len = bytes_for(width, count);
     spell_next(cell, width, &mut samples[..count], &mut bytes[..len]);
-    write_all(sink, &bytes[..len])
-}
-
-/// Writes the samples of a cell that has given none.
-fn write_samples<K: Sink>(
-    cell: &mut Cell,
-    width: Width,
-    samples: &mut [Sample],
-    bytes: &mut [u8],
-    sink: &mut K,
-) -> Result<(), Failed>
-    requires fresh { (cell.old.width ≡ width) × (cell.old.given ≡ 0) }
-    requires samples { length samples.old ≡ 4096 }
-    requires bytes { length bytes.old ≡ 16384 }
-    ensures ok { OnOk result
-        (Appends (K.written sink.old) (K.written sink.new) (sample_bytes width cell.old.plan)) }
-    ensures err { OnErr result
-        (AppendsPrefix (K.written sink.old) (K.written sink.new)
-        (sample_bytes width cell.old.plan)) }
-    ensures cause { HasCause (K.faults sink.old) (K.faults sink.new) result }
-{
-    while cell.left() > 0 {
-        write_piece(cell, width, samples, bytes, sink)?;
-    }
-    Ok(())
+    len
 }
 
 /// Writes the file of a cell that has given no sample, by way of `samples` and `bytes`.
@@ -105,5 +72,9 @@ pub fn write_cell<K: Sink>(
     ensures cause { HasCause (K.faults sink.old) (K.faults sink.new) result }
 {
     write_all(sink, &header_bytes(&cell.header()))?;
-    write_samples(cell, width, samples, bytes, sink)
+    while cell.left() > 0 {
+        let len = spell_piece(cell, width, samples, bytes);
+        write_all(sink, &bytes[..len])?;
+    }
+    Ok(())
 }

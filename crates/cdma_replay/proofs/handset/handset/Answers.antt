@@ -1,5 +1,4 @@
-use Rattle.std.proofs.Common.{rules, refl, length, ◌≡◌, []}
-use Rattle.std.proofs.lemmas.Grind.{merely}
+use Rattle.cdma_replay.proofs.Common.{rules, refl, length, ◌≡◌, [], merely}
 use Rattle.cdma_replay.proofs.Hearings.{fresh_given}
 use Rattle.cdma_replay.proofs.handset.handset.Goals as goal
 

@@ -1,14 +1,5 @@
-use Rattle.std.proofs.Common.{◌≡◌, ◌-◌, ◌++◌, List, length, take, None, Some, sym, ap, ◌∙◌, subst}
-use Rattle.std.proofs.Common.{append-nil, rules, arith}
-use Rattle.std.proofs.lemmas.List.{take_rest}
-use Rattle.std.proofs.lemmas.Result.{err_from_is_err_and}
-use Rattle.chip_core.specs.declared.sample.Sample.{Sample}
-use Rattle.event_tap.specs.Taps.{KeptTap, run_taps}
-use Rattle.heard_events.specs.Events.{events}
-use Rattle.mobile_core.specs.Standing.{StandsFor}
-use Rattle.heard_events.specs.Tuning.{Tuning}
-use Rattle.heard_events.specs.declared.event.Event.{Event}
-use Rattle.cdma_replay.specs.Hearing.{HasTold}
+use Rattle.cdma_replay.proofs.Common.{◌≡◌, ◌-◌, ◌++◌, List, length, take, None, Some, sym, ap, ◌∙◌, subst, append-nil, rules, arith}
+use Rattle.cdma_replay.proofs.Common.{take_rest, err_from_is_err_and, Sample, KeptTap, run_taps, events, StandsFor, Tuning, Event, HasTold}
 use Rattle.cdma_replay.proofs.Hearings.{step_stands, told_all, told_more, told_none, told_part}
 use Rattle.cdma_replay.proofs.listener.tell.Goals as goal
 

@@ -1,10 +1,5 @@
-use Rattle.std.proofs.Common.{◌≡◌, ◌≤◌, ◌+◌, ◌++◌, All, List, length, take}
-use Rattle.chip_core.specs.declared.sample.Sample.{Sample}
-use Rattle.event_tap.specs.Taps.{IsKept, KeptTap, run_taps}
-use Rattle.mobile_core.specs.Standing.{StandsFor, has_room, steps_left}
-use Rattle.heard_events.specs.Tuning.{Tuning}
-use Rattle.heard_events.specs.declared.event.Event.{Event}
-use Rattle.cdma_replay.specs.Hearing.{HasTold}
+use Rattle.cdma_replay.proofs.Common.{◌≡◌, ◌≤◌, ◌+◌, ◌++◌, All, List, length, take, Sample, IsKept, KeptTap, run_taps, StandsFor, has_room}
+use Rattle.cdma_replay.proofs.Common.{steps_left, Tuning, Event, HasTold}
 use Rattle.cdma_replay.proofs.listener.tell.Given as goal
 
 abbrev pub invariant-loop-event : goal.invariant-loop-event

@@ -1,6 +1,4 @@
-use Rattle.std.proofs.Common.{[], inl, inr, refl, rules, arith}
-use Rattle.std.proofs.KnownBytes.{Appends-nil}
-use Rattle.std.proofs.lemmas.Option.{IfSome_then}
+use Rattle.cdma_replay.proofs.Common.{[], inl, inr, refl, rules, arith, Appends-nil, IfSome_then}
 use Rattle.cdma_replay.proofs.Files.{ended_by}
 use Rattle.cdma_replay.proofs.MadeFiles.{writes_part, writes_whole}
 use Rattle.cdma_replay.proofs.making.make_file.Goals as goal

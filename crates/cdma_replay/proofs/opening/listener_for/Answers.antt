@@ -1,5 +1,4 @@
-use Rattle.std.proofs.Common.{refl, rules}
-use Rattle.cdma_replay.specs.Hearing.{AreNearTo, waiting}
+use Rattle.cdma_replay.proofs.Common.{refl, rules, AreNearTo, waiting}
 use Rattle.cdma_replay.proofs.opening.listener_for.Goals as goal
 
 pub returns-in_ok-mobile-in-Followed-clause-fresh : goal.returns-in_ok-mobile-in-Followed-clause-fresh

@@ -1,12 +1,5 @@
-use Rattle.std.proofs.Common.{ℕ, List, ◌++◌, ap, subst, sym}
-use Rattle.std.specs.Io.KnownBytes.{Appends}
-use Rattle.cdma_io.specs.Outside.{AppendsPrefix}
-use Rattle.event_tap.specs.EventLines.{event_line}
-use Rattle.heard_events.specs.declared.event.Event.{Event}
-use Rattle.tuned_listener.proofs.Prefixes.{on_err, on_ok}
-use Rattle.cdma_replay.specs.Hearing.{BeginsBehind, told}
-use Rattle.cdma_replay.specs.Openings.{listening_in, pilot_event, shown_text}
-use Rattle.cdma_replay.proofs.Lines.{alone_begins, alone_part}
+use Rattle.cdma_replay.proofs.Common.{ap, subst, Appends, AppendsPrefix, event_line, Event, on_err, on_ok, pilot_event, shown_text}
+use Rattle.cdma_replay.proofs.Lines.{alone_begins, alone_part, silent_err, silent_ok}
 use Rattle.cdma_replay.proofs.opening.tell_first.Goals as goal
 
 pub returns-in-Found-clause-ok : goal.returns-in-Found-clause-ok
@@ -31,47 +24,20 @@ returns-in-Found-clause-err g c =
 
 pub returns-in-Followed-clause-ok : goal.returns-in-Followed-clause-ok
 returns-in-Followed-clause-ok g c =
-    let kept = g.T.KeepsTaps.kept c.args.taps.now in
-    on_ok c.begin.result _ _
-    (λ begins header first fresh.
-    let l = listening_in kept c.args.shown.now header first in
-    subst (λ (text : List ℕ). BeginsBehind text l c.begin.new.self
-    (g.T.KeepsTaps.kept c.begin.new.taps) (g.K.Sink.written c.args.sink.now)
-    (g.K.Sink.written c.begin.new.sink)) (sym (ap shown_text c.in-Followed.is)) (begins l fresh))
-    c.begin.ensures.ok
+    silent_ok c.begin.result c.args.shown.now _ c.begin.new.self _ _ _ _ (ap shown_text c.in-Followed.is) c.begin.ensures.ok
 
 pub returns-in-Followed-clause-err : goal.returns-in-Followed-clause-err
 returns-in-Followed-clause-err g c =
-    let kept = g.T.KeepsTaps.kept c.args.taps.now in
-    on_err c.begin.result _ _
-    (λ part header first samples fresh.
-    let l = listening_in kept c.args.shown.now header first in
-    subst (λ (text : List ℕ). AppendsPrefix (g.K.Sink.written c.args.sink.now)
-    (g.K.Sink.written c.begin.new.sink) (text ++ told l samples)) (sym (ap shown_text c.in-Followed.is))
-    (part l samples fresh))
-    c.begin.ensures.err
+    silent_err c.begin.result c.args.shown.now _ _ _ _ (ap shown_text c.in-Followed.is) c.begin.ensures.err
 
 pub returns-in-TunedTo-clause-ok : goal.returns-in-TunedTo-clause-ok
 returns-in-TunedTo-clause-ok g c =
-    let kept = g.T.KeepsTaps.kept c.args.taps.now in
-    on_ok c.begin-in-TunedTo.result _ _
-    (λ begins header first fresh.
-    let l = listening_in kept c.args.shown.now header first in
-    subst (λ (text : List ℕ). BeginsBehind text l c.begin-in-TunedTo.new.self
-    (g.T.KeepsTaps.kept c.begin-in-TunedTo.new.taps) (g.K.Sink.written c.args.sink.now)
-    (g.K.Sink.written c.begin-in-TunedTo.new.sink)) (sym (ap shown_text c.in-TunedTo.is)) (begins l fresh))
-    c.begin-in-TunedTo.ensures.ok
+    silent_ok c.begin-in-TunedTo.result c.args.shown.now _ c.begin-in-TunedTo.new.self _ _ _ _
+    (ap shown_text c.in-TunedTo.is) c.begin-in-TunedTo.ensures.ok
 
 pub returns-in-TunedTo-clause-err : goal.returns-in-TunedTo-clause-err
 returns-in-TunedTo-clause-err g c =
-    let kept = g.T.KeepsTaps.kept c.args.taps.now in
-    on_err c.begin-in-TunedTo.result _ _
-    (λ part header first samples fresh.
-    let l = listening_in kept c.args.shown.now header first in
-    subst (λ (text : List ℕ). AppendsPrefix (g.K.Sink.written c.args.sink.now)
-    (g.K.Sink.written c.begin-in-TunedTo.new.sink) (text ++ told l samples)) (sym (ap shown_text c.in-TunedTo.is))
-    (part l samples fresh))
-    c.begin-in-TunedTo.ensures.err
+    silent_err c.begin-in-TunedTo.result c.args.shown.now _ _ _ _ (ap shown_text c.in-TunedTo.is) c.begin-in-TunedTo.ensures.err
 
 pub returns-in-Ranks-clause-ok : goal.returns-in-Ranks-clause-ok
 returns-in-Ranks-clause-ok g c =

@@ -1,6 +1,4 @@
-use Rattle.std.proofs.Common.{◌≡◌, length, refl, rules, sym}
-use Rattle.pilot_search.proofs.BestPhase.{best_phase-only}
-use Rattle.cdma_replay.specs.Hearing.{tuning_for, waiting}
+use Rattle.cdma_replay.proofs.Common.{◌≡◌, length, refl, rules, sym, best_phase-only, tuning_for, waiting}
 use Rattle.cdma_replay.proofs.Hearings.{if_ok, near_taken}
 use Rattle.cdma_replay.proofs.opening.tuned_listener.Goals as goal
 

@@ -1,7 +1,6 @@
-use Rattle.std.proofs.Common.{inl}
-use Rattle.std.proofs.KnownBytes.{Keeps-refl}
-use Rattle.cdma_replay.proofs.Runs.{failed_before, flush_ends, flush_passed, flushed_run}
-use Rattle.cdma_replay.proofs.Runs.{of_wanting_job, of_written_job, rose_later, unread_by}
+use Rattle.cdma_replay.proofs.Common.{inl, Keeps-refl}
+use Rattle.cdma_replay.proofs.Runs.{failed_before, flush_ends, flush_passed, flushed_run, of_wanting_job, of_written_job, rose_later}
+use Rattle.cdma_replay.proofs.Runs.{unread_by}
 use Rattle.cdma_replay.proofs.program.run_tapped.Goals as goal
 
 pub returns-clause-ran : goal.returns-clause-ran

@@ -1,4 +1,4 @@
-use Rattle.std.proofs.Common.{refl}
+use Rattle.cdma_replay.proofs.Common.{refl}
 use Rattle.cdma_replay.proofs.Runs.{by_vtable, four_forms, run_with}
 use Rattle.cdma_replay.proofs.program.run_words.OwnLists.{own-1}
 use Rattle.cdma_replay.proofs.program.run_words.Goals as goal

@@ -1,7 +1,4 @@
-use Rattle.std.proofs.Common.{◌≡◌, ◌<◌, ℕ, arith, subst, take}
-use Rattle.std.proofs.lemmas.Result.{err_from_is_err_and}
-use Rattle.std.specs.Io.KnownBytes.{Appends}
-use Rattle.cdma_replay.specs.Ranks.{ranks_text}
+use Rattle.cdma_replay.proofs.Common.{◌≡◌, ◌<◌, ℕ, arith, subst, take, err_from_is_err_and, Appends, ranks_text}
 use Rattle.cdma_replay.proofs.RankLines.{lines_cut, lines_more, no_lines}
 use Rattle.cdma_replay.proofs.ranks.write_ranks.Goals as goal
 

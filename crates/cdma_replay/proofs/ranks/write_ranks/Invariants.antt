@@ -1,6 +1,4 @@
-use Rattle.std.proofs.Common.{◌≤◌, take}
-use Rattle.std.specs.Io.KnownBytes.{Appends}
-use Rattle.cdma_replay.specs.Ranks.{ranks_text}
+use Rattle.cdma_replay.proofs.Common.{◌≤◌, take, Appends, ranks_text}
 use Rattle.cdma_replay.proofs.ranks.write_ranks.Given as goal
 
 abbrev pub invariant-loop-place : goal.invariant-loop-place

@@ -1,21 +1,14 @@
-use Rattle.std.proofs.Common.{◌≡◌, ◌≤◌, ◌-◌, ◌*◌, ℕ, min, IfSome, IsNone, length, length-take-le}
-use Rattle.std.proofs.Common.{take, ap, ◌∙◌, refl, subst, arith, rules}
-use Rattle.cdma_io.specs.SampleFile.{Reading, width_of, sample_len}
-use Rattle.cdma_io.specs.declared.file_fault.FileFault.{FileFault}
-use Rattle.cdma_io.specs.Outside.{ConsumesAtMost}
-use Rattle.cdma_io.specs.declared.header.Header.{Header}
-use Rattle.cdma_io.proofs.Spelling.{sample_len-mono}
-use Rattle.cdma_replay.specs.Broken.{IsLong}
-use Rattle.cdma_replay.specs.Find.{IsRestFault}
-use Rattle.cdma_replay.specs.Status.{file_status}
+use Rattle.cdma_replay.proofs.Common.{◌≡◌, ◌≤◌, ◌+◌, ◌-◌, ◌*◌, ℕ, min, IfSome, IsNone, length, length-take-le, take, ap, ◌∙◌, refl, subst, arith}
+use Rattle.cdma_replay.proofs.Common.{rules, Reading, width_of, sample_len, FileFault, ConsumesAtMost, Header, sample_len-mono, IsLong}
+use Rattle.cdma_replay.proofs.Common.{IsRestFault, file_status, HasRoom}
 use Rattle.cdma_replay.proofs.Broken.{has_bytes, no_long_cut}
-use Rattle.cdma_replay.specs.Hearing.{HasRoom}
 use Rattle.cdma_replay.proofs.Faults.{rest_cut_fault, rest_extra_fault}
 use Rattle.cdma_replay.proofs.Files.{blamed, ended_by, wrong_length}
-use Rattle.cdma_replay.proofs.HeardRest.{hears_all, hears_first, hears_more, hears_nothing}
-use Rattle.cdma_replay.proofs.HeardRest.{hears_part, hears_stopped}
+use Rattle.cdma_replay.proofs.HeardRest.{hears_all, hears_first, hears_more, hears_nothing, hears_part, hears_stopped}
 use Rattle.cdma_replay.proofs.Hearings.{room_for}
 use Rattle.cdma_replay.proofs.Bounds.{passed_most, piece_most}
+use Rattle.cdma_replay.proofs.receiving.hear_rest.Given.{Over}
+use Rattle.cdma_replay.proofs.receiving.hear_rest.Goals.{After-finish, After-read}
 use Rattle.cdma_replay.proofs.receiving.hear_rest.Goals as goal
 
 pub loop-reader-init : goal.loop-reader-init
@@ -187,36 +180,37 @@ returns-in_err-finish-clause-long g c long =
 
 -- no more bytes were taken than those of the samples that were left, and one
 
-pub returns-in_err-count-clause-bound : goal.returns-in_err-count-clause-bound
-returns-in_err-count-clause-bound g c =
+read_most : (g : Over) (c : After-read g) →
+    ConsumesAtMost (sample_len (width_of c.args.reader.now.header) * c.args.reader.now.left + 1)
+    (g.S.Source.rest c.args.source.now) (g.S.Source.rest c.read.new.source)
+read_most g c =
     let inv = c.loop-reader.invariant in
     let now = c.loop-reader.reader.left in
     piece_most c.args.reader.now.left now (min (length c.loop-reader.piece) now)
     (g.S.Source.rest c.args.source.now) _ _ inv.same inv.low (omega arith) inv.hears.passed
     c.read.ensures.taken
 
+pub returns-in_err-count-clause-bound : goal.returns-in_err-count-clause-bound
+returns-in_err-count-clause-bound g c =
+    read_most g (goal.at.returns-in_err-count-clause-bound g c).After-read
+
 pub returns-in-Err-clause-bound : goal.returns-in-Err-clause-bound
-returns-in-Err-clause-bound g c =
-    let inv = c.loop-reader.invariant in
+returns-in-Err-clause-bound g c = read_most g (goal.at.returns-in-Err-clause-bound g c).After-read
+
+finished_most : (g : Over) (c : After-finish g) →
+    ConsumesAtMost (sample_len (width_of c.args.reader.now.header) * c.args.reader.now.left + 1)
+    (g.S.Source.rest c.args.source.now) (g.S.Source.rest c.finish.new.source)
+finished_most g c =
+    let left = c.args.reader.now.left in
     let now = c.loop-reader.reader.left in
-    piece_most c.args.reader.now.left now (min (length c.loop-reader.piece) now)
-    (g.S.Source.rest c.args.source.now) _ _ inv.same inv.low (omega arith) inv.hears.passed
-    c.read.ensures.taken
+    let width = width_of c.args.reader.now.header in
+    passed_most (g.S.Source.rest c.args.source.now) _ _ c.loop-reader.invariant.hears.passed
+    c.finish.ensures.taken
+    (omega (arith, sample_len-mono width (left - now) left (omega arith)))
 
 pub returns-in_err-finish-clause-bound : goal.returns-in_err-finish-clause-bound
 returns-in_err-finish-clause-bound g c =
-    let left = c.args.reader.now.left in
-    let now = c.loop-reader.reader.left in
-    let width = width_of c.args.reader.now.header in
-    passed_most (g.S.Source.rest c.args.source.now) _ _ c.loop-reader.invariant.hears.passed
-    c.finish.ensures.taken
-    (omega (arith, sample_len-mono width (left - now) left (omega arith)))
+    finished_most g (goal.at.returns-in_err-finish-clause-bound g c).After-finish
 
 pub returns-clause-bound : goal.returns-clause-bound
-returns-clause-bound g c =
-    let left = c.args.reader.now.left in
-    let now = c.loop-reader.reader.left in
-    let width = width_of c.args.reader.now.header in
-    passed_most (g.S.Source.rest c.args.source.now) _ _ c.loop-reader.invariant.hears.passed
-    c.finish.ensures.taken
-    (omega (arith, sample_len-mono width (left - now) left (omega arith)))
+returns-clause-bound g c = finished_most g (goal.at.returns-clause-bound g c).After-finish

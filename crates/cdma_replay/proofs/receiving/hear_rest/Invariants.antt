@@ -1,7 +1,4 @@
-use Rattle.std.proofs.Common.{◌≡◌, ◌-◌, ◌≤◌, All, None, length}
-use Rattle.cdma_io.specs.SampleFile.{width_of}
-use Rattle.event_tap.specs.Taps.{IsKept}
-use Rattle.cdma_replay.specs.Hearing.{HasRoom}
+use Rattle.cdma_replay.proofs.Common.{◌≡◌, ◌-◌, ◌≤◌, All, None, length, width_of, IsKept, HasRoom}
 use Rattle.cdma_replay.proofs.HeardRest.{Hears}
 use Rattle.cdma_replay.proofs.receiving.hear_rest.Given as goal
 

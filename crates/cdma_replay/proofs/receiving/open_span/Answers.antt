@@ -1,6 +1,4 @@
-use Rattle.std.proofs.Common.{length, rules, ◌≡◌, ◌≤◌, IsNone, None, ap, refl}
-use Rattle.std.proofs.lemmas.Result.{err_from_is_err_and}
-use Rattle.cdma_io.specs.SampleFile.{Reading}
+use Rattle.cdma_replay.proofs.Common.{length, rules, ◌≡◌, ◌≤◌, IsNone, None, ap, refl, err_from_is_err_and, Reading}
 use Rattle.cdma_replay.proofs.Broken.{no_long_cut, opening_few, span_few, unopened}
 use Rattle.cdma_replay.proofs.Faults.{fault_of_opening, fault_of_count, fault_of_span}
 use Rattle.cdma_replay.proofs.Files.{no_file, unsearchable}

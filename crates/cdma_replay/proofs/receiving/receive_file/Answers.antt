@@ -1,21 +1,15 @@
-use Rattle.std.proofs.Common.{◌≡◌, ◌+◌, ℕ, List, [], IfSome, inr, length, ap, refl, ◌∙◌, subst}
-use Rattle.std.proofs.Common.{rules, arith}
-use Rattle.chip_core.specs.declared.sample.Sample.{Sample}
-use Rattle.cdma_io.specs.declared.file_fault.FileFault.{FileFault}
-use Rattle.cdma_replay.specs.Broken.{IsCut, IsLong}
-use Rattle.cdma_replay.specs.Find.{IsEnd, IsFault, IsFaultIn, IsOfFiles, ended}
-use Rattle.cdma_replay.specs.Hearing.{Listening, Listens, end_when, listening}
-use Rattle.cdma_replay.specs.Status.{file_status}
-use Rattle.cdma_replay.specs.declared.status.Status.{Status}
+use Rattle.cdma_replay.proofs.Common.{◌≡◌, ◌+◌, ℕ, List, [], IfSome, inr, length, ap, refl, ◌∙◌, subst, rules, arith, Sample, FileFault}
+use Rattle.cdma_replay.proofs.Common.{IsCut, IsLong, IsEnd, IsFault, IsFaultIn, IsOfFiles, ended, Listening, Listens, end_when, listening}
+use Rattle.cdma_replay.proofs.Common.{file_status, Status}
 use Rattle.cdma_replay.proofs.Broken.{nothing_all, nothing_first, writes_all, writes_first}
-use Rattle.cdma_replay.proofs.Ends.{begins_file, by_end, by_file_status, ends_well, fault_no_end}
-use Rattle.cdma_replay.proofs.Ends.{lost_file, starved_file}
+use Rattle.cdma_replay.proofs.Ends.{begins_file, by_end, by_file_status, ends_well, fault_no_end, lost_file, starved_file}
 use Rattle.cdma_replay.proofs.Faults.{fault_of_rest}
 use Rattle.cdma_replay.proofs.Files.{blamed, ended_by, unsearchable}
-use Rattle.cdma_replay.proofs.Lines.{has_begun, writes_first_part, writes_first_text}
-use Rattle.cdma_replay.proofs.Lines.{writes_rest_part, writes_text}
+use Rattle.cdma_replay.proofs.Lines.{HasBegun, has_begun, writes_first_part, writes_first_text, writes_rest_part, writes_text}
 use Rattle.cdma_replay.proofs.Bounds.{none_most, rest_most}
 use Rattle.cdma_replay.proofs.Runs.{rose_before}
+use Rattle.cdma_replay.proofs.receiving.receive_file.Given.{Over}
+use Rattle.cdma_replay.proofs.receiving.receive_file.Goals.{In-Ok}
 use Rattle.cdma_replay.proofs.receiving.receive_file.Goals as goal
 
 -- the file doesn't open, or its first samples aren't there
@@ -68,21 +62,15 @@ returns-in_err-reader g c =
 -- there is no memory for the search, or for the listener
 pub returns-in_err-shown : goal.returns-in_err-shown
 returns-in_err-shown g c =
-    rw (ended_by c.from_residual-in_err-shown.result Status.NoMemory
-    c.from_residual-in_err-shown.ensures.1)
-    (starved_file refl
-    (inr (begins_file _ _ c.requires.span.0 c.in_ok-reader.ensures.taken))
-    (rest_most c.in_ok-reader.ensures.taken (none_most _ _))
-    c.open_span.ensures.later)
+    rw (ended_by c.from_residual-in_err-shown.result Status.NoMemory c.from_residual-in_err-shown.ensures.1)
+    (starved_file refl (inr (begins_file _ _ c.requires.span.0 c.in_ok-reader.ensures.taken))
+    (rest_most c.in_ok-reader.ensures.taken (none_most _ _)) c.open_span.ensures.later)
 
 pub returns-in_err-listener : goal.returns-in_err-listener
 returns-in_err-listener g c =
-    rw (ended_by c.from_residual-in_err-listener.result Status.NoMemory
-    c.from_residual-in_err-listener.ensures.1)
-    (starved_file refl
-    (inr (begins_file _ _ c.requires.span.0 c.in_ok-reader.ensures.taken))
-    (rest_most c.in_ok-reader.ensures.taken (none_most _ _))
-    c.open_span.ensures.later)
+    rw (ended_by c.from_residual-in_err-listener.result Status.NoMemory c.from_residual-in_err-listener.ensures.1)
+    (starved_file refl (inr (begins_file _ _ c.requires.span.0 c.in_ok-reader.ensures.taken))
+    (rest_most c.in_ok-reader.ensures.taken (none_most _ _)) c.open_span.ensures.later)
 
 -- what is told before any sample, or of the first ones, can't be written
 pub returns-in-Err : goal.returns-in-Err
@@ -96,12 +84,20 @@ returns-in-Err g c =
     c.in_ok-listener.ensures.fresh c.in-Err.ensures.err)
     c.open_span.ensures.later (search rules)
 
-pub returns-in-Err-hear : goal.returns-in-Err-hear
-returns-in-Err-hear g c =
-    let begun =
+-- what is told before any sample was written
+begun_of : (g : Over) (c : In-Ok g) →
+    HasBegun (g.T.KeepsTaps.kept c.args.taps) c.args.reception c.in_ok-reader.reader.header
+    c.open_span.new.span c.tell_first.new.listener (g.T.KeepsTaps.kept c.tell_first.new.taps)
+    (g.S.Source.rest c.args.source.now) (g.S.Source.rest c.open_span.new.source)
+    (g.K.Sink.written c.args.sink.now) (g.K.Sink.written c.tell_first.new.sink)
+begun_of g c =
     has_begun _ c.args.reception c.in_ok-shown.shown c.in_ok-listener.listener c.requires.span.0
     c.in_ok-reader.ensures.taken c.in_ok-shown.ensures.shown c.header.ensures.value
-    c.in_ok-listener.ensures.fresh c.in-Ok.ensures.ok in
+    c.in_ok-listener.ensures.fresh c.in-Ok.ensures.ok
+
+pub returns-in-Err-hear : goal.returns-in-Err-hear
+returns-in-Err-hear g c =
+    let begun = begun_of g (goal.at.returns-in-Err-hear g c).In-Ok in
     lost_file
     (begins_file _ _ c.requires.span.0 c.in_ok-reader.ensures.taken)
     (search rules)
@@ -116,10 +112,7 @@ returns-in_err-hear_rest g c =
     let span = c.open_span.new.span in
     let reader = c.in_ok-reader.reader in
     let told = c.in_err-hear_rest.ensures in
-    let begun =
-    has_begun _ c.args.reception c.in_ok-shown.shown c.in_ok-listener.listener c.requires.span.0
-    c.in_ok-reader.ensures.taken c.in_ok-shown.ensures.shown c.header.ensures.value
-    c.in_ok-listener.ensures.fresh c.in-Ok.ensures.ok in
+    let begun = begun_of g (goal.at.returns-in_err-hear_rest g c).In-Ok in
     let left : reader.left + c.args.reception.span ≡ reader.header.count =
     omega (arith, c.in_ok-reader.ensures.taken.left, c.requires.span.0) in
     let place : (fault : FileFault) → c.in_err-hear_rest.field-0.0 ≡ Status.BadFile fault →
@@ -165,10 +158,7 @@ returns g c =
     let reader = c.in_ok-reader.reader in
     let told = c.in_ok-hear_rest.ensures in
     let end = c.end_when.ensures.ends in
-    let begun =
-    has_begun _ c.args.reception c.in_ok-shown.shown c.in_ok-listener.listener c.requires.span.0
-    c.in_ok-reader.ensures.taken c.in_ok-shown.ensures.shown c.header.ensures.value
-    c.in_ok-listener.ensures.fresh c.in-Ok.ensures.ok in
+    let begun = begun_of g (goal.at.returns g c).In-Ok in
     let left : reader.left + c.args.reception.span ≡ reader.header.count =
     omega (arith, c.in_ok-reader.ensures.taken.left, c.requires.span.0) in
     let l = listening (g.T.KeepsTaps.kept c.args.taps) c.args.reception.purpose reader.header span in

@@ -1,4 +1,4 @@
-use Rattle.std.proofs.Common.{◌∙◌, [], ◌∷◌, None}
+use Rattle.cdma_replay.proofs.Common.{◌∙◌, [], ◌∷◌, None}
 use Rattle.cdma_replay.proofs.Replies.{none_kept}
 use Rattle.cdma_replay.proofs.TaskRuns.{file_run, with_taps}
 use Rattle.cdma_replay.proofs.replaying.receive_untapped.Goals as goal

@@ -1,4 +1,4 @@
-use Rattle.std.proofs.Common.{Some, ap, refl}
+use Rattle.cdma_replay.proofs.Common.{Some, ap, refl}
 use Rattle.cdma_replay.proofs.TaskRuns.{file_run, made_run, trial_run, with_taps}
 use Rattle.cdma_replay.proofs.replaying.run_task.Goals as goal
 

@@ -1,8 +1,4 @@
-use Rattle.std.proofs.Common.{◌≡◌, ◌∙◌, ap, sym, Ok, rules}
-use Rattle.chip_core.specs.declared.width.Width.TheVariants.{Sixteen}
-use Rattle.cell_script.specs.Script.{plan_named}
-use Rattle.trial_link.specs.Trial.{trial_plan}
-use Rattle.trial_link.proofs.TrialPlans.{trial_named}
+use Rattle.cdma_replay.proofs.Common.{◌≡◌, ◌∙◌, ap, sym, Ok, rules, Sixteen, plan_named, trial_plan, trial_named}
 use Rattle.cdma_replay.proofs.Counting.{state_is}
 use Rattle.cdma_replay.proofs.trial.cell_for.Goals as goal
 

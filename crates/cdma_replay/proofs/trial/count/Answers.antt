@@ -1,15 +1,7 @@
-use Rattle.std.proofs.Common.{◌≡◌, ◌+◌, ◌-◌, ◌≤◌, ◌++◌, List, length, take, Option, None, Some, sym}
-use Rattle.std.proofs.Common.{ap, ◌∙◌, subst, append-nil, rules, arith}
-use Rattle.std.proofs.lemmas.List.{take_rest}
-use Rattle.chip_core.specs.declared.sample.Sample.{Sample}
-use Rattle.heard_events.specs.Given.{listed}
-use Rattle.mobile_core.specs.Standing.{StandsFor, steps_left}
-use Rattle.heard_events.specs.declared.event.Event.{Event}
-use Rattle.cdma_replay.specs.Trials.{LeavesRoom, counts_with}
-use Rattle.cdma_replay.specs.declared.trial.Counts.{Counts}
-use Rattle.heard_events.specs.Events.{events}
-use Rattle.cdma_replay.proofs.Counting.{counted_all, counted_more, room_behind, room_for_one}
-use Rattle.cdma_replay.proofs.Counting.{room_left}
+use Rattle.cdma_replay.proofs.Common.{◌≡◌, ◌+◌, ◌-◌, ◌≤◌, ◌++◌, List, length, take, Option, None, Some, sym, ap, ◌∙◌, subst, append-nil}
+use Rattle.cdma_replay.proofs.Common.{rules, arith, take_rest, Sample, listed, StandsFor, steps_left, Event, LeavesRoom, counts_with}
+use Rattle.cdma_replay.proofs.Common.{Counts, events}
+use Rattle.cdma_replay.proofs.Counting.{counted_all, counted_more, room_behind, room_for_one, room_left}
 use Rattle.cdma_replay.proofs.Hearings.{step_stands}
 use Rattle.cdma_replay.proofs.trial.count.Goals as goal
 

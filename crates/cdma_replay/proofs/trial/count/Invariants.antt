@@ -1,9 +1,5 @@
-use Rattle.std.proofs.Common.{◌≡◌, ◌≤◌, ◌+◌, ◌++◌, List, length, take}
-use Rattle.chip_core.specs.declared.sample.Sample.{Sample}
-use Rattle.mobile_core.specs.Standing.{StandsFor, has_room, steps_left}
-use Rattle.heard_events.specs.Tuning.{Tuning}
-use Rattle.heard_events.specs.declared.event.Event.{Event}
-use Rattle.cdma_replay.specs.Trials.{LeavesRoom, counts_of}
+use Rattle.cdma_replay.proofs.Common.{◌≡◌, ◌≤◌, ◌+◌, ◌++◌, List, length, take, Sample, StandsFor, has_room, steps_left, Tuning, Event}
+use Rattle.cdma_replay.proofs.Common.{LeavesRoom, counts_of}
 use Rattle.cdma_replay.proofs.trial.count.Given as goal
 
 abbrev pub invariant-loop-event : goal.invariant-loop-event

@@ -1,9 +1,4 @@
-use Rattle.std.proofs.Common.{◌≡◌, List, length, subst, take}
-use Rattle.chip_core.specs.declared.sample.Sample.{Sample}
-use Rattle.cell_plan.specs.Sampled.{made_samples}
-use Rattle.heard_events.specs.Events.{events}
-use Rattle.mobile_core.specs.Standing.{StandsFor}
-use Rattle.cdma_replay.specs.Trials.{counts_of}
+use Rattle.cdma_replay.proofs.Common.{◌≡◌, List, length, subst, take, Sample, made_samples, events, StandsFor, counts_of}
 use Rattle.cdma_replay.proofs.Counting.{made_more, next_made}
 use Rattle.cdma_replay.proofs.trial.count_next.Goals as goal
 

@@ -1,8 +1,4 @@
-use Rattle.std.proofs.Common.{◌≤◌, ◌∙◌, List, ap, arith, rules}
-use Rattle.chip_core.specs.declared.sample.Sample.{Sample}
-use Rattle.cell_plan.specs.declared.plan.CellPlan.{CellPlan}
-use Rattle.heard_events.specs.Events.{events}
-use Rattle.cdma_replay.specs.Trials.{counts_of}
+use Rattle.cdma_replay.proofs.Common.{◌≤◌, ◌∙◌, List, ap, arith, rules, Sample, CellPlan, events, counts_of}
 use Rattle.cdma_replay.proofs.Counting.{counted_next, made_all}
 use Rattle.cdma_replay.proofs.trial.count_rest.Goals as goal
 

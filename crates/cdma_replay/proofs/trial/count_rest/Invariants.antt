@@ -1,9 +1,5 @@
-use Rattle.std.proofs.Common.{◌≡◌, ◌-◌, ◌+◌, length, take}
-use Rattle.cell_plan.specs.Sampled.{made_samples}
-use Rattle.heard_events.specs.Events.{events}
-use Rattle.mobile_core.specs.Standing.{StandsFor, has_room, steps_left}
-use Rattle.heard_events.specs.Tuning.{Tuning}
-use Rattle.cdma_replay.specs.Trials.{LeavesRoom, counts_of}
+use Rattle.cdma_replay.proofs.Common.{◌≡◌, ◌-◌, ◌+◌, length, take, made_samples, events, StandsFor, has_room, steps_left, Tuning}
+use Rattle.cdma_replay.proofs.Common.{LeavesRoom, counts_of}
 use Rattle.cdma_replay.proofs.trial.count_rest.Given as goal
 
 abbrev pub invariant-loop-cell : goal.invariant-loop-cell

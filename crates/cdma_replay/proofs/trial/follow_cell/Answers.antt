@@ -1,19 +1,6 @@
-use Rattle.std.proofs.Common.{◌≡◌, ◌∙◌, List, [], ap, arith, length, rules, subst, sym}
-use Rattle.chip_core.specs.declared.sample.Sample.{Sample}
-use Rattle.cdma_io.specs.declared.header.Header.{Header}
-use Rattle.chip_core.specs.declared.width.Width.TheVariants.{Sixteen}
-use Rattle.cell_plan.specs.Sampled.{made_samples}
-use Rattle.cell_plan.specs.Transmitter.{CellState, header_of}
-use Rattle.trial_link.specs.Trial.{trial_plan}
-use Rattle.cell_plan.specs.declared.plan.CellPlan.{CellPlan}
-use Rattle.pilot_search.specs.BestIn.{IsBestIn}
-use Rattle.pilot_search.specs.Search.{best_phase}
-use Rattle.pilot_search.proofs.BestPhase.{best_phase-only}
-use Rattle.heard_events.specs.Events.{events}
-use Rattle.mobile_core.specs.Standing.{StandsFor}
-use Rattle.heard_events.specs.Tuning.{Tuning}
-use Rattle.cdma_replay.specs.Hearing.{AreNearTo, tuning_for}
-use Rattle.cdma_replay.specs.Trials.{counts_of, trial_span, trial_tuning}
+use Rattle.cdma_replay.proofs.Common.{◌≡◌, ◌∙◌, List, [], ap, arith, length, rules, subst, sym, Sample, Header, Sixteen, made_samples}
+use Rattle.cdma_replay.proofs.Common.{CellState, header_of, trial_plan, CellPlan, IsBestIn, best_phase, best_phase-only, events, StandsFor}
+use Rattle.cdma_replay.proofs.Common.{Tuning, AreNearTo, tuning_for, counts_of, trial_span, trial_tuning}
 use Rattle.cdma_replay.proofs.Counting.{behind_span, line_is, span_fits, span_is, trial_counted}
 use Rattle.cdma_replay.proofs.trial.follow_cell.Goals as goal
 

@@ -1,10 +1,6 @@
-use Rattle.std.proofs.Common.{[], sym, subst}
-use Rattle.tuned_listener.proofs.Prefixes.{on_err, on_ok}
-use Rattle.cdma_io.specs.Outside.{AppendsPrefix}
-use Rattle.cdma_replay.specs.Hearing.{BeginsBehind, IsFresh, Listening, told}
-use Rattle.cdma_replay.specs.declared.listener.Listener.{Listener}
-use Rattle.cdma_replay.specs.declared.listener.Listener.TheVariants as by
+use Rattle.cdma_replay.proofs.Common.{[], sym, subst, on_err, on_ok, AppendsPrefix, BeginsBehind, IsFresh, Listening, told, Listener}
 use Rattle.cdma_replay.proofs.Hearings.{nobody_begins, on_fresh, tuned_begins}
+use Rattle.cdma_replay.specs.declared.listener.Listener.TheVariants as by
 use Rattle.cdma_replay.proofs.listener.Listener.begin.Goals as goal
 
 pub returns-in-Handset-clause-ok : goal.returns-in-Handset-clause-ok

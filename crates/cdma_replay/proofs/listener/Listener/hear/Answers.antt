@@ -1,10 +1,6 @@
-use Rattle.std.proofs.Common.{◌++◌, subst, sym}
-use Rattle.tuned_listener.proofs.Prefixes.{on_err, on_ok}
-use Rattle.cdma_replay.specs.Hearing.{Listening, Listens, Tells, TellsPart}
-use Rattle.cdma_replay.specs.declared.listener.Listener.{Listener}
+use Rattle.cdma_replay.proofs.Common.{◌++◌, subst, sym, on_err, on_ok, Listening, Listens, Tells, TellsPart, Listener}
+use Rattle.cdma_replay.proofs.Hearings.{hears_nobody, on_handset, on_tuned, room_some, room_tuned, tuned_part, tuned_tells}
 use Rattle.cdma_replay.specs.declared.listener.Listener.TheVariants as by
-use Rattle.cdma_replay.proofs.Hearings.{hears_nobody, on_handset, on_tuned}
-use Rattle.cdma_replay.proofs.Hearings.{room_some, room_tuned, tuned_part, tuned_tells}
 use Rattle.cdma_replay.proofs.listener.Listener.hear.Goals as goal
 
 pub tell-requires : goal.tell-requires

@@ -1,6 +1,4 @@
-use Rattle.std.proofs.Common.{◌≡◌, subst}
-use Rattle.cdma_replay.specs.Hearing.{Listening, Listens, is_told}
-use Rattle.cdma_replay.specs.declared.listener.Listener.{Listener}
+use Rattle.cdma_replay.proofs.Common.{◌≡◌, subst, Listening, Listens, is_told, Listener}
 use Rattle.cdma_replay.proofs.Hearings.{nobody_told, on_handset, on_tuned}
 use Rattle.cdma_replay.proofs.listener.Listener.is_told.Goals as goal
 

@@ -1,50 +1,64 @@
-use Rattle.std.proofs.Common.{◌≡◌, ap, ◌∙◌, subst}
-use Rattle.std.proofs.lemmas.Result.{IfErr-weaker, IfOk-weaker, err_from_is_err_and}
-use Rattle.std.specs.Io.KnownBytes.{Appends}
-use Rattle.chip_core.specs.declared.width.Width.{Width}
-use Rattle.cdma_io.specs.Outside.{AppendsPrefix}
-use Rattle.cdma_io.specs.SampleFile.{header_spelling}
-use Rattle.cell_plan.specs.Transmitter.{header_of}
-use Rattle.cdma_replay.proofs.MadeFiles.{file_whole, header_cut, samples_cut}
+use Rattle.cdma_replay.proofs.Common.{◌≡◌, ◌-◌, min, ap, ◌∙◌, arith, rules, err_from_is_err_and, CellPlan, CellState}
+use Rattle.cdma_replay.proofs.MadeFiles.{header_cut, header_whole, piece_cut, piece_more, pieces_all}
 use Rattle.cdma_replay.proofs.making.writing.write_cell.Goals as goal
 
 pub returns-in_err-write_all-clause-err : goal.returns-in_err-write_all-clause-err
 returns-in_err-write_all-clause-err g c =
-    let plan = c.args.cell.now.plan in
-    let is : c.header_bytes.result ≡ header_spelling (header_of c.args.width plan) =
-    c.header_bytes.ensures ∙
-    ap header_spelling (c.header.ensures.value ∙
-    ap (λ (w : Width). header_of w plan) c.requires.fresh.0) in
     let p = err_from_is_err_and c.from_residual.result c.from_residual.ensures.1 in
-    rw p.1 (header_cut c.args.width plan (g.K.Sink.written c.args.sink.now)
-    (g.K.Sink.written c.write_all.new.sink)
-    (subst (AppendsPrefix (g.K.Sink.written c.args.sink.now)
-    (g.K.Sink.written c.write_all.new.sink)) is c.in_err-write_all.ensures.err))
+    rw p.1 (header_cut c.args.width c.args.cell.now.width c.args.cell.now.plan c.header.result
+    c.header_bytes.result _ _ c.header.ensures.value c.requires.fresh.0 c.header_bytes.ensures
+    c.in_err-write_all.ensures.err)
+
+pub loop-width-init : goal.loop-width-init
+loop-width-init g c = record {
+  plan = search rules;
+  width = search rules;
+  written = header_whole c.args.width c.args.cell.now.width c.args.cell.now.plan
+      c.args.cell.now.given c.header.result c.header_bytes.result _ _ c.header.ensures.value
+      c.requires.fresh.0 c.header_bytes.ensures c.requires.fresh.1 c.in_ok-write_all.ensures.ok;
+  samples = search rules;
+  bytes = search rules;
+  later = c.write_all.ensures.cause.later;
+}
+
+pub loop-width-preserved : goal.loop-width-preserved
+loop-width-preserved g c =
+    let inv = c.loop-width.invariant in
+    let now = c.loop-width.cell in
+    let n = min 4096 (now.plan.link.samples - now.given) in
+    let state = c.spell_piece-len.ensures.state in
+    record {
+      plan = ap (λ (s : CellState). s.plan) state ∙ inv.plan;
+      width = ap (λ (s : CellState). s.width) state ∙ inv.width;
+      written =
+          piece_more c.args.width c.args.cell.now.plan now.plan now.given n
+          c.spell_piece-len.new.cell.given _ _ (g.K.Sink.written c.loop-width.sink) _ inv.plan
+          (ap (λ (s : CellState). s.given) state) c.spell_piece-len.ensures.spelled inv.written
+          c.in_ok-write_all-2.ensures.ok;
+      samples = search rules;
+      bytes = search rules;
+      later = search (rules, c.write_all-in-loop-width.ensures.cause.later);
+    }
+
+pub returns-in_err-write_all-2-clause-err : goal.returns-in_err-write_all-2-clause-err
+returns-in_err-write_all-2-clause-err g c =
+    let inv = c.loop-width.invariant in
+    let now = c.loop-width.cell in
+    let n = min 4096 (now.plan.link.samples - now.given) in
+    let p = err_from_is_err_and c.from_residual-in_err-write_all-2.result c.from_residual-in_err-write_all-2.ensures.1 in
+    rw p.1 (piece_cut c.args.width c.args.cell.now.plan now.plan now.given n _
+    (g.K.Sink.written c.args.sink.now) (g.K.Sink.written c.loop-width.sink) _ inv.plan
+    c.spell_piece-len.ensures.spelled inv.written c.in_err-write_all-2.ensures.err)
 
 pub returns-clause-ok : goal.returns-clause-ok
 returns-clause-ok g c =
-    let plan = c.args.cell.now.plan in
-    let is : c.header_bytes.result ≡ header_spelling (header_of c.args.width plan) =
-    c.header_bytes.ensures ∙
-    ap header_spelling (c.header.ensures.value ∙
-    ap (λ (w : Width). header_of w plan) c.requires.fresh.0) in
-    let before =
-    subst (Appends (g.K.Sink.written c.args.sink.now) (g.K.Sink.written c.write_all.new.sink))
-    is c.in_ok-write_all.ensures.ok in
-    IfOk-weaker c.write_samples.result _ _
-    (λ done more. file_whole c.args.width plan _ (g.K.Sink.written c.write_all.new.sink) _
-    before more) c.write_samples.ensures.ok
-
-pub returns-clause-err : goal.returns-clause-err
-returns-clause-err g c =
-    let plan = c.args.cell.now.plan in
-    let is : c.header_bytes.result ≡ header_spelling (header_of c.args.width plan) =
-    c.header_bytes.ensures ∙
-    ap header_spelling (c.header.ensures.value ∙
-    ap (λ (w : Width). header_of w plan) c.requires.fresh.0) in
-    let before =
-    subst (Appends (g.K.Sink.written c.args.sink.now) (g.K.Sink.written c.write_all.new.sink))
-    is c.in_ok-write_all.ensures.ok in
-    IfErr-weaker c.write_samples.result _ _
-    (λ failed part. samples_cut c.args.width plan _ (g.K.Sink.written c.write_all.new.sink) _
-    before part) c.write_samples.ensures.err
+    let inv = c.loop-width.invariant in
+    let done : c.loop-width.cell.given ≡ c.args.cell.now.plan.link.samples =
+    omega (
+      arith,
+      c.left.ensures,
+      c.loop-width-test.false,
+      ap (λ (p : CellPlan). p.link.samples) inv.plan,
+    ) in
+    pieces_all c.args.width c.args.cell.now.plan c.loop-width.cell.given
+    (g.K.Sink.written c.args.sink.now) _ done inv.written

@@ -1,14 +1,13 @@
-use Rattle.std.proofs.Common.{◌≡◌, ◌-◌, ◌≤◌, length}
-use Rattle.std.specs.Io.KnownBytes.{Appends}
-use Rattle.cdma_replay.proofs.MadeFiles.{first_bytes}
-use Rattle.cdma_replay.proofs.making.writing.write_samples.Given as goal
+use Rattle.cdma_replay.proofs.Common.{◌≡◌, ◌-◌, ◌≤◌, length, Appends}
+use Rattle.cdma_replay.proofs.MadeFiles.{file_front}
+use Rattle.cdma_replay.proofs.making.writing.write_cell.Given as goal
 
 abbrev pub invariant-loop-width : goal.invariant-loop-width
 invariant-loop-width g l = record {
   plan : l.cell.plan ≡ l.initial.cell.plan;
   width : l.cell.width ≡ l.width;
   written : Appends (g.K.Sink.written l.fn.sink) (g.K.Sink.written l.sink)
-      (first_bytes l.width l.initial.cell.plan l.cell.given);
+      (file_front l.width l.initial.cell.plan l.cell.given);
   samples : length l.samples ≡ 4096;
   bytes : length l.bytes ≡ 16384;
   later : g.K.Sink.faults l.fn.sink ≤ g.K.Sink.faults l.sink;
