@@ -93,77 +93,47 @@ const SECOND_SCRIPT: &[u8] = b"cell pn=511 time=1000 lc=20000000000 checks=0\n\
     paging channel=1 gain=60\n\
     page half 34:04ff8046c0\n";
 
+/// Lines, and behind them two of the page for each frame that ends at one of these numbers of samples.
+macro_rules! with_pages {
+    ($($lines:literal, [$($at:literal),*]),*) => {
+        concat!($(
+            $lines,
+            $(
+                "paging at=", $at, " channels pn=511 seq=0 freqs=283 rest=0:\n",
+                "paging at=", $at, " channels pn=511 seq=0 freqs=283 rest=0:\n",
+            )*
+        )*)
+    };
+}
+
 /// What is heard of it, by the rules of the channels.
-pub const SECOND_LINES: &str = "\
-    pilot phase=64 energy=1509949440000\n\
+pub const SECOND_LINES: &str = with_pages!(
+    "pilot phase=64 energy=1509949440000\n\
     sync at=294848 prev=3 min=1 sid=1 nid=2 pn=511 lc=102a1d2e508 time=1007 lp=13 \
         ltm=0 daylt=0 prat=0 rest=3:00\n\
     sync at=589760 prev=3 min=1 sid=1 nid=2 pn=511 lc=007dff18942 time=1010 lp=13 \
-        ltm=0 daylt=0 prat=0 rest=3:00\n\
-    paging at=737280 channels pn=511 seq=0 freqs=283 rest=0:\n\
-    paging at=737280 channels pn=511 seq=0 freqs=283 rest=0:\n\
-    paging at=761856 channels pn=511 seq=0 freqs=283 rest=0:\n\
-    paging at=761856 channels pn=511 seq=0 freqs=283 rest=0:\n\
-    paging at=786432 channels pn=511 seq=0 freqs=283 rest=0:\n\
-    paging at=786432 channels pn=511 seq=0 freqs=283 rest=0:\n\
-    paging at=811008 channels pn=511 seq=0 freqs=283 rest=0:\n\
-    paging at=811008 channels pn=511 seq=0 freqs=283 rest=0:\n\
-    paging at=835584 channels pn=511 seq=0 freqs=283 rest=0:\n\
-    paging at=835584 channels pn=511 seq=0 freqs=283 rest=0:\n\
-    paging at=860160 channels pn=511 seq=0 freqs=283 rest=0:\n\
-    paging at=860160 channels pn=511 seq=0 freqs=283 rest=0:\n\
-    sync at=884672 prev=3 min=1 sid=1 nid=2 pn=511 lc=3c75269709e time=1013 lp=13 \
-        ltm=0 daylt=0 prat=0 rest=3:00\n\
-    paging at=884736 channels pn=511 seq=0 freqs=283 rest=0:\n\
-    paging at=884736 channels pn=511 seq=0 freqs=283 rest=0:\n\
-    paging at=909312 channels pn=511 seq=0 freqs=283 rest=0:\n\
-    paging at=909312 channels pn=511 seq=0 freqs=283 rest=0:\n\
-    paging at=933888 channels pn=511 seq=0 freqs=283 rest=0:\n\
-    paging at=933888 channels pn=511 seq=0 freqs=283 rest=0:\n\
-    paging at=958464 channels pn=511 seq=0 freqs=283 rest=0:\n\
-    paging at=958464 channels pn=511 seq=0 freqs=283 rest=0:\n\
-    paging at=983040 channels pn=511 seq=0 freqs=283 rest=0:\n\
-    paging at=983040 channels pn=511 seq=0 freqs=283 rest=0:\n\
-    paging at=1007616 channels pn=511 seq=0 freqs=283 rest=0:\n\
-    paging at=1007616 channels pn=511 seq=0 freqs=283 rest=0:\n\
-    paging at=1032192 channels pn=511 seq=0 freqs=283 rest=0:\n\
-    paging at=1032192 channels pn=511 seq=0 freqs=283 rest=0:\n\
-    paging at=1056768 channels pn=511 seq=0 freqs=283 rest=0:\n\
-    paging at=1056768 channels pn=511 seq=0 freqs=283 rest=0:\n\
-    paging at=1081344 channels pn=511 seq=0 freqs=283 rest=0:\n\
-    paging at=1081344 channels pn=511 seq=0 freqs=283 rest=0:\n\
-    paging at=1105920 channels pn=511 seq=0 freqs=283 rest=0:\n\
-    paging at=1105920 channels pn=511 seq=0 freqs=283 rest=0:\n\
-    paging at=1130496 channels pn=511 seq=0 freqs=283 rest=0:\n\
-    paging at=1130496 channels pn=511 seq=0 freqs=283 rest=0:\n\
-    paging at=1155072 channels pn=511 seq=0 freqs=283 rest=0:\n\
-    paging at=1155072 channels pn=511 seq=0 freqs=283 rest=0:\n\
-    sync at=1179584 prev=3 min=1 sid=1 nid=2 pn=511 lc=3a49dd8f037 time=1016 lp=13 \
-        ltm=0 daylt=0 prat=0 rest=3:00\n\
-    paging at=1179648 channels pn=511 seq=0 freqs=283 rest=0:\n\
-    paging at=1179648 channels pn=511 seq=0 freqs=283 rest=0:\n\
-    paging at=1204224 channels pn=511 seq=0 freqs=283 rest=0:\n\
-    paging at=1204224 channels pn=511 seq=0 freqs=283 rest=0:\n\
-    paging at=1228800 channels pn=511 seq=0 freqs=283 rest=0:\n\
-    paging at=1228800 channels pn=511 seq=0 freqs=283 rest=0:\n\
-    paging at=1228800 channels pn=511 seq=0 freqs=283 rest=0:\n\
-    paging at=1228800 channels pn=511 seq=0 freqs=283 rest=0:\n";
+        ltm=0 daylt=0 prat=0 rest=3:00\n",
+    [737280, 761856, 786432, 811008, 835584, 860160],
+    "sync at=884672 prev=3 min=1 sid=1 nid=2 pn=511 lc=3c75269709e time=1013 lp=13 \
+        ltm=0 daylt=0 prat=0 rest=3:00\n",
+    [
+        884736, 909312, 933888, 958464, 983040, 1007616, 1032192, 1056768, 1081344, 1105920,
+        1130496, 1155072
+    ],
+    "sync at=1179584 prev=3 min=1 sid=1 nid=2 pn=511 lc=3a49dd8f037 time=1016 lp=13 \
+        ltm=0 daylt=0 prat=0 rest=3:00\n",
+    [1179648, 1204224, 1228800, 1228800]
+);
 
 /// The first raw line of it.
 pub const RAW_LINE: &str =
     "raw at=294848 sync 200:1901030100020005ff40a874b9420000000fbc340022eab573\n";
 
 /// What the handset of key 0 hears in its one slot that lies behind the mark.
-pub const SLOT_LINES: &str = "\
-    slot at=884736 time=1008 messages=8\n\
-    paging at=884736 channels pn=511 seq=0 freqs=283 rest=0:\n\
-    paging at=884736 channels pn=511 seq=0 freqs=283 rest=0:\n\
-    paging at=884736 channels pn=511 seq=0 freqs=283 rest=0:\n\
-    paging at=884736 channels pn=511 seq=0 freqs=283 rest=0:\n\
-    paging at=884736 channels pn=511 seq=0 freqs=283 rest=0:\n\
-    paging at=884736 channels pn=511 seq=0 freqs=283 rest=0:\n\
-    paging at=884736 channels pn=511 seq=0 freqs=283 rest=0:\n\
-    paging at=884736 channels pn=511 seq=0 freqs=283 rest=0:\n";
+pub const SLOT_LINES: &str = with_pages!(
+    "slot at=884736 time=1008 messages=8\n",
+    [884736, 884736, 884736, 884736]
+);
 
 /// The first lines of a text.
 pub fn first_lines(text: &str, count: usize) -> &[u8] {
