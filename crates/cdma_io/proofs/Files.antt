@@ -1,15 +1,14 @@
 -- Lemmas on a reader of a file that is lawful.
-use Rattle.std.proofs.Common.{◌≡◌, ℕ, ◌*◌, ◌≤◌, List, [], length, take, drop, refl, sym, ap, ◌∙◌, arith, All, Option, None, Some, Result, Ok, Err}
+use Rattle.std.proofs.Common.{◌≡◌, ℕ, ◌*◌, ◌≤◌, List, [], length, take, drop, refl, ap, ◌∙◌, arith, All, Option, None, Some, Result, Ok, Err}
 use Rattle.std.specs.Prelude.{MatchResult}
 use Rattle.std.specs.List.{flat_map}
 use Rattle.std.specs.Io.KnownBytes.{Consumes}
-use Rattle.std.proofs.lemmas.List.{append_cancel_left}
 use Rattle.chip_core.specs.declared.sample.Sample.{Sample}
 use Rattle.cdma_io.specs.declared.file_fault.FileFault.{FileFault}
 use Rattle.cdma_io.specs.declared.file_fault.FileFault.TheVariants.{Magic, Version, Flags, Count, Short, Extra, ReadFault, TooFew}
 use Rattle.cdma_io.specs.declared.header.Header.{Header}
 use Rattle.chip_core.specs.declared.width.Width.{Width}
-use Rattle.cdma_io.specs.SampleFile.{CutsShort, HasBits, IsSampleFile, Opens, Reading, RunsOn, header_spelling, opening, sample_len, sample_spelling, width_of}
+use Rattle.cdma_io.specs.SampleFile.{CutsShort, HasBits, IsSampleFile, Opens, Reading, RunsOn, opening, sample_len, sample_spelling, width_of}
 use Rattle.cdma_io.proofs.Opening.{opening-spelled}
 use Rattle.cdma_io.proofs.Spelling.{length-samples, next_samples, sample_len-mono}
 
@@ -41,16 +40,6 @@ opens_file (Err (Extra n)) bytes header samples file due =
     let opened = opening-file bytes header samples file in let answer = due (λ e. cc) in absurd (cc)
 opens_file (Err (TooFew n)) bytes header samples file due =
     let opened = opening-file bytes header samples file in let answer = due (λ e. cc) in absurd (cc)
-
--- what is left after its header
-pub opened_rest : (new : Option (List ℕ)) (bytes : List ℕ) (header : Header)
-    (samples : List Sample) →
-    IsSampleFile bytes header samples → Consumes (Some bytes) new (header_spelling header) →
-    new ≡ Some (flat_map (sample_spelling (width_of header)) samples)
-opened_rest None bytes header samples file read = absurd read
-opened_rest (Some ys) bytes header samples file read =
-    ap Some (append_cancel_left (header_spelling header) ys
-    (flat_map (sample_spelling (width_of header)) samples) (sym read ∙ file.spelled))
 
 -- what a read of its samples gave, and what is left
 pub read_next : (width : Width) (new : Option (List ℕ)) (samples next : List Sample) →

@@ -32,10 +32,6 @@ two_parts : (width : Width) → sample_len width ≡ part_len width + part_len w
 two_parts Sixteen = refl
 two_parts Eight = refl
 
-pub sample_len-most : (width : Width) → sample_len width ≤ 4
-sample_len-most Sixteen = omega arith
-sample_len-most Eight = omega arith
-
 sample_len-some : (width : Width) → 1 ≤ sample_len width
 sample_len-some Sixteen = omega arith
 sample_len-some Eight = omega arith
