@@ -1,5 +1,7 @@
 -- Lemmas on the header of a file, and on what opening a file answers.
-use Rattle.std.proofs.Common.{◌≡◌, ℕ, ◌+◌, ◌-◌, ◌*◌, ◌/◌, ◌%◌, ◌<◌, ◌≤◌, Bool, true, false, cond, eqb, leb, ltb, List, [], ◌++◌, length, take, drop, refl, sym, ap, ◌∙◌, subst, arith, inl, inr, length-append, length-drop, append-nil, Option, None, Some, IfSome, Result, Ok, Err}
+use Rattle.std.proofs.Common.{◌≡◌, ℕ, ◌+◌, ◌-◌, ◌*◌, ◌/◌, ◌%◌, ◌<◌, ◌≤◌, Bool, true, false, cond, eqb, leb, ltb, List, [], ◌++◌, length}
+use Rattle.std.proofs.Common.{take, drop, refl, sym, ap, ◌∙◌, subst, arith, inl, inr, length-append, length-drop, append-nil, Option, None}
+use Rattle.std.proofs.Common.{Some, IfSome, Result, Ok, Err}
 use Rattle.std.proofs.lemmas.Bool.{cond-true, cond-false, lt-ltb, ltb-true, le-ltb, le-leb, leb-true, lt-leb, eqb-true, eq-eqb}
 use Rattle.std.proofs.lemmas.Bool.Decides.{Decides-eqb, eqb_tells}
 use Rattle.std.proofs.lemmas.List.{drop-append-le, drop-drop, drop_all, take_all, length-take-le}
@@ -17,7 +19,8 @@ use Rattle.cdma_io.specs.declared.file_fault.FileFault.TheVariants.{Magic, Versi
 use Rattle.cdma_io.specs.declared.header.Header.{Header}
 use Rattle.chip_core.specs.declared.width.Width.{Width}
 use Rattle.chip_core.specs.declared.width.Width.TheVariants.{Sixteen, Eight}
-use Rattle.cdma_io.specs.SampleFile.{IsLawfulHeader, Opens, Reading, flags_of, form_flag, form_of, header_due, header_spelling, is_version, magic, most_samples, opening, width_in, width_of}
+use Rattle.cdma_io.specs.SampleFile.{IsLawfulHeader, Opens, Reading, flags_of, form_flag, form_of, header_due, header_spelling, is_version}
+use Rattle.cdma_io.specs.SampleFile.{magic, most_samples, opening, width_in, width_of}
 use Rattle.cdma_io.proofs.ByteNumbers.{AreBytes, AreBytes-drop, big_bytes-front}
 
 -- ---- the three numbers of a header

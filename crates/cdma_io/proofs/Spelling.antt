@@ -1,5 +1,6 @@
 -- Lemmas on the bytes of samples.
-use Rattle.std.proofs.Common.{◌≡◌, ℕ, ◌+◌, ◌-◌, ◌*◌, ◌^◌, ◌<◌, ◌≤◌, ℤ, List, [], ◌∷◌, ◌++◌, length, get_or, take, drop, refl, sym, ap, ◌∙◌, subst, arith, set, append-nil, append_assoc, length-append, length-drop, take-append-drop, drop_at, All}
+use Rattle.std.proofs.Common.{◌≡◌, ℕ, ◌+◌, ◌-◌, ◌*◌, ◌^◌, ◌<◌, ◌≤◌, ℤ, List, [], ◌∷◌, ◌++◌, length, get_or, take, drop, refl, sym, ap, ◌∙◌}
+use Rattle.std.proofs.Common.{subst, arith, set, append-nil, append_assoc, length-append, length-drop, take-append-drop, drop_at, All}
 use Rattle.std.proofs.lemmas.List.{length-take-le, take_all, take_more_set}
 use Rattle.std.proofs.lemmas.List.Concat.{flat_map-append}
 use lib.Seq.{take-add}

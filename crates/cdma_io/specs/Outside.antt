@@ -1,5 +1,6 @@
 -- What calls on the outside say: which bytes moved, where they are told, and why a call failed.
-use Rattle.std.specs.Prelude.{◌≡◌, ℕ, ◌+◌, ◌-◌, ◌^◌, ◌<◌, ◌≤◌, min, List, length, take, Option, Result, OnErr, IfOk, MatchResult}
+use Rattle.std.specs.Prelude.{◌≡◌, ℕ, ◌+◌, ◌-◌, ◌^◌, ◌<◌, ◌≤◌, min, List, length, take, Option}
+use Rattle.std.specs.Prelude.{Result, OnErr, IfOk, MatchResult}
 use Rattle.std.specs.Io.KnownBytes.{Appends, Consumes}
 
 -- the next number of a count that stops at the last number of 64 bits

@@ -1,5 +1,7 @@
 -- The sample file: its header and samples as bytes, and what a reader of it answers.
-use Rattle.std.specs.Prelude.{◌≡◌, ◌≢◌, ℕ, ◌+◌, ◌*◌, ◌-◌, ◌/◌, ◌%◌, ◌<◌, ◌≤◌, ◌==◌, nat_eq, nat_le, nat_lt, Bool, true, if◌then◌else◌, List, [], ◌∷◌, ◌++◌, length, drop, All, Option, None, Some, Result, Ok, Err, ℤ, FitsSigned, ⊤}
+use Rattle.std.specs.Prelude.{◌≡◌, ◌≢◌, ℕ, ◌+◌, ◌*◌, ◌-◌, ◌/◌, ◌%◌, ◌<◌, ◌≤◌, ◌==◌, nat_eq, nat_le}
+use Rattle.std.specs.Prelude.{nat_lt, Bool, true, if◌then◌else◌, List, [], ◌∷◌, ◌++◌, length, drop}
+use Rattle.std.specs.Prelude.{All, Option, None, Some, Result, Ok, Err, ℤ, FitsSigned, ⊤}
 use Rattle.std.specs.Int.{cast_unsigned, w8, w16}
 use Rattle.std.specs.Int as integers
 use Rattle.std.specs.List.{flat_map, starts_with}
@@ -9,7 +11,8 @@ use Rattle.chip_core.specs.declared.check_form.CheckForm.{CheckForm}
 use Rattle.chip_core.specs.declared.check_form.CheckForm.TheVariants.{Plain, Complemented}
 use Rattle.chip_core.specs.declared.sample.Sample.{Sample}
 use Rattle.cdma_io.specs.declared.file_fault.FileFault.{FileFault}
-use Rattle.cdma_io.specs.declared.file_fault.FileFault.TheVariants.{Magic, Version, Flags, Count, Short, Extra, ReadFault, TooFew}
+use Rattle.cdma_io.specs.declared.file_fault.FileFault.TheVariants.{Magic, Version, Flags, Count}
+use Rattle.cdma_io.specs.declared.file_fault.FileFault.TheVariants.{Short, Extra, ReadFault, TooFew}
 use Rattle.cdma_io.specs.declared.header.Header.{Header}
 use Rattle.chip_core.specs.declared.width.Width.{Width}
 use Rattle.chip_core.specs.declared.width.Width.TheVariants.{Sixteen, Eight}

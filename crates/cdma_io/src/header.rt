@@ -1,7 +1,8 @@
 //! The header of a sample file.
 
 ghost use Rattle.std.specs.Prelude.{◌≡◌, ◌≢◌, ◌≤◌, length, Err, IfOk};
-ghost use Rattle.cdma_io.specs.SampleFile.{IsLawfulHeader, flags_of, form_flag, form_of, header_spelling, opening, width_of};
+ghost use Rattle.cdma_io.specs.SampleFile.{IsLawfulHeader, flags_of, form_flag, form_of};
+ghost use Rattle.cdma_io.specs.SampleFile.{header_spelling, opening, width_of};
 
 use crate::file_fault::FileFault;
 use crate::width::{is_known, most_for, width_for};

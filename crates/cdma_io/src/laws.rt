@@ -1,13 +1,16 @@
 //! Laws of the definitions alone. Each function's clause is the law, and its body is empty.
 
-ghost use Rattle.std.specs.Prelude.{◌≡◌, ◌<◌, ◌≤◌, ◌++◌, ℕ, ◌*◌, [], List, All, Option, Some, Ok, Result, MatchResult, length, take, drop};
+ghost use Rattle.std.specs.Prelude.{◌≡◌, ◌<◌, ◌≤◌, ◌++◌, ℕ, ◌*◌, [], List, All, Option, Some, Ok};
+ghost use Rattle.std.specs.Prelude.{Result, MatchResult, length, take, drop};
 ghost use Rattle.std.specs.List.{flat_map};
 ghost use Rattle.std.specs.Io.KnownBytes.{Consumes};
 ghost use Rattle.chip_core.specs.declared.sample.Sample.{Sample};
 ghost use Rattle.cdma_io.specs.declared.file_fault.FileFault.{FileFault};
 ghost use Rattle.cdma_io.specs.declared.header.Header.{Header};
 ghost use Rattle.chip_core.specs.declared.width.Width.{Width};
-ghost use Rattle.cdma_io.specs.SampleFile.{CutsShort, HasBits, IsLawfulHeader, IsSampleFile, Opens, Reading, RunsOn, header_spelling, opening, sample_len, sample_spelling};
+ghost use Rattle.cdma_io.specs.SampleFile.{CutsShort, HasBits, IsLawfulHeader, IsSampleFile, Opens};
+ghost use Rattle.cdma_io.specs.SampleFile.{Reading, RunsOn, header_spelling, opening, sample_len};
+ghost use Rattle.cdma_io.specs.SampleFile.{sample_spelling};
 
 /// A file's bytes fix its header and its samples.
 pub fn file_is_unique()

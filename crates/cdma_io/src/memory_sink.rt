@@ -1,6 +1,7 @@
 //! A sink that keeps its bytes in memory.
 
-ghost use Rattle.std.specs.Prelude.{◌≡◌, ◌≤◌, ◌<◌, ◌↔◌, ◌⊎◌, ℕ, Some, [], take, length, vec_len, vec_capacity, IfOk, OnErr, IsErr, Contains};
+ghost use Rattle.std.specs.Prelude.{◌≡◌, ◌≤◌, ◌<◌, ◌↔◌, ◌⊎◌, ℕ, Some, [], take, length, vec_len};
+ghost use Rattle.std.specs.Prelude.{vec_capacity, IfOk, OnErr, IsErr, Contains};
 ghost use Rattle.std.specs.Io.{WritesAtMost};
 ghost use Rattle.std.specs.Io.KnownBytes.{WriteAppends};
 ghost use Rattle.cdma_io.specs.Outside.{HasCause, Progresses, next_count};

@@ -1,6 +1,7 @@
 //! A source over bytes in memory.
 
-ghost use Rattle.std.specs.Prelude.{◌≡◌, ◌≤◌, ◌↔◌, ℕ, Some, [], drop, length, vec_len, IfOk, OnErr, IsErr, Contains};
+ghost use Rattle.std.specs.Prelude.{◌≡◌, ◌≤◌, ◌↔◌, ℕ, Some, [], drop, length, vec_len, IfOk, OnErr};
+ghost use Rattle.std.specs.Prelude.{IsErr, Contains};
 ghost use Rattle.std.specs.Io.{ReadsAtMost};
 ghost use Rattle.std.specs.Io.KnownBytes.{ReadConsumes};
 ghost use Rattle.cdma_io.specs.Outside.{HasCause, next_count};

@@ -1,10 +1,14 @@
 //! Reading a sample file.
 
-ghost use Rattle.std.specs.Prelude.{◌≡◌, ◌<◌, ◌≤◌, ◌+◌, ◌*◌, ◌-◌, min, length, take, drop, All, IfOk, OnOk, IfErr, OnErr, IfSome, IsSome, IsNone, Err};
+ghost use Rattle.std.specs.Prelude.{◌≡◌, ◌<◌, ◌≤◌, ◌+◌, ◌*◌, ◌-◌, min, length, take, drop, All};
+ghost use Rattle.std.specs.Prelude.{IfOk, OnOk, IfErr, OnErr, IfSome, IsSome, IsNone, Err};
 ghost use Rattle.std.specs.List.{flat_map};
 ghost use Rattle.std.specs.Io.KnownBytes.{Consumes, IsAtEnd, Keeps};
 ghost use Rattle.cdma_io.specs.Outside.{ConsumesAtMost, ConsumesFewer, Rose};
-ghost use Rattle.cdma_io.specs.SampleFile.{CutsShort, HasBits, IsLawfulHeader, Opens, Reading, RunsOn, faulted, fresh_reading, header_spelling, next_place, opening, sample_len, sample_spelling, width_of};
+ghost use Rattle.cdma_io.specs.SampleFile.{CutsShort, HasBits, IsLawfulHeader, Opens, Reading};
+ghost use Rattle.cdma_io.specs.SampleFile.{RunsOn, faulted, fresh_reading, header_spelling};
+ghost use Rattle.cdma_io.specs.SampleFile.{next_place, opening, sample_len, sample_spelling};
+ghost use Rattle.cdma_io.specs.SampleFile.{width_of};
 
 use crate::file_fault::FileFault;
 use crate::filling::fill;
@@ -95,7 +99,8 @@ impl SampleReader {
         ensures count { IfOk result (λ n. n ≡ min (length out.old) self.old.left) }
         ensures samples { IfOk result (λ n. Consumes (S.rest source.old) (S.rest source.new)
             (flat_map (sample_spelling (width_of self.old.header)) (take n out.new))) }
-        ensures in_range { IfOk result (λ n. All (HasBits (width_of self.old.header)) (take n out.new)) }
+        ensures in_range { IfOk result (λ n. All (HasBits (width_of self.old.header))
+            (take n out.new)) }
         ensures beyond { IfOk result (λ n. drop n out.new ≡ drop n out.old) }
         ensures ok { IfOk result (λ n. self.new ≡ record self.old { left = self.old.left - n }) }
 
@@ -106,7 +111,8 @@ impl SampleReader {
         ensures fault { IfErr result (λ e. IsNone self.old.fault →
             CutsShort e (sample_len (width_of self.old.header) * min (length out.old) self.old.left) (next_place self.old)
             (S.rest source.old) (S.rest source.new)) }
-        ensures taken { ConsumesAtMost (sample_len (width_of self.old.header) * min (length out.old) self.old.left)
+        ensures taken { ConsumesAtMost (sample_len (width_of self.old.header) * min (length out.old)
+            self.old.left)
             (S.rest source.old) (S.rest source.new) }
         ensures fewer { OnErr result (IsNone self.old.fault →
             ConsumesFewer (sample_len (width_of self.old.header) * min (length out.old) self.old.left)

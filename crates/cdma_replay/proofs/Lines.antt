@@ -1,14 +1,14 @@
 -- Lemmas on the text that is written, and on the file whose beginning it tells of.
 use Rattle.cdma_replay.proofs.Common.{◌≡◌, ℕ, ◌+◌, ◌≤◌, ◌++◌, List, [], length, take, refl, sym, ap, ◌∙◌, subst, arith, inr, append_assoc}
-use Rattle.cdma_replay.proofs.Common.{on_ok, on_err, OnOk, OnErr, Result, append-nil, length-append, All, Option, None, Some, IfSome, take_at, flat_map-append, All-append}
-use Rattle.cdma_replay.proofs.Common.{flat_map, StartsWith, Appends, Consumes, IsAtEnd, Appends-trans, Consumes-nil, Consumes-trans, Sample}
-use Rattle.cdma_replay.proofs.Common.{Header, Width, AppendsPrefix, HasBits, IsLawfulHeader, header_spelling, sample_spelling, width_of}
-use Rattle.cdma_replay.proofs.Common.{IsBestIn, best_phase, best_phase-only, best_energy-only, Pilot, event_line, KeptTap, Rank}
-use Rattle.cdma_replay.proofs.Common.{begins_more, prefix_of, taken_begins, Receiver, Listener, Shown, Followed, Found, Ranks, Purpose}
-use Rattle.cdma_replay.proofs.Common.{Find, Follow, Survey, Reception, Status, TakesSpan, WritesNoMore, WritesText, BeginsBehind, HearsPart}
-use Rattle.cdma_replay.proofs.Common.{HearsRest, IsFresh, Listening, Listens, Nobody, Tells, TellsMore, TellsPart, best_pilot, end_when}
-use Rattle.cdma_replay.proofs.Common.{file_end_of, file_text, first_text, is_told, listening, told, IsBest, Shows, listening_in, shown_text}
-use Rattle.cdma_replay.proofs.Common.{Best, ranking, ranks_text, survey_text}
+use Rattle.cdma_replay.proofs.Common.{on_ok, on_err, OnOk, OnErr, Result, append-nil, length-append, All, Option, None, Some, IfSome}
+use Rattle.cdma_replay.proofs.Common.{take_at, flat_map-append, All-append, flat_map, StartsWith, Appends, Consumes, IsAtEnd, Appends-trans}
+use Rattle.cdma_replay.proofs.Common.{Consumes-nil, Consumes-trans, Sample, Header, Width, AppendsPrefix, HasBits, IsLawfulHeader}
+use Rattle.cdma_replay.proofs.Common.{header_spelling, sample_spelling, width_of, IsBestIn, best_phase, best_phase-only, best_energy-only}
+use Rattle.cdma_replay.proofs.Common.{Pilot, event_line, KeptTap, Rank, begins_more, prefix_of, taken_begins, Receiver, Listener, Shown}
+use Rattle.cdma_replay.proofs.Common.{Followed, Found, Ranks, Purpose, Find, Follow, Survey, Reception, Status, TakesSpan, WritesNoMore}
+use Rattle.cdma_replay.proofs.Common.{WritesText, BeginsBehind, HearsPart, HearsRest, IsFresh, Listening, Listens, Nobody, Tells, TellsMore}
+use Rattle.cdma_replay.proofs.Common.{TellsPart, best_pilot, end_when, file_end_of, file_text, first_text, is_told, listening, told, IsBest}
+use Rattle.cdma_replay.proofs.Common.{Shows, listening_in, shown_text, Best, ranking, ranks_text, survey_text}
 use Rattle.cdma_replay.proofs.Hearings.{more_behind, part_behind}
 use Rattle.cdma_replay.specs.declared.listener.Listener.TheVariants as by
 

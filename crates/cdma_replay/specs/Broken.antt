@@ -1,6 +1,6 @@
 -- What is written of a sample file that breaks off, whose reading fails, or that goes on too long.
-use Rattle.std.specs.Prelude.{◌≡◌, ℕ, ◌+◌, ◌*◌, ◌<◌, ◌≤◌, ◌++◌, List, length, All, Option}
-use Rattle.std.specs.Prelude.{IfSome, Some, Ok}
+use Rattle.std.specs.Prelude.{◌≡◌, ℕ, ◌+◌, ◌*◌, ◌<◌, ◌≤◌, ◌++◌, List, length, All, Option, IfSome}
+use Rattle.std.specs.Prelude.{Some, Ok}
 use Rattle.std.specs.List.{flat_map}
 use Rattle.std.specs.Io.{StartsWith}
 use Rattle.std.specs.Io.KnownBytes.{Appends, Consumes}
@@ -8,8 +8,8 @@ use Rattle.chip_core.specs.declared.sample.Sample.{Sample}
 use Rattle.cdma_io.specs.declared.header.Header.{Header}
 use Rattle.cdma_io.specs.declared.file_fault.FileFault.TheVariants.{Short, Extra}
 use Rattle.chip_core.specs.declared.width.Width.{Width}
-use Rattle.cdma_io.specs.SampleFile.{HasBits, IsLawfulHeader, header_spelling, opening}
-use Rattle.cdma_io.specs.SampleFile.{sample_len, sample_spelling, width_of}
+use Rattle.cdma_io.specs.SampleFile.{HasBits, IsLawfulHeader, header_spelling, opening, sample_len}
+use Rattle.cdma_io.specs.SampleFile.{sample_spelling, width_of}
 use Rattle.event_tap.specs.Taps.{KeptTap}
 use Rattle.cdma_replay.specs.Hearing.{Listening, TellsMore, file_text}
 use Rattle.cdma_replay.specs.declared.receiving.Reception.{Reception}
@@ -55,8 +55,8 @@ abbrev pub IsUnopened : Option (List ℕ) → Type 0
 IsUnopened rest = IfSome rest (λ bytes. (header : Header) → ¬ (opening bytes ≡ Ok header))
 
 -- Where so many whole samples of known bytes were taken, the span's or more, the text of the first
--- of them was written, and of these at most 4,096 are missing, which are read at once; all whose text
--- was written were taken.
+-- of them was written, and of these at most 4,096 are missing, which are read at once; all whose
+-- text was written were taken.
 abbrev pub WritesFirst : List KeptTap → Reception → Option (List ℕ) → Option (List ℕ) →
     Option (List ℕ) → Option (List ℕ) → Type 0
 WritesFirst taps r rest left old new =

@@ -28,8 +28,8 @@ pub record IsCellFile (width : Width) (script : List ℕ) (plan : CellPlan) (spa
 abbrev pub cell_energy : ℕ → CellPlan → ℕ
 cell_energy span plan = energy (take span (made_samples plan)) (phase_at plan plan.link.start)
 
--- It is a clean link where moreover no message that is heard of the traffic channel that is followed,
--- if any, directs a handoff.
+-- It is a clean link where moreover no message that is heard of the traffic channel that is
+-- followed, if any, directs a handoff.
 pub record IsCleanLink (width : Width) (script : List ℕ) (plan : CellPlan) (span : ℕ)
     (fingers paging : ℕ) (traffic : Option Traffic) (header : Header)
     (samples : List Sample) : Type 0 where

@@ -10,9 +10,9 @@ use Rattle.clean_link.specs.CleanLink.{tuning_to}
 use Rattle.clean_link.specs.HeardEach.{HearsEach}
 use Rattle.cdma_replay.specs.CleanFiles.{cell_energy}
 
--- Behind what a sink held stands what taps make of a list of events. They are all of a handset in the
--- cell's samples, the pilot at the cell's phase first, in the order in which they are known, and of each
--- channel of the cell they are what it sends.
+-- Behind what a sink held stands what taps make of a list of events. They are all of a handset in
+-- the cell's samples, the pilot at the cell's phase first, in the order in which they are known,
+-- and of each channel of the cell they are what it sends.
 pub record WritesEach (taps : List KeptTap) (span : ℕ) (plan : CellPlan) (paging : ℕ)
     (followed : Option Traffic) (held : List ℕ) (written : Option (List ℕ)) : Type 0 where
   pub heard : List Event

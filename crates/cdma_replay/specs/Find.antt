@@ -66,9 +66,9 @@ pub record WritesText (taps : List KeptTap) (r : Reception) (status : Status) (b
   pub ends : status ≡ file_end_of r searchable.header searchable.samples
 
 -- A text is a beginning of the text of samples, as many as the span is or more and no more than the
--- header counts, each within its width, with which the file of these bytes begins behind that lawful
--- header, which so is the one that they open with; and all of these samples were taken, with more
--- bytes or none.
+-- header counts, each within its width, with which the file of these bytes begins behind that
+-- lawful header, which so is the one that they open with; and all of these samples were taken, with
+-- more bytes or none.
 pub record BeginsText (taps : List KeptTap) (r : Reception) (rest left : Option (List ℕ))
     (text : List ℕ) : Type 0 where
   pub header : Header
@@ -106,8 +106,8 @@ IsHeaderFault _ = Unit {0}
 abbrev pub file_end : Header → ℕ
 file_end header = 16 + sample_len (width_of header) * header.count
 
--- how many bytes are taken at most of a file that opens so: a byte more than it has, which shows that
--- it ends; or no more than a header has
+-- how many bytes are taken at most of a file that opens so: a byte more than it has, which shows
+-- that it ends; or no more than a header has
 abbrev pub most_taken : Result Header FileFault → ℕ
 most_taken (Ok header) = file_end header + 1
 most_taken (Err fault) = 16

@@ -1,9 +1,7 @@
 -- What is written of a sample file, and what a handset tells on the way.
 use Rattle.std.specs.Prelude.{◌≡◌, ℕ, ◌-◌, ◌≤◌, replicate, pos, slice_get, Bool, true}
-use Rattle.std.specs.Prelude.{if◌then◌else◌}
-use Rattle.std.specs.Prelude.{List, [], ◌∷◌, ◌++◌, length, take, All, Option, None, Some, IfSome}
-use Rattle.std.specs.Prelude.{is_some}
-use Rattle.std.specs.Prelude.{nat_lt}
+use Rattle.std.specs.Prelude.{if◌then◌else◌, List, [], ◌∷◌, ◌++◌, length, take, All, Option, None}
+use Rattle.std.specs.Prelude.{Some, IfSome, is_some, nat_lt}
 use Rattle.std.specs.List.{flat_map}
 use Rattle.std.specs.Io.{StartsWith}
 use Rattle.std.specs.Io.KnownBytes.{Appends, Consumes}
@@ -38,8 +36,7 @@ use Rattle.cdma_replay.specs.declared.handset.Receiver.{Receiver}
 use Rattle.cdma_replay.specs.declared.listener.Listener.{Listener}
 use Rattle.cdma_replay.specs.declared.listener.Listener.TheVariants as by
 use Rattle.cdma_replay.specs.declared.purpose.Purpose.{Purpose}
-use Rattle.cdma_replay.specs.declared.purpose.Purpose.TheVariants.{Find, Follow, Survey}
-use Rattle.cdma_replay.specs.declared.purpose.Purpose.TheVariants.{Tuned}
+use Rattle.cdma_replay.specs.declared.purpose.Purpose.TheVariants.{Find, Follow, Survey, Tuned}
 use Rattle.cdma_replay.specs.declared.receiving.Reception.{Reception}
 use Rattle.cdma_replay.specs.declared.status.Status.{Status}
 use Rattle.cdma_replay.specs.declared.status.Status.TheVariants.{Done, NoSync}
@@ -50,8 +47,8 @@ use Rattle.cdma_replay.specs.declared.status.Status.TheVariants.{Done, NoSync}
 unfoldable pub best_pilot : List Sample → Event
 best_pilot samples = Pilot (best_phase samples) (energy samples (best_phase samples))
 
--- the text of the first samples alone: the pilot's line, or the lines of the ranks; there is none where
--- the file is heard
+-- the text of the first samples alone: the pilot's line, or the lines of the ranks; there is none
+-- where the file is heard
 abbrev pub first_text : Purpose → List Sample → List ℕ
 first_text Find first = event_line (best_pilot first)
 first_text (Follow receiver) first = []
@@ -76,8 +73,8 @@ tuning_for header first receiver =
 abbrev pub waiting : ℕ → Receiver
 waiting fingers = record { fingers = fingers; paging = 1; traffic = None }
 
--- who hears a file: nobody, or a handset whose events these taps hear, or a handset for the mark and
--- a receiver for the frames of one channel behind it
+-- who hears a file: nobody, or a handset whose events these taps hear, or a handset for the mark
+-- and a receiver for the frames of one channel behind it
 pub data Listening : Type 0 where
   Nobody : Listening
   ByTaps : Tuning → List KeptTap → Listening
@@ -98,8 +95,8 @@ told Nobody samples = []
 told (ByTaps t taps) samples = run_text taps (events t samples)
 told (ByFrames t channel text) samples = tuned_text text t channel samples
 
--- the text of a file, or of one of which only so many samples are known: that of the first ones, and
--- what is told of all
+-- the text of a file, or of one of which only so many samples are known: that of the first ones,
+-- and what is told of all
 unfoldable pub file_text : List KeptTap → Reception → Header → List Sample → List ℕ
 file_text taps r header samples =
     first_text r.purpose (take r.span samples)
@@ -125,8 +122,8 @@ IsUnheard Find = Unit {0}
 IsUnheard (Survey base width top) = Unit {0}
 IsUnheard purpose = ⊥
 
--- what is told of a clean link: the pilot at the cell's phase, all whole sendings, the whole pages of
--- the paging channel that is followed, and the frames of the traffic channel that is, with the
+-- what is told of a clean link: the pilot at the cell's phase, all whole sendings, the whole pages
+-- of the paging channel that is followed, and the frames of the traffic channel that is, with the
 -- messages that their signaling spells and the pilot sets
 unfoldable pub clean_events : ℕ → CellPlan → ℕ → Option Traffic → List Event
 clean_events span plan paging traffic =
@@ -186,8 +183,8 @@ HasRoomFor by.Nobody count = Unit {0}
 HasRoomFor (by.Handset mobile) count = count ≤ has_room mobile
 HasRoomFor (by.Tuned tuned) count = count ≤ tuned_room tuned
 
--- it has taken no sample, and a sink got a text and what is told before any sample: the pilot, where
--- taps hear a handset
+-- it has taken no sample, and a sink got a text and what is told before any sample: the pilot,
+-- where taps hear a handset
 pub record BeginsBehind (text : List ℕ) (l : Listening) (listener : Listener)
     (kept : List KeptTap) (old new : Option (List ℕ)) : Type 0 where
   pub written : Appends old new (text ++ told l [])
@@ -231,8 +228,8 @@ pub record HearsRest (l : Listening) (width : Width) (count : ℕ) (listener : L
   pub consumed : Consumes rest left (flat_map (sample_spelling width) samples)
   pub tells : Tells l listener kept heard (heard ++ samples) old new
 
--- a source lost the spellings of samples, at most so many, each within its width, with more bytes or
--- none; and a sink got a beginning of what is told of them
+-- a source lost the spellings of samples, at most so many, each within its width, with more bytes
+-- or none; and a sink got a beginning of what is told of them
 pub record HearsPart (l : Listening) (width : Width) (most : ℕ) (heard : List Sample)
     (rest left old new : Option (List ℕ)) : Type 0 where
   pub samples : List Sample

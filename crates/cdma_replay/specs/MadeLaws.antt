@@ -31,8 +31,8 @@ IsCleanWhenMade =
     (events (tuning_to plan (cell_energy span plan) paging traffic) (made_samples plan)) →
     IsCleanLink width script plan span 1 paging traffic (header_of width plan) (made_samples plan)
 
--- and so it is where that channel is one of the cell's, each of whose frames is distinct, and none of
--- the messages that it is sent directs a handoff
+-- and so it is where that channel is one of the cell's, each of whose frames is distinct, and none
+-- of the messages that it is sent directs a handoff
 abbrev pub IsCleanWhenSent : Type 0
 IsCleanWhenSent =
     (width : Width) (script : List ℕ) (plan : CellPlan) (span paging : ℕ)

@@ -14,11 +14,9 @@ use Rattle.cdma_replay.specs.Hearing.{ByFrames, ByTaps, IsLawfulReceiver, Listen
 use Rattle.cdma_replay.specs.Hearing.{first_text, listening, tuning_for, waiting}
 use Rattle.cdma_replay.specs.Ranks.{ranks_text}
 use Rattle.cdma_replay.specs.declared.opening.Shown.{Shown}
-use Rattle.cdma_replay.specs.declared.opening.Shown.TheVariants.{Followed, Found, Ranks}
-use Rattle.cdma_replay.specs.declared.opening.Shown.TheVariants.{TunedTo}
+use Rattle.cdma_replay.specs.declared.opening.Shown.TheVariants.{Followed, Found, Ranks, TunedTo}
 use Rattle.cdma_replay.specs.declared.purpose.Purpose.{Purpose}
-use Rattle.cdma_replay.specs.declared.purpose.Purpose.TheVariants.{Find, Follow, Survey}
-use Rattle.cdma_replay.specs.declared.purpose.Purpose.TheVariants.{Tuned}
+use Rattle.cdma_replay.specs.declared.purpose.Purpose.TheVariants.{Find, Follow, Survey, Tuned}
 
 -- a receiver, a channel or the numbers of a survey, as words name them
 abbrev pub IsLawfulPurpose : Purpose → Type 0
@@ -61,8 +59,8 @@ shown_text (Followed best receiver) = []
 shown_text (TunedTo best fingers channel text) = []
 shown_text (Ranks ranks top) = ranks_text (take top ranks)
 
--- what a purpose wants of the first samples was found in them: what is told of it is their text, and
--- who hears the file is who hears it for this purpose
+-- what a purpose wants of the first samples was found in them: what is told of it is their text,
+-- and who hears the file is who hears it for this purpose
 pub record Shows (purpose : Purpose) (first : List Sample) (shown : Shown) : Type 0 where
   pub text : shown_text shown ≡ first_text purpose first
   pub hears : (taps : List KeptTap) (header : Header) →

@@ -1,7 +1,7 @@
 -- What a run owes: for each command and the bytes of its input, the text that is written of it and
 -- how the run ends, or the fault that it has.
-use Rattle.std.specs.Prelude.{◌≡◌, ◌≢◌, ℕ, ◌≤◌, ◌++◌, ◌⊎◌, List, [], length, Option, IsOk}
-use Rattle.std.specs.Prelude.{None, Some, Result, Ok, Err}
+use Rattle.std.specs.Prelude.{◌≡◌, ◌≢◌, ℕ, ◌≤◌, ◌++◌, ◌⊎◌, List, [], length, Option, IsOk, None}
+use Rattle.std.specs.Prelude.{Some, Result, Ok, Err}
 use Rattle.std.specs.Io.{StartsWith}
 use Rattle.std.specs.Io.KnownBytes.{Appends}
 use Rattle.chip_core.specs.declared.sample.Sample.{Sample}
@@ -112,8 +112,8 @@ TaskBegins forms (Receive r limits) = BeginsText (taps_by limits forms) r
 TaskBegins forms (Make width) = λ rest left text. BeginsMadeFile width rest text
 TaskBegins forms (Trial number workers) = λ rest left text. StartsWith (trial_line number) text
 
--- what was written where the input breaks off, or a read failed: the text of the first of the samples
--- that were taken; and nothing of a script, which is read before anything is written
+-- what was written where the input breaks off, or a read failed: the text of the first of the
+-- samples that were taken; and nothing of a script, which is read before anything is written
 abbrev pub TaskTellsFirst : List ℕ → Task → Option (List ℕ) → Option (List ℕ) → Option (List ℕ) →
     Option (List ℕ) → Type 0
 TaskTellsFirst forms (Receive r limits) = WritesFirst (taps_by limits forms) r
@@ -126,8 +126,8 @@ abbrev pub TaskTellsAll : List ℕ → Task → Option (List ℕ) → Option (Li
 TaskTellsAll forms (Receive r limits) = WritesAll (taps_by limits forms) r
 TaskTellsAll forms task = λ rest old new. Unit {0}
 
--- how many bytes are taken of the input at most, however the run ends: of a file a byte more than its
--- header counts, of a script a byte more than it may have, and for a trial none
+-- how many bytes are taken of the input at most, however the run ends: of a file a byte more than
+-- its header counts, of a script a byte more than it may have, and for a trial none
 abbrev pub TaskTakesNoMore : Task → Option (List ℕ) → Option (List ℕ) → Type 0
 TaskTakesNoMore (Receive r limits) = TakesNoMore
 TaskTakesNoMore (Make width) = λ rest left. ConsumesAtMost 1048577 rest left

@@ -1,7 +1,6 @@
--- Laws of replies: each input is owed one, the number of workers changes none, and what each command
--- owes of a good input.
-use Rattle.std.specs.Prelude.{◌≡◌, ℕ, ◌<◌, ◌≤◌, List, length, take, All, Option, Ok}
-use Rattle.std.specs.Prelude.{is_some}
+-- Laws of replies: each input is owed one, the number of workers changes none, and what each
+-- command owes of a good input.
+use Rattle.std.specs.Prelude.{◌≡◌, ℕ, ◌<◌, ◌≤◌, List, length, take, All, Option, Ok, is_some}
 use Rattle.chip_core.specs.declared.sample.Sample.{Sample}
 use Rattle.chip_core.specs.declared.width.Width.{Width}
 use Rattle.cdma_io.specs.SampleFile.{IsSampleFile}
@@ -18,7 +17,8 @@ use Rattle.event_tap.specs.EventLines.{event_line}
 use Rattle.event_tap.specs.Taps.{kept_by, run_text}
 use Rattle.tuned_listener.specs.TunedTexts.{tuned_text}
 use Rattle.tuned_listener.specs.declared.tuned_text.TunedText.{TunedText}
-use Rattle.tuned_listener.specs.declared.tuned_text.TunedText.TheVariants.{Listed, RateSetTwo, Slots}
+use Rattle.tuned_listener.specs.declared.tuned_text.TunedText.TheVariants.{Listed, RateSetTwo}
+use Rattle.tuned_listener.specs.declared.tuned_text.TunedText.TheVariants.{Slots}
 use Rattle.cdma_words.specs.declared.job.Job.{Job}
 use Rattle.cdma_words.specs.declared.job.Job.TheVariants as jobs
 use Rattle.cdma_replay.specs.Hearing.{end_when, tuning_for, waiting}

@@ -1,5 +1,5 @@
--- What a run of the program owes its streams: that of its words, with a tap of each form, and what is
--- written passed on.
+-- What a run of the program owes its streams: that of its words, with a tap of each form, and what
+-- is written passed on.
 use Rattle.std.specs.Prelude.{◌≡◌, ◌⊎◌, ℕ, List, [], ◌∷◌, Option, None, Some, IfSome}
 use Rattle.std.specs.Io.KnownBytes.{IsAtEnd, Keeps}
 use Rattle.cdma_words.specs.declared.job.Job.{Job}

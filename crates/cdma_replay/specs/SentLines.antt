@@ -1,6 +1,6 @@
 -- The lines of a traffic channel's frames in a file that holds what a script's cell sends.
-use Rattle.std.specs.Prelude.{◌≡◌, ◌≤◌, ℕ, ◌*◌, true, List, [], ◌∷◌, length, take, Option}
-use Rattle.std.specs.Prelude.{None, Some}
+use Rattle.std.specs.Prelude.{◌≡◌, ◌≤◌, ℕ, ◌*◌, true, List, [], ◌∷◌, length, take, Option, None}
+use Rattle.std.specs.Prelude.{Some}
 use Rattle.std.specs.List.{Contains, flat_map}
 use Rattle.chip_core.specs.declared.sample.Sample.{Sample}
 use Rattle.cdma_io.specs.declared.header.Header.{Header}

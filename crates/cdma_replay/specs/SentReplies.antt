@@ -1,5 +1,5 @@
--- What `rate2` and `list` owe of a file that holds what a script's cell sends: frame by frame what the
--- traffic channel sends.
+-- What `rate2` and `list` owe of a file that holds what a script's cell sends: frame by frame what
+-- the traffic channel sends.
 use Rattle.std.specs.Prelude.{◌≡◌, ◌≤◌, ℕ, List, length, Err, Ok}
 use Rattle.std.specs.List.{Contains}
 use Rattle.chip_core.specs.declared.sample.Sample.{Sample}
@@ -24,8 +24,8 @@ IsSentReply plan p Is (Ok whole) =
     IsSentText plan p Is (told_with_sync plan plan.sync) whole.0 × (whole.1 ≡ clean_end plan)
 IsSentReply plan p Is (Err end) = ⊥
 
--- A sample file of as many samples as the span is or more, which holds what a script's cell sends, and
--- words that name a traffic channel that the cell sends.
+-- A sample file of as many samples as the span is or more, which holds what a script's cell sends,
+-- and words that name a traffic channel that the cell sends.
 pub record IsHeardFrom (script bytes : List ℕ) (width : Width) (plan : CellPlan) (p : TrafficPlan)
     (span fingers : ℕ) (traffic : Traffic) (header : Header) (samples : List Sample) :
     Type 0 where

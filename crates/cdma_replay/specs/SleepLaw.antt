@@ -1,4 +1,5 @@
--- What is owed of a file whose slots a sleeping handset hears doesn't hang on what it sleeps through.
+-- What is owed of a file whose slots a sleeping handset hears doesn't hang on what it sleeps
+-- through.
 use Rattle.std.specs.Prelude.{◌≡◌, ℕ, ◌≤◌, ◌↔◌, List, [], length, take, Some}
 use Rattle.chip_core.specs.declared.sample.Sample.{Sample}
 use Rattle.cdma_io.specs.SampleFile.{IsSampleFile}
@@ -15,8 +16,8 @@ use Rattle.cdma_replay.specs.Replies.{IsFileReply, Reply}
 use Rattle.cdma_replay.specs.declared.purpose.Purpose.TheVariants.{Tuned}
 use Rattle.cdma_replay.specs.declared.receiving.Reception.{Reception}
 
--- Two files agree while a handset is awake: the first of them tells it a mark, and they agree before
--- that and, path by path, in the samples of the slots that it hears.
+-- Two files agree while a handset is awake: the first of them tells it a mark, and they agree
+-- before that and, path by path, in the samples of the slots that it hears.
 pub record AgreeWhileAwake (key cycle : ℕ) (t : Tuning) (number : ℕ) (one other : List Sample) :
     Type 0 where
   pub told : Mark

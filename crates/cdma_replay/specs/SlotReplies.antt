@@ -1,4 +1,5 @@
--- What `idle` owes of a file that holds what a cell sends: slot by slot what the paging channel sends.
+-- What `idle` owes of a file that holds what a cell sends: slot by slot what the paging channel
+-- sends.
 use Rattle.std.specs.Prelude.{◌≡◌, ◌≤◌, ℕ, List, length, take, Ok}
 use Rattle.std.specs.List.{Contains}
 use Rattle.chip_core.specs.declared.sample.Sample.{Sample}
@@ -18,8 +19,9 @@ use Rattle.cdma_replay.specs.Hearing.{clean_end, tuning_for}
 use Rattle.cdma_replay.specs.Replies.{IsReply, Reply}
 use Rattle.cdma_replay.specs.declared.handset.Receiver.{Receiver}
 
--- What is written of a paging channel that a lawful cell sends, for a handset that sleeps through all
--- slots but those of a key and a cycle, is slot by slot the slot's line and the lines of its pages.
+-- What is written of a paging channel that a lawful cell sends, for a handset that sleeps through
+-- all slots but those of a key and a cycle, is slot by slot the slot's line and the lines of its
+-- pages.
 abbrev pub FileSlotsComeBack : Type 0
 FileSlotsComeBack =
     (width : Width) (plan : CellPlan) (p : PagingPlan) (span : ℕ) (receiver : Receiver)
@@ -31,8 +33,8 @@ FileSlotsComeBack =
     ≡ slots_sent key cycle plan p
 
 -- So each reply that `idle` is owed of a sample file with as many samples as the span is, or more,
--- which holds what a script's cell sends, where its words name a paging channel that the cell sends,
--- is a whole text of just these lines, with the end that the whole sendings tell.
+-- which holds what a script's cell sends, where its words name a paging channel that the cell
+-- sends, is a whole text of just these lines, with the end that the whole sendings tell.
 abbrev pub IdleRepliesComeBack : Type 0
 IdleRepliesComeBack =
     (forms script bytes : List ℕ) (width : Width) (plan : CellPlan) (p : PagingPlan)

@@ -1,6 +1,7 @@
--- What a run promises that receives a sample file, makes one, or does a task. It ends so, over a source
--- that told these bytes and then tells those that are left, and a sink that told these and then those;
--- of each, numbers are its counts of faults before and after, and a type says that it is as it was.
+-- What a run promises that receives a sample file, makes one, or does a task. It ends so, over a
+-- source that told these bytes and then tells those that are left, and a sink that told these and
+-- then those; of each, numbers are its counts of faults before and after, and a type says that it
+-- is as it was.
 use Rattle.std.specs.Prelude.{◌≡◌, ◌≢◌, ℕ, ◌≤◌, ◌⊎◌, List, Option, IfSome, IsOk, Err}
 use Rattle.std.specs.Io.KnownBytes.{Appends, IsAtEnd}
 use Rattle.chip_core.specs.declared.width.Width.{Width}

@@ -10,8 +10,8 @@ use Rattle.clean_link.specs.CleanLink.{IsOnPath, IsPlanFile}
 use Rattle.cdma_replay.specs.Hearing.{tuning_for}
 use Rattle.cdma_replay.specs.declared.handset.Receiver.{Receiver}
 
--- Each handset of a run is tuned by the file's header and by the pilot in its first samples, as many
--- as the span is, over the receiver's fingers.
+-- Each handset of a run is tuned by the file's header and by the pilot in its first samples, as
+-- many as the span is, over the receiver's fingers.
 abbrev pub HandsetsAreTuned : Type 0
 HandsetsAreTuned =
     (span : ℕ) (header : Header) (samples : List Sample) (receiver : Receiver) →
@@ -21,8 +21,8 @@ HandsetsAreTuned =
     × (t.deltas ≡ near_deltas first (best_phase first) receiver.fingers)
     × (t.check30 ≡ header.check30) × (t.check16 ≡ header.check16)
 
--- So where the file holds what a lawful cell sends, the search finds the cell's path and there is one
--- finger, it lies on that path.
+-- So where the file holds what a lawful cell sends, the search finds the cell's path and there is
+-- one finger, it lies on that path.
 abbrev pub HandsetsLieOnThePath : Type 0
 HandsetsLieOnThePath =
     (width : Width) (plan : CellPlan) (span : ℕ) (receiver : Receiver) (header : Header)

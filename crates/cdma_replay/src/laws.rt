@@ -74,21 +74,21 @@ pub fn trial_owes_its_line()
 {}
 
 /// What `make` writes is a sample file of the cell's samples; where the search finds the cell's
-/// path in it, it is a clean link for one finger, for each paging channel, and for no traffic channel
-/// or one on which no message that is heard directs a handoff; so for one of the cell's, each of whose
-/// frames is distinct, on which none is sent.
+/// path in it, it is a clean link for one finger, for each paging channel, and for no traffic
+/// channel or one on which no message that is heard directs a handoff; so for one of the cell's,
+/// each of whose frames is distinct, on which none is sent.
 pub fn made_files_are_clean_links()
     ensures file { IsReadableWhenMade }
     ensures clean { IsCleanWhenMade }
     ensures sent { IsCleanWhenSent }
 {}
 
-/// In a file that holds what a script's cell sends, where the search finds the cell's path and there
-/// is one finger, a traffic channel of rate set 2 that the cell sends has one line for each of its
-/// frames that begins at the mark or behind it and lies in the file, in order, at the frame's own
-/// end. Each has the power control bits that were sent, and, where no other word of any rate of the
-/// set has the frame's symbols at the places that they leave, its rate and its information bits, as
-/// a good frame.
+/// In a file that holds what a script's cell sends, where the search finds the cell's path and
+/// there is one finger, a traffic channel of rate set 2 that the cell sends has one line for each
+/// of its frames that begins at the mark or behind it and lies in the file, in order, at the
+/// frame's own end. Each has the power control bits that were sent, and, where no other word of any
+/// rate of the set has the frame's symbols at the places that they leave, its rate and its
+/// information bits, as a good frame.
 pub fn lines_of_rate_set_two_come_back()
     ensures { SetTwoLinesComeBack }
 {}
@@ -102,46 +102,46 @@ pub fn listing_one_word_is_following()
 {}
 
 /// In such a file a traffic channel of rate set 1 that the cell sends has, however many words of a
-/// rate are listed, one line for each of its frames that begins at the mark or behind it and lies in
-/// the file, in order, at the frame's own end. Each has the power control bits that were sent, and,
-/// where no other word of any rate of the set has the frame's symbols at the places that they leave,
-/// it is the line of the frame that was sent, as a good frame.
+/// rate are listed, one line for each of its frames that begins at the mark or behind it and lies
+/// in the file, in order, at the frame's own end. Each has the power control bits that were sent,
+/// and, where no other word of any rate of the set has the frame's symbols at the places that they
+/// leave, it is the line of the frame that was sent, as a good frame.
 pub fn listed_lines_come_back()
     ensures { ListedLinesComeBack }
 {}
 
-/// In such a file, of any plan that can be received, what is written of a paging channel that the cell
-/// sends, for a handset that sleeps through all slots but those of a key and a cycle, is slot by slot
-/// what the cell sends: for each slot that it monitors, that begins at the mark or behind it and ends
-/// in the file, the slot's line and the lines of the pages whose run begins in it and which end in it,
-/// in order.
+/// In such a file, of any plan that can be received, what is written of a paging channel that the
+/// cell sends, for a handset that sleeps through all slots but those of a key and a cycle, is slot
+/// by slot what the cell sends: for each slot that it monitors, that begins at the mark or behind
+/// it and ends in the file, the slot's line and the lines of the pages whose run begins in it and
+/// which end in it, in order.
 pub fn slots_of_a_file_come_back()
     ensures { FileSlotsComeBack }
 {}
 
-/// Each reply that `rate2` owes of such a file, of a traffic channel of rate set 2 that the cell sends,
-/// is a whole text of just these lines, and so is that which `list` owes, of one of rate set 1, and
-/// that which `idle` owes, of a paging channel that the cell sends; the run ends well where a sending
-/// of the sync channel lies in the file whole, and else with `NoSync`.
+/// Each reply that `rate2` owes of such a file, of a traffic channel of rate set 2 that the cell
+/// sends, is a whole text of just these lines, and so is that which `list` owes, of one of rate set
+/// 1, and that which `idle` owes, of a paging channel that the cell sends; the run ends well where
+/// a sending of the sync channel lies in the file whole, and else with `NoSync`.
 pub fn replies_come_back()
     ensures rate2 { Rate2RepliesComeBack }
     ensures list { ListRepliesComeBack }
     ensures idle { IdleRepliesComeBack }
 {}
 
-/// Each handset that hears a file is tuned by the file's header and by the pilot in its first samples,
-/// as many as the span is. So in a file that holds what a cell sends it lies on the cell's path, where
-/// the search finds that and there is one finger, and the laws of the clean link, of slots too, speak
-/// of it.
+/// Each handset that hears a file is tuned by the file's header and by the pilot in its first
+/// samples, as many as the span is. So in a file that holds what a cell sends it lies on the cell's
+/// path, where the search finds that and there is one finger, and the laws of the clean link, of
+/// slots too, speak of it.
 pub fn handsets_are_tuned_by_the_file()
     ensures tuned { HandsetsAreTuned }
     ensures path { HandsetsLieOnThePath }
 {}
 
-/// What `idle` owes, with words that are lawful, doesn't hang on what its handset sleeps through: two
-/// sample files of one header, of which the first tells the handset a mark, and that agree before the
-/// mark and, path by path, in the samples of the slots that it hears, are owed the same bytes and the
-/// same end.
+/// What `idle` owes, with words that are lawful, doesn't hang on what its handset sleeps through:
+/// two sample files of one header, of which the first tells the handset a mark, and that agree
+/// before the mark and, path by path, in the samples of the slots that it hears, are owed the same
+/// bytes and the same end.
 pub fn what_is_slept_through_changes_no_reply()
     ensures { SleepChangesNoReply }
 {}

@@ -36,8 +36,8 @@ impl Listener {
 
     /// Tells what is told before any sample is taken: the taps hear the pilot of a handset.
     ///
-    /// [`Failed`] comes only where the sink's count of faults rose, and the sink got then a beginning
-    /// of the text.
+    /// [`Failed`] comes only where the sink's count of faults rose, and the sink got then a
+    /// beginning of the text.
     pub fn begin<T: KeepsTaps, K: Sink>(&mut self, taps: &mut T, sink: &mut K) -> Result<(), Failed>
         requires { All IsKept (T.kept taps.old) }
         ensures room { (left : ℕ) → HasRoom self.old left → HasRoom self.new left }

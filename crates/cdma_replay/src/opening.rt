@@ -11,9 +11,8 @@ ghost use Rattle.tuned_listener.specs.TunedListening.{ListensTuned, tuned_room};
 ghost use Rattle.tuned_listener.specs.TunedTexts.{IsLawfulTuned};
 ghost use Rattle.cdma_replay.specs.Hearing.{AreNearTo, AreReady, BeginsBehind, HasRoom, IsFresh};
 ghost use Rattle.cdma_replay.specs.Hearing.{told, tuning_for, waiting};
-ghost use Rattle.cdma_replay.specs.Openings.{IsBest};
-ghost use Rattle.cdma_replay.specs.Openings.{IsFollowable, IsLawfulPurpose, IsTellable, Shows};
-ghost use Rattle.cdma_replay.specs.Openings.{listening_in, pilot_event, shown_text};
+ghost use Rattle.cdma_replay.specs.Openings.{IsBest, IsFollowable, IsLawfulPurpose, IsTellable};
+ghost use Rattle.cdma_replay.specs.Openings.{Shows, listening_in, pilot_event, shown_text};
 
 use crate::handset::{Receiver, handset};
 use crate::listener::Listener;
@@ -184,8 +183,8 @@ fn event_of(best: &Best) -> Event
     }
 }
 
-/// Tells what is told before any sample is heard: the pilot's line, or those of the ranks; and where a
-/// handset hears the file, the taps hear the pilot of it.
+/// Tells what is told before any sample is heard: the pilot's line, or those of the ranks; and
+/// where a handset hears the file, the taps hear the pilot of it.
 pub fn tell_first<T: KeepsTaps, K: Sink>(
     shown: &Shown,
     listener: &mut Listener,

@@ -1,6 +1,6 @@
-//! Runs over files that are cut off or go on, and over sources and sinks whose calls fail or that have
-//! little room: how each ends, and what it has written. Only one call fails, so a run that tried it
-//! again would be done.
+//! Runs over files that are cut off or go on, and over sources and sinks whose calls fail or that
+//! have little room: how each ends, and what it has written. Only one call fails, so a run that
+//! tried it again would be done.
 
 use crate::Status;
 use crate::test_inputs::{Input, SECOND, SECOND_LINES, first_lines};
@@ -53,8 +53,8 @@ fn a_small_file_is_cut_off_at_each_byte(rt: HostRuntime) -> Result<(), Fail> {
 
 #[test]
 fn ends_where_a_read_fails(rt: HostRuntime) -> Result<(), Fail> {
-    // Of a file four calls for the header, 52 for the first 64 samples, 13 for the others, and one for
-    // the end; of a script fourteen give its bytes, and one more tells its end.
+    // Of a file four calls for the header, 52 for the first 64 samples, 13 for the others, and one
+    // for the end; of a script fourteen give its bytes, and one more tells its end.
     let rows = [
         (FIND, FILE, 5, 70, 57, LINE),
         ("make", SCRIPT, 7, 15, 16, MADE),
@@ -83,7 +83,8 @@ fn ends_where_a_read_fails(rt: HostRuntime) -> Result<(), Fail> {
     Ok(())
 }
 
-/// Words, an input, how many octets a sink takes at once, which call fails, and what it took before.
+/// Words, an input, how many octets a sink takes at once, which call fails, and what it took
+/// before.
 type Broken = (&'static str, Input, usize, u64, &'static [u8]);
 
 /// Runs whose sink fails: in the first line, between two lines, and in a file.
@@ -153,9 +154,9 @@ fn a_sink_has_little_room(rt: HostRuntime) -> Result<(), Fail> {
 }
 
 /// How many octets a source gives at once, which of its calls fails, which of the sink's, how many
-/// lines are written before, and how the run ends. By call 500,000 of 7 octets 873,713 whole samples
-/// were taken, of which those behind the 869,617th may be unheard: the third sync message, at 884,672,
-/// isn't known, and all before it is.
+/// lines are written before, and how the run ends. By call 500,000 of 7 octets 873,713 whole
+/// samples were taken, of which those behind the 869,617th may be unheard: the third sync message,
+/// at 884,672, isn't known, and all before it is.
 static CALLS: [(usize, u64, u64, usize, Status); 3] = [
     (65536, 1, 0, 0, Status::ReadFault),
     (7, 500_000, 0, 15, Status::ReadFault),

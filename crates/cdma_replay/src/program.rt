@@ -1,7 +1,7 @@
 //! What the process does with its words and its streams.
 
-ghost use Rattle.std.specs.Prelude.{◌≡◌, ◌≢◌, Bool, IfErr, IfOk, IsTrue, OnErr, OnOk};
-ghost use Rattle.std.specs.Prelude.{drop, map, true};
+ghost use Rattle.std.specs.Prelude.{◌≡◌, ◌≢◌, Bool, IfErr, IfOk, IsTrue, OnErr, OnOk, drop, map};
+ghost use Rattle.std.specs.Prelude.{true};
 ghost use Rattle.std.specs.Io.KnownBytes.{Keeps};
 ghost use Rattle.std.specs.IoError.{error_kind};
 ghost use Rattle.std.specs.Process.{exit_status};
@@ -165,8 +165,8 @@ fn report<R: Eprint>(rt: &R, status: Status) {
 
 /// All that the process does with its words, of which the first is its own name, and with its input
 /// and its output, and what it exits with: the status of the command that the words behind the name
-/// tell, with a tap of each form, or that of a process which wasn't given its words. The text of any
-/// end but [`Status::Done`] is written on standard error.
+/// tell, with a tap of each form, or that of a process which wasn't given its words. The text of
+/// any end but [`Status::Done`] is written on standard error.
 pub fn run<R: Eprint + AllocGlobal + Threads + Sync, S: Source, K: Output>(
     rt: &R,
     words: Result<Vec<String>, Status>,
@@ -176,8 +176,8 @@ pub fn run<R: Eprint + AllocGlobal + Threads + Sync, S: Source, K: Output>(
     // Words that weren't given move nothing.
     ensures refused { IfErr words (λ status. (exit_status result ≡ code_of status) ×
         (source.new ≡ source.old) × (sink.new ≡ sink.old)) }
-    // The exit status is that of what `replay` owes of the words behind the first, with a tap of each
-    // form; behind a good end all that was written was passed on.
+    // The exit status is that of what `replay` owes of the words behind the first, with a tap of
+    // each form; behind a good end all that was written was passed on.
     ensures ran { IfOk words (λ given. ExitsBy
         (IsRun each_form (job_named (drop 1 given.items))
         (S.rest source.old) (S.rest source.new) (K.written sink.old) (K.written sink.new)

@@ -143,8 +143,9 @@ fn end_when(told: bool) -> Result<(), Status>
     if told { Ok(()) } else { Err(Status::NoSync) }
 }
 
-/// Reads the file's first samples into `span` and tells what is wanted of them, and then reads on to
-/// the end of the file by way of `piece`; where the purpose has a listener, it hears all samples.
+/// Reads the file's first samples into `span` and tells what is wanted of them, and then reads on
+/// to the end of the file by way of `piece`; where the purpose has a listener, it hears all
+/// samples.
 fn receive_file<R: Threads + Sync, S: Source, K: Sink, T: KeepsTaps, G: Gate + Sync>(
     rt: &R,
     alloc: Global,
@@ -189,9 +190,9 @@ fn receive_file<R: Threads + Sync, S: Source, K: Sink, T: KeepsTaps, G: Gate + S
     end_when(listener.is_told())
 }
 
-/// Tells what is wanted of the file's first samples, and then reads on to the end of the file; where
-/// the purpose has a listener, it hears all samples. Where that is a handset, the taps hear each of its
-/// events, the pilot first.
+/// Tells what is wanted of the file's first samples, and then reads on to the end of the file;
+/// where the purpose has a listener, it hears all samples. Where that is a handset, the taps hear
+/// each of its events, the pilot first.
 ///
 /// All memory is taken before the first line is written.
 pub fn receive<R: Threads + Sync, S: Source, K: Sink, T: KeepsTaps, G: Gate + Sync>(

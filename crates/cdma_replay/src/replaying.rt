@@ -113,22 +113,23 @@ fn run_task<R: Threads + Sync, S: Source, K: Sink, G: Gate + Sync>(
 /// first samples, as many as its span is, writes its line, and reads on to the end of the file.
 /// `follow` does that too, and lets the taps hear the pilot and each event that a handset hears in
 /// the samples, as it comes, and write their text; it ends with `NoSync` where no message told the
-/// time. `survey` reads as `find` does, but measures how strong each of the 512 pilots (7.1.3.2.1) is
-/// in the first samples, and writes the first of their ranks, a line each. `make` reads a script, and
-/// writes the file of the cell that it names. `trial` reads nothing: it makes the link that its number
-/// tells, follows it with a handset, and writes one line that counts what was heard.
-/// `rate2` searches as `find` does and writes no pilot's line: from the mark on that a sync message
-/// sets it decodes each frame of one traffic channel as one of rate set 2 (TIA/EIA-95-B, 7.1.3.5), and
-/// writes its line; it ends with `NoSync` as `follow` does. `list` does so with frames of rate set 1,
-/// each chosen of the first so many words of a rate whose quality bits are right.
-/// `idle` hears, behind the mark too, the slots of one paging channel that a handset of a key wakes
-/// for (TIA/EIA-95-B, 6.6.2.1.1.3), and writes the line of each and those of its messages.
+/// time. `survey` reads as `find` does, but measures how strong each of the 512 pilots (7.1.3.2.1)
+/// is in the first samples, and writes the first of their ranks, a line each. `make` reads a
+/// script, and writes the file of the cell that it names. `trial` reads nothing: it makes the link
+/// that its number tells, follows it with a handset, and writes one line that counts what was
+/// heard. `rate2` searches as `find` does and writes no pilot's line: from the mark on that a sync
+/// message sets it decodes each frame of one traffic channel as one of rate set 2 (TIA/EIA-95-B,
+/// 7.1.3.5), and writes its line; it ends with `NoSync` as `follow` does. `list` does so with
+/// frames of rate set 1, each chosen of the first so many words of a rate whose quality bits are
+/// right. `idle` hears, behind the mark too, the slots of one paging channel that a handset of a
+/// key wakes for (TIA/EIA-95-B, 6.6.2.1.1.3), and writes the line of each and those of its
+/// messages.
 ///
 /// The words, their options and the numbers that stand where an option isn't given are those of
 /// [`cdma_words::words_of`].
 ///
-/// Each worker of a search or a survey calls the gate before its first phase and after its last. What
-/// is written doesn't depend on the number of workers, nor on how they get on.
+/// Each worker of a search or a survey calls the gate before its first phase and after its last.
+/// What is written doesn't depend on the number of workers, nor on how they get on.
 pub fn replay<R: Threads + Sync, S: Source, K: Sink, G: Gate + Sync>(
     rt: &R,
     alloc: Global,
@@ -152,14 +153,14 @@ pub fn replay<R: Threads + Sync, S: Source, K: Sink, G: Gate + Sync>(
         ¬ (Rose (S.faults source.old) (S.faults source.new)) →
         ¬ (Rose (K.faults sink.old) (K.faults sink.new)) →
         (result ≡ Status.NoMemory) ⊎ AnswersBehind held reply result (K.written sink.new) }
-    // On a clean link, one of one cell over one path, without noise, where one finger lies on it and no
-    // message directs a handoff, that is the text of the pilot at the cell's phase and of a list of
-    // events. Those of the sync channel are just the sendings that lie in the file whole. Where the
-    // cell sends the followed paging channel, those of it are just its whole pages. Where the cell
-    // sends the followed traffic channel, with frames of rate set 1, there is one for each of its
-    // frames from the mark on that lies in the file, with the power control bits that were sent, and
-    // where the frame is distinct, with its rate and bits, as a good frame; and where each of them is,
-    // its messages are just those that the signaling in these frames spells.
+    // On a clean link, one of one cell over one path, without noise, where one finger lies on it
+    // and no message directs a handoff, that is the text of the pilot at the cell's phase and of a
+    // list of events. Those of the sync channel are just the sendings that lie in the file whole.
+    // Where the cell sends the followed paging channel, those of it are just its whole pages. Where
+    // the cell sends the followed traffic channel, with frames of rate set 1, there is one for each
+    // of its frames from the mark on that lies in the file, with the power control bits that were
+    // sent, and where the frame is distinct, with its rate and bits, as a good frame; and where
+    // each of them is, its messages are just those that the signaling in these frames spells.
     ensures clean { (width : Width) (script bytes held : List ℕ) (plan : CellPlan)
         (span workers fingers paging : ℕ) (traffic : Option TheTraffic) (limits : List ℕ)
         (header : Header) (samples : List Sample) →
@@ -173,11 +174,11 @@ pub fn replay<R: Threads + Sync, S: Source, K: Sink, G: Gate + Sync>(
         (result ≡ Status.NoMemory) ⊎ ((result ≡ clean_end plan) ×
         WritesEach (kept_by limits (map (λ b. shape b) taps.items)) span plan paging
         traffic held (K.written sink.new)) }
-    // Where moreover no traffic channel has the followed paging channel's row, and the traffic channel
-    // that is followed is one of the cell's, each of whose frames is distinct, or none is, that is the
-    // text of the pilot, of the whole sendings, of the followed paging channel's whole pages, of that
-    // traffic channel's frames with the messages that their signaling spells, and of the pilot sets
-    // behind it, in the order in which they are known.
+    // Where moreover no traffic channel has the followed paging channel's row, and the traffic
+    // channel that is followed is one of the cell's, each of whose frames is distinct, or none is,
+    // that is the text of the pilot, of the whole sendings, of the followed paging channel's whole
+    // pages, of that traffic channel's frames with the messages that their signaling spells, and of
+    // the pilot sets behind it, in the order in which they are known.
     ensures all_distinct { (width : Width) (script bytes held : List ℕ) (plan : CellPlan)
         (span workers fingers paging : ℕ) (traffic : Option TheTraffic) (limits : List ℕ)
         (header : Header) (samples : List Sample) →
@@ -231,17 +232,17 @@ pub fn replay<R: Threads + Sync, S: Source, K: Sink, G: Gate + Sync>(
     ensures early { IsEarlyFault result → sink.new ≡ sink.old }
     ensures header { (fault : FileFault) → result ≡ Status.BadFile fault → IsHeaderFault fault →
         ConsumesAtMost 16 (S.rest source.old) (S.rest source.new) }
-    // Of a file at most a byte more is taken than its header counts, of a script at most a byte more
-    // than it may have, behind a failed write too.
+    // Of a file at most a byte more is taken than its header counts, of a script at most a byte
+    // more than it may have, behind a failed write too.
     ensures bound { (job : TheJob) → job_named words.now ≡ Some job →
         BoundsInput job (S.rest source.old) (S.rest source.new) }
     ensures written { (job : TheJob) → job_named words.now ≡ Some job →
         WritesPart (Begins (map (λ b. shape b) taps.items) job (S.rest source.old)
         (S.rest source.new))
         (K.written sink.old) (K.written sink.new) }
-    // Where a sample file breaks off or a read of it failed, the text of the samples that were taken
-    // was written, but for the last 4,096 or fewer; and where it goes on behind its samples, all
-    // text.
+    // Where a sample file breaks off or a read of it failed, the text of the samples that were
+    // taken was written, but for the last 4,096 or fewer; and where it goes on behind its samples,
+    // all text.
     ensures cut { (job : TheJob) → job_named words.now ≡ Some job → IsCut result →
         TellsFirst (map (λ b. shape b) taps.items) job (S.rest source.old) (S.rest source.new)
         (K.written sink.old) (K.written sink.new) }

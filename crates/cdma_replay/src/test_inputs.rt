@@ -15,8 +15,8 @@ pub enum Input {
     Least(u64),
     /// A file of so many samples of the pilot's code at a phase, with an amplitude.
     Code(u16, u16, i16),
-    /// A file of so many samples, 2 or more, of which two aren't 0: several phases have the greatest
-    /// energy.
+    /// A file of so many samples, 2 or more, of which two aren't 0: several phases have the
+    /// greatest energy.
     Two(u64),
     /// So many letters, which are no script.
     Letters(usize),
@@ -82,8 +82,8 @@ impl Input {
     }
 }
 
-/// A script of a second of a cell with a pilot, a sync channel, and a paging channel that has a page,
-/// a CDMA Channel List Message, in each half-frame.
+/// A script of a second of a cell with a pilot, a sync channel, and a paging channel that has a
+/// page, a CDMA Channel List Message, in each half-frame.
 pub const SECOND: Input = Input::Bytes(SECOND_SCRIPT);
 
 const SECOND_SCRIPT: &[u8] = b"cell pn=511 time=1000 lc=20000000000 checks=0\n\
@@ -93,7 +93,8 @@ const SECOND_SCRIPT: &[u8] = b"cell pn=511 time=1000 lc=20000000000 checks=0\n\
     paging channel=1 gain=60\n\
     page half 34:04ff8046c0\n";
 
-/// Lines, and behind them two of the page for each frame that ends at one of these numbers of samples.
+/// Lines, and behind them two of the page for each frame that ends at one of these numbers of
+/// samples.
 macro_rules! with_pages {
     ($($lines:literal, [$($at:literal),*]),*) => {
         concat!($(

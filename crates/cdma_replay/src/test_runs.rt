@@ -8,8 +8,8 @@ use std::alloc::Global;
 use std::test::Fail;
 use std::thread::Threads;
 
-/// The outside of a run: how many bytes a call moves at most, which call fails, counted from 1 and 0
-/// where none does, and how many bytes the sink has room for.
+/// The outside of a run: how many bytes a call moves at most, which call fails, counted from 1 and
+/// 0 where none does, and how many bytes the sink has room for.
 #[derive(Clone, Copy)]
 pub struct Outside {
     pub source_piece: usize,

@@ -1,5 +1,5 @@
-//! The command `trial`: a link that a number tells is made and followed, and what a handset hears of
-//! it is counted.
+//! The command `trial`: a link that a number tells is made and followed, and what a handset hears
+//! of it is counted.
 
 ghost use Rattle.std.specs.Prelude.{◌≡◌, ◌≤◌, ◌+◌, ◌++◌, ◌⊎◌, ℕ, List, [], length, Err, IfOk};
 ghost use Rattle.std.specs.Prelude.{IfErr, OnOk, OnErr, ◌<◌, ◌^◌, take};
@@ -14,8 +14,8 @@ ghost use Rattle.heard_events.specs.Events.{events};
 ghost use Rattle.mobile_core.specs.Standing.{StandsFor, has_room, steps_left};
 ghost use Rattle.heard_events.specs.Tuning.{Tuning};
 ghost use Rattle.heard_events.specs.declared.event.Event.{Event as TheEvent};
-ghost use Rattle.cdma_replay.specs.Trials.{LeavesRoom, counts_of, counts_with, summary};
-ghost use Rattle.cdma_replay.specs.Trials.{trial_line, trial_receiver};
+ghost use Rattle.cdma_replay.specs.Trials.{LeavesRoom, counts_of, counts_with, summary, trial_line};
+ghost use Rattle.cdma_replay.specs.Trials.{trial_receiver};
 
 use crate::handset::{Receiver, handset};
 use crate::status::Status;
@@ -130,8 +130,8 @@ fn count(mobile: &mut Mobile, samples: &[Sample], counts: &mut Counts)
     }
 }
 
-/// Gives a handset the next samples of a cell, as many as `samples` has room for, and counts what it
-/// tells.
+/// Gives a handset the next samples of a cell, as many as `samples` has room for, and counts what
+/// it tells.
 fn count_next(mobile: &mut Mobile, cell: &mut Cell, samples: &mut [Sample], counts: &mut Counts)
     requires left { cell.old.given + length samples.old ≤ cell.old.plan.link.samples }
     requires room { length samples.old ≤ has_room mobile.old }
@@ -182,8 +182,8 @@ fn summary_of(number: u64, samples: u64, phase: u16, counts: &Counts) -> Text
     line
 }
 
-/// Follows all samples of a number's cell, by way of `span` and `piece`, and makes out the line that
-/// tells what was heard.
+/// Follows all samples of a number's cell, by way of `span` and `piece`, and makes out the line
+/// that tells what was heard.
 fn follow_cell<R: Threads + Sync, G: Gate + Sync>(
     rt: &R,
     alloc: Global,
@@ -213,8 +213,8 @@ fn follow_cell<R: Threads + Sync, G: Gate + Sync>(
     Ok(summary_of(number, header.count, best.phase.get(), &counts))
 }
 
-/// Makes a number's cell, follows it, and makes out the line that tells what was heard. All memory is
-/// taken before the first sample is followed.
+/// Makes a number's cell, follows it, and makes out the line that tells what was heard. All memory
+/// is taken before the first sample is followed.
 fn followed<R: Threads + Sync, G: Gate + Sync>(
     rt: &R,
     alloc: Global,

@@ -1,8 +1,8 @@
 -- The words of the command line, as lists of bytes, and the job that they name.
-use Rattle.std.specs.Prelude.{ℕ, ◌≡◌, ◌≢◌, ◌≤◌, ◌<◌, ◌^◌, ◌⊎◌, nat_eq, nat_le, Bool, true}
-use Rattle.std.specs.Prelude.{false, not, ◌&&◌, ◌||◌, if◌then◌else◌, List, []}
-use Rattle.std.specs.Prelude.{◌∷◌, ◌++◌, length, map, codes, string_bytes, Option}
-use Rattle.std.specs.Prelude.{None, Some, find, is_some, option_map, option_and_then, unwrap_or}
+use Rattle.std.specs.Prelude.{ℕ, ◌≡◌, ◌≢◌, ◌≤◌, ◌<◌, ◌^◌, ◌⊎◌, nat_eq, nat_le, Bool, true, false}
+use Rattle.std.specs.Prelude.{not, ◌&&◌, ◌||◌, if◌then◌else◌, List, [], ◌∷◌, ◌++◌, length, map}
+use Rattle.std.specs.Prelude.{codes, string_bytes, Option, None, Some, find, is_some, option_map}
+use Rattle.std.specs.Prelude.{option_and_then, unwrap_or}
 use Rattle.std.specs.List.{list_all, list_any}
 use Rattle.std.specs.Option.{option_map_or}
 use Rattle.std.specs.Result.{result_ok}
@@ -20,7 +20,8 @@ use Rattle.hex.specs.Hex.{decode_sized}
 use Rattle.chip_core.specs.declared.width.Width.{Width}
 use Rattle.chip_core.specs.declared.width.Width.TheVariants.{Sixteen, Eight}
 use Rattle.cdma_words.specs.declared.job.Job.{Job}
-use Rattle.cdma_words.specs.declared.job.Job.TheVariants.{Find, Follow, Rate2, Idle, Survey, Make, Trial}
+use Rattle.cdma_words.specs.declared.job.Job.TheVariants.{Find, Follow, Rate2, Idle, Survey, Make}
+use Rattle.cdma_words.specs.declared.job.Job.TheVariants.{Trial}
 use Rattle.cdma_words.specs.declared.job.Job.TheVariants as jobs
 use Rattle.chip_core.specs.declared.assignment.Traffic.{Traffic}
 use Rattle.cdma_words.specs.declared.commands.Command.{Command}
@@ -95,8 +96,8 @@ number_row = record {
   default = None;
 }
 
--- the phase of the pilot of offset 0, how many chips round its own phase each pilot is measured, and
--- how many ranks are written
+-- the phase of the pilot of offset 0, how many chips round its own phase each pilot is measured,
+-- and how many ranks are written
 abbrev pub base_row : OptionRow
 base_row = record { name = codes "base"; form = Between 0 32767; default = Some 0 }
 

@@ -121,8 +121,8 @@ pub enum WordFault {
 }
 
 /// The job that the words name: a command and then its options in any order, each at most once, as
-/// `--name VALUE` or `--name=VALUE`. A value is a number of 1 to 20 decimal digits; those of `--esn`
-/// and `--key` have just eight hex digits, of either case.
+/// `--name VALUE` or `--name=VALUE`. A value is a number of 1 to 20 decimal digits; those of
+/// `--esn` and `--key` have just eight hex digits, of either case.
 ///
 /// `find` takes `--span`, 64 to 32,768, which is else 2,048, and `--workers`, 1 to 64, which is
 /// else 4. `follow` takes these, `--fingers`, 1 to 3, which is else 1, `--paging`, 1 to 7, which

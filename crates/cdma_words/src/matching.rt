@@ -1,10 +1,9 @@
 //! The values of options, as clap parts them.
 
-ghost use Rattle.std.specs.Prelude.{◌≡◌, IfOk, IfErr, map, true};
-ghost use Rattle.std.specs.Prelude.{is_some, Some, [], string_bytes};
+ghost use Rattle.std.specs.Prelude.{◌≡◌, IfOk, IfErr, map, true, is_some, Some, [], string_bytes};
 ghost use Rattle.clap.specs.Words.{app_of, first_value, found_of, kind_of};
-ghost use Rattle.cdma_words.specs.Words.{Given, Text, app_from, bare_app};
-ghost use Rattle.cdma_words.specs.Words.{given_behind, row_of, text_of};
+ghost use Rattle.cdma_words.specs.Words.{Given, Text, app_from, bare_app, given_behind, row_of};
+ghost use Rattle.cdma_words.specs.Words.{text_of};
 
 use crate::grammar::OptionRule;
 use clap::error::ErrorKind;

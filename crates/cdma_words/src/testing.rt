@@ -1,11 +1,11 @@
 //! Whether words are options that rules allow, and the texts that they give them, found without
 //! memory.
 
-ghost use Rattle.std.specs.Prelude.{◌≡◌, ◌≤◌, IfSome, map, option_map};
-ghost use Rattle.std.specs.Prelude.{is_some, Some, [], string_bytes};
+ghost use Rattle.std.specs.Prelude.{◌≡◌, ◌≤◌, IfSome, map, option_map, is_some, Some, []};
+ghost use Rattle.std.specs.Prelude.{string_bytes};
 ghost use Rattle.clap.specs.Lexer.{long_of, name_and_value, strip_byte};
-ghost use Rattle.cdma_words.specs.Words.{given_behind, is_allowed, is_named_in, names};
-ghost use Rattle.cdma_words.specs.Words.{part_of, row_of, text_in};
+ghost use Rattle.cdma_words.specs.Words.{given_behind, is_allowed, is_named_in, names, part_of};
+ghost use Rattle.cdma_words.specs.Words.{row_of, text_in};
 
 use crate::grammar::OptionRule;
 

@@ -1,6 +1,6 @@
 -- What the channels of a cell send over blocks of 64 chips.
-use Rattle.std.specs.Prelude.{◌≡◌, ℕ, ◌+◌, ◌%◌, ◌<◌, ◌≤◌, List, All, length, map, get_or}
-use Rattle.std.specs.Prelude.{ℤ, pos, unsigned_abs}
+use Rattle.std.specs.Prelude.{◌≡◌, ℕ, ◌+◌, ◌%◌, ◌<◌, ◌≤◌, List, All, length, map, get_or, ℤ, pos}
+use Rattle.std.specs.Prelude.{unsigned_abs}
 use Rattle.chip_core.specs.Complex.{of_sample, origin, times}
 use Rattle.chip_core.specs.declared.sample.Pair.{Pair}
 use Rattle.chip_core.specs.declared.sample.Sample.{Sample}

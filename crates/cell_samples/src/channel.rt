@@ -1,7 +1,7 @@
 //! A channel that is sent, symbol by symbol.
 
-ghost use Rattle.std.specs.Prelude.{◌≡◌, ◌<◌, ◌≤◌, ◌+◌, ◌*◌, ◌%◌, ◌^◌, ℕ, get_or, false};
-ghost use Rattle.std.specs.Prelude.{pos, ◌*ℤ◌, unsigned_abs};
+ghost use Rattle.std.specs.Prelude.{◌≡◌, ◌<◌, ◌≤◌, ◌+◌, ◌*◌, ◌%◌, ◌^◌, ℕ, get_or, false, pos, ◌*ℤ◌};
+ghost use Rattle.std.specs.Prelude.{unsigned_abs};
 ghost use Rattle.chip_core.specs.Bits.{sign};
 ghost use Rattle.cell_plan.specs.Signal.{level};
 ghost use Rattle.cell_samples.specs.Continued.{symbol_count};

@@ -2,8 +2,8 @@
 
 ghost use Rattle.std.specs.Prelude.{◌≡◌, ◌*◌, ◌<◌, ◌^◌, length};
 ghost use Rattle.symbol_path.specs.SentOrder.{shape_of, size};
-ghost use Rattle.cell_samples.specs.Continued.{frame_bits_of, frame_size};
-ghost use Rattle.cell_samples.specs.Continued.{continued_form, kind_of, repeats_in, scrambled_by};
+ghost use Rattle.cell_samples.specs.Continued.{frame_bits_of, frame_size, continued_form, kind_of};
+ghost use Rattle.cell_samples.specs.Continued.{repeats_in, scrambled_by};
 
 use crate::page_cycle::PageCycle;
 use crate::sendings::Sendings;

@@ -1,13 +1,13 @@
 //! The half-frames of a paging channel.
 
-ghost use Rattle.std.specs.Prelude.{◌≡◌, ◌+◌, ◌*◌, ◌<◌, ◌≤◌, ◌%◌, ◌^◌, false, length, get_or};
-ghost use Rattle.std.specs.Prelude.{◌++◌, replicate};
+ghost use Rattle.std.specs.Prelude.{◌≡◌, ◌+◌, ◌*◌, ◌<◌, ◌≤◌, ◌%◌, ◌^◌, false, length, get_or, ◌++◌};
+ghost use Rattle.std.specs.Prelude.{replicate};
 ghost use Rattle.long_code.specs.LongCode.{IsState};
 ghost use Rattle.paging_message.specs.HalfFrames.{half_frame_body, IsPagingRate};
 ghost use Rattle.paging_message.specs.Laying.{fill, framed};
 ghost use Rattle.cell_plan.specs.Pages.{laid_pages, page_cycle, AreSendable};
-ghost use Rattle.cell_plan.specs.PageCycles.{cycle_frame_bits, frame_scrambling};
-ghost use Rattle.cell_plan.specs.PageCycles.{paging_frame_size, scrambled};
+ghost use Rattle.cell_plan.specs.PageCycles.{cycle_frame_bits, frame_scrambling, paging_frame_size};
+ghost use Rattle.cell_plan.specs.PageCycles.{scrambled};
 
 use cell_plan::{CellIdentity, Page, scrambled};
 use chip_core::air::DATA_FRAME_CHIPS;

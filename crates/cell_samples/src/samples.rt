@@ -1,9 +1,7 @@
 //! A cell's samples.
 
-ghost use Rattle.std.specs.Prelude.{◌≡◌, ◌<◌, ◌≤◌, ◌+◌, ◌++◌, ◌%◌, ◌^◌, length, map};
-ghost use Rattle.std.specs.Prelude.{take, drop};
-ghost use Rattle.std.specs.Prelude.{All};
-ghost use Rattle.std.specs.Prelude.{Ok, IfOk};
+ghost use Rattle.std.specs.Prelude.{◌≡◌, ◌<◌, ◌≤◌, ◌+◌, ◌++◌, ◌%◌, ◌^◌, length, map, take, drop};
+ghost use Rattle.std.specs.Prelude.{All, Ok, IfOk};
 ghost use Rattle.chip_core.specs.Complex.{of_sample};
 ghost use Rattle.cdma_io.specs.SampleFile.{HasBits, IsLawfulHeader};
 ghost use Rattle.cell_samples.specs.Channels.{carrier_of};
@@ -11,8 +9,7 @@ ghost use Rattle.long_code.specs.LongCode.{IsState};
 ghost use Rattle.paging_message.specs.HalfFrames.{IsPagingRate};
 ghost use Rattle.cell_plan.specs.Pages.{paging_rate};
 ghost use Rattle.cell_plan.specs.Plan.{IsLawfulPlan, IsPagingPlan, IsTrafficPlan};
-ghost use Rattle.cell_plan.specs.Signal.{carriers, paging_carrier, samples_of};
-ghost use Rattle.cell_plan.specs.Signal.{traffic_carrier};
+ghost use Rattle.cell_plan.specs.Signal.{carriers, paging_carrier, samples_of, traffic_carrier};
 ghost use Rattle.cell_plan.specs.Transmitter.{IsSendableSync, header_of, phase_at, version_of};
 
 use crate::block::{BLOCK, Block};

@@ -1,7 +1,6 @@
 //! The sendings of the sync channel's message.
 
-ghost use Rattle.std.specs.Prelude.{◌≡◌, ◌<◌, ◌≤◌, ◌+◌, ◌*◌, ◌/◌, ◌^◌, ◌==◌, Bool, false};
-ghost use Rattle.std.specs.Prelude.{◌∷◌};
+ghost use Rattle.std.specs.Prelude.{◌≡◌, ◌<◌, ◌≤◌, ◌+◌, ◌*◌, ◌/◌, ◌^◌, ◌==◌, Bool, false, ◌∷◌};
 ghost use Rattle.std.specs.Prelude.{◌++◌, length, take, drop, replicate, get_or};
 ghost use Rattle.sync_message.specs.Framing.{superframes_of};
 ghost use Rattle.sync_message.specs.SyncMessage.{IsSyncMessage, sync_capsule};

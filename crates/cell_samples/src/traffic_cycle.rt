@@ -3,10 +3,9 @@
 ghost use Rattle.std.specs.Prelude.{◌≡◌, ◌+◌, ◌*◌, ◌<◌, ◌≤◌, ◌^◌, length, All};
 ghost use Rattle.std.specs.List.{flat_map};
 ghost use Rattle.long_code.specs.LongCode.{IsState};
-ghost use Rattle.cell_plan.specs.TrafficFrames.{frame_state, traffic_frame_symbols};
-ghost use Rattle.cell_plan.specs.TrafficFrames.{cycled, frame_count, traffic_symbols};
-ghost use Rattle.cell_plan.specs.TrafficFrames.{traffic_symbols2, AreTrafficFrames};
-ghost use Rattle.cell_plan.specs.TrafficFrames.{IsTrafficFrame, IsTrafficFrame2};
+ghost use Rattle.cell_plan.specs.TrafficFrames.{frame_state, traffic_frame_symbols, cycled};
+ghost use Rattle.cell_plan.specs.TrafficFrames.{frame_count, traffic_symbols, traffic_symbols2};
+ghost use Rattle.cell_plan.specs.TrafficFrames.{AreTrafficFrames, IsTrafficFrame, IsTrafficFrame2};
 
 use cell_plan::{CellIdentity, FrameList, TrafficFrame, TrafficFrame2};
 use chip_core::Bits;

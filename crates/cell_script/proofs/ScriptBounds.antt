@@ -5,13 +5,13 @@ use Rattle.cell_script.proofs.Common.{◌==◌, option_and_then, option_map, Fit
 use Rattle.cell_script.proofs.Common.{eqb-true, leb-true, ltb-true, ints, cond_some, same_Some, norm, FieldsFit, IsState, fixed_fields}
 use Rattle.cell_script.proofs.Common.{IsSyncMessage, SyncFields, admitted, SyncPlan, CellIdentity, LinkPlan, NumberRow, AreUpTo, at_end}
 use Rattle.cell_script.proofs.Common.{field, numbers_in, past, value_of, cell_in, cell_line, freq_in, has_lawful_rest, is_link, link_in}
-use Rattle.cell_script.proofs.Common.{link_line, sync_behind, sync_fields, sync_in, frame_in, frame_key, frame_rate, frame2_in}
-use Rattle.cell_script.proofs.Common.{frame_by, frame2_key, frame2_rate, lawful_frame, traffic_in, traffic_line}
-use Rattle.cell_script.proofs.Common.{lawful_message, lawful_page, page_in, page_key, page_with, paging_in, paging_line, pilot_in}
-use Rattle.cell_script.proofs.Common.{statement_in, sync_table, Page, PagingLine, TrafficLine, TrafficFrame, TrafficFrame2, Rate2}
-use Rattle.cell_script.proofs.Common.{IsTrafficFrame, IsTrafficFrame2, information_of, Rate, Statement, HasMessage, is_body, FillsCapsule}
-use Rattle.cell_script.proofs.Common.{M30, IsLawful, IsStatedCell, IsStatedLink, as_state, begins_with, bits_in, hex_from, number_in}
-use Rattle.cell_script.proofs.Common.{commands_in, number_up_to, serial_number_in, signed_in, state_in, up_to}
+use Rattle.cell_script.proofs.Common.{link_line, sync_behind, sync_fields, sync_in, frame_in, frame_key, frame_rate, frame2_in, frame_by}
+use Rattle.cell_script.proofs.Common.{frame2_key, frame2_rate, lawful_frame, traffic_in, traffic_line, lawful_message, lawful_page, page_in}
+use Rattle.cell_script.proofs.Common.{page_key, page_with, paging_in, paging_line, pilot_in, statement_in, sync_table, Page, PagingLine}
+use Rattle.cell_script.proofs.Common.{TrafficLine, TrafficFrame, TrafficFrame2, Rate2, IsTrafficFrame, IsTrafficFrame2, information_of}
+use Rattle.cell_script.proofs.Common.{Rate, Statement, HasMessage, is_body, FillsCapsule, M30, IsLawful, IsStatedCell, IsStatedLink}
+use Rattle.cell_script.proofs.Common.{as_state, begins_with, bits_in, hex_from, number_in, commands_in, number_up_to, serial_number_in}
+use Rattle.cell_script.proofs.Common.{signed_in, state_in, up_to}
 use Rattle.cell_script.proofs.ScriptMessages.{is_tail}
 use Rattle.cell_script.proofs.ScriptPages.{body_fills, body_message}
 use Rattle.cell_script.proofs.ScriptNumerals.{one_signed_numeral}

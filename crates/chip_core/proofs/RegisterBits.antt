@@ -1,5 +1,6 @@
 -- The bits of shift registers, and sums modulo 2 of them.
-use Rattle.std.proofs.Common.{◌≡◌, ℕ, zero, suc, ◌+◌, ◌-◌, ◌*◌, ◌/◌, ◌%◌, ◌^◌, ◌<◌, ◌≤◌, Bool, true, false, not, List, [], ◌∷◌, ◌++◌, length, get_or, map, drop, refl, sym, ap, ◌∙◌, arith, bit_and, nat_eq, add-one}
+use Rattle.std.proofs.Common.{◌≡◌, ℕ, zero, suc, ◌+◌, ◌-◌, ◌*◌, ◌/◌, ◌%◌, ◌^◌, ◌<◌, ◌≤◌, Bool, true, false, not, List, [], ◌∷◌, ◌++◌}
+use Rattle.std.proofs.Common.{length, get_or, map, drop, refl, sym, ap, ◌∙◌, arith, bit_and, nat_eq, add-one}
 use Rattle.std.proofs.lemmas.List.{at_drop_more, drop_all, get_or_append_left, get_or_push, length_push}
 use Rattle.std.proofs.lemmas.Nat.{and_mask, field_of, shr-shr}
 use Rattle.std.proofs.Math.Pow.{mod-mod-pow}

@@ -1,12 +1,10 @@
 -- Lists repeated.
-use Rattle.std.proofs.Common.{◌≡◌, ℕ, zero, suc, ◌+◌, ◌-◌, ◌*◌, ◌%◌, ◌<◌, ◌≤◌, List, []}
-use Rattle.std.proofs.Common.{◌++◌, length, get_or, map, take, drop, refl, sym, ap, ◌∙◌, arith}
-use Rattle.std.proofs.Common.{length-append, length-drop, inl, inr}
+use Rattle.std.proofs.Common.{◌≡◌, ℕ, zero, suc, ◌+◌, ◌-◌, ◌*◌, ◌%◌, ◌<◌, ◌≤◌, List, [], ◌++◌, length, get_or, map, take, drop, refl, sym}
+use Rattle.std.proofs.Common.{ap, ◌∙◌, arith, length-append, length-drop, inl, inr}
 use Rattle.std.specs.List.{flat_map}
 use Rattle.std.proofs.lemmas.Bool.{cases_lt}
 use Rattle.std.proofs.lemmas.Grind.{flat_map-append}
-use Rattle.std.proofs.lemmas.List.{get_or-append_right, get_or-drop, get_or-take}
-use Rattle.std.proofs.lemmas.List.{get_or_append_left, length-take-le}
+use Rattle.std.proofs.lemmas.List.{get_or-append_right, get_or-drop, get_or-take, get_or_append_left, length-take-le}
 use Rattle.std.proofs.lemmas.Nat.{mod-mul-add}
 use Rattle.chip_core.specs.Bits.{places}
 use Rattle.chip_core.proofs.Places.{map-places-all}

@@ -1,5 +1,6 @@
 -- Bits packed into 19 words of 64: bit i stands in word i / 64, at place i % 64 from the low end.
-use Rattle.std.specs.Prelude.{ℕ, ◌+◌, ◌*◌, ◌/◌, ◌%◌, ◌^◌, ◌<◌, ◌≤◌, ◌≡◌, Bool, false, List, [], ◌∷◌, map, take, drop, length, get_or}
+use Rattle.std.specs.Prelude.{ℕ, ◌+◌, ◌*◌, ◌/◌, ◌%◌, ◌^◌, ◌<◌, ◌≤◌, ◌≡◌, Bool, false, List, [], ◌∷◌}
+use Rattle.std.specs.Prelude.{map, take, drop, length, get_or}
 use Rattle.std.specs.List.{range_with_len}
 use Rattle.chip_core.specs.Bits.{digit, bit_of}
 

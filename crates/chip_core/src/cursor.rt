@@ -1,6 +1,7 @@
 //! Fields of messages: numbers read from bits and written into them, the highest bit first.
 
-ghost use Rattle.std.specs.Prelude.{◌≡◌, ◌<◌, ◌≤◌, ◌+◌, ◌^◌, ℕ, Bool, List, [], ◌∷◌, ◌++◌, length, take, drop, IsOk, IfOk, OnOk, OnErr, ◌↔◌};
+ghost use Rattle.std.specs.Prelude.{◌≡◌, ◌<◌, ◌≤◌, ◌+◌, ◌^◌, ℕ, Bool, List, [], ◌∷◌, ◌++◌, length};
+ghost use Rattle.std.specs.Prelude.{take, drop, IsOk, IfOk, OnOk, OnErr, ◌↔◌};
 ghost use Rattle.chip_core.specs.Bits.{number, binary};
 
 use crate::bit_list::{Bits, Full};
@@ -80,8 +81,8 @@ impl<'a> BitReader<'a> {
 
 /// Writes fields into a list of bits. Contracts see the bits written so far.
 ///
-/// For tools that spell a message field by field, each of which may be one too many; where the room is
-/// known, [`Bits::append_fields`] writes a table of fields at once.
+/// For tools that spell a message field by field, each of which may be one too many; where the room
+/// is known, [`Bits::append_fields`] writes a table of fields at once.
 #[derive(Drop)]
 pub struct BitWriter {
     bits: Bits,

@@ -138,8 +138,8 @@ pub use Rattle.heard_events.specs.Signaling.{capsule_with, message_events, messa
 unfoldable pub use Rattle.heard_events.specs.Signaling.{message_at, messages_by, signal_at, signals_before}
 pub use Rattle.heard_events.specs.SoftFrames.{soft_frame, soft_frames, unturned_at}
 unfoldable pub use Rattle.heard_events.specs.SoftFrames.{frames_within}
-pub use Rattle.heard_events.specs.Streams.{Stream, frame_end, frame_softs, frame_start, is_in_file, is_within, known_at, known_by, known_now}
-pub use Rattle.heard_events.specs.Streams.{span_first, span_frames}
+pub use Rattle.heard_events.specs.Streams.{Stream, frame_end, frame_softs, frame_start, is_in_file, is_within, known_at, known_by}
+pub use Rattle.heard_events.specs.Streams.{known_now, span_first, span_frames}
 unfoldable pub use Rattle.heard_events.specs.Streams.{frame_own_bits}
 pub use Rattle.heard_events.specs.SyncEvents.{events_of, heard_in, with_message}
 unfoldable pub use Rattle.heard_events.specs.SyncEvents.{frames_before, heard_at, sync_capsule_at, sync_events_at}

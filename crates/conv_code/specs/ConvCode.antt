@@ -1,5 +1,6 @@
 -- The convolutional code of rate 1/2 and constraint length 9 (TIA/EIA-95-B, 7.1.3.1.3.1).
-use Rattle.std.specs.Prelude.{◌≡◌, ◌≢◌, ℕ, ◌+◌, ◌-◌, Bool, false, List, [], ◌∷◌, ◌++◌, length, map, get_or, drop}
+use Rattle.std.specs.Prelude.{◌≡◌, ◌≢◌, ℕ, ◌+◌, ◌-◌, Bool, false, List, [], ◌∷◌, ◌++◌, length, map}
+use Rattle.std.specs.Prelude.{get_or, drop}
 use Rattle.std.specs.List.{flat_map}
 use Rattle.chip_core.specs.Bits.{parity, places, binary}
 

@@ -1,8 +1,10 @@
 //! From symbols back to bits.
 
-ghost use Rattle.std.specs.Prelude.{◌≡◌, ◌<◌, ◌≤◌, ◌+◌, ◌*◌, ◌%◌, ℕ, Bool, false, List, [], ◌∷◌, ◌++◌, length, map, get_or, All, IfSome, IfNone};
+ghost use Rattle.std.specs.Prelude.{◌≡◌, ◌<◌, ◌≤◌, ◌+◌, ◌*◌, ◌%◌, ℕ, Bool, false, List, [], ◌∷◌};
+ghost use Rattle.std.specs.Prelude.{◌++◌, length, map, get_or, All, IfSome, IfNone};
 ghost use Rattle.chip_core.specs.Bits.{binary, parity};
-ghost use Rattle.conv_code.specs.ConvCode.{code_symbols, IsBitFor, IsOnlyStart, IsNoWordFrom, IsNoWord};
+ghost use Rattle.conv_code.specs.ConvCode.{code_symbols, IsBitFor, IsOnlyStart, IsNoWordFrom};
+ghost use Rattle.conv_code.specs.ConvCode.{IsNoWord};
 
 use crate::encoding::Register;
 use chip_core::Bits;

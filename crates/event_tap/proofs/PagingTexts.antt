@@ -1,7 +1,6 @@
 -- Lemmas on the lines of paging messages: the texts and the lengths of lists, and a line's parts.
-use Rattle.std.proofs.Common.{◌≡◌, ℕ, zero, suc, ◌^◌, ◌<◌, ◌≤◌, All, Some, refl, ap, ◌∙◌}
-use Rattle.std.proofs.Common.{List, [], ◌∷◌, ◌++◌, length, get_or, slice_get, codes, decimal}
-use Rattle.std.proofs.Common.{arith}
+use Rattle.std.proofs.Common.{◌≡◌, ℕ, zero, suc, ◌^◌, ◌<◌, ◌≤◌, All, Some, refl, ap, ◌∙◌, List, [], ◌∷◌, ◌++◌, length, get_or, slice_get}
+use Rattle.std.proofs.Common.{codes, decimal, arith}
 use Rattle.std.proofs.lemmas.Option.{get_or_from_slice_get, slice_get_within}
 use Rattle.paging_message.specs.Channels.{IsChannelList}
 use Rattle.paging_message.specs.Neighbors.{IsNeighborList}

@@ -1,9 +1,8 @@
 -- Lemmas on what lines of messages have in common: items joined by commas, values behind their
 -- names, and the text of few bits.
-use Rattle.std.proofs.Common.{◌≡◌, ℕ, zero, suc, ◌+◌, ◌*◌, ◌^◌, ◌<◌, ◌≤◌, ◌&&◌, nat_lt, Bool, true}
-use Rattle.std.proofs.Common.{All, List, [], ◌∷◌, Some, slice_get, ◌++◌, length, get_or, map, take, drop, codes}
-use Rattle.std.proofs.Common.{decimal, refl, sym, ap, ◌∙◌, arith, rules, append_assoc, append-nil}
-use Rattle.std.proofs.Common.{length-append, subst}
+use Rattle.std.proofs.Common.{◌≡◌, ℕ, zero, suc, ◌+◌, ◌*◌, ◌^◌, ◌<◌, ◌≤◌, ◌&&◌, nat_lt, Bool, true, All, List, [], ◌∷◌, Some, slice_get}
+use Rattle.std.proofs.Common.{◌++◌, length, get_or, map, take, drop, codes, decimal, refl, sym, ap, ◌∙◌, arith, rules, append_assoc}
+use Rattle.std.proofs.Common.{append-nil, length-append, subst}
 use Rattle.std.specs.List.{list_all}
 use Rattle.std.specs.Str.{IsAscii}
 use Rattle.std.proofs.lemmas.Bool.{and_parts}

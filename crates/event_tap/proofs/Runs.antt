@@ -1,15 +1,13 @@
 -- Lemmas on the text of a run: on events that follow one another, on taps that are no longer there,
 -- and on what a single tap, and the taps of a run without limits, write.
-use Rattle.std.proofs.Common.{◌≡◌, ℕ, zero, suc, ◌+◌, ◌-◌, ◌≤◌, ◌<◌, All, List, [], ◌∷◌, ◌++◌}
-use Rattle.std.proofs.Common.{length, take, Option, None, Some, refl, sym, ap, ◌∙◌, subst, arith}
-use Rattle.std.proofs.Common.{rules, append_assoc, append-nil}
+use Rattle.std.proofs.Common.{◌≡◌, ℕ, zero, suc, ◌+◌, ◌-◌, ◌≤◌, ◌<◌, All, List, [], ◌∷◌, ◌++◌, length, take, Option, None, Some, refl, sym}
+use Rattle.std.proofs.Common.{ap, ◌∙◌, subst, arith, rules, append_assoc, append-nil}
 use Rattle.std.proofs.lemmas.List.Elements.{All-append, All-cons, All-nil, All-head, All-tail}
 use Rattle.heard_events.specs.declared.event.Event.{Event}
 use Rattle.heard_events.specs.declared.event.Event.TheVariants.{Pilot, Sync, Paging, Frame, Traffic, Sets}
 use Rattle.event_tap.specs.EventLines.{event_line, text_of}
-use Rattle.event_tap.specs.Taps.{IsKept, KeptTap, form_line, form_lines, heard_text, joined}
-use Rattle.event_tap.specs.Taps.{kept_by, kept_with, left_behind, line_text, line_list, run_taps}
-use Rattle.event_tap.specs.Taps.{run_text, tap_behind, taps_behind}
+use Rattle.event_tap.specs.Taps.{IsKept, KeptTap, form_line, form_lines, heard_text, joined, kept_by, kept_with, left_behind, line_text}
+use Rattle.event_tap.specs.Taps.{line_list, run_taps, run_text, tap_behind, taps_behind}
 
 -- EVENTS THAT FOLLOW ONE ANOTHER
 

@@ -1,7 +1,6 @@
 -- Lemmas on the lines of traffic messages: the texts of records, and how many there are.
-use Rattle.std.proofs.Common.{◌≡◌, ℕ, zero, suc, ◌<◌, ◌≤◌, Some, refl, ap, ◌∙◌}
-use Rattle.std.proofs.Common.{List, [], ◌∷◌, ◌++◌, length, get_or, slice_get, codes, All, ◌^◌}
-use Rattle.std.proofs.Common.{arith, append_assoc, subst}
+use Rattle.std.proofs.Common.{◌≡◌, ℕ, zero, suc, ◌<◌, ◌≤◌, Some, refl, ap, ◌∙◌, List, [], ◌∷◌, ◌++◌, length, get_or, slice_get, codes, All}
+use Rattle.std.proofs.Common.{◌^◌, arith, append_assoc, subst}
 use Rattle.std.proofs.lemmas.Option.{get_or_from_slice_get, slice_get_within}
 use Rattle.traffic_message.specs.InTraffic.{in_traffic_values}
 use Rattle.traffic_message.specs.Messages.{IsOfKind, IsTrafficMessage, Message, bits_of}

@@ -7,7 +7,8 @@ use Rattle.event_tap.specs.PagingLines.{paging_line}
 use Rattle.event_tap.specs.SetsLines.{sets_line}
 use Rattle.event_tap.specs.TrafficLines.{traffic_line}
 use Rattle.heard_events.specs.declared.event.Event.{Event}
-use Rattle.heard_events.specs.declared.event.Event.TheVariants.{Pilot, Sync, Paging, Frame, Traffic, Sets}
+use Rattle.heard_events.specs.declared.event.Event.TheVariants.{Pilot, Sync, Paging, Frame, Traffic}
+use Rattle.heard_events.specs.declared.event.Event.TheVariants.{Sets}
 
 -- the line of an event
 unfoldable pub event_line : Event → List ℕ

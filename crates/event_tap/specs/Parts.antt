@@ -1,7 +1,7 @@
 -- What lines of messages have in common: values behind their names, items joined by commas, the
 -- bits at the end of a line, and the lines of capsules as they came.
-use Rattle.std.specs.Prelude.{ℕ, zero, suc, ◌^◌, ◌&&◌, Bool, List, [], ◌∷◌, ◌++◌, length}
-use Rattle.std.specs.Prelude.{codes, decimal, nat_lt}
+use Rattle.std.specs.Prelude.{ℕ, zero, suc, ◌^◌, ◌&&◌, Bool, List, [], ◌∷◌, ◌++◌, length, codes}
+use Rattle.std.specs.Prelude.{decimal, nat_lt}
 use Rattle.std.specs.List.{flat_map, list_all}
 use Rattle.line_text.specs.Texts.{bit_text, named}
 

@@ -1,7 +1,7 @@
 -- The slots of a sleeping handset (TIA/EIA-95-B, 6.6.2.1.1.3) behind a mark, by their times: the
 -- messages of a slot, and what is written of it.
-use Rattle.std.specs.Prelude.{ℕ, ◌+◌, ◌*◌, ◌/◌, ◌&&◌, Bool, nat_le, nat_lt, List, [], ◌++◌}
-use Rattle.std.specs.Prelude.{length, filter, ℤ, Option, None, Some}
+use Rattle.std.specs.Prelude.{ℕ, ◌+◌, ◌*◌, ◌/◌, ◌&&◌, Bool, nat_le, nat_lt, List, [], ◌++◌, length}
+use Rattle.std.specs.Prelude.{filter, ℤ, Option, None, Some}
 use Rattle.std.specs.List.{flat_map, list_all}
 use Rattle.std.specs.Option.{option_to_list}
 use Rattle.chip_core.specs.Bits.{places}
@@ -52,8 +52,8 @@ is_slot_within count s n slot =
     (λ i. is_in_file count s (frame_of_slot slot i) && nat_le (frame_of_slot_end s slot i) n)
     (places 4)
 
--- Whether it is heard in the first n samples: the handset monitors its time, the mark's data rate is
--- one of the two that a paging channel has, and its frames lie there.
+-- Whether it is heard in the first n samples: the handset monitors its time, the mark's data rate
+-- is one of the two that a paging channel has, and its frames lie there.
 abbrev pub is_heard : ℕ → ℕ → ℕ → Stream → Mark → ℕ → ℕ → Bool
 is_heard key cycle count s m n slot =
     is_monitored (m.time + slot) key cycle && nat_lt m.prat 2 && is_slot_within count s n slot

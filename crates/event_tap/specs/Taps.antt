@@ -5,7 +5,8 @@ use Rattle.std.specs.Prelude.{ℕ, ◌-◌, ◌≤◌, slice_index, nat_eq, Bool
 use Rattle.std.specs.Prelude.{◌++◌, map, codes, Option, None, Some}
 use Rattle.std.specs.List.{flat_map}
 use Rattle.heard_events.specs.declared.event.Event.{Event}
-use Rattle.heard_events.specs.declared.event.Event.TheVariants.{Pilot, Sync, Paging, Frame, Traffic, Sets}
+use Rattle.heard_events.specs.declared.event.Event.TheVariants.{Pilot, Sync, Paging, Frame, Traffic}
+use Rattle.heard_events.specs.declared.event.Event.TheVariants.{Sets}
 use Rattle.event_tap.specs.FrameLines.{frame_line}
 use Rattle.event_tap.specs.Lines.{pilot_line, sync_line}
 use Rattle.event_tap.specs.PagingLines.{paging_line}

@@ -1,5 +1,5 @@
--- The slots of a file of 1,228,800 samples whose mark lies at sample 688,128 and is time 1007, as the
--- checker computes them.
+-- The slots of a file of 1,228,800 samples whose mark lies at sample 688,128 and is time 1007, as
+-- the checker computes them.
 use Rattle.std.specs.Prelude.{◌≡◌, refl, ℕ, List, [], ◌∷◌, filter, ℤ, pos, negsuc, None}
 use Rattle.chip_core.specs.Bits.{places}
 use Rattle.chip_core.specs.declared.check_form.CheckForm.TheVariants.{Plain}

@@ -82,8 +82,8 @@ fn plain_form_of(event: &Event) -> u8
     }
 }
 
-/// Makes the text the line of the event where the form hears it, and else empty; answers how many of
-/// `left` events are left to hear behind it.
+/// Makes the text the line of the event where the form hears it, and else empty; answers how many
+/// of `left` events are left to hear behind it.
 fn hear_where(heard: bool, left: u32, event: &Event, out: &mut Text) -> u32
     requires { 1 ≤ left }
     ensures text { out.new ≡ line_text (if heard then Some (event_line event.now) else None) }

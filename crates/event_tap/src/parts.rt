@@ -1,7 +1,7 @@
 //! What the lines of messages have in common.
 
-ghost use Rattle.std.specs.Prelude.{◌≡◌, ◌<◌, ◌≤◌, ◌+◌, ◌*◌, ◌^◌, [], true};
-ghost use Rattle.std.specs.Prelude.{◌++◌, length, map, decimal, IsAscii};
+ghost use Rattle.std.specs.Prelude.{◌≡◌, ◌<◌, ◌≤◌, ◌+◌, ◌*◌, ◌^◌, [], true, ◌++◌, length, map};
+ghost use Rattle.std.specs.Prelude.{decimal, IsAscii};
 ghost use Rattle.chip_core.specs.Fields.{FieldsFit, in_widths};
 ghost use Rattle.event_tap.specs.Parts.{are_short, capsule_line, named_values, rest_text};
 ghost use Rattle.line_text.specs.Texts.{bit_text, named};

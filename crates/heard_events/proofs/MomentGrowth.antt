@@ -1,8 +1,8 @@
 -- What is kept behind each moment hangs on the samples before it.
-use Rattle.heard_events.proofs.Common.{◌≡◌, ℕ, zero, suc, ◌+◌, ◌<◌, ◌≤◌, ◌==◌, true, false, List, [], ◌∷◌, ◌++◌, length, take, refl, ap, ◌∙◌}
-use Rattle.heard_events.proofs.Common.{arith, nat_le, if◌then◌else◌, le-leb, lt-leb, take-append-le, Sample, Standing, heard_from, kept_to}
-use Rattle.heard_events.proofs.Common.{moment_place, moments_before, passed, sets_at, sets_events, all_noted, noted, Tuning, Event, Mark}
-use Rattle.heard_events.proofs.Common.{Traffic}
+use Rattle.heard_events.proofs.Common.{◌≡◌, ℕ, zero, suc, ◌+◌, ◌<◌, ◌≤◌, ◌==◌, true, false, List, [], ◌∷◌, ◌++◌, length, take, refl, ap}
+use Rattle.heard_events.proofs.Common.{◌∙◌, arith, nat_le, if◌then◌else◌, le-leb, lt-leb, take-append-le, Sample, Standing, heard_from}
+use Rattle.heard_events.proofs.Common.{kept_to, moment_place, moments_before, passed, sets_at, sets_events, all_noted, noted, Tuning, Event}
+use Rattle.heard_events.proofs.Common.{Mark, Traffic}
 
 -- the first samples of a file that goes on
 pub first_same : (xs ys : List Sample) (n : ℕ) → n ≤ length xs → take n (xs ++ ys) ≡ take n xs

@@ -1,6 +1,6 @@
 -- The next four scores of two states, lane by lane.
-use Rattle.std.specs.Prelude.{◌≡◌, ◌+◌, ◌*◌, ◌/◌, ◌%◌, ◌<◌, ℕ, length, get_or, Bool, List, [], ◌∷◌, map, set}
-use Rattle.std.specs.Prelude.{ℤ, pos, ◌+ℤ◌, ◌-ℤ◌, ◌≤ℤ◌, int_lt, unsigned_abs, FitsSigned}
+use Rattle.std.specs.Prelude.{◌≡◌, ◌+◌, ◌*◌, ◌/◌, ◌%◌, ◌<◌, ℕ, length, get_or, Bool, List, [], ◌∷◌}
+use Rattle.std.specs.Prelude.{map, set, ℤ, pos, ◌+ℤ◌, ◌-ℤ◌, ◌≤ℤ◌, int_lt, unsigned_abs, FitsSigned}
 use Rattle.std.specs.List.{range_with_len}
 use Rattle.std.specs.Int.{w64}
 use lib.Lanes.{Each1, Each2, zip2, put_chunk}

@@ -1,6 +1,6 @@
 -- Rows of choices, and the words that they lead back to.
-use Rattle.std.specs.Prelude.{ℕ, zero, suc, ◌+◌, ◌*◌, ◌/◌, ◌%◌, Bool, true, List, [], ◌∷◌}
-use Rattle.std.specs.Prelude.{◌++◌, length, get_or, ℤ, pos, nat_le, nat_eq, if◌then◌else◌}
+use Rattle.std.specs.Prelude.{ℕ, zero, suc, ◌+◌, ◌*◌, ◌/◌, ◌%◌, Bool, true, List, [], ◌∷◌, ◌++◌}
+use Rattle.std.specs.Prelude.{length, get_or, ℤ, pos, nat_le, nat_eq, if◌then◌else◌}
 use Rattle.std.specs.Int.{reverse_bits_onto}
 use Rattle.viterbi.specs.declared.word.Ends.{Ends}
 use Rattle.viterbi.specs.declared.word.Ends.TheVariants.{Zero, Free}

@@ -1,6 +1,7 @@
 -- The merge of two lists of sums turn by turn, without places: each turn takes the greater of the
 -- two heads, and moves both lists so that the next heads stand in front.
-use Rattle.std.specs.Prelude.{ℕ, zero, suc, ◌+◌, ◌*◌, Bool, List, [], ◌∷◌, get_or, map, ℤ, pos, int_lt}
+use Rattle.std.specs.Prelude.{ℕ, zero, suc, ◌+◌, ◌*◌, Bool, List, [], ◌∷◌, get_or, map, ℤ, pos}
+use Rattle.std.specs.Prelude.{int_lt}
 use Rattle.std.specs.Int.{w64}
 use mir.Val.{of_z, to_z}
 use Rattle.chip_core.specs.Bits.{digit}

@@ -4,18 +4,17 @@
 //! second, and so on. States `2 * b` and `2 * b + 1` are reached from the four states from `4 * b`
 //! on, and so are those 128 on.
 
-ghost use Rattle.std.specs.Prelude.{◌≡◌, ◌<◌, ◌≤◌, ◌+◌, ◌*◌, ◌^◌, ◌+ℤ◌, ℕ, []};
-ghost use Rattle.std.specs.Prelude.{int_lt, length, get_or, pos, replicate, true, unsigned_abs};
-ghost use Rattle.std.specs.Prelude.{FitsSigned};
+ghost use Rattle.std.specs.Prelude.{◌≡◌, ◌<◌, ◌≤◌, ◌+◌, ◌*◌, ◌^◌, ◌+ℤ◌, ℕ, [], int_lt, length};
+ghost use Rattle.std.specs.Prelude.{get_or, pos, replicate, true, unsigned_abs, FitsSigned};
 ghost use Rattle.std.specs.Int.{w64};
 ghost use lib.Lanes.{Each2, zip2, put_chunk};
 ghost use Rattle.viterbi.specs.Lanes.{Fit};
 ghost use Rattle.list_viterbi.specs.Turns.{choose, held};
-ghost use Rattle.list_viterbi.specs.Heads.{HeadsFit, less_heads, even_heads, odd_heads};
-ghost use Rattle.list_viterbi.specs.Heads.{RaisedFit, raised_heads, LoweredFit, lowered_heads};
-ghost use Rattle.list_viterbi.specs.Heads.{four_scores, four_choices, two_from, heads_from};
-ghost use Rattle.list_viterbi.specs.Heads.{HeadsLong, AreWeights, lane_sum, put_heads, put_choices};
-ghost use Rattle.list_viterbi.specs.Heads.{four_of, row_of, PairPicked};
+ghost use Rattle.list_viterbi.specs.Heads.{HeadsFit, less_heads, even_heads, odd_heads, RaisedFit};
+ghost use Rattle.list_viterbi.specs.Heads.{raised_heads, LoweredFit, lowered_heads, four_scores};
+ghost use Rattle.list_viterbi.specs.Heads.{four_choices, two_from, heads_from, HeadsLong};
+ghost use Rattle.list_viterbi.specs.Heads.{AreWeights, lane_sum, put_heads, put_choices, four_of};
+ghost use Rattle.list_viterbi.specs.Heads.{row_of, PairPicked};
 ghost use Rattle.list_viterbi.specs.Picks.{HasPicks, picks_into};
 
 use crate::gains::gains_of;

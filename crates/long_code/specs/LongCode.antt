@@ -1,6 +1,7 @@
 -- The long code of period 2^42 - 1 (TIA/EIA-95-B, 7.1.3.1.10), as powers of x modulo its
 -- polynomial, and its masks.
-use Rattle.std.specs.Prelude.{ℕ, ◌-◌, ◌^◌, ◌<◌, Bool, false, List, [], ◌∷◌, ◌++◌, replicate, map, reverse}
+use Rattle.std.specs.Prelude.{ℕ, ◌-◌, ◌^◌, ◌<◌, Bool, false, List, [], ◌∷◌, ◌++◌, replicate, map}
+use Rattle.std.specs.Prelude.{reverse}
 use Rattle.chip_core.specs.Bits.{number, binary, common_parity, bit_of}
 use Rattle.chip_core.specs.Polynomial.{coefficients, remainder}
 

@@ -3,8 +3,8 @@
 ghost use Rattle.std.specs.Prelude.{◌≡◌, ◌<◌, ◌^◌};
 ghost use Rattle.long_code.specs.LongCode.{after};
 
-/// What each two bits of a state are 64 chips later: row k is of bits 2k and 2k + 1, and its entry n
-/// is the product of n x^(2k) with x^64, where n stands for 0, 1, x and x + 1.
+/// What each two bits of a state are 64 chips later: row k is of bits 2k and 2k + 1, and its entry
+/// n is the product of n x^(2k) with x^64, where n stands for 0, 1, x and x + 1.
 const PRODUCTS: [[u64; 4]; 21] = [
     [0, 0x1fb_7e89_7f03, 0x3f6_fd12_fe06, 0x20d_839b_8105],
     [0, 0x3e7_744a_f8e3, 0x3c4_66fa_f529, 0x023_12b0_0dca],

@@ -1,9 +1,9 @@
 -- Loops over the fields of a table and over records: what holds after so many of them.
 use Rattle.message_layout.proofs.Common.{◌≡◌, ℕ, zero, suc, ◌+◌, ◌*◌, ◌<◌, ◌≤◌, Bool, List, [], ◌∷◌, ◌++◌, length, get_or, map, take, drop}
 use Rattle.message_layout.proofs.Common.{refl, sym, ap, ◌∙◌, arith, Some, None, le-leb, lt-leb, length-drop, length-take-le, take_all}
-use Rattle.message_layout.proofs.Common.{suc-mul, number, total, AreWidths, number_at, values_at, column_at, column_more, dropped}
-use Rattle.message_layout.proofs.Common.{subst, true, false, ◌^◌, field, in_widths, FieldsFit, taken_more}
-use Rattle.message_layout.proofs.Common.{length-column, total_more, total_room, values_more, width_within, count_in, fields_at}
+use Rattle.message_layout.proofs.Common.{suc-mul, number, total, AreWidths, number_at, values_at, column_at, column_more, dropped, subst}
+use Rattle.message_layout.proofs.Common.{true, false, ◌^◌, field, in_widths, FieldsFit, taken_more, length-column, total_more, total_room}
+use Rattle.message_layout.proofs.Common.{values_more, width_within, count_in, fields_at}
 use Rattle.message_layout.proofs.Columns.{fit_append}
 use Rattle.message_layout.proofs.Lawful.{count_room}
 

@@ -1,10 +1,10 @@
 -- Layouts without a group and without octets: what is said by one, spelled and read by places.
-use Rattle.message_layout.proofs.Common.{◌≡◌, ℕ, ◌+◌, ◌*◌, ◌/◌, ◌%◌, ◌≤◌, ◌&&◌, Bool, cond, List, [], ◌∷◌, ◌++◌, length}
-use Rattle.message_layout.proofs.Common.{map, drop, refl, sym, ap, ◌∙◌, nil_from_length, arith, nat_le, inl, inr, Option, Some, None, cases_Bool, le-leb}
-use Rattle.message_layout.proofs.Common.{div-add-mod', length-append, length-drop, length-in_widths, field, spelled, in_widths, total, FieldsFit, values_at, Field, binary}
-use Rattle.message_layout.proofs.Common.{height, record_fields, shares, columns_in, fields_at, group_at, number_part, octets_at}
-use Rattle.message_layout.proofs.Common.{part_at, presence_at, reading, records_at, plain_contents, plain_shape, spelling, HaveValues, IsOf}
-use Rattle.message_layout.proofs.Common.{IsRest, Contents}
+use Rattle.message_layout.proofs.Common.{◌≡◌, ℕ, ◌+◌, ◌*◌, ◌/◌, ◌%◌, ◌≤◌, ◌&&◌, Bool, cond, List, [], ◌∷◌, ◌++◌, length, map, drop, refl}
+use Rattle.message_layout.proofs.Common.{sym, ap, ◌∙◌, nil_from_length, arith, nat_le, inl, inr, Option, Some, None, cases_Bool, le-leb}
+use Rattle.message_layout.proofs.Common.{div-add-mod', length-append, length-drop, length-in_widths, field, spelled, in_widths, total}
+use Rattle.message_layout.proofs.Common.{FieldsFit, values_at, Field, binary, height, record_fields, shares, columns_in, fields_at}
+use Rattle.message_layout.proofs.Common.{group_at, number_part, octets_at, part_at, presence_at, reading, records_at, plain_contents}
+use Rattle.message_layout.proofs.Common.{plain_shape, spelling, HaveValues, IsOf, IsRest, Contents}
 use Rattle.message_layout.proofs.Columns.{length-records}
 use Rattle.message_layout.proofs.Messages.{no_columns, no_octets}
 

@@ -1,7 +1,7 @@
-//! Tests of messages and of pilot sets by what their crates make public, of what no clause says: the
-//! printed texts, the names of fields, and that a message of its own is read and written by a layout
-//! alone. What a message's bits are, clauses and worked values say. `tools/bench` times what reads and
-//! writes a message of each kind many times.
+//! Tests of messages and of pilot sets by what their crates make public, of what no clause says:
+//! the printed texts, the names of fields, and that a message of its own is read and written by a
+//! layout alone. What a message's bits are, clauses and worked values say. `tools/bench` times what
+//! reads and writes a message of each kind many times.
 //!
 //! They stand apart from the crates, so that each of those is proved once.
 #![tactic(auto)]

@@ -1,10 +1,10 @@
 -- What the channels behind the mark have still to give, as samples come.
-use Rattle.mobile_core.proofs.Common.{◌≡◌, ℕ, ◌+◌, ◌^◌, ◌<◌, ◌≤◌, List, [], ◌++◌, length, refl, sym, ap, subst, ◌∙◌, inl, inr}
-use Rattle.mobile_core.proofs.Common.{Option, Some, None, ForSome, option_map_or, arith, length-append, nat_lt}
-use Rattle.mobile_core.proofs.Common.{Sample, HearsFollowed, HearsFrames, HearsPages, IsFollowedDue, IsSoundFollowed, EndFrom}
-use Rattle.mobile_core.proofs.Common.{WaitFrom, followed_events_left, followed_heard, paging_events_left, AreNear, SetsMark, Tuning}
-use Rattle.mobile_core.proofs.Common.{sync_stream, Event, Followed, Mark, PagingReceiver, TrafficReceiver, IsSomeAnd, IsSoundPaging}
-use Rattle.mobile_core.proofs.Common.{IsSoundTraffic, IsTrafficDue, IsDueAt, IsUnheard, Traffic, append_assoc, bits_heard, listed, traffic_heard, traffic_events_left}
+use Rattle.mobile_core.proofs.Common.{◌≡◌, ℕ, ◌+◌, ◌^◌, ◌<◌, ◌≤◌, List, [], ◌++◌, length, refl, sym, ap, subst, ◌∙◌, inl, inr, Option, Some}
+use Rattle.mobile_core.proofs.Common.{None, ForSome, option_map_or, arith, length-append, nat_lt, Sample, HearsFollowed, HearsFrames}
+use Rattle.mobile_core.proofs.Common.{HearsPages, IsFollowedDue, IsSoundFollowed, EndFrom, WaitFrom, followed_events_left, followed_heard}
+use Rattle.mobile_core.proofs.Common.{paging_events_left, AreNear, SetsMark, Tuning, sync_stream, Event, Followed, Mark, PagingReceiver}
+use Rattle.mobile_core.proofs.Common.{TrafficReceiver, IsSomeAnd, IsSoundPaging, IsSoundTraffic, IsTrafficDue, IsDueAt, IsUnheard, Traffic}
+use Rattle.mobile_core.proofs.Common.{append_assoc, bits_heard, listed, traffic_heard, traffic_events_left}
 use Rattle.heard_events.proofs.FollowedEvents.{followed_behind, unrated}
 use Rattle.mobile_core.proofs.FramesFollowed.{frames_closed, frames_go, frames_more, told_few}
 use Rattle.mobile_core.proofs.GoesOn.{GoesOn, both, joined}

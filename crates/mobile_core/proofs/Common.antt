@@ -121,9 +121,10 @@ pub use borrow.Rule.Slice.PartMut.{post_of}
 pub use mir.Syntax.{w64, w8}
 pub use mir.Val.{SFits}
 pub use Rattle.mobile_core.specs.Clocks.{IsAt, IsDueAt, clock_from, first_frame, frame_come, frame_heard, span_from}
-pub use Rattle.mobile_core.specs.BehindMark.{FollowsPages, FollowsTraffic, IsUnheard, IsUnpaged, SetsMark, paging_due, paging_left, traffic_left}
-pub use Rattle.mobile_core.specs.FollowedChannels.{EndFrom, HearsFollowed, HearsFrames, HearsPages, IsFollowedDue, IsSoundFollowed, WaitFrom}
-pub use Rattle.mobile_core.specs.FollowedChannels.{followed_events_left, followed_heard, paging_events_left, traffic_events_left}
+pub use Rattle.mobile_core.specs.BehindMark.{FollowsPages, FollowsTraffic, IsUnheard, IsUnpaged, SetsMark, paging_due, paging_left}
+pub use Rattle.mobile_core.specs.BehindMark.{traffic_left}
+pub use Rattle.mobile_core.specs.FollowedChannels.{EndFrom, HearsFollowed, HearsFrames, HearsPages, IsFollowedDue, IsSoundFollowed}
+pub use Rattle.mobile_core.specs.FollowedChannels.{WaitFrom, followed_events_left, followed_heard, paging_events_left, traffic_events_left}
 pub use Rattle.mobile_core.specs.FrameReceiving.{HasGiven}
 pub use Rattle.mobile_core.specs.LegSofts.{sums_on}
 pub use Rattle.mobile_core.specs.PagingReceiving.{HearsBit, HearsPaging, IsSoundPaging, bit_passed, bits_heard}

@@ -1,12 +1,12 @@
 -- What a handset's traffic channel has still to give, as samples come.
 use Rattle.mobile_core.proofs.Common.{◌≡◌, ℕ, ◌+◌, ◌^◌, ◌<◌, ◌≤◌, ◌==◌, List, [], ◌++◌, length, refl, sym, ap, subst, ◌∙◌, arith, inl, inr}
-use Rattle.mobile_core.proofs.Common.{Option, Some, None, take, true, false, length-append, Bool, is_some, if◌then◌else◌, ForSome, IsSomeAnd}
-use Rattle.mobile_core.proofs.Common.{cases_lt, false_from_ne_true, ne_eqb, take_all, Sample, listed, frames_at, heard_from}
-use Rattle.mobile_core.proofs.Common.{kept_to, legs_at, legs_by, messages_at, moment_place, moments_before, sets_at}
-use Rattle.mobile_core.proofs.Common.{sets_events, pages_behind, coming_place, FollowsTraffic, HearsFrames, IsUnheard}
-use Rattle.mobile_core.proofs.Common.{traffic_left, traffic_events_left, if_followed, HearsTraffic, HearsWith, IsSoundTraffic, IsTrafficDue}
-use Rattle.mobile_core.proofs.Common.{at_of, ◌∷◌, kept_in, next_end, noted_by, sets_left_of, traffic_heard, WaitsAt, traffic_left_of, told_left_with}
-use Rattle.mobile_core.proofs.Common.{Tuning, Event, Leg, Mark, Traffic, TrafficReceiver}
+use Rattle.mobile_core.proofs.Common.{Option, Some, None, take, true, false, length-append, Bool, is_some, if◌then◌else◌, ForSome}
+use Rattle.mobile_core.proofs.Common.{IsSomeAnd, cases_lt, false_from_ne_true, ne_eqb, take_all, Sample, listed, frames_at, heard_from}
+use Rattle.mobile_core.proofs.Common.{kept_to, legs_at, legs_by, messages_at, moment_place, moments_before, sets_at, sets_events}
+use Rattle.mobile_core.proofs.Common.{pages_behind, coming_place, FollowsTraffic, HearsFrames, IsUnheard, traffic_left, traffic_events_left}
+use Rattle.mobile_core.proofs.Common.{if_followed, HearsTraffic, HearsWith, IsSoundTraffic, IsTrafficDue, at_of, ◌∷◌, kept_in, next_end}
+use Rattle.mobile_core.proofs.Common.{noted_by, sets_left_of, traffic_heard, WaitsAt, traffic_left_of, told_left_with, Tuning, Event, Leg}
+use Rattle.mobile_core.proofs.Common.{Mark, Traffic, TrafficReceiver}
 use Rattle.heard_events.proofs.FollowedEvents.{told_behind}
 use Rattle.mobile_core.proofs.FramesHeard.{none_come, none_kept, told_come, told_given, told_quiet}
 use Rattle.mobile_core.proofs.FramesTold.{hears_noted}

@@ -1,9 +1,9 @@
 -- What a handset's paging channel has still to give, as samples come.
-use Rattle.mobile_core.proofs.Common.{◌≡◌, ℕ, ◌+◌, ◌^◌, ◌<◌, ◌≤◌, List, [], ◌++◌, length, map, refl, sym, ap, ◌∙◌, arith, inl, inr}
-use Rattle.mobile_core.proofs.Common.{Option, Some, None, IfSome, is_some, nat_lt, ForSome, option_to_list, cases_lt, map-append, Sample}
-use Rattle.mobile_core.proofs.Common.{IsDueAt, page_event, pages_behind, FollowsPages, HearsPages, IsUnpaged, paging_due, paging_left}
-use Rattle.mobile_core.proofs.Common.{paging_events_left, HearsBit, HearsPaging, IsSoundPaging, IsSomeAnd, bits_heard, length-append, subst, pages_left, Tuning}
-use Rattle.mobile_core.proofs.Common.{Event, FrameClock, Mark, PagingReceiver, SpelledPage}
+use Rattle.mobile_core.proofs.Common.{◌≡◌, ℕ, ◌+◌, ◌^◌, ◌<◌, ◌≤◌, List, [], ◌++◌, length, map, refl, sym, ap, ◌∙◌, arith, inl, inr, Option}
+use Rattle.mobile_core.proofs.Common.{Some, None, IfSome, is_some, nat_lt, ForSome, option_to_list, cases_lt, map-append, Sample, IsDueAt}
+use Rattle.mobile_core.proofs.Common.{page_event, pages_behind, FollowsPages, HearsPages, IsUnpaged, paging_due, paging_left}
+use Rattle.mobile_core.proofs.Common.{paging_events_left, HearsBit, HearsPaging, IsSoundPaging, IsSomeAnd, bits_heard, length-append, subst}
+use Rattle.mobile_core.proofs.Common.{pages_left, Tuning, Event, FrameClock, Mark, PagingReceiver, SpelledPage}
 use Rattle.mobile_core.proofs.ClockSteps.{before_next, from_next}
 use Rattle.mobile_core.proofs.GoesOn.{GoesOn, never}
 use Rattle.heard_events.proofs.PageGrowth.{pages_left_all, pages_left_none, pages_none}

@@ -2,14 +2,14 @@
 use Rattle.mobile_core.proofs.Common.{◌≡◌, ℕ, ◌+◌, ◌<◌, ◌≤◌, false, ◌||◌, List, [], ◌∷◌, ◌++◌, length, length-append, refl, sym, ap, subst}
 use Rattle.mobile_core.proofs.Common.{◌∙◌, arith, inl, inr, Option, Some, None, Bool, true, IsTrue, is_some, flat_map, list_any, ForSome}
 use Rattle.mobile_core.proofs.Common.{option_or, both_ways, append_assoc, list_any-append, places-none, Sample, Best, Held, HoldsLast}
-use Rattle.mobile_core.proofs.Common.{IsDueAt, events_at, heard_within, events, EndFrom, HearsFollowed, IsFollowedDue, IsSoundFollowed, WaitFrom}
-use Rattle.mobile_core.proofs.Common.{followed_events_left, listed, pilot_left, sync_events_left, first_of, mark, mark_before, marks_at}
-use Rattle.mobile_core.proofs.Common.{sets_mark, AreNear, SetsMark, paging_events_left, IsSoundSync, Parts, Stands, is_in_file}
+use Rattle.mobile_core.proofs.Common.{IsDueAt, events_at, heard_within, events, EndFrom, HearsFollowed, IsFollowedDue, IsSoundFollowed}
+use Rattle.mobile_core.proofs.Common.{WaitFrom, followed_events_left, listed, pilot_left, sync_events_left, first_of, mark, mark_before}
+use Rattle.mobile_core.proofs.Common.{marks_at, sets_mark, AreNear, SetsMark, paging_events_left, IsSoundSync, Parts, Stands, is_in_file}
 use Rattle.mobile_core.proofs.Common.{sync_events_at, HearsSync, HearsNext, IsTimed, traffic_events_left, Tuning, sync_stream, Event, Pilot}
 use Rattle.mobile_core.proofs.Common.{Followed, Mark, SyncReceiver, flat_map-places-more}
 use Rattle.std.proofs.lemmas.List.{append-nil}
 use Rattle.mobile_core.proofs.ChannelsFollowed.{ends_later, followed_more, goes_on}
-use Rattle.heard_events.proofs.FollowedEvents.{followed_behind}
+use Rattle.heard_events.proofs.FollowedEvents.{followed_behind, told_unset}
 use Rattle.mobile_core.proofs.ClockSteps.{before_next, from_next, due_inside}
 use Rattle.heard_events.proofs.EventsGrown.{events_at_by}
 use Rattle.mobile_core.proofs.EventsCome.{events_grown}
@@ -17,7 +17,6 @@ use Rattle.heard_events.proofs.FrameTimes.{known_between, outside_low}
 use Rattle.heard_events.proofs.Growth.{left_all, left_none}
 use Rattle.heard_events.proofs.MarkGrowth.{mark_before_more, mark_before_none, mark_is}
 use Rattle.mobile_core.proofs.MarkAhead.{opens_later}
-use Rattle.heard_events.proofs.FollowedEvents.{told_unset}
 use Rattle.mobile_core.proofs.SyncHeard as sync
 
 or-false : (b : Bool) → (b || false) ≡ b

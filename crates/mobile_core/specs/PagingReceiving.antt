@@ -1,6 +1,6 @@
 -- What the receiver of a paging channel stands for.
-use Rattle.std.specs.Prelude.{◌≡◌, ℕ, ◌*◌, ◌+◌, ◌<◌, ◌≤◌, ◌^◌, if◌then◌else◌, List, ◌++◌}
-use Rattle.std.specs.Prelude.{length, nat_lt, take, Option}
+use Rattle.std.specs.Prelude.{◌≡◌, ℕ, ◌*◌, ◌+◌, ◌<◌, ◌≤◌, ◌^◌, if◌then◌else◌, List, ◌++◌, length}
+use Rattle.std.specs.Prelude.{nat_lt, take, Option}
 use Rattle.std.specs.Option.{option_to_list}
 use Rattle.chip_core.specs.declared.sample.Sample.{Sample}
 use Rattle.long_code.specs.LongCode.{paging_mask}

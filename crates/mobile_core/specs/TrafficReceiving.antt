@@ -1,7 +1,7 @@
 -- What the receiver of a traffic channel stands for.
 use Rattle.std.specs.Prelude.{◌≡◌, ◌⊎◌, ℕ, ◌+◌, ◌-◌, ◌*◌, ◌<◌, ◌≤◌, ◌^◌, true, List, ◌∷◌, ◌++◌}
-use Rattle.std.specs.Prelude.{length, take, sum_by, unsigned_abs, IsTrue, Option, Some, None, is_some}
-use Rattle.std.specs.Prelude.{min, if◌then◌else◌}
+use Rattle.std.specs.Prelude.{length, take, sum_by, unsigned_abs, IsTrue, Option, Some, None}
+use Rattle.std.specs.Prelude.{is_some, min, if◌then◌else◌}
 use Rattle.chip_core.specs.declared.sample.Sample.{Sample}
 use Rattle.frame_decoder.specs.TrafficFrames as frames
 use Rattle.long_code.specs.LongCode.{traffic_mask}

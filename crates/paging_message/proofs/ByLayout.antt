@@ -1,17 +1,18 @@
 -- What stands behind the message types, by its layouts.
-use Rattle.paging_message.proofs.Common.{◌≡◌, ◌≢◌, ℕ, zero, suc, ◌+◌, ◌-◌, ◌*◌, ◌/◌, ◌%◌, ◌^◌, ◌<◌, ◌≤◌, ◌==◌, ◌&&◌, Bool, true, false, cond}
-use Rattle.paging_message.proofs.Common.{List, [], ◌∷◌, ◌++◌, length, get_or, drop, refl, sym, ap, subst, ◌∙◌, arith, nat_le, inl}
-use Rattle.paging_message.proofs.Common.{inr, Option, Some, None, cases_Bool, cases_lt, eqb-false, eqb-true, ne_eqb, le-leb, lt-leb, length-append, length-drop}
-use Rattle.paging_message.proofs.Common.{mul_comm, append_assoc, length-binary, binary, places, field, spelled, in_widths, FieldsFit, Field}
-use Rattle.paging_message.proofs.Common.{map-places-all, dropped, spelled-append, values_at, FillsCapsule, M30, record_fields, count_in}
-use Rattle.paging_message.proofs.Common.{height, both_columns, first_column, no_columns, fields_reading, list_reading, list_said, list_told}
-use Rattle.paging_message.proofs.Common.{plain_back, plain_length, plain_of, plain_spelled, record_map, rest_back, mapped_cond, plain_contents, plain_shape, mapped}
-use Rattle.paging_message.proofs.Common.{reading, is_lawful, Shape, spelling, IsOf, Contents, admits, channel_body, channel_records}
-use Rattle.paging_message.proofs.Common.{IsChannelList, message_body, IsPagingMessage, neighbor_body, neighbor_records, IsNeighborList}
-use Rattle.paging_message.proofs.Common.{body_of_fields, system_values, system_widths, IsSystem, ChannelFields, NeighborFields}
-use Rattle.paging_message.proofs.Common.{OtherFields, SystemFields, PagingMessage, contents_of, kind_of, message_from, shape_of}
-use Rattle.paging_message.proofs.Common.{channel_contents, channels_from, neighbor_contents, neighbors_from, other_contents, other_from}
-use Rattle.paging_message.proofs.Common.{channel_values, channel_widths, neighbor_values, neighbor_widths, system_contents, system_from, channels_at, message_at, neighbors_at}
+use Rattle.paging_message.proofs.Common.{◌≡◌, ◌≢◌, ℕ, zero, suc, ◌+◌, ◌-◌, ◌*◌, ◌/◌, ◌%◌, ◌^◌, ◌<◌, ◌≤◌, ◌==◌, ◌&&◌, Bool, true, false}
+use Rattle.paging_message.proofs.Common.{cond, List, [], ◌∷◌, ◌++◌, length, get_or, drop, refl, sym, ap, subst, ◌∙◌, arith, nat_le, inl}
+use Rattle.paging_message.proofs.Common.{inr, Option, Some, None, cases_Bool, cases_lt, eqb-false, eqb-true, ne_eqb, le-leb, lt-leb}
+use Rattle.paging_message.proofs.Common.{length-append, length-drop, mul_comm, append_assoc, length-binary, binary, places, field, spelled}
+use Rattle.paging_message.proofs.Common.{in_widths, FieldsFit, Field, map-places-all, dropped, spelled-append, values_at, FillsCapsule, M30}
+use Rattle.paging_message.proofs.Common.{record_fields, count_in, height, both_columns, first_column, no_columns, fields_reading}
+use Rattle.paging_message.proofs.Common.{list_reading, list_said, list_told, plain_back, plain_length, plain_of, plain_spelled, record_map}
+use Rattle.paging_message.proofs.Common.{rest_back, mapped_cond, plain_contents, plain_shape, mapped, reading, is_lawful, Shape, spelling}
+use Rattle.paging_message.proofs.Common.{IsOf, Contents, admits, channel_body, channel_records, IsChannelList, message_body}
+use Rattle.paging_message.proofs.Common.{IsPagingMessage, neighbor_body, neighbor_records, IsNeighborList, body_of_fields, system_values}
+use Rattle.paging_message.proofs.Common.{system_widths, IsSystem, ChannelFields, NeighborFields, OtherFields, SystemFields, PagingMessage}
+use Rattle.paging_message.proofs.Common.{contents_of, kind_of, message_from, shape_of, channel_contents, channels_from, neighbor_contents}
+use Rattle.paging_message.proofs.Common.{neighbors_from, other_contents, other_from, channel_values, channel_widths, neighbor_values}
+use Rattle.paging_message.proofs.Common.{neighbor_widths, system_contents, system_from, channels_at, message_at, neighbors_at}
 use Rattle.paging_message.specs.System as system
 use Rattle.paging_message.specs.declared.message.PagingMessage.TheVariants as messages
 

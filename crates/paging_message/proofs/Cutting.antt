@@ -1,11 +1,11 @@
 -- One more bit of a stream of half-frames.
 use Rattle.paging_message.proofs.Common.{◌≡◌, ℕ, zero, suc, ◌+◌, ◌-◌, ◌*◌, ◌/◌, ◌%◌, ◌<◌, ◌≤◌, ◌==◌, Bool, true, false, cond, List, [], ◌∷◌}
 use Rattle.paging_message.proofs.Common.{◌++◌, length, map, take, drop, refl, sym, ap, ◌∙◌, arith, append_assoc, length-append, length-drop}
-use Rattle.paging_message.proofs.Common.{nat_lt, nat_le, if◌then◌else◌, inl, inr, Option, Some, None, IsTrue, IsSome, ◌↔◌, cases_lt}
-use Rattle.paging_message.proofs.Common.{eq-eqb, ne_eqb, append-nil, length-take-le, take-append-drop, take-append-le}
-use Rattle.paging_message.proofs.Common.{drop-append-le, drop_at, take_all, div-mul-add, mod-mul-add, div-add-mod, mod_self}
-use Rattle.paging_message.proofs.Common.{mul-add-mod_self_left, mul-le-mul_left, places, map-places-more, places-none, completed, continued}
-use Rattle.paging_message.proofs.Common.{Piece, piece, bodies, from_last_start, bodies-more, extended, from_last_start_more, from_last_start_new}
+use Rattle.paging_message.proofs.Common.{nat_lt, nat_le, if◌then◌else◌, inl, inr, Option, Some, None, IsTrue, IsSome, ◌↔◌, cases_lt, eq-eqb}
+use Rattle.paging_message.proofs.Common.{ne_eqb, append-nil, length-take-le, take-append-drop, take-append-le, drop-append-le, drop_at}
+use Rattle.paging_message.proofs.Common.{take_all, div-mul-add, mod-mul-add, div-add-mod, mod_self, mul-add-mod_self_left, mul-le-mul_left}
+use Rattle.paging_message.proofs.Common.{places, map-places-more, places-none, completed, continued, Piece, piece, bodies, from_last_start}
+use Rattle.paging_message.proofs.Common.{bodies-more, extended, from_last_start_more, from_last_start_new}
 use Rattle.paging_message.proofs.Chains.{ends_more, after, step, open_more, open_none, open_fuel}
 use Rattle.paging_message.specs.HalfFrames as halves
 

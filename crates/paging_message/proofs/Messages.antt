@@ -1,12 +1,11 @@
 -- Bodies of messages, spelled and read again.
-use Rattle.paging_message.proofs.Common.{◌≡◌, ℕ, ◌+◌, ◌%◌, ◌^◌, ◌<◌, ◌≤◌, ◌==◌, ◌&&◌, Bool, true, List, ◌++◌, length, drop, take}
-use Rattle.paging_message.proofs.Common.{refl, sym, ap, subst, ◌∙◌, arith, nat_le, inl, inr, Option, Some, None, IfSome, and_parts, and_from}
+use Rattle.paging_message.proofs.Common.{◌≡◌, ℕ, ◌+◌, ◌%◌, ◌^◌, ◌<◌, ◌≤◌, ◌==◌, ◌&&◌, Bool, true, List, ◌++◌, length, drop, take, refl, sym}
+use Rattle.paging_message.proofs.Common.{ap, subst, ◌∙◌, arith, nat_le, inl, inr, Option, Some, None, IfSome, and_parts, and_from}
 use Rattle.paging_message.proofs.Common.{cases_Bool, cases_lt, eq-eqb, eqb-true, le-leb, leb-true, length-append, binary, number}
-use Rattle.paging_message.proofs.Common.{length-binary, behind_front, front, number_front, number_at, FillsCapsule, M30}
-use Rattle.paging_message.proofs.Common.{guard_some, not_both, number_again, number_part, number_there, mapped, mapped_some}
-use Rattle.paging_message.proofs.Common.{reading, reading_again, reading_there, spelling, IsOf, Contents, Shape, admits, HasMessage, message_body, IsPagingMessage}
-use Rattle.paging_message.proofs.Common.{PagingMessage, contents_of, kind_of, message_from, shape_of, body_reading, is_body}
-use Rattle.paging_message.proofs.Common.{message_at}
+use Rattle.paging_message.proofs.Common.{length-binary, behind_front, front, number_front, number_at, FillsCapsule, M30, guard_some}
+use Rattle.paging_message.proofs.Common.{not_both, number_again, number_part, number_there, mapped, mapped_some, reading, reading_again}
+use Rattle.paging_message.proofs.Common.{reading_there, spelling, IsOf, Contents, Shape, admits, HasMessage, message_body, IsPagingMessage}
+use Rattle.paging_message.proofs.Common.{PagingMessage, contents_of, kind_of, message_from, shape_of, body_reading, is_body, message_at}
 use Rattle.paging_message.proofs.ByLayout.{admits_short, lawful, made_of, placed, says}
 use Rattle.paging_message.specs.declared.message.PagingMessage.TheVariants as messages
 

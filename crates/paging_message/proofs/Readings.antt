@@ -1,7 +1,7 @@
 -- Capsules read as messages.
-use Rattle.paging_message.proofs.Common.{◌≡◌, ◌-◌, Bool, List, length, take, drop, refl, Some, CheckForm}
-use Rattle.paging_message.proofs.Common.{M30, AreRead, if_spelled-again, if_spelled-there}
-use Rattle.paging_message.proofs.Common.{message_body, IsPagingMessage, paging_capsule, body_reading, paging_reading, PagingMessage}
+use Rattle.paging_message.proofs.Common.{◌≡◌, ◌-◌, Bool, List, length, take, drop, refl, Some, CheckForm, M30, AreRead, if_spelled-again}
+use Rattle.paging_message.proofs.Common.{if_spelled-there, message_body, IsPagingMessage, paging_capsule, body_reading, paging_reading}
+use Rattle.paging_message.proofs.Common.{PagingMessage}
 use Rattle.paging_message.proofs.Messages.{message_fills}
 pub use Rattle.paging_message.proofs.Messages.{body_is_read, reads_body}
 

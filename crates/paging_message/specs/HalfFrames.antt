@@ -1,6 +1,8 @@
 -- Half-frames of the paging channel (TIA/EIA-95-B, 7.7.2.1): the SCI bit, 1 where a capsule begins
 -- right behind it, and 95 bits of body at 9600 bits per second, or 47 at 4800.
-use Rattle.std.specs.Prelude.{◌≡◌, ℕ, zero, suc, ◌+◌, ◌-◌, ◌*◌, ◌/◌, ◌%◌, ◌==◌, if◌then◌else◌, ◌&&◌, Bool, List, [], ◌∷◌, length, map, take, drop, Option, Some, None, nat_le}
+use Rattle.std.specs.Prelude.{◌≡◌, ℕ, zero, suc, ◌+◌, ◌-◌, ◌*◌, ◌/◌, ◌%◌, ◌==◌, if◌then◌else◌, ◌&&◌}
+use Rattle.std.specs.Prelude.{Bool, List, [], ◌∷◌, length, map, take, drop, Option, Some, None}
+use Rattle.std.specs.Prelude.{nat_le}
 use Rattle.std.specs.List.{flat_map}
 use Rattle.std.specs.Option.{option_to_list}
 use Rattle.chip_core.specs.Bits.{places}

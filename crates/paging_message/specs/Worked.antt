@@ -1,16 +1,19 @@
 -- Worked values.
-use Rattle.std.specs.Prelude.{◌≡◌, refl, ◌+◌, ◌*◌, ◌-◌, Bool, true, false, List, [], ◌∷◌, ◌++◌, replicate, length, take, map, Some, None}
+use Rattle.std.specs.Prelude.{◌≡◌, refl, ◌+◌, ◌*◌, ◌-◌, Bool, true, false, List, [], ◌∷◌, ◌++◌}
+use Rattle.std.specs.Prelude.{replicate, length, take, map, Some, None}
 use Rattle.chip_core.specs.Bits.{number, binary, places}
 use Rattle.chip_core.specs.declared.check_form.CheckForm.TheVariants.{Plain}
 use Rattle.quality_bits.specs.Capsules.{capsule, is_stated}
 use Rattle.quality_bits.specs.declared.kind.Kind.TheVariants.{M30}
 use Rattle.quality_bits.specs.Quality.{check_bits}
 use Rattle.paging_message.specs.Channels.{channel_body}
-use Rattle.paging_message.specs.HalfFrames.{bits_left, ends_chain, half_frames, half_frame_capsule_ending}
+use Rattle.paging_message.specs.HalfFrames.{bits_left, ends_chain, half_frames}
+use Rattle.paging_message.specs.HalfFrames.{half_frame_capsule_ending}
 use Rattle.paging_message.specs.Laying.{Laid, laid_on, nothing_laid, half_frames_of, framed, fill}
 use Rattle.paging_message.specs.Messages.{paging_capsule}
 use Rattle.paging_message.specs.Admitted.{admits}
-use Rattle.paging_message.specs.Reading.{body_reading, channels_at, is_body, message_at, paging_reading}
+use Rattle.paging_message.specs.Reading.{body_reading, channels_at, is_body, message_at}
+use Rattle.paging_message.specs.Reading.{paging_reading}
 use Rattle.paging_message.specs.Spelling.{body_of_fields}
 use Rattle.paging_message.specs.declared.fields.ChannelFields.{ChannelFields}
 use Rattle.paging_message.specs.declared.message.PagingMessage.TheVariants.{Channels, Other}

@@ -1,6 +1,7 @@
 //! A long list of bits that needs no memory of its own.
 
-ghost use Rattle.std.specs.Prelude.{◌≡◌, ◌<◌, ◌≤◌, [], ◌∷◌, ◌++◌, length, slice_get, Some, IsOk, OnOk, OnErr, ◌↔◌, IsTrue};
+ghost use Rattle.std.specs.Prelude.{◌≡◌, ◌<◌, ◌≤◌, [], ◌∷◌, ◌++◌, length, slice_get, Some, IsOk};
+ghost use Rattle.std.specs.Prelude.{OnOk, OnErr, ◌↔◌, IsTrue};
 
 use chip_core::Full;
 use std::marker::Model;

@@ -1,7 +1,9 @@
 //! Capsules out of half-frames.
 
-ghost use Rattle.std.specs.Prelude.{◌≡◌, ◌≤◌, Bool, List, [], ◌∷◌, ◌++◌, Some, cond, nat_le, if◌then◌else◌};
-ghost use Rattle.paging_message.specs.HalfFrames.{half_frame_body, half_frame_capsule_ending, IsPagingRate, StandsFor};
+ghost use Rattle.std.specs.Prelude.{◌≡◌, ◌≤◌, Bool, List, [], ◌∷◌, ◌++◌, Some, cond, nat_le};
+ghost use Rattle.std.specs.Prelude.{if◌then◌else◌};
+ghost use Rattle.paging_message.specs.HalfFrames.{half_frame_body, half_frame_capsule_ending};
+ghost use Rattle.paging_message.specs.HalfFrames.{IsPagingRate, StandsFor};
 
 use chip_core::Bits;
 use quality_bits::{OpenCapsule, Rate};

@@ -1,8 +1,10 @@
 //! Capsules laid in half-frames.
 
-ghost use Rattle.std.specs.Prelude.{◌≡◌, ◌<◌, ◌≤◌, ◌+◌, ◌%◌, ◌==◌, if◌then◌else◌, Bool, List, [], length, IsTrue, ◌↔◌, cond};
+ghost use Rattle.std.specs.Prelude.{◌≡◌, ◌<◌, ◌≤◌, ◌+◌, ◌%◌, ◌==◌, if◌then◌else◌, Bool, List, []};
+ghost use Rattle.std.specs.Prelude.{length, IsTrue, ◌↔◌, cond};
 ghost use Rattle.paging_message.specs.HalfFrames.{bits_left, half_frame_body, IsPagingRate};
-ghost use Rattle.paging_message.specs.Laying.{bit_on, laid_on, left_in, nothing_laid, way_for, HasLaid, IsPlace, Laid};
+ghost use Rattle.paging_message.specs.Laying.{bit_on, laid_on, left_in, nothing_laid, way_for};
+ghost use Rattle.paging_message.specs.Laying.{HasLaid, IsPlace, Laid};
 
 use crate::half_bits::HalfBits;
 use crate::half_framer::body_bits;

@@ -1,8 +1,8 @@
 -- What the proofs of this crate cite of what lies below, and of its own definitions, passed on from one place.
 pub use Rattle.std.proofs.Common.{All, Bool, FitsSigned, List, None, Option, Some, [], add-one, ap, arith, below_more, drop, false, get_or}
-pub use Rattle.std.proofs.Common.{get_or-set_same, inl, inr, length, length-set, map, max, min, nat_eq, negsuc, of_z, pos, refl, rules, replicate, set}
-pub use Rattle.std.proofs.Common.{subst, suc, sym, take, to_z, true, true≢false, unsigned_abs, w16, w32, w64, w8, zero, ℕ, ℤ, ⊎_elim, ◌%◌}
-pub use Rattle.std.proofs.Common.{◌*ℤ◌, ◌*◌, ◌++◌, ◌+ℤ◌, ◌+◌, ◌-ℤ◌, ◌-◌, ◌/◌, ◌<◌, ◌^◌, ◌∙◌, ◌∷◌, ◌≡◌, ◌≢◌, ◌≤◌, ◌⊎◌}
+pub use Rattle.std.proofs.Common.{get_or-set_same, inl, inr, length, length-set, map, max, min, nat_eq, negsuc, of_z, pos, refl, rules}
+pub use Rattle.std.proofs.Common.{replicate, set, subst, suc, sym, take, to_z, true, true≢false, unsigned_abs, w16, w32, w64, w8, zero, ℕ}
+pub use Rattle.std.proofs.Common.{ℤ, ⊎_elim, ◌%◌, ◌*ℤ◌, ◌*◌, ◌++◌, ◌+ℤ◌, ◌+◌, ◌-ℤ◌, ◌-◌, ◌/◌, ◌<◌, ◌^◌, ◌∙◌, ◌∷◌, ◌≡◌, ◌≢◌, ◌≤◌, ◌⊎◌}
 pub use Rattle.std.proofs.Math.Facts.{Fits-of_z}
 pub use Rattle.std.proofs.Math.IntN.{+ℤ_assoc, neg_ℤ}
 pub use Rattle.std.proofs.Math.ListN.{get_or-map as map_at}
@@ -47,8 +47,8 @@ pub use Rattle.pilot_search.specs.BySigns.{across}
 unfoldable pub use Rattle.pilot_search.specs.BySigns.{correlation_with}
 pub use Rattle.pilot_search.specs.Found.{IsFound, better_of, start_of}
 pub use Rattle.pilot_search.specs.Knowledge.{IsHeld, Knowledge}
-pub use Rattle.pilot_search.specs.Lanes.{AreNear, AreProducts, AreShort, AreSums, AreUnits, IsShort, both, eight}
-pub use Rattle.pilot_search.specs.Lanes.{imaginary_lanes, parts, product_at, real_lanes, sample_at, signs_at, with_signs}
+pub use Rattle.pilot_search.specs.Lanes.{AreNear, AreProducts, AreShort, AreSums, AreUnits, IsShort, both, eight, imaginary_lanes, parts}
+pub use Rattle.pilot_search.specs.Lanes.{product_at, real_lanes, sample_at, signs_at, with_signs}
 pub use Rattle.pilot_search.specs.Near.{near_place, near_value, phase_at}
 unfoldable pub use Rattle.pilot_search.specs.Near.{near_deltas}
 pub use Rattle.pilot_search.specs.Ranked.{IsNext, IsRound, measured_at}

@@ -16,9 +16,9 @@ use std::marker::Model;
 /// point c + d j, and -d + c j.
 ///
 /// With I and Q of a sample i and q, the real part of its product with the conjugate of the chip's
-/// point is i c + q d, and the imaginary part q c - i d: i and q each times a part of the point, and
-/// each times a part of the point that is turned. All values of this type hold the same points, and
-/// contracts see the signs.
+/// point is i c + q d, and the imaginary part q c - i d: i and q each times a part of the point,
+/// and each times a part of the point that is turned. All values of this type hold the same points,
+/// and contracts see the signs.
 #[derive(Drop)]
 pub(crate) struct Points {
     straight: Vec<Sample>,

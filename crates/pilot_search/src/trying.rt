@@ -17,8 +17,8 @@ use chip_core::air::CODE_CHIPS;
 use chip_core::{Pair, Phase, Sample};
 use short_code::Codes;
 
-/// How many chunks are added up, at least, from one look at the bound to the next, where so many are
-/// left.
+/// How many chunks are added up, at least, from one look at the bound to the next, where so many
+/// are left.
 const STRIDE: u16 = 4;
 
 /// The greatest energy that these sums can lead to, where each part may still change by so much.

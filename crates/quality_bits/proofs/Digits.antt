@@ -1,5 +1,6 @@
 -- Numbers and their digits: the low ones alone, and inversions.
-use Rattle.std.proofs.Common.{◌≡◌, ℕ, zero, suc, ◌+◌, ◌*◌, ◌%◌, ◌^◌, Bool, true, false, not, List, [], ◌∷◌, length, map, replicate, sym, ap, ◌∙◌, arith}
+use Rattle.std.proofs.Common.{◌≡◌, ℕ, zero, suc, ◌+◌, ◌*◌, ◌%◌, ◌^◌, Bool, true, false, not, List, [], ◌∷◌, length, map, replicate, sym, ap}
+use Rattle.std.proofs.Common.{◌∙◌, arith}
 use Rattle.chip_core.specs.Bits.{number, number_from, binary}
 use Rattle.chip_core.proofs.Numerals.{binary-number_from}
 use Rattle.chip_core.proofs.Digits.{binary-low}

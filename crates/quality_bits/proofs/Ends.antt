@@ -1,5 +1,6 @@
 -- Lists that end with their check.
-use Rattle.std.proofs.Common.{◌≡◌, ℕ, ◌<◌, Bool, not, List, [], ◌∷◌, ◌++◌, length, map, refl, sym, ap, ◌∙◌, arith, nat_eq, suc, length-append}
+use Rattle.std.proofs.Common.{◌≡◌, ℕ, ◌<◌, Bool, not, List, [], ◌∷◌, ◌++◌, length, map, refl, sym, ap, ◌∙◌, arith, nat_eq, suc}
+use Rattle.std.proofs.Common.{length-append}
 use Rattle.std.specs.Prelude.{◌↔◌, IsTrue, Option, None, Some}
 use Rattle.std.proofs.lemmas.List.{take_at, drop_at}
 use Rattle.std.proofs.lemmas.Bool.{eqb-true, eq-eqb}
@@ -9,8 +10,7 @@ use Rattle.chip_core.specs.declared.check_form.CheckForm.TheVariants.{Plain, Com
 use Rattle.quality_bits.specs.declared.kind.Kind.{Kind}
 use Rattle.quality_bits.specs.declared.kind.Kind.TheVariants.{Q6, Q8, Q10, Q12, M16, M30}
 use Rattle.quality_bits.specs.Quality.{check_bits}
-use Rattle.quality_bits.specs.Kinds.{generator_of, sent_check, body_length, IsChecked}
-use Rattle.quality_bits.specs.Kinds.{quality_indicator, quality_length}
+use Rattle.quality_bits.specs.Kinds.{generator_of, sent_check, body_length, IsChecked, quality_indicator, quality_length}
 use Rattle.quality_bits.proofs.Digits.{number_injective}
 use Rattle.quality_bits.proofs.Steps.{length-check_bits}
 

@@ -1,6 +1,8 @@
 -- What a capsule's first bits say, and what more bits change.
-use Rattle.std.proofs.Common.{◌≡◌, ℕ, ◌+◌, ◌*◌, ◌<◌, ◌≤◌, Bool, true, false, not, ◌&&◌, List, [], ◌∷◌, ◌++◌, length, take, drop, ◌-◌, refl, sym, ap, ◌∙◌, arith, length-append, nat_lt, nat_le, ◌⊎◌, inl, inr, Option, Some, None, append_assoc}
-use Rattle.std.proofs.lemmas.Bool.{cases_lt, cases_Bool, lt-ltb, le-ltb, le-leb, lt-leb, leb-true, leb-false, ltb-true, ltb-false, and_parts, and_cases, or_parts, or_cases, not-false, not-true, false_from_ne_true, and_right}
+use Rattle.std.proofs.Common.{◌≡◌, ℕ, ◌+◌, ◌*◌, ◌<◌, ◌≤◌, Bool, true, false, not, ◌&&◌, List, [], ◌∷◌, ◌++◌, length, take, drop, ◌-◌, refl}
+use Rattle.std.proofs.Common.{sym, ap, ◌∙◌, arith, length-append, nat_lt, nat_le, ◌⊎◌, inl, inr, Option, Some, None, append_assoc}
+use Rattle.std.proofs.lemmas.Bool.{cases_lt, cases_Bool, lt-ltb, le-ltb, le-leb, lt-leb, leb-true, leb-false, ltb-true, ltb-false}
+use Rattle.std.proofs.lemmas.Bool.{and_parts, and_cases, or_parts, or_cases, not-false, not-true, false_from_ne_true, and_right}
 use Rattle.std.proofs.lemmas.List.{take-append-le, append-nil}
 use Rattle.chip_core.specs.Bits.{number}
 use Rattle.std.specs.Option.{option_or, IfSome}

@@ -1,5 +1,6 @@
 -- Message capsules: the length in octets, the body, and the check of both.
-use Rattle.std.specs.Prelude.{ℕ, ◌+◌, ◌*◌, ◌/◌, ◌≤◌, ◌≡◌, Bool, if◌then◌else◌, not, ◌&&◌, ◌||◌, List, ◌++◌, length, take, Option, Some, None, nat_lt, nat_le}
+use Rattle.std.specs.Prelude.{ℕ, ◌+◌, ◌*◌, ◌/◌, ◌≤◌, ◌≡◌, Bool, if◌then◌else◌, not, ◌&&◌, ◌||◌}
+use Rattle.std.specs.Prelude.{List, ◌++◌, length, take, Option, Some, None, nat_lt, nat_le}
 use Rattle.chip_core.specs.Bits.{are_same, number, binary}
 use Rattle.chip_core.specs.declared.check_form.CheckForm.{CheckForm}
 use Rattle.quality_bits.specs.Kinds.{generator_of, sent_check}

@@ -1,6 +1,7 @@
 -- Capsules in a stream of pieces: sync frames, paging half-frames, or the signaling parts of
 -- traffic frames.
-use Rattle.std.specs.Prelude.{◌≡◌, ◌-◌, Bool, false, cond, if◌then◌else◌, List, [], ◌∷◌, length, map, take, Option, None, nat_lt, nat_le}
+use Rattle.std.specs.Prelude.{◌≡◌, ◌-◌, Bool, false, cond, if◌then◌else◌, List, [], ◌∷◌, length}
+use Rattle.std.specs.Prelude.{map, take, Option, None, nat_lt, nat_le}
 use Rattle.std.specs.List.{flat_map}
 use Rattle.quality_bits.specs.Capsules.{stated_bits, front_capsule, still_open}
 

@@ -1,5 +1,5 @@
--- The rates of rate set 1, and the bits of the frames of its traffic channels (TIA/EIA-95-B, 7.1.3.1.4
--- and 7.1.3.5).
+-- The rates of rate set 1, and the bits of the frames of its traffic channels (TIA/EIA-95-B,
+-- 7.1.3.1.4 and 7.1.3.5).
 use Rattle.std.specs.Prelude.{ℕ, Bool, false, List, ◌++◌, replicate, Option, Some, None}
 use Rattle.quality_bits.specs.Kinds.{quality_indicator}
 use Rattle.quality_bits.specs.declared.kind.Kind.{Kind}

@@ -1,5 +1,6 @@
 -- Worked values.
-use Rattle.std.specs.Prelude.{◌≡◌, refl, Bool, true, false, List, [], ◌∷◌, ◌++◌, replicate, take, map, Some, None}
+use Rattle.std.specs.Prelude.{◌≡◌, refl, Bool, true, false, List, [], ◌∷◌, ◌++◌, replicate, take}
+use Rattle.std.specs.Prelude.{map, Some, None}
 use Rattle.std.specs.List.{flat_map}
 use Rattle.chip_core.specs.Bits.{number, binary, places}
 use Rattle.chip_core.specs.declared.check_form.CheckForm.TheVariants.{Plain}

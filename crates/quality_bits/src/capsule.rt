@@ -3,9 +3,11 @@
 //!
 //! MSG_LENGTH counts octets, its own and the check's among them: 5 to 148.
 
-ghost use Rattle.std.specs.Prelude.{◌≡◌, ◌↔◌, ◌≤◌, ◌<◌, ◌+◌, Bool, List, length, IfOk, SomeIff, IsTrue};
+ghost use Rattle.std.specs.Prelude.{◌≡◌, ◌↔◌, ◌≤◌, ◌<◌, ◌+◌, Bool, List, length, IfOk, SomeIff};
+ghost use Rattle.std.specs.Prelude.{IsTrue};
 ghost use Rattle.quality_bits.specs.Kinds.{IsChecked, generator_of};
-ghost use Rattle.quality_bits.specs.Capsules.{FillsCapsule, capsule, IsWhole, is_stated, stated_bits};
+ghost use Rattle.quality_bits.specs.Capsules.{FillsCapsule, capsule, IsWhole, is_stated};
+ghost use Rattle.quality_bits.specs.Capsules.{stated_bits};
 
 use crate::checking::{append_check, check};
 use crate::kind::Kind;
@@ -45,7 +47,8 @@ pub fn body_of(kind: Kind, form: CheckForm, bits: &Bits) -> Result<Bits, Capsule
     ensures bad_length { (result ≡ Err CapsuleFault.BadLength) ↔ ¬ (IsWhole bits.now) }
     ensures bad_check { (result ≡ Err CapsuleFault.BadCheck) ↔
         (IsWhole bits.now × ¬ (IsChecked kind form bits.now)) }
-    ensures found { IfOk result (λ body. FillsCapsule kind body × (bits.now ≡ capsule kind form body)) }
+    ensures found { IfOk result (λ body. FillsCapsule kind body × (bits.now ≡ capsule kind form
+        body)) }
     ensures only { (body : List Bool) → FillsCapsule kind body → bits.now ≡ capsule kind form body →
         result ≡ Ok body }
 {

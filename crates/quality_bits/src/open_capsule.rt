@@ -1,6 +1,7 @@
 //! The capsule that a stream of bits has begun.
 
-ghost use Rattle.std.specs.Prelude.{◌≡◌, ◌≤◌, ◌↔◌, Bool, true, cond, List, [], ◌∷◌, ◌++◌, drop, length, map, IsTrue, IsSome, Some, None, IfSome};
+ghost use Rattle.std.specs.Prelude.{◌≡◌, ◌≤◌, ◌↔◌, Bool, true, cond, List, [], ◌∷◌, ◌++◌, drop};
+ghost use Rattle.std.specs.Prelude.{length, map, IsTrue, IsSome, Some, None, IfSome};
 ghost use Rattle.quality_bits.specs.Capsules.{front_capsule, awaits_more, continued, completed};
 ghost use Rattle.quality_bits.specs.Pieces.{piece, capsule_ending, StandsFor};
 

@@ -1,5 +1,6 @@
 -- Soft values: from sums to the definitions, and their bounds.
-use Rattle.std.proofs.Common.{◌≡◌, ℕ, suc, ◌+◌, ◌*◌, ◌/◌, ◌^◌, ◌≤◌, false, List, [], ◌∷◌, refl, ap, ◌∙◌, arith, ℤ, pos, ◌+ℤ◌, ◌*ℤ◌, unsigned_abs, FitsSigned, to_z, of_z, w64}
+use Rattle.std.proofs.Common.{◌≡◌, ℕ, suc, ◌+◌, ◌*◌, ◌/◌, ◌^◌, ◌≤◌, false, List, [], ◌∷◌, refl, ap, ◌∙◌, arith, ℤ, pos, ◌+ℤ◌, ◌*ℤ◌}
+use Rattle.std.proofs.Common.{unsigned_abs, FitsSigned, to_z, of_z, w64}
 use Rattle.std.proofs.lemmas.Int.{ints, to_z-of_z, fits_signed_mul, unsigned_abs-mul}
 use Rattle.std.proofs.lemmas.Nat.{mul-le}
 use Rattle.chip_core.specs.Bits.{binary}
@@ -11,7 +12,8 @@ use Rattle.walsh.specs.Walsh.{IsWithin, walsh}
 use Rattle.rake_finger.specs.declared.finger.Finger.{Finger}
 use Rattle.rake_finger.specs.declared.form.Form.{Form}
 use Rattle.rake_finger.specs.declared.form.Form.TheVariants.{Sync, Data}
-use Rattle.rake_finger.specs.Soft.{symbol_chips, window_chips, finger_place, covered_from, despread_at, pilot_sum, symbol_sum, turned_part, soft, soft_bound}
+use Rattle.rake_finger.specs.Soft.{symbol_chips, window_chips, finger_place, covered_from, despread_at, pilot_sum, symbol_sum, turned_part}
+use Rattle.rake_finger.specs.Soft.{soft, soft_bound}
 use Rattle.rake_finger.proofs.CoveredSums.{same_parts}
 
 -- the pilot's row has no 1

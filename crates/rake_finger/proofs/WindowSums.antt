@@ -1,5 +1,6 @@
 -- The sums of a window, symbol by symbol.
-use Rattle.std.proofs.Common.{◌≡◌, ◌≢◌, ℕ, ◌+◌, ◌*◌, ◌<◌, ◌≤◌, List, length, get_or, take, drop, sym, ap, ◌∙◌, subst, arith, below_more, ℤ, ◌+ℤ◌, unsigned_abs, FitsSigned, to_z, of_z, w64}
+use Rattle.std.proofs.Common.{◌≡◌, ◌≢◌, ℕ, ◌+◌, ◌*◌, ◌<◌, ◌≤◌, List, length, get_or, take, drop, sym, ap, ◌∙◌, subst, arith, below_more, ℤ}
+use Rattle.std.proofs.Common.{◌+ℤ◌, unsigned_abs, FitsSigned, to_z, of_z, w64}
 use Rattle.std.proofs.Math.ListN.{set}
 use Rattle.std.proofs.Math.Seq.{take-add}
 use Rattle.std.proofs.lemmas.Int.{ints, fits_signed_from_abs, to_z-of_z}

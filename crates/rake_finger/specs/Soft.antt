@@ -1,5 +1,6 @@
 -- Soft values of fingers: what a symbol's chips add up to, turned by the pilot.
-use Rattle.std.specs.Prelude.{ℕ, suc, ◌+◌, ◌*◌, ◌/◌, ◌%◌, ◌^◌, List, [], ◌∷◌, map, take, drop, ℤ, pos, ◌-ℤ◌, unsigned_abs}
+use Rattle.std.specs.Prelude.{ℕ, suc, ◌+◌, ◌*◌, ◌/◌, ◌%◌, ◌^◌, List, [], ◌∷◌, map, take, drop, ℤ}
+use Rattle.std.specs.Prelude.{pos, ◌-ℤ◌, unsigned_abs}
 use Rattle.chip_core.specs.Bits.{sign, places}
 use Rattle.chip_core.specs.Complex.{times, conjugate, sum_of}
 use Rattle.chip_core.specs.Sums.{total}

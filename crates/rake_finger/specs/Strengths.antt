@@ -1,5 +1,6 @@
 -- The strength of a pilot, and the power of the samples, before a moment.
-use Rattle.std.specs.Prelude.{ℕ, ◌+◌, ◌-◌, ◌/◌, ◌≤◌, ◌≡◌, List, take, drop, sum_by, ℤ, pos, ◌-ℤ◌, unsigned_abs}
+use Rattle.std.specs.Prelude.{ℕ, ◌+◌, ◌-◌, ◌/◌, ◌≤◌, ◌≡◌, List, take, drop, sum_by, ℤ, pos, ◌-ℤ◌}
+use Rattle.std.specs.Prelude.{unsigned_abs}
 use Rattle.chip_core.specs.Complex.{norm, of_sample}
 use Rattle.chip_core.specs.Sums.{IsFirstGreatest, first_greatest}
 use Rattle.chip_core.specs.declared.sample.Sample.{Sample}

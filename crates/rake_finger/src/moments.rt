@@ -5,7 +5,8 @@ ghost use Rattle.chip_core.specs.Sums.{square};
 ghost use Rattle.chip_core.specs.declared.sample.Sample.{Sample};
 ghost use Rattle.rake_finger.specs.Held.{HoldsLast};
 ghost use Rattle.rake_finger.specs.InRing.{HoldsBefore};
-ghost use Rattle.rake_finger.specs.Strengths.{samples_before as samples_before_of, sample_power, IsNarrow};
+ghost use Rattle.rake_finger.specs.Strengths.{samples_before as samples_before_of, sample_power};
+ghost use Rattle.rake_finger.specs.Strengths.{IsNarrow};
 
 use crate::ring::SampleRing;
 use chip_core::Sample;

@@ -1,6 +1,7 @@
 //! Sums of despread samples.
 
-ghost use Rattle.std.specs.Prelude.{◌≡◌, ◌<◌, ◌≤◌, ◌+◌, ◌*◌, ◌%◌, ◌^◌, ℕ, List, pos, ◌*ℤ◌, unsigned_abs};
+ghost use Rattle.std.specs.Prelude.{◌≡◌, ◌<◌, ◌≤◌, ◌+◌, ◌*◌, ◌%◌, ◌^◌, ℕ, List, pos, ◌*ℤ◌};
+ghost use Rattle.std.specs.Prelude.{unsigned_abs};
 ghost use Rattle.chip_core.specs.Bits.{sign};
 ghost use Rattle.chip_core.specs.Complex.{times, conjugate, point, sum_of, of_sample};
 ghost use Rattle.chip_core.specs.declared.sample.Sample.{Sample};

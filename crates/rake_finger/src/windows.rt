@@ -7,7 +7,8 @@ ghost use Rattle.walsh.specs.Walsh.{IsWithin};
 ghost use Rattle.rake_finger.specs.Held.{HoldsLast};
 ghost use Rattle.rake_finger.specs.InRing.{IsInRing};
 ghost use Rattle.rake_finger.specs.RowSigns.{AreRowSigns};
-ghost use Rattle.rake_finger.specs.Soft.{symbol_chips, window_chips, windows, window_symbols, pilot_sum, symbol_sum};
+ghost use Rattle.rake_finger.specs.Soft.{symbol_chips, window_chips, windows, window_symbols};
+ghost use Rattle.rake_finger.specs.Soft.{pilot_sum, symbol_sum};
 
 use crate::finger::Finger;
 use crate::form::Form;

@@ -1,6 +1,5 @@
 -- Numbers of 64 bits that were handed on.
-use Rattle.std.proofs.Common.{◌≡◌, ◌≤◌, ◌+◌, ℕ, List, Bool, ℤ, unsigned_abs}
-use Rattle.std.proofs.Common.{to_z, of_z, w64, ◌∙◌}
+use Rattle.std.proofs.Common.{◌≡◌, ◌≤◌, ◌+◌, ℕ, List, Bool, ℤ, unsigned_abs, to_z, of_z, w64, ◌∙◌}
 use Rattle.std.proofs.lemmas.Int.{to_z-of_z}
 use mir.Val.{SFits}
 use Rattle.viterbi.specs.Survivors.{gain_of}

@@ -1,8 +1,8 @@
 //! The decoder that keeps a survivor's whole word in each state: plain and slow, under the contract
 //! of `Decoder`, beside which it is timed.
 
-ghost use Rattle.std.specs.Prelude.{◌≡◌, ◌≤◌, ◌*◌, ◌%◌, ◌^◌, length, vec_len};
-ghost use Rattle.std.specs.Prelude.{sum_by, unsigned_abs, IfOk};
+ghost use Rattle.std.specs.Prelude.{◌≡◌, ◌≤◌, ◌*◌, ◌%◌, ◌^◌, length, vec_len, sum_by, unsigned_abs};
+ghost use Rattle.std.specs.Prelude.{IfOk};
 ghost use Rattle.chip_core.specs.Bits.{binary};
 ghost use Rattle.conv_code.specs.ConvCode.{code_symbols};
 ghost use Rattle.viterbi.specs.Words.{correlation};

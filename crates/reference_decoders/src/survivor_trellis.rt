@@ -2,8 +2,8 @@
 
 ghost use Rattle.std.specs.Prelude.{◌≡◌, ◌<◌, ◌≤◌, ◌+◌, ◌^◌, ℕ, length, get_or, unsigned_abs};
 ghost use Rattle.std.specs.Prelude.{IfSome};
-ghost use Rattle.viterbi.specs.Survivors.{Start, HasRoom, extended_by, better_of};
-ghost use Rattle.viterbi.specs.Survivors.{survivor_into, first_best, end_count};
+ghost use Rattle.viterbi.specs.Survivors.{Start, HasRoom, extended_by, better_of, survivor_into};
+ghost use Rattle.viterbi.specs.Survivors.{first_best, end_count};
 
 use crate::states::{gain, is_start, longer};
 use chip_core::Bits;

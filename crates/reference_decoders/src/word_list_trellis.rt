@@ -4,8 +4,8 @@
 //! 7. State `s` is reached from the states `2 * (s % 128)` and `2 * (s % 128) + 1`, whose oldest
 //! bits are 0 and 1.
 
-ghost use Rattle.std.specs.Prelude.{◌≡◌, ◌<◌, ◌≤◌, ◌+◌, ◌^◌, ℕ, [], length, get_or};
-ghost use Rattle.std.specs.Prelude.{unsigned_abs, All};
+ghost use Rattle.std.specs.Prelude.{◌≡◌, ◌<◌, ◌≤◌, ◌+◌, ◌^◌, ℕ, [], length, get_or, unsigned_abs};
+ghost use Rattle.std.specs.Prelude.{All};
 ghost use Rattle.viterbi.specs.Survivors.{end_count};
 ghost use Rattle.list_viterbi.specs.Merging.{Start, HasRoom, list_into, first_lists};
 

@@ -14,9 +14,11 @@ fn signed(branch: i16, sign: i8) -> i32
     i32::from(branch) * i32::from(sign)
 }
 
-/// A sample times the conjugate of the codes' point with these signs: +1 for a chip 0 and -1 for a 1.
+/// A sample times the conjugate of the codes' point with these signs: +1 for a chip 0 and -1 for a
+/// 1.
 ///
-/// TIA/EIA-95-B, 7.1.3.1.9: a cell multiplies what it sends by the point, so the product takes the codes off again.
+/// TIA/EIA-95-B, 7.1.3.1.9: a cell multiplies what it sends by the point, so the product takes the
+/// codes off again.
 pub fn despread(sample: Sample, signs: (i8, i8)) -> Pair
     requires { IsUnit signs }
     ensures value { result ≡ turned sample signs }

@@ -1,5 +1,6 @@
 -- The fields of a message, and how many bits its body has.
-use Rattle.std.proofs.Common.{◌≡◌, ℕ, ◌+◌, ◌*◌, ◌/◌, ◌%◌, ◌^◌, ◌<◌, ◌≤◌, Bool, List, [], ◌∷◌, ◌++◌, length, refl, ap, ◌∙◌, arith, append_assoc, length-append, Option, Some, None, IsNone, IsSome, ◌⊎◌, inl, inr}
+use Rattle.std.proofs.Common.{◌≡◌, ℕ, ◌+◌, ◌*◌, ◌/◌, ◌%◌, ◌^◌, ◌<◌, ◌≤◌, Bool, List, [], ◌∷◌, ◌++◌, length, refl, ap, ◌∙◌, arith}
+use Rattle.std.proofs.Common.{append_assoc, length-append, Option, Some, None, IsNone, IsSome, ◌⊎◌, inl, inr}
 use Rattle.chip_core.specs.Bits.{binary}
 use Rattle.chip_core.specs.Fields.{field, spelled, in_widths, FieldsFit}
 use Rattle.chip_core.proofs.FieldLists.{length-binary, spelled-append}

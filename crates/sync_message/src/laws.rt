@@ -1,6 +1,7 @@
 //! Laws of the definitions: each function does nothing, and its contract is the law.
 
-ghost use Rattle.std.specs.Prelude.{◌≡◌, ◌↔◌, Bool, List, Some, ◌≤◌, ◌*◌, ◌-◌, ◌+◌, length, IsNone, IsSome};
+ghost use Rattle.std.specs.Prelude.{◌≡◌, ◌↔◌, Bool, List, Some, ◌≤◌, ◌*◌, ◌-◌, ◌+◌, length, IsNone};
+ghost use Rattle.std.specs.Prelude.{IsSome};
 ghost use Rattle.quality_bits.specs.Capsules.{octets};
 ghost use Rattle.quality_bits.specs.declared.kind.Kind.TheVariants.{M30};
 ghost use Rattle.chip_core.specs.declared.check_form.CheckForm.{CheckForm as TheForm};

@@ -2,8 +2,8 @@
 
 ghost use Rattle.std.specs.Prelude.{◌≡◌, IfSome};
 ghost use Rattle.chip_core.specs.Fields.{in_widths, FieldsFit};
-ghost use Rattle.sync_message.specs.Layouts.{body_reading, freq_from, freq_group};
-ghost use Rattle.sync_message.specs.Layouts.{sync_contents, sync_from};
+ghost use Rattle.sync_message.specs.Layouts.{body_reading, freq_from, freq_group, sync_contents};
+ghost use Rattle.sync_message.specs.Layouts.{sync_from};
 ghost use Rattle.sync_message.specs.Rows.{sync_values, sync_widths};
 ghost use Rattle.sync_message.specs.SyncMessage.{freq_fields};
 

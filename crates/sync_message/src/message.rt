@@ -21,8 +21,8 @@ use std::marker::Model;
 /// A Sync Channel Message: fields that have a spelling. Contracts see the fields.
 ///
 /// It is made by [`SyncMessage::new`] and [`SyncMessage::decode`] alone, so whatever it says has a
-/// capsule. [`SyncMessage::fields`] gives what it says, field by field, as a [`SyncFields`], which is
-/// the same record without that promise.
+/// capsule. [`SyncMessage::fields`] gives what it says, field by field, as a [`SyncFields`], which
+/// is the same record without that promise.
 #[derive(Clone, Copy, PartialEq, Eq, Debug)]
 pub struct SyncMessage {
     fields: SyncFields,

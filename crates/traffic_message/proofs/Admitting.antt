@@ -1,8 +1,8 @@
 -- Which bodies are those of messages.
 use Rattle.traffic_message.proofs.Common.{◌≡◌, ℕ, ◌==◌, ◌&&◌, Bool, true, false, not, cond, List, length, drop, refl, sym, ap, ◌∙◌, nat_le}
-use Rattle.traffic_message.proofs.Common.{Option, Some, None, and_from, and_parts, le-leb, leb-true, number_at, FillsCapsule, M16, admits, mapped}
-use Rattle.traffic_message.proofs.Common.{part_admits, HasMessage, direction_at, direction_reading, has_records, is_hard, in_traffic_at}
-use Rattle.traffic_message.proofs.Common.{in_traffic_reading, Message, has_neighbors, update_at, update_reading}
+use Rattle.traffic_message.proofs.Common.{Option, Some, None, and_from, and_parts, le-leb, leb-true, number_at, FillsCapsule, M16, admits}
+use Rattle.traffic_message.proofs.Common.{mapped, part_admits, HasMessage, direction_at, direction_reading, has_records, is_hard}
+use Rattle.traffic_message.proofs.Common.{in_traffic_at, in_traffic_reading, Message, has_neighbors, update_at, update_reading}
 use Rattle.traffic_message.proofs.Bodies.{body_parts_read, body_read, is_body_from, is_body_parts, message_again, message_there}
 use Rattle.traffic_message.specs.Reading as reading
 use Rattle.traffic_message.specs.declared.body.TrafficBody.TheVariants as bodies

@@ -1,13 +1,11 @@
 -- Bodies of messages, spelled and read again.
-use Rattle.traffic_message.proofs.Common.{◌≡◌, ◌≢◌, ◌⊎◌, ℕ, ◌+◌, ◌%◌, ◌^◌, ◌<◌, ◌≤◌, ◌==◌, ◌&&◌, Bool, true, false, List, [], ◌∷◌}
-use Rattle.traffic_message.proofs.Common.{◌++◌, length, drop, refl, sym, ap, subst, ◌∙◌, arith, append_assoc, length-append, nat_le}
-use Rattle.traffic_message.proofs.Common.{inl, inr, Option, Some, None, and_from, and_parts, cases_Bool, eq-eqb, eqb-false, eqb-true}
-use Rattle.traffic_message.proofs.Common.{le-leb, leb-true, ne_eqb, drop_at, length-drop, binary, digit, spelled, in_widths}
-use Rattle.traffic_message.proofs.Common.{FieldsFit, number_at, values_at, digit_of, length-binary, behind_front, dropped, front}
-use Rattle.traffic_message.proofs.Common.{length-in_widths, number_front, values_again, values_there, FillsCapsule, M16}
-use Rattle.traffic_message.proofs.Common.{is_hard}
-use Rattle.traffic_message.proofs.Common.{head_widths, TrafficBody, Head}
-use Rattle.traffic_message.proofs.Common.{Form, HasFields, body_from, contents_of, form_at, form_in, shape_of, head_shape, Contents, mapped}
+use Rattle.traffic_message.proofs.Common.{◌≡◌, ◌≢◌, ◌⊎◌, ℕ, ◌+◌, ◌%◌, ◌^◌, ◌<◌, ◌≤◌, ◌==◌, ◌&&◌, Bool, true, false, List, [], ◌∷◌, ◌++◌}
+use Rattle.traffic_message.proofs.Common.{length, drop, refl, sym, ap, subst, ◌∙◌, arith, append_assoc, length-append, nat_le, inl, inr}
+use Rattle.traffic_message.proofs.Common.{Option, Some, None, and_from, and_parts, cases_Bool, eq-eqb, eqb-false, eqb-true, le-leb}
+use Rattle.traffic_message.proofs.Common.{leb-true, ne_eqb, drop_at, length-drop, binary, digit, spelled, in_widths, FieldsFit, number_at}
+use Rattle.traffic_message.proofs.Common.{values_at, digit_of, length-binary, behind_front, dropped, front, length-in_widths, number_front}
+use Rattle.traffic_message.proofs.Common.{values_again, values_there, FillsCapsule, M16, is_hard, head_widths, TrafficBody, Head, Form}
+use Rattle.traffic_message.proofs.Common.{HasFields, body_from, contents_of, form_at, form_in, shape_of, head_shape, Contents, mapped}
 use Rattle.traffic_message.proofs.Common.{mapped_some, number_part, some_is, plain_contents, fields_reading, reading_again, reading_there}
 use Rattle.message_layout.specs.Reading as layouts
 use Rattle.traffic_message.proofs.ByLayout.{laid, lawful, made_of, placed, spelled_as}

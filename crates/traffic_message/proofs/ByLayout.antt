@@ -6,11 +6,11 @@ use Rattle.traffic_message.proofs.Common.{leb-true, lt-leb, append-nil, length-d
 use Rattle.traffic_message.proofs.Common.{number_at, values_at, column_at, Field, map-places-all, dropped, front, record_fields, mapped}
 use Rattle.traffic_message.proofs.Common.{◌>>=◌, fields_at, group_at, number_part, octets_at, part_at, presence_at, reading, records_at}
 use Rattle.traffic_message.proofs.Common.{rest_at, is_lawful, behind_group, group_fields, spelling, IsGroup, IsOf, Contents, Flagged}
-use Rattle.traffic_message.proofs.Common.{all_columns, first_column, no_columns, mapped_cond, not_both, one_value}
-use Rattle.traffic_message.proofs.Common.{plain_contents, plain_of, plain_back, fields_reading, list_reading, list_said, list_told}
-use Rattle.traffic_message.proofs.Common.{record_map, in_traffic_widths, search_widths, time_widths}
-use Rattle.traffic_message.proofs.Common.{DirectionFields, InTrafficFields, Search, UpdateFields, TrafficBody, Form, not, count_in, rest_back}
-use Rattle.traffic_message.proofs.Common.{plain_spelled, part_reading, bits_of, kind_of, Shape, Head, head_fields, head_values, head_widths}
+use Rattle.traffic_message.proofs.Common.{all_columns, first_column, no_columns, mapped_cond, not_both, one_value, plain_contents, plain_of}
+use Rattle.traffic_message.proofs.Common.{plain_back, fields_reading, list_reading, list_said, list_told, record_map, in_traffic_widths}
+use Rattle.traffic_message.proofs.Common.{search_widths, time_widths, DirectionFields, InTrafficFields, Search, UpdateFields, TrafficBody}
+use Rattle.traffic_message.proofs.Common.{Form, not, count_in, rest_back, plain_spelled, part_reading, bits_of, kind_of, Shape, Head}
+use Rattle.traffic_message.proofs.Common.{head_fields, head_values, head_widths}
 use Rattle.traffic_message.proofs.Directions.{first_is, hard_is, octets_is, place_clear, place_set}
 use Rattle.traffic_message.specs.Handoff as handoff
 use Rattle.traffic_message.specs.InTraffic as parameters

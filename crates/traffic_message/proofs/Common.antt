@@ -1,19 +1,17 @@
 -- What the proofs of this crate cite of what lies below, and of its own definitions, passed on from one place.
-pub use Rattle.std.proofs.Common.{Bool, List, None, Ok, Option, Some, [], ap, append_assoc, arith, cond, drop, false, get_or}
-pub use Rattle.std.proofs.Common.{inl, inr, length, length-append, map, nat_le, not, refl, rules, slice_get, subst, suc, sym, take, true}
-pub use Rattle.std.proofs.Common.{zero, ℕ, ◌%◌, ◌&&◌, ◌*◌, ◌++◌, ◌+◌, ◌-◌, ◌/◌, ◌<◌, ◌==◌, ◌^◌, ◌∙◌, ◌∷◌, ◌≡◌, ◌≢◌, ◌≤◌, ◌⊎◌}
+pub use Rattle.std.proofs.Common.{Bool, List, None, Ok, Option, Some, [], ap, append_assoc, arith, cond, drop, false, get_or, inl, inr}
+pub use Rattle.std.proofs.Common.{length, length-append, map, nat_le, not, refl, rules, slice_get, subst, suc, sym, take, true, zero, ℕ}
+pub use Rattle.std.proofs.Common.{◌%◌, ◌&&◌, ◌*◌, ◌++◌, ◌+◌, ◌-◌, ◌/◌, ◌<◌, ◌==◌, ◌^◌, ◌∙◌, ◌∷◌, ◌≡◌, ◌≢◌, ◌≤◌, ◌⊎◌}
 pub use Rattle.std.proofs.lemmas.Bool.{and_from, and_parts, cases_Bool, cases_lt, eq-eqb, eqb-false, eqb-true, le-leb, leb-false, leb-true}
 pub use Rattle.std.proofs.lemmas.Bool.{lt-leb, ne_eqb}
-pub use Rattle.std.proofs.lemmas.List.{append-nil, drop_all, drop_at, length-drop}
-pub use Rattle.std.proofs.lemmas.List.{take-append-drop, take_all}
+pub use Rattle.std.proofs.lemmas.List.{append-nil, drop_all, drop_at, length-drop, take-append-drop, take_all}
 pub use Rattle.std.proofs.lemmas.List.Elements.{All-from_get_or}
 pub use Rattle.std.proofs.lemmas.Option.{get_or_from_slice_get}
 pub use Rattle.std.specs.Prelude.{IfSome}
 pub use Rattle.chip_core.proofs.Digits.{digit_of}
 pub use Rattle.chip_core.proofs.FieldLists.{length-binary, slice_get-drop}
 pub use Rattle.chip_core.proofs.Places.{map-places-all}
-pub use Rattle.chip_core.proofs.ValueLists.{behind_front, dropped, front, length-in_widths, number_front}
-pub use Rattle.chip_core.proofs.ValueLists.{values_again, values_there}
+pub use Rattle.chip_core.proofs.ValueLists.{behind_front, dropped, front, length-in_widths, number_front, values_again, values_there}
 pub use Rattle.chip_core.specs.Bits.{digit, number}
 unfoldable pub use Rattle.chip_core.specs.Bits.{binary, places}
 pub use Rattle.chip_core.specs.Fields.{FieldsFit, field, in_widths, spelled}
@@ -23,8 +21,8 @@ pub use Rattle.chip_core.specs.declared.field.Field.{Field}
 pub use Rattle.message_layout.proofs.Loops.{not_both}
 pub use Rattle.message_layout.proofs.Messages.{all_columns, first_column, mapped_cond, mapped_some, no_columns, one_value}
 pub use Rattle.message_layout.proofs.Parts.{some_is}
-pub use Rattle.message_layout.proofs.Plain.{fields_reading, list_reading, list_said, list_told, plain_back, plain_of, plain_spelled, record_map}
-pub use Rattle.message_layout.proofs.Plain.{rest_back}
+pub use Rattle.message_layout.proofs.Plain.{fields_reading, list_reading, list_said, list_told, plain_back, plain_of, plain_spelled}
+pub use Rattle.message_layout.proofs.Plain.{record_map, rest_back}
 pub use Rattle.message_layout.proofs.Round.{reading_again, reading_there}
 pub use Rattle.message_layout.specs.Contents.{count_in, record_fields}
 pub use Rattle.message_layout.specs.Plain.{plain_contents}

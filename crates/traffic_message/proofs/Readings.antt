@@ -1,7 +1,6 @@
 -- Bodies and capsules read as messages.
-use Rattle.traffic_message.proofs.Common.{◌≡◌, ◌-◌, Bool, List, length, take, drop, refl, sym, ap, ◌∙◌, Option, Some, None}
-use Rattle.traffic_message.proofs.Common.{IfSome, CheckForm, M16, Message, message_body}
-use Rattle.traffic_message.proofs.Common.{traffic_capsule, IsTrafficMessage, AreRead}
+use Rattle.traffic_message.proofs.Common.{◌≡◌, ◌-◌, Bool, List, length, take, drop, refl, sym, ap, ◌∙◌, Option, Some, None, IfSome}
+use Rattle.traffic_message.proofs.Common.{CheckForm, M16, Message, message_body, traffic_capsule, IsTrafficMessage, AreRead}
 use Rattle.traffic_message.proofs.Common.{if_spelled-again, if_spelled-there}
 use Rattle.traffic_message.proofs.Bodies.{message_again, message_there}
 use Rattle.traffic_message.specs.Reading as reading

@@ -1,6 +1,6 @@
 -- The Neighbor List Update Message (TIA/EIA-95-B, 7.7.3.3.2.8).
-use Rattle.std.specs.Prelude.{◌+◌, ◌-◌, ◌*◌, ◌/◌, ◌%◌, ◌≤◌, ◌&&◌, if◌then◌else◌, ℕ, Bool, List, [], ◌∷◌}
-use Rattle.std.specs.Prelude.{◌++◌, length, map, drop, nat_le, Option, Some, None}
+use Rattle.std.specs.Prelude.{◌+◌, ◌-◌, ◌*◌, ◌/◌, ◌%◌, ◌≤◌, ◌&&◌, if◌then◌else◌, ℕ, Bool, List, []}
+use Rattle.std.specs.Prelude.{◌∷◌, ◌++◌, length, map, drop, nat_le, Option, Some, None}
 use Rattle.chip_core.specs.Bits.{binary}
 use Rattle.chip_core.specs.Fields.{field, spelled, FieldsFit}
 use Rattle.chip_core.specs.Readings.{number_at, column_at}

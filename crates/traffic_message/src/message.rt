@@ -7,10 +7,9 @@ ghost use Rattle.quality_bits.specs.Kinds.{IsChecked};
 ghost use Rattle.quality_bits.specs.declared.kind.Kind.TheVariants.{M16};
 ghost use Rattle.traffic_message.specs.Layouts.{head_contents};
 ghost use Rattle.traffic_message.specs.Messages.{head_fields, head_values, message_body};
-ghost use Rattle.traffic_message.specs.Messages.{traffic_capsule};
-ghost use Rattle.traffic_message.specs.Messages.{IsTrafficMessage, Message};
-ghost use Rattle.traffic_message.specs.Reading.{body_reading, head_of, is_body};
-ghost use Rattle.traffic_message.specs.Reading.{reading_of, traffic_reading};
+ghost use Rattle.traffic_message.specs.Messages.{traffic_capsule, IsTrafficMessage, Message};
+ghost use Rattle.traffic_message.specs.Reading.{body_reading, head_of, is_body, reading_of};
+ghost use Rattle.traffic_message.specs.Reading.{traffic_reading};
 
 use crate::body::TrafficBody;
 use crate::fields::Head;

@@ -31,12 +31,10 @@ pub use Rattle.event_tap.specs.PagingLines.{paging_line, slot_line}
 pub use Rattle.event_tap.specs.SlotLines.{frame_of_slot, frame_of_slot_end, is_heard, is_slot_within, lines_behind, lines_by_times}
 pub use Rattle.event_tap.specs.SlotLines.{lines_of_slot, lines_of_slots, slot_bound, slot_lines}
 unfoldable pub use Rattle.event_tap.specs.SlotLines.{slot_pages}
-pub use Rattle.heard_events.proofs.CloseFingers.{close_begun, near_are_close}
-pub use Rattle.heard_events.proofs.CloseFingers.{near_parts}
+pub use Rattle.heard_events.proofs.CloseFingers.{close_begun, near_are_close, near_parts}
 pub use Rattle.heard_events.proofs.FingerTimes.{timed_in, timed_of}
-pub use Rattle.heard_events.proofs.ChannelFrames.{frame_same}
+pub use Rattle.heard_events.proofs.ChannelFrames.{frame_same, form_by, frames_of_first}
 pub use Rattle.heard_events.proofs.FrameTimes.{ends_lt, inside_from, inside_to, known_between, known_le, known_own}
-pub use Rattle.heard_events.proofs.ChannelFrames.{form_by, frames_of_first}
 pub use Rattle.heard_events.proofs.MarkLater.{mark_later}
 pub use Rattle.heard_events.proofs.MarkStays.{mark_behind, mark_pilot, mark_set, mark_sooner, mark_stays, paging_near}
 pub use Rattle.mobile_core.proofs.Stood.{marked_all}

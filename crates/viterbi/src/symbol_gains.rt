@@ -1,7 +1,7 @@
 //! What a bit adds to the score of a word, by the state into which it leads.
 //!
-//! A bit has two symbols. Which they are hangs on the state, and of each eight states from a multiple
-//! of 8 on they are of one of four kinds.
+//! A bit has two symbols. Which they are hangs on the state, and of each eight states from a
+//! multiple of 8 on they are of one of four kinds.
 
 ghost use Rattle.std.specs.Prelude.{◌≡◌, ◌<◌, ◌≤◌, ◌+◌, ◌^◌, ℕ, get_or, pos, unsigned_abs};
 ghost use Rattle.viterbi.specs.Lanes.{gain_by, lane_codes, kinds};

@@ -12,8 +12,8 @@ use std::simd::prelude::*;
 /// Replaces 64 complex sums, one a chip, by what each row carries: entry n becomes the sum of all
 /// entries, each with the sign of its chip of row n.
 ///
-/// The base station adds its channels up by it, since the sign of row n at chip k is that of row k at
-/// chip n; a tool may look at all channels of a cell by it. A finger sums up its own row alone.
+/// The base station adds its channels up by it, since the sign of row n at chip k is that of row k
+/// at chip n; a tool may look at all channels of a cell by it. A finger sums up its own row alone.
 ///
 /// No part may be above 2^40 or below -2^40. Six stages of butterflies do it in 384 additions of
 /// each part.

@@ -35,8 +35,8 @@ fn spell_next(cell: &mut Cell, width: Width, samples: &mut [Sample], bytes: &mut
     sample_bytes_into(width, samples, bytes);
 }
 
-/// Spells the cell's next samples, as many as `samples` has room for or the cell has left, and says how
-/// many bytes they have.
+/// Spells the cell's next samples, as many as `samples` has room for or the cell has left, and says
+/// how many bytes they have.
 fn spell_piece(cell: &mut Cell, width: Width, samples: &mut [Sample], bytes: &mut [u8]) -> usize
     requires width { cell.old.width ≡ width }
     requires samples { length samples.old ≡ 4096 }

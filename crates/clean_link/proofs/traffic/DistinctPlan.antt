@@ -1,17 +1,17 @@
 -- A cell with a distinct frame of each rate.
 use Rattle.clean_link.proofs.Common.{◌≡◌, ◌≢◌, ℕ, ◌+◌, ◌*◌, ◌^◌, ◌<◌, ◌≤◌, Bool, true, List, [], ◌∷◌, length, map, refl, sym, ap, ◌∙◌}
-use Rattle.clean_link.proofs.Common.{set_one, set_two, FrameList, channel_on, arith, subst, nat_le, inl, inr, Some, All, flat_map, and_parts, cases_eq, leb-true, All-cons, All-nil}
-use Rattle.clean_link.proofs.Common.{binary, places, norm, Sixteen, after, traffic_mask, after-after, IsState-before, capsule, octets}
-use Rattle.clean_link.proofs.Common.{check_bits, traffic_word, M30, Rate, R9600, R4800, R2400, R1200, word_bits, power_places, Rate2}
-use Rattle.clean_link.proofs.Common.{R14400, R7200, R3600, R1800, on_again, sync_body, sync_capsule, IsSyncMessage, split_9600, loudness}
-use Rattle.clean_link.proofs.Common.{AreLawfulBeside, IsFreeOf, IsLawfulPlan, IsPagingPlan, IsTrafficPlan, paging_rate, IsStatedPaging}
-use Rattle.clean_link.proofs.Common.{IsReceivable, frames_of, cycled_frame, IsTrafficFrame, IsTrafficFrame2, PagingPlan, TrafficPlan}
-use Rattle.clean_link.proofs.Common.{TrafficFrame, TrafficFrame2, lost_symbols, bits_1200, bits_14400, bits_1800, bits_2400, bits_3600}
-use Rattle.clean_link.proofs.Common.{bits_4800, bits_7200, bits_9600, distinct_plan, first_channel, frame2_at, frame_at, on_row}
-use Rattle.clean_link.proofs.Common.{second_channel, told_message, HasMark, HasSetOne, HasSetTwo, frame_chip, is_received, received_frames}
-use Rattle.clean_link.proofs.Common.{replaced_of, AreDistinct, IsDistinctFrame, end_chip, messages_sent, cycled_frame2, IsDistinctFrame2}
-use Rattle.clean_link.proofs.Common.{signaling_sent, told_with_sync, lost_symbols2, sharing, sharing2, words_giving, SharesNone}
-use Rattle.clean_link.proofs.Common.{SharesNone2}
+use Rattle.clean_link.proofs.Common.{set_one, set_two, FrameList, channel_on, arith, subst, nat_le, inl, inr, Some, All, flat_map}
+use Rattle.clean_link.proofs.Common.{and_parts, cases_eq, leb-true, All-cons, All-nil, binary, places, norm, Sixteen, after, traffic_mask}
+use Rattle.clean_link.proofs.Common.{after-after, IsState-before, capsule, octets, check_bits, traffic_word, M30, Rate, R9600, R4800, R2400}
+use Rattle.clean_link.proofs.Common.{R1200, word_bits, power_places, Rate2, R14400, R7200, R3600, R1800, on_again, sync_body, sync_capsule}
+use Rattle.clean_link.proofs.Common.{IsSyncMessage, split_9600, loudness, AreLawfulBeside, IsFreeOf, IsLawfulPlan, IsPagingPlan}
+use Rattle.clean_link.proofs.Common.{IsTrafficPlan, paging_rate, IsStatedPaging, IsReceivable, frames_of, cycled_frame, IsTrafficFrame}
+use Rattle.clean_link.proofs.Common.{IsTrafficFrame2, PagingPlan, TrafficPlan, TrafficFrame, TrafficFrame2, lost_symbols, bits_1200}
+use Rattle.clean_link.proofs.Common.{bits_14400, bits_1800, bits_2400, bits_3600, bits_4800, bits_7200, bits_9600, distinct_plan}
+use Rattle.clean_link.proofs.Common.{first_channel, frame2_at, frame_at, on_row, second_channel, told_message, HasMark, HasSetOne}
+use Rattle.clean_link.proofs.Common.{HasSetTwo, frame_chip, is_received, received_frames, replaced_of, AreDistinct, IsDistinctFrame}
+use Rattle.clean_link.proofs.Common.{end_chip, messages_sent, cycled_frame2, IsDistinctFrame2, signaling_sent, told_with_sync}
+use Rattle.clean_link.proofs.Common.{lost_symbols2, sharing, sharing2, words_giving, SharesNone, SharesNone2}
 use Rattle.cell_plan.specs.TrafficFrames.{AreTrafficFrames, frame_count}
 use Rattle.long_code.specs.LongCode.{before}
 use Rattle.traffic_message.specs.Multiplex.{split}

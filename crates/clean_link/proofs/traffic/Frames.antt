@@ -1,14 +1,14 @@
 -- The frames of a traffic channel come back: each received one is heard at its own end, as it was
 -- sent where it is distinct.
 use Rattle.clean_link.proofs.Common.{◌≡◌, ℕ, zero, suc, ◌+◌, ◌-◌, ◌*◌, ◌/◌, ◌%◌, ◌<◌, ◌≤◌, ⊎_elim, Bool, true, false, List, [], ◌∷◌, length}
-use Rattle.clean_link.proofs.Common.{cases_lt, inl, inr, map, filter, take, drop, refl, sym, ap, ◌∙◌, arith, subst, nat_le, cond, pos, All, flat_map, and_from}
-use Rattle.clean_link.proofs.Common.{and_parts, cases_Bool, false_from_ne_true, le-leb, leb-true, All-head, All-tail, places, Sample, Width}
-use Rattle.clean_link.proofs.Common.{traffic_mask, power_places, kept_count, Decoded, sent_frame, Data, made_samples, frames_of}
-use Rattle.clean_link.proofs.Common.{cycled_frame, set_one, IsTrafficFrame, CellPlan, TrafficPlan, TrafficFrame, frame_softs, is_in_file}
-use Rattle.clean_link.proofs.Common.{known_at, known_now, Stream, frames_at, commands_at, decoded_at, frame_event, frame_heard, frames_by}
-use Rattle.clean_link.proofs.Common.{frame_state, frames_bound, frames_now, replaced_in, stream_of, Tuning, Event, Leg, Mark, Traffic}
-use Rattle.clean_link.proofs.Common.{filter_enough, flat_map_ext_filter_places, flat_map_ext_places, soft_strength, frame_chip, frame_ends}
-use Rattle.clean_link.proofs.Common.{frame_told, frames_of_channel, is_received, received_frames, replaced_of, sent_commands}
+use Rattle.clean_link.proofs.Common.{cases_lt, inl, inr, map, filter, take, drop, refl, sym, ap, ◌∙◌, arith, subst, nat_le, cond, pos, All}
+use Rattle.clean_link.proofs.Common.{flat_map, and_from, and_parts, cases_Bool, false_from_ne_true, le-leb, leb-true, All-head, All-tail}
+use Rattle.clean_link.proofs.Common.{places, Sample, Width, traffic_mask, power_places, kept_count, Decoded, sent_frame, Data, made_samples}
+use Rattle.clean_link.proofs.Common.{frames_of, cycled_frame, set_one, IsTrafficFrame, CellPlan, TrafficPlan, TrafficFrame, frame_softs}
+use Rattle.clean_link.proofs.Common.{is_in_file, known_at, known_now, Stream, frames_at, commands_at, decoded_at, frame_event, frame_heard}
+use Rattle.clean_link.proofs.Common.{frames_by, frame_state, frames_bound, frames_now, replaced_in, stream_of, Tuning, Event, Leg, Mark}
+use Rattle.clean_link.proofs.Common.{Traffic, filter_enough, flat_map_ext_filter_places, flat_map_ext_places, soft_strength, frame_chip}
+use Rattle.clean_link.proofs.Common.{frame_ends, frame_told, frames_of_channel, is_received, received_frames, replaced_of, sent_commands}
 use Rattle.clean_link.proofs.Common.{sent_frame_event, AreDistinct, IsDistinctFrame, IsOnePilot, SendsSetOne, end_chip, EachFrameIsHeard}
 use Rattle.clean_link.proofs.Common.{HearsTraffic, IsHeardAs, IsUndirected, SentFramesComeBack, TrafficFramesComeBack}
 use Rattle.clean_link.proofs.pages.InOrder.{given_in_order, IsBound}

@@ -1,6 +1,6 @@
-use Rattle.cdma_replay.proofs.Common.{◌≡◌, ◌≤◌, ◌+◌, ◌-◌, ◌*◌, ℕ, min, IfSome, IsNone, length, length-take-le, take, ap, ◌∙◌, refl, subst, arith}
-use Rattle.cdma_replay.proofs.Common.{rules, Reading, width_of, sample_len, FileFault, ConsumesAtMost, Header, sample_len-mono, IsLong}
-use Rattle.cdma_replay.proofs.Common.{IsRestFault, file_status, HasRoom}
+use Rattle.cdma_replay.proofs.Common.{◌≡◌, ◌≤◌, ◌+◌, ◌-◌, ◌*◌, ℕ, min, IfSome, IsNone, length, length-take-le, take, ap, ◌∙◌, refl, subst}
+use Rattle.cdma_replay.proofs.Common.{arith, rules, Reading, width_of, sample_len, FileFault, ConsumesAtMost, Header, sample_len-mono}
+use Rattle.cdma_replay.proofs.Common.{IsLong, IsRestFault, file_status, HasRoom}
 use Rattle.cdma_replay.proofs.Broken.{has_bytes, no_long_cut}
 use Rattle.cdma_replay.proofs.Faults.{rest_cut_fault, rest_extra_fault}
 use Rattle.cdma_replay.proofs.Files.{blamed, ended_by, wrong_length}

@@ -1,8 +1,7 @@
 use Rattle.std.proofs.Common.{length, map, sym, ap, subst, arith}
 use Rattle.std.proofs.lemmas.List.{length-map}
 use Rattle.std.specs.Str.{IsAscii}
-use Rattle.event_tap.proofs.PartTexts.{name_ascii, name_short, no_values, value_behind}
-use Rattle.event_tap.proofs.PartTexts.{value_short}
+use Rattle.event_tap.proofs.PartTexts.{name_ascii, name_short, no_values, value_behind, value_short}
 use Rattle.event_tap.proofs.parts.append_values.Goals as goal
 
 pub loop-i-init : goal.loop-i-init

@@ -2,8 +2,7 @@ use Rattle.std.proofs.Common.{rules, ◌≤◌, ◌<◌, arith, subst, sym, leng
 use Rattle.std.proofs.lemmas.List.Elements.{All-get_or}
 use Rattle.std.proofs.lemmas.Result.{err_from_is_err_and}
 use Rattle.event_tap.specs.Taps.{IsKept}
-use Rattle.event_tap.proofs.TapLists.{has_heard, hearing_kept, hearing_done, hearing_failed}
-use Rattle.event_tap.proofs.TapLists.{hearing_none, unwritten, All-seen-back, seen}
+use Rattle.event_tap.proofs.TapLists.{has_heard, hearing_kept, hearing_done, hearing_failed, hearing_none, unwritten, All-seen-back, seen}
 use Rattle.event_tap.proofs.taps.hear_all.Goals.{in-Keep, in-Done}
 use Rattle.event_tap.proofs.taps.hear_all.Goals as goal
 

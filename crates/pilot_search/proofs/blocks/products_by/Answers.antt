@@ -1,6 +1,6 @@
 use Rattle.pilot_search.proofs.Common.{map, ap, sample_at, signs_at, across, both, AreUnits}
-use Rattle.pilot_search.proofs.LaneLemmas.{all_units, are_products, keep, kept16, kept_short, kept_units, point_signs}
-use Rattle.pilot_search.proofs.LaneLemmas.{turned_signs, units_across}
+use Rattle.pilot_search.proofs.LaneLemmas.{all_units, are_products, keep, kept16, kept_short, kept_units, point_signs, turned_signs}
+use Rattle.pilot_search.proofs.LaneLemmas.{units_across}
 use Rattle.pilot_search.proofs.blocks.products_by.Goals as goal
 
 pub returns : goal.returns

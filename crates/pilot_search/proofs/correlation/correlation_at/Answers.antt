@@ -1,5 +1,5 @@
-use Rattle.pilot_search.proofs.Common.{◌≡◌, ◌≤◌, ◌∙◌, arith, rules, ap, take, drop, length, ints, All-drop, plus, Pair}
-use Rattle.pilot_search.proofs.Common.{pilot_signs, correlation_with, IsUnit, List, ℕ, ℤ, Sample}
+use Rattle.pilot_search.proofs.Common.{◌≡◌, ◌≤◌, ◌∙◌, arith, rules, ap, take, drop, length, ints, All-drop, plus, Pair, pilot_signs}
+use Rattle.pilot_search.proofs.Common.{correlation_with, IsUnit, List, ℕ, ℤ, Sample}
 use Rattle.pilot_search.proofs.CorrelationSums.{all_before, parted, plus_is, units}
 use Rattle.pilot_search.proofs.correlation.correlation_at.Goals as goal
 

@@ -7,7 +7,8 @@ use Rattle.walsh.specs.Walsh.{IsWithin}
 use Rattle.rake_finger.specs.InRing.{IsHeld}
 use Rattle.rake_finger.specs.Soft.{symbol_chips, window_chips, window_symbols, finger_place, despread_at, symbol_sum}
 use Rattle.rake_finger.proofs.SoftValues.{symbol_is}
-use Rattle.rake_finger.proofs.WindowSums.{bound_kept, chips_more, entry_more, most_symbols, pilot_more, pilot_whole, sum_fits, sum_kept, symbol_held, symbol_place, whole_symbols}
+use Rattle.rake_finger.proofs.WindowSums.{bound_kept, chips_more, entry_more, most_symbols, pilot_more, pilot_whole, sum_fits, sum_kept}
+use Rattle.rake_finger.proofs.WindowSums.{symbol_held, symbol_place, whole_symbols}
 use Rattle.rake_finger.proofs.windows.window_sums.Goals as goal
 
 pub symbol_sums-sums-requires-clause-held : goal.symbol_sums-sums-requires-clause-held

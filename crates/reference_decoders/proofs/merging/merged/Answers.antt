@@ -1,10 +1,7 @@
-use Rattle.std.proofs.Common.{◌≡◌, ◌<◌, ◌≤◌, ◌∷◌, [], true, false, drop, length, sym, arith}
-use Rattle.std.proofs.Common.{length-append}
+use Rattle.std.proofs.Common.{◌≡◌, ◌<◌, ◌≤◌, ◌∷◌, [], true, false, drop, length, sym, arith, length-append}
 use Rattle.list_viterbi.specs.Merging.{score_in, second_is_next}
 use Rattle.list_viterbi.proofs.Walks.{second_has, took_second, took_first, took_none, all_taken}
-use Rattle.reference_decoders.proofs.merging.merged.Goals.{then-takes_second}
-use Rattle.reference_decoders.proofs.merging.merged.Goals.{else-takes_second+then-i-len}
-use Rattle.reference_decoders.proofs.merging.merged.Goals.{else-takes_second+else-i-len}
+use Rattle.reference_decoders.proofs.merging.merged.Goals.{then-takes_second, else-takes_second+then-i-len, else-takes_second+else-i-len}
 use Rattle.reference_decoders.proofs.merging.merged.Goals as goal
 
 pub loop-n-preserved : goal.loop-n-preserved

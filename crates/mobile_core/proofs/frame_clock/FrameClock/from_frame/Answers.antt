@@ -1,6 +1,5 @@
 use Rattle.mobile_core.proofs.Common.{ℕ, ◌+◌, ◌*◌, arith}
-use Rattle.heard_events.proofs.CloseFingers.{near_are_close}
-use Rattle.heard_events.proofs.CloseFingers.{some_chips, most_chips}
+use Rattle.heard_events.proofs.CloseFingers.{near_are_close, some_chips, most_chips}
 use Rattle.heard_events.proofs.FingerTimes.{ends_bounds, times_one}
 use Rattle.mobile_core.proofs.frame_clock.FrameClock.from_frame.Goals as goal
 

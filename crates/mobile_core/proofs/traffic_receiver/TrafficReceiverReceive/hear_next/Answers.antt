@@ -1,5 +1,5 @@
-use Rattle.mobile_core.proofs.Common.{◌≡◌, ◌∙◌, ◌++◌, List, [], Some, ap, arith, inl, inr, rules, sym, ℕ, ◌+◌, Bool, true, if◌then◌else◌, kept_to}
-use Rattle.mobile_core.proofs.Common.{moment_place, coming_place, kept_by, kept_in, sets_left_of, Event, SetsKeeper}
+use Rattle.mobile_core.proofs.Common.{◌≡◌, ◌∙◌, ◌++◌, List, [], Some, ap, arith, inl, inr, rules, sym, ℕ, ◌+◌, Bool, true, if◌then◌else◌}
+use Rattle.mobile_core.proofs.Common.{kept_to, moment_place, coming_place, kept_by, kept_in, sets_left_of, Event, SetsKeeper}
 use Rattle.mobile_core.proofs.FramesFollowed.{tells_left, tells_on}
 use Rattle.mobile_core.proofs.FramesHeard.{untold_come, untold_kept}
 use Rattle.mobile_core.proofs.FramesTold.{hears_noted}

@@ -1,4 +1,5 @@
-use Rattle.mobile_core.proofs.Common.{◌∙◌, arith, refl, sym, ap, subst, inr, false_from_ne_true, coming_place, HearsTraffic, Mark, SetsKeeper}
+use Rattle.mobile_core.proofs.Common.{◌∙◌, arith, refl, sym, ap, subst, inr, false_from_ne_true, coming_place, HearsTraffic, Mark}
+use Rattle.mobile_core.proofs.Common.{SetsKeeper}
 use Rattle.mobile_core.proofs.FramesFollowed.{tells_on}
 use Rattle.mobile_core.proofs.FramesHeard.{hears_due, none_come}
 use Rattle.mobile_core.proofs.SoundFrames.{came_here, sound_sets}

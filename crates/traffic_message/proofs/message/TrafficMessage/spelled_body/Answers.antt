@@ -1,6 +1,6 @@
 use Rattle.traffic_message.proofs.Common.{◌≡◌, ◌+◌, ◌≤◌, ◌++◌, List, Bool, length, refl, sym, ap, subst, ◌∙◌, arith, length-append, binary}
-use Rattle.traffic_message.proofs.Common.{spelled, length-binary, length-in_widths, FillsCapsule, M16, bits_of, head_fields}
-use Rattle.traffic_message.proofs.Common.{head_values, kind_of, message_body, Message, head_widths}
+use Rattle.traffic_message.proofs.Common.{spelled, length-binary, length-in_widths, FillsCapsule, M16, bits_of, head_fields, head_values}
+use Rattle.traffic_message.proofs.Common.{kind_of, message_body, Message, head_widths}
 use Rattle.traffic_message.proofs.Bodies.{length-message, message_written}
 use Rattle.traffic_message.proofs.ByLayout.{head_lawful, head_written}
 use Rattle.traffic_message.proofs.message.TrafficMessage.spelled_body.Goals as goal
